@@ -1,0 +1,2 @@
+pub mod AckedLemmas
+pub mod RunLemmas

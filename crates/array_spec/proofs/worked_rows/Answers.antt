@@ -1,0 +1,21 @@
+use Rattle.std.proofs.Common.{refl}
+use Rattle.std.specs.Fmt.{digits}
+use Rattle.pur_base.specs.Sectors.{filled}
+use Rattle.array_spec.proofs.worked_rows.Goals as goal
+
+pub returns : goal.returns
+unfolding digits filled
+returns c = record {
+  empty = refl;
+  zeros = refl;
+  fills = refl;
+  refused_write = refl;
+  cut = refl;
+  syntax = refl;
+  sizes = refl;
+  copies = refl;
+  snapshots = refl;
+  later = refl;
+  unfinished = refl;
+  acked = refl;
+}

@@ -1,0 +1,5 @@
+pub mod Runs
+pub mod Acked
+pub mod After
+pub mod Model
+pub mod Rows

@@ -1,0 +1,13 @@
+-- The model alone: its answers to a list of items, and the array that they leave.
+use Rattle.std.specs.Prelude.{List, [], ◌∷◌}
+use Rattle.pur_base.specs.Plain.{Array}
+use Rattle.pur_base.specs.Grammar.{Item}
+use Rattle.pur_base.specs.Replies.{Answer, answer, after}
+
+abbrev pub answers : Array → List Item → List Answer
+answers a [] = []
+answers a (item ∷ items) = answer a item ∷ answers (after a item) items
+
+abbrev pub left_by : Array → List Item → Array
+left_by a [] = a
+left_by a (item ∷ items) = left_by (after a item) items

@@ -1,0 +1,6 @@
+pub mod Names
+pub mod NameFields
+pub mod Sectors
+pub mod Grammar
+pub mod Plain
+pub mod Replies

@@ -1,0 +1,17 @@
+-- How a name lies in its fields.
+use Rattle.std.specs.Prelude.{◌≡◌, ℕ, ◌-◌, ◌≤◌, List, ◌++◌, length, take, drop, replicate, refl}
+use Rattle.std.proofs.Common.{arith}
+use Rattle.std.proofs.lemmas.List.{take-append-drop, length-take}
+use Rattle.pur_base.specs.declared.name.Name.TheInside.{Inside}
+
+-- The text stands in front, and zeros behind it.
+pub record IsPadded (bytes : List ℕ) (len : ℕ) : Type 0 where
+  pub size : length bytes ≡ 24
+  pub within : len ≤ 24
+  pub zeros : drop len bytes ≡ replicate (24 - len) 0
+
+pub inverse-view : (n : Inside) → IsPadded n.bytes n.len
+    → record { bytes = take n.len n.bytes ++ replicate (24 - length (take n.len n.bytes)) 0; len = length (take n.len n.bytes) } ≡ n
+inverse-view n h =
+    let len : length (take n.len n.bytes) ≡ n.len = omega (arith, length-take n.len n.bytes, h.size, h.within) in
+    rw (len, ← h.zeros, take-append-drop) refl

@@ -1,0 +1,24 @@
+//! The words that the crates of the array share: names, sectors, devices, requests, replies and every limit.
+//! A name is lawful, a sector has 512 bytes, and `specs/` says what requests, replies and the plain array are.
+#![tactic(auto)]
+
+mod device;
+mod ids;
+mod limits;
+mod memory;
+mod name;
+mod reply;
+mod request;
+mod sector;
+
+pub use device::{Device, DriveId, NvId};
+pub use ids::{MediumId, ObjectId, SegmentId, Seq};
+pub use limits::{
+    INPUT_BYTES, LINE_BYTES, NAME_BYTES, NUMBER_DIGITS, OBJECT_SECTORS, OBJECTS, REQUEST_SECTORS,
+    SECTOR_BYTES,
+};
+pub use memory::NoMemory;
+pub use name::{BadName, Name};
+pub use reply::{Refusal, Reply, Status};
+pub use request::{Request, Table};
+pub use sector::Sector;

@@ -1,0 +1,113 @@
+ghost use Rattle.std.specs.Prelude.{◌≡◌};
+ghost use Rattle.pur_base.specs.Grammar.{is_in_force, data_count};
+
+use crate::name::Name;
+
+/// The tables of facts.
+#[derive(Clone, Copy, Debug, PartialEq, Eq)]
+pub enum Table {
+    Object,
+    Medium,
+    Address,
+    Segment,
+    Elision,
+}
+
+/// What a line asks for.
+#[derive(Clone, Copy, Drop)]
+pub enum Request {
+    Create {
+        name: Name,
+        sectors: u64,
+    },
+    /// Data follows: as many sectors.
+    Write {
+        name: Name,
+        lba: u64,
+        count: u8,
+    },
+    Fill {
+        name: Name,
+        lba: u64,
+        count: u8,
+        byte: u8,
+    },
+    Zero {
+        name: Name,
+        lba: u64,
+        count: u8,
+    },
+    Read {
+        name: Name,
+        lba: u64,
+        count: u8,
+    },
+    Snapshot {
+        name: Name,
+        new: Name,
+    },
+    Clone {
+        name: Name,
+        new: Name,
+    },
+    Copy {
+        name: Name,
+        lba: u64,
+        to: Name,
+        to_lba: u64,
+        count: u64,
+    },
+    Destroy {
+        name: Name,
+    },
+    List,
+    Status,
+    Checkpoint,
+    Merge {
+        table: Table,
+        index: u64,
+    },
+    Flatten {
+        name: Name,
+    },
+    Clean {
+        segment: u64,
+    },
+    Reclaim,
+    Evict {
+        drive: u64,
+    },
+    Admit {
+        drive: u64,
+    },
+    Rebuild {
+        drive: u64,
+    },
+    Takeover,
+}
+
+impl Request {
+    /// Whether requests of this form are served.
+    pub fn is_in_force(&self) -> bool
+        ensures { result ≡ is_in_force self.now }
+    {
+        matches!(
+            self,
+            Request::Create { .. }
+                | Request::Write { .. }
+                | Request::Fill { .. }
+                | Request::Read { .. }
+                | Request::List
+        )
+    }
+
+    /// How many sectors of data follow the request's line.
+    pub fn data_sectors(&self) -> u8
+        ensures { result ≡ data_count self.now }
+    {
+        match self {
+            Request::Write { count, .. } => *count,
+            _ => 0,
+        }
+    }
+}
