@@ -1,0 +1,40 @@
+ghost use Rattle.std.specs.Prelude.{◌≡◌};
+ghost use Rattle.array_cli.specs.Endings.{exit_code, exit_text};
+
+use pur_base::Status;
+
+/// The exit status of the program.
+pub fn code_of(status: Status) -> u8
+    ensures { result ≡ exit_code status }
+{
+    match status {
+        Status::Done => 0,
+        Status::Words => 1,
+        Status::NoArray => 2,
+        Status::Halted => 3,
+        Status::Source => 4,
+        Status::Sink => 5,
+        Status::Memory => 6,
+        Status::Cut => 7,
+        Status::InputLimit => 8,
+        Status::NotBlank => 9,
+    }
+}
+
+/// What the program says on standard error when it ends so.
+pub fn text_of(status: Status) -> &'static str
+    ensures { result.now ≡ exit_text status }
+{
+    match status {
+        Status::Done => "done",
+        Status::Words => "words",
+        Status::NoArray => "no array",
+        Status::Halted => "halted",
+        Status::Source => "source",
+        Status::Sink => "sink",
+        Status::Memory => "memory",
+        Status::Cut => "cut",
+        Status::InputLimit => "input limit",
+        Status::NotBlank => "not blank",
+    }
+}
