@@ -7,6 +7,8 @@ mod ids;
 mod limits;
 mod memory;
 mod name;
+mod place;
+mod read_back;
 mod reply;
 mod request;
 mod sector;
@@ -14,11 +16,14 @@ mod sector;
 pub use device::{Device, DriveId, NvId};
 pub use ids::{MediumId, ObjectId, SegmentId, Seq};
 pub use limits::{
-    INPUT_BYTES, LINE_BYTES, NAME_BYTES, NUMBER_DIGITS, OBJECT_SECTORS, OBJECTS, REQUEST_SECTORS,
-    SECTOR_BYTES,
+    BOOT_UNITS, INPUT_BYTES, LINE_BYTES, NAME_BYTES, NUMBER_DIGITS, NVRAM_BYTES, NVRAM_DEVICES,
+    OBJECT_SECTORS, OBJECTS, REQUEST_SECTORS, SECTOR_BYTES, SEGMENT_SECTORS, SEGMENT_SHARDS,
+    SLOTS_MAX, SLOTS_MIN, UNIT_BYTES, UNITS_MAX, UNITS_MIN,
 };
 pub use memory::NoMemory;
 pub use name::{BadName, Name};
+pub use place::{Location, Place, Places};
+pub use read_back::{Lost, ReadBack};
 pub use reply::{Refusal, Reply, Status};
 pub use request::{Request, Table};
 pub use sector::Sector;
