@@ -1,0 +1,24 @@
+-- The first item of an input, by its line and its data.
+use Rattle.std.proofs.Common.{◌≡◌, ℕ, ◌*◌, ◌<◌, ◌≤◌, List, [], length, drop, Option, Some, None, refl, sym, ap, ◌∙◌, arith}
+use Rattle.std.specs.List.{before_first, after_first}
+use Rattle.std.proofs.lemmas.Bool.{le-ltb, lt-ltb}
+use Rattle.pur_base.specs.declared.request.Request.{Request}
+use Rattle.pur_base.specs.Grammar.{Asked, Syntax, Cut, line_request, line_item, first_item, is_line_end, data_count, sectors_in}
+
+pub item-whole : (xs : List ℕ) (r : Request) (sectors : List (List ℕ)) (behind after : List ℕ)
+    → line_request (before_first is_line_end xs) ≡ Some r → behind ≡ after_first is_line_end xs
+    → 512 * data_count r ≤ length behind → sectors ≡ sectors_in (data_count r) behind → after ≡ drop (512 * data_count r) behind
+    → first_item xs ≡ (Asked r sectors, after)
+item-whole xs r sectors behind after is behind-is long sectors-is after-is =
+    let fits = le-ltb (length behind) (512 * data_count r) long in
+    let whole : line_item (Some r) behind ≡ (Asked r (sectors_in (data_count r) behind), drop (512 * data_count r) behind) = rw fits refl in
+    rw (is, ← behind-is, whole, ← sectors-is, ← after-is) refl
+
+pub item-cut : (xs : List ℕ) (r : Request) (behind after : List ℕ)
+    → line_request (before_first is_line_end xs) ≡ Some r → behind ≡ after_first is_line_end xs
+    → length behind < 512 * data_count r → after ≡ []
+    → first_item xs ≡ (Cut, after)
+item-cut xs r behind after is behind-is short none =
+    let cut = lt-ltb (length behind) (512 * data_count r) short in
+    let whole : line_item (Some r) behind ≡ (Cut, []) = rw cut refl in
+    rw (is, ← behind-is, whole, none) refl

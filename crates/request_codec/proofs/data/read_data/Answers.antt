@@ -1,0 +1,50 @@
+use Rattle.std.proofs.Common.{◌≡◌, ℕ, ◌+◌, ◌*◌, ◌<◌, ◌≤◌, ◌++◌, ◌∷◌, [], List, length, drop, sym, ap, ◌∙◌, arith, length-append}
+use Rattle.std.proofs.lemmas.Result.{err_from_is_err_and}
+use Rattle.request_codec.proofs.CallLemmas.{went-on}
+use Rattle.request_codec.proofs.DataLemmas.{data-more}
+use Rattle.request_codec.proofs.FailedLemmas.{sectors-failed, sectors-overrun}
+use Rattle.request_codec.proofs.data.read_data.Goals as goal
+
+pub loop-preserved : goal.loop-preserved
+loop-preserved g c =
+    let inv = c.loop.invariant in
+    let step = rw c.in-Whole.is at c.in_ok-read_sector.ensures.told in
+    record {
+      count = c.in_ok-read_sector.ensures.len c.in-Whole.is ∙ ap (λ (n : ℕ). n + 1) inv.count;
+      capacity = c.in_ok-read_sector.ensures.capacity ∙ inv.capacity;
+      told = λ t.
+          let told = inv.told t in
+          let read = step told.0 in
+          let more = data-more _ c.loop.counter c.loop.sectors.items read.1.0 _ _ told.1 told.2 told.3 read.1.1 read.1.2 in
+          (read.0, more.long, read.1.3 ∙ more.items, more.rest);
+      spent = omega (arith, inv.spent, c.in_ok-read_sector.ensures.budget);
+      total = λ t. ((rw c.in-Whole.is at c.in_ok-read_sector.ensures.total) (inv.told t).0).same (λ e. cc) ∙ inv.total t;
+      limited = λ h. c.in_ok-read_sector.ensures.limited (inv.limited h);
+      latched = λ e.
+          let was = inv.latched e in
+          let is = c.in_ok-read_sector.ensures.latched was.1 in
+          (is.0 ∙ was.0, is.1);
+      went = went-on g.met.S.Source.source_rest_stays inv.went c.in_ok-read_sector.ensures.honest c.in_ok-read_sector.ensures.counts c.in_ok-read_sector.ensures.rest;
+    }
+
+pub returns-in_err-read_sector-clause-failed : goal.returns-in_err-read_sector-clause-failed
+returns-in_err-read_sector-clause-failed g c =
+    let p = err_from_is_err_and c.from_residual.result c.from_residual.ensures.1 in rw p.1 (λ t.
+    let told = c.loop.invariant.told t in
+    let part = c.in_err-read_sector.ensures.failed told.0 in
+    (part.0, sectors-failed _ _ part.1.rest _ c.loop.counter c.args.count c.loop-test.true told.1 told.3 part.1.split part.1.part))
+
+pub returns-in_err-read_sector-clause-rest : goal.returns-in_err-read_sector-clause-rest
+returns-in_err-read_sector-clause-rest g c = g.met.S.Source.source_rest_stays.transitive _ _ _ c.loop.invariant.went.rest c.in_err-read_sector.ensures.rest
+
+pub returns-in-Cut-clause-rest : goal.returns-in-Cut-clause-rest
+returns-in-Cut-clause-rest g c = g.met.S.Source.source_rest_stays.transitive _ _ _ c.loop.invariant.went.rest c.in_ok-read_sector.ensures.rest
+
+pub returns-in-Limit-clause-rest : goal.returns-in-Limit-clause-rest
+returns-in-Limit-clause-rest g c = g.met.S.Source.source_rest_stays.transitive _ _ _ c.loop.invariant.went.rest c.in_ok-read_sector.ensures.rest
+
+pub returns-in-Limit-clause-told : goal.returns-in-Limit-clause-told
+returns-in-Limit-clause-told g c = λ t.
+    let told = c.loop.invariant.told t in
+    let read = (rw c.in-Limit.is at c.in_ok-read_sector.ensures.told) told.0 in
+    (read.0, sectors-overrun _ _ read.1.0 _ read.1.1 c.loop.counter c.args.count c.loop-test.true told.1 told.3 read.1.2 read.1.3)

@@ -1,0 +1,22 @@
+use Rattle.std.proofs.Common.{◌≡◌, ◌+◌, ◌-◌, ◌≤◌, ◌++◌, true, length}
+use Rattle.pur_base.specs.declared.limits.TheConstants.{INPUT_BYTES, SECTOR_BYTES}
+use Rattle.request_codec.specs.Ahead.{Tells, budget}
+use Rattle.request_codec.specs.Calls.{Went}
+use Rattle.request_codec.proofs.data.read_split_sector.Given as goal
+
+abbrev pub invariant-pieces : goal.invariant-pieces
+invariant-pieces g l =
+    let source = g.S.Source.source in
+    record {
+      room : length l.body.items ≤ SECTOR_BYTES;
+      told : Tells l.fn.input (source l.fn.source) → Tells l.input (source l.source)
+          × (l.fn.input.pending ++ (source l.fn.source).bytes ≡ l.body.items ++ (l.input.pending ++ (source l.source).bytes));
+      spent : budget l.input ≤ budget l.fn.input;
+      total : Tells l.fn.input (source l.fn.source) → l.input.taken + length (source l.source).bytes ≡ l.fn.input.taken + length (source l.fn.source).bytes;
+      limited : l.fn.input.taken ≤ INPUT_BYTES → l.input.taken ≤ INPUT_BYTES;
+      latched : l.fn.input.ended ≡ true → (l.source ≡ l.fn.source) × (l.input.ended ≡ true);
+      went : Went source g.S.Source.source_rest l.fn.source l.source;
+    }
+
+abbrev pub decreases-pieces : goal.decreases-pieces
+decreases-pieces g l = SECTOR_BYTES - length l.body.items

@@ -1,0 +1,23 @@
+use Rattle.std.proofs.Common.{◌≡◌, ◌+◌, ◌≤◌, ◌++◌, ℕ, List, true, length}
+use Rattle.pur_base.specs.declared.limits.TheConstants.{INPUT_BYTES}
+use Rattle.pur_base.proofs.LineLemmas.{IsOpen}
+use Rattle.request_codec.specs.Ahead.{Tells, budget}
+use Rattle.request_codec.specs.Calls.{Went}
+use Rattle.request_codec.specs.Lines.{Holds}
+use Rattle.request_codec.proofs.line.read_line.Given as goal
+
+abbrev pub invariant-pieces : goal.invariant-pieces
+invariant-pieces g l =
+    let source = g.S.Source.source in
+    record {
+      read : (got : List ℕ) × Holds l.line got × (budget l.input + length got ≤ budget l.fn.input)
+          × (Tells l.fn.input (source l.fn.source) → Tells l.input (source l.source) × IsOpen got
+              × (l.fn.input.pending ++ (source l.fn.source).bytes ≡ got ++ (l.input.pending ++ (source l.source).bytes)));
+      total : Tells l.fn.input (source l.fn.source) → l.input.taken + length (source l.source).bytes ≡ l.fn.input.taken + length (source l.fn.source).bytes;
+      limited : l.fn.input.taken ≤ INPUT_BYTES → l.input.taken ≤ INPUT_BYTES;
+      latched : l.fn.input.ended ≡ true → (l.source ≡ l.fn.source) × (l.input.ended ≡ true);
+      went : Went source g.S.Source.source_rest l.fn.source l.source;
+    }
+
+abbrev pub decreases-pieces : goal.decreases-pieces
+decreases-pieces g l = budget l.input

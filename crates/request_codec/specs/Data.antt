@@ -1,0 +1,27 @@
+-- What reading data did: before and after are the unread bytes.
+use Rattle.std.specs.Prelude.{◌≡◌, ℕ, ◌*◌, ◌<◌, ◌≤◌, List, [], ◌∷◌, ◌++◌, length, drop}
+use Rattle.pur_base.specs.Grammar.{sectors_in}
+use Rattle.pur_base.specs.declared.limits.TheConstants.{SECTOR_BYTES}
+use Rattle.request_codec.specs.Reading.{Overruns}
+use Rattle.request_codec.specs.declared.data.SectorEnd.{SectorEnd}
+use Rattle.request_codec.specs.declared.data.SectorEnd.TheVariants as sector_end
+use Rattle.request_codec.specs.declared.data.DataEnd.{DataEnd}
+use Rattle.request_codec.specs.declared.data.DataEnd.TheVariants as data_end
+
+-- one sector, or too few bytes for it
+abbrev pub ReadsSector : SectorEnd → List ℕ → List ℕ → Type 0
+ReadsSector (sector_end.Whole sector) before after = (length sector ≡ SECTOR_BYTES) × (before ≡ sector ++ after)
+ReadsSector sector_end.Cut before after = (length before < SECTOR_BYTES) × (after ≡ [])
+ReadsSector sector_end.Limit before after = Overruns before after (λ rest. length rest < SECTOR_BYTES)
+
+-- one sector behind those before, or too few bytes for it
+abbrev pub AddsSector : DataEnd → List (List ℕ) → List (List ℕ) → List ℕ → List ℕ → Type 0
+AddsSector data_end.Whole old new before after = (sector : List ℕ) × (length sector ≡ SECTOR_BYTES) × (before ≡ sector ++ after) × (new ≡ old ++ sector ∷ [])
+AddsSector data_end.Cut old new before after = (length before < SECTOR_BYTES) × (after ≡ [])
+AddsSector data_end.Limit old new before after = Overruns before after (λ rest. length rest < SECTOR_BYTES)
+
+-- so many sectors, or too few bytes for them
+abbrev pub ReadsData : DataEnd → ℕ → List (List ℕ) → List ℕ → List ℕ → Type 0
+ReadsData data_end.Whole count sectors before after = (SECTOR_BYTES * count ≤ length before) × (sectors ≡ sectors_in count before) × (after ≡ drop (SECTOR_BYTES * count) before)
+ReadsData data_end.Cut count sectors before after = (length before < SECTOR_BYTES * count) × (after ≡ [])
+ReadsData data_end.Limit count sectors before after = Overruns before after (λ rest. length rest < SECTOR_BYTES * count)

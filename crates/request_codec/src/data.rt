@@ -1,0 +1,167 @@
+// The data of a request, sector by sector.
+ghost use Rattle.std.specs.Prelude.{◌≡◌, ◌↔◌, ◌+◌, ◌*◌, ◌<◌, ◌≤◌, ◌++◌, [], ◌∷◌, true, false, length, take, vec_len, vec_capacity, IfOk, OnOk, OnErr};
+ghost use Rattle.arrayvec.specs.ArrayVec.{array_vec_len};
+ghost use Rattle.world.specs.Counts.{Counts};
+ghost use Rattle.request_codec.specs.Ahead.{Tells, budget};
+ghost use Rattle.request_codec.specs.Reading.{Totals, Unfinished};
+ghost use Rattle.request_codec.specs.Data.{ReadsSector, AddsSector, ReadsData};
+
+use crate::input::{Input, Refill};
+use arrayvec::ArrayVec;
+use pur_base::{INPUT_BYTES, REQUEST_SECTORS, SECTOR_BYTES, Sector};
+use world::{Failed, Source};
+
+/// What ended the reading of a sector.
+#[derive(Clone, Copy, Drop)]
+pub enum SectorEnd {
+    Whole(Sector),
+    Cut,
+    Limit,
+}
+
+/// What ended the reading of data.
+#[derive(Clone, Copy, Debug, PartialEq, Eq)]
+pub enum DataEnd {
+    Whole,
+    Cut,
+    Limit,
+}
+
+fn extend(body: &mut ArrayVec<u8, SECTOR_BYTES>, piece: &[u8])
+    requires { array_vec_len body.old + length piece.now ≤ SECTOR_BYTES }
+    ensures { body.new.items ≡ body.old.items ++ piece.now }
+{
+    if body.try_extend_from_slice(piece).is_err() {
+        unreachable!()
+    }
+}
+
+fn sector_of(body: ArrayVec<u8, SECTOR_BYTES>) -> Sector
+    requires { array_vec_len body ≡ SECTOR_BYTES }
+    ensures { result ≡ body.items }
+{
+    match body.into_inner() {
+        Ok(bytes) => Sector::new(bytes),
+        Err(_) => unreachable!(),
+    }
+}
+
+/// The sector that the first bytes are.
+fn first_sector(bytes: &[u8]) -> Sector
+    requires { SECTOR_BYTES ≤ length bytes.now }
+    ensures { result ≡ take SECTOR_BYTES bytes.now }
+{
+    match <[u8; SECTOR_BYTES]>::try_from(&bytes[..SECTOR_BYTES]) {
+        Ok(bytes) => Sector::new(bytes),
+        Err(_) => unreachable!(),
+    }
+}
+
+/// Reads a sector whose bytes come in pieces.
+fn read_split_sector<S: Source>(input: &mut Input, source: &mut S) -> Result<SectorEnd, Failed>
+    ensures told { IfOk result (λ found. Tells input.old (S.source source.old) → Tells input.new (S.source source.new)
+        × ReadsSector found (input.old.pending ++ (S.source source.old).bytes) (input.new.pending ++ (S.source source.new).bytes)) }
+    ensures total { IfOk result (λ found. Tells input.old (S.source source.old) →
+        Totals (found ≡ SectorEnd.Limit) input.old.taken input.new.taken (length (S.source source.old).bytes) (length (S.source source.new).bytes)) }
+    ensures budget { OnOk result (budget input.new ≤ budget input.old) }
+    ensures cut { IfOk result (λ found. found ≡ SectorEnd.Cut → input.new.ended ≡ true) }
+    ensures limited { input.old.taken ≤ INPUT_BYTES → input.new.taken ≤ INPUT_BYTES }
+    ensures latched { input.old.ended ≡ true → (source.new ≡ source.old) × (input.new.ended ≡ true) }
+    ensures failed { OnErr result (Tells input.old (S.source source.old) → Tells input.new (S.source source.new)
+        × Unfinished (input.old.pending ++ (S.source source.old).bytes) (S.source source.new).bytes (λ rest. length rest < SECTOR_BYTES)) }
+    ensures asked { OnErr result (input.old.ended ≡ false) }
+    ensures honest { (S.source source.old).honest ↔ (S.source source.new).honest }
+    ensures counts { Counts result (S.source source.old).faults (S.source source.new).faults }
+    ensures rest { S.source_rest source.old source.new }
+{
+    let mut body: ArrayVec<u8, SECTOR_BYTES> = ArrayVec::new();
+    'pieces: while body.len() < SECTOR_BYTES {
+        match input.ready(source)? {
+            Refill::Bytes => {}
+            Refill::End => return Ok(SectorEnd::Cut),
+            Refill::Limit => return Ok(SectorEnd::Limit),
+        }
+        let pending = input.pending();
+        let count = pending.len().min(SECTOR_BYTES - body.len());
+        extend(&mut body, &pending[..count]);
+        input.consume(count);
+    }
+    Ok(SectorEnd::Whole(sector_of(body)))
+}
+
+/// Reads one sector more. One that is pending whole is copied once.
+fn read_sector<S: Source>(
+    input: &mut Input,
+    sectors: &mut Vec<Sector>,
+    source: &mut S,
+) -> Result<DataEnd, Failed>
+    requires { vec_len sectors.old < vec_capacity sectors.old }
+    ensures told { IfOk result (λ found. Tells input.old (S.source source.old) → Tells input.new (S.source source.new)
+        × AddsSector found sectors.old.items sectors.new.items (input.old.pending ++ (S.source source.old).bytes) (input.new.pending ++ (S.source source.new).bytes)) }
+    ensures len { IfOk result (λ found. found ≡ DataEnd.Whole → length sectors.new.items ≡ length sectors.old.items + 1) }
+    ensures capacity { vec_capacity sectors.new ≡ vec_capacity sectors.old }
+    ensures total { IfOk result (λ found. Tells input.old (S.source source.old) →
+        Totals (found ≡ DataEnd.Limit) input.old.taken input.new.taken (length (S.source source.old).bytes) (length (S.source source.new).bytes)) }
+    ensures budget { OnOk result (budget input.new ≤ budget input.old) }
+    ensures cut { IfOk result (λ found. found ≡ DataEnd.Cut → input.new.ended ≡ true) }
+    ensures limited { input.old.taken ≤ INPUT_BYTES → input.new.taken ≤ INPUT_BYTES }
+    ensures latched { input.old.ended ≡ true → (source.new ≡ source.old) × (input.new.ended ≡ true) }
+    ensures failed { OnErr result (Tells input.old (S.source source.old) → Tells input.new (S.source source.new)
+        × Unfinished (input.old.pending ++ (S.source source.old).bytes) (S.source source.new).bytes (λ rest. length rest < SECTOR_BYTES)) }
+    ensures asked { OnErr result (input.old.ended ≡ false) }
+    ensures honest { (S.source source.old).honest ↔ (S.source source.new).honest }
+    ensures counts { Counts result (S.source source.old).faults (S.source source.new).faults }
+    ensures rest { S.source_rest source.old source.new }
+{
+    let pending = input.pending();
+    if SECTOR_BYTES <= pending.len() {
+        sectors.push_reserved(first_sector(pending));
+        input.consume(SECTOR_BYTES);
+        return Ok(DataEnd::Whole);
+    }
+    match read_split_sector(input, source)? {
+        SectorEnd::Whole(sector) => {
+            sectors.push_reserved(sector);
+            Ok(DataEnd::Whole)
+        }
+        SectorEnd::Cut => Ok(DataEnd::Cut),
+        SectorEnd::Limit => Ok(DataEnd::Limit),
+    }
+}
+
+/// Reads that many sectors in place of those before.
+pub fn read_data<S: Source>(
+    input: &mut Input,
+    count: u8,
+    sectors: &mut Vec<Sector>,
+    source: &mut S,
+) -> Result<DataEnd, Failed>
+    requires few { count ≤ REQUEST_SECTORS }
+    requires room { REQUEST_SECTORS ≤ vec_capacity sectors.old }
+    ensures told { IfOk result (λ found. Tells input.old (S.source source.old) → Tells input.new (S.source source.new)
+        × ReadsData found count sectors.new.items (input.old.pending ++ (S.source source.old).bytes) (input.new.pending ++ (S.source source.new).bytes)) }
+    ensures len { IfOk result (λ found. found ≡ DataEnd.Whole → length sectors.new.items ≡ count) }
+    ensures capacity { vec_capacity sectors.new ≡ vec_capacity sectors.old }
+    ensures total { IfOk result (λ found. Tells input.old (S.source source.old) →
+        Totals (found ≡ DataEnd.Limit) input.old.taken input.new.taken (length (S.source source.old).bytes) (length (S.source source.new).bytes)) }
+    ensures budget { OnOk result (budget input.new ≤ budget input.old) }
+    ensures cut { IfOk result (λ found. found ≡ DataEnd.Cut → input.new.ended ≡ true) }
+    ensures limited { input.old.taken ≤ INPUT_BYTES → input.new.taken ≤ INPUT_BYTES }
+    ensures latched { input.old.ended ≡ true → (source.new ≡ source.old) × (input.new.ended ≡ true) }
+    ensures failed { OnErr result (Tells input.old (S.source source.old) → Tells input.new (S.source source.new)
+        × Unfinished (input.old.pending ++ (S.source source.old).bytes) (S.source source.new).bytes (λ rest. length rest < SECTOR_BYTES * count)) }
+    ensures asked { OnErr result (input.old.ended ≡ false) }
+    ensures honest { (S.source source.old).honest ↔ (S.source source.new).honest }
+    ensures counts { Counts result (S.source source.old).faults (S.source source.new).faults }
+    ensures rest { S.source_rest source.old source.new }
+{
+    sectors.clear();
+    for _ in 0..count {
+        match read_sector(input, sectors, source)? {
+            DataEnd::Whole => {}
+            DataEnd::Cut => return Ok(DataEnd::Cut),
+            DataEnd::Limit => return Ok(DataEnd::Limit),
+        }
+    }
+    Ok(DataEnd::Whole)
+}
