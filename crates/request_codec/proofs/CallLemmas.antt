@@ -1,8 +1,6 @@
 -- Calls of a source or a sink, one after another.
-use Rattle.std.proofs.Common.{◌≡◌, ◌↔◌, ℕ, ◌∙◌, refl, sym}
-use Rattle.std.specs.Prelude.{Result, Ok, Err}
+use Rattle.std.proofs.Common.{◌≡◌, ◌↔◌, ◌∙◌, refl, sym}
 use Rattle.world.specs.Streams.{Streamed, IsPreorder}
-use Rattle.world.specs.Counts.{Counts}
 use Rattle.request_codec.specs.Ahead.{Ahead, Tells}
 use Rattle.request_codec.specs.Calls.{Went}
 

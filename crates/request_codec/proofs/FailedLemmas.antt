@@ -1,13 +1,13 @@
 -- What a failed read leaves: a part of an item.
-use Rattle.std.proofs.Common.{◌≡◌, ◌≢◌, ℕ, zero, suc, ◌+◌, ◌*◌, ◌-◌, ◌<◌, ◌≤◌, Bool, true, false, cond, not, ltb, leb, eqb, ◌&&◌, ◌||◌, List, [], ◌∷◌, ◌++◌, length, take, drop, Option, Some, None, refl, sym, ap, subst, ◌∙◌, arith, append_assoc, length-append, take-append-drop, inl, inr}
+use Rattle.std.proofs.Common.{◌≡◌, ℕ, suc, ◌+◌, ◌*◌, ◌<◌, ◌≤◌, Bool, true, false, cond, not, leb, ◌||◌, List, [], ◌∷◌, ◌++◌, length, take, drop, Some, refl, sym, ap, ◌∙◌, arith, append_assoc, length-append, take-append-drop, inl, inr}
 use Rattle.std.specs.List.{position_or_len, before_first, after_first, list_any}
 use Rattle.std.proofs.lemmas.Bool.{eqb-true, cases_lt, lt-leb}
 use Rattle.std.proofs.lemmas.List.{append-nil, length-take}
 use Rattle.std.proofs.lemmas.List.Sums.{prefix_len-le-length}
 use Rattle.pur_base.specs.declared.request.Request.{Request}
-use Rattle.pur_base.specs.Grammar.{is_line_end, line_request, line_data, data_count, is_whole}
+use Rattle.pur_base.specs.Grammar.{is_line_end, line_request, data_count, is_whole}
 use Rattle.request_codec.specs.Reading.{Unfinished, Overruns}
-use Rattle.pur_base.proofs.LineLemmas.{IsOpen, open-nil, before-past, after-past, before-open, after-open}
+use Rattle.pur_base.proofs.LineLemmas.{IsOpen, open-nil, before-past, after-past, after-open}
 
 later : (c : Bool) (n m : ℕ) → cond (not c) (1 + n) 0 ≡ suc m → (c ≡ false) × (n ≡ m)
 later true n m e = absurd (omega (arith, e))

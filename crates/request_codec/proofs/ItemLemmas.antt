@@ -1,9 +1,9 @@
 -- The first item of an input, by its line and its data.
-use Rattle.std.proofs.Common.{◌≡◌, ℕ, ◌*◌, ◌<◌, ◌≤◌, List, [], length, drop, Option, Some, None, refl, sym, ap, ◌∙◌, arith}
+use Rattle.std.proofs.Common.{◌≡◌, ℕ, ◌*◌, ◌<◌, ◌≤◌, List, [], length, drop, Some, refl}
 use Rattle.std.specs.List.{before_first, after_first}
 use Rattle.std.proofs.lemmas.Bool.{le-ltb, lt-ltb}
 use Rattle.pur_base.specs.declared.request.Request.{Request}
-use Rattle.pur_base.specs.Grammar.{Asked, Syntax, Cut, line_request, line_item, first_item, is_line_end, data_count, sectors_in}
+use Rattle.pur_base.specs.Grammar.{Asked, Cut, line_request, line_item, first_item, is_line_end, data_count, sectors_in}
 
 pub item-whole : (xs : List ℕ) (r : Request) (sectors : List (List ℕ)) (behind after : List ℕ)
     → line_request (before_first is_line_end xs) ≡ Some r → behind ≡ after_first is_line_end xs

@@ -5,3 +5,4 @@ pub mod CallLemmas
 pub mod DataLemmas
 pub mod FailedLemmas
 pub mod ItemLemmas
+pub mod WritingLemmas

@@ -1,5 +1,5 @@
 -- What calls of a source or a sink leave of it, so far as they succeed.
-use Rattle.std.specs.Prelude.{◌≡◌, ◌↔◌, ℕ}
+use Rattle.std.specs.Prelude.{◌≡◌, ◌↔◌}
 use Rattle.world.specs.Streams.{Streamed}
 
 -- it is as honest as before, no call failed, and the rest stays

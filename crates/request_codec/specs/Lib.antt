@@ -6,3 +6,4 @@ pub mod Calls
 pub mod Data
 pub mod Reader
 pub mod Items
+pub mod Writing

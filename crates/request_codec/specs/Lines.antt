@@ -1,5 +1,5 @@
 -- What a reader holds of a line.
-use Rattle.std.specs.Prelude.{◌≡◌, ℕ, ◌<◌, ◌≤◌, Bool, true, false, List, [], ◌++◌, length}
+use Rattle.std.specs.Prelude.{◌≡◌, ℕ, ◌<◌, ◌≤◌, true, false, List, [], length}
 use Rattle.std.specs.List.{position_or_len, before_first, after_first}
 use Rattle.pur_base.specs.Grammar.{is_line_end}
 use Rattle.pur_base.specs.declared.limits.TheConstants.{LINE_BYTES}

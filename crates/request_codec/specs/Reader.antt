@@ -1,5 +1,5 @@
 -- What a reader holds.
-use Rattle.std.specs.Prelude.{ℕ, ◌≤◌, List}
+use Rattle.std.specs.Prelude.{ℕ, List}
 use Rattle.request_codec.specs.Ahead.{Ahead}
 
 -- what a reader holds: its bytes ahead, and the sectors of the last request

@@ -2,7 +2,6 @@
 use Rattle.std.specs.Prelude.{ℕ, List, [], Option, Some, None}
 use Rattle.pur_base.specs.Grammar.{words}
 use Rattle.request_codec.specs.declared.words.Words.{Words}
-use Rattle.std.specs.Prelude.{◌∷◌}
 use Rattle.std.specs.Borrow.{Bor}
 
 abbrev pub words_in : Option (Bor (List ℕ)) → List (List ℕ)

@@ -1,4 +1,4 @@
-use Rattle.std.proofs.Common.{◌≡◌, ℕ, ◌-◌, ◌++◌, List, take, ap, subst, ◌∙◌}
+use Rattle.std.proofs.Common.{ℕ, ◌-◌, ◌++◌, List, take, ap, subst, ◌∙◌}
 use Rattle.pur_base.specs.declared.limits.TheConstants.{INPUT_BYTES}
 use Rattle.pur_base.proofs.LineLemmas.{open-append, whole-line, more-of-line, spent}
 use Rattle.request_codec.specs.Lines.{Holds}

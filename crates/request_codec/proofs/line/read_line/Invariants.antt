@@ -12,7 +12,7 @@ invariant-pieces g l =
     record {
       read : (got : List ℕ) × Holds l.line got × (budget l.input + length got ≤ budget l.fn.input)
           × (Tells l.fn.input (source l.fn.source) → Tells l.input (source l.source) × IsOpen got
-              × (l.fn.input.pending ++ (source l.fn.source).bytes ≡ got ++ (l.input.pending ++ (source l.source).bytes)));
+          × (l.fn.input.pending ++ (source l.fn.source).bytes ≡ got ++ (l.input.pending ++ (source l.source).bytes)));
       total : Tells l.fn.input (source l.fn.source) → l.input.taken + length (source l.source).bytes ≡ l.fn.input.taken + length (source l.fn.source).bytes;
       limited : l.fn.input.taken ≤ INPUT_BYTES → l.input.taken ≤ INPUT_BYTES;
       latched : l.fn.input.ended ≡ true → (l.source ≡ l.fn.source) × (l.input.ended ≡ true);

@@ -1,4 +1,4 @@
-use Rattle.std.proofs.Common.{◌≡◌, ℕ, ◌+◌, ◌^◌, ◌<◌, take}
+use Rattle.std.proofs.Common.{◌≡◌, ◌^◌, ◌<◌, take}
 use Rattle.pur_base.specs.Grammar.{digits_number}
 use Rattle.request_codec.proofs.parse.number_from.Given as goal
 

@@ -1,4 +1,4 @@
-use Rattle.std.proofs.Common.{◌≡◌, ℕ, ◌*◌, ◌<◌, ◌≤◌, ◌++◌, List, length, Option, Some, sym, ap, ◌∙◌}
+use Rattle.std.proofs.Common.{◌++◌, sym, ◌∙◌}
 use Rattle.std.proofs.lemmas.Result.{err_from_is_err_and}
 use Rattle.request_codec.proofs.ItemLemmas.{item-cut}
 use Rattle.request_codec.proofs.FailedLemmas.{line-failed, line-overrun, data-failed, data-overrun}

@@ -1,0 +1,14 @@
+use Rattle.std.proofs.Common.{◌≡◌, ◌++◌, take}
+use Rattle.pur_base.specs.Replies.{sectors_text}
+use Rattle.request_codec.specs.Calls.{Went}
+use Rattle.request_codec.specs.Writing.{Extends}
+use Rattle.request_codec.proofs.reply_writer.ReplyWriter.put_sectors.Given as goal
+
+abbrev pub invariant-loop-sector : goal.invariant-loop-sector
+invariant-loop-sector g l =
+    let sink = g.K.Sink.sink in
+    record {
+      gave : (sink l.fn.sink).honest → (sink l.sink).bytes ++ l.self ≡ (sink l.fn.sink).bytes ++ l.fn.self ++ sectors_text (take l.sector-index l.sectors);
+      extends : (sink l.fn.sink).honest → Extends (sink l.fn.sink).bytes (sink l.sink).bytes;
+      went : Went sink g.K.Sink.sink_rest l.fn.sink l.sink;
+    }

@@ -1,0 +1,14 @@
+use Rattle.std.proofs.Common.{◌-◌, length, drop, arith}
+use Rattle.std.proofs.lemmas.List.{length-take, length-drop}
+use Rattle.request_codec.proofs.CallLemmas.{went-on}
+use Rattle.request_codec.proofs.WritingLemmas.{give-more}
+use Rattle.request_codec.proofs.reply_writer.give_all.Goals as goal
+
+pub pieces-preserved : goal.pieces-preserved
+pieces-preserved g c =
+    let inv = c.pieces.invariant in
+    record {
+      within = omega (arith, inv.within, c.in_ok-count.ensures.within, length-take (length c.args.bytes.now - c.pieces.given) (drop c.pieces.given c.args.bytes.now), length-drop c.pieces.given c.args.bytes.now);
+      gave = λ h. give-more _ _ _ c.args.bytes.now c.pieces.given c.in_ok-count.count (inv.gave h) (c.in_ok-count.ensures.given (inv.went.honest.0 h));
+      went = went-on g.met.K.Sink.sink_rest_stays inv.went c.in_ok-count.ensures.honest c.in_ok-count.ensures.counts c.in_ok-count.ensures.rest;
+    }
