@@ -69,6 +69,7 @@ fn read_split_sector<S: Source>(input: &mut Input, source: &mut S) -> Result<Sec
     ensures latched { input.old.ended ≡ true → (source.new ≡ source.old) × (input.new.ended ≡ true) }
     ensures failed { OnErr result (Tells input.old (S.source source.old) → Tells input.new (S.source source.new)
         × Unfinished (input.old.pending ++ (S.source source.old).bytes) (S.source source.new).bytes (λ rest. length rest < SECTOR_BYTES)) }
+    ensures dropped { OnErr result (input.new.pending ≡ []) }
     ensures asked { OnErr result (input.old.ended ≡ false) }
     ensures honest { (S.source source.old).honest ↔ (S.source source.new).honest }
     ensures counts { Counts result (S.source source.old).faults (S.source source.new).faults }
@@ -108,6 +109,7 @@ fn read_sector<S: Source>(
     ensures latched { input.old.ended ≡ true → (source.new ≡ source.old) × (input.new.ended ≡ true) }
     ensures failed { OnErr result (Tells input.old (S.source source.old) → Tells input.new (S.source source.new)
         × Unfinished (input.old.pending ++ (S.source source.old).bytes) (S.source source.new).bytes (λ rest. length rest < SECTOR_BYTES)) }
+    ensures dropped { OnErr result (input.new.pending ≡ []) }
     ensures asked { OnErr result (input.old.ended ≡ false) }
     ensures honest { (S.source source.old).honest ↔ (S.source source.new).honest }
     ensures counts { Counts result (S.source source.old).faults (S.source source.new).faults }
@@ -150,6 +152,7 @@ pub fn read_data<S: Source>(
     ensures latched { input.old.ended ≡ true → (source.new ≡ source.old) × (input.new.ended ≡ true) }
     ensures failed { OnErr result (Tells input.old (S.source source.old) → Tells input.new (S.source source.new)
         × Unfinished (input.old.pending ++ (S.source source.old).bytes) (S.source source.new).bytes (λ rest. length rest < SECTOR_BYTES * count)) }
+    ensures dropped { OnErr result (input.new.pending ≡ []) }
     ensures asked { OnErr result (input.old.ended ≡ false) }
     ensures honest { (S.source source.old).honest ↔ (S.source source.new).honest }
     ensures counts { Counts result (S.source source.old).faults (S.source source.new).faults }
