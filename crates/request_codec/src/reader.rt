@@ -23,8 +23,9 @@ pub enum Item {
     Syntax,
     /// The input ended inside a write's data.
     Cut,
-    /// The most bytes were taken, and there are more.
+    /// `INPUT_BYTES` bytes were taken, and there are more, of which one is lost.
     Limit,
+    /// Nothing is left.
     End,
 }
 

@@ -72,7 +72,7 @@ impl ReplyWriter {
         self.len = end;
     }
 
-    /// Gives what is pending.
+    /// Gives what is pending. At an error what wasn't given is dropped.
     pub fn flush<K: Sink>(&mut self, sink: &mut K) -> Result<(), Failed>
         ensures gave { (K.sink sink.old).honest → Goes result (K.sink sink.old).bytes self.old [] (K.sink sink.new).bytes self.new }
         ensures emptied { self.new ≡ [] }
@@ -123,7 +123,7 @@ impl ReplyWriter {
         Ok(())
     }
 
-    /// Writes the first line of a reply, and the sectors behind it. At an error what is pending is dropped.
+    /// Writes the first line of a reply, and the sectors behind it. What fits in the buffer is only gathered. At an error what is pending is dropped.
     pub fn write_reply<K: Sink>(
         &mut self,
         reply: &Reply,
