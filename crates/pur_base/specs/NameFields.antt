@@ -1,6 +1,7 @@
 -- How a name lies in its fields.
-use Rattle.std.specs.Prelude.{◌≡◌, ℕ, ◌-◌, ◌≤◌, List, ◌++◌, length, take, drop, replicate, refl}
-use Rattle.std.proofs.Common.{arith}
+use Rattle.std.specs.Prelude.{IsTrue, bytes_eq, [], ◌∷◌, ◌≡◌, ℕ, ◌-◌, ◌≤◌, List, ◌++◌, length, take, drop, replicate, refl}
+use Rattle.std.specs.Cmp.Lexicographic.{bytes_decides}
+use Rattle.std.proofs.Common.{arith, ap}
 use Rattle.std.proofs.lemmas.List.{take-append-drop, length-take}
 use Rattle.pur_base.specs.declared.name.Name.TheInside.{Inside}
 
@@ -15,3 +16,7 @@ pub inverse-view : (n : Inside) → IsPadded n.bytes n.len
 inverse-view n h =
     let len : length (take n.len n.bytes) ≡ n.len = omega (arith, length-take n.len n.bytes, h.size, h.within) in
     rw (len, ← h.zeros, take-append-drop) refl
+
+-- Equal names are hashed alike.
+pub hashed-alike : (x y : List ℕ) → IsTrue (bytes_eq x y) → x ∷ [] ≡ y ∷ []
+hashed-alike x y e = ap (λ (n : List ℕ). n ∷ []) ((bytes_decides x y).0 e)

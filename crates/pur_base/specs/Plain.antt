@@ -21,7 +21,7 @@ Array = List Entry
 -- ---- reading an array
 
 abbrev pub is_named : List ℕ → Entry → Bool
-is_named name e = bytes_eq e.name name
+is_named name e = bytes_eq name e.name
 
 -- the entry of that name, if there is one
 abbrev pub entry : Array → List ℕ → Option Entry
@@ -80,16 +80,29 @@ abbrev pub first_cause : List (Bool × Refusal) → Option Refusal
 first_cause [] = None
 first_cause (cause ∷ causes) = if cause.0 then Some cause.1 else first_cause causes
 
+-- why sectors of a volume may not be replaced
+abbrev pub overwrite_causes : Array → List ℕ → ℕ → ℕ → List (Bool × Refusal)
+overwrite_causes a n lba count = (not (has a n), Unknown) ∷ (is_snapshot a n, ReadOnly) ∷ (passes a n lba count, Range) ∷ []
+
+-- why sectors may not be read
+abbrev pub read_causes : Array → List ℕ → ℕ → ℕ → List (Bool × Refusal)
+read_causes a n lba count = (not (has a n), Unknown) ∷ (passes a n lba count, Range) ∷ []
+
+-- why n may not be copied whole under a new name
+abbrev pub derive_causes : Array → List ℕ → List ℕ → List (Bool × Refusal)
+derive_causes a n new = (not (has a n), Unknown) ∷ (has a new, Taken) ∷ (is_full a, Limit) ∷ []
+
 -- for which causes a request is refused, in their order, and whether each holds
 abbrev pub causes : Array → Request → List (Bool × Refusal)
 causes a (request.Create n sectors) = (has a n, Taken) ∷ (is_no_size sectors || is_full a, Limit) ∷ []
-causes a (request.Write n lba count) = (not (has a n), Unknown) ∷ (is_snapshot a n, ReadOnly) ∷ (passes a n lba count, Range) ∷ []
-causes a (request.Fill n lba count byte) = (not (has a n), Unknown) ∷ (is_snapshot a n, ReadOnly) ∷ (passes a n lba count, Range) ∷ []
-causes a (request.Zero n lba count) = (not (has a n), Unknown) ∷ (is_snapshot a n, ReadOnly) ∷ (passes a n lba count, Range) ∷ []
-causes a (request.Read n lba count) = (not (has a n), Unknown) ∷ (passes a n lba count, Range) ∷ []
-causes a (request.Snapshot n new) = (not (has a n), Unknown) ∷ (has a new, Taken) ∷ (is_full a, Limit) ∷ []
-causes a (request.Clone n new) = (not (has a n), Unknown) ∷ (has a new, Taken) ∷ (is_full a, Limit) ∷ []
-causes a (request.Copy n lba m to count) = (not (has a n) || not (has a m), Unknown) ∷ (is_snapshot a m, ReadOnly) ∷ (passes a n lba count || passes a m to count, Range) ∷ []
+causes a (request.Write n lba count) = overwrite_causes a n lba count
+causes a (request.Fill n lba count byte) = overwrite_causes a n lba count
+causes a (request.Zero n lba count) = overwrite_causes a n lba count
+causes a (request.Read n lba count) = read_causes a n lba count
+causes a (request.Snapshot n new) = derive_causes a n new
+causes a (request.Clone n new) = derive_causes a n new
+causes a (request.Copy n lba m to count) =
+    (not (has a n) || not (has a m), Unknown) ∷ (is_snapshot a m, ReadOnly) ∷ (passes a n lba count || passes a m to count, Range) ∷ []
 causes a (request.Destroy n) = (not (has a n), Unknown) ∷ []
 causes a (request.Flatten n) = (not (has a n), Unknown) ∷ []
 causes a _ = []

@@ -3,10 +3,11 @@ ghost use Rattle.std.specs.List.{list_all};
 ghost use Rattle.pur_base.specs.Names.{is_name, is_name_byte};
 
 use crate::limits::NAME_BYTES;
+use std::hash::{Hash, Hasher};
 use std::marker::Model;
 
 /// The name of a volume or snapshot: 1 to 24 bytes of `a-z 0-9 - _ .`. Contracts see the list of its bytes.
-#[derive(Clone, Copy, PartialEq, Eq, Hash, Drop)]
+#[derive(Clone, Copy, Drop)]
 pub struct Name {
     bytes: [u8; NAME_BYTES],
     len: u8,
@@ -80,5 +81,60 @@ impl Name {
         ensures len { length self.now ≤ 24 }
     {
         &self.bytes[..self.len as usize]
+    }
+}
+
+impl PartialEq for Name {
+    ghost use Rattle.std.specs.Prelude.{bytes_eq};
+    ghost use Rattle.std.specs.Cmp.{partial_equiv_from_equiv};
+    ghost use Rattle.std.specs.Cmp.Lexicographic.{nat_list_eq_equiv};
+
+    ghost eq = { bytes_eq };
+
+    ghost laws = { partial_equiv_from_equiv nat_list_eq_equiv };
+
+    fn eq(&self, other: &Name) -> bool {
+        self.as_bytes() == other.as_bytes()
+    }
+}
+
+impl Eq for Name {
+    ghost use Rattle.std.specs.Cmp.Lexicographic.{nat_list_eq_equiv};
+
+    ghost laws = { nat_list_eq_equiv };
+}
+
+/// A name is hashed as one write of its bytes.
+impl Hash for Name {
+    ghost use Rattle.std.specs.Prelude.{[], ◌∷◌};
+    ghost use Rattle.pur_base.specs.NameFields.{hashed-alike};
+
+    ghost hash_input = { λ n. n ∷ [] };
+
+    ghost respects_eq = { hashed-alike };
+
+    fn hash<H: Hasher>(&self, state: &mut H) {
+        state.write(self.as_bytes());
+    }
+}
+
+#[cfg(test)]
+mod tests {
+    use super::*;
+
+    #[test]
+    fn reads_lawful_names(rt: HostRuntime) {
+        let names: [(&[u8], bool); 7] = [
+            (b"a", true),
+            (b"vm-01_data.img", true),
+            (b"abcdefghijklmnopqrstuvwx", true),
+            (b"abcdefghijklmnopqrstuvwxy", false),
+            (b"", false),
+            (b"Upper", false),
+            (b"two words", false),
+        ];
+        for (text, lawful) in names {
+            assert_eq!(rt; Name::read(text).is_ok(), lawful, "{text:?}");
+        }
     }
 }

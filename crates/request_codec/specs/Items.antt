@@ -1,7 +1,7 @@
 -- What a call of next did: before and after are the unread bytes.
-use Rattle.std.specs.Prelude.{◌≡◌, ℕ, ◌<◌, false, List, [], ◌∷◌, ◌++◌, length}
+use Rattle.std.specs.Prelude.{◌≡◌, ℕ, ◌<◌, true, false, List, [], ◌∷◌, ◌++◌, length}
 use Rattle.pur_base.specs.Grammar as grammar
-use Rattle.pur_base.specs.Grammar.{Asked, Syntax, Cut, first_item, data_count, is_whole}
+use Rattle.pur_base.specs.Grammar.{Asked, Syntax, Cut, first_item, data_count, is_in_force, is_whole}
 use Rattle.request_codec.specs.declared.reader.Item.{Item}
 use Rattle.request_codec.specs.declared.reader.Item.TheVariants as item
 
@@ -18,6 +18,11 @@ abbrev pub TakesSome : Item → ℕ → ℕ → Type 0
 TakesSome item.End before after = Unit {0}
 TakesSome item.Limit before after = Unit {0}
 TakesSome _ before after = after < before
+
+-- a request is of a form in force
+abbrev pub IsServed : Item → Type 0
+IsServed (item.Request r) = is_in_force r ≡ true
+IsServed _ = Unit {0}
 
 -- a request comes with its data
 abbrev pub HasData : Item → List (List ℕ) → Type 0

@@ -64,6 +64,7 @@ fn read_split_sector<S: Source>(
         Totals (found ≡ DataEnd.Limit) input.old.taken input.new.taken (length (S.source source.old).bytes) (length (S.source source.new).bytes)) }
     ensures budget { OnOk result (budget input.new ≤ budget input.old) }
     ensures cut { IfOk result (λ found. found ≡ DataEnd.Cut → input.new.ended ≡ true) }
+    ensures limit { IfOk result (λ found. found ≡ DataEnd.Limit → input.new.pending ≡ []) }
     ensures limited { input.old.taken ≤ INPUT_BYTES → input.new.taken ≤ INPUT_BYTES }
     ensures latched { input.old.ended ≡ true → (source.new ≡ source.old) × (input.new.ended ≡ true) }
     ensures failed { OnErr result (Tells input.old (S.source source.old) → Tells input.new (S.source source.new)
@@ -105,6 +106,7 @@ fn read_sector<S: Source>(
         Totals (found ≡ DataEnd.Limit) input.old.taken input.new.taken (length (S.source source.old).bytes) (length (S.source source.new).bytes)) }
     ensures budget { OnOk result (budget input.new ≤ budget input.old) }
     ensures cut { IfOk result (λ found. found ≡ DataEnd.Cut → input.new.ended ≡ true) }
+    ensures limit { IfOk result (λ found. found ≡ DataEnd.Limit → input.new.pending ≡ []) }
     ensures limited { input.old.taken ≤ INPUT_BYTES → input.new.taken ≤ INPUT_BYTES }
     ensures latched { input.old.ended ≡ true → (source.new ≡ source.old) × (input.new.ended ≡ true) }
     ensures failed { OnErr result (Tells input.old (S.source source.old) → Tells input.new (S.source source.new)
@@ -141,6 +143,7 @@ pub fn read_data<S: Source>(
         Totals (found ≡ DataEnd.Limit) input.old.taken input.new.taken (length (S.source source.old).bytes) (length (S.source source.new).bytes)) }
     ensures budget { OnOk result (budget input.new ≤ budget input.old) }
     ensures cut { IfOk result (λ found. found ≡ DataEnd.Cut → input.new.ended ≡ true) }
+    ensures limit { IfOk result (λ found. found ≡ DataEnd.Limit → input.new.pending ≡ []) }
     ensures limited { input.old.taken ≤ INPUT_BYTES → input.new.taken ≤ INPUT_BYTES }
     ensures latched { input.old.ended ≡ true → (source.new ≡ source.old) × (input.new.ended ≡ true) }
     ensures failed { OnErr result (Tells input.old (S.source source.old) → Tells input.new (S.source source.new)

@@ -1,7 +1,7 @@
 // Lines from the input, of which at most `LINE_BYTES` are kept.
 ghost use Rattle.std.specs.Prelude.{◌≡◌, ◌↔◌, ◌+◌, ◌<◌, ◌≤◌, ◌++◌, ℕ, List, [], true, false, length, IfOk, OnErr, IfSome, IsTrue};
 ghost use Rattle.std.specs.List.{position_or_len, list_any};
-ghost use Rattle.pur_base.specs.Grammar.{line_request, data_count, is_line_end};
+ghost use Rattle.pur_base.specs.Grammar.{line_request, data_count, is_in_force, is_line_end};
 ghost use Rattle.world.specs.Counts.{Counts};
 ghost use Rattle.request_codec.specs.Ahead.{Tells, budget};
 ghost use Rattle.request_codec.specs.Reading.{Totals, Unfinished};
@@ -48,6 +48,7 @@ impl Line {
     /// The request that the line is.
     pub fn request(&self) -> Option<Request>
         ensures request { (got : List ℕ) → Holds self.now got → result ≡ line_request got }
+        ensures served { IfSome result (λ r. is_in_force r ≡ true) }
         ensures few { IfSome result (λ r. data_count r ≤ REQUEST_SECTORS) }
     {
         if self.long {
@@ -80,6 +81,7 @@ pub fn read_line<S: Source>(
     ensures end { IfOk result (λ found. found ≡ LineEnd.End → input.new.ended ≡ true) }
     ensures last { IfOk result (λ found. found ≡ LineEnd.Line → Tells input.old (S.source source.old) →
         list_any is_line_end (input.old.pending ++ (S.source source.old).bytes) ≡ false → input.new.ended ≡ true) }
+    ensures limit { IfOk result (λ found. found ≡ LineEnd.Limit → input.new.pending ≡ []) }
     ensures limited { input.old.taken ≤ INPUT_BYTES → input.new.taken ≤ INPUT_BYTES }
     ensures latched { input.old.ended ≡ true → (source.new ≡ source.old) × (input.new.ended ≡ true) }
     ensures failed { OnErr result (Tells input.old (S.source source.old) → Tells input.new (S.source source.new)

@@ -1,4 +1,4 @@
-ghost use Rattle.std.specs.Prelude.{◌≡◌, ◌≤◌, ℕ, List, length, bytes_eq, option_map, IsTrue, IfSome};
+ghost use Rattle.std.specs.Prelude.{◌≡◌, ◌≤◌, ℕ, List, length, bytes_eq, option_map, true, IsTrue, IfSome};
 ghost use Rattle.pur_base.specs.declared.request.Request.{Request};
 ghost use Rattle.std.specs.List.{list_all};
 ghost use Rattle.std.specs.Char.{is_ascii_digit};
@@ -327,6 +327,7 @@ fn spelled_by(line: &[u8]) -> Option<Request>
 
 fn if_served(request: Request) -> Option<Request>
     ensures request { result ≡ when (is_in_force request) request }
+    ensures served { IfSome result (λ r. is_in_force r ≡ true) }
     ensures same { IfSome result (λ r. r ≡ request) }
 {
     if request.is_in_force() {
@@ -339,6 +340,7 @@ fn if_served(request: Request) -> Option<Request>
 /// The request of a line, where its form is in force.
 pub fn request_from(line: &[u8]) -> Option<Request>
     ensures request { result ≡ if_in_force (request_of (words line.now)) }
+    ensures served { IfSome result (λ r. is_in_force r ≡ true) }
     ensures few { IfSome result (λ r. data_count r ≤ REQUEST_SECTORS) }
 {
     let request = spelled_by(line)?;

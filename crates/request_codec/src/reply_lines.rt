@@ -73,7 +73,7 @@ pub fn push_reply(line: &mut Line, reply: &Reply)
         Reply::Done => push_text(line, b"ok\n"),
         Reply::Data { count } => {
             push_text(line, b"data ");
-            push_number(line, *count as u64);
+            push_number(line, *count);
             push_text(line, b"\n");
         }
         Reply::Names { count } => {

@@ -1,0 +1,43 @@
+-- Accepted requests at their places.
+use Rattle.std.proofs.Common.{◌≡◌, ℕ, List, [], length, None, refl, sym, ap, ◌∙◌}
+use Rattle.std.specs.Prelude.{replicate}
+use Rattle.pur_base.specs.declared.request.Request.TheVariants as request
+use Rattle.pur_base.specs.Sectors.{filled}
+use Rattle.pur_base.specs.Plain.{Array, span, with_span, with_sectors, replaced, first_cause, overwrite_causes, read_causes}
+use Rattle.pur_base.specs.Replies.{Sectors}
+use Rattle.array_model.specs.declared.plain.Held.{Held}
+use Rattle.array_model.specs.declared.step.PlainReply.TheVariants as plain
+use Rattle.array_model.specs.Held.{IsOf, sectors_at, with_sectors_at}
+use Rattle.array_model.specs.Step.{Meets}
+use Rattle.array_model.proofs.PlaceLemmas.{sectors-of, with-at}
+
+overwritten : (a : Array) (name : List ℕ) (lba count : ℕ) (place : Held) (body : List (List ℕ)) → IsOf a name lba count place
+    → with_sectors_at a place.object (with_span place.lba body (sectors_at a place.object)) ≡ replaced a name lba body
+overwritten a name lba count place body h =
+    with-at name a place.object _ h.named
+    ∙ ap (λ (s : List (List ℕ)). with_sectors a name (with_span place.lba body s)) (sym (sectors-of name a place.object h.named))
+    ∙ ap (λ (at : ℕ). replaced a name at body) h.lba
+
+pub write-meets : (a b : Array) (name : List ℕ) (lba : ℕ) (body : List (List ℕ)) (place : Held) → (first_cause (overwrite_causes a name lba (length body)) ≡ None) × IsOf a name lba (length body) place
+    → b ≡ with_sectors_at a place.object (with_span place.lba body (sectors_at a place.object)) → Meets a (request.Write name lba (length body)) body plain.Done b
+write-meets a b name lba body place h is = record { there = tt; reply = rw h.0 refl; array = rw h.0 (is ∙ overwritten a name lba (length body) place body h.1) }
+
+pub fill-meets : (a b : Array) (name : List ℕ) (lba count byte : ℕ) (place : Held) → (first_cause (overwrite_causes a name lba count) ≡ None) × IsOf a name lba count place
+    → b ≡ with_sectors_at a place.object (with_span place.lba (replicate place.count (filled byte)) (sectors_at a place.object)) → Meets a (request.Fill name lba count byte) [] plain.Done b
+fill-meets a b name lba count byte place h is = record {
+  there = tt;
+  reply = rw h.0 refl;
+  array = rw h.0 (is ∙ ap (λ (n : ℕ). with_sectors_at a place.object (with_span place.lba (replicate n (filled byte)) (sectors_at a place.object))) h.1.count
+      ∙ overwritten a name lba count place (replicate count (filled byte)) h.1);
+}
+
+pub read-meets : (a : Array) (name : List ℕ) (lba count : ℕ) (place : Held) → (first_cause (read_causes a name lba count) ≡ None) × IsOf a name lba count place
+    → Meets a (request.Read name lba count) [] (plain.Data place) a
+read-meets a name lba count place h =
+    let body : span place.lba place.count (sectors_at a place.object) ≡ span lba count (sectors_at a place.object) =
+    ap (λ (at : ℕ). span at place.count (sectors_at a place.object)) h.1.lba ∙ ap (λ (n : ℕ). span lba n (sectors_at a place.object)) h.1.count in
+    record {
+      there = h.1.held;
+      reply = rw h.0 (ap (λ (s : List (List ℕ)). Sectors s) (body ∙ ap (span lba count) (sym (sectors-of name a place.object h.1.named))));
+      array = rw h.0 refl;
+    }

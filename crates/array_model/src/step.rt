@@ -1,0 +1,136 @@
+ghost use Rattle.std.specs.Prelude.{◌≡◌, None, true, [], length, IfOk, OnErr};
+ghost use Rattle.pur_base.specs.Grammar.{is_in_force, data_count};
+ghost use Rattle.pur_base.specs.Plain.{refusal, is_no_size as has_no_size};
+ghost use Rattle.pur_base.specs.declared.request.Request.TheVariants.{Create as CreateForm, Write as WriteForm, Fill as FillForm, Read as ReadForm};
+ghost use Rattle.array_model.specs.Step.{Meets, IsCreate};
+
+use crate::plain::{Held, Plain};
+use pur_base::{Name, NoMemory, OBJECT_SECTORS, OBJECTS, Refusal, Request, Sector};
+
+/// What the plain array answers.
+#[derive(Clone, Copy, Debug, PartialEq, Eq)]
+pub enum PlainReply {
+    Done,
+    /// The sectors that stand there.
+    Data(Held),
+    /// The list of its names.
+    Names,
+    Refused(Refusal),
+}
+
+fn is_no_size(sectors: u64) -> bool
+    ensures { result ≡ has_no_size sectors }
+{
+    sectors == 0 || OBJECT_SECTORS < sectors
+}
+
+fn create(plain: &mut Plain, name: &Name, sectors: u64) -> Result<PlainReply, NoMemory>
+    ensures ok { IfOk result (λ reply. Meets plain.old (CreateForm name.now sectors) [] reply plain.new) }
+    ensures err { OnErr result ((plain.new ≡ plain.old) × (refusal plain.old (CreateForm name.now sectors) ≡ None)) }
+{
+    if plain.has(name) {
+        return Ok(PlainReply::Refused(Refusal::Taken));
+    }
+    if is_no_size(sectors) || OBJECTS <= plain.len() {
+        return Ok(PlainReply::Refused(Refusal::Limit));
+    }
+    plain.append(name, sectors as usize)?;
+    Ok(PlainReply::Done)
+}
+
+fn write(plain: &mut Plain, name: &Name, lba: u64, sectors: &[Sector]) -> PlainReply
+    ensures { Meets plain.old (WriteForm name.now lba (length sectors.now)) sectors.now result plain.new }
+{
+    match plain.writable(name, lba, sectors.len()) {
+        Ok(place) => {
+            plain.write(&place, sectors);
+            PlainReply::Done
+        }
+        Err(why) => PlainReply::Refused(why),
+    }
+}
+
+fn fill(plain: &mut Plain, name: &Name, lba: u64, count: u8, byte: u8) -> PlainReply
+    ensures { Meets plain.old (FillForm name.now lba count byte) [] result plain.new }
+{
+    match plain.writable(name, lba, count as usize) {
+        Ok(place) => {
+            plain.fill(&place, byte);
+            PlainReply::Done
+        }
+        Err(why) => PlainReply::Refused(why),
+    }
+}
+
+fn read(plain: &Plain, name: &Name, lba: u64, count: u8) -> PlainReply
+    ensures { Meets plain.now (ReadForm name.now lba count) [] result plain.now }
+{
+    match plain.readable(name, lba, count as usize) {
+        Ok(place) => PlainReply::Data(place),
+        Err(why) => PlainReply::Refused(why),
+    }
+}
+
+/// Answers a request of a form in force, a write with as many sectors as it asks for, and does to the array what it asks.
+/// Want of memory comes from `create` alone, where nothing else refuses it, and leaves the array.
+pub fn plain_step(
+    plain: &mut Plain,
+    request: &Request,
+    sectors: &[Sector],
+) -> Result<PlainReply, NoMemory>
+    requires in_force { is_in_force request.now ≡ true }
+    requires written { length sectors.now ≡ data_count request.now }
+    ensures ok { IfOk result (λ reply. Meets plain.old request.now sectors.now reply plain.new) }
+    ensures err { OnErr result ((plain.new ≡ plain.old) × IsCreate request.now × (refusal plain.old request.now ≡ None)) }
+{
+    match request {
+        Request::Create { name, sectors } => create(plain, name, *sectors),
+        Request::Write { name, lba, .. } => Ok(write(plain, name, *lba, sectors)),
+        Request::Fill {
+            name,
+            lba,
+            count,
+            byte,
+        } => Ok(fill(plain, name, *lba, *count, *byte)),
+        Request::Read { name, lba, count } => Ok(read(plain, name, *lba, *count)),
+        Request::List => Ok(PlainReply::Names),
+        _ => unreachable!(),
+    }
+}
+
+#[cfg(test)]
+mod tests {
+    use super::*;
+    use std::test::Fail;
+
+    #[test]
+    fn creates_fills_and_reads(rt: HostRuntime) -> Result<(), Fail> {
+        let mut plain = Plain::new(rt.alloc());
+        let name = Name::read(b"a").ok().ok_or("a name")?;
+        let sectors = 8;
+        let made = plain_step(&mut plain, &Request::Create { name, sectors }, &[])?;
+        assert_eq!(rt; made, PlainReply::Done);
+        let filled = Request::Fill {
+            name,
+            lba: 7,
+            count: 1,
+            byte: 65,
+        };
+        assert_eq!(rt; plain_step(&mut plain, &filled, &[])?, PlainReply::Done);
+        let read = Request::Read {
+            name,
+            lba: 7,
+            count: 1,
+        };
+        let place = Held {
+            object: 0,
+            lba: 7,
+            count: 1,
+        };
+        assert_eq!(rt;
+            plain_step(&mut plain, &read, &[])?,
+            PlainReply::Data(place)
+        );
+        Ok(())
+    }
+}

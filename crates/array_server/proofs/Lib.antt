@@ -1,0 +1,3 @@
+pub mod PlainStepLemmas
+pub mod ReplyLemmas
+pub mod SessionLemmas

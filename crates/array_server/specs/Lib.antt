@@ -1,0 +1,3 @@
+pub mod PlainSteps
+pub mod Answering
+pub mod Serving

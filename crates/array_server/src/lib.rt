@@ -1,0 +1,15 @@
+//! Answers the requests of a source on a sink.
+//! The output is the text of one reply an item of the input, each the plain array's own or want of memory, and every end has its cause.
+#![tactic(auto)]
+
+ghost use Rattle.array_server.specs.PlainSteps.{PlainStepsAreSteps};
+
+mod answers;
+mod session;
+
+pub use session::serve;
+
+/// Each run of the plain array in memory is a run of the array.
+pub fn plain_runs_are_runs()
+    ensures { PlainStepsAreSteps }
+{}
