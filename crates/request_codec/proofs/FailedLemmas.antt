@@ -115,3 +115,13 @@ pub data-overrun : (xs behind after rest : List ℕ) (byte : ℕ) (r : Request) 
 data-overrun xs behind after rest byte r behind-is request split short =
     let part = data-failed xs behind (byte ∷ after) rest r behind-is request split short in
     (part.rest, byte, part.split, part.part)
+
+-- a line that ends in the piece
+pub has-end : (xs got piece left : List ℕ) → xs ≡ got ++ (piece ++ left) → position_or_len is_line_end piece < length piece → list_any is_line_end xs ≡ true
+has-end xs got piece left is inside =
+    let s = split-line piece inside in
+    let front = before_first is_line_end piece in
+    let back = after_first is_line_end piece in
+    ap (list_any is_line_end)
+    (is ∙ ap (λ (ys : List ℕ). got ++ (ys ++ left)) s.parts ∙ ap (λ (ys : List ℕ). got ++ ys) (append_assoc front (10 ∷ back) left) ∙ sym (append_assoc got front (10 ∷ (back ++ left))))
+    ∙ any-end (got ++ front) (back ++ left)

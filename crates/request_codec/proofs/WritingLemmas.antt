@@ -1,6 +1,6 @@
 -- A text that is given in parts, and texts one behind another.
-use Rattle.std.proofs.Common.{◌≡◌, ℕ, ◌+◌, ◌-◌, ◌<◌, List, [], ◌∷◌, ◌++◌, length, take, drop, get_or, subst, Result, Ok, Err, sym, ap, ◌∙◌, arith, append_assoc, length-append, take-append-drop}
-use Rattle.std.proofs.lemmas.List.{take_rest, drop_more, append-nil, append_cancel_left}
+use Rattle.std.proofs.Common.{◌≤◌, ◌≡◌, ℕ, ◌+◌, ◌-◌, ◌<◌, List, [], ◌∷◌, ◌++◌, length, take, drop, get_or, subst, Result, Ok, Err, sym, ap, ◌∙◌, arith, append_assoc, length-append, take-append-drop}
+use Rattle.std.proofs.lemmas.List.{take_rest, drop_more, take_more, append-nil, append_cancel_left}
 use Rattle.std.proofs.lemmas.Grind.{flat_map-append}
 use Rattle.pur_base.specs.Replies.{sectors_text}
 use Rattle.std.proofs.Math.Seq.{take-add}
@@ -62,15 +62,33 @@ goes-front {E} e given pending pending_between text given_after pending_after n 
     ) in
     subst (λ (t : List ℕ). Goes {E = E} (Err e) given pending t given_after pending_after) (take-append-drop n text) whole
 
+-- one sector more
+pub texts-more : (sectors : List (List ℕ)) (i : ℕ) (s : List ℕ) → i < length sectors → s ≡ get_or sectors i s → sectors_text (take (i + 1) sectors) ≡ sectors_text (take i sectors) ++ s
+texts-more sectors i s lt is =
+    ap sectors_text (take_more sectors i s lt ∙ ap (λ (x : List ℕ). take i sectors ++ x ∷ []) (sym is)) ∙ flat_map-append (λ (x : List ℕ). x) (take i sectors) (s ∷ [])
+    ∙ ap (λ (t : List ℕ). sectors_text (take i sectors) ++ t) (append-nil s)
+
+texts-split : (sectors : List (List ℕ)) (i : ℕ) (s : List ℕ) → i < length sectors → s ≡ get_or sectors i s
+    → sectors_text sectors ≡ sectors_text (take i sectors) ++ (s ++ sectors_text (drop (i + 1) sectors))
+texts-split sectors i s lt is =
+    let split : sectors ≡ take i sectors ++ s ∷ drop (i + 1) sectors =
+    sym (take-append-drop i sectors) ∙ ap (λ (r : List (List ℕ)). take i sectors ++ r) (drop_more sectors i s lt ∙ ap (λ (x : List ℕ). x ∷ drop (i + 1) sectors) (sym is)) in
+    ap sectors_text split ∙ flat_map-append (λ (x : List ℕ). x) (take i sectors) (s ∷ drop (i + 1) sectors)
+
+-- a sector fits where all do
+pub sector-fits : (pending between : List ℕ) (sectors : List (List ℕ)) (i : ℕ) (s : List ℕ) (room : ℕ) → i < length sectors → s ≡ get_or sectors i s
+    → length pending + length (sectors_text sectors) ≤ room → between ≡ pending ++ sectors_text (take i sectors) → length between + length s ≤ room
+sector-fits pending between sectors i s room lt is fits between-is =
+    let front = sectors_text (take i sectors) in
+    let back = sectors_text (drop (i + 1) sectors) in
+    omega (arith, fits, ap length (texts-split sectors i s lt is), length-append front (s ++ back), length-append s back, ap length between-is, length-append pending front)
+
 -- sectors, of which one went in part
 pub goes-sector : {E : Type 0} (e : E) (given pending given_between pending_between given_after pending_after : List ℕ) (sectors : List (List ℕ)) (i : ℕ) (s : List ℕ)
     → i < length sectors → s ≡ get_or sectors i s → given_between ++ pending_between ≡ given ++ pending ++ sectors_text (take i sectors) → Extends given given_between
     → Goes {E = E} (Err e) given_between pending_between s given_after pending_after → Goes {E = E} (Err e) given pending (sectors_text sectors) given_after pending_after
 goes-sector {E} e given pending given_between pending_between given_after pending_after sectors i s lt is went more cut =
-    let split : sectors ≡ take i sectors ++ s ∷ drop (i + 1) sectors =
-    sym (take-append-drop i sectors) ∙ ap (λ (r : List (List ℕ)). take i sectors ++ r) (drop_more sectors i s lt ∙ ap (λ (x : List ℕ). x ∷ drop (i + 1) sectors) (sym is)) in
-    let parts : sectors_text sectors ≡ sectors_text (take i sectors) ++ (s ++ sectors_text (drop (i + 1) sectors)) =
-    ap sectors_text split ∙ flat_map-append (λ (x : List ℕ). x) (take i sectors) (s ∷ drop (i + 1) sectors) in
+    let parts = texts-split sectors i s lt is in
     let whole : Goes {E = E} (Err e) given pending (sectors_text (take i sectors) ++ (s ++ sectors_text (drop (i + 1) sectors))) given_after pending_after =
     goes-then {E = E} (Err e) given pending (sectors_text (take i sectors)) (s ++ sectors_text (drop (i + 1) sectors)) given_between pending_between given_after pending_after went more
     (goes-first {E = E} e given_between pending_between s (sectors_text (drop (i + 1) sectors)) given_after pending_after cut) in

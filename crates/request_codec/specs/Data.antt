@@ -3,16 +3,8 @@ use Rattle.std.specs.Prelude.{◌≡◌, ℕ, ◌*◌, ◌<◌, ◌≤◌, List,
 use Rattle.pur_base.specs.Grammar.{sectors_in}
 use Rattle.pur_base.specs.declared.limits.TheConstants.{SECTOR_BYTES}
 use Rattle.request_codec.specs.Reading.{Overruns}
-use Rattle.request_codec.specs.declared.data.SectorEnd.{SectorEnd}
-use Rattle.request_codec.specs.declared.data.SectorEnd.TheVariants as sector_end
 use Rattle.request_codec.specs.declared.data.DataEnd.{DataEnd}
 use Rattle.request_codec.specs.declared.data.DataEnd.TheVariants as data_end
-
--- one sector, or too few bytes for it
-abbrev pub ReadsSector : SectorEnd → List ℕ → List ℕ → Type 0
-ReadsSector (sector_end.Whole sector) before after = (length sector ≡ SECTOR_BYTES) × (before ≡ sector ++ after)
-ReadsSector sector_end.Cut before after = (length before < SECTOR_BYTES) × (after ≡ [])
-ReadsSector sector_end.Limit before after = Overruns before after (λ rest. length rest < SECTOR_BYTES)
 
 -- one sector behind those before, or too few bytes for it
 abbrev pub AddsSector : DataEnd → List (List ℕ) → List (List ℕ) → List ℕ → List ℕ → Type 0

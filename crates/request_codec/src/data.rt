@@ -4,20 +4,12 @@ ghost use Rattle.arrayvec.specs.ArrayVec.{array_vec_len};
 ghost use Rattle.world.specs.Counts.{Counts};
 ghost use Rattle.request_codec.specs.Ahead.{Tells, budget};
 ghost use Rattle.request_codec.specs.Reading.{Totals, Unfinished};
-ghost use Rattle.request_codec.specs.Data.{ReadsSector, AddsSector, ReadsData};
+ghost use Rattle.request_codec.specs.Data.{AddsSector, ReadsData};
 
 use crate::input::{Input, Refill};
 use arrayvec::ArrayVec;
 use pur_base::{INPUT_BYTES, REQUEST_SECTORS, SECTOR_BYTES, Sector};
 use world::{Failed, Source};
-
-/// What ended the reading of a sector.
-#[derive(Clone, Copy, Drop)]
-pub enum SectorEnd {
-    Whole(Sector),
-    Cut,
-    Limit,
-}
 
 /// What ended the reading of data.
 #[derive(Clone, Copy, Debug, PartialEq, Eq)]
@@ -57,19 +49,27 @@ fn first_sector(bytes: &[u8]) -> Sector
     }
 }
 
-/// Reads a sector whose bytes come in pieces.
-fn read_split_sector<S: Source>(input: &mut Input, source: &mut S) -> Result<SectorEnd, Failed>
+/// Reads one sector more, whose bytes come in pieces.
+fn read_split_sector<S: Source>(
+    input: &mut Input,
+    sectors: &mut Vec<Sector>,
+    source: &mut S,
+) -> Result<DataEnd, Failed>
+    requires { vec_len sectors.old < vec_capacity sectors.old }
     ensures told { IfOk result (λ found. Tells input.old (S.source source.old) → Tells input.new (S.source source.new)
-        × ReadsSector found (input.old.pending ++ (S.source source.old).bytes) (input.new.pending ++ (S.source source.new).bytes)) }
+        × AddsSector found sectors.old.items sectors.new.items (input.old.pending ++ (S.source source.old).bytes) (input.new.pending ++ (S.source source.new).bytes)) }
+    ensures len { IfOk result (λ found. found ≡ DataEnd.Whole → length sectors.new.items ≡ length sectors.old.items + 1) }
+    ensures capacity { vec_capacity sectors.new ≡ vec_capacity sectors.old }
     ensures total { IfOk result (λ found. Tells input.old (S.source source.old) →
-        Totals (found ≡ SectorEnd.Limit) input.old.taken input.new.taken (length (S.source source.old).bytes) (length (S.source source.new).bytes)) }
+        Totals (found ≡ DataEnd.Limit) input.old.taken input.new.taken (length (S.source source.old).bytes) (length (S.source source.new).bytes)) }
     ensures budget { OnOk result (budget input.new ≤ budget input.old) }
-    ensures cut { IfOk result (λ found. found ≡ SectorEnd.Cut → input.new.ended ≡ true) }
-    ensures limit { IfOk result (λ found. found ≡ SectorEnd.Limit → input.new.pending ≡ []) }
+    ensures cut { IfOk result (λ found. found ≡ DataEnd.Cut → input.new.ended ≡ true) }
+    ensures limit { IfOk result (λ found. found ≡ DataEnd.Limit → input.new.pending ≡ []) }
     ensures limited { input.old.taken ≤ INPUT_BYTES → input.new.taken ≤ INPUT_BYTES }
     ensures latched { input.old.ended ≡ true → (source.new ≡ source.old) × (input.new.ended ≡ true) }
     ensures failed { OnErr result (Tells input.old (S.source source.old) → Tells input.new (S.source source.new)
         × Unfinished (input.old.pending ++ (S.source source.old).bytes) (S.source source.new).bytes (λ rest. length rest < SECTOR_BYTES)) }
+    ensures dropped { OnErr result (input.new.pending ≡ []) }
     ensures asked { OnErr result (input.old.ended ≡ false) }
     ensures honest { (S.source source.old).honest ↔ (S.source source.new).honest }
     ensures counts { Counts result (S.source source.old).faults (S.source source.new).faults }
@@ -79,15 +79,16 @@ fn read_split_sector<S: Source>(input: &mut Input, source: &mut S) -> Result<Sec
     'pieces: while body.len() < SECTOR_BYTES {
         match input.ready(source)? {
             Refill::Bytes => {}
-            Refill::End => return Ok(SectorEnd::Cut),
-            Refill::Limit => return Ok(SectorEnd::Limit),
+            Refill::End => return Ok(DataEnd::Cut),
+            Refill::Limit => return Ok(DataEnd::Limit),
         }
         let pending = input.pending();
         let count = pending.len().min(SECTOR_BYTES - body.len());
         extend(&mut body, &pending[..count]);
         input.consume(count);
     }
-    Ok(SectorEnd::Whole(sector_of(body)))
+    sectors.push_reserved(sector_of(body));
+    Ok(DataEnd::Whole)
 }
 
 /// Reads one sector more. One that is pending whole is copied once.
@@ -110,6 +111,7 @@ fn read_sector<S: Source>(
     ensures latched { input.old.ended ≡ true → (source.new ≡ source.old) × (input.new.ended ≡ true) }
     ensures failed { OnErr result (Tells input.old (S.source source.old) → Tells input.new (S.source source.new)
         × Unfinished (input.old.pending ++ (S.source source.old).bytes) (S.source source.new).bytes (λ rest. length rest < SECTOR_BYTES)) }
+    ensures dropped { OnErr result (input.new.pending ≡ []) }
     ensures asked { OnErr result (input.old.ended ≡ false) }
     ensures honest { (S.source source.old).honest ↔ (S.source source.new).honest }
     ensures counts { Counts result (S.source source.old).faults (S.source source.new).faults }
@@ -121,14 +123,7 @@ fn read_sector<S: Source>(
         input.consume(SECTOR_BYTES);
         return Ok(DataEnd::Whole);
     }
-    match read_split_sector(input, source)? {
-        SectorEnd::Whole(sector) => {
-            sectors.push_reserved(sector);
-            Ok(DataEnd::Whole)
-        }
-        SectorEnd::Cut => Ok(DataEnd::Cut),
-        SectorEnd::Limit => Ok(DataEnd::Limit),
-    }
+    read_split_sector(input, sectors, source)
 }
 
 /// Reads that many sectors in place of those before.
@@ -153,6 +148,7 @@ pub fn read_data<S: Source>(
     ensures latched { input.old.ended ≡ true → (source.new ≡ source.old) × (input.new.ended ≡ true) }
     ensures failed { OnErr result (Tells input.old (S.source source.old) → Tells input.new (S.source source.new)
         × Unfinished (input.old.pending ++ (S.source source.old).bytes) (S.source source.new).bytes (λ rest. length rest < SECTOR_BYTES * count)) }
+    ensures dropped { OnErr result (input.new.pending ≡ []) }
     ensures asked { OnErr result (input.old.ended ≡ false) }
     ensures honest { (S.source source.old).honest ↔ (S.source source.new).honest }
     ensures counts { Counts result (S.source source.old).faults (S.source source.new).faults }

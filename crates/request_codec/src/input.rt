@@ -113,6 +113,7 @@ impl Input {
         ensures latched { self.old.ended ≡ true → (source.new ≡ source.old) × (self.new.ended ≡ true) }
         ensures failed { OnErr result (Tells self.old (S.source source.old) →
             Tells self.new (S.source source.new) × (self.old.pending ≡ []) × ((S.source source.new).bytes ≡ (S.source source.old).bytes)) }
+        ensures dropped { OnErr result (self.new.pending ≡ []) }
         ensures asked { OnErr result (self.old.ended ≡ false) }
         ensures honest { (S.source source.old).honest ↔ (S.source source.new).honest }
         ensures counts { Counts result (S.source source.old).faults (S.source source.new).faults }
@@ -138,6 +139,7 @@ impl Input {
         ensures latched { self.old.ended ≡ true → (source.new ≡ source.old) × (self.new.ended ≡ true) }
         ensures failed { OnErr result (Tells self.old (S.source source.old) →
             Tells self.new (S.source source.new) × ((S.source source.new).bytes ≡ (S.source source.old).bytes)) }
+        ensures dropped { OnErr result (self.new.pending ≡ []) }
         ensures asked { OnErr result (self.old.ended ≡ false) }
         ensures honest { (S.source source.old).honest ↔ (S.source source.new).honest }
         ensures counts { Counts result (S.source source.old).faults (S.source source.new).faults }

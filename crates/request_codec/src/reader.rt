@@ -1,6 +1,7 @@
 // The reader of requests.
-ghost use Rattle.std.specs.Prelude.{◌≡◌, ◌↔◌, ◌≤◌, ◌++◌, [], true, false, length, IfOk, OnErr};
-ghost use Rattle.pur_base.specs.Grammar.{is_whole};
+ghost use Rattle.std.specs.Prelude.{◌≡◌, ◌↔◌, ◌≤◌, ◌⊎◌, ◌++◌, [], true, false, length, IfOk, OnErr};
+ghost use Rattle.std.specs.List.{list_any};
+ghost use Rattle.pur_base.specs.Grammar.{is_line_end, is_whole};
 ghost use Rattle.world.specs.Counts.{Counts};
 ghost use Rattle.request_codec.specs.Ahead.{Tells, budget};
 ghost use Rattle.request_codec.specs.Reading.{Totals, Unfinished};
@@ -22,8 +23,9 @@ pub enum Item {
     Syntax,
     /// The input ended inside a write's data.
     Cut,
-    /// The most bytes were taken, and there are more.
+    /// `INPUT_BYTES` bytes were taken, and there are more, of which one is lost.
     Limit,
+    /// Nothing is left.
     End,
 }
 
@@ -81,10 +83,13 @@ impl Reader {
         ensures latched { self.old.ahead.ended ≡ true → source.new ≡ source.old }
         ensures stays_ended { self.old.ahead.ended ≡ true → self.new.ahead.ended ≡ true }
         ensures end { IfOk result (λ item. item ≡ Item.End → self.new.ahead.ended ≡ true) }
+        ensures last { IfOk result (λ item. Tells self.old.ahead (S.source source.old) →
+            list_any is_line_end (self.old.ahead.pending ++ (S.source source.old).bytes) ≡ false → (item ≡ Item.Limit) ⊎ (self.new.ahead.ended ≡ true)) }
         ensures cut { IfOk result (λ item. item ≡ Item.Cut → self.new.ahead.ended ≡ true) }
 
         ensures failed { OnErr result (Tells self.old.ahead (S.source source.old) → Tells self.new.ahead (S.source source.new)
             × Unfinished (self.old.ahead.pending ++ (S.source source.old).bytes) (S.source source.new).bytes (λ rest. is_whole rest ≡ false)) }
+        ensures dropped { OnErr result (self.new.ahead.pending ≡ []) }
         ensures asked { OnErr result (self.old.ahead.ended ≡ false) }
 
         ensures honest { (S.source source.old).honest ↔ (S.source source.new).honest }

@@ -1,5 +1,5 @@
 // The writer of replies.
-ghost use Rattle.std.specs.Prelude.{◌≡◌, ◌↔◌, ◌+◌, ◌-◌, ◌≤◌, ◌++◌, [], length, IfOk, OnOk, OnErr};
+ghost use Rattle.std.specs.Prelude.{◌≡◌, ◌↔◌, ◌+◌, ◌-◌, ◌≤◌, ◌++◌, [], length, IsOk, IfOk, OnErr};
 ghost use Rattle.pur_base.specs.Replies.{line_text, entry_text, sectors_text};
 ghost use Rattle.world.specs.Counts.{Counts};
 ghost use Rattle.request_codec.specs.Writing.{Gave, Goes, Extends};
@@ -72,7 +72,7 @@ impl ReplyWriter {
         self.len = end;
     }
 
-    /// Gives what is pending.
+    /// Gives what is pending. At an error what wasn't given is dropped.
     pub fn flush<K: Sink>(&mut self, sink: &mut K) -> Result<(), Failed>
         ensures gave { (K.sink sink.old).honest → Goes result (K.sink sink.old).bytes self.old [] (K.sink sink.new).bytes self.new }
         ensures emptied { self.new ≡ [] }
@@ -90,6 +90,7 @@ impl ReplyWriter {
     fn put<K: Sink>(&mut self, text: &[u8], sink: &mut K) -> Result<(), Failed>
         requires { length text.now ≤ BUFFER_BYTES }
         ensures gave { (K.sink sink.old).honest → Goes result (K.sink sink.old).bytes self.old text.now (K.sink sink.new).bytes self.new }
+        ensures gathered { length self.old + length text.now ≤ BUFFER_BYTES → IsOk result × (self.new ≡ self.old ++ text.now) × (sink.new ≡ sink.old) }
         ensures emptied { OnErr result (self.new ≡ []) }
         ensures extends { (K.sink sink.old).honest → Extends (K.sink sink.old).bytes (K.sink sink.new).bytes }
         ensures honest { (K.sink sink.old).honest ↔ (K.sink sink.new).honest }
@@ -109,6 +110,7 @@ impl ReplyWriter {
 
     fn put_sectors<K: Sink>(&mut self, sectors: &[Sector], sink: &mut K) -> Result<(), Failed>
         ensures gave { (K.sink sink.old).honest → Goes result (K.sink sink.old).bytes self.old (sectors_text sectors.now) (K.sink sink.new).bytes self.new }
+        ensures gathered { length self.old + length (sectors_text sectors.now) ≤ BUFFER_BYTES → IsOk result × (self.new ≡ self.old ++ (sectors_text sectors.now)) × (sink.new ≡ sink.old) }
         ensures emptied { OnErr result (self.new ≡ []) }
         ensures extends { (K.sink sink.old).honest → Extends (K.sink sink.old).bytes (K.sink sink.new).bytes }
         ensures honest { (K.sink sink.old).honest ↔ (K.sink sink.new).honest }
@@ -121,7 +123,7 @@ impl ReplyWriter {
         Ok(())
     }
 
-    /// Writes the first line of a reply, and the sectors behind it. At an error what is pending is dropped.
+    /// Writes the first line of a reply, and the sectors behind it. What fits in the buffer is only gathered. At an error what is pending is dropped.
     pub fn write_reply<K: Sink>(
         &mut self,
         reply: &Reply,
@@ -130,6 +132,7 @@ impl ReplyWriter {
     ) -> Result<(), Failed>
         ensures gave { (K.sink sink.old).honest →
             Goes result (K.sink sink.old).bytes self.old (line_text reply.now ++ sectors_text sectors.now) (K.sink sink.new).bytes self.new }
+        ensures gathered { length self.old + length (line_text reply.now ++ sectors_text sectors.now) ≤ BUFFER_BYTES → IsOk result × (self.new ≡ self.old ++ (line_text reply.now ++ sectors_text sectors.now)) × (sink.new ≡ sink.old) }
         ensures emptied { OnErr result (self.new ≡ []) }
         ensures extends { (K.sink sink.old).honest → Extends (K.sink sink.old).bytes (K.sink sink.new).bytes }
         ensures honest { (K.sink sink.old).honest ↔ (K.sink sink.new).honest }
@@ -152,6 +155,7 @@ impl ReplyWriter {
     ) -> Result<(), Failed>
         ensures gave { (K.sink sink.old).honest →
             Goes result (K.sink sink.old).bytes self.old (entry_text name.now snapshot sectors) (K.sink sink.new).bytes self.new }
+        ensures gathered { length self.old + length (entry_text name.now snapshot sectors) ≤ BUFFER_BYTES → IsOk result × (self.new ≡ self.old ++ (entry_text name.now snapshot sectors)) × (sink.new ≡ sink.old) }
         ensures emptied { OnErr result (self.new ≡ []) }
         ensures extends { (K.sink sink.old).honest → Extends (K.sink sink.old).bytes (K.sink sink.new).bytes }
         ensures honest { (K.sink sink.old).honest ↔ (K.sink sink.new).honest }

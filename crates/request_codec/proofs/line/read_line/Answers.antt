@@ -1,4 +1,7 @@
-use Rattle.std.proofs.Common.{ℕ, ◌-◌, ◌++◌, List, take, ap, subst, ◌∙◌}
+use Rattle.std.proofs.Common.{◌≡◌, ℕ, ◌-◌, ◌++◌, List, take, ap, subst, ◌∙◌, ◌<◌, length, true, false, sym}
+use Rattle.std.specs.List.{position_or_len}
+use Rattle.pur_base.specs.Grammar.{is_line_end}
+use Rattle.request_codec.proofs.FailedLemmas.{has-end}
 use Rattle.pur_base.specs.declared.limits.TheConstants.{INPUT_BYTES}
 use Rattle.pur_base.proofs.LineLemmas.{open-append, whole-line, more-of-line, spent}
 use Rattle.request_codec.specs.Lines.{Holds}
@@ -46,3 +49,15 @@ pieces-preserved g c =
           (is.0 ∙ was.0, c.consume-in-None.ensures.ended ∙ is.1);
       went = went-on g.met.S.Source.source_rest_stays c.pieces.invariant.went c.in_ok-ready.ensures.honest c.in_ok-ready.ensures.counts c.in_ok-ready.ensures.rest;
     }
+
+pub returns-in-Some-clause-last : goal.returns-in-Some-clause-last
+returns-in-Some-clause-last g c = λ e t none.
+    let inv = c.pieces.invariant.read in
+    let told = inv.3 t in
+    let ready = rw c.in-Bytes.is at (c.in_ok-ready.ensures.told told.0) in
+    let at-is = c.in-Some.ensures.some in
+    let pend = c.pending-pending.ensures in
+    let inside : position_or_len is_line_end c.ready.new.self.pending < length c.ready.new.self.pending = rw (← pend) (rw (at-is.0) at at-is.1) in
+    let some = has-end _ inv.0 c.ready.new.self.pending (g.S.Source.source c.ready.new.source).bytes (told.2 ∙ ap (λ (ys : List ℕ). inv.0 ++ ys) ready.1) inside in
+    let no : true ≡ false = sym some ∙ none in
+    cc
