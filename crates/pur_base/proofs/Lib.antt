@@ -1,2 +1,3 @@
 pub mod NameLemmas
 pub mod LineLemmas
+pub mod Devices

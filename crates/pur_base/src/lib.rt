@@ -14,8 +14,8 @@ mod sector;
 pub use device::{Device, DriveId, NvId};
 pub use ids::{MediumId, ObjectId, SegmentId, Seq};
 pub use limits::{
-    INPUT_BYTES, LINE_BYTES, NAME_BYTES, NUMBER_DIGITS, OBJECT_SECTORS, OBJECTS, REQUEST_SECTORS,
-    SECTOR_BYTES,
+    INPUT_BYTES, LINE_BYTES, NAME_BYTES, NUMBER_DIGITS, NVRAM_BYTES, NVRAM_DEVICES, OBJECT_SECTORS,
+    OBJECTS, REQUEST_SECTORS, SECTOR_BYTES, SLOTS_MAX, SLOTS_MIN, UNIT_BYTES, UNITS_MAX, UNITS_MIN,
 };
 pub use memory::NoMemory;
 pub use name::{BadName, Name};

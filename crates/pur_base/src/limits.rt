@@ -21,3 +21,24 @@ pub const OBJECT_SECTORS: u64 = 1_048_576;
 
 /// The most bytes of input that one session takes.
 pub const INPUT_BYTES: u64 = 1 << 40;
+
+/// The bytes of a drive's unit.
+pub const UNIT_BYTES: usize = 65_536;
+
+/// The bytes of an NVRAM device.
+pub const NVRAM_BYTES: usize = 2_134_016;
+
+/// The NVRAM devices of a shelf.
+pub const NVRAM_DEVICES: u8 = 2;
+
+/// The fewest slots of a shelf.
+pub const SLOTS_MIN: u8 = 11;
+
+/// The most slots of a shelf.
+pub const SLOTS_MAX: u8 = 24;
+
+/// The fewest units of a drive.
+pub const UNITS_MIN: u16 = 64;
+
+/// The most units of a drive.
+pub const UNITS_MAX: u16 = 4096;

@@ -1,2 +1,4 @@
 pub mod Counts
+pub mod Shelf
 pub mod Streams
+pub mod Writes
