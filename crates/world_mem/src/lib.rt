@@ -1,0 +1,15 @@
+//! An honest world in memory: its devices, its input and its output, with a record of each call.
+//! A call fails only where it is told to, or where its record finds no memory, and a stop leaves what it may leave.
+#![tactic(auto)]
+
+mod calls;
+mod mem_world;
+mod part;
+mod record;
+mod several;
+mod shelf;
+mod streams;
+mod turns;
+
+pub use mem_world::MemWorld;
+pub use record::{Call, Faults, What};
