@@ -6,7 +6,7 @@ use Rattle.pur_base.specs.declared.device.Device.{Device}
 use Rattle.world.specs.Shelf.{Disk}
 use Rattle.world_mem.specs.declared.record.Call.{Call}
 use Rattle.world_mem.specs.declared.part.Part.{Part}
-use Rattle.world_mem.specs.Parts.{disk_of, disks_of, disk_at, nothing, undo_what, Logged, LoggedIn, OnlyCounted, AllCounted, bytes_at, will_fail, will_fail_at}
+use Rattle.world_mem.specs.Parts.{disk_of, disks_of, disk_at, nothing, undo_what, Logged, LoggedIn, OnlyCounted, AllCounted, bytes_at, will_fail, will_fail_at, Plan, plan_of, plans_of, plan_at, sound}
 
 pub same_counted : (d : Disk) → OnlyCounted d d
 same_counted d = record { bytes = refl; dirty = refl; faults = omega arith; write_faults = omega arith }
@@ -38,6 +38,10 @@ module _ (parts : List Part) (k : ℕ) (old new : Part) (inside : k < length par
     | inl e ↦ ap (λ (x : ℕ). length (bytes_at (slice_set parts k new) x)) e ∙ ap (λ (d : Disk). length d.bytes) after ∙ same ∙ sym (ap (λ (d : Disk). length d.bytes) before) ∙ sym (ap (λ (x : ℕ). length (bytes_at parts x)) e)
     | inr ne ↦ ap (λ (d : Disk). length d.bytes) (others j ne)
   ]
+
+  pub plans : plan_of new ≡ plan_of old → (j : ℕ) → plan_at (plans_of (slice_set parts k new)) j ≡ plan_at (plans_of parts) j
+  plans same j = ap (λ (l : List Plan). get_or l j sound)
+      (map-set plan_of parts k new ∙ ap (λ (p : Plan). slice_set (map plan_of parts) k p) (same ∙ ap plan_of is ∙ sym (get_or-map plan_of parts k old sound inside)) ∙ set-get_or (map plan_of parts) k sound)
 
   pub logged : (device : Device) (lapsed : Type 0) (calls after_calls : List Call) → Logged device lapsed (disk_of old) (disk_of new) calls after_calls → LoggedIn device k lapsed (disks_of parts) (disks_of (slice_set parts k new)) calls after_calls
   logged device lapsed calls after_calls (inl one) =

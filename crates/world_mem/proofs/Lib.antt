@@ -1,5 +1,7 @@
 pub mod Bank
+pub mod Pushed
 pub mod Steps
 pub mod Takes
+pub mod Torn
 pub mod Turned
 pub mod Undone

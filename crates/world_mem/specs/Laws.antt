@@ -72,18 +72,18 @@ is_shelf w = record {
 
 pub streams_stay : IsPreorder StreamsStay
 streams_stay = record {
-  reflexive = λ w. record { source = same_stream (sourced w); sink = same_stream (sunk w) };
-  transitive = λ a b c ab bc. record { source = stream_then ab.source bc.source; sink = stream_then ab.sink bc.sink };
+  reflexive = λ w. record { plans = λ d. refl; source = same_stream (sourced w); sink = same_stream (sunk w) };
+  transitive = λ a b c ab bc. record { plans = λ d. bc.plans d ∙ ab.plans d; source = stream_then ab.source bc.source; sink = stream_then ab.sink bc.sink };
 }
 
 pub all_but_input_stays : IsPreorder AllButInputStays
 all_but_input_stays = record {
-  reflexive = λ w. record { shelf = nothing_taken (shelved w); sink = same_stream (sunk w); told = refl };
-  transitive = λ a b c ab bc. record { shelf = taken_then ab.shelf bc.shelf; sink = stream_then ab.sink bc.sink; told = bc.told ∙ ab.told };
+  reflexive = λ w. record { plans = λ d. refl; shelf = nothing_taken (shelved w); sink = same_stream (sunk w); told = refl };
+  transitive = λ a b c ab bc. record { plans = λ d. bc.plans d ∙ ab.plans d; shelf = taken_then ab.shelf bc.shelf; sink = stream_then ab.sink bc.sink; told = bc.told ∙ ab.told };
 }
 
 pub all_but_output_stays : IsPreorder AllButOutputStays
 all_but_output_stays = record {
-  reflexive = λ w. record { shelf = no_output (shelved w); source = same_stream (sourced w) };
-  transitive = λ a b c ab bc. record { shelf = output_then ab.shelf bc.shelf; source = stream_then ab.source bc.source };
+  reflexive = λ w. record { plans = λ d. refl; shelf = no_output (shelved w); source = same_stream (sourced w) };
+  transitive = λ a b c ab bc. record { plans = λ d. bc.plans d ∙ ab.plans d; shelf = output_then ab.shelf bc.shelf; source = stream_then ab.source bc.source };
 }

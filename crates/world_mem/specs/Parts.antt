@@ -1,7 +1,7 @@
 -- A device in memory, and what undoes a call on it.
 use Rattle.std.specs.Prelude.{◌≡◌, ◌⊎◌, ℕ, ◌+◌, ◌-◌, ◌≤◌, List, [], ◌∷◌, ◌++◌, length, take, drop, map, slice_index, slice_index_or, slice_set, Bool, false, zero, suc, ◌||◌, nat_eq}
 use Rattle.std.specs.List.{list_any}
-use Rattle.world.specs.Shelf.{Disk}
+use Rattle.world.specs.Shelf.{Disk, MayLeave}
 use Rattle.pur_base.specs.declared.device.Device.{Device}
 use Rattle.world_mem.specs.declared.record.Call.{Call}
 use Rattle.world_mem.specs.declared.record.Call.TheVariants.{On}
@@ -75,8 +75,37 @@ will_fail_at [] k = false
 will_fail_at (p ∷ parts) zero = will_fail p
 will_fail_at (p ∷ parts) (suc k) = will_fail_at parts k
 
--- a sound disk of zero bytes
+-- which calls of a device are to fail: all where it is pulled, and those with these numbers
+pub record Plan : Type 0 where
+  pub pulled : Bool
+  pub to_fail : List ℕ
+
+abbrev pub plan_of : Part → Plan
+plan_of p = record { pulled = p.pulled; to_fail = p.turns.to_fail.items }
+
+abbrev pub plans_of : List Part → List Plan
+plans_of parts = map plan_of parts
+
+-- none is to fail
+abbrev pub sound : Plan
+sound = record { pulled = false; to_fail = [] }
+
+abbrev pub plan_at : List Plan → ℕ → Plan
+plan_at plans k = slice_index_or plans k sound
+
+-- zero bytes, and none of them dirty
 pub record IsBlank (size : ℕ) (disk : Disk) : Type 0 where
   pub long : length disk.bytes ≡ size
   pub zero : (i : ℕ) → slice_index disk.bytes i ≡ 0
   pub clean : disk.dirty ≡ []
+
+-- the same, and no call of it has failed
+pub record IsNew (size : ℕ) (disk : Disk) : Type 0 where
+  pub blank : IsBlank size disk
+  pub faults : disk.faults ≡ 0
+  pub write_faults : disk.write_faults ≡ 0
+
+-- a stop may leave these bytes, and has nothing dirty
+pub record IsTorn (disk torn : Disk) : Type 0 where
+  pub left : MayLeave disk torn.bytes
+  pub clean : torn.dirty ≡ []

@@ -7,7 +7,7 @@ use Rattle.world.specs.Streams.{Streamed, SameStream}
 use Rattle.world_mem.specs.declared.record.Call.{Call}
 use Rattle.world_mem.specs.declared.record.Call.TheVariants.{On, Give, Take}
 use Rattle.world_mem.specs.declared.mem_world.MemWorld.{MemWorld}
-use Rattle.world_mem.specs.Parts.{disks_of, disk_at, changed, will_fail_at, is_named}
+use Rattle.world_mem.specs.Parts.{disks_of, disk_at, changed, will_fail_at, is_named, Plan, plan_at, plans_of}
 
 -- a moment
 pub record Snap : Type 0 where
@@ -73,19 +73,40 @@ sourced w = record { honest = Unit {0}; bytes = drop w.taken w.input.items; faul
 abbrev pub sunk : MemWorld → Streamed
 sunk w = record { honest = Unit {0}; bytes = w.output.items; faults = w.sink_faults }
 
+abbrev pub plan_on : MemWorld → Device → Plan
+plan_on w (Drive d) = plan_at (plans_of w.drives.items) d.0
+plan_on w (Nv n) = plan_at (plans_of w.nvram.items) n.0
+
+-- the same calls are to fail
+abbrev pub SamePlans : MemWorld → MemWorld → Type 0
+SamePlans a b = (d : Device) → plan_on b d ≡ plan_on a d
+
+-- a stop of the shelf, of which the other one has the image
+abbrev pub image_now : Shelved → Shelved → Stop
+image_now shelf left = record {
+  image = λ d. (left.disk d).bytes;
+  faults = λ d. (shelf.disk d).faults;
+  write_faults = λ d. (shelf.disk d).write_faults;
+  output = shelf.output;
+  taken = shelf.taken;
+}
+
 -- nothing but the shelf has changed
 pub record StreamsStay (a b : MemWorld) : Type 0 where
+  pub plans : SamePlans a b
   pub source : SameStream (sourced a) (sourced b)
   pub sink : SameStream (sunk a) (sunk b)
 
 -- nothing but the source has changed
 pub record AllButInputStays (a b : MemWorld) : Type 0 where
+  pub plans : SamePlans a b
   pub shelf : TakenOnly (shelved a) (shelved b)
   pub sink : SameStream (sunk a) (sunk b)
   pub told : b.taken + length (sourced b).bytes ≡ a.taken + length (sourced a).bytes
 
 -- nothing but the sink has changed
 pub record AllButOutputStays (a b : MemWorld) : Type 0 where
+  pub plans : SamePlans a b
   pub shelf : OutputOnly (shelved a) (shelved b)
   pub source : SameStream (sourced a) (sourced b)
 

@@ -2,7 +2,7 @@
 ghost use Rattle.std.specs.Prelude.{◌≡◌, ◌⊎◌, ◌+◌, ◌≤◌, [], ◌∷◌, ◌++◌, length, slice_range, true, IsErr, IsTrue, OnOk, OnErr};
 ghost use Rattle.world.specs.Shelf.{WasWritten, WasSynced, IsSame, ReadCounts, WriteCounts};
 ghost use Rattle.world.specs.Counts.{Rises};
-ghost use Rattle.world_mem.specs.Parts.{disk_of, Logged, will_fail};
+ghost use Rattle.world_mem.specs.Parts.{disk_of, plan_of, Logged, will_fail};
 
 use crate::part::Part;
 use crate::record::{Call, What};
@@ -26,6 +26,7 @@ pub(crate) fn write_part(
     ensures counts { WriteCounts result (disk_of part.old) (disk_of part.new) }
     ensures only { OnErr result ((will_fail part.old ≡ true) ⊎ (starved.new ≡ true)) }
     ensures told { will_fail part.old ≡ true → IsErr result }
+    ensures plan { plan_of part.new ≡ plan_of part.old }
     ensures stays { starved.old ≡ true → starved.new ≡ true }
     ensures size { length part.new.bytes.items ≡ length part.old.bytes.items }
     ensures logged { Logged device (starved.new ≡ true) (disk_of part.old) (disk_of part.new) calls.old.items calls.new.items }
@@ -65,6 +66,7 @@ fn fail_write(
     ensures dirty { (part.new.dirty.items ≡ part.old.dirty.items ++ record { start = at; size = size } ∷ []) ⊎ ((starved.new ≡ true) × (part.new.dirty.items ≡ part.old.dirty.items)) }
     ensures rises { Rises part.old.faults part.new.faults }
     ensures write_rises { Rises part.old.write_faults part.new.write_faults }
+    ensures plan { plan_of part.new ≡ plan_of part.old }
     ensures stays { starved.old ≡ true → starved.new ≡ true }
     ensures logged { Logged device (starved.new ≡ true) (disk_of part.old) (disk_of part.new) calls.old.items calls.new.items }
 {
@@ -92,6 +94,7 @@ pub(crate) fn sync_part(
     ensures counts { WriteCounts result (disk_of part.old) (disk_of part.new) }
     ensures only { OnErr result ((will_fail part.old ≡ true) ⊎ (starved.new ≡ true)) }
     ensures told { will_fail part.old ≡ true → IsErr result }
+    ensures plan { plan_of part.new ≡ plan_of part.old }
     ensures stays { starved.old ≡ true → starved.new ≡ true }
     ensures size { length part.new.bytes.items ≡ length part.old.bytes.items }
     ensures logged { Logged device (starved.new ≡ true) (disk_of part.old) (disk_of part.new) calls.old.items calls.new.items }
@@ -117,6 +120,7 @@ fn fail_sync(part: &mut Part, calls: &mut Vec<Call>, starved: &mut bool, device:
     ensures dirty { part.new.dirty.items ≡ part.old.dirty.items }
     ensures rises { Rises part.old.faults part.new.faults }
     ensures write_rises { Rises part.old.write_faults part.new.write_faults }
+    ensures plan { plan_of part.new ≡ plan_of part.old }
     ensures stays { starved.old ≡ true → starved.new ≡ true }
     ensures logged { Logged device (starved.new ≡ true) (disk_of part.old) (disk_of part.new) calls.old.items calls.new.items }
 {
@@ -143,6 +147,7 @@ pub(crate) fn read_part(
     ensures counts { ReadCounts result (disk_of part.old) (disk_of part.new) }
     ensures only { OnErr result ((will_fail part.old ≡ true) ⊎ (starved.new ≡ true)) }
     ensures told { will_fail part.old ≡ true → IsErr result }
+    ensures plan { plan_of part.new ≡ plan_of part.old }
     ensures stays { starved.old ≡ true → starved.new ≡ true }
     ensures size { length part.new.bytes.items ≡ length part.old.bytes.items }
     ensures logged { Logged device (starved.new ≡ true) (disk_of part.old) (disk_of part.new) calls.old.items calls.new.items }
@@ -169,6 +174,7 @@ fn fail_read(part: &mut Part, calls: &mut Vec<Call>, starved: &mut bool, device:
     ensures dirty { part.new.dirty.items ≡ part.old.dirty.items }
     ensures rises { Rises part.old.faults part.new.faults }
     ensures write_stays { part.new.write_faults ≡ part.old.write_faults }
+    ensures plan { plan_of part.new ≡ plan_of part.old }
     ensures stays { starved.old ≡ true → starved.new ≡ true }
     ensures logged { Logged device (starved.new ≡ true) (disk_of part.old) (disk_of part.new) calls.old.items calls.new.items }
 {

@@ -2,14 +2,17 @@
 //! A call fails only where it is told to, or where its record finds no memory, and a stop leaves what it may leave.
 #![tactic(auto)]
 
+mod blank;
 mod calls;
 mod mem_world;
 mod part;
 mod record;
 mod several;
 mod shelf;
+mod stopped;
 mod streams;
 mod turns;
 
 pub use mem_world::MemWorld;
 pub use record::{Call, Faults, What};
+pub use stopped::Choice;

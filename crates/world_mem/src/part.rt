@@ -38,12 +38,13 @@ fn put_bytes(bytes: &mut Vec<u8>, at: usize, from: &[u8])
 }
 
 impl Part {
-    ghost use Rattle.world_mem.specs.Parts.{disk_of, undo_what, will_fail, OnlyCounted};
+    ghost use Rattle.world_mem.specs.Parts.{disk_of, plan_of, undo_what, will_fail, OnlyCounted};
     ghost use Rattle.world_mem.specs.declared.record.What.TheVariants.{Write};
 
     /// Counts a call, and says whether it is to fail.
     pub(crate) fn is_failing(&mut self) -> bool
         ensures same { disk_of self.new ≡ disk_of self.old }
+        ensures plan { plan_of self.new ≡ plan_of self.old }
         ensures asked { result ≡ will_fail self.old }
     {
         let is_named = self.turns.is_next_named();
@@ -60,6 +61,7 @@ impl Part {
     }
 
     pub(crate) fn count_read(&mut self)
+        ensures plan { plan_of self.new ≡ plan_of self.old }
         ensures same { OnlyCounted (disk_of self.old) (disk_of self.new) }
         ensures rises { Rises (disk_of self.old).faults (disk_of self.new).faults }
         ensures stays { (disk_of self.new).write_faults ≡ (disk_of self.old).write_faults }
@@ -68,6 +70,7 @@ impl Part {
     }
 
     pub(crate) fn count_write(&mut self)
+        ensures plan { plan_of self.new ≡ plan_of self.old }
         ensures same { OnlyCounted (disk_of self.old) (disk_of self.new) }
         ensures rises { Rises (disk_of self.old).faults (disk_of self.new).faults }
         ensures write_rises { Rises (disk_of self.old).write_faults (disk_of self.new).write_faults }
@@ -82,6 +85,7 @@ impl Part {
         ensures bytes { self.new.bytes.items ≡ self.old.bytes.items }
         ensures dirty { OnOk result (self.new.dirty.items ≡ self.old.dirty.items ++ record { start = at; size = size } ∷ []) }
         ensures dirty_err { OnErr result (self.new.dirty.items ≡ self.old.dirty.items) }
+        ensures plan { plan_of self.new ≡ plan_of self.old }
         ensures counts { (self.new.faults ≡ self.old.faults) × (self.new.write_faults ≡ self.old.write_faults) }
     {
         self.dirty.reserve(1)?;
@@ -102,6 +106,7 @@ impl Part {
         requires { at + length from.now ≤ length self.old.bytes.items }
         ensures written { OnOk result (Written at from.now self.old.bytes.items self.new.bytes.items) }
         ensures dirty { OnOk result (self.new.dirty.items ≡ self.old.dirty.items ++ record { start = at; size = length from.now } ∷ []) }
+        ensures plan { plan_of self.new ≡ plan_of self.old }
         ensures counts { (self.new.faults ≡ self.old.faults) × (self.new.write_faults ≡ self.old.write_faults) }
         ensures undone { IfOk result (λ was. undo_what (Write at was) (disk_of self.new) ≡ disk_of self.old) }
         ensures err { OnErr result (disk_of self.new ≡ disk_of self.old) }

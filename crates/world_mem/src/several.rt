@@ -1,7 +1,7 @@
 // The three calls on one of several devices in memory.
 ghost use Rattle.std.specs.Prelude.{◌≡◌, ◌≢◌, ◌⊎◌, ◌+◌, ◌<◌, ◌≤◌, ℕ, length, slice_range, true, IsErr, OnOk, OnErr};
 ghost use Rattle.world.specs.Shelf.{WasWritten, WasSynced, IsSame, ReadCounts, WriteCounts};
-ghost use Rattle.world_mem.specs.Parts.{disks_of, disk_at, bytes_at, will_fail_at, LoggedIn};
+ghost use Rattle.world_mem.specs.Parts.{disks_of, disk_at, bytes_at, plans_of, plan_at, will_fail_at, LoggedIn};
 
 use crate::calls::{read_part, sync_part, write_part};
 use crate::part::Part;
@@ -27,6 +27,7 @@ pub(crate) fn write_in(
     ensures others { (j : ℕ) → j ≢ k → disk_at (disks_of parts.new.items) j ≡ disk_at (disks_of parts.old.items) j }
     ensures only { OnErr result ((will_fail_at parts.old.items k ≡ true) ⊎ (starved.new ≡ true)) }
     ensures told { will_fail_at parts.old.items k ≡ true → IsErr result }
+    ensures plans { (j : ℕ) → plan_at (plans_of parts.new.items) j ≡ plan_at (plans_of parts.old.items) j }
     ensures stays { starved.old ≡ true → starved.new ≡ true }
     ensures len { length parts.new.items ≡ length parts.old.items }
     ensures size { (j : ℕ) → length (bytes_at parts.new.items j) ≡ length (bytes_at parts.old.items j) }
@@ -49,6 +50,7 @@ pub(crate) fn sync_in(
     ensures others { (j : ℕ) → j ≢ k → disk_at (disks_of parts.new.items) j ≡ disk_at (disks_of parts.old.items) j }
     ensures only { OnErr result ((will_fail_at parts.old.items k ≡ true) ⊎ (starved.new ≡ true)) }
     ensures told { will_fail_at parts.old.items k ≡ true → IsErr result }
+    ensures plans { (j : ℕ) → plan_at (plans_of parts.new.items) j ≡ plan_at (plans_of parts.old.items) j }
     ensures stays { starved.old ≡ true → starved.new ≡ true }
     ensures len { length parts.new.items ≡ length parts.old.items }
     ensures size { (j : ℕ) → length (bytes_at parts.new.items j) ≡ length (bytes_at parts.old.items j) }
@@ -74,6 +76,7 @@ pub(crate) fn read_in(
     ensures others { (j : ℕ) → j ≢ k → disk_at (disks_of parts.new.items) j ≡ disk_at (disks_of parts.old.items) j }
     ensures only { OnErr result ((will_fail_at parts.old.items k ≡ true) ⊎ (starved.new ≡ true)) }
     ensures told { will_fail_at parts.old.items k ≡ true → IsErr result }
+    ensures plans { (j : ℕ) → plan_at (plans_of parts.new.items) j ≡ plan_at (plans_of parts.old.items) j }
     ensures stays { starved.old ≡ true → starved.new ≡ true }
     ensures len { length parts.new.items ≡ length parts.old.items }
     ensures size { (j : ℕ) → length (bytes_at parts.new.items j) ≡ length (bytes_at parts.old.items j) }

@@ -26,7 +26,8 @@ impl Turns {
 
     /// Counts a call, and says whether it is to fail.
     pub(crate) fn is_next_named(&mut self) -> bool
-        ensures { result ≡ is_named self.old }
+        ensures asked { result ≡ is_named self.old }
+        ensures same { self.new.to_fail.items ≡ self.old.to_fail.items }
     {
         let is_named = self.to_fail.contains(&self.made);
         self.made = self.made.saturating_add(1);

@@ -1,6 +1,6 @@
 use Rattle.std.proofs.Common.{◌≡◌, true}
 use Rattle.world.specs.Shelf.{WasSynced, WriteCounts}
-use Rattle.world_mem.proofs.Bank.{both, others, size, logged, will_fail_there}
+use Rattle.world_mem.proofs.Bank.{both, others, size, plans, logged, will_fail_there}
 use Rattle.world_mem.proofs.several.sync_in.Goals as goal
 
 pub returns-clause-device : goal.returns-clause-device
@@ -23,3 +23,6 @@ returns-clause-only c = rw (will_fail_there c.args.parts.now.items c.args.k c.in
 
 pub returns-clause-told : goal.returns-clause-told
 returns-clause-told c = rw (will_fail_there c.args.parts.now.items c.args.k c.index_mut.result.now c.requires c.index_mut.ensures.value) c.sync_part.ensures.told
+
+pub returns-clause-plans : goal.returns-clause-plans
+returns-clause-plans c = plans c.args.parts.now.items c.args.k c.index_mut.result.now c.sync_part.new.part c.requires c.index_mut.ensures.value c.sync_part.ensures.plan

@@ -1,4 +1,4 @@
-use Rattle.std.proofs.Common.{◌≡◌, [], ◌∷◌, ◌++◌, length, take, rules}
+use Rattle.std.proofs.Common.{◌≡◌, [], ◌∷◌, ◌++◌, length, take, rules, refl}
 use Rattle.world_mem.specs.declared.record.Call.TheVariants.{Give}
 use Rattle.world_mem.specs.Past.{view, sourced}
 use Rattle.world.proofs.Rests.{same_stream}
@@ -11,6 +11,7 @@ returns-clause-rest c =
     let gave : c.extend_from_slice.new.self.items ≡ w.output.items ++ take c.min-n.result c.args.from.now = search rules in
     let recorded : c.push.new.self.items ≡ w.calls.items ++ Give (length w.output.items) ∷ [] = search rules in
     record {
+      plans = λ d. refl;
       shelf = gives (view w) (take c.min-n.result c.args.from.now) c.extend_from_slice.new.self.items c.push.new.self.items gave recorded;
       source = same_stream (sourced w);
     }

@@ -1,4 +1,4 @@
-use Rattle.std.proofs.Common.{◌≡◌, ◌+◌, ◌-◌, ◌≤◌, [], ◌∷◌, ◌++◌, min, length, slice_range, rules, arith}
+use Rattle.std.proofs.Common.{◌≡◌, ◌+◌, ◌-◌, ◌≤◌, [], ◌∷◌, ◌++◌, min, length, slice_range, rules, arith, refl}
 use Rattle.world_mem.specs.declared.record.Call.TheVariants.{Take}
 use Rattle.world_mem.specs.Past.{view, sunk}
 use Rattle.world.proofs.Rests.{same_stream}
@@ -23,6 +23,7 @@ returns-clause-rest c =
     let recorded : c.push.new.self.items ≡ w.calls.items ++ Take w.taken ∷ [] = search rules in
     let further : w.taken ≤ w.taken + c.min-n.result = omega arith in
     record {
+      plans = λ d. refl;
       shelf = takes (view w) (w.taken + c.min-n.result) c.push.new.self.items further recorded;
       sink = same_stream (sunk w);
       told = told w.input.items c.args.into.now c.copy_from_slice.new.self w.taken c.min-n.result w.piece w.piece_in w.taken_in least part;
