@@ -6,7 +6,7 @@ use Rattle.pur_base.specs.declared.device.Device.{Device}
 use Rattle.world.specs.Shelf.{Disk}
 use Rattle.world_mem.specs.declared.record.Call.{Call}
 use Rattle.world_mem.specs.declared.part.Part.{Part}
-use Rattle.world_mem.specs.Parts.{disk_of, disks_of, disk_at, nothing, undo_what, Logged, LoggedIn, OnlyCounted, AllCounted, bytes_at, will_fail, will_fail_at, Plan, plan_of, plans_of, plan_at, sound}
+use Rattle.world_mem.specs.Parts.{disk_of, disks_of, disk_at, nothing, undo_what, Logged, LoggedIn, OnlyCounted, AllCounted, bytes_at, will_fail, will_fail_at, Plan, plan_of, plans_of, plan_at, sound, fails, made_on, made_at}
 
 pub same_counted : (d : Disk) → OnlyCounted d d
 same_counted d = record { bytes = refl; dirty = refl; faults = omega arith; write_faults = omega arith }
@@ -59,7 +59,34 @@ module _ (parts : List Part) (k : ℕ) (old new : Part) (inside : k < length par
         (counted_there (map disk_of parts) k (disk_of new) (simp length-map inside) (subst (λ (d : Disk). OnlyCounted d (disk_of new)) (sym before) gap.2)),
       )
 
-pub will_fail_there : (parts : List Part) (k : ℕ) (old : Part) → k < length parts → old ≡ get_or parts k old → will_fail_at parts k ≡ will_fail old
-will_fail_there [] k old inside is = absurd (omega arith)
-will_fail_there (p ∷ parts) zero old inside is = ap will_fail (sym is)
-will_fail_there (p ∷ parts) (suc k) old inside is = will_fail_there parts k old (omega arith) is
+module _ {X : Type 0} (f : Part → X) (none : X) (parts : List Part) (k : ℕ) (old : Part) (inside : k < length parts) (is : old ≡ get_or parts k old) where
+  before_by : get_or (map f parts) k none ≡ f old
+  before_by = get_or-map f parts k old none inside ∙ ap f (sym is)
+
+  after_by : (new : Part) → get_or (map f (slice_set parts k new)) k none ≡ f new
+  after_by new = ap (λ (l : List X). get_or l k none) (map-set f parts k new) ∙ get_or-set_same (map f parts) k (f new) none (simp length-map inside)
+
+  others_by : (new : Part) (j : ℕ) → j ≢ k → get_or (map f (slice_set parts k new)) j none ≡ get_or (map f parts) j none
+  others_by new j ne = ap (λ (l : List X). get_or l j none) (map-set f parts k new) ∙ get_or-set_other (map f parts) k j (f new) none ne
+
+  same_by : (new : Part) → f new ≡ f old → map f (slice_set parts k new) ≡ map f parts
+  same_by new same = map-set f parts k new ∙ ap (λ (x : X). slice_set (map f parts) k x) (same ∙ sym before_by) ∙ set-get_or (map f parts) k none
+
+module _ (parts : List Part) (k : ℕ) (old : Part) (inside : k < length parts) (is : old ≡ get_or parts k old) where
+  pub will_fail_there : will_fail_at parts k ≡ will_fail old
+  will_fail_there = λ i. fails (before_by plan_of sound parts k old inside is i) (before_by made_on 0 parts k old inside is i)
+
+  pub plan_there : plan_at (plans_of parts) k ≡ plan_of old
+  plan_there = before_by plan_of sound parts k old inside is
+
+  pub made_there : made_at parts k ≡ made_on old
+  made_there = before_by made_on 0 parts k old inside is
+
+  pub plan_then : (new : Part) → plan_at (plans_of (slice_set parts k new)) k ≡ plan_of new
+  plan_then new = after_by plan_of sound parts k old inside is new
+
+  pub other_plans : (new : Part) (j : ℕ) → j ≢ k → plan_at (plans_of (slice_set parts k new)) j ≡ plan_at (plans_of parts) j
+  other_plans new j ne = others_by plan_of sound parts k old inside is new j ne
+
+  pub same_disks : (new : Part) → disk_of new ≡ disk_of old → disks_of (slice_set parts k new) ≡ disks_of parts
+  same_disks new same = same_by disk_of nothing parts k old inside is new same

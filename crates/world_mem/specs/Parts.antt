@@ -1,5 +1,5 @@
 -- A device in memory, and what undoes a call on it.
-use Rattle.std.specs.Prelude.{◌≡◌, ◌⊎◌, ℕ, ◌+◌, ◌-◌, ◌≤◌, List, [], ◌∷◌, ◌++◌, length, take, drop, map, slice_index, slice_index_or, slice_set, Bool, false, zero, suc, ◌||◌, nat_eq}
+use Rattle.std.specs.Prelude.{◌≡◌, ◌⊎◌, ℕ, ◌+◌, ◌-◌, ◌≤◌, List, [], ◌∷◌, ◌++◌, length, take, drop, map, slice_index, slice_index_or, slice_set, Bool, false, ◌||◌, ◌^◌, min, nat_eq}
 use Rattle.std.specs.List.{list_any}
 use Rattle.world.specs.Shelf.{Disk, MayLeave}
 use Rattle.pur_base.specs.declared.device.Device.{Device}
@@ -66,15 +66,6 @@ LoggedIn device k lapsed old new calls after = ((what : What) × (after ≡ call
 abbrev pub is_named : Turns → Bool
 is_named t = list_any (λ y. nat_eq y t.made) t.to_fail.items
 
--- the device is pulled, or the list names this call
-abbrev pub will_fail : Part → Bool
-will_fail p = p.pulled || is_named p.turns
-
-abbrev pub will_fail_at : List Part → ℕ → Bool
-will_fail_at [] k = false
-will_fail_at (p ∷ parts) zero = will_fail p
-will_fail_at (p ∷ parts) (suc k) = will_fail_at parts k
-
 -- which calls of a device are to fail: all where it is pulled, and those with these numbers
 pub record Plan : Type 0 where
   pub pulled : Bool
@@ -92,6 +83,35 @@ sound = record { pulled = false; to_fail = [] }
 
 abbrev pub plan_at : List Plan → ℕ → Plan
 plan_at plans k = slice_index_or plans k sound
+
+-- how many calls were made on it
+abbrev pub made_on : Part → ℕ
+made_on p = p.turns.made
+
+abbrev pub made_at : List Part → ℕ → ℕ
+made_at parts k = slice_index_or (map made_on parts) k 0
+
+-- the device is pulled, or the list names its next call
+abbrev pub fails : Plan → ℕ → Bool
+fails plan made = plan.pulled || list_any (λ y. nat_eq y made) plan.to_fail
+
+abbrev pub will_fail : Part → Bool
+will_fail p = fails (plan_of p) (made_on p)
+
+abbrev pub will_fail_at : List Part → ℕ → Bool
+will_fail_at parts k = fails (plan_at (plans_of parts) k) (made_at parts k)
+
+-- the number of the nth next call, counted from 1
+abbrev pub nth_call : ℕ → ℕ → ℕ
+nth_call made nth = min (made + (nth - 1)) (2 ^ 64 - 1)
+
+-- the same, and the nth next call is to fail too
+abbrev pub naming : Plan → ℕ → Plan
+naming plan call = record { pulled = plan.pulled; to_fail = plan.to_fail ++ call ∷ [] }
+
+-- the same, and all calls are to fail or not
+abbrev pub pulling : Plan → Bool → Plan
+pulling plan pulled = record { pulled = pulled; to_fail = plan.to_fail }
 
 -- zero bytes, and none of them dirty
 pub record IsBlank (size : ℕ) (disk : Disk) : Type 0 where

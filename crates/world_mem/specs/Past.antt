@@ -7,7 +7,7 @@ use Rattle.world.specs.Streams.{Streamed, SameStream}
 use Rattle.world_mem.specs.declared.record.Call.{Call}
 use Rattle.world_mem.specs.declared.record.Call.TheVariants.{On, Give, Take}
 use Rattle.world_mem.specs.declared.mem_world.MemWorld.{MemWorld}
-use Rattle.world_mem.specs.Parts.{disks_of, disk_at, changed, will_fail_at, is_named, Plan, plan_at, plans_of}
+use Rattle.world_mem.specs.Parts.{disks_of, disk_at, changed, fails, made_at, is_named, Plan, plan_at, plans_of}
 
 -- a moment
 pub record Snap : Type 0 where
@@ -91,6 +91,23 @@ image_now shelf left = record {
   taken = shelf.taken;
 }
 
+-- the world means the same
+pub record SameWorld (a b : MemWorld) : Type 0 where
+  pub view : view b ≡ view a
+  pub source : SameStream (sourced a) (sourced b)
+  pub sink : SameStream (sunk a) (sunk b)
+
+-- the record of calls begins anew, and all but the disks is as it was
+pub record BeginsAnew (a b : MemWorld) : Type 0 where
+  pub drives : (shelved b).drives ≡ (shelved a).drives
+  pub units : (shelved b).units ≡ (shelved a).units
+  pub output : (shelved b).output ≡ (shelved a).output
+  pub taken : (shelved b).taken ≡ (shelved a).taken
+  pub calls : (view b).calls ≡ []
+  pub starved : (view b).starved ≡ (view a).starved
+  pub source : SameStream (sourced a) (sourced b)
+  pub sink : SameStream (sunk a) (sunk b)
+
 -- nothing but the shelf has changed
 pub record StreamsStay (a b : MemWorld) : Type 0 where
   pub plans : SamePlans a b
@@ -110,12 +127,15 @@ pub record AllButOutputStays (a b : MemWorld) : Type 0 where
   pub shelf : OutputOnly (shelved a) (shelved b)
   pub source : SameStream (sourced a) (sourced b)
 
--- the device is pulled, or the list names this call of it
-abbrev pub will_fail_on : MemWorld → Device → Bool
-will_fail_on w (Drive d) = will_fail_at w.drives.items d.0
-will_fail_on w (Nv n) = will_fail_at w.nvram.items n.0
+abbrev pub calls_on : MemWorld → Device → ℕ
+calls_on w (Drive d) = made_at w.drives.items d.0
+calls_on w (Nv n) = made_at w.nvram.items n.0
 
--- the list names this call
+-- the device is pulled, or the list names its next call
+abbrev pub will_fail_on : MemWorld → Device → Bool
+will_fail_on w d = fails (plan_on w d) (calls_on w d)
+
+-- the list names the next take, or the next give
 abbrev pub take_will_fail : MemWorld → Bool
 take_will_fail w = is_named w.takes
 

@@ -6,6 +6,7 @@ mod blank;
 mod calls;
 mod mem_world;
 mod part;
+mod plans;
 mod record;
 mod several;
 mod shelf;

@@ -5,6 +5,7 @@ ghost use Rattle.world.specs.Shelf.{Written};
 
 use crate::record::Faults;
 use crate::turns::Turns;
+use pur_base::NoMemory;
 use std::alloc::{AllocError, Global};
 use world::Span;
 
@@ -37,8 +38,17 @@ fn put_bytes(bytes: &mut Vec<u8>, at: usize, from: &[u8])
     are_bytes(bytes);
 }
 
+// Writes zeros over all that is there.
+fn zero(bytes: &mut Vec<u8>)
+    ensures len { length bytes.new.items ≡ length bytes.old.items }
+    ensures zero { (i : ℕ) → slice_index bytes.new.items i ≡ 0 }
+{
+    bytes.fill(0);
+}
+
 impl Part {
-    ghost use Rattle.world_mem.specs.Parts.{disk_of, plan_of, undo_what, will_fail, OnlyCounted};
+    ghost use Rattle.std.specs.Prelude.{false};
+    ghost use Rattle.world_mem.specs.Parts.{disk_of, plan_of, made_on, undo_what, will_fail, OnlyCounted, naming, nth_call, pulling, IsBlank};
     ghost use Rattle.world_mem.specs.declared.record.What.TheVariants.{Write};
 
     /// Counts a call, and says whether it is to fail.
@@ -115,5 +125,34 @@ impl Part {
         self.mark(at, from.len())?;
         put_bytes(&mut self.bytes, at, from);
         Ok(was)
+    }
+
+    /// From now on all calls are to fail, or none but those that are named.
+    pub(crate) fn set_pulled(&mut self, pulled: bool)
+        ensures disk { disk_of self.new ≡ disk_of self.old }
+        ensures plan { plan_of self.new ≡ pulling (plan_of self.old) pulled }
+    {
+        self.pulled = pulled;
+    }
+
+    /// The nth next call is to fail, counted from 1.
+    pub(crate) fn name(&mut self, nth: u64) -> Result<(), NoMemory>
+        requires { 1 ≤ nth }
+        ensures disk { disk_of self.new ≡ disk_of self.old }
+        ensures ok { OnOk result (plan_of self.new ≡ naming (plan_of self.old) (nth_call (made_on self.old) nth)) }
+        ensures err { OnErr result (plan_of self.new ≡ plan_of self.old) }
+    {
+        self.turns.name(nth)
+    }
+
+    /// Zero bytes in place of what is there, none of them dirty. It is no longer pulled.
+    pub(crate) fn blank(&mut self)
+        ensures blank { IsBlank (length self.old.bytes.items) (disk_of self.new) }
+        ensures counts { (self.new.faults ≡ self.old.faults) × (self.new.write_faults ≡ self.old.write_faults) }
+        ensures plan { plan_of self.new ≡ pulling (plan_of self.old) false }
+    {
+        zero(&mut self.bytes);
+        self.dirty.clear();
+        self.pulled = false;
     }
 }
