@@ -10,7 +10,7 @@ use Rattle.world_mem.specs.declared.record.Call.{Call}
 use Rattle.world_mem.specs.declared.part.Part.{Part}
 use Rattle.world_mem.specs.declared.mem_world.MemWorld.{MemWorld}
 use Rattle.world_mem.specs.Parts.{disk_of, disks_of, disk_at, bytes_at, nothing}
-use Rattle.world_mem.specs.Past.{Snap, StopAt, Left, View, shelved, shelved_of, view, sourced, sunk, StreamsStay, AllButInputStays, AllButOutputStays}
+use Rattle.world_mem.specs.Past.{Snap, StopAt, Left, View, shelved, shelved_of, view, sourced, sunk, StreamsStay, AllButInputStays, AllButOutputStays, SamePlans}
 
 pub to_snap : (v : View) (stop : Stop) → MayStop (shelved_of v) stop → StopAt v.now stop
 to_snap v stop may = record { device = may.device; faults = may.counts.faults; write_faults = may.counts.write_faults; output = may.output; taken = may.taken }
@@ -70,20 +70,26 @@ is_shelf w = record {
     write_faults (Drive d) = write_faults_end w.drives.items d.0
     write_faults (Nv n) = write_faults_end w.nvram.items n.0
 
+same_plans : (w : MemWorld) → SamePlans w w
+same_plans w = record { device = λ d. refl; takes = refl; gives = refl }
+
+plans_then : {a b c : MemWorld} → SamePlans a b → SamePlans b c → SamePlans a c
+plans_then {a} {b} {c} ab bc = record { device = λ d. bc.device d ∙ ab.device d; takes = bc.takes ∙ ab.takes; gives = bc.gives ∙ ab.gives }
+
 pub streams_stay : IsPreorder StreamsStay
 streams_stay = record {
-  reflexive = λ w. record { plans = λ d. refl; source = same_stream (sourced w); sink = same_stream (sunk w) };
-  transitive = λ a b c ab bc. record { plans = λ d. bc.plans d ∙ ab.plans d; source = stream_then ab.source bc.source; sink = stream_then ab.sink bc.sink };
+  reflexive = λ w. record { plans = same_plans w; source = same_stream (sourced w); sink = same_stream (sunk w) };
+  transitive = λ a b c ab bc. record { plans = plans_then ab.plans bc.plans; source = stream_then ab.source bc.source; sink = stream_then ab.sink bc.sink };
 }
 
 pub all_but_input_stays : IsPreorder AllButInputStays
 all_but_input_stays = record {
-  reflexive = λ w. record { plans = λ d. refl; shelf = nothing_taken (shelved w); sink = same_stream (sunk w); told = refl };
-  transitive = λ a b c ab bc. record { plans = λ d. bc.plans d ∙ ab.plans d; shelf = taken_then ab.shelf bc.shelf; sink = stream_then ab.sink bc.sink; told = bc.told ∙ ab.told };
+  reflexive = λ w. record { plans = same_plans w; shelf = nothing_taken (shelved w); sink = same_stream (sunk w); told = refl };
+  transitive = λ a b c ab bc. record { plans = plans_then ab.plans bc.plans; shelf = taken_then ab.shelf bc.shelf; sink = stream_then ab.sink bc.sink; told = bc.told ∙ ab.told };
 }
 
 pub all_but_output_stays : IsPreorder AllButOutputStays
 all_but_output_stays = record {
-  reflexive = λ w. record { plans = λ d. refl; shelf = no_output (shelved w); source = same_stream (sourced w) };
-  transitive = λ a b c ab bc. record { plans = λ d. bc.plans d ∙ ab.plans d; shelf = output_then ab.shelf bc.shelf; source = stream_then ab.source bc.source };
+  reflexive = λ w. record { plans = same_plans w; shelf = no_output (shelved w); source = same_stream (sourced w) };
+  transitive = λ a b c ab bc. record { plans = plans_then ab.plans bc.plans; shelf = output_then ab.shelf bc.shelf; source = stream_then ab.source bc.source };
 }

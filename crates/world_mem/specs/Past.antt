@@ -7,7 +7,7 @@ use Rattle.world.specs.Streams.{Streamed, SameStream}
 use Rattle.world_mem.specs.declared.record.Call.{Call}
 use Rattle.world_mem.specs.declared.record.Call.TheVariants.{On, Give, Take}
 use Rattle.world_mem.specs.declared.mem_world.MemWorld.{MemWorld}
-use Rattle.world_mem.specs.Parts.{disks_of, disk_at, changed, fails, made_at, is_named, Plan, plan_at, plans_of}
+use Rattle.world_mem.specs.Parts.{disks_of, disk_at, changed, fails, made_at, is_named, Plan, plan_at, plans_of, sound}
 
 -- a moment
 pub record Snap : Type 0 where
@@ -67,6 +67,14 @@ view w = record { now = record { drives = disks_of w.drives.items; nvram = disks
 abbrev pub shelved : MemWorld → Shelved
 shelved w = shelved_of (view w)
 
+-- with no calls in the record
+abbrev pub forgotten : View → View
+forgotten v = record { now = v.now; units = v.units; calls = []; starved = v.starved }
+
+-- how many bytes a take or a give passes at most
+abbrev pub piece_of : MemWorld → ℕ
+piece_of w = w.piece
+
 abbrev pub sourced : MemWorld → Streamed
 sourced w = record { honest = Unit {0}; bytes = drop w.taken w.input.items; faults = w.source_faults }
 
@@ -77,9 +85,30 @@ abbrev pub plan_on : MemWorld → Device → Plan
 plan_on w (Drive d) = plan_at (plans_of w.drives.items) d.0
 plan_on w (Nv n) = plan_at (plans_of w.nvram.items) n.0
 
+-- the numbers of the takes and of the gives that are to fail, and how many were made
+abbrev pub takes_to_fail : MemWorld → List ℕ
+takes_to_fail w = w.takes.to_fail.items
+
+abbrev pub takes_made : MemWorld → ℕ
+takes_made w = w.takes.made
+
+abbrev pub gives_to_fail : MemWorld → List ℕ
+gives_to_fail w = w.gives.to_fail.items
+
+abbrev pub gives_made : MemWorld → ℕ
+gives_made w = w.gives.made
+
 -- the same calls are to fail
-abbrev pub SamePlans : MemWorld → MemWorld → Type 0
-SamePlans a b = (d : Device) → plan_on b d ≡ plan_on a d
+pub record SamePlans (a b : MemWorld) : Type 0 where
+  pub device : (d : Device) → plan_on b d ≡ plan_on a d
+  pub takes : takes_to_fail b ≡ takes_to_fail a
+  pub gives : gives_to_fail b ≡ gives_to_fail a
+
+-- no call is to fail
+pub record IsSound (w : MemWorld) : Type 0 where
+  pub device : (d : Device) → plan_on w d ≡ sound
+  pub takes : takes_to_fail w ≡ []
+  pub gives : gives_to_fail w ≡ []
 
 -- a stop of the shelf, of which the other one has the image
 abbrev pub image_now : Shelved → Shelved → Stop

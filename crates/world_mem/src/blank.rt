@@ -25,7 +25,7 @@ fn blank(alloc: Global, size: usize) -> Result<Part, NoMemory>
 fn blanks(alloc: Global, count: usize, size: usize) -> Result<Vec<Part>, NoMemory>
     ensures len { IfOk result (λ parts. length parts.items ≡ count) }
     ensures disks { IfOk result (λ parts. (k : ℕ) → k < count → IsNew size (disk_at (disks_of parts.items) k)) }
-    ensures plans { IfOk result (λ parts. (k : ℕ) → k < count → plan_at (plans_of parts.items) k ≡ sound) }
+    ensures plans { IfOk result (λ parts. (k : ℕ) → plan_at (plans_of parts.items) k ≡ sound) }
 {
     let mut parts = Vec::new(alloc);
     for _ in 0..count {
@@ -39,7 +39,7 @@ impl MemWorld {
     ghost use Rattle.pur_base.specs.declared.limits.TheConstants.{SLOTS_MIN, SLOTS_MAX, UNITS_MIN, UNITS_MAX};
     ghost use Rattle.pur_base.specs.declared.device.Device.{Device};
     ghost use Rattle.world.specs.Shelf.{IsOf, size_of};
-    ghost use Rattle.world_mem.specs.Past.{shelved, sourced, sunk, view, plan_on};
+    ghost use Rattle.world_mem.specs.Past.{shelved, sourced, sunk, view, IsSound};
 
     /// A world of devices of zero bytes, with this input. No call is to fail.
     pub fn new(
@@ -52,7 +52,7 @@ impl MemWorld {
         requires units { (UNITS_MIN ≤ units) × (units ≤ UNITS_MAX) }
         ensures shape { IfOk result (λ w. ((shelved w).drives ≡ drives) × ((shelved w).units ≡ units)) }
         ensures disks { IfOk result (λ w. (d : Device) → IsOf (shelved w) d → IsNew (size_of (shelved w) d) ((shelved w).disk d)) }
-        ensures plans { IfOk result (λ w. (d : Device) → IsOf (shelved w) d → plan_on w d ≡ sound) }
+        ensures sound { IfOk result IsSound }
         ensures input { IfOk result (λ w. ((sourced w).bytes ≡ input.items) × ((sourced w).faults ≡ 0)) }
         ensures output { IfOk result (λ w. ((sunk w).bytes ≡ []) × ((sunk w).faults ≡ 0)) }
         ensures starts { IfOk result (λ w. ((shelved w).taken ≡ 0) × ((view w).calls ≡ []) × ((view w).starved ≡ false)) }

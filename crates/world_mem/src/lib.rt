@@ -4,6 +4,7 @@
 
 mod blank;
 mod calls;
+mod driving;
 mod mem_world;
 mod part;
 mod plans;

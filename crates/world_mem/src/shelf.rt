@@ -35,7 +35,7 @@ impl Shelf for MemWorld {
         ensures time { Elapses (shelved self.old) (shelved self.new) }
         ensures rest { StreamsStay self.old self.new }
         // It fails where it is told to, and else only where its record finds no memory.
-        ensures only { OnErr result ((will_fail_on self.old device ≡ true) ⊎ (self.new.starved ≡ true)) }
+        ensures only { OnErr result ((will_fail_on self.old device ≡ true) ⊎ (shelved self.new).lapsed) }
         ensures told { will_fail_on self.old device ≡ true → IsErr result }
     {
         match device {
@@ -68,7 +68,7 @@ impl Shelf for MemWorld {
         ensures time { Elapses (shelved self.old) (shelved self.new) }
         ensures rest { StreamsStay self.old self.new }
         // It fails where it is told to, and else only where its record finds no memory.
-        ensures only { OnErr result ((will_fail_on self.old device ≡ true) ⊎ (self.new.starved ≡ true)) }
+        ensures only { OnErr result ((will_fail_on self.old device ≡ true) ⊎ (shelved self.new).lapsed) }
         ensures told { will_fail_on self.old device ≡ true → IsErr result }
     {
         match device {
@@ -103,7 +103,7 @@ impl Shelf for MemWorld {
         ensures time { Elapses (shelved self.old) (shelved self.new) }
         ensures rest { StreamsStay self.old self.new }
         // It fails where it is told to, and else only where its record finds no memory.
-        ensures only { OnErr result ((will_fail_on self.old device ≡ true) ⊎ (self.new.starved ≡ true)) }
+        ensures only { OnErr result ((will_fail_on self.old device ≡ true) ⊎ (shelved self.new).lapsed) }
         ensures told { will_fail_on self.old device ≡ true → IsErr result }
     {
         match device {

@@ -98,7 +98,7 @@ fn torn_parts<C: Choice>(
 impl MemWorld {
     ghost use Rattle.pur_base.specs.declared.device.Device.{Device};
     ghost use Rattle.world.specs.Shelf.{MayStop};
-    ghost use Rattle.world_mem.specs.Past.{shelved, sourced, sunk, view, plan_on, image_now};
+    ghost use Rattle.world_mem.specs.Past.{shelved, sourced, sunk, view, image_now, IsSound};
 
     /// What a stop now leaves, with a choice of each dirty byte: drives and then NVRAM, by number, and places in order.
     /// It has no input and no output yet, and no call is to fail.
@@ -110,7 +110,7 @@ impl MemWorld {
         ensures left { IfOk result (λ w. MayStop (shelved self.now) (image_now (shelved self.now) (shelved w))) }
         ensures shape { IfOk result (λ w. ((shelved w).drives ≡ (shelved self.now).drives) × ((shelved w).units ≡ (shelved self.now).units)) }
         ensures clean { IfOk result (λ w. (d : Device) → ((shelved w).disk d).dirty ≡ []) }
-        ensures plans { IfOk result (λ w. (d : Device) → plan_on w d ≡ sound) }
+        ensures sound { IfOk result IsSound }
         ensures streams { IfOk result (λ w. ((sourced w).bytes ≡ []) × ((sunk w).bytes ≡ [])) }
         ensures starts { IfOk result (λ w. ((view w).calls ≡ []) × ((view w).starved ≡ false)) }
     {

@@ -6,7 +6,7 @@ impl Source for MemWorld {
     ghost use Rattle.std.specs.Prelude.{◌≡◌, ◌⊎◌, ◌↔◌, ◌≤◌, true, length, IfOk, IsErr, OnErr};
     ghost use Rattle.world.specs.Counts.{Counts};
     ghost use Rattle.world.specs.Streams.{WasTaken};
-    ghost use Rattle.world_mem.specs.Past.{sourced, AllButInputStays, take_will_fail};
+    ghost use Rattle.world_mem.specs.Past.{shelved, sourced, piece_of, AllButInputStays, take_will_fail};
     ghost use Rattle.world_mem.specs.Laws.{all_but_input_stays};
 
     ghost source = { sourced };
@@ -21,8 +21,9 @@ impl Source for MemWorld {
         ensures taken { (sourced self.old).honest → WasTaken result into.new (sourced self.old).bytes (sourced self.new).bytes }
         ensures counts { Counts result (sourced self.old).faults (sourced self.new).faults }
         ensures rest { AllButInputStays self.old self.new }
+        ensures piece { IfOk result (λ n. n ≤ piece_of self.old) }
         // It fails where it is told to, and else only where its record finds no memory.
-        ensures only { OnErr result ((take_will_fail self.old ≡ true) ⊎ (self.new.starved ≡ true)) }
+        ensures only { OnErr result ((take_will_fail self.old ≡ true) ⊎ (shelved self.new).lapsed) }
         ensures told { take_will_fail self.old ≡ true → IsErr result }
     {
         if self.takes.is_next_named() {
@@ -52,7 +53,7 @@ impl Sink for MemWorld {
     ghost use Rattle.std.specs.Prelude.{◌≡◌, ◌⊎◌, ◌↔◌, ◌<◌, ◌≤◌, true, length, IfOk, IsErr, OnErr};
     ghost use Rattle.world.specs.Counts.{Counts};
     ghost use Rattle.world.specs.Streams.{WasGiven};
-    ghost use Rattle.world_mem.specs.Past.{sunk, AllButOutputStays, give_will_fail};
+    ghost use Rattle.world_mem.specs.Past.{shelved, sunk, piece_of, AllButOutputStays, give_will_fail};
     ghost use Rattle.world_mem.specs.Laws.{all_but_output_stays};
 
     ghost sink = { sunk };
@@ -68,8 +69,9 @@ impl Sink for MemWorld {
         ensures given { (sunk self.old).honest → WasGiven result from.now (sunk self.old).bytes (sunk self.new).bytes }
         ensures counts { Counts result (sunk self.old).faults (sunk self.new).faults }
         ensures rest { AllButOutputStays self.old self.new }
+        ensures piece { IfOk result (λ n. n ≤ piece_of self.old) }
         // It fails where it is told to, and else only where its record finds no memory.
-        ensures only { OnErr result ((give_will_fail self.old ≡ true) ⊎ (self.new.starved ≡ true)) }
+        ensures only { OnErr result ((give_will_fail self.old ≡ true) ⊎ (shelved self.new).lapsed) }
         ensures told { give_will_fail self.old ≡ true → IsErr result }
     {
         if self.gives.is_next_named() {

@@ -6,5 +6,5 @@ abbrev pub invariant-loop : goal.invariant-loop
 invariant-loop l = record {
   len : length l.parts.items ≡ l.counter;
   disks : (k : ℕ) → k < l.counter → IsNew l.size (disk_at (disks_of l.parts.items) k);
-  plans : (k : ℕ) → k < l.counter → plan_at (plans_of l.parts.items) k ≡ sound;
+  plans : (k : ℕ) → plan_at (plans_of l.parts.items) k ≡ sound;
 }

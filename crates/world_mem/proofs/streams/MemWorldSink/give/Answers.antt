@@ -11,7 +11,7 @@ returns-clause-rest c =
     let gave : c.extend_from_slice.new.self.items ≡ w.output.items ++ take c.min-n.result c.args.from.now = search rules in
     let recorded : c.push.new.self.items ≡ w.calls.items ++ Give (length w.output.items) ∷ [] = search rules in
     record {
-      plans = λ d. refl;
+      plans = record { device = λ d. refl; takes = refl; gives = c.is_next_named.ensures.same };
       shelf = gives (view w) (take c.min-n.result c.args.from.now) c.extend_from_slice.new.self.items c.push.new.self.items gave recorded;
       source = same_stream (sourced w);
     }

@@ -23,7 +23,7 @@ returns-clause-rest c =
     let recorded : c.push.new.self.items ≡ w.calls.items ++ Take w.taken ∷ [] = search rules in
     let further : w.taken ≤ w.taken + c.min-n.result = omega arith in
     record {
-      plans = λ d. refl;
+      plans = record { device = λ d. refl; takes = c.is_next_named.ensures.same; gives = refl };
       shelf = takes (view w) (w.taken + c.min-n.result) c.push.new.self.items further recorded;
       sink = same_stream (sunk w);
       told = told w.input.items c.args.into.now c.copy_from_slice.new.self w.taken c.min-n.result w.piece w.piece_in w.taken_in least part;
