@@ -1,5 +1,5 @@
 -- One of several devices in memory is changed.
-use Rattle.std.proofs.Common.{◌≡◌, ◌≢◌, inl, inr, ℕ, zero, suc, ◌<◌, ◌≤◌, List, [], ◌∷◌, length, map, get_or, slice_set, true, refl, sym, ◌∙◌, ap, subst, arith}
+use Rattle.std.proofs.Common.{◌≡◌, ◌≢◌, inl, inr, ℕ, zero, suc, ◌<◌, List, [], ◌∷◌, length, map, get_or, slice_set, refl, sym, ◌∙◌, ap, subst, arith}
 use Rattle.std.proofs.lemmas.List.{get_or-set_same, get_or-set_other, get_or-map, map-set, set-set, set-get_or, length-map}
 use Rattle.std.proofs.lemmas.Bool.{cases_eq}
 use Rattle.pur_base.specs.declared.device.Device.{Device}
@@ -56,7 +56,7 @@ module _ (parts : List Part) (k : ℕ) (old new : Part) (inside : k < length par
         gap.0,
         gap.1,
         subst (λ (l : List Disk). AllCounted (map disk_of parts) l) (sym (map-set disk_of parts k new))
-        (counted_there (map disk_of parts) k (disk_of new) (simp length-map inside) (subst (λ (d : Disk). OnlyCounted d (disk_of new)) (sym before) gap.2)),
+            (counted_there (map disk_of parts) k (disk_of new) (simp length-map inside) (subst (λ (d : Disk). OnlyCounted d (disk_of new)) (sym before) gap.2)),
       )
 
 module _ {X : Type 0} (f : Part → X) (none : X) (parts : List Part) (k : ℕ) (old : Part) (inside : k < length parts) (is : old ≡ get_or parts k old) where

@@ -1,4 +1,5 @@
 pub mod Bank
+pub mod Blowing
 pub mod Pushed
 pub mod Steps
 pub mod Takes

@@ -1,7 +1,6 @@
 -- One device more.
-use Rattle.std.proofs.Common.{◌≡◌, ℕ, zero, suc, refl, ◌<◌, List, [], ◌∷◌, ◌++◌, length, map, get_or, ◌∙◌, ap, arith}
+use Rattle.std.proofs.Common.{◌≡◌, ℕ, zero, suc, refl, ◌<◌, List, [], ◌∷◌, ◌++◌, length, map, get_or, ◌∙◌, ap}
 use Rattle.std.proofs.lemmas.List.{get_or_append_left, get_or_push, map-append, length-map}
-use Rattle.world.specs.Shelf.{Disk}
 use Rattle.world_mem.specs.declared.part.Part.{Part}
 use Rattle.world_mem.specs.Parts.{disk_of, disks_of, disk_at, nothing, plan_of, plans_of, plan_at, sound}
 

@@ -1,5 +1,5 @@
 -- A device call, in the past of the world.
-use Rattle.std.proofs.Common.{Bool, true, ◌≡◌, ◌≢◌, ◌⊎◌, inl, inr, ⊎_elim, ℕ, zero, suc, ◌-◌, ◌≤◌, ◌+◌, List, [], ◌∷◌, ◌++◌, length, take, drop, reverse, refl, sym, ◌∙◌, ap, subst, arith, length-append, Result, Ok, Err}
+use Rattle.std.proofs.Common.{true, ◌≡◌, ◌≢◌, ◌⊎◌, inl, inr, ⊎_elim, ℕ, zero, suc, ◌-◌, ◌≤◌, ◌+◌, List, [], ◌∷◌, ◌++◌, length, take, drop, reverse, refl, sym, ◌∙◌, ap, subst, arith, length-append, Result, Ok, Err}
 use Rattle.std.proofs.lemmas.List.{reverse-append, append-nil, length-map}
 use Rattle.pur_base.specs.declared.device.Device.{Device}
 use Rattle.pur_base.specs.declared.device.Device.TheVariants.{Drive, Nv}
@@ -15,7 +15,7 @@ use Rattle.world_mem.specs.declared.record.Call.TheVariants.{On, Give, Take}
 use Rattle.world_mem.specs.declared.record.What.{What}
 use Rattle.world_mem.specs.declared.record.What.TheVariants.{Read, Write, Sync, FailedRead, FailedWrite, FailedSync}
 use Rattle.world_mem.specs.declared.part.Part.{Part}
-use Rattle.world_mem.specs.Parts.{disk_of, disks_of, disk_at, nothing, undo_what, changed, OnlyCounted, AllCounted, LoggedIn}
+use Rattle.world_mem.specs.Parts.{disks_of, disk_at, nothing, undo_what, changed, OnlyCounted, AllCounted, LoggedIn}
 use Rattle.world_mem.specs.Past.{Snap, StopAt, Left, View, shelved_of, undo, disk_in}
 use Rattle.world_mem.specs.Laws.{from_snap}
 use Rattle.world_mem.proofs.Bank.{same_counted, all_same}

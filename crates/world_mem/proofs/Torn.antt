@@ -3,9 +3,9 @@ use Rattle.std.proofs.Common.{Bool, true, false, ◌≡◌, ◌⊎◌, inl, inr,
 use Rattle.std.proofs.lemmas.Bool.{cases_lt, cases_eq}
 use Rattle.std.proofs.lemmas.List.{get_or_past, length-map}
 use Rattle.world.specs.declared.shelf.Span.{Span}
-use Rattle.world.specs.Shelf.{Disk, IsIn, IsInSome, MayLeave}
+use Rattle.world.specs.Shelf.{Disk, IsIn, IsInSome}
 use Rattle.world_mem.specs.declared.part.Part.{Part}
-use Rattle.world_mem.specs.Parts.{disk_of, disks_of, disk_at, nothing, IsTorn, Plan, plan_of, plans_of, plan_at, sound}
+use Rattle.world_mem.specs.Parts.{disk_of, disks_of, disk_at, nothing, IsTorn, plan_of, plans_of, plan_at, sound}
 
 pub in_that : (spans : List Span) (k : ℕ) (d : Span) (i : ℕ) → k < length spans → IsIn (get_or spans k d) i → IsInSome spans i
 in_that [] k d i lt is = absurd (omega arith)

@@ -3,13 +3,13 @@ use Rattle.std.proofs.Common.{◌≡◌, ◌<◌, ◌≤◌, ◌-◌, ◌^◌, i
 use Rattle.std.proofs.lemmas.List.{length-map}
 use Rattle.pur_base.specs.declared.device.Device.{Device}
 use Rattle.pur_base.specs.declared.device.Device.TheVariants.{Drive, Nv}
-use Rattle.world.specs.Shelf.{Stop, MayStop, IsShelf, IsOf, size_of, IsCountedBy}
+use Rattle.world.specs.Shelf.{Stop, MayStop, IsShelf, IsOf, size_of}
 use Rattle.world.specs.Streams.{IsPreorder}
 use Rattle.world.proofs.Rests.{same_stream, stream_then, nothing_taken, taken_then, no_output, output_then}
 use Rattle.world_mem.specs.declared.record.Call.{Call}
 use Rattle.world_mem.specs.declared.part.Part.{Part}
 use Rattle.world_mem.specs.declared.mem_world.MemWorld.{MemWorld}
-use Rattle.world_mem.specs.Parts.{disk_of, disks_of, disk_at, bytes_at, nothing}
+use Rattle.world_mem.specs.Parts.{disks_of, disk_at, bytes_at}
 use Rattle.world_mem.specs.Past.{Snap, StopAt, Left, View, shelved, shelved_of, view, sourced, sunk, StreamsStay, AllButInputStays, AllButOutputStays, SamePlans}
 
 pub to_snap : (v : View) (stop : Stop) → MayStop (shelved_of v) stop → StopAt v.now stop

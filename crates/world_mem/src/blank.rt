@@ -42,12 +42,7 @@ impl MemWorld {
     ghost use Rattle.world_mem.specs.Past.{shelved, sourced, sunk, view, IsSound};
 
     /// A world of devices of zero bytes, with this input. No call is to fail.
-    pub fn new(
-        alloc: Global,
-        drives: u8,
-        units: u16,
-        input: Vec<u8>,
-    ) -> Result<MemWorld, NoMemory>
+    pub fn new(alloc: Global, drives: u8, units: u16, input: Vec<u8>) -> Result<MemWorld, NoMemory>
         requires drives { (SLOTS_MIN ≤ drives) × (drives ≤ SLOTS_MAX) }
         requires units { (UNITS_MIN ≤ units) × (units ≤ UNITS_MAX) }
         ensures shape { IfOk result (λ w. ((shelved w).drives ≡ drives) × ((shelved w).units ≡ units)) }

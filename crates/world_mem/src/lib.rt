@@ -5,6 +5,8 @@
 mod blank;
 mod calls;
 mod driving;
+mod extra;
+mod fused;
 mod mem_world;
 mod part;
 mod plans;
@@ -15,6 +17,7 @@ mod stopped;
 mod streams;
 mod turns;
 
+pub use fused::Fused;
 pub use mem_world::MemWorld;
 pub use record::{Call, Faults, What};
 pub use stopped::Choice;

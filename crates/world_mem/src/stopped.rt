@@ -3,9 +3,9 @@ ghost use Rattle.std.specs.Prelude.{◌≡◌, ◌⊎◌, ◌<◌, [], ℕ, leng
 ghost use Rattle.world.specs.Shelf.{IsIn, IsInSome, MayLeave};
 ghost use Rattle.world_mem.specs.Parts.{disk_of, disks_of, disk_at, plan_of, plans_of, plan_at, sound, IsTorn};
 
+use crate::MemWorld;
 use crate::part::{Part, are_bytes};
 use crate::turns::Turns;
-use crate::MemWorld;
 use pur_base::NoMemory;
 use std::alloc::Global;
 use world::Span;
@@ -102,11 +102,7 @@ impl MemWorld {
 
     /// What a stop now leaves, with a choice of each dirty byte: drives and then NVRAM, by number, and places in order.
     /// It has no input and no output yet, and no call is to fail.
-    pub fn stopped<C: Choice>(
-        &self,
-        alloc: Global,
-        choice: &mut C,
-    ) -> Result<MemWorld, NoMemory>
+    pub fn stopped<C: Choice>(&self, alloc: Global, choice: &mut C) -> Result<MemWorld, NoMemory>
         ensures left { IfOk result (λ w. MayStop (shelved self.now) (image_now (shelved self.now) (shelved w))) }
         ensures shape { IfOk result (λ w. ((shelved w).drives ≡ (shelved self.now).drives) × ((shelved w).units ≡ (shelved self.now).units)) }
         ensures clean { IfOk result (λ w. (d : Device) → ((shelved w).disk d).dirty ≡ []) }

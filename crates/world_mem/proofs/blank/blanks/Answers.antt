@@ -1,4 +1,4 @@
-use Rattle.std.proofs.Common.{◌≡◌, ◌<◌, ◌+◌, ℕ, [], ◌∷◌, ◌++◌, List, sym, ◌∙◌, subst, arith, rules, below_more}
+use Rattle.std.proofs.Common.{◌≡◌, ◌<◌, ◌+◌, ℕ, [], ◌∷◌, ◌++◌, List, sym, subst, arith, rules, below_more}
 use Rattle.world_mem.specs.declared.part.Part.{Part}
 use Rattle.world_mem.specs.Parts.{disks_of, disk_at, plans_of, plan_at, sound, IsNew}
 use Rattle.world_mem.proofs.Pushed.{old_disk, new_disk, one_plan_more}

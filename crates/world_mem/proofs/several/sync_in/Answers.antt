@@ -1,4 +1,3 @@
-use Rattle.std.proofs.Common.{◌≡◌, true}
 use Rattle.world.specs.Shelf.{WasSynced, WriteCounts}
 use Rattle.world_mem.proofs.Bank.{both, others, size, plans, logged, will_fail_there}
 use Rattle.world_mem.proofs.several.sync_in.Goals as goal

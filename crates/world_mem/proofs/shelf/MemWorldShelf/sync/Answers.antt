@@ -1,4 +1,4 @@
-use Rattle.std.proofs.Common.{refl, length, ap, ◌∙◌, sym}
+use Rattle.std.proofs.Common.{refl}
 use Rattle.pur_base.specs.declared.device.Device.TheVariants.{Drive, Nv}
 use Rattle.world_mem.specs.Parts.{disks_of}
 use Rattle.world_mem.specs.Past.{view}
