@@ -6,8 +6,10 @@ mod outside;
 mod shelf;
 mod streams;
 mod synced;
+mod tallies;
 
 pub use outside::World;
 pub use shelf::{Shelf, Span};
 pub use streams::{Failed, Sink, Source};
 pub use synced::write_synced;
+pub use tallies::{Tallies, Tally};

@@ -3,10 +3,12 @@
 #![tactic(auto)]
 
 mod adapt;
+mod blind;
 mod members;
 mod said;
 mod turns;
 
+pub use blind::Blind;
 pub use members::write_members;
 pub use said::{acknowledge, session};
 pub use turns::write_in_turn;
