@@ -17,6 +17,9 @@ mod stopped;
 mod streams;
 mod turns;
 
+#[cfg(test)]
+mod tests;
+
 pub use fused::Fused;
 pub use mem_world::MemWorld;
 pub use record::{Call, Faults, What};
