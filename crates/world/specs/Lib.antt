@@ -1,2 +1,7 @@
 pub mod Counts
+pub mod Shelf
 pub mod Streams
+pub mod Tallies
+pub mod Tally
+pub mod Untold
+pub mod Writes

@@ -1,0 +1,22 @@
+use Rattle.pur_base.specs.declared.device.Device.TheVariants.{Nv}
+use Rattle.std.proofs.Common.{◌≡◌, ℕ, ◌+◌, ◌<◌, [], length, drop, slice_index}
+use Rattle.world.specs.Shelf.{Continues, Leaves}
+use Rattle.world_clients.specs.Said.{IsToldBy, EachIsStoredWhenSaid}
+use Rattle.world_clients.proofs.said.session.Given as goal
+
+abbrev pub invariant-loop-i : goal.invariant-loop-i
+invariant-loop-i g l =
+    let a = g.W.Shelf.shelf l.initial.world in
+    let b = g.W.Shelf.shelf l.world in
+    let input = (g.W.Source.source l.initial.world).bytes in
+    record {
+      continues : Continues a b;
+      told : IsToldBy a (g.W.Source.source l.initial.world) (g.W.Sink.sink l.initial.world) → IsToldBy b (g.W.Source.source l.world) (g.W.Sink.sink l.world);
+      so_far : IsToldBy a (g.W.Source.source l.initial.world) (g.W.Sink.sink l.initial.world) → (a.disk (Nv l.fn.nvram)).dirty ≡ [] → record {
+        leaves : Leaves a b (EachIsStoredWhenSaid a (Nv l.fn.nvram) l.at input);
+        left : (g.W.Source.source l.world).bytes ≡ drop l.i input;
+        stored : (k : ℕ) → k < l.i → slice_index (b.disk (Nv l.fn.nvram)).bytes (l.at + k) ≡ slice_index input k;
+        clean : (b.disk (Nv l.fn.nvram)).dirty ≡ [];
+        output : length b.output ≡ length a.output + l.i;
+      };
+    }

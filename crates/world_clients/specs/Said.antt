@@ -1,0 +1,25 @@
+-- What was said is stored.
+use Rattle.std.specs.Prelude.{◌≡◌, ◌⊎◌, ◌+◌, ◌<◌, ◌≤◌, ℕ, List, [], length, slice_index}
+use Rattle.pur_base.specs.declared.device.Device.{Device}
+use Rattle.world.specs.Shelf.{Stop, Shelved, Disk}
+use Rattle.world.specs.Writes.{OneRange, LeavesBut}
+use Rattle.world.specs.Streams.{Streamed}
+
+-- the world tells all of its contents
+pub record IsToldBy (shelf : Shelved) (source sink : Streamed) : Type 0 where
+  pub shelf_is : shelf.honest
+  pub source_is : source.honest
+  pub sink_is : sink.honest
+
+pub record StoredByte (disk : Disk) (at byte : ℕ) : Type 0 where
+  pub stands : slice_index disk.bytes at ≡ byte
+  pub clean : disk.dirty ≡ []
+
+-- Other bytes are as they were. There was no more output by then, or one byte more and the device has the byte.
+pub record StoredWhenSaid (old : Shelved) (device : Device) (at byte : ℕ) (stop : Stop) : Type 0 where
+  pub rest : LeavesBut (OneRange device at 1) old stop
+  pub stored : (stop.output ≡ old.output) ⊎ ((slice_index (stop.image device) at ≡ byte) × (length stop.output ≤ length old.output + 1))
+
+-- each byte that was said by then stands in its place
+abbrev pub EachIsStoredWhenSaid : Shelved → Device → ℕ → List ℕ → Stop → Type 0
+EachIsStoredWhenSaid old device at bytes stop = (k : ℕ) → length old.output + k < length stop.output → slice_index (stop.image device) (at + k) ≡ slice_index bytes k

@@ -1,0 +1,20 @@
+use Rattle.std.proofs.Common.{◌≡◌, ◌<◌, ◌+◌, ℕ, [], ◌∷◌, ◌++◌, List, sym, subst, arith, rules, below_more}
+use Rattle.world_mem.specs.declared.part.Part.{Part}
+use Rattle.world_mem.specs.Parts.{disks_of, disk_at, plans_of, plan_at, sound, IsNew}
+use Rattle.world_mem.proofs.Pushed.{old_disk, new_disk, one_plan_more}
+use Rattle.world_mem.proofs.blank.blanks.Goals as goal
+
+pub loop-preserved : goal.loop-preserved
+loop-preserved c =
+    let inv = c.loop.invariant in
+    let before = c.loop.parts.items in
+    let p = c.in_ok-blank.field-0 in
+    let more : c.push.new.self.items ≡ before ++ p ∷ [] = search rules in
+    record {
+      len = search rules;
+      disks = subst (λ (l : List Part). (k : ℕ) → k < c.loop.counter + 1 → IsNew c.args.size (disk_at (disks_of l) k)) (sym more)
+          (below_more _ _
+          (λ k lt. subst (IsNew c.args.size) (sym (old_disk before p k (omega (arith, lt, inv.len)))) (inv.disks k lt))
+          (subst (IsNew c.args.size) (sym (new_disk before p c.loop.counter inv.len)) c.in_ok-blank.ensures.disk));
+      plans = subst (λ (l : List Part). (k : ℕ) → plan_at (plans_of l) k ≡ sound) (sym more) (one_plan_more before p inv.plans c.in_ok-blank.ensures.plan);
+    }

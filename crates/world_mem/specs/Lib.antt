@@ -1,0 +1,5 @@
+pub mod Fuse
+pub mod FuseLaws
+pub mod Laws
+pub mod Parts
+pub mod Past
