@@ -5,6 +5,8 @@
 mod command;
 mod ending;
 mod streams;
+#[cfg(test)]
+mod tests;
 
 use crate::command::array_main;
 use crate::ending::{code_of, text_of};

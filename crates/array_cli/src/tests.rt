@@ -1,0 +1,154 @@
+// Transcripts of the whole program, over a world in memory.
+ghost use Rattle.std.specs.Prelude.{◌<◌};
+
+use crate::command::array_main;
+use pur_base::Status;
+use std::alloc::Global;
+use std::test::Fail;
+use world_mem::MemWorld;
+
+fn text_of(alloc: Global, text: &[u8]) -> Result<Vec<u8>, Fail> {
+    Ok(Vec::from_slice(alloc, text)?)
+}
+
+fn serve_words(alloc: Global) -> Result<Vec<String>, Fail> {
+    let mut words = Vec::new(alloc);
+    words.push(String::from_str(alloc, "serve")?)?;
+    Ok(words)
+}
+
+fn new_world(alloc: Global) -> Result<MemWorld, Fail> {
+    Ok(MemWorld::new(alloc, 11, 64, Vec::new(alloc))?)
+}
+
+/// How `serve` ends for an input that comes in pieces, and what it gives.
+fn served(
+    alloc: Global,
+    world: &mut MemWorld,
+    input: &[u8],
+    piece: usize,
+) -> Result<(Status, Vec<u8>), Fail>
+    requires { 0 < piece }
+{
+    let before = world.output().len();
+    world.set_piece(piece);
+    world.feed(input)?;
+    let words = serve_words(alloc)?;
+    let status = array_main(alloc, &words, world);
+    let given = world.output().get(before..).unwrap_or(&[]);
+    Ok((status, text_of(alloc, given)?))
+}
+
+#[test]
+fn answers_transcripts(rt: HostRuntime) -> Result<(), Fail> {
+    let alloc = rt.alloc();
+    let rows: [(&[u8], &[u8]); 5] = [
+        (b"", b""),
+        (b"create a 0\ncreate a 1048577\n", b"no limit\nno limit\n"),
+        (
+            b"\ncreate abcdefghijklmnopqrstuvwxy 1\nfill a 0 65 1\nread  a 0 1\ncreate a 01\n",
+            b"no syntax\nno syntax\nno syntax\nno syntax\nno syntax\n",
+        ),
+        (
+            b"create a 8\ncreate a 9\nfill b 0 1 1\nlist",
+            b"ok\nno taken\nno unknown\nnames 1\na volume 8\n",
+        ),
+        (
+            b"status\nzero a 0 1\ntakeover\n",
+            b"no syntax\nno syntax\nno syntax\n",
+        ),
+    ];
+    let mut world = new_world(alloc)?;
+    for (input, output) in rows {
+        for piece in [1, 7, 100_000] {
+            let (status, given) = served(alloc, &mut world, input, piece)?;
+            assert_eq!(rt; status, Status::Done);
+            assert_eq!(rt; given.as_slice(), output, "{input:?} in pieces of {piece}");
+        }
+    }
+    Ok(())
+}
+
+#[test]
+fn gives_and_takes_data(rt: HostRuntime) -> Result<(), Fail> {
+    let alloc = rt.alloc();
+    let mut input = text_of(alloc, b"create a 8\nread a 1 1\nwrite a 7 1\n")?;
+    input.extend_from_slice(&[66; 512])?;
+    input.extend_from_slice(b"read a 7 1\nwrite a 8 1\n")?;
+    input.extend_from_slice(&[10; 512])?;
+    input.extend_from_slice(b"list\n")?;
+    let mut output = text_of(alloc, b"ok\ndata 1\n")?;
+    output.extend_from_slice(&[0; 512])?;
+    output.extend_from_slice(b"ok\ndata 1\n")?;
+    output.extend_from_slice(&[66; 512])?;
+    output.extend_from_slice(b"no range\nnames 1\na volume 8\n")?;
+    let mut world = new_world(alloc)?;
+    for piece in [1, 100, 100_000] {
+        let (status, given) = served(alloc, &mut world, &input, piece)?;
+        assert_eq!(rt; status, Status::Done);
+        assert_eq!(rt; given.as_slice(), output.as_slice(), "in pieces of {piece}");
+    }
+    Ok(())
+}
+
+#[test]
+fn ends_a_cut_write(rt: HostRuntime) -> Result<(), Fail> {
+    let alloc = rt.alloc();
+    let mut input = text_of(alloc, b"create a 8\nwrite a 0 1\n")?;
+    input.extend_from_slice(&[66; 511])?;
+    let (status, given) = served(alloc, &mut new_world(alloc)?, &input, 64)?;
+    assert_eq!(rt; status, Status::Cut);
+    assert_eq!(rt; given.as_slice(), b"ok\nno cut\n".as_slice());
+    Ok(())
+}
+
+#[test]
+fn holds_the_most_objects_and_sectors(rt: HostRuntime) -> Result<(), Fail> {
+    let alloc = rt.alloc();
+    let mut input = text_of(alloc, b"create a 1048576\nread a 1048575 1\n")?;
+    let mut output = text_of(alloc, b"ok\ndata 1\n")?;
+    output.extend_from_slice(&[0; 512])?;
+    for number in 1..1024u32 {
+        let line = format!(in alloc; "create n{number} 1\n")?;
+        input.extend_from_slice(line.as_bytes())?;
+        output.extend_from_slice(b"ok\n")?;
+    }
+    input.extend_from_slice(b"create n1024 1\n")?;
+    output.extend_from_slice(b"no limit\n")?;
+    let (status, given) = served(alloc, &mut new_world(alloc)?, &input, 100_000)?;
+    assert_eq!(rt; status, Status::Done);
+    assert!(rt; given.as_slice() == output.as_slice());
+    Ok(())
+}
+
+#[test]
+fn stops_at_a_failed_call(rt: HostRuntime) -> Result<(), Fail> {
+    let alloc = rt.alloc();
+    let input = b"create a 8\nfill a 0 1 1\nlist\n";
+    let words = serve_words(alloc)?;
+
+    let mut world = MemWorld::new(alloc, 11, 64, text_of(alloc, input)?)?;
+    world.set_piece(11);
+    world.fail_take(2)?;
+    assert_eq!(rt; array_main(alloc, &words, &mut world), Status::Source);
+    assert_eq!(rt; world.output(), b"ok\n".as_slice());
+
+    let mut world = MemWorld::new(alloc, 11, 64, text_of(alloc, input)?)?;
+    world.fail_give(3)?;
+    assert_eq!(rt; array_main(alloc, &words, &mut world), Status::Sink);
+    assert_eq!(rt; world.output(), b"ok\nok\n".as_slice());
+    Ok(())
+}
+
+#[test]
+fn refuses_other_words(rt: HostRuntime) -> Result<(), Fail> {
+    let alloc = rt.alloc();
+    let mut world = MemWorld::new(alloc, 11, 64, text_of(alloc, b"list\n")?)?;
+    let mut words = Vec::new(alloc);
+    assert_eq!(rt; array_main(alloc, &words, &mut world), Status::Words);
+    words.push(String::from_str(alloc, "serve")?)?;
+    words.push(String::from_str(alloc, "now")?)?;
+    assert_eq!(rt; array_main(alloc, &words, &mut world), Status::Words);
+    assert_eq!(rt; world.output(), b"".as_slice());
+    Ok(())
+}
