@@ -57,6 +57,22 @@ impl Files {
         })
     }
 
+    /// How often a call on the device failed.
+    pub fn faults(&self, device: Device) -> u64
+        requires { IsOf (untold self.now.drives self.now.units self.now.tallies) device }
+        ensures { result ≡ (tally_of self.now.tallies device).faults }
+    {
+        self.tallies.faults(device)
+    }
+
+    /// How often a write or a sync of the device failed.
+    pub fn write_faults(&self, device: Device) -> u64
+        requires { IsOf (untold self.now.drives self.now.units self.now.tallies) device }
+        ensures { result ≡ (tally_of self.now.tallies device).write_faults }
+    {
+        self.tallies.write_faults(device)
+    }
+
     fn file(&self, device: Device) -> Option<&File>
         requires { IsOf (untold self.now.drives self.now.units self.now.tallies) device }
     {

@@ -84,7 +84,11 @@ mod tests {
             ("", None),
         ] {
             let shape = Shape::read(text.as_bytes());
-            assert_eq!(rt; shape.map(|shape| (shape.slots, shape.units)), want, "at {text}");
+            assert_eq!(rt;
+                shape.map(|shape| (shape.slots, shape.units)),
+                want,
+                "at {text}"
+            );
         }
     }
 }
