@@ -1,5 +1,5 @@
 -- Counts of failed calls, by device.
-use Rattle.std.specs.Prelude.{◌<◌, ℕ, List, length, slice_index_or}
+use Rattle.std.specs.Prelude.{◌<◌, List, length, slice_index_or}
 use Rattle.pur_base.specs.declared.device.Device.{Device}
 use Rattle.pur_base.specs.declared.device.Device.TheVariants.{Drive, Nv}
 use Rattle.world.specs.declared.tallies.Tally.{Tally}

@@ -7,6 +7,7 @@ ghost use Rattle.world.specs.Tally.{tally_in, IsTallied};
 use pur_base::{Device, NVRAM_DEVICES, SLOTS_MAX};
 
 const DRIVES: usize = SLOTS_MAX as usize;
+
 const NVRAM: usize = NVRAM_DEVICES as usize;
 
 /// How often the calls on a device failed, and how often its writes and syncs did.
@@ -64,6 +65,28 @@ impl Tallies {
         Tallies {
             drives: [none; DRIVES],
             nvram: [none; NVRAM],
+        }
+    }
+
+    /// How often a call on the device failed.
+    pub fn faults(&self, device: Device) -> u64
+        requires { MayHave device }
+        ensures { result ≡ (tally_of self.now device).faults }
+    {
+        match device {
+            Device::Drive(d) => self.drives[d.0 as usize].faults,
+            Device::Nv(n) => self.nvram[n.0 as usize].faults,
+        }
+    }
+
+    /// How often a write or a sync of the device failed.
+    pub fn write_faults(&self, device: Device) -> u64
+        requires { MayHave device }
+        ensures { result ≡ (tally_of self.now device).write_faults }
+    {
+        match device {
+            Device::Drive(d) => self.drives[d.0 as usize].write_faults,
+            Device::Nv(n) => self.nvram[n.0 as usize].write_faults,
         }
     }
 

@@ -86,12 +86,16 @@ impl<W: Shelf> Fused<W> {
 }
 
 impl Fused<MemWorld> {
-    ghost use Rattle.world_mem.specs.Past.{view, forgotten, SamePlans};
+    ghost use Rattle.world.specs.Streams.{SameStream};
+    ghost use Rattle.world_mem.specs.Past.{view, forgotten, sourced, sunk, SamePlans};
 
     /// The world within forgets its calls so far: nothing is claimed of a stop before this.
     pub fn forget(&mut self)
         ensures forgets { view self.new.inner ≡ forgotten (view self.old.inner) }
         ensures plans { SamePlans self.old.inner self.new.inner }
+        ensures source { SameStream (sourced self.old.inner) (sourced self.new.inner) }
+        ensures sink { SameStream (sunk self.old.inner) (sunk self.new.inner) }
+        ensures faults { (self.new.source_faults ≡ self.old.source_faults) × (self.new.sink_faults ≡ self.old.sink_faults) }
         ensures left { self.new.left ≡ self.old.left }
         ensures blown { self.new.blown ≡ self.old.blown }
     {

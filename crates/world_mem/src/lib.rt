@@ -15,10 +15,9 @@ mod several;
 mod shelf;
 mod stopped;
 mod streams;
-mod turns;
-
 #[cfg(test)]
 mod tests;
+mod turns;
 
 pub use fused::Fused;
 pub use mem_world::MemWorld;
