@@ -3,6 +3,9 @@ ghost use Rattle.array_cli.specs.Endings.{exit_code, exit_text};
 
 use pur_base::Status;
 
+/// The exit status where the current folder has no shelf.
+pub const NO_SHELF: u8 = 10;
+
 /// The exit status of the program.
 pub fn code_of(status: Status) -> u8
     ensures { result ≡ exit_code status }

@@ -1,19 +1,18 @@
 //! The program of the array: a command in words, requests on standard input, replies on standard output.
-//! `array_main` answers by its contract whatever the outside does; `main` lends it the standard streams.
+//! `array_main` answers by its contract whatever the outside does; `main` lends it the files of the shelf and the standard streams.
 #![tactic(auto)]
 
 mod command;
 mod ending;
-mod streams;
 #[cfg(test)]
 mod tests;
 
 use crate::command::array_main;
-use crate::ending::{code_of, text_of};
-use crate::streams::Streams;
+use crate::ending::{NO_SHELF, code_of, text_of};
 use pur_base::Status;
 use std::process::ExitCode;
 use std::{env, io};
+use world_file::{Files, NoShelf};
 
 /// Words that can't be had are a faulty command line, but for want of memory.
 fn status_of(error: &io::Error) -> Status {
@@ -34,17 +33,31 @@ fn words_of(rt: &HostRuntime) -> Result<Vec<String>, Status> {
     Ok(words)
 }
 
-fn run(rt: &HostRuntime) -> Status {
+fn run(rt: &HostRuntime, files: &mut Files) -> Status {
     match words_of(rt) {
-        Ok(words) => array_main(rt.alloc(), &words, &mut Streams::new(rt)),
+        Ok(words) => array_main(rt.alloc(), &words, files),
         Err(status) => status,
     }
 }
 
-fn main(rt: HostRuntime) -> ExitCode {
-    let status = run(&rt);
+/// Says on standard error why the program ends, where that isn't well.
+fn end(rt: &HostRuntime, status: Status) -> ExitCode {
     if status != Status::Done {
         let _ = eprintln!(rt; "array_cli: {}", text_of(status));
     }
     ExitCode::from(code_of(status))
+}
+
+fn main(rt: HostRuntime) -> ExitCode {
+    match Files::open(&rt) {
+        Ok(mut files) => {
+            let status = run(&rt, &mut files);
+            end(&rt, status)
+        }
+        Err(NoShelf::Memory) => end(&rt, Status::Memory),
+        Err(NoShelf::BadText) => {
+            let _ = eprintln!(rt; "array_cli: no shelf");
+            ExitCode::from(NO_SHELF)
+        }
+    }
 }
