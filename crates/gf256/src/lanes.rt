@@ -10,7 +10,8 @@ use std::simd::prelude::*;
 #[inline(always)]
 pub fn lanes_at(from: &[u8], at: usize) -> u8x32
     requires { at + 32 ≤ length from.now }
-    ensures { (k : ℕ) → k < 32 → slice_index result k ≡ slice_index from.now (at + k) }
+    ensures read { (k : ℕ) → k < 32 → slice_index result k ≡ slice_index from.now (at + k) }
+    ensures bytes { (k : ℕ) → k < 32 → slice_index from.now (at + k) < 256 }
 {
     u8x32::from_slice(&from[at..])
 }

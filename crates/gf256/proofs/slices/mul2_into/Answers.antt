@@ -9,5 +9,5 @@ loop-at-preserved c =
     record {
       within = omega arith;
       changed = changed-block _ c.args.into.now c.loop-at.into c.put_lanes.new.into c.loop-at.at 32 c.loop-at.invariant.changed put.below
-          (λ k lt. put.here k lt ∙ c.double_lanes.ensures k lt ∙ ap doubled (c.lanes_at.ensures k lt)) put.above;
+          (λ k lt. put.here k lt ∙ c.double_lanes.ensures k lt ∙ ap doubled (c.lanes_at.ensures.read k lt)) put.above;
     }
