@@ -1,5 +1,7 @@
 // Vectors from outside, and each kind of loss once.
 
+ghost use Rattle.std.specs.Prelude.{◌<◌, ◌≢◌};
+
 use crate::{encode, recover};
 use arrayvec::ArrayVec;
 
@@ -19,15 +21,31 @@ fn encoded(bytes: [u8; 7]) -> [[u8; 4096]; 9] {
     shards
 }
 
-// Whether the shards come back after those of the lost numbers are written over.
-fn comes_back(whole: &[[u8; 4096]; 9], lost: &[u8]) -> bool {
-    let mut numbers: ArrayVec<u8, 2> = ArrayVec::new();
+// Whether the shards come back after shard `i` is written over.
+fn comes_back(whole: &[[u8; 4096]; 9], i: u8) -> bool
+    requires { i < 9 }
+{
     let mut shards = *whole;
-    for i in lost {
-        shards[*i as usize % 9] = [0xA5; 4096];
-        let _ = numbers.try_push(*i);
-    }
-    recover(&mut shards, &numbers);
+    shards[i as usize] = [0xA5; 4096];
+    let mut lost: ArrayVec<u8, 2> = ArrayVec::new();
+    lost.push(i);
+    recover(&mut shards, &lost);
+    shards == *whole
+}
+
+// Whether the shards come back after shards `i` and `j` are written over.
+fn come_back(whole: &[[u8; 4096]; 9], i: u8, j: u8) -> bool
+    requires i_in { i < 9 }
+    requires j_in { j < 9 }
+    requires apart { i ≢ j }
+{
+    let mut shards = *whole;
+    shards[i as usize] = [0xA5; 4096];
+    shards[j as usize] = [0x5A; 4096];
+    let mut lost: ArrayVec<u8, 2> = ArrayVec::new();
+    lost.push(i);
+    lost.push(j);
+    recover(&mut shards, &lost);
     shards == *whole
 }
 
@@ -36,7 +54,7 @@ fn parities_of_ones_in_the_first_shard(rt: HostRuntime) {
     let shards = encoded([1, 0, 0, 0, 0, 0, 0]);
     assert!(rt; shards[7] == [1; 4096]);
     assert!(rt; shards[8] == [1; 4096]);
-    assert!(rt; comes_back(&shards, &[0, 6]));
+    assert!(rt; come_back(&shards, 0, 6));
 }
 
 #[test]
@@ -44,7 +62,7 @@ fn parities_of_80_in_the_last_shard(rt: HostRuntime) {
     let shards = encoded([0, 0, 0, 0, 0, 0, 0x80]);
     assert!(rt; shards[7] == [0x80; 4096]);
     assert!(rt; shards[8] == [0x87; 4096]);
-    assert!(rt; comes_back(&shards, &[0, 6]));
+    assert!(rt; come_back(&shards, 0, 6));
 }
 
 #[test]
@@ -52,13 +70,12 @@ fn parities_of_one_to_seven(rt: HostRuntime) {
     let shards = encoded([1, 2, 3, 4, 5, 6, 7]);
     assert!(rt; shards[7] == [0; 4096]);
     assert!(rt; shards[8] == [0x64; 4096]);
-    assert!(rt; comes_back(&shards, &[]));
-    assert!(rt; comes_back(&shards, &[3]));
-    assert!(rt; comes_back(&shards, &[7]));
-    assert!(rt; comes_back(&shards, &[8]));
-    assert!(rt; comes_back(&shards, &[2, 5]));
-    assert!(rt; comes_back(&shards, &[5, 2]));
-    assert!(rt; comes_back(&shards, &[7, 4]));
-    assert!(rt; comes_back(&shards, &[4, 8]));
-    assert!(rt; comes_back(&shards, &[8, 7]));
+    assert!(rt; comes_back(&shards, 3));
+    assert!(rt; comes_back(&shards, 7));
+    assert!(rt; comes_back(&shards, 8));
+    assert!(rt; come_back(&shards, 2, 5));
+    assert!(rt; come_back(&shards, 5, 2));
+    assert!(rt; come_back(&shards, 7, 4));
+    assert!(rt; come_back(&shards, 4, 8));
+    assert!(rt; come_back(&shards, 8, 7));
 }
