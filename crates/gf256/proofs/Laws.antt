@@ -135,32 +135,6 @@ pub two-times : (b : ℕ) → b < 256 → times 2 b ≡ doubled b
 two-times b lt = times-comm 2 b (omega arith) lt ∙ times-two_right b
 
 -- ---- the inverse
--- the product, after n more squarings that each multiply it
-unfoldable pub squares_times : ℕ → ℕ → ℕ → ℕ
-squares_times zero product square = product
-squares_times (suc n) product square = let next = times square square in squares_times n (times product next) next
-
-pub squares_times-zero : (product square : ℕ) → squares_times 0 product square ≡ product
-unfolding squares_times
-squares_times-zero product square = refl
-
-pub squares_times-suc : (n product square : ℕ) → squares_times (suc n) product square ≡ squares_times n (times product (times square square)) (times square square)
-unfolding squares_times
-squares_times-suc n product square = refl
-
-unfoldable inverts : ℕ → Bool
-inverts b = eqb b 0 || eqb (times (squares_times 7 1 b) b) 1
-
-inverts-all : all_below inverts 256 ≡ true
-unfolding inverts squares_times times times_bits
-inverts-all = refl
-
-pub inverse-times : (b : ℕ) → 0 < b → b < 256 → times (squares_times 7 1 b) b ≡ 1
-unfolding inverts
-inverse-times b pos lt =
-    let h = all_below-at inverts 256 inverts-all b lt in
-    grind (arith, nat_tests)
-
 -- what two bytes give when the second is undone
 pub times-undone : (a i b : ℕ) → a < 256 → i < 256 → b < 256 → times i b ≡ 1 → times (times a i) b ≡ a
 times-undone a i b la li lb h = times-assoc a i b la li lb ∙ ap (times a) h ∙ times-one a

@@ -49,7 +49,7 @@ IsCodeword-encoded d p q seven lp lq read p_is q_is =
     let same : (k i : ℕ) → i < 7 → byte_of nine i k ≡ byte_of d i k = λ k i lt. ap (λ s. get_or s k 0) (with_data d p q seven i lt) in
     record {
       count = length-append d (p ∷ q ∷ []) ∙ ap (λ n. n + 2) seven;
-      sizes = λ i lt. of_nine (λ s. length s ≡ 4096) d p q seven (λ i small. read.sizes i small (omega arith)) lp lq i lt;
+      sizes = λ i lt. of_nine (λ s. length s ≡ 4096) d p q seven (λ i small. read.sizes i (omega arith) (omega arith)) lp lq i lt;
       bytes = λ i k lt small. of_nine (λ s. get_or s k 0 < 256) d p q seven (λ i l. read.bytes i k l (omega arith) small)
           (subst (λ x. x < 256) (sym (p_is k small)) (p_of-fits d k (λ i l. read.bytes i k l (omega arith) small)))
           (subst (λ x. x < 256) (sym (q_is k small)) (q_of-fits d k)) i lt;

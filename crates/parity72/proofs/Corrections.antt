@@ -1,14 +1,16 @@
--- Two shards that are corrected block by block.
+-- Shards that are corrected or encoded again, block by block.
 use Rattle.std.proofs.Common.{◌≡◌, ◌≢◌, ◌⊎◌, ℕ, ◌+◌, ◌-◌, ◌<◌, ◌≤◌, List, [], ◌∷◌, length, get_or, refl, ap, sym, ◌∙◌, arith, bit_xor, inl, inr, subst, get_or-set_other, get_or-set_same}
 use Rattle.std.proofs.Math.ListN.{set, length-set}
 use Rattle.std.proofs.lemmas.Bool.{cases_lt, cases_eq}
 use Rattle.gf256.specs.Field.{times}
+use mathlib.Core.Path.{fun_ext}
+use Rattle.std.proofs.lemmas.Bool.Decides.{nat_tests}
 use Rattle.parity72.specs.Parity.{byte_of, shard_of, p_of, q_of, IsRead}
 use Rattle.gf256.proofs.Progress.{below_block}
-use Rattle.parity72.specs.Recovery.{Corrects, Encodes, p_syndrome, q_syndrome, error_of}
+use Rattle.parity72.specs.Recovery.{Encodes, Fixes, column_of, with_added}
 use Rattle.parity72.proofs.Codewords.{p_of-same, q_of-same}
 
-set-same : (shards : List (List ℕ)) (i : ℕ) (s : List ℕ) → i < length shards → shard_of (set shards i s) i ≡ s
+pub set-same : (shards : List (List ℕ)) (i : ℕ) (s : List ℕ) → i < length shards → shard_of (set shards i s) i ≡ s
 set-same shards i s lt = get_or-set_same shards i s [] lt
 
 pub set-other : (shards : List (List ℕ)) (i j : ℕ) (s : List ℕ) → j ≢ i → shard_of (set shards i s) j ≡ shard_of shards j
@@ -17,17 +19,6 @@ set-other shards i j s ne = get_or-set_other shards i j s [] ne
 -- the n bytes from `at` on, by their places
 ranged : (X : ℕ → Type 0) (at n : ℕ) → ((k : ℕ) → k < n → X (at + k)) → (k : ℕ) → at ≤ k → k < at + n → X k
 ranged X at n here k from to = let e : at + (k - at) ≡ k = omega arith in subst X e (here (k - at) (omega arith))
-
-p_syndrome-same : (a b : List (List ℕ)) (k : ℕ) → ((i : ℕ) → byte_of a i k ≡ byte_of b i k) → p_syndrome a k ≡ p_syndrome b k
-p_syndrome-same a b k h = ap (λ x. bit_xor x (byte_of a 7 k)) (p_of-same a b k (λ i _. h i)) ∙ ap (bit_xor (p_of b k)) (h 7)
-
-q_syndrome-same : (a b : List (List ℕ)) (k : ℕ) → ((i : ℕ) → byte_of a i k ≡ byte_of b i k) → q_syndrome a k ≡ q_syndrome b k
-q_syndrome-same a b k h = ap (λ x. bit_xor x (byte_of a 8 k)) (q_of-same a b k (λ i _. h i)) ∙ ap (bit_xor (q_of b k)) (h 8)
-
-error_of-same : (by_p by_q : ℕ) (a b : List (List ℕ)) (k : ℕ) → ((i : ℕ) → byte_of a i k ≡ byte_of b i k) → error_of by_p by_q a k ≡ error_of by_p by_q b k
-error_of-same by_p by_q a b k h =
-    ap (λ x. bit_xor (times by_p x) (times by_q (q_syndrome a k))) (p_syndrome-same a b k h)
-    ∙ ap (λ x. bit_xor (times by_p (p_syndrome b k)) (times by_q x)) (q_syndrome-same a b k h)
 
 -- f added to the n bytes of a shard from `at` on
 pub record AddsAt (f : ℕ → ℕ) (old new : List ℕ) (at n : ℕ) : Type 0 where
@@ -45,65 +36,63 @@ adds-at f old new at n below here above size =
       same_size = size;
     }
 
--- one block, where the second shard is written first
-pub corrects-block : (first second by_p by_q : ℕ) (old : List (List ℕ)) (s t : List ℕ) (at n : ℕ) → length old ≡ 9 → first < 9 → second < 9 → first ≢ second → IsRead 9 old at (at + n)
-    → AddsAt (error_of by_p by_q old) (shard_of old second) s at n
-    → AddsAt (λ k. bit_xor (p_syndrome old k) (error_of by_p by_q old k)) (shard_of (set old second s) first) t at n
-    → Corrects first second by_p by_q old (set (set old second s) first t) at (at + n)
-corrects-block first second by_p by_q old s t at n nine lf ls ne read second_adds first_adds =
-    let mid = set old second s in
-    let new = set mid first t in
-    let back : second ≢ first = λ e. ne (sym e) in
-    let mid_nine : length mid ≡ 9 = length-set old second s ∙ nine in
-    let at_first : shard_of new first ≡ t = set-same mid first t (omega arith) in
-    let was_first : shard_of mid first ≡ shard_of old first = set-other old second first s ne in
-    let at_second : shard_of new second ≡ s = set-other mid first second t back ∙ set-same old second s (omega arith) in
-    let others : (i : ℕ) → i ≢ first → i ≢ second → shard_of new i ≡ shard_of old i = λ i nf ns. set-other mid first i t nf ∙ set-other old second i s ns in
-    record {
-      was_read = read;
-      at_first = λ k from to.
-          ap (λ x. get_or x k 0) at_first ∙ first_adds.here k from to
-          ∙ ap (λ x. bit_xor (get_or x k 0) (bit_xor (p_syndrome old k) (error_of by_p by_q old k))) was_first;
-      at_second = λ k from to. ap (λ x. get_or x k 0) at_second ∙ second_adds.here k from to;
-      outside = λ i k out. elim (cases_eq i first) [
-          inl e ↦ ap (λ j. byte_of new j k) e ∙ ap (λ x. get_or x k 0) at_first ∙ first_adds.outside k out ∙ ap (λ x. get_or x k 0) was_first ∙ ap (λ j. byte_of old j k) (sym e)
-        | inr nf ↦ elim (cases_eq i second) [
-            inl e ↦ ap (λ j. byte_of new j k) e ∙ ap (λ x. get_or x k 0) at_second ∙ second_adds.outside k out ∙ ap (λ j. byte_of old j k) (sym e)
-          | inr ns ↦ ap (λ x. get_or x k 0) (others i nf ns)
-          ]
-        ];
-      others = others;
-      same_count = length-set mid first t ∙ length-set old second s;
-      same_sizes = λ i. elim (cases_eq i first) [
-          inl e ↦ ap (λ j. length (shard_of new j)) e ∙ ap length at_first ∙ first_adds.same_size ∙ ap length was_first ∙ ap (λ j. length (shard_of old j)) (sym e)
-        | inr nf ↦ elim (cases_eq i second) [
-            inl e ↦ ap (λ j. length (shard_of new j)) e ∙ ap length at_second ∙ second_adds.same_size ∙ ap (λ j. length (shard_of old j)) (sym e)
-          | inr ns ↦ ap length (others i nf ns)
-          ]
-        ];
-    }
+-- ---- a byte of a column that something is added to
+with_added-here : (a x : ℕ) (column : ℕ → ℕ) → with_added a x column a ≡ bit_xor (column a) x
+with_added-here a x column = grind (arith, nat_tests)
 
-pub corrects-none : (first second by_p by_q : ℕ) (old : List (List ℕ)) → Corrects first second by_p by_q old old 0 0
-corrects-none first second by_p by_q old =
+with_added-other : (a x : ℕ) (column : ℕ → ℕ) (i : ℕ) → i ≢ a → with_added a x column i ≡ column i
+with_added-other a x column i ne = grind (arith, nat_tests)
+
+pub added-here : (a x : ℕ) (column : ℕ → ℕ) (i : ℕ) → i ≡ a → with_added a x column i ≡ bit_xor (column a) x
+added-here a x column i e = ap (with_added a x column) e ∙ with_added-here a x column
+
+pub added-other : (a x : ℕ) (column : ℕ → ℕ) (i : ℕ) → i ≢ a → with_added a x column i ≡ column i
+added-other a x column i ne = with_added-other a x column i ne
+
+-- one shard that something is added to, at each of its n bytes from `at` on
+pub fixes-one : (x : ℕ → ℕ) (old : List (List ℕ)) (a : ℕ) (s : List ℕ) (at n : ℕ) → a < length old → AddsAt x (shard_of old a) s at n
+    → (i k : ℕ) → at ≤ k → k < at + n → byte_of (set old a s) i k ≡ with_added a (x k) (column_of old k) i
+fixes-one x old a s at n lt adds i k from to =
+    elim (cases_eq i a) [
+      inl e ↦ ap (λ j. byte_of (set old a s) j k) e ∙ ap (λ t. get_or t k 0) (set-same old a s lt) ∙ adds.here k from to ∙ sym (added-here a (x k) (column_of old k) i e)
+    | inr ne ↦ ap (λ t. get_or t k 0) (set-other old a i s ne) ∙ sym (added-other a (x k) (column_of old k) i ne)
+    ]
+
+pub outside-one : (x : ℕ → ℕ) (old : List (List ℕ)) (a : ℕ) (s : List ℕ) (at n : ℕ) → a < length old → AddsAt x (shard_of old a) s at n
+    → (i k : ℕ) → (k < at) ⊎ (at + n ≤ k) → byte_of (set old a s) i k ≡ byte_of old i k
+outside-one x old a s at n lt adds i k out =
+    elim (cases_eq i a) [
+      inl e ↦ ap (λ j. byte_of (set old a s) j k) e ∙ ap (λ t. get_or t k 0) (set-same old a s lt) ∙ adds.outside k out ∙ ap (λ j. byte_of old j k) (sym e)
+    | inr ne ↦ ap (λ t. get_or t k 0) (set-other old a i s ne)
+    ]
+
+pub sizes-one : (x : ℕ → ℕ) (old : List (List ℕ)) (a : ℕ) (s : List ℕ) (at n : ℕ) → a < length old → AddsAt x (shard_of old a) s at n
+    → (i : ℕ) → length (shard_of (set old a s) i) ≡ length (shard_of old i)
+sizes-one x old a s at n lt adds i =
+    elim (cases_eq i a) [
+      inl e ↦ ap (λ j. length (shard_of (set old a s) j)) e ∙ ap length (set-same old a s lt) ∙ adds.same_size ∙ ap (λ j. length (shard_of old j)) (sym e)
+    | inr ne ↦ ap length (set-other old a i s ne)
+    ]
+
+-- ---- shards whose columns are fixed
+pub fixes-none : (fix : (ℕ → ℕ) → ℕ → ℕ) (old : List (List ℕ)) → Fixes fix old old 0 0
+fixes-none fix old =
     record {
       was_read = record { sizes = λ i lt some. absurd (omega arith); bytes = λ i k lt from to. absurd (omega arith) };
-      at_first = λ k from to. absurd (omega arith);
-      at_second = λ k from to. absurd (omega arith);
+      fixed = λ i k from to. absurd (omega arith);
       outside = λ i k out. refl;
-      others = λ i nf ns. refl;
       same_count = refl;
       same_sizes = λ i. refl;
     }
 
 -- up to `mid`, and from there on
-pub corrects-more : (first second by_p by_q : ℕ) (old now new : List (List ℕ)) (mid to : ℕ) → mid ≤ to
-    → Corrects first second by_p by_q old now 0 mid → Corrects first second by_p by_q now new mid to → Corrects first second by_p by_q old new 0 to
-corrects-more first second by_p by_q old now new mid to le done more =
+pub fixes-more : (fix : (ℕ → ℕ) → ℕ → ℕ) (old now new : List (List ℕ)) (mid to : ℕ) → mid ≤ to → Fixes fix old now 0 mid → Fixes fix now new mid to → Fixes fix old new 0 to
+fixes-more fix old now new mid to le done more =
     let same : (k : ℕ) → mid ≤ k → (i : ℕ) → byte_of now i k ≡ byte_of old i k = λ k r i. done.outside i k (inr r) in
     record {
       was_read = record {
         sizes = λ i lt some. elim (cases_lt mid to) [
-            inl l ↦ sym (done.same_sizes i) ∙ more.was_read.sizes i lt l
+            inl l ↦ sym (done.same_sizes i) ∙ more.was_read.sizes i (omega (arith, done.same_count)) l
           | inr r ↦ done.was_read.sizes i lt (omega arith)
           ];
         bytes = λ i k lt from upto. elim (cases_lt k mid) [
@@ -111,26 +100,28 @@ corrects-more first second by_p by_q old now new mid to le done more =
           | inr r ↦ subst (λ x. x < 256) (same k r i) (more.was_read.bytes i k lt r upto)
           ];
       };
-      at_first = λ k from upto. elim (cases_lt k mid) [
-          inl l ↦ more.outside first k (inl l) ∙ done.at_first k from l
-        | inr r ↦ more.at_first k r upto
-            ∙ ap (λ x. bit_xor x (bit_xor (p_syndrome now k) (error_of by_p by_q now k))) (same k r first)
-            ∙ ap (λ x. bit_xor (byte_of old first k) (bit_xor x (error_of by_p by_q now k))) (p_syndrome-same now old k (same k r))
-            ∙ ap (λ x. bit_xor (byte_of old first k) (bit_xor (p_syndrome old k) x)) (error_of-same by_p by_q now old k (same k r))
-        ];
-      at_second = λ k from upto. elim (cases_lt k mid) [
-          inl l ↦ more.outside second k (inl l) ∙ done.at_second k from l
-        | inr r ↦ more.at_second k r upto
-            ∙ ap (λ x. bit_xor x (error_of by_p by_q now k)) (same k r second)
-            ∙ ap (bit_xor (byte_of old second k)) (error_of-same by_p by_q now old k (same k r))
+      fixed = λ i k from upto. elim (cases_lt k mid) [
+          inl l ↦ more.outside i k (inl l) ∙ done.fixed i k from l
+        | inr r ↦ more.fixed i k r upto ∙ ap (λ column. fix column i) (fun_ext (same k r))
         ];
       outside = λ i k out. elim out [
           inl l ↦ absurd (omega arith)
         | inr r ↦ more.outside i k (inr r) ∙ done.outside i k (inr (omega arith))
         ];
-      others = λ i nf ns. more.others i nf ns ∙ done.others i nf ns;
       same_count = more.same_count ∙ done.same_count;
       same_sizes = λ i. more.same_sizes i ∙ done.same_sizes i;
+    }
+
+-- the same bytes, fixed twice
+pub fixes-twice : (fix again : (ℕ → ℕ) → ℕ → ℕ) (old now new : List (List ℕ)) (from to : ℕ) → Fixes fix old now from to → Fixes again now new from to
+    → Fixes (λ column. again (fix column)) old new from to
+fixes-twice fix again old now new from to first second =
+    record {
+      was_read = first.was_read;
+      fixed = λ i k le lt. second.fixed i k le lt ∙ ap (λ column. again column i) (fun_ext (λ j. first.fixed j k le lt));
+      outside = λ i k out. second.outside i k out ∙ first.outside i k out;
+      same_count = second.same_count ∙ first.same_count;
+      same_sizes = λ i. second.same_sizes i ∙ first.same_sizes i;
     }
 
 -- ---- P and Q written anew, block by block
@@ -161,8 +152,8 @@ encodes-more old now s t at n nine done sizes p_puts q_puts =
     let new = set mid 8 t in
     let now_nine : length now ≡ 9 = done.same_count ∙ nine in
     let mid_nine : length mid ≡ 9 = length-set now 7 s ∙ now_nine in
-    let seven : 7 ≢ 8 = omega arith in
-    let eight : 8 ≢ 7 = omega arith in
+    let seven : ◌≢◌ {A = ℕ} 7 8 = omega arith in
+    let eight : ◌≢◌ {A = ℕ} 8 7 = omega arith in
     let at_p : shard_of new 7 ≡ s = set-other mid 8 7 t seven ∙ set-same now 7 s (omega arith) in
     let at_q : shard_of new 8 ≡ t = set-same mid 8 t (omega arith) in
     let was_q : shard_of mid 8 ≡ shard_of now 8 = set-other now 7 8 s eight in

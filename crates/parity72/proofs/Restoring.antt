@@ -4,13 +4,15 @@ use Rattle.std.specs.List.{Contains}
 use Rattle.std.proofs.lemmas.Bool.{cases_lt, cases_eq}
 use Rattle.std.proofs.lemmas.Grind.{same_number_lists}
 use Rattle.std.proofs.lemmas.List.{ext_get_or}
-use lib.Bits.{xor_lt, xor_zero_l, xor_zero_r, xor_comm}
+use lib.Bits.{xor_lt, xor_zero_l, xor_zero_r, xor_comm, xor_assoc}
 use Rattle.gf256.specs.Field.{times, power_of_two}
 use Rattle.parity72.specs.Parity.{byte_of, shard_of, p_of, q_of, IsCodeword}
-use Rattle.parity72.specs.Recovery.{AgreesOutside, Corrects, Encodes, Restores, p_syndrome, q_syndrome, error_of}
+use Rattle.parity72.specs.Recovery.{AgreesOutside, Encodes, Fixes, Restores, column_of, p_syndrome, q_syndrome, with_added, with_both, with_p_syndrome}
+use Rattle.gf256.proofs.Linear.{times-xor_left}
 use Rattle.parity72.proofs.Sums.{power-fits}
 use Rattle.parity72.proofs.Codewords.{p_of-same, q_of-same}
-use Rattle.parity72.proofs.Errors.{error, error-none, plain, weighted, p-errors, q-errors, plain-one, plain-two, weighted-one, weighted-two, two-solved, one-solved, p-solved, xor-undone, xor-undone_right}
+use Rattle.parity72.proofs.Corrections.{added-here, added-other}
+use Rattle.parity72.proofs.Errors.{error, error-none, plain, weighted, p-errors, q-errors, plain-one, plain-two, weighted-one, weighted-two, undoes, xor-undone, xor-undone_right}
 
 -- ---- numbers that are not lost
 not-one : (a i k : ℕ) → k < 1 → get_or (a ∷ []) k i ≡ i → i ≢ a → ⊥
@@ -75,150 +77,173 @@ restores-parities old new done =
           ];
     }
 
--- ---- two shards that are corrected
--- what a correction has to know at byte k: the error of the second shard, and that P's syndrome is the two errors
-pub record IsSolved (first second by_p by_q : ℕ) (old whole : List (List ℕ)) (k : ℕ) : Type 0 where
-  pub error_is : error_of by_p by_q old k ≡ bit_xor (byte_of old second k) (byte_of whole second k)
-  pub syndrome_is : p_syndrome old k ≡ bit_xor (bit_xor (byte_of old first k) (byte_of whole first k)) (bit_xor (byte_of old second k) (byte_of whole second k))
-
-restores-corrected : (first second by_p by_q : ℕ) (lost left : List ℕ) (old new : List (List ℕ)) → first < 9 → second < 9
-    → Corrects first second by_p by_q old new 0 4096
-    → ((whole : List (List ℕ)) → IsCodeword whole → AgreesOutside lost old whole → (k : ℕ) → k < 4096 → IsSolved first second by_p by_q old whole k)
-    → ((i : ℕ) → i ≢ first → i ≢ second → ¬ Contains left i → ¬ Contains lost i)
+-- ---- shards whose columns are fixed
+-- each column of a codeword, and of the shards that agree with it, is fixed to that of the codeword
+restores-fixed : (fix : (ℕ → ℕ) → ℕ → ℕ) (lost left : List ℕ) (old new : List (List ℕ)) → length old ≡ 9 → Fixes fix old new 0 4096
+    → ((whole : List (List ℕ)) → IsCodeword whole → AgreesOutside lost old whole → (k : ℕ) → k < 4096 → (i : ℕ) → i < 9 → ¬ Contains left i
+        → fix (column_of old k) i ≡ byte_of whole i k)
     → Restores lost left old new
-restores-corrected first second by_p by_q lost left old new lf ls done solved within =
+restores-fixed fix lost left old new nine done right =
     record {
       same_count = done.same_count;
-      agrees = λ whole code outside.
-          let sizes : (i : ℕ) → i < 9 → length (shard_of new i) ≡ 4096 = λ i lt. done.same_sizes i ∙ done.was_read.sizes i lt (omega arith) in
-          λ i lt not_left. elim (cases_eq i first) [
-            inl e ↦ ap (shard_of new) e
-                ∙ same-shard new whole first (sizes first lf) (code.sizes first lf)
-                    (λ k small.
-                      let is = solved whole code outside k small in
-                      let ef = bit_xor (byte_of old first k) (byte_of whole first k) in
-                      let es = bit_xor (byte_of old second k) (byte_of whole second k) in
-                      done.at_first k (omega arith) small
-                      ∙ ap (λ x. bit_xor (byte_of old first k) (bit_xor x (error_of by_p by_q old k))) is.syndrome_is
-                      ∙ ap (λ x. bit_xor (byte_of old first k) (bit_xor (bit_xor ef es) x)) is.error_is
-                      ∙ ap (bit_xor (byte_of old first k)) (xor-undone_right ef es)
-                      ∙ xor-undone (byte_of old first k) (byte_of whole first k))
-                ∙ ap (shard_of whole) (sym e)
-          | inr nf ↦ elim (cases_eq i second) [
-              inl e ↦ ap (shard_of new) e
-                  ∙ same-shard new whole second (sizes second ls) (code.sizes second ls)
-                      (λ k small.
-                        let is = solved whole code outside k small in
-                        done.at_second k (omega arith) small
-                        ∙ ap (bit_xor (byte_of old second k)) is.error_is
-                        ∙ xor-undone (byte_of old second k) (byte_of whole second k))
-                  ∙ ap (shard_of whole) (sym e)
-            | inr ns ↦ done.others i nf ns ∙ outside i lt (within i nf ns not_left)
-            ]
-          ];
+      agrees = λ whole code outside i lt not_left.
+          same-shard new whole i (done.same_sizes i ∙ done.was_read.sizes i (omega arith) (omega arith)) (code.sizes i lt)
+            (λ k small. done.fixed i k (omega arith) small ∙ right whole code outside k small i lt not_left);
     }
 
--- P's syndrome where of the data shards only a is wrong
-one-syndrome : (old whole : List (List ℕ)) (k a : ℕ) → a < 7 → byte_of whole 7 k ≡ p_of whole k → ((i : ℕ) → i < 7 → i ≢ a → byte_of old i k ≡ byte_of whole i k)
-    → p_syndrome old k ≡ bit_xor (bit_xor (byte_of old 7 k) (byte_of whole 7 k)) (bit_xor (byte_of old a k) (byte_of whole a k))
-one-syndrome old whole k a lt p_is same =
-    let o : ℕ → ℕ = λ i. byte_of old i k in
-    let w : ℕ → ℕ = λ i. byte_of whole i k in
-    p-errors o w p_is
-    ∙ ap (λ x. bit_xor x (error o w 7)) (plain-one (error o w) a lt (λ i small ne. error-none o w i (same i small ne)))
-    ∙ xor_comm (error o w a) (error o w 7)
+-- a column o, and the column w of a codeword
+by-p : (a : ℕ) (o w : ℕ → ℕ) → a < 7 → w 7 ≡ plain w → ((i : ℕ) → i < 8 → i ≢ a → o i ≡ w i) → with_p_syndrome a o a ≡ w a
+by-p a o w lt p_is same =
+    let seven : 7 ≢ a = omega arith in
+    added-here a (p_syndrome o) o a refl
+    ∙ ap (bit_xor (o a))
+        (p-errors o w p_is
+         ∙ ap (λ x. bit_xor x (error o w 7)) (plain-one (error o w) a lt (λ i small ne. error-none o w i (same i (omega arith) ne)))
+         ∙ ap (bit_xor (error o w a)) (error-none o w 7 (same 7 (omega arith) seven))
+         ∙ xor_zero_r (error o w a))
+    ∙ xor-undone (o a) (w a)
 
--- a data shard and P, by Q
-pub restores-data-and-p : (a by_q : ℕ) (old new : List (List ℕ)) → a < 7 → by_q < 256 → times by_q (power_of_two a) ≡ 1 → Corrects 7 a 0 by_q old new 0 4096 → Restores (a ∷ 7 ∷ []) [] old new
-restores-data-and-p a by_q old new lt lq q_is done =
-    restores-corrected 7 a 0 by_q (a ∷ 7 ∷ []) [] old new (omega arith) (omega arith) done
-      (λ whole code outside k small.
+restores-by-p : (a : ℕ) (lost left : List ℕ) (old new : List (List ℕ)) → length old ≡ 9 → a < 7 → Fixes (with_p_syndrome a) old new 0 4096
+    → ((i : ℕ) → i < 8 → i ≢ a → ¬ Contains lost i) → ((i : ℕ) → i ≢ a → ¬ Contains left i → ¬ Contains lost i) → Restores lost left old new
+restores-by-p a lost left old new nine lt done known within =
+    restores-fixed (with_p_syndrome a) lost left old new nine done
+      (λ whole code outside k small i li not_left.
         let o : ℕ → ℕ = λ i. byte_of old i k in
         let w : ℕ → ℕ = λ i. byte_of whole i k in
-        let e = error o w in
-        let same : (i : ℕ) → i < 9 → i ≢ a → i ≢ 7 → byte_of old i k ≡ byte_of whole i k = λ i l na np. ap (λ s. get_or s k 0) (outside i l (not-in_two a 7 i na np)) in
-        let same_data : (i : ℕ) → i < 7 → i ≢ a → byte_of old i k ≡ byte_of whole i k = λ i l na. let np : i ≢ 7 = omega arith in same i (omega arith) na np in
-        let fits : e a < 256 = xor_lt 8 (o a) (w a) (done.was_read.bytes a k (omega arith) (omega arith) small) (code.bytes a k (omega arith) small) in
-        let qa : 8 ≢ a = omega arith in
-        let qp : 8 ≢ 7 = omega arith in
-        let q_wrong : q_syndrome old k ≡ times (power_of_two a) (e a) =
-            q-errors o w (code.q k small)
-            ∙ ap (λ x. bit_xor x (e 8)) (weighted-one e a lt (λ i l ne. error-none o w i (same_data i l ne)))
-            ∙ ap (bit_xor (times (power_of_two a) (e a))) (error-none o w 8 (same 8 (omega arith) qa qp))
-            ∙ xor_zero_r (times (power_of_two a) (e a)) in
-        record {
-          error_is = ap (λ x. bit_xor (times 0 (p_syndrome old k)) (times by_q x)) q_wrong ∙ one-solved (power_of_two a) by_q (p_syndrome old k) (e a) (power-fits a) lq fits q_is;
-          syndrome_is = one-syndrome old whole k a lt (code.p k small) same_data;
-        })
-      (λ i np na not_left. not-in_two a 7 i na np)
+        elim (cases_eq i a) [
+          inl e ↦ ap (with_p_syndrome a o) e
+              ∙ by-p a o w lt (code.p k small) (λ i l ne. ap (λ s. get_or s k 0) (outside i (omega arith) (known i l ne)))
+              ∙ ap w (sym e)
+        | inr ne ↦ added-other a (p_syndrome o) o i ne ∙ ap (λ s. get_or s k 0) (outside i li (within i ne not_left))
+        ])
 
--- a data shard by P, whatever Q is
-by-p : (a : ℕ) (lost left : List ℕ) (old new : List (List ℕ)) → a < 7 → Corrects 7 a 1 0 old new 0 4096
-    → ((i : ℕ) → i < 8 → i ≢ a → ¬ Contains lost i) → ((i : ℕ) → i ≢ 7 → i ≢ a → ¬ Contains left i → ¬ Contains lost i) → Restores lost left old new
-by-p a lost left old new lt done known within =
-    restores-corrected 7 a 1 0 lost left old new (omega arith) (omega arith) done
-      (λ whole code outside k small.
-        let o : ℕ → ℕ = λ i. byte_of old i k in
-        let w : ℕ → ℕ = λ i. byte_of whole i k in
-        let e = error o w in
-        let same : (i : ℕ) → i < 8 → i ≢ a → byte_of old i k ≡ byte_of whole i k = λ i l na. ap (λ s. get_or s k 0) (outside i (omega arith) (known i l na)) in
-        let fits : e a < 256 = xor_lt 8 (o a) (w a) (done.was_read.bytes a k (omega arith) (omega arith) small) (code.bytes a k (omega arith) small) in
-        let pa : 7 ≢ a = omega arith in
-        let syndrome : p_syndrome old k ≡ bit_xor (e 7) (e a) = one-syndrome old whole k a lt (code.p k small) (λ i l ne. same i (omega arith) ne) in
-        let alone : p_syndrome old k ≡ e a = syndrome ∙ ap (λ x. bit_xor x (e a)) (error-none o w 7 (same 7 (omega arith) pa)) ∙ xor_zero_l (e a) in
-        record {
-          error_is = ap (λ x. bit_xor (times 1 x) (times 0 (q_syndrome old k))) alone ∙ p-solved (e a) (q_syndrome old k) fits;
-          syndrome_is = syndrome;
-        })
-      within
+pub restores-data : (a : ℕ) (old new : List (List ℕ)) → length old ≡ 9 → a < 7 → Fixes (with_p_syndrome a) old new 0 4096 → Restores (a ∷ []) [] old new
+restores-data a old new nine lt done =
+    restores-by-p a (a ∷ []) [] old new nine lt done (λ i l na. not-in_one a i na) (λ i na not_left. not-in_one a i na)
 
-pub restores-data : (a : ℕ) (old new : List (List ℕ)) → a < 7 → Corrects 7 a 1 0 old new 0 4096 → Restores (a ∷ []) [] old new
-restores-data a old new lt done =
-    by-p a (a ∷ []) [] old new lt done (λ i l na. not-in_one a i na) (λ i np na not_left. not-in_one a i na)
-
-pub restores-data-beside-q : (a : ℕ) (old new : List (List ℕ)) → a < 7 → Corrects 7 a 1 0 old new 0 4096 → Restores (a ∷ 8 ∷ []) (8 ∷ []) old new
-restores-data-beside-q a old new lt done =
-    by-p a (a ∷ 8 ∷ []) (8 ∷ []) old new lt done
+pub restores-data-beside-q : (a : ℕ) (old new : List (List ℕ)) → length old ≡ 9 → a < 7 → Fixes (with_p_syndrome a) old new 0 4096 → Restores (a ∷ 8 ∷ []) (8 ∷ []) old new
+restores-data-beside-q a old new nine lt done =
+    restores-by-p a (a ∷ 8 ∷ []) (8 ∷ []) old new nine lt done
       (λ i l na. let nq : i ≢ 8 = omega arith in not-in_two a 8 i na nq)
-      (λ i np na not_left. let nq : i ≢ 8 = λ e. not_left (subst (Contains (8 ∷ [])) (sym e) (in_first 8 [])) in not-in_two a 8 i na nq)
+      (λ i na not_left. let nq : i ≢ 8 = λ e. not_left (subst (Contains (8 ∷ [])) (sym e) (in_first 8 [])) in not-in_two a 8 i na nq)
+
+-- with P's syndrome added to byte a, both bytes are wrong by the error of b
+first-wrong : (a b : ℕ) (o w : ℕ → ℕ) → p_syndrome o ≡ bit_xor (error o w a) (error o w b) → error (with_p_syndrome a o) w a ≡ error o w b
+first-wrong a b o w p_is =
+    ap (λ x. bit_xor x (w a)) (added-here a (p_syndrome o) o a refl ∙ ap (bit_xor (o a)) p_is
+      ∙ sym (xor_assoc (o a) (error o w a) (error o w b)) ∙ ap (λ x. bit_xor x (error o w b)) (xor-undone (o a) (w a)))
+    ∙ xor_comm (bit_xor (w a) (error o w b)) (w a)
+    ∙ xor-undone (w a) (error o w b)
+
+second-wrong : (a b : ℕ) (o w : ℕ → ℕ) → b ≢ a → error (with_p_syndrome a o) w b ≡ error o w b
+second-wrong a b o w ne = ap (λ x. bit_xor x (w b)) (added-other a (p_syndrome o) o b ne)
+
+none-wrong : (a i : ℕ) (o w : ℕ → ℕ) → i ≢ a → o i ≡ w i → error (with_p_syndrome a o) w i ≡ 0
+none-wrong a i o w ne e = error-none (with_p_syndrome a o) w i (added-other a (p_syndrome o) o i ne ∙ e)
+
+-- where Q's syndrome is then d times that error, its product with 1 / d is added to both
+both-fixed : (a b factor d : ℕ) (o w : ℕ → ℕ) → a ≢ b → factor < 256 → d < 256 → error o w b < 256 → times factor d ≡ 1
+    → p_syndrome o ≡ bit_xor (error o w a) (error o w b) → q_syndrome (with_p_syndrome a o) ≡ times d (error o w b)
+    → ((i : ℕ) → i < 9 → i ≢ a → i ≢ b → o i ≡ w i) → (i : ℕ) → i < 9 → with_both a b factor o i ≡ w i
+both-fixed a b factor d o w ne lf ld le is p_is q_is same i lt =
+    let mid = with_p_syndrome a o in
+    let x = times factor (q_syndrome mid) in
+    let e = error o w b in
+    let x_is : x ≡ e = ap (times factor) q_is ∙ undoes factor d e lf ld le is in
+    let back : b ≢ a = λ h. ne (sym h) in
+    elim (cases_eq i a) [
+      inl h ↦
+        added-here a x (with_added b x mid) i h
+        ∙ ap (λ y. bit_xor y x) (added-other b x mid a ne)
+        ∙ ap (bit_xor (mid a)) x_is
+        ∙ ap (bit_xor (mid a)) (sym (first-wrong a b o w p_is))
+        ∙ xor-undone (mid a) (w a)
+        ∙ ap w (sym h)
+    | inr na ↦ elim (cases_eq i b) [
+        inl h ↦
+          added-other a x (with_added b x mid) i na
+          ∙ added-here b x mid i h
+          ∙ ap (bit_xor (mid b)) x_is
+          ∙ ap (bit_xor (mid b)) (sym (second-wrong a b o w back))
+          ∙ xor-undone (mid b) (w b)
+          ∙ ap w (sym h)
+      | inr nb ↦ added-other a x (with_added b x mid) i na ∙ added-other b x mid i nb ∙ added-other a (p_syndrome o) o i na ∙ same i lt na nb
+      ]
+    ]
 
 -- two data shards
-pub restores-two-data : (a b by_p by_q : ℕ) (old new : List (List ℕ)) → a < 7 → b < 7 → a ≢ b → by_p < 256 → by_q < 256
-    → times by_p (bit_xor (power_of_two a) (power_of_two b)) ≡ power_of_two a → times by_q (bit_xor (power_of_two a) (power_of_two b)) ≡ 1
-    → Corrects a b by_p by_q old new 0 4096 → Restores (a ∷ b ∷ []) [] old new
-restores-two-data a b by_p by_q old new la lb ne lp lq p_is q_is done =
-    restores-corrected a b by_p by_q (a ∷ b ∷ []) [] old new (omega arith) (omega arith) done
-      (λ whole code outside k small.
-        let o : ℕ → ℕ = λ i. byte_of old i k in
-        let w : ℕ → ℕ = λ i. byte_of whole i k in
-        let e = error o w in
-        let pa = power_of_two a in
-        let pb = power_of_two b in
-        let same : (i : ℕ) → i < 9 → i ≢ a → i ≢ b → byte_of old i k ≡ byte_of whole i k = λ i l na nb. ap (λ s. get_or s k 0) (outside i l (not-in_two a b i na nb)) in
-        let none : (i : ℕ) → i < 7 → i ≢ a → i ≢ b → e i ≡ 0 = λ i l na nb. error-none o w i (same i (omega arith) na nb) in
-        let fits : (i : ℕ) → i < 9 → e i < 256 = λ i l. xor_lt 8 (o i) (w i) (done.was_read.bytes i k l (omega arith) small) (code.bytes i k l small) in
-        let n7a : 7 ≢ a = omega arith in
-        let n7b : 7 ≢ b = omega arith in
-        let n8a : 8 ≢ a = omega arith in
-        let n8b : 8 ≢ b = omega arith in
-        let p_wrong : p_syndrome old k ≡ bit_xor (e a) (e b) =
-            p-errors o w (code.p k small)
-            ∙ ap (λ x. bit_xor x (e 7)) (plain-two e a b la lb ne none)
-            ∙ ap (bit_xor (bit_xor (e a) (e b))) (error-none o w 7 (same 7 (omega arith) n7a n7b))
-            ∙ xor_zero_r (bit_xor (e a) (e b)) in
-        let q_wrong : q_syndrome old k ≡ bit_xor (times pa (e a)) (times pb (e b)) =
-            q-errors o w (code.q k small)
-            ∙ ap (λ x. bit_xor x (e 8)) (weighted-two e a b la lb ne none)
-            ∙ ap (bit_xor (bit_xor (times pa (e a)) (times pb (e b)))) (error-none o w 8 (same 8 (omega arith) n8a n8b))
-            ∙ xor_zero_r (bit_xor (times pa (e a)) (times pb (e b))) in
-        record {
-          error_is =
-              ap (λ x. bit_xor (times by_p x) (times by_q (q_syndrome old k))) p_wrong
-              ∙ ap (λ x. bit_xor (times by_p (bit_xor (e a) (e b))) (times by_q x)) q_wrong
-              ∙ two-solved pa pb by_p by_q (e a) (e b) (power-fits a) (power-fits b) lp lq (fits a (omega arith)) (fits b (omega arith)) p_is q_is;
-          syndrome_is = p_wrong;
-        })
-      (λ i na nb not_left. not-in_two a b i na nb)
+two-data-fixed : (a b factor : ℕ) (o w : ℕ → ℕ) → a < 7 → b < 7 → a ≢ b → factor < 256 → times factor (bit_xor (power_of_two a) (power_of_two b)) ≡ 1
+    → ((i : ℕ) → i < 7 → o i < 256) → ((i : ℕ) → i < 9 → w i < 256) → w 7 ≡ plain w → w 8 ≡ weighted w
+    → ((i : ℕ) → i < 9 → i ≢ a → i ≢ b → o i ≡ w i) → (i : ℕ) → i < 9 → with_both a b factor o i ≡ w i
+two-data-fixed a b factor o w la lb ne lf is fo fw p_code q_code same =
+    let pa = power_of_two a in
+    let pb = power_of_two b in
+    let e = error o w b in
+    let mid = with_p_syndrome a o in
+    let fits : e < 256 = xor_lt 8 (o b) (w b) (fo b lb) (fw b (omega arith)) in
+    let n7a : 7 ≢ a = omega arith in
+    let n7b : 7 ≢ b = omega arith in
+    let n8a : 8 ≢ a = omega arith in
+    let n8b : 8 ≢ b = omega arith in
+    let back : b ≢ a = λ h. ne (sym h) in
+    let p_is : p_syndrome o ≡ bit_xor (error o w a) e =
+        p-errors o w p_code
+        ∙ ap (λ x. bit_xor x (error o w 7)) (plain-two (error o w) a b la lb ne (λ i l na nb. error-none o w i (same i (omega arith) na nb)))
+        ∙ ap (bit_xor (bit_xor (error o w a) e)) (error-none o w 7 (same 7 (omega arith) n7a n7b))
+        ∙ xor_zero_r (bit_xor (error o w a) e) in
+    let q_is : q_syndrome mid ≡ times (bit_xor pa pb) e =
+        q-errors mid w q_code
+        ∙ ap (λ x. bit_xor x (error mid w 8)) (weighted-two (error mid w) a b la lb ne (λ i l na nb. none-wrong a i o w na (same i (omega arith) na nb)))
+        ∙ ap (bit_xor (bit_xor (times pa (error mid w a)) (times pb (error mid w b)))) (none-wrong a 8 o w n8a (same 8 (omega arith) n8a n8b))
+        ∙ xor_zero_r (bit_xor (times pa (error mid w a)) (times pb (error mid w b)))
+        ∙ ap (λ x. bit_xor (times pa x) (times pb (error mid w b))) (first-wrong a b o w p_is)
+        ∙ ap (λ x. bit_xor (times pa e) (times pb x)) (second-wrong a b o w back)
+        ∙ sym (times-xor_left pa pb e (power-fits a) (power-fits b)) in
+    both-fixed a b factor (bit_xor pa pb) o w ne lf (xor_lt 8 pa pb (power-fits a) (power-fits b)) fits is p_is q_is same
+
+pub restores-two-data : (a b factor : ℕ) (old new : List (List ℕ)) → length old ≡ 9 → a < 7 → b < 7 → a ≢ b → factor < 256
+    → times factor (bit_xor (power_of_two a) (power_of_two b)) ≡ 1 → Fixes (with_both a b factor) old new 0 4096 → Restores (a ∷ b ∷ []) [] old new
+restores-two-data a b factor old new nine la lb ne lf is done =
+    restores-fixed (with_both a b factor) (a ∷ b ∷ []) [] old new nine done
+      (λ whole code outside k small i li _.
+        two-data-fixed a b factor (λ i. byte_of old i k) (λ i. byte_of whole i k) la lb ne lf is
+          (λ i l. done.was_read.bytes i k l (omega arith) small) (λ i l. code.bytes i k l small) (code.p k small) (code.q k small)
+          (λ i l na nb. ap (λ s. get_or s k 0) (outside i l (not-in_two a b i na nb))) i li)
+
+-- a data shard and P
+data-and-p-fixed : (b factor : ℕ) (o w : ℕ → ℕ) → b < 7 → factor < 256 → times factor (power_of_two b) ≡ 1
+    → ((i : ℕ) → i < 7 → o i < 256) → ((i : ℕ) → i < 9 → w i < 256) → w 7 ≡ plain w → w 8 ≡ weighted w
+    → ((i : ℕ) → i < 9 → i ≢ 7 → i ≢ b → o i ≡ w i) → (i : ℕ) → i < 9 → with_both 7 b factor o i ≡ w i
+data-and-p-fixed b factor o w lb lf is fo fw p_code q_code same =
+    let pb = power_of_two b in
+    let e = error o w b in
+    let mid = with_p_syndrome 7 o in
+    let fits : e < 256 = xor_lt 8 (o b) (w b) (fo b lb) (fw b (omega arith)) in
+    let ne : 7 ≢ b = omega arith in
+    let back : b ≢ 7 = omega arith in
+    let n87 : ◌≢◌ {A = ℕ} 8 7 = omega arith in
+    let n8b : 8 ≢ b = omega arith in
+    let data_same : (i : ℕ) → i < 7 → i ≢ b → o i ≡ w i = λ i l nb. let n7 : i ≢ 7 = omega arith in same i (omega arith) n7 nb in
+    let p_is : p_syndrome o ≡ bit_xor (error o w 7) e =
+        p-errors o w p_code
+        ∙ ap (λ x. bit_xor x (error o w 7)) (plain-one (error o w) b lb (λ i l nb. error-none o w i (data_same i l nb)))
+        ∙ xor_comm e (error o w 7) in
+    let q_is : q_syndrome mid ≡ times pb e =
+        q-errors mid w q_code
+        ∙ ap (λ x. bit_xor x (error mid w 8)) (weighted-one (error mid w) b lb (λ i l nb. let n7 : i ≢ 7 = omega arith in none-wrong 7 i o w n7 (data_same i l nb)))
+        ∙ ap (bit_xor (times pb (error mid w b))) (none-wrong 7 8 o w n87 (same 8 (omega arith) n87 n8b))
+        ∙ xor_zero_r (times pb (error mid w b))
+        ∙ ap (times pb) (second-wrong 7 b o w back) in
+    both-fixed 7 b factor pb o w ne lf (power-fits b) fits is p_is q_is same
+
+pub restores-data-and-p : (b factor : ℕ) (old new : List (List ℕ)) → length old ≡ 9 → b < 7 → factor < 256 → times factor (power_of_two b) ≡ 1
+    → Fixes (with_both 7 b factor) old new 0 4096 → Restores (b ∷ 7 ∷ []) [] old new
+restores-data-and-p b factor old new nine lb lf is done =
+    restores-fixed (with_both 7 b factor) (b ∷ 7 ∷ []) [] old new nine done
+      (λ whole code outside k small i li _.
+        data-and-p-fixed b factor (λ i. byte_of old i k) (λ i. byte_of whole i k) lb lf is
+          (λ i l. done.was_read.bytes i k l (omega arith) small) (λ i l. code.bytes i k l small) (code.p k small) (code.q k small)
+          (λ i l n7 nb. ap (λ s. get_or s k 0) (outside i l (not-in_two b 7 i nb n7))) i li)
 
 -- ---- the whole
 pub restored-whole : (lost : List ℕ) (old new : List (List ℕ)) → length old ≡ 9 → Restores lost [] old new

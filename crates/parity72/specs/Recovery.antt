@@ -1,8 +1,8 @@
 -- What it is to recover lost shards.
-use Rattle.std.specs.Prelude.{◌≡◌, ◌≢◌, ◌⊎◌, ℕ, ◌<◌, ◌≤◌, List, bit_xor, length}
+use Rattle.std.specs.Prelude.{◌==◌, if◌then◌else◌, ◌≡◌, ◌≢◌, ◌⊎◌, ℕ, ◌<◌, ◌≤◌, List, bit_xor, length}
 use Rattle.std.specs.List.{Contains}
-use Rattle.gf256.specs.Field.{times}
-use Rattle.parity72.specs.Parity.{shard_of, byte_of, p_of, q_of, IsCodeword, IsRead}
+use Rattle.gf256.specs.Field.{power_of_two, times}
+use Rattle.parity72.specs.Parity.{shard_of, byte_of, sum_below, p_of, q_of, IsCodeword, IsRead}
 
 -- the shards are those of `whole` at each number but the lost ones
 abbrev pub AgreesOutside : List ℕ → List (List ℕ) → List (List ℕ) → Type 0
@@ -13,26 +13,40 @@ pub record Restores (lost left : List ℕ) (old new : List (List ℕ)) : Type 0 
   pub same_count : length new ≡ length old
   pub agrees : (whole : List (List ℕ)) → IsCodeword whole → AgreesOutside lost old whole → AgreesOutside left new whole
 
--- how far P is from the P of the data shards, at byte k
-abbrev pub p_syndrome : List (List ℕ) → ℕ → ℕ
-p_syndrome shards k = bit_xor (p_of shards k) (byte_of shards 7 k)
+-- the bytes at k, one of each shard
+abbrev pub column_of : List (List ℕ) → ℕ → ℕ → ℕ
+column_of shards k = λ i. byte_of shards i k
 
--- how far Q is from the Q of the data shards, at byte k
-abbrev pub q_syndrome : List (List ℕ) → ℕ → ℕ
-q_syndrome shards k = bit_xor (q_of shards k) (byte_of shards 8 k)
+-- what P of a column is wrong by, where the data bytes are right: the sum of the data bytes and P
+abbrev pub p_syndrome : (ℕ → ℕ) → ℕ
+p_syndrome column = bit_xor (sum_below column 7) (column 7)
 
--- the sum of the syndromes at byte k, that of P times `by_p` and that of Q times `by_q`
-abbrev pub error_of : ℕ → ℕ → List (List ℕ) → ℕ → ℕ
-error_of by_p by_q shards k = bit_xor (times by_p (p_syndrome shards k)) (times by_q (q_syndrome shards k))
+-- what Q of a column is wrong by, where the data bytes are right
+abbrev pub q_syndrome : (ℕ → ℕ) → ℕ
+q_syndrome column = bit_xor (sum_below (λ i. times (power_of_two i) (column i)) 7) (column 8)
 
--- from byte `from` up to `to`, the error is added to shard `second`, and P's syndrome and the error to shard `first`
-pub record Corrects (first second by_p by_q : ℕ) (old new : List (List ℕ)) (from to : ℕ) : Type 0 where
-  pub was_read : IsRead 9 old from to
-  pub at_first : (k : ℕ) → from ≤ k → k < to
-      → byte_of new first k ≡ bit_xor (byte_of old first k) (bit_xor (p_syndrome old k) (error_of by_p by_q old k))
-  pub at_second : (k : ℕ) → from ≤ k → k < to → byte_of new second k ≡ bit_xor (byte_of old second k) (error_of by_p by_q old k)
+-- x added to byte a of a column
+abbrev pub with_added : ℕ → ℕ → (ℕ → ℕ) → ℕ → ℕ
+with_added a x column i = if i == a then bit_xor (column i) x else column i
+
+-- P's syndrome added to byte a
+abbrev pub with_p_syndrome : ℕ → (ℕ → ℕ) → ℕ → ℕ
+with_p_syndrome a column = with_added a (p_syndrome column) column
+
+-- Q's syndrome, times a factor, added to bytes a and b
+abbrev pub with_q_syndrome : ℕ → ℕ → ℕ → (ℕ → ℕ) → ℕ → ℕ
+with_q_syndrome a b factor column =
+    with_added a (times factor (q_syndrome column)) (with_added b (times factor (q_syndrome column)) column)
+
+-- both, one after the other
+abbrev pub with_both : ℕ → ℕ → ℕ → (ℕ → ℕ) → ℕ → ℕ
+with_both a b factor column = with_q_syndrome a b factor (with_p_syndrome a column)
+
+-- each column from byte `from` up to `to` is what `fix` makes of it, and the others are what they were
+pub record Fixes (fix : (ℕ → ℕ) → ℕ → ℕ) (old new : List (List ℕ)) (from to : ℕ) : Type 0 where
+  pub was_read : IsRead 7 old from to
+  pub fixed : (i k : ℕ) → from ≤ k → k < to → byte_of new i k ≡ fix (column_of old k) i
   pub outside : (i k : ℕ) → (k < from) ⊎ (to ≤ k) → byte_of new i k ≡ byte_of old i k
-  pub others : (i : ℕ) → i ≢ first → i ≢ second → shard_of new i ≡ shard_of old i
   pub same_count : length new ≡ length old
   pub same_sizes : (i : ℕ) → length (shard_of new i) ≡ length (shard_of old i)
 

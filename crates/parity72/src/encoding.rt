@@ -4,7 +4,7 @@ ghost use Rattle.std.specs.Prelude.{◌≡◌, ℕ, ◌<◌, ◌++◌, ◌∷◌
 ghost use Rattle.parity72.specs.Parity.{p_of, q_of, IsCodeword};
 ghost use Rattle.parity72.specs.Recovery.{Encodes};
 
-use crate::columns::parities_at;
+use crate::columns::{p_at, q_at};
 use gf256::put_lanes;
 
 /// Writes P and Q of seven data shards of 4096 bytes, in one pass over them. H. P. Anvin, "The mathematics of RAID-6".
@@ -13,9 +13,10 @@ pub fn encode(shards: &[[u8; 4096]; 7], p: &mut [u8; 4096], q: &mut [u8; 4096])
 {
     for block in 0..128usize {
         let at = block * 32;
-        let (sum, weighted) = parities_at(shards, at);
-        put_lanes(sum, p, at);
-        put_lanes(weighted, q, at);
+        let p_lanes = p_at(shards, at);
+        let q_lanes = q_at(shards, at);
+        put_lanes(p_lanes, p, at);
+        put_lanes(q_lanes, q, at);
     }
 }
 
@@ -25,8 +26,9 @@ pub fn encode_again(shards: &mut [[u8; 4096]; 9])
 {
     for block in 0..128usize {
         let at = block * 32;
-        let (sum, weighted) = parities_at(shards, at);
-        put_lanes(sum, &mut shards[7], at);
-        put_lanes(weighted, &mut shards[8], at);
+        let p_lanes = p_at(shards, at);
+        let q_lanes = q_at(shards, at);
+        put_lanes(p_lanes, &mut shards[7], at);
+        put_lanes(q_lanes, &mut shards[8], at);
     }
 }

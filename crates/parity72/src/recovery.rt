@@ -1,28 +1,14 @@
 // Lost shards, by the syndromes of what is there.
 
 ghost use Rattle.std.specs.Prelude.{◌≡◌, ◌≢◌, ℕ, ◌+◌, ◌<◌, ◌≤◌, ◌∷◌, [], List, bit_xor, All, AllPairs, length, slice_index};
-ghost use Rattle.parity72.specs.Parity.{IsRead, byte_of, shard_of, p_of, q_of, IsCodeword};
-ghost use Rattle.parity72.specs.Recovery.{AgreesOutside, Corrects, Restores, p_syndrome, q_syndrome, error_of};
+ghost use Rattle.parity72.specs.Parity.{IsCodeword};
+ghost use Rattle.parity72.specs.Recovery.{AgreesOutside, Fixes, Restores, with_both, with_p_syndrome, with_q_syndrome};
 
-use crate::columns::parities_at;
+use crate::columns::{p_at, q_at};
 use crate::encoding::encode_again;
 use arrayvec::ArrayVec;
 use gf256::{Products, add_lanes, div, lanes_at, power_of_two, put_lanes};
 use std::simd::prelude::*;
-
-// The syndromes of P and Q at the 32 bytes from `at` on.
-#[inline(always)]
-fn syndromes_at(shards: &[[u8; 4096]; 9], at: usize) -> (u8x32, u8x32)
-    requires { at + 32 ≤ 4096 }
-    ensures was_read { IsRead 9 shards.now at (at + 32) }
-    ensures p { (k : ℕ) → k < 32 → slice_index result.0 k ≡ p_syndrome shards.now (at + k) }
-    ensures q { (k : ℕ) → k < 32 → slice_index result.1 k ≡ q_syndrome shards.now (at + k) }
-{
-    let (p, q) = parities_at(shards, at);
-    let p_syndrome = add_lanes(p, lanes_at(&shards[7], at));
-    let q_syndrome = add_lanes(q, lanes_at(&shards[8], at));
-    (p_syndrome, q_syndrome)
-}
 
 // Adds `lanes` to the 32 bytes of `shard` from `at` on.
 #[inline(always)]
@@ -37,66 +23,96 @@ fn add_at(lanes: u8x32, shard: &mut [u8], at: usize)
     put_lanes(sum, shard, at);
 }
 
-// Corrects the 32 bytes of two shards from `at` on.
+// Adds P's syndrome to the 32 bytes of shard `a` from `at` on.
 #[inline(always)]
-fn correct_block(shards: &mut [[u8; 4096]; 9], first: usize, second: usize, by_p: &Products, by_q: &Products, at: usize)
+fn add_p_syndrome(shards: &mut [[u8; 4096]; 9], a: usize, at: usize)
     requires room { at + 32 ≤ 4096 }
-    requires first_in { first < 9 }
-    requires second_in { second < 9 }
-    requires apart { first ≢ second }
-    ensures { Corrects first second by_p.now.factor by_q.now.factor shards.old shards.new at (at + 32) }
+    requires a_in { a < 9 }
+    ensures { Fixes (with_p_syndrome a) shards.old shards.new at (at + 32) }
 {
-    let (p_syndrome, q_syndrome) = syndromes_at(shards, at);
-    let error = add_lanes(by_p.times_lanes(p_syndrome), by_q.times_lanes(q_syndrome));
-    add_at(error, &mut shards[second], at);
-    add_at(add_lanes(p_syndrome, error), &mut shards[first], at);
+    let syndrome = add_lanes(p_at(shards, at), lanes_at(&shards[7], at));
+    add_at(syndrome, &mut shards[a], at);
 }
 
-// Corrects two shards, in one pass over the nine.
-fn correct(shards: &mut [[u8; 4096]; 9], first: usize, second: usize, by_p: u8, by_q: u8)
-    requires first_in { first < 9 }
-    requires second_in { second < 9 }
-    requires apart { first ≢ second }
-    ensures { Corrects first second by_p by_q shards.old shards.new 0 4096 }
+// Adds Q's syndrome, times the factor of `products`, to the 32 bytes of shards `a` and `b` from `at` on.
+#[inline(always)]
+fn add_q_syndrome(shards: &mut [[u8; 4096]; 9], a: usize, b: usize, products: &Products, at: usize)
+    requires room { at + 32 ≤ 4096 }
+    requires a_in { a < 9 }
+    requires b_in { b < 9 }
+    requires apart { a ≢ b }
+    ensures { Fixes (with_q_syndrome a b products.now.factor) shards.old shards.new at (at + 32) }
 {
-    let p_products = Products::of(by_p);
-    let q_products = Products::of(by_q);
+    let syndrome = add_lanes(q_at(shards, at), lanes_at(&shards[8], at));
+    let error = products.times_lanes(syndrome);
+    add_at(error, &mut shards[b], at);
+    add_at(error, &mut shards[a], at);
+}
+
+// Adds P's syndrome, and then Q's times the factor, at the 32 bytes from `at` on.
+#[inline(always)]
+fn correct_block(shards: &mut [[u8; 4096]; 9], a: usize, b: usize, products: &Products, at: usize)
+    requires room { at + 32 ≤ 4096 }
+    requires a_in { a < 9 }
+    requires b_in { b < 9 }
+    requires apart { a ≢ b }
+    ensures { Fixes (with_both a b products.now.factor) shards.old shards.new at (at + 32) }
+{
+    add_p_syndrome(shards, a, at);
+    add_q_syndrome(shards, a, b, products, at);
+}
+
+// Corrects shards `a` and `b` by P and Q, in one pass over the nine.
+fn correct(shards: &mut [[u8; 4096]; 9], a: usize, b: usize, factor: u8)
+    requires a_in { a < 9 }
+    requires b_in { b < 9 }
+    requires apart { a ≢ b }
+    ensures { Fixes (with_both a b factor) shards.old shards.new 0 4096 }
+{
+    let products = Products::of(factor);
     for block in 0..128usize {
-        correct_block(shards, first, second, &p_products, &q_products, block * 32);
+        correct_block(shards, a, b, &products, block * 32);
     }
 }
 
-// Two data shards: with P' and Q' the syndromes, the second is wrong by (2^first P' + Q') / (2^first + 2^second), and the first
-// by P' and that.
+// Corrects shard `a` by P, in one pass over eight.
+fn correct_by_p(shards: &mut [[u8; 4096]; 9], a: usize)
+    requires { a < 9 }
+    ensures { Fixes (with_p_syndrome a) shards.old shards.new 0 4096 }
+{
+    for block in 0..128usize {
+        add_p_syndrome(shards, a, block * 32);
+    }
+}
+
+// Two data shards. P's syndrome is the sum of the errors, so that when it is added to the first, both are wrong by the error of the
+// second; and Q's syndrome is then 2^first + 2^second times that.
 fn recover_two_data(shards: &mut [[u8; 4096]; 9], first: u8, second: u8)
     requires first_in { first < 7 }
     requires second_in { second < 7 }
     requires apart { first ≢ second }
     ensures { Restores (first ∷ second ∷ []) [] shards.old shards.new }
 {
-    let power = power_of_two(first);
-    let sum = power ^ power_of_two(second);
-    let by_p = div(power, sum);
-    let by_q = div(1, sum);
-    correct(shards, first as usize, second as usize, by_p, by_q);
+    let factor = div(1, power_of_two(first) ^ power_of_two(second));
+    correct(shards, first as usize, second as usize, factor);
 }
 
-// A data shard and P: the data shard is wrong by Q' / 2^i, and P by P' and that.
+// A data shard and P. With P's syndrome added to P, both are wrong by the error of the data shard, and Q's syndrome is 2^i times that.
 fn recover_data_and_p(shards: &mut [[u8; 4096]; 9], i: u8)
     requires { i < 7 }
     ensures { Restores (i ∷ 7 ∷ []) [] shards.old shards.new }
 {
-    let by_q = div(1, power_of_two(i));
-    correct(shards, 7, i as usize, 0, by_q);
+    let factor = div(1, power_of_two(i));
+    correct(shards, 7, i as usize, factor);
 }
 
-// A data shard, whatever Q holds: it is wrong by P', which leaves nothing of P' to P.
+// A data shard by P, whatever Q holds.
 fn recover_data(shards: &mut [[u8; 4096]; 9], i: u8)
     requires { i < 7 }
     ensures alone { Restores (i ∷ []) [] shards.old shards.new }
     ensures beside_q { Restores (i ∷ 8 ∷ []) (8 ∷ []) shards.old shards.new }
 {
-    correct(shards, 7, i as usize, 1, 0);
+    correct_by_p(shards, i as usize);
 }
 
 // P and Q.

@@ -1,27 +1,22 @@
-use Rattle.std.proofs.Common.{◌≡◌, suc, ◌+◌, ◌-◌, ap, sym, ◌∙◌, refl, arith}
-use Rattle.gf256.specs.Field.{times}
-use Rattle.gf256.proofs.Laws.{squares_times, squares_times-suc, squares_times-zero, inverse-times}
+use Rattle.std.proofs.Common.{◌≡◌, ◌<◌, ◌||◌, ℕ, Bool, true, eqb, get_or, refl, arith}
+use Rattle.std.proofs.lemmas.Bool.Decides.{nat_tests}
+use Rattle.gf256.specs.Field.{times, times_bits}
+use Rattle.gf256.specs.declared.bytes.TheConstants.{INVERSES}
+use Rattle.gf256.proofs.Checks.{all_below, all_below-at}
 use Rattle.gf256.proofs.bytes.inverse.Goals as goal
 
-pub loop-k-init : goal.loop-k-init
-loop-k-init c = refl
+unfoldable inverts : ℕ → Bool
+inverts b = eqb b 0 || eqb (times (get_or INVERSES b 0) b) 1
 
-pub loop-k-preserved : goal.loop-k-preserved
-loop-k-preserved c =
-    let k = c.loop-k._k in
-    let product = c.loop-k.product in
-    let square = c.loop-k.square in
-    let left = 7 - (k + 1) in
-    let next : 7 - k ≡ suc left = omega arith in
-    c.loop-k.invariant
-    ∙ ap (λ n. squares_times n product square) next
-    ∙ squares_times-suc left product square
-    ∙ ap (λ t. squares_times left (times product t) t) (sym c.mul-square.ensures)
-    ∙ ap (λ t. squares_times left t c.mul-square.result) (sym c.mul-product.ensures)
+inverts-all : all_below inverts 256 ≡ true
+unfolding inverts times times_bits
+inverts-all = refl
+
+inverse-times : (b : ℕ) → 0 < b → b < 256 → times (get_or INVERSES b 0) b ≡ 1
+unfolding inverts
+inverse-times b pos lt =
+    let h = all_below-at inverts 256 inverts-all b lt in
+    grind (arith, nat_tests)
 
 pub returns : goal.returns
-returns c =
-    let done : 7 - c.loop-k._k ≡ 0 = omega arith in
-    let is : squares_times 7 1 c.args.b ≡ c.loop-k.product =
-    c.loop-k.invariant ∙ ap (λ n. squares_times n c.loop-k.product c.loop-k.square) done ∙ squares_times-zero c.loop-k.product c.loop-k.square in
-    ap (λ t. times t c.args.b) (sym is) ∙ inverse-times c.args.b (omega arith) (omega arith)
+returns c = inverse-times c.args.b c.requires (omega arith)

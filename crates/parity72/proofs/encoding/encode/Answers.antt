@@ -13,16 +13,15 @@ loop-block-preserved c =
     let shards = c.args.shards.now in
     let m = c.loop-block.block in
     let kept = c.loop-block.invariant in
-    let read = c.parities_at.ensures in
     let end : m * 32 + 32 ≡ (m + 1) * 32 = omega arith in
     record {
-      was_read = subst (IsRead 7 shards 0) end (IsRead-more 7 shards (m * 32) (m * 32 + 32) kept.was_read read.was_read (omega arith));
+      was_read = subst (IsRead 7 shards 0) end (IsRead-more 7 shards (m * 32) (m * 32 + 32) kept.was_read c.p_at-p_lanes.ensures.was_read (omega arith));
       p_long = c.put_lanes.auto.into ∙ kept.p_long;
       q_long = c.put_lanes-in-loop-block.auto.into ∙ kept.q_long;
       p = λ k lt. below_block (λ k. get_or c.put_lanes.new.into k 0 ≡ p_of shards k) (m * 32) 32
-          (λ k lt. c.put_lanes.ensures.below k lt ∙ kept.p k lt) (λ k lt. c.put_lanes.ensures.here k lt ∙ read.p k lt) k (next k m lt);
+          (λ k lt. c.put_lanes.ensures.below k lt ∙ kept.p k lt) (λ k lt. c.put_lanes.ensures.here k lt ∙ c.p_at-p_lanes.ensures.sum k lt) k (next k m lt);
       q = λ k lt. below_block (λ k. get_or c.put_lanes-in-loop-block.new.into k 0 ≡ q_of shards k) (m * 32) 32
-          (λ k lt. c.put_lanes-in-loop-block.ensures.below k lt ∙ kept.q k lt) (λ k lt. c.put_lanes-in-loop-block.ensures.here k lt ∙ read.q k lt) k (next k m lt);
+          (λ k lt. c.put_lanes-in-loop-block.ensures.below k lt ∙ kept.q k lt) (λ k lt. c.put_lanes-in-loop-block.ensures.here k lt ∙ c.q_at-q_lanes.ensures.sum k lt) k (next k m lt);
     }
 
 pub returns : goal.returns

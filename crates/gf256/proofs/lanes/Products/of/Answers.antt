@@ -2,25 +2,23 @@ use Rattle.std.proofs.Common.{◌≡◌, ℕ, ◌*◌, ◌%◌, ◌^◌, ◌<◌
 use lib.Lanes.{zip2}
 use borrow.Author.Tests.{eqb-true}
 use Rattle.gf256.specs.Field.{times}
+use Rattle.gf256.specs.declared.lanes.TheConstants.{DIGITS}
 use Rattle.gf256.proofs.Checks.{all_below, all_below-at}
 use Rattle.gf256.proofs.Laws.{times-comm}
 use Rattle.gf256.proofs.lanes.Products.of.Goals as goal
 
--- the constant, and what its shift by four gives
-abbrev digits : List ℕ
-digits = 0 ∷ 1 ∷ 2 ∷ 3 ∷ 4 ∷ 5 ∷ 6 ∷ 7 ∷ 8 ∷ 9 ∷ 10 ∷ 11 ∷ 12 ∷ 13 ∷ 14 ∷ 15 ∷ 0 ∷ 1 ∷ 2 ∷ 3 ∷ 4 ∷ 5 ∷ 6 ∷ 7 ∷ 8 ∷ 9 ∷ 10 ∷ 11 ∷ 12 ∷ 13 ∷ 14 ∷ 15 ∷ []
-
+-- what the shift of the digits by four gives
 abbrev shifted : List ℕ
-shifted = zip2 (λ a b. a * 2 ^ b % 256) digits (replicate 32 4)
+shifted = zip2 (λ a b. a * 2 ^ b % 256) DIGITS (replicate 32 4)
 
-digits-all : all_below (λ j. eqb (get_or digits j 0) (j % 16)) 32 ≡ true
+digits-all : all_below (λ j. eqb (get_or DIGITS j 0) (j % 16)) 32 ≡ true
 digits-all = refl
 
 shifted-all : all_below (λ j. eqb (get_or shifted j 0) (j % 16 * 16)) 32 ≡ true
 shifted-all = refl
 
-digits-at : (j : ℕ) → j < 32 → get_or digits j 0 ≡ j % 16
-digits-at j lt = eqb-true (get_or digits j 0) (j % 16) (all_below-at (λ j. eqb (get_or digits j 0) (j % 16)) 32 digits-all j lt)
+digits-at : (j : ℕ) → j < 32 → get_or DIGITS j 0 ≡ j % 16
+digits-at j lt = eqb-true (get_or DIGITS j 0) (j % 16) (all_below-at (λ j. eqb (get_or DIGITS j 0) (j % 16)) 32 digits-all j lt)
 
 shifted-at : (j : ℕ) → j < 32 → get_or shifted j 0 ≡ j % 16 * 16
 shifted-at j lt = eqb-true (get_or shifted j 0) (j % 16 * 16) (all_below-at (λ j. eqb (get_or shifted j 0) (j % 16 * 16)) 32 shifted-all j lt)
