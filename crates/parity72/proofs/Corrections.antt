@@ -112,18 +112,6 @@ fixes-more fix old now new mid to le done more =
       same_sizes = λ i. more.same_sizes i ∙ done.same_sizes i;
     }
 
--- the same bytes, fixed twice
-pub fixes-twice : (fix again : (ℕ → ℕ) → ℕ → ℕ) (old now new : List (List ℕ)) (from to : ℕ) → Fixes fix old now from to → Fixes again now new from to
-    → Fixes (λ column. again (fix column)) old new from to
-fixes-twice fix again old now new from to first second =
-    record {
-      was_read = first.was_read;
-      fixed = λ i k le lt. second.fixed i k le lt ∙ ap (λ column. again column i) (fun_ext (λ j. first.fixed j k le lt));
-      outside = λ i k out. second.outside i k out ∙ first.outside i k out;
-      same_count = second.same_count ∙ first.same_count;
-      same_sizes = λ i. second.same_sizes i ∙ first.same_sizes i;
-    }
-
 -- ---- P and Q written anew, block by block
 pub encodes-none : (old : List (List ℕ)) → Encodes old old 0
 encodes-none old =

@@ -62,7 +62,42 @@ pub weighted-two : (d : ℕ → ℕ) (a b : ℕ) → a < 7 → b < 7 → a ≢ b
     → weighted d ≡ bit_xor (times (power_of_two a) (d a)) (times (power_of_two b) (d b))
 weighted-two d a b la lb ne h = sum-two 7 (λ i. times (power_of_two i) (d i)) a b la lb ne (λ i small na nb. term-none d i (h i small na nb))
 
--- ---- the factor
--- with `factor` 1 / d, the factor undoes d
-pub undoes : (factor d x : ℕ) → factor < 256 → d < 256 → x < 256 → times factor d ≡ 1 → times factor (times d x) ≡ x
-undoes factor d x lf ld lx is = sym (times-assoc factor d x lf ld lx) ∙ ap (λ t. times t x) is ∙ one-times x lx
+-- ---- the solutions
+-- (p + q) + (p + (r + q)) = r
+cancels : (p q r : ℕ) → bit_xor (bit_xor p q) (bit_xor p (bit_xor r q)) ≡ r
+cancels p q r =
+    four p q p (bit_xor r q)
+    ∙ ap (λ t. bit_xor t (bit_xor q (bit_xor r q))) (xor_self p)
+    ∙ xor_zero_l (bit_xor q (bit_xor r q))
+    ∙ ap (bit_xor q) (xor_comm r q) ∙ xor-undone q r
+
+-- by_p is a / (a + b) and by_q is 1 / (a + b)
+pub two-solved : (a b by_p by_q x y : ℕ) → a < 256 → b < 256 → by_p < 256 → by_q < 256 → x < 256 → y < 256
+    → times by_p (bit_xor a b) ≡ a → times by_q (bit_xor a b) ≡ 1
+    → bit_xor (times by_p (bit_xor x y)) (times by_q (bit_xor (times a x) (times b y))) ≡ y
+two-solved a b by_p by_q x y la lb lp lq lx ly p_is q_is =
+    let sum = bit_xor a b in
+    let ls : sum < 256 = xor_lt 8 a b la lb in
+    let qa : times by_q a ≡ by_p = times-comm by_q a lq la ∙ sym (quotient-only by_p a by_q sum lp lq ls q_is p_is) in
+    let qb : times by_q b ≡ bit_xor 1 by_p =
+        sym (xor-undone (times by_q a) (times by_q b))
+        ∙ ap (bit_xor (times by_q a)) (sym (times-xor_right by_q a b) ∙ q_is)
+        ∙ xor_comm (times by_q a) 1 ∙ ap (bit_xor 1) qa in
+    let one_more : times (bit_xor 1 by_p) y ≡ bit_xor y (times by_p y) =
+        times-comm (bit_xor 1 by_p) y (xor_lt 8 1 by_p (omega arith) lp) ly
+        ∙ times-xor_right y 1 by_p
+        ∙ ap (λ t. bit_xor t (times y by_p)) (times-comm y 1 ly (omega arith) ∙ one-times y ly)
+        ∙ ap (bit_xor y) (times-comm y by_p ly lp) in
+    ap (λ t. bit_xor t (times by_q (bit_xor (times a x) (times b y)))) (times-xor_right by_p x y)
+    ∙ ap (bit_xor (bit_xor (times by_p x) (times by_p y)))
+        (times-xor_right by_q (times a x) (times b y)
+         ∙ ap (λ t. bit_xor t (times by_q (times b y))) (sym (times-assoc by_q a x lq la lx) ∙ ap (λ t. times t x) qa)
+         ∙ ap (bit_xor (times by_p x)) (sym (times-assoc by_q b y lq lb ly) ∙ ap (λ t. times t y) qb ∙ one_more))
+    ∙ cancels (times by_p x) (times by_p y) y
+
+-- by_q is 1 / a
+pub one-solved : (a by_q s x : ℕ) → a < 256 → by_q < 256 → x < 256 → times by_q a ≡ 1 → bit_xor (times 0 s) (times by_q (times a x)) ≡ x
+one-solved a by_q s x la lq lx q_is =
+    ap (λ t. bit_xor t (times by_q (times a x))) (zero-times s)
+    ∙ xor_zero_l (times by_q (times a x))
+    ∙ sym (times-assoc by_q a x lq la lx) ∙ ap (λ t. times t x) q_is ∙ one-times x lx

@@ -7,12 +7,12 @@ use Rattle.std.proofs.lemmas.List.{ext_get_or}
 use lib.Bits.{xor_lt, xor_zero_l, xor_zero_r, xor_comm, xor_assoc}
 use Rattle.gf256.specs.Field.{times, power_of_two}
 use Rattle.parity72.specs.Parity.{byte_of, shard_of, p_of, q_of, IsCodeword}
-use Rattle.parity72.specs.Recovery.{AgreesOutside, Encodes, Fixes, Restores, column_of, p_syndrome, q_syndrome, with_added, with_both, with_p_syndrome}
+use Rattle.parity72.specs.Recovery.{AgreesOutside, Encodes, Fixes, Restores, column_of, error_of, p_syndrome, q_syndrome, with_added, with_errors, with_p_syndrome}
 use Rattle.gf256.proofs.Linear.{times-xor_left}
 use Rattle.parity72.proofs.Sums.{power-fits}
 use Rattle.parity72.proofs.Codewords.{p_of-same, q_of-same}
 use Rattle.parity72.proofs.Corrections.{added-here, added-other}
-use Rattle.parity72.proofs.Errors.{error, error-none, plain, weighted, p-errors, q-errors, plain-one, plain-two, weighted-one, weighted-two, undoes, xor-undone, xor-undone_right}
+use Rattle.parity72.proofs.Errors.{error, error-none, plain, weighted, p-errors, q-errors, plain-one, plain-two, weighted-one, weighted-two, two-solved, one-solved, xor-undone, xor-undone_right}
 
 -- ---- numbers that are not lost
 not-one : (a i k : ℕ) → k < 1 → get_or (a ∷ []) k i ≡ i → i ≢ a → ⊥
@@ -127,121 +127,96 @@ restores-data-beside-q a old new nine lt done =
       (λ i l na. let nq : i ≢ 8 = omega arith in not-in_two a 8 i na nq)
       (λ i na not_left. let nq : i ≢ 8 = λ e. not_left (subst (Contains (8 ∷ [])) (sym e) (in_first 8 [])) in not-in_two a 8 i na nq)
 
--- with P's syndrome added to byte a, both bytes are wrong by the error of b
-first-wrong : (a b : ℕ) (o w : ℕ → ℕ) → p_syndrome o ≡ bit_xor (error o w a) (error o w b) → error (with_p_syndrome a o) w a ≡ error o w b
-first-wrong a b o w p_is =
-    ap (λ x. bit_xor x (w a)) (added-here a (p_syndrome o) o a refl ∙ ap (bit_xor (o a)) p_is
-      ∙ sym (xor_assoc (o a) (error o w a) (error o w b)) ∙ ap (λ x. bit_xor x (error o w b)) (xor-undone (o a) (w a)))
-    ∙ xor_comm (bit_xor (w a) (error o w b)) (w a)
-    ∙ xor-undone (w a) (error o w b)
-
-second-wrong : (a b : ℕ) (o w : ℕ → ℕ) → b ≢ a → error (with_p_syndrome a o) w b ≡ error o w b
-second-wrong a b o w ne = ap (λ x. bit_xor x (w b)) (added-other a (p_syndrome o) o b ne)
-
-none-wrong : (a i : ℕ) (o w : ℕ → ℕ) → i ≢ a → o i ≡ w i → error (with_p_syndrome a o) w i ≡ 0
-none-wrong a i o w ne e = error-none (with_p_syndrome a o) w i (added-other a (p_syndrome o) o i ne ∙ e)
-
--- where Q's syndrome is then d times that error, its product with 1 / d is added to both
-both-fixed : (a b factor d : ℕ) (o w : ℕ → ℕ) → a ≢ b → factor < 256 → d < 256 → error o w b < 256 → times factor d ≡ 1
-    → p_syndrome o ≡ bit_xor (error o w a) (error o w b) → q_syndrome (with_p_syndrome a o) ≡ times d (error o w b)
-    → ((i : ℕ) → i < 9 → i ≢ a → i ≢ b → o i ≡ w i) → (i : ℕ) → i < 9 → with_both a b factor o i ≡ w i
-both-fixed a b factor d o w ne lf ld le is p_is q_is same i lt =
-    let mid = with_p_syndrome a o in
-    let x = times factor (q_syndrome mid) in
-    let e = error o w b in
-    let x_is : x ≡ e = ap (times factor) q_is ∙ undoes factor d e lf ld le is in
-    let back : b ≢ a = λ h. ne (sym h) in
+-- where P's syndrome is the two errors, and the error that is solved for is that of b
+both-fixed : (a b by_p by_q : ℕ) (o w : ℕ → ℕ) → a ≢ b → p_syndrome o ≡ bit_xor (error o w a) (error o w b) → error_of by_p by_q o ≡ error o w b
+    → ((i : ℕ) → i < 9 → i ≢ a → i ≢ b → o i ≡ w i) → (i : ℕ) → i < 9 → with_errors a b by_p by_q o i ≡ w i
+both-fixed a b by_p by_q o w ne p_is error_is same i lt =
+    let x = error_of by_p by_q o in
+    let y = bit_xor (p_syndrome o) x in
+    let y_is : y ≡ error o w a = ap (λ t. bit_xor t x) p_is ∙ ap (bit_xor (bit_xor (error o w a) (error o w b))) error_is ∙ xor-undone_right (error o w a) (error o w b) in
     elim (cases_eq i a) [
       inl h ↦
-        added-here a x (with_added b x mid) i h
-        ∙ ap (λ y. bit_xor y x) (added-other b x mid a ne)
-        ∙ ap (bit_xor (mid a)) x_is
-        ∙ ap (bit_xor (mid a)) (sym (first-wrong a b o w p_is))
-        ∙ xor-undone (mid a) (w a)
-        ∙ ap w (sym h)
+        added-here a y (with_added b x o) i h
+        ∙ ap (λ t. bit_xor t y) (added-other b x o a ne)
+        ∙ ap (bit_xor (o a)) y_is ∙ xor-undone (o a) (w a) ∙ ap w (sym h)
     | inr na ↦ elim (cases_eq i b) [
         inl h ↦
-          added-other a x (with_added b x mid) i na
-          ∙ added-here b x mid i h
-          ∙ ap (bit_xor (mid b)) x_is
-          ∙ ap (bit_xor (mid b)) (sym (second-wrong a b o w back))
-          ∙ xor-undone (mid b) (w b)
-          ∙ ap w (sym h)
-      | inr nb ↦ added-other a x (with_added b x mid) i na ∙ added-other b x mid i nb ∙ added-other a (p_syndrome o) o i na ∙ same i lt na nb
+          added-other a y (with_added b x o) i na
+          ∙ added-here b x o i h
+          ∙ ap (bit_xor (o b)) error_is ∙ xor-undone (o b) (w b) ∙ ap w (sym h)
+      | inr nb ↦ added-other a y (with_added b x o) i na ∙ added-other b x o i nb ∙ same i lt na nb
       ]
     ]
 
 -- two data shards
-two-data-fixed : (a b factor : ℕ) (o w : ℕ → ℕ) → a < 7 → b < 7 → a ≢ b → factor < 256 → times factor (bit_xor (power_of_two a) (power_of_two b)) ≡ 1
+two-data-fixed : (a b by_p by_q : ℕ) (o w : ℕ → ℕ) → a < 7 → b < 7 → a ≢ b → by_p < 256 → by_q < 256
+    → times by_p (bit_xor (power_of_two a) (power_of_two b)) ≡ power_of_two a → times by_q (bit_xor (power_of_two a) (power_of_two b)) ≡ 1
     → ((i : ℕ) → i < 7 → o i < 256) → ((i : ℕ) → i < 9 → w i < 256) → w 7 ≡ plain w → w 8 ≡ weighted w
-    → ((i : ℕ) → i < 9 → i ≢ a → i ≢ b → o i ≡ w i) → (i : ℕ) → i < 9 → with_both a b factor o i ≡ w i
-two-data-fixed a b factor o w la lb ne lf is fo fw p_code q_code same =
+    → ((i : ℕ) → i < 9 → i ≢ a → i ≢ b → o i ≡ w i) → (i : ℕ) → i < 9 → with_errors a b by_p by_q o i ≡ w i
+two-data-fixed a b by_p by_q o w la lb ne lp lq p_factor q_factor fo fw p_code q_code same =
     let pa = power_of_two a in
     let pb = power_of_two b in
-    let e = error o w b in
-    let mid = with_p_syndrome a o in
-    let fits : e < 256 = xor_lt 8 (o b) (w b) (fo b lb) (fw b (omega arith)) in
+    let e = error o w in
+    let fits : (i : ℕ) → i < 7 → e i < 256 = λ i l. xor_lt 8 (o i) (w i) (fo i l) (fw i (omega arith)) in
+    let none : (i : ℕ) → i < 7 → i ≢ a → i ≢ b → e i ≡ 0 = λ i l na nb. error-none o w i (same i (omega arith) na nb) in
     let n7a : 7 ≢ a = omega arith in
     let n7b : 7 ≢ b = omega arith in
     let n8a : 8 ≢ a = omega arith in
     let n8b : 8 ≢ b = omega arith in
-    let back : b ≢ a = λ h. ne (sym h) in
-    let p_is : p_syndrome o ≡ bit_xor (error o w a) e =
+    let p_is : p_syndrome o ≡ bit_xor (e a) (e b) =
         p-errors o w p_code
-        ∙ ap (λ x. bit_xor x (error o w 7)) (plain-two (error o w) a b la lb ne (λ i l na nb. error-none o w i (same i (omega arith) na nb)))
-        ∙ ap (bit_xor (bit_xor (error o w a) e)) (error-none o w 7 (same 7 (omega arith) n7a n7b))
-        ∙ xor_zero_r (bit_xor (error o w a) e) in
-    let q_is : q_syndrome mid ≡ times (bit_xor pa pb) e =
-        q-errors mid w q_code
-        ∙ ap (λ x. bit_xor x (error mid w 8)) (weighted-two (error mid w) a b la lb ne (λ i l na nb. none-wrong a i o w na (same i (omega arith) na nb)))
-        ∙ ap (bit_xor (bit_xor (times pa (error mid w a)) (times pb (error mid w b)))) (none-wrong a 8 o w n8a (same 8 (omega arith) n8a n8b))
-        ∙ xor_zero_r (bit_xor (times pa (error mid w a)) (times pb (error mid w b)))
-        ∙ ap (λ x. bit_xor (times pa x) (times pb (error mid w b))) (first-wrong a b o w p_is)
-        ∙ ap (λ x. bit_xor (times pa e) (times pb x)) (second-wrong a b o w back)
-        ∙ sym (times-xor_left pa pb e (power-fits a) (power-fits b)) in
-    both-fixed a b factor (bit_xor pa pb) o w ne lf (xor_lt 8 pa pb (power-fits a) (power-fits b)) fits is p_is q_is same
+        ∙ ap (λ x. bit_xor x (e 7)) (plain-two e a b la lb ne none)
+        ∙ ap (bit_xor (bit_xor (e a) (e b))) (error-none o w 7 (same 7 (omega arith) n7a n7b))
+        ∙ xor_zero_r (bit_xor (e a) (e b)) in
+    let q_is : q_syndrome o ≡ bit_xor (times pa (e a)) (times pb (e b)) =
+        q-errors o w q_code
+        ∙ ap (λ x. bit_xor x (e 8)) (weighted-two e a b la lb ne none)
+        ∙ ap (bit_xor (bit_xor (times pa (e a)) (times pb (e b)))) (error-none o w 8 (same 8 (omega arith) n8a n8b))
+        ∙ xor_zero_r (bit_xor (times pa (e a)) (times pb (e b))) in
+    both-fixed a b by_p by_q o w ne p_is
+      (ap (λ x. bit_xor (times by_p x) (times by_q (q_syndrome o))) p_is
+       ∙ ap (λ x. bit_xor (times by_p (bit_xor (e a) (e b))) (times by_q x)) q_is
+       ∙ two-solved pa pb by_p by_q (e a) (e b) (power-fits a) (power-fits b) lp lq (fits a la) (fits b lb) p_factor q_factor)
+      same
 
-pub restores-two-data : (a b factor : ℕ) (old new : List (List ℕ)) → length old ≡ 9 → a < 7 → b < 7 → a ≢ b → factor < 256
-    → times factor (bit_xor (power_of_two a) (power_of_two b)) ≡ 1 → Fixes (with_both a b factor) old new 0 4096 → Restores (a ∷ b ∷ []) [] old new
-restores-two-data a b factor old new nine la lb ne lf is done =
-    restores-fixed (with_both a b factor) (a ∷ b ∷ []) [] old new nine done
+pub restores-two-data : (a b by_p by_q : ℕ) (old new : List (List ℕ)) → length old ≡ 9 → a < 7 → b < 7 → a ≢ b → by_p < 256 → by_q < 256
+    → times by_p (bit_xor (power_of_two a) (power_of_two b)) ≡ power_of_two a → times by_q (bit_xor (power_of_two a) (power_of_two b)) ≡ 1
+    → Fixes (with_errors a b by_p by_q) old new 0 4096 → Restores (a ∷ b ∷ []) [] old new
+restores-two-data a b by_p by_q old new nine la lb ne lp lq p_factor q_factor done =
+    restores-fixed (with_errors a b by_p by_q) (a ∷ b ∷ []) [] old new nine done
       (λ whole code outside k small i li _.
-        two-data-fixed a b factor (λ i. byte_of old i k) (λ i. byte_of whole i k) la lb ne lf is
+        two-data-fixed a b by_p by_q (λ i. byte_of old i k) (λ i. byte_of whole i k) la lb ne lp lq p_factor q_factor
           (λ i l. done.was_read.bytes i k l (omega arith) small) (λ i l. code.bytes i k l small) (code.p k small) (code.q k small)
           (λ i l na nb. ap (λ s. get_or s k 0) (outside i l (not-in_two a b i na nb))) i li)
 
 -- a data shard and P
-data-and-p-fixed : (b factor : ℕ) (o w : ℕ → ℕ) → b < 7 → factor < 256 → times factor (power_of_two b) ≡ 1
+data-and-p-fixed : (b by_q : ℕ) (o w : ℕ → ℕ) → b < 7 → by_q < 256 → times by_q (power_of_two b) ≡ 1
     → ((i : ℕ) → i < 7 → o i < 256) → ((i : ℕ) → i < 9 → w i < 256) → w 7 ≡ plain w → w 8 ≡ weighted w
-    → ((i : ℕ) → i < 9 → i ≢ 7 → i ≢ b → o i ≡ w i) → (i : ℕ) → i < 9 → with_both 7 b factor o i ≡ w i
-data-and-p-fixed b factor o w lb lf is fo fw p_code q_code same =
+    → ((i : ℕ) → i < 9 → i ≢ 7 → i ≢ b → o i ≡ w i) → (i : ℕ) → i < 9 → with_errors 7 b 0 by_q o i ≡ w i
+data-and-p-fixed b by_q o w lb lq q_factor fo fw p_code q_code same =
     let pb = power_of_two b in
-    let e = error o w b in
-    let mid = with_p_syndrome 7 o in
-    let fits : e < 256 = xor_lt 8 (o b) (w b) (fo b lb) (fw b (omega arith)) in
+    let e = error o w in
+    let fits : e b < 256 = xor_lt 8 (o b) (w b) (fo b lb) (fw b (omega arith)) in
     let ne : 7 ≢ b = omega arith in
-    let back : b ≢ 7 = omega arith in
     let n87 : ◌≢◌ {A = ℕ} 8 7 = omega arith in
     let n8b : 8 ≢ b = omega arith in
-    let data_same : (i : ℕ) → i < 7 → i ≢ b → o i ≡ w i = λ i l nb. let n7 : i ≢ 7 = omega arith in same i (omega arith) n7 nb in
-    let p_is : p_syndrome o ≡ bit_xor (error o w 7) e =
-        p-errors o w p_code
-        ∙ ap (λ x. bit_xor x (error o w 7)) (plain-one (error o w) b lb (λ i l nb. error-none o w i (data_same i l nb)))
-        ∙ xor_comm e (error o w 7) in
-    let q_is : q_syndrome mid ≡ times pb e =
-        q-errors mid w q_code
-        ∙ ap (λ x. bit_xor x (error mid w 8)) (weighted-one (error mid w) b lb (λ i l nb. let n7 : i ≢ 7 = omega arith in none-wrong 7 i o w n7 (data_same i l nb)))
-        ∙ ap (bit_xor (times pb (error mid w b))) (none-wrong 7 8 o w n87 (same 8 (omega arith) n87 n8b))
-        ∙ xor_zero_r (times pb (error mid w b))
-        ∙ ap (times pb) (second-wrong 7 b o w back) in
-    both-fixed 7 b factor pb o w ne lf (power-fits b) fits is p_is q_is same
+    let none : (i : ℕ) → i < 7 → i ≢ b → e i ≡ 0 = λ i l nb. let n7 : i ≢ 7 = omega arith in error-none o w i (same i (omega arith) n7 nb) in
+    let p_is : p_syndrome o ≡ bit_xor (e 7) (e b) =
+        p-errors o w p_code ∙ ap (λ x. bit_xor x (e 7)) (plain-one e b lb none) ∙ xor_comm (e b) (e 7) in
+    let q_is : q_syndrome o ≡ times pb (e b) =
+        q-errors o w q_code
+        ∙ ap (λ x. bit_xor x (e 8)) (weighted-one e b lb none)
+        ∙ ap (bit_xor (times pb (e b))) (error-none o w 8 (same 8 (omega arith) n87 n8b))
+        ∙ xor_zero_r (times pb (e b)) in
+    both-fixed 7 b 0 by_q o w ne p_is
+      (ap (λ x. bit_xor (times 0 (p_syndrome o)) (times by_q x)) q_is ∙ one-solved pb by_q (p_syndrome o) (e b) (power-fits b) lq fits q_factor) same
 
-pub restores-data-and-p : (b factor : ℕ) (old new : List (List ℕ)) → length old ≡ 9 → b < 7 → factor < 256 → times factor (power_of_two b) ≡ 1
-    → Fixes (with_both 7 b factor) old new 0 4096 → Restores (b ∷ 7 ∷ []) [] old new
-restores-data-and-p b factor old new nine lb lf is done =
-    restores-fixed (with_both 7 b factor) (b ∷ 7 ∷ []) [] old new nine done
+pub restores-data-and-p : (b by_q : ℕ) (old new : List (List ℕ)) → length old ≡ 9 → b < 7 → by_q < 256 → times by_q (power_of_two b) ≡ 1
+    → Fixes (with_errors 7 b 0 by_q) old new 0 4096 → Restores (b ∷ 7 ∷ []) [] old new
+restores-data-and-p b by_q old new nine lb lq q_factor done =
+    restores-fixed (with_errors 7 b 0 by_q) (b ∷ 7 ∷ []) [] old new nine done
       (λ whole code outside k small i li _.
-        data-and-p-fixed b factor (λ i. byte_of old i k) (λ i. byte_of whole i k) lb lf is
+        data-and-p-fixed b by_q (λ i. byte_of old i k) (λ i. byte_of whole i k) lb lq q_factor
           (λ i l. done.was_read.bytes i k l (omega arith) small) (λ i l. code.bytes i k l small) (code.p k small) (code.q k small)
           (λ i l n7 nb. ap (λ s. get_or s k 0) (outside i l (not-in_two b 7 i nb n7))) i li)
 

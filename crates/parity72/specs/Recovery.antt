@@ -33,14 +33,14 @@ with_added a x column i = if i == a then bit_xor (column i) x else column i
 abbrev pub with_p_syndrome : ℕ → (ℕ → ℕ) → ℕ → ℕ
 with_p_syndrome a column = with_added a (p_syndrome column) column
 
--- Q's syndrome, times a factor, added to bytes a and b
-abbrev pub with_q_syndrome : ℕ → ℕ → ℕ → (ℕ → ℕ) → ℕ → ℕ
-with_q_syndrome a b factor column =
-    with_added a (times factor (q_syndrome column)) (with_added b (times factor (q_syndrome column)) column)
+-- the sum of P's syndrome times by_p and Q's times by_q
+abbrev pub error_of : ℕ → ℕ → (ℕ → ℕ) → ℕ
+error_of by_p by_q column = bit_xor (times by_p (p_syndrome column)) (times by_q (q_syndrome column))
 
--- both, one after the other
-abbrev pub with_both : ℕ → ℕ → ℕ → (ℕ → ℕ) → ℕ → ℕ
-with_both a b factor column = with_q_syndrome a b factor (with_p_syndrome a column)
+-- that error added to byte b, and P's syndrome and the error to byte a
+abbrev pub with_errors : ℕ → ℕ → ℕ → ℕ → (ℕ → ℕ) → ℕ → ℕ
+with_errors a b by_p by_q column =
+    with_added a (bit_xor (p_syndrome column) (error_of by_p by_q column)) (with_added b (error_of by_p by_q column) column)
 
 -- each column from byte `from` up to `to` is what `fix` makes of it, and the others are what they were
 pub record Fixes (fix : (ℕ → ℕ) → ℕ → ℕ) (old new : List (List ℕ)) (from to : ℕ) : Type 0 where

@@ -2,7 +2,7 @@
 
 ghost use Rattle.std.specs.Prelude.{◌≡◌, ◌≢◌, ℕ, ◌+◌, ◌<◌, ◌≤◌, ◌∷◌, [], List, bit_xor, All, AllPairs, length, slice_index};
 ghost use Rattle.parity72.specs.Parity.{IsCodeword};
-ghost use Rattle.parity72.specs.Recovery.{AgreesOutside, Fixes, Restores, with_both, with_p_syndrome, with_q_syndrome};
+ghost use Rattle.parity72.specs.Recovery.{AgreesOutside, Fixes, Restores, with_errors, with_p_syndrome};
 
 use crate::columns::{p_at, q_at};
 use crate::encoding::encode_again;
@@ -34,44 +34,33 @@ fn add_p_syndrome(shards: &mut [[u8; 4096]; 9], a: usize, at: usize)
     add_at(syndrome, &mut shards[a], at);
 }
 
-// Adds Q's syndrome, times the factor of `products`, to the 32 bytes of shards `a` and `b` from `at` on.
+// Adds to the 32 bytes of shard `b` from `at` on the sum of the syndromes times the factors, and to those of `a` that and P's syndrome.
 #[inline(always)]
-fn add_q_syndrome(shards: &mut [[u8; 4096]; 9], a: usize, b: usize, products: &Products, at: usize)
+fn correct_block(shards: &mut [[u8; 4096]; 9], a: usize, b: usize, by_p: &Products, by_q: &Products, at: usize)
     requires room { at + 32 ≤ 4096 }
     requires a_in { a < 9 }
     requires b_in { b < 9 }
     requires apart { a ≢ b }
-    ensures { Fixes (with_q_syndrome a b products.now.factor) shards.old shards.new at (at + 32) }
+    ensures { Fixes (with_errors a b by_p.now.factor by_q.now.factor) shards.old shards.new at (at + 32) }
 {
-    let syndrome = add_lanes(q_at(shards, at), lanes_at(&shards[8], at));
-    let error = products.times_lanes(syndrome);
+    let p_syndrome = add_lanes(p_at(shards, at), lanes_at(&shards[7], at));
+    let q_syndrome = add_lanes(q_at(shards, at), lanes_at(&shards[8], at));
+    let error = add_lanes(by_p.times_lanes(p_syndrome), by_q.times_lanes(q_syndrome));
     add_at(error, &mut shards[b], at);
-    add_at(error, &mut shards[a], at);
-}
-
-// Adds P's syndrome, and then Q's times the factor, at the 32 bytes from `at` on.
-#[inline(always)]
-fn correct_block(shards: &mut [[u8; 4096]; 9], a: usize, b: usize, products: &Products, at: usize)
-    requires room { at + 32 ≤ 4096 }
-    requires a_in { a < 9 }
-    requires b_in { b < 9 }
-    requires apart { a ≢ b }
-    ensures { Fixes (with_both a b products.now.factor) shards.old shards.new at (at + 32) }
-{
-    add_p_syndrome(shards, a, at);
-    add_q_syndrome(shards, a, b, products, at);
+    add_at(add_lanes(p_syndrome, error), &mut shards[a], at);
 }
 
 // Corrects shards `a` and `b` by P and Q, in one pass over the nine.
-fn correct(shards: &mut [[u8; 4096]; 9], a: usize, b: usize, factor: u8)
+fn correct(shards: &mut [[u8; 4096]; 9], a: usize, b: usize, by_p: u8, by_q: u8)
     requires a_in { a < 9 }
     requires b_in { b < 9 }
     requires apart { a ≢ b }
-    ensures { Fixes (with_both a b factor) shards.old shards.new 0 4096 }
+    ensures { Fixes (with_errors a b by_p by_q) shards.old shards.new 0 4096 }
 {
-    let products = Products::of(factor);
+    let p_products = Products::of(by_p);
+    let q_products = Products::of(by_q);
     for block in 0..128usize {
-        correct_block(shards, a, b, &products, block * 32);
+        correct_block(shards, a, b, &p_products, &q_products, block * 32);
     }
 }
 
@@ -85,25 +74,28 @@ fn correct_by_p(shards: &mut [[u8; 4096]; 9], a: usize)
     }
 }
 
-// Two data shards. P's syndrome is the sum of the errors, so that when it is added to the first, both are wrong by the error of the
-// second; and Q's syndrome is then 2^first + 2^second times that.
+// Two data shards: with P' and Q' the syndromes, the second is wrong by (2^first P' + Q') / (2^first + 2^second), and the first
+// by P' and that.
 fn recover_two_data(shards: &mut [[u8; 4096]; 9], first: u8, second: u8)
     requires first_in { first < 7 }
     requires second_in { second < 7 }
     requires apart { first ≢ second }
     ensures { Restores (first ∷ second ∷ []) [] shards.old shards.new }
 {
-    let factor = div(1, power_of_two(first) ^ power_of_two(second));
-    correct(shards, first as usize, second as usize, factor);
+    let power = power_of_two(first);
+    let sum = power ^ power_of_two(second);
+    let by_p = div(power, sum);
+    let by_q = div(1, sum);
+    correct(shards, first as usize, second as usize, by_p, by_q);
 }
 
-// A data shard and P. With P's syndrome added to P, both are wrong by the error of the data shard, and Q's syndrome is 2^i times that.
+// A data shard and P: the data shard is wrong by Q' / 2^i, and P by P' and that.
 fn recover_data_and_p(shards: &mut [[u8; 4096]; 9], i: u8)
     requires { i < 7 }
     ensures { Restores (i ∷ 7 ∷ []) [] shards.old shards.new }
 {
-    let factor = div(1, power_of_two(i));
-    correct(shards, 7, i as usize, factor);
+    let by_q = div(1, power_of_two(i));
+    correct(shards, 7, i as usize, 0, by_q);
 }
 
 // A data shard by P, whatever Q holds.
