@@ -1,5 +1,5 @@
 -- P and Q of shards that agree, and what it takes to be a codeword.
-use Rattle.std.proofs.Common.{◌≡◌, ℕ, ◌+◌, ◌-◌, ◌<◌, ◌≤◌, List, [], ◌∷◌, ◌++◌, length, get_or, ap, sym, ◌∙◌, arith, bit_xor, inl, inr, subst}
+use Rattle.std.proofs.Common.{◌≡◌, ℕ, ◌+◌, ◌<◌, List, [], ◌∷◌, ◌++◌, length, get_or, ap, sym, ◌∙◌, arith, inl, inr, subst}
 use Rattle.std.proofs.lemmas.Bool.{cases_lt}
 use Rattle.std.proofs.lemmas.List.{get_or_append_left, get_or-append_right, length-append}
 use Rattle.gf256.specs.Field.{power_of_two, times}
@@ -35,10 +35,10 @@ of_nine : (X : List ℕ → Type 0) (d : List (List ℕ)) (p q : List ℕ) → l
     → ((i : ℕ) → i < 7 → X (shard_of d i)) → X p → X q → (i : ℕ) → i < 9 → X (shard_of (d ++ p ∷ q ∷ []) i)
 of_nine X d p q seven data_is p_is q_is i lt =
     elim (cases_lt i 7) [
-      inl l ↦ subst X (sym (with_data d p q seven i l)) (data_is i l)
-    | inr r ↦ elim (cases_lt i 8) [
-        inl m ↦ let e : 7 ≡ i = omega arith in subst (λ j. X (shard_of (d ++ p ∷ q ∷ []) j)) e (subst X (sym (with_p d p q seven)) p_is)
-      | inr m ↦ let e : 8 ≡ i = omega arith in subst (λ j. X (shard_of (d ++ p ∷ q ∷ []) j)) e (subst X (sym (with_q d p q seven)) q_is)
+      | inl l ↦ subst X (sym (with_data d p q seven i l)) (data_is i l)
+      | inr r ↦ elim (cases_lt i 8) [
+        | inl m ↦ let e : 7 ≡ i = omega arith in subst (λ j. X (shard_of (d ++ p ∷ q ∷ []) j)) e (subst X (sym (with_p d p q seven)) p_is)
+        | inr m ↦ let e : 8 ≡ i = omega arith in subst (λ j. X (shard_of (d ++ p ∷ q ∷ []) j)) e (subst X (sym (with_q d p q seven)) q_is)
       ]
     ]
 

@@ -1,11 +1,10 @@
 -- Shards that are corrected or encoded again, block by block.
-use Rattle.std.proofs.Common.{◌≡◌, ◌≢◌, ◌⊎◌, ℕ, ◌+◌, ◌-◌, ◌<◌, ◌≤◌, List, [], ◌∷◌, length, get_or, refl, ap, sym, ◌∙◌, arith, bit_xor, inl, inr, subst, get_or-set_other, get_or-set_same}
+use Rattle.std.proofs.Common.{◌≡◌, ◌≢◌, ◌⊎◌, ℕ, ◌+◌, ◌-◌, ◌<◌, ◌≤◌, List, [], length, get_or, refl, ap, sym, ◌∙◌, arith, bit_xor, inl, inr, subst, get_or-set_other, get_or-set_same}
 use Rattle.std.proofs.Math.ListN.{set, length-set}
 use Rattle.std.proofs.lemmas.Bool.{cases_lt, cases_eq}
-use Rattle.gf256.specs.Field.{times}
 use mathlib.Core.Path.{fun_ext}
 use Rattle.std.proofs.lemmas.Bool.Decides.{nat_tests}
-use Rattle.parity72.specs.Parity.{byte_of, shard_of, p_of, q_of, IsRead}
+use Rattle.parity72.specs.Parity.{byte_of, shard_of, p_of, q_of}
 use Rattle.gf256.proofs.Progress.{below_block}
 use Rattle.parity72.specs.Recovery.{Encodes, Fixes, column_of, with_added}
 use Rattle.parity72.proofs.Codewords.{p_of-same, q_of-same}
@@ -54,24 +53,24 @@ pub fixes-one : (x : ℕ → ℕ) (old : List (List ℕ)) (a : ℕ) (s : List �
     → (i k : ℕ) → at ≤ k → k < at + n → byte_of (set old a s) i k ≡ with_added a (x k) (column_of old k) i
 fixes-one x old a s at n lt adds i k from to =
     elim (cases_eq i a) [
-      inl e ↦ ap (λ j. byte_of (set old a s) j k) e ∙ ap (λ t. get_or t k 0) (set-same old a s lt) ∙ adds.here k from to ∙ sym (added-here a (x k) (column_of old k) i e)
-    | inr ne ↦ ap (λ t. get_or t k 0) (set-other old a i s ne) ∙ sym (added-other a (x k) (column_of old k) i ne)
+      | inl e ↦ ap (λ j. byte_of (set old a s) j k) e ∙ ap (λ t. get_or t k 0) (set-same old a s lt) ∙ adds.here k from to ∙ sym (added-here a (x k) (column_of old k) i e)
+      | inr ne ↦ ap (λ t. get_or t k 0) (set-other old a i s ne) ∙ sym (added-other a (x k) (column_of old k) i ne)
     ]
 
 pub outside-one : (x : ℕ → ℕ) (old : List (List ℕ)) (a : ℕ) (s : List ℕ) (at n : ℕ) → a < length old → AddsAt x (shard_of old a) s at n
     → (i k : ℕ) → (k < at) ⊎ (at + n ≤ k) → byte_of (set old a s) i k ≡ byte_of old i k
 outside-one x old a s at n lt adds i k out =
     elim (cases_eq i a) [
-      inl e ↦ ap (λ j. byte_of (set old a s) j k) e ∙ ap (λ t. get_or t k 0) (set-same old a s lt) ∙ adds.outside k out ∙ ap (λ j. byte_of old j k) (sym e)
-    | inr ne ↦ ap (λ t. get_or t k 0) (set-other old a i s ne)
+      | inl e ↦ ap (λ j. byte_of (set old a s) j k) e ∙ ap (λ t. get_or t k 0) (set-same old a s lt) ∙ adds.outside k out ∙ ap (λ j. byte_of old j k) (sym e)
+      | inr ne ↦ ap (λ t. get_or t k 0) (set-other old a i s ne)
     ]
 
 pub sizes-one : (x : ℕ → ℕ) (old : List (List ℕ)) (a : ℕ) (s : List ℕ) (at n : ℕ) → a < length old → AddsAt x (shard_of old a) s at n
     → (i : ℕ) → length (shard_of (set old a s) i) ≡ length (shard_of old i)
 sizes-one x old a s at n lt adds i =
     elim (cases_eq i a) [
-      inl e ↦ ap (λ j. length (shard_of (set old a s) j)) e ∙ ap length (set-same old a s lt) ∙ adds.same_size ∙ ap (λ j. length (shard_of old j)) (sym e)
-    | inr ne ↦ ap length (set-other old a i s ne)
+      | inl e ↦ ap (λ j. length (shard_of (set old a s) j)) e ∙ ap length (set-same old a s lt) ∙ adds.same_size ∙ ap (λ j. length (shard_of old j)) (sym e)
+      | inr ne ↦ ap length (set-other old a i s ne)
     ]
 
 -- ---- shards whose columns are fixed
@@ -92,22 +91,22 @@ fixes-more fix old now new mid to le done more =
     record {
       was_read = record {
         sizes = λ i lt some. elim (cases_lt mid to) [
-            inl l ↦ sym (done.same_sizes i) ∙ more.was_read.sizes i (omega (arith, done.same_count)) l
+          | inl l ↦ sym (done.same_sizes i) ∙ more.was_read.sizes i (omega (arith, done.same_count)) l
           | inr r ↦ done.was_read.sizes i lt (omega arith)
-          ];
+        ];
         bytes = λ i k lt from upto. elim (cases_lt k mid) [
-            inl l ↦ done.was_read.bytes i k lt from l
+          | inl l ↦ done.was_read.bytes i k lt from l
           | inr r ↦ subst (λ x. x < 256) (same k r i) (more.was_read.bytes i k lt r upto)
-          ];
+        ];
       };
       fixed = λ i k from upto. elim (cases_lt k mid) [
-          inl l ↦ more.outside i k (inl l) ∙ done.fixed i k from l
+        | inl l ↦ more.outside i k (inl l) ∙ done.fixed i k from l
         | inr r ↦ more.fixed i k r upto ∙ ap (λ column. fix column i) (fun_ext (same k r))
-        ];
+      ];
       outside = λ i k out. elim out [
-          inl l ↦ absurd (omega arith)
+        | inl l ↦ absurd (omega arith)
         | inr r ↦ more.outside i k (inr r) ∙ done.outside i k (inr (omega arith))
-        ];
+      ];
       same_count = more.same_count ∙ done.same_count;
       same_sizes = λ i. more.same_sizes i ∙ done.same_sizes i;
     }
@@ -147,7 +146,7 @@ encodes-more old now s t at n nine done sizes p_puts q_puts =
     let was_q : shard_of mid 8 ≡ shard_of now 8 = set-other now 7 8 s eight in
     let others : (i : ℕ) → i ≢ 7 → i ≢ 8 → shard_of new i ≡ shard_of now i = λ i np nq. set-other mid 8 i t nq ∙ set-other now 7 i s np in
     let data_is : (k i : ℕ) → i < 7 → byte_of now i k ≡ byte_of old i k =
-        λ k i lt. let np : i ≢ 7 = omega arith in let nq : i ≢ 8 = omega arith in ap (λ x. get_or x k 0) (done.others i np nq) in
+    λ k i lt. let np : i ≢ 7 = omega arith in let nq : i ≢ 8 = omega arith in ap (λ x. get_or x k 0) (done.others i np nq) in
     record {
       was_read = λ i lt some. sym (done.same_sizes i) ∙ sizes i lt;
       p = below_block (λ k. byte_of new 7 k ≡ p_of old k) at n
@@ -159,10 +158,10 @@ encodes-more old now s t at n nine done sizes p_puts q_puts =
       others = λ i np nq. others i np nq ∙ done.others i np nq;
       same_count = length-set mid 8 t ∙ length-set now 7 s ∙ done.same_count;
       same_sizes = λ i. elim (cases_eq i 7) [
-          inl e ↦ ap (λ j. length (shard_of new j)) e ∙ ap length at_p ∙ p_puts.same_size ∙ done.same_sizes 7 ∙ ap (λ j. length (shard_of old j)) (sym e)
+        | inl e ↦ ap (λ j. length (shard_of new j)) e ∙ ap length at_p ∙ p_puts.same_size ∙ done.same_sizes 7 ∙ ap (λ j. length (shard_of old j)) (sym e)
         | inr np ↦ elim (cases_eq i 8) [
-            inl e ↦ ap (λ j. length (shard_of new j)) e ∙ ap length at_q ∙ q_puts.same_size ∙ ap length was_q ∙ done.same_sizes 8 ∙ ap (λ j. length (shard_of old j)) (sym e)
+          | inl e ↦ ap (λ j. length (shard_of new j)) e ∙ ap length at_q ∙ q_puts.same_size ∙ ap length was_q ∙ done.same_sizes 8 ∙ ap (λ j. length (shard_of old j)) (sym e)
           | inr nq ↦ ap length (others i np nq) ∙ done.same_sizes i
-          ]
-        ];
+        ]
+      ];
     }

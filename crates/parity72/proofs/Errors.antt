@@ -1,11 +1,11 @@
 -- What the syndromes tell of the errors, and how two of them are solved.
-use Rattle.std.proofs.Common.{◌≡◌, ◌≢◌, ℕ, ◌<◌, refl, ap, sym, ◌∙◌, arith, bit_xor}
+use Rattle.std.proofs.Common.{◌≡◌, ◌≢◌, ℕ, ◌<◌, ap, sym, ◌∙◌, arith, bit_xor}
 use lib.Bits.{xor_zero_l, xor_zero_r, xor_self, xor_comm, xor_assoc, xor_lt}
 use Rattle.gf256.specs.Field.{times, power_of_two}
-use Rattle.gf256.proofs.Linear.{four, times-xor_right, times-fits}
+use Rattle.gf256.proofs.Linear.{four, times-xor_right}
 use Rattle.gf256.proofs.Laws.{times-assoc, times-comm, times-zero, zero-times, one-times, quotient-only}
 use Rattle.parity72.specs.Parity.{sum_below}
-use Rattle.parity72.proofs.Sums.{sum-same, sum-xor, sum-one, sum-two, power-fits}
+use Rattle.parity72.proofs.Sums.{sum-same, sum-xor, sum-one, sum-two}
 
 pub xor-undone : (a b : ℕ) → bit_xor a (bit_xor a b) ≡ b
 xor-undone a b = sym (xor_assoc a a b) ∙ ap (λ t. bit_xor t b) (xor_self a) ∙ xor_zero_l b
@@ -24,9 +24,9 @@ error-none o w i e = ap (λ t. bit_xor t (w i)) e ∙ xor_self (w i)
 syndrome-is : (f g : ℕ → ℕ) (x y : ℕ) → y ≡ sum_below g 7 → bit_xor (sum_below f 7) x ≡ bit_xor (sum_below (λ i. bit_xor (f i) (g i)) 7) (bit_xor x y)
 syndrome-is f g x y e =
     sym (ap (λ t. bit_xor t (bit_xor x y)) (sum-xor 7 f g)
-      ∙ four (sum_below f 7) (sum_below g 7) x y
-      ∙ ap (bit_xor (bit_xor (sum_below f 7) x)) (ap (bit_xor (sum_below g 7)) e ∙ xor_self (sum_below g 7))
-      ∙ xor_zero_r (bit_xor (sum_below f 7) x))
+    ∙ four (sum_below f 7) (sum_below g 7) x y
+    ∙ ap (bit_xor (bit_xor (sum_below f 7) x)) (ap (bit_xor (sum_below g 7)) e ∙ xor_self (sum_below g 7))
+    ∙ xor_zero_r (bit_xor (sum_below f 7) x))
 
 -- the sums of the bytes, and of the bytes times the powers of two
 abbrev pub plain : (ℕ → ℕ) → ℕ
@@ -42,8 +42,8 @@ pub q-errors : (o w : ℕ → ℕ) → w 8 ≡ weighted w → bit_xor (weighted 
 q-errors o w e =
     syndrome-is (λ i. times (power_of_two i) (o i)) (λ i. times (power_of_two i) (w i)) (o 8) (w 8) e
     ∙ ap (λ t. bit_xor t (error o w 8))
-        (sum-same 7 (λ i. bit_xor (times (power_of_two i) (o i)) (times (power_of_two i) (w i))) (λ i. times (power_of_two i) (error o w i))
-          (λ i lt. sym (times-xor_right (power_of_two i) (o i) (w i))))
+    (sum-same 7 (λ i. bit_xor (times (power_of_two i) (o i)) (times (power_of_two i) (w i))) (λ i. times (power_of_two i) (error o w i))
+    (λ i lt. sym (times-xor_right (power_of_two i) (o i) (w i))))
 
 -- ---- where only one data shard or two are wrong
 pub plain-one : (d : ℕ → ℕ) (a : ℕ) → a < 7 → ((i : ℕ) → i < 7 → i ≢ a → d i ≡ 0) → plain d ≡ d a
@@ -80,19 +80,19 @@ two-solved a b by_p by_q x y la lb lp lq lx ly p_is q_is =
     let ls : sum < 256 = xor_lt 8 a b la lb in
     let qa : times by_q a ≡ by_p = times-comm by_q a lq la ∙ sym (quotient-only by_p a by_q sum lp lq ls q_is p_is) in
     let qb : times by_q b ≡ bit_xor 1 by_p =
-        sym (xor-undone (times by_q a) (times by_q b))
-        ∙ ap (bit_xor (times by_q a)) (sym (times-xor_right by_q a b) ∙ q_is)
-        ∙ xor_comm (times by_q a) 1 ∙ ap (bit_xor 1) qa in
+    sym (xor-undone (times by_q a) (times by_q b))
+    ∙ ap (bit_xor (times by_q a)) (sym (times-xor_right by_q a b) ∙ q_is)
+    ∙ xor_comm (times by_q a) 1 ∙ ap (bit_xor 1) qa in
     let one_more : times (bit_xor 1 by_p) y ≡ bit_xor y (times by_p y) =
-        times-comm (bit_xor 1 by_p) y (xor_lt 8 1 by_p (omega arith) lp) ly
-        ∙ times-xor_right y 1 by_p
-        ∙ ap (λ t. bit_xor t (times y by_p)) (times-comm y 1 ly (omega arith) ∙ one-times y ly)
-        ∙ ap (bit_xor y) (times-comm y by_p ly lp) in
+    times-comm (bit_xor 1 by_p) y (xor_lt 8 1 by_p (omega arith) lp) ly
+    ∙ times-xor_right y 1 by_p
+    ∙ ap (λ t. bit_xor t (times y by_p)) (times-comm y 1 ly (omega arith) ∙ one-times y ly)
+    ∙ ap (bit_xor y) (times-comm y by_p ly lp) in
     ap (λ t. bit_xor t (times by_q (bit_xor (times a x) (times b y)))) (times-xor_right by_p x y)
     ∙ ap (bit_xor (bit_xor (times by_p x) (times by_p y)))
-        (times-xor_right by_q (times a x) (times b y)
-         ∙ ap (λ t. bit_xor t (times by_q (times b y))) (sym (times-assoc by_q a x lq la lx) ∙ ap (λ t. times t x) qa)
-         ∙ ap (bit_xor (times by_p x)) (sym (times-assoc by_q b y lq lb ly) ∙ ap (λ t. times t y) qb ∙ one_more))
+    (times-xor_right by_q (times a x) (times b y)
+    ∙ ap (λ t. bit_xor t (times by_q (times b y))) (sym (times-assoc by_q a x lq la lx) ∙ ap (λ t. times t x) qa)
+    ∙ ap (bit_xor (times by_p x)) (sym (times-assoc by_q b y lq lb ly) ∙ ap (λ t. times t y) qb ∙ one_more))
     ∙ cancels (times by_p x) (times by_p y) y
 
 -- by_q is 1 / a

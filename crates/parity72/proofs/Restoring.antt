@@ -1,14 +1,13 @@
 -- From what is corrected to what is restored.
-use Rattle.std.proofs.Common.{◌≡◌, ◌≢◌, ℕ, zero, suc, ◌+◌, ◌-◌, ◌<◌, ◌≤◌, List, [], ◌∷◌, length, get_or, refl, ap, sym, ◌∙◌, arith, bit_xor, inl, inr, subst}
+use Rattle.std.proofs.Common.{◌≡◌, ◌≢◌, ℕ, zero, suc, ◌<◌, ◌≤◌, List, [], ◌∷◌, length, get_or, refl, ap, sym, ◌∙◌, arith, bit_xor, inl, inr, subst}
 use Rattle.std.specs.List.{Contains}
-use Rattle.std.proofs.lemmas.Bool.{cases_lt, cases_eq}
+use Rattle.std.proofs.lemmas.Bool.{cases_eq}
 use Rattle.std.proofs.lemmas.Grind.{same_number_lists}
 use Rattle.std.proofs.lemmas.List.{ext_get_or}
-use lib.Bits.{xor_lt, xor_zero_l, xor_zero_r, xor_comm, xor_assoc}
+use lib.Bits.{xor_lt, xor_zero_r, xor_comm}
 use Rattle.gf256.specs.Field.{times, power_of_two}
-use Rattle.parity72.specs.Parity.{byte_of, shard_of, p_of, q_of, IsCodeword}
+use Rattle.parity72.specs.Parity.{byte_of, shard_of, IsCodeword}
 use Rattle.parity72.specs.Recovery.{AgreesOutside, Encodes, Fixes, Restores, column_of, error_of, p_syndrome, q_syndrome, with_added, with_errors, with_p_syndrome}
-use Rattle.gf256.proofs.Linear.{times-xor_left}
 use Rattle.parity72.proofs.Sums.{power-fits}
 use Rattle.parity72.proofs.Codewords.{p_of-same, q_of-same}
 use Rattle.parity72.proofs.Corrections.{added-here, added-other}
@@ -60,19 +59,19 @@ restores-parities old new done =
       agrees = λ whole code outside.
           let sizes : (i : ℕ) → i < 9 → length (shard_of new i) ≡ 4096 = λ i lt. done.same_sizes i ∙ done.was_read i lt (omega arith) in
           let data_is : (k i : ℕ) → i < 7 → byte_of old i k ≡ byte_of whole i k =
-              λ k i lt. let np : i ≢ 7 = omega arith in let nq : i ≢ 8 = omega arith in
-                ap (λ s. get_or s k 0) (outside i (omega arith) (not-in_two 7 8 i np nq)) in
+          λ k i lt. let np : i ≢ 7 = omega arith in let nq : i ≢ 8 = omega arith in
+          ap (λ s. get_or s k 0) (outside i (omega arith) (not-in_two 7 8 i np nq)) in
           λ i lt _. elim (cases_eq i 7) [
-            inl e ↦ ap (shard_of new) e
+            | inl e ↦ ap (shard_of new) e
                 ∙ same-shard new whole 7 (sizes 7 (omega arith)) (code.sizes 7 (omega arith))
-                    (λ k small. done.p k small ∙ p_of-same old whole k (data_is k) ∙ sym (code.p k small))
+                (λ k small. done.p k small ∙ p_of-same old whole k (data_is k) ∙ sym (code.p k small))
                 ∙ ap (shard_of whole) (sym e)
-          | inr np ↦ elim (cases_eq i 8) [
-              inl e ↦ ap (shard_of new) e
+            | inr np ↦ elim (cases_eq i 8) [
+              | inl e ↦ ap (shard_of new) e
                   ∙ same-shard new whole 8 (sizes 8 (omega arith)) (code.sizes 8 (omega arith))
-                      (λ k small. done.q k small ∙ q_of-same old whole k (data_is k) ∙ sym (code.q k small))
+                  (λ k small. done.q k small ∙ q_of-same old whole k (data_is k) ∙ sym (code.q k small))
                   ∙ ap (shard_of whole) (sym e)
-            | inr nq ↦ done.others i np nq ∙ outside i lt (not-in_two 7 8 i np nq)
+              | inr nq ↦ done.others i np nq ∙ outside i lt (not-in_two 7 8 i np nq)
             ]
           ];
     }
@@ -81,14 +80,14 @@ restores-parities old new done =
 -- each column of a codeword, and of the shards that agree with it, is fixed to that of the codeword
 restores-fixed : (fix : (ℕ → ℕ) → ℕ → ℕ) (lost left : List ℕ) (old new : List (List ℕ)) → length old ≡ 9 → Fixes fix old new 0 4096
     → ((whole : List (List ℕ)) → IsCodeword whole → AgreesOutside lost old whole → (k : ℕ) → k < 4096 → (i : ℕ) → i < 9 → ¬ Contains left i
-        → fix (column_of old k) i ≡ byte_of whole i k)
+    → fix (column_of old k) i ≡ byte_of whole i k)
     → Restores lost left old new
 restores-fixed fix lost left old new nine done right =
     record {
       same_count = done.same_count;
       agrees = λ whole code outside i lt not_left.
           same-shard new whole i (done.same_sizes i ∙ done.was_read.sizes i (omega arith) (omega arith)) (code.sizes i lt)
-            (λ k small. done.fixed i k (omega arith) small ∙ right whole code outside k small i lt not_left);
+          (λ k small. done.fixed i k (omega arith) small ∙ right whole code outside k small i lt not_left);
     }
 
 -- a column o, and the column w of a codeword
@@ -97,25 +96,25 @@ by-p a o w lt p_is same =
     let seven : 7 ≢ a = omega arith in
     added-here a (p_syndrome o) o a refl
     ∙ ap (bit_xor (o a))
-        (p-errors o w p_is
-         ∙ ap (λ x. bit_xor x (error o w 7)) (plain-one (error o w) a lt (λ i small ne. error-none o w i (same i (omega arith) ne)))
-         ∙ ap (bit_xor (error o w a)) (error-none o w 7 (same 7 (omega arith) seven))
-         ∙ xor_zero_r (error o w a))
+    (p-errors o w p_is
+    ∙ ap (λ x. bit_xor x (error o w 7)) (plain-one (error o w) a lt (λ i small ne. error-none o w i (same i (omega arith) ne)))
+    ∙ ap (bit_xor (error o w a)) (error-none o w 7 (same 7 (omega arith) seven))
+    ∙ xor_zero_r (error o w a))
     ∙ xor-undone (o a) (w a)
 
 restores-by-p : (a : ℕ) (lost left : List ℕ) (old new : List (List ℕ)) → length old ≡ 9 → a < 7 → Fixes (with_p_syndrome a) old new 0 4096
     → ((i : ℕ) → i < 8 → i ≢ a → ¬ Contains lost i) → ((i : ℕ) → i ≢ a → ¬ Contains left i → ¬ Contains lost i) → Restores lost left old new
 restores-by-p a lost left old new nine lt done known within =
     restores-fixed (with_p_syndrome a) lost left old new nine done
-      (λ whole code outside k small i li not_left.
-        let o : ℕ → ℕ = λ i. byte_of old i k in
-        let w : ℕ → ℕ = λ i. byte_of whole i k in
-        elim (cases_eq i a) [
-          inl e ↦ ap (with_p_syndrome a o) e
-              ∙ by-p a o w lt (code.p k small) (λ i l ne. ap (λ s. get_or s k 0) (outside i (omega arith) (known i l ne)))
-              ∙ ap w (sym e)
-        | inr ne ↦ added-other a (p_syndrome o) o i ne ∙ ap (λ s. get_or s k 0) (outside i li (within i ne not_left))
-        ])
+    (λ whole code outside k small i li not_left.
+    let o : ℕ → ℕ = λ i. byte_of old i k in
+    let w : ℕ → ℕ = λ i. byte_of whole i k in
+    elim (cases_eq i a) [
+      | inl e ↦ ap (with_p_syndrome a o) e
+          ∙ by-p a o w lt (code.p k small) (λ i l ne. ap (λ s. get_or s k 0) (outside i (omega arith) (known i l ne)))
+          ∙ ap w (sym e)
+      | inr ne ↦ added-other a (p_syndrome o) o i ne ∙ ap (λ s. get_or s k 0) (outside i li (within i ne not_left))
+    ])
 
 pub restores-data : (a : ℕ) (old new : List (List ℕ)) → length old ≡ 9 → a < 7 → Fixes (with_p_syndrome a) old new 0 4096 → Restores (a ∷ []) [] old new
 restores-data a old new nine lt done =
@@ -124,8 +123,8 @@ restores-data a old new nine lt done =
 pub restores-data-beside-q : (a : ℕ) (old new : List (List ℕ)) → length old ≡ 9 → a < 7 → Fixes (with_p_syndrome a) old new 0 4096 → Restores (a ∷ 8 ∷ []) (8 ∷ []) old new
 restores-data-beside-q a old new nine lt done =
     restores-by-p a (a ∷ 8 ∷ []) (8 ∷ []) old new nine lt done
-      (λ i l na. let nq : i ≢ 8 = omega arith in not-in_two a 8 i na nq)
-      (λ i na not_left. let nq : i ≢ 8 = λ e. not_left (subst (Contains (8 ∷ [])) (sym e) (in_first 8 [])) in not-in_two a 8 i na nq)
+    (λ i l na. let nq : i ≢ 8 = omega arith in not-in_two a 8 i na nq)
+    (λ i na not_left. let nq : i ≢ 8 = λ e. not_left (subst (Contains (8 ∷ [])) (sym e) (in_first 8 [])) in not-in_two a 8 i na nq)
 
 -- where P's syndrome is the two errors, and the error that is solved for is that of b
 both-fixed : (a b by_p by_q : ℕ) (o w : ℕ → ℕ) → a ≢ b → p_syndrome o ≡ bit_xor (error o w a) (error o w b) → error_of by_p by_q o ≡ error o w b
@@ -135,16 +134,16 @@ both-fixed a b by_p by_q o w ne p_is error_is same i lt =
     let y = bit_xor (p_syndrome o) x in
     let y_is : y ≡ error o w a = ap (λ t. bit_xor t x) p_is ∙ ap (bit_xor (bit_xor (error o w a) (error o w b))) error_is ∙ xor-undone_right (error o w a) (error o w b) in
     elim (cases_eq i a) [
-      inl h ↦
-        added-here a y (with_added b x o) i h
-        ∙ ap (λ t. bit_xor t y) (added-other b x o a ne)
-        ∙ ap (bit_xor (o a)) y_is ∙ xor-undone (o a) (w a) ∙ ap w (sym h)
-    | inr na ↦ elim (cases_eq i b) [
-        inl h ↦
-          added-other a y (with_added b x o) i na
-          ∙ added-here b x o i h
-          ∙ ap (bit_xor (o b)) error_is ∙ xor-undone (o b) (w b) ∙ ap w (sym h)
-      | inr nb ↦ added-other a y (with_added b x o) i na ∙ added-other b x o i nb ∙ same i lt na nb
+      | inl h ↦
+          added-here a y (with_added b x o) i h
+          ∙ ap (λ t. bit_xor t y) (added-other b x o a ne)
+          ∙ ap (bit_xor (o a)) y_is ∙ xor-undone (o a) (w a) ∙ ap w (sym h)
+      | inr na ↦ elim (cases_eq i b) [
+        | inl h ↦
+            added-other a y (with_added b x o) i na
+            ∙ added-here b x o i h
+            ∙ ap (bit_xor (o b)) error_is ∙ xor-undone (o b) (w b) ∙ ap w (sym h)
+        | inr nb ↦ added-other a y (with_added b x o) i na ∙ added-other b x o i nb ∙ same i lt na nb
       ]
     ]
 
@@ -164,30 +163,30 @@ two-data-fixed a b by_p by_q o w la lb ne lp lq p_factor q_factor fo fw p_code q
     let n8a : 8 ≢ a = omega arith in
     let n8b : 8 ≢ b = omega arith in
     let p_is : p_syndrome o ≡ bit_xor (e a) (e b) =
-        p-errors o w p_code
-        ∙ ap (λ x. bit_xor x (e 7)) (plain-two e a b la lb ne none)
-        ∙ ap (bit_xor (bit_xor (e a) (e b))) (error-none o w 7 (same 7 (omega arith) n7a n7b))
-        ∙ xor_zero_r (bit_xor (e a) (e b)) in
+    p-errors o w p_code
+    ∙ ap (λ x. bit_xor x (e 7)) (plain-two e a b la lb ne none)
+    ∙ ap (bit_xor (bit_xor (e a) (e b))) (error-none o w 7 (same 7 (omega arith) n7a n7b))
+    ∙ xor_zero_r (bit_xor (e a) (e b)) in
     let q_is : q_syndrome o ≡ bit_xor (times pa (e a)) (times pb (e b)) =
-        q-errors o w q_code
-        ∙ ap (λ x. bit_xor x (e 8)) (weighted-two e a b la lb ne none)
-        ∙ ap (bit_xor (bit_xor (times pa (e a)) (times pb (e b)))) (error-none o w 8 (same 8 (omega arith) n8a n8b))
-        ∙ xor_zero_r (bit_xor (times pa (e a)) (times pb (e b))) in
+    q-errors o w q_code
+    ∙ ap (λ x. bit_xor x (e 8)) (weighted-two e a b la lb ne none)
+    ∙ ap (bit_xor (bit_xor (times pa (e a)) (times pb (e b)))) (error-none o w 8 (same 8 (omega arith) n8a n8b))
+    ∙ xor_zero_r (bit_xor (times pa (e a)) (times pb (e b))) in
     both-fixed a b by_p by_q o w ne p_is
-      (ap (λ x. bit_xor (times by_p x) (times by_q (q_syndrome o))) p_is
-       ∙ ap (λ x. bit_xor (times by_p (bit_xor (e a) (e b))) (times by_q x)) q_is
-       ∙ two-solved pa pb by_p by_q (e a) (e b) (power-fits a) (power-fits b) lp lq (fits a la) (fits b lb) p_factor q_factor)
-      same
+    (ap (λ x. bit_xor (times by_p x) (times by_q (q_syndrome o))) p_is
+    ∙ ap (λ x. bit_xor (times by_p (bit_xor (e a) (e b))) (times by_q x)) q_is
+    ∙ two-solved pa pb by_p by_q (e a) (e b) (power-fits a) (power-fits b) lp lq (fits a la) (fits b lb) p_factor q_factor)
+    same
 
 pub restores-two-data : (a b by_p by_q : ℕ) (old new : List (List ℕ)) → length old ≡ 9 → a < 7 → b < 7 → a ≢ b → by_p < 256 → by_q < 256
     → times by_p (bit_xor (power_of_two a) (power_of_two b)) ≡ power_of_two a → times by_q (bit_xor (power_of_two a) (power_of_two b)) ≡ 1
     → Fixes (with_errors a b by_p by_q) old new 0 4096 → Restores (a ∷ b ∷ []) [] old new
 restores-two-data a b by_p by_q old new nine la lb ne lp lq p_factor q_factor done =
     restores-fixed (with_errors a b by_p by_q) (a ∷ b ∷ []) [] old new nine done
-      (λ whole code outside k small i li _.
-        two-data-fixed a b by_p by_q (λ i. byte_of old i k) (λ i. byte_of whole i k) la lb ne lp lq p_factor q_factor
-          (λ i l. done.was_read.bytes i k l (omega arith) small) (λ i l. code.bytes i k l small) (code.p k small) (code.q k small)
-          (λ i l na nb. ap (λ s. get_or s k 0) (outside i l (not-in_two a b i na nb))) i li)
+    (λ whole code outside k small i li _.
+    two-data-fixed a b by_p by_q (λ i. byte_of old i k) (λ i. byte_of whole i k) la lb ne lp lq p_factor q_factor
+    (λ i l. done.was_read.bytes i k l (omega arith) small) (λ i l. code.bytes i k l small) (code.p k small) (code.q k small)
+    (λ i l na nb. ap (λ s. get_or s k 0) (outside i l (not-in_two a b i na nb))) i li)
 
 -- a data shard and P
 data-and-p-fixed : (b by_q : ℕ) (o w : ℕ → ℕ) → b < 7 → by_q < 256 → times by_q (power_of_two b) ≡ 1
@@ -202,30 +201,30 @@ data-and-p-fixed b by_q o w lb lq q_factor fo fw p_code q_code same =
     let n8b : 8 ≢ b = omega arith in
     let none : (i : ℕ) → i < 7 → i ≢ b → e i ≡ 0 = λ i l nb. let n7 : i ≢ 7 = omega arith in error-none o w i (same i (omega arith) n7 nb) in
     let p_is : p_syndrome o ≡ bit_xor (e 7) (e b) =
-        p-errors o w p_code ∙ ap (λ x. bit_xor x (e 7)) (plain-one e b lb none) ∙ xor_comm (e b) (e 7) in
+    p-errors o w p_code ∙ ap (λ x. bit_xor x (e 7)) (plain-one e b lb none) ∙ xor_comm (e b) (e 7) in
     let q_is : q_syndrome o ≡ times pb (e b) =
-        q-errors o w q_code
-        ∙ ap (λ x. bit_xor x (e 8)) (weighted-one e b lb none)
-        ∙ ap (bit_xor (times pb (e b))) (error-none o w 8 (same 8 (omega arith) n87 n8b))
-        ∙ xor_zero_r (times pb (e b)) in
+    q-errors o w q_code
+    ∙ ap (λ x. bit_xor x (e 8)) (weighted-one e b lb none)
+    ∙ ap (bit_xor (times pb (e b))) (error-none o w 8 (same 8 (omega arith) n87 n8b))
+    ∙ xor_zero_r (times pb (e b)) in
     both-fixed 7 b 0 by_q o w ne p_is
-      (ap (λ x. bit_xor (times 0 (p_syndrome o)) (times by_q x)) q_is ∙ one-solved pb by_q (p_syndrome o) (e b) (power-fits b) lq fits q_factor) same
+    (ap (λ x. bit_xor (times 0 (p_syndrome o)) (times by_q x)) q_is ∙ one-solved pb by_q (p_syndrome o) (e b) (power-fits b) lq fits q_factor) same
 
 pub restores-data-and-p : (b by_q : ℕ) (old new : List (List ℕ)) → length old ≡ 9 → b < 7 → by_q < 256 → times by_q (power_of_two b) ≡ 1
     → Fixes (with_errors 7 b 0 by_q) old new 0 4096 → Restores (b ∷ 7 ∷ []) [] old new
 restores-data-and-p b by_q old new nine lb lq q_factor done =
     restores-fixed (with_errors 7 b 0 by_q) (b ∷ 7 ∷ []) [] old new nine done
-      (λ whole code outside k small i li _.
-        data-and-p-fixed b by_q (λ i. byte_of old i k) (λ i. byte_of whole i k) lb lq q_factor
-          (λ i l. done.was_read.bytes i k l (omega arith) small) (λ i l. code.bytes i k l small) (code.p k small) (code.q k small)
-          (λ i l n7 nb. ap (λ s. get_or s k 0) (outside i l (not-in_two b 7 i nb n7))) i li)
+    (λ whole code outside k small i li _.
+    data-and-p-fixed b by_q (λ i. byte_of old i k) (λ i. byte_of whole i k) lb lq q_factor
+    (λ i l. done.was_read.bytes i k l (omega arith) small) (λ i l. code.bytes i k l small) (code.p k small) (code.q k small)
+    (λ i l n7 nb. ap (λ s. get_or s k 0) (outside i l (not-in_two b 7 i nb n7))) i li)
 
 -- ---- the whole
 pub restored-whole : (lost : List ℕ) (old new : List (List ℕ)) → length old ≡ 9 → Restores lost [] old new
     → (whole : List (List ℕ)) → IsCodeword whole → AgreesOutside lost old whole → new ≡ whole
 restored-whole lost old new nine restored whole code outside =
     ext_get_or [] new whole (restored.same_count ∙ nine ∙ sym code.count)
-      (λ i lt. restored.agrees whole code outside i (omega (arith, restored.same_count)) (λ h. absurd (omega (arith, h.1))))
+    (λ i lt. restored.agrees whole code outside i (omega (arith, restored.same_count)) (λ h. absurd (omega (arith, h.1))))
 
 pub restores-nothing : (old : List (List ℕ)) → Restores [] [] old old
 restores-nothing old = record { same_count = refl; agrees = λ whole code outside. outside }
@@ -260,20 +259,20 @@ restores-q old new restored = restores-second 7 8 8 old new refl restored
 pub restores-parity : (i : ℕ) (old new : List (List ℕ)) → 7 ≤ i → i < 9 → Restores (7 ∷ 8 ∷ []) [] old new → Restores (i ∷ []) [] old new
 restores-parity i old new from to restored =
     elim (cases_eq i 7) [
-      inl e ↦ restores-first 7 8 i old new e restored
-    | inr ne ↦ restores-second 7 8 i old new (omega arith) restored
+      | inl e ↦ restores-first 7 8 i old new e restored
+      | inr ne ↦ restores-second 7 8 i old new (omega arith) restored
     ]
 
 pub restores-two-parities : (i j : ℕ) (old new : List (List ℕ)) → 7 ≤ i → i < 9 → 7 ≤ j → j < 9 → i ≢ j → Restores (7 ∷ 8 ∷ []) [] old new → Restores (i ∷ j ∷ []) [] old new
 restores-two-parities i j old new fi ti fj tj ne restored =
     elim (cases_eq i 7) [
-      inl e ↦
-        let f : j ≡ 8 = omega arith in
-        subst (λ a. Restores (a ∷ j ∷ []) [] old new) (sym e) (subst (λ b. Restores (7 ∷ b ∷ []) [] old new) (sym f) restored)
-    | inr other ↦
-        let e : i ≡ 8 = omega arith in
-        let f : j ≡ 7 = omega arith in
-        subst (λ a. Restores (a ∷ j ∷ []) [] old new) (sym e) (subst (λ b. Restores (8 ∷ b ∷ []) [] old new) (sym f) (restores-turned 7 8 [] old new restored))
+      | inl e ↦
+          let f : j ≡ 8 = omega arith in
+          subst (λ a. Restores (a ∷ j ∷ []) [] old new) (sym e) (subst (λ b. Restores (7 ∷ b ∷ []) [] old new) (sym f) restored)
+      | inr other ↦
+          let e : i ≡ 8 = omega arith in
+          let f : j ≡ 7 = omega arith in
+          subst (λ a. Restores (a ∷ j ∷ []) [] old new) (sym e) (subst (λ b. Restores (8 ∷ b ∷ []) [] old new) (sym f) (restores-turned 7 8 [] old new restored))
     ]
 
 -- ---- a list by its length

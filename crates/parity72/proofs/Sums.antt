@@ -1,9 +1,9 @@
 -- Sums over the shards.
-use Rattle.std.proofs.Common.{◌≡◌, ◌≢◌, ℕ, zero, suc, ◌+◌, ◌-◌, ◌<◌, ◌≤◌, Bool, true, ◌||◌, eqb, ltb, refl, ap, sym, ◌∙◌, arith, bit_xor, inl, inr, subst}
+use Rattle.std.proofs.Common.{◌≡◌, ◌≢◌, ℕ, zero, suc, ◌+◌, ◌-◌, ◌<◌, ◌≤◌, true, ◌||◌, eqb, ltb, refl, ap, sym, ◌∙◌, arith, bit_xor, inl, inr}
 use Rattle.std.proofs.lemmas.Bool.{cases_lt}
-use lib.Bits.{xor_zero_l, xor_zero_r, xor_self, xor_comm, xor_assoc, xor_lt}
+use lib.Bits.{xor_zero_r, xor_comm, xor_assoc, xor_lt}
 use Rattle.gf256.specs.Field.{doubled, times, power_of_two}
-use Rattle.gf256.proofs.Linear.{four, doubled-fits, doubled-xor, times-fits, times-xor_right}
+use Rattle.gf256.proofs.Linear.{four, doubled-fits, doubled-xor, times-fits}
 use Rattle.std.proofs.lemmas.Bool.Decides.{nat_tests}
 use Rattle.gf256.proofs.Checks.{all_below, all_below-at}
 use Rattle.gf256.proofs.Laws.{two-times, one-times, times-assoc}
@@ -45,14 +45,14 @@ unfolding sum_below
 sum-one zero f a lt h = absurd (omega arith)
 sum-one (suc n) f a lt h =
     elim (cases_lt a n) [
-      inl l ↦
-        let ne : n ≢ a = omega arith in
-        ap (λ t. bit_xor t (f n)) (sum-one n f a l (λ i small other. h i (omega arith) other))
-        ∙ ap (bit_xor (f a)) (h n (omega arith) ne) ∙ xor_zero_r (f a)
-    | inr r ↦
-        let e : n ≡ a = omega arith in
-        ap (λ t. bit_xor t (f n)) (sum-zeros n f (λ i small. let ne : i ≢ a = omega arith in h i (omega arith) ne))
-        ∙ ap f e
+      | inl l ↦
+          let ne : n ≢ a = omega arith in
+          ap (λ t. bit_xor t (f n)) (sum-one n f a l (λ i small other. h i (omega arith) other))
+          ∙ ap (bit_xor (f a)) (h n (omega arith) ne) ∙ xor_zero_r (f a)
+      | inr r ↦
+          let e : n ≡ a = omega arith in
+          ap (λ t. bit_xor t (f n)) (sum-zeros n f (λ i small. let ne : i ≢ a = omega arith in h i (omega arith) ne))
+          ∙ ap f e
     ]
 
 -- a sum of which only the terms a and b are not 0
@@ -61,22 +61,22 @@ unfolding sum_below
 sum-two zero f a b la lb ne h = absurd (omega arith)
 sum-two (suc n) f a b la lb ne h =
     elim (cases_lt a n) [
-      inl l ↦ elim (cases_lt b n) [
-        inl m ↦
-          let na : n ≢ a = omega arith in
-          let nb : n ≢ b = omega arith in
-          ap (λ t. bit_xor t (f n)) (sum-two n f a b l m ne (λ i small oa ob. h i (omega arith) oa ob))
-          ∙ ap (bit_xor (bit_xor (f a) (f b))) (h n (omega arith) na nb) ∙ xor_zero_r (bit_xor (f a) (f b))
-      | inr m ↦
-          let e : n ≡ b = omega arith in
-          ap (λ t. bit_xor t (f n)) (sum-one n f a l (λ i small oa. let ob : i ≢ b = omega arith in h i (omega arith) oa ob))
-          ∙ ap (λ j. bit_xor (f a) (f j)) e
+      | inl l ↦ elim (cases_lt b n) [
+        | inl m ↦
+            let na : n ≢ a = omega arith in
+            let nb : n ≢ b = omega arith in
+            ap (λ t. bit_xor t (f n)) (sum-two n f a b l m ne (λ i small oa ob. h i (omega arith) oa ob))
+            ∙ ap (bit_xor (bit_xor (f a) (f b))) (h n (omega arith) na nb) ∙ xor_zero_r (bit_xor (f a) (f b))
+        | inr m ↦
+            let e : n ≡ b = omega arith in
+            ap (λ t. bit_xor t (f n)) (sum-one n f a l (λ i small oa. let ob : i ≢ b = omega arith in h i (omega arith) oa ob))
+            ∙ ap (λ j. bit_xor (f a) (f j)) e
       ]
-    | inr r ↦
-        let e : n ≡ a = omega arith in
-        let lbn : b < n = omega arith in
-        ap (λ t. bit_xor t (f n)) (sum-one n f b lbn (λ i small ob. let oa : i ≢ a = omega arith in h i (omega arith) oa ob))
-        ∙ ap (λ j. bit_xor (f b) (f j)) e ∙ xor_comm (f b) (f a)
+      | inr r ↦
+          let e : n ≡ a = omega arith in
+          let lbn : b < n = omega arith in
+          ap (λ t. bit_xor t (f n)) (sum-one n f b lbn (λ i small ob. let oa : i ≢ a = omega arith in h i (omega arith) oa ob))
+          ∙ ap (λ j. bit_xor (f b) (f j)) e ∙ xor_comm (f b) (f a)
     ]
 
 -- ---- Horner's rule
@@ -128,11 +128,11 @@ powers_from-next : (d : ℕ → ℕ) (i n : ℕ) → ((m : ℕ) → i ≤ m → 
 powers_from-next d i n fits =
     sum-first n (λ m. times (power_of_two m) (d (i + m)))
     ∙ ap (λ t. bit_xor t (sum_below (λ m. times (power_of_two (suc m)) (d (i + suc m))) n))
-        (first-term (d (i + 0)) (fits (i + 0) (omega arith) (omega arith)) ∙ here d i)
+    (first-term (d (i + 0)) (fits (i + 0) (omega arith) (omega arith)) ∙ here d i)
     ∙ ap (bit_xor (d i))
-        (sum-same n (λ m. times (power_of_two (suc m)) (d (i + suc m))) (λ m. doubled (times (power_of_two m) (d (suc i + m))))
-          (λ m lt. power-next m (d (i + suc m)) (fits (i + suc m) (omega arith) (omega arith)) ∙ ap (λ x. doubled (times (power_of_two m) x)) (along d i m))
-        ∙ doubled-sum n (λ m. times (power_of_two m) (d (suc i + m))) (λ m lt. times-fits (power_of_two m) (d (suc i + m)) (power-fits m)))
+    (sum-same n (λ m. times (power_of_two (suc m)) (d (i + suc m))) (λ m. doubled (times (power_of_two m) (d (suc i + m))))
+    (λ m lt. power-next m (d (i + suc m)) (fits (i + suc m) (omega arith) (omega arith)) ∙ ap (λ x. doubled (times (power_of_two m) x)) (along d i m))
+    ∙ doubled-sum n (λ m. times (power_of_two m) (d (suc i + m))) (λ m lt. times-fits (power_of_two m) (d (suc i + m)) (power-fits m)))
 
 -- ---- the loop from the last shard down
 pub sum_from-down : (d : ℕ → ℕ) (i : ℕ) → 0 < i → i ≤ 7 → sum_from d (i - 1) (7 - (i - 1)) ≡ bit_xor (d (i - 1)) (sum_from d i (7 - i))
@@ -185,5 +185,5 @@ power-positive i lt =
 pub sum-positive : (i j : ℕ) → i < 7 → j < 7 → i ≢ j → 0 < bit_xor (power_of_two i) (power_of_two j)
 sum-positive i j li lj ne =
     let h = all_below-at (λ j. eqb i j || ltb 0 (bit_xor (power_of_two i) (power_of_two j))) 7
-        (all_below-at (λ i. all_below (λ j. eqb i j || ltb 0 (bit_xor (power_of_two i) (power_of_two j))) 7) 7 powers-apart i li) j lj in
+    (all_below-at (λ i. all_below (λ j. eqb i j || ltb 0 (bit_xor (power_of_two i) (power_of_two j))) 7) 7 powers-apart i li) j lj in
     grind (arith, nat_tests)

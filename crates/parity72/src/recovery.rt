@@ -36,7 +36,14 @@ fn add_p_syndrome(shards: &mut [[u8; 4096]; 9], a: usize, at: usize)
 
 // Adds to the 32 bytes of shard `b` from `at` on the sum of the syndromes times the factors, and to those of `a` that and P's syndrome.
 #[inline(always)]
-fn correct_block(shards: &mut [[u8; 4096]; 9], a: usize, b: usize, by_p: &Products, by_q: &Products, at: usize)
+fn correct_block(
+    shards: &mut [[u8; 4096]; 9],
+    a: usize,
+    b: usize,
+    by_p: &Products,
+    by_q: &Products,
+    at: usize,
+)
     requires room { at + 32 ≤ 4096 }
     requires a_in { a < 9 }
     requires b_in { b < 9 }

@@ -21,10 +21,10 @@ loop-i-preserved c =
     let kept = c.loop-i.invariant in
     let pos : 0 < i = omega arith in
     let bytes : (j k : ℕ) → i - 1 ≤ j → j < 7 → k < 32 → byte_of shards j (at + k) < 256 =
-        λ j k from to lt. elim (cases_lt j i) [
-          inl l ↦ let e : i - 1 ≡ j = omega arith in subst (λ j. byte_of shards j (at + k) < 256) e (c.lanes_at.ensures.bytes k lt)
-        | inr r ↦ kept.bytes j k r to lt
-        ] in
+    λ j k from to lt. elim (cases_lt j i) [
+      | inl l ↦ let e : i - 1 ≡ j = omega arith in subst (λ j. byte_of shards j (at + k) < 256) e (c.lanes_at.ensures.bytes k lt)
+      | inr r ↦ kept.bytes j k r to lt
+    ] in
     record {
       within = omega arith;
       bytes = bytes;

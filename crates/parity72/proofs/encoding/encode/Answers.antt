@@ -1,5 +1,4 @@
-use Rattle.std.proofs.Common.{◌≡◌, ℕ, ◌+◌, ◌*◌, ◌<◌, get_or, ◌∙◌, arith, subst, inl, inr}
-use Rattle.std.proofs.lemmas.Bool.{cases_lt}
+use Rattle.std.proofs.Common.{◌≡◌, ℕ, ◌+◌, ◌*◌, ◌<◌, get_or, ◌∙◌, arith, subst}
 use Rattle.gf256.proofs.Progress.{below_block}
 use Rattle.parity72.specs.Parity.{p_of, q_of, IsRead}
 use Rattle.parity72.proofs.Codewords.{IsCodeword-encoded, IsRead-more}
@@ -29,4 +28,4 @@ returns c =
     let kept = c.loop-block.invariant in
     let end : c.loop-block.block * 32 ≡ 4096 = omega arith in
     IsCodeword-encoded c.args.shards.now c.loop-block.p c.loop-block.q c.told-shards kept.p_long kept.q_long
-      (subst (IsRead 7 c.args.shards.now 0) end kept.was_read) (λ k lt. kept.p k (omega arith)) (λ k lt. kept.q k (omega arith))
+    (subst (IsRead 7 c.args.shards.now 0) end kept.was_read) (λ k lt. kept.p k (omega arith)) (λ k lt. kept.q k (omega arith))

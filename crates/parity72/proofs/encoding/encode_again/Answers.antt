@@ -16,9 +16,9 @@ loop-block-preserved c =
     let t = c.put_lanes-in-loop-block.new.into in
     let nine : length now ≡ 9 = c.loop-block.invariant.same_count ∙ c.told-shards in
     subst (Encodes c.args.shards.now (set (set now 7 s) 8 t)) end
-      (encodes-more c.args.shards.now now s t (m * 32) 32 c.told-shards c.loop-block.invariant (λ i lt. c.p_at-p_lanes.ensures.was_read.sizes i (omega arith) (omega arith))
-        (record { below = c.put_lanes.ensures.below; here = λ k lt. c.put_lanes.ensures.here k lt ∙ c.p_at-p_lanes.ensures.sum k lt; same_size = c.put_lanes.auto.into })
-        (record { below = c.put_lanes-in-loop-block.ensures.below; here = λ k lt. c.put_lanes-in-loop-block.ensures.here k lt ∙ c.q_at-q_lanes.ensures.sum k lt; same_size = c.put_lanes-in-loop-block.auto.into }))
+    (encodes-more c.args.shards.now now s t (m * 32) 32 c.told-shards c.loop-block.invariant (λ i lt. c.p_at-p_lanes.ensures.was_read.sizes i (omega arith) (omega arith))
+    (record { below = c.put_lanes.ensures.below; here = λ k lt. c.put_lanes.ensures.here k lt ∙ c.p_at-p_lanes.ensures.sum k lt; same_size = c.put_lanes.auto.into })
+    (record { below = c.put_lanes-in-loop-block.ensures.below; here = λ k lt. c.put_lanes-in-loop-block.ensures.here k lt ∙ c.q_at-q_lanes.ensures.sum k lt; same_size = c.put_lanes-in-loop-block.auto.into }))
 
 pub returns : goal.returns
 returns c =

@@ -12,13 +12,13 @@ returns c =
     let at = c.args.at in
     let s = c.add_at.new.shard in
     let adds : AddsAt (λ k. p_syndrome (column_of old k)) (shard_of old a) s at 32 =
-        adds-at (λ k. p_syndrome (column_of old k)) (shard_of old a) s at 32 c.add_at.ensures.below
-          (λ k lt. c.add_at.ensures.here k lt
-            ∙ ap (bit_xor (byte_of old a (at + k)))
-                (c.add_lanes-syndrome.ensures k lt
-                 ∙ ap (λ x. bit_xor x (get_or c.lanes_at.result k 0)) (c.p_at.ensures.sum k lt)
-                 ∙ ap (bit_xor (p_of old (at + k))) (c.lanes_at.ensures.read k lt)))
-          c.add_at.ensures.above c.add_at.auto.shard in
+    adds-at (λ k. p_syndrome (column_of old k)) (shard_of old a) s at 32 c.add_at.ensures.below
+    (λ k lt. c.add_at.ensures.here k lt
+    ∙ ap (bit_xor (byte_of old a (at + k)))
+    (c.add_lanes-syndrome.ensures k lt
+    ∙ ap (λ x. bit_xor x (get_or c.lanes_at.result k 0)) (c.p_at.ensures.sum k lt)
+    ∙ ap (bit_xor (p_of old (at + k))) (c.lanes_at.ensures.read k lt)))
+    c.add_at.ensures.above c.add_at.auto.shard in
     record {
       was_read = c.p_at.ensures.was_read;
       fixed = fixes-one (λ k. p_syndrome (column_of old k)) old a s at 32 (omega arith) adds;

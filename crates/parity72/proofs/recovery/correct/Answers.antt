@@ -15,8 +15,8 @@ loop-block-preserved c =
     let m = c.loop-block.block in
     let end : m * 32 + 32 ≡ (m + 1) * 32 = omega arith in
     let more : Fixes fix now new (m * 32) (m * 32 + 32) =
-        subst (λ f. Fixes (with_errors a.a a.b a.by_p f) now new (m * 32) (m * 32 + 32)) c.of-q_products.ensures
-          (subst (λ f. Fixes (with_errors a.a a.b f c.of-q_products.result.factor) now new (m * 32) (m * 32 + 32)) c.of-p_products.ensures c.correct_block.ensures) in
+    subst (λ f. Fixes (with_errors a.a a.b a.by_p f) now new (m * 32) (m * 32 + 32)) c.of-q_products.ensures
+    (subst (λ f. Fixes (with_errors a.a a.b f c.of-q_products.result.factor) now new (m * 32) (m * 32 + 32)) c.of-p_products.ensures c.correct_block.ensures) in
     subst (Fixes fix a.shards.now new 0) end (fixes-more fix a.shards.now now new (m * 32) (m * 32 + 32) (omega arith) c.loop-block.invariant more)
 
 pub returns : goal.returns

@@ -23,5 +23,5 @@ returns-in-len2-up c =
     let new = c.recover_two.new.shards in
     let listed = c.as_slice.result.now in
     let is : c.args.lost.now.items ≡ get_or listed 0 0 ∷ get_or listed 1 0 ∷ [] =
-        sym c.as_slice.ensures.value ∙ two-listed listed c.in-len2-up.len_at_least c.as_slice.ensures.fits in
+    sym c.as_slice.ensures.value ∙ two-listed listed c.in-len2-up.len_at_least c.as_slice.ensures.fits in
     restored-whole c.args.lost.now.items old new c.told-shards (subst (λ lost. Restores lost [] old new) (sym is) c.recover_two.ensures)

@@ -1,5 +1,5 @@
 use Rattle.std.proofs.Common.{◌<◌, ap, sym, ◌∙◌, subst, arith}
-use Rattle.gf256.specs.Field.{times, power_of_two}
+use Rattle.gf256.specs.Field.{times}
 use Rattle.parity72.proofs.Sums.{power-positive}
 use Rattle.parity72.proofs.Restoring.{restores-data-and-p}
 use Rattle.parity72.proofs.recovery.recover_data_and_p.Goals as goal
@@ -10,4 +10,4 @@ div-by_q-requires c = subst (λ n. 0 < n) (sym c.power_of_two.ensures) (power-po
 pub returns : goal.returns
 returns c =
     restores-data-and-p c.args.i c.div-by_q.result c.args.shards.now c.correct.new.shards c.told-shards c.requires (omega arith)
-      (sym (ap (times c.div-by_q.result) c.power_of_two.ensures) ∙ c.div-by_q.ensures.quotient) c.correct.ensures
+    (sym (ap (times c.div-by_q.result) c.power_of_two.ensures) ∙ c.div-by_q.ensures.quotient) c.correct.ensures

@@ -7,4 +7,4 @@ returns c =
     let i = c.args.i in
     let now = c.recover_data.new.shards in
     restores-then (i ∷ 8 ∷ []) (8 ∷ []) [] c.args.shards.now now c.recover_parities.new.shards c.recover_data.ensures.beside_q
-      (restores-q now c.recover_parities.new.shards c.recover_parities.ensures)
+    (restores-q now c.recover_parities.new.shards c.recover_parities.ensures)

@@ -1,4 +1,4 @@
-use Rattle.std.proofs.Common.{[], arith}
+use Rattle.std.proofs.Common.{[]}
 use Rattle.parity72.proofs.Restoring.{restores-turned, restores-two-parities}
 use Rattle.parity72.proofs.recovery.recover_two.Goals as goal
 
