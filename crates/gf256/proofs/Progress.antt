@@ -1,6 +1,5 @@
 -- A loop that writes a slice from its front.
-use Rattle.std.proofs.Common.{◌≡◌, ◌≢◌, ℕ, ◌+◌, ◌-◌, ◌<◌, ◌≤◌, List, length, get_or, refl, arith, ◌∙◌, subst, inl, inr, get_or-set_other, get_or-set_same, below_more}
-use Rattle.std.proofs.Math.ListN.{set}
+use Rattle.std.proofs.Common.{◌≡◌, ℕ, ◌+◌, ◌-◌, ◌<◌, ◌≤◌, List, get_or, arith, ◌∙◌, subst, inl, inr}
 use Rattle.std.proofs.lemmas.Bool.{cases_lt}
 
 -- below `at` each byte is what `done` says, and from there on it is what it was
@@ -16,9 +15,6 @@ pub below_block : (P : ℕ → Type 0) (at n : ℕ) → ((k : ℕ) → k < at �
 below_block P at n low here k lt =
     elim (cases_lt k at) [ inl l ↦ low k l | inr r ↦ subst P (back at k r) (here (k - at) (omega arith)) ]
 
-pub changed-none : (done : ℕ → ℕ) (old : List ℕ) → ChangedBelow done old old 0
-changed-none done old = record { before = λ k lt. absurd (omega arith); after = λ k le. refl }
-
 -- one block of n bytes more
 pub changed-block : (done : ℕ → ℕ) (old now new : List ℕ) (at n : ℕ) → ChangedBelow done old now at
     → ((k : ℕ) → k < at → get_or new k 0 ≡ get_or now k 0)
@@ -29,14 +25,4 @@ changed-block done old now new at n kept below here above =
     record {
       before = below_block (λ k. get_or new k 0 ≡ done k) at n (λ k lt. below k lt ∙ kept.before k lt) here;
       after = λ k le. above k le ∙ kept.after k (omega arith);
-    }
-
--- one byte more
-pub changed-byte : (done : ℕ → ℕ) (old now : List ℕ) (at b : ℕ) → ChangedBelow done old now at → at < length now → b ≡ done at → ChangedBelow done old (set now at b) (at + 1)
-changed-byte done old now at b kept lt is =
-    record {
-      before = below_more (λ k. get_or (set now at b) k 0 ≡ done k) at
-          (λ k small. let ne : k ≢ at = omega arith in rw get_or-set_other (kept.before k small))
-          (rw get_or-set_same is);
-      after = λ k le. let ne : k ≢ at = omega arith in rw get_or-set_other (kept.after k (omega arith));
     }

@@ -14,7 +14,8 @@ pub fn double(b: u8) -> u8
     }
 }
 
-/// The product of `b` and `x`, by the doublings of `b` at the bits of `x`: H. P. Anvin, "The mathematics of RAID-6".
+/// The product of `b` and `x`, by the doublings of `b` at the bits of `x`.
+/// H. P. Anvin, "The mathematics of RAID-6".
 pub fn mul(b: u8, x: u8) -> u8
     ensures { result ≡ times b x }
 {

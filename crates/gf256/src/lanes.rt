@@ -83,8 +83,8 @@ fn high_half(lanes: u8x32) -> u8x32
     low_half(lanes >> u8x32::splat(4))
 }
 
-/// The products of one byte by the numbers below 16 and by the multiples of 16, each table twice over: two of them add up to
-/// the product by any byte.
+/// The products of one byte by the numbers below 16 and by the multiples of 16, each table twice
+/// over: two of them add up to the product by any byte.
 #[derive(Clone, Copy)]
 pub struct Products {
     pub factor: u8,
@@ -114,7 +114,8 @@ impl Products {
     /// The factor times each lane.
     #[inline(always)]
     pub fn times_lanes(&self, lanes: u8x32) -> u8x32
-        ensures { (k : ℕ) → k < 32 → slice_index result k ≡ times self.now.factor (slice_index lanes k) }
+        ensures { (k : ℕ) → k < 32
+            → slice_index result k ≡ times self.now.factor (slice_index lanes k) }
     {
         let low = low_half(lanes);
         let high = high_half(lanes);

@@ -1,4 +1,4 @@
-// Keeps nothing: arithmetic in GF(256) with the polynomial x^8 + x^4 + x^3 + x^2 + 1 (11D), on bytes, lanes and slices.
+// Keeps nothing: arithmetic in GF(256) with x^8 + x^4 + x^3 + x^2 + 1 (11D), on bytes, lanes and slices.
 // Promises that each result is the element that specs/Field.antt defines, for every byte and every length.
 #![tactic(auto)]
 

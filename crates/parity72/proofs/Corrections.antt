@@ -39,14 +39,11 @@ adds-at f old new at n below here above size =
 with_added-here : (a x : ℕ) (column : ℕ → ℕ) → with_added a x column a ≡ bit_xor (column a) x
 with_added-here a x column = grind (arith, nat_tests)
 
-with_added-other : (a x : ℕ) (column : ℕ → ℕ) (i : ℕ) → i ≢ a → with_added a x column i ≡ column i
-with_added-other a x column i ne = grind (arith, nat_tests)
-
 pub added-here : (a x : ℕ) (column : ℕ → ℕ) (i : ℕ) → i ≡ a → with_added a x column i ≡ bit_xor (column a) x
 added-here a x column i e = ap (with_added a x column) e ∙ with_added-here a x column
 
 pub added-other : (a x : ℕ) (column : ℕ → ℕ) (i : ℕ) → i ≢ a → with_added a x column i ≡ column i
-added-other a x column i ne = with_added-other a x column i ne
+added-other a x column i ne = grind (arith, nat_tests)
 
 -- one shard that something is added to, at each of its n bytes from `at` on
 pub fixes-one : (x : ℕ → ℕ) (old : List (List ℕ)) (a : ℕ) (s : List ℕ) (at n : ℕ) → a < length old → AddsAt x (shard_of old a) s at n

@@ -32,9 +32,6 @@ not-in_two a b i na nb = λ h. not-two a b i h.0 h.1 h.2 na nb
 pub in_first : (a : ℕ) (rest : List ℕ) → Contains (a ∷ rest) a
 in_first a rest = (0, omega arith, refl)
 
-pub in_second : (a b : ℕ) (rest : List ℕ) → Contains (a ∷ b ∷ rest) b
-in_second a b rest = (1, omega arith, refl)
-
 -- what restores more lost shards restores fewer
 pub restores-fewer : (fewer more left : List ℕ) (old new : List (List ℕ)) → ((i : ℕ) → Contains fewer i → Contains more i) → Restores more left old new → Restores fewer left old new
 restores-fewer fewer more left old new within restored =

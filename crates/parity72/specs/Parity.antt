@@ -31,7 +31,7 @@ pub record IsCodeword (shards : List (List ℕ)) : Type 0 where
   pub p : (k : ℕ) → k < 4096 → byte_of shards 7 k ≡ p_of shards k
   pub q : (k : ℕ) → k < 4096 → byte_of shards 8 k ≡ q_of shards k
 
--- what it tells to have read the first n shards at byte `from` up to `to`: shards have 4096 bytes, and those are below 256
+-- what a read of the first n shards from byte `from` up to `to` tells: each shard has 4096 bytes, and those are below 256
 pub record IsRead (n : ℕ) (shards : List (List ℕ)) (from to : ℕ) : Type 0 where
   pub sizes : (i : ℕ) → i < length shards → from < to → length (shard_of shards i) ≡ 4096
   pub bytes : (i k : ℕ) → i < n → from ≤ k → k < to → byte_of shards i k < 256

@@ -7,7 +7,8 @@ ghost use Rattle.parity72.specs.Recovery.{Encodes};
 use crate::columns::{p_at, q_at};
 use gf256::put_lanes;
 
-/// Writes P and Q of seven data shards of 4096 bytes, in one pass over them. H. P. Anvin, "The mathematics of RAID-6".
+/// Writes P and Q of seven data shards of 4096 bytes, in one pass over them.
+/// H. P. Anvin, "The mathematics of RAID-6".
 pub fn encode(shards: &[[u8; 4096]; 7], p: &mut [u8; 4096], q: &mut [u8; 4096])
     ensures { IsCodeword (shards.now ++ p.new ∷ q.new ∷ []) }
 {

@@ -1,4 +1,4 @@
-// Keeps nothing: the two parity shards of seven data shards, P their sum and Q the sum of two to the i times the i-th.
+// Keeps nothing: P and Q of seven data shards, their sum and the sum of two to the i times the i-th.
 // Promises that what is encoded is a codeword, and that whichever two of its nine shards are lost come back.
 #![tactic(auto)]
 

@@ -34,7 +34,8 @@ fn add_p_syndrome(shards: &mut [[u8; 4096]; 9], a: usize, at: usize)
     add_at(syndrome, &mut shards[a], at);
 }
 
-// Adds to the 32 bytes of shard `b` from `at` on the sum of the syndromes times the factors, and to those of `a` that and P's syndrome.
+// Corrects the 32 bytes of two shards from `at` on: adds to `b` the sum of the syndromes times the
+// factors, and to `a` that and P's syndrome.
 #[inline(always)]
 fn correct_block(
     shards: &mut [[u8; 4096]; 9],
@@ -81,8 +82,8 @@ fn correct_by_p(shards: &mut [[u8; 4096]; 9], a: usize)
     }
 }
 
-// Two data shards: with P' and Q' the syndromes, the second is wrong by (2^first P' + Q') / (2^first + 2^second), and the first
-// by P' and that.
+// Two data shards: with P' and Q' the syndromes, the second is wrong by
+// (2^first P' + Q') / (2^first + 2^second), and the first by P' and that.
 fn recover_two_data(shards: &mut [[u8; 4096]; 9], first: u8, second: u8)
     requires first_in { first < 7 }
     requires second_in { second < 7 }
@@ -171,8 +172,9 @@ fn recover_two(shards: &mut [[u8; 4096]; 9], i: u8, j: u8)
     }
 }
 
-/// Recovers the lost of nine shards of 4096 bytes, of which 7 is P and 8 is Q, whatever the lost ones hold. It takes one pass over
-/// the shards, and a second where Q is lost with a data shard. H. P. Anvin, "The mathematics of RAID-6".
+/// Recovers the lost of nine shards of 4096 bytes, of which 7 is P and 8 is Q, whatever the lost ones
+/// hold. It takes one pass over the shards, and a second where Q is lost with a data shard.
+/// H. P. Anvin, "The mathematics of RAID-6".
 pub fn recover(shards: &mut [[u8; 4096]; 9], lost: &ArrayVec<u8, 2>)
     requires numbers { All (λ i. i < 9) lost.now.items }
     requires distinct { AllPairs (λ i j. i ≢ j) lost.now.items }

@@ -10,7 +10,11 @@ use arrayvec::ArrayVec;
 
 /// `parity72::encode`.
 #[unsafe(no_mangle)]
-pub extern "C" fn parity_bench_encode(shards: &[[u8; 4096]; 7], p: &mut [u8; 4096], q: &mut [u8; 4096])
+pub extern "C" fn parity_bench_encode(
+    shards: &[[u8; 4096]; 7],
+    p: &mut [u8; 4096],
+    q: &mut [u8; 4096],
+)
     ensures { IsCodeword (shards.now ++ p.new ∷ q.new ∷ []) }
 {
     parity72::encode(shards, p, q);
@@ -22,7 +26,8 @@ pub extern "C" fn parity_bench_recover(shards: &mut [[u8; 4096]; 9], i: u8, j: u
     requires i_in { i < 9 }
     requires j_in { j < 9 }
     requires apart { i ≢ j }
-    ensures { (whole : List (List ℕ)) → IsCodeword whole → AgreesOutside (i ∷ j ∷ []) shards.old whole → shards.new ≡ whole }
+    ensures { (whole : List (List ℕ)) → IsCodeword whole → AgreesOutside (i ∷ j ∷ []) shards.old whole
+        → shards.new ≡ whole }
 {
     let mut lost: ArrayVec<u8, 2> = ArrayVec::new();
     lost.push(i);

@@ -1,4 +1,4 @@
-use Rattle.std.proofs.Common.{◌≡◌, ℕ, ◌*◌, ◌%◌, ◌^◌, ◌<◌, true, eqb, get_or, List, [], ◌∷◌, replicate, refl, ap, ◌∙◌, arith}
+use Rattle.std.proofs.Common.{◌≡◌, ℕ, ◌*◌, ◌%◌, ◌^◌, ◌<◌, true, eqb, get_or, List, replicate, refl, ap, ◌∙◌, arith}
 use lib.Lanes.{zip2}
 use borrow.Author.Tests.{eqb-true}
 use Rattle.gf256.specs.Field.{times}
