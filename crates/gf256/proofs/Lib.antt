@@ -1,0 +1,5 @@
+pub mod Checks
+pub mod Laws
+pub mod Linear
+pub mod LaneFacts
+pub mod Progress

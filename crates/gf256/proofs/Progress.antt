@@ -1,0 +1,28 @@
+-- A loop that writes a slice from its front.
+use Rattle.std.proofs.Common.{◌≡◌, ℕ, ◌+◌, ◌-◌, ◌<◌, ◌≤◌, List, get_or, arith, ◌∙◌, subst, inl, inr}
+use Rattle.std.proofs.lemmas.Bool.{cases_lt}
+
+-- below `at` each byte is what `done` says, and from there on it is what it was
+pub record ChangedBelow (done : ℕ → ℕ) (old now : List ℕ) (at : ℕ) : Type 0 where
+  pub before : (k : ℕ) → k < at → get_or now k 0 ≡ done k
+  pub after : (k : ℕ) → at ≤ k → get_or now k 0 ≡ get_or old k 0
+
+back : (at k : ℕ) → at ≤ k → at + (k - at) ≡ k
+back at k le = omega arith
+
+-- what holds below `at`, and of the n places from there on, holds below `at + n`
+pub below_block : (P : ℕ → Type 0) (at n : ℕ) → ((k : ℕ) → k < at → P k) → ((k : ℕ) → k < n → P (at + k)) → (k : ℕ) → k < at + n → P k
+below_block P at n low here k lt =
+    elim (cases_lt k at) [ inl l ↦ low k l | inr r ↦ subst P (back at k r) (here (k - at) (omega arith)) ]
+
+-- one block of n bytes more
+pub changed-block : (done : ℕ → ℕ) (old now new : List ℕ) (at n : ℕ) → ChangedBelow done old now at
+    → ((k : ℕ) → k < at → get_or new k 0 ≡ get_or now k 0)
+    → ((k : ℕ) → k < n → get_or new (at + k) 0 ≡ done (at + k))
+    → ((k : ℕ) → at + n ≤ k → get_or new k 0 ≡ get_or now k 0)
+    → ChangedBelow done old new (at + n)
+changed-block done old now new at n kept below here above =
+    record {
+      before = below_block (λ k. get_or new k 0 ≡ done k) at n (λ k lt. below k lt ∙ kept.before k lt) here;
+      after = λ k le. above k le ∙ kept.after k (omega arith);
+    }

@@ -1,0 +1,13 @@
+// Keeps nothing: arithmetic in GF(256) with x^8 + x^4 + x^3 + x^2 + 1 (11D), on bytes, lanes and slices.
+// Promises that each result is the element that specs/Field.antt defines, for every byte and every length.
+#![tactic(auto)]
+
+mod bytes;
+mod lanes;
+mod slices;
+#[cfg(test)]
+mod tests;
+
+pub use bytes::{div, double, mul, power_of_two};
+pub use lanes::{Products, add_lanes, double_lanes, lanes_at, put_lanes};
+pub use slices::{mul_into, mul2_into, xor_into};

@@ -1,0 +1,5 @@
+pub mod Sums
+pub mod Codewords
+pub mod Corrections
+pub mod Errors
+pub mod Restoring

@@ -1,0 +1,14 @@
+use Rattle.std.proofs.Common.{◌≡◌, ℕ, ◌+◌, ◌-◌, ◌<◌, ◌≤◌, slice_index}
+use Rattle.parity72.specs.Parity.{byte_of}
+use Rattle.parity72.proofs.Sums.{powers_from}
+use Rattle.parity72.proofs.columns.q_at.Given as goal
+
+abbrev pub invariant-loop-i : goal.invariant-loop-i
+invariant-loop-i l = record {
+  within : l.i ≤ 7;
+  bytes : (j k : ℕ) → l.i ≤ j → j < 7 → k < 32 → byte_of l.shards j (l.at + k) < 256;
+  sum : (k : ℕ) → k < 32 → slice_index l.sum k ≡ powers_from (λ j. byte_of l.shards j (l.at + k)) l.i (7 - l.i);
+}
+
+abbrev pub decreases-loop-i : goal.decreases-loop-i
+decreases-loop-i l = l.i

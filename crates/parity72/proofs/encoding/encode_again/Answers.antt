@@ -1,0 +1,26 @@
+use Rattle.std.proofs.Common.{◌≡◌, ◌+◌, ◌*◌, length, subst, ◌∙◌, arith}
+use Rattle.std.proofs.Math.ListN.{set}
+use Rattle.parity72.specs.Recovery.{Encodes}
+use Rattle.parity72.proofs.Corrections.{encodes-none, encodes-more}
+use Rattle.parity72.proofs.encoding.encode_again.Goals as goal
+
+pub loop-block-init : goal.loop-block-init
+loop-block-init c = encodes-none c.args.shards.now
+
+pub loop-block-preserved : goal.loop-block-preserved
+loop-block-preserved c =
+    let now = c.loop-block.shards in
+    let m = c.loop-block.block in
+    let end : m * 32 + 32 ≡ (m + 1) * 32 = omega arith in
+    let s = c.put_lanes.new.into in
+    let t = c.put_lanes-in-loop-block.new.into in
+    let nine : length now ≡ 9 = c.loop-block.invariant.same_count ∙ c.told-shards in
+    subst (Encodes c.args.shards.now (set (set now 7 s) 8 t)) end
+    (encodes-more c.args.shards.now now s t (m * 32) 32 c.told-shards c.loop-block.invariant (λ i lt. c.p_at-p_lanes.ensures.was_read.sizes i (omega arith) (omega arith))
+    (record { below = c.put_lanes.ensures.below; here = λ k lt. c.put_lanes.ensures.here k lt ∙ c.p_at-p_lanes.ensures.sum k lt; same_size = c.put_lanes.auto.into })
+    (record { below = c.put_lanes-in-loop-block.ensures.below; here = λ k lt. c.put_lanes-in-loop-block.ensures.here k lt ∙ c.q_at-q_lanes.ensures.sum k lt; same_size = c.put_lanes-in-loop-block.auto.into }))
+
+pub returns : goal.returns
+returns c =
+    let end : c.loop-block.block * 32 ≡ 4096 = omega arith in
+    subst (Encodes c.args.shards.now c.loop-block.shards) end c.loop-block.invariant

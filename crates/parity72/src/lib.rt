@@ -1,0 +1,12 @@
+// Keeps nothing: P and Q of seven data shards, their sum and the sum of two to the i times the i-th.
+// Promises that what is encoded is a codeword, and that whichever two of its nine shards are lost come back.
+#![tactic(auto)]
+
+mod columns;
+mod encoding;
+mod recovery;
+#[cfg(test)]
+mod tests;
+
+pub use encoding::encode;
+pub use recovery::recover;
