@@ -1,0 +1,6 @@
+pub mod UnitLemmas
+pub mod MarkLemmas
+pub mod RoomLemmas
+pub mod ChoiceLemmas
+pub mod TakingLemmas
+pub mod LoweringLemmas
