@@ -44,8 +44,8 @@ member-within drives slot member =
     ⊎_elim
     (λ (lt : slot < length drives). lt)
     (λ (ge : length drives ≤ slot). absurd (
-      let past : drive_at drives slot ≡ no_drive = get_or_past drives slot no_drive ge in
-      let none : (drive_at drives slot).member ≡ false = ap (λ (d : Drive). d.member) past in cc))
+    let past : drive_at drives slot ≡ no_drive = get_or_past drives slot no_drive ge in
+    let none : (drive_at drives slot).member ≡ false = ap (λ (d : Drive). d.member) past in cc))
     (cases_lt slot (length drives))
 
 set-tells : (chosen : List Bool) (at slot : ℕ) → is_chosen (set chosen at true) slot ≡ true → (slot ≡ at) ⊎ (is_chosen chosen slot ≡ true)
@@ -65,10 +65,10 @@ best-first drives chosen slot b best apart unchosen member =
     ⊎_elim
     (λ (below : b < slot). let lt : offer_at drives chosen b < offer_at drives chosen slot = best.lowest b below in inl (omega arith))
     (λ (above : slot ≤ b).
-      ⊎_elim
-      (λ (less : free_count (drive_at drives b) < free_count (drive_at drives slot)). inl less)
-      (λ (ge : free_count (drive_at drives slot) ≤ free_count (drive_at drives b)). inr (omega arith, omega arith))
-      (cases_lt (free_count (drive_at drives b)) (free_count (drive_at drives slot))))
+    ⊎_elim
+    (λ (less : free_count (drive_at drives b) < free_count (drive_at drives slot)). inl less)
+    (λ (ge : free_count (drive_at drives slot) ≤ free_count (drive_at drives b)). inr (omega arith, omega arith))
+    (cases_lt (free_count (drive_at drives b)) (free_count (drive_at drives slot))))
     (cases_lt b slot)
 
 pub choice-more : (drives : List Drive) (chosen : List Bool) (count slot : ℕ) → length drives ≤ length chosen → IsChoice drives chosen count → IsBestOffer drives chosen slot → IsChoice drives (set chosen slot true) (count + 1)
@@ -94,7 +94,7 @@ choice-more drives chosen count slot size h best =
           (set-tells chosen slot k is);
       first = λ a b is unset member.
           let apart : b ≢ slot = λ same. (
-            let set' : is_chosen (set chosen slot true) b ≡ true = ap (is_chosen (set chosen slot true)) same ∙ get_or-set_same chosen slot true false within in cc) in
+          let set' : is_chosen (set chosen slot true) b ≡ true = ap (is_chosen (set chosen slot true)) same ∙ get_or-set_same chosen slot true false within in cc) in
           let unchosen : is_chosen chosen b ≡ false = sym (get_or-set_other chosen slot b true false apart) ∙ unset in
           ⊎_elim
           (λ (same : a ≡ slot). rw same (best-first drives chosen slot b best apart unchosen member))
@@ -117,8 +117,8 @@ share-flag false true free none = omega arith
 pub choice-short : (drives : List Drive) (chosen : List Bool) (count : ℕ) → IsChoice drives chosen count → count < 9 → IsNoOffer drives chosen → total_at drives 1 < 9
 choice-short drives chosen count h few none =
     let le : total_at drives 1 ≤ sum_by (λ (d : Drive). 0) drives + count_by (λ b. b) chosen =
-        sum_by-le-flags (share 1) (λ (d : Drive). 0) no_drive no_drive drives drives chosen refl (λ k lt.
-          share-flag (is_chosen chosen k) (drive_at drives k).member (free_count (drive_at drives k)) (none k lt)) in
+    sum_by-le-flags (share 1) (λ (d : Drive). 0) no_drive no_drive drives drives chosen refl (λ k lt.
+    share-flag (is_chosen chosen k) (drive_at drives k).member (free_count (drive_at drives k)) (none k lt)) in
     omega (arith, sum_by-zeros drives, h.count)
 
 -- ---- nine chosen
@@ -129,7 +129,7 @@ share-one drive member some = rw member (omega arith)
 pub choice-room : (drives : List Drive) (chosen : List Bool) → IsChoice drives chosen 9 → IsGroups drives 0 → ⊥
 choice-room drives chosen h none =
     let room : 1 * count_by (λ b. b) chosen ≤ total_at drives 1 =
-        flags-le-sum_by (share 1) no_drive 1 drives chosen (λ k is. (h.within k is, share-one (drive_at drives k) (h.members k is) (h.some k is))) in
+    flags-le-sum_by (share 1) no_drive 1 drives chosen (λ k is. (h.within k is, share-one (drive_at drives k) (h.members k is) (h.some k is))) in
     let less : 1 ≤ 0 = none.greatest 1 (omega (arith, h.count)) in
     absurd (omega arith)
 

@@ -12,14 +12,14 @@ some-below p zero = inl (λ k lt. absurd (omega arith))
 some-below p (suc n) =
     ⊎_elim
     (λ (none : (k : ℕ) → k < n → p k ≡ false).
-      ⊎_elim
-      (λ (here : p n ≡ true). inr (n, here))
-      (λ (not_here : p n ≡ false). inl (λ k lt.
-        ⊎_elim
-        (λ (below : k < n). none k below)
-        (λ (ge : n ≤ k). let same : k ≡ n = omega arith in ap p same ∙ not_here)
-        (cases_lt k n)))
-      (cases_Bool (p n)))
+    ⊎_elim
+    (λ (here : p n ≡ true). inr (n, here))
+    (λ (not_here : p n ≡ false). inl (λ k lt.
+    ⊎_elim
+    (λ (below : k < n). none k below)
+    (λ (ge : n ≤ k). let same : k ≡ n = omega arith in ap p same ∙ not_here)
+    (cases_lt k n)))
+    (cases_Bool (p n)))
     (λ (some : (k : ℕ) × (p k ≡ true)). inr some)
     (some-below p n)
 
@@ -43,7 +43,7 @@ share-le old new chosen groups slot h =
 total-less : (old new : List Drive) (chosen : List Bool) (groups : ℕ) → LosesOne old new chosen → total_at new groups ≤ total_at old groups
 total-less old new chosen groups h =
     let le : total_at new groups ≤ total_at old groups + count_by (λ b. b) [] =
-        sum_by-le-flags (share groups) (share groups) no_drive no_drive new old [] h.size (λ k lt. share-le old new chosen groups k h) in
+    sum_by-le-flags (share groups) (share groups) no_drive no_drive new old [] h.size (λ k lt. share-le old new chosen groups k h) in
     omega arith
 
 -- ---- a member that isn't chosen has as many free units as there were groups, and so has each that is chosen
@@ -55,14 +55,14 @@ room-by-chosen : (old new : List Drive) (chosen : List Bool) (groups b : ℕ) �
     → groups + 1 ≤ free_count (drive_at old b) → 9 * groups ≤ total_at new groups
 room-by-chosen old new chosen groups b choice h member unset many =
     let le : groups * count_by (λ f. f) chosen ≤ total_at new groups = flags-le-sum_by (share groups) no_drive groups new chosen (λ k is.
-        let within : k < length old = choice.within k is in
-        let more : free_count (drive_at old b) ≤ free_count (drive_at old k) =
-            ⊎_elim
-            (λ (lt : free_count (drive_at old b) < free_count (drive_at old k)). omega arith)
-            (λ (eq : (free_count (drive_at old k) ≡ free_count (drive_at old b)) × (k < b)). omega (arith, eq.0))
-            (choice.first k b is unset member) in
-        let loses = rw is at (h.counts k) in
-        (omega (arith, h.size), share-full (drive_at new k).member groups (free_count (drive_at new k)) (h.members k ∙ choice.members k is) (omega (arith, loses)))) in
+    let within : k < length old = choice.within k is in
+    let more : free_count (drive_at old b) ≤ free_count (drive_at old k) =
+    ⊎_elim
+    (λ (lt : free_count (drive_at old b) < free_count (drive_at old k)). omega arith)
+    (λ (eq : (free_count (drive_at old k) ≡ free_count (drive_at old b)) × (k < b)). omega (arith, eq.0))
+    (choice.first k b is unset member) in
+    let loses = rw is at (h.counts k) in
+    (omega (arith, h.size), share-full (drive_at new k).member groups (free_count (drive_at new k)) (h.members k ∙ choice.members k is) (omega (arith, loses)))) in
     omega (arith, rw choice.count at le)
 
 -- ---- each member with as many free units as there were groups is chosen
@@ -80,8 +80,8 @@ room-by-all : (old new : List Drive) (chosen : List Bool) (groups : ℕ) → IsC
     → 9 * (groups + 1) ≤ total_at old (groups + 1) → 9 * groups ≤ total_at new groups
 room-by-all old new chosen groups choice h none enough =
     let le : total_at old (groups + 1) ≤ total_at new groups + count_by (λ b. b) chosen =
-        sum_by-le-flags (share (groups + 1)) (share groups) no_drive no_drive old new chosen (sym h.size) (λ k lt.
-          rw (h.members k) (share-flag (drive_at old k).member (is_chosen chosen k) groups (free_count (drive_at old k)) (free_count (drive_at new k)) (h.counts k) (few-left old chosen (groups + 1) k (none k lt)))) in
+    sum_by-le-flags (share (groups + 1)) (share groups) no_drive no_drive old new chosen (sym h.size) (λ k lt.
+    rw (h.members k) (share-flag (drive_at old k).member (is_chosen chosen k) groups (free_count (drive_at old k)) (free_count (drive_at new k)) (h.counts k) (few-left old chosen (groups + 1) k (none k lt)))) in
     omega (arith, choice.count)
 
 -- ---- by one at most
@@ -91,15 +91,16 @@ room-left old new chosen groups choice h enough =
     ⊎_elim
     (λ (none : (k : ℕ) → k < length old → left_out old chosen (groups + 1) k ≡ false). room-by-all old new chosen groups choice h none enough)
     (λ (some : (k : ℕ) × (left_out old chosen (groups + 1) k ≡ true)).
-      let parts = and_parts (drive_at old some.0).member (not (is_chosen chosen some.0) && leb (groups + 1) (free_count (drive_at old some.0))) some.1 in
-      let rest = and_parts (not (is_chosen chosen some.0)) (leb (groups + 1) (free_count (drive_at old some.0))) parts.1 in
-      room-by-chosen old new chosen groups some.0 choice h parts.0 (not-true (is_chosen chosen some.0) rest.0) (leb-true (groups + 1) (free_count (drive_at old some.0)) rest.1))
+    let parts = and_parts (drive_at old some.0).member (not (is_chosen chosen some.0) && leb (groups + 1) (free_count (drive_at old some.0))) some.1 in
+    let rest = and_parts (not (is_chosen chosen some.0)) (leb (groups + 1) (free_count (drive_at old some.0))) parts.1 in
+    room-by-chosen old new chosen groups some.0 choice h parts.0 (not-true (is_chosen chosen some.0) rest.0) (leb-true (groups + 1) (free_count (drive_at old some.0)) rest.1))
     (some-below (left_out old chosen (groups + 1)) (length old))
 
 pub lowers-by-one : (old new : List Drive) (chosen : List Bool) → IsChoice old chosen 9 → LosesOne old new chosen → LowersByOne old new
 lowers-by-one old new chosen choice h = λ before after was is. (
-    was.greatest after (omega (arith, is.enough, total-less old new chosen after h)),
-    within before after was is)
+  was.greatest after (omega (arith, is.enough, total-less old new chosen after h)),
+  within before after was is,
+)
   where
     within : (before after : ℕ) → IsGroups old before → IsGroups new after → before ≤ after + 1
     within zero after was is = omega arith

@@ -74,7 +74,7 @@ total_at-more (drive ∷ drives) groups =
 total_at-least : (drives : List Drive) (groups : ℕ) → groups * sum_by (gives_more groups) drives ≤ total_at drives groups
 total_at-least [] groups = omega arith
 total_at-least (drive ∷ drives) groups =
-    rw sum_by-cons (omega (arith, total_at-least drives groups, least-of drive.member (free_count drive) groups, sum_by-cons (share groups) drive drives))
+    rw (sum_by-cons (gives_more groups) drive drives) (omega (arith, total_at-least drives groups, least-of drive.member (free_count drive) groups, sum_by-cons (share groups) drive drives))
 
 enough-less : (drives : List Drive) (groups : ℕ) → 9 * (groups + 1) ≤ total_at drives (groups + 1) → 9 * groups ≤ total_at drives groups
 enough-less drives groups h =

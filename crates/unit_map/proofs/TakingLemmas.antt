@@ -8,9 +8,10 @@ use Rattle.pur_base.specs.declared.limits.TheConstants.{BOOT_UNITS}
 use Rattle.pur_base.specs.declared.place.Place.{Place}
 use Rattle.unit_map.specs.declared.drive.Drive.{Drive}
 use Rattle.unit_map.specs.Units.{IsLowestFree}
-use Rattle.unit_map.specs.Map.{no_drive, drive_at, free_count, slots_of, with_unit_of, with_unit, with_units, IsPlace, IsTaken, ComesFirst}
+use Rattle.unit_map.specs.Map.{no_drive, drive_at, free_count, slots_of, with_unit_of, with_unit, with_units, IsPlace, IsHeld, IsTaken, ComesFirst}
 use Rattle.unit_map.specs.Choice.{is_chosen, IsChoice, LosesOne, TakesChosen}
 use Rattle.unit_map.proofs.UnitLemmas.{count-none, count-removed}
+use Rattle.unit_map.proofs.MapLemmas.{IsHeld-used}
 use Rattle.unit_map.proofs.MarkLemmas.{no_place, place_at}
 
 -- what stands once the drives below a slot have given their unit
@@ -80,9 +81,9 @@ taken-skip old now chosen places slot shard within unchosen h = record {
   counts = λ k lt.
       ⊎_elim
       (λ (same : k ≡ slot).
-        let not_so : is_chosen chosen k ≡ false = ap (is_chosen chosen) same ∙ unchosen in
-        let is : free_count (drive_at now k) ≡ free_count (drive_at old k) = ap free_count (h.rest k (omega arith)) in
-        rw not_so (omega arith))
+      let not_so : is_chosen chosen k ≡ false = ap (is_chosen chosen) same ∙ unchosen in
+      let is : free_count (drive_at now k) ≡ free_count (drive_at old k) = ap free_count (h.rest k (omega arith)) in
+      rw not_so (omega arith))
       (λ (below : k < slot). h.counts k below)
       (last_or_below k slot lt);
 }
@@ -125,7 +126,7 @@ taken-more old now chosen places slot shard unit within inside is at boot h =
           ⊎_elim
           (λ (same : i ≡ shard). let there : (place_at places' i).slot ≡ slot = ap (λ (j : ℕ). (place_at places' j).slot) same ∙ ap (λ (p : Place). p.slot) here in omega arith)
           (λ (less : i < shard). let kept : (place_at places' i).slot ≡ (place_at places i).slot = ap (λ (p : Place). p.slot) (place-kept places shard i place less) in
-            let was : (place_at places i).slot < slot = h.below i less in omega arith)
+          let was : (place_at places i).slot < slot = h.below i less in omega arith)
           (last_or_below i shard lt);
       flagged = λ i lt.
           ⊎_elim
@@ -135,7 +136,7 @@ taken-more old now chosen places slot shard unit within inside is at boot h =
       lowest = λ i lt.
           ⊎_elim
           (λ (same : i ≡ shard). subst (λ (p : Place). IsLowestFree (drive_at old p.slot).free p.unit) (sym (ap (place_at places') same ∙ here))
-            (subst (λ (d : Drive). IsLowestFree d.free unit) same_drive at))
+          (subst (λ (d : Drive). IsLowestFree d.free unit) same_drive at))
           (λ (less : i < shard). subst (λ (p : Place). IsLowestFree (drive_at old p.slot).free p.unit) (sym (place-kept places shard i place less)) (h.lowest i less))
           (last_or_below i shard lt);
       boot = λ i lt.
@@ -146,20 +147,20 @@ taken-more old now chosen places slot shard unit within inside is at boot h =
       ascending = λ i j less lt.
           ⊎_elim
           (λ (same : j ≡ shard).
-            let there : (place_at places' j).slot ≡ slot = ap (λ (m : ℕ). (place_at places' m).slot) same ∙ ap (λ (p : Place). p.slot) here in
-            let kept : (place_at places' i).slot ≡ (place_at places i).slot = ap (λ (p : Place). p.slot) (place-kept places shard i place (omega arith)) in
-            let was : (place_at places i).slot < slot = h.below i (omega arith) in omega arith)
+          let there : (place_at places' j).slot ≡ slot = ap (λ (m : ℕ). (place_at places' m).slot) same ∙ ap (λ (p : Place). p.slot) here in
+          let kept : (place_at places' i).slot ≡ (place_at places i).slot = ap (λ (p : Place). p.slot) (place-kept places shard i place (omega arith)) in
+          let was : (place_at places i).slot < slot = h.below i (omega arith) in omega arith)
           (λ (before : j < shard).
-            let kept-j : (place_at places' j).slot ≡ (place_at places j).slot = ap (λ (p : Place). p.slot) (place-kept places shard j place before) in
-            let kept-i : (place_at places' i).slot ≡ (place_at places i).slot = ap (λ (p : Place). p.slot) (place-kept places shard i place (omega arith)) in
-            let was : (place_at places i).slot < (place_at places j).slot = h.ascending i j less before in omega arith)
+          let kept-j : (place_at places' j).slot ≡ (place_at places j).slot = ap (λ (p : Place). p.slot) (place-kept places shard j place before) in
+          let kept-i : (place_at places' i).slot ≡ (place_at places i).slot = ap (λ (p : Place). p.slot) (place-kept places shard i place (omega arith)) in
+          let was : (place_at places i).slot < (place_at places j).slot = h.ascending i j less before in omega arith)
           (last_or_below j shard lt);
       found = λ k lt flag.
           ⊎_elim
           (λ (same : k ≡ slot). (shard, omega arith, ap (λ (p : Place). p.slot) here ∙ sym same))
           (λ (below : k < slot).
-            let was = h.found k below flag in
-            (was.0, omega (arith, was.1), ap (λ (p : Place). p.slot) (place-kept places shard was.0 place was.1) ∙ was.2))
+          let was = h.found k below flag in
+          (was.0, omega (arith, was.1), ap (λ (p : Place). p.slot) (place-kept places shard was.0 place was.1) ∙ was.2))
           (last_or_below k slot lt);
       members = λ k.
           ⊎_elim
@@ -169,14 +170,14 @@ taken-more old now chosen places slot shard unit within inside is at boot h =
       counts = λ k lt.
           ⊎_elim
           (λ (same : k ≡ slot).
-            let flag : is_chosen chosen k ≡ true = ap (is_chosen chosen) same ∙ is in
-            let one_less : count_by (λ b. b) (set (drive_at now slot).free unit false) + 1 ≡ free_count (drive_at now slot) = count-removed (drive_at now slot).free unit at.within at.free_there in
-            let new : free_count (drive_at now' k) ≡ count_by (λ b. b) (set (drive_at now slot).free unit false) = ap (λ (s : ℕ). free_count (drive_at now' s)) same ∙ ap free_count drive_here in
-            let was : free_count (drive_at old k) ≡ free_count (drive_at now slot) = ap (λ (s : ℕ). free_count (drive_at old s)) same ∙ ap free_count (sym same_drive) in
-            rw flag (omega arith))
+          let flag : is_chosen chosen k ≡ true = ap (is_chosen chosen) same ∙ is in
+          let one_less : count_by (λ b. b) (set (drive_at now slot).free unit false) + 1 ≡ free_count (drive_at now slot) = count-removed (drive_at now slot).free unit at.within at.free_there in
+          let new : free_count (drive_at now' k) ≡ count_by (λ b. b) (set (drive_at now slot).free unit false) = ap (λ (s : ℕ). free_count (drive_at now' s)) same ∙ ap free_count drive_here in
+          let was : free_count (drive_at old k) ≡ free_count (drive_at now slot) = ap (λ (s : ℕ). free_count (drive_at old s)) same ∙ ap free_count (sym same_drive) in
+          rw flag (omega arith))
           (λ (below : k < slot).
-            let apart : k ≢ slot = omega arith in
-            ap (λ (d : Drive). free_count d + cond (is_chosen chosen k) 1 0) (drive-kept now slot k _ apart) ∙ h.counts k below)
+          let apart : k ≢ slot = omega arith in
+          ap (λ (d : Drive). free_count d + cond (is_chosen chosen k) 1 0) (drive-kept now slot k _ apart) ∙ h.counts k below)
           (last_or_below k slot lt);
     }
 
@@ -232,11 +233,11 @@ loses-one old now chosen places slot le choice h = record {
       ⊎_elim
       (λ (lt : k < slot). h.counts k lt)
       (λ (ge : slot ≤ k).
-        let same : free_count (drive_at now k) ≡ free_count (drive_at old k) = ap free_count (h.rest k ge) in
-        ⊎_elim
-        (λ (is : is_chosen chosen k ≡ true). absurd (let within : k < length old = choice.within k is in omega arith))
-        (λ (unset : is_chosen chosen k ≡ false). rw unset (omega arith))
-        (cases_Bool (is_chosen chosen k)))
+      let same : free_count (drive_at now k) ≡ free_count (drive_at old k) = ap free_count (h.rest k ge) in
+      ⊎_elim
+      (λ (is : is_chosen chosen k ≡ true). absurd (let within : k < length old = choice.within k is in omega arith))
+      (λ (unset : is_chosen chosen k ≡ false). rw unset (omega arith))
+      (cases_Bool (is_chosen chosen k)))
       (cases_lt k slot);
 }
 
@@ -244,9 +245,12 @@ pub taken-all : (old now : List Drive) (chosen : List Bool) (places : List Place
 taken-all old now chosen places slot shard le choice h =
     let nine : shard ≡ 9 = taken-in old now chosen places slot shard le choice h in
     let all : IsTakenUpTo old now chosen places slot 9 = subst (λ (n : ℕ). IsTakenUpTo old now chosen places slot n) nine h in
+    let taken : IsTaken old places = is-taken old now chosen places slot le choice all in
+    let used : now ≡ with_units false old places = all.used ∙ ap (with_units false old) (take_all 9 places (omega (arith, all.room))) in
     record {
-      taken = is-taken old now chosen places slot le choice all;
-      used = all.used ∙ ap (with_units false old) (take_all 9 places (omega (arith, all.room)));
+      taken = taken;
+      used = used;
+      held = subst (λ (ds : List Drive). IsHeld ds places) (sym used) (IsHeld-used old places taken.ascending taken.within);
       loses = loses-one old now chosen places slot le choice all;
     }
 

@@ -36,13 +36,13 @@ changed-elsewhere words unit new value k size within apart h =
     let at : unit / 64 < length words = omega arith in
     ⊎_elim
     (λ (same : k / 64 ≡ unit / 64).
-      let is : get_or (set words (unit / 64) new) (k / 64) 0 ≡ new = ap (λ (i : ℕ). get_or (set words (unit / 64) new) i 0) same ∙ get_or-set_same words (unit / 64) new 0 at in
-      let was : get_or words (k / 64) 0 ≡ get_or words (unit / 64) 0 = ap (λ (i : ℕ). get_or words i 0) same in
-      let bits : bit_at new (k % 64) ≡ bit_at (get_or words (unit / 64) 0) (k % 64) = h.others (k % 64) (omega arith) (omega arith) in
-      rw (is, was, bits) refl)
+    let is : get_or (set words (unit / 64) new) (k / 64) 0 ≡ new = ap (λ (i : ℕ). get_or (set words (unit / 64) new) i 0) same ∙ get_or-set_same words (unit / 64) new 0 at in
+    let was : get_or words (k / 64) 0 ≡ get_or words (unit / 64) 0 = ap (λ (i : ℕ). get_or words i 0) same in
+    let bits : bit_at new (k % 64) ≡ bit_at (get_or words (unit / 64) 0) (k % 64) = h.others (k % 64) (omega arith) (omega arith) in
+    rw (is, was, bits) refl)
     (λ (other : k / 64 ≢ unit / 64).
-      let is : get_or (set words (unit / 64) new) (k / 64) 0 ≡ get_or words (k / 64) 0 = get_or-set_other words (unit / 64) (k / 64) new 0 other in
-      rw is refl)
+    let is : get_or (set words (unit / 64) new) (k / 64) 0 ≡ get_or words (k / 64) 0 = get_or-set_other words (unit / 64) (k / 64) new 0 other in
+    rw is refl)
     (cases_eq (k / 64) (unit / 64))
 
 pub units_of-changed : (words : List ℕ) (units unit new value : ℕ) → length words ≡ 64 → units ≤ 4096 → unit < units → IsBitChanged (get_or words (unit / 64) 0) new (unit % 64) value
@@ -52,18 +52,18 @@ units_of-changed words units unit new value size limit within h =
     let now = units_of (set words (unit / 64) new) units in
     let lens : length now ≡ length (set old unit (value == 1)) = length-units_of (set words (unit / 64) new) units ∙ sym (length-set old unit (value == 1) ∙ length-units_of words units) in
     same_lists now (set old unit (value == 1)) lens (λ k d lt.
-      let below : k < units = omega (arith, length-units_of (set words (unit / 64) new) units) in
-      let lhs : get_or now k d ≡ unit_free (set words (unit / 64) new) k = get_or_default now k d false lt ∙ get_or-units_of (set words (unit / 64) new) units k below in
-      let there : unit < length old = omega (arith, length-units_of words units) in
-      ⊎_elim
-      (λ (same : k ≡ unit).
-        let rhs : get_or (set old unit (value == 1)) k d ≡ (value == 1) = ap (λ (i : ℕ). get_or (set old unit (value == 1)) i d) same ∙ get_or-set_same old unit (value == 1) d there in
-        lhs ∙ ap (unit_free (set words (unit / 64) new)) same ∙ changed-there words unit new value size (omega arith) h ∙ sym rhs)
-      (λ (other : k ≢ unit).
-        let in' : k < length old = omega (arith, length-units_of words units) in
-        let rhs : get_or (set old unit (value == 1)) k d ≡ unit_free words k = get_or-set_other old unit k (value == 1) d other ∙ get_or_default old k d false in' ∙ get_or-units_of words units k below in
-        lhs ∙ changed-elsewhere words unit new value k size (omega arith) other h ∙ sym rhs)
-      (cases_eq k unit))
+    let below : k < units = omega (arith, length-units_of (set words (unit / 64) new) units) in
+    let lhs : get_or now k d ≡ unit_free (set words (unit / 64) new) k = get_or_default now k d false lt ∙ get_or-units_of (set words (unit / 64) new) units k below in
+    let there : unit < length old = omega (arith, length-units_of words units) in
+    ⊎_elim
+    (λ (same : k ≡ unit).
+    let rhs : get_or (set old unit (value == 1)) k d ≡ (value == 1) = ap (λ (i : ℕ). get_or (set old unit (value == 1)) i d) same ∙ get_or-set_same old unit (value == 1) d there in
+    lhs ∙ ap (unit_free (set words (unit / 64) new)) same ∙ changed-there words unit new value size (omega arith) h ∙ sym rhs)
+    (λ (other : k ≢ unit).
+    let in' : k < length old = omega (arith, length-units_of words units) in
+    let rhs : get_or (set old unit (value == 1)) k d ≡ unit_free words k = get_or-set_other old unit k (value == 1) d other ∙ get_or_default old k d false in' ∙ get_or-units_of words units k below in
+    lhs ∙ changed-elsewhere words unit new value k size (omega arith) other h ∙ sym rhs)
+    (cases_eq k unit))
 
 -- ---- counts
 
@@ -99,17 +99,17 @@ pub free-filled : (units free filled : ℕ) (words : List ℕ) → IsTidy units 
 free-filled units free filled words h some =
     ⊎_elim
     (λ (none : filled ≡ 0). absurd (
-      let empty : (i : ℕ) → i < 64 → get_or words i 0 ≡ 0 = λ i lt.
-          ⊎_elim
-          (λ (z : get_or words i 0 ≡ 0). z)
-          (λ (nz : get_or words i 0 ≢ 0). absurd (
-            let one : bit_at filled i ≡ 1 = h.filled_all i lt (omega arith) in
-            let nought : bit_at filled i ≡ 0 = ap (λ (n : ℕ). bit_at n i) none ∙ bit_at-zero i in omega arith))
-          (cases_eq (get_or words i 0) 0) in
-      let all : count_by (λ b. b) (units_of words units) ≡ 0 = count-none (units_of words units) (λ k lt.
-          let below : k < units = omega (arith, length-units_of words units) in
-          get_or-units_of words units k below ∙ zero-used words k (empty (k / 64) (omega (arith, h.limit)))) in
-      omega arith))
+    let empty : (i : ℕ) → i < 64 → get_or words i 0 ≡ 0 = λ i lt.
+    ⊎_elim
+    (λ (z : get_or words i 0 ≡ 0). z)
+    (λ (nz : get_or words i 0 ≢ 0). absurd (
+    let one : bit_at filled i ≡ 1 = h.filled_all i lt (omega arith) in
+    let nought : bit_at filled i ≡ 0 = ap (λ (n : ℕ). bit_at n i) none ∙ bit_at-zero i in omega arith))
+    (cases_eq (get_or words i 0) 0) in
+    let all : count_by (λ b. b) (units_of words units) ≡ 0 = count-none (units_of words units) (λ k lt.
+    let below : k < units = omega (arith, length-units_of words units) in
+    get_or-units_of words units k below ∙ zero-used words k (empty (k / 64) (omega (arith, h.limit)))) in
+    omega arith))
     (λ (some : filled ≢ 0). omega arith)
     (cases_eq filled 0)
 
@@ -120,11 +120,11 @@ lowest-is units free filled words word bit h at in' =
     let rest : unit % 64 ≡ bit = omega (arith, at.within, in'.within) in
     let there : unit_free words unit ≡ true = rw (quotient, rest) (yes_bit (get_or words word 0) bit in'.set) in
     let below : unit < units =
-        ⊎_elim
-        (λ (lt : unit < units). lt)
-        (λ (ge : units ≤ unit). absurd (
-          let no : unit_free words unit ≡ false = h.past unit ge (omega (arith, at.within, in'.within)) in cc))
-        (cases_lt unit units) in
+    ⊎_elim
+    (λ (lt : unit < units). lt)
+    (λ (ge : units ≤ unit). absurd (
+    let no : unit_free words unit ≡ false = h.past unit ge (omega (arith, at.within, in'.within)) in cc))
+    (cases_lt unit units) in
     record {
       within = omega (arith, length-units_of words units);
       free_there = get_or-units_of words units unit below ∙ there;
@@ -132,12 +132,12 @@ lowest-is units free filled words word bit h at in' =
           ⊎_elim
           (λ (same : k / 64 ≡ word). rw same (no_bit (get_or words word 0) (k % 64) (in'.below (k % 64) (omega arith))))
           (λ (other : k / 64 ≢ word). zero-used words k (
-            ⊎_elim
-            (λ (z : get_or words (k / 64) 0 ≡ 0). z)
-            (λ (nz : get_or words (k / 64) 0 ≢ 0). absurd (
-              let one : bit_at filled (k / 64) ≡ 1 = h.filled_all (k / 64) (omega (arith, at.within)) (omega arith) in
-              let nought : bit_at filled (k / 64) ≡ 0 = at.below (k / 64) (omega arith) in omega arith))
-            (cases_eq (get_or words (k / 64) 0) 0)))
+          ⊎_elim
+          (λ (z : get_or words (k / 64) 0 ≡ 0). z)
+          (λ (nz : get_or words (k / 64) 0 ≢ 0). absurd (
+          let one : bit_at filled (k / 64) ≡ 1 = h.filled_all (k / 64) (omega (arith, at.within)) (omega arith) in
+          let nought : bit_at filled (k / 64) ≡ 0 = at.below (k / 64) (omega arith) in omega arith))
+          (cases_eq (get_or words (k / 64) 0) 0)))
           (cases_eq (k / 64) word);
     }
 
@@ -145,9 +145,9 @@ pub boot-not-lowest : (units free filled : ℕ) (words : List ℕ) (unit : ℕ) 
 boot-not-lowest units free filled words unit h at =
     ⊎_elim
     (λ (lt : unit < BOOT_UNITS). absurd (
-      let no : unit_free words unit ≡ false = h.boot unit lt in
-      let within : unit < units = omega (arith, length-units_of words units, at.within) in
-      let yes : unit_free words unit ≡ true = sym (get_or-units_of words units unit within) ∙ at.free_there in cc))
+    let no : unit_free words unit ≡ false = h.boot unit lt in
+    let within : unit < units = omega (arith, length-units_of words units, at.within) in
+    let yes : unit_free words unit ≡ true = sym (get_or-units_of words units unit within) ∙ at.free_there in cc))
     (λ (ge : BOOT_UNITS ≤ unit). ge)
     (cases_lt unit BOOT_UNITS)
 
@@ -164,8 +164,8 @@ used-none words unit e = zero-used words unit (ap (λ (ws : List ℕ). get_or ws
 pub units_of-none : (words : List ℕ) (units : ℕ) → words ≡ replicate 64 0 → units_of words units ≡ replicate units false
 units_of-none words units e =
     same_lists (units_of words units) (replicate units false) (length-units_of words units ∙ sym (length-replicate units false)) (λ k d lt.
-      let below : k < units = omega (arith, length-units_of words units) in
-      get_or_default (units_of words units) k d false lt ∙ get_or-units_of words units k below ∙ used-none words k e ∙ sym (get_or-replicate units k false d below))
+    let below : k < units = omega (arith, length-units_of words units) in
+    get_or_default (units_of words units) k d false lt ∙ get_or-units_of words units k below ∙ used-none words k e ∙ sym (get_or-replicate units k false d below))
 
 pub tidy-none : (words : List ℕ) (units : ℕ) → words ≡ replicate 64 0 → units ≤ 4096 → IsTidy units 0 0 words
 tidy-none words units e limit = record {
@@ -174,7 +174,7 @@ tidy-none words units e limit = record {
   counted = sym (count-none (units_of words units) (λ k lt. get_or-units_of words units k (omega (arith, length-units_of words units)) ∙ used-none words k e));
   filled_only = λ i lt one. absurd (omega (arith, bit_at-zero i));
   filled_all = λ i lt some. absurd (
-    let none : get_or words i 0 ≡ 0 = ap (λ (ws : List ℕ). get_or ws i 0) e ∙ get_or-zeros 64 i in omega arith);
+      let none : get_or words i 0 ≡ 0 = ap (λ (ws : List ℕ). get_or ws i 0) e ∙ get_or-zeros 64 i in omega arith);
   boot = λ unit lt. used-none words unit e;
   past = λ unit le lt. used-none words unit e;
 }
@@ -185,7 +185,7 @@ some_bit : (word at : ℕ) → bit_at word at ≡ 1 → 0 < word
 some_bit word at one =
     ⊎_elim
     (λ (none : word ≡ 0). absurd (
-      let nought : bit_at word at ≡ 0 = ap (λ (n : ℕ). bit_at n at) none ∙ bit_at-zero at in omega arith))
+    let nought : bit_at word at ≡ 0 = ap (λ (n : ℕ). bit_at n at) none ∙ bit_at-zero at in omega arith))
     (λ (some : word ≢ 0). omega arith)
     (cases_eq word 0)
 
@@ -196,7 +196,7 @@ used_to : (word at : ℕ) → has_bit word at ≡ true → 0 < word
 used_to word at is =
     ⊎_elim
     (λ (none : word ≡ 0). absurd (
-      let not : has_bit word at ≡ false = no_bit word at (ap (λ (n : ℕ). bit_at n at) none ∙ bit_at-zero at) in cc))
+    let not : has_bit word at ≡ false = no_bit word at (ap (λ (n : ℕ). bit_at n at) none ∙ bit_at-zero at) in cc))
     (λ (some : word ≢ 0). omega arith)
     (cases_eq word 0)
 
@@ -216,15 +216,15 @@ tidy-inserted units free filled words unit new filled' h boot within absent bit 
       filled_only = λ i lt one.
           ⊎_elim
           (λ (same : i ≡ unit / 64). let is : get_or now i 0 ≡ new = word-there words (unit / 64) new i at same in
-            let some : 0 < new = some_bit new (unit % 64) bit.changed in omega arith)
+          let some : 0 < new = some_bit new (unit % 64) bit.changed in omega arith)
           (λ (other : i ≢ unit / 64). let is : get_or now i 0 ≡ get_or words i 0 = get_or-set_other words (unit / 64) i new 0 other in
-            let some : 0 < get_or words i 0 = h.filled_only i lt (sym (summary.others i lt other) ∙ one) in omega arith)
+          let some : 0 < get_or words i 0 = h.filled_only i lt (sym (summary.others i lt other) ∙ one) in omega arith)
           (cases_eq i (unit / 64));
       filled_all = λ i lt some.
           ⊎_elim
           (λ (same : i ≡ unit / 64). ap (λ (k : ℕ). bit_at filled' k) same ∙ summary.changed)
           (λ (other : i ≢ unit / 64). let is : get_or now i 0 ≡ get_or words i 0 = get_or-set_other words (unit / 64) i new 0 other in
-            summary.others i lt other ∙ h.filled_all i lt (omega arith))
+          summary.others i lt other ∙ h.filled_all i lt (omega arith))
           (cases_eq i (unit / 64));
       boot = λ k lt. changed-elsewhere words unit new 1 k h.size (omega (arith, h.limit)) (omega arith) bit ∙ h.boot k lt;
       past = λ k le lt. changed-elsewhere words unit new 1 k h.size (omega (arith, h.limit)) (omega arith) bit ∙ h.past k le lt;
@@ -251,37 +251,37 @@ tidy-removed units free filled words unit new filled' h within present bit empti
       filled_only = λ i lt one.
           ⊎_elim
           (λ (none : new ≡ 0).
-            ⊎_elim
-            (λ (same : i ≡ unit / 64). absurd (
-              let nought : bit_at filled' i ≡ 0 = ap (λ (k : ℕ). bit_at filled' k) same ∙ (emptied none).changed in omega arith))
-            (λ (other : i ≢ unit / 64). let is : get_or now i 0 ≡ get_or words i 0 = get_or-set_other words (unit / 64) i new 0 other in
-              let some : 0 < get_or words i 0 = h.filled_only i lt (sym ((emptied none).others i lt other) ∙ one) in omega arith)
-            (cases_eq i (unit / 64)))
+          ⊎_elim
+          (λ (same : i ≡ unit / 64). absurd (
+          let nought : bit_at filled' i ≡ 0 = ap (λ (k : ℕ). bit_at filled' k) same ∙ (emptied none).changed in omega arith))
+          (λ (other : i ≢ unit / 64). let is : get_or now i 0 ≡ get_or words i 0 = get_or-set_other words (unit / 64) i new 0 other in
+          let some : 0 < get_or words i 0 = h.filled_only i lt (sym ((emptied none).others i lt other) ∙ one) in omega arith)
+          (cases_eq i (unit / 64)))
           (λ (left : new ≢ 0).
-            ⊎_elim
-            (λ (same : i ≡ unit / 64). let is : get_or now i 0 ≡ new = word-there words (unit / 64) new i at same in omega arith)
-            (λ (other : i ≢ unit / 64). let is : get_or now i 0 ≡ get_or words i 0 = get_or-set_other words (unit / 64) i new 0 other in
-              let some : 0 < get_or words i 0 = h.filled_only i lt (ap (λ (n : ℕ). bit_at n i) (sym (kept (omega arith))) ∙ one) in omega arith)
-            (cases_eq i (unit / 64)))
+          ⊎_elim
+          (λ (same : i ≡ unit / 64). let is : get_or now i 0 ≡ new = word-there words (unit / 64) new i at same in omega arith)
+          (λ (other : i ≢ unit / 64). let is : get_or now i 0 ≡ get_or words i 0 = get_or-set_other words (unit / 64) i new 0 other in
+          let some : 0 < get_or words i 0 = h.filled_only i lt (ap (λ (n : ℕ). bit_at n i) (sym (kept (omega arith))) ∙ one) in omega arith)
+          (cases_eq i (unit / 64)))
           (cases_eq new 0);
       filled_all = λ i lt some.
           ⊎_elim
           (λ (same : i ≡ unit / 64).
-            let is : get_or now i 0 ≡ new = word-there words (unit / 64) new i at same in
-            let full : 0 < get_or words (unit / 64) 0 = used_to (get_or words (unit / 64) 0) (unit % 64) was in
-            ap (λ (n : ℕ). bit_at n i) (kept (omega arith)) ∙ ap (λ (k : ℕ). bit_at filled k) same ∙ h.filled_all (unit / 64) (omega (arith, h.limit)) full)
+          let is : get_or now i 0 ≡ new = word-there words (unit / 64) new i at same in
+          let full : 0 < get_or words (unit / 64) 0 = used_to (get_or words (unit / 64) 0) (unit % 64) was in
+          ap (λ (n : ℕ). bit_at n i) (kept (omega arith)) ∙ ap (λ (k : ℕ). bit_at filled k) same ∙ h.filled_all (unit / 64) (omega (arith, h.limit)) full)
           (λ (other : i ≢ unit / 64).
-            let is : get_or now i 0 ≡ get_or words i 0 = get_or-set_other words (unit / 64) i new 0 other in
-            let full : bit_at filled i ≡ 1 = h.filled_all i lt (omega arith) in
-            ⊎_elim
-            (λ (none : new ≡ 0). (emptied none).others i lt other ∙ full)
-            (λ (left : new ≢ 0). ap (λ (n : ℕ). bit_at n i) (kept (omega arith)) ∙ full)
-            (cases_eq new 0))
+          let is : get_or now i 0 ≡ get_or words i 0 = get_or-set_other words (unit / 64) i new 0 other in
+          let full : bit_at filled i ≡ 1 = h.filled_all i lt (omega arith) in
+          ⊎_elim
+          (λ (none : new ≡ 0). (emptied none).others i lt other ∙ full)
+          (λ (left : new ≢ 0). ap (λ (n : ℕ). bit_at n i) (kept (omega arith)) ∙ full)
+          (cases_eq new 0))
           (cases_eq i (unit / 64));
       boot = λ k lt.
           ⊎_elim
           (λ (same : k ≡ unit). absurd (
-            let no : unit_free words unit ≡ false = ap (unit_free words) (sym same) ∙ h.boot k lt in cc))
+          let no : unit_free words unit ≡ false = ap (unit_free words) (sym same) ∙ h.boot k lt in cc))
           (λ (other : k ≢ unit). changed-elsewhere words unit new 0 k h.size (omega (arith, h.limit)) other bit ∙ h.boot k lt)
           (cases_eq k unit);
       past = λ k le lt. changed-elsewhere words unit new 0 k h.size (omega (arith, h.limit)) (omega arith) bit ∙ h.past k le lt;
@@ -360,6 +360,6 @@ pub free-not-boot : (units free filled : ℕ) (words : List ℕ) (unit : ℕ) �
 free-not-boot units free filled words unit h is =
     ⊎_elim
     (λ (lt : unit < BOOT_UNITS). absurd (
-      let not : unit_free words unit ≡ false = h.boot unit lt in cc))
+    let not : unit_free words unit ≡ false = h.boot unit lt in cc))
     (λ (ge : BOOT_UNITS ≤ unit). ge)
     (cases_lt unit BOOT_UNITS)

@@ -2,7 +2,7 @@
 use Rattle.std.specs.Prelude.{ℕ, Bool, true, false, not, ◌&&◌, ◌≡◌, ◌<◌, ◌≤◌, ◌+◌, List, length, count_by, slice_index_or, if◌then◌else◌}
 use Rattle.pur_base.specs.declared.place.Place.{Place}
 use Rattle.unit_map.specs.declared.drive.Drive.{Drive}
-use Rattle.unit_map.specs.Map.{drive_at, free_count, offer, with_units, IsTaken, ComesFirst}
+use Rattle.unit_map.specs.Map.{drive_at, free_count, offer, with_units, IsHeld, IsTaken, ComesFirst}
 
 -- whether a slot is chosen
 abbrev pub is_chosen : List Bool → ℕ → Bool
@@ -41,4 +41,5 @@ pub record LosesOne (old new : List Drive) (chosen : List Bool) : Type 0 where
 pub record TakesChosen (old new : List Drive) (chosen : List Bool) (places : List Place) : Type 0 where
   pub taken : IsTaken old places
   pub used : new ≡ with_units false old places
+  pub held : IsHeld new places
   pub loses : LosesOne old new chosen

@@ -66,6 +66,7 @@ with_unit free drives place = slice_set drives place.slot (with_unit_of free pla
 abbrev pub with_units : Bool → List Drive → List Place → List Drive
 with_units free drives places = fold (with_unit free) drives places
 
+-- the drive as a member or not
 abbrev pub as_member : Bool → Drive → Drive
 as_member member drive = record drive { member = member }
 
@@ -73,7 +74,13 @@ as_member member drive = record drive { member = member }
 abbrev pub with_member : List Drive → ℕ → Bool → List Drive
 with_member drives slot member = slice_set drives slot (as_member member (drive_at drives slot))
 
--- ---- taking a segment's units
+-- ---- a segment's units
+
+-- units of the map that are used, one a drive, by ascending slot
+pub record IsHeld (drives : List Drive) (places : List Place) : Type 0 where
+  pub ascending : AllPairs (λ a b. a.slot < b.slot) places
+  pub within : All (IsPlace drives) places
+  pub used : All (λ place. is_free drives place ≡ false) places
 
 -- the drive of one slot has more free units than that of another, or as many and the lower slot
 abbrev pub ComesFirst : List Drive → ℕ → ℕ → Type 0

@@ -1,6 +1,6 @@
-ghost use Rattle.std.specs.Prelude.{◌≡◌, ◌<◌, ◌≤◌, ◌↔◌, true, false, length, replicate, All, AllPairs, IsTrue, IsNone, IfSome, IfNone, IfOk};
+ghost use Rattle.std.specs.Prelude.{◌≡◌, ◌<◌, ◌≤◌, ◌↔◌, true, false, length, replicate, IsTrue, IsNone, IfSome, IfNone, IfOk};
 ghost use Rattle.unit_map.specs.Units.{fresh};
-ghost use Rattle.unit_map.specs.Map.{drive_at, free_count, is_free, with_unit, with_units, with_member, IsPlace, IsGroups, IsTaken, LowersByOne};
+ghost use Rattle.unit_map.specs.Map.{drive_at, free_count, is_free, with_unit, with_units, with_member, IsPlace, IsHeld, IsGroups, IsTaken, LowersByOne};
 
 use crate::choice::most_free;
 use crate::drive::Drive;
@@ -84,6 +84,7 @@ impl UnitMap {
 
         ensures taken { IfSome result (λ places. IsTaken self.old places) }
         ensures used { IfSome result (λ places. self.new ≡ with_units false self.old places) }
+        ensures held { IfSome result (λ places. IsHeld self.new places) }
         ensures lowers { IfSome result (λ _. LowersByOne self.old self.new) }
     {
         let chosen = most_free(&self.drives)?;
@@ -92,9 +93,7 @@ impl UnitMap {
 
     /// Makes the units of a segment free.
     pub fn give_back(&mut self, places: &Places)
-        requires ascending { AllPairs (λ a b. a.slot < b.slot) places.now }
-        requires within { All (IsPlace self.old) places.now }
-        requires used { All (λ place. is_free self.old place ≡ false) places.now }
+        requires { IsHeld self.old places.now }
         ensures { self.new ≡ with_units true self.old places.now }
     {
         mark_all_free(&mut self.drives, places);
@@ -168,6 +167,45 @@ mod tests {
         map.take();
         map.take();
         assert_eq!(rt; map.groups(), 70);
+        Ok(())
+    }
+
+    #[test]
+    fn gives_back_what_it_took(rt: HostRuntime) -> Result<(), NoMemory> {
+        let mut map = UnitMap::new(rt.alloc(), 11, 64)?;
+        if let Some(places) = map.take() {
+            map.give_back(&places);
+        }
+        assert_eq!(rt; map.groups(), 74);
+        assert_eq!(rt; map.take(), Some(places_of(FIRST)));
+        Ok(())
+    }
+
+    #[test]
+    fn takes_of_members_alone(rt: HostRuntime) -> Result<(), NoMemory> {
+        let mut map = UnitMap::new(rt.alloc(), 11, 64)?;
+        map.set_member(0, false);
+        assert_eq!(rt; map.groups(), 67);
+        map.set_member(10, false);
+        assert_eq!(rt; map.groups(), 61);
+        map.set_member(9, false);
+        assert_eq!(rt; map.groups(), 0);
+        assert_eq!(rt; map.take(), None);
+        map.set_member(0, true);
+        assert_eq!(rt; map.take(), Some(places_of(FIRST)));
+        Ok(())
+    }
+
+    #[test]
+    fn marks_a_unit_used(rt: HostRuntime) -> Result<(), NoMemory> {
+        let mut map = UnitMap::new(rt.alloc(), 11, 64)?;
+        let place = Place { slot: 4, unit: 3 };
+        if map.is_free(&place) {
+            map.mark_used(&place);
+        }
+        assert_eq!(rt; map.is_free(&place), false);
+        assert_eq!(rt; map.free(4), 60);
+        assert_eq!(rt; map.groups(), 74);
         Ok(())
     }
 }

@@ -1,5 +1,5 @@
-ghost use Rattle.std.specs.Prelude.{◌≡◌, ◌<◌, ◌≤◌, true, false, All, AllPairs};
-ghost use Rattle.unit_map.specs.Map.{is_free, with_unit, with_units, IsPlace};
+ghost use Rattle.std.specs.Prelude.{◌≡◌, true, false};
+ghost use Rattle.unit_map.specs.Map.{is_free, with_unit, with_units, IsHeld, IsPlace};
 
 use crate::drive::Drive;
 use pur_base::{Place, Places};
@@ -22,11 +22,9 @@ fn mark_free(drives: &mut [Drive], place: &Place)
     drives[place.slot as usize].free.insert(place.unit);
 }
 
-/// Makes units free that are used, by ascending slot.
+/// Makes the units of a segment free.
 pub fn mark_all_free(drives: &mut [Drive], places: &Places)
-    requires ascending { AllPairs (λ a b. a.slot < b.slot) places.now }
-    requires within { All (IsPlace drives.old) places.now }
-    requires used { All (λ place. is_free drives.old place ≡ false) places.now }
+    requires { IsHeld drives.old places.now }
     ensures { drives.new ≡ with_units true drives.old places.now }
 {
     for place in places {
