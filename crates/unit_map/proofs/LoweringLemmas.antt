@@ -1,8 +1,8 @@
 -- Taking a unit of each of the nine drives that come first lowers the room for groups by one at most.
-use Rattle.std.proofs.Common.{ℕ, zero, suc, Bool, true, false, not, cond, leb, ◌&&◌, ◌≡◌, ◌<◌, ◌≤◌, ◌+◌, ◌*◌, min, ◌⊎◌, ⊎_elim, inl, inr, List, [], length, get_or, count_by, refl, sym, ap, ◌∙◌, arith}
-use Rattle.std.proofs.lemmas.Bool.{cases_lt, cases_Bool, leb-true, leb-false, and_parts, and_cases, not-true, not-false}
+use Rattle.std.proofs.Common.{ℕ, zero, suc, Bool, true, false, not, cond, leb, ◌&&◌, ◌≡◌, ◌<◌, ◌≤◌, ◌+◌, ◌*◌, min, ◌⊎◌, ⊎_elim, inl, inr, List, [], length, count_by, refl, sym, ap, ◌∙◌, arith}
+use Rattle.std.proofs.lemmas.Bool.{cases_lt, cases_Bool, leb-true, leb-false, and_parts, not-true}
 use Rattle.unit_map.specs.declared.drive.Drive.{Drive}
-use Rattle.unit_map.specs.Map.{no_drive, drive_at, free_count, share, total_at, IsGroups, LowersByOne, ComesFirst}
+use Rattle.unit_map.specs.Map.{no_drive, drive_at, free_count, share, total_at, IsGroups, LowersByOne}
 use Rattle.unit_map.specs.Choice.{is_chosen, IsChoice, LosesOne}
 use Rattle.unit_map.proofs.RoomLemmas.{sum_by-le-flags, flags-le-sum_by}
 

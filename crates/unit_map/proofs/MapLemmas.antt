@@ -1,10 +1,10 @@
 -- What a map says once units are made free or used: for callers too.
-use Rattle.std.proofs.Common.{ℕ, zero, suc, Bool, true, false, ◌≡◌, ◌≢◌, ◌<◌, ◌≤◌, ◌⊎◌, ⊎_elim, List, [], ◌∷◌, length, get_or, set, All, AllPairs, Contains, inl, inr, refl, sym, ap, ◌∙◌, subst, arith, get_or-set_same, get_or-set_other, length-set}
-use Rattle.std.proofs.lemmas.Bool.{cases_lt, cases_eq, cases_Bool}
-use Rattle.std.proofs.lemmas.List.{set_past, get_or_default}
+use Rattle.std.proofs.Common.{ℕ, zero, suc, Bool, true, false, ◌≡◌, ◌≢◌, ◌<◌, ◌≤◌, ◌⊎◌, ⊎_elim, List, [], ◌∷◌, length, get_or, All, AllPairs, Contains, inl, inr, refl, sym, ap, ◌∙◌, subst, arith, get_or-set_same, get_or-set_other, length-set}
+use Rattle.std.proofs.lemmas.Bool.{cases_lt, cases_eq}
+use Rattle.std.proofs.lemmas.List.{set_past}
 use Rattle.pur_base.specs.declared.place.Place.{Place}
 use Rattle.unit_map.specs.declared.drive.Drive.{Drive}
-use Rattle.unit_map.specs.Map.{no_drive, drive_at, is_free, with_unit, with_unit_of, with_units, with_member, as_member, IsPlace, IsHeld}
+use Rattle.unit_map.specs.Map.{no_drive, drive_at, is_free, with_unit, with_unit_of, with_units, IsPlace, IsHeld}
 
 -- ---- one unit
 

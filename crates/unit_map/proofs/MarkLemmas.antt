@@ -1,9 +1,9 @@
 -- Places marked one by one.
-use Rattle.std.proofs.Common.{ℕ, Bool, true, false, ◌≡◌, ◌≢◌, ◌<◌, ◌≤◌, ◌+◌, List, length, get_or, set, take, fold, All, AllPairs, refl, sym, ap, ◌∙◌, arith, get_or-set_same, get_or-set_other, length-set}
+use Rattle.std.proofs.Common.{ℕ, true, false, ◌≡◌, ◌≢◌, ◌<◌, ◌≤◌, ◌+◌, List, length, get_or, take, All, AllPairs, refl, sym, ap, ◌∙◌, arith, get_or-set_other, length-set}
 use Rattle.std.proofs.lemmas.List.Sums.{fold_more}
 use Rattle.pur_base.specs.declared.place.Place.{Place}
 use Rattle.unit_map.specs.declared.drive.Drive.{Drive}
-use Rattle.unit_map.specs.Map.{no_drive, drive_at, is_free, with_unit, with_unit_of, with_units, IsPlace}
+use Rattle.unit_map.specs.Map.{no_drive, drive_at, is_free, with_unit, with_units, IsPlace}
 
 -- what stands past the last place
 abbrev pub no_place : Place

@@ -1,5 +1,5 @@
 -- Sums over the drives, and how the room for groups follows from them.
-use Rattle.std.proofs.Common.{ℕ, zero, suc, Bool, true, false, cond, ltb, ◌&&◌, ◌≡◌, ◌<◌, ◌≤◌, ◌+◌, ◌-◌, ◌*◌, ◌/◌, min, ◌⊎◌, ⊎_elim, List, [], ◌∷◌, length, get_or, count_by, sum_by, refl, sym, ap, ◌∙◌, arith}
+use Rattle.std.proofs.Common.{ℕ, zero, suc, Bool, true, false, cond, ltb, ◌&&◌, ◌≡◌, ◌<◌, ◌≤◌, ◌+◌, ◌-◌, ◌*◌, ◌/◌, min, ⊎_elim, List, [], ◌∷◌, length, get_or, count_by, sum_by, refl, arith}
 use Rattle.std.proofs.lemmas.Bool.{cases_lt, lt-ltb, le-ltb}
 use Rattle.std.proofs.lemmas.List.Sums.{sum_by-cons, sum_by-le-sum_by}
 use Rattle.std.proofs.Math.Nat.{mul-le-mul_left}

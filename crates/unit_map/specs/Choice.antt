@@ -1,5 +1,5 @@
 -- How the nine members with the most free units are found, and their units taken.
-use Rattle.std.specs.Prelude.{ℕ, Bool, true, false, not, ◌&&◌, ◌≡◌, ◌<◌, ◌≤◌, ◌+◌, List, length, count_by, slice_index_or, if◌then◌else◌}
+use Rattle.std.specs.Prelude.{ℕ, Bool, true, false, ◌≡◌, ◌<◌, ◌≤◌, ◌+◌, List, length, count_by, slice_index_or, if◌then◌else◌}
 use Rattle.pur_base.specs.declared.place.Place.{Place}
 use Rattle.unit_map.specs.declared.drive.Drive.{Drive}
 use Rattle.unit_map.specs.Map.{drive_at, free_count, offer, with_units, IsHeld, IsTaken, ComesFirst}

@@ -1,8 +1,5 @@
-use Rattle.std.proofs.Common.{◌≡◌, List, length, take, drop, ◌++◌, refl, sym, ap, ◌∙◌, subst, arith}
+use Rattle.std.proofs.Common.{refl, ◌∙◌}
 use Rattle.std.proofs.lemmas.List.{with_items_is}
-use Rattle.unit_map.specs.declared.drive.Drive.{Drive}
-use Rattle.unit_map.specs.Map.{IsGroups, LowersByOne}
-use Rattle.unit_map.specs.Choice.{IsChoice, LosesOne}
 use Rattle.unit_map.proofs.ChoiceLemmas.{choice-room, no-room}
 use Rattle.unit_map.proofs.LoweringLemmas.{lowers-by-one}
 use Rattle.unit_map.proofs.map.UnitMap.take.Goals as goal
