@@ -4,7 +4,7 @@ use Rattle.std.proofs.lemmas.Bool.{cases_lt, cases_eq}
 use Rattle.std.proofs.lemmas.List.{set_past}
 use Rattle.pur_base.specs.declared.place.Place.{Place}
 use Rattle.unit_map.specs.declared.drive.Drive.{Drive}
-use Rattle.unit_map.specs.Map.{no_drive, drive_at, is_free, with_unit, with_unit_of, with_units, IsPlace, IsHeld}
+use Rattle.unit_map.specs.Map.{no_drive, drive_at, is_free, with_unit, with_unit_of, with_units, with_member, as_member, IsPlace, IsHeld}
 
 -- ---- one unit
 
@@ -139,4 +139,39 @@ IsHeld-others_free drives others places apart h = record {
   ascending = h.ascending;
   within = λ k d lt. IsPlace-with_units true drives others (get_or places k d) (h.within k d lt);
   used = λ k d lt. is_free-with_units_elsewhere true drives others (get_or places k d) (apart k d lt) ∙ h.used k d lt;
+}
+
+-- ---- a drive made a member or not
+
+pub length-with_member : (drives : List Drive) (slot : ℕ) (member : Bool) → length (with_member drives slot member) ≡ length drives
+length-with_member drives slot member = length-set drives slot (as_member member (drive_at drives slot))
+
+pub free-with_member : (drives : List Drive) (slot : ℕ) (member : Bool) (k : ℕ) → (drive_at (with_member drives slot member) k).free ≡ (drive_at drives k).free
+free-with_member drives slot member k =
+    ⊎_elim
+    (λ (same : k ≡ slot).
+    ⊎_elim
+    (λ (within : slot < length drives).
+    ap (λ (s : ℕ). (drive_at (with_member drives slot member) s).free) same
+    ∙ ap (λ (d : Drive). d.free) (get_or-set_same drives slot (as_member member (drive_at drives slot)) no_drive within)
+    ∙ ap (λ (s : ℕ). (drive_at drives s).free) (sym same))
+    (λ (past : length drives ≤ slot).
+    ap (λ (ds : List Drive). (drive_at ds k).free) (set_past drives slot (as_member member (drive_at drives slot)) past))
+    (cases_lt slot (length drives)))
+    (λ (apart : k ≢ slot). ap (λ (d : Drive). d.free) (get_or-set_other drives slot k (as_member member (drive_at drives slot)) no_drive apart))
+    (cases_eq k slot)
+
+-- a segment's units are held whichever drives are members
+pub IsHeld-with_member : (drives : List Drive) (slot : ℕ) (member : Bool) (places : List Place) → IsHeld drives places → IsHeld (with_member drives slot member) places
+IsHeld-with_member drives slot member places h = record {
+  ascending = h.ascending;
+  within = λ k d lt.
+      let was = h.within k d lt in
+      record {
+        slot = omega (arith, length-with_member drives slot member, was.slot);
+        boot = was.boot;
+        unit = omega (arith, ap (λ (us : List Bool). length us) (free-with_member drives slot member (get_or places k d).slot), was.unit);
+      };
+  used = λ k d lt.
+      ap (λ (us : List Bool). get_or us (get_or places k d).unit false) (free-with_member drives slot member (get_or places k d).slot) ∙ h.used k d lt;
 }
