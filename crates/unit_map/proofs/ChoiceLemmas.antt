@@ -1,0 +1,137 @@
+-- The nine members that come first, chosen one by one.
+use Rattle.std.proofs.Common.{ℕ, zero, suc, Bool, true, false, not, cond, ◌&&◌, ◌≡◌, ◌≢◌, ◌<◌, ◌≤◌, ◌+◌, ◌*◌, min, ◌⊎◌, ⊎_elim, inl, inr, List, [], ◌∷◌, length, get_or, set, replicate, count_by, sum_by, refl, sym, ap, ◌∙◌, arith, get_or-set_same, get_or-set_other}
+use Rattle.std.proofs.lemmas.Bool.{cases_lt, cases_eq}
+use Rattle.std.proofs.lemmas.List.{get_or_past}
+use Rattle.std.proofs.lemmas.List.Sums.{sum_by-cons}
+use Rattle.unit_map.specs.declared.drive.Drive.{Drive}
+use Rattle.unit_map.specs.Map.{no_drive, drive_at, free_count, offer, share, total_at, ComesFirst, IsGroups}
+use Rattle.unit_map.specs.Choice.{is_chosen, offer_at, IsBestOffer, IsNoOffer, IsChoice}
+use Rattle.unit_map.proofs.UnitLemmas.{count-none, count-inserted}
+use Rattle.unit_map.proofs.RoomLemmas.{sum_by-le-flags, flags-le-sum_by, groups-between}
+
+-- ---- none chosen
+
+get_or-unset : (n i : ℕ) → get_or (replicate n false) i false ≡ false
+get_or-unset zero i = refl
+get_or-unset (suc n) zero = refl
+get_or-unset (suc n) (suc i) = get_or-unset n i
+
+none-chosen : (chosen : List Bool) (n slot : ℕ) → chosen ≡ replicate n false → is_chosen chosen slot ≡ false
+none-chosen chosen n slot e = ap (λ (bs : List Bool). get_or bs slot false) e ∙ get_or-unset n slot
+
+pub choice-none : (drives : List Drive) (chosen : List Bool) (n : ℕ) → chosen ≡ replicate n false → IsChoice drives chosen 0
+choice-none drives chosen n e = record {
+  count = count-none chosen (λ k lt. none-chosen chosen n k e);
+  within = λ slot is. absurd (let not_so : is_chosen chosen slot ≡ false = none-chosen chosen n slot e in cc);
+  members = λ slot is. absurd (let not_so : is_chosen chosen slot ≡ false = none-chosen chosen n slot e in cc);
+  some = λ slot is. absurd (let not_so : is_chosen chosen slot ≡ false = none-chosen chosen n slot e in cc);
+  first = λ a b is unset member. absurd (let not_so : is_chosen chosen a ≡ false = none-chosen chosen n a e in cc);
+}
+
+-- ---- one more chosen
+
+offer-tells : (chosen member : Bool) (free : ℕ) → 0 < cond (member && not chosen) free 0 → (chosen ≡ false) × (member ≡ true) × (0 < free) × (cond (member && not chosen) free 0 ≡ free)
+offer-tells false false free some = absurd (omega arith)
+offer-tells true false free some = absurd (omega arith)
+offer-tells true true free some = absurd (omega arith)
+offer-tells false true free some = (refl, refl, some, refl)
+
+offer-full : (chosen : Bool) (drive : Drive) → chosen ≡ false → drive.member ≡ true → offer chosen drive ≡ free_count drive
+offer-full chosen drive unchosen member = rw (unchosen, member) refl
+
+pub member-within : (drives : List Drive) (slot : ℕ) → (drive_at drives slot).member ≡ true → slot < length drives
+member-within drives slot member =
+    ⊎_elim
+    (λ (lt : slot < length drives). lt)
+    (λ (ge : length drives ≤ slot). absurd (
+    let past : drive_at drives slot ≡ no_drive = get_or_past drives slot no_drive ge in
+    let none : (drive_at drives slot).member ≡ false = ap (λ (d : Drive). d.member) past in cc))
+    (cases_lt slot (length drives))
+
+set-tells : (chosen : List Bool) (at slot : ℕ) → is_chosen (set chosen at true) slot ≡ true → (slot ≡ at) ⊎ (is_chosen chosen slot ≡ true)
+set-tells chosen at slot is =
+    ⊎_elim
+    (λ (same : slot ≡ at). inl same)
+    (λ (other : slot ≢ at). inr (sym (get_or-set_other chosen at slot true false other) ∙ is))
+    (cases_eq slot at)
+
+best-first : (drives : List Drive) (chosen : List Bool) (slot b : ℕ) → IsBestOffer drives chosen slot → b ≢ slot → is_chosen chosen b ≡ false → (drive_at drives b).member ≡ true → ComesFirst drives slot b
+best-first drives chosen slot b best apart unchosen member =
+    let within : b < length drives = member-within drives b member in
+    let mine = offer-tells (is_chosen chosen slot) (drive_at drives slot).member (free_count (drive_at drives slot)) best.some in
+    let full : offer_at drives chosen slot ≡ free_count (drive_at drives slot) = mine.3 in
+    let theirs : offer_at drives chosen b ≡ free_count (drive_at drives b) = offer-full (is_chosen chosen b) (drive_at drives b) unchosen member in
+    let le : offer_at drives chosen b ≤ offer_at drives chosen slot = best.greatest b within in
+    ⊎_elim
+    (λ (below : b < slot). let lt : offer_at drives chosen b < offer_at drives chosen slot = best.lowest b below in inl (omega arith))
+    (λ (above : slot ≤ b).
+    ⊎_elim
+    (λ (less : free_count (drive_at drives b) < free_count (drive_at drives slot)). inl less)
+    (λ (ge : free_count (drive_at drives slot) ≤ free_count (drive_at drives b)). inr (omega arith, omega arith))
+    (cases_lt (free_count (drive_at drives b)) (free_count (drive_at drives slot))))
+    (cases_lt b slot)
+
+pub choice-more : (drives : List Drive) (chosen : List Bool) (count slot : ℕ) → length drives ≤ length chosen → IsChoice drives chosen count → IsBestOffer drives chosen slot → IsChoice drives (set chosen slot true) (count + 1)
+choice-more drives chosen count slot size h best =
+    let mine = offer-tells (is_chosen chosen slot) (drive_at drives slot).member (free_count (drive_at drives slot)) best.some in
+    let within : slot < length chosen = omega (arith, best.within) in
+    record {
+      count = count-inserted chosen slot within mine.0 ∙ ap (λ (n : ℕ). n + 1) h.count;
+      within = λ k is.
+          ⊎_elim
+          (λ (same : k ≡ slot). omega (arith, best.within))
+          (λ (was : is_chosen chosen k ≡ true). h.within k was)
+          (set-tells chosen slot k is);
+      members = λ k is.
+          ⊎_elim
+          (λ (same : k ≡ slot). ap (λ (s : ℕ). (drive_at drives s).member) same ∙ mine.1)
+          (λ (was : is_chosen chosen k ≡ true). h.members k was)
+          (set-tells chosen slot k is);
+      some = λ k is.
+          ⊎_elim
+          (λ (same : k ≡ slot). rw same mine.2)
+          (λ (was : is_chosen chosen k ≡ true). h.some k was)
+          (set-tells chosen slot k is);
+      first = λ a b is unset member.
+          let apart : b ≢ slot = λ same. (
+          let set' : is_chosen (set chosen slot true) b ≡ true = ap (is_chosen (set chosen slot true)) same ∙ get_or-set_same chosen slot true false within in cc) in
+          let unchosen : is_chosen chosen b ≡ false = sym (get_or-set_other chosen slot b true false apart) ∙ unset in
+          ⊎_elim
+          (λ (same : a ≡ slot). rw same (best-first drives chosen slot b best apart unchosen member))
+          (λ (was : is_chosen chosen a ≡ true). h.first a b was unchosen member)
+          (set-tells chosen slot a is);
+    }
+
+-- ---- fewer than nine to choose
+
+sum_by-zeros : (drives : List Drive) → sum_by (λ (d : Drive). 0) drives ≡ 0
+sum_by-zeros [] = refl
+sum_by-zeros (drive ∷ drives) = sum_by-cons (λ (d : Drive). 0) drive drives ∙ omega (arith, sum_by-zeros drives)
+
+share-flag : (chosen member : Bool) (free : ℕ) → cond (member && not chosen) free 0 ≡ 0 → cond member (min 1 free) 0 ≤ 0 + cond chosen 1 0
+share-flag false false free none = omega arith
+share-flag true false free none = omega arith
+share-flag true true free none = omega arith
+share-flag false true free none = omega arith
+
+pub choice-short : (drives : List Drive) (chosen : List Bool) (count : ℕ) → IsChoice drives chosen count → count < 9 → IsNoOffer drives chosen → total_at drives 1 < 9
+choice-short drives chosen count h few none =
+    let le : total_at drives 1 ≤ sum_by (λ (d : Drive). 0) drives + count_by (λ b. b) chosen =
+    sum_by-le-flags (share 1) (λ (d : Drive). 0) no_drive no_drive drives drives chosen refl (λ k lt.
+    share-flag (is_chosen chosen k) (drive_at drives k).member (free_count (drive_at drives k)) (none k lt)) in
+    omega (arith, sum_by-zeros drives, h.count)
+
+-- ---- nine chosen
+
+share-one : (drive : Drive) → drive.member ≡ true → 0 < free_count drive → 1 ≤ share 1 drive
+share-one drive member some = rw member (omega arith)
+
+pub choice-room : (drives : List Drive) (chosen : List Bool) → IsChoice drives chosen 9 → IsGroups drives 0 → ⊥
+choice-room drives chosen h none =
+    let room : 1 * count_by (λ b. b) chosen ≤ total_at drives 1 =
+    flags-le-sum_by (share 1) no_drive 1 drives chosen (λ k is. (h.within k is, share-one (drive_at drives k) (h.members k is) (h.some k is))) in
+    let less : 1 ≤ 0 = none.greatest 1 (omega (arith, h.count)) in
+    absurd (omega arith)
+
+pub no-room : (drives : List Drive) → total_at drives 1 < 9 → IsGroups drives 0
+no-room drives few = groups-between drives 0 1 (omega arith) (omega arith) few

@@ -1,0 +1,7 @@
+pub mod UnitLemmas
+pub mod MapLemmas
+pub mod MarkLemmas
+pub mod RoomLemmas
+pub mod ChoiceLemmas
+pub mod TakingLemmas
+pub mod LoweringLemmas

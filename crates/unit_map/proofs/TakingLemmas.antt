@@ -1,0 +1,262 @@
+-- The lowest free unit of each drive that is chosen, taken slot by slot.
+use Rattle.std.proofs.Common.{ℕ, Bool, true, false, cond, ◌≡◌, ◌≢◌, ◌<◌, ◌≤◌, ◌+◌, ◌⊎◌, ⊎_elim, inl, inr, List, length, get_or, set, take, drop, count_by, Contains, refl, sym, ap, ◌∙◌, subst, arith, get_or-set_same, get_or-set_other, length-set}
+use Rattle.std.proofs.lemmas.Bool.{cases_lt, cases_eq, cases_Bool}
+use Rattle.std.proofs.lemmas.List.{get_or_past, get_or_default, get_or-drop, get_or-map, length-map, take_more_set, take_all}
+use Rattle.std.proofs.lemmas.List.Elements.{All-from_get_or}
+use Rattle.std.proofs.lemmas.List.Sums.{sum_by-drop_more, fold_push}
+use Rattle.pur_base.specs.declared.limits.TheConstants.{BOOT_UNITS}
+use Rattle.pur_base.specs.declared.place.Place.{Place}
+use Rattle.unit_map.specs.declared.drive.Drive.{Drive}
+use Rattle.unit_map.specs.Units.{IsLowestFree}
+use Rattle.unit_map.specs.Map.{no_drive, drive_at, free_count, slots_of, with_unit_of, with_unit, with_units, IsPlace, IsHeld, IsTaken, ComesFirst}
+use Rattle.unit_map.specs.Choice.{is_chosen, IsChoice, LosesOne, TakesChosen}
+use Rattle.unit_map.proofs.UnitLemmas.{count-none, count-removed}
+use Rattle.unit_map.proofs.MapLemmas.{IsHeld-used}
+use Rattle.unit_map.proofs.MarkLemmas.{no_place, place_at}
+
+-- what stands once the drives below a slot have given their unit
+pub record IsTakenUpTo (old now : List Drive) (chosen : List Bool) (places : List Place) (slot shard : ℕ) : Type 0 where
+  pub size : length now ≡ length old
+  pub room : length places ≡ 9
+  pub left : shard + count_by (λ b. b) (drop slot chosen) ≡ 9
+  pub used : now ≡ with_units false old (take shard places)
+  pub rest : (k : ℕ) → slot ≤ k → drive_at now k ≡ drive_at old k
+  pub below : (i : ℕ) → i < shard → (place_at places i).slot < slot
+  pub flagged : (i : ℕ) → i < shard → is_chosen chosen (place_at places i).slot ≡ true
+  pub lowest : (i : ℕ) → i < shard → IsLowestFree (drive_at old (place_at places i).slot).free (place_at places i).unit
+  pub boot : (i : ℕ) → i < shard → BOOT_UNITS ≤ (place_at places i).unit
+  pub ascending : (i j : ℕ) → i < j → j < shard → (place_at places i).slot < (place_at places j).slot
+  pub found : (k : ℕ) → k < slot → is_chosen chosen k ≡ true → (i : ℕ) × (i < shard) × ((place_at places i).slot ≡ k)
+  pub members : (k : ℕ) → (drive_at now k).member ≡ (drive_at old k).member
+  pub counts : (k : ℕ) → k < slot → free_count (drive_at now k) + cond (is_chosen chosen k) 1 0 ≡ free_count (drive_at old k)
+
+pub taken-none : (old : List Drive) (chosen : List Bool) (places : List Place) → length places ≡ 9 → count_by (λ b. b) chosen ≡ 9 → IsTakenUpTo old old chosen places 0 0
+taken-none old chosen places room nine = record {
+  size = refl;
+  room = room;
+  left = omega (arith, nine);
+  used = refl;
+  rest = λ k le. refl;
+  below = λ i lt. absurd (omega arith);
+  flagged = λ i lt. absurd (omega arith);
+  lowest = λ i lt. absurd (omega arith);
+  boot = λ i lt. absurd (omega arith);
+  ascending = λ i j lt lt'. absurd (omega arith);
+  found = λ k lt is. absurd (omega arith);
+  members = λ k. refl;
+  counts = λ k lt. absurd (omega arith);
+}
+
+-- ---- a drive that isn't chosen
+
+left-step : (chosen : List Bool) (slot : ℕ) (flag : Bool) → slot < length chosen → is_chosen chosen slot ≡ flag → count_by (λ b. b) (drop slot chosen) ≡ cond flag 1 0 + count_by (λ b. b) (drop (slot + 1) chosen)
+left-step chosen slot flag within is = sum_by-drop_more (λ (b : Bool). cond b 1 0) chosen slot false within ∙ ap (λ (b : Bool). cond b 1 0 + count_by (λ c. c) (drop (slot + 1) chosen)) is
+
+last_or_below : (k slot : ℕ) → k < slot + 1 → (k ≡ slot) ⊎ (k < slot)
+last_or_below k slot lt =
+    ⊎_elim
+    (λ (below : k < slot). inr below)
+    (λ (ge : slot ≤ k). inl (omega arith))
+    (cases_lt k slot)
+
+pub taken-skip : (old now : List Drive) (chosen : List Bool) (places : List Place) (slot shard : ℕ) → slot < length chosen → is_chosen chosen slot ≡ false
+    → IsTakenUpTo old now chosen places slot shard → IsTakenUpTo old now chosen places (slot + 1) shard
+taken-skip old now chosen places slot shard within unchosen h = record {
+  size = h.size;
+  room = h.room;
+  left = omega (arith, h.left, left-step chosen slot false within unchosen);
+  used = h.used;
+  rest = λ k le. h.rest k (omega arith);
+  below = λ i lt. let was : (place_at places i).slot < slot = h.below i lt in omega arith;
+  flagged = h.flagged;
+  lowest = h.lowest;
+  boot = h.boot;
+  ascending = h.ascending;
+  found = λ k lt is.
+      ⊎_elim
+      (λ (same : k ≡ slot). absurd (let not_so : is_chosen chosen k ≡ false = ap (is_chosen chosen) same ∙ unchosen in cc))
+      (λ (below : k < slot). h.found k below is)
+      (last_or_below k slot lt);
+  members = h.members;
+  counts = λ k lt.
+      ⊎_elim
+      (λ (same : k ≡ slot).
+      let not_so : is_chosen chosen k ≡ false = ap (is_chosen chosen) same ∙ unchosen in
+      let is : free_count (drive_at now k) ≡ free_count (drive_at old k) = ap free_count (h.rest k (omega arith)) in
+      rw not_so (omega arith))
+      (λ (below : k < slot). h.counts k below)
+      (last_or_below k slot lt);
+}
+
+-- ---- a drive that is chosen
+
+place-kept : (places : List Place) (shard i : ℕ) (place : Place) → i < shard → place_at (set places shard place) i ≡ place_at places i
+place-kept places shard i place lt = let apart : i ≢ shard = omega arith in get_or-set_other places shard i place no_place apart
+
+drive-kept : (now : List Drive) (slot k : ℕ) (drive : Drive) → k ≢ slot → drive_at (set now slot drive) k ≡ drive_at now k
+drive-kept now slot k drive apart = get_or-set_other now slot k drive no_drive apart
+
+pub shard-room : (old now : List Drive) (chosen : List Bool) (places : List Place) (slot shard : ℕ) → slot < length chosen → is_chosen chosen slot ≡ true
+    → IsTakenUpTo old now chosen places slot shard → shard < 9
+shard-room old now chosen places slot shard within is h = omega (arith, h.left, left-step chosen slot true within is)
+
+pub taken-more : (old now : List Drive) (chosen : List Bool) (places : List Place) (slot shard unit : ℕ) → slot < length chosen → slot < length old → is_chosen chosen slot ≡ true
+    → IsLowestFree (drive_at now slot).free unit → BOOT_UNITS ≤ unit
+    → IsTakenUpTo old now chosen places slot shard
+    → IsTakenUpTo old (set now slot (with_unit_of false unit (drive_at now slot))) chosen (set places shard (record { slot = slot; unit = unit })) (slot + 1) (shard + 1)
+taken-more old now chosen places slot shard unit within inside is at boot h =
+    let place : Place = record { slot = slot; unit = unit } in
+    let now' = set now slot (with_unit_of false unit (drive_at now slot)) in
+    let places' = set places shard place in
+    let free_room : shard < length places = omega (arith, shard-room old now chosen places slot shard within is h, h.room) in
+    let in_now : slot < length now = omega (arith, h.size) in
+    let here : place_at places' shard ≡ place = get_or-set_same places shard place no_place free_room in
+    let drive_here : drive_at now' slot ≡ with_unit_of false unit (drive_at now slot) = get_or-set_same now slot (with_unit_of false unit (drive_at now slot)) no_drive in_now in
+    let same_drive : drive_at now slot ≡ drive_at old slot = h.rest slot (omega arith) in
+    record {
+      size = length-set now slot _ ∙ h.size;
+      room = length-set places shard place ∙ h.room;
+      left = omega (arith, h.left, left-step chosen slot true within is);
+      used =
+          ap (λ (ds : List Drive). with_unit false ds place) h.used
+          ∙ sym (fold_push (with_unit false) old (take shard places) place)
+          ∙ ap (with_units false old) (sym (take_more_set places shard place free_room));
+      rest = λ k le. let apart : k ≢ slot = omega arith in drive-kept now slot k _ apart ∙ h.rest k (omega arith);
+      below = λ i lt.
+          ⊎_elim
+          (λ (same : i ≡ shard). let there : (place_at places' i).slot ≡ slot = ap (λ (j : ℕ). (place_at places' j).slot) same ∙ ap (λ (p : Place). p.slot) here in omega arith)
+          (λ (less : i < shard). let kept : (place_at places' i).slot ≡ (place_at places i).slot = ap (λ (p : Place). p.slot) (place-kept places shard i place less) in
+          let was : (place_at places i).slot < slot = h.below i less in omega arith)
+          (last_or_below i shard lt);
+      flagged = λ i lt.
+          ⊎_elim
+          (λ (same : i ≡ shard). ap (λ (j : ℕ). is_chosen chosen (place_at places' j).slot) same ∙ ap (λ (p : Place). is_chosen chosen p.slot) here ∙ is)
+          (λ (less : i < shard). ap (λ (p : Place). is_chosen chosen p.slot) (place-kept places shard i place less) ∙ h.flagged i less)
+          (last_or_below i shard lt);
+      lowest = λ i lt.
+          ⊎_elim
+          (λ (same : i ≡ shard). subst (λ (p : Place). IsLowestFree (drive_at old p.slot).free p.unit) (sym (ap (place_at places') same ∙ here))
+          (subst (λ (d : Drive). IsLowestFree d.free unit) same_drive at))
+          (λ (less : i < shard). subst (λ (p : Place). IsLowestFree (drive_at old p.slot).free p.unit) (sym (place-kept places shard i place less)) (h.lowest i less))
+          (last_or_below i shard lt);
+      boot = λ i lt.
+          ⊎_elim
+          (λ (same : i ≡ shard). subst (λ (p : Place). BOOT_UNITS ≤ p.unit) (sym (ap (place_at places') same ∙ here)) boot)
+          (λ (less : i < shard). subst (λ (p : Place). BOOT_UNITS ≤ p.unit) (sym (place-kept places shard i place less)) (h.boot i less))
+          (last_or_below i shard lt);
+      ascending = λ i j less lt.
+          ⊎_elim
+          (λ (same : j ≡ shard).
+          let there : (place_at places' j).slot ≡ slot = ap (λ (m : ℕ). (place_at places' m).slot) same ∙ ap (λ (p : Place). p.slot) here in
+          let kept : (place_at places' i).slot ≡ (place_at places i).slot = ap (λ (p : Place). p.slot) (place-kept places shard i place (omega arith)) in
+          let was : (place_at places i).slot < slot = h.below i (omega arith) in omega arith)
+          (λ (before : j < shard).
+          let kept-j : (place_at places' j).slot ≡ (place_at places j).slot = ap (λ (p : Place). p.slot) (place-kept places shard j place before) in
+          let kept-i : (place_at places' i).slot ≡ (place_at places i).slot = ap (λ (p : Place). p.slot) (place-kept places shard i place (omega arith)) in
+          let was : (place_at places i).slot < (place_at places j).slot = h.ascending i j less before in omega arith)
+          (last_or_below j shard lt);
+      found = λ k lt flag.
+          ⊎_elim
+          (λ (same : k ≡ slot). (shard, omega arith, ap (λ (p : Place). p.slot) here ∙ sym same))
+          (λ (below : k < slot).
+          let was = h.found k below flag in
+          (was.0, omega (arith, was.1), ap (λ (p : Place). p.slot) (place-kept places shard was.0 place was.1) ∙ was.2))
+          (last_or_below k slot lt);
+      members = λ k.
+          ⊎_elim
+          (λ (same : k ≡ slot). ap (λ (s : ℕ). (drive_at now' s).member) same ∙ ap (λ (d : Drive). d.member) drive_here ∙ ap (λ (s : ℕ). (drive_at now s).member) (sym same) ∙ h.members k)
+          (λ (apart : k ≢ slot). ap (λ (d : Drive). d.member) (drive-kept now slot k _ apart) ∙ h.members k)
+          (cases_eq k slot);
+      counts = λ k lt.
+          ⊎_elim
+          (λ (same : k ≡ slot).
+          let flag : is_chosen chosen k ≡ true = ap (is_chosen chosen) same ∙ is in
+          let one_less : count_by (λ b. b) (set (drive_at now slot).free unit false) + 1 ≡ free_count (drive_at now slot) = count-removed (drive_at now slot).free unit at.within at.free_there in
+          let new : free_count (drive_at now' k) ≡ count_by (λ b. b) (set (drive_at now slot).free unit false) = ap (λ (s : ℕ). free_count (drive_at now' s)) same ∙ ap free_count drive_here in
+          let was : free_count (drive_at old k) ≡ free_count (drive_at now slot) = ap (λ (s : ℕ). free_count (drive_at old s)) same ∙ ap free_count (sym same_drive) in
+          rw flag (omega arith))
+          (λ (below : k < slot).
+          let apart : k ≢ slot = omega arith in
+          ap (λ (d : Drive). free_count d + cond (is_chosen chosen k) 1 0) (drive-kept now slot k _ apart) ∙ h.counts k below)
+          (last_or_below k slot lt);
+    }
+
+-- ---- all of them
+
+taken-in : (old now : List Drive) (chosen : List Bool) (places : List Place) (slot shard : ℕ) → length old ≤ slot → IsChoice old chosen 9 → IsTakenUpTo old now chosen places slot shard → shard ≡ 9
+taken-in old now chosen places slot shard le choice h =
+    let rest : count_by (λ b. b) (drop slot chosen) ≡ 0 = count-none (drop slot chosen) (λ k lt. get_or-drop slot chosen k false ∙ past k) in
+    omega (arith, h.left)
+  where
+    past : (k : ℕ) → is_chosen chosen (slot + k) ≡ false
+    past k =
+        ⊎_elim
+        (λ (is : is_chosen chosen (slot + k) ≡ true). absurd (let within : slot + k < length old = choice.within (slot + k) is in omega arith))
+        (λ (is : is_chosen chosen (slot + k) ≡ false). is)
+        (cases_Bool (is_chosen chosen (slot + k)))
+
+pub taken-slots : (old now : List Drive) (chosen : List Bool) (places : List Place) (slot : ℕ) → IsTakenUpTo old now chosen places slot 9
+    → (k : ℕ) → k < slot → is_chosen chosen k ≡ true → Contains (slots_of places) k
+taken-slots old now chosen places slot h k lt is =
+    let at = h.found k lt is in
+    let room : at.0 < length places = omega (arith, at.1, h.room) in
+    (at.0, omega (arith, length-map places (λ (p : Place). p.slot)), get_or-map (λ (p : Place). p.slot) places at.0 no_place k room ∙ at.2)
+
+is-taken : (old now : List Drive) (chosen : List Bool) (places : List Place) (slot : ℕ) → length old ≤ slot → IsChoice old chosen 9 → IsTakenUpTo old now chosen places slot 9 → IsTaken old places
+is-taken old now chosen places slot le choice h = record {
+  ascending = λ i j d less lt.
+      let in-i : get_or places i d ≡ place_at places i = get_or_default places i d no_place (omega arith) in
+      let in-j : get_or places j d ≡ place_at places j = get_or_default places j d no_place lt in
+      rw (in-i, in-j) (h.ascending i j less (omega (arith, h.room)));
+  within = All-from_get_or (IsPlace old) places no_place (λ i lt.
+      let below : i < 9 = omega (arith, h.room) in
+      record {
+        slot = choice.within (place_at places i).slot (h.flagged i below);
+        boot = h.boot i below;
+        unit = (h.lowest i below).within;
+      });
+  members = All-from_get_or (λ (p : Place). (drive_at old p.slot).member ≡ true) places no_place (λ i lt.
+      choice.members (place_at places i).slot (h.flagged i (omega (arith, h.room))));
+  first = All-from_get_or (λ (p : Place). (k : ℕ) → (drive_at old k).member ≡ true → ¬ Contains (slots_of places) k → ComesFirst old p.slot k) places no_place (λ i lt k member missing.
+      ⊎_elim
+      (λ (is : is_chosen chosen k ≡ true). absurd (missing (taken-slots old now chosen places slot h k (omega (arith, choice.within k is)) is)))
+      (λ (unset : is_chosen chosen k ≡ false). choice.first (place_at places i).slot k (h.flagged i (omega (arith, h.room))) unset member)
+      (cases_Bool (is_chosen chosen k)));
+  lowest = All-from_get_or (λ (p : Place). IsLowestFree (drive_at old p.slot).free p.unit) places no_place (λ i lt. h.lowest i (omega (arith, h.room)));
+}
+
+loses-one : (old now : List Drive) (chosen : List Bool) (places : List Place) (slot : ℕ) → length old ≤ slot → IsChoice old chosen 9 → IsTakenUpTo old now chosen places slot 9 → LosesOne old now chosen
+loses-one old now chosen places slot le choice h = record {
+  size = h.size;
+  members = h.members;
+  counts = λ k.
+      ⊎_elim
+      (λ (lt : k < slot). h.counts k lt)
+      (λ (ge : slot ≤ k).
+      let same : free_count (drive_at now k) ≡ free_count (drive_at old k) = ap free_count (h.rest k ge) in
+      ⊎_elim
+      (λ (is : is_chosen chosen k ≡ true). absurd (let within : k < length old = choice.within k is in omega arith))
+      (λ (unset : is_chosen chosen k ≡ false). rw unset (omega arith))
+      (cases_Bool (is_chosen chosen k)))
+      (cases_lt k slot);
+}
+
+pub taken-all : (old now : List Drive) (chosen : List Bool) (places : List Place) (slot shard : ℕ) → length old ≤ slot → IsChoice old chosen 9 → IsTakenUpTo old now chosen places slot shard → TakesChosen old now chosen places
+taken-all old now chosen places slot shard le choice h =
+    let nine : shard ≡ 9 = taken-in old now chosen places slot shard le choice h in
+    let all : IsTakenUpTo old now chosen places slot 9 = subst (λ (n : ℕ). IsTakenUpTo old now chosen places slot n) nine h in
+    let taken : IsTaken old places = is-taken old now chosen places slot le choice all in
+    let used : now ≡ with_units false old places = all.used ∙ ap (with_units false old) (take_all 9 places (omega (arith, all.room))) in
+    record {
+      taken = taken;
+      used = used;
+      held = subst (λ (ds : List Drive). IsHeld ds places) (sym used) (IsHeld-used old places taken.ascending taken.within);
+      loses = loses-one old now chosen places slot le choice all;
+    }
+
+pub chosen-within : (chosen : List Bool) (slot : ℕ) → is_chosen chosen slot ≡ true → slot < length chosen
+chosen-within chosen slot is =
+    ⊎_elim
+    (λ (lt : slot < length chosen). lt)
+    (λ (ge : length chosen ≤ slot). absurd (let past : is_chosen chosen slot ≡ false = get_or_past chosen slot false ge in cc))
+    (cases_lt slot (length chosen))

@@ -1,0 +1,5 @@
+pub mod Bits
+pub mod Units
+pub mod UnitFields
+pub mod Map
+pub mod Choice
