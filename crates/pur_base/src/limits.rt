@@ -51,3 +51,6 @@ pub const SEGMENT_SHARDS: usize = 9;
 
 /// The sectors of a segment.
 pub const SEGMENT_SECTORS: u16 = 840;
+
+/// The most entries of the index of hints.
+pub const INDEX_ENTRIES: usize = 4096;
