@@ -1,3 +1,4 @@
+pub mod Bytes
 pub mod Names
 pub mod NameFields
 pub mod Sectors
