@@ -1,3 +1,5 @@
 pub mod PlainStepLemmas
 pub mod ReplyLemmas
 pub mod SessionLemmas
+pub mod WholeLemmas
+pub mod AckedOutputLemmas

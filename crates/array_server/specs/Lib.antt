@@ -1,3 +1,4 @@
 pub mod PlainSteps
 pub mod Answering
 pub mod Serving
+pub mod Whole

@@ -3,6 +3,7 @@
 #![tactic(auto)]
 
 ghost use Rattle.array_server.specs.PlainSteps.{PlainStepsAreSteps};
+ghost use Rattle.array_server.specs.Whole.{OutputIsAcked, RepliesAreWhole};
 
 mod answers;
 mod session;
@@ -12,4 +13,10 @@ pub use session::serve;
 /// Each run of the plain array in memory is a run of the array.
 pub fn plain_runs_are_runs()
     ensures { PlainStepsAreSteps }
+{}
+
+/// Each reply to the items of an input delimits itself, and what a session gave holds as many acknowledged replies as it gave whole.
+pub fn replies_are_acknowledged()
+    ensures whole { RepliesAreWhole }
+    ensures acked { OutputIsAcked }
 {}
