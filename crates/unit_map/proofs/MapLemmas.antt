@@ -1,7 +1,7 @@
 -- What a map says once units are made free or used: for callers too.
 use Rattle.std.proofs.Common.{ℕ, zero, suc, Bool, true, false, ◌≡◌, ◌≢◌, ◌<◌, ◌≤◌, ◌⊎◌, ⊎_elim, List, [], ◌∷◌, length, get_or, All, AllPairs, Contains, inl, inr, refl, sym, ap, ◌∙◌, subst, arith, get_or-set_same, get_or-set_other, length-set}
 use Rattle.std.proofs.lemmas.Bool.{cases_lt, cases_eq}
-use Rattle.std.proofs.lemmas.List.{set_past}
+use Rattle.std.proofs.lemmas.List.{set_past, same_lists, get_or_default}
 use Rattle.pur_base.specs.declared.place.Place.{Place}
 use Rattle.unit_map.specs.declared.drive.Drive.{Drive}
 use Rattle.unit_map.specs.Map.{no_drive, drive_at, is_free, with_unit, with_unit_of, with_units, with_member, as_member, IsPlace, IsHeld}
@@ -175,3 +175,84 @@ IsHeld-with_member drives slot member places h = record {
   used = λ k d lt.
       ap (λ (us : List Bool). get_or us (get_or places k d).unit false) (free-with_member drives slot member (get_or places k d).slot) ∙ h.used k d lt;
 }
+
+-- ---- what is given back
+
+member-with_unit : (free : Bool) (drives : List Drive) (at : Place) (slot : ℕ) → (drive_at (with_unit free drives at) slot).member ≡ (drive_at drives slot).member
+member-with_unit free drives at slot =
+    ⊎_elim
+    (λ (same : slot ≡ at.slot).
+    ⊎_elim
+    (λ (within : at.slot < length drives).
+    ap (λ (s : ℕ). (drive_at (with_unit free drives at) s).member) same
+    ∙ ap (λ (d : Drive). d.member) (drive-there free drives at within)
+    ∙ ap (λ (s : ℕ). (drive_at drives s).member) (sym same))
+    (λ (past : length drives ≤ at.slot).
+    ap (λ (ds : List Drive). (drive_at ds slot).member) (set_past drives at.slot (with_unit_of free at.unit (drive_at drives at.slot)) past))
+    (cases_lt at.slot (length drives)))
+    (λ (apart : slot ≢ at.slot). ap (λ (d : Drive). d.member) (drive-elsewhere free drives at slot apart))
+    (cases_eq slot at.slot)
+
+pub member-with_units : (free : Bool) (drives : List Drive) (places : List Place) (slot : ℕ) → (drive_at (with_units free drives places) slot).member ≡ (drive_at drives slot).member
+member-with_units free drives [] slot = refl
+member-with_units free drives (at ∷ places) slot = member-with_units free (with_unit free drives at) places slot ∙ member-with_unit free drives at slot
+
+pub size-with_units : (free : Bool) (drives : List Drive) (places : List Place) (slot : ℕ) → length (drive_at (with_units free drives places) slot).free ≡ length (drive_at drives slot).free
+size-with_units free drives [] slot = refl
+size-with_units free drives (at ∷ places) slot = size-with_units free (with_unit free drives at) places slot ∙ size-with_unit free drives at slot
+
+cases_contains : (places : List Place) (place : Place) → Contains places place ⊎ (¬ Contains places place)
+cases_contains [] place = inr (λ (k, lt, is). absurd (omega arith))
+cases_contains (at ∷ places) place =
+    ⊎_elim
+    (λ (same : place ≡ at). inl (0, omega arith, sym same))
+    (λ (apart : place ≢ at).
+    ⊎_elim
+    (λ (there : Contains places place). inl (suc there.0, omega (arith, there.1), there.2))
+    (λ (absent : ¬ Contains places place). inr (not_there at places place apart absent))
+    (cases_contains places place))
+    (cases_place place at)
+  where
+    not_there : (at : Place) (places : List Place) (place : Place) → place ≢ at → ¬ Contains places place → ¬ Contains (at ∷ places) place
+    not_there at places place apart absent (zero, lt, is) = apart (sym is)
+    not_there at places place apart absent (suc k, lt, is) = absent (k, omega arith, is)
+
+abbrev drive_of : Bool → List Bool → Drive
+drive_of member free = record { member = member; free = free }
+
+same-drive : (a b : Drive) → a.member ≡ b.member → a.free ≡ b.free → a ≡ b
+same-drive a b member free = ap (λ (m : Bool). drive_of m a.free) member ∙ ap (λ (us : List Bool). drive_of b.member us) free
+
+-- maps that say the same of each drive and unit are equal
+pub same-map : (a b : List Drive) → length a ≡ length b → ((slot : ℕ) → (drive_at a slot).member ≡ (drive_at b slot).member) → ((slot : ℕ) → length (drive_at a slot).free ≡ length (drive_at b slot).free)
+    → ((place : Place) → is_free a place ≡ is_free b place) → a ≡ b
+same-map a b size members sizes frees =
+    same_lists a b size (λ k d lt.
+    let lt' : k < length b = omega arith in
+    get_or_default a k d no_drive lt
+    ∙ same-drive (drive_at a k) (drive_at b k) (members k) (same_lists (drive_at a k).free (drive_at b k).free (sizes k) (λ u e in'.
+    let in'' : u < length (drive_at b k).free = omega (arith, sizes k) in
+    get_or_default (drive_at a k).free u e false in' ∙ frees (place_of k u) ∙ get_or_default (drive_at b k).free u false e in''))
+    ∙ get_or_default b k no_drive d lt')
+
+-- Giving back what was free before it was taken leaves the map as it was.
+pub with_units-with_units : (drives : List Drive) (places : List Place) → All (IsPlace drives) places → All (λ place. is_free drives place ≡ true) places
+    → with_units true (with_units false drives places) places ≡ drives
+with_units-with_units drives places within free =
+    let taken = with_units false drives places in
+    same-map (with_units true taken places) drives
+    (length-with_units true taken places ∙ length-with_units false drives places)
+    (λ slot. member-with_units true taken places slot ∙ member-with_units false drives places slot)
+    (λ slot. size-with_units true taken places slot ∙ size-with_units false drives places slot)
+    (λ place.
+    ⊎_elim
+    (λ (there : Contains places place).
+    let is : get_or places there.0 place ≡ place = there.2 in
+    let at : IsPlace taken (get_or places there.0 place) = IsPlace-with_units false drives places (get_or places there.0 place) (within there.0 place there.1) in
+    ap (is_free (with_units true taken places)) (sym is)
+    ∙ is_free-with_units_there true taken places place there.0 there.1 at
+    ∙ sym (free there.0 place there.1)
+    ∙ ap (is_free drives) is)
+    (λ (apart : ¬ Contains places place).
+    is_free-with_units_elsewhere true taken places place apart ∙ is_free-with_units_elsewhere false drives places place apart)
+    (cases_contains places place))
