@@ -14,7 +14,7 @@ use Rattle.lru.proofs.Pairs.{cut_at, cut_end, last_of_push}
 use Rattle.pur_base.specs.declared.limits.TheConstants.{INDEX_ENTRIES}
 use Rattle.pur_base.specs.declared.ids.SegmentId.{SegmentId}
 use Rattle.pur_base.specs.declared.place.Location.{Location}
-use Rattle.dedup_index.specs.Entries.{Entries, location_of, without_hint, fronted, noted, is_elsewhere, without_segment, newer, oldest, turned}
+use Rattle.dedup_index.specs.Entries.{Entries, location_of, without_hint, fronted, noted, is_elsewhere, without_segment, newer, oldest}
 
 -- ---- look-ups
 
@@ -61,6 +61,10 @@ promoted-last xs e h = rw (entry-last xs e h, removed-last xs e h) refl
 
 -- ---- a turn
 
+-- the oldest entry goes where it is of the segment, and else to the front
+abbrev pub turned : SegmentId → Entries → Entries
+turned segment es = without_segment segment (oldest es) ++ newer es
+
 pub turned-push : (segment : SegmentId) (xs : Entries) (e : ℕ × Location) → turned segment (xs ++ e ∷ []) ≡ without_segment segment (e ∷ []) ++ xs
 turned-push segment xs e =
     let less : length (xs ++ e ∷ []) - 1 ≡ length xs = omega (arith, length-append xs (e ∷ [])) in
@@ -74,13 +78,6 @@ split_last (d ∷ es) e h =
     let last = rw (← cut.2) at ((last_of_push cut.0 cut.1).0) in
     let same : cut.1 ≡ e = cc in
     (cut.0, cut.2 ∙ ap (λ (x : ℕ × Location). cut.0 ++ x ∷ []) same)
-
-pub turned-empty : (segment : SegmentId) (es : Entries) → last_entry es ≡ None → es ≡ turned segment es
-turned-empty segment [] h = refl
-turned-empty segment (d ∷ es) h =
-    let cut = cut_end (d ∷ es) (omega arith) in
-    let last = rw (← cut.2) at ((last_of_push cut.0 cut.1).0) in
-    absurd cc
 
 kept : (segment : SegmentId) (e : ℕ × Location) (b : Bool) → is_elsewhere segment e ≡ b → without_segment segment (e ∷ []) ≡ cond b (e ∷ []) []
 kept segment e b h = rw h refl

@@ -46,10 +46,6 @@ newer es = take (length es - 1) es
 abbrev pub oldest : Entries → Entries
 oldest es = drop (length es - 1) es
 
--- the oldest entry goes where it is of the segment, and else to the front
-abbrev pub turned : SegmentId → Entries → Entries
-turned segment es = without_segment segment (oldest es) ++ newer es
-
 -- reading back at a location is lost, or gives other bytes than the sector's
 abbrev pub Misses : {P : Type 0} → (P → Location → Option (List ℕ) → P → Type 0) → P → Location → List ℕ → List ℕ → P → Type 0
 Misses reads before at sector read after = reads before at None after ⊎ (reads before at (Some read) after × ¬ (read ≡ sector))
