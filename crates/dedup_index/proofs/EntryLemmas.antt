@@ -1,20 +1,19 @@
 -- The words of `lru` at hints, and the turning of the oldest entry.
-use Rattle.std.proofs.Common.{◌≡◌, ℕ, suc, ◌+◌, ◌-◌, ◌<◌, Bool, true, false, cond, not, List, [], ◌∷◌, ◌++◌, map, length, take, drop, slice_get, is_some, option_map, Option, Some, None, refl, sym, ap, ◌∙◌, subst, arith, length-append, append_assoc, append-nil, nat_eq}
+use Rattle.std.proofs.Common.{◌≡◌, ℕ, ◌+◌, ◌-◌, ◌<◌, Bool, true, false, cond, [], ◌∷◌, ◌++◌, length, take, drop, is_some, option_map, Option, Some, None, refl, sym, ap, ◌∙◌, subst, arith, length-append, append_assoc, append-nil, nat_eq}
 use Rattle.std.proofs.lemmas.Bool.{eqb-true}
 use Rattle.std.proofs.lemmas.Cmp.{nat_eq_equiv}
-use Rattle.std.proofs.lemmas.List.{take-append-drop}
 use Rattle.std.proofs.lemmas.List.Elements.{filter-append}
 use Rattle.std.proofs.lemmas.Map.Keys.{IsDistinct-head, IsDistinct-tail}
 use Rattle.std.proofs.Math.Seq.{take-append_seam, drop-append_seam}
-use Rattle.std.specs.List.{filter, IsDistinct, AllByRecursion}
-use Rattle.std.specs.Map.{keys_of, lookup, lookup_entry, remove_entry}
+use Rattle.std.specs.List.{IsDistinct, AllByRecursion}
+use Rattle.std.specs.Map.{keys_of, lookup_entry, remove_entry}
 use Rattle.std.specs.Option.{option_map_or}
 use Rattle.lru.specs.LruCache.{lru_cache, promoted, put_entries, last_entry}
 use Rattle.lru.proofs.Pairs.{cut_at, cut_end, last_of_push}
 use Rattle.pur_base.specs.declared.limits.TheConstants.{INDEX_ENTRIES}
 use Rattle.pur_base.specs.declared.ids.SegmentId.{SegmentId}
 use Rattle.pur_base.specs.declared.place.Location.{Location}
-use Rattle.dedup_index.specs.Entries.{Entries, location_of, without_hint, fronted, noted, is_elsewhere, without_segment, newer, oldest, turned}
+use Rattle.dedup_index.specs.Entries.{Entries, location_of, without_hint, fronted, noted, is_elsewhere, without_segment, newer, oldest}
 
 -- ---- look-ups
 
@@ -61,6 +60,10 @@ promoted-last xs e h = rw (entry-last xs e h, removed-last xs e h) refl
 
 -- ---- a turn
 
+-- the oldest entry goes where it is of the segment, and else to the front
+abbrev pub turned : SegmentId → Entries → Entries
+turned segment es = without_segment segment (oldest es) ++ newer es
+
 pub turned-push : (segment : SegmentId) (xs : Entries) (e : ℕ × Location) → turned segment (xs ++ e ∷ []) ≡ without_segment segment (e ∷ []) ++ xs
 turned-push segment xs e =
     let less : length (xs ++ e ∷ []) - 1 ≡ length xs = omega (arith, length-append xs (e ∷ [])) in
@@ -74,13 +77,6 @@ split_last (d ∷ es) e h =
     let last = rw (← cut.2) at ((last_of_push cut.0 cut.1).0) in
     let same : cut.1 ≡ e = cc in
     (cut.0, cut.2 ∙ ap (λ (x : ℕ × Location). cut.0 ++ x ∷ []) same)
-
-pub turned-empty : (segment : SegmentId) (es : Entries) → last_entry es ≡ None → es ≡ turned segment es
-turned-empty segment [] h = refl
-turned-empty segment (d ∷ es) h =
-    let cut = cut_end (d ∷ es) (omega arith) in
-    let last = rw (← cut.2) at ((last_of_push cut.0 cut.1).0) in
-    absurd cc
 
 kept : (segment : SegmentId) (e : ℕ × Location) (b : Bool) → is_elsewhere segment e ≡ b → without_segment segment (e ∷ []) ≡ cond b (e ∷ []) []
 kept segment e b h = rw h refl

@@ -1,6 +1,6 @@
 -- The entries of an index, and what a look-up reads.
-use Rattle.std.specs.Prelude.{◌≡◌, ℕ, ◌-◌, Bool, not, ◌==◌, if◌then◌else◌, List, ◌∷◌, ◌++◌, [], length, take, drop, filter, Option, Some, None, is_some, nat_eq, ◌⊎◌}
-use Rattle.std.specs.Map.{lookup, lookup_entry, remove_entry}
+use Rattle.std.specs.Prelude.{◌≡◌, ℕ, ◌-◌, Bool, not, ◌==◌, if◌then◌else◌, List, ◌∷◌, length, take, drop, filter, Option, Some, None, is_some, nat_eq, ◌⊎◌}
+use Rattle.std.specs.Map.{lookup, remove_entry}
 use Rattle.std.specs.Option.{option_map_or}
 use Rattle.pur_base.specs.declared.limits.TheConstants.{INDEX_ENTRIES}
 use Rattle.pur_base.specs.declared.ids.SegmentId.{SegmentId}
@@ -22,7 +22,7 @@ without_hint hint es = remove_entry (nat_eq hint) es
 abbrev pub fronted : ℕ → Entries → Entries
 fronted hint es = option_map_or (λ at. (hint, at) ∷ without_hint hint es) (location_of hint es) es
 
--- the entries that stay beside a new one: the others, and not the oldest where a new hint finds the index full
+-- the entries that stay beside a new one: those of other hints, but not the oldest where a new hint finds the index full
 abbrev pub beside : ℕ → Entries → Entries
 beside hint es = if is_some (location_of hint es) then without_hint hint es else take (INDEX_ENTRIES - 1) es
 
@@ -45,10 +45,6 @@ newer es = take (length es - 1) es
 -- the oldest entry alone
 abbrev pub oldest : Entries → Entries
 oldest es = drop (length es - 1) es
-
--- the oldest entry goes where it is of the segment, and else to the front
-abbrev pub turned : SegmentId → Entries → Entries
-turned segment es = without_segment segment (oldest es) ++ newer es
 
 -- reading back at a location is lost, or gives other bytes than the sector's
 abbrev pub Misses : {P : Type 0} → (P → Location → Option (List ℕ) → P → Type 0) → P → Location → List ℕ → List ℕ → P → Type 0

@@ -1,7 +1,7 @@
-ghost use Rattle.std.specs.Prelude.{◌≡◌, ◌↔◌, ◌≤◌, [], Some, length, nat_eq, IsTrue, IsFalse, IfOk, OnOk, OnErr, IfSome, IfNone, IsNone};
+ghost use Rattle.std.specs.Prelude.{◌≡◌, ◌↔◌, ◌≤◌, [], ◌++◌, Some, length, nat_eq, IsTrue, IsFalse, IfOk, OnOk, OnErr, IfSome, IfNone, IsSome, IsNone, IsOk};
 ghost use Rattle.std.specs.List.{IsDistinct};
 ghost use Rattle.std.specs.Map.{keys_of};
-ghost use Rattle.dedup_index.specs.Entries.{location_of, fronted, noted, without_segment, turned, Misses};
+ghost use Rattle.dedup_index.specs.Entries.{location_of, fronted, noted, without_segment, oldest, newer, Misses};
 
 use crate::hint::Hint;
 use lru::LruCache;
@@ -82,7 +82,8 @@ impl<H: Hint> Index<H> {
         buffer: &mut Sector,
         from: &mut P,
     ) -> Option<Location>
-        ensures found { IfSome result (λ at. (location_of (H.hint sector.now) self.old ≡ Some at) × P.reads from.old at (Some sector.now) from.new) }
+        ensures located { IfSome result (λ at. location_of (H.hint sector.now) self.old ≡ Some at) }
+        ensures same { IfSome result (λ at. P.reads from.old at (Some sector.now) from.new) }
         ensures missed { IfNone result (IfSome (location_of (H.hint sector.now) self.old) (λ at. Misses P.reads from.old at sector.now buffer.new from.new)) }
         ensures unread { IsNone (location_of (H.hint sector.now) self.old) → (from.new ≡ from.old) × (buffer.new ≡ buffer.old) }
         ensures entries { self.new ≡ fronted (H.hint sector.now) self.old }
@@ -98,7 +99,8 @@ impl<H: Hint> Index<H> {
         buffer: &mut Sector,
         from: &mut P,
     ) -> Option<Location>
-        ensures found { IfSome result (λ at. (location_of hint self.old ≡ Some at) × P.reads from.old at (Some sector.now) from.new) }
+        ensures located { IfSome result (λ at. location_of hint self.old ≡ Some at) }
+        ensures same { IfSome result (λ at. P.reads from.old at (Some sector.now) from.new) }
         ensures missed { IfNone result (IfSome (location_of hint self.old) (λ at. Misses P.reads from.old at sector.now buffer.new from.new)) }
         ensures unread { IsNone (location_of hint self.old) → (from.new ≡ from.old) × (buffer.new ≡ buffer.old) }
         ensures entries { self.new ≡ fronted hint self.old }
@@ -110,10 +112,11 @@ impl<H: Hint> Index<H> {
         None
     }
 
-    /// Notes where a sector stands. An error leaves the index.
+    /// Notes where a sector stands, which becomes the most recently used entry. An error leaves the index.
     pub fn note(&mut self, sector: &Sector, at: Location) -> Result<(), NoMemory>
         ensures ok { OnOk result (self.new ≡ noted (H.hint sector.now) at self.old) }
         ensures err { OnErr result (self.new ≡ self.old) }
+        ensures succeeds { IsSome (location_of (H.hint sector.now) self.old) → IsOk result }
     {
         self.note_by(H::of(sector), at)
     }
@@ -122,6 +125,7 @@ impl<H: Hint> Index<H> {
     pub fn note_by(&mut self, hint: u64, at: Location) -> Result<(), NoMemory>
         ensures ok { OnOk result (self.new ≡ noted hint at self.old) }
         ensures err { OnErr result (self.new ≡ self.old) }
+        ensures succeeds { IsSome (location_of hint self.old) → IsOk result }
     {
         self.cache.put(hint, at)?;
         Ok(())
@@ -138,8 +142,9 @@ impl<H: Hint> Index<H> {
 
     /// The oldest entry goes where it is of the segment, and else becomes the most recently used.
     fn turn(&mut self, segment: SegmentId)
-        ensures { self.new ≡ turned segment self.old }
+        ensures { self.new ≡ without_segment segment (oldest self.old) ++ newer self.old }
     {
+        // It promises that no other entry has the hint.
         let _entries = self.cache.len();
         let Some((hint, at)) = self.cache.peek_lru() else {
             return;

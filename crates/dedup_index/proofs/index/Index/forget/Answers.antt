@@ -1,6 +1,5 @@
 use Rattle.std.proofs.Common.{ap, ◌∙◌, arith}
-use Rattle.dedup_index.specs.Entries.{turned}
-use Rattle.dedup_index.proofs.EntryLemmas.{turned-more}
+use Rattle.dedup_index.proofs.EntryLemmas.{turned, turned-more}
 use Rattle.dedup_index.proofs.index.Index.forget.Goals as goal
 
 pub loop-turn-preserved : goal.loop-turn-preserved
