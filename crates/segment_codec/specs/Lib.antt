@@ -1,0 +1,5 @@
+pub mod Header
+pub mod Fields
+pub mod FrontFields
+pub mod Position
+pub mod PositionFields
