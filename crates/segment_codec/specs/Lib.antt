@@ -2,4 +2,3 @@ pub mod Header
 pub mod Fields
 pub mod FrontFields
 pub mod Position
-pub mod PositionFields

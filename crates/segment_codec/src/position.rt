@@ -1,6 +1,5 @@
 ghost use Rattle.std.specs.Prelude.{◌≡◌, ◌<◌};
 ghost use Rattle.pur_base.specs.declared.limits.TheConstants.{SEGMENT_SECTORS};
-ghost use Rattle.segment_codec.specs.Position.{stripe_of, shard_of, eighth_of};
 
 /// The sectors of data of a stripe: seven shards of eight.
 pub const STRIPE_SECTORS: u16 = 56;
@@ -11,8 +10,8 @@ pub const STRIPES: u8 = 15;
 /// The shards of data of a stripe.
 pub const DATA_SHARDS: u8 = 7;
 
-/// The sectors of a shard.
-pub const EIGHTHS: u8 = 8;
+/// The sectors of a shard in a stripe.
+pub const SHARD_SECTORS: u16 = 8;
 
 /// Where a sector of data stands in its segment. Sectors go through a shard first, then through the stripe's shards.
 #[derive(Clone, Copy, Debug, PartialEq, Eq)]
@@ -26,7 +25,7 @@ pub struct Position {
 }
 
 impl Position {
-    ghost use Rattle.segment_codec.specs.PositionFields.{IsPosition, index_of};
+    ghost use Rattle.segment_codec.specs.Position.{stripe_of, shard_of, eighth_of, IsPosition, index_of};
     ghost use Rattle.segment_codec.specs.declared.position.Position.{Position};
 
     /// Where the sector of that index stands.
@@ -42,8 +41,8 @@ impl Position {
         let within = index % STRIPE_SECTORS;
         Position {
             stripe: (index / STRIPE_SECTORS) as u8,
-            shard: (within / EIGHTHS as u16) as u8,
-            eighth: (within % EIGHTHS as u16) as u8,
+            shard: (within / SHARD_SECTORS) as u8,
+            eighth: (within % SHARD_SECTORS) as u8,
         }
     }
 
@@ -53,8 +52,6 @@ impl Position {
         ensures index { result ≡ index_of self }
         ensures bound { result < SEGMENT_SECTORS }
     {
-        self.stripe as u16 * STRIPE_SECTORS
-            + self.shard as u16 * EIGHTHS as u16
-            + self.eighth as u16
+        self.stripe as u16 * STRIPE_SECTORS + self.shard as u16 * SHARD_SECTORS + self.eighth as u16
     }
 }

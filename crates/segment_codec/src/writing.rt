@@ -34,7 +34,7 @@ fn put_places(front: &mut Front, places: &Places)
     }
 }
 
-/// The sector that spells the header.
+/// The sector that spells the header. For data, the part, the parts and the facts are zero.
 #[tactic(auto, unfolding(crate::specs::Header::header_bytes))]
 pub fn write_header(header: &Header) -> Sector
     requires lawful { IsLawful header.now }
