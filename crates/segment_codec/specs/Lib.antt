@@ -1,0 +1,4 @@
+pub mod Header
+pub mod Fields
+pub mod FrontFields
+pub mod Position

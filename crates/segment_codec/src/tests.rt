@@ -1,0 +1,110 @@
+ghost use Rattle.std.specs.Prelude.{◌<◌};
+ghost use Rattle.pur_base.specs.declared.limits.TheConstants.{SECTOR_BYTES};
+ghost use Rattle.segment_codec.specs.Header.{IsLawful, IsOfNoPatch};
+
+use super::*;
+use pur_base::{Place, SECTOR_BYTES, Sector, SegmentId};
+use std::test::*;
+
+const FIELDS: usize = 67;
+
+// The header of the unit of Q of a full segment of data.
+const DATA: [u8; FIELDS] = [
+    80, 85, 82, 83, 69, 71, 77, 84, // PURSEGMT
+    0, 0, 0, 0, 0, 0, 1, 2, // segment 258
+    0, 0, 0, 0, 0, 0, 3, 4, // generation 772
+    1, 8, 3, 72, // data, Q, 840 sectors
+    0, 0, 0, 0, // no tag
+    0, 0, 0, 0, 0, 0, 0, 0, // no part, parts or facts
+    0, 0, 3, 1, 15, 255, 2, 0, 5, 3, 2, 88, 4, 0, 7, 6, 0, 8, 7, 0, 9, 20, 0, 10, 23, 0, 11,
+];
+
+const fn place(slot: u8, unit: u16) -> Place {
+    Place { slot, unit }
+}
+
+fn data_header() -> Header
+    ensures lawful { IsLawful result }
+    ensures no_patch { IsOfNoPatch result }
+{
+    Header {
+        segment: SegmentId(258),
+        generation: 772,
+        kind: SegmentKind::Data,
+        shard: 8,
+        placed: 840,
+        tag: 0,
+        part: 0,
+        parts: 0,
+        facts: 0,
+        places: [
+            place(0, 3),
+            place(1, 4095),
+            place(2, 5),
+            place(3, 600),
+            place(4, 7),
+            place(6, 8),
+            place(7, 9),
+            place(20, 10),
+            place(23, 11),
+        ],
+    }
+}
+
+// The sector of these fields, with one byte changed.
+fn changed(at: usize, byte: u8) -> Sector
+    requires { at < SECTOR_BYTES }
+{
+    let mut bytes = [0; SECTOR_BYTES];
+    bytes[..FIELDS].copy_from_slice(&DATA);
+    bytes[at] = byte;
+    Sector::new(bytes)
+}
+
+#[test]
+fn data_by_hand(rt: HostRuntime) {
+    let sector = changed(0, DATA[0]);
+    assert_eq!(rt; read_header(&sector), Ok(data_header()));
+    let written = write_header(&data_header());
+    assert!(rt; written.as_bytes() == sector.as_bytes());
+}
+
+#[test]
+fn a_patch_reads_back(rt: HostRuntime) {
+    let header = Header {
+        kind: SegmentKind::Patch,
+        shard: 0,
+        placed: 1,
+        tag: 5,
+        part: 1,
+        parts: 2,
+        facts: 6721,
+        ..data_header()
+    };
+    assert_eq!(rt; read_header(&write_header(&header)), Ok(header));
+}
+
+#[test]
+fn each_byte_matters(rt: HostRuntime) {
+    for at in 0..FIELDS {
+        let read = read_header(&changed(at, DATA[at].wrapping_add(1)));
+        // the word, the kind, the shard, the sectors placed, the tag and the zeros behind it
+        let refused = at < 8 || (24..32).contains(&at);
+        assert_eq!(rt; read.is_err(), refused, "byte {at}");
+        assert!(rt; read != Ok(data_header()), "byte {at}");
+    }
+    for at in [FIELDS, SECTOR_BYTES - 1] {
+        assert_eq!(rt; read_header(&changed(at, 1)), Err(BadHeader), "byte {at}");
+    }
+}
+
+#[test]
+fn the_last_sector(rt: HostRuntime) {
+    let last = Position {
+        stripe: 14,
+        shard: 6,
+        eighth: 7,
+    };
+    assert_eq!(rt; Position::of(839), last);
+    assert_eq!(rt; last.index(), 839);
+}
