@@ -1,0 +1,172 @@
+-- Reading from the front, with the first fault that is met.
+use Rattle.std.specs.Prelude.{◌≡◌, ℕ, zero, suc, ◌+◌, ◌-◌, ◌*◌, ◌/◌, ◌%◌, ◌^◌, Bool, true, ◌&&◌, List, [], ◌∷◌, ◌++◌, length, drop, slice_index, nat_lt, nat_le, ◌==◌, if◌then◌else◌, Result, Ok, Err, codes}
+use Rattle.std.specs.Int.{Width, w8, w16, w32, w64, byte_len, from_be_bytes, div_ceil, is_in_range}
+use Rattle.pur_base.specs.Bytes.{zeros}
+use Rattle.pur_base.specs.declared.limits.TheConstants.{SLOTS_MIN, SLOTS_MAX, UNITS_MIN, UNITS_MAX, BOOT_UNITS, SEGMENT_SHARDS}
+use Rattle.pur_base.specs.declared.place.Place.{Place}
+use Rattle.boot_codec.specs.declared.limits.TheConstants.{RECORD_BYTES, FORMAT, DRIVE_FLAGS, NVRAM_FLAGS, MEMBER_DRIVES_MIN, MEMBER_NVRAMS_MIN, NUMBER_LIMIT, TAG_MAX, PATCHES, PATCH_SEGMENTS, FACTS_PER_SEGMENT}
+use Rattle.boot_codec.specs.declared.bad_record.BadRecord.{BadRecord}
+use Rattle.boot_codec.specs.declared.bad_record.ReadError.{ReadError}
+use Rattle.boot_codec.specs.declared.bad_record.ReadError.TheVariants as errors
+use Rattle.boot_codec.specs.declared.patch.PatchSegment.{PatchSegment}
+use Rattle.boot_codec.specs.declared.patch.Patch.{Patch}
+use Rattle.boot_codec.specs.declared.record.Members.{Members}
+use Rattle.boot_codec.specs.declared.record.NextNumbers.{NextNumbers}
+use Rattle.boot_codec.specs.declared.record.BootRecord.{BootRecord}
+use Rattle.boot_codec.specs.Record.{set_count}
+
+-- a value and the bytes after it, or the first fault
+abbrev pub Reading : Type 0 → Type 0
+Reading A = List ℕ → Result (A × List ℕ) BadRecord
+
+abbrev pub then_read : {A B : Type 0} → (A → Reading B) → Result (A × List ℕ) BadRecord → Result (B × List ℕ) BadRecord
+then_read f (Ok x) = f x.0 x.1
+then_read f (Err e) = Err e
+
+infixl 10 ◌>>=◌
+abbrev pub ◌>>=◌ : {A B : Type 0} → Reading A → (A → Reading B) → Reading B
+read >>= f = λ bytes. then_read f (read bytes)
+
+abbrev pub give : {A : Type 0} → A → Reading A
+give x = λ bytes. Ok (x, bytes)
+
+-- the fault of a field that begins where these bytes do, the last bytes of a record
+abbrev pub fault_at : List ℕ → BadRecord
+fault_at bytes = record { place = RECORD_BYTES - length bytes; byte = slice_index bytes 0 }
+
+-- What a function returned, seen by view, is what reading gives, unless memory ran out.
+abbrev pub Fails : {Y : Type 0} → ReadError → Result Y BadRecord → Type 0
+Fails (errors.Memory m) read = Unit {0}
+Fails (errors.Bad e) read = read ≡ Err e
+
+abbrev pub Gives : {X Y : Type 0} → (X → Y) → Result X ReadError → Result Y BadRecord → Type 0
+Gives view (Ok x) read = read ≡ Ok (view x)
+Gives view (Err e) read = Fails e read
+
+-- ---- numbers
+
+-- a number that passes the test
+abbrev pub number : Width → (ℕ → Bool) → Reading ℕ
+number w test = λ bytes.
+    let n = from_be_bytes w bytes in
+    if test n then Ok (n, drop (byte_len w) bytes) else Err (fault_at bytes)
+
+-- from 1 up to below 2^48
+unfoldable pub next_number : Reading ℕ
+next_number = number w64 (λ n. nat_le 1 n && nat_lt n NUMBER_LIMIT)
+
+-- these bytes, of which the first that differs fails
+unfoldable pub these : List ℕ → Reading (Unit {0})
+these [] = give tt
+these (b ∷ bs) = λ bytes. if slice_index bytes 0 == b then these bs (drop 1 bytes) else Err (fault_at bytes)
+
+-- ---- the header
+
+-- the text, the format, the slots and the units of the shelf
+unfoldable pub opening : ℕ → ℕ → Reading (Unit {0})
+opening shelf_slots shelf_units = do
+  _ ← these (codes "PURARRAY")
+  _ ← number w32 (λ n. n == FORMAT)
+  _ ← number w16 (λ n. is_in_range SLOTS_MIN SLOTS_MAX n && (n == shelf_slots))
+  _ ← number w16 (λ n. is_in_range UNITS_MIN UNITS_MAX n && (n == shelf_units))
+  give tt
+
+-- the flags of a number's lowest bits
+abbrev pub flags : ℕ → ℕ → List Bool
+flags zero n = []
+flags (suc k) n = (n % 2 == 1) ∷ flags k (n / 2)
+
+-- the drives' flags, none of them past the slots, and the NVRAM devices' flags
+unfoldable pub members : ℕ → Reading Members
+members slots = do
+  drives ← number w32 (λ n. nat_lt n (2 ^ slots) && nat_le MEMBER_DRIVES_MIN (set_count (flags DRIVE_FLAGS n)))
+  nvrams ← number w8 (λ n. nat_lt n (2 ^ NVRAM_FLAGS) && nat_le MEMBER_NVRAMS_MIN (set_count (flags NVRAM_FLAGS n)))
+  _ ← these (zeros 3)
+  give (record { drives = flags DRIVE_FLAGS drives; nvrams = flags NVRAM_FLAGS nvrams })
+
+unfoldable pub next_numbers : Reading NextNumbers
+next_numbers = do
+  object ← next_number
+  medium ← next_number
+  segment ← next_number
+  patch_segment ← next_number
+  sequence ← next_number
+  give (record { object = object; medium = medium; segment = segment; patch_segment = patch_segment; sequence = sequence })
+
+-- ---- the lists
+
+-- so many places on ascending slots, the first of them at least that one
+unfoldable pub places_from : ℕ → ℕ → ℕ → ℕ → Reading (List Place)
+places_from slots units least zero = give []
+places_from slots units least (suc n) = do
+  slot ← number w8 (λ s. nat_le least s && nat_lt s slots)
+  unit ← number w16 (λ u. nat_le BOOT_UNITS u && nat_lt u units)
+  others ← places_from slots units (slot + 1) n
+  give (record { slot = slot; unit = unit } ∷ others)
+
+unfoldable pub segment : ℕ → ℕ → Reading PatchSegment
+segment slots units = do
+  id ← number w64 (λ n. true)
+  places ← places_from slots units 0 SEGMENT_SHARDS
+  give (record { id = id; places = places })
+
+-- so many segments
+unfoldable pub segments : ℕ → ℕ → ℕ → Reading (List PatchSegment)
+segments slots units zero = give []
+segments slots units (suc n) = do
+  first ← segment slots units
+  others ← segments slots units n
+  give (first ∷ others)
+
+-- a patch of that tag or a greater one, with at most so many segments
+unfoldable pub patch : ℕ → ℕ → ℕ → ℕ → Reading Patch
+patch slots units least room = do
+  tag ← number w8 (λ t. nat_le least t && nat_le t TAG_MAX)
+  facts ← number w32 (nat_le 1)
+  count ← number w16 (λ c. (c == div_ceil facts FACTS_PER_SEGMENT) && nat_le c room)
+  segments ← segments slots units count
+  give (record { tag = tag; facts = facts; segments = segments })
+
+-- so many patches, of that tag or greater ones, with at most so many segments
+unfoldable pub patches : ℕ → ℕ → ℕ → ℕ → ℕ → Reading (List Patch)
+patches slots units least room zero = give []
+patches slots units least room (suc n) = do
+  first ← patch slots units least room
+  others ← patches slots units first.tag (room - length first.segments) n
+  give (first ∷ others)
+
+-- the field says how long the record is up to here, or fails
+abbrev pub length_at : List ℕ → Reading (Unit {0})
+length_at field = λ bytes. if from_be_bytes w32 field == RECORD_BYTES - length bytes then Ok (tt, bytes) else Err (fault_at field)
+
+-- the number of patches, no frontier units, the length, and the patches
+unfoldable pub lists : ℕ → ℕ → Reading (List Patch)
+lists slots units = do
+  count ← number w16 (λ n. nat_le n PATCHES)
+  _ ← number w16 (λ n. n == 0)
+  field ← (λ bytes. Ok (bytes, bytes))
+  _ ← number w32 (λ n. true)
+  patches ← patches slots units 1 PATCH_SEGMENTS count
+  _ ← length_at field
+  give patches
+
+-- nothing but zeros up to the end
+unfoldable pub padding : Reading (Unit {0})
+padding = λ bytes. these (zeros (length bytes)) bytes
+
+-- ---- the record
+
+unfoldable pub boot_record : ℕ → ℕ → Reading BootRecord
+boot_record slots units = do
+  _ ← opening slots units
+  generation ← next_number
+  members ← members slots
+  next ← next_numbers
+  flushed ← number w64 (λ n. nat_lt n NUMBER_LIMIT)
+  patches ← lists slots units
+  _ ← padding
+  give (record { slots = slots; units = units; generation = generation; members = members; next = next; flushed = flushed; patches = patches })
+
+-- the record that the bytes spell on a shelf of so many slots and units, or the first fault
+unfoldable pub read_record : ℕ → ℕ → List ℕ → Result BootRecord BadRecord
+read_record slots units bytes = elim (boot_record slots units bytes) [ Ok x ↦ Ok x.0 | Err e ↦ Err e ]
