@@ -55,20 +55,35 @@ number w test = λ bytes.
 unfoldable pub next_number : Reading ℕ
 next_number = number w64 (λ n. nat_le 1 n && nat_lt n NUMBER_LIMIT)
 
+-- below 2^48
+unfoldable pub flushed_number : Reading ℕ
+flushed_number = number w64 (λ n. nat_lt n NUMBER_LIMIT)
+
 -- these bytes, of which the first that differs fails
 unfoldable pub these : List ℕ → Reading (Unit {0})
 these [] = give tt
-these (b ∷ bs) = λ bytes. if slice_index bytes 0 == b then these bs (drop 1 bytes) else Err (fault_at bytes)
+these (b ∷ bs) = number w8 (λ n. n == b) >>= λ _. these bs
 
 -- ---- the header
 
--- the text, the format, the slots and the units of the shelf
+unfoldable pub format : Reading ℕ
+format = number w32 (λ n. n == FORMAT)
+
+-- the slots of the shelf
+unfoldable pub slots_of : ℕ → Reading ℕ
+slots_of shelf = number w16 (λ n. (n == shelf) && is_in_range SLOTS_MIN SLOTS_MAX n)
+
+-- the units of the shelf's drives
+unfoldable pub units_of : ℕ → Reading ℕ
+units_of shelf = number w16 (λ n. (n == shelf) && is_in_range UNITS_MIN UNITS_MAX n)
+
+-- the text, the format, the slots and the units
 unfoldable pub opening : ℕ → ℕ → Reading (Unit {0})
-opening shelf_slots shelf_units = do
+opening slots units = do
   _ ← these (codes "PURARRAY")
-  _ ← number w32 (λ n. n == FORMAT)
-  _ ← number w16 (λ n. is_in_range SLOTS_MIN SLOTS_MAX n && (n == shelf_slots))
-  _ ← number w16 (λ n. is_in_range UNITS_MIN UNITS_MAX n && (n == shelf_units))
+  _ ← format
+  _ ← slots_of slots
+  _ ← units_of units
   give tt
 
 -- the flags of a number's lowest bits
@@ -76,13 +91,25 @@ abbrev pub flags : ℕ → ℕ → List Bool
 flags zero n = []
 flags (suc k) n = (n % 2 == 1) ∷ flags k (n / 2)
 
--- the drives' flags, none of them past the slots, and the NVRAM devices' flags
+-- at least nine drives, none of them past the slots
+unfoldable pub drives : ℕ → Reading (List Bool)
+drives slots = do
+  n ← number w32 (λ n. nat_lt n (2 ^ slots) && nat_le MEMBER_DRIVES_MIN (set_count (flags DRIVE_FLAGS n)))
+  give (flags DRIVE_FLAGS n)
+
+-- at least one of the NVRAM devices
+unfoldable pub nvrams : Reading (List Bool)
+nvrams = do
+  n ← number w8 (λ n. nat_lt n (2 ^ NVRAM_FLAGS) && nat_le MEMBER_NVRAMS_MIN (set_count (flags NVRAM_FLAGS n)))
+  give (flags NVRAM_FLAGS n)
+
+-- the drives, the NVRAM devices, and three zeros
 unfoldable pub members : ℕ → Reading Members
 members slots = do
-  drives ← number w32 (λ n. nat_lt n (2 ^ slots) && nat_le MEMBER_DRIVES_MIN (set_count (flags DRIVE_FLAGS n)))
-  nvrams ← number w8 (λ n. nat_lt n (2 ^ NVRAM_FLAGS) && nat_le MEMBER_NVRAMS_MIN (set_count (flags NVRAM_FLAGS n)))
+  drives ← drives slots
+  nvrams ← nvrams
   _ ← these (zeros 3)
-  give (record { drives = flags DRIVE_FLAGS drives; nvrams = flags NVRAM_FLAGS nvrams })
+  give (record { drives = drives; nvrams = nvrams })
 
 unfoldable pub next_numbers : Reading NextNumbers
 next_numbers = do
@@ -162,7 +189,7 @@ boot_record slots units = do
   generation ← next_number
   members ← members slots
   next ← next_numbers
-  flushed ← number w64 (λ n. nat_lt n NUMBER_LIMIT)
+  flushed ← flushed_number
   patches ← lists slots units
   _ ← padding
   give (record { slots = slots; units = units; generation = generation; members = members; next = next; flushed = flushed; patches = patches })

@@ -6,6 +6,7 @@ mod bad_record;
 mod flags;
 mod front;
 mod gate;
+mod header;
 mod limits;
 mod patch;
 mod put;

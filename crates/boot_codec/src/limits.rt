@@ -14,10 +14,10 @@ pub const DRIVE_FLAGS: usize = 24;
 pub const NVRAM_FLAGS: usize = 2;
 
 /// The fewest member drives of a record.
-pub const MEMBER_DRIVES_MIN: u32 = 9;
+pub const MEMBER_DRIVES_MIN: usize = 9;
 
 /// The fewest member NVRAM devices of a record.
-pub const MEMBER_NVRAMS_MIN: u32 = 1;
+pub const MEMBER_NVRAMS_MIN: usize = 1;
 
 /// No generation, next number or sequence number reaches this.
 pub const NUMBER_LIMIT: u64 = 1 << 48;
