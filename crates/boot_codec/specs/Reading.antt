@@ -122,14 +122,20 @@ next_numbers = do
 
 -- ---- the lists
 
+-- a data unit on that slot or a greater one
+unfoldable pub place_from : ℕ → ℕ → ℕ → Reading Place
+place_from slots units least = do
+  slot ← number w8 (λ s. nat_le least s && nat_lt s slots)
+  unit ← number w16 (λ u. nat_le BOOT_UNITS u && nat_lt u units)
+  give (record { slot = slot; unit = unit })
+
 -- so many places on ascending slots, the first of them at least that one
 unfoldable pub places_from : ℕ → ℕ → ℕ → ℕ → Reading (List Place)
 places_from slots units least zero = give []
 places_from slots units least (suc n) = do
-  slot ← number w8 (λ s. nat_le least s && nat_lt s slots)
-  unit ← number w16 (λ u. nat_le BOOT_UNITS u && nat_lt u units)
-  others ← places_from slots units (slot + 1) n
-  give (record { slot = slot; unit = unit } ∷ others)
+  first ← place_from slots units least
+  others ← places_from slots units (first.slot + 1) n
+  give (first ∷ others)
 
 unfoldable pub segment : ℕ → ℕ → Reading PatchSegment
 segment slots units = do
@@ -145,16 +151,28 @@ segments slots units (suc n) = do
   others ← segments slots units n
   give (first ∷ others)
 
+-- that tag or a greater one
+unfoldable pub tag_from : ℕ → Reading ℕ
+tag_from least = number w8 (λ t. nat_le least t && nat_le t TAG_MAX)
+
+-- at least one
+unfoldable pub facts : Reading ℕ
+facts = number w32 (nat_le 1)
+
+-- as many segments as the facts need, and no more than there is room for
+unfoldable pub segment_count : ℕ → ℕ → Reading ℕ
+segment_count facts room = number w16 (λ c. (c == div_ceil facts FACTS_PER_SEGMENT) && nat_le c room)
+
 -- a patch of that tag or a greater one, with at most so many segments
 unfoldable pub patch : ℕ → ℕ → ℕ → ℕ → Reading Patch
 patch slots units least room = do
-  tag ← number w8 (λ t. nat_le least t && nat_le t TAG_MAX)
-  facts ← number w32 (nat_le 1)
-  count ← number w16 (λ c. (c == div_ceil facts FACTS_PER_SEGMENT) && nat_le c room)
+  tag ← tag_from least
+  facts ← facts
+  count ← segment_count facts room
   segments ← segments slots units count
   give (record { tag = tag; facts = facts; segments = segments })
 
--- so many patches, of that tag or greater ones, with at most so many segments
+-- so many patches by ascending tag, the first of them at least that one, with at most so many segments
 unfoldable pub patches : ℕ → ℕ → ℕ → ℕ → ℕ → Reading (List Patch)
 patches slots units least room zero = give []
 patches slots units least room (suc n) = do
@@ -162,19 +180,30 @@ patches slots units least room (suc n) = do
   others ← patches slots units first.tag (room - length first.segments) n
   give (first ∷ others)
 
--- the field says how long the record is up to here, or fails
-abbrev pub length_at : List ℕ → Reading (Unit {0})
-length_at field = λ bytes. if from_be_bytes w32 field == RECORD_BYTES - length bytes then Ok (tt, bytes) else Err (fault_at field)
+unfoldable pub patch_count : Reading ℕ
+patch_count = number w16 (λ n. nat_le n PATCHES)
+
+-- none in this format
+unfoldable pub frontier_count : Reading ℕ
+frontier_count = number w16 (λ n. n == 0)
+
+-- what is still to be read
+abbrev pub here : Reading (List ℕ)
+here = λ bytes. Ok (bytes, bytes)
+
+-- the field says how long the record is up to here, or it fails
+abbrev pub length_is : List ℕ → Reading (Unit {0})
+length_is field = λ bytes. if from_be_bytes w32 field == RECORD_BYTES - length bytes then Ok (tt, bytes) else Err (fault_at field)
 
 -- the number of patches, no frontier units, the length, and the patches
 unfoldable pub lists : ℕ → ℕ → Reading (List Patch)
 lists slots units = do
-  count ← number w16 (λ n. nat_le n PATCHES)
-  _ ← number w16 (λ n. n == 0)
-  field ← (λ bytes. Ok (bytes, bytes))
+  count ← patch_count
+  _ ← frontier_count
+  field ← here
   _ ← number w32 (λ n. true)
   patches ← patches slots units 1 PATCH_SEGMENTS count
-  _ ← length_at field
+  _ ← length_is field
   give patches
 
 -- nothing but zeros up to the end
@@ -194,6 +223,11 @@ boot_record slots units = do
   _ ← padding
   give (record { slots = slots; units = units; generation = generation; members = members; next = next; flushed = flushed; patches = patches })
 
+-- the value without the bytes after it
+abbrev pub value_of : {A : Type 0} → Result (A × List ℕ) BadRecord → Result A BadRecord
+value_of (Ok x) = Ok x.0
+value_of (Err e) = Err e
+
 -- the record that the bytes spell on a shelf of so many slots and units, or the first fault
 unfoldable pub read_record : ℕ → ℕ → List ℕ → Result BootRecord BadRecord
-read_record slots units bytes = elim (boot_record slots units bytes) [ Ok x ↦ Ok x.0 | Err e ↦ Err e ]
+read_record slots units bytes = value_of (boot_record slots units bytes)

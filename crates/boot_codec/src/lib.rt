@@ -8,8 +8,11 @@ mod front;
 mod gate;
 mod header;
 mod limits;
+mod lists;
+mod padding;
 mod patch;
 mod put;
+mod reading;
 mod record;
 mod writing;
 
