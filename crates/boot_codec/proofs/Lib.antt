@@ -3,3 +3,7 @@ pub mod FlagLemmas
 pub mod SpellingLemmas
 pub mod LoopLemmas
 pub mod PaddingLemmas
+pub mod FieldLemmas
+pub mod HeaderLemmas
+pub mod ListLemmas
+pub mod RecordLemmas

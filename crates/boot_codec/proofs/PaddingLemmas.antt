@@ -22,7 +22,7 @@ padding-zero : (bytes : List ℕ) → padding (0 ∷ bytes) ≡ padding bytes
 unfolding padding these
 padding-zero bytes = refl
 
-padding-zeros : (n : ℕ) → padding (zeros n) ≡ Ok (tt, [])
+pub padding-zeros : (n : ℕ) → padding (zeros n) ≡ Ok (tt, [])
 padding-zeros zero = unfold padding in unfold these in refl
 padding-zeros (suc n) = padding-zero (zeros n) ∙ padding-zeros n
 

@@ -23,5 +23,9 @@ pub use limits::{
     NUMBER_LIMIT, NVRAM_FLAGS, PATCH_SEGMENTS, PATCHES, RECORD_BYTES, TAG_MAX,
 };
 pub use patch::{Patch, PatchSegment, Patches, Segments};
+pub use reading::read_record;
 pub use record::{BootRecord, Members, NextNumbers};
 pub use writing::write_record;
+
+#[cfg(test)]
+mod tests;
