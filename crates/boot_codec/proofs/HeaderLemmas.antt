@@ -1,13 +1,13 @@
 -- The header: what is read is spelled so, and what is spelled so is read.
-use Rattle.std.proofs.Common.{◌≡◌, ℕ, zero, suc, ◌+◌, ◌*◌, ◌/◌, ◌%◌, ◌^◌, ◌<◌, ◌≤◌, Bool, true, false, ◌&&◌, cond, eqb, leb, ltb, List, [], ◌∷◌, ◌++◌, length, codes, Result, Ok, Err, refl, sym, ap, subst, ◌∙◌, append_assoc, arith, pow-suc}
-use Rattle.std.specs.Int.{w8, w16, w32, w64, to_be_bytes, is_in_range}
+use Rattle.std.proofs.Common.{◌≡◌, ℕ, zero, suc, ◌+◌, ◌*◌, ◌/◌, ◌%◌, ◌^◌, ◌<◌, ◌≤◌, Bool, true, false, ◌&&◌, cond, eqb, leb, ltb, List, [], ◌∷◌, ◌++◌, length, codes, Ok, refl, sym, ap, subst, ◌∙◌, arith, pow-suc}
+use Rattle.std.specs.Int.{w8, w16, w32, is_in_range}
 use Rattle.std.proofs.Math.Pow.{pow_mono}
 use Rattle.std.proofs.lemmas.Bool.{eqb-true, ltb-true, leb-true, lt-ltb, le-leb}
 use Rattle.std.proofs.lemmas.Bool.Decides.{nat_tests}
 use Rattle.pur_base.specs.Bytes.{u8, u16, u32, u64, zeros}
 use Rattle.boot_codec.specs.declared.record.Members.{Members}
 use Rattle.boot_codec.specs.declared.record.NextNumbers.{NextNumbers}
-use Rattle.boot_codec.specs.Record.{mask, set_count, IsNext, AreNext, AreMembers}
+use Rattle.boot_codec.specs.Record.{mask, set_count, AreNext, AreMembers}
 use Rattle.boot_codec.specs.Spelling.{opening_bytes, members_bytes, next_bytes}
 use Rattle.boot_codec.specs.Reading.{Reading, then_read, give, number, these, next_number, format, slots_of, units_of, opening, flags, drives, nvrams, members, next_numbers}
 use Rattle.boot_codec.proofs.FieldLemmas.{IsBytes, bind_ok, ok_is, both_true, eqb_same, Takes, Takes-then, Takes-length, wide16, wide32, number_takes, number_again, byte_takes, byte_again, these_takes, these_again, next_takes, next_again}
@@ -189,9 +189,11 @@ mask-two (a ∷ b ∷ c ∷ rest) len = absurd (omega arith)
 pub members_again : (slots : ℕ) (m : Members) (rest : List ℕ) → slots ≤ 24 → AreMembers slots m → members slots (members_bytes m ++ rest) ≡ Ok (m, rest)
 unfolding members members_bytes
 members_again slots m rest le h =
-    rw (drives_again slots m.drives (u8 (mask m.nvrams) ++ (zeros 3 ++ rest)) le (record { len = h.drive_flags; within = h.within; some = h.drives }),
-        nvrams_again m.nvrams (zeros 3 ++ rest) (record { len = h.nvram_flags; within = mask-two m.nvrams h.nvram_flags; some = h.nvrams }),
-        these_again (zeros 3) rest) refl
+    rw (
+      drives_again slots m.drives (u8 (mask m.nvrams) ++ (zeros 3 ++ rest)) le (record { len = h.drive_flags; within = h.within; some = h.drives }),
+      nvrams_again m.nvrams (zeros 3 ++ rest) (record { len = h.nvram_flags; within = mask-two m.nvrams h.nvram_flags; some = h.nvrams }),
+      these_again (zeros 3) rest,
+    ) refl
 
 -- ---- the next numbers
 
@@ -223,8 +225,10 @@ next_numbers_takes bytes x fits long e =
 pub next_numbers_again : (n : NextNumbers) (rest : List ℕ) → AreNext n → next_numbers (next_bytes n ++ rest) ≡ Ok (n, rest)
 unfolding next_numbers next_bytes
 next_numbers_again n rest h =
-    rw (next_again n.object (u64 n.medium ++ (u64 n.segment ++ (u64 n.patch_segment ++ (u64 n.sequence ++ rest)))) h.object,
-        next_again n.medium (u64 n.segment ++ (u64 n.patch_segment ++ (u64 n.sequence ++ rest))) h.medium,
-        next_again n.segment (u64 n.patch_segment ++ (u64 n.sequence ++ rest)) h.segment,
-        next_again n.patch_segment (u64 n.sequence ++ rest) h.patch_segment,
-        next_again n.sequence rest h.sequence) refl
+    rw (
+      next_again n.object (u64 n.medium ++ (u64 n.segment ++ (u64 n.patch_segment ++ (u64 n.sequence ++ rest)))) h.object,
+      next_again n.medium (u64 n.segment ++ (u64 n.patch_segment ++ (u64 n.sequence ++ rest))) h.medium,
+      next_again n.segment (u64 n.patch_segment ++ (u64 n.sequence ++ rest)) h.segment,
+      next_again n.patch_segment (u64 n.sequence ++ rest) h.patch_segment,
+      next_again n.sequence rest h.sequence,
+    ) refl

@@ -1,7 +1,7 @@
 -- The lists: what is read is spelled so, and what is spelled so is read.
-use Rattle.std.proofs.Common.{◌≡◌, ℕ, zero, suc, ◌+◌, ◌-◌, ◌*◌, ◌^◌, ◌<◌, ◌≤◌, Bool, true, false, ◌&&◌, cond, eqb, leb, ltb, List, [], ◌∷◌, ◌++◌, length, drop, Result, Ok, Err, refl, sym, ap, subst, ◌∙◌, append_assoc, arith, length-append}
+use Rattle.std.proofs.Common.{◌≡◌, ℕ, zero, suc, ◌+◌, ◌-◌, ◌*◌, ◌^◌, ◌<◌, ◌≤◌, Bool, true, false, ◌&&◌, cond, eqb, leb, ltb, List, [], ◌∷◌, ◌++◌, length, drop, Result, Ok, Err, refl, sym, ap, subst, ◌∙◌, append_assoc, arith}
 use Rattle.std.specs.List.{flat_map, AllByRecursion}
-use Rattle.std.specs.Int.{w8, w16, w32, w64, from_be_bytes, to_be_bytes, div_ceil}
+use Rattle.std.specs.Int.{w8, w16, w32, w64, from_be_bytes, div_ceil}
 use Rattle.std.proofs.lemmas.Bool.{eqb-true, ltb-true, leb-true, lt-ltb, le-leb}
 use Rattle.std.proofs.lemmas.List.Sums.{sum_by-cons}
 use Rattle.std.proofs.lemmas.List.Concat.{flat_map-cons}
@@ -34,7 +34,7 @@ place_takes slots units least bytes x fits long e =
     let made : Place = record { slot = a.0.0; unit = b.0.0 } in
     let lawful : IsPlace slots units made = record { slot = ltb-true _ _ pa.1; data_unit = leb-true _ _ pb.0; unit = ltb-true _ _ pb.1 } in
     subst (λ (y : Place × List ℕ). Takes bytes (place_bytes y.0) y.1 × (least ≤ y.0.slot) × IsPlace slots units y.0) (ok_is (made, b.0.1) x b.2)
-      (Takes-then bytes (u8 a.0.0) a.0.1 (u16 b.0.0) b.0.1 ra.takes rb.takes, leb-true _ _ pa.0, lawful)
+    (Takes-then bytes (u8 a.0.0) a.0.1 (u16 b.0.0) b.0.1 ra.takes rb.takes, leb-true _ _ pa.0, lawful)
 
 place_again : (slots units least : ℕ) (p : Place) (rest : List ℕ) → units ≤ 4096 → least ≤ p.slot → IsPlace slots units p → place_from slots units least (place_bytes p ++ rest) ≡ Ok (p, rest)
 unfolding place_from place_bytes
@@ -42,8 +42,10 @@ place_again slots units least p rest few low h =
     let first : ℕ → Bool = λ s. leb least s && ltb s slots in
     let second : ℕ → Bool = λ u. leb 3 u && ltb u units in
     let in_range = h.unit in
-    rw (byte_again first p.slot (u16 p.unit ++ rest) (rw (le-leb least p.slot low, lt-ltb p.slot slots h.slot) refl),
-        number_again w16 (2 ^ 16) wide16 second p.unit rest (omega arith) (rw (le-leb 3 p.unit h.data_unit, lt-ltb p.unit units h.unit) refl)) refl
+    rw (
+      byte_again first p.slot (u16 p.unit ++ rest) (rw (le-leb least p.slot low, lt-ltb p.slot slots h.slot) refl),
+      number_again w16 (2 ^ 16) wide16 second p.unit rest (omega arith) (rw (le-leb 3 p.unit h.data_unit, lt-ltb p.unit units h.unit) refl),
+    ) refl
 
 length-place : (p : Place) → length (place_bytes p) ≡ 3
 unfolding place_bytes
@@ -85,7 +87,7 @@ segment_takes slots units bytes x fits long e =
     let made : PatchSegment = record { id = id; places = b.0.0 } in
     let lawful : IsSegment slots units made = record { id = ra.below; nine = tb.1; places = tb.2 } in
     subst (λ (y : PatchSegment × List ℕ). Takes bytes (segment_bytes y.0) y.1 × IsSegment slots units y.0) (ok_is (made, b.0.1) x b.2)
-      (Takes-then bytes (u64 id) (drop 8 bytes) (flat_map place_bytes b.0.0) b.0.1 ra.takes tb.0, lawful)
+    (Takes-then bytes (u64 id) (drop 8 bytes) (flat_map place_bytes b.0.0) b.0.1 ra.takes tb.0, lawful)
 
 segment_again : (slots units : ℕ) (s : PatchSegment) (rest : List ℕ) → units ≤ 4096 → IsSegment slots units s → segment slots units (segment_bytes s ++ rest) ≡ Ok (s, rest)
 unfolding segment segment_bytes
@@ -158,17 +160,19 @@ patch_takes slots units least room bytes x fits long e =
     let made : Patch = record { tag = a.0.0; facts = b.0.0; segments = d.0.0 } in
     let lawful : IsPatch slots units made = record { tag = leb-true _ _ pa.1; facts = (leb-true _ _ rb.passes, rb.below); room = td.1 ∙ eqb-true _ _ pc.0; segments = td.2 } in
     subst (λ (y : Patch × List ℕ). Takes bytes (patch_bytes y.0) y.1 × IsPatch slots units y.0 × (least ≤ y.0.tag) × (length y.0.segments ≤ room)) (ok_is (made, d.0.1) x d.2)
-      (text, lawful, leb-true _ _ pa.0, omega (arith, td.1))
+    (text, lawful, leb-true _ _ pa.0, omega (arith, td.1))
 
 patch_again : (slots units least room : ℕ) (p : Patch) (rest : List ℕ) → units ≤ 4096 → room ≤ 600 → IsPatch slots units p → least ≤ p.tag → length p.segments ≤ room
     → patch slots units least room (patch_bytes p ++ rest) ≡ Ok (p, rest)
 unfolding patch patch_bytes
 patch_again slots units least room p rest few small h low within =
     let more = flat_map segment_bytes p.segments ++ rest in
-    rw (tag_again least p.tag (u32 p.facts ++ (u16 (length p.segments) ++ more)) low h.tag,
-        facts_again p.facts (u16 (length p.segments) ++ more) h.facts.0 h.facts.1,
-        count_again p.facts room (length p.segments) more h.room within (omega arith),
-        segments_again slots units p.segments rest few h.segments) refl
+    rw (
+      tag_again least p.tag (u32 p.facts ++ (u16 (length p.segments) ++ more)) low h.tag,
+      facts_again p.facts (u16 (length p.segments) ++ more) h.facts.0 h.facts.1,
+      count_again p.facts room (length p.segments) more h.room within (omega arith),
+      segments_again slots units p.segments rest few h.segments,
+    ) refl
 
 -- what patches that were read are
 pub record AreRead (slots units least room n : ℕ) (ps : List Patch) : Type 0 where
@@ -194,7 +198,7 @@ patches_take slots units (suc n) least room bytes x fits long e =
     let made : List Patch × List ℕ = (a.0.0 ∷ b.0.0, b.0.1) in
     let total = sum_by-cons (λ (p : Patch). length p.segments) a.0.0 b.0.0 in
     subst (λ (y : List Patch × List ℕ). Takes bytes (patches_bytes y.0) y.1 × AreRead slots units least room (suc n) y.0) (ok_is made x b.2)
-      (rw flat_map-cons both, record { count = ap suc tb.1.count; each = (ta.1, tb.1.each); by_tag = (ta.2, tb.1.by_tag); within = omega (arith, total, tb.1.within) })
+    (rw flat_map-cons both, record { count = ap suc tb.1.count; each = (ta.1, tb.1.each); by_tag = (ta.2, tb.1.by_tag); within = omega (arith, total, tb.1.within) })
 
 patches_again : (slots units least room : ℕ) (ps : List Patch) (rest : List ℕ) → units ≤ 4096 → room ≤ 600 → AllByRecursion (IsPatch slots units) ps → ByTagFrom least ps → patch_segments ps ≤ room
     → patches slots units least room (length ps) (patches_bytes ps ++ rest) ≡ Ok (ps, rest)
@@ -204,8 +208,10 @@ patches_again slots units least room (p ∷ ps) rest few small each by_tag withi
     let total = sum_by-cons (λ (p : Patch). length p.segments) p ps in
     let regrouped : patches_bytes (p ∷ ps) ++ rest ≡ patch_bytes p ++ (patches_bytes ps ++ rest) = ap (λ (x : List ℕ). x ++ rest) (flat_map-cons patch_bytes p ps) ∙ append_assoc (patch_bytes p) (patches_bytes ps) rest in
     ap (patches slots units least room (suc (length ps))) regrouped
-      ∙ rw (patch_again slots units least room p (patches_bytes ps ++ rest) few small each.0 by_tag.0 (omega (arith, total)),
-            patches_again slots units p.tag (room - length p.segments) ps rest few (omega arith) each.1 by_tag.1 (omega (arith, total))) refl
+    ∙ rw (
+      patch_again slots units least room p (patches_bytes ps ++ rest) few small each.0 by_tag.0 (omega (arith, total)),
+      patches_again slots units p.tag (room - length p.segments) ps rest few (omega arith) each.1 by_tag.1 (omega (arith, total)),
+    ) refl
 
 -- ---- the whole of the lists
 

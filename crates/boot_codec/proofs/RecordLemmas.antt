@@ -1,18 +1,17 @@
 -- The two laws: what is read is lawful and spelled so, and what a lawful record spells is read.
-use Rattle.std.proofs.Common.{◌≡◌, ℕ, ◌+◌, ◌-◌, ◌*◌, ◌≤◌, ◌<◌, List, [], ◌∷◌, ◌++◌, length, Result, Ok, Err, refl, sym, ap, subst, ◌∙◌, append_assoc, arith, length-append}
+use Rattle.std.proofs.Common.{◌≡◌, ℕ, ◌+◌, ◌-◌, ◌≤◌, List, [], ◌++◌, length, Result, Ok, Err, refl, sym, ap, subst, ◌∙◌, append_assoc, arith, length-append}
 use Rattle.std.specs.Prelude.{IfOk}
-use Rattle.std.specs.Int.{w64}
 use Rattle.std.proofs.lemmas.List.{append-nil, nil_from_length, length-replicate}
-use Rattle.pur_base.specs.Bytes.{u64, zeros, padded}
+use Rattle.pur_base.specs.Bytes.{u64, zeros}
 use Rattle.boot_codec.specs.declared.bad_record.BadRecord.{BadRecord}
 use Rattle.boot_codec.specs.declared.bad_record.ReadError.{ReadError}
 use Rattle.boot_codec.specs.declared.record.BootRecord.{BootRecord}
 use Rattle.boot_codec.specs.Record.{IsBootRecord}
 use Rattle.boot_codec.specs.Spelling.{opening_bytes, members_bytes, next_bytes, counts_bytes, header_bytes, patches_bytes, record_bytes, spelling}
-use Rattle.boot_codec.specs.Reading.{Gives, these, opening, members, next_number, next_numbers, flushed_number, lists, padding, boot_record, value_of, read_record}
+use Rattle.boot_codec.specs.Reading.{Gives, opening, members, next_number, next_numbers, flushed_number, lists, padding, boot_record, value_of, read_record}
 use Rattle.boot_codec.proofs.SpellingLemmas.{length-header_bytes, length-patches_bytes, length-opening_bytes, length-members_bytes, length-next_bytes}
 use Rattle.boot_codec.proofs.PaddingLemmas.{padding-zeros}
-use Rattle.boot_codec.proofs.FieldLemmas.{IsBytes, bind_ok, ok_is, Takes, Takes-then, Takes-length, these_takes, next_takes, next_again, flushed_takes, flushed_again}
+use Rattle.boot_codec.proofs.FieldLemmas.{IsBytes, bind_ok, ok_is, Takes-then, Takes-length, these_takes, next_takes, next_again, flushed_takes, flushed_again}
 use Rattle.boot_codec.proofs.HeaderLemmas.{opening_takes, opening_again, members_takes, members_again, next_numbers_takes, next_numbers_again}
 use Rattle.boot_codec.proofs.ListLemmas.{lists_text, lists_take, lists_again}
 
@@ -101,20 +100,22 @@ own_again r h =
     let counts = counts_bytes (length r.patches) (88 + length p) in
     let k = 65536 - length (header_bytes r (88 + length p) ++ p) in
     let text : spelling r ≡ opening_bytes r.slots r.units ++ (u64 r.generation ++ (members_bytes r.members ++ (next_bytes r.next ++ (u64 r.flushed ++ (lists_text r.patches ++ zeros k))))) =
-      regroup (opening_bytes r.slots r.units) (u64 r.generation) (members_bytes r.members) (next_bytes r.next) (u64 r.flushed) counts p (zeros k) in
+    regroup (opening_bytes r.slots r.units) (u64 r.generation) (members_bytes r.members) (next_bytes r.next) (u64 r.flushed) counts p (zeros k) in
     let few : r.slots ≤ 24 = h.slots.1 in
     let few_units : r.units ≤ 4096 = h.units.1 in
     let len = length-patches_bytes r.slots r.units r.patches h.patches.each in
     let whole : length (header_bytes r (88 + length p) ++ p) ≡ 88 + length p = omega (arith, length-append (header_bytes r (88 + length p)) p, length-header_bytes r (88 + length p)) in
     let room : 88 + length p + length (zeros k) ≡ 65536 = omega (arith, length-zeros k, whole, len, h.patches.count, h.patches.room) in
     ap (λ (bytes : List ℕ). value_of (boot_record r.slots r.units bytes)) text
-      ∙ rw (opening_again r.slots r.units (u64 r.generation ++ (members_bytes r.members ++ (next_bytes r.next ++ (u64 r.flushed ++ (lists_text r.patches ++ zeros k))))) (record { slots_fit = h.slots; units_fit = h.units }),
-            next_again r.generation (members_bytes r.members ++ (next_bytes r.next ++ (u64 r.flushed ++ (lists_text r.patches ++ zeros k)))) h.generation,
-            members_again r.slots r.members (next_bytes r.next ++ (u64 r.flushed ++ (lists_text r.patches ++ zeros k))) few h.members,
-            next_numbers_again r.next (u64 r.flushed ++ (lists_text r.patches ++ zeros k)) h.next,
-            flushed_again r.flushed (lists_text r.patches ++ zeros k) h.flushed,
-            lists_again r.slots r.units r.patches (zeros k) few_units h.patches room,
-            padding-zeros k) refl
+    ∙ rw (
+      opening_again r.slots r.units (u64 r.generation ++ (members_bytes r.members ++ (next_bytes r.next ++ (u64 r.flushed ++ (lists_text r.patches ++ zeros k))))) (record { slots_fit = h.slots; units_fit = h.units }),
+      next_again r.generation (members_bytes r.members ++ (next_bytes r.next ++ (u64 r.flushed ++ (lists_text r.patches ++ zeros k)))) h.generation,
+      members_again r.slots r.members (next_bytes r.next ++ (u64 r.flushed ++ (lists_text r.patches ++ zeros k))) few h.members,
+      next_numbers_again r.next (u64 r.flushed ++ (lists_text r.patches ++ zeros k)) h.next,
+      flushed_again r.flushed (lists_text r.patches ++ zeros k) h.flushed,
+      lists_again r.slots r.units r.patches (zeros k) few_units h.patches room,
+      padding-zeros k,
+    ) refl
 
 pub record_again : (slots units : ℕ) (r : BootRecord) (bytes : List ℕ) → IsBootRecord r → r.slots ≡ slots → r.units ≡ units → bytes ≡ spelling r → read_record slots units bytes ≡ Ok r
 record_again slots units r bytes h same_slots same_units spelled = rw (spelled, ← same_slots, ← same_units) (own_again r h)

@@ -20,7 +20,7 @@ pub enum ReadError {
 }
 
 impl From<AllocError> for ReadError {
-    ghost from_gives = { λ _ e. e ≡ errors.Memory (record { }) };
+    ghost from_gives = { λ _ e. e ≡ errors.Memory (record {}) };
 
     fn from(_error: AllocError) -> ReadError {
         ReadError::Memory(NoMemory)
@@ -28,7 +28,7 @@ impl From<AllocError> for ReadError {
 }
 
 impl<T: Drop> From<AllocFailed<T>> for ReadError {
-    ghost from_gives = { λ _ e. e ≡ errors.Memory (record { }) };
+    ghost from_gives = { λ _ e. e ≡ errors.Memory (record {}) };
 
     fn from(_failed: AllocFailed<T>) -> ReadError {
         ReadError::Memory(NoMemory)

@@ -10,11 +10,7 @@ use crate::limits::RECORD_BYTES;
 fn byte_at(bytes: &[u8], index: usize) -> u8
     ensures { result ≡ slice_index bytes.now index }
 {
-    if index < bytes.len() {
-        bytes[index]
-    } else {
-        0
-    }
+    if index < bytes.len() { bytes[index] } else { 0 }
 }
 
 /// The bytes after so many, or none where there are fewer.

@@ -6,7 +6,7 @@ ghost use Rattle.boot_codec.specs.Spelling.{spelling, header_bytes, opening_byte
 ghost use Rattle.boot_codec.specs.Writing.{IsWritten};
 
 use crate::flags::mask_of;
-use crate::limits::{FORMAT, HEADER_BYTES, PATCHES, PATCH_SEGMENTS, RECORD_BYTES};
+use crate::limits::{FORMAT, HEADER_BYTES, PATCH_SEGMENTS, PATCHES, RECORD_BYTES};
 use crate::patch::{Patch, PatchSegment};
 use crate::put::{put, put_u8, put_u16, put_u32, put_u64};
 use crate::record::{BootRecord, Members, NextNumbers};

@@ -1,6 +1,4 @@
-use Rattle.std.proofs.Common.{◌≡◌, ◌-◌, ◌∷◌, [], length, arith}
 use Rattle.std.proofs.lemmas.Result.{err_from_is_err_and}
-use Rattle.boot_codec.specs.Reading.{patches}
 use Rattle.boot_codec.proofs.LoopLemmas.{patches_go_on, patches_end, patches_done}
 use Rattle.boot_codec.proofs.lists.patches.Goals as goal
 

@@ -1,4 +1,4 @@
-use Rattle.std.proofs.Common.{◌≡◌, ◌-◌, ◌≤◌}
+use Rattle.std.proofs.Common.{◌≡◌, ◌-◌}
 use Rattle.boot_codec.specs.Reading.{patches}
 use Rattle.boot_codec.proofs.LoopLemmas.{with_front}
 use Rattle.boot_codec.proofs.lists.patches.Given as goal

@@ -1,6 +1,5 @@
-use Rattle.std.proofs.Common.{◌≡◌, ◌+◌, ◌∷◌, [], length, arith, length-append}
+use Rattle.std.proofs.Common.{◌∷◌, [], arith, length-append}
 use Rattle.std.proofs.lemmas.Result.{err_from_is_err_and}
-use Rattle.boot_codec.specs.Reading.{segments}
 use Rattle.boot_codec.proofs.LoopLemmas.{segments_go_on, segments_end, segments_done}
 use Rattle.boot_codec.proofs.lists.segments.Goals as goal
 
@@ -14,7 +13,7 @@ loop-preserved c =
     let next = c.in_ok-next.next in
     rw c.in_ok-push.ensures (
       omega (arith, length-append c.loop.segments (next ∷ []), c.loop.invariant.0),
-      segments_go_on c.args.slots c.args.units c.loop.segments c.args.count c.loop.counter c.loop.rest.now next c.in_ok-next.after.now _ c.loop-test.true c.in_ok-next.ensures c.loop.invariant.1
+      segments_go_on c.args.slots c.args.units c.loop.segments c.args.count c.loop.counter c.loop.rest.now next c.in_ok-next.after.now _ c.loop-test.true c.in_ok-next.ensures c.loop.invariant.1,
     )
 
 pub returns-clause-gives : goal.returns-clause-gives

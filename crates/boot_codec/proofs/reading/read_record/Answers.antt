@@ -1,5 +1,5 @@
-use Rattle.std.proofs.Common.{ap, subst, ◌∙◌, sym, arith, Ok}
-use Rattle.boot_codec.specs.Reading.{Gives, read_record}
+use Rattle.std.proofs.Common.{subst, arith}
+use Rattle.boot_codec.specs.Reading.{Gives}
 use Rattle.boot_codec.proofs.RecordLemmas.{record_found, record_again}
 use Rattle.boot_codec.proofs.reading.read_record.Goals as goal
 

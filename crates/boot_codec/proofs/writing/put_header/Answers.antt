@@ -2,7 +2,7 @@ use Rattle.std.proofs.Common.{◌≡◌, ◌++◌, ◌∙◌, length, sym, arith
 use Rattle.pur_base.specs.Bytes.{u64}
 use Rattle.boot_codec.specs.Spelling.{header_bytes, opening_bytes, members_bytes, next_bytes, counts_bytes}
 use Rattle.boot_codec.proofs.WritingLemmas.{then_written, all_written}
-use Rattle.boot_codec.proofs.SpellingLemmas.{length-opening_bytes, length-members_bytes, length-next_bytes, length-counts_bytes, length-header_bytes}
+use Rattle.boot_codec.proofs.SpellingLemmas.{length-opening_bytes, length-members_bytes, length-next_bytes, length-header_bytes}
 use Rattle.boot_codec.proofs.writing.put_header.Goals as goal
 
 pub put_u64-at-requires : goal.put_u64-at-requires

@@ -1,4 +1,4 @@
-use Rattle.std.proofs.Common.{length, ◌≤◌, ◌+◌, get_or, sym, ap, arith}
+use Rattle.std.proofs.Common.{length, ap, arith}
 use Rattle.std.proofs.lemmas.List.Folds.{length-flat_map-take}
 use Rattle.boot_codec.specs.Spelling.{patch_bytes}
 use Rattle.boot_codec.proofs.writing.put_patches.Goals as goal

@@ -1,4 +1,4 @@
-use Rattle.std.proofs.Common.{◌≡◌, ℕ, ◌+◌, ◌-◌, ◌++◌, ◌∙◌, length, take, refl, ap, sym, arith}
+use Rattle.std.proofs.Common.{◌≡◌, ℕ, ◌+◌, ◌-◌, ◌++◌, ◌∙◌, length, take, refl, ap, arith}
 use Rattle.pur_base.specs.Bytes.{zeros, padded}
 use Rattle.boot_codec.specs.Spelling.{header_bytes, record_bytes, patches_bytes}
 use Rattle.boot_codec.proofs.SpellingLemmas.{length-header_bytes, length-patches_bytes}
