@@ -19,14 +19,17 @@ use Rattle.boot_codec.specs.Record.{set_count}
 abbrev pub Reading : Type 0 → Type 0
 Reading A = List ℕ → Result (A × List ℕ) BadRecord
 
+-- what a second reading makes of a first one's outcome
 abbrev pub then_read : {A B : Type 0} → (A → Reading B) → Result (A × List ℕ) BadRecord → Result (B × List ℕ) BadRecord
 then_read f (Ok x) = f x.0 x.1
 then_read f (Err e) = Err e
 
+-- one reading, and then another
 infixl 10 ◌>>=◌
 abbrev pub ◌>>=◌ : {A B : Type 0} → Reading A → (A → Reading B) → Reading B
 read >>= f = λ bytes. then_read f (read bytes)
 
+-- a value, with no byte read
 abbrev pub give : {A : Type 0} → A → Reading A
 give x = λ bytes. Ok (x, bytes)
 
@@ -39,6 +42,7 @@ abbrev pub Fails : {Y : Type 0} → ReadError → Result Y BadRecord → Type 0
 Fails (errors.Memory m) read = Unit {0}
 Fails (errors.Bad e) read = read ≡ Err e
 
+-- the same for a function that may return a value
 abbrev pub Gives : {X Y : Type 0} → (X → Y) → Result X ReadError → Result Y BadRecord → Type 0
 Gives view (Ok x) read = read ≡ Ok (view x)
 Gives view (Err e) read = Fails e read
@@ -66,6 +70,7 @@ these (b ∷ bs) = number w8 (λ n. n == b) >>= λ _. these bs
 
 -- ---- the header
 
+-- the format of this crate
 unfoldable pub format : Reading ℕ
 format = number w32 (λ n. n == FORMAT)
 
@@ -111,6 +116,7 @@ members slots = do
   _ ← these (zeros 3)
   give (record { drives = drives; nvrams = nvrams })
 
+-- the five next numbers
 unfoldable pub next_numbers : Reading NextNumbers
 next_numbers = do
   object ← next_number
@@ -137,6 +143,7 @@ places_from slots units least (suc n) = do
   others ← places_from slots units (first.slot + 1) n
   give (first ∷ others)
 
+-- any id, and nine places
 unfoldable pub segment : ℕ → ℕ → Reading PatchSegment
 segment slots units = do
   id ← number w64 (λ n. true)
@@ -180,6 +187,7 @@ patches slots units least room (suc n) = do
   others ← patches slots units first.tag (room - length first.segments) n
   give (first ∷ others)
 
+-- no more patches than a record holds
 unfoldable pub patch_count : Reading ℕ
 patch_count = number w16 (λ n. nat_le n PATCHES)
 
@@ -212,6 +220,7 @@ padding = λ bytes. these (zeros (length bytes)) bytes
 
 -- ---- the record
 
+-- all of the fields, from the front
 unfoldable pub boot_record : ℕ → ℕ → Reading BootRecord
 boot_record slots units = do
   _ ← opening slots units

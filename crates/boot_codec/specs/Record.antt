@@ -57,6 +57,7 @@ ByTagFrom least (p ∷ ps) = (least ≤ p.tag) × ByTagFrom p.tag ps
 abbrev pub patch_segments : List Patch → ℕ
 patch_segments ps = sum_by (λ p. length p.segments) ps
 
+-- lawful patches by ascending tag, with no more segments than there is room for
 pub record ArePatches (slots units : ℕ) (ps : List Patch) : Type 0 where
   pub count : length ps ≤ PATCHES
   pub each : AllByRecursion (IsPatch slots units) ps
@@ -71,6 +72,7 @@ pub record AreMembers (slots : ℕ) (m : Members) : Type 0 where
   pub nvram_flags : length m.nvrams ≡ NVRAM_FLAGS
   pub nvrams : MEMBER_NVRAMS_MIN ≤ set_count m.nvrams
 
+-- each of the five is from 1 up to below 2^48
 pub record AreNext (n : NextNumbers) : Type 0 where
   pub object : IsNext n.object
   pub medium : IsNext n.medium

@@ -19,6 +19,7 @@ opening_bytes slots units = codes "PURARRAY" ++ u32 FORMAT ++ u16 slots ++ u16 u
 unfoldable pub members_bytes : Members → List ℕ
 members_bytes m = u32 (mask m.drives) ++ u8 (mask m.nvrams) ++ zeros 3
 
+-- the five next numbers
 unfoldable pub next_bytes : NextNumbers → List ℕ
 next_bytes n = u64 n.object ++ u64 n.medium ++ u64 n.segment ++ u64 n.patch_segment ++ u64 n.sequence
 
@@ -26,9 +27,11 @@ next_bytes n = u64 n.object ++ u64 n.medium ++ u64 n.segment ++ u64 n.patch_segm
 unfoldable pub place_bytes : Place → List ℕ
 place_bytes p = u8 p.slot ++ u16 p.unit
 
+-- an id and nine places
 unfoldable pub segment_bytes : PatchSegment → List ℕ
 segment_bytes s = u64 s.id ++ flat_map place_bytes s.places
 
+-- a tag, how many facts, how many segments, and the segments
 unfoldable pub patch_bytes : Patch → List ℕ
 patch_bytes p = u8 p.tag ++ u32 p.facts ++ u16 (length p.segments) ++ flat_map segment_bytes p.segments
 
@@ -42,6 +45,7 @@ header_bytes r len =
     opening_bytes r.slots r.units ++ u64 r.generation ++ members_bytes r.members
     ++ next_bytes r.next ++ u64 r.flushed ++ counts_bytes (length r.patches) len
 
+-- one patch after the other
 abbrev pub patches_bytes : List Patch → List ℕ
 patches_bytes ps = flat_map patch_bytes ps
 

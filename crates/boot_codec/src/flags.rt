@@ -1,10 +1,11 @@
 ghost use Rattle.std.specs.Prelude.{◌≡◌, ◌^◌, ◌<◌, ◌≤◌, length};
+ghost use Rattle.boot_codec.specs.declared.limits.TheConstants.{DRIVE_FLAGS};
 ghost use Rattle.boot_codec.specs.Record.{mask, set_count};
 ghost use Rattle.boot_codec.specs.Reading.{flags};
 
 /// The number whose lowest bits are the flags.
 pub fn mask_of(flags: &[bool]) -> u32
-    requires { length flags.now ≤ 24 }
+    requires { length flags.now ≤ DRIVE_FLAGS }
     ensures mask { result ≡ mask flags.now }
     ensures below { result < 2 ^ length flags.now }
 {

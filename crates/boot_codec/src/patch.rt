@@ -1,4 +1,4 @@
-ghost use Rattle.std.specs.Prelude.{◌≡◌, [], ◌∷◌, ◌++◌, OnOk};
+ghost use Rattle.std.specs.Prelude.{◌≡◌, [], ◌∷◌, ◌++◌, OnOk, OnErr};
 
 use pur_base::Places;
 use std::alloc::{AllocFailed, Global};
@@ -36,9 +36,10 @@ impl Segments {
         }
     }
 
-    /// Adds a segment at the end. It fails for want of memory only.
+    /// Adds a segment at the end. It fails for want of memory only, and changes nothing then.
     pub fn push(&mut self, segment: PatchSegment) -> Result<(), AllocFailed<PatchSegment>>
-        ensures { OnOk result (self.new ≡ self.old ++ segment ∷ []) }
+        ensures ok { OnOk result (self.new ≡ self.old ++ segment ∷ []) }
+        ensures err { OnErr result (self.new ≡ self.old) }
     {
         self.items.push(segment)
     }
@@ -84,9 +85,10 @@ impl Patches {
         }
     }
 
-    /// Adds a patch at the end. It fails for want of memory only.
+    /// Adds a patch at the end. It fails for want of memory only, and changes nothing then.
     pub fn push(&mut self, patch: Patch) -> Result<(), AllocFailed<Patch>>
-        ensures { OnOk result (self.new ≡ self.old ++ patch ∷ []) }
+        ensures ok { OnOk result (self.new ≡ self.old ++ patch ∷ []) }
+        ensures err { OnErr result (self.new ≡ self.old) }
     {
         self.items.push(patch)
     }

@@ -10,7 +10,7 @@ returns-in_err-next c =
 pub loop-preserved : goal.loop-preserved
 loop-preserved c =
     let next = c.in_ok-next.next in
-    rw (c.in_ok-push.ensures, c.as_slice.ensures) (patches_go_on c.args.slots c.args.units c.loop.least c.loop.room c.loop.patches c.args.count c.loop.counter c.loop.rest.now next c.in_ok-next.after.now _ c.loop-test.true c.in_ok-next.ensures.gives c.loop.invariant)
+    rw (c.in_ok-push.ensures.ok, c.as_slice.ensures) (patches_go_on c.args.slots c.args.units c.loop.least c.loop.room c.loop.patches c.args.count c.loop.counter c.loop.rest.now next c.in_ok-next.after.now _ c.loop-test.true c.in_ok-next.ensures.gives c.loop.invariant)
 
 pub returns : goal.returns
 returns c = patches_done c.args.slots c.args.units c.loop.least c.loop.room c.loop.patches c.args.count c.loop.counter c.loop.rest.now _ c.loop-test.false c.loop.invariant

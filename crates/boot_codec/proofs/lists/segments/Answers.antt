@@ -11,7 +11,7 @@ returns-in_err-next-clause-gives c =
 pub loop-preserved : goal.loop-preserved
 loop-preserved c =
     let next = c.in_ok-next.next in
-    rw c.in_ok-push.ensures (
+    rw c.in_ok-push.ensures.ok (
       omega (arith, length-append c.loop.segments (next ∷ []), c.loop.invariant.0),
       segments_go_on c.args.slots c.args.units c.loop.segments c.args.count c.loop.counter c.loop.rest.now next c.in_ok-next.after.now _ c.loop-test.true c.in_ok-next.ensures c.loop.invariant.1,
     )
