@@ -1,0 +1,9 @@
+pub mod WritingLemmas
+pub mod FlagLemmas
+pub mod SpellingLemmas
+pub mod LoopLemmas
+pub mod PaddingLemmas
+pub mod FieldLemmas
+pub mod HeaderLemmas
+pub mod ListLemmas
+pub mod RecordLemmas

@@ -1,0 +1,42 @@
+-- Zeros up to the end, and the first byte that is none.
+use Rattle.std.proofs.Common.{◌≡◌, ℕ, zero, suc, ◌+◌, ◌<◌, List, [], ◌∷◌, ◌++◌, length, take, drop, get_or, Ok, Err, bit_or, refl, sym, ap, subst, ◌∙◌, arith, add-one, drop-cons, ne_eqb}
+use Rattle.std.proofs.Math.Seq.{take-suc}
+use Rattle.std.proofs.lemmas.Nat.{le_or_l, le_or_r}
+use Rattle.pur_base.specs.Bytes.{zeros}
+use Rattle.boot_codec.specs.Reading.{fault_at, these, padding}
+
+zeros-more : (n : ℕ) → zeros n ++ 0 ∷ [] ≡ zeros (suc n)
+zeros-more zero = refl
+zeros-more (suc n) = ap (λ (x : List ℕ). 0 ∷ x) (zeros-more n)
+
+-- one more byte, where all so far are zero
+pub one_more_zero : (bytes : List ℕ) (any i : ℕ) → i < length bytes → (any ≡ 0 → take i bytes ≡ zeros i) → bit_or any (get_or bytes i 0) ≡ 0 → take (i + 1) bytes ≡ zeros (i + 1)
+one_more_zero bytes any i lt so_far e =
+    let before : any ≡ 0 = omega (arith, le_or_l any (get_or bytes i 0)) in
+    let byte : get_or bytes i 0 ≡ 0 = omega (arith, le_or_r any (get_or bytes i 0)) in
+    rw add-one (take-suc bytes i 0 lt ∙ ap (λ (x : List ℕ). x ++ get_or bytes i 0 ∷ []) (so_far before) ∙ ap (λ (b : ℕ). zeros i ++ b ∷ []) byte ∙ zeros-more i)
+
+padding-zero : (bytes : List ℕ) → padding (0 ∷ bytes) ≡ padding bytes
+unfolding padding these
+padding-zero bytes = refl
+
+pub padding-zeros : (n : ℕ) → padding (zeros n) ≡ Ok (tt, [])
+padding-zeros zero = unfold padding in unfold these in refl
+padding-zeros (suc n) = padding-zero (zeros n) ∙ padding-zeros n
+
+pub padding_of_zeros : (bytes : List ℕ) → bytes ≡ zeros (length bytes) → padding bytes ≡ Ok (tt, [])
+padding_of_zeros bytes e = ap padding e ∙ padding-zeros (length bytes)
+
+pub padding_goes_on : (bytes : List ℕ) (i : ℕ) → i < length bytes → get_or bytes i 0 ≡ 0 → padding (drop (i + 1) bytes) ≡ padding (drop i bytes)
+padding_goes_on bytes i lt e =
+    let parts : drop i bytes ≡ 0 ∷ drop (i + 1) bytes = rw add-one (drop-cons bytes i 0 lt ∙ ap (λ (b : ℕ). b ∷ drop (suc i) bytes) e) in
+    sym (ap padding parts ∙ padding-zero (drop (i + 1) bytes))
+
+fails_on : (b : ℕ) (bytes : List ℕ) → (b ≡ 0 → ⊥) → padding (b ∷ bytes) ≡ Err (fault_at (b ∷ bytes))
+unfolding padding these
+fails_on b bytes h = rw (ne_eqb b 0 h) refl
+
+pub padding_fails : (bytes : List ℕ) (i : ℕ) → i < length bytes → (get_or bytes i 0 ≡ 0 → ⊥) → padding (drop i bytes) ≡ Err (fault_at (drop i bytes))
+padding_fails bytes i lt h =
+    let parts : drop i bytes ≡ get_or bytes i 0 ∷ drop (suc i) bytes = drop-cons bytes i 0 lt in
+    subst (λ (x : List ℕ). padding x ≡ Err (fault_at x)) (sym parts) (fails_on (get_or bytes i 0) (drop (suc i) bytes) h)

@@ -1,0 +1,5 @@
+use Rattle.std.proofs.Common.{length}
+use Rattle.boot_codec.proofs.header.+these.Given as goal
+
+abbrev pub decreases-these : goal.decreases-these
+decreases-these l = length l.text.now

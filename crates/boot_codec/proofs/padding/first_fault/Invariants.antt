@@ -1,0 +1,6 @@
+use Rattle.std.proofs.Common.{◌≡◌, drop}
+use Rattle.boot_codec.specs.Reading.{padding}
+use Rattle.boot_codec.proofs.padding.first_fault.Given as goal
+
+abbrev pub invariant-loop-i : goal.invariant-loop-i
+invariant-loop-i l = padding (drop l.i l.bytes) ≡ padding l.bytes

@@ -1,0 +1,7 @@
+use Rattle.std.proofs.Common.{take}
+use Rattle.boot_codec.specs.Spelling.{patches_bytes}
+use Rattle.boot_codec.specs.Writing.{IsWritten}
+use Rattle.boot_codec.proofs.writing.put_patches.Given as goal
+
+abbrev pub invariant-loop-patch : goal.invariant-loop-patch
+invariant-loop-patch l = IsWritten l.fn.into l.into l.at l.end (patches_bytes (take l.patch-index l.patches))

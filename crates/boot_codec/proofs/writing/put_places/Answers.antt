@@ -1,0 +1,8 @@
+use Rattle.std.proofs.Common.{arith}
+use Rattle.std.proofs.lemmas.List.Folds.{length-flat_map-take}
+use Rattle.boot_codec.specs.Spelling.{place_bytes}
+use Rattle.boot_codec.proofs.writing.put_places.Goals as goal
+
+pub put_place-end-requires : goal.put_place-end-requires
+unfolding place_bytes
+put_place-end-requires c = omega (arith, c.loop-place.invariant.end, length-flat_map-take place_bytes c.args.places.now c.loop-place.place-index (record { slot = 0; unit = 0 }) c.loop-place-test.true)

@@ -1,0 +1,8 @@
+use Rattle.std.proofs.Common.{take}
+use Rattle.std.specs.List.{flat_map}
+use Rattle.boot_codec.specs.Spelling.{place_bytes}
+use Rattle.boot_codec.specs.Writing.{IsWritten}
+use Rattle.boot_codec.proofs.writing.put_places.Given as goal
+
+abbrev pub invariant-loop-place : goal.invariant-loop-place
+invariant-loop-place l = IsWritten l.fn.into l.into l.at l.end (flat_map place_bytes (take l.place-index l.places))

@@ -1,0 +1,5 @@
+pub mod Gate
+pub mod Record
+pub mod Spelling
+pub mod Writing
+pub mod Reading

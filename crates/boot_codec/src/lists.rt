@@ -1,0 +1,209 @@
+ghost use Rattle.std.specs.Prelude.{◌≡◌, ◌<◌, ◌≤◌, length, IfOk};
+ghost use Rattle.boot_codec.specs.Reading.{Gives, place_from, places_from, segment, segments, tag_from, facts, segment_count, patch, patches, patch_count, frontier_count, lists};
+
+use crate::bad_record::ReadError;
+use crate::front::{fault_at, u8_at, u16_at, u32_at, u64_at};
+use crate::limits::{FACTS_PER_SEGMENT, PATCH_SEGMENTS, PATCHES, RECORD_BYTES, TAG_MAX};
+use crate::patch::{Patch, PatchSegment, Patches, Segments};
+use pur_base::{BOOT_UNITS, Place, Places, SEGMENT_SHARDS};
+use std::alloc::Global;
+
+/// A data unit on that slot or a greater one.
+#[tactic(auto, unfolding(crate::specs::Reading::place_from))]
+fn place_from(bytes: &[u8], slots: u8, units: u16, least: u8) -> Result<(Place, &[u8]), ReadError>
+    ensures gives { Gives (λ x. (x.0, x.1.now)) result (place_from slots units least bytes.now) }
+    ensures slot { IfOk result (λ x. x.0.slot < slots) }
+{
+    let (slot, rest) = u8_at(bytes);
+    if slot < least || slots <= slot {
+        return Err(fault_at(bytes));
+    }
+    let (unit, after) = u16_at(rest);
+    if unit < BOOT_UNITS || units <= unit {
+        return Err(fault_at(rest));
+    }
+    Ok((Place { slot, unit }, after))
+}
+
+/// Nine data units on ascending slots.
+fn places(bytes: &[u8], slots: u8, units: u16) -> Result<(Places, &[u8]), ReadError>
+    ensures { Gives (λ x. (x.0, x.1.now)) result (places_from slots units 0 SEGMENT_SHARDS bytes.now) }
+{
+    let mut places = [Place { slot: 0, unit: 0 }; SEGMENT_SHARDS];
+    let mut rest = bytes;
+    let mut least = 0;
+    for shard in 0..SEGMENT_SHARDS {
+        let (place, after) = place_from(rest, slots, units, least)?;
+        places[shard] = place;
+        least = place.slot + 1;
+        rest = after;
+    }
+    Ok((places, rest))
+}
+
+/// A segment: any id, and its nine places.
+#[tactic(auto, unfolding(crate::specs::Reading::segment))]
+fn segment(bytes: &[u8], slots: u8, units: u16) -> Result<(PatchSegment, &[u8]), ReadError>
+    ensures { Gives (λ x. (x.0, x.1.now)) result (segment slots units bytes.now) }
+{
+    let (id, rest) = u64_at(bytes);
+    let (places, rest) = places(rest, slots, units)?;
+    Ok((PatchSegment { id, places }, rest))
+}
+
+/// So many segments.
+fn segments(
+    alloc: Global,
+    count: u16,
+    bytes: &[u8],
+    slots: u8,
+    units: u16,
+) -> Result<(Segments, &[u8]), ReadError>
+    ensures gives { Gives (λ x. (x.0, x.1.now)) result (segments slots units count bytes.now) }
+    ensures count { IfOk result (λ x. length x.0 ≡ count) }
+{
+    let mut segments = Segments::new(alloc);
+    let mut rest = bytes;
+    for _ in 0..count {
+        let (next, after) = segment(rest, slots, units)?;
+        segments.push(next)?;
+        rest = after;
+    }
+    Ok((segments, rest))
+}
+
+/// A tag that is that one or a greater one.
+#[tactic(auto, unfolding(crate::specs::Reading::tag_from))]
+fn tag_from(bytes: &[u8], least: u8) -> Result<(u8, &[u8]), ReadError>
+    ensures { Gives (λ x. (x.0, x.1.now)) result (tag_from least bytes.now) }
+{
+    let (tag, rest) = u8_at(bytes);
+    if least <= tag && tag <= TAG_MAX {
+        Ok((tag, rest))
+    } else {
+        Err(fault_at(bytes))
+    }
+}
+
+/// The number of a patch's facts.
+#[tactic(auto, unfolding(crate::specs::Reading::facts))]
+fn facts(bytes: &[u8]) -> Result<(u32, &[u8]), ReadError>
+    ensures { Gives (λ x. (x.0, x.1.now)) result (facts bytes.now) }
+{
+    let (facts, rest) = u32_at(bytes);
+    if 1 <= facts {
+        Ok((facts, rest))
+    } else {
+        Err(fault_at(bytes))
+    }
+}
+
+/// The number of a patch's segments, which the facts need and which have room.
+#[tactic(auto, unfolding(crate::specs::Reading::segment_count))]
+fn segment_count(bytes: &[u8], facts: u32, room: u16) -> Result<(u16, &[u8]), ReadError>
+    ensures gives { Gives (λ x. (x.0, x.1.now)) result (segment_count facts room bytes.now) }
+    ensures room { IfOk result (λ x. x.0 ≤ room) }
+{
+    let (count, rest) = u16_at(bytes);
+    if count as u32 == facts.div_ceil(FACTS_PER_SEGMENT) && count <= room {
+        Ok((count, rest))
+    } else {
+        Err(fault_at(bytes))
+    }
+}
+
+/// A patch of that tag or a greater one, with at most so many segments.
+#[tactic(auto, unfolding(crate::specs::Reading::patch))]
+fn patch(
+    alloc: Global,
+    bytes: &[u8],
+    slots: u8,
+    units: u16,
+    least: u8,
+    room: u16,
+) -> Result<(Patch, &[u8]), ReadError>
+    ensures gives { Gives (λ x. (x.0, x.1.now)) result (patch slots units least room bytes.now) }
+    ensures room { IfOk result (λ x. length x.0.segments ≤ room) }
+{
+    let (tag, rest) = tag_from(bytes, least)?;
+    let (facts, rest) = facts(rest)?;
+    let (count, rest) = segment_count(rest, facts, room)?;
+    let (segments, rest) = segments(alloc, count, rest, slots, units)?;
+    let patch = Patch {
+        tag,
+        facts,
+        segments,
+    };
+    Ok((patch, rest))
+}
+
+/// So many patches by ascending tag.
+fn patches(
+    alloc: Global,
+    count: u16,
+    bytes: &[u8],
+    slots: u8,
+    units: u16,
+) -> Result<(Patches, &[u8]), ReadError>
+    ensures { Gives (λ x. (x.0, x.1.now)) result (patches slots units 1 PATCH_SEGMENTS count bytes.now) }
+{
+    let mut patches = Patches::new(alloc);
+    let mut rest = bytes;
+    let mut least = 1;
+    let mut room = PATCH_SEGMENTS;
+    for _ in 0..count {
+        let (next, after) = patch(alloc, rest, slots, units, least, room)?;
+        least = next.tag;
+        room -= next.segments.as_slice().len() as u16;
+        patches.push(next)?;
+        rest = after;
+    }
+    Ok((patches, rest))
+}
+
+/// The number of patches.
+#[tactic(auto, unfolding(crate::specs::Reading::patch_count))]
+fn patch_count(bytes: &[u8]) -> Result<(u16, &[u8]), ReadError>
+    ensures { Gives (λ x. (x.0, x.1.now)) result (patch_count bytes.now) }
+{
+    let (count, rest) = u16_at(bytes);
+    if count <= PATCHES {
+        Ok((count, rest))
+    } else {
+        Err(fault_at(bytes))
+    }
+}
+
+/// The number of frontier units, which is 0.
+#[tactic(auto, unfolding(crate::specs::Reading::frontier_count))]
+fn frontier_count(bytes: &[u8]) -> Result<&[u8], ReadError>
+    ensures { Gives (λ x. (0, x.now)) result (frontier_count bytes.now) }
+{
+    let (count, rest) = u16_at(bytes);
+    if count == 0 {
+        Ok(rest)
+    } else {
+        Err(fault_at(bytes))
+    }
+}
+
+/// The counts, the length and the patches. The length is judged last.
+#[tactic(auto, unfolding(crate::specs::Reading::lists))]
+pub fn lists(
+    alloc: Global,
+    bytes: &[u8],
+    slots: u8,
+    units: u16,
+) -> Result<(Patches, &[u8]), ReadError>
+    ensures { Gives (λ x. (x.0, x.1.now)) result (lists slots units bytes.now) }
+{
+    let (count, rest) = patch_count(bytes)?;
+    let field = frontier_count(rest)?;
+    let (len, rest) = u32_at(field);
+    let (patches, rest) = patches(alloc, count, rest, slots, units)?;
+    if len as usize == RECORD_BYTES.saturating_sub(rest.len()) {
+        Ok((patches, rest))
+    } else {
+        Err(fault_at(field))
+    }
+}

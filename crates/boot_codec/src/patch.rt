@@ -1,0 +1,102 @@
+ghost use Rattle.std.specs.Prelude.{◌≡◌, [], ◌∷◌, ◌++◌, OnOk, OnErr};
+
+use pur_base::Places;
+use std::alloc::{AllocFailed, Global};
+use std::marker::Model;
+
+/// A segment of a patch: its id, and the units that hold it by ascending slot.
+#[derive(Clone, Copy, Debug, PartialEq, Eq, Drop)]
+pub struct PatchSegment {
+    pub id: u64,
+    pub places: Places,
+}
+
+/// The segments of a patch. Contracts see the list of them.
+#[derive(Drop)]
+pub struct Segments {
+    items: Vec<PatchSegment>,
+}
+
+impl Model for Segments {
+    ghost use Rattle.std.specs.Prelude.{List};
+    ghost use Rattle.boot_codec.specs.declared.patch.PatchSegment.{PatchSegment};
+
+    ghost Value = { List PatchSegment };
+
+    ghost view = { λ s. s.items.items };
+}
+
+impl Segments {
+    /// No segments yet.
+    pub fn new(alloc: Global) -> Segments
+        ensures { result ≡ [] }
+    {
+        Segments {
+            items: Vec::new(alloc),
+        }
+    }
+
+    /// Adds a segment at the end. It fails for want of memory only, and changes nothing then.
+    pub fn push(&mut self, segment: PatchSegment) -> Result<(), AllocFailed<PatchSegment>>
+        ensures ok { OnOk result (self.new ≡ self.old ++ segment ∷ []) }
+        ensures err { OnErr result (self.new ≡ self.old) }
+    {
+        self.items.push(segment)
+    }
+
+    /// The segments, in order.
+    pub fn as_slice(&self) -> &[PatchSegment]
+        ensures { result.now ≡ self.now }
+    {
+        self.items.as_slice()
+    }
+}
+
+/// A patch of the index: the tag of its facts, 1 to 5, how many facts it has, and the segments that hold them.
+#[derive(Drop)]
+pub struct Patch {
+    pub tag: u8,
+    pub facts: u32,
+    pub segments: Segments,
+}
+
+/// The patches of a record, by tag, oldest first. Contracts see the list of them.
+#[derive(Drop)]
+pub struct Patches {
+    items: Vec<Patch>,
+}
+
+impl Model for Patches {
+    ghost use Rattle.std.specs.Prelude.{List};
+    ghost use Rattle.boot_codec.specs.declared.patch.Patch.{Patch};
+
+    ghost Value = { List Patch };
+
+    ghost view = { λ p. p.items.items };
+}
+
+impl Patches {
+    /// No patches yet.
+    pub fn new(alloc: Global) -> Patches
+        ensures { result ≡ [] }
+    {
+        Patches {
+            items: Vec::new(alloc),
+        }
+    }
+
+    /// Adds a patch at the end. It fails for want of memory only, and changes nothing then.
+    pub fn push(&mut self, patch: Patch) -> Result<(), AllocFailed<Patch>>
+        ensures ok { OnOk result (self.new ≡ self.old ++ patch ∷ []) }
+        ensures err { OnErr result (self.new ≡ self.old) }
+    {
+        self.items.push(patch)
+    }
+
+    /// The patches, in order.
+    pub fn as_slice(&self) -> &[Patch]
+        ensures { result.now ≡ self.now }
+    {
+        self.items.as_slice()
+    }
+}
