@@ -29,7 +29,7 @@ pub struct BootRecord {
     pub generation: u64,
     pub members: Members,
     pub next: NextNumbers,
-    /// The last sequence number that the patches hold, below 2^48.
+    /// The number of the last logged command that the patches hold, below 2^48.
     pub flushed: u64,
     pub patches: Patches,
 }

@@ -18,6 +18,11 @@ pub enum NoShelf {
 }
 
 impl From<NoMemory> for NoShelf {
+    ghost use Rattle.std.specs.Prelude.{◌≡◌};
+    ghost use Rattle.world_file.specs.declared.opening.NoShelf.TheVariants.{Memory};
+
+    ghost from_gives = { λ _ e. e ≡ Memory };
+
     fn from(_error: NoMemory) -> NoShelf {
         NoShelf::Memory
     }
