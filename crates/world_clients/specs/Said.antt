@@ -1,6 +1,8 @@
 -- What was said is stored.
-use Rattle.std.specs.Prelude.{◌≡◌, ◌⊎◌, ◌+◌, ◌<◌, ◌≤◌, ℕ, List, [], length, slice_index}
+use Rattle.std.specs.Prelude.{◌≡◌, ◌⊎◌, ◌+◌, ◌<◌, ◌≤◌, ℕ, List, [], length, slice_index, Result, Ok, Err}
 use Rattle.pur_base.specs.declared.device.Device.{Device}
+use Rattle.world.specs.declared.streams.Failed.{Failed}
+use Rattle.world.specs.Counts.{Rises}
 use Rattle.world.specs.Shelf.{Stop, Shelved, Disk}
 use Rattle.world.specs.Writes.{OneRange, LeavesBut}
 use Rattle.world.specs.Streams.{Streamed}
@@ -23,3 +25,8 @@ pub record StoredWhenSaid (old : Shelved) (device : Device) (at byte : ℕ) (sto
 -- each byte that was said by then stands in its place
 abbrev pub EachIsStoredWhenSaid : Shelved → Device → ℕ → List ℕ → Stop → Type 0
 EachIsStoredWhenSaid old device at bytes stop = (k : ℕ) → length old.output + k < length stop.output → slice_index (stop.image device) (at + k) ≡ slice_index bytes k
+
+-- An answer leaves the counts of the source, of the device's failed writes and of the sink. A failure raises one of them.
+abbrev pub CountsOne : {T : Type 0} → Result T Failed → (source write sink source' write' sink' : ℕ) → Type 0
+CountsOne (Ok _) source write sink source' write' sink' = (source' ≡ source) × (write' ≡ write) × (sink' ≡ sink)
+CountsOne (Err _) source write sink source' write' sink' = Rises source source' ⊎ Rises write write' ⊎ Rises sink sink'

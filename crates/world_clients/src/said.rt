@@ -1,10 +1,10 @@
 // What was said is stored.
-ghost use Rattle.std.specs.Prelude.{◌≡◌, ◌+◌, [], length, drop, slice_index, true, IfOk};
+ghost use Rattle.std.specs.Prelude.{◌≡◌, ◌⊎◌, ◌+◌, [], length, drop, slice_index, true, false, IfOk, OnOk};
 ghost use Rattle.pur_base.specs.declared.device.Device.{Device};
 ghost use Rattle.pur_base.specs.declared.device.Device.TheVariants.{Nv};
 ghost use Rattle.world.specs.Shelf.{Has, Continues, Leaves};
 ghost use Rattle.world.specs.Writes.{OneRange, ChangesOnly};
-ghost use Rattle.world_clients.specs.Said.{IsToldBy, StoredByte, StoredWhenSaid, EachIsStoredWhenSaid};
+ghost use Rattle.world_clients.specs.Said.{IsToldBy, StoredByte, StoredWhenSaid, EachIsStoredWhenSaid, CountsOne};
 
 use crate::adapt::{give_byte, take_byte};
 use pur_base::{Device, NvId};
@@ -20,6 +20,9 @@ pub fn acknowledge<W: World>(world: &mut W, device: Device, at: u64) -> Result<b
         StoredByte ((W.shelf world.new).disk device) at (slice_index (W.source world.old).bytes 0)
         × ((W.source world.new).bytes ≡ drop 1 (W.source world.old).bytes)
         × (length (W.shelf world.new).output ≡ length (W.shelf world.old).output + 1)) }
+    ensures ended { IsToldBy (W.shelf world.old) (W.source world.old) (W.sink world.old) → IfOk result (λ more. more ≡ false → ((W.source world.old).bytes ≡ []) × ((W.source world.new).bytes ≡ [])) }
+    ensures counts { CountsOne result (W.source world.old).faults ((W.shelf world.old).disk device).write_faults (W.sink world.old).faults
+        (W.source world.new).faults ((W.shelf world.new).disk device).write_faults (W.sink world.new).faults }
     // A stop at a moment at which there was more output than before leaves the byte on the device.
     ensures said { IsToldBy (W.shelf world.old) (W.source world.old) (W.sink world.old) → Leaves (W.shelf world.old) (W.shelf world.new)
         (StoredWhenSaid (W.shelf world.old) device at (slice_index (W.source world.old).bytes 0)) }
@@ -37,6 +40,10 @@ pub fn acknowledge<W: World>(world: &mut W, device: Device, at: u64) -> Result<b
 pub fn session<W: World>(world: &mut W, nvram: NvId, at: u64, n: u64) -> Result<(), Failed>
     requires { Has (W.shelf world.old) (Nv nvram) at n }
     ensures continues { Continues (W.shelf world.old) (W.shelf world.new) }
+    ensures said_all { IsToldBy (W.shelf world.old) (W.source world.old) (W.sink world.old) → ((W.shelf world.old).disk (Nv nvram)).dirty ≡ [] →
+        OnOk result (((W.source world.new).bytes ≡ []) ⊎ (length (W.shelf world.new).output ≡ length (W.shelf world.old).output + n)) }
+    ensures counts { CountsOne result (W.source world.old).faults ((W.shelf world.old).disk (Nv nvram)).write_faults (W.sink world.old).faults
+        (W.source world.new).faults ((W.shelf world.new).disk (Nv nvram)).write_faults (W.sink world.new).faults }
     // A stop at any moment leaves each byte that was said by then.
     ensures said { IsToldBy (W.shelf world.old) (W.source world.old) (W.sink world.old) → ((W.shelf world.old).disk (Nv nvram)).dirty ≡ [] → Leaves (W.shelf world.old) (W.shelf world.new)
         (EachIsStoredWhenSaid (W.shelf world.old) (Nv nvram) at (W.source world.old).bytes) }

@@ -1,6 +1,6 @@
 // Two writes on one device, the second behind the first.
-ghost use Rattle.std.specs.Prelude.{◌≡◌, ◌⊎◌, ◌+◌, ◌≤◌, [], length};
-ghost use Rattle.world.specs.Shelf.{Has, Continues, LeavesOnly};
+ghost use Rattle.std.specs.Prelude.{◌≡◌, ◌⊎◌, ◌+◌, ◌≤◌, [], length, slice_range, OnOk};
+ghost use Rattle.world.specs.Shelf.{Has, Continues, WriteCounts, LeavesOnly};
 ghost use Rattle.world.specs.Writes.{WritesOnly};
 ghost use Rattle.world_clients.specs.Turns.{TwoRanges, IsInTurn};
 
@@ -21,6 +21,8 @@ pub fn write_in_turn<S: Shelf>(
     requires apart { (at + length first.now ≤ then) ⊎ (then + length second.now ≤ at) }
     ensures continues { Continues (S.shelf shelf.old) (S.shelf shelf.new) }
     ensures writes { (S.shelf shelf.old).honest → WritesOnly (TwoRanges device at (length first.now) then (length second.now)) (S.shelf shelf.old) (S.shelf shelf.new) }
+    ensures written { (S.shelf shelf.old).honest → OnOk result (slice_range ((S.shelf shelf.new).disk device).bytes then (then + length second.now) ≡ second.now) }
+    ensures counts { WriteCounts result ((S.shelf shelf.old).disk device) ((S.shelf shelf.new).disk device) }
     // A stop at any moment: where the second is there in part, the first is there whole.
     ensures in_turn { (S.shelf shelf.old).honest → ((S.shelf shelf.old).disk device).dirty ≡ [] → LeavesOnly (S.shelf shelf.old) (S.shelf shelf.new) (IsInTurn (S.shelf shelf.old) device at first.now then (length second.now)) }
     ensures rest { S.shelf_rest shelf.old shelf.new }

@@ -53,7 +53,7 @@ returns-clause-stored g c told is_more =
         clean = ap (λ (d : Disk). d.dirty) (c.give_byte.ensures.shelf.disk c.args.device) ∙ w.clean h;
       },
       c.give_byte.ensures.source.bytes ∙ (g.met.W.World.shelf_keeps_source _ _ c.write_synced.ensures.rest).bytes ∙ taken.1,
-      c.in_ok-give_byte.ensures.given sink ∙ ap (λ (l : List ℕ). length l + 1) ((w.writes h).any_moment.quiet.output ∙ same.output),
+      (c.in_ok-give_byte.ensures.given sink).0 ∙ ap (λ (l : List ℕ). length l + 1) ((w.writes h).any_moment.quiet.output ∙ same.output),
     )
 
 pub returns-in_err-write_synced-clause-said : goal.returns-in_err-write_synced-clause-said

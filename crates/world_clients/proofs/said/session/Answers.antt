@@ -24,6 +24,9 @@ loop-i-preserved g c =
     record {
       continues = continues_trans inv.continues c.acknowledge.ensures.continues;
       told = λ told. c.acknowledge.ensures.honest (inv.told told);
+      source_faults = c.in_ok-acknowledge.ensures.counts.0 ∙ inv.source_faults;
+      write_faults = c.in_ok-acknowledge.ensures.counts.1 ∙ inv.write_faults;
+      sink_faults = c.in_ok-acknowledge.ensures.counts.2 ∙ inv.sink_faults;
       so_far = λ told clean.
           let s = inv.so_far told clean in
           let now = c.in_ok-acknowledge.ensures.stored (inv.told told) more in

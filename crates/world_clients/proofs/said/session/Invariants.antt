@@ -12,6 +12,9 @@ invariant-loop-i g l =
     record {
       continues : Continues a b;
       told : IsToldBy a (g.W.Source.source l.initial.world) (g.W.Sink.sink l.initial.world) → IsToldBy b (g.W.Source.source l.world) (g.W.Sink.sink l.world);
+      source_faults : (g.W.Source.source l.world).faults ≡ (g.W.Source.source l.initial.world).faults;
+      write_faults : (b.disk (Nv l.fn.nvram)).write_faults ≡ (a.disk (Nv l.fn.nvram)).write_faults;
+      sink_faults : (g.W.Sink.sink l.world).faults ≡ (g.W.Sink.sink l.initial.world).faults;
       so_far : IsToldBy a (g.W.Source.source l.initial.world) (g.W.Sink.sink l.initial.world) → (a.disk (Nv l.fn.nvram)).dirty ≡ [] → record {
         leaves : Leaves a b (EachIsStoredWhenSaid a (Nv l.fn.nvram) l.at input);
         left : (g.W.Source.source l.world).bytes ≡ drop l.i input;
