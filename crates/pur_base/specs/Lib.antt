@@ -5,3 +5,12 @@ pub mod Sectors
 pub mod Grammar
 pub mod Plain
 pub mod Replies
+pub mod Commands
+pub mod Devices
+pub mod Tags
+pub mod Keys
+pub mod Facts
+pub mod FactLaws
+pub mod Says
+pub mod Visible
+pub mod Mediums

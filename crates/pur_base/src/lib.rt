@@ -3,6 +3,8 @@
 #![tactic(auto)]
 
 mod device;
+mod fact;
+mod facts;
 mod ids;
 mod limits;
 mod memory;
@@ -14,6 +16,10 @@ mod request;
 mod sector;
 
 pub use device::{Device, DriveId, NvId};
+pub use fact::Fact;
+pub use facts::{
+    AddressFact, AnyFact, ElisionFact, MediumFact, ObjectFact, ObjectKind, SegmentFact, Target,
+};
 pub use ids::{MediumId, ObjectId, SegmentId, Seq};
 pub use limits::{
     BOOT_UNITS, INDEX_ENTRIES, INPUT_BYTES, LINE_BYTES, NAME_BYTES, NUMBER_DIGITS, NVRAM_BYTES,
@@ -23,7 +29,7 @@ pub use limits::{
 pub use memory::NoMemory;
 pub use name::{BadName, Name};
 pub use place::{Location, Place, Places};
-pub use read_back::{Lost, ReadBack};
+pub use read_back::{Lost, Pages, ReadBack};
 pub use reply::{Refusal, Reply, Status};
 pub use request::{Request, Table};
 pub use sector::Sector;

@@ -1,4 +1,6 @@
-ghost use Rattle.std.specs.Prelude.{◌≡◌};
+ghost use Rattle.std.specs.Prelude.{◌≡◌, ◌≢◌, IfSome, IfNone};
+ghost use Rattle.pur_base.specs.Tags.{tag_of};
+ghost use Rattle.pur_base.specs.declared.request.Table.{Table};
 ghost use Rattle.pur_base.specs.Grammar.{is_in_force, data_count};
 
 use crate::name::Name;
@@ -84,6 +86,36 @@ pub enum Request {
         drive: u64,
     },
     Takeover,
+}
+
+impl Table {
+    /// The tag of the table's facts, from 1 to 5.
+    pub fn tag(self) -> u8
+        ensures { result ≡ tag_of self }
+    {
+        match self {
+            Table::Object => 1,
+            Table::Medium => 2,
+            Table::Address => 3,
+            Table::Segment => 4,
+            Table::Elision => 5,
+        }
+    }
+
+    /// The table of a tag, or `None` where no table has it.
+    pub fn from_tag(tag: u8) -> Option<Table>
+        ensures some { IfSome result (λ table. tag_of table ≡ tag) }
+        ensures none { IfNone result ((table : Table) → tag_of table ≢ tag) }
+    {
+        match tag {
+            1 => Some(Table::Object),
+            2 => Some(Table::Medium),
+            3 => Some(Table::Address),
+            4 => Some(Table::Segment),
+            5 => Some(Table::Elision),
+            _ => None,
+        }
+    }
 }
 
 impl Request {

@@ -1,4 +1,1 @@
-pub mod FrontLemmas
-pub mod PlaceLemmas
-pub mod SpellingLemmas
 pub mod FieldLemmas

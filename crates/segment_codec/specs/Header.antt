@@ -1,9 +1,9 @@
 -- The header of a segment's unit: its one spelling, and what has one.
 use Rattle.std.specs.Prelude.{◌≡◌, ℕ, ◌<◌, ◌≤◌, ◌^◌, List, ◌++◌, length, codes}
-use Rattle.std.specs.List.{flat_map, AllByRecursion}
+use Rattle.std.specs.List.{AllByRecursion}
 use Rattle.pur_base.specs.Bytes.{u8, u16, u32, u64, zeros, padded}
 use Rattle.pur_base.specs.declared.limits.TheConstants.{SECTOR_BYTES, SEGMENT_SECTORS, SEGMENT_SHARDS}
-use Rattle.pur_base.specs.declared.place.Place.{Place}
+use Rattle.byte_fields.specs.Places.{places_bytes, FitsBytes}
 use Rattle.segment_codec.specs.declared.header.Header.{Header}
 use Rattle.segment_codec.specs.declared.header.TheConstants.{TAG_MAX}
 use Rattle.segment_codec.specs.declared.kind.SegmentKind.{SegmentKind}
@@ -15,14 +15,6 @@ use Rattle.segment_codec.specs.declared.kind.SegmentKind.TheVariants.{Data, Patc
 abbrev pub kind_code : SegmentKind → ℕ
 kind_code Data = 1
 kind_code Patch = 2
-
--- a place in three bytes
-abbrev pub place_bytes : Place → List ℕ
-place_bytes p = u8 p.slot ++ u16 p.unit
-
--- places one behind another
-abbrev pub places_bytes : List Place → List ℕ
-places_bytes = flat_map place_bytes
 
 -- the fields one behind another
 abbrev pub header_fields : Header → List ℕ
@@ -40,11 +32,6 @@ header_bytes h = padded SECTOR_BYTES (header_fields h)
 abbrev pub IsTagOf : SegmentKind → ℕ → Type 0
 IsTagOf Data tag = tag ≡ 0
 IsTagOf Patch tag = (1 ≤ tag) × (tag ≤ TAG_MAX)
-
--- a place that three bytes can spell, on any shelf
-pub record FitsBytes (p : Place) : Type 0 where
-  pub slot : p.slot < 2 ^ 8
-  pub unit : p.unit < 2 ^ 16
 
 -- the fields with bounds of their own are within them
 pub record IsLawful (h : Header) : Type 0 where

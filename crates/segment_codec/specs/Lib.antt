@@ -1,4 +1,3 @@
 pub mod Header
 pub mod Fields
-pub mod FrontFields
 pub mod Position

@@ -3,7 +3,6 @@
 #![tactic(auto)]
 
 mod fields;
-mod front;
 mod header;
 mod kind;
 mod position;

@@ -4,7 +4,7 @@ use Rattle.std.proofs.lemmas.List.{take_more_set, flat_map_more}
 use Rattle.std.proofs.lemmas.List.Elements.{All-append, All-cons, All-nil}
 use Rattle.std.proofs.Math.ListN.{set}
 use Rattle.pur_base.specs.declared.place.Place.{Place}
-use Rattle.segment_codec.specs.Header.{place_bytes, places_bytes, FitsBytes}
+use Rattle.byte_fields.specs.Places.{place_bytes, places_bytes, FitsBytes}
 
 -- one place more that was read
 pub places_more : (places : List Place) (i : ℕ) (p : Place) (bytes rest behind : List ℕ) → i < length places

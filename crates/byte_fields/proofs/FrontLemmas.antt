@@ -4,10 +4,10 @@ use Rattle.std.proofs.lemmas.List.{length-append, length-take, length-drop, drop
 use Rattle.std.proofs.lemmas.Slice.{drop-put_mid}
 use borrow.Rule.Slice.PartMut.{put_mid}
 use Rattle.pur_base.specs.Bytes.{zeros}
-use Rattle.segment_codec.specs.FrontFields.{IsPadded}
+use Rattle.byte_fields.specs.FrontFields.{IsPadded}
 
-pub padded_by : (bytes field : List ℕ) (len : ℕ) → IsPadded bytes len → len + length field ≤ 512 → IsPadded (put_mid len (len + length field - len) bytes field) (len + length field)
-padded_by bytes field len h fits =
+pub padded_by : (n : ℕ) (bytes field : List ℕ) (len : ℕ) → IsPadded n bytes len → len + length field ≤ n → IsPadded n (put_mid len (len + length field - len) bytes field) (len + length field)
+padded_by n bytes field len h fits =
     let room = len + length field - len in
     let is : length field ≡ room = omega arith in
     record {
@@ -15,6 +15,6 @@ padded_by bytes field len h fits =
       within = omega arith;
       zeros =
           drop-put_mid len room bytes field (len + length field) (omega arith) (omega (arith, h.size, h.within)) is
-          ∙ sym (drop-drop (length field) len bytes) ∙ ap (drop (length field)) h.zeros ∙ drop-replicate (length field) (512 - len) 0
+          ∙ sym (drop-drop (length field) len bytes) ∙ ap (drop (length field)) h.zeros ∙ drop-replicate (length field) (n - len) 0
           ∙ ap zeros (omega arith);
     }

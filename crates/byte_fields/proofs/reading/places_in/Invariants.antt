@@ -1,6 +1,6 @@
 use Rattle.std.proofs.Common.{◌≡◌, ◌+◌, ◌*◌, ◌++◌, length, take, All}
-use Rattle.segment_codec.specs.Header.{places_bytes, FitsBytes}
-use Rattle.segment_codec.proofs.fields.places_in.Given as goal
+use Rattle.byte_fields.specs.Places.{places_bytes, FitsBytes}
+use Rattle.byte_fields.proofs.reading.places_in.Given as goal
 
 abbrev pub invariant-loop-i : goal.invariant-loop-i
 invariant-loop-i l = record {

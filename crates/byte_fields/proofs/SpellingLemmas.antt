@@ -7,7 +7,7 @@ use Rattle.std.proofs.lemmas.List.Concat.{flat_map-cons}
 use Rattle.std.proofs.lemmas.Nat.{from_be_bytes-to_be_bytes_2, from_be_bytes-to_be_bytes_4, from_be_bytes-to_be_bytes_8}
 use Rattle.pur_base.specs.Bytes.{u8, u16, u32, u64}
 use Rattle.pur_base.specs.declared.place.Place.{Place}
-use Rattle.segment_codec.specs.Header.{place_bytes, places_bytes, FitsBytes}
+use Rattle.byte_fields.specs.Places.{place_bytes, places_bytes, FitsBytes}
 
 -- fronts of one length
 pub same_front : (a b r s : List ℕ) → length a ≡ length b → a ++ r ≡ b ++ s → (a ≡ b) × (r ≡ s)

@@ -1,0 +1,7 @@
+//! The head of a logged command, as the first sector of its slot in the NVRAM.
+//! A lawful head has one spelling, and a sector that spells no lawful head is refused.
+#![tactic(auto)]
+
+mod head;
+
+pub use head::Head;
