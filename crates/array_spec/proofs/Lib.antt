@@ -1,2 +1,18 @@
 pub mod AckedLemmas
 pub mod RunLemmas
+pub mod Votes
+pub mod Standings
+pub mod Mediums
+pub mod Settling
+pub mod Fewer
+pub mod Quiet
+pub mod Held
+pub mod Store
+pub mod LogBetween
+pub mod Marks
+pub mod Cleared
+pub mod Shown
+pub mod Spelled
+mod Moves
+mod Used
+mod LogMoves

@@ -1,24 +1,11 @@
 -- What may stand after a stop: the arrays that the acknowledged items leave, or one item more.
 use Rattle.std.specs.Prelude.{◌≡◌, ◌⊎◌, ℕ, ◌+◌, List, ◌∷◌, length, drop, None}
-use Rattle.pur_base.specs.declared.request.Request.{Request}
-use Rattle.pur_base.specs.declared.request.Request.TheVariants as request
 use Rattle.pur_base.specs.Plain.{Array, refusal}
 use Rattle.pur_base.specs.Grammar.{Item, Asked}
+use Rattle.pur_base.specs.Commands.{IsLogged}
 use Rattle.pur_base.specs.Replies.{Answer, after}
 use Rattle.array_spec.specs.Runs.{Runs}
 use Rattle.array_spec.specs.Acked.{acked}
-
--- requests that are logged
-abbrev pub IsLogged : Request → Type 0
-IsLogged (request.Create n sectors) = Unit {0}
-IsLogged (request.Write n lba count) = Unit {0}
-IsLogged (request.Fill n lba count byte) = Unit {0}
-IsLogged (request.Zero n lba count) = Unit {0}
-IsLogged (request.Snapshot n new) = Unit {0}
-IsLogged (request.Clone n new) = Unit {0}
-IsLogged (request.Copy n lba m to count) = Unit {0}
-IsLogged (request.Destroy n) = Unit {0}
-IsLogged _ = ⊥
 
 -- b is what the first of the items leaves of a, and is a logged request that the model accepts.
 abbrev pub AcceptsNext : Array → List Item → Array → Type 0

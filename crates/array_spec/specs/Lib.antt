@@ -3,3 +3,11 @@ pub mod Acked
 pub mod After
 pub mod Model
 pub mod Rows
+pub mod Stored
+pub mod Sound
+pub mod Base
+pub mod Meaning
+pub mod Standing
+pub mod Counts
+pub mod Losses
+pub mod Laws

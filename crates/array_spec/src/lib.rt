@@ -1,17 +1,19 @@
-//! What may be answered: runs of replies over the plain array, which replies were acknowledged, and what a stop may leave.
+//! What may be answered, what the devices of an array mean, and what outlives losses, writes and stops.
 //! There is no code: each public function here promises, as its contract, a law of these definitions.
 #![tactic(auto)]
 
-ghost use Rattle.array_spec.specs.Acked.{CountsReplies, CutIsNone};
-ghost use Rattle.array_spec.specs.Rows.{WorkedRows};
+mod replies;
+mod standing;
+mod views;
+mod writes;
 
-/// The definitions give these worked rows.
-pub fn worked_rows()
-    ensures { WorkedRows }
-{}
-
-/// Replies delimit themselves: behind whole replies and a part of one more, those that are counted are the whole ones.
-pub fn counts_replies()
-    ensures counts { CountsReplies }
-    ensures cut { CutIsNone }
-{}
+pub use replies::{counts_replies, worked_rows};
+pub use standing::{
+    a_held_record_stands, each_view_means, marks_are_free, marks_may_clear,
+    missing_devices_may_turn_blank, more_may_go_missing,
+};
+pub use views::{
+    a_held_record_is_given, a_sector_reads_as_one_target, closing_gates, one_body_is_decided,
+    one_record_is_effective, opening_gates, records_are_spelled_apart, the_log_is_between,
+};
+pub use writes::{boot_writes, log_writes, quiet_writes, stores, two_fewer_hold};

@@ -3,7 +3,5 @@
 #![tactic(auto)]
 
 mod limits;
-mod writing;
 
 pub use limits::{FACT_BYTES, NUMBER_LIMIT, PAGE_FACTS, VALUE_BYTES};
-pub use writing::write_fact;

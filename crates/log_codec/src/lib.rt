@@ -3,5 +3,7 @@
 #![tactic(auto)]
 
 mod head;
+mod limits;
 
 pub use head::Head;
+pub use limits::{LOG_SLOTS, SLOT_BYTES, SLOTS_START};

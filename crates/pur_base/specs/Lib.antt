@@ -7,6 +7,7 @@ pub mod Plain
 pub mod Replies
 pub mod Commands
 pub mod Devices
+pub mod Gates
 pub mod Tags
 pub mod Keys
 pub mod Facts

@@ -1,3 +1,4 @@
 pub mod Header
 pub mod Fields
 pub mod Position
+pub mod Stripes

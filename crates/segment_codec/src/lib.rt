@@ -11,7 +11,9 @@ mod writing;
 
 pub use header::{Header, TAG_MAX};
 pub use kind::SegmentKind;
-pub use position::{DATA_SHARDS, Position, SHARD_SECTORS, STRIPE_SECTORS, STRIPES};
+pub use position::{
+    DATA_SHARDS, Position, SHARD_SECTORS, STRIPE_SECTORS, STRIPES, WRITE_UNIT_BYTES,
+};
 pub use reading::{BadHeader, read_header};
 pub use writing::write_header;
 

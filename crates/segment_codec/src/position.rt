@@ -1,6 +1,9 @@
 ghost use Rattle.std.specs.Prelude.{◌≡◌, ◌<◌};
 ghost use Rattle.pur_base.specs.declared.limits.TheConstants.{SEGMENT_SECTORS};
 
+/// The bytes of a write unit, of which a unit has 16: its header, and a shard of each stripe.
+pub const WRITE_UNIT_BYTES: usize = 4096;
+
 /// The sectors of data of a stripe: seven shards of eight.
 pub const STRIPE_SECTORS: u16 = 56;
 

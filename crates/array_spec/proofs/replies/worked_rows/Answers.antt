@@ -1,7 +1,7 @@
 use Rattle.std.proofs.Common.{refl}
 use Rattle.std.specs.Fmt.{digits}
 use Rattle.pur_base.specs.Sectors.{filled}
-use Rattle.array_spec.proofs.worked_rows.Goals as goal
+use Rattle.array_spec.proofs.replies.worked_rows.Goals as goal
 
 pub returns : goal.returns
 unfolding digits filled

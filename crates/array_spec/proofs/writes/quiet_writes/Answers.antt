@@ -1,0 +1,5 @@
+use Rattle.array_spec.proofs.Quiet.{quiet_writes}
+use Rattle.array_spec.proofs.writes.quiet_writes.Goals as goal
+
+pub returns : goal.returns
+returns c = quiet_writes

@@ -1,0 +1,5 @@
+use Rattle.array_spec.proofs.Fewer.{fewer_hold}
+use Rattle.array_spec.proofs.writes.two_fewer_hold.Goals as goal
+
+pub returns : goal.returns
+returns c = fewer_hold

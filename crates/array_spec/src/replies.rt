@@ -1,0 +1,14 @@
+// Runs of replies.
+ghost use Rattle.array_spec.specs.Acked.{CountsReplies, CutIsNone};
+ghost use Rattle.array_spec.specs.Rows.{WorkedRows};
+
+/// The definitions give these worked rows.
+pub fn worked_rows()
+    ensures { WorkedRows }
+{}
+
+/// Replies delimit themselves: behind whole replies and a part of one more, those that are counted are the whole ones.
+pub fn counts_replies()
+    ensures counts { CountsReplies }
+    ensures cut { CutIsNone }
+{}
