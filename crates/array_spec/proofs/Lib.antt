@@ -13,6 +13,8 @@ pub mod Marks
 pub mod Cleared
 pub mod Shown
 pub mod Spelled
+pub mod OneSector
+pub mod ExampleValues
 mod Moves
 mod Used
 mod LogMoves

@@ -11,3 +11,4 @@ pub mod Standing
 pub mod Counts
 pub mod Losses
 pub mod Laws
+pub mod Examples

@@ -1,4 +1,5 @@
 pub mod Checks
+pub mod Inverses
 pub mod Laws
 pub mod Linear
 pub mod LaneFacts

@@ -3,10 +3,12 @@
 #![tactic(auto)]
 
 mod columns;
+mod deciding;
 mod encoding;
 mod recovery;
 #[cfg(test)]
 mod tests;
 
+pub use deciding::any_seven_decide;
 pub use encoding::encode;
 pub use recovery::recover;
