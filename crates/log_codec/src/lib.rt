@@ -2,6 +2,12 @@
 //! A lawful head has one spelling, and a sector that spells no lawful head is refused.
 #![tactic(auto)]
 
+mod fields;
 mod head;
+mod parts;
+mod reading;
+mod writing;
 
-pub use head::Head;
+pub use head::{Head, is_command};
+pub use reading::{BadHead, read_head};
+pub use writing::write_head;
