@@ -3,8 +3,8 @@ ghost use Rattle.log_codec.specs.Head.{IsCommand, IsCount, IsName};
 
 use pur_base::{Name, REQUEST_SECTORS, Request};
 
-/// The most sectors that a create names, and the most that a copy takes.
-pub const COUNT_MAX: u64 = u32::MAX as u64;
+// The most sectors that a create names, and the most that a copy takes.
+const COUNT_MAX: u64 = u32::MAX as u64;
 
 /// A logged command under its number. The sectors of a write follow the head.
 #[derive(Clone, Copy, Drop)]

@@ -11,3 +11,6 @@ mod writing;
 pub use head::{Head, is_command};
 pub use reading::{BadHead, read_head};
 pub use writing::write_head;
+
+#[cfg(test)]
+mod tests;
