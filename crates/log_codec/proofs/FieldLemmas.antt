@@ -1,9 +1,8 @@
 -- The fields that stand in a sector, and the head that the sector spells.
-use Rattle.std.proofs.Common.{◌≡◌, ℕ, ◌-◌, ◌^◌, ◌<◌, ◌≤◌, List, [], ◌++◌, length, take, drop, refl, ap, sym, ◌∙◌, append_assoc, arith, true}
+use Rattle.std.proofs.Common.{◌≡◌, ℕ, ◌-◌, ◌^◌, ◌<◌, ◌≤◌, List, ◌++◌, length, take, drop, refl, ap, sym, ◌∙◌, append_assoc, arith}
 use Rattle.std.specs.Prelude.{codes}
 use Rattle.std.proofs.lemmas.List.{length-replicate, length-append, length-take, take_at, drop_at, take-append-drop}
 use Rattle.pur_base.specs.Bytes.{u8, u32, u64, zeros, padded}
-use Rattle.pur_base.specs.Names.{is_name}
 use Rattle.pur_base.specs.declared.limits.TheConstants.{SECTOR_BYTES, NAME_BYTES}
 use Rattle.pur_base.specs.declared.request.Request.{Request}
 use Rattle.pur_base.specs.declared.request.Request.TheVariants as request
@@ -11,7 +10,7 @@ use Rattle.log_codec.specs.declared.head.Head.{Head}
 use Rattle.log_codec.specs.declared.fields.Fields.{Fields}
 use Rattle.log_codec.specs.declared.parts.Parts.{Parts}
 use Rattle.log_codec.specs.Head.{kind_code, first_name, second_name, fill_byte, sector_count, first_lba, second_lba, head_fields, head_bytes, IsName, IsCommand, IsHead, Decodes}
-use Rattle.log_codec.specs.Fields.{AreFields, IsText, IsFrame}
+use Rattle.log_codec.specs.Fields.{AreFields, IsText, IsFrame, AreIn}
 use Rattle.log_codec.specs.Parts.{ArePartsOf}
 use Rattle.byte_fields.proofs.SpellingLemmas.{same_front, same_u8, same_u32, same_u64}
 
@@ -164,16 +163,6 @@ frame_of f h head of =
       second = text_is f.second_len f.second.now (second_name h.command) fit.second of.second_len of.second;
       rest = zeros_are f.rest.now (SECTOR_BYTES - length (head_fields h)) of.rest;
     }
-
--- the parts are those that the fields stand for
-pub record AreIn (f : Fields) (p : Parts) : Type 0 where
-  pub kind : p.kind ≡ f.kind
-  pub first : p.first.now ≡ take f.first_len f.first.now
-  pub second : p.second.now ≡ take f.second_len f.second.now
-  pub byte : p.byte ≡ f.byte
-  pub count : p.count ≡ f.count
-  pub lba : p.lba ≡ f.lba
-  pub second_lba : p.second_lba ≡ f.second_lba
 
 pub parts_of : (f : Fields) (h : Head) (p : Parts) → AreOf f h → AreIn f p → ArePartsOf p h.command
 parts_of f h p of are = record {

@@ -1,9 +1,8 @@
 -- The parts of a command.
-use Rattle.std.specs.Prelude.{◌≡◌, ℕ, ◌≤◌, List, length}
-use Rattle.pur_base.specs.declared.limits.TheConstants.{NAME_BYTES}
+use Rattle.std.specs.Prelude.{◌≡◌, Option, Some}
 use Rattle.pur_base.specs.declared.request.Request.{Request}
 use Rattle.log_codec.specs.declared.parts.Parts.{Parts}
-use Rattle.log_codec.specs.Head.{kind_code, first_name, second_name, fill_byte, sector_count, first_lba, second_lba}
+use Rattle.log_codec.specs.Head.{IsCommand, kind_code, first_name, second_name, fill_byte, sector_count, first_lba, second_lba}
 
 -- these are the parts of a command
 pub record ArePartsOf (p : Parts) (r : Request) : Type 0 where
@@ -24,3 +23,7 @@ pub record AreSame (p q : Parts) : Type 0 where
   pub count : p.count ≡ q.count
   pub lba : p.lba ≡ q.lba
   pub second_lba : p.second_lba ≡ q.second_lba
+
+-- if these are the parts of this command, it is found
+abbrev pub Finds : Parts → Option Request → Request → Type 0
+Finds p found r = IsCommand r → ArePartsOf p r → found ≡ Some r

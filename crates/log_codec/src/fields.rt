@@ -1,4 +1,4 @@
-ghost use Rattle.std.specs.Prelude.{◌≡◌, ◌↔◌, IsTrue, take};
+ghost use Rattle.std.specs.Prelude.{◌↔◌, IsTrue};
 ghost use Rattle.log_codec.specs.Fields.{IsText};
 
 use crate::parts::Parts;
@@ -32,7 +32,7 @@ fn is_text(len: u8, field: &[u8]) -> bool
 }
 
 impl<'a> Fields<'a> {
-    ghost use Rattle.log_codec.specs.Fields.{AreFields, IsFrame};
+    ghost use Rattle.log_codec.specs.Fields.{AreFields, IsFrame, AreIn};
 
     /// The fields of a sector.
     pub fn of(sector: &'a Sector) -> Fields<'a>
@@ -78,13 +78,7 @@ impl<'a> Fields<'a> {
     /// The parts of the command that the fields stand for.
     pub fn parts(&self) -> Parts<'a>
         requires { IsFrame self.now }
-        ensures kind { result.kind ≡ self.now.kind }
-        ensures first { result.first.now ≡ take self.now.first_len self.now.first.now }
-        ensures second { result.second.now ≡ take self.now.second_len self.now.second.now }
-        ensures byte { result.byte ≡ self.now.byte }
-        ensures count { result.count ≡ self.now.count }
-        ensures lba { result.lba ≡ self.now.lba }
-        ensures second_lba { result.second_lba ≡ self.now.second_lba }
+        ensures { AreIn self.now result }
     {
         Parts {
             kind: self.kind,

@@ -1,8 +1,9 @@
-ghost use Rattle.std.specs.Prelude.{◌≡◌, ◌↔◌, ◌≤◌, ℕ, List, [], length, IsTrue, Some, IfSome, IfNone};
+ghost use Rattle.std.specs.Prelude.{◌≡◌, ◌↔◌, ◌≤◌, ℕ, List, [], length, IsTrue, IfSome, IfNone};
+ghost use Rattle.pur_base.specs.declared.limits.TheConstants.{NAME_BYTES};
 ghost use Rattle.pur_base.specs.declared.request.Request.{Request};
 ghost use Rattle.pur_base.specs.declared.request.Request.TheVariants as request;
 ghost use Rattle.log_codec.specs.Head.{IsCommand};
-ghost use Rattle.log_codec.specs.Parts.{ArePartsOf, AreSame};
+ghost use Rattle.log_codec.specs.Parts.{ArePartsOf, AreSame, Finds};
 
 use crate::head::is_command;
 use pur_base::{Name, Request};
@@ -42,7 +43,7 @@ pub struct Parts<'a> {
 fn named(kind: u8, name: &Name) -> Parts<'_>
     ensures kind { result.kind ≡ kind }
     ensures first { result.first.now ≡ name.now }
-    ensures len { length name.now ≤ 24 }
+    ensures len { length name.now ≤ NAME_BYTES }
     ensures second { result.second.now ≡ [] }
     ensures byte { result.byte ≡ 0 }
     ensures count { result.count ≡ 0 }
@@ -65,8 +66,8 @@ impl<'a> Parts<'a> {
     pub fn of(command: &'a Request) -> Parts<'a>
         requires { IsCommand command.now }
         ensures parts { ArePartsOf result command.now }
-        ensures first { length result.first.now ≤ 24 }
-        ensures second { length result.second.now ≤ 24 }
+        ensures first { length result.first.now ≤ NAME_BYTES }
+        ensures second { length result.second.now ≤ NAME_BYTES }
     {
         match command {
             Request::Create { name, sectors } => Parts {
@@ -116,15 +117,7 @@ impl<'a> Parts<'a> {
                 ..named(COPY, name)
             },
             Request::Destroy { name } => named(DESTROY, name),
-            _ => Parts {
-                kind: 0,
-                first: &[],
-                second: &[],
-                byte: 0,
-                count: 0,
-                lba: 0,
-                second_lba: 0,
-            },
+            _ => unreachable!(),
         }
     }
 
@@ -152,7 +145,7 @@ impl<'a> Parts<'a> {
 
     // The create of these parts. This and the functions below take what their kind has, and leave the rest unjudged.
     fn read_create(&self) -> Option<Request>
-        ensures { (n : List ℕ) (sectors : ℕ) → IsCommand (request.Create n sectors) → ArePartsOf self.now (request.Create n sectors) → result ≡ Some (request.Create n sectors) }
+        ensures { (n : List ℕ) (sectors : ℕ) → Finds self.now result (request.Create n sectors) }
     {
         let Ok(name) = Name::read(self.first) else {
             return None;
@@ -164,7 +157,7 @@ impl<'a> Parts<'a> {
     }
 
     fn read_write(&self) -> Option<Request>
-        ensures { (n : List ℕ) (lba count : ℕ) → IsCommand (request.Write n lba count) → ArePartsOf self.now (request.Write n lba count) → result ≡ Some (request.Write n lba count) }
+        ensures { (n : List ℕ) (lba count : ℕ) → Finds self.now result (request.Write n lba count) }
     {
         let Ok(name) = Name::read(self.first) else {
             return None;
@@ -180,7 +173,7 @@ impl<'a> Parts<'a> {
     }
 
     fn read_fill(&self) -> Option<Request>
-        ensures { (n : List ℕ) (lba count byte : ℕ) → IsCommand (request.Fill n lba count byte) → ArePartsOf self.now (request.Fill n lba count byte) → result ≡ Some (request.Fill n lba count byte) }
+        ensures { (n : List ℕ) (lba count byte : ℕ) → Finds self.now result (request.Fill n lba count byte) }
     {
         let Ok(name) = Name::read(self.first) else {
             return None;
@@ -197,7 +190,7 @@ impl<'a> Parts<'a> {
     }
 
     fn read_zero(&self) -> Option<Request>
-        ensures { (n : List ℕ) (lba count : ℕ) → IsCommand (request.Zero n lba count) → ArePartsOf self.now (request.Zero n lba count) → result ≡ Some (request.Zero n lba count) }
+        ensures { (n : List ℕ) (lba count : ℕ) → Finds self.now result (request.Zero n lba count) }
     {
         let Ok(name) = Name::read(self.first) else {
             return None;
@@ -213,7 +206,7 @@ impl<'a> Parts<'a> {
     }
 
     fn read_snapshot(&self) -> Option<Request>
-        ensures { (n new : List ℕ) → IsCommand (request.Snapshot n new) → ArePartsOf self.now (request.Snapshot n new) → result ≡ Some (request.Snapshot n new) }
+        ensures { (n new : List ℕ) → Finds self.now result (request.Snapshot n new) }
     {
         let Ok(name) = Name::read(self.first) else {
             return None;
@@ -225,7 +218,7 @@ impl<'a> Parts<'a> {
     }
 
     fn read_clone(&self) -> Option<Request>
-        ensures { (n new : List ℕ) → IsCommand (request.Clone n new) → ArePartsOf self.now (request.Clone n new) → result ≡ Some (request.Clone n new) }
+        ensures { (n new : List ℕ) → Finds self.now result (request.Clone n new) }
     {
         let Ok(name) = Name::read(self.first) else {
             return None;
@@ -237,7 +230,7 @@ impl<'a> Parts<'a> {
     }
 
     fn read_copy(&self) -> Option<Request>
-        ensures { (n : List ℕ) (lba : ℕ) (m : List ℕ) (to count : ℕ) → IsCommand (request.Copy n lba m to count) → ArePartsOf self.now (request.Copy n lba m to count) → result ≡ Some (request.Copy n lba m to count) }
+        ensures { (n : List ℕ) (lba : ℕ) (m : List ℕ) (to count : ℕ) → Finds self.now result (request.Copy n lba m to count) }
     {
         let Ok(name) = Name::read(self.first) else {
             return None;
@@ -255,7 +248,7 @@ impl<'a> Parts<'a> {
     }
 
     fn read_destroy(&self) -> Option<Request>
-        ensures { (n : List ℕ) → IsCommand (request.Destroy n) → ArePartsOf self.now (request.Destroy n) → result ≡ Some (request.Destroy n) }
+        ensures { (n : List ℕ) → Finds self.now result (request.Destroy n) }
     {
         let Ok(name) = Name::read(self.first) else {
             return None;
@@ -265,7 +258,7 @@ impl<'a> Parts<'a> {
 
     // The only command that these can be the parts of. Whether they are isn't judged.
     fn candidate(&self) -> Option<Request>
-        ensures { (command : Request) → IsCommand command → ArePartsOf self.now command → result ≡ Some command }
+        ensures { (command : Request) → Finds self.now result command }
     {
         match self.kind {
             CREATE => self.read_create(),
@@ -283,7 +276,7 @@ impl<'a> Parts<'a> {
     /// The command of these parts, or `None` where they are the parts of none.
     pub fn command(&self) -> Option<Request>
         ensures some { IfSome result (λ command. IsCommand command × ArePartsOf self.now command) }
-        ensures complete { (command : Request) → IsCommand command → ArePartsOf self.now command → result ≡ Some command }
+        ensures complete { (command : Request) → Finds self.now result command }
     {
         let Some(command) = self.candidate() else {
             return None;

@@ -186,6 +186,32 @@ fn heads_by_hand(rt: HostRuntime) -> Result<(), Fail> {
     Ok(())
 }
 
+// `fill a 7 1 65` under number 1, as the document of formats has it.
+const EXAMPLE: [u8; 41] = [
+    0x50, 0x55, 0x52, 0x4E, 0x56, 0x4C, 0x4F, 0x47, 0x00, 0x00, 0x00, 0x00, 0x00, 0x00, 0x00, 0x01,
+    0x03, 0x01, 0x00, 0x41, 0x00, 0x00, 0x00, 0x01, 0x00, 0x00, 0x00, 0x00, 0x00, 0x00, 0x00, 0x07,
+    0x00, 0x00, 0x00, 0x00, 0x00, 0x00, 0x00, 0x00, 0x61,
+];
+
+#[test]
+fn the_example(rt: HostRuntime) -> Result<(), Fail> {
+    let name = Name::read(b"a").ok().ok_or("a")?;
+    let (lba, count, byte) = (7, 1, 65);
+    let command = Request::Fill {
+        name,
+        lba,
+        count,
+        byte,
+    };
+    let head = Head { number: 1, command };
+    let lawful = is_command(&head.command);
+    assert!(rt; lawful);
+    let mut bytes = [0; SECTOR_BYTES];
+    bytes[..41].copy_from_slice(&EXAMPLE);
+    assert!(rt; write_head(&head).as_bytes() == bytes.as_slice());
+    Ok(())
+}
+
 // Whether the command is that of the row of a copy.
 fn is_the_copy(command: &Request) -> bool {
     match command {

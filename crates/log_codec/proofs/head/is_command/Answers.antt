@@ -1,4 +1,4 @@
-use Rattle.std.proofs.Common.{rules, ◌≡◌}
+use Rattle.std.proofs.Common.{rules}
 use Rattle.log_codec.proofs.head.is_command.Goals as goal
 
 pub returns-then-are_names : goal.returns-then-are_names

@@ -1,8 +1,8 @@
-use Rattle.std.proofs.Common.{rules, sym, ap, refl, ◌∙◌, Ok, ◌≡◌, Some, ℕ}
+use Rattle.std.proofs.Common.{ap, refl, Ok, ◌≡◌, Some, ℕ}
 use Rattle.pur_base.specs.declared.request.Request.{Request}
 use Rattle.log_codec.specs.declared.head.Head.{Head}
 use Rattle.log_codec.specs.Head.{Decodes}
-use Rattle.log_codec.proofs.FieldLemmas.{fields_are_of, frame_of, parts_of, is_spelled, AreIn}
+use Rattle.log_codec.proofs.FieldLemmas.{fields_are_of, frame_of, parts_of, is_spelled}
 use Rattle.log_codec.proofs.reading.read_head.Goals as goal
 
 same_head : (number : ℕ) (command : Request) (h : Head) → number ≡ h.number → Some command ≡ Some h.command → ◌≡◌ {A = Head} (record { number = number; command = command }) h
@@ -22,13 +22,10 @@ returns-then-not-is_frame-clause-complete c = λ h spells. absurd (no_frame c h 
 pub returns-then-not-is_frame-clause-err : goal.returns-then-not-is_frame-clause-err
 returns-then-not-is_frame-clause-err c = (λ _. no_frame c, λ _. refl)
 
-are : (c : goal.In_default) → AreIn c.of-fields.result c.parts.result
-are c = search rules
-
 no_command : (c : goal.In_default) (h : Head) → ¬ Decodes c.args.sector.now h
 no_command c h spells =
     let of = fields_are_of c.args.sector.now c.of-fields.result h c.of-fields.ensures spells in
-    let is = c.in_default.ensures.complete h.command spells.head.command (parts_of c.of-fields.result h c.parts.result of (are c)) in
+    let is = c.in_default.ensures.complete h.command spells.head.command (parts_of c.of-fields.result h c.parts.result of c.parts.ensures) in
     absurd cc
 
 pub returns-in_default-clause-complete : goal.returns-in_default-clause-complete
@@ -37,13 +34,10 @@ returns-in_default-clause-complete c = λ h spells. absurd (no_command c h spell
 pub returns-in_default-clause-err : goal.returns-in_default-clause-err
 returns-in_default-clause-err c = (λ _. no_command c, λ _. refl)
 
-found_in : (c : goal.In-Some) → AreIn c.of-fields.result c.parts.result
-found_in c = search rules
-
 found : (c : goal.In-Some) → Decodes c.args.sector.now (record { number = c.of-fields.result.number; command = c.in-Some.command })
 found c =
     is_spelled c.args.sector.now c.of-fields.result c.parts.result c.in-Some.command c.of-fields.ensures (c.is_frame.ensures.0 c.if-not-is_frame.false)
-    (found_in c) c.in-Some.ensures.some.0 c.in-Some.ensures.some.1
+    c.parts.ensures c.in-Some.ensures.some.0 c.in-Some.ensures.some.1
 
 pub returns-clause-ok : goal.returns-clause-ok
 returns-clause-ok c = found c
@@ -51,7 +45,7 @@ returns-clause-ok c = found c
 pub returns-clause-complete : goal.returns-clause-complete
 returns-clause-complete c = λ h spells.
     let of = fields_are_of c.args.sector.now c.of-fields.result h c.of-fields.ensures spells in
-    let is = c.in-Some.ensures.complete h.command spells.head.command (parts_of c.of-fields.result h c.parts.result of (found_in c)) in
+    let is = c.in-Some.ensures.complete h.command spells.head.command (parts_of c.of-fields.result h c.parts.result of c.parts.ensures) in
     ap Ok (same_head c.of-fields.result.number c.in-Some.command h of.number is)
 
 pub returns-clause-err : goal.returns-clause-err

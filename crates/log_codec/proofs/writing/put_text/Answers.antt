@@ -1,6 +1,5 @@
-use Rattle.std.proofs.Common.{◌≡◌, length, ◌++◌, ap, ◌∙◌, append_assoc, drop, replicate}
+use Rattle.std.proofs.Common.{length, ◌++◌, ap, ◌∙◌, append_assoc}
 use Rattle.std.proofs.lemmas.List.{drop-replicate}
-use Rattle.pur_base.specs.Bytes.{zeros}
 use Rattle.log_codec.proofs.writing.put_text.Goals as goal
 
 pub returns-clause-bytes : goal.returns-clause-bytes
