@@ -13,18 +13,21 @@ pub struct Head {
     pub command: Request,
 }
 
+// Whether the name's bytes are those of a lawful name.
 fn is_name(name: &Name) -> bool
     ensures { IsTrue result ↔ IsName name.now }
 {
     Name::read(name.as_bytes()).is_ok()
 }
 
+// Whether both names are lawful.
 fn are_names(first: &Name, second: &Name) -> bool
     ensures { IsTrue result ↔ (IsName first.now × IsName second.now) }
 {
     is_name(first) && is_name(second)
 }
 
+// Whether a write, a fill or a zero can take so many sectors.
 fn is_count(count: u8) -> bool
     ensures { IsTrue result ↔ IsCount count }
 {
