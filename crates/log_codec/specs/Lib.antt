@@ -1,2 +1,4 @@
 pub mod Head
+pub mod Fields
+pub mod Parts
 pub mod Log
