@@ -1,8 +1,8 @@
 -- The small examples.
-use Rattle.std.proofs.Common.{◌≡◌, ℕ, ◌+◌, ◌*◌, ◌≤◌, ◌<◌, List, [], ◌∷◌, ◌++◌, replicate, min, refl, arith, lit≤, lit<}
+use Rattle.std.proofs.Common.{◌≡◌, ℕ, ◌+◌, ◌*◌, ◌≤◌, ◌<◌, List, [], ◌∷◌, min, refl, arith, lit≤, lit<}
 use Rattle.std.specs.Prelude.{sum_by}
 use Rattle.std.proofs.lemmas.List.Sums.{sum_by-cons}
-use Rattle.pur_base.specs.Mediums.{Reads, here, below}
+use Rattle.pur_base.specs.Mediums.{here, below}
 use Rattle.array_spec.specs.Counts.{IsGroups, units_for}
 use Rattle.array_spec.specs.Examples.{GroupsOfEleven, WhatFactsSay, eleven, eleven_less_one, eleven_less_four, new_range}
 

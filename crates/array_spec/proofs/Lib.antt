@@ -14,6 +14,7 @@ pub mod Cleared
 pub mod Shown
 pub mod Spelled
 pub mod OneSector
+pub mod OneLog
 pub mod ExampleValues
 mod Moves
 mod Used

@@ -13,7 +13,9 @@ use Rattle.pur_base.specs.declared.facts.AnyFact.{AnyFact}
 use Rattle.boot_codec.specs.declared.record.BootRecord.{BootRecord}
 use Rattle.boot_codec.specs.Spelling.{spelling}
 use Rattle.boot_codec.specs.Region.{BootSlot, Effective, IsEffective, IsRecordOf, IsDecided, is_vote, votes, Yields, other_slot, shown_by, body_in, generation_in, of_members, names}
-use Rattle.log_codec.specs.Log.{Shows, HasSpelling}
+use Rattle.pur_base.specs.declared.place.Place.{Place}
+use Rattle.segment_codec.specs.Stripes.{SectorStands}
+use Rattle.log_codec.specs.Log.{Shows, HasSpelling, Spells, LogStands}
 use Rattle.array_spec.specs.Sound.{AreMediumsSound}
 use Rattle.array_spec.specs.Stored.{all_facts}
 use Rattle.array_spec.specs.Counts.{IsFree}
@@ -223,3 +225,15 @@ abbrev pub ShownStands : Type 0
 ShownStands = (shelf : Geometry) (old new : Image) (missing : Conditions) (arrays : List Array)
     → ((device : Device) → MayShowAs (missing device) (old device) (Some (new device)))
     → Stands shelf old missing arrays → Stands shelf new missing arrays
+
+-- a slot spells one command under a number
+abbrev pub OneCommand : Type 0
+OneCommand = (bytes : List ℕ) (number : ℕ) (c d : Command) → Spells bytes number c → Spells bytes number d → c ≡ d
+
+-- one sector stands at an index
+abbrev pub OneSector : Type 0
+OneSector = (view : View) (places : List Place) (index : ℕ) (a b : List ℕ) → SectorStands view places index a → SectorStands view places index b → a ≡ b
+
+-- a view has one log over a base
+abbrev pub OneLog : Type 0
+OneLog = (view : View) (flushed : ℕ) (base : Array) (cs ds : List Command) → LogStands view flushed base cs → LogStands view flushed base ds → cs ≡ ds

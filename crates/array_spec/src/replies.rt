@@ -1,5 +1,6 @@
-// Runs of replies.
+// Runs of replies, and worked examples.
 ghost use Rattle.array_spec.specs.Acked.{CountsReplies, CutIsNone};
+ghost use Rattle.array_spec.specs.Examples.{GroupsOfEleven, WhatFactsSay};
 ghost use Rattle.array_spec.specs.Rows.{WorkedRows};
 
 /// The definitions give these worked rows.
@@ -11,4 +12,10 @@ pub fn worked_rows()
 pub fn counts_replies()
     ensures counts { CountsReplies }
     ensures cut { CutIsNone }
+{}
+
+/// The definitions give these small examples: of room for segments, and of what facts say.
+pub fn small_examples()
+    ensures groups { GroupsOfEleven }
+    ensures facts { WhatFactsSay }
 {}

@@ -1,8 +1,7 @@
 -- A text begins with one head at most, and a slot spells one command.
-use Rattle.std.proofs.Common.{◌≡◌, ℕ, ◌+◌, ◌*◌, ◌-◌, ◌^◌, ◌<◌, ◌≤◌, List, [], ◌∷◌, ◌++◌, length, take, drop, refl, ap, sym, subst, ◌∙◌, append_assoc, arith}
+use Rattle.std.proofs.Common.{◌≡◌, ℕ, ◌-◌, List, [], ◌∷◌, ◌++◌, length, refl, ap, sym, ◌∙◌, append_assoc, arith}
 use Rattle.std.specs.Prelude.{codes}
 use Rattle.std.specs.List.{AllByRecursion, concat}
-use Rattle.std.proofs.lemmas.List.{length-append, length-replicate}
 use Rattle.pur_base.specs.Bytes.{IsBytesOf, u8, u32, u64, zeros, padded}
 use Rattle.pur_base.specs.Grammar.{data_count}
 use Rattle.pur_base.specs.Commands.{Command}
@@ -11,8 +10,8 @@ use Rattle.pur_base.specs.declared.request.Request.{Request}
 use Rattle.pur_base.specs.declared.request.Request.TheVariants as request
 use Rattle.log_codec.specs.declared.head.Head.{Head}
 use Rattle.log_codec.specs.Head.{kind_code, first_name, second_name, fill_byte, sector_count, first_lba, second_lba, head_bytes, IsCommand, IsHead}
-use Rattle.log_codec.specs.Log.{HasSpelling, Spells, slot_bytes}
-use Rattle.log_codec.proofs.FieldLemmas.{Fits, fits, behind, spelled, length-padded}
+use Rattle.log_codec.specs.Log.{Spells}
+use Rattle.log_codec.proofs.FieldLemmas.{fits, behind, spelled, length-padded}
 use Rattle.byte_fields.proofs.SpellingLemmas.{same_front, same_u8, same_u32, same_u64}
 
 -- the parts of two commands are the same

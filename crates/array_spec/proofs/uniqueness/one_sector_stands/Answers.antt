@@ -1,0 +1,5 @@
+use Rattle.array_spec.proofs.OneSector.{one_sector}
+use Rattle.array_spec.proofs.uniqueness.one_sector_stands.Goals as goal
+
+pub returns : goal.returns
+returns c = one_sector
