@@ -1,0 +1,9 @@
+//! The boot region of a shelf: records are stored in its two slots, each body behind a gate that is closed and opened around it.
+//! At every moment of a store or a settling the devices stand for the arrays for which they stood.
+#![tactic(auto)]
+
+mod members;
+mod slot;
+
+pub use members::write_members;
+pub use slot::Slot;
