@@ -1,1 +1,4 @@
+pub mod Began
 pub mod OnEach
+pub mod Phases
+pub mod ShownLemmas
