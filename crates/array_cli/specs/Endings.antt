@@ -3,6 +3,7 @@ use Rattle.std.specs.Prelude.{ℕ, List, codes}
 use Rattle.pur_base.specs.declared.reply.Status.{Status}
 use Rattle.pur_base.specs.declared.reply.Status.TheVariants as status
 
+-- the number that a status ends the program with
 abbrev pub exit_code : Status → ℕ
 exit_code status.Done = 0
 exit_code status.Words = 1

@@ -16,5 +16,6 @@ IsStarved a _ q b = ⊥
 abbrev pub PlainStep : Array → Item → Answer → Array → Type 0
 PlainStep a item q b = IsModels a item q b ⊎ IsStarved a item q b
 
+-- a run of the array in memory is a run of the array over devices
 abbrev pub PlainStepsAreSteps : Type 0
 PlainStepsAreSteps = (a : Array) (items : List Item) (qs : List Answer) (b : Array) → RunsBy PlainStep a items qs b → Runs a items qs b

@@ -32,6 +32,7 @@ IsOutput status.Sink before after qs = (whole : List Answer) × (last : Answer) 
     × (qs ≡ whole ++ last ∷ []) × (0 < length missing) × (text last ≡ cut ++ missing) × (after ≡ before ++ texts whole ++ cut)
 IsOutput _ before after qs = after ≡ before ++ texts qs
 
+-- whether the item is the write that was cut
 abbrev pub is_cut : Item → Bool
 is_cut (Asked r sectors) = false
 is_cut Syntax = false
@@ -81,10 +82,12 @@ abbrev pub RisesIf : Bool → ℕ → ℕ → Type 0
 RisesIf true before now = Rises before now
 RisesIf false before now = now ≡ before
 
+-- whether that is the end of a failed source
 abbrev pub is_source : Status → Bool
 is_source status.Source = true
 is_source _ = false
 
+-- whether that is the end of a failed sink
 abbrev pub is_sink : Status → Bool
 is_sink status.Sink = true
 is_sink _ = false

@@ -19,6 +19,7 @@ use Rattle.array_server.specs.Serving.{IsOutput}
 abbrev pub AreSectors : List (List ℕ) → Type 0
 AreSectors sectors = AllByRecursion (λ s. length s ≡ SECTOR_BYTES) sectors
 
+-- an entry within the limits, with a lawful name and whole sectors
 pub record IsLawfulEntry (e : Entry) : Type 0 where
   pub name : is_name e.name ≡ true
   pub size : length e.sectors ≤ OBJECT_SECTORS
@@ -35,6 +36,7 @@ IsLawfulRequest (request.Create n size) written = is_name n ≡ true
 IsLawfulRequest (request.Write n lba count) written = (length written ≡ count) × AreSectors written
 IsLawfulRequest _ written = Unit {0}
 
+-- an item of a form in force whose request is lawful
 abbrev pub IsLawfulItem : Item → Type 0
 IsLawfulItem (Asked r written) = (is_in_force r ≡ true) × IsLawfulRequest r written
 IsLawfulItem Syntax = Unit {0}

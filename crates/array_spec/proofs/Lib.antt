@@ -15,6 +15,7 @@ pub mod Shown
 pub mod Spelled
 pub mod OneSector
 pub mod OneLog
+pub mod UnflushedRead
 pub mod ExampleValues
 mod Moves
 mod Used

@@ -12,6 +12,7 @@ use Rattle.boot_codec.specs.declared.record.BootRecord.{BootRecord}
 use Rattle.boot_codec.specs.Region.{names}
 use Rattle.array_spec.specs.Sound.{used_places}
 
+-- whether that is the place of this unit
 abbrev pub is_place : ℕ → ℕ → Place → Bool
 is_place slot unit p = (p.slot == slot) && (p.unit == unit)
 
@@ -19,11 +20,13 @@ is_place slot unit p = (p.slot == slot) && (p.unit == unit)
 abbrev pub is_used : BootRecord → Facts → ℕ → ℕ → Bool
 is_used boot facts slot unit = list_any (list_any (is_place slot unit)) (used_places boot facts)
 
+-- a unit behind the boot region that no segment uses
 pub record IsFree (boot : BootRecord) (facts : Facts) (slot unit : ℕ) : Type 0 where
   pub data_unit : BOOT_UNITS ≤ unit
   pub there : unit < boot.units
   pub unused : is_used boot facts slot unit ≡ false
 
+-- how many units of a drive no segment uses
 abbrev pub free_units : BootRecord → Facts → ℕ → ℕ
 free_units boot facts slot = count_by (λ unit. not (is_used boot facts slot unit)) (range_with_len BOOT_UNITS (boot.units - BOOT_UNITS))
 
@@ -44,6 +47,7 @@ free_of_members boot facts = map (free_units boot facts) (filter (λ slot. names
 abbrev pub stored : Facts → ℕ → ℕ
 stored facts next = sum_by (λ d. d.placed) (segments facts next)
 
+-- whether the target is this index of this segment
 abbrev pub is_target : ℕ → ℕ → Option Target → Bool
 is_target s index None = false
 is_target s index (Some Zero) = false

@@ -27,6 +27,7 @@ eleven_less_one = replicate 9 60 ++ replicate 2 61
 abbrev pub eleven_less_four : List ℕ
 eleven_less_four = replicate 3 57 ++ replicate 8 58
 
+-- room for 74 segments, for 73 after one take, and for 70 after four
 pub record GroupsOfEleven : Type 0 where
   pub fresh : IsGroups eleven 74
   pub after_one : IsGroups eleven_less_one 73
@@ -34,13 +35,16 @@ pub record GroupsOfEleven : Type 0 where
 
 -- ---- facts
 
+-- a volume of that id, size, medium and name
 abbrev pub fact_of_object : ℕ → ℕ → ℕ → List ℕ → ℕ → ObjectFact
 fact_of_object id sectors medium name seq =
     record { object = record { 0 = id }; kind = Volume; sectors = sectors; medium = record { 0 = medium }; name = name; seq = record { 0 = seq } }
 
+-- an index of a segment
 abbrev pub location : ℕ → ℕ → Location
 location segment index = record { segment = record { 0 = segment }; index = index }
 
+-- a sector of a medium that stands there
 abbrev pub fact_of_address : ℕ → ℕ → Location → ℕ → AddressFact
 fact_of_address medium sector at seq = record { medium = record { 0 = medium }; sector = sector; target = Stored at; seq = record { 0 = seq } }
 
@@ -58,6 +62,7 @@ some_facts = record {
   elisions = record { first = 3; table = table.Address; last = 4; seq = record { 0 = 9 } } ∷ [];
 }
 
+-- what these facts say
 pub record WhatFactsSay : Type 0 where
   -- the newest fact of a key counts
   pub newest : address some_facts 1 0 ≡ Some (Stored (location 1 1))

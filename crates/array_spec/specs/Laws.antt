@@ -125,6 +125,7 @@ HeldStands = (shelf : Geometry) (image : Image) (missing : Conditions) (slot : B
     → SLOTS_MIN ≤ shelf.slots → IsBearable shelf missing → arrays ≢ [] → IsRecordOf shelf boot
     → IsHeld shelf image missing slot (spelling boot) → IsReadInto shelf image missing slot boot arrays → Stands shelf image missing arrays
 
+-- the images differ only in the bytes of the NVRAM devices
 pub record DiffersOnlyInNvram (old new : Image) : Type 0 where
   pub drive : (i : ℕ) → new (drive i) ≡ old (drive i)
   pub size : (i : ℕ) → length (new (nvram i)) ≡ length (old (nvram i))

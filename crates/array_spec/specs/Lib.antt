@@ -12,3 +12,4 @@ pub mod Counts
 pub mod Losses
 pub mod Laws
 pub mod Examples
+pub mod Unflushed

@@ -5,6 +5,7 @@ use Rattle.pur_base.specs.declared.device.Device.{Device}
 use Rattle.boot_codec.specs.declared.record.BootRecord.{BootRecord}
 use Rattle.boot_codec.specs.Region.{BootSlot, names, of_members}
 
+-- a device that is missing stays so
 abbrev pub unless_sound : Condition → Condition → Condition
 unless_sound Sound condition = condition
 unless_sound Missing condition = Missing
@@ -36,6 +37,7 @@ pub record GoesOn (earlier later : Session) : Type 0 where
   pub image : later.entry ≡ earlier.left
   pub missing : IsWithin earlier.missing_at_end later.missing_at_entry
 
+-- each session finds what the one before it left
 abbrev pub IsHistory : List Session → Type 0
 IsHistory [] = ⊤
 IsHistory (s ∷ []) = ⊤

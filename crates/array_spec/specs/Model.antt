@@ -4,10 +4,12 @@ use Rattle.pur_base.specs.Plain.{Array}
 use Rattle.pur_base.specs.Grammar.{Item}
 use Rattle.pur_base.specs.Replies.{Answer, answer, after}
 
+-- the model's answers to the items, one each
 abbrev pub answers : Array → List Item → List Answer
 answers a [] = []
 answers a (item ∷ items) = answer a item ∷ answers (after a item) items
 
+-- the array that the items leave
 abbrev pub left_by : Array → List Item → Array
 left_by a [] = a
 left_by a (item ∷ items) = left_by (after a item) items

@@ -16,6 +16,7 @@ line words = words ++ 10 ∷ []
 abbrev pub output : List ℕ → List ℕ
 output input = texts (answers [] (requests input))
 
+-- a request without data, or a syntax fault
 abbrev pub or_syntax : Option Request → Item
 or_syntax None = Syntax
 or_syntax (Some r) = Asked r []
@@ -28,36 +29,45 @@ asked text = or_syntax (request_of (words text))
 abbrev pub replies_to : List (List ℕ) → List ℕ
 replies_to lines = texts (answers [] (map asked lines))
 
+-- no input, no output
 abbrev pub EmptyInput : Type 0
 EmptyInput = output [] ≡ []
 
+-- a new volume reads as zeros
 abbrev pub ReadsZeros : Type 0
 ReadsZeros = output (line (codes "create a 8") ++ line (codes "read a 0 8"))
     ≡ line (codes "ok") ++ line (codes "data 8") ++ flat_map (λ s. s) (replicate 8 (filled 0))
 
+-- fills are read back, and what passes the end is refused
 abbrev pub FillsAndLists : Type 0
 FillsAndLists = output (line (codes "create a 8") ++ line (codes "fill a 7 1 65") ++ line (codes "read a 7 1") ++ line (codes "fill a 7 2 65") ++ line (codes "list"))
     ≡ line (codes "ok") ++ line (codes "ok") ++ line (codes "data 1") ++ filled 65 ++ line (codes "no range") ++ line (codes "names 1") ++ line (codes "a volume 8")
 
+-- the data of a refused write is taken from the input
 abbrev pub TakesDataOfRefusedWrite : Type 0
 TakesDataOfRefusedWrite = output (line (codes "create a 8") ++ line (codes "write a 8 1") ++ replicate 512 66 ++ line (codes "list"))
     ≡ line (codes "ok") ++ line (codes "no range") ++ line (codes "names 1") ++ line (codes "a volume 8")
 
+-- an input that ends inside the data of a write
 abbrev pub CutsShortWrite : Type 0
 CutsShortWrite = output (line (codes "create a 8") ++ line (codes "write a 0 1") ++ replicate 511 66)
     ≡ line (codes "ok") ++ line (codes "no cut")
 
+-- lines of no form
 abbrev pub RefusesOtherForms : Type 0
 RefusesOtherForms = output (line [] ++ line (codes "create abcdefghijklmnopqrstuvwxy 1") ++ line (codes "fill a 0 65 1") ++ line (codes "read  a 0 1") ++ line (codes "create a 01"))
     ≡ line (codes "no syntax") ++ line (codes "no syntax") ++ line (codes "no syntax") ++ line (codes "no syntax") ++ line (codes "no syntax")
 
+-- a volume has 1 to 1,048,576 sectors
 abbrev pub RefusesSizes : Type 0
 RefusesSizes = output (line (codes "create a 0") ++ line (codes "create a 1048577")) ≡ line (codes "no limit") ++ line (codes "no limit")
 
+-- a copy within a volume reads the old content
 abbrev pub CopiesOldContent : Type 0
 CopiesOldContent = replies_to (codes "create a 8" ∷ codes "fill a 0 1 0" ∷ codes "fill a 1 1 1" ∷ codes "fill a 2 1 2" ∷ codes "fill a 3 1 3" ∷ codes "fill a 4 1 4" ∷ codes "fill a 5 1 5" ∷ codes "copy a 0 a 2 6" ∷ codes "read a 0 8" ∷ [])
     ≡ flat_map (λ (n : ℕ). line (codes "ok")) (replicate 8 0) ++ line (codes "data 8") ++ flat_map filled (0 ∷ 1 ∷ 0 ∷ 1 ∷ 2 ∷ 3 ∷ 4 ∷ 5 ∷ [])
 
+-- a snapshot keeps what its volume had, and is not written
 abbrev pub KeepsSnapshots : Type 0
 KeepsSnapshots = replies_to (codes "create a 8" ∷ codes "snapshot a s" ∷ codes "fill a 0 1 1" ∷ codes "read s 0 1" ∷ codes "fill s 0 1 1" ∷ codes "create s 2" ∷ [])
     ≡ line (codes "ok") ++ line (codes "ok") ++ line (codes "ok") ++ line (codes "data 1") ++ filled 0 ++ line (codes "no read-only") ++ line (codes "no taken")
@@ -70,9 +80,11 @@ RefusesLaterForms = output (line (codes "status") ++ line (codes "destroy a")) �
 abbrev pub ReadsUnfinishedLine : Type 0
 ReadsUnfinishedLine = output (line (codes "create a 8") ++ codes "list") ≡ line (codes "ok") ++ line (codes "names 1") ++ line (codes "a volume 8")
 
+-- whole replies are counted, and a part of one is not
 abbrev pub CountsReplies : Type 0
 CountsReplies = acked (line (codes "ok") ++ line (codes "names 1") ++ line (codes "a volume 8") ++ line (codes "data 1") ++ replicate 512 10 ++ line (codes "no cut") ++ codes "no cu") ≡ 4
 
+-- all of these
 pub record WorkedRows : Type 0 where
   pub empty : EmptyInput
   pub zeros : ReadsZeros

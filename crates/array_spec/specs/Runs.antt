@@ -91,5 +91,6 @@ RunsBy S a items [] b = b ≡ a
 RunsBy S a [] (q ∷ qs) b = ⊥
 RunsBy S a (item ∷ items) (q ∷ qs) b = (m : Array) × S a item q m × RunsBy S m items qs b
 
+-- the replies are lawful ones to the first of the items, and lead from a to b
 abbrev pub Runs : Array → List Item → List Answer → Array → Type 0
 Runs a items qs b = RunsBy Step a items qs b

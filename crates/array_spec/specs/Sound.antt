@@ -105,6 +105,7 @@ FitTogether f g =
 abbrev pub Grows : ElisionFact → ElisionFact → Type 0
 Grows f g = f.first ≡ g.first → tag_of f.table ≡ tag_of g.table → f.seq.0 < g.seq.0 → f.last ≤ g.last
 
+-- newer elisions of a key reach at least as far, and ranges of a table lie apart or in one another
 pub record AreElisionsSound (elisions : List ElisionFact) : Type 0 where
   pub grow : AllPairs (λ f g. Grows f g × Grows g f) elisions
   pub fit : AllPairs (λ f g. tag_of f.table ≡ tag_of g.table → FitTogether f g) elisions
@@ -129,6 +130,7 @@ pub record AreSequencesSound (boot : BootRecord) (patches : List (List AnyFact))
 
 -- ---- all of it
 
+-- the tables that the patches hold are sound, in the order in which they are judged
 pub record AreSound (shelf : Geometry) (boot : BootRecord) (patches : List (List AnyFact)) : Type 0 where
   pub ids : AreIdsBelow boot.next (all_facts patches)
   pub objects : AreObjectsSound (all_facts patches) boot.next.object

@@ -10,8 +10,8 @@ mod writes;
 
 pub use replies::{counts_replies, small_examples, worked_rows};
 pub use standing::{
-    a_held_record_stands, each_view_means, marks_are_free, marks_may_clear,
-    missing_devices_may_turn_blank, more_may_go_missing,
+    a_held_record_stands, an_unflushed_array_is_read, each_view_means, marks_are_free,
+    marks_may_clear, missing_devices_may_turn_blank, more_may_go_missing,
 };
 pub use uniqueness::{one_command_is_spelled, one_log_stands, one_sector_stands};
 pub use views::{

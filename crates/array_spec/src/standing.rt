@@ -1,4 +1,5 @@
 // What the devices stand for, as devices go missing and come back.
+ghost use Rattle.array_spec.specs.Unflushed.{UnflushedHoldsNothing, UnflushedIsRead};
 ghost use Rattle.array_spec.specs.Laws.{StandingMeans, MoreMayGoMissing, MarksAreFree, MarksMayClear, ShownStands, HeldStands};
 
 /// What the devices stand for, each view means.
@@ -29,4 +30,10 @@ pub fn missing_devices_may_turn_blank()
 /// Once a record is held and read into the arrays, the devices stand for them.
 pub fn a_held_record_stands()
     ensures { HeldStands }
+{}
+
+/// A record without patches is read into the arrays that its log leads to from nothing, and holds nothing itself.
+pub fn an_unflushed_array_is_read()
+    ensures read { UnflushedIsRead }
+    ensures nothing { UnflushedHoldsNothing }
 {}

@@ -14,10 +14,12 @@ use Rattle.boot_codec.specs.Spelling.{spelling}
 
 -- ---- slots
 
+-- the two slots for records of the boot region
 pub data BootSlot : Type 0 where
   A : BootSlot
   B : BootSlot
 
+-- the other one of the two
 abbrev pub other_slot : BootSlot → BootSlot
 other_slot A = B
 other_slot B = A
@@ -54,6 +56,7 @@ shown_by slot bytes = if is_open (gate_place slot) bytes then Some (body_in slot
 abbrev pub votes : Geometry → View → BootSlot → List (Option (List ℕ))
 votes shelf view slot = map (λ i. option_and_then (shown_by slot) (view (drive i))) (slots_of shelf)
 
+-- whether this body is shown
 abbrev pub is_vote : List ℕ → Option (List ℕ) → Bool
 is_vote body None = false
 is_vote body (Some other) = bytes_eq other body

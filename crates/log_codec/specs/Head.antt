@@ -21,6 +21,7 @@ kind_code (request.Copy n lba m to count) = 7
 kind_code (request.Destroy n) = 8
 kind_code _ = 0
 
+-- the name that a command begins with
 abbrev pub first_name : Request → List ℕ
 first_name (request.Create n sectors) = n
 first_name (request.Write n lba count) = n
@@ -32,12 +33,14 @@ first_name (request.Copy n lba m to count) = n
 first_name (request.Destroy n) = n
 first_name _ = []
 
+-- the other name of a command that has two
 abbrev pub second_name : Request → List ℕ
 second_name (request.Snapshot n new) = new
 second_name (request.Clone n new) = new
 second_name (request.Copy n lba m to count) = m
 second_name _ = []
 
+-- the byte of a fill
 abbrev pub fill_byte : Request → ℕ
 fill_byte (request.Fill n lba count byte) = byte
 fill_byte _ = 0
@@ -51,6 +54,7 @@ sector_count (request.Zero n lba count) = count
 sector_count (request.Copy n lba m to count) = count
 sector_count _ = 0
 
+-- where a command begins in its volume
 abbrev pub first_lba : Request → ℕ
 first_lba (request.Write n lba count) = lba
 first_lba (request.Fill n lba count byte) = lba
@@ -58,6 +62,7 @@ first_lba (request.Zero n lba count) = lba
 first_lba (request.Copy n lba m to count) = lba
 first_lba _ = 0
 
+-- where a copy begins in its target
 abbrev pub second_lba : Request → ℕ
 second_lba (request.Copy n lba m to count) = to
 second_lba _ = 0
@@ -80,6 +85,7 @@ head_bytes h = padded SECTOR_BYTES (head_fields h)
 abbrev pub IsCount : ℕ → Type 0
 IsCount n = (1 ≤ n) × (n ≤ REQUEST_SECTORS)
 
+-- a lawful name
 abbrev pub IsName : List ℕ → Type 0
 IsName text = is_name text ≡ true
 

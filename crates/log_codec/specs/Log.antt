@@ -32,7 +32,13 @@ pub record Spells (bytes : List ℕ) (number : ℕ) (c : Command) : Type 0 where
   pub behind : List ℕ
   pub text : bytes ≡ slot_bytes number c ++ behind
 
--- a device shows this command in a slot: under an open gate, with the number that belongs there
+-- the bytes of an NVRAM device show this command in a slot: under an open gate, with the number that belongs there
+pub record ShowsIn (bytes : List ℕ) (flushed i : ℕ) (c : Command) : Type 0 where
+  pub slot : i < LOG_SLOTS
+  pub gate : IsTrue (is_open i bytes)
+  pub spelled : Spells (slot_at i bytes) (flushed + 1 + i) c
+
+-- a device shows this command in a slot
 pub record Shows (view : View) (device flushed i : ℕ) (c : Command) : Type 0 where
   pub slot : i < LOG_SLOTS
   pub bytes : List ℕ

@@ -18,15 +18,19 @@ bytes_at place n bytes = take n (drop place bytes)
 abbrev pub u8 : ℕ → List ℕ
 u8 n = n ∷ []
 
+-- a number of two bytes
 abbrev pub u16 : ℕ → List ℕ
 u16 n = to_be_bytes w16 n
 
+-- a number of four bytes
 abbrev pub u32 : ℕ → List ℕ
 u32 n = to_be_bytes w32 n
 
+-- a number of eight bytes
 abbrev pub u64 : ℕ → List ℕ
 u64 n = to_be_bytes w64 n
 
+-- so many zeros
 abbrev pub zeros : ℕ → List ℕ
 zeros n = replicate n 0
 

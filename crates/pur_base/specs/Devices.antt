@@ -44,14 +44,17 @@ pub data Condition : Type 0 where
   Missing : Condition
   LeftOut : Condition
 
+-- how things stand with each device
 abbrev pub Conditions : Type 0
 Conditions = Device → Condition
 
+-- whether a device is not missing
 abbrev pub is_sound : Condition → Bool
 is_sound Sound = true
 is_sound Missing = false
 is_sound LeftOut = false
 
+-- whether a device is missing
 abbrev pub is_missing : Condition → Bool
 is_missing Sound = false
 is_missing Missing = true
@@ -61,18 +64,22 @@ is_missing LeftOut = true
 abbrev pub slots_of : Geometry → List ℕ
 slots_of shelf = range_with_len 0 shelf.slots
 
+-- the numbers of the NVRAM devices
 abbrev pub nvrams : List ℕ
 nvrams = range_with_len 0 NVRAM_DEVICES
 
+-- how many drives are missing
 abbrev pub missing_drives : Geometry → Conditions → ℕ
 missing_drives shelf missing = count_by (λ i. is_missing (missing (drive i))) (slots_of shelf)
 
+-- how many NVRAM devices are missing
 abbrev pub missing_nvrams : Conditions → ℕ
 missing_nvrams missing = count_by (λ i. is_missing (missing (nvram i))) nvrams
 
 -- at most two drives and at most one NVRAM device are missing
 pub record IsBearable (shelf : Geometry) (missing : Conditions) : Type 0 where
   pub drives : missing_drives shelf missing ≤ 2
+  -- the numbers of the NVRAM devices
   pub nvrams : missing_nvrams missing ≤ 1
 
 -- a device goes missing with no mark that it was left out, and one that is missing stays as it is

@@ -12,18 +12,23 @@ use Rattle.pur_base.specs.declared.facts.AnyFact.TheVariants as any
 
 -- ---- keys
 
+-- the object
 abbrev pub object_key : ObjectFact → ℕ
 object_key f = key_of f.object.0 0
 
+-- the medium and the start of the range
 abbrev pub medium_key : MediumFact → ℕ
 medium_key f = key_of f.medium.0 f.start
 
+-- the medium and the sector
 abbrev pub address_key : AddressFact → ℕ
 address_key f = key_of f.medium.0 f.sector
 
+-- the segment
 abbrev pub segment_key : SegmentFact → ℕ
 segment_key f = key_of f.segment.0 0
 
+-- the first id and the table
 abbrev pub elision_key : ElisionFact → ℕ
 elision_key f = key_of f.first (tag_of f.table)
 
@@ -47,6 +52,7 @@ is_narrower f g = (tag_of g.table == tag_of f.table) && nat_le g.first f.first &
 
 -- ---- facts by their tables
 
+-- the facts of each table
 pub record Facts : Type 0 where
   pub objects : List ObjectFact
   pub mediums : List MediumFact
@@ -54,22 +60,27 @@ pub record Facts : Type 0 where
   pub segments : List SegmentFact
   pub elisions : List ElisionFact
 
+-- the fact, if it is of an object
 abbrev pub as_object : AnyFact → Option ObjectFact
 as_object (any.Object f) = Some f
 as_object _ = None
 
+-- the fact, if it is of a medium
 abbrev pub as_medium : AnyFact → Option MediumFact
 as_medium (any.Medium f) = Some f
 as_medium _ = None
 
+-- the fact, if it is of an address
 abbrev pub as_address : AnyFact → Option AddressFact
 as_address (any.Address f) = Some f
 as_address _ = None
 
+-- the fact, if it is of a segment
 abbrev pub as_segment : AnyFact → Option SegmentFact
 as_segment (any.Segment f) = Some f
 as_segment _ = None
 
+-- the fact, if it is an elision
 abbrev pub as_elision : AnyFact → Option ElisionFact
 as_elision (any.Elision f) = Some f
 as_elision _ = None
@@ -94,6 +105,7 @@ table_tag (any.Address f) = 3
 table_tag (any.Segment f) = 4
 table_tag (any.Elision f) = 5
 
+-- the key of a fact in its table
 abbrev pub any_key : AnyFact → ℕ
 any_key (any.Object f) = object_key f
 any_key (any.Medium f) = medium_key f
@@ -101,6 +113,7 @@ any_key (any.Address f) = address_key f
 any_key (any.Segment f) = segment_key f
 any_key (any.Elision f) = elision_key f
 
+-- the sequence number of a fact
 abbrev pub any_number : AnyFact → ℕ
 any_number (any.Object f) = f.seq.0
 any_number (any.Medium f) = f.seq.0

@@ -16,10 +16,12 @@ pub data Item : Type 0 where
   Cut : Item
 
 infixl 10 ◌>>=◌
+-- what a second step makes of the value of a first one, if there is one
 abbrev pub ◌>>=◌ : {A B : Type 0} → Option A → (A → Option B) → Option B
 (Some x) >>= f = f x
 None >>= f = None
 
+-- the value where the test holds
 abbrev pub when : {A : Type 0} → Bool → A → Option A
 when test x = if test then Some x else None
 
@@ -29,6 +31,7 @@ when test x = if test then Some x else None
 abbrev pub words : List ℕ → List (List ℕ)
 words line = slice_split (λ b. b == 32) line
 
+-- the name that a word is
 abbrev pub name_of : List ℕ → Option (List ℕ)
 name_of word = when (is_name word) word
 
@@ -40,6 +43,7 @@ is_number word = nat_le 1 (length word) && nat_le (length word) NUMBER_DIGITS &&
 abbrev pub digits_number : List ℕ → ℕ
 digits_number ds = fold (λ n c. n * 10 + (c - 48)) 0 ds
 
+-- the number that a word is
 abbrev pub number_of : List ℕ → Option ℕ
 number_of word = when (is_number word) (digits_number word)
 
@@ -49,12 +53,15 @@ number_in low high word = do
   n ← number_of word
   when (nat_le low n && nat_le n high) n
 
+-- a count of sectors, 1 to 64
 abbrev pub count_of : List ℕ → Option ℕ
 count_of word = number_in 1 REQUEST_SECTORS word
 
+-- a byte, 0 to 255
 abbrev pub byte_of : List ℕ → Option ℕ
 byte_of word = number_in 0 255 word
 
+-- the table that a word names
 abbrev pub table_of : List ℕ → Option Table
 table_of word =
     if bytes_eq word (codes "object") then Some table.Object else
@@ -65,6 +72,7 @@ table_of word =
 
 -- ---- forms: the words behind the first
 
+-- N SECTORS
 abbrev pub create_form : List (List ℕ) → Option Request
 create_form (n ∷ sectors ∷ []) = do
   name ← name_of n
@@ -81,6 +89,7 @@ span_form make (n ∷ at ∷ many ∷ []) = do
   Some (make name lba count)
 span_form make _ = None
 
+-- N LBA COUNT BYTE
 abbrev pub fill_form : List (List ℕ) → Option Request
 fill_form (n ∷ at ∷ many ∷ value ∷ []) = do
   name ← name_of n
@@ -98,6 +107,7 @@ new_form make (n ∷ m ∷ []) = do
   Some (make name new)
 new_form make _ = None
 
+-- N LBA M LBA2 COUNT
 abbrev pub copy_form : List (List ℕ) → Option Request
 copy_form (n ∷ at ∷ m ∷ to ∷ many ∷ []) = do
   name ← name_of n
@@ -122,6 +132,7 @@ number_form make (n ∷ []) = do
   Some (make number)
 number_form make _ = None
 
+-- TABLE I
 abbrev pub merge_form : List (List ℕ) → Option Request
 merge_form (t ∷ n ∷ []) = do
   tag ← table_of t
@@ -129,6 +140,7 @@ merge_form (t ∷ n ∷ []) = do
   Some (request.Merge tag number)
 merge_form _ = None
 
+-- no more words
 abbrev pub bare_form : Request → List (List ℕ) → Option Request
 bare_form r [] = Some r
 bare_form r _ = None
@@ -173,6 +185,7 @@ is_in_force (request.Read n lba count) = true
 is_in_force request.List = true
 is_in_force _ = false
 
+-- the request, if its form is served
 abbrev pub if_in_force : Option Request → Option Request
 if_in_force None = None
 if_in_force (Some r) = when (is_in_force r) r
@@ -183,6 +196,7 @@ line_request line = if nat_lt LINE_BYTES (length line) then None else if_in_forc
 
 -- ---- items
 
+-- a line ends with byte 10
 abbrev pub is_line_end : ℕ → Bool
 is_line_end b = b == 10
 

@@ -12,6 +12,7 @@ pub record IsOver (facts : Facts) (medium sector : ℕ) (r : MediumFact) : Type 
   pub from_start : r.start ≤ sector
   pub below_end : sector < r.end
 
+-- what a sector of a medium reads as, by the first of these that applies
 pub data Reads (facts : Facts) : ℕ → ℕ → Target → Type 0 where
   -- the medium itself says where
   here : {medium sector : ℕ} {target : Target} → address facts medium sector ≡ Some target → Reads facts medium sector target

@@ -11,6 +11,7 @@ pub record IsPadded (bytes : List ℕ) (len : ℕ) : Type 0 where
   pub within : len ≤ 24
   pub zeros : drop len bytes ≡ replicate (24 - len) 0
 
+-- the fields are decided by the text
 pub inverse-view : (n : Inside) → IsPadded n.bytes n.len
     → record { bytes = take n.len n.bytes ++ replicate (24 - length (take n.len n.bytes)) 0; len = length (take n.len n.bytes) } ≡ n
 inverse-view n h =

@@ -20,6 +20,7 @@ Array = List Entry
 
 -- ---- reading an array
 
+-- whether the entry has that name
 abbrev pub is_named : List ℕ → Entry → Bool
 is_named name e = bytes_eq name e.name
 
@@ -27,12 +28,15 @@ is_named name e = bytes_eq name e.name
 abbrev pub entry : Array → List ℕ → Option Entry
 entry a name = find (is_named name) a
 
+-- whether an entry has that name
 abbrev pub has : Array → List ℕ → Bool
 has a name = is_some (entry a name)
 
+-- the sectors of the entry of that name
 abbrev pub sectors_of : Array → List ℕ → List (List ℕ)
 sectors_of a name = option_map_or (λ e. e.sectors) (entry a name) []
 
+-- whether the entry of that name is a snapshot
 abbrev pub is_snapshot : Array → List ℕ → Bool
 is_snapshot a name = option_map_or (λ e. e.snapshot) (entry a name) false
 
@@ -55,10 +59,12 @@ with_sectors (e ∷ a) name sectors = if is_named name e then record e { sectors
 abbrev pub replaced : Array → List ℕ → ℕ → List (List ℕ) → Array
 replaced a name lba new = with_sectors a name (with_span lba new (sectors_of a name))
 
+-- the array without the entry of that name
 abbrev pub without : Array → List ℕ → Array
 without [] name = []
 without (e ∷ a) name = if is_named name e then a else e ∷ without a name
 
+-- the array with one more entry
 abbrev pub appended : Array → List ℕ → Bool → List (List ℕ) → Array
 appended a name snapshot sectors = a ++ record { name = name; snapshot = snapshot; sectors = sectors } ∷ []
 
@@ -72,6 +78,7 @@ passes a name lba count = nat_lt (length (sectors_of a name)) (lba + count)
 abbrev pub is_full : Array → Bool
 is_full a = nat_le OBJECTS (length a)
 
+-- whether no object has that size
 abbrev pub is_no_size : ℕ → Bool
 is_no_size sectors = (sectors == 0) || nat_lt OBJECT_SECTORS sectors
 
@@ -107,6 +114,7 @@ causes a (request.Destroy n) = (not (has a n), Unknown) ∷ []
 causes a (request.Flatten n) = (not (has a n), Unknown) ∷ []
 causes a _ = []
 
+-- why the array refuses a request, if it does
 abbrev pub refusal : Array → Request → Option Refusal
 refusal a r = first_cause (causes a r)
 

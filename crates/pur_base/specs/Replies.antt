@@ -16,6 +16,7 @@ pub data Answer : Type 0 where
   Sectors : List (List ℕ) → Answer
   Entries : List Entry → Answer
 
+-- a refusal as an answer
 abbrev pub refused : Refusal → Answer
 refused why = Line (reply.Refused why)
 
@@ -27,10 +28,12 @@ given a (request.Read n lba count) = Sectors (span lba count (sectors_of a n))
 given a request.List = Entries a
 given a _ = Line reply.Done
 
+-- the answer, unless the request is refused
 abbrev pub answer_unless : Option Refusal → Answer → Answer
 answer_unless (Some why) q = refused why
 answer_unless None q = q
 
+-- the array after the request, unless it is refused
 abbrev pub after_unless : Option Refusal → Array → Array → Array
 after_unless (Some why) a b = a
 after_unless None a b = b
@@ -49,6 +52,7 @@ after a Cut = a
 
 -- ---- text
 
+-- the word of a refusal
 abbrev pub word : Refusal → List ℕ
 word refusals.Cut = codes "cut"
 word refusals.Syntax = codes "syntax"
@@ -83,6 +87,7 @@ line_text reply.Left = codes "ok left" ++ 10 ∷ []
 line_text reply.Member = codes "ok member" ++ 10 ∷ []
 line_text (reply.Refused why) = codes "no " ++ word why ++ 10 ∷ []
 
+-- what stands between the name and the size of an entry
 abbrev pub kind_text : Bool → List ℕ
 kind_text snapshot = if snapshot then codes " snapshot " else codes " volume "
 
@@ -90,16 +95,20 @@ kind_text snapshot = if snapshot then codes " snapshot " else codes " volume "
 abbrev pub entry_text : List ℕ → Bool → ℕ → List ℕ
 entry_text name snapshot sectors = name ++ kind_text snapshot ++ decimal sectors ++ 10 ∷ []
 
+-- a line an entry
 abbrev pub entries_text : List Entry → List ℕ
 entries_text es = flat_map (λ e. entry_text e.name e.snapshot (length e.sectors)) es
 
+-- sectors one behind another
 abbrev pub sectors_text : List (List ℕ) → List ℕ
 sectors_text ss = flat_map (λ s. s) ss
 
+-- the bytes of an answer
 abbrev pub text : Answer → List ℕ
 text (Line r) = line_text r
 text (Sectors ss) = line_text (reply.Data (length ss)) ++ sectors_text ss
 text (Entries es) = line_text (reply.Names (length es)) ++ entries_text es
 
+-- the bytes of answers, one behind another
 abbrev pub texts : List Answer → List ℕ
 texts qs = flat_map text qs

@@ -23,6 +23,7 @@ module _ {F : Type 0} (key : F → ℕ) where
   Ascends fs = AllPairs (λ f g. key f < key g) fs
 
 module _ {F : Type 0} (empty : F → Bool) where
+  -- the fact, unless it is empty
   abbrev pub unless_empty : F → Option F
   unless_empty f = if empty f then None else Some f
 

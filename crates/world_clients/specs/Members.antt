@@ -5,9 +5,11 @@ use Rattle.pur_base.specs.declared.device.Device.TheVariants.{Drive, Nv}
 use Rattle.world.specs.Counts.{Rises}
 use Rattle.world.specs.Shelf.{Disk, IsIn, Written}
 
+-- the drive of a slot
 abbrev pub drive : ℕ → Device
 drive d = Drive (record { 0 = d })
 
+-- whether a drive is a member
 abbrev pub IsMember : List Bool → ℕ → Type 0
 IsMember members d = slice_index_or members d false ≡ true
 

@@ -13,6 +13,7 @@ pub record IsToldBy (shelf : Shelved) (source sink : Streamed) : Type 0 where
   pub source_is : source.honest
   pub sink_is : sink.honest
 
+-- the byte stands there, and no stop takes it away
 pub record StoredByte (disk : Disk) (at byte : ℕ) : Type 0 where
   pub stands : slice_index disk.bytes at ≡ byte
   pub clean : disk.dirty ≡ []

@@ -21,18 +21,21 @@ pub record AllButOutputStays (a b : Files) : Type 0 where
   pub shelf : OutputOnly (untold a.drives a.units a.tallies) (untold b.drives b.units b.tallies)
   pub source : b.source_faults ≡ a.source_faults
 
+-- it is reflexive and transitive
 pub streams_stay : IsPreorder StreamsStay
 streams_stay = record {
   reflexive = λ f. record { source = refl; sink = refl };
   transitive = λ a b c ab bc. record { source = bc.source ∙ ab.source; sink = bc.sink ∙ ab.sink };
 }
 
+-- and so is this
 pub all_but_input_stays : IsPreorder AllButInputStays
 all_but_input_stays = record {
   reflexive = λ f. record { shelf = nothing_taken (untold f.drives f.units f.tallies); sink = refl };
   transitive = λ a b c ab bc. record { shelf = taken_then ab.shelf bc.shelf; sink = bc.sink ∙ ab.sink };
 }
 
+-- and so is this
 pub all_but_output_stays : IsPreorder AllButOutputStays
 all_but_output_stays = record {
   reflexive = λ f. record { shelf = no_output (untold f.drives f.units f.tallies); source = refl };
