@@ -2,3 +2,4 @@ pub mod Began
 pub mod OnEach
 pub mod Phases
 pub mod ShownLemmas
+pub mod RegionLemmas

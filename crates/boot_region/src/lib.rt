@@ -3,7 +3,9 @@
 #![tactic(auto)]
 
 mod members;
+mod regions;
 mod slot;
 
 pub use members::write_members;
+pub use regions::Regions;
 pub use slot::Slot;

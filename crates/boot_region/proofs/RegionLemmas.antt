@@ -1,0 +1,58 @@
+-- What regions show, and how many of them show a body.
+use Rattle.std.proofs.Common.{◌≡◌, ℕ, zero, suc, ◌+◌, ◌-◌, ◌*◌, ◌<◌, ◌≤◌, List, [], ◌∷◌, ◌++◌, length, map, take, drop, get_or, refl, sym, ap, subst, ◌∙◌, add-zero, arith, Bool, true, false, cond, eqb, inl, inr}
+use Rattle.std.specs.Prelude.{Option, Some, None, count_by, slice_index, option_and_then}
+use Rattle.std.specs.List.{range_with_len}
+use Rattle.std.proofs.lemmas.Bool.{eq-eqb, cases_Bool}
+use Rattle.std.specs.Str.{bytes_eq}
+use Rattle.std.specs.Cmp.Lexicographic.{same_text}
+use Rattle.boot_codec.specs.Region.{BootSlot, gate_place, body_place, shown_by, is_vote}
+use Rattle.boot_region.specs.declared.regions.TheConstants.{REGION_BYTES}
+use Rattle.boot_region.specs.Regions.{region_at}
+use Rattle.array_spec.proofs.Votes.{counted}
+
+-- a body under an open gate is shown
+pub shown_is : (slot : BootSlot) (bytes : List ℕ) (gate at n : ℕ) → gate ≡ gate_place slot → at ≡ body_place slot → n ≡ 65536 → slice_index bytes gate ≡ 1
+    → Some (take n (drop at bytes)) ≡ shown_by slot bytes
+shown_is slot bytes gate at n g a m e =
+    let is_one : eqb (slice_index bytes (gate_place slot)) 1 ≡ true = eq-eqb (slice_index bytes (gate_place slot)) 1 (ap (slice_index bytes) (sym g) ∙ e) in
+    rw is_one (λ i. Some (take (m i) (drop (a i) bytes)))
+
+-- one vote more
+pub counts_more : {X : Type 0} (p : X → Bool) (f : ℕ → X) (a n : ℕ) → count_by p (map f (range_with_len a (suc n))) ≡ count_by p (map f (range_with_len a n)) + cond (p (f (a + n))) 1 0
+counts_more p f a zero = counted p (f a) [] ∙ rw (add-zero a) (omega arith)
+counts_more p f a (suc n) =
+    let rest : count_by p (map f (range_with_len (a + 1) (suc n))) ≡ count_by p (map f (range_with_len (a + 1) n)) + cond (p (f (a + 1 + n))) 1 0 = counts_more p f (a + 1) n in
+    let same : a + 1 + n ≡ a + suc n = omega arith in
+    let at : cond (p (f (a + 1 + n))) 1 0 ≡ cond (p (f (a + suc n))) 1 0 = ap (λ (k : ℕ). cond (p (f k)) 1 0) same in
+    omega (arith, counted p (f a) (map f (range_with_len (a + 1) (suc n))), counted p (f a) (map f (range_with_len (a + 1) n)), rest, at)
+
+-- the region of a drive that answered
+pub region_is : (bytes : List ℕ) (answered : List Bool) (i x n : ℕ) → x ≡ REGION_BYTES * i → n ≡ REGION_BYTES → get_or answered i false ≡ true
+    → Some (take n (drop x bytes)) ≡ region_at bytes answered i
+region_is bytes answered i x n at m yes = rw yes (λ k. Some (take (m k) (drop (at k) bytes)))
+
+-- a body that has a vote is shown by some drive
+pub some_vote : (f : ℕ → Option (List ℕ)) (body : List ℕ) (a n : ℕ) → 0 < count_by (is_vote body) (map f (range_with_len a n)) → (k : ℕ) × (k < a + n) × (f k ≡ Some body)
+some_vote f body a zero some = absurd (omega (arith, some))
+some_vote f body a (suc n) some = one (f a) refl (λ h. some_vote f body (a + 1) n h)
+  where
+    Rest : Type 0
+    Rest = 0 < count_by (is_vote body) (map f (range_with_len (a + 1) n)) → (k : ℕ) × (k < a + 1 + n) × (f k ≡ Some body)
+
+    count : ℕ
+    count = count_by (is_vote body) (map f (range_with_len (a + 1) n))
+
+    later : (o : Option (List ℕ)) → f a ≡ o → is_vote body o ≡ false → Rest → (k : ℕ) × (k < a + suc n) × (f k ≡ Some body)
+    later o e no rest =
+        let none : is_vote body (f a) ≡ false = ap (is_vote body) e ∙ no in
+        let is : count_by (is_vote body) (map f (range_with_len a (suc n))) ≡ count_by (is_vote body) (map f (range_with_len (a + 1) n)) =
+        counted (is_vote body) (f a) (map f (range_with_len (a + 1) n)) ∙ rw none (omega arith) in
+        let found = rest (omega (arith, some, is)) in
+        (found.0, omega (arith, found.1), found.2)
+
+    one : (o : Option (List ℕ)) → f a ≡ o → Rest → (k : ℕ) × (k < a + suc n) × (f k ≡ Some body)
+    one None e rest = later None e refl rest
+    one (Some other) e rest = elim (cases_Bool (bytes_eq other body)) [
+      | inl same ↦ (a, omega arith, e ∙ ap (λ (b : List ℕ). Some b) (same_text other body (sym same)))
+      | inr not_same ↦ later (Some other) e not_same rest
+    ]
