@@ -62,7 +62,7 @@ fn segments(
     ensures gives { Gives (λ x. (x.0, x.1.now)) result (segments slots units count bytes.now) }
     ensures count { IfOk result (λ x. length x.0 ≡ count) }
 {
-    let mut segments = Segments::new(alloc);
+    let mut segments = Segments::with_capacity(alloc, count as usize)?;
     let mut rest = bytes;
     for _ in 0..count {
         let (next, after) = segment(rest, slots, units)?;
@@ -147,7 +147,7 @@ fn patches(
 ) -> Result<(Patches, &[u8]), ReadError>
     ensures { Gives (λ x. (x.0, x.1.now)) result (patches slots units 1 PATCH_SEGMENTS count bytes.now) }
 {
-    let mut patches = Patches::new(alloc);
+    let mut patches = Patches::with_capacity(alloc, count as usize)?;
     let mut rest = bytes;
     let mut least = 1;
     let mut room = PATCH_SEGMENTS;

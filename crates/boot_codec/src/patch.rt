@@ -1,7 +1,7 @@
-ghost use Rattle.std.specs.Prelude.{◌≡◌, [], ◌∷◌, ◌++◌, OnOk, OnErr};
+ghost use Rattle.std.specs.Prelude.{◌≡◌, [], ◌∷◌, ◌++◌, IfOk, OnOk, OnErr};
 
 use pur_base::Places;
-use std::alloc::{AllocFailed, Global};
+use std::alloc::{AllocError, AllocFailed, Global};
 use std::marker::Model;
 
 /// A segment of a patch: its id, and the units that hold it by ascending slot.
@@ -34,6 +34,14 @@ impl Segments {
         Segments {
             items: Vec::new(alloc),
         }
+    }
+
+    /// No segments yet, and memory for so many. It fails for want of memory only.
+    pub fn with_capacity(alloc: Global, count: usize) -> Result<Segments, AllocError>
+        ensures { IfOk result (λ segments. segments ≡ []) }
+    {
+        let items = Vec::with_capacity(alloc, count)?;
+        Ok(Segments { items })
     }
 
     /// Adds a segment at the end. It fails for want of memory only, and changes nothing then.
@@ -83,6 +91,14 @@ impl Patches {
         Patches {
             items: Vec::new(alloc),
         }
+    }
+
+    /// No patches yet, and memory for so many. It fails for want of memory only.
+    pub fn with_capacity(alloc: Global, count: usize) -> Result<Patches, AllocError>
+        ensures { IfOk result (λ patches. patches ≡ []) }
+    {
+        let items = Vec::with_capacity(alloc, count)?;
+        Ok(Patches { items })
     }
 
     /// Adds a patch at the end. It fails for want of memory only, and changes nothing then.

@@ -4,7 +4,7 @@ use Rattle.boot_codec.proofs.lists.patches.Goals as goal
 
 pub returns-in_err-next : goal.returns-in_err-next
 returns-in_err-next c =
-    let p = err_from_is_err_and c.from_residual.result c.from_residual.ensures.1 in
+    let p = err_from_is_err_and c.from_residual-in_err-next.result c.from_residual-in_err-next.ensures.1 in
     rw (p.1, p.2) (patches_end c.in_err-next.field-0.0 c.args.slots c.args.units c.loop.least c.loop.room c.loop.patches c.args.count c.loop.counter c.loop.rest.now _ c.loop-test.true c.in_err-next.ensures.gives c.loop.invariant)
 
 pub loop-preserved : goal.loop-preserved

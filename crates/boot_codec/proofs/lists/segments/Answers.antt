@@ -5,7 +5,7 @@ use Rattle.boot_codec.proofs.lists.segments.Goals as goal
 
 pub returns-in_err-next-clause-gives : goal.returns-in_err-next-clause-gives
 returns-in_err-next-clause-gives c =
-    let p = err_from_is_err_and c.from_residual.result c.from_residual.ensures.1 in
+    let p = err_from_is_err_and c.from_residual-in_err-next.result c.from_residual-in_err-next.ensures.1 in
     rw (p.1, p.2) (segments_end c.in_err-next.field-0.0 c.args.slots c.args.units c.loop.segments c.args.count c.loop.counter c.loop.rest.now _ c.loop-test.true c.in_err-next.ensures c.loop.invariant.1)
 
 pub loop-preserved : goal.loop-preserved
