@@ -1,6 +1,7 @@
 ghost use Rattle.std.specs.Prelude.{◌≡◌, [], ◌∷◌, ◌++◌, IfOk, OnOk, OnErr};
 
-use pur_base::Places;
+use pur_base::{Place, Places, SEGMENT_SHARDS};
+use smallvec::SmallVec;
 use std::alloc::{AllocError, AllocFailed, Global};
 use std::marker::Model;
 
@@ -11,10 +12,20 @@ pub struct PatchSegment {
     pub places: Places,
 }
 
-/// The segments of a patch. Contracts see the list of them.
+/// A blank segment, as room for one is filled.
+impl Default for PatchSegment {
+    fn default() -> PatchSegment {
+        PatchSegment {
+            id: 0,
+            places: [Place { slot: 0, unit: 0 }; SEGMENT_SHARDS],
+        }
+    }
+}
+
+/// The segments of a patch, of which a lone one needs no allocation. Contracts see the list of them.
 #[derive(Drop)]
 pub struct Segments {
-    items: Vec<PatchSegment>,
+    items: SmallVec<PatchSegment, 1>,
 }
 
 impl Model for Segments {
@@ -32,7 +43,7 @@ impl Segments {
         ensures { result ≡ [] }
     {
         Segments {
-            items: Vec::new(alloc),
+            items: SmallVec::new(alloc),
         }
     }
 
@@ -40,7 +51,7 @@ impl Segments {
     pub fn with_capacity(alloc: Global, count: usize) -> Result<Segments, AllocError>
         ensures { IfOk result (λ segments. segments ≡ []) }
     {
-        let items = Vec::with_capacity(alloc, count)?;
+        let items = SmallVec::with_capacity(alloc, count)?;
         Ok(Segments { items })
     }
 
