@@ -2,6 +2,7 @@ pub mod WritingLemmas
 pub mod FlagLemmas
 pub mod SpellingLemmas
 pub mod LoopLemmas
+pub mod PlaceLemmas
 pub mod PaddingLemmas
 pub mod FieldLemmas
 pub mod HeaderLemmas

@@ -1,9 +1,11 @@
-ghost use Rattle.std.specs.Prelude.{◌≡◌, ◌<◌, ◌≤◌, length, IfOk};
+ghost use Rattle.std.specs.Prelude.{◌≡◌, ◌<◌, ◌≤◌, ◌&&◌, nat_le, nat_lt, length, drop, IfOk, IfSome};
 ghost use Rattle.boot_codec.specs.Reading.{Gives, place_from, places_from, segment, segments, tag_from, facts, segment_count, patch, patches, patch_count, frontier_count, lists};
 
 use crate::bad_record::ReadError;
 use crate::front::{fault_at, u8_at, u16_at, u32_at, u64_at};
-use crate::limits::{FACTS_PER_SEGMENT, PATCH_SEGMENTS, PATCHES, RECORD_BYTES, TAG_MAX};
+use crate::limits::{
+    FACTS_PER_SEGMENT, PATCH_SEGMENTS, PATCHES, PLACE_BYTES, PLACES_BYTES, RECORD_BYTES, TAG_MAX,
+};
 use crate::patch::{Patch, PatchSegment, Patches, Segments};
 use pur_base::{BOOT_UNITS, Place, Places, SEGMENT_SHARDS};
 use std::alloc::Global;
@@ -25,8 +27,9 @@ fn place_from(bytes: &[u8], slots: u8, units: u16, least: u8) -> Result<(Place, 
     Ok((Place { slot, unit }, after))
 }
 
-/// Nine data units on ascending slots.
-fn places(bytes: &[u8], slots: u8, units: u16) -> Result<(Places, &[u8]), ReadError>
+/// Nine data units on ascending slots, one after the other, which finds the first fault.
+#[cold]
+fn places_in_turn(bytes: &[u8], slots: u8, units: u16) -> Result<(Places, &[u8]), ReadError>
     ensures { Gives (λ x. (x.0, x.1.now)) result (places_from slots units 0 SEGMENT_SHARDS bytes.now) }
 {
     let mut places = [Place { slot: 0, unit: 0 }; SEGMENT_SHARDS];
@@ -39,6 +42,47 @@ fn places(bytes: &[u8], slots: u8, units: u16) -> Result<(Places, &[u8]), ReadEr
         rest = after;
     }
     Ok((places, rest))
+}
+
+/// Whether it is a data unit on that slot or a greater one.
+fn is_place_from(place: Place, slots: u8, units: u16, least: u16) -> bool
+    ensures { result ≡ ((nat_le least place.slot && nat_lt place.slot slots) && (nat_le BOOT_UNITS place.unit && nat_lt place.unit units)) }
+{
+    let slot = least <= place.slot as u16 && place.slot < slots;
+    let unit = BOOT_UNITS <= place.unit && place.unit < units;
+    slot && unit
+}
+
+/// Nine data units on ascending slots, or `None` where one isn't. It judges them all at once.
+fn places_at_once(bytes: &[u8], slots: u8, units: u16) -> Option<Places>
+    requires { PLACES_BYTES ≤ length bytes.now }
+    ensures { IfSome result (λ p. places_from slots units 0 SEGMENT_SHARDS bytes.now ≡ Ok (p, drop PLACES_BYTES bytes.now)) }
+{
+    let mut places = [Place { slot: 0, unit: 0 }; SEGMENT_SHARDS];
+    let mut least = 0;
+    let mut lawful = true;
+    for shard in 0..SEGMENT_SHARDS {
+        let at = PLACE_BYTES * shard;
+        let slot = bytes[at];
+        let unit = u16::from_be_bytes([bytes[at + 1], bytes[at + 2]]);
+        let place = Place { slot, unit };
+        lawful &= is_place_from(place, slots, units, least);
+        places[shard] = place;
+        least = slot as u16 + 1;
+    }
+    if lawful { Some(places) } else { None }
+}
+
+/// Nine data units on ascending slots.
+fn places(bytes: &[u8], slots: u8, units: u16) -> Result<(Places, &[u8]), ReadError>
+    ensures { Gives (λ x. (x.0, x.1.now)) result (places_from slots units 0 SEGMENT_SHARDS bytes.now) }
+{
+    if PLACES_BYTES <= bytes.len() {
+        if let Some(places) = places_at_once(bytes, slots, units) {
+            return Ok((places, &bytes[PLACES_BYTES..]));
+        }
+    }
+    places_in_turn(bytes, slots, units)
 }
 
 /// A segment: any id, and its nine places.
