@@ -1,4 +1,4 @@
-ghost use Rattle.std.specs.Prelude.{◌≡◌, ◌<◌, ◌≤◌, ◌&&◌, nat_le, nat_lt, length, drop, IfOk, IfSome};
+ghost use Rattle.std.specs.Prelude.{◌≡◌, ◌<◌, ◌≤◌, ◌&&◌, nat_le, nat_lt, length, drop, IfOk, IsTrue, Ok};
 ghost use Rattle.boot_codec.specs.Reading.{Gives, place_from, places_from, segment, segments, tag_from, facts, segment_count, patch, patches, patch_count, frontier_count, lists};
 
 use crate::bad_record::ReadError;
@@ -29,6 +29,7 @@ fn place_from(bytes: &[u8], slots: u8, units: u16, least: u8) -> Result<(Place, 
 
 /// Nine data units on ascending slots, one after the other, which finds the first fault.
 #[cold]
+#[inline(never)]
 fn places_in_turn(bytes: &[u8], slots: u8, units: u16) -> Result<(Places, &[u8]), ReadError>
     ensures { Gives (λ x. (x.0, x.1.now)) result (places_from slots units 0 SEGMENT_SHARDS bytes.now) }
 {
@@ -53,46 +54,56 @@ fn is_place_from(place: Place, slots: u8, units: u16, least: u16) -> bool
     slot && unit
 }
 
-/// Nine data units on ascending slots, or `None` where one isn't. It judges them all at once.
-fn places_at_once(bytes: &[u8], slots: u8, units: u16) -> Option<Places>
+/// Whether these are nine data units on ascending slots, which it writes then. It returns nothing larger than that.
+fn places_at_once(bytes: &[u8], slots: u8, units: u16, into: &mut Places) -> bool
     requires { PLACES_BYTES ≤ length bytes.now }
-    ensures { IfSome result (λ p. places_from slots units 0 SEGMENT_SHARDS bytes.now ≡ Ok (p, drop PLACES_BYTES bytes.now)) }
+    ensures { IsTrue result → places_from slots units 0 SEGMENT_SHARDS bytes.now ≡ Ok (into.new, drop PLACES_BYTES bytes.now) }
 {
-    let mut places = [Place { slot: 0, unit: 0 }; SEGMENT_SHARDS];
     let mut least = 0;
-    let mut lawful = true;
     for shard in 0..SEGMENT_SHARDS {
         let at = PLACE_BYTES * shard;
         let slot = bytes[at];
         let unit = u16::from_be_bytes([bytes[at + 1], bytes[at + 2]]);
         let place = Place { slot, unit };
-        lawful &= is_place_from(place, slots, units, least);
-        places[shard] = place;
+        if !is_place_from(place, slots, units, least) {
+            return false;
+        }
+        into[shard] = place;
         least = slot as u16 + 1;
     }
-    if lawful { Some(places) } else { None }
+    true
 }
 
-/// Nine data units on ascending slots.
-fn places(bytes: &[u8], slots: u8, units: u16) -> Result<(Places, &[u8]), ReadError>
-    ensures { Gives (λ x. (x.0, x.1.now)) result (places_from slots units 0 SEGMENT_SHARDS bytes.now) }
+/// Reads nine data units on ascending slots.
+fn places<'a>(
+    bytes: &'a [u8],
+    slots: u8,
+    units: u16,
+    into: &mut Places,
+) -> Result<&'a [u8], ReadError>
+    ensures { Gives (λ rest. (into.new, rest.now)) result (places_from slots units 0 SEGMENT_SHARDS bytes.now) }
 {
-    if PLACES_BYTES <= bytes.len() {
-        if let Some(places) = places_at_once(bytes, slots, units) {
-            return Ok((places, &bytes[PLACES_BYTES..]));
-        }
+    if PLACES_BYTES <= bytes.len() && places_at_once(bytes, slots, units, into) {
+        return Ok(&bytes[PLACES_BYTES..]);
     }
-    places_in_turn(bytes, slots, units)
+    let (places, rest) = places_in_turn(bytes, slots, units)?;
+    *into = places;
+    Ok(rest)
 }
 
-/// A segment: any id, and its nine places.
+/// Reads a segment: any id, and its nine places.
 #[tactic(auto, unfolding(crate::specs::Reading::segment))]
-fn segment(bytes: &[u8], slots: u8, units: u16) -> Result<(PatchSegment, &[u8]), ReadError>
-    ensures { Gives (λ x. (x.0, x.1.now)) result (segment slots units bytes.now) }
+fn segment<'a>(
+    bytes: &'a [u8],
+    slots: u8,
+    units: u16,
+    into: &mut PatchSegment,
+) -> Result<&'a [u8], ReadError>
+    ensures { Gives (λ rest. (into.new, rest.now)) result (segment slots units bytes.now) }
 {
     let (id, rest) = u64_at(bytes);
-    let (places, rest) = places(rest, slots, units)?;
-    Ok((PatchSegment { id, places }, rest))
+    into.id = id;
+    places(rest, slots, units, &mut into.places)
 }
 
 /// So many segments.
@@ -109,9 +120,9 @@ fn segments(
     let mut segments = Segments::with_capacity(alloc, count as usize)?;
     let mut rest = bytes;
     for _ in 0..count {
-        let (next, after) = segment(rest, slots, units)?;
+        let mut next = PatchSegment::default();
+        rest = segment(rest, slots, units, &mut next)?;
         segments.push(next)?;
-        rest = after;
     }
     Ok((segments, rest))
 }

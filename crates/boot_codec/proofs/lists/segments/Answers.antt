@@ -3,17 +3,17 @@ use Rattle.std.proofs.lemmas.Result.{err_from_is_err_and}
 use Rattle.boot_codec.proofs.LoopLemmas.{segments_go_on, segments_end, segments_done}
 use Rattle.boot_codec.proofs.lists.segments.Goals as goal
 
-pub returns-in_err-next-clause-gives : goal.returns-in_err-next-clause-gives
-returns-in_err-next-clause-gives c =
-    let p = err_from_is_err_and c.from_residual-in_err-next.result c.from_residual-in_err-next.ensures.1 in
-    rw (p.1, p.2) (segments_end c.in_err-next.field-0.0 c.args.slots c.args.units c.loop.segments c.args.count c.loop.counter c.loop.rest.now _ c.loop-test.true c.in_err-next.ensures c.loop.invariant.1)
+pub returns-in_err-rest-clause-gives : goal.returns-in_err-rest-clause-gives
+returns-in_err-rest-clause-gives c =
+    let p = err_from_is_err_and c.from_residual-in_err-rest.result c.from_residual-in_err-rest.ensures.1 in
+    rw (p.1, p.2) (segments_end c.in_err-rest.field-0.0 c.args.slots c.args.units c.loop.segments c.args.count c.loop.counter c.loop.rest.now _ c.loop-test.true c.in_err-rest.ensures c.loop.invariant.1)
 
 pub loop-preserved : goal.loop-preserved
 loop-preserved c =
-    let next = c.in_ok-next.next in
+    let next = c.segment.new.into in
     rw c.in_ok-push.ensures.ok (
       omega (arith, length-append c.loop.segments (next ∷ []), c.loop.invariant.0),
-      segments_go_on c.args.slots c.args.units c.loop.segments c.args.count c.loop.counter c.loop.rest.now next c.in_ok-next.after.now _ c.loop-test.true c.in_ok-next.ensures c.loop.invariant.1,
+      segments_go_on c.args.slots c.args.units c.loop.segments c.args.count c.loop.counter c.loop.rest.now next c.in_ok-rest.rest.now _ c.loop-test.true c.in_ok-rest.ensures c.loop.invariant.1,
     )
 
 pub returns-clause-gives : goal.returns-clause-gives
