@@ -1,4 +1,4 @@
-ghost use Rattle.std.specs.Prelude.{◌≡◌, ◌<◌, ◌≤◌, ◌&&◌, nat_le, nat_lt, length, drop, IfOk, IsTrue, Ok};
+ghost use Rattle.std.specs.Prelude.{◌≡◌, ◌<◌, ◌≤◌, ◌&&◌, nat_le, nat_lt, length, drop, [], IfOk, OnOk, IsTrue, Ok};
 ghost use Rattle.boot_codec.specs.Reading.{Gives, place_from, places_from, segment, segments, tag_from, facts, segment_count, patch, patches, patch_count, frontier_count, lists};
 
 use crate::bad_record::ReadError;
@@ -8,7 +8,7 @@ use crate::limits::{
 };
 use crate::patch::{Patch, PatchSegment, Patches, Segments};
 use pur_base::{BOOT_UNITS, Place, Places, SEGMENT_SHARDS};
-use std::alloc::Global;
+use std::alloc::{AllocError, Global};
 
 /// A data unit on that slot or a greater one.
 #[tactic(auto, unfolding(crate::specs::Reading::place_from))]
@@ -106,25 +106,25 @@ fn segment<'a>(
     places(rest, slots, units, &mut into.places)
 }
 
-/// So many segments.
-fn segments(
-    alloc: Global,
+/// Reads so many segments. What it has read stays after a fault.
+fn segments<'a>(
     count: u16,
-    bytes: &[u8],
+    bytes: &'a [u8],
     slots: u8,
     units: u16,
-) -> Result<(Segments, &[u8]), ReadError>
-    ensures gives { Gives (λ x. (x.0, x.1.now)) result (segments slots units count bytes.now) }
-    ensures count { IfOk result (λ x. length x.0 ≡ count) }
+    into: &mut Segments,
+) -> Result<&'a [u8], ReadError>
+    requires { into.old ≡ [] }
+    ensures gives { Gives (λ rest. (into.new, rest.now)) result (segments slots units count bytes.now) }
+    ensures count { OnOk result (length into.new ≡ count) }
 {
-    let mut segments = Segments::with_capacity(alloc, count as usize)?;
     let mut rest = bytes;
     for _ in 0..count {
         let mut next = PatchSegment::default();
         rest = segment(rest, slots, units, &mut next)?;
-        segments.push(next)?;
+        into.push(next)?;
     }
-    Ok((segments, rest))
+    Ok(rest)
 }
 
 /// A tag that is that one or a greater one.
@@ -167,29 +167,42 @@ fn segment_count(bytes: &[u8], facts: u32, room: u16) -> Result<(u16, &[u8]), Re
     }
 }
 
-/// A patch of that tag or a greater one, with at most so many segments.
+/// Reads a patch of that tag or a greater one, with at most so many segments.
 #[tactic(auto, unfolding(crate::specs::Reading::patch))]
-fn patch(
+fn patch<'a>(
     alloc: Global,
-    bytes: &[u8],
+    bytes: &'a [u8],
     slots: u8,
     units: u16,
     least: u8,
     room: u16,
-) -> Result<(Patch, &[u8]), ReadError>
-    ensures gives { Gives (λ x. (x.0, x.1.now)) result (patch slots units least room bytes.now) }
-    ensures room { IfOk result (λ x. length x.0.segments ≤ room) }
+    into: &mut Patch,
+) -> Result<&'a [u8], ReadError>
+    ensures gives { Gives (λ rest. (into.new, rest.now)) result (patch slots units least room bytes.now) }
+    ensures room { OnOk result (length into.new.segments ≤ room) }
 {
     let (tag, rest) = tag_from(bytes, least)?;
     let (facts, rest) = facts(rest)?;
     let (count, rest) = segment_count(rest, facts, room)?;
-    let (segments, rest) = segments(alloc, count, rest, slots, units)?;
-    let patch = Patch {
-        tag,
-        facts,
-        segments,
-    };
-    Ok((patch, rest))
+    into.tag = tag;
+    into.facts = facts;
+    into.segments = Segments::with_capacity(alloc, count as usize)?;
+    segments(count, rest, slots, units, &mut into.segments)
+}
+
+/// So many blank patches, which are read into where they stay.
+fn blank_patches(alloc: Global, count: u16) -> Result<Vec<Patch>, AllocError>
+    ensures { IfOk result (λ patches. length patches.items ≡ count) }
+{
+    let mut patches = Vec::with_capacity(alloc, count as usize)?;
+    for _ in 0..count {
+        patches.push(Patch {
+            tag: 0,
+            facts: 0,
+            segments: Segments::new(alloc),
+        })?;
+    }
+    Ok(patches)
 }
 
 /// So many patches by ascending tag.
@@ -202,18 +215,16 @@ fn patches(
 ) -> Result<(Patches, &[u8]), ReadError>
     ensures { Gives (λ x. (x.0, x.1.now)) result (patches slots units 1 PATCH_SEGMENTS count bytes.now) }
 {
-    let mut patches = Patches::with_capacity(alloc, count as usize)?;
+    let mut patches = blank_patches(alloc, count)?;
     let mut rest = bytes;
     let mut least = 1;
     let mut room = PATCH_SEGMENTS;
-    for _ in 0..count {
-        let (next, after) = patch(alloc, rest, slots, units, least, room)?;
+    for next in patches.iter_mut() {
+        rest = patch(alloc, rest, slots, units, least, room, next)?;
         least = next.tag;
         room -= next.segments.as_slice().len() as u16;
-        patches.push(next)?;
-        rest = after;
     }
-    Ok((patches, rest))
+    Ok((Patches::from_vec(patches), rest))
 }
 
 /// The number of patches.

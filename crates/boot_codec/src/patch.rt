@@ -14,6 +14,11 @@ pub struct PatchSegment {
 
 /// A blank segment, as room for one is filled.
 impl Default for PatchSegment {
+    ghost use Rattle.std.specs.Prelude.{replicate};
+    ghost use Rattle.pur_base.specs.declared.limits.TheConstants.{SEGMENT_SHARDS};
+
+    ghost is_default = { λ s. (s.id ≡ 0) × (s.places ≡ replicate SEGMENT_SHARDS (record { slot = 0; unit = 0 })) };
+
     fn default() -> PatchSegment {
         PatchSegment {
             id: 0,
@@ -48,7 +53,7 @@ impl Segments {
     }
 
     /// No segments yet, and memory for so many. It fails for want of memory only.
-    pub fn with_capacity(alloc: Global, count: usize) -> Result<Segments, AllocError>
+    pub(crate) fn with_capacity(alloc: Global, count: usize) -> Result<Segments, AllocError>
         ensures { IfOk result (λ segments. segments ≡ []) }
     {
         let items = SmallVec::with_capacity(alloc, count)?;
@@ -104,12 +109,11 @@ impl Patches {
         }
     }
 
-    /// No patches yet, and memory for so many. It fails for want of memory only.
-    pub fn with_capacity(alloc: Global, count: usize) -> Result<Patches, AllocError>
-        ensures { IfOk result (λ patches. patches ≡ []) }
+    /// These patches.
+    pub(crate) fn from_vec(items: Vec<Patch>) -> Patches
+        ensures { result ≡ items.items }
     {
-        let items = Vec::with_capacity(alloc, count)?;
-        Ok(Patches { items })
+        Patches { items }
     }
 
     /// Adds a patch at the end. It fails for want of memory only, and changes nothing then.

@@ -12,8 +12,7 @@ loop-shard-preserved c =
     let place : Place = record { slot = get_or bytes at 0; unit = c.from_be_bytes-unit.result } in
     let next : at + 3 ≡ 3 * (c.loop-shard.shard + 1) = omega arith in
     let here = place_here c.args.slots c.args.units c.loop-shard.least bytes at place (omega arith) refl c.from_be_bytes-unit.ensures (sym c.if-not-is_place_from.ensures) in
-    let read : place_from c.args.slots c.args.units c.loop-shard.least (drop at bytes) ≡ Ok (place, drop (3 * (c.loop-shard.shard + 1)) bytes) = here ∙ ap (λ (n : ℕ). Ok (place, drop n bytes)) next in
-    (
+    let read : place_from c.args.slots c.args.units c.loop-shard.least (drop at bytes) ≡ Ok (place, drop (3 * (c.loop-shard.shard + 1)) bytes) = here ∙ ap (λ (n : ℕ). Ok (place, drop n bytes)) next in (
       length-set c.loop-shard.into c.loop-shard.shard place ∙ c.loop-shard.invariant.0,
       places_go_on c.args.slots c.args.units c.loop-shard.least c.loop-shard.into 9 c.loop-shard.shard (drop at bytes) place (drop (3 * (c.loop-shard.shard + 1)) bytes) _ c.loop-shard.invariant.0 c.loop-shard-test.true read c.loop-shard.invariant.1,
     )

@@ -5,16 +5,16 @@ use Rattle.boot_codec.proofs.lists.segments.Goals as goal
 
 pub returns-in_err-rest-clause-gives : goal.returns-in_err-rest-clause-gives
 returns-in_err-rest-clause-gives c =
-    let p = err_from_is_err_and c.from_residual-in_err-rest.result c.from_residual-in_err-rest.ensures.1 in
-    rw (p.1, p.2) (segments_end c.in_err-rest.field-0.0 c.args.slots c.args.units c.loop.segments c.args.count c.loop.counter c.loop.rest.now _ c.loop-test.true c.in_err-rest.ensures c.loop.invariant.1)
+    let p = err_from_is_err_and c.from_residual.result c.from_residual.ensures.1 in
+    rw (p.1, p.2) (segments_end c.in_err-rest.field-0.0 c.args.slots c.args.units c.loop.into c.args.count c.loop.counter c.loop.rest.now _ c.loop-test.true c.in_err-rest.ensures c.loop.invariant.1)
 
 pub loop-preserved : goal.loop-preserved
 loop-preserved c =
     let next = c.segment.new.into in
     rw c.in_ok-push.ensures.ok (
-      omega (arith, length-append c.loop.segments (next ∷ []), c.loop.invariant.0),
-      segments_go_on c.args.slots c.args.units c.loop.segments c.args.count c.loop.counter c.loop.rest.now next c.in_ok-rest.rest.now _ c.loop-test.true c.in_ok-rest.ensures c.loop.invariant.1,
+      omega (arith, length-append c.loop.into (next ∷ []), c.loop.invariant.0),
+      segments_go_on c.args.slots c.args.units c.loop.into c.args.count c.loop.counter c.loop.rest.now next c.in_ok-rest.rest.now _ c.loop-test.true c.in_ok-rest.ensures c.loop.invariant.1,
     )
 
 pub returns-clause-gives : goal.returns-clause-gives
-returns-clause-gives c = segments_done c.args.slots c.args.units c.loop.segments c.args.count c.loop.counter c.loop.rest.now _ c.loop-test.false c.loop.invariant.1
+returns-clause-gives c = segments_done c.args.slots c.args.units c.loop.into c.args.count c.loop.counter c.loop.rest.now _ c.loop-test.false c.loop.invariant.1
