@@ -186,7 +186,8 @@ fn patch<'a>(
     let (count, rest) = segment_count(rest, facts, room)?;
     into.tag = tag;
     into.facts = facts;
-    into.segments = Segments::with_capacity(alloc, count as usize)?;
+    into.segments = Segments::new(alloc);
+    into.segments.reserve(count as usize)?;
     segments(count, rest, slots, units, &mut into.segments)
 }
 

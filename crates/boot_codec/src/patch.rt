@@ -52,12 +52,11 @@ impl Segments {
         }
     }
 
-    /// No segments yet, and memory for so many. It fails for want of memory only.
-    pub(crate) fn with_capacity(alloc: Global, count: usize) -> Result<Segments, AllocError>
-        ensures { IfOk result (λ segments. segments ≡ []) }
+    /// Makes room for so many more. It fails for want of memory only, and changes no segment.
+    pub(crate) fn reserve(&mut self, count: usize) -> Result<(), AllocError>
+        ensures { self.new ≡ self.old }
     {
-        let items = SmallVec::with_capacity(alloc, count)?;
-        Ok(Segments { items })
+        self.items.reserve_exact(count)
     }
 
     /// Adds a segment at the end. It fails for want of memory only, and changes nothing then.
