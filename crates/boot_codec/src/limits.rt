@@ -41,3 +41,6 @@ pub const PLACE_BYTES: usize = 3;
 
 /// The bytes of a segment's places in a record.
 pub const PLACES_BYTES: usize = SEGMENT_SHARDS * PLACE_BYTES;
+
+/// The bytes of a segment in a record: its id and its places.
+pub const SEGMENT_BYTES: usize = 8 + PLACES_BYTES;

@@ -1,10 +1,11 @@
-ghost use Rattle.std.specs.Prelude.{◌≡◌, ◌<◌, ◌≤◌, ◌&&◌, nat_le, nat_lt, length, drop, [], IfOk, OnOk, IsTrue, Ok};
-ghost use Rattle.boot_codec.specs.Reading.{Gives, place_from, places_from, segment, segments, tag_from, facts, segment_count, patch, patches, patch_count, frontier_count, lists};
+ghost use Rattle.std.specs.Prelude.{◌≡◌, ◌<◌, ◌≤◌, ◌+◌, ◌&&◌, nat_le, nat_lt, length, drop, [], IfOk, OnOk, IsTrue, Ok};
+ghost use Rattle.boot_codec.specs.Reading.{Gives, with_front, place_from, places_from, segment, segments, tag_from, facts, segment_count, patch, patches, patch_count, frontier_count, lists};
 
 use crate::bad_record::ReadError;
 use crate::front::{fault_at, u8_at, u16_at, u32_at, u64_at};
 use crate::limits::{
-    FACTS_PER_SEGMENT, PATCH_SEGMENTS, PATCHES, PLACE_BYTES, PLACES_BYTES, RECORD_BYTES, TAG_MAX,
+    FACTS_PER_SEGMENT, PATCH_SEGMENTS, PATCHES, PLACE_BYTES, PLACES_BYTES, RECORD_BYTES,
+    SEGMENT_BYTES, TAG_MAX,
 };
 use crate::patch::{Patch, PatchSegment, Patches, Segments};
 use pur_base::{BOOT_UNITS, Place, Places, SEGMENT_SHARDS};
@@ -27,10 +28,8 @@ fn place_from(bytes: &[u8], slots: u8, units: u16, least: u8) -> Result<(Place, 
     Ok((Place { slot, unit }, after))
 }
 
-/// Nine data units on ascending slots, one after the other, which finds the first fault.
-#[cold]
-#[inline(never)]
-fn places_in_turn(bytes: &[u8], slots: u8, units: u16) -> Result<(Places, &[u8]), ReadError>
+/// Nine data units on ascending slots.
+fn places(bytes: &[u8], slots: u8, units: u16) -> Result<(Places, &[u8]), ReadError>
     ensures { Gives (λ x. (x.0, x.1.now)) result (places_from slots units 0 SEGMENT_SHARDS bytes.now) }
 {
     let mut places = [Place { slot: 0, unit: 0 }; SEGMENT_SHARDS];
@@ -54,7 +53,7 @@ fn is_place_from(place: Place, slots: u8, units: u16, least: u16) -> bool
     slot && unit
 }
 
-/// Whether these are nine data units on ascending slots, which it writes then. It returns nothing larger than that.
+/// Reads nine data units on ascending slots of which none is to be blamed, and says whether they are.
 fn places_at_once(bytes: &[u8], slots: u8, units: u16, into: &mut Places) -> bool
     requires { PLACES_BYTES ≤ length bytes.now }
     ensures { IsTrue result → places_from slots units 0 SEGMENT_SHARDS bytes.now ≡ Ok (into.new, drop PLACES_BYTES bytes.now) }
@@ -74,36 +73,46 @@ fn places_at_once(bytes: &[u8], slots: u8, units: u16, into: &mut Places) -> boo
     true
 }
 
-/// Reads nine data units on ascending slots.
-fn places<'a>(
-    bytes: &'a [u8],
-    slots: u8,
-    units: u16,
-    into: &mut Places,
-) -> Result<&'a [u8], ReadError>
-    ensures { Gives (λ rest. (into.new, rest.now)) result (places_from slots units 0 SEGMENT_SHARDS bytes.now) }
-{
-    if PLACES_BYTES <= bytes.len() && places_at_once(bytes, slots, units, into) {
-        return Ok(&bytes[PLACES_BYTES..]);
-    }
-    let (places, rest) = places_in_turn(bytes, slots, units)?;
-    *into = places;
-    Ok(rest)
-}
-
-/// Reads a segment: any id, and its nine places.
-#[tactic(auto, unfolding(crate::specs::Reading::segment))]
-fn segment<'a>(
-    bytes: &'a [u8],
-    slots: u8,
-    units: u16,
-    into: &mut PatchSegment,
-) -> Result<&'a [u8], ReadError>
-    ensures { Gives (λ rest. (into.new, rest.now)) result (segment slots units bytes.now) }
+/// Reads a segment in which nothing is to be blamed, and says whether it is one.
+fn segment_at_once(bytes: &[u8], slots: u8, units: u16, into: &mut PatchSegment) -> bool
+    requires { SEGMENT_BYTES ≤ length bytes.now }
+    ensures { IsTrue result → segment slots units bytes.now ≡ Ok (into.new, drop SEGMENT_BYTES bytes.now) }
 {
     let (id, rest) = u64_at(bytes);
     into.id = id;
-    places(rest, slots, units, &mut into.places)
+    places_at_once(rest, slots, units, &mut into.places)
+}
+
+/// A segment: any id, and its nine places.
+#[tactic(auto, unfolding(crate::specs::Reading::segment))]
+fn segment(bytes: &[u8], slots: u8, units: u16) -> Result<(PatchSegment, &[u8]), ReadError>
+    ensures { Gives (λ x. (x.0, x.1.now)) result (segment slots units bytes.now) }
+{
+    let (id, rest) = u64_at(bytes);
+    let (places, rest) = places(rest, slots, units)?;
+    Ok((PatchSegment { id, places }, rest))
+}
+
+/// Reads so many segments behind others, field by field, which finds the first fault.
+#[cold]
+#[inline(never)]
+fn segments_in_turn<'a>(
+    count: u16,
+    bytes: &'a [u8],
+    slots: u8,
+    units: u16,
+    into: &mut Segments,
+) -> Result<&'a [u8], ReadError>
+    ensures gives { Gives (λ rest. (into.new, rest.now)) result (with_front into.old (segments slots units count bytes.now)) }
+    ensures count { OnOk result (length into.new ≡ length into.old + count) }
+{
+    let mut rest = bytes;
+    for _ in 0..count {
+        let (next, after) = segment(rest, slots, units)?;
+        into.push(next)?;
+        rest = after;
+    }
+    Ok(rest)
 }
 
 /// Reads so many segments. What it has read stays after a fault.
@@ -119,10 +128,13 @@ fn segments<'a>(
     ensures count { OnOk result (length into.new ≡ count) }
 {
     let mut rest = bytes;
-    for _ in 0..count {
+    for i in 0..count {
         let mut next = PatchSegment::default();
-        rest = segment(rest, slots, units, &mut next)?;
+        if rest.len() < SEGMENT_BYTES || !segment_at_once(rest, slots, units, &mut next) {
+            return segments_in_turn(count - i, rest, slots, units, into);
+        }
         into.push(next)?;
+        rest = &rest[SEGMENT_BYTES..];
     }
     Ok(rest)
 }

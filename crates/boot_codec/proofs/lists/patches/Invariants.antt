@@ -1,6 +1,5 @@
 use Rattle.std.proofs.Common.{◌≡◌, ◌-◌, length, take}
-use Rattle.boot_codec.specs.Reading.{patches}
-use Rattle.boot_codec.proofs.LoopLemmas.{with_front}
+use Rattle.boot_codec.specs.Reading.{with_front, patches}
 use Rattle.boot_codec.proofs.lists.patches.Given as goal
 
 abbrev pub invariant-loop-next : goal.invariant-loop-next
