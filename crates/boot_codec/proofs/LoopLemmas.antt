@@ -80,14 +80,6 @@ patches_go_on slots units least room front count i bytes first after total lt h 
     let one : with_front front (patches slots units least room (count - i) bytes) ≡ with_front (front ++ first ∷ []) (patches slots units first.tag (room - length first.segments) (count - (i + 1)) after) = rw (k, h) (regroup front first (patches slots units first.tag (room - length first.segments) (count - (i + 1)) after)) in
     sym one ∙ so_far
 
--- one patch more in a list of them
-pub patches_set : (slots units least room : ℕ) (patches_so_far : List Patch) (count i : ℕ) (bytes : List ℕ) (first : Patch) (after : List ℕ) (total : Result (List Patch × List ℕ) BadRecord)
-    → length patches_so_far ≡ count → i < count → patch slots units least room bytes ≡ Ok (first, after) → with_front (take i patches_so_far) (patches slots units least room (count - i) bytes) ≡ total
-    → with_front (take (i + 1) (set patches_so_far i first)) (patches slots units first.tag (room - length first.segments) (count - (i + 1)) after) ≡ total
-patches_set slots units least room ps count i bytes first after total len lt h so_far =
-    let more : take (i + 1) (set ps i first) ≡ take i ps ++ first ∷ [] = rw add-one (take-suc-set ps i first (omega arith)) in
-    ap (λ (front : List Patch). with_front front (patches slots units first.tag (room - length first.segments) (count - (i + 1)) after)) more ∙ patches_go_on slots units least room (take i ps) count i bytes first after total lt h so_far
-
 pub patches_end : (e : ReadError) (slots units least room : ℕ) (front : List Patch) (count i : ℕ) (bytes : List ℕ) (total : Result (List Patch × List ℕ) BadRecord)
     → i < count → Fails e (patch slots units least room bytes) → with_front front (patches slots units least room (count - i) bytes) ≡ total → Fails e total
 unfolding patches
@@ -97,11 +89,10 @@ patches_end (errors.Bad f) slots units least room front count i bytes total lt h
     let one : with_front front (patches slots units least room (count - i) bytes) ≡ Err f = rw (k, h) refl in
     sym so_far ∙ one
 
-pub patches_full : (slots units least room : ℕ) (all : List Patch) (count i : ℕ) (bytes : List ℕ) (total : Result (List Patch × List ℕ) BadRecord)
-    → length all ≡ count → i ≡ count → with_front (take i all) (patches slots units least room (count - i) bytes) ≡ total → total ≡ Ok (all, bytes)
+pub patches_done : (slots units least room : ℕ) (front : List Patch) (count i : ℕ) (bytes : List ℕ) (total : Result (List Patch × List ℕ) BadRecord)
+    → count ≤ i → with_front front (patches slots units least room (count - i) bytes) ≡ total → total ≡ Ok (front, bytes)
 unfolding patches
-patches_full slots units least room all count i bytes total len e so_far =
+patches_done slots units least room front count i bytes total le so_far =
     let k : count - i ≡ 0 = omega arith in
-    let whole : take i all ≡ all = ap (λ (n : ℕ). take n all) (e ∙ sym len) ∙ take-length all in
-    let one : with_front (take i all) (patches slots units least room (count - i) bytes) ≡ Ok (all, bytes) = rw (k, whole) (ap (λ (xs : List Patch). Ok (xs, bytes)) (append-nil all)) in
+    let one : with_front front (patches slots units least room (count - i) bytes) ≡ Ok (front, bytes) = rw k (ap (λ (xs : List Patch). Ok (xs, bytes)) (append-nil front)) in
     sym so_far ∙ one

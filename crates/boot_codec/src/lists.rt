@@ -1,5 +1,5 @@
-ghost use Rattle.std.specs.Prelude.{◌≡◌, ◌<◌, ◌≤◌, ◌+◌, ◌&&◌, nat_le, nat_lt, length, drop, [], IfOk, OnOk, IsTrue, Ok};
-ghost use Rattle.boot_codec.specs.Reading.{Gives, with_front, place_from, places_from, segment, segments, tag_from, facts, segment_count, patch, patches, patch_count, frontier_count, lists};
+ghost use Rattle.std.specs.Prelude.{◌≡◌, ◌<◌, ◌≤◌, ◌+◌, ◌&&◌, nat_le, nat_lt, length, drop, [], ◌∷◌, ◌++◌, IfOk, OnOk, IsTrue, Ok};
+ghost use Rattle.boot_codec.specs.Reading.{Gives, with_front, last_of, place_from, places_from, segment, segments, tag_from, facts, segment_count, patch, patches, patch_count, frontier_count, lists};
 
 use crate::bad_record::ReadError;
 use crate::front::{fault_at, u8_at, u16_at, u32_at, u64_at};
@@ -9,7 +9,7 @@ use crate::limits::{
 };
 use crate::patch::{Patch, PatchSegment, Patches, Segments};
 use pur_base::{BOOT_UNITS, Place, Places, SEGMENT_SHARDS};
-use std::alloc::{AllocError, Global};
+use std::alloc::Global;
 
 /// A data unit on that slot or a greater one.
 #[tactic(auto, unfolding(crate::specs::Reading::place_from))]
@@ -179,7 +179,7 @@ fn segment_count(bytes: &[u8], facts: u32, room: u16) -> Result<(u16, &[u8]), Re
     }
 }
 
-/// Reads a patch of that tag or a greater one, with at most so many segments.
+/// Reads a patch of that tag or a greater one, with at most so many segments, behind the others. After a fault a part of it may stay.
 #[tactic(auto, unfolding(crate::specs::Reading::patch))]
 fn patch<'a>(
     alloc: Global,
@@ -188,34 +188,24 @@ fn patch<'a>(
     units: u16,
     least: u8,
     room: u16,
-    into: &mut Patch,
+    into: &mut Vec<Patch>,
 ) -> Result<&'a [u8], ReadError>
-    ensures gives { Gives (λ rest. (into.new, rest.now)) result (patch slots units least room bytes.now) }
-    ensures room { OnOk result (length into.new.segments ≤ room) }
+    ensures gives { Gives (λ rest. (last_of into.new.items, rest.now)) result (patch slots units least room bytes.now) }
+    ensures behind { OnOk result (into.new.items ≡ into.old.items ++ last_of into.new.items ∷ []) }
+    ensures room { OnOk result (length (last_of into.new.items).segments ≤ room) }
 {
     let (tag, rest) = tag_from(bytes, least)?;
     let (facts, rest) = facts(rest)?;
     let (count, rest) = segment_count(rest, facts, room)?;
-    into.tag = tag;
-    into.facts = facts;
-    into.segments = Segments::new(alloc);
-    into.segments.reserve(count as usize)?;
-    segments(count, rest, slots, units, &mut into.segments)
-}
-
-/// So many blank patches, which are read into where they stay.
-fn blank_patches(alloc: Global, count: u16) -> Result<Vec<Patch>, AllocError>
-    ensures { IfOk result (λ patches. length patches.items ≡ count) }
-{
-    let mut patches = Vec::with_capacity(alloc, count as usize)?;
-    for _ in 0..count {
-        patches.push(Patch {
-            tag: 0,
-            facts: 0,
-            segments: Segments::new(alloc),
-        })?;
-    }
-    Ok(patches)
+    let place = into.as_slice().len();
+    into.push(Patch {
+        tag,
+        facts,
+        segments: Segments::new(alloc),
+    })?;
+    let segments_of = &mut into[place].segments;
+    segments_of.reserve(count as usize)?;
+    segments(count, rest, slots, units, segments_of)
 }
 
 /// So many patches by ascending tag.
@@ -228,12 +218,13 @@ fn patches(
 ) -> Result<(Patches, &[u8]), ReadError>
     ensures { Gives (λ x. (x.0, x.1.now)) result (patches slots units 1 PATCH_SEGMENTS count bytes.now) }
 {
-    let mut patches = blank_patches(alloc, count)?;
+    let mut patches = Vec::with_capacity(alloc, count as usize)?;
     let mut rest = bytes;
     let mut least = 1;
     let mut room = PATCH_SEGMENTS;
-    for next in patches.iter_mut() {
-        rest = patch(alloc, rest, slots, units, least, room, next)?;
+    for i in 0..count as usize {
+        rest = patch(alloc, rest, slots, units, least, room, &mut patches)?;
+        let next = &patches[i];
         least = next.tag;
         room -= next.segments.as_slice().len() as u16;
     }
