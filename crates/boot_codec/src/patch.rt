@@ -27,10 +27,10 @@ impl Default for PatchSegment {
     }
 }
 
-/// The segments of a patch, of which a lone one needs no allocation. Contracts see the list of them.
+/// The segments of a patch. Two of them need no allocation. Contracts see the list of them.
 #[derive(Drop)]
 pub struct Segments {
-    items: SmallVec<PatchSegment, 1>,
+    items: SmallVec<PatchSegment, 2>,
 }
 
 impl Model for Segments {

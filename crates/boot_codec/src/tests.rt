@@ -31,81 +31,76 @@ fn new_record(alloc: Global) -> BootRecord
     }
 }
 
-/// The fault of a field that begins at that place, where that byte stands.
-const fn fault(place: usize, byte: u8) -> Option<BadRecord> {
-    Some(BadRecord { place, byte })
-}
-
-/// What becomes of that record when a byte is raised by one, 255 to 0: its fault, or `None` where it is another lawful record.
+/// What becomes of that record when a byte is raised by one, 255 to 0: the place and the byte of its fault, or `None` where it is another lawful record.
 /// A row serves its byte and those after it up to the next row. Made by hand from docs/FORMAT.md.
-const RAISED: [(usize, Option<BadRecord>); 46] = [
+const RAISED: [(usize, Option<(usize, u8)>); 46] = [
     // PURARRAY
-    (0, fault(0, b'Q')),
-    (1, fault(1, b'V')),
-    (2, fault(2, b'S')),
-    (3, fault(3, b'B')),
-    (4, fault(4, b'S')),
-    (5, fault(5, b'S')),
-    (6, fault(6, b'B')),
-    (7, fault(7, b'Z')),
+    (0, Some((0, b'Q'))),
+    (1, Some((1, b'V'))),
+    (2, Some((2, b'S'))),
+    (3, Some((3, b'B'))),
+    (4, Some((4, b'S'))),
+    (5, Some((5, b'S'))),
+    (6, Some((6, b'B'))),
+    (7, Some((7, b'Z'))),
     // the format
-    (8, fault(8, 1)),
-    (9, fault(8, 0)),
+    (8, Some((8, 1))),
+    (9, Some((8, 0))),
     // the slots
-    (12, fault(12, 1)),
-    (13, fault(12, 0)),
+    (12, Some((12, 1))),
+    (13, Some((12, 0))),
     // the units of a drive
-    (14, fault(14, 1)),
-    (15, fault(14, 0)),
+    (14, Some((14, 1))),
+    (15, Some((14, 0))),
     // the generation: too great by its first two bytes
-    (16, fault(16, 1)),
-    (17, fault(16, 0)),
+    (16, Some((16, 1))),
+    (17, Some((16, 0))),
     (18, None),
     // the member drives: three bits past the slots, and then too few
-    (24, fault(24, 1)),
-    (25, fault(24, 0)),
+    (24, Some((24, 1))),
+    (25, Some((24, 0))),
     // the member NVRAM devices: a third one
-    (28, fault(28, 4)),
+    (28, Some((28, 4))),
     // three zeros
-    (29, fault(29, 1)),
-    (30, fault(30, 1)),
-    (31, fault(31, 1)),
+    (29, Some((29, 1))),
+    (30, Some((30, 1))),
+    (31, Some((31, 1))),
     // the next object id
-    (32, fault(32, 1)),
-    (33, fault(32, 0)),
+    (32, Some((32, 1))),
+    (33, Some((32, 0))),
     (34, None),
     // the next medium id
-    (40, fault(40, 1)),
-    (41, fault(40, 0)),
+    (40, Some((40, 1))),
+    (41, Some((40, 0))),
     (42, None),
     // the next data segment id
-    (48, fault(48, 1)),
-    (49, fault(48, 0)),
+    (48, Some((48, 1))),
+    (49, Some((48, 0))),
     (50, None),
     // the next patch segment id
-    (56, fault(56, 1)),
-    (57, fault(56, 0)),
+    (56, Some((56, 1))),
+    (57, Some((56, 0))),
     (58, None),
     // the next sequence number
-    (64, fault(64, 1)),
-    (65, fault(64, 0)),
+    (64, Some((64, 1))),
+    (65, Some((64, 0))),
     (66, None),
     // the last logged command
-    (72, fault(72, 1)),
-    (73, fault(72, 0)),
+    (72, Some((72, 1))),
+    (73, Some((72, 0))),
     (74, None),
     // the number of patches: 256 or 1, where the first has no tag
-    (80, fault(88, 0)),
+    (80, Some((88, 0))),
     // the number of frontier units
-    (82, fault(82, 1)),
-    (83, fault(82, 0)),
+    (82, Some((82, 1))),
+    (83, Some((82, 0))),
     // the length
-    (84, fault(84, 1)),
-    (85, fault(84, 0)),
+    (84, Some((84, 1))),
+    (85, Some((84, 0))),
 ];
 
 /// The row that serves a byte.
-fn raised(index: usize) -> Option<BadRecord> {
+fn raised(index: usize) -> Option<(usize, u8)> {
     let mut expected = None;
     for (first, fault) in RAISED {
         if first <= index {
@@ -253,7 +248,9 @@ fn one_byte_raised(rt: HostRuntime) {
                 write_record(&other, &mut again);
                 assert!(rt; bytes[..] == again[..], "byte {index}");
             }
-            Err(ReadError::Bad(bad)) => assert_eq!(rt; Some(bad), raised(index), "byte {index}"),
+            Err(ReadError::Bad(bad)) => {
+                assert_eq!(rt; Some((bad.place, bad.byte)), raised(index), "byte {index}");
+            }
             Err(ReadError::Memory(_)) => assert!(rt; false, "memory"),
         }
         bytes[index] = was;
