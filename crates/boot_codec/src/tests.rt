@@ -110,25 +110,24 @@ fn raised(index: usize) -> Option<(usize, u8)> {
     expected
 }
 
-/// A segment, with its id and its nine places.
-const SEGMENT: [u8; 35] = [
-    0, 0, 0, 0, 0, 0, 1, 2, // 258
+/// What stands from the number of patches on, in a record with two of them that ends at 207.
+const PATCHES_BY_HAND: [u8; 127] = [
+    0, 2, 0, 0, 0, 0, 0, 207, // two patches, no frontier units, the length
+    1, 0, 0, 26, 64, 0, 1, // 6,720 object facts in one segment
+    0, 0, 0, 0, 0, 0, 1, 2, // segment 258
+    0, 0, 3, 1, 0, 63, 2, 0, 5, 3, 0, 6, 4, 0, 7, 5, 0, 8, 6, 0, 9, 8, 0, 10, 10, 0, 11, 5, 0, 0,
+    26, 65, 0, 2, // 6,721 elision facts in two segments
+    0, 0, 0, 0, 0, 0, 1, 2, // segment 258
+    0, 0, 3, 1, 0, 63, 2, 0, 5, 3, 0, 6, 4, 0, 7, 5, 0, 8, 6, 0, 9, 8, 0, 10, 10, 0, 11, 0, 0, 0,
+    0, 0, 0, 1, 2, // segment 258
     0, 0, 3, 1, 0, 63, 2, 0, 5, 3, 0, 6, 4, 0, 7, 5, 0, 8, 6, 0, 9, 8, 0, 10, 10, 0, 11,
 ];
 
-/// What stands before the segments of a patch of 6,720 object facts, and of one of 6,721 elision facts.
-const HEADS: [[u8; 7]; 2] = [[1, 0, 0, 26, 64, 0, 1], [5, 0, 0, 26, 65, 0, 2]];
-
-/// The bytes of a record with both patches, which ends at 207.
+/// The bytes of that record.
 fn bytes_of_patches(alloc: Global) -> [u8; RECORD_BYTES] {
     let mut bytes = [0; RECORD_BYTES];
     write_record(&new_record(alloc), &mut bytes);
-    bytes[80..88].copy_from_slice(&[0, 2, 0, 0, 0, 0, 0, 207]);
-    bytes[88..95].copy_from_slice(&HEADS[0]);
-    bytes[95..130].copy_from_slice(&SEGMENT);
-    bytes[130..137].copy_from_slice(&HEADS[1]);
-    bytes[137..172].copy_from_slice(&SEGMENT);
-    bytes[172..207].copy_from_slice(&SEGMENT);
+    bytes[80..207].copy_from_slice(&PATCHES_BY_HAND);
     bytes
 }
 
