@@ -53,7 +53,7 @@ fn is_place_from(place: Place, slots: u8, units: u16, least: u16) -> bool
     slot && unit
 }
 
-/// Reads nine data units on ascending slots of which none is to be blamed, and says whether they are.
+/// Whether nine data units on ascending slots stand there, which it reads then. It looks for no fault.
 fn places_at_once(bytes: &[u8], slots: u8, units: u16, into: &mut Places) -> bool
     requires { PLACES_BYTES ≤ length bytes.now }
     ensures { IsTrue result → places_from slots units 0 SEGMENT_SHARDS bytes.now ≡ Ok (into.new, drop PLACES_BYTES bytes.now) }
@@ -73,7 +73,7 @@ fn places_at_once(bytes: &[u8], slots: u8, units: u16, into: &mut Places) -> boo
     true
 }
 
-/// Reads a segment in which nothing is to be blamed, and says whether it is one.
+/// Whether a lawful segment stands there, which it reads then. It looks for no fault.
 fn segment_at_once(bytes: &[u8], slots: u8, units: u16, into: &mut PatchSegment) -> bool
     requires { SEGMENT_BYTES ≤ length bytes.now }
     ensures { IsTrue result → segment slots units bytes.now ≡ Ok (into.new, drop SEGMENT_BYTES bytes.now) }
