@@ -8,7 +8,7 @@ use Rattle.pur_base.specs.declared.facts.AnyFact.{AnyFact}
 use Rattle.pur_base.specs.declared.facts.AnyFact.TheVariants as any
 use Rattle.fact_codec.specs.declared.limits.TheConstants.{VALUE_BYTES}
 use Rattle.fact_codec.specs.declared.head.Head.{Head}
-use Rattle.fact_codec.specs.Fact.{value_bytes, target_bytes, IsTarget, FitsTarget, FitsTypes, IsFact}
+use Rattle.fact_codec.specs.Fact.{value_bytes, target_bytes, IsTarget, FitsTarget, FitsTypes, IsLawful, IsFact}
 use Rattle.fact_codec.specs.Heads.{head_of}
 
 -- what is put of a value: all up to the zeros in which it ends
@@ -22,10 +22,10 @@ IsNamed (any.Object f) = is_name f.name ≡ true
 IsNamed _ = Unit {0}
 
 -- the bytes hold this lawful name of that length
-pub record IsNameIn (len : ℕ) (bytes : List ℕ) (name : List ℕ) : Type 0 where
+pub record IsNameIn (len : ℕ) (field : List ℕ) (name : List ℕ) : Type 0 where
   pub lawful : is_name name ≡ true
   pub size : len ≡ length name
-  pub bytes : bytes ≡ padded NAME_BYTES name
+  pub bytes : field ≡ padded NAME_BYTES name
 
 -- the value holds this target
 pub record IsTargetIn (value : List ℕ) (t : Target) : Type 0 where
@@ -37,6 +37,11 @@ pub record IsValueOf (value : List ℕ) (f : AnyFact) : Type 0 where
   pub fits : FitsTypes f
   pub named : IsNamed f
   pub bytes : value ≡ padded VALUE_BYTES (value_bytes f)
+
+-- the fact is in bounds, and has this head
+pub record IsHeaded (head : Head) (f : AnyFact) : Type 0 where
+  pub lawful : IsLawful f
+  pub heads : head ≡ head_of f
 
 -- the head and the value spell this fact
 pub record IsSpelled (head : Head) (value : List ℕ) (f : AnyFact) : Type 0 where

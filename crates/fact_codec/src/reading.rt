@@ -1,8 +1,9 @@
-ghost use Rattle.std.specs.Prelude.{◌≡◌, ◌↔◌, length, Ok, IsErr, IfOk};
+ghost use Rattle.std.specs.Prelude.{◌≡◌, ◌↔◌, length, Ok, IsErr, IsTrue, IfOk};
 ghost use Rattle.pur_base.specs.declared.facts.AnyFact.{AnyFact};
 ghost use Rattle.fact_codec.specs.declared.limits.TheConstants.{VALUE_BYTES};
 ghost use Rattle.fact_codec.specs.Fact.{Decodes};
-ghost use Rattle.fact_codec.specs.Values.{IsValueOf, IsSpelled};
+ghost use Rattle.fact_codec.specs.Heads.{FitsHead};
+ghost use Rattle.fact_codec.specs.Values.{IsHeaded, IsNamed, IsValueOf, IsSpelled};
 
 use crate::head::{Head, head_in};
 use crate::lawful::is_lawful;
@@ -16,7 +17,8 @@ pub struct BadFact;
 
 /// The fact that the head and the value give. Whether it is in bounds and has that head isn't judged yet.
 fn fact_in(head: &Head, value: &[u8]) -> Result<AnyFact, BadFact>
-    requires { length value.now ≡ VALUE_BYTES }
+    requires head { FitsHead head.now }
+    requires value { length value.now ≡ VALUE_BYTES }
     ensures ok { IfOk result (λ fact. IsValueOf value.now fact) }
     ensures complete { (fact : AnyFact) → IsSpelled head.now value.now fact → result ≡ Ok fact }
 {
@@ -32,6 +34,14 @@ fn fact_in(head: &Head, value: &[u8]) -> Result<AnyFact, BadFact>
     })
 }
 
+/// Whether a fact with a lawful name is in bounds, and has that head.
+fn is_headed(head: &Head, fact: &AnyFact) -> bool
+    requires { IsNamed fact.now }
+    ensures { IsTrue result ↔ IsHeaded head.now fact.now }
+{
+    *head == Head::of(fact) && is_lawful(fact)
+}
+
 /// The fact that the bytes spell, or `BadFact` where they spell none.
 pub fn read_fact(bytes: &[u8; FACT_BYTES]) -> Result<AnyFact, BadFact>
     // What is read is lawful, and spelled so.
@@ -42,7 +52,7 @@ pub fn read_fact(bytes: &[u8; FACT_BYTES]) -> Result<AnyFact, BadFact>
 {
     let (head, value) = head_in(bytes);
     let fact = fact_in(&head, value)?;
-    if head != Head::of(&fact) || !is_lawful(&fact) {
+    if !is_headed(&head, &fact) {
         return Err(BadFact);
     }
     Ok(fact)

@@ -1,4 +1,4 @@
-ghost use Rattle.std.specs.Prelude.{◌≡◌, ◌≤◌, ◌↔◌, ℕ, List, true, length, Ok, IsTrue, IfOk};
+ghost use Rattle.std.specs.Prelude.{◌≡◌, ◌<◌, ◌≤◌, ◌^◌, ◌↔◌, ℕ, List, true, length, Ok, IsTrue, IfOk};
 ghost use Rattle.pur_base.specs.Bytes.{zeros, padded};
 ghost use Rattle.pur_base.specs.Names.{is_name};
 ghost use Rattle.pur_base.specs.declared.limits.TheConstants.{NAME_BYTES};
@@ -33,7 +33,8 @@ fn are_unused(bytes: &[u8]) -> bool
     requires { length bytes.now ≤ VALUE_BYTES }
     ensures { IsTrue result ↔ (bytes.now ≡ zeros (length bytes.now)) }
 {
-    bytes == &UNUSED[..bytes.len()]
+    let unused = &UNUSED[..bytes.len()];
+    bytes == unused
 }
 
 /// The name of that length in front of zeros.
@@ -77,7 +78,8 @@ pub fn object_in(head: &Head, value: &[u8]) -> Result<ObjectFact, BadFact>
 }
 
 pub fn medium_in(head: &Head, value: &[u8]) -> Result<MediumFact, BadFact>
-    requires { length value.now ≡ VALUE_BYTES }
+    requires second { head.now.second < 2 ^ 64 }
+    requires value { length value.now ≡ VALUE_BYTES }
     ensures ok { IfOk result (λ range. IsValueOf value.now (any.Medium range)) }
     ensures complete { (range : MediumFact) → IsSpelled head.now value.now (any.Medium range) → result ≡ Ok range }
 {

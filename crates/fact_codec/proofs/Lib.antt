@@ -1,0 +1,3 @@
+pub mod HeadLemmas
+pub mod ValueLemmas
+pub mod FieldLemmas
