@@ -46,8 +46,8 @@ pub record FitsRange (f : MediumFact) : Type 0 where
 pub fits_range : (f : MediumFact) → IsFact (any.Medium f) → FitsRange f
 fits_range f h =
     elim h.lawful.statement [
-      inl nowhere ↦ record { end = omega arith; target = omega arith; start = omega arith }
-    | inr down ↦ record { end = omega arith; target = omega arith; start = omega arith }
+      | inl nowhere ↦ record { end = omega arith; target = omega arith; start = omega arith }
+      | inr down ↦ record { end = omega arith; target = omega arith; start = omega arith }
     ]
 
 -- the numbers of a value are those of the range that it spells, and zeros stand behind them

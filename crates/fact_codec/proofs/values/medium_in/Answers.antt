@@ -27,7 +27,7 @@ returns-clause-complete c = λ f spells.
     let target = c.u64_in-target.result in
     let start = c.u64_in-target_start.result in
     let is = range_is c.args.value.now end.1.now target.1.now start.1.now end.0 target.0 start.0 f (search rules) (search rules) (search rules)
-      c.u64_in-end.ensures.field c.u64_in-target.ensures.field c.u64_in-target_start.ensures.field spells.fact spells.bytes in
+    c.u64_in-end.ensures.field c.u64_in-target.ensures.field c.u64_in-target_start.ensures.field spells.fact spells.bytes in
     let id : c.args.head.now.id ≡ f.medium.0 = ap (λ (h : Head). h.id) spells.heads in
     let second : c.args.head.now.second ≡ f.start = ap (λ (h : Head). h.second) spells.heads in
     let number : c.args.head.now.number ≡ f.seq.0 = ap (λ (h : Head). h.number) spells.heads in

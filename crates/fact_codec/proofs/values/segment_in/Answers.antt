@@ -15,7 +15,7 @@ returns-then-not-are_unused-clause-complete c = λ f spells.
     let places = c.places_in.result in
     let placed = c.u16_in-placed.result in
     let is = segment_is c.args.value.now places.1.now placed.1.now places.0 placed.0 f (search rules) (recursion_from_All FitsBytes places.0 c.places_in.ensures.fits) (search rules)
-      c.places_in.ensures.field c.u16_in-placed.ensures.field spells.fact spells.bytes in
+    c.places_in.ensures.field c.u16_in-placed.ensures.field spells.fact spells.bytes in
     let unused = c.are_unused.ensures.1 (zeros_are placed.1.now (VALUE_BYTES - length (value_bytes (any.Segment f))) is.2) in
     absurd (cc (unused, c.if-not-are_unused.true))
 
@@ -37,7 +37,7 @@ returns-clause-complete c = λ f spells.
     let places = c.places_in.result in
     let placed = c.u16_in-placed.result in
     let is = segment_is c.args.value.now places.1.now placed.1.now places.0 placed.0 f (search rules) (recursion_from_All FitsBytes places.0 c.places_in.ensures.fits) (search rules)
-      c.places_in.ensures.field c.u16_in-placed.ensures.field spells.fact spells.bytes in
+    c.places_in.ensures.field c.u16_in-placed.ensures.field spells.fact spells.bytes in
     let id : c.args.head.now.id ≡ f.segment.0 = ap (λ (h : Head). h.id) spells.heads in
     let number : c.args.head.now.number ≡ f.seq.0 = ap (λ (h : Head). h.number) spells.heads in
     ap Ok (rw (id, is.0, is.1, number) refl)
