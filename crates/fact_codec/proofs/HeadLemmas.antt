@@ -31,8 +31,8 @@ whole h =
     record { tag = h.tag; kind = h.kind; name_len = h.name_len; zero = h.zero; sectors = h.sectors; id = h.id; second = h.second; number = h.number }
 
 -- what begins with a head begins with no other
-same_head : (h k : Head) (r s : List ℕ) → FitsHead h → FitsHead k → head_bytes h ++ r ≡ head_bytes k ++ s → (h ≡ k) × (r ≡ s)
-same_head h k r s h-fits k-fits e =
+one_head : (h k : Head) (r s : List ℕ) → FitsHead h → FitsHead k → head_bytes h ++ r ≡ head_bytes k ++ s → (h ≡ k) × (r ≡ s)
+one_head h k r s h-fits k-fits e =
     let h-number = u64 h.number ++ r in
     let k-number = u64 k.number ++ s in
     let h-second = u64 h.second ++ h-number in
@@ -61,14 +61,14 @@ same_head h k r s h-fits k-fits e =
 -- bytes that spell a fact: their head is its head, and their value its value
 pub is_spelled : (bytes : List ℕ) (head : Head) (value : List ℕ) (f : AnyFact) → bytes ≡ head_bytes head ++ value → FitsHead head → Decodes bytes f → IsSpelled head value f
 is_spelled bytes head value f field fits spells =
-    let same = same_head head (head_of f) value (padded VALUE_BYTES (value_bytes f)) fits (fits_head f spells.fact) (sym field ∙ spells.bytes ∙ spelled f) in
-    record { fact = spells.fact; heads = same.0; bytes = same.1 }
+    let same = one_head head (head_of f) value (padded VALUE_BYTES (value_bytes f)) fits (fits_head f spells.fact) (sym field ∙ spells.bytes ∙ spelled f) in
+    record { fact = spells.fact; same_head = same.0; bytes = same.1 }
 
 -- a lawful fact with their head and their value is the one that they spell
 pub decodes : (bytes : List ℕ) (head : Head) (value : List ℕ) (f : AnyFact) → bytes ≡ head_bytes head ++ value → IsValueOf value f → IsHeaded head f → Decodes bytes f
 decodes bytes head value f field of headed = record {
   fact = record { lawful = headed.lawful; fits = of.fits };
-  bytes = field ∙ rw (headed.heads, of.bytes) (sym (spelled f));
+  bytes = field ∙ rw (headed.same_head, of.bytes) (sym (spelled f));
 }
 
 -- the table of a fact

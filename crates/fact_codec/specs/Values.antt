@@ -41,10 +41,10 @@ pub record IsValueOf (value : List ℕ) (f : AnyFact) : Type 0 where
 -- the fact is in bounds, and has this head
 pub record IsHeaded (head : Head) (f : AnyFact) : Type 0 where
   pub lawful : IsLawful f
-  pub heads : head ≡ head_of f
+  pub same_head : head ≡ head_of f
 
 -- the head and the value spell this fact
 pub record IsSpelled (head : Head) (value : List ℕ) (f : AnyFact) : Type 0 where
   pub fact : IsFact f
-  pub heads : head ≡ head_of f
+  pub same_head : head ≡ head_of f
   pub bytes : value ≡ padded VALUE_BYTES (value_bytes f)

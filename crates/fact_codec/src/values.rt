@@ -25,19 +25,19 @@ use pur_base::{
     ObjectFact, ObjectId, SegmentFact, SegmentId, Seq, Table, Target,
 };
 
-/// Bytes that no field uses.
-const UNUSED: [u8; VALUE_BYTES] = [0; VALUE_BYTES];
+/// The bytes of a value that no field uses.
+const BLANK: [u8; VALUE_BYTES] = [0; VALUE_BYTES];
 
-/// Whether bytes that no field uses are zero.
-fn are_unused(bytes: &[u8]) -> bool
+/// Whether bytes that no field uses are zero: one comparison of them all.
+fn are_blank(bytes: &[u8]) -> bool
     requires { length bytes.now ≤ VALUE_BYTES }
     ensures { IsTrue result ↔ (bytes.now ≡ zeros (length bytes.now)) }
 {
-    let unused = &UNUSED[..bytes.len()];
-    bytes == unused
+    let blank = &BLANK[..bytes.len()];
+    bytes == blank
 }
 
-/// The name of that length in front of zeros.
+/// The name of that length with zeros behind it, or `BadFact` where it is no name or something stands behind it.
 fn name_in(len: u8, bytes: &[u8]) -> Result<Name, BadFact>
     requires { length bytes.now ≡ NAME_BYTES }
     ensures ok { IfOk result (λ name. IsNameIn len bytes.now name) }
@@ -47,8 +47,8 @@ fn name_in(len: u8, bytes: &[u8]) -> Result<Name, BadFact>
     if len > NAME_BYTES {
         return Err(BadFact);
     }
-    let (text, rest) = bytes.split_at(len);
-    if !are_unused(rest) {
+    let (text, behind) = bytes.split_at(len);
+    if !are_blank(behind) {
         return Err(BadFact);
     }
     match Name::read(text) {
@@ -57,6 +57,7 @@ fn name_in(len: u8, bytes: &[u8]) -> Result<Name, BadFact>
     }
 }
 
+/// The object of the head and the value, or `BadFact` where they give none. What `is_headed` judges isn't judged here, nor below.
 pub fn object_in(head: &Head, value: &[u8]) -> Result<ObjectFact, BadFact>
     requires { length value.now ≡ VALUE_BYTES }
     ensures ok { IfOk result (λ object. IsValueOf value.now (any.Object object)) }
@@ -77,6 +78,7 @@ pub fn object_in(head: &Head, value: &[u8]) -> Result<ObjectFact, BadFact>
     })
 }
 
+/// The range of the head and the value.
 pub fn medium_in(head: &Head, value: &[u8]) -> Result<MediumFact, BadFact>
     requires second { head.now.second < 2 ^ 64 }
     requires value { length value.now ≡ VALUE_BYTES }
@@ -86,7 +88,7 @@ pub fn medium_in(head: &Head, value: &[u8]) -> Result<MediumFact, BadFact>
     let (end, rest) = u64_in(value);
     let (target, rest) = u64_in(rest);
     let (target_start, rest) = u64_in(rest);
-    if !are_unused(rest) {
+    if !are_blank(rest) {
         return Err(BadFact);
     }
     Ok(MediumFact {
@@ -99,7 +101,7 @@ pub fn medium_in(head: &Head, value: &[u8]) -> Result<MediumFact, BadFact>
     })
 }
 
-/// The place of an address that is stored.
+/// Where the sector of a stored address stands.
 fn stored_in(value: &[u8]) -> Result<Target, BadFact>
     requires { length value.now ≡ VALUE_BYTES }
     ensures ok { IfOk result (λ target. IsTargetIn value.now target) }
@@ -107,7 +109,7 @@ fn stored_in(value: &[u8]) -> Result<Target, BadFact>
 {
     let (segment, rest) = u64_in(value);
     let (index, rest) = u16_in(rest);
-    if !are_unused(rest) {
+    if !are_blank(rest) {
         return Err(BadFact);
     }
     Ok(Target::Stored(Location {
@@ -116,7 +118,7 @@ fn stored_in(value: &[u8]) -> Result<Target, BadFact>
     }))
 }
 
-/// Where the sector of an address stands.
+/// Where the sector of an address stands, by the code of its target.
 fn target_in(code: u8, value: &[u8]) -> Result<Target, BadFact>
     requires { length value.now ≡ VALUE_BYTES }
     ensures ok { IfOk result (λ target. IsTargetIn value.now target) }
@@ -125,7 +127,7 @@ fn target_in(code: u8, value: &[u8]) -> Result<Target, BadFact>
     match code {
         STORED => stored_in(value),
         ZERO => {
-            if are_unused(value) {
+            if are_blank(value) {
                 Ok(Target::Zero)
             } else {
                 Err(BadFact)
@@ -135,6 +137,7 @@ fn target_in(code: u8, value: &[u8]) -> Result<Target, BadFact>
     }
 }
 
+/// The address of the head and the value.
 pub fn address_in(head: &Head, value: &[u8]) -> Result<AddressFact, BadFact>
     requires { length value.now ≡ VALUE_BYTES }
     ensures ok { IfOk result (λ address. IsValueOf value.now (any.Address address)) }
@@ -152,6 +155,7 @@ pub fn address_in(head: &Head, value: &[u8]) -> Result<AddressFact, BadFact>
     })
 }
 
+/// The segment of the head and the value.
 pub fn segment_in(head: &Head, value: &[u8]) -> Result<SegmentFact, BadFact>
     requires { length value.now ≡ VALUE_BYTES }
     ensures ok { IfOk result (λ segment. IsValueOf value.now (any.Segment segment)) }
@@ -159,7 +163,7 @@ pub fn segment_in(head: &Head, value: &[u8]) -> Result<SegmentFact, BadFact>
 {
     let (places, rest) = places_in(value);
     let (placed, rest) = u16_in(rest);
-    if !are_unused(rest) {
+    if !are_blank(rest) {
         return Err(BadFact);
     }
     Ok(SegmentFact {
@@ -170,6 +174,7 @@ pub fn segment_in(head: &Head, value: &[u8]) -> Result<SegmentFact, BadFact>
     })
 }
 
+/// The elision of the head and the value.
 pub fn elision_in(head: &Head, value: &[u8]) -> Result<ElisionFact, BadFact>
     requires { length value.now ≡ VALUE_BYTES }
     ensures ok { IfOk result (λ elision. IsValueOf value.now (any.Elision elision)) }
@@ -182,7 +187,7 @@ pub fn elision_in(head: &Head, value: &[u8]) -> Result<ElisionFact, BadFact>
         return Err(BadFact);
     };
     let (last, rest) = u64_in(value);
-    if !are_unused(rest) {
+    if !are_blank(rest) {
         return Err(BadFact);
     }
     Ok(ElisionFact {

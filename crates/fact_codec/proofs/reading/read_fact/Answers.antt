@@ -24,7 +24,7 @@ not_headed c f spells =
     let read = c.fact_in.ensures.complete f is in
     let was = c.in_ok-fact.was in
     let same : f ≡ c.in_ok-fact.fact = cc in
-    let headed = c.is_headed.ensures.1 (subst (λ (x : AnyFact). IsHeaded c.head_in.result.0 x) same (record { lawful = is.fact.lawful; heads = is.heads })) in
+    let headed = c.is_headed.ensures.1 (subst (λ (x : AnyFact). IsHeaded c.head_in.result.0 x) same (record { lawful = is.fact.lawful; same_head = is.same_head })) in
     cc (headed, c.if-not-is_headed.true)
 
 pub returns-then-not-is_headed-clause-complete : goal.returns-then-not-is_headed-clause-complete

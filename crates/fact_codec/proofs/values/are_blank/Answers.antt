@@ -3,7 +3,7 @@ use Rattle.std.specs.Cmp.Lexicographic.{bytes_decides}
 use Rattle.std.specs.Str.{bytes_eq}
 use Rattle.std.proofs.lemmas.List.{take-replicate}
 use Rattle.pur_base.specs.Bytes.{zeros}
-use Rattle.fact_codec.proofs.values.are_unused.Goals as goal
+use Rattle.fact_codec.proofs.values.are_blank.Goals as goal
 
 pub returns : goal.returns
 returns c =
