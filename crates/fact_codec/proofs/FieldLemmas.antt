@@ -1,6 +1,5 @@
 -- The fields of a value that spells a fact are the fact's.
-use Rattle.std.proofs.Common.{◌≡◌, ℕ, ◌-◌, ◌^◌, ◌<◌, List, ◌++◌, length, refl, ap, sym, ◌∙◌, append_assoc, arith, inl, inr}
-use Rattle.std.proofs.lemmas.List.{length-append}
+use Rattle.std.proofs.Common.{◌≡◌, ℕ, ◌-◌, ◌^◌, ◌<◌, List, ◌++◌, length, refl, sym, ◌∙◌, append_assoc, arith, inl, inr}
 use Rattle.std.specs.List.{AllByRecursion}
 use Rattle.pur_base.specs.Bytes.{u16, u64, zeros, padded}
 use Rattle.pur_base.specs.declared.limits.TheConstants.{NAME_BYTES, SEGMENT_SHARDS}
@@ -12,11 +11,9 @@ use Rattle.pur_base.specs.declared.facts.MediumFact.{MediumFact}
 use Rattle.pur_base.specs.declared.facts.SegmentFact.{SegmentFact}
 use Rattle.pur_base.specs.declared.facts.AnyFact.TheVariants as any
 use Rattle.byte_fields.specs.Places.{places_bytes, FitsBytes}
-use Rattle.byte_fields.proofs.SpellingLemmas.{same_u16, same_u64, same_places, length-places_bytes}
+use Rattle.byte_fields.proofs.SpellingLemmas.{same_u16, same_u64, same_places}
 use Rattle.fact_codec.specs.declared.limits.TheConstants.{VALUE_BYTES}
-use Rattle.fact_codec.specs.declared.head.Head.{Head}
 use Rattle.fact_codec.specs.Fact.{object_code, value_bytes, IsFact}
-use Rattle.fact_codec.specs.Heads.{head_of}
 use Rattle.fact_codec.proofs.ValueLemmas.{name_fits, object_fills}
 
 -- ---- objects

@@ -1,6 +1,6 @@
 -- Values: what is put of a value, and zeros behind it.
-use Rattle.std.proofs.Common.{◌≡◌, ℕ, ◌+◌, ◌-◌, ◌≤◌, true, List, [], ◌++◌, length, refl, ap, sym, ◌∙◌, append_assoc, append-nil, arith}
-use Rattle.std.proofs.lemmas.List.{length-append, length-replicate, take-replicate}
+use Rattle.std.proofs.Common.{◌≡◌, ℕ, ◌-◌, ◌≤◌, true, List, ◌++◌, length, refl, ap, sym, ◌∙◌, append-nil, arith}
+use Rattle.std.proofs.lemmas.List.{length-append, length-replicate}
 use Rattle.std.proofs.lemmas.Grind.{common_steps}
 use Rattle.pur_base.specs.Bytes.{u64, zeros, padded}
 use Rattle.pur_base.specs.Names.{is_name}
@@ -28,7 +28,7 @@ padded_is n bytes front rest room e zero =
     let len : length rest ≡ n - length front = omega (arith, ap length e, length-append front rest) in
     e ∙ ap (λ (x : List ℕ). front ++ x) (zero ∙ ap zeros len)
 
-length-field : (name : List ℕ) → length name ≤ NAME_BYTES → length (padded NAME_BYTES name) ≡ NAME_BYTES
+pub length-field : (name : List ℕ) → length name ≤ NAME_BYTES → length (padded NAME_BYTES name) ≡ NAME_BYTES
 length-field name fits =
     omega (arith, length-append name (zeros (NAME_BYTES - length name)), length-replicate {A = ℕ} (NAME_BYTES - length name) 0)
 

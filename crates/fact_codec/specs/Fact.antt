@@ -14,7 +14,7 @@ use Rattle.pur_base.specs.declared.facts.MediumFact.{MediumFact}
 use Rattle.pur_base.specs.declared.facts.AnyFact.{AnyFact}
 use Rattle.pur_base.specs.declared.facts.AnyFact.TheVariants as any
 use Rattle.byte_fields.specs.Places.{places_bytes, FitsBytes}
-use Rattle.fact_codec.specs.declared.limits.TheConstants.{FACT_BYTES, VALUE_BYTES, NUMBER_LIMIT}
+use Rattle.fact_codec.specs.declared.limits.TheConstants.{VALUE_BYTES, NUMBER_LIMIT}
 
 -- ---- the spelling
 

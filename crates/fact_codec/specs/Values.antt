@@ -1,5 +1,5 @@
 -- The value of a fact, as it is written and read table by table.
-use Rattle.std.specs.Prelude.{◌≡◌, ℕ, ◌<◌, ◌≤◌, ◌^◌, true, List, ◌++◌, length}
+use Rattle.std.specs.Prelude.{◌≡◌, ℕ, true, List, ◌++◌, length}
 use Rattle.pur_base.specs.Bytes.{u64, padded}
 use Rattle.pur_base.specs.Names.{is_name}
 use Rattle.pur_base.specs.declared.limits.TheConstants.{NAME_BYTES}
@@ -8,7 +8,7 @@ use Rattle.pur_base.specs.declared.facts.AnyFact.{AnyFact}
 use Rattle.pur_base.specs.declared.facts.AnyFact.TheVariants as any
 use Rattle.fact_codec.specs.declared.limits.TheConstants.{VALUE_BYTES}
 use Rattle.fact_codec.specs.declared.head.Head.{Head}
-use Rattle.fact_codec.specs.Fact.{value_bytes, target_bytes, IsTarget, FitsTarget, FitsTypes, IsLawful, IsFact}
+use Rattle.fact_codec.specs.Fact.{value_bytes, target_bytes, FitsTarget, FitsTypes, IsLawful, IsFact}
 use Rattle.fact_codec.specs.Heads.{head_of}
 
 -- what is put of a value: all up to the zeros in which it ends

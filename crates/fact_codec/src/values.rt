@@ -1,6 +1,5 @@
-ghost use Rattle.std.specs.Prelude.{◌≡◌, ◌<◌, ◌≤◌, ◌^◌, ◌↔◌, ℕ, List, true, length, Ok, IsTrue, IfOk};
-ghost use Rattle.pur_base.specs.Bytes.{zeros, padded};
-ghost use Rattle.pur_base.specs.Names.{is_name};
+ghost use Rattle.std.specs.Prelude.{◌≡◌, ◌<◌, ◌≤◌, ◌^◌, ◌↔◌, ℕ, List, length, Ok, IsTrue, IfOk};
+ghost use Rattle.pur_base.specs.Bytes.{zeros};
 ghost use Rattle.pur_base.specs.declared.limits.TheConstants.{NAME_BYTES};
 ghost use Rattle.pur_base.specs.declared.facts.ObjectFact.{ObjectFact};
 ghost use Rattle.pur_base.specs.declared.facts.MediumFact.{MediumFact};

@@ -1,8 +1,8 @@
 ghost use Rattle.std.specs.Prelude.{◌≡◌, ◌≤◌, ◌++◌, ◌+◌, length};
 ghost use Rattle.pur_base.specs.declared.facts.AnyFact.TheVariants as any;
-ghost use Rattle.fact_codec.specs.declared.limits.TheConstants.{FACT_BYTES, VALUE_BYTES};
+ghost use Rattle.fact_codec.specs.declared.limits.TheConstants.{FACT_BYTES, HEAD_BYTES, VALUE_BYTES};
 ghost use Rattle.fact_codec.specs.Fact.{IsLawful, Decodes, FitsTypes};
-ghost use Rattle.fact_codec.specs.Heads.{head_bytes, FitsHead};
+ghost use Rattle.fact_codec.specs.Heads.{head_bytes};
 ghost use Rattle.fact_codec.specs.Values.{put_bytes};
 
 use crate::head::Head;
@@ -14,9 +14,9 @@ use pur_base::{AddressFact, AnyFact, ElisionFact, MediumFact, ObjectFact, Segmen
 type FactFront = Front<FACT_BYTES>;
 
 fn put_head(front: &mut FactFront, head: &Head)
-    requires { length front.old + VALUE_BYTES ≤ FACT_BYTES }
+    requires { length front.old + HEAD_BYTES ≤ FACT_BYTES }
     ensures bytes { front.new ≡ front.old ++ head_bytes head.now }
-    ensures len { length front.new ≡ length front.old + VALUE_BYTES }
+    ensures len { length front.new ≡ length front.old + HEAD_BYTES }
 {
     front.put_u8(head.tag);
     front.put_u8(head.kind);

@@ -1,9 +1,3 @@
-use Rattle.std.proofs.Common.{◌≡◌, sym, ap}
-use Rattle.pur_base.specs.declared.request.Table.TheVariants as table
-use Rattle.pur_base.specs.declared.facts.AnyFact.{AnyFact}
-use Rattle.pur_base.specs.declared.facts.AnyFact.TheVariants as any
-use Rattle.fact_codec.specs.declared.head.Head.{Head}
-use Rattle.fact_codec.specs.Values.{IsSpelled}
 use Rattle.fact_codec.proofs.HeadLemmas.{table_of, tag_is}
 use Rattle.fact_codec.proofs.reading.fact_in.Goals as goal
 

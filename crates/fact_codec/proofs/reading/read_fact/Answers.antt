@@ -1,6 +1,5 @@
-use Rattle.std.proofs.Common.{◌≡◌, sym, ap, refl, subst, Result, Ok, Err, ◌∙◌}
+use Rattle.std.proofs.Common.{◌≡◌, sym, refl, subst, ◌∙◌}
 use Rattle.pur_base.specs.declared.facts.AnyFact.{AnyFact}
-use Rattle.fact_codec.specs.declared.reading.BadFact.{BadFact}
 use Rattle.fact_codec.specs.Fact.{Decodes}
 use Rattle.fact_codec.specs.Values.{IsHeaded}
 use Rattle.fact_codec.proofs.HeadLemmas.{is_spelled, decodes}

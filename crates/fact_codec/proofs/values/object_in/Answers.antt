@@ -1,5 +1,4 @@
-use Rattle.std.proofs.Common.{◌≡◌, ℕ, List, ap, sym, ◌∙◌, rules, refl, Ok}
-use Rattle.pur_base.specs.declared.facts.ObjectKind.{ObjectKind}
+use Rattle.std.proofs.Common.{◌≡◌, ap, sym, ◌∙◌, rules, refl, Ok}
 use Rattle.fact_codec.specs.declared.head.Head.{Head}
 use Rattle.fact_codec.specs.Fact.{object_code}
 use Rattle.fact_codec.proofs.FieldLemmas.{object_is, same_kind}

@@ -1,6 +1,6 @@
 use Rattle.std.proofs.Common.{◌≡◌, ℕ, List, ◌++◌, ◌-◌, length, ap, sym, ◌∙◌, rules, refl, Ok, append_assoc}
 use Rattle.std.proofs.lemmas.List.Elements.{recursion_from_All}
-use Rattle.pur_base.specs.Bytes.{u16, zeros}
+use Rattle.pur_base.specs.Bytes.{u16}
 use Rattle.pur_base.specs.declared.facts.AnyFact.TheVariants as any
 use Rattle.byte_fields.specs.Places.{places_bytes, FitsBytes}
 use Rattle.fact_codec.specs.declared.limits.TheConstants.{VALUE_BYTES}

@@ -1,4 +1,4 @@
-use Rattle.std.proofs.Common.{◌≡◌, ◌++◌, ◌∙◌, ap, sym, List, ℕ}
+use Rattle.std.proofs.Common.{◌≡◌, ◌++◌, ◌∙◌, ap, List, ℕ}
 use Rattle.pur_base.specs.Bytes.{padded}
 use Rattle.fact_codec.specs.declared.limits.TheConstants.{FACT_BYTES}
 use Rattle.fact_codec.specs.Heads.{head_bytes, head_of}
