@@ -1,0 +1,4 @@
+pub mod HeadLemmas
+pub mod ValueLemmas
+pub mod FieldLemmas
+pub mod FactLemmas
