@@ -18,7 +18,7 @@ pub spelled : (f : AnyFact) → fact_bytes f ≡ head_bytes (head_of f) ++ padde
 unfolding fact_bytes
 spelled f = refl
 
-fits_head : (f : AnyFact) → IsFact f → FitsHead (head_of f)
+pub fits_head : (f : AnyFact) → IsFact f → FitsHead (head_of f)
 fits_head (any.Object f) h = record { sectors = omega arith; id = omega arith; second = omega arith; number = omega arith }
 fits_head (any.Medium f) h = record { sectors = omega arith; id = omega arith; second = omega arith; number = omega arith }
 fits_head (any.Address f) h = record { sectors = omega arith; id = omega arith; second = omega arith; number = omega arith }

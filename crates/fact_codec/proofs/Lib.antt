@@ -2,3 +2,4 @@ pub mod HeadLemmas
 pub mod ValueLemmas
 pub mod FieldLemmas
 pub mod FactLemmas
+pub mod OneFact
