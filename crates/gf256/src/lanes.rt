@@ -1,63 +1,136 @@
-// Thirty-two bytes at a time.
+// Sixty-four bytes at a time: a line of the processor's cache. A table is looked up sixteen bytes at a time.
 
-ghost use Rattle.std.specs.Prelude.{◌≡◌, ℕ, ◌+◌, ◌*◌, ◌/◌, ◌%◌, ◌<◌, ◌≤◌, length, slice_index, bit_xor};
+ghost use Rattle.std.specs.Prelude.{◌≡◌, ℕ, ◌+◌, ◌*◌, ◌/◌, ◌%◌, ◌<◌, ◌≤◌, ◌++◌, if◌then◌else◌, nat_lt, length, slice_index, bit_xor};
 ghost use Rattle.std.specs.Simd.Lanes.{Each1};
 ghost use Rattle.gf256.specs.Field.{doubled, times};
 
 use std::simd::prelude::*;
 
-/// The 32 bytes of `from` from `at` on.
+/// The bytes of a vector.
+pub const LANES: usize = 64;
+
+// The numbers below 16, 32 and 64: the lanes of a table, of half a vector and of a vector.
+const DIGITS: [u8; 16] = [0, 1, 2, 3, 4, 5, 6, 7, 8, 9, 10, 11, 12, 13, 14, 15];
+const HALF_LANES: [usize; 32] = [
+    0, 1, 2, 3, 4, 5, 6, 7, 8, 9, 10, 11, 12, 13, 14, 15, 16, 17, 18, 19, 20, 21, 22, 23, 24, 25, 26, 27, 28, 29, 30, 31,
+];
+const ALL_LANES: [usize; LANES] = [
+    0, 1, 2, 3, 4, 5, 6, 7, 8, 9, 10, 11, 12, 13, 14, 15, 16, 17, 18, 19, 20, 21, 22, 23, 24, 25, 26, 27, 28, 29, 30, 31, 32, 33, 34, 35, 36, 37, 38, 39, 40, 41, 42, 43, 44, 45, 46, 47, 48, 49, 50, 51, 52, 53, 54, 55, 56, 57, 58, 59, 60, 61, 62, 63,
+];
+
+// x^8 as a byte, and how many bits of a lane choose an entry of a table.
+const REDUCTION: u8 = 0x1D;
+const TABLE_BITS: u8 = 4;
+
+/// The 64 bytes of `from` from `at` on.
 #[inline(always)]
-pub fn lanes_at(from: &[u8], at: usize) -> u8x32
-    requires { at + 32 ≤ length from.now }
-    ensures read { (k : ℕ) → k < 32 → slice_index result k ≡ slice_index from.now (at + k) }
-    ensures bytes { (k : ℕ) → k < 32 → slice_index from.now (at + k) < 256 }
+pub fn lanes_at(from: &[u8], at: usize) -> u8x64
+    requires { at + 64 ≤ length from.now }
+    ensures read { (k : ℕ) → k < 64 → slice_index result k ≡ slice_index from.now (at + k) }
+    ensures bytes { (k : ℕ) → k < 64 → slice_index from.now (at + k) < 256 }
 {
-    u8x32::from_slice(&from[at..])
+    u8x64::from_slice(&from[at..])
 }
 
-/// Writes `lanes` to the 32 bytes of `into` from `at` on.
+/// Writes `lanes` to the 64 bytes of `into` from `at` on.
 #[inline(always)]
-pub fn put_lanes(lanes: u8x32, into: &mut [u8], at: usize)
-    requires { at + 32 ≤ length into.old }
+pub fn put_lanes(lanes: u8x64, into: &mut [u8], at: usize)
+    requires { at + 64 ≤ length into.old }
     ensures below { (k : ℕ) → k < at → slice_index into.new k ≡ slice_index into.old k }
-    ensures here { (k : ℕ) → k < 32 → slice_index into.new (at + k) ≡ slice_index lanes k }
-    ensures above { (k : ℕ) → at + 32 ≤ k → slice_index into.new k ≡ slice_index into.old k }
+    ensures here { (k : ℕ) → k < 64 → slice_index into.new (at + k) ≡ slice_index lanes k }
+    ensures above { (k : ℕ) → at + 64 ≤ k → slice_index into.new k ≡ slice_index into.old k }
 {
     lanes.copy_to_slice(&mut into[at..]);
 }
 
 /// The sum of each two lanes.
 #[inline(always)]
-pub fn add_lanes(a: u8x32, b: u8x32) -> u8x32
-    ensures { (k : ℕ) → k < 32 → slice_index result k ≡ bit_xor (slice_index a k) (slice_index b k) }
+pub fn add_lanes(a: u8x64, b: u8x64) -> u8x64
+    ensures { (k : ℕ) → k < 64 → slice_index result k ≡ bit_xor (slice_index a k) (slice_index b k) }
 {
     a ^ b
 }
 
+// The four quarters of a vector.
+#[inline(always)]
+fn quarters(lanes: u8x64) -> (u8x16, u8x16, u8x16, u8x16)
+    ensures first { length result.0 ≡ 16 }
+    ensures second { length result.1 ≡ 16 }
+    ensures third { length result.2 ≡ 16 }
+    ensures in_order { lanes ≡ result.0 ++ (result.1 ++ (result.2 ++ result.3)) }
+{
+    (
+        lanes.extract::<0, 16>(),
+        lanes.extract::<16, 16>(),
+        lanes.extract::<32, 16>(),
+        lanes.extract::<48, 16>(),
+    )
+}
+
+// The vector of four quarters.
+#[inline(always)]
+fn joined(a: u8x16, b: u8x16, c: u8x16, d: u8x16) -> u8x64
+    ensures { result ≡ a ++ (b ++ (c ++ d)) }
+{
+    let low = a.shuffle::<32>(b, HALF_LANES);
+    let high = c.shuffle::<32>(d, HALF_LANES);
+    low.shuffle::<LANES>(high, ALL_LANES)
+}
+
+// 1D at each lane below 128, and 0 at the others: a look-up gives 0 where the top bit is set.
+#[inline(always)]
+fn reductions_left_out(lanes: u8x16) -> u8x16
+    ensures long { length result ≡ 16 }
+    ensures each { (k : ℕ) → k < 16
+        → slice_index result k ≡ if nat_lt (slice_index lanes k) 128 then 0x1D else 0 }
+{
+    u8x16::splat(REDUCTION).swizzle_dyn_within::<16>(lanes & u8x16::splat(0x8F))
+}
+
+/// The sum of 1D and two times each lane, which takes less than two times each lane.
+#[inline(always)]
+pub fn double_lanes_and_1d(lanes: u8x64) -> u8x64
+    ensures { (k : ℕ) → k < 64 → slice_index result k ≡ bit_xor (doubled (slice_index lanes k)) 0x1D }
+{
+    let (a, b, c, d) = quarters(lanes);
+    let a = reductions_left_out(a);
+    let b = reductions_left_out(b);
+    let c = reductions_left_out(c);
+    let d = reductions_left_out(d);
+    (lanes + lanes) ^ joined(a, b, c, d)
+}
+
 /// Two times each lane.
 #[inline(always)]
-pub fn double_lanes(lanes: u8x32) -> u8x32
-    ensures { (k : ℕ) → k < 32 → slice_index result k ≡ doubled (slice_index lanes k) }
+pub fn double_lanes(lanes: u8x64) -> u8x64
+    ensures { (k : ℕ) → k < 64 → slice_index result k ≡ doubled (slice_index lanes k) }
+{
+    add_lanes(double_lanes_and_1d(lanes), u8x64::splat(REDUCTION))
+}
+
+// Two times each lane of a quarter.
+#[inline(always)]
+fn double_quarter(lanes: u8x16) -> u8x16
+    ensures { (k : ℕ) → k < 16 → slice_index result k ≡ doubled (slice_index lanes k) }
 {
     let carry = lanes
-        .simd_ge(u8x32::splat(128))
-        .select(u8x32::splat(0x1D), u8x32::splat(0));
+        .simd_ge(u8x16::splat(128))
+        .select(u8x16::splat(REDUCTION), u8x16::splat(0));
     (lanes + lanes) ^ carry
 }
 
-// `factor` times each lane, bit by bit.
-fn multiply_lanes(lanes: u8x32, factor: u8) -> u8x32
-    ensures { (k : ℕ) → k < 32 → slice_index result k ≡ times (slice_index lanes k) factor }
+// `factor` times each lane of a quarter, bit by bit.
+fn multiply_quarter(lanes: u8x16, factor: u8) -> u8x16
+    ensures { (k : ℕ) → k < 16 → slice_index result k ≡ times (slice_index lanes k) factor }
 {
-    let mut sum = u8x32::splat(0);
+    let mut sum = u8x16::splat(0);
     let mut power = lanes;
     let mut rest = factor;
     for _k in 0..8u8 {
         if rest % 2 == 1 {
             sum ^= power;
         }
-        power = double_lanes(power);
+        power = double_quarter(power);
         rest /= 2;
     }
     sum
@@ -65,60 +138,69 @@ fn multiply_lanes(lanes: u8x32, factor: u8) -> u8x32
 
 // The low four bits of each lane.
 #[inline(always)]
-fn low_half(lanes: u8x32) -> u8x32
-    ensures long { length result ≡ 32 }
-    ensures each { (k : ℕ) → k < 32 → slice_index result k ≡ slice_index lanes k % 16 }
+fn low_half(lanes: u8x16) -> u8x16
+    ensures long { length result ≡ 16 }
+    ensures each { (k : ℕ) → k < 16 → slice_index result k ≡ slice_index lanes k % 16 }
     ensures small { Each1 (λ j. j < 16) result }
 {
-    lanes & u8x32::splat(15)
+    lanes & u8x16::splat(15)
 }
 
 // The high four bits of each lane.
 #[inline(always)]
-fn high_half(lanes: u8x32) -> u8x32
-    ensures long { length result ≡ 32 }
-    ensures each { (k : ℕ) → k < 32 → slice_index result k ≡ slice_index lanes k / 16 }
+fn high_half(lanes: u8x16) -> u8x16
+    ensures long { length result ≡ 16 }
+    ensures each { (k : ℕ) → k < 16 → slice_index result k ≡ slice_index lanes k / 16 }
     ensures small { Each1 (λ j. j < 16) result }
 {
-    low_half(lanes >> u8x32::splat(4))
+    low_half(lanes >> u8x16::splat(TABLE_BITS))
 }
 
-/// The products of one byte by the numbers below 16 and by the multiples of 16, each table twice
-/// over: two of them add up to the product by any byte.
+/// The products of one byte by the numbers below 16 and by the multiples of 16: two of them add up to
+/// the product by any byte.
 #[derive(Clone, Copy)]
 pub struct Products {
     pub factor: u8,
-    low: u8x32,
-    high: u8x32,
-    ghost low_products: { (j : ℕ) → j < 32 → slice_index low j ≡ times factor (j % 16) },
-    ghost high_products: { (j : ℕ) → j < 32 → slice_index high j ≡ times factor (j % 16 * 16) },
+    low: u8x16,
+    high: u8x16,
+    ghost low_products: { (j : ℕ) → j < 16 → slice_index low j ≡ times factor j },
+    ghost high_products: { (j : ℕ) → j < 16 → slice_index high j ≡ times factor (j * 16) },
 }
-
-// The numbers below 16, twice.
-const DIGITS: [u8; 32] = [
-    0, 1, 2, 3, 4, 5, 6, 7, 8, 9, 10, 11, 12, 13, 14, 15, 0, 1, 2, 3, 4, 5, 6, 7, 8, 9, 10, 11, 12,
-    13, 14, 15,
-];
 
 impl Products {
     /// The tables of `factor`.
     pub fn of(factor: u8) -> Self
         ensures { result.factor ≡ factor }
     {
-        let digits = u8x32::from_array(DIGITS);
-        let low = multiply_lanes(digits, factor);
-        let high = multiply_lanes(digits << u8x32::splat(4), factor);
+        let digits = u8x16::from_array(DIGITS);
+        let low = multiply_quarter(digits, factor);
+        let high = multiply_quarter(digits << u8x16::splat(TABLE_BITS), factor);
         Products { factor, low, high }
     }
 
-    /// The factor times each lane.
+    // The factor times each lane of a quarter.
     #[inline(always)]
-    pub fn times_lanes(&self, lanes: u8x32) -> u8x32
-        ensures { (k : ℕ) → k < 32
+    fn times_quarter(&self, lanes: u8x16) -> u8x16
+        ensures long { length result ≡ 16 }
+        ensures each { (k : ℕ) → k < 16
             → slice_index result k ≡ times self.now.factor (slice_index lanes k) }
     {
         let low = low_half(lanes);
         let high = high_half(lanes);
         self.low.swizzle_dyn_within::<16>(low) ^ self.high.swizzle_dyn_within::<16>(high)
+    }
+
+    /// The factor times each lane.
+    #[inline(always)]
+    pub fn times_lanes(&self, lanes: u8x64) -> u8x64
+        ensures { (k : ℕ) → k < 64
+            → slice_index result k ≡ times self.now.factor (slice_index lanes k) }
+    {
+        let (a, b, c, d) = quarters(lanes);
+        let a = self.times_quarter(a);
+        let b = self.times_quarter(b);
+        let c = self.times_quarter(c);
+        let d = self.times_quarter(d);
+        joined(a, b, c, d)
     }
 }
