@@ -4,9 +4,11 @@
 
 mod columns;
 mod encoding;
+mod layout;
 mod recovery;
 #[cfg(test)]
 mod tests;
 
 pub use encoding::encode;
+pub use layout::{DATA_SHARDS, SHARD_BYTES, SHARDS};
 pub use recovery::recover;
