@@ -11,6 +11,7 @@
 #include <time.h>
 
 enum { DATA = 7, ALL = 9, BYTES = 4096, ROUNDS = 61, TURNS = 4000 };
+static const double WARM_SECONDS = 0.003;
 
 void parity_bench_encode(const uint8_t shards[DATA][BYTES], uint8_t p[BYTES], uint8_t q[BYTES]);
 void parity_bench_recover(uint8_t shards[ALL][BYTES], uint8_t i, uint8_t j);
@@ -35,9 +36,12 @@ static double seconds(void) {
     return t.tv_sec + t.tv_nsec * 1e-9;
 }
 
-/* isa-l leaves the upper halves of the vector registers in use, which slows all SSE code that runs after it: a round begins clean. */
+/* isa-l leaves the upper halves of the vector registers in use, and the processor at the clock of its widest instructions: a round
+   of either side begins clean, and runs for WARM_SECONDS before its time is taken. */
 static double round_of(void (*f)(void)) {
     __asm__ volatile("vzeroupper");
+    double warm = seconds();
+    while (seconds() - warm < WARM_SECONDS) f();
     double start = seconds();
     for (int turn = 0; turn < TURNS; turn++) f();
     return (double)DATA * BYTES * TURNS / (seconds() - start) / 1e9;

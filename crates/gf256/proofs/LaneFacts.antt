@@ -125,6 +125,22 @@ quarters-joined a b c d la lb lc ld =
     ∙ pick_l_whole 0 ((a ++ b) ++ (c ++ d)) 64 (omega arith)
     ∙ append_assoc a b (c ++ d)
 
+pub four-long : (a b c d : List ℕ) → length a ≡ 16 → length b ≡ 16 → length c ≡ 16 → length d ≡ 16 → length (a ++ (b ++ (c ++ d))) ≡ 64
+four-long a b c d la lb lc ld = omega (arith, length-append a (b ++ (c ++ d)), length-append b (c ++ d), length-append c d)
+
+-- one more copy of a table in front
+repeated : (t ys : List ℕ) (m : ℕ) → length t ≡ 16 → ((k : ℕ) → k < m → get_or ys k 0 ≡ get_or t (k % 16) 0) → (k : ℕ) → k < 16 + m → get_or (t ++ ys) k 0 ≡ get_or t (k % 16) 0
+repeated t ys m long rest k lt =
+    elim (cases_lt k 16) [
+      | inl l ↦ let e : k ≡ k % 16 = omega arith in get_or_append_left t ys 0 k (omega arith) ∙ ap (λ j. get_or t j 0) e
+      | inr r ↦ let e : (k - 16) % 16 ≡ k % 16 = omega arith in get_or-append_right t ys 16 k 0 long r ∙ rest (k - 16) (omega arith) ∙ ap (λ j. get_or t j 0) e
+    ]
+
+-- a table at each quarter
+pub spread-at : (t : List ℕ) → length t ≡ 16 → (k : ℕ) → k < 64 → get_or (t ++ (t ++ (t ++ t))) k 0 ≡ get_or t (k % 16) 0
+spread-at t long =
+    repeated t (t ++ (t ++ t)) 48 long (repeated t (t ++ t) 32 long (repeated t t 16 long (λ k lt. let e : k ≡ k % 16 = omega arith in ap (λ j. get_or t j 0) e)))
+
 one-double_and_1d : (b : ℕ) → b < 256 → bit_xor ((b + b) % 256) (cond (ltb b 128) 29 0) ≡ bit_xor (doubled b) 29
 one-double_and_1d b lt = eqb-true (bit_xor ((b + b) % 256) (cond (ltb b 128) 29 0)) (bit_xor (doubled b) 29) (all_below-at (λ b. eqb (bit_xor ((b + b) % 256) (cond (ltb b 128) 29 0)) (bit_xor (doubled b) 29)) 256 refl b lt)
 

@@ -1,6 +1,6 @@
 // Sixty-four bytes at a time: a line of the processor's cache. A table is looked up sixteen bytes at a time.
 
-ghost use Rattle.std.specs.Prelude.{◌≡◌, ℕ, ◌+◌, ◌*◌, ◌/◌, ◌%◌, ◌<◌, ◌≤◌, ◌++◌, if◌then◌else◌, nat_lt, length, slice_index, bit_xor};
+ghost use Rattle.std.specs.Prelude.{◌≡◌, ℕ, ◌+◌, ◌*◌, ◌/◌, ◌%◌, ◌<◌, ◌≤◌, ◌++◌, if◌then◌else◌, nat_lt, length, slice_index, bit_and, bit_xor};
 ghost use Rattle.std.specs.Simd.Lanes.{Each1};
 ghost use Rattle.gf256.specs.Field.{doubled, times};
 
@@ -77,14 +77,29 @@ fn joined(a: u8x16, b: u8x16, c: u8x16, d: u8x16) -> u8x64
     low.shuffle::<LANES>(high, ALL_LANES)
 }
 
-// 1D at each lane below 128, and 0 at the others: a look-up gives 0 where the top bit is set.
+// The top bit and the low four of each lane, by which a look-up gives 0 or an entry of the table.
 #[inline(always)]
-fn reductions_left_out(lanes: u8x16) -> u8x16
+fn places(lanes: u8x16) -> u8x16
     ensures long { length result ≡ 16 }
-    ensures each { (k : ℕ) → k < 16
+    ensures each { (k : ℕ) → k < 16 → slice_index result k ≡ bit_and (slice_index lanes k) 0x8F }
+{
+    lanes & u8x16::splat(0x8F)
+}
+
+// 1D at each lane below 128, and 0 at the others. The compiler leaves the mask out, where it stands
+// at each quarter: a look-up reads no other bits.
+#[inline(always)]
+fn reductions_left_out(lanes: u8x64) -> u8x64
+    ensures long { length result ≡ 64 }
+    ensures each { (k : ℕ) → k < 64
         → slice_index result k ≡ if nat_lt (slice_index lanes k) 128 then 0x1D else 0 }
 {
-    u8x16::splat(REDUCTION).swizzle_dyn_within::<16>(lanes & u8x16::splat(0x8F))
+    let (a, b, c, d) = quarters(lanes);
+    let a = places(a);
+    let b = places(b);
+    let c = places(c);
+    let d = places(d);
+    u8x64::splat(REDUCTION).swizzle_dyn_within::<16>(joined(a, b, c, d))
 }
 
 /// The sum of 1D and two times each lane, which takes less than two times each lane.
@@ -92,12 +107,7 @@ fn reductions_left_out(lanes: u8x16) -> u8x16
 pub fn double_lanes_and_1d(lanes: u8x64) -> u8x64
     ensures { (k : ℕ) → k < 64 → slice_index result k ≡ bit_xor (doubled (slice_index lanes k)) 0x1D }
 {
-    let (a, b, c, d) = quarters(lanes);
-    let a = reductions_left_out(a);
-    let b = reductions_left_out(b);
-    let c = reductions_left_out(c);
-    let d = reductions_left_out(d);
-    (lanes + lanes) ^ joined(a, b, c, d)
+    (lanes + lanes) ^ reductions_left_out(lanes)
 }
 
 /// Two times each lane.
@@ -138,22 +148,30 @@ fn multiply_quarter(lanes: u8x16, factor: u8) -> u8x16
 
 // The low four bits of each lane.
 #[inline(always)]
-fn low_half(lanes: u8x16) -> u8x16
-    ensures long { length result ≡ 16 }
-    ensures each { (k : ℕ) → k < 16 → slice_index result k ≡ slice_index lanes k % 16 }
+fn low_half(lanes: u8x64) -> u8x64
+    ensures long { length result ≡ 64 }
+    ensures each { (k : ℕ) → k < 64 → slice_index result k ≡ slice_index lanes k % 16 }
     ensures small { Each1 (λ j. j < 16) result }
 {
-    lanes & u8x16::splat(15)
+    lanes & u8x64::splat(15)
 }
 
 // The high four bits of each lane.
 #[inline(always)]
-fn high_half(lanes: u8x16) -> u8x16
-    ensures long { length result ≡ 16 }
-    ensures each { (k : ℕ) → k < 16 → slice_index result k ≡ slice_index lanes k / 16 }
+fn high_half(lanes: u8x64) -> u8x64
+    ensures long { length result ≡ 64 }
+    ensures each { (k : ℕ) → k < 64 → slice_index result k ≡ slice_index lanes k / 16 }
     ensures small { Each1 (λ j. j < 16) result }
 {
-    low_half(lanes >> u8x16::splat(TABLE_BITS))
+    low_half(lanes >> u8x64::splat(TABLE_BITS))
+}
+
+// A table at each quarter of a vector.
+#[inline(always)]
+fn spread(table: u8x16) -> u8x64
+    ensures { (k : ℕ) → k < 64 → slice_index result k ≡ slice_index table (k % 16) }
+{
+    joined(table, table, table, table)
 }
 
 /// The products of one byte by the numbers below 16 and by the multiples of 16: two of them add up to
@@ -178,29 +196,16 @@ impl Products {
         Products { factor, low, high }
     }
 
-    // The factor times each lane of a quarter.
-    #[inline(always)]
-    fn times_quarter(&self, lanes: u8x16) -> u8x16
-        ensures long { length result ≡ 16 }
-        ensures each { (k : ℕ) → k < 16
-            → slice_index result k ≡ times self.now.factor (slice_index lanes k) }
-    {
-        let low = low_half(lanes);
-        let high = high_half(lanes);
-        self.low.swizzle_dyn_within::<16>(low) ^ self.high.swizzle_dyn_within::<16>(high)
-    }
-
     /// The factor times each lane.
     #[inline(always)]
     pub fn times_lanes(&self, lanes: u8x64) -> u8x64
         ensures { (k : ℕ) → k < 64
             → slice_index result k ≡ times self.now.factor (slice_index lanes k) }
     {
-        let (a, b, c, d) = quarters(lanes);
-        let a = self.times_quarter(a);
-        let b = self.times_quarter(b);
-        let c = self.times_quarter(c);
-        let d = self.times_quarter(d);
-        joined(a, b, c, d)
+        let low = low_half(lanes);
+        let high = high_half(lanes);
+        let low_table = spread(self.low);
+        let high_table = spread(self.high);
+        low_table.swizzle_dyn_within::<16>(low) ^ high_table.swizzle_dyn_within::<16>(high)
     }
 }
