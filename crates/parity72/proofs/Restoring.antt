@@ -34,14 +34,9 @@ pub in_first : (a : ℕ) (rest : List ℕ) → Contains (a ∷ rest) a
 in_first a rest = (0, omega arith, refl)
 
 -- what restores more lost shards restores fewer
-pub restores-fewer : (fewer more left : List ℕ) (old new : List (List ℕ)) → ((i : ℕ) → Contains fewer i → Contains more i) → Restores more left old new → Restores fewer left old new
-restores-fewer fewer more left old new within restored =
+pub restores-fewer : (fewer more : List ℕ) (old new : List (List ℕ)) → ((i : ℕ) → Contains fewer i → Contains more i) → Restores more old new → Restores fewer old new
+restores-fewer fewer more old new within restored =
     record { same_count = restored.same_count; agrees = λ whole code outside. restored.agrees whole code (λ i lt not_more. outside i lt (λ h. not_more (within i h))) }
-
--- what is left is restored next
-pub restores-then : (lost left rest : List ℕ) (old now new : List (List ℕ)) → Restores lost left old now → Restores left rest now new → Restores lost rest old new
-restores-then lost left rest old now new first second =
-    record { same_count = second.same_count ∙ first.same_count; agrees = λ whole code outside. second.agrees whole code (first.agrees whole code outside) }
 
 -- a shard that has each byte of another
 same-shard : (new whole : List (List ℕ)) (i : ℕ) → length (shard_of new i) ≡ 4096 → length (shard_of whole i) ≡ 4096
@@ -50,7 +45,7 @@ same-shard new whole i ln lw same =
     same_number_lists (shard_of new i) (shard_of whole i) (ln ∙ sym lw) (λ k lt. same k (omega arith))
 
 -- ---- P and Q written anew
-pub restores-parities : (old new : List (List ℕ)) → Encodes old new 4096 → Restores (7 ∷ 8 ∷ []) [] old new
+pub restores-parities : (old new : List (List ℕ)) → Encodes old new 4096 → Restores (7 ∷ 8 ∷ []) old new
 restores-parities old new done =
     record {
       same_count = done.same_count;
@@ -59,7 +54,7 @@ restores-parities old new done =
           let data_is : (k i : ℕ) → i < 7 → byte_of old i k ≡ byte_of whole i k =
           λ k i lt. let np : i ≢ 7 = omega arith in let nq : i ≢ 8 = omega arith in
           ap (λ s. get_or s k 0) (outside i (omega arith) (not-in_two 7 8 i np nq)) in
-          λ i lt _. elim (cases_eq i 7) [
+          λ i lt. elim (cases_eq i 7) [
             | inl e ↦ ap (shard_of new) e
                 ∙ same-shard new whole 7 (sizes 7 (omega arith)) (code.sizes 7 (omega arith))
                 (λ k small. done.p k small ∙ p_of-same old whole k (data_is k) ∙ sym (code.p k small))
@@ -76,16 +71,15 @@ restores-parities old new done =
 
 -- ---- shards whose columns are fixed
 -- each column of a codeword, and of the shards that agree with it, is fixed to that of the codeword
-restores-fixed : (fix : (ℕ → ℕ) → ℕ → ℕ) (lost left : List ℕ) (old new : List (List ℕ)) → length old ≡ 9 → Fixes fix old new 0 4096
-    → ((whole : List (List ℕ)) → IsCodeword whole → AgreesOutside lost old whole → (k : ℕ) → k < 4096 → (i : ℕ) → i < 9 → ¬ Contains left i
-    → fix (column_of old k) i ≡ byte_of whole i k)
-    → Restores lost left old new
-restores-fixed fix lost left old new nine done right =
+restores-fixed : (fix : (ℕ → ℕ) → ℕ → ℕ) (lost : List ℕ) (old new : List (List ℕ)) → length old ≡ 9 → Fixes fix old new 0 4096
+    → ((whole : List (List ℕ)) → IsCodeword whole → AgreesOutside lost old whole → (k : ℕ) → k < 4096 → (i : ℕ) → i < 9 → fix (column_of old k) i ≡ byte_of whole i k)
+    → Restores lost old new
+restores-fixed fix lost old new nine done right =
     record {
       same_count = done.same_count;
-      agrees = λ whole code outside i lt not_left.
+      agrees = λ whole code outside i lt.
           same-shard new whole i (done.same_sizes i ∙ done.sizes i (omega arith) (omega arith)) (code.sizes i lt)
-          (λ k small. done.fixed i k (omega arith) small ∙ right whole code outside k small i lt not_left);
+          (λ k small. done.fixed i k (omega arith) small ∙ right whole code outside k small i lt);
     }
 
 -- ---- a column o, and the column w of a codeword
@@ -104,10 +98,10 @@ by-p a o w lt p_is same =
     ∙ xor-undone (o a) (w a)
 
 -- a data shard
-pub restores-data : (a : ℕ) (old new : List (List ℕ)) → length old ≡ 9 → a < 7 → Fixes (with_p_syndrome a) old new 0 4096 → Restores (a ∷ []) [] old new
+pub restores-data : (a : ℕ) (old new : List (List ℕ)) → length old ≡ 9 → a < 7 → Fixes (with_p_syndrome a) old new 0 4096 → Restores (a ∷ []) old new
 restores-data a old new nine lt done =
-    restores-fixed (with_p_syndrome a) (a ∷ []) [] old new nine done
-    (λ whole code outside k small i li _.
+    restores-fixed (with_p_syndrome a) (a ∷ []) old new nine done
+    (λ whole code outside k small i li.
     let o : ℕ → ℕ = λ i. byte_of old i k in
     let w : ℕ → ℕ = λ i. byte_of whole i k in
     let same : (i : ℕ) → i < 9 → i ≢ a → o i ≡ w i = λ i l ne. ap (λ s. get_or s k 0) (outside i l (not-in_one a i ne)) in
@@ -127,10 +121,10 @@ q-by-p a o w lt p_is q_is same =
     ∙ ap (bit_xor (weighted o)) (sym difference)
     ∙ xor-undone (weighted o) (weighted w) ∙ sym q_is
 
-pub restores-data-and-q : (a : ℕ) (old new : List (List ℕ)) → length old ≡ 9 → a < 7 → Fixes (with_p_and_q a (power_of_two a)) old new 0 4096 → Restores (a ∷ 8 ∷ []) [] old new
+pub restores-data-and-q : (a : ℕ) (old new : List (List ℕ)) → length old ≡ 9 → a < 7 → Fixes (with_p_and_q a (power_of_two a)) old new 0 4096 → Restores (a ∷ 8 ∷ []) old new
 restores-data-and-q a old new nine lt done =
-    restores-fixed (with_p_and_q a (power_of_two a)) (a ∷ 8 ∷ []) [] old new nine done
-    (λ whole code outside k small i li _.
+    restores-fixed (with_p_and_q a (power_of_two a)) (a ∷ 8 ∷ []) old new nine done
+    (λ whole code outside k small i li.
     let o : ℕ → ℕ = λ i. byte_of old i k in
     let w : ℕ → ℕ = λ i. byte_of whole i k in
     let q = bit_xor (weighted o) (times (power_of_two a) (p_syndrome o)) in
@@ -213,22 +207,22 @@ pair-fixed a b by o w la lb ne ly factor p_is q_is fits same i li =
     ]
 
 pub restores-pair : (a b by : ℕ) (old new : List (List ℕ)) → length old ≡ 9 → a < 8 → b < 7 → a ≢ b → by < 256 → times by (bit_xor (weight_of a) (power_of_two b)) ≡ 1
-    → Fixes (with_pair a b by) old new 0 4096 → Restores (a ∷ b ∷ []) [] old new
+    → Fixes (with_pair a b by) old new 0 4096 → Restores (a ∷ b ∷ []) old new
 restores-pair a b by old new nine la lb ne ly factor done =
-    restores-fixed (with_pair a b by) (a ∷ b ∷ []) [] old new nine done
-    (λ whole code outside k small i li _.
+    restores-fixed (with_pair a b by) (a ∷ b ∷ []) old new nine done
+    (λ whole code outside k small i li.
     pair-fixed a b by (λ i. byte_of old i k) (λ i. byte_of whole i k) la lb ne ly factor (code.p k small) (code.q k small) (code.bytes b k (omega arith) small)
     (λ i l na nb. ap (λ s. get_or s k 0) (outside i l (not-in_two a b i na nb))) i li)
 
 -- ---- the whole
-pub restored-whole : (lost : List ℕ) (old new : List (List ℕ)) → length old ≡ 9 → Restores lost [] old new
+pub restored-whole : (lost : List ℕ) (old new : List (List ℕ)) → length old ≡ 9 → Restores lost old new
     → (whole : List (List ℕ)) → IsCodeword whole → AgreesOutside lost old whole → new ≡ whole
 restored-whole lost old new nine restored whole code outside =
     ext_get_or [] new whole (restored.same_count ∙ nine ∙ sym code.count)
-    (λ i lt. restored.agrees whole code outside i (omega (arith, restored.same_count)) (λ h. absurd (omega (arith, h.1))))
+    (λ i lt. restored.agrees whole code outside i (omega (arith, restored.same_count)))
 
-pub restores-nothing : (old : List (List ℕ)) → Restores [] [] old old
-restores-nothing old = record { same_count = refl; agrees = λ whole code outside. outside }
+pub restores-nothing : (old : List (List ℕ)) → Restores [] old old
+restores-nothing old = record { same_count = refl; agrees = λ whole code outside i lt. outside i lt (λ h. absurd (omega (arith, h.1))) }
 
 -- ---- the lost numbers in another order, or fewer of them
 only-at : (a i k : ℕ) → k < 1 → get_or (a ∷ []) k i ≡ i → i ≡ a
@@ -243,37 +237,37 @@ either-at a b i zero lt e = (1, omega arith, e)
 either-at a b i (suc zero) lt e = (0, omega arith, e)
 either-at a b i (suc (suc k)) lt e = absurd (omega arith)
 
-pub restores-turned : (a b : ℕ) (left : List ℕ) (old new : List (List ℕ)) → Restores (a ∷ b ∷ []) left old new → Restores (b ∷ a ∷ []) left old new
-restores-turned a b left old new restored = restores-fewer (b ∷ a ∷ []) (a ∷ b ∷ []) left old new (λ i h. either-at b a i h.0 h.1 h.2) restored
+pub restores-turned : (a b : ℕ) (old new : List (List ℕ)) → Restores (a ∷ b ∷ []) old new → Restores (b ∷ a ∷ []) old new
+restores-turned a b old new restored = restores-fewer (b ∷ a ∷ []) (a ∷ b ∷ []) old new (λ i h. either-at b a i h.0 h.1 h.2) restored
 
-pub restores-first : (a b i : ℕ) (old new : List (List ℕ)) → i ≡ a → Restores (a ∷ b ∷ []) [] old new → Restores (i ∷ []) [] old new
+pub restores-first : (a b i : ℕ) (old new : List (List ℕ)) → i ≡ a → Restores (a ∷ b ∷ []) old new → Restores (i ∷ []) old new
 restores-first a b i old new e restored =
-    restores-fewer (i ∷ []) (a ∷ b ∷ []) [] old new (λ j h. subst (Contains (a ∷ b ∷ [])) (sym (only i j h ∙ e)) (in_first a (b ∷ []))) restored
+    restores-fewer (i ∷ []) (a ∷ b ∷ []) old new (λ j h. subst (Contains (a ∷ b ∷ [])) (sym (only i j h ∙ e)) (in_first a (b ∷ []))) restored
 
-pub restores-second : (a b i : ℕ) (old new : List (List ℕ)) → i ≡ b → Restores (a ∷ b ∷ []) [] old new → Restores (i ∷ []) [] old new
+pub restores-second : (a b i : ℕ) (old new : List (List ℕ)) → i ≡ b → Restores (a ∷ b ∷ []) old new → Restores (i ∷ []) old new
 restores-second a b i old new e restored =
-    restores-first b a i old new e (restores-turned a b [] old new restored)
+    restores-first b a i old new e (restores-turned a b old new restored)
 
-pub restores-q : (old new : List (List ℕ)) → Restores (7 ∷ 8 ∷ []) [] old new → Restores (8 ∷ []) [] old new
+pub restores-q : (old new : List (List ℕ)) → Restores (7 ∷ 8 ∷ []) old new → Restores (8 ∷ []) old new
 restores-q old new restored = restores-second 7 8 8 old new refl restored
 
-pub restores-parity : (i : ℕ) (old new : List (List ℕ)) → 7 ≤ i → i < 9 → Restores (7 ∷ 8 ∷ []) [] old new → Restores (i ∷ []) [] old new
+pub restores-parity : (i : ℕ) (old new : List (List ℕ)) → 7 ≤ i → i < 9 → Restores (7 ∷ 8 ∷ []) old new → Restores (i ∷ []) old new
 restores-parity i old new from to restored =
     elim (cases_eq i 7) [
       | inl e ↦ restores-first 7 8 i old new e restored
       | inr ne ↦ restores-second 7 8 i old new (omega arith) restored
     ]
 
-pub restores-two-parities : (i j : ℕ) (old new : List (List ℕ)) → 7 ≤ i → i < 9 → 7 ≤ j → j < 9 → i ≢ j → Restores (7 ∷ 8 ∷ []) [] old new → Restores (i ∷ j ∷ []) [] old new
+pub restores-two-parities : (i j : ℕ) (old new : List (List ℕ)) → 7 ≤ i → i < 9 → 7 ≤ j → j < 9 → i ≢ j → Restores (7 ∷ 8 ∷ []) old new → Restores (i ∷ j ∷ []) old new
 restores-two-parities i j old new fi ti fj tj ne restored =
     elim (cases_eq i 7) [
       | inl e ↦
           let f : j ≡ 8 = omega arith in
-          subst (λ a. Restores (a ∷ j ∷ []) [] old new) (sym e) (subst (λ b. Restores (7 ∷ b ∷ []) [] old new) (sym f) restored)
+          subst (λ a. Restores (a ∷ j ∷ []) old new) (sym e) (subst (λ b. Restores (7 ∷ b ∷ []) old new) (sym f) restored)
       | inr other ↦
           let e : i ≡ 8 = omega arith in
           let f : j ≡ 7 = omega arith in
-          subst (λ a. Restores (a ∷ j ∷ []) [] old new) (sym e) (subst (λ b. Restores (8 ∷ b ∷ []) [] old new) (sym f) (restores-turned 7 8 [] old new restored))
+          subst (λ a. Restores (a ∷ j ∷ []) old new) (sym e) (subst (λ b. Restores (8 ∷ b ∷ []) old new) (sym f) (restores-turned 7 8 old new restored))
     ]
 
 -- ---- a list by its length

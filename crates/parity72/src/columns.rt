@@ -5,7 +5,7 @@ ghost use Rattle.parity72.specs.Parity.{IsRead, shard_of, p_of, q_of};
 ghost use Rattle.parity72.specs.Recovery.{both_of, column_of, filled, weighted, without};
 
 use crate::layout::{DATA_SHARDS, P, SHARD_BYTES};
-use gf256::{add_lanes, double_lanes_and_1d, lanes_at};
+use gf256::{LANES, add_lanes, double_lanes_and_1d, lanes_at};
 use std::simd::prelude::*;
 
 // What Horner's rule adds to the sum over seven shards, where each of its six doublings adds 1D.
@@ -15,11 +15,11 @@ const ADDED: u8 = 0xF1;
 /// the last shard down the sum of two to the i times the i-th.
 #[inline(always)]
 pub fn parities_at(shards: &[[u8; SHARD_BYTES]], at: usize) -> (u8x64, u8x64)
-    requires seven { 7 ≤ length shards.now }
-    requires room { at + 64 ≤ 4096 }
-    ensures was_read { IsRead 7 shards.now at (at + 64) }
-    ensures p { (k : ℕ) → k < 64 → slice_index result.0 k ≡ p_of shards.now (at + k) }
-    ensures q { (k : ℕ) → k < 64 → slice_index result.1 k ≡ q_of shards.now (at + k) }
+    requires seven { DATA_SHARDS ≤ length shards.now }
+    requires room { at + LANES ≤ SHARD_BYTES }
+    ensures was_read { IsRead 7 shards.now at (at + LANES) }
+    ensures p { (k : ℕ) → k < LANES → slice_index result.0 k ≡ p_of shards.now (at + k) }
+    ensures q { (k : ℕ) → k < LANES → slice_index result.1 k ≡ q_of shards.now (at + k) }
 {
     let mut i = DATA_SHARDS - 1;
     let mut p = lanes_at(&shards[i], at);
@@ -37,10 +37,10 @@ pub fn parities_at(shards: &[[u8; SHARD_BYTES]], at: usize) -> (u8x64, u8x64)
 #[inline(always)]
 fn known_at(shards: &[[u8; SHARD_BYTES]], a: usize, b: usize, i: usize, at: usize) -> u8x64
     requires i_in { i < length shards.now }
-    requires room { at + 64 ≤ 4096 }
-    ensures known { (k : ℕ) → k < 64
+    requires room { at + LANES ≤ SHARD_BYTES }
+    ensures known { (k : ℕ) → k < LANES
         → slice_index result k ≡ without a b (column_of shards.now (at + k)) i }
-    ensures bytes { (k : ℕ) → k < 64 → without a b (column_of shards.now (at + k)) i < 256 }
+    ensures bytes { (k : ℕ) → k < LANES → without a b (column_of shards.now (at + k)) i < 256 }
 {
     if i == a {
         u8x64::splat(0)
@@ -56,9 +56,9 @@ fn known_at(shards: &[[u8; SHARD_BYTES]], a: usize, b: usize, i: usize, at: usiz
 #[inline(always)]
 pub fn both_at(shards: &[[u8; SHARD_BYTES]], a: usize, b: usize, at: usize) -> u8x64
     requires eight { 8 ≤ length shards.now }
-    requires room { at + 64 ≤ 4096 }
-    ensures sizes { (i : ℕ) → i < length shards.now → length (shard_of shards.now i) ≡ 4096 }
-    ensures sum { (k : ℕ) → k < 64
+    requires room { at + LANES ≤ SHARD_BYTES }
+    ensures sizes { (i : ℕ) → i < length shards.now → length (shard_of shards.now i) ≡ SHARD_BYTES }
+    ensures sum { (k : ℕ) → k < LANES
         → slice_index result k ≡ both_of a b (column_of shards.now (at + k)) }
 {
     let mut sum = u8x64::splat(0);
@@ -81,12 +81,12 @@ fn filled_at(
     at: usize,
 ) -> u8x64
     requires i_in { i < length shards.now }
-    requires room { at + 64 ≤ 4096 }
-    requires both_is { (k : ℕ) → k < 64
+    requires room { at + LANES ≤ SHARD_BYTES }
+    requires both_is { (k : ℕ) → k < LANES
         → slice_index both k ≡ both_of a b (column_of shards.now (at + k)) }
-    ensures filled { (k : ℕ) → k < 64
+    ensures filled { (k : ℕ) → k < LANES
         → slice_index result k ≡ filled a b (column_of shards.now (at + k)) i }
-    ensures bytes { (k : ℕ) → k < 64 → filled a b (column_of shards.now (at + k)) i < 256 }
+    ensures bytes { (k : ℕ) → k < LANES → filled a b (column_of shards.now (at + k)) i < 256 }
 {
     if i == a {
         both
@@ -105,11 +105,11 @@ pub fn filled_q_at(
     both: u8x64,
     at: usize,
 ) -> u8x64
-    requires seven { 7 ≤ length shards.now }
-    requires room { at + 64 ≤ 4096 }
-    requires both_is { (k : ℕ) → k < 64
+    requires seven { DATA_SHARDS ≤ length shards.now }
+    requires room { at + LANES ≤ SHARD_BYTES }
+    requires both_is { (k : ℕ) → k < LANES
         → slice_index both k ≡ both_of a b (column_of shards.now (at + k)) }
-    ensures { (k : ℕ) → k < 64
+    ensures { (k : ℕ) → k < LANES
         → slice_index result k ≡ weighted (filled a b (column_of shards.now (at + k))) }
 {
     let mut i = DATA_SHARDS - 1;

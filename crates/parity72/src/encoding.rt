@@ -27,7 +27,7 @@ pub fn encode(
 
 /// Writes P and Q of the first seven of nine shards to the last two.
 pub fn encode_again(shards: &mut [[u8; SHARD_BYTES]; SHARDS])
-    ensures { Encodes shards.old shards.new 4096 }
+    ensures { Encodes shards.old shards.new SHARD_BYTES }
 {
     for block in 0..BLOCKS {
         let at = block * LANES;

@@ -17,9 +17,9 @@ const P_NUMBER: u8 = P as u8;
 // Adds P's syndrome to the 64 bytes of shard `a` from `at` on.
 #[inline(always)]
 fn correct_block_by_p(shards: &mut [[u8; SHARD_BYTES]; SHARDS], a: usize, at: usize)
-    requires room { at + 64 ≤ 4096 }
-    requires a_in { a < 9 }
-    ensures { Fixes (with_p_syndrome a) shards.old shards.new at (at + 64) }
+    requires room { at + LANES ≤ SHARD_BYTES }
+    requires a_in { a < SHARDS }
+    ensures { Fixes (with_p_syndrome a) shards.old shards.new at (at + LANES) }
 {
     let (p, _) = parities_at(shards, at);
     let syndrome = add_lanes(p, lanes_at(&shards[P], at));
@@ -29,8 +29,8 @@ fn correct_block_by_p(shards: &mut [[u8; SHARD_BYTES]; SHARDS], a: usize, at: us
 
 // Corrects shard `a` by P, in one pass over eight.
 fn correct_by_p(shards: &mut [[u8; SHARD_BYTES]; SHARDS], a: usize)
-    requires { a < 9 }
-    ensures { Fixes (with_p_syndrome a) shards.old shards.new 0 4096 }
+    requires { a < SHARDS }
+    ensures { Fixes (with_p_syndrome a) shards.old shards.new 0 SHARD_BYTES }
 {
     for block in 0..BLOCKS {
         correct_block_by_p(shards, a, block * LANES);
@@ -46,9 +46,9 @@ fn correct_block_and_q(
     power: &Products,
     at: usize,
 )
-    requires room { at + 64 ≤ 4096 }
-    requires a_in { a < 7 }
-    ensures { Fixes (with_p_and_q a power.now.factor) shards.old shards.new at (at + 64) }
+    requires room { at + LANES ≤ SHARD_BYTES }
+    requires a_in { a < DATA_SHARDS }
+    ensures { Fixes (with_p_and_q a power.now.factor) shards.old shards.new at (at + LANES) }
 {
     let (p, q) = parities_at(shards, at);
     let syndrome = add_lanes(p, lanes_at(&shards[P], at));
@@ -60,8 +60,8 @@ fn correct_block_and_q(
 
 // Corrects data shard `a` by P and writes Q, in one pass over nine.
 fn correct_and_q(shards: &mut [[u8; SHARD_BYTES]; SHARDS], a: usize, power: u8)
-    requires { a < 7 }
-    ensures { Fixes (with_p_and_q a power) shards.old shards.new 0 4096 }
+    requires { a < DATA_SHARDS }
+    ensures { Fixes (with_p_and_q a power) shards.old shards.new 0 SHARD_BYTES }
 {
     let products = Products::of(power);
     for block in 0..BLOCKS {
@@ -80,10 +80,10 @@ fn correct_block(
     by: &Products,
     at: usize,
 )
-    requires room { at + 64 ≤ 4096 }
+    requires room { at + LANES ≤ SHARD_BYTES }
     requires a_in { a < 8 }
-    requires b_in { b < 7 }
-    ensures { Fixes (with_pair a b by.now.factor) shards.old shards.new at (at + 64) }
+    requires b_in { b < DATA_SHARDS }
+    ensures { Fixes (with_pair a b by.now.factor) shards.old shards.new at (at + LANES) }
 {
     let both = both_at(shards, a, b, at);
     let q = filled_q_at(shards, a, b, both, at);
@@ -97,8 +97,8 @@ fn correct_block(
 #[inline(always)]
 fn correct(shards: &mut [[u8; SHARD_BYTES]; SHARDS], a: usize, b: usize, by: u8)
     requires a_in { a < 8 }
-    requires b_in { b < 7 }
-    ensures { Fixes (with_pair a b by) shards.old shards.new 0 4096 }
+    requires b_in { b < DATA_SHARDS }
+    ensures { Fixes (with_pair a b by) shards.old shards.new 0 SHARD_BYTES }
 {
     let products = Products::of(by);
     for block in 0..BLOCKS {
@@ -122,9 +122,9 @@ fn weight_of(a: u8) -> u8
 #[inline(always)]
 fn recover_pair(shards: &mut [[u8; SHARD_BYTES]; SHARDS], a: u8, b: u8)
     requires a_in { a < 8 }
-    requires b_in { b < 7 }
+    requires b_in { b < DATA_SHARDS }
     requires apart { a ≢ b }
-    ensures { Restores (a ∷ b ∷ []) [] shards.old shards.new }
+    ensures { Restores (a ∷ b ∷ []) shards.old shards.new }
 {
     let by = div(1, weight_of(a) ^ power_of_two(b));
     correct(shards, a as usize, b as usize, by);
@@ -134,9 +134,9 @@ fn recover_pair(shards: &mut [[u8; SHARD_BYTES]; SHARDS], a: u8, b: u8)
 // numbers, it leaves out what is lost and the tests for it, and computes the factor.
 fn recover_this_pair(shards: &mut [[u8; SHARD_BYTES]; SHARDS], a: u8, b: u8)
     requires a_in { a < 8 }
-    requires b_in { b < 7 }
+    requires b_in { b < DATA_SHARDS }
     requires apart { a ≢ b }
-    ensures { Restores (a ∷ b ∷ []) [] shards.old shards.new }
+    ensures { Restores (a ∷ b ∷ []) shards.old shards.new }
 {
     match (a, b) {
         (0, 1) => recover_pair(shards, 0, 1),
@@ -173,10 +173,10 @@ fn recover_this_pair(shards: &mut [[u8; SHARD_BYTES]; SHARDS], a: u8, b: u8)
 
 // Two data shards.
 fn recover_two_data(shards: &mut [[u8; SHARD_BYTES]; SHARDS], first: u8, second: u8)
-    requires first_in { first < 7 }
-    requires second_in { second < 7 }
+    requires first_in { first < DATA_SHARDS }
+    requires second_in { second < DATA_SHARDS }
     requires apart { first ≢ second }
-    ensures { Restores (first ∷ second ∷ []) [] shards.old shards.new }
+    ensures { Restores (first ∷ second ∷ []) shards.old shards.new }
 {
     if first < second {
         recover_this_pair(shards, first, second);
@@ -187,38 +187,38 @@ fn recover_two_data(shards: &mut [[u8; SHARD_BYTES]; SHARDS], first: u8, second:
 
 // A data shard and P.
 fn recover_data_and_p(shards: &mut [[u8; SHARD_BYTES]; SHARDS], i: u8)
-    requires { i < 7 }
-    ensures { Restores (i ∷ 7 ∷ []) [] shards.old shards.new }
+    requires { i < DATA_SHARDS }
+    ensures { Restores (i ∷ 7 ∷ []) shards.old shards.new }
 {
     recover_this_pair(shards, P_NUMBER, i);
 }
 
 // A data shard by P.
 fn recover_data(shards: &mut [[u8; SHARD_BYTES]; SHARDS], i: u8)
-    requires { i < 7 }
-    ensures { Restores (i ∷ []) [] shards.old shards.new }
+    requires { i < DATA_SHARDS }
+    ensures { Restores (i ∷ []) shards.old shards.new }
 {
     correct_by_p(shards, i as usize);
 }
 
 // A data shard and Q.
 fn recover_data_and_q(shards: &mut [[u8; SHARD_BYTES]; SHARDS], i: u8)
-    requires { i < 7 }
-    ensures { Restores (i ∷ 8 ∷ []) [] shards.old shards.new }
+    requires { i < DATA_SHARDS }
+    ensures { Restores (i ∷ 8 ∷ []) shards.old shards.new }
 {
     correct_and_q(shards, i as usize, power_of_two(i));
 }
 
 // P and Q.
 fn recover_parities(shards: &mut [[u8; SHARD_BYTES]; SHARDS])
-    ensures { Restores (7 ∷ 8 ∷ []) [] shards.old shards.new }
+    ensures { Restores (7 ∷ 8 ∷ []) shards.old shards.new }
 {
     encode_again(shards);
 }
 
 fn recover_one(shards: &mut [[u8; SHARD_BYTES]; SHARDS], i: u8)
-    requires { i < 9 }
-    ensures { Restores (i ∷ []) [] shards.old shards.new }
+    requires { i < SHARDS }
+    ensures { Restores (i ∷ []) shards.old shards.new }
 {
     if i < DATA {
         recover_data(shards, i);
@@ -228,10 +228,10 @@ fn recover_one(shards: &mut [[u8; SHARD_BYTES]; SHARDS], i: u8)
 }
 
 fn recover_data_and_parity(shards: &mut [[u8; SHARD_BYTES]; SHARDS], i: u8, parity: u8)
-    requires data_in { i < 7 }
+    requires data_in { i < DATA_SHARDS }
     requires parity_from { 7 ≤ parity }
-    requires parity_to { parity < 9 }
-    ensures { Restores (i ∷ parity ∷ []) [] shards.old shards.new }
+    requires parity_to { parity < SHARDS }
+    ensures { Restores (i ∷ parity ∷ []) shards.old shards.new }
 {
     if parity == P_NUMBER {
         recover_data_and_p(shards, i);
@@ -241,10 +241,10 @@ fn recover_data_and_parity(shards: &mut [[u8; SHARD_BYTES]; SHARDS], i: u8, pari
 }
 
 fn recover_two(shards: &mut [[u8; SHARD_BYTES]; SHARDS], i: u8, j: u8)
-    requires i_in { i < 9 }
-    requires j_in { j < 9 }
+    requires i_in { i < SHARDS }
+    requires j_in { j < SHARDS }
     requires apart { i ≢ j }
-    ensures { Restores (i ∷ j ∷ []) [] shards.old shards.new }
+    ensures { Restores (i ∷ j ∷ []) shards.old shards.new }
 {
     if i < DATA && j < DATA {
         recover_two_data(shards, i, j);
@@ -261,7 +261,7 @@ fn recover_two(shards: &mut [[u8; SHARD_BYTES]; SHARDS], i: u8, j: u8)
 /// hold, in one pass over the shards.
 /// H. P. Anvin, "The mathematics of RAID-6".
 pub fn recover(shards: &mut [[u8; SHARD_BYTES]; SHARDS], lost: &ArrayVec<u8, 2>)
-    requires numbers { All (λ i. i < 9) lost.now.items }
+    requires numbers { All (λ i. i < SHARDS) lost.now.items }
     requires distinct { AllPairs (λ i j. i ≢ j) lost.now.items }
     ensures { (whole : List (List ℕ)) → IsCodeword whole → AgreesOutside lost.now.items shards.old whole
         → shards.new ≡ whole }

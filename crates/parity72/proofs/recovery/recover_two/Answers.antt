@@ -1,9 +1,8 @@
-use Rattle.std.proofs.Common.{[]}
 use Rattle.parity72.proofs.Restoring.{restores-turned, restores-two-parities}
 use Rattle.parity72.proofs.recovery.recover_two.Goals as goal
 
 pub returns-then-j-lt-DATA-2 : goal.returns-then-j-lt-DATA-2
-returns-then-j-lt-DATA-2 c = restores-turned c.args.j c.args.i [] c.args.shards.now _ c.recover_data_and_parity-then-j-lt-DATA-2.ensures
+returns-then-j-lt-DATA-2 c = restores-turned c.args.j c.args.i c.args.shards.now _ c.recover_data_and_parity-then-j-lt-DATA-2.ensures
 
 pub returns-else-j-lt-DATA-2 : goal.returns-else-j-lt-DATA-2
 returns-else-j-lt-DATA-2 c =
