@@ -22,7 +22,9 @@ static uint8_t *data[DATA], *parities[2];
 static void *array[ALL];
 
 static void ours_encode(void) { parity_bench_encode((const uint8_t(*)[BYTES])shards, shards[7], shards[8]); }
-static void ours_recover(void) { parity_bench_recover(shards, 1, 4); }
+static void ours_two_data(void) { parity_bench_recover(shards, 1, 4); }
+static void ours_data_and_p(void) { parity_bench_recover(shards, 1, 7); }
+static void ours_data_and_q(void) { parity_bench_recover(shards, 1, 8); }
 static void theirs_encode(void) { ec_encode_data(BYTES, DATA, 2, tables, data, parities); }
 static void theirs_pq(void) { pq_gen(ALL, BYTES, array); }
 #ifdef HAS_PQ_GEN_AVX2
@@ -105,6 +107,8 @@ int main(int argc, char **argv) {
 #ifdef HAS_PQ_GEN_AVX2
     measure(build, "encode : pq_gen_avx2", ours_encode, theirs_pq_avx2);
 #endif
-    measure(build, "recover two data : ec_encode_data", ours_recover, theirs_encode);
+    measure(build, "recover two data : ec_encode_data", ours_two_data, theirs_encode);
+    measure(build, "recover data and P : ec_encode_data", ours_data_and_p, theirs_encode);
+    measure(build, "recover data and Q : ec_encode_data", ours_data_and_q, theirs_encode);
     return 0;
 }

@@ -9,7 +9,7 @@ use Rattle.std.proofs.lemmas.Bool.{cases_lt}
 use Rattle.std.proofs.lemmas.List.{get_or_append_left, get_or-append_right, take_all, length-drop, length-append}
 use borrow.Author.Tests.{eqb-true}
 use Rattle.gf256.specs.Field.{doubled}
-use Rattle.gf256.proofs.Checks.{all_below, all_below-at}
+use Rattle.gf256.proofs.Checks.{all_below-at}
 
 pub len-rep : (n a : ℕ) → length (replicate n a) ≡ n
 len-rep n a = length-replicate n a

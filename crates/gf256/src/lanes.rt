@@ -8,25 +8,34 @@ use std::simd::prelude::*;
 
 /// The bytes of a vector.
 pub const LANES: usize = 64;
+
 const HALF: usize = 32;
 // The bytes of a quarter, which are the entries of a table too.
 const QUARTER: usize = 16;
+
 const THREE_QUARTERS: usize = 48;
 
 // The numbers below 16, 32 and 64: the lanes of a table, of half a vector and of a vector.
 const DIGITS: [u8; QUARTER] = [0, 1, 2, 3, 4, 5, 6, 7, 8, 9, 10, 11, 12, 13, 14, 15];
+
 const HALF_LANES: [usize; HALF] = [
-    0, 1, 2, 3, 4, 5, 6, 7, 8, 9, 10, 11, 12, 13, 14, 15, 16, 17, 18, 19, 20, 21, 22, 23, 24, 25, 26, 27, 28, 29, 30, 31,
+    0, 1, 2, 3, 4, 5, 6, 7, 8, 9, 10, 11, 12, 13, 14, 15, 16, 17, 18, 19, 20, 21, 22, 23, 24, 25,
+    26, 27, 28, 29, 30, 31,
 ];
+
 const ALL_LANES: [usize; LANES] = [
-    0, 1, 2, 3, 4, 5, 6, 7, 8, 9, 10, 11, 12, 13, 14, 15, 16, 17, 18, 19, 20, 21, 22, 23, 24, 25, 26, 27, 28, 29, 30, 31, 32, 33, 34, 35, 36, 37, 38, 39, 40, 41, 42, 43, 44, 45, 46, 47, 48, 49, 50, 51, 52, 53, 54, 55, 56, 57, 58, 59, 60, 61, 62, 63,
+    0, 1, 2, 3, 4, 5, 6, 7, 8, 9, 10, 11, 12, 13, 14, 15, 16, 17, 18, 19, 20, 21, 22, 23, 24, 25,
+    26, 27, 28, 29, 30, 31, 32, 33, 34, 35, 36, 37, 38, 39, 40, 41, 42, 43, 44, 45, 46, 47, 48, 49,
+    50, 51, 52, 53, 54, 55, 56, 57, 58, 59, 60, 61, 62, 63,
 ];
 
 // x^8 as a byte.
 const REDUCTION: u8 = 0x1D;
 // The bit that x^7 is, the bits that choose an entry of a table, and how many these are.
 const TOP_BIT: u8 = 0x80;
+
 const PLACE: u8 = 0x0F;
+
 const PLACE_BITS: u8 = 4;
 
 /// The 64 bytes of `from` from `at` on.
@@ -215,6 +224,7 @@ impl Products {
         let high = high_half(lanes);
         let low_table = spread(self.low);
         let high_table = spread(self.high);
-        low_table.swizzle_dyn_within::<QUARTER>(low) ^ high_table.swizzle_dyn_within::<QUARTER>(high)
+        low_table.swizzle_dyn_within::<QUARTER>(low)
+            ^ high_table.swizzle_dyn_within::<QUARTER>(high)
     }
 }

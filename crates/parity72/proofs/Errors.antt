@@ -1,9 +1,9 @@
--- What the syndromes tell of the errors, and how two of them are solved.
-use Rattle.std.proofs.Common.{◌≡◌, ◌≢◌, ℕ, ◌<◌, ap, sym, ◌∙◌, arith, bit_xor}
-use lib.Bits.{xor_zero_l, xor_zero_r, xor_self, xor_comm, xor_assoc, xor_lt}
+-- What P and Q tell of the errors, and how the one that is left is solved.
+use Rattle.std.proofs.Common.{◌≡◌, ◌≢◌, ℕ, ◌<◌, ap, sym, ◌∙◌, bit_xor}
+use lib.Bits.{xor_zero_l, xor_zero_r, xor_self, xor_assoc}
 use Rattle.gf256.specs.Field.{times, power_of_two}
 use Rattle.gf256.proofs.Linear.{four, times-xor_right}
-use Rattle.gf256.proofs.Laws.{times-assoc, times-comm, times-zero, zero-times, one-times, quotient-only}
+use Rattle.gf256.proofs.Laws.{times-assoc, times-zero, one-times}
 use Rattle.parity72.specs.Parity.{sum_below}
 use Rattle.parity72.specs.Recovery.{weighted}
 use Rattle.parity72.proofs.Sums.{sum-same, sum-xor, sum-one, sum-two}
@@ -45,9 +45,6 @@ weighted-errors o w =
 -- ---- where only one data shard or two are wrong
 pub plain-one : (d : ℕ → ℕ) (a : ℕ) → a < 7 → ((i : ℕ) → i < 7 → i ≢ a → d i ≡ 0) → plain d ≡ d a
 plain-one d a lt h = sum-one 7 d a lt h
-
-pub plain-two : (d : ℕ → ℕ) (a b : ℕ) → a < 7 → b < 7 → a ≢ b → ((i : ℕ) → i < 7 → i ≢ a → i ≢ b → d i ≡ 0) → plain d ≡ bit_xor (d a) (d b)
-plain-two d a b la lb ne h = sum-two 7 d a b la lb ne h
 
 term-none : (d : ℕ → ℕ) (i : ℕ) → d i ≡ 0 → times (power_of_two i) (d i) ≡ 0
 term-none d i e = ap (times (power_of_two i)) e ∙ times-zero (power_of_two i)

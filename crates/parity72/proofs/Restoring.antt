@@ -248,9 +248,6 @@ pub restores-second : (a b i : ℕ) (old new : List (List ℕ)) → i ≡ b → 
 restores-second a b i old new e restored =
     restores-first b a i old new e (restores-turned a b old new restored)
 
-pub restores-q : (old new : List (List ℕ)) → Restores (7 ∷ 8 ∷ []) old new → Restores (8 ∷ []) old new
-restores-q old new restored = restores-second 7 8 8 old new refl restored
-
 pub restores-parity : (i : ℕ) (old new : List (List ℕ)) → 7 ≤ i → i < 9 → Restores (7 ∷ 8 ∷ []) old new → Restores (i ∷ []) old new
 restores-parity i old new from to restored =
     elim (cases_eq i 7) [

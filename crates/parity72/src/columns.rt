@@ -55,7 +55,7 @@ fn known_at(shards: &[[u8; SHARD_BYTES]], a: usize, b: usize, i: usize, at: usiz
 /// these.
 #[inline(always)]
 pub fn both_at(shards: &[[u8; SHARD_BYTES]], a: usize, b: usize, at: usize) -> u8x64
-    requires eight { 8 ≤ length shards.now }
+    requires with_p { P < length shards.now }
     requires room { at + LANES ≤ SHARD_BYTES }
     ensures sizes { (i : ℕ) → i < length shards.now → length (shard_of shards.now i) ≡ SHARD_BYTES }
     ensures sum { (k : ℕ) → k < LANES

@@ -8,6 +8,7 @@ pub const SHARD_BYTES: usize = 4096;
 pub const DATA_SHARDS: usize = 7;
 /// The shard that is P, and the one that is Q.
 pub const P: usize = 7;
+
 pub const Q: usize = 8;
 /// The data shards, P and Q.
 pub const SHARDS: usize = 9;

@@ -12,6 +12,7 @@ use gf256::{LANES, Products, add_lanes, div, lanes_at, power_of_two, put_lanes};
 
 // The same as numbers of lost shards.
 const DATA: u8 = DATA_SHARDS as u8;
+
 const P_NUMBER: u8 = P as u8;
 
 // Adds P's syndrome to the 64 bytes of shard `a` from `at` on.
@@ -81,7 +82,7 @@ fn correct_block(
     at: usize,
 )
     requires room { at + LANES ≤ SHARD_BYTES }
-    requires a_in { a < 8 }
+    requires a_in { a ≤ P }
     requires b_in { b < DATA_SHARDS }
     ensures { Fixes (with_pair a b by.now.factor) shards.old shards.new at (at + LANES) }
 {
@@ -96,7 +97,7 @@ fn correct_block(
 // Writes shards `a` and `b`, in one pass over the nine.
 #[inline(always)]
 fn correct(shards: &mut [[u8; SHARD_BYTES]; SHARDS], a: usize, b: usize, by: u8)
-    requires a_in { a < 8 }
+    requires a_in { a ≤ P }
     requires b_in { b < DATA_SHARDS }
     ensures { Fixes (with_pair a b by) shards.old shards.new 0 SHARD_BYTES }
 {
@@ -111,17 +112,13 @@ fn correct(shards: &mut [[u8; SHARD_BYTES]; SHARDS], a: usize, b: usize, by: u8)
 fn weight_of(a: u8) -> u8
     ensures { result ≡ weight_of a }
 {
-    if a < DATA {
-        power_of_two(a)
-    } else {
-        0
-    }
+    if a < DATA { power_of_two(a) } else { 0 }
 }
 
 // A data shard `b`, and another or P.
 #[inline(always)]
 fn recover_pair(shards: &mut [[u8; SHARD_BYTES]; SHARDS], a: u8, b: u8)
-    requires a_in { a < 8 }
+    requires a_in { a ≤ P }
     requires b_in { b < DATA_SHARDS }
     requires apart { a ≢ b }
     ensures { Restores (a ∷ b ∷ []) shards.old shards.new }
@@ -133,7 +130,7 @@ fn recover_pair(shards: &mut [[u8; SHARD_BYTES]; SHARDS], a: u8, b: u8)
 // The same, with a loop for each pair whose first is the smaller or P: where the compiler knows the two
 // numbers, it leaves out what is lost and the tests for it, and computes the factor.
 fn recover_this_pair(shards: &mut [[u8; SHARD_BYTES]; SHARDS], a: u8, b: u8)
-    requires a_in { a < 8 }
+    requires a_in { a ≤ P }
     requires b_in { b < DATA_SHARDS }
     requires apart { a ≢ b }
     ensures { Restores (a ∷ b ∷ []) shards.old shards.new }

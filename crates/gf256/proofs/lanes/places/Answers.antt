@@ -1,4 +1,4 @@
-use Rattle.std.proofs.Common.{ℕ, ◌<◌, get_or, replicate, ap, sym, ◌∙◌}
+use Rattle.std.proofs.Common.{get_or, replicate, ap, sym, ◌∙◌}
 use lib.Bits.{bit_and}
 use Rattle.std.proofs.lemmas.Simd.{get_or-replicate, length-zip2}
 use Rattle.gf256.proofs.LaneFacts.{len-rep, zip-at}

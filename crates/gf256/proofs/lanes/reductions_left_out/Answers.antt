@@ -1,7 +1,6 @@
-use Rattle.std.proofs.Common.{◌≡◌, ℕ, ◌+◌, ◌*◌, ◌/◌, ◌<◌, ◌++◌, ◌||◌, List, Bool, true, false, cond, eqb, get_or, replicate, length, refl, ap, sym, ◌∙◌, subst, arith, w8}
+use Rattle.std.proofs.Common.{◌≡◌, ℕ, ◌+◌, ◌*◌, ◌/◌, ◌<◌, ◌||◌, List, Bool, true, cond, eqb, get_or, replicate, length, refl, ap, sym, ◌∙◌, subst, arith, w8}
 use lib.Bits.{bit_and}
 use lib.Dec.{T, ltb}
-use lib.Lanes.{Each1}
 use mir.Val.{Fits, zeroes}
 use borrow.Author.Tests.{eqb-true}
 use Rattle.std.proofs.lemmas.Simd.{swz_l, SwzOk, SwzOk-from_Each1, Each1-from_get_or, Each1-get_or, length-swz_l, get_or-swz_l}

@@ -1,4 +1,4 @@
-use Rattle.std.proofs.Common.{◌+◌, ◌<◌, ◌≡◌, ◌≢◌, ℕ, length, get_or, refl, ap, ◌∙◌, bit_xor, arith}
+use Rattle.std.proofs.Common.{◌+◌, ◌<◌, ◌≡◌, ℕ, get_or, refl, ap, ◌∙◌, bit_xor, arith}
 use Rattle.std.proofs.Math.ListN.{set}
 use Rattle.gf256.specs.Field.{times}
 use Rattle.parity72.specs.Parity.{byte_of, shard_of, p_of, q_of}

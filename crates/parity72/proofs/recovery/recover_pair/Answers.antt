@@ -16,4 +16,4 @@ returns c =
     let is : bit_xor c.weight_of.result c.power_of_two.result ≡ bit_xor (weight_of c.args.a) (power_of_two c.args.b) =
     ap (λ x. bit_xor x c.power_of_two.result) c.weight_of.ensures ∙ ap (bit_xor (weight_of c.args.a)) c.power_of_two.ensures in
     restores-pair c.args.a c.args.b c.div-by.result c.args.shards.now c.correct.new.shards c.told-shards
-    c.requires.a_in c.requires.b_in c.requires.apart (omega arith) (sym (ap (times c.div-by.result) is) ∙ c.div-by.ensures.quotient) c.correct.ensures
+    (omega arith) c.requires.b_in c.requires.apart (omega arith) (sym (ap (times c.div-by.result) is) ∙ c.div-by.ensures.quotient) c.correct.ensures
