@@ -9,20 +9,25 @@ use std::simd::prelude::*;
 /// The bytes of a vector.
 pub const LANES: usize = 64;
 
-const HALF: usize = 32;
-// The bytes of a quarter, which are the entries of a table too.
+// The bytes of parts of a vector. A quarter is a table too, of an entry for each four bits.
 const QUARTER: usize = 16;
 
+// Two of them.
+const HALF: usize = 32;
+
+// Three of them.
 const THREE_QUARTERS: usize = 48;
 
-// The numbers below 16, 32 and 64: the lanes of a table, of half a vector and of a vector.
+// The numbers below 16: the lanes of a quarter.
 const DIGITS: [u8; QUARTER] = [0, 1, 2, 3, 4, 5, 6, 7, 8, 9, 10, 11, 12, 13, 14, 15];
 
+// The lanes of half a vector.
 const HALF_LANES: [usize; HALF] = [
     0, 1, 2, 3, 4, 5, 6, 7, 8, 9, 10, 11, 12, 13, 14, 15, 16, 17, 18, 19, 20, 21, 22, 23, 24, 25,
     26, 27, 28, 29, 30, 31,
 ];
 
+// The lanes of a vector.
 const ALL_LANES: [usize; LANES] = [
     0, 1, 2, 3, 4, 5, 6, 7, 8, 9, 10, 11, 12, 13, 14, 15, 16, 17, 18, 19, 20, 21, 22, 23, 24, 25,
     26, 27, 28, 29, 30, 31, 32, 33, 34, 35, 36, 37, 38, 39, 40, 41, 42, 43, 44, 45, 46, 47, 48, 49,
@@ -31,11 +36,14 @@ const ALL_LANES: [usize; LANES] = [
 
 // x^8 as a byte.
 const REDUCTION: u8 = 0x1D;
-// The bit that x^7 is, the bits that choose an entry of a table, and how many these are.
+
+// The bit that is x^7.
 const TOP_BIT: u8 = 0x80;
 
+// The bits that choose an entry of a table.
 const PLACE: u8 = 0x0F;
 
+// How many these are.
 const PLACE_BITS: u8 = 4;
 
 /// The 64 bytes of `from` from `at` on.
@@ -102,8 +110,8 @@ fn places(lanes: u8x16) -> u8x16
     lanes & u8x16::splat(TOP_BIT | PLACE)
 }
 
-// 1D at each lane below 128, and 0 at the others. The compiler leaves the mask out, where it stands
-// at each quarter: a look-up reads no other bits.
+// 1D at each lane below 128, and 0 at the others. The mask costs nothing: a look-up reads no other bits,
+// and where the mask stands at each quarter, the compiler leaves it out.
 #[inline(always)]
 fn reductions_left_out(lanes: u8x64) -> u8x64
     ensures long { length result ≡ LANES }
@@ -118,7 +126,8 @@ fn reductions_left_out(lanes: u8x64) -> u8x64
     u8x64::splat(REDUCTION).swizzle_dyn_within::<QUARTER>(joined(a, b, c, d))
 }
 
-/// The sum of 1D and two times each lane, which takes less than two times each lane.
+/// The sum of two times each lane and 1D, which is cheaper than `double_lanes`: one look-up in place of a
+/// comparison and a mask. Who sums up such doublings takes the sum of what they added off at the end.
 #[inline(always)]
 pub fn double_lanes_and_1d(lanes: u8x64) -> u8x64
     ensures { (k : ℕ) → k < LANES → slice_index result k ≡ bit_xor (doubled (slice_index lanes k)) 0x1D }

@@ -42,9 +42,8 @@ fn known_at(shards: &[[u8; SHARD_BYTES]], a: usize, b: usize, i: usize, at: usiz
         → slice_index result k ≡ without a b (column_of shards.now (at + k)) i }
     ensures bytes { (k : ℕ) → k < LANES → without a b (column_of shards.now (at + k)) i < 256 }
 {
-    if i == a {
-        u8x64::splat(0)
-    } else if i == b {
+    let is_lost = i == a || i == b;
+    if is_lost {
         u8x64::splat(0)
     } else {
         lanes_at(&shards[i], at)

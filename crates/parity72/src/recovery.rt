@@ -10,9 +10,10 @@ use crate::layout::{BLOCKS, DATA_SHARDS, P, Q, SHARD_BYTES, SHARDS};
 use arrayvec::ArrayVec;
 use gf256::{LANES, Products, add_lanes, div, lanes_at, power_of_two, put_lanes};
 
-// The same as numbers of lost shards.
+// The data shards, as a number of a lost shard.
 const DATA: u8 = DATA_SHARDS as u8;
 
+// P, as a number of a lost shard.
 const P_NUMBER: u8 = P as u8;
 
 // Adds P's syndrome to the 64 bytes of shard `a` from `at` on.
