@@ -1,6 +1,7 @@
 /* Measures parity72's encode and recover beside isa-l, turn about in one process, on seven shards of 4096 bytes that stay in the
-   cache. Prints a table, a line a measurement: what, its GB/s of data, the GB/s of isa-l's, and the ratio. Each number is the
-   median of ROUNDS rounds; the ratio is the median of the rounds' ratios. Prints nothing, and ends with 1, where a result differs. */
+   cache. Prints a table, a line a measurement: what, its GB/s of data, the GB/s of isa-l's, and the ratio of the two. Each number is
+   the best of ROUNDS rounds, of either side alike: what else runs on the machine only slows a round. Prints nothing, and ends with
+   1, where a result differs. */
 #define _POSIX_C_SOURCE 200809L
 #include <isa-l/erasure_code.h>
 #include <isa-l/raid.h>
@@ -10,7 +11,7 @@
 #include <string.h>
 #include <time.h>
 
-enum { DATA = 7, ALL = 9, BYTES = 4096, ROUNDS = 61, TURNS = 4000 };
+enum { DATA = 7, ALL = 9, BYTES = 4096, ROUNDS = 101, TURNS = 1000 };
 static const double WARM_SECONDS = 0.003;
 
 void parity_bench_encode(const uint8_t shards[DATA][BYTES], uint8_t p[BYTES], uint8_t q[BYTES]);
@@ -49,25 +50,15 @@ static double round_of(void (*f)(void)) {
     return (double)DATA * BYTES * TURNS / (seconds() - start) / 1e9;
 }
 
-static int ascending(const void *a, const void *b) {
-    double x = *(const double *)a, y = *(const double *)b;
-    return (x > y) - (x < y);
-}
-
-static double median(double *xs) {
-    qsort(xs, ROUNDS, sizeof *xs, ascending);
-    return xs[ROUNDS / 2];
-}
+static double greater(double x, double y) { return x > y ? x : y; }
 
 static void measure(const char *build, const char *name, void (*ours)(void), void (*theirs)(void)) {
-    double mine[ROUNDS], other[ROUNDS], ratio[ROUNDS];
-    round_of(ours), round_of(theirs);
+    double mine = 0, other = 0;
     for (int r = 0; r < ROUNDS; r++) {
-        mine[r] = round_of(ours);
-        other[r] = round_of(theirs);
-        ratio[r] = mine[r] / other[r];
+        mine = greater(mine, round_of(ours));
+        other = greater(other, round_of(theirs));
     }
-    printf("%-10s %-36s %7.1f %7.1f %7.2f\n", build, name, median(mine), median(other), median(ratio));
+    printf("%-10s %-36s %7.1f %7.1f %7.2f\n", build, name, mine, other, mine / other);
 }
 
 static void check(const char *what, int equal) {
