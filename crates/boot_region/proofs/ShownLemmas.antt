@@ -9,6 +9,7 @@ use Rattle.pur_base.specs.declared.limits.TheConstants.{SECTOR_BYTES, UNIT_BYTES
 use Rattle.pur_base.specs.Bytes.{bytes_at}
 use Rattle.pur_base.specs.Gates.{is_open}
 use Rattle.boot_codec.specs.declared.limits.TheConstants.{RECORD_BYTES}
+use Rattle.boot_codec.specs.Gate.{gate_bytes}
 use Rattle.boot_codec.specs.Region.{BootSlot, A, B, other_slot, gate_place, body_place, body_in, shown_by}
 use Rattle.array_spec.proofs.Quiet.{bytes_same}
 use Rattle.world.specs.declared.shelf.Span.{Span}
@@ -164,3 +165,16 @@ member_below members i m = elim (cases_lt i (length members)) [
   | inl lt ↦ lt
   | inr ge ↦ let past : slice_index_or members i false ≡ false = get_or_past members i false ge in absurd (cc (past, m))
 ]
+
+-- the sector of a gate
+pub gate_size : (is_open : Bool) → length (gate_bytes is_open) ≡ SECTOR_BYTES
+unfolding gate_bytes
+gate_size is_open = refl
+
+pub open_begins : slice_index (gate_bytes true) 0 ≡ 1
+unfolding gate_bytes
+open_begins = refl
+
+pub closed_begins : slice_index (gate_bytes false) 0 ≡ 0
+unfolding gate_bytes
+closed_begins = refl

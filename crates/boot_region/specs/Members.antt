@@ -3,6 +3,7 @@ use Rattle.std.specs.Prelude.{◌≡◌, ◌⊎◌, ℕ, List, [], Bool, true, f
 use Rattle.pur_base.specs.declared.device.Device.{Device}
 use Rattle.pur_base.specs.declared.device.Device.TheVariants.{Drive, Nv}
 use Rattle.pur_base.specs.declared.limits.TheConstants.{SECTOR_BYTES}
+use Rattle.pur_base.specs.Devices.{drive}
 use Rattle.pur_base.specs.Gates.{is_open}
 use Rattle.world.specs.Counts.{Rises}
 use Rattle.world.specs.Shelf.{Shelved, Disk, IsIn, Written}
@@ -67,3 +68,7 @@ pub record Opened (honest was is : Type 0) (at : ℕ) (old new : Disk) : Type 0 
   pub clean : honest → is → old.dirty ≡ [] → new.dirty ≡ []
   pub dropped : was → is ⊎ Rises old.faults new.faults
   pub others : (was → ⊥) → new ≡ old
+
+-- a member that isn't one any more failed in a write or a sync
+abbrev pub DroppedFailed : Shelved → Shelved → List Bool → List Bool → Type 0
+DroppedFailed old new was now = (i : ℕ) → IsMember was i → IsMember now i ⊎ LostWrites (old.disk (drive i)) (new.disk (drive i))

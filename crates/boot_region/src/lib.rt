@@ -2,6 +2,7 @@
 //! At every moment of a store or a settling the devices stand for the arrays for which they stood.
 #![tactic(auto)]
 
+mod gates;
 mod members;
 mod slot;
 
