@@ -91,14 +91,12 @@ closed_of (Ok x) honest was at old new member closed clean counts = record {
   closed = λ h is. closed h;
   clean = λ h is. clean h;
   dropped = λ w. inl refl;
-  others = λ none. absurd (none member);
 }
 closed_of (Err x) honest was at old new member closed clean counts = record {
   before = λ is. member;
   closed = λ h is. absurd (cc is);
   clean = λ h is. absurd (cc is);
   dropped = λ w. inr counts;
-  others = λ none. absurd (none member);
 }
 
 -- the sector of a closed gate closes it, and that of an open one opens it

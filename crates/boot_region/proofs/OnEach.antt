@@ -17,12 +17,10 @@ outcome_of (Ok x) honest was at from old new member written clean counts = recor
   written = λ h is. written h;
   clean = λ h is. clean h;
   dropped = λ w. inl refl;
-  others = λ none. absurd (none member);
 }
 outcome_of (Err x) honest was at from old new member written clean counts = record {
   before = λ is. member;
   written = λ h is. absurd (cc is);
   clean = λ h is. absurd (cc is);
   dropped = λ w. inr (record { faults = counts.faults; write_faults = counts.write_faults });
-  others = λ none. absurd (none member);
 }

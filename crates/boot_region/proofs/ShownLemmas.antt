@@ -178,3 +178,10 @@ open_begins = refl
 pub closed_begins : slice_index (gate_bytes false) 0 ≡ 0
 unfolding gate_bytes
 closed_begins = refl
+
+-- once the sector of an open gate is written, the body behind it is shown
+pub shows_written : (slot : BootSlot) (from old new : List ℕ) → from ≡ gate_bytes true → Written (gate_place slot) from old new → shown_by slot new ≡ Some (body_in slot old)
+shows_written slot from old new is w =
+    let size : length from ≡ SECTOR_BYTES = ap length is ∙ gate_size true in
+    open_shows slot new (body_in slot old) (gate_opens (gate_place slot) SECTOR_BYTES from old new w size (omega arith) (ap (λ (l : List ℕ). slice_index l 0) is ∙ open_begins))
+    (bodies_same slot old new w.size (λ k out. w.outside k (λ i. out (subst (λ (n : ℕ). IsIn (record { start = gate_place slot; size = n }) k) size i))) slot)

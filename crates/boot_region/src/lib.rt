@@ -6,5 +6,6 @@ mod gates;
 mod members;
 mod slot;
 
+pub use gates::{close_gates, open_gates, write_bodies};
 pub use members::write_members;
 pub use slot::Slot;
