@@ -1,4 +1,5 @@
 pub mod Began
+pub mod Composing
 pub mod GateCalls
 pub mod OnEach
 pub mod Phases
