@@ -4,3 +4,4 @@ pub mod GateCalls
 pub mod OnEach
 pub mod Phases
 pub mod ShownLemmas
+pub mod Stored

@@ -5,6 +5,8 @@ use Rattle.pur_base.specs.declared.device.Device.TheVariants.{Drive, Nv}
 use Rattle.pur_base.specs.declared.limits.TheConstants.{SECTOR_BYTES}
 use Rattle.pur_base.specs.Devices.{drive}
 use Rattle.pur_base.specs.Gates.{is_open}
+use Rattle.boot_codec.specs.declared.limits.TheConstants.{RECORD_BYTES}
+use Rattle.boot_codec.specs.Region.{BootSlot, gate_place, body_place}
 use Rattle.world.specs.Counts.{Rises}
 use Rattle.world.specs.Shelf.{Shelved, Disk, IsIn, Written}
 
@@ -25,6 +27,10 @@ NonMembersStay members old new = (device : Device) → (IsOneOf members device �
 abbrev pub OnMembers : List Bool → ℕ → ℕ → Device → ℕ → Type 0
 OnMembers members at n (Drive d) i = IsMember members d.0 × IsIn (record { start = at; size = n }) i
 OnMembers members at n (Nv v) i = ⊥
+
+-- the gate and the body of a slot, on each member
+abbrev pub OnSlot : List Bool → BootSlot → Device → ℕ → Type 0
+OnSlot members slot device i = OnMembers members (gate_place slot) SECTOR_BYTES device i ⊎ OnMembers members (body_place slot) RECORD_BYTES device i
 
 -- a write or a sync failed, so that both counts rose
 pub record LostWrites (old new : Disk) : Type 0 where

@@ -44,6 +44,11 @@ AreWritten shelf missing members slot body = OnSound missing members (λ i. body
 abbrev pub AreShown : Shelved → Conditions → List Bool → BootSlot → List ℕ → Type 0
 AreShown shelf missing members slot body = OnSound missing members (λ i. shown_by slot (shelf.disk (drive i)).bytes ≡ Some body)
 
+-- the drive shows the body, and nothing of it is dirty
+pub record Shows (shelf : Shelved) (slot : BootSlot) (body : List ℕ) (i : ℕ) : Type 0 where
+  pub clean : (shelf.disk (drive i)).dirty ≡ []
+  pub shown : shown_by slot (shelf.disk (drive i)).bytes ≡ Some body
+
 -- what stands in the slot of a drive loses against the record of the other slot
 abbrev pub IsOlder : Shelved → BootSlot → List ℕ → ℕ → Type 0
 IsOlder shelf slot held i = Yields (other_slot slot) (generation_in (body_in slot (shelf.disk (drive i)).bytes)) (generation_in held)

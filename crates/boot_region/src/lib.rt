@@ -5,7 +5,9 @@
 mod gates;
 mod members;
 mod slot;
+mod storing;
 
 pub use gates::{close_gates, open_gates, write_bodies};
 pub use members::write_members;
 pub use slot::Slot;
+pub use storing::store;
