@@ -4,10 +4,12 @@
 
 mod gates;
 mod members;
+mod settling;
 mod slot;
 mod storing;
 
 pub use gates::{close_gates, open_gates, write_bodies};
 pub use members::write_members;
+pub use settling::settle;
 pub use slot::Slot;
 pub use storing::store;
