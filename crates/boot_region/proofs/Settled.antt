@@ -1,33 +1,34 @@
 -- Gates that are opened where they are closed, over the body that was loaded.
-use Rattle.std.proofs.Common.{◌≡◌, ◌⊎◌, inl, inr, ℕ, ◌+◌, ◌*◌, ◌≤◌, ◌<◌, List, [], length, slice_index, refl, sym, ◌∙◌, ap, subst, arith, Bool, true, false, Result, Ok, Err, is_ok, OnOk, OnErr}
-use Rattle.std.specs.Prelude.{slice_index_or, Some, None, ◌==◌}
+use Rattle.std.proofs.Common.{◌≡◌, ◌⊎◌, inl, inr, ℕ, ◌+◌, ◌*◌, ◌≤◌, ◌<◌, List, [], length, map, slice_index, refl, sym, ◌∙◌, ap, subst, arith, Bool, true, false, Result, Ok, Err, is_ok, OnOk, OnErr}
+use Rattle.std.specs.Prelude.{slice_index_or, Option, Some, None, ◌==◌, option_and_then, if◌then◌else◌}
 use Rattle.std.proofs.lemmas.Bool.{cases_Bool}
 use Rattle.pur_base.specs.declared.device.Device.{Device}
 use Rattle.pur_base.specs.declared.device.Device.TheVariants as dev
 use Rattle.pur_base.specs.declared.limits.TheConstants.{SECTOR_BYTES}
-use Rattle.pur_base.specs.Devices.{Conditions, Sound, drive}
+use Rattle.pur_base.specs.Devices.{View, Conditions, Sound, IsBearable, is_sound, slots_of, drive}
 use Rattle.pur_base.specs.Gates.{is_open}
 use Rattle.pur_base.specs.Plain.{Array}
 use Rattle.boot_codec.specs.declared.record.BootRecord.{BootRecord}
 use Rattle.boot_codec.specs.Spelling.{spelling}
-use Rattle.boot_codec.specs.Region.{BootSlot, other_slot, gate_place, body_in, shown_by}
-use Rattle.array_spec.specs.Standing.{Stands, MayBeGiven}
+use Rattle.boot_codec.specs.Region.{BootSlot, IsRecordOf, IsDecided, votes, other_slot, gate_place, body_in, shown_by}
+use Rattle.array_spec.specs.Standing.{Stands, MayBeGiven, MayAppear}
 use Rattle.array_spec.specs.Laws.{OpensGatesOf}
 use Rattle.array_spec.proofs.Store.{boot_keeps}
-use Rattle.array_spec.proofs.Settling.{opening_gives, opening_still_gives}
+use Rattle.array_spec.proofs.Settling.{opening_gives, opening_still_gives, twice_other}
+use Rattle.array_spec.proofs.Votes.{sound_before}
 use Rattle.array_spec.proofs.Spelled.{spells_one}
 use Rattle.world.specs.declared.streams.Failed.{Failed}
 use Rattle.world.specs.declared.shelf.Span.{Span}
 use Rattle.world.specs.Counts.{Rises}
 use Rattle.world.specs.Losing.{geometry_of}
-use Rattle.world.specs.Shelf.{Shelved, Stop, MayStop, Disk, IsShelf, IsIn, IsInSome}
-use Rattle.world.specs.Writes.{LeavesBut}
+use Rattle.world.specs.Shelf.{Shelved, Stop, MayStop, Continues, Disk, IsShelf, IsIn, IsInSome}
+use Rattle.world.specs.Writes.{LeavesBut, WritesOnly}
 use Rattle.boot_region.specs.Members.{IsMember, OnMembers, OnClosed, OneClosed, Opened}
-use Rattle.boot_region.specs.Storing.{IsLoaded}
+use Rattle.boot_region.specs.Storing.{SoundAreMembers, IsFound, IsInForceOn, IsLoaded, IsSeen, TellsFailed}
 use Rattle.boot_region.proofs.Began.{began, began_at, as_left, as_read_then, may_begin, differs}
-use Rattle.boot_region.proofs.Composing.{as_it_is}
-use Rattle.boot_region.proofs.Phases.{same_bodies, same_others, gates_low}
-use Rattle.boot_region.proofs.ShownLemmas.{opened, bodies_same}
+use Rattle.boot_region.proofs.Composing.{as_it_is, all_decide, is_sound_is}
+use Rattle.boot_region.proofs.Phases.{risen_on_way, same_bodies, same_others, gates_low}
+use Rattle.boot_region.proofs.ShownLemmas.{opened, bodies_same, open_shows, member_below, as_read}
 
 pub leaves_members : (members : List Bool) (shelf : Shelved) (at : ℕ) (stop : Stop) → LeavesBut (OnClosed members shelf at) shelf stop → LeavesBut (OnMembers members at SECTOR_BYTES) shelf stop
 leaves_members members shelf at stop left = record {
@@ -105,3 +106,104 @@ module _ (members : List Bool) (shelf : Shelved) (stop : Stop) (slot : BootSlot)
         | inr before ↦ before
       ], λ i. same_bodies members shelf stop slot every t i))
       s
+
+-- ---- after the settling
+module _ (old new : Shelved) (was now : List Bool) (slot : BootSlot) (boot : BootRecord) (missing later : Conditions) (arrays : List Array)
+    (is_old : IsShelf old) (is_new : IsShelf new) (h : old.honest) (on : Continues old new) (as_many : length now ≡ length was)
+    (outcome : (i : ℕ) → i < length was → Opened old.honest (IsMember was i) (IsMember now i) (gate_place slot) (old.disk (drive i)) (new.disk (drive i)))
+    (writes : WritesOnly (OnClosed was old (gate_place slot)) old new)
+    (loaded : IsLoaded old was missing slot boot arrays) (found : IsFound old was missing slot boot) (tells : TellsFailed old missing (λ d. (new.disk d).faults) later) where
+  sound_then : (device : Device) → later device ≡ Sound → missing device ≡ Sound
+  sound_then device s = sound_before (missing device) (later device) (tells.within device) s
+
+  below : (i : ℕ) → IsMember now i → i < length was
+  below i m = omega (arith, member_below now i m, as_many)
+
+  same_shelf : geometry_of new ≡ geometry_of old
+  same_shelf =
+      let e : new.drives ≡ old.drives = on.drives in
+      let f : new.units ≡ old.units = on.units in
+      λ k. record { slots = e k; units = f k }
+
+  still : SoundAreMembers new later now
+  still i lt s =
+      let m = found.sound i (omega (arith, lt, on.drives)) (sound_then (drive i) s) in
+      elim ((outcome i (member_below was i m)).dropped m) [
+        | inl is ↦ is
+        | inr rose ↦ absurd (risen_on_way _ _ _ _ (let same : (old.disk (drive i)).faults ≤ (old.disk (drive i)).faults = omega arith in same) rose (let same : (new.disk (drive i)).faults ≤ (new.disk (drive i)).faults = omega arith in same) (tells.calls i s))
+      ]
+
+  clean : (i : ℕ) → IsMember now i → later (drive i) ≡ Sound → (new.disk (drive i)).dirty ≡ []
+  clean i m s = let o = outcome i (below i m) in o.clean h m (loaded.clean i (o.before m) (sound_then (drive i) s))
+
+  shows : (i : ℕ) → IsMember now i → later (drive i) ≡ Sound → shown_by slot (new.disk (drive i)).bytes ≡ Some (spelling boot)
+  shows i m s =
+      let o = outcome i (below i m) in
+      open_shows slot (new.disk (drive i)).bytes (spelling boot) (o.opened h m)
+      (bodies_same slot (old.disk (drive i)).bytes (new.disk (drive i)).bytes ((writes.device (drive i)).size) (λ k out. (writes.device (drive i)).bytes k (λ w. out w.1)) slot ∙ loaded.written i (o.before m) (sound_then (drive i) s))
+
+  -- in each image that a stop now may leave
+  module _ (stop : Stop) (may : MayStop new stop) where
+    left : LeavesBut (OnMembers was (gate_place slot) SECTOR_BYTES) old stop
+    left = leaves_members was old (gate_place slot) stop (writes.any_moment.each stop (is_new.counts_now old.moment stop on.later may)).1
+
+    start : Stop
+    start = began was old (gate_place slot) SECTOR_BYTES stop
+
+    seen : IsSeen (geometry_of old) (began was old (gate_place slot) SECTOR_BYTES stop).image missing slot boot
+    seen = found.seen (began was old (gate_place slot) SECTOR_BYTES stop) (may_begin was old (gate_place slot) SECTOR_BYTES stop left is_old h)
+
+    -- sound devices as the stop leaves them, and the others as they were seen
+    view : View
+    view = λ device. if is_sound (later device) then Some (stop.image device) else seen.view device
+
+    view_sound : (device : Device) → later device ≡ Sound → view device ≡ Some (stop.image device)
+    unfolding view
+    view_sound device s = rw s refl
+
+    view_other : (device : Device) → is_sound (later device) ≡ false → view device ≡ seen.view device
+    unfolding view
+    view_other device u = rw u refl
+
+    appears : MayAppear (geometry_of new) stop.image later later view
+    appears = record { within = as_it_is later; bearable = subst (λ x. IsBearable x later) (sym same_shelf) tells.bearable; shown = view_sound }
+
+    decided : IsDecided (votes (geometry_of new) view slot) (spelling boot)
+    decided = all_decide (geometry_of new) stop.image later later view slot (spelling boot) is_new.drives.0
+        (λ i lt s. let m = still i lt s in ap (shown_by slot) (as_read (new.disk (drive i)) (stop.image (drive i)) (clean i m s) (may.device (drive i))) ∙ shows i m s) appears
+
+    vote : (i : ℕ) → option_and_then (shown_by (other_slot slot)) (view (drive i)) ≡ option_and_then (shown_by (other_slot slot)) (seen.view (drive i))
+    vote i = elim (cases_Bool (is_sound (later (drive i)))) [
+      | inl s ↦
+          let sound = is_sound_is (later (drive i)) s in
+          ap (option_and_then (shown_by (other_slot slot))) (view_sound (drive i) sound) ∙ same_others was old stop slot left i
+          ∙ sym (ap (option_and_then (shown_by (other_slot slot))) (seen.shown (drive i) (sound_then (drive i) sound)))
+      | inr u ↦ ap (option_and_then (shown_by (other_slot slot))) (view_other (drive i) u)
+    ]
+
+    same_votes : votes (geometry_of new) view (other_slot slot) ≡ votes (geometry_of old) seen.view (other_slot slot)
+    same_votes =
+        let each : (λ i. option_and_then (shown_by (other_slot slot)) (view (drive i))) ≡ (λ i. option_and_then (shown_by (other_slot slot)) (seen.view (drive i))) = λ k i. vote i k in
+        ap (λ (f : ℕ → Option (List ℕ)). map f (slots_of (geometry_of new))) each
+        ∙ ap (λ x. votes x seen.view (other_slot slot)) same_shelf
+
+    given : MayBeGiven (geometry_of new) stop.image later slot boot
+    given = record {
+      more = later;
+      view = view;
+      appears = appears;
+      lawful = subst (λ x. IsRecordOf x boot) (sym same_shelf) loaded.lawful;
+      effective = record {
+        decided = decided;
+        highest = λ other d. seen.effective.highest other (subst (λ x. IsDecided x other) same_votes d);
+      };
+    }
+
+  pub is_settled : IsInForceOn new now later (other_slot slot) boot
+  is_settled = record {
+    lawful = subst (λ x. IsRecordOf x boot) (sym same_shelf) loaded.lawful;
+    sound = still;
+    clean = clean;
+    shown = λ i m s. subst (λ (t : BootSlot). shown_by t (new.disk (drive i)).bytes ≡ Some (spelling boot)) (sym (twice_other slot)) (shows i m s);
+    given = λ stop may. subst (λ (t : BootSlot). MayBeGiven (geometry_of new) stop.image later t boot) (sym (twice_other slot)) (given stop may);
+  }

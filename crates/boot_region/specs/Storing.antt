@@ -2,12 +2,12 @@
 use Rattle.std.specs.Prelude.{◌≡◌, ◌⊎◌, ◌*◌, ◌+◌, ◌<◌, ◌≤◌, ℕ, Bool, false, List, [], count_by, Some, None, IfSome}
 use Rattle.pur_base.specs.declared.device.Device.{Device}
 use Rattle.pur_base.specs.declared.limits.TheConstants.{BOOT_UNITS}
-use Rattle.pur_base.specs.Devices.{Geometry, Image, Conditions, Sound, IsBearable, IsWithin, slots_of, drive}
+use Rattle.pur_base.specs.Devices.{Geometry, Image, View, Conditions, Sound, IsBearable, IsWithin, slots_of, drive}
 use Rattle.pur_base.specs.Gates.{is_open}
 use Rattle.pur_base.specs.Plain.{Array}
 use Rattle.boot_codec.specs.declared.record.BootRecord.{BootRecord}
 use Rattle.boot_codec.specs.Spelling.{spelling}
-use Rattle.boot_codec.specs.Region.{BootSlot, IsRecordOf, other_slot, gate_place, body_in, shown_by, generation_in, Yields}
+use Rattle.boot_codec.specs.Region.{BootSlot, IsRecordOf, IsEffective, other_slot, gate_place, body_in, shown_by, generation_in, Yields}
 use Rattle.array_spec.specs.Standing.{Stands, MayBeGiven, IsReadInto, FollowsOn}
 use Rattle.array_spec.specs.Laws.{DiffersOnlyIn, is_sound_vote}
 use Rattle.world.specs.Shelf.{Shelved, Stop, MayStop, LeavesOnly}
@@ -163,3 +163,20 @@ pub record IsLoaded (shelf : Shelved) (members : List Bool) (missing : Condition
   pub written : AreWritten shelf missing members slot (spelling boot)
   pub stands : StandsNow shelf missing arrays
   pub given : (start : Stop) → MayStop shelf start → MayBeGiven (geometry_of shelf) start.image missing slot boot
+
+-- a view gives the record, in which each device that isn't missing shows itself
+pub record IsSeen (shelf : Geometry) (image : Image) (missing : Conditions) (slot : BootSlot) (boot : BootRecord) : Type 0 where
+  pub view : View
+  pub shown : (device : Device) → missing device ≡ Sound → view device ≡ Some (image device)
+  pub effective : IsEffective shelf view slot (spelling boot)
+
+-- each drive that isn't missing is a member, and the record was seen
+pub record IsFound (shelf : Shelved) (members : List Bool) (missing : Conditions) (slot : BootSlot) (boot : BootRecord) : Type 0 where
+  pub sound : SoundAreMembers shelf missing members
+  pub seen : (start : Stop) → MayStop shelf start → IsSeen (geometry_of shelf) start.image missing slot boot
+
+-- the later conditions tell each drive on which a call failed
+pub record TellsFailed (shelf : Shelved) (missing : Conditions) (faults : Device → ℕ) (later : Conditions) : Type 0 where
+  pub within : IsWithin missing later
+  pub bearable : IsBearable (geometry_of shelf) later
+  pub calls : (i : ℕ) → later (drive i) ≡ Sound → has_risen (shelf.disk (drive i)).faults (faults (drive i)) ≡ false

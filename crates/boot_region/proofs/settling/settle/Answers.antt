@@ -1,4 +1,4 @@
-use Rattle.std.proofs.Common.{◌≡◌, ◌≢◌, ◌<◌, ◌≤◌, ◌+◌, ◌*◌, ℕ, List, length, arith, sym, refl, ap, ◌∙◌, below_more, get_or-set_other, get_or-set_same, subst}
+use Rattle.std.proofs.Common.{rules, ◌≡◌, ◌≢◌, ◌<◌, ◌≤◌, ◌+◌, ◌*◌, ℕ, List, length, arith, sym, refl, ap, ◌∙◌, below_more, get_or-set_other, get_or-set_same, subst}
 use Rattle.std.specs.Prelude.{◌%◌}
 use Rattle.pur_base.specs.Devices.{drive}
 use Rattle.pur_base.specs.declared.device.Device.{Device}
@@ -12,7 +12,7 @@ use Rattle.boot_codec.specs.Region.{gate_place}
 use Rattle.boot_region.specs.Members.{IsMember, IsOneOf, OnClosed, Opened}
 use Rattle.boot_region.specs.Slots.{slot_in}
 use Rattle.boot_region.proofs.ShownLemmas.{gate_low, gate_aligned}
-use Rattle.boot_region.proofs.Settled.{closed_on_members, opened_of, stands_while_settling}
+use Rattle.boot_region.proofs.Settled.{closed_on_members, opened_of, stands_while_settling, is_settled}
 use Rattle.boot_region.proofs.settling.settle.Goals as goal
 use Rattle.boot_region.proofs.settling.settle.Goals.{then-members-drive, else-members-drive}
 
@@ -79,3 +79,9 @@ pub returns-clause-any_moment : goal.returns-clause-any_moment
 returns-clause-any_moment g c h missing boot arrays loaded =
     weaker (λ stop left. stands_while_settling c.args.members.now (g.S.Shelf.shelf c.args.shelf.now) stop (slot_in c.args.slot) boot missing arrays (g.met.S.Shelf.is_shelf c.args.shelf.now) h left loaded)
     (returns-clause-writes g c h).any_moment
+
+pub returns-clause-settled : goal.returns-clause-settled
+returns-clause-settled g c h missing boot arrays loaded found later tells =
+    let as_many : length c.loop-drive.members ≡ length c.args.members.now = search rules in
+    is_settled (g.S.Shelf.shelf c.args.shelf.now) (g.S.Shelf.shelf c.loop-drive.shelf) c.args.members.now c.loop-drive.members (slot_in c.args.slot) boot missing later arrays
+    (g.met.S.Shelf.is_shelf c.args.shelf.now) (g.met.S.Shelf.is_shelf c.loop-drive.shelf) h c.loop-drive.invariant.continues as_many (returns-clause-outcome g c) (returns-clause-writes g c h) loaded found tells
