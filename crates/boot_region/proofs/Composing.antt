@@ -101,7 +101,7 @@ is_sound_is LeftOut e = cc
 -- at a moment of a store
 module _ (shelf : Shelved) (members : List Bool) (missing : Conditions) (slot : BootSlot) (held boot : BootRecord) (arrays : List Array)
     (is : IsShelf shelf) (force : IsInForceOn shelf members missing slot held) (follow : MayFollow shelf missing slot boot arrays)
-    (start stop : Stop) (may : MayStop shelf start) (later : Conditions) (account : AccountsFor shelf missing slot (spelling held) stop.faults stop.write_faults later) where
+    (start stop : Stop) (may : MayStop shelf start) (later : Conditions) (account : AccountsFor shelf members missing slot (spelling held) stop.faults stop.write_faults later) where
   sound_then : (i : ℕ) → later (drive i) ≡ Sound → missing (drive i) ≡ Sound
   sound_then i s = sound_before (missing (drive i)) (later (drive i)) (account.within (drive i)) s
 
@@ -128,10 +128,10 @@ module _ (shelf : Shelved) (members : List Bool) (missing : Conditions) (slot : 
   none_given image none b g = none_decided (geometry_of shelf) image later g.more g.view slot (spelling b) is.drives.0 none g.appears g.effective.decided
 
   -- what the first phase does to the drives that are sound still
-  closes_of : (mid : Stop) → IsLater mid stop → Closes shelf missing slot (spelling held) start mid → ClosesGatesOf start.image mid.image later slot (spelling held)
+  closes_of : (mid : Stop) → IsLater mid stop → Closes shelf members missing slot (spelling held) start mid → ClosesGatesOf start.image mid.image later slot (spelling held)
   closes_of mid on c = record {
     others = λ i s. c.others i;
-    closes = λ i s. c.closes i (sound_then i s) (elim (account.reads i s) [
+    closes = λ i s. c.closes i (sound_then i s) (λ m. elim (account.reads i m s) [
       | inl older ↦ inl older
       | inr none ↦ inr (not_risen_before (shelf.disk (drive i)).faults (mid.faults (drive i)) (stop.faults (drive i)) (on.faults (drive i)) none)
     ]);
@@ -151,14 +151,14 @@ module _ (shelf : Shelved) (members : List Bool) (missing : Conditions) (slot : 
   }
 
   -- the first phase
-  pub while_closing : Closes shelf missing slot (spelling held) start stop → Stands (geometry_of shelf) stop.image later arrays
+  pub while_closing : Closes shelf members missing slot (spelling held) start stop → Stands (geometry_of shelf) stop.image later arrays
   while_closing c =
       let closes = closes_of stop (record { faults = λ d. omega arith; write_faults = λ d. omega arith }) c in
       boot_keeps (geometry_of shelf) start.image stop.image missing later arrays account.within account.bearable c.only_boot (still_gives stop.image closes)
       (λ t b g. (gives_no_more stop.image closes t b g, λ i. c.bodies t i)) (follow.stands start may)
 
   -- the second phase
-  pub while_writing : (mid : Stop) (now : List Bool) → IsLater mid stop → SoundAreMembers shelf later now → Closes shelf missing slot (spelling held) start mid → Writes missing now slot mid stop
+  pub while_writing : (mid : Stop) (now : List Bool) → IsLater mid stop → SoundAreMembers shelf later now → Closes shelf members missing slot (spelling held) start mid → Writes missing now slot mid stop
       → Stands (geometry_of shelf) stop.image later arrays
   while_writing mid now on sound c w =
       let closes = closes_then mid stop now (closes_of mid on c) w in
@@ -170,7 +170,7 @@ module _ (shelf : Shelved) (members : List Bool) (missing : Conditions) (slot : 
 
   -- the third phase
   pub while_opening : (first second : Stop) (now last : List Bool) → IsLater first stop → SoundAreMembers shelf later last
-      → Closes shelf missing slot (spelling held) start first → Writes missing now slot first second → Opens missing last slot (spelling boot) second stop
+      → Closes shelf members missing slot (spelling held) start first → Writes missing now slot first second → Opens missing last slot (spelling boot) second stop
       → Stands (geometry_of shelf) stop.image later arrays
   while_opening first second now last on sound c w o =
       let closes = closes_then first second now (closes_of first on c) w in

@@ -1,3 +1,4 @@
+pub mod Accounts
 pub mod Began
 pub mod Composing
 pub mod GateCalls

@@ -92,7 +92,7 @@ on_all_members members shelf faults at stop left = record {
 -- while gates are closed
 pub closes_gates : (members : List Bool) (shelf : Shelved) (stop : Stop) (missing : Conditions) (slot : BootSlot) (held : List ℕ)
     → IsShelf shelf → shelf.honest → LeavesBut (OnNotShut members shelf stop.faults (gate_place slot)) shelf stop → AreClean shelf missing members
-    → ComesOf shelf (Closes shelf missing slot held) stop
+    → ComesOf shelf (Closes shelf members missing slot held) stop
 closes_gates members shelf stop missing slot held is h some clean = record {
   start = began members shelf (gate_place slot) SECTOR_BYTES stop;
   may = may_begin members shelf (gate_place slot) SECTOR_BYTES stop left is h;
@@ -135,11 +135,11 @@ closes_gates members shelf stop missing slot held is h some clean = record {
       | inr shut ↦ inl (shut_stays i m sound shut none)
     ]
 
-    closes : (i : ℕ) → missing (drive i) ≡ Sound → IsOlder shelf slot held i ⊎ (has_risen (shelf.disk (drive i)).faults (stop.faults (drive i)) ≡ false)
+    closes : (i : ℕ) → missing (drive i) ≡ Sound → (IsMember members i → IsOlder shelf slot held i ⊎ (has_risen (shelf.disk (drive i)).faults (stop.faults (drive i)) ≡ false))
         → (shown_by slot (stop.image (drive i)) ≡ shown_by slot (began_at members shelf (gate_place slot) SECTOR_BYTES stop (drive i))) ⊎ IfSome (shown_by slot (stop.image (drive i))) (λ body. Yields (other_slot slot) (generation_in body) (generation_in held))
     closes i sound why = elim (cases_Bool (slice_index_or members i false)) [
       | inl m ↦ subst (λ (o : List ℕ). (shown_by slot (stop.image (drive i)) ≡ shown_by slot o) ⊎ IfSome (shown_by slot (stop.image (drive i))) (λ body. Yields (other_slot slot) (generation_in body) (generation_in held)))
-          (sym (as_read_then members shelf (gate_place slot) SECTOR_BYTES stop left i (clean i m sound))) (on_member i m sound why)
+          (sym (as_read_then members shelf (gate_place slot) SECTOR_BYTES stop left i (clean i m sound))) (on_member i m sound (why m))
       | inr m ↦ inl (ap (shown_by slot) (sym (as_left members shelf (gate_place slot) SECTOR_BYTES stop left i m)))
     ]
 

@@ -112,7 +112,7 @@ module _ (old new : Shelved) (was now : List Bool) (slot : BootSlot) (boot : Boo
     (is_old : IsShelf old) (is_new : IsShelf new) (h : old.honest) (on : Continues old new) (as_many : length now ≡ length was)
     (outcome : (i : ℕ) → i < length was → Opened old.honest (IsMember was i) (IsMember now i) (gate_place slot) (old.disk (drive i)) (new.disk (drive i)))
     (writes : WritesOnly (OnClosed was old (gate_place slot)) old new)
-    (loaded : IsLoaded old was missing slot boot arrays) (found : IsFound old was missing slot boot) (tells : TellsFailed old missing (λ d. (new.disk d).faults) later) where
+    (loaded : IsLoaded old was missing slot boot arrays) (found : IsFound old was missing slot boot) (tells : TellsFailed old was missing (λ d. (new.disk d).faults) later) where
   sound_then : (device : Device) → later device ≡ Sound → missing device ≡ Sound
   sound_then device s = sound_before (missing device) (later device) (tells.within device) s
 
@@ -130,7 +130,7 @@ module _ (old new : Shelved) (was now : List Bool) (slot : BootSlot) (boot : Boo
       let m = found.sound i (omega (arith, lt, on.drives)) (sound_then (drive i) s) in
       elim ((outcome i (member_below was i m)).dropped m) [
         | inl is ↦ is
-        | inr rose ↦ absurd (risen_on_way _ _ _ _ (let same : (old.disk (drive i)).faults ≤ (old.disk (drive i)).faults = omega arith in same) rose (let same : (new.disk (drive i)).faults ≤ (new.disk (drive i)).faults = omega arith in same) (tells.calls i s))
+        | inr rose ↦ absurd (risen_on_way _ _ _ _ (let same : (old.disk (drive i)).faults ≤ (old.disk (drive i)).faults = omega arith in same) rose (let same : (new.disk (drive i)).faults ≤ (new.disk (drive i)).faults = omega arith in same) (tells.calls i m s))
       ]
 
   clean : (i : ℕ) → IsMember now i → later (drive i) ≡ Sound → (new.disk (drive i)).dirty ≡ []

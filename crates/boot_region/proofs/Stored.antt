@@ -157,10 +157,10 @@ module _ (a b c d : Shelved) (m0 m1 m2 : List Bool) (slot : BootSlot) (body : Li
   dropped2 = dropped_then a b c m0 m1 m2 ab bc (λ i m. (closed_on i (member_below m0 i m)).dropped m) (λ i m. (written_on i (member_below m1 i m)).dropped m)
 
   module _ (missing : Conditions) (held boot : BootRecord) (arrays : List Array) (spells : body ≡ spelling boot) (force : IsInForceOn a m0 missing slot held) (follow : MayFollow a missing slot boot arrays)
-      (p1 : (missing : Conditions) (held : List ℕ) → AreClean a missing m0 → LeavesBy a b (Closes a missing slot held))
+      (p1 : (missing : Conditions) (held : List ℕ) → AreClean a missing m0 → LeavesBy a b (Closes a m0 missing slot held))
       (p2 : (missing : Conditions) → AreClean b missing m1 → AreClosed b missing m1 slot → LeavesBy b c (Writes missing m1 slot))
       (p3 : (missing : Conditions) (spelled : List ℕ) → AreClean c missing m2 → AreClosed c missing m2 slot → AreWritten c missing m2 slot spelled → LeavesBy c d (Opens missing m2 slot spelled)) where
-    q1 : LeavesBy a b (Closes a missing slot (spelling held))
+    q1 : LeavesBy a b (Closes a m0 missing slot (spelling held))
     q1 = p1 missing (spelling held) force.clean
 
     q2 : LeavesBy b c (Writes missing m1 slot)
@@ -170,54 +170,56 @@ module _ (a b c d : Shelved) (m0 m1 m2 : List Bool) (slot : BootSlot) (body : Li
     q3 = p3 missing (spelling boot) (clean2 missing) (closed2 missing) (λ i m s. body_stands i m ∙ spells)
 
     -- a drive that is sound still was so
-    was_sound : (stop : Stop) (later : Conditions) → AccountsFor a missing slot (spelling held) stop.faults stop.write_faults later → (i : ℕ) → later (drive i) ≡ Sound → missing (drive i) ≡ Sound
+    was_sound : (stop : Stop) (later : Conditions) → AccountsFor a m0 missing slot (spelling held) stop.faults stop.write_faults later → (i : ℕ) → later (drive i) ≡ Sound → missing (drive i) ≡ Sound
     was_sound stop later account i s = sound_before (missing (drive i)) (later (drive i)) (account.within (drive i)) s
 
     -- it lost no write by then
-    lost_none : (stop : Stop) (later : Conditions) → AccountsFor a missing slot (spelling held) stop.faults stop.write_faults later → (i : ℕ) → later (drive i) ≡ Sound → (x y : Shelved)
+    lost_none : (stop : Stop) (later : Conditions) → AccountsFor a m0 missing slot (spelling held) stop.faults stop.write_faults later → (i : ℕ) → IsMember m0 i → later (drive i) ≡ Sound → (x y : Shelved)
         → Continues a x → LostWrites (x.disk (drive i)) (y.disk (drive i)) → IsCountedBy y stop → ⊥
-    lost_none stop later account i s x y ax lost counts = elim (account.writes i s) [
+    lost_none stop later account i m s x y ax lost counts = elim (account.writes i m s) [
       | inl none ↦ risen_on_way _ _ _ _ (ax.faults (drive i)) lost.faults (counts.faults (drive i)) none
       | inr none ↦ risen_on_way _ _ _ _ (ax.write_faults (drive i)) lost.write_faults (counts.write_faults (drive i)) none
     ]
 
     -- sound drives are members still
-    sound2 : (stop : Stop) (later : Conditions) → AccountsFor a missing slot (spelling held) stop.faults stop.write_faults later → IsCountedBy c stop → SoundAreMembers a later m2
-    sound2 stop later account counts i lt s = elim (dropped2 i (force.sound i lt (was_sound stop later account i s))) [
-      | inl is ↦ is
-      | inr lost ↦ absurd (lost_none stop later account i s a c (continues_refl a) lost counts)
-    ]
+    sound2 : (stop : Stop) (later : Conditions) → AccountsFor a m0 missing slot (spelling held) stop.faults stop.write_faults later → IsCountedBy c stop → SoundAreMembers a later m2
+    sound2 stop later account counts i lt s =
+        let m = force.sound i lt (was_sound stop later account i s) in
+        elim (dropped2 i m) [
+          | inl is ↦ is
+          | inr lost ↦ absurd (lost_none stop later account i m s a c (continues_refl a) lost counts)
+        ]
 
-    sound1 : (stop : Stop) (later : Conditions) → AccountsFor a missing slot (spelling held) stop.faults stop.write_faults later → IsCountedBy b stop → SoundAreMembers a later m1
+    sound1 : (stop : Stop) (later : Conditions) → AccountsFor a m0 missing slot (spelling held) stop.faults stop.write_faults later → IsCountedBy b stop → SoundAreMembers a later m1
     sound1 stop later account counts i lt s =
         let m = force.sound i lt (was_sound stop later account i s) in
         elim ((closed_on i (member_below m0 i m)).dropped m) [
           | inl is ↦ is
-          | inr lost ↦ absurd (lost_none stop later account i s a b (continues_refl a) lost counts)
+          | inr lost ↦ absurd (lost_none stop later account i m s a b (continues_refl a) lost counts)
         ]
 
     -- what a stop at the end of a phase may leave comes from one at its beginning
-    from_first : (stop : Stop) → MayStop b stop → ComesOf a (Closes a missing slot (spelling held)) stop
+    from_first : (stop : Stop) → MayStop b stop → ComesOf a (Closes a m0 missing slot (spelling held)) stop
     from_first stop may = (q1.each stop (is_b.counts_now a.moment stop ab.later may)).1
 
     from_second : (stop : Stop) → MayStop c stop → ComesOf b (Writes missing m1 slot) stop
     from_second stop may = (q2.each stop (is_c.counts_now b.moment stop bc.later may)).1
 
-    first : LeavesOnly a b (StandsBut a missing slot held arrays)
+    first : LeavesOnly a b (StandsBut a m0 missing slot held arrays)
     first = weaker (λ stop l. λ later account. while_closing a m0 missing slot held boot arrays is_a force follow l.start stop l.may later account l.by) q1
 
-    second : LeavesOnly b c (StandsBut a missing slot held arrays)
+    second : LeavesOnly b c (StandsBut a m0 missing slot held arrays)
     second = weaker (λ stop l. λ later account.
         let f = from_first l.start l.may in
         while_writing a m0 missing slot held boot arrays is_a force follow f.start stop f.may later account l.start m1 l.later (sound1 stop later account (counted_by l)) f.by l.by) q2
 
-    third : LeavesOnly c d (StandsBut a missing slot held arrays)
+    third : LeavesOnly c d (StandsBut a m0 missing slot held arrays)
     third = weaker (λ stop l. λ later account.
         let w = from_second l.start l.may in
         let f = from_first w.start w.may in
         while_opening a m0 missing slot held boot arrays is_a force follow f.start stop f.may later account w.start l.start m1 m2 (later_then w.later l.later) (sound2 stop later account (counted_by l)) f.by w.by l.by) q3
 
-    pub store_moments : LeavesOnly a d (StandsBut a missing slot held arrays)
+    pub store_moments : LeavesOnly a d (StandsBut a m0 missing slot held arrays)
     store_moments = then_run (continues_trans ab bc) (then_run ab first second) third
 
     -- ---- after the store
@@ -227,7 +229,7 @@ module _ (a b c d : Shelved) (m0 m1 m2 : List Bool) (slot : BootSlot) (body : Li
         (w1 : (k : Device) → ChangesOnly (OnNotShut m0 a (λ x. (b.disk x).faults) (gate_place slot) k) (a.disk k) (b.disk k))
         (w2 : (k : Device) → ChangesOnly (OnMembers m1 (body_place slot) RECORD_BYTES k) (b.disk k) (c.disk k))
         (w3 : (k : Device) → ChangesOnly (OnMembers m2 (gate_place slot) SECTOR_BYTES k) (c.disk k) (d.disk k))
-        (later : Conditions) (account : AccountsFor a missing slot (spelling held) (λ k. (d.disk k).faults) (λ k. (d.disk k).write_faults) later) where
+        (later : Conditions) (account : AccountsFor a m0 missing slot (spelling held) (λ k. (d.disk k).faults) (λ k. (d.disk k).write_faults) later) where
       ad : Continues a d
       ad = continues_trans (continues_trans ab bc) cd
 
@@ -246,9 +248,10 @@ module _ (a b c d : Shelved) (m0 m1 m2 : List Bool) (slot : BootSlot) (body : Li
           let stop : Stop = record { image = λ k. (d.disk k).bytes; faults = λ k. (d.disk k).faults; write_faults = λ k. (d.disk k).write_faults; output = d.output; taken = d.taken } in
           let counts : IsCountedBy c stop = record { faults = cd.faults; write_faults = cd.write_faults } in
           let here : IsCountedBy d stop = record { faults = λ k. omega arith; write_faults = λ k. omega arith } in
-          elim (dropped i (sound2 stop later account counts i (omega (arith, lt, ab.drives, bc.drives, cd.drives)) s)) [
+          let lt_a : i < a.drives = omega (arith, lt, ab.drives, bc.drives, cd.drives) in
+          elim (dropped i (sound2 stop later account counts i lt_a s)) [
             | inl is ↦ is
-            | inr lost ↦ absurd (lost_none stop later account i s c d (continues_trans ab bc) lost here)
+            | inr lost ↦ absurd (lost_none stop later account i (force.sound i lt_a (was i s)) s c d (continues_trans ab bc) lost here)
           ]
 
       -- the other slot stays
@@ -321,7 +324,7 @@ module _ (a b c d : Shelved) (m0 m1 m2 : List Bool) (slot : BootSlot) (body : Li
           let left = is_d.counts_now a.moment exact ad.later may2 in
           subst (λ x. Stands x start.image later arrays) (sym same_shelf) ((store_moments.each exact left).1 later account)
 
-      pub is_stored : IsStored a d m3 missing slot held boot arrays later
+      pub is_stored : IsStored d m3 slot boot arrays later
       is_stored = record {
         in_force = record {
           lawful = subst (λ x. IsRecordOf x boot) (sym same_shelf) follow.lawful;

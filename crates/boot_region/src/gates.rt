@@ -51,7 +51,7 @@ pub fn close_gates<S: Shelf>(shelf: &mut S, members: &mut [bool], slot: Slot)
     ensures others { NonMembersStay members.old (S.shelf shelf.old) (S.shelf shelf.new) }
     ensures rest { S.shelf_rest shelf.old shelf.new }
     ensures any_moment { (S.shelf shelf.old).honest → (missing : Conditions) (held : List ℕ) → AreClean (S.shelf shelf.old) missing members.old
-        → LeavesBy (S.shelf shelf.old) (S.shelf shelf.new) (Closes (S.shelf shelf.old) missing (slot_in slot) held) }
+        → LeavesBy (S.shelf shelf.old) (S.shelf shelf.new) (Closes (S.shelf shelf.old) members.old missing (slot_in slot) held) }
 {
     let at = slot.gate();
     for drive in 0..members.len() {

@@ -56,7 +56,7 @@ pub fn settle<S: Shelf>(shelf: &mut S, members: &mut [bool], slot: Slot)
     // Then the record is in force on the members that are left.
     ensures settled { (S.shelf shelf.old).honest → (missing : Conditions) (boot : BootRecord) (arrays : List Array)
         → IsLoaded (S.shelf shelf.old) members.old missing (slot_in slot) boot arrays → IsFound (S.shelf shelf.old) members.old missing (slot_in slot) boot
-        → (later : Conditions) → TellsFailed (S.shelf shelf.old) missing (λ d. ((S.shelf shelf.new).disk d).faults) later
+        → (later : Conditions) → TellsFailed (S.shelf shelf.old) members.old missing (λ d. ((S.shelf shelf.new).disk d).faults) later
         → IsInForceOn (S.shelf shelf.new) members.new later (other_slot (slot_in slot)) boot }
 {
     let at = slot.gate();

@@ -29,11 +29,11 @@ pub fn store<S: Shelf>(shelf: &mut S, members: &mut [bool], slot: Slot, body: &[
     // At every moment the devices stand for the arrays for which they stood.
     ensures any_moment { (S.shelf shelf.old).honest → (missing : Conditions) (held boot : BootRecord) (arrays : List Array)
         → body.now ≡ spelling boot → IsInForceOn (S.shelf shelf.old) members.old missing (slot_in slot) held → MayFollow (S.shelf shelf.old) missing (slot_in slot) boot arrays
-        → LeavesOnly (S.shelf shelf.old) (S.shelf shelf.new) (StandsBut (S.shelf shelf.old) missing (slot_in slot) held arrays) }
+        → LeavesOnly (S.shelf shelf.old) (S.shelf shelf.new) (StandsBut (S.shelf shelf.old) members.old missing (slot_in slot) held arrays) }
     // Then the record is in force, and the devices stand for the arrays.
     ensures stored { (S.shelf shelf.old).honest → (missing : Conditions) (held boot : BootRecord) (arrays : List Array)
         → body.now ≡ spelling boot → IsNewer (slot_in slot) held boot → IsInForceOn (S.shelf shelf.old) members.old missing (slot_in slot) held → MayFollow (S.shelf shelf.old) missing (slot_in slot) boot arrays
-        → IsStoredIn (S.shelf shelf.old) (S.shelf shelf.new) members.new missing (slot_in slot) held boot arrays }
+        → IsStoredIn (S.shelf shelf.old) (S.shelf shelf.new) members.old members.new missing (slot_in slot) held boot arrays }
 {
     close_gates(shelf, members, slot);
     write_bodies(shelf, members, slot, body);
