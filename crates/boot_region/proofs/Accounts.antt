@@ -1,5 +1,5 @@
 -- Conditions that tell what has failed: those that lose the devices whose counts rose.
-use Rattle.std.proofs.Common.{◌≡◌, ◌⊎◌, inl, inr, ℕ, List, refl, Bool, true, false}
+use Rattle.std.proofs.Common.{◌≡◌, inl, inr, ℕ, List, refl, Bool, true, false}
 use Rattle.pur_base.specs.declared.device.Device.{Device}
 use Rattle.pur_base.specs.Devices.{Condition, Conditions, Sound, Missing, LeftOut, IsBearable, MayBecome, IsWithin, drive}
 use Rattle.boot_codec.specs.Region.{BootSlot}

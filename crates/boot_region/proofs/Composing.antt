@@ -1,16 +1,14 @@
 -- The phases of a store, one after another: at every moment the devices stand for the arrays.
-use Rattle.std.proofs.Common.{◌≡◌, ◌⊎◌, inl, inr, ℕ, ◌+◌, ◌*◌, ◌≤◌, ◌<◌, List, [], length, map, refl, sym, ◌∙◌, ap, subst, arith, Bool, true, false, cond}
-use Rattle.std.specs.Prelude.{Option, Some, None, IfSome, option_and_then, count_by, if◌then◌else◌}
+use Rattle.std.proofs.Common.{◌≡◌, inl, inr, ℕ, ◌+◌, ◌*◌, ◌≤◌, ◌<◌, List, map, refl, sym, ◌∙◌, ap, subst, arith, Bool, true, false}
+use Rattle.std.specs.Prelude.{Option, Some, None, IfSome, option_and_then, count_by}
 use Rattle.std.specs.List.{range_with_len}
-use Rattle.std.proofs.lemmas.Bool.{cases_Bool}
 use Rattle.std.proofs.lemmas.List.FromFn.{length-map-range_with_len}
-use Rattle.pur_base.specs.declared.device.Device.{Device}
 use Rattle.pur_base.specs.declared.limits.TheConstants.{SLOTS_MIN}
-use Rattle.pur_base.specs.Devices.{Geometry, Image, View, Condition, Conditions, Sound, Missing, LeftOut, IsBearable, IsWithin, MayBecome, is_missing, is_sound, drive}
+use Rattle.pur_base.specs.Devices.{Geometry, Image, View, Condition, Conditions, Sound, Missing, LeftOut, IsWithin, MayBecome, is_missing, is_sound, drive}
 use Rattle.pur_base.specs.Plain.{Array}
 use Rattle.boot_codec.specs.declared.record.BootRecord.{BootRecord}
 use Rattle.boot_codec.specs.Spelling.{spelling}
-use Rattle.boot_codec.specs.Region.{BootSlot, Effective, IsDecided, IsRecordOf, other_slot, body_in, shown_by, votes, is_vote, Yields, generation_in}
+use Rattle.boot_codec.specs.Region.{BootSlot, Effective, IsDecided, other_slot, body_in, shown_by, votes, is_vote, Yields, generation_in}
 use Rattle.array_spec.specs.Standing.{Stands, MayBeGiven, MayAppear}
 use Rattle.array_spec.specs.Laws.{OpensGatesOf, ClosesGatesOf, DiffersOnlyIn, IsOldOrNew}
 use Rattle.array_spec.proofs.Votes.{held_votes, most_votes, not_missing, sound_before}
@@ -18,9 +16,8 @@ use Rattle.array_spec.proofs.Store.{store_keeps, boot_keeps}
 use Rattle.array_spec.proofs.Settling.{opening_gives, opening_still_gives, closing_gives_no_more, closing_still_gives, this_or_other}
 use Rattle.array_spec.proofs.Spelled.{spells_one}
 use Rattle.world.specs.Shelf.{Shelved, Stop, MayStop, IsShelf}
-use Rattle.world.specs.Losing.{geometry_of, has_risen, IsLater}
-use Rattle.boot_region.specs.Members.{IsMember}
-use Rattle.boot_region.specs.Storing.{SoundAreMembers, OnlyBoot, Closes, Writes, Opens, IsInForceOn, MayFollow, AccountsFor, IsOlder}
+use Rattle.world.specs.Losing.{geometry_of, IsLater}
+use Rattle.boot_region.specs.Storing.{SoundAreMembers, OnlyBoot, Closes, Writes, Opens, IsInForceOn, MayFollow, AccountsFor}
 use Rattle.boot_region.proofs.Phases.{not_risen_before}
 use Rattle.boot_region.proofs.ShownLemmas.{as_read}
 
@@ -163,10 +160,13 @@ module _ (shelf : Shelved) (members : List Bool) (missing : Conditions) (slot : 
   while_writing mid now on sound c w =
       let closes = closes_then mid stop now (closes_of mid on c) w in
       boot_keeps (geometry_of shelf) start.image stop.image missing later arrays account.within account.bearable (differs_then c.only_boot w.only_boot) (still_gives stop.image closes)
-      (λ t b g. (gives_no_more stop.image closes t b g, λ i. elim (this_or_other t slot) [
-        | inl this ↦ absurd (none_given stop.image (λ k lt s. w.none k (sound k lt s) (sound_then k s)) b (subst (λ x. MayBeGiven (geometry_of shelf) stop.image later x b) this g))
-        | inr other ↦ subst (λ x. body_in x (stop.image (drive i)) ≡ body_in x (start.image (drive i))) (sym other) (w.bodies i ∙ c.bodies (other_slot slot) i)
-      ])) (follow.stands start may)
+      (λ t b g. (
+        gives_no_more stop.image closes t b g,
+        λ i. elim (this_or_other t slot) [
+          | inl this ↦ absurd (none_given stop.image (λ k lt s. w.none k (sound k lt s) (sound_then k s)) b (subst (λ x. MayBeGiven (geometry_of shelf) stop.image later x b) this g))
+          | inr other ↦ subst (λ x. body_in x (stop.image (drive i)) ≡ body_in x (start.image (drive i))) (sym other) (w.bodies i ∙ c.bodies (other_slot slot) i)
+        ],
+      )) (follow.stands start may)
 
   -- the third phase
   pub while_opening : (first second : Stop) (now last : List Bool) → IsLater first stop → SoundAreMembers shelf later last
@@ -187,8 +187,11 @@ module _ (shelf : Shelved) (members : List Bool) (missing : Conditions) (slot : 
           | inl new_one ↦ inl (new_one.0, spells_one (geometry_of shelf) b boot g.lawful follow.lawful (sym new_one.1))
           | inr before ↦ elim (this_or_other t slot) [
             | inl this ↦ absurd (none_given second.image (λ k lt s2. o.shut k (sound k lt s2) (sound_then k s2)) b (subst (λ x. MayBeGiven (geometry_of shelf) second.image later x b) this before))
-            | inr other ↦ inr (gives_no_more second.image closes t b before, λ i. subst (λ x. body_in x (stop.image (drive i)) ≡ body_in x (start.image (drive i))) (sym other)
-                (o.bodies (other_slot slot) i ∙ w.bodies i ∙ c.bodies (other_slot slot) i))
+            | inr other ↦ inr (
+              gives_no_more second.image closes t b before,
+              λ i. subst (λ x. body_in x (stop.image (drive i)) ≡ body_in x (start.image (drive i))) (sym other)
+                  (o.bodies (other_slot slot) i ∙ w.bodies i ∙ c.bodies (other_slot slot) i),
+            )
           ]
         ];
       } in

@@ -1,5 +1,5 @@
 -- What calls on a gate write: one that reads as closed isn't closed, and one that reads as open isn't opened.
-use Rattle.std.proofs.Common.{◌≡◌, ◌⊎◌, inl, inr, ℕ, ◌+◌, ◌-◌, ◌^◌, ◌≤◌, ◌<◌, List, [], length, slice_index, refl, sym, ◌∙◌, ap, subst, arith, Bool, true, false, Result, Ok, Err, is_ok, OnOk, OnErr}
+use Rattle.std.proofs.Common.{◌≡◌, inl, inr, ℕ, ◌+◌, ◌≤◌, ◌<◌, List, [], length, slice_index, refl, sym, ◌∙◌, ap, subst, arith, Bool, true, false, Result, Ok, Err, is_ok, OnOk, OnErr}
 use Rattle.std.specs.Prelude.{slice_range}
 use Rattle.std.proofs.lemmas.Bool.{cases_lt}
 use Rattle.pur_base.specs.declared.device.Device.{Device}
@@ -10,10 +10,10 @@ use Rattle.pur_base.specs.Gates.{is_open}
 use Rattle.world.specs.declared.streams.Failed.{Failed}
 use Rattle.world.specs.Counts.{Rises}
 use Rattle.world.specs.Shelf.{Shelved, Stop, Disk, Continues, LeavesOnly, ReadCounts, Written}
-use Rattle.world.specs.Writes.{OneRange, WritesOnly, LeavesBut, ChangesOnly, CountsGrow}
+use Rattle.world.specs.Writes.{OneRange, WritesOnly, LeavesBut, ChangesOnly}
 use Rattle.world.proofs.Moments.{then_run, weaker}
 use Rattle.world.proofs.Writes.{but_then, counted_then, counts_grow, writes_then, writes_more}
-use Rattle.boot_region.specs.Members.{IsMember, OnNotShut, OneNotShut, IsNotShut, OnClosed, OneClosed, Closed, Opened, LostWrites}
+use Rattle.boot_region.specs.Members.{IsMember, OnNotShut, OneNotShut, IsNotShut, Closed, LostWrites}
 use Rattle.boot_codec.specs.Gate.{gate_bytes}
 use Rattle.boot_region.proofs.ShownLemmas.{reads_open, gate_opens, gate_closes, gate_size, open_begins, closed_begins}
 

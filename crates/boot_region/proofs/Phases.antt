@@ -1,6 +1,6 @@
 -- What a stop in each phase of a store leaves.
-use Rattle.std.proofs.Common.{◌≡◌, ◌⊎◌, inl, inr, ℕ, ◌+◌, ◌*◌, ◌^◌, ◌-◌, ◌≤◌, ◌<◌, List, [], length, slice_index, refl, sym, ◌∙◌, ap, subst, arith, Bool, true, false, cond}
-use Rattle.std.specs.Prelude.{slice_index_or, Option, Some, None, IfSome, nat_lt, nat_le, ◌||◌, ◌==◌}
+use Rattle.std.proofs.Common.{◌≡◌, ◌⊎◌, inl, inr, ℕ, ◌+◌, ◌*◌, ◌^◌, ◌-◌, ◌≤◌, ◌<◌, List, length, slice_index, sym, ◌∙◌, ap, subst, arith, Bool, true, false}
+use Rattle.std.specs.Prelude.{slice_index_or, Some, None, IfSome, nat_lt, nat_le, ◌||◌, ◌==◌}
 use Rattle.std.proofs.lemmas.Bool.{cases_Bool, ltb-true, ltb-false, leb-false}
 use Rattle.pur_base.specs.declared.device.Device.{Device}
 use Rattle.pur_base.specs.declared.device.Device.TheVariants.{Drive, Nv}
@@ -16,7 +16,7 @@ use Rattle.world.specs.Writes.{LeavesBut}
 use Rattle.world.specs.Losing.{has_risen}
 use Rattle.boot_region.specs.Members.{IsMember, OnMembers, OnNotShut}
 use Rattle.boot_region.specs.Storing.{AreClean, AreClosed, AreWritten, IsOlder, ComesOf, Closes, Writes, Opens}
-use Rattle.boot_region.proofs.Began.{began, began_at, as_left, outside, within, same_size, as_read_then, may_begin, differs}
+use Rattle.boot_region.proofs.Began.{began, began_at, as_left, outside, same_size, as_read_then, may_begin, differs}
 use Rattle.boot_region.proofs.ShownLemmas.{bodies_same, other_same, opened, shows_if, open_before, other_body_same, other_shown_same, gate_same, closed_shows, gate_low, body_low}
 
 -- a count that rose on the way has risen
@@ -124,7 +124,7 @@ closes_gates members shelf stop missing slot held is h some clean = record {
           | inr rose ↦ absurd (risen_on_way _ _ _ _ (let same : (shelf.disk (drive i)).faults ≤ (shelf.disk (drive i)).faults = omega arith in same) rose (let same : stop.faults (drive i) ≤ stop.faults (drive i) = omega arith in same) none)
         ] in
         let gate : slice_index (stop.image (drive i)) (gate_place slot) ≡ slice_index (shelf.disk (drive i)).bytes (gate_place slot) =
-            (some.bytes (drive i)).same (gate_place slot) (λ s. subst (λ (l : List Span). IsInSome l (gate_place slot)) (clean i m sound) s) unwritten in
+        (some.bytes (drive i)).same (gate_place slot) (λ s. subst (λ (l : List Span). IsInSome l (gate_place slot)) (clean i m sound) s) unwritten in
         closed_shows slot (stop.image (drive i)) (ap (λ (k : ℕ). k == 1) gate ∙ shut) ∙ sym (closed_shows slot (shelf.disk (drive i)).bytes shut)
 
     on_member : (i : ℕ) → IsMember members i → missing (drive i) ≡ Sound → IsOlder shelf slot held i ⊎ (has_risen (shelf.disk (drive i)).faults (stop.faults (drive i)) ≡ false)

@@ -1,6 +1,6 @@
 -- Gates that are opened where they are closed, over the body that was loaded.
-use Rattle.std.proofs.Common.{◌≡◌, ◌⊎◌, inl, inr, ℕ, ◌+◌, ◌*◌, ◌≤◌, ◌<◌, List, [], length, map, slice_index, refl, sym, ◌∙◌, ap, subst, arith, Bool, true, false, Result, Ok, Err, is_ok, OnOk, OnErr}
-use Rattle.std.specs.Prelude.{slice_index_or, Option, Some, None, ◌==◌, option_and_then, if◌then◌else◌}
+use Rattle.std.proofs.Common.{◌≡◌, ◌⊎◌, inl, inr, ℕ, ◌≤◌, ◌<◌, List, [], length, map, slice_index, refl, sym, ◌∙◌, ap, subst, arith, Bool, true, false, Result, Ok, Err, is_ok, OnOk, OnErr}
+use Rattle.std.specs.Prelude.{slice_index_or, Option, Some, None, option_and_then, if◌then◌else◌}
 use Rattle.std.proofs.lemmas.Bool.{cases_Bool}
 use Rattle.pur_base.specs.declared.device.Device.{Device}
 use Rattle.pur_base.specs.declared.device.Device.TheVariants as dev
@@ -73,7 +73,7 @@ module _ (members : List Bool) (shelf : Shelved) (stop : Stop) (slot : BootSlot)
     | inl open_then ↦
         let gate : slice_index (stop.image (drive i)) (gate_place slot) ≡ slice_index (shelf.disk (drive i)).bytes (gate_place slot) = as_before i (gate_place slot) m sound open_then in
         let body : body_in slot (stop.image (drive i)) ≡ body_in slot (shelf.disk (drive i)).bytes =
-            bodies_same slot (shelf.disk (drive i)).bytes (stop.image (drive i)) ((left.bytes (drive i)).size) (λ k out. far_same i k m sound out) slot in
+        bodies_same slot (shelf.disk (drive i)).bytes (stop.image (drive i)) ((left.bytes (drive i)).size) (λ k out. far_same i k m sound out) slot in
         inl (rw (gate, body) refl)
     | inr shut ↦ opened slot (shelf.disk (drive i)).bytes (stop.image (drive i)) ((left.bytes (drive i)).size) (λ k out. far_same i k m sound out) (spelling boot) (loaded.written i m sound) shut
   ]
@@ -100,11 +100,14 @@ module _ (members : List Bool) (shelf : Shelved) (stop : Stop) (slot : BootSlot)
       let s = loaded.stands start may in
       boot_keeps (geometry_of shelf) start.image stop.image missing missing arrays (as_it_is missing) s.bearable (differs members shelf (gate_place slot) SECTOR_BYTES stop every (gates_low members shelf stop slot every))
       (opening_still_gives (geometry_of shelf) start.image stop.image missing missing slot boot (as_it_is missing) loaded.lawful opens s.gives)
-      (λ t b g. (elim (opening_gives (geometry_of shelf) start.image stop.image missing missing slot t boot b (as_it_is missing) opens g) [
-        | inl same ↦ subst (λ (x : BootRecord). MayBeGiven (geometry_of shelf) start.image missing t x) (spells_one (geometry_of shelf) boot b loaded.lawful g.lawful same.1)
-            (subst (λ (x : BootSlot). MayBeGiven (geometry_of shelf) start.image missing x boot) (sym same.0) (loaded.given start may))
-        | inr before ↦ before
-      ], λ i. same_bodies members shelf stop slot every t i))
+      (λ t b g. (
+        elim (opening_gives (geometry_of shelf) start.image stop.image missing missing slot t boot b (as_it_is missing) opens g) [
+          | inl same ↦ subst (λ (x : BootRecord). MayBeGiven (geometry_of shelf) start.image missing t x) (spells_one (geometry_of shelf) boot b loaded.lawful g.lawful same.1)
+              (subst (λ (x : BootSlot). MayBeGiven (geometry_of shelf) start.image missing x boot) (sym same.0) (loaded.given start may))
+          | inr before ↦ before
+        ],
+        λ i. same_bodies members shelf stop slot every t i,
+      ))
       s
 
 -- ---- after the settling

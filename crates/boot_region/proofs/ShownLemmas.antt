@@ -1,6 +1,6 @@
 -- What a drive shows in a slot, as its gate or its body is written.
 use Rattle.std.proofs.Common.{◌≡◌, ◌⊎◌, inl, inr, ℕ, ◌+◌, ◌*◌, ◌%◌, ◌≤◌, ◌<◌, List, [], length, take, drop, slice_index, get_or, refl, sym, ◌∙◌, ap, subst, arith, Bool, true, false, cond}
-use Rattle.std.specs.Prelude.{slice_index_or, slice_range, Option, Some, None, IfSome, ◌==◌}
+use Rattle.std.specs.Prelude.{slice_index_or, slice_range, Some, None, IfSome, ◌==◌}
 use Rattle.std.proofs.lemmas.Bool.{cases_Bool, cases_lt, eqb-true}
 use Rattle.std.proofs.lemmas.List.{ext_get_or, get_or_past, length-take, length-drop, get_or-take, get_or-drop}
 use Rattle.std.proofs.lemmas.List.Edits.{get_or-between}
@@ -111,18 +111,18 @@ shown_body slot bytes body e = elim (cases_Bool (is_open (gate_place slot) bytes
 pub gate_opens : (at n : ℕ) (from old new : List ℕ) → Written at from old new → length from ≡ n → 0 < n → slice_index from 0 ≡ 1 → is_open at new ≡ true
 gate_opens at n from old new w size some opens =
     let first : slice_index new at ≡ slice_index from 0 =
-        ap (λ (k : ℕ). slice_index new k) (let e : at ≡ at + 0 = omega arith in e)
-        ∙ sym (get_or-between new at (at + length from) 0 0 (omega (arith, size, some)))
-        ∙ ap (λ (l : List ℕ). get_or l 0 0) w.within in
+    ap (λ (k : ℕ). slice_index new k) (let e : at ≡ at + 0 = omega arith in e)
+    ∙ sym (get_or-between new at (at + length from) 0 0 (omega (arith, size, some)))
+    ∙ ap (λ (l : List ℕ). get_or l 0 0) w.within in
     ap (λ (k : ℕ). k == 1) (first ∙ opens)
 
 -- and closed where it begins with 0
 pub gate_closes : (at n : ℕ) (from old new : List ℕ) → Written at from old new → length from ≡ n → 0 < n → slice_index from 0 ≡ 0 → is_open at new ≡ false
 gate_closes at n from old new w size some closes =
     let first : slice_index new at ≡ slice_index from 0 =
-        ap (λ (k : ℕ). slice_index new k) (let e : at ≡ at + 0 = omega arith in e)
-        ∙ sym (get_or-between new at (at + length from) 0 0 (omega (arith, size, some)))
-        ∙ ap (λ (l : List ℕ). get_or l 0 0) w.within in
+    ap (λ (k : ℕ). slice_index new k) (let e : at ≡ at + 0 = omega arith in e)
+    ∙ sym (get_or-between new at (at + length from) 0 0 (omega (arith, size, some)))
+    ∙ ap (λ (l : List ℕ). get_or l 0 0) w.within in
     ap (λ (k : ℕ). k == 1) (first ∙ closes)
 
 -- the first byte of a sector that was read there

@@ -1,6 +1,6 @@
 -- A whole store, from what its phases say.
-use Rattle.std.proofs.Common.{◌≡◌, ◌⊎◌, inl, inr, ℕ, zero, suc, ◌+◌, ◌-◌, ◌*◌, ◌^◌, ◌≤◌, ◌<◌, List, [], length, slice_index, refl, sym, ◌∙◌, ap, subst, arith, Bool, true, false}
-use Rattle.std.specs.Prelude.{slice_index_or, Option, Some, None, count_by}
+use Rattle.std.proofs.Common.{◌≡◌, ◌⊎◌, inl, inr, ℕ, zero, suc, ◌+◌, ◌*◌, ◌≤◌, ◌<◌, List, [], length, refl, sym, ◌∙◌, ap, subst, arith, Bool, false}
+use Rattle.std.specs.Prelude.{Option, Some, None, count_by}
 use Rattle.std.specs.List.{range_with_len}
 use Rattle.std.specs.Str.{bytes_eq}
 use Rattle.std.specs.Cmp.Lexicographic.{same_text}
@@ -8,7 +8,7 @@ use Rattle.std.proofs.lemmas.Bool.{cases_Bool, cases_lt}
 use Rattle.pur_base.specs.declared.device.Device.{Device}
 use Rattle.pur_base.specs.declared.device.Device.TheVariants as dev
 use Rattle.pur_base.specs.declared.limits.TheConstants.{SECTOR_BYTES, UNIT_BYTES}
-use Rattle.pur_base.specs.Devices.{Geometry, Conditions, Sound, IsBearable, is_sound, drive}
+use Rattle.pur_base.specs.Devices.{Conditions, Sound, IsBearable, is_sound, drive}
 use Rattle.pur_base.specs.Plain.{Array}
 use Rattle.boot_codec.specs.declared.limits.TheConstants.{RECORD_BYTES}
 use Rattle.boot_codec.specs.declared.record.BootRecord.{BootRecord}
@@ -21,7 +21,7 @@ use Rattle.array_spec.proofs.Settling.{twice_other}
 use Rattle.world.specs.Counts.{Rises}
 use Rattle.world.specs.Shelf.{Shelved, Stop, MayStop, IsShelf, IsIn, Continues, Written, IsCountedBy, LeavesOnly}
 use Rattle.world.specs.Writes.{ChangesOnly, WritesOnly}
-use Rattle.world.specs.Losing.{geometry_of, has_risen, IsLater}
+use Rattle.world.specs.Losing.{geometry_of, IsLater}
 use Rattle.world.proofs.Writes.{writes_then, writes_more}
 use Rattle.world.proofs.Moments.{then_run, weaker, continues_trans, continues_refl}
 use Rattle.boot_region.specs.Members.{IsMember, IsOneOf, NonMembersStay, OnSlot, OnMembers, OnNotShut, Outcome, Closed, LostWrites, DroppedFailed}
@@ -63,15 +63,15 @@ later_then {a} {b} {c} ab bc = record { faults = λ k. omega (arith, ab.faults k
 pub dropped_then : (a b c : Shelved) (m0 m1 m2 : List Bool) → Continues a b → Continues b c → DroppedFailed a b m0 m1 → DroppedFailed b c m1 m2 → DroppedFailed a c m0 m2
 dropped_then a b c m0 m1 m2 ab bc first next i m = elim (first i m) [
   | inr lost ↦ inr (record {
-      faults = rises_between _ _ _ _ (let same : (a.disk (drive i)).faults ≤ (a.disk (drive i)).faults = omega arith in same) lost.faults (bc.faults (drive i));
-      write_faults = rises_between _ _ _ _ (let same : (a.disk (drive i)).write_faults ≤ (a.disk (drive i)).write_faults = omega arith in same) lost.write_faults (bc.write_faults (drive i));
-    })
+    faults = rises_between _ _ _ _ (let same : (a.disk (drive i)).faults ≤ (a.disk (drive i)).faults = omega arith in same) lost.faults (bc.faults (drive i));
+    write_faults = rises_between _ _ _ _ (let same : (a.disk (drive i)).write_faults ≤ (a.disk (drive i)).write_faults = omega arith in same) lost.write_faults (bc.write_faults (drive i));
+  })
   | inl is ↦ elim (next i is) [
     | inl still ↦ inl still
     | inr lost ↦ inr (record {
-        faults = rises_between _ _ _ _ (ab.faults (drive i)) lost.faults (let same : (c.disk (drive i)).faults ≤ (c.disk (drive i)).faults = omega arith in same);
-        write_faults = rises_between _ _ _ _ (ab.write_faults (drive i)) lost.write_faults (let same : (c.disk (drive i)).write_faults ≤ (c.disk (drive i)).write_faults = omega arith in same);
-      })
+      faults = rises_between _ _ _ _ (ab.faults (drive i)) lost.faults (let same : (c.disk (drive i)).faults ≤ (c.disk (drive i)).faults = omega arith in same);
+      write_faults = rises_between _ _ _ _ (ab.write_faults (drive i)) lost.write_faults (let same : (c.disk (drive i)).write_faults ≤ (c.disk (drive i)).write_faults = omega arith in same);
+    })
   ]
 ]
 
@@ -113,7 +113,6 @@ module _ (a b c d : Shelved) (m0 m1 m2 : List Bool) (slot : BootSlot) (body : Li
     (few : length m0 ≤ a.drives) (size : length body ≡ RECORD_BYTES) (as_many : length m1 ≡ length m0) (shorter : length m2 ≡ length m1)
     (closed_on : (i : ℕ) → i < length m0 → Closed a.honest (IsMember m0 i) (IsMember m1 i) (gate_place slot) (a.disk (drive i)) (b.disk (drive i)))
     (written_on : (i : ℕ) → i < length m1 → Outcome b.honest (IsMember m1 i) (IsMember m2 i) (body_place slot) body (b.disk (drive i)) (c.disk (drive i))) where
-
   -- members after a phase were members before it
   at_first : (i : ℕ) → IsMember m1 i → i < length m0
   at_first i m = omega (arith, member_below m1 i m, as_many)
@@ -232,7 +231,6 @@ module _ (a b c d : Shelved) (m0 m1 m2 : List Bool) (slot : BootSlot) (body : Li
         (later : Conditions) (account : AccountsFor a m0 missing slot (spelling held) (λ k. (d.disk k).faults) (λ k. (d.disk k).write_faults) later) where
       ad : Continues a d
       ad = continues_trans (continues_trans ab bc) cd
-
 
       in_m0 : (i : ℕ) → IsMember m3 i → IsMember m0 i
       in_m0 i m = before1 i (before2 i (fewer i m))

@@ -1,10 +1,8 @@
-use Rattle.std.proofs.Common.{rules, arith, ◌≡◌, ◌<◌, length, List, ℕ, false, true, is_ok, slice_index, refl, ◌∙◌, subst, ap}
+use Rattle.std.proofs.Common.{rules, arith, ◌≡◌, length, ℕ, true, is_ok, slice_index, ◌∙◌, subst, ap}
 use Rattle.pur_base.specs.declared.limits.TheConstants.{SECTOR_BYTES}
-use Rattle.world.specs.Shelf.{Shelved}
 use Rattle.world.specs.Writes.{WritesOnly, OneRange}
 use Rattle.world.proofs.Moments.{weaker}
-use Rattle.world.proofs.Writes.{read_writes, writes_more}
-use Rattle.boot_region.specs.Members.{OneNotShut, IsNotShut}
+use Rattle.world.proofs.Writes.{read_writes}
 use Rattle.boot_region.proofs.GateCalls.{left_more, not_shut, closing_writes, closing_moments, wrote_closed}
 use Rattle.boot_region.proofs.gates.close_gate.Goals as goal
 use Rattle.boot_region.proofs.gates.close_gate.Goals.{else-is_ok-via-then-is_ok+else-not-is_open_gate, else-is_ok-via-else-is_ok}

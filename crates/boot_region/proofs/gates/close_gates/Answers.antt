@@ -1,10 +1,9 @@
-use Rattle.std.proofs.Common.{◌≡◌, ◌≢◌, ◌<◌, ◌≤◌, ◌+◌, ◌*◌, ℕ, length, arith, sym, refl, ap, ◌∙◌, below_more, get_or-set_other, get_or-set_same, subst}
+use Rattle.std.proofs.Common.{◌≢◌, ◌<◌, ℕ, length, arith, sym, refl, ap, ◌∙◌, below_more, get_or-set_other, get_or-set_same, subst}
 use Rattle.std.specs.Prelude.{◌%◌}
 use Rattle.pur_base.specs.Devices.{drive}
 use Rattle.pur_base.specs.declared.device.Device.{Device}
 use Rattle.pur_base.specs.declared.limits.TheConstants.{SECTOR_BYTES}
 use Rattle.pur_base.proofs.Devices.{drives_apart}
-use Rattle.boot_codec.specs.Region.{gate_place}
 use Rattle.world.specs.Shelf.{LeavesOnly}
 use Rattle.world.specs.Writes.{WritesOnly, LeavesBut}
 use Rattle.world.proofs.Moments.{continues_trans, weaker}

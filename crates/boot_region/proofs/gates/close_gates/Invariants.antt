@@ -1,6 +1,5 @@
-use Rattle.std.proofs.Common.{◌≡◌, ℕ, ◌<◌, ◌≤◌, length, slice_index_or, false}
+use Rattle.std.proofs.Common.{◌≡◌, ℕ, ◌<◌, ◌≤◌, slice_index_or, false}
 use Rattle.pur_base.specs.Devices.{drive}
-use Rattle.pur_base.specs.declared.limits.TheConstants.{SECTOR_BYTES}
 use Rattle.world.specs.Shelf.{Continues, LeavesOnly}
 use Rattle.world.specs.Writes.{WritesOnly, LeavesBut}
 use Rattle.boot_region.specs.Members.{IsMember, NonMembersStay, OnNotShut, Closed}

@@ -1,15 +1,15 @@
-use Rattle.std.proofs.Common.{rules, ◌≡◌, ◌<◌, ◌≤◌, ◌+◌, ◌*◌, ℕ, List, [], length, slice_index, sym, refl, ap, ◌∙◌, subst, arith, true}
+use Rattle.std.proofs.Common.{rules, ◌≡◌, ◌<◌, ℕ, List, length, ap, ◌∙◌, subst, arith}
 use Rattle.std.specs.Prelude.{◌%◌, Some}
 use Rattle.pur_base.specs.Devices.{drive}
 use Rattle.pur_base.specs.declared.limits.TheConstants.{SECTOR_BYTES}
-use Rattle.boot_codec.specs.Region.{gate_place, body_in, shown_by}
-use Rattle.world.specs.Shelf.{Shelved, Written}
+use Rattle.boot_codec.specs.Region.{gate_place, shown_by}
+use Rattle.world.specs.Shelf.{Written}
 use Rattle.world.specs.Writes.{WritesOnly}
 use Rattle.world.proofs.Moments.{weaker}
-use Rattle.boot_region.specs.Members.{IsMember, OnMembers, Outcome}
+use Rattle.boot_region.specs.Members.{OnMembers}
 use Rattle.boot_region.specs.Slots.{slot_in}
 use Rattle.boot_region.proofs.Phases.{opens_gates}
-use Rattle.boot_region.proofs.ShownLemmas.{gate_low, gate_aligned, gate_size, member_below, shows_written, as_read}
+use Rattle.boot_region.proofs.ShownLemmas.{gate_low, gate_aligned, member_below, shows_written, as_read}
 use Rattle.boot_region.proofs.gates.open_gates.Goals as goal
 
 pub write_members-requires-clause-fits : goal.write_members-requires-clause-fits
@@ -53,7 +53,7 @@ returns-clause-shown g c h i is =
     let same : length c.write_members.new.members ≡ length c.args.members.now = search rules in
     let below : i < length c.args.members.now = omega (arith, member_below c.write_members.new.members i is, same) in
     let written : Written (gate_place (slot_in c.args.slot)) from (old.disk (drive i)).bytes (new.disk (drive i)).bytes =
-        subst (λ (a : ℕ). Written a from (old.disk (drive i)).bytes (new.disk (drive i)).bytes) c.gate.ensures ((c.write_members.ensures.outcome i below).written h is) in
+    subst (λ (a : ℕ). Written a from (old.disk (drive i)).bytes (new.disk (drive i)).bytes) c.gate.ensures ((c.write_members.ensures.outcome i below).written h is) in
     shows_written (slot_in c.args.slot) from (old.disk (drive i)).bytes (new.disk (drive i)).bytes (c.as_bytes.ensures.bytes ∙ c.gate_sector-open.ensures) written
 
 pub returns-clause-held : goal.returns-clause-held

@@ -1,8 +1,7 @@
-use Rattle.std.proofs.Common.{◌≡◌, ◌<◌, ◌≤◌, ◌+◌, ◌*◌, ℕ, length, arith, ap, refl, ◌∙◌, subst}
+use Rattle.std.proofs.Common.{ℕ, length, arith, ap, ◌∙◌, subst}
 use Rattle.std.specs.Prelude.{◌%◌}
 use Rattle.pur_base.specs.Devices.{drive}
 use Rattle.pur_base.specs.declared.limits.TheConstants.{SECTOR_BYTES}
-use Rattle.boot_codec.specs.declared.limits.TheConstants.{RECORD_BYTES}
 use Rattle.boot_codec.specs.Region.{body_place}
 use Rattle.world.specs.Writes.{WritesOnly}
 use Rattle.world.proofs.Moments.{weaker}

@@ -1,4 +1,4 @@
-use Rattle.std.proofs.Common.{rules, arith, ◌≡◌, ◌<◌, length, List, ℕ, false, true, slice_index, ap, ◌∙◌, subst}
+use Rattle.std.proofs.Common.{arith, ◌≡◌, length, ℕ, false, slice_index, ap, ◌∙◌, subst}
 use Rattle.pur_base.specs.Gates.{is_open}
 use Rattle.pur_base.specs.declared.limits.TheConstants.{SECTOR_BYTES}
 use Rattle.world.specs.Writes.{WritesOnly, OneRange}

@@ -1,4 +1,4 @@
-use Rattle.std.proofs.Common.{rules, ◌≡◌, ◌≢◌, ◌<◌, ◌≤◌, ◌+◌, ◌*◌, ℕ, List, length, arith, sym, refl, ap, ◌∙◌, below_more, get_or-set_other, get_or-set_same, subst}
+use Rattle.std.proofs.Common.{rules, ◌≡◌, ◌≢◌, ◌<◌, ℕ, length, arith, sym, refl, ap, ◌∙◌, below_more, get_or-set_other, get_or-set_same, subst}
 use Rattle.std.specs.Prelude.{◌%◌}
 use Rattle.pur_base.specs.Devices.{drive}
 use Rattle.pur_base.specs.declared.device.Device.{Device}
@@ -8,7 +8,6 @@ use Rattle.world.specs.Writes.{WritesOnly}
 use Rattle.world.proofs.Moments.{continues_trans, weaker}
 use Rattle.world.proofs.Writes.{writes_then, writes_more}
 use Rattle.pur_base.proofs.Devices.{drives_apart}
-use Rattle.boot_codec.specs.Region.{gate_place}
 use Rattle.boot_region.specs.Members.{IsMember, IsOneOf, OnClosed, Opened}
 use Rattle.boot_region.specs.Slots.{slot_in}
 use Rattle.boot_region.proofs.ShownLemmas.{gate_low, gate_aligned}

@@ -1,4 +1,4 @@
-use Rattle.std.proofs.Common.{◌≡◌, ℕ, ◌<◌, ◌≤◌, length, slice_index_or, false}
+use Rattle.std.proofs.Common.{◌≡◌, ℕ, ◌<◌, ◌≤◌, slice_index_or, false}
 use Rattle.pur_base.specs.Devices.{drive}
 use Rattle.world.specs.Shelf.{Continues}
 use Rattle.world.specs.Writes.{WritesOnly}

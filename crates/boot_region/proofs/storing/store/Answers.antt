@@ -1,7 +1,6 @@
-use Rattle.std.proofs.Common.{rules, ◌≡◌, ◌<◌, ◌≤◌, ℕ, List, [], length, arith, ap, ◌∙◌}
+use Rattle.std.proofs.Common.{rules, ◌≡◌, ℕ, List, length, ap, ◌∙◌}
 use Rattle.std.specs.Prelude.{Some}
 use Rattle.world.proofs.Moments.{continues_trans}
-use Rattle.boot_region.specs.Members.{IsMember}
 use Rattle.boot_region.specs.Slots.{slot_in}
 use Rattle.boot_region.proofs.ShownLemmas.{member_below}
 use Rattle.boot_region.proofs.Stored.{body_stands, dropped_then, stay_then, in_slot, store_moments, is_stored, fewer_closed, fewer_written}
