@@ -27,10 +27,13 @@ impl Default for PatchSegment {
     }
 }
 
-/// The segments of a patch. Two of them need no allocation. Contracts see the list of them.
+/// How many segments of a patch need no allocation.
+const INLINE: usize = 4;
+
+/// The segments of a patch. The first few of them need no allocation. Contracts see the list of them.
 #[derive(Drop)]
 pub struct Segments {
-    items: SmallVec<PatchSegment, 2>,
+    items: SmallVec<PatchSegment, INLINE>,
 }
 
 impl Model for Segments {

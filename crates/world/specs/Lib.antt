@@ -1,4 +1,5 @@
 pub mod Counts
+pub mod Losing
 pub mod Shelf
 pub mod Streams
 pub mod Tallies
