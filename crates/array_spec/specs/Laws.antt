@@ -14,6 +14,7 @@ use Rattle.boot_codec.specs.declared.record.BootRecord.{BootRecord}
 use Rattle.boot_codec.specs.Spelling.{spelling}
 use Rattle.boot_codec.specs.Region.{BootSlot, Effective, IsEffective, IsRecordOf, IsDecided, is_vote, votes, Yields, other_slot, shown_by, body_in, generation_in, of_members, names}
 use Rattle.pur_base.specs.declared.place.Place.{Place}
+use Rattle.fact_codec.specs.Fact.{Decodes}
 use Rattle.segment_codec.specs.Stripes.{SectorStands}
 use Rattle.log_codec.specs.Log.{Shows, HasSpelling, Spells, LogStands}
 use Rattle.array_spec.specs.Sound.{AreMediumsSound}
@@ -238,3 +239,7 @@ OneSector = (view : View) (places : List Place) (index : ℕ) (a b : List ℕ) �
 -- a view has one log over a base
 abbrev pub OneLog : Type 0
 OneLog = (view : View) (flushed : ℕ) (base : Array) (cs ds : List Command) → LogStands view flushed base cs → LogStands view flushed base ds → cs ≡ ds
+
+-- 64 bytes spell one fact
+abbrev pub OneFact : Type 0
+OneFact = (text : List ℕ) (f g : AnyFact) → Decodes text f → Decodes text g → f ≡ g

@@ -13,7 +13,9 @@ pub use standing::{
     a_held_record_stands, an_unflushed_array_is_read, each_view_means, marks_are_free,
     marks_may_clear, missing_devices_may_turn_blank, more_may_go_missing,
 };
-pub use uniqueness::{one_command_is_spelled, one_log_stands, one_sector_stands};
+pub use uniqueness::{
+    one_command_is_spelled, one_fact_is_spelled, one_log_stands, one_sector_stands,
+};
 pub use views::{
     a_held_record_is_given, a_sector_reads_as_one_target, closing_gates, one_body_is_decided,
     one_record_is_effective, opening_gates, records_are_spelled_apart, the_log_is_between,

@@ -1,5 +1,10 @@
 // What is read is one.
-ghost use Rattle.array_spec.specs.Laws.{OneCommand, OneLog, OneSector};
+ghost use Rattle.array_spec.specs.Laws.{OneCommand, OneFact, OneLog, OneSector};
+
+/// Bytes spell one fact.
+pub fn one_fact_is_spelled()
+    ensures { OneFact }
+{}
 
 /// A slot of the log spells one command under a number.
 pub fn one_command_is_spelled()

@@ -65,19 +65,19 @@ pub record IsWide (w : Width) (limit : ℕ) : Type 0 where
   pub after : (n : ℕ) (rest : List ℕ) → drop (byte_len w) (to_be_bytes w n ++ rest) ≡ rest
   pub below : (bytes : List ℕ) → IsBytes bytes → from_be_bytes w bytes < limit
 
-front16 : (bytes : List ℕ) → 2 ≤ length bytes → from_be_bytes w16 bytes ≡ from_be_bytes w16 (take 2 bytes)
+pub front16 : (bytes : List ℕ) → 2 ≤ length bytes → from_be_bytes w16 bytes ≡ from_be_bytes w16 (take 2 bytes)
 front16 [] h = absurd (omega arith)
 front16 (a ∷ []) h = absurd (omega arith)
 front16 (a ∷ b ∷ rest) h = refl
 
-front32 : (bytes : List ℕ) → 4 ≤ length bytes → from_be_bytes w32 bytes ≡ from_be_bytes w32 (take 4 bytes)
+pub front32 : (bytes : List ℕ) → 4 ≤ length bytes → from_be_bytes w32 bytes ≡ from_be_bytes w32 (take 4 bytes)
 front32 [] h = absurd (omega arith)
 front32 (a ∷ []) h = absurd (omega arith)
 front32 (a ∷ b ∷ []) h = absurd (omega arith)
 front32 (a ∷ b ∷ c ∷ []) h = absurd (omega arith)
 front32 (a ∷ b ∷ c ∷ d ∷ rest) h = refl
 
-front64 : (bytes : List ℕ) → 8 ≤ length bytes → from_be_bytes w64 bytes ≡ from_be_bytes w64 (take 8 bytes)
+pub front64 : (bytes : List ℕ) → 8 ≤ length bytes → from_be_bytes w64 bytes ≡ from_be_bytes w64 (take 8 bytes)
 front64 [] h = absurd (omega arith)
 front64 (a ∷ []) h = absurd (omega arith)
 front64 (a ∷ b ∷ []) h = absurd (omega arith)

@@ -2,6 +2,8 @@ pub mod WritingLemmas
 pub mod FlagLemmas
 pub mod SpellingLemmas
 pub mod LoopLemmas
+pub mod PlaceLemmas
+pub mod PatchLemmas
 pub mod PaddingLemmas
 pub mod FieldLemmas
 pub mod HeaderLemmas

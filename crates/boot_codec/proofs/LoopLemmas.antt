@@ -9,12 +9,7 @@ use Rattle.boot_codec.specs.declared.bad_record.ReadError.TheVariants as errors
 use Rattle.pur_base.specs.declared.place.Place.{Place}
 use Rattle.boot_codec.specs.declared.patch.PatchSegment.{PatchSegment}
 use Rattle.boot_codec.specs.declared.patch.Patch.{Patch}
-use Rattle.boot_codec.specs.Reading.{then_read, give, Fails, place_from, places_from, segment, segments, patch, patches}
-
--- what was read before, and what is still read
-abbrev pub with_front : {A : Type 0} → List A → Result (List A × List ℕ) BadRecord → Result (List A × List ℕ) BadRecord
-with_front front (Ok x) = Ok (front ++ x.0, x.1)
-with_front front (Err e) = Err e
+use Rattle.boot_codec.specs.Reading.{with_front, then_read, give, Fails, place_from, places_from, segment, segments, patch, patches}
 
 regroup : {A : Type 0} (front : List A) (first : A) (read : Result (List A × List ℕ) BadRecord)
     → with_front front (then_read (λ others. give (first ∷ others)) read) ≡ with_front (front ++ first ∷ []) read

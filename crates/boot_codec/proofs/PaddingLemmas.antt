@@ -27,6 +27,15 @@ padding-zeros (suc n) = padding-zero (zeros n) ∙ padding-zeros n
 pub padding_of_zeros : (bytes : List ℕ) → bytes ≡ zeros (length bytes) → padding bytes ≡ Ok (tt, [])
 padding_of_zeros bytes e = ap padding e ∙ padding-zeros (length bytes)
 
+-- a block of zeros in front changes nothing
+pub padding_block : (n : ℕ) (bytes : List ℕ) → take n bytes ≡ zeros n → padding (drop n bytes) ≡ padding bytes
+padding_block zero bytes e = refl
+padding_block (suc n) [] e = refl
+padding_block (suc n) (b ∷ bytes) e =
+    let byte : b ≡ 0 = cc in
+    let others : take n bytes ≡ zeros n = cc in
+    padding_block n bytes others ∙ sym (ap (λ (x : ℕ). padding (x ∷ bytes)) byte ∙ padding-zero bytes)
+
 pub padding_goes_on : (bytes : List ℕ) (i : ℕ) → i < length bytes → get_or bytes i 0 ≡ 0 → padding (drop (i + 1) bytes) ≡ padding (drop i bytes)
 padding_goes_on bytes i lt e =
     let parts : drop i bytes ≡ 0 ∷ drop (i + 1) bytes = rw add-one (drop-cons bytes i 0 lt ∙ ap (λ (b : ℕ). b ∷ drop (suc i) bytes) e) in

@@ -1,5 +1,5 @@
 -- Reading from the front, with the first fault that is met.
-use Rattle.std.specs.Prelude.{◌≡◌, ℕ, zero, suc, ◌+◌, ◌-◌, ◌/◌, ◌%◌, ◌^◌, Bool, true, ◌&&◌, List, [], ◌∷◌, length, drop, slice_index, nat_lt, nat_le, ◌==◌, if◌then◌else◌, Result, Ok, Err, codes}
+use Rattle.std.specs.Prelude.{◌≡◌, ℕ, zero, suc, ◌+◌, ◌-◌, ◌/◌, ◌%◌, ◌^◌, Bool, true, ◌&&◌, List, [], ◌∷◌, ◌++◌, length, drop, slice_index, nat_lt, nat_le, ◌==◌, if◌then◌else◌, Result, Ok, Err, codes}
 use Rattle.std.specs.Int.{Width, w8, w16, w32, w64, byte_len, from_be_bytes, div_ceil, is_in_range}
 use Rattle.pur_base.specs.Bytes.{zeros}
 use Rattle.pur_base.specs.declared.limits.TheConstants.{SLOTS_MIN, SLOTS_MAX, UNITS_MIN, UNITS_MAX, BOOT_UNITS, SEGMENT_SHARDS}
@@ -46,6 +46,11 @@ Fails (errors.Bad e) read = read ≡ Err e
 abbrev pub Gives : {X Y : Type 0} → (X → Y) → Result X ReadError → Result Y BadRecord → Type 0
 Gives view (Ok x) read = read ≡ Ok (view x)
 Gives view (Err e) read = Fails e read
+
+-- what was read before, and what is still read
+abbrev pub with_front : {A : Type 0} → List A → Result (List A × List ℕ) BadRecord → Result (List A × List ℕ) BadRecord
+with_front front (Ok x) = Ok (front ++ x.0, x.1)
+with_front front (Err e) = Err e
 
 -- ---- numbers
 
@@ -178,6 +183,12 @@ patch slots units least room = do
   count ← segment_count facts room
   segments ← segments slots units count
   give (record { tag = tag; facts = facts; segments = segments })
+
+-- the last of some patches
+abbrev pub last_of : List Patch → Patch
+last_of [] = record { tag = 0; facts = 0; segments = [] }
+last_of (p ∷ []) = p
+last_of (p ∷ q ∷ ps) = last_of (q ∷ ps)
 
 -- so many patches by ascending tag, the first of them at least that one, with at most so many segments
 unfoldable pub patches : ℕ → ℕ → ℕ → ℕ → ℕ → Reading (List Patch)

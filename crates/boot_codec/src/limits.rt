@@ -1,3 +1,5 @@
+use pur_base::SEGMENT_SHARDS;
+
 /// The bytes of a boot record.
 pub const RECORD_BYTES: usize = 65_536;
 
@@ -33,3 +35,12 @@ pub const PATCH_SEGMENTS: u16 = 600;
 
 /// The facts that one segment of a patch holds.
 pub const FACTS_PER_SEGMENT: u32 = 6720;
+
+/// The bytes of a place in a record.
+pub const PLACE_BYTES: usize = 3;
+
+/// The bytes of a segment's places in a record.
+pub const PLACES_BYTES: usize = SEGMENT_SHARDS * PLACE_BYTES;
+
+/// The bytes of a segment in a record: its id and its places.
+pub const SEGMENT_BYTES: usize = 8 + PLACES_BYTES;

@@ -1,9 +1,12 @@
-ghost use Rattle.std.specs.Prelude.{◌≡◌, ◌<◌, ◌≤◌, length, IfOk};
-ghost use Rattle.boot_codec.specs.Reading.{Gives, place_from, places_from, segment, segments, tag_from, facts, segment_count, patch, patches, patch_count, frontier_count, lists};
+ghost use Rattle.std.specs.Prelude.{◌≡◌, ◌<◌, ◌≤◌, ◌+◌, ◌&&◌, nat_le, nat_lt, length, drop, [], ◌∷◌, ◌++◌, IfOk, OnOk, IsTrue, Ok};
+ghost use Rattle.boot_codec.specs.Reading.{Gives, with_front, last_of, place_from, places_from, segment, segments, tag_from, facts, segment_count, patch, patches, patch_count, frontier_count, lists};
 
 use crate::bad_record::ReadError;
 use crate::front::{fault_at, u8_at, u16_at, u32_at, u64_at};
-use crate::limits::{FACTS_PER_SEGMENT, PATCH_SEGMENTS, PATCHES, RECORD_BYTES, TAG_MAX};
+use crate::limits::{
+    FACTS_PER_SEGMENT, PATCH_SEGMENTS, PATCHES, PLACE_BYTES, PLACES_BYTES, RECORD_BYTES,
+    SEGMENT_BYTES, TAG_MAX,
+};
 use crate::patch::{Patch, PatchSegment, Patches, Segments};
 use pur_base::{BOOT_UNITS, Place, Places, SEGMENT_SHARDS};
 use std::alloc::Global;
@@ -41,6 +44,45 @@ fn places(bytes: &[u8], slots: u8, units: u16) -> Result<(Places, &[u8]), ReadEr
     Ok((places, rest))
 }
 
+/// Whether it is a data unit on that slot or a greater one.
+fn is_place_from(place: Place, slots: u8, units: u16, least: u16) -> bool
+    ensures { result ≡ ((nat_le least place.slot && nat_lt place.slot slots) && (nat_le BOOT_UNITS place.unit && nat_lt place.unit units)) }
+{
+    let slot = least <= place.slot as u16 && place.slot < slots;
+    let unit = BOOT_UNITS <= place.unit && place.unit < units;
+    slot && unit
+}
+
+/// Whether nine data units on ascending slots stand there, which it reads then. It looks for no fault.
+fn places_at_once(bytes: &[u8], slots: u8, units: u16, into: &mut Places) -> bool
+    requires { PLACES_BYTES ≤ length bytes.now }
+    ensures { IsTrue result → places_from slots units 0 SEGMENT_SHARDS bytes.now ≡ Ok (into.new, drop PLACES_BYTES bytes.now) }
+{
+    let mut least = 0;
+    for shard in 0..SEGMENT_SHARDS {
+        let at = PLACE_BYTES * shard;
+        let slot = bytes[at];
+        let unit = u16::from_be_bytes([bytes[at + 1], bytes[at + 2]]);
+        let place = Place { slot, unit };
+        if !is_place_from(place, slots, units, least) {
+            return false;
+        }
+        into[shard] = place;
+        least = slot as u16 + 1;
+    }
+    true
+}
+
+/// Whether a lawful segment stands there, which it reads then. It looks for no fault.
+fn segment_at_once(bytes: &[u8], slots: u8, units: u16, into: &mut PatchSegment) -> bool
+    requires { SEGMENT_BYTES ≤ length bytes.now }
+    ensures { IsTrue result → segment slots units bytes.now ≡ Ok (into.new, drop SEGMENT_BYTES bytes.now) }
+{
+    let (id, rest) = u64_at(bytes);
+    into.id = id;
+    places_at_once(rest, slots, units, &mut into.places)
+}
+
 /// A segment: any id, and its nine places.
 #[tactic(auto, unfolding(crate::specs::Reading::segment))]
 fn segment(bytes: &[u8], slots: u8, units: u16) -> Result<(PatchSegment, &[u8]), ReadError>
@@ -51,25 +93,50 @@ fn segment(bytes: &[u8], slots: u8, units: u16) -> Result<(PatchSegment, &[u8]),
     Ok((PatchSegment { id, places }, rest))
 }
 
-/// So many segments.
-fn segments(
-    alloc: Global,
+/// Reads so many segments behind others, field by field, which finds the first fault.
+#[cold]
+#[inline(never)]
+fn segments_in_turn<'a>(
     count: u16,
-    bytes: &[u8],
+    bytes: &'a [u8],
     slots: u8,
     units: u16,
-) -> Result<(Segments, &[u8]), ReadError>
-    ensures gives { Gives (λ x. (x.0, x.1.now)) result (segments slots units count bytes.now) }
-    ensures count { IfOk result (λ x. length x.0 ≡ count) }
+    into: &mut Segments,
+) -> Result<&'a [u8], ReadError>
+    ensures gives { Gives (λ rest. (into.new, rest.now)) result (with_front into.old (segments slots units count bytes.now)) }
+    ensures count { OnOk result (length into.new ≡ length into.old + count) }
 {
-    let mut segments = Segments::new(alloc);
     let mut rest = bytes;
     for _ in 0..count {
         let (next, after) = segment(rest, slots, units)?;
-        segments.push(next)?;
+        into.push(next)?;
         rest = after;
     }
-    Ok((segments, rest))
+    Ok(rest)
+}
+
+/// Reads so many segments. What it has read stays after a fault.
+fn segments<'a>(
+    count: u16,
+    bytes: &'a [u8],
+    slots: u8,
+    units: u16,
+    into: &mut Segments,
+) -> Result<&'a [u8], ReadError>
+    requires { into.old ≡ [] }
+    ensures gives { Gives (λ rest. (into.new, rest.now)) result (segments slots units count bytes.now) }
+    ensures count { OnOk result (length into.new ≡ count) }
+{
+    let mut rest = bytes;
+    for i in 0..count {
+        let mut next = PatchSegment::default();
+        if rest.len() < SEGMENT_BYTES || !segment_at_once(rest, slots, units, &mut next) {
+            return segments_in_turn(count - i, rest, slots, units, into);
+        }
+        into.push(next)?;
+        rest = &rest[SEGMENT_BYTES..];
+    }
+    Ok(rest)
 }
 
 /// A tag that is that one or a greater one.
@@ -112,29 +179,33 @@ fn segment_count(bytes: &[u8], facts: u32, room: u16) -> Result<(u16, &[u8]), Re
     }
 }
 
-/// A patch of that tag or a greater one, with at most so many segments.
+/// Reads a patch of that tag or a greater one, with at most so many segments, behind the others. After a fault a part of it may stay.
 #[tactic(auto, unfolding(crate::specs::Reading::patch))]
-fn patch(
+fn patch<'a>(
     alloc: Global,
-    bytes: &[u8],
+    bytes: &'a [u8],
     slots: u8,
     units: u16,
     least: u8,
     room: u16,
-) -> Result<(Patch, &[u8]), ReadError>
-    ensures gives { Gives (λ x. (x.0, x.1.now)) result (patch slots units least room bytes.now) }
-    ensures room { IfOk result (λ x. length x.0.segments ≤ room) }
+    into: &mut Vec<Patch>,
+) -> Result<&'a [u8], ReadError>
+    ensures gives { Gives (λ rest. (last_of into.new.items, rest.now)) result (patch slots units least room bytes.now) }
+    ensures behind { OnOk result (into.new.items ≡ into.old.items ++ last_of into.new.items ∷ []) }
+    ensures room { OnOk result (length (last_of into.new.items).segments ≤ room) }
 {
     let (tag, rest) = tag_from(bytes, least)?;
     let (facts, rest) = facts(rest)?;
     let (count, rest) = segment_count(rest, facts, room)?;
-    let (segments, rest) = segments(alloc, count, rest, slots, units)?;
-    let patch = Patch {
+    let place = into.as_slice().len();
+    into.push(Patch {
         tag,
         facts,
-        segments,
-    };
-    Ok((patch, rest))
+        segments: Segments::new(alloc),
+    })?;
+    let segments_of = &mut into[place].segments;
+    segments_of.reserve(count as usize)?;
+    segments(count, rest, slots, units, segments_of)
 }
 
 /// So many patches by ascending tag.
@@ -147,18 +218,17 @@ fn patches(
 ) -> Result<(Patches, &[u8]), ReadError>
     ensures { Gives (λ x. (x.0, x.1.now)) result (patches slots units 1 PATCH_SEGMENTS count bytes.now) }
 {
-    let mut patches = Patches::new(alloc);
+    let mut patches = Vec::with_capacity(alloc, count as usize)?;
     let mut rest = bytes;
     let mut least = 1;
     let mut room = PATCH_SEGMENTS;
-    for _ in 0..count {
-        let (next, after) = patch(alloc, rest, slots, units, least, room)?;
+    for i in 0..count as usize {
+        rest = patch(alloc, rest, slots, units, least, room, &mut patches)?;
+        let next = &patches[i];
         least = next.tag;
         room -= next.segments.as_slice().len() as u16;
-        patches.push(next)?;
-        rest = after;
     }
-    Ok((patches, rest))
+    Ok((Patches::from_vec(patches), rest))
 }
 
 /// The number of patches.

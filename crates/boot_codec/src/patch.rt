@@ -1,7 +1,8 @@
 ghost use Rattle.std.specs.Prelude.{◌≡◌, [], ◌∷◌, ◌++◌, OnOk, OnErr};
 
-use pur_base::Places;
-use std::alloc::{AllocFailed, Global};
+use pur_base::{Place, Places, SEGMENT_SHARDS};
+use smallvec::SmallVec;
+use std::alloc::{AllocError, AllocFailed, Global};
 use std::marker::Model;
 
 /// A segment of a patch: its id, and the units that hold it by ascending slot.
@@ -11,10 +12,28 @@ pub struct PatchSegment {
     pub places: Places,
 }
 
-/// The segments of a patch. Contracts see the list of them.
+/// A blank segment, as room for one is filled.
+impl Default for PatchSegment {
+    ghost use Rattle.std.specs.Prelude.{replicate};
+    ghost use Rattle.pur_base.specs.declared.limits.TheConstants.{SEGMENT_SHARDS};
+
+    ghost is_default = { λ s. (s.id ≡ 0) × (s.places ≡ replicate SEGMENT_SHARDS (record { slot = 0; unit = 0 })) };
+
+    fn default() -> PatchSegment {
+        PatchSegment {
+            id: 0,
+            places: [Place { slot: 0, unit: 0 }; SEGMENT_SHARDS],
+        }
+    }
+}
+
+/// How many segments of a patch need no allocation.
+const INLINE: usize = 4;
+
+/// The segments of a patch. The first few of them need no allocation. Contracts see the list of them.
 #[derive(Drop)]
 pub struct Segments {
-    items: Vec<PatchSegment>,
+    items: SmallVec<PatchSegment, INLINE>,
 }
 
 impl Model for Segments {
@@ -32,8 +51,15 @@ impl Segments {
         ensures { result ≡ [] }
     {
         Segments {
-            items: Vec::new(alloc),
+            items: SmallVec::new(alloc),
         }
+    }
+
+    /// Makes room for so many more. It fails for want of memory only, and changes no segment.
+    pub(crate) fn reserve(&mut self, count: usize) -> Result<(), AllocError>
+        ensures { self.new ≡ self.old }
+    {
+        self.items.reserve_exact(count)
     }
 
     /// Adds a segment at the end. It fails for want of memory only, and changes nothing then.
@@ -83,6 +109,13 @@ impl Patches {
         Patches {
             items: Vec::new(alloc),
         }
+    }
+
+    /// These patches.
+    pub(crate) fn from_vec(items: Vec<Patch>) -> Patches
+        ensures { result ≡ items.items }
+    {
+        Patches { items }
     }
 
     /// Adds a patch at the end. It fails for want of memory only, and changes nothing then.

@@ -1,5 +1,5 @@
 -- A call that writes a range of the members' boot units: the devices as they were when it began.
-use Rattle.std.proofs.Common.{◌≡◌, ◌⊎◌, inl, inr, ℕ, ◌+◌, ◌*◌, ◌/◌, ◌≤◌, ◌<◌, List, [], length, map, slice_index, refl, sym, ◌∙◌, ap, subst, arith, Bool, true, false}
+use Rattle.std.proofs.Common.{◌≡◌, ◌⊎◌, inl, inr, ℕ, ◌+◌, ◌*◌, ◌/◌, ◌≤◌, ◌<◌, List, [], length, map, slice_index, refl, sym, ◌∙◌, ap, subst, arith, Bool, false}
 use Rattle.std.specs.Prelude.{slice_index_or, if◌then◌else◌}
 use Rattle.std.specs.List.{range_with_len}
 use Rattle.std.proofs.lemmas.Bool.{cases_Bool, cases_lt}
@@ -9,7 +9,6 @@ use Rattle.pur_base.specs.declared.device.Device.{Device}
 use Rattle.pur_base.specs.declared.device.Device.TheVariants.{Drive, Nv}
 use Rattle.pur_base.specs.declared.limits.TheConstants.{BOOT_UNITS, UNIT_BYTES}
 use Rattle.pur_base.specs.Devices.{drive, nvram}
-use Rattle.array_spec.specs.Laws.{DiffersOnlyIn}
 use Rattle.world.specs.declared.shelf.Span.{Span}
 use Rattle.world.specs.Shelf.{Shelved, Stop, MayStop, MayLeave, IsShelf, IsIn, IsInSome}
 use Rattle.world.specs.Writes.{LeavesBut}
@@ -72,7 +71,6 @@ spliced_out at n within outside k out = elim (cases_lt k (length outside)) [
 pub began_at : List Bool → Shelved → ℕ → ℕ → Stop → Device → List ℕ
 began_at members shelf at n stop (Drive d) = if slice_index_or members d.0 false then spliced at n (shelf.disk (Drive d)).bytes (stop.image (Drive d)) else stop.image (Drive d)
 began_at members shelf at n stop (Nv v) = stop.image (Nv v)
-
 
 abbrev pub began : List Bool → Shelved → ℕ → ℕ → Stop → Stop
 began members shelf at n stop = record { image = began_at members shelf at n stop; faults = stop.faults; write_faults = stop.write_faults; output = shelf.output; taken = shelf.taken }

@@ -1,5 +1,10 @@
+pub mod Accounts
 pub mod Began
+pub mod Composing
+pub mod GateCalls
 pub mod OnEach
 pub mod Phases
+pub mod Settled
 pub mod ShownLemmas
 pub mod RegionLemmas
+pub mod Stored

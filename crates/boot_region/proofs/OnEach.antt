@@ -5,7 +5,7 @@ use Rattle.world.specs.declared.streams.Failed.{Failed}
 use Rattle.world.specs.Shelf.{Disk, Written, WriteCounts}
 use Rattle.world.specs.Writes.{OneRange}
 use Rattle.pur_base.specs.Devices.{drive}
-use Rattle.boot_region.specs.Members.{IsMember, OnMembers, Outcome, LostWrites}
+use Rattle.boot_region.specs.Members.{IsMember, OnMembers, Outcome}
 
 pub range_on_members : (members : List Bool) (slot at n : ℕ) → IsMember members slot → (d : Device) (i : ℕ) → OneRange (drive slot) at n d i → OnMembers members at n d i
 range_on_members members slot at n member d i w = subst (λ (x : Device). OnMembers members at n x i) (sym w.0) (member, w.1)
@@ -17,12 +17,10 @@ outcome_of (Ok x) honest was at from old new member written clean counts = recor
   written = λ h is. written h;
   clean = λ h is. clean h;
   dropped = λ w. inl refl;
-  others = λ none. absurd (none member);
 }
 outcome_of (Err x) honest was at from old new member written clean counts = record {
   before = λ is. member;
   written = λ h is. absurd (cc is);
   clean = λ h is. absurd (cc is);
   dropped = λ w. inr (record { faults = counts.faults; write_faults = counts.write_faults });
-  others = λ none. absurd (none member);
 }

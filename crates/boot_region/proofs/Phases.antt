@@ -1,6 +1,6 @@
 -- What a stop in each phase of a store leaves.
-use Rattle.std.proofs.Common.{◌≡◌, ◌⊎◌, inl, inr, ℕ, ◌+◌, ◌*◌, ◌^◌, ◌-◌, ◌≤◌, ◌<◌, List, [], length, slice_index, refl, sym, ◌∙◌, ap, subst, arith, Bool, true, false, cond}
-use Rattle.std.specs.Prelude.{slice_index_or, Option, Some, None, IfSome, nat_lt, nat_le, ◌||◌, ◌==◌}
+use Rattle.std.proofs.Common.{◌≡◌, ◌⊎◌, inl, inr, ℕ, ◌+◌, ◌*◌, ◌^◌, ◌-◌, ◌≤◌, ◌<◌, List, length, slice_index, sym, ◌∙◌, ap, subst, arith, Bool, true, false}
+use Rattle.std.specs.Prelude.{slice_index_or, Some, None, IfSome, nat_lt, nat_le, ◌||◌, ◌==◌}
 use Rattle.std.proofs.lemmas.Bool.{cases_Bool, ltb-true, ltb-false, leb-false}
 use Rattle.pur_base.specs.declared.device.Device.{Device}
 use Rattle.pur_base.specs.declared.device.Device.TheVariants.{Drive, Nv}
@@ -16,7 +16,7 @@ use Rattle.world.specs.Writes.{LeavesBut}
 use Rattle.world.specs.Losing.{has_risen}
 use Rattle.boot_region.specs.Members.{IsMember, OnMembers, OnNotShut}
 use Rattle.boot_region.specs.Storing.{AreClean, AreClosed, AreWritten, IsOlder, ComesOf, Closes, Writes, Opens}
-use Rattle.boot_region.proofs.Began.{began, began_at, as_left, outside, within, same_size, as_read_then, may_begin, differs}
+use Rattle.boot_region.proofs.Began.{began, began_at, as_left, outside, same_size, as_read_then, may_begin, differs}
 use Rattle.boot_region.proofs.ShownLemmas.{bodies_same, other_same, opened, shows_if, open_before, other_body_same, other_shown_same, gate_same, closed_shows, gate_low, body_low}
 
 -- a count that rose on the way has risen
@@ -92,7 +92,7 @@ on_all_members members shelf faults at stop left = record {
 -- while gates are closed
 pub closes_gates : (members : List Bool) (shelf : Shelved) (stop : Stop) (missing : Conditions) (slot : BootSlot) (held : List ℕ)
     → IsShelf shelf → shelf.honest → LeavesBut (OnNotShut members shelf stop.faults (gate_place slot)) shelf stop → AreClean shelf missing members
-    → ComesOf shelf (Closes shelf missing slot held) stop
+    → ComesOf shelf (Closes shelf members missing slot held) stop
 closes_gates members shelf stop missing slot held is h some clean = record {
   start = began members shelf (gate_place slot) SECTOR_BYTES stop;
   may = may_begin members shelf (gate_place slot) SECTOR_BYTES stop left is h;
@@ -124,7 +124,7 @@ closes_gates members shelf stop missing slot held is h some clean = record {
           | inr rose ↦ absurd (risen_on_way _ _ _ _ (let same : (shelf.disk (drive i)).faults ≤ (shelf.disk (drive i)).faults = omega arith in same) rose (let same : stop.faults (drive i) ≤ stop.faults (drive i) = omega arith in same) none)
         ] in
         let gate : slice_index (stop.image (drive i)) (gate_place slot) ≡ slice_index (shelf.disk (drive i)).bytes (gate_place slot) =
-            (some.bytes (drive i)).same (gate_place slot) (λ s. subst (λ (l : List Span). IsInSome l (gate_place slot)) (clean i m sound) s) unwritten in
+        (some.bytes (drive i)).same (gate_place slot) (λ s. subst (λ (l : List Span). IsInSome l (gate_place slot)) (clean i m sound) s) unwritten in
         closed_shows slot (stop.image (drive i)) (ap (λ (k : ℕ). k == 1) gate ∙ shut) ∙ sym (closed_shows slot (shelf.disk (drive i)).bytes shut)
 
     on_member : (i : ℕ) → IsMember members i → missing (drive i) ≡ Sound → IsOlder shelf slot held i ⊎ (has_risen (shelf.disk (drive i)).faults (stop.faults (drive i)) ≡ false)
@@ -135,11 +135,11 @@ closes_gates members shelf stop missing slot held is h some clean = record {
       | inr shut ↦ inl (shut_stays i m sound shut none)
     ]
 
-    closes : (i : ℕ) → missing (drive i) ≡ Sound → IsOlder shelf slot held i ⊎ (has_risen (shelf.disk (drive i)).faults (stop.faults (drive i)) ≡ false)
+    closes : (i : ℕ) → missing (drive i) ≡ Sound → (IsMember members i → IsOlder shelf slot held i ⊎ (has_risen (shelf.disk (drive i)).faults (stop.faults (drive i)) ≡ false))
         → (shown_by slot (stop.image (drive i)) ≡ shown_by slot (began_at members shelf (gate_place slot) SECTOR_BYTES stop (drive i))) ⊎ IfSome (shown_by slot (stop.image (drive i))) (λ body. Yields (other_slot slot) (generation_in body) (generation_in held))
     closes i sound why = elim (cases_Bool (slice_index_or members i false)) [
       | inl m ↦ subst (λ (o : List ℕ). (shown_by slot (stop.image (drive i)) ≡ shown_by slot o) ⊎ IfSome (shown_by slot (stop.image (drive i))) (λ body. Yields (other_slot slot) (generation_in body) (generation_in held)))
-          (sym (as_read_then members shelf (gate_place slot) SECTOR_BYTES stop left i (clean i m sound))) (on_member i m sound why)
+          (sym (as_read_then members shelf (gate_place slot) SECTOR_BYTES stop left i (clean i m sound))) (on_member i m sound (why m))
       | inr m ↦ inl (ap (shown_by slot) (sym (as_left members shelf (gate_place slot) SECTOR_BYTES stop left i m)))
     ]
 

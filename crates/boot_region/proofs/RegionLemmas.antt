@@ -19,7 +19,10 @@ shown_is slot bytes gate at n g a m e =
 
 -- one vote more
 pub counts_more : {X : Type 0} (p : X → Bool) (f : ℕ → X) (a n : ℕ) → count_by p (map f (range_with_len a (suc n))) ≡ count_by p (map f (range_with_len a n)) + cond (p (f (a + n))) 1 0
-counts_more p f a zero = counted p (f a) [] ∙ rw (add-zero a) (omega arith)
+counts_more p f a zero =
+    let one : count_by p (f a ∷ []) ≡ cond (p (f a)) 1 0 + count_by p [] = counted p (f a) [] in
+    let same : cond (p (f a)) 1 0 ≡ cond (p (f (a + 0))) 1 0 = ap (λ (k : ℕ). cond (p (f k)) 1 0) (sym (add-zero a)) in
+    omega (arith, one, same)
 counts_more p f a (suc n) =
     let rest : count_by p (map f (range_with_len (a + 1) (suc n))) ≡ count_by p (map f (range_with_len (a + 1) n)) + cond (p (f (a + 1 + n))) 1 0 = counts_more p f (a + 1) n in
     let same : a + 1 + n ≡ a + suc n = omega arith in
@@ -29,7 +32,8 @@ counts_more p f a (suc n) =
 -- the region of a drive that answered
 pub region_is : (bytes : List ℕ) (answered : List Bool) (i x n : ℕ) → x ≡ REGION_BYTES * i → n ≡ REGION_BYTES → get_or answered i false ≡ true
     → Some (take n (drop x bytes)) ≡ region_at bytes answered i
-region_is bytes answered i x n at m yes = rw yes (λ k. Some (take (m k) (drop (at k) bytes)))
+unfolding region_at
+region_is bytes answered i x n at m answers = rw answers (λ k. Some (take (m k) (drop (at k) bytes)))
 
 -- a body that has a vote is shown by some drive
 pub some_vote : (f : ℕ → Option (List ℕ)) (body : List ℕ) (a n : ℕ) → 0 < count_by (is_vote body) (map f (range_with_len a n)) → (k : ℕ) × (k < a + n) × (f k ≡ Some body)
@@ -43,8 +47,8 @@ some_vote f body a (suc n) some = one (f a) refl (λ h. some_vote f body (a + 1)
     count = count_by (is_vote body) (map f (range_with_len (a + 1) n))
 
     later : (o : Option (List ℕ)) → f a ≡ o → is_vote body o ≡ false → Rest → (k : ℕ) × (k < a + suc n) × (f k ≡ Some body)
-    later o e no rest =
-        let none : is_vote body (f a) ≡ false = ap (is_vote body) e ∙ no in
+    later o e not_it rest =
+        let none : is_vote body (f a) ≡ false = ap (is_vote body) e ∙ not_it in
         let is : count_by (is_vote body) (map f (range_with_len a (suc n))) ≡ count_by (is_vote body) (map f (range_with_len (a + 1) n)) =
         counted (is_vote body) (f a) (map f (range_with_len (a + 1) n)) ∙ rw none (omega arith) in
         let found = rest (omega (arith, some, is)) in

@@ -1,6 +1,6 @@
 -- What a drive shows in a slot, as its gate or its body is written.
 use Rattle.std.proofs.Common.{◌≡◌, ◌⊎◌, inl, inr, ℕ, ◌+◌, ◌*◌, ◌%◌, ◌≤◌, ◌<◌, List, [], length, take, drop, slice_index, get_or, refl, sym, ◌∙◌, ap, subst, arith, Bool, true, false, cond}
-use Rattle.std.specs.Prelude.{slice_index_or, slice_range, Option, Some, None, IfSome, ◌==◌}
+use Rattle.std.specs.Prelude.{slice_index_or, slice_range, Some, None, IfSome, ◌==◌}
 use Rattle.std.proofs.lemmas.Bool.{cases_Bool, cases_lt, eqb-true}
 use Rattle.std.proofs.lemmas.List.{ext_get_or, get_or_past, length-take, length-drop, get_or-take, get_or-drop}
 use Rattle.std.proofs.lemmas.List.Edits.{get_or-between}
@@ -9,6 +9,7 @@ use Rattle.pur_base.specs.declared.limits.TheConstants.{SECTOR_BYTES, UNIT_BYTES
 use Rattle.pur_base.specs.Bytes.{bytes_at}
 use Rattle.pur_base.specs.Gates.{is_open}
 use Rattle.boot_codec.specs.declared.limits.TheConstants.{RECORD_BYTES}
+use Rattle.boot_codec.specs.Gate.{gate_bytes}
 use Rattle.boot_codec.specs.Region.{BootSlot, A, B, other_slot, gate_place, body_place, body_in, shown_by}
 use Rattle.array_spec.proofs.Quiet.{bytes_same}
 use Rattle.world.specs.declared.shelf.Span.{Span}
@@ -110,18 +111,18 @@ shown_body slot bytes body e = elim (cases_Bool (is_open (gate_place slot) bytes
 pub gate_opens : (at n : ℕ) (from old new : List ℕ) → Written at from old new → length from ≡ n → 0 < n → slice_index from 0 ≡ 1 → is_open at new ≡ true
 gate_opens at n from old new w size some opens =
     let first : slice_index new at ≡ slice_index from 0 =
-        ap (λ (k : ℕ). slice_index new k) (let e : at ≡ at + 0 = omega arith in e)
-        ∙ sym (get_or-between new at (at + length from) 0 0 (omega (arith, size, some)))
-        ∙ ap (λ (l : List ℕ). get_or l 0 0) w.within in
+    ap (λ (k : ℕ). slice_index new k) (let e : at ≡ at + 0 = omega arith in e)
+    ∙ sym (get_or-between new at (at + length from) 0 0 (omega (arith, size, some)))
+    ∙ ap (λ (l : List ℕ). get_or l 0 0) w.within in
     ap (λ (k : ℕ). k == 1) (first ∙ opens)
 
 -- and closed where it begins with 0
 pub gate_closes : (at n : ℕ) (from old new : List ℕ) → Written at from old new → length from ≡ n → 0 < n → slice_index from 0 ≡ 0 → is_open at new ≡ false
 gate_closes at n from old new w size some closes =
     let first : slice_index new at ≡ slice_index from 0 =
-        ap (λ (k : ℕ). slice_index new k) (let e : at ≡ at + 0 = omega arith in e)
-        ∙ sym (get_or-between new at (at + length from) 0 0 (omega (arith, size, some)))
-        ∙ ap (λ (l : List ℕ). get_or l 0 0) w.within in
+    ap (λ (k : ℕ). slice_index new k) (let e : at ≡ at + 0 = omega arith in e)
+    ∙ sym (get_or-between new at (at + length from) 0 0 (omega (arith, size, some)))
+    ∙ ap (λ (l : List ℕ). get_or l 0 0) w.within in
     ap (λ (k : ℕ). k == 1) (first ∙ closes)
 
 -- the first byte of a sector that was read there
@@ -164,3 +165,23 @@ member_below members i m = elim (cases_lt i (length members)) [
   | inl lt ↦ lt
   | inr ge ↦ let past : slice_index_or members i false ≡ false = get_or_past members i false ge in absurd (cc (past, m))
 ]
+
+-- the sector of a gate
+pub gate_size : (is_open : Bool) → length (gate_bytes is_open) ≡ SECTOR_BYTES
+unfolding gate_bytes
+gate_size is_open = refl
+
+pub open_begins : slice_index (gate_bytes true) 0 ≡ 1
+unfolding gate_bytes
+open_begins = refl
+
+pub closed_begins : slice_index (gate_bytes false) 0 ≡ 0
+unfolding gate_bytes
+closed_begins = refl
+
+-- once the sector of an open gate is written, the body behind it is shown
+pub shows_written : (slot : BootSlot) (from old new : List ℕ) → from ≡ gate_bytes true → Written (gate_place slot) from old new → shown_by slot new ≡ Some (body_in slot old)
+shows_written slot from old new is w =
+    let size : length from ≡ SECTOR_BYTES = ap length is ∙ gate_size true in
+    open_shows slot new (body_in slot old) (gate_opens (gate_place slot) SECTOR_BYTES from old new w size (omega arith) (ap (λ (l : List ℕ). slice_index l 0) is ∙ open_begins))
+    (bodies_same slot old new w.size (λ k out. w.outside k (λ i. out (subst (λ (n : ℕ). IsIn (record { start = gate_place slot; size = n }) k) size i))) slot)

@@ -3,7 +3,10 @@ use Rattle.std.specs.Prelude.{◌≡◌, ◌⊎◌, ℕ, List, [], Bool, true, f
 use Rattle.pur_base.specs.declared.device.Device.{Device}
 use Rattle.pur_base.specs.declared.device.Device.TheVariants.{Drive, Nv}
 use Rattle.pur_base.specs.declared.limits.TheConstants.{SECTOR_BYTES}
+use Rattle.pur_base.specs.Devices.{drive}
 use Rattle.pur_base.specs.Gates.{is_open}
+use Rattle.boot_codec.specs.declared.limits.TheConstants.{RECORD_BYTES}
+use Rattle.boot_codec.specs.Region.{BootSlot, gate_place, body_place}
 use Rattle.world.specs.Counts.{Rises}
 use Rattle.world.specs.Shelf.{Shelved, Disk, IsIn, Written}
 
@@ -11,23 +14,35 @@ use Rattle.world.specs.Shelf.{Shelved, Disk, IsIn, Written}
 abbrev pub IsMember : List Bool → ℕ → Type 0
 IsMember members i = slice_index_or members i false ≡ true
 
+-- the device is a member
+abbrev pub IsOneOf : List Bool → Device → Type 0
+IsOneOf members (Drive d) = IsMember members d.0
+IsOneOf members (Nv v) = ⊥
+
+-- a device that isn't a member stays as it was
+abbrev pub NonMembersStay : List Bool → Shelved → Shelved → Type 0
+NonMembersStay members old new = (device : Device) → (IsOneOf members device → ⊥) → new.disk device ≡ old.disk device
+
 -- the n bytes from there on, on each member
 abbrev pub OnMembers : List Bool → ℕ → ℕ → Device → ℕ → Type 0
 OnMembers members at n (Drive d) i = IsMember members d.0 × IsIn (record { start = at; size = n }) i
 OnMembers members at n (Nv v) i = ⊥
+
+-- the gate and the body of a slot, on each member
+abbrev pub OnSlot : List Bool → BootSlot → Device → ℕ → Type 0
+OnSlot members slot device i = OnMembers members (gate_place slot) SECTOR_BYTES device i ⊎ OnMembers members (body_place slot) RECORD_BYTES device i
 
 -- a write or a sync failed, so that both counts rose
 pub record LostWrites (old new : Disk) : Type 0 where
   pub faults : Rises old.faults new.faults
   pub write_faults : Rises old.write_faults new.write_faults
 
--- a member holds the bytes and stays one, or a write on it failed; the others stay as they were
+-- a member holds the bytes and stays one, or a write on it failed
 pub record Outcome (honest was is : Type 0) (at : ℕ) (from : List ℕ) (old new : Disk) : Type 0 where
   pub before : is → was
   pub written : honest → is → Written at from old.bytes new.bytes
   pub clean : honest → is → new.dirty ≡ []
   pub dropped : was → is ⊎ LostWrites old new
-  pub others : (was → ⊥) → new ≡ old
 
 -- the gate was open, or a call on the device failed
 abbrev pub IsNotShut : ℕ → List ℕ → ℕ → ℕ → Type 0
@@ -43,13 +58,12 @@ OnNotShut members shelf faults at (Drive d) i =
     IsMember members d.0 × IsIn (record { start = at; size = SECTOR_BYTES }) i × IsNotShut at (shelf.disk (Drive d)).bytes (shelf.disk (Drive d)).faults (faults (Drive d))
 OnNotShut members shelf faults at (Nv v) i = ⊥
 
--- the gate of a member is closed, or a write on it failed; the others stay as they were
+-- the gate of a member is closed, or a write on it failed
 pub record Closed (honest was is : Type 0) (at : ℕ) (old new : Disk) : Type 0 where
   pub before : is → was
   pub closed : honest → is → is_open at new.bytes ≡ false
   pub clean : honest → is → old.dirty ≡ [] → new.dirty ≡ []
   pub dropped : was → is ⊎ LostWrites old new
-  pub others : (was → ⊥) → new ≡ old
 
 -- a gate's sector on one device, where the gate is closed
 abbrev pub OneClosed : List ℕ → Device → ℕ → Device → ℕ → Type 0
@@ -60,10 +74,13 @@ abbrev pub OnClosed : List Bool → Shelved → ℕ → Device → ℕ → Type 
 OnClosed members shelf at (Drive d) i = IsMember members d.0 × IsIn (record { start = at; size = SECTOR_BYTES }) i × (is_open at (shelf.disk (Drive d)).bytes ≡ false)
 OnClosed members shelf at (Nv v) i = ⊥
 
--- the gate of a member is open, or a call on its device failed; the others stay as they were
+-- the gate of a member is open, or a call on its device failed
 pub record Opened (honest was is : Type 0) (at : ℕ) (old new : Disk) : Type 0 where
   pub before : is → was
   pub opened : honest → is → is_open at new.bytes ≡ true
   pub clean : honest → is → old.dirty ≡ [] → new.dirty ≡ []
   pub dropped : was → is ⊎ Rises old.faults new.faults
-  pub others : (was → ⊥) → new ≡ old
+
+-- a member that isn't one any more failed in a write or a sync
+abbrev pub DroppedFailed : Shelved → Shelved → List Bool → List Bool → Type 0
+DroppedFailed old new was now = (i : ℕ) → IsMember was i → IsMember now i ⊎ LostWrites (old.disk (drive i)) (new.disk (drive i))

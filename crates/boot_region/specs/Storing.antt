@@ -2,12 +2,12 @@
 use Rattle.std.specs.Prelude.{◌≡◌, ◌⊎◌, ◌*◌, ◌+◌, ◌<◌, ◌≤◌, ℕ, Bool, false, List, [], count_by, Some, None, IfSome}
 use Rattle.pur_base.specs.declared.device.Device.{Device}
 use Rattle.pur_base.specs.declared.limits.TheConstants.{BOOT_UNITS}
-use Rattle.pur_base.specs.Devices.{Geometry, Image, Conditions, Sound, IsBearable, IsWithin, slots_of, drive}
+use Rattle.pur_base.specs.Devices.{Geometry, Image, View, Conditions, Sound, IsBearable, IsWithin, slots_of, drive}
 use Rattle.pur_base.specs.Gates.{is_open}
 use Rattle.pur_base.specs.Plain.{Array}
 use Rattle.boot_codec.specs.declared.record.BootRecord.{BootRecord}
 use Rattle.boot_codec.specs.Spelling.{spelling}
-use Rattle.boot_codec.specs.Region.{BootSlot, IsRecordOf, other_slot, gate_place, body_in, shown_by, generation_in, Yields}
+use Rattle.boot_codec.specs.Region.{BootSlot, IsRecordOf, IsEffective, other_slot, gate_place, body_in, shown_by, generation_in, Yields}
 use Rattle.array_spec.specs.Standing.{Stands, MayBeGiven, IsReadInto, FollowsOn}
 use Rattle.array_spec.specs.Laws.{DiffersOnlyIn, is_sound_vote}
 use Rattle.world.specs.Shelf.{Shelved, Stop, MayStop, LeavesOnly}
@@ -44,6 +44,11 @@ AreWritten shelf missing members slot body = OnSound missing members (λ i. body
 abbrev pub AreShown : Shelved → Conditions → List Bool → BootSlot → List ℕ → Type 0
 AreShown shelf missing members slot body = OnSound missing members (λ i. shown_by slot (shelf.disk (drive i)).bytes ≡ Some body)
 
+-- the drive shows the body, and nothing of it is dirty
+pub record Shows (shelf : Shelved) (slot : BootSlot) (body : List ℕ) (i : ℕ) : Type 0 where
+  pub clean : (shelf.disk (drive i)).dirty ≡ []
+  pub shown : shown_by slot (shelf.disk (drive i)).bytes ≡ Some body
+
 -- what stands in the slot of a drive loses against the record of the other slot
 abbrev pub IsOlder : Shelved → BootSlot → List ℕ → ℕ → Type 0
 IsOlder shelf slot held i = Yields (other_slot slot) (generation_in (body_in slot (shelf.disk (drive i)).bytes)) (generation_in held)
@@ -75,11 +80,11 @@ abbrev pub LeavesBy : Shelved → Shelved → (Stop → Stop → Type 0) → Typ
 LeavesBy old new R = LeavesOnly old new (ComesOf old R)
 
 -- a gate that read as closed isn't written; another may come to stand open over the body behind it
-pub record Closes (shelf : Shelved) (missing : Conditions) (slot : BootSlot) (held : List ℕ) (start stop : Stop) : Type 0 where
+pub record Closes (shelf : Shelved) (members : List Bool) (missing : Conditions) (slot : BootSlot) (held : List ℕ) (start stop : Stop) : Type 0 where
   pub only_boot : OnlyBoot start.image stop.image
   pub bodies : (t : BootSlot) (i : ℕ) → body_in t (stop.image (drive i)) ≡ body_in t (start.image (drive i))
   pub others : (i : ℕ) → shown_by (other_slot slot) (stop.image (drive i)) ≡ shown_by (other_slot slot) (start.image (drive i))
-  pub closes : (i : ℕ) → missing (drive i) ≡ Sound → IsOlder shelf slot held i ⊎ (has_risen (shelf.disk (drive i)).faults (stop.faults (drive i)) ≡ false)
+  pub closes : (i : ℕ) → missing (drive i) ≡ Sound → (IsMember members i → IsOlder shelf slot held i ⊎ (has_risen (shelf.disk (drive i)).faults (stop.faults (drive i)) ≡ false))
       → (shown_by slot (stop.image (drive i)) ≡ shown_by slot (start.image (drive i)))
       ⊎ IfSome (shown_by slot (stop.image (drive i))) (λ body. Yields (other_slot slot) (generation_in body) (generation_in held))
 
@@ -123,33 +128,32 @@ pub record MayFollow (shelf : Shelved) (missing : Conditions) (slot : BootSlot) 
       → FollowsOn (geometry_of shelf) stop.image later slot boot boot2 r.base (s.reads slot2 boot2 g).base
       × FollowsOn (geometry_of shelf) stop.image later slot2 boot2 boot (s.reads slot2 boot2 g).base r.base)
 
--- the later conditions tell what has failed by then: a drive that is sound still lost no write, and what a failed read of its gate might let be shown loses against the record in force
-pub record AccountsFor (shelf : Shelved) (missing : Conditions) (slot : BootSlot) (held : List ℕ) (faults write_faults : Device → ℕ) (later : Conditions) : Type 0 where
+-- the later conditions tell what has failed by then: a member that is sound still lost no write, and what a failed read of its gate might let be shown loses against the record in force
+pub record AccountsFor (shelf : Shelved) (members : List Bool) (missing : Conditions) (slot : BootSlot) (held : List ℕ) (faults write_faults : Device → ℕ) (later : Conditions) : Type 0 where
   pub within : IsWithin missing later
   pub bearable : IsBearable (geometry_of shelf) later
-  pub writes : (i : ℕ) → later (drive i) ≡ Sound
-      → (has_risen (shelf.disk (drive i)).faults (faults (drive i)) ≡ false) ⊎ (has_risen (shelf.disk (drive i)).write_faults (write_faults (drive i)) ≡ false)
-  pub reads : (i : ℕ) → later (drive i) ≡ Sound → IsOlder shelf slot held i ⊎ (has_risen (shelf.disk (drive i)).faults (faults (drive i)) ≡ false)
+  pub writes : OnSound later members (λ i. (has_risen (shelf.disk (drive i)).faults (faults (drive i)) ≡ false) ⊎ (has_risen (shelf.disk (drive i)).write_faults (write_faults (drive i)) ≡ false))
+  pub reads : OnSound later members (λ i. IsOlder shelf slot held i ⊎ (has_risen (shelf.disk (drive i)).faults (faults (drive i)) ≡ false))
 
 -- the devices stand for the arrays, in all conditions that tell what has failed by then
-abbrev pub StandsBut : Shelved → Conditions → BootSlot → BootRecord → List Array → Stop → Type 0
-StandsBut shelf missing slot held arrays stop = (later : Conditions) → AccountsFor shelf missing slot (spelling held) stop.faults stop.write_faults later → Stands (geometry_of shelf) stop.image later arrays
+abbrev pub StandsBut : Shelved → List Bool → Conditions → BootSlot → BootRecord → List Array → Stop → Type 0
+StandsBut shelf members missing slot held arrays stop = (later : Conditions) → AccountsFor shelf members missing slot (spelling held) stop.faults stop.write_faults later → Stands (geometry_of shelf) stop.image later arrays
 
 -- the record that is stored wins over the one in force
 abbrev pub IsNewer : BootSlot → BootRecord → BootRecord → Type 0
 IsNewer slot held boot = Yields slot (generation_in (spelling held)) (generation_in (spelling boot))
 
 -- the record is in force on the members that are left, what it replaces is older, and the devices stand for the arrays
-pub record IsStored (old new : Shelved) (members : List Bool) (missing : Conditions) (slot : BootSlot) (held boot : BootRecord) (arrays : List Array) (later : Conditions) : Type 0 where
+pub record IsStored (new : Shelved) (members : List Bool) (slot : BootSlot) (boot : BootRecord) (arrays : List Array) (later : Conditions) : Type 0 where
   pub in_force : IsInForceOn new members later (other_slot slot) boot
   pub older : AreOlder new later members (other_slot slot) (spelling boot)
   pub stands : StandsNow new later arrays
 
 -- so in all conditions that tell what failed in the call
-abbrev pub IsStoredIn : Shelved → Shelved → List Bool → Conditions → BootSlot → BootRecord → BootRecord → List Array → Type 0
-IsStoredIn old new members missing slot held boot arrays = (later : Conditions)
-    → AccountsFor old missing slot (spelling held) (λ d. (new.disk d).faults) (λ d. (new.disk d).write_faults) later
-    → IsStored old new members missing slot held boot arrays later
+abbrev pub IsStoredIn : Shelved → Shelved → List Bool → List Bool → Conditions → BootSlot → BootRecord → BootRecord → List Array → Type 0
+IsStoredIn old new was now missing slot held boot arrays = (later : Conditions)
+    → AccountsFor old was missing slot (spelling held) (λ d. (new.disk d).faults) (λ d. (new.disk d).write_faults) later
+    → IsStored new now slot boot arrays later
 
 -- the record was loaded: it may be given, and its body stands on the members that aren't missing, with nothing dirty
 pub record IsLoaded (shelf : Shelved) (members : List Bool) (missing : Conditions) (slot : BootSlot) (boot : BootRecord) (arrays : List Array) : Type 0 where
@@ -158,3 +162,20 @@ pub record IsLoaded (shelf : Shelved) (members : List Bool) (missing : Condition
   pub written : AreWritten shelf missing members slot (spelling boot)
   pub stands : StandsNow shelf missing arrays
   pub given : (start : Stop) → MayStop shelf start → MayBeGiven (geometry_of shelf) start.image missing slot boot
+
+-- a view gives the record, in which each device that isn't missing shows itself
+pub record IsSeen (shelf : Geometry) (image : Image) (missing : Conditions) (slot : BootSlot) (boot : BootRecord) : Type 0 where
+  pub view : View
+  pub shown : (device : Device) → missing device ≡ Sound → view device ≡ Some (image device)
+  pub effective : IsEffective shelf view slot (spelling boot)
+
+-- each drive that isn't missing is a member, and the record was seen
+pub record IsFound (shelf : Shelved) (members : List Bool) (missing : Conditions) (slot : BootSlot) (boot : BootRecord) : Type 0 where
+  pub sound : SoundAreMembers shelf missing members
+  pub seen : (start : Stop) → MayStop shelf start → IsSeen (geometry_of shelf) start.image missing slot boot
+
+-- the later conditions tell each member on which a call failed
+pub record TellsFailed (shelf : Shelved) (members : List Bool) (missing : Conditions) (faults : Device → ℕ) (later : Conditions) : Type 0 where
+  pub within : IsWithin missing later
+  pub bearable : IsBearable (geometry_of shelf) later
+  pub calls : OnSound later members (λ i. has_risen (shelf.disk (drive i)).faults (faults (drive i)) ≡ false)

@@ -2,10 +2,16 @@
 //! At every moment of a store or a settling the devices stand for the arrays for which they stood.
 #![tactic(auto)]
 
+mod gates;
 mod members;
 mod regions;
+mod settling;
 mod slot;
+mod storing;
 
+pub use gates::{close_gates, open_gates, write_bodies};
 pub use members::write_members;
 pub use regions::Regions;
+pub use settling::settle;
 pub use slot::Slot;
+pub use storing::store;

@@ -4,7 +4,7 @@ ghost use Rattle.pur_base.specs.Devices.{drive};
 ghost use Rattle.pur_base.specs.declared.limits.TheConstants.{SECTOR_BYTES, UNIT_BYTES};
 ghost use Rattle.world.specs.Shelf.{Continues};
 ghost use Rattle.world.specs.Writes.{WritesOnly};
-ghost use Rattle.boot_region.specs.Members.{IsMember, OnMembers, Outcome};
+ghost use Rattle.boot_region.specs.Members.{IsMember, NonMembersStay, OnMembers, Outcome};
 
 use pur_base::{Device, DriveId};
 use world::{Shelf, write_synced};
@@ -18,6 +18,7 @@ pub fn write_members<S: Shelf>(shelf: &mut S, members: &mut [bool], at: u64, fro
     ensures outcome { (d : ℕ) → d < length members.old
         → Outcome (S.shelf shelf.old).honest (IsMember members.old d) (IsMember members.new d) at from.now ((S.shelf shelf.old).disk (drive d)) ((S.shelf shelf.new).disk (drive d)) }
     ensures writes { (S.shelf shelf.old).honest → WritesOnly (OnMembers members.old at (length from.now)) (S.shelf shelf.old) (S.shelf shelf.new) }
+    ensures others { NonMembersStay members.old (S.shelf shelf.old) (S.shelf shelf.new) }
     ensures rest { S.shelf_rest shelf.old shelf.new }
 {
     for slot in 0..members.len() {

@@ -14,7 +14,7 @@ use Rattle.pur_base.specs.declared.facts.MediumFact.{MediumFact}
 use Rattle.pur_base.specs.declared.facts.AnyFact.{AnyFact}
 use Rattle.pur_base.specs.declared.facts.AnyFact.TheVariants as any
 use Rattle.byte_fields.specs.Places.{places_bytes, FitsBytes}
-use Rattle.fact_codec.specs.declared.limits.TheConstants.{FACT_BYTES, VALUE_BYTES, NUMBER_LIMIT}
+use Rattle.fact_codec.specs.declared.limits.TheConstants.{VALUE_BYTES, NUMBER_LIMIT}
 
 -- ---- the spelling
 
@@ -98,22 +98,40 @@ pub record LeadsDown (f : MediumFact) : Type 0 where
 
 -- where a sector may stand
 abbrev pub IsTarget : Target → Type 0
-IsTarget (Stored at) = (at.segment.0 < 2 ^ 64) × (at.index < SEGMENT_SECTORS)
+IsTarget (Stored at) = at.index < SEGMENT_SECTORS
 IsTarget Zero = Unit {0}
 
 -- what a fact of each table may say
 abbrev pub IsStatement : AnyFact → Type 0
-IsStatement (any.Object f) = (1 ≤ f.sectors) × (f.sectors ≤ OBJECT_SECTORS) × (1 ≤ f.medium.0) × (f.medium.0 < 2 ^ 64) × (is_name f.name ≡ true)
-IsStatement (any.Medium f) = (f.start < 2 ^ 64) × (LeadsNowhere f ⊎ LeadsDown f)
+IsStatement (any.Object f) = (1 ≤ f.sectors) × (f.sectors ≤ OBJECT_SECTORS) × (1 ≤ f.medium.0) × (is_name f.name ≡ true)
+IsStatement (any.Medium f) = LeadsNowhere f ⊎ LeadsDown f
 IsStatement (any.Address f) = (f.sector < OBJECT_SECTORS) × IsTarget f.target
-IsStatement (any.Segment f) = (length f.places ≡ SEGMENT_SHARDS) × AllByRecursion FitsBytes f.places × (1 ≤ f.placed) × (f.placed ≤ SEGMENT_SECTORS)
-IsStatement (any.Elision f) = (tag_of f.table ≤ 4) × (f.first ≤ f.last) × (f.last < 2 ^ 64)
+IsStatement (any.Segment f) = (1 ≤ f.placed) × (f.placed ≤ SEGMENT_SECTORS)
+IsStatement (any.Elision f) = (tag_of f.table ≤ 4) × (f.first ≤ f.last)
 
--- what has a spelling. Whether places are units of the shelf isn't judged
-pub record IsFact (f : AnyFact) : Type 0 where
+-- the fields with bounds of their own are within them. Whether places are units of the shelf isn't judged
+pub record IsLawful (f : AnyFact) : Type 0 where
   pub id : IsNext (id_field f)
   pub number : IsNext (any_number f)
   pub statement : IsStatement f
+
+-- a segment's id has eight bytes, and an index has two
+abbrev pub FitsTarget : Target → Type 0
+FitsTarget (Stored at) = (at.segment.0 < 2 ^ 64) × (at.index < 2 ^ 16)
+FitsTarget Zero = Unit {0}
+
+-- the other fields are of the sizes that their types have
+abbrev pub FitsTypes : AnyFact → Type 0
+FitsTypes (any.Object f) = f.medium.0 < 2 ^ 64
+FitsTypes (any.Medium f) = f.start < 2 ^ 64
+FitsTypes (any.Address f) = FitsTarget f.target
+FitsTypes (any.Segment f) = (length f.places ≡ SEGMENT_SHARDS) × AllByRecursion FitsBytes f.places
+FitsTypes (any.Elision f) = f.last < 2 ^ 64
+
+-- what has a spelling
+pub record IsFact (f : AnyFact) : Type 0 where
+  pub lawful : IsLawful f
+  pub fits : FitsTypes f
 
 -- the bytes spell this fact
 pub record Decodes (text : List ℕ) (f : AnyFact) : Type 0 where

@@ -1,1 +1,3 @@
 pub mod Fact
+pub mod Heads
+pub mod Values

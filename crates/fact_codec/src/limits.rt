@@ -1,6 +1,9 @@
 /// The bytes of a fact.
 pub const FACT_BYTES: usize = 64;
 
+/// The first bytes of a fact: the fields that facts of all tables have.
+pub const HEAD_BYTES: usize = 32;
+
 /// The last bytes of a fact: what it says of its key.
 pub const VALUE_BYTES: usize = 32;
 

@@ -1,5 +1,5 @@
 -- The laws of the field. Sums in each factor, the two sides of a law agree at every byte where they agree at the powers of two.
-use Rattle.std.proofs.Common.{◌≡◌, ℕ, zero, suc, ◌-◌, ◌*◌, ◌^◌, ◌<◌, ◌≤◌, Bool, true, false, cond, ◌/◌, ◌%◌, eqb, refl, ap, sym, ◌∙◌, arith, bit_xor, inl, inr}
+use Rattle.std.proofs.Common.{◌≡◌, ℕ, zero, suc, ◌-◌, ◌*◌, ◌^◌, ◌<◌, ◌≤◌, Bool, true, eqb, refl, ap, sym, ◌∙◌, arith, bit_xor, inl, inr}
 use Rattle.std.proofs.lemmas.Bool.{cases_lt}
 use Rattle.std.proofs.Math.Pow.{pow_mono}
 use lib.Bits.{xor_zero_r, xor_self, xor_shifted}
@@ -111,19 +111,6 @@ times-zero b = refl
 
 pub one-times : (b : ℕ) → b < 256 → times 1 b ≡ b
 one-times b lt = times-comm 1 b (omega arith) lt ∙ times-one b
-
-cond-zero : (t : Bool) → cond {A = ℕ} t 0 0 ≡ 0
-cond-zero true = refl
-cond-zero false = refl
-
-times_bits-zero : (n x : ℕ) → times_bits n 0 x ≡ 0
-unfolding times_bits
-times_bits-zero zero x = refl
-times_bits-zero (suc n) x = ap (λ t. bit_xor t (times_bits n 0 (x / 2))) (cond-zero (eqb (x % 2) 1)) ∙ times_bits-zero n (x / 2)
-
-pub zero-times : (x : ℕ) → times 0 x ≡ 0
-unfolding times
-zero-times x = times_bits-zero 8 x
 
 times-two_right : (b : ℕ) → times b 2 ≡ doubled b
 unfolding times times_bits

@@ -9,5 +9,7 @@ mod slices;
 mod tests;
 
 pub use bytes::{div, double, mul, power_of_two};
-pub use lanes::{Products, add_lanes, double_lanes, lanes_at, put_lanes};
+pub use lanes::{
+    LANES, Products, add_lanes, double_lanes, double_lanes_and_1d, lanes_at, put_lanes,
+};
 pub use slices::{mul_into, mul2_into, xor_into};

@@ -4,7 +4,7 @@ ghost use Rattle.std.specs.Prelude.{◌≡◌, ℕ, ◌+◌, ◌-◌, ◌<◌, �
 ghost use Rattle.gf256.specs.Field.{doubled, times};
 
 use crate::bytes::{double, mul};
-use crate::lanes::{Products, add_lanes, double_lanes, lanes_at, put_lanes};
+use crate::lanes::{LANES, Products, add_lanes, double_lanes, lanes_at, put_lanes};
 
 /// Adds each byte of `from` to that of `into`.
 pub fn xor_into(into: &mut [u8], from: &[u8])
@@ -14,10 +14,10 @@ pub fn xor_into(into: &mut [u8], from: &[u8])
 {
     let len = into.len();
     let mut at = 0;
-    while len - at >= 32 {
+    while len - at >= LANES {
         let sum = add_lanes(lanes_at(into, at), lanes_at(from, at));
         put_lanes(sum, into, at);
-        at += 32;
+        at += LANES;
     }
     while at < len {
         into[at] ^= from[at];
@@ -32,9 +32,9 @@ pub fn mul2_into(into: &mut [u8], from: &[u8])
 {
     let len = into.len();
     let mut at = 0;
-    while len - at >= 32 {
+    while len - at >= LANES {
         put_lanes(double_lanes(lanes_at(from, at)), into, at);
-        at += 32;
+        at += LANES;
     }
     while at < len {
         into[at] = double(from[at]);
@@ -50,9 +50,9 @@ pub fn mul_into(into: &mut [u8], from: &[u8], by: u8)
     let products = Products::of(by);
     let len = into.len();
     let mut at = 0;
-    while len - at >= 32 {
+    while len - at >= LANES {
         put_lanes(products.times_lanes(lanes_at(from, at)), into, at);
-        at += 32;
+        at += LANES;
     }
     while at < len {
         into[at] = mul(by, from[at]);

@@ -1,12 +1,12 @@
 -- Shards that are corrected or encoded again, block by block.
-use Rattle.std.proofs.Common.{◌≡◌, ◌≢◌, ◌⊎◌, ℕ, ◌+◌, ◌-◌, ◌<◌, ◌≤◌, List, [], length, get_or, refl, ap, sym, ◌∙◌, arith, bit_xor, inl, inr, subst, get_or-set_other, get_or-set_same}
+use Rattle.std.proofs.Common.{◌≡◌, ◌≢◌, ◌⊎◌, ℕ, ◌+◌, ◌-◌, ◌<◌, ◌≤◌, List, [], length, get_or, refl, ap, sym, ◌∙◌, arith, inl, inr, subst, get_or-set_other, get_or-set_same}
 use Rattle.std.proofs.Math.ListN.{set, length-set}
 use Rattle.std.proofs.lemmas.Bool.{cases_lt, cases_eq}
 use mathlib.Core.Path.{fun_ext}
 use Rattle.std.proofs.lemmas.Bool.Decides.{nat_tests}
 use Rattle.parity72.specs.Parity.{byte_of, shard_of, p_of, q_of}
 use Rattle.gf256.proofs.Progress.{below_block}
-use Rattle.parity72.specs.Recovery.{Encodes, Fixes, column_of, with_added}
+use Rattle.parity72.specs.Recovery.{Encodes, Fixes, column_of, with_byte}
 use Rattle.parity72.proofs.Codewords.{p_of-same, q_of-same}
 
 pub set-same : (shards : List (List ℕ)) (i : ℕ) (s : List ℕ) → i < length shards → shard_of (set shards i s) i ≡ s
@@ -19,62 +19,83 @@ set-other shards i j s ne = get_or-set_other shards i j s [] ne
 ranged : (X : ℕ → Type 0) (at n : ℕ) → ((k : ℕ) → k < n → X (at + k)) → (k : ℕ) → at ≤ k → k < at + n → X k
 ranged X at n here k from to = let e : at + (k - at) ≡ k = omega arith in subst X e (here (k - at) (omega arith))
 
--- f added to the n bytes of a shard from `at` on
-pub record AddsAt (f : ℕ → ℕ) (old new : List ℕ) (at n : ℕ) : Type 0 where
-  pub here : (k : ℕ) → at ≤ k → k < at + n → get_or new k 0 ≡ bit_xor (get_or old k 0) (f k)
+-- the n bytes of a shard from `at` on are f, and the others are what they were
+pub record IsPutAt (f : ℕ → ℕ) (old new : List ℕ) (at n : ℕ) : Type 0 where
+  pub here : (k : ℕ) → at ≤ k → k < at + n → get_or new k 0 ≡ f k
   pub outside : (k : ℕ) → (k < at) ⊎ (at + n ≤ k) → get_or new k 0 ≡ get_or old k 0
   pub same_size : length new ≡ length old
 
-pub adds-at : (f : ℕ → ℕ) (old new : List ℕ) (at n : ℕ) → ((k : ℕ) → k < at → get_or new k 0 ≡ get_or old k 0)
-    → ((k : ℕ) → k < n → get_or new (at + k) 0 ≡ bit_xor (get_or old (at + k) 0) (f (at + k)))
-    → ((k : ℕ) → at + n ≤ k → get_or new k 0 ≡ get_or old k 0) → length new ≡ length old → AddsAt f old new at n
-adds-at f old new at n below here above size =
+pub put-at : (f : ℕ → ℕ) (old new : List ℕ) (at n : ℕ) → ((k : ℕ) → k < at → get_or new k 0 ≡ get_or old k 0)
+    → ((k : ℕ) → k < n → get_or new (at + k) 0 ≡ f (at + k))
+    → ((k : ℕ) → at + n ≤ k → get_or new k 0 ≡ get_or old k 0) → length new ≡ length old → IsPutAt f old new at n
+put-at f old new at n below here above size =
     record {
-      here = ranged (λ k. get_or new k 0 ≡ bit_xor (get_or old k 0) (f k)) at n here;
+      here = ranged (λ k. get_or new k 0 ≡ f k) at n here;
       outside = λ k out. elim out [ inl l ↦ below k l | inr r ↦ above k r ];
       same_size = size;
     }
 
--- ---- a byte of a column that something is added to
-with_added-here : (a x : ℕ) (column : ℕ → ℕ) → with_added a x column a ≡ bit_xor (column a) x
-with_added-here a x column = grind (arith, nat_tests)
+-- ---- a column with another byte
+with_byte-here : (a x : ℕ) (column : ℕ → ℕ) → with_byte a x column a ≡ x
+with_byte-here a x column = grind (arith, nat_tests)
 
-pub added-here : (a x : ℕ) (column : ℕ → ℕ) (i : ℕ) → i ≡ a → with_added a x column i ≡ bit_xor (column a) x
-added-here a x column i e = ap (with_added a x column) e ∙ with_added-here a x column
+pub byte-here : (a x : ℕ) (column : ℕ → ℕ) (i : ℕ) → i ≡ a → with_byte a x column i ≡ x
+byte-here a x column i e = ap (with_byte a x column) e ∙ with_byte-here a x column
 
-pub added-other : (a x : ℕ) (column : ℕ → ℕ) (i : ℕ) → i ≢ a → with_added a x column i ≡ column i
-added-other a x column i ne = grind (arith, nat_tests)
+pub byte-other : (a x : ℕ) (column : ℕ → ℕ) (i : ℕ) → i ≢ a → with_byte a x column i ≡ column i
+byte-other a x column i ne = grind (arith, nat_tests)
 
--- one shard that something is added to, at each of its n bytes from `at` on
-pub fixes-one : (x : ℕ → ℕ) (old : List (List ℕ)) (a : ℕ) (s : List ℕ) (at n : ℕ) → a < length old → AddsAt x (shard_of old a) s at n
-    → (i k : ℕ) → at ≤ k → k < at + n → byte_of (set old a s) i k ≡ with_added a (x k) (column_of old k) i
-fixes-one x old a s at n lt adds i k from to =
+-- one shard that is written, at each of its n bytes from `at` on
+pub fixes-one : (x : ℕ → ℕ) (old : List (List ℕ)) (a : ℕ) (s : List ℕ) (at n : ℕ) → a < length old → IsPutAt x (shard_of old a) s at n
+    → (i k : ℕ) → at ≤ k → k < at + n → byte_of (set old a s) i k ≡ with_byte a (x k) (column_of old k) i
+fixes-one x old a s at n lt puts i k from to =
     elim (cases_eq i a) [
-      | inl e ↦ ap (λ j. byte_of (set old a s) j k) e ∙ ap (λ t. get_or t k 0) (set-same old a s lt) ∙ adds.here k from to ∙ sym (added-here a (x k) (column_of old k) i e)
-      | inr ne ↦ ap (λ t. get_or t k 0) (set-other old a i s ne) ∙ sym (added-other a (x k) (column_of old k) i ne)
+      | inl e ↦ ap (λ j. byte_of (set old a s) j k) e ∙ ap (λ t. get_or t k 0) (set-same old a s lt) ∙ puts.here k from to ∙ sym (byte-here a (x k) (column_of old k) i e)
+      | inr ne ↦ ap (λ t. get_or t k 0) (set-other old a i s ne) ∙ sym (byte-other a (x k) (column_of old k) i ne)
     ]
 
-pub outside-one : (x : ℕ → ℕ) (old : List (List ℕ)) (a : ℕ) (s : List ℕ) (at n : ℕ) → a < length old → AddsAt x (shard_of old a) s at n
+pub outside-one : (x : ℕ → ℕ) (old : List (List ℕ)) (a : ℕ) (s : List ℕ) (at n : ℕ) → a < length old → IsPutAt x (shard_of old a) s at n
     → (i k : ℕ) → (k < at) ⊎ (at + n ≤ k) → byte_of (set old a s) i k ≡ byte_of old i k
-outside-one x old a s at n lt adds i k out =
+outside-one x old a s at n lt puts i k out =
     elim (cases_eq i a) [
-      | inl e ↦ ap (λ j. byte_of (set old a s) j k) e ∙ ap (λ t. get_or t k 0) (set-same old a s lt) ∙ adds.outside k out ∙ ap (λ j. byte_of old j k) (sym e)
+      | inl e ↦ ap (λ j. byte_of (set old a s) j k) e ∙ ap (λ t. get_or t k 0) (set-same old a s lt) ∙ puts.outside k out ∙ ap (λ j. byte_of old j k) (sym e)
       | inr ne ↦ ap (λ t. get_or t k 0) (set-other old a i s ne)
     ]
 
-pub sizes-one : (x : ℕ → ℕ) (old : List (List ℕ)) (a : ℕ) (s : List ℕ) (at n : ℕ) → a < length old → AddsAt x (shard_of old a) s at n
+pub sizes-one : (x : ℕ → ℕ) (old : List (List ℕ)) (a : ℕ) (s : List ℕ) (at n : ℕ) → a < length old → IsPutAt x (shard_of old a) s at n
     → (i : ℕ) → length (shard_of (set old a s) i) ≡ length (shard_of old i)
-sizes-one x old a s at n lt adds i =
+sizes-one x old a s at n lt puts i =
     elim (cases_eq i a) [
-      | inl e ↦ ap (λ j. length (shard_of (set old a s) j)) e ∙ ap length (set-same old a s lt) ∙ adds.same_size ∙ ap (λ j. length (shard_of old j)) (sym e)
+      | inl e ↦ ap (λ j. length (shard_of (set old a s) j)) e ∙ ap length (set-same old a s lt) ∙ puts.same_size ∙ ap (λ j. length (shard_of old j)) (sym e)
       | inr ne ↦ ap length (set-other old a i s ne)
     ]
+
+-- two shards that are written one after the other
+pub fixes-two : (fix : (ℕ → ℕ) → ℕ → ℕ) (x y : ℕ → ℕ) (old : List (List ℕ)) (a b : ℕ) (s t : List ℕ) (at n : ℕ) → a < length old → b < length old
+    → IsPutAt x (shard_of old b) s at n → IsPutAt y (shard_of (set old b s) a) t at n
+    → ((i : ℕ) → i < length old → length (shard_of old i) ≡ 4096)
+    → ((i k : ℕ) → with_byte a (y k) (with_byte b (x k) (column_of old k)) i ≡ fix (column_of old k) i)
+    → Fixes fix old (set (set old b s) a t) at (at + n)
+fixes-two fix x y old a b s t at n a_in b_in puts_b puts_a sizes same =
+    let mid = set old b s in
+    let mid_count : length mid ≡ length old = length-set old b s in
+    let a_mid : a < length mid = omega arith in
+    record {
+      sizes = λ i lt some. sizes i lt;
+      fixed = λ i k from to.
+          fixes-one y mid a t at n a_mid puts_a i k from to
+          ∙ ap (λ column. with_byte a (y k) column i) (fun_ext (λ j. fixes-one x old b s at n b_in puts_b j k from to))
+          ∙ same i k;
+      outside = λ i k out. outside-one y mid a t at n a_mid puts_a i k out ∙ outside-one x old b s at n b_in puts_b i k out;
+      same_count = length-set mid a t ∙ mid_count;
+      same_sizes = λ i. sizes-one y mid a t at n a_mid puts_a i ∙ sizes-one x old b s at n b_in puts_b i;
+    }
 
 -- ---- shards whose columns are fixed
 pub fixes-none : (fix : (ℕ → ℕ) → ℕ → ℕ) (old : List (List ℕ)) → Fixes fix old old 0 0
 fixes-none fix old =
     record {
-      was_read = record { sizes = λ i lt some. absurd (omega arith); bytes = λ i k lt from to. absurd (omega arith) };
+      sizes = λ i lt some. absurd (omega arith);
       fixed = λ i k from to. absurd (omega arith);
       outside = λ i k out. refl;
       same_count = refl;
@@ -86,16 +107,10 @@ pub fixes-more : (fix : (ℕ → ℕ) → ℕ → ℕ) (old now new : List (List
 fixes-more fix old now new mid to le done more =
     let same : (k : ℕ) → mid ≤ k → (i : ℕ) → byte_of now i k ≡ byte_of old i k = λ k r i. done.outside i k (inr r) in
     record {
-      was_read = record {
-        sizes = λ i lt some. elim (cases_lt mid to) [
-          | inl l ↦ sym (done.same_sizes i) ∙ more.was_read.sizes i (omega (arith, done.same_count)) l
-          | inr r ↦ done.was_read.sizes i lt (omega arith)
-        ];
-        bytes = λ i k lt from upto. elim (cases_lt k mid) [
-          | inl l ↦ done.was_read.bytes i k lt from l
-          | inr r ↦ subst (λ x. x < 256) (same k r i) (more.was_read.bytes i k lt r upto)
-        ];
-      };
+      sizes = λ i lt some. elim (cases_lt mid to) [
+        | inl l ↦ sym (done.same_sizes i) ∙ more.sizes i (omega (arith, done.same_count)) l
+        | inr r ↦ done.sizes i lt (omega arith)
+      ];
       fixed = λ i k from upto. elim (cases_lt k mid) [
         | inl l ↦ more.outside i k (inl l) ∙ done.fixed i k from l
         | inr r ↦ more.fixed i k r upto ∙ ap (λ column. fix column i) (fun_ext (same k r))

@@ -1,17 +1,18 @@
 -- From what is corrected to what is restored.
 use Rattle.std.proofs.Common.{◌≡◌, ◌≢◌, ℕ, zero, suc, ◌<◌, ◌≤◌, List, [], ◌∷◌, length, get_or, refl, ap, sym, ◌∙◌, arith, bit_xor, inl, inr, subst}
 use Rattle.std.specs.List.{Contains}
-use Rattle.std.proofs.lemmas.Bool.{cases_eq}
+use Rattle.std.proofs.lemmas.Bool.{cases_eq, cases_lt}
 use Rattle.std.proofs.lemmas.Grind.{same_number_lists}
 use Rattle.std.proofs.lemmas.List.{ext_get_or}
-use lib.Bits.{xor_lt, xor_zero_r, xor_comm}
+use lib.Bits.{xor_lt, xor_zero_l, xor_zero_r, xor_self, xor_comm}
 use Rattle.gf256.specs.Field.{times, power_of_two}
-use Rattle.parity72.specs.Parity.{byte_of, shard_of, IsCodeword}
-use Rattle.parity72.specs.Recovery.{AgreesOutside, Encodes, Fixes, Restores, column_of, error_of, p_syndrome, q_syndrome, with_added, with_errors, with_p_syndrome}
-use Rattle.parity72.proofs.Sums.{power-fits}
+use Rattle.gf256.proofs.Linear.{times-xor_left}
+use Rattle.parity72.specs.Parity.{byte_of, shard_of, sum_below, IsCodeword}
+use Rattle.parity72.specs.Recovery.{AgreesOutside, Encodes, Fixes, Restores, both_of, column_of, filled, p_syndrome, second_of, weight_of, weighted, with_byte, with_p_and_q, with_p_syndrome, with_pair, without}
+use Rattle.parity72.proofs.Sums.{power-fits, sum-eight, sum-two, sum-xor, weight-data, weight-fits, weight-p}
 use Rattle.parity72.proofs.Codewords.{p_of-same, q_of-same}
-use Rattle.parity72.proofs.Corrections.{added-here, added-other}
-use Rattle.parity72.proofs.Errors.{error, error-none, plain, weighted, p-errors, q-errors, plain-one, plain-two, weighted-one, weighted-two, two-solved, one-solved, xor-undone, xor-undone_right}
+use Rattle.parity72.proofs.Corrections.{byte-here, byte-other}
+use Rattle.parity72.proofs.Errors.{error, error-none, plain, p-errors, weighted-errors, plain-one, weighted-one, weighted-two, solved, xor-undone, xor-undone_right}
 
 -- ---- numbers that are not lost
 not-one : (a i k : ℕ) → k < 1 → get_or (a ∷ []) k i ≡ i → i ≢ a → ⊥
@@ -33,14 +34,9 @@ pub in_first : (a : ℕ) (rest : List ℕ) → Contains (a ∷ rest) a
 in_first a rest = (0, omega arith, refl)
 
 -- what restores more lost shards restores fewer
-pub restores-fewer : (fewer more left : List ℕ) (old new : List (List ℕ)) → ((i : ℕ) → Contains fewer i → Contains more i) → Restores more left old new → Restores fewer left old new
-restores-fewer fewer more left old new within restored =
+pub restores-fewer : (fewer more : List ℕ) (old new : List (List ℕ)) → ((i : ℕ) → Contains fewer i → Contains more i) → Restores more old new → Restores fewer old new
+restores-fewer fewer more old new within restored =
     record { same_count = restored.same_count; agrees = λ whole code outside. restored.agrees whole code (λ i lt not_more. outside i lt (λ h. not_more (within i h))) }
-
--- what is left is restored next
-pub restores-then : (lost left rest : List ℕ) (old now new : List (List ℕ)) → Restores lost left old now → Restores left rest now new → Restores lost rest old new
-restores-then lost left rest old now new first second =
-    record { same_count = second.same_count ∙ first.same_count; agrees = λ whole code outside. second.agrees whole code (first.agrees whole code outside) }
 
 -- a shard that has each byte of another
 same-shard : (new whole : List (List ℕ)) (i : ℕ) → length (shard_of new i) ≡ 4096 → length (shard_of whole i) ≡ 4096
@@ -49,7 +45,7 @@ same-shard new whole i ln lw same =
     same_number_lists (shard_of new i) (shard_of whole i) (ln ∙ sym lw) (λ k lt. same k (omega arith))
 
 -- ---- P and Q written anew
-pub restores-parities : (old new : List (List ℕ)) → Encodes old new 4096 → Restores (7 ∷ 8 ∷ []) [] old new
+pub restores-parities : (old new : List (List ℕ)) → Encodes old new 4096 → Restores (7 ∷ 8 ∷ []) old new
 restores-parities old new done =
     record {
       same_count = done.same_count;
@@ -58,7 +54,7 @@ restores-parities old new done =
           let data_is : (k i : ℕ) → i < 7 → byte_of old i k ≡ byte_of whole i k =
           λ k i lt. let np : i ≢ 7 = omega arith in let nq : i ≢ 8 = omega arith in
           ap (λ s. get_or s k 0) (outside i (omega arith) (not-in_two 7 8 i np nq)) in
-          λ i lt _. elim (cases_eq i 7) [
+          λ i lt. elim (cases_eq i 7) [
             | inl e ↦ ap (shard_of new) e
                 ∙ same-shard new whole 7 (sizes 7 (omega arith)) (code.sizes 7 (omega arith))
                 (λ k small. done.p k small ∙ p_of-same old whole k (data_is k) ∙ sym (code.p k small))
@@ -75,156 +71,158 @@ restores-parities old new done =
 
 -- ---- shards whose columns are fixed
 -- each column of a codeword, and of the shards that agree with it, is fixed to that of the codeword
-restores-fixed : (fix : (ℕ → ℕ) → ℕ → ℕ) (lost left : List ℕ) (old new : List (List ℕ)) → length old ≡ 9 → Fixes fix old new 0 4096
-    → ((whole : List (List ℕ)) → IsCodeword whole → AgreesOutside lost old whole → (k : ℕ) → k < 4096 → (i : ℕ) → i < 9 → ¬ Contains left i
-    → fix (column_of old k) i ≡ byte_of whole i k)
-    → Restores lost left old new
-restores-fixed fix lost left old new nine done right =
+restores-fixed : (fix : (ℕ → ℕ) → ℕ → ℕ) (lost : List ℕ) (old new : List (List ℕ)) → length old ≡ 9 → Fixes fix old new 0 4096
+    → ((whole : List (List ℕ)) → IsCodeword whole → AgreesOutside lost old whole → (k : ℕ) → k < 4096 → (i : ℕ) → i < 9 → fix (column_of old k) i ≡ byte_of whole i k)
+    → Restores lost old new
+restores-fixed fix lost old new nine done right =
     record {
       same_count = done.same_count;
-      agrees = λ whole code outside i lt not_left.
-          same-shard new whole i (done.same_sizes i ∙ done.was_read.sizes i (omega arith) (omega arith)) (code.sizes i lt)
-          (λ k small. done.fixed i k (omega arith) small ∙ right whole code outside k small i lt not_left);
+      agrees = λ whole code outside i lt.
+          same-shard new whole i (done.same_sizes i ∙ done.sizes i (omega arith) (omega arith)) (code.sizes i lt)
+          (λ k small. done.fixed i k (omega arith) small ∙ right whole code outside k small i lt);
     }
 
--- a column o, and the column w of a codeword
-by-p : (a : ℕ) (o w : ℕ → ℕ) → a < 7 → w 7 ≡ plain w → ((i : ℕ) → i < 8 → i ≢ a → o i ≡ w i) → with_p_syndrome a o a ≡ w a
-by-p a o w lt p_is same =
+-- ---- a column o, and the column w of a codeword
+p_syndrome-one : (a : ℕ) (o w : ℕ → ℕ) → a < 7 → w 7 ≡ plain w → ((i : ℕ) → i < 8 → i ≢ a → o i ≡ w i) → p_syndrome o ≡ error o w a
+p_syndrome-one a o w lt p_is same =
     let seven : 7 ≢ a = omega arith in
-    added-here a (p_syndrome o) o a refl
-    ∙ ap (bit_xor (o a))
-    (p-errors o w p_is
+    p-errors o w p_is
     ∙ ap (λ x. bit_xor x (error o w 7)) (plain-one (error o w) a lt (λ i small ne. error-none o w i (same i (omega arith) ne)))
     ∙ ap (bit_xor (error o w a)) (error-none o w 7 (same 7 (omega arith) seven))
-    ∙ xor_zero_r (error o w a))
+    ∙ xor_zero_r (error o w a)
+
+by-p : (a : ℕ) (o w : ℕ → ℕ) → a < 7 → w 7 ≡ plain w → ((i : ℕ) → i < 8 → i ≢ a → o i ≡ w i) → with_p_syndrome a o a ≡ w a
+by-p a o w lt p_is same =
+    byte-here a (bit_xor (o a) (p_syndrome o)) o a refl
+    ∙ ap (bit_xor (o a)) (p_syndrome-one a o w lt p_is same)
     ∙ xor-undone (o a) (w a)
 
-restores-by-p : (a : ℕ) (lost left : List ℕ) (old new : List (List ℕ)) → length old ≡ 9 → a < 7 → Fixes (with_p_syndrome a) old new 0 4096
-    → ((i : ℕ) → i < 8 → i ≢ a → ¬ Contains lost i) → ((i : ℕ) → i ≢ a → ¬ Contains left i → ¬ Contains lost i) → Restores lost left old new
-restores-by-p a lost left old new nine lt done known within =
-    restores-fixed (with_p_syndrome a) lost left old new nine done
-    (λ whole code outside k small i li not_left.
+-- a data shard
+pub restores-data : (a : ℕ) (old new : List (List ℕ)) → length old ≡ 9 → a < 7 → Fixes (with_p_syndrome a) old new 0 4096 → Restores (a ∷ []) old new
+restores-data a old new nine lt done =
+    restores-fixed (with_p_syndrome a) (a ∷ []) old new nine done
+    (λ whole code outside k small i li.
     let o : ℕ → ℕ = λ i. byte_of old i k in
     let w : ℕ → ℕ = λ i. byte_of whole i k in
+    let same : (i : ℕ) → i < 9 → i ≢ a → o i ≡ w i = λ i l ne. ap (λ s. get_or s k 0) (outside i l (not-in_one a i ne)) in
     elim (cases_eq i a) [
-      | inl e ↦ ap (with_p_syndrome a o) e
-          ∙ by-p a o w lt (code.p k small) (λ i l ne. ap (λ s. get_or s k 0) (outside i (omega arith) (known i l ne)))
-          ∙ ap w (sym e)
-      | inr ne ↦ added-other a (p_syndrome o) o i ne ∙ ap (λ s. get_or s k 0) (outside i li (within i ne not_left))
+      | inl e ↦ ap (with_p_syndrome a o) e ∙ by-p a o w lt (code.p k small) (λ i l ne. same i (omega arith) ne) ∙ ap w (sym e)
+      | inr ne ↦ byte-other a (bit_xor (o a) (p_syndrome o)) o i ne ∙ same i li ne
     ])
 
-pub restores-data : (a : ℕ) (old new : List (List ℕ)) → length old ≡ 9 → a < 7 → Fixes (with_p_syndrome a) old new 0 4096 → Restores (a ∷ []) [] old new
-restores-data a old new nine lt done =
-    restores-by-p a (a ∷ []) [] old new nine lt done (λ i l na. not-in_one a i na) (λ i na not_left. not-in_one a i na)
+-- a data shard and Q
+q-by-p : (a : ℕ) (o w : ℕ → ℕ) → a < 7 → w 7 ≡ plain w → w 8 ≡ weighted w → ((i : ℕ) → i < 8 → i ≢ a → o i ≡ w i)
+    → bit_xor (weighted o) (times (power_of_two a) (p_syndrome o)) ≡ w 8
+q-by-p a o w lt p_is q_is same =
+    let e = error o w in
+    let difference : bit_xor (weighted o) (weighted w) ≡ times (power_of_two a) (e a) =
+    weighted-errors o w ∙ weighted-one e a lt (λ i small ne. error-none o w i (same i (omega arith) ne)) in
+    ap (λ x. bit_xor (weighted o) (times (power_of_two a) x)) (p_syndrome-one a o w lt p_is same)
+    ∙ ap (bit_xor (weighted o)) (sym difference)
+    ∙ xor-undone (weighted o) (weighted w) ∙ sym q_is
 
-pub restores-data-beside-q : (a : ℕ) (old new : List (List ℕ)) → length old ≡ 9 → a < 7 → Fixes (with_p_syndrome a) old new 0 4096 → Restores (a ∷ 8 ∷ []) (8 ∷ []) old new
-restores-data-beside-q a old new nine lt done =
-    restores-by-p a (a ∷ 8 ∷ []) (8 ∷ []) old new nine lt done
-    (λ i l na. let nq : i ≢ 8 = omega arith in not-in_two a 8 i na nq)
-    (λ i na not_left. let nq : i ≢ 8 = λ e. not_left (subst (Contains (8 ∷ [])) (sym e) (in_first 8 [])) in not-in_two a 8 i na nq)
+pub restores-data-and-q : (a : ℕ) (old new : List (List ℕ)) → length old ≡ 9 → a < 7 → Fixes (with_p_and_q a (power_of_two a)) old new 0 4096 → Restores (a ∷ 8 ∷ []) old new
+restores-data-and-q a old new nine lt done =
+    restores-fixed (with_p_and_q a (power_of_two a)) (a ∷ 8 ∷ []) old new nine done
+    (λ whole code outside k small i li.
+    let o : ℕ → ℕ = λ i. byte_of old i k in
+    let w : ℕ → ℕ = λ i. byte_of whole i k in
+    let q = bit_xor (weighted o) (times (power_of_two a) (p_syndrome o)) in
+    let same : (i : ℕ) → i < 8 → i ≢ a → o i ≡ w i = λ i l ne. let nq : i ≢ 8 = omega arith in ap (λ s. get_or s k 0) (outside i (omega arith) (not-in_two a 8 i ne nq)) in
+    elim (cases_eq i 8) [
+      | inl e ↦ byte-here 8 q (with_p_syndrome a o) i e ∙ q-by-p a o w lt (code.p k small) (code.q k small) same ∙ ap w (sym e)
+      | inr nq ↦ byte-other 8 q (with_p_syndrome a o) i nq ∙ elim (cases_eq i a) [
+        | inl e ↦ ap (with_p_syndrome a o) e ∙ by-p a o w lt (code.p k small) same ∙ ap w (sym e)
+        | inr ne ↦ byte-other a (bit_xor (o a) (p_syndrome o)) o i ne ∙ same i (omega arith) ne
+      ]
+    ])
 
--- where P's syndrome is the two errors, and the error that is solved for is that of b
-both-fixed : (a b by_p by_q : ℕ) (o w : ℕ → ℕ) → a ≢ b → p_syndrome o ≡ bit_xor (error o w a) (error o w b) → error_of by_p by_q o ≡ error o w b
-    → ((i : ℕ) → i < 9 → i ≢ a → i ≢ b → o i ≡ w i) → (i : ℕ) → i < 9 → with_errors a b by_p by_q o i ≡ w i
-both-fixed a b by_p by_q o w ne p_is error_is same i lt =
-    let x = error_of by_p by_q o in
-    let y = bit_xor (p_syndrome o) x in
-    let y_is : y ≡ error o w a = ap (λ t. bit_xor t x) p_is ∙ ap (bit_xor (bit_xor (error o w a) (error o w b))) error_is ∙ xor-undone_right (error o w a) (error o w b) in
+-- ---- a data shard b, and another or P, which is a
+-- without the two, what is left adds up to the two
+both-is : (a b : ℕ) (o w : ℕ → ℕ) → a < 8 → b < 8 → a ≢ b → w 7 ≡ plain w → ((i : ℕ) → i < 8 → i ≢ a → i ≢ b → o i ≡ w i) → both_of a b o ≡ bit_xor (w a) (w b)
+both-is a b o w la lb ne p_is same =
+    let f = without a b o in
+    let e : ℕ → ℕ = λ i. bit_xor (f i) (w i) in
+    let nothing : sum_below w 8 ≡ 0 = sum-eight w ∙ ap (bit_xor (plain w)) p_is ∙ xor_self (plain w) in
+    let at_a : e a ≡ w a = ap (λ x. bit_xor x (w a)) (byte-here a 0 (with_byte b 0 o) a refl) ∙ xor_zero_l (w a) in
+    let turned : b ≢ a = λ h. ne (sym h) in
+    let at_b : e b ≡ w b = ap (λ x. bit_xor x (w b)) (byte-other a 0 (with_byte b 0 o) b turned ∙ byte-here b 0 o b refl) ∙ xor_zero_l (w b) in
+    let else : (i : ℕ) → i < 8 → i ≢ a → i ≢ b → e i ≡ 0 =
+    λ i l na nb. ap (λ x. bit_xor x (w i)) (byte-other a 0 (with_byte b 0 o) i na ∙ byte-other b 0 o i nb ∙ same i l na nb) ∙ xor_self (w i) in
+    sym (xor_zero_r (sum_below f 8)) ∙ ap (bit_xor (sum_below f 8)) (sym nothing) ∙ sym (sum-xor 8 f w)
+    ∙ sum-two 8 e a b la lb ne else ∙ ap (λ x. bit_xor x (e b)) at_a ∙ ap (bit_xor (w a)) at_b
+
+-- with their sum for a and nothing for b, Q is wrong by the sum of their weights times what b was
+filled-syndrome : (a b : ℕ) (o w : ℕ → ℕ) → a < 8 → b < 7 → a ≢ b → w 7 ≡ plain w → w 8 ≡ weighted w → w b < 256
+    → ((i : ℕ) → i < 9 → i ≢ a → i ≢ b → o i ≡ w i) → bit_xor (weighted (filled a b o)) (o 8) ≡ times (bit_xor (weight_of a) (power_of_two b)) (w b)
+filled-syndrome a b o w la lb ne p_is q_is fits same =
+    let f = filled a b o in
+    let both = both_of a b o in
+    let e = error f w in
+    let pb = power_of_two b in
+    let na8 : 8 ≢ a = omega arith in
+    let nb8 : 8 ≢ b = omega arith in
+    let turned : b ≢ a = λ h. ne (sym h) in
+    let at_a : e a ≡ w b =
+    ap (λ x. bit_xor x (w a)) (byte-here a both (without a b o) a refl ∙ both-is a b o w la (omega arith) ne p_is (λ i l na nb. same i (omega arith) na nb) ∙ xor_comm (w a) (w b))
+    ∙ xor-undone_right (w b) (w a) in
+    let at_b : e b ≡ w b =
+    ap (λ x. bit_xor x (w b)) (byte-other a both (without a b o) b turned ∙ byte-other a 0 (with_byte b 0 o) b turned ∙ byte-here b 0 o b refl) ∙ xor_zero_l (w b) in
+    let else : (i : ℕ) → i < 9 → i ≢ a → i ≢ b → e i ≡ 0 =
+    λ i l na nb. ap (λ x. bit_xor x (w i)) (byte-other a both (without a b o) i na ∙ byte-other a 0 (with_byte b 0 o) i na ∙ byte-other b 0 o i nb ∙ same i l na nb) ∙ xor_self (w i) in
+    let of_errors : bit_xor (weighted f) (o 8) ≡ weighted e =
+    ap (bit_xor (weighted f)) (same 8 (omega arith) na8 nb8 ∙ q_is) ∙ weighted-errors f w in
+    of_errors ∙ elim (cases_lt a 7) [
+      | inl l ↦
+          weighted-two e a b l lb ne (λ i small na nb. else i (omega arith) na nb)
+          ∙ ap (λ x. bit_xor (times (power_of_two a) x) (times pb (e b))) at_a
+          ∙ ap (λ x. bit_xor (times (power_of_two a) (w b)) (times pb x)) at_b
+          ∙ sym (times-xor_left (power_of_two a) pb (w b) (power-fits a) (power-fits b))
+          ∙ ap (λ x. times (bit_xor x pb) (w b)) (sym (weight-data a l))
+      | inr r ↦
+          let not_a : (i : ℕ) → i < 7 → i ≢ a = λ i small h. absurd (omega arith) in
+          weighted-one e b lb (λ i small nb. else i (omega arith) (not_a i small) nb)
+          ∙ ap (times pb) at_b
+          ∙ ap (λ x. times x (w b)) (sym (xor_zero_l pb) ∙ ap (λ x. bit_xor x pb) (sym (weight-p a r)))
+    ]
+
+pair-fixed : (a b by : ℕ) (o w : ℕ → ℕ) → a < 8 → b < 7 → a ≢ b → by < 256 → times by (bit_xor (weight_of a) (power_of_two b)) ≡ 1
+    → w 7 ≡ plain w → w 8 ≡ weighted w → w b < 256
+    → ((i : ℕ) → i < 9 → i ≢ a → i ≢ b → o i ≡ w i) → (i : ℕ) → i < 9 → with_pair a b by o i ≡ w i
+pair-fixed a b by o w la lb ne ly factor p_is q_is fits same i li =
+    let both = both_of a b o in
+    let second = second_of a b by o in
+    let sum = bit_xor (weight_of a) (power_of_two b) in
+    let sum_fits : sum < 256 = xor_lt 8 (weight_of a) (power_of_two b) (weight-fits a) (power-fits b) in
+    let second_is : second ≡ w b = ap (times by) (filled-syndrome a b o w la lb ne p_is q_is fits same) ∙ solved sum by (w b) sum_fits ly fits factor in
+    let first_is : bit_xor both second ≡ w a =
+    ap (λ x. bit_xor x second) (both-is a b o w la (omega arith) ne p_is (λ i l na nb. same i (omega arith) na nb))
+    ∙ ap (bit_xor (bit_xor (w a) (w b))) second_is ∙ xor-undone_right (w a) (w b) in
     elim (cases_eq i a) [
-      | inl h ↦
-          added-here a y (with_added b x o) i h
-          ∙ ap (λ t. bit_xor t y) (added-other b x o a ne)
-          ∙ ap (bit_xor (o a)) y_is ∙ xor-undone (o a) (w a) ∙ ap w (sym h)
-      | inr na ↦ elim (cases_eq i b) [
-        | inl h ↦
-            added-other a y (with_added b x o) i na
-            ∙ added-here b x o i h
-            ∙ ap (bit_xor (o b)) error_is ∙ xor-undone (o b) (w b) ∙ ap w (sym h)
-        | inr nb ↦ added-other a y (with_added b x o) i na ∙ added-other b x o i nb ∙ same i lt na nb
+      | inl h ↦ byte-here a (bit_xor both second) (with_byte b second o) i h ∙ first_is ∙ ap w (sym h)
+      | inr na ↦ byte-other a (bit_xor both second) (with_byte b second o) i na ∙ elim (cases_eq i b) [
+        | inl h ↦ byte-here b second o i h ∙ second_is ∙ ap w (sym h)
+        | inr nb ↦ byte-other b second o i nb ∙ same i li na nb
       ]
     ]
 
--- two data shards
-two-data-fixed : (a b by_p by_q : ℕ) (o w : ℕ → ℕ) → a < 7 → b < 7 → a ≢ b → by_p < 256 → by_q < 256
-    → times by_p (bit_xor (power_of_two a) (power_of_two b)) ≡ power_of_two a → times by_q (bit_xor (power_of_two a) (power_of_two b)) ≡ 1
-    → ((i : ℕ) → i < 7 → o i < 256) → ((i : ℕ) → i < 9 → w i < 256) → w 7 ≡ plain w → w 8 ≡ weighted w
-    → ((i : ℕ) → i < 9 → i ≢ a → i ≢ b → o i ≡ w i) → (i : ℕ) → i < 9 → with_errors a b by_p by_q o i ≡ w i
-two-data-fixed a b by_p by_q o w la lb ne lp lq p_factor q_factor fo fw p_code q_code same =
-    let pa = power_of_two a in
-    let pb = power_of_two b in
-    let e = error o w in
-    let fits : (i : ℕ) → i < 7 → e i < 256 = λ i l. xor_lt 8 (o i) (w i) (fo i l) (fw i (omega arith)) in
-    let none : (i : ℕ) → i < 7 → i ≢ a → i ≢ b → e i ≡ 0 = λ i l na nb. error-none o w i (same i (omega arith) na nb) in
-    let n7a : 7 ≢ a = omega arith in
-    let n7b : 7 ≢ b = omega arith in
-    let n8a : 8 ≢ a = omega arith in
-    let n8b : 8 ≢ b = omega arith in
-    let p_is : p_syndrome o ≡ bit_xor (e a) (e b) =
-    p-errors o w p_code
-    ∙ ap (λ x. bit_xor x (e 7)) (plain-two e a b la lb ne none)
-    ∙ ap (bit_xor (bit_xor (e a) (e b))) (error-none o w 7 (same 7 (omega arith) n7a n7b))
-    ∙ xor_zero_r (bit_xor (e a) (e b)) in
-    let q_is : q_syndrome o ≡ bit_xor (times pa (e a)) (times pb (e b)) =
-    q-errors o w q_code
-    ∙ ap (λ x. bit_xor x (e 8)) (weighted-two e a b la lb ne none)
-    ∙ ap (bit_xor (bit_xor (times pa (e a)) (times pb (e b)))) (error-none o w 8 (same 8 (omega arith) n8a n8b))
-    ∙ xor_zero_r (bit_xor (times pa (e a)) (times pb (e b))) in
-    both-fixed a b by_p by_q o w ne p_is
-    (ap (λ x. bit_xor (times by_p x) (times by_q (q_syndrome o))) p_is
-    ∙ ap (λ x. bit_xor (times by_p (bit_xor (e a) (e b))) (times by_q x)) q_is
-    ∙ two-solved pa pb by_p by_q (e a) (e b) (power-fits a) (power-fits b) lp lq (fits a la) (fits b lb) p_factor q_factor)
-    same
-
-pub restores-two-data : (a b by_p by_q : ℕ) (old new : List (List ℕ)) → length old ≡ 9 → a < 7 → b < 7 → a ≢ b → by_p < 256 → by_q < 256
-    → times by_p (bit_xor (power_of_two a) (power_of_two b)) ≡ power_of_two a → times by_q (bit_xor (power_of_two a) (power_of_two b)) ≡ 1
-    → Fixes (with_errors a b by_p by_q) old new 0 4096 → Restores (a ∷ b ∷ []) [] old new
-restores-two-data a b by_p by_q old new nine la lb ne lp lq p_factor q_factor done =
-    restores-fixed (with_errors a b by_p by_q) (a ∷ b ∷ []) [] old new nine done
-    (λ whole code outside k small i li _.
-    two-data-fixed a b by_p by_q (λ i. byte_of old i k) (λ i. byte_of whole i k) la lb ne lp lq p_factor q_factor
-    (λ i l. done.was_read.bytes i k l (omega arith) small) (λ i l. code.bytes i k l small) (code.p k small) (code.q k small)
+pub restores-pair : (a b by : ℕ) (old new : List (List ℕ)) → length old ≡ 9 → a < 8 → b < 7 → a ≢ b → by < 256 → times by (bit_xor (weight_of a) (power_of_two b)) ≡ 1
+    → Fixes (with_pair a b by) old new 0 4096 → Restores (a ∷ b ∷ []) old new
+restores-pair a b by old new nine la lb ne ly factor done =
+    restores-fixed (with_pair a b by) (a ∷ b ∷ []) old new nine done
+    (λ whole code outside k small i li.
+    pair-fixed a b by (λ i. byte_of old i k) (λ i. byte_of whole i k) la lb ne ly factor (code.p k small) (code.q k small) (code.bytes b k (omega arith) small)
     (λ i l na nb. ap (λ s. get_or s k 0) (outside i l (not-in_two a b i na nb))) i li)
 
--- a data shard and P
-data-and-p-fixed : (b by_q : ℕ) (o w : ℕ → ℕ) → b < 7 → by_q < 256 → times by_q (power_of_two b) ≡ 1
-    → ((i : ℕ) → i < 7 → o i < 256) → ((i : ℕ) → i < 9 → w i < 256) → w 7 ≡ plain w → w 8 ≡ weighted w
-    → ((i : ℕ) → i < 9 → i ≢ 7 → i ≢ b → o i ≡ w i) → (i : ℕ) → i < 9 → with_errors 7 b 0 by_q o i ≡ w i
-data-and-p-fixed b by_q o w lb lq q_factor fo fw p_code q_code same =
-    let pb = power_of_two b in
-    let e = error o w in
-    let fits : e b < 256 = xor_lt 8 (o b) (w b) (fo b lb) (fw b (omega arith)) in
-    let ne : 7 ≢ b = omega arith in
-    let n87 : ◌≢◌ {A = ℕ} 8 7 = omega arith in
-    let n8b : 8 ≢ b = omega arith in
-    let none : (i : ℕ) → i < 7 → i ≢ b → e i ≡ 0 = λ i l nb. let n7 : i ≢ 7 = omega arith in error-none o w i (same i (omega arith) n7 nb) in
-    let p_is : p_syndrome o ≡ bit_xor (e 7) (e b) =
-    p-errors o w p_code ∙ ap (λ x. bit_xor x (e 7)) (plain-one e b lb none) ∙ xor_comm (e b) (e 7) in
-    let q_is : q_syndrome o ≡ times pb (e b) =
-    q-errors o w q_code
-    ∙ ap (λ x. bit_xor x (e 8)) (weighted-one e b lb none)
-    ∙ ap (bit_xor (times pb (e b))) (error-none o w 8 (same 8 (omega arith) n87 n8b))
-    ∙ xor_zero_r (times pb (e b)) in
-    both-fixed 7 b 0 by_q o w ne p_is
-    (ap (λ x. bit_xor (times 0 (p_syndrome o)) (times by_q x)) q_is ∙ one-solved pb by_q (p_syndrome o) (e b) (power-fits b) lq fits q_factor) same
-
-pub restores-data-and-p : (b by_q : ℕ) (old new : List (List ℕ)) → length old ≡ 9 → b < 7 → by_q < 256 → times by_q (power_of_two b) ≡ 1
-    → Fixes (with_errors 7 b 0 by_q) old new 0 4096 → Restores (b ∷ 7 ∷ []) [] old new
-restores-data-and-p b by_q old new nine lb lq q_factor done =
-    restores-fixed (with_errors 7 b 0 by_q) (b ∷ 7 ∷ []) [] old new nine done
-    (λ whole code outside k small i li _.
-    data-and-p-fixed b by_q (λ i. byte_of old i k) (λ i. byte_of whole i k) lb lq q_factor
-    (λ i l. done.was_read.bytes i k l (omega arith) small) (λ i l. code.bytes i k l small) (code.p k small) (code.q k small)
-    (λ i l n7 nb. ap (λ s. get_or s k 0) (outside i l (not-in_two b 7 i nb n7))) i li)
-
 -- ---- the whole
-pub restored-whole : (lost : List ℕ) (old new : List (List ℕ)) → length old ≡ 9 → Restores lost [] old new
+pub restored-whole : (lost : List ℕ) (old new : List (List ℕ)) → length old ≡ 9 → Restores lost old new
     → (whole : List (List ℕ)) → IsCodeword whole → AgreesOutside lost old whole → new ≡ whole
 restored-whole lost old new nine restored whole code outside =
     ext_get_or [] new whole (restored.same_count ∙ nine ∙ sym code.count)
-    (λ i lt. restored.agrees whole code outside i (omega (arith, restored.same_count)) (λ h. absurd (omega (arith, h.1))))
+    (λ i lt. restored.agrees whole code outside i (omega (arith, restored.same_count)))
 
-pub restores-nothing : (old : List (List ℕ)) → Restores [] [] old old
-restores-nothing old = record { same_count = refl; agrees = λ whole code outside. outside }
+pub restores-nothing : (old : List (List ℕ)) → Restores [] old old
+restores-nothing old = record { same_count = refl; agrees = λ whole code outside i lt. outside i lt (λ h. absurd (omega (arith, h.1))) }
 
 -- ---- the lost numbers in another order, or fewer of them
 only-at : (a i k : ℕ) → k < 1 → get_or (a ∷ []) k i ≡ i → i ≡ a
@@ -239,37 +237,34 @@ either-at a b i zero lt e = (1, omega arith, e)
 either-at a b i (suc zero) lt e = (0, omega arith, e)
 either-at a b i (suc (suc k)) lt e = absurd (omega arith)
 
-pub restores-turned : (a b : ℕ) (left : List ℕ) (old new : List (List ℕ)) → Restores (a ∷ b ∷ []) left old new → Restores (b ∷ a ∷ []) left old new
-restores-turned a b left old new restored = restores-fewer (b ∷ a ∷ []) (a ∷ b ∷ []) left old new (λ i h. either-at b a i h.0 h.1 h.2) restored
+pub restores-turned : (a b : ℕ) (old new : List (List ℕ)) → Restores (a ∷ b ∷ []) old new → Restores (b ∷ a ∷ []) old new
+restores-turned a b old new restored = restores-fewer (b ∷ a ∷ []) (a ∷ b ∷ []) old new (λ i h. either-at b a i h.0 h.1 h.2) restored
 
-pub restores-first : (a b i : ℕ) (old new : List (List ℕ)) → i ≡ a → Restores (a ∷ b ∷ []) [] old new → Restores (i ∷ []) [] old new
+pub restores-first : (a b i : ℕ) (old new : List (List ℕ)) → i ≡ a → Restores (a ∷ b ∷ []) old new → Restores (i ∷ []) old new
 restores-first a b i old new e restored =
-    restores-fewer (i ∷ []) (a ∷ b ∷ []) [] old new (λ j h. subst (Contains (a ∷ b ∷ [])) (sym (only i j h ∙ e)) (in_first a (b ∷ []))) restored
+    restores-fewer (i ∷ []) (a ∷ b ∷ []) old new (λ j h. subst (Contains (a ∷ b ∷ [])) (sym (only i j h ∙ e)) (in_first a (b ∷ []))) restored
 
-pub restores-second : (a b i : ℕ) (old new : List (List ℕ)) → i ≡ b → Restores (a ∷ b ∷ []) [] old new → Restores (i ∷ []) [] old new
+pub restores-second : (a b i : ℕ) (old new : List (List ℕ)) → i ≡ b → Restores (a ∷ b ∷ []) old new → Restores (i ∷ []) old new
 restores-second a b i old new e restored =
-    restores-first b a i old new e (restores-turned a b [] old new restored)
+    restores-first b a i old new e (restores-turned a b old new restored)
 
-pub restores-q : (old new : List (List ℕ)) → Restores (7 ∷ 8 ∷ []) [] old new → Restores (8 ∷ []) [] old new
-restores-q old new restored = restores-second 7 8 8 old new refl restored
-
-pub restores-parity : (i : ℕ) (old new : List (List ℕ)) → 7 ≤ i → i < 9 → Restores (7 ∷ 8 ∷ []) [] old new → Restores (i ∷ []) [] old new
+pub restores-parity : (i : ℕ) (old new : List (List ℕ)) → 7 ≤ i → i < 9 → Restores (7 ∷ 8 ∷ []) old new → Restores (i ∷ []) old new
 restores-parity i old new from to restored =
     elim (cases_eq i 7) [
       | inl e ↦ restores-first 7 8 i old new e restored
       | inr ne ↦ restores-second 7 8 i old new (omega arith) restored
     ]
 
-pub restores-two-parities : (i j : ℕ) (old new : List (List ℕ)) → 7 ≤ i → i < 9 → 7 ≤ j → j < 9 → i ≢ j → Restores (7 ∷ 8 ∷ []) [] old new → Restores (i ∷ j ∷ []) [] old new
+pub restores-two-parities : (i j : ℕ) (old new : List (List ℕ)) → 7 ≤ i → i < 9 → 7 ≤ j → j < 9 → i ≢ j → Restores (7 ∷ 8 ∷ []) old new → Restores (i ∷ j ∷ []) old new
 restores-two-parities i j old new fi ti fj tj ne restored =
     elim (cases_eq i 7) [
       | inl e ↦
           let f : j ≡ 8 = omega arith in
-          subst (λ a. Restores (a ∷ j ∷ []) [] old new) (sym e) (subst (λ b. Restores (7 ∷ b ∷ []) [] old new) (sym f) restored)
+          subst (λ a. Restores (a ∷ j ∷ []) old new) (sym e) (subst (λ b. Restores (7 ∷ b ∷ []) old new) (sym f) restored)
       | inr other ↦
           let e : i ≡ 8 = omega arith in
           let f : j ≡ 7 = omega arith in
-          subst (λ a. Restores (a ∷ j ∷ []) [] old new) (sym e) (subst (λ b. Restores (8 ∷ b ∷ []) [] old new) (sym f) (restores-turned 7 8 [] old new restored))
+          subst (λ a. Restores (a ∷ j ∷ []) old new) (sym e) (subst (λ b. Restores (8 ∷ b ∷ []) old new) (sym f) (restores-turned 7 8 old new restored))
     ]
 
 -- ---- a list by its length

@@ -3,14 +3,15 @@ use Rattle.std.proofs.Common.{◌≡◌, ◌≢◌, ℕ, ◌<◌, List, [], get_
 use Rattle.std.proofs.lemmas.Bool.{cases_eq, cases_lt}
 use lib.Bits.{xor_zero_l, xor_zero_r, xor_self, xor_lt}
 use Rattle.gf256.specs.Field.{times, power_of_two}
-use Rattle.gf256.proofs.Laws.{times-zero, times-one, times-assoc}
-use Rattle.gf256.proofs.Linear.{times-fits}
+use Rattle.gf256.proofs.Laws.{times-zero}
+use Rattle.gf256.proofs.Linear.{times-xor_left}
 use Rattle.gf256.proofs.Inverses.{has_inverse}
 use Rattle.std.proofs.lemmas.Grind.{same_number_lists}
 use Rattle.std.proofs.lemmas.List.{ext_get_or}
 use Rattle.parity72.specs.Parity.{IsCodeword, shard_of, byte_of}
-use Rattle.parity72.proofs.Sums.{sum-same, power-fits, power-positive, sum-positive}
-use Rattle.parity72.proofs.Errors.{error, error-none, plain, weighted, p-errors, q-errors, plain-one, plain-two, weighted-one, weighted-two, two-solved, one-solved, xor-undone_right}
+use Rattle.parity72.proofs.Sums.{sum-same, sum-two, power-fits, power-positive, sum-positive}
+use Rattle.parity72.specs.Recovery.{weighted}
+use Rattle.parity72.proofs.Errors.{error, error-none, plain, p-errors, weighted-errors, plain-one, weighted-one, weighted-two, solved, xor-undone_right}
 
 -- a sum that is 0 has equal terms
 same-terms : (x y : ℕ) → bit_xor x y ≡ 0 → x ≡ y
@@ -41,7 +42,9 @@ module _ (o w : ℕ → ℕ) (first : IsColumn o) (second : IsColumn w) (a b : �
 
   q-none : bit_xor (weighted e) (e 8) ≡ 0
   unfolding e
-  q-none = sym (q-errors o w second.q) ∙ ap (bit_xor (weighted o)) first.q ∙ xor_self (weighted o)
+  q-none =
+      let is : e 8 ≡ weighted e = ap (λ t. bit_xor t (w 8)) first.q ∙ ap (bit_xor (weighted o)) second.q ∙ weighted-errors o w in
+      ap (bit_xor (weighted e)) is ∙ xor_self (weighted e)
 
   no-error : (i : ℕ) → e i ≡ 0 → o i ≡ w i
   unfolding e
@@ -63,24 +66,18 @@ module _ (o w : ℕ → ℕ) (first : IsColumn o) (second : IsColumn w) (a b : �
         let n8b : 8 ≢ b = omega arith in
         let p_is : bit_xor (e a) (e b) ≡ 0 =
         sym (xor_zero_r (bit_xor (e a) (e b))) ∙ ap (bit_xor (bit_xor (e a) (e b))) (sym (e-none 7 (omega arith) n7a n7b))
-        ∙ ap (λ t. bit_xor t (e 7)) (sym (plain-two e a b la lb ne none)) ∙ p-none in
+        ∙ ap (λ t. bit_xor t (e 7)) (sym (sum-two 7 e a b la lb ne none)) ∙ p-none in
+        let alike : e a ≡ e b = same-terms (e a) (e b) p_is in
         let q_is : bit_xor (times (power_of_two a) (e a)) (times pb (e b)) ≡ 0 =
-        sym (xor_zero_r (bit_xor (times (power_of_two a) (e a)) (times pb (e b)))) ∙ ap (bit_xor (bit_xor (times (power_of_two a) (e a)) (times pb (e b)))) (sym (e-none 8 (omega arith) n8a n8b))
-        ∙ ap (λ t. bit_xor t (e 8)) (sym (weighted-two e a b la lb ne none)) ∙ q-none in
+        sym (weighted-two e a b la lb ne none) ∙ same-terms (weighted e) (e 8) q-none ∙ e-none 8 (omega arith) n8a n8b in
         let sum = bit_xor (power_of_two a) pb in
         let ls : sum < 256 = xor_lt 8 (power_of_two a) pb (power-fits a) (power-fits b) in
         let inv = has_inverse sum (sum-positive a b la lb ne) ls in
-        let by_p = times (power_of_two a) inv.0 in
-        let lp : by_p < 256 = times-fits (power_of_two a) inv.0 (power-fits a) in
-        let p_factor : times by_p sum ≡ power_of_two a =
-        times-assoc (power_of_two a) inv.0 sum (power-fits a) inv.1 ls ∙ ap (times (power_of_two a)) inv.2 ∙ times-one (power_of_two a) in
-        let solved : bit_xor (times by_p (bit_xor (e a) (e b))) (times inv.0 (bit_xor (times (power_of_two a) (e a)) (times pb (e b)))) ≡ e b =
-        two-solved (power_of_two a) pb by_p inv.0 (e a) (e b) (power-fits a) (power-fits b) lp inv.1 (e-fits a (omega arith)) (e-fits b (omega arith)) p_factor inv.2 in
-        let eb : e b ≡ 0 =
-        sym solved ∙ ap (λ x. bit_xor (times by_p x) (times inv.0 (bit_xor (times (power_of_two a) (e a)) (times pb (e b))))) p_is
-        ∙ ap (λ x. bit_xor (times by_p 0) (times inv.0 x)) q_is
-        ∙ ap (λ x. bit_xor x (times inv.0 0)) (times-zero by_p) ∙ ap (bit_xor 0) (times-zero inv.0) in
-        (same-terms (e a) (e b) p_is ∙ eb, eb)
+        let product : times sum (e b) ≡ 0 =
+        times-xor_left (power_of_two a) pb (e b) (power-fits a) (power-fits b)
+        ∙ ap (λ t. bit_xor (times (power_of_two a) t) (times pb (e b))) (sym alike) ∙ q_is in
+        let eb : e b ≡ 0 = sym (solved sum inv.0 (e b) ls inv.1 (e-fits b (omega arith)) inv.2) ∙ ap (times inv.0) product ∙ times-zero inv.0 in
+        (alike ∙ eb, eb)
 
     -- data and P
     data-and-p : b ≡ 7 → (e a ≡ 0) × (e b ≡ 0)
@@ -90,13 +87,9 @@ module _ (o w : ℕ → ℕ) (first : IsColumn o) (second : IsColumn w) (a b : �
         let n8a : 8 ≢ a = omega arith in
         let n8b : 8 ≢ b = omega arith in
         let q_is : times (power_of_two a) (e a) ≡ 0 =
-        sym (xor_zero_r (times (power_of_two a) (e a))) ∙ ap (bit_xor (times (power_of_two a) (e a))) (sym (e-none 8 (omega arith) n8a n8b))
-        ∙ ap (λ t. bit_xor t (e 8)) (sym (weighted-one e a la none)) ∙ q-none in
+        sym (weighted-one e a la none) ∙ same-terms (weighted e) (e 8) q-none ∙ e-none 8 (omega arith) n8a n8b in
         let inv = has_inverse (power_of_two a) (power-positive a la) (power-fits a) in
-        let ea : e a ≡ 0 =
-        sym (one-solved (power_of_two a) inv.0 0 (e a) (power-fits a) inv.1 (e-fits a (omega arith)) inv.2)
-        ∙ ap (λ x. bit_xor (times 0 0) (times inv.0 x)) q_is ∙ ap (λ x. bit_xor (times 0 0) x) (times-zero inv.0)
-        ∙ ap (λ x. bit_xor x 0) (times-zero 0) in
+        let ea : e a ≡ 0 = sym (solved (power_of_two a) inv.0 (e a) (power-fits a) inv.1 (e-fits a (omega arith)) inv.2) ∙ ap (times inv.0) q_is ∙ times-zero inv.0 in
         let p_is : bit_xor (e a) (e 7) ≡ 0 = ap (λ t. bit_xor t (e 7)) (sym (plain-one e a la none)) ∙ p-none in
         (ea, ap e is ∙ sym (same-terms (e a) (e 7) p_is) ∙ ea)
 

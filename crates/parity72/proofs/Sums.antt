@@ -1,13 +1,14 @@
 -- Sums over the shards.
-use Rattle.std.proofs.Common.{◌≡◌, ◌≢◌, ℕ, zero, suc, ◌+◌, ◌-◌, ◌<◌, ◌≤◌, true, ◌||◌, eqb, ltb, refl, ap, sym, ◌∙◌, arith, bit_xor, inl, inr}
+use Rattle.std.proofs.Common.{◌≡◌, ◌≢◌, ℕ, zero, suc, ◌+◌, ◌-◌, ◌<◌, ◌≤◌, true, ◌||◌, eqb, ltb, refl, ap, sym, ◌∙◌, arith, bit_xor, inl, inr, subst}
 use Rattle.std.proofs.lemmas.Bool.{cases_lt}
-use lib.Bits.{xor_zero_r, xor_comm, xor_assoc, xor_lt}
+use lib.Bits.{xor_zero_l, xor_zero_r, xor_self, xor_comm, xor_assoc, xor_lt}
 use Rattle.gf256.specs.Field.{doubled, times, power_of_two}
 use Rattle.gf256.proofs.Linear.{four, doubled-fits, doubled-xor, times-fits}
 use Rattle.std.proofs.lemmas.Bool.Decides.{nat_tests}
 use Rattle.gf256.proofs.Checks.{all_below, all_below-at}
 use Rattle.gf256.proofs.Laws.{two-times, one-times, times-assoc}
 use Rattle.parity72.specs.Parity.{sum_below}
+use Rattle.parity72.specs.Recovery.{weight_of}
 
 pub sum-same : (n : ℕ) (f g : ℕ → ℕ) → ((i : ℕ) → i < n → f i ≡ g i) → sum_below f n ≡ sum_below g n
 unfolding sum_below
@@ -134,14 +135,14 @@ powers_from-next d i n fits =
     (λ m lt. power-next m (d (i + suc m)) (fits (i + suc m) (omega arith) (omega arith)) ∙ ap (λ x. doubled (times (power_of_two m) x)) (along d i m))
     ∙ doubled-sum n (λ m. times (power_of_two m) (d (suc i + m))) (λ m lt. times-fits (power_of_two m) (d (suc i + m)) (power-fits m)))
 
--- ---- the loop from the last shard down
-pub sum_from-down : (d : ℕ → ℕ) (i : ℕ) → 0 < i → i ≤ 7 → sum_from d (i - 1) (7 - (i - 1)) ≡ bit_xor (d (i - 1)) (sum_from d i (7 - i))
-sum_from-down d i pos le =
-    let left : 7 - (i - 1) ≡ suc (7 - i) = omega arith in
+-- ---- the loops from the last shard down
+pub sum_from-down : (n : ℕ) (d : ℕ → ℕ) (i : ℕ) → 0 < i → i ≤ n → sum_from d (i - 1) (n - (i - 1)) ≡ bit_xor (d (i - 1)) (sum_from d i (n - i))
+sum_from-down n d i pos le =
+    let left : n - (i - 1) ≡ suc (n - i) = omega arith in
     let up : suc (i - 1) ≡ i = omega arith in
-    ap (sum_from d (i - 1)) left ∙ sum_from-next d (i - 1) (7 - i) ∙ ap (λ j. bit_xor (d (i - 1)) (sum_from d j (7 - i))) up
+    ap (sum_from d (i - 1)) left ∙ sum_from-next d (i - 1) (n - i) ∙ ap (λ j. bit_xor (d (i - 1)) (sum_from d j (n - i))) up
 
-pub powers_from-down : (d : ℕ → ℕ) (i : ℕ) → 0 < i → i ≤ 7 → ((m : ℕ) → i - 1 ≤ m → m < 7 → d m < 256) → powers_from d (i - 1) (7 - (i - 1)) ≡ bit_xor (d (i - 1)) (doubled (powers_from d i (7 - i)))
+powers_from-down : (d : ℕ → ℕ) (i : ℕ) → 0 < i → i ≤ 7 → ((m : ℕ) → i - 1 ≤ m → m < 7 → d m < 256) → powers_from d (i - 1) (7 - (i - 1)) ≡ bit_xor (d (i - 1)) (doubled (powers_from d i (7 - i)))
 powers_from-down d i pos le fits =
     let left : 7 - (i - 1) ≡ suc (7 - i) = omega arith in
     let up : suc (i - 1) ≡ i = omega arith in
@@ -149,24 +150,70 @@ powers_from-down d i pos le fits =
     ∙ powers_from-next d (i - 1) (7 - i) (λ m from to. fits m from (omega arith))
     ∙ ap (λ j. bit_xor (d (i - 1)) (doubled (powers_from d j (7 - i)))) up
 
-pub sum_from-none : (d : ℕ → ℕ) → sum_from d 7 (7 - 7) ≡ 0
+pub sum_from-none : (d : ℕ → ℕ) → sum_from d 8 (8 - 8) ≡ 0
 unfolding sum_below
 sum_from-none d = refl
 
-pub powers_from-none : (d : ℕ → ℕ) → powers_from d 7 (7 - 7) ≡ 0
+pub sum_from-last : (d : ℕ → ℕ) → sum_from d 6 (7 - 6) ≡ d 6
 unfolding sum_below
-powers_from-none d = refl
+sum_from-last d = xor_zero_l (d 6)
 
-pub sum_from-all : (d : ℕ → ℕ) (i : ℕ) → i ≤ 0 → sum_from d i (7 - i) ≡ sum_below d 7
-sum_from-all d i le =
+pub sum_from-all : (n : ℕ) (d : ℕ → ℕ) (i : ℕ) → i ≤ 0 → sum_from d i (n - i) ≡ sum_below d n
+sum_from-all n d i le =
     let z : i ≡ 0 = omega arith in
-    ap (λ j. sum_from d j (7 - j)) z ∙ sum-same 7 (λ m. d (0 + m)) d (λ m lt. let e : 0 + m ≡ m = omega arith in ap d e)
+    let all : n - 0 ≡ n = omega arith in
+    ap (λ j. sum_from d j (n - j)) z ∙ ap (sum_from d 0) all ∙ sum-same n (λ m. d (0 + m)) d (λ m lt. let e : 0 + m ≡ m = omega arith in ap d e)
 
-pub powers_from-all : (d : ℕ → ℕ) (i : ℕ) → i ≤ 0 → powers_from d i (7 - i) ≡ sum_below (λ m. times (power_of_two m) (d m)) 7
+powers_from-all : (d : ℕ → ℕ) (i : ℕ) → i ≤ 0 → powers_from d i (7 - i) ≡ sum_below (λ m. times (power_of_two m) (d m)) 7
 powers_from-all d i le =
     let z : i ≡ 0 = omega arith in
     ap (λ j. powers_from d j (7 - j)) z
     ∙ sum-same 7 (λ m. times (power_of_two m) (d (0 + m))) (λ m. times (power_of_two m) (d m)) (λ m lt. let e : 0 + m ≡ m = omega arith in ap (λ j. times (power_of_two m) (d j)) e)
+
+-- what Horner's rule adds by n doublings, where each adds 29
+added : ℕ → ℕ
+added zero = 0
+added (suc n) = bit_xor (doubled (added n)) 29
+
+added-fits : (n : ℕ) → added n < 256
+unfolding added
+added-fits zero = omega arith
+added-fits (suc n) = xor_lt 8 (doubled (added n)) 29 (doubled-fits (added n) (added-fits n)) (omega arith)
+
+added-next : (n : ℕ) → added (suc n) ≡ bit_xor (doubled (added n)) 29
+unfolding added
+added-next n = refl
+
+-- the sum over the shards from i on by Horner's rule, and what is added to it
+pub horner_from : (ℕ → ℕ) → ℕ → ℕ
+horner_from d i = bit_xor (powers_from d i (7 - i)) (added (6 - i))
+
+pub horner-last : (d : ℕ → ℕ) → d 6 < 256 → d 6 ≡ horner_from d 6
+unfolding horner_from sum_below added
+horner-last d lt = sym (xor_zero_r (bit_xor 0 (times (power_of_two 0) (d 6))) ∙ xor_zero_l (times (power_of_two 0) (d 6)) ∙ first-term (d 6) lt)
+
+pub horner-down : (d : ℕ → ℕ) (i q : ℕ) → 0 < i → i ≤ 6 → ((m : ℕ) → i - 1 ≤ m → m < 7 → d m < 256) → q ≡ horner_from d i → bit_xor (d (i - 1)) (bit_xor (doubled q) 29) ≡ horner_from d (i - 1)
+unfolding horner_from
+horner-down d i q pos le fits is =
+    let p = powers_from d i (7 - i) in
+    let a = added (6 - i) in
+    let p_fits : p < 256 = sum-fits (7 - i) (λ m. times (power_of_two m) (d (i + m))) (λ m lt. times-fits (power_of_two m) (d (i + m)) (power-fits m)) in
+    let more : suc (6 - i) ≡ 6 - (i - 1) = omega arith in
+    ap (λ q. bit_xor (d (i - 1)) (bit_xor (doubled q) 29)) is
+    ∙ ap (λ x. bit_xor (d (i - 1)) (bit_xor x 29)) (doubled-xor p a p_fits (added-fits (6 - i)))
+    ∙ ap (bit_xor (d (i - 1))) (xor_assoc (doubled p) (doubled a) 29 ∙ ap (bit_xor (doubled p)) (sym (added-next (6 - i)) ∙ ap added more))
+    ∙ sym (xor_assoc (d (i - 1)) (doubled p) (added (6 - (i - 1))))
+    ∙ ap (λ x. bit_xor x (added (6 - (i - 1)))) (sym (powers_from-down d i pos (omega arith) fits))
+
+pub horner-all : (d : ℕ → ℕ) (i q : ℕ) → i ≤ 0 → q ≡ horner_from d i → bit_xor q 241 ≡ sum_below (λ m. times (power_of_two m) (d m)) 7
+unfolding horner_from added
+horner-all d i q le is =
+    let z : i ≡ 0 = omega arith in
+    let p = powers_from d i (7 - i) in
+    ap (λ q. bit_xor q 241) is
+    ∙ ap (λ j. bit_xor (bit_xor p (added (6 - j))) 241) z
+    ∙ xor_assoc p 241 241 ∙ ap (bit_xor p) (xor_self 241) ∙ xor_zero_r p
+    ∙ powers_from-all d i le
 
 -- ---- powers of two that are not 0
 powers-apart : all_below (λ i. all_below (λ j. eqb i j || ltb 0 (bit_xor (power_of_two i) (power_of_two j))) 7) 7 ≡ true
@@ -187,3 +234,29 @@ sum-positive i j li lj ne =
     let h = all_below-at (λ j. eqb i j || ltb 0 (bit_xor (power_of_two i) (power_of_two j))) 7
     (all_below-at (λ i. all_below (λ j. eqb i j || ltb 0 (bit_xor (power_of_two i) (power_of_two j))) 7) 7 powers-apart i li) j lj in
     grind (arith, nat_tests)
+
+-- ---- what Q multiplies a shard by
+pub weight-data : (a : ℕ) → a < 7 → weight_of a ≡ power_of_two a
+weight-data a lt = grind (arith, nat_tests)
+
+pub weight-p : (a : ℕ) → 7 ≤ a → weight_of a ≡ 0
+weight-p a le = grind (arith, nat_tests)
+
+pub weight-fits : (a : ℕ) → weight_of a < 256
+weight-fits a =
+    elim (cases_lt a 7) [
+      | inl l ↦ subst (λ x. x < 256) (sym (weight-data a l)) (power-fits a)
+      | inr r ↦ subst (λ x. x < 256) (sym (weight-p a r)) (omega arith)
+    ]
+
+-- two weights are apart
+pub weights-positive : (a b : ℕ) → b < 7 → a ≢ b → 0 < bit_xor (weight_of a) (power_of_two b)
+weights-positive a b lb ne =
+    elim (cases_lt a 7) [
+      | inl l ↦ subst (λ x. 0 < bit_xor x (power_of_two b)) (sym (weight-data a l)) (sum-positive a b l lb ne)
+      | inr r ↦ subst (λ x. 0 < bit_xor x (power_of_two b)) (sym (weight-p a r)) (subst (λ x. 0 < x) (sym (xor_zero_l (power_of_two b))) (power-positive b lb))
+    ]
+
+pub sum-eight : (f : ℕ → ℕ) → sum_below f 8 ≡ bit_xor (sum_below f 7) (f 7)
+unfolding sum_below
+sum-eight f = refl

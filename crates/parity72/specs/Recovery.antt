@@ -1,50 +1,69 @@
 -- What it is to recover lost shards.
-use Rattle.std.specs.Prelude.{◌==◌, if◌then◌else◌, ◌≡◌, ◌≢◌, ◌⊎◌, ℕ, ◌<◌, ◌≤◌, List, bit_xor, length}
+use Rattle.std.specs.Prelude.{◌==◌, nat_lt, if◌then◌else◌, ◌≡◌, ◌≢◌, ◌⊎◌, ℕ, ◌<◌, ◌≤◌, List, bit_xor, length}
 use Rattle.std.specs.List.{Contains}
 use Rattle.gf256.specs.Field.{power_of_two, times}
-use Rattle.parity72.specs.Parity.{shard_of, byte_of, sum_below, p_of, q_of, IsCodeword, IsRead}
+use Rattle.parity72.specs.Parity.{shard_of, byte_of, sum_below, p_of, q_of, IsCodeword}
 
 -- the shards are those of `whole` at each number but the lost ones
 abbrev pub AgreesOutside : List ℕ → List (List ℕ) → List (List ℕ) → Type 0
 AgreesOutside lost shards whole = (i : ℕ) → i < 9 → ¬ Contains lost i → shard_of shards i ≡ shard_of whole i
 
--- a codeword that the old shards agree with outside the lost numbers, the new ones agree with outside those that are left
-pub record Restores (lost left : List ℕ) (old new : List (List ℕ)) : Type 0 where
+-- a codeword that the old shards agree with outside the lost numbers, the new ones agree with
+pub record Restores (lost : List ℕ) (old new : List (List ℕ)) : Type 0 where
   pub same_count : length new ≡ length old
-  pub agrees : (whole : List (List ℕ)) → IsCodeword whole → AgreesOutside lost old whole → AgreesOutside left new whole
+  pub agrees : (whole : List (List ℕ)) → IsCodeword whole → AgreesOutside lost old whole → (i : ℕ) → i < 9 → shard_of new i ≡ shard_of whole i
 
 -- the bytes at k, one of each shard
 abbrev pub column_of : List (List ℕ) → ℕ → ℕ → ℕ
 column_of shards k = λ i. byte_of shards i k
 
+-- the sum of the data bytes of a column, each times its power of two
+abbrev pub weighted : (ℕ → ℕ) → ℕ
+weighted column = sum_below (λ i. times (power_of_two i) (column i)) 7
+
 -- what P of a column is wrong by, where the data bytes are right: the sum of the data bytes and P
 abbrev pub p_syndrome : (ℕ → ℕ) → ℕ
 p_syndrome column = bit_xor (sum_below column 7) (column 7)
 
--- what Q of a column is wrong by, where the data bytes are right
-abbrev pub q_syndrome : (ℕ → ℕ) → ℕ
-q_syndrome column = bit_xor (sum_below (λ i. times (power_of_two i) (column i)) 7) (column 8)
-
--- x added to byte a of a column
-abbrev pub with_added : ℕ → ℕ → (ℕ → ℕ) → ℕ → ℕ
-with_added a x column i = if i == a then bit_xor (column i) x else column i
+-- a column with x as its byte a
+abbrev pub with_byte : ℕ → ℕ → (ℕ → ℕ) → ℕ → ℕ
+with_byte a x column i = if i == a then x else column i
 
 -- P's syndrome added to byte a
 abbrev pub with_p_syndrome : ℕ → (ℕ → ℕ) → ℕ → ℕ
-with_p_syndrome a column = with_added a (p_syndrome column) column
+with_p_syndrome a column = with_byte a (bit_xor (column a) (p_syndrome column)) column
 
--- the sum of P's syndrome times by_p and Q's times by_q
-abbrev pub error_of : ℕ → ℕ → (ℕ → ℕ) → ℕ
-error_of by_p by_q column = bit_xor (times by_p (p_syndrome column)) (times by_q (q_syndrome column))
+-- that, and as Q the weighted sum and P's syndrome times the factor
+abbrev pub with_p_and_q : ℕ → ℕ → (ℕ → ℕ) → ℕ → ℕ
+with_p_and_q a factor column = with_byte 8 (bit_xor (weighted column) (times factor (p_syndrome column))) (with_p_syndrome a column)
 
--- that error added to byte b, and P's syndrome and the error to byte a
-abbrev pub with_errors : ℕ → ℕ → ℕ → ℕ → (ℕ → ℕ) → ℕ → ℕ
-with_errors a b by_p by_q column =
-    with_added a (bit_xor (p_syndrome column) (error_of by_p by_q column)) (with_added b (error_of by_p by_q column) column)
+-- a column with nothing as its bytes a and b
+abbrev pub without : ℕ → ℕ → (ℕ → ℕ) → ℕ → ℕ
+without a b column = with_byte a 0 (with_byte b 0 column)
+
+-- what bytes a and b add up to by P: the sum of P and the data bytes but these
+abbrev pub both_of : ℕ → ℕ → (ℕ → ℕ) → ℕ
+both_of a b column = sum_below (without a b column) 8
+
+-- a column with that as byte a, and nothing as byte b
+abbrev pub filled : ℕ → ℕ → (ℕ → ℕ) → ℕ → ℕ
+filled a b column = with_byte a (both_of a b column) (without a b column)
+
+-- what byte b is then: Q's syndrome times the factor
+abbrev pub second_of : ℕ → ℕ → ℕ → (ℕ → ℕ) → ℕ
+second_of a b by column = times by (bit_xor (weighted (filled a b column)) (column 8))
+
+-- a column with that as byte b, and as byte a what the two add up to and that
+abbrev pub with_pair : ℕ → ℕ → ℕ → (ℕ → ℕ) → ℕ → ℕ
+with_pair a b by column = with_byte a (bit_xor (both_of a b column) (second_of a b by column)) (with_byte b (second_of a b by column) column)
+
+-- what Q multiplies data byte a by, and 0 for P
+abbrev pub weight_of : ℕ → ℕ
+weight_of a = if nat_lt a 7 then power_of_two a else 0
 
 -- each column from byte `from` up to `to` is what `fix` makes of it, and the others are what they were
 pub record Fixes (fix : (ℕ → ℕ) → ℕ → ℕ) (old new : List (List ℕ)) (from to : ℕ) : Type 0 where
-  pub was_read : IsRead 7 old from to
+  pub sizes : (i : ℕ) → i < length old → from < to → length (shard_of old i) ≡ 4096
   pub fixed : (i k : ℕ) → from ≤ k → k < to → byte_of new i k ≡ fix (column_of old k) i
   pub outside : (i k : ℕ) → (k < from) ⊎ (to ≤ k) → byte_of new i k ≡ byte_of old i k
   pub same_count : length new ≡ length old

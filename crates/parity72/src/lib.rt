@@ -5,10 +5,12 @@
 mod columns;
 mod deciding;
 mod encoding;
+mod layout;
 mod recovery;
 #[cfg(test)]
 mod tests;
 
 pub use deciding::any_seven_decide;
 pub use encoding::encode;
+pub use layout::{DATA_SHARDS, SHARD_BYTES, SHARDS};
 pub use recovery::recover;

@@ -1,171 +1,254 @@
-// Lost shards, by the syndromes of what is there.
+// Lost shards, by what P and Q tell of them.
 
-ghost use Rattle.std.specs.Prelude.{◌≡◌, ◌≢◌, ℕ, ◌+◌, ◌<◌, ◌≤◌, ◌∷◌, [], List, bit_xor, All, AllPairs, length, slice_index};
+ghost use Rattle.std.specs.Prelude.{◌≡◌, ◌≢◌, ℕ, ◌+◌, ◌<◌, ◌≤◌, ◌∷◌, [], List, All, AllPairs};
 ghost use Rattle.parity72.specs.Parity.{IsCodeword};
-ghost use Rattle.parity72.specs.Recovery.{AgreesOutside, Fixes, Restores, with_errors, with_p_syndrome};
+ghost use Rattle.parity72.specs.Recovery.{AgreesOutside, Fixes, Restores, weight_of, with_p_and_q, with_p_syndrome, with_pair};
 
-use crate::columns::{p_at, q_at};
+use crate::columns::{both_at, filled_q_at, parities_at};
 use crate::encoding::encode_again;
+use crate::layout::{BLOCKS, DATA_SHARDS, P, Q, SHARD_BYTES, SHARDS};
 use arrayvec::ArrayVec;
-use gf256::{Products, add_lanes, div, lanes_at, power_of_two, put_lanes};
-use std::simd::prelude::*;
+use gf256::{LANES, Products, add_lanes, div, lanes_at, power_of_two, put_lanes};
 
-// Adds `lanes` to the 32 bytes of `shard` from `at` on.
+// The data shards, as a number of a lost shard.
+const DATA: u8 = DATA_SHARDS as u8;
+
+// P, as a number of a lost shard.
+const P_NUMBER: u8 = P as u8;
+
+// Adds P's syndrome to the 64 bytes of shard `a` from `at` on.
 #[inline(always)]
-fn add_at(lanes: u8x32, shard: &mut [u8], at: usize)
-    requires { at + 32 ≤ length shard.old }
-    ensures below { (k : ℕ) → k < at → slice_index shard.new k ≡ slice_index shard.old k }
-    ensures here { (k : ℕ) → k < 32
-        → slice_index shard.new (at + k) ≡ bit_xor (slice_index shard.old (at + k)) (slice_index lanes k) }
-    ensures above { (k : ℕ) → at + 32 ≤ k → slice_index shard.new k ≡ slice_index shard.old k }
+fn correct_block_by_p(shards: &mut [[u8; SHARD_BYTES]; SHARDS], a: usize, at: usize)
+    requires room { at + LANES ≤ SHARD_BYTES }
+    requires a_in { a < SHARDS }
+    ensures { Fixes (with_p_syndrome a) shards.old shards.new at (at + LANES) }
 {
-    let sum = add_lanes(lanes_at(shard, at), lanes);
-    put_lanes(sum, shard, at);
-}
-
-// Adds P's syndrome to the 32 bytes of shard `a` from `at` on.
-#[inline(always)]
-fn add_p_syndrome(shards: &mut [[u8; 4096]; 9], a: usize, at: usize)
-    requires room { at + 32 ≤ 4096 }
-    requires a_in { a < 9 }
-    ensures { Fixes (with_p_syndrome a) shards.old shards.new at (at + 32) }
-{
-    let syndrome = add_lanes(p_at(shards, at), lanes_at(&shards[7], at));
-    add_at(syndrome, &mut shards[a], at);
-}
-
-// Corrects the 32 bytes of two shards from `at` on: adds to `b` the sum of the syndromes times the
-// factors, and to `a` that and P's syndrome.
-#[inline(always)]
-fn correct_block(
-    shards: &mut [[u8; 4096]; 9],
-    a: usize,
-    b: usize,
-    by_p: &Products,
-    by_q: &Products,
-    at: usize,
-)
-    requires room { at + 32 ≤ 4096 }
-    requires a_in { a < 9 }
-    requires b_in { b < 9 }
-    requires apart { a ≢ b }
-    ensures { Fixes (with_errors a b by_p.now.factor by_q.now.factor) shards.old shards.new at (at + 32) }
-{
-    let p_syndrome = add_lanes(p_at(shards, at), lanes_at(&shards[7], at));
-    let q_syndrome = add_lanes(q_at(shards, at), lanes_at(&shards[8], at));
-    let error = add_lanes(by_p.times_lanes(p_syndrome), by_q.times_lanes(q_syndrome));
-    add_at(error, &mut shards[b], at);
-    add_at(add_lanes(p_syndrome, error), &mut shards[a], at);
-}
-
-// Corrects shards `a` and `b` by P and Q, in one pass over the nine.
-fn correct(shards: &mut [[u8; 4096]; 9], a: usize, b: usize, by_p: u8, by_q: u8)
-    requires a_in { a < 9 }
-    requires b_in { b < 9 }
-    requires apart { a ≢ b }
-    ensures { Fixes (with_errors a b by_p by_q) shards.old shards.new 0 4096 }
-{
-    let p_products = Products::of(by_p);
-    let q_products = Products::of(by_q);
-    for block in 0..128usize {
-        correct_block(shards, a, b, &p_products, &q_products, block * 32);
-    }
+    let (p, _) = parities_at(shards, at);
+    let syndrome = add_lanes(p, lanes_at(&shards[P], at));
+    let corrected = add_lanes(lanes_at(&shards[a], at), syndrome);
+    put_lanes(corrected, &mut shards[a], at);
 }
 
 // Corrects shard `a` by P, in one pass over eight.
-fn correct_by_p(shards: &mut [[u8; 4096]; 9], a: usize)
-    requires { a < 9 }
-    ensures { Fixes (with_p_syndrome a) shards.old shards.new 0 4096 }
+fn correct_by_p(shards: &mut [[u8; SHARD_BYTES]; SHARDS], a: usize)
+    requires { a < SHARDS }
+    ensures { Fixes (with_p_syndrome a) shards.old shards.new 0 SHARD_BYTES }
 {
-    for block in 0..128usize {
-        add_p_syndrome(shards, a, block * 32);
+    for block in 0..BLOCKS {
+        correct_block_by_p(shards, a, block * LANES);
     }
 }
 
-// Two data shards: with P' and Q' the syndromes, the second is wrong by
-// (2^first P' + Q') / (2^first + 2^second), and the first by P' and that.
-fn recover_two_data(shards: &mut [[u8; 4096]; 9], first: u8, second: u8)
-    requires first_in { first < 7 }
-    requires second_in { second < 7 }
+// Corrects the 64 bytes of data shard `a` from `at` on by P, and writes those of Q: what Q is of the
+// shards as they were, and P's syndrome times two to the a, which `power` holds.
+#[inline(always)]
+fn correct_block_and_q(
+    shards: &mut [[u8; SHARD_BYTES]; SHARDS],
+    a: usize,
+    power: &Products,
+    at: usize,
+)
+    requires room { at + LANES ≤ SHARD_BYTES }
+    requires a_in { a < DATA_SHARDS }
+    ensures { Fixes (with_p_and_q a power.now.factor) shards.old shards.new at (at + LANES) }
+{
+    let (p, q) = parities_at(shards, at);
+    let syndrome = add_lanes(p, lanes_at(&shards[P], at));
+    let corrected = add_lanes(lanes_at(&shards[a], at), syndrome);
+    let q = add_lanes(q, power.times_lanes(syndrome));
+    put_lanes(corrected, &mut shards[a], at);
+    put_lanes(q, &mut shards[Q], at);
+}
+
+// Corrects data shard `a` by P and writes Q, in one pass over nine.
+fn correct_and_q(shards: &mut [[u8; SHARD_BYTES]; SHARDS], a: usize, power: u8)
+    requires { a < DATA_SHARDS }
+    ensures { Fixes (with_p_and_q a power) shards.old shards.new 0 SHARD_BYTES }
+{
+    let products = Products::of(power);
+    for block in 0..BLOCKS {
+        correct_block_and_q(shards, a, &products, block * LANES);
+    }
+}
+
+// Writes the 64 bytes of shards `a` and `b` from `at` on. By P they add up to `both`. With `both` in the
+// place of `a` and nothing in that of `b`, each is wrong by what `b` was, so that Q's syndrome is a
+// multiple of that, and `by` undoes it.
+#[inline(always)]
+fn correct_block(
+    shards: &mut [[u8; SHARD_BYTES]; SHARDS],
+    a: usize,
+    b: usize,
+    by: &Products,
+    at: usize,
+)
+    requires room { at + LANES ≤ SHARD_BYTES }
+    requires a_in { a ≤ P }
+    requires b_in { b < DATA_SHARDS }
+    ensures { Fixes (with_pair a b by.now.factor) shards.old shards.new at (at + LANES) }
+{
+    let both = both_at(shards, a, b, at);
+    let q = filled_q_at(shards, a, b, both, at);
+    let syndrome = add_lanes(q, lanes_at(&shards[Q], at));
+    let second = by.times_lanes(syndrome);
+    put_lanes(second, &mut shards[b], at);
+    put_lanes(add_lanes(both, second), &mut shards[a], at);
+}
+
+// Writes shards `a` and `b`, in one pass over the nine.
+#[inline(always)]
+fn correct(shards: &mut [[u8; SHARD_BYTES]; SHARDS], a: usize, b: usize, by: u8)
+    requires a_in { a ≤ P }
+    requires b_in { b < DATA_SHARDS }
+    ensures { Fixes (with_pair a b by) shards.old shards.new 0 SHARD_BYTES }
+{
+    let products = Products::of(by);
+    for block in 0..BLOCKS {
+        correct_block(shards, a, b, &products, block * LANES);
+    }
+}
+
+// What Q multiplies data shard `a` by, and 0 for P.
+#[inline(always)]
+fn weight_of(a: u8) -> u8
+    ensures { result ≡ weight_of a }
+{
+    if a < DATA { power_of_two(a) } else { 0 }
+}
+
+// A data shard `b`, and another or P.
+#[inline(always)]
+fn recover_pair(shards: &mut [[u8; SHARD_BYTES]; SHARDS], a: u8, b: u8)
+    requires a_in { a ≤ P }
+    requires b_in { b < DATA_SHARDS }
+    requires apart { a ≢ b }
+    ensures { Restores (a ∷ b ∷ []) shards.old shards.new }
+{
+    let by = div(1, weight_of(a) ^ power_of_two(b));
+    correct(shards, a as usize, b as usize, by);
+}
+
+// The same, with a loop for each pair whose first is the smaller or P: where the compiler knows the two
+// numbers, it leaves out what is lost and the tests for it, and computes the factor.
+fn recover_this_pair(shards: &mut [[u8; SHARD_BYTES]; SHARDS], a: u8, b: u8)
+    requires a_in { a ≤ P }
+    requires b_in { b < DATA_SHARDS }
+    requires apart { a ≢ b }
+    ensures { Restores (a ∷ b ∷ []) shards.old shards.new }
+{
+    match (a, b) {
+        (0, 1) => recover_pair(shards, 0, 1),
+        (0, 2) => recover_pair(shards, 0, 2),
+        (0, 3) => recover_pair(shards, 0, 3),
+        (0, 4) => recover_pair(shards, 0, 4),
+        (0, 5) => recover_pair(shards, 0, 5),
+        (0, 6) => recover_pair(shards, 0, 6),
+        (1, 2) => recover_pair(shards, 1, 2),
+        (1, 3) => recover_pair(shards, 1, 3),
+        (1, 4) => recover_pair(shards, 1, 4),
+        (1, 5) => recover_pair(shards, 1, 5),
+        (1, 6) => recover_pair(shards, 1, 6),
+        (2, 3) => recover_pair(shards, 2, 3),
+        (2, 4) => recover_pair(shards, 2, 4),
+        (2, 5) => recover_pair(shards, 2, 5),
+        (2, 6) => recover_pair(shards, 2, 6),
+        (3, 4) => recover_pair(shards, 3, 4),
+        (3, 5) => recover_pair(shards, 3, 5),
+        (3, 6) => recover_pair(shards, 3, 6),
+        (4, 5) => recover_pair(shards, 4, 5),
+        (4, 6) => recover_pair(shards, 4, 6),
+        (5, 6) => recover_pair(shards, 5, 6),
+        (7, 0) => recover_pair(shards, 7, 0),
+        (7, 1) => recover_pair(shards, 7, 1),
+        (7, 2) => recover_pair(shards, 7, 2),
+        (7, 3) => recover_pair(shards, 7, 3),
+        (7, 4) => recover_pair(shards, 7, 4),
+        (7, 5) => recover_pair(shards, 7, 5),
+        (7, 6) => recover_pair(shards, 7, 6),
+        _ => recover_pair(shards, a, b),
+    }
+}
+
+// Two data shards.
+fn recover_two_data(shards: &mut [[u8; SHARD_BYTES]; SHARDS], first: u8, second: u8)
+    requires first_in { first < DATA_SHARDS }
+    requires second_in { second < DATA_SHARDS }
     requires apart { first ≢ second }
-    ensures { Restores (first ∷ second ∷ []) [] shards.old shards.new }
+    ensures { Restores (first ∷ second ∷ []) shards.old shards.new }
 {
-    let power = power_of_two(first);
-    let sum = power ^ power_of_two(second);
-    let by_p = div(power, sum);
-    let by_q = div(1, sum);
-    correct(shards, first as usize, second as usize, by_p, by_q);
+    if first < second {
+        recover_this_pair(shards, first, second);
+    } else {
+        recover_this_pair(shards, second, first);
+    }
 }
 
-// A data shard and P: the data shard is wrong by Q' / 2^i, and P by P' and that.
-fn recover_data_and_p(shards: &mut [[u8; 4096]; 9], i: u8)
-    requires { i < 7 }
-    ensures { Restores (i ∷ 7 ∷ []) [] shards.old shards.new }
+// A data shard and P.
+fn recover_data_and_p(shards: &mut [[u8; SHARD_BYTES]; SHARDS], i: u8)
+    requires { i < DATA_SHARDS }
+    ensures { Restores (i ∷ 7 ∷ []) shards.old shards.new }
 {
-    let by_q = div(1, power_of_two(i));
-    correct(shards, 7, i as usize, 0, by_q);
+    recover_this_pair(shards, P_NUMBER, i);
 }
 
-// A data shard by P, whatever Q holds.
-fn recover_data(shards: &mut [[u8; 4096]; 9], i: u8)
-    requires { i < 7 }
-    ensures alone { Restores (i ∷ []) [] shards.old shards.new }
-    ensures beside_q { Restores (i ∷ 8 ∷ []) (8 ∷ []) shards.old shards.new }
+// A data shard by P.
+fn recover_data(shards: &mut [[u8; SHARD_BYTES]; SHARDS], i: u8)
+    requires { i < DATA_SHARDS }
+    ensures { Restores (i ∷ []) shards.old shards.new }
 {
     correct_by_p(shards, i as usize);
 }
 
+// A data shard and Q.
+fn recover_data_and_q(shards: &mut [[u8; SHARD_BYTES]; SHARDS], i: u8)
+    requires { i < DATA_SHARDS }
+    ensures { Restores (i ∷ 8 ∷ []) shards.old shards.new }
+{
+    correct_and_q(shards, i as usize, power_of_two(i));
+}
+
 // P and Q.
-fn recover_parities(shards: &mut [[u8; 4096]; 9])
-    ensures { Restores (7 ∷ 8 ∷ []) [] shards.old shards.new }
+fn recover_parities(shards: &mut [[u8; SHARD_BYTES]; SHARDS])
+    ensures { Restores (7 ∷ 8 ∷ []) shards.old shards.new }
 {
     encode_again(shards);
 }
 
-// A data shard and Q.
-fn recover_data_and_q(shards: &mut [[u8; 4096]; 9], i: u8)
-    requires { i < 7 }
-    ensures { Restores (i ∷ 8 ∷ []) [] shards.old shards.new }
+fn recover_one(shards: &mut [[u8; SHARD_BYTES]; SHARDS], i: u8)
+    requires { i < SHARDS }
+    ensures { Restores (i ∷ []) shards.old shards.new }
 {
-    recover_data(shards, i);
-    recover_parities(shards);
-}
-
-fn recover_one(shards: &mut [[u8; 4096]; 9], i: u8)
-    requires { i < 9 }
-    ensures { Restores (i ∷ []) [] shards.old shards.new }
-{
-    if i < 7 {
+    if i < DATA {
         recover_data(shards, i);
     } else {
         recover_parities(shards);
     }
 }
 
-fn recover_data_and_parity(shards: &mut [[u8; 4096]; 9], i: u8, parity: u8)
-    requires data_in { i < 7 }
+fn recover_data_and_parity(shards: &mut [[u8; SHARD_BYTES]; SHARDS], i: u8, parity: u8)
+    requires data_in { i < DATA_SHARDS }
     requires parity_from { 7 ≤ parity }
-    requires parity_to { parity < 9 }
-    ensures { Restores (i ∷ parity ∷ []) [] shards.old shards.new }
+    requires parity_to { parity < SHARDS }
+    ensures { Restores (i ∷ parity ∷ []) shards.old shards.new }
 {
-    if parity == 7 {
+    if parity == P_NUMBER {
         recover_data_and_p(shards, i);
     } else {
         recover_data_and_q(shards, i);
     }
 }
 
-fn recover_two(shards: &mut [[u8; 4096]; 9], i: u8, j: u8)
-    requires i_in { i < 9 }
-    requires j_in { j < 9 }
+fn recover_two(shards: &mut [[u8; SHARD_BYTES]; SHARDS], i: u8, j: u8)
+    requires i_in { i < SHARDS }
+    requires j_in { j < SHARDS }
     requires apart { i ≢ j }
-    ensures { Restores (i ∷ j ∷ []) [] shards.old shards.new }
+    ensures { Restores (i ∷ j ∷ []) shards.old shards.new }
 {
-    if i < 7 && j < 7 {
+    if i < DATA && j < DATA {
         recover_two_data(shards, i, j);
-    } else if i < 7 {
+    } else if i < DATA {
         recover_data_and_parity(shards, i, j);
-    } else if j < 7 {
+    } else if j < DATA {
         recover_data_and_parity(shards, j, i);
     } else {
         recover_parities(shards);
@@ -173,10 +256,10 @@ fn recover_two(shards: &mut [[u8; 4096]; 9], i: u8, j: u8)
 }
 
 /// Recovers the lost of nine shards of 4096 bytes, of which 7 is P and 8 is Q, whatever the lost ones
-/// hold. It takes one pass over the shards, and a second where Q is lost with a data shard.
+/// hold, in one pass over the shards.
 /// H. P. Anvin, "The mathematics of RAID-6".
-pub fn recover(shards: &mut [[u8; 4096]; 9], lost: &ArrayVec<u8, 2>)
-    requires numbers { All (λ i. i < 9) lost.now.items }
+pub fn recover(shards: &mut [[u8; SHARD_BYTES]; SHARDS], lost: &ArrayVec<u8, 2>)
+    requires numbers { All (λ i. i < SHARDS) lost.now.items }
     requires distinct { AllPairs (λ i j. i ≢ j) lost.now.items }
     ensures { (whole : List (List ℕ)) → IsCodeword whole → AgreesOutside lost.now.items shards.old whole
         → shards.new ≡ whole }

@@ -7,13 +7,14 @@ ghost use Rattle.parity72.specs.Parity.{IsCodeword};
 ghost use Rattle.parity72.specs.Recovery.{AgreesOutside};
 
 use arrayvec::ArrayVec;
+use parity72::{DATA_SHARDS, SHARD_BYTES, SHARDS};
 
 /// `parity72::encode`.
 #[unsafe(no_mangle)]
 pub extern "C" fn parity_bench_encode(
-    shards: &[[u8; 4096]; 7],
-    p: &mut [u8; 4096],
-    q: &mut [u8; 4096],
+    shards: &[[u8; SHARD_BYTES]; DATA_SHARDS],
+    p: &mut [u8; SHARD_BYTES],
+    q: &mut [u8; SHARD_BYTES],
 )
     ensures { IsCodeword (shards.now ++ p.new ∷ q.new ∷ []) }
 {
@@ -22,9 +23,9 @@ pub extern "C" fn parity_bench_encode(
 
 /// `parity72::recover` of two shards.
 #[unsafe(no_mangle)]
-pub extern "C" fn parity_bench_recover(shards: &mut [[u8; 4096]; 9], i: u8, j: u8)
-    requires i_in { i < 9 }
-    requires j_in { j < 9 }
+pub extern "C" fn parity_bench_recover(shards: &mut [[u8; SHARD_BYTES]; SHARDS], i: u8, j: u8)
+    requires i_in { i < SHARDS }
+    requires j_in { j < SHARDS }
     requires apart { i ≢ j }
     ensures { (whole : List (List ℕ)) → IsCodeword whole → AgreesOutside (i ∷ j ∷ []) shards.old whole
         → shards.new ≡ whole }

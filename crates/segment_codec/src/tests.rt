@@ -1,6 +1,7 @@
-ghost use Rattle.std.specs.Prelude.{◌<◌};
+ghost use Rattle.std.specs.Prelude.{◌≡◌, ◌<◌};
 ghost use Rattle.pur_base.specs.declared.limits.TheConstants.{SECTOR_BYTES};
 ghost use Rattle.segment_codec.specs.Header.{IsLawful, IsOfNoPatch};
+ghost use Rattle.segment_codec.specs.declared.kind.SegmentKind.TheVariants.{Patch};
 
 use super::*;
 use pur_base::{Place, SECTOR_BYTES, Sector, SegmentId};
@@ -16,6 +17,17 @@ const DATA: [u8; FIELDS] = [
     1, 8, 3, 72, // data, Q, 840 sectors
     0, 0, 0, 0, // no tag
     0, 0, 0, 0, 0, 0, 0, 0, // no part, parts or facts
+    0, 0, 3, 1, 15, 255, 2, 0, 5, 3, 2, 88, 4, 0, 7, 6, 0, 8, 7, 0, 9, 20, 0, 10, 23, 0, 11,
+];
+
+// The header of the first unit of the second segment of a patch: two segments of 6,721 elision facts.
+const PATCH: [u8; FIELDS] = [
+    80, 85, 82, 83, 69, 71, 77, 84, // PURSEGMT
+    0, 0, 0, 0, 0, 0, 1, 2, // segment 258
+    0, 0, 0, 0, 0, 0, 3, 4, // generation 772
+    2, 0, 0, 1, // patch, the first shard, 1 sector
+    5, 0, 0, 0, // elision
+    0, 1, 0, 2, 0, 0, 26, 65, // part 1 of 2, 6721 facts
     0, 0, 3, 1, 15, 255, 2, 0, 5, 3, 2, 88, 4, 0, 7, 6, 0, 8, 7, 0, 9, 20, 0, 10, 23, 0, 11,
 ];
 
@@ -51,7 +63,29 @@ fn data_header() -> Header
     }
 }
 
-// The sector of these fields, with one byte changed.
+fn patch_header() -> Header
+    ensures lawful { IsLawful result }
+    ensures patch { result.kind ≡ Patch }
+{
+    Header {
+        kind: SegmentKind::Patch,
+        shard: 0,
+        placed: 1,
+        tag: 5,
+        part: 1,
+        parts: 2,
+        facts: 6721,
+        ..data_header()
+    }
+}
+
+fn sector_of(fields: &[u8; FIELDS]) -> Sector {
+    let mut bytes = [0; SECTOR_BYTES];
+    bytes[..FIELDS].copy_from_slice(fields);
+    Sector::new(bytes)
+}
+
+// The sector of the fields of data, with one byte changed.
 fn changed(at: usize, byte: u8) -> Sector
     requires { at < SECTOR_BYTES }
 {
@@ -62,26 +96,13 @@ fn changed(at: usize, byte: u8) -> Sector
 }
 
 #[test]
-fn data_by_hand(rt: HostRuntime) {
-    let sector = changed(0, DATA[0]);
-    assert_eq!(rt; read_header(&sector), Ok(data_header()));
-    let written = write_header(&data_header());
-    assert!(rt; written.as_bytes() == sector.as_bytes());
-}
-
-#[test]
-fn a_patch_reads_back(rt: HostRuntime) {
-    let header = Header {
-        kind: SegmentKind::Patch,
-        shard: 0,
-        placed: 1,
-        tag: 5,
-        part: 1,
-        parts: 2,
-        facts: 6721,
-        ..data_header()
-    };
-    assert_eq!(rt; read_header(&write_header(&header)), Ok(header));
+fn by_hand(rt: HostRuntime) {
+    let data = write_header(&data_header());
+    assert!(rt; data.as_bytes() == sector_of(&DATA).as_bytes());
+    assert_eq!(rt; read_header(&data), Ok(data_header()));
+    let patch = write_header(&patch_header());
+    assert!(rt; patch.as_bytes() == sector_of(&PATCH).as_bytes());
+    assert_eq!(rt; read_header(&patch), Ok(patch_header()));
 }
 
 #[test]

@@ -1,6 +1,5 @@
 use Rattle.std.proofs.Common.{◌≡◌, ◌-◌, length, take}
-use Rattle.boot_codec.specs.Reading.{places_from}
-use Rattle.boot_codec.proofs.LoopLemmas.{with_front}
+use Rattle.boot_codec.specs.Reading.{with_front, places_from}
 use Rattle.boot_codec.proofs.lists.places.Given as goal
 
 abbrev pub invariant-loop-shard : goal.invariant-loop-shard

@@ -1,20 +1,19 @@
-use Rattle.std.proofs.Common.{◌∷◌, [], arith, length-append}
-use Rattle.std.proofs.lemmas.Result.{err_from_is_err_and}
-use Rattle.boot_codec.proofs.LoopLemmas.{segments_go_on, segments_end, segments_done}
+use Rattle.std.proofs.Common.{◌≡◌, ℕ, ◌-◌, ◌∷◌, [], List, length, take, drop, Ok, ap, sym, ◌∙◌, arith, length-append, length-drop}
+use Rattle.std.proofs.lemmas.List.{take_all}
+use Rattle.boot_codec.specs.Reading.{segment}
+use Rattle.boot_codec.proofs.LoopLemmas.{segments_go_on, segments_done}
 use Rattle.boot_codec.proofs.lists.segments.Goals as goal
 
-pub returns-in_err-next-clause-gives : goal.returns-in_err-next-clause-gives
-returns-in_err-next-clause-gives c =
-    let p = err_from_is_err_and c.from_residual.result c.from_residual.ensures.1 in
-    rw (p.1, p.2) (segments_end c.in_err-next.field-0.0 c.args.slots c.args.units c.loop.segments c.args.count c.loop.counter c.loop.rest.now _ c.loop-test.true c.in_err-next.ensures c.loop.invariant.1)
-
-pub loop-preserved : goal.loop-preserved
-loop-preserved c =
-    let next = c.in_ok-next.next in
+pub loop-i-preserved : goal.loop-i-preserved
+loop-i-preserved c =
+    let next = c.segment_at_once.new.into in
+    let bytes = c.loop-i.rest.now in
+    let rest : take (length bytes - 35) (drop 35 bytes) ≡ drop 35 bytes = take_all _ _ (omega (arith, length-drop 35 bytes)) in
+    let read : segment c.args.slots c.args.units bytes ≡ Ok (next, take (length bytes - 35) (drop 35 bytes)) = c.segment_at_once.ensures c.if-not-segment_at_once.false ∙ ap (λ (after : List ℕ). Ok (next, after)) (sym rest) in
     rw c.in_ok-push.ensures.ok (
-      omega (arith, length-append c.loop.segments (next ∷ []), c.loop.invariant.0),
-      segments_go_on c.args.slots c.args.units c.loop.segments c.args.count c.loop.counter c.loop.rest.now next c.in_ok-next.after.now _ c.loop-test.true c.in_ok-next.ensures c.loop.invariant.1,
+      omega (arith, length-append c.loop-i.into (next ∷ []), c.loop-i.invariant.0),
+      segments_go_on c.args.slots c.args.units c.loop-i.into c.args.count c.loop-i.i bytes next _ _ c.loop-i-test.true read c.loop-i.invariant.1,
     )
 
 pub returns-clause-gives : goal.returns-clause-gives
-returns-clause-gives c = segments_done c.args.slots c.args.units c.loop.segments c.args.count c.loop.counter c.loop.rest.now _ c.loop-test.false c.loop.invariant.1
+returns-clause-gives c = segments_done c.args.slots c.args.units c.loop-i.into c.args.count c.loop-i.i c.loop-i.rest.now _ c.loop-i-test.false c.loop-i.invariant.1

@@ -1,7 +1,6 @@
 use Rattle.std.proofs.Common.{◌≡◌, ◌-◌, length}
-use Rattle.boot_codec.specs.Reading.{segments}
-use Rattle.boot_codec.proofs.LoopLemmas.{with_front}
+use Rattle.boot_codec.specs.Reading.{with_front, segments}
 use Rattle.boot_codec.proofs.lists.segments.Given as goal
 
-abbrev pub invariant-loop : goal.invariant-loop
-invariant-loop l = (length l.segments ≡ l.counter) × (with_front l.segments (segments l.slots l.units (l.count - l.counter) l.rest) ≡ segments l.slots l.units l.count l.bytes)
+abbrev pub invariant-loop-i : goal.invariant-loop-i
+invariant-loop-i l = (length l.into ≡ l.i) × (with_front l.into (segments l.slots l.units (l.count - l.i) l.rest) ≡ segments l.slots l.units l.count l.bytes)

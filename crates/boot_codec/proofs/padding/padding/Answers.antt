@@ -1,5 +1,11 @@
-use Rattle.boot_codec.proofs.PaddingLemmas.{padding_of_zeros}
+use Rattle.std.proofs.Common.{◌≡◌, take, sym, ap, ◌∙◌, arith}
+use Rattle.pur_base.specs.Bytes.{zeros}
+use Rattle.boot_codec.specs.Reading.{padding}
+use Rattle.boot_codec.proofs.PaddingLemmas.{padding_block}
 use Rattle.boot_codec.proofs.padding.padding.Goals as goal
 
-pub returns-then-is_zero : goal.returns-then-is_zero
-returns-then-is_zero c = padding_of_zeros c.args.bytes.now (c.is_zero.ensures c.if-is_zero.true)
+pub loop-preserved : goal.loop-preserved
+loop-preserved c =
+    let rest = c.loop.rest.now in
+    let zero : take 512 rest ≡ zeros 512 = sym c.split_at.ensures.front ∙ c.is_zero.ensures c.if-not-is_zero.false ∙ ap zeros c.split_at.ensures.front_len in
+    (omega (arith, c.split_at.ensures.back_len, c.loop.invariant.0), ap padding c.split_at.ensures.back ∙ padding_block 512 rest zero ∙ c.loop.invariant.1)

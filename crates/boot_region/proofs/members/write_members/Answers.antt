@@ -1,9 +1,10 @@
-use Rattle.std.proofs.Common.{◌≢◌, ◌<◌, length, arith, sym, ◌∙◌, below_more, get_or-set_other, get_or-set_same}
+use Rattle.std.proofs.Common.{◌≢◌, ◌<◌, length, arith, sym, ◌∙◌, below_more, get_or-set_other, get_or-set_same, subst}
 use Rattle.world.proofs.Moments.{continues_trans}
 use Rattle.world.proofs.Writes.{writes_then, writes_more}
 use Rattle.pur_base.proofs.Devices.{drives_apart}
 use Rattle.pur_base.specs.Devices.{drive}
-use Rattle.boot_region.specs.Members.{IsMember}
+use Rattle.pur_base.specs.declared.device.Device.{Device}
+use Rattle.boot_region.specs.Members.{IsMember, IsOneOf}
 use Rattle.boot_region.proofs.OnEach.{range_on_members, outcome_of}
 use Rattle.boot_region.proofs.members.write_members.Goals as goal
 use Rattle.boot_region.proofs.members.write_members.Goals.{then-members-slot, else-members-slot}
@@ -25,6 +26,7 @@ loop-slot-preserved g c =
                 (let lt : slot < length c.loop-slot.members = omega arith in
                 rw (get_or-set_same, w.is_ok.ensures.value, ← inv.disk_ahead slot (omega arith))
                 (outcome_of x.result _ _ c.args.at c.args.from.now _ _ member (λ h. x.ensures.written (inv.continues.honest h)) (λ h. x.ensures.clean (inv.continues.honest h)) x.ensures.counts));
+            others = λ device none. x.ensures.others device (λ e. none (subst (λ (y : Device). IsOneOf c.args.members.now y) (sym e) member)) ∙ inv.others device none;
             same_ahead = λ d le. let ne : d ≢ slot = omega arith in rw get_or-set_other (inv.same_ahead d (omega arith));
             disk_ahead = λ d le. x.ensures.others (drive d) (drives_apart d slot (omega arith)) ∙ inv.disk_ahead d (omega arith);
           })
@@ -39,8 +41,8 @@ loop-slot-preserved g c =
               written = λ h is. absurd (cc (is, w.if-members-slot.false));
               clean = λ h is. absurd (cc (is, w.if-members-slot.false));
               dropped = λ was. absurd (shut was);
-              others = λ none. inv.disk_ahead slot (omega arith);
             });
+            others = inv.others;
             same_ahead = λ d le. inv.same_ahead d (omega arith);
             disk_ahead = λ d le. inv.disk_ahead d (omega arith);
           })

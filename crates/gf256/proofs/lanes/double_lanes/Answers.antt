@@ -1,9 +1,13 @@
-use Rattle.std.proofs.Common.{arith, w8}
-use Rattle.std.proofs.lemmas.Simd.{Each1-get_or}
-use mir.Val.{Fits}
-use Rattle.gf256.proofs.LaneFacts.{doubles-at}
+use Rattle.std.proofs.Common.{get_or, ap, ◌∙◌, bit_xor}
+use lib.Bits.{xor_assoc, xor_self, xor_zero_r}
+use Rattle.std.proofs.lemmas.Simd.{get_or-replicate}
+use Rattle.gf256.specs.Field.{doubled}
 use Rattle.gf256.proofs.lanes.double_lanes.Goals as goal
 
 pub returns : goal.returns
 returns c k lt =
-    doubles-at 32 c.args.lanes c.fits-lanes.0 k lt (Each1-get_or (Fits w8) c.args.lanes k 0 (omega (arith, c.fits-lanes.0)) c.fits-lanes.1).fits
+    let b = doubled (get_or c.args.lanes k 0) in
+    c.add_lanes.ensures k lt
+    ∙ ap (bit_xor (get_or c.double_lanes_and_1d.result k 0)) (get_or-replicate 64 k 29 0 lt)
+    ∙ ap (λ x. bit_xor x 29) (c.double_lanes_and_1d.ensures k lt)
+    ∙ xor_assoc b 29 29 ∙ ap (bit_xor b) (xor_self 29) ∙ xor_zero_r b

@@ -15,6 +15,6 @@ returns-clause-each c k lt =
     let v = c.args.lanes in
     c.low_half.ensures.each k lt
     ∙ ap (λ t. t % 16)
-    (zip-at (λ a b. a / 2 ^ b) 32 v (replicate 32 4) c.fits-lanes.0 (len-rep 32 4) k lt
-    ∙ ap (λ b. get_or v k 0 / 2 ^ b) (get_or-replicate 32 k 4 0 lt))
+    (zip-at (λ a b. a / 2 ^ b) 64 v (replicate 64 4) c.fits-lanes.0 (len-rep 64 4) k lt
+    ∙ ap (λ b. get_or v k 0 / 2 ^ b) (get_or-replicate 64 k 4 0 lt))
     ∙ small_rest (get_or v k 0) (Each1-get_or (Fits w8) v k 0 (omega (arith, c.fits-lanes.0)) c.fits-lanes.1).fits

@@ -3,4 +3,4 @@ use Rattle.parity72.specs.Recovery.{Encodes}
 use Rattle.parity72.proofs.encoding.encode_again.Given as goal
 
 abbrev pub invariant-loop-block : goal.invariant-loop-block
-invariant-loop-block l = Encodes l.fn.shards l.shards (l.block * 32)
+invariant-loop-block l = Encodes l.fn.shards l.shards (l.block * 64)

@@ -1,6 +1,6 @@
 use Rattle.std.proofs.Common.{◌*◌}
-use Rattle.parity72.specs.Recovery.{Fixes, with_errors}
+use Rattle.parity72.specs.Recovery.{Fixes, with_pair}
 use Rattle.parity72.proofs.recovery.correct.Given as goal
 
 abbrev pub invariant-loop-block : goal.invariant-loop-block
-invariant-loop-block l = Fixes (with_errors l.a l.b l.by_p l.by_q) l.fn.shards l.shards 0 (l.block * 32)
+invariant-loop-block l = Fixes (with_pair l.a l.b l.by) l.fn.shards l.shards 0 (l.block * 64)

@@ -11,13 +11,13 @@ loop-block-preserved c =
     let a = c.args in
     let fix = with_p_syndrome a.a in
     let now = c.loop-block.shards in
-    let new = c.add_p_syndrome.new.shards in
+    let new = c.correct_block_by_p.new.shards in
     let m = c.loop-block.block in
-    let end : m * 32 + 32 ≡ (m + 1) * 32 = omega arith in
-    subst (Fixes fix a.shards.now new 0) end (fixes-more fix a.shards.now now new (m * 32) (m * 32 + 32) (omega arith) c.loop-block.invariant c.add_p_syndrome.ensures)
+    let end : m * 64 + 64 ≡ (m + 1) * 64 = omega arith in
+    subst (Fixes fix a.shards.now new 0) end (fixes-more fix a.shards.now now new (m * 64) (m * 64 + 64) (omega arith) c.loop-block.invariant c.correct_block_by_p.ensures)
 
 pub returns : goal.returns
 returns c =
     let a = c.args in
-    let end : c.loop-block.block * 32 ≡ 4096 = omega arith in
+    let end : c.loop-block.block * 64 ≡ 4096 = omega arith in
     subst (Fixes (with_p_syndrome a.a) a.shards.now c.loop-block.shards 0) end c.loop-block.invariant

@@ -3,4 +3,4 @@ use Rattle.parity72.specs.Recovery.{Fixes, with_p_syndrome}
 use Rattle.parity72.proofs.recovery.correct_by_p.Given as goal
 
 abbrev pub invariant-loop-block : goal.invariant-loop-block
-invariant-loop-block l = Fixes (with_p_syndrome l.a) l.fn.shards l.shards 0 (l.block * 32)
+invariant-loop-block l = Fixes (with_p_syndrome l.a) l.fn.shards l.shards 0 (l.block * 64)

@@ -7,7 +7,7 @@ pub returns-in-empty : goal.returns-in-empty
 returns-in-empty c =
     let old = c.args.shards.now in
     let is : c.args.lost.now.items ≡ [] = sym c.as_slice.ensures.value ∙ none-listed c.as_slice.result.now c.in-empty.len_below in
-    restored-whole c.args.lost.now.items old old c.told-shards (subst (λ lost. Restores lost [] old old) (sym is) (restores-nothing old))
+    restored-whole c.args.lost.now.items old old c.told-shards (subst (λ lost. Restores lost old old) (sym is) (restores-nothing old))
 
 pub returns-in-len1 : goal.returns-in-len1
 returns-in-len1 c =
@@ -15,7 +15,7 @@ returns-in-len1 c =
     let new = c.recover_one.new.shards in
     let listed = c.as_slice.result.now in
     let is : c.args.lost.now.items ≡ get_or listed 0 0 ∷ [] = sym c.as_slice.ensures.value ∙ one-listed listed c.in-len1.len_at_least c.in-len1.len_below in
-    restored-whole c.args.lost.now.items old new c.told-shards (subst (λ lost. Restores lost [] old new) (sym is) c.recover_one.ensures)
+    restored-whole c.args.lost.now.items old new c.told-shards (subst (λ lost. Restores lost old new) (sym is) c.recover_one.ensures)
 
 pub returns-in-len2-up : goal.returns-in-len2-up
 returns-in-len2-up c =
@@ -24,4 +24,4 @@ returns-in-len2-up c =
     let listed = c.as_slice.result.now in
     let is : c.args.lost.now.items ≡ get_or listed 0 0 ∷ get_or listed 1 0 ∷ [] =
     sym c.as_slice.ensures.value ∙ two-listed listed c.in-len2-up.len_at_least c.as_slice.ensures.fits in
-    restored-whole c.args.lost.now.items old new c.told-shards (subst (λ lost. Restores lost [] old new) (sym is) c.recover_two.ensures)
+    restored-whole c.args.lost.now.items old new c.told-shards (subst (λ lost. Restores lost old new) (sym is) c.recover_two.ensures)

@@ -1,10 +1,11 @@
-use Rattle.std.proofs.Common.{[], ◌∷◌}
-use Rattle.parity72.proofs.Restoring.{restores-then, restores-q}
+use Rattle.std.proofs.Common.{subst}
+use Rattle.parity72.specs.Recovery.{Fixes, with_p_and_q}
+use Rattle.parity72.proofs.Restoring.{restores-data-and-q}
 use Rattle.parity72.proofs.recovery.recover_data_and_q.Goals as goal
 
 pub returns : goal.returns
 returns c =
     let i = c.args.i in
-    let now = c.recover_data.new.shards in
-    restores-then (i ∷ 8 ∷ []) (8 ∷ []) [] c.args.shards.now now c.recover_parities.new.shards c.recover_data.ensures.beside_q
-    (restores-q now c.recover_parities.new.shards c.recover_parities.ensures)
+    let old = c.args.shards.now in
+    let new = c.correct_and_q.new.shards in
+    restores-data-and-q i old new c.told-shards c.requires (subst (λ f. Fixes (with_p_and_q i f) old new 0 4096) c.power_of_two.ensures c.correct_and_q.ensures)

@@ -1,6 +1,10 @@
-use Rattle.std.proofs.Common.{false, arith}
+use Rattle.std.proofs.Common.{true, false, sym, ◌∙◌, arith}
+use Rattle.std.proofs.lemmas.List.{get_or_default}
+use Rattle.boot_region.specs.Regions.{region_at}
 use Rattle.boot_region.proofs.RegionLemmas.{region_is}
 use Rattle.boot_region.proofs.regions.Regions.region.Goals as goal
 
-pub returns-then-index : goal.returns-then-index
-returns-then-index c = region_is c.deref.result.now c.args.self.now.answered.items c.args.drive _ _ (omega arith) (omega arith) ?
+pub returns-then-index-clause-value : goal.returns-then-index-clause-value
+returns-then-index-clause-value c =
+    region_is c.args.self.now.bytes.items c.args.self.now.answered.items c.args.drive _ _ (omega arith) (omega arith)
+    (get_or_default c.args.self.now.answered.items c.args.drive false c.index.result.now c.requires ∙ sym c.index.ensures ∙ c.if-index.true)

@@ -1,13 +1,13 @@
 use Rattle.std.proofs.Common.{◌≡◌, ◌≤◌, map}
-use Rattle.std.specs.Prelude.{count_by, option_and_then}
+use Rattle.std.specs.Prelude.{count_by}
 use Rattle.std.specs.List.{range_with_len}
-use Rattle.boot_codec.specs.Region.{is_vote, shown_by}
+use Rattle.boot_codec.specs.Region.{is_vote}
 use Rattle.boot_region.specs.Slots.{slot_in}
-use Rattle.boot_region.specs.Regions.{region_at}
+use Rattle.boot_region.specs.Regions.{vote_of}
 use Rattle.boot_region.proofs.regions.Regions.votes_for.Given as goal
 
 abbrev pub invariant-loop-drive : goal.invariant-loop-drive
 invariant-loop-drive l = record {
-  count : l.count ≡ count_by (is_vote l.body) (map (λ j. option_and_then (shown_by (slot_in l.slot)) (region_at l.self.bytes.items l.self.answered.items j)) (range_with_len 0 l.drive));
+  count : l.count ≡ count_by (is_vote l.body) (map (vote_of l.self.bytes.items l.self.answered.items (slot_in l.slot)) (range_with_len 0 l.drive));
   bound : l.count ≤ l.drive;
 }

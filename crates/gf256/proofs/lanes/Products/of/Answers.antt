@@ -9,24 +9,24 @@ use Rattle.gf256.proofs.lanes.Products.of.Goals as goal
 
 -- what the shift of the digits by four gives
 abbrev shifted : List ℕ
-shifted = zip2 (λ a b. a * 2 ^ b % 256) DIGITS (replicate 32 4)
+shifted = zip2 (λ a b. a * 2 ^ b % 256) DIGITS (replicate 16 4)
 
-digits-all : all_below (λ j. eqb (get_or DIGITS j 0) (j % 16)) 32 ≡ true
+digits-all : all_below (λ j. eqb (get_or DIGITS j 0) j) 16 ≡ true
 digits-all = refl
 
-shifted-all : all_below (λ j. eqb (get_or shifted j 0) (j % 16 * 16)) 32 ≡ true
+shifted-all : all_below (λ j. eqb (get_or shifted j 0) (j * 16)) 16 ≡ true
 shifted-all = refl
 
-digits-at : (j : ℕ) → j < 32 → get_or DIGITS j 0 ≡ j % 16
-digits-at j lt = eqb-true (get_or DIGITS j 0) (j % 16) (all_below-at (λ j. eqb (get_or DIGITS j 0) (j % 16)) 32 digits-all j lt)
+digits-at : (j : ℕ) → j < 16 → get_or DIGITS j 0 ≡ j
+digits-at j lt = eqb-true (get_or DIGITS j 0) j (all_below-at (λ j. eqb (get_or DIGITS j 0) j) 16 digits-all j lt)
 
-shifted-at : (j : ℕ) → j < 32 → get_or shifted j 0 ≡ j % 16 * 16
-shifted-at j lt = eqb-true (get_or shifted j 0) (j % 16 * 16) (all_below-at (λ j. eqb (get_or shifted j 0) (j % 16 * 16)) 32 shifted-all j lt)
+shifted-at : (j : ℕ) → j < 16 → get_or shifted j 0 ≡ j * 16
+shifted-at j lt = eqb-true (get_or shifted j 0) (j * 16) (all_below-at (λ j. eqb (get_or shifted j 0) (j * 16)) 16 shifted-all j lt)
 
 pub invariant_of-result : goal.invariant_of-result
 invariant_of-result c =
     let f = c.args.factor in
     record {
-      low_products = λ j lt. c.multiply_lanes-low.ensures j lt ∙ ap (λ d. times d f) (digits-at j lt) ∙ times-comm (j % 16) f (omega arith) (omega arith);
-      high_products = λ j lt. c.multiply_lanes-high.ensures j lt ∙ ap (λ d. times d f) (shifted-at j lt) ∙ times-comm (j % 16 * 16) f (omega arith) (omega arith);
+      low_products = λ j lt. c.multiply_quarter-low.ensures j lt ∙ ap (λ d. times d f) (digits-at j lt) ∙ times-comm j f (omega arith) (omega arith);
+      high_products = λ j lt. c.multiply_quarter-high.ensures j lt ∙ ap (λ d. times d f) (shifted-at j lt) ∙ times-comm (j * 16) f (omega arith) (omega arith);
     }

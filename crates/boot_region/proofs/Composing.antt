@@ -1,0 +1,198 @@
+-- The phases of a store, one after another: at every moment the devices stand for the arrays.
+use Rattle.std.proofs.Common.{◌≡◌, inl, inr, ℕ, ◌+◌, ◌*◌, ◌≤◌, ◌<◌, List, map, refl, sym, ◌∙◌, ap, subst, arith, Bool, true, false}
+use Rattle.std.specs.Prelude.{Option, Some, None, IfSome, option_and_then, count_by}
+use Rattle.std.specs.List.{range_with_len}
+use Rattle.std.proofs.lemmas.List.FromFn.{length-map-range_with_len}
+use Rattle.pur_base.specs.declared.limits.TheConstants.{SLOTS_MIN}
+use Rattle.pur_base.specs.Devices.{Geometry, Image, View, Condition, Conditions, Sound, Missing, LeftOut, IsWithin, MayBecome, is_missing, is_sound, drive}
+use Rattle.pur_base.specs.Plain.{Array}
+use Rattle.boot_codec.specs.declared.record.BootRecord.{BootRecord}
+use Rattle.boot_codec.specs.Spelling.{spelling}
+use Rattle.boot_codec.specs.Region.{BootSlot, Effective, IsDecided, other_slot, body_in, shown_by, votes, is_vote, Yields, generation_in}
+use Rattle.array_spec.specs.Standing.{Stands, MayBeGiven, MayAppear}
+use Rattle.array_spec.specs.Laws.{OpensGatesOf, ClosesGatesOf, DiffersOnlyIn, IsOldOrNew}
+use Rattle.array_spec.proofs.Votes.{held_votes, most_votes, not_missing, sound_before}
+use Rattle.array_spec.proofs.Store.{store_keeps, boot_keeps}
+use Rattle.array_spec.proofs.Settling.{opening_gives, opening_still_gives, closing_gives_no_more, closing_still_gives, this_or_other}
+use Rattle.array_spec.proofs.Spelled.{spells_one}
+use Rattle.world.specs.Shelf.{Shelved, Stop, MayStop, IsShelf}
+use Rattle.world.specs.Losing.{geometry_of, IsLater}
+use Rattle.boot_region.specs.Storing.{SoundAreMembers, OnlyBoot, Closes, Writes, Opens, IsInForceOn, MayFollow, AccountsFor}
+use Rattle.boot_region.proofs.Phases.{not_risen_before}
+use Rattle.boot_region.proofs.ShownLemmas.{as_read}
+
+-- votes of drives that all show nothing decide nothing, whatever two more show
+pub none_decided : (shelf : Geometry) (image : Image) (missing more : Conditions) (view : View) (slot : BootSlot) (body : List ℕ) → SLOTS_MIN ≤ shelf.slots
+    → ((i : ℕ) → i < shelf.slots → missing (drive i) ≡ Sound → shown_by slot (image (drive i)) ≡ None)
+    → MayAppear shelf image missing more view → IsDecided (votes shelf view slot) body → ⊥
+none_decided shelf image missing more view slot body eleven none a d =
+    let bound : count_by (is_vote body) (map vote (range_with_len 0 shelf.slots)) ≤ count_by missing_at (range_with_len 0 shelf.slots) + count_by missing_at (range_with_len 0 shelf.slots) =
+    most_votes vote missing_at missing_at body 0 shelf.slots (λ i low high unmarked voted. absurd (cc (shows_none i (omega (arith, high)) unmarked voted))) in
+    let most : shelf.slots < 2 * count_by (is_vote body) (map vote (range_with_len 0 shelf.slots)) =
+    subst (λ n. n < 2 * count_by (is_vote body) (map vote (range_with_len 0 shelf.slots))) (length-map-range_with_len vote 0 shelf.slots) d in
+    absurd (omega (arith, bound, most, two, eleven))
+  where
+    missing_at : ℕ → Bool
+    missing_at i = is_missing (more (drive i))
+
+    vote : ℕ → Option (List ℕ)
+    vote i = option_and_then (shown_by slot) (view (drive i))
+
+    two : count_by missing_at (range_with_len 0 shelf.slots) ≤ 2
+    two = a.bearable.drives
+
+    shows_none : (i : ℕ) → i < shelf.slots → missing_at i ≡ false → is_vote body (vote i) ≡ true → false ≡ true
+    shows_none i lt unmarked voted =
+        let sound : more (drive i) ≡ Sound = not_missing (more (drive i)) unmarked in
+        let shown : view (drive i) ≡ Some (image (drive i)) = a.shown (drive i) sound in
+        let nothing : shown_by slot (image (drive i)) ≡ None = none i lt (sound_before (missing (drive i)) (more (drive i)) (a.within (drive i)) sound) in
+        let is : vote i ≡ None = ap (option_and_then (shown_by slot)) shown ∙ nothing in
+        subst (λ (o : Option (List ℕ)). is_vote body o ≡ true) is voted
+
+-- what all sound drives show is decided
+pub all_decide : (shelf : Geometry) (image : Image) (missing more : Conditions) (view : View) (slot : BootSlot) (body : List ℕ) → SLOTS_MIN ≤ shelf.slots
+    → ((i : ℕ) → i < shelf.slots → missing (drive i) ≡ Sound → shown_by slot (image (drive i)) ≡ Some body)
+    → MayAppear shelf image missing more view → IsDecided (votes shelf view slot) body
+all_decide shelf image missing more view slot body eleven all a =
+    let most : shelf.slots ≤ count_by (is_vote body) (map vote (range_with_len 0 shelf.slots)) + count_by missing_at (range_with_len 0 shelf.slots) =
+    held_votes vote missing_at body 0 shelf.slots votes_for in
+    rw (length-map-range_with_len vote 0 shelf.slots) (omega (arith, most, two, eleven))
+  where
+    missing_at : ℕ → Bool
+    missing_at i = is_missing (more (drive i))
+
+    vote : ℕ → Option (List ℕ)
+    vote i = option_and_then (shown_by slot) (view (drive i))
+
+    two : count_by missing_at (range_with_len 0 shelf.slots) ≤ 2
+    two = a.bearable.drives
+
+    votes_for : (i : ℕ) → 0 ≤ i → i < 0 + shelf.slots → missing_at i ≡ false → vote i ≡ Some body
+    votes_for i low high unmarked =
+        let sound : more (drive i) ≡ Sound = not_missing (more (drive i)) unmarked in
+        ap (option_and_then (shown_by slot)) (a.shown (drive i) sound) ∙ all i (omega (arith, high)) (sound_before (missing (drive i)) (more (drive i)) (a.within (drive i)) sound)
+
+pub differs_then : {unit : ℕ → ℕ → Type 0} {a b c : Image} → DiffersOnlyIn unit a b → DiffersOnlyIn unit b c → DiffersOnlyIn unit a c
+differs_then {unit} {a} {b} {c} ab bc = record {
+  nvram = λ i. bc.nvram i ∙ ab.nvram i;
+  size = λ i. bc.size i ∙ ab.size i;
+  drive = λ i at. elim (bc.drive i at) [
+    | inl e ↦ elim (ab.drive i at) [ inl f ↦ inl (e ∙ f) | inr u ↦ inr u ]
+    | inr u ↦ inr u
+  ];
+}
+
+pub as_it_is : (missing : Conditions) → IsWithin missing missing
+as_it_is missing device = same (missing device)
+  where
+    same : (c : Condition) → MayBecome c c
+    same Sound = inl refl
+    same Missing = refl
+    same LeftOut = refl
+
+pub is_sound_is : (c : Condition) → is_sound c ≡ true → c ≡ Sound
+is_sound_is Sound e = refl
+is_sound_is Missing e = cc
+is_sound_is LeftOut e = cc
+
+-- at a moment of a store
+module _ (shelf : Shelved) (members : List Bool) (missing : Conditions) (slot : BootSlot) (held boot : BootRecord) (arrays : List Array)
+    (is : IsShelf shelf) (force : IsInForceOn shelf members missing slot held) (follow : MayFollow shelf missing slot boot arrays)
+    (start stop : Stop) (may : MayStop shelf start) (later : Conditions) (account : AccountsFor shelf members missing slot (spelling held) stop.faults stop.write_faults later) where
+  sound_then : (i : ℕ) → later (drive i) ≡ Sound → missing (drive i) ≡ Sound
+  sound_then i s = sound_before (missing (drive i)) (later (drive i)) (account.within (drive i)) s
+
+  -- the record in force stands on each drive
+  in_force : (image : Image) → ((i : ℕ) → later (drive i) ≡ Sound → shown_by (other_slot slot) (image (drive i)) ≡ shown_by (other_slot slot) (start.image (drive i)))
+      → (i : ℕ) → i < shelf.drives → later (drive i) ≡ Sound → shown_by (other_slot slot) (image (drive i)) ≡ Some (spelling held)
+  in_force image others i lt s =
+      let sound = sound_then i s in
+      let m = force.sound i lt sound in
+      others i s ∙ ap (shown_by (other_slot slot)) (as_read (shelf.disk (drive i)) (start.image (drive i)) (force.clean i m sound) (may.device (drive i))) ∙ force.shown i m sound
+
+  decided : (image : Image) → ((i : ℕ) → later (drive i) ≡ Sound → shown_by (other_slot slot) (image (drive i)) ≡ shown_by (other_slot slot) (start.image (drive i)))
+      → (more : Conditions) (view : View) → MayAppear (geometry_of shelf) image later more view → IsDecided (votes (geometry_of shelf) view (other_slot slot)) (spelling held)
+  decided image others more view a = all_decide (geometry_of shelf) image later more view (other_slot slot) (spelling held) is.drives.0 (in_force image others) a
+
+  still_gives : (image : Image) → ClosesGatesOf start.image image later slot (spelling held) → (more : Conditions) (view : View) → MayAppear (geometry_of shelf) image later more view → Effective (geometry_of shelf) view
+  still_gives image closes = closing_still_gives (geometry_of shelf) start.image image missing later slot held account.within force.lawful (decided image closes.others) closes (follow.stands start may).gives
+
+  gives_no_more : (image : Image) → ClosesGatesOf start.image image later slot (spelling held) → (t : BootSlot) (b : BootRecord) → MayBeGiven (geometry_of shelf) image later t b → MayBeGiven (geometry_of shelf) start.image missing t b
+  gives_no_more image closes t b g = closing_gives_no_more (geometry_of shelf) start.image image missing later slot t held b account.within (force.given start may) (decided image closes.others) closes g
+
+  none_given : (image : Image) → ((i : ℕ) → i < shelf.drives → later (drive i) ≡ Sound → shown_by slot (image (drive i)) ≡ None) → (b : BootRecord)
+      → MayBeGiven (geometry_of shelf) image later slot b → ⊥
+  none_given image none b g = none_decided (geometry_of shelf) image later g.more g.view slot (spelling b) is.drives.0 none g.appears g.effective.decided
+
+  -- what the first phase does to the drives that are sound still
+  closes_of : (mid : Stop) → IsLater mid stop → Closes shelf members missing slot (spelling held) start mid → ClosesGatesOf start.image mid.image later slot (spelling held)
+  closes_of mid on c = record {
+    others = λ i s. c.others i;
+    closes = λ i s. c.closes i (sound_then i s) (λ m. elim (account.reads i m s) [
+      | inl older ↦ inl older
+      | inr none ↦ inr (not_risen_before (shelf.disk (drive i)).faults (mid.faults (drive i)) (stop.faults (drive i)) (on.faults (drive i)) none)
+    ]);
+  }
+
+  -- and then the second one
+  closes_then : (first second : Stop) (now : List Bool) → ClosesGatesOf start.image first.image later slot (spelling held) → Writes missing now slot first second → ClosesGatesOf start.image second.image later slot (spelling held)
+  closes_then first second now c w = record {
+    others = λ i s. w.others i ∙ c.others i s;
+    closes = λ i s. elim (w.shut i (sound_then i s)) [
+      | inl none ↦ inr (subst (λ (o : Option (List ℕ)). IfSome o (λ body. Yields (other_slot slot) (generation_in body) (generation_in (spelling held)))) (sym none) tt)
+      | inr same ↦ elim (c.closes i s) [
+        | inl e ↦ inl (same ∙ e)
+        | inr y ↦ inr (subst (λ (o : Option (List ℕ)). IfSome o (λ body. Yields (other_slot slot) (generation_in body) (generation_in (spelling held)))) (sym same) y)
+      ]
+    ];
+  }
+
+  -- the first phase
+  pub while_closing : Closes shelf members missing slot (spelling held) start stop → Stands (geometry_of shelf) stop.image later arrays
+  while_closing c =
+      let closes = closes_of stop (record { faults = λ d. omega arith; write_faults = λ d. omega arith }) c in
+      boot_keeps (geometry_of shelf) start.image stop.image missing later arrays account.within account.bearable c.only_boot (still_gives stop.image closes)
+      (λ t b g. (gives_no_more stop.image closes t b g, λ i. c.bodies t i)) (follow.stands start may)
+
+  -- the second phase
+  pub while_writing : (mid : Stop) (now : List Bool) → IsLater mid stop → SoundAreMembers shelf later now → Closes shelf members missing slot (spelling held) start mid → Writes missing now slot mid stop
+      → Stands (geometry_of shelf) stop.image later arrays
+  while_writing mid now on sound c w =
+      let closes = closes_then mid stop now (closes_of mid on c) w in
+      boot_keeps (geometry_of shelf) start.image stop.image missing later arrays account.within account.bearable (differs_then c.only_boot w.only_boot) (still_gives stop.image closes)
+      (λ t b g. (
+        gives_no_more stop.image closes t b g,
+        λ i. elim (this_or_other t slot) [
+          | inl this ↦ absurd (none_given stop.image (λ k lt s. w.none k (sound k lt s) (sound_then k s)) b (subst (λ x. MayBeGiven (geometry_of shelf) stop.image later x b) this g))
+          | inr other ↦ subst (λ x. body_in x (stop.image (drive i)) ≡ body_in x (start.image (drive i))) (sym other) (w.bodies i ∙ c.bodies (other_slot slot) i)
+        ],
+      )) (follow.stands start may)
+
+  -- the third phase
+  pub while_opening : (first second : Stop) (now last : List Bool) → IsLater first stop → SoundAreMembers shelf later last
+      → Closes shelf members missing slot (spelling held) start first → Writes missing now slot first second → Opens missing last slot (spelling boot) second stop
+      → Stands (geometry_of shelf) stop.image later arrays
+  while_opening first second now last on sound c w o =
+      let closes = closes_then first second now (closes_of first on c) w in
+      let only_boot : OnlyBoot start.image stop.image = differs_then (differs_then c.only_boot w.only_boot) o.only_boot in
+      let s = follow.stands start may in
+      let reads = follow.reads later start stop account.within account.bearable may only_boot (λ i lt k. o.stands i (sound i lt k) (sound_then i k)) s in
+      let opens : OpensGatesOf second.image stop.image later slot (spelling boot) = record { others = λ i k. o.others i; opens = λ i k. o.opens i (sound_then i k) } in
+      let old_or_new : IsOldOrNew (geometry_of shelf) start.image stop.image missing later slot boot = record {
+        within = account.within;
+        bearable = account.bearable;
+        only_boot = only_boot;
+        gives = opening_still_gives (geometry_of shelf) second.image stop.image later later slot boot (as_it_is later) follow.lawful opens (still_gives second.image closes);
+        old_or_new = λ t b g. elim (opening_gives (geometry_of shelf) second.image stop.image later later slot t boot b (as_it_is later) opens g) [
+          | inl new_one ↦ inl (new_one.0, spells_one (geometry_of shelf) b boot g.lawful follow.lawful (sym new_one.1))
+          | inr before ↦ elim (this_or_other t slot) [
+            | inl this ↦ absurd (none_given second.image (λ k lt s2. o.shut k (sound k lt s2) (sound_then k s2)) b (subst (λ x. MayBeGiven (geometry_of shelf) second.image later x b) this before))
+            | inr other ↦ inr (
+              gives_no_more second.image closes t b before,
+              λ i. subst (λ x. body_in x (stop.image (drive i)) ≡ body_in x (start.image (drive i))) (sym other)
+                  (o.bodies (other_slot slot) i ∙ w.bodies i ∙ c.bodies (other_slot slot) i),
+            )
+          ]
+        ];
+      } in
+      store_keeps (geometry_of shelf) start.image stop.image missing later slot boot arrays old_or_new s reads.0 reads.1

@@ -1,0 +1,109 @@
+-- What calls on a gate write: one that reads as closed isn't closed, and one that reads as open isn't opened.
+use Rattle.std.proofs.Common.{◌≡◌, inl, inr, ℕ, ◌+◌, ◌≤◌, ◌<◌, List, [], length, slice_index, refl, sym, ◌∙◌, ap, subst, arith, Bool, true, false, Result, Ok, Err, is_ok, OnOk, OnErr}
+use Rattle.std.specs.Prelude.{slice_range}
+use Rattle.std.proofs.lemmas.Bool.{cases_lt}
+use Rattle.pur_base.specs.declared.device.Device.{Device}
+use Rattle.pur_base.specs.declared.device.Device.TheVariants as dev
+use Rattle.pur_base.specs.declared.limits.TheConstants.{SECTOR_BYTES}
+use Rattle.pur_base.specs.Devices.{drive}
+use Rattle.pur_base.specs.Gates.{is_open}
+use Rattle.world.specs.declared.streams.Failed.{Failed}
+use Rattle.world.specs.Counts.{Rises}
+use Rattle.world.specs.Shelf.{Shelved, Stop, Disk, Continues, LeavesOnly, ReadCounts, Written}
+use Rattle.world.specs.Writes.{OneRange, WritesOnly, LeavesBut, ChangesOnly}
+use Rattle.world.proofs.Moments.{then_run, weaker}
+use Rattle.world.proofs.Writes.{but_then, counted_then, counts_grow, writes_then, writes_more}
+use Rattle.boot_region.specs.Members.{IsMember, OnNotShut, OneNotShut, IsNotShut, Closed, LostWrites}
+use Rattle.boot_codec.specs.Gate.{gate_bytes}
+use Rattle.boot_region.proofs.ShownLemmas.{reads_open, gate_opens, gate_closes, gate_size, open_begins, closed_begins}
+
+-- a count that rose has risen at a later moment
+pub rises_on : (a b c : ℕ) → Rises a b → b ≤ c → Rises a c
+rises_on a b c (inl lt) le = inl (omega (arith, lt, le))
+rises_on a b c (inr full) le = elim (cases_lt a c) [
+  | inl lt ↦ inl lt
+  | inr ge ↦ inr (full.0, omega (arith, full.1, le, ge))
+]
+
+pub not_shut_on : (at : ℕ) (bytes : List ℕ) (before now later : ℕ) → now ≤ later → IsNotShut at bytes before now → IsNotShut at bytes before later
+not_shut_on at bytes before now later le (inl opens) = inl opens
+not_shut_on at bytes before now later le (inr rose) = inr (rises_on before now later rose le)
+
+-- a read that failed, or read the gate as open
+pub not_shut : {honest : Type 0} (answer : Result (Unit {0}) Failed) (at n : ℕ) (sector : List ℕ) (old new : Disk) → ReadCounts answer old new → 0 < n → honest → OnOk answer (honest → sector ≡ slice_range old.bytes at (at + n)) → (is_ok answer ≡ true → slice_index sector 0 ≡ 1) → IsNotShut at old.bytes old.faults new.faults
+not_shut {honest} (Ok x) at n sector old new counts some h read opens = inl (reads_open old.bytes sector at n (read h) some (opens refl))
+not_shut {honest} (Err x) at n sector old new counts some h read opens = inr counts.faults
+
+-- a stop that leaves bytes of W leaves bytes of V
+pub left_more : {W V : Device → ℕ → Type 0} {s : Shelved} {stop : Stop} → ((d : Device) (i : ℕ) → W d i → V d i) → LeavesBut W s stop → LeavesBut V s stop
+left_more {W} {V} {s} {stop} to left = record {
+  bytes = λ d. let m = left.bytes d in record { size = m.size; is_byte = m.is_byte; same = λ i clean out. m.same i clean (λ w. out (to d i w)) };
+  counts = left.counts;
+}
+
+pub changes_more : {W V : ℕ → Type 0} {old new : Disk} → ((i : ℕ) → W i → V i) → ChangesOnly W old new → ChangesOnly V old new
+changes_more {W} {V} {old} {new} to changes = record {
+  size = changes.size;
+  bytes = λ i out. changes.bytes i (λ w. out (to i w));
+  dirty = λ i is. elim (changes.dirty i is) [ inl was ↦ inl was | inr w ↦ inr (to i w) ];
+}
+
+-- a stop in the later of two runs, as one since the first began
+pub left_then : {W : Device → ℕ → Type 0} {a b : Shelved} {stop : Stop} → Continues a b → ((d : Device) → ChangesOnly (W d) (a.disk d) (b.disk d)) → LeavesBut W b stop → LeavesBut W a stop
+left_then {W} {a} {b} {stop} on changes left = record { bytes = λ d. but_then (changes d) (left.bytes d); counts = counted_then (counts_grow on) left.counts }
+
+-- a gate that isn't shut is written
+module _ (device : Device) (at : ℕ) (a b c : Shelved) (ab : Continues a b) (read : WritesOnly (λ d i. ⊥) a b) (open_or_failed : IsNotShut at (a.disk device).bytes (a.disk device).faults (b.disk device).faults)
+    (bc : Continues b c) (wrote : WritesOnly (OneRange device at SECTOR_BYTES) b c) where
+  to : (later : ℕ) → (b.disk device).faults ≤ later → (d : Device) (i : ℕ) → OneRange device at SECTOR_BYTES d i → OneNotShut (a.disk device) later device at d i
+  to later le d i w = (w.0, w.1, not_shut_on at (a.disk device).bytes (a.disk device).faults (b.disk device).faults later le open_or_failed)
+
+  pub closing_writes : WritesOnly (OneNotShut (a.disk device) (c.disk device).faults device at) a c
+  closing_writes = writes_then ab (writes_more (λ d i none. absurd none) read) (writes_more (to (c.disk device).faults (bc.faults device)) wrote)
+
+  pub closing_moments : LeavesOnly a c (λ stop. LeavesBut (OneNotShut (a.disk device) (stop.faults device) device at) a stop)
+  closing_moments = then_run ab
+      (weaker (λ stop left. left_more (λ d i none. absurd none) left) read.any_moment)
+      (weaker (λ stop left. left_then ab (λ d. changes_more (λ i none. absurd none) (read.device d)) (left_more (to (stop.faults device) (left.counts.faults device)) left)) wrote.any_moment)
+
+-- one more member
+module _ (members : List Bool) (at slot : ℕ) (a b c : Shelved) (member : IsMember members slot) (same : b.disk (drive slot) ≡ a.disk (drive slot)) (ab : Continues a b) (bc : Continues b c) where
+  on_member : (before_call : (d : Device) → ℕ) (d : Device) (i : ℕ) → OneNotShut (b.disk (drive slot)) (before_call (drive slot)) (drive slot) at d i → OnNotShut members a before_call at d i
+  on_member faults d i w = subst (λ (x : Device). OnNotShut members a faults at x i) (sym w.0) (member, w.1, subst (λ (k : Disk). IsNotShut at k.bytes k.faults (faults (drive slot))) same w.2)
+
+  earlier : (before now : Device → ℕ) → ((d : Device) → before d ≤ now d) → (d : Device) (i : ℕ) → OnNotShut members a before at d i → OnNotShut members a now at d i
+  earlier before now grown (dev.Drive k) i w = (w.0, w.1, not_shut_on at (a.disk (dev.Drive k)).bytes (a.disk (dev.Drive k)).faults (before (dev.Drive k)) (now (dev.Drive k)) (grown (dev.Drive k)) w.2)
+  earlier before now grown (dev.Nv k) i w = w
+
+  pub closing_next_writes : WritesOnly (OnNotShut members a (λ d. (b.disk d).faults) at) a b → WritesOnly (OneNotShut (b.disk (drive slot)) (c.disk (drive slot)).faults (drive slot) at) b c → WritesOnly (OnNotShut members a (λ d. (c.disk d).faults) at) a c
+  closing_next_writes first next = writes_then ab (writes_more (earlier (λ d. (b.disk d).faults) (λ d. (c.disk d).faults) bc.faults) first) (writes_more (on_member (λ d. (c.disk d).faults)) next)
+
+  pub closing_next_moments : WritesOnly (OnNotShut members a (λ d. (b.disk d).faults) at) a b → LeavesOnly a b (λ stop. LeavesBut (OnNotShut members a stop.faults at) a stop)
+      → LeavesOnly b c (λ stop. LeavesBut (OneNotShut (b.disk (drive slot)) (stop.faults (drive slot)) (drive slot) at) b stop)
+      → LeavesOnly a c (λ stop. LeavesBut (OnNotShut members a stop.faults at) a stop)
+  closing_next_moments wrote first next = then_run ab first
+      (weaker (λ stop left. left_then ab (λ d. changes_more (λ i w. earlier (λ k. (b.disk k).faults) stop.faults left.counts.faults d i w) (wrote.device d)) (left_more (on_member stop.faults) left)) next)
+
+pub closed_of : (answer : Result (Unit {0}) Failed) (honest was : Type 0) (at : ℕ) (old new : Disk) → was → (honest → OnOk answer (is_open at new.bytes ≡ false)) → (honest → OnOk answer (old.dirty ≡ [] → new.dirty ≡ [])) → OnErr answer (LostWrites old new)
+    → Closed honest was (is_ok answer ≡ true) at old new
+closed_of (Ok x) honest was at old new member closed clean counts = record {
+  before = λ is. member;
+  closed = λ h is. closed h;
+  clean = λ h is. clean h;
+  dropped = λ w. inl refl;
+}
+closed_of (Err x) honest was at old new member closed clean counts = record {
+  before = λ is. member;
+  closed = λ h is. absurd (cc is);
+  clean = λ h is. absurd (cc is);
+  dropped = λ w. inr counts;
+}
+
+-- the sector of a closed gate closes it, and that of an open one opens it
+pub wrote_closed : (answer : Result (Unit {0}) Failed) (at : ℕ) (from old new : List ℕ) → from ≡ gate_bytes false → OnOk answer (Written at from old new) → OnOk answer (is_open at new ≡ false)
+wrote_closed (Ok x) at from old new is written = gate_closes at SECTOR_BYTES from old new written (ap length is ∙ gate_size false) (omega arith) (ap (λ (l : List ℕ). slice_index l 0) is ∙ closed_begins)
+wrote_closed (Err x) at from old new is written = tt
+
+pub wrote_open : (answer : Result (Unit {0}) Failed) (at : ℕ) (from old new : List ℕ) → from ≡ gate_bytes true → OnOk answer (Written at from old new) → OnOk answer (is_open at new ≡ true)
+wrote_open (Ok x) at from old new is written = gate_opens at SECTOR_BYTES from old new written (ap length is ∙ gate_size true) (omega arith) (ap (λ (l : List ℕ). slice_index l 0) is ∙ open_begins)
+wrote_open (Err x) at from old new is written = tt

@@ -1,0 +1,68 @@
+use Rattle.std.proofs.Common.{rules, ◌≡◌, ◌<◌, ℕ, List, length, ap, ◌∙◌, subst, arith}
+use Rattle.std.specs.Prelude.{◌%◌, Some}
+use Rattle.pur_base.specs.Devices.{drive}
+use Rattle.pur_base.specs.declared.limits.TheConstants.{SECTOR_BYTES}
+use Rattle.boot_codec.specs.Region.{gate_place, shown_by}
+use Rattle.world.specs.Shelf.{Written}
+use Rattle.world.specs.Writes.{WritesOnly}
+use Rattle.world.proofs.Moments.{weaker}
+use Rattle.boot_region.specs.Members.{OnMembers}
+use Rattle.boot_region.specs.Slots.{slot_in}
+use Rattle.boot_region.proofs.Phases.{opens_gates}
+use Rattle.boot_region.proofs.ShownLemmas.{gate_low, gate_aligned, member_below, shows_written, as_read}
+use Rattle.boot_region.proofs.gates.open_gates.Goals as goal
+
+pub write_members-requires-clause-fits : goal.write_members-requires-clause-fits
+write_members-requires-clause-fits g c = omega (arith, c.as_bytes.ensures.len, ap length c.as_bytes.ensures.bytes, c.gate.ensures, gate_low (slot_in c.args.slot), (g.met.S.Shelf.is_shelf c.args.shelf.now).units.0)
+
+pub write_members-requires-clause-aligned : goal.write_members-requires-clause-aligned
+write_members-requires-clause-aligned g c =
+    (ap (λ (n : ℕ). n % SECTOR_BYTES) c.gate.ensures ∙ gate_aligned (slot_in c.args.slot), ap (λ (l : List ℕ). length l % SECTOR_BYTES) c.as_bytes.ensures.bytes ∙ ap (λ (n : ℕ). n % SECTOR_BYTES) c.as_bytes.ensures.len)
+
+pub returns-clause-writes : goal.returns-clause-writes
+returns-clause-writes g c h =
+    let s = g.S.Shelf.shelf c.args.shelf.now in
+    let t = g.S.Shelf.shelf c.write_members.new.shelf in
+    let size : length c.as_bytes.result.now ≡ SECTOR_BYTES = ap length c.as_bytes.ensures.bytes ∙ c.as_bytes.ensures.len in
+    subst (λ (n : ℕ). WritesOnly (OnMembers c.args.members.now (gate_place (slot_in c.args.slot)) n) s t) size
+    (subst (λ (a : ℕ). WritesOnly (OnMembers c.args.members.now a (length c.as_bytes.result.now)) s t) c.gate.ensures (c.write_members.ensures.writes h))
+
+pub returns-clause-fewer : goal.returns-clause-fewer
+returns-clause-fewer g c i is =
+    let same : length c.write_members.new.members ≡ length c.args.members.now = search rules in
+    (c.write_members.ensures.outcome i (omega (arith, member_below c.write_members.new.members i is, same))).before is
+
+pub returns-clause-dropped : goal.returns-clause-dropped
+returns-clause-dropped g c i is = (c.write_members.ensures.outcome i (member_below c.args.members.now i is)).dropped is
+
+pub returns-clause-clean : goal.returns-clause-clean
+returns-clause-clean g c h i is =
+    let same : length c.write_members.new.members ≡ length c.args.members.now = search rules in
+    (c.write_members.ensures.outcome i (omega (arith, member_below c.write_members.new.members i is, same))).clean h is
+
+pub returns-clause-any_moment : goal.returns-clause-any_moment
+returns-clause-any_moment g c h missing body clean closed written =
+    weaker (λ stop left. opens_gates c.args.members.now (g.S.Shelf.shelf c.args.shelf.now) stop missing (slot_in c.args.slot) body (g.met.S.Shelf.is_shelf c.args.shelf.now) h left clean closed written)
+    (returns-clause-writes g c h).any_moment
+
+pub returns-clause-shown : goal.returns-clause-shown
+returns-clause-shown g c h i is =
+    let old = g.S.Shelf.shelf c.args.shelf.now in
+    let new = g.S.Shelf.shelf c.write_members.new.shelf in
+    let from : List ℕ = c.as_bytes.result.now in
+    let same : length c.write_members.new.members ≡ length c.args.members.now = search rules in
+    let below : i < length c.args.members.now = omega (arith, member_below c.write_members.new.members i is, same) in
+    let written : Written (gate_place (slot_in c.args.slot)) from (old.disk (drive i)).bytes (new.disk (drive i)).bytes =
+    subst (λ (a : ℕ). Written a from (old.disk (drive i)).bytes (new.disk (drive i)).bytes) c.gate.ensures ((c.write_members.ensures.outcome i below).written h is) in
+    shows_written (slot_in c.args.slot) from (old.disk (drive i)).bytes (new.disk (drive i)).bytes (c.as_bytes.ensures.bytes ∙ c.gate_sector-open.ensures) written
+
+pub returns-clause-held : goal.returns-clause-held
+returns-clause-held g c h missing boot stop sound written may others =
+    let new = g.S.Shelf.shelf c.write_members.new.shelf in
+    record {
+      shown = λ i lt s.
+          let is = sound i lt s in
+          ap (shown_by (slot_in c.args.slot)) (as_read (new.disk (drive i)) (stop.image (drive i)) (returns-clause-clean g c h i is) (may.device (drive i)))
+          ∙ returns-clause-shown g c h i is ∙ ap (λ (x : List ℕ). Some x) (written i (returns-clause-fewer g c i is) s);
+      few = others;
+    }

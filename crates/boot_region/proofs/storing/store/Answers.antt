@@ -1,0 +1,106 @@
+use Rattle.std.proofs.Common.{rules, ◌≡◌, ℕ, List, length, ap, ◌∙◌}
+use Rattle.std.specs.Prelude.{Some}
+use Rattle.world.proofs.Moments.{continues_trans}
+use Rattle.boot_region.specs.Slots.{slot_in}
+use Rattle.boot_region.proofs.ShownLemmas.{member_below}
+use Rattle.boot_region.proofs.Stored.{body_stands, dropped_then, stay_then, in_slot, store_moments, is_stored, fewer_closed, fewer_written}
+use Rattle.boot_region.proofs.storing.store.Goals as goal
+
+pub returns-clause-fewer : goal.returns-clause-fewer
+returns-clause-fewer g c i is =
+    let as_many : length c.close_gates.new.members ≡ length c.args.members.now = search rules in
+    let shorter : length c.write_bodies.new.members ≡ length c.close_gates.new.members = search rules in
+    fewer_closed c.args.members.now c.close_gates.new.members (g.S.Shelf.shelf c.args.shelf.now) (g.S.Shelf.shelf c.close_gates.new.shelf) as_many c.close_gates.ensures.outcome i (fewer_written c.close_gates.new.members c.write_bodies.new.members (g.S.Shelf.shelf c.close_gates.new.shelf) (g.S.Shelf.shelf c.write_bodies.new.shelf) shorter c.write_bodies.ensures.outcome i (c.open_gates.ensures.fewer i is))
+
+pub returns-clause-dropped : goal.returns-clause-dropped
+returns-clause-dropped g c =
+    let a = g.S.Shelf.shelf c.args.shelf.now in
+    let b = g.S.Shelf.shelf c.close_gates.new.shelf in
+    let d = g.S.Shelf.shelf c.write_bodies.new.shelf in
+    let e = g.S.Shelf.shelf c.open_gates.new.shelf in
+    let m0 = c.args.members.now in
+    let m1 = c.close_gates.new.members in
+    let m2 = c.write_bodies.new.members in
+    dropped_then a b e m0 m1 c.open_gates.new.members c.close_gates.ensures.continues (continues_trans c.write_bodies.ensures.continues c.open_gates.ensures.continues)
+    (λ i m. (c.close_gates.ensures.outcome i (member_below m0 i m)).dropped m)
+    (dropped_then b d e m1 m2 c.open_gates.new.members c.write_bodies.ensures.continues c.open_gates.ensures.continues (λ i m. (c.write_bodies.ensures.outcome i (member_below m1 i m)).dropped m) c.open_gates.ensures.dropped)
+
+pub returns-clause-others : goal.returns-clause-others
+returns-clause-others g c =
+    let a = g.S.Shelf.shelf c.args.shelf.now in
+    let b = g.S.Shelf.shelf c.close_gates.new.shelf in
+    let d = g.S.Shelf.shelf c.write_bodies.new.shelf in
+    let e = g.S.Shelf.shelf c.open_gates.new.shelf in
+    let as_many : length c.close_gates.new.members ≡ length c.args.members.now = search rules in
+    let shorter : length c.write_bodies.new.members ≡ length c.close_gates.new.members = search rules in
+    stay_then a b e c.args.members.now c.close_gates.new.members (fewer_closed c.args.members.now c.close_gates.new.members (g.S.Shelf.shelf c.args.shelf.now) (g.S.Shelf.shelf c.close_gates.new.shelf) as_many c.close_gates.ensures.outcome) c.close_gates.ensures.others
+    (stay_then b d e c.close_gates.new.members c.write_bodies.new.members (fewer_written c.close_gates.new.members c.write_bodies.new.members (g.S.Shelf.shelf c.close_gates.new.shelf) (g.S.Shelf.shelf c.write_bodies.new.shelf) shorter c.write_bodies.ensures.outcome) c.write_bodies.ensures.others c.open_gates.ensures.others)
+
+pub returns-clause-shown : goal.returns-clause-shown
+returns-clause-shown g c h i is =
+    let a = g.S.Shelf.shelf c.args.shelf.now in
+    let b = g.S.Shelf.shelf c.close_gates.new.shelf in
+    let d = g.S.Shelf.shelf c.write_bodies.new.shelf in
+    let e = g.S.Shelf.shelf c.open_gates.new.shelf in
+    let ab = c.close_gates.ensures.continues in
+    let bd = c.write_bodies.ensures.continues in
+    let as_many : length c.close_gates.new.members ≡ length c.args.members.now = search rules in
+    let shorter : length c.write_bodies.new.members ≡ length c.close_gates.new.members = search rules in
+    let hd = bd.honest (ab.honest h) in
+    record {
+      clean = c.open_gates.ensures.clean hd i is;
+      shown = c.open_gates.ensures.shown hd i is ∙ ap (λ (x : List ℕ). Some x)
+          (body_stands a b d e c.args.members.now c.close_gates.new.members c.write_bodies.new.members (slot_in c.args.slot) c.args.body.now
+          (g.met.S.Shelf.is_shelf c.args.shelf.now) (g.met.S.Shelf.is_shelf c.close_gates.new.shelf) (g.met.S.Shelf.is_shelf c.write_bodies.new.shelf) h ab bd c.requires.members c.requires.size as_many shorter
+          c.close_gates.ensures.outcome c.write_bodies.ensures.outcome i (c.open_gates.ensures.fewer i is));
+    }
+
+pub returns-clause-writes : goal.returns-clause-writes
+returns-clause-writes g c h =
+    let a = g.S.Shelf.shelf c.args.shelf.now in
+    let b = g.S.Shelf.shelf c.close_gates.new.shelf in
+    let d = g.S.Shelf.shelf c.write_bodies.new.shelf in
+    let e = g.S.Shelf.shelf c.open_gates.new.shelf in
+    let as_many : length c.close_gates.new.members ≡ length c.args.members.now = search rules in
+    let shorter : length c.write_bodies.new.members ≡ length c.close_gates.new.members = search rules in
+    let ab = c.close_gates.ensures.continues in
+    let bd = c.write_bodies.ensures.continues in
+    let hb = ab.honest h in
+    in_slot c.args.members.now c.close_gates.new.members c.write_bodies.new.members (slot_in c.args.slot) a b d e (λ k. (b.disk k).faults) (fewer_closed c.args.members.now c.close_gates.new.members (g.S.Shelf.shelf c.args.shelf.now) (g.S.Shelf.shelf c.close_gates.new.shelf) as_many c.close_gates.ensures.outcome) (fewer_written c.close_gates.new.members c.write_bodies.new.members (g.S.Shelf.shelf c.close_gates.new.shelf) (g.S.Shelf.shelf c.write_bodies.new.shelf) shorter c.write_bodies.ensures.outcome) ab bd
+    (c.close_gates.ensures.writes h) (c.write_bodies.ensures.writes hb) (c.open_gates.ensures.writes (bd.honest hb))
+
+pub returns-clause-any_moment : goal.returns-clause-any_moment
+returns-clause-any_moment g c h missing held boot arrays spells force follow =
+    let a = g.S.Shelf.shelf c.args.shelf.now in
+    let b = g.S.Shelf.shelf c.close_gates.new.shelf in
+    let d = g.S.Shelf.shelf c.write_bodies.new.shelf in
+    let e = g.S.Shelf.shelf c.open_gates.new.shelf in
+    let ab = c.close_gates.ensures.continues in
+    let bd = c.write_bodies.ensures.continues in
+    let as_many : length c.close_gates.new.members ≡ length c.args.members.now = search rules in
+    let shorter : length c.write_bodies.new.members ≡ length c.close_gates.new.members = search rules in
+    store_moments a b d e c.args.members.now c.close_gates.new.members c.write_bodies.new.members (slot_in c.args.slot) c.args.body.now
+    (g.met.S.Shelf.is_shelf c.args.shelf.now) (g.met.S.Shelf.is_shelf c.close_gates.new.shelf) (g.met.S.Shelf.is_shelf c.write_bodies.new.shelf) h ab bd c.requires.members c.requires.size as_many shorter
+    c.close_gates.ensures.outcome c.write_bodies.ensures.outcome
+    missing held boot arrays spells force follow
+    (c.close_gates.ensures.any_moment h) (c.write_bodies.ensures.any_moment (ab.honest h)) (c.open_gates.ensures.any_moment (bd.honest (ab.honest h)))
+
+pub returns-clause-stored : goal.returns-clause-stored
+returns-clause-stored g c h missing held boot arrays spells newer force follow later account =
+    let a = g.S.Shelf.shelf c.args.shelf.now in
+    let b = g.S.Shelf.shelf c.close_gates.new.shelf in
+    let d = g.S.Shelf.shelf c.write_bodies.new.shelf in
+    let e = g.S.Shelf.shelf c.open_gates.new.shelf in
+    let ab = c.close_gates.ensures.continues in
+    let bd = c.write_bodies.ensures.continues in
+    let as_many : length c.close_gates.new.members ≡ length c.args.members.now = search rules in
+    let shorter : length c.write_bodies.new.members ≡ length c.close_gates.new.members = search rules in
+    let hb = ab.honest h in
+    let hd = bd.honest hb in
+    is_stored a b d e c.args.members.now c.close_gates.new.members c.write_bodies.new.members (slot_in c.args.slot) c.args.body.now
+    (g.met.S.Shelf.is_shelf c.args.shelf.now) (g.met.S.Shelf.is_shelf c.close_gates.new.shelf) (g.met.S.Shelf.is_shelf c.write_bodies.new.shelf) h ab bd c.requires.members c.requires.size as_many shorter
+    c.close_gates.ensures.outcome c.write_bodies.ensures.outcome
+    missing held boot arrays spells force follow
+    (c.close_gates.ensures.any_moment h) (c.write_bodies.ensures.any_moment hb) (c.open_gates.ensures.any_moment hd)
+    c.open_gates.new.members (g.met.S.Shelf.is_shelf c.open_gates.new.shelf) c.open_gates.ensures.continues newer c.open_gates.ensures.fewer c.open_gates.ensures.dropped (c.open_gates.ensures.clean hd) (c.open_gates.ensures.shown hd)
+    (c.close_gates.ensures.writes h).device (c.write_bodies.ensures.writes hb).device (c.open_gates.ensures.writes hd).device later account

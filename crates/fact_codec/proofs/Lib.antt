@@ -1,0 +1,5 @@
+pub mod HeadLemmas
+pub mod ValueLemmas
+pub mod FieldLemmas
+pub mod FactLemmas
+pub mod OneFact

@@ -1,0 +1,60 @@
+-- Values: what is put of a value, and zeros behind it.
+use Rattle.std.proofs.Common.{◌≡◌, ℕ, ◌-◌, ◌≤◌, true, List, ◌++◌, length, refl, ap, sym, ◌∙◌, append-nil, arith}
+use Rattle.std.proofs.lemmas.List.{length-append, length-replicate}
+use Rattle.std.proofs.lemmas.Grind.{common_steps}
+use Rattle.pur_base.specs.Bytes.{u64, zeros, padded}
+use Rattle.pur_base.specs.Names.{is_name}
+use Rattle.pur_base.specs.declared.limits.TheConstants.{NAME_BYTES}
+use Rattle.pur_base.specs.declared.facts.ObjectFact.{ObjectFact}
+use Rattle.pur_base.specs.declared.facts.AnyFact.{AnyFact}
+use Rattle.pur_base.specs.declared.facts.AnyFact.TheVariants as any
+use Rattle.fact_codec.specs.declared.limits.TheConstants.{FACT_BYTES, VALUE_BYTES}
+use Rattle.fact_codec.specs.Fact.{fact_bytes, value_bytes, IsLawful, IsStatement}
+use Rattle.fact_codec.specs.Heads.{head_bytes, head_of}
+use Rattle.fact_codec.specs.Values.{put_bytes}
+use Rattle.fact_codec.proofs.HeadLemmas.{spelled}
+
+-- zeros are as many as they are
+pub zeros_are : (xs : List ℕ) (n : ℕ) → xs ≡ zeros n → xs ≡ zeros (length xs)
+zeros_are xs n e = e ∙ ap zeros (sym (ap length e ∙ length-replicate n 0))
+
+-- a name isn't longer than its room
+pub name_fits : (name : List ℕ) → is_name name ≡ true → length name ≤ NAME_BYTES
+name_fits name h = grind (arith, common_steps)
+
+-- bytes and zeros that fill their room
+pub padded_is : (n : ℕ) (bytes front rest : List ℕ) → length bytes ≡ n → bytes ≡ front ++ rest → rest ≡ zeros (length rest) → bytes ≡ padded n front
+padded_is n bytes front rest room e zero =
+    let len : length rest ≡ n - length front = omega (arith, ap length e, length-append front rest) in
+    e ∙ ap (λ (x : List ℕ). front ++ x) (zero ∙ ap zeros len)
+
+pub length-field : (name : List ℕ) → length name ≤ NAME_BYTES → length (padded NAME_BYTES name) ≡ NAME_BYTES
+length-field name fits =
+    omega (arith, length-append name (zeros (NAME_BYTES - length name)), length-replicate {A = ℕ} (NAME_BYTES - length name) 0)
+
+-- an object's value fills its room
+pub object_fills : (f : ObjectFact) → length f.name ≤ NAME_BYTES → padded VALUE_BYTES (value_bytes (any.Object f)) ≡ value_bytes (any.Object f)
+object_fills f fits =
+    let all = value_bytes (any.Object f) in
+    let none : VALUE_BYTES - length all ≡ 0 = omega (arith, length-field f.name fits) in
+    ap (λ (n : ℕ). all ++ zeros n) none ∙ append-nil all
+
+-- what is put of a value, with zeros behind it, is the value with zeros behind it
+put_padded : (f : AnyFact) → IsStatement f → padded VALUE_BYTES (put_bytes f) ≡ padded VALUE_BYTES (value_bytes f)
+put_padded (any.Object f) h =
+    let fits : length f.name ≤ NAME_BYTES = name_fits f.name h.3 in
+    let front : List ℕ = u64 f.medium.0 ++ f.name in
+    let room : VALUE_BYTES - length front ≡ NAME_BYTES - length f.name = omega arith in
+    ap (λ (n : ℕ). front ++ zeros n) room ∙ sym (object_fills f fits)
+put_padded (any.Medium f) h = refl
+put_padded (any.Address f) h = refl
+put_padded (any.Segment f) h = refl
+put_padded (any.Elision f) h = refl
+
+-- the head and what is put of the value, with zeros behind them, spell the fact
+pub written : (f : AnyFact) → IsLawful f → padded FACT_BYTES (head_bytes (head_of f) ++ put_bytes f) ≡ fact_bytes f
+written f lawful =
+    let room : FACT_BYTES - length (head_bytes (head_of f) ++ put_bytes f) ≡ VALUE_BYTES - length (put_bytes f) = omega arith in
+    ap (λ (n : ℕ). head_bytes (head_of f) ++ (put_bytes f ++ zeros n)) room
+    ∙ ap (λ (x : List ℕ). head_bytes (head_of f) ++ x) (put_padded f lawful.statement)
+    ∙ sym (spelled f)

@@ -1,0 +1,7 @@
+use Rattle.std.proofs.Common.{◌∙◌, append_assoc}
+use Rattle.fact_codec.proofs.writing.put_head.Goals as goal
+
+pub returns-clause-bytes : goal.returns-clause-bytes
+returns-clause-bytes c =
+    c.put_u64-3.ensures.bytes
+    ∙ rw (c.put_u64-2.ensures.bytes, c.put_u64.ensures.bytes, c.put_u32.ensures.bytes, c.put_u8-4.ensures.bytes, c.put_u8-3.ensures.bytes, c.put_u8-2.ensures.bytes, c.put_u8.ensures.bytes) (simp append_assoc)

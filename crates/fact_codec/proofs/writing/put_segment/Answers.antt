@@ -1,0 +1,13 @@
+use Rattle.std.proofs.Common.{arith, ap, length}
+use Rattle.std.proofs.lemmas.List.{length-append}
+use Rattle.std.proofs.lemmas.List.Elements.{recursion_from_All}
+use Rattle.byte_fields.specs.Places.{places_bytes, FitsBytes}
+use Rattle.byte_fields.proofs.SpellingLemmas.{length-places_bytes}
+use Rattle.fact_codec.proofs.writing.put_segment.Goals as goal
+
+pub returns-clause-fits : goal.returns-clause-fits
+returns-clause-fits c =
+    let places = c.args.segment.now.places in (
+      omega (arith, ap length c.put_places.ensures.bytes, length-append c.args.front.now (places_bytes places), length-places_bytes places),
+      recursion_from_All FitsBytes places c.put_places.ensures.fits,
+    )

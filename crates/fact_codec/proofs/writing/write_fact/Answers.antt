@@ -1,0 +1,15 @@
+use Rattle.std.proofs.Common.{◌≡◌, ◌++◌, ◌∙◌, ap, List, ℕ}
+use Rattle.pur_base.specs.Bytes.{padded}
+use Rattle.fact_codec.specs.declared.limits.TheConstants.{FACT_BYTES}
+use Rattle.fact_codec.specs.Heads.{head_bytes, head_of}
+use Rattle.fact_codec.specs.Values.{put_bytes}
+use Rattle.fact_codec.proofs.ValueLemmas.{written}
+use Rattle.fact_codec.proofs.writing.write_fact.Goals as goal
+
+pub returns : goal.returns
+returns c =
+    let front : c.put_value.new.front ≡ head_bytes (head_of c.args.fact.now) ++ put_bytes c.args.fact.now = c.put_value.ensures.bytes ∙ ap (λ (x : List ℕ). x ++ put_bytes c.args.fact.now) (c.put_head.ensures.bytes ∙ ap (λ (x : List ℕ). x ++ head_bytes c.of.result) c.new-front.ensures.empty ∙ ap head_bytes c.of.ensures) in
+    record {
+      fact = record { lawful = c.requires; fits = c.put_value.ensures.fits };
+      bytes = c.into_bytes.ensures ∙ ap (λ (x : List ℕ). padded FACT_BYTES x) front ∙ written c.args.fact.now c.requires;
+    }

@@ -1,7 +1,0 @@
-//! The log of commands on the two NVRAM devices: what was appended is there in every view that may be shown.
-//! A device that fails is dropped, and the log goes on with the other one; where both fail it says so.
-#![tactic(auto)]
-
-mod log;
-
-pub use log::{BothLost, NvLog};
