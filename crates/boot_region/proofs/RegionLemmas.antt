@@ -1,13 +1,14 @@
 -- What regions show, and how many of them show a body.
-use Rattle.std.proofs.Common.{◌≡◌, ℕ, zero, suc, ◌+◌, ◌-◌, ◌*◌, ◌<◌, ◌≤◌, List, [], ◌∷◌, ◌++◌, length, map, take, drop, get_or, refl, sym, ap, subst, ◌∙◌, add-zero, arith, Bool, true, false, cond, eqb, inl, inr}
+use Rattle.std.proofs.Common.{◌≡◌, ℕ, zero, suc, ◌+◌, ◌-◌, ◌*◌, ◌<◌, ◌≤◌, List, [], ◌∷◌, ◌++◌, length, map, take, drop, get_or, refl, sym, ap, subst, ◌∙◌, add-zero, arith, Bool, true, false, cond, eqb, ltb, inl, inr, IsTrue, ◌↔◌}
 use Rattle.std.specs.Prelude.{Option, Some, None, count_by, slice_index, option_and_then}
 use Rattle.std.specs.List.{range_with_len}
-use Rattle.std.proofs.lemmas.Bool.{eq-eqb, cases_Bool}
+use Rattle.std.proofs.lemmas.Bool.{eq-eqb, cases_Bool, ltb-true, lt-ltb}
 use Rattle.std.specs.Str.{bytes_eq}
+use Rattle.std.proofs.lemmas.List.FromFn.{length-map-range_with_len}
 use Rattle.std.specs.Cmp.Lexicographic.{same_text}
-use Rattle.boot_codec.specs.Region.{BootSlot, gate_place, body_place, shown_by, is_vote}
+use Rattle.boot_codec.specs.Region.{BootSlot, gate_place, body_place, shown_by, is_vote, IsDecided}
 use Rattle.boot_region.specs.declared.regions.TheConstants.{REGION_BYTES}
-use Rattle.boot_region.specs.Regions.{region_at}
+use Rattle.boot_region.specs.Regions.{region_at, vote_of, all_votes}
 use Rattle.array_spec.proofs.Votes.{counted}
 
 -- a body under an open gate is shown
@@ -21,19 +22,19 @@ shown_is slot bytes gate at n g a m e =
 pub counts_more : {X : Type 0} (p : X → Bool) (f : ℕ → X) (a n : ℕ) → count_by p (map f (range_with_len a (suc n))) ≡ count_by p (map f (range_with_len a n)) + cond (p (f (a + n))) 1 0
 counts_more p f a zero =
     let one : count_by p (f a ∷ []) ≡ cond (p (f a)) 1 0 + count_by p [] = counted p (f a) [] in
-    let same : cond (p (f a)) 1 0 ≡ cond (p (f (a + 0))) 1 0 = ap (λ (k : ℕ). cond (p (f k)) 1 0) (sym (add-zero a)) in
+    let same : ◌≡◌ {A = ℕ} (cond (p (f a)) 1 0) (cond (p (f (a + 0))) 1 0) = ap (λ (k : ℕ). cond {A = ℕ} (p (f k)) 1 0) (sym (add-zero a)) in
     omega (arith, one, same)
 counts_more p f a (suc n) =
     let rest : count_by p (map f (range_with_len (a + 1) (suc n))) ≡ count_by p (map f (range_with_len (a + 1) n)) + cond (p (f (a + 1 + n))) 1 0 = counts_more p f (a + 1) n in
     let same : a + 1 + n ≡ a + suc n = omega arith in
-    let at : cond (p (f (a + 1 + n))) 1 0 ≡ cond (p (f (a + suc n))) 1 0 = ap (λ (k : ℕ). cond (p (f k)) 1 0) same in
+    let at : ◌≡◌ {A = ℕ} (cond (p (f (a + 1 + n))) 1 0) (cond (p (f (a + suc n))) 1 0) = ap (λ (k : ℕ). cond (p (f k)) 1 0) same in
     omega (arith, counted p (f a) (map f (range_with_len (a + 1) (suc n))), counted p (f a) (map f (range_with_len (a + 1) n)), rest, at)
 
 -- the region of a drive that answered
-pub region_is : (bytes : List ℕ) (answered : List Bool) (i x n : ℕ) → x ≡ REGION_BYTES * i → n ≡ REGION_BYTES → get_or answered i false ≡ true
-    → Some (take n (drop x bytes)) ≡ region_at bytes answered i
+pub region_is : (read bytes : List ℕ) (answered : List Bool) (i x n : ℕ) → read ≡ bytes → x ≡ REGION_BYTES * i → n ≡ REGION_BYTES → get_or answered i false ≡ true
+    → Some (take n (drop x read)) ≡ region_at bytes answered i
 unfolding region_at
-region_is bytes answered i x n at m answers = rw answers (λ k. Some (take (m k) (drop (at k) bytes)))
+region_is read bytes answered i x n is at m answers = rw answers (λ k. Some (take (m k) (drop (at k) (is k))))
 
 -- a body that has a vote is shown by some drive
 pub some_vote : (f : ℕ → Option (List ℕ)) (body : List ℕ) (a n : ℕ) → 0 < count_by (is_vote body) (map f (range_with_len a n)) → (k : ℕ) × (k < a + n) × (f k ≡ Some body)
@@ -60,3 +61,45 @@ some_vote f body a (suc n) some = one (f a) refl (λ h. some_vote f body (a + 1)
       | inl same ↦ (a, omega arith, e ∙ ap (λ (b : List ℕ). Some b) (same_text other body (sym same)))
       | inr not_same ↦ later (Some other) e not_same rest
     ]
+
+-- one vote more, from the first on
+pub counts_next : {X : Type 0} (p : X → Bool) (f : ℕ → X) (n : ℕ) (b : Bool) → b ≡ p (f n)
+    → count_by p (map f (range_with_len 0 (n + 1))) ≡ count_by p (map f (range_with_len 0 n)) + cond b 1 0
+counts_next p f n b e =
+    let next : n + 1 ≡ suc n = omega arith in
+    let none : 0 + n ≡ n = omega arith in
+    let more : count_by p (map f (range_with_len 0 (suc n))) ≡ count_by p (map f (range_with_len 0 n)) + cond (p (f (0 + n))) 1 0 = counts_more p f 0 n in
+    let at : ◌≡◌ {A = ℕ} (cond (p (f (0 + n))) 1 0) (cond b 1 0) = ap (λ (k : ℕ). cond {A = ℕ} (p (f k)) 1 0) none ∙ ap (λ (x : Bool). cond {A = ℕ} x 1 0) (sym e) in
+    rw next (omega (arith, more, at))
+
+-- what a drive shows in a slot, by its region
+pub vote_in : (bytes : List ℕ) (answered : List Bool) (slot : BootSlot) (i : ℕ) (region : List ℕ) (vote : Option (List ℕ))
+    → Some region ≡ region_at bytes answered i → vote ≡ shown_by slot region → vote ≡ vote_of bytes answered slot i
+unfolding vote_of
+vote_in bytes answered slot i region vote is shows = shows ∙ ap (option_and_then (shown_by slot)) is
+
+-- and without one
+pub no_vote : (bytes : List ℕ) (answered : List Bool) (slot : BootSlot) (i : ℕ) → None ≡ region_at bytes answered i → None ≡ vote_of bytes answered slot i
+unfolding vote_of
+no_vote bytes answered slot i is = ap (option_and_then (shown_by slot)) is
+
+-- as many votes as drives
+pub votes_of_all : (bytes : List ℕ) (answered : List Bool) (slot : BootSlot) → length (all_votes bytes answered slot) ≡ length answered
+unfolding all_votes
+votes_of_all bytes answered slot = length-map-range_with_len (vote_of bytes answered slot) 0 (length answered)
+
+-- a body that has more than half of the votes is shown by some drive
+pub decided_is_shown : (bytes : List ℕ) (answered : List Bool) (slot : BootSlot) (body : List ℕ) → IsDecided (all_votes bytes answered slot) body
+    → (k : ℕ) × (k < length answered) × (vote_of bytes answered slot k ≡ Some body)
+unfolding all_votes
+decided_is_shown bytes answered slot body most =
+    let all : length (all_votes bytes answered slot) ≡ length answered = votes_of_all bytes answered slot in
+    let found = some_vote (vote_of bytes answered slot) body 0 (length answered) (omega (arith, most)) in
+    (found.0, omega (arith, found.1), found.2)
+
+-- the test for more than half is right
+pub half_is_passed : (bytes : List ℕ) (answered : List Bool) (slot : BootSlot) (body : List ℕ) (drives votes : ℕ) → drives ≡ length answered
+    → votes ≡ count_by (is_vote body) (all_votes bytes answered slot) → IsTrue (ltb drives (2 * votes)) ↔ IsDecided (all_votes bytes answered slot) body
+half_is_passed bytes answered slot body drives votes is counted_are =
+    let all : length (all_votes bytes answered slot) ≡ length answered = votes_of_all bytes answered slot in
+    (λ most. omega (arith, all, is, counted_are, ltb-true drives (2 * votes) most), λ most. lt-ltb drives (2 * votes) (omega (arith, all, is, counted_are, most)))

@@ -1,7 +1,6 @@
 // The boot units that were read of each drive, and which record they give.
 ghost use Rattle.std.specs.Prelude.{◌≡◌, ◌↔◌, ◌*◌, ◌<◌, ◌≤◌, length, IsTrue, IfSome, IfNone, IfOk, count_by};
 ghost use Rattle.std.specs.Option.{option_copied};
-ghost use Rattle.std.specs.Vec.{vec_len};
 ghost use Rattle.boot_codec.specs.declared.limits.TheConstants.{RECORD_BYTES};
 ghost use Rattle.boot_codec.specs.Region.{IsDecided, is_vote, shown_by, generation_in};
 ghost use Rattle.boot_region.specs.declared.regions.TheConstants.{REGION_BYTES};
@@ -21,15 +20,15 @@ pub const REGION_BYTES: usize = BOOT_UNITS as usize * UNIT_BYTES;
 pub struct Regions {
     pub bytes: Vec<u8>,
     pub answered: Vec<bool>,
-    ghost size: { length bytes.items ≡ REGION_BYTES * vec_len answered },
-    ghost few: { vec_len answered ≤ 24 },
+    ghost size: { length bytes.items ≡ REGION_BYTES * length answered.items },
+    ghost few: { length answered.items ≤ 24 },
 }
 
 impl Regions {
     /// A region for each drive, none of which has answered.
     pub fn new(alloc: Global, drives: u8) -> Result<Regions, NoMemory>
         requires { drives ≤ 24 }
-        ensures { IfOk result (λ r. vec_len r.answered ≡ drives) }
+        ensures { IfOk result (λ r. length r.answered.items ≡ drives) }
     {
         let drives = drives as usize;
         Ok(Regions {
@@ -41,7 +40,7 @@ impl Regions {
     /// The bytes that a drive showed, where it answered.
     #[tactic(auto, unfolding(crate::specs::Regions::region_at))]
     fn region(&self, drive: usize) -> Option<&[u8]>
-        requires { drive < vec_len self.now.answered }
+        requires { drive < length self.now.answered.items }
         ensures value { option_copied result ≡ region_at self.now.bytes.items self.now.answered.items drive }
         ensures size { IfSome result (λ r. length r.now ≡ REGION_BYTES) }
     {
@@ -55,7 +54,7 @@ impl Regions {
 
     /// The body that a drive shows in a slot: the one under an open gate.
     fn shown(&self, drive: usize, slot: Slot) -> Option<&[u8]>
-        requires { drive < vec_len self.now.answered }
+        requires { drive < length self.now.answered.items }
         ensures value { option_copied result ≡ vote_of self.now.bytes.items self.now.answered.items (slot_in slot) drive }
         ensures size { IfSome result (λ body. length body.now ≡ RECORD_BYTES) }
     {
@@ -67,7 +66,7 @@ impl Regions {
 
     /// Whether a drive shows this body in the slot.
     fn shows(&self, drive: usize, slot: Slot, body: &[u8]) -> bool
-        requires { drive < vec_len self.now.answered }
+        requires { drive < length self.now.answered.items }
         ensures { result ≡ is_vote body.now (vote_of self.now.bytes.items self.now.answered.items (slot_in slot) drive) }
     {
         match self.shown(drive, slot) {
@@ -79,7 +78,7 @@ impl Regions {
     /// How many drives show this body in the slot.
     fn votes_for(&self, body: &[u8], slot: Slot) -> usize
         ensures count { result ≡ count_by (is_vote body.now) (all_votes self.now.bytes.items self.now.answered.items (slot_in slot)) }
-        ensures bound { result ≤ vec_len self.now.answered }
+        ensures bound { result ≤ length self.now.answered.items }
     {
         let mut count = 0;
         for drive in 0..self.answered.len() {
