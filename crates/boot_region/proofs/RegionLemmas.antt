@@ -6,10 +6,11 @@ use Rattle.std.proofs.lemmas.Bool.{eq-eqb, cases_Bool, ltb-true, lt-ltb}
 use Rattle.std.specs.Str.{bytes_eq}
 use Rattle.std.proofs.lemmas.List.FromFn.{length-map-range_with_len}
 use Rattle.std.specs.Cmp.Lexicographic.{same_text}
-use Rattle.boot_codec.specs.Region.{BootSlot, gate_place, body_place, shown_by, is_vote, IsDecided}
+use Rattle.pur_base.specs.Devices.{Geometry}
+use Rattle.boot_codec.specs.Region.{BootSlot, A, B, gate_place, body_place, shown_by, is_vote, votes, generation_in, other_slot, IsDecided, IsEffective}
 use Rattle.boot_region.specs.declared.regions.TheConstants.{REGION_BYTES}
-use Rattle.boot_region.specs.Regions.{region_at, vote_of, all_votes}
-use Rattle.array_spec.proofs.Votes.{counted}
+use Rattle.boot_region.specs.Regions.{region_at, seen, vote_of, all_votes, IsUndecided, GivesNone, IsNewerOf}
+use Rattle.array_spec.proofs.Votes.{counted, one_is_decided}
 
 -- a body under an open gate is shown
 pub shown_is : (slot : BootSlot) (bytes : List ℕ) (gate at n : ℕ) → gate ≡ gate_place slot → at ≡ body_place slot → n ≡ 65536 → slice_index bytes gate ≡ 1
@@ -103,3 +104,53 @@ pub half_is_passed : (bytes : List ℕ) (answered : List Bool) (slot : BootSlot)
 half_is_passed bytes answered slot body drives votes is counted_are =
     let all : length (all_votes bytes answered slot) ≡ length answered = votes_of_all bytes answered slot in
     (λ most. omega (arith, all, is, counted_are, ltb-true drives (2 * votes) most), λ most. lt-ltb drives (2 * votes) (omega (arith, all, is, counted_are, most)))
+
+-- ---- the body in force
+
+-- the votes of the view are those of the regions
+pub votes_seen : (shelf : Geometry) (bytes : List ℕ) (answered : List Bool) (slot : BootSlot) → shelf.slots ≡ length answered
+    → votes shelf (seen bytes answered) slot ≡ all_votes bytes answered slot
+unfolding all_votes vote_of
+votes_seen shelf bytes answered slot drives = ap (λ n. map (λ i. option_and_then (shown_by slot) (region_at bytes answered i)) (range_with_len 0 n)) drives
+
+-- decided by the regions, decided in the view
+pub decided_in_view : (shelf : Geometry) (bytes : List ℕ) (answered : List Bool) (slot : BootSlot) (body : List ℕ) → shelf.slots ≡ length answered
+    → IsDecided (all_votes bytes answered slot) body → IsDecided (votes shelf (seen bytes answered) slot) body
+decided_in_view shelf bytes answered slot body drives most = subst (λ v. IsDecided v body) (sym (votes_seen shelf bytes answered slot drives)) most
+
+-- and the other way
+pub decided_by_regions : (shelf : Geometry) (bytes : List ℕ) (answered : List Bool) (slot : BootSlot) (body : List ℕ) → shelf.slots ≡ length answered
+    → IsDecided (votes shelf (seen bytes answered) slot) body → IsDecided (all_votes bytes answered slot) body
+decided_by_regions shelf bytes answered slot body drives most = subst (λ v. IsDecided v body) (votes_seen shelf bytes answered slot drives) most
+
+-- of two decided bodies the newer is in force
+pub newer_of_both : (bytes : List ℕ) (answered : List Bool) (a b : List ℕ) (slot : BootSlot) (body : List ℕ)
+    → IsDecided (all_votes bytes answered A) a → IsDecided (all_votes bytes answered B) b → IsNewerOf a b slot body
+    → (shelf : Geometry) → shelf.slots ≡ length answered → IsEffective shelf (seen bytes answered) slot body
+newer_of_both bytes answered a b A body first second newer shelf drives = record {
+  decided = decided_in_view shelf bytes answered A body drives (subst (IsDecided (all_votes bytes answered A)) (sym newer.0) first);
+  highest = λ other most.
+    let same : other ≡ b = one_is_decided (all_votes bytes answered B) other b (decided_by_regions shelf bytes answered B other drives most) second in
+    omega (arith, newer.1, ap generation_in same, ap generation_in newer.0);
+}
+newer_of_both bytes answered a b B body first second newer shelf drives = record {
+  decided = decided_in_view shelf bytes answered B body drives (subst (IsDecided (all_votes bytes answered B)) (sym newer.0) second);
+  highest = λ other most.
+    let same : other ≡ a = one_is_decided (all_votes bytes answered A) other a (decided_by_regions shelf bytes answered A other drives most) first in
+    omega (arith, newer.1, ap generation_in same, ap generation_in newer.0);
+}
+
+-- a body that is decided alone is in force
+pub only_one : (bytes : List ℕ) (answered : List Bool) (slot : BootSlot) (body : List ℕ)
+    → IsDecided (all_votes bytes answered slot) body → IsUndecided (all_votes bytes answered (other_slot slot))
+    → (shelf : Geometry) → shelf.slots ≡ length answered → IsEffective shelf (seen bytes answered) slot body
+only_one bytes answered slot body most none shelf drives = record {
+  decided = decided_in_view shelf bytes answered slot body drives most;
+  highest = λ other more. absurd (none other (decided_by_regions shelf bytes answered (other_slot slot) other drives more));
+}
+
+-- where none is decided in either slot, none is in the view
+pub none_of_both : (bytes : List ℕ) (answered : List Bool) → IsUndecided (all_votes bytes answered A) → IsUndecided (all_votes bytes answered B)
+    → (shelf : Geometry) → shelf.slots ≡ length answered → GivesNone shelf (seen bytes answered)
+none_of_both bytes answered first second shelf drives A body most = first body (decided_by_regions shelf bytes answered A body drives most)
+none_of_both bytes answered first second shelf drives B body most = second body (decided_by_regions shelf bytes answered B body drives most)

@@ -1,12 +1,12 @@
 -- The boot units that were read of each drive, as a view of the drives.
-use Rattle.std.specs.Prelude.{◌≡◌, ℕ, ◌*◌, Bool, false, List, length, map, Option, Some, None, slice_index_or, option_and_then, if◌then◌else◌}
+use Rattle.std.specs.Prelude.{◌≡◌, ℕ, ◌*◌, ◌<◌, ◌≤◌, Bool, false, List, length, map, Option, Some, None, slice_index_or, option_and_then, if◌then◌else◌}
 use Rattle.std.specs.List.{range_with_len}
 use Rattle.pur_base.specs.Bytes.{bytes_at}
-use Rattle.pur_base.specs.Devices.{View}
+use Rattle.pur_base.specs.Devices.{Geometry, View}
 use Rattle.pur_base.specs.declared.device.Device.{Device}
 use Rattle.pur_base.specs.declared.device.Device.TheVariants.{Drive, Nv}
 use Rattle.boot_region.specs.declared.regions.TheConstants.{REGION_BYTES}
-use Rattle.boot_codec.specs.Region.{BootSlot, IsDecided, shown_by}
+use Rattle.boot_codec.specs.Region.{BootSlot, A, B, IsDecided, generation_in, shown_by, votes}
 
 -- what a drive showed, where it answered: the regions stand one behind another
 unfoldable pub region_at : List ℕ → List Bool → ℕ → Option (List ℕ)
@@ -28,3 +28,12 @@ all_votes bytes answered slot = map (vote_of bytes answered slot) (range_with_le
 -- no body has more than half of the votes
 abbrev pub IsUndecided : List (Option (List ℕ)) → Type 0
 IsUndecided votes = (body : List ℕ) → IsDecided votes body → ⊥
+
+-- no body is decided in either slot
+abbrev pub GivesNone : Geometry → View → Type 0
+GivesNone shelf view = (slot : BootSlot) → IsUndecided (votes shelf view slot)
+
+-- of two bodies, that of slot B where its generation is the higher one, else that of slot A
+abbrev pub IsNewerOf : List ℕ → List ℕ → BootSlot → List ℕ → Type 0
+IsNewerOf a b A body = (body ≡ a) × (generation_in b ≤ generation_in a)
+IsNewerOf a b B body = (body ≡ b) × (generation_in a < generation_in b)

@@ -2,18 +2,23 @@
 ghost use Rattle.std.specs.Prelude.{◌≡◌, ◌↔◌, ◌*◌, ◌<◌, ◌≤◌, length, IsTrue, IfSome, IfNone, IfOk, count_by};
 ghost use Rattle.std.specs.Option.{option_copied};
 ghost use Rattle.boot_codec.specs.declared.limits.TheConstants.{RECORD_BYTES};
-ghost use Rattle.boot_codec.specs.Region.{IsDecided, is_vote, shown_by, generation_in};
+ghost use Rattle.pur_base.specs.Devices.{Geometry};
+ghost use Rattle.boot_codec.specs.Region.{IsDecided, IsEffective, is_vote, shown_by, generation_in};
 ghost use Rattle.boot_region.specs.declared.regions.TheConstants.{REGION_BYTES};
-ghost use Rattle.boot_region.specs.Regions.{region_at, vote_of, all_votes, IsUndecided};
+ghost use Rattle.boot_region.specs.Regions.{region_at, seen, vote_of, all_votes, IsUndecided, GivesNone, IsNewerOf};
 ghost use Rattle.boot_region.specs.Slots.{slot_in};
 
 use crate::Slot;
 use boot_codec::RECORD_BYTES;
+use byte_fields::u64_in;
 use pur_base::{BOOT_UNITS, NoMemory, UNIT_BYTES};
 use std::alloc::Global;
 
 /// The bytes of a drive's boot units.
 pub const REGION_BYTES: usize = BOOT_UNITS as usize * UNIT_BYTES;
+
+// Where a record's generation stands.
+const GENERATION_AT: usize = 16;
 
 /// The boot units of each drive, one behind another, and which drives answered.
 #[derive(Drop)]
@@ -110,6 +115,43 @@ impl Regions {
             }
         }
         None
+    }
+
+    /// The body that the regions give, and its slot: of the bodies that are decided, the one with the higher generation. A tie goes to slot A.
+    pub fn effective(&self) -> Option<(Slot, &[u8])>
+        ensures some { IfSome result (λ found. (shelf : Geometry) → shelf.slots ≡ length self.now.answered.items
+            → IsEffective shelf (seen self.now.bytes.items self.now.answered.items) (slot_in found.0) found.1.now) }
+        ensures none { IfNone result ((shelf : Geometry) → shelf.slots ≡ length self.now.answered.items
+            → GivesNone shelf (seen self.now.bytes.items self.now.answered.items)) }
+        ensures size { IfSome result (λ found. length found.1.now ≡ RECORD_BYTES) }
+    {
+        match (self.decided(Slot::A), self.decided(Slot::B)) {
+            (Some(a), Some(b)) => Some(newer(a, b)),
+            (Some(a), None) => Some((Slot::A, a)),
+            (None, Some(b)) => Some((Slot::B, b)),
+            (None, None) => None,
+        }
+    }
+}
+
+/// The generation that a body names, whether or not the rest of it is lawful.
+fn generation_of(body: &[u8]) -> u64
+    requires { length body.now ≡ RECORD_BYTES }
+    ensures { result ≡ generation_in body.now }
+{
+    u64_in(&body[GENERATION_AT..]).0
+}
+
+/// Of the bodies of slots A and B the one with the higher generation, or that of slot A.
+fn newer<'a>(a: &'a [u8], b: &'a [u8]) -> (Slot, &'a [u8])
+    requires a { length a.now ≡ RECORD_BYTES }
+    requires b { length b.now ≡ RECORD_BYTES }
+    ensures { IsNewerOf a.now b.now (slot_in result.0) result.1.now }
+{
+    if generation_of(a) < generation_of(b) {
+        (Slot::B, b)
+    } else {
+        (Slot::A, a)
     }
 }
 
