@@ -6,5 +6,6 @@ pub mod OnEach
 pub mod Phases
 pub mod Settled
 pub mod ShownLemmas
+pub mod ReadingLemmas
 pub mod RegionLemmas
 pub mod Stored

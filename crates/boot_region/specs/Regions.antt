@@ -1,12 +1,14 @@
 -- The boot units that were read of each drive, as a view of the drives.
-use Rattle.std.specs.Prelude.{◌≡◌, ℕ, ◌*◌, ◌<◌, ◌≤◌, Bool, false, List, length, map, Option, Some, None, slice_index_or, option_and_then, if◌then◌else◌}
+use Rattle.std.specs.Prelude.{◌≡◌, ◌⊎◌, ℕ, ◌*◌, ◌<◌, ◌≤◌, Bool, false, List, length, map, Option, Some, None, slice_index_or, option_and_then, if◌then◌else◌}
 use Rattle.std.specs.List.{range_with_len}
 use Rattle.pur_base.specs.Bytes.{bytes_at}
-use Rattle.pur_base.specs.Devices.{Geometry, View}
+use Rattle.pur_base.specs.Devices.{Geometry, View, drive}
 use Rattle.pur_base.specs.declared.device.Device.{Device}
 use Rattle.pur_base.specs.declared.device.Device.TheVariants.{Drive, Nv}
 use Rattle.boot_region.specs.declared.regions.TheConstants.{REGION_BYTES}
 use Rattle.boot_codec.specs.Region.{BootSlot, A, B, IsDecided, generation_in, shown_by, votes}
+use Rattle.world.specs.Counts.{Rises}
+use Rattle.world.specs.Shelf.{Shelved}
 
 -- what a drive showed, where it answered: the regions stand one behind another
 unfoldable pub region_at : List ℕ → List Bool → ℕ → Option (List ℕ)
@@ -37,3 +39,8 @@ GivesNone shelf view = (slot : BootSlot) → IsUndecided (votes shelf view slot)
 abbrev pub IsNewerOf : List ℕ → List ℕ → BootSlot → List ℕ → Type 0
 IsNewerOf a b A body = (body ≡ a) × (generation_in b ≤ generation_in a)
 IsNewerOf a b B body = (body ≡ b) × (generation_in a < generation_in b)
+
+-- the drive answered with its boot units, or a read of it failed
+abbrev pub IsRead : Shelved → Shelved → List ℕ → List Bool → ℕ → Type 0
+IsRead old new bytes answered i = (region_at bytes answered i ≡ Some (bytes_at 0 REGION_BYTES (old.disk (drive i)).bytes))
+    ⊎ ((region_at bytes answered i ≡ None) × Rises (old.disk (drive i)).faults (new.disk (drive i)).faults)

@@ -4,6 +4,7 @@
 
 mod gates;
 mod members;
+mod reading;
 mod regions;
 mod settling;
 mod slot;
@@ -11,7 +12,7 @@ mod storing;
 
 pub use gates::{close_gates, open_gates, write_bodies};
 pub use members::write_members;
-pub use regions::Regions;
+pub use regions::{REGION_BYTES, Regions};
 pub use settling::settle;
 pub use slot::Slot;
 pub use storing::store;

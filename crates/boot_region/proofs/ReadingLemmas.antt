@@ -1,0 +1,132 @@
+-- What a region that is read leaves of the others.
+use Rattle.std.proofs.Common.{◌≡◌, ◌≢◌, ◌⊎◌, inl, inr, ℕ, ◌+◌, ◌-◌, ◌*◌, ◌<◌, ◌≤◌, List, [], ◌++◌, length, take, drop, get_or, set, refl, sym, ap, subst, ◌∙◌, arith, Bool, true, false}
+use Rattle.std.specs.Prelude.{Result, Ok, Err, is_ok, OnOk, Option, Some, None, slice_set, slice_range, slice_index_or, if◌then◌else◌}
+use Rattle.std.proofs.lemmas.Bool.{cases_order}
+use Rattle.std.proofs.lemmas.List.{length-append, length-take, length-drop, drop-take, get_or-set_same, get_or-set_other}
+use Rattle.std.proofs.Math.Seq.{take-append_seam, take-length}
+use Rattle.std.proofs.lemmas.Slice.{take-put_mid_below, drop-put_mid, between-put_mid}
+use borrow.Rule.Slice.PartMut.{put_mid}
+use Rattle.pur_base.specs.Bytes.{bytes_at}
+use Rattle.boot_region.specs.declared.regions.TheConstants.{REGION_BYTES}
+use Rattle.boot_region.specs.Regions.{region_at, IsRead}
+use Rattle.pur_base.specs.Devices.{drive}
+use Rattle.world.specs.Counts.{Counts, Rises}
+use Rattle.world.specs.Shelf.{Disk, Shelved}
+
+-- as long as it was
+put_length : (at k : ℕ) (xs ys : List ℕ) → at + k ≤ length xs → length ys ≡ k → length (put_mid at k xs ys) ≡ length xs
+put_length at k xs ys fits size =
+    omega (arith, fits, size, length-append (take at xs) (ys ++ drop k (drop at xs)), length-append ys (drop k (drop at xs)), length-take at xs, length-drop k (drop at xs), length-drop at xs)
+
+-- what a vector holds, once a part of it was written
+pub part_written : (items was : List ℕ) (len at k : ℕ) (ys : List ℕ) → was ≡ items → len ≡ length items → at + k ≤ length items → length ys ≡ k
+    → take len (put_mid at k was ys ++ drop (length (put_mid at k was ys)) items) ≡ put_mid at k items ys
+part_written items was len at k ys is size fits part =
+    let same : put_mid at k was ys ≡ put_mid at k items ys = ap (λ xs. put_mid at k xs ys) is in
+    let all : len ≡ length (put_mid at k was ys) = size ∙ sym (put_length at k items ys fits part) ∙ sym (ap length same) in
+    rw all (take-append_seam (put_mid at k was ys) (drop (length (put_mid at k was ys)) items) ∙ same)
+
+-- a part below another keeps what it holds
+below : (at k i n : ℕ) (xs ys : List ℕ) → i + n ≤ at → at ≤ length xs → bytes_at i n (put_mid at k xs ys) ≡ bytes_at i n xs
+below at k i n xs ys low fits =
+    sym (drop-take i n (put_mid at k xs ys)) ∙ ap (drop i) (take-put_mid_below at k xs ys (i + n) low fits) ∙ drop-take i n xs
+
+-- and so does one above it
+above : (at k i n : ℕ) (xs ys : List ℕ) → at + k ≤ i → at ≤ length xs → length ys ≡ k → bytes_at i n (put_mid at k xs ys) ≡ bytes_at i n xs
+above at k i n xs ys high fits part = ap (take n) (drop-put_mid at k xs ys i high fits part)
+
+-- the regions of the other drives stay
+pub others_stay : (xs ys : List ℕ) (answered : List Bool) (d i : ℕ) (b : Bool) → REGION_BYTES * d + REGION_BYTES ≤ length xs → length ys ≡ REGION_BYTES → i ≢ d
+    → region_at (put_mid (REGION_BYTES * d) REGION_BYTES xs ys) (slice_set answered d b) i ≡ region_at xs answered i
+unfolding region_at
+others_stay xs ys answered d i b fits part other =
+    let answers : slice_index_or (slice_set answered d b) i false ≡ slice_index_or answered i false = get_or-set_other answered d i b false other in
+    rw answers (ap (λ bytes. if slice_index_or answered i false then Some bytes else None) bytes)
+  where
+    apart : (i d : ℕ) → i ≢ d → (i < d) ⊎ (d < i)
+    apart i d other = elim (cases_order i d) [ inl same ↦ absurd (other same) | inr side ↦ side ]
+
+    bytes : bytes_at (REGION_BYTES * i) REGION_BYTES (put_mid (REGION_BYTES * d) REGION_BYTES xs ys) ≡ bytes_at (REGION_BYTES * i) REGION_BYTES xs
+    bytes = elim (apart i d other) [
+      | inl less ↦ below (REGION_BYTES * d) REGION_BYTES (REGION_BYTES * i) REGION_BYTES xs ys (omega (arith, less)) (omega (arith, fits))
+      | inr more ↦ above (REGION_BYTES * d) REGION_BYTES (REGION_BYTES * i) REGION_BYTES xs ys (omega (arith, more)) (omega (arith, fits)) part
+    ]
+
+-- the region of a drive that answered
+pub answered_with : (xs ys : List ℕ) (answered : List Bool) (d : ℕ) (b : Bool) → REGION_BYTES * d + REGION_BYTES ≤ length xs → length ys ≡ REGION_BYTES → d < length answered → b ≡ true
+    → region_at (put_mid (REGION_BYTES * d) REGION_BYTES xs ys) (slice_set answered d b) d ≡ Some ys
+unfolding region_at
+answered_with xs ys answered d b fits part within is =
+    let answers : slice_index_or (slice_set answered d b) d false ≡ true = get_or-set_same answered d b false within ∙ is in
+    rw answers (ap (λ bytes. Some bytes) (of_part (REGION_BYTES * d) REGION_BYTES xs ys fits part))
+  where
+    of_part : (at k : ℕ) (xs ys : List ℕ) → at + k ≤ length xs → length ys ≡ k → bytes_at at k (put_mid at k xs ys) ≡ ys
+    of_part at k xs ys fits part =
+        let size : k ≡ at + k - at = omega arith in
+        ap (λ n. take n (drop at (put_mid at k xs ys))) size ∙ between-put_mid at k xs ys (at + k) (omega (arith, fits)) (omega (arith, part))
+
+-- none of one that didn't
+pub without_answer : (xs : List ℕ) (answered : List Bool) (d : ℕ) (b : Bool) → d < length answered → b ≡ false
+    → region_at xs (slice_set answered d b) d ≡ None
+unfolding region_at
+without_answer xs answered d b within is =
+    let answers : slice_index_or (slice_set answered d b) d false ≡ false = get_or-set_same answered d b false within ∙ is in
+    rw answers refl
+
+-- what the vector holds then
+regions_then : (items was ys : List ℕ) (len at k d : ℕ) → was ≡ items → len ≡ length items → at ≡ REGION_BYTES * d → k ≡ REGION_BYTES → REGION_BYTES * d + REGION_BYTES ≤ length items → length ys ≡ REGION_BYTES
+    → take len (put_mid at k was ys ++ drop (length (put_mid at k was ys)) items) ≡ put_mid (REGION_BYTES * d) REGION_BYTES items ys
+regions_then items was ys len at k d is size start many fits part =
+    part_written items was len at k ys is size (omega (arith, start, many, fits)) (part ∙ sym many)
+    ∙ ap (λ a. put_mid a k items ys) start ∙ ap (λ n. put_mid (REGION_BYTES * d) n items ys) many
+
+-- the regions of the other drives are kept
+pub others_are_kept : (items was ys : List ℕ) (answered : List Bool) (len at k d i : ℕ) (b : Bool) → was ≡ items → len ≡ length items → at ≡ REGION_BYTES * d → k ≡ REGION_BYTES
+    → REGION_BYTES * d + REGION_BYTES ≤ length items → length ys ≡ REGION_BYTES → i ≢ d
+    → region_at (take len (put_mid at k was ys ++ drop (length (put_mid at k was ys)) items)) (slice_set answered d b) i ≡ region_at items answered i
+others_are_kept items was ys answered len at k d i b is size start many fits part other =
+    ap (λ bytes. region_at bytes (slice_set answered d b) i) (regions_then items was ys len at k d is size start many fits part)
+    ∙ others_stay items ys answered d i b fits part other
+
+-- the drive answered with its boot units, or its count of faults rose
+answers_or_rises : {T E honest : Type 0} (answer : Result T E) (old new : Shelved) (xs ys : List ℕ) (answered : List Bool) (d n : ℕ) (b : Bool)
+    → REGION_BYTES * d + REGION_BYTES ≤ length xs → length ys ≡ REGION_BYTES → d < length answered → b ≡ is_ok answer → honest → n ≡ REGION_BYTES
+    → OnOk answer (honest → ys ≡ slice_range (old.disk (drive d)).bytes 0 (0 + n)) → Counts answer (old.disk (drive d)).faults (new.disk (drive d)).faults
+    → IsRead old new (put_mid (REGION_BYTES * d) REGION_BYTES xs ys) (slice_set answered d b) d
+answers_or_rises (Ok _) old new xs ys answered d n b fits part within is honest many bytes counts =
+    inl (answered_with xs ys answered d b fits part within is ∙ ap (λ bytes. Some bytes) (bytes honest ∙ ap (λ (m : ℕ). slice_range (old.disk (drive d)).bytes 0 (0 + m)) many))
+answers_or_rises (Err _) old new xs ys answered d n b fits part within is honest many bytes counts =
+    inr (without_answer (put_mid (REGION_BYTES * d) REGION_BYTES xs ys) answered d b within is, counts)
+
+-- so it is with what the vector holds then
+pub is_read : {T E honest : Type 0} (answer : Result T E) (old new : Shelved) (items was ys : List ℕ) (answered : List Bool) (len at k d n : ℕ) (b : Bool)
+    → was ≡ items → len ≡ length items → at ≡ REGION_BYTES * d → k ≡ REGION_BYTES
+    → REGION_BYTES * d + REGION_BYTES ≤ length items → length ys ≡ REGION_BYTES → d < length answered → b ≡ is_ok answer → honest → n ≡ REGION_BYTES
+    → OnOk answer (honest → ys ≡ slice_range (old.disk (drive d)).bytes 0 (0 + n)) → Counts answer (old.disk (drive d)).faults (new.disk (drive d)).faults
+    → IsRead old new (take len (put_mid at k was ys ++ drop (length (put_mid at k was ys)) items)) (slice_set answered d b) d
+is_read answer old new items was ys answered len at k d n b same size start many fits part within is honest read bytes counts =
+    subst (λ xs. IsRead old new xs (slice_set answered d b) d) (sym (regions_then items was ys len at k d same size start many fits part))
+    (answers_or_rises answer old new items ys answered d n b fits part within is honest read bytes counts)
+
+-- as much is lent as a region has
+pub lent_size : (items was : List ℕ) (at k d : ℕ) → was ≡ items → at ≡ REGION_BYTES * d → k ≡ REGION_BYTES → REGION_BYTES * d + REGION_BYTES ≤ length items
+    → length (take k (drop at was)) ≡ REGION_BYTES
+lent_size items was at k d is start many fits = omega (arith, start, many, fits, ap length is, length-take k (drop at was), length-drop at was)
+
+-- ---- one drive behind another
+
+-- what was read of a drive stays read while others are read
+pub stays_read : (old before now : Shelved) (bytes bytes_now : List ℕ) (answered answered_now : List Bool) (i : ℕ) → IsRead old before bytes answered i
+    → region_at bytes_now answered_now i ≡ region_at bytes answered i → now.disk (drive i) ≡ before.disk (drive i) → IsRead old now bytes_now answered_now i
+stays_read old before now bytes bytes_now answered answered_now i was same disk = elim was [
+  | inl read ↦ inl (same ∙ read)
+  | inr failed ↦ inr (same ∙ failed.0, subst (λ (d : Disk). Rises (old.disk (drive i)).faults d.faults) (sym disk) failed.1)
+]
+
+-- what is read of a drive that no call has touched is what it held at first
+pub first_read : (old before now : Shelved) (bytes : List ℕ) (answered : List Bool) (i : ℕ) → IsRead before now bytes answered i → before.disk (drive i) ≡ old.disk (drive i)
+    → IsRead old now bytes answered i
+first_read old before now bytes answered i read disk = elim read [
+  | inl is ↦ inl (is ∙ ap (λ (d : Disk). Some (bytes_at 0 REGION_BYTES d.bytes)) disk)
+  | inr failed ↦ inr (failed.0, subst (λ (d : Disk). Rises d.faults (now.disk (drive i)).faults) disk failed.1)
+]

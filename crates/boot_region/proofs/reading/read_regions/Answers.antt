@@ -1,0 +1,35 @@
+use Rattle.std.proofs.Common.{rules, ◌≡◌, ◌≢◌, ◌<◌, ℕ, length, arith, ◌∙◌, below_more}
+use Rattle.pur_base.specs.Devices.{drive}
+use Rattle.pur_base.proofs.Devices.{drives_apart}
+use Rattle.world.proofs.Moments.{continues_trans}
+use Rattle.boot_region.specs.Regions.{IsRead}
+use Rattle.boot_region.proofs.ReadingLemmas.{stays_read, first_read}
+use Rattle.boot_region.proofs.reading.read_regions.Goals as goal
+
+pub loop-drive-preserved : goal.loop-drive-preserved
+loop-drive-preserved g c =
+    let inv = c.loop-drive.invariant in
+    let x = c.read_region in
+    let slot = c.loop-drive.drive in
+    let a = g.S.Shelf.shelf c.args.shelf.now in
+    let b = g.S.Shelf.shelf c.loop-drive.shelf in
+    let n = g.S.Shelf.shelf x.new.shelf in
+    record {
+      continues = continues_trans inv.continues x.ensures.continues;
+      rest = g.met.S.Shelf.shelf_rest_stays.transitive _ _ _ inv.rest x.ensures.rest;
+      drives = x.ensures.drives ∙ inv.drives;
+      same = λ h device.
+        let was = inv.same h device in
+        let is = x.ensures.same (inv.continues.honest h) device in
+        record { bytes = is.bytes ∙ was.bytes; dirty = is.dirty ∙ was.dirty };
+      passed = λ h. below_more (λ i. IsRead a n x.new.regions.bytes.items x.new.regions.answered.items i) slot
+          (λ i lt. stays_read a b n c.loop-drive.regions.bytes.items x.new.regions.bytes.items c.loop-drive.regions.answered.items x.new.regions.answered.items i
+              (inv.passed h i lt) (x.ensures.kept i (omega (arith, lt))) (x.ensures.others (drive i) (drives_apart i slot (omega (arith, lt)))))
+          (first_read a b n x.new.regions.bytes.items x.new.regions.answered.items slot (x.ensures.read (inv.continues.honest h)) (inv.ahead slot (omega arith)));
+      ahead = λ i le. x.ensures.others (drive i) (drives_apart i slot (omega (arith, le))) ∙ inv.ahead i (omega (arith, le));
+    }
+
+pub returns-clause-read : goal.returns-clause-read
+returns-clause-read g c h i lt =
+    let drives : c.len-drive-end.result ≡ length c.args.regions.now.answered.items = search rules in
+    c.loop-drive.invariant.passed h i (omega (arith, lt, drives, c.requires, c.loop-drive-test.false))

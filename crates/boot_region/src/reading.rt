@@ -1,0 +1,42 @@
+// The boot units are read.
+ghost use Rattle.std.specs.Prelude.{◌≡◌, ◌≢◌, ◌<◌, ◌≤◌, ℕ, length};
+ghost use Rattle.pur_base.specs.declared.device.Device.{Device};
+ghost use Rattle.pur_base.specs.Devices.{drive};
+ghost use Rattle.world.specs.Shelf.{Continues, IsSame, OthersStay};
+ghost use Rattle.boot_region.specs.Regions.{region_at, IsRead};
+
+use crate::{REGION_BYTES, Regions};
+use pur_base::{Device, DriveId};
+use world::Shelf;
+
+/// Reads the boot units of a drive. Where that fails, the drive hasn't answered.
+fn read_region<S: Shelf>(shelf: &mut S, regions: &mut Regions, index: usize)
+    requires drive_in { index < length regions.old.answered.items }
+    requires drives { length regions.old.answered.items ≤ (S.shelf shelf.old).drives }
+    ensures continues { Continues (S.shelf shelf.old) (S.shelf shelf.new) }
+    ensures drives { length regions.new.answered.items ≡ length regions.old.answered.items }
+    ensures read { (S.shelf shelf.old).honest → IsRead (S.shelf shelf.old) (S.shelf shelf.new) regions.new.bytes.items regions.new.answered.items index }
+    ensures kept { (i : ℕ) → i ≢ index → region_at regions.new.bytes.items regions.new.answered.items i ≡ region_at regions.old.bytes.items regions.old.answered.items i }
+    ensures same { (S.shelf shelf.old).honest → (device : Device) → IsSame ((S.shelf shelf.old).disk device) ((S.shelf shelf.new).disk device) }
+    ensures others { OthersStay (drive index) (S.shelf shelf.old) (S.shelf shelf.new) }
+    ensures rest { S.shelf_rest shelf.old shelf.new }
+{
+    let at = index * REGION_BYTES;
+    let device = Device::Drive(DriveId(index as u8));
+    let answer = shelf.read(device, 0, &mut regions.bytes[at..at + REGION_BYTES]);
+    regions.answered[index] = answer.is_ok();
+}
+
+/// Reads the boot units of each drive of the shelf. Nothing is written.
+pub fn read_regions<S: Shelf>(shelf: &mut S, regions: &mut Regions)
+    requires { length regions.old.answered.items ≡ (S.shelf shelf.old).drives }
+    ensures continues { Continues (S.shelf shelf.old) (S.shelf shelf.new) }
+    ensures drives { length regions.new.answered.items ≡ (S.shelf shelf.new).drives }
+    ensures read { (S.shelf shelf.old).honest → (i : ℕ) → i < (S.shelf shelf.old).drives → IsRead (S.shelf shelf.old) (S.shelf shelf.new) regions.new.bytes.items regions.new.answered.items i }
+    ensures same { (S.shelf shelf.old).honest → (device : Device) → IsSame ((S.shelf shelf.old).disk device) ((S.shelf shelf.new).disk device) }
+    ensures rest { S.shelf_rest shelf.old shelf.new }
+{
+    for drive in 0..regions.answered.len() {
+        read_region(shelf, regions, drive);
+    }
+}
