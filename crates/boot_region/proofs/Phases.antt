@@ -57,12 +57,6 @@ not_risen_before a b c le none = elim (cases_Bool (has_risen a b)) [
 
 -- while gates are closed or opened
 module _ (members : List Bool) (shelf : Shelved) (stop : Stop) (slot : BootSlot) (left : LeavesBut (OnMembers members (gate_place slot) SECTOR_BYTES) shelf stop) where
-  start_of : Stop
-  start_of = began members shelf (gate_place slot) SECTOR_BYTES stop
-
-  then_at : ℕ → List ℕ
-  then_at i = began_at members shelf (gate_place slot) SECTOR_BYTES stop (drive i)
-
   long : (i : ℕ) → length (stop.image (drive i)) ≡ length (began_at members shelf (gate_place slot) SECTOR_BYTES stop (drive i))
   long i = same_size members shelf (gate_place slot) SECTOR_BYTES stop left i
 
@@ -107,9 +101,6 @@ closes_gates members shelf stop missing slot held is h some clean = record {
   where
     left : LeavesBut (OnMembers members (gate_place slot) SECTOR_BYTES) shelf stop
     left = on_all_members members shelf stop.faults (gate_place slot) stop some
-
-    Loses : List ℕ → Type 0
-    Loses body = Yields (other_slot slot) (generation_in body) (generation_in held)
 
     -- of a clean member
     out : (i k : ℕ) → IsMember members i → missing (drive i) ≡ Sound → (IsIn (record { start = gate_place slot; size = SECTOR_BYTES }) k → ⊥) → slice_index (stop.image (drive i)) k ≡ slice_index (shelf.disk (drive i)).bytes k

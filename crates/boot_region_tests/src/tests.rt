@@ -1,0 +1,206 @@
+use boot_codec::{RECORD_BYTES, is_open_gate};
+use boot_region::{Slot, close_gates, settle, store};
+use pur_base::{Device, DriveId, SECTOR_BYTES};
+use std::alloc::Global;
+use std::test::Fail;
+use world::{Failed, Shelf};
+use world_mem::{Call, Choice, Fused, MemWorld, What};
+
+const DRIVES: u8 = 11;
+
+/// The bytes of slot A's records, and of slot B's.
+const OLD: u8 = 7;
+
+const NEW: u8 = 9;
+
+/// Each dirty byte is a one: a torn gate is open.
+#[derive(Drop)]
+struct Ones;
+
+impl Choice for Ones {
+    fn byte(&mut self) -> u8 {
+        1
+    }
+}
+
+fn small_world(alloc: Global) -> Result<MemWorld, Fail> {
+    Ok(MemWorld::new(alloc, DRIVES, 64, Vec::new(alloc))?)
+}
+
+fn store_in<S: Shelf>(
+    shelf: &mut S,
+    members: &mut [bool],
+    slot: Slot,
+    byte: u8,
+) -> Result<(), Failed> {
+    if members.len() > usize::from(shelf.drives()) {
+        return Err(Failed);
+    }
+    store(shelf, members, slot, &[byte; RECORD_BYTES]);
+    Ok(())
+}
+
+fn settle_in<S: Shelf>(shelf: &mut S, members: &mut [bool], slot: Slot) -> Result<(), Failed> {
+    if members.len() > usize::from(shelf.drives()) {
+        return Err(Failed);
+    }
+    settle(shelf, members, slot);
+    Ok(())
+}
+
+fn read_sector<S: Shelf>(
+    shelf: &mut S,
+    drive: u8,
+    sector: u16,
+) -> Result<[u8; SECTOR_BYTES], Failed> {
+    let mut bytes = [0; SECTOR_BYTES];
+    if drive >= shelf.drives() || shelf.units() < 64 || sector >= 384 {
+        return Err(Failed);
+    }
+    shelf.read(
+        Device::Drive(DriveId(drive)),
+        u64::from(sector) * SECTOR_BYTES as u64,
+        &mut bytes,
+    )?;
+    Ok(bytes)
+}
+
+fn is_open<S: Shelf>(shelf: &mut S, drive: u8, slot: Slot) -> Result<bool, Failed> {
+    let sector = match slot {
+        Slot::A => 0,
+        Slot::B => 1,
+    };
+    Ok(is_open_gate(&read_sector(shelf, drive, sector)?))
+}
+
+/// The first and the last byte of a slot's body.
+fn ends<S: Shelf>(shelf: &mut S, drive: u8, slot: Slot) -> Result<(u8, u8), Failed> {
+    let (first, last) = match slot {
+        Slot::A => (128, 255),
+        Slot::B => (256, 383),
+    };
+    let begins = read_sector(shelf, drive, first)?;
+    let ends = read_sector(shelf, drive, last)?;
+    Ok((begins[0], ends[SECTOR_BYTES - 1]))
+}
+
+fn writes_of(world: &MemWorld) -> usize {
+    let mut count = 0usize;
+    for call in world.calls() {
+        if let Call::On(_, What::Write(_, _)) = call {
+            count = count.wrapping_add(1);
+        }
+    }
+    count
+}
+
+#[test]
+fn a_stored_record_is_shown_after_a_stop(rt: HostRuntime) -> Result<(), Fail> {
+    let alloc = rt.alloc();
+    let mut world = small_world(alloc)?;
+    let mut members = [true; 11];
+    store_in(&mut world, &mut members, Slot::A, OLD)?;
+    assert_eq!(rt; members, [true; 11]);
+    let mut stopped = world.stopped(alloc, &mut Ones)?;
+    for drive in 0..DRIVES {
+        assert!(rt; is_open(&mut stopped, drive, Slot::A)?);
+        assert_eq!(rt; ends(&mut stopped, drive, Slot::A)?, (OLD, OLD));
+        assert!(rt; !is_open(&mut stopped, drive, Slot::B)?);
+        assert_eq!(rt; ends(&mut stopped, drive, Slot::B)?, (0, 0));
+    }
+    Ok(())
+}
+
+#[test]
+fn a_gate_that_reads_as_closed_is_not_written(rt: HostRuntime) -> Result<(), Fail> {
+    let alloc = rt.alloc();
+    let mut world = small_world(alloc)?;
+    let mut members = [true; 11];
+    store_in(&mut world, &mut members, Slot::B, NEW)?;
+    assert_eq!(rt; writes_of(&world), 22);
+    world.forget();
+    store_in(&mut world, &mut members, Slot::B, OLD)?;
+    assert_eq!(rt; writes_of(&world), 33);
+    assert_eq!(rt; ends(&mut world, 10, Slot::B)?, (OLD, OLD));
+    Ok(())
+}
+
+#[test]
+fn members_that_fail_are_dropped(rt: HostRuntime) -> Result<(), Fail> {
+    let alloc = rt.alloc();
+    let mut world = small_world(alloc)?;
+    let mut members = [true; 11];
+    // The read of a gate fails, and it is written then.
+    world.fail(Device::Drive(DriveId(2)), 1)?;
+    // The write of a body fails, behind the read of the gate.
+    world.fail(Device::Drive(DriveId(3)), 2)?;
+    // The sync of a gate that is opened fails.
+    world.fail(Device::Drive(DriveId(4)), 5)?;
+    world.pull(Device::Drive(DriveId(5)));
+    store_in(&mut world, &mut members, Slot::A, NEW)?;
+    let mut left = [true; 11];
+    left[3] = false;
+    left[4] = false;
+    left[5] = false;
+    assert_eq!(rt; members, left);
+    assert!(rt; is_open(&mut world, 2, Slot::A)?);
+    assert!(rt; !is_open(&mut world, 3, Slot::A)?);
+    assert_eq!(rt; ends(&mut world, 2, Slot::A)?, (NEW, NEW));
+    Ok(())
+}
+
+#[test]
+fn settling_opens_what_is_closed(rt: HostRuntime) -> Result<(), Fail> {
+    let alloc = rt.alloc();
+    let mut world = small_world(alloc)?;
+    let mut members = [true; 11];
+    store_in(&mut world, &mut members, Slot::A, NEW)?;
+    let mut shut = [false; 11];
+    shut[6] = true;
+    if shut.len() > usize::from(world.drives()) || world.units() < 64 {
+        return Err(Fail::new("drives"));
+    }
+    close_gates(&mut world, &mut shut, Slot::A);
+    assert!(rt; !is_open(&mut world, 6, Slot::A)?);
+    world.forget();
+    world.pull(Device::Drive(DriveId(8)));
+    settle_in(&mut world, &mut members, Slot::A)?;
+    assert_eq!(rt; writes_of(&world), 1);
+    assert!(rt; is_open(&mut world, 6, Slot::A)?);
+    let mut left = [true; 11];
+    left[8] = false;
+    assert_eq!(rt; members, left);
+    Ok(())
+}
+
+/// Whether, cut off after so many calls of a store in slot B, each drive shows the record in slot A still, and in slot B the new one or none.
+fn shows_old_or_new(alloc: Global, calls: u64) -> Result<bool, Fail> {
+    let mut world = small_world(alloc)?;
+    let mut members = [true; 11];
+    store_in(&mut world, &mut members, Slot::A, OLD)?;
+    let mut fused = Fused::new(world, calls);
+    store_in(&mut fused, &mut members, Slot::B, NEW)?;
+    let mut stopped = fused.into_inner().stopped(alloc, &mut Ones)?;
+    for drive in 0..DRIVES {
+        if !is_open(&mut stopped, drive, Slot::A)?
+            || ends(&mut stopped, drive, Slot::A)? != (OLD, OLD)
+        {
+            return Ok(false);
+        }
+        if is_open(&mut stopped, drive, Slot::B)?
+            && ends(&mut stopped, drive, Slot::B)? != (NEW, NEW)
+        {
+            return Ok(false);
+        }
+    }
+    Ok(true)
+}
+
+#[test]
+fn a_stop_in_a_store_shows_the_old_record_or_the_new(rt: HostRuntime) -> Result<(), Fail> {
+    // In the bodies, between the bodies and the gates, in the gates, and behind all.
+    for calls in [20, 33, 40, 60] {
+        assert!(rt; shows_old_or_new(rt.alloc(), calls)?);
+    }
+    Ok(())
+}
