@@ -12,6 +12,7 @@ mod storing;
 
 pub use gates::{close_gates, open_gates, write_bodies};
 pub use members::write_members;
+pub use reading::read_regions;
 pub use regions::{REGION_BYTES, Regions};
 pub use settling::settle;
 pub use slot::Slot;

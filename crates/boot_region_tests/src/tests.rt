@@ -1,5 +1,5 @@
 use boot_codec::{RECORD_BYTES, is_open_gate};
-use boot_region::{Slot, close_gates, settle, store};
+use boot_region::{Regions, Slot, close_gates, read_regions, settle, store};
 use pur_base::{Device, DriveId, SECTOR_BYTES};
 use std::alloc::Global;
 use std::test::Fail;
@@ -202,5 +202,51 @@ fn a_stop_in_a_store_shows_the_old_record_or_the_new(rt: HostRuntime) -> Result<
     for calls in [20, 33, 40, 60] {
         assert!(rt; shows_old_or_new(rt.alloc(), calls)?);
     }
+    Ok(())
+}
+
+/// The slot in force and the first byte of its body, by the drives that answer.
+fn in_force(alloc: Global, world: &mut MemWorld) -> Result<Option<(Slot, u8)>, Fail> {
+    let mut regions = Regions::new(alloc, DRIVES)?;
+    if world.drives() != DRIVES {
+        return Err(Fail::new("drives"));
+    }
+    read_regions(world, &mut regions);
+    match regions.effective() {
+        Some((slot, body)) => Ok(Some((slot, body[0]))),
+        None => Ok(None),
+    }
+}
+
+#[test]
+fn more_than_half_of_all_drives_decide(rt: HostRuntime) -> Result<(), Fail> {
+    let alloc = rt.alloc();
+    let mut world = small_world(alloc)?;
+    assert_eq!(rt; in_force(alloc, &mut world)?, None);
+    let mut members = [true; 11];
+    store_in(&mut world, &mut members, Slot::A, OLD)?;
+    assert_eq!(rt; in_force(alloc, &mut world)?, Some((Slot::A, OLD)));
+    // Five drives show the higher generation, then six.
+    let mut five = [true, true, true, true, true, false, false, false, false, false, false];
+    store_in(&mut world, &mut five, Slot::B, NEW)?;
+    assert_eq!(rt; in_force(alloc, &mut world)?, Some((Slot::A, OLD)));
+    let mut one = [false, false, false, false, false, true, false, false, false, false, false];
+    store_in(&mut world, &mut one, Slot::B, NEW)?;
+    assert_eq!(rt; in_force(alloc, &mut world)?, Some((Slot::B, NEW)));
+    // A drive that shows it is pulled.
+    world.pull(Device::Drive(DriveId(3)));
+    assert_eq!(rt; in_force(alloc, &mut world)?, Some((Slot::A, OLD)));
+    Ok(())
+}
+
+#[test]
+fn a_tie_goes_to_slot_a(rt: HostRuntime) -> Result<(), Fail> {
+    let alloc = rt.alloc();
+    let mut world = small_world(alloc)?;
+    let mut members = [true; 11];
+    store_in(&mut world, &mut members, Slot::B, OLD)?;
+    assert_eq!(rt; in_force(alloc, &mut world)?, Some((Slot::B, OLD)));
+    store_in(&mut world, &mut members, Slot::A, OLD)?;
+    assert_eq!(rt; in_force(alloc, &mut world)?, Some((Slot::A, OLD)));
     Ok(())
 }
