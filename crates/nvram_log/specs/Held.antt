@@ -1,20 +1,15 @@
 -- The log that the member devices hold, and the one in memory.
-use Rattle.std.specs.Prelude.{◌≡◌, ◌⊎◌, ℕ, ◌+◌, ◌*◌, ◌<◌, Bool, true, false, List, [], length, Some, slice_get, slice_index_or, None, if◌then◌else◌}
+use Rattle.std.specs.Prelude.{◌≡◌, ℕ, ◌+◌, ◌*◌, ◌<◌, Bool, false, List, [], length, Some, slice_get, slice_index_or, None, if◌then◌else◌}
 use Rattle.pur_base.specs.Bytes.{bytes_at}
 use Rattle.pur_base.specs.Devices.{nvram, View}
 use Rattle.pur_base.specs.Commands.{Command}
-use Rattle.pur_base.specs.declared.device.Device.{Device}
 use Rattle.pur_base.specs.declared.device.Device.TheVariants.{Drive, Nv}
 use Rattle.world.specs.Shelf.{Shelved, Stop}
-use Rattle.world.specs.Counts.{Rises}
 use Rattle.log_codec.specs.declared.limits.TheConstants.{SLOT_BYTES}
 use Rattle.log_codec.specs.Log.{Spells}
 use Rattle.nvram_log.specs.declared.log.NvLog.{NvLog}
+use Rattle.nvram_log.specs.Members.{IsMember}
 use Rattle.nvram_log.specs.Slots.{IsBetween, IsLog}
-
--- whether a device is a member
-abbrev pub IsMember : List Bool → ℕ → Type 0
-IsMember members n = slice_index_or members n false ≡ true
 
 -- a slot of the log in memory
 abbrev pub slot_in : NvLog → ℕ → List ℕ
@@ -33,23 +28,6 @@ pub record HoldsOn (shelf : Shelved) (members : List Bool) (flushed : ℕ) (comm
 -- whatever a stop leaves, each of these devices shows at least the first log, and at most the second
 abbrev pub LeavesBetween : List Bool → ℕ → List Command → List Command → Stop → Type 0
 LeavesBetween members flushed least most stop = (n : ℕ) → n < 2 → IsMember members n → IsBetween (stop.image (nvram n)) flushed least most
-
--- bytes of the member devices
-abbrev pub OnMembers : List Bool → Device → ℕ → Type 0
-OnMembers members (Drive d) i = ⊥
-OnMembers members (Nv n) i = IsMember members n.0
-
--- a device is a member no longer where a write or a sync of it failed
-abbrev pub DroppedFailed : Shelved → Shelved → List Bool → List Bool → Type 0
-DroppedFailed old new was now = (n : ℕ) → n < 2 → IsMember was n → IsMember now n ⊎ Rises (old.disk (nvram n)).write_faults (new.disk (nvram n)).write_faults
-
--- none joins
-abbrev pub IsFewer : List Bool → List Bool → Type 0
-IsFewer was now = (n : ℕ) → IsMember now n → IsMember was n
-
--- some device is a member
-abbrev pub IsSome : List Bool → Type 0
-IsSome members = IsMember members 0 ⊎ IsMember members 1
 
 -- what the member devices show a reader
 abbrev pub shown_by : Shelved → List Bool → View

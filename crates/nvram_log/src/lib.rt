@@ -3,5 +3,6 @@
 #![tactic(auto)]
 
 mod log;
+mod members;
 
 pub use log::{BothLost, NvLog};
