@@ -4,7 +4,7 @@ use Rattle.pur_base.specs.Devices.{nvram}
 use Rattle.pur_base.specs.declared.device.Device.{Device}
 use Rattle.pur_base.specs.declared.device.Device.TheVariants.{Drive, Nv}
 use Rattle.world.specs.Counts.{Rises}
-use Rattle.world.specs.Shelf.{Shelved, Disk, IsIn, Written}
+use Rattle.world.specs.Shelf.{Shelved, Disk, IsIn}
 
 -- whether a device is a member
 abbrev pub IsMember : List Bool → ℕ → Type 0
@@ -32,10 +32,10 @@ abbrev pub OnRange : List Bool → ℕ → ℕ → Device → ℕ → Type 0
 OnRange members at n (Drive d) i = ⊥
 OnRange members at n (Nv v) i = IsMember members v.0 × IsIn (record { start = at; size = n }) i
 
--- A member holds the bytes and stays one, or its device failed. The others stay as they were.
-pub record Outcome (honest was is : Type 0) (at : ℕ) (from : List ℕ) (old new : Disk) : Type 0 where
+-- A member holds what was written and stays one, or its device failed. The others stay as they were.
+pub record Outcome (honest was is holds : Type 0) (old new : Disk) : Type 0 where
   pub before : is → was
-  pub written : honest → is → Written at from old.bytes new.bytes
+  pub written : honest → is → holds
   pub clean : honest → is → new.dirty ≡ []
   pub dropped : was → is ⊎ Rises old.write_faults new.write_faults
   pub others : (was → ⊥) → new ≡ old

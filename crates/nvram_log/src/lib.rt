@@ -2,7 +2,10 @@
 //! A device that fails is dropped, and the log goes on with the other one; where both fail it says so.
 #![tactic(auto)]
 
+mod bodies;
 mod log;
 mod members;
+mod record;
 
 pub use log::{BothLost, NvLog};
+pub use record::Record;

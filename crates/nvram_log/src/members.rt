@@ -2,7 +2,7 @@
 ghost use Rattle.std.specs.Prelude.{◌≡◌, ℕ, ◌+◌, ◌<◌, ◌≤◌, length};
 ghost use Rattle.pur_base.specs.declared.limits.TheConstants.{NVRAM_BYTES, NVRAM_DEVICES};
 ghost use Rattle.pur_base.specs.Devices.{nvram};
-ghost use Rattle.world.specs.Shelf.{Continues};
+ghost use Rattle.world.specs.Shelf.{Continues, Written};
 ghost use Rattle.world.specs.Writes.{WritesOnly};
 ghost use Rattle.nvram_log.specs.Members.{IsMember, OnRange, Outcome};
 
@@ -15,7 +15,8 @@ pub fn write_members<S: Shelf>(shelf: &mut S, members: &mut [bool], at: u64, fro
     requires fits { at + length from.now ≤ NVRAM_BYTES }
     ensures continues { Continues (S.shelf shelf.old) (S.shelf shelf.new) }
     ensures outcome { (n : ℕ) → n < NVRAM_DEVICES
-        → Outcome (S.shelf shelf.old).honest (IsMember members.old n) (IsMember members.new n) at from.now ((S.shelf shelf.old).disk (nvram n)) ((S.shelf shelf.new).disk (nvram n)) }
+        → Outcome (S.shelf shelf.old).honest (IsMember members.old n) (IsMember members.new n) (Written at from.now ((S.shelf shelf.old).disk (nvram n)).bytes ((S.shelf shelf.new).disk (nvram n)).bytes)
+        ((S.shelf shelf.old).disk (nvram n)) ((S.shelf shelf.new).disk (nvram n)) }
     ensures writes { (S.shelf shelf.old).honest → WritesOnly (OnRange members.old at (length from.now)) (S.shelf shelf.old) (S.shelf shelf.new) }
     ensures rest { S.shelf_rest shelf.old shelf.new }
 {

@@ -23,7 +23,7 @@ loop-device-preserved g c =
                 (λ d lt. let ne : d ≢ slot = omega arith in rw (get_or-set_other, x.ensures.others (nvram d) (nvrams_apart d slot ne)) (inv.passed d lt))
                 (let lt : slot < length c.loop-device.members = omega arith in
                 rw (get_or-set_same, w.is_ok.ensures.value, ← inv.disk_ahead slot (omega arith))
-                (outcome_of x.result _ _ c.args.at c.args.from.now _ _ member (λ h. x.ensures.written (inv.continues.honest h)) (λ h. x.ensures.clean (inv.continues.honest h)) x.ensures.counts));
+                (outcome_of x.result _ _ _ _ _ member (λ h. x.ensures.written (inv.continues.honest h)) (λ h. x.ensures.clean (inv.continues.honest h)) x.ensures.counts));
             same_ahead = λ d le. let ne : d ≢ slot = omega arith in rw get_or-set_other (inv.same_ahead d (omega arith));
             disk_ahead = λ d le. x.ensures.others (nvram d) (nvrams_apart d slot (omega arith)) ∙ inv.disk_ahead d (omega arith);
           })
