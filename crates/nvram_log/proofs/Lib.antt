@@ -1,1 +1,2 @@
 pub mod OnEach
+pub mod InSlots

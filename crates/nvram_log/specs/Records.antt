@@ -1,10 +1,13 @@
 -- The commands of records, and their places on a device.
-use Rattle.std.specs.Prelude.{◌≡◌, ℕ, ◌+◌, ◌*◌, ◌<◌, List, length, map, Some, slice_get, slice_index}
+use Rattle.std.specs.Prelude.{◌≡◌, ℕ, ◌+◌, ◌*◌, ◌<◌, ◌≤◌, Bool, List, length, map, Some, slice_get, slice_index}
 use Rattle.pur_base.specs.Commands.{Command}
 use Rattle.pur_base.specs.Grammar.{data_count}
 use Rattle.pur_base.specs.declared.limits.TheConstants.{SECTOR_BYTES}
+use Rattle.pur_base.specs.declared.device.Device.{Device}
+use Rattle.pur_base.specs.declared.device.Device.TheVariants.{Drive, Nv}
 use Rattle.log_codec.specs.declared.limits.TheConstants.{SLOTS_START, SLOT_BYTES}
 use Rattle.log_codec.specs.Head.{IsCommand}
+use Rattle.nvram_log.specs.Members.{IsMember}
 use Rattle.nvram_log.specs.declared.record.Record.{Record}
 
 -- the command that a record brings
@@ -29,6 +32,14 @@ record_bytes r = SECTOR_BYTES * (1 + length r.sectors.now)
 -- where a slot begins on a device, and in memory
 abbrev pub slot_place : ℕ → ℕ
 slot_place i = SLOTS_START + SLOT_BYTES * i
+
+-- a device's bytes from a slot on, and those of each member
+abbrev pub FromSlot : Device → ℕ → Device → ℕ → Type 0
+FromSlot device first d i = (d ≡ device) × (slot_place first ≤ i)
+
+abbrev pub OnSlotsFrom : List Bool → ℕ → Device → ℕ → Type 0
+OnSlotsFrom members first (Drive d) i = ⊥
+OnSlotsFrom members first (Nv v) i = IsMember members v.0 × (slot_place first ≤ i)
 
 -- the device has the record's bytes of that slot as they are in memory
 abbrev pub StandsIn : List ℕ → List ℕ → ℕ → Record → Type 0
