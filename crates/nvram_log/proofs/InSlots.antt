@@ -1,5 +1,5 @@
 -- What stands in the slots stays while later slots are written.
-use Rattle.std.proofs.Common.{◌≡◌, inl, inr, ℕ, ◌+◌, ◌*◌, ◌≤◌, ◌<◌, List, length, Bool, Some, slice_get, get_or, sym, ◌∙◌, subst, refl, arith}
+use Rattle.std.proofs.Common.{◌≡◌, inl, inr, ℕ, ◌+◌, ◌*◌, ◌≤◌, ◌<◌, List, length, Bool, Some, slice_get, get_or, sym, ◌∙◌, subst, arith}
 use Rattle.std.proofs.lemmas.Bool.{cases_lt}
 use Rattle.std.proofs.lemmas.Option.{get_or_from_slice_get}
 use Rattle.pur_base.specs.Devices.{nvram}
@@ -12,7 +12,7 @@ use Rattle.world.specs.Shelf.{Disk}
 use Rattle.world.specs.Writes.{OneRange, ChangesOnly}
 use Rattle.nvram_log.specs.declared.record.Record.{Record}
 use Rattle.nvram_log.specs.Members.{IsMember}
-use Rattle.nvram_log.specs.Records.{IsRecord, AreRecords, StandsIn, FromSlot, OnSlotsFrom, slot_place, record_bytes}
+use Rattle.nvram_log.specs.Records.{IsRecord, AreRecords, StandsIn, FromSlot, OnSlotsFrom, slot_place}
 
 -- a command brings at most 64 sectors
 pub few_data : (r : Request) → IsCommand r → data_count r ≤ 64

@@ -1,2 +1,3 @@
 pub mod OnEach
 pub mod InSlots
+pub mod Staged

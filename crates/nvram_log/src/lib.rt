@@ -6,6 +6,7 @@ mod bodies;
 mod log;
 mod members;
 mod record;
+mod staging;
 
 pub use log::{BothLost, NvLog};
 pub use record::Record;

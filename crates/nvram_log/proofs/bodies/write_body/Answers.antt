@@ -1,4 +1,4 @@
-use Rattle.std.proofs.Common.{rules, ◌≡◌, ◌+◌, ◌-◌, ◌*◌, ◌≤◌, ℕ, List, length, slice_range, refl, subst, arith}
+use Rattle.std.proofs.Common.{◌≡◌, ◌+◌, ◌*◌, ◌≤◌, ℕ, List, length, slice_range, refl, subst, arith}
 use Rattle.std.proofs.lemmas.List.Edits.{length-between}
 use Rattle.pur_base.specs.Devices.{nvram}
 use Rattle.world.specs.Writes.{OneRange, WritesOnly}
