@@ -1,10 +1,11 @@
 -- Sectors, and records, as they are copied.
-use Rattle.std.proofs.Common.{◌≡◌, ℕ, suc, ◌+◌, ◌*◌, ◌<◌, List, [], ◌∷◌, ◌++◌, length, take, drop, get_or, slice_index_or, sym, ◌∙◌, ap, refl, arith, inl, inr, append_assoc, length-append}
+use Rattle.std.proofs.Common.{◌≡◌, ◌≤◌, ◌-◌, ℕ, suc, ◌+◌, ◌*◌, ◌<◌, List, [], ◌∷◌, ◌++◌, length, take, drop, get_or, slice_index_or, sym, ◌∙◌, ap, refl, arith, inl, inr, append_assoc, length-append}
 use Rattle.std.proofs.lemmas.List.{take_at, drop_at, drop-drop, take_more, append-nil, get_or_past, get_or_append_left, get_or-append-add}
 use Rattle.std.proofs.lemmas.Bool.{cases_lt}
-use Rattle.std.specs.List.{AllByRecursion, concat}
+use Rattle.std.proofs.lemmas.Slice.{between_is, take-put_mid_below, between-put_mid}
+use Rattle.std.specs.List.{AllByRecursion, concat, between}
 use borrow.Rule.Slice.PartMut.{put_mid}
-use Rattle.pur_base.specs.Bytes.{IsBytes}
+use Rattle.pur_base.specs.Bytes.{IsBytes, bytes_at}
 
 pub concat-append : (xs ys : List (List ℕ)) → concat (xs ++ ys) ≡ concat xs ++ concat ys
 concat-append [] ys = refl
@@ -48,3 +49,17 @@ are_bytes sectors i all rest within size long is fits o =
 pub all_by : (P : List ℕ → Type 0) (xs : List (List ℕ)) → ((k : ℕ) → k < length xs → P (slice_index_or xs k [])) → AllByRecursion P xs
 all_by P [] each = tt
 all_by P (x ∷ xs) each = (each 0 (omega arith), all_by P xs (λ k lt. each (suc k) (omega arith)))
+
+-- ---- a write to a part
+
+at_range : (p n : ℕ) (xs : List ℕ) → bytes_at p n xs ≡ between p (p + n) xs
+at_range p n xs = ap (λ (m : ℕ). take m (drop p xs)) (let e : n ≡ p + n - p = omega arith in e)
+
+-- bytes in front of the part stay
+pub same_below : (p n a k : ℕ) (xs ys : List ℕ) → p + n ≤ a → a ≤ length xs → bytes_at p n (put_mid a k xs ys) ≡ bytes_at p n xs
+same_below p n a k xs ys below within =
+    at_range p n (put_mid a k xs ys) ∙ between_is (put_mid a k xs ys) p (p + n) ∙ ap (drop p) (take-put_mid_below a k xs ys (p + n) below within)
+    ∙ sym (between_is xs p (p + n)) ∙ sym (at_range p n xs)
+
+pub in_part : (n a k : ℕ) (xs ys : List ℕ) → a ≤ length xs → length ys ≡ n → bytes_at a n (put_mid a k xs ys) ≡ ys
+in_part n a k xs ys within long = at_range a n (put_mid a k xs ys) ∙ between-put_mid a k xs ys (a + n) within (omega (arith, long))

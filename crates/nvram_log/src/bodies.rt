@@ -13,7 +13,8 @@ use log_codec::{LOG_SLOTS, SLOT_BYTES, SLOTS_START};
 use pur_base::{Device, NvId, SECTOR_BYTES};
 use world::{Failed, Shelf};
 
-const SLOT: usize = SLOT_BYTES as usize;
+/// The bytes of a slot.
+pub const SLOT: usize = SLOT_BYTES as usize;
 
 // Writes a record's head and sectors into its slot. It isn't synced.
 fn write_body<S: Shelf>(
