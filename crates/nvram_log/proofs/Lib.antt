@@ -1,3 +1,5 @@
 pub mod OnEach
 pub mod InSlots
 pub mod Staged
+pub mod Lists
+pub mod Showing

@@ -52,7 +52,7 @@ all_by P (x ∷ xs) each = (each 0 (omega arith), all_by P xs (λ k lt. each (su
 
 -- ---- a write to a part
 
-at_range : (p n : ℕ) (xs : List ℕ) → bytes_at p n xs ≡ between p (p + n) xs
+pub at_range : (p n : ℕ) (xs : List ℕ) → bytes_at p n xs ≡ between p (p + n) xs
 at_range p n xs = ap (λ (m : ℕ). take m (drop p xs)) (let e : n ≡ p + n - p = omega arith in e)
 
 -- bytes in front of the part stay
