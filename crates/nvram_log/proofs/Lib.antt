@@ -3,3 +3,5 @@ pub mod InSlots
 pub mod Staged
 pub mod Lists
 pub mod Showing
+pub mod Along
+pub mod Storing

@@ -7,6 +7,8 @@ use Rattle.pur_base.specs.declared.device.Device.{Device}
 use Rattle.pur_base.specs.declared.device.Device.TheVariants.{Drive, Nv}
 use Rattle.log_codec.specs.declared.limits.TheConstants.{SLOTS_START, SLOT_BYTES}
 use Rattle.log_codec.specs.Head.{IsCommand}
+use Rattle.log_codec.specs.Log.{Spells}
+use Rattle.pur_base.specs.Bytes.{bytes_at}
 use Rattle.nvram_log.specs.Members.{IsMember}
 use Rattle.nvram_log.specs.declared.record.Record.{Record}
 
@@ -48,3 +50,7 @@ StandsIn bytes slots i r = (o : ℕ) → o < record_bytes r → slice_index byte
 -- the records stand in the slots from there on
 abbrev pub StandFrom : List ℕ → List ℕ → ℕ → List Record → Type 0
 StandFrom bytes slots first records = (j : ℕ) (r : Record) → slice_get records j ≡ Some r → StandsIn bytes slots (first + j) r
+
+-- the slots in memory from there on spell the records, under the numbers that belong there
+abbrev pub SpellFrom : List ℕ → ℕ → ℕ → List Record → Type 0
+SpellFrom slots flushed first records = (j : ℕ) (r : Record) → slice_get records j ≡ Some r → Spells (bytes_at (SLOT_BYTES * (first + j)) SLOT_BYTES slots) (flushed + 1 + (first + j)) (command_of r)

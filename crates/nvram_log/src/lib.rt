@@ -3,6 +3,7 @@
 #![tactic(auto)]
 
 mod bodies;
+mod gates;
 mod log;
 mod members;
 mod record;
