@@ -7,6 +7,7 @@ use Rattle.std.proofs.lemmas.Option.{slice_get_within}
 use Rattle.pur_base.specs.Commands.{Command}
 use Rattle.pur_base.specs.Devices.{nvram}
 use Rattle.pur_base.specs.declared.device.Device.{Device}
+use Rattle.pur_base.specs.declared.device.Device.TheVariants.{Drive, Nv}
 use Rattle.log_codec.specs.Log.{Spells, slot_at}
 use Rattle.world.specs.declared.shelf.Span.{Span}
 use Rattle.world.specs.Counts.{Rises}
@@ -125,3 +126,12 @@ module _ (a m : Shelved) (members left : List Bool) (slots : List ℕ) (flushed 
     where
       ones : length {A = ℕ} (replicate (length records) 1) ≡ length records
       ones = length-replicate {A = ℕ} (length records) 1
+
+-- what is written on members
+pub slots_of_members : (members : List Bool) (first : ℕ) (d : Device) (i : ℕ) → OnSlotsFrom members first d i → OnMembers members d i
+slots_of_members members first (Drive d) i w = w
+slots_of_members members first (Nv v) i w = w.0
+
+pub range_of_members : (members left : List Bool) (at n : ℕ) → IsFewer members left → (d : Device) (i : ℕ) → OnRange left at n d i → OnMembers members d i
+range_of_members members left at n fewer (Drive d) i w = w
+range_of_members members left at n fewer (Nv v) i w = fewer v.0 w.0

@@ -2,6 +2,7 @@
 //! A device that fails is dropped, and the log goes on with the other one; where both fail it says so.
 #![tactic(auto)]
 
+mod append;
 mod bodies;
 mod gates;
 mod log;
