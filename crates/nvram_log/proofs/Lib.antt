@@ -5,3 +5,4 @@ pub mod Lists
 pub mod Showing
 pub mod Along
 pub mod Storing
+pub mod Kept

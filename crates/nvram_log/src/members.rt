@@ -1,13 +1,21 @@
 // A write on each member.
-ghost use Rattle.std.specs.Prelude.{◌≡◌, ℕ, ◌+◌, ◌<◌, ◌≤◌, length};
+ghost use Rattle.std.specs.Prelude.{◌≡◌, ◌↔◌, ℕ, ◌+◌, ◌<◌, ◌≤◌, length, IsTrue};
 ghost use Rattle.pur_base.specs.declared.limits.TheConstants.{NVRAM_BYTES, NVRAM_DEVICES};
 ghost use Rattle.pur_base.specs.Devices.{nvram};
 ghost use Rattle.world.specs.Shelf.{Continues, Written};
 ghost use Rattle.world.specs.Writes.{WritesOnly};
-ghost use Rattle.nvram_log.specs.Members.{IsMember, OnRange, Outcome};
+ghost use Rattle.nvram_log.specs.Members.{IsMember, IsSome, OnRange, Outcome};
 
+use crate::log::DEVICES;
 use pur_base::{Device, NvId};
 use world::{Shelf, write_synced};
+
+/// Whether some device is a member.
+pub fn has_any(members: &[bool; DEVICES]) -> bool
+    ensures { IsTrue result ↔ IsSome members.now }
+{
+    members[0] || members[1]
+}
 
 /// Writes and syncs on each member device. One that fails is no longer a member.
 pub fn write_members<S: Shelf>(shelf: &mut S, members: &mut [bool], at: u64, from: &[u8])
