@@ -6,3 +6,4 @@ pub mod Showing
 pub mod Along
 pub mod Storing
 pub mod Kept
+pub mod Closing

@@ -1,9 +1,8 @@
 -- What a device shows of a log whose bytes stay in part.
-use Rattle.std.proofs.Common.{◌≡◌, inl, inr, ℕ, ◌+◌, ◌-◌, ◌*◌, ◌≤◌, ◌<◌, Bool, true, false, List, ◌++◌, length, take, drop, Some, slice_get, slice_index, slice_range, sym, ◌∙◌, ap, subst, arith, length-append}
-use Rattle.std.specs.Prelude.{◌==◌, IsTrue}
+use Rattle.std.proofs.Common.{◌≡◌, inl, inr, ℕ, ◌+◌, ◌-◌, ◌≤◌, ◌<◌, false, List, ◌++◌, length, Some, slice_get, slice_index, sym, ◌∙◌, ap, subst, arith, length-append}
+use Rattle.std.specs.Prelude.{◌==◌}
 use Rattle.std.proofs.lemmas.Bool.{cases_lt}
 use Rattle.std.proofs.lemmas.Option.{slice_get_within}
-use Rattle.pur_base.specs.Bytes.{bytes_at}
 use Rattle.pur_base.specs.Gates.{is_open}
 use Rattle.pur_base.specs.Commands.{Command}
 use Rattle.pur_base.specs.declared.limits.TheConstants.{NVRAM_BYTES}
@@ -22,10 +21,10 @@ pub record AreImages (a b : List ℕ) : Type 0 where
   pub old : length a ≡ NVRAM_BYTES
   pub new : length b ≡ length a
 
-same_gate : (a b : List ℕ) (i : ℕ) → slice_index b i ≡ slice_index a i → is_open i b ≡ is_open i a
+pub same_gate : (a b : List ℕ) (i : ℕ) → slice_index b i ≡ slice_index a i → is_open i b ≡ is_open i a
 same_gate a b i e = ap (λ (n : ℕ). n == 1) e
 
-same_slot : (a b : List ℕ) (i : ℕ) → AreImages a b → i < LOG_SLOTS → ((k : ℕ) → slot_place i ≤ k → k < slot_place (i + 1) → slice_index b k ≡ slice_index a k) → slot_at i b ≡ slot_at i a
+pub same_slot : (a b : List ℕ) (i : ℕ) → AreImages a b → i < LOG_SLOTS → ((k : ℕ) → slot_place i ≤ k → k < slot_place (i + 1) → slice_index b k ≡ slice_index a k) → slot_at i b ≡ slot_at i a
 same_slot a b i are lt same =
     at_range (slot_place i) 33280 b
     ∙ same_part b a (slot_place i) 33280 (omega (arith, are.old, are.new)) are.new (λ k is. same k is.0 (omega (arith, is.1)))
@@ -39,7 +38,7 @@ shows_too a b flushed i c gate slot shows = record {
   spelled = subst (λ (l : List ℕ). Spells l (flushed + 1 + i) c) (sym slot) shows.spelled;
 }
 
-closed_shows : (b : List ℕ) (flushed i : ℕ) (c : Command) → is_open i b ≡ false → ShowsIn b flushed i c → ⊥
+pub closed_shows : (b : List ℕ) (flushed i : ℕ) (c : Command) → is_open i b ≡ false → ShowsIn b flushed i c → ⊥
 closed_shows b flushed i c shut shows = absurd (cc (shut, shows.gate))
 
 -- nothing in front of the first free slot changes

@@ -1,5 +1,5 @@
 -- Records are stored on the members: their slots, and then their gates.
-use Rattle.std.proofs.Common.{◌≡◌, ◌⊎◌, inl, inr, ⊎_elim, ℕ, ◌+◌, ◌-◌, ◌*◌, ◌^◌, ◌≤◌, ◌<◌, Bool, true, false, List, [], ◌++◌, length, map, Some, slice_get, slice_index, slice_index_or, replicate, sym, ◌∙◌, ap, subst, refl, arith}
+use Rattle.std.proofs.Common.{◌≡◌, inl, inr, ⊎_elim, ℕ, ◌+◌, ◌-◌, ◌^◌, ◌≤◌, ◌<◌, Bool, false, List, [], ◌++◌, length, Some, slice_get, slice_index, slice_index_or, replicate, sym, ◌∙◌, ap, subst, arith}
 use Rattle.std.proofs.lemmas.Bool.{cases_lt, cases_Bool}
 use Rattle.std.proofs.lemmas.List.{length-map, length-replicate, get_or-replicate, get_or_past}
 use Rattle.std.proofs.lemmas.List.Edits.{get_or-between}
@@ -14,7 +14,7 @@ use Rattle.world.specs.Counts.{Rises}
 use Rattle.world.specs.Shelf.{Shelved, Stop, Disk, IsShelf, IsIn, IsInSome, Written}
 use Rattle.world.specs.Writes.{WritesOnly, LeavesBut, MayLeaveBut, ChangesOnly}
 use Rattle.nvram_log.specs.declared.record.Record.{Record}
-use Rattle.nvram_log.specs.Members.{IsMember, IsFewer, DroppedFailed, OnMembers, OnRange, Outcome}
+use Rattle.nvram_log.specs.Members.{IsMember, IsFewer, OnMembers, OnRange, Outcome}
 use Rattle.nvram_log.specs.Records.{commands_of, command_of, slot_place, OnSlotsFrom, StandFrom, SpellFrom}
 use Rattle.nvram_log.specs.Slots.{IsBetween, IsLog}
 use Rattle.nvram_log.specs.Held.{HoldsOn, LeavesBetween}

@@ -4,6 +4,7 @@
 
 mod append;
 mod bodies;
+mod clear;
 mod gates;
 mod log;
 mod members;

@@ -1,4 +1,4 @@
-use Rattle.std.proofs.Common.{◌≡◌, ◌<◌, ◌+◌, ℕ, List, inl, inr, length, ⊎_elim, ◌∙◌, arith}
+use Rattle.std.proofs.Common.{inl, inr, ⊎_elim, arith}
 use Rattle.pur_base.specs.Devices.{nvram}
 use Rattle.world.proofs.Moments.{then_run, weaker}
 use Rattle.world.proofs.Writes.{writes_then, writes_more}

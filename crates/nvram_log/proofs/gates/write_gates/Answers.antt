@@ -1,4 +1,4 @@
-use Rattle.std.proofs.Common.{◌≡◌, ◌≤◌, ◌<◌, ℕ, List, take, replicate, subst, arith}
+use Rattle.std.proofs.Common.{◌≡◌, ℕ, List, take, replicate, subst, arith}
 use Rattle.std.proofs.lemmas.List.{take-replicate}
 use Rattle.pur_base.specs.Devices.{nvram}
 use Rattle.world.specs.Shelf.{Written}

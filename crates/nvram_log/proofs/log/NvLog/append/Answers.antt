@@ -1,7 +1,6 @@
-use Rattle.std.proofs.Common.{◌≡◌, ℕ, ◌+◌, ◌*◌, ◌<◌, List, ◌++◌, length, map, sym, ◌∙◌, subst, arith, length-append}
+use Rattle.std.proofs.Common.{◌≡◌, ℕ, ◌+◌, ◌*◌, ◌<◌, List, sym, ◌∙◌, subst, arith, length-append}
 use Rattle.std.proofs.lemmas.List.{with_items_is, length-map}
 use Rattle.pur_base.specs.Bytes.{bytes_at}
-use Rattle.pur_base.specs.Commands.{Command}
 use Rattle.log_codec.specs.Log.{Spells}
 use Rattle.nvram_log.specs.Records.{commands_of, command_of, SpellFrom}
 use Rattle.nvram_log.proofs.Kept.{kept, kept_more, numbered}
