@@ -12,7 +12,7 @@ use Rattle.nvram_log.specs.declared.record.Record.{Record}
 use Rattle.nvram_log.specs.Records.{command_of, record_bytes, slot_place, StandsIn}
 use Rattle.nvram_log.proofs.InSlots.{few_data}
 
-length-head : (h : Head) → IsCommand h.command → length (head_bytes h) ≡ 512
+pub length-head : (h : Head) → IsCommand h.command → length (head_bytes h) ≡ 512
 unfolding head_bytes
 length-head h is =
     let fit = fits h.command is in
@@ -21,7 +21,7 @@ length-head h is =
     let fields : 512 - length (head_fields h) ≡ 424 = omega (arith, length-append first second, length-padded (first_name h.command) fit.first, length-padded (second_name h.command) fit.second) in
     omega (arith, fields, length-append (head_fields h) (zeros (512 - length (head_fields h))), length-replicate {A = ℕ} (512 - length (head_fields h)) 0)
 
-length-sectors : (sectors : List (List ℕ)) → AllByRecursion (IsBytesOf SECTOR_BYTES) sectors → length (concat sectors) ≡ 512 * length sectors
+pub length-sectors : (sectors : List (List ℕ)) → AllByRecursion (IsBytesOf SECTOR_BYTES) sectors → length (concat sectors) ≡ 512 * length sectors
 length-sectors [] all = omega arith
 length-sectors (x ∷ xs) all = omega (arith, length-append x (concat xs), all.0.0, length-sectors xs all.1)
 

@@ -7,3 +7,4 @@ pub mod Along
 pub mod Storing
 pub mod Kept
 pub mod Closing
+pub mod Decoded

@@ -2,3 +2,4 @@ pub mod Slots
 pub mod Members
 pub mod Records
 pub mod Held
+pub mod Logged

@@ -9,7 +9,9 @@ mod gates;
 mod log;
 mod members;
 mod record;
+mod slots;
 mod staging;
 
 pub use log::{BothLost, NvLog};
 pub use record::Record;
+pub use slots::Logged;
