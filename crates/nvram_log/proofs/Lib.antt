@@ -8,3 +8,4 @@ pub mod Storing
 pub mod Kept
 pub mod Closing
 pub mod Decoded
+pub mod Gathering

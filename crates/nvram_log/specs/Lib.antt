@@ -3,3 +3,4 @@ pub mod Members
 pub mod Records
 pub mod Held
 pub mod Logged
+pub mod Views

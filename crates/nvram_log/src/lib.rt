@@ -6,6 +6,7 @@ mod append;
 mod bodies;
 mod clear;
 mod gates;
+mod gather;
 mod log;
 mod members;
 mod record;
