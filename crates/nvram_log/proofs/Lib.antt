@@ -9,3 +9,4 @@ pub mod Kept
 pub mod Closing
 pub mod Decoded
 pub mod Gathering
+pub mod Viewed

@@ -4,3 +4,4 @@ pub mod Records
 pub mod Held
 pub mod Logged
 pub mod Views
+pub mod Read

@@ -1,5 +1,5 @@
 -- What two images of the devices show, and the log that is read from them.
-use Rattle.std.specs.Prelude.{◌≡◌, ◌⊎◌, ℕ, ◌+◌, ◌*◌, ◌<◌, Bool, List, length, Some, slice_get}
+use Rattle.std.specs.Prelude.{◌≡◌, ◌⊎◌, ℕ, ◌+◌, ◌*◌, List, length, Some, slice_get}
 use Rattle.pur_base.specs.Bytes.{bytes_at}
 use Rattle.pur_base.specs.Commands.{Command}
 use Rattle.pur_base.specs.declared.limits.TheConstants.{NVRAM_BYTES}

@@ -9,10 +9,12 @@ mod gates;
 mod gather;
 mod log;
 mod members;
+mod read;
 mod record;
 mod slots;
 mod staging;
 
 pub use log::{BothLost, NvLog};
+pub use read::ReadFault;
 pub use record::Record;
 pub use slots::Logged;

@@ -1,4 +1,4 @@
-use Rattle.std.proofs.Common.{◌≡◌, ◌+◌, List, ℕ, inr, sym, subst}
+use Rattle.std.proofs.Common.{◌+◌, List, ℕ, inr, sym, subst}
 use Rattle.pur_base.specs.Commands.{Command}
 use Rattle.log_codec.specs.Log.{Spells}
 use Rattle.nvram_log.specs.Views.{FirstShows, SecondShows}
