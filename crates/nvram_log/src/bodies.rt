@@ -1,6 +1,6 @@
 // The slots of new records, on each member.
 ghost use Rattle.std.specs.Prelude.{◌≡◌, ℕ, ◌+◌, ◌*◌, ◌<◌, ◌≤◌, [], length, OnOk, slice_index};
-ghost use Rattle.pur_base.specs.declared.limits.TheConstants.{NVRAM_DEVICES};
+ghost use Rattle.pur_base.specs.declared.limits.TheConstants.{SECTOR_BYTES, REQUEST_SECTORS, NVRAM_DEVICES};
 ghost use Rattle.pur_base.specs.Devices.{nvram};
 ghost use Rattle.log_codec.specs.declared.limits.TheConstants.{LOG_SLOTS, SLOT_BYTES};
 ghost use Rattle.world.specs.Shelf.{Continues, OthersStay, WriteCounts};
@@ -27,10 +27,10 @@ fn write_body<S: Shelf>(
     requires device { device.0 < NVRAM_DEVICES }
     requires slots { length slots.now ≡ SLOT_BYTES * LOG_SLOTS }
     requires slot { slot < LOG_SLOTS }
-    requires sectors { sectors ≤ 64 }
+    requires sectors { sectors ≤ REQUEST_SECTORS }
     ensures continues { Continues (S.shelf shelf.old) (S.shelf shelf.new) }
-    ensures writes { (S.shelf shelf.old).honest → WritesOnly (OneRange (nvram device.0) (slot_place slot) (512 * (1 + sectors))) (S.shelf shelf.old) (S.shelf shelf.new) }
-    ensures stands { (S.shelf shelf.old).honest → OnOk result ((o : ℕ) → o < 512 * (1 + sectors)
+    ensures writes { (S.shelf shelf.old).honest → WritesOnly (OneRange (nvram device.0) (slot_place slot) (SECTOR_BYTES * (1 + sectors))) (S.shelf shelf.old) (S.shelf shelf.new) }
+    ensures stands { (S.shelf shelf.old).honest → OnOk result ((o : ℕ) → o < SECTOR_BYTES * (1 + sectors)
         → slice_index ((S.shelf shelf.new).disk (nvram device.0)).bytes (slot_place slot + o) ≡ slice_index slots.now (SLOT_BYTES * slot + o)) }
     ensures others { OthersStay (nvram device.0) (S.shelf shelf.old) (S.shelf shelf.new) }
     ensures counts { WriteCounts result ((S.shelf shelf.old).disk (nvram device.0)) ((S.shelf shelf.new).disk (nvram device.0)) }

@@ -13,7 +13,7 @@ pub struct NvLog {
     pub(crate) members: [bool; DEVICES],
     /// The number of the last command before the log.
     pub(crate) flushed: u64,
-    /// How many commands the log holds, at most 64.
+    /// How many commands the log holds.
     pub(crate) count: usize,
     /// All slots, one behind another. Those of the log begin with a head.
     pub(crate) slots: Vec<u8>,

@@ -5,9 +5,9 @@ ghost use Rattle.pur_base.specs.declared.limits.TheConstants.{SECTOR_BYTES, NVRA
 ghost use Rattle.log_codec.specs.declared.limits.TheConstants.{LOG_SLOTS, SLOT_BYTES};
 ghost use Rattle.nvram_log.specs.Slots.{ShowsIn};
 
+use crate::NvLog;
 use crate::bodies::SLOT;
 use crate::gates::OPEN;
-use crate::NvLog;
 use log_codec::{BadHead, Head, SLOTS_START, read_head};
 use pur_base::{SECTOR_BYTES, Sector};
 

@@ -40,9 +40,11 @@ returns-then-head-flushed-clause-found c e =
     let counted = eqb-true (c.in-Ok.head.number - c.args.flushed) (1 + i) e in
     let number : h.number ≡ c.args.flushed + 1 + i = omega (arith, counted, c.if-head-flushed.true) in
     let slot = slot_at i image in
-    let spelled = spelled_by slot h (length-slot_at image i c.requires.size c.requires.slot) (slot_is_bytes image i (λ k. omega (arith, c.type_inv.image k))) (subst (λ (l : List ℕ). Decodes l h) sector c.in-Ok.ensures.ok) in
-    (command_in slot h, record {
-      slot = c.requires.slot;
-      gate = search rules;
-      spelled = subst (λ (n : ℕ). Spells slot n (command_in slot h)) number spelled;
-    })
+    let spelled = spelled_by slot h (length-slot_at image i c.requires.size c.requires.slot) (slot_is_bytes image i (λ k. omega (arith, c.type_inv.image k))) (subst (λ (l : List ℕ). Decodes l h) sector c.in-Ok.ensures.ok) in (
+      command_in slot h,
+      record {
+        slot = c.requires.slot;
+        gate = search rules;
+        spelled = subst (λ (n : ℕ). Spells slot n (command_in slot h)) number spelled;
+      },
+    )

@@ -27,6 +27,8 @@ returns c commands d keeps is =
     let spells : Spells part n d = subst (λ (l : List ℕ). Spells l n d) (sym e) (keeps.each c.args.i d is) in
     let decodes : Decodes c.first_sector.result (head_of n d) = subst (λ (l : List ℕ). Decodes l (head_of n d)) (sym c.first_sector.ensures) (decoded part n d spells) in
     let same : c.in_ok-head.head ≡ head_of n d = cc (c.read_head.ensures.complete _ decodes, c.in_ok-head.was) in
-    let counted : c.data_sectors-count.result ≡ data_count d.request = c.data_sectors-count.ensures ∙ ap (λ (x : Head). data_count x.command) same in
-    (ap (λ (x : Head). x.number) same, ap (λ (x : Head). x.command) same,
-      ap (λ (k : ℕ). take k (drop 512 part)) (let m : 512 * (1 + c.data_sectors-count.result) - 512 ≡ 512 * data_count d.request = omega (arith, counted) in m) ∙ sectors_behind part n d spells)
+    let counted : c.data_sectors-count.result ≡ data_count d.request = c.data_sectors-count.ensures ∙ ap (λ (x : Head). data_count x.command) same in (
+      ap (λ (x : Head). x.number) same,
+      ap (λ (x : Head). x.command) same,
+      ap (λ (k : ℕ). take k (drop 512 part)) (let m : 512 * (1 + c.data_sectors-count.result) - 512 ≡ 512 * data_count d.request = omega (arith, counted) in m) ∙ sectors_behind part n d spells,
+    )
