@@ -1,0 +1,60 @@
+-- A record that was copied to a device is spelled there.
+use Rattle.std.proofs.Common.{◌≡◌, ℕ, ◌+◌, ◌-◌, ◌*◌, ◌≤◌, ◌<◌, List, [], ◌∷◌, ◌++◌, length, take, drop, get_or, slice_index, sym, ◌∙◌, ap, arith, length-append}
+use Rattle.std.specs.List.{AllByRecursion, concat}
+use Rattle.std.proofs.lemmas.List.{length-replicate, length-take, length-drop, take_at, take-append-drop, ext_get_or, get_or-take, get_or-drop}
+use Rattle.pur_base.specs.Bytes.{IsBytesOf, bytes_at, zeros, padded}
+use Rattle.pur_base.specs.declared.limits.TheConstants.{SECTOR_BYTES, NAME_BYTES}
+use Rattle.log_codec.specs.declared.head.Head.{Head}
+use Rattle.log_codec.specs.Head.{head_fields, head_bytes, first_name, second_name, IsCommand}
+use Rattle.log_codec.specs.Log.{Spells, HasSpelling, slot_at, slot_bytes}
+use Rattle.log_codec.proofs.FieldLemmas.{fits, length-padded}
+use Rattle.nvram_log.specs.declared.record.Record.{Record}
+use Rattle.nvram_log.specs.Records.{command_of, record_bytes, slot_place, StandsIn}
+use Rattle.nvram_log.proofs.InSlots.{few_data}
+
+pub length-head : (h : Head) → IsCommand h.command → length (head_bytes h) ≡ 512
+unfolding head_bytes
+length-head h is =
+    let fit = fits h.command is in
+    let first = padded NAME_BYTES (first_name h.command) in
+    let second = padded NAME_BYTES (second_name h.command) in
+    let fields : 512 - length (head_fields h) ≡ 424 = omega (arith, length-append first second, length-padded (first_name h.command) fit.first, length-padded (second_name h.command) fit.second) in
+    omega (arith, fields, length-append (head_fields h) (zeros (512 - length (head_fields h))), length-replicate {A = ℕ} (512 - length (head_fields h)) 0)
+
+pub length-sectors : (sectors : List (List ℕ)) → AllByRecursion (IsBytesOf SECTOR_BYTES) sectors → length (concat sectors) ≡ 512 * length sectors
+length-sectors [] all = omega arith
+length-sectors (x ∷ xs) all = omega (arith, length-append x (concat xs), all.0.0, length-sectors xs all.1)
+
+length-slot : (number : ℕ) (r : Record) → HasSpelling number (command_of r) → length (slot_bytes number (command_of r)) ≡ record_bytes r
+length-slot number r is =
+    let head : Head = record { number = number; command = r.request.now } in
+    omega (arith, length-append (head_bytes head) (concat r.sectors.now), length-head head is.command, length-sectors r.sectors.now is.sectors)
+
+-- the first bytes of what was copied
+same_front_part : (a b : List ℕ) (p q n : ℕ) → n ≤ 33280 → p + 33280 ≤ length a → q + 33280 ≤ length b → ((o : ℕ) → o < n → slice_index b (q + o) ≡ slice_index a (p + o))
+    → take n (bytes_at q 33280 b) ≡ take n (bytes_at p 33280 a)
+same_front_part a b p q n few in_a in_b same = ext_get_or 0 (take n (bytes_at q 33280 b)) (take n (bytes_at p 33280 a)) (long q b in_b ∙ sym (long p a in_a)) each
+  where
+    long : (p : ℕ) (l : List ℕ) → p + 33280 ≤ length l → length (take n (bytes_at p 33280 l)) ≡ n
+    long p l in_l = omega (arith, few, in_l, length-take n (bytes_at p 33280 l), length-take 33280 (drop p l), length-drop p l)
+
+    at : (p : ℕ) (l : List ℕ) (o : ℕ) → o < n → get_or (take n (bytes_at p 33280 l)) o 0 ≡ get_or l (p + o) 0
+    at p l o lt = get_or-take n (bytes_at p 33280 l) o 0 lt ∙ get_or-take 33280 (drop p l) o 0 (omega (arith, lt, few)) ∙ get_or-drop p l o 0
+
+    each : (o : ℕ) → o < length (take n (bytes_at q 33280 b)) → get_or (take n (bytes_at q 33280 b)) o 0 ≡ get_or (take n (bytes_at p 33280 a)) o 0
+    each o lt = let below : o < n = omega (arith, lt, long q b in_b) in at q b o below ∙ same o below ∙ sym (at p a o below)
+
+pub spells_along : (slots bytes : List ℕ) (i number : ℕ) (r : Record) → length slots ≡ 2129920 → length bytes ≡ 2134016 → i < 64 → Spells (bytes_at (33280 * i) 33280 slots) number (command_of r) → StandsIn bytes slots i r → Spells (slot_at i bytes) number (command_of r)
+spells_along slots bytes i number r in_memory on_device lt spells stands =
+    let c = command_of r in
+    let text = slot_bytes number c in
+    let n = record_bytes r in
+    let size = length-slot number r spells.lawful in
+    let few : n ≤ 33280 = omega (arith, spells.lawful.count, few_data r.request.now spells.lawful.command) in
+    let front : take n (slot_at i bytes) ≡ text =
+    same_front_part slots bytes (33280 * i) (slot_place i) n few (omega (arith, in_memory, lt)) (omega (arith, on_device, lt)) stands ∙ ap (take n) spells.text ∙ take_at text spells.behind n size in
+    record {
+      lawful = spells.lawful;
+      behind = drop n (slot_at i bytes);
+      text = sym (take-append-drop n (slot_at i bytes)) ∙ ap (λ (l : List ℕ). l ++ drop n (slot_at i bytes)) front;
+    }

@@ -1,0 +1,105 @@
+-- The gates of a log are closed.
+use Rattle.std.proofs.Common.{◌≡◌, inl, inr, ℕ, ◌+◌, ◌≤◌, ◌<◌, Bool, false, List, [], ◌++◌, length, Some, slice_get, slice_index, replicate, sym, ◌∙◌, ap, subst, arith, append_assoc}
+use Rattle.std.specs.Prelude.{◌==◌}
+use Rattle.std.specs.List.{concat}
+use Rattle.std.proofs.lemmas.Bool.{cases_lt}
+use Rattle.std.proofs.lemmas.List.{length-replicate, get_or-replicate}
+use Rattle.std.proofs.lemmas.List.Edits.{get_or-between}
+use Rattle.pur_base.specs.Gates.{is_open}
+use Rattle.pur_base.specs.Commands.{Command}
+use Rattle.pur_base.specs.Devices.{nvram}
+use Rattle.log_codec.specs.declared.limits.TheConstants.{LOG_SLOTS}
+use Rattle.log_codec.specs.declared.head.Head.{Head}
+use Rattle.log_codec.specs.Head.{head_bytes}
+use Rattle.log_codec.specs.Log.{Spells, slot_at, ShowsIn}
+use Rattle.log_codec.proofs.OneHead.{one_command, same_heads}
+use Rattle.world.specs.Shelf.{Shelved, Stop, Disk, IsShelf, IsIn, Written}
+use Rattle.world.specs.Writes.{LeavesBut}
+use Rattle.nvram_log.specs.Members.{IsMember, OnRange}
+use Rattle.nvram_log.specs.Slots.{IsBetween, IsLog}
+use Rattle.nvram_log.specs.Held.{HoldsOn, LeavesBetween}
+use Rattle.nvram_log.proofs.Lists.{some_at}
+use Rattle.nvram_log.proofs.Showing.{AreImages, same_slot, same_gate, closed_shows}
+use Rattle.nvram_log.proofs.Storing.{none_dirty}
+
+-- a slot spells one number
+pub one_number : (bytes : List ℕ) (m n : ℕ) (c d : Command) → Spells bytes m c → Spells bytes n d → m ≡ n
+one_number bytes m n c d first second =
+    let a : Head = record { number = m; command = c.request } in
+    let b : Head = record { number = n; command = d.request } in
+    let heads = same_heads a b (concat c.sectors ++ first.behind) (concat d.sectors ++ second.behind)
+    (record { number = first.lawful.fits; command = first.lawful.command }) (record { number = second.lawful.fits; command = second.lawful.command })
+    (sym (append_assoc (head_bytes a) (concat c.sectors) first.behind) ∙ sym first.text ∙ second.text ∙ append_assoc (head_bytes b) (concat d.sectors) second.behind) in
+    ap (λ (h : Head). h.number) heads.0
+
+-- only gates of the log change
+module _ (a b : List ℕ) (flushed : ℕ) (commands : List Command) (are : AreImages a b) (log : IsLog a flushed commands)
+    (same : (k : ℕ) → (IsIn (record { start = 0; size = length commands }) k → ⊥) → slice_index b k ≡ slice_index a k) where
+  slot : (i : ℕ) → i < LOG_SLOTS → slot_at i b ≡ slot_at i a
+  slot i lt = same_slot a b i are lt (λ k from to. same k (λ is. omega (arith, is.1, from, log.room)))
+
+  shut : (i : ℕ) → length commands ≤ i → i < LOG_SLOTS → is_open i b ≡ false
+  shut i le lt = same_gate a b i (same i (λ w. omega (arith, w.1, le))) ∙ log.shut i le lt
+
+  -- a slot of the log spells its command still
+  spelled : (i : ℕ) (c : Command) → i < LOG_SLOTS → slice_get commands i ≡ Some c → Spells (slot_at i b) (flushed + 1 + i) c
+  spelled i c lt is = subst (λ (l : List ℕ). Spells l (flushed + 1 + i) c) (sym (slot i lt)) (log.between.all i c is).spelled
+
+  no_other : (i : ℕ) (c : Command) → ShowsIn b flushed i c → slice_get commands i ≡ Some c
+  no_other i c shows = elim (cases_lt i (length commands)) [
+    | inl lt ↦
+        let some = some_at commands i lt in
+        some.1 ∙ ap Some (one_command (slot_at i b) (flushed + 1 + i) some.0 c (spelled i some.0 shows.slot some.1) shows.spelled)
+    | inr ge ↦ absurd (closed_shows b flushed i c (shut i ge shows.slot) shows)
+  ]
+
+  pub closing : IsBetween b flushed [] commands
+  closing = record { all = λ i c is. absurd (cc is); no_other = no_other }
+
+  no_later : (i : ℕ) (c : Command) → ShowsIn b (flushed + length commands) i c → ⊥
+  no_later i c shows = elim (cases_lt i (length commands)) [
+    | inl lt ↦
+        let some = some_at commands i lt in
+        let one = one_number (slot_at i b) (flushed + 1 + i) (flushed + length commands + 1 + i) some.0 c (spelled i some.0 shows.slot some.1) shows.spelled in
+        absurd (omega (arith, one, lt))
+    | inr ge ↦ absurd (closed_shows b (flushed + length commands) i c (shut i ge shows.slot) shows)
+  ]
+
+  pub nothing_later : IsBetween b (flushed + length commands) [] []
+  nothing_later = record { all = λ i c is. absurd (cc is); no_other = λ i c shows. absurd (no_later i c shows) }
+
+  module _ (closed_now : (i : ℕ) → i < length commands → slice_index b i ≡ 0) where
+    all_shut : (i : ℕ) → i < LOG_SLOTS → is_open i b ≡ false
+    all_shut i lt = elim (cases_lt i (length commands)) [
+      | inl within ↦ ap (λ (n : ℕ). n == 1) (closed_now i within)
+      | inr ge ↦ shut i ge lt
+    ]
+
+    pub closed : IsLog b (flushed + length commands) []
+    closed = record { room = omega arith; between = nothing_later; shut = λ i le lt. all_shut i lt }
+
+-- at each moment of it, on each member
+module _ (a : Shelved) (members : List Bool) (flushed : ℕ) (commands : List Command) (is_a : IsShelf a) (h : a.honest) (holds : HoldsOn a members flushed commands) where
+  same_out : (stop : Stop) → LeavesBut (OnRange members 0 (length commands)) a stop → (n : ℕ) → n < 2 → IsMember members n
+      → (k : ℕ) → (IsIn (record { start = 0; size = length commands }) k → ⊥) → slice_index (stop.image (nvram n)) k ≡ slice_index (a.disk (nvram n)).bytes k
+  same_out stop but n lt is k out = (but.bytes (nvram n)).same k (none_dirty (a.disk (nvram n)) (holds.clean n lt is) k) (λ w. out w.1)
+
+  images : (stop : Stop) → LeavesBut (OnRange members 0 (length commands)) a stop → (n : ℕ) → n < 2 → AreImages (a.disk (nvram n)).bytes (stop.image (nvram n))
+  images stop but n lt = record { old = is_a.sizes h (nvram n) lt; new = (but.bytes (nvram n)).size }
+
+  pub while_closing : (stop : Stop) → LeavesBut (OnRange members 0 (length commands)) a stop → LeavesBetween members flushed [] commands stop
+  while_closing stop but n lt is = closing (a.disk (nvram n)).bytes (stop.image (nvram n)) flushed commands (images stop but n lt) (holds.log n lt is) (same_out stop but n lt is)
+
+  pub none_while_closing : (stop : Stop) → LeavesBut (OnRange members 0 (length commands)) a stop → LeavesBetween members (flushed + length commands) [] [] stop
+  none_while_closing stop but n lt is = nothing_later (a.disk (nvram n)).bytes (stop.image (nvram n)) flushed commands (images stop but n lt) (holds.log n lt is) (same_out stop but n lt is)
+
+  pub closed_log : (n : ℕ) → n < 2 → IsMember members n → (b : Disk) → Written 0 (replicate (length commands) 0) (a.disk (nvram n)).bytes b.bytes → IsLog b.bytes (flushed + length commands) []
+  closed_log n lt is b written =
+      closed (a.disk (nvram n)).bytes b.bytes flushed commands (record { old = is_a.sizes h (nvram n) lt; new = written.size }) (holds.log n lt is)
+      (λ k out. written.outside k (λ w. out (w.0, omega (arith, w.1, zeros_long))))
+      (λ i within. sym (get_or-between b.bytes 0 (0 + length {A = ℕ} (replicate (length commands) 0)) i 0 (omega (arith, within, zeros_long)) ∙ ap (λ (k : ℕ). slice_index b.bytes k) (let e : 0 + i ≡ i = omega arith in e))
+      ∙ ap (λ (l : List ℕ). slice_index l i) written.within
+      ∙ get_or-replicate (length commands) i 0 0 within)
+    where
+      zeros_long : length {A = ℕ} (replicate (length commands) 0) ≡ length commands
+      zeros_long = length-replicate {A = ℕ} (length commands) 0

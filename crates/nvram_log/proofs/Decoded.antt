@@ -1,0 +1,88 @@
+-- What a slot spells, by its first sector and those behind it.
+use Rattle.std.proofs.Common.{◌≡◌, ℕ, zero, suc, ◌+◌, ◌*◌, ◌≤◌, ◌<◌, List, ◌++◌, length, take, drop, sym, ◌∙◌, ap, subst, refl, arith, append_assoc, inl, inr}
+use Rattle.std.specs.List.{AllByRecursion, concat}
+use Rattle.std.proofs.lemmas.Bool.{cases_lt}
+use Rattle.std.proofs.lemmas.List.{take_at, drop_at, drop-drop, length-take, length-drop, get_or-take, get_or-drop, get_or_past, take-append-drop}
+use Rattle.pur_base.specs.Bytes.{IsBytes, IsBytesOf}
+use Rattle.pur_base.specs.Commands.{Command}
+use Rattle.pur_base.specs.Grammar.{data_count, sectors_in}
+use Rattle.pur_base.specs.declared.limits.TheConstants.{SECTOR_BYTES}
+use Rattle.log_codec.specs.declared.head.Head.{Head}
+use Rattle.log_codec.specs.Head.{head_bytes, Decodes}
+use Rattle.log_codec.specs.Log.{Spells, slot_at, ShowsIn}
+use Rattle.nvram_log.proofs.InSlots.{few_data}
+use Rattle.nvram_log.proofs.Along.{length-head, length-sectors}
+
+abbrev pub head_of : ℕ → Command → Head
+head_of number c = record { number = number; command = c.request }
+
+split : (slot : List ℕ) (number : ℕ) (c : Command) (s : Spells slot number c) → slot ≡ head_bytes (head_of number c) ++ (concat c.sectors ++ s.behind)
+split slot number c s = s.text ∙ append_assoc (head_bytes (head_of number c)) (concat c.sectors) s.behind
+
+pub decoded : (slot : List ℕ) (number : ℕ) (c : Command) → Spells slot number c → Decodes (take 512 slot) (head_of number c)
+decoded slot number c s = record {
+  head = record { number = s.lawful.fits; command = s.lawful.command };
+  bytes = ap (take 512) (split slot number c s) ∙ take_at (head_bytes (head_of number c)) (concat c.sectors ++ s.behind) 512 (length-head (head_of number c) s.lawful.command);
+}
+
+pub sectors_behind : (slot : List ℕ) (number : ℕ) (c : Command) → Spells slot number c → take (512 * data_count c.request) (drop 512 slot) ≡ concat c.sectors
+sectors_behind slot number c s =
+    ap (λ (l : List ℕ). take (512 * data_count c.request) l) (ap (drop 512) (split slot number c s) ∙ drop_at (head_bytes (head_of number c)) (concat c.sectors ++ s.behind) 512 (length-head (head_of number c) s.lawful.command))
+    ∙ take_at (concat c.sectors) s.behind (512 * data_count c.request) (length-sectors c.sectors s.lawful.sectors ∙ ap (λ (n : ℕ). 512 * n) s.lawful.count)
+
+-- ---- sectors of bytes
+
+length-sectors_in : (n : ℕ) (bytes : List ℕ) → length (sectors_in n bytes) ≡ n
+length-sectors_in zero bytes = refl
+length-sectors_in (suc n) bytes = omega (arith, length-sectors_in n (drop 512 bytes))
+
+front_is_bytes : (bytes : List ℕ) → IsBytes bytes → IsBytes (take 512 bytes)
+front_is_bytes bytes are i = elim (cases_lt i 512) [
+  | inl lt ↦ omega (arith, get_or-take 512 bytes i 0 lt, are i)
+  | inr ge ↦ omega (arith, get_or_past (take 512 bytes) i 0 (omega (arith, ge, length-take 512 bytes)))
+]
+
+rest_is_bytes : (bytes : List ℕ) → IsBytes bytes → IsBytes (drop 512 bytes)
+rest_is_bytes bytes are i = omega (arith, get_or-drop 512 bytes i 0, are (512 + i))
+
+are_sectors : (n : ℕ) (bytes : List ℕ) → 512 * n ≤ length bytes → IsBytes bytes → AllByRecursion (IsBytesOf SECTOR_BYTES) (sectors_in n bytes)
+are_sectors zero bytes fits are = tt
+are_sectors (suc n) bytes fits are = ((omega (arith, fits, length-take 512 bytes), front_is_bytes bytes are), are_sectors n (drop 512 bytes) (omega (arith, fits, length-drop 512 bytes)) (rest_is_bytes bytes are))
+
+joined : (n : ℕ) (bytes : List ℕ) → bytes ≡ concat (sectors_in n bytes) ++ drop (512 * n) bytes
+joined zero bytes = refl
+joined (suc n) bytes =
+    let rest = drop 512 bytes in
+    let past : drop (512 * n) rest ≡ drop (512 * suc n) bytes = drop-drop (512 * n) 512 bytes ∙ ap (λ (k : ℕ). drop k bytes) (let e : 512 + 512 * n ≡ 512 * suc n = omega arith in e) in
+    sym (take-append-drop 512 bytes) ∙ ap (λ (l : List ℕ). take 512 bytes ++ l) (joined n rest ∙ ap (λ (l : List ℕ). concat (sectors_in n rest) ++ l) past)
+    ∙ sym (append_assoc (take 512 bytes) (concat (sectors_in n rest)) (drop (512 * suc n) bytes))
+
+-- the command that a slot with this head spells
+abbrev pub command_in : List ℕ → Head → Command
+command_in slot h = record { request = h.command; sectors = sectors_in (data_count h.command) (drop 512 slot) }
+
+pub spelled_by : (slot : List ℕ) (h : Head) → length slot ≡ 33280 → IsBytes slot → Decodes (take 512 slot) h → Spells slot h.number (command_in slot h)
+spelled_by slot h long are decodes =
+    let n = data_count h.command in
+    let rest = drop 512 slot in
+    let few : 512 * n ≤ length rest = omega (arith, long, length-drop 512 slot, few_data h.command decodes.head.command) in
+    record {
+      lawful = record { fits = decodes.head.number; command = decodes.head.command; count = length-sectors_in n rest; sectors = are_sectors n rest few (rest_is_bytes slot are) };
+      behind = drop (512 * n) rest;
+      text = sym (take-append-drop 512 slot) ∙ ap (λ (l : List ℕ). l ++ rest) decodes.bytes ∙ ap (λ (l : List ℕ). head_bytes h ++ l) (joined n rest)
+          ∙ sym (append_assoc (head_bytes h) (concat (sectors_in n rest)) (drop (512 * n) rest));
+    }
+
+-- ---- what a device shows in a slot
+
+pub shown_head : (image : List ℕ) (flushed i : ℕ) (sector : List ℕ) → sector ≡ take 512 (slot_at i image) → (c : Command) → ShowsIn image flushed i c → Decodes sector (head_of (flushed + 1 + i) c)
+shown_head image flushed i sector is c shows = subst (λ (l : List ℕ). Decodes l (head_of (flushed + 1 + i) c)) (sym is) (decoded (slot_at i image) (flushed + 1 + i) c shows.spelled)
+
+pub length-slot_at : (image : List ℕ) (i : ℕ) → length image ≡ 2134016 → i < 64 → length (slot_at i image) ≡ 33280
+length-slot_at image i long lt = omega (arith, long, lt, length-take 33280 (drop (4096 + 33280 * i) image), length-drop (4096 + 33280 * i) image)
+
+pub slot_is_bytes : (image : List ℕ) (i : ℕ) → IsBytes image → IsBytes (slot_at i image)
+slot_is_bytes image i are k = elim (cases_lt k 33280) [
+  | inl lt ↦ omega (arith, get_or-take 33280 (drop (4096 + 33280 * i) image) k 0 lt, get_or-drop (4096 + 33280 * i) image k 0, are (4096 + 33280 * i + k))
+  | inr ge ↦ omega (arith, get_or_past (slot_at i image) k 0 (omega (arith, ge, length-take 33280 (drop (4096 + 33280 * i) image))))
+]

@@ -1,0 +1,43 @@
+-- One slot more is gathered.
+use Rattle.std.proofs.Common.{◌≡◌, inl, inr, ℕ, zero, suc, ◌+◌, ◌-◌, ◌*◌, ◌<◌, List, [], ◌∷◌, ◌++◌, length, Some, slice_get, sym, subst, refl, arith, length-append}
+use Rattle.std.proofs.lemmas.Option.{slice_get_within}
+use Rattle.pur_base.specs.Bytes.{bytes_at}
+use Rattle.pur_base.specs.Commands.{Command}
+use Rattle.log_codec.specs.Log.{Spells}
+use Rattle.nvram_log.specs.declared.gather.Images.{Images}
+use Rattle.nvram_log.specs.Views.{IsShown, IsGathered}
+use Rattle.nvram_log.proofs.Lists.{get_either}
+
+single : (d c : Command) (n : ℕ) → slice_get (d ∷ []) n ≡ Some c → (n ≡ 0) × (d ≡ c)
+single d c zero is = (refl, cc is)
+single d c (suc n) is = absurd (cc is)
+
+pub none_gathered : (images : Images) (flushed : ℕ) (slots : List ℕ) → IsGathered images flushed 0 slots
+none_gathered images flushed slots = record { commands = []; count_is = refl; shown = λ i c is. absurd (cc is); spelled = λ i c is. absurd (cc is) }
+
+module _ (images : Images) (flushed i : ℕ) (old new : List ℕ) (so_far : IsGathered images flushed i old)
+    (same : (k : ℕ) → k < i → bytes_at (33280 * k) 33280 new ≡ bytes_at (33280 * k) 33280 old) (d : Command) (shown : IsShown images flushed i d) (spelled : Spells (bytes_at (33280 * i) 33280 new) (flushed + 1 + i) d) where
+  abbrev all : List Command
+  all = so_far.commands ++ d ∷ []
+
+  shown_all : (k : ℕ) (c : Command) → slice_get all k ≡ Some c → IsShown images flushed k c
+  shown_all k c is = elim (get_either so_far.commands (d ∷ []) k c is) [
+    | inl front ↦ so_far.shown k c front
+    | inr last ↦
+        let one = single d c (k - length so_far.commands) last.1 in
+        subst (λ (n : ℕ). IsShown images flushed n c) (let e : i ≡ k = omega (arith, so_far.count_is, last.0, one.0) in e) (subst (λ (x : Command). IsShown images flushed i x) one.1 shown)
+  ]
+
+  spelled_all : (k : ℕ) (c : Command) → slice_get all k ≡ Some c → Spells (bytes_at (33280 * k) 33280 new) (flushed + 1 + k) c
+  spelled_all k c is = elim (get_either so_far.commands (d ∷ []) k c is) [
+    | inl front ↦
+        let within : k < length so_far.commands = slice_get_within so_far.commands k c front in
+        subst (λ (l : List ℕ). Spells l (flushed + 1 + k) c) (sym (same k (omega (arith, within, so_far.count_is)))) (so_far.spelled k c front)
+    | inr last ↦
+        let one = single d c (k - length so_far.commands) last.1 in
+        subst (λ (n : ℕ). Spells (bytes_at (33280 * n) 33280 new) (flushed + 1 + n) c) (let e : i ≡ k = omega (arith, so_far.count_is, last.0, one.0) in e)
+        (subst (λ (x : Command). Spells (bytes_at (33280 * i) 33280 new) (flushed + 1 + i) x) one.1 spelled)
+  ]
+
+  pub gathered_more : IsGathered images flushed (i + 1) new
+  gathered_more = record { commands = all; count_is = omega (arith, length-append so_far.commands (d ∷ []), so_far.count_is); shown = shown_all; spelled = spelled_all }

@@ -1,0 +1,12 @@
+pub mod OnEach
+pub mod InSlots
+pub mod Staged
+pub mod Lists
+pub mod Showing
+pub mod Along
+pub mod Storing
+pub mod Kept
+pub mod Closing
+pub mod Decoded
+pub mod Gathering
+pub mod Viewed

@@ -1,0 +1,41 @@
+-- A call on one more member.
+use Rattle.std.proofs.Common.{◌≡◌, ◌≢◌, inl, inr, ℕ, List, [], Bool, true, Result, Ok, Err, is_ok, OnOk, sym, subst, refl}
+use Rattle.pur_base.specs.Devices.{nvram}
+use Rattle.pur_base.specs.declared.device.Device.{Device}
+use Rattle.pur_base.specs.declared.device.Device.TheVariants.{Drive, Nv}
+use Rattle.world.specs.declared.streams.Failed.{Failed}
+use Rattle.world.specs.Shelf.{Disk, WriteCounts}
+use Rattle.world.specs.Writes.{OneRange}
+use Rattle.nvram_log.specs.Members.{IsMember, OnRange, Outcome}
+
+number : Device → ℕ
+number (Drive d) = d.0
+number (Nv n) = n.0
+
+pub nvrams_apart : (a b : ℕ) → a ≢ b → nvram a ≢ nvram b
+unfolding number
+nvrams_apart a b ne e = ne (λ i. number (e i))
+
+pub range_on_members : (members : List Bool) (n at size : ℕ) → IsMember members n → (d : Device) (i : ℕ) → OneRange (nvram n) at size d i → OnRange members at size d i
+range_on_members members n at size member d i w = subst (λ (x : Device). OnRange members at size x i) (sym w.0) (member, w.1)
+
+pub outcome_of : (answer : Result (Unit {0}) Failed) (honest was holds : Type 0) (old new : Disk) → was → (honest → OnOk answer holds) → (honest → OnOk answer (new.dirty ≡ [])) → WriteCounts answer old new
+    → Outcome honest was (is_ok answer ≡ true) holds old new
+outcome_of (Ok x) honest was holds old new member written clean counts = record {
+  before = λ is. member;
+  written = λ h is. written h;
+  clean = λ h is. clean h;
+  dropped = λ w. inl refl;
+  others = λ none. absurd (none member);
+}
+outcome_of (Err x) honest was holds old new member written clean counts = record {
+  before = λ is. member;
+  written = λ h is. absurd (cc is);
+  clean = λ h is. absurd (cc is);
+  dropped = λ w. inr counts.write_faults;
+  others = λ none. absurd (none member);
+}
+
+pub always : (answer : Result (Unit {0}) Failed) (P : Type 0) → P → OnOk answer P
+always (Ok x) P p = p
+always (Err x) P p = tt

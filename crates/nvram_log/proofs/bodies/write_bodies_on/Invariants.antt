@@ -1,0 +1,22 @@
+use Rattle.std.proofs.Common.{◌≡◌, ℕ, ◌+◌, ◌<◌, Some, slice_get}
+use Rattle.pur_base.specs.Devices.{nvram}
+use Rattle.world.specs.Shelf.{Continues, OthersStay}
+use Rattle.world.specs.Writes.{WritesOnly}
+use Rattle.nvram_log.specs.declared.record.Record.{Record}
+use Rattle.nvram_log.specs.Records.{FromSlot, StandsIn}
+use Rattle.nvram_log.proofs.bodies.write_bodies_on.Given as goal
+
+abbrev pub invariant-loop-j : goal.invariant-loop-j
+invariant-loop-j g l =
+    let a = g.S.Shelf.shelf l.initial.shelf in
+    let b = g.S.Shelf.shelf l.shelf in
+    let device = nvram l.device.0 in
+    record {
+      continues : Continues a b;
+      rest : g.S.Shelf.shelf_rest l.initial.shelf l.shelf;
+      writes : a.honest → WritesOnly (FromSlot device l.first) a b;
+      others : OthersStay device a b;
+      faults : (b.disk device).faults ≡ (a.disk device).faults;
+      write_faults : (b.disk device).write_faults ≡ (a.disk device).write_faults;
+      stood : a.honest → (k : ℕ) (r : Record) → k < l.j → slice_get l.records k ≡ Some r → StandsIn (b.disk device).bytes l.slots (l.first + k) r;
+    }

@@ -1,0 +1,35 @@
+-- The log that the member devices hold, and the one in memory.
+use Rattle.std.specs.Prelude.{◌≡◌, ℕ, ◌+◌, ◌*◌, ◌<◌, Bool, false, List, [], length, Some, slice_get, slice_index_or, None, if◌then◌else◌}
+use Rattle.pur_base.specs.Bytes.{bytes_at}
+use Rattle.pur_base.specs.Devices.{nvram, View}
+use Rattle.pur_base.specs.Commands.{Command}
+use Rattle.pur_base.specs.declared.device.Device.TheVariants.{Drive, Nv}
+use Rattle.world.specs.Shelf.{Shelved, Stop}
+use Rattle.log_codec.specs.declared.limits.TheConstants.{SLOT_BYTES}
+use Rattle.log_codec.specs.Log.{Spells}
+use Rattle.nvram_log.specs.declared.log.NvLog.{NvLog}
+use Rattle.nvram_log.specs.Members.{IsMember}
+use Rattle.nvram_log.specs.Slots.{IsBetween, IsLog}
+
+-- a slot of the log in memory
+abbrev pub slot_in : NvLog → ℕ → List ℕ
+slot_in log i = bytes_at (SLOT_BYTES * i) SLOT_BYTES log.slots.items
+
+-- the log in memory spells these commands, under the numbers that follow on what is flushed
+pub record Keeps (log : NvLog) (commands : List Command) : Type 0 where
+  pub count : length commands ≡ log.count
+  pub each : (i : ℕ) (c : Command) → slice_get commands i ≡ Some c → Spells (slot_in log i) (log.flushed + 1 + i) c
+
+-- each member holds the commands, and nothing is dirty on it
+pub record HoldsOn (shelf : Shelved) (members : List Bool) (flushed : ℕ) (commands : List Command) : Type 0 where
+  pub log : (n : ℕ) → n < 2 → IsMember members n → IsLog (shelf.disk (nvram n)).bytes flushed commands
+  pub clean : (n : ℕ) → n < 2 → IsMember members n → (shelf.disk (nvram n)).dirty ≡ []
+
+-- whatever a stop leaves, each of these devices shows at least the first log, and at most the second
+abbrev pub LeavesBetween : List Bool → ℕ → List Command → List Command → Stop → Type 0
+LeavesBetween members flushed least most stop = (n : ℕ) → n < 2 → IsMember members n → IsBetween (stop.image (nvram n)) flushed least most
+
+-- what the member devices show a reader
+abbrev pub shown_by : Shelved → List Bool → View
+shown_by shelf members (Drive d) = None
+shown_by shelf members (Nv n) = if slice_index_or members n.0 false then Some (shelf.disk (Nv n)).bytes else None

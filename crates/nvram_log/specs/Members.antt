@@ -1,0 +1,41 @@
+-- The member devices, and what a write on each of them leaves.
+use Rattle.std.specs.Prelude.{◌≡◌, ◌⊎◌, ℕ, ◌<◌, List, [], Bool, true, false, slice_index_or}
+use Rattle.pur_base.specs.Devices.{nvram}
+use Rattle.pur_base.specs.declared.device.Device.{Device}
+use Rattle.pur_base.specs.declared.device.Device.TheVariants.{Drive, Nv}
+use Rattle.world.specs.Counts.{Rises}
+use Rattle.world.specs.Shelf.{Shelved, Disk, IsIn}
+
+-- whether a device is a member
+abbrev pub IsMember : List Bool → ℕ → Type 0
+IsMember members n = slice_index_or members n false ≡ true
+
+-- some device is a member
+abbrev pub IsSome : List Bool → Type 0
+IsSome members = IsMember members 0 ⊎ IsMember members 1
+
+-- none joins
+abbrev pub IsFewer : List Bool → List Bool → Type 0
+IsFewer was now = (n : ℕ) → IsMember now n → IsMember was n
+
+-- a device is a member no longer where a write or a sync of it failed
+abbrev pub DroppedFailed : Shelved → Shelved → List Bool → List Bool → Type 0
+DroppedFailed old new was now = (n : ℕ) → n < 2 → IsMember was n → IsMember now n ⊎ Rises (old.disk (nvram n)).write_faults (new.disk (nvram n)).write_faults
+
+-- bytes of the member devices
+abbrev pub OnMembers : List Bool → Device → ℕ → Type 0
+OnMembers members (Drive d) i = ⊥
+OnMembers members (Nv n) i = IsMember members n.0
+
+-- the n bytes from there on, on each member
+abbrev pub OnRange : List Bool → ℕ → ℕ → Device → ℕ → Type 0
+OnRange members at n (Drive d) i = ⊥
+OnRange members at n (Nv v) i = IsMember members v.0 × IsIn (record { start = at; size = n }) i
+
+-- A member holds what was written and stays one, or its device failed. The others stay as they were.
+pub record Outcome (honest was is holds : Type 0) (old new : Disk) : Type 0 where
+  pub before : is → was
+  pub written : honest → is → holds
+  pub clean : honest → is → new.dirty ≡ []
+  pub dropped : was → is ⊎ Rises old.write_faults new.write_faults
+  pub others : (was → ⊥) → new ≡ old

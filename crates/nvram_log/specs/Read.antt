@@ -1,0 +1,34 @@
+-- The log that is read from the devices.
+use Rattle.std.specs.Prelude.{◌≡◌, ◌⊎◌, ℕ, ◌<◌, Bool, List, Some, slice_get}
+use Rattle.pur_base.specs.Commands.{Command}
+use Rattle.pur_base.specs.Devices.{View, nvram}
+use Rattle.pur_base.specs.declared.device.Device.{Device}
+use Rattle.log_codec.specs.declared.limits.TheConstants.{LOG_SLOTS}
+use Rattle.log_codec.specs.Log.{Shows, IsInSlot}
+use Rattle.world.specs.Counts.{Rises}
+use Rattle.world.specs.Shelf.{Shelved}
+use Rattle.nvram_log.specs.declared.log.NvLog.{NvLog}
+use Rattle.nvram_log.specs.declared.read.ReadFault.{ReadFault}
+use Rattle.nvram_log.specs.declared.read.ReadFault.TheVariants as fault
+use Rattle.nvram_log.specs.Members.{IsMember}
+use Rattle.nvram_log.specs.Held.{Keeps}
+
+-- memory has the commands that the view shows, up to the first slot in which no device shows one
+pub record IsReadFrom (honest : Type 0) (view : View) (log : NvLog) : Type 0 where
+  pub commands : List Command
+  pub keeps : Keeps log commands
+  pub shown : honest → (i : ℕ) (c : Command) → slice_get commands i ≡ Some c → IsInSlot view log.flushed i c
+  pub ends : honest → log.count < LOG_SLOTS → (n : ℕ) (c : Command) → n < 2 → ¬ (Shows view n log.flushed log.count c)
+
+-- a device is a member no longer where a call on it failed
+abbrev pub DroppedCounted : Shelved → Shelved → List Bool → List Bool → Type 0
+DroppedCounted old new was now = (n : ℕ) → n < 2 → IsMember was n → IsMember now n ⊎ Rises (old.disk (nvram n)).faults (new.disk (nvram n)).faults
+
+-- each member failed, where both are lost
+abbrev pub AllFailed : ReadFault → Shelved → Shelved → List Bool → Type 0
+AllFailed fault.NoMemory old new was = Unit {0}
+AllFailed fault.BothLost old new was = (n : ℕ) → n < 2 → IsMember was n → Rises (old.disk (nvram n)).faults (new.disk (nvram n)).faults
+
+-- no byte
+abbrev pub OnNothing : Device → ℕ → Type 0
+OnNothing d i = ⊥

@@ -1,0 +1,36 @@
+-- What two images of the devices show, and the log that is read from them.
+use Rattle.std.specs.Prelude.{◌≡◌, ◌⊎◌, ℕ, ◌+◌, ◌*◌, List, length, Some, slice_get}
+use Rattle.pur_base.specs.Bytes.{bytes_at}
+use Rattle.pur_base.specs.Commands.{Command}
+use Rattle.pur_base.specs.declared.limits.TheConstants.{NVRAM_BYTES}
+use Rattle.log_codec.specs.declared.limits.TheConstants.{SLOT_BYTES}
+use Rattle.log_codec.specs.Log.{Spells, ShowsIn}
+use Rattle.nvram_log.specs.declared.gather.Images.{Images}
+use Rattle.nvram_log.specs.Members.{IsMember}
+
+-- each has all bytes of a device
+pub record AreWhole (images : Images) : Type 0 where
+  pub first : length images.first.now ≡ NVRAM_BYTES
+  pub second : length images.second.now ≡ NVRAM_BYTES
+
+-- a member device shows this command in a slot
+abbrev pub FirstShows : Images → ℕ → ℕ → Command → Type 0
+FirstShows images flushed i c = IsMember images.members 0 × ShowsIn images.first.now flushed i c
+
+abbrev pub SecondShows : Images → ℕ → ℕ → Command → Type 0
+SecondShows images flushed i c = IsMember images.members 1 × ShowsIn images.second.now flushed i c
+
+-- the lower member that shows one shows this one
+abbrev pub IsShown : Images → ℕ → ℕ → Command → Type 0
+IsShown images flushed i c = FirstShows images flushed i c ⊎ (((d : Command) → ¬ (FirstShows images flushed i d)) × SecondShows images flushed i c)
+
+-- no member shows one
+abbrev pub NoneShown : Images → ℕ → ℕ → Type 0
+NoneShown images flushed i = (c : Command) → (¬ (FirstShows images flushed i c)) × (¬ (SecondShows images flushed i c))
+
+-- the first slots in memory are those that are shown
+pub record IsGathered (images : Images) (flushed count : ℕ) (slots : List ℕ) : Type 0 where
+  pub commands : List Command
+  pub count_is : length commands ≡ count
+  pub shown : (i : ℕ) (c : Command) → slice_get commands i ≡ Some c → IsShown images flushed i c
+  pub spelled : (i : ℕ) (c : Command) → slice_get commands i ≡ Some c → Spells (bytes_at (SLOT_BYTES * i) SLOT_BYTES slots) (flushed + 1 + i) c

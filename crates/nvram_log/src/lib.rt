@@ -1,0 +1,20 @@
+//! The log of commands on the two NVRAM devices: what was appended is there in every view that may be shown.
+//! A device that fails is dropped, and the log goes on with the other one; where both fail it says so.
+#![tactic(auto)]
+
+mod append;
+mod bodies;
+mod clear;
+mod gates;
+mod gather;
+mod log;
+mod members;
+mod read;
+mod record;
+mod slots;
+mod staging;
+
+pub use log::{BothLost, NvLog};
+pub use read::ReadFault;
+pub use record::Record;
+pub use slots::Logged;

@@ -1,0 +1,57 @@
+// The log in memory.
+ghost use Rattle.std.specs.Prelude.{◌≡◌, ◌≤◌, ◌<◌, ◌+◌, ◌*◌, ◌^◌, length};
+ghost use Rattle.log_codec.specs.declared.limits.TheConstants.{LOG_SLOTS, SLOT_BYTES};
+
+use log_codec::LOG_SLOTS;
+use pur_base::NVRAM_DEVICES;
+
+pub const DEVICES: usize = NVRAM_DEVICES as usize;
+
+/// The log: which devices hold it, and its slots as they stand there.
+#[derive(Drop)]
+pub struct NvLog {
+    pub(crate) members: [bool; DEVICES],
+    /// The number of the last command before the log.
+    pub(crate) flushed: u64,
+    /// How many commands the log holds.
+    pub(crate) count: usize,
+    /// All slots, one behind another. Those of the log begin with a head.
+    pub(crate) slots: Vec<u8>,
+    ghost room: { count ≤ LOG_SLOTS },
+    ghost numbers: { flushed + count < 2 ^ 64 },
+    ghost size: { length slots.items ≡ SLOT_BYTES * LOG_SLOTS },
+}
+
+/// No NVRAM device is left.
+#[derive(Clone, Copy, Debug, PartialEq, Eq)]
+pub struct BothLost;
+
+impl NvLog {
+    /// Which devices hold the log.
+    pub fn members(&self) -> [bool; DEVICES]
+        ensures { result ≡ self.now.members }
+    {
+        self.members
+    }
+
+    /// The number of the last command before the log.
+    pub fn flushed(&self) -> u64
+        ensures { result ≡ self.now.flushed }
+    {
+        self.flushed
+    }
+
+    /// How many commands the log holds.
+    pub fn count(&self) -> usize
+        ensures { result ≡ self.now.count }
+    {
+        self.count
+    }
+
+    /// How many more it has room for.
+    pub fn free_slots(&self) -> usize
+        ensures { result + self.now.count ≡ LOG_SLOTS }
+    {
+        LOG_SLOTS - self.count
+    }
+}

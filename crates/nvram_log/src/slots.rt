@@ -1,0 +1,64 @@
+// Slots are read.
+ghost use Rattle.std.specs.Prelude.{◌≡◌, ℕ, ◌+◌, ◌*◌, ◌<◌, ◌≤◌, length, take, true, false, Some, slice_get, List};
+ghost use Rattle.pur_base.specs.Commands.{Command};
+ghost use Rattle.pur_base.specs.declared.limits.TheConstants.{SECTOR_BYTES, NVRAM_BYTES};
+ghost use Rattle.log_codec.specs.declared.limits.TheConstants.{LOG_SLOTS, SLOT_BYTES};
+ghost use Rattle.log_codec.specs.Log.{ShowsIn};
+
+use crate::NvLog;
+use crate::bodies::SLOT;
+use crate::gates::OPEN;
+use log_codec::{BadHead, Head, SLOTS_START, read_head};
+use pur_base::{SECTOR_BYTES, Sector};
+
+/// A logged command: its head, and the bytes of its sectors.
+#[derive(Drop)]
+pub struct Logged<'a> {
+    pub head: Head,
+    pub sectors: &'a [u8],
+}
+
+// The first sector of a slot.
+fn first_sector(slot: &[u8]) -> Sector
+    requires { SECTOR_BYTES ≤ length slot.now }
+    ensures { result ≡ take SECTOR_BYTES slot.now }
+{
+    let mut bytes = [0; SECTOR_BYTES];
+    bytes.copy_from_slice(&slot[..SECTOR_BYTES]);
+    Sector::new(bytes)
+}
+
+impl NvLog {
+    ghost use Rattle.nvram_log.specs.Held.{Keeps};
+    ghost use Rattle.nvram_log.specs.Logged.{IsReadAs};
+
+    /// The command of a slot of the log, from memory.
+    pub fn record_at(&self, i: usize) -> Result<Logged<'_>, BadHead>
+        requires { i < self.now.count }
+        ensures { (commands : List Command) (c : Command) → Keeps self.now commands → slice_get commands i ≡ Some c → IsReadAs result (self.now.flushed + 1 + i) c }
+    {
+        let from = SLOT * i;
+        let slot = &self.slots[from..from + SLOT];
+        let head = read_head(&first_sector(slot))?;
+        let count = head.command.data_sectors() as usize;
+        let sectors = &slot[SECTOR_BYTES..SECTOR_BYTES * (1 + count)];
+        Ok(Logged { head, sectors })
+    }
+}
+
+/// Whether a device with these bytes shows a command in a slot.
+pub fn shows(image: &[u8], flushed: u64, i: usize) -> bool
+    requires size { length image.now ≡ NVRAM_BYTES }
+    requires slot { i < LOG_SLOTS }
+    ensures found { result ≡ true → (c : Command) × ShowsIn image.now flushed i c }
+    ensures none { result ≡ false → (c : Command) → ¬ (ShowsIn image.now flushed i c) }
+{
+    if image[i] != OPEN {
+        return false;
+    }
+    let from = SLOTS_START as usize + SLOT * i;
+    let Ok(head) = read_head(&first_sector(&image[from..from + SLOT])) else {
+        return false;
+    };
+    head.number > flushed && head.number - flushed == 1 + i as u64
+}
