@@ -6,3 +6,6 @@ pub mod InsertLemmas
 pub mod FlushLemmas
 pub mod SetLemmas
 pub mod LayerLemmas
+pub mod ContainsLemmas
+pub mod ReasonLemmas
+pub mod PlaceLemmas

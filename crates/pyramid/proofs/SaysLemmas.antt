@@ -2,7 +2,7 @@
 use Rattle.std.proofs.Common.{◌≡◌, ◌⊎◌, ℕ, zero, suc, ◌+◌, ◌<◌, ◌≤◌, Bool, true, false, not, List, [], ◌∷◌, ◌++◌, length, get_or, refl, sym, ap, ◌∙◌, arith, cond, All, Contains, inl, inr, append_assoc}
 use Rattle.std.specs.Prelude.{Option, Some, None, IfSome, nat_lt, if◌then◌else◌, option_and_then, filter, AllPairs, ◌&&◌, ◌==◌}
 use Rattle.std.specs.List.{flat_map}
-use Rattle.std.proofs.lemmas.Bool.{ltb-true, ltb-false, lt-ltb, le-ltb, eqb-true, eq-eqb, ne_eqb, both_ways}
+use Rattle.std.proofs.lemmas.Bool.{ltb-true, ltb-false, lt-ltb, le-ltb, eqb-true, eq-eqb, ne_eqb, both_ways, false≢true}
 use Rattle.std.proofs.lemmas.List.Elements.{All-cons, All-head, All-tail, All-weaker, All-contains, All-filter, All-append}
 use Rattle.pur_base.specs.Says.{newest, newer}
 use Rattle.pur_base.specs.Keys.{id_of}
@@ -48,40 +48,34 @@ module _ {F : Type 0} (key number : F → ℕ) (empty : F → Bool) where
       one (Some f) a None b = tt
       one (Some f) a (Some g) b = All-contains (λ g. number f < number g) gs g (All-contains (λ f. All (λ g. number f < number g) gs) fs f h a.0) b.0
 
-  below_merged : (m a b : Option F) (r : Option F) → m ≡ later number a b → IfSome a (λ f. IfSome r (λ g. number f < number g)) → IfSome b (λ f. IfSome r (λ g. number f < number g))
-      → IfSome m (λ f. IfSome r (λ g. number f < number g))
-  below_merged m None b r e h i = rw e i
-  below_merged m (Some f) None r e h i = rw e h
-  below_merged m (Some f) (Some g) r e h i = rw e (one (nat_lt (number f) (number g)))
-    where
-      one : (c : Bool) → IfSome (if c then Some g else Some f) (λ f. IfSome r (λ g. number f < number g))
-      one true = i
-      one false = h
-
   -- front and rest are the facts of the older patches, and of the newer ones with those that aren't flushed
-  pub merge_says : (oldest : Bool) (elided : ℕ → Bool) (k : ℕ) (front a b rest : List F)
-      → Ascends key a → Ascends key b → AreBelow number a b → (oldest ≡ true → front ≡ []) → AreBelow number a rest → AreBelow number b rest
-      → says key number empty (front ++ (filter (stays key empty oldest elided) (merged key a b) ++ rest)) elided k ≡ says key number empty (front ++ (a ++ (b ++ rest))) elided k
-  merge_says oldest elided k front a b rest up up2 below first ra rb = one (elided (id_of k)) refl
+  pub merge_says : (oldest : Bool) (elided : ℕ → Bool) (k : ℕ) (front two new rest : List F)
+      → New k new ≡ option_and_then (if_passes (stays key empty oldest elided)) (New k two) → (oldest ≡ true → front ≡ []) → AreBelow number two rest
+      → says key number empty (front ++ (new ++ rest)) elided k ≡ says key number empty (front ++ (two ++ rest)) elided k
+  merge_says oldest elided k front two new rest is first below = one (elided (id_of k)) refl
     where
-      m_is : New k (merged key a b) ≡ later number (New k a) (New k b)
-      m_is = merged_newest key number k a b up up2 below
-      m_key : IfSome (New k (merged key a b)) (λ f. key f ≡ k)
-      m_key = found_key k (merged key a b)
-      m_below : IfSome (New k (merged key a b)) (λ f. IfSome (New k rest) (λ g. number f < number g))
-      m_below = below_merged (New k (merged key a b)) (New k a) (New k b) (New k rest) m_is (below_found k a rest ra) (below_found k b rest rb)
-      old : New k (front ++ (a ++ (b ++ rest))) ≡ later number (New k front) (later number (New k (merged key a b)) (New k rest))
-      old = newest-append number (has_key key k) front (a ++ (b ++ rest))
-          ∙ ap (λ o. later number (New k front) o) (newest-append number (has_key key k) a (b ++ rest)
-          ∙ ap (λ o. later number (New k a) o) (newest-append number (has_key key k) b rest)
-          ∙ sym (later-assoc number (New k a) (New k b) (New k rest)) ∙ ap (λ o. later number o (New k rest)) (sym m_is))
-      new : New k (front ++ (filter (stays key empty oldest elided) (merged key a b) ++ rest))
-          ≡ later number (New k front) (later number (option_and_then (if_passes (stays key empty oldest elided)) (New k (merged key a b))) (New k rest))
-      new = newest-append number (has_key key k) front (filter (stays key empty oldest elided) (merged key a b) ++ rest)
-          ∙ ap (λ o. later number (New k front) o) (newest-append number (has_key key k) (filter (stays key empty oldest elided) (merged key a b)) rest
-          ∙ ap (λ o. later number o (New k rest)) (filter_newest key number k (stays key empty oldest elided) (merged key a b) (ascends_merged key a b up up2)))
+      old_is : New k (front ++ (two ++ rest)) ≡ later number (New k front) (later number (New k two) (New k rest))
+      old_is = newest-append number (has_key key k) front (two ++ rest) ∙ ap (λ o. later number (New k front) o) (newest-append number (has_key key k) two rest)
+      new_is : New k (front ++ (new ++ rest)) ≡ later number (New k front) (later number (option_and_then (if_passes (stays key empty oldest elided)) (New k two)) (New k rest))
+      new_is = newest-append number (has_key key k) front (new ++ rest) ∙ ap (λ o. later number (New k front) o) (newest-append number (has_key key k) new rest ∙ ap (λ o. later number o (New k rest)) is)
       one : (w : Bool) → elided (id_of k) ≡ w
-          → (if w then None else option_and_then (unless_empty empty) (New k (front ++ (filter (stays key empty oldest elided) (merged key a b) ++ rest))))
-          ≡ (if w then None else option_and_then (unless_empty empty) (New k (front ++ (a ++ (b ++ rest)))))
+          → (if w then None else option_and_then (unless_empty empty) (New k (front ++ (new ++ rest))))
+          ≡ (if w then None else option_and_then (unless_empty empty) (New k (front ++ (two ++ rest))))
       one true e = refl
-      one false e = rw (new, old) (kept oldest elided k (New k front) (New k (merged key a b)) (New k rest) e m_key (λ o. ap (λ l. New k l) (first o)) (λ o. m_below))
+      one false e = rw (new_is, old_is) (kept oldest elided k (New k front) (New k two) (New k rest) e (found_key k two) (λ o. ap (λ l. New k l) (first o)) (λ o. below_found k two rest below))
+
+  -- what is said where these ids are elided is said where more are
+  pub wider_says : (elided wider : ℕ → Bool) (old new : List F) → ((k : ℕ) → says key number empty new elided k ≡ says key number empty old elided k)
+      → ((id : ℕ) → elided id ≡ true → wider id ≡ true) → (k : ℕ) → says key number empty new wider k ≡ says key number empty old wider k
+  wider_says elided wider old new same more k = one (wider (id_of k)) (elided (id_of k)) refl refl (same k)
+    where
+      one : (w e : Bool) → wider (id_of k) ≡ w → elided (id_of k) ≡ e
+          → (if e then None else option_and_then (unless_empty empty) (New k new)) ≡ (if e then None else option_and_then (unless_empty empty) (New k old))
+          → (if w then None else option_and_then (unless_empty empty) (New k new)) ≡ (if w then None else option_and_then (unless_empty empty) (New k old))
+      one true e p q h = refl
+      one false true p q h = absurd (false≢true (sym p ∙ more (id_of k) q))
+      one false false p q h = h
+
+  -- facts of which each key has the same newest one
+  pub alike_says : (old new : List F) → ((k : ℕ) → New k new ≡ New k old) → (elided : ℕ → Bool) (k : ℕ) → says key number empty new elided k ≡ says key number empty old elided k
+  alike_says old new same elided k = ap (λ o. if elided (id_of k) then None else option_and_then (unless_empty empty) o) (same k)

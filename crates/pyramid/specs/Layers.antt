@@ -2,7 +2,7 @@
 use Rattle.std.specs.Prelude.{◌≡◌, ◌⊎◌, ℕ, ◌<◌, Bool, true, ◌&&◌, not, IsTrue, List, [], ◌∷◌, ◌++◌, Option, Some, None, option_and_then, if◌then◌else◌, AllPairs, All, Contains, slice_index_or, ⊤, length}
 use Rattle.std.specs.List.{flat_map}
 use Rattle.pur_base.specs.Keys.{id_of}
-use Rattle.pur_base.specs.Says.{newest, has_key, Ascends}
+use Rattle.pur_base.specs.Says.{newest, has_key, Ascends, says}
 
 -- sorted patches, oldest first, and the facts that aren't flushed yet
 pub record Layers (F : Type 0) : Type 0 where
@@ -107,3 +107,8 @@ pub record IsMerged {F : Type 0} (key number : F → ℕ) (empty : F → Bool) (
   pub dropped : (f : F) → Contains (older ++ newer) f
       → Contains new f ⊎ (IsTrue (elided (id_of (key f))) ⊎ (HasNewer key number (older ++ newer) f ⊎ ((IsTrue oldest × IsTrue (empty f)) ⊎ LiesInOne within new f)))
   pub newest : IsApart within → (k : ℕ) → newest_of key number k new ≡ option_and_then (if_passes (stays key empty oldest elided)) (newest_of key number k (older ++ newer))
+
+-- the facts say the same after as before, for every key, wherever at least these ids are elided
+abbrev pub SaysTheSame : {F : Type 0} → (F → ℕ) → (F → ℕ) → (F → Bool) → (ℕ → Bool) → List F → List F → Type 0
+SaysTheSame key number empty elided old new =
+    (wider : ℕ → Bool) → ((id : ℕ) → IsTrue (elided id) → IsTrue (wider id)) → (k : ℕ) → says key number empty new wider k ≡ says key number empty old wider k

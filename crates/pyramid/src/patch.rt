@@ -1,6 +1,7 @@
-ghost use Rattle.std.specs.Prelude.{◌≡◌, ◌<◌, length};
+ghost use Rattle.std.specs.Prelude.{◌≡◌, ◌<◌, ◌≤◌, ◌+◌, ◌++◌, length, take, drop};
+ghost use Rattle.std.specs.Vec.{vec_len, vec_capacity};
 ghost use Rattle.pur_base.specs.Says.{Ascends};
-ghost use Rattle.pyramid.specs.Layers.{IsPatch, patch_facts};
+ghost use Rattle.pyramid.specs.Layers.{IsPatch, patch_facts, patches_of};
 
 use pur_base::Fact;
 use std::marker::Model;
@@ -41,5 +42,37 @@ impl<F: Fact + Drop> Patch<F> {
         ensures patch { IsPatch F.key result.now }
     {
         &self.facts
+    }
+}
+
+/// Puts a patch, if there is one, behind the others. It takes no memory.
+pub fn push_patch<F: Fact + Drop>(patches: &mut Vec<Patch<F>>, patch: Option<Patch<F>>)
+    requires { vec_len patches.old < vec_capacity patches.old }
+    ensures { patches.new.items ≡ patches.old.items ++ patches_of patch }
+{
+    if let Some(patch) = patch {
+        match patches.push(patch) {
+            Ok(()) => {}
+            Err(_) => unreachable!(),
+        }
+    }
+}
+
+/// Puts a patch, if there is one, in the place of two neighbours. It takes no memory.
+pub fn replace_pair<F: Fact + Drop>(patches: &mut Vec<Patch<F>>, i: usize, patch: Option<Patch<F>>)
+    requires { i + 1 < length patches.old.items }
+    ensures items { patches.new.items ≡ take i patches.old.items ++ (patches_of patch ++ drop (i + 2) patches.old.items) }
+    ensures capacity { vec_capacity patches.new ≡ vec_capacity patches.old }
+    ensures len { vec_len patches.new < vec_len patches.old }
+{
+    match patch {
+        Some(patch) => {
+            patches[i] = patch;
+            patches.remove(i + 1);
+        }
+        None => {
+            patches.remove(i + 1);
+            patches.remove(i);
+        }
     }
 }

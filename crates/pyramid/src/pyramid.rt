@@ -1,11 +1,12 @@
-ghost use Rattle.std.specs.Prelude.{◌≡◌, ◌⊎◌, ◌↔◌, ℕ, ◌+◌, ◌<◌, [], ◌∷◌, ◌++◌, All, length, Contains, IfOk, OnOk, OnErr, IsOk};
-ghost use Rattle.pur_base.specs.Says.{says};
+ghost use Rattle.std.specs.Prelude.{◌≡◌, ◌⊎◌, ◌↔◌, ℕ, ◌+◌, ◌<◌, ◌==◌, Bool, [], ◌∷◌, ◌++◌, All, length, take, drop, Contains, IfOk, OnOk, OnErr, IsOk};
+ghost use Rattle.pur_base.specs.Says.{says, Ascends};
 ghost use Rattle.pur_base.specs.Visible.{is_within};
 ghost use Rattle.elision.specs.Ranges.{AreApart};
-ghost use Rattle.pyramid.specs.Layers.{facts_in, facts_of, newest_of, AreDistinct, Rises};
+ghost use Rattle.pyramid.specs.Layers.{facts_in, facts_of, newest_of, patch_at, patch_facts, patches_of, AreDistinct, IsApart, IsFlushed, IsMerged, Rises, SaysTheSame};
 
 use crate::insert::insert_in_order;
-use crate::patch::Patch;
+use crate::merge::{merge_facts, newest_of_each};
+use crate::patch::{push_patch, replace_pair, Patch};
 use crate::search::{id_of, newest_in};
 use elision::is_within;
 use pur_base::{Fact, NoMemory};
@@ -106,5 +107,58 @@ impl<F: Fact + Drop> Pyramid<F> {
         ensures room { 0 < self.old.room → IsOk result }
     {
         insert_in_order(&mut self.unflushed, fact)
+    }
+
+    /// The first half of a flush: the patch of the unflushed facts, of each key the newest, and room for one patch more.
+    /// `None` where no fact is unflushed. What the table says and holds stays.
+    pub fn flushed(&mut self, alloc: Global) -> Result<Option<Patch<F>>, NoMemory>
+        ensures patch { IfOk result (λ patch. IsFlushed F.key F.number self.old.unflushed (patch_facts patch)) }
+        ensures patch_room { OnOk result (0 < self.new.patch_room) }
+        ensures patches { self.new.patches ≡ self.old.patches }
+        ensures unflushed { self.new.unflushed ≡ self.old.unflushed }
+        ensures room { self.new.room ≡ self.old.room }
+    {
+        self.patches.reserve(1)?;
+        let newest = newest_of_each(alloc, &self.unflushed)?;
+        Ok(Patch::from_facts(newest))
+    }
+
+    /// The second half of a flush: the patch stands in front, and no fact is unflushed. It takes no memory.
+    pub fn put_flushed(&mut self, patch: Option<Patch<F>>)
+        requires patch_room { 0 < self.old.patch_room }
+        requires patch { IsFlushed F.key F.number self.old.unflushed (patch_facts patch) }
+        ensures patches { self.new.patches ≡ self.old.patches ++ patches_of patch }
+        ensures unflushed { self.new.unflushed ≡ [] }
+        ensures room { self.new.room ≡ self.old.room + length self.old.unflushed }
+        ensures says { (elided : ℕ → Bool) (k : ℕ) → says F.key F.number F.empty (facts_in self.new) elided k ≡ says F.key F.number F.empty (facts_in self.old) elided k }
+    {
+        push_patch(&mut self.patches, patch);
+        self.unflushed.clear();
+    }
+
+    /// The first half of a merge: a patch and the next one as one, without what it need not keep.
+    /// `None` where no fact is left.
+    pub fn merged(&self, alloc: Global, i: usize, elided: &[(u64, u64)]) -> Result<Option<Patch<F>>, NoMemory>
+        requires there { i + 1 < length self.now.patches }
+        requires apart { AreApart elided.now }
+        ensures { IfOk result (λ patch. IsMerged F.key F.number F.empty F.within (i == 0) (is_within elided.now) (patch_at self.now i) (patch_at self.now (i + 1)) (patch_facts patch)) }
+    {
+        let facts = merge_facts(alloc, self.patches[i].facts(), self.patches[i + 1].facts(), i == 0, elided)?;
+        Ok(Patch::from_facts(facts))
+    }
+
+    /// The second half of a merge: the patch stands in the place of the two that it is made of. It takes no memory.
+    pub fn put_merged(&mut self, i: usize, patch: Option<Patch<F>>)
+        requires there { i + 1 < length self.old.patches }
+        requires ascends { Ascends F.key (patch_facts patch) }
+        requires source { (f : F) → Contains (patch_facts patch) f → Contains (patch_at self.old i ++ patch_at self.old (i + 1)) f }
+        ensures patches { self.new.patches ≡ take i self.old.patches ++ (patches_of patch ++ drop (i + 2) self.old.patches) }
+        ensures unflushed { self.new.unflushed ≡ self.old.unflushed }
+        ensures room { self.new.room ≡ self.old.room }
+        ensures patch_room { self.old.patch_room < self.new.patch_room }
+        ensures says { (elided : ℕ → Bool) → IsMerged F.key F.number F.empty F.within (i == 0) elided (patch_at self.old i) (patch_at self.old (i + 1)) (patch_facts patch) → IsApart F.within
+            → SaysTheSame F.key F.number F.empty elided (facts_in self.old) (facts_in self.new) }
+    {
+        replace_pair(&mut self.patches, i, patch);
     }
 }
