@@ -67,6 +67,14 @@ module _ {F : Type 0} (number : F → ℕ) where
     | inr same ↦ rw same (All-contains (λ x. number x < number y) (facts_of ps) f above c)
   ]))
 
+  -- more facts, above all patches
+  pub rises_run : (ps : List (List F)) (us vs rs : List F) → Rises number ps us → AreBelow number (facts_of ps) rs
+      → ((f : F) → Contains vs f → Contains us f ⊎ Contains rs f) → Rises number ps vs
+  rises_run ps us vs rs h above source = rises_with ps us vs h (all_below (facts_of ps) vs (λ f g c d. elim (source g d) [
+    | inl old ↦ below_at (facts_of ps) us f g (rises_below number ps us h) c old
+    | inr new ↦ below_at (facts_of ps) rs f g above c new
+  ]))
+
 module _ {F : Type 0} (key number : F → ℕ) where
   -- what is newer counts
   pub later_below : (k : ℕ) (fs gs : List F) (g : F) → AreBelow number fs gs → newest_of key number k gs ≡ Some g → later number (newest_of key number k fs) (newest_of key number k gs) ≡ Some g

@@ -9,3 +9,4 @@ pub mod LayerLemmas
 pub mod ContainsLemmas
 pub mod ReasonLemmas
 pub mod PlaceLemmas
+pub mod WeaveLemmas

@@ -4,12 +4,15 @@ use Rattle.std.specs.Prelude.{◌==◌, Option, Some, None, IsTrue, filter}
 use Rattle.std.specs.List.{flat_map, remove}
 use Rattle.std.proofs.lemmas.Bool.{eqb-true}
 use Rattle.std.proofs.lemmas.List.{append-nil, append_assoc, get_or_default}
+use Rattle.std.proofs.lemmas.List.Kept.{AllPairs-filter}
 use Rattle.std.proofs.lemmas.List.Elements.{All-append, All-take, All-drop, All-cons, Contains-append_left, Contains-append_right, Contains-append_cases}
 use Rattle.pur_base.specs.Says.{Ascends, has_key, says}
-use Rattle.pyramid.specs.Layers.{facts_of, patch_facts, patches_of, newest_of, AreBelow, Rises, IsLayered, IsMerged, IsFlushed, IsApart, SaysTheSame, stays}
+use Rattle.pyramid.specs.Layers.{facts_of, IsBefore, patch_facts, patches_of, newest_of, AreBelow, Rises, IsLayered, IsMerged, IsFlushed, IsApart, SaysTheSame, stays}
 use Rattle.pyramid.specs.Merging.{later, merged}
 use Rattle.pyramid.proofs.NewestLemmas.{newest-append, later_none}
-use Rattle.pyramid.proofs.LayerLemmas.{below_at, all_below, rises_below, below-left}
+use Rattle.pyramid.proofs.ContainsLemmas.{of_filter}
+use Rattle.pyramid.proofs.MergeLemmas.{ascends-nil}
+use Rattle.pyramid.proofs.LayerLemmas.{below_at, all_below, rises_below, rises_with, below-left}
 use Rattle.pyramid.proofs.ReasonLemmas.{merged_is}
 use Rattle.pyramid.proofs.SaysLemmas.{merge_says, wider_says, alike_says}
 
@@ -197,3 +200,41 @@ module _ {F : Type 0} (key number : F → ℕ) where
       let one : i + 1 ≡ suc i = omega arith in
       let below : AreBelow number (get_or ps i []) (get_or ps (i + 1) []) = rw one (neighbours ps i us (omega (arith, l)) h.rises) in
       rw (at, at2) (merged_is key number empty within (i == 0) elided (get_or ps i []) (get_or ps (i + 1) []) (h.ascend i [] (omega (arith, l))) (h.ascend (i + 1) [] l) below)
+
+  -- fewer unflushed facts
+  pub filter_layered : (ps : List (List F)) (us : List F) (p : F → Bool) → IsLayered key number ps us → IsLayered key number ps (filter p us)
+  filter_layered ps us p h = record {
+    ascend = h.ascend;
+    ordered = AllPairs-filter (IsBefore key number) p us h.ordered;
+    rises = rises_with number ps us (filter p us) h.rises
+        (all_below number (facts_of ps) (filter p us) (λ f g c d. below_at number (facts_of ps) us f g (rises_below number ps us h.rises) c (of_filter p us g d)));
+  }
+
+  -- what the only patch is rewritten to
+  pub rewritten_at : (empty : F → Bool) (within : F → F → Bool) (elided : ℕ → Bool) (ps : List (List F)) (us b : List F) → length ps ≡ 1 → IsLayered key number ps us → b ≡ get_or ps 0 b
+      → IsMerged key number empty within true elided [] (get_or ps 0 []) (filter (stays key empty true elided) (merged key [] b))
+  rewritten_at empty within elided ps us b l h b_is =
+      let at : b ≡ get_or ps 0 [] = b_is ∙ get_or_default ps 0 b [] (omega (arith, l)) in
+      rw at (merged_is key number empty within true elided [] (get_or ps 0 []) (ascends-nil key) (h.ascend 0 [] (omega (arith, l))) (λ i d m. absurd (omega (arith, m))))
+
+  pub rewrite_layered : (ps : List (List F)) (patch : Option (List F)) (us : List F) → length ps ≡ 1 → IsLayered key number ps us → Ascends key (patch_facts patch)
+      → ((f : F) → Contains (patch_facts patch) f → Contains (get_or ps 0 []) f) → IsLayered key number (patches_of patch) us
+  rewrite_layered [] patch us l h up source = absurd (omega (arith, l))
+  rewrite_layered (p ∷ q ∷ ps) patch us l h up source = absurd (omega (arith, l))
+  rewrite_layered (p ∷ []) None us l h up source = record { ascend = λ k d m. absurd (omega (arith, m)); ordered = h.ordered; rises = tt }
+  rewrite_layered (p ∷ []) (Some fs) us l h up source = record {
+    ascend = all_patches (Ascends key) (Some fs) up;
+    ordered = h.ordered;
+    rises = (all_below number fs us (λ f g c d. below_at number p us f g h.rises.0 (source f c) d), tt);
+  }
+
+module _ {F : Type 0} (key number : F → ℕ) (empty : F → Bool) where
+  -- says the same after a rewriting
+  pub says_rewritten : (within : F → F → Bool) (elided : ℕ → Bool) (ps : List (List F)) (patch : Option (List F)) (us : List F) → length ps ≡ 1 → Rises number ps us
+      → IsMerged key number empty within true elided [] (get_or ps 0 []) (patch_facts patch) → IsApart within
+      → SaysTheSame key number empty elided (facts_of ps ++ us) (facts_of (patches_of patch) ++ us)
+  says_rewritten within elided [] patch us l h m apart = absurd (omega (arith, l))
+  says_rewritten within elided (p ∷ q ∷ ps) patch us l h m apart = absurd (omega (arith, l))
+  says_rewritten within elided (p ∷ []) patch us l h m apart = λ wider more k.
+      wider_says key number empty elided wider ((p ++ []) ++ us) (facts_of (patches_of patch) ++ us)
+      (λ k. rw (append-nil p, facts_patches patch) (merge_says key number empty true elided k [] p (patch_facts patch) us (m.newest apart k) (λ e. refl) h.0)) more k

@@ -76,3 +76,16 @@ pub fn replace_pair<F: Fact + Drop>(patches: &mut Vec<Patch<F>>, i: usize, patch
         }
     }
 }
+
+/// Puts a patch, if there is one, in the place of the only one. It takes no memory.
+pub fn replace_only<F: Fact + Drop>(patches: &mut Vec<Patch<F>>, patch: Option<Patch<F>>)
+    requires { length patches.old.items ≡ 1 }
+    ensures items { patches.new.items ≡ patches_of patch }
+    ensures capacity { vec_capacity patches.new ≡ vec_capacity patches.old }
+    ensures len { vec_len patches.new ≤ vec_len patches.old }
+{
+    match patch {
+        Some(patch) => patches[0] = patch,
+        None => patches.clear(),
+    }
+}

@@ -1,15 +1,15 @@
-ghost use Rattle.std.specs.Prelude.{◌≡◌, ◌⊎◌, ◌↔◌, ℕ, ◌+◌, ◌<◌, ◌==◌, Bool, [], ◌∷◌, ◌++◌, All, length, take, drop, Contains, IfOk, OnOk, OnErr, IsOk};
+ghost use Rattle.std.specs.Prelude.{◌≡◌, ◌⊎◌, ◌≢◌, ◌↔◌, ℕ, ◌+◌, ◌<◌, ◌≤◌, ◌==◌, Bool, true, nat_lt, filter, [], ◌∷◌, ◌++◌, All, length, take, drop, Contains, IfOk, OnOk, OnErr, IsOk};
 ghost use Rattle.pur_base.specs.Says.{says, Ascends};
 ghost use Rattle.pur_base.specs.Visible.{is_within};
 ghost use Rattle.elision.specs.Ranges.{AreApart};
-ghost use Rattle.pyramid.specs.Layers.{facts_in, facts_of, newest_of, patch_at, patch_facts, patches_of, AreDistinct, IsApart, IsFlushed, IsMerged, Rises, SaysTheSame};
+ghost use Rattle.pyramid.specs.Layers.{facts_in, facts_of, newest_of, patch_at, patch_facts, patches_of, AreBelow, AreDistinct, IsApart, IsFlushed, IsMerged, Rises, SaysTheSame};
 
-use crate::insert::insert_in_order;
+use crate::insert::{insert_all, insert_in_order, keep_below};
 use crate::merge::{merge_facts, newest_of_each};
-use crate::patch::{push_patch, replace_pair, Patch};
+use crate::patch::{push_patch, replace_only, replace_pair, Patch};
 use crate::search::{id_of, newest_in};
 use elision::is_within;
-use pur_base::{Fact, NoMemory};
+use pur_base::{Fact, NoMemory, Seq};
 use std::alloc::Global;
 use std::marker::Model;
 
@@ -160,5 +160,55 @@ impl<F: Fact + Drop> Pyramid<F> {
             → SaysTheSame F.key F.number F.empty elided (facts_in self.old) (facts_in self.new) }
     {
         replace_pair(&mut self.patches, i, patch);
+    }
+
+    /// Takes in facts of ascending keys, of which none is there: the same as one by one, but each fact moves once.
+    /// It takes no memory where there is room for them, and an `Err` changes nothing.
+    pub fn insert_run(&mut self, run: &[F]) -> Result<(), NoMemory>
+        requires ascends { Ascends F.key run.now }
+        requires fresh { (f g : F) → Contains run.now f → Contains self.old.unflushed g → F.number f ≢ F.number g }
+        requires rising { AreBelow F.number (facts_of self.old.patches) run.now }
+        ensures patches { self.new.patches ≡ self.old.patches }
+        ensures facts { OnOk result ((f : F) → Contains self.new.unflushed f ↔ (Contains self.old.unflushed f ⊎ Contains run.now f)) }
+        ensures refused { OnErr result (self.new.unflushed ≡ self.old.unflushed) }
+        ensures room { length run.now ≤ self.old.room → IsOk result }
+    {
+        insert_all(&mut self.unflushed, run)
+    }
+
+    /// Takes the unflushed facts out that have that number or a greater one. It takes no memory.
+    pub fn take_back(&mut self, from: Seq)
+        ensures patches { self.new.patches ≡ self.old.patches }
+        ensures unflushed { self.new.unflushed ≡ filter (λ f. nat_lt (F.number f) from.0) self.old.unflushed }
+        ensures room { self.old.room ≤ self.new.room }
+        ensures patch_room { self.new.patch_room ≡ self.old.patch_room }
+    {
+        keep_below(&mut self.unflushed, from);
+    }
+
+    /// The first half of a rewriting of a table's only patch: the patch without what it need not keep.
+    /// `None` where no fact is left.
+    pub fn rewritten(&self, alloc: Global, elided: &[(u64, u64)]) -> Result<Option<Patch<F>>, NoMemory>
+        requires only { length self.now.patches ≡ 1 }
+        requires apart { AreApart elided.now }
+        ensures { IfOk result (λ patch. IsMerged F.key F.number F.empty F.within true (is_within elided.now) [] (patch_at self.now 0) (patch_facts patch)) }
+    {
+        let facts = merge_facts(alloc, &[], self.patches[0].facts(), true, elided)?;
+        Ok(Patch::from_facts(facts))
+    }
+
+    /// The second half of a rewriting: the patch stands in the place of the only one. It takes no memory.
+    pub fn put_rewritten(&mut self, patch: Option<Patch<F>>)
+        requires only { length self.old.patches ≡ 1 }
+        requires ascends { Ascends F.key (patch_facts patch) }
+        requires source { (f : F) → Contains (patch_facts patch) f → Contains (patch_at self.old 0) f }
+        ensures patches { self.new.patches ≡ patches_of patch }
+        ensures unflushed { self.new.unflushed ≡ self.old.unflushed }
+        ensures room { self.new.room ≡ self.old.room }
+        ensures patch_room { self.old.patch_room ≤ self.new.patch_room }
+        ensures says { (elided : ℕ → Bool) → IsMerged F.key F.number F.empty F.within true elided [] (patch_at self.old 0) (patch_facts patch) → IsApart F.within
+            → SaysTheSame F.key F.number F.empty elided (facts_in self.old) (facts_in self.new) }
+    {
+        replace_only(&mut self.patches, patch);
     }
 }
