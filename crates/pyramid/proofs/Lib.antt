@@ -10,3 +10,4 @@ pub mod ContainsLemmas
 pub mod ReasonLemmas
 pub mod PlaceLemmas
 pub mod WeaveLemmas
+pub mod SpanLemmas

@@ -1,5 +1,5 @@
 -- Layers of facts, and what a table may do with them.
-use Rattle.std.specs.Prelude.{◌≡◌, ◌⊎◌, ℕ, ◌<◌, Bool, true, ◌&&◌, not, IsTrue, List, [], ◌∷◌, ◌++◌, Option, Some, None, option_and_then, if◌then◌else◌, AllPairs, All, Contains, slice_index_or, ⊤, length}
+use Rattle.std.specs.Prelude.{◌≡◌, ◌⊎◌, ℕ, ◌<◌, Bool, true, ◌&&◌, not, IsTrue, List, [], ◌∷◌, ◌++◌, Option, Some, None, option_and_then, if◌then◌else◌, nat_le, AllPairs, All, Contains, slice_index_or, ⊤, length}
 use Rattle.std.specs.List.{flat_map}
 use Rattle.pur_base.specs.Keys.{id_of}
 use Rattle.pur_base.specs.Says.{newest, has_key, Ascends, says}
@@ -112,3 +112,7 @@ pub record IsMerged {F : Type 0} (key number : F → ℕ) (empty : F → Bool) (
 abbrev pub SaysTheSame : {F : Type 0} → (F → ℕ) → (F → ℕ) → (F → Bool) → (ℕ → Bool) → List F → List F → Type 0
 SaysTheSame key number empty elided old new =
     (wider : ℕ → Bool) → ((id : ℕ) → IsTrue (elided id) → IsTrue (wider id)) → (k : ℕ) → says key number empty new wider k ≡ says key number empty old wider k
+
+-- whether a key lies between these, both taken in
+abbrev pub is_between : ℕ → ℕ → ℕ → Bool
+is_between from to k = nat_le from k && nat_le k to

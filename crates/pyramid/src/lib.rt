@@ -7,6 +7,7 @@ mod laws;
 mod merge;
 mod patch;
 mod pyramid;
+mod range;
 mod search;
 
 pub use laws::laws_of_facts;

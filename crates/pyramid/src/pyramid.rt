@@ -7,6 +7,7 @@ ghost use Rattle.pyramid.specs.Layers.{facts_in, facts_of, newest_of, patch_at, 
 use crate::insert::{insert_all, insert_in_order, keep_below};
 use crate::merge::{merge_facts, newest_of_each};
 use crate::patch::{push_patch, replace_only, replace_pair, Patch};
+use crate::range::{gathered, span};
 use crate::search::{id_of, newest_in};
 use elision::is_within;
 use pur_base::{Fact, NoMemory, Seq};
@@ -95,6 +96,17 @@ impl<F: Fact + Drop> Pyramid<F> {
             Some(fact) => if fact.is_empty() { None } else { Some(fact) },
             None => None,
         }
+    }
+
+    /// What the facts say at the keys from the first to the last, by ascending key: one search a patch, and a walk.
+    pub fn range(&self, alloc: Global, from: u128, to: u128, elided: &[(u64, u64)]) -> Result<Vec<F>, NoMemory>
+        requires { AreApart elided.now }
+        ensures ascends { IfOk result (λ v. Ascends F.key v.items) }
+        ensures facts { IfOk result (λ v. (f : F) → Contains v.items f ↔ ((from ≤ F.key f) × (F.key f ≤ to) × (says F.key F.number F.empty (facts_in self.now) (is_within elided.now) (F.key f) ≡ Some f))) }
+    {
+        let older = gathered(alloc, &self.patches, from, to)?;
+        let newer = newest_of_each(alloc, span(&self.unflushed, from, to))?;
+        merge_facts(alloc, &older, &newer, true, elided)
     }
 
     /// Takes a fact in, unless it is there. It takes no memory where there is room, and an `Err` changes nothing.
