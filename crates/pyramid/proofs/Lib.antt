@@ -11,3 +11,4 @@ pub mod ReasonLemmas
 pub mod PlaceLemmas
 pub mod WeaveLemmas
 pub mod SpanLemmas
+pub mod PruneLemmas

@@ -116,3 +116,10 @@ SaysTheSame key number empty elided old new =
 -- whether a key lies between these, both taken in
 abbrev pub is_between : ℕ → ℕ → ℕ → Bool
 is_between from to k = nat_le from k && nat_le k to
+
+-- facts of which some are left out, each of them since it lies in one that stays
+pub record IsPruned {F : Type 0} (key : F → ℕ) (within : F → F → Bool) (old front rest : List F) : Type 0 where
+  pub ascends : Ascends key (front ++ rest)
+  pub source : (f : F) → Contains (front ++ rest) f → Contains old f
+  pub dropped : (f : F) → Contains old f → Contains (front ++ rest) f ⊎ LiesInOne within front f
+  pub same : IsApart within → front ++ rest ≡ old

@@ -6,6 +6,7 @@ mod insert;
 mod laws;
 mod merge;
 mod patch;
+mod prune;
 mod pyramid;
 mod range;
 mod search;
@@ -13,3 +14,6 @@ mod search;
 pub use laws::laws_of_facts;
 pub use patch::Patch;
 pub use pyramid::Pyramid;
+
+#[cfg(test)]
+mod tests;

@@ -34,7 +34,7 @@ pub fn merge_facts<F: Fact + Drop>(alloc: Global, older: &[F], newer: &[F], olde
     requires { AreApart elided.now }
     ensures { IfOk result (λ v. v.items ≡ filter (stays F.key F.empty oldest (is_within elided.now)) (merged F.key older.now newer.now)) }
 {
-    let mut out = Vec::new(alloc);
+    let mut out = Vec::with_capacity(alloc, older.len().saturating_add(newer.len()))?;
     let mut i = 0;
     let mut j = 0;
     while i < older.len() && j < newer.len() {

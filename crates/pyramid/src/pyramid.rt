@@ -7,6 +7,7 @@ ghost use Rattle.pyramid.specs.Layers.{facts_in, facts_of, newest_of, patch_at, 
 use crate::insert::{insert_all, insert_in_order, keep_below};
 use crate::merge::{merge_facts, newest_of_each};
 use crate::patch::{push_patch, replace_only, replace_pair, Patch};
+use crate::prune::prune;
 use crate::range::{gathered, span};
 use crate::search::{id_of, newest_in};
 use elision::is_within;
@@ -155,7 +156,8 @@ impl<F: Fact + Drop> Pyramid<F> {
         requires apart { AreApart elided.now }
         ensures { IfOk result (λ patch. IsMerged F.key F.number F.empty F.within (i == 0) (is_within elided.now) (patch_at self.now i) (patch_at self.now (i + 1)) (patch_facts patch)) }
     {
-        let facts = merge_facts(alloc, self.patches[i].facts(), self.patches[i + 1].facts(), i == 0, elided)?;
+        let mut facts = merge_facts(alloc, self.patches[i].facts(), self.patches[i + 1].facts(), i == 0, elided)?;
+        prune(&mut facts);
         Ok(Patch::from_facts(facts))
     }
 
@@ -205,7 +207,8 @@ impl<F: Fact + Drop> Pyramid<F> {
         requires apart { AreApart elided.now }
         ensures { IfOk result (λ patch. IsMerged F.key F.number F.empty F.within true (is_within elided.now) [] (patch_at self.now 0) (patch_facts patch)) }
     {
-        let facts = merge_facts(alloc, &[], self.patches[0].facts(), true, elided)?;
+        let mut facts = merge_facts(alloc, &[], self.patches[0].facts(), true, elided)?;
+        prune(&mut facts);
         Ok(Patch::from_facts(facts))
     }
 
