@@ -25,8 +25,10 @@ module _ {F : Type 0} (key : F → ℕ) where
     where
       add : i + 1 ≡ suc i
       add = omega arith
+
       add2 : suc i ≡ i + 1
       add2 = omega arith
+
       one : (xs : List F) (i : ℕ) (x : F) → suc i ≡ length xs → x ≡ get_or xs i x → lasts key (drop i xs) ≡ x ∷ lasts key (drop (suc i) xs)
       one [] i x e is = absurd (omega (arith, e))
       one (y ∷ []) zero x e is = ap (λ z. z ∷ []) (sym is)
@@ -39,6 +41,7 @@ module _ {F : Type 0} (key : F → ℕ) where
     where
       add : i + 1 ≡ suc i
       add = omega arith
+
       one : (xs : List F) (i : ℕ) (x y : F) → suc i < length xs → x ≡ get_or xs i x → y ≡ get_or xs (suc i) y
           → lasts key (drop i xs) ≡ (if nat_lt (key x) (key y) then x ∷ lasts key (drop (suc i) xs) else lasts key (drop (suc i) xs))
       one [] i x y l is is2 = absurd (omega (arith, l))
@@ -77,7 +80,7 @@ module _ {F : Type 0} (key number : F → ℕ) where
       one h2 true e =
           let xy : key x < key y = ltb-true _ _ e in
           let up : All (λ f. key x < key f) (y ∷ ys) = All-cons (λ f. key x < key f) y ys xy
-              (λ j d less. elim (ordered-head y ys (ordered-tail x (y ∷ ys) h) j d less) [ inl a ↦ omega (arith, xy, a) | inr b ↦ let same = b.0 in omega (arith, xy, same) ]) in
+          (λ j d less. elim (ordered-head y ys (ordered-tail x (y ∷ ys) h) j d less) [ inl a ↦ omega (arith, xy, a) | inr b ↦ let same = b.0 in omega (arith, xy, same) ]) in
           ascends-cons key x (lasts key (y ∷ ys)) (all_lasts key (key x) (y ∷ ys) up) h2
 
   pub newest_lasts : (k : ℕ) (xs : List F) → IsOrdered key number xs → newest_of key number k (lasts key xs) ≡ newest_of key number k xs
@@ -87,8 +90,10 @@ module _ {F : Type 0} (key number : F → ℕ) where
     where
       same_key : nat_lt (key x) (key y) ≡ false → key x ≡ key y
       same_key e = elim (h 0 1 x (omega arith) (omega arith)) [ inl a ↦ let le = ltb-false (key x) (key y) e in absurd (omega (arith, a, le)) | inr b ↦ b.0 ]
+
       older : (g : F) → Contains (y ∷ ys) g → key g ≡ key x → number x < number g
       older g c e = elim (All-contains (λ f. IsBefore key number x f) (y ∷ ys) g (ordered-head x (y ∷ ys) h) c) [ inl a ↦ absurd (omega (arith, a, e)) | inr b ↦ b.1 ]
+
       passes : (o : Option F) → IfSome o (λ f. Contains (y ∷ ys) f × (has_key key k f ≡ true)) → o ≡ newest_of key number k (y ∷ ys) → key x ≡ k → key x ≡ key y → newer number x o ≡ o
       passes None c e at same = absurd (none_there (eq-eqb (key y) k (sym same ∙ at)) e)
         where
@@ -103,6 +108,7 @@ module _ {F : Type 0} (key number : F → ℕ) where
                   two true e = none_some e
                   two false e = none_some e
       passes (Some g) c e at same = rw (lt-ltb (number x) (number g) (older g c.0 (eqb-true _ _ c.1 ∙ sym at))) refl
+
       one : newest_of key number k (lasts key (y ∷ ys)) ≡ newest_of key number k (y ∷ ys) → (b : Bool) → nat_lt (key x) (key y) ≡ b
           → newest_of key number k (if b then x ∷ lasts key (y ∷ ys) else lasts key (y ∷ ys)) ≡ newest_of key number k (x ∷ y ∷ ys)
       one inner true e = rw inner refl

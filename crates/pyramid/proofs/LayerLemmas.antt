@@ -86,6 +86,7 @@ module _ {F : Type 0} (key number : F → ℕ) where
           two : (o : Option F) → o ≡ Some g → IfSome o (λ f. Contains gs f × (has_key key k f ≡ true)) → Contains gs g
           two None e c = cc
           two (Some x) e c = let same : x ≡ g = cc in rw same at c.0
+
       one : (o : Option F) → IfSome o (λ f. Contains fs f × (has_key key k f ≡ true)) → later number o (Some g) ≡ Some g
       one None c = refl
       one (Some f) c =

@@ -114,17 +114,19 @@ module _ {F : Type 0} (key number : F → ℕ) where
         where
           yx : key y < key x
           yx = ltb-true _ _ f
+
           two : (u : Bool) → (key y == k) ≡ u → newest_of key number k (y ∷ weave key x rest ys) ≡ later number (newest_of key number k (x ∷ xs)) (newest_of key number k (y ∷ ys))
           two false g = rw (g, inner) refl
           two true g =
               let at : key y ≡ k = eqb-true _ _ g in
               let none : newest_of key number k (x ∷ xs) ≡ None = none_above key number k (x ∷ xs)
-                  (All-cons (λ h. k < key h) x xs (omega (arith, at, yx)) (λ j d l. let h : key x < key (get_or xs j d) = ascends-head key x xs a j d l in omega (arith, at, yx, h))) in
+              (All-cons (λ h. k < key h) x xs (omega (arith, at, yx)) (λ j d l. let h : key x < key (get_or xs j d) = ascends-head key x xs a j d l in omega (arith, at, yx, h))) in
               rw none (rw g (rw inner (rw none refl)))
       one inner false false e f = two (key y == k) refl
         where
           same : key x ≡ key y
           same = omega (arith, ltb-false _ _ e, ltb-false _ _ f)
+
           two : (u : Bool) → (key y == k) ≡ u → newest_of key number k (y ∷ rest ys) ≡ later number (newest_of key number k (x ∷ xs)) (newest_of key number k (y ∷ ys))
           two false g =
               let g2 : (key x == k) ≡ false = rw same g in
@@ -155,8 +157,10 @@ module _ {F : Type 0} (key number : F → ℕ) where
         where
           at : key x ≡ k
           at = eqb-true _ _ g
+
           none : newest_of key number k xs ≡ None
           none = none_above key number k xs (λ j d l. let m : key x < key (get_or xs j d) = ascends-head key x xs h j d l in omega (arith, at, m))
+
           three : (b : Bool) → p x ≡ b → newest_of key number k (cond b (x ∷ filter p xs) (filter p xs)) ≡ option_and_then (if_passes p) (newest_of key number k (x ∷ xs))
           three true e = rw (g, inner, none) (rw e refl)
           three false e = rw (g, inner, none) (rw e refl)

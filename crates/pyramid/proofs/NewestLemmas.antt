@@ -54,11 +54,14 @@ module _ {F : Type 0} (number : F → ℕ) where
     where
       head : Contains (x ∷ xs) x
       head = (0, omega arith, refl)
+
       tail : (f : F) → Contains xs f → Contains (x ∷ xs) f
       tail f c = (suc c.0, omega (arith, c.1), c.2)
+
       two : (b : Bool) (g : F) → t x ≡ true → Contains xs g × (t g ≡ true) → IfSome (if b then Some g else Some x) (λ f. Contains (x ∷ xs) f × (t f ≡ true))
       two true g e h = (tail g h.0, h.1)
       two false g e h = (head, e)
+
       one : (b : Bool) → t x ≡ b → (o : Option F) → IfSome o (λ f. Contains xs f × (t f ≡ true))
           → IfSome (if b then newer number x o else o) (λ f. Contains (x ∷ xs) f × (t f ≡ true))
       one true e None h = (head, e)

@@ -75,10 +75,10 @@ module _ {F : Type 0} (number : F → ℕ) where
       one inner = (
         (
           all_below number x (facts_of (take i (y ∷ ps) ++ (patches_of patch ++ drop (suc (suc i)) (y ∷ ps))) ++ us)
-          (λ f g c d. below_at number x (facts_of (y ∷ ps) ++ us) f g h.0 c (elim (Contains-append_cases (facts_of (take i (y ∷ ps) ++ (patches_of patch ++ drop (suc (suc i)) (y ∷ ps)))) us g d) [
-            | inl a ↦ Contains-append_left (facts_of (y ∷ ps)) us g (inner.1 g a)
-            | inr b ↦ Contains-append_right (facts_of (y ∷ ps)) us g b
-          ])),
+              (λ f g c d. below_at number x (facts_of (y ∷ ps) ++ us) f g h.0 c (elim (Contains-append_cases (facts_of (take i (y ∷ ps) ++ (patches_of patch ++ drop (suc (suc i)) (y ∷ ps)))) us g d) [
+                | inl a ↦ Contains-append_left (facts_of (y ∷ ps)) us g (inner.1 g a)
+                | inr b ↦ Contains-append_right (facts_of (y ∷ ps)) us g b
+              ])),
           inner.0,
         ),
         (λ f c. elim (Contains-append_cases x (facts_of (take i (y ∷ ps) ++ (patches_of patch ++ drop (suc (suc i)) (y ∷ ps)))) f c) [
@@ -136,21 +136,26 @@ module _ {F : Type 0} (key number : F → ℕ) (empty : F → Bool) where
     where
       one : i + 1 ≡ suc i
       one = omega arith
+
       two : i + 2 ≡ suc (suc i)
       two = omega arith
+
       new_is : facts_of (take i ps ++ (patches_of patch ++ drop (suc (suc i)) ps)) ++ us ≡ facts_of (take i ps) ++ (patch_facts patch ++ (facts_of (drop (suc (suc i)) ps) ++ us))
       new_is = ap (λ fs. fs ++ us) (facts_append (take i ps) (patches_of patch ++ drop (suc (suc i)) ps) ∙ ap (λ fs. facts_of (take i ps) ++ fs) (facts_append (patches_of patch) (drop (suc (suc i)) ps)
           ∙ ap (λ fs. fs ++ facts_of (drop (suc (suc i)) ps)) (facts_patches patch)))
           ∙ append_assoc (facts_of (take i ps)) (patch_facts patch ++ facts_of (drop (suc (suc i)) ps)) us
           ∙ ap (λ fs. facts_of (take i ps) ++ fs) (append_assoc (patch_facts patch) (facts_of (drop (suc (suc i)) ps)) us)
+
       old_is : facts_of ps ++ us ≡ facts_of (take i ps) ++ ((get_or ps i [] ++ get_or ps (suc i) []) ++ (facts_of (drop (suc (suc i)) ps) ++ us))
       old_is = ap (λ fs. facts_of fs ++ us) (split ps i (omega (arith, l)))
           ∙ ap (λ fs. fs ++ us) (facts_append (take i ps) (get_or ps i [] ∷ get_or ps (suc i) [] ∷ drop (suc (suc i)) ps)
           ∙ ap (λ fs. facts_of (take i ps) ++ fs) (sym (append_assoc (get_or ps i []) (get_or ps (suc i) []) (facts_of (drop (suc (suc i)) ps)))))
           ∙ append_assoc (facts_of (take i ps)) ((get_or ps i [] ++ get_or ps (suc i) []) ++ facts_of (drop (suc (suc i)) ps)) us
           ∙ ap (λ fs. facts_of (take i ps) ++ fs) (append_assoc (get_or ps i [] ++ get_or ps (suc i) []) (facts_of (drop (suc (suc i)) ps)) us)
+
       first : (i == 0) ≡ true → facts_of (take i ps) ≡ []
       first e = let z : i ≡ 0 = eqb-true _ _ e in ap (λ n. facts_of (take n ps)) z
+
       same : (k : ℕ) → says key number empty (facts_of (replaced ps i patch) ++ us) elided k ≡ says key number empty (facts_of ps ++ us) elided k
       same k = rw two (rw (new_is, old_is)
           (merge_says key number empty (i == 0) elided k (facts_of (take i ps)) (get_or ps i [] ++ get_or ps (suc i) []) (patch_facts patch) (facts_of (drop (suc (suc i)) ps) ++ us)
@@ -163,6 +168,7 @@ module _ {F : Type 0} (key number : F → ℕ) (empty : F → Bool) where
     where
       new_is : facts_of (ps ++ patches_of patch) ++ [] ≡ facts_of ps ++ patch_facts patch
       new_is = append-nil (facts_of (ps ++ patches_of patch)) ∙ facts_append ps (patches_of patch) ∙ ap (λ fs. facts_of ps ++ fs) (facts_patches patch)
+
       alike : (k : ℕ) → newest_of key number k (facts_of (ps ++ patches_of patch) ++ []) ≡ newest_of key number k (facts_of ps ++ us)
       alike k = rw new_is (newest-append number (has_key key k) (facts_of ps) (patch_facts patch)
           ∙ ap (λ o. later number (newest_of key number k (facts_of ps)) o) (h.newest k) ∙ sym (newest-append number (has_key key k) (facts_of ps) us))

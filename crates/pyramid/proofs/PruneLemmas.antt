@@ -77,6 +77,7 @@ module _ {F : Type 0} (key number : F → ℕ) (empty : F → Bool) (within : F 
     where
       whole : pruned ++ [] ≡ pruned
       whole = append-nil pruned
+
       stays : (f : F) → Contains new f → Contains pruned f ⊎ LiesInOne within pruned f
       stays f c = elim (h.dropped f c) [ inl a ↦ inl (rw whole at a) | inr b ↦ inr b ]
 

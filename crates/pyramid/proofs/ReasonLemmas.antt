@@ -35,6 +35,7 @@ module _ {F : Type 0} (key number : F → ℕ) where
     where
       first : IsBefore key number x y
       first = h 0 1 x (omega arith) (omega arith)
+
       one : (f ≡ x) ⊎ Contains (y ∷ ys) f → (b : Bool) → nat_lt (key x) (key y) ≡ b → (Contains (y ∷ ys) f → Contains (lasts key (y ∷ ys)) f ⊎ HasNewer key number (y ∷ ys) f)
           → Contains (if b then x ∷ lasts key (y ∷ ys) else lasts key (y ∷ ys)) f ⊎ HasNewer key number (x ∷ y ∷ ys) f
       one (inl same) true e inner = inl (rw same (here x (lasts key (y ∷ ys))))

@@ -56,8 +56,10 @@ module _ {F : Type 0} (key number : F → ℕ) (empty : F → Bool) where
     where
       old_is : New k (front ++ (two ++ rest)) ≡ later number (New k front) (later number (New k two) (New k rest))
       old_is = newest-append number (has_key key k) front (two ++ rest) ∙ ap (λ o. later number (New k front) o) (newest-append number (has_key key k) two rest)
+
       new_is : New k (front ++ (new ++ rest)) ≡ later number (New k front) (later number (option_and_then (if_passes (stays key empty oldest elided)) (New k two)) (New k rest))
       new_is = newest-append number (has_key key k) front (new ++ rest) ∙ ap (λ o. later number (New k front) o) (newest-append number (has_key key k) new rest ∙ ap (λ o. later number o (New k rest)) is)
+
       one : (w : Bool) → elided (id_of k) ≡ w
           → (if w then None else option_and_then (unless_empty empty) (New k (front ++ (new ++ rest))))
           ≡ (if w then None else option_and_then (unless_empty empty) (New k (front ++ (two ++ rest))))

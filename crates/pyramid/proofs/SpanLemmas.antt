@@ -153,12 +153,12 @@ module _ {F : Type 0} (key number : F → ℕ) where
           let here : key (get_or fs c.0 e) ≡ key f = ap key at in
           let fits : c.0 < length fs = c.1 in
           elim (cases_order j c.0) [
-          | inl s ↦ absurd (ne s)
-          | inr h ↦ elim h [
-            | inl b ↦ (let less : key (get_or fs j e) < key (get_or fs c.0 e) = up j c.0 e b fits in absurd (omega (arith, less, same, here)))
-            | inr b ↦ (let less : key (get_or fs c.0 e) < key (get_or fs j e) = up c.0 j e b l in absurd (omega (arith, less, same, here)))
+            | inl s ↦ absurd (ne s)
+            | inr h ↦ elim h [
+              | inl b ↦ (let less : key (get_or fs j e) < key (get_or fs c.0 e) = up j c.0 e b fits in absurd (omega (arith, less, same, here)))
+              | inr b ↦ (let less : key (get_or fs c.0 e) < key (get_or fs j e) = up c.0 j e b l in absurd (omega (arith, less, same, here)))
+            ]
           ]
-        ]
 
 module _ {F : Type 0} (key number : F → ℕ) (empty : F → Bool) where
   -- what a merge into the oldest patch keeps is what is said
@@ -169,9 +169,11 @@ module _ {F : Type 0} (key number : F → ℕ) (empty : F → Bool) where
       two f true e p q at = rw at (rw p refl)
       two f false true p q at = rw at (rw (p, q) refl)
       two f false false p q at = rw at (rw (p, q) refl)
+
       three : (o : Option F) (w : Bool) → o ≡ (if w then o else o)
       three o true = refl
       three o false = refl
+
       one : (o : Option F) → IfSome o (λ f. Contains fs f × (has_key key k f ≡ true)) → option_and_then (if_passes (stays key empty true elided)) o ≡ (if elided (id_of k) then None else option_and_then (unless_empty empty) o)
       one None h = three None (elided (id_of k))
       one (Some f) h = two f (elided (id_of k)) (empty f) refl refl (eqb-true (key f) k h.1)
@@ -185,21 +187,27 @@ module _ {F : Type 0} (key number : F → ℕ) (empty : F → Bool) where
     where
       in_order : IsOrdered key number (filter (λ f. is_between from to (key f)) us)
       in_order = AllPairs-filter (IsBefore key number) (λ f. is_between from to (key f)) us ordered
+
       whole : Ascends key (merged key found (lasts key (filter (λ f. is_between from to (key f)) us)))
       whole = ascends_merged key found (lasts key (filter (λ f. is_between from to (key f)) us)) h.ascends (ascends_lasts key number (filter (λ f. is_between from to (key f)) us) in_order)
+
       up : Ascends key (filter (stays key empty true elided) (merged key found (lasts key (filter (λ f. is_between from to (key f)) us))))
       up = ascends_filter key (stays key empty true elided) (merged key found (lasts key (filter (λ f. is_between from to (key f)) us))) whole
+
       under : AreBelow number found (lasts key (filter (λ f. is_between from to (key f)) us))
       under = all_below number found (lasts key (filter (λ f. is_between from to (key f)) us)) (λ f g c d. below_at number fs us f g below (h.source f c) (of_filter (λ f. is_between from to (key f)) us g (of_lasts key (filter (λ f. is_between from to (key f)) us) g d)))
+
       both : (k : ℕ) (s : Bool) → later number (if s then newest_of key number k fs else None) (if s then newest_of key number k us else None) ≡ (if s then newest_of key number k (fs ++ us) else None)
       both k true = sym (newest-append number (has_key key k) fs us)
       both k false = refl
+
       newest_out : (k : ℕ) → newest_of key number k (filter (stays key empty true elided) (merged key found (lasts key (filter (λ f. is_between from to (key f)) us))))
           ≡ option_and_then (if_passes (stays key empty true elided)) (if is_between from to k then newest_of key number k (fs ++ us) else None)
       newest_out k = filter_newest key number k (stays key empty true elided) (merged key found (lasts key (filter (λ f. is_between from to (key f)) us))) whole
           ∙ ap (λ o. option_and_then (if_passes (stays key empty true elided)) o)
           (merged_newest key number k found (lasts key (filter (λ f. is_between from to (key f)) us)) h.ascends (ascends_lasts key number (filter (λ f. is_between from to (key f)) us) in_order) under
           ∙ rw (h.newest k, newest_lasts key number k (filter (λ f. is_between from to (key f)) us) in_order, span_newest key number from to k us) (both k (is_between from to k)))
+
       forth : (f : F) → Contains (filter (stays key empty true elided) (merged key found (lasts key (filter (λ f. is_between from to (key f)) us)))) f
           → (from ≤ key f) × (key f ≤ to) × (says key number empty (fs ++ us) elided (key f) ≡ Some f)
       forth f c = one (is_between from to (key f)) refl (sym (newest_out (key f)) ∙ only_one key number (filter (stays key empty true elided) (merged key found (lasts key (filter (λ f. is_between from to (key f)) us)))) f up c)
@@ -211,12 +219,14 @@ module _ {F : Type 0} (key number : F → ℕ) (empty : F → Bool) where
             where
               never : None ≡ Some f → ⊥
               never e = cc
+
       back : (f : F) → (from ≤ key f) × (key f ≤ to) × (says key number empty (fs ++ us) elided (key f) ≡ Some f)
           → Contains (filter (stays key empty true elided) (merged key found (lasts key (filter (λ f. is_between from to (key f)) us)))) f
       back f c = one (newest_of key number (key f) (filter (stays key empty true elided) (merged key found (lasts key (filter (λ f. is_between from to (key f)) us))))) (newest_found number (has_key key (key f)) (filter (stays key empty true elided) (merged key found (lasts key (filter (λ f. is_between from to (key f)) us))))) is
         where
           is : newest_of key number (key f) (filter (stays key empty true elided) (merged key found (lasts key (filter (λ f. is_between from to (key f)) us)))) ≡ Some f
           is = newest_out (key f) ∙ rw (between from to (key f) c.0 c.1) (kept_says elided (key f) (fs ++ us) ∙ c.2)
+
           one : (o : Option F) → IfSome o (λ g. Contains (filter (stays key empty true elided) (merged key found (lasts key (filter (λ f. is_between from to (key f)) us)))) g × (has_key key (key f) g ≡ true)) → o ≡ Some f → Contains (filter (stays key empty true elided) (merged key found (lasts key (filter (λ f. is_between from to (key f)) us)))) f
           one None h e = cc
           one (Some g) h e = let same : g ≡ f = cc in rw same at h.0

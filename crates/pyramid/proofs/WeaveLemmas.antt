@@ -39,6 +39,7 @@ module _ {X : Type 0} (R : X → X → Type 0) where
       at_end : (xs : List X) (y : X) → (k : ℕ) × (k < length (xs ++ y ∷ [])) × ((d : X) → get_or (xs ++ y ∷ []) k d ≡ y)
       at_end [] y = (0, omega arith, (λ d. refl))
       at_end (u ∷ us) y = let inner = at_end us y in (suc inner.0, (let l = inner.1 in omega (arith, l)), inner.2)
+
       first : (xs : List X) (z y : X) → AllPairs R (z ∷ (xs ++ y ∷ [])) → R z y
       first xs z y h = let e = at_end xs y in let is = e.2 z in let l = e.1 in rw is at (h 0 (suc e.0) z (omega arith) (omega (arith, l)))
 
@@ -151,9 +152,9 @@ module _ {F : Type 0} (key number : F → ℕ) where
   front_before xs i at x y h e le is b f c =
       let more = front_more xs i at x e le is in
       elim (Contains-append_cases (take at xs) (x ∷ []) f (rw more at c)) [
-      | inl d ↦ before-trans key number f x y (pairs-last (IsBefore key number) (take at xs) x f (rw more at (front_ordered xs i h)) d) b
-      | inr d ↦ elim (either x f [] d) [ inl same ↦ rw same b | inr none ↦ absurd (nowhere f none) ]
-    ]
+        | inl d ↦ before-trans key number f x y (pairs-last (IsBefore key number) (take at xs) x f (rw more at (front_ordered xs i h)) d) b
+        | inr d ↦ elim (either x f [] d) [ inl same ↦ rw same b | inr none ↦ absurd (nowhere f none) ]
+      ]
 
   -- a fact of the first list moves
   pub move_left : (facts xs ys : List F) (i at j k : ℕ) (x : F) → i ≡ at + 1 → k ≡ at + j → k < length facts → i ≤ length xs → IsOrdered key number xs
@@ -161,11 +162,10 @@ module _ {F : Type 0} (key number : F → ℕ) where
       → (take at (set facts k x) ≡ take at xs) × IsWoven xs ys (take at xs) (take j ys) (drop (at + j) (set facts k x))
   move_left facts xs ys i at j k x e ke l le h front w is right =
       let more = front_more xs i at x e le is in
-      let tail : drop (at + j) (set facts k x) ≡ x ∷ drop (i + j) facts = drop-set_at facts k (at + j) x (sym ke) l ∙ ap (λ n. x ∷ drop n facts) (omega (arith, e, ke)) in
-      (
-    take-set-le at facts k x (omega (arith, ke)) ∙ shorter facts xs i at (omega (arith, e)) front,
-    rw tail (weave_step xs ys (take at xs) (take j ys) (drop (i + j) facts) x (rw more at w) (λ f c. pairs-last (IsBefore key number) (take at xs) x f (rw more at (front_ordered xs i h)) c) right),
-  )
+      let tail : drop (at + j) (set facts k x) ≡ x ∷ drop (i + j) facts = drop-set_at facts k (at + j) x (sym ke) l ∙ ap (λ n. x ∷ drop n facts) (omega (arith, e, ke)) in (
+        take-set-le at facts k x (omega (arith, ke)) ∙ shorter facts xs i at (omega (arith, e)) front,
+        rw tail (weave_step xs ys (take at xs) (take j ys) (drop (i + j) facts) x (rw more at w) (λ f c. pairs-last (IsBefore key number) (take at xs) x f (rw more at (front_ordered xs i h)) c) right),
+      )
 
   -- a fact of the second moves
   pub move_right : (facts xs ys : List F) (i j at k : ℕ) (y : F) → j ≡ at + 1 → k ≡ i + at → k < length facts → j ≤ length ys → IsOrdered key number ys
@@ -174,12 +174,11 @@ module _ {F : Type 0} (key number : F → ℕ) where
   move_right facts xs ys i j at k y e ke l le h front w is left =
       let more = front_more ys j at y e le is in
       let tail : drop (i + at) (set facts k y) ≡ y ∷ drop (i + j) facts = drop-set_at facts k (i + at) y (sym ke) l ∙ ap (λ n. y ∷ drop n facts) (omega (arith, e, ke)) in
-      let turned : IsWoven ys xs (take at ys ++ y ∷ []) (take i xs) (drop (i + j) facts) = swapped xs ys (take i xs) (take at ys ++ y ∷ []) (drop (i + j) facts) (rw more at w) in
-      (
-    take-set-le i facts k y (omega (arith, ke)) ∙ front,
-    rw tail (swapped ys xs (take at ys) (take i xs) (y ∷ drop (i + j) facts)
-    (weave_step ys xs (take at ys) (take i xs) (drop (i + j) facts) y turned (λ f c. pairs-last (IsBefore key number) (take at ys) y f (rw more at (front_ordered ys j h)) c) left)),
-  )
+      let turned : IsWoven ys xs (take at ys ++ y ∷ []) (take i xs) (drop (i + j) facts) = swapped xs ys (take i xs) (take at ys ++ y ∷ []) (drop (i + j) facts) (rw more at w) in (
+        take-set-le i facts k y (omega (arith, ke)) ∙ front,
+        rw tail (swapped ys xs (take at ys) (take i xs) (y ∷ drop (i + j) facts)
+            (weave_step ys xs (take at ys) (take i xs) (drop (i + j) facts) y turned (λ f c. pairs-last (IsBefore key number) (take at ys) y f (rw more at (front_ordered ys j h)) c) left)),
+      )
 
   -- both lists are woven
   pub woven : (facts xs ys : List F) (i j : ℕ) → j ≡ 0 → IsOrdered key number xs → take i facts ≡ take i xs → IsWoven xs ys (take i xs) (take j ys) (drop (i + j) facts)

@@ -14,6 +14,8 @@ pub fn insert_in_order<F: Fact + Drop>(facts: &mut Vec<F>, fact: F) -> Result<()
     ensures facts { OnOk result ((f : F) → Contains facts.new.items f ↔ (Contains facts.old.items f ⊎ (f ≡ fact))) }
     ensures refused { OnErr result (facts.new.items ≡ facts.old.items) }
     ensures room { vec_len facts.old < vec_capacity facts.old → IsOk result }
+    ensures capacity { vec_capacity facts.old ≤ vec_capacity facts.new }
+    ensures len { vec_len facts.new ≤ vec_len facts.old + 1 }
 {
     let at = place_of(facts, &fact);
     if is_at(facts, at, &fact) {
@@ -41,6 +43,8 @@ pub fn insert_all<F: Fact + Drop>(facts: &mut Vec<F>, run: &[F]) -> Result<(), N
     ensures facts { OnOk result ((f : F) → Contains facts.new.items f ↔ (Contains facts.old.items f ⊎ Contains run.now f)) }
     ensures refused { OnErr result (facts.new.items ≡ facts.old.items) }
     ensures room { vec_len facts.old + length run.now ≤ vec_capacity facts.old → IsOk result }
+    ensures capacity { vec_capacity facts.old ≤ vec_capacity facts.new }
+    ensures len { vec_len facts.new ≤ vec_len facts.old + length run.now }
 {
     let len = facts.len();
     facts.extend_from_slice(run)?;

@@ -17,7 +17,12 @@ fn stays<F: Fact>(fact: &F, oldest: bool, elided: &[(u64, u64)]) -> bool
 }
 
 /// Puts those facts behind the others that a merge keeps.
-fn push_kept<F: Fact + Drop>(out: &mut Vec<F>, facts: &[F], oldest: bool, elided: &[(u64, u64)]) -> Result<(), NoMemory>
+fn push_kept<F: Fact + Drop>(
+    out: &mut Vec<F>,
+    facts: &[F],
+    oldest: bool,
+    elided: &[(u64, u64)],
+) -> Result<(), NoMemory>
     requires { AreApart elided.now }
     ensures { IfOk result (λ _. out.new.items ≡ out.old.items ++ filter (stays F.key F.empty oldest (is_within elided.now)) facts.now) }
 {
@@ -30,7 +35,13 @@ fn push_kept<F: Fact + Drop>(out: &mut Vec<F>, facts: &[F], oldest: bool, elided
 }
 
 /// Both patches as one, without what a merge need not keep.
-pub fn merge_facts<F: Fact + Drop>(alloc: Global, older: &[F], newer: &[F], oldest: bool, elided: &[(u64, u64)]) -> Result<Vec<F>, NoMemory>
+pub fn merge_facts<F: Fact + Drop>(
+    alloc: Global,
+    older: &[F],
+    newer: &[F],
+    oldest: bool,
+    elided: &[(u64, u64)],
+) -> Result<Vec<F>, NoMemory>
     requires { AreApart elided.now }
     ensures { IfOk result (λ v. v.items ≡ filter (stays F.key F.empty oldest (is_within elided.now)) (merged F.key older.now newer.now)) }
 {

@@ -6,7 +6,7 @@ ghost use Rattle.pyramid.specs.Layers.{facts_in, facts_of, newest_of, patch_at, 
 
 use crate::insert::{insert_all, insert_in_order, keep_below};
 use crate::merge::{merge_facts, newest_of_each};
-use crate::patch::{push_patch, replace_only, replace_pair, Patch};
+use crate::patch::{Patch, push_patch, replace_only, replace_pair};
 use crate::prune::prune;
 use crate::range::{gathered, span};
 use crate::search::{id_of, newest_in};
@@ -100,7 +100,13 @@ impl<F: Fact + Drop> Pyramid<F> {
     }
 
     /// What the facts say at the keys from the first to the last, by ascending key: one search a patch, and a walk.
-    pub fn range(&self, alloc: Global, from: u128, to: u128, elided: &[(u64, u64)]) -> Result<Vec<F>, NoMemory>
+    pub fn range(
+        &self,
+        alloc: Global,
+        from: u128,
+        to: u128,
+        elided: &[(u64, u64)],
+    ) -> Result<Vec<F>, NoMemory>
         requires { AreApart elided.now }
         ensures ascends { IfOk result (λ v. Ascends F.key v.items) }
         ensures facts { IfOk result (λ v. (f : F) → Contains v.items f ↔ ((from ≤ F.key f) × (F.key f ≤ to) × (says F.key F.number F.empty (facts_in self.now) (is_within elided.now) (F.key f) ≡ Some f))) }
@@ -118,6 +124,8 @@ impl<F: Fact + Drop> Pyramid<F> {
         ensures facts { OnOk result ((f : F) → Contains self.new.unflushed f ↔ (Contains self.old.unflushed f ⊎ (f ≡ fact))) }
         ensures refused { OnErr result (self.new.unflushed ≡ self.old.unflushed) }
         ensures room { 0 < self.old.room → IsOk result }
+        ensures room_left { self.old.room ≤ self.new.room + 1 }
+        ensures patch_room { self.new.patch_room ≡ self.old.patch_room }
     {
         insert_in_order(&mut self.unflushed, fact)
     }
@@ -127,6 +135,7 @@ impl<F: Fact + Drop> Pyramid<F> {
     pub fn flushed(&mut self, alloc: Global) -> Result<Option<Patch<F>>, NoMemory>
         ensures patch { IfOk result (λ patch. IsFlushed F.key F.number self.old.unflushed (patch_facts patch)) }
         ensures patch_room { OnOk result (0 < self.new.patch_room) }
+        ensures patch_room_left { self.old.patch_room ≤ self.new.patch_room }
         ensures patches { self.new.patches ≡ self.old.patches }
         ensures unflushed { self.new.unflushed ≡ self.old.unflushed }
         ensures room { self.new.room ≡ self.old.room }
@@ -151,12 +160,23 @@ impl<F: Fact + Drop> Pyramid<F> {
 
     /// The first half of a merge: a patch and the next one as one, without what it need not keep.
     /// `None` where no fact is left.
-    pub fn merged(&self, alloc: Global, i: usize, elided: &[(u64, u64)]) -> Result<Option<Patch<F>>, NoMemory>
+    pub fn merged(
+        &self,
+        alloc: Global,
+        i: usize,
+        elided: &[(u64, u64)],
+    ) -> Result<Option<Patch<F>>, NoMemory>
         requires there { i + 1 < length self.now.patches }
         requires apart { AreApart elided.now }
         ensures { IfOk result (λ patch. IsMerged F.key F.number F.empty F.within (i == 0) (is_within elided.now) (patch_at self.now i) (patch_at self.now (i + 1)) (patch_facts patch)) }
     {
-        let mut facts = merge_facts(alloc, self.patches[i].facts(), self.patches[i + 1].facts(), i == 0, elided)?;
+        let mut facts = merge_facts(
+            alloc,
+            self.patches[i].facts(),
+            self.patches[i + 1].facts(),
+            i == 0,
+            elided,
+        )?;
         prune(&mut facts);
         Ok(Patch::from_facts(facts))
     }
@@ -186,6 +206,8 @@ impl<F: Fact + Drop> Pyramid<F> {
         ensures facts { OnOk result ((f : F) → Contains self.new.unflushed f ↔ (Contains self.old.unflushed f ⊎ Contains run.now f)) }
         ensures refused { OnErr result (self.new.unflushed ≡ self.old.unflushed) }
         ensures room { length run.now ≤ self.old.room → IsOk result }
+        ensures room_left { self.old.room ≤ self.new.room + length run.now }
+        ensures patch_room { self.new.patch_room ≡ self.old.patch_room }
     {
         insert_all(&mut self.unflushed, run)
     }
@@ -202,7 +224,11 @@ impl<F: Fact + Drop> Pyramid<F> {
 
     /// The first half of a rewriting of a table's only patch: the patch without what it need not keep.
     /// `None` where no fact is left.
-    pub fn rewritten(&self, alloc: Global, elided: &[(u64, u64)]) -> Result<Option<Patch<F>>, NoMemory>
+    pub fn rewritten(
+        &self,
+        alloc: Global,
+        elided: &[(u64, u64)],
+    ) -> Result<Option<Patch<F>>, NoMemory>
         requires only { length self.now.patches ≡ 1 }
         requires apart { AreApart elided.now }
         ensures { IfOk result (λ patch. IsMerged F.key F.number F.empty F.within true (is_within elided.now) [] (patch_at self.now 0) (patch_facts patch)) }

@@ -39,7 +39,12 @@ fn with_newer<F: Fact + Drop>(alloc: Global, found: Vec<F>, newer: &[F]) -> Resu
 }
 
 /// The newest facts in patches of the keys from the first to the last.
-pub fn gathered<F: Fact + Drop>(alloc: Global, patches: &[Patch<F>], from: u128, to: u128) -> Result<Vec<F>, NoMemory>
+pub fn gathered<F: Fact + Drop>(
+    alloc: Global,
+    patches: &[Patch<F>],
+    from: u128,
+    to: u128,
+) -> Result<Vec<F>, NoMemory>
     requires { Rises F.number patches.now [] }
     ensures { IfOk result (λ v. IsSpan F.key F.number from to (facts_of patches.now) v.items) }
 {

@@ -49,7 +49,12 @@ fn flushes_and_merges_say_the_same(rt: HostRuntime) -> Result<(), NoMemory> {
     table.insert(address(1, 8, 31))?;
     assert_eq!(rt; table.patches().len(), 2);
     let before = table.range(rt.alloc(), key(1, 5), key(1, 8), &[])?;
-    let found = [address(1, 5, 20), address(1, 6, 30), address(1, 7, 21), address(1, 8, 31)];
+    let found = [
+        address(1, 5, 20),
+        address(1, 6, 30),
+        address(1, 7, 21),
+        address(1, 8, 31),
+    ];
     assert_eq!(rt; *before.as_slice(), *found.as_slice());
     let patch = table.merged(rt.alloc(), 0, &[(2, 9)])?;
     table.put_merged(0, patch);

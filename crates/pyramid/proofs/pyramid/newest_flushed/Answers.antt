@@ -21,5 +21,5 @@ loop-i-preserved g c =
     record {
       within = omega (arith, c.loop-i.invariant.within);
       none = none_more g.F.Fact.key g.F.Fact.number c.args.key c.args.patches.now (c.loop-i.i - 1) c.facts.result.now
-      (omega (arith, c.loop-i-test.true, c.loop-i.invariant.within)) is (rw step c.loop-i.invariant.none) (sym c.newest_in.ensures ∙ c.in_default.is);
+          (omega (arith, c.loop-i-test.true, c.loop-i.invariant.within)) is (rw step c.loop-i.invariant.none) (sym c.newest_in.ensures ∙ c.in_default.is);
     }
