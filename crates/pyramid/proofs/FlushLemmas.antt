@@ -1,10 +1,10 @@
 -- What a flush keeps.
-use Rattle.std.proofs.Common.{◌≡◌, ◌⊎◌, ℕ, zero, suc, ◌+◌, ◌-◌, ◌<◌, ◌≤◌, Bool, true, false, List, [], ◌∷◌, ◌++◌, length, get_or, drop, refl, sym, ap, ◌∙◌, arith, inl, inr, All, cond, Contains, subst}
+use Rattle.std.proofs.Common.{◌≡◌, ℕ, zero, suc, ◌+◌, ◌<◌, ◌≤◌, Bool, true, false, List, [], ◌∷◌, ◌++◌, length, get_or, drop, refl, sym, ap, ◌∙◌, arith, inl, inr, All, Contains, subst}
 use Rattle.std.specs.Prelude.{Option, Some, None, IfSome, nat_lt, ◌==◌, if◌then◌else◌}
-use Rattle.std.proofs.lemmas.Bool.{ltb-true, ltb-false, lt-ltb, le-ltb, eqb-true, eq-eqb, ne_eqb}
+use Rattle.std.proofs.lemmas.Bool.{ltb-true, ltb-false, lt-ltb, eqb-true, eq-eqb}
 use Rattle.std.proofs.lemmas.List.Elements.{All-cons, All-head, All-tail, All-contains}
 use Rattle.std.proofs.lemmas.List.{append-nil, drop_all}
-use Rattle.pur_base.specs.Says.{newest, newer}
+use Rattle.pur_base.specs.Says.{newer}
 use Rattle.pur_base.specs.Says.{has_key, Ascends}
 use Rattle.pyramid.specs.Layers.{newest_of, IsOrdered, IsBefore}
 use Rattle.pyramid.specs.Merging.{lasts}

@@ -1,15 +1,12 @@
 -- Two patches as one.
-use Rattle.std.proofs.Common.{◌≡◌, ◌⊎◌, ℕ, zero, suc, ◌+◌, ◌<◌, ◌≤◌, Bool, true, false, not, List, [], ◌∷◌, ◌++◌, length, get_or, refl, sym, ap, ◌∙◌, arith, cond, All, Contains, inl, inr}
-use Rattle.std.specs.Prelude.{Option, Some, None, IfSome, nat_lt, if◌then◌else◌, option_and_then, filter, AllPairs, ◌&&◌, ◌==◌}
-use Rattle.std.specs.List.{flat_map}
-use Rattle.std.proofs.lemmas.Bool.{ltb-true, ltb-false, lt-ltb, le-ltb, eqb-true, eq-eqb, ne_eqb, both_ways}
-use Rattle.std.proofs.lemmas.List.Elements.{All-cons, All-head, All-tail, All-weaker, All-contains, All-filter}
-use Rattle.pur_base.specs.Says.{newest, newer}
-use Rattle.pur_base.specs.Keys.{id_of}
-use Rattle.pur_base.specs.Says.{has_key, Ascends, says, unless_empty}
-use Rattle.pyramid.specs.Layers.{newest_of, IsOrdered, IsBefore, AreBelow, if_passes, stays}
+use Rattle.std.proofs.Common.{◌≡◌, ℕ, zero, suc, ◌<◌, Bool, true, false, List, [], ◌∷◌, get_or, refl, sym, ap, arith, cond, All}
+use Rattle.std.specs.Prelude.{None, nat_lt, if◌then◌else◌, option_and_then, filter, ◌==◌}
+use Rattle.std.proofs.lemmas.Bool.{ltb-true, ltb-false, lt-ltb, eqb-true, ne_eqb}
+use Rattle.std.proofs.lemmas.List.Elements.{All-cons, All-head, All-tail, All-filter}
+use Rattle.pur_base.specs.Says.{has_key, Ascends}
+use Rattle.pyramid.specs.Layers.{newest_of, AreBelow, if_passes}
 use Rattle.pyramid.specs.Merging.{later, weave, merged}
-use Rattle.pyramid.proofs.NewestLemmas.{later_none, newest-cons, newest-append, newest_none, newest_found, newest_is}
+use Rattle.pyramid.proofs.NewestLemmas.{newest-cons, newest_none}
 
 module _ {F : Type 0} (key number : F → ℕ) where
   pub none_above : (k : ℕ) (xs : List F) → All (λ f. k < key f) xs → newest_of key number k xs ≡ None

@@ -1,10 +1,8 @@
 -- The newest of several lists of facts.
-use Rattle.std.proofs.Common.{◌≡◌, ◌⊎◌, ℕ, zero, suc, ◌+◌, ◌<◌, ◌≤◌, Bool, true, false, List, [], ◌∷◌, ◌++◌, length, get_or, refl, sym, ap, ◌∙◌, arith, cond, All, Contains}
-use Rattle.std.specs.Prelude.{Option, Some, None, IfSome, nat_lt, if◌then◌else◌, option_and_then, filter}
-use Rattle.std.proofs.lemmas.Bool.{ltb-true, ltb-false, lt-ltb, le-ltb, eqb-true, ne_eqb, both_ways}
+use Rattle.std.proofs.Common.{◌≡◌, ℕ, zero, suc, ◌<◌, Bool, true, false, List, [], ◌∷◌, ◌++◌, length, get_or, refl, sym, arith, cond, All, Contains}
+use Rattle.std.specs.Prelude.{Option, Some, None, IfSome, nat_lt, if◌then◌else◌}
+use Rattle.std.proofs.lemmas.Bool.{ltb-true, ltb-false, lt-ltb, le-ltb}
 use Rattle.pur_base.specs.Says.{newest, newer}
-use Rattle.pur_base.specs.Says.{has_key, Ascends}
-use Rattle.pyramid.specs.Layers.{newest_of, IsOrdered, IsBefore}
 use Rattle.pyramid.specs.Merging.{later}
 
 module _ {F : Type 0} (number : F → ℕ) where

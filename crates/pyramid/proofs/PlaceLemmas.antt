@@ -1,7 +1,6 @@
 -- A patch in the place of others.
-use Rattle.std.proofs.Common.{◌≡◌, ◌⊎◌, ℕ, zero, suc, ◌+◌, ◌-◌, ◌<◌, ◌≤◌, Bool, true, false, List, [], ◌∷◌, ◌++◌, length, get_or, set, take, drop, refl, sym, ap, ◌∙◌, arith, inl, inr, All, Contains}
-use Rattle.std.specs.Prelude.{◌==◌, Option, Some, None, IsTrue, filter}
-use Rattle.std.specs.List.{flat_map, remove}
+use Rattle.std.proofs.Common.{◌≡◌, ℕ, zero, suc, ◌+◌, ◌<◌, Bool, true, List, [], ◌∷◌, ◌++◌, length, get_or, take, drop, refl, sym, ap, ◌∙◌, arith, inl, inr, All, Contains}
+use Rattle.std.specs.Prelude.{◌==◌, Option, Some, None, filter}
 use Rattle.std.proofs.lemmas.Bool.{eqb-true}
 use Rattle.std.proofs.lemmas.List.{append-nil, append_assoc, get_or_default}
 use Rattle.std.proofs.lemmas.List.Kept.{AllPairs-filter}
@@ -9,10 +8,10 @@ use Rattle.std.proofs.lemmas.List.Elements.{All-append, All-take, All-drop, All-
 use Rattle.pur_base.specs.Says.{Ascends, has_key, says}
 use Rattle.pyramid.specs.Layers.{facts_of, IsBefore, patch_facts, patches_of, newest_of, AreBelow, Rises, IsLayered, IsMerged, IsFlushed, IsApart, SaysTheSame, stays}
 use Rattle.pyramid.specs.Merging.{later, merged}
-use Rattle.pyramid.proofs.NewestLemmas.{newest-append, later_none}
+use Rattle.pyramid.proofs.NewestLemmas.{newest-append}
 use Rattle.pyramid.proofs.ContainsLemmas.{of_filter}
 use Rattle.pyramid.proofs.MergeLemmas.{ascends-nil}
-use Rattle.pyramid.proofs.LayerLemmas.{below_at, all_below, rises_below, rises_with, below-left}
+use Rattle.pyramid.proofs.LayerLemmas.{below_at, all_below, rises_below, rises_with}
 use Rattle.pyramid.proofs.ReasonLemmas.{merged_is}
 use Rattle.pyramid.proofs.SaysLemmas.{merge_says, wider_says, alike_says}
 

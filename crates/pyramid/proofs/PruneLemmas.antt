@@ -1,13 +1,12 @@
 -- Facts that lie in others are left out.
-use Rattle.std.proofs.Common.{◌≡◌, ◌⊎◌, ℕ, zero, suc, ◌+◌, ◌-◌, ◌<◌, ◌≤◌, Bool, true, false, List, [], ◌∷◌, ◌++◌, length, get_or, set, take, drop, refl, sym, ap, ◌∙◌, arith, inl, inr, All, Contains, subst}
-use Rattle.std.specs.Prelude.{AllPairs, IsTrue}
+use Rattle.std.proofs.Common.{◌≡◌, ◌⊎◌, ℕ, zero, suc, ◌+◌, ◌<◌, ◌≤◌, Bool, false, List, [], ◌∷◌, ◌++◌, length, get_or, set, take, drop, refl, sym, ap, ◌∙◌, arith, inl, inr, Contains}
 use Rattle.std.proofs.lemmas.List.{append-nil, append_assoc, take-append-drop, take_more_set, get_or_default}
 use Rattle.std.proofs.Common.{drop-cons}
 use Rattle.std.proofs.lemmas.List.Elements.{Contains-append_left, Contains-append_right, Contains-append_cases}
 use Rattle.std.proofs.lemmas.Bool.{false≢true}
-use Rattle.pur_base.specs.Says.{Ascends, newest, has_key}
-use Rattle.pyramid.specs.Layers.{IsPruned, IsMerged, IsApart, LiesInOne, newest_of}
-use Rattle.pyramid.proofs.ContainsLemmas.{here, there, either, nowhere}
+use Rattle.pur_base.specs.Says.{Ascends}
+use Rattle.pyramid.specs.Layers.{IsPruned, IsMerged, LiesInOne, newest_of}
+use Rattle.pyramid.proofs.ContainsLemmas.{there, either}
 use Rattle.pyramid.proofs.MergeLemmas.{ascends-cons, ascends-tail, ascends-head}
 use Rattle.pyramid.proofs.LayerLemmas.{all_contained}
 use Rattle.std.proofs.lemmas.List.Elements.{All-contains}

@@ -1,12 +1,12 @@
 -- Why facts are left out.
-use Rattle.std.proofs.Common.{◌≡◌, ◌⊎◌, ℕ, zero, suc, ◌+◌, ◌<◌, ◌≤◌, Bool, true, false, not, List, [], ◌∷◌, ◌++◌, length, get_or, refl, sym, ap, ◌∙◌, arith, inl, inr, Contains, cond, All}
-use Rattle.std.specs.Prelude.{IsTrue, filter, nat_lt, if◌then◌else◌, ◌&&◌, Option, Some, None, option_and_then}
-use Rattle.std.proofs.lemmas.Bool.{ltb-true, ltb-false}
+use Rattle.std.proofs.Common.{◌≡◌, ◌⊎◌, ℕ, suc, Bool, true, false, not, List, [], ◌∷◌, ◌++◌, refl, sym, ap, ◌∙◌, arith, inl, inr, Contains}
+use Rattle.std.specs.Prelude.{IsTrue, filter, nat_lt, if◌then◌else◌, ◌&&◌, option_and_then}
+use Rattle.std.proofs.lemmas.Bool.{ltb-false}
 use Rattle.std.proofs.lemmas.List.Elements.{Contains-append_left, Contains-append_right, Contains-append_cases}
 use Rattle.pur_base.specs.Keys.{id_of}
 use Rattle.pur_base.specs.Says.{Ascends, has_key}
-use Rattle.pyramid.specs.Layers.{IsOrdered, IsBefore, HasNewer, AreBelow, IsFlushed, IsMerged, IsApart, LiesInOne, stays, if_passes, newest_of}
-use Rattle.pyramid.specs.Merging.{lasts, weave, merged, later}
+use Rattle.pyramid.specs.Layers.{IsOrdered, IsBefore, HasNewer, AreBelow, IsFlushed, IsMerged, LiesInOne, stays, if_passes}
+use Rattle.pyramid.specs.Merging.{lasts, weave, merged}
 use Rattle.pyramid.proofs.ContainsLemmas.{here, there, either, nowhere, filtered, of_filter}
 use Rattle.pyramid.proofs.NewestLemmas.{newest-append}
 use Rattle.pyramid.proofs.MergeLemmas.{ascends_merged, ascends_filter, merged_newest, filter_newest}

@@ -1,16 +1,14 @@
 -- What a merge, a rewriting and a flush leave said.
-use Rattle.std.proofs.Common.{◌≡◌, ◌⊎◌, ℕ, zero, suc, ◌+◌, ◌<◌, ◌≤◌, Bool, true, false, not, List, [], ◌∷◌, ◌++◌, length, get_or, refl, sym, ap, ◌∙◌, arith, cond, All, Contains, inl, inr, append_assoc}
-use Rattle.std.specs.Prelude.{Option, Some, None, IfSome, nat_lt, if◌then◌else◌, option_and_then, filter, AllPairs, ◌&&◌, ◌==◌}
-use Rattle.std.specs.List.{flat_map}
-use Rattle.std.proofs.lemmas.Bool.{ltb-true, ltb-false, lt-ltb, le-ltb, eqb-true, eq-eqb, ne_eqb, both_ways, false≢true}
-use Rattle.std.proofs.lemmas.List.Elements.{All-cons, All-head, All-tail, All-weaker, All-contains, All-filter, All-append}
-use Rattle.pur_base.specs.Says.{newest, newer}
+use Rattle.std.proofs.Common.{◌≡◌, ℕ, ◌<◌, Bool, true, false, List, [], ◌++◌, refl, sym, ap, ◌∙◌, All, Contains}
+use Rattle.std.specs.Prelude.{Option, Some, None, IfSome, if◌then◌else◌, option_and_then}
+use Rattle.std.proofs.lemmas.Bool.{lt-ltb, eqb-true, false≢true}
+use Rattle.std.proofs.lemmas.List.Elements.{All-contains}
+use Rattle.pur_base.specs.Says.{newer}
 use Rattle.pur_base.specs.Keys.{id_of}
-use Rattle.pur_base.specs.Says.{has_key, Ascends, says, unless_empty}
-use Rattle.pyramid.specs.Layers.{Layers, facts_in, newest_of, IsOrdered, IsBefore, AreBelow, stays, if_passes}
-use Rattle.pyramid.specs.Merging.{later, merged}
-use Rattle.pyramid.proofs.NewestLemmas.{later_none, later-assoc, newest-cons, newest-append, newest_none, newest_found, newest_is}
-use Rattle.pyramid.proofs.MergeLemmas.{merged_newest, filter_newest, ascends_merged}
+use Rattle.pur_base.specs.Says.{has_key, says, unless_empty}
+use Rattle.pyramid.specs.Layers.{newest_of, AreBelow, stays, if_passes}
+use Rattle.pyramid.specs.Merging.{later}
+use Rattle.pyramid.proofs.NewestLemmas.{newest-append, newest_found}
 
 module _ {F : Type 0} (key number : F → ℕ) (empty : F → Bool) where
   abbrev New : ℕ → List F → Option F

@@ -1,8 +1,7 @@
 -- The newest fact depends on which facts there are alone, and not on their order or on how often one is there.
-use Rattle.std.proofs.Common.{◌≡◌, ◌⊎◌, ℕ, zero, suc, ◌+◌, ◌<◌, ◌≤◌, Bool, true, false, List, [], ◌∷◌, ◌++◌, length, get_or, refl, sym, ap, ◌∙◌, arith, inl, inr, All, Contains}
+use Rattle.std.proofs.Common.{◌≡◌, ℕ, zero, suc, ◌≤◌, Bool, true, false, List, [], ◌∷◌, refl, ap, ◌∙◌, arith, Contains}
 use Rattle.std.specs.Prelude.{Option, Some, None, IfSome, nat_lt, if◌then◌else◌, ◌↔◌}
-use Rattle.std.proofs.lemmas.Bool.{both_ways, ltb-true, ltb-false, cases_order}
-use Rattle.std.proofs.lemmas.List.Elements.{All-contains}
+use Rattle.std.proofs.lemmas.Bool.{ltb-true, ltb-false}
 use Rattle.pur_base.specs.Says.{newest, newer}
 use Rattle.pyramid.specs.Layers.{AreDistinct}
 use Rattle.pyramid.proofs.NewestLemmas.{newest_found}

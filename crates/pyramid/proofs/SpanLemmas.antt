@@ -1,16 +1,16 @@
 -- The facts of the keys between two.
-use Rattle.std.proofs.Common.{◌≡◌, ◌⊎◌, ◌↔◌, ℕ, zero, suc, ◌+◌, ◌-◌, ◌<◌, ◌≤◌, Bool, true, false, List, [], ◌∷◌, ◌++◌, length, get_or, take, drop, refl, sym, ap, ◌∙◌, arith, inl, inr, All, Contains, cond, not}
-use Rattle.std.specs.Prelude.{Option, Some, None, Result, Ok, Err, IfOk, IfSome, filter, nat_le, nat_lt, if◌then◌else◌, ◌&&◌, ◌==◌, option_and_then}
+use Rattle.std.proofs.Common.{◌≡◌, ◌↔◌, ℕ, zero, suc, ◌+◌, ◌-◌, ◌<◌, ◌≤◌, Bool, true, false, List, [], ◌∷◌, ◌++◌, length, get_or, take, drop, refl, sym, ap, ◌∙◌, arith, inl, inr, Contains, cond}
+use Rattle.std.specs.Prelude.{Option, Some, None, Result, Ok, Err, IfOk, IfSome, filter, nat_le, if◌then◌else◌, ◌&&◌, ◌==◌, option_and_then}
 use Rattle.std.proofs.lemmas.Bool.{leb-true, le-leb, eqb-true, eq-eqb, cases_order}
 use Rattle.std.proofs.lemmas.List.{append-nil, take_more, get_or_default}
 use Rattle.std.proofs.lemmas.List.Kept.{AllPairs-filter}
 use Rattle.std.proofs.lemmas.List.Elements.{Contains-append_left, Contains-append_right, Contains-append_cases}
 use Rattle.pur_base.specs.Keys.{id_of}
-use Rattle.pur_base.specs.Says.{Ascends, has_key, says, newer, unless_empty}
+use Rattle.pur_base.specs.Says.{Ascends, has_key, says, unless_empty}
 use Rattle.pur_base.specs.Visible.{is_within}
 use Rattle.pyramid.specs.Layers.{facts_of, newest_of, is_between, stays, if_passes, AreBelow, Rises, IsBefore, IsOrdered}
 use Rattle.pyramid.specs.Merging.{later, merged, lasts, IsSpan}
-use Rattle.pyramid.proofs.ContainsLemmas.{nowhere, of_filter}
+use Rattle.pyramid.proofs.ContainsLemmas.{of_filter}
 use Rattle.pyramid.proofs.NewestLemmas.{newest-append, newest_found, newest_is}
 use Rattle.pyramid.proofs.MergeLemmas.{ascends_merged, ascends_filter, ascends-nil, merged_newest, filter_newest}
 use Rattle.pyramid.proofs.FlushLemmas.{ascends_lasts, newest_lasts}

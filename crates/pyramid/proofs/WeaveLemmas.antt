@@ -1,12 +1,11 @@
 -- Two lists in order, woven from behind.
-use Rattle.std.proofs.Common.{◌≡◌, ◌≢◌, ◌⊎◌, ◌↔◌, ℕ, zero, suc, ◌+◌, ◌-◌, ◌<◌, ◌≤◌, Bool, true, false, List, [], ◌∷◌, ◌++◌, length, get_or, set, take, drop, refl, sym, ap, ◌∙◌, arith, inl, inr, All, Contains, subst}
+use Rattle.std.proofs.Common.{◌≡◌, ◌≢◌, ◌⊎◌, ◌↔◌, ℕ, zero, suc, ◌+◌, ◌<◌, ◌≤◌, List, [], ◌∷◌, ◌++◌, length, get_or, set, take, drop, refl, sym, ap, ◌∙◌, arith, inl, inr, Contains, subst}
 use Rattle.std.specs.Prelude.{AllPairs}
-use Rattle.std.proofs.lemmas.List.{append-nil, take_more, take-append-drop, take-set-le, get_or-take}
+use Rattle.std.proofs.lemmas.List.{take_more, take-append-drop, take-set-le, get_or-take}
 use Rattle.std.proofs.lemmas.Grind.{drop-set_at}
 use Rattle.std.proofs.Math.Seq.{take-append_seam}
 use Rattle.std.proofs.lemmas.List.Elements.{All-append, Contains-append_left, Contains-append_right, Contains-append_cases}
 use Rattle.std.proofs.lemmas.Bool.{cases_order}
-use Rattle.pur_base.specs.Says.{Ascends}
 use Rattle.pyramid.specs.Layers.{IsBefore, IsOrdered}
 use Rattle.pyramid.proofs.ContainsLemmas.{here, there, either, nowhere}
 use Rattle.pyramid.proofs.InsertLemmas.{pairs-cons}

@@ -1,4 +1,4 @@
-use Rattle.std.proofs.Common.{◌≡◌, ◌+◌, ◌≤◌, ◌++◌, ◌∙◌, sym, ap, arith, length, take, drop, vec_len}
+use Rattle.std.proofs.Common.{◌≡◌, ◌++◌, ◌∙◌, ap, arith, length, take}
 use Rattle.std.proofs.lemmas.List.{length-append}
 use Rattle.pyramid.proofs.WeaveLemmas.{front_of, slice_whole}
 use Rattle.pyramid.proofs.insert.insert_all.Goals as goal

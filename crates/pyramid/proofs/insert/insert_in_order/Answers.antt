@@ -1,7 +1,5 @@
-use Rattle.std.proofs.Common.{◌≡◌, ◌∙◌, sym, arith, ap, length, take, drop, subst, get_or}
+use Rattle.std.proofs.Common.{get_or}
 use Rattle.std.proofs.lemmas.List.{get_or_default}
-use Rattle.std.proofs.lemmas.Grind.{common_steps}
-use Rattle.pyramid.specs.Layers.{IsOrdered}
 use Rattle.pyramid.proofs.InsertLemmas.{ordered_insert, contains-insert, contains-same}
 use Rattle.pyramid.proofs.insert.insert_in_order.Goals as goal
 

@@ -1,7 +1,7 @@
-use Rattle.std.proofs.Common.{◌≡◌, ◌≢◌, ◌+◌, ◌-◌, ◌<◌, ◌≤◌, ◌∙◌, sym, ap, arith, length, get_or, take, drop, set, inl, inr, Contains, ◌⊎◌, subst}
+use Rattle.std.proofs.Common.{◌≡◌, ◌≢◌, ◌+◌, ◌-◌, ◌<◌, ◌≤◌, ◌∙◌, sym, arith, length, get_or, take, Contains, subst}
 use Rattle.std.proofs.lemmas.Bool.{false≢true}
 use Rattle.std.proofs.lemmas.List.{get_or_default, length-take-le}
-use Rattle.pyramid.specs.Layers.{IsBefore, IsOrdered}
+use Rattle.pyramid.specs.Layers.{IsBefore}
 use Rattle.pyramid.proofs.LayerLemmas.{ascends_ordered}
 use Rattle.pyramid.proofs.WeaveLemmas.{move_left, move_right, woven, taken_at, front_before, not_behind}
 use Rattle.pyramid.proofs.insert.merge_back.Goals.{else-i-gt0-via-then-i-gt0+else-is_before, else-i-gt0-via-else-i-gt0}

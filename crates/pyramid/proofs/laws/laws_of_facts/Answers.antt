@@ -1,5 +1,5 @@
-use Rattle.std.proofs.Common.{◌≡◌, ◌↔◌, ℕ, Bool, List, ap, Contains}
-use Rattle.std.specs.Prelude.{Option, None, option_and_then, if◌then◌else◌}
+use Rattle.std.proofs.Common.{ap}
+use Rattle.std.specs.Prelude.{None, option_and_then, if◌then◌else◌}
 use Rattle.pur_base.specs.Keys.{id_of}
 use Rattle.pur_base.specs.Says.{has_key, unless_empty}
 use Rattle.pyramid.proofs.SetLemmas.{same_newest}

@@ -1,4 +1,4 @@
-use Rattle.std.proofs.Common.{◌≡◌, ◌+◌, ◌<◌, ◌≤◌, ◌∙◌, sym, ap, arith, length, get_or, take, drop, set, length-set, ℕ}
+use Rattle.std.proofs.Common.{◌+◌, ◌<◌, ◌∙◌, arith, length, get_or, length-set}
 use Rattle.std.proofs.lemmas.List.{drop-set-lt}
 use Rattle.pyramid.proofs.PruneLemmas.{same_tail, step_drop, step_keep, ends_set}
 use Rattle.pyramid.proofs.prune.prune.Goals as goal

@@ -1,6 +1,4 @@
-use Rattle.std.proofs.Common.{◌≡◌, ◌+◌, ◌-◌, sym, ap, ◌∙◌, arith, [], suc, drop, get_or}
-use Rattle.std.specs.Prelude.{None}
-use Rattle.pyramid.specs.Layers.{facts_of, newest_of}
+use Rattle.std.proofs.Common.{◌≡◌, ◌-◌, sym, ◌∙◌, arith, [], suc, get_or}
 use Rattle.pyramid.proofs.LayerLemmas.{ascends_ordered, first_hit, none_more}
 use Rattle.pyramid.proofs.pyramid.newest_flushed.Goals as goal
 

@@ -1,5 +1,4 @@
-use Rattle.std.proofs.Common.{◌≡◌, ◌<◌, sym, ap, ◌∙◌, get_or, [], length, take, arith}
-use Rattle.pyramid.proofs.LayerLemmas.{ascends_ordered}
+use Rattle.std.proofs.Common.{◌≡◌, get_or, [], take}
 use Rattle.pyramid.proofs.SpanLemmas.{span_more, below_next, facts_more}
 use Rattle.pyramid.specs.Layers.{facts_of}
 use Rattle.pyramid.proofs.range.gathered.Goals as goal

@@ -1,5 +1,4 @@
-use Rattle.std.proofs.Common.{◌≡◌, ◌∙◌, sym, ap, true, []}
-use Rattle.std.specs.Prelude.{Result, Ok, Err, IfOk, filter}
+use Rattle.std.proofs.Common.{◌≡◌, ◌∙◌, sym, []}
 use Rattle.pyramid.proofs.MergeLemmas.{merged_nil}
 use Rattle.pyramid.proofs.SpanLemmas.{all_stay, no_elements}
 use Rattle.pyramid.specs.Merging.{merged}

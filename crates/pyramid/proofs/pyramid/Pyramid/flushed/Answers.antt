@@ -1,6 +1,3 @@
-use Rattle.std.proofs.Common.{◌≡◌, sym, ap, ◌∙◌}
-use Rattle.pyramid.specs.Layers.{IsFlushed, IsOrdered}
-use Rattle.pyramid.specs.Merging.{lasts}
 use Rattle.pyramid.proofs.ReasonLemmas.{flushed}
 use Rattle.pyramid.proofs.pyramid.Pyramid.flushed.Goals as goal
 

@@ -1,5 +1,4 @@
-use Rattle.std.proofs.Common.{◌≡◌, ◌⊎◌, inl, inr, Contains}
-use Rattle.std.specs.Prelude.{◌↔◌}
+use Rattle.std.proofs.Common.{inl, inr}
 use Rattle.pyramid.proofs.LayerLemmas.{ok_or_err, rises_run}
 use Rattle.pyramid.proofs.pyramid.Pyramid.insert_run.Goals as goal
 

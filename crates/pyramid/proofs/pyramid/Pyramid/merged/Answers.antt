@@ -1,4 +1,4 @@
-use Rattle.std.proofs.Common.{◌≡◌, ◌+◌, ◌<◌, sym, ap, ◌∙◌, [], true, length, get_or, suc, arith, filter}
+use Rattle.std.proofs.Common.{◌+◌, [], get_or, filter}
 use Rattle.std.specs.Prelude.{◌==◌}
 use Rattle.pur_base.specs.Visible.{is_within}
 use Rattle.pyramid.specs.Layers.{stays}

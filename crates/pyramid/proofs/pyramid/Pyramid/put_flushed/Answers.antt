@@ -1,5 +1,3 @@
-use Rattle.std.proofs.Common.{◌≡◌, sym, ap, ◌∙◌, [], ◌++◌}
-use Rattle.pyramid.specs.Layers.{IsLayered, patches_of}
 use Rattle.pyramid.proofs.PlaceLemmas.{flush_layered, says_flushed}
 use Rattle.pyramid.proofs.pyramid.Pyramid.put_flushed.Goals as goal
 

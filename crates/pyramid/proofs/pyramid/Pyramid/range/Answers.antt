@@ -1,7 +1,5 @@
-use Rattle.std.proofs.Common.{◌≡◌, sym, ap, ◌∙◌, true, filter}
 use Rattle.pur_base.specs.Visible.{is_within}
-use Rattle.pyramid.specs.Layers.{facts_of, stays, is_between}
-use Rattle.pyramid.specs.Merging.{merged, lasts}
+use Rattle.pyramid.specs.Layers.{facts_of}
 use Rattle.pyramid.proofs.LayerLemmas.{rises_alone, rises_below}
 use Rattle.pyramid.proofs.SpanLemmas.{ranged, for_ok}
 use Rattle.pyramid.proofs.pyramid.Pyramid.range.Goals as goal

@@ -1,5 +1,4 @@
-use Rattle.std.proofs.Common.{◌≡◌, ◌+◌, ◌<◌, sym, ap, ◌∙◌, [], true, length, get_or, suc, arith, filter}
-use Rattle.std.specs.Prelude.{◌==◌}
+use Rattle.std.proofs.Common.{[], true, get_or, filter}
 use Rattle.pur_base.specs.Visible.{is_within}
 use Rattle.pyramid.specs.Layers.{stays}
 use Rattle.pyramid.specs.Merging.{merged}

@@ -1,4 +1,3 @@
-use Rattle.std.proofs.Common.{◌≡◌}
 use Rattle.std.specs.Prelude.{nat_lt}
 use Rattle.pyramid.proofs.PlaceLemmas.{filter_layered}
 use Rattle.pyramid.proofs.pyramid.Pyramid.take_back.Goals as goal
