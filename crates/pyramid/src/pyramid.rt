@@ -99,7 +99,7 @@ impl<F: Fact + Drop> Pyramid<F> {
         }
     }
 
-    /// What the facts say at the keys from the first to the last, by ascending key: one search a patch, and a walk.
+    /// What the facts say at the keys from the first to the last, by ascending key: two searches a patch, and a walk.
     pub fn range(
         &self,
         alloc: Global,
@@ -145,7 +145,7 @@ impl<F: Fact + Drop> Pyramid<F> {
         Ok(Patch::from_facts(newest))
     }
 
-    /// The second half of a flush: the patch stands in front, and no fact is unflushed. It takes no memory.
+    /// The second half of a flush: the patch is the newest one, and no fact is unflushed. It takes no memory.
     pub fn put_flushed(&mut self, patch: Option<Patch<F>>)
         requires patch_room { 0 < self.old.patch_room }
         requires patch { IsFlushed F.key F.number self.old.unflushed (patch_facts patch) }
