@@ -1,0 +1,119 @@
+-- What a flush keeps.
+use Rattle.std.proofs.Common.{◌≡◌, ℕ, zero, suc, ◌+◌, ◌<◌, ◌≤◌, Bool, true, false, List, [], ◌∷◌, ◌++◌, length, get_or, drop, refl, sym, ap, ◌∙◌, arith, inl, inr, All, Contains, subst}
+use Rattle.std.specs.Prelude.{Option, Some, None, IfSome, nat_lt, ◌==◌, if◌then◌else◌}
+use Rattle.std.proofs.lemmas.Bool.{ltb-true, ltb-false, lt-ltb, eqb-true, eq-eqb}
+use Rattle.std.proofs.lemmas.List.Elements.{All-cons, All-head, All-tail, All-contains}
+use Rattle.std.proofs.lemmas.List.{append-nil, drop_all}
+use Rattle.pur_base.specs.Says.{newer}
+use Rattle.pur_base.specs.Says.{has_key, Ascends}
+use Rattle.pyramid.specs.Layers.{newest_of, IsOrdered, IsBefore}
+use Rattle.pyramid.specs.Merging.{lasts}
+use Rattle.pyramid.proofs.NewestLemmas.{newest_found}
+use Rattle.pyramid.proofs.MergeLemmas.{ascends-cons, ascends-nil}
+
+IsThat : {A : Type 0} → Option A → Type 0
+IsThat None = ⊥
+IsThat (Some x) = Unit {0}
+
+none_some : {A : Type 0} {x : A} → None ≡ Some x → ⊥
+unfolding IsThat
+none_some e = subst IsThat (sym e) tt
+
+module _ {F : Type 0} (key : F → ℕ) where
+  pub lasts_end : (xs : List F) (i : ℕ) (x : F) → i + 1 ≡ length xs → x ≡ get_or xs i x → lasts key (drop i xs) ≡ x ∷ lasts key (drop (i + 1) xs)
+  lasts_end xs i x e is = rw add (one xs i x (add2 ∙ e) is)
+    where
+      add : i + 1 ≡ suc i
+      add = omega arith
+
+      add2 : suc i ≡ i + 1
+      add2 = omega arith
+
+      one : (xs : List F) (i : ℕ) (x : F) → suc i ≡ length xs → x ≡ get_or xs i x → lasts key (drop i xs) ≡ x ∷ lasts key (drop (suc i) xs)
+      one [] i x e is = absurd (omega (arith, e))
+      one (y ∷ []) zero x e is = ap (λ z. z ∷ []) (sym is)
+      one (y ∷ z ∷ ys) zero x e is = absurd (omega (arith, e))
+      one (y ∷ ys) (suc i) x e is = one ys i x (omega (arith, e)) is
+
+  pub lasts_more : (xs : List F) (i : ℕ) (x y : F) → i + 1 < length xs → x ≡ get_or xs i x → y ≡ get_or xs (i + 1) y
+      → lasts key (drop i xs) ≡ (if nat_lt (key x) (key y) then x ∷ lasts key (drop (i + 1) xs) else lasts key (drop (i + 1) xs))
+  lasts_more xs i x y l is is2 = rw add (one xs i x y (omega (arith, l)) is (rw add at is2))
+    where
+      add : i + 1 ≡ suc i
+      add = omega arith
+
+      one : (xs : List F) (i : ℕ) (x y : F) → suc i < length xs → x ≡ get_or xs i x → y ≡ get_or xs (suc i) y
+          → lasts key (drop i xs) ≡ (if nat_lt (key x) (key y) then x ∷ lasts key (drop (suc i) xs) else lasts key (drop (suc i) xs))
+      one [] i x y l is is2 = absurd (omega (arith, l))
+      one (u ∷ []) i x y l is is2 = absurd (omega (arith, l))
+      one (u ∷ v ∷ us) zero x y l is is2 = rw is (rw is2 refl)
+      one (u ∷ v ∷ us) (suc i) x y l is is2 = one (v ∷ us) i x y (omega (arith, l)) is is2
+
+  pub all_lasted : (out xs : List F) (i : ℕ) → length xs ≤ i → out ++ lasts key (drop i xs) ≡ lasts key xs → out ≡ lasts key xs
+  all_lasted out xs i le e =
+      let none : drop i xs ≡ [] = drop_all i xs le in
+      sym (append-nil out) ∙ ap (λ l. out ++ lasts key l) (sym none) ∙ e
+
+  all_lasts : (n : ℕ) (xs : List F) → All (λ f. n < key f) xs → All (λ f. n < key f) (lasts key xs)
+  all_lasts n [] h = h
+  all_lasts n (x ∷ []) h = h
+  all_lasts n (x ∷ y ∷ ys) h = one (all_lasts n (y ∷ ys) (All-tail (λ f. n < key f) x (y ∷ ys) h)) (nat_lt (key x) (key y))
+    where
+      one : All (λ f. n < key f) (lasts key (y ∷ ys)) → (b : Bool) → All (λ f. n < key f) (if b then x ∷ lasts key (y ∷ ys) else lasts key (y ∷ ys))
+      one h2 true = All-cons (λ f. n < key f) x (lasts key (y ∷ ys)) (All-head (λ f. n < key f) x (y ∷ ys) h) h2
+      one h2 false = h2
+
+module _ {F : Type 0} (key number : F → ℕ) where
+  ordered-tail : (x : F) (xs : List F) → IsOrdered key number (x ∷ xs) → IsOrdered key number xs
+  ordered-tail x xs h i j d l m = h (suc i) (suc j) d (omega (arith, l)) (omega (arith, m))
+
+  ordered-head : (x : F) (xs : List F) → IsOrdered key number (x ∷ xs) → All (λ f. IsBefore key number x f) xs
+  ordered-head x xs h j d less = h 0 (suc j) d (omega arith) (omega (arith, less))
+
+  pub ascends_lasts : (xs : List F) → IsOrdered key number xs → Ascends key (lasts key xs)
+  ascends_lasts [] h = ascends-nil key
+  ascends_lasts (x ∷ []) h = λ i j d l m. absurd (omega (arith, l, m))
+  ascends_lasts (x ∷ y ∷ ys) h = one (ascends_lasts (y ∷ ys) (ordered-tail x (y ∷ ys) h)) (nat_lt (key x) (key y)) refl
+    where
+      one : Ascends key (lasts key (y ∷ ys)) → (b : Bool) → nat_lt (key x) (key y) ≡ b → Ascends key (if b then x ∷ lasts key (y ∷ ys) else lasts key (y ∷ ys))
+      one h2 false e = h2
+      one h2 true e =
+          let xy : key x < key y = ltb-true _ _ e in
+          let up : All (λ f. key x < key f) (y ∷ ys) = All-cons (λ f. key x < key f) y ys xy
+          (λ j d less. elim (ordered-head y ys (ordered-tail x (y ∷ ys) h) j d less) [ inl a ↦ omega (arith, xy, a) | inr b ↦ let same = b.0 in omega (arith, xy, same) ]) in
+          ascends-cons key x (lasts key (y ∷ ys)) (all_lasts key (key x) (y ∷ ys) up) h2
+
+  pub newest_lasts : (k : ℕ) (xs : List F) → IsOrdered key number xs → newest_of key number k (lasts key xs) ≡ newest_of key number k xs
+  newest_lasts k [] h = refl
+  newest_lasts k (x ∷ []) h = refl
+  newest_lasts k (x ∷ y ∷ ys) h = one (newest_lasts k (y ∷ ys) (ordered-tail x (y ∷ ys) h)) (nat_lt (key x) (key y)) refl
+    where
+      same_key : nat_lt (key x) (key y) ≡ false → key x ≡ key y
+      same_key e = elim (h 0 1 x (omega arith) (omega arith)) [ inl a ↦ let le = ltb-false (key x) (key y) e in absurd (omega (arith, a, le)) | inr b ↦ b.0 ]
+
+      older : (g : F) → Contains (y ∷ ys) g → key g ≡ key x → number x < number g
+      older g c e = elim (All-contains (λ f. IsBefore key number x f) (y ∷ ys) g (ordered-head x (y ∷ ys) h) c) [ inl a ↦ absurd (omega (arith, a, e)) | inr b ↦ b.1 ]
+
+      passes : (o : Option F) → IfSome o (λ f. Contains (y ∷ ys) f × (has_key key k f ≡ true)) → o ≡ newest_of key number k (y ∷ ys) → key x ≡ k → key x ≡ key y → newer number x o ≡ o
+      passes None c e at same = absurd (none_there (eq-eqb (key y) k (sym same ∙ at)) e)
+        where
+          none_there : (key y == k) ≡ true → None ≡ newest_of key number k (y ∷ ys) → ⊥
+          none_there t e = some_there (newest_of key number k ys) (rw t at e)
+            where
+              some_there : (o : Option F) → None ≡ newer number y o → ⊥
+              some_there None e = none_some e
+              some_there (Some g) e = two (nat_lt (number y) (number g)) e
+                where
+                  two : (b : Bool) → None ≡ (if b then Some g else Some y) → ⊥
+                  two true e = none_some e
+                  two false e = none_some e
+      passes (Some g) c e at same = rw (lt-ltb (number x) (number g) (older g c.0 (eqb-true _ _ c.1 ∙ sym at))) refl
+
+      one : newest_of key number k (lasts key (y ∷ ys)) ≡ newest_of key number k (y ∷ ys) → (b : Bool) → nat_lt (key x) (key y) ≡ b
+          → newest_of key number k (if b then x ∷ lasts key (y ∷ ys) else lasts key (y ∷ ys)) ≡ newest_of key number k (x ∷ y ∷ ys)
+      one inner true e = rw inner refl
+      one inner false e = rw inner (two (key x == k) refl)
+        where
+          two : (c : Bool) → (key x == k) ≡ c → newest_of key number k (y ∷ ys) ≡ (if c then newer number x (newest_of key number k (y ∷ ys)) else newest_of key number k (y ∷ ys))
+          two false t = refl
+          two true t = sym (passes (newest_of key number k (y ∷ ys)) (newest_found number (has_key key k) (y ∷ ys)) refl (eqb-true _ _ t) (same_key e))

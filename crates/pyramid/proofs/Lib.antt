@@ -1,0 +1,14 @@
+pub mod NewestLemmas
+pub mod MergeLemmas
+pub mod SaysLemmas
+pub mod SearchLemmas
+pub mod InsertLemmas
+pub mod FlushLemmas
+pub mod SetLemmas
+pub mod LayerLemmas
+pub mod ContainsLemmas
+pub mod ReasonLemmas
+pub mod PlaceLemmas
+pub mod WeaveLemmas
+pub mod SpanLemmas
+pub mod PruneLemmas

@@ -1,0 +1,10 @@
+use Rattle.std.proofs.Common.{ap}
+use Rattle.std.specs.Prelude.{None, option_and_then, if◌then◌else◌}
+use Rattle.pur_base.specs.Keys.{id_of}
+use Rattle.pur_base.specs.Says.{has_key, unless_empty}
+use Rattle.pyramid.proofs.SetLemmas.{same_newest}
+use Rattle.pyramid.proofs.laws.laws_of_facts.Goals as goal
+
+pub returns : goal.returns
+returns g c = λ xs ys same distinct elided k.
+    ap (λ o. if elided (id_of k) then None else option_and_then (unless_empty g.F.Fact.empty) o) (same_newest g.F.Fact.number (has_key g.F.Fact.key k) xs ys same distinct)

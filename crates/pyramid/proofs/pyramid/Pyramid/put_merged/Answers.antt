@@ -1,0 +1,14 @@
+use Rattle.pyramid.proofs.PlaceLemmas.{merge_layered, says_merged}
+use Rattle.pyramid.proofs.pyramid.Pyramid.put_merged.Goals as goal
+
+pub invariant_of-self : goal.invariant_of-self
+invariant_of-self g c =
+    let there = rw (← c.self.view_is) at c.requires.there in
+    let source = rw (← c.self.view_is) at c.requires.source in
+    rw c.replace_pair.ensures.items (merge_layered g.F.Fact.key g.F.Fact.number c.self.inside.patches.items c.args.i c.args.patch c.self.inside.unflushed.items there c.self.invariant c.requires.ascends source)
+
+pub returns-clause-says : goal.returns-clause-says
+returns-clause-says g c =
+    let there = rw (← c.self.view_is) at c.requires.there in
+    rw (c.replace_pair.ensures.items, ← c.self.view_is) (λ elided m apart.
+    says_merged g.F.Fact.key g.F.Fact.number g.F.Fact.empty g.F.Fact.within elided c.self.inside.patches.items c.args.i c.args.patch c.self.inside.unflushed.items there c.self.invariant.rises m apart)

@@ -1,0 +1,19 @@
+//! Tables of facts: sorted patches, and the facts that aren't flushed yet.
+//! What a table says of a key is what all its facts together say, whatever is flushed, merged or rewritten.
+#![tactic(auto)]
+
+mod insert;
+mod laws;
+mod merge;
+mod patch;
+mod prune;
+mod pyramid;
+mod range;
+mod search;
+
+pub use laws::laws_of_facts;
+pub use patch::Patch;
+pub use pyramid::Pyramid;
+
+#[cfg(test)]
+mod tests;
