@@ -1,5 +1,5 @@
 -- What regions show, and how many of them show a body.
-use Rattle.std.proofs.Common.{◌≡◌, ℕ, zero, suc, ◌+◌, ◌-◌, ◌*◌, ◌<◌, ◌≤◌, List, [], ◌∷◌, ◌++◌, length, map, take, drop, get_or, refl, sym, ap, subst, ◌∙◌, add-zero, arith, Bool, true, false, cond, eqb, ltb, inl, inr, IsTrue, ◌↔◌}
+use Rattle.std.proofs.Common.{◌≡◌, ℕ, zero, suc, ◌+◌, ◌*◌, ◌<◌, List, [], ◌∷◌, length, map, take, drop, get_or, refl, sym, ap, subst, ◌∙◌, add-zero, arith, Bool, true, false, cond, eqb, ltb, inl, inr, IsTrue, ◌↔◌}
 use Rattle.std.specs.Prelude.{Option, Some, None, count_by, slice_index, option_and_then}
 use Rattle.std.specs.List.{range_with_len}
 use Rattle.std.proofs.lemmas.Bool.{eq-eqb, cases_Bool, ltb-true, lt-ltb}
@@ -130,14 +130,14 @@ pub newer_of_both : (bytes : List ℕ) (answered : List Bool) (a b : List ℕ) (
 newer_of_both bytes answered a b A body first second newer shelf drives = record {
   decided = decided_in_view shelf bytes answered A body drives (subst (IsDecided (all_votes bytes answered A)) (sym newer.0) first);
   highest = λ other most.
-    let same : other ≡ b = one_is_decided (all_votes bytes answered B) other b (decided_by_regions shelf bytes answered B other drives most) second in
-    omega (arith, newer.1, ap generation_in same, ap generation_in newer.0);
+      let same : other ≡ b = one_is_decided (all_votes bytes answered B) other b (decided_by_regions shelf bytes answered B other drives most) second in
+      omega (arith, newer.1, ap generation_in same, ap generation_in newer.0);
 }
 newer_of_both bytes answered a b B body first second newer shelf drives = record {
   decided = decided_in_view shelf bytes answered B body drives (subst (IsDecided (all_votes bytes answered B)) (sym newer.0) second);
   highest = λ other most.
-    let same : other ≡ a = one_is_decided (all_votes bytes answered A) other a (decided_by_regions shelf bytes answered A other drives most) first in
-    omega (arith, newer.1, ap generation_in same, ap generation_in newer.0);
+      let same : other ≡ a = one_is_decided (all_votes bytes answered A) other a (decided_by_regions shelf bytes answered A other drives most) first in
+      omega (arith, newer.1, ap generation_in same, ap generation_in newer.0);
 }
 
 -- a body that is decided alone is in force

@@ -227,10 +227,14 @@ fn more_than_half_of_all_drives_decide(rt: HostRuntime) -> Result<(), Fail> {
     store_in(&mut world, &mut members, Slot::A, OLD)?;
     assert_eq!(rt; in_force(alloc, &mut world)?, Some((Slot::A, OLD)));
     // Five drives show the higher generation, then six.
-    let mut five = [true, true, true, true, true, false, false, false, false, false, false];
+    let mut five = [
+        true, true, true, true, true, false, false, false, false, false, false,
+    ];
     store_in(&mut world, &mut five, Slot::B, NEW)?;
     assert_eq!(rt; in_force(alloc, &mut world)?, Some((Slot::A, OLD)));
-    let mut one = [false, false, false, false, false, true, false, false, false, false, false];
+    let mut one = [
+        false, false, false, false, false, true, false, false, false, false, false,
+    ];
     store_in(&mut world, &mut one, Slot::B, NEW)?;
     assert_eq!(rt; in_force(alloc, &mut world)?, Some((Slot::B, NEW)));
     // A drive that shows it is pulled.

@@ -1,4 +1,4 @@
-use Rattle.std.proofs.Common.{rules, ◌≡◌, ◌≢◌, ◌<◌, ℕ, length, arith, ◌∙◌, below_more}
+use Rattle.std.proofs.Common.{rules, ◌≡◌, length, arith, ◌∙◌, below_more}
 use Rattle.pur_base.specs.Devices.{drive}
 use Rattle.pur_base.proofs.Devices.{drives_apart}
 use Rattle.world.proofs.Moments.{continues_trans}
@@ -19,12 +19,12 @@ loop-drive-preserved g c =
       rest = g.met.S.Shelf.shelf_rest_stays.transitive _ _ _ inv.rest x.ensures.rest;
       drives = x.ensures.drives ∙ inv.drives;
       same = λ h device.
-        let was = inv.same h device in
-        let is = x.ensures.same (inv.continues.honest h) device in
-        record { bytes = is.bytes ∙ was.bytes; dirty = is.dirty ∙ was.dirty };
+          let was = inv.same h device in
+          let is = x.ensures.same (inv.continues.honest h) device in
+          record { bytes = is.bytes ∙ was.bytes; dirty = is.dirty ∙ was.dirty };
       passed = λ h. below_more (λ i. IsRead a n x.new.regions.bytes.items x.new.regions.answered.items i) slot
           (λ i lt. stays_read a b n c.loop-drive.regions.bytes.items x.new.regions.bytes.items c.loop-drive.regions.answered.items x.new.regions.answered.items i
-              (inv.passed h i lt) (x.ensures.kept i (omega (arith, lt))) (x.ensures.others (drive i) (drives_apart i slot (omega (arith, lt)))))
+          (inv.passed h i lt) (x.ensures.kept i (omega (arith, lt))) (x.ensures.others (drive i) (drives_apart i slot (omega (arith, lt)))))
           (first_read a b n x.new.regions.bytes.items x.new.regions.answered.items slot (x.ensures.read (inv.continues.honest h)) (inv.ahead slot (omega arith)));
       ahead = λ i le. x.ensures.others (drive i) (drives_apart i slot (omega (arith, le))) ∙ inv.ahead i (omega (arith, le));
     }

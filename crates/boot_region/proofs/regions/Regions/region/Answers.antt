@@ -1,6 +1,5 @@
-use Rattle.std.proofs.Common.{true, false, sym, ◌∙◌, arith}
+use Rattle.std.proofs.Common.{false, sym, ◌∙◌, arith}
 use Rattle.std.proofs.lemmas.List.{get_or_default}
-use Rattle.boot_region.specs.Regions.{region_at}
 use Rattle.boot_region.proofs.RegionLemmas.{region_is}
 use Rattle.boot_region.proofs.regions.Regions.region.Goals as goal
 

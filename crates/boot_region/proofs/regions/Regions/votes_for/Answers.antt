@@ -1,6 +1,4 @@
-use Rattle.std.proofs.Common.{rules, ◌≡◌, ◌+◌, ℕ, arith, true, false, sym, ◌∙◌, map, List, length}
-use Rattle.std.specs.Prelude.{count_by}
-use Rattle.std.specs.List.{range_with_len}
+use Rattle.std.proofs.Common.{rules, ◌≡◌, arith, true, false, sym, ◌∙◌, length}
 use Rattle.boot_codec.specs.Region.{is_vote}
 use Rattle.boot_region.specs.Slots.{slot_in}
 use Rattle.boot_region.specs.Regions.{vote_of, all_votes}
@@ -11,11 +9,11 @@ use Rattle.boot_region.proofs.regions.Regions.votes_for.Goals as goal
 pub loop-drive-preserved : goal.loop-drive-preserved
 loop-drive-preserved c = elim c.if-shows.branch [
   | then-shows w ↦
-    let next = counts_next (is_vote c.args.body.now) (vote_of c.args.self.now.bytes.items c.args.self.now.answered.items (slot_in c.args.slot)) c.loop-drive.drive true (sym w.if-shows.true ∙ c.shows.ensures) in
-    record { count = omega (arith, next, w.count-is, c.loop-drive.invariant.count); bound = omega (arith, w.count-is, c.loop-drive.invariant.bound) }
+      let next = counts_next (is_vote c.args.body.now) (vote_of c.args.self.now.bytes.items c.args.self.now.answered.items (slot_in c.args.slot)) c.loop-drive.drive true (sym w.if-shows.true ∙ c.shows.ensures) in
+      record { count = omega (arith, next, w.count-is, c.loop-drive.invariant.count); bound = omega (arith, w.count-is, c.loop-drive.invariant.bound) }
   | else-shows w ↦
-    let next = counts_next (is_vote c.args.body.now) (vote_of c.args.self.now.bytes.items c.args.self.now.answered.items (slot_in c.args.slot)) c.loop-drive.drive false (sym w.if-shows.false ∙ c.shows.ensures) in
-    record { count = omega (arith, next, w.count-is, c.loop-drive.invariant.count); bound = omega (arith, w.count-is, c.loop-drive.invariant.bound) }
+      let next = counts_next (is_vote c.args.body.now) (vote_of c.args.self.now.bytes.items c.args.self.now.answered.items (slot_in c.args.slot)) c.loop-drive.drive false (sym w.if-shows.false ∙ c.shows.ensures) in
+      record { count = omega (arith, next, w.count-is, c.loop-drive.invariant.count); bound = omega (arith, w.count-is, c.loop-drive.invariant.bound) }
 ]
 
 pub returns-clause-count : goal.returns-clause-count
