@@ -1,10 +1,7 @@
 -- The gates of a log are closed.
-use Rattle.std.proofs.Common.{◌≡◌, inl, inr, ℕ, ◌+◌, ◌≤◌, ◌<◌, Bool, false, List, [], ◌++◌, length, Some, slice_get, slice_index, replicate, sym, ◌∙◌, ap, subst, arith, append_assoc}
-use Rattle.std.specs.Prelude.{◌==◌}
+use Rattle.std.proofs.Common.{◌≡◌, inl, inr, ℕ, ◌+◌, ◌≤◌, ◌<◌, Bool, false, List, [], ◌++◌, length, Some, slice_get, slice_index, sym, ◌∙◌, ap, subst, arith, append_assoc}
 use Rattle.std.specs.List.{concat}
 use Rattle.std.proofs.lemmas.Bool.{cases_lt}
-use Rattle.std.proofs.lemmas.List.{length-replicate, get_or-replicate}
-use Rattle.std.proofs.lemmas.List.Edits.{get_or-between}
 use Rattle.pur_base.specs.Gates.{is_open}
 use Rattle.pur_base.specs.Commands.{Command}
 use Rattle.pur_base.specs.Devices.{nvram}
@@ -13,7 +10,7 @@ use Rattle.log_codec.specs.declared.head.Head.{Head}
 use Rattle.log_codec.specs.Head.{head_bytes}
 use Rattle.log_codec.specs.Log.{Spells, slot_at, ShowsIn}
 use Rattle.log_codec.proofs.OneHead.{one_command, same_heads}
-use Rattle.world.specs.Shelf.{Shelved, Stop, Disk, IsShelf, IsIn, Written}
+use Rattle.world.specs.Shelf.{Shelved, Stop, IsShelf, IsIn}
 use Rattle.world.specs.Writes.{LeavesBut}
 use Rattle.nvram_log.specs.Members.{IsMember, OnRange}
 use Rattle.nvram_log.specs.Slots.{IsBetween, IsLog}
@@ -68,16 +65,6 @@ module _ (a b : List ℕ) (flushed : ℕ) (commands : List Command) (are : AreIm
   pub nothing_later : IsBetween b (flushed + length commands) [] []
   nothing_later = record { all = λ i c is. absurd (cc is); no_other = λ i c shows. absurd (no_later i c shows) }
 
-  module _ (closed_now : (i : ℕ) → i < length commands → slice_index b i ≡ 0) where
-    all_shut : (i : ℕ) → i < LOG_SLOTS → is_open i b ≡ false
-    all_shut i lt = elim (cases_lt i (length commands)) [
-      | inl within ↦ ap (λ (n : ℕ). n == 1) (closed_now i within)
-      | inr ge ↦ shut i ge lt
-    ]
-
-    pub closed : IsLog b (flushed + length commands) []
-    closed = record { room = omega arith; between = nothing_later; shut = λ i le lt. all_shut i lt }
-
 -- at each moment of it, on each member
 module _ (a : Shelved) (members : List Bool) (flushed : ℕ) (commands : List Command) (is_a : IsShelf a) (h : a.honest) (holds : HoldsOn a members flushed commands) where
   same_out : (stop : Stop) → LeavesBut (OnRange members 0 (length commands)) a stop → (n : ℕ) → n < 2 → IsMember members n
@@ -92,14 +79,3 @@ module _ (a : Shelved) (members : List Bool) (flushed : ℕ) (commands : List Co
 
   pub none_while_closing : (stop : Stop) → LeavesBut (OnRange members 0 (length commands)) a stop → LeavesBetween members (flushed + length commands) [] [] stop
   none_while_closing stop but n lt is = nothing_later (a.disk (nvram n)).bytes (stop.image (nvram n)) flushed commands (images stop but n lt) (holds.log n lt is) (same_out stop but n lt is)
-
-  pub closed_log : (n : ℕ) → n < 2 → IsMember members n → (b : Disk) → Written 0 (replicate (length commands) 0) (a.disk (nvram n)).bytes b.bytes → IsLog b.bytes (flushed + length commands) []
-  closed_log n lt is b written =
-      closed (a.disk (nvram n)).bytes b.bytes flushed commands (record { old = is_a.sizes h (nvram n) lt; new = written.size }) (holds.log n lt is)
-      (λ k out. written.outside k (λ w. out (w.0, omega (arith, w.1, zeros_long))))
-      (λ i within. sym (get_or-between b.bytes 0 (0 + length {A = ℕ} (replicate (length commands) 0)) i 0 (omega (arith, within, zeros_long)) ∙ ap (λ (k : ℕ). slice_index b.bytes k) (let e : 0 + i ≡ i = omega arith in e))
-      ∙ ap (λ (l : List ℕ). slice_index l i) written.within
-      ∙ get_or-replicate (length commands) i 0 0 within)
-    where
-      zeros_long : length {A = ℕ} (replicate (length commands) 0) ≡ length commands
-      zeros_long = length-replicate {A = ℕ} (length commands) 0

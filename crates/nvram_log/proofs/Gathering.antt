@@ -12,9 +12,6 @@ single : (d c : Command) (n : ℕ) → slice_get (d ∷ []) n ≡ Some c → (n 
 single d c zero is = (refl, cc is)
 single d c (suc n) is = absurd (cc is)
 
-pub none_gathered : (images : Images) (flushed : ℕ) (slots : List ℕ) → IsGathered images flushed 0 slots
-none_gathered images flushed slots = record { commands = []; count_is = refl; shown = λ i c is. absurd (cc is); spelled = λ i c is. absurd (cc is) }
-
 module _ (images : Images) (flushed i : ℕ) (old new : List ℕ) (so_far : IsGathered images flushed i old)
     (same : (k : ℕ) → k < i → bytes_at (33280 * k) 33280 new ≡ bytes_at (33280 * k) 33280 old) (d : Command) (shown : IsShown images flushed i d) (spelled : Spells (bytes_at (33280 * i) 33280 new) (flushed + 1 + i) d) where
   abbrev all : List Command
