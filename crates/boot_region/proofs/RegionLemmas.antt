@@ -1,15 +1,17 @@
 -- What regions show, and how many of them show a body.
-use Rattle.std.proofs.Common.{◌≡◌, ℕ, zero, suc, ◌+◌, ◌*◌, ◌<◌, List, [], ◌∷◌, length, map, take, drop, get_or, refl, sym, ap, subst, ◌∙◌, add-zero, arith, Bool, true, false, cond, eqb, ltb, inl, inr, IsTrue, ◌↔◌}
-use Rattle.std.specs.Prelude.{Option, Some, None, count_by, slice_index, option_and_then}
+use Rattle.std.proofs.Common.{◌≡◌, ℕ, zero, suc, ◌+◌, ◌*◌, ◌<◌, ◌≤◌, ◌&&◌, List, [], ◌∷◌, length, map, take, drop, get_or, refl, sym, ap, subst, ◌∙◌, add-zero, arith, Bool, true, false, cond, eqb, ltb, inl, inr, IsTrue, ◌↔◌}
+use Rattle.std.specs.Prelude.{Option, Some, None, count_by, slice_index, slice_index_or, option_and_then}
 use Rattle.std.specs.List.{range_with_len}
+use Rattle.std.proofs.Math.ListN.{get_or-eq_default}
 use Rattle.std.proofs.lemmas.Bool.{eq-eqb, cases_Bool, ltb-true, lt-ltb}
 use Rattle.std.specs.Str.{bytes_eq}
 use Rattle.std.proofs.lemmas.List.FromFn.{length-map-range_with_len}
 use Rattle.std.specs.Cmp.Lexicographic.{same_text}
 use Rattle.pur_base.specs.Devices.{Geometry}
-use Rattle.boot_codec.specs.Region.{BootSlot, A, B, gate_place, body_place, shown_by, is_vote, votes, generation_in, other_slot, IsDecided, IsEffective}
+use Rattle.boot_codec.specs.Region.{BootSlot, A, B, gate_place, body_place, body_in, shown_by, is_vote, votes, generation_in, other_slot, IsDecided, IsEffective}
+use Rattle.boot_codec.specs.declared.limits.TheConstants.{RECORD_BYTES}
 use Rattle.boot_region.specs.declared.regions.TheConstants.{REGION_BYTES}
-use Rattle.boot_region.specs.Regions.{region_at, seen, vote_of, all_votes, IsUndecided, GivesNone, IsNewerOf}
+use Rattle.boot_region.specs.Regions.{region_at, seen, is_body_in, is_holding, vote_of, all_votes, IsUndecided, GivesNone, IsNewerOf}
 use Rattle.array_spec.proofs.Votes.{counted, one_is_decided}
 
 -- a body under an open gate is shown
@@ -154,3 +156,29 @@ pub none_of_both : (bytes : List ℕ) (answered : List Bool) → IsUndecided (al
     → (shelf : Geometry) → shelf.slots ≡ length answered → GivesNone shelf (seen bytes answered)
 none_of_both bytes answered first second shelf drives A body most = first body (decided_by_regions shelf bytes answered A body drives most)
 none_of_both bytes answered first second shelf drives B body most = second body (decided_by_regions shelf bytes answered B body drives most)
+
+-- ---- the drives on which a body stands
+
+-- by the region of a drive
+pub holding_in : (bytes : List ℕ) (answered : List Bool) (slot : BootSlot) (body region : List ℕ) (i at n : ℕ) (b : Bool) → Some region ≡ region_at bytes answered i
+    → at ≡ body_place slot → n ≡ RECORD_BYTES → b ≡ bytes_eq (take n (drop at region)) body → b ≡ is_holding bytes answered slot body i
+unfolding is_holding
+holding_in bytes answered slot body region i at n b is start size same =
+    same ∙ ap (λ a. bytes_eq (take n (drop a region)) body) start ∙ ap (λ k. bytes_eq (take k (drop (body_place slot) region)) body) size ∙ ap (is_body_in slot body) is
+
+-- not on a drive that didn't answer
+pub not_holding : (bytes : List ℕ) (answered : List Bool) (slot : BootSlot) (body : List ℕ) (i : ℕ) → None ≡ region_at bytes answered i
+    → false ≡ is_holding bytes answered slot body i
+unfolding is_holding
+not_holding bytes answered slot body i is = ap (is_body_in slot body) is
+
+-- nor where there is none
+pub none_behind : (bytes : List ℕ) (answered : List Bool) (slot : BootSlot) (body : List ℕ) (i : ℕ) (b : Bool) → length answered ≤ i → false ≡ (b && is_holding bytes answered slot body i)
+unfolding is_holding region_at
+none_behind bytes answered slot body i b behind =
+    let none : slice_index_or answered i false ≡ false = get_or-eq_default answered false behind in
+    rw none (of_and b)
+  where
+    of_and : (b : Bool) → false ≡ (b && false)
+    of_and true = refl
+    of_and false = refl

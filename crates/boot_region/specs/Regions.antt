@@ -1,11 +1,11 @@
 -- The boot units that were read of each drive, as a view of the drives.
-use Rattle.std.specs.Prelude.{◌≡◌, ◌⊎◌, ℕ, ◌*◌, ◌<◌, ◌≤◌, Bool, false, List, length, map, Option, Some, None, slice_index_or, option_and_then, if◌then◌else◌}
+use Rattle.std.specs.Prelude.{◌≡◌, ◌⊎◌, ℕ, ◌*◌, ◌<◌, ◌≤◌, Bool, false, List, length, map, Option, Some, None, slice_index_or, option_and_then, if◌then◌else◌, bytes_eq}
 use Rattle.std.specs.List.{range_with_len}
 use Rattle.pur_base.specs.Bytes.{bytes_at}
 use Rattle.pur_base.specs.Devices.{Geometry, View, drive}
 use Rattle.pur_base.specs.declared.device.Device.TheVariants.{Drive, Nv}
 use Rattle.boot_region.specs.declared.regions.TheConstants.{REGION_BYTES}
-use Rattle.boot_codec.specs.Region.{BootSlot, A, B, IsDecided, generation_in, shown_by, votes}
+use Rattle.boot_codec.specs.Region.{BootSlot, A, B, IsDecided, generation_in, body_in, shown_by, votes}
 use Rattle.world.specs.Counts.{Rises}
 use Rattle.world.specs.Shelf.{Shelved}
 
@@ -43,3 +43,12 @@ IsNewerOf a b B body = (body ≡ b) × (generation_in a < generation_in b)
 abbrev pub IsRead : Shelved → Shelved → List ℕ → List Bool → ℕ → Type 0
 IsRead old new bytes answered i = (region_at bytes answered i ≡ Some (bytes_at 0 REGION_BYTES (old.disk (drive i)).bytes))
     ⊎ ((region_at bytes answered i ≡ None) × Rises (old.disk (drive i)).faults (new.disk (drive i)).faults)
+
+-- whether the body stands in the slot of a region, behind a gate in whatever state
+abbrev pub is_body_in : BootSlot → List ℕ → Option (List ℕ) → Bool
+is_body_in slot body None = false
+is_body_in slot body (Some region) = bytes_eq (body_in slot region) body
+
+-- whether it stands on a drive that answered
+unfoldable pub is_holding : List ℕ → List Bool → BootSlot → List ℕ → ℕ → Bool
+is_holding bytes answered slot body i = is_body_in slot body (region_at bytes answered i)

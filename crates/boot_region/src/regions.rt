@@ -1,15 +1,15 @@
 // The boot units that were read of each drive, and which record they give.
-ghost use Rattle.std.specs.Prelude.{◌≡◌, ◌↔◌, ◌*◌, ◌<◌, ◌≤◌, length, IsTrue, IfSome, IfNone, IfOk, count_by};
+ghost use Rattle.std.specs.Prelude.{ℕ, ◌&&◌, false, slice_index_or, ◌≡◌, ◌↔◌, ◌*◌, ◌<◌, ◌≤◌, length, IsTrue, IfSome, IfNone, IfOk, count_by};
 ghost use Rattle.std.specs.Option.{option_copied};
 ghost use Rattle.boot_codec.specs.declared.limits.TheConstants.{RECORD_BYTES};
 ghost use Rattle.pur_base.specs.Devices.{Geometry};
 ghost use Rattle.boot_codec.specs.Region.{IsDecided, IsEffective, is_vote, shown_by, generation_in};
 ghost use Rattle.boot_region.specs.declared.regions.TheConstants.{REGION_BYTES};
-ghost use Rattle.boot_region.specs.Regions.{region_at, seen, vote_of, all_votes, IsUndecided, GivesNone, IsNewerOf};
+ghost use Rattle.boot_region.specs.Regions.{region_at, seen, is_holding, vote_of, all_votes, IsUndecided, GivesNone, IsNewerOf};
 ghost use Rattle.boot_region.specs.Slots.{slot_in};
 
 use crate::Slot;
-use boot_codec::RECORD_BYTES;
+use boot_codec::{DRIVE_FLAGS, RECORD_BYTES};
 use byte_fields::u64_in;
 use pur_base::{BOOT_UNITS, NoMemory, UNIT_BYTES};
 use std::alloc::Global;
@@ -115,6 +115,33 @@ impl Regions {
             }
         }
         None
+    }
+
+    /// Whether this body stands in the slot of a drive that answered, behind a gate in whatever state.
+    fn holds(&self, drive: usize, slot: Slot, body: &[u8]) -> bool
+        requires drive_in { drive < length self.now.answered.items }
+        requires size { length body.now ≡ RECORD_BYTES }
+        ensures { result ≡ is_holding self.now.bytes.items self.now.answered.items (slot_in slot) body.now drive }
+    {
+        match self.region(drive) {
+            Some(region) => {
+                let at = slot.body() as usize;
+                &region[at..at + RECORD_BYTES] == body
+            }
+            None => false,
+        }
+    }
+
+    /// Of the named drives those on which this body stands in the slot.
+    pub fn holding(&self, named: &[bool; DRIVE_FLAGS], slot: Slot, body: &[u8]) -> [bool; DRIVE_FLAGS]
+        requires { length body.now ≡ RECORD_BYTES }
+        ensures { (i : ℕ) → slice_index_or result i false ≡ (slice_index_or named.now i false && is_holding self.now.bytes.items self.now.answered.items (slot_in slot) body.now i) }
+    {
+        let mut holding = [false; DRIVE_FLAGS];
+        for drive in 0..self.answered.len() {
+            holding[drive] = named[drive] && self.holds(drive, slot, body);
+        }
+        holding
     }
 
     /// The body that the regions give, and its slot: of the bodies that are decided, the one with the higher generation. A tie goes to slot A.
