@@ -2,6 +2,7 @@ pub mod Accounts
 pub mod Began
 pub mod Composing
 pub mod GateCalls
+pub mod LoadingLemmas
 pub mod OnEach
 pub mod Phases
 pub mod Settled

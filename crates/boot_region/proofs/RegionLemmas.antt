@@ -8,7 +8,7 @@ use Rattle.std.specs.Str.{bytes_eq}
 use Rattle.std.proofs.lemmas.List.FromFn.{length-map-range_with_len}
 use Rattle.std.specs.Cmp.Lexicographic.{same_text}
 use Rattle.pur_base.specs.Devices.{Geometry}
-use Rattle.boot_codec.specs.Region.{BootSlot, A, B, gate_place, body_place, body_in, shown_by, is_vote, votes, generation_in, other_slot, IsDecided, IsEffective}
+use Rattle.boot_codec.specs.Region.{BootSlot, A, B, gate_place, body_place, shown_by, is_vote, votes, generation_in, other_slot, IsDecided, IsEffective}
 use Rattle.boot_codec.specs.declared.limits.TheConstants.{RECORD_BYTES}
 use Rattle.boot_region.specs.declared.regions.TheConstants.{REGION_BYTES}
 use Rattle.boot_region.specs.Regions.{region_at, seen, is_body_in, is_holding, vote_of, all_votes, IsUndecided, GivesNone, IsNewerOf}

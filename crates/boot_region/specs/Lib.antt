@@ -1,3 +1,4 @@
+pub mod Loading
 pub mod Members
 pub mod Regions
 pub mod Slots

@@ -3,6 +3,7 @@
 #![tactic(auto)]
 
 mod gates;
+mod loading;
 mod members;
 mod reading;
 mod regions;
@@ -11,6 +12,7 @@ mod slot;
 mod storing;
 
 pub use gates::{close_gates, open_gates, write_bodies};
+pub use loading::{LoadFault, Loaded, load};
 pub use members::write_members;
 pub use reading::read_regions;
 pub use regions::{REGION_BYTES, Regions};

@@ -133,7 +133,12 @@ impl Regions {
     }
 
     /// Of the named drives those on which this body stands in the slot.
-    pub fn holding(&self, named: &[bool; DRIVE_FLAGS], slot: Slot, body: &[u8]) -> [bool; DRIVE_FLAGS]
+    pub fn holding(
+        &self,
+        named: &[bool; DRIVE_FLAGS],
+        slot: Slot,
+        body: &[u8],
+    ) -> [bool; DRIVE_FLAGS]
         requires { length body.now ≡ RECORD_BYTES }
         ensures { (i : ℕ) → slice_index_or result i false ≡ (slice_index_or named.now i false && is_holding self.now.bytes.items self.now.answered.items (slot_in slot) body.now i) }
     {

@@ -1,0 +1,77 @@
+-- What is loaded, by the boot units that were read.
+use Rattle.std.specs.Prelude.{◌≡◌, ◌+◌, ◌<◌, ◌≤◌, ◌&&◌, ℕ, Bool, false, List, length, slice_index_or, Result, Ok, Err, ⊤}
+use Rattle.pur_base.specs.Devices.{Geometry}
+use Rattle.boot_codec.specs.declared.bad_record.BadRecord.{BadRecord}
+use Rattle.boot_codec.specs.declared.bad_record.ReadError.{ReadError}
+use Rattle.boot_codec.specs.declared.bad_record.ReadError.TheVariants as errors
+use Rattle.boot_codec.specs.declared.record.BootRecord.{BootRecord}
+use Rattle.boot_codec.specs.Reading.{read_record}
+use Rattle.boot_codec.specs.Record.{set_count}
+use Rattle.boot_codec.specs.Region.{BootSlot, IsRecordOf, IsEffective}
+use Rattle.boot_codec.specs.Spelling.{spelling}
+use Rattle.world.specs.Losing.{geometry_of}
+use Rattle.world.specs.Shelf.{Shelved}
+use Rattle.boot_region.specs.declared.loading.Loaded.{Loaded}
+use Rattle.boot_region.specs.declared.loading.LoadFault.{LoadFault}
+use Rattle.boot_region.specs.declared.loading.LoadFault.TheVariants as faults
+use Rattle.boot_region.specs.Regions.{seen, is_holding, GivesNone, IsRead}
+use Rattle.boot_region.specs.Slots.{slot_in}
+
+-- the fault of a record that can't be read
+abbrev pub fault_of : ReadError → LoadFault
+fault_of (errors.Bad e) = faults.BadRecord e
+fault_of (errors.Memory m) = faults.Memory m
+
+-- of the drives that the record names, those that hold it
+abbrev pub AreHolding : List ℕ → List Bool → BootSlot → BootRecord → List Bool → Type 0
+AreHolding bytes answered slot boot drives = (i : ℕ) → slice_index_or drives i false ≡ (slice_index_or boot.members.drives i false && is_holding bytes answered slot (spelling boot) i)
+
+-- the record is lawful and in force, and these drives hold it
+pub record IsHeld (shelf : Geometry) (bytes : List ℕ) (answered : List Bool) (slot : BootSlot) (boot : BootRecord) (drives : List Bool) : Type 0 where
+  pub lawful : IsRecordOf shelf boot
+  pub effective : IsEffective shelf (seen bytes answered) slot (spelling boot)
+  pub drives_are : AreHolding bytes answered slot boot drives
+
+-- it was loaded, and at most two drives of the shelf don't hold it
+pub record IsGiven (shelf : Geometry) (bytes : List ℕ) (answered : List Bool) (x : Loaded) : Type 0 where
+  pub held : IsHeld shelf bytes answered (slot_in x.slot) x.record x.drives
+  pub enough : shelf.slots ≤ set_count x.drives + 2
+
+-- a lawful record is in force, and more than two drives don't hold it
+pub record TooFewHold (shelf : Geometry) (bytes : List ℕ) (answered : List Bool) (drives : List Bool) : Type 0 where
+  pub slot : BootSlot
+  pub boot : BootRecord
+  pub held : IsHeld shelf bytes answered slot boot drives
+  pub too_few : set_count drives + 2 < shelf.slots
+
+-- the body in force is no record of the shelf, and this is its first fault
+pub record IsBadBody (shelf : Geometry) (bytes : List ℕ) (answered : List Bool) (fault : BadRecord) : Type 0 where
+  pub slot : BootSlot
+  pub body : List ℕ
+  pub effective : IsEffective shelf (seen bytes answered) slot body
+  pub exact : ◌≡◌ {A = Result BootRecord BadRecord} (read_record shelf.slots shelf.units body) (Err fault)
+
+-- why nothing was loaded
+abbrev pub IsFaultOf : Geometry → List ℕ → List Bool → LoadFault → Type 0
+IsFaultOf shelf bytes answered (faults.Memory m) = ⊤
+IsFaultOf shelf bytes answered faults.NoArray = GivesNone shelf (seen bytes answered)
+IsFaultOf shelf bytes answered (faults.BadRecord e) = IsBadBody shelf bytes answered e
+IsFaultOf shelf bytes answered (faults.TooFew drives) = TooFewHold shelf bytes answered drives
+
+-- the same of either answer
+abbrev pub IsAnswerOf : Geometry → List ℕ → List Bool → Result Loaded LoadFault → Type 0
+IsAnswerOf shelf bytes answered (Ok x) = IsGiven shelf bytes answered x
+IsAnswerOf shelf bytes answered (Err e) = IsFaultOf shelf bytes answered e
+
+-- each drive answered with its boot units or its count of faults rose, and what was loaded is what those units give
+pub record IsLoadBy (old new : Shelved) (result : Result Loaded LoadFault) : Type 0 where
+  pub bytes : List ℕ
+  pub answered : List Bool
+  pub all : length answered ≡ old.drives
+  pub read : (i : ℕ) → i < old.drives → IsRead old new bytes answered i
+  pub answer : IsAnswerOf (geometry_of old) bytes answered result
+
+-- or there was no memory
+abbrev pub IsLoadOf : Shelved → Shelved → Result Loaded LoadFault → Type 0
+IsLoadOf old new (Err (faults.Memory m)) = ⊤
+IsLoadOf old new result = IsLoadBy old new result

@@ -1,0 +1,101 @@
+// The record in force is loaded.
+ghost use Rattle.std.specs.Prelude.{◌≡◌, ◌<◌, ◌≤◌, ℕ, IfOk, IfErr, length};
+ghost use Rattle.pur_base.specs.Devices.{Geometry};
+ghost use Rattle.pur_base.specs.declared.device.Device.{Device};
+ghost use Rattle.world.specs.Shelf.{Continues, IsSame};
+ghost use Rattle.boot_codec.specs.Record.{set_count};
+ghost use Rattle.boot_region.specs.declared.loading.LoadFault.TheVariants as faults;
+ghost use Rattle.boot_region.specs.Loading.{IsLoadOf, IsGiven, IsFaultOf, fault_of};
+
+use crate::{Regions, Slot, read_regions};
+use boot_codec::{BadRecord, BootRecord, DRIVE_FLAGS, ReadError, read_record};
+use pur_base::NoMemory;
+use std::alloc::{AllocError, Global};
+use world::Shelf;
+
+/// As many drives may be missing.
+const MISSING_MAX: usize = 2;
+
+/// The record in force, the slot in which it stands, and the drives that it names and on which it stands.
+#[derive(Drop)]
+pub struct Loaded {
+    pub record: BootRecord,
+    pub slot: Slot,
+    pub drives: [bool; DRIVE_FLAGS],
+}
+
+/// Why no record was loaded.
+#[derive(Clone, Copy, Debug, PartialEq, Eq, Drop)]
+pub enum LoadFault {
+    Memory(NoMemory),
+    /// No body is shown by more than half of all drives.
+    NoArray,
+    BadRecord(BadRecord),
+    /// More than two drives of the shelf are missing from these.
+    TooFew([bool; DRIVE_FLAGS]),
+}
+
+/// How many flags are set.
+fn set_flags(flags: &[bool; DRIVE_FLAGS]) -> usize
+    ensures value { result ≡ set_count flags.now }
+    ensures bound { result ≤ 24 }
+{
+    flags.iter().filter(|flag| **flag).count()
+}
+
+impl From<NoMemory> for LoadFault {
+    ghost from_gives = { λ e r. r ≡ faults.Memory e };
+
+    fn from(error: NoMemory) -> LoadFault {
+        LoadFault::Memory(error)
+    }
+}
+
+impl From<ReadError> for LoadFault {
+    ghost from_gives = { λ e r. r ≡ fault_of e };
+
+    fn from(error: ReadError) -> LoadFault {
+        match error {
+            ReadError::Bad(bad) => LoadFault::BadRecord(bad),
+            ReadError::Memory(none) => LoadFault::Memory(none),
+        }
+    }
+}
+
+impl Regions {
+    /// The record that the regions give, and the drives that hold it. A shelf has as many units a drive.
+    pub fn load(&self, alloc: Global, units: u16) -> Result<Loaded, LoadFault>
+        ensures ok { IfOk result (λ x. (shelf : Geometry) → shelf.slots ≡ length self.now.answered.items → shelf.units ≡ units
+            → IsGiven shelf self.now.bytes.items self.now.answered.items x) }
+        ensures err { IfErr result (λ e. (shelf : Geometry) → shelf.slots ≡ length self.now.answered.items → shelf.units ≡ units
+            → IsFaultOf shelf self.now.bytes.items self.now.answered.items e) }
+    {
+        let (slot, body) = match self.effective() {
+            Some(found) => found,
+            None => return Err(LoadFault::NoArray),
+        };
+        let slots = self.answered.len();
+        let record = read_record(alloc, body, slots as u8, units)?;
+        let drives = self.holding(&record.members.drives, slot, body);
+        if set_flags(&drives) + MISSING_MAX < slots {
+            return Err(LoadFault::TooFew(drives));
+        }
+        Ok(Loaded {
+            record,
+            slot,
+            drives,
+        })
+    }
+}
+
+/// Loads the record in force: it reads the boot units of each drive, and writes nothing.
+pub fn load<S: Shelf>(alloc: Global, shelf: &mut S) -> Result<Loaded, LoadFault>
+    ensures continues { Continues (S.shelf shelf.old) (S.shelf shelf.new) }
+    ensures same { (S.shelf shelf.old).honest → (device : Device) → IsSame ((S.shelf shelf.old).disk device) ((S.shelf shelf.new).disk device) }
+    ensures rest { S.shelf_rest shelf.old shelf.new }
+    ensures loads { (S.shelf shelf.old).honest → IsLoadOf (S.shelf shelf.old) (S.shelf shelf.new) result }
+{
+    let mut regions = Regions::new(alloc, shelf.drives())?;
+    read_regions(shelf, &mut regions);
+    regions.load(alloc, shelf.units())
+}
