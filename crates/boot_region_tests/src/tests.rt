@@ -1,5 +1,5 @@
-use boot_codec::{RECORD_BYTES, is_open_gate};
-use boot_region::{Regions, Slot, close_gates, read_regions, settle, store};
+use boot_codec::{BadRecord, RECORD_BYTES, is_open_gate};
+use boot_region::{LoadFault, Loaded, Regions, Slot, close_gates, load, read_regions, settle, store};
 use pur_base::{Device, DriveId, SECTOR_BYTES};
 use std::alloc::Global;
 use std::test::Fail;
@@ -37,6 +37,25 @@ fn store_in<S: Shelf>(
         return Err(Failed);
     }
     store(shelf, members, slot, &[byte; RECORD_BYTES]);
+    Ok(())
+}
+
+/// The header of the record of a new shelf of 11 drives of 64 units. Made by hand from docs/FORMAT.md.
+const HEADER: [u8; 88] = [
+    b'P', b'U', b'R', b'A', b'R', b'R', b'A', b'Y', 0, 0, 0, 1, 0, 11, 0, 64, // 11 slots, 64 units
+    0, 0, 0, 0, 0, 0, 0, 1, 0, 0, 7, 255, 3, 0, 0, 0, // generation 1, all members
+    0, 0, 0, 0, 0, 0, 0, 1, 0, 0, 0, 0, 0, 0, 0, 1, 0, 0, 0, 0, 0, 0, 0, 1, // the next numbers
+    0, 0, 0, 0, 0, 0, 0, 1, 0, 0, 0, 0, 0, 0, 0, 1, //
+    0, 0, 0, 0, 0, 0, 0, 0, 0, 0, 0, 0, 0, 0, 0, 88, // no patches
+];
+
+fn store_new(world: &mut MemWorld, members: &mut [bool]) -> Result<(), Failed> {
+    if members.len() > usize::from(world.drives()) {
+        return Err(Failed);
+    }
+    let mut body = [0; RECORD_BYTES];
+    body[..88].copy_from_slice(&HEADER);
+    store(world, members, Slot::B, &body);
     Ok(())
 }
 
@@ -261,5 +280,55 @@ fn a_tie_goes_to_slot_a(rt: HostRuntime) -> Result<(), Fail> {
     assert_eq!(rt; in_force(alloc, &mut world)?, Some((Slot::B, OLD)));
     store_in(&mut world, &mut members, Slot::A, OLD)?;
     assert_eq!(rt; in_force(alloc, &mut world)?, Some((Slot::A, OLD)));
+    Ok(())
+}
+
+/// Why nothing is loaded, or `None` where a record is.
+fn load_fault(alloc: Global, world: &mut MemWorld) -> Option<LoadFault> {
+    match load(alloc, world) {
+        Ok(_) => None,
+        Err(fault) => Some(fault),
+    }
+}
+
+#[test]
+fn blank_or_garbled_drives_give_no_record(rt: HostRuntime) -> Result<(), Fail> {
+    let alloc = rt.alloc();
+    let mut world = small_world(alloc)?;
+    assert_eq!(rt; load_fault(alloc, &mut world), Some(LoadFault::NoArray));
+    store_in(&mut world, &mut [true; 11], Slot::A, OLD)?;
+    let bad = BadRecord {
+        place: 0,
+        byte: OLD,
+    };
+    assert_eq!(rt; load_fault(alloc, &mut world), Some(LoadFault::BadRecord(bad)));
+    Ok(())
+}
+
+#[test]
+fn a_stored_record_is_loaded_without_two_drives(rt: HostRuntime) -> Result<(), Fail> {
+    let alloc = rt.alloc();
+    let mut world = small_world(alloc)?;
+    store_new(&mut world, &mut [true; 11])?;
+    world.pull(Device::Drive(DriveId(4)));
+    world.pull(Device::Drive(DriveId(9)));
+    let Loaded {
+        record,
+        slot,
+        drives,
+    } = match load(alloc, &mut world) {
+        Ok(loaded) => loaded,
+        Err(_) => return Err(Fail::new("not loaded")),
+    };
+    let mut held = [false; 24];
+    held[..11].fill(true);
+    held[4] = false;
+    held[9] = false;
+    assert_eq!(rt; slot, Slot::B);
+    assert_eq!(rt; record.generation, 1);
+    assert_eq!(rt; drives, held);
+    world.pull(Device::Drive(DriveId(0)));
+    held[0] = false;
+    assert_eq!(rt; load_fault(alloc, &mut world), Some(LoadFault::TooFew(held)));
     Ok(())
 }
