@@ -1,5 +1,7 @@
 use boot_codec::{BadRecord, RECORD_BYTES, is_open_gate};
-use boot_region::{LoadFault, Loaded, Regions, Slot, close_gates, load, read_regions, settle, store};
+use boot_region::{
+    LoadFault, Loaded, Regions, Slot, close_gates, load, read_regions, settle, store,
+};
 use pur_base::{Device, DriveId, SECTOR_BYTES};
 use std::alloc::Global;
 use std::test::Fail;
@@ -301,7 +303,10 @@ fn blank_or_garbled_drives_give_no_record(rt: HostRuntime) -> Result<(), Fail> {
         place: 0,
         byte: OLD,
     };
-    assert_eq!(rt; load_fault(alloc, &mut world), Some(LoadFault::BadRecord(bad)));
+    assert_eq!(rt;
+        load_fault(alloc, &mut world),
+        Some(LoadFault::BadRecord(bad))
+    );
     Ok(())
 }
 
@@ -329,6 +334,9 @@ fn a_stored_record_is_loaded_without_two_drives(rt: HostRuntime) -> Result<(), F
     assert_eq!(rt; drives, held);
     world.pull(Device::Drive(DriveId(0)));
     held[0] = false;
-    assert_eq!(rt; load_fault(alloc, &mut world), Some(LoadFault::TooFew(held)));
+    assert_eq!(rt;
+        load_fault(alloc, &mut world),
+        Some(LoadFault::TooFew(held))
+    );
     Ok(())
 }
