@@ -10,7 +10,7 @@ ghost use Rattle.boot_region.specs.Loading.{IsLoadOf, IsGiven, IsFaultOf, fault_
 use crate::{Regions, Slot, read_regions};
 use boot_codec::{BadRecord, BootRecord, DRIVE_FLAGS, ReadError, read_record};
 use pur_base::NoMemory;
-use std::alloc::{AllocError, Global};
+use std::alloc::Global;
 use world::Shelf;
 
 /// As many drives may be missing.
@@ -36,7 +36,7 @@ pub enum LoadFault {
 }
 
 /// How many flags are set.
-fn set_flags(flags: &[bool; DRIVE_FLAGS]) -> usize
+fn count_set(flags: &[bool; DRIVE_FLAGS]) -> usize
     ensures value { result ≡ set_count flags.now }
     ensures bound { result ≤ 24 }
 {
@@ -77,7 +77,7 @@ impl Regions {
         let slots = self.answered.len();
         let record = read_record(alloc, body, slots as u8, units)?;
         let drives = self.holding(&record.members.drives, slot, body);
-        if set_flags(&drives) + MISSING_MAX < slots {
+        if count_set(&drives) + MISSING_MAX < slots {
             return Err(LoadFault::TooFew(drives));
         }
         Ok(Loaded {

@@ -15,15 +15,15 @@ returns-in_err-record-clause-err c = if_err c.from_residual.result _ _ c.from_re
     (fault_of_body shelf c.args.self.now.bytes.items c.args.self.now.answered.items (slot_in c.in-Some.found.0) c.in-Some.found.1.now _ c.args.units c.in_err-record.field-0.0 (omega (arith, slots, drives)) (sym units)
     (c.in-Some.ensures.some shelf drives) c.in_err-record.ensures.exact))
 
-pub returns-then-set_flags-slots-clause-err : goal.returns-then-set_flags-slots-clause-err
-returns-then-set_flags-slots-clause-err c shelf drives units =
+pub returns-then-count_set-slots-clause-err : goal.returns-then-count_set-slots-clause-err
+returns-then-count_set-slots-clause-err c shelf drives units =
     let slots : c.len-slots.result ≡ length c.args.self.now.answered.items = search rules in
     record {
       slot = slot_in c.in-Some.found.0;
       boot = c.in_ok-record.record;
       held = held_by shelf c.args.self.now.bytes.items c.args.self.now.answered.items (slot_in c.in-Some.found.0) c.in-Some.found.1.now c.in_ok-record.record c.holding-drives.result
           c.in_ok-record.ensures.lawful (omega (arith, c.in_ok-record.ensures.shelf.0, slots, drives)) (c.in_ok-record.ensures.shelf.1 ∙ sym units) (c.in-Some.ensures.some shelf drives) c.in_ok-record.ensures.spelled c.holding-drives.ensures;
-      too_few = omega (arith, c.set_flags.ensures.value, c.if-set_flags-slots.true, slots, drives);
+      too_few = omega (arith, c.count_set.ensures.value, c.if-count_set-slots.true, slots, drives);
     }
 
 pub returns-clause-ok : goal.returns-clause-ok
@@ -32,5 +32,5 @@ returns-clause-ok c shelf drives units =
     record {
       held = held_by shelf c.args.self.now.bytes.items c.args.self.now.answered.items (slot_in c.in-Some.found.0) c.in-Some.found.1.now c.in_ok-record.record c.holding-drives.result
           c.in_ok-record.ensures.lawful (omega (arith, c.in_ok-record.ensures.shelf.0, slots, drives)) (c.in_ok-record.ensures.shelf.1 ∙ sym units) (c.in-Some.ensures.some shelf drives) c.in_ok-record.ensures.spelled c.holding-drives.ensures;
-      enough = omega (arith, c.set_flags.ensures.value, c.if-set_flags-slots.false, slots, drives);
+      enough = omega (arith, c.count_set.ensures.value, c.if-count_set-slots.false, slots, drives);
     }
