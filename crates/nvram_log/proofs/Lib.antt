@@ -10,3 +10,6 @@ pub mod Closing
 pub mod Decoded
 pub mod Gathering
 pub mod Viewed
+mod Mended
+mod Settled
+mod SettledEach

@@ -1,5 +1,5 @@
 -- Commands behind commands.
-use Rattle.std.proofs.Common.{◌≡◌, ◌⊎◌, inl, inr, ℕ, zero, suc, ◌-◌, ◌≤◌, ◌<◌, List, [], ◌∷◌, ◌++◌, length, Some, slice_get, subst, refl, arith}
+use Rattle.std.proofs.Common.{◌≡◌, ◌⊎◌, inl, inr, ℕ, zero, suc, ◌-◌, ◌≤◌, ◌<◌, List, [], ◌∷◌, ◌++◌, length, Some, take, slice_get, subst, refl, arith}
 use Rattle.pur_base.specs.Commands.{Command}
 use Rattle.nvram_log.specs.declared.record.Record.{Record}
 use Rattle.nvram_log.specs.Records.{command_of, commands_of}
@@ -33,3 +33,10 @@ pub some_at : (xs : List Command) (j : ℕ) → j < length xs → (c : Command) 
 some_at [] j lt = absurd (omega arith)
 some_at (x ∷ xs) zero lt = (x, refl)
 some_at (x ∷ xs) (suc j) lt = some_at xs j (omega arith)
+
+-- what stands in a front of a list
+pub get_front : (n : ℕ) (xs : List Command) (i : ℕ) → i < n → slice_get (take n xs) i ≡ slice_get xs i
+get_front zero xs i lt = absurd (omega (arith, lt))
+get_front (suc n) [] i lt = refl
+get_front (suc n) (x ∷ xs) zero lt = refl
+get_front (suc n) (x ∷ xs) (suc i) lt = get_front n xs i (omega (arith, lt))

@@ -1,6 +1,6 @@
 -- The view of the member devices, and the images that were read of them.
-use Rattle.std.proofs.Common.{◌≡◌, inl, inr, ℕ, ◌<◌, Bool, false, List, Some, None, slice_index_or, sym, subst, refl, arith, zero, suc}
-use Rattle.std.proofs.lemmas.Bool.{cases_Bool}
+use Rattle.std.proofs.Common.{◌≡◌, inl, inr, ℕ, ◌<◌, Bool, false, List, Some, None, slice_get, slice_index_or, sym, subst, refl, arith, zero, suc}
+use Rattle.std.proofs.lemmas.Bool.{cases_Bool, cases_lt}
 use Rattle.pur_base.specs.Commands.{Command}
 use Rattle.pur_base.specs.Devices.{nvram}
 use Rattle.log_codec.specs.declared.limits.TheConstants.{LOG_SLOTS}
@@ -10,8 +10,10 @@ use Rattle.nvram_log.specs.declared.log.NvLog.{NvLog}
 use Rattle.nvram_log.specs.declared.gather.Images.{Images}
 use Rattle.nvram_log.specs.Members.{IsMember}
 use Rattle.nvram_log.specs.Held.{shown_by}
-use Rattle.nvram_log.specs.Views.{IsShown, NoneShown, IsGathered}
+use Rattle.nvram_log.specs.Views.{IsShown, NoneShown, IsGathered, AreSeenIn}
 use Rattle.nvram_log.specs.Read.{IsReadFrom}
+use Rattle.nvram_log.specs.Seen.{AreSeen}
+use Rattle.nvram_log.specs.Settling.{AreAsSeen}
 
 module _ (shelf : Shelved) (members : List Bool) (flushed i : ℕ) (c : Command) (n : ℕ) (image : List ℕ) where
   in_view : IsMember members n → shown_by shelf members (nvram n) ≡ Some (shelf.disk (nvram n)).bytes
@@ -58,3 +60,19 @@ read_from honest shelf images log first second members gathered ends =
       shown = λ h i c is. in_slot shelf images log.flushed (first h) (second h) i c (gathered.shown i c is);
       ends = λ h lt n c two shows. none_in_slot shelf images log.flushed (first h) (second h) log.count (ends lt) n c two shows;
     })
+
+-- the flags tell what the devices show
+pub seen_from : (shelf : Shelved) (images : Images) (log : NvLog) → (IsMember images.members 0 → images.first.now ≡ (shelf.disk (nvram 0)).bytes) → (IsMember images.members 1 → images.second.now ≡ (shelf.disk (nvram 1)).bytes)
+    → log.members ≡ images.members → AreSeenIn images log.flushed log.seen → AreAsSeen shelf log
+seen_from shelf images log first second members seen n s lt is at = elim (cases_lt n 1) [
+  | inl below ↦
+      let e : 0 ≡ n = omega (arith, below) in
+      let member : IsMember images.members 0 = subst (IsMember images.members) (sym e) (subst (λ (m : List Bool). IsMember m n) members is) in
+      subst (λ (k : ℕ). AreSeen (shelf.disk (nvram k)).bytes log.flushed s) e
+      (subst (λ (l : List ℕ). AreSeen l log.flushed s) (first member) (seen.0 s (subst (λ (k : ℕ). slice_get log.seen k ≡ Some s) (sym e) at)))
+  | inr above ↦
+      let e : 1 ≡ n = omega (arith, lt, above) in
+      let member : IsMember images.members 1 = subst (IsMember images.members) (sym e) (subst (λ (m : List Bool). IsMember m n) members is) in
+      subst (λ (k : ℕ). AreSeen (shelf.disk (nvram k)).bytes log.flushed s) e
+      (subst (λ (l : List ℕ). AreSeen l log.flushed s) (second member) (seen.1 s (subst (λ (k : ℕ). slice_get log.seen k ≡ Some s) (sym e) at)))
+]

@@ -5,3 +5,5 @@ pub mod Held
 pub mod Logged
 pub mod Views
 pub mod Read
+pub mod Seen
+pub mod Settling

@@ -6,7 +6,9 @@ use Rattle.pur_base.specs.declared.limits.TheConstants.{NVRAM_BYTES}
 use Rattle.log_codec.specs.declared.limits.TheConstants.{SLOT_BYTES}
 use Rattle.log_codec.specs.Log.{Spells, ShowsIn}
 use Rattle.nvram_log.specs.declared.gather.Images.{Images}
+use Rattle.nvram_log.specs.declared.seen.SeenSlots.{SeenSlots}
 use Rattle.nvram_log.specs.Members.{IsMember}
+use Rattle.nvram_log.specs.Seen.{AreSeen}
 
 -- each has all bytes of a device
 pub record AreWhole (images : Images) : Type 0 where
@@ -34,3 +36,7 @@ pub record IsGathered (images : Images) (flushed count : ℕ) (slots : List ℕ)
   pub count_is : length commands ≡ count
   pub shown : (i : ℕ) (c : Command) → slice_get commands i ≡ Some c → IsShown images flushed i c
   pub spelled : (i : ℕ) (c : Command) → slice_get commands i ≡ Some c → Spells (bytes_at (SLOT_BYTES * i) SLOT_BYTES slots) (flushed + 1 + i) c
+
+-- the flags tell what each image shows
+abbrev pub AreSeenIn : Images → ℕ → List SeenSlots → Type 0
+AreSeenIn images flushed seen = ((s : SeenSlots) → slice_get seen 0 ≡ Some s → AreSeen images.first.now flushed s) × ((s : SeenSlots) → slice_get seen 1 ≡ Some s → AreSeen images.second.now flushed s)

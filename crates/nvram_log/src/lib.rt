@@ -9,8 +9,11 @@ mod gates;
 mod gather;
 mod log;
 mod members;
+mod mending;
 mod read;
 mod record;
+mod seen;
+mod settle;
 mod slots;
 mod staging;
 

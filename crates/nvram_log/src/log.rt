@@ -2,6 +2,7 @@
 ghost use Rattle.std.specs.Prelude.{◌≡◌, ◌≤◌, ◌<◌, ◌+◌, ◌*◌, ◌^◌, length};
 ghost use Rattle.log_codec.specs.declared.limits.TheConstants.{LOG_SLOTS, SLOT_BYTES};
 
+use crate::seen::SeenSlots;
 use log_codec::LOG_SLOTS;
 use pur_base::NVRAM_DEVICES;
 
@@ -17,6 +18,8 @@ pub struct NvLog {
     pub(crate) count: usize,
     /// All slots, one behind another. Those of the log begin with a head.
     pub(crate) slots: Vec<u8>,
+    /// What each member showed when the log was read.
+    pub(crate) seen: [SeenSlots; DEVICES],
     ghost room: { count ≤ LOG_SLOTS },
     ghost numbers: { flushed + count < 2 ^ 64 },
     ghost size: { length slots.items ≡ SLOT_BYTES * LOG_SLOTS },

@@ -8,7 +8,7 @@ ghost use Rattle.world.specs.Shelf.{Continues, IsSame};
 ghost use Rattle.world.specs.Writes.{WritesOnly};
 ghost use Rattle.nvram_log.specs.Members.{IsFewer, IsMember, IsSome};
 ghost use Rattle.log_codec.specs.declared.limits.TheConstants.{LOG_SLOTS, SLOT_BYTES};
-ghost use Rattle.nvram_log.specs.Views.{AreWhole, IsGathered, NoneShown};
+ghost use Rattle.nvram_log.specs.Views.{AreWhole, AreSeenIn, IsGathered, NoneShown};
 ghost use Rattle.nvram_log.specs.Read.{OnNothing, DroppedCounted};
 
 use crate::NvLog;
@@ -16,6 +16,7 @@ use crate::bodies::SLOT;
 use crate::gather::{Images, gather};
 use crate::log::DEVICES;
 use crate::members::has_any;
+use crate::seen::seen_in;
 use log_codec::LOG_SLOTS;
 use pur_base::{Device, NVRAM_BYTES, NvId};
 use std::alloc::{AllocError, Global};
@@ -74,14 +75,20 @@ fn log_of(mut slots: Vec<u8>, images: &Images, flushed: u64) -> NvLog
     ensures members { result.members ≡ images.now.members }
     ensures gathered { IsGathered images.now flushed result.count result.slots.items }
     ensures ends { result.count < LOG_SLOTS → NoneShown images.now flushed result.count }
+    ensures seen { AreSeenIn images.now flushed result.seen }
 {
     let members = images.members;
+    let seen = [
+        seen_in(images.first, flushed),
+        seen_in(images.second, flushed),
+    ];
     let count = gather(&mut slots, images, flushed);
     NvLog {
         members,
         flushed,
         count,
         slots,
+        seen,
     }
 }
 
@@ -95,6 +102,7 @@ fn blank(alloc: Global, count: usize) -> Result<Vec<u8>, AllocError>
 impl NvLog {
     ghost use Rattle.nvram_log.specs.Held.{shown_by};
     ghost use Rattle.nvram_log.specs.Read.{IsReadFrom, AllFailed};
+    ghost use Rattle.nvram_log.specs.Settling.{AreAsSeen};
 
     /// Reads the log that the member devices show behind the flushed commands, each device by one read. One that fails is dropped.
     pub fn read<S: Shelf>(
@@ -111,6 +119,7 @@ impl NvLog {
         ensures members { IfOk result (λ log. IsFewer members log.members × IsSome log.members) }
         ensures dropped { IfOk result (λ log. DroppedCounted (S.shelf shelf.old) (S.shelf shelf.new) members log.members) }
         ensures log { IfOk result (λ log. IsReadFrom (S.shelf shelf.old).honest (shown_by (S.shelf shelf.new) log.members) log) }
+        ensures seen { (S.shelf shelf.old).honest → IfOk result (λ log. AreAsSeen (S.shelf shelf.new) log) }
         ensures err { IfErr result (λ fault. AllFailed fault (S.shelf shelf.old) (S.shelf shelf.new) members) }
     {
         let Ok(slots) = blank(alloc, SLOT * LOG_SLOTS) else {

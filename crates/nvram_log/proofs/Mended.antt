@@ -1,0 +1,61 @@
+-- Some gates and slots of one device are written, one after another.
+use Rattle.std.proofs.Common.{◌≡◌, inl, inr, ℕ, ◌+◌, ◌*◌, ◌<◌, List, [], ◌∷◌, length, Bool, Result, Ok, Err, OnOk, slice_index, slice_range, sym, ◌∙◌, ap, subst, arith}
+use Rattle.std.proofs.lemmas.Bool.{cases_lt}
+use Rattle.std.proofs.lemmas.List.Edits.{get_or-between}
+use Rattle.pur_base.specs.Bytes.{bytes_at}
+use Rattle.pur_base.specs.declared.device.Device.{Device}
+use Rattle.pur_base.specs.declared.limits.TheConstants.{NVRAM_BYTES}
+use Rattle.log_codec.specs.Log.{slot_at}
+use Rattle.world.specs.declared.streams.Failed.{Failed}
+use Rattle.world.specs.Shelf.{Disk, Written, WrittenIfOk}
+use Rattle.world.specs.Writes.{OneRange, ChangesOnly}
+use Rattle.nvram_log.specs.Records.{slot_place}
+use Rattle.nvram_log.specs.Settling.{IsFlagged, OnGates, OnSlots}
+use Rattle.nvram_log.proofs.Staged.{at_range}
+use Rattle.nvram_log.proofs.Showing.{same_slot}
+
+pub gate_in : (device : Device) (flags : List Bool) (slot : ℕ) → slot < 64 → IsFlagged flags slot → (d : Device) (i : ℕ) → OneRange device slot 1 d i → OnGates device flags d i
+gate_in device flags slot lt is d i w =
+    let e : i ≡ slot = omega (arith, w.1.0, w.1.1) in
+    (w.0, omega (arith, e, lt), subst (IsFlagged flags) (sym e) is)
+
+pub slot_in : (device : Device) (flags : List Bool) (slot : ℕ) → slot < 64 → IsFlagged flags slot → (d : Device) (i : ℕ) → OneRange device (slot_place slot) 33280 d i → OnSlots device flags d i
+slot_in device flags slot lt is d i w = (w.0, record { slot = slot; below = lt; flagged = is; within = w.1 })
+
+-- one gate more
+pub gate_more : (a b : Disk) (device : Device) (flags : List Bool) (gate i : ℕ) → ChangesOnly (OneRange device i 1 device) a b → slice_index b.bytes i ≡ gate
+    → ((k : ℕ) → k < i → IsFlagged flags k → slice_index a.bytes k ≡ gate) → (k : ℕ) → k < i + 1 → IsFlagged flags k → slice_index b.bytes k ≡ gate
+gate_more a b device flags gate i changes here stood k lt is = elim (cases_lt k i) [
+  | inl below ↦ changes.bytes k (λ w. omega (arith, w.1.0, below)) ∙ stood k below is
+  | inr above ↦ let e : i ≡ k = omega (arith, lt, above) in subst (λ (n : ℕ). slice_index b.bytes n ≡ gate) e here
+]
+
+-- one slot more
+pub slot_more : (a b : Disk) (device : Device) (flags : List Bool) (slots : List ℕ) (i : ℕ) → length a.bytes ≡ NVRAM_BYTES → i < 64 → ChangesOnly (OneRange device (slot_place i) 33280 device) a b
+    → slot_at i b.bytes ≡ bytes_at (33280 * i) 33280 slots
+    → ((k : ℕ) → k < i → IsFlagged flags k → slot_at k a.bytes ≡ bytes_at (33280 * k) 33280 slots) → (k : ℕ) → k < i + 1 → IsFlagged flags k → slot_at k b.bytes ≡ bytes_at (33280 * k) 33280 slots
+slot_more a b device flags slots i size lt changes here stood k below is = elim (cases_lt k i) [
+  | inl before ↦
+      same_slot a.bytes b.bytes k (record { old = size; new = changes.size }) (omega (arith, lt, before)) (λ o from to. changes.bytes o (λ w. omega (arith, w.1.0, to, before)))
+      ∙ stood k before is
+  | inr after ↦ let e : i ≡ k = omega (arith, below, after) in subst (λ (n : ℕ). slot_at n b.bytes ≡ bytes_at (33280 * n) 33280 slots) e here
+]
+
+-- what was written of a gate
+pub gate_is : (i gate : ℕ) (old new : List ℕ) → Written i (gate ∷ []) old new → i < length old → slice_index new i ≡ gate
+gate_is i gate old new written lt =
+    let at : slice_index (slice_range new i (i + 1)) 0 ≡ slice_index new (i + 0) = get_or-between new i (i + 1) 0 0 (omega arith) in
+    ap (λ (n : ℕ). slice_index new n) (let e : i ≡ i + 0 = omega arith in e) ∙ sym at ∙ ap (λ (l : List ℕ). slice_index l 0) written.within
+
+-- and of a slot
+pub slot_is : (i : ℕ) (slots old new : List ℕ) → length (slice_range slots (33280 * i) (33280 * i + 33280)) ≡ 33280 → Written (slot_place i) (slice_range slots (33280 * i) (33280 * i + 33280)) old new
+    → slot_at i new ≡ bytes_at (33280 * i) 33280 slots
+slot_is i slots old new long written =
+    at_range (slot_place i) 33280 new
+    ∙ ap (λ (n : ℕ). slice_range new (slot_place i) (slot_place i + n)) (sym long)
+    ∙ written.within ∙ sym (at_range (33280 * i) 33280 slots)
+
+-- what follows from a write follows where it was Ok
+pub where_written : (P : Type 0) (answer : Result (Unit {0}) Failed) (start : ℕ) (from old new : List ℕ) → WrittenIfOk answer start from old new → (Written start from old new → P) → OnOk answer P
+where_written P (Ok u) start from old new is f = f is
+where_written P (Err e) start from old new is f = tt

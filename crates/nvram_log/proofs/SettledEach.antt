@@ -1,0 +1,95 @@
+-- The log is settled on one member after another.
+use Rattle.std.proofs.Common.{◌≡◌, ◌≢◌, inl, inr, ℕ, ◌+◌, ◌<◌, ◌≤◌, Bool, List, [], length, Some, slice_get, slice_index, get_or, take, sym, ◌∙◌, subst, arith}
+use Rattle.std.proofs.lemmas.Bool.{cases_lt}
+use Rattle.std.proofs.lemmas.Option.{get_or_from_slice_get, slice_get-get_or, slice_get_within}
+use Rattle.std.proofs.lemmas.List.{length-take}
+use Rattle.pur_base.specs.Commands.{Command}
+use Rattle.pur_base.specs.Devices.{nvram}
+use Rattle.pur_base.specs.declared.device.Device.{Device}
+use Rattle.log_codec.specs.Log.{Spells}
+use Rattle.nvram_log.specs.declared.log.NvLog.{NvLog}
+use Rattle.nvram_log.specs.Held.{Keeps, slot_in}
+use Rattle.world.specs.Shelf.{Shelved, Stop, Disk, MayLeave, LeavesOnly}
+use Rattle.world.specs.Writes.{MayLeaveBut}
+use Rattle.nvram_log.specs.declared.seen.SeenSlots.{SeenSlots}
+use Rattle.nvram_log.specs.Members.{IsMember, OnMembers}
+use Rattle.nvram_log.specs.Settling.{OnDevice, SettlesBy, IsToSettle, AreToSettle, AreAsSeen, Agree}
+use Rattle.nvram_log.proofs.Lists.{get_front}
+use Rattle.nvram_log.proofs.Storing.{none_dirty}
+use Rattle.nvram_log.proofs.Showing.{same_gate, same_slot, shows_too}
+
+abbrev pub blank : SeenSlots
+blank = record { «open» = []; shown = [] }
+
+-- two things at once are true of each stop
+pub both_leave : {a b : Shelved} {P Q : Stop → Type 0} → LeavesOnly a b P → LeavesOnly a b Q → LeavesOnly a b (λ stop. P stop × Q stop)
+both_leave p q = record {
+  quiet = p.quiet;
+  each = λ stop left. ((p.each stop left).0, ((p.each stop left).1, (q.each stop left).1));
+  before = λ t stop le left. elim (p.before t stop le left) [
+    | inl was ↦ inl was
+    | inr x ↦ elim (q.before t stop le left) [
+      | inl was ↦ inl was
+      | inr y ↦ inr (x.0, (x.1, y.1))
+    ]
+  ];
+}
+
+-- what may be left before anything is written
+pub nothing_settled : (d0 : Disk) (flushed : ℕ) (commands : List Command) (x : List ℕ) → length d0.bytes ≡ 2134016 → MayLeave d0 x → SettlesBy d0 flushed commands x
+nothing_settled d0 flushed commands x size may = record {
+  was = x;
+  may = may;
+  size = may.size;
+  no_other = λ i c shows. inr shows;
+  still = λ clean i c lt shows.
+      let same : (k : ℕ) → slice_index x k ≡ slice_index d0.bytes k = λ k. may.clean k (none_dirty d0 clean k) in
+      shows_too d0.bytes x flushed i c (same_gate d0.bytes x i (same i)) (same_slot d0.bytes x i (record { old = size; new = may.size }) shows.slot (λ k from to. same k)) shows;
+}
+
+pub but_elsewhere : (device d : Device) (disk : Disk) (x : List ℕ) → d ≢ device → MayLeaveBut (OnDevice device d) disk x → MayLeave disk x
+but_elsewhere device d disk x apart but = record { size = but.size; is_byte = but.is_byte; clean = λ i nd. but.same i nd apart }
+
+pub on_members : (members : List Bool) (n : ℕ) → IsMember members n → (d : Device) (i : ℕ) → OnDevice (nvram n) d i → OnMembers members d i
+on_members members n is d i e = subst (λ (x : Device). OnMembers members x i) (sym e) is
+
+-- what is known of a device that was passed
+pub record Passed (honest : Type 0) (was : Type 0) (old new : Disk) (seen : List SeenSlots) (n : ℕ) (slots : List ℕ) (count : ℕ) : Type 0 where
+  pub later : honest → was → (flushed : ℕ) (commands : List Command) (s : SeenSlots) → length commands ≡ count → slice_get seen n ≡ Some s → IsToSettle old.bytes flushed s slots commands
+      → (bytes : List ℕ) → MayLeave new bytes → SettlesBy old flushed commands bytes
+
+-- flags stand for each of the two devices
+pub settles_with : (seen : List SeenSlots) (n : ℕ) → n < length seen → (s : SeenSlots) × (slice_get seen n ≡ Some s)
+settles_with seen n lt = (get_or seen n blank, slice_get-get_or seen n blank lt)
+
+-- those of a device, in either way of reading the list
+pub seen_at : (bytes : List ℕ) (seen : List SeenSlots) (n : ℕ) (s : SeenSlots) (flushed : ℕ) (slots : List ℕ) (commands : List Command) → slice_get seen n ≡ Some s
+    → IsToSettle bytes flushed s slots commands → IsToSettle bytes flushed (get_or seen n blank) slots commands
+seen_at bytes seen n s flushed slots commands at is = subst (λ (x : SeenSlots). IsToSettle bytes flushed x slots commands) (sym (get_or_from_slice_get seen n s blank at)) is
+
+-- one of two devices is that one, or is before it, or after it
+pub each_settles : {P : Type 0} (n slot : ℕ) → n < 2 → slot < 2 → (n ≡ slot → P) → (n < slot → P) → (slot < n → P) → P
+each_settles n slot lt two same below above = elim (cases_lt n slot) [
+  | inl less ↦ below less
+  | inr ge ↦ elim (cases_lt slot n) [
+    | inl more ↦ above more
+    | inr le ↦ same (omega (arith, ge, le))
+  ]
+]
+
+-- what is kept in memory of the first commands
+pub kept_front : (log : NvLog) (count : ℕ) (commands : List Command) → Keeps log commands → count ≤ log.count
+    → (length (take count commands) ≡ count) × ((i : ℕ) (c : Command) → slice_get (take count commands) i ≡ Some c → Spells (slot_in log i) (log.flushed + 1 + i) c)
+kept_front log count commands keeps le =
+    let size : length (take count commands) ≡ count = omega (arith, length-take count commands, keeps.count, le) in (
+      size,
+      λ i c at. let lt : i < count = omega (arith, slice_get_within (take count commands) i c at, size) in
+          keeps.each i c (sym (get_front count commands i lt) ∙ at),
+    )
+
+-- what is known of each member
+pub are_to_settle : (shelf : Shelved) (log : NvLog) (count : ℕ) (commands : List Command) → Keeps log commands → count ≤ log.count → count ≤ 64 → AreAsSeen shelf log
+    → Agree shelf log.members log.flushed (take count commands) → AreToSettle shelf log.members log.flushed log.seen log.slots.items (take count commands)
+are_to_settle shelf log count commands keeps le few seen agree n s lt is at =
+    let front = kept_front log count commands keeps le in
+    record { room = omega (arith, front.0, few); shown = seen n s lt is at; spelled = front.1; agrees = λ i c. agree n i c lt is }

@@ -1,0 +1,21 @@
+use Rattle.std.proofs.Common.{◌≡◌, ℕ, ◌<◌, slice_index}
+use Rattle.pur_base.specs.Devices.{nvram}
+use Rattle.world.specs.Shelf.{Continues, OthersStay}
+use Rattle.world.specs.Writes.{WritesOnly}
+use Rattle.nvram_log.specs.Settling.{IsFlagged, OnGates}
+use Rattle.nvram_log.proofs.mending.write_some_gates.Given as goal
+
+abbrev pub invariant-loop-i : goal.invariant-loop-i
+invariant-loop-i g l =
+    let a = g.S.Shelf.shelf l.initial.shelf in
+    let b = g.S.Shelf.shelf l.shelf in
+    let device = nvram l.device.0 in
+    record {
+      continues : Continues a b;
+      rest : g.S.Shelf.shelf_rest l.initial.shelf l.shelf;
+      writes : a.honest → WritesOnly (OnGates device l.flags) a b;
+      others : OthersStay device a b;
+      faults : (b.disk device).faults ≡ (a.disk device).faults;
+      write_faults : (b.disk device).write_faults ≡ (a.disk device).write_faults;
+      stood : a.honest → (k : ℕ) → k < l.i → IsFlagged l.flags k → slice_index (b.disk device).bytes k ≡ l.gate;
+    }

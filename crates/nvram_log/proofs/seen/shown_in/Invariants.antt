@@ -1,0 +1,11 @@
+use Rattle.std.proofs.Common.{◌≡◌, ℕ, length, ◌<◌, true, slice_index_or, false}
+use Rattle.pur_base.specs.Commands.{Command}
+use Rattle.log_codec.specs.Log.{ShowsIn}
+use Rattle.nvram_log.proofs.seen.shown_in.Given as goal
+
+abbrev pub invariant-loop-i : goal.invariant-loop-i
+invariant-loop-i l = record {
+  size : length l.shown ≡ 64;
+  some : (k : ℕ) → k < l.i → slice_index_or l.shown k false ≡ true → (c : Command) × ShowsIn l.image l.flushed k c;
+  none : (k : ℕ) → k < l.i → slice_index_or l.shown k false ≡ false → (c : Command) → ¬ (ShowsIn l.image l.flushed k c);
+}
