@@ -13,7 +13,7 @@ enum { RECORD_BYTES = 65536, HEADER_BYTES = 88, SHARDS = 9, LISTED = 600, FACTS 
 
 uint8_t boot_bench_read(const uint8_t bytes[RECORD_BYTES], uint8_t slots, uint16_t units);
 
-static _Alignas(64) uint8_t fresh[RECORD_BYTES], patches[RECORD_BYTES], fours[RECORD_BYTES], fives[RECORD_BYTES], segments[RECORD_BYTES], refused[RECORD_BYTES], copy[RECORD_BYTES];
+static _Alignas(64) uint8_t fresh[RECORD_BYTES], patches[RECORD_BYTES], refused[RECORD_BYTES], copy[RECORD_BYTES];
 
 /* Writes a number of that many bytes, the greatest first, and returns the place after it. */
 static uint8_t *put(uint8_t *at, int bytes, uint64_t number) {
@@ -104,14 +104,21 @@ static void measure(const char *name, const uint8_t *of, int expected) {
     printf("%-30s %8.2f us, copy ratio %6.1f, scan ratio %6.1f\n", name, median(ours), median(copies), median(scans));
 }
 
+/* As many patches of so many segments each as a record has room for. */
+static void measure_patches(int each) {
+    char name[64];
+    int count = LISTED / each;
+    make(patches, count, each);
+    snprintf(name, sizeof name, "%d of %d segments", count, each);
+    measure(name, patches, 0);
+}
+
 int main(void) {
-    make(fresh, 0, 0), make(patches, LISTED, 1), make(fours, LISTED / 4, 4), make(fives, LISTED / 5, 5), make(segments, 1, LISTED), make(refused, 0, 0);
+    make(fresh, 0, 0), make(refused, 0, 0);
     refused[RECORD_BYTES - 1] = 1;
     measure("new shelf", fresh, 0);
-    measure("600 patches of one segment", patches, 0);
-    measure("150 patches of four segments", fours, 0);
-    measure("120 patches of five segments", fives, 0);
-    measure("one patch of 600 segments", segments, 0);
+    for (int each = 1; each <= 12; each++) measure_patches(each);
+    measure_patches(LISTED);
     measure("refused at its last byte", refused, 1);
     return 0;
 }

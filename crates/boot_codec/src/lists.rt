@@ -59,18 +59,17 @@ fn places_at_once(bytes: &[u8], slots: u8, units: u16, into: &mut Places) -> boo
     ensures { IsTrue result → places_from slots units 0 SEGMENT_SHARDS bytes.now ≡ Ok (into.new, drop PLACES_BYTES bytes.now) }
 {
     let mut least = 0;
+    let mut lawful = true;
     for shard in 0..SEGMENT_SHARDS {
         let at = PLACE_BYTES * shard;
         let slot = bytes[at];
         let unit = u16::from_be_bytes([bytes[at + 1], bytes[at + 2]]);
         let place = Place { slot, unit };
-        if !is_place_from(place, slots, units, least) {
-            return false;
-        }
+        lawful &= is_place_from(place, slots, units, least);
         into[shard] = place;
         least = slot as u16 + 1;
     }
-    true
+    lawful
 }
 
 /// Whether a lawful segment stands there, which it reads then. It looks for no fault.

@@ -28,7 +28,7 @@ impl Default for PatchSegment {
 }
 
 /// How many segments of a patch need no allocation.
-const INLINE: usize = 4;
+const INLINE: usize = 5;
 
 /// The segments of a patch. The first few of them need no allocation. Contracts see the list of them.
 #[derive(Drop)]

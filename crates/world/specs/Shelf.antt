@@ -2,7 +2,8 @@
 use Rattle.std.specs.Prelude.{◌≡◌, ◌≢◌, ◌⊎◌, ◌<◌, ◌≤◌, ◌+◌, ◌*◌, ◌-◌, ◌^◌, ◌%◌, ℕ, List, [], ◌∷◌, ◌++◌, length, slice_index, slice_range, Result, Ok, Err}
 use Rattle.pur_base.specs.declared.device.Device.{Device}
 use Rattle.pur_base.specs.declared.device.Device.TheVariants.{Drive, Nv}
-use Rattle.pur_base.specs.declared.limits.TheConstants.{SECTOR_BYTES, UNIT_BYTES, NVRAM_BYTES, NVRAM_DEVICES, SLOTS_MIN, SLOTS_MAX, UNITS_MIN, UNITS_MAX}
+use Rattle.pur_base.specs.declared.limits.TheConstants.{SECTOR_BYTES, NVRAM_DEVICES, SLOTS_MIN, SLOTS_MAX, UNITS_MIN, UNITS_MAX}
+use Rattle.pur_base.specs.Devices.{Image, size_of as size_in}
 use Rattle.world.specs.declared.streams.Failed.{Failed}
 use Rattle.world.specs.declared.shelf.Span.{Span}
 use Rattle.world.specs.Counts.{Counts}
@@ -25,10 +26,6 @@ pub record Disk : Type 0 where
   -- its calls that failed, and its writes and syncs that failed
   pub faults : ℕ
   pub write_faults : ℕ
-
--- the bytes of each device
-abbrev pub Image : Type 0
-Image = Device → List ℕ
 
 -- what a stop leaves, and what had been by then
 pub record Stop : Type 0 where
@@ -79,8 +76,7 @@ pub record MayStop (shelf : Shelved) (stop : Stop) : Type 0 where
 
 -- how many bytes the device has
 abbrev pub size_of : Shelved → Device → ℕ
-size_of shelf (Drive d) = UNIT_BYTES * shelf.units
-size_of shelf (Nv n) = NVRAM_BYTES
+size_of shelf device = size_in (record { slots = shelf.drives; units = shelf.units }) device
 
 -- the shelf has that device
 abbrev pub IsOf : Shelved → Device → Type 0

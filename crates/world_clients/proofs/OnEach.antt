@@ -4,7 +4,8 @@ use Rattle.pur_base.specs.declared.device.Device.{Device}
 use Rattle.world.specs.declared.streams.Failed.{Failed}
 use Rattle.world.specs.Shelf.{Disk, Written, WriteCounts}
 use Rattle.world.specs.Writes.{OneRange}
-use Rattle.world_clients.specs.Members.{drive, IsMember, OnMembers, Outcome}
+use Rattle.pur_base.specs.Devices.{drive}
+use Rattle.world_clients.specs.Members.{IsMember, OnMembers, Outcome}
 
 pub range_on_members : (members : List Bool) (slot at n : ℕ) → IsMember members slot → (d : Device) (i : ℕ) → OneRange (drive slot) at n d i → OnMembers members at n d i
 range_on_members members slot at n member d i w = subst (λ (x : Device). OnMembers members at n x i) (sym w.0) (member, w.1)

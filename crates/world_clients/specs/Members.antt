@@ -2,12 +2,9 @@
 use Rattle.std.specs.Prelude.{◌≡◌, ◌⊎◌, ℕ, List, [], Bool, true, false, slice_index_or}
 use Rattle.pur_base.specs.declared.device.Device.{Device}
 use Rattle.pur_base.specs.declared.device.Device.TheVariants.{Drive, Nv}
+use Rattle.pur_base.specs.Devices.{drive}
 use Rattle.world.specs.Counts.{Rises}
 use Rattle.world.specs.Shelf.{Disk, IsIn, Written}
-
--- the drive of a slot
-abbrev pub drive : ℕ → Device
-drive d = Drive (record { 0 = d })
 
 -- whether a drive is a member
 abbrev pub IsMember : List Bool → ℕ → Type 0

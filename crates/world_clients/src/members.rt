@@ -3,7 +3,8 @@ ghost use Rattle.std.specs.Prelude.{◌≡◌, ℕ, ◌+◌, ◌*◌, ◌%◌, �
 ghost use Rattle.pur_base.specs.declared.limits.TheConstants.{SECTOR_BYTES, UNIT_BYTES};
 ghost use Rattle.world.specs.Shelf.{Continues};
 ghost use Rattle.world.specs.Writes.{WritesOnly};
-ghost use Rattle.world_clients.specs.Members.{drive, IsMember, OnMembers, Outcome};
+ghost use Rattle.pur_base.specs.Devices.{drive};
+ghost use Rattle.world_clients.specs.Members.{IsMember, OnMembers, Outcome};
 
 use pur_base::{Device, DriveId};
 use world::{Shelf, write_synced};

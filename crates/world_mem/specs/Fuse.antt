@@ -1,8 +1,9 @@
 -- A world whose calls all fail from some call on: its own failures count besides those of the world within.
-use Rattle.std.specs.Prelude.{◌≡◌, ◌⊎◌, ℕ, ◌+◌, ◌-◌, ◌<◌, ◌≤◌, ◌^◌, Bool, true, false, min, List, length, slice_index_or}
+use Rattle.std.specs.Prelude.{◌≡◌, ◌⊎◌, ℕ, ◌+◌, ◌-◌, ◌<◌, ◌≤◌, ◌^◌, Bool, true, false, List, length, slice_index_or}
 use Rattle.pur_base.specs.declared.device.Device.{Device}
 use Rattle.pur_base.specs.declared.device.Device.TheVariants.{Drive, Nv}
 use Rattle.world.specs.Shelf.{Disk, Shelved, Stop, MayLeave}
+use Rattle.world.specs.Counts.{capped}
 use Rattle.world.specs.Streams.{Streamed}
 use Rattle.world_mem.specs.declared.extra.Extra.{Extra}
 
@@ -18,10 +19,6 @@ extra_of drives nvram (Nv n) = slice_index_or nvram n.0 none
 abbrev pub IsListed : List Extra → List Extra → Device → Type 0
 IsListed drives nvram (Drive d) = d.0 < length drives
 IsListed drives nvram (Nv n) = n.0 < length nvram
-
--- counts end there
-abbrev pub capped : ℕ → ℕ
-capped n = min n (2 ^ 64 - 1)
 
 abbrev pub with_extra : Disk → Extra → Disk
 with_extra disk e = record { bytes = disk.bytes; dirty = disk.dirty; faults = capped (disk.faults + e.faults); write_faults = capped (disk.write_faults + e.write_faults) }

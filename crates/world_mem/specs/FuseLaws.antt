@@ -7,7 +7,8 @@ use Rattle.world.specs.Streams.{Streamed, SameStream}
 use Rattle.world.proofs.Rests.{no_output, nothing_taken}
 use Rattle.world.proofs.Moments.{front_refl}
 use Rattle.world_mem.specs.declared.extra.Extra.{Extra}
-use Rattle.world_mem.specs.Fuse.{Fuse, fused, fused_disk, fused_stream, capped, tick, StopsNow, IsWhole, SameFuse, CutOff}
+use Rattle.world.specs.Counts.{capped}
+use Rattle.world_mem.specs.Fuse.{Fuse, fused, fused_disk, fused_stream, tick, StopsNow, IsWhole, SameFuse, CutOff}
 
 capped_end : (n : ℕ) → capped n ≤ 2 ^ 64 - 1
 capped_end n = omega arith

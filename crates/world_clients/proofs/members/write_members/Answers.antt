@@ -2,7 +2,8 @@ use Rattle.std.proofs.Common.{◌≢◌, ◌<◌, length, arith, sym, ◌∙◌,
 use Rattle.world.proofs.Moments.{continues_trans}
 use Rattle.world.proofs.Writes.{writes_then, writes_more}
 use Rattle.pur_base.proofs.Devices.{drives_apart}
-use Rattle.world_clients.specs.Members.{drive, IsMember}
+use Rattle.pur_base.specs.Devices.{drive}
+use Rattle.world_clients.specs.Members.{IsMember}
 use Rattle.world_clients.proofs.OnEach.{range_on_members, outcome_of}
 use Rattle.world_clients.proofs.members.write_members.Goals as goal
 use Rattle.world_clients.proofs.members.write_members.Goals.{then-members-slot, else-members-slot}
