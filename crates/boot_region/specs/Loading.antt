@@ -1,6 +1,7 @@
 -- What is loaded, by the boot units that were read.
 use Rattle.std.specs.Prelude.{◌≡◌, ◌+◌, ◌<◌, ◌≤◌, ◌&&◌, ℕ, Bool, false, List, length, slice_index_or, Result, Ok, Err, ⊤}
-use Rattle.pur_base.specs.Devices.{Geometry}
+use Rattle.pur_base.specs.Devices.{Geometry, Conditions, IsBearable}
+use Rattle.pur_base.specs.Plain.{Array}
 use Rattle.boot_codec.specs.declared.bad_record.BadRecord.{BadRecord}
 use Rattle.boot_codec.specs.declared.bad_record.ReadError.{ReadError}
 use Rattle.boot_codec.specs.declared.bad_record.ReadError.TheVariants as errors
@@ -16,6 +17,7 @@ use Rattle.boot_region.specs.declared.loading.LoadFault.{LoadFault}
 use Rattle.boot_region.specs.declared.loading.LoadFault.TheVariants as faults
 use Rattle.boot_region.specs.Regions.{seen, is_holding, GivesNone, IsRead}
 use Rattle.boot_region.specs.Slots.{slot_in}
+use Rattle.boot_region.specs.Storing.{SoundAreMembers, AreClean, StandsNow, IsLoaded, IsFound}
 
 -- the fault of a record that can't be read
 abbrev pub fault_of : ReadError → LoadFault
@@ -75,3 +77,14 @@ pub record IsLoadBy (old new : Shelved) (result : Result Loaded LoadFault) : Typ
 abbrev pub IsLoadOf : Shelved → Shelved → Result Loaded LoadFault → Type 0
 IsLoadOf old new (Err (faults.Memory m)) = ⊤
 IsLoadOf old new result = IsLoadBy old new result
+
+-- what is known of the devices after the loading: each drive that isn't missing is one of those that hold the record, and nothing is dirty on it
+pub record TellsHolding (shelf : Shelved) (drives : List Bool) (missing : Conditions) : Type 0 where
+  pub bearable : IsBearable (geometry_of shelf) missing
+  pub holding : SoundAreMembers shelf missing drives
+  pub clean : AreClean shelf missing drives
+
+-- then the record may be settled: it was seen in force, and it stands on them
+abbrev pub MayBeSettled : Shelved → Loaded → Type 0
+MayBeSettled shelf x = (missing : Conditions) (arrays : List Array) → TellsHolding shelf x.drives missing → StandsNow shelf missing arrays
+    → IsLoaded shelf x.drives missing (slot_in x.slot) x.record arrays × IsFound shelf x.drives missing (slot_in x.slot) x.record

@@ -5,7 +5,7 @@ ghost use Rattle.pur_base.specs.declared.device.Device.{Device};
 ghost use Rattle.world.specs.Shelf.{Continues, IsSame};
 ghost use Rattle.boot_codec.specs.Record.{set_count};
 ghost use Rattle.boot_region.specs.declared.loading.LoadFault.TheVariants as faults;
-ghost use Rattle.boot_region.specs.Loading.{IsLoadOf, IsGiven, IsFaultOf, fault_of};
+ghost use Rattle.boot_region.specs.Loading.{IsLoadOf, IsGiven, IsFaultOf, MayBeSettled, fault_of};
 
 use crate::{Regions, Slot, read_regions};
 use boot_codec::{BadRecord, BootRecord, DRIVE_FLAGS, ReadError, read_record};
@@ -94,6 +94,8 @@ pub fn load<S: Shelf>(alloc: Global, shelf: &mut S) -> Result<Loaded, LoadFault>
     ensures same { (S.shelf shelf.old).honest → (device : Device) → IsSame ((S.shelf shelf.old).disk device) ((S.shelf shelf.new).disk device) }
     ensures rest { S.shelf_rest shelf.old shelf.new }
     ensures loads { (S.shelf shelf.old).honest → IsLoadOf (S.shelf shelf.old) (S.shelf shelf.new) result }
+    // What was loaded may be settled.
+    ensures found { (S.shelf shelf.old).honest → IfOk result (λ x. MayBeSettled (S.shelf shelf.new) x) }
 {
     let mut regions = Regions::new(alloc, shelf.drives())?;
     read_regions(shelf, &mut regions);

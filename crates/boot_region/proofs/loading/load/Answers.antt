@@ -1,5 +1,6 @@
 use Rattle.std.proofs.Common.{◌∙◌, sym}
 use Rattle.world.specs.Losing.{geometry_of}
+use Rattle.boot_region.proofs.FoundLemmas.{may_be_settled}
 use Rattle.boot_region.proofs.LoadingLemmas.{answer_of, loaded_by}
 use Rattle.boot_region.proofs.loading.load.Goals as goal
 
@@ -11,3 +12,13 @@ returns-clause-loads g c honest =
     loaded_by a n r.bytes.items r.answered.items c.load.result (c.read_regions.ensures.drives ∙ c.read_regions.ensures.continues.drives) (c.read_regions.ensures.read honest)
     (answer_of (geometry_of a) r.bytes.items r.answered.items c.units.result c.load.result c.load.ensures.ok c.load.ensures.err
     (sym (c.read_regions.ensures.drives ∙ c.read_regions.ensures.continues.drives)) (sym (c.units.ensures ∙ c.read_regions.ensures.continues.units)))
+
+pub returns-clause-found : goal.returns-clause-found
+returns-clause-found g c h =
+    let a = g.S.Shelf.shelf c.args.shelf.now in
+    let n = g.S.Shelf.shelf c.read_regions.new.shelf in
+    let r = c.read_regions.new.regions in
+    may_be_settled a n c.load.result (g.met.S.Shelf.is_shelf c.args.shelf.now) (g.met.S.Shelf.is_shelf c.read_regions.new.shelf) h c.read_regions.ensures.continues (c.read_regions.ensures.same h)
+    (loaded_by a n r.bytes.items r.answered.items c.load.result (c.read_regions.ensures.drives ∙ c.read_regions.ensures.continues.drives) (c.read_regions.ensures.read h)
+    (answer_of (geometry_of a) r.bytes.items r.answered.items c.units.result c.load.result c.load.ensures.ok c.load.ensures.err
+    (sym (c.read_regions.ensures.drives ∙ c.read_regions.ensures.continues.drives)) (sym (c.units.ensures ∙ c.read_regions.ensures.continues.units))))
