@@ -1,0 +1,8 @@
+//! Segments on the drives: stripes of nine shards are appended and closed under headers, and their sectors read back, with two drives lost too.
+//! Only the units of the segment are written, and a drive is lost only where its count of faults rose.
+#![tactic(auto)]
+
+mod open;
+mod units;
+
+pub use open::{Open, StripeData};
