@@ -4,3 +4,7 @@ pub mod Writing
 pub mod Progress
 pub mod Parts
 pub mod Kept
+pub mod Syncing
+pub mod Sets
+pub mod Views
+pub mod InTurn

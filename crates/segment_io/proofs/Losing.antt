@@ -1,9 +1,8 @@
 -- Which drives a call loses, and a run of calls.
-use Rattle.std.proofs.Common.{◌≡◌, ◌≢◌, ◌⊎◌, inl, inr, ⊎_elim, ℕ, ◌-◌, ◌^◌, ◌<◌, ◌≤◌, Bool, true, false, List, length, Result, Ok, Err, refl, sym, ◌∙◌, ap, subst, arith}
+use Rattle.std.proofs.Common.{◌≡◌, ◌≢◌, inl, inr, ⊎_elim, ℕ, ◌-◌, ◌^◌, ◌<◌, ◌≤◌, Bool, true, false, List, length, Result, Ok, Err, refl, sym, ◌∙◌, ap, subst, arith}
 use Rattle.std.specs.Prelude.{is_err, slice_set}
 use Rattle.std.proofs.lemmas.Bool.{cases_eq, cases_lt, cases_Bool}
 use Rattle.std.proofs.lemmas.List.{get_or-set_same, get_or-set_other}
-use Rattle.pur_base.specs.declared.device.Device.{Device}
 use Rattle.pur_base.specs.Devices.{drive}
 use Rattle.pur_base.proofs.Devices.{drives_apart}
 use Rattle.world.specs.declared.streams.Failed.{Failed}
@@ -50,11 +49,15 @@ loses_then a b c first second third is_c ab bc one two = record {
   stays = λ slot is. two.stays slot (one.stays slot is);
   cause = λ slot is. ⊎_elim
       (λ before. ⊎_elim (λ earlier. inl earlier)
-      (λ rose. inr (rises_first (a.disk (drive slot)).faults (b.disk (drive slot)).faults (c.disk (drive slot)).faults rose.0 (bc.faults (drive slot)) (is_c.faults (drive slot)),
-      rises_first (a.disk (drive slot)).write_faults (b.disk (drive slot)).write_faults (c.disk (drive slot)).write_faults rose.1 (bc.write_faults (drive slot)) (is_c.write_faults (drive slot))))
+      (λ rose. inr (
+        rises_first (a.disk (drive slot)).faults (b.disk (drive slot)).faults (c.disk (drive slot)).faults rose.0 (bc.faults (drive slot)) (is_c.faults (drive slot)),
+        rises_first (a.disk (drive slot)).write_faults (b.disk (drive slot)).write_faults (c.disk (drive slot)).write_faults rose.1 (bc.write_faults (drive slot)) (is_c.write_faults (drive slot)),
+      ))
       (one.cause slot before))
-      (λ rose. inr (rises_then (a.disk (drive slot)).faults (b.disk (drive slot)).faults (c.disk (drive slot)).faults (ab.faults (drive slot)) rose.0,
-      rises_then (a.disk (drive slot)).write_faults (b.disk (drive slot)).write_faults (c.disk (drive slot)).write_faults (ab.write_faults (drive slot)) rose.1))
+      (λ rose. inr (
+        rises_then (a.disk (drive slot)).faults (b.disk (drive slot)).faults (c.disk (drive slot)).faults (ab.faults (drive slot)) rose.0,
+        rises_then (a.disk (drive slot)).write_faults (b.disk (drive slot)).write_faults (c.disk (drive slot)).write_faults (ab.write_faults (drive slot)) rose.1,
+      ))
       (two.cause slot is);
   reported = λ slot none. counts_then (one.reported slot (not_before b c second third slot two none)) (two.reported slot none);
 }

@@ -1,5 +1,5 @@
 -- Places stay places.
-use Rattle.std.proofs.Common.{◌≡◌, ◌<◌, ◌≤◌, List, arith}
+use Rattle.std.proofs.Common.{List, arith}
 use Rattle.pur_base.specs.declared.place.Place.{Place}
 use Rattle.world.specs.Shelf.{Shelved, Continues}
 use Rattle.segment_io.specs.Places.{IsPlace, ArePlaces}
@@ -13,6 +13,7 @@ still_place {a} {b} {place} on is = record {
 
 pub still_places : {a b : Shelved} {places : List Place} → Continues a b → ArePlaces a places → ArePlaces b places
 still_places {a} {b} {places} on are = record {
+  nine = are.nine;
   each = λ shard lt. still_place on (are.each shard lt);
   ascending = are.ascending;
 }

@@ -1,3 +1,5 @@
 pub mod Places
 pub mod Lost
 pub mod Stripes
+pub mod Headers
+pub mod Views

@@ -1,5 +1,5 @@
 -- The units of a segment on the drives of a shelf.
-use Rattle.std.specs.Prelude.{◌≡◌, ◌≢◌, ℕ, ◌+◌, ◌*◌, ◌<◌, ◌≤◌, List, slice_index_or}
+use Rattle.std.specs.Prelude.{◌≡◌, ◌≢◌, ℕ, ◌+◌, ◌*◌, ◌<◌, ◌≤◌, List, length, slice_index_or}
 use Rattle.pur_base.specs.declared.device.Device.{Device}
 use Rattle.pur_base.specs.declared.limits.TheConstants.{UNIT_BYTES, BOOT_UNITS, SEGMENT_SHARDS}
 use Rattle.pur_base.specs.declared.place.Place.{Place}
@@ -24,6 +24,7 @@ drive_of places shard = drive (place_of places shard).slot
 
 -- nine units, by ascending slot
 pub record ArePlaces (shelf : Shelved) (places : List Place) : Type 0 where
+  pub nine : length places ≡ SEGMENT_SHARDS
   pub each : (shard : ℕ) → shard < SEGMENT_SHARDS → IsPlace shelf (place_of places shard)
   pub ascending : (first second : ℕ) → first < second → second < SEGMENT_SHARDS → (place_of places first).slot < (place_of places second).slot
 

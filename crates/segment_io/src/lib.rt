@@ -2,7 +2,9 @@
 //! Only the units of the segment are written, and a drive is lost only where its count of faults rose.
 #![tactic(auto)]
 
+mod closing;
 mod open;
 mod units;
 
+pub use closing::{Closed, sync_drives};
 pub use open::{Open, StripeData};

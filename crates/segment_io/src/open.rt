@@ -7,7 +7,7 @@ ghost use Rattle.world.specs.Shelf.{Continues};
 ghost use Rattle.world.specs.Writes.{WritesOnly};
 ghost use Rattle.segment_io.specs.Places.{ArePlaces, OnUnits, OthersStayOf};
 ghost use Rattle.segment_io.specs.Lost.{is_in, LosesOnly};
-ghost use Rattle.segment_io.specs.Stripes.{UnitsHold, HoldsStripe, IsStripeOf};
+ghost use Rattle.segment_io.specs.Stripes.{bytes_of, UnitsHold, HoldsStripe, IsStripeOf};
 
 use crate::units::write_unit;
 use parity72::{DATA_SHARDS, SHARD_BYTES, SHARDS, encode};
@@ -15,7 +15,8 @@ use pur_base::{Lost, Places, SLOTS_MAX, SegmentId};
 use segment_codec::SegmentKind;
 use world::Shelf;
 
-const SLOTS: usize = SLOTS_MAX as usize;
+/// The slots that a set of drives tells of.
+pub const SLOTS: usize = SLOTS_MAX as usize;
 
 /// The data of a stripe: seven shards of 4096 bytes.
 pub type StripeData = [[u8; SHARD_BYTES]; DATA_SHARDS];
@@ -66,7 +67,7 @@ fn write_stripe<S: Shelf>(
     requires number { number < STRIPES }
     ensures continues { Continues (S.shelf shelf.old) (S.shelf shelf.new) }
     ensures lost { LosesOnly (S.shelf shelf.old) (S.shelf shelf.new) lost.old.drives lost.new.drives }
-    ensures written { (S.shelf shelf.old).honest → UnitsHold (S.shelf shelf.new) places.now lost.new.drives (number + 1) (shard_of (stripe.now ++ p.now ∷ q.now ∷ [])) }
+    ensures written { (S.shelf shelf.old).honest → UnitsHold (bytes_of (S.shelf shelf.new)) places.now lost.new.drives (number + 1) (shard_of (stripe.now ++ p.now ∷ q.now ∷ [])) }
     ensures writes { (S.shelf shelf.old).honest → WritesOnly (OnUnits places.now (number + 1) 1) (S.shelf shelf.old) (S.shelf shelf.new) }
     ensures others { OthersStayOf places.now (S.shelf shelf.old) (S.shelf shelf.new) }
     ensures rest { S.shelf_rest shelf.old shelf.new }
@@ -107,10 +108,10 @@ impl Open {
         ensures lost { LosesOnly (S.shelf shelf.old) (S.shelf shelf.new) self.old.lost.drives self.new.lost.drives }
         ensures same { (self.new.id ≡ self.old.id) × (self.new.kind ≡ self.old.kind) × (self.new.places ≡ self.old.places) }
         ensures stripes { self.new.stripes ≡ self.old.stripes + 1 }
-        ensures stands { (S.shelf shelf.old).honest → (shards : List (List ℕ)) × IsStripeOf stripe.now shards × HoldsStripe (S.shelf shelf.new) self.new.places self.new.lost.drives self.old.stripes shards }
+        ensures stands { (S.shelf shelf.old).honest → (shards : List (List ℕ)) × IsStripeOf stripe.now shards × HoldsStripe (bytes_of (S.shelf shelf.new)) self.new.places self.new.lost.drives self.old.stripes shards }
         // The stripes before it stand as they did.
         ensures kept { (S.shelf shelf.old).honest → (earlier : ℕ) (shards : List (List ℕ)) → earlier < self.old.stripes
-            → HoldsStripe (S.shelf shelf.old) self.old.places self.old.lost.drives earlier shards → HoldsStripe (S.shelf shelf.new) self.new.places self.new.lost.drives earlier shards }
+            → HoldsStripe (bytes_of (S.shelf shelf.old)) self.old.places self.old.lost.drives earlier shards → HoldsStripe (bytes_of (S.shelf shelf.new)) self.new.places self.new.lost.drives earlier shards }
         ensures writes { (S.shelf shelf.old).honest → WritesOnly (OnUnits self.old.places (self.old.stripes + 1) 1) (S.shelf shelf.old) (S.shelf shelf.new) }
         ensures others { OthersStayOf self.old.places (S.shelf shelf.old) (S.shelf shelf.new) }
         ensures rest { S.shelf_rest shelf.old shelf.new }
@@ -118,7 +119,15 @@ impl Open {
         let mut p = [0; SHARD_BYTES];
         let mut q = [0; SHARD_BYTES];
         encode(stripe, &mut p, &mut q);
-        write_stripe(shelf, &self.places, self.stripes, stripe, &p, &q, &mut self.lost);
+        write_stripe(
+            shelf,
+            &self.places,
+            self.stripes,
+            stripe,
+            &p,
+            &q,
+            &mut self.lost,
+        );
         self.stripes += 1;
         self.lost
     }

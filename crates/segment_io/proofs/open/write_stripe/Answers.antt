@@ -1,6 +1,5 @@
-use Rattle.std.proofs.Common.{◌≡◌, ◌+◌, ◌<◌, ◌++◌, ◌∷◌, [], arith, sym, ◌∙◌}
+use Rattle.std.proofs.Common.{◌+◌, ◌++◌, ◌∷◌, [], ◌∙◌}
 use Rattle.parity72.specs.Parity.{shard_of}
-use Rattle.segment_io.specs.Places.{IsPlace}
 use Rattle.segment_io.proofs.Progress.{started, one_more}
 use Rattle.segment_io.proofs.Places.{still_place}
 use Rattle.segment_io.proofs.open.write_stripe.Goals as goal

@@ -1,4 +1,4 @@
-use Rattle.std.proofs.Common.{◌≡◌, false, length, arith, refl, subst, sym, ◌∙◌, get_or-set_same}
+use Rattle.std.proofs.Common.{false, length, arith, refl, subst, sym, ◌∙◌, get_or-set_same}
 use Rattle.pur_base.specs.Devices.{drive}
 use Rattle.segment_codec.specs.declared.position.TheConstants.{WRITE_UNIT_BYTES}
 use Rattle.world.specs.Writes.{OneRange, WritesOnly}

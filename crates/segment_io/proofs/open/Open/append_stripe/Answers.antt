@@ -1,4 +1,4 @@
-use Rattle.std.proofs.Common.{◌+◌, ◌<◌, inl, arith}
+use Rattle.std.proofs.Common.{◌+◌, inl, arith}
 use Rattle.segment_io.proofs.Kept.{stripe_stays}
 use Rattle.segment_io.proofs.open.Open.append_stripe.Goals as goal
 
