@@ -8,3 +8,8 @@ pub mod Syncing
 pub mod Sets
 pub mod Views
 pub mod InTurn
+pub mod Numbers
+pub mod Gathers
+pub mod Recovering
+pub mod Tried
+pub mod OneSector

@@ -3,3 +3,4 @@ pub mod Lost
 pub mod Stripes
 pub mod Headers
 pub mod Views
+pub mod Reads

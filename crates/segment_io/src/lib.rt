@@ -3,8 +3,12 @@
 #![tactic(auto)]
 
 mod closing;
+mod gathering;
 mod open;
+mod reading;
 mod units;
 
 pub use closing::{Closed, sync_drives};
+pub use gathering::StripeBuffer;
 pub use open::{Open, StripeData};
+pub use reading::read_sector;
