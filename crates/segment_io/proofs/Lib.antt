@@ -13,3 +13,4 @@ pub mod Gathers
 pub mod Recovering
 pub mod Tried
 pub mod OneSector
+pub mod Targets

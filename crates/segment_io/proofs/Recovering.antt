@@ -10,7 +10,7 @@ use Rattle.world.specs.Shelf.{Shelved, Disk}
 use Rattle.segment_io.specs.Lost.{is_in}
 use Rattle.segment_io.specs.Places.{place_of, drive_of}
 use Rattle.segment_io.specs.Stripes.{bytes_of, unit_in}
-use Rattle.segment_io.specs.Reads.{is_unknown, PartRead, ThreeUnknown, AreUnknown, IsOn, AreLost}
+use Rattle.segment_io.specs.Reads.{is_unknown, PartRead, Tried, ThreeUnknown, AreUnknown, IsOn, AreLost}
 
 abbrev Read : Shelved → Shelved → List Place → ℕ → List Bool → List Bool → List (List ℕ) → Type 0
 Read a b places stripe was now shards = (k : ℕ) → k < 9 → PartRead a.honest (is_unknown was k) (is_unknown now k) (unit_in (bytes_of a) places (stripe + 1) k) (shard_of shards k) (a.disk (drive_of places k)) (b.disk (drive_of places k))
@@ -46,6 +46,18 @@ are_lost a b places stripe was now shards drives read three each no_other = reco
   where
     before : (k : ℕ) → k < 9 → is_unknown now k ≡ false → is_unknown was k ≡ false
     before k lt known = elim (cases_Bool (is_unknown was k)) [
+      | inl is ↦ absurd (cc ((read k lt).stays is, known))
+      | inr not ↦ not
+    ]
+
+pub has_tried : (a b : Shelved) (places : List Place) (stripe : ℕ) (was now : List Bool) (shards : List (List ℕ)) → Read a b places stripe was now shards → Tried a b places (is_unknown was) now
+has_tried a b places stripe was now shards read = record {
+  cause = λ k lt is. (read k lt).cause is;
+  counts = λ k lt known. (known_before k lt known, (read k lt).counts known);
+}
+  where
+    known_before : (k : ℕ) → k < 9 → is_unknown now k ≡ false → is_unknown was k ≡ false
+    known_before k lt known = elim (cases_Bool (is_unknown was k)) [
       | inl is ↦ absurd (cc ((read k lt).stays is, known))
       | inr not ↦ not
     ]

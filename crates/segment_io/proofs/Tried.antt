@@ -15,14 +15,9 @@ use Rattle.world.specs.Shelf.{Shelved, Disk, IsShelf, IsSame, Continues, OthersS
 use Rattle.segment_io.specs.Lost.{is_in}
 use Rattle.segment_io.specs.Places.{ArePlaces, place_of, drive_of, write_unit_at}
 use Rattle.segment_io.specs.Stripes.{bytes_of, unit_in}
-use Rattle.segment_io.specs.Reads.{is_unknown, PartRead, IsOn, AreLost, ShowsAnswering, is_missing_in}
+use Rattle.segment_io.specs.Reads.{is_unknown, PartRead, Tried, IsOn, AreLost, ShowsAnswering, is_missing_in}
 use Rattle.segment_io.proofs.Losing.{rises_first, rises_then}
 use Rattle.segment_io.proofs.Progress.{apart}
-
--- unknown are the shards of which it was said, and those on whose drives a call failed
-pub record Tried (a b : Shelved) (places : List Place) (said : ℕ → Bool) (now : List Bool) : Type 0 where
-  pub cause : (k : ℕ) → k < 9 → is_unknown now k ≡ true → (said k ≡ true) ⊎ Rises (a.disk (drive_of places k)).faults (b.disk (drive_of places k)).faults
-  pub counts : (k : ℕ) → k < 9 → is_unknown now k ≡ false → (said k ≡ false) × ((b.disk (drive_of places k)).faults ≡ (a.disk (drive_of places k)).faults)
 
 pub tried_none : (a : Shelved) (places : List Place) (said : ℕ → Bool) (flags : List Bool) → ((k : ℕ) → k < 9 → is_unknown flags k ≡ said k) → Tried a a places said flags
 tried_none a places said flags are = record {
@@ -112,3 +107,12 @@ part_of_part at m offset n bytes fits =
     ∙ sym (take-take n (m - offset) (drop offset (drop at bytes)) less)
     ∙ ap (take n) (sym (drop-take offset (m - offset) (drop at bytes)))
     ∙ sym (ap (λ (k : ℕ). take n (drop offset (take k (drop at bytes)))) rest)
+
+pub tried_then : (a b c : Shelved) (places : List Place) (said : ℕ → Bool) (mid now : List Bool) → IsShelf c → Continues a b → Continues b c → Tried a b places said mid → Tried b c places (is_unknown mid) now → Tried a c places said now
+tried_then a b c places said mid now is_c ab bc one two = record {
+  cause = λ k lt is. ⊎_elim
+      (λ was. ⊎_elim (λ s. inl s) (λ rose. inr (rises_first (a.disk (drive_of places k)).faults (b.disk (drive_of places k)).faults (c.disk (drive_of places k)).faults rose (bc.faults (drive_of places k)) (is_c.faults (drive_of places k)))) (one.cause k lt was))
+      (λ rose. inr (rises_then (a.disk (drive_of places k)).faults (b.disk (drive_of places k)).faults (c.disk (drive_of places k)).faults (ab.faults (drive_of places k)) rose))
+      (two.cause k lt is);
+  counts = λ k lt clear. let t = two.counts k lt clear in let o = one.counts k lt t.0 in (o.0, t.1 ∙ o.1);
+}

@@ -4,3 +4,4 @@ pub mod Stripes
 pub mod Headers
 pub mod Views
 pub mod Reads
+pub mod Rebuilds

@@ -67,3 +67,12 @@ ShowsAnswering old new places missing view = (shard : ℕ) → shard < SEGMENT_S
 -- whether the drive of a shard is missing
 abbrev pub is_missing_in : List Bool → List Place → ℕ → Bool
 is_missing_in missing places shard = is_in missing (place_of places shard).slot
+
+-- unknown are the shards of which it was said, and those on whose drives a call failed
+pub record Tried (a b : Shelved) (places : List Place) (said : ℕ → Bool) (now : List Bool) : Type 0 where
+  pub cause : (shard : ℕ) → shard < SEGMENT_SHARDS → is_unknown now shard ≡ true → (said shard ≡ true) ⊎ Rises (a.disk (drive_of places shard)).faults (b.disk (drive_of places shard)).faults
+  pub counts : (shard : ℕ) → shard < SEGMENT_SHARDS → is_unknown now shard ≡ false → (said shard ≡ false) × ((b.disk (drive_of places shard)).faults ≡ (a.disk (drive_of places shard)).faults)
+
+-- each of the nine drives that isn't missing is shown as it stands
+abbrev pub ShowsPresent : Shelved → List Place → List Bool → View → Type 0
+ShowsPresent shelf places missing view = (shard : ℕ) → shard < SEGMENT_SHARDS → is_missing_in missing places shard ≡ false → view (drive_of places shard) ≡ Some (bytes_of shelf (drive_of places shard))

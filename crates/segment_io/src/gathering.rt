@@ -11,7 +11,7 @@ ghost use Rattle.world.specs.Writes.{WritesOnly};
 ghost use Rattle.segment_io.specs.Places.{IsPlace, ArePlaces, OthersStayOf, place_of, drive_of, write_unit_at};
 ghost use Rattle.segment_io.specs.Lost.{is_in, NoByte};
 ghost use Rattle.segment_io.specs.Stripes.{bytes_of, unit_in};
-ghost use Rattle.segment_io.specs.Reads.{is_unknown, PartRead, ThreeUnknown, AreUnknown, IsOn, AreLost};
+ghost use Rattle.segment_io.specs.Reads.{is_unknown, PartRead, Tried, ThreeUnknown, AreUnknown, IsOn, AreLost};
 
 use crate::open::SLOTS;
 use arrayvec::ArrayVec;
@@ -126,6 +126,7 @@ pub fn read_stripe<S: Shelf>(
     requires stripe { stripe < STRIPES }
     ensures continues { Continues (S.shelf shelf.old) (S.shelf shelf.new) }
     ensures read { (S.shelf shelf.old).honest → OnOk result ((whole : List (List ℕ)) → IsOn (S.shelf shelf.old) (S.shelf shelf.new) places.now unknown.old stripe whole → shards.new ≡ whole) }
+    ensures tried { Tried (S.shelf shelf.old) (S.shelf shelf.new) places.now (is_unknown unknown.old) unknown.new }
     ensures lost { IfErr result (λ lost. AreLost (S.shelf shelf.old) (S.shelf shelf.new) places.now (is_unknown unknown.old) lost.drives) }
     ensures same { (S.shelf shelf.old).honest → (device : Device) → IsSame ((S.shelf shelf.old).disk device) ((S.shelf shelf.new).disk device) }
     ensures writes { (S.shelf shelf.old).honest → WritesOnly NoByte (S.shelf shelf.old) (S.shelf shelf.new) }

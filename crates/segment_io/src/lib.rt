@@ -6,9 +6,11 @@ mod closing;
 mod gathering;
 mod open;
 mod reading;
+mod rebuilding;
 mod units;
 
 pub use closing::{Closed, sync_drives};
 pub use gathering::StripeBuffer;
 pub use open::{Open, StripeData};
 pub use reading::read_sector;
+pub use rebuilding::{RebuildFault, rebuild_shard};

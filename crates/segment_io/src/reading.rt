@@ -24,8 +24,8 @@ fn is_member(drives: &[bool], slot: u8) -> bool
     at < drives.len() && drives[at]
 }
 
-// Which shards are on missing drives.
-fn missing_shards(places: &Places, missing: &[bool]) -> [bool; SHARDS]
+/// Which shards are on missing drives.
+pub fn missing_shards(places: &Places, missing: &[bool]) -> [bool; SHARDS]
     ensures { (shard : ℕ) → shard < SEGMENT_SHARDS → is_unknown result shard ≡ is_missing_in missing.now places.now shard }
 {
     let mut unknown = [false; SHARDS];

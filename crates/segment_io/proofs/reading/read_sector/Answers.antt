@@ -6,8 +6,8 @@ use Rattle.std.specs.Prelude.{slice_set}
 use Rattle.std.proofs.lemmas.Result.{err_from_is_err_and}
 use Rattle.pur_base.specs.Bytes.{bytes_at}
 use Rattle.parity72.specs.Parity.{shard_of}
-use Rattle.segment_io.specs.Reads.{is_missing_in}
-use Rattle.segment_io.proofs.Tried.{Tried, tried_none, tried_one, lost_in_all, is_on}
+use Rattle.segment_io.specs.Reads.{is_missing_in, Tried}
+use Rattle.segment_io.proofs.Tried.{tried_none, tried_one, lost_in_all, is_on}
 use Rattle.segment_io.proofs.OneSector.{IsPositionOf, in_shards, read_directly}
 use Rattle.segment_io.proofs.reading.read_sector.Goals as goal
 
