@@ -14,3 +14,5 @@ pub mod Recovering
 pub mod Tried
 pub mod OneSector
 pub mod Targets
+pub mod Pieces
+pub mod Tries

@@ -5,3 +5,4 @@ pub mod Headers
 pub mod Views
 pub mod Reads
 pub mod Rebuilds
+pub mod Runs

@@ -7,6 +7,7 @@ mod gathering;
 mod open;
 mod reading;
 mod rebuilding;
+mod runs;
 mod units;
 
 pub use closing::{Closed, sync_drives};
