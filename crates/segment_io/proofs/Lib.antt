@@ -16,3 +16,4 @@ pub mod OneSector
 pub mod Targets
 pub mod Pieces
 pub mod Tries
+pub mod Sectors

@@ -1,5 +1,5 @@
 -- One sector is read.
-use Rattle.std.proofs.Common.{◌≡◌, inl, inr, ℕ, ◌+◌, ◌-◌, ◌*◌, ◌<◌, ◌≤◌, Bool, true, false, List, [], length, take, drop, refl, sym, ◌∙◌, ap, subst, arith}
+use Rattle.std.proofs.Common.{◌≡◌, inl, inr, ℕ, ◌+◌, ◌*◌, ◌<◌, Bool, false, List, refl, sym, ◌∙◌, ap, subst, arith}
 use Rattle.std.proofs.lemmas.Bool.{cases_Bool}
 use Rattle.pur_base.specs.Bytes.{bytes_at}
 use Rattle.pur_base.specs.Devices.{View}
@@ -7,10 +7,10 @@ use Rattle.pur_base.specs.declared.place.Place.{Place}
 use Rattle.parity72.specs.Parity.{shard_of}
 use Rattle.segment_codec.specs.Position as position
 use Rattle.segment_codec.specs.declared.position.Position.{Position}
-use Rattle.segment_codec.specs.Stripes.{StripeStands, SectorStands, sector_in}
-use Rattle.world.specs.Shelf.{Shelved, Disk}
+use Rattle.segment_codec.specs.Stripes.{StripeStands, SectorStands}
+use Rattle.world.specs.Shelf.{Shelved}
 use Rattle.segment_io.specs.Places.{ArePlaces, place_of, drive_of, write_unit_at}
-use Rattle.segment_io.specs.Stripes.{bytes_of, unit_in}
+use Rattle.segment_io.specs.Stripes.{bytes_of}
 use Rattle.segment_io.specs.Reads.{PartRead, ShowsAnswering, is_missing_in}
 use Rattle.segment_io.proofs.Tried.{shown_agrees, part_of_part}
 
@@ -24,9 +24,11 @@ pub record IsPositionOf (index : ℕ) (p : Position) : Type 0 where
 -- the shards that stand there, and the sector as a part of one
 pub in_shards : (view : View) (places : List Place) (index : ℕ) (p : Position) (bytes : List ℕ) → IsPositionOf index p → SectorStands view places index bytes
     → (shards : List (List ℕ)) × StripeStands view places p.stripe shards × (bytes ≡ bytes_at (512 * p.eighth) 512 (shard_of shards p.shard))
-in_shards view places index p bytes of (shards, stands, is) =
-    (shards, subst (λ (s : ℕ). StripeStands view places s shards) (sym of.stripe) stands,
-    is ∙ ap (λ (e : ℕ). bytes_at (512 * e) 512 (shard_of shards (position.shard_of index))) (sym of.eighth) ∙ ap (λ (s : ℕ). bytes_at (512 * p.eighth) 512 (shard_of shards s)) (sym of.shard))
+in_shards view places index p bytes of (shards, stands, is) = (
+  shards,
+  subst (λ (s : ℕ). StripeStands view places s shards) (sym of.stripe) stands,
+  is ∙ ap (λ (e : ℕ). bytes_at (512 * e) 512 (shard_of shards (position.shard_of index))) (sym of.eighth) ∙ ap (λ (s : ℕ). bytes_at (512 * p.eighth) 512 (shard_of shards s)) (sym of.shard),
+)
 
 -- what was read from its drive
 pub read_directly : (a b : Shelved) (places : List Place) (missing : List Bool) (index : ℕ) (p : Position) (was : Bool) (into : List ℕ) (view : View) (bytes : List ℕ) → ArePlaces a places → a.honest → IsPositionOf index p

@@ -1,5 +1,5 @@
 -- Data is put together piece by piece, each within one shard.
-use Rattle.std.proofs.Common.{◌≡◌, ◌⊎◌, inl, inr, ℕ, ◌+◌, ◌-◌, ◌*◌, ◌/◌, ◌%◌, ◌<◌, ◌≤◌, List, ◌++◌, length, take, drop, slice_index, refl, sym, ◌∙◌, ap, subst, arith}
+use Rattle.std.proofs.Common.{◌≡◌, inl, inr, ℕ, ◌+◌, ◌-◌, ◌/◌, ◌%◌, ◌<◌, ◌≤◌, List, ◌++◌, length, take, drop, slice_index, sym, ◌∙◌, ap, arith}
 use Rattle.std.proofs.lemmas.Bool.{cases_lt}
 use Rattle.std.proofs.lemmas.List.{get_or-take, get_or_append_left, length-take-le}
 use Rattle.std.proofs.Math.Seq.{get_or-append_right}
@@ -23,14 +23,14 @@ piece_holds whole at size o fits lt =
     at_part (at % 4096) size (shard_of whole (at / 4096)) o lt
     ∙ sym (ap (λ (k : ℕ). slice_index (shard_of whole k) ((at + o) % 4096)) (same_shard at o within) ∙ ap (λ (k : ℕ). slice_index (shard_of whole (at / 4096)) k) (further_in at o within))
 
-put_below : (at k i : ℕ) (xs ys : List ℕ) → i < at → at ≤ length xs → slice_index (put_mid at k xs ys) i ≡ slice_index xs i
+pub put_below : (at k i : ℕ) (xs ys : List ℕ) → i < at → at ≤ length xs → slice_index (put_mid at k xs ys) i ≡ slice_index xs i
 put_below at k i xs ys lt fits =
     get_or_append_left (take at xs) (ys ++ drop k (drop at xs)) 0 i (omega (arith, lt, length-take-le at xs fits)) ∙ at_front
   where
     at_front : slice_index (take at xs) i ≡ slice_index xs i
     at_front = get_or-take at xs i 0 lt
 
-put_in : (at k i : ℕ) (xs ys : List ℕ) → at ≤ i → i < at + length ys → at ≤ length xs → slice_index (put_mid at k xs ys) i ≡ slice_index ys (i - at)
+pub put_in : (at k i : ℕ) (xs ys : List ℕ) → at ≤ i → i < at + length ys → at ≤ length xs → slice_index (put_mid at k xs ys) i ≡ slice_index ys (i - at)
 put_in at k i xs ys le lt fits =
     let front : length (take at xs) ≡ at = length-take-le at xs fits in
     get_or-append_right (take at xs) (ys ++ drop k (drop at xs)) i 0 (omega (arith, front, le))

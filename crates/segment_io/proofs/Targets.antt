@@ -1,5 +1,5 @@
 -- Calls for a target.
-use Rattle.std.proofs.Common.{◌≡◌, ◌≢◌, ◌⊎◌, inl, inr, ⊎_elim, ℕ, ◌+◌, ◌*◌, ◌<◌, ◌≤◌, Bool, true, false, List, length, refl, sym, ◌∙◌, ap, subst, arith, below_more}
+use Rattle.std.proofs.Common.{◌≡◌, ◌≢◌, ◌⊎◌, inl, inr, ⊎_elim, ℕ, ◌+◌, ◌*◌, ◌<◌, Bool, true, false, List, length, refl, sym, ◌∙◌, ap, subst, arith, below_more}
 use Rattle.std.specs.Prelude.{Result, Ok, Err, is_err, slice_set, ◌==◌, ◌||◌}
 use Rattle.std.proofs.lemmas.Bool.{cases_eq, cases_Bool}
 use Rattle.std.proofs.lemmas.Bool.Decides.{Decides-eqb}
@@ -7,7 +7,7 @@ use Rattle.std.proofs.lemmas.List.{get_or-set_same, get_or-set_other}
 use Rattle.pur_base.specs.Bytes.{bytes_at}
 use Rattle.pur_base.specs.declared.device.Device.{Device}
 use Rattle.pur_base.specs.declared.place.Place.{Place}
-use Rattle.parity72.specs.Parity.{IsCodeword, shard_of}
+use Rattle.parity72.specs.Parity.{shard_of}
 use Rattle.world.specs.Counts.{Rises}
 use Rattle.world.specs.Shelf.{Shelved, Disk, IsShelf, IsSame, Continues, OthersStay, WriteCounts, Elapses, WasWritten}
 use Rattle.world.specs.declared.streams.Failed.{Failed}
@@ -95,8 +95,11 @@ pub rebuilt_more : (a b c : Shelved) (places : List Place) (target stripe stripe
 rebuilt_more a b c places target stripe stripes said mid now are within h was so_far one new done k whole lt codeword agrees =
     below_more (λ k. ((shard : ℕ) → shard < 9 → said shard ≡ false → unit_in (bytes_of a) places (k + 1) shard ≡ shard_of whole shard) → unit_in (bytes_of c) places (k + 1) target ≡ shard_of whole target) stripe
     (λ k lt agrees. stays k lt ∙ done k whole lt codeword agrees)
-    (λ agrees. new whole (record { codeword = codeword; agrees = λ shard lt known counts. let t = so_far.tried.counts shard lt known in
-    ap (bytes_at (write_unit_at (place_of places shard) (stripe + 1)) 4096) (so_far.same h (drive_of places shard) (other shard lt t.0)).bytes ∙ agrees shard lt t.0 }))
+    (λ agrees. new whole (record {
+      codeword = codeword;
+      agrees = λ shard lt known counts. let t = so_far.tried.counts shard lt known in
+          ap (bytes_at (write_unit_at (place_of places shard) (stripe + 1)) 4096) (so_far.same h (drive_of places shard) (other shard lt t.0)).bytes ∙ agrees shard lt t.0;
+    }))
     k lt agrees
   where
     other : (shard : ℕ) → shard < 9 → said shard ≡ false → drive_of places shard ≢ drive_of places target
@@ -125,7 +128,7 @@ fault_in_all a b c places said flags target Target is_c ab bc tried is =
     (rises_then (a.disk d).faults (b.disk d).faults (c.disk d).faults (ab.faults d) is.0, rises_then (a.disk d).write_faults (b.disk d).write_faults (c.disk d).write_faults (ab.write_faults d) is.1)
 
 -- of which the same was said
-lost_as : (a c : Shelved) (places : List Place) (said other : ℕ → Bool) (drives : List Bool) → ((k : ℕ) → k < 9 → said k ≡ other k) → AreLost a c places said drives → AreLost a c places other drives
+pub lost_as : (a c : Shelved) (places : List Place) (said other : ℕ → Bool) (drives : List Bool) → ((k : ℕ) → k < 9 → said k ≡ other k) → AreLost a c places said drives → AreLost a c places other drives
 lost_as a c places said other drives as_said lost = record {
   three = lost.three;
   no_other = lost.no_other;

@@ -1,18 +1,17 @@
 -- Parts of some shards are read first, and where that fails the stripe.
-use Rattle.std.proofs.Common.{◌≡◌, ◌≢◌, ◌⊎◌, inl, inr, ⊎_elim, ℕ, zero, suc, ◌+◌, ◌-◌, ◌*◌, ◌^◌, ◌<◌, ◌≤◌, Bool, true, false, List, [], ◌∷◌, length, map, take, drop, refl, sym, ◌∙◌, ap, subst, arith}
+use Rattle.std.proofs.Common.{◌≡◌, ◌≢◌, ◌⊎◌, inl, inr, ⊎_elim, ℕ, zero, suc, ◌+◌, ◌-◌, ◌<◌, ◌≤◌, Bool, true, false, List, [], ◌∷◌, length, map, take, drop, refl, sym, ◌∙◌, ap, subst, arith}
 use Rattle.std.specs.Prelude.{Option, Some, IfSome, slice_set, option_map}
 use Rattle.std.specs.List.{AllZip}
 use Rattle.std.proofs.lemmas.Bool.{cases_eq, cases_Bool}
 use Rattle.std.proofs.lemmas.List.{get_or-set_same, get_or-set_other, drop-drop, take-take, drop-take}
 use Rattle.pur_base.specs.Bytes.{bytes_at}
-use Rattle.pur_base.specs.Devices.{View, drive}
+use Rattle.pur_base.specs.Devices.{View}
 use Rattle.pur_base.specs.declared.device.Device.{Device}
 use Rattle.pur_base.specs.declared.place.Place.{Place}
 use Rattle.parity72.specs.Parity.{shard_of}
-use Rattle.segment_codec.specs.Stripes.{write_unit, shards_shown, StripeStands}
+use Rattle.segment_codec.specs.Stripes.{write_unit, StripeStands}
 use Rattle.world.specs.Counts.{Rises}
 use Rattle.world.specs.Shelf.{Shelved, Disk, IsShelf, IsSame, Continues, OthersStay}
-use Rattle.segment_io.specs.Lost.{is_in}
 use Rattle.segment_io.specs.Places.{ArePlaces, place_of, drive_of, write_unit_at}
 use Rattle.segment_io.specs.Stripes.{bytes_of, unit_in}
 use Rattle.segment_io.specs.Reads.{is_unknown, PartRead, Tried, IsOn, AreLost, ShowsAnswering, is_missing_in}

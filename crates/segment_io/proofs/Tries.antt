@@ -1,22 +1,21 @@
 -- Reads of one part after another.
-use Rattle.std.proofs.Common.{◌≡◌, ◌≢◌, inl, inr, ℕ, ◌+◌, ◌-◌, ◌*◌, ◌/◌, ◌%◌, ◌<◌, ◌≤◌, Bool, true, false, List, length, refl, sym, ◌∙◌, ap, subst, arith}
+use Rattle.std.proofs.Common.{◌≡◌, inl, inr, ℕ, ◌+◌, ◌<◌, ◌≤◌, Bool, false, List, length, refl, ◌∙◌, ap}
 use Rattle.std.specs.Prelude.{slice_set}
 use Rattle.std.proofs.lemmas.Bool.{cases_Bool}
 use Rattle.pur_base.specs.Bytes.{bytes_at}
 use Rattle.pur_base.specs.declared.device.Device.{Device}
 use Rattle.pur_base.specs.declared.place.Place.{Place}
 use Rattle.parity72.specs.Parity.{shard_of}
-use Rattle.world.specs.Shelf.{Shelved, Disk, IsShelf, IsSame, Continues, OthersStay}
+use Rattle.world.specs.Shelf.{Shelved, IsShelf, IsSame, Continues, OthersStay}
 use Rattle.world.specs.Writes.{WritesOnly}
 use Rattle.world.proofs.Moments.{continues_refl, continues_trans}
 use Rattle.world.proofs.Writes.{writes_then, nothing_written}
 use Rattle.segment_io.specs.Lost.{NoByte}
 use Rattle.segment_io.specs.Places.{ArePlaces, place_of, drive_of, write_unit_at, OthersStayOf}
-use Rattle.segment_io.specs.Stripes.{bytes_of, unit_in}
-use Rattle.segment_io.specs.Reads.{is_unknown, PartRead, Tried, IsOn, AreLost}
+use Rattle.segment_io.specs.Reads.{is_unknown, PartRead, Tried, IsOn}
 use Rattle.segment_io.specs.Runs.{StandsBut}
 use Rattle.segment_io.proofs.Gathers.{same_then}
-use Rattle.segment_io.proofs.Tried.{tried_none, tried_one, tried_then, lost_in_all, part_of_part}
+use Rattle.segment_io.proofs.Tried.{tried_none, tried_one, tried_then, part_of_part}
 
 -- nothing is written, and the unknown shards are those of which it was said, and those on whose drives a call failed
 pub record Tries (a b : Shelved) (places : List Place) (said : ℕ → Bool) (now : List Bool) : Type 0 where
@@ -77,4 +76,10 @@ pub on_after : (a b c : Shelved) (places : List Place) (said : ℕ → Bool) (fl
 on_after a b c places said flags stripe whole same tried stands = record {
   codeword = stands.codeword;
   agrees = λ k lt known counts. ap (bytes_at (write_unit_at (place_of places k) (stripe + 1)) 4096) (same (drive_of places k)).bytes ∙ stands.agrees k lt (tried.counts k lt known).0;
+}
+
+pub stands_after : (a b : Shelved) (places : List Place) (said : ℕ → Bool) (flags : List Bool) (stripe : ℕ) (whole : List (List ℕ)) → a.honest → Tries a b places said flags → StandsBut a places said stripe whole → StandsBut b places (is_unknown flags) stripe whole
+stands_after a b places said flags stripe whole h tries stands = record {
+  codeword = stands.codeword;
+  agrees = λ k lt known. ap (bytes_at (write_unit_at (place_of places k) (stripe + 1)) 4096) (tries.same h (drive_of places k)).bytes ∙ stands.agrees k lt (tries.tried.counts k lt known).0;
 }

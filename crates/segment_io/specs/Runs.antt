@@ -1,5 +1,5 @@
 -- Runs of bytes in the data of a stripe, whose seven shards of data stand one behind another.
-use Rattle.std.specs.Prelude.{◌≡◌, ℕ, ◌+◌, ◌*◌, ◌/◌, ◌%◌, ◌<◌, false, Bool, List, length, slice_index}
+use Rattle.std.specs.Prelude.{◌≡◌, ℕ, ◌+◌, ◌/◌, ◌%◌, ◌<◌, false, Bool, List, slice_index}
 use Rattle.pur_base.specs.declared.limits.TheConstants.{SEGMENT_SHARDS}
 use Rattle.pur_base.specs.declared.place.Place.{Place}
 use Rattle.parity72.specs.Parity.{IsCodeword, shard_of}

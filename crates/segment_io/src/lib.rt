@@ -15,3 +15,4 @@ pub use gathering::StripeBuffer;
 pub use open::{Open, StripeData};
 pub use reading::read_sector;
 pub use rebuilding::{RebuildFault, rebuild_shard};
+pub use runs::read_sectors;

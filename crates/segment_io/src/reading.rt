@@ -64,7 +64,14 @@ pub fn read_sector<S: Shelf>(
     let mut sector = [0; SECTOR_BYTES];
     let place = places[shard];
     let was_unknown = unknown[shard];
-    let is_unknown = read_part(shelf, place, position.stripe + 1, from, &mut sector, was_unknown);
+    let is_unknown = read_part(
+        shelf,
+        place,
+        position.stripe + 1,
+        from,
+        &mut sector,
+        was_unknown,
+    );
     if !is_unknown {
         return Ok(Sector::new(sector));
     }

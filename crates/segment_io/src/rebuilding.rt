@@ -51,8 +51,7 @@ fn rebuild_stripe<S: Shelf>(
         return Err(RebuildFault::Lost(lost));
     }
     let place = places[shard as usize];
-    let at = UNIT_BYTES as u64 * place.unit as u64
-        + WRITE_UNIT_BYTES as u64 * (stripe as u64 + 1);
+    let at = UNIT_BYTES as u64 * place.unit as u64 + WRITE_UNIT_BYTES as u64 * (stripe as u64 + 1);
     let bytes = &shards[shard as usize];
     let answer = shelf.write(Device::Drive(DriveId(place.slot)), at, bytes);
     if answer.is_err() {

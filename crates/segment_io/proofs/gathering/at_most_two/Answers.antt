@@ -1,5 +1,5 @@
-use Rattle.std.proofs.Common.{◌≡◌, ◌<◌, ◌≤◌, rules, length, subst, sym, arith}
-use Rattle.segment_io.proofs.Numbers.{Numbers, no_numbers, known_number, one_number, third_number, apart_numbers}
+use Rattle.std.proofs.Common.{rules, arith}
+use Rattle.segment_io.proofs.Numbers.{no_numbers, known_number, one_number, third_number, apart_numbers}
 use Rattle.segment_io.proofs.gathering.at_most_two.Goals as goal
 
 pub loop-shard-init : goal.loop-shard-init

@@ -1,7 +1,5 @@
-use Rattle.std.proofs.Common.{◌≡◌, ℕ, ◌<◌, length}
+use Rattle.std.proofs.Common.{◌≡◌, length}
 use Rattle.pur_base.specs.declared.limits.TheConstants.{SEGMENT_SHARDS}
-use Rattle.parity72.specs.Parity.{shard_of}
-use Rattle.segment_codec.specs.declared.position.TheConstants.{WRITE_UNIT_BYTES}
 use Rattle.segment_io.proofs.Gathers.{Gathers}
 use Rattle.segment_io.proofs.gathering.gather.Given as goal
 

@@ -1,4 +1,3 @@
-use Rattle.std.proofs.Common.{◌≡◌}
 use Rattle.segment_io.proofs.Recovering.{agrees, are_lost, has_tried}
 use Rattle.segment_io.proofs.gathering.read_stripe.Goals as goal
 

@@ -1,7 +1,6 @@
-use Rattle.std.proofs.Common.{rules, take, drop, ◌≡◌, ◌<◌, ◌+◌, ◌*◌, ◌-◌, true, false, length, refl, sym, ◌∙◌, ap, arith}
+use Rattle.std.proofs.Common.{rules, take, drop, ◌≡◌, ◌<◌, ◌+◌, ◌*◌, ◌-◌, true, sym, ◌∙◌, ap, arith}
 use Rattle.world.proofs.Moments.{continues_refl, continues_trans}
 use Rattle.world.proofs.Writes.{writes_then}
-use Rattle.segment_codec.specs.declared.position.Position.{Position}
 use Rattle.std.specs.Prelude.{slice_set}
 use Rattle.std.proofs.lemmas.Result.{err_from_is_err_and}
 use Rattle.pur_base.specs.Bytes.{bytes_at}
@@ -35,8 +34,8 @@ returns-in_err-read_stripe-clause-lost g c =
     let flags = c.missing_shards-unknown.result in
     let lt : p.shard < 9 = omega (arith, c.of-position.ensures.bounds.shard) in
     let tried : Tried a b places (is_missing_in c.args.missing.now places) (slice_set flags p.shard true) =
-        tried_one a a b places (is_missing_in c.args.missing.now places) flags p.shard true _ _ _ c.requires.places (g.met.S.Shelf.is_shelf c.read_part-is_unknown.new.shelf) (continues_refl a) x.continues lt (omega arith)
-        (tried_none a places (is_missing_in c.args.missing.now places) flags c.missing_shards-unknown.ensures) c.if-not-is_unknown.ensures.read x.others in
+    tried_one a a b places (is_missing_in c.args.missing.now places) flags p.shard true _ _ _ c.requires.places (g.met.S.Shelf.is_shelf c.read_part-is_unknown.new.shelf) (continues_refl a) x.continues lt (omega arith)
+    (tried_none a places (is_missing_in c.args.missing.now places) flags c.missing_shards-unknown.ensures) c.if-not-is_unknown.ensures.read x.others in
     rw (r.1, r.2) (lost_in_all a b n places (is_missing_in c.args.missing.now places) (slice_set flags p.shard true) c.in_err-read_stripe.field-0.0.drives (g.met.S.Shelf.is_shelf c.read_stripe.new.shelf) x.continues c.read_stripe.ensures.continues tried c.in_err-read_stripe.ensures.lost)
 
 pub returns-in_err-read_stripe-clause-writes : goal.returns-in_err-read_stripe-clause-writes
@@ -65,8 +64,8 @@ returns-clause-sector g c h view bytes shows stands =
     let flags = c.missing_shards-unknown.result in
     let lt : p.shard < 9 = omega (arith, e.bounds.shard) in
     let tried : Tried a b places (is_missing_in c.args.missing.now places) (slice_set flags p.shard true) =
-        tried_one a a b places (is_missing_in c.args.missing.now places) flags p.shard true _ _ _ c.requires.places (g.met.S.Shelf.is_shelf c.read_part-is_unknown.new.shelf) (continues_refl a) x.continues lt (omega arith)
-        (tried_none a places (is_missing_in c.args.missing.now places) flags c.missing_shards-unknown.ensures) c.if-not-is_unknown.ensures.read x.others in
+    tried_one a a b places (is_missing_in c.args.missing.now places) flags p.shard true _ _ _ c.requires.places (g.met.S.Shelf.is_shelf c.read_part-is_unknown.new.shelf) (continues_refl a) x.continues lt (omega arith)
+    (tried_none a places (is_missing_in c.args.missing.now places) flags c.missing_shards-unknown.ensures) c.if-not-is_unknown.ensures.read x.others in
     let whole = c.in_ok-read_stripe.ensures.read (x.continues.honest h) s.0 (is_on a b n places c.args.missing.now (slice_set flags p.shard true) p.stripe view s.0 c.requires.places (x.same h) tried shows s.1) in
     let from = 512 * p.eighth in
     let all : 512 ≡ from + 512 - from = omega arith in

@@ -1,12 +1,12 @@
-use Rattle.std.proofs.Common.{◌≡◌, ◌+◌, ◌*◌, ◌<◌, ◌||◌, ℕ, true, false, length, sym, ◌∙◌, ap, arith}
+use Rattle.std.proofs.Common.{◌+◌, ◌*◌, true, ◌∙◌, ap, arith}
 use Rattle.std.specs.Prelude.{slice_set}
 use Rattle.std.proofs.lemmas.Result.{err_from_is_err_and}
 use Rattle.pur_base.specs.Bytes.{bytes_at}
 use Rattle.world.specs.Writes.{OneRange}
 use Rattle.world.proofs.Writes.{writes_then, sync_writes}
 use Rattle.segment_io.specs.Places.{place_of, drive_of, write_unit_at}
-use Rattle.segment_io.specs.Reads.{is_unknown, is_missing_in}
-use Rattle.segment_io.specs.Rebuilds.{is_wanted, AreRebuilt}
+use Rattle.segment_io.specs.Reads.{is_unknown}
+use Rattle.segment_io.specs.Rebuilds.{is_wanted}
 use Rattle.segment_io.proofs.Targets.{fault_as, wanted_flags, shown_rebuilt}
 use Rattle.segment_io.proofs.rebuilding.rebuild_shard.Goals as goal
 

@@ -1,14 +1,10 @@
-use Rattle.std.proofs.Common.{◌≡◌, ◌+◌, ◌*◌, true, length, refl, sym, ◌∙◌, ap, arith}
-use Rattle.world.specs.Writes.{OneRange, WritesOnly}
-use Rattle.world.proofs.Moments.{continues_trans}
-use Rattle.world.proofs.Writes.{writes_then, write_writes}
+use Rattle.std.proofs.Common.{◌+◌, sym, ◌∙◌, ap, arith}
 use Rattle.parity72.specs.Parity.{shard_of}
 use Rattle.segment_io.specs.Places.{place_of, drive_of, write_unit_at}
-use Rattle.segment_io.specs.Reads.{is_unknown, Tried}
-use Rattle.segment_io.specs.Rebuilds.{Rebuilds}
+use Rattle.segment_io.specs.Reads.{is_unknown}
 use Rattle.segment_io.proofs.InTurn.{nothing}
 use Rattle.segment_io.proofs.Writing.{was_written}
-use Rattle.segment_io.proofs.Targets.{same_but, tried_target, wanted_still, on_before, written_run}
+use Rattle.segment_io.proofs.Targets.{wanted_still, on_before, written_run}
 use Rattle.segment_io.proofs.rebuilding.rebuild_stripe.Goals as goal
 
 pub returns-in-Err-clause-run : goal.returns-in-Err-clause-run

@@ -1,4 +1,3 @@
-use Rattle.std.proofs.Common.{◌≡◌, length}
 use Rattle.segment_io.specs.Reads.{is_unknown}
 use Rattle.segment_io.specs.Rebuilds.{Rebuilds, AreRebuilt}
 use Rattle.segment_io.proofs.rebuilding.rebuild_stripes.Given as goal

@@ -1,4 +1,4 @@
-use Rattle.std.proofs.Common.{rules, ◌≡◌, ◌+◌, ◌-◌, ◌*◌, ◌/◌, ◌%◌, ◌<◌, ◌≤◌, ℕ, length, take, drop, sym, ◌∙◌, ap, arith}
+use Rattle.std.proofs.Common.{rules, ◌≡◌, ◌+◌, ◌-◌, ◌/◌, ◌%◌, take, drop, sym, ◌∙◌, ap, arith}
 use Rattle.pur_base.specs.Bytes.{bytes_at}
 use Rattle.parity72.specs.Parity.{shard_of}
 use Rattle.segment_io.proofs.Pieces.{one_piece}

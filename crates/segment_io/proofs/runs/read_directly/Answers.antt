@@ -1,11 +1,10 @@
-use Rattle.std.proofs.Common.{◌≡◌, ◌+◌, ◌-◌, ◌*◌, ◌/◌, ◌%◌, ◌<◌, ◌≤◌, false, length, arith, ◌∙◌}
-use Rattle.std.specs.Prelude.{slice_set, slice_range}
+use Rattle.std.proofs.Common.{◌≡◌, ◌+◌, ◌/◌, ◌%◌, ◌<◌, ◌≤◌, length, arith, ◌∙◌}
+use Rattle.std.specs.Prelude.{slice_range}
 use Rattle.std.proofs.lemmas.List.{length-set}
 use Rattle.std.proofs.lemmas.List.Edits.{length-between}
 use Rattle.segment_io.specs.Reads.{is_unknown}
-use Rattle.segment_io.proofs.Places.{still_place}
 use Rattle.segment_io.proofs.Pieces.{one_piece}
-use Rattle.segment_io.proofs.Tries.{Tries, tries_one, part_known}
+use Rattle.segment_io.proofs.Tries.{tries_one, part_known}
 use Rattle.segment_io.proofs.runs.read_directly.Goals as goal
 
 pub returns-then-is_unknown-clause-continues : goal.returns-then-is_unknown-clause-continues
