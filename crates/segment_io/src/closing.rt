@@ -30,6 +30,29 @@ pub struct Closed {
     pub(crate) stripes: u8,
 }
 
+impl Closed {
+    /// The segment's id.
+    pub fn id(&self) -> SegmentId
+        ensures { result ≡ self.now.id }
+    {
+        self.id
+    }
+
+    /// The segment's units, by shard.
+    pub fn places(&self) -> &Places
+        ensures { result.now ≡ self.now.places }
+    {
+        &self.places
+    }
+
+    /// How many stripes it has.
+    pub fn stripes(&self) -> u8
+        ensures { result ≡ self.now.stripes }
+    {
+        self.stripes
+    }
+}
+
 // The header's write unit, as the unit of a shard has it.
 #[tactic(auto, unfolding(crate::specs::Headers::header_unit))]
 fn spell_header(header: &Header, shard: u8) -> [u8; WRITE_UNIT_BYTES]

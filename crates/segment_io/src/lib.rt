@@ -16,3 +16,4 @@ pub use open::{Open, StripeData};
 pub use reading::read_sector;
 pub use rebuilding::{RebuildFault, rebuild_shard};
 pub use runs::read_sectors;
+pub use units::are_places;

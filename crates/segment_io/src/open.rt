@@ -98,6 +98,27 @@ impl Open {
         }
     }
 
+    /// The segment's units, by shard.
+    pub fn places(&self) -> &Places
+        ensures { result.now ≡ self.now.places }
+    {
+        &self.places
+    }
+
+    /// How many stripes were appended.
+    pub fn stripes(&self) -> u8
+        ensures { result ≡ self.now.stripes }
+    {
+        self.stripes
+    }
+
+    /// The drives that were lost so far.
+    pub fn lost(&self) -> Lost
+        ensures { result ≡ self.now.lost }
+    {
+        self.lost
+    }
+
     /// Appends a stripe: its seven shards of data with P and Q go into the next write unit of each unit, and aren't synced.
     /// A drive on which the write fails is lost. Gives the drives that were lost so far.
     pub fn append_stripe<S: Shelf>(&mut self, stripe: &StripeData, shelf: &mut S) -> Lost

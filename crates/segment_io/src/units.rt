@@ -1,17 +1,44 @@
 // Calls on the drive of one unit.
-ghost use Rattle.std.specs.Prelude.{◌≡◌, ℕ, ◌<◌, ◌≤◌, [], false, length};
+ghost use Rattle.std.specs.Prelude.{IsTrue, ◌↔◌, ◌≡◌, ℕ, ◌<◌, ◌≤◌, [], false, length};
 ghost use Rattle.pur_base.specs.Bytes.{bytes_at};
 ghost use Rattle.pur_base.specs.declared.device.Device.{Device};
 ghost use Rattle.pur_base.specs.Devices.{drive};
 ghost use Rattle.segment_codec.specs.declared.position.TheConstants.{WRITE_UNIT_BYTES, STRIPES};
 ghost use Rattle.world.specs.Shelf.{Continues, OthersStay};
 ghost use Rattle.world.specs.Writes.{OneRange, WritesOnly};
-ghost use Rattle.segment_io.specs.Places.{IsPlace, write_unit_at};
+ghost use Rattle.segment_io.specs.Places.{IsPlace, ArePlaces, write_unit_at};
 ghost use Rattle.segment_io.specs.Lost.{is_in, LosesOnly, NoByte};
 
-use pur_base::{Device, DriveId, Lost, Place, UNIT_BYTES};
+use parity72::SHARDS;
+use pur_base::{BOOT_UNITS, Device, DriveId, Lost, Place, Places, UNIT_BYTES};
 use segment_codec::WRITE_UNIT_BYTES;
 use world::Shelf;
+
+/// Whether the place is a unit of the shelf behind the boot region.
+fn is_place<S: Shelf>(shelf: &S, place: Place) -> bool
+    ensures { IsTrue result ↔ IsPlace (S.shelf shelf.now) place }
+{
+    place.slot < shelf.drives() && BOOT_UNITS <= place.unit && place.unit < shelf.units()
+}
+
+/// Whether these are units of the shelf behind the boot region, by ascending slot.
+pub fn are_places<S: Shelf>(shelf: &S, places: &Places) -> bool
+    ensures { IsTrue result ↔ ArePlaces (S.shelf shelf.now) places.now }
+{
+    let mut least = 0;
+    for shard in 0..SHARDS {
+        let place = places[shard];
+        if !is_place(shelf, place) {
+            return false;
+        }
+        let slot = place.slot as u16;
+        if slot < least {
+            return false;
+        }
+        least = slot + 1;
+    }
+    true
+}
 
 /// Writes a write unit of a unit, unless its drive is lost. Where the write fails, the drive is lost.
 pub fn write_unit<S: Shelf>(shelf: &mut S, place: Place, n: u8, from: &[u8], lost: &mut Lost)
