@@ -1,0 +1,72 @@
+-- Stripes are synced, headers written, and these synced.
+use Rattle.std.proofs.Common.{◌≡◌, inl, inr, ⊎_elim, ℕ, ◌+◌, ◌*◌, ◌<◌, ◌≤◌, Bool, false, List, [], slice_index, ◌∙◌, ap, subst, arith}
+use Rattle.pur_base.specs.Bytes.{bytes_at}
+use Rattle.pur_base.specs.declared.device.Device.{Device}
+use Rattle.pur_base.specs.declared.place.Place.{Place}
+use Rattle.world.specs.declared.shelf.Span.{Span}
+use Rattle.world.specs.Shelf.{Shelved, Stop, IsInSome, Continues, LeavesOnly}
+use Rattle.world.specs.Writes.{WritesOnly, LeavesBut}
+use Rattle.world.proofs.Moments.{continues_trans, then_run, weaker}
+use Rattle.world.proofs.Writes.{writes_then, writes_more}
+use Rattle.segment_io.specs.Lost.{is_in, LosesOnly, NoByte}
+use Rattle.segment_io.specs.Places.{ArePlaces, place_of, drive_of, write_unit_at, OnUnits}
+use Rattle.segment_io.specs.Stripes.{bytes_of, UnitsHold, HoldsStripe}
+use Rattle.segment_io.specs.Headers.{AreDrivesOf, AreSynced, HeadersComeLast}
+use Rattle.segment_io.proofs.Losing.{not_before}
+use Rattle.segment_io.proofs.Kept.{elsewhere}
+
+-- nothing written is little of whatever is
+pub nothing : (W : Device → ℕ → Type 0) {a b : Shelved} → WritesOnly NoByte a b → WritesOnly W a b
+nothing W {a} {b} writes = writes_more (λ d i w. absurd w) writes
+
+pub same_units : (a b : Shelved) (places : List Place) (was now : List Bool) (n : ℕ) (units : ℕ → List ℕ) → LosesOnly a b was now → ((d : Device) → (b.disk d).bytes ≡ (a.disk d).bytes) → UnitsHold (bytes_of a) places was n units → UnitsHold (bytes_of b) places now n units
+same_units a b places was now n units loses same holds k lt none =
+    ap (bytes_at (write_unit_at (place_of places k) n) 4096) (same (drive_of places k)) ∙ holds k lt (not_before a b was now (place_of places k).slot loses none)
+
+pub same_stripe : (a b : Shelved) (places : List Place) (was now : List Bool) (stripe : ℕ) (shards : List (List ℕ)) → LosesOnly a b was now → ((d : Device) → (b.disk d).bytes ≡ (a.disk d).bytes) → HoldsStripe (bytes_of a) places was stripe shards → HoldsStripe (bytes_of b) places now stripe shards
+same_stripe a b places was now stripe shards loses same holds = record {
+  codeword = holds.codeword;
+  units = same_units a b places was now (stripe + 1) _ loses same holds.units;
+}
+
+-- the drives of a segment are one set
+pub synced_as : (e : Shelved) (places : List Place) (drives others lost : List Bool) → AreDrivesOf places drives → AreDrivesOf places others → AreSynced e drives lost → AreSynced e others lost
+synced_as e places drives others lost of also synced slot is none =
+    let h = also.no_other slot is in
+    synced slot (ap (is_in drives) h.2 ∙ of.each h.0 h.1) none
+
+module _ (a b c e : Shelved) (places : List Place) (stripes : ℕ) (drives second third fourth : List Bool)
+    (are : ArePlaces a places) (of : AreDrivesOf places drives)
+    (ab : Continues a b) (bc : Continues b c) (synced : AreSynced b drives second) (same_b : (d : Device) → (b.disk d).bytes ≡ (a.disk d).bytes)
+    (first : WritesOnly NoByte a b) (headers : WritesOnly (OnUnits places 0 1) b c) (last : WritesOnly NoByte c e)
+    (lost_c : LosesOnly b c second third) (lost_e : LosesOnly c e third fourth) where
+  clean_b : (shard : ℕ) → shard < 9 → is_in fourth (place_of places shard).slot ≡ false → (b.disk (drive_of places shard)).dirty ≡ []
+  clean_b shard lt none =
+      let slot = (place_of places shard).slot in
+      synced slot (of.each shard lt) (not_before b c second third slot lost_c (not_before c e third fourth slot lost_e none))
+
+  in_stripes : (shard i : ℕ) → shard < 9 → write_unit_at (place_of places shard) 1 ≤ i → i < write_unit_at (place_of places shard) 1 + 4096 * stripes → OnUnits places 0 1 (drive_of places shard) i → ⊥
+  in_stripes shard i within from to w = elsewhere a places 0 1 1 stripes shard are within (inr (omega arith)) i from to w
+
+  not_dirty : (shard i : ℕ) → shard < 9 → is_in fourth (place_of places shard).slot ≡ false → IsInSome (b.disk (drive_of places shard)).dirty i → ⊥
+  not_dirty shard i lt none is = subst (λ (l : List Span). IsInSome l i) (clean_b shard lt none) is
+
+  syncing : (stop : Stop) → LeavesBut NoByte a stop → HeadersComeLast a places stripes fourth stop
+  syncing stop left = inl (λ shard lt i is clean. (left.bytes (drive_of places shard)).same i clean (λ w. w))
+
+  heading : (stop : Stop) → LeavesBut (OnUnits places 0 1) b stop → HeadersComeLast a places stripes fourth stop
+  heading stop left = inr (λ shard lt none i is.
+      let d = drive_of places shard in
+      (left.bytes d).same i (not_dirty shard i lt none) (in_stripes shard i lt is.0 is.1) ∙ ap (λ (l : List ℕ). slice_index l i) (same_b d))
+
+  ending : (stop : Stop) → LeavesBut NoByte c stop → HeadersComeLast a places stripes fourth stop
+  ending stop left = inr (λ shard lt none i is.
+      let d = drive_of places shard in
+      (left.bytes d).same i (λ dirty. ⊎_elim (not_dirty shard i lt none) (in_stripes shard i lt is.0 is.1) ((headers.device d).dirty i dirty)) (λ w. w)
+      ∙ (headers.device d).bytes i (in_stripes shard i lt is.0 is.1) ∙ ap (λ (l : List ℕ). slice_index l i) (same_b d))
+
+  pub headers_come_last : LeavesOnly a e (HeadersComeLast a places stripes fourth)
+  headers_come_last = then_run (continues_trans ab bc) (then_run ab (weaker syncing first.any_moment) (weaker heading headers.any_moment)) (weaker ending last.any_moment)
+
+  pub close_writes : WritesOnly (OnUnits places 0 1) a e
+  close_writes = writes_then (continues_trans ab bc) (writes_then ab (nothing (OnUnits places 0 1) first) headers) (nothing (OnUnits places 0 1) last)

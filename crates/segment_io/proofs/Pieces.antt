@@ -1,0 +1,52 @@
+-- Data is put together piece by piece, each within one shard.
+use Rattle.std.proofs.Common.{◌≡◌, inl, inr, ℕ, ◌+◌, ◌-◌, ◌/◌, ◌%◌, ◌<◌, ◌≤◌, List, ◌++◌, length, take, drop, slice_index, sym, ◌∙◌, ap, arith}
+use Rattle.std.proofs.lemmas.Bool.{cases_lt}
+use Rattle.std.proofs.lemmas.List.{get_or-take, get_or_append_left, length-take-le}
+use Rattle.std.proofs.Math.Seq.{get_or-append_right}
+use borrow.Rule.Slice.PartMut.{put_mid}
+use Rattle.pur_base.specs.Bytes.{bytes_at}
+use Rattle.parity72.specs.Parity.{shard_of}
+use Rattle.segment_io.specs.Runs.{data_byte, IsDataFrom}
+use Rattle.segment_io.proofs.Parts.{at_part}
+
+-- a place a little behind another, in the same shard
+pub same_shard : (y o : ℕ) → y % 4096 + o < 4096 → (y + o) / 4096 ≡ y / 4096
+same_shard y o lt = omega (arith, lt)
+
+pub further_in : (y o : ℕ) → y % 4096 + o < 4096 → (y + o) % 4096 ≡ y % 4096 + o
+further_in y o lt = omega (arith, lt, same_shard y o lt)
+
+-- what a piece of a shard holds
+pub piece_holds : (whole : List (List ℕ)) (at size : ℕ) (o : ℕ) → at % 4096 + size ≤ 4096 → o < size → slice_index (bytes_at (at % 4096) size (shard_of whole (at / 4096))) o ≡ data_byte whole (at + o)
+piece_holds whole at size o fits lt =
+    let within : at % 4096 + o < 4096 = omega (arith, fits, lt) in
+    at_part (at % 4096) size (shard_of whole (at / 4096)) o lt
+    ∙ sym (ap (λ (k : ℕ). slice_index (shard_of whole k) ((at + o) % 4096)) (same_shard at o within) ∙ ap (λ (k : ℕ). slice_index (shard_of whole (at / 4096)) k) (further_in at o within))
+
+pub put_below : (at k i : ℕ) (xs ys : List ℕ) → i < at → at ≤ length xs → slice_index (put_mid at k xs ys) i ≡ slice_index xs i
+put_below at k i xs ys lt fits =
+    get_or_append_left (take at xs) (ys ++ drop k (drop at xs)) 0 i (omega (arith, lt, length-take-le at xs fits)) ∙ at_front
+  where
+    at_front : slice_index (take at xs) i ≡ slice_index xs i
+    at_front = get_or-take at xs i 0 lt
+
+pub put_in : (at k i : ℕ) (xs ys : List ℕ) → at ≤ i → i < at + length ys → at ≤ length xs → slice_index (put_mid at k xs ys) i ≡ slice_index ys (i - at)
+put_in at k i xs ys le lt fits =
+    let front : length (take at xs) ≡ at = length-take-le at xs fits in
+    get_or-append_right (take at xs) (ys ++ drop k (drop at xs)) i 0 (omega (arith, front, le))
+    ∙ ap (λ (n : ℕ). slice_index (ys ++ drop k (drop at xs)) (i - n)) front
+    ∙ get_or_append_left ys (drop k (drop at xs)) 0 (i - at) (omega (arith, le, lt))
+
+-- one more piece
+pub one_piece : (whole : List (List ℕ)) (offset done size k : ℕ) (into part : List ℕ) → IsDataFrom whole offset done into → done + size ≤ length into → length part ≡ size → (offset + done) % 4096 + size ≤ 4096
+    → part ≡ bytes_at ((offset + done) % 4096) size (shard_of whole ((offset + done) / 4096)) → IsDataFrom whole offset (done + size) (put_mid done k into part)
+one_piece whole offset done size k into part so_far fits long within is i lt = elim (cases_lt i done) [
+  | inl below ↦ put_below done k i into part below (omega (arith, fits)) ∙ so_far i below
+  | inr above ↦
+      let o : i - done < size = omega (arith, above, lt) in
+      let at : offset + done + (i - done) ≡ offset + i = omega (arith, above) in
+      put_in done k i into part above (omega (arith, lt, long)) (omega (arith, fits))
+      ∙ ap (λ (l : List ℕ). slice_index l (i - done)) is
+      ∙ piece_holds whole (offset + done) size (i - done) within o
+      ∙ ap (data_byte whole) at
+]

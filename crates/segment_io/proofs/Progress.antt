@@ -1,0 +1,66 @@
+-- A write unit is written on one drive after another.
+use Rattle.std.proofs.Common.{◌≡◌, ◌≢◌, inl, inr, ⊎_elim, ℕ, ◌+◌, ◌<◌, Bool, false, List, refl, ◌∙◌, ap, arith, below_more}
+use Rattle.std.proofs.lemmas.Bool.{cases_order}
+use Rattle.pur_base.specs.Bytes.{bytes_at}
+use Rattle.pur_base.specs.declared.device.Device.{Device}
+use Rattle.pur_base.specs.declared.place.Place.{Place}
+use Rattle.pur_base.proofs.Devices.{drives_apart}
+use Rattle.world.specs.Shelf.{Shelved, Disk, IsShelf, OthersStay, Continues}
+use Rattle.world.specs.Writes.{OneRange, WritesOnly}
+use Rattle.world.proofs.Moments.{continues_refl, continues_trans}
+use Rattle.world.proofs.Writes.{writes_then, writes_more, nothing_written}
+use Rattle.segment_io.specs.Lost.{is_in, LosesOnly}
+use Rattle.segment_io.specs.Places.{ArePlaces, place_of, drive_of, write_unit_at, OnUnits, OthersStayOf}
+use Rattle.segment_io.specs.Stripes.{bytes_of, unit_in}
+use Rattle.segment_io.proofs.Losing.{loses_none, loses_then, not_before}
+
+-- the drives of two shards are apart
+pub apart : (a : Shelved) (places : List Place) (first second : ℕ) → ArePlaces a places → first ≢ second → first < 9 → second < 9 → drive_of places first ≢ drive_of places second
+apart a places first second are ne in_first in_second = drives_apart (place_of places first).slot (place_of places second).slot
+    (elim (cases_order first second) [
+      | inl same ↦ absurd (ne same)
+      | inr side ↦ ⊎_elim (λ less. λ e. omega (arith, are.ascending first second less in_second, e)) (λ more. λ e. omega (arith, are.ascending second first more in_first, e)) side
+    ])
+
+-- what a call on one drive writes is in the nine units
+pub in_units : (places : List Place) (n shard : ℕ) → shard < 9 → (d : Device) (i : ℕ) → OneRange (drive_of places shard) (write_unit_at (place_of places shard) n) 4096 d i → OnUnits places n 1 d i
+in_units places n shard within d i w = (shard, within, w)
+
+-- the units of the first shards hold what is written there, but for those on lost drives
+abbrev pub Hold : Shelved → List Place → List Bool → ℕ → (ℕ → List ℕ) → ℕ → Type 0
+Hold b places now n units upto = (shard : ℕ) → shard < upto → is_in now (place_of places shard).slot ≡ false → unit_in (bytes_of b) places n shard ≡ units shard
+
+pub record Progress (a b : Shelved) (places : List Place) (n : ℕ) (was now : List Bool) (units : ℕ → List ℕ) (upto : ℕ) : Type 0 where
+  pub continues : Continues a b
+  pub lost : LosesOnly a b was now
+  pub written : a.honest → Hold b places now n units upto
+  pub writes : a.honest → WritesOnly (OnUnits places n 1) a b
+  pub others : OthersStayOf places a b
+
+pub started : (a : Shelved) (places : List Place) (n : ℕ) (was : List Bool) (units : ℕ → List ℕ) → IsShelf a → Progress a a places n was was units 0
+started a places n was units is = record {
+  continues = continues_refl a;
+  lost = loses_none a was;
+  written = λ h shard lt. absurd (omega (arith, lt));
+  writes = λ h. nothing_written a is;
+  others = λ d none. refl;
+}
+
+pub one_more : (a b c : Shelved) (places : List Place) (n : ℕ) (was mid now : List Bool) (units : ℕ → List ℕ) (shard : ℕ) → ArePlaces a places → shard < 9 → IsShelf c → Progress a b places n was mid units shard
+    → Continues b c → LosesOnly b c mid now
+    → (b.honest → is_in now (place_of places shard).slot ≡ false → unit_in (bytes_of c) places n shard ≡ units shard)
+    → (b.honest → WritesOnly (OneRange (drive_of places shard) (write_unit_at (place_of places shard) n) 4096) b c)
+    → OthersStay (drive_of places shard) b c
+    → Progress a c places n was now units (shard + 1)
+one_more a b c places n was mid now units shard are within is_c so_far continues loses written writes others = record {
+  continues = continues_trans so_far.continues continues;
+  lost = loses_then a b c was mid now is_c so_far.continues continues so_far.lost loses;
+  written = λ h. below_more (λ k. is_in now (place_of places k).slot ≡ false → unit_in (bytes_of c) places n k ≡ units k) shard (earlier h) (λ none. written (so_far.continues.honest h) none);
+  writes = λ h. writes_then so_far.continues (so_far.writes h) (writes_more (in_units places n shard within) (writes (so_far.continues.honest h)));
+  others = λ d none. others d (none shard within) ∙ so_far.others d none;
+}
+  where
+    earlier : a.honest → (k : ℕ) → k < shard → is_in now (place_of places k).slot ≡ false → unit_in (bytes_of c) places n k ≡ units k
+    earlier h k lt none =
+        ap (λ (d : Disk). bytes_at (write_unit_at (place_of places k) n) 4096 d.bytes) (others (drive_of places k) (apart a places k shard are (omega (arith, lt)) (omega (arith, lt, within)) within))
+        ∙ so_far.written h k lt (not_before b c mid now (place_of places k).slot loses none)

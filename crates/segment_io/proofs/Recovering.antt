@@ -1,0 +1,61 @@
+-- What a stripe is, once its shards were read.
+use Rattle.std.proofs.Common.{◌≡◌, inl, inr, ℕ, ◌+◌, ◌<◌, Bool, true, false, List, sym, ◌∙◌, arith}
+use Rattle.std.proofs.lemmas.Bool.{cases_Bool}
+use Rattle.pur_base.specs.declared.place.Place.{Place}
+use Rattle.parity72.specs.Parity.{shard_of}
+use Rattle.parity72.specs.Recovery.{AgreesOutside}
+use Rattle.world.specs.Shelf.{Shelved}
+use Rattle.segment_io.specs.Lost.{is_in}
+use Rattle.segment_io.specs.Places.{place_of, drive_of}
+use Rattle.segment_io.specs.Stripes.{bytes_of, unit_in}
+use Rattle.segment_io.specs.Reads.{is_unknown, PartRead, Tried, ThreeUnknown, AreUnknown, IsOn, AreLost}
+
+abbrev Read : Shelved → Shelved → List Place → ℕ → List Bool → List Bool → List (List ℕ) → Type 0
+Read a b places stripe was now shards = (k : ℕ) → k < 9 → PartRead a.honest (is_unknown was k) (is_unknown now k) (unit_in (bytes_of a) places (stripe + 1) k) (shard_of shards k) (a.disk (drive_of places k)) (b.disk (drive_of places k))
+
+-- the shards that are known agree with the codeword
+pub agrees : (a b : Shelved) (places : List Place) (stripe : ℕ) (was now : List Bool) (shards whole : List (List ℕ)) (numbers : List ℕ) → a.honest → Read a b places stripe was now shards → AreUnknown now numbers → IsOn a b places was stripe whole → AgreesOutside numbers shards whole
+agrees a b places stripe was now shards whole numbers h read are on k lt none = elim (cases_Bool (is_unknown now k)) [
+  | inl is ↦ absurd (none (are k lt is))
+  | inr known ↦ (read k lt).read h known ∙ on.agrees k lt (known_before known) ((read k lt).counts known)
+]
+  where
+    known_before : is_unknown now k ≡ false → is_unknown was k ≡ false
+    known_before known = elim (cases_Bool (is_unknown was k)) [
+      | inl is ↦ absurd (cc ((read k lt).stays is, known))
+      | inr not ↦ not
+    ]
+
+pub are_lost : (a b : Shelved) (places : List Place) (stripe : ℕ) (was now : List Bool) (shards : List (List ℕ)) (drives : List Bool) → Read a b places stripe was now shards → ThreeUnknown now
+    → ((k : ℕ) → k < 9 → is_in drives (place_of places k).slot ≡ is_unknown now k) → ((slot : ℕ) → is_in drives slot ≡ true → (k : ℕ) × (k < 9) × (slot ≡ (place_of places k).slot))
+    → AreLost a b places (is_unknown was) drives
+are_lost a b places stripe was now shards drives read three each no_other = record {
+  three = record {
+    first = three.first;
+    second = three.second;
+    third = three.third;
+    in_order = three.in_order;
+    are = (each three.first (omega (arith, three.in_order.0, three.in_order.1, three.in_order.2)) ∙ three.are.0, each three.second (omega (arith, three.in_order.1, three.in_order.2)) ∙ three.are.1, each three.third three.in_order.2 ∙ three.are.2);
+  };
+  no_other = no_other;
+  cause = λ k lt is. (read k lt).cause (sym (each k lt) ∙ is);
+  reported = λ k lt none. let known : is_unknown now k ≡ false = sym (each k lt) ∙ none in (before k lt known, (read k lt).counts known);
+}
+  where
+    before : (k : ℕ) → k < 9 → is_unknown now k ≡ false → is_unknown was k ≡ false
+    before k lt known = elim (cases_Bool (is_unknown was k)) [
+      | inl is ↦ absurd (cc ((read k lt).stays is, known))
+      | inr not ↦ not
+    ]
+
+pub has_tried : (a b : Shelved) (places : List Place) (stripe : ℕ) (was now : List Bool) (shards : List (List ℕ)) → Read a b places stripe was now shards → Tried a b places (is_unknown was) now
+has_tried a b places stripe was now shards read = record {
+  cause = λ k lt is. (read k lt).cause is;
+  counts = λ k lt known. (known_before k lt known, (read k lt).counts known);
+}
+  where
+    known_before : (k : ℕ) → k < 9 → is_unknown now k ≡ false → is_unknown was k ≡ false
+    known_before k lt known = elim (cases_Bool (is_unknown was k)) [
+      | inl is ↦ absurd (cc ((read k lt).stays is, known))
+      | inr not ↦ not
+    ]

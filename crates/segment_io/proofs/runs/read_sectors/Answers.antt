@@ -1,0 +1,67 @@
+use Rattle.std.proofs.Common.{◌≡◌, ◌+◌, ◌*◌, ◌%◌, ◌≤◌, length, arith}
+use Rattle.std.specs.Prelude.{slice_range}
+use Rattle.std.proofs.lemmas.Result.{err_from_is_err_and}
+use Rattle.std.proofs.lemmas.List.Edits.{length-between}
+use Rattle.segment_io.specs.Reads.{is_unknown, is_missing_in}
+use Rattle.segment_io.proofs.Tried.{lost_in_all}
+use Rattle.segment_io.proofs.Tries.{tries_then, stands_after}
+use Rattle.segment_io.proofs.Targets.{lost_as}
+use Rattle.segment_io.proofs.Sectors.{one_stripe, sector_of_run}
+use Rattle.segment_io.proofs.runs.read_sectors.Goals as goal
+
+pub returns-in_err-read_in_stripe-clause-continues : goal.returns-in_err-read_in_stripe-clause-continues
+returns-in_err-read_in_stripe-clause-continues g c =
+    let x = c.read_in_stripe.ensures in
+    let tries = tries_then (g.S.Shelf.shelf c.args.shelf.now) (g.S.Shelf.shelf c.loop-done.shelf) (g.S.Shelf.shelf c.read_in_stripe.new.shelf) c.args.places.now (is_unknown c.missing_shards-unknown.result) c.loop-done.unknown c.read_in_stripe.new.unknown
+    (g.met.S.Shelf.is_shelf c.read_in_stripe.new.shelf) c.loop-done.invariant.tries (record { continues = x.continues; tried = x.tried; same = x.same; writes = x.writes; others = x.others }) in
+    tries.continues
+
+pub returns-in_err-read_in_stripe-clause-lost : goal.returns-in_err-read_in_stripe-clause-lost
+returns-in_err-read_in_stripe-clause-lost g c =
+    let r = err_from_is_err_and c.from_residual.result c.from_residual.ensures.1 in
+    let a = g.S.Shelf.shelf c.args.shelf.now in
+    let n = g.S.Shelf.shelf c.read_in_stripe.new.shelf in
+    let places = c.args.places.now in
+    let drives = c.in_err-read_in_stripe.field-0.0.drives in
+    rw (r.1, r.2) (lost_as a n places (is_unknown c.missing_shards-unknown.result) (is_missing_in c.args.missing.now places) drives c.missing_shards-unknown.ensures
+    (lost_in_all a (g.S.Shelf.shelf c.loop-done.shelf) n places (is_unknown c.missing_shards-unknown.result) c.loop-done.unknown drives
+    (g.met.S.Shelf.is_shelf c.read_in_stripe.new.shelf) c.loop-done.invariant.tries.continues c.read_in_stripe.ensures.continues c.loop-done.invariant.tries.tried c.in_err-read_in_stripe.ensures.lost))
+
+pub returns-in_err-read_in_stripe-clause-writes : goal.returns-in_err-read_in_stripe-clause-writes
+returns-in_err-read_in_stripe-clause-writes g c =
+    let x = c.read_in_stripe.ensures in
+    let tries = tries_then (g.S.Shelf.shelf c.args.shelf.now) (g.S.Shelf.shelf c.loop-done.shelf) (g.S.Shelf.shelf c.read_in_stripe.new.shelf) c.args.places.now (is_unknown c.missing_shards-unknown.result) c.loop-done.unknown c.read_in_stripe.new.unknown
+    (g.met.S.Shelf.is_shelf c.read_in_stripe.new.shelf) c.loop-done.invariant.tries (record { continues = x.continues; tried = x.tried; same = x.same; writes = x.writes; others = x.others }) in
+    tries.writes
+
+pub loop-done-preserved : goal.loop-done-preserved
+loop-done-preserved g c =
+    let a = g.S.Shelf.shelf c.args.shelf.now in
+    let b = g.S.Shelf.shelf c.loop-done.shelf in
+    let n = g.S.Shelf.shelf c.read_in_stripe.new.shelf in
+    let places = c.args.places.now in
+    let said = is_unknown c.missing_shards-unknown.result in
+    let inv = c.loop-done.invariant in
+    let x = c.read_in_stripe.ensures in
+    let start = 512 * c.args.index in
+    let done = c.loop-done.done in
+    let size = c.min-size.result in
+    let into = c.loop-done.into in
+    let part = c.read_in_stripe.new.into in
+    let fits : done + size ≤ length into = omega arith in
+    let cut : length (slice_range into done (done + size)) ≡ size = omega (arith, length-between into done (done + size) fits) in
+    let long : length part ≡ size = omega (arith, cut) in
+    let inside : (start + done) % 28672 + size ≤ 28672 = omega arith in
+    record {
+      within = omega arith;
+      aligned = omega arith;
+      tries = tries_then a b n places said c.loop-done.unknown c.read_in_stripe.new.unknown (g.met.S.Shelf.is_shelf c.read_in_stripe.new.shelf) inv.tries (record { continues = x.continues; tried = x.tried; same = x.same; writes = x.writes; others = x.others });
+      holds = λ h. one_stripe a places said start done size _ _ into part (inv.holds h) fits long cut inside
+          (λ whole stands. c.in_ok-read_in_stripe.ensures.read (inv.tries.continues.honest h) whole (stands_after a b places said c.loop-done.unknown _ whole h inv.tries stands));
+      rest = g.met.S.Shelf.shelf_rest_stays.transitive _ _ _ inv.rest x.rest;
+    }
+
+pub returns-clause-sectors : goal.returns-clause-sectors
+returns-clause-sectors g c h view j bytes fits shows stands =
+    sector_of_run (g.S.Shelf.shelf c.args.shelf.now) c.args.places.now c.args.missing.now c.missing_shards-unknown.result c.args.index j c.loop-done.done c.loop-done.into view bytes c.requires.places c.missing_shards-unknown.ensures
+    (c.loop-done.invariant.holds h) (omega (arith, fits, c.loop-done-test.false)) c.loop-done.invariant.within shows stands

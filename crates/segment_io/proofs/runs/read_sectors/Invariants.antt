@@ -1,0 +1,21 @@
+use Rattle.std.proofs.Common.{◌≡◌, ◌≤◌, ◌<◌, ◌-◌, ◌+◌, ◌/◌, ◌%◌, List, ℕ, length, slice_index}
+use Rattle.segment_io.specs.Reads.{is_unknown}
+use Rattle.segment_io.specs.Runs.{data_byte, StandsBut}
+use Rattle.segment_io.proofs.Tries.{Tries}
+use Rattle.segment_io.proofs.runs.read_sectors.Given as goal
+
+abbrev pub invariant-loop-done : goal.invariant-loop-done
+invariant-loop-done g l =
+    let a = g.S.Shelf.shelf l.initial.shelf in
+    let b = g.S.Shelf.shelf l.shelf in
+    record {
+      within : l.done ≤ length l.into;
+      aligned : l.done % 512 ≡ 0;
+      tries : Tries a b l.places (is_unknown l.initial.unknown) l.unknown;
+      holds : a.honest → (stripe : ℕ) (whole : List (List ℕ)) → StandsBut a l.places (is_unknown l.initial.unknown) stripe whole → (i : ℕ) → i < l.done → (l.start + i) / 28672 ≡ stripe
+          → slice_index l.into i ≡ data_byte whole ((l.start + i) % 28672);
+      rest : g.S.Shelf.shelf_rest l.initial.shelf l.shelf;
+    }
+
+abbrev pub decreases-loop-done : goal.decreases-loop-done
+decreases-loop-done g l = length l.initial.into - l.done

@@ -1,0 +1,7 @@
+use Rattle.std.proofs.Common.{arith}
+use Rattle.segment_io.proofs.Losing.{loses_one}
+use Rattle.segment_io.proofs.units.sync_drive.Goals as goal
+
+pub returns-clause-lost : goal.returns-clause-lost
+returns-clause-lost g c =
+    loses_one _ _ c.args.lost.now.drives c.args.slot c.sync-answer.result c.is_err.result (omega (arith, (g.met.S.Shelf.is_shelf c.args.shelf.now).drives.1)) c.if-lost-at.false c.is_err.ensures.value c.sync-answer.ensures.others c.sync-answer.ensures.counts
