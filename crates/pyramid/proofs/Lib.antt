@@ -12,3 +12,6 @@ pub mod PlaceLemmas
 pub mod WeaveLemmas
 pub mod SpanLemmas
 pub mod PruneLemmas
+pub mod ShownLemmas
+pub mod CoverLemmas
+pub mod ElisionLemmas

@@ -39,6 +39,15 @@ module _ {F : Type 0} (number : F → ℕ) (t : F → Bool) where
       one true h = bounds_more x f (newest number t xs) h
       one false h = h
 
+  -- there is a newest one of those that pass, and it is no older
+  pub newest_over : (xs : List F) (f : F) → Contains xs f → t f ≡ true → (h : F) × (newest number t xs ≡ Some h) × (number f ≤ number h)
+  unfolding Bounds
+  newest_over xs f c p = one (newest number t xs) refl (newest_bounds xs f c p)
+    where
+      one : (o : Option F) → newest number t xs ≡ o → Bounds o f → (h : F) × (newest number t xs ≡ Some h) × (number f ≤ number h)
+      one None e b = absurd b
+      one (Some g) e b = (g, e, b)
+
   pub same_newest : (xs ys : List F) → ((f : F) → Contains xs f ↔ Contains ys f) → AreDistinct number ys → newest number t xs ≡ newest number t ys
   unfolding Bounds
   same_newest xs ys same distinct = one (newest number t xs) (newest number t ys) (newest_found number t xs) (newest_found number t ys) (newest_bounds xs) (newest_bounds ys)

@@ -11,7 +11,7 @@ mod pyramid;
 mod range;
 mod search;
 
-pub use laws::laws_of_facts;
+pub use laws::{laws_of_elisions, laws_of_facts};
 pub use patch::Patch;
 pub use pyramid::Pyramid;
 
