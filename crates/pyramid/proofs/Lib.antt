@@ -12,3 +12,5 @@ pub mod PlaceLemmas
 pub mod WeaveLemmas
 pub mod SpanLemmas
 pub mod PruneLemmas
+pub mod EndLemmas
+pub mod WalkLemmas

@@ -2,6 +2,7 @@
 //! What a table says of a key is what all its facts together say, whatever is flushed, merged or rewritten.
 #![tactic(auto)]
 
+mod ends;
 mod insert;
 mod laws;
 mod merge;
@@ -10,6 +11,7 @@ mod prune;
 mod pyramid;
 mod range;
 mod search;
+mod walk;
 
 pub use laws::laws_of_facts;
 pub use patch::Patch;

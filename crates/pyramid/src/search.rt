@@ -47,6 +47,16 @@ pub fn end_of<F: Fact>(facts: &[F], key: u128) -> usize
     low
 }
 
+/// Where the facts of this key and greater ones begin.
+pub fn start_of<F: Fact>(facts: &[F], key: u128) -> usize
+    requires { IsOrdered F.key F.number facts.now }
+    ensures within { result ≤ length facts.now }
+    ensures below { (i : ℕ) (d : F) → i < result → F.key (slice_index_or facts.now i d) < key }
+    ensures above { (i : ℕ) (d : F) → result ≤ i → i < length facts.now → key ≤ F.key (slice_index_or facts.now i d) }
+{
+    if key == 0 { 0 } else { end_of(facts, key - 1) }
+}
+
 /// Where the fact belongs: those in front are before it, and the others aren't.
 pub fn place_of<F: Fact>(facts: &[F], fact: &F) -> usize
     requires { IsOrdered F.key F.number facts.now }

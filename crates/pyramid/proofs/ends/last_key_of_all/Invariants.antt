@@ -1,0 +1,11 @@
+use Rattle.std.proofs.Common.{◌≤◌, take, Contains}
+use Rattle.pyramid.specs.Layers.{facts_of}
+use Rattle.pyramid.proofs.ends.last_key_of_all.Given as goal
+
+abbrev pub invariant-loop-patch : goal.invariant-loop-patch
+invariant-loop-patch g l = record {
+  from : l.fn.from ≤ l.key;
+  to : l.key ≤ l.to;
+  flushed : (f : g.row.F.Denot) → Contains (facts_of (take l.patch-index l.patches)) f → g.F.Fact.key f ≤ l.to → g.F.Fact.key f ≤ l.key;
+  unflushed : (f : g.row.F.Denot) → Contains l.fn.unflushed f → g.F.Fact.key f ≤ l.to → g.F.Fact.key f ≤ l.key;
+}
