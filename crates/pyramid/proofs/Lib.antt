@@ -14,3 +14,4 @@ pub mod SpanLemmas
 pub mod PruneLemmas
 pub mod EndLemmas
 pub mod WalkLemmas
+pub mod DistinctLemmas

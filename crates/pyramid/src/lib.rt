@@ -16,6 +16,7 @@ mod walk;
 pub use laws::laws_of_facts;
 pub use patch::Patch;
 pub use pyramid::Pyramid;
+pub use search::key_of;
 
 #[cfg(test)]
 mod tests;

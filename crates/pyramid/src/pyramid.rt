@@ -182,6 +182,7 @@ impl<F: Fact + Drop> Pyramid<F> {
         requires rising { All (λ f. F.number f < F.number fact) (facts_of self.old.patches) }
         ensures patches { self.new.patches ≡ self.old.patches }
         ensures facts { OnOk result ((f : F) → Contains self.new.unflushed f ↔ (Contains self.old.unflushed f ⊎ (f ≡ fact))) }
+        ensures says { OnOk result ((elided : ℕ → Bool) (k : ℕ) → says F.key F.number F.empty (facts_in self.new) elided k ≡ says F.key F.number F.empty (facts_in self.old ++ fact ∷ []) elided k) }
         ensures refused { OnErr result (self.new.unflushed ≡ self.old.unflushed) }
         ensures room { 0 < self.old.room → IsOk result }
         ensures room_left { self.old.room ≤ self.new.room + 1 }
@@ -264,6 +265,7 @@ impl<F: Fact + Drop> Pyramid<F> {
         requires rising { AreBelow F.number (facts_of self.old.patches) run.now }
         ensures patches { self.new.patches ≡ self.old.patches }
         ensures facts { OnOk result ((f : F) → Contains self.new.unflushed f ↔ (Contains self.old.unflushed f ⊎ Contains run.now f)) }
+        ensures says { OnOk result ((elided : ℕ → Bool) (k : ℕ) → says F.key F.number F.empty (facts_in self.new) elided k ≡ says F.key F.number F.empty (facts_in self.old ++ run.now) elided k) }
         ensures refused { OnErr result (self.new.unflushed ≡ self.old.unflushed) }
         ensures room { length run.now ≤ self.old.room → IsOk result }
         ensures room_left { self.old.room ≤ self.new.room + length run.now }
