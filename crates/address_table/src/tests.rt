@@ -23,8 +23,7 @@ const ZERO: AddressFact = AddressFact {
 #[test]
 fn sectors_stand_where_the_facts_say(rt: HostRuntime) -> Result<(), NoMemory> {
     let mut table = AddressTable::new(rt.alloc())?;
-    table.put(FIRST)?;
-    table.put_run(&[ZERO])?;
+    table.put_run(&[FIRST, ZERO])?;
     assert_eq!(rt; table.at(MediumId(3), 7, &[]), Some(Target::Stored(HERE)));
     assert_eq!(rt; table.at(MediumId(3), 8, &[]), Some(Target::Zero));
     assert_eq!(rt; table.at(MediumId(3), 7, &[(2, 4)]), None);
@@ -38,7 +37,6 @@ fn sectors_stand_where_the_facts_say(rt: HostRuntime) -> Result<(), NoMemory> {
 fn a_segment_is_pointed_to(rt: HostRuntime) -> Result<(), NoMemory> {
     let mut table = AddressTable::new(rt.alloc())?;
     table.put(FIRST)?;
-    table.put(ZERO)?;
     let found = table.pointing_to(rt.alloc(), SegmentId(5), &[])?;
     assert_eq!(rt; *found.as_slice(), *[FIRST].as_slice());
     table.take_back(Seq(1));
