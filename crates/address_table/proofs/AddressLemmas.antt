@@ -10,13 +10,9 @@ use Rattle.pur_base.specs.Keys.{id_of, key_of}
 use Rattle.pur_base.specs.Says.{says, unless_empty}
 use Rattle.pur_base.specs.Visible.{address, is_elided, is_within, AreElidedRanges}
 use Rattle.pyramid.specs.Layers.{newest_of, AreBelow}
-use Rattle.pyramid.proofs.LayerLemmas.{all_below, below_at}
+use Rattle.pyramid.proofs.KeyLemmas.{id_of_key, within_elided}
 use Rattle.pyramid.proofs.WalkLemmas.{newer_over}
 use Rattle.address_table.specs.Addresses.{number, target_of, visible}
-
--- the id of a key
-pub id_of_key : (id second : ℕ) → second < 2 ^ 64 → id_of (key_of id second) ≡ id
-id_of_key id second l = omega arith
 
 unless_never : (o : Option AddressFact) → option_and_then (unless_empty never) o ≡ o
 unless_never None = refl
@@ -48,26 +44,8 @@ visible_over facts run elided k below =
     one true = refl
     one false = newer_over address_key number k facts run below
 
--- facts that are newer than all are newer than those of some layers
-pub newer_than_flushed : (fs us run : List AddressFact) → AreBelow number (fs ++ us) run → AreBelow number fs run
-newer_than_flushed fs us run h = all_below number fs run (λ f g c d. below_at number (fs ++ us) run f g h (Contains-append_left fs us f c) d)
-
-pub newer_than_unflushed : (fs us run : List AddressFact) → AreBelow number (fs ++ us) run → (f g : AddressFact) → Contains run f → Contains us g → number f ≢ number g
-newer_than_unflushed fs us run h f g c d e =
-    let less : number g < number f = below_at number (fs ++ us) run g f h (Contains-append_right fs us g d) c in
-    omega (arith, less, e)
-
--- two tests that hold of the same are one
-same_tests : (a b : Bool) → IsTrue a ↔ IsTrue b → a ≡ b
-same_tests true true h = refl
-same_tests true false h = let e : false ≡ true = h.0 refl in cc
-same_tests false true h = let e : false ≡ true = h.1 refl in cc
-same_tests false false h = refl
-
 -- ranges of elided ids elide the same
 pub same_addresses : (facts : Facts) (ranges : List (ℕ × ℕ)) (medium sector : ℕ) → AreElidedRanges facts.elisions table.Address ranges
     → target_of facts.addresses (is_within ranges) medium sector ≡ address facts medium sector
 same_addresses facts ranges medium sector h =
-    let same : is_within ranges (id_of (key_of medium sector)) ≡ is_elided facts.elisions table.Address (id_of (key_of medium sector)) =
-    sym (same_tests _ _ (h.same (id_of (key_of medium sector)))) in
-    rw same refl
+    rw (within_elided facts.elisions table.Address ranges (id_of (key_of medium sector)) h) refl

@@ -15,3 +15,4 @@ pub mod PruneLemmas
 pub mod EndLemmas
 pub mod WalkLemmas
 pub mod DistinctLemmas
+pub mod KeyLemmas
