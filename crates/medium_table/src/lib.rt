@@ -3,7 +3,9 @@
 #![tactic(auto)]
 
 mod cut;
+mod ids;
 mod laws;
+mod reach;
 mod table;
 
 pub use laws::laws_of_ranges;

@@ -75,7 +75,11 @@ impl MediumTable {
         let from = key_of(medium.0, 0);
         let to = key_of(medium.0, u64::from(sector));
         match self.facts.last_between(from, to, elided) {
-            Some(range) => if u64::from(sector) < range.end { Some(range) } else { None },
+            Some(range) => if u64::from(sector) < range.end {
+                Some(range)
+            } else {
+                None
+            },
             None => None,
         }
     }
