@@ -16,3 +16,6 @@ pub mod EndLemmas
 pub mod WalkLemmas
 pub mod DistinctLemmas
 pub mod KeyLemmas
+pub mod ShownLemmas
+pub mod CoverLemmas
+pub mod ElisionLemmas

@@ -42,6 +42,22 @@ module _ {F : Type 0} where
   split (x ∷ y ∷ ps) zero l = refl
   split (x ∷ y ∷ ps) (suc i) l = ap (λ l. x ∷ l) (split (y ∷ ps) i (omega (arith, l)))
 
+  -- the facts with a patch in the place of two, and with the two
+  pub facts_replaced : (ps : List (List F)) (i : ℕ) (patch : Option (List F)) (us : List F)
+      → facts_of (take i ps ++ (patches_of patch ++ drop (suc (suc i)) ps)) ++ us ≡ facts_of (take i ps) ++ (patch_facts patch ++ (facts_of (drop (suc (suc i)) ps) ++ us))
+  facts_replaced ps i patch us = ap (λ fs. fs ++ us) (facts_append (take i ps) (patches_of patch ++ drop (suc (suc i)) ps) ∙ ap (λ fs. facts_of (take i ps) ++ fs) (facts_append (patches_of patch) (drop (suc (suc i)) ps)
+      ∙ ap (λ fs. fs ++ facts_of (drop (suc (suc i)) ps)) (facts_patches patch)))
+      ∙ append_assoc (facts_of (take i ps)) (patch_facts patch ++ facts_of (drop (suc (suc i)) ps)) us
+      ∙ ap (λ fs. facts_of (take i ps) ++ fs) (append_assoc (patch_facts patch) (facts_of (drop (suc (suc i)) ps)) us)
+
+  pub facts_split : (ps : List (List F)) (i : ℕ) (us : List F) → suc i < length ps
+      → facts_of ps ++ us ≡ facts_of (take i ps) ++ ((get_or ps i [] ++ get_or ps (suc i) []) ++ (facts_of (drop (suc (suc i)) ps) ++ us))
+  facts_split ps i us l = ap (λ fs. facts_of fs ++ us) (split ps i l)
+      ∙ ap (λ fs. fs ++ us) (facts_append (take i ps) (get_or ps i [] ∷ get_or ps (suc i) [] ∷ drop (suc (suc i)) ps)
+      ∙ ap (λ fs. facts_of (take i ps) ++ fs) (sym (append_assoc (get_or ps i []) (get_or ps (suc i) []) (facts_of (drop (suc (suc i)) ps)))))
+      ∙ append_assoc (facts_of (take i ps)) ((get_or ps i [] ++ get_or ps (suc i) []) ++ facts_of (drop (suc (suc i)) ps)) us
+      ∙ ap (λ fs. facts_of (take i ps) ++ fs) (append_assoc (get_or ps i [] ++ get_or ps (suc i) []) (facts_of (drop (suc (suc i)) ps)) us)
+
 module _ {F : Type 0} (number : F → ℕ) where
   -- numbers still rise
   rises_place : (ps : List (List F)) (i : ℕ) (patch : Option (List F)) (us : List F) → suc i < length ps → Rises number ps us
@@ -139,24 +155,11 @@ module _ {F : Type 0} (key number : F → ℕ) (empty : F → Bool) where
       two : i + 2 ≡ suc (suc i)
       two = omega arith
 
-      new_is : facts_of (take i ps ++ (patches_of patch ++ drop (suc (suc i)) ps)) ++ us ≡ facts_of (take i ps) ++ (patch_facts patch ++ (facts_of (drop (suc (suc i)) ps) ++ us))
-      new_is = ap (λ fs. fs ++ us) (facts_append (take i ps) (patches_of patch ++ drop (suc (suc i)) ps) ∙ ap (λ fs. facts_of (take i ps) ++ fs) (facts_append (patches_of patch) (drop (suc (suc i)) ps)
-          ∙ ap (λ fs. fs ++ facts_of (drop (suc (suc i)) ps)) (facts_patches patch)))
-          ∙ append_assoc (facts_of (take i ps)) (patch_facts patch ++ facts_of (drop (suc (suc i)) ps)) us
-          ∙ ap (λ fs. facts_of (take i ps) ++ fs) (append_assoc (patch_facts patch) (facts_of (drop (suc (suc i)) ps)) us)
-
-      old_is : facts_of ps ++ us ≡ facts_of (take i ps) ++ ((get_or ps i [] ++ get_or ps (suc i) []) ++ (facts_of (drop (suc (suc i)) ps) ++ us))
-      old_is = ap (λ fs. facts_of fs ++ us) (split ps i (omega (arith, l)))
-          ∙ ap (λ fs. fs ++ us) (facts_append (take i ps) (get_or ps i [] ∷ get_or ps (suc i) [] ∷ drop (suc (suc i)) ps)
-          ∙ ap (λ fs. facts_of (take i ps) ++ fs) (sym (append_assoc (get_or ps i []) (get_or ps (suc i) []) (facts_of (drop (suc (suc i)) ps)))))
-          ∙ append_assoc (facts_of (take i ps)) ((get_or ps i [] ++ get_or ps (suc i) []) ++ facts_of (drop (suc (suc i)) ps)) us
-          ∙ ap (λ fs. facts_of (take i ps) ++ fs) (append_assoc (get_or ps i [] ++ get_or ps (suc i) []) (facts_of (drop (suc (suc i)) ps)) us)
-
       first : (i == 0) ≡ true → facts_of (take i ps) ≡ []
       first e = let z : i ≡ 0 = eqb-true _ _ e in ap (λ n. facts_of (take n ps)) z
 
       same : (k : ℕ) → says key number empty (facts_of (replaced ps i patch) ++ us) elided k ≡ says key number empty (facts_of ps ++ us) elided k
-      same k = rw two (rw (new_is, old_is)
+      same k = rw two (rw (facts_replaced ps i patch us, facts_split ps i us (omega (arith, l)))
           (merge_says key number empty (i == 0) elided k (facts_of (take i ps)) (get_or ps i [] ++ get_or ps (suc i) []) (patch_facts patch) (facts_of (drop (suc (suc i)) ps) ++ us)
           (rw one at (m.newest apart k)) first (below_two number ps i us (omega (arith, l)) h)))
 
@@ -196,15 +199,15 @@ module _ {F : Type 0} (key number : F → ℕ) where
   neighbours (x ∷ y ∷ ps) (suc i) us l h = neighbours (y ∷ ps) i us (omega (arith, l)) h.1
 
   -- what two neighbours are merged to
-  pub merged_at : (empty : F → Bool) (within : F → F → Bool) (elided : ℕ → Bool) (ps : List (List F)) (i : ℕ) (us a b : List F) → i + 1 < length ps → IsLayered key number ps us
+  pub merged_at : (empty : F → Bool) (within : F → F → Bool) (apart : IsApart within) (elided : ℕ → Bool) (ps : List (List F)) (i : ℕ) (us a b : List F) → i + 1 < length ps → IsLayered key number ps us
       → a ≡ get_or ps i a → b ≡ get_or ps (i + 1) b
       → IsMerged key number empty within (i == 0) elided (get_or ps i []) (get_or ps (i + 1) []) (filter (stays key empty (i == 0) elided) (merged key a b))
-  merged_at empty within elided ps i us a b l h a_is b_is =
+  merged_at empty within apart elided ps i us a b l h a_is b_is =
       let at : a ≡ get_or ps i [] = a_is ∙ get_or_default ps i a [] (omega (arith, l)) in
       let at2 : b ≡ get_or ps (i + 1) [] = b_is ∙ get_or_default ps (i + 1) b [] l in
       let one : i + 1 ≡ suc i = omega arith in
       let below : AreBelow number (get_or ps i []) (get_or ps (i + 1) []) = rw one (neighbours ps i us (omega (arith, l)) h.rises) in
-      rw (at, at2) (merged_is key number empty within (i == 0) elided (get_or ps i []) (get_or ps (i + 1) []) (h.ascend i [] (omega (arith, l))) (h.ascend (i + 1) [] l) below)
+      rw (at, at2) (merged_is key number empty within apart (i == 0) elided (get_or ps i []) (get_or ps (i + 1) []) (h.ascend i [] (omega (arith, l))) (h.ascend (i + 1) [] l) below)
 
   -- fewer unflushed facts
   pub filter_layered : (ps : List (List F)) (us : List F) (p : F → Bool) → IsLayered key number ps us → IsLayered key number ps (filter p us)
@@ -216,11 +219,11 @@ module _ {F : Type 0} (key number : F → ℕ) where
   }
 
   -- what the only patch is rewritten to
-  pub rewritten_at : (empty : F → Bool) (within : F → F → Bool) (elided : ℕ → Bool) (ps : List (List F)) (us b : List F) → length ps ≡ 1 → IsLayered key number ps us → b ≡ get_or ps 0 b
+  pub rewritten_at : (empty : F → Bool) (within : F → F → Bool) (apart : IsApart within) (elided : ℕ → Bool) (ps : List (List F)) (us b : List F) → length ps ≡ 1 → IsLayered key number ps us → b ≡ get_or ps 0 b
       → IsMerged key number empty within true elided [] (get_or ps 0 []) (filter (stays key empty true elided) (merged key [] b))
-  rewritten_at empty within elided ps us b l h b_is =
+  rewritten_at empty within apart elided ps us b l h b_is =
       let at : b ≡ get_or ps 0 [] = b_is ∙ get_or_default ps 0 b [] (omega (arith, l)) in
-      rw at (merged_is key number empty within true elided [] (get_or ps 0 []) (ascends-nil key) (h.ascend 0 [] (omega (arith, l))) (λ i d m. absurd (omega (arith, m))))
+      rw at (merged_is key number empty within apart true elided [] (get_or ps 0 []) (ascends-nil key) (h.ascend 0 [] (omega (arith, l))) (λ i d m. absurd (omega (arith, m))))
 
   pub rewrite_layered : (ps : List (List F)) (patch : Option (List F)) (us : List F) → length ps ≡ 1 → IsLayered key number ps us → Ascends key (patch_facts patch)
       → ((f : F) → Contains (patch_facts patch) f → Contains (get_or ps 0 []) f) → IsLayered key number (patches_of patch) us

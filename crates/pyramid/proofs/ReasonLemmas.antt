@@ -5,7 +5,7 @@ use Rattle.std.proofs.lemmas.Bool.{ltb-false}
 use Rattle.std.proofs.lemmas.List.Elements.{Contains-append_left, Contains-append_right, Contains-append_cases}
 use Rattle.pur_base.specs.Keys.{id_of}
 use Rattle.pur_base.specs.Says.{Ascends, has_key}
-use Rattle.pyramid.specs.Layers.{IsOrdered, IsBefore, HasNewer, AreBelow, IsFlushed, IsMerged, LiesInOne, stays, if_passes}
+use Rattle.pyramid.specs.Layers.{IsApart, IsOrdered, IsBefore, HasNewer, AreBelow, IsFlushed, IsMerged, LiesInOne, stays, if_passes}
 use Rattle.pyramid.specs.Merging.{lasts, weave, merged}
 use Rattle.pyramid.proofs.ContainsLemmas.{here, there, either, nowhere, filtered, of_filter}
 use Rattle.pyramid.proofs.NewestLemmas.{newest-append}
@@ -157,9 +157,9 @@ module _ {F : Type 0} (key number : F → ℕ) where
       one false false c p q r e = cc
 
   -- what a merge keeps, before facts that lie in others are dropped
-  pub merged_is : (empty : F → Bool) (within : F → F → Bool) (oldest : Bool) (elided : ℕ → Bool) (xs ys : List F) → Ascends key xs → Ascends key ys → AreBelow number xs ys
+  pub merged_is : (empty : F → Bool) (within : F → F → Bool) (apart : IsApart within) (oldest : Bool) (elided : ℕ → Bool) (xs ys : List F) → Ascends key xs → Ascends key ys → AreBelow number xs ys
       → IsMerged key number empty within oldest elided xs ys (filter (stays key empty oldest elided) (merged key xs ys))
-  merged_is empty within oldest elided xs ys a b below = record {
+  merged_is empty within apart oldest elided xs ys a b below = record {
     ascends = ascends_filter key (stays key empty oldest elided) (merged key xs ys) (ascends_merged key xs ys a b);
     source = λ f c. elim (of_merged key xs ys f (of_filter (stays key empty oldest elided) (merged key xs ys) f c)) [
       | inl d ↦ Contains-append_left xs ys f d
@@ -169,7 +169,8 @@ module _ {F : Type 0} (key number : F → ℕ) where
       | inl d ↦ decide f d (stays key empty oldest elided f) refl
       | inr n ↦ inr (inr (inl n))
     ];
-    newest = λ apart k. filter_newest key number k (stays key empty oldest elided) (merged key xs ys) (ascends_merged key xs ys a b)
+    alone = λ nest f g c d w. absurd (apart f g w);
+    newest = λ _ k. filter_newest key number k (stays key empty oldest elided) (merged key xs ys) (ascends_merged key xs ys a b)
         ∙ ap (λ o. option_and_then (if_passes (stays key empty oldest elided)) o) (merged_newest key number k xs ys a b below ∙ sym (newest-append number (has_key key k) xs ys));
   }
     where

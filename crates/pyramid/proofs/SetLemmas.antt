@@ -39,6 +39,15 @@ module _ {F : Type 0} (number : F → ℕ) (t : F → Bool) where
       one true h = bounds_more x f (newest number t xs) h
       one false h = h
 
+  -- there is a newest one of those that pass, and it is no older
+  pub newest_over : (xs : List F) (f : F) → Contains xs f → t f ≡ true → (h : F) × (newest number t xs ≡ Some h) × (number f ≤ number h)
+  unfolding Bounds
+  newest_over xs f c p = one (newest number t xs) refl (newest_bounds xs f c p)
+    where
+      one : (o : Option F) → newest number t xs ≡ o → Bounds o f → (h : F) × (newest number t xs ≡ Some h) × (number f ≤ number h)
+      one None e b = absurd b
+      one (Some g) e b = (g, e, b)
+
   -- where different facts that pass have different numbers
   pub same_passing : (xs ys : List F) → ((f : F) → Contains xs f ↔ Contains ys f) → ((f g : F) → Contains ys f → Contains ys g → t f ≡ true → t g ≡ true → number f ≡ number g → f ≡ g)
       → newest number t xs ≡ newest number t ys

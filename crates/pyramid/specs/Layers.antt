@@ -1,5 +1,5 @@
 -- Layers of facts, and what a table may do with them.
-use Rattle.std.specs.Prelude.{◌≡◌, ◌⊎◌, ℕ, ◌<◌, Bool, ◌&&◌, not, IsTrue, List, [], ◌∷◌, ◌++◌, Option, Some, None, option_and_then, if◌then◌else◌, nat_le, AllPairs, All, Contains, slice_index_or, ⊤, length}
+use Rattle.std.specs.Prelude.{◌≡◌, ◌⊎◌, ℕ, ◌<◌, ◌≤◌, ◌%◌, Bool, ◌&&◌, not, IsTrue, List, [], ◌∷◌, ◌++◌, Option, Some, None, option_and_then, if◌then◌else◌, nat_le, AllPairs, All, Contains, slice_index_or, ⊤, length}
 use Rattle.std.specs.List.{flat_map}
 use Rattle.pur_base.specs.Keys.{id_of}
 use Rattle.pur_base.specs.Says.{newest, has_key, Ascends, says}
@@ -84,6 +84,29 @@ LiesInOne {F} within fs f = (g : F) × Contains fs g × IsTrue (within f g)
 abbrev pub IsApart : {F : Type 0} → (F → F → Bool) → Type 0
 IsApart {F} within = (f g : F) → IsTrue (within f g) → ⊥
 
+-- the class of a key, by its remainder
+abbrev pub class_of : ℕ → ℕ
+class_of k = k % 8
+
+-- facts of a class lie in one another as ranges do that begin at their keys
+pub record NestAsRanges {F : Type 0} (key : F → ℕ) (within : F → F → Bool) : Type 0 where
+  -- a fact lies only in those of its class that begin no later
+  pub before : (f g : F) → IsTrue (within f g) → (key g ≤ key f) × (class_of (key f) ≡ class_of (key g))
+  -- what begins between a fact and one that it lies in lies in that one, or has the fact in it
+  pub between : (f g h : F) → IsTrue (within f g) → key g ≤ key h → key h ≤ key f → class_of (key h) ≡ class_of (key g) → IsTrue (within h g) ⊎ IsTrue (within f h)
+
+-- none of the facts lies in another
+abbrev pub AreAlone : {F : Type 0} → (F → F → Bool) → List F → Type 0
+AreAlone {F} within fs = (f g : F) → Contains fs f → Contains fs g → IsTrue (within f g) → f ≡ g
+
+-- each of the facts is among the others, or lies in one of them
+abbrev pub AreCovered : {F : Type 0} → (F → F → Bool) → List F → List F → Type 0
+AreCovered {F} within fs gs = (f : F) → Contains fs f → Contains gs f ⊎ LiesInOne within gs f
+
+-- a newer fact of a key says all that an older one does
+abbrev pub Grow : {F : Type 0} → (F → ℕ) → (F → ℕ) → (F → F → Bool) → List F → Type 0
+Grow {F} key number within fs = (f g : F) → Contains fs f → Contains fs g → key f ≡ key g → number f < number g → IsTrue (within f g)
+
 -- the new patch has of each key the newest unflushed fact, whether it is empty or elided
 pub record IsFlushed {F : Type 0} (key number : F → ℕ) (unflushed new : List F) : Type 0 where
   pub ascends : Ascends key new
@@ -106,6 +129,8 @@ pub record IsMerged {F : Type 0} (key number : F → ℕ) (empty : F → Bool) (
   -- it is elided, there is a newer one of its key, it is empty in the oldest patch, or it lies in another that stays
   pub dropped : (f : F) → Contains (older ++ newer) f
       → Contains new f ⊎ (IsTrue (elided (id_of (key f))) ⊎ (HasNewer key number (older ++ newer) f ⊎ ((IsTrue oldest × IsTrue (empty f)) ⊎ LiesInOne within new f)))
+  -- none that stays lies in another
+  pub alone : NestAsRanges key within → AreAlone within new
   pub newest : IsApart within → (k : ℕ) → newest_of key number k new ≡ option_and_then (if_passes (stays key empty oldest elided)) (newest_of key number k (older ++ newer))
 
 -- the facts say the same after as before, for every key, wherever at least these ids are elided
@@ -122,4 +147,5 @@ pub record IsPruned {F : Type 0} (key : F → ℕ) (within : F → F → Bool) (
   pub ascends : Ascends key (front ++ rest)
   pub source : (f : F) → Contains (front ++ rest) f → Contains old f
   pub dropped : (f : F) → Contains old f → Contains (front ++ rest) f ⊎ LiesInOne within front f
+  pub alone : NestAsRanges key within → AreAlone within front
   pub same : IsApart within → front ++ rest ≡ old

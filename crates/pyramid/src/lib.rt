@@ -13,7 +13,7 @@ mod range;
 mod search;
 mod walk;
 
-pub use laws::laws_of_facts;
+pub use laws::{laws_of_elisions, laws_of_facts};
 pub use patch::Patch;
 pub use pyramid::Pyramid;
 pub use search::key_of;

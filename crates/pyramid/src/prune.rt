@@ -1,6 +1,6 @@
-ghost use Rattle.std.specs.Prelude.{◌≡◌, ◌<◌, ◌≤◌, [], length, take, IsTrue};
+ghost use Rattle.std.specs.Prelude.{◌≡◌, ◌<◌, ◌≤◌, ◌-◌, ◌==◌, [], false, length, if◌then◌else◌, slice_index_or};
 ghost use Rattle.pur_base.specs.Says.{Ascends};
-ghost use Rattle.pyramid.specs.Layers.{IsPruned, LiesInOne};
+ghost use Rattle.pyramid.specs.Layers.{IsPruned, class_of};
 
 use pur_base::Fact;
 
@@ -9,7 +9,8 @@ const CLASSES: usize = 8;
 
 /// The class of a fact's key.
 fn class_of<F: Fact>(fact: &F) -> usize
-    ensures { result < CLASSES }
+    ensures class { result ≡ class_of (F.key fact.now) }
+    ensures below { result < CLASSES }
 {
     (fact.key() % CLASSES as u128) as usize
 }
@@ -17,7 +18,7 @@ fn class_of<F: Fact>(fact: &F) -> usize
 /// Whether a fact lies in the last of some others.
 fn lies_in_last<F: Fact>(facts: &[F], end: usize, fact: &F) -> bool
     requires { end ≤ length facts.now }
-    ensures { IsTrue result → LiesInOne F.within (take end facts.now) fact.now }
+    ensures { result ≡ (if end == 0 then false else F.within fact.now (slice_index_or facts.now (end - 1) fact.now)) }
 {
     if end == 0 {
         return false;

@@ -1,9 +1,9 @@
-ghost use Rattle.std.specs.Prelude.{◌≡◌, ◌⊎◌, ◌≢◌, ◌↔◌, ℕ, ◌+◌, ◌<◌, ◌≤◌, ◌==◌, Bool, true, nat_lt, filter, [], ◌∷◌, ◌++◌, All, length, take, drop, Contains, IfOk, IfSome, IfNone, None, OnOk, OnErr, IsOk, slice_index_or};
+ghost use Rattle.std.specs.Prelude.{◌≡◌, ◌⊎◌, ◌≢◌, ◌↔◌, ℕ, ◌+◌, ◌<◌, ◌≤◌, ◌==◌, Bool, true, nat_lt, filter, [], ◌∷◌, ◌++◌, All, length, take, drop, Contains, IfOk, IfSome, IfNone, None, OnOk, OnErr, IsOk, IsTrue, slice_index_or};
 ghost use Rattle.pur_base.specs.Says.{says, Ascends};
 ghost use Rattle.pur_base.specs.Visible.{is_within};
 ghost use Rattle.elision.specs.Ranges.{AreApart};
 ghost use Rattle.pyramid.specs.Ends.{IsFirstSaid, IsLastSaid, IsSilent};
-ghost use Rattle.pyramid.specs.Layers.{facts_in, facts_of, newest_of, patch_at, patch_facts, patches_of, AreBelow, AreDistinct, IsApart, IsFlushed, IsLayered, IsMerged, Rises, SaysTheSame};
+ghost use Rattle.pyramid.specs.Layers.{facts_in, facts_of, newest_of, patch_at, patch_facts, patches_of, stays, AreBelow, AreCovered, AreDistinct, Grow, IsApart, IsFlushed, IsLayered, IsMerged, Rises, SaysTheSame};
 
 use crate::ends::{first_key_of_all, last_key_of_all};
 use crate::insert::{insert_all, insert_in_order, keep_below};
@@ -214,6 +214,7 @@ impl<F: Fact + Drop> Pyramid<F> {
         ensures unflushed { self.new.unflushed ≡ [] }
         ensures room { self.new.room ≡ self.old.room + length self.old.unflushed }
         ensures says { (elided : ℕ → Bool) (k : ℕ) → says F.key F.number F.empty (facts_in self.new) elided k ≡ says F.key F.number F.empty (facts_in self.old) elided k }
+        ensures covers { Grow F.key F.number F.within (facts_in self.old) → AreCovered F.within (facts_in self.old) (facts_in self.new) }
     {
         push_patch(&mut self.patches, patch);
         self.unflushed.clear();
@@ -253,6 +254,8 @@ impl<F: Fact + Drop> Pyramid<F> {
         ensures patch_room { self.old.patch_room < self.new.patch_room }
         ensures says { (elided : ℕ → Bool) → IsMerged F.key F.number F.empty F.within (i == 0) elided (patch_at self.old i) (patch_at self.old (i + 1)) (patch_facts patch) → IsApart F.within
             → SaysTheSame F.key F.number F.empty elided (facts_in self.old) (facts_in self.new) }
+        ensures covers { (elided : ℕ → Bool) → IsMerged F.key F.number F.empty F.within (i == 0) elided (patch_at self.old i) (patch_at self.old (i + 1)) (patch_facts patch)
+            → ((f : F) → IsTrue (stays F.key F.empty (i == 0) elided f)) → Grow F.key F.number F.within (facts_in self.old) → AreCovered F.within (facts_in self.old) (facts_in self.new) }
     {
         replace_pair(&mut self.patches, i, patch);
     }
@@ -311,6 +314,8 @@ impl<F: Fact + Drop> Pyramid<F> {
         ensures patch_room { self.old.patch_room ≤ self.new.patch_room }
         ensures says { (elided : ℕ → Bool) → IsMerged F.key F.number F.empty F.within true elided [] (patch_at self.old 0) (patch_facts patch) → IsApart F.within
             → SaysTheSame F.key F.number F.empty elided (facts_in self.old) (facts_in self.new) }
+        ensures covers { (elided : ℕ → Bool) → IsMerged F.key F.number F.empty F.within true elided [] (patch_at self.old 0) (patch_facts patch)
+            → ((f : F) → IsTrue (stays F.key F.empty true elided f)) → Grow F.key F.number F.within (facts_in self.old) → AreCovered F.within (facts_in self.old) (facts_in self.new) }
     {
         replace_only(&mut self.patches, patch);
     }

@@ -1,0 +1,5 @@
+
+use Rattle.object_table.proofs.table.ObjectTable.put_rewritten.Goals as goal
+
+pub put_rewritten-requires-clause-source : goal.put_rewritten-requires-clause-source
+put_rewritten-requires-clause-source c = rw (← c.self.view_is) at c.requires.source

@@ -1,0 +1,83 @@
+-- Segments by ascending id.
+use Rattle.std.proofs.Common.{◌≡◌, ◌≢◌, ◌⊎◌, ℕ, ◌^◌, ◌<◌, ◌≤◌, Bool, true, false, not, filter, List, [], ◌∷◌, ◌++◌, length, get_or, refl, sym, ap, ◌∙◌, arith, inl, inr, All, Contains}
+use Rattle.std.specs.Prelude.{Some, ◌↔◌, IsTrue, nat_lt}
+use Rattle.std.specs.List.{filter_map, range_with_len}
+use Rattle.std.specs.List.Sorted.{IsPartitionedBy, IsPartitionPoint}
+use Rattle.std.proofs.lemmas.Bool.{cases_lt, lt-ltb, ltb-true, ltb-false}
+use Rattle.std.proofs.lemmas.List.Elements.{All-contains}
+use Rattle.pur_base.specs.Keys.{id_of, key_of}
+use Rattle.pur_base.specs.Says.{Ascends, says}
+use Rattle.pur_base.specs.Facts.{segment_key, never}
+use Rattle.pur_base.specs.declared.facts.SegmentFact.{SegmentFact}
+use Rattle.pyramid.specs.Layers.{AreDistinct, facts_of}
+use Rattle.pyramid.specs.Shown.{IsShown}
+use Rattle.pyramid.proofs.ShownLemmas.{ascends_push, said_found, listed_by_id, shown_added, shown_elided, taken_of}
+use Rattle.segment_table.specs.Segments.{number}
+
+-- a segment's key has its id
+pub key_id : (d : SegmentFact) → id_of (segment_key d) ≡ d.segment.0
+key_id d = omega arith
+
+-- ---- the place of an id
+
+abbrev pub is_below : ℕ → SegmentFact → Bool
+is_below id d = nat_lt d.segment.0 id
+
+-- ids rise, so the lower ones come first
+pub parted : (id : ℕ) (ds : List SegmentFact) → Ascends segment_key ds → IsPartitionedBy (is_below id) ds
+parted id ds h i j d low within holds = elim (cases_lt i j) [
+  | inl under ↦ let less = h i j d under within in let below = ltb-true _ _ holds in lt-ltb (get_or ds i d).segment.0 id (omega (arith, less, below))
+  | inr over ↦ let is : i ≡ j = omega (arith, low, over) in rw is holds
+]
+
+-- none has the id, where the first that isn't below hasn't
+pub absent_at : (id : ℕ) (ds : List SegmentFact) (at : ℕ) (e : SegmentFact) → Ascends segment_key ds → at ≤ length ds
+    → IsPartitionPoint (λ d. is_below id d ≡ true) (λ d. is_below id d ≡ false) ds at → ((d : SegmentFact) → e ≡ get_or ds at d) → e.segment.0 ≢ id → All (λ d. d.segment.0 ≢ id) ds
+absent_at id ds at e h within point is ne k d l same = elim (cases_lt k at) [
+  | inl under ↦ let below = ltb-true _ _ (point.0 k d (omega arith) under) in omega (arith, below, same)
+  | inr over ↦ elim (cases_lt at k) [
+    | inl under ↦
+        let least = ltb-false _ _ (point.1 at d (omega arith) (omega (arith, under, l))) in
+        let less = h at k d under l in
+        omega (arith, least, less, same)
+    | inr low ↦
+        let it : k ≡ at = omega (arith, over, low) in
+        ne (ap (λ (x : SegmentFact). x.segment.0) (is d ∙ ap (λ n. get_or ds n d) (sym it)) ∙ same)
+  ]
+]
+
+pub absent_past : (id : ℕ) (ds : List SegmentFact) (at : ℕ) → at ≤ length ds
+    → IsPartitionPoint (λ d. is_below id d ≡ true) (λ d. is_below id d ≡ false) ds at → length ds ≤ at → All (λ d. d.segment.0 ≢ id) ds
+absent_past id ds at within point all k d l same =
+    let below = ltb-true _ _ (point.0 k d (omega arith) (omega (arith, all, l))) in
+    omega (arith, below, same)
+
+-- ---- what the facts say
+
+pub ascends_last : (ds : List SegmentFact) (x : SegmentFact) → All (λ d. d.segment.0 < x.segment.0) ds → Ascends segment_key ds → Ascends segment_key (ds ++ x ∷ [])
+ascends_last ds x last h = ascends_push segment_key number never ds x (λ i d l. let less : (get_or ds i d).segment.0 < x.segment.0 = last i d l in omega (arith, less)) h
+
+-- a new segment
+pub shown_push : (ps : List (List SegmentFact)) (us new : List SegmentFact) (x : SegmentFact) → ((f : SegmentFact) → Contains new f ↔ (Contains us f ⊎ Contains (x ∷ []) f))
+    → All (λ f. f.seq.0 < x.seq.0) (facts_of ps ++ us) → AreDistinct number (facts_of ps ++ us) → (elided : ℕ → Bool) (shown : List SegmentFact) → All (λ d. d.segment.0 < x.segment.0) shown
+    → elided x.segment.0 ≡ false → IsShown segment_key number never (facts_of ps ++ us) elided shown → IsShown segment_key number never (facts_of ps ++ new) elided (shown ++ x ∷ [])
+shown_push ps us new x taken newer_than distinct elided shown last left old =
+    shown_added segment_key number never (facts_of ps ++ us) (facts_of ps ++ new) x (taken_of ps us new x taken) newer_than distinct elided shown
+    (λ i d l. let less : (get_or shown i d).segment.0 < x.segment.0 = last i d l in omega (arith, less)) (ap elided (key_id x) ∙ left) refl old
+
+-- more elided ids
+pub shown_less : (facts : List SegmentFact) (elided wider : ℕ → Bool) (shown : List SegmentFact) → ((id : ℕ) → IsTrue (elided id) → IsTrue (wider id))
+    → IsShown segment_key number never facts elided shown → IsShown segment_key number never facts wider (filter (λ d. not (wider d.segment.0)) shown)
+shown_less facts elided wider shown more old = shown_elided segment_key number never facts elided wider shown (λ d. not (wider d.segment.0)) more (λ f c. ap (λ i. not (wider i)) (sym (key_id f))) old
+
+-- the visible segments are those of the ids below the next one
+pub by_ids : (facts : List SegmentFact) (elided : ℕ → Bool) (next : ℕ) (shown : List SegmentFact) → next ≤ 2 ^ 64 → All (λ f. f.segment.0 < next) facts
+    → IsShown segment_key number never facts elided shown → shown ≡ filter_map (λ id. says segment_key number never facts elided (key_of id 0)) (range_with_len 0 next)
+by_ids facts elided next shown small below h = listed_by_id (λ (x : SegmentFact). x.segment.0) (λ id. says segment_key number never facts elided (key_of id 0)) next 0 shown (record {
+  ascends = λ i j d low l. let less = h.ascends i j d low l in omega (arith, less);
+  each = λ x c. let s = h.said x c in let low : x.segment.0 < next = All-contains (λ f. f.segment.0 < next) facts x below (said_found segment_key number never facts elided (segment_key x) x s).0 in (omega arith, omega (arith, low), s);
+  all = λ i x low l s.
+      let key = (said_found segment_key number never facts elided (key_of i 0) x s).1 in
+      let is : says segment_key number never facts elided (segment_key x) ≡ Some x = ap (λ k. says segment_key number never facts elided k) key ∙ s in
+      (h.all x (omega (arith, key, l, small)) is, omega (arith, key));
+})

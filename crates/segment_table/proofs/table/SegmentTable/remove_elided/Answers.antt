@@ -1,0 +1,21 @@
+use Rattle.std.proofs.Common.{rules, ◌≡◌, filter, not}
+use Rattle.std.proofs.lemmas.Fn.{filter_same}
+use Rattle.pur_base.specs.Facts.{segment_key}
+use Rattle.pur_base.specs.Visible.{is_within}
+use Rattle.pur_base.specs.declared.facts.SegmentFact.{SegmentFact}
+use Rattle.pyramid.specs.Layers.{facts_in}
+use Rattle.pyramid.proofs.MergeLemmas.{ascends_filter}
+use Rattle.segment_table.proofs.SegmentLemmas.{shown_less}
+use Rattle.segment_table.proofs.table.SegmentTable.remove_elided.Goals as goal
+
+items_are : (c : goal.After-retain) → c.retain.new.self.items ≡ filter (λ (d : SegmentFact). not (is_within c.args.elided.now d.segment.0)) c.self.inside.visible.items
+items_are c = filter_same _ (λ (d : SegmentFact). not (is_within c.args.elided.now d.segment.0)) _ (λ x b f' k. search rules) _ _ c.retain.ensures.filtered
+
+pub invariant_of-self : goal.invariant_of-self
+invariant_of-self c = rw (items_are c) (ascends_filter segment_key (λ (d : SegmentFact). not (is_within c.args.elided.now d.segment.0)) c.self.inside.visible.items c.self.invariant)
+
+pub returns-clause-visible : goal.returns-clause-visible
+returns-clause-visible c = rw (← c.self.view_is) (items_are c)
+
+pub returns-clause-says : goal.returns-clause-says
+returns-clause-says c = rw (items_are c, ← c.self.view_is) (λ before more old. shown_less (facts_in c.self.inside.facts) before (is_within c.args.elided.now) c.self.inside.visible.items more old)

@@ -1,0 +1,21 @@
+-- The visible data segments beside the facts that they come from.
+use Rattle.std.specs.Prelude.{ℕ, Bool, List}
+use Rattle.pur_base.specs.Facts.{segment_key, never}
+use Rattle.pur_base.specs.declared.facts.SegmentFact.{SegmentFact}
+use Rattle.pyramid.specs.Layers.{Layers, facts_in}
+use Rattle.pyramid.specs.Shown.{IsShown}
+
+-- the facts of all data segments, and the segments that are visible, by ascending id
+pub record Segments : Type 0 where
+  pub facts : Layers SegmentFact
+  pub visible : List SegmentFact
+  -- how many more visible segments it takes without memory
+  pub visible_room : ℕ
+
+-- the sequence number of a fact
+abbrev pub number : SegmentFact → ℕ
+number f = f.seq.0
+
+-- the visible segments are what the facts say where those ids are elided
+abbrev pub AreVisible : (ℕ → Bool) → Segments → Type 0
+AreVisible elided t = IsShown segment_key number never (facts_in t.facts) elided t.visible
