@@ -33,6 +33,12 @@ pub record IsLowest (facts : List MediumFact) (elided : ℕ → Bool) (medium : 
   pub there : range_from facts elided medium r.start ≡ Some r
   pub first : (start : ℕ) → start < r.start → range_from facts elided medium start ≡ None
 
+-- the visible range of the medium that begins first from a sector on
+pub record IsNext (facts : List MediumFact) (elided : ℕ → Bool) (medium sector : ℕ) (r : MediumFact) : Type 0 where
+  pub there : range_from facts elided medium r.start ≡ Some r
+  pub behind : sector ≤ r.start
+  pub first : (start : ℕ) → sector ≤ start → start < r.start → range_from facts elided medium start ≡ None
+
 -- the lowest range may lose its front up to there
 pub record IsCut (facts : List MediumFact) (elided : ℕ → Bool) (medium to : ℕ) (r : MediumFact) : Type 0 where
   pub lowest : IsLowest facts elided medium r

@@ -5,7 +5,7 @@ ghost use Rattle.pur_base.specs.Says.{Ascends};
 ghost use Rattle.pur_base.specs.Visible.{is_within};
 ghost use Rattle.elision.specs.Ranges.{AreApart};
 ghost use Rattle.pyramid.specs.Layers.{facts_in, AreBelow};
-ghost use Rattle.medium_table.specs.Ranges.{after_cut, number, range_from, said, AreDisjoint, IsCut, IsLowest, IsRangeOver};
+ghost use Rattle.medium_table.specs.Ranges.{after_cut, number, range_from, said, AreDisjoint, IsCut, IsLowest, IsNext, IsRangeOver};
 
 use crate::cut::{emptied, rest_of};
 use pur_base::{MediumFact, MediumId, NoMemory, Seq};
@@ -91,6 +91,18 @@ impl MediumTable {
         ensures absent { IfNone result ((start : ℕ) → start < 2 ^ 64 → range_from (facts_in self.now.facts) (is_within elided.now) medium.0 start ≡ None) }
     {
         let from = key_of(medium.0, 0);
+        let to = key_of(medium.0, u64::MAX);
+        self.facts.first_between(from, to, elided)
+    }
+
+    /// The visible range of a medium that begins first from a sector on, or `None` where none begins there or behind it.
+    /// It takes no memory.
+    pub fn next(&self, medium: MediumId, sector: u32, elided: &[(u64, u64)]) -> Option<Range>
+        requires { AreApart elided.now }
+        ensures found { IfSome result (IsNext (facts_in self.now.facts) (is_within elided.now) medium.0 sector) }
+        ensures absent { IfNone result ((start : ℕ) → sector ≤ start → start < 2 ^ 64 → range_from (facts_in self.now.facts) (is_within elided.now) medium.0 start ≡ None) }
+    {
+        let from = key_of(medium.0, u64::from(sector));
         let to = key_of(medium.0, u64::MAX);
         self.facts.first_between(from, to, elided)
     }

@@ -26,6 +26,8 @@ fn a_range_is_over_its_sectors(rt: HostRuntime) -> Result<(), NoMemory> {
     assert_eq!(rt; table.step(MediumId(7), 7, &[]), Some(RANGE));
     assert_eq!(rt; table.step(MediumId(7), 8, &[]), None);
     assert_eq!(rt; table.lowest(MediumId(7), &[(7, 7)]), None);
+    assert_eq!(rt; table.next(MediumId(7), 3, &[]), Some(RANGE));
+    assert_eq!(rt; table.next(MediumId(7), 5, &[]), None);
     Ok(())
 }
 

@@ -272,5 +272,5 @@ module _ {F : Type 0} (key : F → ℕ) (within : F → F → Bool) where
       one (inr n) =
           let last = (e.last (class_of (key x)) x (omega (arith, n))).0 in
           let at : get_or (take kept facts) (get_or ends (class_of (key x)) 0 - 1) x ≡ get_or facts (get_or ends (class_of (key x)) 0 - 1) x =
-              get_or-take kept facts (get_or ends (class_of (key x)) 0 - 1) x (omega (arith, n, last, l, length-take kept facts)) in
+          get_or-take kept facts (get_or ends (class_of (key x)) 0 - 1) x (omega (arith, n, last, l, length-take kept facts)) in
           rw at free

@@ -298,11 +298,13 @@ module _ {F : Type 0} (id : F → ℕ) (said : ℕ → Option F) where
                 let at : id y ≡ first = ap id front ∙ c.1 in
                 (omega (arith, less, at), omega (arith, a.1), a.2);
             all = λ i z l m s.
-                let a = h.all i z (omega (arith, l)) (omega (arith, m)) s in
-                (elim (either y z ys a.0) [
-                  | inl same ↦ let at : id z ≡ first = ap id (same ∙ front) ∙ c.1 in absurd (omega (arith, at, a.1, l))
-                  | inr d ↦ d
-                ], a.1);
+                let a = h.all i z (omega (arith, l)) (omega (arith, m)) s in (
+                  elim (either y z ys a.0) [
+                    | inl same ↦ let at : id z ≡ first = ap id (same ∙ front) ∙ c.1 in absurd (omega (arith, at, a.1, l))
+                    | inr d ↦ d
+                  ],
+                  a.1,
+                );
           })))
             where
               front : y ≡ x
