@@ -90,9 +90,7 @@ impl MediumTable {
         ensures found { IfSome result (IsLowest (facts_in self.now.facts) (is_within elided.now) medium.0) }
         ensures absent { IfNone result ((start : ℕ) → start < 2 ^ 64 → range_from (facts_in self.now.facts) (is_within elided.now) medium.0 start ≡ None) }
     {
-        let from = key_of(medium.0, 0);
-        let to = key_of(medium.0, u64::MAX);
-        self.facts.first_between(from, to, elided)
+        self.next(medium, 0, elided)
     }
 
     /// The visible range of a medium that begins first from a sector on, or `None` where none begins there or behind it.
