@@ -1,8 +1,8 @@
 -- The first and the last key of facts.
-use Rattle.std.proofs.Common.{◌≡◌, ℕ, ◌+◌, ◌-◌, ◌<◌, ◌≤◌, List, length, get_or, take, refl, sym, ap, arith, inl, inr, Contains}
+use Rattle.std.proofs.Common.{◌≡◌, ◌⊎◌, ◌++◌, ◌∙◌, ℕ, ◌+◌, ◌-◌, ◌<◌, ◌≤◌, List, length, get_or, take, refl, sym, ap, arith, inl, inr, Contains}
 use Rattle.std.specs.Prelude.{Option, Some, None, IfSome, option_and_then, if◌then◌else◌, Bool, true, false}
 use Rattle.std.proofs.lemmas.Bool.{cases_lt, ne_eqb, eqb-true}
-use Rattle.std.proofs.lemmas.List.Elements.{Contains-append_cases, Contains-get_or}
+use Rattle.std.proofs.lemmas.List.Elements.{Contains-append_left, Contains-append_right, Contains-append_cases, Contains-get_or}
 use Rattle.pur_base.specs.Keys.{id_of}
 use Rattle.pur_base.specs.Says.{has_key, says, unless_empty}
 use Rattle.pyramid.specs.Ends.{IsFirstSaid, IsLastSaid}
@@ -50,6 +50,30 @@ module _ {F : Type 0} (key number : F → ℕ) where
   hold_more P ps i p l is older here f c =
       let more = facts_more key number ps i p l is in
       elim (Contains-append_cases (facts_of (take i ps)) p f (rw more at c)) [ inl a ↦ older f a | inr b ↦ here f b ]
+
+module _ {F : Type 0} (key number : F → ℕ) where
+  -- a key is the first one, or that of one of the facts
+  abbrev pub IsOneOf : ℕ → List F → ℕ → Type 0
+  IsOneOf first fs k = (k ≡ first) ⊎ ((f : F) × Contains fs f × (key f ≡ k))
+
+  -- the same with a patch more
+  pub one_of_more : (ps : List (List F)) (i : ℕ) (p us : List F) (first old new : ℕ) → i < length ps → p ≡ get_or ps i p
+      → IsOneOf first (facts_of (take i ps) ++ us) old → IsOneOf old p new → IsOneOf first (facts_of (take (i + 1) ps) ++ us) new
+  one_of_more ps i p us first old new l is before here = one here
+    where
+      wider : (f : F) → Contains (facts_of (take i ps) ++ us) f → Contains (facts_of (take (i + 1) ps) ++ us) f
+      wider f c = elim (Contains-append_cases (facts_of (take i ps)) us f c) [
+        | inl a ↦ Contains-append_left (facts_of (take (i + 1) ps)) us f (rw (facts_more key number ps i p l is) (Contains-append_left (facts_of (take i ps)) p f a))
+        | inr b ↦ Contains-append_right (facts_of (take (i + 1) ps)) us f b
+      ]
+
+      two : new ≡ old → IsOneOf first (facts_of (take i ps) ++ us) old → IsOneOf first (facts_of (take (i + 1) ps) ++ us) new
+      two same (inl e) = inl (same ∙ e)
+      two same (inr (f, c, e)) = inr (f, wider f c, e ∙ sym same)
+
+      one : IsOneOf old p new → IsOneOf first (facts_of (take (i + 1) ps) ++ us) new
+      one (inl same) = two same before
+      one (inr (f, c, e)) = inr (f, Contains-append_left (facts_of (take (i + 1) ps)) us f (rw (facts_more key number ps i p l is) (Contains-append_right (facts_of (take i ps)) p f c)), e)
 
 module _ {F : Type 0} (key number : F → ℕ) (empty : F → Bool) where
   -- nothing is said of a key that no fact has

@@ -1,4 +1,4 @@
-ghost use Rattle.std.specs.Prelude.{◌≡◌, ◌++◌, ◌≤◌, Contains};
+ghost use Rattle.std.specs.Prelude.{◌≡◌, ◌⊎◌, ◌++◌, ◌≤◌, Contains};
 ghost use Rattle.pyramid.specs.Layers.{facts_of, IsOrdered};
 
 use crate::patch::Patch;
@@ -11,6 +11,7 @@ fn last_key<F: Fact>(facts: &[F], from: u128, to: u128) -> u128
     requires order { from ≤ to }
     ensures from { from ≤ result }
     ensures to { result ≤ to }
+    ensures there { (result ≡ from) ⊎ ((f : F) × Contains facts.now f × (F.key f ≡ result)) }
     ensures last { (f : F) → Contains facts.now f → F.key f ≤ to → F.key f ≤ result }
 {
     let end = end_of(facts, to);
@@ -27,6 +28,7 @@ fn first_key<F: Fact>(facts: &[F], from: u128, to: u128) -> u128
     requires order { from ≤ to }
     ensures from { from ≤ result }
     ensures to { result ≤ to }
+    ensures there { (result ≡ to) ⊎ ((f : F) × Contains facts.now f × (F.key f ≡ result)) }
     ensures first { (f : F) → Contains facts.now f → from ≤ F.key f → result ≤ F.key f }
 {
     let start = start_of(facts, from);
@@ -48,6 +50,7 @@ pub fn last_key_of_all<F: Fact + Drop>(
     requires order { from ≤ to }
     ensures from { from ≤ result }
     ensures to { result ≤ to }
+    ensures there { (result ≡ from) ⊎ ((f : F) × Contains (facts_of patches.now ++ unflushed.now) f × (F.key f ≡ result)) }
     ensures last { (f : F) → Contains (facts_of patches.now ++ unflushed.now) f → F.key f ≤ to → F.key f ≤ result }
 {
     let mut key = last_key(unflushed, from, to);
@@ -68,6 +71,7 @@ pub fn first_key_of_all<F: Fact + Drop>(
     requires order { from ≤ to }
     ensures from { from ≤ result }
     ensures to { result ≤ to }
+    ensures there { (result ≡ to) ⊎ ((f : F) × Contains (facts_of patches.now ++ unflushed.now) f × (F.key f ≡ result)) }
     ensures first { (f : F) → Contains (facts_of patches.now ++ unflushed.now) f → from ≤ F.key f → result ≤ F.key f }
 {
     let mut key = first_key(unflushed, from, to);
