@@ -1,5 +1,5 @@
 -- What facts of mediums say.
-use Rattle.std.proofs.Common.{◌≡◌, ◌↔◌, ℕ, ◌+◌, ◌^◌, ◌<◌, ◌≤◌, Bool, true, false, List, [], ◌∷◌, ◌++◌, refl, sym, ap, ◌∙◌, arith, inl, inr, All, Contains}
+use Rattle.std.proofs.Common.{subst, ◌⊎◌, ◌≡◌, ◌↔◌, ℕ, ◌+◌, ◌^◌, ◌<◌, ◌≤◌, Bool, true, false, List, [], ◌∷◌, ◌++◌, refl, sym, ap, ◌∙◌, arith, inl, inr, All, Contains}
 use Rattle.std.specs.Prelude.{Option, Some, None, IfSome, nat_lt, ◌==◌, ◌&&◌, if◌then◌else◌, option_and_then}
 use Rattle.std.specs.Option.{option_or}
 use Rattle.std.proofs.lemmas.Bool.{cases_eq, cases_order, eq-eqb, ne_eqb, le-ltb, lt-ltb}
@@ -120,6 +120,10 @@ module _ (fs : List MediumFact) (elided : ℕ → Bool) (r : MediumFact) (to seq
           rw (pair k false false back misses, at, miss) refl
     ]
   ]
+
+-- facts that are taken in, by another name
+pub taken_as : (new old run other : List MediumFact) → run ≡ other → ((f : MediumFact) → Contains new f ↔ (Contains old f ⊎ Contains run f)) → (f : MediumFact) → Contains new f ↔ (Contains old f ⊎ Contains other f)
+taken_as new old run other same h f = subst (λ (fs : List MediumFact). Contains new f ↔ (Contains old f ⊎ Contains fs f)) same (h f)
 
 module _ (facts : List MediumFact) (elided : ℕ → Bool) (medium : ℕ) where
   -- there is one lowest range

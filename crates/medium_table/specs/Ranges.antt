@@ -1,5 +1,5 @@
 -- What facts of mediums say of their ranges.
-use Rattle.std.specs.Prelude.{◌≡◌, ℕ, ◌+◌, ◌-◌, ◌<◌, ◌≤◌, ◌==◌, ◌&&◌, nat_lt, Bool, List, Option, Some, None, if◌then◌else◌}
+use Rattle.std.specs.Prelude.{◌≡◌, ℕ, ◌+◌, ◌-◌, ◌<◌, ◌≤◌, ◌==◌, ◌&&◌, nat_lt, Bool, List, [], ◌∷◌, Option, Some, None, if◌then◌else◌}
 use Rattle.pur_base.specs.declared.facts.MediumFact.{MediumFact}
 use Rattle.pur_base.specs.Facts.{is_empty_range, medium_key}
 use Rattle.pur_base.specs.Keys.{key_of}
@@ -52,6 +52,10 @@ emptied r seq = record { medium = r.medium; start = r.start; end = r.start; targ
 -- what is left of a range from there on
 abbrev pub rest_of : MediumFact → ℕ → ℕ → MediumFact
 rest_of r to seq = record { medium = r.medium; start = to; end = r.end; target = r.target; target_start = r.target_start + (to - r.start); seq = record { 0 = seq } }
+
+-- the facts that take a range's front away
+abbrev pub cut_facts : MediumFact → ℕ → ℕ → List MediumFact
+cut_facts r to seq = if nat_lt to r.end then emptied r seq ∷ rest_of r to (seq + 1) ∷ [] else emptied r seq ∷ []
 
 -- what is said once a range has lost its front: it begins there, or is gone where it ends there
 abbrev pub after_cut : MediumFact → ℕ → ℕ → (ℕ → Option MediumFact) → ℕ → Option MediumFact

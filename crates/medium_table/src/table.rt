@@ -5,7 +5,7 @@ ghost use Rattle.pur_base.specs.Says.{Ascends};
 ghost use Rattle.pur_base.specs.Visible.{is_within};
 ghost use Rattle.elision.specs.Ranges.{AreApart};
 ghost use Rattle.pyramid.specs.Layers.{facts_in, AreBelow};
-ghost use Rattle.medium_table.specs.Ranges.{after_cut, number, range_from, said, AreDisjoint, IsCut, IsLowest, IsNext, IsRangeOver};
+ghost use Rattle.medium_table.specs.Ranges.{after_cut, cut_facts, number, range_from, said, AreDisjoint, IsCut, IsLowest, IsNext, IsRangeOver};
 
 use crate::cut::{emptied, rest_of};
 use pur_base::{MediumFact, MediumId, NoMemory, Seq};
@@ -121,6 +121,8 @@ impl MediumTable {
         requires number { seq.0 + 1 < 2 ^ 64 }
         ensures says { (r : MediumFact) → IsLowest (facts_in self.old.facts) (is_within elided.now) medium.0 r
             → OnOk result ((k : ℕ) → said (facts_in self.new.facts) (is_within elided.now) k ≡ after_cut r to seq.0 (said (facts_in self.old.facts) (is_within elided.now)) k) }
+        ensures facts { (r : MediumFact) → IsLowest (facts_in self.old.facts) (is_within elided.now) medium.0 r
+            → OnOk result ((f : MediumFact) → Contains self.new.facts.unflushed f ↔ (Contains self.old.facts.unflushed f ⊎ Contains (cut_facts r to seq.0) f)) }
         ensures patches { self.new.facts.patches ≡ self.old.facts.patches }
         ensures refused { OnErr result (self.new.facts.unflushed ≡ self.old.facts.unflushed) }
         ensures room { 2 ≤ self.old.facts.room → IsOk result }
@@ -142,6 +144,7 @@ impl MediumTable {
         requires number { seq.0 + 1 < 2 ^ 64 }
         ensures says { OnOk result ((elided : ℕ → Bool) (k : ℕ) → elided range.now.medium.0 ≡ false
             → said (facts_in self.new.facts) elided k ≡ after_cut range.now to seq.0 (said (facts_in self.old.facts) elided) k) }
+        ensures facts { OnOk result ((f : MediumFact) → Contains self.new.facts.unflushed f ↔ (Contains self.old.facts.unflushed f ⊎ Contains (cut_facts range.now to seq.0) f)) }
         ensures patches { self.new.facts.patches ≡ self.old.facts.patches }
         ensures refused { OnErr result (self.new.facts.unflushed ≡ self.old.facts.unflushed) }
         ensures room { 2 ≤ self.old.facts.room → IsOk result }
