@@ -1,6 +1,7 @@
 -- Ids in order.
 use Rattle.std.proofs.Common.{◌≡◌, ◌⊎◌, ◌↔◌, ℕ, ◌+◌, ◌<◌, ◌≤◌, List, [], ◌∷◌, ◌++◌, length, get_or, take, drop, sym, ap, ◌∙◌, arith, inl, inr, Contains}
-use Rattle.std.proofs.lemmas.Bool.{cases_lt, cases_order}
+use Rattle.std.specs.Prelude.{nat_lt, true}
+use Rattle.std.proofs.lemmas.Bool.{cases_lt, cases_order, ltb-true, lt-ltb}
 use Rattle.std.proofs.lemmas.List.{get_or_default, take-append-drop, take_more}
 use Rattle.std.proofs.lemmas.List.Elements.{Contains-append_left, Contains-append_right, Contains-append_cases, Contains-push_cases, Contains-push}
 use Rattle.pur_base.specs.declared.ids.MediumId.{MediumId}
@@ -21,6 +22,13 @@ rising_ids xs i j d x h le l is = elim (cases_lt i j) [
       let same : (get_or xs i d).0 ≡ x.0 = ap id_of_medium (get_or_default xs i d x (omega (arith, at, l)) ∙ ap (λ n. get_or xs n x) at ∙ sym is) in
       omega (arith, same)
 ]
+
+-- ids below one come first
+pub parted : (id : ℕ) (xs : List MediumId) → Ascends id_of_medium xs → (i j : ℕ) (d : MediumId) → i ≤ j → j < length xs → nat_lt (get_or xs j d).0 id ≡ true → nat_lt (get_or xs i d).0 id ≡ true
+parted id xs h i j d le l below =
+    let up = rising_ids xs i j d (get_or xs j d) h le l (get_or_default xs j d (get_or xs j d) l) in
+    let less = ltb-true _ _ below in
+    lt-ltb _ _ (omega (arith, up, less))
 
 -- an id is its number
 pub one_id : (a b : MediumId) → a.0 ≡ b.0 → a ≡ b

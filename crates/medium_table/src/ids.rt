@@ -12,17 +12,7 @@ fn ids_below(ids: &[MediumId], id: MediumId) -> usize
     ensures below { (i : ℕ) (d : MediumId) → i < result → (slice_index_or ids.now i d).0 < id.0 }
     ensures above { (i : ℕ) (d : MediumId) → result ≤ i → i < length ids.now → id.0 ≤ (slice_index_or ids.now i d).0 }
 {
-    let mut low = 0;
-    let mut high = ids.len();
-    while low < high {
-        let middle = low + (high - low) / 2;
-        if ids[middle].0 < id.0 {
-            low = middle + 1;
-        } else {
-            high = middle;
-        }
-    }
-    low
+    ids.partition_point(|other| other.0 < id.0)
 }
 
 /// Whether the ids have this one.
