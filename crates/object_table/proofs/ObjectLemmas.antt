@@ -140,8 +140,8 @@ removed_at id [] i h l is = absurd (omega (arith, l))
 removed_at id (e ∷ es) zero h l is =
     let first : e.1.object.0 ≡ id = is e.1 in
     rw (eq-eqb e.1.object.0 id first) (sym (filter_none id (objects_of es) (λ k d m same.
-        let less : object_key e.1 < object_key (get_or (objects_of es) k d) = ascends-head object_key e.1 (objects_of es) h k d m in
-        omega (arith, less, first, same))))
+    let less : object_key e.1 < object_key (get_or (objects_of es) k d) = ascends-head object_key e.1 (objects_of es) h k d m in
+    omega (arith, less, first, same))))
 removed_at id (e ∷ es) (suc i) h l is =
     let within : i < length (objects_of es) = length_objects es i (omega (arith, l)) in
     let less : object_key e.1 < object_key (get_or (objects_of es) i e.1) = ascends-head object_key e.1 (objects_of es) h i e.1 within in
@@ -188,8 +188,8 @@ set_objects [] i x medium seq h e = absurd cc
 set_objects (a ∷ es) zero x medium seq h e =
     let same : a.1 ≡ x = cc in
     let others : map (with_medium x.object.0 medium seq) (objects_of es) ≡ objects_of es = map_others x.object.0 medium seq (objects_of es) (λ k d m s.
-        let less : object_key a.1 < object_key (get_or (objects_of es) k d) = ascends-head object_key a.1 (objects_of es) h k d m in
-        let is : a.1.object.0 ≡ x.object.0 = ap (λ (f : ObjectFact). f.object.0) same in omega (arith, less, is, s)) in
+    let less : object_key a.1 < object_key (get_or (objects_of es) k d) = ascends-head object_key a.1 (objects_of es) h k d m in
+    let is : a.1.object.0 ≡ x.object.0 = ap (λ (f : ObjectFact). f.object.0) same in omega (arith, less, is, s)) in
     rw (same, eq-eqb x.object.0 x.object.0 refl, others) refl
 set_objects (a ∷ es) (suc i) x medium seq h e =
     let less = All-contains (λ f. object_key a.1 < object_key f) (objects_of es) x (ascends-head object_key a.1 (objects_of es) h) (found_at (objects_of es) i x e) in
@@ -359,9 +359,9 @@ named_next xs i x entries es distinct l is before after =
     let named : AreNamed es = rw before (named_each (take i xs)) in
     let objects : objects_of es ≡ take i xs = ap objects_of before ∙ named_map (take i xs) in
     let fresh : All (λ y. y.name ≢ x.name) (objects_of es) = rw objects (λ k d m same.
-        let low : k < i = omega (arith, m, length-take i xs) in
-        let last : get_or xs i d ≡ x = get_or_default xs i d x l ∙ sym is in
-        distinct k i d low l (ap (λ (f : ObjectFact). f.name) (sym (get_or-take i xs k d low)) ∙ same ∙ ap (λ (f : ObjectFact). f.name) (sym last))) in
+    let low : k < i = omega (arith, m, length-take i xs) in
+    let last : get_or xs i d ≡ x = get_or_default xs i d x l ∙ sym is in
+    distinct k i d low l (ap (λ (f : ObjectFact). f.name) (sym (get_or-take i xs k d low)) ∙ same ∙ ap (λ (f : ObjectFact). f.name) (sym last))) in
     let more : take (i + 1) xs ≡ take i xs ++ x ∷ [] = take_more xs i x l ∙ ap (λ y. take i xs ++ y ∷ []) (sym is) in
     after ∙ inserted_last es x named fresh ∙ ap (λ l. l ++ with_name x ∷ []) before ∙ sym (map-append with_name (take i xs) (x ∷ [])) ∙ ap (map with_name) (sym more)
 

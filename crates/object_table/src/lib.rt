@@ -9,3 +9,5 @@ mod table;
 pub use laws::laws_of_objects;
 pub use table::ObjectTable;
 
+#[cfg(test)]
+mod tests;

@@ -4,14 +4,14 @@ use Rattle.std.specs.Prelude.{◌==◌, Option, Some, None, filter}
 use Rattle.std.proofs.lemmas.Bool.{eqb-true}
 use Rattle.std.proofs.lemmas.List.{append-nil, append_assoc, get_or_default}
 use Rattle.std.proofs.lemmas.List.Kept.{AllPairs-filter}
-use Rattle.std.proofs.lemmas.List.Elements.{All-append, All-take, All-drop, All-cons, Contains-append_left, Contains-append_right, Contains-append_cases}
+use Rattle.std.proofs.lemmas.List.Elements.{All-append, All-contains, All-take, All-drop, All-cons, Contains-append_left, Contains-append_right, Contains-append_cases}
 use Rattle.pur_base.specs.Says.{Ascends, has_key, says}
 use Rattle.pyramid.specs.Layers.{facts_of, IsBefore, patch_facts, patches_of, newest_of, AreBelow, Rises, IsLayered, IsMerged, IsFlushed, IsApart, SaysTheSame, stays}
 use Rattle.pyramid.specs.Merging.{later, merged}
 use Rattle.pyramid.proofs.NewestLemmas.{newest-append}
 use Rattle.pyramid.proofs.ContainsLemmas.{of_filter}
 use Rattle.pyramid.proofs.MergeLemmas.{ascends-nil}
-use Rattle.pyramid.proofs.LayerLemmas.{below_at, all_below, rises_below, rises_with}
+use Rattle.pyramid.proofs.LayerLemmas.{all_contained, below_at, all_below, rises_below, rises_with}
 use Rattle.pyramid.proofs.ReasonLemmas.{merged_is}
 use Rattle.pyramid.proofs.SaysLemmas.{merge_says, wider_says, alike_says}
 
@@ -31,6 +31,15 @@ module _ {F : Type 0} where
   pub all_patches : (P : List F → Type 0) (patch : Option (List F)) → P (patch_facts patch) → All P (patches_of patch)
   all_patches P None h = λ k d l. absurd (omega (arith, l))
   all_patches P (Some fs) h = All-cons P fs [] h (λ k d l. absurd (omega (arith, l)))
+
+  -- what holds of all facts holds of them after a flush
+  pub all_flushed : (P : F → Type 0) (ps : List (List F)) (us : List F) (patch : Option (List F)) → ((f : F) → Contains (patch_facts patch) f → Contains us f)
+      → All P (facts_of ps ++ us) → All P (facts_of (ps ++ patches_of patch))
+  all_flushed P ps us patch source h =
+      rw (facts_append ps (patches_of patch), facts_patches patch) (all_contained P (facts_of ps ++ patch_facts patch) (λ f c. elim (Contains-append_cases (facts_of ps) (patch_facts patch) f c) [
+        | inl a ↦ All-contains P (facts_of ps ++ us) f h (Contains-append_left (facts_of ps) us f a)
+        | inr b ↦ All-contains P (facts_of ps ++ us) f h (Contains-append_right (facts_of ps) us f (source f b))
+      ]))
 
   -- each fact of the new patch is of one of the two
   abbrev pub IsOfTwo : List (List F) → ℕ → Option (List F) → Type 0

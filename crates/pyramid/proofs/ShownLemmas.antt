@@ -315,3 +315,8 @@ module _ {F : Type 0} (id : F → ℕ) (said : ℕ → Option F) where
                     let low = (h.each y (here y ys)).0 in
                     absurd (omega (arith, less, low, c.1))
               ]
+
+-- no facts show nothing
+pub shown_nothing : {F : Type 0} (key number : F → ℕ) (empty : F → Bool) (elided : ℕ → Bool) (shown : List F) → IsShown key number empty [] elided shown → shown ≡ []
+shown_nothing key number empty elided [] h = refl
+shown_nothing key number empty elided (f ∷ fs) h = absurd (nowhere f (said_found key number empty [] elided (key f) f (h.said f (here f fs))).0)

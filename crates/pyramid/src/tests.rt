@@ -1,11 +1,17 @@
+ghost use Rattle.std.specs.Prelude.{◌≡◌, ◌+◌, ◌<◌, [], All, OnOk};
+ghost use Rattle.pyramid.specs.Layers.{facts_of};
+
 use crate::pyramid::Pyramid;
 use pur_base::{MediumFact, MediumId, NoMemory, Seq};
+use std::alloc::Global;
 
 const START: u64 = 4;
 
 const KEY: u128 = (7 << 64) + START as u128;
 
-fn range() -> MediumFact {
+fn range() -> MediumFact
+    ensures { result.seq.0 ≡ 10 }
+{
     MediumFact {
         medium: MediumId(7),
         start: START,
@@ -38,5 +44,62 @@ fn a_fact_is_said_after_a_flush(rt: HostRuntime) -> Result<(), NoMemory> {
     assert_eq!(rt; table.patches().len(), 1);
     assert_eq!(rt; table.unflushed().is_empty(), true);
     assert_eq!(rt; table.newest(KEY, &[]), Some(range()));
+    Ok(())
+}
+
+/// The same range up to another end, by a newer fact.
+fn longer() -> MediumFact
+    ensures { result.seq.0 ≡ 11 }
+{
+    MediumFact {
+        end: 12,
+        seq: Seq(11),
+        ..range()
+    }
+}
+
+/// Flushes a fact whose number is above all others.
+fn flush_one(
+    table: &mut Pyramid<MediumFact>,
+    alloc: Global,
+    fact: MediumFact,
+) -> Result<(), NoMemory>
+    requires empty { table.old.unflushed ≡ [] }
+    requires newer { All (λ f. f.seq.0 < fact.seq.0) (facts_of table.old.patches) }
+    ensures unflushed { OnOk result (table.new.unflushed ≡ []) }
+    ensures numbers { OnOk result (All (λ f. f.seq.0 < fact.seq.0 + 1) (facts_of table.new.patches)) }
+{
+    table.insert(fact)?;
+    let patch = table.flushed(alloc)?;
+    table.put_flushed(patch);
+    Ok(())
+}
+
+fn two_patches(alloc: Global) -> Result<Pyramid<MediumFact>, NoMemory> {
+    let mut table = Pyramid::new(alloc, 1)?;
+    flush_one(&mut table, alloc, range())?;
+    flush_one(&mut table, alloc, longer())?;
+    Ok(table)
+}
+
+#[test]
+fn a_merge_leaves_the_newer_fact(rt: HostRuntime) -> Result<(), NoMemory> {
+    let mut table = two_patches(rt.alloc())?;
+    assert_eq!(rt; table.patches().len(), 2);
+    let patch = table.merged(rt.alloc(), 0, &[])?;
+    table.put_merged(0, patch);
+    assert_eq!(rt; table.patches().len(), 1);
+    assert_eq!(rt; *table.patches()[0].facts(), *[longer()].as_slice());
+    Ok(())
+}
+
+#[test]
+fn a_rewriting_leaves_no_elided_fact(rt: HostRuntime) -> Result<(), NoMemory> {
+    let mut table = Pyramid::new(rt.alloc(), 1)?;
+    flush_one(&mut table, rt.alloc(), range())?;
+    assert_eq!(rt; table.patches().len(), 1);
+    let patch = table.rewritten(rt.alloc(), &[(6, 7)])?;
+    table.put_rewritten(patch);
+    assert_eq!(rt; table.patches().len(), 0);
     Ok(())
 }

@@ -8,3 +8,6 @@ mod table;
 
 pub use laws::laws_of_segments;
 pub use table::SegmentTable;
+
+#[cfg(test)]
+mod tests;

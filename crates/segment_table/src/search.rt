@@ -12,7 +12,11 @@ pub fn find(segments: &[SegmentFact], id: SegmentId) -> Option<SegmentFact>
 {
     let at = segments.partition_point(|segment| segment.segment.0 < id.0);
     match segments.get(at) {
-        Some(segment) => if segment.segment == id { Some(*segment) } else { None },
+        Some(segment) => if segment.segment == id {
+            Some(*segment)
+        } else {
+            None
+        },
         None => None,
     }
 }

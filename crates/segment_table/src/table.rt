@@ -122,6 +122,7 @@ impl SegmentTable {
         ensures facts { self.new.facts ≡ self.old.facts }
         ensures visible_room { self.old.visible_room ≤ self.new.visible_room }
     {
-        self.visible.retain(|segment| !is_within(elided, segment.segment.0));
+        self.visible
+            .retain(|segment| !is_within(elided, segment.segment.0));
     }
 }

@@ -1,4 +1,3 @@
-
 use Rattle.object_table.proofs.table.ObjectTable.put_merged.Goals as goal
 
 pub put_merged-requires-clause-source : goal.put_merged-requires-clause-source

@@ -1,4 +1,3 @@
-
 use Rattle.object_table.proofs.table.ObjectTable.put_rewritten.Goals as goal
 
 pub put_rewritten-requires-clause-source : goal.put_rewritten-requires-clause-source

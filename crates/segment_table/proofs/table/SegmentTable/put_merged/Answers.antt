@@ -1,4 +1,3 @@
-
 use Rattle.segment_table.proofs.table.SegmentTable.put_merged.Goals as goal
 
 pub put_merged-requires-clause-source : goal.put_merged-requires-clause-source

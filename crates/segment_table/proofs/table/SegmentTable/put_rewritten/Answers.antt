@@ -1,4 +1,3 @@
-
 use Rattle.segment_table.proofs.table.SegmentTable.put_rewritten.Goals as goal
 
 pub put_rewritten-requires-clause-source : goal.put_rewritten-requires-clause-source

@@ -1,0 +1,68 @@
+ghost use Rattle.std.specs.Prelude.{◌≡◌, ◌<◌, [], All, Contains, IfOk};
+ghost use Rattle.pur_base.specs.declared.facts.ObjectFact.{ObjectFact};
+ghost use Rattle.pyramid.specs.Layers.{facts_in};
+
+use crate::ObjectTable;
+use pur_base::{MediumId, Name, NoMemory, ObjectFact, ObjectId, ObjectKind, Seq};
+use pyramid::Pyramid;
+use std::alloc::Global;
+
+fn name_a() -> Name {
+    match Name::read(b"a") {
+        Ok(name) => name,
+        Err(_) => unreachable!(),
+    }
+}
+
+fn volume() -> ObjectFact
+    ensures object { result.object.0 ≡ 3 }
+    ensures seq { result.seq.0 ≡ 10 }
+{
+    ObjectFact {
+        object: ObjectId(3),
+        kind: ObjectKind::Volume,
+        sectors: 8,
+        medium: MediumId(5),
+        name: name_a(),
+        seq: Seq(10),
+    }
+}
+
+fn empty_table(alloc: Global) -> Result<ObjectTable, NoMemory>
+    ensures facts { IfOk result (λ t. (t.facts.patches ≡ []) × (t.facts.unflushed ≡ [])) }
+    ensures visible { IfOk result (λ t. t.visible ≡ []) }
+{
+    let facts = Pyramid::new(alloc, 4)?;
+    let table = ObjectTable::from_facts(alloc, facts, &[])?;
+    Ok(table)
+}
+
+fn table_of_one(alloc: Global) -> Result<ObjectTable, NoMemory>
+    ensures numbers { IfOk result (λ t. All (λ f. f.seq.0 < 11) (facts_in t.facts)) }
+    ensures there { IfOk result (λ t. (x : ObjectFact) × Contains t.visible x × (x.object.0 ≡ 3)) }
+{
+    let mut table = empty_table(alloc)?;
+    table.reserve(1)?;
+    table.add(volume())?;
+    Ok(table)
+}
+
+#[test]
+fn an_object_is_found_until_it_is_removed(rt: HostRuntime) -> Result<(), NoMemory> {
+    let mut table = table_of_one(rt.alloc())?;
+    assert_eq!(rt; table.len(), 1);
+    assert_eq!(rt; table.get(&name_a()).is_some(), true);
+    table.remove(ObjectId(3));
+    assert_eq!(rt; table.get(&name_a()).is_none(), true);
+    Ok(())
+}
+
+#[test]
+fn an_object_takes_another_medium(rt: HostRuntime) -> Result<(), NoMemory> {
+    let mut table = table_of_one(rt.alloc())?;
+    table.set_medium(ObjectId(3), MediumId(6), Seq(11))?;
+    let medium = table.at(0).map(|object| object.medium);
+    assert_eq!(rt; medium, Some(MediumId(6)));
+    assert_eq!(rt; table.facts().unflushed().len(), 2);
+    Ok(())
+}

@@ -1,0 +1,40 @@
+ghost use Rattle.std.specs.Prelude.{◌≡◌, [], IfOk};
+
+use crate::SegmentTable;
+use pur_base::{NoMemory, Place, SEGMENT_SHARDS, SegmentFact, SegmentId, Seq};
+use pyramid::Pyramid;
+use std::alloc::Global;
+
+fn segment() -> SegmentFact {
+    SegmentFact {
+        segment: SegmentId(3),
+        places: [Place { slot: 2, unit: 7 }; SEGMENT_SHARDS],
+        placed: 840,
+        seq: Seq(10),
+    }
+}
+
+fn empty_table(alloc: Global) -> Result<SegmentTable, NoMemory>
+    ensures facts { IfOk result (λ t. (t.facts.patches ≡ []) × (t.facts.unflushed ≡ [])) }
+    ensures visible { IfOk result (λ t. t.visible ≡ []) }
+{
+    let facts = Pyramid::new(alloc, 4)?;
+    let table = SegmentTable::from_facts(alloc, facts, &[])?;
+    Ok(table)
+}
+
+#[test]
+fn a_segment_is_found_until_its_id_is_elided(rt: HostRuntime) -> Result<(), NoMemory> {
+    let mut table = empty_table(rt.alloc())?;
+    table.reserve(1)?;
+    table.add(segment())?;
+    let patch = table.flushed(rt.alloc())?;
+    table.put_flushed(patch);
+    assert_eq!(rt; table.facts().patches().len(), 1);
+    assert_eq!(rt; table.all().len(), 1);
+    assert_eq!(rt; table.places(SegmentId(3)), Some(segment().places));
+    assert_eq!(rt; table.nth(0).is_some(), true);
+    table.remove_elided(&[(1, 3)]);
+    assert_eq!(rt; table.places(SegmentId(3)), None);
+    Ok(())
+}
