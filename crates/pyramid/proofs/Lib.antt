@@ -12,6 +12,10 @@ pub mod PlaceLemmas
 pub mod WeaveLemmas
 pub mod SpanLemmas
 pub mod PruneLemmas
+pub mod EndLemmas
+pub mod WalkLemmas
+pub mod DistinctLemmas
+pub mod KeyLemmas
 pub mod ShownLemmas
 pub mod CoverLemmas
 pub mod ElisionLemmas

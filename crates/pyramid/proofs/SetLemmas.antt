@@ -48,9 +48,11 @@ module _ {F : Type 0} (number : F → ℕ) (t : F → Bool) where
       one None e b = absurd b
       one (Some g) e b = (g, e, b)
 
-  pub same_newest : (xs ys : List F) → ((f : F) → Contains xs f ↔ Contains ys f) → AreDistinct number ys → newest number t xs ≡ newest number t ys
+  -- where different facts that pass have different numbers
+  pub same_passing : (xs ys : List F) → ((f : F) → Contains xs f ↔ Contains ys f) → ((f g : F) → Contains ys f → Contains ys g → t f ≡ true → t g ≡ true → number f ≡ number g → f ≡ g)
+      → newest number t xs ≡ newest number t ys
   unfolding Bounds
-  same_newest xs ys same distinct = one (newest number t xs) (newest number t ys) (newest_found number t xs) (newest_found number t ys) (newest_bounds xs) (newest_bounds ys)
+  same_passing xs ys same distinct = one (newest number t xs) (newest number t ys) (newest_found number t xs) (newest_found number t ys) (newest_bounds xs) (newest_bounds ys)
     where
       one : (o p : Option F) → IfSome o (λ f. Contains xs f × (t f ≡ true)) → IfSome p (λ f. Contains ys f × (t f ≡ true))
           → ((f : F) → Contains xs f → t f ≡ true → Bounds o f) → ((f : F) → Contains ys f → t f ≡ true → Bounds p f) → o ≡ p
@@ -60,4 +62,7 @@ module _ {F : Type 0} (number : F → ℕ) (t : F → Bool) where
       one (Some f) (Some g) a b c d =
           let fg : number f ≤ number g = d f ((same f).0 a.0) a.1 in
           let gf : number g ≤ number f = c g ((same g).1 b.0) b.1 in
-          ap (λ x. Some x) (distinct f g ((same f).0 a.0) b.0 (omega (arith, fg, gf)))
+          ap (λ x. Some x) (distinct f g ((same f).0 a.0) b.0 a.1 b.1 (omega (arith, fg, gf)))
+
+  pub same_newest : (xs ys : List F) → ((f : F) → Contains xs f ↔ Contains ys f) → AreDistinct number ys → newest number t xs ≡ newest number t ys
+  same_newest xs ys same distinct = same_passing xs ys same (λ f g c d p q e. distinct f g c d e)

@@ -1,3 +1,4 @@
 pub mod Layers
 pub mod Merging
+pub mod Ends
 pub mod Shown

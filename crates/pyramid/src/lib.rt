@@ -2,6 +2,7 @@
 //! What a table says of a key is what all its facts together say, whatever is flushed, merged or rewritten.
 #![tactic(auto)]
 
+mod ends;
 mod insert;
 mod laws;
 mod merge;
@@ -10,10 +11,12 @@ mod prune;
 mod pyramid;
 mod range;
 mod search;
+mod walk;
 
 pub use laws::{laws_of_elisions, laws_of_facts};
 pub use patch::Patch;
 pub use pyramid::Pyramid;
+pub use search::key_of;
 
 #[cfg(test)]
 mod tests;

@@ -1,15 +1,18 @@
-ghost use Rattle.std.specs.Prelude.{◌≡◌, ◌⊎◌, ◌≢◌, ◌↔◌, ℕ, ◌+◌, ◌<◌, ◌≤◌, ◌==◌, Bool, true, nat_lt, filter, [], ◌∷◌, ◌++◌, All, length, take, drop, Contains, IfOk, OnOk, OnErr, IsOk, IsTrue};
+ghost use Rattle.std.specs.Prelude.{◌≡◌, ◌⊎◌, ◌≢◌, ◌↔◌, ℕ, ◌+◌, ◌<◌, ◌≤◌, ◌==◌, Bool, true, nat_lt, filter, [], ◌∷◌, ◌++◌, All, length, take, drop, Contains, IfOk, IfSome, IfNone, None, OnOk, OnErr, IsOk, IsTrue, slice_index_or};
 ghost use Rattle.pur_base.specs.Says.{says, Ascends};
 ghost use Rattle.pur_base.specs.Visible.{is_within};
 ghost use Rattle.elision.specs.Ranges.{AreApart};
-ghost use Rattle.pyramid.specs.Layers.{facts_in, facts_of, newest_of, patch_at, patch_facts, patches_of, stays, AreBelow, AreCovered, AreDistinct, Grow, IsApart, IsFlushed, IsMerged, Rises, SaysTheSame};
+ghost use Rattle.pyramid.specs.Ends.{IsFirstSaid, IsLastSaid, IsSilent};
+ghost use Rattle.pyramid.specs.Layers.{facts_in, facts_of, newest_of, patch_at, patch_facts, patches_of, stays, AreBelow, AreCovered, AreDistinct, Grow, IsApart, IsFlushed, IsLayered, IsMerged, Rises, SaysTheSame};
 
+use crate::ends::{first_key_of_all, last_key_of_all};
 use crate::insert::{insert_all, insert_in_order, keep_below};
 use crate::merge::{merge_facts, newest_of_each};
 use crate::patch::{Patch, push_patch, replace_only, replace_pair};
 use crate::prune::prune;
 use crate::range::{gathered, span};
 use crate::search::{id_of, newest_in};
+use crate::walk::{empty_all, put_newest, put_newest_flushed};
 use elision::is_within;
 use pur_base::{Fact, NoMemory, Seq};
 use std::alloc::Global;
@@ -116,12 +119,70 @@ impl<F: Fact + Drop> Pyramid<F> {
         merge_facts(alloc, &older, &newer, true, elided)
     }
 
+    /// The newest facts of as many keys as there are places, from this one on, whether they are empty or elided:
+    /// a search a patch, and a walk. It takes no memory.
+    pub fn newest_from(&self, from: u128, out: &mut [Option<F>])
+        ensures { (i : ℕ) → i < length out.new → slice_index_or out.new i None ≡ newest_of F.key F.number (from + i) (facts_in self.now) }
+    {
+        empty_all(out);
+        put_newest_flushed(&self.patches, from, out);
+        put_newest(&self.unflushed, from, out);
+    }
+
+    /// The last fact that is said of the keys from the first to the last: two searches a patch for each key that is passed over.
+    pub fn last_between(&self, from: u128, to: u128, elided: &[(u64, u64)]) -> Option<F>
+        requires { AreApart elided.now }
+        ensures found { IfSome result (λ f. IsLastSaid F.key (says F.key F.number F.empty (facts_in self.now) (is_within elided.now)) from to f) }
+        ensures absent { IfNone result (IsSilent (says F.key F.number F.empty (facts_in self.now) (is_within elided.now)) from to) }
+    {
+        let mut end = to;
+        while from <= end {
+            let key = last_key_of_all(&self.patches, &self.unflushed, from, end);
+            if let Some(fact) = self.newest(key, elided) {
+                return Some(fact);
+            }
+            if key == from {
+                return None;
+            }
+            end = key - 1;
+        }
+        None
+    }
+
+    /// The first fact that is said of the keys from the first to the last: two searches a patch for each key that is passed over.
+    pub fn first_between(&self, from: u128, to: u128, elided: &[(u64, u64)]) -> Option<F>
+        requires { AreApart elided.now }
+        ensures found { IfSome result (λ f. IsFirstSaid F.key (says F.key F.number F.empty (facts_in self.now) (is_within elided.now)) from to f) }
+        ensures absent { IfNone result (IsSilent (says F.key F.number F.empty (facts_in self.now) (is_within elided.now)) from to) }
+    {
+        let mut start = from;
+        while start <= to {
+            let key = first_key_of_all(&self.patches, &self.unflushed, start, to);
+            if let Some(fact) = self.newest(key, elided) {
+                return Some(fact);
+            }
+            if key == to {
+                return None;
+            }
+            start = key + 1;
+        }
+        None
+    }
+
+    /// What holds of the layers of each table.
+    pub fn layers(&self)
+        ensures { IsLayered F.key F.number self.now.patches self.now.unflushed }
+    {
+        let _patches = &self.patches;
+    }
+
     /// Takes a fact in, unless it is there. It takes no memory where there is room, and an `Err` changes nothing.
     pub fn insert(&mut self, fact: F) -> Result<(), NoMemory>
         requires distinct { AreDistinct F.number (fact ∷ self.old.unflushed) }
         requires rising { All (λ f. F.number f < F.number fact) (facts_of self.old.patches) }
         ensures patches { self.new.patches ≡ self.old.patches }
         ensures facts { OnOk result ((f : F) → Contains self.new.unflushed f ↔ (Contains self.old.unflushed f ⊎ (f ≡ fact))) }
+        ensures says { OnOk result ((elided : ℕ → Bool) (k : ℕ) → says F.key F.number F.empty (facts_in self.new) elided k ≡ says F.key F.number F.empty (facts_in self.old ++ fact ∷ []) elided k) }
         ensures refused { OnErr result (self.new.unflushed ≡ self.old.unflushed) }
         ensures room { 0 < self.old.room → IsOk result }
         ensures room_left { self.old.room ≤ self.new.room + 1 }
@@ -207,6 +268,7 @@ impl<F: Fact + Drop> Pyramid<F> {
         requires rising { AreBelow F.number (facts_of self.old.patches) run.now }
         ensures patches { self.new.patches ≡ self.old.patches }
         ensures facts { OnOk result ((f : F) → Contains self.new.unflushed f ↔ (Contains self.old.unflushed f ⊎ Contains run.now f)) }
+        ensures says { OnOk result ((elided : ℕ → Bool) (k : ℕ) → says F.key F.number F.empty (facts_in self.new) elided k ≡ says F.key F.number F.empty (facts_in self.old ++ run.now) elided k) }
         ensures refused { OnErr result (self.new.unflushed ≡ self.old.unflushed) }
         ensures room { length run.now ≤ self.old.room → IsOk result }
         ensures room_left { self.old.room ≤ self.new.room + length run.now }

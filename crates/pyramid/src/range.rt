@@ -4,19 +4,9 @@ ghost use Rattle.pyramid.specs.Merging.{merged, IsSpan};
 
 use crate::merge::merge_facts;
 use crate::patch::Patch;
-use crate::search::end_of;
+use crate::search::{end_of, start_of};
 use pur_base::{Fact, NoMemory};
 use std::alloc::Global;
-
-/// Where the facts of this key and greater ones begin.
-fn start_of<F: Fact>(facts: &[F], key: u128) -> usize
-    requires { IsOrdered F.key F.number facts.now }
-    ensures within { result ≤ length facts.now }
-    ensures below { (i : ℕ) (d : F) → i < result → F.key (slice_index_or facts.now i d) < key }
-    ensures above { (i : ℕ) (d : F) → result ≤ i → i < length facts.now → key ≤ F.key (slice_index_or facts.now i d) }
-{
-    if key == 0 { 0 } else { end_of(facts, key - 1) }
-}
 
 /// The facts of the keys from the first to the last.
 pub fn span<F: Fact>(facts: &[F], from: u128, to: u128) -> &[F]

@@ -1,11 +1,18 @@
 ghost use Rattle.std.specs.Prelude.{◌≡◌, ℕ, ◌<◌, ◌≤◌, length, slice_index_or, IsTrue, ◌↔◌, true, false};
-ghost use Rattle.pur_base.specs.Keys.{id_of};
+ghost use Rattle.pur_base.specs.Keys.{id_of, key_of};
 ghost use Rattle.pyramid.specs.Layers.{IsOrdered, IsBefore, newest_of};
 
 use pur_base::Fact;
 
 /// What an id counts in a key.
 const KEY_BASE: u128 = 1 << 64;
+
+/// The key of an id and a second number.
+pub fn key_of(id: u64, second: u64) -> u128
+    ensures { result ≡ key_of id second }
+{
+    u128::from(id) * KEY_BASE + u128::from(second)
+}
 
 /// The id of a key.
 pub fn id_of(key: u128) -> u64
@@ -45,6 +52,16 @@ pub fn end_of<F: Fact>(facts: &[F], key: u128) -> usize
         }
     }
     low
+}
+
+/// Where the facts of this key and greater ones begin.
+pub fn start_of<F: Fact>(facts: &[F], key: u128) -> usize
+    requires { IsOrdered F.key F.number facts.now }
+    ensures within { result ≤ length facts.now }
+    ensures below { (i : ℕ) (d : F) → i < result → F.key (slice_index_or facts.now i d) < key }
+    ensures above { (i : ℕ) (d : F) → result ≤ i → i < length facts.now → key ≤ F.key (slice_index_or facts.now i d) }
+{
+    if key == 0 { 0 } else { end_of(facts, key - 1) }
 }
 
 /// Where the fact belongs: those in front are before it, and the others aren't.

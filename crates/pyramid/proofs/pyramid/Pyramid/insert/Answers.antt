@@ -1,4 +1,6 @@
-use Rattle.std.proofs.Common.{inl, inr}
+use Rattle.std.proofs.Common.{inl, inr, [], ◌∷◌, ◌++◌}
+use Rattle.pyramid.specs.Layers.{facts_of}
+use Rattle.pyramid.proofs.DistinctLemmas.{says_as, moved_behind, one_more, from_ok}
 use Rattle.pyramid.proofs.LayerLemmas.{ok_or_err, rises_insert}
 use Rattle.pyramid.proofs.pyramid.Pyramid.insert.Goals as goal
 
@@ -16,3 +18,10 @@ invariant_of-self g c = record {
 
 pub returns-clause-facts : goal.returns-clause-facts
 returns-clause-facts g c = rw (← c.self.view_is) c.insert_in_order.ensures.facts
+
+pub returns-clause-says : goal.returns-clause-says
+returns-clause-says g c =
+    let ps = c.self.inside.patches.items in
+    let us = c.self.inside.unflushed.items in
+    rw (← c.self.view_is) (from_ok c.insert_in_order.result _ _ c.insert_in_order.ensures.facts (λ h. says_as g.F.Fact.key g.F.Fact.number g.F.Fact.empty ps c.insert_in_order.new.facts.items ((facts_of ps ++ us) ++ c.args.fact ∷ []) (invariant_of-self g c)
+    (moved_behind (facts_of ps) us c.insert_in_order.new.facts.items (c.args.fact ∷ []) (one_more us c.insert_in_order.new.facts.items c.args.fact h))))

@@ -1,0 +1,51 @@
+-- What facts of addresses say.
+use Rattle.std.proofs.Common.{◌≡◌, ◌≢◌, ◌↔◌, ℕ, ◌^◌, ◌<◌, Bool, true, false, List, ◌++◌, refl, sym, ap, ◌∙◌, arith, Contains}
+use Rattle.std.specs.Prelude.{Option, Some, None, IsTrue, if◌then◌else◌, option_and_then}
+use Rattle.std.specs.Option.{option_or}
+use Rattle.std.proofs.lemmas.List.Elements.{Contains-append_left, Contains-append_right}
+use Rattle.pur_base.specs.declared.facts.AddressFact.{AddressFact}
+use Rattle.pur_base.specs.declared.request.Table.TheVariants as table
+use Rattle.pur_base.specs.Facts.{Facts, address_key, never}
+use Rattle.pur_base.specs.Keys.{id_of, key_of}
+use Rattle.pur_base.specs.Says.{says, unless_empty}
+use Rattle.pur_base.specs.Visible.{address, is_elided, is_within, AreElidedRanges}
+use Rattle.pyramid.specs.Layers.{newest_of, AreBelow}
+use Rattle.pyramid.proofs.KeyLemmas.{id_of_key, within_elided}
+use Rattle.pyramid.proofs.WalkLemmas.{newer_over}
+use Rattle.address_table.specs.Addresses.{number, target_of, visible}
+
+unless_never : (o : Option AddressFact) → option_and_then (unless_empty never) o ≡ o
+unless_never None = refl
+unless_never (Some f) = refl
+
+-- what is visible is the newest, unless it is elided
+pub visible_newest : (facts : List AddressFact) (elided : ℕ → Bool) (k : ℕ) → says address_key number never facts elided k ≡ (if elided (id_of k) then None else newest_of address_key number k facts)
+visible_newest facts elided k = ap (λ o. if elided (id_of k) then None else o) (unless_never (newest_of address_key number k facts))
+
+pub visible_whole : (facts : List AddressFact) (elided : ℕ → Bool) (medium sector : ℕ) → sector < 2 ^ 64 → elided medium ≡ false → visible facts elided medium sector ≡ newest_of address_key number (key_of medium sector) facts
+visible_whole facts elided medium sector l e =
+    let whole : elided (id_of (key_of medium sector)) ≡ false = rw (id_of_key medium sector l) e in
+    visible_newest facts elided (key_of medium sector) ∙ rw whole refl
+
+pub visible_elided : (facts : List AddressFact) (elided : ℕ → Bool) (medium sector : ℕ) → sector < 2 ^ 64 → elided medium ≡ true → visible facts elided medium sector ≡ None
+visible_elided facts elided medium sector l e =
+    let gone : elided (id_of (key_of medium sector)) ≡ true = rw (id_of_key medium sector l) e in
+    rw gone refl
+
+-- newer facts are visible in place of older ones
+pub visible_over : (facts run : List AddressFact) (elided : ℕ → Bool) (k : ℕ) → AreBelow number facts run
+    → says address_key number never (facts ++ run) elided k ≡ option_or (says address_key number never run elided k) (says address_key number never facts elided k)
+visible_over facts run elided k below =
+    visible_newest (facts ++ run) elided k ∙ one (elided (id_of k)) ∙ sym (ap (λ o. option_or o (says address_key number never facts elided k)) (visible_newest run elided k)
+    ∙ ap (λ o. option_or (if elided (id_of k) then None else newest_of address_key number k run) o) (visible_newest facts elided k))
+  where
+    one : (b : Bool) → (if b then None else newest_of address_key number k (facts ++ run))
+        ≡ option_or (if b then None else newest_of address_key number k run) (if b then None else newest_of address_key number k facts)
+    one true = refl
+    one false = newer_over address_key number k facts run below
+
+-- ranges of elided ids elide the same
+pub same_addresses : (facts : Facts) (ranges : List (ℕ × ℕ)) (medium sector : ℕ) → AreElidedRanges facts.elisions table.Address ranges
+    → target_of facts.addresses (is_within ranges) medium sector ≡ address facts medium sector
+same_addresses facts ranges medium sector h =
+    rw (within_elided facts.elisions table.Address ranges (id_of (key_of medium sector)) h) refl

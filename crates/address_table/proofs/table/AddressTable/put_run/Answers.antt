@@ -1,0 +1,18 @@
+use Rattle.std.proofs.Common.{◌∙◌}
+use Rattle.pur_base.specs.Keys.{key_of}
+use Rattle.pyramid.specs.Layers.{facts_in, facts_of}
+use Rattle.pyramid.proofs.DistinctLemmas.{from_ok}
+use Rattle.address_table.proofs.AddressLemmas.{visible_over}
+use Rattle.pyramid.proofs.KeyLemmas.{above_flushed, above_unflushed}
+use Rattle.address_table.specs.Addresses.{number}
+use Rattle.address_table.proofs.table.AddressTable.put_run.Goals as goal
+
+pub insert_run-requires-clause-fresh : goal.insert_run-requires-clause-fresh
+insert_run-requires-clause-fresh c = above_unflushed number (facts_of c.args.self.now.facts.patches) c.args.self.now.facts.unflushed c.args.run.now c.requires.newest
+
+pub insert_run-requires-clause-rising : goal.insert_run-requires-clause-rising
+insert_run-requires-clause-rising c = above_flushed number (facts_of c.args.self.now.facts.patches) c.args.self.now.facts.unflushed c.args.run.now c.requires.newest
+
+pub returns-clause-says : goal.returns-clause-says
+returns-clause-says c = from_ok c.insert_run.result _ _ c.insert_run.ensures.says (λ h elided medium sector. h elided (key_of medium sector)
+    ∙ visible_over (facts_in c.args.self.now.facts) c.args.run.now elided (key_of medium sector) c.requires.newest)

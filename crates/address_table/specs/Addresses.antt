@@ -1,0 +1,38 @@
+-- Where the sectors of mediums stand, as facts of addresses say it.
+use Rattle.std.specs.Prelude.{◌≡◌, ℕ, Bool, false, ◌==◌, ◌&&◌, List, Option, Some}
+use Rattle.std.specs.Option.{option_map, option_map_or}
+use Rattle.pur_base.specs.declared.facts.AddressFact.{AddressFact}
+use Rattle.pur_base.specs.declared.facts.Target.{Target}
+use Rattle.pur_base.specs.declared.facts.Target.TheVariants.{Stored, Zero}
+use Rattle.pur_base.specs.Facts.{address_key, never}
+use Rattle.pur_base.specs.Keys.{key_of}
+use Rattle.pur_base.specs.Says.{says}
+
+-- the sequence number
+abbrev pub number : AddressFact → ℕ
+number f = f.seq.0
+
+-- the visible fact of a medium's sector, where those mediums are elided
+abbrev pub visible : List AddressFact → (ℕ → Bool) → ℕ → ℕ → Option AddressFact
+visible facts elided medium sector = says address_key number never facts elided (key_of medium sector)
+
+-- where a medium's sector stands, if the medium itself says it
+abbrev pub target_of : List AddressFact → (ℕ → Bool) → ℕ → ℕ → Option Target
+target_of facts elided medium sector = option_map (λ f. f.target) (visible facts elided medium sector)
+
+-- the fact is visible
+abbrev pub IsVisible : List AddressFact → (ℕ → Bool) → AddressFact → Type 0
+IsVisible facts elided f = says address_key number never facts elided (address_key f) ≡ Some f
+
+-- whether a sector stands in the segment
+abbrev pub stands_in : ℕ → Target → Bool
+stands_in segment (Stored location) = location.segment.0 == segment
+stands_in segment Zero = false
+
+-- whether what is said at the fact's key has its number
+abbrev pub is_current : List AddressFact → (ℕ → Bool) → AddressFact → Bool
+is_current facts elided f = option_map_or (λ g. number g == number f) (says address_key number never facts elided (address_key f)) false
+
+-- whether a fact is visible and points to the segment
+abbrev pub is_pointing : List AddressFact → (ℕ → Bool) → ℕ → AddressFact → Bool
+is_pointing facts elided segment f = stands_in segment f.target && is_current facts elided f

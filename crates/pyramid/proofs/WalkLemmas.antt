@@ -1,0 +1,124 @@
+-- The newest facts of keys in a row.
+use Rattle.std.proofs.Common.{◌≡◌, ℕ, ◌+◌, ◌<◌, ◌≤◌, true, false, List, [], ◌∷◌, ◌++◌, length, get_or, take, drop, refl, sym, ap, ◌∙◌, arith, inl, inr, Contains, set}
+use Rattle.std.specs.Prelude.{Option, Some, None, IfSome, ◌==◌}
+use Rattle.std.specs.Option.{option_or}
+use Rattle.std.proofs.lemmas.Bool.{cases_eq, eqb-true, eq-eqb, ne_eqb, lt-ltb}
+use Rattle.std.proofs.lemmas.List.{take_more, take-append-drop, get_or-take, get_or_default, length-take-le, get_or-drop, length-drop, get_or-set_same, get_or-set_other}
+use Rattle.pur_base.specs.Says.{has_key}
+use Rattle.pyramid.specs.Layers.{facts_of, newest_of, IsOrdered, AreBelow, Rises}
+use Rattle.pyramid.specs.Merging.{later}
+use Rattle.pyramid.proofs.NewestLemmas.{newest-append, newest_none, newest_found, later_none}
+use Rattle.pyramid.proofs.LayerLemmas.{later_below}
+use Rattle.pyramid.proofs.SearchLemmas.{rises}
+use Rattle.pyramid.proofs.SpanLemmas.{facts_more, below_next}
+
+pub option_or-assoc : {F : Type 0} (a b c : Option F) → option_or a (option_or b c) ≡ option_or (option_or a b) c
+option_or-assoc None b c = refl
+option_or-assoc (Some x) b c = refl
+
+pub option_or-none : {F : Type 0} (a b : Option F) → b ≡ None → option_or a b ≡ a
+option_or-none None b e = e
+option_or-none (Some x) b e = refl
+
+module _ {F : Type 0} (key number : F → ℕ) where
+  -- no fact has the key
+  pub none_of : (k : ℕ) (fs : List F) → ((i : ℕ) (d : F) → i < length fs → key (get_or fs i d) ≡ k → ⊥) → newest_of key number k fs ≡ None
+  none_of k fs h = newest_none number (has_key key k) fs (λ i d l. ne_eqb _ _ (h i d l))
+
+  -- facts behind, of which none has the key
+  none_behind : (k : ℕ) (fs gs : List F) → newest_of key number k gs ≡ None → newest_of key number k (fs ++ gs) ≡ newest_of key number k fs
+  none_behind k fs gs e = newest-append number (has_key key k) fs gs ∙ rw e (later_none number (newest_of key number k fs))
+
+  -- one more fact, of another key
+  pub more_other : (k : ℕ) (fs : List F) (i : ℕ) (x : F) → i < length fs → x ≡ get_or fs i x → (key x ≡ k → ⊥) → newest_of key number k (take (i + 1) fs) ≡ newest_of key number k (take i fs)
+  more_other k fs i x l is ne =
+      let more : take (i + 1) fs ≡ take i fs ++ x ∷ [] = take_more fs i x l ∙ ap (λ y. take i fs ++ y ∷ []) (sym is) in
+      let apart : (key x == k) ≡ false = ne_eqb _ _ ne in
+      let alone : newest_of key number k (x ∷ []) ≡ None = rw apart refl in
+      ap (newest_of key number k) more ∙ none_behind k (take i fs) (x ∷ []) alone
+
+  -- one more fact of that key, in order
+  pub more_same : (k : ℕ) (fs : List F) (i : ℕ) (x : F) → IsOrdered key number fs → i < length fs → x ≡ get_or fs i x → key x ≡ k → newest_of key number k (take (i + 1) fs) ≡ Some x
+  more_same k fs i x ordered l is e =
+      let more : take (i + 1) fs ≡ take i fs ++ x ∷ [] = take_more fs i x l ∙ ap (λ y. take i fs ++ y ∷ []) (sym is) in
+      let passes : (key x == k) ≡ true = eq-eqb _ _ e in
+      let alone : newest_of key number k (x ∷ []) ≡ Some x = rw passes refl in
+      ap (newest_of key number k) more ∙ newest-append number (has_key key k) (take i fs) (x ∷ []) ∙ rw alone (one (newest_of key number k (take i fs)) (newest_found number (has_key key k) (take i fs)))
+    where
+      one : (o : Option F) → IfSome o (λ f. Contains (take i fs) f × (has_key key k f ≡ true)) → later number o (Some x) ≡ Some x
+      one None h = refl
+      one (Some f) h =
+          let c = h.0 in
+          let short : length (take i fs) ≡ i = length-take-le i fs (omega (arith, l)) in
+          let j : c.0 < i = omega (arith, c.1, short) in
+          let at : get_or fs c.0 f ≡ f = sym (get_or-take i fs c.0 f j) ∙ c.2 in
+          let here : get_or fs i f ≡ x = get_or_default fs i f x l ∙ sym is in
+          let kf : key f ≡ k = eqb-true _ _ h.1 in
+          let less : number f < number x = elim (ordered c.0 i f j l) [
+            | inl b ↦ (let kb : key f < key x = rw (at, here) at b in absurd (omega (arith, kb, kf, e)))
+            | inr b ↦ (let nb : number f < number x = rw (at, here) at b.1 in nb)
+          ] in
+          rw (lt-ltb (number f) (number x) less) refl
+
+  -- the facts from a place on have greater keys
+  pub rest_above : (k : ℕ) (fs : List F) (i : ℕ) → i ≤ length fs → ((j : ℕ) (d : F) → i ≤ j → j < length fs → k < key (get_or fs j d)) → newest_of key number k fs ≡ newest_of key number k (take i fs)
+  rest_above k fs i le above =
+      ap (newest_of key number k) (sym (take-append-drop i fs)) ∙ none_behind k (take i fs) (drop i fs) (none_of k (drop i fs) (λ j d l e.
+      let at : get_or (drop i fs) j d ≡ get_or fs (i + j) d = get_or-drop i fs j d in
+      let up : k < key (get_or fs (i + j) d) = above (i + j) d (omega arith) (omega (arith, l, length-drop i fs)) in
+      let same : key (get_or fs (i + j) d) ≡ k = rw at at e in
+      omega (arith, up, same)))
+
+  -- newer facts take the place of older ones
+  pub newer_over : (k : ℕ) (fs gs : List F) → AreBelow number fs gs → newest_of key number k (fs ++ gs) ≡ option_or (newest_of key number k gs) (newest_of key number k fs)
+  newer_over k fs gs below = newest-append number (has_key key k) fs gs ∙ one (newest_of key number k gs) refl
+    where
+      one : (o : Option F) → newest_of key number k gs ≡ o → later number (newest_of key number k fs) o ≡ option_or o (newest_of key number k fs)
+      one None e = later_none number (newest_of key number k fs)
+      one (Some g) e = rw e at (later_below key number k fs gs g below e)
+
+  -- the facts in front of those of a key
+  pub none_in_front : (k from s : ℕ) (fs : List F) → s ≤ length fs → from ≤ k → ((i : ℕ) (d : F) → i < s → key (get_or fs i d) < from) → newest_of key number k (take s fs) ≡ None
+  none_in_front k from s fs le up below = none_of k (take s fs) (λ j d l e.
+      let short : length (take s fs) ≡ s = length-take-le s fs le in
+      let less : j < s = omega (arith, l, short) in
+      let at : get_or (take s fs) j d ≡ get_or fs j d = get_or-take s fs j d less in
+      let down : key (get_or fs j d) < from = below j d less in
+      let same : key (get_or fs j d) ≡ k = rw at at e in
+      omega (arith, down, same, up))
+
+  -- a fact of a greater key, and so all behind it
+  pub all_past : (k : ℕ) (fs : List F) (i : ℕ) (x : F) → IsOrdered key number fs → i < length fs → x ≡ get_or fs i x → k < key x → newest_of key number k fs ≡ newest_of key number k (take i fs)
+  all_past k fs i x ordered l is less = rest_above k fs i (omega (arith, l)) (λ j d le m.
+      let up : key (get_or fs i x) ≤ key (get_or fs j d) = rises key number fs i j x (get_or fs j d) ordered le m (get_or_default fs j d (get_or fs j d) m) in
+      let here : key x ≡ key (get_or fs i x) = ap key is in
+      omega (arith, up, here, less))
+
+  -- a fact put in its place
+  pub put_one : (fs : List F) (from at p : ℕ) (x : F) (out old : List (Option F)) → IsOrdered key number fs → at < length fs → x ≡ get_or fs at x → p < length out → key x ≡ from + p
+      → ((i : ℕ) → i < length out → get_or out i None ≡ option_or (newest_of key number (from + i) (take at fs)) (get_or old i None))
+      → (i : ℕ) → i < length out → get_or (set out p (Some x)) i None ≡ option_or (newest_of key number (from + i) (take (at + 1) fs)) (get_or old i None)
+  put_one fs from at p x out old ordered l is fits here so_far i m = elim (cases_eq i p) [
+    | inl same ↦
+        let hit : newest_of key number (from + i) (take (at + 1) fs) ≡ Some x = more_same (from + i) fs at x ordered l is (here ∙ ap (λ j. from + j) (sym same)) in
+        let there : get_or (set out p (Some x)) i None ≡ Some x = ap (λ j. get_or (set out p (Some x)) j None) same ∙ get_or-set_same out p (Some x) None fits in
+        there ∙ rw hit refl
+    | inr other ↦
+        let miss : newest_of key number (from + i) (take (at + 1) fs) ≡ newest_of key number (from + i) (take at fs) = more_other (from + i) fs at x l is (λ e. other (omega (arith, e, here))) in
+        get_or-set_other out p i (Some x) None other ∙ so_far i m ∙ rw miss refl
+  ]
+
+  -- a patch more, over what stands there
+  pub over_more : (k : ℕ) (ps : List (List F)) (i : ℕ) (p : List F) (old now new : Option F) → Rises number ps [] → i < length ps → p ≡ get_or ps i p
+      → now ≡ option_or (newest_of key number k (facts_of (take i ps))) old → new ≡ option_or (newest_of key number k p) now
+      → new ≡ option_or (newest_of key number k (facts_of (take (i + 1) ps))) old
+  over_more k ps i p old now new h l is e f =
+      let more : newest_of key number k (facts_of (take (i + 1) ps)) ≡ option_or (newest_of key number k p) (newest_of key number k (facts_of (take i ps))) =
+      ap (newest_of key number k) (facts_more key number ps i p l is) ∙ newer_over k (facts_of (take i ps)) p (below_next key number ps [] i p h l is) in
+      f ∙ ap (λ o. option_or (newest_of key number k p) o) e ∙ option_or-assoc (newest_of key number k p) (newest_of key number k (facts_of (take i ps))) old ∙ rw more refl
+
+  -- first nothing, then the flushed facts, then the others
+  pub over_all : (k : ℕ) (fs us : List F) (a b c : Option F) → AreBelow number fs us → a ≡ None → b ≡ option_or (newest_of key number k fs) a → c ≡ option_or (newest_of key number k us) b
+      → c ≡ newest_of key number k (fs ++ us)
+  over_all k fs us a b c below e f h =
+      h ∙ ap (λ o. option_or (newest_of key number k us) o) (f ∙ option_or-none (newest_of key number k fs) a e) ∙ sym (newer_over k fs us below)
