@@ -47,8 +47,8 @@ fn byte_on<S: Shelf>(shelf: &mut S, device: u8, at: u64) -> Result<u8, Failed> {
 }
 
 /// Puts a fill under that number into a slot, under an open gate.
-fn put(world: &mut MemWorld, device: u8, slot: u8, number: u64) -> Result<(), Fail> {
-    let head = head_of(number, number as u8)?;
+fn put(world: &mut MemWorld, device: u8, slot: u8, number: u8) -> Result<(), Fail> {
+    let head = head_of(u64::from(number), number)?;
     let at = SLOTS_START + SLOT_BYTES * u64::from(slot);
     write_on(world, device, at, head.as_bytes())?;
     write_on(world, device, u64::from(slot), &[1])?;
@@ -129,8 +129,11 @@ fn what_a_device_lacks_is_copied(rt: HostRuntime) -> Result<(), Fail> {
 
 fn appended(log: &mut NvLog, byte: u8, world: &mut MemWorld) -> Result<(), Fail> {
     let request = fill(byte)?;
-    if log.free_slots() == 0 || log.flushed() > 1_000_000 || !is_command(&request) {
+    if log.free_slots() == 0 || log.flushed() > 1_000_000 {
         return Err(Fail::new("room"));
+    }
+    if !is_command(&request) || request.data_sectors() != 0 {
+        return Err(Fail::new("command"));
     }
     let record = Record {
         request: &request,
