@@ -20,3 +20,5 @@ pub mod ExampleValues
 mod Moves
 mod Used
 mod LogMoves
+pub mod LogSettled
+mod LogKept

@@ -8,7 +8,7 @@ use Rattle.std.proofs.lemmas.List.{take-append-drop, length-append}
 use Rattle.std.proofs.lemmas.Bool.{and_parts, or_cases}
 use Rattle.std.proofs.lemmas.Slice.Eq.{bytes_eq-Decides}
 use Rattle.pur_base.specs.Commands.{Command, after, after_all, AllAccepted}
-use Rattle.pur_base.specs.Devices.{View, nvram, Sound, is_sound, without_missing}
+use Rattle.pur_base.specs.Devices.{View, nvram, Condition, Conditions, Sound, Missing, LeftOut, is_sound, without_missing}
 use Rattle.pur_base.specs.Gates.{is_open}
 use Rattle.pur_base.specs.Plain.{Array}
 use Rattle.log_codec.specs.Log.{HasSpelling, slot_bytes, Shows, IsInSlot, LogFrom, slot_at}
@@ -26,10 +26,10 @@ both_true true b e f = f
 both_true false b e f = cc
 
 module _ (m : View) (flushed : ℕ) where
-  is_shown : ℕ → ℕ → Command → Bool
+  pub is_shown : ℕ → ℕ → Command → Bool
   is_shown which i c = shown_in i (flushed + 1 + i) c (m (nvram which))
 
-  shows_test : (which i : ℕ) (c : Command) → Shows m which flushed i c → is_shown which i c ≡ true
+  pub shows_test : (which i : ℕ) (c : Command) → Shows m which flushed i c → is_shown which i c ≡ true
   unfolding is_shown spelled_in shown_in
   shows_test which i c s =
       let rest : List ℕ = s.spelled.behind in
@@ -58,11 +58,25 @@ module _ (m : View) (flushed : ℕ) where
             };
           }
 
-  in_slot : ℕ → Command → Bool
+  pub in_slot : ℕ → Command → Bool
   in_slot i c = is_shown 0 i c || is_shown 1 i c
 
+  pub shown_in_slot : (which i : ℕ) (c : Command) → which < 2 → is_shown which i c ≡ true → in_slot i c ≡ true
+  unfolding in_slot
+  shown_in_slot zero i c below t = left (is_shown 0 i c) (is_shown 1 i c) t
+    where
+      left : (a b : Bool) → a ≡ true → a || b ≡ true
+      left true b e = refl
+      left false b e = cc
+  shown_in_slot (suc zero) i c below t = right (is_shown 0 i c) (is_shown 1 i c) t
+    where
+      right : (a b : Bool) → b ≡ true → a || b ≡ true
+      right true b e = refl
+      right false b e = e
+  shown_in_slot (suc (suc j)) i c below t = absurd (omega (arith, below))
+
   -- the commands of the list from a slot on, as long as one is shown
-  log_of : ℕ → List Command → List Command
+  unfoldable pub log_of : ℕ → List Command → List Command
   log_of i [] = []
   log_of i (c ∷ cs) = if in_slot i c then c ∷ log_of (suc i) cs else []
 
@@ -90,7 +104,7 @@ module _ (m : View) (flushed : ℕ) where
   unfolding Lawful
   here_lawful i c cs h = let f : i + 0 ≡ i = omega arith in subst (λ n. HasSpelling (flushed + 1 + n) c) f (h 0 c refl)
 
-  in_slot_is : (i : ℕ) (d : Command) → IsInSlot m flushed i d → in_slot i d ≡ true
+  pub in_slot_is : (i : ℕ) (d : Command) → IsInSlot m flushed i d → in_slot i d ≡ true
   unfolding in_slot
   in_slot_is i d (inl s) = left (is_shown 0 i d) (is_shown 1 i d) (shows_test 0 i d s)
     where
@@ -103,14 +117,14 @@ module _ (m : View) (flushed : ℕ) where
       right true b e = refl
       right false b e = e
 
-  slot_has : (i : ℕ) (c : Command) → i < 64 → HasSpelling (flushed + 1 + i) c → ((which : ℕ) (d : Command) → Shows m which flushed i d → d ≡ c) → in_slot i c ≡ true → IsInSlot m flushed i c
+  pub slot_has : (i : ℕ) (c : Command) → i < 64 → HasSpelling (flushed + 1 + i) c → ((d : Command) → Shows m 0 flushed i d → d ≡ c) → in_slot i c ≡ true → IsInSlot m flushed i c
   unfolding in_slot
   slot_has i c below lawful only e = one (is_shown 0 i c) refl e
     where
       one : (a : Bool) → is_shown 0 i c ≡ a → a || is_shown 1 i c ≡ true → IsInSlot m flushed i c
       one true is t = inl (test_shows 0 i c below lawful is)
       one false is t = inr (
-        λ d s. let same : d ≡ c = only 0 d s in let yes_shown : is_shown 0 i d ≡ true = shows_test 0 i d s in
+        λ d s. let same : d ≡ c = only d s in let yes_shown : is_shown 0 i d ≡ true = shows_test 0 i d s in
             not_both (is_shown 0 i c) is (subst (λ x. is_shown 0 i x ≡ true) same yes_shown),
         test_shows 1 i c below lawful t,
       )
@@ -132,7 +146,7 @@ module _ (m : View) (flushed : ℕ) where
       one (in_slot i c) refl (log_stands (suc i) (after array c) cs (next_no_other i c cs no_other) (next_lawful i c cs lawful) (omega (arith, room)) accepted.1)
     where
       one : (b : Bool) → in_slot i c ≡ b → LogFrom m flushed (suc i) (after array c) (log_of (suc i) cs) → LogFrom m flushed i array (cond b (c ∷ log_of (suc i) cs) [])
-      one true e rest = (slot_has i c (omega (arith, room)) (here_lawful i c cs lawful) (here_no_other i c cs no_other) e, accepted.0, rest)
+      one true e rest = (slot_has i c (omega (arith, room)) (here_lawful i c cs lawful) (here_no_other i c cs no_other 0) e, accepted.0, rest)
       one false e rest = λ d s a. not_both (in_slot i c) e (let is : d ≡ c = only d s in subst (λ x. in_slot i x ≡ true) is (in_slot_is i d s))
         where
           not_both : (x : Bool) → x ≡ false → x ≡ true → ⊥
@@ -143,7 +157,7 @@ module _ (m : View) (flushed : ℕ) where
           only d (inr (nobody, s)) = here_no_other i c cs no_other 1 d s
 
   -- it is a front of the list
-  log_front : (i : ℕ) (cs : List Command) → (length (log_of i cs) ≤ length cs) × (log_of i cs ≡ take (length (log_of i cs)) cs)
+  pub log_front : (i : ℕ) (cs : List Command) → (length (log_of i cs) ≤ length cs) × (log_of i cs ≡ take (length (log_of i cs)) cs)
   unfolding log_of
   log_front i [] = (omega arith, refl)
   log_front i (c ∷ cs) = one (in_slot i c) (log_front (suc i) cs)
@@ -154,7 +168,7 @@ module _ (m : View) (flushed : ℕ) where
       one false h = (omega arith, refl)
 
   -- as long as all that are shown
-  log_least : (i n : ℕ) (cs : List Command) → n ≤ length cs → ((k : ℕ) (c : Command) → k < n → slice_get cs k ≡ Some c → in_slot (i + k) c ≡ true) → n ≤ length (log_of i cs)
+  pub log_least : (i n : ℕ) (cs : List Command) → n ≤ length cs → ((k : ℕ) (c : Command) → k < n → slice_get cs k ≡ Some c → in_slot (i + k) c ≡ true) → n ≤ length (log_of i cs)
   unfolding log_of
   log_least i zero cs long all = omega arith
   log_least i (suc n) [] long all = absurd (omega (arith, long))
@@ -182,7 +196,7 @@ module _ (m n : View) (flushed : ℕ) (fewer : (which i : ℕ) (c : Command) →
       right false b e = e
 
   -- where less is shown the log is no longer
-  log_shorter : (i : ℕ) (cs : List Command) → length (log_of n flushed i cs) ≤ length (log_of m flushed i cs)
+  pub log_shorter : (i : ℕ) (cs : List Command) → length (log_of n flushed i cs) ≤ length (log_of m flushed i cs)
   unfolding log_of
   log_shorter i [] = omega arith
   log_shorter i (c ∷ cs) = one (in_slot n flushed i c) (in_slot m flushed i c) refl refl (log_shorter (suc i) cs)
@@ -196,11 +210,31 @@ module _ (m n : View) (flushed : ℕ) (fewer : (which i : ℕ) (c : Command) →
           not_both b e f = cc
       one false b e f h = omega arith
 
-take_of_take : {X : Type 0} (a b : ℕ) (xs : List X) → a ≤ b → take a (take b xs) ≡ take a xs
+pub take_of_take : {X : Type 0} (a b : ℕ) (xs : List X) → a ≤ b → take a (take b xs) ≡ take a xs
 take_of_take zero b xs le = refl
 take_of_take (suc a) zero xs le = absurd (omega (arith, le))
 take_of_take (suc a) (suc b) [] le = refl
 take_of_take (suc a) (suc b) (x ∷ xs) le = let rest : take a (take b xs) ≡ take a xs = take_of_take a b xs (omega (arith, le)) in λ j. x ∷ rest j
+
+-- what shows without the missing devices is shown by one that isn't missing
+pub shows_alone : (missing : Conditions) (m : View) (which flushed i : ℕ) (c : Command) → Shows (without_missing missing m) which flushed i c → (missing (nvram which) ≡ Sound) × Shows m which flushed i c
+shows_alone missing m which flushed i c t = one (missing (nvram which)) (m (nvram which)) refl refl t.shown
+  where
+    one : (k : Condition) (o : Option (List ℕ)) → missing (nvram which) ≡ k → m (nvram which) ≡ o → cond (is_sound k) o None ≡ Some t.bytes → (missing (nvram which) ≡ Sound) × Shows m which flushed i c
+    one Sound o is there e = (is, record { slot = t.slot; bytes = t.bytes; shown = there ∙ e; gate = t.gate; spelled = t.spelled })
+    one Missing o is there e = absurd (cc e)
+    one LeftOut o is there e = absurd (cc e)
+
+pub alone_still : (missing : Conditions) (m : View) (which flushed i : ℕ) (c : Command) → missing (nvram which) ≡ Sound → Shows m which flushed i c → Shows (without_missing missing m) which flushed i c
+alone_still missing m which flushed i c sound t = record { slot = t.slot; bytes = t.bytes; shown = rw sound t.shown; gate = t.gate; spelled = t.spelled }
+
+pub alone_fewer : (missing : Conditions) (m : View) (flushed which i : ℕ) (c : Command) → is_shown (without_missing missing m) flushed which i c ≡ true → is_shown m flushed which i c ≡ true
+unfolding is_shown shown_in
+alone_fewer missing m flushed which i c e = one (is_sound (missing (nvram which))) (m (nvram which)) e
+  where
+    one : (b : Bool) (o : Option (List ℕ)) → shown_in i (flushed + 1 + i) c (cond b o None) ≡ true → shown_in i (flushed + 1 + i) c o ≡ true
+    one true o e = e
+    one false o e = cc
 
 pub log_is_between : LogIsBetween
 unfolding NoOther Lawful in_slot is_shown shown_in
@@ -210,7 +244,7 @@ log_is_between missing members flushed base least most arrays accepted s fronts 
   devices_agree = λ i c d t u. same (slice_get most i) (s.no_other 0 i c t) (s.no_other 1 i d u);
   least = log_of alone flushed 0 most;
   least_stands = log_stands alone flushed 0 base most alone_no_other lawful (omega (arith, s.room)) accepted;
-  enough = log_shorter members alone flushed fewer 0 most;
+  enough = log_shorter members alone flushed (alone_fewer missing members flushed) 0 most;
   fronts = λ n low high.
       let front = log_front members flushed 0 most in
       let long : length least ≤ length (log_of alone flushed 0 most) = log_least alone flushed 0 (length least) most short all_shown in
@@ -234,22 +268,11 @@ log_is_between missing members flushed base least most arrays accepted s fronts 
     lawful : (k : ℕ) (c : Command) → slice_get most k ≡ Some c → HasSpelling (flushed + 1 + (0 + k)) c
     lawful k c e = subst (λ x. HasSpelling (flushed + 1 + x) c) (sym (zero_plus k)) (s.lawful k c e)
 
-    kept : (b : Bool) (o : Option (List ℕ)) {bytes : List ℕ} → cond b o None ≡ Some bytes → o ≡ Some bytes
-    kept true o e = e
-    kept false o e = cc
-
     alone_shows : (which i : ℕ) (c : Command) → Shows alone which flushed i c → Shows members which flushed i c
-    alone_shows which i c t = record { slot = t.slot; bytes = t.bytes; shown = kept (is_sound (missing (nvram which))) (members (nvram which)) t.shown; gate = t.gate; spelled = t.spelled }
+    alone_shows which i c t = (shows_alone missing members which flushed i c t).1
 
     alone_no_other : (which k : ℕ) (c : Command) → Shows alone which flushed (0 + k) c → slice_get most k ≡ Some c
     alone_no_other which k c t = no_other which k c (alone_shows which (0 + k) c t)
-
-    fewer_one : (b : Bool) (o : Option (List ℕ)) (i number : ℕ) (c : Command) → shown_in i number c (cond b o None) ≡ true → shown_in i number c o ≡ true
-    fewer_one true o i number c e = e
-    fewer_one false o i number c e = cc
-
-    fewer : (which i : ℕ) (c : Command) → is_shown alone flushed which i c ≡ true → is_shown members flushed which i c ≡ true
-    fewer which i c e = fewer_one (is_sound (missing (nvram which))) (members (nvram which)) i (flushed + 1 + i) c e
 
     short : length least ≤ length most
     short = rw s.front.1 (rw (length-append least s.front.0) (omega arith))
@@ -259,26 +282,10 @@ log_is_between missing members flushed base least most arrays accepted s fronts 
     in_least (x ∷ xs) ys zero c below e = e
     in_least (x ∷ xs) ys (suc k) c below e = in_least xs ys k c (omega (arith, below)) e
 
-    sound_stays : (which : ℕ) → missing (nvram which) ≡ Sound → alone (nvram which) ≡ members (nvram which)
-    sound_stays which e = rw e refl
-
     all_shown : (k : ℕ) (c : Command) → k < length least → slice_get most k ≡ Some c → in_slot alone flushed (0 + k) c ≡ true
     all_shown k c below e =
         let found : slice_get least k ≡ Some c = in_least least s.front.0 k c below (subst (λ l. slice_get l k ≡ Some c) s.front.1 e) in
         let t = s.all s.one_sound.0 k c s.one_sound.1 s.one_sound.2 found in
         let here : Shows alone s.one_sound.0 flushed (0 + k) c = subst (λ x. Shows alone s.one_sound.0 flushed x c) (sym (zero_plus k))
-        (record { slot = t.slot; bytes = t.bytes; shown = sound_stays s.one_sound.0 s.one_sound.2 ∙ t.shown; gate = t.gate; spelled = t.spelled }) in
-        one s.one_sound.0 s.one_sound.1 (shows_test alone flushed s.one_sound.0 (0 + k) c here)
-      where
-        one : (which : ℕ) → which < 2 → is_shown alone flushed which (0 + k) c ≡ true → in_slot alone flushed (0 + k) c ≡ true
-        one zero below t = left _ _ t
-          where
-            left : (a b : Bool) → a ≡ true → a || b ≡ true
-            left true b e = refl
-            left false b e = cc
-        one (suc zero) below t = right _ _ t
-          where
-            right : (a b : Bool) → b ≡ true → a || b ≡ true
-            right true b e = refl
-            right false b e = e
-        one (suc (suc j)) below t = absurd (omega (arith, below))
+        (alone_still missing members s.one_sound.0 flushed k c s.one_sound.2 t) in
+        shown_in_slot alone flushed s.one_sound.0 (0 + k) c s.one_sound.1 (shows_test alone flushed s.one_sound.0 (0 + k) c here)

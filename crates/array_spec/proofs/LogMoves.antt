@@ -13,7 +13,7 @@ slot_moves : (m n : View) → ((j : ℕ) → m (nvram j) ≡ n (nvram j)) → (f
 slot_moves m n same flushed i c (inl s) = inl (shows_move m n same 0 flushed i c s)
 slot_moves m n same flushed i c (inr (nobody, s)) = inr (λ d t. nobody d (shows_move n m (λ j. sym (same j)) 0 flushed i d t), shows_move m n same 1 flushed i c s)
 
-log_moves : (m n : View) → ((j : ℕ) → m (nvram j) ≡ n (nvram j)) → (flushed i : ℕ) (array : Array) (cs : List Command) → LogFrom m flushed i array cs → LogFrom n flushed i array cs
+pub log_moves : (m n : View) → ((j : ℕ) → m (nvram j) ≡ n (nvram j)) → (flushed i : ℕ) (array : Array) (cs : List Command) → LogFrom m flushed i array cs → LogFrom n flushed i array cs
 log_moves m n same flushed i array [] s = λ c t. s c (slot_moves n m (λ j. sym (same j)) flushed i c t)
 log_moves m n same flushed i array (c ∷ cs) s = (slot_moves m n same flushed i c s.0, s.1, log_moves m n same flushed (suc i) _ cs s.2)
 

@@ -11,7 +11,7 @@ same_some : (a b : List ℕ) (o : Option (List ℕ)) → o ≡ Some a → o ≡ 
 same_some a b o e f = cc
 
 -- a device shows one command in a slot
-one_shown : (view : View) (device flushed i : ℕ) (c d : Command) → Shows view device flushed i c → Shows view device flushed i d → c ≡ d
+pub one_shown : (view : View) (device flushed i : ℕ) (c d : Command) → Shows view device flushed i c → Shows view device flushed i d → c ≡ d
 one_shown view device flushed i c d s t =
     one_command (slot_at i s.bytes) (flushed + 1 + i) c d s.spelled
     (subst (λ (b : List ℕ). Spells (slot_at i b) (flushed + 1 + i) d) (same_some t.bytes s.bytes (view (nvram device)) t.shown s.shown) t.spelled)

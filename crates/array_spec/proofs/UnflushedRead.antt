@@ -103,16 +103,16 @@ holds_nothing shelf members boot none = record {
 
 -- ---- members
 
-kept_some : (b : Bool) (o : Option (List ℕ)) (bytes : List ℕ) → b ≡ true → o ≡ Some bytes → cond b o None ≡ Some bytes
+pub kept_some : (b : Bool) (o : Option (List ℕ)) (bytes : List ℕ) → b ≡ true → o ≡ Some bytes → cond b o None ≡ Some bytes
 kept_some true o bytes e f = f
 kept_some false o bytes e f = cc
 
-kept_is : (b : Bool) (o : Option (List ℕ)) (bytes : List ℕ) → cond b o None ≡ Some bytes → (b ≡ true) × (o ≡ Some bytes)
+pub kept_is : (b : Bool) (o : Option (List ℕ)) (bytes : List ℕ) → cond b o None ≡ Some bytes → (b ≡ true) × (o ≡ Some bytes)
 kept_is true o bytes e = (refl, e)
 kept_is false o bytes e = cc
 
 -- a byte of zeros is no open gate
-no_gate : (i n : ℕ) → IsTrue (is_open i (zeros n)) → ⊥
+pub no_gate : (i n : ℕ) → IsTrue (is_open i (zeros n)) → ⊥
 no_gate i n e = elim (cases_lt i n) [
   | inl h ↦ absurd (closed (slice_index (zeros n) i) (get_or-replicate {A = ℕ} n i 0 0 h) e)
   | inr h ↦ absurd (closed (slice_index (zeros n) i) (get_or_past (zeros n) i 0 (rw (length-replicate {A = ℕ} n 0) h)) e)
@@ -122,7 +122,7 @@ no_gate i n e = elim (cases_lt i n) [
     closed b is e = cc (subst (λ (x : ℕ). IsTrue (eqb x 1)) is e)
 
 -- one of two devices isn't missing
-one_left : (a b : Condition) → 0 + cond (is_missing a) 1 0 + cond (is_missing b) 1 0 ≤ 1 → (a ≡ Sound) ⊎ (b ≡ Sound)
+pub one_left : (a b : Condition) → 0 + cond (is_missing a) 1 0 + cond (is_missing b) 1 0 ≤ 1 → (a ≡ Sound) ⊎ (b ≡ Sound)
 one_left Sound b few = inl refl
 one_left Missing Sound few = inr refl
 one_left LeftOut Sound few = inr refl
@@ -131,7 +131,7 @@ one_left Missing LeftOut few = absurd (omega (arith, few))
 one_left LeftOut Missing few = absurd (omega (arith, few))
 one_left LeftOut LeftOut few = absurd (omega (arith, few))
 
-was_left_out : (a b : Condition) → MayBecome a b → b ≡ LeftOut → a ≡ LeftOut
+pub was_left_out : (a b : Condition) → MayBecome a b → b ≡ LeftOut → a ≡ LeftOut
 was_left_out Sound b (inl e) f = absurd (cc (e, f))
 was_left_out Sound b (inr e) f = absurd (cc (e, f))
 was_left_out Missing b e f = absurd (cc (e, f))

@@ -13,3 +13,4 @@ pub mod Losses
 pub mod Laws
 pub mod Examples
 pub mod Unflushed
+pub mod LogSettling

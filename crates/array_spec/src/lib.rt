@@ -20,4 +20,4 @@ pub use views::{
     a_held_record_is_given, a_sector_reads_as_one_target, closing_gates, one_body_is_decided,
     one_record_is_effective, opening_gates, records_are_spelled_apart, the_log_is_between,
 };
-pub use writes::{boot_writes, log_writes, quiet_writes, stores, two_fewer_hold};
+pub use writes::{boot_writes, log_writes, quiet_writes, settling_the_log, stores, two_fewer_hold};

@@ -1,5 +1,6 @@
 // What the devices stand for, as they are written.
 ghost use Rattle.array_spec.specs.Laws.{QuietWrites, BootKeeps, StoreKeeps, NvramKeeps, FewerHold};
+ghost use Rattle.array_spec.specs.LogSettling.{SettlingKeeps};
 
 /// Writes in units that no record in use names change nothing that the devices stand for.
 pub fn quiet_writes()
@@ -19,6 +20,11 @@ pub fn stores()
 /// A write to NVRAM: the devices stand for the arrays that each record's log then leads into.
 pub fn log_writes()
     ensures { NvramKeeps }
+{}
+
+/// The log that was read is written to the NVRAM devices that answered: the devices stand for the same arrays, at every moment.
+pub fn settling_the_log()
+    ensures { SettlingKeeps }
 {}
 
 /// Tables that stand with all members stand with two fewer.

@@ -1,0 +1,223 @@
+-- A log that is kept: where devices show of it still what they showed alone, and else only what is in it or was shown, it leads into the same arrays.
+use Rattle.std.proofs.Common.{◌≡◌, ◌⊎◌, inl, inr, ℕ, zero, suc, ◌+◌, ◌<◌, ◌≤◌, List, [], ◌∷◌, length, take, refl, sym, ap, subst, ◌∙◌, arith, Bool, true, false, cond}
+use Rattle.std.specs.Prelude.{Option, Some, None, slice_get, Contains}
+use Rattle.std.proofs.lemmas.Bool.{cases_lt}
+use Rattle.std.proofs.lemmas.Option.{slice_get_past, slice_get_cases}
+use Rattle.pur_base.specs.Commands.{Command, Accepts, AllAccepted, after, after_all}
+use Rattle.pur_base.specs.Devices.{View, Conditions, Sound, nvram, without_missing}
+use Rattle.pur_base.specs.Plain.{Array}
+use Rattle.log_codec.specs.Log.{HasSpelling, Shows, IsInSlot, LogFrom, DevicesAgree}
+use Rattle.array_spec.specs.Standing.{LeadsInto}
+use Rattle.array_spec.proofs.OneLog.{one_shown}
+use Rattle.array_spec.proofs.LogBetween.{shows_test, in_slot, shown_in_slot, log_of, in_slot_is, slot_has, log_front, log_least, log_shorter, take_of_take, shows_alone, alone_still, alone_fewer}
+
+-- ---- of a log that stands
+
+shower : (m : View) (flushed i : ℕ) (c : Command) → IsInSlot m flushed i c → (which : ℕ) × (which < 2) × Shows m which flushed i c
+shower m flushed i c (inl s) = (0, omega arith, s)
+shower m flushed i c (inr (nobody, s)) = (1, omega arith, s)
+
+-- each of its commands is in its slot
+in_chain : (m : View) (flushed i : ℕ) (array : Array) (cs : List Command) (k : ℕ) (c : Command) → LogFrom m flushed i array cs → slice_get cs k ≡ Some c → IsInSlot m flushed (i + k) c
+in_chain m flushed i array [] k c s e = absurd (cc e)
+in_chain m flushed i array (d ∷ ds) zero c s e =
+    let same : d ≡ c = cc e in
+    let at : i ≡ i + 0 = omega arith in
+    subst (λ (x : ℕ). IsInSlot m flushed x c) at (subst (λ (x : Command). IsInSlot m flushed i x) same s.0)
+in_chain m flushed i array (d ∷ ds) (suc k) c s e =
+    let at : suc i + k ≡ i + suc k = omega arith in
+    subst (λ (x : ℕ). IsInSlot m flushed x c) at (in_chain m flushed (suc i) (after array d) ds k c s.2 e)
+
+-- each is accepted
+accepted_chain : (m : View) (flushed i : ℕ) (array : Array) (cs : List Command) → LogFrom m flushed i array cs → AllAccepted array cs
+accepted_chain m flushed i array [] s = tt
+accepted_chain m flushed i array (c ∷ cs) s = (s.1, accepted_chain m flushed (suc i) (after array c) cs s.2)
+
+-- there are no more than slots
+room : (m : View) (flushed i : ℕ) (array : Array) (cs : List Command) → i ≤ 64 → LogFrom m flushed i array cs → i + length cs ≤ 64
+room m flushed i array [] low s = omega (arith, low)
+room m flushed i array (c ∷ cs) low s =
+    let below : i < 64 = (shower m flushed i c s.0).2.slot in
+    let rest : suc i + length cs ≤ 64 = room m flushed (suc i) (after array c) cs (omega (arith, below)) s.2 in
+    omega (arith, rest)
+
+-- no command in the slot behind it is accepted
+chain_end : (m : View) (flushed i : ℕ) (array : Array) (cs : List Command) → LogFrom m flushed i array cs → (c : Command) → IsInSlot m flushed (i + length cs) c → ¬ (Accepts (after_all array cs) c)
+chain_end m flushed i array [] s c t =
+    let at : i + 0 ≡ i = omega arith in
+    s c (subst (λ (x : ℕ). IsInSlot m flushed x c) at t)
+chain_end m flushed i array (d ∷ ds) s c t =
+    let at : i + suc (length ds) ≡ suc i + length ds = omega arith in
+    chain_end m flushed (suc i) (after array d) ds s.2 c (subst (λ (x : ℕ). IsInSlot m flushed x c) at t)
+
+-- ---- a front of a list that stands
+
+module _ (m : View) (flushed : ℕ) where
+  -- of the list's slots the devices show the list's commands alone
+  Only : ℕ → List Command → Type 0
+  Only i cs = (which k : ℕ) (c : Command) → which < 2 → k < length cs → Shows m which flushed (i + k) c → slice_get cs k ≡ Some c
+
+  Lawful : ℕ → List Command → Type 0
+  Lawful i cs = (k : ℕ) (c : Command) → slice_get cs k ≡ Some c → HasSpelling (flushed + 1 + (i + k)) c
+
+  next_only : (i : ℕ) (c : Command) (cs : List Command) → Only i (c ∷ cs) → Only (suc i) cs
+  unfolding Only
+  next_only i c cs h which k d low below s =
+      let e : suc i + k ≡ i + suc k = omega arith in h which (suc k) d low (omega (arith, below)) (subst (λ (x : ℕ). Shows m which flushed x d) e s)
+
+  next_lawful : (i : ℕ) (c : Command) (cs : List Command) → Lawful i (c ∷ cs) → Lawful (suc i) cs
+  unfolding Lawful
+  next_lawful i c cs h k d e = let f : i + suc k ≡ suc i + k = omega arith in subst (λ (x : ℕ). HasSpelling (flushed + 1 + x) d) f (h (suc k) d e)
+
+  here_only : (i : ℕ) (c : Command) (cs : List Command) → Only i (c ∷ cs) → (which : ℕ) (d : Command) → which < 2 → Shows m which flushed i d → d ≡ c
+  unfolding Only
+  here_only i c cs h which d low s =
+      let e : i ≡ i + 0 = omega arith in
+      let is : Some c ≡ Some d = h which 0 d low (omega arith) (subst (λ (x : ℕ). Shows m which flushed x d) e s) in cc is
+
+  here_lawful : (i : ℕ) (c : Command) (cs : List Command) → Lawful i (c ∷ cs) → HasSpelling (flushed + 1 + i) c
+  unfolding Lawful
+  here_lawful i c cs h = let f : i + 0 ≡ i = omega arith in subst (λ (x : ℕ). HasSpelling (flushed + 1 + x) c) f (h 0 c refl)
+
+  front_stands : (i : ℕ) (array : Array) (cs : List Command) → Only i cs → Lawful i cs → i + length cs ≤ 64 → AllAccepted array cs
+      → ((c : Command) → IsInSlot m flushed (i + length cs) c → ¬ (Accepts (after_all array cs) c)) → LogFrom m flushed i array (log_of m flushed i cs)
+  unfolding log_of
+  front_stands i array [] only lawful fits accepted behind = λ c s. let e : i ≡ i + 0 = omega arith in behind c (subst (λ (x : ℕ). IsInSlot m flushed x c) e s)
+  front_stands i array (c ∷ cs) only lawful fits accepted behind =
+      one (in_slot m flushed i c) refl (front_stands (suc i) (after array c) cs (next_only i c cs only) (next_lawful i c cs lawful) (omega (arith, fits)) accepted.1 behind_rest)
+    where
+      behind_rest : (d : Command) → IsInSlot m flushed (suc i + length cs) d → ¬ (Accepts (after_all (after array c) cs) d)
+      behind_rest d s = let e : suc i + length cs ≡ i + suc (length cs) = omega arith in behind d (subst (λ (x : ℕ). IsInSlot m flushed x d) e s)
+
+      not_both : (x : Bool) → x ≡ false → x ≡ true → ⊥
+      not_both x f g = cc
+
+      only_here : (d : Command) → IsInSlot m flushed i d → d ≡ c
+      only_here d (inl s) = here_only i c cs only 0 d (omega arith) s
+      only_here d (inr (nobody, s)) = here_only i c cs only 1 d (omega arith) s
+
+      one : (b : Bool) → in_slot m flushed i c ≡ b → LogFrom m flushed (suc i) (after array c) (log_of m flushed (suc i) cs) → LogFrom m flushed i array (cond b (c ∷ log_of m flushed (suc i) cs) [])
+      one true e rest = (slot_has m flushed i c (omega (arith, fits)) (here_lawful i c cs lawful) (λ d s. here_only i c cs only 0 d (omega arith) s) e, accepted.0, rest)
+      one false e rest = λ d s a. not_both (in_slot m flushed i c) e (subst (λ (x : Command). in_slot m flushed i x ≡ true) (only_here d s) (in_slot_is m flushed i d s))
+
+-- ---- what is shown where devices agree
+
+module _ (m : View) (flushed : ℕ) (agree : DevicesAgree m flushed) where
+  agrees : (n p i : ℕ) (c d : Command) → n < 2 → p < 2 → Shows m n flushed i c → Shows m p flushed i d → c ≡ d
+  agrees zero zero i c d low low2 s t = one_shown m 0 flushed i c d s t
+  agrees zero (suc zero) i c d low low2 s t = agree i c d s t
+  agrees (suc zero) zero i c d low low2 s t = sym (agree i d c t s)
+  agrees (suc zero) (suc zero) i c d low low2 s t = one_shown m 1 flushed i c d s t
+  agrees (suc (suc n)) p i c d low low2 s t = absurd (omega (arith, low))
+  agrees n (suc (suc p)) i c d low low2 s t = absurd (omega (arith, low2))
+
+  -- what one shows is the slot's command
+  slot_shows : (n i : ℕ) (c : Command) → n < 2 → Shows m n flushed i c → IsInSlot m flushed i c
+  slot_shows n i c low s =
+      slot_has m flushed i c s.slot s.spelled.lawful (λ d t. agrees 0 n i d c (omega arith) low t s) (shown_in_slot m flushed n i c low (shows_test m flushed n i c s))
+
+  module _ (base : Array) (log : List Command) (stands : LogFrom m flushed 0 base log) where
+    -- in its slots they show its commands alone
+    shows_log : (which k : ℕ) (c : Command) → which < 2 → k < length log → Shows m which flushed (0 + k) c → slice_get log k ≡ Some c
+    shows_log which k c low below s = elim ((slice_get_cases log k).1) [
+      | inl (d, inside, is, rest) ↦
+          let t = shower m flushed (0 + k) d (in_chain m flushed 0 base log k d stands is) in
+          is ∙ ap (λ (x : Command). Some x) (agrees t.0 which (0 + k) d c t.1 low t.2 s)
+      | inr (past, is) ↦ absurd (omega (arith, below, past))
+    ]
+
+    log_lawful : (k : ℕ) (c : Command) → slice_get log k ≡ Some c → HasSpelling (flushed + 1 + (0 + k)) c
+    log_lawful k c e = (shower m flushed (0 + k) c (in_chain m flushed 0 base log k c stands e)).2.spelled.lawful
+
+    module _ (y : View) (known : (which i : ℕ) (c : Command) → which < 2 → Shows y which flushed i c → (slice_get log i ≡ Some c) ⊎ Shows m which flushed i c) where
+      known_only : (which k : ℕ) (c : Command) → which < 2 → k < length log → Shows y which flushed (0 + k) c → slice_get log k ≡ Some c
+      known_only which k c low below s = elim (known which (0 + k) c low s) [
+        | inl e ↦ let f : 0 + k ≡ k = omega arith in subst (λ (x : ℕ). slice_get log x ≡ Some c) f e
+        | inr t ↦ shows_log which k c low below t
+      ]
+
+      known_behind : (c : Command) → IsInSlot y flushed (0 + length log) c → ¬ (Accepts (after_all base log) c)
+      known_behind c s = let t = shower y flushed (0 + length log) c s in elim (known t.0 (0 + length log) c t.1 t.2) [
+        | inl e ↦ absurd (let past : slice_get log (0 + length log) ≡ None = slice_get_past log (0 + length log) (omega arith) in cc (e, past))
+        | inr u ↦ chain_end m flushed 0 base log stands c (slot_shows t.0 (0 + length log) c t.1 u)
+      ]
+
+      -- a view that shows nothing else has a front of the log
+      known_stands : LogFrom y flushed 0 base (log_of y flushed 0 log)
+      unfolding Only Lawful
+      known_stands = front_stands y flushed 0 base log known_only log_lawful (room m flushed 0 base log (omega arith) stands) (accepted_chain m flushed 0 base log stands) known_behind
+
+-- ---- the log that is kept
+
+module _ (more : Conditions) (x : View) (flushed : ℕ) (base : Array) (arrays : List Array) (leads : LeadsInto more x flushed base arrays) where
+  -- what shows alone is shown in the log's slots by a device that isn't missing
+  least_shown : (k : ℕ) (c : Command) → slice_get leads.least k ≡ Some c → (which : ℕ) × (which < 2) × (more (nvram which) ≡ Sound) × Shows x which flushed (0 + k) c
+  least_shown k c e =
+      let t = shower (without_missing more x) flushed (0 + k) c (in_chain (without_missing more x) flushed 0 base leads.least k c leads.least_stands e) in
+      let u = shows_alone more x t.0 flushed (0 + k) c t.2 in
+      (t.0, t.1, u.0, u.1)
+
+  pub least_is_front : (k : ℕ) (c : Command) → k < length leads.least → slice_get leads.least k ≡ Some c → slice_get leads.log k ≡ Some c
+  least_is_front k c below e =
+      let t = least_shown k c e in
+      let enough : length leads.least ≤ length leads.log = leads.enough in
+      shows_log x flushed leads.devices_agree base leads.log leads.log_stands t.0 k c t.1 (omega (arith, below, enough)) t.3
+
+  module _ (y : View)
+      (known : (which i : ℕ) (c : Command) → which < 2 → Shows y which flushed i c → (slice_get leads.log i ≡ Some c) ⊎ Shows x which flushed i c)
+      (still : (which i : ℕ) (c : Command) → which < 2 → more (nvram which) ≡ Sound → i < length leads.least → Shows x which flushed i c → Shows y which flushed i c) where
+    known_alone : (which i : ℕ) (c : Command) → which < 2 → Shows (without_missing more y) which flushed i c → (slice_get leads.log i ≡ Some c) ⊎ Shows x which flushed i c
+    known_alone which i c low s = known which i c low (shows_alone more y which flushed i c s).1
+
+    all_shown : (k : ℕ) (c : Command) → k < length leads.least → slice_get leads.log k ≡ Some c → in_slot (without_missing more y) flushed (0 + k) c ≡ true
+    all_shown k c below e = elim ((slice_get_cases leads.least k).1) [
+      | inl (d, inside, is, rest) ↦
+          let t = least_shown k d is in
+          let found : slice_get leads.log k ≡ Some d = least_is_front k d below is in
+          let same : d ≡ c = same_some (slice_get leads.log k) found e in
+          let now : Shows y t.0 flushed (0 + k) d = still t.0 (0 + k) d t.1 t.2 (omega (arith, below)) t.3 in
+          let here : Shows (without_missing more y) t.0 flushed (0 + k) d = alone_still more y t.0 flushed (0 + k) d t.2 now in
+          subst (λ (z : Command). in_slot (without_missing more y) flushed (0 + k) z ≡ true) same
+          (shown_in_slot (without_missing more y) flushed t.0 (0 + k) d t.1 (shows_test (without_missing more y) flushed t.0 (0 + k) d here))
+      | inr (past, is) ↦ absurd (omega (arith, below, past))
+    ]
+      where
+        same_some : (o : Option Command) {p q : Command} → o ≡ Some p → o ≡ Some q → p ≡ q
+        same_some o f g = cc
+
+    agree_now : DevicesAgree y flushed
+    agree_now i c d s t = elim (cases_lt i (length leads.log)) [
+      | inl below ↦ same_some (slice_get leads.log i) (inside 0 c (omega arith) below s) (inside 1 d (omega arith) below t)
+      | inr past ↦ leads.devices_agree i c d (outside 0 c (omega arith) past s) (outside 1 d (omega arith) past t)
+    ]
+      where
+        same_some : (o : Option Command) {p q : Command} → o ≡ Some p → o ≡ Some q → p ≡ q
+        same_some o f g = cc
+
+        inside : (which : ℕ) (b : Command) → which < 2 → i < length leads.log → Shows y which flushed i b → slice_get leads.log i ≡ Some b
+        inside which b low below u =
+            let f : i ≡ 0 + i = omega arith in
+            known_only x flushed leads.devices_agree base leads.log leads.log_stands y known which i b low below (subst (λ (z : ℕ). Shows y which flushed z b) f u)
+
+        outside : (which : ℕ) (b : Command) → which < 2 → length leads.log ≤ i → Shows y which flushed i b → Shows x which flushed i b
+        outside which b low past u = elim (known which i b low u) [
+          | inl e ↦ absurd (let none : slice_get leads.log i ≡ None = slice_get_past leads.log i past in cc (e, none))
+          | inr v ↦ v
+        ]
+
+    pub log_kept : LeadsInto more y flushed base arrays
+    log_kept = record {
+      log = log_of y flushed 0 leads.log;
+      log_stands = known_stands x flushed leads.devices_agree base leads.log leads.log_stands y known;
+      devices_agree = agree_now;
+      least = log_of (without_missing more y) flushed 0 leads.log;
+      least_stands = known_stands x flushed leads.devices_agree base leads.log leads.log_stands (without_missing more y) known_alone;
+      enough = log_shorter y (without_missing more y) flushed (alone_fewer more y flushed) 0 leads.log;
+      fronts = λ n low high.
+          let front = log_front y flushed 0 leads.log in
+          let long : length leads.least ≤ length (log_of (without_missing more y) flushed 0 leads.log) =
+          log_least (without_missing more y) flushed 0 (length leads.least) leads.log leads.enough all_shown in
+          let e : take n (log_of y flushed 0 leads.log) ≡ take n leads.log =
+          ap (take n) front.1 ∙ take_of_take n (length (log_of y flushed 0 leads.log)) leads.log high in
+          subst (λ l. Contains arrays (after_all base l)) (sym e) (leads.fronts n (omega (arith, low, long)) (omega (arith, high, front.0)));
+    }
