@@ -6,8 +6,9 @@ use Rattle.std.specs.Cmp.Lexicographic.{same_text}
 use Rattle.std.proofs.Math.Seq.{take-append_seam}
 use Rattle.std.proofs.lemmas.List.{take-append-drop, length-append}
 use Rattle.std.proofs.lemmas.Bool.{and_parts, or_cases}
+use Rattle.std.proofs.lemmas.Option.{slice_get_past}
 use Rattle.std.proofs.lemmas.Slice.Eq.{bytes_eq-Decides}
-use Rattle.pur_base.specs.Commands.{Command, after, after_all, AllAccepted}
+use Rattle.pur_base.specs.Commands.{Command, Accepts, after, after_all, AllAccepted}
 use Rattle.pur_base.specs.Devices.{View, nvram, Condition, Conditions, Sound, Missing, LeftOut, is_sound, without_missing}
 use Rattle.pur_base.specs.Gates.{is_open}
 use Rattle.pur_base.specs.Plain.{Array}
@@ -24,6 +25,11 @@ shown_in i number c (Some bytes) = spelled_in i number c bytes
 both_true : (a b : Bool) → a ≡ true → b ≡ true → a && b ≡ true
 both_true true b e f = f
 both_true false b e f = cc
+
+-- one of the two shows the command of a slot
+pub shower : (m : View) (flushed i : ℕ) (c : Command) → IsInSlot m flushed i c → (which : ℕ) × (which < 2) × Shows m which flushed i c
+shower m flushed i c (inl s) = (0, omega arith, s)
+shower m flushed i c (inr (nobody, s)) = (1, omega arith, s)
 
 module _ (m : View) (flushed : ℕ) where
   pub is_shown : ℕ → ℕ → Command → Bool
@@ -80,29 +86,31 @@ module _ (m : View) (flushed : ℕ) where
   log_of i [] = []
   log_of i (c ∷ cs) = if in_slot i c then c ∷ log_of (suc i) cs else []
 
-  NoOther : ℕ → List Command → Type 0
-  NoOther i cs = (which k : ℕ) (c : Command) → Shows m which flushed (i + k) c → slice_get cs k ≡ Some c
+  -- of the list's slots the devices show the list's commands alone
+  unfoldable pub Only : ℕ → List Command → Type 0
+  Only i cs = (which k : ℕ) (c : Command) → which < 2 → k < length cs → Shows m which flushed (i + k) c → slice_get cs k ≡ Some c
 
-  Lawful : ℕ → List Command → Type 0
+  unfoldable pub Lawful : ℕ → List Command → Type 0
   Lawful i cs = (k : ℕ) (c : Command) → slice_get cs k ≡ Some c → HasSpelling (flushed + 1 + (i + k)) c
 
-  next_no_other : (i : ℕ) (c : Command) (cs : List Command) → NoOther i (c ∷ cs) → NoOther (suc i) cs
-  unfolding NoOther
-  next_no_other i c cs h which k d s = h which (suc k) d (let e : suc i + k ≡ i + suc k = omega arith in subst (λ n. Shows m which flushed n d) e s)
+  next_only : (i : ℕ) (c : Command) (cs : List Command) → Only i (c ∷ cs) → Only (suc i) cs
+  unfolding Only
+  next_only i c cs h which k d low below s =
+      let e : suc i + k ≡ i + suc k = omega arith in h which (suc k) d low (omega (arith, below)) (subst (λ (x : ℕ). Shows m which flushed x d) e s)
 
   next_lawful : (i : ℕ) (c : Command) (cs : List Command) → Lawful i (c ∷ cs) → Lawful (suc i) cs
   unfolding Lawful
-  next_lawful i c cs h k d e = let f : i + suc k ≡ suc i + k = omega arith in subst (λ n. HasSpelling (flushed + 1 + n) d) f (h (suc k) d e)
+  next_lawful i c cs h k d e = let f : i + suc k ≡ suc i + k = omega arith in subst (λ (x : ℕ). HasSpelling (flushed + 1 + x) d) f (h (suc k) d e)
 
-  here_no_other : (i : ℕ) (c : Command) (cs : List Command) → NoOther i (c ∷ cs) → (which : ℕ) (d : Command) → Shows m which flushed i d → d ≡ c
-  unfolding NoOther
-  here_no_other i c cs h which d s =
+  here_only : (i : ℕ) (c : Command) (cs : List Command) → Only i (c ∷ cs) → (which : ℕ) (d : Command) → which < 2 → Shows m which flushed i d → d ≡ c
+  unfolding Only
+  here_only i c cs h which d low s =
       let e : i ≡ i + 0 = omega arith in
-      let is : Some c ≡ Some d = h which 0 d (subst (λ n. Shows m which flushed n d) e s) in cc
+      let is : Some c ≡ Some d = h which 0 d low (omega arith) (subst (λ (x : ℕ). Shows m which flushed x d) e s) in cc is
 
   here_lawful : (i : ℕ) (c : Command) (cs : List Command) → Lawful i (c ∷ cs) → HasSpelling (flushed + 1 + i) c
   unfolding Lawful
-  here_lawful i c cs h = let f : i + 0 ≡ i = omega arith in subst (λ n. HasSpelling (flushed + 1 + n) c) f (h 0 c refl)
+  here_lawful i c cs h = let f : i + 0 ≡ i = omega arith in subst (λ (x : ℕ). HasSpelling (flushed + 1 + x) c) f (h 0 c refl)
 
   pub in_slot_is : (i : ℕ) (d : Command) → IsInSlot m flushed i d → in_slot i d ≡ true
   unfolding in_slot
@@ -132,29 +140,27 @@ module _ (m : View) (flushed : ℕ) where
           not_both : (b : Bool) → b ≡ false → b ≡ true → ⊥
           not_both b e f = cc
 
-  log_stands : (i : ℕ) (array : Array) (cs : List Command) → NoOther i cs → Lawful i cs → i + length cs ≤ 64 → AllAccepted array cs → LogFrom m flushed i array (log_of i cs)
-  unfolding log_of NoOther
-  log_stands i array [] no_other lawful room accepted = λ c s a. past c (shower c s)
+  -- what is shown of the list from its first command on stands as a log
+  pub front_stands : (i : ℕ) (array : Array) (cs : List Command) → Only i cs → Lawful i cs → i + length cs ≤ 64 → AllAccepted array cs
+      → ((c : Command) → IsInSlot m flushed (i + length cs) c → ¬ (Accepts (after_all array cs) c)) → LogFrom m flushed i array (log_of i cs)
+  unfolding log_of
+  front_stands i array [] only lawful fits accepted behind = λ c s. let e : i ≡ i + 0 = omega arith in behind c (subst (λ (x : ℕ). IsInSlot m flushed x c) e s)
+  front_stands i array (c ∷ cs) only lawful fits accepted behind =
+      one (in_slot i c) refl (front_stands (suc i) (after array c) cs (next_only i c cs only) (next_lawful i c cs lawful) (omega (arith, fits)) accepted.1 behind_rest)
     where
-      shower : (c : Command) → IsInSlot m flushed i c → (which : ℕ) × Shows m which flushed i c
-      shower c (inl s) = (0, s)
-      shower c (inr (nobody, s)) = (1, s)
+      behind_rest : (d : Command) → IsInSlot m flushed (suc i + length cs) d → ¬ (Accepts (after_all (after array c) cs) d)
+      behind_rest d s = let e : suc i + length cs ≡ i + suc (length cs) = omega arith in behind d (subst (λ (x : ℕ). IsInSlot m flushed x d) e s)
 
-      past : (c : Command) → (which : ℕ) × Shows m which flushed i c → ⊥
-      past c (which, s) = let e : i ≡ i + 0 = omega arith in let is : None ≡ Some c = no_other which 0 c (subst (λ n. Shows m which flushed n c) e s) in cc
-  log_stands i array (c ∷ cs) no_other lawful room accepted =
-      one (in_slot i c) refl (log_stands (suc i) (after array c) cs (next_no_other i c cs no_other) (next_lawful i c cs lawful) (omega (arith, room)) accepted.1)
-    where
+      not_both : (x : Bool) → x ≡ false → x ≡ true → ⊥
+      not_both x f g = cc
+
+      only_here : (d : Command) → IsInSlot m flushed i d → d ≡ c
+      only_here d (inl s) = here_only i c cs only 0 d (omega arith) s
+      only_here d (inr (nobody, s)) = here_only i c cs only 1 d (omega arith) s
+
       one : (b : Bool) → in_slot i c ≡ b → LogFrom m flushed (suc i) (after array c) (log_of (suc i) cs) → LogFrom m flushed i array (cond b (c ∷ log_of (suc i) cs) [])
-      one true e rest = (slot_has i c (omega (arith, room)) (here_lawful i c cs lawful) (here_no_other i c cs no_other 0) e, accepted.0, rest)
-      one false e rest = λ d s a. not_both (in_slot i c) e (let is : d ≡ c = only d s in subst (λ x. in_slot i x ≡ true) is (in_slot_is i d s))
-        where
-          not_both : (x : Bool) → x ≡ false → x ≡ true → ⊥
-          not_both x f g = cc
-
-          only : (d : Command) → IsInSlot m flushed i d → d ≡ c
-          only d (inl s) = here_no_other i c cs no_other 0 d s
-          only d (inr (nobody, s)) = here_no_other i c cs no_other 1 d s
+      one true e rest = (slot_has i c (omega (arith, fits)) (here_lawful i c cs lawful) (λ d s. here_only i c cs only 0 d (omega arith) s) e, accepted.0, rest)
+      one false e rest = λ d s a. not_both (in_slot i c) e (subst (λ (x : Command). in_slot i x ≡ true) (only_here d s) (in_slot_is i d s))
 
   -- it is a front of the list
   pub log_front : (i : ℕ) (cs : List Command) → (length (log_of i cs) ≤ length cs) × (log_of i cs ≡ take (length (log_of i cs)) cs)
@@ -237,13 +243,13 @@ alone_fewer missing m flushed which i c e = one (is_sound (missing (nvram which)
     one false o e = cc
 
 pub log_is_between : LogIsBetween
-unfolding NoOther Lawful in_slot is_shown shown_in
+unfolding Only Lawful in_slot is_shown shown_in
 log_is_between missing members flushed base least most arrays accepted s fronts = record {
   log = log_of members flushed 0 most;
-  log_stands = log_stands members flushed 0 base most no_other lawful (omega (arith, s.room)) accepted;
+  log_stands = front_stands members flushed 0 base most (λ which k c low below t. no_other which k c t) lawful (omega (arith, s.room)) accepted (λ c t. absurd (behind members no_other c t));
   devices_agree = λ i c d t u. same (slice_get most i) (s.no_other 0 i c t) (s.no_other 1 i d u);
   least = log_of alone flushed 0 most;
-  least_stands = log_stands alone flushed 0 base most alone_no_other lawful (omega (arith, s.room)) accepted;
+  least_stands = front_stands alone flushed 0 base most (λ which k c low below t. alone_no_other which k c t) lawful (omega (arith, s.room)) accepted (λ c t. absurd (behind alone alone_no_other c t));
   enough = log_shorter members alone flushed (alone_fewer missing members flushed) 0 most;
   fronts = λ n low high.
       let front = log_front members flushed 0 most in
@@ -273,6 +279,13 @@ log_is_between missing members flushed base least most arrays accepted s fronts 
 
     alone_no_other : (which k : ℕ) (c : Command) → Shows alone which flushed (0 + k) c → slice_get most k ≡ Some c
     alone_no_other which k c t = no_other which k c (alone_shows which (0 + k) c t)
+
+    behind : (m : View) → ((which k : ℕ) (c : Command) → Shows m which flushed (0 + k) c → slice_get most k ≡ Some c) → (c : Command) → IsInSlot m flushed (0 + length most) c → ⊥
+    behind m only c t =
+        let u = shower m flushed (0 + length most) c t in
+        let found : slice_get most (length most) ≡ Some c = only u.0 (length most) c u.2 in
+        let none : slice_get most (length most) ≡ None = slice_get_past most (length most) (omega arith) in
+        cc (found, none)
 
     short : length least ≤ length most
     short = rw s.front.1 (rw (length-append least s.front.0) (omega arith))

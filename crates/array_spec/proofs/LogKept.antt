@@ -1,5 +1,5 @@
 -- A log that is kept: where devices show of it still what they showed alone, and else only what is in it or was shown, it leads into the same arrays.
-use Rattle.std.proofs.Common.{◌≡◌, ◌⊎◌, inl, inr, ℕ, zero, suc, ◌+◌, ◌<◌, ◌≤◌, List, [], ◌∷◌, length, take, refl, sym, ap, subst, ◌∙◌, arith, Bool, true, false, cond}
+use Rattle.std.proofs.Common.{◌≡◌, ◌⊎◌, inl, inr, ℕ, zero, suc, ◌+◌, ◌<◌, ◌≤◌, List, [], ◌∷◌, length, take, sym, ap, subst, ◌∙◌, arith, true}
 use Rattle.std.specs.Prelude.{Option, Some, None, slice_get, Contains}
 use Rattle.std.proofs.lemmas.Bool.{cases_lt}
 use Rattle.std.proofs.lemmas.Option.{slice_get_past, slice_get_cases}
@@ -9,13 +9,9 @@ use Rattle.pur_base.specs.Plain.{Array}
 use Rattle.log_codec.specs.Log.{HasSpelling, Shows, IsInSlot, LogFrom, DevicesAgree}
 use Rattle.array_spec.specs.Standing.{LeadsInto}
 use Rattle.array_spec.proofs.OneLog.{one_shown}
-use Rattle.array_spec.proofs.LogBetween.{shows_test, in_slot, shown_in_slot, log_of, in_slot_is, slot_has, log_front, log_least, log_shorter, take_of_take, shows_alone, alone_still, alone_fewer}
+use Rattle.array_spec.proofs.LogBetween.{shower, shows_test, in_slot, shown_in_slot, Only, Lawful, log_of, slot_has, front_stands, log_front, log_least, log_shorter, take_of_take, shows_alone, alone_still, alone_fewer}
 
 -- ---- of a log that stands
-
-shower : (m : View) (flushed i : ℕ) (c : Command) → IsInSlot m flushed i c → (which : ℕ) × (which < 2) × Shows m which flushed i c
-shower m flushed i c (inl s) = (0, omega arith, s)
-shower m flushed i c (inr (nobody, s)) = (1, omega arith, s)
 
 -- each of its commands is in its slot
 in_chain : (m : View) (flushed i : ℕ) (array : Array) (cs : List Command) (k : ℕ) (c : Command) → LogFrom m flushed i array cs → slice_get cs k ≡ Some c → IsInSlot m flushed (i + k) c
@@ -49,56 +45,6 @@ chain_end m flushed i array [] s c t =
 chain_end m flushed i array (d ∷ ds) s c t =
     let at : i + suc (length ds) ≡ suc i + length ds = omega arith in
     chain_end m flushed (suc i) (after array d) ds s.2 c (subst (λ (x : ℕ). IsInSlot m flushed x c) at t)
-
--- ---- a front of a list that stands
-
-module _ (m : View) (flushed : ℕ) where
-  -- of the list's slots the devices show the list's commands alone
-  Only : ℕ → List Command → Type 0
-  Only i cs = (which k : ℕ) (c : Command) → which < 2 → k < length cs → Shows m which flushed (i + k) c → slice_get cs k ≡ Some c
-
-  Lawful : ℕ → List Command → Type 0
-  Lawful i cs = (k : ℕ) (c : Command) → slice_get cs k ≡ Some c → HasSpelling (flushed + 1 + (i + k)) c
-
-  next_only : (i : ℕ) (c : Command) (cs : List Command) → Only i (c ∷ cs) → Only (suc i) cs
-  unfolding Only
-  next_only i c cs h which k d low below s =
-      let e : suc i + k ≡ i + suc k = omega arith in h which (suc k) d low (omega (arith, below)) (subst (λ (x : ℕ). Shows m which flushed x d) e s)
-
-  next_lawful : (i : ℕ) (c : Command) (cs : List Command) → Lawful i (c ∷ cs) → Lawful (suc i) cs
-  unfolding Lawful
-  next_lawful i c cs h k d e = let f : i + suc k ≡ suc i + k = omega arith in subst (λ (x : ℕ). HasSpelling (flushed + 1 + x) d) f (h (suc k) d e)
-
-  here_only : (i : ℕ) (c : Command) (cs : List Command) → Only i (c ∷ cs) → (which : ℕ) (d : Command) → which < 2 → Shows m which flushed i d → d ≡ c
-  unfolding Only
-  here_only i c cs h which d low s =
-      let e : i ≡ i + 0 = omega arith in
-      let is : Some c ≡ Some d = h which 0 d low (omega arith) (subst (λ (x : ℕ). Shows m which flushed x d) e s) in cc is
-
-  here_lawful : (i : ℕ) (c : Command) (cs : List Command) → Lawful i (c ∷ cs) → HasSpelling (flushed + 1 + i) c
-  unfolding Lawful
-  here_lawful i c cs h = let f : i + 0 ≡ i = omega arith in subst (λ (x : ℕ). HasSpelling (flushed + 1 + x) c) f (h 0 c refl)
-
-  front_stands : (i : ℕ) (array : Array) (cs : List Command) → Only i cs → Lawful i cs → i + length cs ≤ 64 → AllAccepted array cs
-      → ((c : Command) → IsInSlot m flushed (i + length cs) c → ¬ (Accepts (after_all array cs) c)) → LogFrom m flushed i array (log_of m flushed i cs)
-  unfolding log_of
-  front_stands i array [] only lawful fits accepted behind = λ c s. let e : i ≡ i + 0 = omega arith in behind c (subst (λ (x : ℕ). IsInSlot m flushed x c) e s)
-  front_stands i array (c ∷ cs) only lawful fits accepted behind =
-      one (in_slot m flushed i c) refl (front_stands (suc i) (after array c) cs (next_only i c cs only) (next_lawful i c cs lawful) (omega (arith, fits)) accepted.1 behind_rest)
-    where
-      behind_rest : (d : Command) → IsInSlot m flushed (suc i + length cs) d → ¬ (Accepts (after_all (after array c) cs) d)
-      behind_rest d s = let e : suc i + length cs ≡ i + suc (length cs) = omega arith in behind d (subst (λ (x : ℕ). IsInSlot m flushed x d) e s)
-
-      not_both : (x : Bool) → x ≡ false → x ≡ true → ⊥
-      not_both x f g = cc
-
-      only_here : (d : Command) → IsInSlot m flushed i d → d ≡ c
-      only_here d (inl s) = here_only i c cs only 0 d (omega arith) s
-      only_here d (inr (nobody, s)) = here_only i c cs only 1 d (omega arith) s
-
-      one : (b : Bool) → in_slot m flushed i c ≡ b → LogFrom m flushed (suc i) (after array c) (log_of m flushed (suc i) cs) → LogFrom m flushed i array (cond b (c ∷ log_of m flushed (suc i) cs) [])
-      one true e rest = (slot_has m flushed i c (omega (arith, fits)) (here_lawful i c cs lawful) (λ d s. here_only i c cs only 0 d (omega arith) s) e, accepted.0, rest)
-      one false e rest = λ d s a. not_both (in_slot m flushed i c) e (subst (λ (x : Command). in_slot m flushed i x ≡ true) (only_here d s) (in_slot_is m flushed i d s))
 
 -- ---- what is shown where devices agree
 

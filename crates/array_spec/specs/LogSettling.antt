@@ -16,7 +16,7 @@ abbrev pub answering : List Bool → Image → View
 answering members image (Drive d) = None
 answering members image (Nv n) = if slice_index_or members n.0 false then Some (image (Nv n)) else None
 
--- Each of these devices shows what it showed, and commands of the log, and it still shows what it showed of the log. The others stay.
+-- Each of these devices shows nothing but what it showed and commands of the log, and still shows what it showed in the slots of the log. The others stay.
 pub record SettlesLog (members : List Bool) (flushed : ℕ) (log : List Command) (old new : Image) : Type 0 where
   pub only_nvram : DiffersOnlyInNvram old new
   pub others : (n : ℕ) → slice_index_or members n false ≡ false → new (nvram n) ≡ old (nvram n)
