@@ -3,6 +3,7 @@ ghost use Rattle.std.specs.Prelude.{◌≡◌, ◌<◌, ◌≤◌, ℕ, IfOk, If
 ghost use Rattle.pur_base.specs.Devices.{Geometry};
 ghost use Rattle.pur_base.specs.declared.device.Device.{Device};
 ghost use Rattle.world.specs.Shelf.{Continues, IsSame};
+ghost use Rattle.world.specs.Writes.{WritesOnly};
 ghost use Rattle.boot_codec.specs.Record.{set_count};
 ghost use Rattle.boot_region.specs.declared.loading.LoadFault.TheVariants as faults;
 ghost use Rattle.boot_region.specs.Loading.{IsLoadOf, IsGiven, IsFaultOf, MayBeSettled, fault_of};
@@ -92,6 +93,7 @@ impl Regions {
 pub fn load<S: Shelf>(alloc: Global, shelf: &mut S) -> Result<Loaded, LoadFault>
     ensures continues { Continues (S.shelf shelf.old) (S.shelf shelf.new) }
     ensures same { (S.shelf shelf.old).honest → (device : Device) → IsSame ((S.shelf shelf.old).disk device) ((S.shelf shelf.new).disk device) }
+    ensures writes { (S.shelf shelf.old).honest → WritesOnly (λ d i. ⊥) (S.shelf shelf.old) (S.shelf shelf.new) }
     ensures rest { S.shelf_rest shelf.old shelf.new }
     ensures loads { (S.shelf shelf.old).honest → IsLoadOf (S.shelf shelf.old) (S.shelf shelf.new) result }
     // What was loaded may be settled.

@@ -3,6 +3,7 @@ ghost use Rattle.std.specs.Prelude.{◌≡◌, ◌≢◌, ◌<◌, ◌≤◌, �
 ghost use Rattle.pur_base.specs.declared.device.Device.{Device};
 ghost use Rattle.pur_base.specs.Devices.{drive};
 ghost use Rattle.world.specs.Shelf.{Continues, IsSame, OthersStay};
+ghost use Rattle.world.specs.Writes.{WritesOnly};
 ghost use Rattle.boot_region.specs.Regions.{region_at, IsRead};
 
 use crate::{REGION_BYTES, Regions};
@@ -18,6 +19,7 @@ fn read_region<S: Shelf>(shelf: &mut S, regions: &mut Regions, index: usize)
     ensures read { (S.shelf shelf.old).honest → IsRead (S.shelf shelf.old) (S.shelf shelf.new) regions.new.bytes.items regions.new.answered.items index }
     ensures kept { (i : ℕ) → i ≢ index → region_at regions.new.bytes.items regions.new.answered.items i ≡ region_at regions.old.bytes.items regions.old.answered.items i }
     ensures same { (S.shelf shelf.old).honest → (device : Device) → IsSame ((S.shelf shelf.old).disk device) ((S.shelf shelf.new).disk device) }
+    ensures writes { (S.shelf shelf.old).honest → WritesOnly (λ d i. ⊥) (S.shelf shelf.old) (S.shelf shelf.new) }
     ensures others { OthersStay (drive index) (S.shelf shelf.old) (S.shelf shelf.new) }
     ensures rest { S.shelf_rest shelf.old shelf.new }
 {
@@ -34,6 +36,7 @@ pub fn read_regions<S: Shelf>(shelf: &mut S, regions: &mut Regions)
     ensures drives { length regions.new.answered.items ≡ (S.shelf shelf.new).drives }
     ensures read { (S.shelf shelf.old).honest → (i : ℕ) → i < (S.shelf shelf.old).drives → IsRead (S.shelf shelf.old) (S.shelf shelf.new) regions.new.bytes.items regions.new.answered.items i }
     ensures same { (S.shelf shelf.old).honest → (device : Device) → IsSame ((S.shelf shelf.old).disk device) ((S.shelf shelf.new).disk device) }
+    ensures writes { (S.shelf shelf.old).honest → WritesOnly (λ d i. ⊥) (S.shelf shelf.old) (S.shelf shelf.new) }
     ensures rest { S.shelf_rest shelf.old shelf.new }
 {
     for drive in 0..regions.answered.len() {

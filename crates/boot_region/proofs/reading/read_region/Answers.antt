@@ -1,7 +1,12 @@
 use Rattle.std.proofs.Common.{rules, ◌≡◌, ◌*◌, length, arith}
 use Rattle.boot_region.specs.declared.regions.TheConstants.{REGION_BYTES}
+use Rattle.pur_base.specs.Devices.{drive}
 use Rattle.boot_region.proofs.ReadingLemmas.{others_are_kept, is_read, lent_size}
+use Rattle.world.proofs.Writes.{read_writes}
 use Rattle.boot_region.proofs.reading.read_region.Goals as goal
+
+pub returns-clause-writes : goal.returns-clause-writes
+returns-clause-writes g c h = read_writes _ (drive c.args.index) (g.met.S.Shelf.is_shelf c.args.shelf.now) c.read-answer.ensures.time c.read-answer.ensures.others (c.read-answer.ensures.device h)
 
 pub returns-clause-read : goal.returns-clause-read
 returns-clause-read g c honest =

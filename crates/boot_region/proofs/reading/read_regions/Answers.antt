@@ -2,6 +2,7 @@ use Rattle.std.proofs.Common.{rules, ◌≡◌, length, arith, ◌∙◌, below_
 use Rattle.pur_base.specs.Devices.{drive}
 use Rattle.pur_base.proofs.Devices.{drives_apart}
 use Rattle.world.proofs.Moments.{continues_trans}
+use Rattle.world.proofs.Writes.{writes_then, nothing_written}
 use Rattle.boot_region.specs.Regions.{IsRead}
 use Rattle.boot_region.proofs.ReadingLemmas.{stays_read, first_read}
 use Rattle.boot_region.proofs.reading.read_regions.Goals as goal
@@ -26,6 +27,7 @@ loop-drive-preserved g c =
           (λ i lt. stays_read a b n c.loop-drive.regions.bytes.items x.new.regions.bytes.items c.loop-drive.regions.answered.items x.new.regions.answered.items i
           (inv.passed h i lt) (x.ensures.kept i (omega (arith, lt))) (x.ensures.others (drive i) (drives_apart i slot (omega (arith, lt)))))
           (first_read a b n x.new.regions.bytes.items x.new.regions.answered.items slot (x.ensures.read (inv.continues.honest h)) (inv.ahead slot (omega arith)));
+      writes = λ h. writes_then inv.continues (inv.writes h) (x.ensures.writes (inv.continues.honest h));
       ahead = λ i le. x.ensures.others (drive i) (drives_apart i slot (omega (arith, le))) ∙ inv.ahead i (omega (arith, le));
     }
 

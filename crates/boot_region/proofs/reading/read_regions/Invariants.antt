@@ -2,6 +2,7 @@ use Rattle.std.proofs.Common.{◌≡◌, ℕ, ◌<◌, ◌≤◌, length}
 use Rattle.pur_base.specs.declared.device.Device.{Device}
 use Rattle.pur_base.specs.Devices.{drive}
 use Rattle.world.specs.Shelf.{Continues, IsSame}
+use Rattle.world.specs.Writes.{WritesOnly}
 use Rattle.boot_region.specs.Regions.{IsRead}
 use Rattle.boot_region.proofs.reading.read_regions.Given as goal
 
@@ -14,6 +15,7 @@ invariant-loop-drive g l =
       rest : g.S.Shelf.shelf_rest l.initial.shelf l.shelf;
       drives : length l.regions.answered.items ≡ a.drives;
       same : a.honest → (device : Device) → IsSame (a.disk device) (b.disk device);
+      writes : a.honest → WritesOnly (λ d i. ⊥) a b;
       passed : a.honest → (i : ℕ) → i < l.drive → IsRead a b l.regions.bytes.items l.regions.answered.items i;
       ahead : (i : ℕ) → l.drive ≤ i → b.disk (drive i) ≡ a.disk (drive i);
     }

@@ -1,0 +1,35 @@
+-- The record that was found, and settled on the drives that hold it.
+use Rattle.std.specs.Prelude.{◌≡◌, ℕ, List, [], true, Result, Ok, Err, ⊤}
+use Rattle.pur_base.specs.declared.device.Device.{Device}
+use Rattle.pur_base.specs.Devices.{Conditions, LeftOut, drive}
+use Rattle.pur_base.specs.Plain.{Array}
+use Rattle.boot_codec.specs.Region.{other_slot, body_in, names}
+use Rattle.boot_codec.specs.Spelling.{spelling}
+use Rattle.array_spec.specs.Laws.{IsNamedByNone}
+use Rattle.array_spec.specs.Meaning.{IsInForce}
+use Rattle.world.specs.Losing.{geometry_of}
+use Rattle.world.specs.Shelf.{Shelved, Stop, MayStop}
+use Rattle.boot_region.specs.declared.loading.Loaded.{Loaded}
+use Rattle.boot_region.specs.Members.{IsMember}
+use Rattle.boot_region.specs.Slots.{slot_in}
+use Rattle.boot_region.specs.Storing.{StandsNow, IsInForceOn}
+use Rattle.takeover.specs.declared.faults.OpenFault.{OpenFault}
+use Rattle.takeover.specs.declared.faults.OpenFault.TheVariants as open_fault
+use Rattle.takeover.specs.Entering.{Enters, failed_since}
+
+-- the record is in force on the drives that were found, which are some of those that it names, and the devices stand for the arrays
+pub record IsFoundOn (shelf : Shelved) (x : Loaded) (missing : Conditions) (arrays : List Array) : Type 0 where
+  pub in_force : IsInForceOn shelf x.drives missing (other_slot (slot_in x.slot)) x.record
+  pub in_its_slot : IsInForce (slot_in x.slot) x.record
+  pub named : (i : ℕ) → IsMember x.drives i → names x.record (drive i) ≡ true
+  pub bodies : (i : ℕ) → IsMember x.drives i → body_in (slot_in x.slot) (shelf.disk (drive i)).bytes ≡ spelling x.record
+  pub unflushed : x.record.patches ≡ []
+  pub stands : StandsNow shelf missing arrays
+  pub left_out : (start : Stop) → MayStop shelf start → (d : Device) → missing d ≡ LeftOut → IsNamedByNone (geometry_of shelf) start.image missing d
+
+-- Where no more is missing than is borne, the record is found, or it names patches, or memory was wanting.
+abbrev pub IsFoundBy : Shelved → Conditions → List Array → Result Loaded OpenFault → Type 0
+IsFoundBy new missing arrays (Ok x) = IsFoundOn new x missing arrays
+IsFoundBy new missing arrays (Err (open_fault.Memory m)) = ⊤
+IsFoundBy new missing arrays (Err open_fault.HasPatches) = ⊤
+IsFoundBy new missing arrays (Err e) = ⊥

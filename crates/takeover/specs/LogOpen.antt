@@ -1,0 +1,35 @@
+-- The log that was read, settled and replayed.
+use Rattle.std.specs.Prelude.{◌≡◌, ℕ, ◌<◌, List, [], length, Contains, Result, Ok, Err, ⊤}
+use Rattle.pur_base.specs.Commands.{Command, AllAccepted, after_all}
+use Rattle.pur_base.specs.Devices.{Conditions, Sound, LeftOut, nvram}
+use Rattle.pur_base.specs.Plain.{Array}
+use Rattle.world.specs.Shelf.{Shelved}
+use Rattle.boot_region.specs.declared.loading.Loaded.{Loaded}
+use Rattle.nvram_log.specs.Held.{HoldsOn, Keeps}
+use Rattle.nvram_log.specs.Members.{IsMember, IsSome, IsFewer}
+use Rattle.takeover.specs.Found.{IsFoundOn}
+use Rattle.takeover.specs.declared.log.OpenedLog.{OpenedLog}
+use Rattle.takeover.specs.declared.log.LogFault.{LogFault}
+use Rattle.takeover.specs.declared.log.LogFault.TheVariants as log_fault
+
+-- each NVRAM device that is left holds the log, which makes one of the arrays of nothing: that in memory
+pub record IsLogOpen (shelf : Shelved) (x : Loaded) (missing : Conditions) (arrays : List Array) (o : OpenedLog) : Type 0 where
+  pub found : IsFoundOn shelf x missing arrays
+  pub commands : List Command
+  pub keeps : Keeps o.log commands
+  pub flushed : o.log.flushed ≡ x.record.flushed
+  pub accepted : AllAccepted [] commands
+  pub plain : o.plain ≡ after_all [] commands
+  pub one_of : Contains arrays (after_all [] commands)
+  pub holds : HoldsOn shelf o.log.members x.record.flushed commands
+  pub some : IsSome o.log.members
+  pub fewer : IsFewer x.record.members.nvrams o.log.members
+  pub sound : (n : ℕ) → n < 2 → missing (nvram n) ≡ Sound → IsMember o.log.members n
+  pub left_out : (n : ℕ) → missing (nvram n) ≡ LeftOut → ¬ (IsMember o.log.members n)
+
+-- Where no more is missing than is borne, the log is opened, or it has a command that isn't served, or memory was wanting.
+abbrev pub IsLogOpenBy : Shelved → Loaded → Conditions → List Array → Result OpenedLog LogFault → Type 0
+IsLogOpenBy new x missing arrays (Ok o) = IsLogOpen new x missing arrays o
+IsLogOpenBy new x missing arrays (Err (log_fault.Memory m)) = ⊤
+IsLogOpenBy new x missing arrays (Err log_fault.Unserved) = ⊤
+IsLogOpenBy new x missing arrays (Err log_fault.BothLost) = ⊥

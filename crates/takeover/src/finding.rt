@@ -1,0 +1,81 @@
+// The boot record is found and settled.
+ghost use Rattle.std.specs.Prelude.{◌≡◌, ◌⊎◌, ◌<◌, ℕ, List, [], length, OnOk};
+ghost use Rattle.pur_base.specs.Devices.{Conditions, IsBearable, drive};
+ghost use Rattle.pur_base.specs.Plain.{Array};
+ghost use Rattle.boot_codec.specs.Record.{set_count};
+ghost use Rattle.boot_codec.specs.Region.{gate_place, other_slot};
+ghost use Rattle.array_spec.specs.Standing.{Stands};
+ghost use Rattle.world.specs.Counts.{Rises};
+ghost use Rattle.world.specs.Losing.{geometry_of};
+ghost use Rattle.world.specs.Shelf.{Continues, LeavesOnly};
+ghost use Rattle.world.specs.Writes.{WritesOnly};
+ghost use Rattle.boot_region.specs.Members.{IsMember, OnClosed};
+ghost use Rattle.boot_region.specs.Slots.{slot_in};
+ghost use Rattle.boot_region.specs.Storing.{IsFound, IsInForceOn, IsLoaded, TellsFailed};
+ghost use Rattle.takeover.specs.Entering.{Enters, StandsStill, failed_since};
+ghost use Rattle.takeover.specs.Found.{IsFoundBy};
+
+use crate::OpenFault;
+use boot_codec::DRIVE_FLAGS;
+use boot_region::{Loaded, load, settle};
+use std::alloc::Global;
+use world::Shelf;
+
+/// As many drives may be missing.
+const MISSING_MAX: usize = 2;
+
+/// How many flags are set.
+fn count_set(flags: &[bool; DRIVE_FLAGS]) -> usize
+    ensures value { result ≡ set_count flags.now }
+    ensures bound { result ≤ 24 }
+{
+    flags.iter().filter(|flag| **flag).count()
+}
+
+/// Settles the record that was loaded on the drives that hold it. A drive that fails is dropped.
+fn settle_loaded<S: Shelf>(shelf: &mut S, loaded: &mut Loaded)
+    ensures continues { Continues (S.shelf shelf.old) (S.shelf shelf.new) }
+    ensures record { (loaded.new.record ≡ loaded.old.record) × (loaded.new.slot ≡ loaded.old.slot) }
+    ensures fewer { (i : ℕ) → IsMember loaded.new.drives i → IsMember loaded.old.drives i }
+    ensures dropped { (i : ℕ) → i < (S.shelf shelf.old).drives → IsMember loaded.old.drives i
+        → IsMember loaded.new.drives i ⊎ Rises ((S.shelf shelf.old).disk (drive i)).faults ((S.shelf shelf.new).disk (drive i)).faults }
+    ensures writes { (S.shelf shelf.old).honest → WritesOnly (OnClosed loaded.old.drives (S.shelf shelf.old) (gate_place (slot_in loaded.old.slot))) (S.shelf shelf.old) (S.shelf shelf.new) }
+    ensures rest { S.shelf_rest shelf.old shelf.new }
+    // At every moment the devices stand for the arrays for which they stood.
+    ensures any_moment { (S.shelf shelf.old).honest → (missing : Conditions) (arrays : List Array)
+        → IsLoaded (S.shelf shelf.old) loaded.old.drives missing (slot_in loaded.old.slot) loaded.old.record arrays
+        → LeavesOnly (S.shelf shelf.old) (S.shelf shelf.new) (λ stop. Stands (geometry_of (S.shelf shelf.old)) stop.image missing arrays) }
+    // Then the record is in force on the drives that are left.
+    ensures settled { (S.shelf shelf.old).honest → (missing : Conditions) (arrays : List Array)
+        → IsLoaded (S.shelf shelf.old) loaded.old.drives missing (slot_in loaded.old.slot) loaded.old.record arrays
+        → IsFound (S.shelf shelf.old) loaded.old.drives missing (slot_in loaded.old.slot) loaded.old.record
+        → (later : Conditions) → TellsFailed (S.shelf shelf.old) loaded.old.drives missing (λ d. ((S.shelf shelf.new).disk d).faults) later
+        → IsInForceOn (S.shelf shelf.new) loaded.new.drives later (other_slot (slot_in loaded.new.slot)) loaded.new.record }
+{
+    let slots = shelf.drives() as usize;
+    let slot = loaded.slot;
+    settle(shelf, &mut loaded.drives[..slots], slot);
+}
+
+/// Finds the record in force and settles it: it is in force then on the drives that are left, one by one.
+pub fn find_record<S: Shelf>(alloc: Global, shelf: &mut S) -> Result<Loaded, OpenFault>
+    ensures continues { Continues (S.shelf shelf.old) (S.shelf shelf.new) }
+    ensures rest { S.shelf_rest shelf.old shelf.new }
+    // At every moment the devices stand for the arrays for which they stood.
+    ensures any_moment { (S.shelf shelf.old).honest → (missing : Conditions) (arrays : List Array) → Enters (S.shelf shelf.old) missing arrays
+        → LeavesOnly (S.shelf shelf.old) (S.shelf shelf.new) (StandsStill (S.shelf shelf.old) missing arrays) }
+    // Where no more is missing than is borne it is found.
+    ensures found { (S.shelf shelf.old).honest → (missing : Conditions) (arrays : List Array) → Enters (S.shelf shelf.old) missing arrays
+        → IsBearable (geometry_of (S.shelf shelf.old)) (failed_since (S.shelf shelf.old) (S.shelf shelf.new) missing)
+        → IsFoundBy (S.shelf shelf.new) (failed_since (S.shelf shelf.old) (S.shelf shelf.new) missing) arrays result }
+{
+    let mut loaded = load(alloc, shelf)?;
+    if !loaded.record.patches.as_slice().is_empty() {
+        return Err(OpenFault::HasPatches);
+    }
+    settle_loaded(shelf, &mut loaded);
+    if count_set(&loaded.drives) + MISSING_MAX < shelf.drives() as usize {
+        return Err(OpenFault::TooFew(loaded.drives));
+    }
+    Ok(loaded)
+}
