@@ -13,3 +13,4 @@ pub mod Viewed
 mod Mended
 mod Settled
 mod SettledEach
+mod Synced

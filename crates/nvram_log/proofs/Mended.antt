@@ -10,7 +10,8 @@ use Rattle.world.specs.declared.streams.Failed.{Failed}
 use Rattle.world.specs.Shelf.{Disk, Written, WrittenIfOk}
 use Rattle.world.specs.Writes.{OneRange, ChangesOnly}
 use Rattle.nvram_log.specs.Records.{slot_place}
-use Rattle.nvram_log.specs.Settling.{IsFlagged, OnGates, OnSlots}
+use Rattle.nvram_log.specs.Members.{IsFlagged}
+use Rattle.nvram_log.specs.Settling.{OnGates, OnSlots}
 use Rattle.nvram_log.proofs.Staged.{at_range}
 use Rattle.nvram_log.proofs.Showing.{same_slot}
 

@@ -1,5 +1,5 @@
 -- The log is settled on a device: gates are closed, slots copied, gates opened.
-use Rattle.std.proofs.Common.{◌≡◌, ◌⊎◌, Result, Ok, Err, OnOk, inl, inr, ℕ, ◌+◌, ◌≤◌, ◌<◌, Bool, true, false, not, ◌&&◌, nat_lt, if◌then◌else◌, List, [], length, map, Some, slice_get, slice_index, slice_index_or, sym, ◌∙◌, ap, subst, arith, refl}
+use Rattle.std.proofs.Common.{◌≡◌, ◌≢◌, ◌⊎◌, Result, Ok, Err, OnOk, inl, inr, ℕ, ◌+◌, ◌≤◌, ◌<◌, Bool, true, false, not, ◌&&◌, nat_lt, if◌then◌else◌, List, [], length, map, Some, slice_get, slice_index, slice_index_or, sym, ◌∙◌, ap, subst, arith, refl}
 use Rattle.std.specs.List.{range_with_len}
 use Rattle.std.specs.Prelude.{◌==◌}
 use Rattle.std.proofs.lemmas.Bool.{cases_lt, cases_Bool, lt-ltb, ltb-true, false_from_ne_true}
@@ -16,7 +16,9 @@ use Rattle.world.specs.Shelf.{Disk, MayLeave}
 use Rattle.world.specs.Writes.{MayLeaveBut, ChangesOnly}
 use Rattle.nvram_log.specs.declared.seen.SeenSlots.{SeenSlots}
 use Rattle.nvram_log.specs.Slots.{IsLog}
-use Rattle.nvram_log.specs.Settling.{IsFlagged, OnDevice, OnGates, OnSlots, GatesAre, SlotsAre, IsToSettle, SettlesBy}
+use Rattle.nvram_log.specs.Members.{IsFlagged}
+use Rattle.nvram_log.specs.Settling.{OnDevice, OnGates, OnSlots, GatesAre, SlotsAre, IsToSettle, SettlesBy}
+use Rattle.nvram_log.proofs.Closing.{one_number}
 use Rattle.nvram_log.proofs.Lists.{some_at}
 use Rattle.nvram_log.proofs.Storing.{none_dirty}
 use Rattle.nvram_log.proofs.Showing.{AreImages, same_gate, same_slot, shows_too, closed_shows}
@@ -146,11 +148,11 @@ module _ (d0 : Disk) (device : Device) (flushed : ℕ) (seen : SeenSlots) (slots
       | inr new ↦ ap (λ (n : ℕ). n == 1) new.0 ∙ opened
     ]
 
-    shown_before : (i : ℕ) (c : Command) → ShowsIn x flushed i c → ShowsIn was flushed i c
-    shown_before i c shows = record {
+    shown_before : (number i : ℕ) (c : Command) → ShowsIn x number i c → ShowsIn was number i c
+    shown_before number i c shows = record {
       slot = shows.slot;
       gate = gate_was i shows.slot shows.gate;
-      spelled = subst (λ (l : List ℕ). Spells l (flushed + 1 + i) c) (sym (slot_was i shows.slot)) shows.spelled;
+      spelled = subst (λ (l : List ℕ). Spells l (number + 1 + i) c) (sym (slot_was i shows.slot)) shows.spelled;
     }
 
     still_first : d0.dirty ≡ [] → (i : ℕ) (c : Command) → i < length commands → ShowsIn d0.bytes flushed i c → ShowsIn x flushed i c
@@ -163,7 +165,14 @@ module _ (d0 : Disk) (device : Device) (flushed : ℕ) (seen : SeenSlots) (slots
         shows
 
     pub while_closing : SettlesBy d0 flushed commands x
-    while_closing = record { was = was; may = was_may; size = but.size; no_other = λ i c shows. inr (shown_before i c shows); still = still_first }
+    while_closing = record {
+      was = was;
+      may = was_may;
+      size = but.size;
+      no_other = λ i c shows. inr (shown_before flushed i c shows);
+      none_elsewhere = λ other i c apart shows. shown_before other i c shows;
+      still = still_first;
+    }
 
   -- once they are closed
   module _ (d1 : Disk) (c1 : ChangesOnly (OnGates device closing device) d0 d1) (shut : GatesAre closing 0 d1.bytes) (clean1 : d1.dirty ≡ []) where
@@ -186,10 +195,10 @@ module _ (d0 : Disk) (device : Device) (flushed : ℕ) (seen : SeenSlots) (slots
     open1 i lt opened = let keeps = kept_open i lt opened in stays_open i lt (sym (gate1 i keeps) ∙ opened) keeps
 
     -- bytes with that gate and that slot show what was shown
-    back : (b : List ℕ) (i : ℕ) (c : Command) → is_open i b ≡ is_open i d1.bytes → slot_at i b ≡ slot_at i d1.bytes → ShowsIn b flushed i c → ShowsIn d0.bytes flushed i c
-    back b i c gate slot shows =
+    back : (b : List ℕ) (number i : ℕ) (c : Command) → is_open i b ≡ is_open i d1.bytes → slot_at i b ≡ slot_at i d1.bytes → ShowsIn b number i c → ShowsIn d0.bytes number i c
+    back b number i c gate slot shows =
         let opened : is_open i d1.bytes ≡ true = sym gate ∙ shows.gate in
-        shows_too b d0.bytes flushed i c (sym (gate ∙ gate1 i (kept_open i shows.slot opened))) (sym (slot ∙ slot1 i shows.slot)) shows
+        shows_too b d0.bytes number i c (sym (gate ∙ gate1 i (kept_open i shows.slot opened))) (sym (slot ∙ slot1 i shows.slot)) shows
 
     forth : (b : List ℕ) (i : ℕ) (c : Command) → i < length commands → is_open i b ≡ is_open i d1.bytes → slot_at i b ≡ slot_at i d1.bytes → ShowsIn d0.bytes flushed i c → ShowsIn b flushed i c
     forth b i c lt gate slot shows =
@@ -209,14 +218,18 @@ module _ (d0 : Disk) (device : Device) (flushed : ℕ) (seen : SeenSlots) (slots
           let e : w.1.slot ≡ i = omega (arith, from, to, w.1.within.0, w.1.within.1) in
           absurd (cc (subst (IsFlagged lacking) e w.1.flagged, none))))
 
+      shown_copying : (number i : ℕ) (c : Command) → ShowsIn y number i c → ShowsIn d0.bytes number i c
+      shown_copying number i c shows =
+          let o = open1 i shows.slot (sym (gate2 i shows.slot) ∙ shows.gate) in
+          back y number i c (gate2 i shows.slot) (slot2 i shows.slot (shown_not_lacking i shows.slot o.0)) shows
+
       pub while_copying : SettlesBy d0 flushed commands y
       while_copying = record {
         was = d0.bytes;
         may = was_itself;
         size = but.size ∙ c1.size;
-        no_other = λ i c shows.
-            let o = open1 i shows.slot (sym (gate2 i shows.slot) ∙ shows.gate) in
-            inr (back y i c (gate2 i shows.slot) (slot2 i shows.slot (shown_not_lacking i shows.slot o.0)) shows);
+        no_other = λ i c shows. inr (shown_copying flushed i c shows);
+        none_elsewhere = λ other i c apart shows. shown_copying other i c shows;
         still = λ clean i c lt shows.
             let below = in_log i lt in
             forth y i c lt (gate2 i below) (slot2 i below (shown_not_lacking i below (seen_shown i c below shows))) shows;
@@ -254,7 +267,18 @@ module _ (d0 : Disk) (device : Device) (flushed : ℕ) (seen : SeenSlots) (slots
           | inl lacks_it ↦
               let some = some_at commands i (lacking_in_log i shows.slot lacks_it) in
               inl (some.1 ∙ ap Some (one_command (slot_at i z) (flushed + 1 + i) some.0 c (copied_spells i some.0 shows.slot lacks_it some.1) shows.spelled))
-          | inr none ↦ inr (back z i c (end_gate i shows.slot none) (slot3 i shows.slot none) shows)
+          | inr none ↦ inr (back z flushed i c (end_gate i shows.slot none) (slot3 i shows.slot none) shows)
+        ]
+
+        -- a copied slot spells the number of the log, and no other
+        elsewhere : (other i : ℕ) (c : Command) → other ≢ flushed → ShowsIn z other i c → ShowsIn d0.bytes other i c
+        elsewhere other i c apart shows = elim (cases_Bool (slice_index_or lacking i false)) [
+          | inl lacks_it ↦
+              let some = some_at commands i (lacking_in_log i shows.slot lacks_it) in
+              let one = one_number (slot_at i z) (other + 1 + i) (flushed + 1 + i) c some.0 shows.spelled (copied_spells i some.0 shows.slot lacks_it some.1) in
+              let same : other ≡ flushed = omega (arith, one) in
+              absurd (apart same)
+          | inr none ↦ back z other i c (end_gate i shows.slot none) (slot3 i shows.slot none) shows
         ]
 
         still_third : (i : ℕ) (c : Command) → i < length commands → ShowsIn d0.bytes flushed i c → ShowsIn z flushed i c
@@ -264,7 +288,7 @@ module _ (d0 : Disk) (device : Device) (flushed : ℕ) (seen : SeenSlots) (slots
             forth z i c lt (end_gate i below none) (slot3 i below none) shows
 
         pub while_opening : SettlesBy d0 flushed commands z
-        while_opening = record { was = d0.bytes; may = was_itself; size = z_size ∙ c2.size ∙ c1.size; no_other = either; still = λ clean. still_third }
+        while_opening = record { was = d0.bytes; may = was_itself; size = z_size ∙ c2.size ∙ c1.size; no_other = either; none_elsewhere = elsewhere; still = λ clean. still_third }
 
         -- once they are open
         module _ (opened : GatesAre lacking 1 z) where

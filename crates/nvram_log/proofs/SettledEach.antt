@@ -42,6 +42,7 @@ nothing_settled d0 flushed commands x size may = record {
   may = may;
   size = may.size;
   no_other = λ i c shows. inr shows;
+  none_elsewhere = λ other i c apart shows. shows;
   still = λ clean i c lt shows.
       let same : (k : ℕ) → slice_index x k ≡ slice_index d0.bytes k = λ k. may.clean k (none_dirty d0 clean k) in
       shows_too d0.bytes x flushed i c (same_gate d0.bytes x i (same i)) (same_slot d0.bytes x i (record { old = size; new = may.size }) shows.slot (λ k from to. same k)) shows;

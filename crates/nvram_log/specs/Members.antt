@@ -6,9 +6,13 @@ use Rattle.pur_base.specs.declared.device.Device.TheVariants.{Drive, Nv}
 use Rattle.world.specs.Counts.{Rises}
 use Rattle.world.specs.Shelf.{Shelved, Disk, IsIn}
 
+-- the flag there is set
+abbrev pub IsFlagged : List Bool → ℕ → Type 0
+IsFlagged flags i = slice_index_or flags i false ≡ true
+
 -- whether a device is a member
 abbrev pub IsMember : List Bool → ℕ → Type 0
-IsMember members n = slice_index_or members n false ≡ true
+IsMember members n = IsFlagged members n
 
 -- some device is a member
 abbrev pub IsSome : List Bool → Type 0

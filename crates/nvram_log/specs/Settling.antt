@@ -1,5 +1,5 @@
 -- The log is settled on a device: gates that don't count are closed, and slots that it lacks are copied to it.
-use Rattle.std.specs.Prelude.{◌≡◌, ◌⊎◌, ℕ, ◌+◌, ◌*◌, ◌<◌, ◌≤◌, true, false, Bool, List, [], length, Some, slice_get, slice_index, slice_index_or}
+use Rattle.std.specs.Prelude.{◌≡◌, ◌≢◌, ◌⊎◌, ℕ, ◌+◌, ◌*◌, ◌<◌, ◌≤◌, Bool, List, [], length, Some, slice_get, slice_index}
 use Rattle.pur_base.specs.Bytes.{bytes_at}
 use Rattle.pur_base.specs.Commands.{Command}
 use Rattle.pur_base.specs.Devices.{nvram}
@@ -9,13 +9,9 @@ use Rattle.log_codec.specs.Log.{Spells, ShowsIn, slot_at}
 use Rattle.world.specs.Shelf.{Shelved, Stop, Disk, MayLeave, IsIn}
 use Rattle.nvram_log.specs.declared.log.NvLog.{NvLog}
 use Rattle.nvram_log.specs.declared.seen.SeenSlots.{SeenSlots}
-use Rattle.nvram_log.specs.Members.{IsMember}
+use Rattle.nvram_log.specs.Members.{IsFlagged, IsMember}
 use Rattle.nvram_log.specs.Records.{slot_place}
 use Rattle.nvram_log.specs.Seen.{AreSeen}
-
--- the slot has a flag
-abbrev pub IsFlagged : List Bool → ℕ → Type 0
-IsFlagged flags i = slice_index_or flags i false ≡ true
 
 -- the gates of the flagged slots on a device
 abbrev pub OnGates : Device → List Bool → Device → ℕ → Type 0
@@ -57,6 +53,8 @@ pub record SettlesBy (before : Disk) (flushed : ℕ) (commands : List Command) (
   pub may : MayLeave before was
   pub size : length bytes ≡ length before.bytes
   pub no_other : (i : ℕ) (c : Command) → ShowsIn bytes flushed i c → (slice_get commands i ≡ Some c) ⊎ ShowsIn was flushed i c
+  -- under numbers that follow on another one it shows nothing new
+  pub none_elsewhere : (other i : ℕ) (c : Command) → other ≢ flushed → ShowsIn bytes other i c → ShowsIn was other i c
   pub still : before.dirty ≡ [] → (i : ℕ) (c : Command) → i < length commands → ShowsIn before.bytes flushed i c → ShowsIn bytes flushed i c
 
 -- so each member

@@ -16,8 +16,10 @@ mod seen;
 mod settle;
 mod slots;
 mod staging;
+mod syncing;
 
 pub use log::{BothLost, NvLog};
 pub use read::ReadFault;
 pub use record::Record;
 pub use slots::Logged;
+pub use syncing::sync_members;

@@ -7,9 +7,9 @@ ghost use Rattle.log_codec.specs.declared.limits.TheConstants.{LOG_SLOTS, SLOT_B
 ghost use Rattle.world.specs.Shelf.{Continues, LeavesOnly, MayLeave, OthersStay, WriteCounts};
 ghost use Rattle.world.specs.Writes.{WritesOnly};
 ghost use Rattle.nvram_log.specs.Slots.{IsLog};
-ghost use Rattle.nvram_log.specs.Members.{IsSome, IsFewer, DroppedFailed, OnMembers};
+ghost use Rattle.nvram_log.specs.Members.{IsFlagged, IsSome, IsFewer, DroppedFailed, OnMembers};
 ghost use Rattle.nvram_log.specs.Held.{HoldsOn};
-ghost use Rattle.nvram_log.specs.Settling.{IsFlagged, OnDevice, IsToSettle, SettlesBy, AreToSettle, SettleBy};
+ghost use Rattle.nvram_log.specs.Settling.{OnDevice, IsToSettle, SettlesBy, AreToSettle, SettleBy};
 
 use crate::gates::{CLOSED, OPEN};
 use crate::log::DEVICES;

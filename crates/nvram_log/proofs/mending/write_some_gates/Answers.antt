@@ -2,7 +2,8 @@ use Rattle.std.proofs.Common.{◌∙◌, sym, subst, arith}
 use Rattle.pur_base.specs.Devices.{nvram}
 use Rattle.world.proofs.Moments.{continues_trans}
 use Rattle.world.proofs.Writes.{writes_then, writes_more, sync_writes}
-use Rattle.nvram_log.specs.Settling.{IsFlagged, OnGates, GatesAre}
+use Rattle.nvram_log.specs.Members.{IsFlagged}
+use Rattle.nvram_log.specs.Settling.{OnGates, GatesAre}
 use Rattle.nvram_log.proofs.OnEach.{always}
 use Rattle.nvram_log.proofs.Mended.{gate_in, gate_more}
 use Rattle.nvram_log.proofs.mending.write_some_gates.Goals as goal

@@ -2,7 +2,8 @@ use Rattle.std.proofs.Common.{◌≡◌, ℕ, ◌<◌, slice_index}
 use Rattle.pur_base.specs.Devices.{nvram}
 use Rattle.world.specs.Shelf.{Continues, OthersStay}
 use Rattle.world.specs.Writes.{WritesOnly}
-use Rattle.nvram_log.specs.Settling.{IsFlagged, OnGates}
+use Rattle.nvram_log.specs.Members.{IsFlagged}
+use Rattle.nvram_log.specs.Settling.{OnGates}
 use Rattle.nvram_log.proofs.mending.write_some_gates.Given as goal
 
 abbrev pub invariant-loop-i : goal.invariant-loop-i

@@ -2,7 +2,8 @@ use Rattle.std.proofs.Common.{◌∙◌, sym, subst, arith}
 use Rattle.pur_base.specs.Devices.{nvram}
 use Rattle.world.proofs.Moments.{continues_trans}
 use Rattle.world.proofs.Writes.{writes_then, writes_more, sync_writes}
-use Rattle.nvram_log.specs.Settling.{IsFlagged, OnSlots, SlotsAre}
+use Rattle.nvram_log.specs.Members.{IsFlagged}
+use Rattle.nvram_log.specs.Settling.{OnSlots, SlotsAre}
 use Rattle.nvram_log.proofs.OnEach.{always}
 use Rattle.nvram_log.proofs.Mended.{slot_in, slot_more}
 use Rattle.nvram_log.proofs.mending.write_some_slots.Goals as goal

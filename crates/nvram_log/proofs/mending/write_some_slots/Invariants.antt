@@ -5,7 +5,8 @@ use Rattle.log_codec.specs.declared.limits.TheConstants.{SLOT_BYTES}
 use Rattle.pur_base.specs.Devices.{nvram}
 use Rattle.world.specs.Shelf.{Continues, OthersStay}
 use Rattle.world.specs.Writes.{WritesOnly}
-use Rattle.nvram_log.specs.Settling.{IsFlagged, OnSlots}
+use Rattle.nvram_log.specs.Members.{IsFlagged}
+use Rattle.nvram_log.specs.Settling.{OnSlots}
 use Rattle.nvram_log.proofs.mending.write_some_slots.Given as goal
 
 abbrev pub invariant-loop-i : goal.invariant-loop-i

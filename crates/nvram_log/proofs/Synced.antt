@@ -1,0 +1,34 @@
+-- Devices are synced.
+use Rattle.std.proofs.Common.{◌≡◌, ◌≢◌, inl, inr, ℕ, [], Result, Ok, Err, OnOk, refl, sym, ◌∙◌, subst}
+use Rattle.pur_base.specs.Devices.{drive, nvram}
+use Rattle.pur_base.specs.declared.device.Device.{Device}
+use Rattle.pur_base.proofs.Devices.{same_device}
+use Rattle.world.specs.declared.streams.Failed.{Failed}
+use Rattle.world.specs.Shelf.{Shelved, Disk, WasSynced, OthersStay}
+
+-- a drive is no NVRAM device
+pub drive_apart : (d n : ℕ) → drive d ≢ nvram n
+drive_apart d n = λ e. cc
+
+-- what was clean is clean
+pub one_clean : (answer : Result (Unit {0}) Failed) (old new : Disk) → WasSynced answer old new → old.dirty ≡ [] → new.dirty ≡ []
+one_clean (Ok x) old new was clean = was.dirty
+one_clean (Err x) old new was clean = was.dirty ∙ clean
+
+-- what is true of the synced device before and after, and of one that stays, is true of each
+on_each : (P : Disk → Disk → Type 0) (a b : Shelved) (device : Device) → OthersStay device a b → P (a.disk device) (b.disk device) → ((d : Disk) → P d d) → (d : Device) → P (a.disk d) (b.disk d)
+on_each P a b device others here stays d = elim (same_device d device) [
+  | inl e ↦ subst (λ (x : Device). P (a.disk x) (b.disk x)) (sym e) here
+  | inr ne ↦ subst (λ (x : Disk). P (a.disk d) x) (sym (others d ne)) (stays (a.disk d))
+]
+
+pub same_bytes : (a b : Shelved) (device : Device) → OthersStay device a b → (b.disk device).bytes ≡ (a.disk device).bytes → (d : Device) → (b.disk d).bytes ≡ (a.disk d).bytes
+same_bytes a b device others here = on_each (λ (old new : Disk). new.bytes ≡ old.bytes) a b device others here (λ d. refl)
+
+pub all_clean : (a b : Shelved) (device : Device) → OthersStay device a b → ((a.disk device).dirty ≡ [] → (b.disk device).dirty ≡ []) → (d : Device) → (a.disk d).dirty ≡ [] → (b.disk d).dirty ≡ []
+all_clean a b device others here = on_each (λ (old new : Disk). old.dirty ≡ [] → new.dirty ≡ []) a b device others here (λ d clean. clean)
+
+-- an answer of Ok leaves nothing dirty
+pub clean_now : (answer : Result (Unit {0}) Failed) (old new : Disk) → WasSynced answer old new → OnOk answer (new.dirty ≡ [])
+clean_now (Ok x) old new was = was.dirty
+clean_now (Err x) old new was = tt
