@@ -1,1 +1,7 @@
 mod Members
+mod Failing
+mod Loading
+mod NoFault
+mod FoundLemmas
+mod Fronts
+mod Opened

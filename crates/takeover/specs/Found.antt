@@ -1,5 +1,5 @@
 -- The record that was found, and settled on the drives that hold it.
-use Rattle.std.specs.Prelude.{◌≡◌, ℕ, List, [], true, Result, Ok, Err, ⊤}
+use Rattle.std.specs.Prelude.{◌≡◌, ℕ, ◌-◌, ◌<◌, ◌^◌, List, [], true, Result, Ok, Err, ⊤}
 use Rattle.pur_base.specs.declared.device.Device.{Device}
 use Rattle.pur_base.specs.Devices.{Conditions, LeftOut, drive}
 use Rattle.pur_base.specs.Plain.{Array}
@@ -24,6 +24,7 @@ pub record IsFoundOn (shelf : Shelved) (x : Loaded) (missing : Conditions) (arra
   pub named : (i : ℕ) → IsMember x.drives i → names x.record (drive i) ≡ true
   pub bodies : (i : ℕ) → IsMember x.drives i → body_in (slot_in x.slot) (shelf.disk (drive i)).bytes ≡ spelling x.record
   pub unflushed : x.record.patches ≡ []
+  pub room : x.record.generation < 2 ^ 48 - 16
   pub stands : StandsNow shelf missing arrays
   pub left_out : (start : Stop) → MayStop shelf start → (d : Device) → missing d ≡ LeftOut → IsNamedByNone (geometry_of shelf) start.image missing d
 

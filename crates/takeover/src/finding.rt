@@ -1,5 +1,5 @@
 // The boot record is found and settled.
-ghost use Rattle.std.specs.Prelude.{◌≡◌, ◌⊎◌, ◌<◌, ℕ, List, [], length, OnOk};
+ghost use Rattle.std.specs.Prelude.{◌≡◌, ◌⊎◌, ◌<◌, ◌≤◌, ℕ, List};
 ghost use Rattle.pur_base.specs.Devices.{Conditions, IsBearable, drive};
 ghost use Rattle.pur_base.specs.Plain.{Array};
 ghost use Rattle.boot_codec.specs.Record.{set_count};
@@ -49,6 +49,7 @@ fn settle_loaded<S: Shelf>(shelf: &mut S, loaded: &mut Loaded)
     ensures settled { (S.shelf shelf.old).honest → (missing : Conditions) (arrays : List Array)
         → IsLoaded (S.shelf shelf.old) loaded.old.drives missing (slot_in loaded.old.slot) loaded.old.record arrays
         → IsFound (S.shelf shelf.old) loaded.old.drives missing (slot_in loaded.old.slot) loaded.old.record
+        → ((i : ℕ) → IsMember loaded.new.drives i → i < (S.shelf shelf.old).drives)
         → (later : Conditions) → TellsFailed (S.shelf shelf.old) loaded.old.drives missing (λ d. ((S.shelf shelf.new).disk d).faults) later
         → IsInForceOn (S.shelf shelf.new) loaded.new.drives later (other_slot (slot_in loaded.new.slot)) loaded.new.record }
 {
