@@ -71,7 +71,7 @@ pub fn find_record<S: Shelf>(alloc: Global, shelf: &mut S) -> Result<Loaded, Ope
         → IsFoundBy (S.shelf shelf.new) (failed_since (S.shelf shelf.old) (S.shelf shelf.new) missing) arrays result }
 {
     let mut loaded = load(alloc, shelf)?;
-    if !loaded.record.patches.as_slice().is_empty() {
+    if loaded.record.patches.len() != 0 {
         return Err(OpenFault::HasPatches);
     }
     settle_loaded(shelf, &mut loaded);

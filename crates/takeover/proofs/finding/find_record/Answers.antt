@@ -1,4 +1,4 @@
-use Rattle.std.proofs.Common.{rules, ◌≡◌, ◌<◌, ◌≤◌, ◌+◌, ℕ, List, [], arith, sym, subst, ◌∙◌, Result, Ok, Err}
+use Rattle.std.proofs.Common.{rules, ◌≡◌, ◌<◌, ◌≤◌, ◌+◌, ℕ, List, [], ◌∷◌, length, refl, arith, sym, subst, ◌∙◌, Result, Ok, Err}
 use Rattle.std.proofs.lemmas.Result.{err_from_is_err_and}
 use Rattle.pur_base.specs.Devices.{Conditions, IsBearable, drive}
 use Rattle.pur_base.specs.Plain.{Array}
@@ -13,11 +13,16 @@ use Rattle.boot_region.specs.Loading.{IsLoadBy, IsLoadOf, MayBeSettled}
 use Rattle.boot_region.specs.Members.{IsMember}
 use Rattle.boot_region.specs.Slots.{slot_in}
 use Rattle.boot_region.specs.Storing.{IsInForceOn, TellsFailed}
+use Rattle.takeover.specs.declared.faults.OpenFault.{OpenFault}
 use Rattle.takeover.specs.Entering.{Enters, StandsStill, failed_since}
 use Rattle.takeover.specs.Found.{IsFoundBy, IsFoundOn}
 use Rattle.takeover.proofs.FoundLemmas.{while_reading, through_moments, both, below_slots, found_on, lacking}
 use Rattle.takeover.proofs.Opened.{not_loaded}
 use Rattle.takeover.proofs.finding.find_record.Goals as goal
+
+none : {X : Type 0} (xs : List X) → length xs ≤ 0 → xs ≡ []
+none [] few = refl
+none (x ∷ xs) few = absurd (omega (arith, few))
 
 pub returns-in_err-loaded-clause-any_moment : goal.returns-in_err-loaded-clause-any_moment
 returns-in_err-loaded-clause-any_moment g c h missing arrays enters =
@@ -31,10 +36,11 @@ returns-in_err-loaded-clause-found g c h missing arrays enters bears =
     let e = c.in_err-loaded.field-0.0 in
     let by : IsLoadOf a b (Err e) = subst (λ r. IsLoadOf a b r) c.in_err-loaded.was (c.load.ensures.loads h) in
     let fault = not_loaded a b missing arrays (g.met.S.Shelf.is_shelf c.load.new.shelf) h enters c.load.ensures.continues (c.load.ensures.same h) bears e by in
-    subst (λ r. IsFoundBy b (failed_since a b missing) arrays r) (sym p.1 ∙ ?) fault
+    let named : IsFoundBy b (failed_since a b missing) arrays (Err p.0) = subst (λ (f : OpenFault). IsFoundBy b (failed_since a b missing) arrays (Err f)) (sym p.2) fault in
+    subst (λ r. IsFoundBy b (failed_since a b missing) arrays r) (sym p.1) named
 
-pub returns-then-not-is_empty-clause-any_moment : goal.returns-then-not-is_empty-clause-any_moment
-returns-then-not-is_empty-clause-any_moment g c h missing arrays enters =
+pub returns-then-len-ne0-clause-any_moment : goal.returns-then-len-ne0-clause-any_moment
+returns-then-len-ne0-clause-any_moment g c h missing arrays enters =
     while_reading (g.S.Shelf.shelf c.args.shelf.now) missing arrays enters (g.S.Shelf.shelf c.load.new.shelf) (c.load.ensures.writes h)
 
 pub returns-then-count_set-drives-clause-continues : goal.returns-then-count_set-drives-clause-continues
@@ -60,7 +66,7 @@ returns-then-count_set-drives-clause-found g c h missing arrays enters bears =
     let may : MayBeSettled b x = subst (λ (r : Result Loaded LoadFault). IfOk r (λ y. MayBeSettled b y)) c.in_ok-loaded.was (c.load.ensures.found h) in
     let y : Loaded = record { «record» = c.settle_loaded.new.loaded.record; slot = c.settle_loaded.new.loaded.slot; drives = c.settle_loaded.new.loaded.drives } in
     let fewer : (i : ℕ) → IsMember y.drives i → IsMember x.drives i = c.settle_loaded.ensures.fewer in
-    let unflushed : x.record.patches ≡ [] = ? in
+    let unflushed : x.record.patches ≡ [] = none x.record.patches (omega (arith, c.len.ensures, c.if-len-ne0.false)) in
     let settled : (later : Conditions) → IsBearable (geometry_of a) (failed_since a b missing) → TellsFailed b x.drives (failed_since a b missing) (λ d. (n.disk d).faults) later → IsInForceOn n y.drives later (other_slot (slot_in y.slot)) y.record =
     λ later bears_mid tells.
         let two = both a b missing arrays x enters c.load.ensures.continues (g.met.S.Shelf.is_shelf c.args.shelf.now) (g.met.S.Shelf.is_shelf c.load.new.shelf) h (c.load.ensures.same h) by may bears_mid in
@@ -96,7 +102,7 @@ returns-clause-found g c h missing arrays enters bears =
     let may : MayBeSettled b x = subst (λ (r : Result Loaded LoadFault). IfOk r (λ y. MayBeSettled b y)) c.in_ok-loaded.was (c.load.ensures.found h) in
     let y : Loaded = record { «record» = c.settle_loaded.new.loaded.record; slot = c.settle_loaded.new.loaded.slot; drives = c.settle_loaded.new.loaded.drives } in
     let fewer : (i : ℕ) → IsMember y.drives i → IsMember x.drives i = c.settle_loaded.ensures.fewer in
-    let unflushed : x.record.patches ≡ [] = ? in
+    let unflushed : x.record.patches ≡ [] = none x.record.patches (omega (arith, c.len.ensures, c.if-len-ne0.false)) in
     let settled : (later : Conditions) → IsBearable (geometry_of a) (failed_since a b missing) → TellsFailed b x.drives (failed_since a b missing) (λ d. (n.disk d).faults) later → IsInForceOn n y.drives later (other_slot (slot_in y.slot)) y.record =
     λ later bears_mid tells.
         let two = both a b missing arrays x enters c.load.ensures.continues (g.met.S.Shelf.is_shelf c.args.shelf.now) (g.met.S.Shelf.is_shelf c.load.new.shelf) h (c.load.ensures.same h) by may bears_mid in
