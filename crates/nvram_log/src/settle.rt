@@ -1,7 +1,7 @@
 // The log is settled on the devices.
 ghost use Rattle.std.specs.Prelude.{◌≡◌, ℕ, ◌+◌, ◌*◌, ◌<◌, ◌≤◌, List, [], length, take, true, false, not, OnOk, OnErr};
 ghost use Rattle.pur_base.specs.Commands.{Command};
-ghost use Rattle.pur_base.specs.Devices.{nvram};
+ghost use Rattle.pur_base.specs.Devices.{drive, nvram};
 ghost use Rattle.pur_base.specs.declared.limits.TheConstants.{NVRAM_DEVICES};
 ghost use Rattle.log_codec.specs.declared.limits.TheConstants.{LOG_SLOTS, SLOT_BYTES};
 ghost use Rattle.world.specs.Shelf.{Continues, LeavesOnly, MayLeave, OthersStay, WriteCounts};
@@ -76,6 +76,7 @@ fn settle_each<S: Shelf>(
     ensures continues { Continues (S.shelf shelf.old) (S.shelf shelf.new) }
     ensures writes { (S.shelf shelf.old).honest → WritesOnly (OnMembers members.old) (S.shelf shelf.old) (S.shelf shelf.new) }
     ensures rest { S.shelf_rest shelf.old shelf.new }
+    ensures drives { (i : ℕ) → (S.shelf shelf.new).disk (drive i) ≡ (S.shelf shelf.old).disk (drive i) }
     ensures fewer { IsFewer members.old members.new }
     ensures dropped { DroppedFailed (S.shelf shelf.old) (S.shelf shelf.new) members.old members.new }
     ensures holds { (S.shelf shelf.old).honest → (flushed : ℕ) (commands : List Command) → length commands ≡ count
@@ -102,6 +103,7 @@ impl NvLog {
         ensures continues { Continues (S.shelf shelf.old) (S.shelf shelf.new) }
         ensures writes { (S.shelf shelf.old).honest → WritesOnly (OnMembers self.old.members) (S.shelf shelf.old) (S.shelf shelf.new) }
         ensures rest { S.shelf_rest shelf.old shelf.new }
+        ensures drives { (i : ℕ) → (S.shelf shelf.new).disk (drive i) ≡ (S.shelf shelf.old).disk (drive i) }
         ensures fewer { IsFewer self.old.members self.new.members }
         ensures dropped { DroppedFailed (S.shelf shelf.old) (S.shelf shelf.new) self.old.members self.new.members }
         ensures flushed { self.new.flushed ≡ self.old.flushed }
