@@ -8,6 +8,7 @@ ghost use Rattle.world.specs.Shelf.{Continues, LeavesOnly};
 ghost use Rattle.world.specs.Writes.{WritesOnly};
 ghost use Rattle.nvram_log.specs.Members.{IsSome, IsFewer, DroppedFailed, OnMembers};
 ghost use Rattle.nvram_log.specs.Records.{AreRecords, SpellFrom, commands_of};
+ghost use Rattle.nvram_log.specs.Read.{DroppedCounted};
 ghost use Rattle.nvram_log.specs.Held.{HoldsOn, LeavesBetween};
 
 use crate::bodies::write_bodies;
@@ -35,6 +36,7 @@ fn store<S: Shelf>(
     ensures drives { (i : ℕ) → (S.shelf shelf.new).disk (drive i) ≡ (S.shelf shelf.old).disk (drive i) }
     ensures fewer { IsFewer members.old members.new }
     ensures dropped { DroppedFailed (S.shelf shelf.old) (S.shelf shelf.new) members.old members.new }
+    ensures counted { DroppedCounted (S.shelf shelf.old) (S.shelf shelf.new) members.old members.new }
     ensures holds { (S.shelf shelf.old).honest → (flushed : ℕ) (commands : List Command) → length commands ≡ first → SpellFrom slots.now flushed first records.now
         → HoldsOn (S.shelf shelf.old) members.old flushed commands → HoldsOn (S.shelf shelf.new) members.new flushed (commands ++ commands_of records.now) }
     ensures any_moment { (S.shelf shelf.old).honest → (flushed : ℕ) (commands : List Command) → length commands ≡ first → SpellFrom slots.now flushed first records.now
@@ -59,6 +61,7 @@ impl NvLog {
         ensures drives { (i : ℕ) → (S.shelf shelf.new).disk (drive i) ≡ (S.shelf shelf.old).disk (drive i) }
         ensures fewer { IsFewer self.old.members self.new.members }
         ensures dropped { DroppedFailed (S.shelf shelf.old) (S.shelf shelf.new) self.old.members self.new.members }
+        ensures counted { DroppedCounted (S.shelf shelf.old) (S.shelf shelf.new) self.old.members self.new.members }
         ensures flushed { self.new.flushed ≡ self.old.flushed }
         ensures ok { OnOk result ((self.new.count ≡ self.old.count + length records.now) × IsSome self.new.members) }
         ensures err { OnErr result ((self.new.count ≡ self.old.count) × (IsSome self.new.members → ⊥)) }

@@ -8,6 +8,7 @@ ghost use Rattle.world.specs.Shelf.{Continues, LeavesOnly, MayLeave, OthersStay,
 ghost use Rattle.world.specs.Writes.{WritesOnly};
 ghost use Rattle.nvram_log.specs.Slots.{IsLog};
 ghost use Rattle.nvram_log.specs.Members.{IsFlagged, IsSome, IsFewer, DroppedFailed, OnMembers};
+ghost use Rattle.nvram_log.specs.Read.{DroppedCounted};
 ghost use Rattle.nvram_log.specs.Held.{HoldsOn};
 ghost use Rattle.nvram_log.specs.Settling.{OnDevice, IsToSettle, SettlesBy, AreToSettle, SettleBy};
 
@@ -79,6 +80,7 @@ fn settle_each<S: Shelf>(
     ensures drives { (i : ℕ) → (S.shelf shelf.new).disk (drive i) ≡ (S.shelf shelf.old).disk (drive i) }
     ensures fewer { IsFewer members.old members.new }
     ensures dropped { DroppedFailed (S.shelf shelf.old) (S.shelf shelf.new) members.old members.new }
+    ensures counted { DroppedCounted (S.shelf shelf.old) (S.shelf shelf.new) members.old members.new }
     ensures holds { (S.shelf shelf.old).honest → (flushed : ℕ) (commands : List Command) → length commands ≡ count
         → AreToSettle (S.shelf shelf.old) members.old flushed seen.now slots.now commands → HoldsOn (S.shelf shelf.new) members.new flushed commands }
     ensures any_moment { (S.shelf shelf.old).honest → (flushed : ℕ) (commands : List Command) → length commands ≡ count
@@ -106,6 +108,7 @@ impl NvLog {
         ensures drives { (i : ℕ) → (S.shelf shelf.new).disk (drive i) ≡ (S.shelf shelf.old).disk (drive i) }
         ensures fewer { IsFewer self.old.members self.new.members }
         ensures dropped { DroppedFailed (S.shelf shelf.old) (S.shelf shelf.new) self.old.members self.new.members }
+        ensures counted { DroppedCounted (S.shelf shelf.old) (S.shelf shelf.new) self.old.members self.new.members }
         ensures flushed { self.new.flushed ≡ self.old.flushed }
         ensures ok { OnOk result ((self.new.count ≡ count) × IsSome self.new.members) }
         ensures err { OnErr result ((self.new.count ≡ self.old.count) × (IsSome self.new.members → ⊥)) }

@@ -96,6 +96,7 @@ loop-device-preserved g c =
               written = λ h is. absurd (cc (is, w.if-members-device.false));
               clean = λ h is. absurd (cc (is, w.if-members-device.false));
               dropped = λ was. absurd (shut was);
+              counted = λ was. absurd (shut was);
               others = λ none. inv.disk_ahead slot (omega arith);
             });
             later = below_more _ _ inv.later (record { later = λ h was. absurd (shut was) });
