@@ -26,6 +26,7 @@ outcome_of (Ok x) honest was holds old new member written clean counts = record 
   written = λ h is. written h;
   clean = λ h is. clean h;
   dropped = λ w. inl refl;
+  counted = λ w. inl refl;
   others = λ none. absurd (none member);
 }
 outcome_of (Err x) honest was holds old new member written clean counts = record {
@@ -33,6 +34,7 @@ outcome_of (Err x) honest was holds old new member written clean counts = record
   written = λ h is. absurd (cc is);
   clean = λ h is. absurd (cc is);
   dropped = λ w. inr counts.write_faults;
+  counted = λ w. inr counts.faults;
   others = λ none. absurd (none member);
 }
 

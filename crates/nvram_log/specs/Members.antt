@@ -42,4 +42,5 @@ pub record Outcome (honest was is holds : Type 0) (old new : Disk) : Type 0 wher
   pub written : honest → is → holds
   pub clean : honest → is → new.dirty ≡ []
   pub dropped : was → is ⊎ Rises old.write_faults new.write_faults
+  pub counted : was → is ⊎ Rises old.faults new.faults
   pub others : (was → ⊥) → new ≡ old

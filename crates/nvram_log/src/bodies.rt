@@ -1,7 +1,7 @@
 // The slots of new records, on each member.
 ghost use Rattle.std.specs.Prelude.{◌≡◌, ℕ, ◌+◌, ◌*◌, ◌<◌, ◌≤◌, [], length, OnOk, slice_index};
 ghost use Rattle.pur_base.specs.declared.limits.TheConstants.{SECTOR_BYTES, REQUEST_SECTORS, NVRAM_DEVICES};
-ghost use Rattle.pur_base.specs.Devices.{nvram};
+ghost use Rattle.pur_base.specs.Devices.{drive, nvram};
 ghost use Rattle.log_codec.specs.declared.limits.TheConstants.{LOG_SLOTS, SLOT_BYTES};
 ghost use Rattle.world.specs.Shelf.{Continues, OthersStay, WriteCounts};
 ghost use Rattle.world.specs.Writes.{OneRange, WritesOnly};
@@ -85,6 +85,7 @@ pub fn write_bodies<S: Shelf>(
         ((S.shelf shelf.old).disk (nvram n)) ((S.shelf shelf.new).disk (nvram n)) }
     ensures writes { (S.shelf shelf.old).honest → WritesOnly (OnSlotsFrom members.old first) (S.shelf shelf.old) (S.shelf shelf.new) }
     ensures rest { S.shelf_rest shelf.old shelf.new }
+    ensures drives { (i : ℕ) → (S.shelf shelf.new).disk (drive i) ≡ (S.shelf shelf.old).disk (drive i) }
 {
     for device in 0..members.len() {
         if members[device] {

@@ -1,11 +1,13 @@
 // The log is cleared once what it holds is stored elsewhere.
 ghost use Rattle.std.specs.Prelude.{◌≡◌, ℕ, ◌+◌, ◌<◌, ◌≤◌, List, [], length, OnOk, OnErr};
 ghost use Rattle.pur_base.specs.Commands.{Command};
+ghost use Rattle.pur_base.specs.Devices.{drive};
 ghost use Rattle.pur_base.specs.declared.limits.TheConstants.{NVRAM_DEVICES};
 ghost use Rattle.log_codec.specs.declared.limits.TheConstants.{LOG_SLOTS};
 ghost use Rattle.world.specs.Shelf.{Continues, LeavesOnly};
 ghost use Rattle.world.specs.Writes.{WritesOnly};
 ghost use Rattle.nvram_log.specs.Members.{IsSome, IsFewer, DroppedFailed, OnMembers, OnRange};
+ghost use Rattle.nvram_log.specs.Read.{DroppedCounted};
 ghost use Rattle.nvram_log.specs.Held.{HoldsOn, LeavesBetween};
 
 use crate::gates::{CLOSED, write_gates};
@@ -20,8 +22,10 @@ fn close<S: Shelf>(shelf: &mut S, members: &mut [bool], count: usize)
     ensures continues { Continues (S.shelf shelf.old) (S.shelf shelf.new) }
     ensures writes { (S.shelf shelf.old).honest → WritesOnly (OnRange members.old 0 count) (S.shelf shelf.old) (S.shelf shelf.new) }
     ensures rest { S.shelf_rest shelf.old shelf.new }
+    ensures drives { (i : ℕ) → (S.shelf shelf.new).disk (drive i) ≡ (S.shelf shelf.old).disk (drive i) }
     ensures fewer { IsFewer members.old members.new }
     ensures dropped { DroppedFailed (S.shelf shelf.old) (S.shelf shelf.new) members.old members.new }
+    ensures counted { DroppedCounted (S.shelf shelf.old) (S.shelf shelf.new) members.old members.new }
     ensures holds { (S.shelf shelf.old).honest → (flushed : ℕ) (commands : List Command) → length commands ≡ count
         → HoldsOn (S.shelf shelf.old) members.old flushed commands → HoldsOn (S.shelf shelf.new) members.new (flushed + count) [] }
 {
@@ -39,8 +43,10 @@ impl NvLog {
         ensures continues { Continues (S.shelf shelf.old) (S.shelf shelf.new) }
         ensures writes { (S.shelf shelf.old).honest → WritesOnly (OnMembers self.old.members) (S.shelf shelf.old) (S.shelf shelf.new) }
         ensures rest { S.shelf_rest shelf.old shelf.new }
+        ensures drives { (i : ℕ) → (S.shelf shelf.new).disk (drive i) ≡ (S.shelf shelf.old).disk (drive i) }
         ensures fewer { IsFewer self.old.members self.new.members }
         ensures dropped { DroppedFailed (S.shelf shelf.old) (S.shelf shelf.new) self.old.members self.new.members }
+        ensures counted { DroppedCounted (S.shelf shelf.old) (S.shelf shelf.new) self.old.members self.new.members }
         ensures ok { OnOk result ((self.new.flushed ≡ self.old.flushed + self.old.count) × (self.new.count ≡ 0) × IsSome self.new.members) }
         ensures err { OnErr result ((self.new.flushed ≡ self.old.flushed) × (self.new.count ≡ self.old.count) × (IsSome self.new.members → ⊥)) }
         ensures keeps { OnOk result (Keeps self.new []) }

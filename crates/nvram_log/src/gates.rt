@@ -1,7 +1,7 @@
 // The gates of slots, on each member.
 ghost use Rattle.std.specs.Prelude.{◌≡◌, ℕ, ◌+◌, ◌<◌, ◌≤◌, length, replicate};
 ghost use Rattle.pur_base.specs.declared.limits.TheConstants.{NVRAM_DEVICES};
-ghost use Rattle.pur_base.specs.Devices.{nvram};
+ghost use Rattle.pur_base.specs.Devices.{drive, nvram};
 ghost use Rattle.log_codec.specs.declared.limits.TheConstants.{LOG_SLOTS};
 ghost use Rattle.world.specs.Shelf.{Continues, Written};
 ghost use Rattle.world.specs.Writes.{WritesOnly};
@@ -34,6 +34,7 @@ pub fn write_gates<S: Shelf>(
         ((S.shelf shelf.old).disk (nvram n)) ((S.shelf shelf.new).disk (nvram n)) }
     ensures writes { (S.shelf shelf.old).honest → WritesOnly (OnRange members.old first count) (S.shelf shelf.old) (S.shelf shelf.new) }
     ensures rest { S.shelf_rest shelf.old shelf.new }
+    ensures drives { (i : ℕ) → (S.shelf shelf.new).disk (drive i) ≡ (S.shelf shelf.old).disk (drive i) }
 {
     let gates = [gate; LOG_SLOTS];
     write_members(shelf, members, first as u64, &gates[..count]);

@@ -1,7 +1,7 @@
 // A write on each member.
 ghost use Rattle.std.specs.Prelude.{◌≡◌, ◌↔◌, ℕ, ◌+◌, ◌<◌, ◌≤◌, length, IsTrue};
 ghost use Rattle.pur_base.specs.declared.limits.TheConstants.{NVRAM_BYTES, NVRAM_DEVICES};
-ghost use Rattle.pur_base.specs.Devices.{nvram};
+ghost use Rattle.pur_base.specs.Devices.{drive, nvram};
 ghost use Rattle.world.specs.Shelf.{Continues, Written};
 ghost use Rattle.world.specs.Writes.{WritesOnly};
 ghost use Rattle.nvram_log.specs.Members.{IsMember, IsSome, OnRange, Outcome};
@@ -27,6 +27,7 @@ pub fn write_members<S: Shelf>(shelf: &mut S, members: &mut [bool], at: u64, fro
         ((S.shelf shelf.old).disk (nvram n)) ((S.shelf shelf.new).disk (nvram n)) }
     ensures writes { (S.shelf shelf.old).honest → WritesOnly (OnRange members.old at (length from.now)) (S.shelf shelf.old) (S.shelf shelf.new) }
     ensures rest { S.shelf_rest shelf.old shelf.new }
+    ensures drives { (i : ℕ) → (S.shelf shelf.new).disk (drive i) ≡ (S.shelf shelf.old).disk (drive i) }
 {
     for device in 0..members.len() {
         if members[device] {

@@ -1,6 +1,6 @@
 // The log is read from the devices.
-ghost use Rattle.std.specs.Prelude.{◌≡◌, ◌⊎◌, ◌*◌, ◌<◌, length, true, IfOk, IfErr, OnErr};
-ghost use Rattle.pur_base.specs.Devices.{nvram};
+ghost use Rattle.std.specs.Prelude.{◌≡◌, ◌⊎◌, ℕ, ◌*◌, ◌<◌, length, true, IfOk, IfErr, OnErr};
+ghost use Rattle.pur_base.specs.Devices.{drive, nvram};
 ghost use Rattle.pur_base.specs.declared.device.Device.{Device};
 ghost use Rattle.pur_base.specs.declared.limits.TheConstants.{NVRAM_BYTES, NVRAM_DEVICES};
 ghost use Rattle.world.specs.Counts.{Rises};
@@ -37,6 +37,7 @@ fn read_member<S: Shelf>(shelf: &mut S, device: NvId, is_member: bool, into: &mu
     ensures same { (S.shelf shelf.old).honest → (d : Device) → IsSame ((S.shelf shelf.old).disk d) ((S.shelf shelf.new).disk d) }
     ensures writes { (S.shelf shelf.old).honest → WritesOnly OnNothing (S.shelf shelf.old) (S.shelf shelf.new) }
     ensures rest { S.shelf_rest shelf.old shelf.new }
+    ensures drives { (i : ℕ) → (S.shelf shelf.new).disk (drive i) ≡ (S.shelf shelf.old).disk (drive i) }
     ensures before { result ≡ true → is_member ≡ true }
     ensures dropped { is_member ≡ true → (result ≡ true) ⊎ Rises ((S.shelf shelf.old).disk (nvram device.0)).faults ((S.shelf shelf.new).disk (nvram device.0)).faults }
     ensures bytes { (S.shelf shelf.old).honest → result ≡ true → into.new ≡ ((S.shelf shelf.new).disk (nvram device.0)).bytes }
@@ -57,6 +58,7 @@ fn read_both<S: Shelf>(
     ensures same { (S.shelf shelf.old).honest → (d : Device) → IsSame ((S.shelf shelf.old).disk d) ((S.shelf shelf.new).disk d) }
     ensures writes { (S.shelf shelf.old).honest → WritesOnly OnNothing (S.shelf shelf.old) (S.shelf shelf.new) }
     ensures rest { S.shelf_rest shelf.old shelf.new }
+    ensures drives { (i : ℕ) → (S.shelf shelf.new).disk (drive i) ≡ (S.shelf shelf.old).disk (drive i) }
     ensures fewer { IsFewer members result }
     ensures dropped { DroppedCounted (S.shelf shelf.old) (S.shelf shelf.new) members result }
     ensures first_read { (S.shelf shelf.old).honest → IsMember result 0 → first.new ≡ ((S.shelf shelf.new).disk (nvram 0)).bytes }
@@ -115,6 +117,7 @@ impl NvLog {
         ensures same { (S.shelf shelf.old).honest → (d : Device) → IsSame ((S.shelf shelf.old).disk d) ((S.shelf shelf.new).disk d) }
         ensures writes { (S.shelf shelf.old).honest → WritesOnly OnNothing (S.shelf shelf.old) (S.shelf shelf.new) }
         ensures rest { S.shelf_rest shelf.old shelf.new }
+        ensures drives { (i : ℕ) → (S.shelf shelf.new).disk (drive i) ≡ (S.shelf shelf.old).disk (drive i) }
         ensures flushed { IfOk result (λ log. log.flushed ≡ flushed) }
         ensures members { IfOk result (λ log. IsFewer members log.members × IsSome log.members) }
         ensures dropped { IfOk result (λ log. DroppedCounted (S.shelf shelf.old) (S.shelf shelf.new) members log.members) }

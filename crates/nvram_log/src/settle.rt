@@ -1,13 +1,14 @@
 // The log is settled on the devices.
 ghost use Rattle.std.specs.Prelude.{◌≡◌, ℕ, ◌+◌, ◌*◌, ◌<◌, ◌≤◌, List, [], length, take, true, false, not, OnOk, OnErr};
 ghost use Rattle.pur_base.specs.Commands.{Command};
-ghost use Rattle.pur_base.specs.Devices.{nvram};
+ghost use Rattle.pur_base.specs.Devices.{drive, nvram};
 ghost use Rattle.pur_base.specs.declared.limits.TheConstants.{NVRAM_DEVICES};
 ghost use Rattle.log_codec.specs.declared.limits.TheConstants.{LOG_SLOTS, SLOT_BYTES};
 ghost use Rattle.world.specs.Shelf.{Continues, LeavesOnly, MayLeave, OthersStay, WriteCounts};
 ghost use Rattle.world.specs.Writes.{WritesOnly};
 ghost use Rattle.nvram_log.specs.Slots.{IsLog};
 ghost use Rattle.nvram_log.specs.Members.{IsFlagged, IsSome, IsFewer, DroppedFailed, OnMembers};
+ghost use Rattle.nvram_log.specs.Read.{DroppedCounted};
 ghost use Rattle.nvram_log.specs.Held.{HoldsOn};
 ghost use Rattle.nvram_log.specs.Settling.{OnDevice, IsToSettle, SettlesBy, AreToSettle, SettleBy};
 
@@ -76,8 +77,10 @@ fn settle_each<S: Shelf>(
     ensures continues { Continues (S.shelf shelf.old) (S.shelf shelf.new) }
     ensures writes { (S.shelf shelf.old).honest → WritesOnly (OnMembers members.old) (S.shelf shelf.old) (S.shelf shelf.new) }
     ensures rest { S.shelf_rest shelf.old shelf.new }
+    ensures drives { (i : ℕ) → (S.shelf shelf.new).disk (drive i) ≡ (S.shelf shelf.old).disk (drive i) }
     ensures fewer { IsFewer members.old members.new }
     ensures dropped { DroppedFailed (S.shelf shelf.old) (S.shelf shelf.new) members.old members.new }
+    ensures counted { DroppedCounted (S.shelf shelf.old) (S.shelf shelf.new) members.old members.new }
     ensures holds { (S.shelf shelf.old).honest → (flushed : ℕ) (commands : List Command) → length commands ≡ count
         → AreToSettle (S.shelf shelf.old) members.old flushed seen.now slots.now commands → HoldsOn (S.shelf shelf.new) members.new flushed commands }
     ensures any_moment { (S.shelf shelf.old).honest → (flushed : ℕ) (commands : List Command) → length commands ≡ count
@@ -102,8 +105,10 @@ impl NvLog {
         ensures continues { Continues (S.shelf shelf.old) (S.shelf shelf.new) }
         ensures writes { (S.shelf shelf.old).honest → WritesOnly (OnMembers self.old.members) (S.shelf shelf.old) (S.shelf shelf.new) }
         ensures rest { S.shelf_rest shelf.old shelf.new }
+        ensures drives { (i : ℕ) → (S.shelf shelf.new).disk (drive i) ≡ (S.shelf shelf.old).disk (drive i) }
         ensures fewer { IsFewer self.old.members self.new.members }
         ensures dropped { DroppedFailed (S.shelf shelf.old) (S.shelf shelf.new) self.old.members self.new.members }
+        ensures counted { DroppedCounted (S.shelf shelf.old) (S.shelf shelf.new) self.old.members self.new.members }
         ensures flushed { self.new.flushed ≡ self.old.flushed }
         ensures ok { OnOk result ((self.new.count ≡ count) × IsSome self.new.members) }
         ensures err { OnErr result ((self.new.count ≡ self.old.count) × (IsSome self.new.members → ⊥)) }

@@ -1,7 +1,8 @@
 // Slots are read.
-ghost use Rattle.std.specs.Prelude.{◌≡◌, ℕ, ◌+◌, ◌*◌, ◌<◌, ◌≤◌, length, take, true, false, Some, slice_get, List};
+ghost use Rattle.std.specs.Prelude.{◌≡◌, ℕ, ◌+◌, ◌*◌, ◌<◌, ◌≤◌, length, take, true, false, Some, slice_get, List, IfOk};
+ghost use Rattle.pur_base.specs.Grammar.{data_count};
 ghost use Rattle.pur_base.specs.Commands.{Command};
-ghost use Rattle.pur_base.specs.declared.limits.TheConstants.{SECTOR_BYTES, NVRAM_BYTES};
+ghost use Rattle.pur_base.specs.declared.limits.TheConstants.{SECTOR_BYTES, REQUEST_SECTORS, NVRAM_BYTES};
 ghost use Rattle.log_codec.specs.declared.limits.TheConstants.{LOG_SLOTS, SLOT_BYTES};
 ghost use Rattle.log_codec.specs.Log.{ShowsIn};
 
@@ -35,7 +36,8 @@ impl NvLog {
     /// The command of a slot of the log, from memory.
     pub fn record_at(&self, i: usize) -> Result<Logged<'_>, BadHead>
         requires { i < self.now.count }
-        ensures { (commands : List Command) (c : Command) → Keeps self.now commands → slice_get commands i ≡ Some c → IsReadAs result (self.now.flushed + 1 + i) c }
+        ensures command { (commands : List Command) (c : Command) → Keeps self.now commands → slice_get commands i ≡ Some c → IsReadAs result (self.now.flushed + 1 + i) c }
+        ensures sectors { IfOk result (λ l. (length l.sectors.now ≡ SECTOR_BYTES * data_count l.head.command) × (data_count l.head.command ≤ REQUEST_SECTORS)) }
     {
         let from = SLOT * i;
         let slot = &self.slots[from..from + SLOT];

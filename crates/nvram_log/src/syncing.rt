@@ -6,7 +6,7 @@ ghost use Rattle.pur_base.specs.declared.limits.TheConstants.{NVRAM_DEVICES};
 ghost use Rattle.world.specs.Shelf.{Continues};
 ghost use Rattle.world.specs.Writes.{WritesOnly};
 ghost use Rattle.nvram_log.specs.Members.{IsMember, IsFewer, DroppedFailed};
-ghost use Rattle.nvram_log.specs.Read.{OnNothing};
+ghost use Rattle.nvram_log.specs.Read.{OnNothing, DroppedCounted};
 
 use pur_base::{Device, NvId};
 use world::Shelf;
@@ -19,6 +19,7 @@ pub fn sync_members<S: Shelf>(shelf: &mut S, members: &mut [bool])
     ensures rest { S.shelf_rest shelf.old shelf.new }
     ensures fewer { IsFewer members.old members.new }
     ensures dropped { DroppedFailed (S.shelf shelf.old) (S.shelf shelf.new) members.old members.new }
+    ensures counted { DroppedCounted (S.shelf shelf.old) (S.shelf shelf.new) members.old members.new }
     ensures bytes { (S.shelf shelf.old).honest → (d : Device) → ((S.shelf shelf.new).disk d).bytes ≡ ((S.shelf shelf.old).disk d).bytes }
     ensures drives { (d : ℕ) → (S.shelf shelf.new).disk (drive d) ≡ (S.shelf shelf.old).disk (drive d) }
     ensures others { (n : ℕ) → ¬ (IsMember members.old n) → (S.shelf shelf.new).disk (nvram n) ≡ (S.shelf shelf.old).disk (nvram n) }

@@ -25,6 +25,14 @@ returns-clause-dropped g c n lt was =
     (λ rose. inr (rises_first _ _ _ rose (c.write_gates.ensures.continues.write_faults (nvram n)) ((g.met.S.Shelf.is_shelf c.write_gates.new.shelf).write_faults (nvram n))))
     ((c.write_bodies.ensures.outcome n lt).dropped was)
 
+pub returns-clause-counted : goal.returns-clause-counted
+returns-clause-counted g c n lt was =
+    let s = g.S.Shelf.shelf c.write_gates.new.shelf in
+    ⊎_elim
+    (λ still. ⊎_elim (λ is. inl is) (λ rose. inr (rises_then _ _ _ (c.write_bodies.ensures.continues.faults (nvram n)) rose)) ((c.write_gates.ensures.outcome n lt).counted still))
+    (λ rose. inr (rises_first _ _ _ rose (c.write_gates.ensures.continues.faults (nvram n)) ((g.met.S.Shelf.is_shelf c.write_gates.new.shelf).faults (nvram n))))
+    ((c.write_bodies.ensures.outcome n lt).counted was)
+
 pub returns-clause-holds : goal.returns-clause-holds
 returns-clause-holds g c h flushed commands count spelled holds =
     let a = g.S.Shelf.shelf c.args.shelf.now in

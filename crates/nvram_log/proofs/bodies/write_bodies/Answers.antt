@@ -3,6 +3,7 @@ use Rattle.world.proofs.Moments.{continues_trans}
 use Rattle.world.proofs.Writes.{writes_then, writes_more}
 use Rattle.pur_base.specs.Devices.{nvram}
 use Rattle.nvram_log.specs.Members.{IsMember}
+use Rattle.nvram_log.proofs.Synced.{drive_apart}
 use Rattle.nvram_log.proofs.OnEach.{outcome_of, nvrams_apart}
 use Rattle.nvram_log.proofs.InSlots.{slots_on_members}
 use Rattle.nvram_log.proofs.bodies.write_bodies.Goals as goal
@@ -19,6 +20,7 @@ loop-device-preserved g c =
           rw (w.shelf-is, w.members-is) (record {
             continues = continues_trans inv.continues x.ensures.continues;
             rest = g.met.S.Shelf.shelf_rest_stays.transitive _ _ _ inv.rest x.ensures.rest;
+            drives = λ i. x.ensures.others _ (drive_apart i slot) ∙ inv.drives i;
             writes = λ h. writes_then inv.continues (inv.writes h) (writes_more (slots_on_members c.args.members.now slot c.args.first member) (x.ensures.writes (inv.continues.honest h)));
             passed = below_more _ _
                 (λ d lt. let ne : d ≢ slot = omega arith in rw (get_or-set_other, x.ensures.others (nvram d) (nvrams_apart d slot ne)) (inv.passed d lt))
@@ -33,12 +35,14 @@ loop-device-preserved g c =
           rw (w.shelf-is, w.members-is) (record {
             continues = inv.continues;
             rest = inv.rest;
+            drives = inv.drives;
             writes = inv.writes;
             passed = below_more _ _ inv.passed (record {
               before = λ is. absurd (cc (is, w.if-members-device.false));
               written = λ h is. absurd (cc (is, w.if-members-device.false));
               clean = λ h is. absurd (cc (is, w.if-members-device.false));
               dropped = λ was. absurd (shut was);
+              counted = λ was. absurd (shut was);
               others = λ none. inv.disk_ahead slot (omega arith);
             });
             same_ahead = λ d le. inv.same_ahead d (omega arith);

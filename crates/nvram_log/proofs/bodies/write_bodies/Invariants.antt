@@ -1,5 +1,5 @@
 use Rattle.std.proofs.Common.{◌≡◌, ℕ, ◌<◌, ◌≤◌, slice_index_or, false}
-use Rattle.pur_base.specs.Devices.{nvram}
+use Rattle.pur_base.specs.Devices.{drive, nvram}
 use Rattle.world.specs.Shelf.{Continues}
 use Rattle.world.specs.Writes.{WritesOnly}
 use Rattle.nvram_log.specs.Members.{IsMember, Outcome}
@@ -13,6 +13,7 @@ invariant-loop-device g l =
     record {
       continues : Continues a b;
       rest : g.S.Shelf.shelf_rest l.initial.shelf l.shelf;
+      drives : (i : ℕ) → b.disk (drive i) ≡ a.disk (drive i);
       writes : a.honest → WritesOnly (OnSlotsFrom l.initial.members l.first) a b;
       passed : (d : ℕ) → d < l.device → Outcome a.honest (IsMember l.initial.members d) (IsMember l.members d) (StandFrom (b.disk (nvram d)).bytes l.slots l.first l.records) (a.disk (nvram d)) (b.disk (nvram d));
       same_ahead : (d : ℕ) → l.device ≤ d → slice_index_or l.members d false ≡ slice_index_or l.initial.members d false;

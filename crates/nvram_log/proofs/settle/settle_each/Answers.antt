@@ -6,6 +6,7 @@ use Rattle.world.proofs.Writes.{writes_then, writes_more, nothing_written}
 use Rattle.nvram_log.specs.declared.seen.SeenSlots.{SeenSlots}
 use Rattle.nvram_log.specs.Members.{IsMember}
 use Rattle.nvram_log.specs.Settling.{IsToSettle, SettlesBy, SettleBy}
+use Rattle.nvram_log.proofs.Synced.{drive_apart}
 use Rattle.nvram_log.proofs.OnEach.{outcome_of, nvrams_apart}
 use Rattle.nvram_log.proofs.Settled.{where_ok}
 use Rattle.nvram_log.proofs.SettledEach.{both_leave, nothing_settled, but_elsewhere, on_members, each_settles, settles_with, seen_at}
@@ -19,6 +20,7 @@ loop-device-init g c =
     record {
       continues = continues_refl a;
       rest = g.met.S.Shelf.shelf_rest_stays.reflexive _;
+      drives = λ i. refl;
       writes = λ h. nothing_written a shelf;
       passed = λ d lt. absurd (omega (arith, lt));
       later = λ d lt. absurd (omega (arith, lt));
@@ -47,6 +49,7 @@ loop-device-preserved g c =
           rw (w.shelf-is, w.members-is) (record {
             continues = continues_trans inv.continues x.ensures.continues;
             rest = g.met.S.Shelf.shelf_rest_stays.transitive _ _ _ inv.rest x.ensures.rest;
+            drives = λ i. x.ensures.others _ (drive_apart i slot) ∙ inv.drives i;
             writes = λ h. writes_then inv.continues (inv.writes h) (writes_more (on_members c.args.members.now slot member) (x.ensures.writes (inv.continues.honest h)));
             passed = below_more _ _
                 (λ d lt. let ne : d ≢ slot = omega arith in rw (get_or-set_other, x.ensures.others (nvram d) (nvrams_apart d slot ne)) (inv.passed d lt))
@@ -86,12 +89,14 @@ loop-device-preserved g c =
           rw (w.shelf-is, w.members-is) (record {
             continues = inv.continues;
             rest = inv.rest;
+            drives = inv.drives;
             writes = inv.writes;
             passed = below_more _ _ inv.passed (record {
               before = λ is. absurd (cc (is, w.if-members-device.false));
               written = λ h is. absurd (cc (is, w.if-members-device.false));
               clean = λ h is. absurd (cc (is, w.if-members-device.false));
               dropped = λ was. absurd (shut was);
+              counted = λ was. absurd (shut was);
               others = λ none. inv.disk_ahead slot (omega arith);
             });
             later = below_more _ _ inv.later (record { later = λ h was. absurd (shut was) });

@@ -1,6 +1,6 @@
 use Rattle.std.proofs.Common.{◌≡◌, ℕ, ◌<◌, ◌≤◌, List, length, Some, slice_get, slice_index_or, false}
 use Rattle.pur_base.specs.Commands.{Command}
-use Rattle.pur_base.specs.Devices.{nvram}
+use Rattle.pur_base.specs.Devices.{drive, nvram}
 use Rattle.world.specs.Shelf.{Continues, LeavesOnly}
 use Rattle.world.specs.Writes.{WritesOnly}
 use Rattle.nvram_log.specs.declared.seen.SeenSlots.{SeenSlots}
@@ -17,6 +17,7 @@ invariant-loop-device g l =
     record {
       continues : Continues a b;
       rest : g.S.Shelf.shelf_rest l.initial.shelf l.shelf;
+      drives : (i : ℕ) → b.disk (drive i) ≡ a.disk (drive i);
       writes : a.honest → WritesOnly (OnMembers l.initial.members) a b;
       passed : (d : ℕ) → d < l.device → Outcome a.honest (IsMember l.initial.members d) (IsMember l.members d)
           ((flushed : ℕ) (commands : List Command) (s : SeenSlots) → length commands ≡ l.count → slice_get l.seen d ≡ Some s → IsToSettle (a.disk (nvram d)).bytes flushed s l.slots commands → IsLog (b.disk (nvram d)).bytes flushed commands)

@@ -52,6 +52,7 @@ loop-device-preserved g c =
               written = λ h is. absurd (cc (is, w.if-members-device.false));
               clean = λ h is. absurd (cc (is, w.if-members-device.false));
               dropped = λ was. absurd (shut was);
+              counted = λ was. absurd (shut was);
               others = λ none. inv.disk_ahead slot (omega arith);
             });
             same_ahead = λ d le. inv.same_ahead d (omega arith);

@@ -8,8 +8,8 @@ use Rattle.nvram_log.proofs.Staged.{at_range}
 use Rattle.nvram_log.proofs.Decoded.{decoded, sectors_behind, head_of}
 use Rattle.nvram_log.proofs.log.NvLog.record_at.Goals as goal
 
-pub returns-in_err-head : goal.returns-in_err-head
-returns-in_err-head c commands d keeps is =
+pub returns-in_err-head-clause-command : goal.returns-in_err-head-clause-command
+returns-in_err-head-clause-command c commands d keeps is =
     let start = 33280 * c.args.i in
     let n = c.args.self.now.flushed + 1 + c.args.i in
     let part : List ℕ = slice_range c.deref.result.now start (start + 33280) in
@@ -18,8 +18,8 @@ returns-in_err-head c commands d keeps is =
     let decodes : Decodes c.first_sector.result (head_of n d) = subst (λ (l : List ℕ). Decodes l (head_of n d)) (sym c.first_sector.ensures) (decoded part n d spells) in
     absurd (cc (c.read_head.ensures.complete _ decodes, c.in_err-head.was))
 
-pub returns : goal.returns
-returns c commands d keeps is =
+pub returns-clause-command : goal.returns-clause-command
+returns-clause-command c commands d keeps is =
     let start = 33280 * c.args.i in
     let n = c.args.self.now.flushed + 1 + c.args.i in
     let part : List ℕ = slice_range c.deref.result.now start (start + 33280) in
