@@ -1,15 +1,16 @@
 use Rattle.std.proofs.Common.{rules, ◌≡◌, ◌<◌, ◌≤◌, ◌+◌, ℕ, List, [], ◌∷◌, length, refl, arith, sym, subst, ◌∙◌, Result, Ok, Err}
 use Rattle.std.proofs.lemmas.Result.{err_from_is_err_and}
-use Rattle.pur_base.specs.Devices.{Conditions, IsBearable, drive}
+use Rattle.pur_base.specs.Devices.{Geometry, Conditions, IsBearable, drive}
 use Rattle.pur_base.specs.Plain.{Array}
-use Rattle.boot_codec.specs.Region.{gate_place, other_slot}
+use Rattle.boot_codec.specs.declared.record.BootRecord.{BootRecord}
+use Rattle.boot_codec.specs.Region.{IsRecordOf, gate_place, other_slot}
 use Rattle.world.specs.Losing.{geometry_of}
 use Rattle.world.specs.Shelf.{Shelved, Continues, LeavesOnly}
 use Rattle.world.proofs.Moments.{continues_trans, then_run, weaker}
 use Rattle.std.specs.Prelude.{IfOk}
 use Rattle.boot_region.specs.declared.loading.Loaded.{Loaded}
 use Rattle.boot_region.specs.declared.loading.LoadFault.{LoadFault}
-use Rattle.boot_region.specs.Loading.{IsLoadBy, IsLoadOf, MayBeSettled}
+use Rattle.boot_region.specs.Loading.{IsLoadBy, IsLoadOf, IsLawfulLoad, MayBeSettled}
 use Rattle.boot_region.specs.Members.{IsMember}
 use Rattle.boot_region.specs.Slots.{slot_in}
 use Rattle.boot_region.specs.Storing.{IsInForceOn, TellsFailed}
@@ -17,6 +18,7 @@ use Rattle.takeover.specs.declared.faults.OpenFault.{OpenFault}
 use Rattle.takeover.specs.Entering.{Enters, StandsStill, failed_since}
 use Rattle.takeover.specs.Found.{IsFoundBy, IsFoundOn}
 use Rattle.takeover.proofs.FoundLemmas.{while_reading, through_moments, both, below_slots, found_on, lacking}
+use Rattle.takeover.proofs.Loading.{same_geometry}
 use Rattle.takeover.proofs.Opened.{not_loaded}
 use Rattle.takeover.proofs.finding.find_record.Goals as goal
 
@@ -113,3 +115,12 @@ returns-clause-found g c h missing arrays enters bears =
     n y c.settle_loaded.ensures.continues (g.met.S.Shelf.is_shelf c.settle_loaded.new.shelf) c.settle_loaded.ensures.record.0 c.settle_loaded.ensures.record.1 fewer
     (c.settle_loaded.ensures.writes (c.load.ensures.continues.honest h)) settled unflushed bears in
     is
+
+pub returns-clause-lawful : goal.returns-clause-lawful
+returns-clause-lawful g c =
+    let is : IsLawfulLoad (geometry_of (g.S.Shelf.shelf c.load.new.shelf)) c.in_ok-loaded.loaded = subst (λ (r : Result Loaded LoadFault). IfOk r (IsLawfulLoad (geometry_of (g.S.Shelf.shelf c.load.new.shelf)))) c.in_ok-loaded.was c.load.ensures.lawful in
+    record {
+      lawful = subst (λ (b : BootRecord). IsRecordOf (geometry_of (g.S.Shelf.shelf c.settle_loaded.new.shelf)) b) (sym c.settle_loaded.ensures.record.0)
+          (subst (λ (s : Geometry). IsRecordOf s c.in_ok-loaded.loaded.record) (same_geometry c.settle_loaded.ensures.continues) is.lawful);
+      named = λ i m. subst (λ (b : BootRecord). IsMember b.members.drives i) (sym c.settle_loaded.ensures.record.0) (is.named i (c.settle_loaded.ensures.fewer i m));
+    }
