@@ -16,4 +16,5 @@ pub mod OneSector
 pub mod Targets
 pub mod Pieces
 pub mod Tries
+pub mod Flat
 pub mod Sectors

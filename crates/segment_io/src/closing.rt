@@ -15,7 +15,7 @@ ghost use Rattle.segment_io.specs.Headers.{MayBeWritten, header_unit, AreDrivesO
 ghost use Rattle.segment_io.specs.Views.{ShowsMost};
 
 use crate::open::{Open, SLOTS};
-use crate::units::{sync_drive, write_unit};
+use crate::units::{sync_drive, write_units};
 use byte_fields::Front;
 use parity72::SHARDS;
 use pur_base::{Lost, Places, SegmentId};
@@ -79,7 +79,7 @@ fn write_each_header<S: Shelf>(shelf: &mut S, places: &Places, header: &Header, 
 {
     for shard in 0..SHARDS {
         let unit = spell_header(header, shard as u8);
-        write_unit(shelf, places[shard], 0, &unit, lost);
+        write_units(shelf, places[shard], 0, &unit, lost);
     }
 }
 

@@ -2,6 +2,7 @@
 //! Only the units of the segment are written, and a drive is lost only where its count of faults rose.
 #![tactic(auto)]
 
+mod appending;
 mod closing;
 mod gathering;
 mod open;
@@ -12,7 +13,7 @@ mod units;
 
 pub use closing::{Closed, sync_drives};
 pub use gathering::StripeBuffer;
-pub use open::{Open, StripeData};
+pub use open::{Open, RUN_ROOM, StripeData};
 pub use reading::read_sector;
 pub use rebuilding::{RebuildFault, rebuild_shard};
 pub use runs::read_sectors;

@@ -1,18 +1,17 @@
 // Segments that are written.
-ghost use Rattle.std.specs.Prelude.{◌≡◌, ℕ, ◌+◌, ◌<◌, ◌≤◌, ◌++◌, ◌∷◌, [], false, List};
-ghost use Rattle.pur_base.specs.declared.limits.TheConstants.{SEGMENT_SHARDS};
-ghost use Rattle.parity72.specs.Parity.{shard_of};
+ghost use Rattle.std.specs.Prelude.{◌≡◌, ℕ, ◌+◌, ◌*◌, ◌<◌, ◌≤◌, false, List, length};
 ghost use Rattle.segment_codec.specs.declared.position.TheConstants.{STRIPES};
 ghost use Rattle.world.specs.Shelf.{Continues};
 ghost use Rattle.world.specs.Writes.{WritesOnly};
 ghost use Rattle.segment_io.specs.Places.{ArePlaces, OnUnits, OthersStayOf};
 ghost use Rattle.segment_io.specs.Lost.{is_in, LosesOnly};
-ghost use Rattle.segment_io.specs.Stripes.{bytes_of, UnitsHold, HoldsStripe, IsStripeOf};
+ghost use Rattle.segment_io.specs.Stripes.{bytes_of, HoldsStripe, IsStripeOf, stripe_in};
 
-use crate::units::write_unit;
-use parity72::{DATA_SHARDS, SHARD_BYTES, SHARDS, encode};
+use crate::appending::{encode_run, write_run};
+use parity72::{DATA_SHARDS, SHARD_BYTES};
 use pur_base::{Lost, Places, SLOTS_MAX, SegmentId};
 use segment_codec::SegmentKind;
+use std::slice::from_ref;
 use world::Shelf;
 
 /// The slots that a set of drives tells of.
@@ -20,6 +19,9 @@ pub const SLOTS: usize = SLOTS_MAX as usize;
 
 /// The data of a stripe: seven shards of 4096 bytes.
 pub type StripeData = [[u8; SHARD_BYTES]; DATA_SHARDS];
+
+/// The write units of room that a run of stripes wants for each of its stripes.
+pub const RUN_ROOM: usize = 3;
 
 /// A segment to which stripes may be appended.
 #[derive(Drop)]
@@ -32,50 +34,6 @@ pub struct Open {
     /// The drives that were lost so far.
     pub(crate) lost: Lost,
     ghost bound: { stripes ≤ STRIPES },
-}
-
-// A shard of the stripe: of its data, P or Q.
-fn shard_in<'a>(
-    stripe: &'a StripeData,
-    p: &'a [u8; SHARD_BYTES],
-    q: &'a [u8; SHARD_BYTES],
-    shard: usize,
-) -> &'a [u8; SHARD_BYTES]
-    requires { shard < SEGMENT_SHARDS }
-    ensures { result.now ≡ shard_of (stripe.now ++ p.now ∷ q.now ∷ []) shard }
-{
-    if shard < DATA_SHARDS {
-        &stripe[shard]
-    } else if shard == DATA_SHARDS {
-        p
-    } else {
-        q
-    }
-}
-
-// Writes the shards of a stripe, each on its drive unless that is lost.
-fn write_stripe<S: Shelf>(
-    shelf: &mut S,
-    places: &Places,
-    number: u8,
-    stripe: &StripeData,
-    p: &[u8; SHARD_BYTES],
-    q: &[u8; SHARD_BYTES],
-    lost: &mut Lost,
-)
-    requires places { ArePlaces (S.shelf shelf.old) places.now }
-    requires number { number < STRIPES }
-    ensures continues { Continues (S.shelf shelf.old) (S.shelf shelf.new) }
-    ensures lost { LosesOnly (S.shelf shelf.old) (S.shelf shelf.new) lost.old.drives lost.new.drives }
-    ensures written { (S.shelf shelf.old).honest → UnitsHold (bytes_of (S.shelf shelf.new)) places.now lost.new.drives (number + 1) (shard_of (stripe.now ++ p.now ∷ q.now ∷ [])) }
-    ensures writes { (S.shelf shelf.old).honest → WritesOnly (OnUnits places.now (number + 1) 1) (S.shelf shelf.old) (S.shelf shelf.new) }
-    ensures others { OthersStayOf places.now (S.shelf shelf.old) (S.shelf shelf.new) }
-    ensures rest { S.shelf_rest shelf.old shelf.new }
-{
-    for shard in 0..SHARDS {
-        let bytes = shard_in(stripe, p, q, shard);
-        write_unit(shelf, places[shard], number + 1, bytes, lost);
-    }
 }
 
 impl Open {
@@ -137,19 +95,51 @@ impl Open {
         ensures others { OthersStayOf self.old.places (S.shelf shelf.old) (S.shelf shelf.new) }
         ensures rest { S.shelf_rest shelf.old shelf.new }
     {
-        let mut p = [0; SHARD_BYTES];
-        let mut q = [0; SHARD_BYTES];
-        encode(stripe, &mut p, &mut q);
-        write_stripe(
+        let mut room = [[0; SHARD_BYTES]; RUN_ROOM];
+        self.append_stripes(from_ref(stripe), &mut room, shelf)
+    }
+
+    /// Appends stripes that follow each other, as that many calls of `append_stripe` would, but with one write for each unit, nine in all.
+    /// The room is lent and may be used again: three write units for each of the stripes, of which a segment has 15 at most.
+    /// A drive on which the write fails is lost. Gives the drives that were lost so far.
+    pub fn append_stripes<S: Shelf>(
+        &mut self,
+        stripes: &[StripeData],
+        room: &mut [[u8; SHARD_BYTES]],
+        shelf: &mut S,
+    ) -> Lost
+        requires places { ArePlaces (S.shelf shelf.old) self.old.places }
+        requires fits { self.old.stripes + length stripes.now ≤ STRIPES }
+        requires room { RUN_ROOM * length stripes.now ≤ length room.old }
+        ensures continues { Continues (S.shelf shelf.old) (S.shelf shelf.new) }
+        ensures result { result ≡ self.new.lost }
+        ensures lost { LosesOnly (S.shelf shelf.old) (S.shelf shelf.new) self.old.lost.drives self.new.lost.drives }
+        ensures same { (self.new.id ≡ self.old.id) × (self.new.kind ≡ self.old.kind) × (self.new.places ≡ self.old.places) }
+        ensures stripes { self.new.stripes ≡ self.old.stripes + length stripes.now }
+        ensures stand { (S.shelf shelf.old).honest → (number : ℕ) → number < length stripes.now
+            → (shards : List (List ℕ)) × IsStripeOf (stripe_in stripes.now number) shards × HoldsStripe (bytes_of (S.shelf shelf.new)) self.new.places self.new.lost.drives (self.old.stripes + number) shards }
+        // The stripes before them stand as they did.
+        ensures kept { (S.shelf shelf.old).honest → (earlier : ℕ) (shards : List (List ℕ)) → earlier < self.old.stripes
+            → HoldsStripe (bytes_of (S.shelf shelf.old)) self.old.places self.old.lost.drives earlier shards → HoldsStripe (bytes_of (S.shelf shelf.new)) self.new.places self.new.lost.drives earlier shards }
+        ensures writes { (S.shelf shelf.old).honest → WritesOnly (OnUnits self.old.places (self.old.stripes + 1) (length stripes.now)) (S.shelf shelf.old) (S.shelf shelf.new) }
+        ensures others { OthersStayOf self.old.places (S.shelf shelf.old) (S.shelf shelf.new) }
+        ensures rest { S.shelf_rest shelf.old shelf.new }
+    {
+        let count = stripes.len();
+        let (run, parities) = room.split_at_mut(count);
+        let (p, q) = parities.split_at_mut(count);
+        encode_run(stripes, p, q);
+        write_run(
             shelf,
             &self.places,
             self.stripes,
-            stripe,
-            &p,
-            &q,
+            stripes,
+            run,
+            p,
+            q,
             &mut self.lost,
         );
-        self.stripes += 1;
+        self.stripes += count as u8;
         self.lost
     }
 }

@@ -1,9 +1,10 @@
 // Calls on the drive of one unit.
-ghost use Rattle.std.specs.Prelude.{IsTrue, ◌↔◌, ◌≡◌, ℕ, ◌<◌, ◌≤◌, [], false, length};
+ghost use Rattle.std.specs.Prelude.{IsTrue, ◌↔◌, ◌≡◌, ℕ, ◌+◌, ◌*◌, ◌%◌, ◌<◌, ◌≤◌, [], false, length};
 ghost use Rattle.pur_base.specs.Bytes.{bytes_at};
 ghost use Rattle.pur_base.specs.declared.device.Device.{Device};
+ghost use Rattle.pur_base.specs.declared.limits.TheConstants.{SECTOR_BYTES, UNIT_BYTES};
 ghost use Rattle.pur_base.specs.Devices.{drive};
-ghost use Rattle.segment_codec.specs.declared.position.TheConstants.{WRITE_UNIT_BYTES, STRIPES};
+ghost use Rattle.segment_codec.specs.declared.position.TheConstants.{WRITE_UNIT_BYTES};
 ghost use Rattle.world.specs.Shelf.{Continues, OthersStay};
 ghost use Rattle.world.specs.Writes.{OneRange, WritesOnly};
 ghost use Rattle.segment_io.specs.Places.{IsPlace, ArePlaces, write_unit_at};
@@ -40,20 +41,24 @@ pub fn are_places<S: Shelf>(shelf: &S, places: &Places) -> bool
     true
 }
 
-/// Writes a write unit of a unit, unless its drive is lost. Where the write fails, the drive is lost.
-pub fn write_unit<S: Shelf>(shelf: &mut S, place: Place, n: u8, from: &[u8], lost: &mut Lost)
+/// Writes the write units of a unit from the n-th on with one call, unless its drive is lost. Where the write fails, the drive is lost.
+/// Where there is nothing to write, there is no call.
+pub fn write_units<S: Shelf>(shelf: &mut S, place: Place, n: u8, from: &[u8], lost: &mut Lost)
     requires place { IsPlace (S.shelf shelf.old) place }
-    requires n { n ≤ STRIPES }
-    requires size { length from.now ≡ WRITE_UNIT_BYTES }
+    requires fits { WRITE_UNIT_BYTES * n + length from.now ≤ UNIT_BYTES }
+    requires aligned { length from.now % SECTOR_BYTES ≡ 0 }
     ensures continues { Continues (S.shelf shelf.old) (S.shelf shelf.new) }
     ensures lost { LosesOnly (S.shelf shelf.old) (S.shelf shelf.new) lost.old.drives lost.new.drives }
-    ensures written { (S.shelf shelf.old).honest → is_in lost.new.drives place.slot ≡ false → bytes_at (write_unit_at place n) WRITE_UNIT_BYTES ((S.shelf shelf.new).disk (drive place.slot)).bytes ≡ from.now }
-    ensures writes { (S.shelf shelf.old).honest → WritesOnly (OneRange (drive place.slot) (write_unit_at place n) WRITE_UNIT_BYTES) (S.shelf shelf.old) (S.shelf shelf.new) }
+    ensures written { (S.shelf shelf.old).honest → is_in lost.new.drives place.slot ≡ false → bytes_at (write_unit_at place n) (length from.now) ((S.shelf shelf.new).disk (drive place.slot)).bytes ≡ from.now }
+    ensures writes { (S.shelf shelf.old).honest → WritesOnly (OneRange (drive place.slot) (write_unit_at place n) (length from.now)) (S.shelf shelf.old) (S.shelf shelf.new) }
     ensures others { OthersStay (drive place.slot) (S.shelf shelf.old) (S.shelf shelf.new) }
     ensures rest { S.shelf_rest shelf.old shelf.new }
 {
     let slot = place.slot as usize;
     if lost.drives[slot] {
+        return;
+    }
+    if from.is_empty() {
         return;
     }
     let at = UNIT_BYTES as u64 * place.unit as u64 + WRITE_UNIT_BYTES as u64 * n as u64;

@@ -2,7 +2,7 @@ use parity72::{DATA_SHARDS, SHARD_BYTES, SHARDS};
 use pur_base::{Device, DriveId, Lost, Place, Places, SECTOR_BYTES, Sector, SegmentId};
 use segment_codec::{Header, SegmentKind, read_header};
 use segment_io::{
-    Open, RebuildFault, StripeData, are_places, read_sector, read_sectors, rebuild_shard,
+    Open, RUN_ROOM, RebuildFault, StripeData, are_places, read_sector, read_sectors, rebuild_shard,
 };
 use std::alloc::Global;
 use std::test::Fail;
@@ -217,5 +217,104 @@ fn a_run_takes_one_call_a_shard(rt: HostRuntime) -> Result<(), Fail> {
     world.pull(Device::Drive(DriveId(5)));
     // Seven for the first stripe, after one that was in vain, and one for the second.
     assert_eq!(rt; calls_for_run(&mut world, &set_of(&[1, 5]))?, (true, 9));
+    Ok(())
+}
+
+/// Shard i is full of the byte i + 10.
+const THIRD: StripeData = [
+    [10; SHARD_BYTES],
+    [11; SHARD_BYTES],
+    [12; SHARD_BYTES],
+    [13; SHARD_BYTES],
+    [14; SHARD_BYTES],
+    [15; SHARD_BYTES],
+    [16; SHARD_BYTES],
+];
+
+/// Writes a segment of one stripe and a run of three behind it, and tells how many calls the stripe and the run took.
+fn write_run(world: &mut MemWorld) -> Result<(usize, usize), Fail> {
+    let mut room = [[0; SHARD_BYTES]; 3 * RUN_ROOM];
+    let mut open = Open::new(SegmentId(5), SegmentKind::Data, PLACES);
+    world.forget();
+    if !are_places(world, &PLACES) {
+        return Err(Fail::new("places"));
+    }
+    open.append_stripe(&SECOND, world);
+    let one = world.calls().len();
+    world.forget();
+    if !are_places(world, &PLACES) {
+        return Err(Fail::new("places"));
+    }
+    open.append_stripes(&[FIRST, SECOND, THIRD], &mut room, world);
+    let three = world.calls().len();
+    if !are_places(world, &PLACES) {
+        return Err(Fail::new("places"));
+    }
+    let (closed, _lost) = open.close(&HEADER, world);
+    if closed.stripes() != 4 {
+        return Err(Fail::new("stripes"));
+    }
+    Ok((one, three))
+}
+
+#[test]
+fn a_run_of_stripes_takes_nine_writes(rt: HostRuntime) -> Result<(), Fail> {
+    let alloc = rt.alloc();
+    let mut world = small_world(alloc)?;
+    assert_eq!(rt; write_run(&mut world)?, (9, 9));
+    // Q of the second stripe.
+    let second = sector_at(&mut world, PLACES[8], 16)?;
+    assert_eq!(rt; second.as_bytes(), [100u8; 512].as_slice());
+    world.pull(Device::Drive(DriveId(0)));
+    world.pull(Device::Drive(DriveId(6)));
+    let missing = set_of(&[0, 6]);
+    for (index, byte) in [
+        (0, 9),
+        (55, 9),
+        (56, 1),
+        (103, 6),
+        (104, 7),
+        (111, 7),
+        (112, 9),
+        (167, 9),
+        (168, 10),
+        (176, 11),
+        (223, 16),
+    ] {
+        assert_eq!(rt; ends_of(&mut world, index, &missing)?, Ok((byte, byte)));
+    }
+    Ok(())
+}
+
+/// Writes a whole segment at once, from a list of stripes.
+fn write_whole(alloc: Global, world: &mut MemWorld) -> Result<Lost, Fail> {
+    let mut stripes = Vec::from_array(alloc, [FIRST; 14])?;
+    stripes.push(THIRD)?;
+    let mut room = vec![in alloc; [0; SHARD_BYTES]; 45]?;
+    let mut open = Open::new(SegmentId(5), SegmentKind::Data, PLACES);
+    if !are_places(world, &PLACES) {
+        return Err(Fail::new("places"));
+    }
+    open.append_stripes(&stripes, &mut room, world);
+    if !are_places(world, &PLACES) {
+        return Err(Fail::new("places"));
+    }
+    let (_closed, lost) = open.close(&HEADER, world);
+    Ok(lost)
+}
+
+#[test]
+fn a_segment_is_one_run(rt: HostRuntime) -> Result<(), Fail> {
+    let alloc = rt.alloc();
+    let mut world = small_world(alloc)?;
+    // The write of the run fails on it.
+    world.fail(Device::Drive(DriveId(2)), 1)?;
+    let lost = write_whole(alloc, &mut world)?;
+    assert_eq!(rt; lost.drives, set_of(&[2]));
+    world.pull(Device::Drive(DriveId(8)));
+    let missing = set_of(&[2, 8]);
+    for (index, byte) in [(0, 1), (16, 3), (783, 7), (784, 10), (800, 12), (839, 16)] {
+        assert_eq!(rt; ends_of(&mut world, index, &missing)?, Ok((byte, byte)));
+    }
     Ok(())
 }

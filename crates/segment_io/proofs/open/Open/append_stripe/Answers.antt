@@ -1,8 +1,12 @@
-use Rattle.std.proofs.Common.{◌+◌, inl, arith}
-use Rattle.segment_io.proofs.Kept.{stripe_stays}
+use Rattle.std.proofs.Common.{◌≡◌, ℕ, ◌+◌, List, subst, arith}
+use Rattle.segment_io.specs.Stripes.{bytes_of, stripe_in, IsStripeOf, HoldsStripe}
 use Rattle.segment_io.proofs.open.Open.append_stripe.Goals as goal
 
-pub returns-clause-kept : goal.returns-clause-kept
-returns-clause-kept g c h earlier shards before holds =
-    stripe_stays _ _ c.args.self.now.places (c.args.self.now.stripes + 1) 1 earlier c.args.self.now.lost.drives c.write_stripe.new.lost.drives shards c.requires.places (inl (omega (arith, before)))
-    c.write_stripe.ensures.lost (c.write_stripe.ensures.writes h) holds
+pub returns-clause-stands : goal.returns-clause-stands
+returns-clause-stands g c h =
+    let only = c.append_stripes.ensures.stand h 0 (omega (arith, c.from_ref.ensures.len)) in
+    let first : c.args.self.now.stripes + 0 ≡ c.args.self.now.stripes = omega arith in (
+      only.0,
+      subst (λ (l : List (List (List ℕ))). IsStripeOf (stripe_in l 0) only.0) c.from_ref.ensures.value only.1,
+      subst (λ (n : ℕ). HoldsStripe (bytes_of (g.S.Shelf.shelf c.append_stripes.new.shelf)) c.append_stripes.new.self.places c.append_stripes.new.self.lost.drives n only.0) first only.2,
+    )

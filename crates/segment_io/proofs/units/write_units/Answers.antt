@@ -1,12 +1,11 @@
-use Rattle.std.proofs.Common.{false, length, arith, refl, subst, sym, ◌∙◌, get_or-set_same}
+use Rattle.std.proofs.Common.{false, length, arith, refl, sym, ◌∙◌, get_or-set_same}
 use Rattle.pur_base.specs.Devices.{drive}
-use Rattle.segment_codec.specs.declared.position.TheConstants.{WRITE_UNIT_BYTES}
-use Rattle.world.specs.Writes.{OneRange, WritesOnly}
+use Rattle.world.specs.Writes.{OneRange}
 use Rattle.world.proofs.Writes.{write_writes}
 use Rattle.segment_io.specs.Places.{write_unit_at}
 use Rattle.segment_io.proofs.Losing.{loses_one}
 use Rattle.segment_io.proofs.Writing.{was_written}
-use Rattle.segment_io.proofs.units.write_unit.Goals as goal
+use Rattle.segment_io.proofs.units.write_units.Goals as goal
 
 pub returns-clause-lost : goal.returns-clause-lost
 returns-clause-lost g c =
@@ -14,12 +13,11 @@ returns-clause-lost g c =
 
 pub returns-clause-written : goal.returns-clause-written
 returns-clause-written g c h is =
-    was_written c.write-answer.result _ (write_unit_at c.args.place c.args.n) WRITE_UNIT_BYTES c.args.from.now _ _ c.requires.size (c.write-answer.ensures.device h)
+    was_written c.write-answer.result _ (write_unit_at c.args.place c.args.n) (length c.args.from.now) c.args.from.now _ _ refl (c.write-answer.ensures.device h)
     (sym c.is_err.ensures.value ∙ sym (get_or-set_same c.args.lost.now.drives c.args.place.slot c.is_err.result false (omega (arith, (g.met.S.Shelf.is_shelf c.args.shelf.now).drives.1))) ∙ is)
 
 pub returns-clause-writes : goal.returns-clause-writes
 returns-clause-writes g c h =
     let device = drive c.args.place.slot in
     let at = write_unit_at c.args.place c.args.n in
-    subst (λ n. WritesOnly (OneRange device at n) (g.S.Shelf.shelf c.args.shelf.now) (g.S.Shelf.shelf c.write-answer.new.self)) c.requires.size
-    (write_writes (OneRange device at (length c.args.from.now)) device (g.met.S.Shelf.is_shelf c.args.shelf.now) c.write-answer.ensures.time c.write-answer.ensures.others (c.write-answer.ensures.device h) (λ i is. (refl, is)))
+    write_writes (OneRange device at (length c.args.from.now)) device (g.met.S.Shelf.is_shelf c.args.shelf.now) c.write-answer.ensures.time c.write-answer.ensures.others (c.write-answer.ensures.device h) (λ i is. (refl, is))

@@ -1,0 +1,7 @@
+use Rattle.std.proofs.Common.{ℕ, ◌<◌}
+use Rattle.parity72.specs.Parity.{IsCodeword}
+use Rattle.segment_io.specs.Stripes.{shards_in}
+use Rattle.segment_io.proofs.appending.encode_run.Given as goal
+
+abbrev pub invariant-loop-number : goal.invariant-loop-number
+invariant-loop-number l = (k : ℕ) → k < l.number → IsCodeword (shards_in l.stripes l.p l.q k)
