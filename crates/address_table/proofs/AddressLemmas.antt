@@ -1,14 +1,13 @@
 -- What facts of addresses say.
-use Rattle.std.proofs.Common.{◌≡◌, ◌≢◌, ◌↔◌, ℕ, ◌^◌, ◌<◌, Bool, true, false, List, ◌++◌, refl, sym, ap, ◌∙◌, arith, Contains}
-use Rattle.std.specs.Prelude.{Option, Some, None, IsTrue, if◌then◌else◌, option_and_then}
+use Rattle.std.proofs.Common.{◌≡◌, ℕ, ◌^◌, ◌<◌, Bool, true, false, List, ◌++◌, refl, sym, ap, ◌∙◌}
+use Rattle.std.specs.Prelude.{Option, Some, None, if◌then◌else◌, option_and_then}
 use Rattle.std.specs.Option.{option_or}
-use Rattle.std.proofs.lemmas.List.Elements.{Contains-append_left, Contains-append_right}
 use Rattle.pur_base.specs.declared.facts.AddressFact.{AddressFact}
 use Rattle.pur_base.specs.declared.request.Table.TheVariants as table
 use Rattle.pur_base.specs.Facts.{Facts, address_key, never}
 use Rattle.pur_base.specs.Keys.{id_of, key_of}
 use Rattle.pur_base.specs.Says.{says, unless_empty}
-use Rattle.pur_base.specs.Visible.{address, is_elided, is_within, AreElidedRanges}
+use Rattle.pur_base.specs.Visible.{address, is_within, AreElidedRanges}
 use Rattle.pyramid.specs.Layers.{newest_of, AreBelow}
 use Rattle.pyramid.proofs.KeyLemmas.{id_of_key, within_elided}
 use Rattle.pyramid.proofs.WalkLemmas.{newer_over}

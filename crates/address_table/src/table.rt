@@ -40,6 +40,22 @@ impl AddressTable {
         Ok(AddressTable { facts })
     }
 
+    /// The table of these facts, as of patches that were loaded. It takes no memory.
+    pub fn from_facts(facts: Pyramid<AddressFact>) -> AddressTable
+        ensures { result.facts ≡ facts }
+    {
+        AddressTable { facts }
+    }
+
+    /// Reserves room for so many more unflushed facts. Nothing else changes, whatever is answered.
+    pub fn reserve_facts(&mut self, additional: usize) -> Result<(), NoMemory>
+        ensures room { OnOk result (additional ≤ self.new.facts.room) }
+        ensures room_left { self.old.facts.room ≤ self.new.facts.room }
+        ensures rest { self.new.facts ≡ record self.old.facts { room = self.new.facts.room } }
+    {
+        self.facts.reserve(additional)
+    }
+
     /// Where a sector of a medium stands, or `None` where the medium itself doesn't say it. It takes no memory.
     pub fn at(&self, medium: MediumId, sector: u32, elided: &[(u64, u64)]) -> Option<Target>
         requires { AreApart elided.now }

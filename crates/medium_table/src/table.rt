@@ -1,4 +1,4 @@
-ghost use Rattle.std.specs.Prelude.{◌≡◌, ◌⊎◌, ◌↔◌, ℕ, ◌+◌, ◌-◌, ◌<◌, ◌≤◌, ◌^◌, Bool, false, [], ◌++◌, length, All, Contains, None, IfOk, IfSome, IfNone, IsOk, OnOk, OnErr};
+ghost use Rattle.std.specs.Prelude.{◌≡◌, ◌⊎◌, ◌↔◌, ℕ, ◌+◌, ◌-◌, ◌<◌, ◌≤◌, ◌^◌, Bool, false, nat_lt, filter, [], ◌++◌, length, All, Contains, None, IfOk, IfSome, IfNone, IsOk, OnOk, OnErr};
 ghost use Rattle.std.specs.Option.{option_or};
 ghost use Rattle.pur_base.specs.Facts.{medium_key};
 ghost use Rattle.pur_base.specs.Says.{Ascends};
@@ -29,6 +29,22 @@ impl MediumTable {
     {
         let facts = Pyramid::new(alloc, room)?;
         Ok(MediumTable { facts })
+    }
+
+    /// The table of these facts, as of patches that were loaded. It takes no memory.
+    pub fn from_facts(facts: Pyramid<MediumFact>) -> MediumTable
+        ensures { result.facts ≡ facts }
+    {
+        MediumTable { facts }
+    }
+
+    /// Reserves room for so many more unflushed facts. Nothing else changes, whatever is answered.
+    pub fn reserve_facts(&mut self, additional: usize) -> Result<(), NoMemory>
+        ensures room { OnOk result (additional ≤ self.new.facts.room) }
+        ensures room_left { self.old.facts.room ≤ self.new.facts.room }
+        ensures rest { self.new.facts ≡ record self.old.facts { room = self.new.facts.room } }
+    {
+        self.facts.reserve(additional)
     }
 
     /// Takes in ranges of ascending mediums and starts that are newer than all others.
@@ -62,6 +78,16 @@ impl MediumTable {
         ensures patch_room { self.new.facts.patch_room ≡ self.old.facts.patch_room }
     {
         self.facts.insert_run(run)
+    }
+
+    /// Takes the unflushed facts out that have that number or a greater one. It takes no memory.
+    pub fn take_back(&mut self, from: Seq)
+        ensures patches { self.new.facts.patches ≡ self.old.facts.patches }
+        ensures unflushed { self.new.facts.unflushed ≡ filter (λ f. nat_lt (number f) from.0) self.old.facts.unflushed }
+        ensures room { self.old.facts.room ≤ self.new.facts.room }
+        ensures patch_room { self.new.facts.patch_room ≡ self.old.facts.patch_room }
+    {
+        self.facts.take_back(from);
     }
 
     /// The visible range that has a sector of a medium, or `None` where none has: a search for the last start up to the sector.

@@ -96,6 +96,16 @@ impl ObjectTable {
         Ok(())
     }
 
+    /// Reserves room for so many more unflushed facts. Nothing else changes, whatever is answered.
+    pub fn reserve_facts(&mut self, additional: usize) -> Result<(), NoMemory>
+        ensures room { OnOk result (additional ≤ self.new.facts.room) }
+        ensures room_left { self.old.facts.room ≤ self.new.facts.room }
+        ensures facts { self.new.facts ≡ record self.old.facts { room = self.new.facts.room } }
+        ensures rest { self.new ≡ record self.old { facts = self.new.facts } }
+    {
+        self.facts.reserve(additional)
+    }
+
     /// Adds an object whose id is above all others, whose number is above all others and whose name is new.
     /// It takes no memory where there is room, and an `Err` changes nothing.
     pub fn add(&mut self, object: ObjectFact) -> Result<(), NoMemory>

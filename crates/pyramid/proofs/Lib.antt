@@ -19,3 +19,4 @@ pub mod KeyLemmas
 pub mod ShownLemmas
 pub mod CoverLemmas
 pub mod ElisionLemmas
+pub mod LoadLemmas

@@ -2,3 +2,4 @@ pub mod Layers
 pub mod Merging
 pub mod Ends
 pub mod Shown
+pub mod Loading

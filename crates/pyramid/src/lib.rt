@@ -5,6 +5,7 @@
 mod ends;
 mod insert;
 mod laws;
+mod load;
 mod merge;
 mod patch;
 mod prune;
@@ -14,6 +15,7 @@ mod search;
 mod walk;
 
 pub use laws::{laws_of_elisions, laws_of_facts};
+pub use load::LoadFault;
 pub use patch::Patch;
 pub use pyramid::Pyramid;
 pub use search::key_of;

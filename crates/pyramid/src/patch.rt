@@ -1,8 +1,9 @@
-ghost use Rattle.std.specs.Prelude.{◌≡◌, ◌<◌, ◌≤◌, ◌+◌, ◌++◌, length, take, drop};
+ghost use Rattle.std.specs.Prelude.{◌≡◌, ◌<◌, ◌≤◌, ◌+◌, ◌++◌, ◌↔◌, ◌==◌, if◌then◌else◌, length, take, drop, IfOk, IfErr, IsOk};
 ghost use Rattle.std.specs.Vec.{vec_len, vec_capacity};
 ghost use Rattle.pur_base.specs.Says.{Ascends};
 ghost use Rattle.pyramid.specs.Layers.{IsPatch, patch_facts, patches_of};
 
+use crate::load::{LoadFault, are_ascending};
 use pur_base::Fact;
 use std::marker::Model;
 
@@ -33,6 +34,21 @@ impl<F: Fact + Drop> Patch<F> {
             None
         } else {
             Some(Patch { facts })
+        }
+    }
+
+    /// A patch of facts that were loaded. It takes no memory.
+    pub fn from_loaded(facts: Vec<F>) -> Result<Patch<F>, LoadFault>
+        ensures patch { IfOk result (λ patch. patch ≡ facts.items) }
+        ensures lawful { IsOk result ↔ IsPatch F.key facts.items }
+        ensures fault { IfErr result (λ fault. fault ≡ if length facts.items == 0 then LoadFault.Empty else LoadFault.Unordered) }
+    {
+        if facts.as_slice().is_empty() {
+            Err(LoadFault::Empty)
+        } else if are_ascending(&facts) {
+            Ok(Patch { facts })
+        } else {
+            Err(LoadFault::Unordered)
         }
     }
 

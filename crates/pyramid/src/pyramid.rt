@@ -1,4 +1,5 @@
-ghost use Rattle.std.specs.Prelude.{◌≡◌, ◌⊎◌, ◌≢◌, ◌↔◌, ℕ, ◌+◌, ◌<◌, ◌≤◌, ◌==◌, Bool, true, nat_lt, filter, [], ◌∷◌, ◌++◌, All, length, take, drop, Contains, IfOk, IfSome, IfNone, None, OnOk, OnErr, IsOk, IsTrue, slice_index_or};
+ghost use Rattle.std.specs.Prelude.{◌≡◌, ◌⊎◌, ◌≢◌, ◌↔◌, ℕ, ◌+◌, ◌<◌, ◌≤◌, ◌==◌, Bool, true, nat_lt, filter, [], ◌∷◌, ◌++◌, All, length, take, drop, Contains, IfOk, IfErr, IfSome, IfNone, None, OnOk, OnErr, IsOk, IsTrue, slice_index_or, ◌-◌};
+ghost use Rattle.std.specs.Vec.{vec_len, vec_capacity};
 ghost use Rattle.pur_base.specs.Says.{says, Ascends};
 ghost use Rattle.pur_base.specs.Visible.{is_within};
 ghost use Rattle.elision.specs.Ranges.{AreApart};
@@ -7,6 +8,7 @@ ghost use Rattle.pyramid.specs.Layers.{facts_in, facts_of, newest_of, patch_at, 
 
 use crate::ends::{first_key_of_all, last_key_of_all};
 use crate::insert::{insert_all, insert_in_order, keep_below};
+use crate::load::{LoadFault, are_rising};
 use crate::merge::{merge_facts, newest_of_each};
 use crate::patch::{Patch, push_patch, replace_only, replace_pair};
 use crate::prune::prune;
@@ -62,6 +64,34 @@ impl<F: Fact + Drop> Pyramid<F> {
             patches: Vec::new(alloc),
             unflushed: Vec::with_capacity(alloc, room)?,
         })
+    }
+
+    /// The table of patches that were loaded, the oldest first, in which no fact is unflushed. It takes no memory.
+    pub fn from_loaded(alloc: Global, patches: Vec<Patch<F>>) -> Result<Self, LoadFault>
+        ensures patches { IfOk result (λ p. p.patches ≡ patches.items) }
+        ensures unflushed { IfOk result (λ p. (p.unflushed ≡ []) × (p.room ≡ 0)) }
+        ensures patch_room { IfOk result (λ p. p.patch_room ≡ vec_capacity patches - vec_len patches) }
+        ensures lawful { IsOk result ↔ Rises F.number patches.items [] }
+        ensures fault { IfErr result (λ fault. fault ≡ LoadFault.NotRising) }
+    {
+        if are_rising(&patches) {
+            Ok(Pyramid {
+                patches,
+                unflushed: Vec::new(alloc),
+            })
+        } else {
+            Err(LoadFault::NotRising)
+        }
+    }
+
+    /// Reserves room for so many more facts that aren't flushed. Nothing else changes, whatever is answered.
+    pub fn reserve(&mut self, additional: usize) -> Result<(), NoMemory>
+        ensures room { OnOk result (additional ≤ self.new.room) }
+        ensures room_left { self.old.room ≤ self.new.room }
+        ensures rest { self.new ≡ record self.old { room = self.new.room } }
+    {
+        self.unflushed.reserve(additional)?;
+        Ok(())
     }
 
     /// The facts that aren't flushed, by key and number.

@@ -1,6 +1,8 @@
 ghost use Rattle.std.specs.Prelude.{◌≡◌, ◌+◌, ◌<◌, [], All, OnOk};
 ghost use Rattle.pyramid.specs.Layers.{facts_of};
 
+use crate::load::LoadFault;
+use crate::patch::Patch;
 use crate::pyramid::Pyramid;
 use pur_base::{MediumFact, MediumId, NoMemory, Seq};
 use std::alloc::Global;
@@ -101,5 +103,52 @@ fn a_rewriting_leaves_no_elided_fact(rt: HostRuntime) -> Result<(), NoMemory> {
     let patch = table.rewritten(rt.alloc(), &[(6, 7)])?;
     table.put_rewritten(patch);
     assert_eq!(rt; table.patches().len(), 0);
+    Ok(())
+}
+
+/// Puts a patch of one fact that was loaded behind the others.
+fn push_loaded(
+    patches: &mut Vec<Patch<MediumFact>>,
+    alloc: Global,
+    fact: MediumFact,
+) -> Result<(), NoMemory> {
+    let mut facts = Vec::new(alloc);
+    facts.push(fact)?;
+    if let Ok(patch) = Patch::from_loaded(facts) {
+        patches.push(patch)?;
+    }
+    Ok(())
+}
+
+/// What a table of two loaded patches says at the key.
+fn said_of_two(
+    alloc: Global,
+    older: MediumFact,
+    newer: MediumFact,
+) -> Result<Result<Option<MediumFact>, LoadFault>, NoMemory> {
+    let mut patches = Vec::new(alloc);
+    push_loaded(&mut patches, alloc, older)?;
+    push_loaded(&mut patches, alloc, newer)?;
+    match Pyramid::from_loaded(alloc, patches) {
+        Ok(table) => Ok(Ok(table.newest(KEY, &[]))),
+        Err(fault) => Ok(Err(fault)),
+    }
+}
+
+#[test]
+fn patches_are_loaded_where_numbers_rise(rt: HostRuntime) -> Result<(), NoMemory> {
+    let said = said_of_two(rt.alloc(), range(), longer())?;
+    assert_eq!(rt; said, Ok(Some(longer())));
+    let refused = said_of_two(rt.alloc(), longer(), range())?;
+    assert_eq!(rt; refused, Err(LoadFault::NotRising));
+    Ok(())
+}
+
+#[test]
+fn room_is_reserved(rt: HostRuntime) -> Result<(), NoMemory> {
+    let mut table = Pyramid::new(rt.alloc(), 0)?;
+    table.reserve(2)?;
+    table.insert_run(&[range()])?;
+    assert_eq!(rt; table.unflushed().len(), 1);
     Ok(())
 }

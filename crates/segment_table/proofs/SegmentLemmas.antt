@@ -3,16 +3,18 @@ use Rattle.std.proofs.Common.{◌≡◌, ◌≢◌, ◌⊎◌, ℕ, ◌^◌, ◌
 use Rattle.std.specs.Prelude.{Some, ◌↔◌, IsTrue, nat_lt}
 use Rattle.std.specs.List.{filter_map, range_with_len}
 use Rattle.std.specs.List.Sorted.{IsPartitionedBy, IsPartitionPoint}
-use Rattle.std.proofs.lemmas.Bool.{cases_lt, lt-ltb, ltb-true, ltb-false}
-use Rattle.std.proofs.lemmas.List.Elements.{All-contains}
+use Rattle.std.proofs.lemmas.Bool.{cases_lt, eqb-true, lt-ltb, ltb-true, ltb-false}
+use Rattle.std.proofs.lemmas.List.Elements.{All-contains, filter-append}
 use Rattle.pur_base.specs.Keys.{id_of, key_of}
-use Rattle.pur_base.specs.Says.{Ascends, says}
+use Rattle.pur_base.specs.Says.{Ascends, has_key, newest, says}
 use Rattle.pur_base.specs.Facts.{segment_key, never}
 use Rattle.pur_base.specs.declared.facts.SegmentFact.{SegmentFact}
 use Rattle.pyramid.specs.Layers.{AreDistinct, facts_of}
 use Rattle.pyramid.specs.Shown.{IsShown}
-use Rattle.pyramid.proofs.ShownLemmas.{ascends_push, said_found, listed_by_id, shown_added, shown_elided, taken_of}
-use Rattle.segment_table.specs.Segments.{number}
+use Rattle.pyramid.proofs.ContainsLemmas.{filtered, here, of_filter, there}
+use Rattle.pyramid.proofs.MergeLemmas.{ascends_filter}
+use Rattle.pyramid.proofs.ShownLemmas.{ascends_push, said_found, listed_by_id, passes_filter, shown_added, shown_elided, taken_of}
+use Rattle.segment_table.specs.Segments.{number, AreOwnFrom}
 
 -- a segment's key has its id
 pub key_id : (d : SegmentFact) → id_of (segment_key d) ≡ d.segment.0
@@ -81,3 +83,62 @@ by_ids facts elided next shown small below h = listed_by_id (λ (x : SegmentFact
       let is : says segment_key number never facts elided (segment_key x) ≡ Some x = ap (λ k. says segment_key number never facts elided k) key ∙ s in
       (h.all x (omega (arith, key, l, small)) is, omega (arith, key));
 })
+
+-- ---- what is taken back
+
+abbrev pub is_before : ℕ → SegmentFact → Bool
+is_before from f = nat_lt (number f) from
+
+-- facts that aren't taken back with another one of their key stay the newest
+newest_kept : (p test : SegmentFact → Bool) (fs : List SegmentFact) → ((f : SegmentFact) → Contains fs f → test f ≡ true → p f ≡ true) → newest number test (filter p fs) ≡ newest number test fs
+newest_kept p test [] h = refl
+newest_kept p test (f ∷ fs) h = one (p f) refl (test f) refl (newest_kept p test fs (λ g c e. h g (there f g fs c) e))
+  where
+    one : (b : Bool) → p f ≡ b → (t : Bool) → test f ≡ t → newest number test (filter p fs) ≡ newest number test fs → newest number test (filter p (f ∷ fs)) ≡ newest number test (f ∷ fs)
+    one true passes true is inner = rw (passes, is, inner) refl
+    one true passes false is inner = rw (passes, is) inner
+    one false passes true is inner = let no : p f ≡ true = h f (here f fs) is in cc
+    one false passes false is inner = rw (passes, is) inner
+
+-- flushed facts stay
+filter_all : (p : SegmentFact → Bool) (fs : List SegmentFact) → ((f : SegmentFact) → Contains fs f → p f ≡ true) → filter p fs ≡ fs
+filter_all p [] h = refl
+filter_all p (f ∷ fs) h = rw (h f (here f fs)) (ap (λ l. f ∷ l) (filter_all p fs (λ g c. h g (there f g fs c))))
+
+module _ (from : ℕ) (facts : List SegmentFact) (elided : ℕ → Bool) where
+  -- at the key of a fact that stays nothing is taken back
+  says_kept : AreOwnFrom from facts → (f : SegmentFact) → Contains facts f → number f < from
+      → says segment_key number never (filter (is_before from) facts) elided (segment_key f) ≡ says segment_key number never facts elided (segment_key f)
+  says_kept own f c low = rw (newest_kept (is_before from) (has_key segment_key (segment_key f)) facts stays) refl
+    where
+      stays : (g : SegmentFact) → Contains facts g → has_key segment_key (segment_key f) g ≡ true → is_before from g ≡ true
+      stays g d e = elim (cases_lt (number g) from) [
+        | inl under ↦ lt-ltb (number g) from under
+        | inr over ↦
+            let same : segment_key g ≡ segment_key f = eqb-true _ _ e in
+            let it : g ≡ f = own g f d c over (omega (arith, same)) in
+            let at : number g ≡ number f = ap number it in
+            absurd (omega (arith, at, low, over))
+      ]
+
+  -- what is taken back isn't visible, and nothing else changes
+  pub shown_back : AreOwnFrom from facts → (shown : List SegmentFact) → IsShown segment_key number never facts elided shown
+      → IsShown segment_key number never (filter (is_before from) facts) elided (filter (is_before from) shown)
+  shown_back own shown h = record {
+    ascends = ascends_filter segment_key (is_before from) shown h.ascends;
+    said = λ f c.
+        let s = h.said f (of_filter (is_before from) shown f c) in
+        let there = (said_found segment_key number never facts elided (segment_key f) f s).0 in
+        says_kept own f there (ltb-true _ _ (passes_filter (is_before from) shown f c)) ∙ s;
+    all = λ f l s.
+        let there = (said_found segment_key number never (filter (is_before from) facts) elided (segment_key f) f s).0 in
+        let low = passes_filter (is_before from) facts f there in
+        let old = sym (says_kept own f (of_filter (is_before from) facts f there) (ltb-true _ _ low)) ∙ s in
+        filtered (is_before from) shown f (h.all f l old) low;
+  }
+
+-- the facts that are left where the flushed ones all stay
+pub left_back : (from : ℕ) (ps : List (List SegmentFact)) (us : List SegmentFact) → All (λ f. number f < from) (facts_of ps)
+    → filter (is_before from) (facts_of ps ++ us) ≡ facts_of ps ++ filter (is_before from) us
+left_back from ps us low = filter-append (is_before from) (facts_of ps) us
+    ∙ ap (λ fs. fs ++ filter (is_before from) us) (filter_all (is_before from) (facts_of ps) (λ f c. lt-ltb (number f) from (All-contains (λ f. number f < from) (facts_of ps) f low c)))

@@ -1,5 +1,5 @@
 -- The visible data segments beside the facts that they come from.
-use Rattle.std.specs.Prelude.{ℕ, Bool, List}
+use Rattle.std.specs.Prelude.{◌≡◌, ℕ, ◌≤◌, Bool, List, Contains}
 use Rattle.pur_base.specs.Facts.{segment_key, never}
 use Rattle.pur_base.specs.declared.facts.SegmentFact.{SegmentFact}
 use Rattle.pyramid.specs.Layers.{Layers, facts_in}
@@ -19,3 +19,7 @@ number f = f.seq.0
 -- the visible segments are what the facts say where those ids are elided
 abbrev pub AreVisible : (ℕ → Bool) → Segments → Type 0
 AreVisible elided t = IsShown segment_key number never (facts_in t.facts) elided t.visible
+
+-- no other fact has the segment of one of that number or a greater one
+abbrev pub AreOwnFrom : ℕ → List SegmentFact → Type 0
+AreOwnFrom from facts = (f g : SegmentFact) → Contains facts f → Contains facts g → from ≤ number f → f.segment.0 ≡ g.segment.0 → f ≡ g

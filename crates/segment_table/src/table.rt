@@ -1,8 +1,8 @@
 ghost use Rattle.std.specs.Prelude.{◌≡◌, ◌≢◌, ◌⊎◌, ◌↔◌, ◌+◌, ◌<◌, ◌≤◌, ◌∷◌, ◌++◌, [], ℕ, Bool, false, not, IsTrue, IsOk, IfOk, IfSome, IfNone, OnOk, OnErr, All, Contains, filter, nat_lt, slice_get};
 ghost use Rattle.pur_base.specs.Visible.{is_within};
 ghost use Rattle.elision.specs.Ranges.{AreApart};
-ghost use Rattle.pyramid.specs.Layers.{AreDistinct, facts_in};
-ghost use Rattle.segment_table.specs.Segments.{AreVisible, number};
+ghost use Rattle.pyramid.specs.Layers.{AreDistinct, facts_in, facts_of};
+ghost use Rattle.segment_table.specs.Segments.{AreOwnFrom, AreVisible, number};
 
 mod flush;
 
@@ -91,6 +91,16 @@ impl SegmentTable {
         Ok(())
     }
 
+    /// Reserves room for so many more unflushed facts. Nothing else changes, whatever is answered.
+    pub fn reserve_facts(&mut self, additional: usize) -> Result<(), NoMemory>
+        ensures room { OnOk result (additional ≤ self.new.facts.room) }
+        ensures room_left { self.old.facts.room ≤ self.new.facts.room }
+        ensures facts { self.new.facts ≡ record self.old.facts { room = self.new.facts.room } }
+        ensures rest { self.new ≡ record self.old { facts = self.new.facts } }
+    {
+        self.facts.reserve(additional)
+    }
+
     /// Adds a segment whose id is above all others and whose number is above all others.
     /// It takes no memory where there is room, and an `Err` changes nothing.
     pub fn add(&mut self, segment: SegmentFact) -> Result<(), NoMemory>
@@ -112,6 +122,22 @@ impl SegmentTable {
             Ok(()) => Ok(()),
             Err(_) => unreachable!(),
         }
+    }
+
+    /// Takes the segments back that have that number or a greater one, out of the unflushed facts and out of those that are visible.
+    /// It takes no memory.
+    pub fn take_back(&mut self, from: Seq)
+        ensures patches { self.new.facts.patches ≡ self.old.facts.patches }
+        ensures unflushed { self.new.facts.unflushed ≡ filter (λ f. nat_lt (number f) from.0) self.old.facts.unflushed }
+        ensures visible { self.new.visible ≡ filter (λ d. nat_lt (number d) from.0) self.old.visible }
+        ensures says { (elided : ℕ → Bool) → All (λ f. number f < from.0) (facts_of self.old.facts.patches) → AreOwnFrom from.0 (facts_in self.old.facts)
+            → AreVisible elided self.old → AreVisible elided self.new }
+        ensures room { self.old.facts.room ≤ self.new.facts.room }
+        ensures visible_room { self.old.visible_room ≤ self.new.visible_room }
+        ensures patch_room { self.new.facts.patch_room ≡ self.old.facts.patch_room }
+    {
+        self.facts.take_back(from);
+        self.visible.retain(|segment| segment.seq.0 < from.0);
     }
 
     /// Takes the segments of elided ids out of those that are visible, in one pass. It takes no memory.

@@ -38,3 +38,16 @@ fn a_segment_is_found_until_its_id_is_elided(rt: HostRuntime) -> Result<(), NoMe
     assert_eq!(rt; table.places(SegmentId(3)), None);
     Ok(())
 }
+
+#[test]
+fn a_segment_is_taken_back(rt: HostRuntime) -> Result<(), NoMemory> {
+    let mut table = empty_table(rt.alloc())?;
+    table.reserve_facts(1)?;
+    table.add(segment())?;
+    table.take_back(Seq(11));
+    assert_eq!(rt; table.all().len(), 1);
+    table.take_back(Seq(10));
+    assert_eq!(rt; table.all().len(), 0);
+    assert_eq!(rt; table.facts().unflushed().len(), 0);
+    Ok(())
+}

@@ -1,0 +1,6 @@
+use Rattle.std.proofs.Common.{◌++◌, List, take}
+use Rattle.pyramid.specs.Loading.{IsPast}
+use Rattle.pyramid.proofs.load.past_all.Given as goal
+
+abbrev pub invariant-loop-fact : goal.invariant-loop-fact
+invariant-loop-fact g l = (facts : List g.row.F.Denot) → IsPast g.F.Fact.number facts l.fn.past → IsPast g.F.Fact.number (facts ++ take l.fact-index l.new) l.end
