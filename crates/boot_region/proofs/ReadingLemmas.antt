@@ -8,10 +8,11 @@ use Rattle.std.proofs.lemmas.Slice.{take-put_mid_below, drop-put_mid, between-pu
 use borrow.Rule.Slice.PartMut.{put_mid}
 use Rattle.pur_base.specs.Bytes.{bytes_at}
 use Rattle.boot_region.specs.declared.regions.TheConstants.{REGION_BYTES}
-use Rattle.boot_region.specs.Regions.{region_at, IsRead}
-use Rattle.pur_base.specs.Devices.{drive}
+use Rattle.boot_region.specs.Regions.{region_at, IsRead, AnswerCounts, CountsStay}
+use Rattle.pur_base.specs.Devices.{drive, nvram}
 use Rattle.world.specs.Counts.{Counts, Rises}
-use Rattle.world.specs.Shelf.{Disk, Shelved}
+use Rattle.world.specs.Shelf.{Disk, Shelved, ReadCounts}
+use Rattle.world.specs.declared.streams.Failed.{Failed}
 
 -- as long as it was
 put_length : (at k : ℕ) (xs ys : List ℕ) → at + k ≤ length xs → length ys ≡ k → length (put_mid at k xs ys) ≡ length xs
@@ -130,3 +131,27 @@ first_read old before now bytes answered i read disk = elim read [
   | inl is ↦ inl (is ∙ ap (λ (d : Disk). Some (bytes_at 0 REGION_BYTES d.bytes)) disk)
   | inr failed ↦ inr (failed.0, subst (λ (d : Disk). Rises d.faults (now.disk (drive i)).faults) disk failed.1)
 ]
+
+-- ---- counts
+
+-- the drive was read, and is asked for its answer
+pub counts_of : (answer : Result (Unit {0}) Failed) (answered : List Bool) (d : ℕ) (b : Bool) (old new : Disk) → d < length answered → b ≡ is_ok answer → ReadCounts answer old new
+    → AnswerCounts (slice_index_or (slice_set answered d b) d false) old new
+counts_of (Ok x) answered d b old new within is counts =
+    let answers : slice_index_or (slice_set answered d b) d false ≡ true = get_or-set_same answered d b false within ∙ is in
+    subst (λ (a : Bool). AnswerCounts a old new) (sym answers) (record { faults = counts.faults; write_faults = counts.write_faults })
+counts_of (Err x) answered d b old new within is counts =
+    let answers : slice_index_or (slice_set answered d b) d false ≡ false = get_or-set_same answered d b false within ∙ is in
+    subst (λ (a : Bool). AnswerCounts a old new) (sym answers) counts.faults
+
+-- the counts of a drive stay while others are read
+pub counts_stay : (was is : Bool) (old before now : Disk) → AnswerCounts was old before → is ≡ was → now ≡ before → AnswerCounts is old now
+counts_stay was is old before now counts same disk = subst (λ (a : Bool). AnswerCounts a old now) (sym same) (subst (λ (d : Disk). AnswerCounts was old d) (sym disk) counts)
+
+-- no call had touched it before
+pub first_counts : (is : Bool) (old before now : Disk) → AnswerCounts is before now → before ≡ old → AnswerCounts is old now
+first_counts is old before now counts disk = subst (λ (d : Disk). AnswerCounts is d now) disk counts
+
+-- an NVRAM device is no drive
+pub nvram_apart : (n i : ℕ) → nvram n ≢ drive i
+nvram_apart n i = λ e. absurd (cc e)

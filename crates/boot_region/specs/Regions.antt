@@ -1,5 +1,5 @@
 -- The boot units that were read of each drive, as a view of the drives.
-use Rattle.std.specs.Prelude.{◌≡◌, ◌⊎◌, ℕ, ◌*◌, ◌<◌, ◌≤◌, Bool, false, List, length, map, Option, Some, None, slice_index_or, option_and_then, if◌then◌else◌, bytes_eq}
+use Rattle.std.specs.Prelude.{◌≡◌, ◌⊎◌, ℕ, ◌*◌, ◌<◌, ◌≤◌, Bool, true, false, List, length, map, Option, Some, None, slice_index_or, option_and_then, if◌then◌else◌, bytes_eq}
 use Rattle.std.specs.List.{range_with_len}
 use Rattle.pur_base.specs.Bytes.{bytes_at}
 use Rattle.pur_base.specs.Devices.{Geometry, View, drive}
@@ -7,7 +7,7 @@ use Rattle.pur_base.specs.declared.device.Device.TheVariants.{Drive, Nv}
 use Rattle.boot_region.specs.declared.regions.TheConstants.{REGION_BYTES}
 use Rattle.boot_codec.specs.Region.{BootSlot, A, B, IsDecided, generation_in, body_in, shown_by, votes}
 use Rattle.world.specs.Counts.{Rises}
-use Rattle.world.specs.Shelf.{Shelved}
+use Rattle.world.specs.Shelf.{Shelved, Disk}
 
 -- what a drive showed, where it answered: the regions stand one behind another
 unfoldable pub region_at : List ℕ → List Bool → ℕ → Option (List ℕ)
@@ -43,6 +43,16 @@ IsNewerOf a b B body = (body ≡ b) × (generation_in a < generation_in b)
 abbrev pub IsRead : Shelved → Shelved → List ℕ → List Bool → ℕ → Type 0
 IsRead old new bytes answered i = (region_at bytes answered i ≡ Some (bytes_at 0 REGION_BYTES (old.disk (drive i)).bytes))
     ⊎ ((region_at bytes answered i ≡ None) × Rises (old.disk (drive i)).faults (new.disk (drive i)).faults)
+
+-- no call on the device failed, as its counts tell
+pub record CountsStay (old new : Disk) : Type 0 where
+  pub faults : new.faults ≡ old.faults
+  pub write_faults : new.write_faults ≡ old.write_faults
+
+-- a drive answered and no call on it failed, or its count of faults rose
+abbrev pub AnswerCounts : Bool → Disk → Disk → Type 0
+AnswerCounts true old new = CountsStay old new
+AnswerCounts false old new = Rises old.faults new.faults
 
 -- whether the body stands in the slot of a region, behind a gate in whatever state
 abbrev pub is_body_in : BootSlot → List ℕ → Option (List ℕ) → Bool

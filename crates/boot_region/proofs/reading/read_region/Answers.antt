@@ -1,12 +1,9 @@
-use Rattle.std.proofs.Common.{rules, ◌≡◌, ◌*◌, length, arith}
-use Rattle.boot_region.specs.declared.regions.TheConstants.{REGION_BYTES}
-use Rattle.pur_base.specs.Devices.{drive}
-use Rattle.boot_region.proofs.ReadingLemmas.{others_are_kept, is_read, lent_size}
+use Rattle.std.proofs.Common.{rules, ◌≡◌, ◌*◌, length, arith, get_or-set_other, false}
 use Rattle.world.proofs.Writes.{read_writes}
+use Rattle.pur_base.specs.Devices.{drive}
+use Rattle.boot_region.specs.declared.regions.TheConstants.{REGION_BYTES}
+use Rattle.boot_region.proofs.ReadingLemmas.{others_are_kept, is_read, lent_size, counts_of}
 use Rattle.boot_region.proofs.reading.read_region.Goals as goal
-
-pub returns-clause-writes : goal.returns-clause-writes
-returns-clause-writes g c h = read_writes _ (drive c.args.index) (g.met.S.Shelf.is_shelf c.args.shelf.now) c.read-answer.ensures.time c.read-answer.ensures.others (c.read-answer.ensures.device h)
 
 pub returns-clause-read : goal.returns-clause-read
 returns-clause-read g c honest =
@@ -23,3 +20,14 @@ returns-clause-kept g c i other =
     let part : length c.read-answer.new.into ≡ REGION_BYTES = search rules in
     others_are_kept c.args.regions.now.bytes.items c.deref_mut.result.now c.read-answer.new.into c.args.regions.now.answered.items _ _ _ c.args.index i c.is_ok.result
     c.deref_mut.ensures.value held (omega arith) (omega arith) (omega (arith, whole, c.requires.drive_in)) part other
+
+pub returns-clause-writes : goal.returns-clause-writes
+returns-clause-writes g c honest =
+    read_writes _ (drive c.args.index) (g.met.S.Shelf.is_shelf c.args.shelf.now) c.read-answer.ensures.time c.read-answer.ensures.others (c.read-answer.ensures.device honest)
+
+pub returns-clause-counts : goal.returns-clause-counts
+returns-clause-counts g c =
+    counts_of c.read-answer.result c.args.regions.now.answered.items c.args.index c.is_ok.result _ _ c.requires.drive_in c.is_ok.ensures.value c.read-answer.ensures.counts
+
+pub returns-clause-answers_kept : goal.returns-clause-answers_kept
+returns-clause-answers_kept g c i other = get_or-set_other c.args.regions.now.answered.items c.args.index i c.is_ok.result false other

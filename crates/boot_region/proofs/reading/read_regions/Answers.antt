@@ -1,10 +1,10 @@
-use Rattle.std.proofs.Common.{rules, ◌≡◌, length, arith, ◌∙◌, below_more}
-use Rattle.pur_base.specs.Devices.{drive}
+use Rattle.std.proofs.Common.{rules, ◌≡◌, ◌≢◌, ℕ, length, arith, ◌∙◌, below_more, slice_index_or, false, sym, subst}
+use Rattle.pur_base.specs.Devices.{drive, nvram}
 use Rattle.pur_base.proofs.Devices.{drives_apart}
 use Rattle.world.proofs.Moments.{continues_trans}
-use Rattle.world.proofs.Writes.{writes_then, nothing_written}
-use Rattle.boot_region.specs.Regions.{IsRead}
-use Rattle.boot_region.proofs.ReadingLemmas.{stays_read, first_read}
+use Rattle.world.proofs.Writes.{writes_then}
+use Rattle.boot_region.specs.Regions.{IsRead, AnswerCounts}
+use Rattle.boot_region.proofs.ReadingLemmas.{stays_read, first_read, counts_stay, first_counts, nvram_apart}
 use Rattle.boot_region.proofs.reading.read_regions.Goals as goal
 
 pub loop-drive-preserved : goal.loop-drive-preserved
@@ -28,6 +28,10 @@ loop-drive-preserved g c =
           (inv.passed h i lt) (x.ensures.kept i (omega (arith, lt))) (x.ensures.others (drive i) (drives_apart i slot (omega (arith, lt)))))
           (first_read a b n x.new.regions.bytes.items x.new.regions.answered.items slot (x.ensures.read (inv.continues.honest h)) (inv.ahead slot (omega arith)));
       writes = λ h. writes_then inv.continues (inv.writes h) (x.ensures.writes (inv.continues.honest h));
+      counts = below_more (λ i. AnswerCounts (slice_index_or x.new.regions.answered.items i false) (a.disk (drive i)) (n.disk (drive i))) slot
+          (λ i lt. counts_stay _ _ (a.disk (drive i)) (b.disk (drive i)) (n.disk (drive i)) (inv.counts i lt) (x.ensures.answers_kept i (omega (arith, lt))) (x.ensures.others (drive i) (drives_apart i slot (omega (arith, lt)))))
+          (first_counts _ (a.disk (drive slot)) (b.disk (drive slot)) (n.disk (drive slot)) x.ensures.counts (inv.ahead slot (omega arith)));
+      nvram = λ k. x.ensures.others (nvram k) (nvram_apart k slot) ∙ inv.nvram k;
       ahead = λ i le. x.ensures.others (drive i) (drives_apart i slot (omega (arith, le))) ∙ inv.ahead i (omega (arith, le));
     }
 
@@ -35,3 +39,8 @@ pub returns-clause-read : goal.returns-clause-read
 returns-clause-read g c h i lt =
     let drives : c.len-drive-end.result ≡ length c.args.regions.now.answered.items = search rules in
     c.loop-drive.invariant.passed h i (omega (arith, lt, drives, c.requires, c.loop-drive-test.false))
+
+pub returns-clause-counts : goal.returns-clause-counts
+returns-clause-counts g c i lt =
+    let drives : c.len-drive-end.result ≡ length c.args.regions.now.answered.items = search rules in
+    c.loop-drive.invariant.counts i (omega (arith, lt, drives, c.requires, c.loop-drive-test.false))
