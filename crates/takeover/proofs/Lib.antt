@@ -1,1 +1,5 @@
-mod Members
+mod Failing
+mod Generations
+mod Chains
+mod Applying
+mod LogSettling

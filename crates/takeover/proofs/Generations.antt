@@ -1,0 +1,86 @@
+-- While a record is shown by each drive that isn't missing, what else may be given is of a later generation.
+use Rattle.std.proofs.Common.{◌≡◌, ◌⊎◌, inl, inr, ℕ, ◌+◌, ◌^◌, ◌<◌, ◌≤◌, List, ◌++◌, length, take, drop, refl, sym, ◌∙◌, ap, subst, arith}
+use Rattle.std.specs.Prelude.{Option, Some}
+use Rattle.std.specs.Int.{w64, to_be_bytes, from_be_bytes}
+use Rattle.std.proofs.lemmas.Bool.{cases_lt}
+use Rattle.std.proofs.lemmas.Nat.{from_be_bytes-to_be_bytes_8}
+use Rattle.std.proofs.lemmas.List.{drop-append-le, take-append-le}
+use Rattle.std.proofs.Math.Seq.{drop-append_seam, take-append_seam, length-append}
+use Rattle.pur_base.specs.declared.limits.TheConstants.{SLOTS_MIN}
+use Rattle.pur_base.specs.Devices.{Geometry, Image, View, Conditions, Sound, drive}
+use Rattle.pur_base.specs.Plain.{Array}
+use Rattle.boot_codec.specs.declared.record.BootRecord.{BootRecord}
+use Rattle.boot_codec.specs.Record.{IsBootRecord}
+use Rattle.boot_codec.specs.Spelling.{spelling, opening_bytes, header_bytes, record_bytes}
+use Rattle.boot_codec.specs.Region.{BootSlot, A, B, IsRecordOf, IsDecided, votes, other_slot, shown_by, slot_of, generation_in, Yields}
+use Rattle.boot_codec.proofs.SpellingLemmas.{length-opening_bytes}
+use Rattle.array_spec.specs.Meaning.{IsInForce}
+use Rattle.array_spec.specs.Standing.{Stands, MayBeGiven, IsViewOf}
+use Rattle.array_spec.proofs.Settling.{this_or_other, twice_other}
+use Rattle.array_spec.proofs.Spelled.{spells_one}
+use Rattle.array_spec.proofs.Votes.{one_is_decided}
+use Rattle.boot_region.proofs.Composing.{all_decide}
+
+field_at : (n m : ℕ) (a b c d e : List ℕ) → n ≡ length a → m ≡ length b → take m (drop n (((a ++ b ++ c) ++ d) ++ e)) ≡ b
+field_at n m a b c d e la lb =
+    let abc : length (a ++ b ++ c) ≡ length a + length (b ++ c) = length-append a (b ++ c) in
+    let abcd : length ((a ++ b ++ c) ++ d) ≡ length (a ++ b ++ c) + length d = length-append (a ++ b ++ c) d in
+    let bc : length (b ++ c) ≡ length b + length c = length-append b c in
+    let bcd : length ((b ++ c) ++ d) ≡ length (b ++ c) + length d = length-append (b ++ c) d in
+    let one : drop n (((a ++ b ++ c) ++ d) ++ e) ≡ drop n ((a ++ b ++ c) ++ d) ++ e = drop-append-le n ((a ++ b ++ c) ++ d) e (omega (arith, abc, abcd, la)) in
+    let two : drop n ((a ++ b ++ c) ++ d) ≡ drop n (a ++ b ++ c) ++ d = drop-append-le n (a ++ b ++ c) d (omega (arith, abc, la)) in
+    let three : drop n (a ++ b ++ c) ≡ b ++ c = ap (λ (k : ℕ). drop k (a ++ b ++ c)) la ∙ drop-append_seam a (b ++ c) in
+    let all : drop n (((a ++ b ++ c) ++ d) ++ e) ≡ ((b ++ c) ++ d) ++ e = one ∙ ap (λ (x : List ℕ). x ++ e) (two ∙ ap (λ (x : List ℕ). x ++ d) three) in
+    ap (take m) all ∙ take-append-le m ((b ++ c) ++ d) e (omega (arith, bc, bcd, lb)) ∙ take-append-le m (b ++ c) d (omega (arith, bc, lb)) ∙ ap (λ (k : ℕ). take k (b ++ c)) lb ∙ take-append_seam b c
+
+generation_spelled : (r : BootRecord) → IsBootRecord r → generation_in (spelling r) ≡ r.generation
+unfolding header_bytes record_bytes
+generation_spelled r is =
+    let small : r.generation < 2 ^ 64 = omega (arith, is.generation.1) in
+    let len : length (to_be_bytes w64 r.generation) ≡ 8 = refl in
+    ap (from_be_bytes w64) (field_at 16 8 (opening_bytes r.slots r.units) (to_be_bytes w64 r.generation) _ _ _ (sym (length-opening_bytes r.slots r.units)) (sym len))
+    ∙ from_be_bytes-to_be_bytes_8 r.generation small
+
+yields_le : (slot : BootSlot) (a b : ℕ) → Yields slot a b → a ≤ b
+yields_le A a b h = h
+yields_le B a b h = omega (arith, h)
+
+slots_differ : (t : BootSlot) → t ≡ other_slot t → ⊥
+slots_differ A e = cc e
+slots_differ B e = cc e
+
+module _ (shelf : Geometry) (image : Image) (missing : Conditions) (arrays : List Array) (slot : BootSlot) (boot : BootRecord) (eleven : SLOTS_MIN ≤ shelf.slots)
+    (lawful : IsRecordOf shelf boot) (own : IsInForce slot boot) (shows : (i : ℕ) → i < shelf.slots → missing (drive i) ≡ Sound → shown_by slot (image (drive i)) ≡ Some (spelling boot))
+    (s : Stands shelf image missing arrays) (view : View) (v : IsViewOf shelf image missing missing view)
+    (slot2 : BootSlot) (boot2 : BootRecord) (g : MayBeGiven shelf image missing slot2 boot2) where
+  decided : IsDecided (votes shelf g.view slot) (spelling boot)
+  decided = all_decide shelf image missing g.more g.view slot (spelling boot) eleven shows g.appears
+
+  same : slot2 ≡ slot → boot2 ≡ boot
+  same e =
+      let mine : IsDecided (votes shelf g.view slot) (spelling boot2) = subst (λ (t : BootSlot). IsDecided (votes shelf g.view t) (spelling boot2)) e g.effective.decided in
+      spells_one shelf boot2 boot g.lawful lawful (one_is_decided (votes shelf g.view slot) (spelling boot2) (spelling boot) mine decided)
+
+  no_older : slot2 ≡ other_slot slot → boot.generation ≤ boot2.generation
+  no_older e =
+      let back : slot ≡ other_slot slot2 = sym (ap other_slot e ∙ twice_other slot) in
+      let yields : Yields slot2 (generation_in (spelling boot)) (generation_in (spelling boot2)) =
+      g.effective.highest (spelling boot) (subst (λ (t : BootSlot). IsDecided (votes shelf g.view t) (spelling boot)) back decided) in
+      let le : generation_in (spelling boot) ≤ generation_in (spelling boot2) = yields_le slot2 (generation_in (spelling boot)) (generation_in (spelling boot2)) yields in
+      subst (λ (a : ℕ). a ≤ boot2.generation) (generation_spelled boot lawful.lawful)
+      (subst (λ (b : ℕ). generation_in (spelling boot) ≤ b) (generation_spelled boot2 g.lawful.lawful) le)
+
+  -- of the same generation it would be in the same slot
+  apart : slot2 ≡ other_slot slot → boot2.generation ≡ boot.generation → ⊥
+  apart e eq =
+      let theirs : slot2 ≡ slot_of boot2.generation = ((s.reads slot2 boot2 g).each missing view v).in_force.in_its_slot in
+      slots_differ slot (own.in_its_slot ∙ ap slot_of (sym eq) ∙ sym theirs ∙ e)
+
+  pub this_or_later : ((slot2 ≡ slot) × (boot2 ≡ boot)) ⊎ (boot.generation < boot2.generation)
+  this_or_later = elim (this_or_other slot2 slot) [
+    | inl e ↦ inl (e, same e)
+    | inr e ↦ elim (cases_lt boot.generation boot2.generation) [
+      | inl lt ↦ inr lt
+      | inr ge ↦ absurd (apart e (omega (arith, ge, no_older e)))
+    ]
+  ]
