@@ -68,7 +68,7 @@ view_with_fewer {missing = missing} {more = more} {most = most} w v = record { w
 appears_with_fewer : {shelf : Geometry} {image : Image} {missing more most : Conditions} {view : View} → IsWithin missing more → MayAppear shelf image more most view → MayAppear shelf image missing most view
 appears_with_fewer {missing = missing} {more = more} {most = most} w v = record { within = within_twice missing more most w v.within; bearable = v.bearable; shown = v.shown }
 
-given_with_fewer : {shelf : Geometry} {image : Image} {missing more : Conditions} {slot : _} {boot : _} → IsWithin missing more → MayBeGiven shelf image more slot boot → MayBeGiven shelf image missing slot boot
+pub given_with_fewer : {shelf : Geometry} {image : Image} {missing more : Conditions} {slot : _} {boot : _} → IsWithin missing more → MayBeGiven shelf image more slot boot → MayBeGiven shelf image missing slot boot
 given_with_fewer w g = record { more = g.more; view = g.view; appears = appears_with_fewer w g.appears; lawful = g.lawful; effective = g.effective }
 
 pub more_may_go_missing : MoreMayGoMissing

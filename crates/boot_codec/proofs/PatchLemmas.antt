@@ -1,54 +1,152 @@
--- A patch that is read behind others.
-use Rattle.std.proofs.Common.{◌≡◌, ℕ, zero, suc, List, [], ◌∷◌, ◌++◌, length, get_or, Result, Ok, Err, OnOk, refl, ap, ◌∙◌, arith}
-use Rattle.std.proofs.Math.ListN.{set}
+-- Patches as parts of one list of segments, and a patch that is read behind others.
+use Rattle.std.proofs.Common.{◌≡◌, ℕ, zero, suc, ◌+◌, ◌-◌, ◌<◌, ◌≤◌, List, [], ◌∷◌, ◌++◌, length, get_or, take, drop, Result, Ok, Err, OnErr, refl, sym, ap, ◌∙◌, arith, length-append, length-drop}
+use Rattle.std.proofs.Math.Seq.{take-length, drop-append_seam, take-append_seam}
+use Rattle.std.proofs.lemmas.List.{take-append-drop, take-append-le, drop-append-le, length-take}
+use Rattle.boot_codec.specs.declared.bad_record.BadRecord.{BadRecord}
 use Rattle.boot_codec.specs.declared.bad_record.ReadError.{ReadError}
 use Rattle.boot_codec.specs.declared.bad_record.ReadError.TheVariants as errors
 use Rattle.boot_codec.specs.declared.patch.PatchSegment.{PatchSegment}
+use Rattle.boot_codec.specs.declared.patch.PatchHead.{PatchHead}
 use Rattle.boot_codec.specs.declared.patch.Patch.{Patch}
-use Rattle.boot_codec.specs.Reading.{Gives, last_of, tag_from, facts, segment_count, segments, patch}
+use Rattle.boot_codec.specs.Parts.{patch_of, patches_of, IsWithin, AreWithin, IsBehind}
+use Rattle.boot_codec.specs.Reading.{Fails, with_front, tag_from, facts, segment_count, segments, patch, patches}
+use Rattle.boot_codec.proofs.FieldLemmas.{ok_is}
+use Rattle.boot_codec.proofs.LoopLemmas.{patches_go_on}
 
-set_last : (ps : List Patch) (i : ℕ) (before p : Patch) → i ≡ length ps → set (ps ++ before ∷ []) i p ≡ ps ++ p ∷ []
-set_last [] zero before p e = refl
-set_last [] (suc i) before p e = absurd (omega arith)
-set_last (q ∷ ps) zero before p e = absurd (omega arith)
-set_last (q ∷ ps) (suc i) before p e = ap (λ (xs : List Patch). q ∷ xs) (set_last ps i before p (omega arith))
+-- ---- parts
 
-get_last : (ps : List Patch) (i : ℕ) (p d : Patch) → i ≡ length ps → get_or (ps ++ p ∷ []) i d ≡ p
-get_last [] zero p d e = refl
-get_last [] (suc i) p d e = absurd (omega arith)
-get_last (q ∷ ps) zero p d e = absurd (omega arith)
-get_last (q ∷ ps) (suc i) p d e = get_last ps i p d (omega arith)
+pub part_len : (all : List PatchSegment) (head : PatchHead) → IsWithin (length all) head → length (patch_of all head).segments ≡ head.end - head.start
+part_len all head h = omega (arith, h.ordered, h.within, length-take (head.end - head.start) (drop head.start all), length-drop head.start all)
 
-pub last_is : (ps : List Patch) (p : Patch) → last_of (ps ++ p ∷ []) ≡ p
-last_is [] p = refl
-last_is (q ∷ []) p = refl
-last_is (q ∷ r ∷ ps) p = last_is (r ∷ ps) p
+-- a part stays as it is where segments follow
+part_kept : (all more : List PatchSegment) (head : PatchHead) → IsWithin (length all) head → patch_of (all ++ more) head ≡ patch_of all head
+part_kept all more head h =
+    let start : head.start ≤ length all = omega (arith, h.ordered, h.within) in
+    let fits : head.end - head.start ≤ length (drop head.start all) = omega (arith, h.within, length-drop head.start all) in
+    let dropped : drop head.start (all ++ more) ≡ drop head.start all ++ more = drop-append-le head.start all more start in
+    let taken : take (head.end - head.start) (drop head.start all ++ more) ≡ take (head.end - head.start) (drop head.start all) = take-append-le (head.end - head.start) (drop head.start all) more fits in
+    ap (λ (part : List PatchSegment). record { tag = head.tag; facts = head.facts; segments = part }) (ap (take (head.end - head.start)) dropped ∙ taken)
 
--- the patch with these segments
-abbrev pub with_segments : Patch → List PatchSegment → Patch
-with_segments p more = record { tag = p.tag; facts = p.facts; segments = more }
+pub parts_kept : (all more : List PatchSegment) (heads : List PatchHead) → AreWithin (length all) heads → patches_of (all ++ more) heads ≡ patches_of all heads
+parts_kept all more [] h = refl
+parts_kept all more (head ∷ heads) h =
+    let first = part_kept all more head h.0 in
+    let others = parts_kept all more heads h.1 in
+    cc
 
--- the last patch, where its segments are read into it
-pub filled : (old pushed : List Patch) (i : ℕ) (blank lent : Patch) (more : List PatchSegment) → pushed ≡ old ++ blank ∷ [] → i ≡ length old → lent ≡ get_or pushed i lent
-    → set pushed i (with_segments lent more) ≡ old ++ with_segments blank more ∷ []
-filled old pushed i blank lent more e at is =
-    let same : lent ≡ blank = is ∙ ap (λ (ps : List Patch). get_or ps i lent) e ∙ get_last old i blank lent at in
-    rw (e, same) (set_last old i blank (with_segments blank more) at)
+-- the same, of segments that are seen from the new ones
+pub parts_kept_in : (old new : List PatchSegment) (heads : List PatchHead) → take (length old) new ≡ old → AreWithin (length old) heads → patches_of new heads ≡ patches_of old heads
+parts_kept_in old new heads kept h =
+    let whole : new ≡ old ++ drop (length old) new = sym (take-append-drop (length old) new) ∙ ap (λ (front : List PatchSegment). front ++ drop (length old) new) kept in
+    ap (λ (all : List PatchSegment). patches_of all heads) whole ∙ parts_kept old (drop (length old) new) heads h
 
--- the patch that was read last
-pub found_last : (old new : List Patch) (i : ℕ) (p found : Patch) → new ≡ old ++ p ∷ [] → i ≡ length old → found ≡ get_or new i found → found ≡ p
-found_last old new i p found e at is = is ∙ ap (λ (ps : List Patch). get_or ps i found) e ∙ get_last old i p found at
+-- what more segments have room for
+pub within_more : (count more : ℕ) (heads : List PatchHead) → count ≤ more → AreWithin count heads → AreWithin more heads
+within_more count more [] le h = tt
+within_more count more (head ∷ heads) le h = (record { ordered = h.0.ordered; within = omega (arith, h.0.within) }, within_more count more heads le h.1)
 
--- what reading the segments gives, reading the patch gives
-pub patch_given : {X : Type 0} (see : X → List ℕ) (result : Result X ReadError) (slots units least room : ℕ) (bytes one two three : List ℕ) (tag number count : ℕ) (more : List PatchSegment)
-    → tag_from least bytes ≡ Ok (tag, one) → facts one ≡ Ok (number, two) → segment_count number room two ≡ Ok (count, three) → Gives (λ x. (more, see x)) result (segments slots units count three)
-    → Gives (λ x. (record { tag = tag; facts = number; segments = more }, see x)) result (patch slots units least room bytes)
+pub within_push : (count : ℕ) (heads : List PatchHead) (head : PatchHead) → AreWithin count heads → IsWithin count head → AreWithin count (heads ++ head ∷ [])
+within_push count [] head h one = (one, tt)
+within_push count (first ∷ heads) head h one = (h.0, within_push count heads head h.1 one)
+
+pub within_at : (count : ℕ) (heads : List PatchHead) (i : ℕ) (d : PatchHead) → i < length heads → AreWithin count heads → IsWithin count (get_or heads i d)
+within_at count [] i d lt h = absurd (omega arith)
+within_at count (head ∷ heads) zero d lt h = h.0
+within_at count (head ∷ heads) (suc i) d lt h = within_at count heads i d (omega arith) h.1
+
+pub patches_push : (all : List PatchSegment) (heads : List PatchHead) (head : PatchHead) → patches_of all (heads ++ head ∷ []) ≡ patches_of all heads ++ patch_of all head ∷ []
+patches_push all [] head = refl
+patches_push all (first ∷ heads) head = ap (λ (ps : List Patch). patch_of all first ∷ ps) (patches_push all heads head)
+
+-- ---- a patch behind others
+
+-- the part of what was put behind the old segments
+pub part_behind : (old more : List PatchSegment) (start stop : ℕ) → start ≡ length old → stop ≡ length (old ++ more) → take (stop - start) (drop start (old ++ more)) ≡ more
+part_behind old more start stop e f =
+    let len : stop - start ≡ length more = omega (arith, length-append old more) in
+    ap (take (stop - start)) (ap (λ (n : ℕ). drop n (old ++ more)) e ∙ drop-append_seam old more) ∙ ap (λ (n : ℕ). take n more) len ∙ take-length more
+
+-- what a reading behind others gave
+pub split_front : {A : Type 0} (old : List A) (read : Result (List A × List ℕ) BadRecord) (new : List A) (rest : List ℕ) → with_front old read ≡ Ok (new, rest) → (more : List A) × (read ≡ Ok (more, rest)) × (new ≡ old ++ more)
+split_front old (Ok x) new rest e =
+    let same = ok_is (old ++ x.0, x.1) (new, rest) e in
+    let after : x.1 ≡ rest = ap (λ (y : _). y.1) same in
+    let items : old ++ x.0 ≡ new = ap (λ (y : _). y.0) same in
+    (x.0, ap (λ (r : List ℕ). Ok (x.0, r)) after, sym items)
+split_front old (Err d) new rest e = absurd cc
+
+-- a fault behind others is a fault
+pub fails_behind : {A : Type 0} (e : ReadError) (old : List A) (read : Result (List A × List ℕ) BadRecord) → Fails e (with_front old read) → Fails e read
+fails_behind (errors.Memory m) old read h = tt
+fails_behind (errors.Bad f) old (Ok x) h = absurd cc
+fails_behind (errors.Bad f) old (Err d) h = h
+
+-- what fails in the segments fails in the patch
+pub patch_fails : (e : ReadError) (slots units least room : ℕ) (bytes one two three : List ℕ) (tag number count : ℕ) → tag_from least bytes ≡ Ok (tag, one) → facts one ≡ Ok (number, two) → segment_count number room two ≡ Ok (count, three)
+    → Fails e (segments slots units count three) → Fails e (patch slots units least room bytes)
 unfolding patch
-patch_given see (Ok x) slots units least room bytes one two three tag number count more a b c d = rw (a, b, c, d) refl
-patch_given see (Err (errors.Bad e)) slots units least room bytes one two three tag number count more a b c d = rw (a, b, c, d) refl
-patch_given see (Err (errors.Memory m)) slots units least room bytes one two three tag number count more a b c d = tt
+patch_fails (errors.Memory m) slots units least room bytes one two three tag number count a b c d = tt
+patch_fails (errors.Bad f) slots units least room bytes one two three tag number count a b c d = rw (a, b, c, d) refl
 
--- what holds anyway holds after Ok
-pub on_ok : {X E P : Type 0} (result : Result X E) → P → OnOk result P
-on_ok (Ok x) p = p
-on_ok (Err e) p = tt
+-- the segments that were read behind others are those of the patch
+pub patch_read : (slots units least room : ℕ) (bytes one two three rest : List ℕ) (tag number count start stop : ℕ) (old new : List PatchSegment)
+    → tag_from least bytes ≡ Ok (tag, one) → facts one ≡ Ok (number, two) → segment_count number room two ≡ Ok (count, three)
+    → with_front old (segments slots units count three) ≡ Ok (new, rest) → start ≡ length old → stop ≡ length new
+    → patch slots units least room bytes ≡ Ok (record { tag = tag; facts = number; segments = take (stop - start) (drop start new) }, rest)
+unfolding patch
+patch_read slots units least room bytes one two three rest tag number count start stop old new a b c d at to =
+    let read = split_front old (segments slots units count three) new rest d in
+    let more = read.0 in
+    let stops : stop ≡ length (old ++ more) = to ∙ ap length read.2 in
+    let part : take (stop - start) (drop start new) ≡ more = ap (λ (all : List PatchSegment). take (stop - start) (drop start all)) read.2 ∙ part_behind old more start stop at stops in
+    rw (a, b, c, read.1) (ap (λ (ss : List PatchSegment). Ok (record { tag = tag; facts = number; segments = ss }, rest)) (sym part))
+
+-- where they stand
+pub behind : (head : PatchHead) (old new : List PatchSegment) (read : Result (List PatchSegment × List ℕ) BadRecord) (rest : List ℕ) → with_front old read ≡ Ok (new, rest) → head.start ≡ length old → head.end ≡ length new → IsBehind old new head
+behind head old new read rest e at to =
+    let more = split_front old read new rest e in
+    let len : length new ≡ length (old ++ more.0) = ap length more.2 in
+    record {
+      start = at;
+      within = record { ordered = omega (arith, at, to, len, length-append old more.0); within = omega (arith, to) };
+      kept = ap (take (length old)) more.2 ∙ take-append_seam old more.0;
+    }
+
+-- ---- a patch added at the end
+
+-- the head of what is added
+abbrev pub IsHeadOf : List PatchSegment → Patch → PatchHead → Type 0
+IsHeadOf all p head = (head.tag ≡ p.tag) × (head.facts ≡ p.facts) × (head.start ≡ length all) × (head.end ≡ length all + length p.segments)
+
+pub patch_pushed : (all : List PatchSegment) (heads : List PatchHead) (p : Patch) (head : PatchHead) → AreWithin (length all) heads → IsHeadOf all p head → patches_of (all ++ p.segments) (heads ++ head ∷ []) ≡ patches_of all heads ++ p ∷ []
+patch_pushed all heads p head h is =
+    let stop : head.end ≡ length (all ++ p.segments) = omega (arith, is.3, length-append all p.segments) in
+    let part : take (head.end - head.start) (drop head.start (all ++ p.segments)) ≡ p.segments = part_behind all p.segments head.start head.end is.2 stop in
+    let same : patch_of (all ++ p.segments) head ≡ p = rw (is.0, is.1, part) refl in
+    patches_push (all ++ p.segments) heads head ∙ ap (λ (ps : List Patch). ps ++ patch_of (all ++ p.segments) head ∷ []) (parts_kept all p.segments heads h) ∙ ap (λ (q : Patch). patches_of all heads ++ q ∷ []) same
+
+pub within_pushed : (all : List PatchSegment) (heads : List PatchHead) (p : Patch) (head : PatchHead) → AreWithin (length all) heads → IsHeadOf all p head → AreWithin (length (all ++ p.segments)) (heads ++ head ∷ [])
+within_pushed all heads p head h is =
+    let len : length (all ++ p.segments) ≡ length all + length p.segments = length-append all p.segments in
+    within_push (length (all ++ p.segments)) heads head (within_more (length all) (length (all ++ p.segments)) heads (omega arith) h) (record { ordered = omega (arith, is.2, is.3); within = omega (arith, is.3, len) })
+
+-- ---- one patch after the other
+
+-- one patch more, read behind the others
+pub patches_more : (slots units least room : ℕ) (old new : List PatchSegment) (heads : List PatchHead) (head : PatchHead) (count i : ℕ) (bytes after : List ℕ) (total : Result (List Patch × List ℕ) BadRecord)
+    → i < count → AreWithin (length old) heads → IsBehind old new head → patch slots units least room bytes ≡ Ok (patch_of new head, after) → with_front (patches_of old heads) (patches slots units least room (count - i) bytes) ≡ total
+    → AreWithin (length new) (heads ++ head ∷ []) × (with_front (patches_of new (heads ++ head ∷ [])) (patches slots units head.tag (room - (head.end - head.start)) (count - (i + 1)) after) ≡ total)
+patches_more slots units least room old new heads head count i bytes after total lt h is read so_far =
+    let longer : length old ≤ length new = omega (arith, is.start, is.within.ordered, is.within.within) in
+    let front : patches_of new (heads ++ head ∷ []) ≡ patches_of old heads ++ patch_of new head ∷ [] =
+    patches_push new heads head ∙ ap (λ (ps : List Patch). ps ++ patch_of new head ∷ []) (parts_kept_in old new heads is.kept h) in
+    let others : ℕ → Result (List Patch × List ℕ) BadRecord = λ n. patches slots units head.tag (room - n) (count - (i + 1)) after in
+    let more = patches_go_on slots units least room (patches_of old heads) count i bytes (patch_of new head) after total lt read so_far in (
+      within_push (length new) heads head (within_more (length old) (length new) heads longer h) is.within,
+      ap (λ (ps : List Patch). with_front ps (others (head.end - head.start))) front ∙ ap (λ (n : ℕ). with_front (patches_of old heads ++ patch_of new head ∷ []) (others n)) (sym (part_len new head is.within)) ∙ more,
+    )
+
+-- what holds anyway holds after Err
+pub on_err : {X E P : Type 0} (result : Result X E) → P → OnErr result P
+on_err (Ok x) p = tt
+on_err (Err e) p = p

@@ -1,4 +1,5 @@
 pub mod Gate
+pub mod Parts
 pub mod Record
 pub mod Spelling
 pub mod Writing

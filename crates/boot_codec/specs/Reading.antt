@@ -184,12 +184,6 @@ patch slots units least room = do
   segments ← segments slots units count
   give (record { tag = tag; facts = facts; segments = segments })
 
--- the last of some patches
-abbrev pub last_of : List Patch → Patch
-last_of [] = record { tag = 0; facts = 0; segments = [] }
-last_of (p ∷ []) = p
-last_of (p ∷ q ∷ ps) = last_of (q ∷ ps)
-
 -- so many patches by ascending tag, the first of them at least that one, with at most so many segments
 unfoldable pub patches : ℕ → ℕ → ℕ → ℕ → ℕ → Reading (List Patch)
 patches slots units least room zero = give []

@@ -1,13 +1,14 @@
-ghost use Rattle.std.specs.Prelude.{◌≡◌, ◌<◌, ◌≤◌, ◌+◌, ◌&&◌, nat_le, nat_lt, length, drop, [], ◌∷◌, ◌++◌, IfOk, OnOk, IsTrue, Ok};
-ghost use Rattle.boot_codec.specs.Reading.{Gives, with_front, last_of, place_from, places_from, segment, segments, tag_from, facts, segment_count, patch, patches, patch_count, frontier_count, lists};
+ghost use Rattle.std.specs.Prelude.{◌≡◌, ◌<◌, ◌≤◌, ◌+◌, ◌-◌, ◌&&◌, nat_le, nat_lt, length, drop, IfOk, OnOk, IsTrue, Ok};
+ghost use Rattle.boot_codec.specs.Parts.{IsBehind, patch_of};
+ghost use Rattle.boot_codec.specs.Reading.{Gives, with_front, place_from, places_from, segment, segments, tag_from, facts, segment_count, patch, patches, patch_count, frontier_count, lists};
 
 use crate::bad_record::ReadError;
 use crate::front::{fault_at, u8_at, u16_at, u32_at, u64_at};
 use crate::limits::{
-    FACTS_PER_SEGMENT, PATCH_SEGMENTS, PATCHES, PLACE_BYTES, PLACES_BYTES, RECORD_BYTES,
-    SEGMENT_BYTES, TAG_MAX,
+    FACTS_PER_SEGMENT, HEADER_BYTES, PATCH_SEGMENTS, PATCHES, PLACE_BYTES, PLACES_BYTES,
+    RECORD_BYTES, SEGMENT_BYTES, TAG_MAX,
 };
-use crate::patch::{Patch, PatchSegment, Patches, Segments};
+use crate::patch::{PatchHead, PatchSegment, Patches};
 use pur_base::{BOOT_UNITS, Place, Places, SEGMENT_SHARDS};
 use std::alloc::Global;
 
@@ -100,10 +101,10 @@ fn segments_in_turn<'a>(
     bytes: &'a [u8],
     slots: u8,
     units: u16,
-    into: &mut Segments,
+    into: &mut Vec<PatchSegment>,
 ) -> Result<&'a [u8], ReadError>
-    ensures gives { Gives (λ rest. (into.new, rest.now)) result (with_front into.old (segments slots units count bytes.now)) }
-    ensures count { OnOk result (length into.new ≡ length into.old + count) }
+    ensures gives { Gives (λ rest. (into.new.items, rest.now)) result (with_front into.old.items (segments slots units count bytes.now)) }
+    ensures count { OnOk result (length into.new.items ≡ length into.old.items + count) }
 {
     let mut rest = bytes;
     for _ in 0..count {
@@ -114,17 +115,16 @@ fn segments_in_turn<'a>(
     Ok(rest)
 }
 
-/// Reads so many segments. What it has read stays after a fault.
+/// Reads so many segments behind others. What it has read stays after a fault.
 fn segments<'a>(
     count: u16,
     bytes: &'a [u8],
     slots: u8,
     units: u16,
-    into: &mut Segments,
+    into: &mut Vec<PatchSegment>,
 ) -> Result<&'a [u8], ReadError>
-    requires { into.old ≡ [] }
-    ensures gives { Gives (λ rest. (into.new, rest.now)) result (segments slots units count bytes.now) }
-    ensures count { OnOk result (length into.new ≡ count) }
+    ensures gives { Gives (λ rest. (into.new.items, rest.now)) result (with_front into.old.items (segments slots units count bytes.now)) }
+    ensures count { OnOk result (length into.new.items ≡ length into.old.items + count) }
 {
     let mut rest = bytes;
     for i in 0..count {
@@ -178,56 +178,59 @@ fn segment_count(bytes: &[u8], facts: u32, room: u16) -> Result<(u16, &[u8]), Re
     }
 }
 
-/// Reads a patch of that tag or a greater one, with at most so many segments, behind the others. After a fault a part of it may stay.
+/// Reads a patch of that tag or a greater one, with at most so many segments, which it puts behind others. What it has read of them stays after a fault.
 #[tactic(auto, unfolding(crate::specs::Reading::patch))]
 fn patch<'a>(
-    alloc: Global,
     bytes: &'a [u8],
     slots: u8,
     units: u16,
     least: u8,
     room: u16,
-    into: &mut Vec<Patch>,
-) -> Result<&'a [u8], ReadError>
-    ensures gives { Gives (λ rest. (last_of into.new.items, rest.now)) result (patch slots units least room bytes.now) }
-    ensures behind { OnOk result (into.new.items ≡ into.old.items ++ last_of into.new.items ∷ []) }
-    ensures room { OnOk result (length (last_of into.new.items).segments ≤ room) }
+    into: &mut Vec<PatchSegment>,
+) -> Result<(PatchHead, &'a [u8]), ReadError>
+    ensures gives { Gives (λ x. (patch_of into.new.items x.0, x.1.now)) result (patch slots units least room bytes.now) }
+    ensures behind { IfOk result (λ x. IsBehind into.old.items into.new.items x.0) }
+    ensures room { IfOk result (λ x. x.0.end - x.0.start ≤ room) }
 {
     let (tag, rest) = tag_from(bytes, least)?;
     let (facts, rest) = facts(rest)?;
     let (count, rest) = segment_count(rest, facts, room)?;
-    let place = into.as_slice().len();
-    into.push(Patch {
+    let start = into.len();
+    let rest = segments(count, rest, slots, units, into)?;
+    let end = into.len();
+    let head = PatchHead {
         tag,
         facts,
-        segments: Segments::new(alloc),
-    })?;
-    let segments_of = &mut into[place].segments;
-    segments_of.reserve(count as usize)?;
-    segments(count, rest, slots, units, segments_of)
+        start,
+        end,
+    };
+    Ok((head, rest))
 }
 
-/// So many patches by ascending tag.
+/// So many patches by ascending tag. A good guess of how many segments they have spares an allocation.
 fn patches(
     alloc: Global,
     count: u16,
+    guess: usize,
     bytes: &[u8],
     slots: u8,
     units: u16,
 ) -> Result<(Patches, &[u8]), ReadError>
     ensures { Gives (λ x. (x.0, x.1.now)) result (patches slots units 1 PATCH_SEGMENTS count bytes.now) }
 {
-    let mut patches = Vec::with_capacity(alloc, count as usize)?;
+    let mut heads = Vec::with_capacity(alloc, count as usize)?;
+    let mut segments = Vec::with_capacity(alloc, guess)?;
     let mut rest = bytes;
     let mut least = 1;
     let mut room = PATCH_SEGMENTS;
-    for i in 0..count as usize {
-        rest = patch(alloc, rest, slots, units, least, room, &mut patches)?;
-        let next = &patches[i];
-        least = next.tag;
-        room -= next.segments.as_slice().len() as u16;
+    for _ in 0..count {
+        let (head, after) = patch(rest, slots, units, least, room, &mut segments)?;
+        heads.push(head)?;
+        rest = after;
+        least = head.tag;
+        room -= (head.end - head.start) as u16;
     }
-    Ok((Patches::from_vec(patches), rest))
+    Ok((Patches::from_parts(heads, segments), rest))
 }
 
 /// The number of patches.
@@ -269,7 +272,9 @@ pub fn lists(
     let (count, rest) = patch_count(bytes)?;
     let field = frontier_count(rest)?;
     let (len, rest) = u32_at(field);
-    let (patches, rest) = patches(alloc, count, rest, slots, units)?;
+    let listed = (len as usize).saturating_sub(HEADER_BYTES);
+    let guess = (listed / SEGMENT_BYTES).min(PATCH_SEGMENTS as usize);
+    let (patches, rest) = patches(alloc, count, guess, rest, slots, units)?;
     if len as usize == RECORD_BYTES.saturating_sub(rest.len()) {
         Ok((patches, rest))
     } else {

@@ -1,8 +1,8 @@
-ghost use Rattle.std.specs.Prelude.{◌≡◌, [], ◌∷◌, ◌++◌, OnOk, OnErr};
+ghost use Rattle.std.specs.Prelude.{◌≡◌, ◌<◌, [], ◌∷◌, ◌++◌, length, slice_index_or, OnOk, OnErr};
+ghost use Rattle.boot_codec.specs.Parts.{AreWithin, patches_of};
 
 use pur_base::{Place, Places, SEGMENT_SHARDS};
-use smallvec::SmallVec;
-use std::alloc::{AllocError, AllocFailed, Global};
+use std::alloc::{AllocError, Global};
 use std::marker::Model;
 
 /// A segment of a patch: its id, and the units that hold it by ascending slot.
@@ -27,78 +27,72 @@ impl Default for PatchSegment {
     }
 }
 
-/// How many segments of a patch need no allocation.
-const INLINE: usize = 5;
-
-/// The segments of a patch. The first few of them need no allocation. Contracts see the list of them.
+/// The segments of a patch, lent by what holds them. Contracts see the list of them.
 #[derive(Drop)]
-pub struct Segments {
-    items: SmallVec<PatchSegment, INLINE>,
+pub struct Segments<'a> {
+    items: &'a [PatchSegment],
 }
 
-impl Model for Segments {
+impl<'a> Model for Segments<'a> {
     ghost use Rattle.std.specs.Prelude.{List};
     ghost use Rattle.boot_codec.specs.declared.patch.PatchSegment.{PatchSegment};
 
     ghost Value = { List PatchSegment };
 
-    ghost view = { λ s. s.items.items };
+    ghost view = { λ s. s.items.now };
 }
 
-impl Segments {
-    /// No segments yet.
-    pub fn new(alloc: Global) -> Segments
-        ensures { result ≡ [] }
+impl<'a> Segments<'a> {
+    /// These segments.
+    pub fn new(items: &'a [PatchSegment]) -> Segments<'a>
+        ensures { result ≡ items.now }
     {
-        Segments {
-            items: SmallVec::new(alloc),
-        }
-    }
-
-    /// Makes room for so many more. It fails for want of memory only, and changes no segment.
-    pub(crate) fn reserve(&mut self, count: usize) -> Result<(), AllocError>
-        ensures { self.new ≡ self.old }
-    {
-        self.items.reserve_exact(count)
-    }
-
-    /// Adds a segment at the end. It fails for want of memory only, and changes nothing then.
-    pub fn push(&mut self, segment: PatchSegment) -> Result<(), AllocFailed<PatchSegment>>
-        ensures ok { OnOk result (self.new ≡ self.old ++ segment ∷ []) }
-        ensures err { OnErr result (self.new ≡ self.old) }
-    {
-        self.items.push(segment)
+        Segments { items }
     }
 
     /// The segments, in order.
-    pub fn as_slice(&self) -> &[PatchSegment]
+    pub fn as_slice(&self) -> &'a [PatchSegment]
         ensures { result.now ≡ self.now }
     {
-        self.items.as_slice()
+        self.items
     }
 }
 
 /// A patch of the index: the tag of its facts, 1 to 5, how many facts it has, and the segments that hold them.
 #[derive(Drop)]
-pub struct Patch {
+pub struct Patch<'a> {
     pub tag: u8,
     pub facts: u32,
-    pub segments: Segments,
+    pub segments: Segments<'a>,
+}
+
+/// A patch without its segments, and which part of all segments of the record they are.
+#[derive(Clone, Copy, Drop)]
+pub struct PatchHead {
+    pub tag: u8,
+    pub facts: u32,
+    pub start: usize,
+    pub end: usize,
 }
 
 /// The patches of a record, by tag, oldest first. Contracts see the list of them.
+/// One list holds the segments of all patches, so that no patch needs an allocation of its own.
 #[derive(Drop)]
 pub struct Patches {
-    items: Vec<Patch>,
+    heads: Vec<PatchHead>,
+    segments: Vec<PatchSegment>,
 }
 
 impl Model for Patches {
-    ghost use Rattle.std.specs.Prelude.{List};
+    ghost use Rattle.std.specs.Prelude.{List, length};
     ghost use Rattle.boot_codec.specs.declared.patch.Patch.{Patch};
+    ghost use Rattle.boot_codec.specs.Parts.{AreWithin, patches_of};
 
     ghost Value = { List Patch };
 
-    ghost view = { λ p. p.items.items };
+    ghost view = { λ p. patches_of p.segments.items p.heads.items };
+
+    ghost invariant = { λ p. AreWithin (length p.segments.items) p.heads.items };
 }
 
 impl Patches {
@@ -107,29 +101,53 @@ impl Patches {
         ensures { result ≡ [] }
     {
         Patches {
-            items: Vec::new(alloc),
+            heads: Vec::new(alloc),
+            segments: Vec::new(alloc),
         }
     }
 
-    /// These patches.
-    pub(crate) fn from_vec(items: Vec<Patch>) -> Patches
-        ensures { result ≡ items.items }
+    /// The patches of these heads, each with its part of the segments.
+    pub(crate) fn from_parts(heads: Vec<PatchHead>, segments: Vec<PatchSegment>) -> Patches
+        requires { AreWithin (length segments.items) heads.items }
+        ensures { result ≡ patches_of segments.items heads.items }
     {
-        Patches { items }
+        Patches { heads, segments }
     }
 
     /// Adds a patch at the end. It fails for want of memory only, and changes nothing then.
-    pub fn push(&mut self, patch: Patch) -> Result<(), AllocFailed<Patch>>
-        ensures ok { OnOk result (self.new ≡ self.old ++ patch ∷ []) }
+    pub fn push(&mut self, patch: &Patch<'_>) -> Result<(), AllocError>
+        ensures ok { OnOk result (self.new ≡ self.old ++ patch.now ∷ []) }
         ensures err { OnErr result (self.new ≡ self.old) }
     {
-        self.items.push(patch)
+        let start = self.segments.len();
+        self.segments.extend_from_slice(patch.segments.as_slice())?;
+        let end = self.segments.len();
+        self.heads.push(PatchHead {
+            tag: patch.tag,
+            facts: patch.facts,
+            start,
+            end,
+        })?;
+        Ok(())
     }
 
-    /// The patches, in order.
-    pub fn as_slice(&self) -> &[Patch]
-        ensures { result.now ≡ self.now }
+    /// How many patches there are.
+    pub fn len(&self) -> usize
+        ensures { result ≡ length self.now }
     {
-        self.items.as_slice()
+        self.heads.len()
+    }
+
+    /// The patch at an index.
+    pub fn at(&self, index: usize) -> Patch<'_>
+        requires { index < length self.now }
+        ensures { result ≡ slice_index_or self.now index result }
+    {
+        let head = &self.heads[index];
+        Patch {
+            tag: head.tag,
+            facts: head.facts,
+            segments: Segments::new(&self.segments[head.start..head.end]),
+        }
     }
 }

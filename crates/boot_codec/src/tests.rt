@@ -265,9 +265,9 @@ fn two_patches(rt: HostRuntime) -> Result<(), Fail> {
     let mut again = [9; RECORD_BYTES];
     write_record(&read, &mut again);
     assert!(rt; bytes[..] == again[..]);
-    let [first, second] = read.patches.as_slice() else {
-        return Err("two patches".into());
-    };
+    assert_eq!(rt; read.patches.len(), 2);
+    let first = read.patches.at(0);
+    let second = read.patches.at(1);
     assert_eq!(rt; (first.tag, first.facts), (1, 6720));
     assert_eq!(rt; (second.tag, second.facts), (5, 6721));
     let [only] = first.segments.as_slice() else {

@@ -7,7 +7,7 @@ ghost use Rattle.boot_codec.specs.Writing.{IsWritten};
 
 use crate::flags::mask_of;
 use crate::limits::{FORMAT, HEADER_BYTES, PATCH_SEGMENTS, PATCHES, RECORD_BYTES};
-use crate::patch::{Patch, PatchSegment};
+use crate::patch::{Patch, PatchSegment, Patches};
 use crate::put::{put, put_u8, put_u16, put_u32, put_u64};
 use crate::record::{BootRecord, Members, NextNumbers};
 use pur_base::Place;
@@ -69,7 +69,7 @@ fn put_header(into: &mut [u8], boot: &BootRecord, len: u32)
     let at = put_members(into, at, &boot.members);
     let at = put_next(into, at, &boot.next);
     let at = put_u64(into, at, boot.flushed);
-    put_counts(into, at, boot.patches.as_slice().len() as u16, len);
+    put_counts(into, at, boot.patches.len() as u16, len);
 }
 
 #[tactic(auto, using(crate::proofs::WritingLemmas::then_written), unfolding(crate::specs::Spelling::place_bytes))]
@@ -125,14 +125,14 @@ fn put_patch(into: &mut [u8], at: usize, patch: &Patch) -> usize
     put_segments(into, at, segments)
 }
 
-fn put_patches(into: &mut [u8], at: usize, patches: &[Patch]) -> usize
+fn put_patches(into: &mut [u8], at: usize, patches: &Patches) -> usize
     requires room { at + length (patches_bytes patches.now) ≤ length into.old }
     requires segments { patch_segments patches.now ≤ PATCH_SEGMENTS }
     ensures { IsWritten into.old into.new at result (patches_bytes patches.now) }
 {
     let mut end = at;
-    for patch in patches {
-        end = put_patch(into, end, patch);
+    for i in 0..patches.len() {
+        end = put_patch(into, end, &patches.at(i));
     }
     end
 }
@@ -152,7 +152,7 @@ pub fn write_record(boot: &BootRecord, into: &mut [u8])
     ensures { into.new ≡ spelling boot.now }
 {
     let (header, lists) = into.split_at_mut(HEADER_BYTES);
-    let end = put_patches(lists, 0, boot.patches.as_slice());
+    let end = put_patches(lists, 0, &boot.patches);
     pad(lists, end);
     put_header(header, boot, (HEADER_BYTES + end) as u32);
 }

@@ -94,7 +94,7 @@ module _ (old new : Shelved) (x : Loaded) (missing : Conditions) (shelf_old : Is
   unfolding region_at
   no_region i none = ap (λ (b : Bool). if b then Some (bytes_at (196608 * i) 196608 by.bytes) else None) none
 
-  drive_below : (i : ℕ) → IsMember x.drives i → i < old.drives
+  pub drive_below : (i : ℕ) → IsMember x.drives i → i < old.drives
   drive_below i member = elim (cases_lt i old.drives) [
     | inl lt ↦ lt
     | inr ge ↦ absurd (cc (ap (is_body_in slot body) (no_region i (get_or_past by.answered i false (omega (arith, ge, by.all)))), held_in i member))

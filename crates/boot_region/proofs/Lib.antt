@@ -10,4 +10,4 @@ pub mod ShownLemmas
 pub mod ReadingLemmas
 pub mod RegionLemmas
 pub mod Stored
-mod FoundLemmas
+pub mod FoundLemmas

@@ -1,5 +1,5 @@
 -- What is loaded is what the regions give.
-use Rattle.std.proofs.Common.{◌≡◌, ◌<◌, ◌&&◌, ℕ, Bool, false, List, length, slice_index_or, sym, ap, subst, ◌∙◌, IsErrAnd}
+use Rattle.std.proofs.Common.{◌≡◌, ◌<◌, ◌&&◌, ℕ, Bool, true, false, refl, List, length, slice_index_or, sym, ap, subst, ◌∙◌, IsErrAnd}
 use Rattle.std.specs.Prelude.{Result, Ok, Err, IfOk, IfErr}
 use Rattle.pur_base.specs.Devices.{Geometry}
 use Rattle.boot_codec.specs.declared.bad_record.ReadError.{ReadError}
@@ -7,14 +7,16 @@ use Rattle.boot_codec.specs.declared.bad_record.ReadError.TheVariants as errors
 use Rattle.boot_codec.specs.declared.record.BootRecord.{BootRecord}
 use Rattle.boot_codec.specs.Reading.{Fails, read_record}
 use Rattle.boot_codec.specs.Record.{IsBootRecord}
-use Rattle.boot_codec.specs.Region.{BootSlot, IsEffective}
+use Rattle.boot_codec.specs.Region.{BootSlot, IsRecordOf, IsEffective}
 use Rattle.boot_codec.specs.Spelling.{spelling}
 use Rattle.world.specs.Shelf.{Shelved}
 use Rattle.boot_region.specs.declared.loading.Loaded.{Loaded}
 use Rattle.boot_region.specs.declared.loading.LoadFault.{LoadFault}
 use Rattle.boot_region.specs.declared.loading.LoadFault.TheVariants as faults
+use Rattle.boot_region.specs.Members.{IsMember}
+use Rattle.boot_region.specs.Slots.{slot_in}
 use Rattle.boot_region.specs.Regions.{seen, is_holding, IsRead}
-use Rattle.boot_region.specs.Loading.{fault_of, IsHeld, IsGiven, IsFaultOf, IsAnswerOf, IsLoadOf}
+use Rattle.boot_region.specs.Loading.{fault_of, IsHeld, IsGiven, IsFaultOf, IsAnswerOf, IsLawfulLoad, IsLoadOf}
 use Rattle.world.specs.Losing.{geometry_of}
 
 -- a lawful record in force, and the drives that hold it
@@ -60,3 +62,15 @@ loaded_by old new bytes answered (Err (faults.Memory m)) all read answer = tt
 loaded_by old new bytes answered (Err faults.NoArray) all read answer = record { bytes = bytes; answered = answered; all = all; read = read; answer = answer }
 loaded_by old new bytes answered (Err (faults.BadRecord b)) all read answer = record { bytes = bytes; answered = answered; all = all; read = read; answer = answer }
 loaded_by old new bytes answered (Err (faults.TooFew t)) all read answer = record { bytes = bytes; answered = answered; all = all; read = read; answer = answer }
+
+-- what the regions give is lawful
+pub lawful_load : (shelf old : Geometry) (bytes : List ℕ) (answered : List Bool) (result : Result Loaded LoadFault) → old ≡ shelf → IsAnswerOf old bytes answered result → IfOk result (IsLawfulLoad shelf)
+lawful_load shelf old bytes answered (Ok x) same given = record {
+  lawful = subst (λ (g : Geometry). IsRecordOf g x.record) same given.held.lawful;
+  named = λ i m. first_true (slice_index_or x.record.members.drives i false) (is_holding bytes answered (slot_in x.slot) (spelling x.record) i) (sym (given.held.drives_are i) ∙ m);
+}
+  where
+    first_true : (a b : Bool) → (a && b) ≡ true → a ≡ true
+    first_true true b e = refl
+    first_true false b e = absurd (cc e)
+lawful_load shelf old bytes answered (Err e) same given = tt

@@ -92,22 +92,28 @@ module _ (members : List Bool) (shelf : Shelved) (stop : Stop) (slot : BootSlot)
   opens : OpensGatesOf (began members shelf (gate_place slot) SECTOR_BYTES stop).image stop.image missing slot (spelling boot)
   opens = record { others = λ i sound. same_others members shelf stop slot every i; opens = opens_on }
 
+  -- no other record may be given than at the start
+  pub no_more_given : (t : BootSlot) (b : BootRecord) → MayBeGiven (geometry_of shelf) stop.image missing t b → MayBeGiven (geometry_of shelf) (began members shelf (gate_place slot) SECTOR_BYTES stop).image missing t b
+  no_more_given t b g =
+      let start = began members shelf (gate_place slot) SECTOR_BYTES stop in
+      let may = may_begin members shelf (gate_place slot) SECTOR_BYTES stop every is h in
+      elim (opening_gives (geometry_of shelf) start.image stop.image missing missing slot t boot b (as_it_is missing) opens g) [
+        | inl same ↦ subst (λ (x : BootRecord). MayBeGiven (geometry_of shelf) start.image missing t x) (spells_one (geometry_of shelf) boot b loaded.lawful g.lawful same.1)
+            (subst (λ (x : BootSlot). MayBeGiven (geometry_of shelf) start.image missing x boot) (sym same.0) (loaded.given start may))
+        | inr before ↦ before
+      ]
+
+  pub settling_began : MayStop shelf (began members shelf (gate_place slot) SECTOR_BYTES stop)
+  settling_began = may_begin members shelf (gate_place slot) SECTOR_BYTES stop every is h
+
   -- at each moment of the settling the devices stand for the arrays
   pub stands_while_settling : Stands (geometry_of shelf) stop.image missing arrays
   stands_while_settling =
       let start = began members shelf (gate_place slot) SECTOR_BYTES stop in
-      let may = may_begin members shelf (gate_place slot) SECTOR_BYTES stop every is h in
-      let s = loaded.stands start may in
+      let s = loaded.stands start settling_began in
       boot_keeps (geometry_of shelf) start.image stop.image missing missing arrays (as_it_is missing) s.bearable (differs members shelf (gate_place slot) SECTOR_BYTES stop every (gates_low members shelf stop slot every))
       (opening_still_gives (geometry_of shelf) start.image stop.image missing missing slot boot (as_it_is missing) loaded.lawful opens s.gives)
-      (λ t b g. (
-        elim (opening_gives (geometry_of shelf) start.image stop.image missing missing slot t boot b (as_it_is missing) opens g) [
-          | inl same ↦ subst (λ (x : BootRecord). MayBeGiven (geometry_of shelf) start.image missing t x) (spells_one (geometry_of shelf) boot b loaded.lawful g.lawful same.1)
-              (subst (λ (x : BootSlot). MayBeGiven (geometry_of shelf) start.image missing x boot) (sym same.0) (loaded.given start may))
-          | inr before ↦ before
-        ],
-        λ i. same_bodies members shelf stop slot every t i,
-      ))
+      (λ t b g. (no_more_given t b g, λ i. same_bodies members shelf stop slot every t i))
       s
 
 -- ---- after the settling

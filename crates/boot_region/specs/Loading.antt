@@ -16,6 +16,7 @@ use Rattle.boot_region.specs.declared.loading.Loaded.{Loaded}
 use Rattle.boot_region.specs.declared.loading.LoadFault.{LoadFault}
 use Rattle.boot_region.specs.declared.loading.LoadFault.TheVariants as faults
 use Rattle.boot_region.specs.Regions.{seen, is_holding, GivesNone, IsRead}
+use Rattle.boot_region.specs.Members.{IsMember}
 use Rattle.boot_region.specs.Slots.{slot_in}
 use Rattle.boot_region.specs.Storing.{SoundAreMembers, AreClean, StandsNow, IsLoaded, IsFound}
 
@@ -38,6 +39,11 @@ pub record IsHeld (shelf : Geometry) (bytes : List ℕ) (answered : List Bool) (
 pub record IsGiven (shelf : Geometry) (bytes : List ℕ) (answered : List Bool) (x : Loaded) : Type 0 where
   pub held : IsHeld shelf bytes answered (slot_in x.slot) x.record x.drives
   pub enough : shelf.slots ≤ set_count x.drives + 2
+
+-- the record is one of the shelf's, and it names the drives that hold it
+pub record IsLawfulLoad (shelf : Geometry) (x : Loaded) : Type 0 where
+  pub lawful : IsRecordOf shelf x.record
+  pub named : (i : ℕ) → IsMember x.drives i → IsMember x.record.members.drives i
 
 -- a lawful record is in force, and more than two drives don't hold it
 pub record TooFewHold (shelf : Geometry) (bytes : List ℕ) (answered : List Bool) (drives : List Bool) : Type 0 where

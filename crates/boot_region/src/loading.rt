@@ -2,11 +2,12 @@
 ghost use Rattle.std.specs.Prelude.{◌≡◌, ◌<◌, ◌≤◌, ℕ, IfOk, IfErr, length};
 ghost use Rattle.pur_base.specs.Devices.{Geometry};
 ghost use Rattle.pur_base.specs.declared.device.Device.{Device};
+ghost use Rattle.world.specs.Losing.{geometry_of};
 ghost use Rattle.world.specs.Shelf.{Continues, IsSame};
 ghost use Rattle.world.specs.Writes.{WritesOnly};
 ghost use Rattle.boot_codec.specs.Record.{set_count};
 ghost use Rattle.boot_region.specs.declared.loading.LoadFault.TheVariants as faults;
-ghost use Rattle.boot_region.specs.Loading.{IsLoadOf, IsGiven, IsFaultOf, MayBeSettled, fault_of};
+ghost use Rattle.boot_region.specs.Loading.{IsLoadOf, IsGiven, IsFaultOf, IsLawfulLoad, MayBeSettled, fault_of};
 
 use crate::{Regions, Slot, read_regions};
 use boot_codec::{BadRecord, BootRecord, DRIVE_FLAGS, ReadError, read_record};
@@ -96,6 +97,8 @@ pub fn load<S: Shelf>(alloc: Global, shelf: &mut S) -> Result<Loaded, LoadFault>
     ensures writes { (S.shelf shelf.old).honest → WritesOnly (λ d i. ⊥) (S.shelf shelf.old) (S.shelf shelf.new) }
     ensures rest { S.shelf_rest shelf.old shelf.new }
     ensures loads { (S.shelf shelf.old).honest → IsLoadOf (S.shelf shelf.old) (S.shelf shelf.new) result }
+    // A record that was loaded is one of the shelf's, and names the drives that hold it.
+    ensures lawful { IfOk result (IsLawfulLoad (geometry_of (S.shelf shelf.new))) }
     // What was loaded may be settled.
     ensures found { (S.shelf shelf.old).honest → IfOk result (λ x. MayBeSettled (S.shelf shelf.new) x) }
 {

@@ -35,13 +35,13 @@ pub replayed_stands : (view : View) (flushed : ℕ) (commands : List Command) (c
     → (length commands < 64 → (n : ℕ) (c : Command) → n < 2 → ¬ (Shows view n flushed (length commands) c))
     → count ≤ length commands → LogStands view flushed [] (take count commands)
 replayed_stands view flushed commands count b replayed size placed ends le =
-    log_from view flushed 0 [] (take count commands) (λ k c at. placed k c (of_front count commands k c at size)) replayed.accepted last
+    log_from view flushed 0 [] (take count commands) (λ k c at. let e : k ≡ 0 + k = omega arith in subst (λ (n : ℕ). IsInSlot view flushed n c) e (placed k c (of_front count commands k c at size))) replayed.accepted last
   where
     refused_there : (c : Command) → IsInSlot view flushed count c → ¬ (Accepts (after_all [] (take count commands)) c)
-    refused_there c s yes = elim (slice_get_cases commands count).1 [
+    refused_there c s fine = elim (slice_get_cases commands count).1 [
       | inl some ↦
           let same : c ≡ some.0 = one_in_slot view flushed count c some.0 s (placed count some.0 some.2) in
-          replayed.refused some.0 some.2 (subst (λ (x : Array). Accepts x some.0) (sym replayed.array) (subst (λ (d : Command). Accepts (after_all [] (take count commands)) d) same yes))
+          replayed.refused some.0 some.2 (subst (λ (x : Array). Accepts x some.0) (sym replayed.array) (subst (λ (d : Command). Accepts (after_all [] (take count commands)) d) same fine))
       | inr past ↦
           let at_end : count ≡ length commands = omega (arith, past.0, le) in
           let it = shower view flushed count c s in

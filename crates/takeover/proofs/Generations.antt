@@ -1,11 +1,12 @@
 -- While a record is shown by each drive that isn't missing, what else may be given is of a later generation.
-use Rattle.std.proofs.Common.{◌≡◌, ◌⊎◌, inl, inr, ℕ, ◌+◌, ◌^◌, ◌<◌, ◌≤◌, List, ◌++◌, length, take, drop, refl, sym, ◌∙◌, ap, subst, arith}
+use Rattle.std.proofs.Common.{◌≡◌, ◌⊎◌, inl, inr, ℕ, ◌+◌, ◌-◌, ◌^◌, ◌<◌, ◌≤◌, List, ◌++◌, length, take, drop, refl, sym, ◌∙◌, ap, subst, arith}
 use Rattle.std.specs.Prelude.{Option, Some}
 use Rattle.std.specs.Int.{w64, to_be_bytes, from_be_bytes}
 use Rattle.std.proofs.lemmas.Bool.{cases_lt}
 use Rattle.std.proofs.lemmas.Nat.{from_be_bytes-to_be_bytes_8}
-use Rattle.std.proofs.lemmas.List.{drop-append-le, take-append-le}
-use Rattle.std.proofs.Math.Seq.{drop-append_seam, take-append_seam, length-append}
+use Rattle.std.proofs.lemmas.List.{drop-append-le, take-append-le, length-append, length-drop, take_all}
+use Rattle.std.proofs.Math.Seq.{drop-append_seam}
+use Rattle.pur_base.specs.Bytes.{bytes_at}
 use Rattle.pur_base.specs.declared.limits.TheConstants.{SLOTS_MIN}
 use Rattle.pur_base.specs.Devices.{Geometry, Image, View, Conditions, Sound, drive}
 use Rattle.pur_base.specs.Plain.{Array}
@@ -21,25 +22,32 @@ use Rattle.array_spec.proofs.Spelled.{spells_one}
 use Rattle.array_spec.proofs.Votes.{one_is_decided}
 use Rattle.boot_region.proofs.Composing.{all_decide}
 
-field_at : (n m : ℕ) (a b c d e : List ℕ) → n ≡ length a → m ≡ length b → take m (drop n (((a ++ b ++ c) ++ d) ++ e)) ≡ b
-field_at n m a b c d e la lb =
-    let abc : length (a ++ b ++ c) ≡ length a + length (b ++ c) = length-append a (b ++ c) in
-    let abcd : length ((a ++ b ++ c) ++ d) ≡ length (a ++ b ++ c) + length d = length-append (a ++ b ++ c) d in
-    let bc : length (b ++ c) ≡ length b + length c = length-append b c in
-    let bcd : length ((b ++ c) ++ d) ≡ length (b ++ c) + length d = length-append (b ++ c) d in
-    let one : drop n (((a ++ b ++ c) ++ d) ++ e) ≡ drop n ((a ++ b ++ c) ++ d) ++ e = drop-append-le n ((a ++ b ++ c) ++ d) e (omega (arith, abc, abcd, la)) in
-    let two : drop n ((a ++ b ++ c) ++ d) ≡ drop n (a ++ b ++ c) ++ d = drop-append-le n (a ++ b ++ c) d (omega (arith, abc, la)) in
-    let three : drop n (a ++ b ++ c) ≡ b ++ c = ap (λ (k : ℕ). drop k (a ++ b ++ c)) la ∙ drop-append_seam a (b ++ c) in
-    let all : drop n (((a ++ b ++ c) ++ d) ++ e) ≡ ((b ++ c) ++ d) ++ e = one ∙ ap (λ (x : List ℕ). x ++ e) (two ∙ ap (λ (x : List ℕ). x ++ d) three) in
-    ap (take m) all ∙ take-append-le m ((b ++ c) ++ d) e (omega (arith, bc, bcd, lb)) ∙ take-append-le m (b ++ c) d (omega (arith, bc, lb)) ∙ ap (λ (k : ℕ). take k (b ++ c)) lb ∙ take-append_seam b c
+-- the text shows these bytes in that place
+abbrev StandsAt : ℕ → List ℕ → List ℕ → Type 0
+StandsAt at part bytes = (at + length part ≤ length bytes) × (take (length part) (drop at bytes) ≡ part)
+
+at_seam : (a b : List ℕ) → StandsAt (length a) b (a ++ b)
+at_seam a b =
+    let both : length (a ++ b) ≡ length a + length b = length-append a b in
+    (omega (arith, both), ap (take (length b)) (drop-append_seam a b) ∙ take_all (length b) b (omega arith))
+
+then_more : (at : ℕ) (part bytes more : List ℕ) → StandsAt at part bytes → StandsAt at part (bytes ++ more)
+then_more at part bytes more h =
+    let both : length (bytes ++ more) ≡ length bytes + length more = length-append bytes more in
+    let left : length (drop at bytes) ≡ length bytes - at = length-drop at bytes in (
+      omega (arith, both, h.0),
+      ap (take (length part)) (drop-append-le at bytes more (omega (arith, h.0))) ∙ take-append-le (length part) (drop at bytes) more (omega (arith, left, h.0)) ∙ h.1,
+    )
 
 generation_spelled : (r : BootRecord) → IsBootRecord r → generation_in (spelling r) ≡ r.generation
 unfolding header_bytes record_bytes
 generation_spelled r is =
     let small : r.generation < 2 ^ 64 = omega (arith, is.generation.1) in
-    let len : length (to_be_bytes w64 r.generation) ≡ 8 = refl in
-    ap (from_be_bytes w64) (field_at 16 8 (opening_bytes r.slots r.units) (to_be_bytes w64 r.generation) _ _ _ (sym (length-opening_bytes r.slots r.units)) (sym len))
-    ∙ from_be_bytes-to_be_bytes_8 r.generation small
+    let stands : StandsAt (length (opening_bytes r.slots r.units)) (to_be_bytes w64 r.generation) (spelling r) =
+    then_more _ _ _ _ (then_more _ _ _ _ (then_more _ _ _ _ (then_more _ _ _ _ (then_more _ _ _ _ (then_more _ _ _ _ (at_seam (opening_bytes r.slots r.units) (to_be_bytes w64 r.generation))))))) in
+    let place : bytes_at 16 8 (spelling r) ≡ to_be_bytes w64 r.generation =
+    subst (λ (n : ℕ). take 8 (drop n (spelling r)) ≡ to_be_bytes w64 r.generation) (length-opening_bytes r.slots r.units) stands.1 in
+    ap (from_be_bytes w64) place ∙ from_be_bytes-to_be_bytes_8 r.generation small
 
 yields_le : (slot : BootSlot) (a b : ℕ) → Yields slot a b → a ≤ b
 yields_le A a b h = h

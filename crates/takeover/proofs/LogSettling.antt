@@ -22,7 +22,6 @@ use Rattle.array_spec.proofs.OneLog.{one_log}
 use Rattle.array_spec.proofs.Settling.{twice_other}
 use Rattle.array_spec.proofs.Standings.{more_may_go_missing, within_twice}
 use Rattle.array_spec.proofs.UnflushedRead.{kept_some, unflushed_holds_nothing}
-use Rattle.array_spec.proofs.Votes.{counted}
 use Rattle.world.specs.Losing.{geometry_of, has_risen, missing_if}
 use Rattle.world.specs.Shelf.{Shelved, Stop, Disk, IsShelf, Continues, MayStop, MayLeave}
 use Rattle.world.specs.Writes.{MayLeaveBut, LeavesBut, WritesOnly}
@@ -46,7 +45,7 @@ use Rattle.takeover.proofs.Generations.{this_or_later}
 -- ---- conditions
 
 -- a count that stays, and isn't at its end, hasn't risen
-not_risen : (a b : ℕ) → b ≡ a → a < 2 ^ 64 - 1 → has_risen a b ≡ false
+pub not_risen : (a b : ℕ) → b ≡ a → a < 2 ^ 64 - 1 → has_risen a b ≡ false
 not_risen a b same low = elim (cases_Bool (has_risen a b)) [
   | inr not ↦ not
   | inl rose ↦ elim (or_cases (nat_lt a b) (nat_le (2 ^ 64 - 1) a) rose) [
@@ -55,36 +54,10 @@ not_risen a b same low = elim (cases_Bool (has_risen a b)) [
   ]
 ]
 
-stays : (c : Condition) (b : Bool) → (c ≡ Sound → b ≡ false) → missing_if b c ≡ c
+pub stays : (c : Condition) (b : Bool) → (c ≡ Sound → b ≡ false) → missing_if b c ≡ c
 stays Sound b h = ap (λ (x : Bool). if x then Missing else Sound) (h refl)
 stays Missing b h = refl
 stays LeftOut b h = refl
-
-one_le : (a b : Bool) → (a ≡ true → b ≡ true) → cond a 1 0 ≤ cond b 1 0
-one_le true true h = omega arith
-one_le true false h = absurd (cc (h refl))
-one_le false b h = omega arith
-
-count_le : (p q : ℕ → Bool) (xs : List ℕ) → ((i : ℕ) → p i ≡ true → q i ≡ true) → count_by p xs ≤ count_by q xs
-count_le p q [] all = omega arith
-count_le p q (x ∷ xs) all =
-    let rest : count_by p xs ≤ count_by q xs = count_le p q xs all in
-    let one : cond (p x) 1 0 ≤ cond (q x) 1 0 = one_le (p x) (q x) (all x) in
-    omega (arith, rest, one, counted p x xs, counted q x xs)
-
-still_missing : (a b : Condition) → MayBecome a b → is_missing a ≡ true → is_missing b ≡ true
-still_missing Sound b h m = absurd (cc m)
-still_missing Missing b h m = ap is_missing h
-still_missing LeftOut b h m = ap is_missing h
-
--- where more is borne, fewer are
-pub bearable_before : (shelf : Geometry) (fewer more : Conditions) → IsWithin fewer more → IsBearable shelf more → IsBearable shelf fewer
-bearable_before shelf fewer more within b =
-    let d : missing_drives shelf fewer ≤ missing_drives shelf more =
-    count_le (λ i. is_missing (fewer (drive i))) (λ i. is_missing (more (drive i))) (slots_of shelf) (λ i m. still_missing (fewer (drive i)) (more (drive i)) (within (drive i)) m) in
-    let n : missing_nvrams fewer ≤ missing_nvrams more =
-    count_le (λ i. is_missing (fewer (nvram i))) (λ i. is_missing (more (nvram i))) nvrams (λ i m. still_missing (fewer (nvram i)) (more (nvram i)) (within (nvram i)) m) in
-    record { drives = omega (arith, d, b.drives); nvrams = omega (arith, n, b.nvrams) }
 
 pub bearable_or_not : (shelf : Geometry) (c : Conditions) → IsBearable shelf c ⊎ (IsBearable shelf c → ⊥)
 bearable_or_not shelf c = elim (cases_lt 2 (missing_drives shelf c)) [
@@ -124,7 +97,7 @@ same_if false p q h = refl
 
 is_named : (b : Bool) (o : Option (List ℕ)) → IsSome (if b then o else None) → b ≡ true
 is_named true o some = refl
-is_named false o some = absurd some
+is_named false o some = cc
 
 pub nothing_else : {W : ℕ → Type 0} {disk : Disk} {bytes : List ℕ} → ((i : ℕ) → W i → ⊥) → MayLeaveBut W disk bytes → MayLeave disk bytes
 nothing_else none h = record { size = h.size; is_byte = h.is_byte; clean = λ i out. h.same i out (none i) }
@@ -132,6 +105,36 @@ nothing_else none h = record { size = h.size; is_byte = h.is_byte; clean = λ i 
 one_leaves : (b : Bool) (disk : Disk) (bytes : List ℕ) → ((i : ℕ) → slice_index disk.bytes i < 256) → (b ≡ false → MayLeave disk bytes) → MayLeave disk (if b then disk.bytes else bytes)
 one_leaves true disk bytes are h = record { size = refl; is_byte = are; clean = λ i out. refl }
 one_leaves false disk bytes are h = h refl
+
+-- ---- what may be given
+
+-- where the drives and what is known of them are the same, so is what may be given
+module _ (shelf : Geometry) (old new : Image) (missing later : Conditions) (slot : BootSlot) (boot : BootRecord) (same : (i : ℕ) → new (drive i) ≡ old (drive i))
+    (alike : (i : ℕ) → later (drive i) ≡ missing (drive i)) (bears : IsBearable shelf later) (g : MayBeGiven shelf old missing slot boot) where
+  abbrev more_missing : Conditions
+  more_missing (Drive d) = g.more (Drive d)
+  more_missing (Nv n) = later (Nv n)
+
+  abbrev view_then : View
+  view_then (Drive d) = g.view (Drive d)
+  view_then (Nv n) = Some (new (Nv n))
+
+  all_within : IsWithin later more_missing
+  all_within (Drive d) = subst (λ (c : Condition). MayBecome c (g.more (Drive d))) (sym (alike d.0)) (g.appears.within (Drive d))
+  all_within (Nv n) = as_it_is later (Nv n)
+
+  all_shown : (d : Device) → more_missing d ≡ Sound → view_then d ≡ Some (new d)
+  all_shown (Drive d) s = g.appears.shown (Drive d) s ∙ ap (λ (l : List ℕ). Some l) (sym (same d.0))
+  all_shown (Nv n) s = refl
+
+  pub given_moves : MayBeGiven shelf new later slot boot
+  given_moves = record {
+    more = more_missing;
+    view = view_then;
+    appears = record { within = all_within; bearable = record { drives = g.appears.bearable.drives; nvrams = bears.nvrams }; shown = all_shown };
+    lawful = g.lawful;
+    effective = record { decided = g.effective.decided; highest = g.effective.highest };
+  }
 
 -- ---- the log was read, and nothing written
 
@@ -200,30 +203,8 @@ module _ (old mid : Shelved) (x : Loaded) (missing : Conditions) (arrays : List 
     given_then : MayBeGiven shelf image missing slot boot
     given_then = subst (λ (t : BootSlot). MayBeGiven shelf image missing t boot) (twice_other slot) (found.in_force.given start may)
 
-    abbrev more_missing : Conditions
-    more_missing (Drive d) = given_then.more (Drive d)
-    more_missing (Nv n) = now (Nv n)
-
-    abbrev given_view : View
-    given_view (Drive d) = given_then.view (Drive d)
-    given_view (Nv n) = Some (image (Nv n))
-
-    all_within : IsWithin now more_missing
-    all_within (Drive d) = subst (λ (c : Condition). MayBecome c (given_then.more (Drive d))) (sym (same_drive d.0)) (given_then.appears.within (Drive d))
-    all_within (Nv n) = as_it_is now (Nv n)
-
-    all_shown : (d : Device) → more_missing d ≡ Sound → given_view d ≡ Some (image d)
-    all_shown (Drive d) s = given_then.appears.shown (Drive d) s
-    all_shown (Nv n) s = refl
-
     pub given : MayBeGiven shelf image now slot boot
-    given = record {
-      more = more_missing;
-      view = given_view;
-      appears = record { within = all_within; bearable = record { drives = given_then.appears.bearable.drives; nvrams = bears.nvrams }; shown = all_shown };
-      lawful = given_then.lawful;
-      effective = record { decided = given_then.effective.decided; highest = given_then.effective.highest };
-    }
+    given = given_moves shelf image image missing now slot boot (λ i. refl) same_drive bears given_then
 
     shows : (i : ℕ) → i < old.drives → now (drive i) ≡ Sound → shown_by slot (image (drive i)) ≡ Some (spelling boot)
     shows i lt sound =
@@ -372,6 +353,7 @@ module _ (old mid : Shelved) (x : Loaded) (missing : Conditions) (arrays : List 
     }
 
     pub stands_settling : Stands shelf stop.image later arrays
+    unfolding may_settle given
     stands_settling =
         settling_keeps shelf was_there stop.image now later members slot boot settled arrays within bears_later (stands was_there were_left) (may_settle was_there were_left)
         (log_stands was_there were_left commands count b le replayed placed ends) settles_log

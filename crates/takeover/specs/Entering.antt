@@ -1,10 +1,12 @@
 -- What is known of the devices when an array is opened, and what a stop meanwhile leaves of them.
-use Rattle.std.specs.Prelude.{◌≡◌, List, []}
+use Rattle.std.specs.Prelude.{◌≡◌, ◌-◌, ◌<◌, ◌^◌, List, []}
 use Rattle.pur_base.specs.declared.device.Device.{Device}
 use Rattle.pur_base.specs.Devices.{Conditions, Sound, LeftOut, IsBearable}
 use Rattle.pur_base.specs.Plain.{Array}
+use Rattle.boot_codec.specs.declared.record.BootRecord.{BootRecord}
+use Rattle.boot_codec.specs.Region.{BootSlot}
 use Rattle.array_spec.specs.Laws.{IsNamedByNone}
-use Rattle.array_spec.specs.Standing.{Stands}
+use Rattle.array_spec.specs.Standing.{Stands, MayBeGiven}
 use Rattle.world.specs.Losing.{geometry_of, has_risen, losing}
 use Rattle.world.specs.Shelf.{Shelved, Stop, MayStop}
 use Rattle.boot_region.specs.Storing.{StandsNow}
@@ -22,6 +24,8 @@ pub record Enters (shelf : Shelved) (missing : Conditions) (arrays : List Array)
   pub stands : StandsNow shelf missing arrays
   pub clean : (d : Device) → missing d ≡ Sound → (shelf.disk d).dirty ≡ []
   pub left_out : (start : Stop) → MayStop shelf start → (d : Device) → missing d ≡ LeftOut → IsNamedByNone (geometry_of shelf) start.image missing d
+  -- room for generations
+  pub room : (start : Stop) → MayStop shelf start → (slot : BootSlot) (boot : BootRecord) → MayBeGiven (geometry_of shelf) start.image missing slot boot → boot.generation < 2 ^ 48 - 16
 
 -- at a stop the devices still stand for them, as long as what has failed by then is borne
 abbrev pub StandsStill : Shelved → Conditions → List Array → Stop → Type 0

@@ -24,6 +24,7 @@ pub record IsFoundOn (shelf : Shelved) (x : Loaded) (missing : Conditions) (arra
   pub named : (i : ℕ) → IsMember x.drives i → names x.record (drive i) ≡ true
   pub bodies : (i : ℕ) → IsMember x.drives i → body_in (slot_in x.slot) (shelf.disk (drive i)).bytes ≡ spelling x.record
   pub unflushed : x.record.patches ≡ []
+  pub room : x.record.generation < 2 ^ 48 - 16
   pub stands : StandsNow shelf missing arrays
   -- of a device that isn't missing the count of faults goes on
   pub counted : (d : Device) → missing d ≡ Sound → (shelf.disk d).faults < 2 ^ 64 - 1

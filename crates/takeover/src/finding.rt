@@ -1,5 +1,5 @@
 // The boot record is found and settled.
-ghost use Rattle.std.specs.Prelude.{◌≡◌, ◌⊎◌, ◌<◌, ℕ, List, [], length, OnOk};
+ghost use Rattle.std.specs.Prelude.{◌≡◌, ◌⊎◌, ◌<◌, ◌≤◌, ℕ, List, IfOk};
 ghost use Rattle.pur_base.specs.Devices.{Conditions, IsBearable, drive};
 ghost use Rattle.pur_base.specs.Plain.{Array};
 ghost use Rattle.boot_codec.specs.Record.{set_count};
@@ -9,6 +9,7 @@ ghost use Rattle.world.specs.Counts.{Rises};
 ghost use Rattle.world.specs.Losing.{geometry_of};
 ghost use Rattle.world.specs.Shelf.{Continues, LeavesOnly};
 ghost use Rattle.world.specs.Writes.{WritesOnly};
+ghost use Rattle.boot_region.specs.Loading.{IsLawfulLoad};
 ghost use Rattle.boot_region.specs.Members.{IsMember, OnClosed};
 ghost use Rattle.boot_region.specs.Slots.{slot_in};
 ghost use Rattle.boot_region.specs.Storing.{IsFound, IsInForceOn, IsLoaded, TellsFailed};
@@ -49,6 +50,7 @@ fn settle_loaded<S: Shelf>(shelf: &mut S, loaded: &mut Loaded)
     ensures settled { (S.shelf shelf.old).honest → (missing : Conditions) (arrays : List Array)
         → IsLoaded (S.shelf shelf.old) loaded.old.drives missing (slot_in loaded.old.slot) loaded.old.record arrays
         → IsFound (S.shelf shelf.old) loaded.old.drives missing (slot_in loaded.old.slot) loaded.old.record
+        → ((i : ℕ) → IsMember loaded.new.drives i → i < (S.shelf shelf.old).drives)
         → (later : Conditions) → TellsFailed (S.shelf shelf.old) loaded.old.drives missing (λ d. ((S.shelf shelf.new).disk d).faults) later
         → IsInForceOn (S.shelf shelf.new) loaded.new.drives later (other_slot (slot_in loaded.new.slot)) loaded.new.record }
 {
@@ -61,6 +63,7 @@ fn settle_loaded<S: Shelf>(shelf: &mut S, loaded: &mut Loaded)
 pub fn find_record<S: Shelf>(alloc: Global, shelf: &mut S) -> Result<Loaded, OpenFault>
     ensures continues { Continues (S.shelf shelf.old) (S.shelf shelf.new) }
     ensures rest { S.shelf_rest shelf.old shelf.new }
+    ensures lawful { IfOk result (IsLawfulLoad (geometry_of (S.shelf shelf.new))) }
     // At every moment the devices stand for the arrays for which they stood.
     ensures any_moment { (S.shelf shelf.old).honest → (missing : Conditions) (arrays : List Array) → Enters (S.shelf shelf.old) missing arrays
         → LeavesOnly (S.shelf shelf.old) (S.shelf shelf.new) (StandsStill (S.shelf shelf.old) missing arrays) }
@@ -70,7 +73,7 @@ pub fn find_record<S: Shelf>(alloc: Global, shelf: &mut S) -> Result<Loaded, Ope
         → IsFoundBy (S.shelf shelf.new) (failed_since (S.shelf shelf.old) (S.shelf shelf.new) missing) arrays result }
 {
     let mut loaded = load(alloc, shelf)?;
-    if !loaded.record.patches.as_slice().is_empty() {
+    if loaded.record.patches.len() != 0 {
         return Err(OpenFault::HasPatches);
     }
     settle_loaded(shelf, &mut loaded);

@@ -1,8 +1,9 @@
 // The log is opened.
-ghost use Rattle.std.specs.Prelude.{◌≡◌, ℕ, ◌<◌, ◌≤◌, List, [], Ok, IfOk, IfErr};
+ghost use Rattle.std.specs.Prelude.{◌≡◌, ℕ, ◌<◌, ◌≤◌, List, [], length, IfOk, IfErr};
 ghost use Rattle.pur_base.specs.Commands.{Command};
 ghost use Rattle.pur_base.specs.Devices.{Conditions, IsBearable, drive, nvram};
 ghost use Rattle.pur_base.specs.Plain.{Array};
+ghost use Rattle.pur_base.specs.declared.limits.TheConstants.{REQUEST_SECTORS};
 ghost use Rattle.world.specs.Losing.{geometry_of};
 ghost use Rattle.world.specs.Shelf.{Continues, LeavesOnly};
 ghost use Rattle.world.specs.Writes.{WritesOnly};

@@ -1,6 +1,7 @@
 use Rattle.std.proofs.Common.{◌≡◌, ◌-◌, length}
+use Rattle.boot_codec.specs.Parts.{AreWithin, patches_of}
 use Rattle.boot_codec.specs.Reading.{with_front, patches}
 use Rattle.boot_codec.proofs.lists.patches.Given as goal
 
-abbrev pub invariant-loop-i : goal.invariant-loop-i
-invariant-loop-i l = (length l.patches.items ≡ l.i) × (with_front l.patches.items (patches l.slots l.units l.least l.room (l.count - l.i) l.rest) ≡ patches l.slots l.units 1 600 l.count l.bytes)
+abbrev pub invariant-loop : goal.invariant-loop
+invariant-loop l = AreWithin (length l.segments.items) l.heads.items × (with_front (patches_of l.segments.items l.heads.items) (patches l.slots l.units l.least l.room (l.count - l.counter) l.rest) ≡ patches l.slots l.units 1 600 l.count l.bytes)

@@ -34,6 +34,6 @@ returns c =
     let to_three = then_written _ _ _ _ _ _ two (members_bytes r.members) to_two c.put_members-at.ensures in
     let to_four = then_written _ _ _ _ _ _ three (next_bytes r.next) to_three c.put_next-at.ensures in
     let to_five = then_written _ _ _ _ _ _ four (u64 r.flushed) to_four c.put_u64-at-2.ensures in
-    let to_end = then_written _ _ _ _ _ _ five counts to_five (rw c.as_slice.ensures at c.put_counts.ensures) in
+    let to_end = then_written _ _ _ _ _ _ five counts to_five (rw c.len.ensures at c.put_counts.ensures) in
     let len : length c.put_counts.new.into ≡ 88 = omega arith in
     all_written _ _ _ (five ++ counts) to_end (len ∙ sym (length-header_bytes r c.args.len))

@@ -3,5 +3,5 @@ use Rattle.boot_codec.specs.Spelling.{patches_bytes}
 use Rattle.boot_codec.specs.Writing.{IsWritten}
 use Rattle.boot_codec.proofs.writing.put_patches.Given as goal
 
-abbrev pub invariant-loop-patch : goal.invariant-loop-patch
-invariant-loop-patch l = IsWritten l.fn.into l.into l.at l.end (patches_bytes (take l.patch-index l.patches))
+abbrev pub invariant-loop-i : goal.invariant-loop-i
+invariant-loop-i l = IsWritten l.fn.into l.into l.at l.end (patches_bytes (take l.i l.patches))

@@ -9,7 +9,7 @@ pub put_patches-end-requires-clause-room : goal.put_patches-end-requires-clause-
 put_patches-end-requires-clause-room c =
     let r = c.args.boot.now in
     let len = length-patches_bytes r.slots r.units r.patches c.requires.lawful.patches.each in
-    rw c.as_slice.ensures (omega (arith, len, c.requires.lawful.patches.count, c.requires.lawful.patches.room, c.split_at_mut-header.ensures.back_len))
+    omega (arith, len, c.requires.lawful.patches.count, c.requires.lawful.patches.room, c.split_at_mut-header.ensures.back_len)
 
 pub returns : goal.returns
 unfolding record_bytes
@@ -17,7 +17,7 @@ returns c =
     let r = c.args.boot.now in
     let lists = c.put_patches-end.new.into in
     let stop = c.put_patches-end.result in
-    let written = rw c.as_slice.ensures at c.put_patches-end.ensures in
+    let written = c.put_patches-end.ensures in
     let e : stop ≡ length (patches_bytes r.patches) = omega (arith, written.end) in
     let room : length lists ≡ 65448 = omega (arith, c.split_at_mut-header.ensures.back_len) in
     let header = header_bytes r (88 + stop) in

@@ -1,0 +1,182 @@
+-- The record is loaded and settled: at every moment the devices stand for the arrays, and then it is in force.
+use Rattle.std.proofs.Common.{◌≡◌, ◌⊎◌, inl, inr, ℕ, ◌+◌, ◌<◌, ◌≤◌, ◌-◌, ◌^◌, Bool, true, false, List, [], length, refl, sym, ◌∙◌, ap, subst, arith, Result, Ok, Err}
+use Rattle.std.specs.Prelude.{◌&&◌, slice_index_or}
+use Rattle.pur_base.specs.Plain.{Array}
+use Rattle.pur_base.specs.Devices.{Geometry, Conditions, Sound, LeftOut, IsBearable, IsWithin, drive}
+use Rattle.pur_base.specs.declared.device.Device.{Device}
+use Rattle.pur_base.specs.declared.limits.TheConstants.{SECTOR_BYTES}
+use Rattle.boot_codec.specs.declared.record.BootRecord.{BootRecord}
+use Rattle.boot_codec.specs.Region.{BootSlot, other_slot, gate_place, body_in, names}
+use Rattle.boot_codec.specs.Record.{set_count}
+use Rattle.boot_codec.specs.Spelling.{spelling}
+use Rattle.array_spec.specs.Laws.{IsNamedByNone}
+use Rattle.array_spec.specs.Meaning.{IsInForce}
+use Rattle.array_spec.specs.Standing.{Stands, MayBeGiven}
+use Rattle.array_spec.proofs.Standings.{more_may_go_missing, given_with_fewer}
+use Rattle.world.specs.Losing.{geometry_of, has_risen}
+use Rattle.world.specs.Shelf.{Shelved, Stop, IsShelf, IsSame, Continues, MayStop, MayLeave, LeavesOnly}
+use Rattle.world.specs.Writes.{LeavesBut, WritesOnly}
+use Rattle.world.proofs.Moments.{then_run, weaker}
+use Rattle.boot_region.specs.declared.loading.Loaded.{Loaded}
+use Rattle.boot_region.specs.declared.loading.LoadFault.{LoadFault}
+use Rattle.boot_region.specs.Members.{IsMember, OnClosed}
+use Rattle.boot_region.specs.Slots.{slot_in}
+use Rattle.boot_region.specs.Regions.{is_holding}
+use Rattle.boot_region.specs.Loading.{IsLoadBy, TellsHolding, MayBeSettled}
+use Rattle.boot_region.specs.Storing.{StandsNow, IsLoaded, IsFound, IsInForceOn, TellsFailed}
+use Rattle.boot_region.proofs.Accounts.{losing_within}
+use Rattle.boot_region.proofs.Began.{began}
+use Rattle.boot_region.proofs.FoundLemmas.{body_stands, drive_below}
+use Rattle.boot_region.proofs.Phases.{not_risen_before}
+use Rattle.boot_region.proofs.Settled.{stands_while_settling, no_more_given, settling_began}
+use Rattle.boot_region.proofs.ShownLemmas.{bodies_same}
+use Rattle.takeover.proofs.NoFault.{few_lack}
+use Rattle.takeover.specs.Entering.{Enters, StandsStill, failed_since, failed_by}
+use Rattle.takeover.specs.Found.{IsFoundOn}
+use Rattle.takeover.proofs.Counts.{goes_on}
+use Rattle.takeover.proofs.Failing.{fewer_borne, by_stop, since_later, since_mid, sound_since, left_out_since}
+use Rattle.takeover.proofs.Loading.{as_they_read, may_read, at_time, may_at_time, same_leaves, same_geometry, clean_now, stands_now, member_here, in_force_here}
+
+-- where devices were only read they stand as before
+module _ (old : Shelved) (missing : Conditions) (arrays : List Array) (enters : Enters old missing arrays) where
+  pub still_reading : (stop : Stop) → LeavesBut (λ d i. ⊥) old stop → StandsStill old missing arrays stop
+  still_reading stop left bears =
+      more_may_go_missing (geometry_of old) stop.image missing (failed_by old stop missing) arrays (losing_within (λ d. has_risen (old.disk d).faults (stop.faults d)) missing) bears
+      (enters.stands (at_time old stop.image) (may_at_time old stop.image (λ d. record { size = (left.bytes d).size; is_byte = (left.bytes d).is_byte; clean = λ i clean. (left.bytes d).same i clean (λ w. w) })))
+
+  pub while_reading : (new : Shelved) → WritesOnly (λ d i. ⊥) old new → LeavesOnly old new (StandsStill old missing arrays)
+  while_reading new writes = weaker still_reading writes.any_moment
+
+module _ (old mid : Shelved) (missing : Conditions) (arrays : List Array) (x : Loaded) (enters : Enters old missing arrays) (on : Continues old mid)
+    (is_old : IsShelf old) (is_mid : IsShelf mid) (h : old.honest) (same : (d : Device) → IsSame (old.disk d) (mid.disk d)) (by : IsLoadBy old mid (Ok x)) (may_settle : MayBeSettled mid x) where
+  abbrev now : Conditions
+  now = failed_since old mid missing
+
+  abbrev slot : BootSlot
+  slot = slot_in x.slot
+
+  h_mid : mid.honest
+  h_mid = on.honest h
+
+  pub may_now : MayStop mid (as_they_read mid)
+  may_now = may_read mid is_mid h_mid
+
+  same_shelf : geometry_of old ≡ geometry_of mid
+  same_shelf = same_geometry on
+
+  module _ (bears : IsBearable (geometry_of old) now) where
+    pub tells : TellsHolding mid x.drives now
+    tells = record {
+      bearable = subst (λ (g : Geometry). IsBearable g now) same_shelf bears;
+      holding = λ i lt sound. member_here old mid missing arrays enters on same bears by.bytes by.answered by.all by.read (as_they_read mid) may_now slot x.record x.drives by.answer.held i (omega (arith, lt, on.drives)) sound;
+      clean = λ i m sound. clean_now old mid missing arrays enters on same bears (drive i) sound;
+    }
+
+    pub stands_mid : StandsNow mid now arrays
+    stands_mid start may = subst (λ (g : Geometry). Stands g start.image now arrays) same_shelf (stands_now old mid missing arrays enters on same bears start may)
+
+    pub both : IsLoaded mid x.drives now slot x.record arrays × IsFound mid x.drives now slot x.record
+    both = may_settle now arrays tells stands_mid
+
+    pub in_its_slot : IsInForce slot x.record
+    in_its_slot = in_force_here old mid missing arrays enters on same bears by.bytes by.answered by.all by.read (as_they_read mid) may_now slot x.record x.drives by.answer.held
+
+    may_before : (d : Device) (bytes : List ℕ) → MayLeave (mid.disk d) bytes → MayLeave (old.disk d) bytes
+    may_before d bytes may = same_leaves (old.disk d) (mid.disk d) bytes (same d) may
+
+    pub room_of : x.record.generation < 2 ^ 48 - 16
+    room_of =
+        let here = as_they_read mid in
+        let g = both.0.given here may_now in
+        let g_old = given_with_fewer {shelf = geometry_of mid} {image = here.image} {missing = missing} {more = now} {slot = slot} {boot = x.record} (losing_within (λ d. has_risen (old.disk d).faults (mid.disk d).faults) missing) g in
+        enters.room (at_time old here.image) (may_at_time old here.image (λ d. may_before d (here.image d) (may_now.device d))) slot x.record (subst (λ (s : Geometry). MayBeGiven s here.image missing slot x.record) (sym same_shelf) g_old)
+
+    pub below_slots : (i : ℕ) → IsMember x.drives i → i < mid.drives
+    below_slots i m = omega (arith, drive_below old mid x now is_old is_mid h h_mid on.drives on.units same by tells i m, on.drives)
+
+    -- at a stop of the settling
+    module _ (stop : Stop) (left : LeavesBut (OnClosed x.drives mid (gate_place slot)) mid stop) where
+      pub stands_at : Stands (geometry_of mid) stop.image now arrays
+      stands_at = stands_while_settling x.drives mid stop slot x.record now arrays is_mid h_mid left both.0
+
+      pub left_out_at : (more : Conditions) → IsWithin now more → (d : Device) → missing d ≡ LeftOut → IsNamedByNone (geometry_of mid) stop.image more d
+      left_out_at more within d out t boot g =
+          let start = began x.drives mid (gate_place slot) SECTOR_BYTES stop in
+          let begins = settling_began x.drives mid stop slot x.record now arrays is_mid h_mid left both.0 in
+          let g_now = given_with_fewer {shelf = geometry_of mid} {image = stop.image} {missing = now} {more = more} {slot = t} {boot = boot} within g in
+          let before = no_more_given x.drives mid stop slot x.record now arrays is_mid h_mid left both.0 t boot g_now in
+          let g_old = given_with_fewer {shelf = geometry_of mid} {image = start.image} {missing = missing} {more = now} {slot = t} {boot = boot} (losing_within (λ d. has_risen (old.disk d).faults (mid.disk d).faults) missing) before in
+          enters.left_out (at_time old start.image) (may_at_time old start.image (λ d. may_before d (start.image d) (begins.device d))) d out t boot (subst (λ (s : Geometry). MayBeGiven s start.image missing t boot) (sym same_shelf) g_old)
+
+  pub still_settling : (stop : Stop) → LeavesBut (OnClosed x.drives mid (gate_place slot)) mid stop → StandsStill old missing arrays stop
+  still_settling stop left bears_then =
+      let more = by_stop old mid stop missing left.counts in
+      let bears = fewer_borne (geometry_of old) now (failed_by old stop missing) more bears_then in
+      more_may_go_missing (geometry_of old) stop.image now (failed_by old stop missing) arrays more bears_then
+      (subst (λ (g : Geometry). Stands g stop.image now arrays) (sym same_shelf) (stands_at bears stop left))
+
+  pub through_moments : (new : Shelved) → WritesOnly (λ d i. ⊥) old mid → WritesOnly (OnClosed x.drives mid (gate_place slot)) mid new → LeavesOnly old new (StandsStill old missing arrays)
+  through_moments new reading writes = then_run on (while_reading old missing arrays enters mid reading) (weaker still_settling writes.any_moment)
+
+  -- after the settling
+  module _ (new : Shelved) (y : Loaded) (on_new : Continues mid new) (is_new : IsShelf new) (record_is : y.record ≡ x.record) (slot_is : y.slot ≡ x.slot)
+      (fewer : (i : ℕ) → IsMember y.drives i → IsMember x.drives i) (writes : WritesOnly (OnClosed x.drives mid (gate_place slot)) mid new)
+      (settled : (later : Conditions) → IsBearable (geometry_of old) now → TellsFailed mid x.drives now (λ d. (new.disk d).faults) later → IsInForceOn new y.drives later (other_slot (slot_in y.slot)) y.record)
+      (unflushed : x.record.patches ≡ []) (bears_new : IsBearable (geometry_of old) (failed_since old new missing)) where
+    abbrev later : Conditions
+    later = failed_since old new missing
+
+    more_later : IsWithin now later
+    more_later = since_later old mid new missing on_new
+
+    bears_mid : IsBearable (geometry_of old) now
+    bears_mid = fewer_borne (geometry_of old) now later more_later bears_new
+
+    same_mid : geometry_of mid ≡ geometry_of new
+    same_mid = same_geometry on_new
+
+    not_since : (i : ℕ) → later (drive i) ≡ Sound → has_risen (mid.disk (drive i)).faults (new.disk (drive i)).faults ≡ false
+    not_since i sound = since_mid (old.disk (drive i)).faults (mid.disk (drive i)).faults (new.disk (drive i)).faults (on.faults (drive i)) (on_new.faults (drive i))
+        (sound_since (has_risen (old.disk (drive i)).faults (new.disk (drive i)).faults) (missing (drive i)) sound).1
+
+    pub tells_failed : TellsFailed mid x.drives now (λ d. (new.disk d).faults) later
+    tells_failed = record {
+      within = more_later;
+      bearable = subst (λ (g : Geometry). IsBearable g later) same_shelf bears_new;
+      calls = λ i m sound. not_since i sound;
+    }
+
+    left_by : (stop : Stop) → MayStop new stop → LeavesBut (OnClosed x.drives mid (gate_place slot)) mid stop
+    left_by stop may = (writes.any_moment.each stop (is_new.counts_now mid.moment stop on_new.later may)).1
+
+    pub found_on : IsFoundOn new y later arrays
+    found_on = record {
+      in_force = settled later bears_mid tells_failed;
+      in_its_slot = subst (λ (b : BootRecord). IsInForce (slot_in y.slot) b) (sym record_is) (subst (λ s. IsInForce (slot_in s) x.record) (sym slot_is) (in_its_slot bears_mid));
+      named = λ i m. subst (λ (b : BootRecord). names b (drive i) ≡ true) (sym record_is) (named_of i (fewer i m));
+      bodies = λ i m. subst (λ (b : BootRecord). body_in (slot_in y.slot) (new.disk (drive i)).bytes ≡ spelling b) (sym record_is)
+          (subst (λ s. body_in (slot_in s) (new.disk (drive i)).bytes ≡ spelling x.record) (sym slot_is) (body_of i (fewer i m)));
+      unflushed = ap (λ (b : BootRecord). b.patches) record_is ∙ unflushed;
+      room = subst (λ (b : BootRecord). b.generation < 2 ^ 48 - 16) (sym record_is) (room_of bears_mid);
+      stands = λ stop may. more_may_go_missing (geometry_of new) stop.image now later arrays more_later (subst (λ (g : Geometry). IsBearable g later) (same_shelf ∙ same_mid) bears_new)
+          (subst (λ (g : Geometry). Stands g stop.image now arrays) same_mid (stands_at bears_mid stop (left_by stop may)));
+      left_out = λ stop may d out. subst (λ (g : Geometry). IsNamedByNone g stop.image later d) same_mid
+          (left_out_at bears_mid stop (left_by stop may) later more_later d (left_out_since (has_risen (old.disk d).faults (new.disk d).faults) (missing d) out));
+      counted = λ d sound. goes_on (old.disk d).faults (new.disk d).faults (sound_since (has_risen (old.disk d).faults (new.disk d).faults) (missing d) sound).1;
+    }
+      where
+        first_true : (a b : Bool) → (a && b) ≡ true → a ≡ true
+        first_true true b e = refl
+        first_true false b e = absurd (cc e)
+
+        named_of : (i : ℕ) → IsMember x.drives i → names x.record (drive i) ≡ true
+        named_of i m = first_true (slice_index_or x.record.members.drives i false) (is_holding by.bytes by.answered slot (spelling x.record) i) (sym (by.answer.held.drives_are i) ∙ m)
+
+        body_of : (i : ℕ) → IsMember x.drives i → body_in slot (new.disk (drive i)).bytes ≡ spelling x.record
+        body_of i m = bodies_same slot (mid.disk (drive i)).bytes (new.disk (drive i)).bytes ((writes.device (drive i)).size) (λ k out. (writes.device (drive i)).bytes k (λ w. out w.1)) slot
+            ∙ body_stands old mid x now is_old is_mid h h_mid on.drives on.units same by (tells bears_mid) i (drive_below old mid x now is_old is_mid h h_mid on.drives on.units same by (tells bears_mid) i m) m
+
+-- the counts that are compared
+pub lacking : (old new : Shelved) (missing : Conditions) (drives : List Bool) → IsBearable (geometry_of old) (failed_since old new missing) → new.drives ≡ old.drives
+    → ((i : ℕ) → i < new.drives → failed_since old new missing (drive i) ≡ Sound → IsMember drives i) → old.drives ≤ set_count drives + 2
+lacking old new missing drives bears same sound = few_lack old.drives (failed_since old new missing) drives old.units bears (λ i lt is. sound i (omega (arith, lt, same)) is)

@@ -1,0 +1,50 @@
+-- What is known of all flags is known of those of the shelf's slots, and the other way round.
+use Rattle.std.proofs.Common.{◌≡◌, ℕ, ◌<◌, ◌≤◌, Bool, false, List, ◌++◌, length, take, sym, ◌∙◌, arith}
+use Rattle.std.proofs.lemmas.List.{get_or_append_left}
+use Rattle.pur_base.specs.Plain.{Array}
+use Rattle.pur_base.specs.Devices.{Conditions}
+use Rattle.pur_base.specs.declared.device.Device.{Device}
+use Rattle.pur_base.specs.declared.device.Device.TheVariants.{Drive, Nv}
+use Rattle.boot_codec.specs.declared.record.BootRecord.{BootRecord}
+use Rattle.boot_codec.specs.Region.{BootSlot}
+use Rattle.world.specs.Shelf.{Shelved}
+use Rattle.boot_region.specs.Members.{IsMember, OnClosed}
+use Rattle.boot_region.specs.Storing.{IsLoaded, IsFound, IsInForceOn, TellsFailed}
+use Rattle.boot_region.proofs.ShownLemmas.{member_below}
+use Rattle.takeover.proofs.Members.{front_member, of_front}
+
+pub front_closed : (n : ℕ) (flags : List Bool) (shelf : Shelved) (at : ℕ) (d : Device) (i : ℕ) → OnClosed (take n flags) shelf at d i → OnClosed flags shelf at d i
+front_closed n flags shelf at (Drive d) i w = (of_front n flags d.0 w.0, w.1, w.2)
+front_closed n flags shelf at (Nv v) i w = w
+
+pub front_loaded : (n : ℕ) {shelf : Shelved} {flags : List Bool} {missing : Conditions} {slot : BootSlot} {boot : BootRecord} {arrays : List Array}
+    → IsLoaded shelf flags missing slot boot arrays → IsLoaded shelf (take n flags) missing slot boot arrays
+front_loaded n {shelf} {flags} {missing} {slot} {boot} {arrays} is = record {
+  lawful = is.lawful;
+  clean = λ i m sound. is.clean i (of_front n flags i m) sound;
+  written = λ i m sound. is.written i (of_front n flags i m) sound;
+  stands = is.stands;
+  given = is.given;
+}
+
+pub front_found : (n : ℕ) {shelf : Shelved} {flags : List Bool} {missing : Conditions} {slot : BootSlot} {boot : BootRecord} → shelf.drives ≤ n
+    → IsFound shelf flags missing slot boot → IsFound shelf (take n flags) missing slot boot
+front_found n {shelf} {flags} {missing} {slot} {boot} le is = record { sound = λ i lt sound. front_member n flags i (omega (arith, lt, le)) (is.sound i lt sound); seen = is.seen }
+
+pub front_tells : (n : ℕ) {shelf : Shelved} {flags : List Bool} {missing : Conditions} {faults : Device → ℕ} {later : Conditions}
+    → TellsFailed shelf flags missing faults later → TellsFailed shelf (take n flags) missing faults later
+front_tells n {shelf} {flags} {missing} {faults} {later} is = record { within = is.within; bearable = is.bearable; calls = λ i m sound. is.calls i (of_front n flags i m) sound }
+
+-- behind the shelf's slots no flag is set
+pub whole_force : (front tail : List Bool) (shelf : Shelved) (missing : Conditions) (slot : BootSlot) (boot : BootRecord) → ((i : ℕ) → IsMember (front ++ tail) i → i < length front)
+    → IsInForceOn shelf front missing slot boot → IsInForceOn shelf (front ++ tail) missing slot boot
+whole_force front tail shelf missing slot boot below is = record {
+  lawful = is.lawful;
+  sound = λ i lt sound. let m = is.sound i lt sound in get_or_append_left front tail false i (member_below front i m) ∙ m;
+  clean = λ i m sound. is.clean i (back i m) sound;
+  shown = λ i m sound. is.shown i (back i m) sound;
+  given = is.given;
+}
+  where
+    back : (i : ℕ) → IsMember (front ++ tail) i → IsMember front i
+    back i m = sym (get_or_append_left front tail false i (below i m)) ∙ m

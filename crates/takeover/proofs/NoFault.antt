@@ -1,0 +1,62 @@
+-- No fault of a loading comes where the devices stand for arrays and no more is missing than is borne.
+use Rattle.std.proofs.Common.{◌≡◌, ◌⊎◌, inl, inr, ℕ, ◌+◌, ◌<◌, ◌≤◌, Bool, true, false, List, length, refl, sym, ◌∙◌, ap, subst, arith, Result, Ok, Err}
+use Rattle.std.proofs.lemmas.Bool.{cases_Bool}
+use Rattle.pur_base.specs.Plain.{Array}
+use Rattle.pur_base.specs.Devices.{Conditions, Sound, is_missing, IsBearable, drive}
+use Rattle.pur_base.specs.declared.device.Device.{Device}
+use Rattle.boot_codec.specs.declared.bad_record.BadRecord.{BadRecord}
+use Rattle.boot_codec.specs.declared.record.BootRecord.{BootRecord}
+use Rattle.boot_codec.specs.Reading.{read_record}
+use Rattle.boot_codec.specs.Record.{set_count}
+use Rattle.boot_codec.proofs.RecordLemmas.{record_again}
+use Rattle.array_spec.proofs.Votes.{one_is_effective, not_missing}
+use Rattle.world.specs.Losing.{geometry_of}
+use Rattle.world.specs.Shelf.{Shelved, Stop, IsSame, Continues, MayStop}
+use Rattle.boot_region.specs.declared.loading.Loaded.{Loaded}
+use Rattle.boot_region.specs.declared.loading.LoadFault.{LoadFault}
+use Rattle.boot_region.specs.declared.loading.LoadFault.TheVariants as faults
+use Rattle.boot_region.specs.Members.{IsMember}
+use Rattle.boot_region.specs.Regions.{IsRead}
+use Rattle.boot_region.specs.Loading.{IsFaultOf, IsBadBody, TooFewHold, IsLoadBy}
+use Rattle.takeover.specs.Entering.{Enters, failed_since}
+use Rattle.takeover.proofs.Loading.{given_here, here_decided, seen_effective, view, member_here}
+use Rattle.takeover.proofs.Members.{enough}
+
+-- at most two drives don't have such a flag
+pub few_lack : (slots : ℕ) (missing : Conditions) (flags : List Bool) (shelf_units : ℕ) → IsBearable (record { slots = slots; units = shelf_units }) missing
+    → ((i : ℕ) → i < slots → missing (drive i) ≡ Sound → IsMember flags i) → slots ≤ set_count flags + 2
+few_lack slots missing flags units bears sound =
+    omega (arith, bears.drives, enough (λ i. is_missing (missing (drive i))) flags 0 slots (λ i lt. subst (λ (k : ℕ). (is_missing (missing (drive k)) ≡ true) ⊎ IsMember flags i) (from_zero i) (each i lt)))
+  where
+    from_zero : (i : ℕ) → i ≡ 0 + i
+    from_zero i = omega arith
+
+    each : (i : ℕ) → i < slots → (is_missing (missing (drive i)) ≡ true) ⊎ IsMember flags i
+    each i lt = elim (cases_Bool (is_missing (missing (drive i)))) [
+      | inl is ↦ inl is
+      | inr is ↦ inr (sound i lt (not_missing (missing (drive i)) is))
+    ]
+
+module _ (old new : Shelved) (missing : Conditions) (arrays : List Array) (enters : Enters old missing arrays) (on : Continues old new)
+    (same : (d : Device) → IsSame (old.disk d) (new.disk d)) (bears : IsBearable (geometry_of old) (failed_since old new missing))
+    (bytes : List ℕ) (answered : List Bool) (all : length answered ≡ old.drives) (read : (i : ℕ) → i < old.drives → IsRead old new bytes answered i) (start : Stop) (may : MayStop new start) where
+  bad_body : (fault : BadRecord) → IsBadBody (geometry_of old) bytes answered fault → ⊥
+  bad_body fault bad =
+      let here = given_here old new missing arrays enters on same bears bytes answered all read start may in
+      let e = one_is_effective (geometry_of old) (view old new missing arrays enters on same bears bytes answered all read start may) here.slot bad.slot _ bad.body here.effective
+          (seen_effective old new missing arrays enters on same bears bytes answered all read start may bad.slot bad.body bad.effective) in
+      let again : ◌≡◌ {A = Result BootRecord BadRecord} (read_record old.drives old.units bad.body) (Ok here.boot) = record_again old.drives old.units here.boot bad.body here.lawful.lawful here.lawful.slots here.lawful.units (sym e.1) in
+      absurd (cc (again, bad.exact))
+
+  too_few : (drives : List Bool) → TooFewHold (geometry_of old) bytes answered drives → ⊥
+  too_few drives few =
+      absurd (omega (arith, few.too_few, few_lack old.drives (failed_since old new missing) drives old.units bears
+          (λ i lt sound. member_here old new missing arrays enters on same bears bytes answered all read start may few.slot few.boot drives few.held i lt sound)))
+
+  pub no_fault : (fault : LoadFault) → IsFaultOf (geometry_of old) bytes answered fault → (fault' : Type 0) → ((m : _) → fault ≡ faults.Memory m → fault') → fault'
+  no_fault (faults.Memory m) is P memory = memory m refl
+  no_fault faults.NoArray is P memory =
+      let here = given_here old new missing arrays enters on same bears bytes answered all read start may in
+      absurd (is here.slot _ (here_decided old new missing arrays enters on same bears bytes answered all read start may))
+  no_fault (faults.BadRecord e) is P memory = absurd (bad_body e is)
+  no_fault (faults.TooFew drives) is P memory = absurd (too_few drives is)
