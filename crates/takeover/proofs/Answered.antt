@@ -1,5 +1,5 @@
 -- What is known of an answer.
-use Rattle.std.proofs.Common.{ℕ, Result, Ok, Err}
+use Rattle.std.proofs.Common.{Result, Ok, Err}
 use Rattle.std.specs.Prelude.{IfOk}
 use Rattle.pur_base.specs.Devices.{View}
 use Rattle.nvram_log.specs.declared.log.NvLog.{NvLog}

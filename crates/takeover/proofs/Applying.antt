@@ -6,9 +6,9 @@ use Rattle.std.proofs.lemmas.Option.{slice_get_within, slice_get_cases}
 use Rattle.std.proofs.lemmas.List.{take_at, drop_at, drop-drop}
 use Rattle.pur_base.specs.Bytes.{IsBytesOf, bytes_at}
 use Rattle.pur_base.specs.Commands.{Command, Accepts, AllAccepted, after, after_all}
-use Rattle.pur_base.specs.Grammar.{Asked, is_in_force}
+use Rattle.pur_base.specs.Grammar.{is_in_force}
 use Rattle.pur_base.specs.Plain.{Array, refusal}
-use Rattle.pur_base.specs.Replies.{Answer, answer_unless, after_unless, given, refused}
+use Rattle.pur_base.specs.Replies.{answer_unless, after_unless, given, refused}
 use Rattle.pur_base.specs.declared.reply.Refusal.{Refusal}
 use Rattle.pur_base.specs.declared.request.Request.{Request}
 use Rattle.pur_base.specs.declared.request.Request.TheVariants as request
@@ -48,9 +48,6 @@ accepted_of (Some why) a b r plain.Done isn't is = cc
 accepted_of (Some why) a b r (plain.Data place) isn't is = cc
 accepted_of (Some why) a b r plain.Names isn't is = cc
 accepted_of (Some why) a b r (plain.Refused w) isn't is = cc
-
-
-
 
 -- what is given is no refusal
 never_refused : (a : Array) (r : Request) (w : Refusal) → refused w ≡ given a r → ⊥

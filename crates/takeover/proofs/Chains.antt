@@ -1,7 +1,6 @@
 -- The log that a view shows, from commands that were read and applied one after another.
-use Rattle.std.proofs.Common.{◌≡◌, inl, inr, ℕ, zero, suc, ◌+◌, ◌<◌, ◌≤◌, List, [], ◌∷◌, length, take, refl, sym, ◌∙◌, ap, subst, arith}
-use Rattle.std.specs.Prelude.{Option, Some, slice_get}
-use Rattle.std.proofs.lemmas.Bool.{cases_lt}
+use Rattle.std.proofs.Common.{◌≡◌, inl, inr, ℕ, zero, suc, ◌+◌, ◌<◌, ◌≤◌, List, [], ◌∷◌, length, take, refl, sym, ◌∙◌, subst, arith}
+use Rattle.std.specs.Prelude.{Some, slice_get}
 use Rattle.std.proofs.lemmas.Option.{slice_get_within, slice_get_cases}
 use Rattle.pur_base.specs.Commands.{Command, Accepts, AllAccepted, after, after_all}
 use Rattle.pur_base.specs.Devices.{View, nvram}
@@ -20,7 +19,7 @@ log_from view flushed i a (c ∷ cs) placed accepted ends =
       subst (λ (n : ℕ). IsInSlot view flushed n c) e (placed 0 c refl),
       accepted.0,
       log_from view flushed (suc i) (after a c) cs (λ k d at. let f : i + suc k ≡ suc i + k = omega arith in subst (λ (n : ℕ). IsInSlot view flushed n d) f (placed (suc k) d at)) accepted.1
-      (λ d s. let f : suc i + length cs ≡ i + suc (length cs) = omega arith in ends d (subst (λ (n : ℕ). IsInSlot view flushed n d) f s)),
+          (λ d s. let f : suc i + length cs ≡ i + suc (length cs) = omega arith in ends d (subst (λ (n : ℕ). IsInSlot view flushed n d) f s)),
     )
 
 -- a command of a front is one of the list

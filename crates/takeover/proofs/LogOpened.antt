@@ -1,9 +1,8 @@
 -- The log is read, applied and settled: what a stop leaves at each moment, and what is known in the end.
-use Rattle.std.proofs.Common.{◌≡◌, ◌⊎◌, inl, inr, ℕ, zero, suc, ◌-◌, ◌^◌, ◌<◌, ◌≤◌, List, [], length, take, refl, sym, ◌∙◌, ap, subst, arith, Bool, true, false, Result, Ok, Err}
-use Rattle.std.specs.Prelude.{Some, Contains, slice_get}
-use Rattle.std.proofs.lemmas.List.{length-take}
-use Rattle.pur_base.specs.Commands.{Command, AllAccepted, after_all}
-use Rattle.pur_base.specs.Devices.{Geometry, Image, Conditions, Sound, LeftOut, IsBearable, IsWithin, drive, nvram}
+use Rattle.std.proofs.Common.{◌≡◌, inl, inr, ℕ, zero, suc, ◌<◌, ◌≤◌, List, [], length, take, refl, sym, ◌∙◌, ap, subst, arith, Bool, true, false, Err}
+use Rattle.std.specs.Prelude.{Option, Some, Contains, slice_get, slice_index_or}
+use Rattle.pur_base.specs.Commands.{Command, after_all}
+use Rattle.pur_base.specs.Devices.{Geometry, Image, Conditions, Sound, LeftOut, IsBearable, drive, nvram}
 use Rattle.pur_base.specs.Plain.{Array}
 use Rattle.pur_base.specs.declared.device.Device.{Device}
 use Rattle.pur_base.specs.declared.device.Device.TheVariants.{Drive, Nv}
@@ -15,18 +14,20 @@ use Rattle.array_spec.specs.Laws.{IsNamedByNone}
 use Rattle.array_spec.specs.Standing.{Stands, MayBeGiven}
 use Rattle.array_spec.proofs.Settling.{twice_other}
 use Rattle.array_spec.proofs.Standings.{more_may_go_missing}
-use Rattle.array_spec.proofs.UnflushedRead.{one_left}
+use Rattle.array_spec.proofs.LogBetween.{shower}
+use Rattle.array_spec.proofs.UnflushedRead.{one_left, kept_is}
 use Rattle.array_spec.proofs.Votes.{sound_before}
 use Rattle.world.specs.Counts.{Rises}
 use Rattle.world.specs.Losing.{geometry_of, has_risen}
 use Rattle.world.specs.Shelf.{Shelved, Stop, Disk, IsShelf, Continues, MayStop, MayLeave, LeavesOnly}
-use Rattle.world.specs.Writes.{LeavesBut, WritesOnly}
+use Rattle.world.specs.Writes.{WritesOnly}
+use Rattle.world.proofs.Writes.{writes_then, writes_more}
 use Rattle.world.proofs.Moments.{continues_trans, then_run, weaker}
 use Rattle.boot_region.specs.declared.loading.Loaded.{Loaded}
 use Rattle.boot_region.specs.Slots.{slot_in}
-use Rattle.boot_region.specs.Storing.{IsInForceOn, StandsNow}
 use Rattle.boot_region.proofs.Accounts.{losing_within}
 use Rattle.boot_region.proofs.Phases.{risen_on_way}
+use Rattle.boot_region.proofs.Stored.{rises_between}
 use Rattle.nvram_log.specs.declared.log.NvLog.{NvLog}
 use Rattle.nvram_log.specs.declared.read.ReadFault.{ReadFault}
 use Rattle.nvram_log.specs.declared.read.ReadFault.TheVariants as read_fault
@@ -39,8 +40,8 @@ use Rattle.takeover.specs.declared.log.LogFault.TheVariants as log_fault
 use Rattle.takeover.specs.declared.log.OpenedLog.{OpenedLog}
 use Rattle.takeover.specs.Entering.{failed_since, failed_by, StandsStill}
 use Rattle.takeover.specs.Found.{IsFoundOn}
-use Rattle.takeover.specs.LogOpen.{IsLogOpen, IsLogOpenBy}
-use Rattle.takeover.specs.Replay.{IsReplayed, IsReplayFault, log_fault_of}
+use Rattle.takeover.specs.LogOpen.{IsLogOpen, IsLogOpenBy, IsLogFault, ShowsUnserved}
+use Rattle.takeover.specs.Replay.{HasUnserved, IsReplayed, IsReplayFault, log_fault_of}
 use Rattle.takeover.proofs.Counts.{goes_on}
 use Rattle.takeover.proofs.Failing.{sound_since, left_out_since, fewer_borne, by_stop, since_later}
 use Rattle.takeover.proofs.Loading.{same_geometry}
@@ -307,3 +308,59 @@ was_read old mid x missing arrays nvrams flushed log count b is is_mid h on wrot
   within = within;
   replayed = replayed;
 }
+
+-- ---- faults
+
+nothing_on : (named : List Bool) (d : Device) (i : ℕ) → OnNothing d i → OnMembers named d i
+nothing_on named d i w = absurd w
+
+fewer_on : (named members : List Bool) → IsFewer named members → (d : Device) (i : ℕ) → OnMembers members d i → OnMembers named d i
+fewer_on named members fewer (Drive d) i w = w
+fewer_on named members fewer (Nv n) i w = fewer n.0 w
+
+pub reads_only : {old new : Shelved} (named : List Bool) → WritesOnly OnNothing old new → WritesOnly (OnMembers named) old new
+reads_only named wrote = writes_more (nothing_on named) wrote
+
+pub settles_only : {old mid new : Shelved} (named members : List Bool) → IsFewer named members → Continues old mid → WritesOnly OnNothing old mid → WritesOnly (OnMembers members) mid new → WritesOnly (OnMembers named) old new
+settles_only named members fewer on wrote writes = writes_then on (reads_only named wrote) (writes_more (fewer_on named members fewer) writes)
+
+pub read_fault_is : (old mid : Shelved) (named : List Bool) (flushed : ℕ) (fault : ReadFault) → AllFailed fault old mid named → IsLogFault (log_fault_of fault) old mid named flushed
+read_fault_is old mid named flushed read_fault.NoMemory all = tt
+read_fault_is old mid named flushed read_fault.BothLost all = all
+
+unserved_is : (old mid : Shelved) (log : NvLog) (flushed : ℕ) → log.flushed ≡ flushed → (r : IsReadFrom old.honest (shown_of mid log.members) log) → HasUnserved r.commands → old.honest → ShowsUnserved mid flushed
+unserved_is old mid log flushed same r u h =
+    let it = shower (shown_of mid log.members) log.flushed u.place u.command (r.shown h u.place u.command u.there) in
+    let k = kept_is (slice_index_or log.members it.0 false) (Some (mid.disk (nvram it.0)).bytes) it.2.bytes it.2.shown in
+    record {
+      device = it.0;
+      place = u.place;
+      command = u.command;
+      shown = subst (λ (f : ℕ). ShowsIn (mid.disk (nvram it.0)).bytes f u.place u.command) same
+          (subst (λ (l : List ℕ). ShowsIn l log.flushed u.place u.command) (same_bytes it.2.bytes (mid.disk (nvram it.0)).bytes k.1) (record { slot = it.2.slot; gate = it.2.gate; spelled = it.2.spelled }));
+      unserved = u.unserved;
+    }
+  where
+    same_bytes : (p q : List ℕ) → ◌≡◌ {A = Option (List ℕ)} (Some q) (Some p) → p ≡ q
+    same_bytes p q e = cc e
+
+pub replay_fault_is : (old mid : Shelved) (named : List Bool) (flushed : ℕ) (log : NvLog) → log.flushed ≡ flushed → IsReadFrom old.honest (shown_of mid log.members) log → (fault : LogFault) → IsReplayFault fault log
+    → IsLogFault fault old mid named flushed
+replay_fault_is old mid named flushed log same r (log_fault.Memory m) is = tt
+replay_fault_is old mid named flushed log same r log_fault.BothLost is = absurd is
+replay_fault_is old mid named flushed log same r log_fault.Unserved is = unserved_is old mid log flushed same r (is r.commands r.keeps)
+
+pub both_lost : (old mid new : Shelved) (named members now_members : List Bool) → Continues old mid → Continues mid new → DroppedCounted old mid named members → DroppedCounted mid new members now_members
+    → (IsSome now_members → ⊥) → (n : ℕ) → n < 2 → IsMember named n → Rises (old.disk (nvram n)).faults (new.disk (nvram n)).faults
+both_lost old mid new named members now_members on next first then_dropped lost n lt m = elim (first n lt m) [
+  | inr rose ↦ rises_between (old.disk (nvram n)).faults (old.disk (nvram n)).faults (mid.disk (nvram n)).faults (new.disk (nvram n)).faults (omega arith) rose (next.faults (nvram n))
+  | inl is ↦ elim (then_dropped n lt is) [
+    | inr rose ↦ rises_between (old.disk (nvram n)).faults (mid.disk (nvram n)).faults (new.disk (nvram n)).faults (new.disk (nvram n)).faults (on.faults (nvram n)) rose (omega arith)
+    | inl still ↦ absurd (lost (some_of n lt still))
+  ]
+]
+  where
+    some_of : (k : ℕ) → k < 2 → IsMember now_members k → IsSome now_members
+    some_of zero below is = inl is
+    some_of (suc zero) below is = inr is
+    some_of (suc (suc k)) below is = absurd (omega (arith, below))

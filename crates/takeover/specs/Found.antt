@@ -15,7 +15,6 @@ use Rattle.boot_region.specs.Slots.{slot_in}
 use Rattle.boot_region.specs.Storing.{StandsNow, IsInForceOn}
 use Rattle.takeover.specs.declared.faults.OpenFault.{OpenFault}
 use Rattle.takeover.specs.declared.faults.OpenFault.TheVariants as open_fault
-use Rattle.takeover.specs.Entering.{Enters, failed_since}
 
 -- the record is in force on the drives that were found, which are some of those that it names, and the devices stand for the arrays
 pub record IsFoundOn (shelf : Shelved) (x : Loaded) (missing : Conditions) (arrays : List Array) : Type 0 where

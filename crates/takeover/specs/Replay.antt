@@ -1,6 +1,5 @@
 -- The commands of a log, applied to an array up to the first that it refuses.
-use Rattle.std.specs.Prelude.{◌≡◌, ℕ, ◌≤◌, Bool, true, false, List, take, Some, slice_get}
-use Rattle.pur_base.specs.declared.memory.NoMemory.{NoMemory}
+use Rattle.std.specs.Prelude.{◌≡◌, ℕ, Bool, true, false, List, take, Some, slice_get}
 use Rattle.pur_base.specs.declared.request.Request.{Request}
 use Rattle.pur_base.specs.Commands.{Command, Accepts, AllAccepted, after, after_all}
 use Rattle.pur_base.specs.Grammar.{is_in_force}

@@ -9,12 +9,12 @@ ghost use Rattle.world.specs.Shelf.{Continues, LeavesOnly};
 ghost use Rattle.world.specs.Writes.{WritesOnly};
 ghost use Rattle.boot_region.specs.declared.loading.Loaded.{Loaded};
 ghost use Rattle.nvram_log.specs.Held.{Keeps, shown_by};
-ghost use Rattle.nvram_log.specs.Members.{IsFewer, IsMember, IsSome};
+ghost use Rattle.nvram_log.specs.Members.{IsFewer, IsMember, IsSome, OnMembers};
 ghost use Rattle.nvram_log.specs.Read.{AllFailed, DroppedCounted, IsReadFrom, OnNothing};
 ghost use Rattle.nvram_log.specs.Settling.{AreAsSeen};
 ghost use Rattle.takeover.specs.Entering.{StandsStill, failed_since};
 ghost use Rattle.takeover.specs.Found.{IsFoundOn};
-ghost use Rattle.takeover.specs.LogOpen.{IsLogOpenBy};
+ghost use Rattle.takeover.specs.LogOpen.{IsLogFault, IsLogOpenBy};
 ghost use Rattle.takeover.specs.Replay.{IsReplayed, IsReplayFault, log_fault_of};
 ghost use Rattle.takeover.specs.declared.log.LogFault.TheVariants as faults;
 
@@ -95,11 +95,7 @@ fn replay_log(alloc: Global, log: &NvLog) -> Result<Replayed, LogFault>
 fn sector_room(alloc: Global) -> Result<Vec<Sector>, NoMemory>
     ensures { IfOk result (λ room. length room.items ≡ REQUEST_SECTORS) }
 {
-    Ok(Vec::from_elem(
-        alloc,
-        Sector::filled(0),
-        REQUEST_SECTORS as usize,
-    )?)
+    Ok(Vec::from_elem(alloc, Sector::filled(0), REQUEST_SECTORS as usize)?)
 }
 
 /// Reads the log of the members once they are synced: what is read is what a stop leaves.
@@ -135,7 +131,9 @@ pub fn open_log<S: Shelf>(
 ) -> Result<OpenedLog, LogFault>
     ensures continues { Continues (S.shelf shelf.old) (S.shelf shelf.new) }
     ensures rest { S.shelf_rest shelf.old shelf.new }
+    ensures writes { (S.shelf shelf.old).honest → WritesOnly (OnMembers nvrams) (S.shelf shelf.old) (S.shelf shelf.new) }
     ensures drives { (i : ℕ) → (S.shelf shelf.new).disk (drive i) ≡ (S.shelf shelf.old).disk (drive i) }
+    ensures err { IfErr result (λ fault. IsLogFault fault (S.shelf shelf.old) (S.shelf shelf.new) nvrams flushed) }
     // At every moment the devices stand for the arrays for which they stood.
     ensures any_moment { (S.shelf shelf.old).honest → (x : Loaded) (missing : Conditions) (arrays : List Array) → x.record.members.nvrams ≡ nvrams → x.record.flushed ≡ flushed
         → IsFoundOn (S.shelf shelf.old) x missing arrays

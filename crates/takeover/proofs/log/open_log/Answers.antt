@@ -1,11 +1,12 @@
-use Rattle.std.proofs.Common.{◌≡◌, ℕ, List, Bool, Result, Ok, Err, sym, subst}
+use Rattle.std.proofs.Common.{List, Bool, Err, sym, subst}
 use Rattle.std.proofs.lemmas.Result.{err_from_is_err_and}
+use Rattle.boot_region.proofs.LoadingLemmas.{if_err}
 use Rattle.world.proofs.Moments.{continues_trans}
 use Rattle.nvram_log.specs.Read.{AllFailed}
 use Rattle.takeover.specs.declared.log.LogFault.{LogFault}
 use Rattle.takeover.specs.Entering.{failed_since}
-use Rattle.takeover.specs.LogOpen.{IsLogOpenBy}
-use Rattle.takeover.proofs.LogOpened.{while_read, not_read, not_replayed, was_read, while_opening, not_lost, opened, agree, bears_mid}
+use Rattle.takeover.specs.LogOpen.{IsLogFault, IsLogOpenBy}
+use Rattle.takeover.proofs.LogOpened.{while_read, not_read, not_replayed, was_read, while_opening, not_lost, opened, agree, bears_mid, reads_only, settles_only, read_fault_is, replay_fault_is, both_lost}
 use Rattle.takeover.proofs.log.open_log.Goals as goal
 
 pub returns-in_err-log-clause-any_moment : goal.returns-in_err-log-clause-any_moment
@@ -46,8 +47,8 @@ returns-in_err-settle-clause-any_moment g c h x missing arrays same_nvrams same_
     let made = c.in_ok-made.made in
     let on = c.read_synced.ensures.continues in
     let r = was_read a m x missing arrays c.args.nvrams c.args.flushed log made.count made.plain (g.met.S.Shelf.is_shelf c.args.shelf.now) (g.met.S.Shelf.is_shelf c.read_synced.new.shelf) h on (c.read_synced.ensures.writes h)
-        c.read_synced.ensures.drives same_nvrams same_flushed found c.in_ok-log.ensures.members.0 c.in_ok-log.ensures.counted (c.in_ok-log.ensures.clean h) c.in_ok-log.ensures.flushed c.in_ok-log.ensures.log (c.in_ok-log.ensures.seen h)
-        c.in_ok-made.ensures.within c.in_ok-made.ensures.ok in
+    c.read_synced.ensures.drives same_nvrams same_flushed found c.in_ok-log.ensures.members.0 c.in_ok-log.ensures.counted (c.in_ok-log.ensures.clean h) c.in_ok-log.ensures.flushed c.in_ok-log.ensures.log (c.in_ok-log.ensures.seen h)
+    c.in_ok-made.ensures.within c.in_ok-made.ensures.ok in
     while_opening a m n x missing arrays log made.count made.plain r c.settle.ensures.continues (c.settle.ensures.writes (on.honest h)) (c.settle.ensures.any_moment (on.honest h))
 
 pub returns-in_err-settle-clause-opened : goal.returns-in_err-settle-clause-opened
@@ -59,8 +60,8 @@ returns-in_err-settle-clause-opened g c h x missing arrays same_nvrams same_flus
     let made = c.in_ok-made.made in
     let on = c.read_synced.ensures.continues in
     let r = was_read a m x missing arrays c.args.nvrams c.args.flushed log made.count made.plain (g.met.S.Shelf.is_shelf c.args.shelf.now) (g.met.S.Shelf.is_shelf c.read_synced.new.shelf) h on (c.read_synced.ensures.writes h)
-        c.read_synced.ensures.drives same_nvrams same_flushed found c.in_ok-log.ensures.members.0 c.in_ok-log.ensures.counted (c.in_ok-log.ensures.clean h) c.in_ok-log.ensures.flushed c.in_ok-log.ensures.log (c.in_ok-log.ensures.seen h)
-        c.in_ok-made.ensures.within c.in_ok-made.ensures.ok in
+    c.read_synced.ensures.drives same_nvrams same_flushed found c.in_ok-log.ensures.members.0 c.in_ok-log.ensures.counted (c.in_ok-log.ensures.clean h) c.in_ok-log.ensures.flushed c.in_ok-log.ensures.log (c.in_ok-log.ensures.seen h)
+    c.in_ok-made.ensures.within c.in_ok-made.ensures.ok in
     absurd (not_lost a m n x missing arrays log made.count made.plain r c.settle.ensures.continues (c.settle.ensures.writes (on.honest h)) (c.settle.ensures.any_moment (on.honest h)) (g.met.S.Shelf.is_shelf c.settle.new.shelf)
     c.settle.ensures.drives c.settle.new.self.members c.settle.ensures.fewer c.settle.ensures.counted borne c.in_err-settle.ensures.err.1)
 
@@ -73,8 +74,8 @@ returns-clause-any_moment g c h x missing arrays same_nvrams same_flushed found 
     let made = c.in_ok-made.made in
     let on = c.read_synced.ensures.continues in
     let r = was_read a m x missing arrays c.args.nvrams c.args.flushed log made.count made.plain (g.met.S.Shelf.is_shelf c.args.shelf.now) (g.met.S.Shelf.is_shelf c.read_synced.new.shelf) h on (c.read_synced.ensures.writes h)
-        c.read_synced.ensures.drives same_nvrams same_flushed found c.in_ok-log.ensures.members.0 c.in_ok-log.ensures.counted (c.in_ok-log.ensures.clean h) c.in_ok-log.ensures.flushed c.in_ok-log.ensures.log (c.in_ok-log.ensures.seen h)
-        c.in_ok-made.ensures.within c.in_ok-made.ensures.ok in
+    c.read_synced.ensures.drives same_nvrams same_flushed found c.in_ok-log.ensures.members.0 c.in_ok-log.ensures.counted (c.in_ok-log.ensures.clean h) c.in_ok-log.ensures.flushed c.in_ok-log.ensures.log (c.in_ok-log.ensures.seen h)
+    c.in_ok-made.ensures.within c.in_ok-made.ensures.ok in
     while_opening a m n x missing arrays log made.count made.plain r c.settle.ensures.continues (c.settle.ensures.writes (on.honest h)) (c.settle.ensures.any_moment (on.honest h))
 
 pub returns-clause-opened : goal.returns-clause-opened
@@ -86,8 +87,8 @@ returns-clause-opened g c h x missing arrays same_nvrams same_flushed found born
     let made = c.in_ok-made.made in
     let on = c.read_synced.ensures.continues in
     let r = was_read a m x missing arrays c.args.nvrams c.args.flushed log made.count made.plain (g.met.S.Shelf.is_shelf c.args.shelf.now) (g.met.S.Shelf.is_shelf c.read_synced.new.shelf) h on (c.read_synced.ensures.writes h)
-        c.read_synced.ensures.drives same_nvrams same_flushed found c.in_ok-log.ensures.members.0 c.in_ok-log.ensures.counted (c.in_ok-log.ensures.clean h) c.in_ok-log.ensures.flushed c.in_ok-log.ensures.log (c.in_ok-log.ensures.seen h)
-        c.in_ok-made.ensures.within c.in_ok-made.ensures.ok in
+    c.read_synced.ensures.drives same_nvrams same_flushed found c.in_ok-log.ensures.members.0 c.in_ok-log.ensures.counted (c.in_ok-log.ensures.clean h) c.in_ok-log.ensures.flushed c.in_ok-log.ensures.log (c.in_ok-log.ensures.seen h)
+    c.in_ok-made.ensures.within c.in_ok-made.ensures.ok in
     let writes = c.settle.ensures.writes (on.honest h) in
     let moments = c.settle.ensures.any_moment (on.honest h) in
     let is_new = g.met.S.Shelf.is_shelf c.settle.new.shelf in
@@ -102,3 +103,41 @@ returns-in_err-settle-clause-continues g c = continues_trans c.read_synced.ensur
 
 pub returns-clause-continues : goal.returns-clause-continues
 returns-clause-continues g c = continues_trans c.read_synced.ensures.continues c.settle.ensures.continues
+
+pub returns-in_err-log-clause-writes : goal.returns-in_err-log-clause-writes
+returns-in_err-log-clause-writes g c h = reads_only c.args.nvrams (c.read_synced.ensures.writes h)
+
+pub returns-in_err-made-clause-writes : goal.returns-in_err-made-clause-writes
+returns-in_err-made-clause-writes g c h = reads_only c.args.nvrams (c.read_synced.ensures.writes h)
+
+pub returns-in_err-settle-clause-writes : goal.returns-in_err-settle-clause-writes
+returns-in_err-settle-clause-writes g c h =
+    let on = c.read_synced.ensures.continues in
+    settles_only c.args.nvrams c.in_ok-log.log.members c.in_ok-log.ensures.members.0 on (c.read_synced.ensures.writes h) (c.settle.ensures.writes (on.honest h))
+
+pub returns-clause-writes : goal.returns-clause-writes
+returns-clause-writes g c h =
+    let on = c.read_synced.ensures.continues in
+    settles_only c.args.nvrams c.in_ok-log.log.members c.in_ok-log.ensures.members.0 on (c.read_synced.ensures.writes h) (c.settle.ensures.writes (on.honest h))
+
+pub returns-in_err-log-clause-err : goal.returns-in_err-log-clause-err
+returns-in_err-log-clause-err g c =
+    let a = g.S.Shelf.shelf c.args.shelf.now in
+    let m = g.S.Shelf.shelf c.read_synced.new.shelf in
+    if_err c.from_residual.result _ _ c.from_residual.ensures.1 (λ f is. subst (λ (k : LogFault). IsLogFault k a m c.args.nvrams c.args.flushed) (sym is)
+    (read_fault_is a m c.args.nvrams c.args.flushed c.in_err-log.field-0.0 c.in_err-log.ensures.err))
+
+pub returns-in_err-made-clause-err : goal.returns-in_err-made-clause-err
+returns-in_err-made-clause-err g c =
+    let a = g.S.Shelf.shelf c.args.shelf.now in
+    let m = g.S.Shelf.shelf c.read_synced.new.shelf in
+    if_err c.from_residual-in_err-made.result _ _ c.from_residual-in_err-made.ensures.1 (λ f is. subst (λ (k : LogFault). IsLogFault k a m c.args.nvrams c.args.flushed) (sym is)
+    (replay_fault_is a m c.args.nvrams c.args.flushed c.in_ok-log.log c.in_ok-log.ensures.flushed c.in_ok-log.ensures.log c.in_err-made.field-0.0 c.in_err-made.ensures.err))
+
+pub returns-in_err-settle-clause-err : goal.returns-in_err-settle-clause-err
+returns-in_err-settle-clause-err g c =
+    let a = g.S.Shelf.shelf c.args.shelf.now in
+    let m = g.S.Shelf.shelf c.read_synced.new.shelf in
+    let n = g.S.Shelf.shelf c.settle.new.shelf in
+    if_err c.from_residual-in_err-settle.result _ _ c.from_residual-in_err-settle.ensures.1 (λ f is. subst (λ (k : LogFault). IsLogFault k a n c.args.nvrams c.args.flushed) (sym is)
+    (both_lost a m n c.args.nvrams c.in_ok-log.log.members c.settle.new.self.members c.read_synced.ensures.continues c.settle.ensures.continues c.in_ok-log.ensures.counted c.settle.ensures.counted c.in_err-settle.ensures.err.1))

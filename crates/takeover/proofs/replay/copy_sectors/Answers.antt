@@ -1,4 +1,4 @@
-use Rattle.std.proofs.Common.{◌≡◌, ◌*◌, [], sym, ◌∙◌, ap, arith}
+use Rattle.std.proofs.Common.{◌*◌, [], sym, ◌∙◌, ap, arith}
 use Rattle.std.proofs.lemmas.List.{ext_get_or}
 use Rattle.pur_base.specs.Bytes.{bytes_at}
 use Rattle.takeover.proofs.Applying.{part_of}

@@ -1,5 +1,4 @@
-use Rattle.std.proofs.Common.{◌≡◌, ◌+◌, ◌<◌, ◌≤◌, Bool, true, false, length, take, sym, ◌∙◌, subst, arith, rules}
-use Rattle.pur_base.specs.Commands.{AllAccepted, after_all}
+use Rattle.std.proofs.Common.{◌≡◌, Bool, true, false, sym, ◌∙◌, subst, arith, rules}
 use Rattle.boot_region.proofs.LoadingLemmas.{if_err}
 use Rattle.takeover.specs.declared.log.LogFault.{LogFault}
 use Rattle.takeover.specs.Replay.{IsApplied, IsReplayed, IsReplayFault}
