@@ -1,7 +1,7 @@
 -- The record that was found, and settled on the drives that hold it.
-use Rattle.std.specs.Prelude.{◌≡◌, ℕ, ◌-◌, ◌<◌, ◌^◌, List, [], true, Result, Ok, Err, ⊤}
+use Rattle.std.specs.Prelude.{◌≡◌, ℕ, ◌<◌, ◌-◌, ◌^◌, List, [], true, Result, Ok, Err, ⊤}
 use Rattle.pur_base.specs.declared.device.Device.{Device}
-use Rattle.pur_base.specs.Devices.{Conditions, LeftOut, drive}
+use Rattle.pur_base.specs.Devices.{Conditions, Sound, LeftOut, drive}
 use Rattle.pur_base.specs.Plain.{Array}
 use Rattle.boot_codec.specs.Region.{other_slot, body_in, names}
 use Rattle.boot_codec.specs.Spelling.{spelling}
@@ -15,7 +15,6 @@ use Rattle.boot_region.specs.Slots.{slot_in}
 use Rattle.boot_region.specs.Storing.{StandsNow, IsInForceOn}
 use Rattle.takeover.specs.declared.faults.OpenFault.{OpenFault}
 use Rattle.takeover.specs.declared.faults.OpenFault.TheVariants as open_fault
-use Rattle.takeover.specs.Entering.{Enters, failed_since}
 
 -- the record is in force on the drives that were found, which are some of those that it names, and the devices stand for the arrays
 pub record IsFoundOn (shelf : Shelved) (x : Loaded) (missing : Conditions) (arrays : List Array) : Type 0 where
@@ -26,6 +25,8 @@ pub record IsFoundOn (shelf : Shelved) (x : Loaded) (missing : Conditions) (arra
   pub unflushed : x.record.patches ≡ []
   pub room : x.record.generation < 2 ^ 48 - 16
   pub stands : StandsNow shelf missing arrays
+  -- of a device that isn't missing the count of faults goes on
+  pub counted : (d : Device) → missing d ≡ Sound → (shelf.disk d).faults < 2 ^ 64 - 1
   pub left_out : (start : Stop) → MayStop shelf start → (d : Device) → missing d ≡ LeftOut → IsNamedByNone (geometry_of shelf) start.image missing d
 
 -- Where no more is missing than is borne, the record is found, or it names patches, or memory was wanting.

@@ -1,8 +1,11 @@
 -- The log that was read, settled and replayed.
-use Rattle.std.specs.Prelude.{◌≡◌, ℕ, ◌<◌, List, [], length, Contains, Result, Ok, Err, ⊤}
+use Rattle.std.specs.Prelude.{◌≡◌, ℕ, ◌<◌, Bool, false, List, [], Contains, Result, Ok, Err, ⊤}
 use Rattle.pur_base.specs.Commands.{Command, AllAccepted, after_all}
 use Rattle.pur_base.specs.Devices.{Conditions, Sound, LeftOut, nvram}
+use Rattle.pur_base.specs.Grammar.{is_in_force}
 use Rattle.pur_base.specs.Plain.{Array}
+use Rattle.log_codec.specs.Log.{ShowsIn}
+use Rattle.world.specs.Counts.{Rises}
 use Rattle.world.specs.Shelf.{Shelved}
 use Rattle.boot_region.specs.declared.loading.Loaded.{Loaded}
 use Rattle.nvram_log.specs.Held.{HoldsOn, Keeps}
@@ -26,6 +29,20 @@ pub record IsLogOpen (shelf : Shelved) (x : Loaded) (missing : Conditions) (arra
   pub fewer : IsFewer x.record.members.nvrams o.log.members
   pub sound : (n : ℕ) → n < 2 → missing (nvram n) ≡ Sound → IsMember o.log.members n
   pub left_out : (n : ℕ) → missing (nvram n) ≡ LeftOut → ¬ (IsMember o.log.members n)
+
+-- an NVRAM device shows a command of a form that isn't served
+pub record ShowsUnserved (shelf : Shelved) (flushed : ℕ) : Type 0 where
+  pub device : ℕ
+  pub place : ℕ
+  pub command : Command
+  pub shown : ShowsIn (shelf.disk (nvram device)).bytes flushed place command
+  pub unserved : is_in_force command.request ≡ false
+
+-- why the log isn't opened: memory is wanting, each device that is named failed, or one shows a command that isn't served
+abbrev pub IsLogFault : LogFault → Shelved → Shelved → List Bool → ℕ → Type 0
+IsLogFault (log_fault.Memory m) old new named flushed = ⊤
+IsLogFault log_fault.BothLost old new named flushed = (n : ℕ) → n < 2 → IsMember named n → Rises (old.disk (nvram n)).faults (new.disk (nvram n)).faults
+IsLogFault log_fault.Unserved old new named flushed = old.honest → ShowsUnserved new flushed
 
 -- Where no more is missing than is borne, the log is opened, or it has a command that isn't served, or memory was wanting.
 abbrev pub IsLogOpenBy : Shelved → Loaded → Conditions → List Array → Result OpenedLog LogFault → Type 0
