@@ -1,0 +1,22 @@
+use Rattle.std.proofs.Common.{◌≡◌, ℕ, ◌<◌, ◌≤◌, length}
+use Rattle.world.specs.Shelf.{Continues, Written}
+use Rattle.world.specs.Writes.{WritesOnly}
+use Rattle.pur_base.specs.Devices.{drive}
+use Rattle.boot_region.specs.Members.{IsMember, OnMembers}
+use Rattle.shelf_init.specs.Blank.{IsClean}
+use Rattle.shelf_init.specs.Counted.{NoneFailed}
+use Rattle.shelf_init.proofs.calls.write_chosen.Given as goal
+
+abbrev pub invariant-loop-drive : goal.invariant-loop-drive
+invariant-loop-drive g l =
+    let a = g.S.Shelf.shelf l.initial.shelf in
+    let b = g.S.Shelf.shelf l.shelf in
+    record {
+      continues : Continues a b;
+      rest : g.S.Shelf.shelf_rest l.initial.shelf l.shelf;
+      writes : a.honest → WritesOnly (OnMembers l.chosen l.at (length l.from)) a b;
+      written : a.honest → (i : ℕ) → i < l.drive → IsMember l.chosen i → Written l.at l.from (a.disk (drive i)).bytes (b.disk (drive i)).bytes;
+      clean : a.honest → IsClean a → IsClean b;
+      counts : NoneFailed a b;
+      ahead : (i : ℕ) → l.drive ≤ i → b.disk (drive i) ≡ a.disk (drive i);
+    }

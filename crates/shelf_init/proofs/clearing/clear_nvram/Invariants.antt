@@ -1,0 +1,22 @@
+use Rattle.std.proofs.Common.{◌≡◌, ℕ, ◌<◌, false}
+use Rattle.world.specs.Shelf.{Continues}
+use Rattle.world.specs.Writes.{WritesOnly}
+use Rattle.pur_base.specs.Devices.{nvram}
+use Rattle.pur_base.specs.Gates.{is_open}
+use Rattle.log_codec.specs.declared.limits.TheConstants.{LOG_SLOTS}
+use Rattle.shelf_init.specs.Blank.{IsClean, OnLogGates}
+use Rattle.shelf_init.specs.Counted.{NoneFailed}
+use Rattle.shelf_init.proofs.clearing.clear_nvram.Given as goal
+
+abbrev pub invariant-loop-device : goal.invariant-loop-device
+invariant-loop-device g l =
+    let a = g.S.Shelf.shelf l.initial.shelf in
+    let b = g.S.Shelf.shelf l.shelf in
+    record {
+      continues : Continues a b;
+      rest : g.S.Shelf.shelf_rest l.initial.shelf l.shelf;
+      writes : a.honest → WritesOnly OnLogGates a b;
+      cleared : a.honest → (n i : ℕ) → n < l.device → i < LOG_SLOTS → is_open i (b.disk (nvram n)).bytes ≡ false;
+      clean : a.honest → IsClean a → IsClean b;
+      counts : NoneFailed a b;
+    }

@@ -1,0 +1,27 @@
+use Rattle.boot_codec.specs.Region.{A}
+use Rattle.shelf_init.proofs.CloseLemmas.{while_closing, while_closing_first, if_all_shut}
+use Rattle.shelf_init.proofs.CallLemmas.{tells_then}
+use Rattle.shelf_init.proofs.closing.close_all_gates.Goals as goal
+
+pub returns-in_err-close_slot-clause-any_moment : goal.returns-in_err-close_slot-clause-any_moment
+returns-in_err-close_slot-clause-any_moment g c h read clean =
+    while_closing_first (g.S.Shelf.shelf c.args.shelf.now) (g.S.Shelf.shelf c.close_slot.new.shelf) c.args.regions.now.bytes.items clean read (c.close_slot.ensures.writes h)
+
+pub returns-clause-shut : goal.returns-clause-shut
+returns-clause-shut g c h read =
+    let a = g.S.Shelf.shelf c.args.shelf.now in
+    let b = g.S.Shelf.shelf c.close_slot.new.shelf in
+    let e = g.S.Shelf.shelf c.close_slot-2.new.shelf in
+    let on = c.close_slot.ensures.continues in
+    if_all_shut c.close_slot-2.result a b e c.args.regions.now.bytes.items on read (c.close_slot.ensures.writes h) (c.close_slot-2.ensures.writes (on.honest h))
+    c.close_slot-2.ensures.continues (c.in_ok-close_slot.ensures.shut h (read A)) (c.close_slot-2.ensures.shut (on.honest h))
+
+pub returns-clause-any_moment : goal.returns-clause-any_moment
+returns-clause-any_moment g c h read clean =
+    let on = c.close_slot.ensures.continues in
+    while_closing (g.S.Shelf.shelf c.args.shelf.now) (g.S.Shelf.shelf c.close_slot.new.shelf) (g.S.Shelf.shelf c.close_slot-2.new.shelf) c.args.regions.now.bytes.items on clean read
+    (c.close_slot.ensures.writes h) (c.close_slot-2.ensures.writes (on.honest h)) (c.in_ok-close_slot.ensures.clean h clean)
+
+pub returns-clause-counts : goal.returns-clause-counts
+returns-clause-counts g c =
+    tells_then (g.S.Shelf.shelf c.args.shelf.now) (g.S.Shelf.shelf c.close_slot.new.shelf) (g.S.Shelf.shelf c.close_slot-2.new.shelf) c.close_slot-2.result c.close_slot.ensures.continues c.in_ok-close_slot.ensures.counts c.close_slot-2.ensures.counts

@@ -1,0 +1,14 @@
+use Rattle.std.proofs.Common.{◌≡◌, ℕ, ◌+◌, ◌*◌, ◌<◌, ◌≤◌, length, slice_index_or, false}
+use Rattle.pur_base.specs.Gates.{is_open}
+use Rattle.boot_codec.specs.Region.{gate_place}
+use Rattle.boot_region.specs.declared.regions.TheConstants.{REGION_BYTES}
+use Rattle.boot_region.specs.Slots.{slot_in}
+use Rattle.boot_codec.specs.declared.limits.TheConstants.{DRIVE_FLAGS}
+use Rattle.shelf_init.proofs.closing.open_in.Given as goal
+
+abbrev pub invariant-loop-drive : goal.invariant-loop-drive
+invariant-loop-drive l = record {
+  size : length l.found ≡ DRIVE_FLAGS;
+  passed : (i : ℕ) → i < l.drive → slice_index_or l.found i false ≡ is_open (REGION_BYTES * i + gate_place (slot_in l.fn.slot)) l.regions.bytes.items;
+  ahead : (i : ℕ) → l.drive ≤ i → slice_index_or l.found i false ≡ false;
+}

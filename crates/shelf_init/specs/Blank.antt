@@ -1,0 +1,77 @@
+-- Devices on which no record is in force.
+use Rattle.std.specs.Prelude.{◌≡◌, ◌⊎◌, ◌<◌, ◌+◌, ◌*◌, ℕ, List, [], Bool, true, false, length, slice_index_or, Some, None}
+use Rattle.pur_base.specs.declared.device.Device.{Device}
+use Rattle.pur_base.specs.declared.device.Device.TheVariants.{Drive, Nv}
+use Rattle.pur_base.specs.declared.limits.TheConstants.{NVRAM_DEVICES, SECTOR_BYTES}
+use Rattle.pur_base.specs.Devices.{Geometry, View, Image, drive, nvram}
+use Rattle.pur_base.specs.Gates.{is_open}
+use Rattle.boot_codec.specs.Region.{BootSlot, IsEffective, gate_place, shown_by}
+use Rattle.boot_region.specs.declared.regions.TheConstants.{REGION_BYTES}
+use Rattle.log_codec.specs.declared.limits.TheConstants.{LOG_SLOTS}
+use Rattle.world.specs.Losing.{geometry_of}
+use Rattle.world.specs.Shelf.{Shelved, IsIn}
+
+-- each device shows what stands on it
+abbrev pub view_now : Shelved → View
+view_now shelf = λ d. Some (shelf.disk d).bytes
+
+-- the view gives a body
+pub record ShowsBody (shelf : Geometry) (view : View) : Type 0 where
+  pub slot : BootSlot
+  pub body : List ℕ
+  pub effective : IsEffective shelf view slot body
+
+-- a body is in force, that of a lawful record or not
+abbrev pub GivesBody : Shelved → Type 0
+GivesBody shelf = ShowsBody (geometry_of shelf) (view_now shelf)
+
+-- no body is
+abbrev pub IsBlank : Shelved → Type 0
+IsBlank shelf = GivesBody shelf → ⊥
+
+-- a drive didn't answer
+pub record HasSilent (answered : List Bool) : Type 0 where
+  pub index : ℕ
+  pub within : index < length answered
+  pub silent : slice_index_or answered index false ≡ false
+
+-- nothing is dirty on any device
+abbrev pub IsClean : Shelved → Type 0
+IsClean shelf = (d : Device) → (shelf.disk d).dirty ≡ []
+
+-- the boot units that were read tell each gate of a slot
+abbrev pub IsReadIn : Shelved → List ℕ → BootSlot → Type 0
+IsReadIn shelf bytes slot = (i : ℕ) → i < shelf.drives → is_open (REGION_BYTES * i + gate_place slot) bytes ≡ is_open (gate_place slot) (shelf.disk (drive i)).bytes
+
+-- so in both slots
+abbrev pub GatesAreRead : Shelved → List ℕ → Type 0
+GatesAreRead shelf bytes = (slot : BootSlot) → IsReadIn shelf bytes slot
+
+-- the gates of a slot are closed on each drive
+abbrev pub IsShut : Shelved → BootSlot → Type 0
+IsShut shelf slot = (i : ℕ) → i < shelf.drives → is_open (gate_place slot) (shelf.disk (drive i)).bytes ≡ false
+
+-- no command is shown by an NVRAM device
+abbrev pub HasNoCommand : Shelved → Type 0
+HasNoCommand shelf = (n i : ℕ) → n < NVRAM_DEVICES → i < LOG_SLOTS → is_open i (shelf.disk (nvram n)).bytes ≡ false
+
+-- each drive shows what it showed, or nothing
+abbrev pub HidesOnly : Shelved → Image → Type 0
+HidesOnly shelf image = (slot : BootSlot) (i : ℕ) → i < shelf.drives
+    → (shown_by slot (image (drive i)) ≡ None) ⊎ (shown_by slot (image (drive i)) ≡ shown_by slot (shelf.disk (drive i)).bytes)
+
+-- all gates are closed, and that lasts
+pub record IsEmptied (shelf : Shelved) : Type 0 where
+  pub clean : IsClean shelf
+  pub shut : (slot : BootSlot) → IsShut shelf slot
+  pub no_command : HasNoCommand shelf
+
+-- the gates' sectors of a slot, where they were read as open
+abbrev pub OnOpen : List ℕ → BootSlot → Device → ℕ → Type 0
+OnOpen bytes slot (Drive d) i = (is_open (REGION_BYTES * d.0 + gate_place slot) bytes ≡ true) × IsIn (record { start = gate_place slot; size = SECTOR_BYTES }) i
+OnOpen bytes slot (Nv n) i = ⊥
+
+-- the gates of the log
+abbrev pub OnLogGates : Device → ℕ → Type 0
+OnLogGates (Drive d) i = ⊥
+OnLogGates (Nv n) i = i < LOG_SLOTS
