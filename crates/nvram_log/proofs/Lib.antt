@@ -12,5 +12,5 @@ pub mod Gathering
 pub mod Viewed
 mod Mended
 mod Settled
-mod SettledEach
+pub mod SettledEach
 mod Synced

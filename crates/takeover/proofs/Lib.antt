@@ -12,3 +12,7 @@ mod Applying
 mod Answered
 mod LogSettling
 mod LogOpened
+mod Twice
+mod RecoveredLemmas
+mod Moments
+mod Refused

@@ -58,3 +58,17 @@ fewer_count p q (x ∷ xs) to = omega (arith, fewer_count p q xs to, counted p x
     less false b to = omega arith
     less true true to = omega arith
     less true false to = absurd (cc (to refl))
+
+-- no more are set than there are slots
+pub count_below : (flags : List Bool) (n : ℕ) → ((i : ℕ) → IsMember flags i → i < n) → count_by (λ b. b) flags ≤ n
+count_below [] n below = omega arith
+count_below (f ∷ fs) zero below = omega (arith, counted (λ (b : Bool). b) f fs, none f (below 0), count_below fs zero (λ i m. absurd (omega (arith, below (suc i) m))))
+  where
+    none : (b : Bool) → (b ≡ true → 0 < 0) → cond b 1 0 ≤ 0
+    none true is = absurd (omega (arith, is refl))
+    none false is = omega arith
+count_below (f ∷ fs) (suc n) below = omega (arith, counted (λ (b : Bool). b) f fs, one f, count_below fs n (λ i m. let lt = below (suc i) m in omega (arith, lt)))
+  where
+    one : (b : Bool) → cond b 1 0 ≤ 1
+    one true = omega arith
+    one false = omega arith

@@ -1,6 +1,10 @@
 -- Faults of an opening.
 use Rattle.boot_region.specs.declared.loading.LoadFault.{LoadFault}
 use Rattle.boot_region.specs.declared.loading.LoadFault.TheVariants as load
+use Rattle.register.specs.declared.next.StoreFault.{StoreFault}
+use Rattle.register.specs.declared.next.StoreFault.TheVariants as store
+use Rattle.takeover.specs.declared.log.LogFault.{LogFault}
+use Rattle.takeover.specs.declared.log.LogFault.TheVariants as log
 use Rattle.takeover.specs.declared.faults.OpenFault.{OpenFault}
 use Rattle.takeover.specs.declared.faults.OpenFault.TheVariants as open_fault
 
@@ -10,3 +14,14 @@ fault_of (load.Memory m) = open_fault.Memory m
 fault_of load.NoArray = open_fault.NoArray
 fault_of (load.BadRecord e) = open_fault.BadRecord e
 fault_of (load.TooFew drives) = open_fault.TooFew drives
+
+-- that of a log that wasn't opened
+abbrev pub fault_of_log : LogFault → OpenFault
+fault_of_log (log.Memory m) = open_fault.Memory m
+fault_of_log log.BothLost = open_fault.BothLost
+fault_of_log log.Unserved = open_fault.Unserved
+
+-- and that of a record that wasn't stored
+abbrev pub fault_of_store : StoreFault → OpenFault
+fault_of_store store.Spent = open_fault.Spent
+fault_of_store (store.TooFew drives) = open_fault.TooFew drives

@@ -3,3 +3,4 @@ pub mod Entering
 pub mod Found
 pub mod LogOpen
 pub mod Replay
+pub mod Recovered

@@ -5,8 +5,10 @@
 mod faults;
 mod finding;
 mod log;
+mod recovering;
 mod replay;
 
 pub use faults::OpenFault;
 pub use finding::find_record;
 pub use log::{LogFault, OpenedLog, open_log};
+pub use recovering::{Recovered, recover};

@@ -1,0 +1,126 @@
+-- From the log that was opened to the record that is stored.
+use Rattle.std.proofs.Common.{◌≡◌, ◌⊎◌, inl, inr, ℕ, ◌+◌, ◌-◌, ◌^◌, ◌<◌, ◌≤◌, Bool, true, false, List, [], length, take, refl, sym, ◌∙◌, ap, subst, arith, Result, Ok, Err}
+use Rattle.pur_base.specs.Commands.{Command, AllAccepted, after_all}
+use Rattle.pur_base.specs.Plain.{Array}
+use Rattle.pur_base.specs.Devices.{Geometry, Conditions, Sound, LeftOut, IsBearable, IsOn, drive, nvram}
+use Rattle.pur_base.specs.declared.device.Device.{Device}
+use Rattle.pur_base.specs.declared.device.Device.TheVariants.{Drive, Nv}
+use Rattle.boot_codec.specs.declared.record.BootRecord.{BootRecord}
+use Rattle.boot_codec.specs.Record.{set_count}
+use Rattle.boot_codec.specs.Region.{BootSlot, other_slot, slot_of, body_in, names, IsRecordOf}
+use Rattle.boot_codec.specs.Spelling.{spelling}
+use Rattle.array_spec.specs.Standing.{Stands}
+use Rattle.world.specs.Counts.{Rises}
+use Rattle.world.specs.Losing.{geometry_of, has_risen}
+use Rattle.world.specs.Shelf.{Shelved, Stop, IsShelf, Continues, IsCountedBy}
+use Rattle.boot_region.specs.declared.loading.Loaded.{Loaded}
+use Rattle.boot_region.specs.Loading.{IsLawfulLoad}
+use Rattle.boot_region.specs.Members.{IsMember, DroppedFailed, LostWrites}
+use Rattle.boot_region.specs.Slots.{slot_in}
+use Rattle.boot_region.specs.Storing.{IsInForceOn, StandsBut, AccountsFor}
+use Rattle.boot_region.proofs.Accounts.{failed_calls}
+use Rattle.boot_region.proofs.Phases.{not_risen_before, risen_on_way}
+use Rattle.nvram_log.specs.Held.{HoldsOn}
+use Rattle.nvram_log.specs.Members.{IsMember as IsLogMember}
+use Rattle.register.specs.declared.state.Register.{Register}
+use Rattle.register.specs.declared.next.StoreFault.{StoreFault}
+use Rattle.register.specs.declared.next.StoreFault.TheVariants.{Spent, TooFew}
+use Rattle.register.specs.Faults.{IsFaultOf}
+use Rattle.register.specs.Registers.{IsRegisterOf, drives_of, own_slot, next_slot}
+use Rattle.register.specs.Standing.{StandsInLog, MayStore, IsOpen}
+use Rattle.register.proofs.FlagLemmas.{in_cut, cut_in}
+use Rattle.takeover.specs.Entering.{StandsStill, failed_since, failed_by}
+use Rattle.takeover.specs.Found.{IsFoundOn}
+use Rattle.takeover.specs.LogOpen.{IsLogOpen}
+use Rattle.takeover.specs.declared.log.OpenedLog.{OpenedLog}
+use Rattle.takeover.proofs.Failing.{sound_since}
+use Rattle.takeover.proofs.NoFault.{few_lack}
+use Rattle.takeover.proofs.Loading.{same_geometry}
+use Rattle.takeover.proofs.Twice.{twice_by}
+
+-- the record that was found is in force on the drives of the shelf
+cut_force : (n : ℕ) (flags : List Bool) (shelf : Shelved) (missing : Conditions) (slot : BootSlot) (boot : BootRecord) → shelf.drives ≤ n → IsInForceOn shelf flags missing slot boot → IsInForceOn shelf (take n flags) missing slot boot
+cut_force n flags shelf missing slot boot all is = record {
+  lawful = is.lawful;
+  sound = λ i lt sound. cut_in flags n i (omega (arith, lt, all)) (is.sound i lt sound);
+  clean = λ i m sound. is.clean i (in_cut flags n i m) sound;
+  shown = λ i m sound. is.shown i (in_cut flags n i m) sound;
+  given = is.given;
+}
+
+module _ (shelf : Shelved) (x : Loaded) (missing : Conditions) (arrays : List Array) (o : OpenedLog) (r : Register) (opened : IsLogOpen shelf x missing arrays o)
+    (is_of : IsRegisterOf (geometry_of shelf) r) (record_is : r.record ≡ x.record) (drives_are : r.drives ≡ x.drives) where
+  its_slot : slot_in x.slot ≡ own_slot x.record
+  its_slot = opened.found.in_its_slot.in_its_slot
+
+  slots : x.record.slots ≡ shelf.drives
+  slots = sym (ap (λ (b : BootRecord). b.slots) record_is) ∙ is_of.lawful.slots
+
+  bodies : (i : ℕ) → IsMember (take x.record.slots x.drives) i → body_in (own_slot x.record) (shelf.disk (drive i)).bytes ≡ spelling x.record
+  bodies i m = subst (λ (t : BootSlot). body_in t (shelf.disk (drive i)).bytes ≡ spelling x.record) its_slot (opened.found.bodies i (in_cut x.drives x.record.slots i m))
+
+  pub in_log : StandsInLog shelf r o.log.members opened.commands
+  in_log = record {
+    is_of = is_of;
+    patches = ap (λ (b : BootRecord). b.patches) record_is ∙ opened.found.unflushed;
+    bodies = λ i m. subst (λ (b : BootRecord). body_in (own_slot b) (shelf.disk (drive i)).bytes ≡ spelling b) (sym record_is)
+        (bodies i (subst (λ (l : List Bool). IsMember (take x.record.slots l) i) drives_are (subst (λ (b : BootRecord). IsMember (take b.slots r.drives) i) record_is m)));
+    holds = subst (λ (b : BootRecord). HoldsOn shelf o.log.members b.flushed opened.commands) (sym record_is) opened.holds;
+    accepted = opened.accepted;
+  }
+
+  force : IsInForceOn shelf (take x.record.slots x.drives) missing (next_slot x.record) x.record
+  force = subst (λ (t : BootSlot). IsInForceOn shelf (take x.record.slots x.drives) missing (other_slot t) x.record) its_slot
+      (cut_force x.record.slots x.drives shelf missing (other_slot (slot_in x.slot)) x.record (omega (arith, slots)) opened.found.in_force)
+
+  pub may_store : MayStore shelf r o.log.members missing opened.commands arrays
+  may_store = record {
+    logged = in_log;
+    in_force = subst (λ (b : BootRecord). IsInForceOn shelf (take b.slots r.drives) missing (next_slot b) b) (sym record_is)
+        (subst (λ (l : List Bool). IsInForceOn shelf (take x.record.slots l) missing (next_slot x.record) x.record) (sym drives_are) force);
+    stands = opened.found.stands;
+    one_of = opened.one_of;
+    sound = opened.sound;
+    left_out = opened.left_out;
+  }
+
+-- at a moment of the store
+pub still_storing : (old mid : Shelved) (missing : Conditions) (arrays : List Array) (members : List Bool) (slot : BootSlot) (held : BootRecord) (stop : Stop) → Continues old mid → IsCountedBy mid stop
+    → StandsBut mid members (failed_since old mid missing) slot held arrays stop → StandsStill old missing arrays stop
+still_storing old mid missing arrays members slot held stop on counts stands bears =
+    let same = twice_by old mid stop missing on counts in
+    let e : geometry_of old ≡ geometry_of mid = same_geometry on in
+    let later = failed_by mid stop (failed_since old mid missing) in
+    let bears_mid : IsBearable (geometry_of mid) later = subst (λ (g : Geometry). IsBearable g later) e (subst (λ (c : Conditions). IsBearable (geometry_of old) c) (sym same) bears) in
+    subst (λ (c : Conditions). Stands (geometry_of old) stop.image c arrays) same
+    (subst (λ (g : Geometry). Stands g stop.image later arrays) (sym e)
+        (stands later (failed_calls mid members (failed_since old mid missing) slot (spelling held) stop.faults stop.write_faults bears_mid)))
+
+-- a drive of the shelf on which the record was in force is left, or lost a write
+pub left_or_lost : (old new : Shelved) (was now : Register) → was.record.slots ≡ old.drives → DroppedFailed old new (drives_of was) (drives_of now) → (i : ℕ) → i < old.drives → IsMember was.drives i
+    → IsMember now.drives i ⊎ LostWrites (old.disk (drive i)) (new.disk (drive i))
+left_or_lost old new was now slots dropped i lt m = elim (dropped i (cut_in was.drives was.record.slots i (omega (arith, lt, slots)) m)) [
+  | inl is ↦ inl (in_cut now.drives now.record.slots i is)
+  | inr lost ↦ inr lost
+]
+
+-- after the store: a drive that isn't missing is one of those that are left
+module _ (old mid new : Shelved) (missing : Conditions) (drives left : List Bool) (on : Continues old mid) (after : Continues mid new)
+    (sound : (i : ℕ) → i < mid.drives → failed_since old mid missing (drive i) ≡ Sound → IsMember drives i) (dropped : (i : ℕ) → i < mid.drives → IsMember drives i → IsMember left i ⊎ LostWrites (mid.disk (drive i)) (new.disk (drive i))) where
+  pub still_left : (i : ℕ) → i < mid.drives → failed_since old new missing (drive i) ≡ Sound → IsMember left i
+  still_left i lt is =
+      let both = sound_since (has_risen (old.disk (drive i)).faults (new.disk (drive i)).faults) (missing (drive i)) is in
+      elim (dropped i lt (sound i lt (sound_then (drive i) both.0 both.1))) [
+        | inl m ↦ m
+        | inr lost ↦ absurd (risen_on_way (old.disk (drive i)).faults (mid.disk (drive i)).faults (new.disk (drive i)).faults (new.disk (drive i)).faults (on.faults (drive i)) lost.faults (omega arith) both.1)
+      ]
+    where
+      sound_then : (d : Device) → missing d ≡ Sound → has_risen (old.disk d).faults (new.disk d).faults ≡ false → failed_since old mid missing d ≡ Sound
+      sound_then d was none = rw (was, before d none) refl
+        where
+          before : (d : Device) → has_risen (old.disk d).faults (new.disk d).faults ≡ false → has_risen (old.disk d).faults (mid.disk d).faults ≡ false
+          before d none = not_risen_before (old.disk d).faults (mid.disk d).faults (new.disk d).faults (after.faults d) none
+
+  pub enough_left : (slots : ℕ) → slots ≡ old.drives → mid.drives ≡ old.drives → IsBearable (geometry_of old) (failed_since old new missing) → slots ≤ set_count left + 2
+  enough_left slots same same_mid bears =
+      omega (arith, same, few_lack old.drives (failed_since old new missing) left old.units bears (λ i lt is. still_left i (omega (arith, lt, same_mid)) is))

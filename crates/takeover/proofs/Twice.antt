@@ -1,0 +1,85 @@
+-- Devices that fail in one call and then in the next.
+use Rattle.std.proofs.Common.{◌≡◌, ◌⊎◌, inl, inr, ℕ, ◌-◌, ◌^◌, ◌<◌, ◌≤◌, Bool, true, false, List, refl, sym, ◌∙◌, ap, subst, arith}
+use Rattle.std.proofs.lemmas.Bool.{cases_Bool, cases_lt}
+use Rattle.pur_base.specs.declared.device.Device.{Device}
+use Rattle.pur_base.specs.Devices.{Geometry, Condition, Conditions, Sound, Missing, LeftOut, IsBearable, missing_drives, missing_nvrams}
+use Rattle.pur_base.specs.Plain.{Array}
+use Rattle.array_spec.specs.Standing.{Stands}
+use Rattle.world.specs.Shelf.{Shelved, Stop, Continues, IsCountedBy}
+use Rattle.world.specs.Losing.{geometry_of, has_risen, missing_if, losing}
+use Rattle.boot_region.proofs.Phases.{not_risen_before, risen_on_way}
+use Rattle.takeover.specs.Entering.{StandsStill, failed_since, failed_by}
+use Rattle.takeover.proofs.Failing.{since_mid, fewer_borne, by_stop}
+use Rattle.takeover.proofs.Loading.{same_geometry}
+
+-- a count rose in all where it rose in one of the two
+rose_in_one : (a b c : ℕ) → a ≤ b → b ≤ c → has_risen a b ≡ false → has_risen b c ≡ false → has_risen a c ≡ false
+rose_in_one a b c first next one two = elim (cases_Bool (has_risen a c)) [
+  | inr not ↦ not
+  | inl rose ↦ absurd (cc (rose, subst (λ (n : ℕ). has_risen n c ≡ false) (sym (same a b first one)) two))
+]
+  where
+    same : (a b : ℕ) → a ≤ b → has_risen a b ≡ false → a ≡ b
+    same a b le none = elim (cases_lt a b) [
+      | inl lt ↦ absurd (not_up lt none)
+      | inr ge ↦ omega (arith, le, ge)
+    ]
+      where
+        not_up : a < b → has_risen a b ≡ false → ⊥
+        not_up lt none = risen_on_way a a b b (omega arith) (inl lt) (omega arith) none
+
+twice_at : (c : Condition) (x y z : Bool) → (z ≡ false → x ≡ false) → (z ≡ false → y ≡ false) → (x ≡ false → y ≡ false → z ≡ false) → missing_if y (missing_if x c) ≡ missing_if z c
+twice_at Sound true true true a b both = refl
+twice_at Sound true false true a b both = refl
+twice_at Sound false true true a b both = refl
+twice_at Sound false false false a b both = refl
+twice_at Sound true y false a b both = absurd (cc (a refl))
+twice_at Sound false true false a b both = absurd (cc (b refl))
+twice_at Sound false false true a b both = absurd (cc (both refl refl))
+twice_at Missing x y z a b both = refl
+twice_at LeftOut x y z a b both = refl
+
+-- by a stop
+pub twice_by : (old mid : Shelved) (stop : Stop) (missing : Conditions) → Continues old mid → IsCountedBy mid stop → failed_by mid stop (failed_since old mid missing) ≡ failed_by old stop missing
+twice_by old mid stop missing on counts = λ k d. each d k
+  where
+    each : (d : Device) → missing_if (has_risen (mid.disk d).faults (stop.faults d)) (missing_if (has_risen (old.disk d).faults (mid.disk d).faults) (missing d)) ≡ missing_if (has_risen (old.disk d).faults (stop.faults d)) (missing d)
+    each d =
+        let a = (old.disk d).faults in
+        let b = (mid.disk d).faults in
+        let c = stop.faults d in
+        twice_at (missing d) (has_risen a b) (has_risen b c) (has_risen a c) (not_risen_before a b c (counts.faults d)) (since_mid a b c (on.faults d) (counts.faults d)) (rose_in_one a b c (on.faults d) (counts.faults d))
+
+-- until now
+pub twice_since : (old mid new : Shelved) (missing : Conditions) → Continues old mid → Continues mid new → failed_since mid new (failed_since old mid missing) ≡ failed_since old new missing
+twice_since old mid new missing on after = λ k d. each d k
+  where
+    each : (d : Device) → missing_if (has_risen (mid.disk d).faults (new.disk d).faults) (missing_if (has_risen (old.disk d).faults (mid.disk d).faults) (missing d)) ≡ missing_if (has_risen (old.disk d).faults (new.disk d).faults) (missing d)
+    each d =
+        let a = (old.disk d).faults in
+        let b = (mid.disk d).faults in
+        let c = (new.disk d).faults in
+        twice_at (missing d) (has_risen a b) (has_risen b c) (has_risen a c) (not_risen_before a b c (after.faults d)) (since_mid a b c (on.faults d) (after.faults d)) (rose_in_one a b c (on.faults d) (after.faults d))
+
+-- what stands by what failed since the second moment stands by what failed since the first
+pub still_on : (old mid : Shelved) (missing : Conditions) (arrays : List Array) (stop : Stop) → Continues old mid → IsCountedBy mid stop → StandsStill mid (failed_since old mid missing) arrays stop → StandsStill old missing arrays stop
+still_on old mid missing arrays stop on counts stands bears =
+    let same = twice_by old mid stop missing on counts in
+    let e : geometry_of old ≡ geometry_of mid = same_geometry on in
+    subst (λ (c : Conditions). Stands (geometry_of old) stop.image c arrays) same
+    (subst (λ (g : Geometry). Stands g stop.image (failed_by mid stop (failed_since old mid missing)) arrays) (sym e)
+        (stands (subst (λ (g : Geometry). IsBearable g (failed_by mid stop (failed_since old mid missing))) e (subst (λ (c : Conditions). IsBearable (geometry_of old) c) (sym same) bears))))
+
+-- nothing is owed once more is missing than is borne
+pub none_owed : (old mid : Shelved) (missing : Conditions) (arrays : List Array) (stop : Stop) → IsCountedBy mid stop → (IsBearable (geometry_of old) (failed_since old mid missing) → ⊥) → StandsStill old missing arrays stop
+none_owed old mid missing arrays stop counts too_many bears = absurd (too_many (fewer_borne (geometry_of old) (failed_since old mid missing) (failed_by old stop missing) (by_stop old mid stop missing counts) bears))
+
+-- a set is borne or it isn't
+pub borne_or_not : (shelf : Geometry) (missing : Conditions) → IsBearable shelf missing ⊎ (IsBearable shelf missing → ⊥)
+borne_or_not shelf missing = elim (cases_lt 2 (missing_drives shelf missing)) [
+  | inl many ↦ inr (λ b. omega (arith, many, b.drives))
+  | inr few ↦ elim (cases_lt 1 (missing_nvrams missing)) [
+    | inl many ↦ inr (λ b. omega (arith, many, b.nvrams))
+    | inr fewer ↦ inl (record { drives = few; nvrams = fewer })
+  ]
+]
