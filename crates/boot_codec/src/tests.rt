@@ -280,6 +280,32 @@ fn two_patches(rt: HostRuntime) -> Result<(), Fail> {
 }
 
 #[test]
+fn patches_in_turn(rt: HostRuntime) -> Result<(), Fail> {
+    let bytes = bytes_of_patches(rt.alloc());
+    let read = read_record(rt.alloc(), &bytes, 11, 64)
+        .ok()
+        .ok_or("a record")?;
+    assert_eq!(rt; read.patches.len(), 2);
+    let mut patches = Patches::new(rt.alloc());
+    patches.push(&read.patches.at(1))?;
+    patches.push(&read.patches.at(0))?;
+    assert_eq!(rt; patches.len(), 2);
+    let first = patches.at(0);
+    let second = patches.at(1);
+    assert_eq!(rt; (first.tag, first.facts), (5, 6721));
+    assert_eq!(rt; (second.tag, second.facts), (1, 6720));
+    assert_eq!(rt;
+        first.segments.as_slice(),
+        read.patches.at(1).segments.as_slice()
+    );
+    assert_eq!(rt;
+        second.segments.as_slice(),
+        read.patches.at(0).segments.as_slice()
+    );
+    Ok(())
+}
+
+#[test]
 fn one_byte_of_patches_changed(rt: HostRuntime) {
     let mut bytes = bytes_of_patches(rt.alloc());
     for (index, byte, bad) in FAULTS {
