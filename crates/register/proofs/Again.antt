@@ -1,0 +1,219 @@
+-- A store that is followed by another one, at any moment of both.
+use Rattle.std.proofs.Common.{◌≡◌, ◌⊎◌, inl, inr, ℕ, ◌-◌, ◌^◌, ◌≤◌, List, [], ◌∷◌, refl, sym, subst, arith, Bool, true, false}
+use Rattle.std.specs.Prelude.{count_by, cond, nat_lt, nat_le, ◌||◌, slice_index_or}
+use Rattle.std.proofs.lemmas.Bool.{cases_Bool, cases_lt}
+use Rattle.std.proofs.Common.{ltb-false}
+use Rattle.pur_base.specs.declared.device.Device.{Device}
+use Rattle.pur_base.specs.declared.device.Device.TheVariants as dev
+use Rattle.pur_base.specs.Devices.{Geometry, Condition, Conditions, Sound, Missing, LeftOut, MayBecome, IsBearable, IsWithin, is_missing, missing_drives, missing_nvrams, nvrams, slots_of, drive, nvram}
+use Rattle.pur_base.specs.Plain.{Array}
+use Rattle.boot_codec.specs.declared.record.BootRecord.{BootRecord}
+use Rattle.boot_codec.specs.Spelling.{spelling}
+use Rattle.boot_codec.specs.Region.{BootSlot, other_slot, body_in, generation_in}
+use Rattle.array_spec.specs.Standing.{Stands}
+use Rattle.array_spec.proofs.Votes.{counted}
+use Rattle.world.specs.Shelf.{Shelved, Stop, Continues, LeavesOnly, IsCountedBy}
+use Rattle.world.specs.Writes.{LeavesBut}
+use Rattle.world.specs.Losing.{geometry_of, has_risen}
+use Rattle.world.proofs.Moments.{then_run, weaker}
+use Rattle.boot_region.specs.Members.{IsMember}
+use Rattle.boot_region.specs.Storing.{AccountsFor, StandsBut, IsOlder}
+use Rattle.boot_region.proofs.Phases.{not_risen_before}
+use Rattle.register.proofs.Opened.{yields_or}
+
+-- ---- conditions
+
+-- a sound one is missing where this is not so
+abbrev missing_unless : {P : Type 0} → P ⊎ (P → ⊥) → Condition → Condition
+missing_unless (inl p) c = c
+missing_unless (inr n) Sound = Missing
+missing_unless (inr n) Missing = Missing
+missing_unless (inr n) LeftOut = LeftOut
+
+stays : {P : Type 0} (x : P ⊎ (P → ⊥)) (c : Condition) → missing_unless x c ≡ Sound → P
+stays (inl p) c e = p
+stays (inr n) Sound e = absurd (cc e)
+stays (inr n) Missing e = absurd (cc e)
+stays (inr n) LeftOut e = absurd (cc e)
+
+becomes : {P : Type 0} (x : P ⊎ (P → ⊥)) (c : Condition) → MayBecome c (missing_unless x c)
+becomes (inl p) Sound = inl refl
+becomes (inl p) Missing = refl
+becomes (inl p) LeftOut = refl
+becomes (inr n) Sound = inr refl
+becomes (inr n) Missing = refl
+becomes (inr n) LeftOut = refl
+
+-- what becomes of the condition later may become of this one, where a sound one keeps that
+later_too : {P : Type 0} (x : P ⊎ (P → ⊥)) (c l : Condition) → MayBecome c l → (l ≡ Sound → P) → MayBecome (missing_unless x c) l
+later_too (inl p) c l h keeps = h
+later_too (inr n) Sound l (inl e) keeps = absurd (n (keeps e))
+later_too (inr n) Sound l (inr e) keeps = e
+later_too (inr n) Missing l h keeps = h
+later_too (inr n) LeftOut l h keeps = h
+
+missing_still : (a b : Condition) → MayBecome a b → is_missing a ≡ true → is_missing b ≡ true
+missing_still Sound b h e = absurd (cc e)
+missing_still Missing b h e = rw h refl
+missing_still LeftOut b h e = rw h refl
+
+count_le : (p q : ℕ → Bool) (xs : List ℕ) → ((i : ℕ) → p i ≡ true → q i ≡ true) → count_by p xs ≤ count_by q xs
+count_le p q [] all = omega arith
+count_le p q (x ∷ xs) all =
+    let rest = count_le p q xs all in
+    let here : cond (p x) 1 0 ≤ cond (q x) 1 0 = bit (p x) (q x) (all x) in
+    omega (arith, rest, here, counted p x xs, counted q x xs)
+  where
+    bit : (a b : Bool) → (a ≡ true → b ≡ true) → cond a 1 0 ≤ cond b 1 0
+    bit true true h = omega arith
+    bit true false h = absurd (cc (h refl))
+    bit false b h = omega arith
+
+fewer_bearable : (shelf : Geometry) (missing more : Conditions) → IsWithin missing more → IsBearable shelf more → IsBearable shelf missing
+fewer_bearable shelf missing more within bears = record {
+  drives =
+      let le = count_le (λ i. is_missing (missing (drive i))) (λ i. is_missing (more (drive i))) (slots_of shelf) (λ i e. missing_still (missing (drive i)) (more (drive i)) (within (drive i)) e) in
+      omega (arith, le, bears.drives);
+  nvrams =
+      let le = count_le (λ i. is_missing (missing (nvram i))) (λ i. is_missing (more (nvram i))) nvrams (λ i e. missing_still (missing (nvram i)) (more (nvram i)) (within (nvram i)) e) in
+      omega (arith, le, bears.nvrams);
+}
+
+bearable_or : (shelf : Geometry) (missing : Conditions) → IsBearable shelf missing ⊎ (IsBearable shelf missing → ⊥)
+bearable_or shelf missing = elim (cases_lt 2 (missing_drives shelf missing)) [
+  | inl many ↦ inr (λ b. omega (arith, many, b.drives))
+  | inr few ↦ elim (cases_lt 1 (missing_nvrams missing)) [
+    | inl many ↦ inr (λ b. omega (arith, many, b.nvrams))
+    | inr one ↦ inl (record { drives = few; nvrams = one })
+  ]
+]
+
+-- ---- moments
+
+-- a count that hasn't risen since an earlier moment hasn't since a later one
+not_risen_since : (a b c : ℕ) → a ≤ b → b ≤ c → has_risen a c ≡ false → has_risen b c ≡ false
+not_risen_since a b c ab bc none =
+    let same : a ≡ b = at_most (risen_or a c none) in
+    subst (λ (x : ℕ). has_risen x c ≡ false) same none
+  where
+    risen_or : (a c : ℕ) → has_risen a c ≡ false → c ≤ a
+    risen_or a c none = elim (cases_Bool (nat_lt a c)) [
+      | inr isn't ↦ ltb-false a c isn't
+      | inl is ↦ absurd (cc (subst (λ (x : Bool). x || nat_le (2 ^ 64 - 1) a ≡ false) is none))
+    ]
+
+    at_most : c ≤ a → a ≡ b
+    at_most le = omega (arith, le, ab, bc)
+
+both : {a b : Shelved} {P Q : Stop → Type 0} → LeavesOnly a b P → LeavesOnly a b Q → LeavesOnly a b (λ stop. P stop × Q stop)
+both {a} {b} {P} {Q} p q = record {
+  quiet = p.quiet;
+  each = λ stop left. ((p.each stop left).0, ((p.each stop left).1, (q.each stop left).1));
+  before = λ t stop le left. elim (p.before t stop le left) [
+    | inl was ↦ inl was
+    | inr x ↦ elim (q.before t stop le left) [ inl was ↦ inl was | inr y ↦ inr (x.0, (x.1, y.1)) ]
+  ];
+}
+
+-- at that moment a drive lost no write, and what a failed read of it might let be shown loses: it need not be missing then
+abbrev MayStay : Shelved → Shelved → List Bool → BootSlot → List ℕ → ℕ → Type 0
+MayStay old mid members slot held i = IsMember members i
+    → ((has_risen (old.disk (drive i)).faults (mid.disk (drive i)).faults ≡ false) ⊎ (has_risen (old.disk (drive i)).write_faults (mid.disk (drive i)).write_faults ≡ false))
+    × (IsOlder old slot held i ⊎ (has_risen (old.disk (drive i)).faults (mid.disk (drive i)).faults ≡ false))
+
+may_stay_or : (member risen lost : Bool) (older : Type 0) → older ⊎ (older → ⊥)
+    → (member ≡ true → ((risen ≡ false) ⊎ (lost ≡ false)) × (older ⊎ (risen ≡ false))) ⊎ ((member ≡ true → ((risen ≡ false) ⊎ (lost ≡ false)) × (older ⊎ (risen ≡ false))) → ⊥)
+may_stay_or false risen lost older x = inl (λ e. absurd (cc e))
+may_stay_or true false lost older x = inl (λ e. (inl refl, inr refl))
+may_stay_or true true true older x = inr (λ f. elim (f refl).0 [ inl e ↦ absurd (cc e) | inr e ↦ absurd (cc e) ])
+may_stay_or true true false older (inl is) = inl (λ e. (inr refl, inl is))
+may_stay_or true true false older (inr none) = inr (λ f. elim (f refl).1 [ inl is ↦ none is | inr e ↦ absurd (cc e) ])
+
+module _ (old mid : Shelved) (members : List Bool) (missing : Conditions) (slot : BootSlot) (held : BootRecord) where
+  stay_or : (i : ℕ) → MayStay old mid members slot (spelling held) i ⊎ (MayStay old mid members slot (spelling held) i → ⊥)
+  stay_or i = may_stay_or (slice_index_or members i false) (has_risen (old.disk (drive i)).faults (mid.disk (drive i)).faults) (has_risen (old.disk (drive i)).write_faults (mid.disk (drive i)).write_faults)
+      (IsOlder old slot (spelling held) i) (yields_or (other_slot slot) (generation_in (body_in slot (old.disk (drive i)).bytes)) (generation_in (spelling held)))
+
+  -- the conditions at that moment, of which no more devices are missing than must be
+  pub meanwhile : Conditions
+  meanwhile (dev.Drive d) = missing_unless (stay_or d.0) (missing (dev.Drive d))
+  meanwhile (dev.Nv n) = missing (dev.Nv n)
+
+  meanwhile_within : IsWithin missing meanwhile
+  unfolding meanwhile
+  meanwhile_within (dev.Drive d) = becomes (stay_or d.0) (missing (dev.Drive d))
+  meanwhile_within (dev.Nv n) = same (missing (dev.Nv n))
+    where
+      same : (c : Condition) → MayBecome c c
+      same Sound = inl refl
+      same Missing = refl
+      same LeftOut = refl
+
+  accounts : IsBearable (geometry_of old) meanwhile → AccountsFor old members missing slot (spelling held) (λ d. (mid.disk d).faults) (λ d. (mid.disk d).write_faults) meanwhile
+  unfolding meanwhile
+  accounts bears = record {
+    within = meanwhile_within;
+    bearable = bears;
+    writes = λ i m s. (stays (stay_or i) (missing (drive i)) s m).0;
+    reads = λ i m s. (stays (stay_or i) (missing (drive i)) s m).1;
+  }
+
+  -- what is known of a later stop
+  module _ (stop : Stop) (counts : IsCountedBy mid stop) (later : Conditions) (account : AccountsFor old members missing slot (spelling held) stop.faults stop.write_faults later) where
+    kept : (i : ℕ) → later (drive i) ≡ Sound → MayStay old mid members slot (spelling held) i
+    kept i s m = (
+      elim (account.writes i m s) [
+        | inl e ↦ inl (not_risen_before (old.disk (drive i)).faults (mid.disk (drive i)).faults (stop.faults (drive i)) (counts.faults (drive i)) e)
+        | inr e ↦ inr (not_risen_before (old.disk (drive i)).write_faults (mid.disk (drive i)).write_faults (stop.write_faults (drive i)) (counts.write_faults (drive i)) e)
+      ],
+      elim (account.reads i m s) [
+        | inl is ↦ inl is
+        | inr e ↦ inr (not_risen_before (old.disk (drive i)).faults (mid.disk (drive i)).faults (stop.faults (drive i)) (counts.faults (drive i)) e)
+      ],
+    )
+
+    within_later : IsWithin meanwhile later
+    unfolding meanwhile
+    within_later (dev.Drive d) = later_too (stay_or d.0) (missing (dev.Drive d)) (later (dev.Drive d)) (account.within (dev.Drive d)) (λ s. kept d.0 s)
+    within_later (dev.Nv n) = account.within (dev.Nv n)
+
+    bearable_then : IsBearable (geometry_of old) meanwhile
+    bearable_then = fewer_bearable (geometry_of old) meanwhile later within_later account.bearable
+
+    -- and of what happened since
+    module _ (now : List Bool) (next : BootSlot) (boot : BootRecord) (on : Continues old mid) (fewer : (i : ℕ) → IsMember now i → IsMember members i) (older : (i : ℕ) → IsMember now i → IsOlder mid next (spelling boot) i)
+        (same_shelf : geometry_of mid ≡ geometry_of old) where
+      accounts_since : AccountsFor mid now meanwhile next (spelling boot) stop.faults stop.write_faults later
+      accounts_since = record {
+        within = within_later;
+        bearable = subst (λ x. IsBearable x later) (sym same_shelf) account.bearable;
+        writes = λ i m s. elim (account.writes i (fewer i m) s) [
+          | inl e ↦ inl (not_risen_since (old.disk (drive i)).faults (mid.disk (drive i)).faults (stop.faults (drive i)) (on.faults (drive i)) (counts.faults (drive i)) e)
+          | inr e ↦ inr (not_risen_since (old.disk (drive i)).write_faults (mid.disk (drive i)).write_faults (stop.write_faults (drive i)) (on.write_faults (drive i)) (counts.write_faults (drive i)) e)
+        ];
+        reads = λ i m s. inl (older i m);
+      }
+
+  -- then it is so at every moment of both
+  pub again_moments : {W : Device → ℕ → Type 0} (new : Shelved) (now : List Bool) (next : BootSlot) (boot : BootRecord) (arrays : List Array) → Continues old mid
+      → ((i : ℕ) → IsMember now i → IsMember members i) → ((i : ℕ) → IsMember now i → IsOlder mid next (spelling boot) i)
+      → LeavesOnly old mid (StandsBut old members missing slot held arrays)
+      → (IsBearable (geometry_of old) meanwhile → AccountsFor old members missing slot (spelling held) (λ d. (mid.disk d).faults) (λ d. (mid.disk d).write_faults) meanwhile
+      → LeavesOnly mid new (StandsBut mid now meanwhile next boot arrays))
+      → LeavesOnly mid new (LeavesBut W mid)
+      → LeavesOnly old new (StandsBut old members missing slot held arrays)
+  again_moments {W} new now next boot arrays on fewer older first second counted_then = then_run on first rest
+    where
+      same_shelf : geometry_of mid ≡ geometry_of old
+      same_shelf =
+          let e : mid.drives ≡ old.drives = on.drives in
+          let f : mid.units ≡ old.units = on.units in
+          λ k. record { slots = e k; units = f k }
+
+      rest : LeavesOnly mid new (StandsBut old members missing slot held arrays)
+      rest = elim (bearable_or (geometry_of old) meanwhile) [
+        | inl bears ↦ weaker (λ stop x later account.
+            subst (λ g. Stands g stop.image later arrays) same_shelf (x.1 later (accounts_since stop x.0.counts later account now next boot on fewer older same_shelf)))
+            (both counted_then (second bears (accounts bears)))
+        | inr not ↦ weaker (λ stop x later account. absurd (not (bearable_then stop x.counts later account))) counted_then
+      ]

@@ -1,0 +1,214 @@
+-- The next record of an array that stands in its log alone follows on from what may be given before it.
+use Rattle.std.proofs.Common.{◌≡◌, ◌⊎◌, inl, inr, ℕ, ◌+◌, ◌-◌, ◌^◌, ◌≤◌, ◌<◌, List, [], length, take, refl, sym, ◌∙◌, ap, subst, arith, Bool, true, false}
+use Rattle.std.specs.Prelude.{Some, None, Contains, slice_get, slice_index_or}
+use Rattle.std.proofs.lemmas.Bool.{cases_Bool, cases_lt}
+use Rattle.std.proofs.lemmas.List.{take_all, append-nil}
+use Rattle.pur_base.specs.declared.device.Device.{Device}
+use Rattle.pur_base.specs.declared.device.Device.TheVariants as dev
+use Rattle.pur_base.specs.Devices.{View, Condition, Conditions, Sound, Missing, LeftOut, MayBecome, MayShowAs, IsBearable, IsWithin, IsOn, drive, nvram}
+use Rattle.pur_base.specs.Plain.{Array}
+use Rattle.pur_base.specs.Commands.{Command, AllAccepted, after_all}
+use Rattle.boot_codec.specs.declared.record.BootRecord.{BootRecord}
+use Rattle.boot_codec.specs.Spelling.{spelling}
+use Rattle.boot_codec.specs.Region.{BootSlot, IsRecordOf, IsDecided, votes, other_slot, body_in, shown_by, slot_of, generation_in, names, of_members, Yields}
+use Rattle.log_codec.specs.Log.{ShowsIn}
+use Rattle.array_spec.specs.Standing.{Stands, MayBeGiven, IsViewOf, IsReadInto, FollowsOn, HasNoLog}
+use Rattle.array_spec.specs.Unflushed.{LogLies}
+use Rattle.array_spec.proofs.UnflushedRead.{unflushed_is_read, unflushed_holds_nothing}
+use Rattle.array_spec.proofs.Votes.{one_is_decided, sound_before}
+use Rattle.array_spec.proofs.Standings.{within_twice, more_may_go_missing}
+use Rattle.array_spec.proofs.Settling.{this_or_other, twice_other}
+use Rattle.array_spec.proofs.Spelled.{spells_one}
+use Rattle.world.specs.Shelf.{Shelved, Stop, MayStop, IsShelf}
+use Rattle.world.specs.Losing.{geometry_of}
+use Rattle.boot_region.specs.Members.{IsMember}
+use Rattle.boot_region.specs.Storing.{StandsNow, OnlyBoot, IsInForceOn, MayFollow}
+use Rattle.boot_region.proofs.Composing.{all_decide, as_it_is}
+use Rattle.boot_region.proofs.ShownLemmas.{as_read}
+use Rattle.nvram_log.specs.Members as nv
+use Rattle.nvram_log.specs.Held.{HoldsOn}
+use Rattle.register.specs.Registers.{next_record}
+use Rattle.register.proofs.Numbers.{generation_spelled, next_other, yields_le, slots_differ}
+
+pub left_before : (a b : Condition) → MayBecome a b → b ≡ LeftOut → a ≡ LeftOut
+left_before Sound b (inl h) e = absurd (cc (h, e))
+left_before Sound b (inr h) e = absurd (cc (h, e))
+left_before Missing b h e = absurd (cc (h, e))
+left_before LeftOut b h e = refl
+
+-- a device may show itself
+shows_itself : (c : Condition) (bytes : List ℕ) → ((i : ℕ) → Rattle.std.specs.Prelude.slice_index bytes i < 256) → MayShowAs c bytes (Some bytes)
+shows_itself Sound bytes is = refl
+shows_itself Missing bytes is = inl refl
+shows_itself LeftOut bytes is = (refl, is)
+
+module _ (shelf : Shelved) (is : IsShelf shelf) (boot : BootRecord) (members drives nvrams : List Bool) (missing : Conditions) (log : List Command) (arrays : List Array)
+    (lawful : IsRecordOf (geometry_of shelf) boot) (next_lawful : IsRecordOf (geometry_of shelf) (next_record boot drives nvrams)) (not_spent : boot.generation + 1 < 2 ^ 48 - 8)
+    (none : boot.patches ≡ []) (among : (i : ℕ) → IsMember members i → IsMember drives i) (some : nv.IsSome nvrams)
+    (holds : HoldsOn shelf nvrams boot.flushed log) (accepted : AllAccepted [] log)
+    (force : IsInForceOn shelf members missing (other_slot (slot_of boot.generation)) boot) (stands : StandsNow shelf missing arrays) (one_of : Contains arrays (after_all [] log))
+    (sound : (n : ℕ) → n < 2 → missing (nvram n) ≡ Sound → nv.IsMember nvrams n) (left_out : (n : ℕ) → missing (nvram n) ≡ LeftOut → nv.IsMember nvrams n → ⊥) where
+  -- ---- it is read into the arrays
+  module _ (later : Conditions) (start stop : Stop) (within : IsWithin missing later) (bearable : IsBearable (geometry_of shelf) later) (may : MayStop shelf start) (only : OnlyBoot start.image stop.image)
+      (written : (i : ℕ) → i < shelf.drives → later (drive i) ≡ Sound → body_in (other_slot (slot_of boot.generation)) (stop.image (drive i)) ≡ spelling (next_record boot drives nvrams)) where
+    was_sound : (d : Device) → later d ≡ Sound → missing d ≡ Sound
+    was_sound d s = sound_before (missing d) (later d) (within d) s
+
+    nvram_is : (n : ℕ) → n < 2 → nv.IsMember nvrams n → stop.image (nvram n) ≡ (shelf.disk (nvram n)).bytes
+    nvram_is n lt m = only.nvram n ∙ as_read (shelf.disk (nvram n)) (start.image (nvram n)) (holds.clean n lt m) (may.device (nvram n))
+
+    named : (d : Device) → IsOn (geometry_of shelf) d → later d ≡ Sound → names (next_record boot drives nvrams) d ≡ true
+    named (dev.Drive d) on s = among d.0 (force.sound d.0 on (was_sound (dev.Drive d) s))
+    named (dev.Nv n) on s = sound n.0 on (was_sound (dev.Nv n) s)
+
+    one : (n : ℕ) × (n < 2) × nv.IsMember nvrams n
+    one = elim some [ inl m ↦ (0, omega arith, m) | inr m ↦ (1, omega arith, m) ]
+
+    unnamed : (n : ℕ) → later (nvram n) ≡ LeftOut → slice_index_or nvrams n false ≡ false
+    unnamed n out = elim (cases_Bool (slice_index_or nvrams n false)) [
+      | inl m ↦ absurd (left_out n (left_before (missing (nvram n)) (later (nvram n)) (within (nvram n)) out) m)
+      | inr not ↦ not
+    ]
+
+    lies : LogLies stop.image later (next_record boot drives nvrams) log log
+    lies = record {
+      front = ([], sym (append-nil log));
+      room = (holds.log one.0 one.1 one.2).room;
+      lawful = λ i c at. ((holds.log one.0 one.1 one.2).between.all i c at).spelled.lawful;
+      all = λ n i c lt s at.
+          let m = sound n lt (was_sound (nvram n) s) in
+          subst (λ (b : List ℕ). ShowsIn b boot.flushed i c) (sym (nvram_is n lt m)) ((holds.log n lt m).between.all i c at);
+      no_other = λ n i c lt m shown. (holds.log n lt m).between.no_other i c (subst (λ (b : List ℕ). ShowsIn b boot.flushed i c) (nvram_is n lt m) shown);
+      left_out = λ n lt out. unnamed n out;
+    }
+
+    all_of_it : (n : ℕ) → length log ≤ n → n ≤ length log → Contains arrays (after_all [] (take n log))
+    all_of_it n low high =
+        let e : length log ≡ n = omega (arith, low, high) in
+        let whole : take n log ≡ log = take_all n log low in
+        subst (λ (l : List Command). Contains arrays (after_all [] l)) (sym whole) one_of
+
+    is_read : (r : IsReadInto (geometry_of shelf) stop.image later (other_slot (slot_of boot.generation)) (next_record boot drives nvrams) arrays) × (r.base ≡ [])
+    is_read = unflushed_is_read (geometry_of shelf) stop.image later (other_slot (slot_of boot.generation)) (next_record boot drives nvrams) log log arrays
+        next_lawful none (record { in_its_slot = sym (next_other boot.generation); not_spent = not_spent }) (record { named = named; written = written }) accepted lies all_of_it
+
+    -- ---- and it follows on
+    module _ (s : Stands (geometry_of shelf) start.image missing arrays) (slot2 : BootSlot) (boot2 : BootRecord) (g : MayBeGiven (geometry_of shelf) start.image missing slot2 boot2) where
+      given : MayBeGiven (geometry_of shelf) start.image missing (slot_of boot.generation) boot
+      given = subst (λ (t : BootSlot). MayBeGiven (geometry_of shelf) start.image missing t boot) (twice_other (slot_of boot.generation)) (force.given start may)
+
+      shows : (i : ℕ) → i < shelf.drives → missing (drive i) ≡ Sound → shown_by (slot_of boot.generation) (start.image (drive i)) ≡ Some (spelling boot)
+      shows i lt so =
+          let m = force.sound i lt so in
+          ap (shown_by (slot_of boot.generation)) (as_read (shelf.disk (drive i)) (start.image (drive i)) (force.clean i m so) (may.device (drive i)))
+          ∙ subst (λ (t : BootSlot). shown_by t (shelf.disk (drive i)).bytes ≡ Some (spelling boot)) (twice_other (slot_of boot.generation)) (force.shown i m so)
+
+      decided : IsDecided (votes (geometry_of shelf) g.view (slot_of boot.generation)) (spelling boot)
+      decided = all_decide (geometry_of shelf) start.image missing g.more g.view (slot_of boot.generation) (spelling boot) is.drives.0 shows g.appears
+
+      -- the other record is this one, or it is of the other slot and no older
+      Either : Type 0
+      Either = ((slot2 ≡ slot_of boot.generation) × (boot2 ≡ boot)) ⊎ ((slot2 ≡ other_slot (slot_of boot.generation)) × (boot.generation ≤ boot2.generation))
+
+      same : slot2 ≡ slot_of boot.generation → boot2 ≡ boot
+      same e =
+          let mine : IsDecided (votes (geometry_of shelf) g.view (slot_of boot.generation)) (spelling boot2) = subst (λ (t : BootSlot). IsDecided (votes (geometry_of shelf) g.view t) (spelling boot2)) e g.effective.decided in
+          spells_one (geometry_of shelf) boot2 boot g.lawful lawful (one_is_decided (votes (geometry_of shelf) g.view (slot_of boot.generation)) (spelling boot2) (spelling boot) mine decided)
+
+      no_older : slot2 ≡ other_slot (slot_of boot.generation) → boot.generation ≤ boot2.generation
+      no_older e =
+          let back : slot_of boot.generation ≡ other_slot slot2 = sym (ap other_slot e ∙ twice_other (slot_of boot.generation)) in
+          let yields : Yields slot2 (generation_in (spelling boot)) (generation_in (spelling boot2)) =
+          g.effective.highest (spelling boot) (subst (λ (t : BootSlot). IsDecided (votes (geometry_of shelf) g.view t) (spelling boot)) back decided) in
+          let le : generation_in (spelling boot) ≤ generation_in (spelling boot2) = yields_le slot2 (generation_in (spelling boot)) (generation_in (spelling boot2)) yields in
+          subst (λ (a : ℕ). a ≤ boot2.generation) (generation_spelled boot lawful.lawful)
+          (subst (λ (b : ℕ). generation_in (spelling boot) ≤ b) (generation_spelled boot2 g.lawful.lawful) le)
+
+      either : ((slot2 ≡ slot_of boot.generation) × (boot2 ≡ boot)) ⊎ ((slot2 ≡ other_slot (slot_of boot.generation)) × (boot.generation ≤ boot2.generation))
+      either = elim (this_or_other slot2 (slot_of boot.generation)) [
+        | inl e ↦ inl (e, same e)
+        | inr e ↦ inr (e, no_older e)
+      ]
+
+      itself : IsViewOf (geometry_of shelf) start.image missing missing (λ d. Some (start.image d))
+      itself = record { within = as_it_is missing; bearable = s.bearable; shown = λ d. shows_itself (missing d) (start.image d) (may.device d).is_byte }
+
+      -- of the same generation it would be in the same slot
+      same_generation : slot2 ≡ other_slot (slot_of boot.generation) → boot2.generation ≡ boot.generation → ⊥
+      same_generation e eq =
+          let own : slot2 ≡ slot_of boot2.generation = ((s.reads slot2 boot2 g).each missing (λ d. Some (start.image d)) itself).in_force.in_its_slot in
+          slots_differ (slot_of boot.generation) (sym (ap slot_of eq) ∙ sym own ∙ e)
+
+      mine : FollowsOn (geometry_of shelf) start.image missing (slot_of boot.generation) boot boot2 (s.reads (slot_of boot.generation) boot given).base (s.reads slot2 boot2 g).base
+      mine = s.agree (slot_of boot.generation) slot2 boot boot2 given g
+
+      its : FollowsOn (geometry_of shelf) start.image missing slot2 boot2 boot (s.reads slot2 boot2 g).base (s.reads (slot_of boot.generation) boot given).base
+      its = s.agree slot2 (slot_of boot.generation) boot2 boot g given
+
+      no_less : boot.flushed ≤ boot2.flushed
+      no_less = elim either [
+        | inl (e, b) ↦ subst (λ (x : BootRecord). boot.flushed ≤ x.flushed) (sym b) (omega arith)
+        | inr (e, le) ↦ elim (cases_lt boot.generation boot2.generation) [
+          | inl lt ↦ its.in_order lt
+          | inr ge ↦ absurd (same_generation e (omega (arith, le, ge)))
+        ]
+      ]
+
+      in_order : boot2.generation < boot.generation + 1 → boot2.flushed ≤ boot.flushed
+      in_order lt = elim either [
+        | inl (e, b) ↦ subst (λ (x : BootRecord). x.flushed ≤ boot.flushed) (sym b) (omega arith)
+        | inr (e, le) ↦ absurd (same_generation e (omega (arith, le, lt)))
+      ]
+
+      base_none : (s.reads (slot_of boot.generation) boot given).base ≡ []
+      base_none = unflushed_holds_nothing (geometry_of shelf) (of_members (slot_of boot.generation) boot (λ d. Some (start.image d))) boot (s.reads (slot_of boot.generation) boot given).base none
+          ((s.reads (slot_of boot.generation) boot given).each missing (λ d. Some (start.image d)) itself).holds
+
+      -- a view of the stop shows of NVRAM what one of the start shows
+      module _ (more : Conditions) (view : View) (v : IsViewOf (geometry_of shelf) stop.image later more view) where
+        before : View
+        before (dev.Drive d) = Some (start.image (dev.Drive d))
+        before (dev.Nv n) = view (dev.Nv n)
+
+        shown : (d : Device) → MayShowAs (more d) (start.image d) (before d)
+        unfolding before
+        shown (dev.Drive d) = shows_itself (more (dev.Drive d)) (start.image (dev.Drive d)) (may.device (dev.Drive d)).is_byte
+        shown (dev.Nv n) = subst (λ (b : List ℕ). MayShowAs (more (dev.Nv n)) b (view (dev.Nv n))) (only.nvram n.0) (v.shown (dev.Nv n))
+
+        no_log : boot.flushed < boot2.flushed → HasNoLog (of_members slot2 boot2 view) boot2.flushed
+        unfolding before
+        no_log lt device i c x =
+            its.no_log lt more before (record { within = within_twice missing later more within v.within; bearable = v.bearable; shown = shown }) device i c
+            (record { slot = x.slot; bytes = x.bytes; shown = x.shown; gate = x.gate; spelled = x.spelled })
+
+      follows : (base : Array) → base ≡ [] → FollowsOn (geometry_of shelf) stop.image later (other_slot (slot_of boot.generation)) (next_record boot drives nvrams) boot2 base (s.reads slot2 boot2 g).base
+          × FollowsOn (geometry_of shelf) stop.image later slot2 boot2 (next_record boot drives nvrams) (s.reads slot2 boot2 g).base base
+      follows base nothing = (
+        record {
+          in_order = in_order;
+          same_base = λ e. nothing ∙ sym base_none ∙ mine.same_base e;
+          no_log = λ lt more view v. absurd (past lt);
+        },
+        record {
+          in_order = λ lt. no_less;
+          same_base = λ e. its.same_base e ∙ base_none ∙ sym nothing;
+          no_log = λ lt more view v. no_log more view v lt;
+        },
+      )
+        where
+          past : boot2.flushed < boot.flushed → ⊥
+          past lt = omega (arith, lt, no_less)
+
+  pub may_follow : MayFollow shelf missing (other_slot (slot_of boot.generation)) (next_record boot drives nvrams) arrays
+  may_follow = record {
+    lawful = next_lawful;
+    stands = stands;
+    reads = λ later start stop within bearable may only written s.
+        let r = is_read later start stop within bearable may only written in
+        (r.0, λ slot2 boot2 g. follows later start stop within bearable may only written s slot2 boot2 g r.0.base r.1);
+  }
+
+-- where nothing was written, more may go missing
+pub stands_before : (shelf : Shelved) (missing later : Conditions) (arrays : List Array) (stop : Stop) → MayStop shelf stop → Stands (geometry_of shelf) stop.image missing arrays → IsWithin missing later → IsBearable (geometry_of shelf) later
+    → Stands (geometry_of shelf) stop.image later arrays
+stands_before shelf missing later arrays stop may stands within bearable = more_may_go_missing (geometry_of shelf) stop.image missing later arrays within bearable stands

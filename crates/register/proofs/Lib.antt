@@ -1,0 +1,7 @@
+pub mod FlagLemmas
+pub mod Numbers
+pub mod Follows
+pub mod Opened
+pub mod Again
+pub mod Rounds
+pub mod Stores

@@ -1,0 +1,194 @@
+-- One store of the next record.
+use Rattle.std.proofs.Common.{◌≡◌, inl, inr, ℕ, zero, suc, ◌+◌, ◌-◌, ◌^◌, ◌≤◌, ◌<◌, List, [], ◌∷◌, length, take, refl, sym, ◌∙◌, ap, subst, arith, Bool, true, false}
+use Rattle.std.proofs.lemmas.Bool.{cases_lt}
+use Rattle.pur_base.specs.declared.device.Device.{Device}
+use Rattle.pur_base.specs.Devices.{Conditions, drive, nvram}
+use Rattle.pur_base.specs.Plain.{Array}
+use Rattle.pur_base.specs.Commands.{Command}
+use Rattle.boot_codec.specs.declared.limits.TheConstants.{RECORD_BYTES}
+use Rattle.boot_codec.specs.declared.record.BootRecord.{BootRecord}
+use Rattle.boot_codec.specs.Record.{IsBootRecord, set_count}
+use Rattle.boot_codec.specs.Spelling.{spelling}
+use Rattle.boot_codec.specs.Region.{BootSlot, A, B, IsRecordOf, other_slot, body_in, body_place, generation_in, Yields}
+use Rattle.array_spec.proofs.Quiet.{bytes_same}
+use Rattle.array_spec.proofs.Votes.{counted, sound_before}
+use Rattle.array_spec.proofs.Settling.{twice_other}
+use Rattle.world.specs.Shelf.{Shelved, Disk, IsShelf, Continues, LeavesOnly}
+use Rattle.world.specs.Losing.{geometry_of}
+use Rattle.world.specs.Writes.{WritesOnly, ChangesOnly}
+use Rattle.world.proofs.Writes.{writes_more}
+use Rattle.boot_region.specs.Members.{IsMember, NonMembersStay, DroppedFailed, OnSlot}
+use Rattle.boot_region.specs.Storing.{Shows, IsOlder, IsInForceOn, IsNewer, IsStoredIn, MayFollow, StandsBut}
+use Rattle.boot_region.proofs.ShownLemmas.{shown_body}
+use Rattle.nvram_log.specs.Members as nv
+use Rattle.nvram_log.specs.Held.{HoldsOn}
+use Rattle.nvram_log.specs.Slots.{IsLog}
+use Rattle.register.specs.declared.state.Register.{Register}
+use Rattle.register.specs.Registers.{IsRegisterOf, OnSlots, drives_of, own_slot, next_slot, next_record}
+use Rattle.register.specs.Standing.{StandsInLog, MayStore, MayStoreAgain}
+use Rattle.register.proofs.FlagLemmas.{fewer_mask, in_cut, cut_in}
+use Rattle.register.proofs.Numbers.{generation_spelled, next_other, lower_yields}
+use Rattle.register.proofs.Follows.{may_follow, left_before}
+
+-- ---- the next record is lawful
+
+some_set : (xs : List Bool) (i : ℕ) → IsMember xs i → 1 ≤ set_count xs
+some_set [] i m = absurd (cc m)
+some_set (true ∷ xs) i m = omega (arith, counted (λ b. b) true xs)
+some_set (false ∷ xs) zero m = absurd (cc m)
+some_set (false ∷ xs) (suc i) m = omega (arith, some_set xs i m, counted (λ b. b) false xs)
+
+pub next_lawful : (boot : BootRecord) (drives nvrams : List Bool) → IsBootRecord boot → length drives ≡ 24 → length nvrams ≡ 2 → ((i : ℕ) → IsMember drives i → IsMember boot.members.drives i)
+    → boot.slots ≤ set_count drives + 2 → nv.IsSome nvrams → boot.generation + 1 < 2 ^ 48 - 8 → IsBootRecord (next_record boot drives nvrams)
+next_lawful boot drives nvrams is all two among enough some low = record {
+  slots = is.slots;
+  units = is.units;
+  generation = (omega arith, omega (arith, low));
+  members = record {
+    drive_flags = all;
+    within = let le = fewer_mask drives boot.members.drives among in omega (arith, le, is.members.within);
+    drives = omega (arith, enough, is.slots.0);
+    nvram_flags = two;
+    nvrams = elim some [ inl m ↦ some_set nvrams 0 m | inr m ↦ some_set nvrams 1 m ];
+  };
+  next = is.next;
+  flushed = is.flushed;
+  patches = is.patches;
+}
+
+-- ---- the other slot
+
+apart : (members : List Bool) (s : BootSlot) (i k : ℕ) → body_place (other_slot s) ≤ k → k < body_place (other_slot s) + RECORD_BYTES → OnSlot members s (drive i) k → ⊥
+apart members A i k low high (inl w) = omega (arith, low, high, w.1.0, w.1.1)
+apart members A i k low high (inr w) = omega (arith, low, high, w.1.0, w.1.1)
+apart members B i k low high (inl w) = omega (arith, low, high, w.1.0, w.1.1)
+apart members B i k low high (inr w) = omega (arith, low, high, w.1.0, w.1.1)
+
+other_body : (members : List Bool) (s : BootSlot) (i : ℕ) (old new : Disk) → ChangesOnly (OnSlot members s (drive i)) old new → body_in (other_slot s) new.bytes ≡ body_in (other_slot s) old.bytes
+other_body members s i old new changes = bytes_same new.bytes old.bytes (body_place (other_slot s)) RECORD_BYTES changes.size (λ k low high. changes.bytes k (apart members s i k low high))
+
+on_slots : (members : List Bool) (s : BootSlot) (d : Device) (i : ℕ) → OnSlot members s d i → OnSlots members d i
+on_slots members A d i w = inl w
+on_slots members B d i w = inr w
+
+-- ---- what the call promises
+
+-- the body was stored in the slot of these members, some of which the register has left
+pub record Puts (old new : Shelved) (now : Register) (members : List Bool) (slot : BootSlot) (body : List ℕ) : Type 0 where
+  pub fewer : (i : ℕ) → IsMember (drives_of now) i → IsMember members i
+  pub dropped : DroppedFailed old new members (drives_of now)
+  pub others : NonMembersStay members old new
+  pub shown : old.honest → (i : ℕ) → IsMember (drives_of now) i → Shows new slot body i
+  pub writes : old.honest → WritesOnly (OnSlot members slot) old new
+  pub any_moment : old.honest → (missing : Conditions) (held boot : BootRecord) (arrays : List Array) → body ≡ spelling boot → IsInForceOn old members missing slot held → MayFollow old missing slot boot arrays
+      → LeavesOnly old new (StandsBut old members missing slot held arrays)
+  pub stored : old.honest → (missing : Conditions) (held boot : BootRecord) (arrays : List Array) → body ≡ spelling boot → IsNewer slot held boot → IsInForceOn old members missing slot held → MayFollow old missing slot boot arrays
+      → IsStoredIn old new members (drives_of now) missing slot held boot arrays
+
+-- in the words of the record before
+pub puts_next : (old new : Shelved) (was mid now : Register) (nvrams : List Bool) → mid.record ≡ next_record was.record was.drives nvrams → mid.drives ≡ was.drives → mid.body.items ≡ spelling mid.record
+    → Puts old new now (drives_of mid) (own_slot mid.record) mid.body.items → Puts old new now (drives_of was) (next_slot was.record) (spelling (next_record was.record was.drives nvrams))
+puts_next old new was mid now nvrams record_is drives_are body_is puts =
+    let cut : drives_of mid ≡ drives_of was = ap (λ (b : BootRecord). take b.slots mid.drives) record_is ∙ ap (take was.record.slots) drives_are in
+    let slot : own_slot mid.record ≡ next_slot was.record = ap own_slot record_is ∙ next_other was.record.generation in
+    let body : mid.body.items ≡ spelling (next_record was.record was.drives nvrams) = body_is ∙ ap spelling record_is in
+    subst (λ (l : List ℕ). Puts old new now (drives_of was) (next_slot was.record) l) body
+    (subst (λ (t : BootSlot). Puts old new now (drives_of was) t mid.body.items) slot
+    (subst (λ (l : List Bool). Puts old new now l (own_slot mid.record) mid.body.items) cut puts))
+
+module _ (old new : Shelved) (is_old : IsShelf old) (on : Continues old new) (was now : Register) (nvrams : List Bool) (is_of : IsRegisterOf (geometry_of old) was) (some : nv.IsSome nvrams)
+    (lawful : IsBootRecord (next_record was.record was.drives nvrams)) (not_spent : was.record.generation + 1 < 2 ^ 48 - 8) (kept : now.record ≡ next_record was.record was.drives nvrams)
+    (beyond : (i : ℕ) → was.record.slots ≤ i → IsMember now.drives i → IsMember was.drives i)
+    (puts : Puts old new now (drives_of was) (next_slot was.record) (spelling (next_record was.record was.drives nvrams))) where
+  pub fewer_all : (i : ℕ) → IsMember now.drives i → IsMember was.drives i
+  fewer_all i m = elim (cases_lt i was.record.slots) [
+    | inr ge ↦ beyond i ge m
+    | inl lt ↦
+        let slots : was.record.slots ≡ now.record.slots = sym (ap (λ (b : BootRecord). b.slots) kept) in
+        in_cut was.drives was.record.slots i (puts.fewer i (cut_in now.drives now.record.slots i (omega (arith, lt, slots)) m))
+  ]
+
+  pub writes_slots : old.honest → WritesOnly (OnSlots (drives_of was)) old new
+  writes_slots h = writes_more (λ d i w. on_slots (drives_of was) (next_slot was.record) d i w) (puts.writes h)
+
+  pub is_of_next : IsRegisterOf (geometry_of new) now
+  is_of_next = record {
+    lawful = record {
+      lawful = subst (λ (b : BootRecord). IsBootRecord b) (sym kept) lawful;
+      slots = ap (λ (b : BootRecord). b.slots) kept ∙ is_of.lawful.slots ∙ sym on.drives;
+      units = ap (λ (b : BootRecord). b.units) kept ∙ is_of.lawful.units ∙ sym on.units;
+    };
+    named = λ i m. subst (λ (b : BootRecord). IsMember b.members.drives i) (sym kept) (fewer_all i m);
+  }
+
+  nvram_same : (n : ℕ) → new.disk (nvram n) ≡ old.disk (nvram n)
+  nvram_same n = puts.others (nvram n) (λ x. x)
+
+  module _ (h : old.honest) (log : List Command) (logged : StandsInLog old was nvrams log) where
+    body_stands : (i : ℕ) → IsMember (drives_of now) i → body_in (next_slot was.record) (new.disk (drive i)).bytes ≡ spelling (next_record was.record was.drives nvrams)
+    body_stands i m = shown_body (next_slot was.record) (new.disk (drive i)).bytes (spelling (next_record was.record was.drives nvrams)) (puts.shown h i m).shown
+
+    own_is : own_slot (next_record was.record was.drives nvrams) ≡ next_slot was.record
+    own_is = next_other was.record.generation
+
+    pub logged_next : StandsInLog new now nvrams log
+    logged_next = record {
+      is_of = is_of_next;
+      patches = ap (λ (b : BootRecord). b.patches) kept ∙ logged.patches;
+      bodies = λ i m. subst (λ (b : BootRecord). body_in (own_slot b) (new.disk (drive i)).bytes ≡ spelling b) (sym kept)
+          (subst (λ (t : BootSlot). body_in t (new.disk (drive i)).bytes ≡ spelling (next_record was.record was.drives nvrams)) (sym own_is) (body_stands i m));
+      holds = subst (λ (b : BootRecord). HoldsOn new nvrams b.flushed log) (sym kept) (record {
+        log = λ n lt m. subst (λ (d : Disk). IsLog d.bytes was.record.flushed log) (sym (nvram_same n)) (logged.holds.log n lt m);
+        clean = λ n lt m. subst (λ (d : Disk). d.dirty ≡ []) (sym (nvram_same n)) (logged.holds.clean n lt m);
+      });
+      accepted = logged.accepted;
+    }
+
+    older_body : (i : ℕ) → IsMember (drives_of now) i → body_in (own_slot was.record) (new.disk (drive i)).bytes ≡ spelling was.record
+    older_body i m =
+        subst (λ (t : BootSlot). body_in t (new.disk (drive i)).bytes ≡ body_in t (old.disk (drive i)).bytes) (twice_other (own_slot was.record))
+        (other_body (drives_of was) (next_slot was.record) i (old.disk (drive i)) (new.disk (drive i)) ((puts.writes h).device (drive i)))
+        ∙ logged.bodies i (puts.fewer i m)
+
+    newer : (slot : BootSlot) → Yields slot (generation_in (spelling was.record)) (generation_in (spelling (next_record was.record was.drives nvrams)))
+    newer slot =
+        let a = generation_spelled was.record is_of.lawful.lawful in
+        let b = generation_spelled (next_record was.record was.drives nvrams) lawful in
+        lower_yields slot (generation_in (spelling was.record)) (generation_in (spelling (next_record was.record was.drives nvrams))) (omega (arith, a, b))
+
+    pub older_next : (i : ℕ) → IsMember (drives_of now) i → IsOlder new (next_slot now.record) (spelling now.record) i
+    older_next i m = subst (λ (b : BootRecord). IsOlder new (next_slot b) (spelling b) i) (sym kept)
+        (subst (λ (t : BootSlot). IsOlder new (other_slot t) (spelling (next_record was.record was.drives nvrams)) i) (sym own_is)
+        (subst (λ (t : BootSlot). Yields (other_slot t) (generation_in (body_in t (new.disk (drive i)).bytes)) (generation_in (spelling (next_record was.record was.drives nvrams)))) (sym (twice_other (own_slot was.record)))
+        (subst (λ (l : List ℕ). Yields (next_slot was.record) (generation_in l) (generation_in (spelling (next_record was.record was.drives nvrams)))) (sym (older_body i m)) (newer (next_slot was.record)))))
+
+  pub shown_next : old.honest → (i : ℕ) → IsMember (drives_of now) i → Shows new (own_slot now.record) (spelling now.record) i
+  shown_next h i m = subst (λ (b : BootRecord). Shows new (own_slot b) (spelling b) i) (sym kept)
+      (subst (λ (t : BootSlot). Shows new t (spelling (next_record was.record was.drives nvrams)) i) (sym (next_other was.record.generation)) (puts.shown h i m))
+
+  module _ (h : old.honest) (missing : Conditions) (log : List Command) (arrays : List Array) (may : MayStore old was nvrams missing log arrays) where
+    among : (i : ℕ) → IsMember (drives_of was) i → IsMember was.drives i
+    among i m = in_cut was.drives was.record.slots i m
+
+    next_lawful_of : IsRecordOf (geometry_of old) (next_record was.record was.drives nvrams)
+    next_lawful_of = record { lawful = lawful; slots = is_of.lawful.slots; units = is_of.lawful.units }
+
+    follow : MayFollow old missing (next_slot was.record) (next_record was.record was.drives nvrams) arrays
+    follow = may_follow old is_old was.record (drives_of was) was.drives nvrams missing log arrays is_of.lawful next_lawful_of not_spent may.logged.patches among some
+        may.logged.holds may.logged.accepted may.in_force may.stands may.one_of may.sound may.left_out
+
+    pub moments_next : LeavesOnly old new (StandsBut old (drives_of was) missing (next_slot was.record) was.record arrays)
+    moments_next = puts.any_moment h missing was.record (next_record was.record was.drives nvrams) arrays refl may.in_force follow
+
+    pub again_next : MayStoreAgain old new was now nvrams missing log arrays
+    again_next later account =
+        let s = puts.stored h missing was.record (next_record was.record was.drives nvrams) arrays refl (newer h log may.logged (next_slot was.record)) may.in_force follow later account in
+        record {
+          logged = logged_next h log may.logged;
+          in_force = subst (λ (b : BootRecord). IsInForceOn new (drives_of now) later (next_slot b) b) (sym kept)
+              (subst (λ (t : BootSlot). IsInForceOn new (drives_of now) later (other_slot t) (next_record was.record was.drives nvrams)) (sym (next_other was.record.generation)) s.in_force);
+          stands = s.stands;
+          one_of = may.one_of;
+          sound = λ n lt e. may.sound n lt (sound_before (missing (nvram n)) (later (nvram n)) (account.within (nvram n)) e);
+          left_out = λ n e m. may.left_out n (left_before (missing (nvram n)) (later (nvram n)) (account.within (nvram n)) e) m;
+        }

@@ -1,0 +1,43 @@
+-- A store that goes on until the record is on all drives that it names.
+use Rattle.std.proofs.Common.{◌≡◌, inl, inr, ℕ, ◌<◌, List, Bool, sym, ◌∙◌, arith, length, Result, Ok, Err, OnOk, OnErr}
+use Rattle.std.proofs.lemmas.Bool.{cases_lt}
+use Rattle.boot_codec.specs.Record.{set_count}
+use Rattle.boot_region.specs.Members.{IsMember}
+use Rattle.pur_base.specs.declared.device.Device.{Device}
+use Rattle.pur_base.specs.declared.device.Device.TheVariants as dev
+use Rattle.register.specs.declared.state.Register.{Register}
+use Rattle.register.specs.Registers.{OnSlots, drives_of}
+use Rattle.register.proofs.FlagLemmas.{same_count, in_cut, cut_in, not_below}
+
+-- fewer drives in all are fewer of the shelf's
+pub fewer_cut : (was now : Register) → now.record.slots ≡ was.record.slots → ((i : ℕ) → IsMember now.drives i → IsMember was.drives i) → (i : ℕ) → IsMember (drives_of now) i → IsMember (drives_of was) i
+fewer_cut was now slots fewer i m = elim (cases_lt i was.record.slots) [
+  | inl lt ↦ cut_in was.drives was.record.slots i lt (fewer i (in_cut now.drives now.record.slots i m))
+  | inr ge ↦ absurd (not_below now.drives now.record.slots i (omega (arith, ge, slots)) m)
+]
+
+-- what is written in the slots of fewer drives
+pub on_more : (m0 m1 : List Bool) → ((i : ℕ) → IsMember m1 i → IsMember m0 i) → (d : Device) (i : ℕ) → OnSlots m1 d i → OnSlots m0 d i
+on_more m0 m1 fewer (dev.Drive d) i (inl (inl w)) = inl (inl (fewer d.0 w.0, w.1))
+on_more m0 m1 fewer (dev.Drive d) i (inl (inr w)) = inl (inr (fewer d.0 w.0, w.1))
+on_more m0 m1 fewer (dev.Drive d) i (inr (inl w)) = inr (inl (fewer d.0 w.0, w.1))
+on_more m0 m1 fewer (dev.Drive d) i (inr (inr w)) = inr (inr (fewer d.0 w.0, w.1))
+on_more m0 m1 fewer (dev.Nv n) i (inl (inl w)) = absurd w
+on_more m0 m1 fewer (dev.Nv n) i (inl (inr w)) = absurd w
+on_more m0 m1 fewer (dev.Nv n) i (inr (inl w)) = absurd w
+on_more m0 m1 fewer (dev.Nv n) i (inr (inr w)) = absurd w
+
+-- where a drive that was named is left out, fewer are left
+pub fewer_left : (was now named : List Bool) → length now ≡ length was → ((i : ℕ) → IsMember now i → IsMember was i) → named ≡ was → (now ≡ named → ⊥) → set_count now < set_count was
+fewer_left was now named len fewer is differs = elim (cases_lt (set_count now) (set_count was)) [
+  | inl lt ↦ lt
+  | inr ge ↦ absurd (differs (same_count now was len fewer ge ∙ sym is))
+]
+
+pub on_ok : {T E P Q : Type 0} (r : Result T E) → (P → Q) → OnOk r P → OnOk r Q
+on_ok (Ok x) f p = f p
+on_ok (Err e) f p = tt
+
+pub on_err : {T E P Q : Type 0} (r : Result T E) → (P → Q) → OnErr r P → OnErr r Q
+on_err (Ok x) f p = tt
+on_err (Err e) f p = f p

@@ -1,0 +1,110 @@
+use Rattle.std.proofs.Common.{rules, arith, ◌≡◌, ◌+◌, ◌<◌, ◌≤◌, length, sym, ◌∙◌, ap}
+use Rattle.boot_codec.specs.declared.record.BootRecord.{BootRecord}
+use Rattle.boot_codec.specs.Record.{set_count}
+use Rattle.world.proofs.Moments.{continues_trans}
+use Rattle.world.proofs.Writes.{writes_then, writes_more}
+use Rattle.boot_region.proofs.Stored.{stay_then}
+use Rattle.register.specs.Registers.{OnSlots, drives_of, next_slot}
+use Rattle.register.proofs.FlagLemmas.{same_flags, other_flags}
+use Rattle.register.proofs.Opened.{is_open}
+use Rattle.register.proofs.Again.{again_moments, meanwhile}
+use Rattle.register.proofs.Stores.{fewer_cut, on_more, fewer_left, on_ok, on_err}
+use Rattle.register.proofs.state.Register.+store.Goals as goal
+
+pub returns-then-eq-clause-members : goal.returns-then-eq-clause-members
+returns-then-eq-clause-members g t c =
+    let same : c.store_next.new.self.drives ≡ c.store_next.new.self.record.members.drives = same_flags c.store_next.new.self.drives c.store_next.new.self.record.members.drives c.if-eq.ensures in
+    (sym same, ap (λ (b : BootRecord). b.members.nvrams) c.in_ok-store_next.ensures.next)
+
+pub returns-then-eq-clause-enough : goal.returns-then-eq-clause-enough
+returns-then-eq-clause-enough g t c =
+    let same : c.store_next.new.self.drives ≡ c.store_next.new.self.record.members.drives = same_flags c.store_next.new.self.drives c.store_next.new.self.record.members.drives c.if-eq.ensures in
+    let slots : c.store_next.new.self.record.slots ≡ c.args.self.now.record.slots = ap (λ (b : BootRecord). b.slots) c.in_ok-store_next.ensures.next in
+    let count : set_count c.store_next.new.self.drives ≡ set_count c.args.self.now.drives = ap set_count (same ∙ ap (λ (b : BootRecord). b.members.drives) c.in_ok-store_next.ensures.next) in
+    omega (arith, slots, count, c.in_ok-store_next.ensures.enough)
+
+pub returns-then-eq-clause-stores : goal.returns-then-eq-clause-stores
+returns-then-eq-clause-stores g t c =
+    let same : c.store_next.new.self.drives ≡ c.store_next.new.self.record.members.drives = same_flags c.store_next.new.self.drives c.store_next.new.self.record.members.drives c.if-eq.ensures in
+    let generation : c.store_next.new.self.record.generation ≡ c.args.self.now.record.generation + 1 = ap (λ (b : BootRecord). b.generation) c.in_ok-store_next.ensures.next in
+    let count : set_count c.store_next.new.self.drives ≡ set_count c.args.self.now.drives = ap set_count (same ∙ ap (λ (b : BootRecord). b.members.drives) c.in_ok-store_next.ensures.next) in
+    omega (arith, generation, count)
+
+pub returns-then-eq-clause-stored : goal.returns-then-eq-clause-stored
+returns-then-eq-clause-stored g t c h log logged =
+    let same : c.store_next.new.self.drives ≡ c.store_next.new.self.record.members.drives = same_flags c.store_next.new.self.drives c.store_next.new.self.record.members.drives c.if-eq.ensures in
+    let slots : c.store_next.new.self.record.slots ≡ c.args.self.now.record.slots = ap (λ (b : BootRecord). b.slots) c.in_ok-store_next.ensures.next in
+    let count : set_count c.store_next.new.self.drives ≡ set_count c.args.self.now.drives = ap set_count (same ∙ ap (λ (b : BootRecord). b.members.drives) c.in_ok-store_next.ensures.next) in
+    let l = c.in_ok-store_next.ensures.logged h log logged in
+    let enough : c.store_next.new.self.record.slots ≤ set_count c.store_next.new.self.drives + 2 = omega (arith, slots, count, c.in_ok-store_next.ensures.enough) in
+    is_open (g.S.Shelf.shelf c.store_next.new.shelf) (g.met.S.Shelf.is_shelf c.store_next.new.shelf) _ c.args.nvrams log
+    (record { is_of = record { lawful = l.is_of.lawful; named = l.is_of.named }; patches = l.patches; bodies = l.bodies; holds = l.holds; accepted = l.accepted })
+    (sym same) (ap (λ (b : BootRecord). b.members.nvrams) c.in_ok-store_next.ensures.next) enough c.in_ok-store_next.ensures.not_spent c.requires.nvrams
+    (c.in_ok-store_next.ensures.shown h) (c.in_ok-store_next.ensures.older h log logged)
+
+pub store-requires : goal.store-requires
+store-requires g t c κs within =
+    let as_many : length c.store_next.new.self.drives ≡ length c.args.self.now.drives = c.in_ok-store_next.ensures.flags in
+    let smaller : set_count c.store_next.new.self.drives < set_count c.args.self.now.drives =
+    fewer_left c.args.self.now.drives c.store_next.new.self.drives c.store_next.new.self.record.members.drives as_many c.in_ok-store_next.ensures.fewer
+    (ap (λ (b : BootRecord). b.members.drives) c.in_ok-store_next.ensures.next) (other_flags c.store_next.new.self.drives c.store_next.new.self.record.members.drives c.if-eq.ensures) in
+    search rules
+
+pub returns-clause-continues : goal.returns-clause-continues
+returns-clause-continues g t c = continues_trans c.in_ok-store_next.ensures.continues c.store.ensures.continues
+
+pub returns-clause-others : goal.returns-clause-others
+returns-clause-others g t c =
+    stay_then (g.S.Shelf.shelf c.args.shelf.now) (g.S.Shelf.shelf c.store_next.new.shelf) (g.S.Shelf.shelf c.store.new.shelf) (drives_of c.args.self.now) (drives_of c.store_next.new.self)
+    (fewer_cut c.args.self.now c.store_next.new.self (ap (λ (b : BootRecord). b.slots) c.in_ok-store_next.ensures.next) c.in_ok-store_next.ensures.fewer)
+    c.in_ok-store_next.ensures.others c.store.ensures.others
+
+pub returns-clause-writes : goal.returns-clause-writes
+returns-clause-writes g t c h =
+    let ab = c.in_ok-store_next.ensures.continues in
+    writes_then ab (c.in_ok-store_next.ensures.writes h)
+    (writes_more (λ d i w. on_more (drives_of c.args.self.now) (drives_of c.store_next.new.self)
+    (fewer_cut c.args.self.now c.store_next.new.self (ap (λ (b : BootRecord). b.slots) c.in_ok-store_next.ensures.next) c.in_ok-store_next.ensures.fewer) d i w)
+    (c.store.ensures.writes (ab.honest h)))
+
+pub returns-clause-stores : goal.returns-clause-stores
+returns-clause-stores g t c =
+    let as_many : length c.store_next.new.self.drives ≡ length c.args.self.now.drives = c.in_ok-store_next.ensures.flags in
+    let smaller : set_count c.store_next.new.self.drives < set_count c.args.self.now.drives =
+    fewer_left c.args.self.now.drives c.store_next.new.self.drives c.store_next.new.self.record.members.drives as_many c.in_ok-store_next.ensures.fewer
+    (ap (λ (b : BootRecord). b.members.drives) c.in_ok-store_next.ensures.next) (other_flags c.store_next.new.self.drives c.store_next.new.self.record.members.drives c.if-eq.ensures) in
+    let generation : c.store_next.new.self.record.generation ≡ c.args.self.now.record.generation + 1 = ap (λ (b : BootRecord). b.generation) c.in_ok-store_next.ensures.next in
+    on_ok c.store.result (λ le. omega (arith, le, smaller, generation)) c.store.ensures.stores
+
+pub returns-clause-lost : goal.returns-clause-lost
+returns-clause-lost g t c =
+    let as_many : length c.store_next.new.self.drives ≡ length c.args.self.now.drives = c.in_ok-store_next.ensures.flags in
+    let smaller : set_count c.store_next.new.self.drives < set_count c.args.self.now.drives =
+    fewer_left c.args.self.now.drives c.store_next.new.self.drives c.store_next.new.self.record.members.drives as_many c.in_ok-store_next.ensures.fewer
+    (ap (λ (b : BootRecord). b.members.drives) c.in_ok-store_next.ensures.next) (other_flags c.store_next.new.self.drives c.store_next.new.self.record.members.drives c.if-eq.ensures) in
+    let generation : c.store_next.new.self.record.generation ≡ c.args.self.now.record.generation + 1 = ap (λ (b : BootRecord). b.generation) c.in_ok-store_next.ensures.next in
+    on_err c.store.result (λ le. omega (arith, le, smaller, generation)) c.store.ensures.lost
+
+pub returns-clause-any_moment : goal.returns-clause-any_moment
+returns-clause-any_moment g t c h missing log arrays may =
+    let a = g.S.Shelf.shelf c.args.shelf.now in
+    let b = g.S.Shelf.shelf c.store_next.new.shelf in
+    let e = g.S.Shelf.shelf c.store.new.shelf in
+    let ab = c.in_ok-store_next.ensures.continues in
+    let hb = ab.honest h in
+    again_moments a b (drives_of c.args.self.now) missing (next_slot c.args.self.now.record) c.args.self.now.record {W = OnSlots (drives_of c.store_next.new.self)} e (drives_of c.store_next.new.self)
+    (next_slot c.store_next.new.self.record) c.store_next.new.self.record arrays ab
+    (fewer_cut c.args.self.now c.store_next.new.self (ap (λ (x : BootRecord). x.slots) c.in_ok-store_next.ensures.next) c.in_ok-store_next.ensures.fewer)
+    (c.in_ok-store_next.ensures.older h log may.logged) (c.in_ok-store_next.ensures.any_moment h missing log arrays may)
+    (λ bears account.
+    let m = c.in_ok-store_next.ensures.again h missing log arrays may (meanwhile a b (drives_of c.args.self.now) missing (next_slot c.args.self.now.record) c.args.self.now.record) account in
+    c.store.ensures.any_moment hb (meanwhile a b (drives_of c.args.self.now) missing (next_slot c.args.self.now.record) c.args.self.now.record) log arrays
+    (record {
+      logged = record { is_of = record { lawful = m.logged.is_of.lawful; named = m.logged.is_of.named }; patches = m.logged.patches; bodies = m.logged.bodies; holds = m.logged.holds; accepted = m.logged.accepted };
+      in_force = m.in_force;
+      stands = m.stands;
+      one_of = m.one_of;
+      sound = m.sound;
+      left_out = m.left_out;
+    }))
+    (c.store.ensures.writes hb).any_moment

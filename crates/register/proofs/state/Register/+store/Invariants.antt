@@ -1,0 +1,5 @@
+use Rattle.boot_codec.specs.Record.{set_count}
+use Rattle.register.proofs.state.Register.+store.Given as goal
+
+abbrev pub decreases-store : goal.decreases-store
+decreases-store g l = set_count l.self.now.drives

@@ -1,0 +1,97 @@
+use Rattle.std.proofs.Common.{arith, ◌≡◌, ◌+◌, ◌-◌, ◌^◌, ◌<◌, ◌≤◌, ℕ, List, Bool, length, ◌∙◌, ap, subst}
+use Rattle.boot_codec.specs.declared.record.BootRecord.{BootRecord}
+use Rattle.boot_codec.specs.Record.{IsBootRecord}
+use Rattle.boot_codec.specs.Spelling.{spelling}
+use Rattle.world.proofs.Moments.{started}
+use Rattle.boot_region.specs.Members.{IsMember}
+use Rattle.boot_region.specs.Storing.{StandsBut}
+use Rattle.register.specs.Registers.{drives_of, next_slot, next_record}
+use Rattle.register.proofs.Rounds.{Puts, puts_next, fewer_all, writes_slots, is_of_next, logged_next, older_next, shown_next, moments_next, again_next}
+use Rattle.register.proofs.Follows.{stands_before}
+use Rattle.register.proofs.state.Register.store_next.Given as given
+use Rattle.register.proofs.state.Register.store_next.Goals as goal
+
+-- nothing was written
+pub returns-in_err-advance-clause-any_moment : goal.returns-in_err-advance-clause-any_moment
+returns-in_err-advance-clause-any_moment g c h missing log arrays may =
+    let a = g.S.Shelf.shelf c.args.shelf.now in
+    started a (StandsBut a (drives_of c.args.self.now) missing (next_slot c.args.self.now.record) c.args.self.now.record arrays) (g.met.S.Shelf.is_shelf c.args.shelf.now)
+    (λ stop m later account. stands_before a missing later arrays stop m (may.stands stop m) account.within account.bearable)
+
+-- what `put` promises, in the words of the record before
+the_puts : (g : given.Over) (c : goal.After-put g) → Puts (g.S.Shelf.shelf c.args.shelf.now) (g.S.Shelf.shelf c.put.new.shelf) c.put.new.self (drives_of c.args.self.now) (next_slot c.args.self.now.record) (spelling (next_record c.args.self.now.record c.args.self.now.drives c.args.nvrams))
+the_puts g c =
+    puts_next (g.S.Shelf.shelf c.args.shelf.now) (g.S.Shelf.shelf c.put.new.shelf) c.args.self.now c.advance.new.self c.put.new.self c.args.nvrams
+    c.in_ok-advance.ensures.ok c.in_ok-advance.ensures.drives c.in_ok-advance.ensures.body
+    (record {
+      fewer = c.put.ensures.fewer;
+      dropped = c.put.ensures.dropped;
+      others = c.put.ensures.others;
+      shown = c.put.ensures.shown;
+      writes = c.put.ensures.writes;
+      any_moment = c.put.ensures.any_moment;
+      stored = c.put.ensures.stored;
+    })
+
+lawful : (g : given.Over) (c : goal.After-put g) → IsBootRecord (next_record c.args.self.now.record c.args.self.now.drives c.args.nvrams)
+lawful g c = subst (λ (b : BootRecord). IsBootRecord b) c.in_ok-advance.ensures.ok c.in_ok-advance.ensures.lawful
+
+not_spent : (g : given.Over) (c : goal.After-put g) → c.args.self.now.record.generation + 1 < 2 ^ 48 - 8
+not_spent g c = subst (λ (b : BootRecord). b.generation < 2 ^ 48 - 8) c.in_ok-advance.ensures.ok c.in_ok-advance.ensures.not_spent
+
+kept : (g : given.Over) (c : goal.After-put g) → c.put.new.self.record ≡ next_record c.args.self.now.record c.args.self.now.drives c.args.nvrams
+kept g c = c.put.ensures.kept ∙ c.in_ok-advance.ensures.ok
+
+beyond : (g : given.Over) (c : goal.After-put g) → (i : ℕ) → c.args.self.now.record.slots ≤ i → IsMember c.put.new.self.drives i → IsMember c.args.self.now.drives i
+beyond g c i le m =
+    let slots : c.advance.new.self.record.slots ≡ c.args.self.now.record.slots = ap (λ (b : BootRecord). b.slots) c.in_ok-advance.ensures.ok in
+    subst (λ (l : List Bool). IsMember l i) c.in_ok-advance.ensures.drives (c.put.ensures.beyond i (omega (arith, le, slots)) m)
+
+pub returns-clause-fewer : goal.returns-clause-fewer
+returns-clause-fewer g c =
+    fewer_all (g.S.Shelf.shelf c.args.shelf.now) (g.S.Shelf.shelf c.put.new.shelf) (g.met.S.Shelf.is_shelf c.args.shelf.now) c.put.ensures.continues c.args.self.now c.put.new.self c.args.nvrams
+    c.requires.is_of c.requires.nvrams (lawful g c) (not_spent g c) (kept g c) (beyond g c) (the_puts g c)
+
+pub returns-clause-dropped : goal.returns-clause-dropped
+returns-clause-dropped g c = (the_puts g c).dropped
+
+pub returns-clause-others : goal.returns-clause-others
+returns-clause-others g c = (the_puts g c).others
+
+pub returns-clause-writes : goal.returns-clause-writes
+returns-clause-writes g c =
+    writes_slots (g.S.Shelf.shelf c.args.shelf.now) (g.S.Shelf.shelf c.put.new.shelf) (g.met.S.Shelf.is_shelf c.args.shelf.now) c.put.ensures.continues c.args.self.now c.put.new.self c.args.nvrams
+    c.requires.is_of c.requires.nvrams (lawful g c) (not_spent g c) (kept g c) (beyond g c) (the_puts g c)
+
+pub returns-clause-is_of : goal.returns-clause-is_of
+returns-clause-is_of g c =
+    is_of_next (g.S.Shelf.shelf c.args.shelf.now) (g.S.Shelf.shelf c.put.new.shelf) (g.met.S.Shelf.is_shelf c.args.shelf.now) c.put.ensures.continues c.args.self.now c.put.new.self c.args.nvrams
+    c.requires.is_of c.requires.nvrams (lawful g c) (not_spent g c) (kept g c) (beyond g c) (the_puts g c)
+
+pub returns-clause-logged : goal.returns-clause-logged
+returns-clause-logged g c h log logged =
+    logged_next (g.S.Shelf.shelf c.args.shelf.now) (g.S.Shelf.shelf c.put.new.shelf) (g.met.S.Shelf.is_shelf c.args.shelf.now) c.put.ensures.continues c.args.self.now c.put.new.self c.args.nvrams
+    c.requires.is_of c.requires.nvrams (lawful g c) (not_spent g c) (kept g c) (beyond g c) (the_puts g c) h log logged
+
+pub returns-clause-shown : goal.returns-clause-shown
+returns-clause-shown g c h =
+    shown_next (g.S.Shelf.shelf c.args.shelf.now) (g.S.Shelf.shelf c.put.new.shelf) (g.met.S.Shelf.is_shelf c.args.shelf.now) c.put.ensures.continues c.args.self.now c.put.new.self c.args.nvrams
+    c.requires.is_of c.requires.nvrams (lawful g c) (not_spent g c) (kept g c) (beyond g c) (the_puts g c) h
+
+pub returns-clause-older : goal.returns-clause-older
+returns-clause-older g c h log logged =
+    older_next (g.S.Shelf.shelf c.args.shelf.now) (g.S.Shelf.shelf c.put.new.shelf) (g.met.S.Shelf.is_shelf c.args.shelf.now) c.put.ensures.continues c.args.self.now c.put.new.self c.args.nvrams
+    c.requires.is_of c.requires.nvrams (lawful g c) (not_spent g c) (kept g c) (beyond g c) (the_puts g c) h log logged
+
+pub returns-clause-any_moment : goal.returns-clause-any_moment
+returns-clause-any_moment g c h missing log arrays may =
+    moments_next (g.S.Shelf.shelf c.args.shelf.now) (g.S.Shelf.shelf c.put.new.shelf) (g.met.S.Shelf.is_shelf c.args.shelf.now) c.put.ensures.continues c.args.self.now c.put.new.self c.args.nvrams
+    c.requires.is_of c.requires.nvrams (lawful g c) (not_spent g c) (kept g c) (beyond g c) (the_puts g c) h missing log arrays may
+
+pub returns-clause-again : goal.returns-clause-again
+returns-clause-again g c h missing log arrays may =
+    again_next (g.S.Shelf.shelf c.args.shelf.now) (g.S.Shelf.shelf c.put.new.shelf) (g.met.S.Shelf.is_shelf c.args.shelf.now) c.put.ensures.continues c.args.self.now c.put.new.self c.args.nvrams
+    c.requires.is_of c.requires.nvrams (lawful g c) (not_spent g c) (kept g c) (beyond g c) (the_puts g c) h missing log arrays may
+
+pub returns-clause-flags : goal.returns-clause-flags
+returns-clause-flags g c = c.put.ensures.flags ∙ ap length c.in_ok-advance.ensures.drives

@@ -1,0 +1,56 @@
+-- An array that stands in its log alone, by the record in the register.
+use Rattle.std.specs.Prelude.{◌≡◌, ℕ, ◌<◌, List, [], ◌∷◌, Bool, Contains}
+use Rattle.pur_base.specs.Devices.{Conditions, Sound, LeftOut, IsBearable, drive, nvram}
+use Rattle.pur_base.specs.Plain.{Array}
+use Rattle.pur_base.specs.Commands.{Command, AllAccepted, after_all}
+use Rattle.boot_codec.specs.declared.record.BootRecord.{BootRecord}
+use Rattle.boot_codec.specs.Region.{BootSlot, body_in}
+use Rattle.boot_codec.specs.Spelling.{spelling}
+use Rattle.array_spec.specs.Standing.{MayBeGiven}
+use Rattle.world.specs.Shelf.{Shelved, Stop, MayStop}
+use Rattle.world.specs.Losing.{geometry_of}
+use Rattle.boot_region.specs.Members.{IsMember}
+use Rattle.boot_region.specs.Storing.{StandsNow, IsInForceOn, AreOlder, AccountsFor}
+use Rattle.nvram_log.specs.Held.{HoldsOn}
+use Rattle.nvram_log.specs.Members as nv
+use Rattle.register.specs.declared.state.Register.{Register}
+use Rattle.register.specs.Registers.{IsRegisterOf, own_slot, next_slot, drives_of, named_sound}
+
+-- the record's bytes stand on each of the drives, each of the NVRAM devices holds the log, and the array is what the log makes of nothing
+pub record StandsInLog (shelf : Shelved) (r : Register) (nvrams : List Bool) (log : List Command) : Type 0 where
+  pub is_of : IsRegisterOf (geometry_of shelf) r
+  pub patches : r.record.patches ≡ []
+  pub bodies : (i : ℕ) → IsMember (drives_of r) i → body_in (own_slot r.record) (shelf.disk (drive i)).bytes ≡ spelling r.record
+  pub holds : HoldsOn shelf nvrams r.record.flushed log
+  pub accepted : AllAccepted [] log
+
+-- In these conditions the next record may be stored: the record is in force, and the devices stand for the arrays, one of which is that of the log.
+-- Each NVRAM device that isn't missing holds the log, and none that was left out is among them.
+pub record MayStore (shelf : Shelved) (r : Register) (nvrams : List Bool) (missing : Conditions) (log : List Command) (arrays : List Array) : Type 0 where
+  pub logged : StandsInLog shelf r nvrams log
+  pub in_force : IsInForceOn shelf (drives_of r) missing (next_slot r.record) r.record
+  pub stands : StandsNow shelf missing arrays
+  pub one_of : Contains arrays (after_all [] log)
+  pub sound : (n : ℕ) → n < 2 → missing (nvram n) ≡ Sound → nv.IsMember nvrams n
+  pub left_out : (n : ℕ) → missing (nvram n) ≡ LeftOut → ¬ (nv.IsMember nvrams n)
+
+-- in all conditions that tell what failed meanwhile the next record may be stored again
+abbrev pub MayStoreAgain : Shelved → Shelved → Register → Register → List Bool → Conditions → List Command → List Array → Type 0
+MayStoreAgain old new was now nvrams missing log arrays = (later : Conditions)
+    → AccountsFor old (drives_of was) missing (next_slot was.record) (spelling was.record) (λ d. (new.disk d).faults) (λ d. (new.disk d).write_faults) later
+    → MayStore new now nvrams later log arrays
+
+-- a record that may be given is this one
+abbrev pub IsAlone : Shelved → Conditions → BootSlot → BootRecord → Type 0
+IsAlone shelf missing slot boot = (stop : Stop) (slot2 : BootSlot) (boot2 : BootRecord) → MayStop shelf stop → MayBeGiven (geometry_of shelf) stop.image missing slot2 boot2 → (slot2 ≡ slot) × (boot2 ≡ boot)
+
+-- The record alone is in force, on all that it names, and the devices stand for the array of the log, whatever the others show.
+pub record IsOpen (shelf : Shelved) (r : Register) (nvrams : List Bool) (log : List Command) : Type 0 where
+  pub logged : StandsInLog shelf r nvrams log
+  pub drives : r.record.members.drives ≡ r.drives
+  pub nvrams_are : r.record.members.nvrams ≡ nvrams
+  pub bearable : IsBearable (geometry_of shelf) (named_sound r.record)
+  pub in_force : IsInForceOn shelf (drives_of r) (named_sound r.record) (next_slot r.record) r.record
+  pub older : AreOlder shelf (named_sound r.record) (drives_of r) (next_slot r.record) (spelling r.record)
+  pub stands : StandsNow shelf (named_sound r.record) (after_all [] log ∷ [])
+  pub alone : IsAlone shelf (named_sound r.record) (own_slot r.record) r.record

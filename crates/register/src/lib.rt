@@ -1,0 +1,12 @@
+//! The boot register of an array that stands in its log alone: the record in force, the drives on which it is, and the storing of the next one.
+//! At every moment of a store the devices stand for the arrays for which they stood, and after it for the array of the log.
+#![tactic(auto)]
+
+mod counting;
+mod next;
+mod slots;
+mod state;
+mod storing;
+
+pub use next::StoreFault;
+pub use state::Register;

@@ -1,0 +1,60 @@
+// The next record.
+ghost use Rattle.std.specs.Prelude.{◌≡◌, ◌+◌, ◌-◌, ◌^◌, ◌<◌, ◌≤◌, ℕ, OnOk, OnErr, IfErr};
+ghost use Rattle.boot_codec.specs.Record.{IsBootRecord, set_count};
+ghost use Rattle.boot_codec.specs.Spelling.{spelling};
+ghost use Rattle.nvram_log.specs.Members.{IsSome};
+
+use crate::Register;
+use crate::counting::count_set;
+use boot_codec::{DRIVE_FLAGS, Members, NUMBER_LIMIT, NVRAM_FLAGS, write_record};
+
+/// As many drives may be missing.
+const MISSING_MAX: usize = 2;
+
+/// No generation that is stored reaches this, so that room is left for others.
+const GENERATION_LIMIT: u64 = NUMBER_LIMIT - 8;
+
+/// Why no record was stored.
+#[derive(Clone, Copy, Debug, PartialEq, Eq, Drop)]
+pub enum StoreFault {
+    /// The next generation would be 2^48 - 8 or higher.
+    Spent,
+    /// More than two drives of the shelf are missing from these.
+    TooFew([bool; DRIVE_FLAGS]),
+}
+
+impl Register {
+    ghost use Rattle.register.specs.Faults.{IsFaultOf};
+    ghost use Rattle.register.specs.Registers.{next_record};
+    ghost use Rattle.boot_region.specs.Members.{IsMember};
+
+    /// Makes and spells the next record, which names the drives that are left and these NVRAM devices. An error leaves all as it was.
+    pub(crate) fn advance(&mut self, nvrams: [bool; NVRAM_FLAGS]) -> Result<(), StoreFault>
+        requires lawful { IsBootRecord self.old.record }
+        requires named { (i : ℕ) → IsMember self.old.drives i → IsMember self.old.record.members.drives i }
+        requires nvrams { IsSome nvrams }
+        ensures ok { OnOk result (self.new.record ≡ next_record self.old.record self.old.drives nvrams) }
+        ensures lawful { OnOk result (IsBootRecord self.new.record) }
+        ensures body { OnOk result (self.new.body.items ≡ spelling self.new.record) }
+        ensures drives { self.new.drives ≡ self.old.drives }
+        ensures enough { OnOk result (self.old.record.slots ≤ set_count self.old.drives + 2) }
+        ensures not_spent { OnOk result (self.new.record.generation < 2 ^ 48 - 8) }
+        ensures err { OnErr result (self.new ≡ self.old) }
+        ensures fault { IfErr result (λ e. IsFaultOf self.old e) }
+    {
+        if count_set(&self.drives) + MISSING_MAX < self.record.slots as usize {
+            return Err(StoreFault::TooFew(self.drives));
+        }
+        let generation = self.record.generation + 1;
+        if generation >= GENERATION_LIMIT {
+            return Err(StoreFault::Spent);
+        }
+        self.record.generation = generation;
+        self.record.members = Members {
+            drives: self.drives,
+            nvrams,
+        };
+        write_record(&self.record, &mut self.body);
+        Ok(())
+    }
+}

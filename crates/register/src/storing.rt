@@ -1,0 +1,130 @@
+// The next record is stored.
+ghost use Rattle.std.specs.Prelude.{◌≡◌, ◌<◌, ◌≤◌, ◌+◌, ◌-◌, ◌^◌, ℕ, List, OnOk, OnErr, IfErr, length};
+ghost use Rattle.pur_base.specs.Devices.{Conditions};
+ghost use Rattle.pur_base.specs.Plain.{Array};
+ghost use Rattle.pur_base.specs.Commands.{Command};
+ghost use Rattle.boot_codec.specs.declared.record.BootRecord.{BootRecord};
+ghost use Rattle.boot_codec.specs.Record.{set_count};
+ghost use Rattle.boot_codec.specs.Spelling.{spelling};
+ghost use Rattle.world.specs.Losing.{geometry_of};
+ghost use Rattle.world.specs.Shelf.{Continues, LeavesOnly};
+ghost use Rattle.world.specs.Writes.{WritesOnly};
+ghost use Rattle.boot_region.specs.Members.{IsMember, NonMembersStay, DroppedFailed, OnSlot};
+ghost use Rattle.boot_region.specs.Storing.{Shows, IsOlder, IsInForceOn, IsNewer, IsStoredIn, MayFollow, StandsBut};
+ghost use Rattle.nvram_log.specs.Members.{IsSome};
+
+use crate::slots::slot_for;
+use crate::{Register, StoreFault};
+use boot_codec::NVRAM_FLAGS;
+use world::Shelf;
+
+impl Register {
+    ghost use Rattle.register.specs.Faults.{IsFaultOf};
+    ghost use Rattle.register.specs.Registers.{IsRegisterOf, IsLaterRecord, OnSlots, drives_of, next_record, own_slot, next_slot};
+    ghost use Rattle.register.specs.Standing.{StandsInLog, MayStore, MayStoreAgain, IsOpen};
+
+    /// Stores the record as it is spelled, on the drives that are left. Those on which it fails are dropped.
+    fn put<S: Shelf>(&mut self, shelf: &mut S)
+        requires is_of { IsRegisterOf (geometry_of (S.shelf shelf.old)) self.old }
+        ensures continues { Continues (S.shelf shelf.old) (S.shelf shelf.new) }
+        ensures rest { S.shelf_rest shelf.old shelf.new }
+        ensures kept { self.new.record ≡ self.old.record }
+        ensures fewer { (i : ℕ) → IsMember (drives_of self.new) i → IsMember (drives_of self.old) i }
+        ensures flags { length self.new.drives ≡ length self.old.drives }
+        ensures beyond { (i : ℕ) → self.old.record.slots ≤ i → IsMember self.new.drives i → IsMember self.old.drives i }
+        ensures dropped { DroppedFailed (S.shelf shelf.old) (S.shelf shelf.new) (drives_of self.old) (drives_of self.new) }
+        ensures others { NonMembersStay (drives_of self.old) (S.shelf shelf.old) (S.shelf shelf.new) }
+        ensures shown { (S.shelf shelf.old).honest → (i : ℕ) → IsMember (drives_of self.new) i → Shows (S.shelf shelf.new) (own_slot self.old.record) self.old.body.items i }
+        ensures writes { (S.shelf shelf.old).honest → WritesOnly (OnSlot (drives_of self.old) (own_slot self.old.record)) (S.shelf shelf.old) (S.shelf shelf.new) }
+        ensures any_moment { (S.shelf shelf.old).honest → (missing : Conditions) (held boot : BootRecord) (arrays : List Array)
+            → self.old.body.items ≡ spelling boot → IsInForceOn (S.shelf shelf.old) (drives_of self.old) missing (own_slot self.old.record) held → MayFollow (S.shelf shelf.old) missing (own_slot self.old.record) boot arrays
+            → LeavesOnly (S.shelf shelf.old) (S.shelf shelf.new) (StandsBut (S.shelf shelf.old) (drives_of self.old) missing (own_slot self.old.record) held arrays) }
+        ensures stored { (S.shelf shelf.old).honest → (missing : Conditions) (held boot : BootRecord) (arrays : List Array)
+            → self.old.body.items ≡ spelling boot → IsNewer (own_slot self.old.record) held boot → IsInForceOn (S.shelf shelf.old) (drives_of self.old) missing (own_slot self.old.record) held → MayFollow (S.shelf shelf.old) missing (own_slot self.old.record) boot arrays
+            → IsStoredIn (S.shelf shelf.old) (S.shelf shelf.new) (drives_of self.old) (drives_of self.new) missing (own_slot self.old.record) held boot arrays }
+    {
+        let slots = self.record.slots as usize;
+        let slot = slot_for(self.record.generation);
+        let mut drives = self.drives;
+        boot_region::store(shelf, &mut drives[..slots], slot, &self.body);
+        self.drives = drives;
+    }
+
+    /// Stores the next record once. An error is told before anything is written.
+    fn store_next<S: Shelf>(
+        &mut self,
+        nvrams: [bool; NVRAM_FLAGS],
+        shelf: &mut S,
+    ) -> Result<(), StoreFault>
+        requires is_of { IsRegisterOf (geometry_of (S.shelf shelf.old)) self.old }
+        requires nvrams { IsSome nvrams }
+        ensures continues { Continues (S.shelf shelf.old) (S.shelf shelf.new) }
+        ensures rest { S.shelf_rest shelf.old shelf.new }
+        ensures fewer { (i : ℕ) → IsMember self.new.drives i → IsMember self.old.drives i }
+        ensures dropped { DroppedFailed (S.shelf shelf.old) (S.shelf shelf.new) (drives_of self.old) (drives_of self.new) }
+        ensures others { NonMembersStay (drives_of self.old) (S.shelf shelf.old) (S.shelf shelf.new) }
+        ensures writes { (S.shelf shelf.old).honest → WritesOnly (OnSlots (drives_of self.old)) (S.shelf shelf.old) (S.shelf shelf.new) }
+        ensures is_of { IsRegisterOf (geometry_of (S.shelf shelf.new)) self.new }
+        ensures flags { length self.new.drives ≡ length self.old.drives }
+        ensures next { OnOk result (self.new.record ≡ next_record self.old.record self.old.drives nvrams) }
+        ensures not_spent { OnOk result (self.new.record.generation < 2 ^ 48 - 8) }
+        ensures enough { OnOk result (self.old.record.slots ≤ set_count self.old.drives + 2) }
+        ensures same { OnErr result ((self.new.record ≡ self.old.record) × (self.new.drives ≡ self.old.drives)) }
+        ensures fault { IfErr result (λ e. IsFaultOf self.new e) }
+        ensures logged { (S.shelf shelf.old).honest → (log : List Command) → StandsInLog (S.shelf shelf.old) self.old nvrams log → StandsInLog (S.shelf shelf.new) self.new nvrams log }
+        ensures shown { (S.shelf shelf.old).honest → OnOk result ((i : ℕ) → IsMember (drives_of self.new) i → Shows (S.shelf shelf.new) (own_slot self.new.record) (spelling self.new.record) i) }
+        ensures older { (S.shelf shelf.old).honest → OnOk result ((log : List Command) → StandsInLog (S.shelf shelf.old) self.old nvrams log
+            → (i : ℕ) → IsMember (drives_of self.new) i → IsOlder (S.shelf shelf.new) (next_slot self.new.record) (spelling self.new.record) i) }
+        ensures any_moment { (S.shelf shelf.old).honest → (missing : Conditions) (log : List Command) (arrays : List Array)
+            → MayStore (S.shelf shelf.old) self.old nvrams missing log arrays
+            → LeavesOnly (S.shelf shelf.old) (S.shelf shelf.new) (StandsBut (S.shelf shelf.old) (drives_of self.old) missing (next_slot self.old.record) self.old.record arrays) }
+        // Then it may be stored again.
+        ensures again { (S.shelf shelf.old).honest → OnOk result ((missing : Conditions) (log : List Command) (arrays : List Array) → MayStore (S.shelf shelf.old) self.old nvrams missing log arrays
+            → MayStoreAgain (S.shelf shelf.old) (S.shelf shelf.new) self.old self.new nvrams missing log arrays) }
+    {
+        self.advance(nvrams)?;
+        self.put(shelf);
+        Ok(())
+    }
+
+    /// Stores the record of the next generation, which names the drives that are left and these NVRAM devices, with all else as it was.
+    /// Where a drive fails meanwhile it stores again without it, one generation higher, until the record is on all drives that it names.
+    /// After an error the register holds what was stored last. It takes no memory.
+    pub fn store<S: Shelf>(
+        &mut self,
+        nvrams: [bool; NVRAM_FLAGS],
+        shelf: &mut S,
+    ) -> Result<(), StoreFault>
+        requires is_of { IsRegisterOf (geometry_of (S.shelf shelf.old)) self.old }
+        requires nvrams { IsSome nvrams }
+        ensures continues { Continues (S.shelf shelf.old) (S.shelf shelf.new) }
+        ensures rest { S.shelf_rest shelf.old shelf.new }
+        ensures fewer { (i : ℕ) → IsMember self.new.drives i → IsMember self.old.drives i }
+        ensures dropped { DroppedFailed (S.shelf shelf.old) (S.shelf shelf.new) (drives_of self.old) (drives_of self.new) }
+        ensures others { NonMembersStay (drives_of self.old) (S.shelf shelf.old) (S.shelf shelf.new) }
+        ensures writes { (S.shelf shelf.old).honest → WritesOnly (OnSlots (drives_of self.old)) (S.shelf shelf.old) (S.shelf shelf.new) }
+        ensures is_of { IsRegisterOf (geometry_of (S.shelf shelf.new)) self.new }
+        ensures later { IsLaterRecord self.old.record self.new.record }
+        ensures generation { OnOk result ((self.old.record.generation < self.new.record.generation) × (self.new.record.generation < 2 ^ 48 - 8)) }
+        ensures members { OnOk result ((self.new.record.members.drives ≡ self.new.drives) × (self.new.record.members.nvrams ≡ nvrams)) }
+        ensures enough { OnOk result (self.new.record.slots ≤ set_count self.new.drives + 2) }
+        // Each generation but the last costs a drive.
+        ensures stores { OnOk result (self.new.record.generation + set_count self.new.drives ≤ self.old.record.generation + set_count self.old.drives + 1) }
+        ensures lost { OnErr result (self.new.record.generation + set_count self.new.drives ≤ self.old.record.generation + set_count self.old.drives) }
+        ensures fault { IfErr result (λ e. IsFaultOf self.new e) }
+        // The bytes of the record stand on the drives that are left, whatever the result.
+        ensures logged { (S.shelf shelf.old).honest → (log : List Command) → StandsInLog (S.shelf shelf.old) self.old nvrams log → StandsInLog (S.shelf shelf.new) self.new nvrams log }
+        // At every moment the devices stand for the arrays for which they stood.
+        ensures any_moment { (S.shelf shelf.old).honest → (missing : Conditions) (log : List Command) (arrays : List Array)
+            → MayStore (S.shelf shelf.old) self.old nvrams missing log arrays
+            → LeavesOnly (S.shelf shelf.old) (S.shelf shelf.new) (StandsBut (S.shelf shelf.old) (drives_of self.old) missing (next_slot self.old.record) self.old.record arrays) }
+        // Then the record is in force, and the devices stand for the array of the log.
+        ensures stored { (S.shelf shelf.old).honest → (log : List Command) → StandsInLog (S.shelf shelf.old) self.old nvrams log → OnOk result (IsOpen (S.shelf shelf.new) self.new nvrams log) }
+    {
+        self.store_next(nvrams, shelf)?;
+        if self.drives == self.record.members.drives {
+            return Ok(());
+        }
+        self.store(nvrams, shelf)
+    }
+}
