@@ -33,6 +33,7 @@ use Rattle.boot_region.proofs.ShownLemmas.{bodies_same}
 use Rattle.takeover.proofs.NoFault.{few_lack}
 use Rattle.takeover.specs.Entering.{Enters, StandsStill, failed_since, failed_by}
 use Rattle.takeover.specs.Found.{IsFoundOn}
+use Rattle.takeover.proofs.Counts.{goes_on}
 use Rattle.takeover.proofs.Failing.{fewer_borne, by_stop, since_later, since_mid, sound_since, left_out_since}
 use Rattle.takeover.proofs.Loading.{as_they_read, may_read, at_time, may_at_time, same_leaves, same_geometry, clean_now, stands_now, member_here, in_force_here}
 
@@ -161,6 +162,7 @@ module _ (old mid : Shelved) (missing : Conditions) (arrays : List Array) (x : L
           (subst (λ (g : Geometry). Stands g stop.image now arrays) same_mid (stands_at bears_mid stop (left_by stop may)));
       left_out = λ stop may d out. subst (λ (g : Geometry). IsNamedByNone g stop.image later d) same_mid
           (left_out_at bears_mid stop (left_by stop may) later more_later d (left_out_since (has_risen (old.disk d).faults (new.disk d).faults) (missing d) out));
+      counted = λ d sound. goes_on (old.disk d).faults (new.disk d).faults (sound_since (has_risen (old.disk d).faults (new.disk d).faults) (missing d) sound).1;
     }
       where
         first_true : (a b : Bool) → (a && b) ≡ true → a ≡ true

@@ -1,7 +1,14 @@
 mod Members
 mod Failing
+mod Counts
 mod Loading
 mod NoFault
 mod FoundLemmas
 mod Fronts
 mod Opened
+mod Generations
+mod Chains
+mod Applying
+mod Answered
+mod LogSettling
+mod LogOpened

@@ -1,7 +1,7 @@
 -- The record that was found, and settled on the drives that hold it.
-use Rattle.std.specs.Prelude.{◌≡◌, ℕ, ◌-◌, ◌<◌, ◌^◌, List, [], true, Result, Ok, Err, ⊤}
+use Rattle.std.specs.Prelude.{◌≡◌, ℕ, ◌<◌, ◌-◌, ◌^◌, List, [], true, Result, Ok, Err, ⊤}
 use Rattle.pur_base.specs.declared.device.Device.{Device}
-use Rattle.pur_base.specs.Devices.{Conditions, LeftOut, drive}
+use Rattle.pur_base.specs.Devices.{Conditions, Sound, LeftOut, drive}
 use Rattle.pur_base.specs.Plain.{Array}
 use Rattle.boot_codec.specs.Region.{other_slot, body_in, names}
 use Rattle.boot_codec.specs.Spelling.{spelling}
@@ -26,6 +26,8 @@ pub record IsFoundOn (shelf : Shelved) (x : Loaded) (missing : Conditions) (arra
   pub unflushed : x.record.patches ≡ []
   pub room : x.record.generation < 2 ^ 48 - 16
   pub stands : StandsNow shelf missing arrays
+  -- of a device that isn't missing the count of faults goes on
+  pub counted : (d : Device) → missing d ≡ Sound → (shelf.disk d).faults < 2 ^ 64 - 1
   pub left_out : (start : Stop) → MayStop shelf start → (d : Device) → missing d ≡ LeftOut → IsNamedByNone (geometry_of shelf) start.image missing d
 
 -- Where no more is missing than is borne, the record is found, or it names patches, or memory was wanting.

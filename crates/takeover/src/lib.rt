@@ -4,6 +4,9 @@
 
 mod faults;
 mod finding;
+mod log;
+mod replay;
 
 pub use faults::OpenFault;
 pub use finding::find_record;
+pub use log::{LogFault, OpenedLog, open_log};

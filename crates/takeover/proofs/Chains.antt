@@ -1,0 +1,75 @@
+-- The log that a view shows, from commands that were read and applied one after another.
+use Rattle.std.proofs.Common.{◌≡◌, inl, inr, ℕ, zero, suc, ◌+◌, ◌<◌, ◌≤◌, List, [], ◌∷◌, length, take, refl, sym, ◌∙◌, ap, subst, arith}
+use Rattle.std.specs.Prelude.{Option, Some, slice_get}
+use Rattle.std.proofs.lemmas.Bool.{cases_lt}
+use Rattle.std.proofs.lemmas.Option.{slice_get_within, slice_get_cases}
+use Rattle.pur_base.specs.Commands.{Command, Accepts, AllAccepted, after, after_all}
+use Rattle.pur_base.specs.Devices.{View, nvram}
+use Rattle.pur_base.specs.Plain.{Array}
+use Rattle.log_codec.specs.Log.{Shows, IsInSlot, LogFrom, LogStands, DevicesAgree}
+use Rattle.array_spec.proofs.LogBetween.{shower}
+use Rattle.array_spec.proofs.OneLog.{one_shown, one_in_slot}
+use Rattle.nvram_log.proofs.Lists.{get_front}
+use Rattle.takeover.specs.Replay.{IsReplayed}
+
+pub log_from : (view : View) (flushed i : ℕ) (a : Array) (cs : List Command) → ((k : ℕ) (c : Command) → slice_get cs k ≡ Some c → IsInSlot view flushed (i + k) c) → AllAccepted a cs
+    → ((c : Command) → IsInSlot view flushed (i + length cs) c → ¬ (Accepts (after_all a cs) c)) → LogFrom view flushed i a cs
+log_from view flushed i a [] placed accepted ends = λ c s. let e : i ≡ i + 0 = omega arith in ends c (subst (λ (n : ℕ). IsInSlot view flushed n c) e s)
+log_from view flushed i a (c ∷ cs) placed accepted ends =
+    let e : i + 0 ≡ i = omega arith in (
+      subst (λ (n : ℕ). IsInSlot view flushed n c) e (placed 0 c refl),
+      accepted.0,
+      log_from view flushed (suc i) (after a c) cs (λ k d at. let f : i + suc k ≡ suc i + k = omega arith in subst (λ (n : ℕ). IsInSlot view flushed n d) f (placed (suc k) d at)) accepted.1
+      (λ d s. let f : suc i + length cs ≡ i + suc (length cs) = omega arith in ends d (subst (λ (n : ℕ). IsInSlot view flushed n d) f s)),
+    )
+
+-- a command of a front is one of the list
+pub of_front : (count : ℕ) (commands : List Command) (k : ℕ) (c : Command) → slice_get (take count commands) k ≡ Some c → length (take count commands) ≡ count → slice_get commands k ≡ Some c
+of_front count commands k c at size =
+    let lt : k < count = omega (arith, slice_get_within (take count commands) k c at, size) in
+    sym (get_front count commands k lt) ∙ at
+
+-- the front that was accepted stands as the log
+pub replayed_stands : (view : View) (flushed : ℕ) (commands : List Command) (count : ℕ) (b : Array) → IsReplayed [] commands count b → length (take count commands) ≡ count
+    → ((k : ℕ) (c : Command) → slice_get commands k ≡ Some c → IsInSlot view flushed k c)
+    → (length commands < 64 → (n : ℕ) (c : Command) → n < 2 → ¬ (Shows view n flushed (length commands) c))
+    → count ≤ length commands → LogStands view flushed [] (take count commands)
+replayed_stands view flushed commands count b replayed size placed ends le =
+    log_from view flushed 0 [] (take count commands) (λ k c at. let e : k ≡ 0 + k = omega arith in subst (λ (n : ℕ). IsInSlot view flushed n c) e (placed k c (of_front count commands k c at size))) replayed.accepted last
+  where
+    refused_there : (c : Command) → IsInSlot view flushed count c → ¬ (Accepts (after_all [] (take count commands)) c)
+    refused_there c s fine = elim (slice_get_cases commands count).1 [
+      | inl some ↦
+          let same : c ≡ some.0 = one_in_slot view flushed count c some.0 s (placed count some.0 some.2) in
+          replayed.refused some.0 some.2 (subst (λ (x : Array). Accepts x some.0) (sym replayed.array) (subst (λ (d : Command). Accepts (after_all [] (take count commands)) d) same fine))
+      | inr past ↦
+          let at_end : count ≡ length commands = omega (arith, past.0, le) in
+          let it = shower view flushed count c s in
+          let below : count < 64 = it.2.slot in
+          ends (omega (arith, at_end, below)) it.0 c it.1 (subst (λ (n : ℕ). Shows view it.0 flushed n c) at_end it.2)
+    ]
+
+    last : (c : Command) → IsInSlot view flushed (0 + length (take count commands)) c → ¬ (Accepts (after_all [] (take count commands)) c)
+    last c s = let e : 0 + length (take count commands) ≡ count = omega (arith, size) in refused_there c (subst (λ (n : ℕ). IsInSlot view flushed n c) e s)
+
+-- devices that agree show one command in a slot
+pub agrees : (m : View) (flushed : ℕ) → DevicesAgree m flushed → (n p i : ℕ) (c d : Command) → n < 2 → p < 2 → Shows m n flushed i c → Shows m p flushed i d → c ≡ d
+agrees m flushed agree zero zero i c d low low2 s t = one_shown m 0 flushed i c d s t
+agrees m flushed agree zero (suc zero) i c d low low2 s t = agree i c d s t
+agrees m flushed agree (suc zero) zero i c d low low2 s t = sym (agree i d c t s)
+agrees m flushed agree (suc zero) (suc zero) i c d low low2 s t = one_shown m 1 flushed i c d s t
+agrees m flushed agree (suc (suc n)) p i c d low low2 s t = absurd (omega (arith, low))
+agrees m flushed agree n (suc (suc p)) i c d low low2 s t = absurd (omega (arith, low2))
+
+-- ---- the log depends on what the NVRAM devices show alone
+
+pub shows_move : (m n : View) → ((j : ℕ) → m (nvram j) ≡ n (nvram j)) → (which flushed i : ℕ) (c : Command) → Shows m which flushed i c → Shows n which flushed i c
+shows_move m n same which flushed i c s = record { slot = s.slot; bytes = s.bytes; shown = sym (same which) ∙ s.shown; gate = s.gate; spelled = s.spelled }
+
+slot_moves : (m n : View) → ((j : ℕ) → m (nvram j) ≡ n (nvram j)) → (flushed i : ℕ) (c : Command) → IsInSlot m flushed i c → IsInSlot n flushed i c
+slot_moves m n same flushed i c (inl s) = inl (shows_move m n same 0 flushed i c s)
+slot_moves m n same flushed i c (inr (nobody, s)) = inr (λ d t. nobody d (shows_move n m (λ j. sym (same j)) 0 flushed i d t), shows_move m n same 1 flushed i c s)
+
+pub log_moves : (m n : View) → ((j : ℕ) → m (nvram j) ≡ n (nvram j)) → (flushed i : ℕ) (array : Array) (cs : List Command) → LogFrom m flushed i array cs → LogFrom n flushed i array cs
+log_moves m n same flushed i array [] s = λ c t. s c (slot_moves n m (λ j. sym (same j)) flushed i c t)
+log_moves m n same flushed i array (c ∷ cs) s = (slot_moves m n same flushed i c s.0, s.1, log_moves m n same flushed (suc i) _ cs s.2)

@@ -1,0 +1,15 @@
+-- Counts of faults that haven't risen.
+use Rattle.std.proofs.Common.{◌≡◌, ◌-◌, ◌^◌, ◌<◌, ℕ, Bool, true, false, refl, arith}
+use Rattle.std.specs.Prelude.{nat_lt, nat_le, ◌||◌}
+use Rattle.std.proofs.lemmas.Bool.{ltb-false, leb-false}
+use Rattle.world.specs.Losing.{has_risen}
+
+both_false : (a b : Bool) → (a || b) ≡ false → (a ≡ false) × (b ≡ false)
+both_false false b e = (refl, e)
+both_false true b e = absurd (cc e)
+
+-- a count that hasn't risen is below its end
+pub goes_on : (a b : ℕ) → has_risen a b ≡ false → b < 2 ^ 64 - 1
+goes_on a b none =
+    let both = both_false (nat_lt a b) (nat_le (2 ^ 64 - 1) a) none in
+    omega (arith, ltb-false a b both.0, leb-false (2 ^ 64 - 1) a both.1)

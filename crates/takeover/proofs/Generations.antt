@@ -1,0 +1,94 @@
+-- While a record is shown by each drive that isn't missing, what else may be given is of a later generation.
+use Rattle.std.proofs.Common.{◌≡◌, ◌⊎◌, inl, inr, ℕ, ◌+◌, ◌-◌, ◌^◌, ◌<◌, ◌≤◌, List, ◌++◌, length, take, drop, refl, sym, ◌∙◌, ap, subst, arith}
+use Rattle.std.specs.Prelude.{Option, Some}
+use Rattle.std.specs.Int.{w64, to_be_bytes, from_be_bytes}
+use Rattle.std.proofs.lemmas.Bool.{cases_lt}
+use Rattle.std.proofs.lemmas.Nat.{from_be_bytes-to_be_bytes_8}
+use Rattle.std.proofs.lemmas.List.{drop-append-le, take-append-le, length-append, length-drop, take_all}
+use Rattle.std.proofs.Math.Seq.{drop-append_seam}
+use Rattle.pur_base.specs.Bytes.{bytes_at}
+use Rattle.pur_base.specs.declared.limits.TheConstants.{SLOTS_MIN}
+use Rattle.pur_base.specs.Devices.{Geometry, Image, View, Conditions, Sound, drive}
+use Rattle.pur_base.specs.Plain.{Array}
+use Rattle.boot_codec.specs.declared.record.BootRecord.{BootRecord}
+use Rattle.boot_codec.specs.Record.{IsBootRecord}
+use Rattle.boot_codec.specs.Spelling.{spelling, opening_bytes, header_bytes, record_bytes}
+use Rattle.boot_codec.specs.Region.{BootSlot, A, B, IsRecordOf, IsDecided, votes, other_slot, shown_by, slot_of, generation_in, Yields}
+use Rattle.boot_codec.proofs.SpellingLemmas.{length-opening_bytes}
+use Rattle.array_spec.specs.Meaning.{IsInForce}
+use Rattle.array_spec.specs.Standing.{Stands, MayBeGiven, IsViewOf}
+use Rattle.array_spec.proofs.Settling.{this_or_other, twice_other}
+use Rattle.array_spec.proofs.Spelled.{spells_one}
+use Rattle.array_spec.proofs.Votes.{one_is_decided}
+use Rattle.boot_region.proofs.Composing.{all_decide}
+
+-- the text shows these bytes in that place
+abbrev StandsAt : ℕ → List ℕ → List ℕ → Type 0
+StandsAt at part bytes = (at + length part ≤ length bytes) × (take (length part) (drop at bytes) ≡ part)
+
+at_seam : (a b : List ℕ) → StandsAt (length a) b (a ++ b)
+at_seam a b =
+    let both : length (a ++ b) ≡ length a + length b = length-append a b in
+    (omega (arith, both), ap (take (length b)) (drop-append_seam a b) ∙ take_all (length b) b (omega arith))
+
+then_more : (at : ℕ) (part bytes more : List ℕ) → StandsAt at part bytes → StandsAt at part (bytes ++ more)
+then_more at part bytes more h =
+    let both : length (bytes ++ more) ≡ length bytes + length more = length-append bytes more in
+    let left : length (drop at bytes) ≡ length bytes - at = length-drop at bytes in (
+      omega (arith, both, h.0),
+      ap (take (length part)) (drop-append-le at bytes more (omega (arith, h.0))) ∙ take-append-le (length part) (drop at bytes) more (omega (arith, left, h.0)) ∙ h.1,
+    )
+
+generation_spelled : (r : BootRecord) → IsBootRecord r → generation_in (spelling r) ≡ r.generation
+unfolding header_bytes record_bytes
+generation_spelled r is =
+    let small : r.generation < 2 ^ 64 = omega (arith, is.generation.1) in
+    let stands : StandsAt (length (opening_bytes r.slots r.units)) (to_be_bytes w64 r.generation) (spelling r) =
+    then_more _ _ _ _ (then_more _ _ _ _ (then_more _ _ _ _ (then_more _ _ _ _ (then_more _ _ _ _ (then_more _ _ _ _ (at_seam (opening_bytes r.slots r.units) (to_be_bytes w64 r.generation))))))) in
+    let place : bytes_at 16 8 (spelling r) ≡ to_be_bytes w64 r.generation =
+    subst (λ (n : ℕ). take 8 (drop n (spelling r)) ≡ to_be_bytes w64 r.generation) (length-opening_bytes r.slots r.units) stands.1 in
+    ap (from_be_bytes w64) place ∙ from_be_bytes-to_be_bytes_8 r.generation small
+
+yields_le : (slot : BootSlot) (a b : ℕ) → Yields slot a b → a ≤ b
+yields_le A a b h = h
+yields_le B a b h = omega (arith, h)
+
+slots_differ : (t : BootSlot) → t ≡ other_slot t → ⊥
+slots_differ A e = cc e
+slots_differ B e = cc e
+
+module _ (shelf : Geometry) (image : Image) (missing : Conditions) (arrays : List Array) (slot : BootSlot) (boot : BootRecord) (eleven : SLOTS_MIN ≤ shelf.slots)
+    (lawful : IsRecordOf shelf boot) (own : IsInForce slot boot) (shows : (i : ℕ) → i < shelf.slots → missing (drive i) ≡ Sound → shown_by slot (image (drive i)) ≡ Some (spelling boot))
+    (s : Stands shelf image missing arrays) (view : View) (v : IsViewOf shelf image missing missing view)
+    (slot2 : BootSlot) (boot2 : BootRecord) (g : MayBeGiven shelf image missing slot2 boot2) where
+  decided : IsDecided (votes shelf g.view slot) (spelling boot)
+  decided = all_decide shelf image missing g.more g.view slot (spelling boot) eleven shows g.appears
+
+  same : slot2 ≡ slot → boot2 ≡ boot
+  same e =
+      let mine : IsDecided (votes shelf g.view slot) (spelling boot2) = subst (λ (t : BootSlot). IsDecided (votes shelf g.view t) (spelling boot2)) e g.effective.decided in
+      spells_one shelf boot2 boot g.lawful lawful (one_is_decided (votes shelf g.view slot) (spelling boot2) (spelling boot) mine decided)
+
+  no_older : slot2 ≡ other_slot slot → boot.generation ≤ boot2.generation
+  no_older e =
+      let back : slot ≡ other_slot slot2 = sym (ap other_slot e ∙ twice_other slot) in
+      let yields : Yields slot2 (generation_in (spelling boot)) (generation_in (spelling boot2)) =
+      g.effective.highest (spelling boot) (subst (λ (t : BootSlot). IsDecided (votes shelf g.view t) (spelling boot)) back decided) in
+      let le : generation_in (spelling boot) ≤ generation_in (spelling boot2) = yields_le slot2 (generation_in (spelling boot)) (generation_in (spelling boot2)) yields in
+      subst (λ (a : ℕ). a ≤ boot2.generation) (generation_spelled boot lawful.lawful)
+      (subst (λ (b : ℕ). generation_in (spelling boot) ≤ b) (generation_spelled boot2 g.lawful.lawful) le)
+
+  -- of the same generation it would be in the same slot
+  apart : slot2 ≡ other_slot slot → boot2.generation ≡ boot.generation → ⊥
+  apart e eq =
+      let theirs : slot2 ≡ slot_of boot2.generation = ((s.reads slot2 boot2 g).each missing view v).in_force.in_its_slot in
+      slots_differ slot (own.in_its_slot ∙ ap slot_of (sym eq) ∙ sym theirs ∙ e)
+
+  pub this_or_later : ((slot2 ≡ slot) × (boot2 ≡ boot)) ⊎ (boot.generation < boot2.generation)
+  this_or_later = elim (this_or_other slot2 slot) [
+    | inl e ↦ inl (e, same e)
+    | inr e ↦ elim (cases_lt boot.generation boot2.generation) [
+      | inl lt ↦ inr lt
+      | inr ge ↦ absurd (apart e (omega (arith, ge, no_older e)))
+    ]
+  ]

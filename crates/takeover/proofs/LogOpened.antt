@@ -1,0 +1,309 @@
+-- The log is read, applied and settled: what a stop leaves at each moment, and what is known in the end.
+use Rattle.std.proofs.Common.{◌≡◌, ◌⊎◌, inl, inr, ℕ, zero, suc, ◌-◌, ◌^◌, ◌<◌, ◌≤◌, List, [], length, take, refl, sym, ◌∙◌, ap, subst, arith, Bool, true, false, Result, Ok, Err}
+use Rattle.std.specs.Prelude.{Some, Contains, slice_get}
+use Rattle.std.proofs.lemmas.List.{length-take}
+use Rattle.pur_base.specs.Commands.{Command, AllAccepted, after_all}
+use Rattle.pur_base.specs.Devices.{Geometry, Image, Conditions, Sound, LeftOut, IsBearable, IsWithin, drive, nvram}
+use Rattle.pur_base.specs.Plain.{Array}
+use Rattle.pur_base.specs.declared.device.Device.{Device}
+use Rattle.pur_base.specs.declared.device.Device.TheVariants.{Drive, Nv}
+use Rattle.boot_codec.specs.declared.record.BootRecord.{BootRecord}
+use Rattle.boot_codec.specs.Spelling.{spelling}
+use Rattle.boot_codec.specs.Region.{BootSlot, IsRecordOf, body_in, names, other_slot, shown_by}
+use Rattle.log_codec.specs.Log.{Shows, ShowsIn, IsInSlot}
+use Rattle.array_spec.specs.Laws.{IsNamedByNone}
+use Rattle.array_spec.specs.Standing.{Stands, MayBeGiven}
+use Rattle.array_spec.proofs.Settling.{twice_other}
+use Rattle.array_spec.proofs.Standings.{more_may_go_missing}
+use Rattle.array_spec.proofs.UnflushedRead.{one_left}
+use Rattle.array_spec.proofs.Votes.{sound_before}
+use Rattle.world.specs.Counts.{Rises}
+use Rattle.world.specs.Losing.{geometry_of, has_risen}
+use Rattle.world.specs.Shelf.{Shelved, Stop, Disk, IsShelf, Continues, MayStop, MayLeave, LeavesOnly}
+use Rattle.world.specs.Writes.{LeavesBut, WritesOnly}
+use Rattle.world.proofs.Moments.{continues_trans, then_run, weaker}
+use Rattle.boot_region.specs.declared.loading.Loaded.{Loaded}
+use Rattle.boot_region.specs.Slots.{slot_in}
+use Rattle.boot_region.specs.Storing.{IsInForceOn, StandsNow}
+use Rattle.boot_region.proofs.Accounts.{losing_within}
+use Rattle.boot_region.proofs.Phases.{risen_on_way}
+use Rattle.nvram_log.specs.declared.log.NvLog.{NvLog}
+use Rattle.nvram_log.specs.declared.read.ReadFault.{ReadFault}
+use Rattle.nvram_log.specs.declared.read.ReadFault.TheVariants as read_fault
+use Rattle.nvram_log.specs.Held.{Keeps, HoldsOn, shown_by as shown_of}
+use Rattle.nvram_log.specs.Members.{IsMember, IsFewer, IsSome, OnMembers}
+use Rattle.nvram_log.specs.Read.{IsReadFrom, OnNothing, DroppedCounted, AllFailed}
+use Rattle.nvram_log.specs.Settling.{SettleBy, AreAsSeen, Agree}
+use Rattle.takeover.specs.declared.log.LogFault.{LogFault}
+use Rattle.takeover.specs.declared.log.LogFault.TheVariants as log_fault
+use Rattle.takeover.specs.declared.log.OpenedLog.{OpenedLog}
+use Rattle.takeover.specs.Entering.{failed_since, failed_by, StandsStill}
+use Rattle.takeover.specs.Found.{IsFoundOn}
+use Rattle.takeover.specs.LogOpen.{IsLogOpen, IsLogOpenBy}
+use Rattle.takeover.specs.Replay.{IsReplayed, IsReplayFault, log_fault_of}
+use Rattle.takeover.proofs.Counts.{goes_on}
+use Rattle.takeover.proofs.Failing.{sound_since, left_out_since, fewer_borne, by_stop, since_later}
+use Rattle.takeover.proofs.Loading.{same_geometry}
+use Rattle.takeover.proofs.LogSettling.{bearable_or_not, nothing_else, not_risen, stays, given_moves, answers, is_one, agree_here, stands_settling}
+
+-- two things at once are true of each stop
+both_leave : {a b : Shelved} {P Q : Stop → Type 0} → LeavesOnly a b P → LeavesOnly a b Q → LeavesOnly a b (λ stop. P stop × Q stop)
+both_leave p q = record {
+  quiet = p.quiet;
+  each = λ stop left. ((p.each stop left).0, ((p.each stop left).1, (q.each stop left).1));
+  before = λ t stop le left. elim (p.before t stop le left) [
+    | inl was ↦ inl was
+    | inr x ↦ elim (q.before t stop le left) [
+      | inl was ↦ inl was
+      | inr y ↦ inr (x.0, (x.1, y.1))
+    ]
+  ];
+}
+
+-- an image at the time of the shelf
+abbrev at_once : Shelved → Image → Stop
+at_once shelf image = record { image = image; faults = λ d. (shelf.disk d).faults; write_faults = λ d. (shelf.disk d).write_faults; output = shelf.output; taken = shelf.taken }
+
+may_at_once : (shelf : Shelved) (image : Image) → ((d : Device) → MayLeave (shelf.disk d) (image d)) → MayStop shelf (at_once shelf image)
+may_at_once shelf image leaves = record { device = leaves; counts = record { faults = λ d. omega arith; write_faults = λ d. omega arith }; output = refl; taken = refl }
+
+as_read_leaves : (shelf : Shelved) → IsShelf shelf → shelf.honest → (d : Device) → MayLeave (shelf.disk d) (shelf.disk d).bytes
+as_read_leaves shelf is h d = record { size = refl; is_byte = is.bytes h d; clean = λ i out. refl }
+
+-- while nothing is written
+pub while_read : (old mid : Shelved) (x : Loaded) (missing : Conditions) (arrays : List Array) → WritesOnly OnNothing old mid → IsFoundOn old x missing arrays → LeavesOnly old mid (StandsStill old missing arrays)
+while_read old mid x missing arrays wrote found =
+    weaker (λ stop left bears. more_may_go_missing (geometry_of old) stop.image missing (failed_by old stop missing) arrays (losing_within (λ d. has_risen (old.disk d).faults (stop.faults d)) missing) bears
+    (found.stands (at_once old stop.image) (may_at_once old stop.image (λ d. nothing_else (λ i w. w) (left.bytes d))))) wrote.any_moment
+
+-- one NVRAM device isn't missing
+one_sound : (shelf : Geometry) (c : Conditions) → IsBearable shelf c → (n : ℕ) × (n < 2) × (c (nvram n) ≡ Sound)
+one_sound shelf c bears = elim (one_left (c (nvram 0)) (c (nvram 1)) bears.nvrams) [
+  | inl e ↦ (0, omega arith, e)
+  | inr e ↦ (1, omega arith, e)
+]
+
+-- why the log wasn't read
+pub not_read : (old mid : Shelved) (x : Loaded) (missing : Conditions) (arrays : List Array) → IsShelf old → IsShelf mid → mid.honest → WritesOnly OnNothing old mid
+    → ((i : ℕ) → mid.disk (drive i) ≡ old.disk (drive i)) → IsFoundOn old x missing arrays → IsBearable (geometry_of old) (failed_since old mid missing)
+    → (fault : ReadFault) → AllFailed fault old mid x.record.members.nvrams → IsLogOpenBy mid x (failed_since old mid missing) arrays (Err (log_fault_of fault))
+not_read old mid x missing arrays is is_mid h wrote same found bears read_fault.NoMemory all = tt
+not_read old mid x missing arrays is is_mid h wrote same found bears read_fault.BothLost all =
+    let one = one_sound (geometry_of old) (failed_since old mid missing) bears in
+    absurd (cc (answers old mid x missing arrays is wrote same found [] (λ n m. absurd (cc m)) (λ n lt m. inr (all n lt m)) (λ n lt m. absurd (cc m)) bears
+    (λ d. (mid.disk d).bytes) (as_read_leaves mid is_mid h) one.0 one.1 one.2))
+
+pub not_replayed : (new : Shelved) (x : Loaded) (missing : Conditions) (arrays : List Array) (log : NvLog) (fault : LogFault) → IsReplayFault fault log → IsLogOpenBy new x missing arrays (Err fault)
+not_replayed new x missing arrays log (log_fault.Memory m) is = tt
+not_replayed new x missing arrays log log_fault.BothLost is = is
+not_replayed new x missing arrays log log_fault.Unserved is = tt
+
+-- the log was read from the devices, and its first commands make the array
+pub record WasRead (old mid : Shelved) (x : Loaded) (missing : Conditions) (arrays : List Array) (log : NvLog) (count : ℕ) (b : Array) : Type 0 where
+  pub is : IsShelf old
+  pub is_mid : IsShelf mid
+  pub honest : old.honest
+  pub on : Continues old mid
+  pub wrote : WritesOnly OnNothing old mid
+  pub same_drives : (i : ℕ) → mid.disk (drive i) ≡ old.disk (drive i)
+  pub found : IsFoundOn old x missing arrays
+  pub fewer : IsFewer x.record.members.nvrams log.members
+  pub dropped : DroppedCounted old mid x.record.members.nvrams log.members
+  pub clean : (n : ℕ) → n < 2 → IsMember log.members n → (mid.disk (nvram n)).dirty ≡ []
+  pub flushed : log.flushed ≡ x.record.flushed
+  pub read : IsReadFrom old.honest (shown_of mid log.members) log
+  pub seen : AreAsSeen mid log
+  pub within : count ≤ log.count
+  pub replayed : (commands : List Command) → Keeps log commands → IsReplayed [] commands count b
+
+module _ (old mid new : Shelved) (x : Loaded) (missing : Conditions) (arrays : List Array) (log : NvLog) (count : ℕ) (b : Array) (r : WasRead old mid x missing arrays log count b) where
+  abbrev shelf : Geometry
+  shelf = geometry_of old
+
+  abbrev commands : List Command
+  commands = r.read.commands
+
+  abbrev front : List Command
+  front = take count commands
+
+  le : count ≤ length commands
+  le = omega (arith, r.read.keeps.count, r.within)
+
+  placed : (i : ℕ) (c : Command) → slice_get commands i ≡ Some c → IsInSlot (shown_of mid log.members) x.record.flushed i c
+  placed i c at = subst (λ (f : ℕ). IsInSlot (shown_of mid log.members) f i c) r.flushed (r.read.shown r.honest i c at)
+
+  ends : length commands < 64 → (n : ℕ) (c : Command) → n < 2 → ¬ (Shows (shown_of mid log.members) n x.record.flushed (length commands) c)
+  ends few n c lt s = r.read.ends r.honest (omega (arith, few, r.read.keeps.count)) n c lt
+      (subst (λ (k : ℕ). Shows (shown_of mid log.members) n log.flushed k c) r.read.keeps.count (subst (λ (f : ℕ). Shows (shown_of mid log.members) n f (length commands) c) (sym r.flushed) s))
+
+  module _ (bears : IsBearable (geometry_of old) (failed_since old mid missing)) where
+    answered : (n : ℕ) → n < 2 → failed_since old mid missing (nvram n) ≡ Sound → IsMember log.members n
+    answered n lt s = answers old mid x missing arrays r.is r.wrote r.same_drives r.found log.members r.fewer r.dropped r.clean bears (λ d. (mid.disk d).bytes) (as_read_leaves mid r.is_mid (r.on.honest r.honest)) n lt s
+
+    pub one_of : Contains arrays (after_all [] front)
+    one_of = is_one old mid x missing arrays r.is r.wrote r.same_drives r.found log.members r.fewer r.dropped r.clean bears (λ d. (mid.disk d).bytes) (as_read_leaves mid r.is_mid (r.on.honest r.honest))
+        commands count b le (r.replayed commands r.read.keeps) placed ends
+
+    pub agree : Agree mid log.members log.flushed front
+    agree n i c lt m short t =
+        agree_here old mid x missing arrays r.is r.wrote r.same_drives r.found log.members r.fewer r.dropped r.clean bears (λ d. (mid.disk d).bytes) (as_read_leaves mid r.is_mid (r.on.honest r.honest))
+        commands count b le (r.replayed commands r.read.keeps) placed ends n i c m short (subst (λ (f : ℕ). ShowsIn (mid.disk (nvram n)).bytes f i c) r.flushed t)
+
+  -- ---- it is settled
+
+  module _ (next : Continues mid new) (writes : WritesOnly (OnMembers log.members) mid new)
+      (settling : (cs : List Command) → Keeps log cs → AreAsSeen mid log → Agree mid log.members log.flushed (take count cs) → LeavesOnly mid new (SettleBy mid log.members log.flushed (take count cs))) where
+    while_settling : LeavesOnly mid new (StandsStill old missing arrays)
+    while_settling = elim (bearable_or_not (geometry_of old) (failed_since old mid missing)) [
+      | inl bears ↦ weaker (λ stop both borne.
+          stands_settling old mid x missing arrays r.is r.wrote r.same_drives r.found log.members r.fewer r.dropped r.clean bears
+          commands count b le (r.replayed commands r.read.keeps) placed ends r.is_mid (r.on.honest r.honest) stop both.1 (subst (λ (f : ℕ). SettleBy mid log.members f front stop) r.flushed both.0)
+          (failed_by old stop missing) (by_stop old mid stop missing both.1.counts) borne)
+          (both_leave (settling commands r.read.keeps r.seen (agree bears)) writes.any_moment)
+      | inr not ↦ weaker (λ stop left borne. absurd (not (fewer_borne (geometry_of old) (failed_since old mid missing) (failed_by old stop missing) (by_stop old mid stop missing left.counts) borne))) writes.any_moment
+    ]
+
+    pub while_opening : LeavesOnly old new (StandsStill old missing arrays)
+    while_opening = then_run r.on (while_read old mid x missing arrays r.wrote r.found) while_settling
+
+    -- ---- afterwards
+
+    module _ (is_new : IsShelf new) (drives : (i : ℕ) → new.disk (drive i) ≡ mid.disk (drive i)) (now_members : List Bool) (now_fewer : IsFewer log.members now_members)
+        (now_dropped : DroppedCounted mid new log.members now_members) (borne : IsBearable (geometry_of old) (failed_since old new missing)) where
+      abbrev later : Conditions
+      later = failed_since old new missing
+
+      all_on : Continues old new
+      all_on = continues_trans r.on next
+
+      pub bears_mid : IsBearable (geometry_of old) (failed_since old mid missing)
+      bears_mid = fewer_borne (geometry_of old) (failed_since old mid missing) later (since_later old mid new missing next) borne
+
+      was_sound : (d : Device) → later d ≡ Sound → (missing d ≡ Sound) × (has_risen (old.disk d).faults (new.disk d).faults ≡ false)
+      was_sound d e = sound_since (has_risen (old.disk d).faults (new.disk d).faults) (missing d) e
+
+      was_left_out : (d : Device) → later d ≡ LeftOut → missing d ≡ LeftOut
+      was_left_out d e = left_out_since (has_risen (old.disk d).faults (new.disk d).faults) (missing d) e
+
+      pub still_sound : (n : ℕ) → n < 2 → later (nvram n) ≡ Sound → IsMember now_members n
+      still_sound n lt s =
+          let before : failed_since old mid missing (nvram n) ≡ Sound = sound_before (failed_since old mid missing (nvram n)) (later (nvram n)) (since_later old mid new missing next (nvram n)) s in
+          elim (now_dropped n lt (answered bears_mid n lt before)) [
+            | inl m ↦ m
+            | inr rose ↦ absurd (risen_on_way (old.disk (nvram n)).faults (mid.disk (nvram n)).faults (new.disk (nvram n)).faults (new.disk (nvram n)).faults (r.on.faults (nvram n)) rose (omega arith) (was_sound (nvram n) s).1)
+          ]
+
+      pub not_lost : (IsSome now_members → ⊥) → ⊥
+      not_lost lost =
+          let one = one_sound (geometry_of old) later borne in
+          some_of one.0 one.1 (still_sound one.0 one.1 one.2)
+        where
+          some_of : (n : ℕ) → n < 2 → IsMember now_members n → ⊥
+          some_of zero lt m = lost (inl m)
+          some_of (suc zero) lt m = lost (inr m)
+          some_of (suc (suc n)) lt m = absurd (omega (arith, lt))
+
+      -- the drives are as they were
+      same_all : (i : ℕ) → new.disk (drive i) ≡ old.disk (drive i)
+      same_all i = drives i ∙ r.same_drives i
+
+      same_drive : (i : ℕ) → later (drive i) ≡ missing (drive i)
+      same_drive i = stays (missing (drive i)) (has_risen (old.disk (drive i)).faults (new.disk (drive i)).faults)
+          (λ s. not_risen (old.disk (drive i)).faults (new.disk (drive i)).faults (ap (λ (d : Disk). d.faults) (same_all i)) (r.found.counted (drive i) s))
+
+      same_shelf : geometry_of old ≡ geometry_of new
+      same_shelf = same_geometry all_on
+
+      module _ (start : Stop) (may : MayStop new start) where
+        -- what might have been left of the NVRAM devices before
+        abbrev image_before : Image
+        image_before (Drive d) = start.image (Drive d)
+        image_before (Nv n) = (old.disk (Nv n)).bytes
+
+        left_then : (d : Device) → MayLeave (old.disk d) (image_before d)
+        left_then (Drive d) = subst (λ (k : Disk). MayLeave k (start.image (Drive d))) (same_all d.0) (may.device (Drive d))
+        left_then (Nv n) = as_read_leaves old r.is r.honest (Nv n)
+
+        stop_before : MayStop old (at_once old image_before)
+        stop_before = may_at_once old image_before left_then
+
+        stands_here : Stands (geometry_of old) start.image later arrays
+        stands_here = (while_opening.each (at_once new start.image)
+            (is_new.counts_now old.moment (at_once new start.image) all_on.later (may_at_once new start.image may.device))).1 borne
+
+        given_here : MayBeGiven (geometry_of old) start.image later (slot_in x.slot) x.record
+        given_here = given_moves (geometry_of old) image_before start.image missing later (slot_in x.slot) x.record (λ i. refl) same_drive borne
+            (subst (λ (t : BootSlot). MayBeGiven (geometry_of old) image_before missing t x.record) (twice_other (slot_in x.slot)) (r.found.in_force.given (at_once old image_before) stop_before))
+
+        given_before : (slot2 : BootSlot) (boot2 : BootRecord) → MayBeGiven (geometry_of old) start.image later slot2 boot2 → MayBeGiven (geometry_of old) image_before missing slot2 boot2
+        given_before slot2 boot2 g2 = given_moves (geometry_of old) start.image image_before later missing slot2 boot2 (λ i. refl) (λ i. sym (same_drive i)) (r.found.stands (at_once old image_before) stop_before).bearable g2
+
+        named_by_none : (d : Device) → later d ≡ LeftOut → IsNamedByNone (geometry_of old) start.image later d
+        named_by_none d out slot2 boot2 g2 = r.found.left_out (at_once old image_before) stop_before d (was_left_out d out) slot2 boot2 (given_before slot2 boot2 g2)
+
+      pub found_still : IsFoundOn new x later arrays
+      found_still = record {
+        in_force = record {
+          lawful = subst (λ (g : Geometry). IsRecordOf g x.record) same_shelf r.found.in_force.lawful;
+          sound = λ i lt s. r.found.in_force.sound i (omega (arith, lt, all_on.drives)) (was_sound (drive i) s).0;
+          clean = λ i m s. subst (λ (d : Disk). d.dirty ≡ []) (sym (same_all i)) (r.found.in_force.clean i m (was_sound (drive i) s).0);
+          shown = λ i m s. subst (λ (d : Disk). shown_by (other_slot (other_slot (slot_in x.slot))) d.bytes ≡ Some (spelling x.record)) (sym (same_all i)) (r.found.in_force.shown i m (was_sound (drive i) s).0);
+          given = λ start may. subst (λ (g : Geometry). MayBeGiven g start.image later (other_slot (other_slot (slot_in x.slot))) x.record) same_shelf
+              (subst (λ (t : BootSlot). MayBeGiven (geometry_of old) start.image later t x.record) (sym (twice_other (slot_in x.slot))) (given_here start may));
+        };
+        in_its_slot = r.found.in_its_slot;
+        named = r.found.named;
+        bodies = λ i m. subst (λ (d : Disk). body_in (slot_in x.slot) d.bytes ≡ spelling x.record) (sym (same_all i)) (r.found.bodies i m);
+        unflushed = r.found.unflushed;
+        room = r.found.room;
+        stands = λ stop may. subst (λ (g : Geometry). Stands g stop.image later arrays) same_shelf (stands_here stop may);
+        counted = λ d s. goes_on (old.disk d).faults (new.disk d).faults (was_sound d s).1;
+        left_out = λ start may d out. subst (λ (g : Geometry). IsNamedByNone g start.image later d) same_shelf (named_by_none start may d out);
+      }
+
+      pub opened : (o : OpenedLog) → o.log.members ≡ now_members → IsSome o.log.members → o.log.flushed ≡ log.flushed → Keeps o.log front → o.plain ≡ b
+          → HoldsOn new o.log.members o.log.flushed front → IsLogOpen new x later arrays o
+      opened o same some flushed keeps plain holds = record {
+        found = found_still;
+        commands = front;
+        keeps = keeps;
+        flushed = flushed ∙ r.flushed;
+        accepted = (r.replayed commands r.read.keeps).accepted;
+        plain = plain ∙ (r.replayed commands r.read.keeps).array;
+        one_of = one_of bears_mid;
+        holds = subst (λ (f : ℕ). HoldsOn new o.log.members f front) (flushed ∙ r.flushed) holds;
+        some = some;
+        fewer = λ n m. r.fewer n (now_fewer n (subst (λ (l : List Bool). IsMember l n) same m));
+        sound = λ n lt s. subst (λ (l : List Bool). IsMember l n) (sym same) (still_sound n lt s);
+        left_out = λ n out m. left_out_not n out (r.fewer n (now_fewer n (subst (λ (l : List Bool). IsMember l n) same m)));
+      }
+        where
+          left_out_not : (n : ℕ) → later (nvram n) ≡ LeftOut → names x.record (nvram n) ≡ true → ⊥
+          left_out_not n out named =
+              let image : Image = λ d. (new.disk d).bytes in
+              let may = may_at_once new image (as_read_leaves new is_new (all_on.honest r.honest)) in
+              absurd (cc (named, named_by_none (at_once new image) may (nvram n) out (slot_in x.slot) x.record (given_here (at_once new image) may)))
+
+-- what the calls say of a log that was read
+pub was_read : (old mid : Shelved) (x : Loaded) (missing : Conditions) (arrays : List Array) (nvrams : List Bool) (flushed : ℕ) (log : NvLog) (count : ℕ) (b : Array)
+    → IsShelf old → IsShelf mid → old.honest → Continues old mid → WritesOnly OnNothing old mid → ((i : ℕ) → mid.disk (drive i) ≡ old.disk (drive i))
+    → x.record.members.nvrams ≡ nvrams → x.record.flushed ≡ flushed → IsFoundOn old x missing arrays → IsFewer nvrams log.members → DroppedCounted old mid nvrams log.members
+    → ((n : ℕ) → n < 2 → IsMember log.members n → (mid.disk (nvram n)).dirty ≡ []) → log.flushed ≡ flushed → IsReadFrom old.honest (shown_of mid log.members) log → AreAsSeen mid log
+    → count ≤ log.count → ((commands : List Command) → Keeps log commands → IsReplayed [] commands count b) → WasRead old mid x missing arrays log count b
+was_read old mid x missing arrays nvrams flushed log count b is is_mid h on wrote same same_nvrams same_flushed found fewer dropped clean flushed_is read seen within replayed = record {
+  is = is;
+  is_mid = is_mid;
+  honest = h;
+  on = on;
+  wrote = wrote;
+  same_drives = same;
+  found = found;
+  fewer = subst (λ (l : List Bool). IsFewer l log.members) (sym same_nvrams) fewer;
+  dropped = subst (λ (l : List Bool). DroppedCounted old mid l log.members) (sym same_nvrams) dropped;
+  clean = clean;
+  flushed = flushed_is ∙ sym same_flushed;
+  read = read;
+  seen = seen;
+  within = within;
+  replayed = replayed;
+}

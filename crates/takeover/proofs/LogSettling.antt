@@ -1,0 +1,359 @@
+-- The log that was read from devices that stand for arrays: it leads to one of them, and settling it changes nothing that they stand for.
+use Rattle.std.proofs.Common.{◌≡◌, ◌⊎◌, inl, inr, ⊎_elim, ℕ, ◌+◌, ◌-◌, ◌^◌, ◌<◌, ◌≤◌, ◌||◌, List, [], length, take, refl, sym, ◌∙◌, ap, subst, arith, Bool, true, false, cond}
+use Rattle.std.specs.Prelude.{Option, Some, None, IsSome, Contains, if◌then◌else◌, slice_get, slice_index, slice_index_or, count_by, nat_lt, nat_le}
+use Rattle.std.proofs.Math.Seq.{take-length}
+use Rattle.std.proofs.lemmas.Bool.{cases_lt, cases_Bool, or_cases, ltb-true, leb-true}
+use Rattle.std.proofs.lemmas.List.{get_or_past, length-take}
+use Rattle.std.proofs.lemmas.Option.{slice_get_cases}
+use Rattle.pur_base.specs.Commands.{Command, after_all}
+use Rattle.pur_base.specs.Devices.{Geometry, Image, View, Condition, Conditions, Sound, Missing, LeftOut, MayShow, MayShowAs, IsBearable, IsWithin, MayBecome, is_sound, is_missing, missing_drives, missing_nvrams, nvrams, slots_of, drive, nvram}
+use Rattle.pur_base.specs.Plain.{Array}
+use Rattle.pur_base.specs.declared.device.Device.{Device}
+use Rattle.pur_base.specs.declared.device.Device.TheVariants.{Drive, Nv}
+use Rattle.boot_codec.specs.declared.record.BootRecord.{BootRecord}
+use Rattle.boot_codec.specs.Spelling.{spelling}
+use Rattle.boot_codec.specs.Region.{BootSlot, shown_by, names, of_members}
+use Rattle.log_codec.specs.Log.{Shows, ShowsIn, IsInSlot, LogStands}
+use Rattle.array_spec.specs.LogSettling.{answering, SettlesLog, MaySettle}
+use Rattle.array_spec.specs.Standing.{Stands, IsViewOf, MayBeGiven, IsReadBy}
+use Rattle.array_spec.proofs.LogBetween.{shower}
+use Rattle.array_spec.proofs.LogSettled.{settling_keeps}
+use Rattle.array_spec.proofs.OneLog.{one_log}
+use Rattle.array_spec.proofs.Settling.{twice_other}
+use Rattle.array_spec.proofs.Standings.{more_may_go_missing, within_twice}
+use Rattle.array_spec.proofs.UnflushedRead.{kept_some, unflushed_holds_nothing}
+use Rattle.world.specs.Losing.{geometry_of, has_risen, missing_if}
+use Rattle.world.specs.Shelf.{Shelved, Stop, Disk, IsShelf, Continues, MayStop, MayLeave}
+use Rattle.world.specs.Writes.{MayLeaveBut, LeavesBut, WritesOnly}
+use Rattle.boot_region.specs.declared.loading.Loaded.{Loaded}
+use Rattle.boot_region.specs.Slots.{slot_in}
+use Rattle.boot_region.proofs.Accounts.{losing_within}
+use Rattle.boot_region.proofs.Composing.{as_it_is, is_sound_is}
+use Rattle.boot_region.proofs.Phases.{risen_on_way}
+use Rattle.boot_region.proofs.ShownLemmas.{as_read}
+use Rattle.nvram_log.specs.Held.{shown_by as shown_of}
+use Rattle.nvram_log.specs.Members.{IsMember, IsFewer, OnMembers}
+use Rattle.nvram_log.specs.Read.{OnNothing, DroppedCounted}
+use Rattle.nvram_log.specs.Settling.{SettlesBy, SettleBy}
+use Rattle.takeover.specs.Entering.{failed_since}
+use Rattle.takeover.specs.Found.{IsFoundOn}
+use Rattle.takeover.specs.Replay.{IsReplayed}
+use Rattle.takeover.proofs.Chains.{replayed_stands, of_front, agrees, shows_move, log_moves}
+use Rattle.takeover.proofs.Failing.{sound_since, left_out_since}
+use Rattle.takeover.proofs.Generations.{this_or_later}
+
+-- ---- conditions
+
+-- a count that stays, and isn't at its end, hasn't risen
+pub not_risen : (a b : ℕ) → b ≡ a → a < 2 ^ 64 - 1 → has_risen a b ≡ false
+not_risen a b same low = elim (cases_Bool (has_risen a b)) [
+  | inr not ↦ not
+  | inl rose ↦ elim (or_cases (nat_lt a b) (nat_le (2 ^ 64 - 1) a) rose) [
+    | inl lt ↦ absurd (omega (arith, ltb-true a b lt, same))
+    | inr full ↦ absurd (omega (arith, leb-true (2 ^ 64 - 1) a full, low))
+  ]
+]
+
+pub stays : (c : Condition) (b : Bool) → (c ≡ Sound → b ≡ false) → missing_if b c ≡ c
+stays Sound b h = ap (λ (x : Bool). if x then Missing else Sound) (h refl)
+stays Missing b h = refl
+stays LeftOut b h = refl
+
+pub bearable_or_not : (shelf : Geometry) (c : Conditions) → IsBearable shelf c ⊎ (IsBearable shelf c → ⊥)
+bearable_or_not shelf c = elim (cases_lt 2 (missing_drives shelf c)) [
+  | inl more ↦ inr (λ b. absurd (omega (arith, more, b.drives)))
+  | inr few ↦ elim (cases_lt 1 (missing_nvrams c)) [
+    | inl more ↦ inr (λ b. absurd (omega (arith, more, b.nvrams)))
+    | inr few2 ↦ inl (record { drives = few; nvrams = few2 })
+  ]
+]
+
+-- ---- what devices show
+
+shows_now : (c : Condition) (bytes : List ℕ) → MayShowAs c bytes (if is_sound c then Some bytes else None)
+shows_now Sound bytes = refl
+shows_now Missing bytes = inr (inr refl)
+shows_now LeftOut bytes = tt
+
+shows_too : (c : Condition) (b : Bool) (bytes : List ℕ) → (c ≡ LeftOut → b ≡ false) → MayShowAs c bytes (if is_sound c || b then Some bytes else None)
+shows_too Sound b bytes h = refl
+shows_too Missing true bytes h = inl refl
+shows_too Missing false bytes h = inr (inr refl)
+shows_too LeftOut true bytes h = absurd (cc (h refl))
+shows_too LeftOut false bytes h = tt
+
+shows_alike : (named sound member : Bool) (o : Option (List ℕ)) → (member ≡ true → named ≡ true) → (named ≡ true → sound ≡ true → member ≡ true)
+    → (if member then o else None) ≡ (if named then (if sound || member then o else None) else None)
+shows_alike true true true o h k = refl
+shows_alike true true false o h k = absurd (cc (k refl refl))
+shows_alike true false true o h k = refl
+shows_alike true false false o h k = refl
+shows_alike false sound true o h k = absurd (cc (h refl))
+shows_alike false sound false o h k = refl
+
+same_if : (b : Bool) (p q : List ℕ) → (b ≡ true → p ≡ q) → (if b then Some p else None) ≡ (if b then Some q else None)
+same_if true p q h = ap (λ (l : List ℕ). Some l) (h refl)
+same_if false p q h = refl
+
+is_named : (b : Bool) (o : Option (List ℕ)) → IsSome (if b then o else None) → b ≡ true
+is_named true o some = refl
+is_named false o some = cc
+
+pub nothing_else : {W : ℕ → Type 0} {disk : Disk} {bytes : List ℕ} → ((i : ℕ) → W i → ⊥) → MayLeaveBut W disk bytes → MayLeave disk bytes
+nothing_else none h = record { size = h.size; is_byte = h.is_byte; clean = λ i out. h.same i out (none i) }
+
+one_leaves : (b : Bool) (disk : Disk) (bytes : List ℕ) → ((i : ℕ) → slice_index disk.bytes i < 256) → (b ≡ false → MayLeave disk bytes) → MayLeave disk (if b then disk.bytes else bytes)
+one_leaves true disk bytes are h = record { size = refl; is_byte = are; clean = λ i out. refl }
+one_leaves false disk bytes are h = h refl
+
+-- ---- what may be given
+
+-- where the drives and what is known of them are the same, so is what may be given
+module _ (shelf : Geometry) (old new : Image) (missing later : Conditions) (slot : BootSlot) (boot : BootRecord) (same : (i : ℕ) → new (drive i) ≡ old (drive i))
+    (alike : (i : ℕ) → later (drive i) ≡ missing (drive i)) (bears : IsBearable shelf later) (g : MayBeGiven shelf old missing slot boot) where
+  abbrev more_missing : Conditions
+  more_missing (Drive d) = g.more (Drive d)
+  more_missing (Nv n) = later (Nv n)
+
+  abbrev view_then : View
+  view_then (Drive d) = g.view (Drive d)
+  view_then (Nv n) = Some (new (Nv n))
+
+  all_within : IsWithin later more_missing
+  all_within (Drive d) = subst (λ (c : Condition). MayBecome c (g.more (Drive d))) (sym (alike d.0)) (g.appears.within (Drive d))
+  all_within (Nv n) = as_it_is later (Nv n)
+
+  all_shown : (d : Device) → more_missing d ≡ Sound → view_then d ≡ Some (new d)
+  all_shown (Drive d) s = g.appears.shown (Drive d) s ∙ ap (λ (l : List ℕ). Some l) (sym (same d.0))
+  all_shown (Nv n) s = refl
+
+  pub given_moves : MayBeGiven shelf new later slot boot
+  given_moves = record {
+    more = more_missing;
+    view = view_then;
+    appears = record { within = all_within; bearable = record { drives = g.appears.bearable.drives; nvrams = bears.nvrams }; shown = all_shown };
+    lawful = g.lawful;
+    effective = record { decided = g.effective.decided; highest = g.effective.highest };
+  }
+
+-- ---- the log was read, and nothing written
+
+module _ (old mid : Shelved) (x : Loaded) (missing : Conditions) (arrays : List Array) (is : IsShelf old) (wrote : WritesOnly OnNothing old mid)
+    (same_drives : (i : ℕ) → mid.disk (drive i) ≡ old.disk (drive i)) (found : IsFoundOn old x missing arrays)
+    (members : List Bool) (fewer : IsFewer x.record.members.nvrams members) (dropped : DroppedCounted old mid x.record.members.nvrams members)
+    (clean : (n : ℕ) → n < 2 → IsMember members n → (mid.disk (nvram n)).dirty ≡ []) (bears : IsBearable (geometry_of old) (failed_since old mid missing)) where
+  abbrev shelf : Geometry
+  shelf = geometry_of old
+
+  abbrev now : Conditions
+  now = failed_since old mid missing
+
+  abbrev slot : BootSlot
+  slot = slot_in x.slot
+
+  abbrev boot : BootRecord
+  boot = x.record
+
+  rose : Device → Bool
+  rose d = has_risen (old.disk d).faults (mid.disk d).faults
+
+  named_below : (n : ℕ) → names boot (nvram n) ≡ true → n < 2
+  named_below n e = elim (cases_lt n 2) [
+    | inl lt ↦ lt
+    | inr past ↦ absurd (cc (e, get_or_past boot.members.nvrams n false (omega (arith, past, found.in_force.lawful.lawful.members.nvram_flags))))
+  ]
+
+  was_sound : (d : Device) → now d ≡ Sound → (missing d ≡ Sound) × (has_risen (old.disk d).faults (mid.disk d).faults ≡ false)
+  was_sound d e = sound_since (has_risen (old.disk d).faults (mid.disk d).faults) (missing d) e
+
+  was_left_out : (d : Device) → now d ≡ LeftOut → missing d ≡ LeftOut
+  was_left_out d e = left_out_since (has_risen (old.disk d).faults (mid.disk d).faults) (missing d) e
+
+  within_now : IsWithin missing now
+  within_now = losing_within (λ d. has_risen (old.disk d).faults (mid.disk d).faults) missing
+
+  same_drive : (i : ℕ) → now (drive i) ≡ missing (drive i)
+  same_drive i = stays (missing (drive i)) (has_risen (old.disk (drive i)).faults (mid.disk (drive i)).faults)
+      (λ s. not_risen (old.disk (drive i)).faults (mid.disk (drive i)).faults (ap (λ (d : Disk). d.faults) (same_drives i)) (found.counted (drive i) s))
+
+  -- a device that is named and isn't missing is a member
+  still_member : (n : ℕ) → names boot (nvram n) ≡ true → now (nvram n) ≡ Sound → IsMember members n
+  still_member n named sound = elim (dropped n (named_below n named) named) [
+    | inl m ↦ m
+    | inr r ↦ absurd (risen_on_way (old.disk (nvram n)).faults (old.disk (nvram n)).faults (mid.disk (nvram n)).faults (mid.disk (nvram n)).faults (omega arith) r (omega arith) (was_sound (nvram n) sound).1)
+  ]
+
+  module _ (image : Image) (leaves : (d : Device) → MayLeave (mid.disk d) (image d)) where
+    pub left_before : (d : Device) → MayLeave (old.disk d) (image d)
+    left_before d = record {
+      size = (leaves d).size ∙ (wrote.device d).size;
+      is_byte = (leaves d).is_byte;
+      clean = λ i out. (leaves d).clean i (λ w. ⊎_elim out (λ v. v) ((wrote.device d).dirty i w)) ∙ (wrote.device d).bytes i (λ v. v);
+    }
+
+    abbrev start : Stop
+    start = record { image = image; faults = λ d. (old.disk d).faults; write_faults = λ d. (old.disk d).write_faults; output = old.output; taken = old.taken }
+
+    may : MayStop old start
+    may = record { device = left_before; counts = record { faults = λ d. omega arith; write_faults = λ d. omega arith }; output = refl; taken = refl }
+
+    pub stands : Stands shelf image now arrays
+    stands = more_may_go_missing shelf image missing now arrays within_now bears (found.stands start may)
+
+    given_then : MayBeGiven shelf image missing slot boot
+    given_then = subst (λ (t : BootSlot). MayBeGiven shelf image missing t boot) (twice_other slot) (found.in_force.given start may)
+
+    pub given : MayBeGiven shelf image now slot boot
+    given = given_moves shelf image image missing now slot boot (λ i. refl) same_drive bears given_then
+
+    shows : (i : ℕ) → i < old.drives → now (drive i) ≡ Sound → shown_by slot (image (drive i)) ≡ Some (spelling boot)
+    shows i lt sound =
+        let was = (was_sound (drive i) sound).0 in
+        let m = found.in_force.sound i lt was in
+        ap (shown_by slot) (as_read (old.disk (drive i)) (image (drive i)) (found.in_force.clean i m was) (left_before (drive i)))
+        ∙ subst (λ (t : BootSlot). shown_by t (old.disk (drive i)).bytes ≡ Some (spelling boot)) (twice_other slot) (found.in_force.shown i m was)
+
+    -- what the devices show alone
+    abbrev view : View
+    view (Drive d) = if is_sound (now (Drive d)) then Some (image (Drive d)) else None
+    view (Nv n) = if is_sound (now (Nv n)) || slice_index_or members n.0 false then Some (image (Nv n)) else None
+
+    not_member : (n : ℕ) → now (nvram n) ≡ LeftOut → slice_index_or members n false ≡ false
+    not_member n out = elim (cases_Bool (slice_index_or members n false)) [
+      | inl m ↦ absurd (cc (fewer n m, found.left_out start may (nvram n) (was_left_out (nvram n) out) slot boot given_then))
+      | inr isn't ↦ isn't
+    ]
+
+    shown_now : MayShow image now view
+    shown_now (Drive d) = shows_now (now (Drive d)) (image (Drive d))
+    shown_now (Nv n) = shows_too (now (Nv n)) (slice_index_or members n.0 false) (image (Nv n)) (not_member n.0)
+
+    is_view : IsViewOf shelf image now now view
+    is_view = record { within = as_it_is now; bearable = bears; shown = shown_now }
+
+    abbrev base : Array
+    base = (stands.reads slot boot given).base
+
+    reading : IsReadBy shelf now (of_members slot boot view) slot boot base arrays
+    reading = (stands.reads slot boot given).each now view is_view
+
+    pub base_is : base ≡ []
+    base_is = unflushed_holds_nothing shelf (of_members slot boot view) boot base found.unflushed reading.holds
+
+    -- each device that isn't missing is a member
+    pub answers : (n : ℕ) → n < 2 → now (nvram n) ≡ Sound → IsMember members n
+    answers n lt sound = still_member n (is_named (names boot (nvram n)) (view (nvram n)) (reading.all_hold (nvram n) lt sound)) sound
+
+    fewer_missing : (slot2 : BootSlot) (boot2 : BootRecord) → MayBeGiven shelf image now slot2 boot2 → MayBeGiven shelf image missing slot2 boot2
+    fewer_missing slot2 boot2 g = record {
+      more = g.more;
+      view = g.view;
+      appears = record { within = within_twice missing now g.more within_now g.appears.within; bearable = g.appears.bearable; shown = g.appears.shown };
+      lawful = g.lawful;
+      effective = g.effective;
+    }
+
+    pub may_settle : MaySettle shelf image now members slot boot
+    may_settle = record {
+      given = given;
+      no_earlier = λ slot2 boot2 g2. this_or_later shelf image now arrays slot boot is.drives.0 found.in_force.lawful found.in_its_slot shows stands view is_view slot2 boot2 g2;
+      sound = answers;
+      named = λ n m. fewer n m;
+      left_out = λ n out slot2 boot2 g2. found.left_out start may (nvram n) (was_left_out (nvram n) out) slot2 boot2 (fewer_missing slot2 boot2 g2);
+    }
+
+    alike : (j : ℕ) → answering members image (nvram j) ≡ of_members slot boot view (nvram j)
+    alike j = shows_alike (names boot (nvram j)) (is_sound (now (nvram j))) (slice_index_or members j false) (Some (image (nvram j))) (fewer j)
+        (λ named sound. still_member j named (is_sound_is (now (nvram j)) sound))
+
+    as_shown : (j : ℕ) → shown_of mid members (nvram j) ≡ answering members image (nvram j)
+    as_shown j = same_if (slice_index_or members j false) (mid.disk (nvram j)).bytes (image (nvram j))
+        (λ m. sym (as_read (mid.disk (nvram j)) (image (nvram j)) (clean j (named_below j (fewer j m)) m) (leaves (nvram j))))
+
+    -- the commands were read and applied
+    module _ (commands : List Command) (count : ℕ) (b : Array) (le : count ≤ length commands) (replayed : IsReplayed [] commands count b)
+        (placed : (i : ℕ) (c : Command) → slice_get commands i ≡ Some c → IsInSlot (shown_of mid members) x.record.flushed i c)
+        (ends : length commands < 64 → (n : ℕ) (c : Command) → n < 2 → ¬ (Shows (shown_of mid members) n x.record.flushed (length commands) c)) where
+      abbrev log : List Command
+      log = take count commands
+
+      size : length log ≡ count
+      size = omega (arith, length-take count commands, le)
+
+      pub log_stands : LogStands (answering members image) boot.flushed base log
+      log_stands = subst (λ (a : Array). LogStands (answering members image) boot.flushed a log) (sym base_is)
+          (log_moves (shown_of mid members) (answering members image) as_shown boot.flushed 0 [] log (replayed_stands (shown_of mid members) boot.flushed commands count b replayed size placed ends le))
+
+      pub is_one : Contains arrays (after_all [] log)
+      is_one =
+          let mine : LogStands (of_members slot boot view) boot.flushed base log = log_moves (answering members image) (of_members slot boot view) alike boot.flushed 0 base log log_stands in
+          let same : reading.leads.log ≡ log = one_log (of_members slot boot view) boot.flushed 0 base reading.leads.log log reading.leads.log_stands mine in
+          let whole : take (length reading.leads.log) reading.leads.log ≡ log = take-length reading.leads.log ∙ same in
+          subst (λ (a : Array). Contains arrays (after_all a log)) base_is
+          (subst (λ (l : List Command). Contains arrays (after_all base l)) whole (reading.leads.fronts (length reading.leads.log) reading.leads.enough (omega arith)))
+
+      pub agree_here : (n i : ℕ) (c : Command) → IsMember members n → i < length log → ShowsIn (image (nvram n)) boot.flushed i c → slice_get log i ≡ Some c
+      agree_here n i c m short t = elim (slice_get_cases log i).1 [
+        | inl some ↦
+            let it = shower (shown_of mid members) boot.flushed i some.0 (placed i some.0 (of_front count commands i some.0 some.2 size)) in
+            let there : Shows (of_members slot boot view) it.0 boot.flushed i some.0 =
+            shows_move (answering members image) (of_members slot boot view) alike it.0 boot.flushed i some.0 (shows_move (shown_of mid members) (answering members image) as_shown it.0 boot.flushed i some.0 it.2) in
+            let own : answering members image (nvram n) ≡ Some (image (nvram n)) = kept_some (slice_index_or members n false) (Some (image (nvram n))) (image (nvram n)) m refl in
+            let here : Shows (of_members slot boot view) n boot.flushed i c = record { slot = t.slot; bytes = image (nvram n); shown = sym (alike n) ∙ own; gate = t.gate; spelled = t.spelled } in
+            let same : some.0 ≡ c = agrees (of_members slot boot view) boot.flushed reading.leads.devices_agree it.0 n i some.0 c it.1 (named_below n (fewer n m)) there here in
+            some.2 ∙ ap (λ (d : Command). Some d) same
+        | inr past ↦ absurd (omega (arith, past.0, short))
+      ]
+
+  -- ---- while it is settled
+
+  module _ (commands : List Command) (count : ℕ) (b : Array) (le : count ≤ length commands) (replayed : IsReplayed [] commands count b)
+      (placed : (i : ℕ) (c : Command) → slice_get commands i ≡ Some c → IsInSlot (shown_of mid members) x.record.flushed i c)
+      (ends : length commands < 64 → (n : ℕ) (c : Command) → n < 2 → ¬ (Shows (shown_of mid members) n x.record.flushed (length commands) c))
+      (is_mid : IsShelf mid) (honest : mid.honest) (stop : Stop) (left : LeavesBut (OnMembers members) mid stop) (by : SettleBy mid members x.record.flushed (take count commands) stop)
+      (later : Conditions) (within : IsWithin (failed_since old mid missing) later) (bears_later : IsBearable (geometry_of old) later) where
+    abbrev settled : List Command
+    settled = take count commands
+
+    -- what was there before
+    abbrev was_there : Image
+    was_there (Drive d) = stop.image (Drive d)
+    was_there (Nv n) = if slice_index_or members n.0 false then (mid.disk (Nv n)).bytes else stop.image (Nv n)
+
+    were_left : (d : Device) → MayLeave (mid.disk d) (was_there d)
+    were_left (Drive d) = nothing_else (λ i w. w) (left.bytes (Drive d))
+    were_left (Nv n) = one_leaves (slice_index_or members n.0 false) (mid.disk (Nv n)) (stop.image (Nv n)) (is_mid.bytes honest (Nv n)) (λ isn't. nothing_else (λ i w. absurd (cc (w, isn't))) (left.bytes (Nv n)))
+
+    member_is : (n : ℕ) → IsMember members n → was_there (nvram n) ≡ (mid.disk (nvram n)).bytes
+    member_is n m = ap (λ (b : Bool). if b then (mid.disk (nvram n)).bytes else stop.image (nvram n)) m
+
+    other_is : (n : ℕ) → slice_index_or members n false ≡ false → was_there (nvram n) ≡ stop.image (nvram n)
+    other_is n m = ap (λ (b : Bool). if b then (mid.disk (nvram n)).bytes else stop.image (nvram n)) m
+
+    cleaned : (n : ℕ) → IsMember members n → (mid.disk (nvram n)).dirty ≡ []
+    cleaned n m = clean n (named_below n (fewer n m)) m
+
+    settling_of : (n : ℕ) → IsMember members n → SettlesBy (mid.disk (nvram n)) boot.flushed settled (stop.image (nvram n))
+    settling_of n m = by n (named_below n (fewer n m)) m
+
+    -- what a member might have left is what was there
+    same_was : (n : ℕ) (m : IsMember members n) → (settling_of n m).was ≡ was_there (nvram n)
+    same_was n m = as_read (mid.disk (nvram n)) (settling_of n m).was (cleaned n m) (settling_of n m).may ∙ sym (member_is n m)
+
+    settles_log : SettlesLog members boot.flushed settled was_there stop.image
+    settles_log = record {
+      only_nvram = record { drive = λ i. refl; size = λ i. (left.bytes (nvram i)).size ∙ sym (were_left (nvram i)).size };
+      others = λ n isn't. sym (other_is n isn't);
+      no_other = λ n i c m t. elim ((settling_of n m).no_other i c t) [
+        | inl e ↦ inl e
+        | inr u ↦ inr (subst (λ (l : List ℕ). ShowsIn l boot.flushed i c) (same_was n m) u)
+      ];
+      still = λ n i c m short t. (settling_of n m).still (cleaned n m) i c short (subst (λ (l : List ℕ). ShowsIn l boot.flushed i c) (member_is n m) t);
+      none_elsewhere = λ n i other c m ne t. subst (λ (l : List ℕ). ShowsIn l other i c) (same_was n m) ((settling_of n m).none_elsewhere other i c ne t);
+    }
+
+    pub stands_settling : Stands shelf stop.image later arrays
+    unfolding may_settle given
+    stands_settling =
+        settling_keeps shelf was_there stop.image now later members slot boot settled arrays within bears_later (stands was_there were_left) (may_settle was_there were_left)
+        (log_stands was_there were_left commands count b le replayed placed ends) settles_log

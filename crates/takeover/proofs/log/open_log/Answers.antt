@@ -1,0 +1,104 @@
+use Rattle.std.proofs.Common.{◌≡◌, ℕ, List, Bool, Result, Ok, Err, sym, subst}
+use Rattle.std.proofs.lemmas.Result.{err_from_is_err_and}
+use Rattle.world.proofs.Moments.{continues_trans}
+use Rattle.nvram_log.specs.Read.{AllFailed}
+use Rattle.takeover.specs.declared.log.LogFault.{LogFault}
+use Rattle.takeover.specs.Entering.{failed_since}
+use Rattle.takeover.specs.LogOpen.{IsLogOpenBy}
+use Rattle.takeover.proofs.LogOpened.{while_read, not_read, not_replayed, was_read, while_opening, not_lost, opened, agree, bears_mid}
+use Rattle.takeover.proofs.log.open_log.Goals as goal
+
+pub returns-in_err-log-clause-any_moment : goal.returns-in_err-log-clause-any_moment
+returns-in_err-log-clause-any_moment g c h x missing arrays same_nvrams same_flushed found =
+    while_read (g.S.Shelf.shelf c.args.shelf.now) (g.S.Shelf.shelf c.read_synced.new.shelf) x missing arrays (c.read_synced.ensures.writes h) found
+
+pub returns-in_err-log-clause-opened : goal.returns-in_err-log-clause-opened
+returns-in_err-log-clause-opened g c h x missing arrays same_nvrams same_flushed found borne =
+    let a = g.S.Shelf.shelf c.args.shelf.now in
+    let m = g.S.Shelf.shelf c.read_synced.new.shelf in
+    let on = c.read_synced.ensures.continues in
+    let p = err_from_is_err_and c.from_residual.result c.from_residual.ensures.1 in
+    let e = c.in_err-log.field-0.0 in
+    let all : AllFailed e a m x.record.members.nvrams = subst (λ (l : List Bool). AllFailed e a m l) (sym same_nvrams) c.in_err-log.ensures.err in
+    let fault = not_read a m x missing arrays (g.met.S.Shelf.is_shelf c.args.shelf.now) (g.met.S.Shelf.is_shelf c.read_synced.new.shelf) (on.honest h) (c.read_synced.ensures.writes h) c.read_synced.ensures.drives found borne e all in
+    let named : IsLogOpenBy m x (failed_since a m missing) arrays (Err p.0) = subst (λ (f : LogFault). IsLogOpenBy m x (failed_since a m missing) arrays (Err f)) (sym p.2) fault in
+    subst (λ r. IsLogOpenBy m x (failed_since a m missing) arrays r) (sym p.1) named
+
+pub returns-in_err-made-clause-any_moment : goal.returns-in_err-made-clause-any_moment
+returns-in_err-made-clause-any_moment g c h x missing arrays same_nvrams same_flushed found =
+    while_read (g.S.Shelf.shelf c.args.shelf.now) (g.S.Shelf.shelf c.read_synced.new.shelf) x missing arrays (c.read_synced.ensures.writes h) found
+
+pub returns-in_err-made-clause-opened : goal.returns-in_err-made-clause-opened
+returns-in_err-made-clause-opened g c h x missing arrays same_nvrams same_flushed found borne =
+    let a = g.S.Shelf.shelf c.args.shelf.now in
+    let m = g.S.Shelf.shelf c.read_synced.new.shelf in
+    let p = err_from_is_err_and c.from_residual-in_err-made.result c.from_residual-in_err-made.ensures.1 in
+    let fault = not_replayed m x (failed_since a m missing) arrays c.in_ok-log.log c.in_err-made.field-0.0 c.in_err-made.ensures.err in
+    let named : IsLogOpenBy m x (failed_since a m missing) arrays (Err p.0) = subst (λ (f : LogFault). IsLogOpenBy m x (failed_since a m missing) arrays (Err f)) (sym p.2) fault in
+    subst (λ r. IsLogOpenBy m x (failed_since a m missing) arrays r) (sym p.1) named
+
+pub returns-in_err-settle-clause-any_moment : goal.returns-in_err-settle-clause-any_moment
+returns-in_err-settle-clause-any_moment g c h x missing arrays same_nvrams same_flushed found =
+    let a = g.S.Shelf.shelf c.args.shelf.now in
+    let m = g.S.Shelf.shelf c.read_synced.new.shelf in
+    let n = g.S.Shelf.shelf c.settle.new.shelf in
+    let log = c.in_ok-log.log in
+    let made = c.in_ok-made.made in
+    let on = c.read_synced.ensures.continues in
+    let r = was_read a m x missing arrays c.args.nvrams c.args.flushed log made.count made.plain (g.met.S.Shelf.is_shelf c.args.shelf.now) (g.met.S.Shelf.is_shelf c.read_synced.new.shelf) h on (c.read_synced.ensures.writes h)
+        c.read_synced.ensures.drives same_nvrams same_flushed found c.in_ok-log.ensures.members.0 c.in_ok-log.ensures.counted (c.in_ok-log.ensures.clean h) c.in_ok-log.ensures.flushed c.in_ok-log.ensures.log (c.in_ok-log.ensures.seen h)
+        c.in_ok-made.ensures.within c.in_ok-made.ensures.ok in
+    while_opening a m n x missing arrays log made.count made.plain r c.settle.ensures.continues (c.settle.ensures.writes (on.honest h)) (c.settle.ensures.any_moment (on.honest h))
+
+pub returns-in_err-settle-clause-opened : goal.returns-in_err-settle-clause-opened
+returns-in_err-settle-clause-opened g c h x missing arrays same_nvrams same_flushed found borne =
+    let a = g.S.Shelf.shelf c.args.shelf.now in
+    let m = g.S.Shelf.shelf c.read_synced.new.shelf in
+    let n = g.S.Shelf.shelf c.settle.new.shelf in
+    let log = c.in_ok-log.log in
+    let made = c.in_ok-made.made in
+    let on = c.read_synced.ensures.continues in
+    let r = was_read a m x missing arrays c.args.nvrams c.args.flushed log made.count made.plain (g.met.S.Shelf.is_shelf c.args.shelf.now) (g.met.S.Shelf.is_shelf c.read_synced.new.shelf) h on (c.read_synced.ensures.writes h)
+        c.read_synced.ensures.drives same_nvrams same_flushed found c.in_ok-log.ensures.members.0 c.in_ok-log.ensures.counted (c.in_ok-log.ensures.clean h) c.in_ok-log.ensures.flushed c.in_ok-log.ensures.log (c.in_ok-log.ensures.seen h)
+        c.in_ok-made.ensures.within c.in_ok-made.ensures.ok in
+    absurd (not_lost a m n x missing arrays log made.count made.plain r c.settle.ensures.continues (c.settle.ensures.writes (on.honest h)) (c.settle.ensures.any_moment (on.honest h)) (g.met.S.Shelf.is_shelf c.settle.new.shelf)
+    c.settle.ensures.drives c.settle.new.self.members c.settle.ensures.fewer c.settle.ensures.counted borne c.in_err-settle.ensures.err.1)
+
+pub returns-clause-any_moment : goal.returns-clause-any_moment
+returns-clause-any_moment g c h x missing arrays same_nvrams same_flushed found =
+    let a = g.S.Shelf.shelf c.args.shelf.now in
+    let m = g.S.Shelf.shelf c.read_synced.new.shelf in
+    let n = g.S.Shelf.shelf c.settle.new.shelf in
+    let log = c.in_ok-log.log in
+    let made = c.in_ok-made.made in
+    let on = c.read_synced.ensures.continues in
+    let r = was_read a m x missing arrays c.args.nvrams c.args.flushed log made.count made.plain (g.met.S.Shelf.is_shelf c.args.shelf.now) (g.met.S.Shelf.is_shelf c.read_synced.new.shelf) h on (c.read_synced.ensures.writes h)
+        c.read_synced.ensures.drives same_nvrams same_flushed found c.in_ok-log.ensures.members.0 c.in_ok-log.ensures.counted (c.in_ok-log.ensures.clean h) c.in_ok-log.ensures.flushed c.in_ok-log.ensures.log (c.in_ok-log.ensures.seen h)
+        c.in_ok-made.ensures.within c.in_ok-made.ensures.ok in
+    while_opening a m n x missing arrays log made.count made.plain r c.settle.ensures.continues (c.settle.ensures.writes (on.honest h)) (c.settle.ensures.any_moment (on.honest h))
+
+pub returns-clause-opened : goal.returns-clause-opened
+returns-clause-opened g c h x missing arrays same_nvrams same_flushed found borne =
+    let a = g.S.Shelf.shelf c.args.shelf.now in
+    let m = g.S.Shelf.shelf c.read_synced.new.shelf in
+    let n = g.S.Shelf.shelf c.settle.new.shelf in
+    let log = c.in_ok-log.log in
+    let made = c.in_ok-made.made in
+    let on = c.read_synced.ensures.continues in
+    let r = was_read a m x missing arrays c.args.nvrams c.args.flushed log made.count made.plain (g.met.S.Shelf.is_shelf c.args.shelf.now) (g.met.S.Shelf.is_shelf c.read_synced.new.shelf) h on (c.read_synced.ensures.writes h)
+        c.read_synced.ensures.drives same_nvrams same_flushed found c.in_ok-log.ensures.members.0 c.in_ok-log.ensures.counted (c.in_ok-log.ensures.clean h) c.in_ok-log.ensures.flushed c.in_ok-log.ensures.log (c.in_ok-log.ensures.seen h)
+        c.in_ok-made.ensures.within c.in_ok-made.ensures.ok in
+    let writes = c.settle.ensures.writes (on.honest h) in
+    let moments = c.settle.ensures.any_moment (on.honest h) in
+    let is_new = g.met.S.Shelf.is_shelf c.settle.new.shelf in
+    let bears = bears_mid a m n x missing arrays log made.count made.plain r c.settle.ensures.continues writes moments is_new c.settle.ensures.drives c.settle.new.self.members c.settle.ensures.fewer c.settle.ensures.counted borne in
+    opened a m n x missing arrays log made.count made.plain r c.settle.ensures.continues writes moments is_new
+    c.settle.ensures.drives c.settle.new.self.members c.settle.ensures.fewer c.settle.ensures.counted borne (record { log = c.settle.new.self; plain = made.plain }) (λ i. c.settle.new.self.members) c.in_ok-settle.ensures.ok.1 c.settle.ensures.flushed
+    (c.in_ok-settle.ensures.keeps r.read.commands r.read.keeps) (λ i. made.plain)
+    (c.in_ok-settle.ensures.holds (on.honest h) r.read.commands r.read.keeps r.seen (agree a m n x missing arrays log made.count made.plain r bears))
+
+pub returns-in_err-settle-clause-continues : goal.returns-in_err-settle-clause-continues
+returns-in_err-settle-clause-continues g c = continues_trans c.read_synced.ensures.continues c.settle.ensures.continues
+
+pub returns-clause-continues : goal.returns-clause-continues
+returns-clause-continues g c = continues_trans c.read_synced.ensures.continues c.settle.ensures.continues

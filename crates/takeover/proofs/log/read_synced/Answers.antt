@@ -1,0 +1,13 @@
+use Rattle.nvram_log.specs.declared.log.NvLog.{NvLog}
+use Rattle.nvram_log.specs.Held.{shown_by}
+use Rattle.nvram_log.specs.Read.{IsReadFrom}
+use Rattle.takeover.proofs.Answered.{ok_more, read_more}
+use Rattle.takeover.proofs.log.read_synced.Goals as goal
+
+pub returns-clause-log : goal.returns-clause-log
+returns-clause-log g c =
+    let a = g.S.Shelf.shelf c.args.shelf.now in
+    let m = g.S.Shelf.shelf c.sync_members.new.shelf in
+    let b = g.S.Shelf.shelf c.read.new.shelf in
+    ok_more c.read.result (λ (log : NvLog). IsReadFrom m.honest (shown_by b log.members) log) (λ (log : NvLog). IsReadFrom a.honest (shown_by b log.members) log) c.read.ensures.log
+    (λ log r. read_more m.honest a.honest (shown_by b log.members) log c.sync_members.ensures.continues.honest r)

@@ -1,0 +1,46 @@
+use Rattle.std.proofs.Common.{◌≡◌, ◌+◌, ◌<◌, ◌≤◌, Bool, true, false, length, take, sym, ◌∙◌, subst, arith, rules}
+use Rattle.pur_base.specs.Commands.{AllAccepted, after_all}
+use Rattle.boot_region.proofs.LoadingLemmas.{if_err}
+use Rattle.takeover.specs.declared.log.LogFault.{LogFault}
+use Rattle.takeover.specs.Replay.{IsApplied, IsReplayed, IsReplayFault}
+use Rattle.takeover.proofs.Applying.{command_at, one_more, stopped, ended, replay_fault}
+use Rattle.takeover.proofs.replay.replay.Goals as goal
+
+pub returns-in_default-clause-err : goal.returns-in_default-clause-err
+returns-in_default-clause-err c commands keeps =
+    let at = command_at c.args.log.now commands c.loop-i.i keeps (omega (arith, c.loop-i-test.true, c.count-i-end.ensures)) in
+    absurd (c.in_default.ensures.command commands at.0 keeps at.1)
+
+pub returns-in_err-apply-clause-err : goal.returns-in_err-apply-clause-err
+returns-in_err-apply-clause-err c = if_err c.from_residual.result _ _ c.from_residual.ensures.1 (λ e is.
+    subst (λ (f : LogFault). IsReplayFault f c.args.log.now) (sym is)
+    (replay_fault c.in_err-apply.field-0.0 c.args.log.now c.loop-i.i c.in-Ok.logged.head.command c.in_err-apply.ensures.err (λ commands keeps.
+    let at = command_at c.args.log.now commands c.loop-i.i keeps (omega (arith, c.loop-i-test.true, c.count-i-end.ensures)) in
+    (at.0, at.1, (c.in-Ok.ensures.command commands at.0 keeps at.1).1))))
+
+pub returns-then-not-branch-clause-ok : goal.returns-then-not-branch-clause-ok
+returns-then-not-branch-clause-ok c commands keeps =
+    let at = command_at c.args.log.now commands c.loop-i.i keeps (omega (arith, c.loop-i-test.true, c.count-i-end.ensures)) in
+    let is = c.in_ok-apply.ensures.ok _ at.0 (keeps.each c.loop-i.i at.0 at.1).lawful (c.in-Ok.ensures.command commands at.0 keeps at.1) in
+    let shut : c.in_ok-apply.field-0 ≡ false = search rules in
+    stopped c.args.plain.now commands c.loop-i.i at.0 c.loop-i.plain c.apply.new.plain at.1 (c.loop-i.invariant.applied commands keeps)
+    (subst (λ (b : Bool). IsApplied c.loop-i.plain at.0 b c.apply.new.plain) shut is)
+
+pub loop-i-preserved : goal.loop-i-preserved
+loop-i-preserved c =
+    let inv = c.loop-i.invariant in
+    let fine : c.in_ok-apply.field-0 ≡ true = search rules in
+    record {
+      room = c.in_ok-apply.ensures.room ∙ inv.room;
+      applied = λ commands keeps.
+          let at = command_at c.args.log.now commands c.loop-i.i keeps (omega (arith, c.loop-i-test.true, c.count-i-end.ensures)) in
+          let is = c.in_ok-apply.ensures.ok _ at.0 (keeps.each c.loop-i.i at.0 at.1).lawful (c.in-Ok.ensures.command commands at.0 keeps at.1) in
+          one_more c.args.plain.now commands c.loop-i.i at.0 c.loop-i.plain c.apply.new.plain at.1 (inv.applied commands keeps)
+          (subst (λ (b : Bool). IsApplied c.loop-i.plain at.0 b c.apply.new.plain) fine is);
+    }
+
+pub returns-clause-ok : goal.returns-clause-ok
+returns-clause-ok c commands keeps =
+    let e : c.loop-i.i ≡ c.count.result = omega (arith, c.loop-i-test.false, c.loop-i.auto.i-end, c.count.ensures, c.count-i-end.ensures) in
+    subst (λ n. IsReplayed c.args.plain.now commands n c.loop-i.plain) e
+    (ended c.args.plain.now commands c.loop-i.i c.loop-i.plain (omega (arith, keeps.count, e, c.count.ensures)) (c.loop-i.invariant.applied commands keeps))

@@ -1,0 +1,10 @@
+use Rattle.std.proofs.Common.{◌≡◌, List, length, take}
+use Rattle.pur_base.specs.Commands.{Command, AllAccepted, after_all}
+use Rattle.nvram_log.specs.Held.{Keeps}
+use Rattle.takeover.proofs.replay.replay.Given as goal
+
+abbrev pub invariant-loop-i : goal.invariant-loop-i
+invariant-loop-i l = record {
+  room : length l.room ≡ length l.initial.room;
+  applied : (commands : List Command) → Keeps l.log commands → AllAccepted l.initial.plain (take l.i commands) × (l.plain ≡ after_all l.initial.plain (take l.i commands));
+}

@@ -1,0 +1,156 @@
+// The log is opened.
+ghost use Rattle.std.specs.Prelude.{◌≡◌, ℕ, ◌<◌, ◌≤◌, List, [], length, IfOk, IfErr};
+ghost use Rattle.pur_base.specs.Commands.{Command};
+ghost use Rattle.pur_base.specs.Devices.{Conditions, IsBearable, drive, nvram};
+ghost use Rattle.pur_base.specs.Plain.{Array};
+ghost use Rattle.pur_base.specs.declared.limits.TheConstants.{REQUEST_SECTORS};
+ghost use Rattle.world.specs.Losing.{geometry_of};
+ghost use Rattle.world.specs.Shelf.{Continues, LeavesOnly};
+ghost use Rattle.world.specs.Writes.{WritesOnly};
+ghost use Rattle.boot_region.specs.declared.loading.Loaded.{Loaded};
+ghost use Rattle.nvram_log.specs.Held.{Keeps, shown_by};
+ghost use Rattle.nvram_log.specs.Members.{IsFewer, IsMember, IsSome};
+ghost use Rattle.nvram_log.specs.Read.{AllFailed, DroppedCounted, IsReadFrom, OnNothing};
+ghost use Rattle.nvram_log.specs.Settling.{AreAsSeen};
+ghost use Rattle.takeover.specs.Entering.{StandsStill, failed_since};
+ghost use Rattle.takeover.specs.Found.{IsFoundOn};
+ghost use Rattle.takeover.specs.LogOpen.{IsLogOpenBy};
+ghost use Rattle.takeover.specs.Replay.{IsReplayed, IsReplayFault, log_fault_of};
+ghost use Rattle.takeover.specs.declared.log.LogFault.TheVariants as faults;
+
+use crate::replay::replay;
+use array_model::Plain;
+use nvram_log::{BothLost, NvLog, ReadFault, sync_members};
+use pur_base::{NoMemory, REQUEST_SECTORS, Sector};
+use std::alloc::Global;
+use world::Shelf;
+
+/// The NVRAM devices of a shelf.
+const DEVICES: usize = 2;
+
+/// The log of the array, and the array that its commands make of nothing.
+#[derive(Drop)]
+pub struct OpenedLog {
+    pub log: NvLog,
+    pub plain: Plain,
+}
+
+/// Why the log wasn't opened.
+#[derive(Clone, Copy, Debug, PartialEq, Eq, Drop)]
+pub enum LogFault {
+    Memory(NoMemory),
+    /// No NVRAM device is left.
+    BothLost,
+    /// The log has a command of a form that isn't served yet.
+    Unserved,
+}
+
+impl From<NoMemory> for LogFault {
+    ghost from_gives = { λ e r. r ≡ faults.Memory e };
+
+    fn from(error: NoMemory) -> LogFault {
+        LogFault::Memory(error)
+    }
+}
+
+impl From<ReadFault> for LogFault {
+    ghost from_gives = { λ e r. r ≡ log_fault_of e };
+
+    fn from(error: ReadFault) -> LogFault {
+        match error {
+            ReadFault::NoMemory => LogFault::Memory(NoMemory),
+            ReadFault::BothLost => LogFault::BothLost,
+        }
+    }
+}
+
+impl From<BothLost> for LogFault {
+    ghost from_gives = { λ e r. r ≡ faults.BothLost };
+
+    fn from(_error: BothLost) -> LogFault {
+        LogFault::BothLost
+    }
+}
+
+/// What the commands of a log make of nothing, up to the first that is refused, and how many there are before it.
+#[derive(Drop)]
+struct Replayed {
+    plain: Plain,
+    count: usize,
+}
+
+/// Applies the commands of the log to the empty array.
+fn replay_log(alloc: Global, log: &NvLog) -> Result<Replayed, LogFault>
+    ensures within { IfOk result (λ made. made.count ≤ log.now.count) }
+    ensures ok { IfOk result (λ made. (commands : List Command) → Keeps log.now commands → IsReplayed [] commands made.count made.plain) }
+    ensures err { IfErr result (λ fault. IsReplayFault fault log.now) }
+{
+    let mut plain = Plain::new(alloc);
+    let mut room = sector_room(alloc)?;
+    let count = replay(&mut plain, log, &mut room)?;
+    Ok(Replayed { plain, count })
+}
+
+/// Room for the sectors of a command.
+fn sector_room(alloc: Global) -> Result<Vec<Sector>, NoMemory>
+    ensures { IfOk result (λ room. length room.items ≡ REQUEST_SECTORS) }
+{
+    Ok(Vec::from_elem(
+        alloc,
+        Sector::filled(0),
+        REQUEST_SECTORS as usize,
+    )?)
+}
+
+/// Reads the log of the members once they are synced: what is read is what a stop leaves.
+fn read_synced<S: Shelf>(
+    alloc: Global,
+    shelf: &mut S,
+    nvrams: [bool; DEVICES],
+    flushed: u64,
+) -> Result<NvLog, ReadFault>
+    ensures continues { Continues (S.shelf shelf.old) (S.shelf shelf.new) }
+    ensures writes { (S.shelf shelf.old).honest → WritesOnly OnNothing (S.shelf shelf.old) (S.shelf shelf.new) }
+    ensures rest { S.shelf_rest shelf.old shelf.new }
+    ensures drives { (i : ℕ) → (S.shelf shelf.new).disk (drive i) ≡ (S.shelf shelf.old).disk (drive i) }
+    ensures flushed { IfOk result (λ log. log.flushed ≡ flushed) }
+    ensures members { IfOk result (λ log. IsFewer nvrams log.members × IsSome log.members) }
+    ensures counted { IfOk result (λ log. DroppedCounted (S.shelf shelf.old) (S.shelf shelf.new) nvrams log.members) }
+    ensures log { IfOk result (λ log. IsReadFrom (S.shelf shelf.old).honest (shown_by (S.shelf shelf.new) log.members) log) }
+    ensures seen { (S.shelf shelf.old).honest → IfOk result (λ log. AreAsSeen (S.shelf shelf.new) log) }
+    ensures clean { (S.shelf shelf.old).honest → IfOk result (λ log. (n : ℕ) → n < 2 → IsMember log.members n → ((S.shelf shelf.new).disk (nvram n)).dirty ≡ []) }
+    ensures err { IfErr result (λ fault. AllFailed fault (S.shelf shelf.old) (S.shelf shelf.new) nvrams) }
+{
+    let mut members = nvrams;
+    sync_members(shelf, &mut members);
+    NvLog::read(alloc, shelf, members, flushed)
+}
+
+/// Reads the log of the members, applies its commands to the empty array, and settles it on the devices: it ends before the first command that the array refuses.
+pub fn open_log<S: Shelf>(
+    alloc: Global,
+    shelf: &mut S,
+    nvrams: [bool; DEVICES],
+    flushed: u64,
+) -> Result<OpenedLog, LogFault>
+    ensures continues { Continues (S.shelf shelf.old) (S.shelf shelf.new) }
+    ensures rest { S.shelf_rest shelf.old shelf.new }
+    ensures drives { (i : ℕ) → (S.shelf shelf.new).disk (drive i) ≡ (S.shelf shelf.old).disk (drive i) }
+    // At every moment the devices stand for the arrays for which they stood.
+    ensures any_moment { (S.shelf shelf.old).honest → (x : Loaded) (missing : Conditions) (arrays : List Array) → x.record.members.nvrams ≡ nvrams → x.record.flushed ≡ flushed
+        → IsFoundOn (S.shelf shelf.old) x missing arrays
+        → LeavesOnly (S.shelf shelf.old) (S.shelf shelf.new) (StandsStill (S.shelf shelf.old) missing arrays) }
+    // Where no more is missing than is borne it is opened.
+    ensures opened { (S.shelf shelf.old).honest → (x : Loaded) (missing : Conditions) (arrays : List Array) → x.record.members.nvrams ≡ nvrams → x.record.flushed ≡ flushed
+        → IsFoundOn (S.shelf shelf.old) x missing arrays
+        → IsBearable (geometry_of (S.shelf shelf.old)) (failed_since (S.shelf shelf.old) (S.shelf shelf.new) missing)
+        → IsLogOpenBy (S.shelf shelf.new) x (failed_since (S.shelf shelf.old) (S.shelf shelf.new) missing) arrays result }
+{
+    let mut log = read_synced(alloc, shelf, nvrams, flushed)?;
+    let made = replay_log(alloc, &log)?;
+    log.settle(made.count, shelf)?;
+    Ok(OpenedLog {
+        log,
+        plain: made.plain,
+    })
+}
