@@ -6,4 +6,4 @@ mod plain;
 mod step;
 
 pub use plain::{Held, ObjectEntry, Plain};
-pub use step::{PlainReply, plain_step};
+pub use step::{PlainReply, plain_step, refusal_of};

@@ -1,6 +1,6 @@
 ghost use Rattle.std.specs.Prelude.{◌≡◌, None, true, [], length, IfOk, OnErr};
 ghost use Rattle.pur_base.specs.Grammar.{is_in_force, data_count};
-ghost use Rattle.pur_base.specs.Plain.{refusal, is_no_size as has_no_size};
+ghost use Rattle.pur_base.specs.Plain.{refusal, first_cause, overwrite_causes, read_causes, is_no_size as has_no_size};
 ghost use Rattle.pur_base.specs.declared.request.Request.TheVariants.{Create as CreateForm, Write as WriteForm, Fill as FillForm, Read as ReadForm};
 ghost use Rattle.array_model.specs.Step.{Meets, IsCreate};
 
@@ -24,15 +24,25 @@ fn is_no_size(sectors: u64) -> bool
     sectors == 0 || OBJECT_SECTORS < sectors
 }
 
+/// Why a volume of that name and size isn't created.
+fn create_refusal(plain: &Plain, name: &Name, sectors: u64) -> Option<Refusal>
+    ensures { result ≡ refusal plain.now (CreateForm name.now sectors) }
+{
+    if plain.has(name) {
+        return Some(Refusal::Taken);
+    }
+    if is_no_size(sectors) || OBJECTS <= plain.len() {
+        return Some(Refusal::Limit);
+    }
+    None
+}
+
 fn create(plain: &mut Plain, name: &Name, sectors: u64) -> Result<PlainReply, NoMemory>
     ensures ok { IfOk result (λ reply. Meets plain.old (CreateForm name.now sectors) [] reply plain.new) }
     ensures err { OnErr result ((plain.new ≡ plain.old) × (refusal plain.old (CreateForm name.now sectors) ≡ None)) }
 {
-    if plain.has(name) {
-        return Ok(PlainReply::Refused(Refusal::Taken));
-    }
-    if is_no_size(sectors) || OBJECTS <= plain.len() {
-        return Ok(PlainReply::Refused(Refusal::Limit));
+    if let Some(why) = create_refusal(plain, name, sectors) {
+        return Ok(PlainReply::Refused(why));
     }
     plain.append(name, sectors as usize)?;
     Ok(PlainReply::Done)
@@ -94,6 +104,46 @@ pub fn plain_step(
         } => Ok(fill(plain, name, *lba, *count, *byte)),
         Request::Read { name, lba, count } => Ok(read(plain, name, *lba, *count)),
         Request::List => Ok(PlainReply::Names),
+        _ => unreachable!(),
+    }
+}
+
+/// Why sectors of a volume aren't replaced.
+fn overwrite_refusal(plain: &Plain, name: &Name, lba: u64, count: u8) -> Option<Refusal>
+    ensures { result ≡ first_cause (overwrite_causes plain.now name.now lba count) }
+{
+    match plain.writable(name, lba, count as usize) {
+        Ok(_) => None,
+        Err(why) => Some(why),
+    }
+}
+
+/// Why sectors aren't read.
+fn read_refusal(plain: &Plain, name: &Name, lba: u64, count: u8) -> Option<Refusal>
+    ensures { result ≡ first_cause (read_causes plain.now name.now lba count) }
+{
+    match plain.readable(name, lba, count as usize) {
+        Ok(_) => None,
+        Err(why) => Some(why),
+    }
+}
+
+/// Why the array refuses a request of a form in force, or `None` where it accepts it.
+pub fn refusal_of(plain: &Plain, request: &Request) -> Option<Refusal>
+    requires { is_in_force request.now ≡ true }
+    ensures { result ≡ refusal plain.now request.now }
+{
+    match request {
+        Request::Create { name, sectors } => create_refusal(plain, name, *sectors),
+        Request::Write { name, lba, count } => overwrite_refusal(plain, name, *lba, *count),
+        Request::Fill {
+            name,
+            lba,
+            count,
+            ..
+        } => overwrite_refusal(plain, name, *lba, *count),
+        Request::Read { name, lba, count } => read_refusal(plain, name, *lba, *count),
+        Request::List => None,
         _ => unreachable!(),
     }
 }

@@ -7,3 +7,4 @@ pub mod Views
 pub mod Read
 pub mod Seen
 pub mod Settling
+pub mod Spelled

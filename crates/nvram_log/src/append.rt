@@ -10,6 +10,7 @@ ghost use Rattle.nvram_log.specs.Members.{IsSome, IsFewer, DroppedFailed, OnMemb
 ghost use Rattle.nvram_log.specs.Records.{AreRecords, SpellFrom, commands_of};
 ghost use Rattle.nvram_log.specs.Read.{DroppedCounted};
 ghost use Rattle.nvram_log.specs.Held.{HoldsOn, LeavesBetween};
+ghost use Rattle.nvram_log.specs.Spelled.{AreSpelled};
 
 use crate::bodies::write_bodies;
 use crate::gates::{OPEN, write_gates};
@@ -70,6 +71,8 @@ impl NvLog {
         ensures holds { (S.shelf shelf.old).honest → OnOk result ((commands : List Command) → Keeps self.old commands
             → HoldsOn (S.shelf shelf.old) self.old.members self.old.flushed commands
             → HoldsOn (S.shelf shelf.new) self.new.members self.new.flushed (commands ++ commands_of records.now)) }
+        // Whatever the result, each record is spelled under its number.
+        ensures spelled { AreSpelled self.old.flushed self.old.count records.now }
         // At every moment each device shows the commands, and of the new ones no others.
         ensures any_moment { (S.shelf shelf.old).honest → (commands : List Command) → Keeps self.old commands
             → HoldsOn (S.shelf shelf.old) self.old.members self.old.flushed commands

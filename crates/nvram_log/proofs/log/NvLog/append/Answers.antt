@@ -58,3 +58,9 @@ returns-clause-any_moment g c h commands keeps holds =
     let spelled : SpellFrom c.deref.result.now log.flushed log.count c.args.records.now =
     subst (λ (l : List ℕ). SpellFrom l log.flushed log.count c.args.records.now) (sym (c.deref.ensures.value ∙ items)) (numbered new log.flushed log.count c.args.records.now c.stage_all.ensures.spelled) in
     c.store.ensures.any_moment h log.flushed commands keeps.count spelled holds
+
+pub returns-then-not-has_any-clause-spelled : goal.returns-then-not-has_any-clause-spelled
+returns-then-not-has_any-clause-spelled g c j r at = (numbered c.stage_all.new.slots c.args.self.now.flushed c.args.self.now.count c.args.records.now c.stage_all.ensures.spelled j r at).lawful
+
+pub returns-clause-spelled : goal.returns-clause-spelled
+returns-clause-spelled g c j r at = (numbered c.stage_all.new.slots c.args.self.now.flushed c.args.self.now.count c.args.records.now c.stage_all.ensures.spelled j r at).lawful
