@@ -1,7 +1,7 @@
 // Runs of sectors are read.
 ghost use Rattle.std.specs.Prelude.{◌≡◌, ℕ, ◌+◌, ◌*◌, ◌%◌, ◌<◌, ◌≤◌, true, false, List, length, IfErr, OnOk};
 ghost use Rattle.pur_base.specs.declared.device.Device.{Device};
-ghost use Rattle.pur_base.specs.declared.limits.TheConstants.{SECTOR_BYTES, SEGMENT_SECTORS};
+ghost use Rattle.pur_base.specs.declared.limits.TheConstants.{SECTOR_BYTES, SEGMENT_SECTORS, SEGMENT_SHARDS};
 ghost use Rattle.pur_base.specs.Bytes.{bytes_at};
 ghost use Rattle.pur_base.specs.Devices.{View};
 ghost use Rattle.segment_codec.specs.Stripes.{SectorStands};
@@ -54,6 +54,7 @@ fn read_directly<S: Shelf>(
     requires aligned { (offset % SECTOR_BYTES ≡ 0) × (length into.old % SECTOR_BYTES ≡ 0) }
     ensures continues { Continues (S.shelf shelf.old) (S.shelf shelf.new) }
     ensures read { (S.shelf shelf.old).honest → result ≡ true → (whole : List (List ℕ)) → StandsBut (S.shelf shelf.old) places.now (is_unknown unknown.old) stripe whole → IsDataFrom whole offset (length into.old) into.new }
+    ensures some { result ≡ false → (shard : ℕ) × (shard < SEGMENT_SHARDS) × (is_unknown unknown.new shard ≡ true) }
     ensures tried { Tried (S.shelf shelf.old) (S.shelf shelf.new) places.now (is_unknown unknown.old) unknown.new }
     ensures same { (S.shelf shelf.old).honest → (device : Device) → IsSame ((S.shelf shelf.old).disk device) ((S.shelf shelf.new).disk device) }
     ensures writes { (S.shelf shelf.old).honest → WritesOnly NoByte (S.shelf shelf.old) (S.shelf shelf.new) }

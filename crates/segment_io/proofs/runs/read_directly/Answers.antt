@@ -1,4 +1,4 @@
-use Rattle.std.proofs.Common.{◌≡◌, ◌+◌, ◌/◌, ◌%◌, ◌<◌, ◌≤◌, length, arith, ◌∙◌}
+use Rattle.std.proofs.Common.{◌≡◌, ◌+◌, ◌/◌, ◌%◌, ◌<◌, ◌≤◌, length, arith, ◌∙◌, false, get_or-set_same}
 use Rattle.std.specs.Prelude.{slice_range}
 use Rattle.std.proofs.lemmas.List.{length-set}
 use Rattle.std.proofs.lemmas.List.Edits.{length-between}
@@ -30,6 +30,13 @@ returns-then-is_unknown-clause-writes g c =
     let tries = tries_one (g.S.Shelf.shelf c.args.shelf.now) (g.S.Shelf.shelf c.loop-done.shelf) (g.S.Shelf.shelf c.read_part-is_unknown.new.shelf) c.args.places.now (is_unknown c.args.unknown.now) c.loop-done.unknown shard c.read_part-is_unknown.result
     c.requires.places (g.met.S.Shelf.is_shelf c.read_part-is_unknown.new.shelf) (omega arith) c.loop-done.invariant.flags c.loop-done.invariant.tries x.continues x.read x.same x.writes x.others in
     tries.writes
+
+pub returns-then-is_unknown-clause-some : goal.returns-then-is_unknown-clause-some
+returns-then-is_unknown-clause-some g c none =
+    let shard = (c.args.offset + c.loop-done.done) / 4096 in
+    let flags = c.loop-done.invariant.flags in
+    let lt : shard < length c.loop-done.unknown = omega arith in
+    (shard, omega arith, get_or-set_same c.loop-done.unknown shard c.read_part-is_unknown.result false lt ∙ c.if-is_unknown.true)
 
 pub loop-done-preserved : goal.loop-done-preserved
 loop-done-preserved g c =
