@@ -1,10 +1,10 @@
 use log_codec::{Head, SLOT_BYTES, SLOTS_START, is_command, write_head};
-use nvram_log::{BothLost, NvLog, ReadFault, Record};
+use nvram_log::{BothLost, NvLog, ReadFault, Record, sync_members};
 use pur_base::{Device, Name, NvId, Request, SECTOR_BYTES, Sector};
 use std::alloc::Global;
 use std::test::Fail;
 use world::{Failed, Shelf};
-use world_mem::MemWorld;
+use world_mem::{Choice, MemWorld};
 
 fn small_world(alloc: Global) -> Result<MemWorld, Fail> {
     Ok(MemWorld::new(alloc, 11, 64, Vec::new(alloc))?)
@@ -165,5 +165,63 @@ fn what_was_appended_is_read_until_it_is_cleared(rt: HostRuntime) -> Result<(), 
     }
     assert_eq!(rt; log.flushed(), 1);
     assert_eq!(rt; log_on(alloc, &mut world, 1)?.count(), 0);
+    Ok(())
+}
+
+const TORN: u8 = 0xEE;
+
+/// What a stop leaves of each dirty byte.
+#[derive(Drop)]
+struct Torn;
+
+impl Choice for Torn {
+    fn byte(&mut self) -> u8 {
+        TORN
+    }
+}
+
+/// What a stop leaves of one byte that was written to each device, once the members are synced.
+fn left_when_synced(
+    alloc: Global,
+    world: &mut MemWorld,
+    members: &mut [bool; 2],
+) -> Result<[u8; 2], Fail> {
+    for device in 0..2 {
+        write_on(world, device, 9, &[5])?;
+    }
+    world.forget();
+    sync_members(world, members);
+    let mut stopped = world.stopped(alloc, &mut Torn)?;
+    Ok([byte_on(&mut stopped, 0, 9)?, byte_on(&mut stopped, 1, 9)?])
+}
+
+#[test]
+fn what_is_synced_stands_after_a_stop(rt: HostRuntime) -> Result<(), Fail> {
+    let alloc = rt.alloc();
+    let mut world = small_world(alloc)?;
+    let mut members = [true; 2];
+    assert_eq!(rt; left_when_synced(alloc, &mut world, &mut members)?, [5, 5]);
+    assert_eq!(rt; members, [true, true]);
+    assert_eq!(rt; world.calls().len(), 2);
+    Ok(())
+}
+
+#[test]
+fn a_device_that_fails_to_sync_is_dropped(rt: HostRuntime) -> Result<(), Fail> {
+    let alloc = rt.alloc();
+    let mut world = small_world(alloc)?;
+    let mut members = [true; 2];
+    // Behind the write.
+    world.fail(Device::Nv(NvId(0)), 2)?;
+    assert_eq!(rt;
+        left_when_synced(alloc, &mut world, &mut members)?,
+        [TORN, 5]
+    );
+    assert_eq!(rt; members, [false, true]);
+    // Then it is left alone.
+    world.forget();
+    sync_members(&mut world, &mut members);
+    assert_eq!(rt; members, [false, true]);
+    assert_eq!(rt; world.calls().len(), 1);
     Ok(())
 }
