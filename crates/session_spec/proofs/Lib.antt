@@ -1,0 +1,4 @@
+pub mod Conditions
+pub mod Fared
+pub mod Resumed
+pub mod Taken

@@ -1,0 +1,6 @@
+pub mod Entering
+pub mod Faring
+pub mod Ends
+pub mod Headline
+pub mod Making
+pub mod Chain
