@@ -1,4 +1,5 @@
 pub mod Conditions
 pub mod Fared
+pub mod Left
 pub mod Resumed
 pub mod Taken

@@ -1,6 +1,6 @@
 -- What one session leaves is what the next one asks for.
 use Rattle.std.proofs.Common.{◌≡◌, ◌⊎◌, inl, inr, ℕ, List, [], length, refl, sym, ◌∙◌, ap, subst, Bool, true, false}
-use Rattle.std.specs.Prelude.{◌≤◌, Option, Some, IsTrue, count_by}
+use Rattle.std.specs.Prelude.{◌≤◌, Option, Some, None, IsTrue, count_by}
 use Rattle.std.proofs.lemmas.List.{ext_get_or}
 use Rattle.pur_base.specs.declared.device.Device.{Device}
 use Rattle.pur_base.specs.Bytes.{zeros}
@@ -8,8 +8,10 @@ use Rattle.pur_base.specs.Gates.{is_open}
 use Rattle.pur_base.specs.Devices.{Geometry, Image, Condition, Conditions, Sound, Missing, LeftOut, MayBecome, MayShowAs, IsWithin, IsBearable, is_missing, slots_of, nvrams, drive, nvram}
 use Rattle.pur_base.specs.Plain.{Array}
 use Rattle.world.specs.declared.shelf.Span.{Span}
-use Rattle.world.specs.Shelf.{Shelved, Stop, MayStop, MayLeave, Disk, IsInSome}
-use Rattle.world.specs.Losing.{geometry_of, has_failed}
+use Rattle.world.specs.Streams.{Streamed}
+use Rattle.world.proofs.Moments.{quiet_refl, quiet_now}
+use Rattle.world.specs.Shelf.{IsShelf, Shelved, Stop, MayStop, MayLeave, Disk, IsInSome}
+use Rattle.world.specs.Losing.{losing, geometry_of, has_failed}
 use Rattle.boot_codec.specs.declared.record.BootRecord.{BootRecord}
 use Rattle.boot_codec.specs.Region.{BootSlot}
 use Rattle.log_codec.specs.Log.{ShowsIn}
@@ -20,8 +22,8 @@ use Rattle.array_spec.proofs.Shown.{shown_stands}
 use Rattle.array_spec.proofs.Standings.{more_may_go_missing, within_twice}
 use Rattle.array_spec.proofs.UnflushedRead.{no_gate}
 use Rattle.session_spec.specs.Entering.{IsStanding, HasRoom, AreRead, LeftOutAreNamedByNone, Enters, read_now, failed_by}
-use Rattle.session_spec.specs.Chain.{Finds, StopsChain, EndsChain, GoesOnAtOnce, NothingDone}
-use Rattle.session_spec.proofs.Conditions.{loses, left_out_once}
+use Rattle.session_spec.specs.Chain.{Finds, StopsChain, EndsChain, GoesOnAtOnce, NothingDone, MayWantMemory}
+use Rattle.session_spec.proofs.Conditions.{loses, left_out_once, sound_once}
 
 -- ---- conditions before devices were marked and went missing
 
@@ -225,20 +227,26 @@ given_with_fewer {missing = missing} {more = more} w g = record {
   effective = g.effective;
 }
 
+-- others may have gone missing
+standing_with_fewer : (shelf : Shelved) (missing : Conditions) (arrays : List Array) → Enters shelf missing arrays → (stop : Stop) → MayStop shelf stop
+    → (failed : Device → Bool) → IsBearable (geometry_of shelf) (losing failed missing) → IsStanding (geometry_of shelf) stop.image (losing failed missing) arrays
+standing_with_fewer shelf missing arrays e stop may failed borne =
+    let within : IsWithin missing (losing failed missing) = loses failed missing in
+    record {
+      stands = more_may_go_missing (geometry_of shelf) stop.image missing (losing failed missing) arrays within borne (e.stands stop may);
+      left_out = λ d out slot boot given. e.left_out stop may d (left_out_once (failed d) (missing d) out) slot boot (given_with_fewer within given);
+      read = record {
+        unflushed = λ slot boot given. (e.read stop may).unflushed slot boot (given_with_fewer within given);
+        in_force = λ slot boot given. (e.read stop may).in_force slot boot (given_with_fewer within given);
+      };
+    }
+
 pub nothing_done : (shelf : Shelved) → NothingDone shelf
 nothing_done shelf missing arrays e stop may =
-    let g = geometry_of shelf in
     let now : Conditions = failed_by shelf stop missing in
     let within : IsWithin missing now = loses (has_failed (read_now shelf) stop) missing in
     record {
-      standing = λ borne. record {
-        stands = more_may_go_missing g stop.image missing now arrays within borne (e.stands stop may);
-        left_out = λ d out slot boot given. e.left_out stop may d (left_out_once (has_failed (read_now shelf) stop d) (missing d) out) slot boot (given_with_fewer within given);
-        read = record {
-          unflushed = λ slot boot given. (e.read stop may).unflushed slot boot (given_with_fewer within given);
-          in_force = λ slot boot given. (e.read stop may).in_force slot boot (given_with_fewer within given);
-        };
-      };
+      standing = standing_with_fewer shelf missing arrays e stop may (has_failed (read_now shelf) stop);
       stored = λ slot boot given. record {
         more = given.more;
         view = given.view;
@@ -253,3 +261,25 @@ nothing_done shelf missing arrays e stop may =
         effective = given.effective;
       };
     }
+
+pub may_want_memory : (shelf : Shelved) (source sink : Streamed) → IsShelf shelf → MayWantMemory shelf source sink
+may_want_memory shelf source sink is = record {
+  source_counts = refl;
+  sink_counts = refl;
+  session = λ whole. inl (record {
+    by = tt;
+    untaken = refl;
+    quiet = quiet_refl shelf;
+    each = λ stop since. quiet_now (is.only_now stop since);
+    found = None;
+    silent = tt;
+    shut = λ missing arrays e. record {
+      cause = λ borne. refl;
+      each = λ stop since. nothing_done shelf missing arrays e stop (is.only_now stop since);
+      at_end = λ borne. record {
+        standing = λ stop may. standing_with_fewer shelf missing arrays e stop may (has_failed (read_now shelf) (read_now shelf)) borne;
+        clean = λ d sound. e.clean d (sound_once (has_failed (read_now shelf) (read_now shelf) d) (missing d) sound);
+      };
+    };
+  });
+}

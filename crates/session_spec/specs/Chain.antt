@@ -1,5 +1,5 @@
 -- Laws of sessions: how one follows another, and that no claim comes without its cause.
-use Rattle.std.specs.Prelude.{◌≡◌, Bool, true, false, List, [], Some, None}
+use Rattle.std.specs.Prelude.{◌≡◌, Bool, true, false, List, [], length, drop, Some, None, ℕ}
 use Rattle.pur_base.specs.declared.device.Device.{Device}
 use Rattle.pur_base.specs.Bytes.{IsBytes}
 use Rattle.pur_base.specs.Devices.{Geometry, Image, Conditions, Sound, IsOn, IsBearable, IsWithin, MayShowAs}
@@ -9,8 +9,12 @@ use Rattle.pur_base.specs.Replies.{Answer}
 use Rattle.world.specs.Shelf.{Shelved, Stop, MayStop}
 use Rattle.world.specs.Losing.{geometry_of, has_lost_writes, losing}
 use Rattle.array_spec.specs.Laws.{MayBeMarked}
+use Rattle.array_spec.specs.After.{After}
 use Rattle.array_spec.specs.Runs.{Runs}
 use Rattle.array_spec.specs.Standing.{Stands}
+use Rattle.pur_base.specs.declared.reply.Status.TheVariants as status
+use Rattle.world.specs.Streams.{Streamed}
+use Rattle.session_spec.specs.Headline.{Survives, Replied, IsAfter}
 use Rattle.session_spec.specs.Entering.{IsStanding, IsLeft, Enters, Found, IsTakenOver, StandsStill, HasRoom}
 use Rattle.session_spec.specs.Faring.{Point, Fares, IsBorne}
 
@@ -52,11 +56,20 @@ abbrev pub NothingDone : Shelved → Type 0
 NothingDone shelf = (missing : Conditions) (arrays : List Array) → Enters shelf missing arrays
     → (stop : Stop) → MayStop shelf stop → StandsStill shelf None missing arrays stop
 
+-- Want of memory before anything was done is an end of a session.
+abbrev pub MayWantMemory : Shelved → Streamed → Streamed → Type 0
+MayWantMemory shelf source sink = Survives shelf shelf source source sink sink status.Memory
+
 -- ---- the replies
 
 -- the replies that the devices fare by are lawful ones
 abbrev pub FaresRun : (Stop → Type 0) → Type 0
 FaresRun left = (shelf : Geometry) (from to : Point) (items : List Item) (qs : List Answer) → Fares shelf left from items qs to → Runs from.array items qs to.array
+
+-- What may stand at a stop is what the acknowledged items leave, or one item more.
+abbrev pub LeavesAfter : (Stop → Type 0) → Type 0
+LeavesAfter left = (shelf : Geometry) (first : Point) (items : List Item) (stop : Stop) (at : Replied shelf left first items stop) (array : Array)
+    → IsAfter at.point (drop (length at.replies) items) array → (n : ℕ) × After first.array items (drop (length first.stop.output) stop.output) n array
 
 -- ---- claims and their causes
 

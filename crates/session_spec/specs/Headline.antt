@@ -1,5 +1,6 @@
 -- What a session does to the array that the devices stand for, whatever fails, and wherever it is stopped.
-use Rattle.std.specs.Prelude.{◌≡◌, ◌≢◌, ◌⊎◌, ◌<◌, ◌-◌, ◌^◌, ℕ, true, false, List, [], ◌++◌, length, drop, Contains, Option, Some, None, ⊤}
+use Rattle.std.specs.Prelude.{◌≡◌, ◌≢◌, ◌⊎◌, ◌<◌, ◌-◌, ◌^◌, ℕ, true, false, List, [], ◌++◌, length, drop, Contains, Option, Some, None, IfSome, ⊤}
+use Rattle.std.proofs.Common.{inl, inr}
 use Rattle.std.specs.List.{AllByRecursion}
 use Rattle.pur_base.specs.declared.device.Device.{Device}
 use Rattle.pur_base.specs.declared.reply.Status.{Status}
@@ -20,7 +21,7 @@ use Rattle.array_spec.specs.Acked.{acked}
 use Rattle.array_spec.specs.After.{AcceptsNext}
 use Rattle.array_spec.specs.Losses.{not_holding}
 use Rattle.session_spec.specs.Entering.{Enters, IsLeft, IsStanding, Found, IsTakenOver, OnlyFailedAreSilent, StandsStill, read_now, failed_by, failed_since}
-use Rattle.session_spec.specs.Faring.{Point, IsReached, Fares, IsBorne, now_missing}
+use Rattle.session_spec.specs.Faring.{Point, IsReached, Fares, IsBorne, is_full, now_missing}
 use Rattle.session_spec.specs.Ends.{Ends, IsOutput, IsPartOfNext, RisesIf, is_source, is_sink}
 
 -- ---- the array isn't opened
@@ -64,6 +65,7 @@ pub record Unopened (old new : Shelved) (input left : List ℕ) (ended : Status)
   pub each : (stop : Stop) → new.left_since old.moment stop → IsQuietBy old stop
   -- the record that was found, if one was
   pub found : Option (Found (geometry_of old) (read_now old).image)
+  pub silent : IfSome found (λ f. OnlyFailedAreSilent (has_failed (read_now old) (read_now new)) f.view)
   pub shut : (missing : Conditions) (arrays : List Array) → Enters old missing arrays → StaysShut old new ended found missing arrays
 
 -- ---- the array is opened
@@ -102,9 +104,15 @@ pub record StandsAmong (shelf : Geometry) (image : Image) (missing : Conditions)
   pub each : (array : Array) → Contains arrays array → P array
   pub standing : IsStanding shelf image missing arrays
 
+-- the next item may have been done: a logged request that the model accepts, with room in the log of an array that isn't halted
+pub record IsNext (point : Point) (rest : List Item) (array : Array) : Type 0 where
+  pub accepts : AcceptsNext point.array rest array
+  pub room : is_full point ≡ false
+  pub awake : point.halted ≡ false
+
 -- the array where the last reply was given, or where the next item is done as well
 abbrev pub IsAfter : Point → List Item → Array → Type 0
-IsAfter point rest array = (array ≡ point.array) ⊎ AcceptsNext point.array rest array
+IsAfter point rest array = (array ≡ point.array) ⊎ IsNext point rest array
 
 -- At a stop after the opening the devices stand for the array of the replies that were whole by then, or of one item more.
 abbrev pub StandsOn : (shelf : Geometry) (left : Stop → Type 0) (first : Point) (items : List Item) (stop : Stop) → Replied shelf left first items stop → Type 0
@@ -118,7 +126,8 @@ pub record Serving (old new : Shelved) (input left : List ℕ) (ended : Status) 
   pub moment : ℕ
   pub first : Point
   pub opens : Opens old (new.left_since moment) found first
-  pub opening : (stop : Stop) → new.left_since old.moment stop → IsQuietBy old stop ⊎ new.left_since moment stop
+  -- each stop was in the opening, or leaves replies
+  pub stops : (stop : Stop) → new.left_since old.moment stop → IsQuietBy old stop ⊎ Replied (geometry_of old) (new.left_since moment) first (requests input) stop
   pub replied : (stop : Stop) → new.left_since moment stop → Replied (geometry_of old) (new.left_since moment) first (requests input) stop
   pub replies : List Answer
   pub last : Point
@@ -130,7 +139,12 @@ pub record Serving (old new : Shelved) (input left : List ℕ) (ended : Status) 
 abbrev pub IsOverborne : Shelved → Point → Conditions → Type 0
 IsOverborne old first missing = ¬ (IsBearable (geometry_of old) (failed_by old first.stop missing))
 
--- at the end they stand for the array where the last reply was given, or, where the sink failed, for one item more
+-- an item that wasn't answered may be done at the end only where the sink failed
+abbrev pub in_hand : Status → List Item → List Item
+in_hand status.Sink rest = rest
+in_hand _ rest = []
+
+-- at the end they stand for the array where the last reply was given, or for one item more
 pub record IsLeftAfter (new : Shelved) (last : Point) (rest : List Item) : Type 0 where
   pub arrays : List Array
   pub each : (array : Array) → Contains arrays array → IsAfter last rest array
@@ -141,11 +155,17 @@ pub record Keeps (old new : Shelved) (input left : List ℕ) (ended : Status) (s
   pub one_of : Contains arrays s.first.array
   pub serving : (stop : Stop) (since : new.left_since s.moment stop) → StandsOn (geometry_of old) (new.left_since s.moment) s.first (requests input) stop (s.replied stop since)
   pub at_end : IsBorne (geometry_of old) (new.left_since s.moment) s.first (requests input) s.replies s.last s.run
-      → IsBearable (geometry_of old) (now_missing s.last (read_now new)) → IsLeftAfter new s.last (drop (length s.replies) (requests input))
+      → IsBearable (geometry_of old) (now_missing s.last (read_now new)) → IsLeftAfter new s.last (in_hand ended (drop (length s.replies) (requests input)))
 
--- a stop until the opening is done leaves devices that stand for the same arrays, and after that none is lost that was acknowledged
+-- At a stop in the opening the devices stand for the same arrays still, and after it none is lost that was acknowledged.
+abbrev pub StandsAt : (old : Shelved) (left : Stop → Type 0) (found : Found (geometry_of old) (read_now old).image) (first : Point) (items : List Item) (missing : Conditions) (arrays : List Array) (stop : Stop)
+    → IsQuietBy old stop ⊎ Replied (geometry_of old) left first items stop → Type 0
+StandsAt old left found first items missing arrays stop (inl quiet) = StandsStill old (Some found) missing arrays stop
+StandsAt old left found first items missing arrays stop (inr at) = IsOverborne old first missing ⊎ StandsOn (geometry_of old) left first items stop at
+
+-- so at each stop since the entry
 pub record Outlasts (old new : Shelved) (input left : List ℕ) (ended : Status) (s : Serving old new input left ended) (missing : Conditions) (arrays : List Array) : Type 0 where
-  pub opening : (stop : Stop) → new.left_since old.moment stop → (IsQuietBy old stop × StandsStill old (Some s.found) missing arrays stop) ⊎ new.left_since s.moment stop
+  pub each : (stop : Stop) (since : new.left_since old.moment stop) → StandsAt old (new.left_since s.moment) s.found s.first (requests input) missing arrays stop (s.stops stop since)
   pub keeps : IsOverborne old s.first missing ⊎ Keeps old new input left ended s missing arrays
 
 -- what a session answers, and what it does to the arrays
@@ -158,4 +178,5 @@ pub record Survives (old new : Shelved) (source source_left sink sink_given : St
   -- a source or a sink that failed ends it, and nothing else counts so
   pub source_counts : RisesIf (is_source ended) source.faults source_left.faults
   pub sink_counts : RisesIf (is_sink ended) sink.faults sink_given.faults
-  pub session : Unopened old new source.bytes source_left.bytes ended ⊎ Served old new source.bytes source_left.bytes ended
+  -- where the record of calls has no gap
+  pub session : ¬ new.lapsed → Unopened old new source.bytes source_left.bytes ended ⊎ Served old new source.bytes source_left.bytes ended

@@ -1,12 +1,13 @@
 // Claims and their causes.
 ghost use Rattle.std.specs.Prelude.{ℕ};
-ghost use Rattle.session_spec.specs.Chain.{FaresRun, ClaimsHaveCauses, NoneComesBack, WasBorne, HaltsHaveCauses, TakeoverKeeps};
+ghost use Rattle.session_spec.specs.Chain.{FaresRun, LeavesAfter, ClaimsHaveCauses, NoneComesBack, WasBorne, HaltsHaveCauses, TakeoverKeeps};
 
 use world::Shelf;
 
-/// The replies that the devices fare by are lawful ones, since whatever moment the stops are counted.
+/// The replies that the devices fare by are lawful ones, and what may stand at a stop is what the acknowledged items leave, or one item more.
 pub fn replies_are_lawful<S: Shelf>(_shelf: &S)
-    ensures { (since : ℕ) → FaresRun ((S.shelf _shelf.now).left_since since) }
+    ensures runs { (since : ℕ) → FaresRun ((S.shelf _shelf.now).left_since since) }
+    ensures after { (since : ℕ) → LeavesAfter ((S.shelf _shelf.now).left_since since) }
 {}
 
 /// No device is claimed to be missing on which no write or sync failed, none comes back while requests are served, and an array is halted only where more is missing than can be borne.
