@@ -135,9 +135,9 @@ pub record Serving (old new : Shelved) (input left : List ℕ) (ended : Status) 
   pub output : IsOutput ended (geometry_of old) last (read_now new) (drop (length replies) (requests input)) old.output new.output replies
   pub ends : Ends ended last.halted input replies left
 
--- More went missing while it was opened than is borne: of the data nothing more is said.
-abbrev pub IsOverborne : Shelved → Point → Conditions → Type 0
-IsOverborne old first missing = ¬ (IsBearable (geometry_of old) (failed_by old first.stop missing))
+-- What failed while it was opened can be borne. Else nothing more is said of the data.
+abbrev pub IsOpenedBearably : Shelved → Point → Conditions → Type 0
+IsOpenedBearably old first missing = IsBearable (geometry_of old) (failed_by old first.stop missing)
 
 -- an item that wasn't answered may be done at the end only where the sink failed
 abbrev pub in_hand : Status → List Item → List Item
@@ -161,12 +161,12 @@ pub record Keeps (old new : Shelved) (input left : List ℕ) (ended : Status) (s
 abbrev pub StandsAt : (old : Shelved) (left : Stop → Type 0) (found : Found (geometry_of old) (read_now old).image) (first : Point) (items : List Item) (missing : Conditions) (arrays : List Array) (stop : Stop)
     → IsQuietBy old stop ⊎ Replied (geometry_of old) left first items stop → Type 0
 StandsAt old left found first items missing arrays stop (inl quiet) = StandsStill old (Some found) missing arrays stop
-StandsAt old left found first items missing arrays stop (inr at) = IsOverborne old first missing ⊎ StandsOn (geometry_of old) left first items stop at
+StandsAt old left found first items missing arrays stop (inr at) = IsOpenedBearably old first missing → StandsOn (geometry_of old) left first items stop at
 
 -- so at each stop since the entry
 pub record Outlasts (old new : Shelved) (input left : List ℕ) (ended : Status) (s : Serving old new input left ended) (missing : Conditions) (arrays : List Array) : Type 0 where
   pub each : (stop : Stop) (since : new.left_since old.moment stop) → StandsAt old (new.left_since s.moment) s.found s.first (requests input) missing arrays stop (s.stops stop since)
-  pub keeps : IsOverborne old s.first missing ⊎ Keeps old new input left ended s missing arrays
+  pub keeps : IsOpenedBearably old s.first missing → Keeps old new input left ended s missing arrays
 
 -- what a session answers, and what it does to the arrays
 pub record Served (old new : Shelved) (input left : List ℕ) (ended : Status) : Type 0 where
