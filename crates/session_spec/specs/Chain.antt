@@ -1,22 +1,24 @@
 -- Laws of sessions: how one follows another, and that no claim comes without its cause.
-use Rattle.std.specs.Prelude.{◌≡◌, Bool, true, false, List, [], length, drop, Some, None, ℕ}
+use Rattle.std.specs.Prelude.{◌≡◌, Bool, true, false, List, [], length, drop, Some, None, ℕ, ◌⊎◌, Contains}
+use Rattle.std.proofs.Common.{inl, inr}
 use Rattle.pur_base.specs.declared.device.Device.{Device}
 use Rattle.pur_base.specs.Bytes.{IsBytes}
 use Rattle.pur_base.specs.Devices.{Geometry, Image, Conditions, Sound, IsOn, IsBearable, IsWithin, MayShowAs}
 use Rattle.pur_base.specs.Plain.{Array}
-use Rattle.pur_base.specs.Grammar.{Item}
+use Rattle.pur_base.specs.Grammar.{Item, requests}
 use Rattle.pur_base.specs.Replies.{Answer}
-use Rattle.world.specs.Shelf.{Shelved, Stop, MayStop}
+use Rattle.world.specs.Shelf.{Shelved, Stop, MayStop, IsQuietBy}
 use Rattle.world.specs.Losing.{geometry_of, has_lost_writes, losing}
 use Rattle.array_spec.specs.Laws.{MayBeMarked}
 use Rattle.array_spec.specs.After.{After}
 use Rattle.array_spec.specs.Runs.{Runs}
 use Rattle.array_spec.specs.Standing.{Stands}
+use Rattle.pur_base.specs.declared.reply.Status.{Status}
 use Rattle.pur_base.specs.declared.reply.Status.TheVariants as status
 use Rattle.world.specs.Streams.{Streamed}
-use Rattle.session_spec.specs.Headline.{Survives, Replied, IsAfter}
-use Rattle.session_spec.specs.Entering.{IsStanding, IsLeft, Enters, Found, IsTakenOver, StandsStill, HasRoom}
-use Rattle.session_spec.specs.Faring.{Point, Fares, IsBorne}
+use Rattle.session_spec.specs.Headline.{Survives, Replied, IsAfter, IsOpenedBearably, Served, Unopened}
+use Rattle.session_spec.specs.Entering.{IsStanding, IsLeft, Enters, Found, IsTakenOver, StandsStill, HasRoom, failed_by}
+use Rattle.session_spec.specs.Faring.{Point, Fares, IsBorne, now_missing}
 
 -- ---- one session after another
 
@@ -50,6 +52,44 @@ EndsChain ended next = (now missing : Conditions) (arrays : List Array)
 abbrev pub GoesOnAtOnce : Shelved → Type 0
 GoesOnAtOnce shelf = (now : Conditions) (arrays : List Array) → IsLeft shelf now arrays → IsBearable (geometry_of shelf) now
     → ((stop : Stop) → MayStop shelf stop → HasRoom (geometry_of shelf) stop.image now) → Enters shelf now arrays
+
+-- What a stop in a session leaves, in the opening or after it: which devices are missing then, whether that could be borne all the way, and the arrays for which they may stand.
+module _ (old : Shelved) (left : Stop → Type 0) (first : Point) (items : List Item) (missing : Conditions) (stop : Stop) where
+  abbrev pub missing_at : IsQuietBy old stop ⊎ Replied (geometry_of old) left first items stop → Conditions
+  missing_at (inl quiet) = failed_by old stop missing
+  missing_at (inr at) = now_missing at.point stop
+
+  abbrev pub IsBorneAt : IsQuietBy old stop ⊎ Replied (geometry_of old) left first items stop → Type 0
+  IsBorneAt (inl quiet) = IsBearable (geometry_of old) (failed_by old stop missing)
+  IsBorneAt (inr at) = IsOpenedBearably old first missing × IsBorne (geometry_of old) left first items at.replies at.point at.run × IsBearable (geometry_of old) (now_missing at.point stop)
+
+  abbrev pub MayStandAt : List Array → IsQuietBy old stop ⊎ Replied (geometry_of old) left first items stop → Array → Type 0
+  MayStandAt arrays (inl quiet) array = Contains arrays array
+  MayStandAt arrays (inr at) array = IsAfter at.point (drop (length at.replies) items) array
+
+-- The next session enters with arrays that may stand at the stop.
+pub record EntersWith (next : Shelved) (later : Conditions) (P : Array → Type 0) : Type 0 where
+  pub arrays : List Array
+  pub each : (array : Array) → Contains arrays array → P array
+  pub enters : Enters next later arrays
+
+-- A session that was served was stopped at any moment, and the next one finds what it left.
+abbrev pub ServedFollows : Shelved → Shelved → Shelved → Type 0
+ServedFollows old new next = (input left : List ℕ) (ended : Status) (s : Served old new input left ended)
+    → (missing : Conditions) (arrays : List Array) → Enters old missing arrays → (stop : Stop) (since : new.left_since old.moment stop)
+    → let here = s.serving.stops stop since in
+    let points = new.left_since s.serving.moment in
+    IsBorneAt old points s.serving.first (requests input) missing stop here
+    → (later : Conditions) → Resumes (geometry_of old) (λ was. was ≡ stop.image) (missing_at old points s.serving.first (requests input) missing stop here) next later
+    → EntersWith next later (MayStandAt old points s.serving.first (requests input) missing stop arrays here)
+
+-- One that wasn't opened was stopped, and the next one finds the same arrays.
+abbrev pub UnopenedFollows : Shelved → Shelved → Shelved → Type 0
+UnopenedFollows old new next = (input left : List ℕ) (ended : Status) (u : Unopened old new input left ended)
+    → (missing : Conditions) (arrays : List Array) → Enters old missing arrays → (stop : Stop) → new.left_since old.moment stop
+    → IsBearable (geometry_of old) (failed_by old stop missing)
+    → (later : Conditions) → Resumes (geometry_of old) (λ was. was ≡ stop.image) (failed_by old stop missing) next later
+    → Enters next later arrays
 
 -- Where nothing was done, the devices still stand for the arrays.
 abbrev pub NothingDone : Shelved → Type 0

@@ -1,5 +1,5 @@
 // One session after another.
-ghost use Rattle.session_spec.specs.Chain.{StopsChain, EndsChain, GoesOnAtOnce, NothingDone, MayWantMemory};
+ghost use Rattle.session_spec.specs.Chain.{StopsChain, EndsChain, GoesOnAtOnce, ServedFollows, UnopenedFollows, NothingDone, MayWantMemory};
 
 use world::{Shelf, World};
 
@@ -8,6 +8,12 @@ pub fn sessions_chain<S: Shelf>(_ended: &S, _next: &S)
     ensures stops { StopsChain (S.shelf _next.now) }
     ensures ends { EndsChain (S.shelf _ended.now) (S.shelf _next.now) }
     ensures at_once { GoesOnAtOnce (S.shelf _ended.now) }
+{}
+
+/// After a session that was stopped at any moment the next one enters, with the arrays that may stand there.
+pub fn sessions_follow<S: Shelf>(_old: &S, _new: &S, _next: &S)
+    ensures served { ServedFollows (S.shelf _old.now) (S.shelf _new.now) (S.shelf _next.now) }
+    ensures unopened { UnopenedFollows (S.shelf _old.now) (S.shelf _new.now) (S.shelf _next.now) }
 {}
 
 /// Where nothing was done the devices still stand for the arrays.

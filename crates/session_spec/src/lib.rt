@@ -6,4 +6,4 @@ mod causes;
 mod chaining;
 
 pub use causes::{claims_have_causes, replies_are_lawful, takeovers_keep};
-pub use chaining::{memory_may_be_wanted, nothing_is_lost_untouched, sessions_chain};
+pub use chaining::{memory_may_be_wanted, nothing_is_lost_untouched, sessions_chain, sessions_follow};
