@@ -1,8 +1,10 @@
 -- Conditions that worsen.
-use Rattle.std.proofs.Common.{◌≡◌, inl, inr, ℕ, ◌+◌, ◌≤◌, List, [], ◌∷◌, refl, arith, cond, Bool, true, false}
+use Rattle.std.proofs.Common.{◌≡◌, inl, inr, ℕ, ◌+◌, ◌≤◌, List, [], ◌∷◌, refl, arith, cond, Bool, true, false, zero, suc, ◌<◌}
 use Rattle.std.specs.Prelude.{count_by}
+use Rattle.std.specs.List.{range_with_len}
+use Rattle.pur_base.specs.declared.limits.TheConstants.{NVRAM_DEVICES}
 use Rattle.pur_base.specs.declared.device.Device.{Device}
-use Rattle.pur_base.specs.Devices.{Geometry, Condition, Conditions, Sound, Missing, LeftOut, MayBecome, IsWithin, IsBearable, is_missing, slots_of, nvrams, drive, nvram}
+use Rattle.pur_base.specs.Devices.{Geometry, Condition, Conditions, Sound, Missing, LeftOut, MayBecome, IsWithin, IsBearable, IsOn, is_missing, slots_of, nvrams, drive, nvram}
 use Rattle.world.specs.Losing.{missing_if, losing}
 use Rattle.array_spec.proofs.Votes.{counted}
 
@@ -53,6 +55,17 @@ count_more : (p q : ℕ → Bool) (xs : List ℕ) → ((x : ℕ) → p x ≡ tru
 count_more p q [] f = omega arith
 count_more p q (x ∷ xs) f = omega (arith, counted p x xs, counted q x xs, step (p x) (q x) (count_by p xs) (count_by q xs) (f x) (count_more p q xs f))
 
+-- so far as it holds in a range
+count_more_in : (p q : ℕ → Bool) (a n : ℕ) → ((x : ℕ) → a ≤ x → x < a + n → p x ≡ true → q x ≡ true) → count_by p (range_with_len a n) ≤ count_by q (range_with_len a n)
+count_more_in p q a zero f = omega arith
+count_more_in p q a (suc n) f = omega (
+  arith,
+  counted p a (range_with_len (a + 1) n),
+  counted q a (range_with_len (a + 1) n),
+  step (p a) (q a) (count_by p (range_with_len (a + 1) n)) (count_by q (range_with_len (a + 1) n)) (f a (omega arith) (omega arith))
+  (count_more_in p q (a + 1) n (λ x low high. f x (omega (arith, low)) (omega (arith, high)))),
+)
+
 missing_still : (c d : Condition) → MayBecome c d → is_missing c ≡ true → is_missing d ≡ true
 missing_still Sound d w e = absurd (cc e)
 missing_still Missing d w e = rw w refl
@@ -63,4 +76,11 @@ pub borne_before : (shelf : Geometry) (missing more : Conditions) → IsWithin m
 borne_before shelf missing more w b = record {
   drives = omega (arith, b.drives, count_more (λ i. is_missing (missing (drive i))) (λ i. is_missing (more (drive i))) (slots_of shelf) (λ i. missing_still (missing (drive i)) (more (drive i)) (w (drive i))));
   nvrams = omega (arith, b.nvrams, count_more (λ i. is_missing (missing (nvram i))) (λ i. is_missing (more (nvram i))) nvrams (λ i. missing_still (missing (nvram i)) (more (nvram i)) (w (nvram i))));
+}
+
+-- so where each device of the shelf that is missing was missing
+pub borne_on : (shelf : Geometry) (after before : Conditions) → ((d : Device) → IsOn shelf d → is_missing (after d) ≡ true → is_missing (before d) ≡ true) → IsBearable shelf before → IsBearable shelf after
+borne_on shelf after before f b = record {
+  drives = omega (arith, b.drives, count_more_in (λ i. is_missing (after (drive i))) (λ i. is_missing (before (drive i))) 0 shelf.slots (λ i low high. f (drive i) (omega (arith, high))));
+  nvrams = omega (arith, b.nvrams, count_more_in (λ i. is_missing (after (nvram i))) (λ i. is_missing (before (nvram i))) 0 NVRAM_DEVICES (λ i low high. f (nvram i) (omega (arith, high))));
 }

@@ -1,8 +1,8 @@
 -- A takeover forgets no device that was sound.
-use Rattle.std.proofs.Common.{◌≡◌, ◌⊎◌, inl, inr, ℕ, List, refl, subst, Bool, true, false}
+use Rattle.std.proofs.Common.{◌≡◌, ◌⊎◌, inl, inr, ℕ, List, refl, sym, ◌∙◌, ap, subst, Bool, true, false}
 use Rattle.std.specs.Prelude.{Option, Some, None, IsSome}
 use Rattle.pur_base.specs.Bytes.{IsBytes}
-use Rattle.pur_base.specs.Devices.{Condition, Sound, Missing, LeftOut, MayShowAs}
+use Rattle.pur_base.specs.Devices.{Condition, Sound, Missing, LeftOut, MayShowAs, is_missing}
 use Rattle.boot_codec.specs.declared.record.BootRecord.{BootRecord}
 use Rattle.boot_codec.specs.Region.{BootSlot, of_members}
 use Rattle.array_spec.specs.Standing.{IsViewOf}
@@ -10,8 +10,8 @@ use Rattle.array_spec.proofs.Votes.{one_is_effective}
 use Rattle.array_spec.proofs.Spelled.{spells_one}
 use Rattle.array_spec.proofs.Standings.{standing_means}
 use Rattle.world.specs.Losing.{missing_if, losing}
-use Rattle.session_spec.specs.Chain.{TakeoverKeeps}
-use Rattle.session_spec.proofs.Conditions.{goes, still_sound}
+use Rattle.session_spec.specs.Chain.{TakeoverKeeps, TakeoverBears}
+use Rattle.session_spec.proofs.Conditions.{goes, still_sound, borne_on}
 
 shows : (c : Condition) (failed : Bool) (bytes : List ℕ) (shown : Option (List ℕ)) → IsBytes bytes → (shown ≡ Some bytes) ⊎ (shown ≡ None) → (shown ≡ None → failed ≡ true) → MayShowAs (missing_if failed c) bytes shown
 shows Sound true bytes shown is (inl e) silent = inl e
@@ -46,3 +46,19 @@ takeover_keeps shelf image missing after failed found arrays bytes stands bearab
       | inr (inr (gone, failed_then)) ↦ absurd (cc (failed_then, fine))
       | inr (inl (left_out, none)) ↦ absurd (isn't_there (subst (λ (o : Option (List ℕ)). IsSome o) none member))
     ]
+
+-- a device of which a call failed, or that was missing, is missing in the takeover
+lost_or_missing : (c : Condition) (failed : Bool) → (c ≡ Sound → failed ≡ false → ⊥) → is_missing (missing_if failed c) ≡ true
+lost_or_missing Sound true h = refl
+lost_or_missing Sound false h = absurd (h refl refl)
+lost_or_missing Missing failed h = refl
+lost_or_missing LeftOut failed h = refl
+
+missing_isn't_sound : (c : Condition) → is_missing c ≡ true → c ≡ Sound → ⊥
+missing_isn't_sound c m e = absurd (cc (sym m ∙ ap is_missing e))
+
+pub takeover_bears : TakeoverBears
+takeover_bears shelf image missing after failed found arrays bytes stands bearable taken = borne_on shelf after (losing failed missing)
+    (λ d on gone. lost_or_missing (missing d) (failed d)
+    (λ sound fine. missing_isn't_sound (after d) gone (takeover_keeps shelf image missing after failed found arrays bytes stands bearable taken d on sound fine)))
+    bearable

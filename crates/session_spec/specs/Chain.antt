@@ -139,3 +139,9 @@ TakeoverKeeps = (shelf : Geometry) (image : Image) (missing after : Conditions) 
     → ((d : Device) → IsBytes (image d)) → Stands shelf image missing arrays → IsBearable shelf (losing failed missing)
     → IsTakenOver shelf image found failed after
     → (d : Device) → IsOn shelf d → missing d ≡ Sound → failed d ≡ false → after d ≡ Sound
+
+-- And what could be borne in it can be borne after it.
+abbrev pub TakeoverBears : Type 0
+TakeoverBears = (shelf : Geometry) (image : Image) (missing after : Conditions) (failed : Device → Bool) (found : Found shelf image) (arrays : List Array)
+    → ((d : Device) → IsBytes (image d)) → Stands shelf image missing arrays → IsBearable shelf (losing failed missing)
+    → IsTakenOver shelf image found failed after → IsBearable shelf after

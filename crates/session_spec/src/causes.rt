@@ -1,6 +1,6 @@
 // Claims and their causes.
 ghost use Rattle.std.specs.Prelude.{ℕ};
-ghost use Rattle.session_spec.specs.Chain.{FaresRun, LeavesAfter, ClaimsHaveCauses, NoneComesBack, WasBorne, HaltsHaveCauses, TakeoverKeeps};
+ghost use Rattle.session_spec.specs.Chain.{FaresRun, LeavesAfter, ClaimsHaveCauses, NoneComesBack, WasBorne, HaltsHaveCauses, TakeoverKeeps, TakeoverBears};
 
 use world::Shelf;
 
@@ -18,7 +18,8 @@ pub fn claims_have_causes<S: Shelf>(_shelf: &S)
     ensures halts { (since : ℕ) → HaltsHaveCauses ((S.shelf _shelf.now).left_since since) }
 {}
 
-/// A takeover that is done forgets no device that was sound.
+/// A takeover that is done forgets no device that was sound, and what could be borne in it can be borne after it.
 pub fn takeovers_keep()
-    ensures { TakeoverKeeps }
+    ensures keeps { TakeoverKeeps }
+    ensures bears { TakeoverBears }
 {}
