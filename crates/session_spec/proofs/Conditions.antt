@@ -63,7 +63,7 @@ count_more_in p q a (suc n) f = omega (
   counted p a (range_with_len (a + 1) n),
   counted q a (range_with_len (a + 1) n),
   step (p a) (q a) (count_by p (range_with_len (a + 1) n)) (count_by q (range_with_len (a + 1) n)) (f a (omega arith) (omega arith))
-  (count_more_in p q (a + 1) n (λ x low high. f x (omega (arith, low)) (omega (arith, high)))),
+      (count_more_in p q (a + 1) n (λ x low high. f x (omega (arith, low)) (omega (arith, high)))),
 )
 
 missing_still : (c d : Condition) → MayBecome c d → is_missing c ≡ true → is_missing d ≡ true

@@ -1,7 +1,6 @@
 -- After a session that was stopped the next one enters.
-use Rattle.std.proofs.Common.{◌≡◌, ◌⊎◌, inl, inr, List, length, drop, refl}
-use Rattle.std.specs.Prelude.{Some, Contains}
-use Rattle.pur_base.specs.Devices.{Image, Conditions}
+use Rattle.std.proofs.Common.{◌≡◌, ◌⊎◌, inl, inr, List}
+use Rattle.pur_base.specs.Devices.{Conditions}
 use Rattle.pur_base.specs.Plain.{Array}
 use Rattle.pur_base.specs.Grammar.{Item}
 use Rattle.world.specs.Shelf.{Shelved, Stop, IsQuietBy}

@@ -1,10 +1,8 @@
 -- What may stand at a stop.
-use Rattle.std.proofs.Common.{◌≡◌, ◌⊎◌, inl, inr, ℕ, ◌+◌, List, length, drop, refl, subst}
-use Rattle.pur_base.specs.Plain.{Array}
-use Rattle.pur_base.specs.Grammar.{Item}
+use Rattle.std.proofs.Common.{inl, inr, ℕ, ◌+◌, length, drop, refl, subst}
 use Rattle.world.specs.Shelf.{Stop}
 use Rattle.array_spec.specs.Acked.{acked}
-use Rattle.array_spec.specs.After.{After, AcceptsNext}
+use Rattle.array_spec.specs.After.{AcceptsNext}
 use Rattle.session_spec.specs.Chain.{LeavesAfter}
 use Rattle.session_spec.proofs.Fared.{fares_run}
 

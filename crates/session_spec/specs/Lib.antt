@@ -1,5 +1,6 @@
 pub mod Entering
 pub mod Faring
+pub mod Reaching
 pub mod Ends
 pub mod Headline
 pub mod Making

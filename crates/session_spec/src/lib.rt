@@ -4,6 +4,10 @@
 
 mod causes;
 mod chaining;
+mod reaching;
 
 pub use causes::{claims_have_causes, replies_are_lawful, takeovers_keep};
-pub use chaining::{memory_may_be_wanted, nothing_is_lost_untouched, sessions_chain, sessions_follow};
+pub use chaining::{
+    memory_may_be_wanted, nothing_is_lost_untouched, sessions_chain, sessions_follow,
+};
+pub use reaching::points_are_reached;
