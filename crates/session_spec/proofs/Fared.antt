@@ -1,0 +1,192 @@
+-- What is true of a run of replies.
+use Rattle.std.proofs.Common.{◌≡◌, ◌≢◌, ◌⊎◌, inl, inr, ℕ, ◌<◌, ◌≤◌, ◌-◌, ◌^◌, List, [], ◌∷◌, refl, sym, ◌∙◌, ap, subst, arith, Bool, true, false}
+use Rattle.std.specs.Prelude.{Option, Some, None, ◌||◌, nat_lt, nat_le}
+use Rattle.std.proofs.lemmas.Bool.{cases_Bool, cases_lt, ltb-false}
+use Rattle.pur_base.specs.declared.device.Device.{Device}
+use Rattle.pur_base.specs.declared.request.Request.{Request}
+use Rattle.pur_base.specs.declared.request.Request.TheVariants as request
+use Rattle.pur_base.specs.declared.reply.Refusal.{Refusal}
+use Rattle.pur_base.specs.declared.reply.Refusal.TheVariants as refusals
+use Rattle.pur_base.specs.Devices.{Geometry, Condition, Conditions, IsBearable, IsWithin, MayBecome}
+use Rattle.pur_base.specs.Plain.{refusal, done}
+use Rattle.pur_base.specs.Grammar.{Item, Asked, Syntax, Cut}
+use Rattle.pur_base.specs.Replies.{Answer, given, answer_unless, after_unless}
+use Rattle.world.specs.Shelf.{Stop}
+use Rattle.world.specs.Losing.{has_risen, has_lost_writes, losing, IsLater}
+use Rattle.array_spec.specs.Runs.{Step, IsModelled, IsPhysical, IsBarred}
+use Rattle.array_spec.proofs.Standings.{within_twice}
+use Rattle.session_spec.specs.Faring.{Point, Fares, Serves, Answers, AnswersRequest, AnswersAccepted, IsRefused, IsDone, IsFailed, IfRoom, is_full}
+use Rattle.session_spec.specs.Chain.{FaresRun, ClaimsHaveCauses, NoneComesBack, WasBorne, HaltsHaveCauses}
+use Rattle.session_spec.proofs.Conditions.{goes, unlost, borne_before, stays_so}
+
+-- ---- lawful replies
+
+none_isn't : (why : Refusal) → None ≢ Some why
+none_isn't why e = cc e
+
+barred : (from to : Point) (why : Refusal) (r : Request) (sectors : List (List ℕ)) (q : Answer) → IsBarred why → IsRefused why from q to → Step from.array (Asked r sectors) q to.array
+barred from to why r sectors q is h = rw h.reply (inr (inl is, h.array))
+
+physical : (from to : Point) (why : Refusal) (r : Request) (sectors : List (List ℕ)) (q : Answer) → refusal from.array r ≡ None → IsPhysical why → IsRefused why from q to → Step from.array (Asked r sectors) q to.array
+physical from to why r sectors q none is h = rw h.reply (inr (inr (none, is), h.array))
+
+failed : (shelf : Geometry) (lost : Device → Bool) (from to : Point) (r : Request) (sectors : List (List ℕ)) (q : Answer) → refusal from.array r ≡ None → IsFailed shelf lost from q to → Step from.array (Asked r sectors) q to.array
+failed shelf lost from to r sectors q none h = rw h.reply (inr (inr (none, tt), h.array))
+
+modelled : (slots : ℕ) (from to : Point) (r : Request) (sectors : List (List ℕ)) (q : Answer) → refusal from.array r ≡ None → IsModelled r → IsDone slots from r sectors q to → Step from.array (Asked r sectors) q to.array
+modelled slots from to r sectors q none is h = inl (
+  inl is,
+  h.reply ∙ ap (λ (w : Option Refusal). answer_unless w (given from.array r)) (sym none),
+  h.array ∙ ap (λ (w : Option Refusal). after_unless w from.array (done from.array r sectors)) (sym none),
+)
+
+by_model : (from to : Point) (why : Refusal) (r : Request) (sectors : List (List ℕ)) (q : Answer) → refusal from.array r ≡ Some why → IsRefused why from q to → Step from.array (Asked r sectors) q to.array
+by_model from to why r sectors q is h = inl (
+  inr (λ none. none_isn't why (sym none ∙ is)),
+  h.reply ∙ ap (λ (w : Option Refusal). answer_unless w (given from.array r)) (sym is),
+  h.array ∙ ap (λ (w : Option Refusal). after_unless w from.array (done from.array r sectors)) (sym is),
+)
+
+-- with room or without
+in_room : (full : Bool) {none some : Type 0} {P : Type 0} → (none → P) → (some → P) → IfRoom full none some → P
+in_room true f g h = f h
+in_room false f g h = g h
+
+accepted : (shelf : Geometry) (lost : Device → Bool) (from to : Point) (r : Request) (sectors : List (List ℕ)) (q : Answer) → refusal from.array r ≡ None
+    → AnswersAccepted shelf lost from r sectors q to → Step from.array (Asked r sectors) q to.array
+accepted shelf lost from to (request.Create n size) sectors q none h = in_room (is_full from) (physical from to refusals.Space (request.Create n size) sectors q none tt)
+    (λ s. elim s [
+      | inl d ↦ modelled 1 from to (request.Create n size) sectors q none tt d
+      | inr (inl m) ↦ physical from to refusals.Memory (request.Create n size) sectors q none tt m
+      | inr (inr f) ↦ failed shelf lost from to (request.Create n size) sectors q none f
+    ]) h
+accepted shelf lost from to (request.Write n lba count) sectors q none h = in_room (is_full from) (physical from to refusals.Space (request.Write n lba count) sectors q none tt)
+    (λ s. elim s [
+      | inl d ↦ modelled 1 from to (request.Write n lba count) sectors q none tt d
+      | inr f ↦ failed shelf lost from to (request.Write n lba count) sectors q none f
+    ]) h
+accepted shelf lost from to (request.Fill n lba count byte) sectors q none h = in_room (is_full from) (physical from to refusals.Space (request.Fill n lba count byte) sectors q none tt)
+    (λ s. elim s [
+      | inl d ↦ modelled 1 from to (request.Fill n lba count byte) sectors q none tt d
+      | inr f ↦ failed shelf lost from to (request.Fill n lba count byte) sectors q none f
+    ]) h
+accepted shelf lost from to (request.Read n lba count) sectors q none h = modelled 0 from to (request.Read n lba count) sectors q none tt h
+accepted shelf lost from to request.List sectors q none h = modelled 0 from to request.List sectors q none tt h
+accepted shelf lost from to _ sectors q none h = absurd h
+
+requested : (halted : Bool) (why : Option Refusal) (shelf : Geometry) (lost : Device → Bool) (from to : Point) (r : Request) (sectors : List (List ℕ)) (q : Answer)
+    → refusal from.array r ≡ why → AnswersRequest halted why shelf lost from r sectors q to → Step from.array (Asked r sectors) q to.array
+requested true why shelf lost from to r sectors q is h = barred from to refusals.Halted r sectors q tt h
+requested false (Some why) shelf lost from to r sectors q is h = by_model from to why r sectors q is h
+requested false None shelf lost from to r sectors q is h = accepted shelf lost from to r sectors q is h
+
+lawful : (shelf : Geometry) (lost : Device → Bool) (from to : Point) (item : Item) (q : Answer) → Answers shelf lost from item q to → Step from.array item q to.array
+lawful shelf lost from to (Asked r sectors) q h = requested from.halted (refusal from.array r) shelf lost from to r sectors q refl h
+lawful shelf lost from to Syntax q h = inl (tt, h.reply, h.array)
+lawful shelf lost from to Cut q h = inl (tt, h.reply, h.array)
+
+module _ (left : Stop → Type 0) where
+  pub fares_run : FaresRun left
+  fares_run shelf from to items [] run = ap (λ (p : Point). p.array) run
+  fares_run shelf from to [] (q ∷ qs) run = absurd run
+  fares_run shelf from to (item ∷ items) (q ∷ qs) run =
+      (run.0.array, lawful shelf (has_lost_writes from.stop run.0.stop) from run.0 item q run.1.answers, fares_run shelf run.0 to items qs run.2)
+
+-- ---- counts
+
+later_then : {a b c : Stop} → IsLater a b → IsLater b c → IsLater a c
+later_then {a} {b} {c} f g = record { faults = λ d. omega (arith, f.faults d, g.faults d); write_faults = λ d. omega (arith, f.write_faults d, g.write_faults d) }
+
+rises : (a c : ℕ) → a < c → has_risen a c ≡ false → ⊥
+rises a c lt none = elim (cases_Bool (nat_lt a c)) [
+  | inl is ↦ absurd (cc (subst (λ (b : Bool). b || nat_le (2 ^ 64 - 1) a ≡ false) is none))
+  | inr isn't ↦ let le : c ≤ a = ltb-false a c isn't in absurd (omega (arith, le, lt))
+]
+
+-- no count rose on the way
+not_risen : (a b c : ℕ) → a ≤ b → b ≤ c → has_risen a c ≡ false → (has_risen a b ≡ false) × (has_risen b c ≡ false)
+not_risen a b c ab bc none =
+    let below : c ≤ a = elim (cases_lt a c) [ inl lt ↦ absurd (rises a c lt none) | inr le ↦ le ] in
+    let e : b ≡ a = omega (arith, ab, bc, below) in
+    let f : c ≡ a = omega (arith, ab, bc, below) in
+    let g : has_risen a a ≡ false = subst (λ (x : ℕ). has_risen a x ≡ false) f none in
+    (rw e g, rw (e, f) g)
+
+-- ---- conditions
+
+becomes : (c d e : Condition) → d ≡ e → MayBecome c e → MayBecome c d
+becomes c d e is w = subst (λ (x : Condition). MayBecome c x) (sym is) w
+
+module _ (left : Stop → Type 0) where
+  fares_later : (shelf : Geometry) (from to : Point) (items : List Item) (qs : List Answer) → Fares shelf left from items qs to → IsLater from.stop to.stop
+  fares_later shelf from to items [] run = record { faults = λ d. omega (arith, ap (λ (p : Point). p.stop.faults d) run); write_faults = λ d. omega (arith, ap (λ (p : Point). p.stop.write_faults d) run) }
+  fares_later shelf from to [] (q ∷ qs) run = absurd run
+  fares_later shelf from to (item ∷ items) (q ∷ qs) run = later_then run.1.later (fares_later shelf run.0 to items qs run.2)
+
+  pub claims_have_causes : ClaimsHaveCauses left
+  claims_have_causes shelf from to items [] run d none = ap (λ (p : Point). p.conditions d) run
+  claims_have_causes shelf from to [] (q ∷ qs) run d none = absurd run
+  claims_have_causes shelf from to (item ∷ items) (q ∷ qs) run d none =
+      let counts = not_risen _ _ _ (run.1.later.write_faults d) ((fares_later shelf run.0 to items qs run.2).write_faults d) none in
+      claims_have_causes shelf run.0 to items qs run.2 d counts.1 ∙ run.1.turns d ∙ unlost (has_lost_writes from.stop run.0.stop d) (from.conditions d) counts.0
+
+  served_within : (shelf : Geometry) (from to : Point) (item : Item) (q : Answer) → Serves shelf left from item q to → IsWithin from.conditions to.conditions
+  served_within shelf from to item q s d = becomes (from.conditions d) (to.conditions d) _ (s.turns d) (goes (has_lost_writes from.stop to.stop d) (from.conditions d))
+
+  pub none_comes_back : NoneComesBack left
+  none_comes_back shelf from to items [] run d = becomes (from.conditions d) (to.conditions d) (from.conditions d) (ap (λ (p : Point). p.conditions d) run) (stays_so (from.conditions d))
+  none_comes_back shelf from to [] (q ∷ qs) run d = absurd run
+  none_comes_back shelf from to (item ∷ items) (q ∷ qs) run d =
+      within_twice from.conditions run.0.conditions to.conditions (served_within shelf from run.0 item q run.1) (none_comes_back shelf run.0 to items qs run.2) d
+
+  pub was_borne : WasBorne left
+  was_borne shelf from to items [] run bearable = borne_before shelf from.conditions to.conditions (none_comes_back shelf from to items [] run) bearable
+  was_borne shelf from to [] (q ∷ qs) run bearable = absurd run
+  was_borne shelf from to (item ∷ items) (q ∷ qs) run bearable = (
+    borne_before shelf from.conditions to.conditions (none_comes_back shelf from to (item ∷ items) (q ∷ qs) run) bearable,
+    was_borne shelf run.0 to items qs run.2 bearable,
+  )
+
+-- ---- halting
+
+-- halted now, and by what
+HaltedBy : Geometry → (Device → Bool) → Point → Point → Type 0
+HaltedBy shelf lost from to = (to.halted ≡ from.halted) ⊎ (¬ (IsBearable shelf (losing lost from.conditions)))
+
+accepted_halts : (shelf : Geometry) (lost : Device → Bool) (from to : Point) (r : Request) (sectors : List (List ℕ)) (q : Answer) → AnswersAccepted shelf lost from r sectors q to → HaltedBy shelf lost from to
+unfolding HaltedBy
+accepted_halts shelf lost from to (request.Create n size) sectors q h = in_room (is_full from) (λ s. inl s.halted)
+    (λ s. elim s [ inl d ↦ inl d.halted | inr (inl m) ↦ inl m.halted | inr (inr f) ↦ inr f.unborne ]) h
+accepted_halts shelf lost from to (request.Write n lba count) sectors q h = in_room (is_full from) (λ s. inl s.halted) (λ s. elim s [ inl d ↦ inl d.halted | inr f ↦ inr f.unborne ]) h
+accepted_halts shelf lost from to (request.Fill n lba count byte) sectors q h = in_room (is_full from) (λ s. inl s.halted) (λ s. elim s [ inl d ↦ inl d.halted | inr f ↦ inr f.unborne ]) h
+accepted_halts shelf lost from to (request.Read n lba count) sectors q h = inl h.halted
+accepted_halts shelf lost from to request.List sectors q h = inl h.halted
+accepted_halts shelf lost from to _ sectors q h = absurd h
+
+request_halts : (halted : Bool) (why : Option Refusal) (shelf : Geometry) (lost : Device → Bool) (from to : Point) (r : Request) (sectors : List (List ℕ)) (q : Answer)
+    → AnswersRequest halted why shelf lost from r sectors q to → HaltedBy shelf lost from to
+unfolding HaltedBy
+request_halts true why shelf lost from to r sectors q h = inl h.halted
+request_halts false (Some why) shelf lost from to r sectors q h = inl h.halted
+request_halts false None shelf lost from to r sectors q h = accepted_halts shelf lost from to r sectors q h
+
+halts : (shelf : Geometry) (lost : Device → Bool) (from to : Point) (item : Item) (q : Answer) → Answers shelf lost from item q to → HaltedBy shelf lost from to
+unfolding HaltedBy
+halts shelf lost from to (Asked r sectors) q h = request_halts from.halted (refusal from.array r) shelf lost from to r sectors q h
+halts shelf lost from to Syntax q h = inl h.halted
+halts shelf lost from to Cut q h = inl h.halted
+
+module _ (left : Stop → Type 0) where
+  pub halts_have_causes : HaltsHaveCauses left
+  unfolding HaltedBy
+  halts_have_causes shelf from to items [] run awake asleep bearable = cc (ap (λ (p : Point). p.halted) run, awake, asleep)
+  halts_have_causes shelf from to [] (q ∷ qs) run awake asleep bearable = absurd run
+  halts_have_causes shelf from to (item ∷ items) (q ∷ qs) run awake asleep bearable =
+      let mid = run.0 in
+      let within : IsWithin mid.conditions to.conditions = none_comes_back left shelf mid to items qs run.2 in
+      let borne : IsBearable shelf mid.conditions = borne_before shelf mid.conditions to.conditions within bearable in
+      let same : mid.conditions ≡ losing (has_lost_writes from.stop mid.stop) from.conditions = λ k d. run.1.turns d k in
+      elim (halts shelf (has_lost_writes from.stop mid.stop) from mid item q run.1.answers) [
+        | inl e ↦ halts_have_causes shelf mid to items qs run.2 (e ∙ awake) asleep bearable
+        | inr unborne ↦ unborne (subst (λ (c : Conditions). IsBearable shelf c) same borne)
+      ]

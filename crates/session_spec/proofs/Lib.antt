@@ -1,0 +1,7 @@
+pub mod Conditions
+pub mod Fared
+pub mod Followed
+pub mod Left
+pub mod Reached
+pub mod Resumed
+pub mod Taken

@@ -1,0 +1,147 @@
+-- Laws of sessions: how one follows another, and that no claim comes without its cause.
+use Rattle.std.specs.Prelude.{◌≡◌, Bool, true, false, List, [], length, drop, Some, None, ℕ, ◌⊎◌, Contains}
+use Rattle.std.proofs.Common.{inl, inr}
+use Rattle.pur_base.specs.declared.device.Device.{Device}
+use Rattle.pur_base.specs.Bytes.{IsBytes}
+use Rattle.pur_base.specs.Devices.{Geometry, Image, Conditions, Sound, IsOn, IsBearable, IsWithin, MayShowAs}
+use Rattle.pur_base.specs.Plain.{Array}
+use Rattle.pur_base.specs.Grammar.{Item, requests}
+use Rattle.pur_base.specs.Replies.{Answer}
+use Rattle.world.specs.Shelf.{Shelved, Stop, MayStop, IsQuietBy}
+use Rattle.world.specs.Losing.{geometry_of, has_lost_writes, losing}
+use Rattle.array_spec.specs.Laws.{MayBeMarked}
+use Rattle.array_spec.specs.After.{After}
+use Rattle.array_spec.specs.Runs.{Runs}
+use Rattle.array_spec.specs.Standing.{Stands}
+use Rattle.pur_base.specs.declared.reply.Status.{Status}
+use Rattle.pur_base.specs.declared.reply.Status.TheVariants as status
+use Rattle.world.specs.Streams.{Streamed}
+use Rattle.session_spec.specs.Headline.{Survives, Replied, IsAfter, IsOpenedBearably, Served, Unopened}
+use Rattle.session_spec.specs.Entering.{IsStanding, IsLeft, Enters, Found, IsTakenOver, StandsStill, HasRoom, failed_by}
+use Rattle.session_spec.specs.Faring.{Point, Fares, IsBorne, now_missing}
+
+-- ---- one session after another
+
+-- What was left is found again: devices may have gone missing since; missing ones may be blank, or show anything where no record names them.
+pub record Finds (shelf : Geometry) (was : Image) (now : Conditions) (image : Image) (missing : Conditions) : Type 0 where
+  pub marked : Conditions
+  pub marks : MayBeMarked shelf was now marked
+  pub within : IsWithin marked missing
+  pub shows : (d : Device) → MayShowAs (missing d) (was d) (Some (image d))
+
+-- Another session begins on devices that one has left: each stop now finds an image that may have been left, nothing is dirty on devices that aren't missing, and there is room for generations.
+pub record Resumes (shelf : Geometry) (left : Image → Type 0) (now : Conditions) (next : Shelved) (missing : Conditions) : Type 0 where
+  pub same : geometry_of next ≡ shelf
+  pub bearable : IsBearable shelf missing
+  pub clean : (d : Device) → missing d ≡ Sound → (next.disk d).dirty ≡ []
+  pub finds : (later : Stop) → MayStop next later → (was : Image) × left was × Finds shelf was now later.image missing
+  pub room : (later : Stop) → MayStop next later → HasRoom (geometry_of next) later.image missing
+
+-- A session was stopped: what it left then is what the next one asks for.
+abbrev pub StopsChain : Shelved → Type 0
+StopsChain next = (shelf : Geometry) (stop : Stop) (now missing : Conditions) (arrays : List Array)
+    → IsStanding shelf stop.image now arrays → Resumes shelf (λ was. was ≡ stop.image) now next missing → Enters next missing arrays
+
+-- A session ended, and the next one goes on with its devices, on which missing ones may hold dirty ranges.
+abbrev pub EndsChain : Shelved → Shelved → Type 0
+EndsChain ended next = (now missing : Conditions) (arrays : List Array)
+    → IsLeft ended now arrays
+    → Resumes (geometry_of ended) (λ was. (stop : Stop) × MayStop ended stop × (was ≡ stop.image)) now next missing → Enters next missing arrays
+
+-- Where nothing happens in between, a session goes on where one ended.
+abbrev pub GoesOnAtOnce : Shelved → Type 0
+GoesOnAtOnce shelf = (now : Conditions) (arrays : List Array) → IsLeft shelf now arrays → IsBearable (geometry_of shelf) now
+    → ((stop : Stop) → MayStop shelf stop → HasRoom (geometry_of shelf) stop.image now) → Enters shelf now arrays
+
+-- What a stop in a session leaves, in the opening or after it: which devices are missing then, whether that could be borne all the way, and the arrays for which they may stand.
+module _ (old : Shelved) (left : Stop → Type 0) (first : Point) (items : List Item) (missing : Conditions) (stop : Stop) where
+  abbrev pub missing_at : IsQuietBy old stop ⊎ Replied (geometry_of old) left first items stop → Conditions
+  missing_at (inl quiet) = failed_by old stop missing
+  missing_at (inr at) = now_missing at.point stop
+
+  abbrev pub IsBorneAt : IsQuietBy old stop ⊎ Replied (geometry_of old) left first items stop → Type 0
+  IsBorneAt (inl quiet) = IsBearable (geometry_of old) (failed_by old stop missing)
+  IsBorneAt (inr at) = IsOpenedBearably old first missing × IsBorne (geometry_of old) left first items at.replies at.point at.run × IsBearable (geometry_of old) (now_missing at.point stop)
+
+  abbrev pub MayStandAt : List Array → IsQuietBy old stop ⊎ Replied (geometry_of old) left first items stop → Array → Type 0
+  MayStandAt arrays (inl quiet) array = Contains arrays array
+  MayStandAt arrays (inr at) array = IsAfter at.point (drop (length at.replies) items) array
+
+-- The next session enters with arrays that may stand at the stop.
+pub record EntersWith (next : Shelved) (later : Conditions) (P : Array → Type 0) : Type 0 where
+  pub arrays : List Array
+  pub each : (array : Array) → Contains arrays array → P array
+  pub enters : Enters next later arrays
+
+-- A session that was served was stopped at any moment, and the next one finds what it left.
+abbrev pub ServedFollows : Shelved → Shelved → Shelved → Type 0
+ServedFollows old new next = (input left : List ℕ) (ended : Status) (s : Served old new input left ended)
+    → (missing : Conditions) (arrays : List Array) → Enters old missing arrays → (stop : Stop) (since : new.left_since old.moment stop)
+    → let here = s.serving.stops stop since in
+    let points = new.left_since s.serving.moment in
+    IsBorneAt old points s.serving.first (requests input) missing stop here
+    → (later : Conditions) → Resumes (geometry_of old) (λ was. was ≡ stop.image) (missing_at old points s.serving.first (requests input) missing stop here) next later
+    → EntersWith next later (MayStandAt old points s.serving.first (requests input) missing stop arrays here)
+
+-- One that wasn't opened was stopped, and the next one finds the same arrays.
+abbrev pub UnopenedFollows : Shelved → Shelved → Shelved → Type 0
+UnopenedFollows old new next = (input left : List ℕ) (ended : Status) (u : Unopened old new input left ended)
+    → (missing : Conditions) (arrays : List Array) → Enters old missing arrays → (stop : Stop) → new.left_since old.moment stop
+    → IsBearable (geometry_of old) (failed_by old stop missing)
+    → (later : Conditions) → Resumes (geometry_of old) (λ was. was ≡ stop.image) (failed_by old stop missing) next later
+    → Enters next later arrays
+
+-- Where nothing was done, the devices still stand for the arrays.
+abbrev pub NothingDone : Shelved → Type 0
+NothingDone shelf = (missing : Conditions) (arrays : List Array) → Enters shelf missing arrays
+    → (stop : Stop) → MayStop shelf stop → StandsStill shelf None missing arrays stop
+
+-- Want of memory before anything was done is an end of a session.
+abbrev pub MayWantMemory : Shelved → Streamed → Streamed → Type 0
+MayWantMemory shelf source sink = Survives shelf shelf source source sink sink status.Memory
+
+-- ---- the replies
+
+-- the replies that the devices fare by are lawful ones
+abbrev pub FaresRun : (Stop → Type 0) → Type 0
+FaresRun left = (shelf : Geometry) (from to : Point) (items : List Item) (qs : List Answer) → Fares shelf left from items qs to → Runs from.array items qs to.array
+
+-- What may stand at a stop is what the acknowledged items leave, or one item more.
+abbrev pub LeavesAfter : (Stop → Type 0) → Type 0
+LeavesAfter left = (shelf : Geometry) (first : Point) (items : List Item) (stop : Stop) (at : Replied shelf left first items stop) (array : Array)
+    → IsAfter at.point (drop (length at.replies) items) array → (n : ℕ) × After first.array items (drop (length first.stop.output) stop.output) n array
+
+-- ---- claims and their causes
+
+-- A device on which no write or sync failed is as it was: none is claimed to be missing without a cause.
+abbrev pub ClaimsHaveCauses : (Stop → Type 0) → Type 0
+ClaimsHaveCauses left = (shelf : Geometry) (from to : Point) (items : List Item) (qs : List Answer) → Fares shelf left from items qs to
+    → (d : Device) → has_lost_writes from.stop to.stop d ≡ false → to.conditions d ≡ from.conditions d
+
+-- No device comes back while requests are served.
+abbrev pub NoneComesBack : (Stop → Type 0) → Type 0
+NoneComesBack left = (shelf : Geometry) (from to : Point) (items : List Item) (qs : List Answer) → Fares shelf left from items qs to
+    → IsWithin from.conditions to.conditions
+
+-- So what can be borne at last was borne all the way.
+abbrev pub WasBorne : (Stop → Type 0) → Type 0
+WasBorne left = (shelf : Geometry) (from to : Point) (items : List Item) (qs : List Answer) (run : Fares shelf left from items qs to)
+    → IsBearable shelf to.conditions → IsBorne shelf left from items qs to run
+
+-- An array that isn't halted comes to be so only where more is missing than can be borne.
+abbrev pub HaltsHaveCauses : (Stop → Type 0) → Type 0
+HaltsHaveCauses left = (shelf : Geometry) (from to : Point) (items : List Item) (qs : List Answer) → Fares shelf left from items qs to
+    → from.halted ≡ false → to.halted ≡ true → ¬ (IsBearable shelf to.conditions)
+
+-- A takeover that is done forgets none: each device that was sound, and of which no call failed in it, is sound.
+abbrev pub TakeoverKeeps : Type 0
+TakeoverKeeps = (shelf : Geometry) (image : Image) (missing after : Conditions) (failed : Device → Bool) (found : Found shelf image) (arrays : List Array)
+    → ((d : Device) → IsBytes (image d)) → Stands shelf image missing arrays → IsBearable shelf (losing failed missing)
+    → IsTakenOver shelf image found failed after
+    → (d : Device) → IsOn shelf d → missing d ≡ Sound → failed d ≡ false → after d ≡ Sound
+
+-- And what could be borne in it can be borne after it.
+abbrev pub TakeoverBears : Type 0
+TakeoverBears = (shelf : Geometry) (image : Image) (missing after : Conditions) (failed : Device → Bool) (found : Found shelf image) (arrays : List Array)
+    → ((d : Device) → IsBytes (image d)) → Stands shelf image missing arrays → IsBearable shelf (losing failed missing)
+    → IsTakenOver shelf image found failed after → IsBearable shelf after

@@ -1,0 +1,25 @@
+// Claims and their causes.
+ghost use Rattle.std.specs.Prelude.{ℕ};
+ghost use Rattle.session_spec.specs.Chain.{FaresRun, LeavesAfter, ClaimsHaveCauses, NoneComesBack, WasBorne, HaltsHaveCauses, TakeoverKeeps, TakeoverBears};
+
+use world::Shelf;
+
+/// The replies that the devices fare by are lawful ones, and what may stand at a stop is what the acknowledged items leave, or one item more.
+pub fn replies_are_lawful<S: Shelf>(_shelf: &S)
+    ensures runs { (since : ℕ) → FaresRun ((S.shelf _shelf.now).left_since since) }
+    ensures after { (since : ℕ) → LeavesAfter ((S.shelf _shelf.now).left_since since) }
+{}
+
+/// No device is claimed to be missing on which no write or sync failed, none comes back while requests are served, and an array is halted only where more is missing than can be borne.
+pub fn claims_have_causes<S: Shelf>(_shelf: &S)
+    ensures claims { (since : ℕ) → ClaimsHaveCauses ((S.shelf _shelf.now).left_since since) }
+    ensures none { (since : ℕ) → NoneComesBack ((S.shelf _shelf.now).left_since since) }
+    ensures borne { (since : ℕ) → WasBorne ((S.shelf _shelf.now).left_since since) }
+    ensures halts { (since : ℕ) → HaltsHaveCauses ((S.shelf _shelf.now).left_since since) }
+{}
+
+/// A takeover that is done forgets no device that was sound, and what could be borne in it can be borne after it.
+pub fn takeovers_keep()
+    ensures keeps { TakeoverKeeps }
+    ensures bears { TakeoverBears }
+{}
