@@ -1,5 +1,6 @@
 use Rattle.std.proofs.Common.{◌+◌, arith, ◌∙◌, ap}
 use Rattle.std.proofs.lemmas.Result.{err_from_is_err_and}
+use Rattle.world.proofs.Moments.{continues_trans}
 use Rattle.world.proofs.Writes.{writes_then}
 use Rattle.segment_io.specs.Reads.{is_unknown}
 use Rattle.segment_io.specs.Runs.{data_byte}
@@ -44,3 +45,18 @@ pub returns-clause-writes : goal.returns-clause-writes
 returns-clause-writes g c h =
     let x = c.read_directly.ensures in
     writes_then x.continues (x.writes h) (c.read_stripe.ensures.writes (x.continues.honest h))
+
+pub returns-in_err-read_stripe-clause-continues : goal.returns-in_err-read_stripe-clause-continues
+returns-in_err-read_stripe-clause-continues g c = continues_trans c.read_directly.ensures.continues c.read_stripe.ensures.continues
+
+pub returns-in_err-read_stripe-clause-same : goal.returns-in_err-read_stripe-clause-same
+returns-in_err-read_stripe-clause-same g c h device =
+    let was = c.read_directly.ensures.same h device in
+    let is = c.read_stripe.ensures.same (c.read_directly.ensures.continues.honest h) device in
+    record { bytes = is.bytes ∙ was.bytes; dirty = is.dirty ∙ was.dirty }
+
+pub returns-in_err-read_stripe-clause-rest : goal.returns-in_err-read_stripe-clause-rest
+returns-in_err-read_stripe-clause-rest g c = g.met.S.Shelf.shelf_rest_stays.transitive _ _ _ c.read_directly.ensures.rest c.read_stripe.ensures.rest
+
+pub returns-clause-continues : goal.returns-clause-continues
+returns-clause-continues g c = continues_trans c.read_directly.ensures.continues c.read_stripe.ensures.continues
