@@ -1,0 +1,356 @@
+-- A command was appended: what a stop leaves at each moment, and what the devices hold then.
+use Rattle.std.proofs.Common.{◌≡◌, ◌≢◌, ◌⊎◌, inl, inr, ℕ, zero, suc, ◌+◌, ◌-◌, ◌^◌, ◌≤◌, ◌<◌, List, [], ◌∷◌, ◌++◌, length, take, refl, sym, ◌∙◌, ap, subst, arith, Bool, true, false, length-append}
+use Rattle.std.specs.Prelude.{Some, Contains, slice_get}
+use Rattle.std.proofs.lemmas.Bool.{cases_lt}
+use Rattle.std.proofs.lemmas.List.{take_all, take_at, append-nil}
+use Rattle.std.proofs.lemmas.Option.{slice_get_within}
+use Rattle.pur_base.specs.declared.device.Device.{Device}
+use Rattle.pur_base.specs.Devices.{Geometry, Image, Conditions, Sound, LeftOut, IsBearable, IsWithin, drive, nvram}
+use Rattle.pur_base.specs.Plain.{Array}
+use Rattle.pur_base.specs.Commands.{Command, Accepts, AllAccepted, after, after_all}
+use Rattle.boot_codec.specs.declared.record.BootRecord.{BootRecord}
+use Rattle.boot_codec.specs.Spelling.{spelling}
+use Rattle.boot_codec.specs.Region.{BootSlot, IsRecordOf, body_in, generation_in, names, other_slot, shown_by, Yields}
+use Rattle.log_codec.specs.Log.{HasSpelling, ShowsIn}
+use Rattle.array_spec.specs.Standing.{Stands, MayBeGiven, IsReadInto}
+use Rattle.array_spec.proofs.Settling.{twice_other}
+use Rattle.array_spec.proofs.Standings.{more_may_go_missing}
+use Rattle.array_spec.proofs.UnflushedRead.{one_left}
+use Rattle.array_spec.proofs.Votes.{sound_before}
+use Rattle.world.specs.Losing.{geometry_of, has_risen}
+use Rattle.world.specs.Shelf.{Shelved, Stop, Disk, IsShelf, Continues, MayStop, MayLeave, LeavesOnly}
+use Rattle.world.specs.Writes.{MayLeaveBut, LeavesBut, WritesOnly}
+use Rattle.world.proofs.Moments.{started, then_run, weaker}
+use Rattle.boot_region.specs.Members.{IsMember}
+use Rattle.boot_region.specs.Storing.{IsInForceOn, IsOlder, StandsBut, AccountsFor}
+use Rattle.boot_region.proofs.Accounts.{losing_within}
+use Rattle.boot_region.proofs.Composing.{as_it_is}
+use Rattle.boot_region.proofs.Phases.{risen_on_way}
+use Rattle.boot_region.proofs.ShownLemmas.{as_read}
+use Rattle.nvram_log.specs.declared.log.NvLog.{NvLog}
+use Rattle.nvram_log.specs.Held.{HoldsOn, Keeps, LeavesBetween}
+use Rattle.nvram_log.specs.Members as nv
+use Rattle.nvram_log.proofs.Lists.{get_either, get_left}
+use Rattle.register.specs.declared.state.Register.{Register}
+use Rattle.register.specs.Registers.{IsRegisterOf, drives_of, own_slot, next_slot, named_sound}
+use Rattle.register.specs.Standing.{StandsInLog, MayStore, IsOpen}
+use Rattle.array_core.specs.Losing.{lost_since, lost_by}
+use Rattle.array_core.specs.Performing.{StandsMeanwhile, without_or_with}
+use Rattle.array_core.proofs.Losses.{same_geometry, sound_since, left_out_since, by_stop, fewer_borne, bearable_or_not}
+use Rattle.array_core.proofs.HeldBy as by
+
+nothing_else : {W : ℕ → Type 0} {disk : Disk} {bytes : List ℕ} → ((i : ℕ) → W i → ⊥) → MayLeaveBut W disk bytes → MayLeave disk bytes
+nothing_else none h = record { size = h.size; is_byte = h.is_byte; clean = λ i out. h.same i out (none i) }
+
+-- two things at once are true of each stop
+both_leave : {a b : Shelved} {P Q : Stop → Type 0} → LeavesOnly a b P → LeavesOnly a b Q → LeavesOnly a b (λ stop. P stop × Q stop)
+both_leave p q = record {
+  quiet = p.quiet;
+  each = λ stop left. ((p.each stop left).0, ((p.each stop left).1, (q.each stop left).1));
+  before = λ t stop le left. elim (p.before t stop le left) [
+    | inl was ↦ inl was
+    | inr x ↦ elim (q.before t stop le left) [
+      | inl was ↦ inl was
+      | inr y ↦ inr (x.0, (x.1, y.1))
+    ]
+  ];
+}
+
+-- what stands for some arrays stands for them and more
+widen : (shelf : Geometry) (image : Image) (missing : Conditions) (arrays others : List Array) → ((x : Array) → Contains arrays x → Contains others x) → others ≢ []
+    → Stands shelf image missing arrays → Stands shelf image missing others
+widen shelf image missing arrays others more some s = record {
+  bearable = s.bearable;
+  some = some;
+  gives = s.gives;
+  reads = λ slot boot g.
+      let r = s.reads slot boot g in
+      record {
+        base = r.base;
+        each = λ then view v.
+            let b = r.each then view v in
+            record {
+              in_force = b.in_force;
+              all_hold = b.all_hold;
+              holds = b.holds;
+              leads = record {
+                log = b.leads.log;
+                log_stands = b.leads.log_stands;
+                devices_agree = b.leads.devices_agree;
+                least = b.leads.least;
+                least_stands = b.leads.least_stands;
+                enough = b.leads.enough;
+                fronts = λ n low high. more (after_all r.base (take n b.leads.log)) (b.leads.fronts n low high);
+              };
+            };
+      };
+  agree = λ slot slot2 boot boot2 g g2. s.agree slot slot2 boot boot2 g g2;
+}
+
+first_too : (a b x : Array) → Contains (a ∷ []) x → Contains (a ∷ b ∷ []) x
+first_too a b x (zero, lt, e) = (zero, omega arith, e)
+first_too a b x (suc k, lt, e) = absurd (omega (arith, lt))
+
+-- while nothing is done
+pub nothing_done : (a : Shelved) (r : Register) (members : List Bool) (cmds : List Command) (c : Command) → IsShelf a → IsOpen a r members cmds → LeavesOnly a a (StandsMeanwhile a r.record (without_or_with cmds c))
+nothing_done a r members cmds c is o = started a (StandsMeanwhile a r.record (without_or_with cmds c)) is (λ stop may borne.
+    widen (geometry_of a) stop.image (lost_by a stop (named_sound r.record)) (after_all [] cmds ∷ []) (without_or_with cmds c) (first_too (after_all [] cmds) (after_all [] (cmds ++ c ∷ []))) (λ e. cc e)
+    (more_may_go_missing (geometry_of a) stop.image (named_sound r.record) (lost_by a stop (named_sound r.record)) (after_all [] cmds ∷ [])
+    (losing_within (λ d. has_risen (a.disk d).write_faults (stop.write_faults d)) (named_sound r.record)) borne (o.stands stop may)))
+
+-- an NVRAM device holds the log
+pub some_member : {a : Shelved} (r : Register) (members : List Bool) {cmds : List Command} → IsOpen a r members cmds → nv.IsSome members
+some_member r members o = elim (one_left (named_sound r.record (nvram 0)) (named_sound r.record (nvram 1)) o.bearable.nvrams) [
+  | inl s ↦ inl (subst (λ (l : List Bool). nv.IsMember l 0) o.nvrams_are (by.is_named (names r.record (nvram 0)) s))
+  | inr s ↦ inr (subst (λ (l : List Bool). nv.IsMember l 1) o.nvrams_are (by.is_named (names r.record (nvram 1)) s))
+]
+
+-- one more accepted command
+pub accept_last : (a : Array) (cmds : List Command) (c : Command) → AllAccepted a cmds → Accepts (after_all a cmds) c → AllAccepted a (cmds ++ c ∷ [])
+accept_last a [] c all fine = (fine, tt)
+accept_last a (d ∷ ds) c all fine = (all.0, accept_last (after a d) ds c all.1 fine)
+
+pub after_last : (a : Array) (cmds : List Command) (c : Command) → after_all a (cmds ++ c ∷ []) ≡ after (after_all a cmds) c
+after_last a [] c = refl
+after_last a (d ∷ ds) c = after_last (after a d) ds c
+
+-- the last of a list that has one more
+last_is : (i : ℕ) (c d : Command) → slice_get (c ∷ []) i ≡ Some d → (i ≡ 0) × (c ≡ d)
+last_is zero c d at = (refl, cc at)
+last_is (suc i) c d at = absurd (cc at)
+
+-- the devices, as a command is appended
+pub record IsAppending (a m : Shelved) (r : Register) (members now : List Bool) (cmds : List Command) (c : Command) : Type 0 where
+  pub is : IsShelf a
+  pub is_mid : IsShelf m
+  pub honest : a.honest
+  pub on : Continues a m
+  pub was_open : IsOpen a r members cmds
+  pub not_spent : r.record.generation < 2 ^ 48 - 8
+  pub same : (i : ℕ) → m.disk (drive i) ≡ a.disk (drive i)
+  pub fewer : nv.IsFewer members now
+  pub dropped : nv.DroppedFailed a m members now
+  pub left : LeavesOnly a m (LeavesBetween members r.record.flushed cmds (cmds ++ c ∷ []))
+  pub writes : WritesOnly (nv.OnMembers members) a m
+  pub accepted : AllAccepted [] (cmds ++ c ∷ [])
+  pub room : length (cmds ++ c ∷ []) ≤ 64
+  pub spelled : HasSpelling (r.record.flushed + 1 + length cmds) c
+
+module _ (a m : Shelved) (r : Register) (members now : List Bool) (cmds : List Command) (c : Command) (p : IsAppending a m r members now cmds c) where
+  abbrev shelf : Geometry
+  shelf = geometry_of a
+
+  abbrev most : List Command
+  most = cmds ++ c ∷ []
+
+  abbrev arrays : List Array
+  arrays = without_or_with cmds c
+
+  one : (n : ℕ) × (n < 2) × nv.IsMember members n
+  one = elim (some_member r members p.was_open) [ inl x ↦ (0, omega arith, x) | inr x ↦ (1, omega arith, x) ]
+
+  spelled_all : (i : ℕ) (d : Command) → slice_get most i ≡ Some d → HasSpelling (r.record.flushed + 1 + i) d
+  spelled_all i d at = elim (get_either cmds (c ∷ []) i d at) [
+    | inl old ↦ ((p.was_open.logged.holds.log one.0 one.1 one.2).between.all i d old).spelled.lawful
+    | inr (past, last) ↦
+        let is = last_is (i - length cmds) c d last in
+        let e : length cmds ≡ i = omega (arith, is.0, past) in
+        subst (λ (k : ℕ). HasSpelling (r.record.flushed + 1 + k) d) e (subst (λ (x : Command). HasSpelling (r.record.flushed + 1 + length cmds) x) is.1 p.spelled)
+  ]
+
+  long : length most ≡ length cmds + 1
+  long = omega (arith, length-append cmds (c ∷ []))
+
+  second : Contains arrays (after_all [] most)
+  second = (1, omega arith, refl)
+
+  fronts : (n : ℕ) → length cmds ≤ n → n ≤ length most → Contains arrays (after_all [] (take n most))
+  fronts n low high = elim (cases_lt (length cmds) n) [
+    | inl more ↦
+        let e : length most ≤ n = omega (arith, more, long) in
+        subst (λ (l : List Command). Contains arrays (after_all [] l)) (sym (take_all n most e)) second
+    | inr le ↦
+        let e : length cmds ≡ n = omega (arith, low, le) in
+        subst (λ (l : List Command). Contains arrays (after_all [] l)) (sym (take_at cmds (c ∷ []) n e)) (0, omega arith, refl)
+  ]
+
+  -- ---- meanwhile
+
+  drive_left : (i : ℕ) → IsMember (drives_of r) i → (bytes : List ℕ) → MayLeave (a.disk (drive i)) bytes → bytes ≡ (a.disk (drive i)).bytes
+  drive_left i mem bytes may = as_read (a.disk (drive i)) bytes (p.was_open.in_force.clean i mem (by.force_sound r p.was_open i mem)) may
+
+  while_appending : (stop : Stop) → LeavesBetween members r.record.flushed cmds most stop × LeavesBut (nv.OnMembers members) a stop → StandsMeanwhile a r.record arrays stop
+  while_appending stop both bears =
+      let later = lost_by a stop (named_sound r.record) in
+      let within = losing_within (λ d. has_risen (a.disk d).write_faults (stop.write_faults d)) (named_sound r.record) in
+      let drive_is : (i : ℕ) → IsMember (drives_of r) i → stop.image (drive i) ≡ (a.disk (drive i)).bytes = λ i mem. drive_left i mem (stop.image (drive i)) (nothing_else (λ k w. w) (both.1.bytes (drive i))) in
+      by.stands a p.is r members cmds p.was_open stop.image later within bears drive_is cmds most arrays p.not_spent p.accepted (c ∷ [], refl) p.room spelled_all
+      (λ n i d lt s at. (both.0 n lt (by.member_of a p.is r members cmds p.was_open stop.image later within bears drive_is n s)).all i d at)
+      (λ n i d lt mem x. (both.0 n lt mem).no_other i d x)
+      (λ e. cc e) fronts
+
+  pub append_moments : LeavesOnly a m (StandsMeanwhile a r.record arrays)
+  append_moments = weaker while_appending (both_leave p.left p.writes.any_moment)
+
+  -- ---- afterwards
+
+  module _ (holds : HoldsOn m now r.record.flushed most) (some_now : nv.IsSome now) where
+    pub logged : StandsInLog m r now most
+    logged = record {
+      is_of = record {
+        lawful = subst (λ (g : Geometry). IsRecordOf g r.record) (same_geometry p.on) p.was_open.logged.is_of.lawful;
+        named = p.was_open.logged.is_of.named;
+      };
+      patches = p.was_open.logged.patches;
+      bodies = λ i mem. subst (λ (d : Disk). body_in (own_slot r.record) d.bytes ≡ spelling r.record) (sym (p.same i)) (p.was_open.logged.bodies i mem);
+      holds = holds;
+      accepted = p.accepted;
+    }
+
+    older : (i : ℕ) → IsMember (drives_of r) i → IsOlder m (next_slot r.record) (spelling r.record) i
+    older i mem =
+        let was : IsOlder a (next_slot r.record) (spelling r.record) i = p.was_open.older i mem (by.force_sound r p.was_open i mem) in
+        subst (λ (d : Disk). Yields (other_slot (next_slot r.record)) (generation_in (body_in (next_slot r.record) d.bytes)) (generation_in (spelling r.record))) (sym (p.same i)) was
+
+    -- in conditions in which each device that isn't missing is left
+    module _ (later : Conditions) (within : IsWithin (named_sound r.record) later) (bears : IsBearable (geometry_of a) later) (still : (n : ℕ) → n < 2 → later (nvram n) ≡ Sound → nv.IsMember now n) where
+      module _ (stop : Stop) (may : MayStop m stop) where
+        drive_is : (i : ℕ) → IsMember (drives_of r) i → stop.image (drive i) ≡ (a.disk (drive i)).bytes
+        drive_is i mem = drive_left i mem (stop.image (drive i)) (subst (λ (d : Disk). MayLeave d (stop.image (drive i))) (p.same i) (may.device (drive i)))
+
+        given_then : MayBeGiven (geometry_of m) stop.image later (own_slot r.record) r.record
+        given_then = subst (λ (g : Geometry). MayBeGiven g stop.image later (own_slot r.record) r.record) (same_geometry p.on)
+            (by.given a p.is r members cmds p.was_open stop.image later within bears drive_is)
+
+        alone_then : (slot2 : BootSlot) (boot2 : BootRecord) → MayBeGiven (geometry_of m) stop.image later slot2 boot2 → (slot2 ≡ own_slot r.record) × (boot2 ≡ r.record)
+        alone_then slot2 boot2 g =
+            by.alone a p.is r members cmds p.was_open stop.image later within bears drive_is slot2 boot2
+            (subst (λ (k : Geometry). MayBeGiven k stop.image later slot2 boot2) (sym (same_geometry p.on)) g)
+
+        shown : (n : ℕ) → n < 2 → later (nvram n) ≡ Sound → (i : ℕ) (d : Command) → slice_get most i ≡ Some d → ShowsIn (stop.image (nvram n)) r.record.flushed i d
+        shown n lt s i d at =
+            let mem = still n lt s in
+            subst (λ (b : List ℕ). ShowsIn b r.record.flushed i d) (sym (as_read (m.disk (nvram n)) (stop.image (nvram n)) (holds.clean n lt mem) (may.device (nvram n)))) ((holds.log n lt mem).between.all i d at)
+
+        pub stands_then : (others : List Array) → others ≢ [] → Contains others (after_all [] most) → Stands (geometry_of m) stop.image later others
+        stands_then others some has =
+            let moment = p.left.each stop (p.is_mid.counts_now a.moment stop p.on.later may) in
+            subst (λ (g : Geometry). Stands g stop.image later others) (same_geometry p.on)
+            (by.stands a p.is r members cmds p.was_open stop.image later within bears drive_is most most others p.not_spent p.accepted ([], sym (append-nil most)) p.room spelled_all
+            (λ n i d lt s at. shown n lt s i d at)
+            (λ n i d lt mem x. (moment.1 n lt mem).no_other i d x)
+            some (λ n low high. subst (λ (l : List Command). Contains others (after_all [] l)) (sym (take_all n most low)) has))
+
+      in_force : IsInForceOn m (drives_of r) later (next_slot r.record) r.record
+      in_force =
+          let f = p.was_open.in_force in
+          record {
+            lawful = logged.is_of.lawful;
+            sound = λ i lt s. f.sound i (omega (arith, lt, p.on.drives)) (sound_before (named_sound r.record (drive i)) (later (drive i)) (within (drive i)) s);
+            clean = λ i mem s. subst (λ (d : Disk). d.dirty ≡ []) (sym (p.same i)) (f.clean i mem (by.force_sound r p.was_open i mem));
+            shown = λ i mem s. subst (λ (d : Disk). shown_by (other_slot (next_slot r.record)) d.bytes ≡ Some (spelling r.record)) (sym (p.same i)) (f.shown i mem (by.force_sound r p.was_open i mem));
+            given = λ start may. subst (λ (t : BootSlot). MayBeGiven (geometry_of m) start.image later t r.record) (sym (twice_other (own_slot r.record))) (given_then start may);
+          }
+
+    -- no member failed
+    pub still_open : r.record.members.nvrams ≡ now → IsOpen m r now most
+    still_open named =
+        let within = as_it_is (named_sound r.record) in
+        let bears = p.was_open.bearable in
+        let still : (n : ℕ) → n < 2 → named_sound r.record (nvram n) ≡ Sound → nv.IsMember now n =
+        λ n lt s. subst (λ (l : List Bool). nv.IsMember l n) named (by.is_named (names r.record (nvram n)) s) in
+        record {
+          logged = logged;
+          drives = p.was_open.drives;
+          nvrams_are = named;
+          bearable = subst (λ (g : Geometry). IsBearable g (named_sound r.record)) (same_geometry p.on) bears;
+          in_force = in_force (named_sound r.record) within bears still;
+          older = λ i mem s. older i mem;
+          stands = λ stop may. stands_then (named_sound r.record) within bears still stop may (after_all [] most ∷ []) (λ e. cc e) (0, omega arith, refl);
+          alone = λ stop slot2 boot2 may g. alone_then (named_sound r.record) within bears still stop may slot2 boot2 g;
+        }
+
+    -- ---- a member failed: a record without it may be stored
+    abbrev lost : Conditions
+    lost = lost_since a m (named_sound r.record)
+
+    lost_within : IsWithin (named_sound r.record) (lost_since a m (named_sound r.record))
+    lost_within = losing_within (λ d. has_risen (a.disk d).write_faults (m.disk d).write_faults) (named_sound r.record)
+
+    module _ (bears : IsBearable (geometry_of a) (lost_since a m (named_sound r.record))) where
+      still_member : (n : ℕ) → n < 2 → lost_since a m (named_sound r.record) (nvram n) ≡ Sound → nv.IsMember now n
+      still_member n lt s =
+          let was = sound_since (has_risen (a.disk (nvram n)).write_faults (m.disk (nvram n)).write_faults) (named_sound r.record (nvram n)) s in
+          let mem : nv.IsMember members n = subst (λ (l : List Bool). nv.IsMember l n) p.was_open.nvrams_are (by.is_named (names r.record (nvram n)) was.0) in
+          elim (p.dropped n lt mem) [
+            | inl is ↦ is
+            | inr rose ↦ absurd (risen_on_way (a.disk (nvram n)).write_faults (a.disk (nvram n)).write_faults (m.disk (nvram n)).write_faults (m.disk (nvram n)).write_faults (omega arith) rose (omega arith) was.1)
+          ]
+
+      left_out_not : (n : ℕ) → lost_since a m (named_sound r.record) (nvram n) ≡ LeftOut → ¬ (nv.IsMember now n)
+      left_out_not n out mem =
+          let was = left_out_since (has_risen (a.disk (nvram n)).write_faults (m.disk (nvram n)).write_faults) (named_sound r.record (nvram n)) out in
+          let named : names r.record (nvram n) ≡ true = subst (λ (l : List Bool). nv.IsMember l n) (sym p.was_open.nvrams_are) (p.fewer n mem) in
+          absurd (cc (named, by.is_left (names r.record (nvram n)) was))
+
+      may_store : MayStore m r now (lost_since a m (named_sound r.record)) most arrays
+      may_store = record {
+        logged = logged;
+        in_force = in_force lost lost_within bears still_member;
+        stands = λ stop may. stands_then lost lost_within bears still_member stop may arrays (λ e. cc e) second;
+        one_of = second;
+        sound = still_member;
+        left_out = left_out_not;
+      }
+
+      -- a stop while the record is stored
+      while_storing : (W : Device → ℕ → Type 0) (stop : Stop) → StandsBut m (drives_of r) (lost_since a m (named_sound r.record)) (next_slot r.record) r.record arrays stop × LeavesBut W m stop → StandsMeanwhile a r.record arrays stop
+      while_storing W stop both borne =
+          let later = lost_by a stop (named_sound r.record) in
+          let account : AccountsFor m (drives_of r) lost (next_slot r.record) (spelling r.record) stop.faults stop.write_faults later = record {
+            within = by_stop a m stop (named_sound r.record) both.1.counts;
+            bearable = subst (λ (g : Geometry). IsBearable g later) (same_geometry p.on) borne;
+            writes = λ i mem s.
+                let none = (sound_since (has_risen (a.disk (drive i)).write_faults (stop.write_faults (drive i))) (named_sound r.record (drive i)) s).1 in
+                inr (subst (λ (d : Disk). has_risen d.write_faults (stop.write_faults (drive i)) ≡ false) (sym (p.same i)) none);
+            reads = λ i mem s. inl (older i mem);
+          } in
+          subst (λ (g : Geometry). Stands g stop.image later arrays) (sym (same_geometry p.on)) (both.0 later account)
+
+    module _ (n : Shelved) {W : Device → ℕ → Type 0} (writes : WritesOnly W m n)
+        (storing : (missing : Conditions) (log : List Command) (others : List Array) → MayStore m r now missing log others → LeavesOnly m n (StandsBut m (drives_of r) missing (next_slot r.record) r.record others)) where
+      store_moments : LeavesOnly m n (StandsMeanwhile a r.record arrays)
+      store_moments = elim (bearable_or_not (geometry_of a) (lost_since a m (named_sound r.record))) [
+        | inl bears ↦ weaker (while_storing bears W) (both_leave (storing lost most arrays (may_store bears)) writes.any_moment)
+        | inr not ↦ weaker (λ stop left borne. absurd (not (fewer_borne (geometry_of a) lost (lost_by a stop (named_sound r.record)) (by_stop a m stop (named_sound r.record) left.counts) borne))) writes.any_moment
+      ]
+
+      pub all_moments : LeavesOnly a n (StandsMeanwhile a r.record arrays)
+      all_moments = then_run p.on append_moments store_moments
+
+-- what the calls say of a command that is appended
+pub appending : (a m : Shelved) (r : Register) (log : NvLog) (now : List Bool) (cmds : List Command) (c : Command) → IsShelf a → IsShelf m → a.honest → Continues a m → IsOpen a r log.members cmds → Keeps log cmds
+    → r.record.generation < 2 ^ 48 - 2 ^ 24 → log.count < 64 → log.flushed ≡ r.record.flushed → AllAccepted [] (cmds ++ c ∷ []) → ((i : ℕ) → m.disk (drive i) ≡ a.disk (drive i)) → nv.IsFewer log.members now → nv.DroppedFailed a m log.members now
+    → LeavesOnly a m (LeavesBetween log.members log.flushed cmds (cmds ++ c ∷ [])) → WritesOnly (nv.OnMembers log.members) a m → HasSpelling (log.flushed + 1 + (log.count + 0)) c → IsAppending a m r log.members now cmds c
+appending a m r log now cmds c is is_mid h on o keeps low free flushed accepted same fewer dropped left writes spelled = record {
+  is = is;
+  is_mid = is_mid;
+  honest = h;
+  on = on;
+  was_open = o;
+  not_spent = omega (arith, low);
+  same = same;
+  fewer = fewer;
+  dropped = dropped;
+  left = subst (λ (f : ℕ). LeavesOnly a m (LeavesBetween log.members f cmds (cmds ++ c ∷ []))) flushed left;
+  writes = writes;
+  accepted = accepted;
+  room = omega (arith, free, keeps.count, length-append cmds (c ∷ []));
+  spelled =
+      let e : log.flushed + 1 + (log.count + 0) ≡ r.record.flushed + 1 + length cmds = omega (arith, flushed, keeps.count) in
+      subst (λ (k : ℕ). HasSpelling k c) e spelled;
+}
+
+-- the log that was held before it is appended to
+pub was_held : {a : Shelved} (r : Register) (log : NvLog) {cmds : List Command} → log.flushed ≡ r.record.flushed → IsOpen a r log.members cmds → HoldsOn a log.members log.flushed cmds
+was_held {a} r log {cmds} flushed o = subst (λ (f : ℕ). HoldsOn a log.members f cmds) (sym flushed) o.logged.holds

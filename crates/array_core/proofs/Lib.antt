@@ -1,0 +1,4 @@
+pub mod Losses
+pub mod HeldBy
+pub mod Appended
+pub mod Lost

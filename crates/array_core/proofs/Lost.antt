@@ -1,0 +1,141 @@
+-- More devices are lost than are borne.
+use Rattle.std.proofs.Common.{◌≡◌, ◌⊎◌, inl, inr, ℕ, zero, suc, ◌+◌, ◌-◌, ◌^◌, ◌≤◌, ◌<◌, List, [], ◌∷◌, length, sym, ap, subst, arith, Bool, true, false, cond, Result, Ok, Err, OnOk, IfErr}
+use Rattle.std.specs.Prelude.{slice_index_or, count_by}
+use Rattle.std.specs.List.{range_with_len}
+use Rattle.std.proofs.lemmas.Bool.{cases_Bool}
+use Rattle.std.proofs.lemmas.List.Sums.{count_by-le-length}
+use Rattle.pur_base.specs.Devices.{Geometry, Conditions, Sound, is_missing, IsBearable, drive, nvram}
+use Rattle.pur_base.specs.Commands.{Command}
+use Rattle.boot_codec.specs.declared.record.BootRecord.{BootRecord}
+use Rattle.boot_codec.specs.Record.{set_count}
+use Rattle.boot_codec.specs.Region.{names}
+use Rattle.array_spec.proofs.UnflushedRead.{one_left}
+use Rattle.array_spec.proofs.Votes.{counted, not_missing}
+use Rattle.world.specs.Shelf.{Shelved, Disk}
+use Rattle.world.specs.Losing.{geometry_of, has_risen}
+use Rattle.boot_region.specs.Members.{IsMember, DroppedFailed, LostWrites}
+use Rattle.boot_region.proofs.Phases.{risen_on_way}
+use Rattle.nvram_log.specs.Members as nv
+use Rattle.register.specs.declared.state.Register.{Register}
+use Rattle.register.specs.declared.next.StoreFault.{StoreFault}
+use Rattle.register.specs.declared.next.StoreFault.TheVariants.{Spent, TooFew}
+use Rattle.register.specs.Faults.{IsFaultOf}
+use Rattle.register.specs.Registers.{IsRegisterOf, IsLaterRecord, drives_of, named_sound}
+use Rattle.register.specs.Standing.{IsOpen}
+use Rattle.register.proofs.FlagLemmas.{fewer_count, in_cut}
+use Rattle.array_core.specs.declared.array.Array.{Array}
+use Rattle.array_core.specs.Losing.{lost_since}
+use Rattle.array_core.specs.Performing.{IsLost, LostLog, LostDrives}
+use Rattle.array_core.proofs.Losses.{sound_since}
+use Rattle.array_core.proofs.HeldBy as by
+
+-- of so many drives each is one of the bad ones, or has a flag
+enough : (bad : ℕ → Bool) (flags : List Bool) (a n : ℕ) → ((i : ℕ) → i < n → (bad (a + i) ≡ true) ⊎ IsMember flags i) → n ≤ count_by bad (range_with_len a n) + count_by (λ b. b) flags
+enough bad flags a zero each = omega arith
+enough bad [] a (suc n) each =
+    let rest = enough bad [] (a + 1) n (λ i lt. elim (each (suc i) (omega (arith, lt))) [ inl is ↦ inl (subst (λ (k : ℕ). bad k ≡ true) (shifted i) is) | inr m ↦ absurd (cc m) ]) in
+    let first : bad a ≡ true = elim (each 0 (omega arith)) [ inl is ↦ subst (λ (k : ℕ). bad k ≡ true) (unshifted) is | inr m ↦ absurd (cc m) ] in
+    omega (arith, rest, counted bad a (range_with_len (a + 1) n), one (bad a) first)
+  where
+    shifted : (i : ℕ) → a + suc i ≡ a + 1 + i
+    shifted i = omega arith
+
+    unshifted : a + 0 ≡ a
+    unshifted = omega arith
+
+    one : (b : Bool) → b ≡ true → 1 ≤ cond b 1 0
+    one true e = omega arith
+    one false e = absurd (cc e)
+enough bad (f ∷ fs) a (suc n) each =
+    let rest = enough bad fs (a + 1) n (λ i lt. elim (each (suc i) (omega (arith, lt))) [ inl is ↦ inl (subst (λ (k : ℕ). bad k ≡ true) (shifted i) is) | inr m ↦ inr m ]) in
+    omega (arith, rest, counted bad a (range_with_len (a + 1) n), counted (λ (b : Bool). b) f fs, some (bad a) f (elim (each 0 (omega arith)) [ inl is ↦ inl (subst (λ (k : ℕ). bad k ≡ true) unshifted is) | inr m ↦ inr m ]))
+  where
+    shifted : (i : ℕ) → a + suc i ≡ a + 1 + i
+    shifted i = omega arith
+
+    unshifted : a + 0 ≡ a
+    unshifted = omega arith
+
+    some : (b c : Bool) → (b ≡ true) ⊎ (c ≡ true) → 1 ≤ cond b 1 0 + cond c 1 0
+    some true c e = omega arith
+    some false true e = omega arith
+    some false false (inl e) = absurd (cc e)
+    some false false (inr e) = absurd (cc e)
+
+-- at most two drives of the shelf don't have such a flag
+few_lack : (shelf : Geometry) (missing : Conditions) (flags : List Bool) → IsBearable shelf missing → ((i : ℕ) → i < shelf.slots → missing (drive i) ≡ Sound → IsMember flags i) → shelf.slots ≤ set_count flags + 2
+few_lack shelf missing flags bears sound =
+    omega (arith, bears.drives, enough (λ i. is_missing (missing (drive i))) flags 0 shelf.slots (λ i lt. subst (λ (k : ℕ). (is_missing (missing (drive k)) ≡ true) ⊎ IsMember flags i) (from_zero i) (each i lt)))
+  where
+    from_zero : (i : ℕ) → i ≡ 0 + i
+    from_zero i = omega arith
+
+    each : (i : ℕ) → i < shelf.slots → (is_missing (missing (drive i)) ≡ true) ⊎ IsMember flags i
+    each i lt = elim (cases_Bool (is_missing (missing (drive i)))) [
+      | inl is ↦ inl is
+      | inr is ↦ inr (sound i lt (not_missing (missing (drive i)) is))
+    ]
+
+-- what is lost isn't borne
+module _ (old new : Shelved) (a : Array) (commands : List Command) (o : IsOpen old a.register a.log.members commands) (bears : IsBearable (geometry_of old) (lost_since old new (named_sound a.register.record))) where
+  abbrev missing : Conditions
+  missing = lost_since old new (named_sound a.register.record)
+
+  log_left : LostLog old new a.log.members → (n : ℕ) → n < 2 → missing (nvram n) ≡ Sound → ⊥
+  log_left lost n lt s =
+      let was = sound_since (has_risen (old.disk (nvram n)).write_faults (new.disk (nvram n)).write_faults) (named_sound a.register.record (nvram n)) s in
+      let mem : nv.IsMember a.log.members n = subst (λ (l : List Bool). nv.IsMember l n) o.nvrams_are (by.is_named (names a.register.record (nvram n)) was.0) in
+      risen_on_way (old.disk (nvram n)).write_faults (old.disk (nvram n)).write_faults (new.disk (nvram n)).write_faults (new.disk (nvram n)).write_faults (omega arith) (lost n lt mem) (omega arith) was.1
+
+  drives_left : LostDrives old new a.register → ⊥
+  drives_left lost =
+      let few : old.drives ≤ set_count lost.left + 2 = few_lack (geometry_of old) missing lost.left bears (λ i lt s.
+      let was = sound_since (has_risen (old.disk (drive i)).write_faults (new.disk (drive i)).write_faults) (named_sound a.register.record (drive i)) s in
+      elim (lost.dropped i (o.in_force.sound i lt was.0)) [
+        | inl is ↦ is
+        | inr rose ↦ absurd (risen_on_way (old.disk (drive i)).write_faults (old.disk (drive i)).write_faults (new.disk (drive i)).write_faults (new.disk (drive i)).write_faults (omega arith) rose.write_faults (omega arith) was.1)
+      ]) in
+      omega (arith, few, lost.too_few, o.logged.is_of.lawful.slots)
+
+  pub not_lost : IsLost old new a → ⊥
+  not_lost (inl log) = elim (one_left (missing (nvram 0)) (missing (nvram 1)) bears.nvrams) [
+    | inl s ↦ log_left log 0 (omega arith) s
+    | inr s ↦ log_left log 1 (omega arith) s
+  ]
+  not_lost (inr drives) = drives_left drives
+
+-- where no member of the log is left, each lost a write
+pub lost_log : (old new : Shelved) (was now : List Bool) → nv.DroppedFailed old new was now → (nv.IsSome now → ⊥) → LostLog old new was
+lost_log old new was now dropped none zero lt mem = elim (dropped 0 lt mem) [ inl is ↦ absurd (none (inl is)) | inr rose ↦ rose ]
+lost_log old new was now dropped none (suc zero) lt mem = elim (dropped 1 lt mem) [ inl is ↦ absurd (none (inr is)) | inr rose ↦ rose ]
+lost_log old new was now dropped none (suc (suc n)) lt mem = absurd (omega (arith, lt))
+
+-- where no record was stored, more than two drives aren't left
+pub lost_drives : (old mid new : Shelved) (was now : Register) → ((i : ℕ) → mid.disk (drive i) ≡ old.disk (drive i)) → IsRegisterOf (geometry_of mid) was → was.record.generation < 2 ^ 48 - 2 ^ 24
+    → DroppedFailed mid new (drives_of was) (drives_of now) → IsLaterRecord was.record now.record → now.record.generation + set_count now.drives ≤ was.record.generation + set_count was.drives
+    → (e : StoreFault) → IsFaultOf now e → LostDrives old new was
+lost_drives old mid new was now same is room dropped later lost (TooFew left) fault = record {
+  left = drives_of now;
+  dropped = λ i mem. elim (dropped i mem) [
+    | inl is ↦ inl is
+    | inr rose ↦ inr (subst (λ (d : Disk). LostWrites d (new.disk (drive i))) (same i) rose)
+  ];
+  too_few =
+      let slots : now.record.slots ≡ was.record.slots = ap (λ (b : BootRecord). b.slots) later.rest in
+      let fewer : set_count (drives_of now) ≤ set_count now.drives = fewer_count (drives_of now) now.drives (λ i mem. in_cut now.drives now.record.slots i mem) in
+      omega (arith, slots, fewer, fault.1);
+}
+lost_drives old mid new was now same is room dropped later lost Spent fault =
+    let fewer : set_count was.drives ≤ set_count was.record.members.drives = fewer_count was.drives was.record.members.drives is.named in
+    let most : set_count was.record.members.drives ≤ length was.record.members.drives = count_by-le-length (λ (b : Bool). b) was.record.members.drives in
+    absurd (omega (arith, fewer, most, is.lawful.lawful.members.drive_flags, fault.1, lost, room))
+
+-- what an error says
+pub on_err : {T E : Type 0} (r : Result T E) {P Q : E → Type 0} → ((e : E) → P e → Q e) → IfErr r P → IfErr r Q
+on_err (Ok x) f p = tt
+on_err (Err e) f p = f e p
+
+-- three clauses on Ok
+pub on_all_ok : {T E A B C D : Type 0} (r : Result T E) → OnOk r A → OnOk r B → OnOk r C → (A → B → C → D) → OnOk r D
+on_all_ok (Ok x) a b c f = f a b c
+on_all_ok (Err e) a b c f = tt

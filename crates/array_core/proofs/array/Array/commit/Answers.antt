@@ -1,0 +1,142 @@
+use Rattle.std.proofs.Common.{◌≡◌, ◌∙◌, sym, ap, subst, refl, arith, inr, ℕ, ◌+◌, ◌-◌, ◌^◌, ◌<◌, ◌++◌, ◌∷◌, [], List, Bool, Result, Ok, Err, IfErr}
+use Rattle.std.proofs.lemmas.Result.{err_from_is_err_and}
+use Rattle.pur_base.specs.Commands.{Command, AllAccepted}
+use Rattle.pur_base.specs.Devices.{Conditions, Geometry}
+use Rattle.pur_base.specs.Plain as plain
+use Rattle.boot_codec.specs.declared.record.BootRecord.{BootRecord}
+use Rattle.world.specs.Losing.{geometry_of}
+use Rattle.world.specs.Shelf.{LeavesOnly}
+use Rattle.world.proofs.Moments.{continues_trans}
+use Rattle.boot_region.specs.Storing.{StandsBut}
+use Rattle.nvram_log.specs.Held.{HoldsOn}
+use Rattle.register.specs.Registers.{IsRegisterOf, drives_of, next_slot}
+use Rattle.register.specs.Standing.{IsOpen, MayStore, StandsInLog}
+use Rattle.register.proofs.FlagLemmas.{same_flags}
+use Rattle.array_core.specs.declared.perform.PerformFault.{PerformFault}
+use Rattle.array_core.specs.declared.perform.PerformFault.TheVariants.{Device}
+use Rattle.array_core.specs.Performing.{IsLost}
+use Rattle.array_core.proofs.Losses.{same_geometry}
+use Rattle.array_core.proofs.Lost.{lost_drives}
+use Rattle.array_core.proofs.Appended.{appending, was_held, append_moments, still_open, logged, all_moments}
+use Rattle.array_core.proofs.array.Array.commit.Goals as goal
+
+pub returns-in_err-append-clause-any_moment : goal.returns-in_err-append-clause-any_moment
+returns-in_err-append-clause-any_moment g c h cmds o keeps accepted =
+    let a = g.S.Shelf.shelf c.args.shelf.now in
+    let m = g.S.Shelf.shelf c.append.new.shelf in
+    let r = c.args.self.now.register in
+    let log = c.args.self.now.log in
+    let now = c.append.new.self.members in
+    let cmd : Command = record { request = c.args.request.now; sectors = c.args.sectors.now } in
+    let x = c.append.ensures in
+    let p = appending a m r log now cmds cmd (g.met.S.Shelf.is_shelf c.args.shelf.now) (g.met.S.Shelf.is_shelf c.append.new.shelf) h x.continues o keeps c.requires.not_spent c.requires.room c.requires.is_of.flushed accepted
+    x.drives x.fewer x.dropped (x.any_moment h cmds keeps (was_held r log c.requires.is_of.flushed o)) (x.writes h) (x.spelled 0 _ refl) in
+    append_moments a m r log.members now cmds cmd p
+
+pub returns-then-eq-clause-any_moment : goal.returns-then-eq-clause-any_moment
+returns-then-eq-clause-any_moment g c h cmds o keeps accepted =
+    let a = g.S.Shelf.shelf c.args.shelf.now in
+    let m = g.S.Shelf.shelf c.append.new.shelf in
+    let r = c.args.self.now.register in
+    let log = c.args.self.now.log in
+    let now = c.append.new.self.members in
+    let cmd : Command = record { request = c.args.request.now; sectors = c.args.sectors.now } in
+    let x = c.append.ensures in
+    let p = appending a m r log now cmds cmd (g.met.S.Shelf.is_shelf c.args.shelf.now) (g.met.S.Shelf.is_shelf c.append.new.shelf) h x.continues o keeps c.requires.not_spent c.requires.room c.requires.is_of.flushed accepted
+    x.drives x.fewer x.dropped (x.any_moment h cmds keeps (was_held r log c.requires.is_of.flushed o)) (x.writes h) (x.spelled 0 _ refl) in
+    append_moments a m r log.members now cmds cmd p
+
+pub returns-then-eq-clause-held : goal.returns-then-eq-clause-held
+returns-then-eq-clause-held g c h cmds o keeps accepted =
+    let a = g.S.Shelf.shelf c.args.shelf.now in
+    let m = g.S.Shelf.shelf c.append.new.shelf in
+    let r = c.args.self.now.register in
+    let log = c.args.self.now.log in
+    let now = c.append.new.self.members in
+    let cmd : Command = record { request = c.args.request.now; sectors = c.args.sectors.now } in
+    let x = c.append.ensures in
+    let held = was_held r log c.requires.is_of.flushed o in
+    let p = appending a m r log now cmds cmd (g.met.S.Shelf.is_shelf c.args.shelf.now) (g.met.S.Shelf.is_shelf c.append.new.shelf) h x.continues o keeps c.requires.not_spent c.requires.room c.requires.is_of.flushed accepted
+    x.drives x.fewer x.dropped (x.any_moment h cmds keeps held) (x.writes h) (x.spelled 0 _ refl) in
+    let holds : HoldsOn m now r.record.flushed (cmds ++ cmd ∷ []) = subst (λ (f : ℕ). HoldsOn m now f (cmds ++ cmd ∷ [])) (x.flushed ∙ c.requires.is_of.flushed) (c.in_ok-append.ensures.holds h cmds keeps held) in
+    let named : r.record.members.nvrams ≡ now =
+    sym (ap (λ (b : BootRecord). b.members.nvrams) c.record.ensures) ∙ sym (same_flags c.members-members.result c.record.result.now.members.nvrams c.if-eq.ensures) ∙ c.members-members.ensures in
+    still_open a m r log.members now cmds cmd p holds c.in_ok-append.ensures.ok.1 named
+
+pub returns-in_err-store-clause-continues : goal.returns-in_err-store-clause-continues
+returns-in_err-store-clause-continues g c = continues_trans c.append.ensures.continues c.store.ensures.continues
+
+pub returns-clause-continues : goal.returns-clause-continues
+returns-clause-continues g c = continues_trans c.append.ensures.continues c.store.ensures.continues
+
+pub returns-clause-rest : goal.returns-clause-rest
+returns-clause-rest g c = g.met.S.Shelf.shelf_rest_stays.transitive _ _ _ c.append.ensures.rest c.store.ensures.rest
+
+pub returns-in_err-store-clause-lost : goal.returns-in_err-store-clause-lost
+returns-in_err-store-clause-lost g c =
+    let a = g.S.Shelf.shelf c.args.shelf.now in
+    let m = g.S.Shelf.shelf c.append.new.shelf in
+    let n = g.S.Shelf.shelf c.store.new.shelf in
+    let r = c.args.self.now.register in
+    let q = err_from_is_err_and c.from_residual-in_err-store.result c.from_residual-in_err-store.ensures.1 in
+    let is : IsRegisterOf (geometry_of m) r = subst (λ (k : Geometry). IsRegisterOf k r) (same_geometry c.append.ensures.continues) c.requires.is_of.of_shelf in
+    let lost : IsLost a n c.args.self.now =
+    inr (lost_drives a m n r c.store.new.self c.append.ensures.drives is c.requires.not_spent c.store.ensures.dropped c.store.ensures.later c.in_err-store.ensures.lost c.in_err-store.field-0.0 c.in_err-store.ensures.fault) in
+    subst (λ (t : Result (Unit {0}) PerformFault). IfErr t (λ e. (e ≡ Device) × IsLost a n c.args.self.now)) (sym q.1) (q.2, lost)
+
+pub returns-in_err-store-clause-any_moment : goal.returns-in_err-store-clause-any_moment
+returns-in_err-store-clause-any_moment g c h cmds o keeps accepted =
+    let a = g.S.Shelf.shelf c.args.shelf.now in
+    let m = g.S.Shelf.shelf c.append.new.shelf in
+    let n = g.S.Shelf.shelf c.store.new.shelf in
+    let r = c.args.self.now.register in
+    let log = c.args.self.now.log in
+    let now = c.append.new.self.members in
+    let cmd : Command = record { request = c.args.request.now; sectors = c.args.sectors.now } in
+    let x = c.append.ensures in
+    let held = was_held r log c.requires.is_of.flushed o in
+    let p = appending a m r log now cmds cmd (g.met.S.Shelf.is_shelf c.args.shelf.now) (g.met.S.Shelf.is_shelf c.append.new.shelf) h x.continues o keeps c.requires.not_spent c.requires.room c.requires.is_of.flushed accepted
+    x.drives x.fewer x.dropped (x.any_moment h cmds keeps held) (x.writes h) (x.spelled 0 _ refl) in
+    let holds : HoldsOn m now r.record.flushed (cmds ++ cmd ∷ []) = subst (λ (f : ℕ). HoldsOn m now f (cmds ++ cmd ∷ [])) (x.flushed ∙ c.requires.is_of.flushed) (c.in_ok-append.ensures.holds h cmds keeps held) in
+    let storing : (missing : Conditions) (k : List Command) (others : List plain.Array) → MayStore m r now missing k others → LeavesOnly m n (StandsBut m (drives_of r) missing (next_slot r.record) r.record others) =
+    subst (λ (l : List Bool). (missing : Conditions) (k : List Command) (others : List plain.Array) → MayStore m r l missing k others → LeavesOnly m n (StandsBut m (drives_of r) missing (next_slot r.record) r.record others))
+    c.members-members.ensures (c.store.ensures.any_moment (x.continues.honest h)) in
+    all_moments a m r log.members now cmds cmd p holds c.in_ok-append.ensures.ok.1 n (c.store.ensures.writes (x.continues.honest h)) storing
+
+pub returns-clause-any_moment : goal.returns-clause-any_moment
+returns-clause-any_moment g c h cmds o keeps accepted =
+    let a = g.S.Shelf.shelf c.args.shelf.now in
+    let m = g.S.Shelf.shelf c.append.new.shelf in
+    let n = g.S.Shelf.shelf c.store.new.shelf in
+    let r = c.args.self.now.register in
+    let log = c.args.self.now.log in
+    let now = c.append.new.self.members in
+    let cmd : Command = record { request = c.args.request.now; sectors = c.args.sectors.now } in
+    let x = c.append.ensures in
+    let held = was_held r log c.requires.is_of.flushed o in
+    let p = appending a m r log now cmds cmd (g.met.S.Shelf.is_shelf c.args.shelf.now) (g.met.S.Shelf.is_shelf c.append.new.shelf) h x.continues o keeps c.requires.not_spent c.requires.room c.requires.is_of.flushed accepted
+    x.drives x.fewer x.dropped (x.any_moment h cmds keeps held) (x.writes h) (x.spelled 0 _ refl) in
+    let holds : HoldsOn m now r.record.flushed (cmds ++ cmd ∷ []) = subst (λ (f : ℕ). HoldsOn m now f (cmds ++ cmd ∷ [])) (x.flushed ∙ c.requires.is_of.flushed) (c.in_ok-append.ensures.holds h cmds keeps held) in
+    let storing : (missing : Conditions) (k : List Command) (others : List plain.Array) → MayStore m r now missing k others → LeavesOnly m n (StandsBut m (drives_of r) missing (next_slot r.record) r.record others) =
+    subst (λ (l : List Bool). (missing : Conditions) (k : List Command) (others : List plain.Array) → MayStore m r l missing k others → LeavesOnly m n (StandsBut m (drives_of r) missing (next_slot r.record) r.record others))
+    c.members-members.ensures (c.store.ensures.any_moment (x.continues.honest h)) in
+    all_moments a m r log.members now cmds cmd p holds c.in_ok-append.ensures.ok.1 n (c.store.ensures.writes (x.continues.honest h)) storing
+
+pub returns-clause-held : goal.returns-clause-held
+returns-clause-held g c h cmds o keeps accepted =
+    let a = g.S.Shelf.shelf c.args.shelf.now in
+    let m = g.S.Shelf.shelf c.append.new.shelf in
+    let n = g.S.Shelf.shelf c.store.new.shelf in
+    let r = c.args.self.now.register in
+    let log = c.args.self.now.log in
+    let now = c.append.new.self.members in
+    let cmd : Command = record { request = c.args.request.now; sectors = c.args.sectors.now } in
+    let x = c.append.ensures in
+    let held = was_held r log c.requires.is_of.flushed o in
+    let p = appending a m r log now cmds cmd (g.met.S.Shelf.is_shelf c.args.shelf.now) (g.met.S.Shelf.is_shelf c.append.new.shelf) h x.continues o keeps c.requires.not_spent c.requires.room c.requires.is_of.flushed accepted
+    x.drives x.fewer x.dropped (x.any_moment h cmds keeps held) (x.writes h) (x.spelled 0 _ refl) in
+    let holds : HoldsOn m now r.record.flushed (cmds ++ cmd ∷ []) = subst (λ (f : ℕ). HoldsOn m now f (cmds ++ cmd ∷ [])) (x.flushed ∙ c.requires.is_of.flushed) (c.in_ok-append.ensures.holds h cmds keeps held) in
+    let in_log = logged a m r log.members now cmds cmd p holds c.in_ok-append.ensures.ok.1 in
+    let stored : IsOpen n c.store.new.self c.members-members.result (cmds ++ cmd ∷ []) =
+    c.in_ok-store.ensures.stored (x.continues.honest h) (cmds ++ cmd ∷ []) (subst (λ (l : List Bool). StandsInLog m r l (cmds ++ cmd ∷ [])) (sym c.members-members.ensures) in_log) in
+    subst (λ (l : List Bool). IsOpen n c.store.new.self l (cmds ++ cmd ∷ [])) c.members-members.ensures stored

@@ -1,0 +1,3 @@
+pub mod Losing
+pub mod Ready
+pub mod Performing

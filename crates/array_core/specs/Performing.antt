@@ -1,0 +1,66 @@
+-- What performing a command does to the devices.
+use Rattle.std.specs.Prelude.{◌≡◌, ◌⊎◌, ℕ, ◌+◌, ◌-◌, ◌^◌, ◌<◌, ◌≤◌, Bool, List, [], ◌∷◌, ◌++◌}
+use Rattle.pur_base.specs.Commands.{Command, after_all}
+use Rattle.pur_base.specs.Devices.{Conditions, IsBearable, nvram}
+use Rattle.pur_base.specs.Plain as plain
+use Rattle.pur_base.specs.declared.request.Request.{Request}
+use Rattle.boot_codec.specs.declared.record.BootRecord.{BootRecord}
+use Rattle.boot_codec.specs.Record.{set_count}
+use Rattle.log_codec.specs.declared.limits.TheConstants.{LOG_SLOTS}
+use Rattle.array_spec.specs.Standing.{Stands}
+use Rattle.array_model.specs.Step.{IsCreate}
+use Rattle.world.specs.Counts.{Rises}
+use Rattle.world.specs.Losing.{geometry_of}
+use Rattle.world.specs.Shelf.{Shelved, Stop}
+use Rattle.boot_region.specs.Members.{DroppedFailed}
+use Rattle.nvram_log.specs.Members.{IsMember}
+use Rattle.register.specs.declared.state.Register.{Register}
+use Rattle.register.specs.Registers.{drives_of, named_sound}
+use Rattle.array_core.specs.declared.array.Array.{Array}
+use Rattle.array_core.specs.declared.perform.PerformFault.{PerformFault}
+use Rattle.array_core.specs.declared.perform.PerformFault.TheVariants as fault
+use Rattle.array_core.specs.Losing.{lost_by}
+
+-- the arrays without the command and with it
+abbrev pub without_or_with : List Command → Command → List plain.Array
+without_or_with commands c = after_all [] commands ∷ after_all [] (commands ++ c ∷ []) ∷ []
+
+-- at a stop the devices stand for these arrays, as long as what has lost writes by then is borne
+abbrev pub StandsMeanwhile : Shelved → BootRecord → List plain.Array → Stop → Type 0
+StandsMeanwhile old boot arrays stop = IsBearable (geometry_of old) (lost_by old stop (named_sound boot)) → Stands (geometry_of old) stop.image (lost_by old stop (named_sound boot)) arrays
+
+-- each device that held the log lost a write
+abbrev pub LostLog : Shelved → Shelved → List Bool → Type 0
+LostLog old new members = (n : ℕ) → n < 2 → IsMember members n → Rises (old.disk (nvram n)).write_faults (new.disk (nvram n)).write_faults
+
+-- so many drives on which the record was in force lost a write, that more than two of the shelf aren't left
+pub record LostDrives (old new : Shelved) (r : Register) : Type 0 where
+  pub left : List Bool
+  pub dropped : DroppedFailed old new (drives_of r) left
+  pub too_few : set_count left + 2 < r.record.slots
+
+-- more devices failed than are borne
+abbrev pub IsLost : Shelved → Shelved → Array → Type 0
+IsLost old new a = LostLog old new a.log.members ⊎ LostDrives old new a.register
+
+-- the generation leaves too little room
+abbrev pub IsSpent : Array → Type 0
+IsSpent a = 2 ^ 48 - 2 ^ 24 ≤ a.register.record.generation
+
+-- no slot of the log is free
+abbrev pub IsFull : Array → Type 0
+IsFull a = a.log.count ≡ LOG_SLOTS
+
+-- why there is no room for one more command
+abbrev pub IsRoomFault : Array → PerformFault → Type 0
+IsRoomFault a fault.Spent = IsSpent a
+IsRoomFault a fault.Space = (¬ (IsSpent a)) × IsFull a
+IsRoomFault a (fault.Memory m) = ⊥
+IsRoomFault a fault.Device = ⊥
+
+-- why a command wasn't performed; but for a device fault all stays as it was
+abbrev pub IsFaultOf : Shelved → Shelved → Array → Request → Type 0 → PerformFault → Type 0
+IsFaultOf old new a r stays fault.Spent = IsSpent a × stays
+IsFaultOf old new a r stays fault.Space = (¬ (IsSpent a)) × IsFull a × stays
+IsFaultOf old new a r stays (fault.Memory m) = (¬ (IsSpent a)) × (¬ (IsFull a)) × IsCreate r × stays
+IsFaultOf old new a r stays fault.Device = (¬ (IsSpent a)) × (¬ (IsFull a)) × IsLost old new a
