@@ -44,14 +44,18 @@ module _ (old new : Shelved) (missing : Conditions) (arrays : List Array) (enter
   bad_body fault bad =
       let here = given_here old new missing arrays enters on same bears bytes answered all read start may in
       let e = one_is_effective (geometry_of old) (view old new missing arrays enters on same bears bytes answered all read start may) here.slot bad.slot _ bad.body here.effective
-          (seen_effective old new missing arrays enters on same bears bytes answered all read start may bad.slot bad.body bad.effective) in
+      (seen_effective old new missing arrays enters on same bears bytes answered all read start may bad.slot bad.body bad.effective) in
       let again : ◌≡◌ {A = Result BootRecord BadRecord} (read_record old.drives old.units bad.body) (Ok here.boot) = record_again old.drives old.units here.boot bad.body here.lawful.lawful here.lawful.slots here.lawful.units (sym e.1) in
       absurd (cc (again, bad.exact))
 
   too_few : (drives : List Bool) → TooFewHold (geometry_of old) bytes answered drives → ⊥
   too_few drives few =
-      absurd (omega (arith, few.too_few, few_lack old.drives (failed_since old new missing) drives old.units bears
-          (λ i lt sound. member_here old new missing arrays enters on same bears bytes answered all read start may few.slot few.boot drives few.held i lt sound)))
+      absurd (omega (
+        arith,
+        few.too_few,
+        few_lack old.drives (failed_since old new missing) drives old.units bears
+            (λ i lt sound. member_here old new missing arrays enters on same bears bytes answered all read start may few.slot few.boot drives few.held i lt sound),
+      ))
 
   pub no_fault : (fault : LoadFault) → IsFaultOf (geometry_of old) bytes answered fault → (fault' : Type 0) → ((m : _) → fault ≡ faults.Memory m → fault') → fault'
   no_fault (faults.Memory m) is P memory = memory m refl

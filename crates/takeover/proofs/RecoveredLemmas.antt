@@ -94,7 +94,7 @@ still_storing old mid missing arrays members slot held stop on counts stands bea
     let bears_mid : IsBearable (geometry_of mid) later = subst (λ (g : Geometry). IsBearable g later) e (subst (λ (c : Conditions). IsBearable (geometry_of old) c) (sym same) bears) in
     subst (λ (c : Conditions). Stands (geometry_of old) stop.image c arrays) same
     (subst (λ (g : Geometry). Stands g stop.image later arrays) (sym e)
-        (stands later (failed_calls mid members (failed_since old mid missing) slot (spelling held) stop.faults stop.write_faults bears_mid)))
+    (stands later (failed_calls mid members (failed_since old mid missing) slot (spelling held) stop.faults stop.write_faults bears_mid)))
 
 -- a drive of the shelf on which the record was in force is left, or lost a write
 pub left_or_lost : (old new : Shelved) (was now : Register) → was.record.slots ≡ old.drives → DroppedFailed old new (drives_of was) (drives_of now) → (i : ℕ) → i < old.drives → IsMember was.drives i

@@ -68,7 +68,7 @@ still_on old mid missing arrays stop on counts stands bears =
     let e : geometry_of old ≡ geometry_of mid = same_geometry on in
     subst (λ (c : Conditions). Stands (geometry_of old) stop.image c arrays) same
     (subst (λ (g : Geometry). Stands g stop.image (failed_by mid stop (failed_since old mid missing)) arrays) (sym e)
-        (stands (subst (λ (g : Geometry). IsBearable g (failed_by mid stop (failed_since old mid missing))) e (subst (λ (c : Conditions). IsBearable (geometry_of old) c) (sym same) bears))))
+    (stands (subst (λ (g : Geometry). IsBearable g (failed_by mid stop (failed_since old mid missing))) e (subst (λ (c : Conditions). IsBearable (geometry_of old) c) (sym same) bears))))
 
 -- nothing is owed once more is missing than is borne
 pub none_owed : (old mid : Shelved) (missing : Conditions) (arrays : List Array) (stop : Stop) → IsCountedBy mid stop → (IsBearable (geometry_of old) (failed_since old mid missing) → ⊥) → StandsStill old missing arrays stop

@@ -71,9 +71,9 @@ returns-then-count_set-drives-clause-found g c h missing arrays enters bears =
     let unflushed : x.record.patches ≡ [] = none x.record.patches (omega (arith, c.len.ensures, c.if-len-ne0.false)) in
     let settled : (later : Conditions) → IsBearable (geometry_of a) (failed_since a b missing) → TellsFailed b x.drives (failed_since a b missing) (λ d. (n.disk d).faults) later → IsInForceOn n y.drives later (other_slot (slot_in y.slot)) y.record =
     λ later bears_mid tells.
-        let two = both a b missing arrays x enters c.load.ensures.continues (g.met.S.Shelf.is_shelf c.args.shelf.now) (g.met.S.Shelf.is_shelf c.load.new.shelf) h (c.load.ensures.same h) by may bears_mid in
-        c.settle_loaded.ensures.settled (c.load.ensures.continues.honest h) (failed_since a b missing) arrays two.0 two.1
-        (λ i m. below_slots a b missing arrays x enters c.load.ensures.continues (g.met.S.Shelf.is_shelf c.args.shelf.now) (g.met.S.Shelf.is_shelf c.load.new.shelf) h (c.load.ensures.same h) by may bears_mid i (fewer i m)) later tells in
+    let two = both a b missing arrays x enters c.load.ensures.continues (g.met.S.Shelf.is_shelf c.args.shelf.now) (g.met.S.Shelf.is_shelf c.load.new.shelf) h (c.load.ensures.same h) by may bears_mid in
+    c.settle_loaded.ensures.settled (c.load.ensures.continues.honest h) (failed_since a b missing) arrays two.0 two.1
+    (λ i m. below_slots a b missing arrays x enters c.load.ensures.continues (g.met.S.Shelf.is_shelf c.args.shelf.now) (g.met.S.Shelf.is_shelf c.load.new.shelf) h (c.load.ensures.same h) by may bears_mid i (fewer i m)) later tells in
     let is : IsFoundOn n y (failed_since a n missing) arrays =
     found_on a b missing arrays x enters c.load.ensures.continues (g.met.S.Shelf.is_shelf c.args.shelf.now) (g.met.S.Shelf.is_shelf c.load.new.shelf) h (c.load.ensures.same h) by may
     n y c.settle_loaded.ensures.continues (g.met.S.Shelf.is_shelf c.settle_loaded.new.shelf) c.settle_loaded.ensures.record.0 c.settle_loaded.ensures.record.1 fewer
@@ -107,9 +107,9 @@ returns-clause-found g c h missing arrays enters bears =
     let unflushed : x.record.patches ≡ [] = none x.record.patches (omega (arith, c.len.ensures, c.if-len-ne0.false)) in
     let settled : (later : Conditions) → IsBearable (geometry_of a) (failed_since a b missing) → TellsFailed b x.drives (failed_since a b missing) (λ d. (n.disk d).faults) later → IsInForceOn n y.drives later (other_slot (slot_in y.slot)) y.record =
     λ later bears_mid tells.
-        let two = both a b missing arrays x enters c.load.ensures.continues (g.met.S.Shelf.is_shelf c.args.shelf.now) (g.met.S.Shelf.is_shelf c.load.new.shelf) h (c.load.ensures.same h) by may bears_mid in
-        c.settle_loaded.ensures.settled (c.load.ensures.continues.honest h) (failed_since a b missing) arrays two.0 two.1
-        (λ i m. below_slots a b missing arrays x enters c.load.ensures.continues (g.met.S.Shelf.is_shelf c.args.shelf.now) (g.met.S.Shelf.is_shelf c.load.new.shelf) h (c.load.ensures.same h) by may bears_mid i (fewer i m)) later tells in
+    let two = both a b missing arrays x enters c.load.ensures.continues (g.met.S.Shelf.is_shelf c.args.shelf.now) (g.met.S.Shelf.is_shelf c.load.new.shelf) h (c.load.ensures.same h) by may bears_mid in
+    c.settle_loaded.ensures.settled (c.load.ensures.continues.honest h) (failed_since a b missing) arrays two.0 two.1
+    (λ i m. below_slots a b missing arrays x enters c.load.ensures.continues (g.met.S.Shelf.is_shelf c.args.shelf.now) (g.met.S.Shelf.is_shelf c.load.new.shelf) h (c.load.ensures.same h) by may bears_mid i (fewer i m)) later tells in
     let is : IsFoundOn n y (failed_since a n missing) arrays =
     found_on a b missing arrays x enters c.load.ensures.continues (g.met.S.Shelf.is_shelf c.args.shelf.now) (g.met.S.Shelf.is_shelf c.load.new.shelf) h (c.load.ensures.same h) by may
     n y c.settle_loaded.ensures.continues (g.met.S.Shelf.is_shelf c.settle_loaded.new.shelf) c.settle_loaded.ensures.record.0 c.settle_loaded.ensures.record.1 fewer

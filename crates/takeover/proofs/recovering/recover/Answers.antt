@@ -71,8 +71,8 @@ returns-in_err-opened-clause-recovered g c h missing arrays enters bears =
     let first = c.find_record.ensures.any_moment h missing arrays enters in
     let e = c.in_err-opened.field-0.0 in
     let by : IsLogOpenBy n x (failed_since a n missing) arrays (Err e) = subst (λ (r : Result OpenedLog LogFault). IsLogOpenBy n x (failed_since a n missing) arrays r) c.in_err-opened.was
-        (log_opened a b n missing arrays x c.find_record.ensures.continues c.open_log.ensures.continues first found c.open_log.result
-        (λ is bears_then. c.open_log.ensures.opened h_b x (failed_since a b missing) arrays refl refl is bears_then) bears) in
+    (log_opened a b n missing arrays x c.find_record.ensures.continues c.open_log.ensures.continues first found c.open_log.result
+    (λ is bears_then. c.open_log.ensures.opened h_b x (failed_since a b missing) arrays refl refl is bears_then) bears) in
     let p = err_from_is_err_and c.from_residual-in_err-opened.result c.from_residual-in_err-opened.ensures.1 in
     let named : IsRecoveredBy n (failed_since a n missing) arrays (Err p.0) = subst (λ (f : OpenFault). IsRecoveredBy n (failed_since a n missing) arrays (Err f)) (sym p.2) (not_opened n x (failed_since a n missing) arrays e by) in
     subst (λ r. IsRecoveredBy n (failed_since a n missing) arrays r) (sym p.1) named
@@ -100,8 +100,8 @@ returns-in_err-store-clause-any_moment g c h missing arrays enters =
     let was = c.in_ok-register.register in
     let opened : IsBearable (geometry_of a) (failed_since a n missing) → IsLogOpen n x (failed_since a n missing) arrays o =
     λ bears_opened. subst (λ (r : Result OpenedLog LogFault). IsLogOpenBy n x (failed_since a n missing) arrays r) c.in_ok-opened.was
-        (log_opened a b n missing arrays x c.find_record.ensures.continues c.open_log.ensures.continues first found c.open_log.result
-        (λ is bears_then. c.open_log.ensures.opened h_b x (failed_since a b missing) arrays refl refl is bears_then) bears_opened) in
+    (log_opened a b n missing arrays x c.find_record.ensures.continues c.open_log.ensures.continues first found c.open_log.result
+    (λ is bears_then. c.open_log.ensures.opened h_b x (failed_since a b missing) arrays refl refl is bears_then) bears_opened) in
     let made : (was.record ≡ x.record) × (was.drives ≡ x.drives) = subst (λ (r : Result Register NoMemory). IfOk r (λ y. (y.record ≡ x.record) × (y.drives ≡ x.drives))) c.in_ok-register.was c.new.ensures in
     let lawful : IsLawfulLoad (geometry_of b) x = subst (λ (r : Result Loaded OpenFault). IfOk r (IsLawfulLoad (geometry_of b))) c.in_ok-loaded.was c.find_record.ensures.lawful in
     let is_of : IsRegisterOf (geometry_of n) was = record {
@@ -130,8 +130,8 @@ returns-in_err-store-clause-recovered g c h missing arrays enters bears =
     let was = c.in_ok-register.register in
     let opened : IsBearable (geometry_of a) (failed_since a n missing) → IsLogOpen n x (failed_since a n missing) arrays o =
     λ bears_opened. subst (λ (r : Result OpenedLog LogFault). IsLogOpenBy n x (failed_since a n missing) arrays r) c.in_ok-opened.was
-        (log_opened a b n missing arrays x c.find_record.ensures.continues c.open_log.ensures.continues first found c.open_log.result
-        (λ is bears_then. c.open_log.ensures.opened h_b x (failed_since a b missing) arrays refl refl is bears_then) bears_opened) in
+    (log_opened a b n missing arrays x c.find_record.ensures.continues c.open_log.ensures.continues first found c.open_log.result
+    (λ is bears_then. c.open_log.ensures.opened h_b x (failed_since a b missing) arrays refl refl is bears_then) bears_opened) in
     let made : (was.record ≡ x.record) × (was.drives ≡ x.drives) = subst (λ (r : Result Register NoMemory). IfOk r (λ y. (y.record ≡ x.record) × (y.drives ≡ x.drives))) c.in_ok-register.was c.new.ensures in
     let lawful : IsLawfulLoad (geometry_of b) x = subst (λ (r : Result Loaded OpenFault). IfOk r (IsLawfulLoad (geometry_of b))) c.in_ok-loaded.was c.find_record.ensures.lawful in
     let is_of : IsRegisterOf (geometry_of n) was = record {
@@ -146,8 +146,8 @@ returns-in_err-store-clause-recovered g c h missing arrays enters bears =
     let lost : c.store.new.self.record.generation + set_count c.store.new.self.drives ≤ was.record.generation + set_count was.drives =
     subst (λ (r : Result (Unit {0}) StoreFault). OnErr r (c.store.new.self.record.generation + set_count c.store.new.self.drives ≤ was.record.generation + set_count was.drives)) c.in_err-store.was c.store.ensures.lost in
     absurd (no_store_fault a n s missing arrays x o was on_n c.store.ensures.continues first_two opened is_of made.0 made.1 bears c.store.new.self c.store.ensures.dropped c.store.ensures.later
-        c.in_err-store.field-0.0 fault (subst (λ (r : BootRecord). r.generation < 2 ^ 48 - 16) (sym made.0) is_found.room) lost
-        (count_below was.drives was.record.slots (λ i m. elim (cases_lt i was.record.slots) [ inl lt ↦ lt | inr ge ↦ absurd (none_past was.record.members.drives was.record.slots i is_of.lawful.lawful.members.within ge (is_of.named i m)) ])))
+    c.in_err-store.field-0.0 fault (subst (λ (r : BootRecord). r.generation < 2 ^ 48 - 16) (sym made.0) is_found.room) lost
+    (count_below was.drives was.record.slots (λ i m. elim (cases_lt i was.record.slots) [ inl lt ↦ lt | inr ge ↦ absurd (none_past was.record.members.drives was.record.slots i is_of.lawful.lawful.members.within ge (is_of.named i m)) ])))
 
 pub returns-clause-continues : goal.returns-clause-continues
 returns-clause-continues g c = continues_trans (continues_trans c.find_record.ensures.continues c.open_log.ensures.continues) c.store.ensures.continues
@@ -172,8 +172,8 @@ returns-clause-any_moment g c h missing arrays enters =
     let was = c.in_ok-register.register in
     let opened : IsBearable (geometry_of a) (failed_since a n missing) → IsLogOpen n x (failed_since a n missing) arrays o =
     λ bears_opened. subst (λ (r : Result OpenedLog LogFault). IsLogOpenBy n x (failed_since a n missing) arrays r) c.in_ok-opened.was
-        (log_opened a b n missing arrays x c.find_record.ensures.continues c.open_log.ensures.continues first found c.open_log.result
-        (λ is bears_then. c.open_log.ensures.opened h_b x (failed_since a b missing) arrays refl refl is bears_then) bears_opened) in
+    (log_opened a b n missing arrays x c.find_record.ensures.continues c.open_log.ensures.continues first found c.open_log.result
+    (λ is bears_then. c.open_log.ensures.opened h_b x (failed_since a b missing) arrays refl refl is bears_then) bears_opened) in
     let made : (was.record ≡ x.record) × (was.drives ≡ x.drives) = subst (λ (r : Result Register NoMemory). IfOk r (λ y. (y.record ≡ x.record) × (y.drives ≡ x.drives))) c.in_ok-register.was c.new.ensures in
     let lawful : IsLawfulLoad (geometry_of b) x = subst (λ (r : Result Loaded OpenFault). IfOk r (IsLawfulLoad (geometry_of b))) c.in_ok-loaded.was c.find_record.ensures.lawful in
     let is_of : IsRegisterOf (geometry_of n) was = record {
@@ -202,8 +202,8 @@ returns-clause-recovered g c h missing arrays enters bears =
     let was = c.in_ok-register.register in
     let opened : IsBearable (geometry_of a) (failed_since a n missing) → IsLogOpen n x (failed_since a n missing) arrays o =
     λ bears_opened. subst (λ (r : Result OpenedLog LogFault). IsLogOpenBy n x (failed_since a n missing) arrays r) c.in_ok-opened.was
-        (log_opened a b n missing arrays x c.find_record.ensures.continues c.open_log.ensures.continues first found c.open_log.result
-        (λ is bears_then. c.open_log.ensures.opened h_b x (failed_since a b missing) arrays refl refl is bears_then) bears_opened) in
+    (log_opened a b n missing arrays x c.find_record.ensures.continues c.open_log.ensures.continues first found c.open_log.result
+    (λ is bears_then. c.open_log.ensures.opened h_b x (failed_since a b missing) arrays refl refl is bears_then) bears_opened) in
     let made : (was.record ≡ x.record) × (was.drives ≡ x.drives) = subst (λ (r : Result Register NoMemory). IfOk r (λ y. (y.record ≡ x.record) × (y.drives ≡ x.drives))) c.in_ok-register.was c.new.ensures in
     let lawful : IsLawfulLoad (geometry_of b) x = subst (λ (r : Result Loaded OpenFault). IfOk r (IsLawfulLoad (geometry_of b))) c.in_ok-loaded.was c.find_record.ensures.lawful in
     let is_of : IsRegisterOf (geometry_of n) was = record {
