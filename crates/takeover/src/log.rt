@@ -133,6 +133,7 @@ pub fn open_log<S: Shelf>(
     ensures rest { S.shelf_rest shelf.old shelf.new }
     ensures writes { (S.shelf shelf.old).honest → WritesOnly (OnMembers nvrams) (S.shelf shelf.old) (S.shelf shelf.new) }
     ensures drives { (i : ℕ) → (S.shelf shelf.new).disk (drive i) ≡ (S.shelf shelf.old).disk (drive i) }
+    ensures flushed { IfOk result (λ o. o.log.flushed ≡ flushed) }
     ensures members { IfOk result (λ o. IsFewer nvrams o.log.members × IsSome o.log.members) }
     ensures err { IfErr result (λ fault. IsLogFault fault (S.shelf shelf.old) (S.shelf shelf.new) nvrams flushed) }
     // At every moment the devices stand for the arrays for which they stood.

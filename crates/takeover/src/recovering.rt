@@ -4,6 +4,7 @@ ghost use Rattle.pur_base.specs.Devices.{Conditions, IsBearable};
 ghost use Rattle.pur_base.specs.Plain.{Array};
 ghost use Rattle.world.specs.Losing.{geometry_of};
 ghost use Rattle.world.specs.Shelf.{Continues, LeavesOnly};
+ghost use Rattle.register.specs.Registers.{IsRegisterOf};
 ghost use Rattle.takeover.specs.Entering.{Enters, StandsStill, failed_since};
 ghost use Rattle.takeover.specs.Recovered.{IsRecoveredBy};
 
@@ -28,6 +29,9 @@ pub struct Recovered {
 pub fn recover<S: Shelf>(alloc: Global, shelf: &mut S) -> Result<Recovered, OpenFault>
     ensures continues { Continues (S.shelf shelf.old) (S.shelf shelf.new) }
     ensures rest { S.shelf_rest shelf.old shelf.new }
+    // The record is one of the shelf's, and the log follows on what it has flushed.
+    ensures is_of { IfOk result (λ r. IsRegisterOf (geometry_of (S.shelf shelf.new)) r.register) }
+    ensures flushed { IfOk result (λ r. r.log.flushed ≡ r.register.record.flushed) }
     // At every moment the devices stand for the arrays for which they stood.
     ensures any_moment { (S.shelf shelf.old).honest → (missing : Conditions) (arrays : List Array) → Enters (S.shelf shelf.old) missing arrays
         → LeavesOnly (S.shelf shelf.old) (S.shelf shelf.new) (StandsStill (S.shelf shelf.old) missing arrays) }

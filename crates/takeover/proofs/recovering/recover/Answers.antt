@@ -218,3 +218,10 @@ returns-clause-recovered g c h missing arrays enters bears =
     subst (λ (r : Result (Unit {0}) StoreFault). OnOk r (IsOpen s c.store.new.self c.members.result is.commands)) c.in_ok-store.was (c.store.ensures.stored h_n is.commands logged) in
     recovered a n s missing arrays x o was on_n c.store.ensures.continues first_two opened is_of made.0 made.1 bears c.store.new.self c.store.ensures.dropped c.store.ensures.later
     (subst (λ (l : List Bool). IsOpen s c.store.new.self l is.commands) c.members.ensures stored)
+
+pub returns-clause-flushed : goal.returns-clause-flushed
+returns-clause-flushed g c =
+    let x = c.in_ok-loaded.loaded in
+    let was = c.in_ok-register.register in
+    let made : (was.record ≡ x.record) × (was.drives ≡ x.drives) = subst (λ (r : Result Register NoMemory). IfOk r (λ y. (y.record ≡ x.record) × (y.drives ≡ x.drives))) c.in_ok-register.was c.new.ensures in
+    c.in_ok-opened.ensures.flushed ∙ ap (λ (r : BootRecord). r.flushed) (sym made.0) ∙ ap (λ (r : BootRecord). r.flushed) (sym c.store.ensures.later.rest)
