@@ -3,3 +3,4 @@ pub mod ReplyLemmas
 pub mod SessionLemmas
 pub mod WholeLemmas
 pub mod AckedOutputLemmas
+pub mod MadeLemmas

@@ -2,3 +2,4 @@ pub mod PlainSteps
 pub mod Answering
 pub mod Serving
 pub mod Whole
+pub mod Made

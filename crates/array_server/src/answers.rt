@@ -15,7 +15,7 @@ use request_codec::{Item, ReplyWriter};
 use world::{Failed, Sink};
 
 /// Gives a reply of one line, or of sectors behind a line.
-fn give<K: Sink>(
+pub fn give<K: Sink>(
     writer: &mut ReplyWriter,
     reply: &Reply,
     sectors: &[Sector],
