@@ -15,7 +15,7 @@ use Rattle.world.specs.Shelf.{Stop}
 use Rattle.world.specs.Losing.{has_risen, has_lost_writes, losing, IsLater}
 use Rattle.array_spec.specs.Runs.{Step, IsModelled, IsPhysical, IsBarred}
 use Rattle.array_spec.proofs.Standings.{within_twice}
-use Rattle.session_spec.specs.Faring.{Point, Fares, Serves, Answers, AnswersRequest, AnswersAccepted, IsRefused, IsDone, IsFailed, IfRoom, is_full}
+use Rattle.session_spec.specs.Faring.{Point, Fares, Serves, Answers, AnswersRequest, AnswersAccepted, IsRefused, IsDone, IsFailed, Where, WithRoom, is_spent, is_full}
 use Rattle.session_spec.specs.Chain.{FaresRun, ClaimsHaveCauses, NoneComesBack, WasBorne, HaltsHaveCauses}
 use Rattle.session_spec.proofs.Conditions.{goes, unlost, borne_before, stays_so}
 
@@ -33,8 +33,8 @@ physical from to why r sectors q none is h = rw h.reply (inr (inr (none, is), h.
 failed : (shelf : Geometry) (lost : Device → Bool) (from to : Point) (r : Request) (sectors : List (List ℕ)) (q : Answer) → refusal from.array r ≡ None → IsFailed shelf lost from q to → Step from.array (Asked r sectors) q to.array
 failed shelf lost from to r sectors q none h = rw h.reply (inr (inr (none, tt), h.array))
 
-modelled : (slots : ℕ) (from to : Point) (r : Request) (sectors : List (List ℕ)) (q : Answer) → refusal from.array r ≡ None → IsModelled r → IsDone slots from r sectors q to → Step from.array (Asked r sectors) q to.array
-modelled slots from to r sectors q none is h = inl (
+modelled : (slots : ℕ) (lost : Device → Bool) (from to : Point) (r : Request) (sectors : List (List ℕ)) (q : Answer) → refusal from.array r ≡ None → IsModelled r → IsDone slots lost from r sectors q to → Step from.array (Asked r sectors) q to.array
+modelled slots lost from to r sectors q none is h = inl (
   inl is,
   h.reply ∙ ap (λ (w : Option Refusal). answer_unless w (given from.array r)) (sym none),
   h.array ∙ ap (λ (w : Option Refusal). after_unless w from.array (done from.array r sectors)) (sym none),
@@ -47,31 +47,34 @@ by_model from to why r sectors q is h = inl (
   h.array ∙ ap (λ (w : Option Refusal). after_unless w from.array (done from.array r sectors)) (sym is),
 )
 
+either : (is : Bool) {one other : Type 0} {P : Type 0} → (one → P) → (other → P) → Where is one other → P
+either true f g h = f h
+either false f g h = g h
+
 -- with room or without
-in_room : (full : Bool) {none some : Type 0} {P : Type 0} → (none → P) → (some → P) → IfRoom full none some → P
-in_room true f g h = f h
-in_room false f g h = g h
+in_room : (from to : Point) (q : Answer) {some : Type 0} {P : Type 0} → (IsRefused refusals.Spent from q to → P) → (IsRefused refusals.Space from q to → P) → (some → P) → WithRoom from q to some → P
+in_room from to q f g h w = either (is_spent from) f (either (is_full from) g h) w
 
 accepted : (shelf : Geometry) (lost : Device → Bool) (from to : Point) (r : Request) (sectors : List (List ℕ)) (q : Answer) → refusal from.array r ≡ None
     → AnswersAccepted shelf lost from r sectors q to → Step from.array (Asked r sectors) q to.array
-accepted shelf lost from to (request.Create n size) sectors q none h = in_room (is_full from) (physical from to refusals.Space (request.Create n size) sectors q none tt)
+accepted shelf lost from to (request.Create n size) sectors q none h = in_room from to q (physical from to refusals.Spent (request.Create n size) sectors q none tt) (physical from to refusals.Space (request.Create n size) sectors q none tt)
     (λ s. elim s [
-      | inl d ↦ modelled 1 from to (request.Create n size) sectors q none tt d
+      | inl d ↦ modelled 1 lost from to (request.Create n size) sectors q none tt d
       | inr (inl m) ↦ physical from to refusals.Memory (request.Create n size) sectors q none tt m
       | inr (inr f) ↦ failed shelf lost from to (request.Create n size) sectors q none f
     ]) h
-accepted shelf lost from to (request.Write n lba count) sectors q none h = in_room (is_full from) (physical from to refusals.Space (request.Write n lba count) sectors q none tt)
+accepted shelf lost from to (request.Write n lba count) sectors q none h = in_room from to q (physical from to refusals.Spent (request.Write n lba count) sectors q none tt) (physical from to refusals.Space (request.Write n lba count) sectors q none tt)
     (λ s. elim s [
-      | inl d ↦ modelled 1 from to (request.Write n lba count) sectors q none tt d
+      | inl d ↦ modelled 1 lost from to (request.Write n lba count) sectors q none tt d
       | inr f ↦ failed shelf lost from to (request.Write n lba count) sectors q none f
     ]) h
-accepted shelf lost from to (request.Fill n lba count byte) sectors q none h = in_room (is_full from) (physical from to refusals.Space (request.Fill n lba count byte) sectors q none tt)
+accepted shelf lost from to (request.Fill n lba count byte) sectors q none h = in_room from to q (physical from to refusals.Spent (request.Fill n lba count byte) sectors q none tt) (physical from to refusals.Space (request.Fill n lba count byte) sectors q none tt)
     (λ s. elim s [
-      | inl d ↦ modelled 1 from to (request.Fill n lba count byte) sectors q none tt d
+      | inl d ↦ modelled 1 lost from to (request.Fill n lba count byte) sectors q none tt d
       | inr f ↦ failed shelf lost from to (request.Fill n lba count byte) sectors q none f
     ]) h
-accepted shelf lost from to (request.Read n lba count) sectors q none h = modelled 0 from to (request.Read n lba count) sectors q none tt h
-accepted shelf lost from to request.List sectors q none h = modelled 0 from to request.List sectors q none tt h
+accepted shelf lost from to (request.Read n lba count) sectors q none h = modelled 0 lost from to (request.Read n lba count) sectors q none tt h
+accepted shelf lost from to request.List sectors q none h = modelled 0 lost from to request.List sectors q none tt h
 accepted shelf lost from to _ sectors q none h = absurd h
 
 requested : (halted : Bool) (why : Option Refusal) (shelf : Geometry) (lost : Device → Bool) (from to : Point) (r : Request) (sectors : List (List ℕ)) (q : Answer)
@@ -155,10 +158,10 @@ HaltedBy shelf lost from to = (to.halted ≡ from.halted) ⊎ (¬ (IsBearable sh
 
 accepted_halts : (shelf : Geometry) (lost : Device → Bool) (from to : Point) (r : Request) (sectors : List (List ℕ)) (q : Answer) → AnswersAccepted shelf lost from r sectors q to → HaltedBy shelf lost from to
 unfolding HaltedBy
-accepted_halts shelf lost from to (request.Create n size) sectors q h = in_room (is_full from) (λ s. inl s.halted)
+accepted_halts shelf lost from to (request.Create n size) sectors q h = in_room from to q (λ s. inl s.halted) (λ s. inl s.halted)
     (λ s. elim s [ inl d ↦ inl d.halted | inr (inl m) ↦ inl m.halted | inr (inr f) ↦ inr f.unborne ]) h
-accepted_halts shelf lost from to (request.Write n lba count) sectors q h = in_room (is_full from) (λ s. inl s.halted) (λ s. elim s [ inl d ↦ inl d.halted | inr f ↦ inr f.unborne ]) h
-accepted_halts shelf lost from to (request.Fill n lba count byte) sectors q h = in_room (is_full from) (λ s. inl s.halted) (λ s. elim s [ inl d ↦ inl d.halted | inr f ↦ inr f.unborne ]) h
+accepted_halts shelf lost from to (request.Write n lba count) sectors q h = in_room from to q (λ s. inl s.halted) (λ s. inl s.halted) (λ s. elim s [ inl d ↦ inl d.halted | inr f ↦ inr f.unborne ]) h
+accepted_halts shelf lost from to (request.Fill n lba count byte) sectors q h = in_room from to q (λ s. inl s.halted) (λ s. inl s.halted) (λ s. elim s [ inl d ↦ inl d.halted | inr f ↦ inr f.unborne ]) h
 accepted_halts shelf lost from to (request.Read n lba count) sectors q h = inl h.halted
 accepted_halts shelf lost from to request.List sectors q h = inl h.halted
 accepted_halts shelf lost from to _ sectors q h = absurd h

@@ -1,5 +1,5 @@
 -- How the array and its devices fare while requests are served: at each reply what was answered and why, and which devices are missing.
-use Rattle.std.specs.Prelude.{◌≡◌, ◌⊎◌, ◌+◌, ◌≤◌, ℕ, Bool, true, false, nat_le, List, [], ◌∷◌, ◌++◌, length, Option, Some, None}
+use Rattle.std.specs.Prelude.{◌≡◌, ◌⊎◌, ◌+◌, ◌-◌, ◌^◌, ◌<◌, ◌≤◌, ℕ, Bool, true, false, nat_le, List, [], ◌∷◌, ◌++◌, length, Option, Some, None}
 use Rattle.pur_base.specs.declared.device.Device.{Device}
 use Rattle.pur_base.specs.declared.request.Request.{Request}
 use Rattle.pur_base.specs.declared.request.Request.TheVariants as request
@@ -18,6 +18,8 @@ pub record Point : Type 0 where
   pub array : Array
   -- how many slots of the log are taken
   pub logged : ℕ
+  -- of the record in force
+  pub generation : ℕ
   pub conditions : Conditions
   -- a `no device` was answered
   pub halted : Bool
@@ -36,13 +38,19 @@ pub record IsRefused (why : Refusal) (from : Point) (q : Answer) (to : Point) : 
   pub reply : q ≡ refused why
   pub array : to.array ≡ from.array
   pub logged : to.logged ≡ from.logged
+  pub generation : to.generation ≡ from.generation
   pub halted : to.halted ≡ from.halted
 
+-- The generation stays, but where a write or a sync failed: then a record was stored without that device, and again without each drive that failed meanwhile.
+abbrev pub MayRise : (Device → Bool) → ℕ → ℕ → Type 0
+MayRise lost before now = (now ≡ before) ⊎ ((d : Device) × (lost d ≡ true) × (before < now) × (now < before + 4))
+
 -- the model's own answer, with its effect; so many slots of the log are taken for it
-pub record IsDone (slots : ℕ) (from : Point) (r : Request) (sectors : List (List ℕ)) (q : Answer) (to : Point) : Type 0 where
+pub record IsDone (slots : ℕ) (lost : Device → Bool) (from : Point) (r : Request) (sectors : List (List ℕ)) (q : Answer) (to : Point) : Type 0 where
   pub reply : q ≡ given from.array r
   pub array : to.array ≡ done from.array r sectors
   pub logged : to.logged ≡ from.logged + slots
+  pub generation : MayRise lost from.generation to.generation
   pub halted : to.halted ≡ from.halted
 
 -- More went missing, by writes and syncs that failed in this request, than can be borne: `no device`, and the array is halted.
@@ -51,27 +59,35 @@ pub record IsFailed (shelf : Geometry) (lost : Device → Bool) (from : Point) (
   pub reply : q ≡ refused refusals.Device
   pub array : to.array ≡ from.array
   pub logged : to.logged ≡ from.logged
+  pub generation : to.generation ≡ from.generation
   pub halted : to.halted ≡ true
 
--- where no slot of the log is free the answer is `no space`, and only there
-abbrev pub IfRoom : Bool → Type 0 → Type 0 → Type 0
-IfRoom true none some = none
-IfRoom false none some = some
+-- the one where it's so, and else the other
+abbrev pub Where : Bool → Type 0 → Type 0 → Type 0
+Where true one other = one
+Where false one other = other
 
+-- the generation leaves too little room for the records of later takeovers
+abbrev pub is_spent : Point → Bool
+is_spent point = nat_le (2 ^ 48 - 2 ^ 24) point.generation
+
+-- no slot of the log is free
 abbrev pub is_full : Point → Bool
 is_full point = nat_le LOG_SLOTS point.logged
+
+-- the answers `spent` and `no space`, each exactly where it's so, and in that order
+abbrev pub WithRoom : Point → Answer → Point → Type 0 → Type 0
+WithRoom from q to some = Where (is_spent from) (IsRefused refusals.Spent from q to) (Where (is_full from) (IsRefused refusals.Space from q to) some)
 
 -- How a request is answered that the model accepts, while the array isn't halted. Memory is wanted by `create` alone.
 abbrev pub AnswersAccepted : Geometry → (Device → Bool) → Point → Request → List (List ℕ) → Answer → Point → Type 0
 AnswersAccepted shelf lost from (request.Create n size) sectors q to =
-    IfRoom (is_full from) (IsRefused refusals.Space from q to)
-    (IsDone 1 from (request.Create n size) sectors q to ⊎ IsRefused refusals.Memory from q to ⊎ IsFailed shelf lost from q to)
-AnswersAccepted shelf lost from (request.Write n lba count) sectors q to =
-    IfRoom (is_full from) (IsRefused refusals.Space from q to) (IsDone 1 from (request.Write n lba count) sectors q to ⊎ IsFailed shelf lost from q to)
+    WithRoom from q to (IsDone 1 lost from (request.Create n size) sectors q to ⊎ IsRefused refusals.Memory from q to ⊎ IsFailed shelf lost from q to)
+AnswersAccepted shelf lost from (request.Write n lba count) sectors q to = WithRoom from q to (IsDone 1 lost from (request.Write n lba count) sectors q to ⊎ IsFailed shelf lost from q to)
 AnswersAccepted shelf lost from (request.Fill n lba count byte) sectors q to =
-    IfRoom (is_full from) (IsRefused refusals.Space from q to) (IsDone 1 from (request.Fill n lba count byte) sectors q to ⊎ IsFailed shelf lost from q to)
-AnswersAccepted shelf lost from (request.Read n lba count) sectors q to = IsDone 0 from (request.Read n lba count) sectors q to
-AnswersAccepted shelf lost from request.List sectors q to = IsDone 0 from request.List sectors q to
+    WithRoom from q to (IsDone 1 lost from (request.Fill n lba count byte) sectors q to ⊎ IsFailed shelf lost from q to)
+AnswersAccepted shelf lost from (request.Read n lba count) sectors q to = IsDone 0 lost from (request.Read n lba count) sectors q to
+AnswersAccepted shelf lost from request.List sectors q to = IsDone 0 lost from request.List sectors q to
 -- no item asks for a form that isn't in force
 AnswersAccepted shelf lost from _ sectors q to = ⊥
 

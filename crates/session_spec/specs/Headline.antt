@@ -1,5 +1,5 @@
 -- What a session does to the array that the devices stand for, whatever fails, and wherever it is stopped.
-use Rattle.std.specs.Prelude.{◌≡◌, ◌≢◌, ◌⊎◌, ◌<◌, ◌-◌, ◌^◌, ℕ, true, false, List, [], ◌++◌, length, drop, Contains, Option, Some, None, IfSome, ⊤}
+use Rattle.std.specs.Prelude.{◌≡◌, ◌≢◌, ◌⊎◌, ◌<◌, ◌+◌, ◌-◌, ◌^◌, ℕ, true, false, List, [], ◌++◌, length, drop, Contains, Option, Some, None, IfSome, ⊤}
 use Rattle.std.proofs.Common.{inl, inr}
 use Rattle.std.specs.List.{AllByRecursion}
 use Rattle.pur_base.specs.declared.device.Device.{Device}
@@ -21,7 +21,7 @@ use Rattle.array_spec.specs.Acked.{acked}
 use Rattle.array_spec.specs.After.{AcceptsNext}
 use Rattle.array_spec.specs.Losses.{not_holding}
 use Rattle.session_spec.specs.Entering.{Enters, IsLeft, IsStanding, Found, IsTakenOver, OnlyFailedAreSilent, StandsStill, read_now, failed_by, failed_since}
-use Rattle.session_spec.specs.Faring.{Point, IsReached, Fares, IsBorne, is_full, now_missing}
+use Rattle.session_spec.specs.Faring.{Point, IsReached, Fares, IsBorne, is_spent, is_full, now_missing}
 use Rattle.session_spec.specs.Ends.{Ends, IsOutput, IsPartOfNext, RisesIf, is_source, is_sink}
 
 -- ---- the array isn't opened
@@ -84,6 +84,9 @@ pub record HoldsLog (members : View) (boot : BootRecord) (array : Array) (logged
 pub record Opens (old : Shelved) (left : Stop → Type 0) (found : Found (geometry_of old) (read_now old).image) (first : Point) : Type 0 where
   pub holds : HoldsLog (members_view found.view found.effective) found.effective.boot first.array first.logged
   pub taken_over : IsTakenOver (geometry_of old) (read_now old).image found (has_failed (read_now old) first.stop) first.conditions
+  -- records of its own were stored, one for each drive that failed meanwhile and one more
+  pub later : found.effective.boot.generation < first.generation
+  pub few : first.generation < found.effective.boot.generation + 4
   pub reached : IsReached left first
   pub quiet : IsQuietBy old first.stop
   pub awake : first.halted ≡ false
@@ -104,9 +107,10 @@ pub record StandsAmong (shelf : Geometry) (image : Image) (missing : Conditions)
   pub each : (array : Array) → Contains arrays array → P array
   pub standing : IsStanding shelf image missing arrays
 
--- the next item may have been done: a logged request that the model accepts, with room in the log of an array that isn't halted
+-- the next item may have been done: a logged request that the model accepts, with room for it in an array that isn't halted
 pub record IsNext (point : Point) (rest : List Item) (array : Array) : Type 0 where
   pub accepts : AcceptsNext point.array rest array
+  pub unspent : is_spent point ≡ false
   pub room : is_full point ≡ false
   pub awake : point.halted ≡ false
 

@@ -8,7 +8,7 @@ use Rattle.world.specs.Shelf.{Shelved, Stop, Disk, Continues, IsCountedBy}
 use Rattle.world.specs.Losing.{has_risen, missing_if, losing}
 use Rattle.boot_region.proofs.Phases.{not_risen_before, risen_on_way}
 use Rattle.takeover.proofs.Members.{fewer_count}
-use Rattle.takeover.specs.Entering.{failed_since, failed_by}
+use Rattle.session_spec.specs.Entering.{failed_since, failed_by}
 
 -- a sound device later was sound, and didn't fail
 pub sound_since : (b : Bool) (c : Condition) → missing_if b c ≡ Sound → (c ≡ Sound) × (b ≡ false)

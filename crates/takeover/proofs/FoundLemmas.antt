@@ -31,7 +31,8 @@ use Rattle.boot_region.proofs.Phases.{not_risen_before}
 use Rattle.boot_region.proofs.Settled.{stands_while_settling, no_more_given, settling_began}
 use Rattle.boot_region.proofs.ShownLemmas.{bodies_same}
 use Rattle.takeover.proofs.NoFault.{few_lack}
-use Rattle.takeover.specs.Entering.{Enters, StandsStill, failed_since, failed_by}
+use Rattle.session_spec.specs.Entering.{Enters, failed_since, failed_by}
+use Rattle.takeover.specs.Entering.{StandsStill}
 use Rattle.takeover.specs.Found.{IsFoundOn}
 use Rattle.takeover.proofs.Counts.{goes_on}
 use Rattle.takeover.proofs.Failing.{fewer_borne, by_stop, since_later, since_mid, sound_since, left_out_since}

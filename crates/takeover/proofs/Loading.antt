@@ -31,7 +31,7 @@ use Rattle.boot_region.proofs.Composing.{as_it_is, is_sound_is}
 use Rattle.boot_region.proofs.FoundLemmas.{same_body, same_shown, same_over}
 use Rattle.boot_region.proofs.Phases.{risen_on_way}
 use Rattle.boot_region.proofs.ShownLemmas.{as_read}
-use Rattle.takeover.specs.Entering.{Enters, failed_since}
+use Rattle.session_spec.specs.Entering.{Enters, failed_since}
 use Rattle.takeover.proofs.Failing.{sound_since}
 
 -- the devices as a read gives them

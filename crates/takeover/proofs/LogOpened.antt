@@ -38,7 +38,8 @@ use Rattle.nvram_log.specs.Settling.{SettleBy, AreAsSeen, Agree}
 use Rattle.takeover.specs.declared.log.LogFault.{LogFault}
 use Rattle.takeover.specs.declared.log.LogFault.TheVariants as log_fault
 use Rattle.takeover.specs.declared.log.OpenedLog.{OpenedLog}
-use Rattle.takeover.specs.Entering.{failed_since, failed_by, StandsStill}
+use Rattle.session_spec.specs.Entering.{failed_since, failed_by}
+use Rattle.takeover.specs.Entering.{StandsStill}
 use Rattle.takeover.specs.Found.{IsFoundOn}
 use Rattle.takeover.specs.LogOpen.{IsLogOpen, IsLogOpenBy, IsLogFault, ShowsUnserved}
 use Rattle.takeover.specs.Replay.{HasUnserved, IsReplayed, IsReplayFault, log_fault_of}

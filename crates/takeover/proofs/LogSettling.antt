@@ -35,7 +35,7 @@ use Rattle.nvram_log.specs.Held.{shown_by as shown_of}
 use Rattle.nvram_log.specs.Members.{IsMember, IsFewer, OnMembers}
 use Rattle.nvram_log.specs.Read.{OnNothing, DroppedCounted}
 use Rattle.nvram_log.specs.Settling.{SettlesBy, SettleBy}
-use Rattle.takeover.specs.Entering.{failed_since}
+use Rattle.session_spec.specs.Entering.{failed_since}
 use Rattle.takeover.specs.Found.{IsFoundOn}
 use Rattle.takeover.specs.Replay.{IsReplayed}
 use Rattle.takeover.proofs.Chains.{replayed_stands, of_front, agrees, shows_move, log_moves}

@@ -28,7 +28,8 @@ use Rattle.register.specs.Standing.{MayStore, StandsInLog, IsOpen}
 use Rattle.takeover.specs.declared.log.OpenedLog.{OpenedLog}
 use Rattle.takeover.specs.declared.log.LogFault.{LogFault}
 use Rattle.takeover.specs.declared.recovering.Recovered.{Recovered}
-use Rattle.takeover.specs.Entering.{Enters, StandsStill, failed_since}
+use Rattle.session_spec.specs.Entering.{Enters, failed_since}
+use Rattle.takeover.specs.Entering.{StandsStill}
 use Rattle.takeover.specs.Found.{IsFoundOn}
 use Rattle.takeover.specs.LogOpen.{IsLogOpen, IsLogOpenBy}
 use Rattle.takeover.specs.Recovered.{IsRecovered}

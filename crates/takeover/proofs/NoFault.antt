@@ -18,7 +18,7 @@ use Rattle.boot_region.specs.declared.loading.LoadFault.TheVariants as faults
 use Rattle.boot_region.specs.Members.{IsMember}
 use Rattle.boot_region.specs.Regions.{IsRead}
 use Rattle.boot_region.specs.Loading.{IsFaultOf, IsBadBody, TooFewHold, IsLoadBy}
-use Rattle.takeover.specs.Entering.{Enters, failed_since}
+use Rattle.session_spec.specs.Entering.{Enters, failed_since}
 use Rattle.takeover.proofs.Loading.{given_here, here_decided, seen_effective, view, member_here}
 use Rattle.takeover.proofs.Members.{enough}
 

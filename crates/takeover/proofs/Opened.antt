@@ -10,7 +10,7 @@ use Rattle.boot_region.specs.declared.loading.LoadFault.{LoadFault}
 use Rattle.boot_region.specs.declared.loading.LoadFault.TheVariants as faults
 use Rattle.boot_region.specs.Loading.{IsLoadBy, IsLoadOf}
 use Rattle.takeover.specs.declared.faults.OpenFault.{OpenFault}
-use Rattle.takeover.specs.Entering.{Enters, failed_since}
+use Rattle.session_spec.specs.Entering.{Enters, failed_since}
 use Rattle.takeover.specs.Faults.{fault_of}
 use Rattle.takeover.specs.Found.{IsFoundBy}
 use Rattle.takeover.proofs.Loading.{as_they_read, may_read}

@@ -29,7 +29,8 @@ use Rattle.register.specs.Faults.{IsFaultOf}
 use Rattle.register.specs.Registers.{IsRegisterOf, drives_of, own_slot, next_slot}
 use Rattle.register.specs.Standing.{StandsInLog, MayStore, IsOpen}
 use Rattle.register.proofs.FlagLemmas.{in_cut, cut_in}
-use Rattle.takeover.specs.Entering.{StandsStill, failed_since, failed_by}
+use Rattle.session_spec.specs.Entering.{failed_since, failed_by}
+use Rattle.takeover.specs.Entering.{StandsStill}
 use Rattle.takeover.specs.Found.{IsFoundOn}
 use Rattle.takeover.specs.LogOpen.{IsLogOpen}
 use Rattle.takeover.specs.declared.log.OpenedLog.{OpenedLog}

@@ -8,7 +8,8 @@ use Rattle.array_spec.specs.Standing.{Stands}
 use Rattle.world.specs.Shelf.{Shelved, Stop, Continues, IsCountedBy}
 use Rattle.world.specs.Losing.{geometry_of, has_risen, missing_if, losing}
 use Rattle.boot_region.proofs.Phases.{not_risen_before, risen_on_way}
-use Rattle.takeover.specs.Entering.{StandsStill, failed_since, failed_by}
+use Rattle.session_spec.specs.Entering.{failed_since, failed_by}
+use Rattle.takeover.specs.Entering.{StandsStill}
 use Rattle.takeover.proofs.Failing.{since_mid, fewer_borne, by_stop}
 use Rattle.takeover.proofs.Loading.{same_geometry}
 

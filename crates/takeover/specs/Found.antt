@@ -13,6 +13,7 @@ use Rattle.boot_region.specs.declared.loading.Loaded.{Loaded}
 use Rattle.boot_region.specs.Members.{IsMember}
 use Rattle.boot_region.specs.Slots.{slot_in}
 use Rattle.boot_region.specs.Storing.{StandsNow, IsInForceOn}
+use Rattle.session_spec.specs.Entering.{AreRead}
 use Rattle.takeover.specs.declared.faults.OpenFault.{OpenFault}
 use Rattle.takeover.specs.declared.faults.OpenFault.TheVariants as open_fault
 
@@ -28,6 +29,7 @@ pub record IsFoundOn (shelf : Shelved) (x : Loaded) (missing : Conditions) (arra
   -- of a device that isn't missing the count of faults goes on
   pub counted : (d : Device) → missing d ≡ Sound → (shelf.disk d).faults < 2 ^ 64 - 1
   pub left_out : (start : Stop) → MayStop shelf start → (d : Device) → missing d ≡ LeftOut → IsNamedByNone (geometry_of shelf) start.image missing d
+  pub read : (start : Stop) → MayStop shelf start → AreRead (geometry_of shelf) start.image missing
 
 -- Where no more is missing than is borne, the record is found, or it names patches, or memory was wanting.
 abbrev pub IsFoundBy : Shelved → Conditions → List Array → Result Loaded OpenFault → Type 0

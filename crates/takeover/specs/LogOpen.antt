@@ -1,5 +1,6 @@
 -- The log that was read, settled and replayed.
-use Rattle.std.specs.Prelude.{◌≡◌, ℕ, ◌<◌, Bool, false, List, [], Contains, Result, Ok, Err, ⊤}
+use Rattle.std.specs.Prelude.{◌≡◌, ℕ, ◌<◌, Bool, true, false, List, [], Contains, Result, Ok, Err, ⊤}
+use Rattle.std.specs.List.{AllByRecursion}
 use Rattle.pur_base.specs.Commands.{Command, AllAccepted, after_all}
 use Rattle.pur_base.specs.Devices.{Conditions, Sound, LeftOut, nvram}
 use Rattle.pur_base.specs.Grammar.{is_in_force}
@@ -20,6 +21,7 @@ pub record IsLogOpen (shelf : Shelved) (x : Loaded) (missing : Conditions) (arra
   pub found : IsFoundOn shelf x missing arrays
   pub commands : List Command
   pub keeps : Keeps o.log commands
+  pub in_force : AllByRecursion (λ c. is_in_force c.request ≡ true) commands
   pub flushed : o.log.flushed ≡ x.record.flushed
   pub accepted : AllAccepted [] commands
   pub plain : o.plain ≡ after_all [] commands

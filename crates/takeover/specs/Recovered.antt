@@ -1,6 +1,8 @@
 -- What an opening leaves: the array in memory, its log and its record, for which the devices stand.
 use Rattle.std.specs.Prelude.{◌≡◌, ℕ, ◌<◌, List, [], true, Contains, Result, Ok, Err, ⊤}
+use Rattle.std.specs.List.{AllByRecursion}
 use Rattle.pur_base.specs.Commands.{Command, after_all}
+use Rattle.pur_base.specs.Grammar.{is_in_force}
 use Rattle.pur_base.specs.Devices.{Conditions, Sound, IsOn}
 use Rattle.pur_base.specs.Plain.{Array}
 use Rattle.pur_base.specs.declared.device.Device.{Device}
@@ -18,6 +20,7 @@ use Rattle.takeover.specs.declared.faults.OpenFault.TheVariants as open_fault
 pub record IsRecovered (shelf : Shelved) (r : Recovered) (missing : Conditions) (arrays : List Array) : Type 0 where
   pub commands : List Command
   pub keeps : Keeps r.log commands
+  pub in_force : AllByRecursion (λ c. is_in_force c.request ≡ true) commands
   pub flushed : r.log.flushed ≡ r.register.record.flushed
   pub plain : r.plain ≡ after_all [] commands
   pub one_of : Contains arrays r.plain

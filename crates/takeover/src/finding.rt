@@ -13,7 +13,8 @@ ghost use Rattle.boot_region.specs.Loading.{IsLawfulLoad};
 ghost use Rattle.boot_region.specs.Members.{IsMember, OnClosed};
 ghost use Rattle.boot_region.specs.Slots.{slot_in};
 ghost use Rattle.boot_region.specs.Storing.{IsFound, IsInForceOn, IsLoaded, TellsFailed};
-ghost use Rattle.takeover.specs.Entering.{Enters, StandsStill, failed_since};
+ghost use Rattle.session_spec.specs.Entering.{Enters, failed_since};
+ghost use Rattle.takeover.specs.Entering.{StandsStill};
 ghost use Rattle.takeover.specs.Found.{IsFoundBy};
 
 use crate::OpenFault;

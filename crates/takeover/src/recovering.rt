@@ -5,7 +5,8 @@ ghost use Rattle.pur_base.specs.Plain.{Array};
 ghost use Rattle.world.specs.Losing.{geometry_of};
 ghost use Rattle.world.specs.Shelf.{Continues, LeavesOnly};
 ghost use Rattle.register.specs.Registers.{IsRegisterOf};
-ghost use Rattle.takeover.specs.Entering.{Enters, StandsStill, failed_since};
+ghost use Rattle.session_spec.specs.Entering.{Enters, failed_since};
+ghost use Rattle.takeover.specs.Entering.{StandsStill};
 ghost use Rattle.takeover.specs.Recovered.{IsRecoveredBy};
 
 use crate::{OpenFault, find_record, open_log};

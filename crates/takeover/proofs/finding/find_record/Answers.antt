@@ -15,7 +15,8 @@ use Rattle.boot_region.specs.Members.{IsMember}
 use Rattle.boot_region.specs.Slots.{slot_in}
 use Rattle.boot_region.specs.Storing.{IsInForceOn, TellsFailed}
 use Rattle.takeover.specs.declared.faults.OpenFault.{OpenFault}
-use Rattle.takeover.specs.Entering.{Enters, StandsStill, failed_since}
+use Rattle.session_spec.specs.Entering.{Enters, failed_since}
+use Rattle.takeover.specs.Entering.{StandsStill}
 use Rattle.takeover.specs.Found.{IsFoundBy, IsFoundOn}
 use Rattle.takeover.proofs.FoundLemmas.{while_reading, through_moments, both, below_slots, found_on, lacking}
 use Rattle.takeover.proofs.Loading.{same_geometry}

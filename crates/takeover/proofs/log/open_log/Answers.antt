@@ -4,7 +4,7 @@ use Rattle.boot_region.proofs.LoadingLemmas.{if_err}
 use Rattle.world.proofs.Moments.{continues_trans}
 use Rattle.nvram_log.specs.Read.{AllFailed}
 use Rattle.takeover.specs.declared.log.LogFault.{LogFault}
-use Rattle.takeover.specs.Entering.{failed_since}
+use Rattle.session_spec.specs.Entering.{failed_since}
 use Rattle.takeover.specs.LogOpen.{IsLogFault, IsLogOpenBy}
 use Rattle.takeover.proofs.LogOpened.{while_read, not_read, not_replayed, was_read, while_opening, not_lost, opened, agree, bears_mid, reads_only, settles_only, read_fault_is, replay_fault_is, both_lost}
 use Rattle.takeover.proofs.log.open_log.Goals as goal

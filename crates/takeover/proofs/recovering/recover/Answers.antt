@@ -24,7 +24,8 @@ use Rattle.register.proofs.FlagLemmas.{none_past}
 use Rattle.takeover.specs.declared.faults.OpenFault.{OpenFault}
 use Rattle.takeover.specs.declared.log.OpenedLog.{OpenedLog}
 use Rattle.takeover.specs.declared.log.LogFault.{LogFault}
-use Rattle.takeover.specs.Entering.{Enters, StandsStill, failed_since}
+use Rattle.session_spec.specs.Entering.{Enters, failed_since}
+use Rattle.takeover.specs.Entering.{StandsStill}
 use Rattle.takeover.specs.Found.{IsFoundBy, IsFoundOn}
 use Rattle.takeover.specs.LogOpen.{IsLogOpenBy, IsLogOpen}
 use Rattle.takeover.specs.Recovered.{IsRecoveredBy}

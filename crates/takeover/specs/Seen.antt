@@ -1,0 +1,48 @@
+-- What the drives showed when the record was found, and the moments from there on at which it may still be given.
+use Rattle.std.specs.Prelude.{◌≡◌, ◌⊎◌, ℕ, ◌<◌, List, [], true, Option, Some, None, Result, Ok, Err, ⊤}
+use Rattle.pur_base.specs.declared.device.Device.{Device}
+use Rattle.pur_base.specs.Devices.{View, Conditions, IsBearable, drive, nvram}
+use Rattle.pur_base.specs.Plain.{Array}
+use Rattle.boot_codec.specs.Region.{IsEffective, of_members}
+use Rattle.boot_codec.specs.Spelling.{spelling}
+use Rattle.array_spec.specs.Standing.{MayBeGiven}
+use Rattle.world.specs.Losing.{geometry_of, has_failed}
+use Rattle.world.specs.Shelf.{Shelved, Stop, LeavesOnly}
+use Rattle.session_spec.specs.Entering.{Enters, OnlyFailedAreSilent, read_now, failed_by}
+use Rattle.session_spec.specs.Headline.{HasNoArray, HasTooFew}
+use Rattle.boot_region.specs.declared.loading.Loaded.{Loaded}
+use Rattle.boot_region.specs.Members.{IsMember}
+use Rattle.boot_region.specs.Slots.{slot_in}
+use Rattle.takeover.specs.declared.faults.OpenFault.{OpenFault}
+use Rattle.takeover.specs.declared.faults.OpenFault.TheVariants as open_fault
+
+-- once what the drives showed has been read, the record may be given, as long as what has failed by then is borne
+abbrev pub IsGivenFrom : Shelved → View → Loaded → Conditions → Stop → Type 0
+IsGivenFrom old view x missing stop = OnlyFailedAreSilent (has_failed (read_now old) stop) view → IsBearable (geometry_of old) (failed_by old stop missing)
+    → MayBeGiven (geometry_of old) stop.image (failed_by old stop missing) (slot_in x.slot) x.record
+
+-- what the drives showed gives the record; NVRAM devices aren't read yet
+pub record IsSeenIn (old new : Shelved) (x : Loaded) : Type 0 where
+  pub view : View
+  pub shown : (d : Device) → (view d ≡ Some (old.disk d).bytes) ⊎ (view d ≡ None)
+  pub nvrams : (n : ℕ) → view (nvram n) ≡ Some (old.disk (nvram n)).bytes
+  pub silent : OnlyFailedAreSilent (has_failed (read_now old) (read_now new)) view
+  pub effective : IsEffective (geometry_of old) view (slot_in x.slot) (spelling x.record)
+  -- a drive that is left showed the record and is one that it names
+  pub held : (i : ℕ) → IsMember x.drives i → of_members (slot_in x.slot) x.record view (drive i) ≡ Some (old.disk (drive i)).bytes
+  -- one that isn't left did not, or failed
+  pub dropped : (i : ℕ) → i < old.drives → IsMember x.drives i ⊎ (of_members (slot_in x.slot) x.record view (drive i) ≡ None) ⊎ (has_failed (read_now old) (read_now new) (drive i) ≡ true)
+  pub unflushed : x.record.patches ≡ []
+  pub given : (missing : Conditions) (arrays : List Array) → Enters old missing arrays → LeavesOnly old new (IsGivenFrom old view x missing)
+
+-- the record was found, or why not
+abbrev pub IsSeenBy : Shelved → Shelved → Result Loaded OpenFault → Type 0
+IsSeenBy old new (Ok x) = IsSeenIn old new x
+IsSeenBy old new (Err (open_fault.Memory m)) = ⊤
+IsSeenBy old new (Err open_fault.NoArray) = HasNoArray old new
+IsSeenBy old new (Err (open_fault.BadRecord e)) = HasNoArray old new
+IsSeenBy old new (Err open_fault.Spent) = HasNoArray old new
+IsSeenBy old new (Err open_fault.HasPatches) = HasNoArray old new
+IsSeenBy old new (Err (open_fault.TooFew drives)) = HasTooFew old new
+IsSeenBy old new (Err open_fault.BothLost) = ⊥
+IsSeenBy old new (Err open_fault.Unserved) = ⊥
