@@ -1,21 +1,12 @@
 -- What the making of a new array answers and leaves.
-use Rattle.std.specs.Prelude.{◌≡◌, ℕ, List}
+use Rattle.std.specs.Prelude.{◌≡◌, ℕ, ◌<◌, List, ◌++◌, length, ⊤}
 use Rattle.pur_base.specs.declared.reply.Reply.TheVariants as reply
 use Rattle.pur_base.specs.declared.reply.Status.{Status}
 use Rattle.pur_base.specs.declared.reply.Status.TheVariants as status
-use Rattle.pur_base.specs.Replies.{Line}
+use Rattle.pur_base.specs.Replies.{line_text}
 use Rattle.world.specs.Shelf.{Shelved}
-use Rattle.shelf_init.specs.Blank.{IsBlank, IsClean}
-use Rattle.shelf_init.specs.Counted.{NoneFailed}
-use Rattle.shelf_init.specs.Made.{IsMade}
-use Rattle.array_server.specs.Serving.{IsOutput}
-use Rattle.std.specs.Prelude.{[], ◌∷◌}
-
--- The array was made, and no call on a device failed. Honest devices were blank, and stand for the array of nothing.
-pub record Made (old new : Shelved) : Type 0 where
-  pub none_failed : NoneFailed old new
-  pub blank : old.honest → IsBlank old
-  pub stands : old.honest → IsClean old → IsMade new
+use Rattle.session_spec.specs.Making.{AreSame, ShowsBody}
+use Rattle.shelf_init.specs.Counted.{NoneFailed, OneFailed}
 
 -- the ways in which the making ends that was done
 abbrev pub IsMadeEnd : Status → Type 0
@@ -32,8 +23,20 @@ IsInitStatus status.NotBlank = Unit {0}
 IsInitStatus status.Memory = Unit {0}
 IsInitStatus _ = ⊥
 
--- the line `ok` where it was made, and else nothing
+-- it halts exactly where a call on a device failed
+abbrev pub IsCountedEnd : Status → Shelved → Shelved → Type 0
+IsCountedEnd status.Halted old new = OneFailed old new
+IsCountedEnd _ old new = NoneFailed old new
+
+-- the line `ok` where it was made, a part of it where the sink failed, and else nothing
 abbrev pub IsMadeOutput : Status → List ℕ → List ℕ → Type 0
-IsMadeOutput status.Done before after = IsOutput status.Done before after (Line reply.Done ∷ [])
-IsMadeOutput status.Sink before after = IsOutput status.Sink before after (Line reply.Done ∷ [])
+IsMadeOutput status.Done before after = after ≡ before ++ line_text reply.Done
+IsMadeOutput status.Sink before after = (cut missing : List ℕ) × (0 < length missing) × (line_text reply.Done ≡ cut ++ missing) × (after ≡ before ++ cut)
 IsMadeOutput _ before after = after ≡ before
+
+-- no record was in force where it was made, and where one is the devices stay as they were
+abbrev pub IsJudgedEnd : Status → Shelved → Shelved → Type 0
+IsJudgedEnd status.NotBlank old new = ShowsBody old × AreSame old new
+IsJudgedEnd status.Memory old new = AreSame old new
+IsJudgedEnd status.Halted old new = ⊤
+IsJudgedEnd _ old new = ¬ (ShowsBody old)

@@ -1,13 +1,10 @@
 // A new array.
 ghost use Rattle.std.specs.Prelude.{◌≡◌, ◌↔◌, []};
-ghost use Rattle.pur_base.specs.declared.device.Device.{Device};
-ghost use Rattle.world.specs.Shelf.{Continues};
+ghost use Rattle.world.specs.Shelf.{Continues, OutputOnly};
 ghost use Rattle.world.specs.Streams.{SameStream};
-ghost use Rattle.shelf_init.specs.Answers.{AreSame};
-ghost use Rattle.shelf_init.specs.Blank.{GivesBody};
-ghost use Rattle.shelf_init.specs.Counted.{NoneFailed, OneFailed};
-ghost use Rattle.array_server.specs.Made.{Made, IsMadeEnd, IsMadeOutput, IsInitStatus};
-ghost use Rattle.array_server.specs.Serving.{RisesIf, is_sink};
+ghost use Rattle.session_spec.specs.Ends.{RisesIf, is_sink};
+ghost use Rattle.session_spec.specs.Making.{AreClean, IsMade, Makes};
+ghost use Rattle.array_server.specs.Made.{IsCountedEnd, IsJudgedEnd, IsMadeEnd, IsMadeOutput, IsInitStatus};
 
 use crate::answers::give;
 use pur_base::{Reply, Status};
@@ -24,8 +21,7 @@ fn say_made<W: World>(writer: &mut ReplyWriter, world: &mut W) -> Status
     ensures source { SameStream (W.source world.old) (W.source world.new) }
     ensures sink { RisesIf (is_sink result) (W.sink world.old).faults (W.sink world.new).faults }
     ensures honest_sink { (W.sink world.old).honest ↔ (W.sink world.new).honest }
-    ensures continues { Continues (W.shelf world.old) (W.shelf world.new) }
-    ensures disk { (d : Device) → (W.shelf world.new).disk d ≡ (W.shelf world.old).disk d }
+    ensures output_only { OutputOnly (W.shelf world.old) (W.shelf world.new) }
 {
     match give(writer, &Reply::Done, &[], world) {
         Ok(()) => Status::Done,
@@ -44,11 +40,13 @@ pub fn init<W: World>(alloc: Global, world: &mut W) -> Status
     ensures sink { RisesIf (is_sink result) (W.sink world.old).faults (W.sink world.new).faults }
     ensures honest_sink { (W.sink world.old).honest ↔ (W.sink world.new).honest }
     ensures continues { Continues (W.shelf world.old) (W.shelf world.new) }
-    ensures made { IsMadeEnd result → Made (W.shelf world.old) (W.shelf world.new) }
-    ensures halted { result ≡ Status.Halted → OneFailed (W.shelf world.old) (W.shelf world.new) }
-    ensures not_blank { result ≡ Status.NotBlank → NoneFailed (W.shelf world.old) (W.shelf world.new)
-        × ((W.shelf world.old).honest → GivesBody (W.shelf world.old) × AreSame (W.shelf world.old) (W.shelf world.new)) }
-    ensures memory { result ≡ Status.Memory → (d : Device) → (W.shelf world.new).disk d ≡ (W.shelf world.old).disk d }
+    // Where it halts, and only there, a call on a device failed.
+    ensures counted { IsCountedEnd result (W.shelf world.old) (W.shelf world.new) }
+    // No record was in force where it's made, and where one is nothing is written.
+    ensures judged { (W.shelf world.old).honest → IsJudgedEnd result (W.shelf world.old) (W.shelf world.new) }
+    ensures made { (W.shelf world.old).honest → AreClean (W.shelf world.old) → IsMadeEnd result → IsMade (W.shelf world.new) }
+    // All of that, with what is given.
+    ensures makes { (W.shelf world.old).honest → (W.sink world.old).honest → Makes (W.shelf world.old) (W.shelf world.new) (W.sink world.old) (W.sink world.new) result }
 {
     let Ok(mut writer) = ReplyWriter::new(alloc) else {
         return Status::Memory;

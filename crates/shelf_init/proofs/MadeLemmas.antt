@@ -1,16 +1,21 @@
 -- Once all drives show the first record, the devices stand for the array of nothing.
-use Rattle.std.proofs.Common.{◌≡◌, inl, inr, ℕ, zero, suc, ◌+◌, ◌<◌, List, [], ◌∷◌, refl, ◌∙◌, ap, arith, Bool, false}
-use Rattle.std.specs.Prelude.{Some, None, count_by}
+use Rattle.std.proofs.Common.{◌≡◌, inl, inr, ℕ, zero, suc, ◌+◌, ◌-◌, ◌^◌, ◌<◌, List, [], ◌∷◌, refl, sym, ◌∙◌, ap, subst, arith, Bool, true, false}
+use Rattle.std.specs.Prelude.{Some, None, count_by, slice_index_or}
 use Rattle.std.specs.List.{range_with_len}
 use Rattle.pur_base.specs.Gates.{is_open}
 use Rattle.pur_base.specs.Devices.{Geometry, IsBearable, is_missing, drive, nvram}
 use Rattle.pur_base.specs.declared.device.Device.{Device}
-use Rattle.boot_codec.specs.Region.{A, B, IsRecordOf, is_vote, shown_by}
+use Rattle.pur_base.specs.Commands.{Command}
+use Rattle.log_codec.specs.Log.{ShowsIn}
+use Rattle.boot_codec.specs.declared.record.BootRecord.{BootRecord}
+use Rattle.boot_codec.specs.Region.{BootSlot, A, B, IsRecordOf, is_vote, names, shown_by}
 use Rattle.boot_codec.specs.Spelling.{spelling}
 use Rattle.array_spec.specs.Laws.{IsHeld, is_sound_vote}
 use Rattle.array_spec.specs.Standing.{MayAppear, MayBeGiven}
 use Rattle.array_spec.proofs.Held.{held_stands}
-use Rattle.array_spec.proofs.Votes.{counted, held_is_given}
+use Rattle.array_spec.proofs.Spelled.{spells_one}
+use Rattle.array_spec.proofs.Votes.{counted, held_is_given, one_is_effective}
+use Rattle.session_spec.specs.Entering.{AreRead, HasRoom}
 use Rattle.world.specs.Losing.{geometry_of}
 use Rattle.world.specs.Shelf.{Shelved, Stop, MayStop, IsShelf}
 use Rattle.boot_region.proofs.ShownLemmas.{as_read, closed_shows, shown_body}
@@ -33,6 +38,12 @@ sound_is_bearable shelf = record {
   drives = let none : count_by (λ (i : ℕ). is_missing (all_sound (drive i))) (range_with_len 0 shelf.slots) ≡ 0 = count_zero (λ (i : ℕ). is_missing (all_sound (drive i))) 0 shelf.slots (λ i lt. refl) in omega (arith, none);
   nvrams = let none : count_by (λ (i : ℕ). is_missing (all_sound (nvram i))) (range_with_len 0 2) ≡ 0 = count_zero (λ (i : ℕ). is_missing (all_sound (nvram i))) 0 2 (λ i lt. refl) in omega (arith, none);
 }
+
+-- only two NVRAM devices are named
+nvram_below : (n : ℕ) → slice_index_or (true ∷ true ∷ []) n false ≡ true → n < 2
+nvram_below zero named = omega arith
+nvram_below (suc zero) named = omega arith
+nvram_below (suc (suc n)) named = absurd (cc named)
 
 module _ (s : Shelved) (is : IsShelf s) (clean : IsClean s) (shows : (i : ℕ) → i < s.drives → shown_by B (s.disk (drive i)).bytes ≡ Some (spelling (first_record (geometry_of s))))
     (shut : IsShut s A) (no_command : HasNoCommand s) where
@@ -81,11 +92,41 @@ module _ (s : Shelved) (is : IsShelf s) (clean : IsClean s) (shows : (i : ℕ) �
       effective = held_is_given (geometry_of s) start.image all_sound all_sound (λ d. Some (start.image d)) B (spelling (first_record (geometry_of s))) is.drives.0 held appears;
     }
 
+    -- no other record may be given
+    alone : (slot : BootSlot) (boot : BootRecord) → MayBeGiven (geometry_of s) start.image all_sound slot boot → boot ≡ first_record (geometry_of s)
+    alone slot boot g =
+        let first = held_is_given (geometry_of s) start.image all_sound g.more g.view B (spelling (first_record (geometry_of s))) is.drives.0 held g.appears in
+        let same = one_is_effective (geometry_of s) g.view slot B _ _ g.effective first in
+        spells_one (geometry_of s) boot (first_record (geometry_of s)) g.lawful lawful same.1
+
+    -- an NVRAM device shows no command
+    shows_none : (n i : ℕ) (c : Command) → n < 2 → ShowsIn (start.image (nvram n)) 0 i c → ⊥
+    shows_none n i c lt shown =
+        let closed : is_open i (start.image (nvram n)) ≡ false = ap (λ (bytes : List ℕ). is_open i bytes) (as_now (nvram n)) ∙ no_command n i lt shown.slot in
+        absurd (cc (closed, shown.gate))
+
+    is_read : AreRead (geometry_of s) start.image all_sound
+    is_read = record {
+      unflushed = λ slot boot g. ap (λ (b : BootRecord). b.patches) (alone slot boot g);
+      in_force = λ slot boot g n i c named shown.
+          let is = alone slot boot g in
+          absurd (shows_none n i c (nvram_below n (subst (λ (b : BootRecord). names b (nvram n) ≡ true) is named)) (subst (λ (b : BootRecord). ShowsIn (start.image (nvram n)) b.flushed i c) is shown));
+    }
+
+    has_room : HasRoom (geometry_of s) start.image all_sound
+    has_room slot boot g = subst (λ (b : BootRecord). b.generation < 2 ^ 48 - 16) (sym (alone slot boot g)) (omega arith)
+
   pub is_made : IsMade s
   is_made = record {
-    clean = clean;
-    stands = λ start may. held_stands (geometry_of s) start.image all_sound B (first_record (geometry_of s)) ([] ∷ []) is.drives.0 bearable (λ e. absurd (cc e)) lawful (held start may)
-        (first_is_read (geometry_of s) start.image lawful (opening start may));
+    enters = record {
+      bearable = bearable;
+      stands = λ start may. held_stands (geometry_of s) start.image all_sound B (first_record (geometry_of s)) ([] ∷ []) is.drives.0 bearable (λ e. absurd (cc e)) lawful (held start may)
+          (first_is_read (geometry_of s) start.image lawful (opening start may));
+      clean = λ d sound. clean d;
+      left_out = λ start may d out. absurd (cc out);
+      read = is_read;
+      room = has_room;
+    };
     in_force = record {
       lawful = lawful;
       sound = λ i lt sound. is_named s.drives i lt;

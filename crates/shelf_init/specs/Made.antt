@@ -7,9 +7,9 @@ use Rattle.boot_codec.specs.Spelling.{spelling}
 use Rattle.array_spec.specs.Meaning.{Means}
 use Rattle.world.specs.Losing.{geometry_of}
 use Rattle.world.specs.Shelf.{Shelved}
-use Rattle.boot_region.specs.Storing.{StandsNow, IsInForceOn}
+use Rattle.session_spec.specs.Entering.{Enters}
+use Rattle.boot_region.specs.Storing.{IsInForceOn}
 use Rattle.shelf_init.specs.First.{first_record}
-use Rattle.shelf_init.specs.Blank.{IsClean}
 
 -- no device is missing
 abbrev pub all_sound : Conditions
@@ -33,8 +33,7 @@ abbrev pub IsNoneOrEmpty : Geometry → Image → Type 0
 IsNoneOrEmpty shelf image = (more : Conditions) (view : View) → IsBearable shelf more → NoneLeftOut more → MayShow image more view
     → (slot : BootSlot) (body : List ℕ) → IsEffective shelf view slot body → MeansNothing shelf view slot body
 
--- with no device missing they stand for the array of nothing, by the first record, and the next record may follow
+-- with no device missing they stand for the array of nothing, so that a session may begin, by the first record, and the next record may follow
 pub record IsMade (shelf : Shelved) : Type 0 where
-  pub clean : IsClean shelf
-  pub stands : StandsNow shelf all_sound ([] ∷ [])
+  pub enters : Enters shelf all_sound ([] ∷ [])
   pub in_force : IsInForceOn shelf (first_record (geometry_of shelf)).members.drives all_sound A (first_record (geometry_of shelf))

@@ -11,8 +11,7 @@ returns-in-Ok g c =
       source = source;
       sink = c.in-Ok.ensures.counts;
       honest_sink = c.in-Ok.ensures.honest;
-      continues = shelf.continues;
-      disk = shelf.disk;
+      output_only = shelf;
     }
 
 pub returns-in-Err : goal.returns-in-Err
@@ -25,6 +24,5 @@ returns-in-Err g c =
       source = source;
       sink = c.in-Err.ensures.counts;
       honest_sink = c.in-Err.ensures.honest;
-      continues = shelf.continues;
-      disk = shelf.disk;
+      output_only = shelf;
     }
