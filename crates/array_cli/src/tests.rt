@@ -11,14 +11,20 @@ fn text_of(alloc: Global, text: &[u8]) -> Result<Vec<u8>, Fail> {
     Ok(Vec::from_slice(alloc, text)?)
 }
 
-fn serve_words(alloc: Global) -> Result<Vec<String>, Fail> {
+fn one_word(alloc: Global, word: &str) -> Result<Vec<String>, Fail> {
     let mut words = Vec::new(alloc);
-    words.push(String::from_str(alloc, "serve")?)?;
+    words.push(String::from_str(alloc, word)?)?;
     Ok(words)
 }
 
+/// A world on which an array was made.
 fn new_world(alloc: Global) -> Result<MemWorld, Fail> {
-    Ok(MemWorld::new(alloc, 11, 64, Vec::new(alloc))?)
+    let mut world = MemWorld::new(alloc, 11, 64, Vec::new(alloc))?;
+    let words = one_word(alloc, "init")?;
+    match array_main(alloc, &words, &mut world) {
+        Status::Done => Ok(world),
+        _ => Err(Fail::new("init")),
+    }
 }
 
 /// How `serve` ends for an input that comes in pieces, and what it gives.
@@ -33,7 +39,7 @@ fn served(
     let before = world.output().len();
     world.set_piece(piece);
     world.feed(input)?;
-    let words = serve_words(alloc)?;
+    let words = one_word(alloc, "serve")?;
     let status = array_main(alloc, &words, world);
     let given = world.output().get(before..).unwrap_or(&[]);
     Ok((status, text_of(alloc, given)?))
@@ -42,29 +48,29 @@ fn served(
 #[test]
 fn answers_transcripts(rt: HostRuntime) -> Result<(), Fail> {
     let alloc = rt.alloc();
-    let rows: [(&[u8], &[u8]); 5] = [
-        (b"", b""),
-        (b"create a 0\ncreate a 1048577\n", b"no limit\nno limit\n"),
+    let rows: [(&[u8], &[u8], usize); 5] = [
+        (b"", b"", 1),
+        (b"create a 0\ncreate a 1048577\n", b"no limit\nno limit\n", 7),
         (
             b"\ncreate abcdefghijklmnopqrstuvwxy 1\nfill a 0 65 1\nread  a 0 1\ncreate a 01\n",
             b"no syntax\nno syntax\nno syntax\nno syntax\nno syntax\n",
+            1,
         ),
         (
             b"create a 8\ncreate a 9\nfill b 0 1 1\nlist",
             b"ok\nno taken\nno unknown\nnames 1\na volume 8\n",
+            100_000,
         ),
         (
             b"status\nzero a 0 1\ntakeover\n",
             b"no syntax\nno syntax\nno syntax\n",
+            7,
         ),
     ];
-    let mut world = new_world(alloc)?;
-    for (input, output) in rows {
-        for piece in [1, 7, 100_000] {
-            let (status, given) = served(alloc, &mut world, input, piece)?;
-            assert_eq!(rt; status, Status::Done);
-            assert_eq!(rt; given.as_slice(), output, "{input:?} in pieces of {piece}");
-        }
+    for (input, output, piece) in rows {
+        let (status, given) = served(alloc, &mut new_world(alloc)?, input, piece)?;
+        assert_eq!(rt; status, Status::Done);
+        assert_eq!(rt; given.as_slice(), output, "{input:?} in pieces of {piece}");
     }
     Ok(())
 }
@@ -82,12 +88,26 @@ fn gives_and_takes_data(rt: HostRuntime) -> Result<(), Fail> {
     output.extend_from_slice(b"ok\ndata 1\n")?;
     output.extend_from_slice(&[66; 512])?;
     output.extend_from_slice(b"no range\nnames 1\na volume 8\n")?;
-    let mut world = new_world(alloc)?;
     for piece in [1, 100, 100_000] {
-        let (status, given) = served(alloc, &mut world, &input, piece)?;
+        let (status, given) = served(alloc, &mut new_world(alloc)?, &input, piece)?;
         assert_eq!(rt; status, Status::Done);
         assert_eq!(rt; given.as_slice(), output.as_slice(), "in pieces of {piece}");
     }
+    Ok(())
+}
+
+#[test]
+fn keeps_what_it_said(rt: HostRuntime) -> Result<(), Fail> {
+    let alloc = rt.alloc();
+    let mut world = new_world(alloc)?;
+    let (status, given) = served(alloc, &mut world, b"create a 8\nfill a 7 1 65\n", 5)?;
+    assert_eq!(rt; status, Status::Done);
+    assert_eq!(rt; given.as_slice(), b"ok\nok\n".as_slice());
+    let mut output = text_of(alloc, b"names 1\na volume 8\ndata 1\n")?;
+    output.extend_from_slice(&[65; 512])?;
+    let (status, given) = served(alloc, &mut world, b"list\nread a 7 1\n", 100)?;
+    assert_eq!(rt; status, Status::Done);
+    assert_eq!(rt; given.as_slice(), output.as_slice());
     Ok(())
 }
 
@@ -103,18 +123,24 @@ fn ends_a_cut_write(rt: HostRuntime) -> Result<(), Fail> {
 }
 
 #[test]
-fn holds_the_most_objects_and_sectors(rt: HostRuntime) -> Result<(), Fail> {
+fn fills_its_log(rt: HostRuntime) -> Result<(), Fail> {
     let alloc = rt.alloc();
     let mut input = text_of(alloc, b"create a 1048576\nread a 1048575 1\n")?;
     let mut output = text_of(alloc, b"ok\ndata 1\n")?;
     output.extend_from_slice(&[0; 512])?;
-    for number in 1..1024u32 {
+    for number in 1..64u32 {
         let line = format!(in alloc; "create n{number} 1\n")?;
         input.extend_from_slice(line.as_bytes())?;
         output.extend_from_slice(b"ok\n")?;
     }
-    input.extend_from_slice(b"create n1024 1\n")?;
-    output.extend_from_slice(b"no limit\n")?;
+    input.extend_from_slice(b"create n64 1\nlist\nread n63 0 1\n")?;
+    output.extend_from_slice(b"no space\nnames 64\na volume 1048576\n")?;
+    for number in 1..64u32 {
+        let line = format!(in alloc; "n{number} volume 1\n")?;
+        output.extend_from_slice(line.as_bytes())?;
+    }
+    output.extend_from_slice(b"data 1\n")?;
+    output.extend_from_slice(&[0; 512])?;
     let (status, given) = served(alloc, &mut new_world(alloc)?, &input, 100_000)?;
     assert_eq!(rt; status, Status::Done);
     assert!(rt; given.as_slice() == output.as_slice());
@@ -125,18 +151,34 @@ fn holds_the_most_objects_and_sectors(rt: HostRuntime) -> Result<(), Fail> {
 fn stops_at_a_failed_call(rt: HostRuntime) -> Result<(), Fail> {
     let alloc = rt.alloc();
     let input = b"create a 8\nfill a 0 1 1\nlist\n";
-    let words = serve_words(alloc)?;
 
-    let mut world = MemWorld::new(alloc, 11, 64, text_of(alloc, input)?)?;
-    world.set_piece(11);
+    let mut world = new_world(alloc)?;
     world.fail_take(2)?;
-    assert_eq!(rt; array_main(alloc, &words, &mut world), Status::Source);
-    assert_eq!(rt; world.output(), b"ok\n".as_slice());
+    let (status, given) = served(alloc, &mut world, input, 11)?;
+    assert_eq!(rt; status, Status::Source);
+    assert_eq!(rt; given.as_slice(), b"ok\n".as_slice());
 
-    let mut world = MemWorld::new(alloc, 11, 64, text_of(alloc, input)?)?;
+    let mut world = new_world(alloc)?;
     world.fail_give(3)?;
-    assert_eq!(rt; array_main(alloc, &words, &mut world), Status::Sink);
-    assert_eq!(rt; world.output(), b"ok\nok\n".as_slice());
+    let (status, given) = served(alloc, &mut world, input, 11)?;
+    assert_eq!(rt; status, Status::Sink);
+    assert_eq!(rt; given.as_slice(), b"ok\nok\n".as_slice());
+    Ok(())
+}
+
+#[test]
+fn makes_one_array(rt: HostRuntime) -> Result<(), Fail> {
+    let alloc = rt.alloc();
+    let mut world = MemWorld::new(alloc, 11, 64, Vec::new(alloc))?;
+    let init = one_word(alloc, "init")?;
+    let serve = one_word(alloc, "serve")?;
+    assert_eq!(rt; array_main(alloc, &serve, &mut world), Status::NoArray);
+    assert_eq!(rt; world.output(), b"".as_slice());
+    assert_eq!(rt; array_main(alloc, &init, &mut world), Status::Done);
+    assert_eq!(rt; world.output(), b"ok\n".as_slice());
+    assert_eq!(rt; array_main(alloc, &init, &mut world), Status::NotBlank);
+    assert_eq!(rt; array_main(alloc, &serve, &mut world), Status::Done);
+    assert_eq!(rt; world.output(), b"ok\n".as_slice());
     Ok(())
 }
 
