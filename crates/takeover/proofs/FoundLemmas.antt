@@ -1,5 +1,5 @@
 -- The record is loaded and settled: at every moment the devices stand for the arrays, and then it is in force.
-use Rattle.std.proofs.Common.{◌≡◌, ◌⊎◌, inl, inr, ℕ, ◌+◌, ◌<◌, ◌≤◌, ◌-◌, ◌^◌, Bool, true, false, List, [], length, refl, sym, ◌∙◌, ap, subst, arith, Result, Ok, Err}
+use Rattle.std.proofs.Common.{◌≡◌, ℕ, ◌+◌, ◌<◌, ◌≤◌, ◌-◌, ◌^◌, Bool, true, false, List, [], refl, sym, ◌∙◌, ap, subst, arith, Ok}
 use Rattle.std.specs.Prelude.{◌&&◌, slice_index_or, Some, None}
 use Rattle.pur_base.specs.Plain.{Array}
 use Rattle.pur_base.specs.Devices.{Geometry, Conditions, Sound, LeftOut, IsBearable, IsWithin, drive, nvram}
@@ -20,7 +20,6 @@ use Rattle.world.specs.Shelf.{Shelved, Stop, IsShelf, IsSame, Continues, MayStop
 use Rattle.world.specs.Writes.{LeavesBut, WritesOnly}
 use Rattle.world.proofs.Moments.{then_run, weaker}
 use Rattle.boot_region.specs.declared.loading.Loaded.{Loaded}
-use Rattle.boot_region.specs.declared.loading.LoadFault.{LoadFault}
 use Rattle.boot_region.specs.Members.{IsMember, OnClosed}
 use Rattle.boot_region.specs.Slots.{slot_in}
 use Rattle.boot_region.specs.Regions.{is_holding}
@@ -29,7 +28,6 @@ use Rattle.boot_region.specs.Storing.{StandsNow, IsLoaded, IsFound, IsInForceOn,
 use Rattle.boot_region.proofs.Accounts.{losing_within}
 use Rattle.boot_region.proofs.Began.{began, on_nvram}
 use Rattle.boot_region.proofs.FoundLemmas.{body_stands, drive_below}
-use Rattle.boot_region.proofs.Phases.{not_risen_before}
 use Rattle.boot_region.proofs.Settled.{stands_while_settling, no_more_given, settling_began, leaves_members}
 use Rattle.boot_region.proofs.ShownLemmas.{as_read, bodies_same}
 use Rattle.takeover.proofs.NoFault.{few_lack}

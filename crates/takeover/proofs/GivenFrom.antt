@@ -1,17 +1,15 @@
 -- From the moment on at which each silent device has failed, what the drives showed gives the record still.
-use Rattle.std.proofs.Common.{◌≡◌, ◌⊎◌, inl, inr, ℕ, zero, suc, ◌+◌, ◌*◌, ◌<◌, ◌≤◌, Bool, true, false, if◌then◌else◌, List, [], length, map, slice_index, Option, Some, None, option_and_then, refl, sym, ◌∙◌, ap, subst, arith, cond, Result, Ok}
+use Rattle.std.proofs.Common.{◌≡◌, ◌⊎◌, inl, inr, ℕ, zero, suc, ◌+◌, ◌≤◌, Bool, true, false, if◌then◌else◌, List, length, map, slice_index, Option, Some, None, option_and_then, refl, sym, ◌∙◌, ap, subst, arith, cond}
 use Rattle.std.specs.Prelude.{count_by}
 use Rattle.std.specs.List.{range_with_len}
 use Rattle.std.proofs.lemmas.Bool.{cases_Bool}
 use Rattle.std.proofs.lemmas.List.{ext_get_or}
 use Rattle.std.proofs.lemmas.List.FromFn.{length-map-range_with_len}
 use Rattle.pur_base.specs.declared.device.Device.{Device}
-use Rattle.pur_base.specs.declared.device.Device.TheVariants.{Drive, Nv}
 use Rattle.pur_base.specs.declared.limits.TheConstants.{SECTOR_BYTES}
 use Rattle.pur_base.specs.Devices.{View, Condition, Conditions, Sound, is_sound, IsBearable, slots_of, drive}
 use Rattle.pur_base.specs.Gates.{is_open}
 use Rattle.pur_base.specs.Plain.{Array}
-use Rattle.boot_codec.specs.declared.record.BootRecord.{BootRecord}
 use Rattle.boot_codec.specs.Region.{BootSlot, IsEffective, IsDecided, IsRecordOf, votes, is_vote, other_slot, gate_place, shown_by, body_in}
 use Rattle.boot_codec.specs.Spelling.{spelling}
 use Rattle.array_spec.specs.Standing.{MayBeGiven}

@@ -1,17 +1,17 @@
 -- The record that was loaded and settled, as the drives showed it.
-use Rattle.std.proofs.Common.{◌≡◌, ◌⊎◌, inl, inr, ℕ, ◌+◌, ◌<◌, ◌≤◌, Bool, true, false, List, [], slice_index_or, sym, ◌∙◌, subst, arith, Result, Ok, Err}
+use Rattle.std.proofs.Common.{◌≡◌, ◌⊎◌, inl, inr, ℕ, ◌+◌, ◌<◌, Bool, true, false, List, [], slice_index_or, sym, ◌∙◌, subst, arith, Ok, Err}
 use Rattle.std.proofs.lemmas.Bool.{cases_Bool}
 use Rattle.pur_base.specs.declared.device.Device.{Device}
-use Rattle.pur_base.specs.Devices.{Conditions, Sound, drive}
+use Rattle.pur_base.specs.Devices.{Conditions, drive}
 use Rattle.pur_base.specs.Plain.{Array}
 use Rattle.boot_codec.specs.declared.record.BootRecord.{BootRecord}
 use Rattle.boot_codec.specs.Record.{set_count}
 use Rattle.boot_codec.specs.Region.{gate_place}
 use Rattle.boot_codec.specs.Spelling.{spelling}
 use Rattle.world.specs.Counts.{Rises}
-use Rattle.world.specs.Losing.{geometry_of, has_risen}
-use Rattle.world.specs.Shelf.{Shelved, Stop, IsSame, IsCountedBy, Continues, LeavesOnly}
-use Rattle.world.specs.Writes.{LeavesBut, WritesOnly}
+use Rattle.world.specs.Losing.{has_risen}
+use Rattle.world.specs.Shelf.{Shelved, IsSame, IsCountedBy, Continues, LeavesOnly}
+use Rattle.world.specs.Writes.{WritesOnly}
 use Rattle.world.proofs.Moments.{then_run, weaker}
 use Rattle.boot_region.specs.declared.loading.Loaded.{Loaded}
 use Rattle.boot_region.specs.declared.loading.LoadFault.{LoadFault}
@@ -28,7 +28,7 @@ use Rattle.takeover.specs.Opened.{AreClean}
 use Rattle.takeover.specs.Seen.{IsSeenIn, IsSeenBy}
 use Rattle.takeover.proofs.Failing.{sound_since}
 use Rattle.takeover.proofs.GivenFrom.{given_from}
-use Rattle.takeover.proofs.Showing.{showing, shown, nvrams, silent, gives, member_showed, other_hid, below, too_few, patched, seen_fault, rose_then}
+use Rattle.takeover.proofs.Showing.{showing, shown, nvrams, silent, gives, member_showed, other_hid, too_few, patched, seen_fault, rose_then}
 
 -- a loading that failed
 pub seen_not_loaded : (old mid : Shelved) → Continues mid mid → (e : LoadFault) → IsLoadOf old mid (Err e) → IsSeenBy old mid (Err (fault_of e))

@@ -1,17 +1,17 @@
 -- What the drives showed, as a view of the devices, and the record that it gives.
-use Rattle.std.proofs.Common.{◌≡◌, ◌≢◌, ◌⊎◌, inl, inr, ℕ, zero, suc, ◌+◌, ◌*◌, ◌-◌, ◌^◌, ◌<◌, ◌≤◌, ◌&&◌, Bool, true, false, if◌then◌else◌, List, [], ◌∷◌, length, map, Option, Some, None, option_and_then, slice_index_or, refl, sym, ◌∙◌, ap, subst, arith, cond, Result, Ok, Err}
+use Rattle.std.proofs.Common.{◌≡◌, ◌≢◌, ◌⊎◌, inl, inr, ℕ, ◌+◌, ◌*◌, ◌<◌, ◌≤◌, ◌&&◌, Bool, true, false, if◌then◌else◌, List, [], length, Option, Some, None, option_and_then, slice_index_or, refl, sym, ◌∙◌, ap, subst, arith, Result, Ok, Err}
 use Rattle.std.specs.Prelude.{nat_lt, is_some, bytes_eq}
 use Rattle.std.proofs.lemmas.Bool.{cases_Bool, cases_lt, ltb-true, lt-ltb}
 use Rattle.std.proofs.lemmas.List.{get_or_past}
 use Rattle.pur_base.specs.Bytes.{bytes_at}
 use Rattle.pur_base.specs.declared.device.Device.{Device}
 use Rattle.pur_base.specs.declared.device.Device.TheVariants.{Drive, Nv}
-use Rattle.pur_base.specs.Devices.{View, Condition, Conditions, Sound, Missing, LeftOut, IsBearable, drive, nvram}
+use Rattle.pur_base.specs.Devices.{View, Sound, Missing, drive, nvram}
 use Rattle.boot_codec.specs.declared.bad_record.BadRecord.{BadRecord}
 use Rattle.boot_codec.specs.declared.record.BootRecord.{BootRecord}
 use Rattle.boot_codec.specs.Reading.{read_record}
 use Rattle.boot_codec.specs.Record.{set_count}
-use Rattle.boot_codec.specs.Region.{BootSlot, Effective, IsEffective, IsDecided, votes, other_slot, shown_by, body_in, names, with_body, of_members}
+use Rattle.boot_codec.specs.Region.{BootSlot, Effective, IsEffective, IsDecided, votes, other_slot, shown_by, body_in, with_body, of_members}
 use Rattle.boot_codec.specs.Spelling.{spelling}
 use Rattle.boot_codec.proofs.RecordLemmas.{record_again}
 use Rattle.array_spec.specs.Losses.{not_holding}
@@ -20,12 +20,11 @@ use Rattle.array_spec.proofs.Votes.{one_is_effective}
 use Rattle.world.specs.Counts.{Rises}
 use Rattle.world.specs.Losing.{geometry_of, has_risen, has_failed, losing}
 use Rattle.world.specs.Shelf.{Shelved, Continues}
-use Rattle.boot_region.specs.declared.loading.Loaded.{Loaded}
 use Rattle.boot_region.specs.declared.loading.LoadFault.{LoadFault}
 use Rattle.boot_region.specs.declared.loading.LoadFault.TheVariants as faults
 use Rattle.boot_region.specs.Members.{IsMember}
 use Rattle.boot_region.specs.Regions.{region_at, seen, is_holding, is_body_in, IsRead}
-use Rattle.boot_region.specs.Loading.{IsHeld, IsFaultOf, IsBadBody, IsLoadOf}
+use Rattle.boot_region.specs.Loading.{IsHeld, IsFaultOf, IsBadBody}
 use Rattle.boot_region.proofs.FoundLemmas.{same_body, same_shown, same_over}
 use Rattle.boot_region.proofs.Phases.{risen_on_way}
 use Rattle.session_spec.specs.Entering.{OnlyFailedAreSilent, read_now}

@@ -1,11 +1,10 @@
-use Rattle.std.proofs.Common.{rules, ◌≡◌, ◌≢◌, ◌<◌, ◌≤◌, ◌+◌, ℕ, List, [], ◌∷◌, length, refl, arith, sym, subst, ap, ◌∙◌, Result, Ok, Err}
+use Rattle.std.proofs.Common.{◌≡◌, ◌≢◌, ◌≤◌, ℕ, List, [], ◌∷◌, length, refl, arith, sym, subst, ap, ◌∙◌, Result, Ok, Err}
 use Rattle.std.proofs.lemmas.Result.{err_from_is_err_and}
-use Rattle.pur_base.specs.Devices.{Geometry, Conditions, IsBearable, drive, nvram}
-use Rattle.pur_base.specs.Plain.{Array}
+use Rattle.pur_base.specs.Devices.{Geometry, Conditions, IsBearable, nvram}
 use Rattle.boot_codec.specs.declared.record.BootRecord.{BootRecord}
-use Rattle.boot_codec.specs.Region.{IsRecordOf, gate_place, other_slot}
+use Rattle.boot_codec.specs.Region.{IsRecordOf, other_slot}
 use Rattle.world.specs.Losing.{geometry_of}
-use Rattle.world.specs.Shelf.{Shelved, Disk, Continues, LeavesOnly}
+use Rattle.world.specs.Shelf.{Disk}
 use Rattle.world.proofs.Moments.{continues_refl, continues_trans, weaker}
 use Rattle.std.specs.Prelude.{IfOk}
 use Rattle.boot_region.specs.declared.loading.Loaded.{Loaded}
