@@ -50,6 +50,7 @@ fn apply(plain: &mut Plain, logged: &Logged, room: &mut [Sector]) -> Result<bool
     requires sectors { (length logged.now.sectors.now ≡ SECTOR_BYTES * data_count logged.now.head.command) × (data_count logged.now.head.command ≤ REQUEST_SECTORS) }
     ensures room { length room.new ≡ length room.old }
     ensures ok { IfOk result (λ accepted. (number : ℕ) (c : Command) → HasSpelling number c → IsReadAs (Ok logged.now) number c → IsApplied plain.old c accepted plain.new) }
+    ensures in_force { IfOk result (λ accepted. is_in_force logged.now.head.command ≡ true) }
     ensures err { IfErr result (λ fault. IsApplyFault fault logged.now.head.command) }
 {
     let request = &logged.head.command;
