@@ -1,10 +1,10 @@
 // The commands of a log are applied to an array.
-ghost use Rattle.std.specs.Prelude.{◌≡◌, ℕ, ◌+◌, ◌*◌, ◌≤◌, List, [], length, Ok, IfOk, IfErr};
+ghost use Rattle.std.specs.Prelude.{◌≡◌, ℕ, ◌+◌, ◌*◌, ◌≤◌, List, [], true, length, Ok, IfOk, IfErr};
 ghost use Rattle.pur_base.specs.Bytes.{bytes_at};
 ghost use Rattle.std.specs.List.{AllByRecursion, concat};
 ghost use Rattle.pur_base.specs.Bytes.{IsBytesOf};
 ghost use Rattle.pur_base.specs.Commands.{Command};
-ghost use Rattle.pur_base.specs.Grammar.{data_count};
+ghost use Rattle.pur_base.specs.Grammar.{data_count, is_in_force};
 ghost use Rattle.pur_base.specs.declared.limits.TheConstants.{SECTOR_BYTES, REQUEST_SECTORS};
 ghost use Rattle.log_codec.specs.Log.{HasSpelling};
 ghost use Rattle.nvram_log.specs.Held.{Keeps};
