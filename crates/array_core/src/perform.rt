@@ -1,14 +1,15 @@
 // A command is performed.
-ghost use Rattle.std.specs.Prelude.{◌≡◌, ◌<◌, ◌-◌, ◌^◌, ◌++◌, ◌∷◌, [], List, None, true, length, OnOk, IfErr};
+ghost use Rattle.std.specs.Prelude.{◌≡◌, ◌<◌, ◌+◌, ◌-◌, ◌^◌, ◌++◌, ◌∷◌, [], List, None, true, length, OnOk, IfErr};
 ghost use Rattle.pur_base.specs.Commands.{Command, after};
 ghost use Rattle.pur_base.specs.Devices.{IsBearable};
 ghost use Rattle.pur_base.specs.Grammar.{is_in_force, data_count};
 ghost use Rattle.pur_base.specs.Plain.{refusal};
 ghost use Rattle.log_codec.specs.Head.{IsCommand};
 ghost use Rattle.log_codec.specs.declared.limits.TheConstants.{LOG_SLOTS};
-ghost use Rattle.world.specs.Losing.{geometry_of};
-ghost use Rattle.world.specs.Shelf.{Continues, LeavesOnly};
+ghost use Rattle.world.specs.Losing.{geometry_of, has_risen};
+ghost use Rattle.world.specs.Shelf.{Continues, LeavesOnly, IsCountedBy};
 ghost use Rattle.register.specs.Registers.{named_sound};
+ghost use Rattle.session_spec.specs.Faring.{MayRise};
 ghost use Rattle.array_core.specs.Losing.{lost_since};
 
 use crate::Array;
@@ -67,7 +68,8 @@ impl From<StoreFault> for PerformFault {
 impl Array {
     ghost use Rattle.array_core.specs.declared.perform.PerformFault.TheVariants.{Device};
     ghost use Rattle.array_core.specs.Ready.{IsArrayOf, IsReady};
-    ghost use Rattle.array_core.specs.Performing.{IsSpent, IsFull, IsRoomFault, IsFaultOf, StandsMeanwhile, without_or_with};
+    ghost use Rattle.array_core.specs.Holding.{DropsFailed, NoneJoins};
+    ghost use Rattle.array_core.specs.Performing.{IsSpent, IsFull, IsRoomFault, IsFaultOf, IsKeptAt, without_or_with};
 
     /// Whether there is room for one more command.
     fn check_room(&self) -> Result<(), PerformFault>
@@ -102,12 +104,17 @@ impl Array {
         ensures room { OnOk result ((¬ (IsSpent self.old)) × (¬ (IsFull self.old))) }
         ensures fault { IfErr result (λ e. IsFaultOf (S.shelf shelf.old) (S.shelf shelf.new) self.old request.now ((self.new ≡ self.old) × (shelf.new ≡ shelf.old)) e) }
         ensures plain { OnOk result (self.new.plain ≡ after self.old.plain (record { request = request.now; sectors = sectors.now })) }
+        ensures moments { (S.shelf shelf.old).honest → LeavesOnly (S.shelf shelf.old) (S.shelf shelf.new) (IsCountedBy (S.shelf shelf.old)) }
+        ensures count { OnOk result (self.new.log.count ≡ self.old.log.count + 1) }
+        // A record is stored only where a device lost a write, and so three more at most, since two drives of the shelf at most may be missing then.
+        ensures generation { OnOk result (MayRise (λ d. has_risen ((S.shelf shelf.old).disk d).write_faults ((S.shelf shelf.new).disk d).write_faults) self.old.register.record.generation self.new.register.record.generation) }
+        ensures dropped { OnOk result (DropsFailed (S.shelf shelf.old) (S.shelf shelf.new) self.old self.new × NoneJoins self.old self.new) }
         // Then the array has done the command, and so do the devices hold it.
         ensures done { (S.shelf shelf.old).honest → OnOk result ((commands : List Command) → IsReady (S.shelf shelf.old) self.old commands
             → IsReady (S.shelf shelf.new) self.new (commands ++ record { request = request.now; sectors = sectors.now } ∷ [])) }
-        // At every moment the devices stand for the array without the command or with it.
+        // At every moment a session can go on, with the array without the command or with it.
         ensures any_moment { (S.shelf shelf.old).honest → (commands : List Command) → IsReady (S.shelf shelf.old) self.old commands
-            → LeavesOnly (S.shelf shelf.old) (S.shelf shelf.new) (StandsMeanwhile (S.shelf shelf.old) self.old.register.record (without_or_with commands (record { request = request.now; sectors = sectors.now }))) }
+            → LeavesOnly (S.shelf shelf.old) (S.shelf shelf.new) (IsKeptAt (S.shelf shelf.old) self.old.register.record (without_or_with commands (record { request = request.now; sectors = sectors.now }))) }
         // Where no more is missing than is borne, no device fault is answered.
         ensures borne { (S.shelf shelf.old).honest → IfErr result (λ e. e ≡ Device → (commands : List Command) → IsReady (S.shelf shelf.old) self.old commands
             → IsBearable (geometry_of (S.shelf shelf.old)) (lost_since (S.shelf shelf.old) (S.shelf shelf.new) (named_sound self.old.register.record)) → ⊥) }
