@@ -7,3 +7,4 @@ pub mod Again
 pub mod Back
 pub mod Rounds
 pub mod Stores
+pub mod Turns
