@@ -16,3 +16,4 @@ mod Twice
 mod RecoveredLemmas
 mod Moments
 mod Refused
+mod Causes
