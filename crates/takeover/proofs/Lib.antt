@@ -1,9 +1,13 @@
 mod Members
 mod Failing
 mod Counts
+mod Cleaned
 mod Loading
 mod NoFault
 mod FoundLemmas
+mod Showing
+mod GivenFrom
+mod SeenIn
 mod Fronts
 mod Opened
 mod Generations

@@ -1,5 +1,5 @@
 -- No fault of a loading comes where the devices stand for arrays and no more is missing than is borne.
-use Rattle.std.proofs.Common.{◌≡◌, ◌⊎◌, inl, inr, ℕ, ◌+◌, ◌<◌, ◌≤◌, Bool, true, false, List, length, refl, sym, ◌∙◌, ap, subst, arith, Result, Ok, Err}
+use Rattle.std.proofs.Common.{◌≡◌, ◌⊎◌, inl, inr, ℕ, ◌+◌, ◌<◌, ◌≤◌, Bool, true, List, length, refl, sym, subst, arith, Result, Ok}
 use Rattle.std.proofs.lemmas.Bool.{cases_Bool}
 use Rattle.pur_base.specs.Plain.{Array}
 use Rattle.pur_base.specs.Devices.{Conditions, Sound, is_missing, IsBearable, drive}
@@ -12,12 +12,11 @@ use Rattle.boot_codec.proofs.RecordLemmas.{record_again}
 use Rattle.array_spec.proofs.Votes.{one_is_effective, not_missing}
 use Rattle.world.specs.Losing.{geometry_of}
 use Rattle.world.specs.Shelf.{Shelved, Stop, IsSame, Continues, MayStop}
-use Rattle.boot_region.specs.declared.loading.Loaded.{Loaded}
 use Rattle.boot_region.specs.declared.loading.LoadFault.{LoadFault}
 use Rattle.boot_region.specs.declared.loading.LoadFault.TheVariants as faults
 use Rattle.boot_region.specs.Members.{IsMember}
 use Rattle.boot_region.specs.Regions.{IsRead}
-use Rattle.boot_region.specs.Loading.{IsFaultOf, IsBadBody, TooFewHold, IsLoadBy}
+use Rattle.boot_region.specs.Loading.{IsFaultOf, IsBadBody, TooFewHold}
 use Rattle.session_spec.specs.Entering.{Enters, failed_since}
 use Rattle.takeover.proofs.Loading.{given_here, here_decided, seen_effective, view, member_here}
 use Rattle.takeover.proofs.Members.{enough}

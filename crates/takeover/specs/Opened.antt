@@ -1,5 +1,5 @@
 -- What an opening found and did, whatever failed, or why the array wasn't opened.
-use Rattle.std.specs.Prelude.{◌≡◌, ◌<◌, ◌+◌, List, Result, Ok, Err, Option, Some, IfSome}
+use Rattle.std.specs.Prelude.{◌≡◌, ◌<◌, ◌+◌, List, [], Result, Ok, Err, Option, Some, IfSome}
 use Rattle.pur_base.specs.Devices.{Conditions, Sound, IsBearable}
 use Rattle.pur_base.specs.Plain.{Array}
 use Rattle.pur_base.specs.declared.device.Device.{Device}
