@@ -14,8 +14,10 @@ mod Generations
 mod Chains
 mod Applying
 mod Answered
+mod NothingStored
 mod LogSettling
 mod LogOpened
+mod LogReplayed
 mod Twice
 mod RecoveredLemmas
 mod Moments
