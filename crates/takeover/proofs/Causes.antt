@@ -101,7 +101,6 @@ module _ (old new : Shelved) (missing : Conditions) (arrays : List Array) (enter
       after d = outcome (failed d) (members_view few.found.view few.found.effective d)
 
       taken : IsTakenOver (geometry_of old) (read_now old).image few.found failed after
-      unfolding after
       taken = record { silent = few.silent; each = λ d on. comes_out few.found failed after d (failed d) (members_view few.found.view few.found.effective d) refl refl refl }
 
   pub cause : (ended : Status) → IsUnopenedBy ended old new → ended ≡ status.Memory

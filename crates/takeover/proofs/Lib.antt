@@ -23,3 +23,5 @@ mod RecoveredLemmas
 mod Moments
 mod Refused
 mod Causes
+mod WhatFound
+mod Stops

@@ -35,6 +35,9 @@ use Rattle.takeover.proofs.Members.{count_below}
 use Rattle.takeover.proofs.RecoveredLemmas.{in_log}
 use Rattle.takeover.proofs.Moments.{then_moments, log_opened, stored_moments, recovered, no_store_fault, is_open}
 use Rattle.takeover.proofs.Refused.{not_found, not_opened}
+use Rattle.takeover.proofs.Causes.{cause}
+use Rattle.takeover.proofs.WhatFound.{taken_over}
+use Rattle.takeover.proofs.Stops.{unstored}
 use Rattle.takeover.proofs.recovering.recover.Goals as goal
 
 pub returns-in_err-loaded-clause-recovered : goal.returns-in_err-loaded-clause-recovered
