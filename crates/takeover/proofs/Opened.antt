@@ -21,5 +21,7 @@ not_loaded old mid missing arrays is_mid h enters on same bears faults.NoArray b
     no_fault old mid missing arrays enters on same bears by.bytes by.answered by.all by.read (as_they_read mid) (may_read mid is_mid (on.honest h)) faults.NoArray by.answer ⊥ (λ m e. cc)
 not_loaded old mid missing arrays is_mid h enters on same bears (faults.BadRecord b) by =
     no_fault old mid missing arrays enters on same bears by.bytes by.answered by.all by.read (as_they_read mid) (may_read mid is_mid (on.honest h)) (faults.BadRecord b) by.answer ⊥ (λ m e. cc)
+not_loaded old mid missing arrays is_mid h enters on same bears faults.Spent by =
+    no_fault old mid missing arrays enters on same bears by.bytes by.answered by.all by.read (as_they_read mid) (may_read mid is_mid (on.honest h)) faults.Spent by.answer ⊥ (λ m e. cc)
 not_loaded old mid missing arrays is_mid h enters on same bears (faults.TooFew drives) by =
     no_fault old mid missing arrays enters on same bears by.bytes by.answered by.all by.read (as_they_read mid) (may_read mid is_mid (on.honest h)) (faults.TooFew drives) by.answer ⊥ (λ m e. cc)

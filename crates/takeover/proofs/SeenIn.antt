@@ -35,6 +35,7 @@ pub seen_not_loaded : (old mid : Shelved) → Continues mid mid → (e : LoadFau
 seen_not_loaded old mid on (faults.Memory m) by = tt
 seen_not_loaded old mid on faults.NoArray by = seen_fault old mid by.bytes by.answered by.all by.read on faults.NoArray by.answer
 seen_not_loaded old mid on (faults.BadRecord b) by = seen_fault old mid by.bytes by.answered by.all by.read on (faults.BadRecord b) by.answer
+seen_not_loaded old mid on faults.Spent by = seen_fault old mid by.bytes by.answered by.all by.read on faults.Spent by.answer
 seen_not_loaded old mid on (faults.TooFew drives) by = seen_fault old mid by.bytes by.answered by.all by.read on (faults.TooFew drives) by.answer
 
 -- a record that names patches

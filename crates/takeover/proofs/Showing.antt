@@ -1,5 +1,5 @@
 -- What the drives showed, as a view of the devices, and the record that it gives.
-use Rattle.std.proofs.Common.{◌≡◌, ◌≢◌, ◌⊎◌, inl, inr, ℕ, ◌+◌, ◌*◌, ◌<◌, ◌≤◌, ◌&&◌, Bool, true, false, if◌then◌else◌, List, [], length, Option, Some, None, option_and_then, slice_index_or, refl, sym, ◌∙◌, ap, subst, arith, Result, Ok, Err}
+use Rattle.std.proofs.Common.{◌≡◌, ◌≢◌, ◌⊎◌, inl, inr, ℕ, ◌+◌, ◌*◌, ◌-◌, ◌^◌, ◌<◌, ◌≤◌, ◌&&◌, Bool, true, false, if◌then◌else◌, List, [], length, Option, Some, None, option_and_then, slice_index_or, refl, sym, ◌∙◌, ap, subst, arith, Result, Ok, Err}
 use Rattle.std.specs.Prelude.{nat_lt, is_some, bytes_eq}
 use Rattle.std.proofs.lemmas.Bool.{cases_Bool, cases_lt, ltb-true, lt-ltb}
 use Rattle.std.proofs.lemmas.List.{get_or_past}
@@ -24,7 +24,7 @@ use Rattle.boot_region.specs.declared.loading.LoadFault.{LoadFault}
 use Rattle.boot_region.specs.declared.loading.LoadFault.TheVariants as faults
 use Rattle.boot_region.specs.Members.{IsMember}
 use Rattle.boot_region.specs.Regions.{region_at, seen, is_holding, is_body_in, IsRead}
-use Rattle.boot_region.specs.Loading.{IsHeld, IsFaultOf, IsBadBody}
+use Rattle.boot_region.specs.Loading.{IsHeld, IsFaultOf, IsBadBody, IsSpent}
 use Rattle.boot_region.proofs.FoundLemmas.{same_body, same_shown, same_over}
 use Rattle.boot_region.proofs.Phases.{risen_on_way}
 use Rattle.session_spec.specs.Entering.{OnlyFailedAreSilent, read_now}
@@ -227,8 +227,15 @@ module _ (old mid : Shelved) (bytes : List ℕ) (answered : List Bool) (all : le
   undecided : (e : Effective (geometry_of old) view) → IsFaultOf (geometry_of old) bytes answered faults.NoArray → ⊥
   undecided e none = none e.slot (spelling e.boot) (subst (λ (v : List (Option (List ℕ))). IsDecided v (spelling e.boot)) (same_votes e.slot) e.effective.decided)
 
+  spent : (e : Effective (geometry_of old) view) → IsSpent (geometry_of old) bytes answered → e.boot.generation < 2 ^ 48 - 8 → ⊥
+  spent e is room =
+      let same : e.boot ≡ is.boot = spells_one (geometry_of old) e.boot is.boot e.lawful is.lawful (is_the_body e is.slot (spelling is.boot) is.effective) in
+      let as_high : e.boot.generation ≡ is.boot.generation = ap (λ (b : BootRecord). b.generation) same in
+      absurd (omega (arith, room, is.spent, as_high))
+
   pub seen_fault : Continues mid mid → (fault : LoadFault) → IsFaultOf (geometry_of old) bytes answered fault → IsSeenBy old mid (Err (fault_of fault))
   seen_fault on (faults.Memory m) is = tt
   seen_fault on faults.NoArray is = no_array mid on (λ e. absurd (undecided e is))
   seen_fault on (faults.BadRecord b) is = no_array mid on (λ e. absurd (bad_body e b is))
+  seen_fault on faults.Spent is = no_array mid on (λ e. inl (λ room. spent e is room))
   seen_fault on (faults.TooFew drives) is = too_few is.slot is.boot drives is.held mid on drives (λ i lt m. inl m) is.too_few

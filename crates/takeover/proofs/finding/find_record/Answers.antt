@@ -1,4 +1,4 @@
-use Rattle.std.proofs.Common.{◌≡◌, ◌≢◌, ◌≤◌, ℕ, List, [], ◌∷◌, length, refl, arith, sym, subst, ap, ◌∙◌, Result, Ok, Err}
+use Rattle.std.proofs.Common.{◌^◌, ◌-◌, ◌<◌, ◌≡◌, ◌≢◌, ◌≤◌, ℕ, List, [], ◌∷◌, length, refl, arith, sym, subst, ap, ◌∙◌, Result, Ok, Err}
 use Rattle.std.proofs.lemmas.Result.{err_from_is_err_and}
 use Rattle.pur_base.specs.Devices.{Geometry, Conditions, IsBearable, nvram}
 use Rattle.boot_codec.specs.declared.record.BootRecord.{BootRecord}
@@ -210,5 +210,6 @@ returns-clause-lawful g c =
     record {
       lawful = subst (λ (b : BootRecord). IsRecordOf (geometry_of (g.S.Shelf.shelf c.settle_loaded.new.shelf)) b) (sym c.settle_loaded.ensures.record.0)
           (subst (λ (s : Geometry). IsRecordOf s c.in_ok-loaded.loaded.record) (same_geometry c.settle_loaded.ensures.continues) is.lawful);
+      room = subst (λ (b : BootRecord). b.generation < 2 ^ 48 - 8) (sym c.settle_loaded.ensures.record.0) is.room;
       named = λ i m. subst (λ (b : BootRecord). IsMember b.members.drives i) (sym c.settle_loaded.ensures.record.0) (is.named i (c.settle_loaded.ensures.fewer i m));
     }
