@@ -21,7 +21,9 @@ mod LogReplayed
 mod Twice
 mod RecoveredLemmas
 mod Moments
-mod Refused
 mod Causes
 mod WhatFound
 mod Stops
+mod Awaited
+mod Storing
+mod Opening

@@ -30,7 +30,6 @@ use Rattle.register.specs.Registers.{IsRegisterOf, drives_of, own_slot, next_slo
 use Rattle.register.specs.Standing.{StandsInLog, MayStore, IsOpen}
 use Rattle.register.proofs.FlagLemmas.{in_cut, cut_in}
 use Rattle.session_spec.specs.Entering.{failed_since, failed_by}
-use Rattle.takeover.specs.Entering.{StandsStill}
 use Rattle.takeover.specs.Found.{IsFoundOn}
 use Rattle.takeover.specs.LogOpen.{IsLogOpen}
 use Rattle.takeover.specs.declared.log.OpenedLog.{OpenedLog}
@@ -85,18 +84,6 @@ module _ (shelf : Shelved) (x : Loaded) (missing : Conditions) (arrays : List Ar
     left_out = opened.left_out;
   }
 
--- at a moment of the store
-pub still_storing : (old mid : Shelved) (missing : Conditions) (arrays : List Array) (members : List Bool) (slot : BootSlot) (held : BootRecord) (stop : Stop) → Continues old mid → IsCountedBy mid stop
-    → StandsBut mid members (failed_since old mid missing) slot held arrays stop → StandsStill old missing arrays stop
-still_storing old mid missing arrays members slot held stop on counts stands bears =
-    let same = twice_by old mid stop missing on counts in
-    let e : geometry_of old ≡ geometry_of mid = same_geometry on in
-    let later = failed_by mid stop (failed_since old mid missing) in
-    let bears_mid : IsBearable (geometry_of mid) later = subst (λ (g : Geometry). IsBearable g later) e (subst (λ (c : Conditions). IsBearable (geometry_of old) c) (sym same) bears) in
-    subst (λ (c : Conditions). Stands (geometry_of old) stop.image c arrays) same
-    (subst (λ (g : Geometry). Stands g stop.image later arrays) (sym e)
-    (stands later (failed_calls mid members (failed_since old mid missing) slot (spelling held) stop.faults stop.write_faults bears_mid)))
-
 -- a drive of the shelf on which the record was in force is left, or lost a write
 pub left_or_lost : (old new : Shelved) (was now : Register) → was.record.slots ≡ old.drives → DroppedFailed old new (drives_of was) (drives_of now) → (i : ℕ) → i < old.drives → IsMember was.drives i
     → IsMember now.drives i ⊎ LostWrites (old.disk (drive i)) (new.disk (drive i))
@@ -121,7 +108,3 @@ module _ (old mid new : Shelved) (missing : Conditions) (drives left : List Bool
         where
           before : (d : Device) → has_risen (old.disk d).faults (new.disk d).faults ≡ false → has_risen (old.disk d).faults (mid.disk d).faults ≡ false
           before d none = not_risen_before (old.disk d).faults (mid.disk d).faults (new.disk d).faults (after.faults d) none
-
-  pub enough_left : (slots : ℕ) → slots ≡ old.drives → mid.drives ≡ old.drives → IsBearable (geometry_of old) (failed_since old new missing) → slots ≤ set_count left + 2
-  enough_left slots same same_mid bears =
-      omega (arith, same, few_lack old.drives (failed_since old new missing) left old.units bears (λ i lt is. still_left i (omega (arith, lt, same_mid)) is))

@@ -115,14 +115,14 @@ module _ (a b : Shelved) (missing : Conditions) (arrays : List Array) (x : Loade
       leaves nvrams stop left (Nv k) = record { size = refl; is_byte = λ i. is_b.bytes h_b (Nv k) i; clean = λ i clean. refl }
 
       given_then : (nvrams : List Bool) (stop : Stop) → LeavesBut (OnMembers nvrams) b stop → IsGivenFrom a shown x missing stop
-      unfolding began, begun
+      unfolding began begun
       given_then nvrams stop left fails bears =
           let start = began stop in
           let may : MayStop b start = record { device = leaves nvrams stop left; counts = record { faults = left.counts.faults; write_faults = left.counts.write_faults }; output = refl; taken = refl } in
           let there : IsGivenFrom a shown x missing start = (given.each start (is_b.counts_now a.moment start on.later may)).1 in
           given_on_drives (geometry_of a) start.image stop.image (failed_by a stop missing) (slot_in x.slot) x.record (λ i. refl) (there fails bears)
 
-      pub unstored_by : {nvrams : List Bool} → WritesOnly (OnMembers nvrams) b n → LeavesOnly a n (StandsStill a (Some found_then) missing arrays)
-      unstored_by {nvrams} writes = then_run on
+      pub unstored_by : (nvrams : List Bool) → WritesOnly (OnMembers nvrams) b n → LeavesOnly a n (StandsStill a (Some found_then) missing arrays)
+      unstored_by nvrams writes = then_run on
           (weaker (λ stop both. still_given stop both.0 both.1) (both_leave first given))
           (weaker (λ stop both. still_given stop both.0 (given_then nvrams stop both.1)) (both_leave unstored_since writes.any_moment))

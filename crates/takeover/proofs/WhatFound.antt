@@ -13,7 +13,7 @@ use Rattle.boot_codec.specs.Region.{BootSlot, Effective, IsRecordOf, names, of_m
 use Rattle.log_codec.specs.Log.{Shows, ShowsIn}
 use Rattle.array_spec.specs.Losses.{not_holding}
 use Rattle.array_spec.specs.Meaning.{members_view}
-use Rattle.array_spec.proofs.LogMoves.{log_moves}
+
 use Rattle.array_spec.proofs.Spelled.{spells_one}
 use Rattle.array_spec.proofs.UnflushedRead.{kept_some, one_left}
 use Rattle.array_spec.proofs.Votes.{one_is_effective}
@@ -34,6 +34,7 @@ use Rattle.session_spec.specs.Headline.{HoldsLog, HasNoArray, HasTooFew}
 use Rattle.takeover.specs.declared.log.OpenedLog.{OpenedLog}
 use Rattle.takeover.specs.Replayed.{IsReplayedFrom, ShowedUnserved}
 use Rattle.takeover.specs.Seen.{IsSeenIn}
+use Rattle.takeover.proofs.Chains.{log_moves}
 use Rattle.takeover.proofs.Failing.{sound_since}
 use Rattle.takeover.proofs.NoFault.{few_lack}
 
@@ -55,7 +56,7 @@ pub named_member : (slot : BootSlot) (boot : BootRecord) (view : View) (d : Devi
 named_member slot boot view d bytes is = elim (cases_Bool (names boot d)) [ inl named ↦ named | inr none ↦ absurd (cc (is, not_named slot boot view d none)) ]
 
 -- an NVRAM device that was named and not read is silent
-kept : (named read : Bool) → Option (List ℕ) → Option (List ℕ)
+pub kept : (named read : Bool) → Option (List ℕ) → Option (List ℕ)
 kept true false o = None
 kept true true o = o
 kept false read o = o
@@ -100,7 +101,7 @@ module _ (a b : Shelved) (x : Loaded) (on : Continues a b) (seen : IsSeenIn a b 
   failed s = has_failed (read_now a) (read_now s)
 
   pub since : (s : Shelved) → Continues b s → (d : Device) → failed b d ≡ true → failed s d ≡ true
-  since s then d up = rose_before (a.disk d).faults (b.disk d).faults (s.disk d).faults (then.faults d) up
+  since s after d up = rose_before (a.disk d).faults (b.disk d).faults (s.disk d).faults (after.faults d) up
 
   -- before the log was read
   abbrev pub effective : Effective (geometry_of a) seen.view
@@ -120,9 +121,9 @@ module _ (a b : Shelved) (x : Loaded) (on : Continues a b) (seen : IsSeenIn a b 
 
   -- each NVRAM device that was named failed
   pub both_failed : (n : Shelved) → Continues b n → ((k : ℕ) → k < 2 → IsLogMember x.record.members.nvrams k → Rises (b.disk (nvram k)).faults (n.disk (nvram k)).faults) → HasTooFew a n
-  both_failed n then all = record {
+  both_failed n after all = record {
     found = first_found;
-    silent = λ d none. since n then d (seen.silent d none);
+    silent = λ d none. since n after d (seen.silent d none);
     unborne = λ bears. elim (one_left (at 0) (at 1) bears.nvrams) [
       | inl sound ↦ absurd (lost 0 (omega arith) sound)
       | inr sound ↦ absurd (lost 1 (omega arith) sound)
@@ -146,10 +147,10 @@ module _ (a b : Shelved) (x : Loaded) (on : Continues a b) (seen : IsSeenIn a b 
   -- an NVRAM device showed a command that isn't served
   module _ (same : (k : ℕ) → IsSame (a.disk (nvram k)) (b.disk (nvram k))) where
     pub showed_unserved : (n : Shelved) → Continues b n → ShowedUnserved b x.record.members.nvrams x.record.flushed → HasNoArray a n
-    showed_unserved n then u = record {
+    showed_unserved n after u = record {
       view = seen.view;
       shown = seen.shown;
-      silent = λ d none. since n then d (seen.silent d none);
+      silent = λ d none. since n after d (seen.silent d none);
       unread = λ e.
           let one = one_is_effective (geometry_of a) seen.view e.slot slot _ _ e.effective seen.effective in
           let boots : e.boot ≡ x.record = spells_one (geometry_of a) e.boot x.record e.lawful lawful one.1 in
@@ -170,18 +171,18 @@ module _ (a b : Shelved) (x : Loaded) (on : Continues a b) (seen : IsSeenIn a b 
             }
 
     -- the log was read
-    module _ (n : Shelved) (o : OpenedLog) (then : Continues b n) (replayed : IsReplayedFrom b n x.record.members.nvrams x.record.flushed o) where
-      abbrev is_read : ℕ → Bool
+    module _ (n : Shelved) (o : OpenedLog) (after : Continues b n) (replayed : IsReplayedFrom b n x.record.members.nvrams x.record.flushed o) where
+      abbrev pub is_read : ℕ → Bool
       is_read k = slice_index_or replayed.read k false
 
-      abbrev is_named : ℕ → Bool
+      abbrev pub is_named : ℕ → Bool
       is_named k = slice_index_or x.record.members.nvrams k false
 
       abbrev pub view : View
       view (Drive d) = seen.view (Drive d)
       view (Nv k) = kept (is_named k.0) (is_read k.0) (seen.view (Nv k))
 
-      shown : (d : Device) → (view d ≡ Some (a.disk d).bytes) ⊎ (view d ≡ None)
+      pub shown : (d : Device) → (view d ≡ Some (a.disk d).bytes) ⊎ (view d ≡ None)
       shown (Drive d) = seen.shown (Drive d)
       shown (Nv k) = kept_or_none (is_named k.0) (is_read k.0) (seen.view (Nv k)) (a.disk (Nv k)).bytes (seen.nvrams k.0)
 
@@ -229,7 +230,7 @@ module _ (a b : Shelved) (x : Loaded) (on : Continues a b) (seen : IsSeenIn a b 
         drive_left i lt member fine = elim (seen.dropped i lt) [
           | inl is ↦ is
           | inr (inl none) ↦ absurd (member none)
-          | inr (inr up) ↦ absurd (cc (fine, later (drive i) (since n then (drive i) up)))
+          | inr (inr up) ↦ absurd (cc (fine, later (drive i) (since n after (drive i) up)))
         ]
 
         pub nvram_left : (k : ℕ) → members (nvram k) ≢ None → fails (nvram k) ≡ false → IsLogMember o.log.members k
@@ -248,12 +249,12 @@ module _ (a b : Shelved) (x : Loaded) (on : Continues a b) (seen : IsSeenIn a b 
         later_on d up = rose_before (a.disk d).faults (n.disk d).faults (s.disk d).faults (last.faults d) up
 
         pub silent : OnlyFailedAreSilent (failed s) view
-        silent = silent_then (failed s) (λ d none. later_on d (since n then d (seen.silent d none))) later_on
+        silent = silent_then (failed s) (λ d none. later_on d (since n after d (seen.silent d none))) later_on
 
         pub drive_stays : (i : ℕ) → i < a.drives → members (drive i) ≢ None → failed s (drive i) ≡ false → IsMember now.drives i
         drive_stays i lt member fine = elim (left i lt (drive_left (failed s) later_on i lt member fine)) [
           | inl is ↦ is
-          | inr lost ↦ absurd (cc (fine, rose (a.disk (drive i)).faults (n.disk (drive i)).faults (s.disk (drive i)).faults (s.disk (drive i)).faults (omega (arith, on.faults (drive i), then.faults (drive i))) lost.faults (omega arith)))
+          | inr lost ↦ absurd (cc (fine, rose (a.disk (drive i)).faults (n.disk (drive i)).faults (s.disk (drive i)).faults (s.disk (drive i)).faults (omega (arith, on.faults (drive i), after.faults (drive i))) lost.faults (omega arith)))
         ]
 
         none_or : (o : Option (List ℕ)) → (o ≡ None) ⊎ (o ≢ None)
