@@ -15,17 +15,7 @@ use Rattle.boot_region.specs.Storing.{AccountsFor, WasGiven}
 use Rattle.nvram_log.specs.Members as nv
 use Rattle.register.specs.declared.state.Register.{Register}
 use Rattle.register.specs.Registers.{IsLaterRecord, own_slot, next_slot, drives_of}
-use Rattle.register.specs.Standing.{MayStore}
-
-pub record IsNextOf (r : Register) (nvrams : List Bool) (boot : BootRecord) : Type 0 where
-  pub later : IsLaterRecord r.record boot
-  pub generation : r.record.generation < boot.generation
-  pub nvrams_are : boot.members.nvrams ≡ nvrams
-  pub drives : (i : ℕ) → IsMember boot.members.drives i → IsMember r.drives i
-
-abbrev pub GivesOldOrNext : Shelved → Register → List Bool → Conditions → Stop → Type 0
-GivesOldOrNext old r nvrams missing stop = (later : Conditions) → AccountsFor old (drives_of r) missing (next_slot r.record) (spelling r.record) stop.faults stop.write_faults later
-    → (slot : BootSlot) (boot : BootRecord) → MayBeGiven (geometry_of old) stop.image later slot boot → WasGiven old missing slot boot ⊎ IsNextOf r nvrams boot
+use Rattle.register.specs.Standing.{MayStore, IsNextOf}
 
 pub record AreOfMembers (old : Shelved) (r : Register) (named : List Bool) (stop : Stop) (back : Conditions) : Type 0 where
   pub bearable : IsBearable (geometry_of old) back

@@ -1,6 +1,5 @@
 -- The opening as a whole, from what each of its calls says.
 use Rattle.std.proofs.Common.{◌≡◌, ◌≢◌, ◌⊎◌, inl, inr, ℕ, ◌+◌, ◌-◌, ◌^◌, ◌<◌, ◌≤◌, Bool, true, false, List, [], Option, Some, None, refl, sym, ◌∙◌, ap, subst, arith, Result, Ok, Err}
-use Rattle.std.proofs.lemmas.Bool.{cases_lt}
 use Rattle.pur_base.specs.Commands.{Command}
 use Rattle.pur_base.specs.declared.device.Device.{Device}
 use Rattle.pur_base.specs.declared.reply.Status.TheVariants as status
@@ -25,8 +24,7 @@ use Rattle.register.specs.declared.next.StoreFault.{StoreFault}
 use Rattle.register.specs.declared.next.StoreFault.TheVariants.{Spent, TooFew}
 use Rattle.register.specs.Faults.{IsFaultOf}
 use Rattle.register.specs.Registers.{IsLaterRecord, IsRegisterOf, OnSlots, drives_of, next_slot}
-use Rattle.register.specs.Standing.{IsOpen, MayStore, StandsInLog}
-use Rattle.register.proofs.FlagLemmas.{none_past}
+use Rattle.register.specs.Standing.{GivesOldOrNext, MayStore, StandsInLog}
 use Rattle.session_spec.specs.Entering.{Enters, Found, StandsStill, read_now, failed_since}
 use Rattle.session_spec.specs.Headline.{IsUnopenedBy}
 use Rattle.takeover.specs.declared.faults.OpenFault.{OpenFault}
@@ -41,14 +39,13 @@ use Rattle.takeover.specs.Opened.{AreClean, IsOpened, IsShut, status_of}
 use Rattle.takeover.specs.Recovered.{IsRecovered}
 use Rattle.takeover.specs.Replayed.{IsReplayedBy, IsReplayedFrom}
 use Rattle.takeover.specs.Seen.{IsGivenFrom, IsSeenBy, IsSeenIn}
-use Rattle.takeover.proofs.Awaited.{GivesOldOrNext, StandsBack, StillGiven}
+use Rattle.takeover.proofs.Awaited.{StandsBack, StillGiven}
 use Rattle.takeover.proofs.Causes.{cause}
 use Rattle.takeover.proofs.Loading.{same_geometry}
-use Rattle.takeover.proofs.Members.{count_below}
 use Rattle.takeover.proofs.RecoveredLemmas.{in_log, left_or_lost, may_store}
 use Rattle.takeover.proofs.Stops.{nothing_owed, unstored_by}
 use Rattle.takeover.proofs.Storing.{stored_at}
-use Rattle.takeover.proofs.Twice.{borne_or_not}
+use Rattle.takeover.proofs.Twice.{borne_or_not, twice_since}
 use Rattle.takeover.proofs.WhatFound as found_by
 
 -- a stop counts no fewer failed calls than there were at an earlier moment
@@ -57,6 +54,10 @@ counted_on on first next = then_run on first (weaker (λ stop counted. counted_t
 
 pub counted_by_writes : {a b : Shelved} {W : Device → ℕ → Type 0} → WritesOnly W a b → LeavesOnly a b (IsCountedBy a)
 counted_by_writes writes = weaker (λ stop left. left.counts) writes.any_moment
+
+-- what is clean after both calls
+pub clean_on : (a b n : Shelved) (missing : Conditions) → Continues a b → Continues b n → AreClean n (failed_since b n (failed_since a b missing)) → AreClean n (failed_since a n missing)
+clean_on a b n missing on after clean d sound = clean d (ap (λ (c : Conditions). c d) (twice_since a b n missing on after) ∙ sound)
 
 -- ---- it isn't opened, and nothing was stored
 
@@ -87,7 +88,7 @@ unfound a b open_fault.Spent by = by
 -- the record was found
 module _ (a b : Shelved) (x : Loaded) (on : Continues a b) (seen : IsSeenIn a b x) (lawful_b : IsLawfulLoad (geometry_of b) x) (same : (k : ℕ) → IsSame (a.disk (nvram k)) (b.disk (nvram k)))
     (n : Shelved) (after : Continues b n) where
-  lawful : IsRecordOf (geometry_of a) x.record
+  pub lawful : IsRecordOf (geometry_of a) x.record
   lawful = subst (λ (g : Geometry). IsRecordOf g x.record) (sym (same_geometry on)) lawful_b.lawful
 
   -- and the log wasn't opened
@@ -99,7 +100,7 @@ module _ (a b : Shelved) (x : Loaded) (on : Continues a b) (seen : IsSeenIn a b 
   -- or it was, and a record was to be stored
   module _ (s : Shelved) (o : OpenedLog) (was now : Register) (last : Continues n s) (is_a : IsShelf a) (is_b : IsShelf b) (is_n : IsShelf n) (h : a.honest)
       (replayed : IsReplayedFrom b n x.record.members.nvrams x.record.flushed o) (is_of : IsRegisterOf (geometry_of n) was) (record_is : was.record ≡ x.record) (drives_are : was.drives ≡ x.drives)
-      (dropped : DroppedFailed n s (drives_of was) (drives_of now)) (later : IsLaterRecord was.record now.record) where
+      (dropped : DroppedFailed n s (drives_of was) (drives_of now)) (later : IsLaterRecord was.record now.record) (few : now.record.generation ≤ was.record.generation + 3) where
     abbrev pub found : Found (geometry_of a) (read_now a).image
     found = found_by.found a b x on seen lawful same n o after replayed
 
@@ -118,11 +119,8 @@ module _ (a b : Shelved) (x : Loaded) (on : Continues a b) (seen : IsSeenIn a b 
     left : (i : ℕ) → i < a.drives → IsMember x.drives i → IsMember now.drives i ⊎ LostWrites (n.disk (drive i)) (s.disk (drive i))
     left i lt m = left_or_lost n s was now is_of.lawful.slots dropped i (omega (arith, lt, on_n.drives)) (subst (λ (l : List Bool). IsMember l i) (sym drives_are) m)
 
-    few_drives : set_count was.drives ≤ was.record.slots
-    few_drives = count_below was.drives was.record.slots (λ i m. elim (cases_lt i was.record.slots) [
-      | inl lt ↦ lt
-      | inr ge ↦ absurd (none_past was.record.members.drives was.record.slots i is_of.lawful.lawful.members.within ge (is_of.named i m))
-    ])
+    pub enough_room : x.record.generation < 2 ^ 48 - 16 → now.record.generation < 2 ^ 48 - 8
+    enough_room room = omega (arith, few, room, ap (λ (b : BootRecord). b.generation) record_is)
 
     slots_stay : now.record.slots ≡ was.record.slots
     slots_stay = ap (λ (b : BootRecord). b.slots) later.rest
@@ -134,20 +132,21 @@ module _ (a b : Shelved) (x : Loaded) (on : Continues a b) (seen : IsSeenIn a b 
         (counts : LeavesOnly b n (IsCountedBy b))
         (next : IsFoundOn b x (failed_since a b missing) arrays → LeavesOnly b n (StandsStill b None (failed_since a b missing) arrays))
         (log_writes : WritesOnly (OnMembers x.record.members.nvrams) b n) (writes : WritesOnly (OnSlots (drives_of was)) n s)
-        (stands : (commands : List Command) → MayStore n was o.log.members (failed_since a n missing) commands arrays
+        (stands : now.record.generation < 2 ^ 48 - 8 → (commands : List Command) → MayStore n was o.log.members (failed_since a n missing) commands arrays
         → LeavesOnly n s (StandsBut n (drives_of was) (failed_since a n missing) (next_slot was.record) was.record arrays))
-        (gives : (commands : List Command) → MayStore n was o.log.members (failed_since a n missing) commands arrays → LeavesOnly n s (GivesOldOrNext n was o.log.members (failed_since a n missing)))
-        (back : (commands : List Command) → StandsInLog n was o.log.members commands
+        (gives : now.record.generation < 2 ^ 48 - 8 → (commands : List Command) → MayStore n was o.log.members (failed_since a n missing) commands arrays → LeavesOnly n s (GivesOldOrNext n was o.log.members (failed_since a n missing)))
+        (back : now.record.generation < 2 ^ 48 - 8 → (commands : List Command) → StandsInLog n was o.log.members commands
         → LeavesOnly n s (λ stop. StillGiven n was o.log.members commands stop ⊎ StandsBack n was o.log.members commands stop)) where
       storing : IsLogOpen n x (failed_since a n missing) arrays o → LeavesOnly n s (StandsStill a (Some found) missing arrays)
       storing opened =
           let may = may_store n x (failed_since a n missing) arrays o was opened is_of record_is drives_are in
           let logged = in_log n x (failed_since a n missing) arrays o was opened is_of record_is drives_are in
+          let room = enough_room opened.found.room in
           weaker (λ stop all. stored_at a n x missing arrays o was on_n is_n h_n opened record_is drives_are may found refl
           (λ fails by_then. found_by.drive_left a b x on seen lawful same n o after replayed fails by_then)
           (λ fails by_then. found_by.nvram_left a b x on seen lawful same n o after replayed fails by_then)
           stop all.0 all.1.0 all.1.1.0 all.1.1.1)
-          (both_leave writes.any_moment (both_leave (stands opened.commands may) (both_leave (gives opened.commands may) (back opened.commands logged))))
+          (both_leave writes.any_moment (both_leave (stands room opened.commands may) (both_leave (gives room opened.commands may) (back room opened.commands logged))))
 
       pub each_moment : LeavesOnly a s (StandsStill a (Some found) missing arrays)
       each_moment = then_run on_n
@@ -160,23 +159,22 @@ module _ (a b : Shelved) (x : Loaded) (on : Continues a b) (seen : IsSeenIn a b 
     module _ (each : (missing : Conditions) (arrays : List Array) → Enters a missing arrays → LeavesOnly a s (StandsStill a (Some found) missing arrays)) where
       -- it was stored
       pub opened : (was.record.generation < now.record.generation) → (now.record.members.drives ≡ now.drives) × (now.record.members.nvrams ≡ o.log.members)
-          → now.record.slots ≤ set_count now.drives + 2 → now.record.generation + set_count now.drives ≤ was.record.generation + set_count was.drives + 1
           → ((missing : Conditions) (arrays : List Array) → Enters a missing arrays → IsBearable (geometry_of a) (failed_since a s missing)
           → IsRecovered s (record { plain = o.plain; log = o.log; register = now }) (failed_since a s missing) arrays)
           → IsOpened a s (record { plain = o.plain; log = o.log; register = now })
-      opened generation members enough stores recovered = record {
+      opened generation members recovered = record {
         found = found;
         holds = found_by.holds a b x on seen lawful same n o after replayed lawful_b.room;
         taken_over = found_by.taken_over a b x on seen lawful same n o after replayed s now last left members.0 members.1;
         later = omega (arith, generation, ap (λ (b : BootRecord). b.generation) record_is);
-        few = omega (arith, enough, stores, few_drives, slots_stay, ap (λ (b : BootRecord). b.generation) record_is);
+        few = omega (arith, few, ap (λ (b : BootRecord). b.generation) record_is);
         each = each;
         recovered = recovered;
       }
 
       -- or too few drives were left
-      pub unstored : (fault : StoreFault) → IsFaultOf now fault → now.record.generation + set_count now.drives ≤ was.record.generation + set_count was.drives → IsShut a s (fault_of_store fault)
-      unstored (TooFew drives) is lost =
+      pub unstored : (fault : StoreFault) → IsFaultOf now fault → IsShut a s (fault_of_store fault)
+      unstored (TooFew drives) is =
           let by = found_by.too_few a b x on seen lawful same n o after replayed s now last left (omega (arith, is.1, slots, slots_stay)) in
           record {
             by = by;
@@ -186,4 +184,4 @@ module _ (a b : Shelved) (x : Loaded) (on : Continues a b) (seen : IsSeenIn a b 
             clean = λ missing arrays enters bears. absurd (cc (cause a s missing arrays enters is_a h bears status.Halted by));
             cause = λ missing arrays enters bears. cause a s missing arrays enters is_a h bears status.Halted by;
           }
-      unstored Spent is lost = absurd (omega (arith, is.0, is.1, lost, few_drives, slots_stay, lawful_b.room, ap (λ (b : BootRecord). b.generation) record_is))
+      unstored Spent is = absurd (omega (arith, is.1, few, lawful_b.room, ap (λ (b : BootRecord). b.generation) record_is))

@@ -28,12 +28,12 @@ use Rattle.boot_region.proofs.ShownLemmas.{as_read}
 use Rattle.nvram_log.specs.Members.{IsFewer, IsMember as IsLogMember}
 use Rattle.register.specs.declared.state.Register.{Register}
 use Rattle.register.specs.Registers.{OnSlots, drives_of, next_slot, own_slot}
-use Rattle.register.specs.Standing.{MayStore}
+use Rattle.register.specs.Standing.{GivesOldOrNext, IsNextOf, MayStore}
 use Rattle.register.proofs.FlagLemmas.{cut_in}
 use Rattle.session_spec.specs.Entering.{AreBack, AreRead, ComesBack, Found, IsStanding, IsStoredSince, LeftOutAreNamedByNone, OnlyFailedAreSilent, StandsStill, read_now, failed_by, failed_since}
 use Rattle.takeover.specs.declared.log.OpenedLog.{OpenedLog}
 use Rattle.takeover.specs.LogOpen.{IsLogOpen}
-use Rattle.takeover.proofs.Awaited.{AreOfMembers, GivesOldOrNext, IsNextOf, StandsBack, StillGiven}
+use Rattle.takeover.proofs.Awaited.{AreOfMembers, StandsBack, StillGiven}
 use Rattle.takeover.proofs.Failing.{left_out_since, since_mid}
 use Rattle.takeover.proofs.Loading.{may_read, same_geometry}
 use Rattle.takeover.proofs.NothingStored.{in_force_at}
