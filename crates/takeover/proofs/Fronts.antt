@@ -35,6 +35,10 @@ pub front_tells : (n : ℕ) {shelf : Shelved} {flags : List Bool} {missing : Con
     → TellsFailed shelf flags missing faults later → TellsFailed shelf (take n flags) missing faults later
 front_tells n {shelf} {flags} {missing} {faults} {later} is = record { within = is.within; bearable = is.bearable; calls = λ i m sound. is.calls i (of_front n flags i m) sound }
 
+-- a flag before those behind it
+pub in_front : (front tail : List Bool) (i : ℕ) → i < length front → IsMember (front ++ tail) i → IsMember front i
+in_front front tail i lt m = sym (get_or_append_left front tail false i lt) ∙ m
+
 -- behind the shelf's slots no flag is set
 pub whole_force : (front tail : List Bool) (shelf : Shelved) (missing : Conditions) (slot : BootSlot) (boot : BootRecord) → ((i : ℕ) → IsMember (front ++ tail) i → i < length front)
     → IsInForceOn shelf front missing slot boot → IsInForceOn shelf (front ++ tail) missing slot boot

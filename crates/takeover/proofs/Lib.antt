@@ -2,6 +2,7 @@ mod Members
 mod Failing
 mod Counts
 mod Cleaned
+mod LeftShown
 mod Loading
 mod NoFault
 mod FoundLemmas

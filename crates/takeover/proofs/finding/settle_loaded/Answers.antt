@@ -5,7 +5,7 @@ use Rattle.boot_codec.specs.Region.{gate_place, other_slot}
 use Rattle.world.proofs.Writes.{writes_more}
 use Rattle.boot_region.specs.Slots.{slot_in}
 use Rattle.takeover.proofs.Cleaned.{stays_clean}
-use Rattle.takeover.proofs.Fronts.{front_closed, front_loaded, front_found, front_tells, whole_force}
+use Rattle.takeover.proofs.Fronts.{in_front, front_closed, front_loaded, front_found, front_tells, whole_force}
 use Rattle.takeover.proofs.finding.settle_loaded.Goals as goal
 
 pub returns-clause-writes : goal.returns-clause-writes
@@ -18,6 +18,16 @@ pub returns-clause-clean : goal.returns-clause-clean
 returns-clause-clean g c h d clean =
     stays_clean (g.S.Shelf.shelf c.args.shelf.now) (g.S.Shelf.shelf c.settle.new.shelf) (take c.drives-slots.result c.args.loaded.now.drives) c.settle.new.members (gate_place (slot_in c.args.loaded.now.slot))
     h c.settle.ensures.outcome c.settle.ensures.others d clean
+
+pub returns-clause-shows : goal.returns-clause-shows
+returns-clause-shows g c h body i lt member stood =
+    let n = c.drives-slots.result in
+    let is_shelf = g.met.S.Shelf.is_shelf c.args.shelf.now in
+    let flags : length c.args.loaded.now.drives ≡ 24 = search rules in
+    let long : length c.settle.new.members ≡ length (take n c.args.loaded.now.drives) = search rules in
+    let below : i < length c.settle.new.members = omega (arith, lt, long, length-take n c.args.loaded.now.drives, flags, is_shelf.drives.1, c.drives-slots.ensures) in
+    let there : i < length (take n c.args.loaded.now.drives) = omega (arith, below, long) in
+    c.settle.ensures.shows h body i there (in_front c.settle.new.members _ i below member) stood
 
 pub returns-clause-any_moment : goal.returns-clause-any_moment
 returns-clause-any_moment g c h missing arrays loaded = c.settle.ensures.any_moment h missing c.args.loaded.now.record arrays (front_loaded c.drives-slots.result loaded)
