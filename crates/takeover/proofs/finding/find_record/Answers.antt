@@ -1,6 +1,6 @@
 use Rattle.std.proofs.Common.{◌^◌, ◌-◌, ◌<◌, ◌≡◌, ◌≢◌, ◌≤◌, ℕ, List, [], ◌∷◌, length, refl, arith, sym, subst, ap, ◌∙◌, Result, Ok, Err}
 use Rattle.std.proofs.lemmas.Result.{err_from_is_err_and}
-use Rattle.pur_base.specs.Devices.{Geometry, Conditions, IsBearable, nvram}
+use Rattle.pur_base.specs.Devices.{Geometry, Conditions, IsBearable, drive, nvram}
 use Rattle.boot_codec.specs.declared.record.BootRecord.{BootRecord}
 use Rattle.boot_codec.specs.Region.{BootSlot, IsRecordOf, body_in, other_slot}
 use Rattle.boot_codec.specs.Spelling.{spelling}

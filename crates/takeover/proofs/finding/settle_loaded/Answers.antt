@@ -1,4 +1,4 @@
-use Rattle.std.proofs.Common.{rules, ◌≡◌, length, take, arith}
+use Rattle.std.proofs.Common.{rules, ◌≡◌, ◌<◌, length, take, arith}
 use Rattle.std.proofs.lemmas.List.{length-take}
 use Rattle.pur_base.specs.Devices.{nvram}
 use Rattle.boot_codec.specs.Region.{gate_place, other_slot}
