@@ -21,7 +21,7 @@ use Rattle.boot_region.specs.Storing.{WasGiven, AccountsFor, StandsBut, IsOlder}
 use Rattle.boot_region.proofs.Phases.{not_risen_before}
 use Rattle.register.specs.declared.state.Register.{Register}
 use Rattle.register.specs.Standing.{IsNextOf}
-use Rattle.register.proofs.Opened.{yields_or}
+use Rattle.register.proofs.Resting.{yields_or}
 
 -- ---- conditions
 
