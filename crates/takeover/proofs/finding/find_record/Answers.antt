@@ -144,6 +144,12 @@ returns-then-count_set-drives-clause-found g c h missing arrays enters bears =
     let count = lacking a n missing y.drives bears (c.settle_loaded.ensures.continues.drives ∙ c.load.ensures.continues.drives) is.in_force.sound in
     absurd (omega (arith, count, c.count_set.ensures.value, c.if-count_set-drives.true, c.drives.ensures, c.settle_loaded.ensures.continues.drives, c.load.ensures.continues.drives))
 
+pub returns-then-count_set-drives-clause-rest : goal.returns-then-count_set-drives-clause-rest
+returns-then-count_set-drives-clause-rest g c = g.met.S.Shelf.shelf_rest_stays.transitive _ _ _ c.load.ensures.rest c.settle_loaded.ensures.rest
+
+pub returns-clause-rest : goal.returns-clause-rest
+returns-clause-rest g c = g.met.S.Shelf.shelf_rest_stays.transitive _ _ _ c.load.ensures.rest c.settle_loaded.ensures.rest
+
 pub returns-clause-continues : goal.returns-clause-continues
 returns-clause-continues g c = continues_trans c.load.ensures.continues c.settle_loaded.ensures.continues
 
