@@ -4,5 +4,7 @@ pub mod Follows
 pub mod Opened
 pub mod Resting
 pub mod Again
+pub mod Back
 pub mod Rounds
 pub mod Stores
+pub mod Turns
