@@ -25,6 +25,5 @@ mod Moments
 mod Causes
 mod WhatFound
 mod Stops
-mod Awaited
 mod Storing
 mod Opening

@@ -10,8 +10,9 @@ use Rattle.boot_codec.specs.declared.record.BootRecord.{BootRecord}
 use Rattle.boot_codec.specs.Record.{set_count}
 use Rattle.boot_codec.specs.Region.{BootSlot, IsRecordOf, shown_by}
 use Rattle.boot_codec.specs.Spelling.{spelling}
-use Rattle.world.specs.Losing.{geometry_of}
-use Rattle.world.specs.Shelf.{Shelved, Disk, IsShelf, IsSame, Continues, IsCountedBy, LeavesOnly}
+use Rattle.array_spec.specs.Standing.{MayBeGiven}
+use Rattle.world.specs.Losing.{geometry_of, has_failed}
+use Rattle.world.specs.Shelf.{Shelved, Stop, Disk, MayStop, MayLeave, IsShelf, IsSame, Continues, IsCountedBy, LeavesOnly}
 use Rattle.world.specs.Writes.{WritesOnly}
 use Rattle.world.proofs.Moments.{then_run, weaker, continues_trans}
 use Rattle.world.proofs.Writes.{counted_then, counts_grow}
@@ -27,9 +28,9 @@ use Rattle.register.specs.declared.next.StoreFault.{StoreFault}
 use Rattle.register.specs.declared.next.StoreFault.TheVariants.{Spent, TooFew}
 use Rattle.register.specs.Faults.{IsFaultOf}
 use Rattle.register.specs.Registers.{IsLaterRecord, IsRegisterOf, OnSlots, drives_of, next_slot, own_slot}
-use Rattle.register.specs.Standing.{GivesOldOrNext, MayStore, StandsInLog}
+use Rattle.register.specs.Standing.{AllShow, GivesOldOrNext, MayStore, StandsBack, StandsInLog, StillGiven}
 use Rattle.register.proofs.FlagLemmas.{in_cut, not_below}
-use Rattle.session_spec.specs.Entering.{Enters, Found, StandsStill, read_now, failed_since}
+use Rattle.session_spec.specs.Entering.{Enters, Found, OnlyFailedAreSilent, StandsStill, read_now, failed_by, failed_since}
 use Rattle.session_spec.specs.Headline.{IsUnopenedBy}
 use Rattle.takeover.specs.declared.faults.OpenFault.{OpenFault}
 use Rattle.takeover.specs.declared.faults.OpenFault.TheVariants as open_fault
@@ -43,11 +44,10 @@ use Rattle.takeover.specs.Opened.{AreClean, IsOpened, IsShut, status_of}
 use Rattle.takeover.specs.Recovered.{IsRecovered}
 use Rattle.takeover.specs.Replayed.{IsReplayedBy, IsReplayedFrom}
 use Rattle.takeover.specs.Seen.{IsGivenFrom, IsSeenBy, IsSeenIn}
-use Rattle.takeover.proofs.Awaited.{StandsBack, StillGiven}
 use Rattle.takeover.proofs.Causes.{cause}
 use Rattle.takeover.proofs.Loading.{same_geometry}
 use Rattle.takeover.proofs.RecoveredLemmas.{in_log, left_or_lost, may_store}
-use Rattle.takeover.proofs.Stops.{nothing_owed, unstored_by}
+use Rattle.takeover.proofs.Stops.{given_at, nothing_owed, unstored_by}
 use Rattle.takeover.proofs.Storing.{stored_at}
 use Rattle.takeover.proofs.Twice.{borne_or_not, twice_since}
 use Rattle.takeover.proofs.WhatFound as found_by
@@ -132,7 +132,7 @@ module _ (a b : Shelved) (x : Loaded) (on : Continues a b) (seen : IsSeenIn a b 
     left i lt m = left_or_lost n s was now is_of.lawful.slots dropped i (omega (arith, lt, on_n.drives)) (subst (λ (l : List Bool). IsMember l i) (sym drives_are) m)
 
     -- each drive shows the record in its slot
-    shows_own : slot_in x.slot ≡ own_slot x.record → (i : ℕ) → IsMember (drives_of was) i → Shows n (own_slot was.record) (spelling was.record) i
+    shows_own : slot_in x.slot ≡ own_slot x.record → AllShow n was
     shows_own its_slot i m =
         let lt : i < was.record.slots = elim (cases_lt i was.record.slots) [ inl is ↦ is | inr ge ↦ absurd (not_below was.drives was.record.slots i ge m) ] in
         let member : IsMember x.drives i = subst (λ (l : List Bool). IsMember l i) drives_are (in_cut was.drives was.record.slots i m) in
@@ -151,13 +151,24 @@ module _ (a b : Shelved) (x : Loaded) (on : Continues a b) (seen : IsSeenIn a b 
         (is_open : IsBearable (geometry_of a) (failed_since a n missing) → IsLogOpen n x (failed_since a n missing) arrays o)
         (counts : LeavesOnly b n (IsCountedBy b))
         (next : IsFoundOn b x (failed_since a b missing) arrays → LeavesOnly b n (StandsStill b None (failed_since a b missing) arrays))
+        (drives_stay : (i : ℕ) → n.disk (drive i) ≡ b.disk (drive i))
         (log_writes : WritesOnly (OnMembers x.record.members.nvrams) b n) (writes : WritesOnly (OnSlots (drives_of was)) n s)
         (stands : now.record.generation < 2 ^ 48 - 8 → (commands : List Command) → MayStore n was o.log.members (failed_since a n missing) commands arrays
         → LeavesOnly n s (StandsBut n (drives_of was) (failed_since a n missing) (next_slot was.record) was.record arrays))
         (gives : now.record.generation < 2 ^ 48 - 8 → (commands : List Command) → MayStore n was o.log.members (failed_since a n missing) commands arrays → LeavesOnly n s (GivesOldOrNext n was o.log.members (failed_since a n missing)))
-        (back : now.record.generation < 2 ^ 48 - 8 → (commands : List Command) → StandsInLog n was o.log.members commands
-        → ((i : ℕ) → IsMember (drives_of was) i → Shows n (own_slot was.record) (spelling was.record) i)
+        (back : now.record.generation < 2 ^ 48 - 8 → (commands : List Command) → StandsInLog n was o.log.members commands → AllShow n was
         → LeavesOnly n s (λ stop. StillGiven n was o.log.members commands stop ⊎ StandsBack n was o.log.members commands stop)) where
+      -- the record might be given as the store began, in the conditions of a stop in it
+      given_begun : (stop : Stop) → IsCountedBy n stop → OnlyFailedAreSilent (has_failed (read_now a) stop) found.view → IsBearable (geometry_of a) (failed_by a stop missing) → slot_in x.slot ≡ own_slot x.record
+          → (start : Stop) → MayStop n start → MayBeGiven (geometry_of a) start.image (failed_by a stop missing) (own_slot x.record) x.record
+      given_begun stop counted silent bears its_slot start may =
+          subst (λ (t : BootSlot). MayBeGiven (geometry_of a) start.image (failed_by a stop missing) t x.record) its_slot
+          (given_at a b missing x on is_b h_b seen.view given n stop (record { faults = λ d. omega (arith, after.faults d, counted.faults d); write_faults = λ d. omega (arith, after.write_faults d, counted.write_faults d) }) start.image drives_leave
+          (λ d none. silent d (found_by.silent_before a b x on seen lawful same n o after replayed d none)) bears)
+        where
+          drives_leave : (i : ℕ) → MayLeave (b.disk (drive i)) (start.image (drive i))
+          drives_leave i = subst (λ (k : Disk). MayLeave k (start.image (drive i))) (drives_stay i) (may.device (drive i))
+
       storing : IsLogOpen n x (failed_since a n missing) arrays o → LeavesOnly n s (StandsStill a (Some found) missing arrays)
       storing opened =
           let may = may_store n x (failed_since a n missing) arrays o was opened is_of record_is drives_are in
@@ -166,6 +177,7 @@ module _ (a b : Shelved) (x : Loaded) (on : Continues a b) (seen : IsSeenIn a b 
           weaker (λ stop all. stored_at a n x missing arrays o was on_n is_n h_n opened record_is drives_are may found refl
           (λ fails by_then. found_by.drive_left a b x on seen lawful same n o after replayed fails by_then)
           (λ fails by_then. found_by.nvram_left a b x on seen lawful same n o after replayed fails by_then)
+          (λ stop counted silent bears. given_begun stop counted silent bears opened.found.in_its_slot.in_its_slot)
           stop all.0 all.1.0 all.1.1.0 all.1.1.1)
           (both_leave writes.any_moment (both_leave (stands room opened.commands may) (both_leave (gives room opened.commands may) (back room opened.commands logged (shows_own opened.found.in_its_slot.in_its_slot)))))
 

@@ -1,12 +1,13 @@
 -- The record that was loaded and settled, as the drives showed it.
-use Rattle.std.proofs.Common.{◌≡◌, ◌⊎◌, inl, inr, ℕ, ◌+◌, ◌<◌, Bool, true, false, List, [], slice_index_or, sym, ◌∙◌, subst, arith, Ok, Err}
+use Rattle.std.proofs.Common.{◌≡◌, ◌⊎◌, inl, inr, ℕ, ◌+◌, ◌<◌, Bool, true, false, List, [], Some, slice_index_or, sym, ◌∙◌, ap, subst, arith, Ok, Err}
 use Rattle.std.proofs.lemmas.Bool.{cases_Bool}
 use Rattle.pur_base.specs.declared.device.Device.{Device}
+use Rattle.pur_base.specs.Gates.{is_open}
 use Rattle.pur_base.specs.Devices.{Conditions, drive}
 use Rattle.pur_base.specs.Plain.{Array}
 use Rattle.boot_codec.specs.declared.record.BootRecord.{BootRecord}
 use Rattle.boot_codec.specs.Record.{set_count}
-use Rattle.boot_codec.specs.Region.{gate_place}
+use Rattle.boot_codec.specs.Region.{gate_place, body_in, shown_by}
 use Rattle.boot_codec.specs.Spelling.{spelling}
 use Rattle.world.specs.Counts.{Rises}
 use Rattle.world.specs.Losing.{has_risen}
@@ -21,6 +22,7 @@ use Rattle.boot_region.specs.Loading.{IsLoadBy, IsLoadOf}
 use Rattle.boot_region.specs.Members.{IsMember, OnClosed}
 use Rattle.boot_region.specs.Slots.{slot_in}
 use Rattle.boot_region.proofs.Phases.{risen_on_way}
+use Rattle.boot_region.proofs.ShownLemmas.{bodies_same, open_shows}
 use Rattle.session_spec.specs.Entering.{Enters, failed_since}
 use Rattle.session_spec.specs.Headline.{HasNoArray, HasTooFew}
 use Rattle.takeover.specs.Faults.{fault_of}
@@ -28,7 +30,7 @@ use Rattle.takeover.specs.Opened.{AreClean}
 use Rattle.takeover.specs.Seen.{IsSeenIn, IsSeenBy}
 use Rattle.takeover.proofs.Failing.{sound_since}
 use Rattle.takeover.proofs.GivenFrom.{given_from}
-use Rattle.takeover.proofs.Showing.{showing, shown, nvrams, silent, gives, member_showed, other_hid, too_few, patched, seen_fault, rose_then}
+use Rattle.takeover.proofs.Showing.{below, stands_on, showing, shown, nvrams, silent, gives, member_showed, other_hid, too_few, patched, seen_fault, rose_then}
 
 -- a loading that failed
 pub seen_not_loaded : (old mid : Shelved) → Continues mid mid → (e : LoadFault) → IsLoadOf old mid (Err e) → IsSeenBy old mid (Err (fault_of e))
@@ -73,6 +75,25 @@ module _ (old mid new : Shelved) (x : Loaded) (on : Continues old mid) (after : 
   -- too few are left
   pub seen_too_few : set_count left + 2 < old.drives → HasTooFew old new
   seen_too_few few = too_few old mid by.bytes by.answered by.all by.read (slot_in x.slot) x.record x.drives by.answer.held new after left left_or_failed few
+
+  -- those that are left show it
+  pub shown_on : ((i : ℕ) → i < mid.drives → IsMember left i → is_open (gate_place (slot_in x.slot)) (new.disk (drive i)).bytes ≡ true) → ((i : ℕ) → IsMember left i → IsMember x.drives i)
+      → (i : ℕ) → IsMember left i → shown_by (slot_in x.slot) (new.disk (drive i)).bytes ≡ Some (spelling x.record)
+  shown_on opened fewer i m =
+      let slot = slot_in x.slot in
+      let held = by.answer.held in
+      let lt = below old mid by.bytes by.answered by.all by.read slot x.record x.drives held i (fewer i m) in
+      let stands = stands_on old mid by.bytes by.answered by.all by.read slot x.record x.drives held i (fewer i m) in
+      open_shows slot (new.disk (drive i)).bytes (spelling x.record) (opened i (omega (arith, lt, on.drives)) m)
+      (bodies_same slot (mid.disk (drive i)).bytes (new.disk (drive i)).bytes (writes.device (drive i)).size (λ k out. (writes.device (drive i)).bytes k (λ w. out w.1)) slot
+      ∙ ap (body_in slot) (same (drive i)).bytes ∙ stands)
+
+  pub shown_in : (r : BootRecord) (s : Slot) → r ≡ x.record → s ≡ x.slot
+      → ((i : ℕ) → i < mid.drives → IsMember left i → is_open (gate_place (slot_in x.slot)) (new.disk (drive i)).bytes ≡ true) → ((i : ℕ) → IsMember left i → IsMember x.drives i)
+      → (i : ℕ) → IsMember left i → shown_by (slot_in s) (new.disk (drive i)).bytes ≡ Some (spelling r)
+  shown_in r s record_is slot_is opened fewer i m =
+      subst (λ (b : BootRecord). shown_by (slot_in s) (new.disk (drive i)).bytes ≡ Some (spelling b)) (sym record_is)
+      (subst (λ (t : Slot). shown_by (slot_in t) (new.disk (drive i)).bytes ≡ Some (spelling x.record)) (sym slot_is) (shown_on opened fewer i m))
 
   seen_with : ((i : ℕ) → IsMember left i → IsMember x.drives i) → x.record.patches ≡ [] → IsSeenIn old new (record { «record» = x.record; slot = x.slot; drives = left })
   seen_with fewer unflushed =

@@ -3,6 +3,7 @@ use Rattle.std.proofs.Common.{◌≡◌, ◌≢◌, ◌⊎◌, inl, inr, ℕ, �
 use Rattle.std.specs.Prelude.{nat_lt, is_some, bytes_eq}
 use Rattle.std.proofs.lemmas.Bool.{cases_Bool, cases_lt, ltb-true, lt-ltb}
 use Rattle.std.proofs.lemmas.List.{get_or_past}
+use Rattle.std.specs.Cmp.Lexicographic.{same_text}
 use Rattle.pur_base.specs.Bytes.{bytes_at}
 use Rattle.pur_base.specs.declared.device.Device.{Device}
 use Rattle.pur_base.specs.declared.device.Device.TheVariants.{Drive, Nv}
@@ -185,6 +186,20 @@ module _ (old mid : Shelved) (bytes : List ℕ) (answered : List Bool) (all : le
           (both_true (slice_index_or boot.members.drives i false) (is_holding bytes answered slot (spelling boot) i) (sym (held.drives_are i) ∙ m)).1 in
           absurd (cc (ap (is_body_in slot (spelling boot)) (region_none i (get_or_past answered i false (omega (arith, ge, all)))), holds))
     ]
+
+    -- its body stands on each of them
+    pub stands_on : (i : ℕ) → IsMember drives i → body_in slot (old.disk (drive i)).bytes ≡ spelling boot
+    unfolding is_holding
+    stands_on i m =
+        let holds : is_body_in slot (spelling boot) (region_at bytes answered i) ≡ true =
+        (both_true (slice_index_or boot.members.drives i false) (is_holding bytes answered slot (spelling boot) i) (sym (held.drives_are i) ∙ m)).1 in
+        elim (cases_Bool (slice_index_or answered i false)) [
+          | inl some ↦
+              let front : List ℕ = bytes_at 0 196608 (old.disk (drive i)).bytes in
+              let e : bytes_eq (body_in slot front) (spelling boot) ≡ true = subst (λ (o : Option (List ℕ)). is_body_in slot (spelling boot) o ≡ true) (region_some i (below i m) some) holds in
+              sym (same_body slot (old.disk (drive i)).bytes) ∙ same_text (body_in slot front) (spelling boot) (sym e)
+          | inr none ↦ absurd (cc (ap (is_body_in slot (spelling boot)) (region_none i none), holds))
+        ]
 
     pub member_showed : (i : ℕ) → IsMember drives i → of_members slot boot view (drive i) ≡ Some (old.disk (drive i)).bytes
     member_showed i m = members_are i (below i m) ∙ ap (λ (b : Bool). if b then Some (old.disk (drive i)).bytes else None) m

@@ -64,6 +64,30 @@ module _ (a b : Shelved) (missing : Conditions) (on : Continues a b) (stop : Sto
     nothing_owed None arrays = record { standing = λ bears. owes_nothing bears; stored = λ slot boot g. gives_nothing slot boot g }
     nothing_owed (Some f) arrays = record { standing = λ bears. owes_nothing bears; stored = λ bears silent since. owes_nothing bears }
 
+-- what the drives showed gives the record, in the conditions of a later stop, as long as the drives are as they were when the record was found
+pub given_at : (a b : Shelved) (missing : Conditions) (x : Loaded) → Continues a b → IsShelf b → b.honest → (shown : View) → LeavesOnly a b (IsGivenFrom a shown x missing)
+    → (n : Shelved) (stop : Stop) → IsCountedBy b stop → (image : Image) → ((i : ℕ) → MayLeave (b.disk (drive i)) (image (drive i)))
+    → OnlyFailedAreSilent (has_failed (read_now a) stop) shown → IsBearable (geometry_of a) (failed_by a stop missing) → MayBeGiven (geometry_of a) image (failed_by a stop missing) (slot_in x.slot) x.record
+given_at a b missing x on is_b h_b shown given n stop counted image leaves fails bears =
+    given_on_drives (geometry_of a) begun image (failed_by a stop missing) (slot_in x.slot) x.record (λ i. refl) (there fails bears)
+  where
+    begun : Image
+    begun (Drive d) = image (Drive d)
+    begun (Nv k) = (b.disk (Nv k)).bytes
+
+    start : Stop
+    start = record { image = begun; faults = stop.faults; write_faults = stop.write_faults; output = b.output; taken = b.taken }
+
+    each : (d : Device) → MayLeave (b.disk d) (begun d)
+    each (Drive d) = leaves d.0
+    each (Nv k) = record { size = refl; is_byte = λ i. is_b.bytes h_b (Nv k) i; clean = λ i clean. refl }
+
+    may : MayStop b start
+    may = record { device = each; counts = record { faults = counted.faults; write_faults = counted.write_faults }; output = refl; taken = refl }
+
+    there : IsGivenFrom a shown x missing start
+    there = (given.each start (is_b.counts_now a.moment start on.later may)).1
+
 -- the record is found, and then the log is opened
 module _ (a b : Shelved) (missing : Conditions) (arrays : List Array) (x : Loaded) (on : Continues a b) (is_b : IsShelf b) (h_b : b.honest)
     (first : LeavesOnly a b (StandsStill a None missing arrays)) where
@@ -101,26 +125,11 @@ module _ (a b : Shelved) (missing : Conditions) (arrays : List Array) (x : Loade
         stored = λ bears fails since. absurd (let later = since (slot_in x.slot) x.record (gives (λ d none. fails d (silent d none)) bears) in omega (arith, later, generation));
       }
 
-      -- the drives as they are at a stop, and the NVRAM devices as they were
-      begun : Stop → Image
-      begun stop (Drive d) = stop.image (Drive d)
-      begun stop (Nv k) = (b.disk (Nv k)).bytes
-
-      began : Stop → Stop
-      began stop = record { image = begun stop; faults = stop.faults; write_faults = stop.write_faults; output = b.output; taken = b.taken }
-
-      leaves : (nvrams : List Bool) (stop : Stop) → LeavesBut (OnMembers nvrams) b stop → (d : Device) → MayLeave (b.disk d) (begun stop d)
-      unfolding begun
-      leaves nvrams stop left (Drive d) = record { size = (left.bytes (Drive d)).size; is_byte = (left.bytes (Drive d)).is_byte; clean = λ i clean. (left.bytes (Drive d)).same i clean (λ w. w) }
-      leaves nvrams stop left (Nv k) = record { size = refl; is_byte = λ i. is_b.bytes h_b (Nv k) i; clean = λ i clean. refl }
-
       given_then : (nvrams : List Bool) (stop : Stop) → LeavesBut (OnMembers nvrams) b stop → IsGivenFrom a shown x missing stop
-      unfolding began begun
-      given_then nvrams stop left fails bears =
-          let start = began stop in
-          let may : MayStop b start = record { device = leaves nvrams stop left; counts = record { faults = left.counts.faults; write_faults = left.counts.write_faults }; output = refl; taken = refl } in
-          let there : IsGivenFrom a shown x missing start = (given.each start (is_b.counts_now a.moment start on.later may)).1 in
-          given_on_drives (geometry_of a) start.image stop.image (failed_by a stop missing) (slot_in x.slot) x.record (λ i. refl) (there fails bears)
+      given_then nvrams stop left fails bears = given_at a b missing x on is_b h_b shown given n stop left.counts stop.image leaves fails bears
+        where
+          leaves : (i : ℕ) → MayLeave (b.disk (drive i)) (stop.image (drive i))
+          leaves i = record { size = (left.bytes (drive i)).size; is_byte = (left.bytes (drive i)).is_byte; clean = λ k clean. (left.bytes (drive i)).same k clean (λ w. w) }
 
       pub unstored_by : (nvrams : List Bool) → WritesOnly (OnMembers nvrams) b n → LeavesOnly a n (StandsStill a (Some found_then) missing arrays)
       unstored_by nvrams writes = then_run on

@@ -28,60 +28,19 @@ use Rattle.boot_region.proofs.ShownLemmas.{as_read}
 use Rattle.nvram_log.specs.Members.{IsFewer, IsMember as IsLogMember}
 use Rattle.register.specs.declared.state.Register.{Register}
 use Rattle.register.specs.Registers.{OnSlots, drives_of, next_slot, own_slot}
-use Rattle.register.specs.Standing.{GivesOldOrNext, IsNextOf, MayStore}
+use Rattle.register.specs.Standing.{AreOfMembers, GivesOldOrNext, IsNextOf, MayStore, StandsBack, StillGiven}
 use Rattle.register.proofs.FlagLemmas.{cut_in}
 use Rattle.session_spec.specs.Entering.{AreBack, AreRead, ComesBack, Found, IsStanding, IsStoredSince, LeftOutAreNamedByNone, OnlyFailedAreSilent, StandsStill, read_now, failed_by, failed_since}
 use Rattle.takeover.specs.declared.log.OpenedLog.{OpenedLog}
 use Rattle.takeover.specs.LogOpen.{IsLogOpen}
-use Rattle.takeover.proofs.Awaited.{AreOfMembers, StandsBack, StillGiven}
 use Rattle.takeover.proofs.Failing.{left_out_since, since_mid}
 use Rattle.takeover.proofs.Loading.{may_read, same_geometry}
 use Rattle.takeover.proofs.NothingStored.{in_force_at}
 use Rattle.takeover.proofs.Stops.{given_on_drives, bears_from_b, standing_from_a, given_from_a}
+use Rattle.takeover.proofs.Twice.{twice_by}
 use Rattle.takeover.proofs.WhatFound.{not_named, rose_before}
 
--- what stands for one of some arrays stands for them
-contained : (arrays : List Array) (array other : Array) → Contains arrays array → Contains (array ∷ []) other → Contains arrays other
-contained arrays array other is (k, below, at) = subst (λ (x : Array). Contains arrays x) (only k below at) is
-  where
-    only : (k : ℕ) → k < 1 → slice_index_or (array ∷ []) k other ≡ other → array ≡ other
-    only zero lt e = e
-    only (suc k) lt e = absurd (omega (arith, lt))
-
-some_of : (arrays : List Array) (array : Array) → Contains arrays array → arrays ≢ []
-some_of arrays array (k, below, at) none = absurd (omega (arith, below, ap length none))
-
-pub stands_among : (shelf : Geometry) (image : Image) (missing : Conditions) (array : Array) (arrays : List Array) → Contains arrays array → Stands shelf image missing (array ∷ []) → Stands shelf image missing arrays
-stands_among shelf image missing array arrays one s = record {
-  bearable = s.bearable;
-  some = some_of arrays array one;
-  gives = s.gives;
-  reads = λ slot boot g.
-      let r = s.reads slot boot g in
-      record {
-        base = r.base;
-        each = λ more view v.
-            let by = r.each more view v in
-            record {
-              in_force = by.in_force;
-              all_hold = by.all_hold;
-              holds = by.holds;
-              leads = record {
-                log = by.leads.log;
-                log_stands = by.leads.log_stands;
-                devices_agree = by.leads.devices_agree;
-                least = by.leads.least;
-                least_stands = by.leads.least_stands;
-                enough = by.leads.enough;
-                fronts = λ n low high. contained arrays array _ one (by.leads.fronts n low high);
-              };
-            };
-      };
-  agree = λ slot slot2 boot boot2 g g2.
-      let f = s.agree slot slot2 boot boot2 g g2 in
-      record { in_order = f.in_order; same_base = f.same_base; no_log = f.no_log };
-}
-
+-- the NVRAM devices show what they might have shown when the store began, and each record that may be given is read
 module _ (n : Shelved) (x : Loaded) (now : Conditions) (arrays : List Array) (o : OpenedLog) (was : Register) (is_n : IsShelf n) (h_n : n.honest)
     (opened : IsLogOpen n x now arrays o) (record_is : was.record ≡ x.record) (drives_are : was.drives ≡ x.drives) (stop : Stop) (left : LeavesBut (OnSlots (drives_of was)) n stop) where
   abbrev shelf : Geometry
@@ -250,12 +209,24 @@ back_out true true o e = absurd (cc e)
 back_out true false (Some bytes) e = absurd (cc e)
 back_out true false None e = absurd (cc e)
 
-back_sound : (named failed : Bool) (o : Option (List ℕ)) → back_as named failed o ≡ Sound → (failed ≡ false) × (o ≢ None)
+back_sound : (named failed : Bool) (o : Option (List ℕ)) → back_as named failed o ≡ Sound → (failed ≡ false) × (o ≢ None) × (named ≡ true)
 unfolding back_as
 back_sound false failed o e = absurd (cc e)
 back_sound true true o e = absurd (cc e)
-back_sound true false (Some bytes) e = (refl, λ none. cc none)
+back_sound true false (Some bytes) e = (refl, (λ none. cc none), refl)
 back_sound true false None e = absurd (cc e)
+
+cases_back : (named failed : Bool) (o : Option (List ℕ)) → named ≡ true → (back_as named failed o ≡ Missing) ⊎ (back_as named failed o ≡ Sound)
+unfolding back_as
+cases_back false failed o e = absurd (cc e)
+cases_back true true o e = inl refl
+cases_back true false (Some bytes) e = inr refl
+cases_back true false None e = inl refl
+
+cases_condition : (c : Condition) → (c ≡ Sound) ⊎ ((c ≡ Missing) ⊎ (c ≡ LeftOut))
+cases_condition Sound = inl refl
+cases_condition Missing = inr (inl refl)
+cases_condition LeftOut = inr (inr refl)
 
 comes_back : {geometry : Geometry} {image : Image} (found : Found geometry image) (failed : Device → Bool) (after : Conditions) (d : Device) (named fails : Bool) (o : Option (List ℕ))
     → after d ≡ back_as named fails o → names found.effective.boot d ≡ named → failed d ≡ fails → members_view found.view found.effective d ≡ o → ComesBack found failed after d
@@ -271,7 +242,9 @@ module _ (a n : Shelved) (x : Loaded) (missing : Conditions) (arrays : List Arra
     (may_store : MayStore n was o.log.members (failed_since a n missing) opened.commands arrays)
     (found : Found (geometry_of a) (read_now a).image) (boot_is : found.effective.boot ≡ x.record)
     (drive_left : (fails : Device → Bool) → ((d : Device) → has_failed (read_now a) (read_now n) d ≡ true → fails d ≡ true) → (i : ℕ) → i < a.drives → members_view found.view found.effective (drive i) ≢ None → fails (drive i) ≡ false → IsMember x.drives i)
-    (nvram_left : (fails : Device → Bool) → ((d : Device) → has_failed (read_now a) (read_now n) d ≡ true → fails d ≡ true) → (k : ℕ) → members_view found.view found.effective (nvram k) ≢ None → fails (nvram k) ≡ false → IsLogMember o.log.members k) where
+    (nvram_left : (fails : Device → Bool) → ((d : Device) → has_failed (read_now a) (read_now n) d ≡ true → fails d ≡ true) → (k : ℕ) → members_view found.view found.effective (nvram k) ≢ None → fails (nvram k) ≡ false → IsLogMember o.log.members k)
+    (begun : (stop : Stop) → IsCountedBy n stop → OnlyFailedAreSilent (has_failed (read_now a) stop) found.view → IsBearable (geometry_of a) (failed_by a stop missing)
+    → (start : Stop) → MayStop n start → MayBeGiven (geometry_of a) start.image (failed_by a stop missing) (own_slot x.record) x.record) where
   pub stored_at : (stop : Stop) → LeavesBut (OnSlots (drives_of was)) n stop
       → StandsBut n (drives_of was) (failed_since a n missing) (next_slot was.record) was.record arrays stop
       → GivesOldOrNext n was o.log.members (failed_since a n missing) stop
@@ -284,7 +257,7 @@ module _ (a n : Shelved) (x : Loaded) (missing : Conditions) (arrays : List Arra
         (standing_at n x (failed_since a n missing) arrays o was is_n h_n opened record_is drives_are stop left (λ slot boot g. gives later acc slot boot g) (stands later acc));
     stored = λ bears silent since. elim back [
       | inl still ↦
-          let g = still (failed_since a n missing) arrays may_store later (accounts (bears_from_b a n missing on stop left.counts bears)) in
+          let g = still (failed_since a n missing) arrays may_store later (accounts (bears_from_b a n missing on stop left.counts bears)) (given_in (begun stop left.counts silent bears)) in
           let newer = since (own_slot was.record) was.record (given_from_a a n missing on stop left.counts (own_slot was.record) was.record g) in
           absurd (omega (arith, newer, ap (λ (b : BootRecord). b.generation) boot_is, ap (λ (b : BootRecord). b.generation) record_is))
       | inr stood ↦ (after, (λ d on_shelf. comes_back found fails after d (names x.record d) (fails d) (members_view found.view found.effective d) refl (ap (λ (b : BootRecord). names b d) boot_is) refl refl), λ borne. is_back stood borne)
@@ -296,6 +269,13 @@ module _ (a n : Shelved) (x : Loaded) (missing : Conditions) (arrays : List Arra
 
       accounts : IsBearable (geometry_of n) later → AccountsFor n (drives_of was) (failed_since a n missing) (next_slot was.record) (spelling was.record) stop.faults stop.write_faults later
       accounts bears = failed_calls n (drives_of was) (failed_since a n missing) (next_slot was.record) (spelling was.record) stop.faults stop.write_faults bears
+
+      given_in : ((start : Stop) → MayStop n start → MayBeGiven (geometry_of a) start.image (failed_by a stop missing) (own_slot x.record) x.record)
+          → (start : Stop) → MayStop n start → MayBeGiven (geometry_of n) start.image later (own_slot was.record) was.record
+      given_in gives start may =
+          subst (λ (r : BootRecord). MayBeGiven (geometry_of n) start.image later (own_slot r) r) (sym record_is)
+          (subst (λ (g : Geometry). MayBeGiven g start.image later (own_slot x.record) x.record) (same_geometry on)
+          (subst (λ (c : Conditions). MayBeGiven (geometry_of a) start.image c (own_slot x.record) x.record) (sym (twice_by a n stop missing on left.counts)) (gives start may)))
 
       fails : Device → Bool
       fails = has_failed (read_now a) stop
@@ -309,26 +289,46 @@ module _ (a n : Shelved) (x : Loaded) (missing : Conditions) (arrays : List Arra
       of_members : IsBearable (geometry_of n) after → AreOfMembers n was o.log.members stop after
       of_members borne = record {
         bearable = borne;
-        drives = λ i lt sound.
-            let two = back_sound (names x.record (drive i)) (fails (drive i)) (members_view found.view found.effective (drive i)) sound in
-            let member : IsMember x.drives i = drive_left fails by_then i (omega (arith, lt, on.drives)) two.1 two.0 in
+        on_drives = λ i lt sound.
+            let three = back_sound (names x.record (drive i)) (fails (drive i)) (members_view found.view found.effective (drive i)) sound in
+            let member : IsMember x.drives i = drive_left fails by_then i (omega (arith, lt, on.drives)) three.1.0 three.0 in
             (
               cut_in was.drives was.record.slots i (omega (arith, lt, slots)) (subst (λ (l : List Bool). IsMember l i) (sym drives_are) member),
-              since_mid (a.disk (drive i)).faults (n.disk (drive i)).faults (stop.faults (drive i)) (on.faults (drive i)) (left.counts.faults (drive i)) two.0,
+              since_mid (a.disk (drive i)).faults (n.disk (drive i)).faults (stop.faults (drive i)) (on.faults (drive i)) (left.counts.faults (drive i)) three.0,
             );
-        nvrams = λ k lt sound.
-            let two = back_sound (names x.record (nvram k)) (fails (nvram k)) (members_view found.view found.effective (nvram k)) sound in
-            nvram_left fails by_then k two.1 two.0;
+        on_nvram = λ k lt sound.
+            let three = back_sound (names x.record (nvram k)) (fails (nvram k)) (members_view found.view found.effective (nvram k)) sound in
+            (nvram_left fails by_then k three.1.0 three.0, ap (λ (r : BootRecord). names r (nvram k)) record_is ∙ three.1.1);
+        left_out = λ k out.
+            let none = back_out (names x.record (nvram k)) (fails (nvram k)) (members_view found.view found.effective (nvram k)) out in
+            ((λ m. absurd (cc (none, opened.fewer k m))), ap (λ (r : BootRecord). names r (nvram k)) record_is ∙ none);
+        dropped = λ k lt named gone. back_missing k (sym (ap (λ (r : BootRecord). names r (nvram k)) record_is) ∙ named) gone ∙ sym (is_missing_now k lt (sym (ap (λ (r : BootRecord). names r (nvram k)) record_is) ∙ named) gone);
       }
         where
           slots : was.record.slots ≡ n.drives
           slots = may_store.logged.is_of.lawful.slots
 
+          -- an NVRAM device that the record names and the store leaves out failed
+          back_missing : (k : ℕ) → names x.record (nvram k) ≡ true → (IsLogMember o.log.members k → ⊥) → after (nvram k) ≡ Missing
+          back_missing k named gone = elim (cases_back (names x.record (nvram k)) (fails (nvram k)) (members_view found.view found.effective (nvram k)) named) [
+            | inl is ↦ is
+            | inr sound ↦
+                let three = back_sound (names x.record (nvram k)) (fails (nvram k)) (members_view found.view found.effective (nvram k)) sound in
+                absurd (gone (nvram_left fails by_then k three.1.0 three.0))
+          ]
+
+          is_missing_now : (k : ℕ) → k < 2 → names x.record (nvram k) ≡ true → (IsLogMember o.log.members k → ⊥) → failed_since a n missing (nvram k) ≡ Missing
+          is_missing_now k lt named gone = elim (cases_condition (failed_since a n missing (nvram k))) [
+            | inl sound ↦ absurd (gone (opened.sound k lt sound))
+            | inr (inl is) ↦ is
+            | inr (inr out) ↦ absurd (cc (named, opened.found.left_out (read_now n) (may_read n is_n h_n) (nvram k) out _ x.record (opened.found.in_force.given (read_now n) (may_read n is_n h_n))))
+          ]
+
       is_back : StandsBack n was o.log.members opened.commands stop → IsBearable (geometry_of a) after → IsStanding (geometry_of a) stop.image after arrays
       is_back stood borne =
           let e : geometry_of a ≡ geometry_of n = same_geometry on in
-          let both = stood.each after (of_members (subst (λ (g : Geometry). IsBearable g after) e borne)) in
+          let both = stood.each (failed_since a n missing) arrays may_store after (of_members (subst (λ (g : Geometry). IsBearable g after) e borne)) in
           subst (λ (g : Geometry). IsStanding g stop.image after arrays) (sym e)
           (standing_back n x (failed_since a n missing) arrays o was is_n h_n opened record_is drives_are stop left after both.1
           (λ d out. back_out (names x.record d) (fails d) (members_view found.view found.effective d) out)
-          (stands_among (geometry_of n) stop.image after (after_all [] opened.commands) arrays may_store.one_of both.0))
+          both.0)

@@ -1,7 +1,8 @@
 // The boot record is found and settled.
-ghost use Rattle.std.specs.Prelude.{◌≡◌, ◌⊎◌, ◌<◌, ◌≤◌, ℕ, List, [], IfOk, None};
+ghost use Rattle.std.specs.Prelude.{◌≡◌, ◌⊎◌, ◌<◌, ◌≤◌, ◌+◌, ℕ, List, [], IfOk, Some, None, true};
 ghost use Rattle.pur_base.specs.declared.device.Device.{Device};
 ghost use Rattle.pur_base.specs.Devices.{Conditions, IsBearable, drive, nvram};
+ghost use Rattle.pur_base.specs.Gates.{is_open};
 ghost use Rattle.pur_base.specs.Plain.{Array};
 ghost use Rattle.boot_codec.specs.Record.{set_count};
 ghost use Rattle.boot_codec.specs.Region.{body_in, gate_place, other_slot};
@@ -47,6 +48,9 @@ fn settle_loaded<S: Shelf>(shelf: &mut S, loaded: &mut Loaded)
     ensures writes { (S.shelf shelf.old).honest → WritesOnly (OnClosed loaded.old.drives (S.shelf shelf.old) (gate_place (slot_in loaded.old.slot))) (S.shelf shelf.old) (S.shelf shelf.new) }
     ensures rest { S.shelf_rest shelf.old shelf.new }
     ensures nvrams { (n : ℕ) → (S.shelf shelf.new).disk (nvram n) ≡ (S.shelf shelf.old).disk (nvram n) }
+    // The gates of those that are left are open.
+    ensures opened { (S.shelf shelf.old).honest → (i : ℕ) → i < (S.shelf shelf.old).drives → IsMember loaded.new.drives i
+        → is_open (gate_place (slot_in loaded.old.slot)) ((S.shelf shelf.new).disk (drive i)).bytes ≡ true }
     // What was clean is clean still, or a call on it failed.
     ensures clean { (S.shelf shelf.old).honest → (d : Device) → ((S.shelf shelf.old).disk d).dirty ≡ []
         → (((S.shelf shelf.new).disk d).dirty ≡ []) ⊎ Rises ((S.shelf shelf.old).disk d).faults ((S.shelf shelf.new).disk d).faults }
@@ -75,6 +79,9 @@ pub fn find_record<S: Shelf>(alloc: Global, shelf: &mut S) -> Result<Loaded, Ope
     ensures continues { Continues (S.shelf shelf.old) (S.shelf shelf.new) }
     ensures rest { S.shelf_rest shelf.old shelf.new }
     ensures lawful { IfOk result (IsLawfulLoad (geometry_of (S.shelf shelf.new))) }
+    // The drives that are left show the record, whatever is missing, and at most two of the shelf's aren't among them.
+    ensures shown { (S.shelf shelf.old).honest → IfOk result (λ x. (i : ℕ) → IsMember x.drives i → shown_by (slot_in x.slot) ((S.shelf shelf.new).disk (drive i)).bytes ≡ Some (spelling x.record)) }
+    ensures enough { IfOk result (λ x. (S.shelf shelf.new).drives ≤ set_count x.drives + 2) }
     ensures moments { (S.shelf shelf.old).honest → LeavesOnly (S.shelf shelf.old) (S.shelf shelf.new) (IsCountedBy (S.shelf shelf.old)) }
     ensures nvrams { (S.shelf shelf.old).honest → (n : ℕ) → IsSame ((S.shelf shelf.old).disk (nvram n)) ((S.shelf shelf.new).disk (nvram n)) }
     // What the drives showed gives the record, or why there is none.

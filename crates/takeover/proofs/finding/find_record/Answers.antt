@@ -1,4 +1,4 @@
-use Rattle.std.proofs.Common.{◌^◌, ◌-◌, ◌<◌, ◌≡◌, ◌≢◌, ◌≤◌, ℕ, List, [], ◌∷◌, length, refl, arith, sym, subst, ap, ◌∙◌, Result, Ok, Err}
+use Rattle.std.proofs.Common.{◌≡◌, ◌≢◌, ℕ, ◌-◌, ◌^◌, ◌<◌, ◌≤◌, List, [], ◌∷◌, length, refl, arith, sym, subst, ap, ◌∙◌, Result, Ok, Err}
 use Rattle.std.proofs.lemmas.Result.{err_from_is_err_and}
 use Rattle.pur_base.specs.Devices.{Geometry, Conditions, IsBearable, drive, nvram}
 use Rattle.boot_codec.specs.declared.record.BootRecord.{BootRecord}
@@ -22,7 +22,7 @@ use Rattle.takeover.specs.Seen.{IsSeenBy}
 use Rattle.takeover.proofs.FoundLemmas.{while_reading, through_moments, both, below_slots, found_on, lacking}
 use Rattle.takeover.proofs.Loading.{same_geometry}
 use Rattle.takeover.proofs.Opened.{not_loaded}
-use Rattle.takeover.proofs.SeenIn.{clean_read, clean_settled, counted_through, seen_in, seen_not_loaded, seen_patched, seen_too_few}
+use Rattle.takeover.proofs.SeenIn.{clean_read, clean_settled, counted_through, shown_in, seen_in, seen_not_loaded, seen_patched, seen_too_few}
 use Rattle.takeover.proofs.finding.find_record.Goals as goal
 
 none : {X : Type 0} (xs : List X) → length xs ≤ 0 → xs ≡ []
@@ -225,6 +225,20 @@ returns-clause-found g c h missing arrays enters bears =
     n y c.settle_loaded.ensures.continues (g.met.S.Shelf.is_shelf c.settle_loaded.new.shelf) c.settle_loaded.ensures.record.0 c.settle_loaded.ensures.record.1 fewer
     (c.settle_loaded.ensures.writes (c.load.ensures.continues.honest h)) settled unflushed bears in
     is
+
+pub returns-clause-shown : goal.returns-clause-shown
+returns-clause-shown g c h =
+    let a = g.S.Shelf.shelf c.args.shelf.now in
+    let b = g.S.Shelf.shelf c.load.new.shelf in
+    let n = g.S.Shelf.shelf c.settle_loaded.new.shelf in
+    let x = c.in_ok-loaded.loaded in
+    let by : IsLoadBy a b (Ok x) = subst (λ r. IsLoadOf a b r) c.in_ok-loaded.was (c.load.ensures.loads h) in
+    shown_in a b n x c.load.ensures.continues c.settle_loaded.ensures.continues (c.load.ensures.same h) by (c.load.ensures.writes h) (c.settle_loaded.ensures.writes (c.load.ensures.continues.honest h))
+    c.settle_loaded.new.loaded.drives c.settle_loaded.ensures.dropped c.settle_loaded.new.loaded.record c.settle_loaded.new.loaded.slot c.settle_loaded.ensures.record.0 c.settle_loaded.ensures.record.1
+    (c.settle_loaded.ensures.opened (c.load.ensures.continues.honest h)) c.settle_loaded.ensures.fewer
+
+pub returns-clause-enough : goal.returns-clause-enough
+returns-clause-enough g c = omega (arith, c.count_set.ensures.value, c.if-count_set-drives.false, c.drives.ensures)
 
 pub returns-clause-lawful : goal.returns-clause-lawful
 returns-clause-lawful g c =
