@@ -6,7 +6,6 @@ use Rattle.pur_base.specs.Devices.{Geometry, Image, Conditions, Sound, LeftOut, 
 use Rattle.pur_base.specs.Plain.{Array}
 use Rattle.pur_base.specs.declared.device.Device.{Device}
 use Rattle.pur_base.specs.declared.device.Device.TheVariants.{Drive, Nv}
-use Rattle.boot_codec.specs.declared.record.BootRecord.{BootRecord}
 use Rattle.boot_codec.specs.Spelling.{spelling}
 use Rattle.boot_codec.specs.Region.{BootSlot, IsRecordOf, body_in, names, other_slot, shown_by}
 use Rattle.log_codec.specs.Log.{Shows, ShowsIn, IsInSlot}
@@ -43,7 +42,7 @@ use Rattle.takeover.specs.Found.{IsFoundOn}
 use Rattle.takeover.specs.LogOpen.{IsLogOpen, IsLogOpenBy, IsLogFault, ShowsUnserved}
 use Rattle.takeover.specs.Replay.{HasUnserved, IsReplayed, IsReplayFault, log_fault_of}
 use Rattle.takeover.proofs.Counts.{goes_on}
-use Rattle.takeover.proofs.Failing.{sound_since, left_out_since, fewer_borne, by_stop, since_later}
+use Rattle.takeover.proofs.Failing.{sound_since, fewer_borne, by_stop, since_later}
 use Rattle.takeover.proofs.Loading.{same_geometry}
 use Rattle.takeover.proofs.LogSettling.{bearable_or_not, nothing_else, not_risen, stays, given_moves, answers, is_one, agree_here, standing_settling}
 use Rattle.takeover.proofs.NothingStored.{given_over, standing_with_fewer}
@@ -206,9 +205,6 @@ module _ (old mid new : Shelved) (x : Loaded) (missing : Conditions) (arrays : L
 
       was_sound : (d : Device) → later d ≡ Sound → (missing d ≡ Sound) × (has_risen (old.disk d).faults (new.disk d).faults ≡ false)
       was_sound d e = sound_since (has_risen (old.disk d).faults (new.disk d).faults) (missing d) e
-
-      was_left_out : (d : Device) → later d ≡ LeftOut → missing d ≡ LeftOut
-      was_left_out d e = left_out_since (has_risen (old.disk d).faults (new.disk d).faults) (missing d) e
 
       pub still_sound : (n : ℕ) → n < 2 → later (nvram n) ≡ Sound → IsMember now_members n
       still_sound n lt s =

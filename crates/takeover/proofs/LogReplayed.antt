@@ -1,6 +1,6 @@
 -- What the devices showed of the log, or why it wasn't replayed, and that nothing is dirty in the end.
-use Rattle.std.proofs.Common.{◌≡◌, inl, inr, ℕ, ◌+◌, ◌<◌, ◌≤◌, List, [], length, take, refl, sym, ◌∙◌, ap, subst, arith, Bool, true, false, Result, Ok, Err}
-use Rattle.std.specs.Prelude.{Option, Some, None, if◌then◌else◌, slice_get, slice_index_or}
+use Rattle.std.proofs.Common.{◌≡◌, inl, inr, ℕ, ◌<◌, ◌≤◌, List, [], length, take, sym, ◌∙◌, ap, subst, arith, Bool, false, Err}
+use Rattle.std.specs.Prelude.{Option, Some, None, if◌then◌else◌, slice_index_or}
 use Rattle.std.proofs.lemmas.Bool.{cases_Bool, cases_lt}
 use Rattle.std.proofs.lemmas.List.{ext_get_or, get_or_past, length-take}
 use Rattle.pur_base.specs.Commands.{Command}
@@ -8,12 +8,11 @@ use Rattle.pur_base.specs.Devices.{Conditions, Sound, drive, nvram}
 use Rattle.pur_base.specs.Plain.{Array}
 use Rattle.pur_base.specs.declared.device.Device.{Device}
 use Rattle.pur_base.specs.declared.device.Device.TheVariants.{Drive, Nv}
-use Rattle.log_codec.specs.Log.{IsInSlot, LogStands, Shows, ShowsIn}
+use Rattle.log_codec.specs.Log.{LogStands, Shows, ShowsIn}
 use Rattle.array_spec.proofs.LogBetween.{shower}
 use Rattle.array_spec.proofs.UnflushedRead.{kept_is}
-use Rattle.world.specs.Counts.{Rises}
 use Rattle.world.specs.Losing.{has_risen}
-use Rattle.world.specs.Shelf.{Continues, Disk, IsCountedBy, LeavesOnly, Shelved, Stop}
+use Rattle.world.specs.Shelf.{Continues, Disk, IsCountedBy, LeavesOnly, Shelved}
 use Rattle.world.specs.Writes.{ChangesOnly, WritesOnly}
 use Rattle.world.proofs.Moments.{then_run, weaker}
 use Rattle.boot_region.proofs.Phases.{risen_on_way}

@@ -1,4 +1,4 @@
-use Rattle.std.proofs.Common.{◌≡◌, rules, List, Bool, Err, ℕ, length, sym, subst}
+use Rattle.std.proofs.Common.{◌≡◌, rules, List, Bool, Err, length, sym, subst}
 use Rattle.std.proofs.lemmas.Result.{err_from_is_err_and}
 use Rattle.boot_region.proofs.LoadingLemmas.{if_err}
 use Rattle.world.proofs.Moments.{continues_trans}
