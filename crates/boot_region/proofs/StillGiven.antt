@@ -1,5 +1,5 @@
 -- A record that might be given may be given still, though gates were opened over its own body, or closed in the other slot.
-use Rattle.std.proofs.Common.{◌≡◌, ◌⊎◌, inl, inr, ℕ, zero, suc, ◌+◌, ◌*◌, ◌≤◌, ◌<◌, List, length, map, refl, sym, ◌∙◌, ap, subst, arith, Bool, true, false, cond}
+use Rattle.std.proofs.Common.{◌≡◌, ◌⊎◌, inl, inr, ℕ, zero, suc, ◌+◌, ◌≤◌, ◌<◌, List, length, map, refl, sym, ◌∙◌, ap, subst, arith, Bool, true, false, cond}
 use Rattle.std.specs.Prelude.{IfSome, Option, Some, None, option_and_then, count_by, if◌then◌else◌}
 use Rattle.std.specs.List.{range_with_len}
 use Rattle.std.specs.Cmp.Lexicographic.{same_text}
@@ -72,9 +72,11 @@ module _ (shelf : Geometry) (old new : Image) (missing : Conditions) (slot : Boo
   vote_cases t i = elim (cases_Bool (is_sound (g.more (drive i)))) [
     | inl s ↦
         let sound = sound_is (g.more (drive i)) s in
-        inr (sound_before (missing (drive i)) (g.more (drive i)) (g.appears.within (drive i)) sound,
+        inr (
+          sound_before (missing (drive i)) (g.more (drive i)) (g.appears.within (drive i)) sound,
           ap (option_and_then (shown_by t)) (now_sound (drive i) sound),
-          ap (option_and_then (shown_by t)) (g.appears.shown (drive i) sound))
+          ap (option_and_then (shown_by t)) (g.appears.shown (drive i) sound),
+        )
     | inr u ↦ inl (ap (option_and_then (shown_by t)) (now_other (drive i) u))
   ]
 

@@ -1,23 +1,18 @@
 -- A store that is followed by another one, at any moment of both.
-use Rattle.std.proofs.Common.{◌≡◌, ◌⊎◌, inl, inr, ℕ, ◌-◌, ◌^◌, ◌≤◌, ◌<◌, List, [], ◌∷◌, refl, sym, ◌∙◌, ap, subst, arith, Bool, true, false}
+use Rattle.std.proofs.Common.{◌≡◌, ◌⊎◌, inl, inr, ℕ, ◌-◌, ◌^◌, ◌≤◌, List, [], ◌∷◌, refl, sym, ◌∙◌, ap, subst, arith, Bool, true, false}
 use Rattle.std.specs.Prelude.{count_by, cond, nat_lt, nat_le, ◌||◌, slice_index_or}
 use Rattle.std.proofs.lemmas.Bool.{cases_Bool, cases_lt}
 use Rattle.std.proofs.Common.{ltb-false}
-use Rattle.pur_base.specs.declared.device.Device.{Device}
 use Rattle.pur_base.specs.declared.device.Device.TheVariants as dev
 use Rattle.pur_base.specs.Devices.{Geometry, Condition, Conditions, Sound, Missing, LeftOut, MayBecome, IsBearable, IsWithin, is_missing, missing_drives, missing_nvrams, nvrams, slots_of, drive, nvram}
-use Rattle.pur_base.specs.Plain.{Array}
 use Rattle.boot_codec.specs.declared.record.BootRecord.{BootRecord}
 use Rattle.boot_codec.specs.Spelling.{spelling}
 use Rattle.boot_codec.specs.Region.{BootSlot, other_slot, body_in, generation_in}
-use Rattle.array_spec.specs.Standing.{Stands, MayBeGiven}
 use Rattle.array_spec.proofs.Votes.{counted}
-use Rattle.world.specs.Shelf.{Shelved, Stop, MayStop, IsShelf, Continues, LeavesOnly, IsCountedBy}
-use Rattle.world.specs.Writes.{LeavesBut}
+use Rattle.world.specs.Shelf.{Shelved, Stop, Continues, LeavesOnly, IsCountedBy}
 use Rattle.world.specs.Losing.{geometry_of, has_risen}
-use Rattle.world.proofs.Moments.{then_run, weaker}
 use Rattle.boot_region.specs.Members.{IsMember}
-use Rattle.boot_region.specs.Storing.{WasGiven, AccountsFor, StandsBut, IsOlder}
+use Rattle.boot_region.specs.Storing.{AccountsFor, IsOlder}
 use Rattle.boot_region.proofs.Phases.{not_risen_before}
 use Rattle.register.specs.declared.state.Register.{Register}
 use Rattle.register.specs.Standing.{IsNextOf}

@@ -1,18 +1,17 @@
 -- A record that stands on each drive that is sound, over an older one: it alone is in force, and the devices stand for the array of the log.
-use Rattle.std.proofs.Common.{◌≡◌, ◌≢◌, ◌⊎◌, inl, inr, ℕ, zero, suc, ◌+◌, ◌*◌, ◌-◌, ◌^◌, ◌≤◌, ◌<◌, List, [], ◌∷◌, length, take, refl, sym, ◌∙◌, ap, subst, arith, Bool, true, false}
-use Rattle.std.specs.Prelude.{Some, None, Option, Contains, slice_index_or, count_by, cond, if◌then◌else◌}
+use Rattle.std.proofs.Common.{◌≡◌, ◌≢◌, ◌⊎◌, inl, inr, ℕ, zero, suc, ◌+◌, ◌*◌, ◌-◌, ◌^◌, ◌≤◌, ◌<◌, List, [], length, take, refl, sym, ◌∙◌, ap, subst, arith, Bool, true, false}
+use Rattle.std.specs.Prelude.{Some, None, Option, Contains, count_by}
 use Rattle.std.specs.List.{range_with_len}
 use Rattle.std.specs.Str.{bytes_eq}
 use Rattle.std.specs.Cmp.Lexicographic.{same_text}
 use Rattle.std.proofs.lemmas.Bool.{cases_Bool, cases_lt}
 use Rattle.std.proofs.lemmas.List.{take_all, append-nil}
-use Rattle.pur_base.specs.Devices.{Conditions, Sound, LeftOut, IsBearable, IsOn, is_missing, is_sound, drive, nvram}
+use Rattle.pur_base.specs.Devices.{Conditions, Sound, LeftOut, IsBearable, IsOn, is_sound, drive, nvram}
 use Rattle.pur_base.specs.declared.device.Device.{Device}
 use Rattle.pur_base.specs.declared.device.Device.TheVariants as dev
 use Rattle.pur_base.specs.Plain.{Array}
 use Rattle.pur_base.specs.Commands.{Command, after_all}
 use Rattle.boot_codec.specs.declared.record.BootRecord.{BootRecord}
-use Rattle.boot_codec.specs.Record.{set_count}
 use Rattle.boot_codec.specs.Spelling.{spelling}
 use Rattle.boot_codec.specs.Region.{BootSlot, A, B, other_slot, body_in, shown_by, slot_of, generation_in, names, is_vote, Yields}
 use Rattle.log_codec.specs.Log.{ShowsIn}

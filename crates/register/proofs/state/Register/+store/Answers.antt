@@ -1,10 +1,10 @@
-use Rattle.std.proofs.Common.{rules, inl, inr, refl, subst, ◌-◌, ◌^◌, ℕ, List, Bool, arith, ◌≡◌, ◌+◌, ◌<◌, ◌≤◌, length, sym, ◌∙◌, ap}
+use Rattle.std.proofs.Common.{rules, inl, inr, subst, ◌-◌, ◌^◌, arith, ◌≡◌, ◌+◌, ◌<◌, ◌≤◌, length, sym, ◌∙◌, ap}
 use Rattle.boot_codec.specs.declared.record.BootRecord.{BootRecord}
 use Rattle.boot_codec.specs.Record.{set_count}
 use Rattle.world.proofs.Moments.{continues_trans, then_run, weaker}
 use Rattle.world.proofs.Writes.{writes_then, writes_more}
 use Rattle.boot_region.proofs.Stored.{stay_then}
-use Rattle.register.specs.Registers.{OnSlots, drives_of, next_slot}
+use Rattle.register.specs.Registers.{drives_of}
 use Rattle.register.specs.Standing.{IsNextOf}
 use Rattle.register.proofs.FlagLemmas.{same_flags, other_flags}
 use Rattle.register.proofs.Opened.{is_open}
@@ -135,28 +135,28 @@ returns-clause-moments g t c h low =
     let first = c.in_ok-store_next.ensures.moments h (room g t c low) in
     let next : IsNextOf was c.args.nvrams now.record = subst (λ (x : BootRecord). IsNextOf was c.args.nvrams x) (sym c.in_ok-store_next.ensures.next) (is_next_of was c.args.nvrams) in
     then_run ab first (weaker (λ stop x.
-      in_store_later a b (g.met.S.Shelf.is_shelf c.store_next.new.shelf) ab was now c.args.nvrams c.requires.nvrams next c.in_ok-store_next.ensures.fewer
-      (fewer_cut was now (ap (λ (x : BootRecord). x.slots) c.in_ok-store_next.ensures.next) c.in_ok-store_next.ensures.fewer) c.in_ok-store_next.ensures.dropped (room g t c low) first
-      (c.in_ok-store_next.ensures.logged h) (c.in_ok-store_next.ensures.shown h) (c.in_ok-store_next.ensures.older h) (c.in_ok-store_next.ensures.again h (room g t c low)) stop x.0.counts
-      (λ missing log arrays m. x.1.stands missing log arrays (record {
-        logged = record { is_of = record { lawful = m.logged.is_of.lawful; named = m.logged.is_of.named }; patches = m.logged.patches; bodies = m.logged.bodies; holds = m.logged.holds; accepted = m.logged.accepted };
-        in_force = m.in_force;
-        stands = m.stands;
-        one_of = m.one_of;
-        sound = m.sound;
-        left_out = m.left_out;
-      }))
-      (λ missing log arrays m later told slot boot given. elim (x.1.gives missing log arrays (record {
-        logged = record { is_of = record { lawful = m.logged.is_of.lawful; named = m.logged.is_of.named }; patches = m.logged.patches; bodies = m.logged.bodies; holds = m.logged.holds; accepted = m.logged.accepted };
-        in_force = m.in_force;
-        stands = m.stands;
-        one_of = m.one_of;
-        sound = m.sound;
-        left_out = m.left_out;
-      }) later told slot boot given) [
-        | inl before ↦ inl before
-        | inr n ↦ inr (record { later = record { generation = n.later.generation; rest = n.later.rest }; generation = n.generation; nvrams_are = n.nvrams_are; drives = n.drives })
-      ]))
+    in_store_later a b (g.met.S.Shelf.is_shelf c.store_next.new.shelf) ab was now c.args.nvrams c.requires.nvrams next c.in_ok-store_next.ensures.fewer
+    (fewer_cut was now (ap (λ (x : BootRecord). x.slots) c.in_ok-store_next.ensures.next) c.in_ok-store_next.ensures.fewer) c.in_ok-store_next.ensures.dropped (room g t c low) first
+    (c.in_ok-store_next.ensures.logged h) (c.in_ok-store_next.ensures.shown h) (c.in_ok-store_next.ensures.older h) (c.in_ok-store_next.ensures.again h (room g t c low)) stop x.0.counts
+    (λ missing log arrays m. x.1.stands missing log arrays (record {
+      logged = record { is_of = record { lawful = m.logged.is_of.lawful; named = m.logged.is_of.named }; patches = m.logged.patches; bodies = m.logged.bodies; holds = m.logged.holds; accepted = m.logged.accepted };
+      in_force = m.in_force;
+      stands = m.stands;
+      one_of = m.one_of;
+      sound = m.sound;
+      left_out = m.left_out;
+    }))
+    (λ missing log arrays m later told slot boot given. elim (x.1.gives missing log arrays (record {
+      logged = record { is_of = record { lawful = m.logged.is_of.lawful; named = m.logged.is_of.named }; patches = m.logged.patches; bodies = m.logged.bodies; holds = m.logged.holds; accepted = m.logged.accepted };
+      in_force = m.in_force;
+      stands = m.stands;
+      one_of = m.one_of;
+      sound = m.sound;
+      left_out = m.left_out;
+    }) later told slot boot given) [
+      | inl before ↦ inl before
+      | inr n ↦ inr (record { later = record { generation = n.later.generation; rest = n.later.rest }; generation = n.generation; nvrams_are = n.nvrams_are; drives = n.drives })
+    ]))
     (both (c.store.ensures.writes hb).any_moment (c.store.ensures.moments hb low)))
 
 pub returns-clause-any_moment : goal.returns-clause-any_moment

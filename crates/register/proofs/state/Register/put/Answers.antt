@@ -1,7 +1,7 @@
 use Rattle.std.proofs.Common.{rules, arith, ◌≡◌, ◌≤◌, ℕ, List, Bool, length, drop, sym, ◌∙◌, subst}
 use Rattle.std.proofs.lemmas.List.{length-append, length-drop}
 use Rattle.boot_region.specs.Members.{IsMember}
-use Rattle.boot_region.specs.Storing.{Shows, IsInStore, IsInForceOn, IsNewer, IsStoredIn, MayFollow, StandsBut}
+use Rattle.boot_region.specs.Storing.{Shows, IsInStore, IsInForceOn, IsNewer, IsStoredIn, MayFollow}
 use Rattle.boot_region.specs.Slots.{slot_in}
 use Rattle.boot_codec.specs.Region.{BootSlot}
 use Rattle.world.specs.Shelf.{LeavesOnly}

@@ -4,7 +4,6 @@ use Rattle.boot_codec.specs.Record.{IsBootRecord}
 use Rattle.boot_codec.specs.Spelling.{spelling}
 use Rattle.world.proofs.Moments.{started}
 use Rattle.boot_region.specs.Members.{IsMember}
-use Rattle.boot_region.specs.Storing.{StandsBut}
 use Rattle.register.specs.Registers.{drives_of, next_slot, next_record}
 use Rattle.register.proofs.Rounds.{Puts, puts_next, fewer_all, writes_slots, is_of_next, logged_next, older_next, shown_next, moments_next, again_next}
 use Rattle.array_spec.proofs.Standings.{given_with_fewer}
