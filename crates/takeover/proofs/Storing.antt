@@ -286,7 +286,7 @@ module _ (a n : Shelved) (x : Loaded) (missing : Conditions) (arrays : List Arra
       by_then : (d : Device) → has_failed (read_now a) (read_now n) d ≡ true → fails d ≡ true
       by_then d up = rose_before (a.disk d).faults (n.disk d).faults (stop.faults d) (left.counts.faults d) up
 
-      of_members : IsBearable (geometry_of n) after → AreOfMembers n was o.log.members stop after
+      of_members : IsBearable (geometry_of n) after → AreOfMembers n was o.log.members (failed_since a n missing) stop after
       of_members borne = record {
         bearable = borne;
         on_drives = λ i lt sound.

@@ -5,7 +5,7 @@ ghost use Rattle.pur_base.specs.Devices.{Conditions, IsBearable, drive, nvram};
 ghost use Rattle.pur_base.specs.Gates.{is_open};
 ghost use Rattle.pur_base.specs.Plain.{Array};
 ghost use Rattle.boot_codec.specs.Record.{set_count};
-ghost use Rattle.boot_codec.specs.Region.{body_in, gate_place, other_slot};
+ghost use Rattle.boot_codec.specs.Region.{body_in, gate_place, other_slot, shown_by};
 ghost use Rattle.boot_codec.specs.Spelling.{spelling};
 ghost use Rattle.array_spec.specs.Standing.{Stands};
 ghost use Rattle.world.specs.Counts.{Rises};

@@ -29,6 +29,8 @@ pub fn recover<S: Shelf>(alloc: Global, shelf: &mut S) -> Result<Recovered, Open
     // The record is one of the shelf's, and the log follows on what it has flushed.
     ensures is_of { IfOk result (λ r. IsRegisterOf (geometry_of (S.shelf shelf.new)) r.register) }
     ensures flushed { IfOk result (λ r. r.log.flushed ≡ r.register.record.flushed) }
+    // The record names the drives on which it is in force, and the NVRAM devices of the log.
+    ensures named { IfOk result (λ r. (r.register.record.members.drives ≡ r.register.drives) × (r.register.record.members.nvrams ≡ r.log.members)) }
     // A stop at any moment counts no fewer failed calls than there were.
     ensures moments { (S.shelf shelf.old).honest → LeavesOnly (S.shelf shelf.old) (S.shelf shelf.new) (IsCountedBy (S.shelf shelf.old)) }
     // What was found and done, or why the array isn't opened. For arrays for which the devices stood, they do so at every moment.

@@ -39,6 +39,16 @@ returns-clause-clean g c h d clean =
     stays_clean (g.S.Shelf.shelf c.args.shelf.now) (g.S.Shelf.shelf c.settle.new.shelf) (take c.drives-slots.result c.args.loaded.now.drives) c.settle.new.members (gate_place (slot_in c.args.loaded.now.slot))
     h c.settle.ensures.outcome c.settle.ensures.others d clean
 
+pub returns-clause-opened : goal.returns-clause-opened
+returns-clause-opened g c h i lt member =
+    let n = c.drives-slots.result in
+    let is_shelf = g.met.S.Shelf.is_shelf c.args.shelf.now in
+    let flags : length c.args.loaded.now.drives ≡ 24 = search rules in
+    let long : length c.settle.new.members ≡ length (take n c.args.loaded.now.drives) = search rules in
+    let below : i < length c.settle.new.members = omega (arith, lt, long, length-take n c.args.loaded.now.drives, flags, is_shelf.drives.1, c.drives-slots.ensures) in
+    let there : i < length (take n c.args.loaded.now.drives) = omega (arith, below, long) in
+    (c.settle.ensures.outcome i there).opened h (in_front c.settle.new.members _ i below member)
+
 pub returns-clause-shows : goal.returns-clause-shows
 returns-clause-shows g c h body i lt member stood =
     let n = c.drives-slots.result in

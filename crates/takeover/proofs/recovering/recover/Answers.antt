@@ -226,6 +226,13 @@ returns-clause-opened g c h =
     opening.opened a b x on seen lawful (c.find_record.ensures.nvrams h) n after s o was now last is_a is_b is_n h replayed is_of made.0 made.1 c.store.ensures.dropped c.store.ensures.later c.store.ensures.few shows each
     generation.0 (members.0, members.1 ∙ c.members.ensures) is_recovered
 
+pub returns-clause-named : goal.returns-clause-named
+returns-clause-named g c =
+    let now = c.store.new.self in
+    let members : (now.record.members.drives ≡ now.drives) × (now.record.members.nvrams ≡ c.members.result) =
+    subst (λ (r : Result (Unit {0}) StoreFault). OnOk r ((now.record.members.drives ≡ now.drives) × (now.record.members.nvrams ≡ c.members.result))) c.in_ok-store.was c.store.ensures.members in
+    (members.0, members.1 ∙ c.members.ensures)
+
 pub returns-clause-flushed : goal.returns-clause-flushed
 returns-clause-flushed g c =
     let x = c.in_ok-loaded.loaded in
