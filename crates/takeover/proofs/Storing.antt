@@ -291,14 +291,14 @@ module _ (a n : Shelved) (x : Loaded) (missing : Conditions) (arrays : List Arra
         bearable = borne;
         on_drives = λ i lt sound.
             let three = back_sound (names x.record (drive i)) (fails (drive i)) (members_view found.view found.effective (drive i)) sound in
-            let member : IsMember x.drives i = drive_left fails by_then i (omega (arith, lt, on.drives)) three.1.0 three.0 in
+            let member : IsMember x.drives i = drive_left fails by_then i (omega (arith, lt, on.drives)) three.1 three.0 in
             (
               cut_in was.drives was.record.slots i (omega (arith, lt, slots)) (subst (λ (l : List Bool). IsMember l i) (sym drives_are) member),
               since_mid (a.disk (drive i)).faults (n.disk (drive i)).faults (stop.faults (drive i)) (on.faults (drive i)) (left.counts.faults (drive i)) three.0,
             );
         on_nvram = λ k lt sound.
             let three = back_sound (names x.record (nvram k)) (fails (nvram k)) (members_view found.view found.effective (nvram k)) sound in
-            (nvram_left fails by_then k three.1.0 three.0, ap (λ (r : BootRecord). names r (nvram k)) record_is ∙ three.1.1);
+            (nvram_left fails by_then k three.1 three.0, ap (λ (r : BootRecord). names r (nvram k)) record_is ∙ three.2);
         left_out = λ k out.
             let none = back_out (names x.record (nvram k)) (fails (nvram k)) (members_view found.view found.effective (nvram k)) out in
             ((λ m. absurd (cc (none, opened.fewer k m))), ap (λ (r : BootRecord). names r (nvram k)) record_is ∙ none);
@@ -314,7 +314,7 @@ module _ (a n : Shelved) (x : Loaded) (missing : Conditions) (arrays : List Arra
             | inl is ↦ is
             | inr sound ↦
                 let three = back_sound (names x.record (nvram k)) (fails (nvram k)) (members_view found.view found.effective (nvram k)) sound in
-                absurd (gone (nvram_left fails by_then k three.1.0 three.0))
+                absurd (gone (nvram_left fails by_then k three.1 three.0))
           ]
 
           is_missing_now : (k : ℕ) → k < 2 → names x.record (nvram k) ≡ true → (IsLogMember o.log.members k → ⊥) → failed_since a n missing (nvram k) ≡ Missing
