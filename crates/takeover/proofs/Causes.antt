@@ -1,14 +1,14 @@
 -- Where no more failed than is borne, an array that isn't opened is so for want of memory alone.
-use Rattle.std.proofs.Common.{◌≡◌, ◌≢◌, ◌⊎◌, inl, inr, ℕ, ◌<◌, Bool, true, false, List, [], Option, Some, None, refl, sym, ◌∙◌, ap, subst, arith}
+use Rattle.std.proofs.Common.{◌≡◌, ◌⊎◌, inl, inr, ℕ, Bool, true, false, List, Option, Some, None, refl, subst, arith}
 use Rattle.std.specs.Prelude.{if◌then◌else◌, is_some}
 use Rattle.pur_base.specs.declared.device.Device.{Device}
 use Rattle.pur_base.specs.declared.reply.Status.{Status}
 use Rattle.pur_base.specs.declared.reply.Status.TheVariants as status
 use Rattle.pur_base.specs.Commands.{Command}
-use Rattle.pur_base.specs.Devices.{Geometry, Condition, Conditions, Sound, Missing, LeftOut, View, IsBearable, IsOn, is_missing, nvram}
+use Rattle.pur_base.specs.Devices.{Geometry, Condition, Conditions, Sound, Missing, LeftOut, View, IsBearable, is_missing, nvram}
 use Rattle.pur_base.specs.Grammar.{is_in_force}
 use Rattle.pur_base.specs.Plain.{Array}
-use Rattle.boot_codec.specs.Region.{Effective, of_members, names}
+use Rattle.boot_codec.specs.Region.{Effective, names}
 use Rattle.log_codec.specs.Log.{Shows, ShowsIn}
 use Rattle.array_spec.specs.Losses.{not_holding}
 use Rattle.array_spec.specs.Meaning.{members_view}

@@ -1,7 +1,6 @@
 -- What a member by a record holds.
 use Rattle.std.proofs.Common.{◌≡◌, ℕ, List, Option, Some, None, option_and_then, sym, ◌∙◌, ap, refl, Bool, true, false}
 use Rattle.std.specs.Prelude.{if◌then◌else◌, bytes_eq}
-use Rattle.std.proofs.lemmas.Bool.{cases_Bool}
 use Rattle.std.specs.Cmp.Lexicographic.{same_text}
 use Rattle.pur_base.specs.Devices.{View, drive}
 use Rattle.boot_codec.specs.declared.record.BootRecord.{BootRecord}

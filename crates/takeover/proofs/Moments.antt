@@ -1,34 +1,23 @@
 -- The moments of an opening, one call after another.
-use Rattle.std.proofs.Common.{◌≡◌, ◌⊎◌, inl, inr, ℕ, ◌+◌, ◌-◌, ◌^◌, ◌<◌, ◌≤◌, Bool, true, false, List, [], length, refl, sym, ◌∙◌, ap, subst, arith, Result, Ok, Err}
+use Rattle.std.proofs.Common.{◌≡◌, ◌⊎◌, ℕ, ◌<◌, Bool, true, false, List, sym, ◌∙◌, ap, subst, arith, Result}
 use Rattle.std.specs.Prelude.{Contains, slice_index_or}
-use Rattle.pur_base.specs.Commands.{Command, after_all}
 use Rattle.pur_base.specs.Plain.{Array}
-use Rattle.pur_base.specs.Devices.{Geometry, Conditions, Sound, IsBearable, IsOn, drive, nvram}
+use Rattle.pur_base.specs.Devices.{Geometry, Conditions, Sound, IsBearable, IsOn, drive}
 use Rattle.pur_base.specs.declared.device.Device.{Device}
 use Rattle.pur_base.specs.declared.device.Device.TheVariants.{Drive, Nv}
 use Rattle.boot_codec.specs.declared.record.BootRecord.{BootRecord}
-use Rattle.boot_codec.specs.Record.{set_count}
 use Rattle.boot_codec.specs.Region.{names}
 use Rattle.array_spec.proofs.Votes.{sound_before}
 use Rattle.world.specs.Losing.{geometry_of}
-use Rattle.world.specs.Shelf.{Shelved, Stop, Continues, LeavesOnly}
-use Rattle.world.specs.Writes.{LeavesBut, WritesOnly}
-use Rattle.world.proofs.Moments.{then_run, weaker, continues_trans}
+use Rattle.world.specs.Shelf.{Shelved, Continues}
 use Rattle.boot_region.specs.declared.loading.Loaded.{Loaded}
 use Rattle.boot_region.specs.Members.{IsMember, DroppedFailed, LostWrites}
-use Rattle.boot_region.specs.Storing.{StandsBut}
-use Rattle.nvram_log.specs.Members.{IsMember as IsLogMember}
-use Rattle.nvram_log.proofs.SettledEach.{both_leave}
 use Rattle.register.specs.declared.state.Register.{Register}
-use Rattle.register.specs.declared.next.StoreFault.{StoreFault}
-use Rattle.register.specs.declared.next.StoreFault.TheVariants.{Spent, TooFew}
-use Rattle.register.specs.Faults.{IsFaultOf}
-use Rattle.register.specs.Registers.{IsRegisterOf, drives_of, next_slot, IsLaterRecord}
-use Rattle.register.specs.Standing.{MayStore, StandsInLog, IsOpen}
+use Rattle.register.specs.Registers.{IsRegisterOf, drives_of, IsLaterRecord}
+use Rattle.register.specs.Standing.{IsOpen}
 use Rattle.takeover.specs.declared.log.OpenedLog.{OpenedLog}
 use Rattle.takeover.specs.declared.log.LogFault.{LogFault}
-use Rattle.takeover.specs.declared.recovering.Recovered.{Recovered}
-use Rattle.session_spec.specs.Entering.{Enters, failed_since}
+use Rattle.session_spec.specs.Entering.{failed_since}
 use Rattle.takeover.specs.Found.{IsFoundOn}
 use Rattle.takeover.specs.LogOpen.{IsLogOpen, IsLogOpenBy}
 use Rattle.takeover.specs.Recovered.{IsRecovered}

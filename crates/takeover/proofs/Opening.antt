@@ -1,5 +1,5 @@
 -- The opening as a whole, from what each of its calls says.
-use Rattle.std.proofs.Common.{◌≡◌, ◌≢◌, ◌⊎◌, inl, inr, ℕ, ◌+◌, ◌-◌, ◌^◌, ◌<◌, ◌≤◌, Bool, true, false, List, [], Option, Some, None, refl, sym, ◌∙◌, ap, subst, arith, Result, Ok, Err}
+use Rattle.std.proofs.Common.{◌≡◌, ◌⊎◌, inl, inr, ℕ, ◌+◌, ◌-◌, ◌^◌, ◌<◌, ◌≤◌, Bool, List, Some, None, refl, sym, ◌∙◌, ap, subst, arith, Err}
 use Rattle.std.proofs.lemmas.Bool.{cases_lt}
 use Rattle.pur_base.specs.Commands.{Command}
 use Rattle.pur_base.specs.declared.device.Device.{Device}
@@ -7,7 +7,6 @@ use Rattle.pur_base.specs.declared.reply.Status.TheVariants as status
 use Rattle.pur_base.specs.Devices.{Geometry, Conditions, IsBearable, drive, nvram}
 use Rattle.pur_base.specs.Plain.{Array}
 use Rattle.boot_codec.specs.declared.record.BootRecord.{BootRecord}
-use Rattle.boot_codec.specs.Record.{set_count}
 use Rattle.boot_codec.specs.Region.{BootSlot, IsRecordOf, shown_by}
 use Rattle.boot_codec.specs.Spelling.{spelling}
 use Rattle.array_spec.specs.Standing.{MayBeGiven}

@@ -1,42 +1,27 @@
 -- From the log that was opened to the record that is stored.
-use Rattle.std.proofs.Common.{◌≡◌, ◌⊎◌, inl, inr, ℕ, ◌+◌, ◌-◌, ◌^◌, ◌<◌, ◌≤◌, Bool, true, false, List, [], length, take, refl, sym, ◌∙◌, ap, subst, arith, Result, Ok, Err}
-use Rattle.pur_base.specs.Commands.{Command, AllAccepted, after_all}
+use Rattle.std.proofs.Common.{◌≡◌, ◌⊎◌, inl, inr, ℕ, ◌<◌, ◌≤◌, Bool, false, List, take, refl, sym, ◌∙◌, ap, subst, arith}
 use Rattle.pur_base.specs.Plain.{Array}
-use Rattle.pur_base.specs.Devices.{Geometry, Conditions, Sound, LeftOut, IsBearable, IsOn, drive, nvram}
+use Rattle.pur_base.specs.Devices.{Conditions, Sound, drive}
 use Rattle.pur_base.specs.declared.device.Device.{Device}
-use Rattle.pur_base.specs.declared.device.Device.TheVariants.{Drive, Nv}
 use Rattle.boot_codec.specs.declared.record.BootRecord.{BootRecord}
-use Rattle.boot_codec.specs.Record.{set_count}
-use Rattle.boot_codec.specs.Region.{BootSlot, other_slot, slot_of, body_in, names, IsRecordOf}
+use Rattle.boot_codec.specs.Region.{BootSlot, other_slot, body_in}
 use Rattle.boot_codec.specs.Spelling.{spelling}
-use Rattle.array_spec.specs.Standing.{Stands}
-use Rattle.world.specs.Counts.{Rises}
 use Rattle.world.specs.Losing.{geometry_of, has_risen}
-use Rattle.world.specs.Shelf.{Shelved, Stop, IsShelf, Continues, IsCountedBy}
+use Rattle.world.specs.Shelf.{Shelved, Continues}
 use Rattle.boot_region.specs.declared.loading.Loaded.{Loaded}
-use Rattle.boot_region.specs.Loading.{IsLawfulLoad}
 use Rattle.boot_region.specs.Members.{IsMember, DroppedFailed, LostWrites}
 use Rattle.boot_region.specs.Slots.{slot_in}
-use Rattle.boot_region.specs.Storing.{IsInForceOn, StandsBut, AccountsFor}
-use Rattle.boot_region.proofs.Accounts.{failed_calls}
+use Rattle.boot_region.specs.Storing.{IsInForceOn}
 use Rattle.boot_region.proofs.Phases.{not_risen_before, risen_on_way}
 use Rattle.nvram_log.specs.Held.{HoldsOn}
-use Rattle.nvram_log.specs.Members.{IsMember as IsLogMember}
 use Rattle.register.specs.declared.state.Register.{Register}
-use Rattle.register.specs.declared.next.StoreFault.{StoreFault}
-use Rattle.register.specs.declared.next.StoreFault.TheVariants.{Spent, TooFew}
-use Rattle.register.specs.Faults.{IsFaultOf}
 use Rattle.register.specs.Registers.{IsRegisterOf, drives_of, own_slot, next_slot}
-use Rattle.register.specs.Standing.{StandsInLog, MayStore, IsOpen}
+use Rattle.register.specs.Standing.{StandsInLog, MayStore}
 use Rattle.register.proofs.FlagLemmas.{in_cut, cut_in}
-use Rattle.session_spec.specs.Entering.{failed_since, failed_by}
-use Rattle.takeover.specs.Found.{IsFoundOn}
+use Rattle.session_spec.specs.Entering.{failed_since}
 use Rattle.takeover.specs.LogOpen.{IsLogOpen}
 use Rattle.takeover.specs.declared.log.OpenedLog.{OpenedLog}
 use Rattle.takeover.proofs.Failing.{sound_since}
-use Rattle.takeover.proofs.NoFault.{few_lack}
-use Rattle.takeover.proofs.Loading.{same_geometry}
-use Rattle.takeover.proofs.Twice.{twice_by}
 
 -- the record that was found is in force on the drives of the shelf
 cut_force : (n : ℕ) (flags : List Bool) (shelf : Shelved) (missing : Conditions) (slot : BootSlot) (boot : BootRecord) → shelf.drives ≤ n → IsInForceOn shelf flags missing slot boot → IsInForceOn shelf (take n flags) missing slot boot

@@ -1,13 +1,12 @@
 -- What a stop in the opening leaves, by the record that was found.
-use Rattle.std.proofs.Common.{◌≡◌, ◌≢◌, ◌⊎◌, inl, inr, ℕ, ◌+◌, ◌<◌, Bool, true, false, List, [], Option, Some, None, refl, sym, ◌∙◌, ap, subst, arith}
+use Rattle.std.proofs.Common.{◌≡◌, inl, inr, ℕ, Bool, List, Option, Some, None, refl, sym, subst, arith}
 use Rattle.pur_base.specs.declared.device.Device.{Device}
 use Rattle.pur_base.specs.declared.device.Device.TheVariants.{Drive, Nv}
-use Rattle.pur_base.specs.Devices.{Geometry, Image, Conditions, IsBearable, IsWithin, View, drive}
+use Rattle.pur_base.specs.Devices.{Geometry, Image, Conditions, IsBearable, View, drive}
 use Rattle.pur_base.specs.Plain.{Array}
 use Rattle.boot_codec.specs.declared.record.BootRecord.{BootRecord}
 use Rattle.boot_codec.specs.Region.{BootSlot}
 use Rattle.array_spec.specs.Standing.{MayBeGiven}
-use Rattle.array_spec.proofs.Standings.{within_twice}
 use Rattle.world.specs.Losing.{geometry_of, has_failed}
 use Rattle.world.specs.Shelf.{Shelved, Stop, IsShelf, MayStop, MayLeave, Continues, IsCountedBy, LeavesOnly}
 use Rattle.world.specs.Writes.{LeavesBut, WritesOnly}

@@ -1,12 +1,12 @@
 -- What a stop in the store leaves, by the record that was found.
-use Rattle.std.proofs.Common.{◌≡◌, ◌≢◌, ◌⊎◌, inl, inr, ℕ, zero, suc, ◌+◌, ◌<◌, ◌≤◌, Bool, true, false, List, [], ◌∷◌, length, Option, Some, None, refl, sym, ◌∙◌, ap, subst, arith}
-use Rattle.std.specs.Prelude.{Contains, slice_index_or}
+use Rattle.std.proofs.Common.{◌≡◌, ◌≢◌, ◌⊎◌, inl, inr, ℕ, ◌<◌, Bool, true, false, List, [], Option, Some, None, refl, sym, ◌∙◌, ap, subst, arith}
+use Rattle.std.specs.Prelude.{slice_index_or}
 use Rattle.std.proofs.lemmas.Bool.{cases_Bool, cases_lt}
 use Rattle.std.proofs.lemmas.List.{get_or_past}
-use Rattle.pur_base.specs.Commands.{Command, after_all}
+use Rattle.pur_base.specs.Commands.{Command}
 use Rattle.pur_base.specs.declared.device.Device.{Device}
 use Rattle.pur_base.specs.declared.device.Device.TheVariants.{Drive, Nv}
-use Rattle.pur_base.specs.Devices.{Geometry, Image, Condition, Conditions, Sound, Missing, LeftOut, View, IsBearable, IsOn, drive, nvram}
+use Rattle.pur_base.specs.Devices.{Geometry, Image, Condition, Conditions, Sound, Missing, LeftOut, IsBearable, drive, nvram}
 use Rattle.pur_base.specs.Grammar.{is_in_force}
 use Rattle.pur_base.specs.Plain.{Array}
 use Rattle.boot_codec.specs.declared.record.BootRecord.{BootRecord}
@@ -16,21 +16,20 @@ use Rattle.log_codec.specs.Log.{ShowsIn}
 use Rattle.array_spec.specs.Meaning.{members_view}
 use Rattle.array_spec.specs.Standing.{Stands, MayBeGiven}
 use Rattle.world.specs.Losing.{geometry_of, has_failed, has_risen}
-use Rattle.world.specs.Shelf.{Shelved, Stop, IsShelf, MayStop, MayLeave, Continues, IsCountedBy, LeavesOnly}
-use Rattle.world.specs.Writes.{LeavesBut, WritesOnly}
+use Rattle.world.specs.Shelf.{Shelved, Stop, IsShelf, MayStop, MayLeave, Continues, IsCountedBy}
+use Rattle.world.specs.Writes.{LeavesBut}
 use Rattle.boot_region.specs.declared.loading.Loaded.{Loaded}
 use Rattle.boot_region.specs.Members.{IsMember}
 use Rattle.boot_region.specs.Slots.{slot_in}
 use Rattle.boot_region.specs.Storing.{AccountsFor, StandsBut, WasGiven}
 use Rattle.boot_region.proofs.Accounts.{failed_calls}
-use Rattle.boot_region.proofs.Composing.{as_it_is}
 use Rattle.boot_region.proofs.ShownLemmas.{as_read}
-use Rattle.nvram_log.specs.Members.{IsFewer, IsMember as IsLogMember}
+use Rattle.nvram_log.specs.Members.{IsMember as IsLogMember}
 use Rattle.register.specs.declared.state.Register.{Register}
 use Rattle.register.specs.Registers.{OnSlots, drives_of, next_slot, own_slot}
 use Rattle.register.specs.Standing.{AreOfMembers, GivesOldOrNext, IsNextOf, MayStore, StandsBack, StillGiven}
 use Rattle.register.proofs.FlagLemmas.{cut_in}
-use Rattle.session_spec.specs.Entering.{AreBack, AreRead, ComesBack, Found, IsStanding, IsStoredSince, LeftOutAreNamedByNone, OnlyFailedAreSilent, StandsStill, read_now, failed_by, failed_since}
+use Rattle.session_spec.specs.Entering.{ComesBack, Found, IsStanding, LeftOutAreNamedByNone, OnlyFailedAreSilent, StandsStill, read_now, failed_by, failed_since}
 use Rattle.takeover.specs.declared.log.OpenedLog.{OpenedLog}
 use Rattle.takeover.specs.LogOpen.{IsLogOpen}
 use Rattle.takeover.proofs.Failing.{left_out_since, since_mid}
@@ -291,8 +290,7 @@ module _ (a n : Shelved) (x : Loaded) (missing : Conditions) (arrays : List Arra
         bearable = borne;
         on_drives = λ i lt sound.
             let three = back_sound (names x.record (drive i)) (fails (drive i)) (members_view found.view found.effective (drive i)) sound in
-            let member : IsMember x.drives i = drive_left fails by_then i (omega (arith, lt, on.drives)) three.1 three.0 in
-            (
+            let member : IsMember x.drives i = drive_left fails by_then i (omega (arith, lt, on.drives)) three.1 three.0 in (
               cut_in was.drives was.record.slots i (omega (arith, lt, slots)) (subst (λ (l : List Bool). IsMember l i) (sym drives_are) member),
               since_mid (a.disk (drive i)).faults (n.disk (drive i)).faults (stop.faults (drive i)) (on.faults (drive i)) (left.counts.faults (drive i)) three.0,
             );

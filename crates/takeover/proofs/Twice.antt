@@ -1,16 +1,13 @@
 -- Devices that fail in one call and then in the next.
-use Rattle.std.proofs.Common.{◌≡◌, ◌⊎◌, inl, inr, ℕ, ◌-◌, ◌^◌, ◌<◌, ◌≤◌, Bool, true, false, List, refl, sym, ◌∙◌, ap, subst, arith}
+use Rattle.std.proofs.Common.{◌≡◌, ◌⊎◌, inl, inr, ℕ, ◌<◌, ◌≤◌, Bool, true, false, refl, sym, subst, arith}
 use Rattle.std.proofs.lemmas.Bool.{cases_Bool, cases_lt}
 use Rattle.pur_base.specs.declared.device.Device.{Device}
 use Rattle.pur_base.specs.Devices.{Geometry, Condition, Conditions, Sound, Missing, LeftOut, IsBearable, missing_drives, missing_nvrams}
-use Rattle.pur_base.specs.Plain.{Array}
-use Rattle.array_spec.specs.Standing.{Stands}
 use Rattle.world.specs.Shelf.{Shelved, Stop, Continues, IsCountedBy}
-use Rattle.world.specs.Losing.{geometry_of, has_risen, missing_if, losing}
+use Rattle.world.specs.Losing.{has_risen, missing_if}
 use Rattle.boot_region.proofs.Phases.{not_risen_before, risen_on_way}
 use Rattle.session_spec.specs.Entering.{failed_since, failed_by}
-use Rattle.takeover.proofs.Failing.{since_mid, fewer_borne, by_stop}
-use Rattle.takeover.proofs.Loading.{same_geometry}
+use Rattle.takeover.proofs.Failing.{since_mid}
 
 -- a count rose in all where it rose in one of the two
 rose_in_one : (a b c : ℕ) → a ≤ b → b ≤ c → has_risen a b ≡ false → has_risen b c ≡ false → has_risen a c ≡ false

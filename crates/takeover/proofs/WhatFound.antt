@@ -5,28 +5,25 @@ use Rattle.std.proofs.lemmas.Bool.{cases_Bool, cases_lt}
 use Rattle.std.proofs.lemmas.List.{get_or_past}
 use Rattle.pur_base.specs.declared.device.Device.{Device}
 use Rattle.pur_base.specs.declared.device.Device.TheVariants.{Drive, Nv}
-use Rattle.pur_base.specs.Devices.{Geometry, Image, Condition, Conditions, Sound, Missing, LeftOut, View, IsBearable, IsOn, drive, nvram}
-use Rattle.pur_base.specs.Plain.{Array}
+use Rattle.pur_base.specs.Devices.{Condition, Sound, Missing, LeftOut, View, IsOn, drive, nvram}
 use Rattle.boot_codec.specs.declared.record.BootRecord.{BootRecord}
 use Rattle.boot_codec.specs.Record.{set_count}
 use Rattle.boot_codec.specs.Region.{BootSlot, Effective, IsRecordOf, names, of_members}
 use Rattle.log_codec.specs.Log.{Shows, ShowsIn}
 use Rattle.array_spec.specs.Losses.{not_holding}
 use Rattle.array_spec.specs.Meaning.{members_view}
-
 use Rattle.array_spec.proofs.Spelled.{spells_one}
 use Rattle.array_spec.proofs.UnflushedRead.{kept_some, one_left}
 use Rattle.array_spec.proofs.Votes.{one_is_effective}
 use Rattle.world.specs.Counts.{Rises}
-use Rattle.world.specs.Losing.{geometry_of, has_failed, has_risen, missing_if, losing}
+use Rattle.world.specs.Losing.{geometry_of, has_failed, has_risen, losing}
 use Rattle.world.specs.Shelf.{Shelved, IsSame, Continues}
 use Rattle.boot_region.specs.declared.loading.Loaded.{Loaded}
 use Rattle.boot_region.specs.Members.{IsMember, LostWrites}
 use Rattle.boot_region.specs.Slots.{slot_in}
 use Rattle.boot_region.proofs.Phases.{not_risen_before, risen_on_way}
 use Rattle.nvram_log.specs.Held.{shown_by}
-use Rattle.nvram_log.specs.Members.{IsFewer, IsMember as IsLogMember}
-use Rattle.nvram_log.specs.Read.{DroppedCounted}
+use Rattle.nvram_log.specs.Members.{IsMember as IsLogMember}
 use Rattle.register.specs.declared.state.Register.{Register}
 use Rattle.register.specs.Registers.{named_sound}
 use Rattle.session_spec.specs.Entering.{Found, ComesOut, IsTakenOver, OnlyFailedAreSilent, read_now}

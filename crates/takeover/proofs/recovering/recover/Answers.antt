@@ -1,15 +1,14 @@
-use Rattle.std.proofs.Common.{rules, ◌≡◌, ◌⊎◌, ◌<◌, ◌≤◌, ◌+◌, ◌-◌, ◌^◌, ℕ, List, [], refl, arith, sym, subst, ap, ◌∙◌, inl, inr, Bool, Result, Ok, Err}
+use Rattle.std.proofs.Common.{◌≡◌, ◌⊎◌, ◌<◌, ◌^◌, ℕ, List, refl, arith, sym, subst, ap, ◌∙◌, Bool, Result, Err}
 use Rattle.std.specs.Prelude.{IfOk, IfErr, OnOk, None, Some}
 use Rattle.std.proofs.lemmas.Result.{err_from_is_err_and}
 use Rattle.pur_base.specs.declared.memory.NoMemory.{NoMemory}
-use Rattle.pur_base.specs.Commands.{Command}
 use Rattle.pur_base.specs.Devices.{Geometry, Conditions, IsBearable}
 use Rattle.pur_base.specs.Plain.{Array}
 use Rattle.boot_codec.specs.declared.record.BootRecord.{BootRecord}
 use Rattle.boot_codec.specs.Region.{IsRecordOf}
 use Rattle.boot_codec.specs.Spelling.{spelling}
 use Rattle.world.specs.Losing.{geometry_of}
-use Rattle.world.specs.Shelf.{Shelved, LeavesOnly}
+use Rattle.world.specs.Shelf.{LeavesOnly}
 use Rattle.world.proofs.Moments.{continues_trans}
 use Rattle.boot_region.specs.declared.loading.Loaded.{Loaded}
 use Rattle.boot_region.specs.Loading.{IsLawfulLoad}
@@ -29,7 +28,7 @@ use Rattle.takeover.specs.declared.log.LogFault.{LogFault}
 use Rattle.takeover.specs.Faults.{fault_of_log, fault_of_store}
 use Rattle.takeover.specs.Found.{IsFoundBy, IsFoundOn}
 use Rattle.takeover.specs.LogOpen.{IsLogFault, IsLogOpenBy, IsLogOpen}
-use Rattle.takeover.specs.Opened.{IsOpened, IsOpenedBy, IsShut}
+use Rattle.takeover.specs.Opened.{IsOpenedBy, IsShut}
 use Rattle.takeover.specs.Recovered.{IsRecovered}
 use Rattle.takeover.specs.Replayed.{IsReplayedBy, IsReplayedFrom}
 use Rattle.takeover.specs.Seen.{IsSeenBy, IsSeenIn}
