@@ -2,6 +2,7 @@ mod Members
 mod Failing
 mod Counts
 mod Cleaned
+mod LeftShown
 mod Loading
 mod NoFault
 mod FoundLemmas
@@ -21,4 +22,8 @@ mod LogReplayed
 mod Twice
 mod RecoveredLemmas
 mod Moments
-mod Refused
+mod Causes
+mod WhatFound
+mod Stops
+mod Storing
+mod Opening
