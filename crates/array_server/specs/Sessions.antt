@@ -28,8 +28,9 @@ pub record IsServedFrom (start new : Shelved) (e : Engine) (input left : List �
   pub run : Fares (geometry_of start) (new.left_since start.moment) first (requests input) replies last
   pub output : IsOutput ended (geometry_of start) last (read_now new) (drop (length replies) (requests input)) start.output new.output replies
   pub ends : Ends ended last.halted input replies left
-  pub moments : Leaves start new (λ stop. (at : Replied (geometry_of start) (new.left_since start.moment) first (requests input) stop)
-      × ((commands : List Command) → IsReady start e.array commands → StandsOn (geometry_of start) (new.left_since start.moment) first (requests input) stop at))
+  pub replied : Leaves start new (Replied (geometry_of start) (new.left_since start.moment) first (requests input))
+  pub stands : (commands : List Command) → IsReady start e.array commands → Leaves start new (λ stop.
+      (at : Replied (geometry_of start) (new.left_since start.moment) first (requests input) stop) × StandsOn (geometry_of start) (new.left_since start.moment) first (requests input) stop at)
   pub at_end : (commands : List Command) → IsReady start e.array commands
       → IsBorne (geometry_of start) (new.left_since start.moment) first (requests input) replies last run
       → IsBearable (geometry_of start) (now_missing last (read_now new)) → IsLeftAfter new last (in_hand ended (drop (length replies) (requests input)))
