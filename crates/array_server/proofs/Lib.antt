@@ -4,3 +4,9 @@ pub mod SessionLemmas
 pub mod WholeLemmas
 pub mod AckedOutputLemmas
 pub mod MadeLemmas
+pub mod Came
+pub mod InHand
+pub mod Kept
+pub mod Lessened
+pub mod Points
+pub mod StillReady
