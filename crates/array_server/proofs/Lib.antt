@@ -8,5 +8,8 @@ pub mod Came
 pub mod InHand
 pub mod Kept
 pub mod Lessened
-pub mod Points
+pub mod NamedSound
 pub mod StillReady
+pub mod Begun
+pub mod Headlines
+pub mod LawfulLog
