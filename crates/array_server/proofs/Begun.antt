@@ -1,5 +1,5 @@
 -- A session begins: the array that was opened, and the point at which its replies begin.
-use Rattle.std.proofs.Common.{◌≡◌, ℕ, ◌≤◌, List, refl, sym, subst, arith, Bool, true, false, inl, inr}
+use Rattle.std.proofs.Common.{◌≡◌, ℕ, ◌≤◌, List, refl, sym, ◌∙◌, subst, arith, Bool, true, false, inl, inr}
 use Rattle.std.specs.Prelude.{if◌then◌else◌}
 use Rattle.std.proofs.lemmas.Bool.{cases_lt}
 use Rattle.pur_base.specs.declared.device.Device.{Device}
@@ -11,7 +11,7 @@ use Rattle.boot_region.specs.Members.{IsMember}
 use Rattle.nvram_log.specs.Members as nv
 use Rattle.register.specs.declared.state.Register.{Register}
 use Rattle.register.specs.Registers.{IsRegisterOf, named_sound}
-use Rattle.register.proofs.FlagLemmas.{cut_in, none_past}
+use Rattle.register.proofs.FlagLemmas.{in_cut, cut_in, none_past}
 use Rattle.session_spec.specs.Entering.{read_now}
 use Rattle.session_spec.specs.Faring.{Point}
 use Rattle.array_core.specs.declared.array.Array.{Array}
@@ -39,6 +39,13 @@ first_of start r = record {
   stop = read_now start;
 }
 
+-- the engine that is made of it
+pub engine_is : (r : Recovered) (a : Array) (e : Engine) → (a.plain ≡ r.plain) × (a.log ≡ r.log) × (a.register ≡ r.register) → (e.array ≡ a) × (e.halted ≡ false) → e ≡ engine_of r
+engine_is r a e parts is = λ k. record { array = (is.0 ∙ whole) k; halted = is.1 k }
+  where
+    whole : a ≡ array_of r
+    whole = λ k. record { plain = parts.0 k; log = parts.1 k; register = parts.2 k }
+
 -- the record names the drives on which it is in force, and the devices of the log
 abbrev pub NamesHolders : Recovered → Type 0
 NamesHolders r = (r.register.record.members.drives ≡ r.register.drives) × (r.register.record.members.nvrams ≡ r.log.members)
@@ -56,6 +63,13 @@ module _ (shelf : Geometry) (r : Recovered) (is_of : IsRegisterOf shelf r.regist
   holds (Drive d) e = drive_holds d.0 e
   holds (Nv n) e = subst (λ (l : List Bool). nv.IsMember l n.0) named.1 e
 
+  -- one that it doesn't name is none of the array
+  isn't_holder : (d : Device) → names r.register.record d ≡ false → ¬ (IsHolder (array_of r) d)
+  isn't_holder (Drive d) none h = cc (none, is_of.named d.0 (in_cut r.register.drives r.register.record.slots d.0 h))
+  isn't_holder (Nv n) none h =
+      let is : names r.register.record (Nv n) ≡ true = subst (λ (l : List Bool). nv.IsMember l n.0) (sym named.1) h in
+      cc (none, is)
+
   pub begins : (start : Shelved) → BeginsAt start (engine_of r) (first_of start r)
   begins start = record {
     at = record {
@@ -64,7 +78,7 @@ module _ (shelf : Geometry) (r : Recovered) (is_of : IsRegisterOf shelf r.regist
       logged = λ awake. refl;
       generation = λ awake. refl;
       holders = λ awake d s. holds d (by.is_named (names r.register.record d) s);
-      left_out = λ awake d out. by.is_left (names r.register.record d) out;
+      left_out = λ awake d out. let none = by.is_left (names r.register.record d) out in (none, isn't_holder d none);
     };
     awake = refl;
     stop = refl;

@@ -10,19 +10,31 @@ use Rattle.pur_base.specs.Grammar.{requests}
 use Rattle.world.specs.Losing.{geometry_of, has_failed}
 use Rattle.world.specs.Shelf.{Shelved, Stop, IsShelf, MayStop, Continues, LeavesOnly, IsCountedBy, IsQuietBy}
 use Rattle.session_spec.specs.Entering.{Enters, IsStanding, StandsStill, read_now, failed_by, failed_since}
-use Rattle.session_spec.specs.Ends.{IsOutput}
+use Rattle.session_spec.specs.Ends.{IsOutput, is_source, is_sink}
 use Rattle.session_spec.specs.Headline.{Unopened, StaysShut, Served, Serving, Outlasts, Keeps, Replied, StandsOn, StandsAt}
 use Rattle.array_core.specs.Ready.{IsReady}
 use Rattle.array_core.proofs.Losses.{bearable_or_not}
 use Rattle.array_core.proofs.ReadyStands.{made_ready}
 use Rattle.takeover.specs.declared.recovering.Recovered.{Recovered}
 use Rattle.takeover.specs.declared.faults.OpenFault.{OpenFault}
+use Rattle.takeover.specs.declared.faults.OpenFault.TheVariants as open_fault
 use Rattle.takeover.specs.Opened.{IsOpened, IsShut, status_of}
 use Rattle.takeover.specs.Recovered.{IsRecovered}
 use Rattle.array_server.specs.Sessions.{IsServedFrom}
 use Rattle.array_server.proofs.Begun.{array_of, engine_of, first_of}
 
 -- ---- not opened
+
+-- it's no end of a source or a sink
+pub no_stream : (e : OpenFault) → (is_source (status_of e) ≡ false) × (is_sink (status_of e) ≡ false)
+no_stream (open_fault.Memory m) = (refl, refl)
+no_stream open_fault.NoArray = (refl, refl)
+no_stream (open_fault.BadRecord b) = (refl, refl)
+no_stream (open_fault.TooFew drives) = (refl, refl)
+no_stream open_fault.HasPatches = (refl, refl)
+no_stream open_fault.BothLost = (refl, refl)
+no_stream open_fault.Unserved = (refl, refl)
+no_stream open_fault.Spent = (refl, refl)
 
 module _ (old new : Shelved) (e : OpenFault) (input : List ℕ) (is : IsShelf new) (on : Continues old new) (moments : LeavesOnly old new (IsCountedBy old)) (shut : IsShut old new e) where
   -- a stop now, with the counts as they are

@@ -104,7 +104,7 @@ module _ (now : Shelved) (e : Engine) (p : Point) (commands : List Command) (rea
       → IsBearable (geometry_of now) c → IsStanding (geometry_of now) stop.image c (p.array ∷ [])
   stands_in c sound left_out bears =
       subst (λ (a : plain.Array). IsStanding (geometry_of now) stop.image c (a ∷ [])) (sym (at.array awake))
-      (stands_as (geometry_of now) stop.image e.array.register.record c (λ d s. sound_is_named now e p commands ready at awake d (sound d s)) (λ d out. at.left_out awake d (left_out d out)) (e.array.plain ∷ []) bears
+      (stands_as (geometry_of now) stop.image e.array.register.record c (λ d s. sound_is_named now e p commands ready at awake d (sound d s)) (λ d out. (at.left_out awake d (left_out d out)).0) (e.array.plain ∷ []) bears
       (ready_stands now e.array commands ready as_now may))
 
 -- At a stop while input is taken or output given, by the point of the last reply.

@@ -77,7 +77,7 @@ module _ (old : Shelved) (e : Engine) (p : Point) (commands : List Command) (rea
         (sound_is_named d was.0, subst (λ (n : ℕ). has_risen n (stop.write_faults d) ≡ false) (same d) was.1)
 
     out_then : (d : Device) → now_missing p stop d ≡ LeftOut → names e.array.register.record d ≡ false
-    out_then d out = at.left_out awake d (left_out_since (has_risen (p.stop.write_faults d) (stop.write_faults d)) (p.conditions d) out)
+    out_then d out = (at.left_out awake d (left_out_since (has_risen (p.stop.write_faults d) (stop.write_faults d)) (p.conditions d) out)).0
 
     pub borne_at_point : IsBearable (geometry_of old) (now_missing p stop) → IsBearable (geometry_of old) (lost_by old stop (named_sound e.array.register.record))
     borne_at_point bears = borne_by (geometry_of old) stop.image e.array.register.record (λ d. has_risen (old.disk d).write_faults (stop.write_faults d)) (now_missing p stop) sound_then out_then bears
