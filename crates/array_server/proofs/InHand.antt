@@ -21,7 +21,7 @@ use Rattle.array_core.proofs.Losses.{sound_since, left_out_since}
 use Rattle.array_server.specs.declared.engine.Engine.{Engine}
 use Rattle.array_server.specs.Engines.{IsAt, lost_in, point_after}
 use Rattle.array_core.proofs.ReadyStands.{ready_is_clean}
-use Rattle.array_server.proofs.NamedSound.{sound_is_named}
+use Rattle.array_server.proofs.StandsAtPoint.{sound_is_named}
 use Rattle.array_server.proofs.Kept.{stands_in, only_one}
 use Rattle.array_server.proofs.Came.{answered_after}
 

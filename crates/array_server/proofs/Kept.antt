@@ -31,7 +31,7 @@ use Rattle.array_core.proofs.Losses.{sound_since, left_out_since}
 use Rattle.array_server.specs.declared.engine.Engine.{Engine}
 use Rattle.array_server.specs.Engines.{IsAt, MayBeDone, IsKeptBy, lost_in, point_after}
 use Rattle.array_core.proofs.ReadyStands.{ready_names, ready_stands, ready_is_clean, ready_holds}
-use Rattle.array_server.proofs.NamedSound.{borne_at_point, stands_at_point, stands_as, sound_is_named}
+use Rattle.array_server.proofs.StandsAtPoint.{borne_at_point, stands_at_point, stands_as, sound_is_named}
 
 -- ---- room
 

@@ -8,7 +8,7 @@ pub mod Came
 pub mod InHand
 pub mod Kept
 pub mod Lessened
-pub mod NamedSound
+pub mod StandsAtPoint
 pub mod StillReady
 pub mod Begun
 pub mod Headlines
