@@ -1,15 +1,13 @@
 -- A session begins: the array that was opened, and the point at which its replies begin.
-use Rattle.std.proofs.Common.{◌≡◌, ℕ, ◌≤◌, List, refl, sym, ◌∙◌, subst, arith, Bool, true, false, inl, inr}
-use Rattle.std.specs.Prelude.{if◌then◌else◌}
+use Rattle.std.proofs.Common.{◌≡◌, ℕ, List, refl, sym, ◌∙◌, subst, arith, Bool, true, false, inl, inr}
 use Rattle.std.proofs.lemmas.Bool.{cases_lt}
 use Rattle.pur_base.specs.declared.device.Device.{Device}
 use Rattle.pur_base.specs.declared.device.Device.TheVariants.{Drive, Nv}
-use Rattle.pur_base.specs.Devices.{Geometry, Sound, LeftOut, drive, nvram}
+use Rattle.pur_base.specs.Devices.{Geometry, drive}
 use Rattle.boot_codec.specs.Region.{names}
-use Rattle.world.specs.Shelf.{Shelved, Stop, IsShelf, MayStop}
+use Rattle.world.specs.Shelf.{Shelved, IsShelf, MayStop}
 use Rattle.boot_region.specs.Members.{IsMember}
 use Rattle.nvram_log.specs.Members as nv
-use Rattle.register.specs.declared.state.Register.{Register}
 use Rattle.register.specs.Registers.{IsRegisterOf, named_sound}
 use Rattle.register.proofs.FlagLemmas.{in_cut, cut_in, none_past}
 use Rattle.session_spec.specs.Entering.{read_now}
@@ -19,7 +17,6 @@ use Rattle.array_core.specs.Holding.{IsHolder}
 use Rattle.array_core.proofs.HeldBy as by
 use Rattle.takeover.specs.declared.recovering.Recovered.{Recovered}
 use Rattle.array_server.specs.declared.engine.Engine.{Engine}
-use Rattle.array_server.specs.Engines.{IsAt}
 use Rattle.array_server.specs.Sessions.{BeginsAt}
 
 -- the array that was opened, an engine over it, and where the replies begin

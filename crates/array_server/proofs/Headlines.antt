@@ -1,17 +1,16 @@
 -- What a session does to the arrays, put together: its opening, and what was served then.
-use Rattle.std.proofs.Common.{◌≡◌, ◌⊎◌, inl, inr, ⊎_elim, ℕ, ◌≤◌, List, [], ◌++◌, refl, sym, ◌∙◌, ap, subst, arith, Bool, true, false}
+use Rattle.std.proofs.Common.{◌≡◌, ◌⊎◌, inl, inr, ⊎_elim, ℕ, ◌≤◌, List, refl, sym, ◌∙◌, ap, subst, arith, false}
 use Rattle.std.specs.Prelude.{Contains, length, drop}
-use Rattle.pur_base.specs.declared.device.Device.{Device}
 use Rattle.pur_base.specs.declared.reply.Status.{Status}
-use Rattle.pur_base.specs.Devices.{Geometry, Conditions, Sound, IsBearable}
+use Rattle.pur_base.specs.Devices.{Geometry, Conditions, IsBearable}
 use Rattle.pur_base.specs.Plain.{Array}
 use Rattle.pur_base.specs.Commands.{Command}
 use Rattle.pur_base.specs.Grammar.{requests}
-use Rattle.world.specs.Losing.{geometry_of, has_failed}
+use Rattle.world.specs.Losing.{geometry_of}
 use Rattle.world.specs.Shelf.{Shelved, Stop, IsShelf, MayStop, Continues, LeavesOnly, IsCountedBy, IsQuietBy}
-use Rattle.session_spec.specs.Entering.{Enters, IsStanding, StandsStill, read_now, failed_by, failed_since}
+use Rattle.session_spec.specs.Entering.{Enters, IsStanding, read_now, failed_since}
 use Rattle.session_spec.specs.Ends.{IsOutput, is_source, is_sink}
-use Rattle.session_spec.specs.Headline.{Unopened, StaysShut, Served, Serving, Outlasts, Keeps, Replied, StandsOn, StandsAt}
+use Rattle.session_spec.specs.Headline.{Unopened, Served, Serving, Outlasts, Replied, StandsAt}
 use Rattle.array_core.specs.Ready.{IsReady}
 use Rattle.array_core.proofs.Losses.{bearable_or_not}
 use Rattle.array_core.proofs.ReadyStands.{made_ready}
@@ -19,7 +18,6 @@ use Rattle.takeover.specs.declared.recovering.Recovered.{Recovered}
 use Rattle.takeover.specs.declared.faults.OpenFault.{OpenFault}
 use Rattle.takeover.specs.declared.faults.OpenFault.TheVariants as open_fault
 use Rattle.takeover.specs.Opened.{IsOpened, IsShut, status_of}
-use Rattle.takeover.specs.Recovered.{IsRecovered}
 use Rattle.array_server.specs.Sessions.{IsServedFrom}
 use Rattle.array_server.proofs.Begun.{array_of, engine_of, first_of}
 

@@ -1,5 +1,5 @@
 -- While the reply to an item is given, and at the end of a session: what the devices stand for.
-use Rattle.std.proofs.Common.{◌≡◌, inl, inr, ℕ, ◌≤◌, List, [], ◌∷◌, refl, sym, subst, arith, Bool, true, false}
+use Rattle.std.proofs.Common.{◌≡◌, inl, ℕ, ◌≤◌, List, [], ◌∷◌, refl, sym, subst, arith, Bool, true, false}
 use Rattle.std.specs.Prelude.{Contains, if◌then◌else◌}
 use Rattle.pur_base.specs.declared.device.Device.{Device}
 use Rattle.pur_base.specs.Devices.{Geometry, Condition, Conditions, Sound, LeftOut, IsBearable}
@@ -9,9 +9,8 @@ use Rattle.pur_base.specs.Commands.{Command}
 use Rattle.pur_base.specs.Replies.{Answer}
 use Rattle.boot_codec.specs.Region.{names}
 use Rattle.world.specs.Losing.{geometry_of, has_risen, missing_if}
-use Rattle.world.specs.Shelf.{Shelved, Stop, MayStop, MayLeave, IsCountedBy}
+use Rattle.world.specs.Shelf.{Shelved, Stop, MayLeave, IsCountedBy}
 use Rattle.boot_region.proofs.Phases.{not_risen_before}
-use Rattle.register.specs.Registers.{named_sound}
 use Rattle.session_spec.specs.Entering.{IsLeft, read_now}
 use Rattle.session_spec.specs.Faring.{Point, Answers, now_missing}
 use Rattle.session_spec.specs.Headline.{StandsAmong, IsAfter, IsLeftAfter}

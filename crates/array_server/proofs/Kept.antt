@@ -1,36 +1,26 @@
 -- What the devices stand for at a stop: told by the point of the last reply that was whole.
-use Rattle.std.proofs.Common.{◌≡◌, ◌⊎◌, inl, inr, ℕ, ◌-◌, ◌^◌, ◌≤◌, List, [], ◌∷◌, refl, sym, ◌∙◌, ap, subst, arith, Bool, true, false, get_or}
-use Rattle.std.specs.Prelude.{Contains, nat_le, Option, Some, None}
+use Rattle.std.proofs.Common.{◌≡◌, inl, inr, ℕ, ◌-◌, ◌^◌, ◌≤◌, List, [], ◌∷◌, refl, sym, ◌∙◌, subst, arith, false, get_or}
+use Rattle.std.specs.Prelude.{Contains, nat_le}
 use Rattle.std.proofs.lemmas.Bool.{cases_Bool, leb-true}
 use Rattle.pur_base.specs.declared.device.Device.{Device}
-use Rattle.pur_base.specs.declared.request.Request.{Request}
-use Rattle.pur_base.specs.declared.request.Request.TheVariants as request
-use Rattle.pur_base.specs.declared.reply.Refusal.{Refusal}
-use Rattle.pur_base.specs.declared.reply.Refusal.TheVariants as refusals
-use Rattle.pur_base.specs.Devices.{Geometry, Image, Conditions, Sound, LeftOut, IsBearable}
+use Rattle.pur_base.specs.Devices.{Geometry, Conditions, Sound, LeftOut, IsBearable}
 use Rattle.pur_base.specs.Plain as plain
-use Rattle.pur_base.specs.Plain.{refusal, done}
 use Rattle.pur_base.specs.Grammar.{Item, Asked, Syntax, Cut}
-use Rattle.pur_base.specs.Commands.{Command, IsLogged}
-use Rattle.pur_base.specs.Replies.{Answer, after_unless}
-use Rattle.boot_codec.specs.Region.{names}
+use Rattle.pur_base.specs.Commands.{Command}
 use Rattle.log_codec.specs.declared.limits.TheConstants.{LOG_SLOTS}
 use Rattle.array_spec.specs.After.{AcceptsNext}
-use Rattle.world.specs.Losing.{geometry_of, has_risen, losing, has_lost_writes}
-use Rattle.world.specs.Shelf.{Shelved, Stop, MayStop, MayLeave, IsCountedBy, Continues}
-use Rattle.boot_region.proofs.Phases.{not_risen_before}
-use Rattle.register.specs.Registers.{named_sound}
-use Rattle.session_spec.specs.Entering.{IsStanding, IsLeft, read_now}
-use Rattle.session_spec.specs.Faring.{Point, Answers, AnswersRequest, AnswersAccepted, IsRefused, IsDone, IsFailed, Where, WithRoom, Fares, is_spent, is_full, now_missing}
-use Rattle.session_spec.specs.Headline.{StandsAmong, IsAfter, IsNext, IsLeftAfter}
-use Rattle.session_spec.proofs.Fared.{halts_have_causes}
+use Rattle.world.specs.Losing.{geometry_of, has_risen}
+use Rattle.world.specs.Shelf.{Shelved, Stop, MayStop, MayLeave}
+use Rattle.session_spec.specs.Entering.{IsStanding}
+use Rattle.session_spec.specs.Faring.{Point, is_spent, is_full, now_missing}
+use Rattle.session_spec.specs.Headline.{StandsAmong, IsAfter, IsNext}
 use Rattle.array_core.specs.declared.array.Array.{Array}
 use Rattle.array_core.specs.Performing.{IsSpent, IsFull}
 use Rattle.array_core.specs.Ready.{IsReady}
 use Rattle.array_core.proofs.Losses.{sound_since, left_out_since}
 use Rattle.array_server.specs.declared.engine.Engine.{Engine}
-use Rattle.array_server.specs.Engines.{IsAt, MayBeDone, IsKeptBy, lost_in, point_after}
-use Rattle.array_core.proofs.ReadyStands.{ready_names, ready_stands, ready_is_clean, ready_holds}
+use Rattle.array_server.specs.Engines.{IsAt, MayBeDone, IsKeptBy}
+use Rattle.array_core.proofs.ReadyStands.{ready_stands}
 use Rattle.array_server.proofs.StandsAtPoint.{borne_at_point, stands_at_point, stands_as, sound_is_named}
 
 -- ---- room

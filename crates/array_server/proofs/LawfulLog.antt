@@ -1,5 +1,5 @@
 -- What a log makes of nothing is within the limits: its commands are spelled.
-use Rattle.std.proofs.Common.{◌≡◌, ◌⊎◌, inl, inr, ℕ, suc, ◌+◌, List, [], ◌∷◌, length, refl, sym, subst, arith, true}
+use Rattle.std.proofs.Common.{◌≡◌, inl, inr, ℕ, suc, ◌+◌, List, [], ◌∷◌, length, sym, subst, arith, true}
 use Rattle.std.specs.List.{AllByRecursion}
 use Rattle.pur_base.specs.Bytes.{IsBytesOf}
 use Rattle.pur_base.specs.Devices.{View}
@@ -11,7 +11,7 @@ use Rattle.pur_base.specs.declared.request.Request.{Request}
 use Rattle.pur_base.specs.declared.request.Request.TheVariants as request
 use Rattle.boot_codec.specs.declared.record.BootRecord.{BootRecord}
 use Rattle.log_codec.specs.Head.{IsCommand}
-use Rattle.log_codec.specs.Log.{HasSpelling, Shows, IsInSlot, LogFrom}
+use Rattle.log_codec.specs.Log.{HasSpelling, IsInSlot, LogFrom}
 use Rattle.session_spec.specs.Headline.{HoldsLog}
 use Rattle.array_server.specs.Whole.{AreSectors, IsLawful, IsLawfulRequest, IsLawfulItem}
 use Rattle.array_server.proofs.WholeLemmas.{item-fine}

@@ -1,5 +1,5 @@
 -- Where more went missing, and some that were left out are merely missing, the devices still stand for the same arrays.
-use Rattle.std.proofs.Common.{◌≡◌, ◌⊎◌, inl, inr, ℕ, List, refl, sym, ◌∙◌, ap, subst, cond, Bool, true, false}
+use Rattle.std.proofs.Common.{◌≡◌, ◌⊎◌, inl, inr, ℕ, List, refl, sym, subst, cond, Bool, false}
 use Rattle.std.specs.Prelude.{◌≤◌, Option, None, count_by}
 use Rattle.pur_base.specs.declared.device.Device.{Device}
 use Rattle.pur_base.specs.declared.device.Device.TheVariants.{Drive, Nv}
@@ -8,7 +8,6 @@ use Rattle.pur_base.specs.Plain.{Array}
 use Rattle.boot_codec.specs.declared.record.BootRecord.{BootRecord}
 use Rattle.boot_codec.specs.Region.{BootSlot, names, of_members}
 use Rattle.log_codec.specs.Log.{LogStands}
-use Rattle.array_spec.specs.Laws.{IsNamedByNone}
 use Rattle.array_spec.specs.Standing.{Stands, IsViewOf, MayAppear, MayBeGiven, IsReadBy, HasNoLog}
 use Rattle.session_spec.specs.Entering.{IsStanding, LeftOutAreNamedByNone}
 

@@ -2,12 +2,7 @@
 use Rattle.std.proofs.Common.{◌≡◌, ℕ, List, refl, sym, subst}
 use Rattle.pur_base.specs.declared.device.Device.{Device}
 use Rattle.pur_base.specs.Commands.{Command}
-use Rattle.world.specs.Losing.{geometry_of}
 use Rattle.world.specs.Shelf.{Shelved, Stop, Disk, MayStop}
-use Rattle.boot_region.specs.Storing.{IsInForceOn}
-use Rattle.nvram_log.specs.Held.{HoldsOn}
-use Rattle.register.specs.Registers.{own_slot, next_slot, drives_of, named_sound}
-use Rattle.register.specs.Standing.{IsOpen, StandsInLog}
 use Rattle.array_core.specs.declared.array.Array.{Array}
 use Rattle.array_core.specs.Ready.{IsReady}
 

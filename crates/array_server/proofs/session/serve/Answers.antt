@@ -1,4 +1,4 @@
-use Rattle.std.proofs.Common.{◌≡◌, inl, inr, ℕ, List, Ok, Err, refl, sym, ◌∙◌, subst, Bool, true, false}
+use Rattle.std.proofs.Common.{◌≡◌, inl, inr, ℕ, List, sym, subst, Bool, false}
 use Rattle.pur_base.specs.declared.reply.Status.{Status}
 use Rattle.world.proofs.Moments.{continues_trans}
 use Rattle.session_spec.specs.Ends.{RisesIf, is_source, is_sink}
