@@ -4,3 +4,12 @@ pub mod SessionLemmas
 pub mod WholeLemmas
 pub mod AckedOutputLemmas
 pub mod MadeLemmas
+pub mod Came
+pub mod InHand
+pub mod Kept
+pub mod Lessened
+pub mod StandsAtPoint
+pub mod StillReady
+pub mod Begun
+pub mod Headlines
+pub mod LawfulLog
