@@ -1,18 +1,19 @@
 -- A command was appended: what a stop leaves at each moment, and what the devices hold then.
-use Rattle.std.proofs.Common.{◌≡◌, ◌≢◌, ◌⊎◌, inl, inr, ℕ, zero, suc, ◌+◌, ◌-◌, ◌^◌, ◌≤◌, ◌<◌, List, [], ◌∷◌, ◌++◌, length, take, refl, sym, ◌∙◌, ap, subst, arith, Bool, true, false, length-append}
+use Rattle.std.proofs.Common.{◌≡◌, ◌≢◌, inl, inr, ℕ, zero, suc, ◌+◌, ◌-◌, ◌^◌, ◌≤◌, ◌<◌, List, [], ◌∷◌, ◌++◌, length, take, refl, sym, subst, arith, Bool, true, false, length-append}
 use Rattle.std.specs.Prelude.{Some, Contains, slice_get}
+use Rattle.std.specs.List.{AllByRecursion}
 use Rattle.std.proofs.lemmas.Bool.{cases_lt}
 use Rattle.std.proofs.lemmas.List.{take_all, take_at, append-nil}
-use Rattle.std.proofs.lemmas.Option.{slice_get_within}
 use Rattle.pur_base.specs.declared.device.Device.{Device}
 use Rattle.pur_base.specs.Devices.{Geometry, Image, Conditions, Sound, LeftOut, IsBearable, IsWithin, drive, nvram}
+use Rattle.pur_base.specs.Grammar.{is_in_force}
 use Rattle.pur_base.specs.Plain.{Array}
 use Rattle.pur_base.specs.Commands.{Command, Accepts, AllAccepted, after, after_all}
 use Rattle.boot_codec.specs.declared.record.BootRecord.{BootRecord}
 use Rattle.boot_codec.specs.Spelling.{spelling}
 use Rattle.boot_codec.specs.Region.{BootSlot, IsRecordOf, body_in, generation_in, names, other_slot, shown_by, Yields}
 use Rattle.log_codec.specs.Log.{HasSpelling, ShowsIn}
-use Rattle.array_spec.specs.Standing.{Stands, MayBeGiven, IsReadInto}
+use Rattle.array_spec.specs.Standing.{Stands, MayBeGiven}
 use Rattle.array_spec.proofs.Settling.{twice_other}
 use Rattle.array_spec.proofs.Standings.{more_may_go_missing}
 use Rattle.array_spec.proofs.UnflushedRead.{one_left}
@@ -30,9 +31,9 @@ use Rattle.boot_region.proofs.ShownLemmas.{as_read}
 use Rattle.nvram_log.specs.declared.log.NvLog.{NvLog}
 use Rattle.nvram_log.specs.Held.{HoldsOn, Keeps, LeavesBetween}
 use Rattle.nvram_log.specs.Members as nv
-use Rattle.nvram_log.proofs.Lists.{get_either, get_left}
+use Rattle.nvram_log.proofs.Lists.{get_either}
 use Rattle.register.specs.declared.state.Register.{Register}
-use Rattle.register.specs.Registers.{IsRegisterOf, drives_of, own_slot, next_slot, named_sound}
+use Rattle.register.specs.Registers.{drives_of, own_slot, next_slot, named_sound}
 use Rattle.register.specs.Standing.{StandsInLog, MayStore, IsOpen}
 use Rattle.array_core.specs.Losing.{lost_since, lost_by}
 use Rattle.array_core.specs.Performing.{StandsMeanwhile, without_or_with}
@@ -113,6 +114,11 @@ accept_last a (d ∷ ds) c all fine = (all.0, accept_last (after a d) ds c all.1
 pub after_last : (a : Array) (cmds : List Command) (c : Command) → after_all a (cmds ++ c ∷ []) ≡ after (after_all a cmds) c
 after_last a [] c = refl
 after_last a (d ∷ ds) c = after_last (after a d) ds c
+
+-- one more command of a form in force
+pub all_and_last : (cmds : List Command) (c : Command) → AllByRecursion (λ x. is_in_force x.request ≡ true) cmds → is_in_force c.request ≡ true → AllByRecursion (λ x. is_in_force x.request ≡ true) (cmds ++ c ∷ [])
+all_and_last [] c all is = (is, tt)
+all_and_last (d ∷ ds) c all is = (all.0, all_and_last ds c all.1 is)
 
 -- the last of a list that has one more
 last_is : (i : ℕ) (c d : Command) → slice_get (c ∷ []) i ≡ Some d → (i ≡ 0) × (c ≡ d)

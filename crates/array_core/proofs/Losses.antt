@@ -1,13 +1,12 @@
 -- Devices that go missing as they lose writes.
-use Rattle.std.proofs.Common.{◌≡◌, ◌⊎◌, inl, inr, ℕ, zero, suc, ◌+◌, ◌-◌, ◌^◌, ◌<◌, ◌≤◌, Bool, true, false, List, [], ◌∷◌, refl, sym, ◌∙◌, ap, subst, arith, cond}
-use Rattle.std.specs.Prelude.{nat_lt, nat_le, ◌||◌, count_by}
-use Rattle.std.proofs.lemmas.Bool.{cases_Bool, cases_lt, ltb-true, leb-true, leb-false}
-use Rattle.pur_base.specs.declared.device.Device.{Device}
+use Rattle.std.proofs.Common.{◌≡◌, ◌⊎◌, inl, inr, ℕ, ◌≤◌, Bool, true, false, List, [], ◌∷◌, refl, sym, ◌∙◌, ap, subst, arith, cond}
+use Rattle.std.specs.Prelude.{count_by}
+use Rattle.std.proofs.lemmas.Bool.{cases_lt}
 use Rattle.pur_base.specs.Devices.{Geometry, Condition, Conditions, Sound, Missing, LeftOut, is_missing, MayBecome, IsWithin, IsBearable, missing_drives, missing_nvrams, slots_of, nvrams, drive, nvram}
 use Rattle.array_spec.proofs.Votes.{counted}
 use Rattle.world.specs.Shelf.{Shelved, Stop, Continues, IsCountedBy}
-use Rattle.world.specs.Losing.{geometry_of, has_risen, missing_if, losing}
-use Rattle.boot_region.proofs.Phases.{not_risen_before, risen_on_way}
+use Rattle.world.specs.Losing.{geometry_of, has_risen, missing_if}
+use Rattle.boot_region.proofs.Phases.{not_risen_before}
 use Rattle.array_core.specs.Losing.{lost_since, lost_by}
 
 pub same_geometry : {old new : Shelved} → Continues old new → geometry_of old ≡ geometry_of new

@@ -1,3 +1,4 @@
 pub mod Losing
 pub mod Ready
+pub mod Holding
 pub mod Performing

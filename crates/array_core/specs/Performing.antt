@@ -1,7 +1,7 @@
 -- What performing a command does to the devices.
 use Rattle.std.specs.Prelude.{◌≡◌, ◌⊎◌, ℕ, ◌+◌, ◌-◌, ◌^◌, ◌<◌, ◌≤◌, Bool, List, [], ◌∷◌, ◌++◌}
 use Rattle.pur_base.specs.Commands.{Command, after_all}
-use Rattle.pur_base.specs.Devices.{Conditions, IsBearable, nvram}
+use Rattle.pur_base.specs.Devices.{IsBearable, nvram}
 use Rattle.pur_base.specs.Plain as plain
 use Rattle.pur_base.specs.declared.request.Request.{Request}
 use Rattle.boot_codec.specs.declared.record.BootRecord.{BootRecord}

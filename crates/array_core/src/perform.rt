@@ -1,14 +1,15 @@
 // A command is performed.
-ghost use Rattle.std.specs.Prelude.{◌≡◌, ◌<◌, ◌-◌, ◌^◌, ◌++◌, ◌∷◌, [], List, None, true, length, OnOk, IfErr};
+ghost use Rattle.std.specs.Prelude.{◌≡◌, ◌<◌, ◌+◌, ◌-◌, ◌^◌, ◌++◌, ◌∷◌, [], List, None, true, length, OnOk, IfErr};
 ghost use Rattle.pur_base.specs.Commands.{Command, after};
 ghost use Rattle.pur_base.specs.Devices.{IsBearable};
 ghost use Rattle.pur_base.specs.Grammar.{is_in_force, data_count};
 ghost use Rattle.pur_base.specs.Plain.{refusal};
 ghost use Rattle.log_codec.specs.Head.{IsCommand};
 ghost use Rattle.log_codec.specs.declared.limits.TheConstants.{LOG_SLOTS};
-ghost use Rattle.world.specs.Losing.{geometry_of};
-ghost use Rattle.world.specs.Shelf.{Continues, LeavesOnly};
+ghost use Rattle.world.specs.Losing.{geometry_of, has_risen};
+ghost use Rattle.world.specs.Shelf.{Continues, LeavesOnly, IsCountedBy};
 ghost use Rattle.register.specs.Registers.{named_sound};
+ghost use Rattle.session_spec.specs.Faring.{MayRise};
 ghost use Rattle.array_core.specs.Losing.{lost_since};
 
 use crate::Array;
@@ -67,6 +68,7 @@ impl From<StoreFault> for PerformFault {
 impl Array {
     ghost use Rattle.array_core.specs.declared.perform.PerformFault.TheVariants.{Device};
     ghost use Rattle.array_core.specs.Ready.{IsArrayOf, IsReady};
+    ghost use Rattle.array_core.specs.Holding.{DropsFailed, NoneJoins};
     ghost use Rattle.array_core.specs.Performing.{IsSpent, IsFull, IsRoomFault, IsFaultOf, StandsMeanwhile, without_or_with};
 
     /// Whether there is room for one more command.
@@ -102,6 +104,11 @@ impl Array {
         ensures room { OnOk result ((¬ (IsSpent self.old)) × (¬ (IsFull self.old))) }
         ensures fault { IfErr result (λ e. IsFaultOf (S.shelf shelf.old) (S.shelf shelf.new) self.old request.now ((self.new ≡ self.old) × (shelf.new ≡ shelf.old)) e) }
         ensures plain { OnOk result (self.new.plain ≡ after self.old.plain (record { request = request.now; sectors = sectors.now })) }
+        ensures moments { (S.shelf shelf.old).honest → LeavesOnly (S.shelf shelf.old) (S.shelf shelf.new) (IsCountedBy (S.shelf shelf.old)) }
+        ensures count { OnOk result (self.new.log.count ≡ self.old.log.count + 1) }
+        // A record is stored only where a device lost a write, and so three more at most, since two drives of the shelf at most may be missing then.
+        ensures generation { OnOk result (MayRise (λ d. has_risen ((S.shelf shelf.old).disk d).write_faults ((S.shelf shelf.new).disk d).write_faults) self.old.register.record.generation self.new.register.record.generation) }
+        ensures dropped { OnOk result (DropsFailed (S.shelf shelf.old) (S.shelf shelf.new) self.old self.new × NoneJoins self.old self.new) }
         // Then the array has done the command, and so do the devices hold it.
         ensures done { (S.shelf shelf.old).honest → OnOk result ((commands : List Command) → IsReady (S.shelf shelf.old) self.old commands
             → IsReady (S.shelf shelf.new) self.new (commands ++ record { request = request.now; sectors = sectors.now } ∷ [])) }

@@ -26,8 +26,7 @@ pub said : (before after : List ℕ) → after ≡ before ++ (line_text reply.Do
 said before after e = e
 
 pub said-in-part : {E : Type 0} (e : E) (before after : List ℕ) → Gave {E = E} (Err e) before after (line_text reply.Done ++ sectors_text []) → IsMadeOutput status.Sink before after
-said-in-part e before after g =
-    ([], Line reply.Done, g.0, g.1, refl, g.2, sym (append-nil (line_text reply.Done)) ∙ g.3, g.4 ∙ ap (λ (x : List ℕ). x ++ g.0) (sym (append-nil before)))
+said-in-part e before after g = (g.0, g.1, g.2, sym (append-nil (line_text reply.Done)) ∙ g.3, g.4)
 
 -- what follows from how it ended
 

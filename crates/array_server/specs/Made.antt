@@ -1,15 +1,13 @@
 -- What the making of a new array answers and leaves.
-use Rattle.std.specs.Prelude.{◌≡◌, ℕ, List}
+use Rattle.std.specs.Prelude.{◌≡◌, ℕ, ◌<◌, ◌++◌, List, length}
 use Rattle.pur_base.specs.declared.reply.Reply.TheVariants as reply
 use Rattle.pur_base.specs.declared.reply.Status.{Status}
 use Rattle.pur_base.specs.declared.reply.Status.TheVariants as status
-use Rattle.pur_base.specs.Replies.{Line}
+use Rattle.pur_base.specs.Replies.{line_text}
 use Rattle.world.specs.Shelf.{Shelved}
 use Rattle.shelf_init.specs.Blank.{IsBlank, IsClean}
 use Rattle.shelf_init.specs.Counted.{NoneFailed}
 use Rattle.shelf_init.specs.Made.{IsMade}
-use Rattle.array_server.specs.Serving.{IsOutput}
-use Rattle.std.specs.Prelude.{[], ◌∷◌}
 
 -- The array was made, and no call on a device failed. Honest devices were blank, and stand for the array of nothing.
 pub record Made (old new : Shelved) : Type 0 where
@@ -32,8 +30,8 @@ IsInitStatus status.NotBlank = Unit {0}
 IsInitStatus status.Memory = Unit {0}
 IsInitStatus _ = ⊥
 
--- the line `ok` where it was made, and else nothing
+-- the line `ok` where it was made, of which a part is missing where the sink failed, and else nothing
 abbrev pub IsMadeOutput : Status → List ℕ → List ℕ → Type 0
-IsMadeOutput status.Done before after = IsOutput status.Done before after (Line reply.Done ∷ [])
-IsMadeOutput status.Sink before after = IsOutput status.Sink before after (Line reply.Done ∷ [])
+IsMadeOutput status.Done before after = after ≡ before ++ line_text reply.Done
+IsMadeOutput status.Sink before after = (cut : List ℕ) × (missing : List ℕ) × (0 < length missing) × (line_text reply.Done ≡ cut ++ missing) × (after ≡ before ++ cut)
 IsMadeOutput _ before after = after ≡ before

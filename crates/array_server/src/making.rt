@@ -7,7 +7,7 @@ ghost use Rattle.shelf_init.specs.Answers.{AreSame};
 ghost use Rattle.shelf_init.specs.Blank.{GivesBody};
 ghost use Rattle.shelf_init.specs.Counted.{NoneFailed, OneFailed};
 ghost use Rattle.array_server.specs.Made.{Made, IsMadeEnd, IsMadeOutput, IsInitStatus};
-ghost use Rattle.array_server.specs.Serving.{RisesIf, is_sink};
+ghost use Rattle.session_spec.specs.Ends.{RisesIf, is_sink};
 
 use crate::answers::give;
 use pur_base::{Reply, Status};

@@ -6,3 +6,4 @@ pub mod DataLemmas
 pub mod FailedLemmas
 pub mod ItemLemmas
 pub mod WritingLemmas
+pub mod SpelledLemmas

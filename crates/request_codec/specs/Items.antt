@@ -2,6 +2,7 @@
 use Rattle.std.specs.Prelude.{◌≡◌, ℕ, ◌<◌, true, false, List, [], ◌∷◌, ◌++◌, length}
 use Rattle.pur_base.specs.Grammar as grammar
 use Rattle.pur_base.specs.Grammar.{Asked, Syntax, Cut, first_item, data_count, is_in_force, is_whole}
+use Rattle.request_codec.specs.Spelled.{IsSpelledRequest}
 use Rattle.request_codec.specs.declared.reader.Item.{Item}
 use Rattle.request_codec.specs.declared.reader.Item.TheVariants as item
 
@@ -23,6 +24,11 @@ TakesSome _ before after = after < before
 abbrev pub IsServed : Item → Type 0
 IsServed (item.Request r) = is_in_force r ≡ true
 IsServed _ = Unit {0}
+
+-- a request's fields are within their bounds
+abbrev pub IsSpelled : Item → Type 0
+IsSpelled (item.Request r) = IsSpelledRequest r
+IsSpelled _ = Unit {0}
 
 -- a request comes with its data
 abbrev pub HasData : Item → List (List ℕ) → Type 0

@@ -5,5 +5,6 @@ pub mod Lines
 pub mod Calls
 pub mod Data
 pub mod Reader
+pub mod Spelled
 pub mod Items
 pub mod Writing

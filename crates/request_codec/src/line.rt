@@ -6,6 +6,7 @@ ghost use Rattle.world.specs.Counts.{Counts};
 ghost use Rattle.request_codec.specs.Ahead.{Tells, budget};
 ghost use Rattle.request_codec.specs.Reading.{Totals, Unfinished};
 ghost use Rattle.request_codec.specs.Lines.{Holds, ReadsLine};
+ghost use Rattle.request_codec.specs.Spelled.{IsSpelledRequest};
 
 use crate::input::{Input, Refill};
 use crate::parse::request_from;
@@ -49,6 +50,7 @@ impl Line {
     pub fn request(&self) -> Option<Request>
         ensures request { (got : List ℕ) → Holds self.now got → result ≡ line_request got }
         ensures served { IfSome result (λ r. is_in_force r ≡ true) }
+        ensures spelled { IfSome result IsSpelledRequest }
         ensures few { IfSome result (λ r. data_count r ≤ REQUEST_SECTORS) }
     {
         if self.long {

@@ -3,6 +3,7 @@ ghost use Rattle.pur_base.specs.declared.request.Request.{Request};
 ghost use Rattle.std.specs.List.{list_all};
 ghost use Rattle.std.specs.Char.{is_ascii_digit};
 ghost use Rattle.pur_base.specs.Grammar.{words, name_of, is_number, digits_number, number_of, number_in, count_of, byte_of, table_of, data_count, create_form, span_form, fill_form, new_form, copy_form, name_form, number_form, merge_form, bare_form, step_of, request_of, is_in_force, if_in_force, when};
+ghost use Rattle.request_codec.specs.Spelled.{IsSpelledRequest};
 ghost use Rattle.request_codec.specs.Words.{left_words};
 
 use crate::words::Words;
@@ -341,6 +342,7 @@ fn if_served(request: Request) -> Option<Request>
 pub fn request_from(line: &[u8]) -> Option<Request>
     ensures request { result ≡ if_in_force (request_of (words line.now)) }
     ensures served { IfSome result (λ r. is_in_force r ≡ true) }
+    ensures spelled { IfSome result IsSpelledRequest }
     ensures few { IfSome result (λ r. data_count r ≤ REQUEST_SECTORS) }
 {
     let request = spelled_by(line)?;

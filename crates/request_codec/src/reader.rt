@@ -5,7 +5,7 @@ ghost use Rattle.pur_base.specs.Grammar.{is_line_end, is_whole};
 ghost use Rattle.world.specs.Counts.{Counts};
 ghost use Rattle.request_codec.specs.Ahead.{Tells, budget};
 ghost use Rattle.request_codec.specs.Reading.{Totals, Unfinished};
-ghost use Rattle.request_codec.specs.Items.{Reads, IsServed, HasData, TakesSome};
+ghost use Rattle.request_codec.specs.Items.{Reads, IsServed, IsSpelled, HasData, TakesSome};
 
 use crate::data::{DataEnd, read_data};
 use crate::input::Input;
@@ -74,6 +74,7 @@ impl Reader {
         ensures total { IfOk result (λ item. Tells self.old.ahead (S.source source.old) →
             Totals (item ≡ Item.Limit) self.old.ahead.taken self.new.ahead.taken (length (S.source source.old).bytes) (length (S.source source.new).bytes)) }
         ensures served { IfOk result IsServed }
+        ensures spelled { IfOk result IsSpelled }
         ensures data { IfOk result (λ item. HasData item self.new.sectors) }
         ensures progress { IfOk result (λ item. TakesSome item (budget self.old.ahead) (budget self.new.ahead)) }
         ensures limit { IfOk result (λ item. item ≡ Item.Limit → self.new.ahead.pending ≡ []) }

@@ -1,9 +1,8 @@
-use Rattle.std.proofs.Common.{◌≡◌, ◌∙◌, sym, ap, subst, refl, arith, inr, ℕ, ◌+◌, ◌-◌, ◌^◌, ◌<◌, ◌++◌, ◌∷◌, [], List, Bool, Result, Ok, Err, IfErr}
+use Rattle.std.proofs.Common.{rules, ◌≡◌, ◌∙◌, sym, subst, refl, inr, ℕ, ◌++◌, ◌∷◌, [], List, length, Bool, Result, IfErr}
 use Rattle.std.proofs.lemmas.Result.{err_from_is_err_and}
-use Rattle.pur_base.specs.Commands.{Command, AllAccepted}
-use Rattle.pur_base.specs.Devices.{Conditions, Geometry}
+use Rattle.pur_base.specs.Commands.{Command}
+use Rattle.pur_base.specs.Devices.{Conditions, Geometry, nvram}
 use Rattle.pur_base.specs.Plain as plain
-use Rattle.boot_codec.specs.declared.record.BootRecord.{BootRecord}
 use Rattle.world.specs.Losing.{geometry_of}
 use Rattle.world.specs.Shelf.{LeavesOnly}
 use Rattle.world.proofs.Moments.{continues_trans}
@@ -11,12 +10,14 @@ use Rattle.boot_region.specs.Storing.{StandsBut}
 use Rattle.nvram_log.specs.Held.{HoldsOn}
 use Rattle.register.specs.Registers.{IsRegisterOf, drives_of, next_slot}
 use Rattle.register.specs.Standing.{IsOpen, MayStore, StandsInLog}
-use Rattle.register.proofs.FlagLemmas.{same_flags}
+use Rattle.register.proofs.FlagLemmas.{same_flags, other_flags}
+use Rattle.array_core.specs.declared.array.Array.{Array}
 use Rattle.array_core.specs.declared.perform.PerformFault.{PerformFault}
 use Rattle.array_core.specs.declared.perform.PerformFault.TheVariants.{Device}
 use Rattle.array_core.specs.Performing.{IsLost}
 use Rattle.array_core.proofs.Losses.{same_geometry}
 use Rattle.array_core.proofs.Lost.{lost_drives}
+use Rattle.array_core.proofs.Dropped.{drops_failed, none_joins, rises_little}
 use Rattle.array_core.proofs.Appended.{appending, was_held, append_moments, still_open, logged, all_moments}
 use Rattle.array_core.proofs.array.Array.commit.Goals as goal
 
@@ -59,8 +60,7 @@ returns-then-eq-clause-held g c h cmds o keeps accepted =
     let p = appending a m r log now cmds cmd (g.met.S.Shelf.is_shelf c.args.shelf.now) (g.met.S.Shelf.is_shelf c.append.new.shelf) h x.continues o keeps c.requires.not_spent c.requires.room c.requires.is_of.flushed accepted
     x.drives x.fewer x.dropped (x.any_moment h cmds keeps held) (x.writes h) (x.spelled 0 _ refl) in
     let holds : HoldsOn m now r.record.flushed (cmds ++ cmd ∷ []) = subst (λ (f : ℕ). HoldsOn m now f (cmds ++ cmd ∷ [])) (x.flushed ∙ c.requires.is_of.flushed) (c.in_ok-append.ensures.holds h cmds keeps held) in
-    let named : r.record.members.nvrams ≡ now =
-    sym (ap (λ (b : BootRecord). b.members.nvrams) c.record.ensures) ∙ sym (same_flags c.members-members.result c.record.result.now.members.nvrams c.if-eq.ensures) ∙ c.members-members.ensures in
+    let named : r.record.members.nvrams ≡ now = o.nvrams_are ∙ sym c.members-before.ensures ∙ sym (same_flags c.members-members.result c.members-before.result c.if-eq.ensures) ∙ c.members-members.ensures in
     still_open a m r log.members now cmds cmd p holds c.in_ok-append.ensures.ok.1 named
 
 pub returns-in_err-store-clause-continues : goal.returns-in_err-store-clause-continues
@@ -140,3 +140,31 @@ returns-clause-held g c h cmds o keeps accepted =
     let stored : IsOpen n c.store.new.self c.members-members.result (cmds ++ cmd ∷ []) =
     c.in_ok-store.ensures.stored (x.continues.honest h) (cmds ++ cmd ∷ []) (subst (λ (l : List Bool). StandsInLog m r l (cmds ++ cmd ∷ [])) (sym c.members-members.ensures) in_log) in
     subst (λ (l : List Bool). IsOpen n c.store.new.self l (cmds ++ cmd ∷ [])) c.members-members.ensures stored
+
+pub returns-clause-generation : goal.returns-clause-generation
+returns-clause-generation g c =
+    let a = g.S.Shelf.shelf c.args.shelf.now in
+    let m = g.S.Shelf.shelf c.append.new.shelf in
+    let n = g.S.Shelf.shelf c.store.new.shelf in
+    let log = c.args.self.now.log in
+    let now = c.append.new.self.members in
+    let x = c.append.ensures in
+    let two : length log.members ≡ 2 = search rules in
+    let two_now : length now ≡ 2 = search rules in
+    let other : now ≡ log.members → ⊥ =
+    λ e. other_flags c.members-members.result c.members-before.result c.if-eq.ensures (c.members-members.ensures ∙ e ∙ sym c.members-before.ensures) in
+    rises_little a m n log.members now c.args.self.now.register c.store.new.self two two_now other x.fewer x.dropped (λ k. c.store.ensures.others (nvram k) (λ none. none))
+    c.requires.is_of.of_shelf c.store.ensures.later c.in_ok-store.ensures.generation.0 c.in_ok-store.ensures.enough c.in_ok-store.ensures.stores
+
+pub returns-clause-dropped : goal.returns-clause-dropped
+returns-clause-dropped g c =
+    let a = g.S.Shelf.shelf c.args.shelf.now in
+    let m = g.S.Shelf.shelf c.append.new.shelf in
+    let n = g.S.Shelf.shelf c.store.new.shelf in
+    let was = c.args.self.now in
+    let now : Array = record { plain = was.plain; log = c.append.new.self; register = c.store.new.self } in
+    let x = c.append.ensures in
+    let two : length was.log.members ≡ 2 = search rules in (
+      drops_failed a m n was now two x.drives (λ k. c.store.ensures.others (nvram k) (λ none. none)) x.dropped c.store.ensures.dropped,
+      none_joins (geometry_of a) was now c.members-members.result c.requires.is_of.of_shelf c.store.ensures.later c.store.ensures.fewer x.fewer c.members-members.ensures c.in_ok-store.ensures.members,
+    )

@@ -1,7 +1,7 @@
-use Rattle.std.proofs.Common.{◌≡◌, ◌∙◌, sym, ap, subst, refl, ◌++◌, ◌∷◌, [], List}
-use Rattle.pur_base.specs.Commands.{Command, Accepts, AllAccepted, after, after_all}
+use Rattle.std.proofs.Common.{◌∙◌, sym, ap, subst, []}
+use Rattle.pur_base.specs.Commands.{Command, Accepts, after, after_all}
 use Rattle.pur_base.specs.Plain as plain
-use Rattle.array_core.proofs.Appended.{nothing_done, accept_last, after_last}
+use Rattle.array_core.proofs.Appended.{nothing_done, accept_last, after_last, all_and_last}
 use Rattle.array_core.proofs.Lost.{not_lost, on_err, on_all_ok}
 use Rattle.array_core.proofs.array.Array.perform.Goals as goal
 
@@ -34,6 +34,7 @@ returns-clause-done g c h =
       flushed = c.commit.ensures.is_of.flushed;
       plain = c.commit.ensures.plain ∙ c.in_ok-plain_step.ensures.ok.array ∙ ap (λ (x : plain.Array). after x cmd) ready.plain ∙ sym (after_last [] cmds cmd);
       some = some;
+      in_force = all_and_last cmds cmd ready.in_force c.requires.in_force;
     })
 
 pub returns-clause-borne : goal.returns-clause-borne

@@ -1,0 +1,162 @@
+-- Which devices hold the array no more after a command, and how far the generation rises.
+use Rattle.std.proofs.Common.{◌≡◌, ◌⊎◌, inl, inr, ℕ, zero, suc, ◌+◌, ◌^◌, ◌<◌, ◌≤◌, List, [], ◌∷◌, length, refl, sym, ◌∙◌, ap, subst, arith, Bool, true, false, cond}
+use Rattle.std.proofs.lemmas.Bool.{cases_Bool}
+use Rattle.std.proofs.lemmas.List.{length-take}
+use Rattle.std.proofs.Math.Nat.{pow-succ'}
+use Rattle.pur_base.specs.Devices.{Geometry, drive, nvram}
+use Rattle.pur_base.specs.declared.device.Device.{Device}
+use Rattle.pur_base.specs.declared.device.Device.TheVariants.{Drive, Nv}
+use Rattle.boot_codec.specs.declared.record.BootRecord.{BootRecord}
+use Rattle.boot_codec.specs.Record.{mask, set_count}
+use Rattle.boot_codec.specs.Region.{names}
+use Rattle.array_spec.proofs.Votes.{counted}
+use Rattle.world.specs.Counts.{Rises}
+use Rattle.world.specs.Losing.{has_risen}
+use Rattle.world.specs.Shelf.{Shelved, Stop, Disk, IsShelf, IsCountedBy, Continues, LeavesOnly}
+use Rattle.world.specs.Writes.{WritesOnly}
+use Rattle.world.proofs.Moments.{started, then_run, weaker}
+use Rattle.boot_region.specs.Members.{IsMember, DroppedFailed}
+use Rattle.boot_region.proofs.Phases.{risen_on_way}
+use Rattle.boot_region.proofs.ShownLemmas.{member_below}
+use Rattle.nvram_log.specs.Members as nv
+use Rattle.register.specs.declared.state.Register.{Register}
+use Rattle.register.specs.Registers.{IsRegisterOf, IsLaterRecord, drives_of}
+use Rattle.register.proofs.FlagLemmas.{fewer_count, in_cut, cut_in}
+use Rattle.session_spec.specs.Faring.{MayRise}
+use Rattle.array_core.specs.declared.array.Array.{Array}
+use Rattle.array_core.specs.Holding.{IsHolder, DropsFailed, NoneJoins}
+
+-- ---- counts of failed calls at each moment
+
+pub counted_so_far : {a b : Shelved} {W : Device → ℕ → Type 0} → WritesOnly W a b → LeavesOnly a b (IsCountedBy a)
+counted_so_far writes = weaker (λ stop left. left.counts) writes.any_moment
+
+counted_before : {a b : Shelved} → Continues a b → (stop : Stop) → IsCountedBy b stop → IsCountedBy a stop
+counted_before {a} {b} on stop counts = record {
+  faults = λ d. omega (arith, on.faults d, counts.faults d);
+  write_faults = λ d. omega (arith, on.write_faults d, counts.write_faults d);
+}
+
+pub counted_on : {a b c : Shelved} {W V : Device → ℕ → Type 0} → Continues a b → WritesOnly W a b → WritesOnly V b c → LeavesOnly a c (IsCountedBy a)
+counted_on {a} {b} {c} on first next = then_run on (counted_so_far first) (weaker (counted_before on) (counted_so_far next))
+
+pub counted_at_first : (a : Shelved) → IsShelf a → LeavesOnly a a (IsCountedBy a)
+counted_at_first a is = started a (IsCountedBy a) is (λ stop may. may.counts)
+
+-- ---- who is dropped
+
+is_risen : (a b : ℕ) → Rises a b → has_risen a b ≡ true
+is_risen a b rose = elim (cases_Bool (has_risen a b)) [
+  | inl is ↦ is
+  | inr none ↦ absurd (risen_on_way a a b b (omega arith) rose (omega arith) none)
+]
+
+-- a flag that isn't set any more, where the flags are others
+one_unset : (before now : List Bool) → length before ≡ 2 → length now ≡ 2 → (now ≡ before → ⊥) → nv.IsFewer before now → (n : ℕ) × (n < 2) × nv.IsMember before n × (nv.IsMember now n → ⊥)
+one_unset before now two two_now other fewer = of before now two two_now other fewer
+  where
+    of_two : (a b c d : Bool) → ((c ∷ d ∷ []) ≡ (a ∷ b ∷ []) → ⊥) → (c ≡ true → a ≡ true) → (d ≡ true → b ≡ true)
+        → (n : ℕ) × (n < 2) × nv.IsMember (a ∷ b ∷ []) n × (nv.IsMember (c ∷ d ∷ []) n → ⊥)
+    of_two true b false d other first second = (0, omega arith, refl, λ e. cc e)
+    of_two false b true d other first second = absurd (cc (first refl))
+    of_two true true true false other first second = (1, omega arith, refl, λ e. cc e)
+    of_two false true false false other first second = (1, omega arith, refl, λ e. cc e)
+    of_two true false true true other first second = absurd (cc (second refl))
+    of_two false false false true other first second = absurd (cc (second refl))
+    of_two true true true true other first second = absurd (other refl)
+    of_two true false true false other first second = absurd (other refl)
+    of_two false true false true other first second = absurd (other refl)
+    of_two false false false false other first second = absurd (other refl)
+
+    of : (before now : List Bool) → length before ≡ 2 → length now ≡ 2 → (now ≡ before → ⊥) → nv.IsFewer before now → (n : ℕ) × (n < 2) × nv.IsMember before n × (nv.IsMember now n → ⊥)
+    of (a ∷ b ∷ []) (c ∷ d ∷ []) two two_now other fewer = of_two a b c d other (fewer 0) (fewer 1)
+    of [] now two two_now other fewer = absurd (omega (arith, two))
+    of (a ∷ []) now two two_now other fewer = absurd (omega (arith, two))
+    of (a ∷ b ∷ c ∷ rest) now two two_now other fewer = absurd (omega (arith, two))
+    of (a ∷ b ∷ []) [] two two_now other fewer = absurd (omega (arith, two_now))
+    of (a ∷ b ∷ []) (c ∷ []) two two_now other fewer = absurd (omega (arith, two_now))
+    of (a ∷ b ∷ []) (c ∷ d ∷ e ∷ rest) two two_now other fewer = absurd (omega (arith, two_now))
+
+-- a command is appended from old to mid, and a record may be stored from mid to new
+module _ (old mid new : Shelved) (was now : Array) (two : length was.log.members ≡ 2)
+    (same : (i : ℕ) → mid.disk (drive i) ≡ old.disk (drive i)) (kept : (n : ℕ) → new.disk (nvram n) ≡ mid.disk (nvram n))
+    (dropped : nv.DroppedFailed old mid was.log.members now.log.members) (drives : DroppedFailed mid new (drives_of was.register) (drives_of now.register)) where
+  pub drops_failed : DropsFailed old new was now
+  drops_failed (Drive d) h = elim (drives d.0 h) [
+    | inl is ↦ inl is
+    | inr rose ↦ inr (subst (λ (k : Disk). Rises k.write_faults (new.disk (Drive d)).write_faults) (same d.0) rose.write_faults)
+  ]
+  drops_failed (Nv n) h = elim (dropped n.0 (omega (arith, two, member_below was.log.members n.0 h)) h) [
+    | inl is ↦ inl is
+    | inr rose ↦ inr (subst (λ (k : Disk). Rises (old.disk (Nv n)).write_faults k.write_faults) (sym (kept n.0)) rose)
+  ]
+
+-- ---- who joins
+
+pub none_joins_unstored : (was now : Array) → now.register ≡ was.register → nv.IsFewer was.log.members now.log.members → NoneJoins was now
+none_joins_unstored was now same fewer = record {
+  holders = λ d h. of d h;
+  named = λ d e. inl (subst (λ (r : Register). names r.record d ≡ true) same e);
+}
+  where
+    of : (d : Device) → IsHolder now d → IsHolder was d
+    of (Drive d) h = subst (λ (r : Register). IsMember (drives_of r) d.0) same h
+    of (Nv n) h = fewer n.0 h
+
+fewer_drives : (was now : Register) → IsLaterRecord was.record now.record → ((i : ℕ) → IsMember now.drives i → IsMember was.drives i) → (i : ℕ) → IsMember (drives_of now) i → IsMember (drives_of was) i
+fewer_drives was now later fewer i m =
+    let slots : now.record.slots ≡ was.record.slots = ap (λ (b : BootRecord). b.slots) later.rest in
+    cut_in was.drives was.record.slots i (omega (arith, slots, member_below (drives_of now) i m, length-take now.record.slots now.drives)) (fewer i (in_cut now.drives now.record.slots i m))
+
+pub none_joins : (shelf : Geometry) (was now : Array) (nvrams : List Bool) → IsRegisterOf shelf was.register → IsLaterRecord was.register.record now.register.record
+    → ((i : ℕ) → IsMember now.register.drives i → IsMember was.register.drives i) → nv.IsFewer was.log.members now.log.members → nvrams ≡ now.log.members
+    → (now.register.record.members.drives ≡ now.register.drives) × (now.register.record.members.nvrams ≡ nvrams) → NoneJoins was now
+none_joins shelf was now nvrams is later fewer fewer_nvrams log members = record { holders = λ d h. held d h; named = λ d e. named d e }
+  where
+    held : (d : Device) → IsHolder now d → IsHolder was d
+    held (Drive d) h = fewer_drives was.register now.register later fewer d.0 h
+    held (Nv n) h = fewer_nvrams n.0 h
+
+    named : (d : Device) → names now.register.record d ≡ true → (names was.register.record d ≡ true) ⊎ IsHolder was d
+    named (Drive d) e = inl (is.named d.0 (fewer d.0 (subst (λ (l : List Bool). IsMember l d.0) members.0 e)))
+    named (Nv n) e = inr (fewer_nvrams n.0 (subst (λ (l : List Bool). nv.IsMember l n.0) (members.1 ∙ log) e))
+
+-- ---- how far the generation rises
+
+at_most_one : (b : Bool) → cond b 1 0 ≤ 1
+at_most_one true = omega arith
+at_most_one false = omega arith
+
+-- no more flags are set than the mask has bits
+few_set : (xs : List Bool) (n : ℕ) → mask xs < 2 ^ n → set_count xs ≤ n
+few_set [] n small = omega arith
+few_set (true ∷ xs) zero small = absurd (omega (arith, small))
+few_set (false ∷ xs) zero small =
+    let s : mask xs < 2 ^ 0 = omega (arith, small) in
+    omega (arith, few_set xs zero s, counted (λ (b : Bool). b) false xs)
+few_set (x ∷ xs) (suc n) small =
+    let e = pow-succ' 2 n in
+    let s : mask xs < 2 ^ n = omega (arith, small, e) in
+    omega (arith, few_set xs n s, counted (λ (b : Bool). b) x xs, at_most_one x)
+
+-- where the flags of the log aren't those of before, a device lost a write, and few records were stored
+pub rises_little : (old mid new : Shelved) (before now_nvrams : List Bool) (was now : Register) → length before ≡ 2 → length now_nvrams ≡ 2 → (now_nvrams ≡ before → ⊥) → nv.IsFewer before now_nvrams
+    → nv.DroppedFailed old mid before now_nvrams → ((n : ℕ) → new.disk (nvram n) ≡ mid.disk (nvram n))
+    → IsRegisterOf (record { slots = old.drives; units = old.units }) was → IsLaterRecord was.record now.record → was.record.generation < now.record.generation
+    → now.record.slots ≤ set_count now.drives + 2 → now.record.generation + set_count now.drives ≤ was.record.generation + set_count was.drives + 1
+    → MayRise (λ d. has_risen (old.disk d).write_faults (new.disk d).write_faults) was.record.generation now.record.generation
+rises_little old mid new before now_nvrams was now two two_now other fewer dropped kept is later rises enough stores =
+    let one = one_unset before now_nvrams two two_now other fewer in
+    let slots : now.record.slots ≡ was.record.slots = ap (λ (b : BootRecord). b.slots) later.rest in
+    let fewer_set : set_count was.drives ≤ set_count was.record.members.drives = fewer_count was.drives was.record.members.drives is.named in
+    let most : set_count was.record.members.drives ≤ was.record.slots = few_set was.record.members.drives was.record.slots is.lawful.lawful.members.within in
+    inr (
+      nvram one.0,
+      elim (dropped one.0 one.1 one.2) [
+        | inl still ↦ absurd (one.3 still)
+        | inr rose ↦ is_risen (old.disk (nvram one.0)).write_faults (new.disk (nvram one.0)).write_faults
+            (subst (λ (k : Disk). Rises (old.disk (nvram one.0)).write_faults k.write_faults) (sym (kept one.0)) rose)
+      ],
+      rises,
+      omega (arith, slots, fewer_set, most, enough, stores),
+    )
