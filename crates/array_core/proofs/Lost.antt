@@ -63,7 +63,7 @@ enough bad (f ∷ fs) a (suc n) each =
     some false false (inr e) = absurd (cc e)
 
 -- at most two drives of the shelf don't have such a flag
-few_lack : (shelf : Geometry) (missing : Conditions) (flags : List Bool) → IsBearable shelf missing → ((i : ℕ) → i < shelf.slots → missing (drive i) ≡ Sound → IsMember flags i) → shelf.slots ≤ set_count flags + 2
+pub few_lack : (shelf : Geometry) (missing : Conditions) (flags : List Bool) → IsBearable shelf missing → ((i : ℕ) → i < shelf.slots → missing (drive i) ≡ Sound → IsMember flags i) → shelf.slots ≤ set_count flags + 2
 few_lack shelf missing flags bears sound =
     omega (arith, bears.drives, enough (λ i. is_missing (missing (drive i))) flags 0 shelf.slots (λ i lt. subst (λ (k : ℕ). (is_missing (missing (drive k)) ≡ true) ⊎ IsMember flags i) (from_zero i) (each i lt)))
   where

@@ -104,6 +104,7 @@ impl Array {
         ensures room { OnOk result ((¬ (IsSpent self.old)) × (¬ (IsFull self.old))) }
         ensures fault { IfErr result (λ e. IsFaultOf (S.shelf shelf.old) (S.shelf shelf.new) self.old request.now ((self.new ≡ self.old) × (shelf.new ≡ shelf.old)) e) }
         ensures plain { OnOk result (self.new.plain ≡ after self.old.plain (record { request = request.now; sectors = sectors.now })) }
+        ensures applied { IfErr result (λ e. e ≡ Device → self.new.plain ≡ after self.old.plain (record { request = request.now; sectors = sectors.now })) }
         ensures moments { (S.shelf shelf.old).honest → LeavesOnly (S.shelf shelf.old) (S.shelf shelf.new) (IsCountedBy (S.shelf shelf.old)) }
         ensures count { OnOk result (self.new.log.count ≡ self.old.log.count + 1) }
         // A record is stored only where a device lost a write, and so three more at most, since two drives of the shelf at most may be missing then.

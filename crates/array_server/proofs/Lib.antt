@@ -1,3 +1,4 @@
 pub mod ReplyLemmas
 pub mod WholeLemmas
 pub mod MadeLemmas
+pub mod Points

@@ -1,10 +1,10 @@
 -- What words spell is within its bounds.
-use Rattle.std.proofs.Common.{◌≡◌, ℕ, zero, suc, ◌+◌, ◌-◌, ◌*◌, ◌<◌, ◌≤◌, ◌^◌, Bool, true, false, cond, leb, List, [], ◌∷◌, length, Option, Some, None, refl, sym, arith}
+use Rattle.std.proofs.Common.{◌≡◌, ℕ, zero, suc, ◌+◌, ◌-◌, ◌*◌, ◌<◌, ◌≤◌, ◌^◌, Bool, true, false, cond, leb, List, [], ◌∷◌, length, Option, Some, None, refl, sym, ap, ◌∙◌, arith}
 use Rattle.std.specs.Prelude.{IfSome, bytes_eq, codes, fold, ◌&&◌}
 use Rattle.std.specs.List.{list_all}
 use Rattle.std.specs.Char.{is_ascii_digit}
 use Rattle.std.proofs.lemmas.Bool.{and_parts, leb-true}
-use Rattle.std.proofs.Math.Nat.{pow-suc, pow-le-pow_right, mul-le-mul_right}
+use Rattle.std.proofs.Math.Nat.{pow-suc, pow-le-pow_right, mul-le-mul_right, mul_assoc, mul_comm}
 use Rattle.pur_base.specs.Names.{is_name}
 use Rattle.pur_base.specs.declared.request.Request.{Request}
 use Rattle.pur_base.specs.declared.request.Request.TheVariants as request
@@ -16,11 +16,15 @@ use Rattle.request_codec.specs.Spelled.{IsSpelledRequest, IsSpelledSpan}
 digits-below : (ds : List ℕ) (n : ℕ) → list_all is_ascii_digit ds ≡ true → fold (λ n c. n * 10 + (c - 48)) n ds < (n + 1) * 10 ^ length ds
 digits-below [] n h = omega arith
 digits-below (d ∷ ds) n h =
+    let p = 10 ^ length ds in
     let parts = and_parts _ _ h in
     let small : d ≤ 57 = leb-true _ _ (and_parts _ _ parts.0).1 in
-    let rest = digits-below ds (n * 10 + (d - 48)) parts.1 in
-    let step : (n * 10 + (d - 48) + 1) * 10 ^ length ds ≤ (n * 10 + 10) * 10 ^ length ds = mul-le-mul_right (10 ^ length ds) (omega (arith, small)) in
-    omega (arith, rest, step, pow-suc 10 (length ds))
+    let rest : fold (λ n c. n * 10 + (c - 48)) (n * 10 + (d - 48)) ds < (n * 10 + (d - 48) + 1) * p = digits-below ds (n * 10 + (d - 48)) parts.1 in
+    let step : (n * 10 + (d - 48) + 1) * p ≤ (n * 10 + 10) * p = mul-le-mul_right p (omega (arith, small)) in
+    let ten : (n + 1) * 10 ≡ n * 10 + 10 = omega arith in
+    let same : (n * 10 + 10) * p ≡ (n + 1) * 10 ^ length (d ∷ ds) =
+    ap (λ (x : ℕ). x * p) (sym ten) ∙ mul_assoc (n + 1) 10 p ∙ ap (λ (x : ℕ). (n + 1) * x) (mul_comm 10 p ∙ sym (pow-suc 10 (length ds))) in
+    omega (arith, rest, step, same)
 
 number-below : (word : List ℕ) → is_number word ≡ true → digits_number word < 10 ^ 15
 number-below word h =

@@ -2,7 +2,7 @@ use Rattle.std.proofs.Common.{ℕ, List, subst}
 use Rattle.world.proofs.Moments.{continues_trans}
 use Rattle.request_codec.proofs.CallLemmas.{both}
 use Rattle.array_server.specs.Made.{IsMadeOutput}
-use Rattle.array_server.specs.Serving.{RisesIf, is_sink}
+use Rattle.session_spec.specs.Ends.{RisesIf, is_sink}
 use Rattle.array_server.proofs.MadeLemmas.{made-is-init, made-not-halted, made-not-blank, made-not-memory, made-then, stays-on}
 use Rattle.array_server.proofs.making.init.Goals as goal
 
