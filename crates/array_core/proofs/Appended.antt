@@ -1,24 +1,26 @@
 -- A command was appended: what a stop leaves at each moment, and what the devices hold then.
-use Rattle.std.proofs.Common.{◌≡◌, ◌≢◌, inl, inr, ℕ, zero, suc, ◌+◌, ◌-◌, ◌^◌, ◌≤◌, ◌<◌, List, [], ◌∷◌, ◌++◌, length, take, refl, sym, subst, arith, Bool, true, false, length-append}
-use Rattle.std.specs.Prelude.{Some, Contains, slice_get}
+use Rattle.std.proofs.Common.{◌≡◌, ◌≢◌, inl, inr, ℕ, zero, suc, ◌+◌, ◌-◌, ◌^◌, ◌≤◌, ◌<◌, List, [], ◌∷◌, ◌++◌, length, take, refl, sym, ◌∙◌, ap, subst, arith, Bool, true, false, length-append}
+use Rattle.std.specs.Prelude.{Some, Contains, slice_get, slice_index}
 use Rattle.std.specs.List.{AllByRecursion}
 use Rattle.std.proofs.lemmas.Bool.{cases_lt}
 use Rattle.std.proofs.lemmas.List.{take_all, take_at, append-nil}
+use Rattle.pur_base.specs.Bytes.{IsBytes}
 use Rattle.pur_base.specs.declared.device.Device.{Device}
+use Rattle.pur_base.specs.declared.device.Device.TheVariants.{Drive, Nv}
 use Rattle.pur_base.specs.Devices.{Geometry, Image, Conditions, Sound, LeftOut, IsBearable, IsWithin, drive, nvram}
 use Rattle.pur_base.specs.Grammar.{is_in_force}
 use Rattle.pur_base.specs.Plain.{Array}
-use Rattle.pur_base.specs.Commands.{Command, Accepts, AllAccepted, after, after_all}
+use Rattle.pur_base.specs.Commands.{Command, AllAccepted, after_all}
 use Rattle.boot_codec.specs.declared.record.BootRecord.{BootRecord}
 use Rattle.boot_codec.specs.Spelling.{spelling}
 use Rattle.boot_codec.specs.Region.{BootSlot, IsRecordOf, body_in, generation_in, names, other_slot, shown_by, Yields}
 use Rattle.log_codec.specs.Log.{HasSpelling, ShowsIn}
 use Rattle.array_spec.specs.Standing.{Stands, MayBeGiven}
 use Rattle.array_spec.proofs.Settling.{twice_other}
-use Rattle.array_spec.proofs.Standings.{more_may_go_missing}
+use Rattle.array_spec.proofs.Standings.{more_may_go_missing, given_with_fewer}
 use Rattle.array_spec.proofs.UnflushedRead.{one_left}
 use Rattle.array_spec.proofs.Votes.{sound_before}
-use Rattle.world.specs.Losing.{geometry_of, has_risen}
+use Rattle.world.specs.Losing.{geometry_of, has_risen, losing}
 use Rattle.world.specs.Shelf.{Shelved, Stop, Disk, IsShelf, Continues, MayStop, MayLeave, LeavesOnly}
 use Rattle.world.specs.Writes.{MayLeaveBut, LeavesBut, WritesOnly}
 use Rattle.world.proofs.Moments.{started, then_run, weaker}
@@ -27,21 +29,40 @@ use Rattle.boot_region.specs.Storing.{IsInForceOn, IsOlder, StandsBut, AccountsF
 use Rattle.boot_region.proofs.Accounts.{losing_within}
 use Rattle.boot_region.proofs.Composing.{as_it_is}
 use Rattle.boot_region.proofs.Phases.{risen_on_way}
-use Rattle.boot_region.proofs.ShownLemmas.{as_read}
+use Rattle.boot_region.proofs.ShownLemmas.{as_read, member_below}
 use Rattle.nvram_log.specs.declared.log.NvLog.{NvLog}
 use Rattle.nvram_log.specs.Held.{HoldsOn, Keeps, LeavesBetween}
 use Rattle.nvram_log.specs.Members as nv
 use Rattle.nvram_log.proofs.Lists.{get_either}
 use Rattle.register.specs.declared.state.Register.{Register}
-use Rattle.register.specs.Registers.{drives_of, own_slot, next_slot, named_sound}
-use Rattle.register.specs.Standing.{StandsInLog, MayStore, IsOpen}
+use Rattle.register.specs.Registers.{OnSlots, drives_of, own_slot, next_slot, named_sound}
+use Rattle.register.specs.Standing.{StandsInLog, MayStore, IsOpen, IsNextOf, GivesOldOrNext}
+use Rattle.session_spec.specs.Entering.{IsStanding}
 use Rattle.array_core.specs.Losing.{lost_since, lost_by}
-use Rattle.array_core.specs.Performing.{StandsMeanwhile, without_or_with}
+use Rattle.array_core.specs.Performing.{IsKeptAt, without_or_with}
+use Rattle.array_core.proofs.Agreeing.{agreed_standing, named_bears}
+use Rattle.array_core.proofs.Commands.{is_of_all}
 use Rattle.array_core.proofs.Losses.{same_geometry, sound_since, left_out_since, by_stop, fewer_borne, bearable_or_not}
 use Rattle.array_core.proofs.HeldBy as by
 
 nothing_else : {W : ℕ → Type 0} {disk : Disk} {bytes : List ℕ} → ((i : ℕ) → W i → ⊥) → MayLeaveBut W disk bytes → MayLeave disk bytes
 nothing_else none h = record { size = h.size; is_byte = h.is_byte; clean = λ i out. h.same i out (none i) }
+
+-- what a stop leaves of NVRAM devices, with the drives as they are
+abbrev nvrams_at : Shelved → Stop → Image
+nvrams_at m stop (Drive d) = (m.disk (Drive d)).bytes
+nvrams_at m stop (Nv n) = stop.image (Nv n)
+
+at_nvrams : (m : Shelved) (stop : Stop) → ((d : Device) (i : ℕ) → slice_index (m.disk d).bytes i < 256) → ((k : ℕ) → MayLeave (m.disk (nvram k)) (stop.image (nvram k))) → (d : Device) → MayLeave (m.disk d) (nvrams_at m stop d)
+at_nvrams m stop bytes left (Drive d) = record { size = refl; is_byte = λ i. bytes (Drive d) i; clean = λ i out. refl }
+at_nvrams m stop bytes left (Nv n) = left n.0
+
+-- a store of a record writes on no NVRAM device
+pub off_nvrams : (members : List Bool) (k i : ℕ) → OnSlots members (nvram k) i → ⊥
+off_nvrams members k i (inl (inl x)) = x
+off_nvrams members k i (inl (inr x)) = x
+off_nvrams members k i (inr (inl x)) = x
+off_nvrams members k i (inr (inr x)) = x
 
 -- two things at once are true of each stop
 both_leave : {a b : Shelved} {P Q : Stop → Type 0} → LeavesOnly a b P → LeavesOnly a b Q → LeavesOnly a b (λ stop. P stop × Q stop)
@@ -92,12 +113,88 @@ first_too : (a b x : Array) → Contains (a ∷ []) x → Contains (a ∷ b ∷ 
 first_too a b x (zero, lt, e) = (zero, omega arith, e)
 first_too a b x (suc k, lt, e) = absurd (omega (arith, lt))
 
+-- the record has no patches, has flushed as much, and names no device that the other one doesn't name
+pub record IsAlike (boot other : BootRecord) : Type 0 where
+  pub patches : other.patches ≡ []
+  pub flushed : other.flushed ≡ boot.flushed
+  pub fewer : (d : Device) → names other d ≡ true → names boot d ≡ true
+
+pub same_alike : {a : Shelved} (r : Register) {members : List Bool} {cmds : List Command} → IsOpen a r members cmds → (boot : BootRecord) → boot ≡ r.record → IsAlike r.record boot
+same_alike r o boot same = record {
+  patches = subst (λ (b : BootRecord). b.patches ≡ []) (sym same) o.logged.patches;
+  flushed = ap (λ (b : BootRecord). b.flushed) same;
+  fewer = λ d e. subst (λ (b : BootRecord). names b d ≡ true) same e;
+}
+
+-- a device is named or not
+unnamed : (b : Bool) → (b ≡ true → ⊥) → b ≡ false
+unnamed true not = absurd (not refl)
+unnamed false not = refl
+
+both_not : (b : Bool) → b ≡ true → b ≡ false → ⊥
+both_not b e f = cc (e, f)
+
+-- where no other records may be given, and the devices of the log show commands of forms in force alone, a session can go on
+module _ (a : Shelved) (r : Register) (members : List Bool) (cmds most : List Command) (o : IsOpen a r members cmds) (in_force : AllByRecursion (λ c. is_in_force c.request ≡ true) most) where
+  there : (n : ℕ) → names r.record (nvram n) ≡ true → (n < 2) × nv.IsMember members n
+  there n e = (omega (arith, member_below r.record.members.nvrams n e, o.logged.is_of.lawful.lawful.members.nvram_flags), subst (λ (l : List Bool). nv.IsMember l n) o.nvrams_are e)
+
+  module _ (image : Image) (failed : Device → Bool)
+      (no_other : (n i : ℕ) (c : Command) → n < 2 → nv.IsMember members n → ShowsIn (image (nvram n)) r.record.flushed i c → slice_get most i ≡ Some c)
+      (given : (slot : BootSlot) (boot : BootRecord) → MayBeGiven (geometry_of a) image (losing failed (named_sound r.record)) slot boot → IsAlike r.record boot) where
+    shown_in_force : (boot : BootRecord) → IsAlike r.record boot → (n i : ℕ) (c : Command) → names boot (nvram n) ≡ true → ShowsIn (image (nvram n)) boot.flushed i c → is_in_force c.request ≡ true
+    shown_in_force boot like n i c e shows =
+        let at = there n (like.fewer (nvram n) e) in
+        is_of_all (λ (x : Command). is_in_force x.request ≡ true) most in_force i c
+        (no_other n i c at.0 at.1 (subst (λ (f : ℕ). ShowsIn (image (nvram n)) f i c) like.flushed shows))
+
+    pub can_go_on : (arrays : List Array) → Stands (geometry_of a) image (losing failed (named_sound r.record)) arrays → IsStanding (geometry_of a) image (losing failed (named_sound r.record)) arrays
+    can_go_on arrays stands = record {
+      stands = stands;
+      left_out = λ d out slot boot g.
+          let not : names r.record d ≡ false = by.is_left (names r.record d) (left_out_since (failed d) (named_sound r.record d) out) in
+          unnamed (names boot d) (λ e. both_not (names r.record d) ((given slot boot g).fewer d e) not);
+      read = record {
+        unflushed = λ slot boot g. (given slot boot g).patches;
+        in_force = λ slot boot g n i c e shows. shown_in_force boot (given slot boot g) n i c e shows;
+      };
+    }
+
+-- at a stop a session can go on in the conditions of the record
+abbrev KeptNamed : Shelved → BootRecord → List Array → Stop → Type 0
+KeptNamed a boot arrays stop = IsBearable (geometry_of a) (lost_by a stop (named_sound boot)) → IsStanding (geometry_of a) stop.image (lost_by a stop (named_sound boot)) arrays
+
+-- and so in all that agree with it
+kept : (a : Shelved) (boot : BootRecord) (arrays : List Array) (stop : Stop) → ((d : Device) → IsBytes (stop.image d)) → KeptNamed a boot arrays stop → IsKeptAt a boot arrays stop
+kept a boot arrays stop bytes here now agrees borne =
+    let failed : Device → Bool = λ d. has_risen (a.disk d).write_faults (stop.write_faults d) in
+    agreed_standing boot now agrees failed (geometry_of a) stop.image bytes arrays borne (here (named_bears boot now agrees failed (geometry_of a) borne))
+
 -- while nothing is done
-pub nothing_done : (a : Shelved) (r : Register) (members : List Bool) (cmds : List Command) (c : Command) → IsShelf a → IsOpen a r members cmds → LeavesOnly a a (StandsMeanwhile a r.record (without_or_with cmds c))
-nothing_done a r members cmds c is o = started a (StandsMeanwhile a r.record (without_or_with cmds c)) is (λ stop may borne.
-    widen (geometry_of a) stop.image (lost_by a stop (named_sound r.record)) (after_all [] cmds ∷ []) (without_or_with cmds c) (first_too (after_all [] cmds) (after_all [] (cmds ++ c ∷ []))) (λ e. cc e)
-    (more_may_go_missing (geometry_of a) stop.image (named_sound r.record) (lost_by a stop (named_sound r.record)) (after_all [] cmds ∷ [])
-    (losing_within (λ d. has_risen (a.disk d).write_faults (stop.write_faults d)) (named_sound r.record)) borne (o.stands stop may)))
+module _ (a : Shelved) (r : Register) (members : List Bool) (cmds : List Command) (o : IsOpen a r members cmds) (in_force : AllByRecursion (λ c. is_in_force c.request ≡ true) cmds) where
+  held_now : (stop : Stop) → MayStop a stop → (n i : ℕ) (c : Command) → n < 2 → nv.IsMember members n → ShowsIn (stop.image (nvram n)) r.record.flushed i c → slice_get cmds i ≡ Some c
+  held_now stop may n i c lt m shows =
+      let bytes : stop.image (nvram n) ≡ (a.disk (nvram n)).bytes = as_read (a.disk (nvram n)) (stop.image (nvram n)) (o.logged.holds.clean n lt m) (may.device (nvram n)) in
+      (o.logged.holds.log n lt m).between.no_other i c (subst (λ (b : List ℕ). ShowsIn b r.record.flushed i c) bytes shows)
+
+  -- though devices have gone missing
+  pub open_stands : (stop : Stop) → MayStop a stop → (failed : Device → Bool) → IsBearable (geometry_of a) (losing failed (named_sound r.record))
+      → IsStanding (geometry_of a) stop.image (losing failed (named_sound r.record)) (after_all [] cmds ∷ [])
+  open_stands stop may failed borne =
+      let within : IsWithin (named_sound r.record) (losing failed (named_sound r.record)) = losing_within failed (named_sound r.record) in
+      can_go_on a r members cmds cmds o in_force stop.image failed (held_now stop may)
+      (λ slot boot g. same_alike r o boot (o.alone stop slot boot may (given_with_fewer within g)).1)
+      (after_all [] cmds ∷ [])
+      (more_may_go_missing (geometry_of a) stop.image (named_sound r.record) (losing failed (named_sound r.record)) (after_all [] cmds ∷ []) within borne (o.stands stop may))
+
+  pub nothing_done : (c : Command) → IsShelf a → LeavesOnly a a (IsKeptAt a r.record (without_or_with cmds c))
+  nothing_done c is = started a (IsKeptAt a r.record (without_or_with cmds c)) is (λ stop may. kept a r.record (without_or_with cmds c) stop (λ d. (may.device d).is_byte) (λ borne.
+      let now = open_stands stop may (λ d. has_risen (a.disk d).write_faults (stop.write_faults d)) borne in
+      record {
+        stands = widen (geometry_of a) stop.image (lost_by a stop (named_sound r.record)) (after_all [] cmds ∷ []) (without_or_with cmds c) (first_too (after_all [] cmds) (after_all [] (cmds ++ c ∷ []))) (λ e. cc e) now.stands;
+        left_out = now.left_out;
+        read = now.read;
+      }))
 
 -- an NVRAM device holds the log
 pub some_member : {a : Shelved} (r : Register) (members : List Bool) {cmds : List Command} → IsOpen a r members cmds → nv.IsSome members
@@ -105,20 +202,6 @@ some_member r members o = elim (one_left (named_sound r.record (nvram 0)) (named
   | inl s ↦ inl (subst (λ (l : List Bool). nv.IsMember l 0) o.nvrams_are (by.is_named (names r.record (nvram 0)) s))
   | inr s ↦ inr (subst (λ (l : List Bool). nv.IsMember l 1) o.nvrams_are (by.is_named (names r.record (nvram 1)) s))
 ]
-
--- one more accepted command
-pub accept_last : (a : Array) (cmds : List Command) (c : Command) → AllAccepted a cmds → Accepts (after_all a cmds) c → AllAccepted a (cmds ++ c ∷ [])
-accept_last a [] c all fine = (fine, tt)
-accept_last a (d ∷ ds) c all fine = (all.0, accept_last (after a d) ds c all.1 fine)
-
-pub after_last : (a : Array) (cmds : List Command) (c : Command) → after_all a (cmds ++ c ∷ []) ≡ after (after_all a cmds) c
-after_last a [] c = refl
-after_last a (d ∷ ds) c = after_last (after a d) ds c
-
--- one more command of a form in force
-pub all_and_last : (cmds : List Command) (c : Command) → AllByRecursion (λ x. is_in_force x.request ≡ true) cmds → is_in_force c.request ≡ true → AllByRecursion (λ x. is_in_force x.request ≡ true) (cmds ++ c ∷ [])
-all_and_last [] c all is = (is, tt)
-all_and_last (d ∷ ds) c all is = (all.0, all_and_last ds c all.1 is)
 
 -- the last of a list that has one more
 last_is : (i : ℕ) (c d : Command) → slice_get (c ∷ []) i ≡ Some d → (i ≡ 0) × (c ≡ d)
@@ -141,6 +224,7 @@ pub record IsAppending (a m : Shelved) (r : Register) (members now : List Bool) 
   pub accepted : AllAccepted [] (cmds ++ c ∷ [])
   pub room : length (cmds ++ c ∷ []) ≤ 64
   pub spelled : HasSpelling (r.record.flushed + 1 + length cmds) c
+  pub in_force : AllByRecursion (λ x. is_in_force x.request ≡ true) (cmds ++ c ∷ [])
 
 module _ (a m : Shelved) (r : Register) (members now : List Bool) (cmds : List Command) (c : Command) (p : IsAppending a m r members now cmds c) where
   abbrev shelf : Geometry
@@ -185,18 +269,22 @@ module _ (a m : Shelved) (r : Register) (members now : List Bool) (cmds : List C
   drive_left : (i : ℕ) → IsMember (drives_of r) i → (bytes : List ℕ) → MayLeave (a.disk (drive i)) bytes → bytes ≡ (a.disk (drive i)).bytes
   drive_left i mem bytes may = as_read (a.disk (drive i)) bytes (p.was_open.in_force.clean i mem (by.force_sound r p.was_open i mem)) may
 
-  while_appending : (stop : Stop) → LeavesBetween members r.record.flushed cmds most stop × LeavesBut (nv.OnMembers members) a stop → StandsMeanwhile a r.record arrays stop
+  while_appending : (stop : Stop) → LeavesBetween members r.record.flushed cmds most stop × LeavesBut (nv.OnMembers members) a stop → KeptNamed a r.record arrays stop
   while_appending stop both bears =
+      let failed : Device → Bool = λ d. has_risen (a.disk d).write_faults (stop.write_faults d) in
       let later = lost_by a stop (named_sound r.record) in
-      let within = losing_within (λ d. has_risen (a.disk d).write_faults (stop.write_faults d)) (named_sound r.record) in
+      let within = losing_within failed (named_sound r.record) in
       let drive_is : (i : ℕ) → IsMember (drives_of r) i → stop.image (drive i) ≡ (a.disk (drive i)).bytes = λ i mem. drive_left i mem (stop.image (drive i)) (nothing_else (λ k w. w) (both.1.bytes (drive i))) in
-      by.stands a p.is r members cmds p.was_open stop.image later within bears drive_is cmds most arrays p.not_spent p.accepted (c ∷ [], refl) p.room spelled_all
+      can_go_on a r members cmds most p.was_open p.in_force stop.image failed (λ n i d lt mem x. (both.0 n lt mem).no_other i d x)
+      (λ slot boot g. same_alike r p.was_open boot (by.alone a p.is r members cmds p.was_open stop.image later within bears drive_is slot boot g).1)
+      arrays
+      (by.stands a p.is r members cmds p.was_open stop.image later within bears drive_is cmds most arrays p.not_spent p.accepted (c ∷ [], refl) p.room spelled_all
       (λ n i d lt s at. (both.0 n lt (by.member_of a p.is r members cmds p.was_open stop.image later within bears drive_is n s)).all i d at)
       (λ n i d lt mem x. (both.0 n lt mem).no_other i d x)
-      (λ e. cc e) fronts
+      (λ e. cc e) fronts)
 
-  pub append_moments : LeavesOnly a m (StandsMeanwhile a r.record arrays)
-  append_moments = weaker while_appending (both_leave p.left p.writes.any_moment)
+  pub append_moments : LeavesOnly a m (IsKeptAt a r.record arrays)
+  append_moments = weaker (λ stop both. kept a r.record arrays stop (λ d. (both.1.bytes d).is_byte) (while_appending stop both)) (both_leave p.left p.writes.any_moment)
 
   -- ---- afterwards
 
@@ -309,36 +397,69 @@ module _ (a m : Shelved) (r : Register) (members now : List Bool) (cmds : List C
         left_out = left_out_not;
       }
 
-      -- a stop while the record is stored
-      while_storing : (W : Device → ℕ → Type 0) (stop : Stop) → StandsBut m (drives_of r) (lost_since a m (named_sound r.record)) (next_slot r.record) r.record arrays stop × LeavesBut W m stop → StandsMeanwhile a r.record arrays stop
-      while_storing W stop both borne =
-          let later = lost_by a stop (named_sound r.record) in
-          let account : AccountsFor m (drives_of r) lost (next_slot r.record) (spelling r.record) stop.faults stop.write_faults later = record {
-            within = by_stop a m stop (named_sound r.record) both.1.counts;
-            bearable = subst (λ (g : Geometry). IsBearable g later) (same_geometry p.on) borne;
-            writes = λ i mem s.
-                let none = (sound_since (has_risen (a.disk (drive i)).write_faults (stop.write_faults (drive i))) (named_sound r.record (drive i)) s).1 in
-                inr (subst (λ (d : Disk). has_risen d.write_faults (stop.write_faults (drive i)) ≡ false) (sym (p.same i)) none);
-            reads = λ i mem s. inl (older i mem);
-          } in
-          subst (λ (g : Geometry). Stands g stop.image later arrays) (sym (same_geometry p.on)) (both.0 later account)
+      next_alike : (boot : BootRecord) → IsNextOf r now boot → IsAlike r.record boot
+      next_alike boot next = record {
+        patches = ap (λ (b : BootRecord). b.patches) next.later.rest ∙ p.was_open.logged.patches;
+        flushed = ap (λ (b : BootRecord). b.flushed) next.later.rest;
+        fewer = λ d e. fewer_named d e;
+      }
+        where
+          fewer_named : (d : Device) → names boot d ≡ true → names r.record d ≡ true
+          fewer_named (Drive d) e = p.was_open.logged.is_of.named d.0 (next.drives d.0 e)
+          fewer_named (Nv n) e = subst (λ (l : List Bool). nv.IsMember l n.0) (sym p.was_open.nvrams_are) (p.fewer n.0 (subst (λ (l : List Bool). nv.IsMember l n.0) next.nvrams_are e))
 
-    module _ (n : Shelved) {W : Device → ℕ → Type 0} (writes : WritesOnly W m n)
-        (storing : (missing : Conditions) (log : List Command) (others : List Array) → MayStore m r now missing log others → LeavesOnly m n (StandsBut m (drives_of r) missing (next_slot r.record) r.record others)) where
-      store_moments : LeavesOnly m n (StandsMeanwhile a r.record arrays)
+      -- a stop while the record is stored
+      module _ {W : Device → ℕ → Type 0} (off : (k i : ℕ) → W (nvram k) i → ⊥) where
+        still_between : (stop : Stop) → LeavesBut W m stop → LeavesBetween members r.record.flushed cmds most stop
+        still_between stop left n lt mem =
+            let there : Stop = record { image = nvrams_at m stop; faults = λ d. (m.disk d).faults; write_faults = λ d. (m.disk d).write_faults; output = m.output; taken = m.taken } in
+            let may : MayStop m there = record {
+              device = λ d. at_nvrams m stop (λ e i. p.is_mid.bytes (p.on.honest p.honest) e i) (λ k. nothing_else (off k) (left.bytes (nvram k))) d;
+              counts = record { faults = λ d. omega arith; write_faults = λ d. omega arith };
+              output = refl;
+              taken = refl;
+            } in
+            (p.left.each there (p.is_mid.counts_now a.moment there p.on.later may)).1 n lt mem
+
+        while_storing : (stop : Stop) → (StandsBut m (drives_of r) (lost_since a m (named_sound r.record)) (next_slot r.record) r.record arrays stop × GivesOldOrNext m r now (lost_since a m (named_sound r.record)) stop) × LeavesBut W m stop → KeptNamed a r.record arrays stop
+        while_storing stop both borne =
+            let failed : Device → Bool = λ d. has_risen (a.disk d).write_faults (stop.write_faults d) in
+            let later = lost_by a stop (named_sound r.record) in
+            let account : AccountsFor m (drives_of r) lost (next_slot r.record) (spelling r.record) stop.faults stop.write_faults later = record {
+              within = by_stop a m stop (named_sound r.record) both.1.counts;
+              bearable = subst (λ (g : Geometry). IsBearable g later) (same_geometry p.on) borne;
+              writes = λ i mem s.
+                  let none = (sound_since (has_risen (a.disk (drive i)).write_faults (stop.write_faults (drive i))) (named_sound r.record (drive i)) s).1 in
+                  inr (subst (λ (d : Disk). has_risen d.write_faults (stop.write_faults (drive i)) ≡ false) (sym (p.same i)) none);
+              reads = λ i mem s. inl (older i mem);
+            } in
+            can_go_on a r members cmds most p.was_open p.in_force stop.image failed (λ n i d lt mem x. (still_between stop both.1 n lt mem).no_other i d x)
+            (λ slot boot g. elim (both.0.1 later account slot boot (subst (λ (k : Geometry). MayBeGiven k stop.image later slot boot) (same_geometry p.on) g)) [
+              | inl was ↦ same_alike r p.was_open boot (alone_then lost lost_within bears still_member was.start was.may slot boot was.given).1
+              | inr next ↦ next_alike boot next
+            ])
+            arrays
+            (subst (λ (g : Geometry). Stands g stop.image later arrays) (sym (same_geometry p.on)) (both.0.0 later account))
+
+    module _ (n : Shelved) {W : Device → ℕ → Type 0} (off : (k i : ℕ) → W (nvram k) i → ⊥) (writes : WritesOnly W m n)
+        (storing : (missing : Conditions) (log : List Command) (others : List Array) → MayStore m r now missing log others → LeavesOnly m n (StandsBut m (drives_of r) missing (next_slot r.record) r.record others))
+        (giving : (missing : Conditions) (log : List Command) (others : List Array) → MayStore m r now missing log others → LeavesOnly m n (GivesOldOrNext m r now missing)) where
+      store_moments : LeavesOnly m n (IsKeptAt a r.record arrays)
       store_moments = elim (bearable_or_not (geometry_of a) (lost_since a m (named_sound r.record))) [
-        | inl bears ↦ weaker (while_storing bears W) (both_leave (storing lost most arrays (may_store bears)) writes.any_moment)
-        | inr not ↦ weaker (λ stop left borne. absurd (not (fewer_borne (geometry_of a) lost (lost_by a stop (named_sound r.record)) (by_stop a m stop (named_sound r.record) left.counts) borne))) writes.any_moment
+        | inl bears ↦ weaker (λ stop both. kept a r.record arrays stop (λ d. (both.1.bytes d).is_byte) (while_storing bears off stop both)) (both_leave (both_leave (storing lost most arrays (may_store bears)) (giving lost most arrays (may_store bears))) writes.any_moment)
+        | inr not ↦ weaker (λ stop left now agrees borne.
+            let named = named_bears r.record now agrees (λ d. has_risen (a.disk d).write_faults (stop.write_faults d)) (geometry_of a) borne in
+            absurd (not (fewer_borne (geometry_of a) lost (lost_by a stop (named_sound r.record)) (by_stop a m stop (named_sound r.record) left.counts) named))) writes.any_moment
       ]
 
-      pub all_moments : LeavesOnly a n (StandsMeanwhile a r.record arrays)
+      pub all_moments : LeavesOnly a n (IsKeptAt a r.record arrays)
       all_moments = then_run p.on append_moments store_moments
 
 -- what the calls say of a command that is appended
 pub appending : (a m : Shelved) (r : Register) (log : NvLog) (now : List Bool) (cmds : List Command) (c : Command) → IsShelf a → IsShelf m → a.honest → Continues a m → IsOpen a r log.members cmds → Keeps log cmds
     → r.record.generation < 2 ^ 48 - 2 ^ 24 → log.count < 64 → log.flushed ≡ r.record.flushed → AllAccepted [] (cmds ++ c ∷ []) → ((i : ℕ) → m.disk (drive i) ≡ a.disk (drive i)) → nv.IsFewer log.members now → nv.DroppedFailed a m log.members now
-    → LeavesOnly a m (LeavesBetween log.members log.flushed cmds (cmds ++ c ∷ [])) → WritesOnly (nv.OnMembers log.members) a m → HasSpelling (log.flushed + 1 + (log.count + 0)) c → IsAppending a m r log.members now cmds c
-appending a m r log now cmds c is is_mid h on o keeps low free flushed accepted same fewer dropped left writes spelled = record {
+    → LeavesOnly a m (LeavesBetween log.members log.flushed cmds (cmds ++ c ∷ [])) → WritesOnly (nv.OnMembers log.members) a m → HasSpelling (log.flushed + 1 + (log.count + 0)) c → AllByRecursion (λ x. is_in_force x.request ≡ true) (cmds ++ c ∷ []) → IsAppending a m r log.members now cmds c
+appending a m r log now cmds c is is_mid h on o keeps low free flushed accepted same fewer dropped left writes spelled in_force = record {
   is = is;
   is_mid = is_mid;
   honest = h;
@@ -355,6 +476,7 @@ appending a m r log now cmds c is is_mid h on o keeps low free flushed accepted 
   spelled =
       let e : log.flushed + 1 + (log.count + 0) ≡ r.record.flushed + 1 + length cmds = omega (arith, flushed, keeps.count) in
       subst (λ (k : ℕ). HasSpelling k c) e spelled;
+  in_force = in_force;
 }
 
 -- the log that was held before it is appended to

@@ -1,5 +1,7 @@
 pub mod Losses
 pub mod HeldBy
+pub mod Commands
+pub mod Agreeing
 pub mod Appended
 pub mod Lost
 pub mod Dropped

@@ -1,11 +1,10 @@
 -- What is known of an array that is ready.
-use Rattle.std.proofs.Common.{◌≡◌, inl, inr, ℕ, zero, suc, ◌<◌, List, [], ◌∷◌, sym, subst, arith, Bool, true, false}
-use Rattle.std.specs.Prelude.{Some, slice_get}
+use Rattle.std.proofs.Common.{refl, ◌≡◌, inl, inr, ℕ, ◌<◌, List, [], ◌∷◌, sym, subst, arith, Bool, true, false}
 use Rattle.std.specs.List.{AllByRecursion}
 use Rattle.std.proofs.lemmas.Bool.{cases_lt}
 use Rattle.pur_base.specs.declared.device.Device.{Device}
 use Rattle.pur_base.specs.declared.device.Device.TheVariants.{Drive, Nv}
-use Rattle.pur_base.specs.Devices.{Sound, IsBearable, drive, nvram}
+use Rattle.pur_base.specs.Devices.{Sound, IsBearable, drive, nvram, Conditions, LeftOut}
 use Rattle.pur_base.specs.Grammar.{is_in_force}
 use Rattle.pur_base.specs.Plain as plain
 use Rattle.pur_base.specs.Commands.{Command, after_all}
@@ -13,9 +12,10 @@ use Rattle.boot_codec.specs.declared.record.BootRecord.{BootRecord}
 use Rattle.boot_codec.specs.Region.{names}
 use Rattle.log_codec.specs.Log.{ShowsIn}
 use Rattle.array_spec.specs.Standing.{Stands}
-use Rattle.world.specs.Losing.{geometry_of}
+use Rattle.world.specs.Losing.{geometry_of, has_risen}
 use Rattle.world.specs.Shelf.{Shelved, Stop, MayStop}
 use Rattle.boot_region.specs.Members.{IsMember}
+use Rattle.boot_region.proofs.Phases.{risen_on_way}
 use Rattle.boot_region.proofs.ShownLemmas.{as_read, member_below}
 use Rattle.nvram_log.specs.Held.{Keeps}
 use Rattle.nvram_log.specs.Members as nv
@@ -26,17 +26,12 @@ use Rattle.register.proofs.FlagLemmas.{in_cut, cut_in, none_past}
 use Rattle.session_spec.specs.Entering.{IsStanding, LeftOutAreNamedByNone, AreRead}
 use Rattle.array_core.specs.declared.array.Array.{Array}
 use Rattle.array_core.specs.Ready.{IsReady}
-use Rattle.array_core.specs.Holding.{IsHolder, NoneJoins}
+use Rattle.array_core.specs.Holding.{IsHolder, DropsFailed, NoneJoins, AgreesWith}
+use Rattle.array_core.specs.Losing.{lost_since}
+use Rattle.array_core.proofs.Agreeing.{standing_in, named_is, unnamed_is}
+use Rattle.array_core.proofs.Commands.{is_of_all}
+use Rattle.array_core.proofs.Losses.{sound_since, left_out_since}
 use Rattle.array_core.proofs.HeldBy as by
-
--- one of the commands
-pub is_of_all : (P : Command → Type 0) (commands : List Command) → AllByRecursion P commands → (i : ℕ) (c : Command) → slice_get commands i ≡ Some c → P c
-is_of_all P [] all i c at = absurd (cc at)
-is_of_all P (d ∷ ds) all zero c at = subst P (same at) all.0
-  where
-    same : slice_get (d ∷ ds) 0 ≡ Some c → d ≡ c
-    same e = cc e
-is_of_all P (d ∷ ds) all (suc i) c at = is_of_all P ds all.1 i c at
 
 module _ (shelf : Shelved) (a : Array) (commands : List Command) (ready : IsReady shelf a commands) where
   abbrev r : Register
@@ -107,6 +102,41 @@ module _ (shelf : Shelved) (a : Array) (commands : List Command) (ready : IsRead
       left_out = left_out;
       read = read;
     }
+
+  -- so in all conditions that agree with the record
+  pub ready_stands_in : (now : Conditions) → AgreesWith r.record now → IsBearable (geometry_of shelf) now → (stop : Stop) → MayStop shelf stop → IsStanding (geometry_of shelf) stop.image now (a.plain ∷ [])
+  ready_stands_in now agrees bears stop may =
+      standing_in (geometry_of shelf) stop.image (named_sound r.record) now (λ d e. named_is (names r.record d) (agrees.sound d e)) (λ d e. unnamed_is (names r.record d) (agrees.left_out d e)) bears
+      (λ d. (may.device d).is_byte) (a.plain ∷ []) (ready_stands stop may)
+
+  pub agreed_is_clean : (now : Conditions) → AgreesWith r.record now → (d : Device) → now d ≡ Sound → (shelf.disk d).dirty ≡ []
+  agreed_is_clean now agrees d s = ready_is_clean d (named_is (names r.record d) (agrees.sound d s))
+
+-- the record's own conditions agree with it
+pub agrees_named : (boot : BootRecord) → AgreesWith boot (named_sound boot)
+agrees_named boot = record { sound = λ d e. by.is_named (names boot d) e; left_out = λ d e. by.is_left (names boot d) e }
+
+-- and after a command they agree with the record then, where devices that lost a write went missing
+pub agrees_after : (old new : Shelved) (was now : Array) (commands more : List Command) → IsReady old was commands → IsReady new now more → DropsFailed old new was now → NoneJoins was now
+    → (conditions : Conditions) → AgreesWith was.register.record conditions → AgreesWith now.register.record (lost_since old new conditions)
+agrees_after old new was now commands more ready ready_now drops none conditions agrees = record { sound = λ d e. still_named d e; left_out = λ d e. still_unnamed d e }
+  where
+    still_named : (d : Device) → lost_since old new conditions d ≡ Sound → names now.register.record d ≡ true
+    still_named d e =
+        let before = sound_since (has_risen (old.disk d).write_faults (new.disk d).write_faults) (conditions d) e in
+        elim (drops d (ready_holds old was commands ready d (agrees.sound d before.0))) [
+          | inl h ↦ ready_names new now more ready_now d h
+          | inr rose ↦ absurd (risen_on_way (old.disk d).write_faults (old.disk d).write_faults (new.disk d).write_faults (new.disk d).write_faults (omega arith) rose (omega arith) before.1)
+        ]
+
+    unnamed : (b c : Bool) → (b ≡ true → c ≡ true) → c ≡ false → b ≡ false
+    unnamed true c to e = absurd (cc (to refl, e))
+    unnamed false c to e = refl
+
+    still_unnamed : (d : Device) → lost_since old new conditions d ≡ LeftOut → names now.register.record d ≡ false
+    still_unnamed d e =
+        let before = left_out_since (has_risen (old.disk d).write_faults (new.disk d).write_faults) (conditions d) e in
+        unnamed (names now.register.record d) (names was.register.record d) (named_before old was commands ready now none d) (agrees.left_out d before)
 
 -- an opening makes a ready array
 pub made_ready : (shelf : Shelved) (a : Array) (commands : List Command) → IsOpen shelf a.register a.log.members commands → Keeps a.log commands → a.log.flushed ≡ a.register.record.flushed

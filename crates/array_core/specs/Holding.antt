@@ -1,7 +1,9 @@
 -- Which devices hold the array, and how they come to hold it no more.
-use Rattle.std.specs.Prelude.{◌≡◌, ◌⊎◌, true}
+use Rattle.std.specs.Prelude.{◌≡◌, ◌⊎◌, true, false}
 use Rattle.pur_base.specs.declared.device.Device.{Device}
 use Rattle.pur_base.specs.declared.device.Device.TheVariants.{Drive, Nv}
+use Rattle.pur_base.specs.Devices.{Conditions, Sound, LeftOut}
+use Rattle.boot_codec.specs.declared.record.BootRecord.{BootRecord}
 use Rattle.boot_codec.specs.Region.{names}
 use Rattle.world.specs.Counts.{Rises}
 use Rattle.world.specs.Shelf.{Shelved}
@@ -23,3 +25,8 @@ DropsFailed old new was now = (d : Device) → IsHolder was d → IsHolder now d
 pub record NoneJoins (was now : Array) : Type 0 where
   pub holders : (d : Device) → IsHolder now d → IsHolder was d
   pub named : (d : Device) → names now.register.record d ≡ true → (names was.register.record d ≡ true) ⊎ IsHolder was d
+
+-- the conditions agree with the record: it names each device that is sound, and none that was left out
+pub record AgreesWith (boot : BootRecord) (now : Conditions) : Type 0 where
+  pub sound : (d : Device) → now d ≡ Sound → names boot d ≡ true
+  pub left_out : (d : Device) → now d ≡ LeftOut → names boot d ≡ false

@@ -1,13 +1,12 @@
 -- What performing a command does to the devices.
 use Rattle.std.specs.Prelude.{◌≡◌, ◌⊎◌, ℕ, ◌+◌, ◌-◌, ◌^◌, ◌<◌, ◌≤◌, Bool, List, [], ◌∷◌, ◌++◌}
 use Rattle.pur_base.specs.Commands.{Command, after_all}
-use Rattle.pur_base.specs.Devices.{IsBearable, nvram}
+use Rattle.pur_base.specs.Devices.{IsBearable, nvram, Conditions}
 use Rattle.pur_base.specs.Plain as plain
 use Rattle.pur_base.specs.declared.request.Request.{Request}
 use Rattle.boot_codec.specs.declared.record.BootRecord.{BootRecord}
 use Rattle.boot_codec.specs.Record.{set_count}
 use Rattle.log_codec.specs.declared.limits.TheConstants.{LOG_SLOTS}
-use Rattle.array_spec.specs.Standing.{Stands}
 use Rattle.array_model.specs.Step.{IsCreate}
 use Rattle.world.specs.Counts.{Rises}
 use Rattle.world.specs.Losing.{geometry_of}
@@ -15,19 +14,21 @@ use Rattle.world.specs.Shelf.{Shelved, Stop}
 use Rattle.boot_region.specs.Members.{DroppedFailed}
 use Rattle.nvram_log.specs.Members.{IsMember}
 use Rattle.register.specs.declared.state.Register.{Register}
-use Rattle.register.specs.Registers.{drives_of, named_sound}
+use Rattle.register.specs.Registers.{drives_of}
+use Rattle.session_spec.specs.Entering.{IsStanding}
 use Rattle.array_core.specs.declared.array.Array.{Array}
 use Rattle.array_core.specs.declared.perform.PerformFault.{PerformFault}
 use Rattle.array_core.specs.declared.perform.PerformFault.TheVariants as fault
+use Rattle.array_core.specs.Holding.{AgreesWith}
 use Rattle.array_core.specs.Losing.{lost_by}
 
 -- the arrays without the command and with it
 abbrev pub without_or_with : List Command → Command → List plain.Array
 without_or_with commands c = after_all [] commands ∷ after_all [] (commands ++ c ∷ []) ∷ []
 
--- at a stop the devices stand for these arrays, as long as what has lost writes by then is borne
-abbrev pub StandsMeanwhile : Shelved → BootRecord → List plain.Array → Stop → Type 0
-StandsMeanwhile old boot arrays stop = IsBearable (geometry_of old) (lost_by old stop (named_sound boot)) → Stands (geometry_of old) stop.image (lost_by old stop (named_sound boot)) arrays
+-- at a stop a session can go on with these arrays, in all conditions that agree with the record, as long as what has lost writes by then is borne
+abbrev pub IsKeptAt : Shelved → BootRecord → List plain.Array → Stop → Type 0
+IsKeptAt old boot arrays stop = (now : Conditions) → AgreesWith boot now → IsBearable (geometry_of old) (lost_by old stop now) → IsStanding (geometry_of old) stop.image (lost_by old stop now) arrays
 
 -- each device that held the log lost a write
 abbrev pub LostLog : Shelved → Shelved → List Bool → Type 0

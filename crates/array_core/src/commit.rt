@@ -1,7 +1,8 @@
 // A command is logged, and where a device failed meanwhile a record without it is stored.
-ghost use Rattle.std.specs.Prelude.{◌≡◌, ◌<◌, ◌≤◌, ◌+◌, ◌-◌, ◌^◌, ◌++◌, ◌∷◌, [], List, length, OnOk, IfErr};
+ghost use Rattle.std.specs.Prelude.{true, ◌≡◌, ◌<◌, ◌≤◌, ◌+◌, ◌-◌, ◌^◌, ◌++◌, ◌∷◌, [], List, length, OnOk, IfErr};
+ghost use Rattle.std.specs.List.{AllByRecursion};
 ghost use Rattle.pur_base.specs.Commands.{Command, AllAccepted};
-ghost use Rattle.pur_base.specs.Grammar.{data_count};
+ghost use Rattle.pur_base.specs.Grammar.{data_count, is_in_force};
 ghost use Rattle.log_codec.specs.Head.{IsCommand};
 ghost use Rattle.log_codec.specs.declared.limits.TheConstants.{LOG_SLOTS};
 ghost use Rattle.world.specs.Losing.{geometry_of, has_risen};
@@ -20,7 +21,7 @@ impl Array {
     ghost use Rattle.array_core.specs.declared.perform.PerformFault.TheVariants.{Device};
     ghost use Rattle.array_core.specs.Ready.{IsArrayOf};
     ghost use Rattle.array_core.specs.Holding.{DropsFailed, NoneJoins};
-    ghost use Rattle.array_core.specs.Performing.{IsLost, StandsMeanwhile, without_or_with};
+    ghost use Rattle.array_core.specs.Performing.{IsLost, IsKeptAt, without_or_with};
 
     /// Appends a command to the log on each member, and where a member fails stores a record without it.
     pub(crate) fn commit<S: Shelf>(
@@ -47,10 +48,12 @@ impl Array {
         ensures keeps { OnOk result ((commands : List Command) → Keeps self.old.log commands → Keeps self.new.log (commands ++ record { request = request.now; sectors = sectors.now } ∷ [])) }
         ensures held { (S.shelf shelf.old).honest → OnOk result ((commands : List Command) → IsOpen (S.shelf shelf.old) self.old.register self.old.log.members commands → Keeps self.old.log commands
             → AllAccepted [] (commands ++ record { request = request.now; sectors = sectors.now } ∷ [])
+            → AllByRecursion (λ c. is_in_force c.request ≡ true) (commands ++ record { request = request.now; sectors = sectors.now } ∷ [])
             → IsOpen (S.shelf shelf.new) self.new.register self.new.log.members (commands ++ record { request = request.now; sectors = sectors.now } ∷ [])) }
         ensures any_moment { (S.shelf shelf.old).honest → (commands : List Command) → IsOpen (S.shelf shelf.old) self.old.register self.old.log.members commands → Keeps self.old.log commands
             → AllAccepted [] (commands ++ record { request = request.now; sectors = sectors.now } ∷ [])
-            → LeavesOnly (S.shelf shelf.old) (S.shelf shelf.new) (StandsMeanwhile (S.shelf shelf.old) self.old.register.record (without_or_with commands (record { request = request.now; sectors = sectors.now }))) }
+            → AllByRecursion (λ c. is_in_force c.request ≡ true) (commands ++ record { request = request.now; sectors = sectors.now } ∷ [])
+            → LeavesOnly (S.shelf shelf.old) (S.shelf shelf.new) (IsKeptAt (S.shelf shelf.old) self.old.register.record (without_or_with commands (record { request = request.now; sectors = sectors.now }))) }
     {
         let before = self.log.members();
         self.log.append(&[Record { request, sectors }], shelf)?;

@@ -69,7 +69,7 @@ impl Array {
     ghost use Rattle.array_core.specs.declared.perform.PerformFault.TheVariants.{Device};
     ghost use Rattle.array_core.specs.Ready.{IsArrayOf, IsReady};
     ghost use Rattle.array_core.specs.Holding.{DropsFailed, NoneJoins};
-    ghost use Rattle.array_core.specs.Performing.{IsSpent, IsFull, IsRoomFault, IsFaultOf, StandsMeanwhile, without_or_with};
+    ghost use Rattle.array_core.specs.Performing.{IsSpent, IsFull, IsRoomFault, IsFaultOf, IsKeptAt, without_or_with};
 
     /// Whether there is room for one more command.
     fn check_room(&self) -> Result<(), PerformFault>
@@ -113,9 +113,9 @@ impl Array {
         // Then the array has done the command, and so do the devices hold it.
         ensures done { (S.shelf shelf.old).honest → OnOk result ((commands : List Command) → IsReady (S.shelf shelf.old) self.old commands
             → IsReady (S.shelf shelf.new) self.new (commands ++ record { request = request.now; sectors = sectors.now } ∷ [])) }
-        // At every moment the devices stand for the array without the command or with it.
+        // At every moment a session can go on, with the array without the command or with it.
         ensures any_moment { (S.shelf shelf.old).honest → (commands : List Command) → IsReady (S.shelf shelf.old) self.old commands
-            → LeavesOnly (S.shelf shelf.old) (S.shelf shelf.new) (StandsMeanwhile (S.shelf shelf.old) self.old.register.record (without_or_with commands (record { request = request.now; sectors = sectors.now }))) }
+            → LeavesOnly (S.shelf shelf.old) (S.shelf shelf.new) (IsKeptAt (S.shelf shelf.old) self.old.register.record (without_or_with commands (record { request = request.now; sectors = sectors.now }))) }
         // Where no more is missing than is borne, no device fault is answered.
         ensures borne { (S.shelf shelf.old).honest → IfErr result (λ e. e ≡ Device → (commands : List Command) → IsReady (S.shelf shelf.old) self.old commands
             → IsBearable (geometry_of (S.shelf shelf.old)) (lost_since (S.shelf shelf.old) (S.shelf shelf.new) (named_sound self.old.register.record)) → ⊥) }

@@ -1,5 +1,5 @@
 -- The phases of a store, one after another: at every moment the devices stand for the arrays.
-use Rattle.std.proofs.Common.{◌≡◌, inl, inr, ℕ, ◌+◌, ◌*◌, ◌≤◌, ◌<◌, List, map, refl, sym, ◌∙◌, ap, subst, arith, Bool, true, false}
+use Rattle.std.proofs.Common.{◌≡◌, ◌⊎◌, inl, inr, ℕ, ◌+◌, ◌*◌, ◌≤◌, ◌<◌, List, map, refl, sym, ◌∙◌, ap, subst, arith, Bool, true, false}
 use Rattle.std.specs.Prelude.{Option, Some, None, IfSome, option_and_then, count_by}
 use Rattle.std.specs.List.{range_with_len}
 use Rattle.std.proofs.lemmas.List.FromFn.{length-map-range_with_len}
@@ -146,6 +146,24 @@ module _ (shelf : Shelved) (members : List Bool) (missing : Conditions) (slot : 
       ]
     ];
   }
+
+  -- what may be given in each phase
+  pub gives_while_closing : Closes shelf members missing slot (spelling held) start stop → (t : BootSlot) (b : BootRecord) → MayBeGiven (geometry_of shelf) stop.image later t b → MayBeGiven (geometry_of shelf) start.image missing t b
+  gives_while_closing c = gives_no_more stop.image (closes_of stop (record { faults = λ d. omega arith; write_faults = λ d. omega arith }) c)
+
+  pub gives_while_writing : (mid : Stop) (now : List Bool) → IsLater mid stop → Closes shelf members missing slot (spelling held) start mid → Writes missing now slot mid stop
+      → (t : BootSlot) (b : BootRecord) → MayBeGiven (geometry_of shelf) stop.image later t b → MayBeGiven (geometry_of shelf) start.image missing t b
+  gives_while_writing mid now on c w = gives_no_more stop.image (closes_then mid stop now (closes_of mid on c) w)
+
+  pub gives_while_opening : (first second : Stop) (now last : List Bool) → IsLater first stop
+      → Closes shelf members missing slot (spelling held) start first → Writes missing now slot first second → Opens missing last slot (spelling boot) second stop
+      → (t : BootSlot) (b : BootRecord) → MayBeGiven (geometry_of shelf) stop.image later t b → ((t ≡ slot) × (b ≡ boot)) ⊎ MayBeGiven (geometry_of shelf) start.image missing t b
+  gives_while_opening first second now last on c w o t b g =
+      let opens : OpensGatesOf second.image stop.image later slot (spelling boot) = record { others = λ i k. o.others i; opens = λ i k. o.opens i (sound_then i k) } in
+      elim (opening_gives (geometry_of shelf) second.image stop.image later later slot t boot b (as_it_is later) opens g) [
+        | inl new_one ↦ inl (new_one.0, spells_one (geometry_of shelf) b boot g.lawful follow.lawful (sym new_one.1))
+        | inr before ↦ inr (gives_no_more second.image (closes_then first second now (closes_of first on c) w) t b before)
+      ]
 
   -- the first phase
   pub while_closing : Closes shelf members missing slot (spelling held) start stop → Stands (geometry_of shelf) stop.image later arrays

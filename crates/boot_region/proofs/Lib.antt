@@ -6,6 +6,7 @@ pub mod LoadingLemmas
 pub mod OnEach
 pub mod Phases
 pub mod Settled
+pub mod StillGiven
 pub mod ShownLemmas
 pub mod ReadingLemmas
 pub mod RegionLemmas

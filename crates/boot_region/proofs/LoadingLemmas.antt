@@ -1,5 +1,5 @@
 -- What is loaded is what the regions give.
-use Rattle.std.proofs.Common.{◌≡◌, ◌<◌, ◌&&◌, ℕ, Bool, true, false, refl, List, length, slice_index_or, sym, ap, subst, ◌∙◌, IsErrAnd}
+use Rattle.std.proofs.Common.{◌≡◌, ◌-◌, ◌^◌, ◌<◌, ◌≤◌, ◌&&◌, ℕ, Bool, true, false, refl, List, length, slice_index_or, sym, ap, subst, ◌∙◌, IsErrAnd}
 use Rattle.std.specs.Prelude.{Result, Ok, Err, IfOk, IfErr}
 use Rattle.pur_base.specs.Devices.{Geometry}
 use Rattle.boot_codec.specs.declared.bad_record.ReadError.{ReadError}
@@ -16,7 +16,7 @@ use Rattle.boot_region.specs.declared.loading.LoadFault.TheVariants as faults
 use Rattle.boot_region.specs.Members.{IsMember}
 use Rattle.boot_region.specs.Slots.{slot_in}
 use Rattle.boot_region.specs.Regions.{seen, is_holding, IsRead}
-use Rattle.boot_region.specs.Loading.{fault_of, IsHeld, IsGiven, IsFaultOf, IsAnswerOf, IsLawfulLoad, IsLoadOf}
+use Rattle.boot_region.specs.Loading.{fault_of, IsHeld, IsGiven, IsSpent, IsFaultOf, IsAnswerOf, IsLawfulLoad, IsLoadOf}
 use Rattle.world.specs.Losing.{geometry_of}
 
 -- a lawful record in force, and the drives that hold it
@@ -28,6 +28,18 @@ held_by shelf bytes answered slot body boot drives lawful slots units effective 
   lawful = record { lawful = lawful; slots = slots; units = units };
   effective = subst (λ b. IsEffective shelf (seen bytes answered) slot b) spelled effective;
   drives_are = λ i. holding i ∙ ap (λ b. slice_index_or boot.members.drives i false && is_holding bytes answered slot b i) spelled;
+}
+
+-- one that leaves no room
+pub spent_by : (shelf : Geometry) (bytes : List ℕ) (answered : List Bool) (slot : BootSlot) (body : List ℕ) (boot : BootRecord)
+    → IsBootRecord boot → boot.slots ≡ shelf.slots → boot.units ≡ shelf.units → IsEffective shelf (seen bytes answered) slot body → body ≡ spelling boot
+    → 2 ^ 48 - 8 ≤ boot.generation → IsSpent shelf bytes answered
+spent_by shelf bytes answered slot body boot lawful slots units effective spelled spent = record {
+  slot = slot;
+  boot = boot;
+  lawful = record { lawful = lawful; slots = slots; units = units };
+  effective = subst (λ b. IsEffective shelf (seen bytes answered) slot b) spelled effective;
+  spent = spent;
 }
 
 -- a body in force that can't be read
@@ -61,12 +73,14 @@ loaded_by old new bytes answered (Ok x) all read answer = record { bytes = bytes
 loaded_by old new bytes answered (Err (faults.Memory m)) all read answer = tt
 loaded_by old new bytes answered (Err faults.NoArray) all read answer = record { bytes = bytes; answered = answered; all = all; read = read; answer = answer }
 loaded_by old new bytes answered (Err (faults.BadRecord b)) all read answer = record { bytes = bytes; answered = answered; all = all; read = read; answer = answer }
+loaded_by old new bytes answered (Err faults.Spent) all read answer = record { bytes = bytes; answered = answered; all = all; read = read; answer = answer }
 loaded_by old new bytes answered (Err (faults.TooFew t)) all read answer = record { bytes = bytes; answered = answered; all = all; read = read; answer = answer }
 
 -- what the regions give is lawful
 pub lawful_load : (shelf old : Geometry) (bytes : List ℕ) (answered : List Bool) (result : Result Loaded LoadFault) → old ≡ shelf → IsAnswerOf old bytes answered result → IfOk result (IsLawfulLoad shelf)
 lawful_load shelf old bytes answered (Ok x) same given = record {
   lawful = subst (λ (g : Geometry). IsRecordOf g x.record) same given.held.lawful;
+  room = given.room;
   named = λ i m. first_true (slice_index_or x.record.members.drives i false) (is_holding bytes answered (slot_in x.slot) (spelling x.record) i) (sym (given.held.drives_are i) ∙ m);
 }
   where

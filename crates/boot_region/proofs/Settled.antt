@@ -24,9 +24,10 @@ use Rattle.world.specs.Losing.{geometry_of}
 use Rattle.world.specs.Shelf.{Shelved, Stop, MayStop, Continues, Disk, IsShelf, IsIn, IsInSome}
 use Rattle.world.specs.Writes.{LeavesBut, WritesOnly}
 use Rattle.boot_region.specs.Members.{IsMember, OnMembers, OnClosed, OneClosed, Opened}
-use Rattle.boot_region.specs.Storing.{SoundAreMembers, IsFound, IsInForceOn, IsLoaded, IsSeen, TellsFailed}
+use Rattle.boot_region.specs.Storing.{GivesNoMore, SoundAreMembers, IsFound, IsInForceOn, IsLoaded, IsSeen, TellsFailed}
 use Rattle.boot_region.proofs.Began.{began, began_at, as_left, as_read_then, may_begin, differs}
 use Rattle.boot_region.proofs.Composing.{as_it_is, all_decide, is_sound_is}
+use Rattle.boot_region.proofs.StillGiven.{opening_keeps}
 use Rattle.boot_region.proofs.Phases.{risen_on_way, same_bodies, same_others, gates_low}
 use Rattle.boot_region.proofs.ShownLemmas.{opened, bodies_same, open_shows, member_below, as_read}
 
@@ -105,6 +106,15 @@ module _ (members : List Bool) (shelf : Shelved) (stop : Stop) (slot : BootSlot)
 
   pub settling_began : MayStop shelf (began members shelf (gate_place slot) SECTOR_BYTES stop)
   settling_began = may_begin members shelf (gate_place slot) SECTOR_BYTES stop every is h
+
+  pub gives_no_more : GivesNoMore shelf missing missing stop
+  gives_no_more t b g = record { start = began members shelf (gate_place slot) SECTOR_BYTES stop; may = settling_began; given = no_more_given t b g }
+
+  -- the record that was loaded may be given still
+  pub still_given : MayBeGiven (geometry_of shelf) stop.image missing slot boot
+  still_given =
+      let start = began members shelf (gate_place slot) SECTOR_BYTES stop in
+      opening_keeps (geometry_of shelf) start.image stop.image missing slot boot opens (loaded.given start settling_began)
 
   -- at each moment of the settling the devices stand for the arrays
   pub stands_while_settling : Stands (geometry_of shelf) stop.image missing arrays

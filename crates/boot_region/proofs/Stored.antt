@@ -25,8 +25,8 @@ use Rattle.world.specs.Losing.{geometry_of, IsLater}
 use Rattle.world.proofs.Writes.{writes_then, writes_more}
 use Rattle.world.proofs.Moments.{then_run, weaker, continues_trans, continues_refl}
 use Rattle.boot_region.specs.Members.{IsMember, IsOneOf, NonMembersStay, OnSlot, OnMembers, OnNotShut, Outcome, Closed, LostWrites, DroppedFailed}
-use Rattle.boot_region.specs.Storing.{AreClean, AreClosed, AreWritten, AreOlder, SoundAreMembers, ComesOf, LeavesBy, Closes, Writes, Opens, IsInForceOn, MayFollow, AccountsFor, StandsBut, StandsNow, IsNewer, IsStored}
-use Rattle.boot_region.proofs.Composing.{while_closing, while_writing, while_opening, as_it_is, is_sound_is}
+use Rattle.boot_region.specs.Storing.{AreClean, AreClosed, AreWritten, AreOlder, SoundAreMembers, ComesOf, LeavesBy, Closes, Writes, Opens, IsInForceOn, MayFollow, AccountsFor, GivesOldOrNew, StandsBut, StandsNow, IsNewer, IsStored}
+use Rattle.boot_region.proofs.Composing.{gives_while_closing, gives_while_writing, gives_while_opening, while_closing, while_writing, while_opening, as_it_is, is_sound_is}
 use Rattle.boot_region.proofs.Phases.{risen_on_way}
 use Rattle.boot_region.proofs.ShownLemmas.{gate_same, member_below, body_low, body_is, bodies_same, other_body_same, as_read, shown_body}
 
@@ -220,6 +220,35 @@ module _ (a b c d : Shelved) (m0 m1 m2 : List Bool) (slot : BootSlot) (body : Li
 
     pub store_moments : LeavesOnly a d (StandsBut a m0 missing slot held arrays)
     store_moments = then_run (continues_trans ab bc) (then_run ab first second) third
+
+    -- what may be given at each moment
+    pub store_gives : LeavesOnly a d (GivesOldOrNew a m0 missing slot held boot)
+    store_gives = then_run (continues_trans ab bc) (then_run ab gives_first gives_second) gives_third
+      where
+        gives_first : LeavesOnly a b (GivesOldOrNew a m0 missing slot held boot)
+        gives_first = weaker (λ stop l. λ later account t k given. inr (record {
+          start = l.start;
+          may = l.may;
+          given = gives_while_closing a m0 missing slot held boot arrays is_a force follow l.start stop l.may later account l.by t k given;
+        })) q1
+
+        gives_second : LeavesOnly b c (GivesOldOrNew a m0 missing slot held boot)
+        gives_second = weaker (λ stop l. λ later account t k given.
+            let f = from_first l.start l.may in
+            inr (record {
+              start = f.start;
+              may = f.may;
+              given = gives_while_writing a m0 missing slot held boot arrays is_a force follow f.start stop f.may later account l.start m1 l.later f.by l.by t k given;
+            })) q2
+
+        gives_third : LeavesOnly c d (GivesOldOrNew a m0 missing slot held boot)
+        gives_third = weaker (λ stop l. λ later account t k given.
+            let w = from_second l.start l.may in
+            let f = from_first w.start w.may in
+            elim (gives_while_opening a m0 missing slot held boot arrays is_a force follow f.start stop f.may later account w.start l.start m1 m2 (later_then w.later l.later) f.by w.by l.by t k given) [
+              | inl new_one ↦ inl new_one
+              | inr was ↦ inr (record { start = f.start; may = f.may; given = was })
+            ]) q3
 
     -- ---- after the store
     module _ (m3 : List Bool) (is_d : IsShelf d) (cd : Continues c d) (newer : IsNewer slot held boot)

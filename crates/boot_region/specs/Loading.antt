@@ -1,5 +1,5 @@
 -- What is loaded, by the boot units that were read.
-use Rattle.std.specs.Prelude.{◌≡◌, ◌+◌, ◌<◌, ◌≤◌, ◌&&◌, ℕ, Bool, false, List, length, slice_index_or, Result, Ok, Err, ⊤}
+use Rattle.std.specs.Prelude.{◌≡◌, ◌+◌, ◌-◌, ◌^◌, ◌<◌, ◌≤◌, ◌&&◌, ℕ, Bool, false, List, length, slice_index_or, Result, Ok, Err, ⊤}
 use Rattle.pur_base.specs.Devices.{Geometry, Conditions, IsBearable}
 use Rattle.pur_base.specs.Plain.{Array}
 use Rattle.boot_codec.specs.declared.bad_record.BadRecord.{BadRecord}
@@ -35,14 +35,16 @@ pub record IsHeld (shelf : Geometry) (bytes : List ℕ) (answered : List Bool) (
   pub effective : IsEffective shelf (seen bytes answered) slot (spelling boot)
   pub drives_are : AreHolding bytes answered slot boot drives
 
--- it was loaded, and at most two drives of the shelf don't hold it
+-- it was loaded: it leaves room for later ones, and at most two drives of the shelf don't hold it
 pub record IsGiven (shelf : Geometry) (bytes : List ℕ) (answered : List Bool) (x : Loaded) : Type 0 where
   pub held : IsHeld shelf bytes answered (slot_in x.slot) x.record x.drives
+  pub room : x.record.generation < 2 ^ 48 - 8
   pub enough : shelf.slots ≤ set_count x.drives + 2
 
--- the record is one of the shelf's, and it names the drives that hold it
+-- the record is one of the shelf's, leaves room for later ones, and names the drives that hold it
 pub record IsLawfulLoad (shelf : Geometry) (x : Loaded) : Type 0 where
   pub lawful : IsRecordOf shelf x.record
+  pub room : x.record.generation < 2 ^ 48 - 8
   pub named : (i : ℕ) → IsMember x.drives i → IsMember x.record.members.drives i
 
 -- a lawful record is in force, and more than two drives don't hold it
@@ -51,6 +53,14 @@ pub record TooFewHold (shelf : Geometry) (bytes : List ℕ) (answered : List Boo
   pub boot : BootRecord
   pub held : IsHeld shelf bytes answered slot boot drives
   pub too_few : set_count drives + 2 < shelf.slots
+
+-- a lawful record is in force that leaves no room for later ones
+pub record IsSpent (shelf : Geometry) (bytes : List ℕ) (answered : List Bool) : Type 0 where
+  pub slot : BootSlot
+  pub boot : BootRecord
+  pub lawful : IsRecordOf shelf boot
+  pub effective : IsEffective shelf (seen bytes answered) slot (spelling boot)
+  pub spent : 2 ^ 48 - 8 ≤ boot.generation
 
 -- the body in force is no record of the shelf, and this is its first fault
 pub record IsBadBody (shelf : Geometry) (bytes : List ℕ) (answered : List Bool) (fault : BadRecord) : Type 0 where
@@ -64,6 +74,7 @@ abbrev pub IsFaultOf : Geometry → List ℕ → List Bool → LoadFault → Typ
 IsFaultOf shelf bytes answered (faults.Memory m) = ⊤
 IsFaultOf shelf bytes answered faults.NoArray = GivesNone shelf (seen bytes answered)
 IsFaultOf shelf bytes answered (faults.BadRecord e) = IsBadBody shelf bytes answered e
+IsFaultOf shelf bytes answered faults.Spent = IsSpent shelf bytes answered
 IsFaultOf shelf bytes answered (faults.TooFew drives) = TooFewHold shelf bytes answered drives
 
 -- the same of either answer

@@ -139,6 +139,21 @@ pub record AccountsFor (shelf : Shelved) (members : List Bool) (missing : Condit
 abbrev pub StandsBut : Shelved → List Bool → Conditions → BootSlot → BootRecord → List Array → Stop → Type 0
 StandsBut shelf members missing slot held arrays stop = (later : Conditions) → AccountsFor shelf members missing slot (spelling held) stop.faults stop.write_faults later → Stands (geometry_of shelf) stop.image later arrays
 
+-- the record might have been given when it began
+pub record WasGiven (old : Shelved) (missing : Conditions) (slot : BootSlot) (boot : BootRecord) : Type 0 where
+  pub start : Stop
+  pub may : MayStop old start
+  pub given : MayBeGiven (geometry_of old) start.image missing slot boot
+
+-- no record may be given then that might not have been
+abbrev pub GivesNoMore : Shelved → Conditions → Conditions → Stop → Type 0
+GivesNoMore old missing later stop = (slot : BootSlot) (boot : BootRecord) → MayBeGiven (geometry_of old) stop.image later slot boot → WasGiven old missing slot boot
+
+-- none but the record that is stored, in all conditions that tell what has failed by then
+abbrev pub GivesOldOrNew : Shelved → List Bool → Conditions → BootSlot → BootRecord → BootRecord → Stop → Type 0
+GivesOldOrNew old members missing slot held boot stop = (later : Conditions) → AccountsFor old members missing slot (spelling held) stop.faults stop.write_faults later
+    → (slot2 : BootSlot) (boot2 : BootRecord) → MayBeGiven (geometry_of old) stop.image later slot2 boot2 → ((slot2 ≡ slot) × (boot2 ≡ boot)) ⊎ WasGiven old missing slot2 boot2
+
 -- the record that is stored wins over the one in force
 abbrev pub IsNewer : BootSlot → BootRecord → BootRecord → Type 0
 IsNewer slot held boot = Yields slot (generation_in (spelling held)) (generation_in (spelling boot))

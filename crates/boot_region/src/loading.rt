@@ -10,13 +10,16 @@ ghost use Rattle.boot_region.specs.declared.loading.LoadFault.TheVariants as fau
 ghost use Rattle.boot_region.specs.Loading.{IsLoadOf, IsGiven, IsFaultOf, IsLawfulLoad, MayBeSettled, fault_of};
 
 use crate::{Regions, Slot, read_regions};
-use boot_codec::{BadRecord, BootRecord, DRIVE_FLAGS, ReadError, read_record};
+use boot_codec::{BadRecord, BootRecord, DRIVE_FLAGS, NUMBER_LIMIT, ReadError, read_record};
 use pur_base::NoMemory;
 use std::alloc::Global;
 use world::Shelf;
 
 /// As many drives may be missing.
 const MISSING_MAX: usize = 2;
+
+/// A record of this generation or a higher one leaves no room for later ones.
+const GENERATION_LIMIT: u64 = NUMBER_LIMIT - 8;
 
 /// The record in force, the slot in which it stands, and the drives that it names and on which it stands.
 #[derive(Drop)]
@@ -33,6 +36,8 @@ pub enum LoadFault {
     /// No body is shown by more than half of all drives.
     NoArray,
     BadRecord(BadRecord),
+    /// The generation of the record is 2^48 - 8 or higher: no room is left for later ones.
+    Spent,
     /// More than two drives of the shelf are missing from these.
     TooFew([bool; DRIVE_FLAGS]),
 }
@@ -78,6 +83,9 @@ impl Regions {
         };
         let slots = self.answered.len();
         let record = read_record(alloc, body, slots as u8, units)?;
+        if record.generation >= GENERATION_LIMIT {
+            return Err(LoadFault::Spent);
+        }
         let drives = self.holding(&record.members.drives, slot, body);
         if count_set(&drives) + MISSING_MAX < slots {
             return Err(LoadFault::TooFew(drives));

@@ -6,14 +6,14 @@ ghost use Rattle.pur_base.specs.Plain.{Array};
 ghost use Rattle.pur_base.specs.declared.limits.TheConstants.{SECTOR_BYTES};
 ghost use Rattle.boot_codec.specs.declared.record.BootRecord.{BootRecord};
 ghost use Rattle.boot_codec.specs.Region.{gate_place, other_slot};
-ghost use Rattle.array_spec.specs.Standing.{Stands};
+ghost use Rattle.array_spec.specs.Standing.{MayBeGiven, Stands};
 ghost use Rattle.world.specs.Counts.{Rises};
 ghost use Rattle.world.specs.Losing.{geometry_of};
 ghost use Rattle.world.specs.Shelf.{Has, Continues, LeavesOnly, OthersStay};
 ghost use Rattle.world.specs.Writes.{WritesOnly};
 ghost use Rattle.boot_region.specs.Members.{IsMember, NonMembersStay, OnClosed, OneClosed, Opened};
 ghost use Rattle.boot_region.specs.Slots.{slot_in};
-ghost use Rattle.boot_region.specs.Storing.{IsFound, IsInForceOn, IsLoaded, TellsFailed};
+ghost use Rattle.boot_region.specs.Storing.{GivesNoMore, IsFound, IsInForceOn, IsLoaded, TellsFailed};
 
 use crate::Slot;
 use boot_codec::{gate_sector, is_open_gate};
@@ -53,6 +53,14 @@ pub fn settle<S: Shelf>(shelf: &mut S, members: &mut [bool], slot: Slot)
     ensures any_moment { (S.shelf shelf.old).honest → (missing : Conditions) (boot : BootRecord) (arrays : List Array)
         → IsLoaded (S.shelf shelf.old) members.old missing (slot_in slot) boot arrays
         → LeavesOnly (S.shelf shelf.old) (S.shelf shelf.new) (λ stop. Stands (geometry_of (S.shelf shelf.old)) stop.image missing arrays) }
+    // No record may be given that couldn't be at the beginning.
+    ensures gives { (S.shelf shelf.old).honest → (missing : Conditions) (boot : BootRecord) (arrays : List Array)
+        → IsLoaded (S.shelf shelf.old) members.old missing (slot_in slot) boot arrays
+        → LeavesOnly (S.shelf shelf.old) (S.shelf shelf.new) (GivesNoMore (S.shelf shelf.old) missing missing) }
+    // The record that was loaded may be given still.
+    ensures still { (S.shelf shelf.old).honest → (missing : Conditions) (boot : BootRecord) (arrays : List Array)
+        → IsLoaded (S.shelf shelf.old) members.old missing (slot_in slot) boot arrays
+        → LeavesOnly (S.shelf shelf.old) (S.shelf shelf.new) (λ stop. MayBeGiven (geometry_of (S.shelf shelf.old)) stop.image missing (slot_in slot) boot) }
     // Then the record is in force on the members that are left.
     ensures settled { (S.shelf shelf.old).honest → (missing : Conditions) (boot : BootRecord) (arrays : List Array)
         → IsLoaded (S.shelf shelf.old) members.old missing (slot_in slot) boot arrays → IsFound (S.shelf shelf.old) members.old missing (slot_in slot) boot

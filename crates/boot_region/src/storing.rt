@@ -9,7 +9,7 @@ ghost use Rattle.world.specs.Shelf.{Continues, LeavesOnly};
 ghost use Rattle.world.specs.Writes.{WritesOnly};
 ghost use Rattle.boot_region.specs.Members.{IsMember, NonMembersStay, DroppedFailed, OnSlot};
 ghost use Rattle.boot_region.specs.Slots.{slot_in};
-ghost use Rattle.boot_region.specs.Storing.{Shows, IsInForceOn, IsNewer, IsStoredIn, MayFollow, StandsBut};
+ghost use Rattle.boot_region.specs.Storing.{Shows, GivesOldOrNew, IsInForceOn, IsNewer, IsStoredIn, MayFollow, StandsBut};
 
 use crate::{Slot, close_gates, open_gates, write_bodies};
 use world::Shelf;
@@ -30,6 +30,10 @@ pub fn store<S: Shelf>(shelf: &mut S, members: &mut [bool], slot: Slot, body: &[
     ensures any_moment { (S.shelf shelf.old).honest → (missing : Conditions) (held boot : BootRecord) (arrays : List Array)
         → body.now ≡ spelling boot → IsInForceOn (S.shelf shelf.old) members.old missing (slot_in slot) held → MayFollow (S.shelf shelf.old) missing (slot_in slot) boot arrays
         → LeavesOnly (S.shelf shelf.old) (S.shelf shelf.new) (StandsBut (S.shelf shelf.old) members.old missing (slot_in slot) held arrays) }
+    // What may be given at any moment is the record that is stored, or one that might have been given before.
+    ensures gives { (S.shelf shelf.old).honest → (missing : Conditions) (held boot : BootRecord) (arrays : List Array)
+        → body.now ≡ spelling boot → IsInForceOn (S.shelf shelf.old) members.old missing (slot_in slot) held → MayFollow (S.shelf shelf.old) missing (slot_in slot) boot arrays
+        → LeavesOnly (S.shelf shelf.old) (S.shelf shelf.new) (GivesOldOrNew (S.shelf shelf.old) members.old missing (slot_in slot) held boot) }
     // Then the record is in force, and the devices stand for the arrays.
     ensures stored { (S.shelf shelf.old).honest → (missing : Conditions) (held boot : BootRecord) (arrays : List Array)
         → body.now ≡ spelling boot → IsNewer (slot_in slot) held boot → IsInForceOn (S.shelf shelf.old) members.old missing (slot_in slot) held → MayFollow (S.shelf shelf.old) missing (slot_in slot) boot arrays

@@ -340,3 +340,26 @@ fn a_stored_record_is_loaded_without_two_drives(rt: HostRuntime) -> Result<(), F
     );
     Ok(())
 }
+
+#[test]
+fn a_record_that_leaves_no_room_is_not_loaded(rt: HostRuntime) -> Result<(), Fail> {
+    let alloc = rt.alloc();
+    let mut world = small_world(alloc)?;
+    let mut body = [0; RECORD_BYTES];
+    body[..88].copy_from_slice(&HEADER);
+    // The highest generation that leaves room is 2^48 - 9.
+    body[16..24].copy_from_slice(&[0, 0, 255, 255, 255, 255, 255, 247]);
+    let mut members = [true; 11];
+    if members.len() > usize::from(world.drives()) {
+        return Err(Fail::new("drives"));
+    }
+    store(&mut world, &mut members, Slot::B, &body);
+    assert_eq!(rt; load_fault(alloc, &mut world), None);
+    body[23] = 248;
+    if members.len() > usize::from(world.drives()) {
+        return Err(Fail::new("drives"));
+    }
+    store(&mut world, &mut members, Slot::A, &body);
+    assert_eq!(rt; load_fault(alloc, &mut world), Some(LoadFault::Spent));
+    Ok(())
+}

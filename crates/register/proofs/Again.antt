@@ -1,5 +1,5 @@
 -- A store that is followed by another one, at any moment of both.
-use Rattle.std.proofs.Common.{◌≡◌, ◌⊎◌, inl, inr, ℕ, ◌-◌, ◌^◌, ◌≤◌, List, [], ◌∷◌, refl, sym, subst, arith, Bool, true, false}
+use Rattle.std.proofs.Common.{◌≡◌, ◌⊎◌, inl, inr, ℕ, ◌-◌, ◌^◌, ◌≤◌, ◌<◌, List, [], ◌∷◌, refl, sym, ◌∙◌, ap, subst, arith, Bool, true, false}
 use Rattle.std.specs.Prelude.{count_by, cond, nat_lt, nat_le, ◌||◌, slice_index_or}
 use Rattle.std.proofs.lemmas.Bool.{cases_Bool, cases_lt}
 use Rattle.std.proofs.Common.{ltb-false}
@@ -10,15 +10,17 @@ use Rattle.pur_base.specs.Plain.{Array}
 use Rattle.boot_codec.specs.declared.record.BootRecord.{BootRecord}
 use Rattle.boot_codec.specs.Spelling.{spelling}
 use Rattle.boot_codec.specs.Region.{BootSlot, other_slot, body_in, generation_in}
-use Rattle.array_spec.specs.Standing.{Stands}
+use Rattle.array_spec.specs.Standing.{Stands, MayBeGiven}
 use Rattle.array_spec.proofs.Votes.{counted}
-use Rattle.world.specs.Shelf.{Shelved, Stop, Continues, LeavesOnly, IsCountedBy}
+use Rattle.world.specs.Shelf.{Shelved, Stop, MayStop, IsShelf, Continues, LeavesOnly, IsCountedBy}
 use Rattle.world.specs.Writes.{LeavesBut}
 use Rattle.world.specs.Losing.{geometry_of, has_risen}
 use Rattle.world.proofs.Moments.{then_run, weaker}
 use Rattle.boot_region.specs.Members.{IsMember}
-use Rattle.boot_region.specs.Storing.{AccountsFor, StandsBut, IsOlder}
+use Rattle.boot_region.specs.Storing.{WasGiven, AccountsFor, StandsBut, IsOlder}
 use Rattle.boot_region.proofs.Phases.{not_risen_before}
+use Rattle.register.specs.declared.state.Register.{Register}
+use Rattle.register.specs.Standing.{IsNextOf}
 use Rattle.register.proofs.Opened.{yields_or}
 
 -- ---- conditions
@@ -114,6 +116,11 @@ both {a} {b} {P} {Q} p q = record {
     | inr x ↦ elim (q.before t stop le left) [ inl was ↦ inl was | inr y ↦ inr (x.0, (x.1, y.1)) ]
   ];
 }
+
+-- what may be given is one of these records, or one that might have been given before
+abbrev pub GivesOldOr : Shelved → List Bool → Conditions → BootSlot → BootRecord → (BootRecord → Type 0) → Stop → Type 0
+GivesOldOr old members missing slot held N stop = (later : Conditions) → AccountsFor old members missing slot (spelling held) stop.faults stop.write_faults later
+    → (slot2 : BootSlot) (boot2 : BootRecord) → MayBeGiven (geometry_of old) stop.image later slot2 boot2 → WasGiven old missing slot2 boot2 ⊎ N boot2
 
 -- at that moment a drive lost no write, and what a failed read of it might let be shown loses: it need not be missing then
 abbrev MayStay : Shelved → Shelved → List Bool → BootSlot → List ℕ → ℕ → Type 0
@@ -217,3 +224,52 @@ module _ (old mid : Shelved) (members : List Bool) (missing : Conditions) (slot 
             (both counted_then (second bears (accounts bears)))
         | inr not ↦ weaker (λ stop x later account. absurd (not (bearable_then stop x.counts later account))) counted_then
       ]
+
+  -- and so is what may be given
+  pub again_gives : {W : Device → ℕ → Type 0} (new : Shelved) (now : List Bool) (next : BootSlot) (boot : BootRecord) (N M : BootRecord → Type 0) → IsShelf mid → Continues old mid
+      → ((i : ℕ) → IsMember now i → IsMember members i) → ((i : ℕ) → IsMember now i → IsOlder mid next (spelling boot) i)
+      → ((b : BootRecord) → M b → N b)
+      → LeavesOnly old mid (GivesOldOr old members missing slot held N)
+      → (IsBearable (geometry_of old) meanwhile → AccountsFor old members missing slot (spelling held) (λ d. (mid.disk d).faults) (λ d. (mid.disk d).write_faults) meanwhile
+      → LeavesOnly mid new (GivesOldOr mid now meanwhile next boot M))
+      → LeavesOnly mid new (LeavesBut W mid)
+      → LeavesOnly old new (GivesOldOr old members missing slot held N)
+  again_gives {W} new now next boot N M is_mid on fewer older to first second counted_then = then_run on first rest
+    where
+      same_shelf : geometry_of mid ≡ geometry_of old
+      same_shelf =
+          let e : mid.drives ≡ old.drives = on.drives in
+          let f : mid.units ≡ old.units = on.units in
+          λ k. record { slots = e k; units = f k }
+
+      -- what may be given at the end of the first store
+      at_end : (start : Stop) → MayStop mid start → IsBearable (geometry_of old) meanwhile → (t : BootSlot) (b : BootRecord) → MayBeGiven (geometry_of mid) start.image meanwhile t b
+          → WasGiven old missing t b ⊎ N b
+      at_end start may bears t b g =
+          let exact : Stop = record { image = start.image; faults = λ k. (mid.disk k).faults; write_faults = λ k. (mid.disk k).write_faults; output = mid.output; taken = mid.taken } in
+          let may2 : MayStop mid exact = record { counts = record { faults = λ k. omega arith; write_faults = λ k. omega arith }; output = refl; taken = refl; device = may.device } in
+          let left = is_mid.counts_now old.moment exact on.later may2 in
+          (first.each exact left).1 meanwhile (accounts bears) t b (subst (λ x. MayBeGiven x start.image meanwhile t b) same_shelf g)
+
+      rest : LeavesOnly mid new (GivesOldOr old members missing slot held N)
+      rest = elim (bearable_or (geometry_of old) meanwhile) [
+        | inl bears ↦ weaker (λ stop x later account t b g.
+            elim (x.1 later (accounts_since stop x.0.counts later account now next boot on fewer older same_shelf) t b (subst (λ x. MayBeGiven x stop.image later t b) (sym same_shelf) g)) [
+              | inl was ↦ at_end was.start was.may bears t b was.given
+              | inr next_one ↦ inr (to b next_one)
+            ])
+            (both counted_then (second bears (accounts bears)))
+        | inr not ↦ weaker (λ stop x later account t b g. absurd (not (bearable_then stop x.counts later account))) counted_then
+      ]
+
+-- a record that follows on a next one is a next one
+pub next_after : (was mid : Register) (nvrams : List Bool) → IsNextOf was nvrams mid.record → ((i : ℕ) → IsMember mid.drives i → IsMember was.drives i) → (b : BootRecord) → IsNextOf mid nvrams b → IsNextOf was nvrams b
+next_after was mid nvrams first fewer b next = record {
+  later = record {
+    generation = omega (arith, first.generation, next.generation);
+    rest = next.later.rest ∙ ap (λ (x : BootRecord). record x { generation = b.generation; members = b.members }) first.later.rest;
+  };
+  generation = omega (arith, first.generation, next.generation);
+  nvrams_are = next.nvrams_are;
+  drives = λ i m. fewer i (next.drives i m);
+}

@@ -73,6 +73,24 @@ same_count (x ∷ xs) (y ∷ ys) len all le =
     let back : bit y ≤ bit x = omega (arith, rest, first, cx, cy, le) in
     cons_same xs ys x y first back same
 
+-- no more are set than the mask has bits
+pub few_set : (xs : List Bool) (n : ℕ) → mask xs < 2 ^ n → set_count xs ≤ n
+unfolding bit
+few_set [] n small = omega arith
+few_set (true ∷ xs) zero small = absurd (omega (arith, small))
+few_set (false ∷ xs) zero small =
+    let s : mask xs < 2 ^ 0 = omega (arith, small) in
+    omega (arith, few_set xs 0 s, counted (λ b. b) false xs)
+few_set (x ∷ xs) (suc n) small =
+    let e = pow-succ' 2 n in
+    let s : mask xs < 2 ^ n = omega (arith, small, e) in
+    let here : bit x ≤ 1 = one x in
+    omega (arith, few_set xs n s, here, counted (λ b. b) x xs)
+  where
+    one : (b : Bool) → bit b ≤ 1
+    one true = omega arith
+    one false = omega arith
+
 -- no flag is set past the bits of the mask
 pub none_past : (xs : List Bool) (n i : ℕ) → mask xs < 2 ^ n → n ≤ i → IsMember xs i → ⊥
 none_past [] n i small le m = absurd (cc m)

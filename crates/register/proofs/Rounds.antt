@@ -16,16 +16,17 @@ use Rattle.array_spec.proofs.Settling.{twice_other}
 use Rattle.world.specs.Shelf.{Shelved, Disk, IsShelf, Continues, LeavesOnly}
 use Rattle.world.specs.Losing.{geometry_of}
 use Rattle.world.specs.Writes.{WritesOnly, ChangesOnly}
+use Rattle.world.proofs.Moments.{weaker}
 use Rattle.world.proofs.Writes.{writes_more}
 use Rattle.boot_region.specs.Members.{IsMember, NonMembersStay, DroppedFailed, OnSlot}
-use Rattle.boot_region.specs.Storing.{Shows, IsOlder, IsInForceOn, IsNewer, IsStoredIn, MayFollow, StandsBut}
+use Rattle.boot_region.specs.Storing.{Shows, GivesOldOrNew, IsOlder, IsInForceOn, IsNewer, IsStoredIn, MayFollow, StandsBut}
 use Rattle.boot_region.proofs.ShownLemmas.{shown_body}
 use Rattle.nvram_log.specs.Members as nv
 use Rattle.nvram_log.specs.Held.{HoldsOn}
 use Rattle.nvram_log.specs.Slots.{IsLog}
 use Rattle.register.specs.declared.state.Register.{Register}
 use Rattle.register.specs.Registers.{IsRegisterOf, OnSlots, drives_of, own_slot, next_slot, next_record}
-use Rattle.register.specs.Standing.{StandsInLog, MayStore, MayStoreAgain}
+use Rattle.register.specs.Standing.{IsNextOf, GivesOldOrNext, StandsInLog, MayStore, MayStoreAgain}
 use Rattle.register.proofs.FlagLemmas.{fewer_mask, in_cut, cut_in}
 use Rattle.register.proofs.Numbers.{generation_spelled, next_other, lower_yields}
 use Rattle.register.proofs.Follows.{may_follow, left_before}
@@ -39,7 +40,7 @@ some_set (false ∷ xs) zero m = absurd (cc m)
 some_set (false ∷ xs) (suc i) m = omega (arith, some_set xs i m, counted (λ b. b) false xs)
 
 pub next_lawful : (boot : BootRecord) (drives nvrams : List Bool) → IsBootRecord boot → length drives ≡ 24 → length nvrams ≡ 2 → ((i : ℕ) → IsMember drives i → IsMember boot.members.drives i)
-    → boot.slots ≤ set_count drives + 2 → nv.IsSome nvrams → boot.generation + 1 < 2 ^ 48 - 8 → IsBootRecord (next_record boot drives nvrams)
+    → boot.slots ≤ set_count drives + 2 → nv.IsSome nvrams → boot.generation + 1 < 2 ^ 48 → IsBootRecord (next_record boot drives nvrams)
 next_lawful boot drives nvrams is all two among enough some low = record {
   slots = is.slots;
   units = is.units;
@@ -82,6 +83,8 @@ pub record Puts (old new : Shelved) (now : Register) (members : List Bool) (slot
   pub writes : old.honest → WritesOnly (OnSlot members slot) old new
   pub any_moment : old.honest → (missing : Conditions) (held boot : BootRecord) (arrays : List Array) → body ≡ spelling boot → IsInForceOn old members missing slot held → MayFollow old missing slot boot arrays
       → LeavesOnly old new (StandsBut old members missing slot held arrays)
+  pub gives : old.honest → (missing : Conditions) (held boot : BootRecord) (arrays : List Array) → body ≡ spelling boot → IsInForceOn old members missing slot held → MayFollow old missing slot boot arrays
+      → LeavesOnly old new (GivesOldOrNew old members missing slot held boot)
   pub stored : old.honest → (missing : Conditions) (held boot : BootRecord) (arrays : List Array) → body ≡ spelling boot → IsNewer slot held boot → IsInForceOn old members missing slot held → MayFollow old missing slot boot arrays
       → IsStoredIn old new members (drives_of now) missing slot held boot arrays
 
@@ -97,7 +100,7 @@ puts_next old new was mid now nvrams record_is drives_are body_is puts =
     (subst (λ (l : List Bool). Puts old new now l (own_slot mid.record) mid.body.items) cut puts))
 
 module _ (old new : Shelved) (is_old : IsShelf old) (on : Continues old new) (was now : Register) (nvrams : List Bool) (is_of : IsRegisterOf (geometry_of old) was) (some : nv.IsSome nvrams)
-    (lawful : IsBootRecord (next_record was.record was.drives nvrams)) (not_spent : was.record.generation + 1 < 2 ^ 48 - 8) (kept : now.record ≡ next_record was.record was.drives nvrams)
+    (lawful : IsBootRecord (next_record was.record was.drives nvrams)) (kept : now.record ≡ next_record was.record was.drives nvrams)
     (beyond : (i : ℕ) → was.record.slots ≤ i → IsMember now.drives i → IsMember was.drives i)
     (puts : Puts old new now (drives_of was) (next_slot was.record) (spelling (next_record was.record was.drives nvrams))) where
   pub fewer_all : (i : ℕ) → IsMember now.drives i → IsMember was.drives i
@@ -166,7 +169,7 @@ module _ (old new : Shelved) (is_old : IsShelf old) (on : Continues old new) (wa
   shown_next h i m = subst (λ (b : BootRecord). Shows new (own_slot b) (spelling b) i) (sym kept)
       (subst (λ (t : BootSlot). Shows new t (spelling (next_record was.record was.drives nvrams)) i) (sym (next_other was.record.generation)) (puts.shown h i m))
 
-  module _ (h : old.honest) (missing : Conditions) (log : List Command) (arrays : List Array) (may : MayStore old was nvrams missing log arrays) where
+  module _ (h : old.honest) (not_spent : was.record.generation + 1 < 2 ^ 48 - 8) (missing : Conditions) (log : List Command) (arrays : List Array) (may : MayStore old was nvrams missing log arrays) where
     among : (i : ℕ) → IsMember (drives_of was) i → IsMember was.drives i
     among i m = in_cut was.drives was.record.slots i m
 
@@ -179,6 +182,20 @@ module _ (old new : Shelved) (is_old : IsShelf old) (on : Continues old new) (wa
 
     pub moments_next : LeavesOnly old new (StandsBut old (drives_of was) missing (next_slot was.record) was.record arrays)
     moments_next = puts.any_moment h missing was.record (next_record was.record was.drives nvrams) arrays refl may.in_force follow
+
+    next_of : IsNextOf was nvrams (next_record was.record was.drives nvrams)
+    next_of = record {
+      later = record { generation = omega arith; rest = refl };
+      generation = omega arith;
+      nvrams_are = refl;
+      drives = λ i m. m;
+    }
+
+    pub gives_next : LeavesOnly old new (GivesOldOrNext old was nvrams missing)
+    gives_next = weaker (λ stop all. λ later account slot boot g. elim (all later account slot boot g) [
+      | inl e ↦ inr (subst (λ (b : BootRecord). IsNextOf was nvrams b) (sym e.1) next_of)
+      | inr given ↦ inl given
+    ]) (puts.gives h missing was.record (next_record was.record was.drives nvrams) arrays refl may.in_force follow)
 
     pub again_next : MayStoreAgain old new was now nvrams missing log arrays
     again_next later account =

@@ -1,13 +1,14 @@
 -- A store that goes on until the record is on all drives that it names.
-use Rattle.std.proofs.Common.{◌≡◌, inl, inr, ℕ, ◌<◌, List, Bool, sym, ◌∙◌, arith, length, Result, Ok, Err, OnOk, OnErr}
+use Rattle.std.proofs.Common.{◌≡◌, inl, inr, ℕ, ◌<◌, ◌≤◌, List, Bool, sym, ◌∙◌, arith, length, Result, Ok, Err, OnOk, OnErr}
 use Rattle.std.proofs.lemmas.Bool.{cases_lt}
+use Rattle.pur_base.specs.Devices.{Geometry}
 use Rattle.boot_codec.specs.Record.{set_count}
 use Rattle.boot_region.specs.Members.{IsMember}
 use Rattle.pur_base.specs.declared.device.Device.{Device}
 use Rattle.pur_base.specs.declared.device.Device.TheVariants as dev
 use Rattle.register.specs.declared.state.Register.{Register}
-use Rattle.register.specs.Registers.{OnSlots, drives_of}
-use Rattle.register.proofs.FlagLemmas.{same_count, in_cut, cut_in, not_below}
+use Rattle.register.specs.Registers.{IsRegisterOf, OnSlots, drives_of}
+use Rattle.register.proofs.FlagLemmas.{few_set, fewer_mask, same_count, in_cut, cut_in, not_below}
 
 -- fewer drives in all are fewer of the shelf's
 pub fewer_cut : (was now : Register) → now.record.slots ≡ was.record.slots → ((i : ℕ) → IsMember now.drives i → IsMember was.drives i) → (i : ℕ) → IsMember (drives_of now) i → IsMember (drives_of was) i
@@ -41,3 +42,7 @@ on_ok (Err e) f p = tt
 pub on_err : {T E P Q : Type 0} (r : Result T E) → (P → Q) → OnErr r P → OnErr r Q
 on_err (Ok x) f p = tt
 on_err (Err e) f p = f p
+
+-- no more drives are left than the shelf has
+pub at_most_slots : {shelf : Geometry} (r : Register) → IsRegisterOf shelf r → set_count r.drives ≤ r.record.slots
+at_most_slots {shelf} r is = few_set r.drives r.record.slots (let le = fewer_mask r.drives r.record.members.drives is.named in omega (arith, le, is.lawful.lawful.members.within))

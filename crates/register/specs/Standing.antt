@@ -1,5 +1,5 @@
 -- An array that stands in its log alone, by the record in the register.
-use Rattle.std.specs.Prelude.{◌≡◌, ℕ, ◌<◌, List, [], ◌∷◌, Bool, Contains}
+use Rattle.std.specs.Prelude.{◌≡◌, ◌⊎◌, ℕ, ◌<◌, List, [], ◌∷◌, Bool, Contains}
 use Rattle.pur_base.specs.Devices.{Conditions, Sound, LeftOut, IsBearable, drive, nvram}
 use Rattle.pur_base.specs.Plain.{Array}
 use Rattle.pur_base.specs.Commands.{Command, AllAccepted, after_all}
@@ -10,11 +10,11 @@ use Rattle.array_spec.specs.Standing.{MayBeGiven}
 use Rattle.world.specs.Shelf.{Shelved, Stop, MayStop}
 use Rattle.world.specs.Losing.{geometry_of}
 use Rattle.boot_region.specs.Members.{IsMember}
-use Rattle.boot_region.specs.Storing.{StandsNow, IsInForceOn, AreOlder, AccountsFor}
+use Rattle.boot_region.specs.Storing.{WasGiven, StandsNow, IsInForceOn, AreOlder, AccountsFor}
 use Rattle.nvram_log.specs.Held.{HoldsOn}
 use Rattle.nvram_log.specs.Members as nv
 use Rattle.register.specs.declared.state.Register.{Register}
-use Rattle.register.specs.Registers.{IsRegisterOf, own_slot, next_slot, drives_of, named_sound}
+use Rattle.register.specs.Registers.{IsRegisterOf, IsLaterRecord, own_slot, next_slot, drives_of, named_sound}
 
 -- the record's bytes stand on each of the drives, each of the NVRAM devices holds the log, and the array is what the log makes of nothing
 pub record StandsInLog (shelf : Shelved) (r : Register) (nvrams : List Bool) (log : List Command) : Type 0 where
@@ -39,6 +39,19 @@ abbrev pub MayStoreAgain : Shelved → Shelved → Register → Register → Lis
 MayStoreAgain old new was now nvrams missing log arrays = (later : Conditions)
     → AccountsFor old (drives_of was) missing (next_slot was.record) (spelling was.record) (λ d. (new.disk d).faults) (λ d. (new.disk d).write_faults) later
     → MayStore new now nvrams later log arrays
+
+-- a record that such a store writes: later, with these NVRAM devices and no drive that isn't left, all else as it was
+pub record IsNextOf (r : Register) (nvrams : List Bool) (boot : BootRecord) : Type 0 where
+  pub later : IsLaterRecord r.record boot
+  pub generation : r.record.generation < boot.generation
+  pub nvrams_are : boot.members.nvrams ≡ nvrams
+  pub drives : (i : ℕ) → IsMember boot.members.drives i → IsMember r.drives i
+
+-- what may be given is such a record, or one that might have been given before, in all conditions that tell what has failed by then
+abbrev pub GivesOldOrNext : Shelved → Register → List Bool → Conditions → Stop → Type 0
+GivesOldOrNext old r nvrams missing stop = (later : Conditions)
+    → AccountsFor old (drives_of r) missing (next_slot r.record) (spelling r.record) stop.faults stop.write_faults later
+    → (slot : BootSlot) (boot : BootRecord) → MayBeGiven (geometry_of old) stop.image later slot boot → WasGiven old missing slot boot ⊎ IsNextOf r nvrams boot
 
 -- a record that may be given is this one
 abbrev pub IsAlone : Shelved → Conditions → BootSlot → BootRecord → Type 0

@@ -1,5 +1,5 @@
 // The next record.
-ghost use Rattle.std.specs.Prelude.{◌≡◌, ◌+◌, ◌-◌, ◌^◌, ◌<◌, ◌≤◌, ℕ, OnOk, OnErr, IfErr};
+ghost use Rattle.std.specs.Prelude.{◌≡◌, ◌+◌, ◌≤◌, ℕ, OnOk, OnErr, IfErr};
 ghost use Rattle.boot_codec.specs.Record.{IsBootRecord, set_count};
 ghost use Rattle.boot_codec.specs.Spelling.{spelling};
 ghost use Rattle.nvram_log.specs.Members.{IsSome};
@@ -11,13 +11,10 @@ use boot_codec::{DRIVE_FLAGS, Members, NUMBER_LIMIT, NVRAM_FLAGS, write_record};
 /// As many drives may be missing.
 const MISSING_MAX: usize = 2;
 
-/// No generation that is stored reaches this, so that room is left for others.
-const GENERATION_LIMIT: u64 = NUMBER_LIMIT - 8;
-
 /// Why no record was stored.
 #[derive(Clone, Copy, Debug, PartialEq, Eq, Drop)]
 pub enum StoreFault {
-    /// The next generation would be 2^48 - 8 or higher.
+    /// The next generation would be 2^48, which no record can hold.
     Spent,
     /// More than two drives of the shelf are missing from these.
     TooFew([bool; DRIVE_FLAGS]),
@@ -38,7 +35,6 @@ impl Register {
         ensures body { OnOk result (self.new.body.items ≡ spelling self.new.record) }
         ensures drives { self.new.drives ≡ self.old.drives }
         ensures enough { OnOk result (self.old.record.slots ≤ set_count self.old.drives + 2) }
-        ensures not_spent { OnOk result (self.new.record.generation < 2 ^ 48 - 8) }
         ensures err { OnErr result (self.new ≡ self.old) }
         ensures fault { IfErr result (λ e. IsFaultOf self.old e) }
     {
@@ -46,7 +42,7 @@ impl Register {
             return Err(StoreFault::TooFew(self.drives));
         }
         let generation = self.record.generation + 1;
-        if generation >= GENERATION_LIMIT {
+        if generation >= NUMBER_LIMIT {
             return Err(StoreFault::Spent);
         }
         self.record.generation = generation;

@@ -1,5 +1,5 @@
 // The next record is stored.
-ghost use Rattle.std.specs.Prelude.{◌≡◌, ◌<◌, ◌≤◌, ◌+◌, ◌-◌, ◌^◌, ℕ, List, OnOk, OnErr, IfErr, length};
+ghost use Rattle.std.specs.Prelude.{◌≡◌, ◌⊎◌, ◌<◌, ◌≤◌, ◌+◌, ◌-◌, ◌^◌, ℕ, List, OnOk, OnErr, IfErr, length};
 ghost use Rattle.pur_base.specs.Devices.{Conditions};
 ghost use Rattle.pur_base.specs.Plain.{Array};
 ghost use Rattle.pur_base.specs.Commands.{Command};
@@ -10,7 +10,7 @@ ghost use Rattle.world.specs.Losing.{geometry_of};
 ghost use Rattle.world.specs.Shelf.{Continues, LeavesOnly};
 ghost use Rattle.world.specs.Writes.{WritesOnly};
 ghost use Rattle.boot_region.specs.Members.{IsMember, NonMembersStay, DroppedFailed, OnSlot};
-ghost use Rattle.boot_region.specs.Storing.{Shows, IsOlder, IsInForceOn, IsNewer, IsStoredIn, MayFollow, StandsBut};
+ghost use Rattle.boot_region.specs.Storing.{Shows, GivesOldOrNew, IsOlder, IsInForceOn, IsNewer, IsStoredIn, MayFollow, StandsBut};
 ghost use Rattle.nvram_log.specs.Members.{IsSome};
 
 use crate::slots::slot_for;
@@ -21,7 +21,7 @@ use world::Shelf;
 impl Register {
     ghost use Rattle.register.specs.Faults.{IsFaultOf};
     ghost use Rattle.register.specs.Registers.{IsRegisterOf, IsLaterRecord, OnSlots, drives_of, next_record, own_slot, next_slot};
-    ghost use Rattle.register.specs.Standing.{StandsInLog, MayStore, MayStoreAgain, IsOpen};
+    ghost use Rattle.register.specs.Standing.{GivesOldOrNext, StandsInLog, MayStore, MayStoreAgain, IsOpen};
 
     /// Stores the record as it is spelled, on the drives that are left. Those on which it fails are dropped.
     fn put<S: Shelf>(&mut self, shelf: &mut S)
@@ -39,6 +39,9 @@ impl Register {
         ensures any_moment { (S.shelf shelf.old).honest → (missing : Conditions) (held boot : BootRecord) (arrays : List Array)
             → self.old.body.items ≡ spelling boot → IsInForceOn (S.shelf shelf.old) (drives_of self.old) missing (own_slot self.old.record) held → MayFollow (S.shelf shelf.old) missing (own_slot self.old.record) boot arrays
             → LeavesOnly (S.shelf shelf.old) (S.shelf shelf.new) (StandsBut (S.shelf shelf.old) (drives_of self.old) missing (own_slot self.old.record) held arrays) }
+        ensures gives { (S.shelf shelf.old).honest → (missing : Conditions) (held boot : BootRecord) (arrays : List Array)
+            → self.old.body.items ≡ spelling boot → IsInForceOn (S.shelf shelf.old) (drives_of self.old) missing (own_slot self.old.record) held → MayFollow (S.shelf shelf.old) missing (own_slot self.old.record) boot arrays
+            → LeavesOnly (S.shelf shelf.old) (S.shelf shelf.new) (GivesOldOrNew (S.shelf shelf.old) (drives_of self.old) missing (own_slot self.old.record) held boot) }
         ensures stored { (S.shelf shelf.old).honest → (missing : Conditions) (held boot : BootRecord) (arrays : List Array)
             → self.old.body.items ≡ spelling boot → IsNewer (own_slot self.old.record) held boot → IsInForceOn (S.shelf shelf.old) (drives_of self.old) missing (own_slot self.old.record) held → MayFollow (S.shelf shelf.old) missing (own_slot self.old.record) boot arrays
             → IsStoredIn (S.shelf shelf.old) (S.shelf shelf.new) (drives_of self.old) (drives_of self.new) missing (own_slot self.old.record) held boot arrays }
@@ -67,7 +70,6 @@ impl Register {
         ensures is_of { IsRegisterOf (geometry_of (S.shelf shelf.new)) self.new }
         ensures flags { length self.new.drives ≡ length self.old.drives }
         ensures next { OnOk result (self.new.record ≡ next_record self.old.record self.old.drives nvrams) }
-        ensures not_spent { OnOk result (self.new.record.generation < 2 ^ 48 - 8) }
         ensures enough { OnOk result (self.old.record.slots ≤ set_count self.old.drives + 2) }
         ensures same { OnErr result ((self.new.record ≡ self.old.record) × (self.new.drives ≡ self.old.drives)) }
         ensures fault { IfErr result (λ e. IsFaultOf self.new e) }
@@ -75,11 +77,14 @@ impl Register {
         ensures shown { (S.shelf shelf.old).honest → OnOk result ((i : ℕ) → IsMember (drives_of self.new) i → Shows (S.shelf shelf.new) (own_slot self.new.record) (spelling self.new.record) i) }
         ensures older { (S.shelf shelf.old).honest → OnOk result ((log : List Command) → StandsInLog (S.shelf shelf.old) self.old nvrams log
             → (i : ℕ) → IsMember (drives_of self.new) i → IsOlder (S.shelf shelf.new) (next_slot self.new.record) (spelling self.new.record) i) }
-        ensures any_moment { (S.shelf shelf.old).honest → (missing : Conditions) (log : List Command) (arrays : List Array)
+        ensures any_moment { (S.shelf shelf.old).honest → self.new.record.generation < 2 ^ 48 - 8 → (missing : Conditions) (log : List Command) (arrays : List Array)
             → MayStore (S.shelf shelf.old) self.old nvrams missing log arrays
             → LeavesOnly (S.shelf shelf.old) (S.shelf shelf.new) (StandsBut (S.shelf shelf.old) (drives_of self.old) missing (next_slot self.old.record) self.old.record arrays) }
+        ensures gives { (S.shelf shelf.old).honest → self.new.record.generation < 2 ^ 48 - 8 → (missing : Conditions) (log : List Command) (arrays : List Array)
+            → MayStore (S.shelf shelf.old) self.old nvrams missing log arrays
+            → LeavesOnly (S.shelf shelf.old) (S.shelf shelf.new) (GivesOldOrNext (S.shelf shelf.old) self.old nvrams missing) }
         // Then it may be stored again.
-        ensures again { (S.shelf shelf.old).honest → OnOk result ((missing : Conditions) (log : List Command) (arrays : List Array) → MayStore (S.shelf shelf.old) self.old nvrams missing log arrays
+        ensures again { (S.shelf shelf.old).honest → self.new.record.generation < 2 ^ 48 - 8 → OnOk result ((missing : Conditions) (log : List Command) (arrays : List Array) → MayStore (S.shelf shelf.old) self.old nvrams missing log arrays
             → MayStoreAgain (S.shelf shelf.old) (S.shelf shelf.new) self.old self.new nvrams missing log arrays) }
     {
         self.advance(nvrams)?;
@@ -105,7 +110,10 @@ impl Register {
         ensures writes { (S.shelf shelf.old).honest → WritesOnly (OnSlots (drives_of self.old)) (S.shelf shelf.old) (S.shelf shelf.new) }
         ensures is_of { IsRegisterOf (geometry_of (S.shelf shelf.new)) self.new }
         ensures later { IsLaterRecord self.old.record self.new.record }
-        ensures generation { OnOk result ((self.old.record.generation < self.new.record.generation) × (self.new.record.generation < 2 ^ 48 - 8)) }
+        ensures generation { OnOk result ((self.old.record.generation < self.new.record.generation) × (self.new.record.generation < 2 ^ 48)) }
+        // At most three records are stored.
+        ensures few { self.new.record.generation ≤ self.old.record.generation + 3 }
+        ensures rounds { (self.new.record.generation ≡ self.old.record.generation) ⊎ (self.new.record.generation + self.old.record.slots ≤ self.old.record.generation + set_count self.old.drives + 3) }
         ensures members { OnOk result ((self.new.record.members.drives ≡ self.new.drives) × (self.new.record.members.nvrams ≡ nvrams)) }
         ensures enough { OnOk result (self.new.record.slots ≤ set_count self.new.drives + 2) }
         // Each generation but the last costs a drive.
@@ -114,12 +122,16 @@ impl Register {
         ensures fault { IfErr result (λ e. IsFaultOf self.new e) }
         // The bytes of the record stand on the drives that are left, whatever the result.
         ensures logged { (S.shelf shelf.old).honest → (log : List Command) → StandsInLog (S.shelf shelf.old) self.old nvrams log → StandsInLog (S.shelf shelf.new) self.new nvrams log }
-        // At every moment the devices stand for the arrays for which they stood.
-        ensures any_moment { (S.shelf shelf.old).honest → (missing : Conditions) (log : List Command) (arrays : List Array)
+        // At every moment the devices stand for the arrays for which they stood, as long as each record that is stored leaves room for later ones.
+        ensures any_moment { (S.shelf shelf.old).honest → self.new.record.generation < 2 ^ 48 - 8 → (missing : Conditions) (log : List Command) (arrays : List Array)
             → MayStore (S.shelf shelf.old) self.old nvrams missing log arrays
             → LeavesOnly (S.shelf shelf.old) (S.shelf shelf.new) (StandsBut (S.shelf shelf.old) (drives_of self.old) missing (next_slot self.old.record) self.old.record arrays) }
+        // What may be given at any moment is such a record, or one that might have been given before.
+        ensures gives { (S.shelf shelf.old).honest → self.new.record.generation < 2 ^ 48 - 8 → (missing : Conditions) (log : List Command) (arrays : List Array)
+            → MayStore (S.shelf shelf.old) self.old nvrams missing log arrays
+            → LeavesOnly (S.shelf shelf.old) (S.shelf shelf.new) (GivesOldOrNext (S.shelf shelf.old) self.old nvrams missing) }
         // Then the record is in force, and the devices stand for the array of the log.
-        ensures stored { (S.shelf shelf.old).honest → (log : List Command) → StandsInLog (S.shelf shelf.old) self.old nvrams log → OnOk result (IsOpen (S.shelf shelf.new) self.new nvrams log) }
+        ensures stored { (S.shelf shelf.old).honest → self.new.record.generation < 2 ^ 48 - 8 → (log : List Command) → StandsInLog (S.shelf shelf.old) self.old nvrams log → OnOk result (IsOpen (S.shelf shelf.new) self.new nvrams log) }
     {
         self.store_next(nvrams, shelf)?;
         if self.drives == self.record.members.drives {

@@ -13,6 +13,7 @@ abbrev pub fault_of : LoadFault → OpenFault
 fault_of (load.Memory m) = open_fault.Memory m
 fault_of load.NoArray = open_fault.NoArray
 fault_of (load.BadRecord e) = open_fault.BadRecord e
+fault_of load.Spent = open_fault.Spent
 fault_of (load.TooFew drives) = open_fault.TooFew drives
 
 -- that of a log that wasn't opened

@@ -24,7 +24,7 @@ pub enum OpenFault {
     BothLost,
     /// The log has a command of a form that isn't served yet.
     Unserved,
-    /// The next generation would be 2^48 - 8 or higher.
+    /// The generation of the record is 2^48 - 8 or higher: no room is left for later ones.
     Spent,
 }
 
@@ -36,6 +36,7 @@ impl From<LoadFault> for OpenFault {
             LoadFault::Memory(none) => OpenFault::Memory(none),
             LoadFault::NoArray => OpenFault::NoArray,
             LoadFault::BadRecord(bad) => OpenFault::BadRecord(bad),
+            LoadFault::Spent => OpenFault::Spent,
             LoadFault::TooFew(drives) => OpenFault::TooFew(drives),
         }
     }

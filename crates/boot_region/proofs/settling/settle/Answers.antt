@@ -11,7 +11,7 @@ use Rattle.pur_base.proofs.Devices.{drives_apart}
 use Rattle.boot_region.specs.Members.{IsMember, IsOneOf, OnClosed, Opened}
 use Rattle.boot_region.specs.Slots.{slot_in}
 use Rattle.boot_region.proofs.ShownLemmas.{gate_low, gate_aligned}
-use Rattle.boot_region.proofs.Settled.{closed_on_members, opened_of, stands_while_settling, is_settled}
+use Rattle.boot_region.proofs.Settled.{closed_on_members, opened_of, gives_no_more, still_given, stands_while_settling, is_settled}
 use Rattle.boot_region.proofs.settling.settle.Goals as goal
 use Rattle.boot_region.proofs.settling.settle.Goals.{then-members-drive, else-members-drive}
 
@@ -77,6 +77,16 @@ returns-clause-writes g c h =
 pub returns-clause-any_moment : goal.returns-clause-any_moment
 returns-clause-any_moment g c h missing boot arrays loaded =
     weaker (λ stop left. stands_while_settling c.args.members.now (g.S.Shelf.shelf c.args.shelf.now) stop (slot_in c.args.slot) boot missing arrays (g.met.S.Shelf.is_shelf c.args.shelf.now) h left loaded)
+    (returns-clause-writes g c h).any_moment
+
+pub returns-clause-gives : goal.returns-clause-gives
+returns-clause-gives g c h missing boot arrays loaded =
+    weaker (λ stop left. gives_no_more c.args.members.now (g.S.Shelf.shelf c.args.shelf.now) stop (slot_in c.args.slot) boot missing arrays (g.met.S.Shelf.is_shelf c.args.shelf.now) h left loaded)
+    (returns-clause-writes g c h).any_moment
+
+pub returns-clause-still : goal.returns-clause-still
+returns-clause-still g c h missing boot arrays loaded =
+    weaker (λ stop left. still_given c.args.members.now (g.S.Shelf.shelf c.args.shelf.now) stop (slot_in c.args.slot) boot missing arrays (g.met.S.Shelf.is_shelf c.args.shelf.now) h left loaded)
     (returns-clause-writes g c h).any_moment
 
 pub returns-clause-settled : goal.returns-clause-settled

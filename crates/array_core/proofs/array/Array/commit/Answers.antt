@@ -1,4 +1,4 @@
-use Rattle.std.proofs.Common.{rules, ◌≡◌, ◌∙◌, sym, subst, refl, inr, ℕ, ◌++◌, ◌∷◌, [], List, length, Bool, Result, IfErr}
+use Rattle.std.proofs.Common.{rules, ◌≡◌, ◌∙◌, sym, subst, refl, inr, ℕ, ◌-◌, ◌^◌, ◌<◌, ◌++◌, ◌∷◌, [], List, length, Bool, Result, IfErr, arith}
 use Rattle.std.proofs.lemmas.Result.{err_from_is_err_and}
 use Rattle.pur_base.specs.Commands.{Command}
 use Rattle.pur_base.specs.Devices.{Conditions, Geometry, nvram}
@@ -9,7 +9,7 @@ use Rattle.world.proofs.Moments.{continues_trans}
 use Rattle.boot_region.specs.Storing.{StandsBut}
 use Rattle.nvram_log.specs.Held.{HoldsOn}
 use Rattle.register.specs.Registers.{IsRegisterOf, drives_of, next_slot}
-use Rattle.register.specs.Standing.{IsOpen, MayStore, StandsInLog}
+use Rattle.register.specs.Standing.{GivesOldOrNext, IsOpen, MayStore, StandsInLog}
 use Rattle.register.proofs.FlagLemmas.{same_flags, other_flags}
 use Rattle.array_core.specs.declared.array.Array.{Array}
 use Rattle.array_core.specs.declared.perform.PerformFault.{PerformFault}
@@ -18,11 +18,11 @@ use Rattle.array_core.specs.Performing.{IsLost}
 use Rattle.array_core.proofs.Losses.{same_geometry}
 use Rattle.array_core.proofs.Lost.{lost_drives}
 use Rattle.array_core.proofs.Dropped.{drops_failed, none_joins, rises_little}
-use Rattle.array_core.proofs.Appended.{appending, was_held, append_moments, still_open, logged, all_moments}
+use Rattle.array_core.proofs.Appended.{appending, was_held, append_moments, off_nvrams, still_open, logged, all_moments}
 use Rattle.array_core.proofs.array.Array.commit.Goals as goal
 
 pub returns-in_err-append-clause-any_moment : goal.returns-in_err-append-clause-any_moment
-returns-in_err-append-clause-any_moment g c h cmds o keeps accepted =
+returns-in_err-append-clause-any_moment g c h cmds o keeps accepted in_force =
     let a = g.S.Shelf.shelf c.args.shelf.now in
     let m = g.S.Shelf.shelf c.append.new.shelf in
     let r = c.args.self.now.register in
@@ -31,11 +31,11 @@ returns-in_err-append-clause-any_moment g c h cmds o keeps accepted =
     let cmd : Command = record { request = c.args.request.now; sectors = c.args.sectors.now } in
     let x = c.append.ensures in
     let p = appending a m r log now cmds cmd (g.met.S.Shelf.is_shelf c.args.shelf.now) (g.met.S.Shelf.is_shelf c.append.new.shelf) h x.continues o keeps c.requires.not_spent c.requires.room c.requires.is_of.flushed accepted
-    x.drives x.fewer x.dropped (x.any_moment h cmds keeps (was_held r log c.requires.is_of.flushed o)) (x.writes h) (x.spelled 0 _ refl) in
+    x.drives x.fewer x.dropped (x.any_moment h cmds keeps (was_held r log c.requires.is_of.flushed o)) (x.writes h) (x.spelled 0 _ refl) in_force in
     append_moments a m r log.members now cmds cmd p
 
 pub returns-then-eq-clause-any_moment : goal.returns-then-eq-clause-any_moment
-returns-then-eq-clause-any_moment g c h cmds o keeps accepted =
+returns-then-eq-clause-any_moment g c h cmds o keeps accepted in_force =
     let a = g.S.Shelf.shelf c.args.shelf.now in
     let m = g.S.Shelf.shelf c.append.new.shelf in
     let r = c.args.self.now.register in
@@ -44,11 +44,11 @@ returns-then-eq-clause-any_moment g c h cmds o keeps accepted =
     let cmd : Command = record { request = c.args.request.now; sectors = c.args.sectors.now } in
     let x = c.append.ensures in
     let p = appending a m r log now cmds cmd (g.met.S.Shelf.is_shelf c.args.shelf.now) (g.met.S.Shelf.is_shelf c.append.new.shelf) h x.continues o keeps c.requires.not_spent c.requires.room c.requires.is_of.flushed accepted
-    x.drives x.fewer x.dropped (x.any_moment h cmds keeps (was_held r log c.requires.is_of.flushed o)) (x.writes h) (x.spelled 0 _ refl) in
+    x.drives x.fewer x.dropped (x.any_moment h cmds keeps (was_held r log c.requires.is_of.flushed o)) (x.writes h) (x.spelled 0 _ refl) in_force in
     append_moments a m r log.members now cmds cmd p
 
 pub returns-then-eq-clause-held : goal.returns-then-eq-clause-held
-returns-then-eq-clause-held g c h cmds o keeps accepted =
+returns-then-eq-clause-held g c h cmds o keeps accepted in_force =
     let a = g.S.Shelf.shelf c.args.shelf.now in
     let m = g.S.Shelf.shelf c.append.new.shelf in
     let r = c.args.self.now.register in
@@ -58,7 +58,7 @@ returns-then-eq-clause-held g c h cmds o keeps accepted =
     let x = c.append.ensures in
     let held = was_held r log c.requires.is_of.flushed o in
     let p = appending a m r log now cmds cmd (g.met.S.Shelf.is_shelf c.args.shelf.now) (g.met.S.Shelf.is_shelf c.append.new.shelf) h x.continues o keeps c.requires.not_spent c.requires.room c.requires.is_of.flushed accepted
-    x.drives x.fewer x.dropped (x.any_moment h cmds keeps held) (x.writes h) (x.spelled 0 _ refl) in
+    x.drives x.fewer x.dropped (x.any_moment h cmds keeps held) (x.writes h) (x.spelled 0 _ refl) in_force in
     let holds : HoldsOn m now r.record.flushed (cmds ++ cmd ∷ []) = subst (λ (f : ℕ). HoldsOn m now f (cmds ++ cmd ∷ [])) (x.flushed ∙ c.requires.is_of.flushed) (c.in_ok-append.ensures.holds h cmds keeps held) in
     let named : r.record.members.nvrams ≡ now = o.nvrams_are ∙ sym c.members-before.ensures ∙ sym (same_flags c.members-members.result c.members-before.result c.if-eq.ensures) ∙ c.members-members.ensures in
     still_open a m r log.members now cmds cmd p holds c.in_ok-append.ensures.ok.1 named
@@ -85,7 +85,7 @@ returns-in_err-store-clause-lost g c =
     subst (λ (t : Result (Unit {0}) PerformFault). IfErr t (λ e. (e ≡ Device) × IsLost a n c.args.self.now)) (sym q.1) (q.2, lost)
 
 pub returns-in_err-store-clause-any_moment : goal.returns-in_err-store-clause-any_moment
-returns-in_err-store-clause-any_moment g c h cmds o keeps accepted =
+returns-in_err-store-clause-any_moment g c h cmds o keeps accepted in_force =
     let a = g.S.Shelf.shelf c.args.shelf.now in
     let m = g.S.Shelf.shelf c.append.new.shelf in
     let n = g.S.Shelf.shelf c.store.new.shelf in
@@ -94,17 +94,21 @@ returns-in_err-store-clause-any_moment g c h cmds o keeps accepted =
     let now = c.append.new.self.members in
     let cmd : Command = record { request = c.args.request.now; sectors = c.args.sectors.now } in
     let x = c.append.ensures in
+    let room : c.store.new.self.record.generation < 2 ^ 48 - 8 = omega (arith, c.store.ensures.few, c.requires.not_spent) in
     let held = was_held r log c.requires.is_of.flushed o in
     let p = appending a m r log now cmds cmd (g.met.S.Shelf.is_shelf c.args.shelf.now) (g.met.S.Shelf.is_shelf c.append.new.shelf) h x.continues o keeps c.requires.not_spent c.requires.room c.requires.is_of.flushed accepted
-    x.drives x.fewer x.dropped (x.any_moment h cmds keeps held) (x.writes h) (x.spelled 0 _ refl) in
+    x.drives x.fewer x.dropped (x.any_moment h cmds keeps held) (x.writes h) (x.spelled 0 _ refl) in_force in
     let holds : HoldsOn m now r.record.flushed (cmds ++ cmd ∷ []) = subst (λ (f : ℕ). HoldsOn m now f (cmds ++ cmd ∷ [])) (x.flushed ∙ c.requires.is_of.flushed) (c.in_ok-append.ensures.holds h cmds keeps held) in
     let storing : (missing : Conditions) (k : List Command) (others : List plain.Array) → MayStore m r now missing k others → LeavesOnly m n (StandsBut m (drives_of r) missing (next_slot r.record) r.record others) =
     subst (λ (l : List Bool). (missing : Conditions) (k : List Command) (others : List plain.Array) → MayStore m r l missing k others → LeavesOnly m n (StandsBut m (drives_of r) missing (next_slot r.record) r.record others))
-    c.members-members.ensures (c.store.ensures.any_moment (x.continues.honest h)) in
-    all_moments a m r log.members now cmds cmd p holds c.in_ok-append.ensures.ok.1 n (c.store.ensures.writes (x.continues.honest h)) storing
+    c.members-members.ensures (c.store.ensures.any_moment (x.continues.honest h) room) in
+    let giving : (missing : Conditions) (k : List Command) (others : List plain.Array) → MayStore m r now missing k others → LeavesOnly m n (GivesOldOrNext m r now missing) =
+    subst (λ (l : List Bool). (missing : Conditions) (k : List Command) (others : List plain.Array) → MayStore m r l missing k others → LeavesOnly m n (GivesOldOrNext m r l missing))
+    c.members-members.ensures (c.store.ensures.gives (x.continues.honest h) room) in
+    all_moments a m r log.members now cmds cmd p holds c.in_ok-append.ensures.ok.1 n (off_nvrams (drives_of r)) (c.store.ensures.writes (x.continues.honest h)) storing giving
 
 pub returns-clause-any_moment : goal.returns-clause-any_moment
-returns-clause-any_moment g c h cmds o keeps accepted =
+returns-clause-any_moment g c h cmds o keeps accepted in_force =
     let a = g.S.Shelf.shelf c.args.shelf.now in
     let m = g.S.Shelf.shelf c.append.new.shelf in
     let n = g.S.Shelf.shelf c.store.new.shelf in
@@ -113,17 +117,21 @@ returns-clause-any_moment g c h cmds o keeps accepted =
     let now = c.append.new.self.members in
     let cmd : Command = record { request = c.args.request.now; sectors = c.args.sectors.now } in
     let x = c.append.ensures in
+    let room : c.store.new.self.record.generation < 2 ^ 48 - 8 = omega (arith, c.store.ensures.few, c.requires.not_spent) in
     let held = was_held r log c.requires.is_of.flushed o in
     let p = appending a m r log now cmds cmd (g.met.S.Shelf.is_shelf c.args.shelf.now) (g.met.S.Shelf.is_shelf c.append.new.shelf) h x.continues o keeps c.requires.not_spent c.requires.room c.requires.is_of.flushed accepted
-    x.drives x.fewer x.dropped (x.any_moment h cmds keeps held) (x.writes h) (x.spelled 0 _ refl) in
+    x.drives x.fewer x.dropped (x.any_moment h cmds keeps held) (x.writes h) (x.spelled 0 _ refl) in_force in
     let holds : HoldsOn m now r.record.flushed (cmds ++ cmd ∷ []) = subst (λ (f : ℕ). HoldsOn m now f (cmds ++ cmd ∷ [])) (x.flushed ∙ c.requires.is_of.flushed) (c.in_ok-append.ensures.holds h cmds keeps held) in
     let storing : (missing : Conditions) (k : List Command) (others : List plain.Array) → MayStore m r now missing k others → LeavesOnly m n (StandsBut m (drives_of r) missing (next_slot r.record) r.record others) =
     subst (λ (l : List Bool). (missing : Conditions) (k : List Command) (others : List plain.Array) → MayStore m r l missing k others → LeavesOnly m n (StandsBut m (drives_of r) missing (next_slot r.record) r.record others))
-    c.members-members.ensures (c.store.ensures.any_moment (x.continues.honest h)) in
-    all_moments a m r log.members now cmds cmd p holds c.in_ok-append.ensures.ok.1 n (c.store.ensures.writes (x.continues.honest h)) storing
+    c.members-members.ensures (c.store.ensures.any_moment (x.continues.honest h) room) in
+    let giving : (missing : Conditions) (k : List Command) (others : List plain.Array) → MayStore m r now missing k others → LeavesOnly m n (GivesOldOrNext m r now missing) =
+    subst (λ (l : List Bool). (missing : Conditions) (k : List Command) (others : List plain.Array) → MayStore m r l missing k others → LeavesOnly m n (GivesOldOrNext m r l missing))
+    c.members-members.ensures (c.store.ensures.gives (x.continues.honest h) room) in
+    all_moments a m r log.members now cmds cmd p holds c.in_ok-append.ensures.ok.1 n (off_nvrams (drives_of r)) (c.store.ensures.writes (x.continues.honest h)) storing giving
 
 pub returns-clause-held : goal.returns-clause-held
-returns-clause-held g c h cmds o keeps accepted =
+returns-clause-held g c h cmds o keeps accepted in_force =
     let a = g.S.Shelf.shelf c.args.shelf.now in
     let m = g.S.Shelf.shelf c.append.new.shelf in
     let n = g.S.Shelf.shelf c.store.new.shelf in
@@ -132,13 +140,14 @@ returns-clause-held g c h cmds o keeps accepted =
     let now = c.append.new.self.members in
     let cmd : Command = record { request = c.args.request.now; sectors = c.args.sectors.now } in
     let x = c.append.ensures in
+    let room : c.store.new.self.record.generation < 2 ^ 48 - 8 = omega (arith, c.store.ensures.few, c.requires.not_spent) in
     let held = was_held r log c.requires.is_of.flushed o in
     let p = appending a m r log now cmds cmd (g.met.S.Shelf.is_shelf c.args.shelf.now) (g.met.S.Shelf.is_shelf c.append.new.shelf) h x.continues o keeps c.requires.not_spent c.requires.room c.requires.is_of.flushed accepted
-    x.drives x.fewer x.dropped (x.any_moment h cmds keeps held) (x.writes h) (x.spelled 0 _ refl) in
+    x.drives x.fewer x.dropped (x.any_moment h cmds keeps held) (x.writes h) (x.spelled 0 _ refl) in_force in
     let holds : HoldsOn m now r.record.flushed (cmds ++ cmd ∷ []) = subst (λ (f : ℕ). HoldsOn m now f (cmds ++ cmd ∷ [])) (x.flushed ∙ c.requires.is_of.flushed) (c.in_ok-append.ensures.holds h cmds keeps held) in
     let in_log = logged a m r log.members now cmds cmd p holds c.in_ok-append.ensures.ok.1 in
     let stored : IsOpen n c.store.new.self c.members-members.result (cmds ++ cmd ∷ []) =
-    c.in_ok-store.ensures.stored (x.continues.honest h) (cmds ++ cmd ∷ []) (subst (λ (l : List Bool). StandsInLog m r l (cmds ++ cmd ∷ [])) (sym c.members-members.ensures) in_log) in
+    c.in_ok-store.ensures.stored (x.continues.honest h) room (cmds ++ cmd ∷ []) (subst (λ (l : List Bool). StandsInLog m r l (cmds ++ cmd ∷ [])) (sym c.members-members.ensures) in_log) in
     subst (λ (l : List Bool). IsOpen n c.store.new.self l (cmds ++ cmd ∷ [])) c.members-members.ensures stored
 
 pub returns-clause-generation : goal.returns-clause-generation

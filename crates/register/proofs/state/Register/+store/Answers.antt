@@ -1,14 +1,16 @@
-use Rattle.std.proofs.Common.{rules, arith, ◌≡◌, ◌+◌, ◌<◌, ◌≤◌, length, sym, ◌∙◌, ap}
+use Rattle.std.proofs.Common.{rules, inl, inr, refl, subst, ◌-◌, ◌^◌, ℕ, List, Bool, arith, ◌≡◌, ◌+◌, ◌<◌, ◌≤◌, length, sym, ◌∙◌, ap}
 use Rattle.boot_codec.specs.declared.record.BootRecord.{BootRecord}
 use Rattle.boot_codec.specs.Record.{set_count}
-use Rattle.world.proofs.Moments.{continues_trans}
+use Rattle.world.proofs.Moments.{continues_trans, weaker}
 use Rattle.world.proofs.Writes.{writes_then, writes_more}
 use Rattle.boot_region.proofs.Stored.{stay_then}
 use Rattle.register.specs.Registers.{OnSlots, drives_of, next_slot}
+use Rattle.register.specs.Standing.{IsNextOf}
 use Rattle.register.proofs.FlagLemmas.{same_flags, other_flags}
 use Rattle.register.proofs.Opened.{is_open}
-use Rattle.register.proofs.Again.{again_moments, meanwhile}
-use Rattle.register.proofs.Stores.{fewer_cut, on_more, fewer_left, on_ok, on_err}
+use Rattle.register.proofs.Again.{again_moments, again_gives, next_after, meanwhile}
+use Rattle.register.proofs.Stores.{at_most_slots, fewer_cut, on_more, fewer_left, on_ok, on_err}
+use Rattle.register.proofs.state.Register.+store.Given as given
 use Rattle.register.proofs.state.Register.+store.Goals as goal
 
 pub returns-then-eq-clause-members : goal.returns-then-eq-clause-members
@@ -31,7 +33,7 @@ returns-then-eq-clause-stores g t c =
     omega (arith, generation, count)
 
 pub returns-then-eq-clause-stored : goal.returns-then-eq-clause-stored
-returns-then-eq-clause-stored g t c h log logged =
+returns-then-eq-clause-stored g t c h low log logged =
     let same : c.store_next.new.self.drives ≡ c.store_next.new.self.record.members.drives = same_flags c.store_next.new.self.drives c.store_next.new.self.record.members.drives c.if-eq.ensures in
     let slots : c.store_next.new.self.record.slots ≡ c.args.self.now.record.slots = ap (λ (b : BootRecord). b.slots) c.in_ok-store_next.ensures.next in
     let count : set_count c.store_next.new.self.drives ≡ set_count c.args.self.now.drives = ap set_count (same ∙ ap (λ (b : BootRecord). b.members.drives) c.in_ok-store_next.ensures.next) in
@@ -39,7 +41,7 @@ returns-then-eq-clause-stored g t c h log logged =
     let enough : c.store_next.new.self.record.slots ≤ set_count c.store_next.new.self.drives + 2 = omega (arith, slots, count, c.in_ok-store_next.ensures.enough) in
     is_open (g.S.Shelf.shelf c.store_next.new.shelf) (g.met.S.Shelf.is_shelf c.store_next.new.shelf) _ c.args.nvrams log
     (record { is_of = record { lawful = l.is_of.lawful; named = l.is_of.named }; patches = l.patches; bodies = l.bodies; holds = l.holds; accepted = l.accepted })
-    (sym same) (ap (λ (b : BootRecord). b.members.nvrams) c.in_ok-store_next.ensures.next) enough c.in_ok-store_next.ensures.not_spent c.requires.nvrams
+    (sym same) (ap (λ (b : BootRecord). b.members.nvrams) c.in_ok-store_next.ensures.next) enough low c.requires.nvrams
     (c.in_ok-store_next.ensures.shown h) (c.in_ok-store_next.ensures.older h log logged)
 
 pub store-requires : goal.store-requires
@@ -76,6 +78,38 @@ returns-clause-stores g t c =
     let generation : c.store_next.new.self.record.generation ≡ c.args.self.now.record.generation + 1 = ap (λ (b : BootRecord). b.generation) c.in_ok-store_next.ensures.next in
     on_ok c.store.result (λ le. omega (arith, le, smaller, generation)) c.store.ensures.stores
 
+pub returns-then-eq-clause-rounds : goal.returns-then-eq-clause-rounds
+returns-then-eq-clause-rounds g t c =
+    let generation : c.store_next.new.self.record.generation ≡ c.args.self.now.record.generation + 1 = ap (λ (b : BootRecord). b.generation) c.in_ok-store_next.ensures.next in
+    inr (omega (arith, generation, c.in_ok-store_next.ensures.enough))
+
+pub returns-then-eq-clause-few : goal.returns-then-eq-clause-few
+returns-then-eq-clause-few g t c =
+    let generation : c.store_next.new.self.record.generation ≡ c.args.self.now.record.generation + 1 = ap (λ (b : BootRecord). b.generation) c.in_ok-store_next.ensures.next in
+    omega (arith, generation)
+
+pub returns-clause-rounds : goal.returns-clause-rounds
+returns-clause-rounds g t c =
+    let as_many : length c.store_next.new.self.drives ≡ length c.args.self.now.drives = c.in_ok-store_next.ensures.flags in
+    let smaller : set_count c.store_next.new.self.drives < set_count c.args.self.now.drives =
+    fewer_left c.args.self.now.drives c.store_next.new.self.drives c.store_next.new.self.record.members.drives as_many c.in_ok-store_next.ensures.fewer
+    (ap (λ (b : BootRecord). b.members.drives) c.in_ok-store_next.ensures.next) (other_flags c.store_next.new.self.drives c.store_next.new.self.record.members.drives c.if-eq.ensures) in
+    let slots : c.store_next.new.self.record.slots ≡ c.args.self.now.record.slots = ap (λ (b : BootRecord). b.slots) c.in_ok-store_next.ensures.next in
+    let generation : c.store_next.new.self.record.generation ≡ c.args.self.now.record.generation + 1 = ap (λ (b : BootRecord). b.generation) c.in_ok-store_next.ensures.next in
+    elim c.store.ensures.rounds [
+      | inl same ↦ inr (omega (arith, generation, same, c.in_ok-store_next.ensures.enough))
+      | inr le ↦ inr (omega (arith, generation, le, slots, smaller))
+    ]
+
+pub returns-clause-few : goal.returns-clause-few
+returns-clause-few g t c =
+    let most : set_count c.args.self.now.drives ≤ c.args.self.now.record.slots = at_most_slots c.args.self.now (c.requires.is_of) in
+    let generation : c.store_next.new.self.record.generation ≡ c.args.self.now.record.generation + 1 = ap (λ (b : BootRecord). b.generation) c.in_ok-store_next.ensures.next in
+    elim (returns-clause-rounds g t c) [
+      | inl same ↦ omega (arith, same)
+      | inr le ↦ omega (arith, le, most)
+    ]
+
 pub returns-clause-lost : goal.returns-clause-lost
 returns-clause-lost g t c =
     let as_many : length c.store_next.new.self.drives ≡ length c.args.self.now.drives = c.in_ok-store_next.ensures.flags in
@@ -85,8 +119,11 @@ returns-clause-lost g t c =
     let generation : c.store_next.new.self.record.generation ≡ c.args.self.now.record.generation + 1 = ap (λ (b : BootRecord). b.generation) c.in_ok-store_next.ensures.next in
     on_err c.store.result (λ le. omega (arith, le, smaller, generation)) c.store.ensures.lost
 
+room : (g : given.Over) (t : _) (c : goal.After-store g t) → c.store.new.self.record.generation < 2 ^ 48 - 8 → c.store_next.new.self.record.generation < 2 ^ 48 - 8
+room g t c low = omega (arith, c.store.ensures.later.generation, low)
+
 pub returns-clause-any_moment : goal.returns-clause-any_moment
-returns-clause-any_moment g t c h missing log arrays may =
+returns-clause-any_moment g t c h low missing log arrays may =
     let a = g.S.Shelf.shelf c.args.shelf.now in
     let b = g.S.Shelf.shelf c.store_next.new.shelf in
     let e = g.S.Shelf.shelf c.store.new.shelf in
@@ -95,10 +132,10 @@ returns-clause-any_moment g t c h missing log arrays may =
     again_moments a b (drives_of c.args.self.now) missing (next_slot c.args.self.now.record) c.args.self.now.record {W = OnSlots (drives_of c.store_next.new.self)} e (drives_of c.store_next.new.self)
     (next_slot c.store_next.new.self.record) c.store_next.new.self.record arrays ab
     (fewer_cut c.args.self.now c.store_next.new.self (ap (λ (x : BootRecord). x.slots) c.in_ok-store_next.ensures.next) c.in_ok-store_next.ensures.fewer)
-    (c.in_ok-store_next.ensures.older h log may.logged) (c.in_ok-store_next.ensures.any_moment h missing log arrays may)
+    (c.in_ok-store_next.ensures.older h log may.logged) (c.in_ok-store_next.ensures.any_moment h (room g t c low) missing log arrays may)
     (λ bears account.
-    let m = c.in_ok-store_next.ensures.again h missing log arrays may (meanwhile a b (drives_of c.args.self.now) missing (next_slot c.args.self.now.record) c.args.self.now.record) account in
-    c.store.ensures.any_moment hb (meanwhile a b (drives_of c.args.self.now) missing (next_slot c.args.self.now.record) c.args.self.now.record) log arrays
+    let m = c.in_ok-store_next.ensures.again h (room g t c low) missing log arrays may (meanwhile a b (drives_of c.args.self.now) missing (next_slot c.args.self.now.record) c.args.self.now.record) account in
+    c.store.ensures.any_moment hb low (meanwhile a b (drives_of c.args.self.now) missing (next_slot c.args.self.now.record) c.args.self.now.record) log arrays
     (record {
       logged = record { is_of = record { lawful = m.logged.is_of.lawful; named = m.logged.is_of.named }; patches = m.logged.patches; bodies = m.logged.bodies; holds = m.logged.holds; accepted = m.logged.accepted };
       in_force = m.in_force;
@@ -107,4 +144,32 @@ returns-clause-any_moment g t c h missing log arrays may =
       sound = m.sound;
       left_out = m.left_out;
     }))
+    (c.store.ensures.writes hb).any_moment
+
+pub returns-clause-gives : goal.returns-clause-gives
+returns-clause-gives g t c h low missing log arrays may =
+    let a = g.S.Shelf.shelf c.args.shelf.now in
+    let b = g.S.Shelf.shelf c.store_next.new.shelf in
+    let e = g.S.Shelf.shelf c.store.new.shelf in
+    let ab = c.in_ok-store_next.ensures.continues in
+    let hb = ab.honest h in
+    let next : IsNextOf c.args.self.now c.args.nvrams c.store_next.new.self.record = subst (λ (x : BootRecord). IsNextOf c.args.self.now c.args.nvrams x) (sym c.in_ok-store_next.ensures.next) (record { later = record { generation = omega arith; rest = refl }; generation = omega arith; nvrams_are = refl; drives = λ i m. m }) in
+    again_gives a b (drives_of c.args.self.now) missing (next_slot c.args.self.now.record) c.args.self.now.record {W = OnSlots (drives_of c.store_next.new.self)} e (drives_of c.store_next.new.self)
+    (next_slot c.store_next.new.self.record) c.store_next.new.self.record (IsNextOf c.args.self.now c.args.nvrams) (IsNextOf c.store_next.new.self c.args.nvrams) (g.met.S.Shelf.is_shelf c.store_next.new.shelf) ab
+    (fewer_cut c.args.self.now c.store_next.new.self (ap (λ (x : BootRecord). x.slots) c.in_ok-store_next.ensures.next) c.in_ok-store_next.ensures.fewer)
+    (c.in_ok-store_next.ensures.older h log may.logged) (next_after c.args.self.now c.store_next.new.self c.args.nvrams next c.in_ok-store_next.ensures.fewer) (c.in_ok-store_next.ensures.gives h (room g t c low) missing log arrays may)
+    (λ bears account.
+    let m = c.in_ok-store_next.ensures.again h (room g t c low) missing log arrays may (meanwhile a b (drives_of c.args.self.now) missing (next_slot c.args.self.now.record) c.args.self.now.record) account in
+    weaker (λ stop all later told slot boot given. elim (all later told slot boot given) [
+      | inl was ↦ inl was
+      | inr n ↦ inr (record { later = record { generation = n.later.generation; rest = n.later.rest }; generation = n.generation; nvrams_are = n.nvrams_are; drives = n.drives })
+    ]) (c.store.ensures.gives hb low (meanwhile a b (drives_of c.args.self.now) missing (next_slot c.args.self.now.record) c.args.self.now.record) log arrays
+    (record {
+      logged = record { is_of = record { lawful = m.logged.is_of.lawful; named = m.logged.is_of.named }; patches = m.logged.patches; bodies = m.logged.bodies; holds = m.logged.holds; accepted = m.logged.accepted };
+      in_force = m.in_force;
+      stands = m.stands;
+      one_of = m.one_of;
+      sound = m.sound;
+      left_out = m.left_out;
+    })))
     (c.store.ensures.writes hb).any_moment

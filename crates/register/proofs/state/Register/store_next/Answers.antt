@@ -1,4 +1,4 @@
-use Rattle.std.proofs.Common.{arith, ◌≡◌, ◌+◌, ◌-◌, ◌^◌, ◌<◌, ◌≤◌, ℕ, List, Bool, length, ◌∙◌, ap, subst}
+use Rattle.std.proofs.Common.{inl, arith, ◌≡◌, ◌+◌, ◌-◌, ◌^◌, ◌<◌, ◌≤◌, ℕ, List, Bool, length, ◌∙◌, ap, subst}
 use Rattle.boot_codec.specs.declared.record.BootRecord.{BootRecord}
 use Rattle.boot_codec.specs.Record.{IsBootRecord}
 use Rattle.boot_codec.specs.Spelling.{spelling}
@@ -6,17 +6,25 @@ use Rattle.world.proofs.Moments.{started}
 use Rattle.boot_region.specs.Members.{IsMember}
 use Rattle.boot_region.specs.Storing.{StandsBut}
 use Rattle.register.specs.Registers.{drives_of, next_slot, next_record}
-use Rattle.register.proofs.Rounds.{Puts, puts_next, fewer_all, writes_slots, is_of_next, logged_next, older_next, shown_next, moments_next, again_next}
+use Rattle.register.proofs.Rounds.{Puts, puts_next, fewer_all, writes_slots, is_of_next, logged_next, older_next, shown_next, moments_next, gives_next, again_next}
+use Rattle.array_spec.proofs.Standings.{given_with_fewer}
+use Rattle.register.specs.Standing.{GivesOldOrNext}
 use Rattle.register.proofs.Follows.{stands_before}
 use Rattle.register.proofs.state.Register.store_next.Given as given
 use Rattle.register.proofs.state.Register.store_next.Goals as goal
 
 -- nothing was written
 pub returns-in_err-advance-clause-any_moment : goal.returns-in_err-advance-clause-any_moment
-returns-in_err-advance-clause-any_moment g c h missing log arrays may =
+returns-in_err-advance-clause-any_moment g c h low missing log arrays may =
     let a = g.S.Shelf.shelf c.args.shelf.now in
     started a (StandsBut a (drives_of c.args.self.now) missing (next_slot c.args.self.now.record) c.args.self.now.record arrays) (g.met.S.Shelf.is_shelf c.args.shelf.now)
     (λ stop m later account. stands_before a missing later arrays stop m (may.stands stop m) account.within account.bearable)
+
+pub returns-in_err-advance-clause-gives : goal.returns-in_err-advance-clause-gives
+returns-in_err-advance-clause-gives g c h low missing log arrays may =
+    let a = g.S.Shelf.shelf c.args.shelf.now in
+    started a (GivesOldOrNext a c.args.self.now c.args.nvrams missing) (g.met.S.Shelf.is_shelf c.args.shelf.now)
+    (λ stop m later account slot boot given. inl (record { start = stop; may = m; given = given_with_fewer account.within given }))
 
 -- what `put` promises, in the words of the record before
 the_puts : (g : given.Over) (c : goal.After-put g) → Puts (g.S.Shelf.shelf c.args.shelf.now) (g.S.Shelf.shelf c.put.new.shelf) c.put.new.self (drives_of c.args.self.now) (next_slot c.args.self.now.record) (spelling (next_record c.args.self.now.record c.args.self.now.drives c.args.nvrams))
@@ -30,14 +38,12 @@ the_puts g c =
       shown = c.put.ensures.shown;
       writes = c.put.ensures.writes;
       any_moment = c.put.ensures.any_moment;
+      gives = c.put.ensures.gives;
       stored = c.put.ensures.stored;
     })
 
 lawful : (g : given.Over) (c : goal.After-put g) → IsBootRecord (next_record c.args.self.now.record c.args.self.now.drives c.args.nvrams)
 lawful g c = subst (λ (b : BootRecord). IsBootRecord b) c.in_ok-advance.ensures.ok c.in_ok-advance.ensures.lawful
-
-not_spent : (g : given.Over) (c : goal.After-put g) → c.args.self.now.record.generation + 1 < 2 ^ 48 - 8
-not_spent g c = subst (λ (b : BootRecord). b.generation < 2 ^ 48 - 8) c.in_ok-advance.ensures.ok c.in_ok-advance.ensures.not_spent
 
 kept : (g : given.Over) (c : goal.After-put g) → c.put.new.self.record ≡ next_record c.args.self.now.record c.args.self.now.drives c.args.nvrams
 kept g c = c.put.ensures.kept ∙ c.in_ok-advance.ensures.ok
@@ -50,7 +56,7 @@ beyond g c i le m =
 pub returns-clause-fewer : goal.returns-clause-fewer
 returns-clause-fewer g c =
     fewer_all (g.S.Shelf.shelf c.args.shelf.now) (g.S.Shelf.shelf c.put.new.shelf) (g.met.S.Shelf.is_shelf c.args.shelf.now) c.put.ensures.continues c.args.self.now c.put.new.self c.args.nvrams
-    c.requires.is_of c.requires.nvrams (lawful g c) (not_spent g c) (kept g c) (beyond g c) (the_puts g c)
+    c.requires.is_of c.requires.nvrams (lawful g c) (kept g c) (beyond g c) (the_puts g c)
 
 pub returns-clause-dropped : goal.returns-clause-dropped
 returns-clause-dropped g c = (the_puts g c).dropped
@@ -61,37 +67,45 @@ returns-clause-others g c = (the_puts g c).others
 pub returns-clause-writes : goal.returns-clause-writes
 returns-clause-writes g c =
     writes_slots (g.S.Shelf.shelf c.args.shelf.now) (g.S.Shelf.shelf c.put.new.shelf) (g.met.S.Shelf.is_shelf c.args.shelf.now) c.put.ensures.continues c.args.self.now c.put.new.self c.args.nvrams
-    c.requires.is_of c.requires.nvrams (lawful g c) (not_spent g c) (kept g c) (beyond g c) (the_puts g c)
+    c.requires.is_of c.requires.nvrams (lawful g c) (kept g c) (beyond g c) (the_puts g c)
 
 pub returns-clause-is_of : goal.returns-clause-is_of
 returns-clause-is_of g c =
     is_of_next (g.S.Shelf.shelf c.args.shelf.now) (g.S.Shelf.shelf c.put.new.shelf) (g.met.S.Shelf.is_shelf c.args.shelf.now) c.put.ensures.continues c.args.self.now c.put.new.self c.args.nvrams
-    c.requires.is_of c.requires.nvrams (lawful g c) (not_spent g c) (kept g c) (beyond g c) (the_puts g c)
+    c.requires.is_of c.requires.nvrams (lawful g c) (kept g c) (beyond g c) (the_puts g c)
 
 pub returns-clause-logged : goal.returns-clause-logged
 returns-clause-logged g c h log logged =
     logged_next (g.S.Shelf.shelf c.args.shelf.now) (g.S.Shelf.shelf c.put.new.shelf) (g.met.S.Shelf.is_shelf c.args.shelf.now) c.put.ensures.continues c.args.self.now c.put.new.self c.args.nvrams
-    c.requires.is_of c.requires.nvrams (lawful g c) (not_spent g c) (kept g c) (beyond g c) (the_puts g c) h log logged
+    c.requires.is_of c.requires.nvrams (lawful g c) (kept g c) (beyond g c) (the_puts g c) h log logged
 
 pub returns-clause-shown : goal.returns-clause-shown
 returns-clause-shown g c h =
     shown_next (g.S.Shelf.shelf c.args.shelf.now) (g.S.Shelf.shelf c.put.new.shelf) (g.met.S.Shelf.is_shelf c.args.shelf.now) c.put.ensures.continues c.args.self.now c.put.new.self c.args.nvrams
-    c.requires.is_of c.requires.nvrams (lawful g c) (not_spent g c) (kept g c) (beyond g c) (the_puts g c) h
+    c.requires.is_of c.requires.nvrams (lawful g c) (kept g c) (beyond g c) (the_puts g c) h
 
 pub returns-clause-older : goal.returns-clause-older
 returns-clause-older g c h log logged =
     older_next (g.S.Shelf.shelf c.args.shelf.now) (g.S.Shelf.shelf c.put.new.shelf) (g.met.S.Shelf.is_shelf c.args.shelf.now) c.put.ensures.continues c.args.self.now c.put.new.self c.args.nvrams
-    c.requires.is_of c.requires.nvrams (lawful g c) (not_spent g c) (kept g c) (beyond g c) (the_puts g c) h log logged
+    c.requires.is_of c.requires.nvrams (lawful g c) (kept g c) (beyond g c) (the_puts g c) h log logged
+
+room : (g : given.Over) (c : goal.After-put g) → c.put.new.self.record.generation < 2 ^ 48 - 8 → c.args.self.now.record.generation + 1 < 2 ^ 48 - 8
+room g c low = subst (λ (b : BootRecord). b.generation < 2 ^ 48 - 8) (kept g c) low
 
 pub returns-clause-any_moment : goal.returns-clause-any_moment
-returns-clause-any_moment g c h missing log arrays may =
+returns-clause-any_moment g c h low missing log arrays may =
     moments_next (g.S.Shelf.shelf c.args.shelf.now) (g.S.Shelf.shelf c.put.new.shelf) (g.met.S.Shelf.is_shelf c.args.shelf.now) c.put.ensures.continues c.args.self.now c.put.new.self c.args.nvrams
-    c.requires.is_of c.requires.nvrams (lawful g c) (not_spent g c) (kept g c) (beyond g c) (the_puts g c) h missing log arrays may
+    c.requires.is_of c.requires.nvrams (lawful g c) (kept g c) (beyond g c) (the_puts g c) h (room g c low) missing log arrays may
+
+pub returns-clause-gives : goal.returns-clause-gives
+returns-clause-gives g c h low missing log arrays may =
+    gives_next (g.S.Shelf.shelf c.args.shelf.now) (g.S.Shelf.shelf c.put.new.shelf) (g.met.S.Shelf.is_shelf c.args.shelf.now) c.put.ensures.continues c.args.self.now c.put.new.self c.args.nvrams
+    c.requires.is_of c.requires.nvrams (lawful g c) (kept g c) (beyond g c) (the_puts g c) h (room g c low) missing log arrays may
 
 pub returns-clause-again : goal.returns-clause-again
-returns-clause-again g c h missing log arrays may =
+returns-clause-again g c h low missing log arrays may =
     again_next (g.S.Shelf.shelf c.args.shelf.now) (g.S.Shelf.shelf c.put.new.shelf) (g.met.S.Shelf.is_shelf c.args.shelf.now) c.put.ensures.continues c.args.self.now c.put.new.self c.args.nvrams
-    c.requires.is_of c.requires.nvrams (lawful g c) (not_spent g c) (kept g c) (beyond g c) (the_puts g c) h missing log arrays may
+    c.requires.is_of c.requires.nvrams (lawful g c) (kept g c) (beyond g c) (the_puts g c) h (room g c low) missing log arrays may
 
 pub returns-clause-flags : goal.returns-clause-flags
 returns-clause-flags g c = c.put.ensures.flags ∙ ap length c.in_ok-advance.ensures.drives

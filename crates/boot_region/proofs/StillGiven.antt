@@ -1,0 +1,106 @@
+-- A record that might be given may be given still, though gates were opened over its own body, or closed in the other slot.
+use Rattle.std.proofs.Common.{◌≡◌, ◌⊎◌, inl, inr, ℕ, zero, suc, ◌+◌, ◌*◌, ◌≤◌, ◌<◌, List, length, map, refl, sym, ◌∙◌, ap, subst, arith, Bool, true, false, cond}
+use Rattle.std.specs.Prelude.{Option, Some, None, option_and_then, count_by, if◌then◌else◌}
+use Rattle.std.specs.List.{range_with_len}
+use Rattle.std.proofs.lemmas.Bool.{cases_Bool}
+use Rattle.std.proofs.lemmas.List.FromFn.{length-map-range_with_len}
+use Rattle.pur_base.specs.declared.device.Device.{Device}
+use Rattle.pur_base.specs.Devices.{Geometry, Image, View, Conditions, Sound, is_sound, drive}
+use Rattle.boot_codec.specs.declared.record.BootRecord.{BootRecord}
+use Rattle.boot_codec.specs.Spelling.{spelling}
+use Rattle.boot_codec.specs.Region.{BootSlot, IsDecided, Yields, generation_in, other_slot, shown_by, votes, is_vote}
+use Rattle.array_spec.specs.Standing.{MayBeGiven}
+use Rattle.array_spec.specs.Laws.{OpensGatesOf}
+use Rattle.array_spec.proofs.Votes.{counted, sound_before}
+use Rattle.boot_region.proofs.Composing.{is_sound_is}
+use Rattle.boot_region.proofs.FoundLemmas.{same_over}
+
+-- what has each vote that another list has is decided where that is
+more_votes : (f g : ℕ → Option (List ℕ)) (body : List ℕ) (a n : ℕ) → ((i : ℕ) → i < a + n → is_vote body (f i) ≡ true → is_vote body (g i) ≡ true)
+    → count_by (is_vote body) (map f (range_with_len a n)) ≤ count_by (is_vote body) (map g (range_with_len a n))
+more_votes f g body a zero all = omega arith
+more_votes f g body a (suc n) all =
+    let rest = more_votes f g body (a + 1) n (λ i lt. all i (omega (arith, lt))) in
+    let here : cond (is_vote body (f a)) 1 0 ≤ cond (is_vote body (g a)) 1 0 = bit (is_vote body (f a)) (is_vote body (g a)) (all a (omega arith)) in
+    omega (arith, rest, here, counted (is_vote body) (f a) (map f (range_with_len (a + 1) n)), counted (is_vote body) (g a) (map g (range_with_len (a + 1) n)))
+  where
+    bit : (x y : Bool) → (x ≡ true → y ≡ true) → cond x 1 0 ≤ cond y 1 0
+    bit true true h = omega arith
+    bit true false h = absurd (cc (h refl))
+    bit false y h = omega arith
+
+pub decided_by_more : (f g : ℕ → Option (List ℕ)) (body : List ℕ) (n : ℕ) → ((i : ℕ) → i < n → is_vote body (f i) ≡ true → is_vote body (g i) ≡ true)
+    → IsDecided (map f (range_with_len 0 n)) body → IsDecided (map g (range_with_len 0 n)) body
+decided_by_more f g body n all d =
+    let le = more_votes f g body 0 n (λ i lt. all i (omega (arith, lt))) in
+    let p : length (map f (range_with_len 0 n)) ≡ n = length-map-range_with_len f 0 n in
+    let q : length (map g (range_with_len 0 n)) ≡ n = length-map-range_with_len g 0 n in
+    omega (arith, d, le, p, q)
+
+module _ (shelf : Geometry) (old new : Image) (missing : Conditions) (slot : BootSlot) (boot : BootRecord) (g : MayBeGiven shelf old missing slot boot) where
+  -- sound devices as they are now, and the others as they were shown
+  shown_now : View
+  shown_now device = if is_sound (g.more device) then Some (new device) else g.view device
+
+  now_sound : (device : Device) → g.more device ≡ Sound → shown_now device ≡ Some (new device)
+  unfolding shown_now
+  now_sound device s = rw s refl
+
+  now_other : (device : Device) → is_sound (g.more device) ≡ false → shown_now device ≡ g.view device
+  unfolding shown_now
+  now_other device u = rw u refl
+
+  abbrev vote_now : BootSlot → ℕ → Option (List ℕ)
+  vote_now t i = option_and_then (shown_by t) (shown_now (drive i))
+
+  abbrev vote_then : BootSlot → ℕ → Option (List ℕ)
+  vote_then t i = option_and_then (shown_by t) (g.view (drive i))
+
+  -- a drive's vote is that of then, or it's sound
+  vote_cases : (t : BootSlot) (i : ℕ) → (vote_now t i ≡ vote_then t i)
+      ⊎ ((missing (drive i) ≡ Sound) × (vote_now t i ≡ shown_by t (new (drive i))) × (vote_then t i ≡ shown_by t (old (drive i))))
+  vote_cases t i = elim (cases_Bool (is_sound (g.more (drive i)))) [
+    | inl s ↦
+        let sound = is_sound_is (g.more (drive i)) s in
+        inr (sound_before (missing (drive i)) (g.more (drive i)) (g.appears.within (drive i)) sound,
+          ap (option_and_then (shown_by t)) (now_sound (drive i) sound),
+          ap (option_and_then (shown_by t)) (g.appears.shown (drive i) sound))
+    | inr u ↦ inl (ap (option_and_then (shown_by t)) (now_other (drive i) u))
+  ]
+
+  -- then it may be given, where it's decided still and what is decided in the other slot was so
+  keeps_given : IsDecided (votes shelf shown_now slot) (spelling boot)
+      → ((other : List ℕ) → IsDecided (votes shelf shown_now (other_slot slot)) other → Yields slot (generation_in other) (generation_in (spelling boot)))
+      → MayBeGiven shelf new missing slot boot
+  keeps_given decided highest = record {
+    more = g.more;
+    view = shown_now;
+    appears = record { within = g.appears.within; bearable = g.appears.bearable; shown = now_sound };
+    lawful = g.lawful;
+    effective = record { decided = decided; highest = highest };
+  }
+
+  -- gates are opened over its body
+  opening : OpensGatesOf old new missing slot (spelling boot) → MayBeGiven shelf new missing slot boot
+  opening opens = keeps_given
+      (decided_by_more (vote_then slot) (vote_now slot) (spelling boot) shelf.slots stays g.effective.decided)
+      (λ other d. g.effective.highest other (subst (λ vs. IsDecided vs other) same d))
+    where
+      stays : (i : ℕ) → i < shelf.slots → is_vote (spelling boot) (vote_then slot i) ≡ true → is_vote (spelling boot) (vote_now slot i) ≡ true
+      stays i lt voted = elim (vote_cases slot i) [
+        | inl e ↦ subst (λ (o : Option (List ℕ)). is_vote (spelling boot) o ≡ true) (sym e) voted
+        | inr (s, now, was) ↦ elim (opens.opens i s) [
+          | inl e ↦ subst (λ (o : Option (List ℕ)). is_vote (spelling boot) o ≡ true) (sym (now ∙ e ∙ sym was)) voted
+          | inr e ↦ absurd (cc (subst (λ (o : Option (List ℕ)). is_vote (spelling boot) o ≡ true) (was ∙ e.1) voted))
+        ]
+      ]
+
+      same : votes shelf shown_now (other_slot slot) ≡ votes shelf g.view (other_slot slot)
+      same = same_over (vote_now (other_slot slot)) (vote_then (other_slot slot)) 0 shelf.slots (λ i lt. elim (vote_cases (other_slot slot) i) [
+        | inl e ↦ e
+        | inr (s, now, was) ↦ now ∙ opens.others i s ∙ sym was
+      ])
+
+pub opening_keeps : (shelf : Geometry) (old new : Image) (missing : Conditions) (slot : BootSlot) (boot : BootRecord) → OpensGatesOf old new missing slot (spelling boot)
+    → MayBeGiven shelf old missing slot boot → MayBeGiven shelf new missing slot boot
+opening_keeps shelf old new missing slot boot opens g = opening shelf old new missing slot boot g opens
