@@ -9,7 +9,7 @@ use Rattle.pur_base.specs.Replies.{Answer}
 use Rattle.world.specs.Losing.{geometry_of}
 use Rattle.world.specs.Shelf.{Shelved, Leaves}
 use Rattle.session_spec.specs.Entering.{read_now}
-use Rattle.session_spec.specs.Faring.{Point, Fares, IsBorne, now_missing}
+use Rattle.session_spec.specs.Faring.{Point, IsReached, Fares, IsBorne, now_missing}
 use Rattle.session_spec.specs.Ends.{Ends, IsOutput}
 use Rattle.session_spec.specs.Headline.{Replied, StandsOn, IsLeftAfter, in_hand}
 use Rattle.array_core.specs.Ready.{IsReady}
@@ -45,13 +45,15 @@ pub record BeginsAt (start : Shelved) (e : Engine) (first : Point) : Type 0 wher
 
 -- The replies and how the session ended, and at each stop those that were whole. Where the devices held the array at the beginning, they stand for what the replies tell at each stop and at the end.
 pub record IsServedFrom (start new : Shelved) (e : Engine) (input left : List ℕ) (ended : Status) (first : Point) : Type 0 where
+  pub reached : IsReached (new.left_since start.moment) first
   pub replies : List Answer
   pub last : Point
   pub run : Fares (geometry_of start) (new.left_since start.moment) first (requests input) replies last
   pub output : IsOutput ended (geometry_of start) last (read_now new) (drop (length replies) (requests input)) start.output new.output replies
   pub ends : Ends ended last.halted input replies left
-  pub moments : Leaves start new (λ stop. (at : Replied (geometry_of start) (new.left_since start.moment) first (requests input) stop)
-      × ((commands : List Command) → IsReady start e.array commands → StandsOn (geometry_of start) (new.left_since start.moment) first (requests input) stop at))
+  pub replied : Leaves start new (Replied (geometry_of start) (new.left_since start.moment) first (requests input))
+  pub stands : (commands : List Command) → IsReady start e.array commands → Leaves start new (λ stop.
+      (at : Replied (geometry_of start) (new.left_since start.moment) first (requests input) stop) × StandsOn (geometry_of start) (new.left_since start.moment) first (requests input) stop at)
   pub at_end : (commands : List Command) → IsReady start e.array commands
       → IsBorne (geometry_of start) (new.left_since start.moment) first (requests input) replies last run
       → IsBearable (geometry_of start) (now_missing last (read_now new)) → IsLeftAfter new last (in_hand ended (drop (length replies) (requests input)))

@@ -76,12 +76,11 @@ pub record EntersWith (next : Shelved) (later : Conditions) (P : Array → Type 
 -- A session that was served was stopped at any moment, and the next one finds what it left.
 abbrev pub ServedFollows : Shelved → Shelved → Shelved → Type 0
 ServedFollows old new next = (input left : List ℕ) (ended : Status) (s : Served old new input left ended)
-    → (missing : Conditions) (arrays : List Array) → Enters old missing arrays → (stop : Stop) (since : new.left_since old.moment stop)
-    → let here = s.serving.stops stop since in
-    let points = new.left_since s.serving.moment in
-    IsBorneAt old points s.serving.first (requests input) missing stop here
+    → (missing : Conditions) (arrays : List Array) → Enters old missing arrays → (stop : Stop) → new.left_since old.moment stop
+    → let points = new.left_since s.serving.moment in
+    (here : IsQuietBy old stop ⊎ Replied (geometry_of old) points s.serving.first (requests input) stop) × (IsBorneAt old points s.serving.first (requests input) missing stop here
     → (later : Conditions) → Resumes (geometry_of old) (λ was. was ≡ stop.image) (missing_at old points s.serving.first (requests input) missing stop here) next later
-    → EntersWith next later (MayStandAt old points s.serving.first (requests input) missing stop arrays here)
+    → EntersWith next later (MayStandAt old points s.serving.first (requests input) missing stop arrays here))
 
 -- One that wasn't opened was stopped, and the next one finds the same arrays.
 abbrev pub UnopenedFollows : Shelved → Shelved → Shelved → Type 0

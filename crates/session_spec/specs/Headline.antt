@@ -157,7 +157,8 @@ pub record IsLeftAfter (new : Shelved) (last : Point) (rest : List Item) : Type 
 -- What it does to the arrays for which the devices stood.
 pub record Keeps (old new : Shelved) (input left : List ℕ) (ended : Status) (s : Serving old new input left ended) (missing : Conditions) (arrays : List Array) : Type 0 where
   pub one_of : Contains arrays s.first.array
-  pub serving : (stop : Stop) (since : new.left_since s.moment stop) → StandsOn (geometry_of old) (new.left_since s.moment) s.first (requests input) stop (s.replied stop since)
+  pub serving : (stop : Stop) → new.left_since s.moment stop
+      → (at : Replied (geometry_of old) (new.left_since s.moment) s.first (requests input) stop) × StandsOn (geometry_of old) (new.left_since s.moment) s.first (requests input) stop at
   pub at_end : IsBorne (geometry_of old) (new.left_since s.moment) s.first (requests input) s.replies s.last s.run
       → IsBearable (geometry_of old) (now_missing s.last (read_now new)) → IsLeftAfter new s.last (in_hand ended (drop (length s.replies) (requests input)))
 
@@ -167,9 +168,10 @@ abbrev pub StandsAt : (old : Shelved) (left : Stop → Type 0) (found : Found (g
 StandsAt old left found first items missing arrays stop (inl quiet) = StandsStill old (Some found) missing arrays stop
 StandsAt old left found first items missing arrays stop (inr at) = IsOpenedBearably old first missing → StandsOn (geometry_of old) left first items stop at
 
--- so at each stop since the entry
+-- so at each stop since the entry, which was in the opening, or leaves replies
 pub record Outlasts (old new : Shelved) (input left : List ℕ) (ended : Status) (s : Serving old new input left ended) (missing : Conditions) (arrays : List Array) : Type 0 where
-  pub each : (stop : Stop) (since : new.left_since old.moment stop) → StandsAt old (new.left_since s.moment) s.found s.first (requests input) missing arrays stop (s.stops stop since)
+  pub each : (stop : Stop) → new.left_since old.moment stop → (here : IsQuietBy old stop ⊎ Replied (geometry_of old) (new.left_since s.moment) s.first (requests input) stop)
+      × StandsAt old (new.left_since s.moment) s.found s.first (requests input) missing arrays stop here
   pub keeps : IsOpenedBearably old s.first missing → Keeps old new input left ended s missing arrays
 
 -- what a session answers, and what it does to the arrays
