@@ -24,7 +24,6 @@ use Rattle.array_core.specs.declared.perform.PerformFault.{PerformFault}
 use Rattle.array_core.specs.declared.perform.PerformFault.TheVariants as fault
 use Rattle.array_core.specs.Holding.{IsHolder, DropsFailed, NoneJoins}
 use Rattle.array_core.specs.Performing.{IsSpent, IsFull, IsFaultOf, IsLost}
-use Rattle.boot_region.proofs.Phases.{risen_on_way}
 use Rattle.array_core.proofs.Losses.{sound_since, left_out_since}
 use Rattle.request_codec.specs.Items.{item_read}
 use Rattle.request_codec.specs.declared.reader.Item.{Item}
@@ -32,6 +31,7 @@ use Rattle.request_codec.specs.declared.reader.Item.TheVariants as item
 use Rattle.array_server.specs.declared.engine.Engine.{Engine}
 use Rattle.array_server.specs.Answering.{IsAnswered}
 use Rattle.array_server.specs.Engines.{IsAt, point_after, lost_in}
+use Rattle.array_server.proofs.Unborne.{not_risen}
 use Rattle.array_server.specs.Replying.{IsReading, IsSaid, IsSaidAtOnce, reply_of, ends_lost}
 
 -- ---- nothing changes
@@ -178,10 +178,6 @@ given_logged a _ logged = refl
 after_accepted : (o : Option Refusal) (a b : plain.Array) → o ≡ None → after_unless o a b ≡ b
 after_accepted None a b e = refl
 after_accepted (Some why) a b e = absurd cc
-
--- a count that rose is a device that lost a write
-not_risen : (before now : ℕ) → has_risen before now ≡ false → (before < now) ⊎ ((before ≡ 2 ^ 64 - 1) × (now ≡ before)) → ⊥
-not_risen before now none rose = risen_on_way before before now now (omega arith) rose (omega arith) none
 
 module _ (old new : Shelved) (e f : Engine) (r : Request) (sectors : List (List ℕ)) (stays : Type 0) (stop : Stop) (from : Point)
     (at : IsAt e from) (awake : e.halted ≡ false) (logged : IsLogged r) (force : is_in_force r ≡ true) (accepted : refusal e.array.plain r ≡ None) (same : stays → f.array ≡ e.array) where

@@ -69,6 +69,10 @@ lawful-items (suc n) [] = tt
 lawful-items (suc n) (b ∷ bytes) =
     (lawful-item (line_request (before_first is_line_end (b ∷ bytes))) (after_first is_line_end (b ∷ bytes)) (line-spelled (before_first is_line_end (b ∷ bytes))), lawful-items n (first_item (b ∷ bytes)).1)
 
+-- the first of them
+pub lawful-first : (unread : List ℕ) (item : Item) (more : List Item) → requests unread ≡ item ∷ more → IsLawfulItem item
+lawful-first unread item more is = (subst (AllByRecursion IsLawfulItem) is (lawful-items (length unread) unread)).0
+
 -- ---- arrays that stay lawful
 
 are-append : (xs ys : List (List ℕ)) → AreSectors xs → AreSectors ys → AreSectors (xs ++ ys)

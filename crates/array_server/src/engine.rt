@@ -13,7 +13,7 @@ ghost use Rattle.array_core.specs.Ready.{IsArrayOf, IsReady};
 ghost use Rattle.request_codec.specs.Items.{HasData, IsSpelled, item_read};
 ghost use Rattle.request_codec.specs.Spelled.{IsSpelledRequest};
 ghost use Rattle.array_server.specs.Answering.{IsAnswered};
-ghost use Rattle.array_server.specs.Whole.{IsLawful};
+ghost use Rattle.array_server.specs.Whole.{IsLawful, IsLawfulItem};
 ghost use Rattle.array_server.specs.Replying.{reply_of, ends_lost};
 
 use array_core::{Array, PerformFault};
@@ -141,8 +141,8 @@ impl Engine {
         // And at every moment a session can go on.
         ensures kept { (S.shelf shelf.old).honest → self.old.halted ≡ false → (commands : List Command) → IsReady (S.shelf shelf.old) self.old.array commands
             → LeavesOnly (S.shelf shelf.old) (S.shelf shelf.new) (IsKeptBy (S.shelf shelf.old) self.old (Asked request.now sectors.now)) }
-        // Replies of a lawful array are whole.
-        ensures whole { IsLawful self.old.array.plain → IsLawful self.new.array.plain × IsAnswer (answer_of self.new.array.plain result) }
+        // Replies of a lawful array to a lawful item are whole.
+        ensures whole { IsLawfulItem (Asked request.now sectors.now) → IsLawful self.old.array.plain → IsLawful self.new.array.plain × IsAnswer (answer_of self.new.array.plain result) }
     {
         let done = self.array.perform(request, sectors, shelf);
         self.halted = is_lost(&done);
@@ -177,8 +177,8 @@ impl Engine {
         // And at every moment a session can go on.
         ensures kept { (S.shelf shelf.old).honest → self.old.halted ≡ false → (commands : List Command) → IsReady (S.shelf shelf.old) self.old.array commands
             → LeavesOnly (S.shelf shelf.old) (S.shelf shelf.new) (IsKeptBy (S.shelf shelf.old) self.old (item_read item.now sectors.now)) }
-        // Replies of a lawful array are whole.
-        ensures whole { IsLawful self.old.array.plain → IsLawful self.new.array.plain × IsAnswer (answer_of self.new.array.plain result) }
+        // Replies of a lawful array to a lawful item are whole.
+        ensures whole { IsLawfulItem (item_read item.now sectors.now) → IsLawful self.old.array.plain → IsLawful self.new.array.plain × IsAnswer (answer_of self.new.array.plain result) }
     {
         if let Some(reply) = self.said_at_once(item) {
             return reply;
