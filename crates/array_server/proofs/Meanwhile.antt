@@ -39,9 +39,11 @@ two_of x y array (suc (suc k), lt, e) = absurd (omega (arith, lt))
 module _ (old : Shelved) (e : Engine) (commands : List Command) (ready : IsReady old e.array commands) where
   -- while nothing is done
   pub kept_at_once : IsShelf old → (item : Item) → LeavesOnly old old (IsKeptBy old e item)
-  kept_at_once is item = started old (IsKeptBy old e item) is (λ stop may borne.
-      (e.array.plain ∷ [], λ array one. inl (one_of e.array.plain array one),
-      ready_stands_in old e.array commands ready (lost_by old stop (named_sound e.array.register.record)) (agrees stop) borne stop may))
+  kept_at_once is item = started old (IsKeptBy old e item) is (λ stop may borne. (
+    e.array.plain ∷ [],
+    λ array one. inl (one_of e.array.plain array one),
+    ready_stands_in old e.array commands ready (lost_by old stop (named_sound e.array.register.record)) (agrees stop) borne stop may,
+  ))
     where
       agrees : (stop : Stop) → AgreesWith e.array.register.record (lost_by old stop (named_sound e.array.register.record))
       agrees stop =
@@ -57,15 +59,18 @@ module _ (old : Shelved) (e : Engine) (commands : List Command) (ready : IsReady
     c = record { request = r; sectors = sectors }
 
     kept_then : ¬ (IsSpent e.array) → ¬ (IsFull e.array) → (stop : Stop) → IsKeptAt old e.array.register.record (without_or_with commands c) stop → IsKeptBy old e (Asked r sectors) stop
-    kept_then unspent room stop kept borne =
-        (without_or_with commands c, λ array some. elim (two_of (after_all [] commands) (after_all [] (commands ++ c ∷ [])) array some) [
-          | inl without ↦ inl (without ∙ sym ready.plain)
-          | inr with ↦ inr (record {
-            accepts = (logged, accepted, with ∙ after_last [] commands c ∙ ap (λ (a : plain.Array). after a c) (sym ready.plain));
-            unspent = unspent;
-            room = room;
-          })
-        ], kept (named_sound e.array.register.record) (agrees_named e.array.register.record) borne)
+    kept_then unspent room stop kept borne = (
+      without_or_with commands c,
+      λ array some. elim (two_of (after_all [] commands) (after_all [] (commands ++ c ∷ [])) array some) [
+        | inl without ↦ inl (without ∙ sym ready.plain)
+        | inr with ↦ inr (record {
+          accepts = (logged, accepted, with ∙ after_last [] commands c ∙ ap (λ (a : plain.Array). after a c) (sym ready.plain));
+          unspent = unspent;
+          room = room;
+        })
+      ],
+      kept (named_sound e.array.register.record) (agrees_named e.array.register.record) borne,
+    )
 
     pub command_kept : (ended : Result Unit PerformFault) → Performed old new e.array f.array r sectors stays ended
         → LeavesOnly old new (IsKeptAt old e.array.register.record (without_or_with commands (record { request = r; sectors = sectors }))) → LeavesOnly old new (IsKeptBy old e (Asked r sectors))

@@ -170,12 +170,14 @@ module _ (shelf : Geometry) (lost : Device → Bool) (from : Point) (sectors : L
   accepted_full request.List logged force s f d = absurd logged
   accepted_full _ logged force s f d = absurd cc
 
+-- what is answered to a logged request that isn't refused
 given_logged : (a : plain.Array) (r : Request) → IsLogged r → Line reply.Done ≡ given a r
 given_logged a (request.Read n lba count) logged = absurd logged
 given_logged a request.List logged = absurd logged
 given_logged a _ logged = refl
 
-after_accepted : (o : Option Refusal) (a b : plain.Array) → o ≡ None → after_unless o a b ≡ b
+-- what a request that isn't refused leaves
+pub after_accepted : (o : Option Refusal) (a b : plain.Array) → o ≡ None → after_unless o a b ≡ b
 after_accepted None a b e = refl
 after_accepted (Some why) a b e = absurd cc
 
@@ -275,11 +277,13 @@ module _ (old new : Shelved) (e f : Engine) (r : Request) (sectors : List (List 
           | inr rose ↦ absurd (not_risen (old.disk d).write_faults (new.disk d).write_faults was.1 rose)
         ];
     left_out = λ still d l.
-        let was = at.left_out awake d (left_out_since (lost_in old new d) (from.conditions d) l) in
-        (unnamed (names f.array.register.record d) (λ is. elim (none.named d is) [
-          | inl named ↦ cc (named, was.0)
-          | inr holds ↦ was.1 holds
-        ]), λ holds. was.1 (none.holders d holds));
+        let was = at.left_out awake d (left_out_since (lost_in old new d) (from.conditions d) l) in (
+          unnamed (names f.array.register.record d) (λ is. elim (none.named d is) [
+            | inl named ↦ cc (named, was.0)
+            | inr holds ↦ was.1 holds
+          ]),
+          λ holds. was.1 (none.holders d holds),
+        );
   }
     where
       unnamed : (b : Bool) → (b ≡ true → ⊥) → b ≡ false

@@ -22,6 +22,7 @@ use Rattle.array_server.specs.declared.engine.Engine.{Engine}
 use Rattle.array_server.specs.Answering.{IsAnswered}
 use Rattle.array_server.specs.Replying.{IsReading, IsSaid, IsSaidAtOnce, reply_of}
 use Rattle.array_server.specs.Whole.{AreSectors, IsLawful, IsLawfulRequest}
+use Rattle.array_server.proofs.Points.{after_accepted}
 use Rattle.array_server.proofs.WholeLemmas.{request-fine}
 
 -- what is read needs no law of the request
@@ -42,13 +43,9 @@ at_once_whole e item.Syntax q answered said lawful = subst IsAnswer (sym said) t
 at_once_whole e item.Cut q answered said lawful = subst IsAnswer (sym said) tt
 at_once_whole e _ q answered said lawful = absurd said
 
-after_done : (o : Option Refusal) (a b : plain.Array) → o ≡ None → after_unless o a b ≡ b
-after_done None a b e = refl
-after_done (Some why) a b e = absurd cc
-
 command_lawful : (a b : plain.Array) (r : Request) (sectors : List (List ℕ)) → IsLawful a → is_in_force r ≡ true → IsLawfulRequest r sectors → refusal a r ≡ None
     → b ≡ after a (record { request = r; sectors = sectors }) → IsLawful b
-command_lawful a b r sectors lawful force whole none is = subst IsLawful (sym (is ∙ after_done (refusal a r) a (done a r sectors) none)) (request-fine a r sectors lawful force whole none).1
+command_lawful a b r sectors lawful force whole none is = subst IsLawful (sym (is ∙ after_accepted (refusal a r) a (done a r sectors) none)) (request-fine a r sectors lawful force whole none).1
 
 -- what a command leaves
 pub command_leaves : (old new : Shelved) (a b : Array) (r : Request) (sectors : List (List ℕ)) (stays : Type 0) → (stays → b ≡ a) → IsLawful a.plain → is_in_force r ≡ true → IsLawfulRequest r sectors → refusal a.plain r ≡ None

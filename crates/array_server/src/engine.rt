@@ -94,7 +94,12 @@ impl Engine {
             return Some(PlainReply::Refused(why));
         }
         match request {
-            Request::Read { name, lba, count } => Some(read(self.array.plain(), name, *lba, *count)),
+            Request::Read { name, lba, count } => Some(read(
+                self.array.plain(),
+                name,
+                *lba,
+                *count,
+            )),
             Request::List => Some(PlainReply::Names),
             _ => None,
         }

@@ -14,11 +14,7 @@ fn made(alloc: Global) -> Result<MemWorld, Fail> {
 }
 
 /// How a session ends that has this input, and what it gives.
-fn session(
-    alloc: Global,
-    world: &mut MemWorld,
-    input: &[u8],
-) -> Result<(Status, Vec<u8>), Fail> {
+fn session(alloc: Global, world: &mut MemWorld, input: &[u8]) -> Result<(Status, Vec<u8>), Fail> {
     let before = world.output().len();
     world.feed(input)?;
     let status = serve(alloc, world);
@@ -115,7 +111,11 @@ fn a_halted_array_answers_so(rt: HostRuntime) -> Result<(), Fail> {
     let mut world = made(alloc)?;
     world.fail(Device::Nv(NvId(0)), 4)?;
     world.fail(Device::Nv(NvId(1)), 4)?;
-    let (status, output) = session(alloc, &mut world, b"create a 1\nlist\nnonsense\nread a 0 1\n")?;
+    let (status, output) = session(
+        alloc,
+        &mut world,
+        b"create a 1\nlist\nnonsense\nread a 0 1\n",
+    )?;
     assert_eq!(rt; status, Status::Halted);
     assert!(rt; output.as_slice() == b"no device\nno halted\nno syntax\nno halted\n".as_slice());
     Ok(())

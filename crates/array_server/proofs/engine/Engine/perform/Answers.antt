@@ -64,7 +64,8 @@ returns-clause-whole g c = λ item lawful.
     let b = c.perform-done.new.self in
     let r = c.args.request.now in
     let does = c.perform-done.ensures in
-    let stays = (b ≡ e.array) × (c.perform-done.new.shelf ≡ c.args.shelf.now) in
-    (command_leaves (g.S.Shelf.shelf c.args.shelf.now) (g.S.Shelf.shelf c.perform-done.new.shelf) e.array b r c.args.sectors.now stays (λ s. s.0) lawful item.0 item.1 c.requires.due.accepted c.perform-done.result
-    does.plain does.fault does.applied,
-    subst (λ (q : PlainReply). IsAnswer (answer_of b.plain q)) (sym c.reply_to.ensures) (reply_whole b.plain c.perform-done.result))
+    let stays = (b ≡ e.array) × (c.perform-done.new.shelf ≡ c.args.shelf.now) in (
+      command_leaves (g.S.Shelf.shelf c.args.shelf.now) (g.S.Shelf.shelf c.perform-done.new.shelf) e.array b r c.args.sectors.now stays (λ s. s.0) lawful item.0 item.1 c.requires.due.accepted c.perform-done.result
+          does.plain does.fault does.applied,
+      subst (λ (q : PlainReply). IsAnswer (answer_of b.plain q)) (sym c.reply_to.ensures) (reply_whole b.plain c.perform-done.result),
+    )
