@@ -5,3 +5,12 @@ pub mod Unborne
 pub mod Points
 pub mod Meanwhile
 pub mod WholeReplies
+pub mod Came
+pub mod InHand
+pub mod Kept
+pub mod Lessened
+pub mod StandsAtPoint
+pub mod StillReady
+pub mod Begun
+pub mod Headlines
+pub mod LawfulLog
