@@ -14,3 +14,10 @@ pub mod StillReady
 pub mod Begun
 pub mod Headlines
 pub mod LawfulLog
+pub mod Going
+pub mod Along
+pub mod Answered
+pub mod Steps
+pub mod SoFar
+pub mod Ends
+pub mod ItemsRead
