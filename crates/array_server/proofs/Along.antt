@@ -1,14 +1,13 @@
 -- A session so far: the replies that were given, and what each stop since its start leaves, whatever is called next.
-use Rattle.std.proofs.Common.{◌≡◌, ◌⊎◌, inl, inr, ⊎_elim, ℕ, ◌≤◌, List, [], ◌∷◌, ◌++◌, length, drop, refl, sym, ◌∙◌, ap, arith, append_assoc, None}
+use Rattle.std.proofs.Common.{◌≡◌, ◌⊎◌, inl, inr, ⊎_elim, ℕ, ◌≤◌, List, [], ◌++◌, length, drop, refl, sym, ◌∙◌, ap, arith, append_assoc, None}
 use Rattle.std.specs.List.{AllByRecursion}
 use Rattle.std.proofs.lemmas.List.{append-nil, drop_at}
-use Rattle.pur_base.specs.declared.device.Device.{Device}
 use Rattle.pur_base.specs.Grammar.{Item}
 use Rattle.pur_base.specs.Replies.{Answer, texts}
 use Rattle.array_spec.specs.Acked.{IsAnswer, acked, after_reply}
 use Rattle.array_spec.proofs.AckedLemmas.{counts-replies}
 use Rattle.world.specs.Losing.{geometry_of, IsLater}
-use Rattle.world.specs.Shelf.{Shelved, Stop, Continues, MayLeave, Leaves, IsCountedBy}
+use Rattle.world.specs.Shelf.{Shelved, Stop, Continues, Leaves, IsCountedBy}
 use Rattle.session_spec.specs.Faring.{Point, IsReached, Fares}
 use Rattle.session_spec.specs.Ends.{IsPartOfNext}
 use Rattle.session_spec.specs.Headline.{Replied}

@@ -1,17 +1,17 @@
 -- Answers where more devices have lost writes.
-use Rattle.std.proofs.Common.{◌≡◌, ◌⊎◌, inl, inr, ⊎_elim, ℕ, ◌≤◌, ◌-◌, ◌^◌, List, refl, sym, subst, arith, Bool, true, false}
+use Rattle.std.proofs.Common.{◌≡◌, inl, inr, ⊎_elim, ℕ, ◌≤◌, ◌-◌, ◌^◌, List, refl, subst, arith, Bool, true, false}
 use Rattle.std.specs.Prelude.{Option, Some, None, ◌||◌, nat_lt, nat_le}
 use Rattle.std.proofs.lemmas.Bool.{cases_lt, lt-ltb, le-ltb, or_left, or_right}
 use Rattle.pur_base.specs.declared.device.Device.{Device}
 use Rattle.pur_base.specs.declared.request.Request.{Request}
 use Rattle.pur_base.specs.declared.request.Request.TheVariants as request
 use Rattle.pur_base.specs.declared.reply.Refusal.{Refusal}
-use Rattle.pur_base.specs.Devices.{Geometry, Condition, Conditions, Sound, Missing, LeftOut, MayBecome}
+use Rattle.pur_base.specs.Devices.{Geometry, Condition, Sound, Missing, LeftOut, MayBecome}
 use Rattle.pur_base.specs.Plain.{refusal}
 use Rattle.pur_base.specs.Grammar.{Item, Asked, Syntax, Cut}
 use Rattle.pur_base.specs.Replies.{Answer}
 use Rattle.world.specs.Losing.{has_risen, missing_if, losing}
-use Rattle.session_spec.specs.Faring.{Point, Answers, AnswersRequest, AnswersAccepted, IsDone, IsFailed, MayRise, Where, WithRoom, is_spent, is_full}
+use Rattle.session_spec.specs.Faring.{Point, Answers, AnswersRequest, AnswersAccepted, IsDone, IsFailed, Where, WithRoom, is_spent, is_full}
 use Rattle.session_spec.proofs.Conditions.{borne_before}
 
 pub risen_more : (a b c : ℕ) → b ≤ c → has_risen a b ≡ true → has_risen a c ≡ true

@@ -1,11 +1,10 @@
 -- How a session ends.
-use Rattle.std.proofs.Common.{◌≡◌, ℕ, ◌+◌, ◌<◌, List, [], ◌∷◌, ◌++◌, length, drop, refl, sym, ◌∙◌, ap, subst, arith, Bool, true, false}
+use Rattle.std.proofs.Common.{◌≡◌, ℕ, ◌+◌, ◌<◌, List, [], ◌∷◌, ◌++◌, length, drop, refl, sym, ◌∙◌, ap, Bool, true, false}
 use Rattle.std.specs.List.{list_any}
 use Rattle.std.proofs.lemmas.List.{append-nil}
 use Rattle.pur_base.specs.declared.limits.TheConstants.{INPUT_BYTES}
 use Rattle.pur_base.specs.declared.reply.Status.{Status}
 use Rattle.pur_base.specs.declared.reply.Status.TheVariants as status
-use Rattle.pur_base.specs.Devices.{Geometry, IsBearable}
 use Rattle.pur_base.specs.Grammar.{Item, requests, is_whole}
 use Rattle.pur_base.specs.Replies.{texts}
 use Rattle.world.specs.Losing.{geometry_of}
@@ -14,7 +13,7 @@ use Rattle.world.proofs.Moments.{leaves_weaker}
 use Rattle.request_codec.specs.Reading.{Unfinished}
 use Rattle.session_spec.specs.Entering.{read_now}
 use Rattle.session_spec.specs.Ends.{Ends, IsAnswered, IsOutput, is_cut, ends_in_write}
-use Rattle.session_spec.specs.Faring.{Point, now_missing}
+use Rattle.session_spec.specs.Faring.{Point}
 use Rattle.session_spec.specs.Headline.{in_hand}
 use Rattle.array_core.proofs.Losses.{same_geometry}
 use Rattle.array_server.specs.declared.engine.Engine.{Engine}

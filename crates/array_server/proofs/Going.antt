@@ -1,10 +1,10 @@
 -- How a run of replies goes on: what was reached stays reached over later calls.
-use Rattle.std.proofs.Common.{◌≡◌, ◌⊎◌, inl, inr, ⊎_elim, ℕ, ◌≤◌, ◌<◌, List, [], ◌∷◌, ◌++◌, length, drop, refl, sym, ◌∙◌, ap, subst, arith}
+use Rattle.std.proofs.Common.{◌≡◌, ◌⊎◌, ⊎_elim, ◌≤◌, List, [], ◌∷◌, ◌++◌, length, drop, refl, sym, ap, subst, arith}
 use Rattle.pur_base.specs.declared.device.Device.{Device}
-use Rattle.pur_base.specs.Devices.{Geometry, Conditions, IsBearable}
+use Rattle.pur_base.specs.Devices.{Geometry}
 use Rattle.pur_base.specs.Grammar.{Item}
 use Rattle.pur_base.specs.Replies.{Answer}
-use Rattle.world.specs.Losing.{has_lost_writes, losing, IsLater}
+use Rattle.world.specs.Losing.{IsLater}
 use Rattle.world.specs.Shelf.{Shelved, Stop, IsCountedBy}
 use Rattle.session_spec.specs.Faring.{Point, Fares, Serves}
 use Rattle.session_spec.specs.Headline.{Replied}
@@ -39,8 +39,7 @@ module _ (shelf : Geometry) (was now : Stop → Type 0) (grows : (stop : Stop) �
   fares_on from to [] (q ∷ qs) back run = absurd run
   fares_on from to (item ∷ items) (q ∷ qs) back run =
       let mid = run.0 in
-      let s = run.1 in
-      (
+      let s = run.1 in (
         mid,
         record {
           answers = s.answers;

@@ -1,17 +1,17 @@
 -- A session so far, at the top of its loop: what was answered, where the engine stands, and what the devices hold.
-use Rattle.std.proofs.Common.{◌≡◌, ◌⊎◌, inl, inr, ⊎_elim, ℕ, ◌+◌, ◌<◌, ◌≤◌, List, [], ◌∷◌, ◌++◌, length, drop, refl, sym, ◌∙◌, ap, subst, arith, append_assoc, length-append, Bool, true, false, ◌||◌}
+use Rattle.std.proofs.Common.{◌≡◌, inl, inr, ℕ, ◌<◌, List, [], ◌∷◌, ◌++◌, length, drop, refl, sym, ◌∙◌, ap, subst, arith, append_assoc, length-append, Bool, true, false, ◌||◌}
 use Rattle.std.specs.List.{list_any}
-use Rattle.std.proofs.lemmas.List.{append-nil, drop_at}
+use Rattle.std.proofs.lemmas.List.{drop_at}
 use Rattle.pur_base.specs.declared.device.Device.{Device}
-use Rattle.pur_base.specs.Devices.{Geometry, Conditions, IsBearable, IsWithin}
+use Rattle.pur_base.specs.Devices.{Geometry, IsBearable}
 use Rattle.pur_base.specs.declared.reply.Status.TheVariants as status
 use Rattle.pur_base.specs.Commands.{Command}
-use Rattle.pur_base.specs.Grammar.{Item, Cut, requests, first_item}
+use Rattle.pur_base.specs.Grammar.{Item, requests, first_item}
 use Rattle.pur_base.specs.Replies.{Answer, text, texts}
 use Rattle.pur_base.proofs.ItemLemmas.{requests-step}
 use Rattle.array_spec.specs.Acked.{IsAnswer}
 use Rattle.world.specs.Losing.{geometry_of, has_lost_writes, has_risen, losing}
-use Rattle.world.specs.Shelf.{Shelved, Stop, Disk, IsShelf, Continues, TakenOnly, OutputOnly, MayLeave, LeavesOnly, Leaves, IsCountedBy}
+use Rattle.world.specs.Shelf.{Shelved, Stop, Disk, IsShelf, Continues, TakenOnly, OutputOnly, LeavesOnly, IsCountedBy}
 use Rattle.world.proofs.Moments.{continues_trans, weaker, leaves_weaker}
 use Rattle.session_spec.specs.Entering.{read_now}
 use Rattle.session_spec.specs.Ends.{is_cut}
@@ -29,7 +29,6 @@ use Rattle.array_server.proofs.Kept.{kept_stands, ready_stands_on}
 use Rattle.array_server.proofs.InHand.{in_hand_stands, in_hand_left}
 use Rattle.array_server.proofs.StillReady.{ready_still}
 use Rattle.array_server.proofs.WholeLemmas.{lawful-first}
-use Rattle.array_server.proofs.Going.{IsUpTo}
 use Rattle.array_server.proofs.Along.{Along}
 use Rattle.array_server.proofs.Answered.{goes_more, risen_more}
 use Rattle.array_server.proofs.Steps.{HoldsNow, Broken, begun, taken, called, given, broken}

@@ -1,23 +1,20 @@
 -- One step more of a session: input is taken, devices are called, or a reply is given.
-use Rattle.std.proofs.Common.{◌≡◌, ◌⊎◌, inl, inr, ⊎_elim, ℕ, ◌≤◌, ◌<◌, List, [], ◌∷◌, ◌++◌, length, drop, refl, sym, ◌∙◌, ap, subst, arith, append_assoc, length-append, None, Bool, true, false}
-use Rattle.std.specs.Prelude.{◌||◌, nat_lt, nat_le, Option, Some}
+use Rattle.std.proofs.Common.{◌≡◌, inl, inr, ℕ, ◌<◌, List, [], ◌∷◌, ◌++◌, length, drop, refl, sym, ◌∙◌, ap, subst, arith, append_assoc, length-append}
 use Rattle.std.specs.List.{AllByRecursion}
 use Rattle.std.proofs.lemmas.Bool.{cases_lt}
 use Rattle.std.proofs.lemmas.List.{append-nil, append_cancel_left}
 use Rattle.std.proofs.lemmas.Grind.{flat_map-append}
 use Rattle.pur_base.specs.declared.device.Device.{Device}
-use Rattle.pur_base.specs.Devices.{Conditions}
 use Rattle.pur_base.specs.Grammar.{Item}
 use Rattle.pur_base.specs.Replies.{Answer, text, texts}
-use Rattle.array_spec.specs.Acked.{IsAnswer, acked, after_reply}
+use Rattle.array_spec.specs.Acked.{IsAnswer, acked}
 use Rattle.array_spec.proofs.AckedLemmas.{counts-replies, cut-is-none}
 use Rattle.world.specs.Losing.{geometry_of, has_lost_writes, losing, IsLater}
-use Rattle.world.specs.Shelf.{Shelved, Stop, Disk, IsShelf, Continues, TakenOnly, OutputOnly, MayLeave, MayStop, MayStopTaking, MayStopGiving, LeavesOnly, Leaves, IsCountedBy, IsQuietBy, IsFrontOf}
+use Rattle.world.specs.Shelf.{Shelved, Stop, Disk, IsShelf, Continues, TakenOnly, OutputOnly, MayLeave, MayStop, MayStopTaking, MayStopGiving, LeavesOnly, Leaves, IsCountedBy, IsQuietBy}
 use Rattle.world.proofs.Moments.{continues_refl, continues_trans, leaves_start}
 use Rattle.session_spec.specs.Faring.{Point, IsReached, Fares, Serves, Answers}
 use Rattle.session_spec.specs.Ends.{IsPartOfNext}
 use Rattle.session_spec.specs.Entering.{read_now}
-use Rattle.session_spec.specs.Reaching.{NoMore}
 use Rattle.session_spec.proofs.Reached.{output_is_bounded, output_counts}
 use Rattle.array_server.proofs.Going.{IsUpTo, fares_more, rest_more}
 use Rattle.array_server.proofs.Along.{Along, Told, Adds, up_to_then, reached_on, run_on, moments_on, told_part, told_same, count_of}
@@ -119,7 +116,6 @@ called start a b first last items R replies so on unlapsed calls =
       moments = moments_on start a b first last items R replies Q so on unlapsed adds counted
           (λ stop now. told_same start a b first last items R replies Q so on unlapsed adds counted stop now.0.output now.1.1);
     }
-
 
 -- ---- a reply is given
 
