@@ -1,9 +1,10 @@
-pub mod PlainStepLemmas
 pub mod ReplyLemmas
-pub mod SessionLemmas
 pub mod WholeLemmas
-pub mod AckedOutputLemmas
 pub mod MadeLemmas
+pub mod Unborne
+pub mod Points
+pub mod Meanwhile
+pub mod WholeReplies
 pub mod Came
 pub mod InHand
 pub mod Kept
@@ -13,3 +14,10 @@ pub mod StillReady
 pub mod Begun
 pub mod Headlines
 pub mod LawfulLog
+pub mod Going
+pub mod Along
+pub mod Answered
+pub mod Steps
+pub mod SoFar
+pub mod Ends
+pub mod ItemsRead

@@ -1,8 +1,7 @@
 -- Items of an input are lawful, arrays stay lawful, and so replies are whole.
-use Rattle.std.proofs.Common.{◌≡◌, ℕ, zero, suc, ◌+◌, ◌*◌, ◌<◌, ◌≤◌, ◌^◌, Bool, true, false, cond, not, ltb, eqb, ◌||◌, List, [], ◌∷◌, ◌++◌, length, take, drop, Option, Some, None, refl, sym, ap, subst, arith, length-append}
-use Rattle.std.specs.Prelude.{IfSome, replicate, bytes_eq, codes}
+use Rattle.std.proofs.Common.{◌≡◌, ℕ, zero, suc, ◌+◌, ◌*◌, ◌<◌, ◌≤◌, Bool, true, false, cond, not, ltb, eqb, ◌||◌, List, [], ◌∷◌, ◌++◌, length, take, drop, Option, Some, None, refl, sym, ap, subst, arith, length-append}
+use Rattle.std.specs.Prelude.{IfSome, replicate}
 use Rattle.std.specs.List.{AllByRecursion, before_first, after_first}
-use Rattle.std.proofs.Math.Logic.{⊎_elim}
 use Rattle.std.proofs.lemmas.Bool.{ltb-false, leb-false}
 use Rattle.std.specs.Option.{option_map_or}
 use Rattle.std.proofs.lemmas.List.{length-take, length-drop, length-replicate}
@@ -14,142 +13,24 @@ use Rattle.pur_base.specs.declared.request.Request.TheVariants as request
 use Rattle.pur_base.specs.declared.reply.Refusal.{Refusal}
 use Rattle.pur_base.specs.declared.reply.Refusal.TheVariants as refusals
 use Rattle.pur_base.specs.Plain.{Entry, Array, entry, sectors_of, span, with_span, with_sectors, replaced, appended, is_named, has, is_snapshot, passes, is_full, is_no_size, first_cause, refusal, done}
-use Rattle.pur_base.specs.Grammar.{Item, Asked, Syntax, Cut, ◌>>=◌, when, name_of, number_of, count_of, byte_of, table_of, number_in, create_form, span_form, fill_form, new_form, copy_form, name_form, number_form, merge_form, bare_form, step_of, request_of, words, is_in_force, if_in_force, line_request, is_line_end, data_count, sectors_in, line_item, first_item, items_within, requests}
+use Rattle.pur_base.specs.Grammar.{Item, Asked, Syntax, Cut, when, request_of, words, is_in_force, if_in_force, line_request, is_line_end, data_count, sectors_in, line_item, first_item, items_within, requests}
 use Rattle.pur_base.specs.Replies.{Answer, Sectors, answer, after, given, answer_unless, after_unless}
 use Rattle.array_spec.specs.Acked.{IsAnswer, IsEntry}
-use Rattle.array_spec.specs.Runs.{RunsBy}
-use Rattle.array_server.specs.PlainSteps.{PlainStep, IsStarved}
-use Rattle.array_server.specs.Whole.{AreSectors, IsLawfulEntry, IsLawful, IsLawfulRequest, IsLawfulItem, RepliesAreWhole}
-
--- ---- requests that are spelled
-
--- a request to create has a lawful name
-abbrev HasName : Request → Type 0
-HasName (request.Create n size) = is_name n ≡ true
-HasName _ = Unit {0}
-
--- what is there has it
-abbrev Named : Option Request → Type 0
-Named o = IfSome o HasName
-
-if-named : (b : Bool) (x y : Option Request) → Named x → Named y → Named (cond b x y)
-if-named true x y h k = h
-if-named false x y h k = k
-
-bind-named : {A : Type 0} (o : Option A) (f : A → Option Request) → ((x : A) → Named (f x)) → Named (o >>= f)
-bind-named None f h = tt
-bind-named (Some x) f h = h x
-
-named-when : (b : Bool) (n : List ℕ) (f : List ℕ → Option Request) → is_name n ≡ b → (is_name n ≡ true → Named (f n)) → Named (when b n >>= f)
-named-when true n f e h = h e
-named-when false n f e h = tt
-
-create-named : (rest : List (List ℕ)) → Named (create_form rest)
-create-named [] = tt
-create-named (n ∷ []) = tt
-create-named (n ∷ s ∷ []) = named-when (is_name n) n (λ name. number_of s >>= λ size. Some (request.Create name size)) refl (λ e. bind-named (number_of s) (λ size. Some (request.Create n size)) (λ size. e))
-create-named (n ∷ s ∷ x ∷ rest) = tt
-
-span-named : (make : List ℕ → ℕ → ℕ → Request) → ((n : List ℕ) (lba count : ℕ) → HasName (make n lba count)) → (rest : List (List ℕ)) → Named (span_form make rest)
-span-named make h [] = tt
-span-named make h (n ∷ []) = tt
-span-named make h (n ∷ at ∷ []) = tt
-span-named make h (n ∷ at ∷ many ∷ []) =
-    bind-named (name_of n) (λ name. number_of at >>= λ lba. count_of many >>= λ count. Some (make name lba count))
-    (λ name. bind-named (number_of at) (λ lba. count_of many >>= λ count. Some (make name lba count)) (λ lba. bind-named (count_of many) (λ count. Some (make name lba count)) (λ count. h name lba count)))
-span-named make h (n ∷ at ∷ many ∷ x ∷ rest) = tt
-
-fill-named : (rest : List (List ℕ)) → Named (fill_form rest)
-fill-named [] = tt
-fill-named (n ∷ []) = tt
-fill-named (n ∷ at ∷ []) = tt
-fill-named (n ∷ at ∷ many ∷ []) = tt
-fill-named (n ∷ at ∷ many ∷ value ∷ []) =
-    bind-named (name_of n) (λ name. number_of at >>= λ lba. count_of many >>= λ count. byte_of value >>= λ byte. Some (request.Fill name lba count byte))
-    (λ name. bind-named (number_of at) (λ lba. count_of many >>= λ count. byte_of value >>= λ byte. Some (request.Fill name lba count byte))
-    (λ lba. bind-named (count_of many) (λ count. byte_of value >>= λ byte. Some (request.Fill name lba count byte)) (λ count. bind-named (byte_of value) (λ byte. Some (request.Fill name lba count byte)) (λ byte. tt))))
-fill-named (n ∷ at ∷ many ∷ value ∷ x ∷ rest) = tt
-
-new-named : (make : List ℕ → List ℕ → Request) → ((n m : List ℕ) → HasName (make n m)) → (rest : List (List ℕ)) → Named (new_form make rest)
-new-named make h [] = tt
-new-named make h (n ∷ []) = tt
-new-named make h (n ∷ m ∷ []) =
-    bind-named (name_of n) (λ name. name_of m >>= λ new. Some (make name new)) (λ name. bind-named (name_of m) (λ new. Some (make name new)) (λ new. h name new))
-new-named make h (n ∷ m ∷ x ∷ rest) = tt
-
-copy-named : (rest : List (List ℕ)) → Named (copy_form rest)
-copy-named [] = tt
-copy-named (n ∷ []) = tt
-copy-named (n ∷ at ∷ []) = tt
-copy-named (n ∷ at ∷ m ∷ []) = tt
-copy-named (n ∷ at ∷ m ∷ to ∷ []) = tt
-copy-named (n ∷ at ∷ m ∷ to ∷ many ∷ []) =
-    bind-named (name_of n) (λ name. number_of at >>= λ lba. name_of m >>= λ other. number_of to >>= λ to_lba. number_in 1 (10 ^ 15) many >>= λ count. Some (request.Copy name lba other to_lba count))
-    (λ name. bind-named (number_of at) (λ lba. name_of m >>= λ other. number_of to >>= λ to_lba. number_in 1 (10 ^ 15) many >>= λ count. Some (request.Copy name lba other to_lba count))
-    (λ lba. bind-named (name_of m) (λ other. number_of to >>= λ to_lba. number_in 1 (10 ^ 15) many >>= λ count. Some (request.Copy name lba other to_lba count))
-    (λ other. bind-named (number_of to) (λ to_lba. number_in 1 (10 ^ 15) many >>= λ count. Some (request.Copy name lba other to_lba count))
-    (λ to_lba. bind-named (number_in 1 (10 ^ 15) many) (λ count. Some (request.Copy name lba other to_lba count)) (λ count. tt)))))
-copy-named (n ∷ at ∷ m ∷ to ∷ many ∷ x ∷ rest) = tt
-
-name-named : (make : List ℕ → Request) → ((n : List ℕ) → HasName (make n)) → (rest : List (List ℕ)) → Named (name_form make rest)
-name-named make h [] = tt
-name-named make h (n ∷ []) = bind-named (name_of n) (λ name. Some (make name)) (λ name. h name)
-name-named make h (n ∷ x ∷ rest) = tt
-
-number-named : (make : ℕ → Request) → ((n : ℕ) → HasName (make n)) → (rest : List (List ℕ)) → Named (number_form make rest)
-number-named make h [] = tt
-number-named make h (n ∷ []) = bind-named (number_of n) (λ number. Some (make number)) (λ number. h number)
-number-named make h (n ∷ x ∷ rest) = tt
-
-merge-named : (rest : List (List ℕ)) → Named (merge_form rest)
-merge-named [] = tt
-merge-named (t ∷ []) = tt
-merge-named (t ∷ n ∷ []) =
-    bind-named (table_of t) (λ tag. number_of n >>= λ number. Some (request.Merge tag number)) (λ tag. bind-named (number_of n) (λ number. Some (request.Merge tag number)) (λ number. tt))
-merge-named (t ∷ n ∷ x ∷ rest) = tt
-
-bare-named : (r : Request) → HasName r → (rest : List (List ℕ)) → Named (bare_form r rest)
-bare-named r h [] = h
-bare-named r h (x ∷ rest) = tt
-
-step-named : (word : List ℕ) (rest : List (List ℕ)) → Named (step_of word rest)
-step-named word rest =
-    if-named (bytes_eq word (codes "status")) _ _ (bare-named request.Status tt rest) (
-    if-named (bytes_eq word (codes "checkpoint")) _ _ (bare-named request.Checkpoint tt rest) (
-    if-named (bytes_eq word (codes "merge")) _ _ (merge-named rest) (
-    if-named (bytes_eq word (codes "flatten")) _ _ (name-named request.Flatten (λ n. tt) rest) (
-    if-named (bytes_eq word (codes "clean")) _ _ (number-named request.Clean (λ n. tt) rest) (
-    if-named (bytes_eq word (codes "reclaim")) _ _ (bare-named request.Reclaim tt rest) (
-    if-named (bytes_eq word (codes "evict")) _ _ (number-named request.Evict (λ n. tt) rest) (
-    if-named (bytes_eq word (codes "admit")) _ _ (number-named request.Admit (λ n. tt) rest) (
-    if-named (bytes_eq word (codes "rebuild")) _ _ (number-named request.Rebuild (λ n. tt) rest) (
-    if-named (bytes_eq word (codes "takeover")) _ _ (bare-named request.Takeover tt rest) tt)))))))))
-
-request-named : (words : List (List ℕ)) → Named (request_of words)
-request-named [] = tt
-request-named (word ∷ rest) =
-    if-named (bytes_eq word (codes "create")) _ _ (create-named rest) (
-    if-named (bytes_eq word (codes "write")) _ _ (span-named request.Write (λ n lba count. tt) rest) (
-    if-named (bytes_eq word (codes "fill")) _ _ (fill-named rest) (
-    if-named (bytes_eq word (codes "zero")) _ _ (span-named request.Zero (λ n lba count. tt) rest) (
-    if-named (bytes_eq word (codes "read")) _ _ (span-named request.Read (λ n lba count. tt) rest) (
-    if-named (bytes_eq word (codes "snapshot")) _ _ (new-named request.Snapshot (λ n m. tt) rest) (
-    if-named (bytes_eq word (codes "clone")) _ _ (new-named request.Clone (λ n m. tt) rest) (
-    if-named (bytes_eq word (codes "copy")) _ _ (copy-named rest) (
-    if-named (bytes_eq word (codes "destroy")) _ _ (name-named request.Destroy (λ n. tt) rest) (
-    if-named (bytes_eq word (codes "list")) _ _ (bare-named request.List tt rest) (step-named word rest))))))))))
+use Rattle.request_codec.specs.Spelled.{IsSpelledRequest}
+use Rattle.request_codec.proofs.SpelledLemmas.{request-spelled}
+use Rattle.array_server.specs.Whole.{AreSectors, IsLawfulEntry, IsLawful, IsLawfulRequest, IsLawfulItem}
 
 -- ---- the items of an input
 
--- the request of a line is of a form in force, and has a lawful name to create
+-- the request of a line is of a form in force, and within its bounds
 abbrev Spelled : Option Request → Type 0
-Spelled o = IfSome o (λ r. (is_in_force r ≡ true) × HasName r)
+Spelled o = IfSome o (λ r. (is_in_force r ≡ true) × IsSpelledRequest r)
 
-force-spelled : (b : Bool) (r : Request) → is_in_force r ≡ b → HasName r → Spelled (when b r)
+force-spelled : (b : Bool) (r : Request) → is_in_force r ≡ b → IsSpelledRequest r → Spelled (when b r)
 force-spelled true r e h = (e, h)
 force-spelled false r e h = tt
 
-in-force-spelled : (o : Option Request) → Named o → Spelled (if_in_force o)
+in-force-spelled : (o : Option Request) → IfSome o IsSpelledRequest → Spelled (if_in_force o)
 in-force-spelled None h = tt
 in-force-spelled (Some r) h = force-spelled (is_in_force r) r refl h
 
@@ -158,7 +39,7 @@ if-spelled true o h = tt
 if-spelled false o h = h
 
 line-spelled : (line : List ℕ) → Spelled (line_request line)
-line-spelled line = if-spelled (ltb LINE_BYTES (length line)) (if_in_force (request_of (words line))) (in-force-spelled (request_of (words line)) (request-named (words line)))
+line-spelled line = if-spelled (ltb LINE_BYTES (length line)) (if_in_force (request_of (words line))) (in-force-spelled (request_of (words line)) (request-spelled (words line)))
 
 -- the bytes as sectors
 sectors-whole : (n : ℕ) (bytes : List ℕ) → SECTOR_BYTES * n ≤ length bytes → (length (sectors_in n bytes) ≡ n) × AreSectors (sectors_in n bytes)
@@ -167,12 +48,12 @@ sectors-whole (suc n) bytes le =
     let rest = sectors-whole n (drop SECTOR_BYTES bytes) (omega (arith, le, length-drop SECTOR_BYTES bytes)) in
     (ap suc rest.0, (omega (arith, le, length-take SECTOR_BYTES bytes), rest.1))
 
-lawful-request : (r : Request) (bytes : List ℕ) → HasName r → SECTOR_BYTES * data_count r ≤ length bytes → IsLawfulRequest r (sectors_in (data_count r) bytes)
-lawful-request (request.Create n size) bytes h le = h
+lawful-request : (r : Request) (bytes : List ℕ) → IsSpelledRequest r → SECTOR_BYTES * data_count r ≤ length bytes → IsLawfulRequest r (sectors_in (data_count r) bytes)
+lawful-request (request.Create n size) bytes h le = h.0
 lawful-request (request.Write n lba count) bytes h le = sectors-whole count bytes le
 lawful-request _ bytes h le = tt
 
-lawful-either : (b : Bool) (r : Request) (behind : List ℕ) → ltb (length behind) (SECTOR_BYTES * data_count r) ≡ b → (is_in_force r ≡ true) × HasName r
+lawful-either : (b : Bool) (r : Request) (behind : List ℕ) → ltb (length behind) (SECTOR_BYTES * data_count r) ≡ b → (is_in_force r ≡ true) × IsSpelledRequest r
     → IsLawfulItem (cond {A = Item × List ℕ} b (Cut, []) (Asked r (sectors_in (data_count r) behind), drop (SECTOR_BYTES * data_count r) behind)).0
 lawful-either true r behind e h = tt
 lawful-either false r behind e h = (h.0, lawful-request r behind h.1 (ltb-false _ _ e))
@@ -181,11 +62,15 @@ lawful-item : (o : Option Request) (behind : List ℕ) → Spelled o → IsLawfu
 lawful-item None behind h = tt
 lawful-item (Some r) behind h = lawful-either (ltb (length behind) (SECTOR_BYTES * data_count r)) r behind refl h
 
-lawful-items : (n : ℕ) (bytes : List ℕ) → AllByRecursion IsLawfulItem (items_within n bytes)
+pub lawful-items : (n : ℕ) (bytes : List ℕ) → AllByRecursion IsLawfulItem (items_within n bytes)
 lawful-items zero bytes = tt
 lawful-items (suc n) [] = tt
 lawful-items (suc n) (b ∷ bytes) =
     (lawful-item (line_request (before_first is_line_end (b ∷ bytes))) (after_first is_line_end (b ∷ bytes)) (line-spelled (before_first is_line_end (b ∷ bytes))), lawful-items n (first_item (b ∷ bytes)).1)
+
+-- the first of them
+pub lawful-first : (unread : List ℕ) (item : Item) (more : List Item) → requests unread ≡ item ∷ more → IsLawfulItem item
+lawful-first unread item more is = (subst (AllByRecursion IsLawfulItem) is (lawful-items (length unread) unread)).0
 
 -- ---- arrays that stay lawful
 
@@ -320,7 +205,7 @@ read-whole a n lba count h =
     let ss = sectors_of a n in
     (omega (arith, old.0, length-take count (drop lba ss), length-drop lba ss), are-take count (drop lba ss) (are-drop lba ss old.1))
 
-request-fine : (a : Array) (r : Request) (written : List (List ℕ)) → IsLawful a → is_in_force r ≡ true → IsLawfulRequest r written → refusal a r ≡ None → Fine (given a r) (done a r written)
+pub request-fine : (a : Array) (r : Request) (written : List (List ℕ)) → IsLawful a → is_in_force r ≡ true → IsLawfulRequest r written → refusal a r ≡ None → Fine (given a r) (done a r written)
 request-fine a (request.Create n size) written h force lawful none = (tt, create-fine a n size h lawful none)
 request-fine a (request.Write n lba count) written h force lawful none = (tt, overwrite-fine a n lba count written h lawful.1 lawful.0 none)
 request-fine a (request.Fill n lba count byte) written h force lawful none = (tt, overwrite-fine a n lba count (replicate count (filled byte)) h (are-filled count byte) (length-replicate count (filled byte)) none)
@@ -328,25 +213,7 @@ request-fine a (request.Read n lba count) written h force lawful none = (read-wh
 request-fine a request.List written h force lawful none = ((omega (arith, h.few), entries-whole a h.entries), h)
 request-fine a _ written h force lawful none = absurd cc
 
-item-fine : (a : Array) (item : Item) → IsLawful a → IsLawfulItem item → Fine (answer a item) (after a item)
+pub item-fine : (a : Array) (item : Item) → IsLawful a → IsLawfulItem item → Fine (answer a item) (after a item)
 item-fine a (Asked r written) h k = fine-unless (refusal a r) a (done a r written) (given a r) h (request-fine a r written h k.0 k.1)
 item-fine a Syntax h k = (tt, h)
 item-fine a Cut h k = (tt, h)
-
-starved-fine : (a : Array) (item : Item) (q : Answer) (b : Array) → IsLawful a → IsStarved a item q b → Fine q b
-starved-fine a (Asked (request.Create n size) written) q b h s = (subst IsAnswer (sym s.1) tt, subst IsLawful (sym s.2) h)
-starved-fine a _ q b h s = absurd s
-
-step-fine : (a : Array) (item : Item) (q : Answer) (b : Array) → IsLawful a → IsLawfulItem item → PlainStep a item q b → Fine q b
-step-fine a item q b h k s =
-    ⊎_elim (λ models. let f = item-fine a item h k in (subst IsAnswer (sym models.1) f.0, subst IsLawful (sym models.2) f.1)) (starved-fine a item q b h) s
-
-run-fine : (a : Array) (items : List Item) (qs : List Answer) (b : Array) → IsLawful a → AllByRecursion IsLawfulItem items → RunsBy PlainStep a items qs b → AllByRecursion IsAnswer qs
-run-fine a items [] b h k r = tt
-run-fine a [] (q ∷ qs) b h k r = absurd r
-run-fine a (item ∷ items) (q ∷ qs) b h k r =
-    let f = step-fine a item q r.0 h k.0 r.1 in
-    (f.0, run-fine r.0 items qs b f.1 k.1 r.2)
-
-pub replies-are-whole : RepliesAreWhole
-replies-are-whole input qs b r = run-fine [] (requests input) qs b (record { few = omega arith; entries = tt }) (lawful-items (length input) input) r

@@ -1,7 +1,8 @@
 -- The array that is served, at a point, and what answering an item makes of it.
-use Rattle.std.specs.Prelude.{◌≡◌, ◌⊎◌, Bool, true, false, List, [], ◌∷◌, Contains, if◌then◌else◌}
+use Rattle.std.specs.Prelude.{◌≡◌, ◌⊎◌, Bool, false, List, [], ◌∷◌, Contains, if◌then◌else◌}
 use Rattle.pur_base.specs.declared.device.Device.{Device}
-use Rattle.pur_base.specs.Devices.{Conditions, Sound, LeftOut, IsBearable}
+use Rattle.pur_base.specs.Devices.{Sound, LeftOut, IsBearable}
+use Rattle.pur_base.specs.Commands.{Command}
 use Rattle.pur_base.specs.Grammar.{Item}
 use Rattle.pur_base.specs.Plain as plain
 use Rattle.boot_codec.specs.Region.{names}
@@ -11,6 +12,8 @@ use Rattle.world.specs.Shelf.{Shelved, Stop}
 use Rattle.register.specs.Registers.{named_sound}
 use Rattle.session_spec.specs.Entering.{IsStanding}
 use Rattle.session_spec.specs.Faring.{Point}
+use Rattle.array_core.specs.declared.array.Array.{Array}
+use Rattle.array_core.specs.Ready.{IsReady}
 use Rattle.array_core.specs.Holding.{IsHolder}
 use Rattle.array_core.specs.Losing.{lost_by}
 use Rattle.array_core.specs.Performing.{IsSpent, IsFull}
@@ -20,14 +23,18 @@ use Rattle.array_server.specs.declared.engine.Engine.{Engine}
 abbrev pub lost_in : Shelved → Shelved → Device → Bool
 lost_in old new = λ d. has_risen (old.disk d).write_faults (new.disk d).write_faults
 
--- The engine stands at the point. Each device that is sound there holds the array, and one that was left out isn't named by its record. Once it's halted only that is told.
+-- the devices hold the array
+abbrev pub IsReadyNow : Shelved → Array → Type 0
+IsReadyNow shelf a = (commands : List Command) × IsReady shelf a commands
+
+-- The engine stands at the point. Each device that is sound there holds the array, and one that was left out doesn't, and isn't named by its record. Once it's halted only that is told.
 pub record IsAt (e : Engine) (p : Point) : Type 0 where
   pub halted : p.halted ≡ e.halted
   pub array : e.halted ≡ false → p.array ≡ e.array.plain
   pub logged : e.halted ≡ false → p.logged ≡ e.array.log.count
   pub generation : e.halted ≡ false → p.generation ≡ e.array.register.record.generation
   pub holders : e.halted ≡ false → (d : Device) → p.conditions d ≡ Sound → IsHolder e.array d
-  pub left_out : e.halted ≡ false → (d : Device) → p.conditions d ≡ LeftOut → names e.array.register.record d ≡ false
+  pub left_out : e.halted ≡ false → (d : Device) → p.conditions d ≡ LeftOut → (names e.array.register.record d ≡ false) × ¬ (IsHolder e.array d)
 
 -- the point behind an answer: a halted engine goes on with what it had
 abbrev pub point_after : Engine → (Device → Bool) → Stop → Point → Point

@@ -1,7 +1,6 @@
-pub mod PlainSteps
 pub mod Answering
-pub mod Serving
 pub mod Whole
 pub mod Made
 pub mod Engines
+pub mod Replying
 pub mod Sessions

@@ -1,6 +1,7 @@
 -- What a session answers from the moment on when its array is open, and what it does to that.
-use Rattle.std.specs.Prelude.{◌≡◌, ℕ, false, List, length, drop}
+use Rattle.std.specs.Prelude.{◌≡◌, ℕ, Bool, true, false, List, length, drop}
 use Rattle.pur_base.specs.declared.reply.Status.{Status}
+use Rattle.pur_base.specs.declared.reply.Status.TheVariants as status
 use Rattle.pur_base.specs.Commands.{Command}
 use Rattle.pur_base.specs.Devices.{IsBearable}
 use Rattle.pur_base.specs.Grammar.{requests}
@@ -14,6 +15,27 @@ use Rattle.session_spec.specs.Headline.{Replied, StandsOn, IsLeftAfter, in_hand}
 use Rattle.array_core.specs.Ready.{IsReady}
 use Rattle.array_server.specs.declared.engine.Engine.{Engine}
 use Rattle.array_server.specs.Engines.{IsAt}
+
+-- the ways in which a session ends that was opened
+abbrev pub IsSessionEnd : Status → Type 0
+IsSessionEnd status.Done = Unit {0}
+IsSessionEnd status.Halted = Unit {0}
+IsSessionEnd status.Source = Unit {0}
+IsSessionEnd status.Sink = Unit {0}
+IsSessionEnd status.Cut = Unit {0}
+IsSessionEnd status.InputLimit = Unit {0}
+IsSessionEnd _ = ⊥
+
+-- the ways in which `serve` ends
+abbrev pub IsServeStatus : Status → Type 0
+IsServeStatus status.Memory = Unit {0}
+IsServeStatus status.NoArray = Unit {0}
+IsServeStatus s = IsSessionEnd s
+
+-- how a session ends whose input is answered to its end
+abbrev pub end_of : Bool → Status
+end_of true = status.Halted
+end_of false = status.Done
 
 -- a session begins there: the engine isn't halted, and nothing has happened since
 pub record BeginsAt (start : Shelved) (e : Engine) (first : Point) : Type 0 where

@@ -1,19 +1,12 @@
--- Replies that are whole: what is acknowledged is what was given.
-use Rattle.std.specs.Prelude.{◌≡◌, ℕ, ◌-◌, ◌≤◌, true, List, [], ◌++◌, length}
+-- Arrays and items within their limits: their replies are whole.
+use Rattle.std.specs.Prelude.{◌≡◌, ℕ, ◌≤◌, true, List, length}
 use Rattle.std.specs.List.{AllByRecursion}
 use Rattle.pur_base.specs.Names.{is_name}
 use Rattle.pur_base.specs.declared.limits.TheConstants.{SECTOR_BYTES, OBJECTS, OBJECT_SECTORS}
 use Rattle.pur_base.specs.declared.request.Request.{Request}
 use Rattle.pur_base.specs.declared.request.Request.TheVariants as request
-use Rattle.pur_base.specs.declared.reply.Status.{Status}
-use Rattle.pur_base.specs.declared.reply.Status.TheVariants as status
 use Rattle.pur_base.specs.Plain.{Entry, Array}
-use Rattle.pur_base.specs.Grammar.{Item, Asked, Syntax, Cut, is_in_force, requests}
-use Rattle.pur_base.specs.Replies.{Answer}
-use Rattle.array_spec.specs.Acked.{IsAnswer, acked}
-use Rattle.array_spec.specs.Runs.{RunsBy}
-use Rattle.array_server.specs.PlainSteps.{PlainStep}
-use Rattle.array_server.specs.Serving.{IsOutput}
+use Rattle.pur_base.specs.Grammar.{Item, Asked, Syntax, Cut, is_in_force}
 
 -- sectors of 512 bytes each
 abbrev pub AreSectors : List (List ℕ) → Type 0
@@ -41,16 +34,3 @@ abbrev pub IsLawfulItem : Item → Type 0
 IsLawfulItem (Asked r written) = (is_in_force r ≡ true) × IsLawfulRequest r written
 IsLawfulItem Syntax = Unit {0}
 IsLawfulItem Cut = Unit {0}
-
--- Each reply to the items of an input is whole: it delimits itself.
-abbrev pub RepliesAreWhole : Type 0
-RepliesAreWhole = (input : List ℕ) (qs : List Answer) (b : Array) → RunsBy PlainStep [] (requests input) qs b → AllByRecursion IsAnswer qs
-
--- how many of the replies were given whole: all but the last where the sink failed
-abbrev pub whole_count : Status → List Answer → ℕ
-whole_count status.Sink qs = length qs - 1
-whole_count _ qs = length qs
-
--- What was given of whole replies holds exactly as many whole ones as were given whole: those are acknowledged.
-abbrev pub OutputIsAcked : Type 0
-OutputIsAcked = (s : Status) (before after : List ℕ) (qs : List Answer) (out : List ℕ) → IsOutput s before after qs → AllByRecursion IsAnswer qs → after ≡ before ++ out → acked out ≡ whole_count s qs

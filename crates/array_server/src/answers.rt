@@ -1,21 +1,17 @@
-// What is answered to one item.
-ghost use Rattle.std.specs.Prelude.{◌≡◌, ◌↔◌, ◌++◌, [], true, length, take, drop, OnErr, ◌<◌};
-ghost use Rattle.pur_base.specs.Grammar.{Asked, data_count, is_in_force};
-ghost use Rattle.pur_base.specs.Replies.{Answer, Sectors, Entries, refused, line_text, sectors_text, entries_text, text};
+// Replies are given.
+ghost use Rattle.std.specs.Prelude.{◌≡◌, ◌↔◌, ◌++◌, [], length, take, drop, OnErr, ◌<◌};
+ghost use Rattle.pur_base.specs.Replies.{Sectors, Entries, refused, line_text, sectors_text, entries_text, text};
 ghost use Rattle.world.specs.Counts.{Counts};
 ghost use Rattle.array_model.specs.Step.{IsThere, answer_of};
-ghost use Rattle.request_codec.specs.Items.{HasData, item_read};
 ghost use Rattle.request_codec.specs.Writing.{Gave, Goes, Extends};
-ghost use Rattle.array_server.specs.Answering.{IsAnswered};
-ghost use Rattle.array_server.specs.PlainSteps.{PlainStep};
 
-use array_model::{Plain, PlainReply, plain_step};
-use pur_base::{NoMemory, Refusal, Reply, Request, Sector};
-use request_codec::{Item, ReplyWriter};
+use array_model::{Plain, PlainReply};
+use pur_base::{Refusal, Reply, Sector};
+use request_codec::ReplyWriter;
 use world::{Failed, Sink};
 
 /// Gives a reply of one line, or of sectors behind a line.
-pub fn give<K: Sink>(
+pub(crate) fn give<K: Sink>(
     writer: &mut ReplyWriter,
     reply: &Reply,
     sectors: &[Sector],
@@ -122,8 +118,8 @@ fn refuse<K: Sink>(writer: &mut ReplyWriter, why: Refusal, sink: &mut K) -> Resu
     give(writer, &Reply::Refused { why }, &[], sink)
 }
 
-/// Gives what the plain array answered.
-fn give_answer<K: Sink>(
+/// Gives what was answered; the plain array holds its sectors and its names.
+pub(crate) fn give_answer<K: Sink>(
     writer: &mut ReplyWriter,
     plain: &Plain,
     reply: &PlainReply,
@@ -142,55 +138,5 @@ fn give_answer<K: Sink>(
         PlainReply::Data(place) => give_sectors(writer, plain.held(place), sink),
         PlainReply::Names => give_names(writer, plain, sink),
         PlainReply::Refused(why) => refuse(writer, *why, sink),
-    }
-}
-
-/// Answers a request, which comes with the sectors that it writes.
-fn respond<K: Sink>(
-    plain: &mut Plain,
-    writer: &mut ReplyWriter,
-    request: &Request,
-    sectors: &[Sector],
-    sink: &mut K,
-) -> Result<(), Failed>
-    requires empty { writer.old ≡ [] }
-    requires in_force { is_in_force request.now ≡ true }
-    requires written { length sectors.now ≡ data_count request.now }
-    ensures answered { (q : Answer) × PlainStep plain.old (Asked request.now sectors.now) q plain.new
-        × ((K.sink sink.old).honest → Gave result (K.sink sink.old).bytes (K.sink sink.new).bytes (text q)) }
-    ensures emptied { writer.new ≡ [] }
-    ensures honest { (K.sink sink.old).honest ↔ (K.sink sink.new).honest }
-    ensures counts { Counts result (K.sink sink.old).faults (K.sink sink.new).faults }
-    ensures rest { K.sink_rest sink.old sink.new }
-{
-    match plain_step(plain, request, sectors) {
-        Ok(reply) => give_answer(writer, plain, &reply, sink),
-        Err(NoMemory) => refuse(writer, Refusal::Memory, sink),
-    }
-}
-
-/// Answers an item of the input.
-pub fn answer<K: Sink>(
-    plain: &mut Plain,
-    writer: &mut ReplyWriter,
-    item: &Item,
-    sectors: &[Sector],
-    sink: &mut K,
-) -> Result<(), Failed>
-    requires empty { writer.old ≡ [] }
-    requires item { IsAnswered item.now }
-    requires written { HasData item.now sectors.now }
-    ensures answered { (q : Answer) × PlainStep plain.old (item_read item.now sectors.now) q plain.new
-        × ((K.sink sink.old).honest → Gave result (K.sink sink.old).bytes (K.sink sink.new).bytes (text q)) }
-    ensures emptied { writer.new ≡ [] }
-    ensures honest { (K.sink sink.old).honest ↔ (K.sink sink.new).honest }
-    ensures counts { Counts result (K.sink sink.old).faults (K.sink sink.new).faults }
-    ensures rest { K.sink_rest sink.old sink.new }
-{
-    match item {
-        Item::Request(request) => respond(plain, writer, request, sectors, sink),
-        Item::Syntax => refuse(writer, Refusal::Syntax, sink),
-        Item::Cut => refuse(writer, Refusal::Cut, sink),
-        Item::Limit | Item::End => unreachable!(),
     }
 }
