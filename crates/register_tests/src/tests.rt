@@ -27,8 +27,16 @@ fn small_world(alloc: Global) -> Result<MemWorld, Fail> {
 fn register_of<S: Shelf>(alloc: Global, shelf: &S) -> Result<Register, Fail>
     ensures { IfOk result (λ r. IsRegisterOf (geometry_of (S.shelf shelf.now)) r) }
 {
+    register_at(alloc, shelf, &[0, 0, 0, 0, 0, 0, 0, 1])
+}
+
+/// The same at this generation.
+fn register_at<S: Shelf>(alloc: Global, shelf: &S, generation: &[u8; 8]) -> Result<Register, Fail>
+    ensures { IfOk result (λ r. IsRegisterOf (geometry_of (S.shelf shelf.now)) r) }
+{
     let mut body = [0; RECORD_BYTES];
     body[..88].copy_from_slice(&HEADER);
+    body[16..24].copy_from_slice(generation);
     match read_record(alloc, &body, shelf.drives(), shelf.units()) {
         Ok(record) => {
             let drives = record.members.drives;
@@ -128,5 +136,18 @@ fn eight_of_eleven_are_too_few(rt: HostRuntime) -> Result<(), Fail> {
     assert_eq!(rt; answer, Err(StoreFault::TooFew(all_but(&[1, 5, 9]))));
     assert_eq!(rt; register.record().generation, 2);
     assert_eq!(rt; register.record().members.drives, all_but(&[]));
+    Ok(())
+}
+
+#[test]
+fn the_last_generation_is_stored(rt: HostRuntime) -> Result<(), Fail> {
+    let alloc = rt.alloc();
+    let mut world = small_world(alloc)?;
+    let mut register = register_at(alloc, &world, &[0, 0, 255, 255, 255, 255, 255, 254])?;
+    let answer = register.store([true, true], &mut world);
+    assert_eq!(rt; answer, Ok(()));
+    let answer = register.store([true, true], &mut world);
+    assert_eq!(rt; answer, Err(StoreFault::Spent));
+    assert_eq!(rt; register.record().generation, 281474976710655);
     Ok(())
 }
