@@ -17,7 +17,7 @@ use Rattle.boot_region.proofs.Phases.{risen_on_way}
 use Rattle.nvram_log.specs.Members as nv
 use Rattle.register.specs.declared.state.Register.{Register}
 use Rattle.register.specs.Registers.{drives_of, next_slot, own_slot}
-use Rattle.register.specs.Standing.{StandsInLog, MayStore, MayStoreAgain, IsNextOf, GivesOldOrNext, AreOfMembers, AllShow, IsInStoreOf}
+use Rattle.register.specs.Standing.{StandsInLog, MayStore, MayStoreAgain, IsNextOf, GivesOldOrNext, AreOfMembers, IsInStoreOf}
 use Rattle.register.proofs.Again.{meanwhile, accounts, bearable_then, accounts_since, not_risen_since, next_after}
 use Rattle.register.proofs.FlagLemmas.{not_below}
 use Rattle.register.proofs.Resting.{may_store, alone}

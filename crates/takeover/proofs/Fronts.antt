@@ -1,5 +1,5 @@
 -- What is known of all flags is known of those of the shelf's slots, and the other way round.
-use Rattle.std.proofs.Common.{◌≡◌, ℕ, ◌<◌, ◌≤◌, Bool, false, List, ◌++◌, length, take, sym, ◌∙◌, arith}
+use Rattle.std.proofs.Common.{ℕ, ◌<◌, ◌≤◌, Bool, false, List, ◌++◌, length, take, sym, ◌∙◌, arith}
 use Rattle.std.proofs.lemmas.List.{get_or_append_left}
 use Rattle.pur_base.specs.Plain.{Array}
 use Rattle.pur_base.specs.Devices.{Conditions}

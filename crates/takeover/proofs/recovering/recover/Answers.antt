@@ -1,4 +1,4 @@
-use Rattle.std.proofs.Common.{◌≡◌, ◌⊎◌, ◌<◌, ◌^◌, ℕ, List, refl, arith, sym, subst, ap, ◌∙◌, Bool, Result, Err}
+use Rattle.std.proofs.Common.{◌≡◌, ◌⊎◌, ◌<◌, ◌^◌, ℕ, List, refl, sym, subst, ap, ◌∙◌, Bool, Result, Err}
 use Rattle.std.specs.Prelude.{IfOk, IfErr, OnOk, None, Some}
 use Rattle.std.proofs.lemmas.Result.{err_from_is_err_and}
 use Rattle.pur_base.specs.declared.memory.NoMemory.{NoMemory}
