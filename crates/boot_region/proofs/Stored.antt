@@ -28,7 +28,7 @@ use Rattle.boot_region.specs.Members.{IsMember, IsOneOf, NonMembersStay, OnSlot,
 use Rattle.boot_region.specs.Storing.{AreClean, AreClosed, AreWritten, AreOlder, SoundAreMembers, ComesOf, LeavesBy, Closes, Writes, Opens, IsInForceOn, MayFollow, AccountsFor, GivesOldOrNew, IsInStore, IsOpening, StandsBut, StandsNow, IsNewer, IsStored}
 use Rattle.boot_region.proofs.Composing.{differs_then, still_while_closing, still_while_writing, gives_while_closing, gives_while_writing, gives_while_opening, while_closing, while_writing, while_opening, as_it_is, is_sound_is}
 use Rattle.boot_region.proofs.Phases.{risen_on_way, closes_gates, writes_bodies, opens_gates}
-use Rattle.boot_region.proofs.ShownLemmas.{gate_same, member_below, body_low, body_is, bodies_same, other_body_same, as_read, shown_body}
+use Rattle.boot_region.proofs.ShownLemmas.{gate_same, member_below, body_low, body_is, bodies_same, other_same, other_body_same, other_shown_same, as_read, shown_body}
 
 -- a count that rose on the way rose
 pub rises_between : (a b c d : ℕ) → a ≤ b → Rises b c → c ≤ d → Rises a d
@@ -363,7 +363,7 @@ module _ (a b c d : Shelved) (m0 m1 m2 : List Bool) (slot : BootSlot) (body : Li
       }
 
   -- ---- at each moment, whatever the conditions
-  module _ (v1 : LeavesOnly a b (λ stop. LeavesBut (OnNotShut m0 a stop.faults (gate_place slot)) a stop))
+  module _ (changed : (i : ℕ) → ChangesOnly (OnNotShut m0 a (λ k. (b.disk k).faults) (gate_place slot) (drive i)) (a.disk (drive i)) (b.disk (drive i))) (v1 : LeavesOnly a b (λ stop. LeavesBut (OnNotShut m0 a stop.faults (gate_place slot)) a stop))
       (v2 : LeavesOnly b c (LeavesBut (OnMembers m1 (body_place slot) RECORD_BYTES) b)) (v3 : LeavesOnly c d (LeavesBut (OnMembers m2 (gate_place slot) SECTOR_BYTES) c)) where
     closing : (missing : Conditions) (held : List ℕ) → AreClean a missing m0 → (stop : Stop) → LeavesBut (OnNotShut m0 a stop.faults (gate_place slot)) a stop → ComesOf a (Closes a m0 missing slot held) stop
     closing missing held clean stop left = closes_gates m0 a stop missing slot held is_a h left clean
@@ -415,6 +415,13 @@ module _ (a b c d : Shelved) (m0 m1 m2 : List Bool) (slot : BootSlot) (body : Li
     none : Conditions
     none device = Missing
 
+    -- once the body is written the other slot of a member is as reads gave it
+    others_kept : (i : ℕ) → IsMember m2 i → shown_by (other_slot slot) (c.disk (drive i)).bytes ≡ shown_by (other_slot slot) (a.disk (drive i)).bytes
+    others_kept i m =
+        let w = written_to i m in
+        other_shown_same slot (b.disk (drive i)).bytes (c.disk (drive i)).bytes w.size (λ k out. w.outside k (λ r. out (subst (λ (n : ℕ). IsIn (record { start = body_place slot; size = n }) k) size r)))
+        ∙ other_same slot (a.disk (drive i)).bytes (b.disk (drive i)).bytes (changed i).size (λ k out. (changed i).bytes k (λ x. out x.1))
+
     opens_at : (stop : Stop) → LeavesBut (OnMembers m2 (gate_place slot) SECTOR_BYTES) c stop → IsOpening a m0 slot body stop
     unfolding sound none
     opens_at stop left =
@@ -434,6 +441,10 @@ module _ (a b c d : Shelved) (m0 m1 m2 : List Bool) (slot : BootSlot) (body : Li
                 | inr opened ↦ inr opened.0
               ],
             )
+            | inr lost ↦ absurd (risen_on_way _ _ _ _ (let same : (a.disk (drive i)).faults ≤ (a.disk (drive i)).faults = omega arith in same) lost.faults (left.counts.faults (drive i)) still)
+          ];
+          kept = λ i m still. elim (dropped2 i m) [
+            | inl is ↦ o.by.others i ∙ ap (shown_by (other_slot slot)) (as_read (c.disk (drive i)) (o.start.image (drive i)) (clean2 sound i is refl) (o.may.device (drive i))) ∙ others_kept i is
             | inr lost ↦ absurd (risen_on_way _ _ _ _ (let same : (a.disk (drive i)).faults ≤ (a.disk (drive i)).faults = omega arith in same) lost.faults (left.counts.faults (drive i)) still)
           ];
         }

@@ -169,6 +169,9 @@ pub record IsOpening (old : Shelved) (members : List Bool) (slot : BootSlot) (bo
   pub others : (i : ℕ) → shown_by (other_slot slot) (stop.image (drive i)) ≡ shown_by (other_slot slot) (start.image (drive i))
   pub written : (i : ℕ) → IsMember members i → has_risen (old.disk (drive i)).faults (stop.faults (drive i)) ≡ false
       → (body_in slot (stop.image (drive i)) ≡ body) × ((shown_by slot (stop.image (drive i)) ≡ None) ⊎ (shown_by slot (stop.image (drive i)) ≡ Some body))
+  -- such a member was synced meanwhile: its other slot is as reads gave it when the store began
+  pub kept : (i : ℕ) → IsMember members i → has_risen (old.disk (drive i)).faults (stop.faults (drive i)) ≡ false
+      → shown_by (other_slot slot) (stop.image (drive i)) ≡ shown_by (other_slot slot) (old.disk (drive i)).bytes
 
 -- a stop in a store, whatever the conditions of the devices
 pub record IsInStore (old : Shelved) (members : List Bool) (slot : BootSlot) (body : List ℕ) (stop : Stop) : Type 0 where

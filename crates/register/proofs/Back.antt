@@ -192,9 +192,7 @@ module _ (old : Shelved) (is : IsShelf old) (r : Register) (nvrams : List Bool) 
   shown_own : (i : ℕ) → i < old.drives → back (drive i) ≡ Sound → shown_by own (stop.image (drive i)) ≡ Some (spelling r.record)
   shown_own i lt s =
       let d = m.on_drives i lt s in
-      let x = shows i d.0 in
-      subst (λ (t : BootSlot). shown_by t (stop.image (drive i)) ≡ shown_by t (o.start.image (drive i))) (twice_other own) (o.others i)
-      ∙ ap (shown_by own) (as_read (old.disk (drive i)) (o.start.image (drive i)) x.clean (o.may.device (drive i))) ∙ x.shown
+      subst (λ (t : BootSlot). shown_by t (stop.image (drive i)) ≡ shown_by t (old.disk (drive i)).bytes) (twice_other own) (o.kept i d.0 d.1) ∙ shows i d.0
 
   shown_next : (i : ℕ) → i < old.drives → back (drive i) ≡ Sound → (shown_by (next_slot r.record) (stop.image (drive i)) ≡ None) ⊎ (shown_by (next_slot r.record) (stop.image (drive i)) ≡ Some (spelling next))
   shown_next i lt s = let d = m.on_drives i lt s in (o.written i d.0 d.1).1

@@ -11,13 +11,13 @@ use Rattle.array_spec.specs.Standing.{Stands, MayBeGiven}
 use Rattle.world.specs.Shelf.{Shelved, Stop, MayStop, IsShelf, IsCountedBy, Continues, LeavesOnly}
 use Rattle.world.specs.Losing.{geometry_of}
 use Rattle.boot_region.specs.Members.{IsMember, DroppedFailed}
-use Rattle.boot_region.specs.Storing.{WasGiven, StandsBut, AccountsFor, IsOlder}
+use Rattle.boot_region.specs.Storing.{Shows, WasGiven, StandsBut, AccountsFor, IsOlder}
 use Rattle.boot_region.proofs.Composing.{as_it_is}
 use Rattle.boot_region.proofs.Phases.{risen_on_way}
 use Rattle.nvram_log.specs.Members as nv
 use Rattle.register.specs.declared.state.Register.{Register}
-use Rattle.register.specs.Registers.{drives_of, next_slot}
-use Rattle.register.specs.Standing.{StandsInLog, MayStore, MayStoreAgain, IsNextOf, GivesOldOrNext, AreOfMembers, AllShow, IsInStoreOf}
+use Rattle.register.specs.Registers.{drives_of, next_slot, own_slot}
+use Rattle.register.specs.Standing.{StandsInLog, MayStore, MayStoreAgain, IsNextOf, GivesOldOrNext, AreOfMembers, IsInStoreOf}
 use Rattle.register.proofs.Again.{meanwhile, accounts, bearable_then, accounts_since, not_risen_since, next_after}
 use Rattle.register.proofs.FlagLemmas.{not_below}
 use Rattle.register.proofs.Resting.{may_store, alone}
@@ -26,7 +26,7 @@ module _ (old mid : Shelved) (is_mid : IsShelf mid) (on : Continues old mid) (wa
     (is_next : IsNextOf was nvrams now.record) (fewer : (i : ℕ) → IsMember now.drives i → IsMember was.drives i)
     (fewer_cut : (i : ℕ) → IsMember (drives_of now) i → IsMember (drives_of was) i) (dropped : DroppedFailed old mid (drives_of was) (drives_of now)) (low : now.record.generation < 2 ^ 48 - 8)
     (first : LeavesOnly old mid (IsInStoreOf old was nvrams))
-    (logged_then : (log : List Command) → StandsInLog old was nvrams log → StandsInLog mid now nvrams log) (shown : AllShow mid now)
+    (logged_then : (log : List Command) → StandsInLog old was nvrams log → StandsInLog mid now nvrams log) (shown : (i : ℕ) → IsMember (drives_of now) i → Shows mid (own_slot now.record) (spelling now.record) i)
     (older : (log : List Command) → StandsInLog old was nvrams log → (i : ℕ) → IsMember (drives_of now) i → IsOlder mid (next_slot now.record) (spelling now.record) i)
     (again : (missing : Conditions) (log : List Command) (arrays : List Array) → MayStore old was nvrams missing log arrays → MayStoreAgain old mid was now nvrams missing log arrays)
     (stop : Stop) (counts : IsCountedBy mid stop)

@@ -1,16 +1,16 @@
 -- An array that stands in its log alone, by the record in the register.
-use Rattle.std.specs.Prelude.{◌≡◌, ◌⊎◌, ℕ, ◌<◌, List, [], ◌∷◌, Bool, true, false, Contains}
+use Rattle.std.specs.Prelude.{◌≡◌, ◌⊎◌, ℕ, ◌<◌, List, [], ◌∷◌, Bool, true, false, Some, Contains}
 use Rattle.pur_base.specs.Devices.{Conditions, Sound, LeftOut, IsBearable, drive, nvram}
 use Rattle.pur_base.specs.Plain.{Array}
 use Rattle.pur_base.specs.Commands.{Command, AllAccepted, after_all}
 use Rattle.boot_codec.specs.declared.record.BootRecord.{BootRecord}
-use Rattle.boot_codec.specs.Region.{BootSlot, body_in, names}
+use Rattle.boot_codec.specs.Region.{BootSlot, body_in, names, shown_by}
 use Rattle.boot_codec.specs.Spelling.{spelling}
 use Rattle.array_spec.specs.Standing.{MayBeGiven, Stands}
 use Rattle.world.specs.Shelf.{Shelved, Stop, MayStop}
 use Rattle.world.specs.Losing.{geometry_of, has_risen}
 use Rattle.boot_region.specs.Members.{IsMember}
-use Rattle.boot_region.specs.Storing.{Shows, WasGiven, StandsNow, StandsBut, IsInForceOn, AreOlder, AccountsFor}
+use Rattle.boot_region.specs.Storing.{WasGiven, StandsNow, StandsBut, IsInForceOn, AreOlder, AccountsFor}
 use Rattle.nvram_log.specs.Held.{HoldsOn}
 use Rattle.nvram_log.specs.Members as nv
 use Rattle.register.specs.declared.state.Register.{Register}
@@ -74,9 +74,9 @@ pub record StandsBack (old : Shelved) (r : Register) (nvrams : List Bool) (log :
   pub each : (missing : Conditions) (arrays : List Array) → MayStore old r nvrams missing log arrays → (back : Conditions) → AreOfMembers old r nvrams missing stop back
       → Stands (geometry_of old) stop.image back arrays × ((slot : BootSlot) (boot : BootRecord) → MayBeGiven (geometry_of old) stop.image back slot boot → (boot ≡ r.record) ⊎ IsNextOf r nvrams boot)
 
--- each of the drives shows the record, and nothing of it is dirty
+-- each of the drives shows the record, as reads give it
 abbrev pub AllShow : Shelved → Register → Type 0
-AllShow shelf r = (i : ℕ) → IsMember (drives_of r) i → Shows shelf (own_slot r.record) (spelling r.record) i
+AllShow shelf r = (i : ℕ) → IsMember (drives_of r) i → shown_by (own_slot r.record) (shelf.disk (drive i)).bytes ≡ Some (spelling r.record)
 
 -- a stop in a store, whatever the conditions of the devices
 pub record IsInStoreOf (old : Shelved) (r : Register) (nvrams : List Bool) (stop : Stop) : Type 0 where

@@ -18,6 +18,6 @@ stays_clean old new was now at h outcome others (Nv v) clean = inl (ap (λ (k : 
 stays_clean old new was now at h outcome others (Drive k) clean = elim (cases_Bool (slice_index_or was k.0 false)) [
   | inl m ↦
       let o = outcome k.0 (member_below was k.0 m) in
-      elim (o.dropped m) [ inl is ↦ inl (o.clean h is) | inr rose ↦ inr rose ]
+      elim (o.dropped m) [ inl is ↦ inl (o.clean h is clean) | inr rose ↦ inr rose ]
   | inr m ↦ inl (ap (λ (x : Disk). x.dirty) (others (Drive k) (λ w. absurd (cc (w, m)))) ∙ clean)
 ]

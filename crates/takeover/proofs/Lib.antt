@@ -2,7 +2,6 @@ mod Members
 mod Failing
 mod Counts
 mod Cleaned
-mod LeftShown
 mod Loading
 mod NoFault
 mod FoundLemmas

@@ -1,6 +1,5 @@
 -- The opening as a whole, from what each of its calls says.
 use Rattle.std.proofs.Common.{◌≡◌, ◌⊎◌, inl, inr, ℕ, ◌+◌, ◌-◌, ◌^◌, ◌<◌, ◌≤◌, Bool, List, Some, None, refl, sym, ◌∙◌, ap, subst, arith, Err}
-use Rattle.std.proofs.lemmas.Bool.{cases_lt}
 use Rattle.pur_base.specs.Commands.{Command}
 use Rattle.pur_base.specs.declared.device.Device.{Device}
 use Rattle.pur_base.specs.declared.reply.Status.TheVariants as status
@@ -19,7 +18,7 @@ use Rattle.boot_region.specs.declared.loading.Loaded.{Loaded}
 use Rattle.boot_region.specs.Loading.{IsLawfulLoad}
 use Rattle.boot_region.specs.Members.{IsMember, DroppedFailed, LostWrites}
 use Rattle.boot_region.specs.Slots.{slot_in}
-use Rattle.boot_region.specs.Storing.{Shows, StandsBut}
+use Rattle.boot_region.specs.Storing.{StandsBut}
 use Rattle.nvram_log.specs.Members.{OnMembers}
 use Rattle.nvram_log.proofs.SettledEach.{both_leave}
 use Rattle.register.specs.declared.state.Register.{Register}
@@ -28,7 +27,7 @@ use Rattle.register.specs.declared.next.StoreFault.TheVariants.{Spent, TooFew}
 use Rattle.register.specs.Faults.{IsFaultOf}
 use Rattle.register.specs.Registers.{IsLaterRecord, IsRegisterOf, OnSlots, drives_of, next_slot, own_slot}
 use Rattle.register.specs.Standing.{AllShow, GivesOldOrNext, MayStore, StandsBack, StandsInLog, StillGiven}
-use Rattle.register.proofs.FlagLemmas.{in_cut, not_below}
+use Rattle.register.proofs.FlagLemmas.{in_cut}
 use Rattle.session_spec.specs.Entering.{Enters, Found, OnlyFailedAreSilent, StandsStill, read_now, failed_by, failed_since}
 use Rattle.session_spec.specs.Headline.{IsUnopenedBy}
 use Rattle.takeover.specs.declared.faults.OpenFault.{OpenFault}
@@ -57,13 +56,6 @@ counted_on on first next = then_run on first (weaker (λ stop counted. counted_t
 
 pub counted_by_writes : {a b : Shelved} {W : Device → ℕ → Type 0} → WritesOnly W a b → LeavesOnly a b (IsCountedBy a)
 counted_by_writes writes = weaker (λ stop left. left.counts) writes.any_moment
-
--- what a drive shows that stays as it was
-pub shows_still : (b n : Shelved) (slot : BootSlot) (body : List ℕ) (i : ℕ) → n.disk (drive i) ≡ b.disk (drive i) → Shows b slot body i → Shows n slot body i
-shows_still b n slot body i same s = record {
-  clean = ap (λ (k : Disk). k.dirty) same ∙ s.clean;
-  shown = ap (λ (k : Disk). shown_by slot k.bytes) same ∙ s.shown;
-}
 
 -- what is clean after both calls
 pub clean_on : (a b n : Shelved) (missing : Conditions) → Continues a b → Continues b n → AreClean n (failed_since b n (failed_since a b missing)) → AreClean n (failed_since a n missing)
@@ -111,7 +103,7 @@ module _ (a b : Shelved) (x : Loaded) (on : Continues a b) (seen : IsSeenIn a b 
   module _ (s : Shelved) (o : OpenedLog) (was now : Register) (last : Continues n s) (is_a : IsShelf a) (is_b : IsShelf b) (is_n : IsShelf n) (h : a.honest)
       (replayed : IsReplayedFrom b n x.record.members.nvrams x.record.flushed o) (is_of : IsRegisterOf (geometry_of n) was) (record_is : was.record ≡ x.record) (drives_are : was.drives ≡ x.drives)
       (dropped : DroppedFailed n s (drives_of was) (drives_of now)) (later : IsLaterRecord was.record now.record) (few : now.record.generation ≤ was.record.generation + 3)
-      (shows : (i : ℕ) → i < n.drives → IsMember x.drives i → Shows n (slot_in x.slot) (spelling x.record) i) where
+      (shown : (i : ℕ) → IsMember x.drives i → shown_by (slot_in x.slot) (n.disk (drive i)).bytes ≡ Some (spelling x.record)) where
     abbrev pub found : Found (geometry_of a) (read_now a).image
     found = found_by.found a b x on seen lawful same n o after replayed
 
@@ -131,12 +123,11 @@ module _ (a b : Shelved) (x : Loaded) (on : Continues a b) (seen : IsSeenIn a b 
     left i lt m = left_or_lost n s was now is_of.lawful.slots dropped i (omega (arith, lt, on_n.drives)) (subst (λ (l : List Bool). IsMember l i) (sym drives_are) m)
 
     -- each drive shows the record in its slot
-    shows_own : slot_in x.slot ≡ own_slot x.record → AllShow n was
-    shows_own its_slot i m =
-        let lt : i < was.record.slots = elim (cases_lt i was.record.slots) [ inl is ↦ is | inr ge ↦ absurd (not_below was.drives was.record.slots i ge m) ] in
-        let member : IsMember x.drives i = subst (λ (l : List Bool). IsMember l i) drives_are (in_cut was.drives was.record.slots i m) in
-        subst (λ (b : BootRecord). Shows n (own_slot b) (spelling b) i) (sym record_is)
-        (subst (λ (t : BootSlot). Shows n t (spelling x.record) i) its_slot (shows i (omega (arith, lt, is_of.lawful.slots)) member))
+    shown_own : slot_in x.slot ≡ own_slot x.record → AllShow n was
+    shown_own its_slot i m =
+        subst (λ (b : BootRecord). shown_by (own_slot b) (n.disk (drive i)).bytes ≡ Some (spelling b)) (sym record_is)
+        (subst (λ (t : BootSlot). shown_by t (n.disk (drive i)).bytes ≡ Some (spelling x.record)) its_slot
+        (shown i (subst (λ (l : List Bool). IsMember l i) drives_are (in_cut was.drives was.record.slots i m))))
 
     pub enough_room : x.record.generation < 2 ^ 48 - 16 → now.record.generation < 2 ^ 48 - 8
     enough_room room = omega (arith, few, room, ap (λ (b : BootRecord). b.generation) record_is)
@@ -178,7 +169,7 @@ module _ (a b : Shelved) (x : Loaded) (on : Continues a b) (seen : IsSeenIn a b 
           (λ fails by_then. found_by.nvram_left a b x on seen lawful same n o after replayed fails by_then)
           (λ stop counted silent bears. given_begun stop counted silent bears opened.found.in_its_slot.in_its_slot)
           stop all.0 all.1.0 all.1.1.0 all.1.1.1)
-          (both_leave writes.any_moment (both_leave (stands room opened.commands may) (both_leave (gives room opened.commands may) (back room opened.commands logged (shows_own opened.found.in_its_slot.in_its_slot)))))
+          (both_leave writes.any_moment (both_leave (stands room opened.commands may) (both_leave (gives room opened.commands may) (back room opened.commands logged (shown_own opened.found.in_its_slot.in_its_slot)))))
 
       pub each_moment : LeavesOnly a s (StandsStill a (Some found) missing arrays)
       each_moment = then_run on_n

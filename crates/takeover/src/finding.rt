@@ -5,7 +5,7 @@ ghost use Rattle.pur_base.specs.Devices.{Conditions, IsBearable, drive, nvram};
 ghost use Rattle.pur_base.specs.Gates.{is_open};
 ghost use Rattle.pur_base.specs.Plain.{Array};
 ghost use Rattle.boot_codec.specs.Record.{set_count};
-ghost use Rattle.boot_codec.specs.Region.{body_in, gate_place, other_slot, shown_by};
+ghost use Rattle.boot_codec.specs.Region.{gate_place, other_slot, shown_by};
 ghost use Rattle.boot_codec.specs.Spelling.{spelling};
 ghost use Rattle.array_spec.specs.Standing.{Stands};
 ghost use Rattle.world.specs.Counts.{Rises};
@@ -15,7 +15,7 @@ ghost use Rattle.world.specs.Writes.{WritesOnly};
 ghost use Rattle.boot_region.specs.Loading.{IsLawfulLoad};
 ghost use Rattle.boot_region.specs.Members.{IsMember, OnClosed};
 ghost use Rattle.boot_region.specs.Slots.{slot_in};
-ghost use Rattle.boot_region.specs.Storing.{IsFound, IsInForceOn, IsLoaded, Shows, TellsFailed};
+ghost use Rattle.boot_region.specs.Storing.{IsFound, IsInForceOn, IsLoaded, TellsFailed};
 ghost use Rattle.session_spec.specs.Entering.{Enters, StandsStill, failed_since};
 ghost use Rattle.takeover.specs.Found.{IsFoundBy};
 ghost use Rattle.takeover.specs.Opened.{AreClean};
@@ -54,9 +54,6 @@ fn settle_loaded<S: Shelf>(shelf: &mut S, loaded: &mut Loaded)
     // What was clean is clean still, or a call on it failed.
     ensures clean { (S.shelf shelf.old).honest → (d : Device) → ((S.shelf shelf.old).disk d).dirty ≡ []
         → (((S.shelf shelf.new).disk d).dirty ≡ []) ⊎ Rises ((S.shelf shelf.old).disk d).faults ((S.shelf shelf.new).disk d).faults }
-    // A drive that is left shows the body that stood there, with nothing dirty.
-    ensures shows { (S.shelf shelf.old).honest → (body : List ℕ) (i : ℕ) → i < (S.shelf shelf.old).drives → IsMember loaded.new.drives i
-        → body_in (slot_in loaded.old.slot) ((S.shelf shelf.old).disk (drive i)).bytes ≡ body → Shows (S.shelf shelf.new) (slot_in loaded.old.slot) body i }
     // At every moment the devices stand for the arrays for which they stood.
     ensures any_moment { (S.shelf shelf.old).honest → (missing : Conditions) (arrays : List Array)
         → IsLoaded (S.shelf shelf.old) loaded.old.drives missing (slot_in loaded.old.slot) loaded.old.record arrays
@@ -86,8 +83,6 @@ pub fn find_record<S: Shelf>(alloc: Global, shelf: &mut S) -> Result<Loaded, Ope
     ensures nvrams { (S.shelf shelf.old).honest → (n : ℕ) → IsSame ((S.shelf shelf.old).disk (nvram n)) ((S.shelf shelf.new).disk (nvram n)) }
     // What the drives showed gives the record, or why there is none.
     ensures seen { (S.shelf shelf.old).honest → IsSeenBy (S.shelf shelf.old) (S.shelf shelf.new) result }
-    // Each drive that is left shows the record, with nothing dirty.
-    ensures shows { (S.shelf shelf.old).honest → IfOk result (λ x. (i : ℕ) → i < (S.shelf shelf.old).drives → IsMember x.drives i → Shows (S.shelf shelf.new) (slot_in x.slot) (spelling x.record) i) }
     // At every moment the devices stand for the arrays for which they stood, and nothing was stored.
     ensures any_moment { (S.shelf shelf.old).honest → (missing : Conditions) (arrays : List Array) → Enters (S.shelf shelf.old) missing arrays
         → LeavesOnly (S.shelf shelf.old) (S.shelf shelf.new) (StandsStill (S.shelf shelf.old) None missing arrays) }

@@ -1,5 +1,6 @@
 use Rattle.std.proofs.Common.{rules, ◌≡◌, ℕ, List, length, ap, ◌∙◌}
 use Rattle.std.specs.Prelude.{Some}
+use Rattle.pur_base.specs.Devices.{drive}
 use Rattle.world.proofs.Moments.{continues_trans, weaker}
 use Rattle.boot_region.specs.Slots.{slot_in}
 use Rattle.boot_region.proofs.ShownLemmas.{member_below}
@@ -82,7 +83,7 @@ returns-clause-moments g c h =
     each_moment a b d e c.args.members.now c.close_gates.new.members c.write_bodies.new.members (slot_in c.args.slot) c.args.body.now
     (g.met.S.Shelf.is_shelf c.args.shelf.now) (g.met.S.Shelf.is_shelf c.close_gates.new.shelf) (g.met.S.Shelf.is_shelf c.write_bodies.new.shelf) h ab bd c.requires.members c.requires.size as_many shorter
     c.close_gates.ensures.outcome c.write_bodies.ensures.outcome
-    (c.close_gates.ensures.moments h) (c.write_bodies.ensures.writes (ab.honest h)).any_moment (c.open_gates.ensures.writes (bd.honest (ab.honest h))).any_moment
+    (λ i. (c.close_gates.ensures.writes h).device (drive i)) (c.close_gates.ensures.moments h) (c.write_bodies.ensures.writes (ab.honest h)).any_moment (c.open_gates.ensures.writes (bd.honest (ab.honest h))).any_moment
 
 pub returns-clause-any_moment : goal.returns-clause-any_moment
 returns-clause-any_moment g c h missing held boot arrays spells force follow = weaker (λ stop at. at.stands missing held boot arrays spells force follow) (returns-clause-moments g c h)

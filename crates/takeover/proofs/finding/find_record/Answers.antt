@@ -1,9 +1,8 @@
 use Rattle.std.proofs.Common.{◌≡◌, ◌≢◌, ℕ, ◌-◌, ◌^◌, ◌<◌, ◌≤◌, List, [], ◌∷◌, length, refl, arith, sym, subst, ap, ◌∙◌, Result, Ok, Err}
 use Rattle.std.proofs.lemmas.Result.{err_from_is_err_and}
-use Rattle.pur_base.specs.Devices.{Geometry, Conditions, IsBearable, drive, nvram}
+use Rattle.pur_base.specs.Devices.{Geometry, Conditions, IsBearable, nvram}
 use Rattle.boot_codec.specs.declared.record.BootRecord.{BootRecord}
-use Rattle.boot_codec.specs.Region.{BootSlot, IsRecordOf, body_in, other_slot}
-use Rattle.boot_codec.specs.Spelling.{spelling}
+use Rattle.boot_codec.specs.Region.{IsRecordOf, other_slot}
 use Rattle.world.specs.Losing.{geometry_of}
 use Rattle.world.specs.Shelf.{Disk}
 use Rattle.world.proofs.Moments.{continues_refl, continues_trans, weaker}
@@ -13,8 +12,7 @@ use Rattle.boot_region.specs.declared.loading.LoadFault.{LoadFault}
 use Rattle.boot_region.specs.Loading.{IsLoadBy, IsLoadOf, IsLawfulLoad, MayBeSettled}
 use Rattle.boot_region.specs.Members.{IsMember}
 use Rattle.boot_region.specs.Slots.{slot_in}
-use Rattle.boot_region.specs.Storing.{IsInForceOn, Shows, TellsFailed}
-use Rattle.takeover.proofs.LeftShown.{body_of}
+use Rattle.boot_region.specs.Storing.{IsInForceOn, TellsFailed}
 use Rattle.takeover.specs.declared.faults.OpenFault.{OpenFault}
 use Rattle.session_spec.specs.Entering.{failed_since}
 use Rattle.takeover.specs.Found.{IsFoundBy, IsFoundOn}
@@ -144,12 +142,6 @@ returns-then-count_set-drives-clause-found g c h missing arrays enters bears =
     let count = lacking a n missing y.drives bears (c.settle_loaded.ensures.continues.drives ∙ c.load.ensures.continues.drives) is.in_force.sound in
     absurd (omega (arith, count, c.count_set.ensures.value, c.if-count_set-drives.true, c.drives.ensures, c.settle_loaded.ensures.continues.drives, c.load.ensures.continues.drives))
 
-pub returns-then-count_set-drives-clause-rest : goal.returns-then-count_set-drives-clause-rest
-returns-then-count_set-drives-clause-rest g c = g.met.S.Shelf.shelf_rest_stays.transitive _ _ _ c.load.ensures.rest c.settle_loaded.ensures.rest
-
-pub returns-clause-rest : goal.returns-clause-rest
-returns-clause-rest g c = g.met.S.Shelf.shelf_rest_stays.transitive _ _ _ c.load.ensures.rest c.settle_loaded.ensures.rest
-
 pub returns-clause-continues : goal.returns-clause-continues
 returns-clause-continues g c = continues_trans c.load.ensures.continues c.settle_loaded.ensures.continues
 
@@ -179,20 +171,6 @@ returns-clause-seen g c h =
     seen_in a b n x c.load.ensures.continues c.settle_loaded.ensures.continues (c.load.ensures.same h) by (c.load.ensures.writes h) (c.settle_loaded.ensures.writes (c.load.ensures.continues.honest h))
     c.settle_loaded.new.loaded.drives c.settle_loaded.ensures.dropped c.settle_loaded.new.loaded.record c.settle_loaded.new.loaded.slot c.settle_loaded.ensures.record.0 c.settle_loaded.ensures.record.1 c.settle_loaded.ensures.fewer
     (none x.record.patches (omega (arith, c.len.ensures, c.if-len-ne0.false)))
-
-pub returns-clause-shows : goal.returns-clause-shows
-returns-clause-shows g c h i lt member =
-    let a = g.S.Shelf.shelf c.args.shelf.now in
-    let b = g.S.Shelf.shelf c.load.new.shelf in
-    let n = g.S.Shelf.shelf c.settle_loaded.new.shelf in
-    let x = c.in_ok-loaded.loaded in
-    let boot = c.settle_loaded.new.loaded.record in
-    let slot = slot_in c.settle_loaded.new.loaded.slot in
-    let is = returns-clause-seen g c h in
-    let stood : body_in slot (b.disk (drive i)).bytes ≡ spelling boot = ap (body_in slot) (c.load.ensures.same h (drive i)).bytes ∙ body_of slot boot is.view i (a.disk (drive i)).bytes (is.held i member) in
-    subst (λ (t : BootSlot). Shows n t (spelling boot) i) (ap slot_in (sym c.settle_loaded.ensures.record.1))
-    (c.settle_loaded.ensures.shows (c.load.ensures.continues.honest h) (spelling boot) i (omega (arith, lt, c.load.ensures.continues.drives)) member
-    (subst (λ (t : BootSlot). body_in t (b.disk (drive i)).bytes ≡ spelling boot) (ap slot_in c.settle_loaded.ensures.record.1) stood))
 
 pub returns-clause-any_moment : goal.returns-clause-any_moment
 returns-clause-any_moment g c h missing arrays enters =

@@ -1,20 +1,19 @@
-use Rattle.std.proofs.Common.{◌≡◌, ◌⊎◌, ◌<◌, ◌^◌, ℕ, List, refl, arith, sym, subst, ap, ◌∙◌, Bool, Result, Err}
+use Rattle.std.proofs.Common.{◌≡◌, ◌⊎◌, ◌<◌, ◌^◌, ℕ, List, refl, sym, subst, ap, ◌∙◌, Bool, Result, Err}
 use Rattle.std.specs.Prelude.{IfOk, IfErr, OnOk, None, Some}
 use Rattle.std.proofs.lemmas.Result.{err_from_is_err_and}
 use Rattle.pur_base.specs.declared.memory.NoMemory.{NoMemory}
-use Rattle.pur_base.specs.Devices.{Geometry, Conditions, IsBearable}
+use Rattle.pur_base.specs.Devices.{Geometry, Conditions, IsBearable, drive}
 use Rattle.pur_base.specs.Plain.{Array}
 use Rattle.boot_codec.specs.declared.record.BootRecord.{BootRecord}
-use Rattle.boot_codec.specs.Region.{IsRecordOf}
+use Rattle.boot_codec.specs.Region.{IsRecordOf, shown_by}
 use Rattle.boot_codec.specs.Spelling.{spelling}
 use Rattle.world.specs.Losing.{geometry_of}
-use Rattle.world.specs.Shelf.{LeavesOnly}
+use Rattle.world.specs.Shelf.{Disk, LeavesOnly}
 use Rattle.world.proofs.Moments.{continues_trans}
 use Rattle.boot_region.specs.declared.loading.Loaded.{Loaded}
 use Rattle.boot_region.specs.Loading.{IsLawfulLoad}
 use Rattle.boot_region.specs.Members.{IsMember}
 use Rattle.boot_region.specs.Slots.{slot_in}
-use Rattle.boot_region.specs.Storing.{Shows}
 use Rattle.register.specs.declared.state.Register.{Register}
 use Rattle.register.specs.declared.next.StoreFault.{StoreFault}
 use Rattle.register.specs.Faults.{IsFaultOf}
@@ -138,17 +137,17 @@ returns-in_err-store-clause-opened g c h =
       lawful = subst (λ (r : BootRecord). IsRecordOf (geometry_of n) r) (sym made.0) (subst (λ (k : Geometry). IsRecordOf k x.record) (same_geometry after) lawful.lawful);
       named = λ i m. subst (λ (r : BootRecord). IsMember r.members.drives i) (sym made.0) (lawful.named i (subst (λ (l : List _). IsMember l i) made.1 m));
     } in
-    let shows : (i : ℕ) → i < n.drives → IsMember x.drives i → Shows n (slot_in x.slot) (spelling x.record) i =
-    λ i lt m. opening.shows_still b n (slot_in x.slot) (spelling x.record) i (c.open_log.ensures.drives i)
-    ((subst (λ (r : Result Loaded OpenFault). IfOk r (λ y. (j : ℕ) → j < a.drives → IsMember y.drives j → Shows b (slot_in y.slot) (spelling y.record) j)) c.in_ok-loaded.was (c.find_record.ensures.shows h)) i (omega (arith, lt, on.drives, after.drives)) m) in
+    let shown : (i : ℕ) → IsMember x.drives i → shown_by (slot_in x.slot) (n.disk (drive i)).bytes ≡ Some (spelling x.record) =
+    λ i m. ap (λ (k : Disk). shown_by (slot_in x.slot) k.bytes) (c.open_log.ensures.drives i)
+    ∙ (subst (λ (r : Result Loaded OpenFault). IfOk r (λ y. (j : ℕ) → IsMember y.drives j → shown_by (slot_in y.slot) (b.disk (drive j)).bytes ≡ Some (spelling y.record))) c.in_ok-loaded.was (c.find_record.ensures.shown h)) i m in
     let is_found : (missing : Conditions) (arrays : List Array) → Enters a missing arrays → IsBearable (geometry_of a) (failed_since a b missing) → IsFoundOn b x (failed_since a b missing) arrays =
     λ missing arrays enters bears. subst (λ (r : Result Loaded OpenFault). IsFoundBy b (failed_since a b missing) arrays r) c.in_ok-loaded.was (c.find_record.ensures.found h missing arrays enters bears) in
     let opens : (missing : Conditions) (arrays : List Array) → Enters a missing arrays → IsBearable (geometry_of a) (failed_since a n missing) → IsLogOpen n x (failed_since a n missing) arrays o =
     λ missing arrays enters bears. subst (λ (r : Result OpenedLog LogFault). IsLogOpenBy n x (failed_since a n missing) arrays r) c.in_ok-opened.was
     (log_opened a b n missing arrays x on after (is_found missing arrays enters) c.open_log.result (λ is bears_then. c.open_log.ensures.opened h_b x (failed_since a b missing) arrays refl refl is bears_then) bears) in
-    let each : (missing : Conditions) (arrays : List Array) → Enters a missing arrays → LeavesOnly a s (StandsStill a (Some (opening.found a b x on seen lawful (c.find_record.ensures.nvrams h) n after s o was now last is_a is_b is_n h replayed is_of made.0 made.1 c.store.ensures.dropped c.store.ensures.later c.store.ensures.few shows)) missing arrays) =
+    let each : (missing : Conditions) (arrays : List Array) → Enters a missing arrays → LeavesOnly a s (StandsStill a (Some (opening.found a b x on seen lawful (c.find_record.ensures.nvrams h) n after s o was now last is_a is_b is_n h replayed is_of made.0 made.1 c.store.ensures.dropped c.store.ensures.later c.store.ensures.few shown)) missing arrays) =
     λ missing arrays enters.
-    opening.each_moment a b x on seen lawful (c.find_record.ensures.nvrams h) n after s o was now last is_a is_b is_n h replayed is_of made.0 made.1 c.store.ensures.dropped c.store.ensures.later c.store.ensures.few shows
+    opening.each_moment a b x on seen lawful (c.find_record.ensures.nvrams h) n after s o was now last is_a is_b is_n h replayed is_of made.0 made.1 c.store.ensures.dropped c.store.ensures.later c.store.ensures.few shown
     missing arrays (c.find_record.ensures.any_moment h missing arrays enters) (seen.given missing arrays enters) (is_found missing arrays enters) (opens missing arrays enters) (c.open_log.ensures.moments h_b)
     (λ is. c.open_log.ensures.any_moment h_b x (failed_since a b missing) arrays refl refl is) c.open_log.ensures.drives (c.open_log.ensures.writes h_b) (c.store.ensures.writes h_n)
     (λ room commands may. c.store.ensures.any_moment h_n room (failed_since a n missing) commands arrays (subst (λ (l : List Bool). MayStore n was l (failed_since a n missing) commands arrays) (sym c.members.ensures) may))
@@ -160,7 +159,7 @@ returns-in_err-store-clause-opened g c h =
     let e = c.in_err-store.field-0.0 in
     let fault : IsFaultOf now e = subst (λ (r : Result (Unit {0}) StoreFault). IfErr r (λ f. IsFaultOf now f)) c.in_err-store.was c.store.ensures.fault in
     let is : IsShut a s (fault_of_store e) =
-    opening.unstored a b x on seen lawful (c.find_record.ensures.nvrams h) n after s o was now last is_a is_b is_n h replayed is_of made.0 made.1 c.store.ensures.dropped c.store.ensures.later c.store.ensures.few shows each e fault in
+    opening.unstored a b x on seen lawful (c.find_record.ensures.nvrams h) n after s o was now last is_a is_b is_n h replayed is_of made.0 made.1 c.store.ensures.dropped c.store.ensures.later c.store.ensures.few shown each e fault in
     let named : IsShut a s p.0 = subst (λ (f : OpenFault). IsShut a s f) (sym p.2) is in
     subst (λ r. IsOpenedBy a s r) (sym p.1) named
 
@@ -190,17 +189,17 @@ returns-clause-opened g c h =
       lawful = subst (λ (r : BootRecord). IsRecordOf (geometry_of n) r) (sym made.0) (subst (λ (k : Geometry). IsRecordOf k x.record) (same_geometry after) lawful.lawful);
       named = λ i m. subst (λ (r : BootRecord). IsMember r.members.drives i) (sym made.0) (lawful.named i (subst (λ (l : List _). IsMember l i) made.1 m));
     } in
-    let shows : (i : ℕ) → i < n.drives → IsMember x.drives i → Shows n (slot_in x.slot) (spelling x.record) i =
-    λ i lt m. opening.shows_still b n (slot_in x.slot) (spelling x.record) i (c.open_log.ensures.drives i)
-    ((subst (λ (r : Result Loaded OpenFault). IfOk r (λ y. (j : ℕ) → j < a.drives → IsMember y.drives j → Shows b (slot_in y.slot) (spelling y.record) j)) c.in_ok-loaded.was (c.find_record.ensures.shows h)) i (omega (arith, lt, on.drives, after.drives)) m) in
+    let shown : (i : ℕ) → IsMember x.drives i → shown_by (slot_in x.slot) (n.disk (drive i)).bytes ≡ Some (spelling x.record) =
+    λ i m. ap (λ (k : Disk). shown_by (slot_in x.slot) k.bytes) (c.open_log.ensures.drives i)
+    ∙ (subst (λ (r : Result Loaded OpenFault). IfOk r (λ y. (j : ℕ) → IsMember y.drives j → shown_by (slot_in y.slot) (b.disk (drive j)).bytes ≡ Some (spelling y.record))) c.in_ok-loaded.was (c.find_record.ensures.shown h)) i m in
     let is_found : (missing : Conditions) (arrays : List Array) → Enters a missing arrays → IsBearable (geometry_of a) (failed_since a b missing) → IsFoundOn b x (failed_since a b missing) arrays =
     λ missing arrays enters bears. subst (λ (r : Result Loaded OpenFault). IsFoundBy b (failed_since a b missing) arrays r) c.in_ok-loaded.was (c.find_record.ensures.found h missing arrays enters bears) in
     let opens : (missing : Conditions) (arrays : List Array) → Enters a missing arrays → IsBearable (geometry_of a) (failed_since a n missing) → IsLogOpen n x (failed_since a n missing) arrays o =
     λ missing arrays enters bears. subst (λ (r : Result OpenedLog LogFault). IsLogOpenBy n x (failed_since a n missing) arrays r) c.in_ok-opened.was
     (log_opened a b n missing arrays x on after (is_found missing arrays enters) c.open_log.result (λ is bears_then. c.open_log.ensures.opened h_b x (failed_since a b missing) arrays refl refl is bears_then) bears) in
-    let each : (missing : Conditions) (arrays : List Array) → Enters a missing arrays → LeavesOnly a s (StandsStill a (Some (opening.found a b x on seen lawful (c.find_record.ensures.nvrams h) n after s o was now last is_a is_b is_n h replayed is_of made.0 made.1 c.store.ensures.dropped c.store.ensures.later c.store.ensures.few shows)) missing arrays) =
+    let each : (missing : Conditions) (arrays : List Array) → Enters a missing arrays → LeavesOnly a s (StandsStill a (Some (opening.found a b x on seen lawful (c.find_record.ensures.nvrams h) n after s o was now last is_a is_b is_n h replayed is_of made.0 made.1 c.store.ensures.dropped c.store.ensures.later c.store.ensures.few shown)) missing arrays) =
     λ missing arrays enters.
-    opening.each_moment a b x on seen lawful (c.find_record.ensures.nvrams h) n after s o was now last is_a is_b is_n h replayed is_of made.0 made.1 c.store.ensures.dropped c.store.ensures.later c.store.ensures.few shows
+    opening.each_moment a b x on seen lawful (c.find_record.ensures.nvrams h) n after s o was now last is_a is_b is_n h replayed is_of made.0 made.1 c.store.ensures.dropped c.store.ensures.later c.store.ensures.few shown
     missing arrays (c.find_record.ensures.any_moment h missing arrays enters) (seen.given missing arrays enters) (is_found missing arrays enters) (opens missing arrays enters) (c.open_log.ensures.moments h_b)
     (λ is. c.open_log.ensures.any_moment h_b x (failed_since a b missing) arrays refl refl is) c.open_log.ensures.drives (c.open_log.ensures.writes h_b) (c.store.ensures.writes h_n)
     (λ room commands may. c.store.ensures.any_moment h_n room (failed_since a n missing) commands arrays (subst (λ (l : List Bool). MayStore n was l (failed_since a n missing) commands arrays) (sym c.members.ensures) may))
@@ -218,11 +217,11 @@ returns-clause-opened g c h =
     let on_n = continues_trans on after in
     let is = is_open a n s missing arrays x o was on_n last (opens missing arrays enters) is_of made.0 made.1 bears now c.store.ensures.dropped c.store.ensures.later in
     let logged : StandsInLog n was c.members.result is.commands = subst (λ (l : List Bool). StandsInLog n was l is.commands) (sym c.members.ensures) (in_log n x (failed_since a n missing) arrays o was is is_of made.0 made.1) in
-    let room = opening.enough_room a b x on seen lawful (c.find_record.ensures.nvrams h) n after s o was now last is_a is_b is_n h replayed is_of made.0 made.1 c.store.ensures.dropped c.store.ensures.later c.store.ensures.few shows is.found.room in
+    let room = opening.enough_room a b x on seen lawful (c.find_record.ensures.nvrams h) n after s o was now last is_a is_b is_n h replayed is_of made.0 made.1 c.store.ensures.dropped c.store.ensures.later c.store.ensures.few shown is.found.room in
     let stored : IsOpen s now c.members.result is.commands = subst (λ (r : Result (Unit {0}) StoreFault). OnOk r (IsOpen s now c.members.result is.commands)) c.in_ok-store.was (c.store.ensures.stored h_n room is.commands logged) in
     recovered a n s missing arrays x o was on_n last (opens missing arrays enters) is_of made.0 made.1 bears now c.store.ensures.dropped c.store.ensures.later
     (subst (λ (l : List Bool). IsOpen s now l is.commands) c.members.ensures stored) in
-    opening.opened a b x on seen lawful (c.find_record.ensures.nvrams h) n after s o was now last is_a is_b is_n h replayed is_of made.0 made.1 c.store.ensures.dropped c.store.ensures.later c.store.ensures.few shows each
+    opening.opened a b x on seen lawful (c.find_record.ensures.nvrams h) n after s o was now last is_a is_b is_n h replayed is_of made.0 made.1 c.store.ensures.dropped c.store.ensures.later c.store.ensures.few shown each
     generation.0 (members.0, members.1 ∙ c.members.ensures) is_recovered
 
 pub returns-clause-named : goal.returns-clause-named
