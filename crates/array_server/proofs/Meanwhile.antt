@@ -1,18 +1,15 @@
 -- At every moment while an item is answered a session can go on.
-use Rattle.std.proofs.Common.{◌≡◌, ◌⊎◌, inl, inr, ℕ, zero, suc, ◌<◌, Bool, false, List, [], ◌∷◌, ◌++◌, length, Result, Ok, Err, refl, sym, ap, subst, ◌∙◌, arith}
+use Rattle.std.proofs.Common.{◌≡◌, ◌⊎◌, inl, inr, ℕ, zero, suc, List, [], ◌∷◌, ◌++◌, Result, Ok, Err, sym, ap, ◌∙◌, arith}
 use Rattle.std.specs.Prelude.{Contains, None}
-use Rattle.pur_base.specs.declared.device.Device.{Device}
 use Rattle.pur_base.specs.declared.request.Request.{Request}
 use Rattle.pur_base.specs.Commands.{Command, IsLogged, after, after_all}
-use Rattle.pur_base.specs.Devices.{Conditions, IsBearable}
 use Rattle.pur_base.specs.Grammar.{Item, Asked}
 use Rattle.pur_base.specs.Plain as plain
 use Rattle.pur_base.specs.Plain.{refusal}
-use Rattle.world.specs.Losing.{geometry_of, has_risen}
-use Rattle.world.specs.Shelf.{Shelved, Stop, MayStop, IsShelf, LeavesOnly}
+use Rattle.world.specs.Losing.{has_risen}
+use Rattle.world.specs.Shelf.{Shelved, Stop, IsShelf, LeavesOnly}
 use Rattle.world.proofs.Moments.{started, weaker}
 use Rattle.register.specs.Registers.{named_sound}
-use Rattle.array_core.specs.declared.array.Array.{Array}
 use Rattle.array_core.specs.declared.perform.PerformFault.{PerformFault}
 use Rattle.array_core.specs.declared.perform.PerformFault.TheVariants as fault
 use Rattle.array_core.specs.Holding.{AgreesWith}
@@ -23,7 +20,7 @@ use Rattle.array_core.proofs.Commands.{after_last}
 use Rattle.array_core.proofs.Losses.{sound_since, left_out_since}
 use Rattle.array_core.proofs.ReadyStands.{agrees_named, ready_stands_in}
 use Rattle.array_server.specs.declared.engine.Engine.{Engine}
-use Rattle.array_server.specs.Engines.{IsKeptBy, MayBeDone}
+use Rattle.array_server.specs.Engines.{IsKeptBy}
 use Rattle.array_server.proofs.Points.{Performed}
 
 -- the only one

@@ -1,5 +1,5 @@
 -- The point behind an answer.
-use Rattle.std.proofs.Common.{◌≡◌, ◌⊎◌, inl, inr, ℕ, ◌+◌, ◌-◌, ◌^◌, ◌<◌, ◌≤◌, Bool, true, false, cond, leb, List, [], ◌∷◌, Option, Some, None, Result, Ok, Err, OnOk, IfErr, refl, sym, ap, subst, ◌∙◌, arith}
+use Rattle.std.proofs.Common.{◌≡◌, inl, inr, ℕ, ◌+◌, ◌-◌, ◌^◌, ◌<◌, ◌≤◌, Bool, true, false, cond, List, Option, Some, None, Result, Ok, Err, OnOk, IfErr, refl, sym, ap, subst, ◌∙◌, arith}
 use Rattle.std.proofs.lemmas.Bool.{cases_Bool, cases_lt, cond-false, cond-true, le-leb, lt-leb}
 use Rattle.pur_base.specs.declared.device.Device.{Device}
 use Rattle.pur_base.specs.declared.request.Request.{Request}
@@ -7,8 +7,8 @@ use Rattle.pur_base.specs.declared.request.Request.TheVariants as request
 use Rattle.pur_base.specs.declared.reply.Refusal.{Refusal}
 use Rattle.pur_base.specs.declared.reply.Refusal.TheVariants as refusals
 use Rattle.pur_base.specs.declared.reply.Reply.TheVariants as reply
-use Rattle.pur_base.specs.Commands.{Command, IsLogged, after}
-use Rattle.pur_base.specs.Devices.{Geometry, Conditions, Sound, LeftOut, IsBearable}
+use Rattle.pur_base.specs.Commands.{IsLogged, after}
+use Rattle.pur_base.specs.Devices.{Geometry, IsBearable}
 use Rattle.pur_base.specs.Grammar.{Asked, is_in_force}
 use Rattle.pur_base.specs.Plain as plain
 use Rattle.pur_base.specs.Plain.{refusal, done}
@@ -16,8 +16,8 @@ use Rattle.pur_base.specs.Replies.{Answer, Line, refused, given, after_unless}
 use Rattle.log_codec.specs.declared.limits.TheConstants.{LOG_SLOTS}
 use Rattle.boot_codec.specs.Region.{names}
 use Rattle.world.specs.Shelf.{Shelved, Stop}
-use Rattle.world.specs.Losing.{losing, has_risen}
-use Rattle.session_spec.specs.Faring.{Point, Answers, AnswersRequest, AnswersAccepted, IsRefused, IsDone, IsFailed, MayRise, WithRoom, Where, is_spent, is_full}
+use Rattle.world.specs.Losing.{losing}
+use Rattle.session_spec.specs.Faring.{Point, Answers, AnswersRequest, AnswersAccepted, IsRefused, IsDone, IsFailed, MayRise, WithRoom, is_spent, is_full}
 use Rattle.array_model.specs.Step.{answer_of, IsCreate}
 use Rattle.array_core.specs.declared.array.Array.{Array}
 use Rattle.array_core.specs.declared.perform.PerformFault.{PerformFault}
@@ -29,7 +29,6 @@ use Rattle.request_codec.specs.Items.{item_read}
 use Rattle.request_codec.specs.declared.reader.Item.{Item}
 use Rattle.request_codec.specs.declared.reader.Item.TheVariants as item
 use Rattle.array_server.specs.declared.engine.Engine.{Engine}
-use Rattle.array_server.specs.Answering.{IsAnswered}
 use Rattle.array_server.specs.Engines.{IsAt, point_after, lost_in}
 use Rattle.array_server.proofs.Unborne.{not_risen}
 use Rattle.array_server.specs.Replying.{IsReading, IsSaid, IsSaidAtOnce, reply_of, ends_lost}

@@ -1,7 +1,7 @@
 -- More devices were lost than are borne.
-use Rattle.std.proofs.Common.{◌≡◌, ◌⊎◌, inl, inr, ℕ, ◌+◌, ◌<◌, ◌≤◌, Bool, true, false, arith}
+use Rattle.std.proofs.Common.{◌≡◌, inl, inr, ℕ, ◌<◌, ◌≤◌, false, arith}
 use Rattle.pur_base.specs.declared.device.Device.{Device}
-use Rattle.pur_base.specs.Devices.{Geometry, Conditions, Sound, IsBearable, drive, nvram}
+use Rattle.pur_base.specs.Devices.{Conditions, Sound, IsBearable, drive, nvram}
 use Rattle.array_spec.proofs.UnflushedRead.{one_left}
 use Rattle.world.specs.Counts.{Rises}
 use Rattle.world.specs.Losing.{geometry_of, has_risen, losing}

@@ -1,13 +1,13 @@
 -- Replies of a lawful array are whole.
-use Rattle.std.proofs.Common.{◌≡◌, ℕ, ◌<◌, ◌≤◌, ◌^◌, Bool, true, false, List, [], length, Option, Some, None, Result, Ok, Err, OnOk, IfErr, refl, sym, ap, subst, ◌∙◌, arith}
+use Rattle.std.proofs.Common.{◌≡◌, ℕ, Bool, true, false, List, [], Option, Some, None, Result, Ok, Err, OnOk, IfErr, refl, sym, subst, ◌∙◌}
 use Rattle.pur_base.specs.declared.request.Request.{Request}
 use Rattle.pur_base.specs.declared.request.Request.TheVariants as request
 use Rattle.pur_base.specs.declared.reply.Refusal.{Refusal}
-use Rattle.pur_base.specs.Commands.{Command, IsLogged, after}
-use Rattle.pur_base.specs.Grammar.{is_in_force, data_count}
+use Rattle.pur_base.specs.Commands.{after}
+use Rattle.pur_base.specs.Grammar.{is_in_force}
 use Rattle.pur_base.specs.Plain as plain
 use Rattle.pur_base.specs.Plain.{refusal, done}
-use Rattle.pur_base.specs.Replies.{Answer, given, after_unless}
+use Rattle.pur_base.specs.Replies.{Answer}
 use Rattle.array_spec.specs.Acked.{IsAnswer}
 use Rattle.array_model.specs.Step.{answer_of}
 use Rattle.world.specs.Shelf.{Shelved}
@@ -15,13 +15,12 @@ use Rattle.array_core.specs.Performing.{IsFaultOf}
 use Rattle.array_core.specs.declared.array.Array.{Array}
 use Rattle.array_core.specs.declared.perform.PerformFault.{PerformFault}
 use Rattle.array_core.specs.declared.perform.PerformFault.TheVariants as fault
-use Rattle.request_codec.specs.Spelled.{IsSpelledRequest}
 use Rattle.request_codec.specs.declared.reader.Item.{Item}
 use Rattle.request_codec.specs.declared.reader.Item.TheVariants as item
 use Rattle.array_server.specs.declared.engine.Engine.{Engine}
 use Rattle.array_server.specs.Answering.{IsAnswered}
 use Rattle.array_server.specs.Replying.{IsReading, IsSaid, IsSaidAtOnce, reply_of}
-use Rattle.array_server.specs.Whole.{AreSectors, IsLawful, IsLawfulRequest}
+use Rattle.array_server.specs.Whole.{IsLawful, IsLawfulRequest}
 use Rattle.array_server.proofs.Points.{after_accepted}
 use Rattle.array_server.proofs.WholeLemmas.{request-fine}
 

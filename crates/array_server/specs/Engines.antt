@@ -1,7 +1,7 @@
 -- The array that is served, at a point, and what answering an item makes of it.
-use Rattle.std.specs.Prelude.{◌≡◌, ◌⊎◌, Bool, true, false, List, [], ◌∷◌, Contains, if◌then◌else◌}
+use Rattle.std.specs.Prelude.{◌≡◌, ◌⊎◌, Bool, false, List, [], ◌∷◌, Contains, if◌then◌else◌}
 use Rattle.pur_base.specs.declared.device.Device.{Device}
-use Rattle.pur_base.specs.Devices.{Conditions, Sound, LeftOut, IsBearable}
+use Rattle.pur_base.specs.Devices.{Sound, LeftOut, IsBearable}
 use Rattle.pur_base.specs.Commands.{Command}
 use Rattle.pur_base.specs.Grammar.{Item}
 use Rattle.pur_base.specs.Plain as plain

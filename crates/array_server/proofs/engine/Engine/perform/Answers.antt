@@ -1,9 +1,7 @@
-use Rattle.std.proofs.Common.{◌≡◌, List, refl, sym, ap, subst, ◌∙◌}
-use Rattle.pur_base.specs.declared.device.Device.{Device}
-use Rattle.pur_base.specs.Devices.{Sound}
+use Rattle.std.proofs.Common.{◌≡◌, sym, subst}
 use Rattle.pur_base.specs.Grammar.{Asked}
 use Rattle.world.specs.Losing.{geometry_of}
-use Rattle.world.specs.Shelf.{Shelved, LeavesOnly}
+use Rattle.world.specs.Shelf.{LeavesOnly}
 use Rattle.array_model.specs.declared.step.PlainReply.{PlainReply}
 use Rattle.array_model.specs.Step.{answer_of}
 use Rattle.session_spec.specs.Faring.{Answers}
