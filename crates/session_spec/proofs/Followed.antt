@@ -31,8 +31,7 @@ follows old next left found first items missing later arrays stop (inr at) stand
 
 pub served_follows : (old new next : Shelved) → ServedFollows old new next
 served_follows old new next input left ended s missing arrays e stop since =
-    let at = (s.outlasts missing arrays e).each stop since in
-    (
+    let at = (s.outlasts missing arrays e).each stop since in (
       at.0,
       λ borne later r. follows old next (new.left_since s.serving.moment) s.serving.found s.serving.first _ missing later arrays stop at.0 at.1 borne r,
     )
