@@ -32,7 +32,7 @@ use Rattle.register.specs.Registers.{drives_of, own_slot, next_slot, named_sound
 use Rattle.register.specs.Standing.{IsOpen}
 use Rattle.register.proofs.FlagLemmas.{in_cut}
 use Rattle.register.proofs.Follows.{left_before}
-use Rattle.register.proofs.Opened.{yields_or}
+use Rattle.register.proofs.Resting.{yields_or}
 
 votes_not : (o : Option (List ℕ)) (other : List ℕ) → ((x : List ℕ) → o ≡ Some x → bytes_eq x other ≡ false) → is_vote other o ≡ false
 votes_not None other all = refl

@@ -19,6 +19,7 @@ use Rattle.world.specs.Shelf.{Shelved, Stop, MayStop, IsShelf}
 use Rattle.world.specs.Losing.{geometry_of, IsLater}
 use Rattle.boot_region.specs.Storing.{SoundAreMembers, OnlyBoot, Closes, Writes, Opens, IsInForceOn, MayFollow, AccountsFor}
 use Rattle.boot_region.proofs.Phases.{not_risen_before}
+use Rattle.boot_region.proofs.StillGiven.{closing_keeps}
 use Rattle.boot_region.proofs.ShownLemmas.{as_read}
 
 -- votes of drives that all show nothing decide nothing, whatever two more show
@@ -96,8 +97,8 @@ is_sound_is Missing e = cc
 is_sound_is LeftOut e = cc
 
 -- at a moment of a store
-module _ (shelf : Shelved) (members : List Bool) (missing : Conditions) (slot : BootSlot) (held boot : BootRecord) (arrays : List Array)
-    (is : IsShelf shelf) (force : IsInForceOn shelf members missing slot held) (follow : MayFollow shelf missing slot boot arrays)
+module _ (shelf : Shelved) (members : List Bool) (missing : Conditions) (slot : BootSlot) (held : BootRecord)
+    (is : IsShelf shelf) (force : IsInForceOn shelf members missing slot held)
     (start stop : Stop) (may : MayStop shelf start) (later : Conditions) (account : AccountsFor shelf members missing slot (spelling held) stop.faults stop.write_faults later) where
   sound_then : (i : ℕ) → later (drive i) ≡ Sound → missing (drive i) ≡ Sound
   sound_then i s = sound_before (missing (drive i)) (later (drive i)) (account.within (drive i)) s
@@ -113,9 +114,6 @@ module _ (shelf : Shelved) (members : List Bool) (missing : Conditions) (slot : 
   decided : (image : Image) → ((i : ℕ) → later (drive i) ≡ Sound → shown_by (other_slot slot) (image (drive i)) ≡ shown_by (other_slot slot) (start.image (drive i)))
       → (more : Conditions) (view : View) → MayAppear (geometry_of shelf) image later more view → IsDecided (votes (geometry_of shelf) view (other_slot slot)) (spelling held)
   decided image others more view a = all_decide (geometry_of shelf) image later more view (other_slot slot) (spelling held) is.drives.0 (in_force image others) a
-
-  still_gives : (image : Image) → ClosesGatesOf start.image image later slot (spelling held) → (more : Conditions) (view : View) → MayAppear (geometry_of shelf) image later more view → Effective (geometry_of shelf) view
-  still_gives image closes = closing_still_gives (geometry_of shelf) start.image image missing later slot held account.within force.lawful (decided image closes.others) closes (follow.stands start may).gives
 
   gives_no_more : (image : Image) → ClosesGatesOf start.image image later slot (spelling held) → (t : BootSlot) (b : BootRecord) → MayBeGiven (geometry_of shelf) image later t b → MayBeGiven (geometry_of shelf) start.image missing t b
   gives_no_more image closes t b g = closing_gives_no_more (geometry_of shelf) start.image image missing later slot t held b account.within (force.given start may) (decided image closes.others) closes g
@@ -155,62 +153,79 @@ module _ (shelf : Shelved) (members : List Bool) (missing : Conditions) (slot : 
       → (t : BootSlot) (b : BootRecord) → MayBeGiven (geometry_of shelf) stop.image later t b → MayBeGiven (geometry_of shelf) start.image missing t b
   gives_while_writing mid now on c w = gives_no_more stop.image (closes_then mid stop now (closes_of mid on c) w)
 
-  pub gives_while_opening : (first second : Stop) (now last : List Bool) → IsLater first stop
-      → Closes shelf members missing slot (spelling held) start first → Writes missing now slot first second → Opens missing last slot (spelling boot) second stop
-      → (t : BootSlot) (b : BootRecord) → MayBeGiven (geometry_of shelf) stop.image later t b → ((t ≡ slot) × (b ≡ boot)) ⊎ MayBeGiven (geometry_of shelf) start.image missing t b
-  gives_while_opening first second now last on c w o t b g =
-      let opens : OpensGatesOf second.image stop.image later slot (spelling boot) = record { others = λ i k. o.others i; opens = λ i k. o.opens i (sound_then i k) } in
-      elim (opening_gives (geometry_of shelf) second.image stop.image later later slot t boot b (as_it_is later) opens g) [
-        | inl new_one ↦ inl (new_one.0, spells_one (geometry_of shelf) b boot g.lawful follow.lawful (sym new_one.1))
-        | inr before ↦ inr (gives_no_more second.image (closes_then first second now (closes_of first on c) w) t b before)
-      ]
-
-  -- the first phase
-  pub while_closing : Closes shelf members missing slot (spelling held) start stop → Stands (geometry_of shelf) stop.image later arrays
-  while_closing c =
+  -- the record in force may be given still, where it might be then
+  pub still_while_closing : Closes shelf members missing slot (spelling held) start stop → MayBeGiven (geometry_of shelf) start.image later (other_slot slot) held → MayBeGiven (geometry_of shelf) stop.image later (other_slot slot) held
+  still_while_closing c =
       let closes = closes_of stop (record { faults = λ d. omega arith; write_faults = λ d. omega arith }) c in
-      boot_keeps (geometry_of shelf) start.image stop.image missing later arrays account.within account.bearable c.only_boot (still_gives stop.image closes)
-      (λ t b g. (gives_no_more stop.image closes t b g, λ i. c.bodies t i)) (follow.stands start may)
+      closing_keeps (geometry_of shelf) start.image stop.image later slot held closes (decided stop.image closes.others)
 
-  -- the second phase
-  pub while_writing : (mid : Stop) (now : List Bool) → IsLater mid stop → SoundAreMembers shelf later now → Closes shelf members missing slot (spelling held) start mid → Writes missing now slot mid stop
-      → Stands (geometry_of shelf) stop.image later arrays
-  while_writing mid now on sound c w =
+  pub still_while_writing : (mid : Stop) (now : List Bool) → IsLater mid stop → Closes shelf members missing slot (spelling held) start mid → Writes missing now slot mid stop
+      → MayBeGiven (geometry_of shelf) start.image later (other_slot slot) held → MayBeGiven (geometry_of shelf) stop.image later (other_slot slot) held
+  still_while_writing mid now on c w =
       let closes = closes_then mid stop now (closes_of mid on c) w in
-      boot_keeps (geometry_of shelf) start.image stop.image missing later arrays account.within account.bearable (differs_then c.only_boot w.only_boot) (still_gives stop.image closes)
-      (λ t b g. (
-        gives_no_more stop.image closes t b g,
-        λ i. elim (this_or_other t slot) [
-          | inl this ↦ absurd (none_given stop.image (λ k lt s. w.none k (sound k lt s) (sound_then k s)) b (subst (λ x. MayBeGiven (geometry_of shelf) stop.image later x b) this g))
-          | inr other ↦ subst (λ x. body_in x (stop.image (drive i)) ≡ body_in x (start.image (drive i))) (sym other) (w.bodies i ∙ c.bodies (other_slot slot) i)
-        ],
-      )) (follow.stands start may)
+      closing_keeps (geometry_of shelf) start.image stop.image later slot held closes (decided stop.image closes.others)
 
-  -- the third phase
-  pub while_opening : (first second : Stop) (now last : List Bool) → IsLater first stop → SoundAreMembers shelf later last
-      → Closes shelf members missing slot (spelling held) start first → Writes missing now slot first second → Opens missing last slot (spelling boot) second stop
-      → Stands (geometry_of shelf) stop.image later arrays
-  while_opening first second now last on sound c w o =
-      let closes = closes_then first second now (closes_of first on c) w in
-      let only_boot : OnlyBoot start.image stop.image = differs_then (differs_then c.only_boot w.only_boot) o.only_boot in
-      let s = follow.stands start may in
-      let reads = follow.reads later start stop account.within account.bearable may only_boot (λ i lt k. o.stands i (sound i lt k) (sound_then i k)) s in
-      let opens : OpensGatesOf second.image stop.image later slot (spelling boot) = record { others = λ i k. o.others i; opens = λ i k. o.opens i (sound_then i k) } in
-      let old_or_new : IsOldOrNew (geometry_of shelf) start.image stop.image missing later slot boot = record {
-        within = account.within;
-        bearable = account.bearable;
-        only_boot = only_boot;
-        gives = opening_still_gives (geometry_of shelf) second.image stop.image later later slot boot (as_it_is later) follow.lawful opens (still_gives second.image closes);
-        old_or_new = λ t b g. elim (opening_gives (geometry_of shelf) second.image stop.image later later slot t boot b (as_it_is later) opens g) [
+  -- and where another follows on
+  module _ (boot : BootRecord) (arrays : List Array) (follow : MayFollow shelf missing slot boot arrays) where
+    still_gives : (image : Image) → ClosesGatesOf start.image image later slot (spelling held) → (more : Conditions) (view : View) → MayAppear (geometry_of shelf) image later more view → Effective (geometry_of shelf) view
+    still_gives image closes = closing_still_gives (geometry_of shelf) start.image image missing later slot held account.within force.lawful (decided image closes.others) closes (follow.stands start may).gives
+
+    pub gives_while_opening : (first second : Stop) (now last : List Bool) → IsLater first stop
+        → Closes shelf members missing slot (spelling held) start first → Writes missing now slot first second → Opens missing last slot (spelling boot) second stop
+        → (t : BootSlot) (b : BootRecord) → MayBeGiven (geometry_of shelf) stop.image later t b → ((t ≡ slot) × (b ≡ boot)) ⊎ MayBeGiven (geometry_of shelf) start.image missing t b
+    gives_while_opening first second now last on c w o t b g =
+        let opens : OpensGatesOf second.image stop.image later slot (spelling boot) = record { others = λ i k. o.others i; opens = λ i k. o.opens i (sound_then i k) } in
+        elim (opening_gives (geometry_of shelf) second.image stop.image later later slot t boot b (as_it_is later) opens g) [
           | inl new_one ↦ inl (new_one.0, spells_one (geometry_of shelf) b boot g.lawful follow.lawful (sym new_one.1))
-          | inr before ↦ elim (this_or_other t slot) [
-            | inl this ↦ absurd (none_given second.image (λ k lt s2. o.shut k (sound k lt s2) (sound_then k s2)) b (subst (λ x. MayBeGiven (geometry_of shelf) second.image later x b) this before))
-            | inr other ↦ inr (
-              gives_no_more second.image closes t b before,
-              λ i. subst (λ x. body_in x (stop.image (drive i)) ≡ body_in x (start.image (drive i))) (sym other)
-                  (o.bodies (other_slot slot) i ∙ w.bodies i ∙ c.bodies (other_slot slot) i),
-            )
-          ]
-        ];
-      } in
-      store_keeps (geometry_of shelf) start.image stop.image missing later slot boot arrays old_or_new s reads.0 reads.1
+          | inr before ↦ inr (gives_no_more second.image (closes_then first second now (closes_of first on c) w) t b before)
+        ]
+
+    -- the first phase
+    pub while_closing : Closes shelf members missing slot (spelling held) start stop → Stands (geometry_of shelf) stop.image later arrays
+    while_closing c =
+        let closes = closes_of stop (record { faults = λ d. omega arith; write_faults = λ d. omega arith }) c in
+        boot_keeps (geometry_of shelf) start.image stop.image missing later arrays account.within account.bearable c.only_boot (still_gives stop.image closes)
+        (λ t b g. (gives_no_more stop.image closes t b g, λ i. c.bodies t i)) (follow.stands start may)
+
+    -- the second phase
+    pub while_writing : (mid : Stop) (now : List Bool) → IsLater mid stop → SoundAreMembers shelf later now → Closes shelf members missing slot (spelling held) start mid → Writes missing now slot mid stop
+        → Stands (geometry_of shelf) stop.image later arrays
+    while_writing mid now on sound c w =
+        let closes = closes_then mid stop now (closes_of mid on c) w in
+        boot_keeps (geometry_of shelf) start.image stop.image missing later arrays account.within account.bearable (differs_then c.only_boot w.only_boot) (still_gives stop.image closes)
+        (λ t b g. (
+          gives_no_more stop.image closes t b g,
+          λ i. elim (this_or_other t slot) [
+            | inl this ↦ absurd (none_given stop.image (λ k lt s. w.none k (sound k lt s) (sound_then k s)) b (subst (λ x. MayBeGiven (geometry_of shelf) stop.image later x b) this g))
+            | inr other ↦ subst (λ x. body_in x (stop.image (drive i)) ≡ body_in x (start.image (drive i))) (sym other) (w.bodies i ∙ c.bodies (other_slot slot) i)
+          ],
+        )) (follow.stands start may)
+
+    -- the third phase
+    pub while_opening : (first second : Stop) (now last : List Bool) → IsLater first stop → SoundAreMembers shelf later last
+        → Closes shelf members missing slot (spelling held) start first → Writes missing now slot first second → Opens missing last slot (spelling boot) second stop
+        → Stands (geometry_of shelf) stop.image later arrays
+    while_opening first second now last on sound c w o =
+        let closes = closes_then first second now (closes_of first on c) w in
+        let only_boot : OnlyBoot start.image stop.image = differs_then (differs_then c.only_boot w.only_boot) o.only_boot in
+        let s = follow.stands start may in
+        let reads = follow.reads later start stop account.within account.bearable may only_boot (λ i lt k. o.stands i (sound i lt k) (sound_then i k)) s in
+        let opens : OpensGatesOf second.image stop.image later slot (spelling boot) = record { others = λ i k. o.others i; opens = λ i k. o.opens i (sound_then i k) } in
+        let old_or_new : IsOldOrNew (geometry_of shelf) start.image stop.image missing later slot boot = record {
+          within = account.within;
+          bearable = account.bearable;
+          only_boot = only_boot;
+          gives = opening_still_gives (geometry_of shelf) second.image stop.image later later slot boot (as_it_is later) follow.lawful opens (still_gives second.image closes);
+          old_or_new = λ t b g. elim (opening_gives (geometry_of shelf) second.image stop.image later later slot t boot b (as_it_is later) opens g) [
+            | inl new_one ↦ inl (new_one.0, spells_one (geometry_of shelf) b boot g.lawful follow.lawful (sym new_one.1))
+            | inr before ↦ elim (this_or_other t slot) [
+              | inl this ↦ absurd (none_given second.image (λ k lt s2. o.shut k (sound k lt s2) (sound_then k s2)) b (subst (λ x. MayBeGiven (geometry_of shelf) second.image later x b) this before))
+              | inr other ↦ inr (
+                gives_no_more second.image closes t b before,
+                λ i. subst (λ x. body_in x (stop.image (drive i)) ≡ body_in x (start.image (drive i))) (sym other)
+                    (o.bodies (other_slot slot) i ∙ w.bodies i ∙ c.bodies (other_slot slot) i),
+              )
+            ]
+          ];
+        } in
+        store_keeps (geometry_of shelf) start.image stop.image missing later slot boot arrays old_or_new s reads.0 reads.1

@@ -13,7 +13,6 @@ use Rattle.world.specs.Shelf.{Shelved}
 use Rattle.boot_region.specs.declared.loading.Loaded.{Loaded}
 use Rattle.boot_region.specs.declared.loading.LoadFault.{LoadFault}
 use Rattle.boot_region.specs.declared.loading.LoadFault.TheVariants as faults
-use Rattle.boot_region.specs.Members.{IsMember}
 use Rattle.boot_region.specs.Slots.{slot_in}
 use Rattle.boot_region.specs.Regions.{seen, is_holding, IsRead}
 use Rattle.boot_region.specs.Loading.{fault_of, IsHeld, IsGiven, IsSpent, IsFaultOf, IsAnswerOf, IsLawfulLoad, IsLoadOf}

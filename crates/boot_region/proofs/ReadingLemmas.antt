@@ -8,7 +8,7 @@ use Rattle.std.proofs.lemmas.Slice.{take-put_mid_below, drop-put_mid, between-pu
 use borrow.Rule.Slice.PartMut.{put_mid}
 use Rattle.pur_base.specs.Bytes.{bytes_at}
 use Rattle.boot_region.specs.declared.regions.TheConstants.{REGION_BYTES}
-use Rattle.boot_region.specs.Regions.{region_at, IsRead, AnswerCounts, CountsStay}
+use Rattle.boot_region.specs.Regions.{region_at, IsRead, AnswerCounts}
 use Rattle.pur_base.specs.Devices.{drive, nvram}
 use Rattle.world.specs.Counts.{Counts, Rises}
 use Rattle.world.specs.Shelf.{Disk, Shelved, ReadCounts}

@@ -24,7 +24,7 @@ use Rattle.world.specs.Losing.{geometry_of}
 use Rattle.world.specs.Shelf.{Shelved, Stop, MayStop, Continues, Disk, IsShelf, IsIn, IsInSome}
 use Rattle.world.specs.Writes.{LeavesBut, WritesOnly}
 use Rattle.boot_region.specs.Members.{IsMember, OnMembers, OnClosed, OneClosed, Opened}
-use Rattle.boot_region.specs.Storing.{GivesNoMore, SoundAreMembers, IsFound, IsInForceOn, IsLoaded, IsSeen, TellsFailed}
+use Rattle.boot_region.specs.Storing.{GivesNoMore, SoundAreMembers, IsFound, IsInForceOn, IsLoaded, IsSeen, Shows, TellsFailed}
 use Rattle.boot_region.proofs.Began.{began, began_at, as_left, as_read_then, may_begin, differs}
 use Rattle.boot_region.proofs.Composing.{as_it_is, all_decide, is_sound_is}
 use Rattle.boot_region.proofs.StillGiven.{opening_keeps}
@@ -44,7 +44,7 @@ leaves_members members shelf at stop left = record {
 pub closed_on_members : (members : List Bool) (shelf : Shelved) (slot at : ℕ) → IsMember members slot → (bytes : List ℕ) → bytes ≡ (shelf.disk (drive slot)).bytes → (d : Device) (i : ℕ) → OneClosed bytes (drive slot) at d i → OnClosed members shelf at d i
 closed_on_members members shelf slot at member bytes e d i w = subst (λ (x : Device). OnClosed members shelf at x i) (sym w.0) (member, w.1, subst (λ (l : List ℕ). is_open at l ≡ false) e w.2)
 
-pub opened_of : (answer : Result (Unit {0}) Failed) (honest was : Type 0) (at : ℕ) (old new : Disk) → was → (honest → OnOk answer (is_open at new.bytes ≡ true)) → (honest → OnOk answer (old.dirty ≡ [] → new.dirty ≡ [])) → OnErr answer (Rises old.faults new.faults)
+pub opened_of : (answer : Result (Unit {0}) Failed) (honest was : Type 0) (at : ℕ) (old new : Disk) → was → (honest → OnOk answer (is_open at new.bytes ≡ true)) → (honest → OnOk answer (new.dirty ≡ [])) → OnErr answer (Rises old.faults new.faults)
     → Opened honest was (is_ok answer ≡ true) at old new
 opened_of (Ok x) honest was at old new member opens clean counts = record {
   before = λ is. member;
@@ -127,6 +127,14 @@ module _ (members : List Bool) (shelf : Shelved) (stop : Stop) (slot : BootSlot)
       s
 
 -- ---- after the settling
+pub settled_shows : (old new : Shelved) (was is : Type 0) (i : ℕ) (members : List Bool) (slot : BootSlot) (body : List ℕ) → old.honest → Opened old.honest was is (gate_place slot) (old.disk (drive i)) (new.disk (drive i)) → is
+    → WritesOnly (OnClosed members old (gate_place slot)) old new → body_in slot (old.disk (drive i)).bytes ≡ body → Shows new slot body i
+settled_shows old new was is i members slot body h o m writes stood = record {
+  clean = o.clean h m;
+  shown = open_shows slot (new.disk (drive i)).bytes body (o.opened h m)
+      (bodies_same slot (old.disk (drive i)).bytes (new.disk (drive i)).bytes ((writes.device (drive i)).size) (λ k out. (writes.device (drive i)).bytes k (λ w. out w.1)) slot ∙ stood);
+}
+
 module _ (old new : Shelved) (was now : List Bool) (slot : BootSlot) (boot : BootRecord) (missing later : Conditions) (arrays : List Array)
     (is_old : IsShelf old) (is_new : IsShelf new) (h : old.honest) (on : Continues old new) (as_many : length now ≡ length was)
     (outcome : (i : ℕ) → i < length was → Opened old.honest (IsMember was i) (IsMember now i) (gate_place slot) (old.disk (drive i)) (new.disk (drive i)))
@@ -153,7 +161,7 @@ module _ (old new : Shelved) (was now : List Bool) (slot : BootSlot) (boot : Boo
       ]
 
   clean : (i : ℕ) → IsMember now i → later (drive i) ≡ Sound → (new.disk (drive i)).dirty ≡ []
-  clean i m s = let o = outcome i (below i m) in o.clean h m (loaded.clean i (o.before m) (sound_then (drive i) s))
+  clean i m s = let o = outcome i (below i m) in o.clean h m
 
   shows : (i : ℕ) → IsMember now i → later (drive i) ≡ Sound → shown_by slot (new.disk (drive i)).bytes ≡ Some (spelling boot)
   shows i m s =

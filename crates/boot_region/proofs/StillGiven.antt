@@ -1,19 +1,29 @@
 -- A record that might be given may be given still, though gates were opened over its own body, or closed in the other slot.
-use Rattle.std.proofs.Common.{◌≡◌, ◌⊎◌, inl, inr, ℕ, zero, suc, ◌+◌, ◌*◌, ◌≤◌, ◌<◌, List, length, map, refl, sym, ◌∙◌, ap, subst, arith, Bool, true, false, cond}
-use Rattle.std.specs.Prelude.{Option, Some, None, option_and_then, count_by, if◌then◌else◌}
+use Rattle.std.proofs.Common.{◌≡◌, ◌⊎◌, inl, inr, ℕ, zero, suc, ◌+◌, ◌≤◌, ◌<◌, List, length, map, refl, sym, ◌∙◌, ap, subst, arith, Bool, true, false, cond}
+use Rattle.std.specs.Prelude.{IfSome, Option, Some, None, option_and_then, count_by, if◌then◌else◌}
 use Rattle.std.specs.List.{range_with_len}
-use Rattle.std.proofs.lemmas.Bool.{cases_Bool}
+use Rattle.std.specs.Cmp.Lexicographic.{same_text}
+use Rattle.std.proofs.lemmas.Bool.{cases_Bool, cases_lt}
 use Rattle.std.proofs.lemmas.List.FromFn.{length-map-range_with_len}
 use Rattle.pur_base.specs.declared.device.Device.{Device}
-use Rattle.pur_base.specs.Devices.{Geometry, Image, View, Conditions, Sound, is_sound, drive}
+use Rattle.pur_base.specs.Devices.{Geometry, Image, View, Condition, Conditions, Sound, Missing, LeftOut, is_sound, drive}
 use Rattle.boot_codec.specs.declared.record.BootRecord.{BootRecord}
 use Rattle.boot_codec.specs.Spelling.{spelling}
-use Rattle.boot_codec.specs.Region.{BootSlot, IsDecided, Yields, generation_in, other_slot, shown_by, votes, is_vote}
-use Rattle.array_spec.specs.Standing.{MayBeGiven}
-use Rattle.array_spec.specs.Laws.{OpensGatesOf}
+use Rattle.boot_codec.specs.Region.{BootSlot, A, B, IsDecided, Yields, generation_in, other_slot, shown_by, votes, is_vote}
+use Rattle.array_spec.specs.Standing.{MayBeGiven, MayAppear}
+use Rattle.array_spec.specs.Laws.{OpensGatesOf, ClosesGatesOf}
+use Rattle.array_spec.proofs.Settling.{twice_other}
 use Rattle.array_spec.proofs.Votes.{counted, sound_before}
-use Rattle.boot_region.proofs.Composing.{is_sound_is}
 use Rattle.boot_region.proofs.FoundLemmas.{same_over}
+
+sound_is : (c : Condition) → is_sound c ≡ true → c ≡ Sound
+sound_is Sound e = refl
+sound_is Missing e = absurd (cc e)
+sound_is LeftOut e = absurd (cc e)
+
+yields_or : (s : BootSlot) (a b : ℕ) → Yields s a b ⊎ (Yields s a b → ⊥)
+yields_or A a b = elim (cases_lt b a) [ inl lt ↦ inr (λ le. omega (arith, lt, le)) | inr ge ↦ inl ge ]
+yields_or B a b = elim (cases_lt a b) [ inl lt ↦ inl lt | inr ge ↦ inr (λ lt. omega (arith, lt, ge)) ]
 
 -- what has each vote that another list has is decided where that is
 more_votes : (f g : ℕ → Option (List ℕ)) (body : List ℕ) (a n : ℕ) → ((i : ℕ) → i < a + n → is_vote body (f i) ≡ true → is_vote body (g i) ≡ true)
@@ -61,10 +71,12 @@ module _ (shelf : Geometry) (old new : Image) (missing : Conditions) (slot : Boo
       ⊎ ((missing (drive i) ≡ Sound) × (vote_now t i ≡ shown_by t (new (drive i))) × (vote_then t i ≡ shown_by t (old (drive i))))
   vote_cases t i = elim (cases_Bool (is_sound (g.more (drive i)))) [
     | inl s ↦
-        let sound = is_sound_is (g.more (drive i)) s in
-        inr (sound_before (missing (drive i)) (g.more (drive i)) (g.appears.within (drive i)) sound,
+        let sound = sound_is (g.more (drive i)) s in
+        inr (
+          sound_before (missing (drive i)) (g.more (drive i)) (g.appears.within (drive i)) sound,
           ap (option_and_then (shown_by t)) (now_sound (drive i) sound),
-          ap (option_and_then (shown_by t)) (g.appears.shown (drive i) sound))
+          ap (option_and_then (shown_by t)) (g.appears.shown (drive i) sound),
+        )
     | inr u ↦ inl (ap (option_and_then (shown_by t)) (now_other (drive i) u))
   ]
 
@@ -104,3 +116,43 @@ module _ (shelf : Geometry) (old new : Image) (missing : Conditions) (slot : Boo
 pub opening_keeps : (shelf : Geometry) (old new : Image) (missing : Conditions) (slot : BootSlot) (boot : BootRecord) → OpensGatesOf old new missing slot (spelling boot)
     → MayBeGiven shelf old missing slot boot → MayBeGiven shelf new missing slot boot
 opening_keeps shelf old new missing slot boot opens g = opening shelf old new missing slot boot g opens
+
+-- gates of the other slot are closed, and it's decided still
+pub closing_keeps : (shelf : Geometry) (old new : Image) (missing : Conditions) (slot : BootSlot) (boot : BootRecord) → ClosesGatesOf old new missing slot (spelling boot)
+    → ((more : Conditions) (view : View) → MayAppear shelf new missing more view → IsDecided (votes shelf view (other_slot slot)) (spelling boot))
+    → MayBeGiven shelf old missing (other_slot slot) boot → MayBeGiven shelf new missing (other_slot slot) boot
+closing_keeps shelf old new missing slot boot closes decided g =
+    keeps_given shelf old new missing (other_slot slot) boot g
+    (decided g.more (shown_now shelf old new missing (other_slot slot) boot g)
+    (record { within = g.appears.within; bearable = g.appears.bearable; shown = now_sound shelf old new missing (other_slot slot) boot g }))
+    (λ other d. elim (yields_or (other_slot slot) (generation_in other) (generation_in (spelling boot))) [
+      | inl yields ↦ yields
+      | inr wins ↦ g.effective.highest other (was_decided other wins d)
+    ])
+  where
+    now_at : ℕ → Option (List ℕ)
+    now_at = vote_now shelf old new missing (other_slot slot) boot g (other_slot (other_slot slot))
+
+    then_at : ℕ → Option (List ℕ)
+    then_at = vote_then shelf old new missing (other_slot slot) boot g (other_slot (other_slot slot))
+
+    loses : (o : Option (List ℕ)) (other : List ℕ) → IfSome o (λ body. Yields (other_slot slot) (generation_in body) (generation_in (spelling boot)))
+        → (Yields (other_slot slot) (generation_in other) (generation_in (spelling boot)) → ⊥) → is_vote other o ≡ true → ⊥
+    loses None other yields wins voted = absurd (cc voted)
+    loses (Some x) other yields wins voted = wins (subst (λ (b : List ℕ). Yields (other_slot slot) (generation_in b) (generation_in (spelling boot))) (same_text x other (sym voted)) yields)
+
+    twice : (bytes : List ℕ) → shown_by (other_slot (other_slot slot)) bytes ≡ shown_by slot bytes
+    twice bytes = ap (λ (t : BootSlot). shown_by t bytes) (twice_other slot)
+
+    was_voted : (other : List ℕ) → (Yields (other_slot slot) (generation_in other) (generation_in (spelling boot)) → ⊥) → (i : ℕ) → is_vote other (now_at i) ≡ true → is_vote other (then_at i) ≡ true
+    was_voted other wins i voted = elim (vote_cases shelf old new missing (other_slot slot) boot g (other_slot (other_slot slot)) i) [
+      | inl e ↦ subst (λ (o : Option (List ℕ)). is_vote other o ≡ true) e voted
+      | inr (s, now, was) ↦ elim (closes.closes i s) [
+        | inl e ↦ subst (λ (o : Option (List ℕ)). is_vote other o ≡ true) (now ∙ twice (new (drive i)) ∙ e ∙ sym (twice (old (drive i))) ∙ sym was) voted
+        | inr yields ↦ absurd (loses (shown_by slot (new (drive i))) other yields wins (subst (λ (o : Option (List ℕ)). is_vote other o ≡ true) (now ∙ twice (new (drive i))) voted))
+      ]
+    ]
+
+    was_decided : (other : List ℕ) → (Yields (other_slot slot) (generation_in other) (generation_in (spelling boot)) → ⊥)
+        → IsDecided (votes shelf (shown_now shelf old new missing (other_slot slot) boot g) (other_slot (other_slot slot))) other → IsDecided (votes shelf g.view (other_slot (other_slot slot))) other
+    was_decided other wins d = decided_by_more now_at then_at other shelf.slots (λ i lt voted. was_voted other wins i voted) d

@@ -8,7 +8,7 @@ use Rattle.std.proofs.lemmas.Bool.{cases_Bool, cases_lt}
 use Rattle.pur_base.specs.declared.device.Device.{Device}
 use Rattle.pur_base.specs.declared.device.Device.TheVariants as dev
 use Rattle.pur_base.specs.declared.limits.TheConstants.{SECTOR_BYTES, UNIT_BYTES}
-use Rattle.pur_base.specs.Devices.{Conditions, Sound, IsBearable, is_sound, drive}
+use Rattle.pur_base.specs.Devices.{Conditions, Sound, Missing, IsBearable, is_sound, drive}
 use Rattle.pur_base.specs.Plain.{Array}
 use Rattle.boot_codec.specs.declared.limits.TheConstants.{RECORD_BYTES}
 use Rattle.boot_codec.specs.declared.record.BootRecord.{BootRecord}
@@ -20,14 +20,14 @@ use Rattle.array_spec.proofs.Votes.{counted, held_is_given, sound_before}
 use Rattle.array_spec.proofs.Settling.{twice_other}
 use Rattle.world.specs.Counts.{Rises}
 use Rattle.world.specs.Shelf.{Shelved, Stop, MayStop, IsShelf, IsIn, Continues, Written, IsCountedBy, LeavesOnly}
-use Rattle.world.specs.Writes.{ChangesOnly, WritesOnly}
+use Rattle.world.specs.Writes.{ChangesOnly, WritesOnly, LeavesBut}
 use Rattle.world.specs.Losing.{geometry_of, IsLater}
 use Rattle.world.proofs.Writes.{writes_then, writes_more}
 use Rattle.world.proofs.Moments.{then_run, weaker, continues_trans, continues_refl}
 use Rattle.boot_region.specs.Members.{IsMember, IsOneOf, NonMembersStay, OnSlot, OnMembers, OnNotShut, Outcome, Closed, LostWrites, DroppedFailed}
-use Rattle.boot_region.specs.Storing.{AreClean, AreClosed, AreWritten, AreOlder, SoundAreMembers, ComesOf, LeavesBy, Closes, Writes, Opens, IsInForceOn, MayFollow, AccountsFor, GivesOldOrNew, StandsBut, StandsNow, IsNewer, IsStored}
-use Rattle.boot_region.proofs.Composing.{gives_while_closing, gives_while_writing, gives_while_opening, while_closing, while_writing, while_opening, as_it_is, is_sound_is}
-use Rattle.boot_region.proofs.Phases.{risen_on_way}
+use Rattle.boot_region.specs.Storing.{AreClean, AreClosed, AreWritten, AreOlder, SoundAreMembers, ComesOf, LeavesBy, Closes, Writes, Opens, IsInForceOn, MayFollow, AccountsFor, GivesOldOrNew, IsInStore, IsOpening, StandsBut, StandsNow, IsNewer, IsStored}
+use Rattle.boot_region.proofs.Composing.{differs_then, still_while_closing, still_while_writing, gives_while_closing, gives_while_writing, gives_while_opening, while_closing, while_writing, while_opening, as_it_is, is_sound_is}
+use Rattle.boot_region.proofs.Phases.{risen_on_way, closes_gates, writes_bodies, opens_gates}
 use Rattle.boot_region.proofs.ShownLemmas.{gate_same, member_below, body_low, body_is, bodies_same, other_body_same, as_read, shown_body}
 
 -- a count that rose on the way rose
@@ -204,51 +204,49 @@ module _ (a b c d : Shelved) (m0 m1 m2 : List Bool) (slot : BootSlot) (body : Li
     from_second : (stop : Stop) → MayStop c stop → ComesOf b (Writes missing m1 slot) stop
     from_second stop may = (q2.each stop (is_c.counts_now b.moment stop bc.later may)).1
 
-    first : LeavesOnly a b (StandsBut a m0 missing slot held arrays)
-    first = weaker (λ stop l. λ later account. while_closing a m0 missing slot held boot arrays is_a force follow l.start stop l.may later account l.by) q1
+    -- at a stop in each phase
+    first_at : (stop : Stop) → ComesOf a (Closes a m0 missing slot (spelling held)) stop → StandsBut a m0 missing slot held arrays stop
+    first_at stop l later account = while_closing a m0 missing slot held is_a force l.start stop l.may later account boot arrays follow l.by
 
-    second : LeavesOnly b c (StandsBut a m0 missing slot held arrays)
-    second = weaker (λ stop l. λ later account.
+    second_at : (stop : Stop) → ComesOf b (Writes missing m1 slot) stop → StandsBut a m0 missing slot held arrays stop
+    second_at stop l later account =
         let f = from_first l.start l.may in
-        while_writing a m0 missing slot held boot arrays is_a force follow f.start stop f.may later account l.start m1 l.later (sound1 stop later account (counted_by l)) f.by l.by) q2
+        while_writing a m0 missing slot held is_a force f.start stop f.may later account boot arrays follow l.start m1 l.later (sound1 stop later account (counted_by l)) f.by l.by
 
-    third : LeavesOnly c d (StandsBut a m0 missing slot held arrays)
-    third = weaker (λ stop l. λ later account.
+    third_at : (stop : Stop) → ComesOf c (Opens missing m2 slot (spelling boot)) stop → StandsBut a m0 missing slot held arrays stop
+    third_at stop l later account =
         let w = from_second l.start l.may in
         let f = from_first w.start w.may in
-        while_opening a m0 missing slot held boot arrays is_a force follow f.start stop f.may later account w.start l.start m1 m2 (later_then w.later l.later) (sound2 stop later account (counted_by l)) f.by w.by l.by) q3
+        while_opening a m0 missing slot held is_a force f.start stop f.may later account boot arrays follow w.start l.start m1 m2 (later_then w.later l.later) (sound2 stop later account (counted_by l)) f.by w.by l.by
 
     pub store_moments : LeavesOnly a d (StandsBut a m0 missing slot held arrays)
-    store_moments = then_run (continues_trans ab bc) (then_run ab first second) third
+    store_moments = then_run (continues_trans ab bc) (then_run ab (weaker first_at q1) (weaker second_at q2)) (weaker third_at q3)
 
     -- what may be given at each moment
-    pub store_gives : LeavesOnly a d (GivesOldOrNew a m0 missing slot held boot)
-    store_gives = then_run (continues_trans ab bc) (then_run ab gives_first gives_second) gives_third
-      where
-        gives_first : LeavesOnly a b (GivesOldOrNew a m0 missing slot held boot)
-        gives_first = weaker (λ stop l. λ later account t k given. inr (record {
-          start = l.start;
-          may = l.may;
-          given = gives_while_closing a m0 missing slot held boot arrays is_a force follow l.start stop l.may later account l.by t k given;
-        })) q1
+    gives_first : (stop : Stop) → ComesOf a (Closes a m0 missing slot (spelling held)) stop → GivesOldOrNew a m0 missing slot held boot stop
+    gives_first stop l later account t k given = inr (record {
+      start = l.start;
+      may = l.may;
+      given = gives_while_closing a m0 missing slot held is_a force l.start stop l.may later account l.by t k given;
+    })
 
-        gives_second : LeavesOnly b c (GivesOldOrNew a m0 missing slot held boot)
-        gives_second = weaker (λ stop l. λ later account t k given.
-            let f = from_first l.start l.may in
-            inr (record {
-              start = f.start;
-              may = f.may;
-              given = gives_while_writing a m0 missing slot held boot arrays is_a force follow f.start stop f.may later account l.start m1 l.later f.by l.by t k given;
-            })) q2
+    gives_second : (stop : Stop) → ComesOf b (Writes missing m1 slot) stop → GivesOldOrNew a m0 missing slot held boot stop
+    gives_second stop l later account t k given =
+        let f = from_first l.start l.may in
+        inr (record {
+          start = f.start;
+          may = f.may;
+          given = gives_while_writing a m0 missing slot held is_a force f.start stop f.may later account l.start m1 l.later f.by l.by t k given;
+        })
 
-        gives_third : LeavesOnly c d (GivesOldOrNew a m0 missing slot held boot)
-        gives_third = weaker (λ stop l. λ later account t k given.
-            let w = from_second l.start l.may in
-            let f = from_first w.start w.may in
-            elim (gives_while_opening a m0 missing slot held boot arrays is_a force follow f.start stop f.may later account w.start l.start m1 m2 (later_then w.later l.later) f.by w.by l.by t k given) [
-              | inl new_one ↦ inl new_one
-              | inr was ↦ inr (record { start = f.start; may = f.may; given = was })
-            ]) q3
+    gives_third : (stop : Stop) → ComesOf c (Opens missing m2 slot (spelling boot)) stop → GivesOldOrNew a m0 missing slot held boot stop
+    gives_third stop l later account t k given =
+        let w = from_second l.start l.may in
+        let f = from_first w.start w.may in
+        elim (gives_while_opening a m0 missing slot held is_a force f.start stop f.may later account boot arrays follow w.start l.start m1 m2 (later_then w.later l.later) f.by w.by l.by t k given) [
+          | inl new_one ↦ inl new_one
+          | inr was ↦ inr (record { start = f.start; may = f.may; given = was })
+        ]
 
     -- ---- after the store
     module _ (m3 : List Bool) (is_d : IsShelf d) (cd : Continues c d) (newer : IsNewer slot held boot)
@@ -363,3 +361,91 @@ module _ (a b c d : Shelved) (m0 m1 m2 : List Bool) (slot : BootSlot) (body : Li
         older = older3;
         stands = stands3;
       }
+
+  -- ---- at each moment, whatever the conditions
+  module _ (v1 : LeavesOnly a b (λ stop. LeavesBut (OnNotShut m0 a stop.faults (gate_place slot)) a stop))
+      (v2 : LeavesOnly b c (LeavesBut (OnMembers m1 (body_place slot) RECORD_BYTES) b)) (v3 : LeavesOnly c d (LeavesBut (OnMembers m2 (gate_place slot) SECTOR_BYTES) c)) where
+    closing : (missing : Conditions) (held : List ℕ) → AreClean a missing m0 → (stop : Stop) → LeavesBut (OnNotShut m0 a stop.faults (gate_place slot)) a stop → ComesOf a (Closes a m0 missing slot held) stop
+    closing missing held clean stop left = closes_gates m0 a stop missing slot held is_a h left clean
+
+    writing : (missing : Conditions) → AreClean b missing m1 → AreClosed b missing m1 slot → (stop : Stop) → LeavesBut (OnMembers m1 (body_place slot) RECORD_BYTES) b stop → ComesOf b (Writes missing m1 slot) stop
+    writing missing clean closed stop left = writes_bodies m1 b stop missing slot is_b (ab.honest h) left clean closed
+
+    opening : (missing : Conditions) (spelled : List ℕ) → AreClean c missing m2 → AreClosed c missing m2 slot → AreWritten c missing m2 slot spelled
+        → (stop : Stop) → LeavesBut (OnMembers m2 (gate_place slot) SECTOR_BYTES) c stop → ComesOf c (Opens missing m2 slot spelled) stop
+    opening missing spelled clean closed written stop left = opens_gates m2 c stop missing slot spelled is_c (bc.honest (ab.honest h)) left clean closed written
+
+    s1 : (missing : Conditions) (held : List ℕ) → AreClean a missing m0 → LeavesBy a b (Closes a m0 missing slot held)
+    s1 missing held clean = weaker (closing missing held clean) v1
+
+    s2 : (missing : Conditions) → AreClean b missing m1 → AreClosed b missing m1 slot → LeavesBy b c (Writes missing m1 slot)
+    s2 missing clean closed = weaker (writing missing clean closed) v2
+
+    s3 : (missing : Conditions) (spelled : List ℕ) → AreClean c missing m2 → AreClosed c missing m2 slot → AreWritten c missing m2 slot spelled → LeavesBy c d (Opens missing m2 slot spelled)
+    s3 missing spelled clean closed written = weaker (opening missing spelled clean closed written) v3
+
+    left_first : (stop : Stop) → MayStop b stop → LeavesBut (OnNotShut m0 a stop.faults (gate_place slot)) a stop
+    left_first stop may = (v1.each stop (is_b.counts_now a.moment stop ab.later may)).1
+
+    left_second : (stop : Stop) → MayStop c stop → LeavesBut (OnMembers m1 (body_place slot) RECORD_BYTES) b stop
+    left_second stop may = (v2.each stop (is_c.counts_now b.moment stop bc.later may)).1
+
+    in_first : (stop : Stop) → LeavesBut (OnNotShut m0 a stop.faults (gate_place slot)) a stop → IsInStore a m0 slot body stop
+    in_first stop left = record {
+      stands = λ missing held boot arrays spells force follow. first_at missing held boot arrays spells force follow s1 s2 s3 stop (closing missing (spelling held) force.clean stop left);
+      gives = λ missing held boot arrays spells force follow. gives_first missing held boot arrays spells force follow s1 s2 s3 stop (closing missing (spelling held) force.clean stop left);
+      phase = inl (λ missing held force later account given.
+          let l = closing missing (spelling held) force.clean stop left in
+          still_while_closing a m0 missing slot held is_a force l.start stop l.may later account l.by (given l.start l.may));
+    }
+
+    in_second : (stop : Stop) → LeavesBut (OnMembers m1 (body_place slot) RECORD_BYTES) b stop → IsInStore a m0 slot body stop
+    in_second stop left = record {
+      stands = λ missing held boot arrays spells force follow. second_at missing held boot arrays spells force follow s1 s2 s3 stop (writing missing (clean1 missing force.clean) (closed1 missing) stop left);
+      gives = λ missing held boot arrays spells force follow. gives_second missing held boot arrays spells force follow s1 s2 s3 stop (writing missing (clean1 missing force.clean) (closed1 missing) stop left);
+      phase = inl (λ missing held force later account given.
+          let l = writing missing (clean1 missing force.clean) (closed1 missing) stop left in
+          let f = closing missing (spelling held) force.clean l.start (left_first l.start l.may) in
+          still_while_writing a m0 missing slot held is_a force f.start stop f.may later account l.start m1 l.later f.by l.by (given f.start f.may));
+    }
+
+    sound : Conditions
+    sound device = Sound
+
+    none : Conditions
+    none device = Missing
+
+    opens_at : (stop : Stop) → LeavesBut (OnMembers m2 (gate_place slot) SECTOR_BYTES) c stop → IsOpening a m0 slot body stop
+    unfolding sound none
+    opens_at stop left =
+        let o = opening sound body (clean2 sound) (closed2 sound) (λ i m s. body_stands i m) stop left in
+        let w = writing none (λ i m s. absurd (cc s)) (λ i m s. absurd (cc s)) o.start (left_second o.start o.may) in
+        let f = closing none [] (λ i m s. absurd (cc s)) w.start (left_first w.start w.may) in
+        record {
+          start = f.start;
+          may = f.may;
+          only_boot = differs_then (differs_then f.by.only_boot w.by.only_boot) o.by.only_boot;
+          others = λ i. o.by.others i ∙ w.by.others i ∙ f.by.others i;
+          written = λ i m still. elim (dropped2 i m) [
+            | inl is ↦ (
+              o.by.stands i is refl,
+              elim (o.by.opens i refl) [
+                | inl same ↦ inl (same ∙ o.by.shut i is refl)
+                | inr opened ↦ inr opened.0
+              ],
+            )
+            | inr lost ↦ absurd (risen_on_way _ _ _ _ (let same : (a.disk (drive i)).faults ≤ (a.disk (drive i)).faults = omega arith in same) lost.faults (left.counts.faults (drive i)) still)
+          ];
+        }
+
+    in_third : (stop : Stop) → LeavesBut (OnMembers m2 (gate_place slot) SECTOR_BYTES) c stop → IsInStore a m0 slot body stop
+    in_third stop left = record {
+      stands = λ missing held boot arrays spells force follow. third_at missing held boot arrays spells force follow s1 s2 s3 stop
+          (opening missing (spelling boot) (clean2 missing) (closed2 missing) (λ i m s. body_stands i m ∙ spells) stop left);
+      gives = λ missing held boot arrays spells force follow. gives_third missing held boot arrays spells force follow s1 s2 s3 stop
+          (opening missing (spelling boot) (clean2 missing) (closed2 missing) (λ i m s. body_stands i m ∙ spells) stop left);
+      phase = inr (opens_at stop left);
+    }
+
+    pub each_moment : LeavesOnly a d (IsInStore a m0 slot body)
+    each_moment = then_run (continues_trans ab bc) (then_run ab (weaker in_first v1) (weaker in_second v2)) (weaker in_third v3)

@@ -154,6 +154,31 @@ abbrev pub GivesOldOrNew : Shelved → List Bool → Conditions → BootSlot →
 GivesOldOrNew old members missing slot held boot stop = (later : Conditions) → AccountsFor old members missing slot (spelling held) stop.faults stop.write_faults later
     → (slot2 : BootSlot) (boot2 : BootRecord) → MayBeGiven (geometry_of old) stop.image later slot2 boot2 → ((slot2 ≡ slot) × (boot2 ≡ boot)) ⊎ WasGiven old missing slot2 boot2
 
+-- The record in force may be given still, in conditions that tell what has failed by then, where it might be when the store began.
+abbrev pub HeldStill : Shelved → List Bool → BootSlot → Stop → Type 0
+HeldStill old members slot stop = (missing : Conditions) (held : BootRecord) → IsInForceOn old members missing slot held
+    → (later : Conditions) → AccountsFor old members missing slot (spelling held) stop.faults stop.write_faults later
+    → ((start : Stop) → MayStop old start → MayBeGiven (geometry_of old) start.image later (other_slot slot) held)
+    → MayBeGiven (geometry_of old) stop.image later (other_slot slot) held
+
+-- Gates are opened over the body: it stands on each member on which no call has failed, and is shown there or nothing is. What the other slot shows has stayed.
+pub record IsOpening (old : Shelved) (members : List Bool) (slot : BootSlot) (body : List ℕ) (stop : Stop) : Type 0 where
+  pub start : Stop
+  pub may : MayStop old start
+  pub only_boot : OnlyBoot start.image stop.image
+  pub others : (i : ℕ) → shown_by (other_slot slot) (stop.image (drive i)) ≡ shown_by (other_slot slot) (start.image (drive i))
+  pub written : (i : ℕ) → IsMember members i → has_risen (old.disk (drive i)).faults (stop.faults (drive i)) ≡ false
+      → (body_in slot (stop.image (drive i)) ≡ body) × ((shown_by slot (stop.image (drive i)) ≡ None) ⊎ (shown_by slot (stop.image (drive i)) ≡ Some body))
+
+-- a stop in a store, whatever the conditions of the devices
+pub record IsInStore (old : Shelved) (members : List Bool) (slot : BootSlot) (body : List ℕ) (stop : Stop) : Type 0 where
+  pub stands : (missing : Conditions) (held boot : BootRecord) (arrays : List Array) → body ≡ spelling boot → IsInForceOn old members missing slot held → MayFollow old missing slot boot arrays
+      → StandsBut old members missing slot held arrays stop
+  pub gives : (missing : Conditions) (held boot : BootRecord) (arrays : List Array) → body ≡ spelling boot → IsInForceOn old members missing slot held → MayFollow old missing slot boot arrays
+      → GivesOldOrNew old members missing slot held boot stop
+  -- the record in force isn't superseded yet, or gates are opened over the new one
+  pub phase : HeldStill old members slot stop ⊎ IsOpening old members slot body stop
+
 -- the record that is stored wins over the one in force
 abbrev pub IsNewer : BootSlot → BootRecord → BootRecord → Type 0
 IsNewer slot held boot = Yields slot (generation_in (spelling held)) (generation_in (spelling boot))

@@ -50,6 +50,7 @@ pub fn close_gates<S: Shelf>(shelf: &mut S, members: &mut [bool], slot: Slot)
     ensures writes { (S.shelf shelf.old).honest → WritesOnly (OnNotShut members.old (S.shelf shelf.old) (λ d. ((S.shelf shelf.new).disk d).faults) (gate_place (slot_in slot))) (S.shelf shelf.old) (S.shelf shelf.new) }
     ensures others { NonMembersStay members.old (S.shelf shelf.old) (S.shelf shelf.new) }
     ensures rest { S.shelf_rest shelf.old shelf.new }
+    ensures moments { (S.shelf shelf.old).honest → LeavesOnly (S.shelf shelf.old) (S.shelf shelf.new) (λ stop. LeavesBut (OnNotShut members.old (S.shelf shelf.old) stop.faults (gate_place (slot_in slot))) (S.shelf shelf.old) stop) }
     ensures any_moment { (S.shelf shelf.old).honest → (missing : Conditions) (held : List ℕ) → AreClean (S.shelf shelf.old) missing members.old
         → LeavesBy (S.shelf shelf.old) (S.shelf shelf.new) (Closes (S.shelf shelf.old) members.old missing (slot_in slot) held) }
 {

@@ -5,7 +5,7 @@ ghost use Rattle.pur_base.specs.Gates.{is_open};
 ghost use Rattle.pur_base.specs.Plain.{Array};
 ghost use Rattle.pur_base.specs.declared.limits.TheConstants.{SECTOR_BYTES};
 ghost use Rattle.boot_codec.specs.declared.record.BootRecord.{BootRecord};
-ghost use Rattle.boot_codec.specs.Region.{gate_place, other_slot};
+ghost use Rattle.boot_codec.specs.Region.{gate_place, other_slot, body_in};
 ghost use Rattle.array_spec.specs.Standing.{MayBeGiven, Stands};
 ghost use Rattle.world.specs.Counts.{Rises};
 ghost use Rattle.world.specs.Losing.{geometry_of};
@@ -13,19 +13,19 @@ ghost use Rattle.world.specs.Shelf.{Has, Continues, LeavesOnly, OthersStay};
 ghost use Rattle.world.specs.Writes.{WritesOnly};
 ghost use Rattle.boot_region.specs.Members.{IsMember, NonMembersStay, OnClosed, OneClosed, Opened};
 ghost use Rattle.boot_region.specs.Slots.{slot_in};
-ghost use Rattle.boot_region.specs.Storing.{GivesNoMore, IsFound, IsInForceOn, IsLoaded, TellsFailed};
+ghost use Rattle.boot_region.specs.Storing.{GivesNoMore, Shows, IsFound, IsInForceOn, IsLoaded, TellsFailed};
 
 use crate::Slot;
 use boot_codec::{gate_sector, is_open_gate};
 use pur_base::{Device, DriveId, SECTOR_BYTES};
 use world::{Failed, Shelf, write_synced};
 
-/// Opens a gate, and syncs, unless it reads as open.
+/// Opens a gate, unless it reads as open, and syncs: what was read is what a stop leaves.
 fn open_gate<S: Shelf>(shelf: &mut S, device: Device, at: u64) -> Result<(), Failed>
     requires { Has (S.shelf shelf.old) device at SECTOR_BYTES }
     ensures continues { Continues (S.shelf shelf.old) (S.shelf shelf.new) }
     ensures opened { (S.shelf shelf.old).honest → OnOk result (is_open at ((S.shelf shelf.new).disk device).bytes ≡ true) }
-    ensures clean { (S.shelf shelf.old).honest → OnOk result (((S.shelf shelf.old).disk device).dirty ≡ [] → ((S.shelf shelf.new).disk device).dirty ≡ []) }
+    ensures clean { (S.shelf shelf.old).honest → OnOk result (((S.shelf shelf.new).disk device).dirty ≡ []) }
     ensures writes { (S.shelf shelf.old).honest → WritesOnly (OneClosed ((S.shelf shelf.old).disk device).bytes device at) (S.shelf shelf.old) (S.shelf shelf.new) }
     ensures others { OthersStay device (S.shelf shelf.old) (S.shelf shelf.new) }
     ensures counts { OnErr result (Rises ((S.shelf shelf.old).disk device).faults ((S.shelf shelf.new).disk device).faults) }
@@ -34,13 +34,13 @@ fn open_gate<S: Shelf>(shelf: &mut S, device: Device, at: u64) -> Result<(), Fai
     let mut seen = [0; SECTOR_BYTES];
     shelf.read(device, at, &mut seen)?;
     if is_open_gate(&seen) {
-        return Ok(());
+        return shelf.sync(device);
     }
     let open = gate_sector(true);
     write_synced(shelf, device, at, open.as_bytes())
 }
 
-/// Opens the gate of the record that was loaded, and syncs, on each member where it is closed. A member that fails is dropped.
+/// Opens the gate of the record that was loaded on each member where it is closed, and syncs each member. One that fails is dropped.
 pub fn settle<S: Shelf>(shelf: &mut S, members: &mut [bool], slot: Slot)
     requires { length members.old ≤ (S.shelf shelf.old).drives }
     ensures continues { Continues (S.shelf shelf.old) (S.shelf shelf.new) }
@@ -49,6 +49,9 @@ pub fn settle<S: Shelf>(shelf: &mut S, members: &mut [bool], slot: Slot)
     ensures writes { (S.shelf shelf.old).honest → WritesOnly (OnClosed members.old (S.shelf shelf.old) (gate_place (slot_in slot))) (S.shelf shelf.old) (S.shelf shelf.new) }
     ensures others { NonMembersStay members.old (S.shelf shelf.old) (S.shelf shelf.new) }
     ensures rest { S.shelf_rest shelf.old shelf.new }
+    // Then each member that is left shows the body that stood there, with nothing dirty.
+    ensures shows { (S.shelf shelf.old).honest → (body : List ℕ) (d : ℕ) → d < length members.old → IsMember members.new d
+        → body_in (slot_in slot) ((S.shelf shelf.old).disk (drive d)).bytes ≡ body → Shows (S.shelf shelf.new) (slot_in slot) body d }
     // At every moment the devices stand for the arrays for which they stood.
     ensures any_moment { (S.shelf shelf.old).honest → (missing : Conditions) (boot : BootRecord) (arrays : List Array)
         → IsLoaded (S.shelf shelf.old) members.old missing (slot_in slot) boot arrays

@@ -9,7 +9,7 @@ ghost use Rattle.world.specs.Shelf.{Continues, LeavesOnly};
 ghost use Rattle.world.specs.Writes.{WritesOnly};
 ghost use Rattle.boot_region.specs.Members.{IsMember, NonMembersStay, DroppedFailed, OnSlot};
 ghost use Rattle.boot_region.specs.Slots.{slot_in};
-ghost use Rattle.boot_region.specs.Storing.{Shows, GivesOldOrNew, IsInForceOn, IsNewer, IsStoredIn, MayFollow, StandsBut};
+ghost use Rattle.boot_region.specs.Storing.{Shows, GivesOldOrNew, IsInStore, IsInForceOn, IsNewer, IsStoredIn, MayFollow, StandsBut};
 
 use crate::{Slot, close_gates, open_gates, write_bodies};
 use world::Shelf;
@@ -26,6 +26,8 @@ pub fn store<S: Shelf>(shelf: &mut S, members: &mut [bool], slot: Slot, body: &[
     ensures writes { (S.shelf shelf.old).honest → WritesOnly (OnSlot members.old (slot_in slot)) (S.shelf shelf.old) (S.shelf shelf.new) }
     ensures others { NonMembersStay members.old (S.shelf shelf.old) (S.shelf shelf.new) }
     ensures rest { S.shelf_rest shelf.old shelf.new }
+    // What is so at every moment, whatever the conditions of the devices.
+    ensures moments { (S.shelf shelf.old).honest → LeavesOnly (S.shelf shelf.old) (S.shelf shelf.new) (IsInStore (S.shelf shelf.old) members.old (slot_in slot) body.now) }
     // At every moment the devices stand for the arrays for which they stood.
     ensures any_moment { (S.shelf shelf.old).honest → (missing : Conditions) (held boot : BootRecord) (arrays : List Array)
         → body.now ≡ spelling boot → IsInForceOn (S.shelf shelf.old) members.old missing (slot_in slot) held → MayFollow (S.shelf shelf.old) missing (slot_in slot) boot arrays

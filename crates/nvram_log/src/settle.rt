@@ -7,7 +7,7 @@ ghost use Rattle.log_codec.specs.declared.limits.TheConstants.{LOG_SLOTS, SLOT_B
 ghost use Rattle.world.specs.Shelf.{Continues, LeavesOnly, MayLeave, OthersStay, WriteCounts};
 ghost use Rattle.world.specs.Writes.{WritesOnly};
 ghost use Rattle.nvram_log.specs.Slots.{IsLog};
-ghost use Rattle.nvram_log.specs.Members.{IsFlagged, IsSome, IsFewer, DroppedFailed, OnMembers};
+ghost use Rattle.nvram_log.specs.Members.{IsFlagged, IsMember, IsSome, IsFewer, DroppedFailed, OnMembers};
 ghost use Rattle.nvram_log.specs.Read.{DroppedCounted};
 ghost use Rattle.nvram_log.specs.Held.{HoldsOn};
 ghost use Rattle.nvram_log.specs.Settling.{OnDevice, IsToSettle, SettlesBy, AreToSettle, SettleBy};
@@ -81,6 +81,8 @@ fn settle_each<S: Shelf>(
     ensures fewer { IsFewer members.old members.new }
     ensures dropped { DroppedFailed (S.shelf shelf.old) (S.shelf shelf.new) members.old members.new }
     ensures counted { DroppedCounted (S.shelf shelf.old) (S.shelf shelf.new) members.old members.new }
+    ensures others { (n : ℕ) → ¬ (IsMember members.old n) → (S.shelf shelf.new).disk (nvram n) ≡ (S.shelf shelf.old).disk (nvram n) }
+    ensures clean { (S.shelf shelf.old).honest → (n : ℕ) → n < 2 → IsMember members.new n → ((S.shelf shelf.new).disk (nvram n)).dirty ≡ [] }
     ensures holds { (S.shelf shelf.old).honest → (flushed : ℕ) (commands : List Command) → length commands ≡ count
         → AreToSettle (S.shelf shelf.old) members.old flushed seen.now slots.now commands → HoldsOn (S.shelf shelf.new) members.new flushed commands }
     ensures any_moment { (S.shelf shelf.old).honest → (flushed : ℕ) (commands : List Command) → length commands ≡ count
@@ -109,6 +111,8 @@ impl NvLog {
         ensures fewer { IsFewer self.old.members self.new.members }
         ensures dropped { DroppedFailed (S.shelf shelf.old) (S.shelf shelf.new) self.old.members self.new.members }
         ensures counted { DroppedCounted (S.shelf shelf.old) (S.shelf shelf.new) self.old.members self.new.members }
+        ensures others { (n : ℕ) → ¬ (IsMember self.old.members n) → (S.shelf shelf.new).disk (nvram n) ≡ (S.shelf shelf.old).disk (nvram n) }
+        ensures clean { (S.shelf shelf.old).honest → (n : ℕ) → n < 2 → IsMember self.new.members n → ((S.shelf shelf.new).disk (nvram n)).dirty ≡ [] }
         ensures flushed { self.new.flushed ≡ self.old.flushed }
         ensures ok { OnOk result ((self.new.count ≡ count) × IsSome self.new.members) }
         ensures err { OnErr result ((self.new.count ≡ self.old.count) × (IsSome self.new.members → ⊥)) }

@@ -1,27 +1,22 @@
 -- A store that is followed by another one, at any moment of both.
-use Rattle.std.proofs.Common.{◌≡◌, ◌⊎◌, inl, inr, ℕ, ◌-◌, ◌^◌, ◌≤◌, ◌<◌, List, [], ◌∷◌, refl, sym, ◌∙◌, ap, subst, arith, Bool, true, false}
+use Rattle.std.proofs.Common.{◌≡◌, ◌⊎◌, inl, inr, ℕ, ◌-◌, ◌^◌, ◌≤◌, List, [], ◌∷◌, refl, sym, ◌∙◌, ap, subst, arith, Bool, true, false}
 use Rattle.std.specs.Prelude.{count_by, cond, nat_lt, nat_le, ◌||◌, slice_index_or}
 use Rattle.std.proofs.lemmas.Bool.{cases_Bool, cases_lt}
 use Rattle.std.proofs.Common.{ltb-false}
-use Rattle.pur_base.specs.declared.device.Device.{Device}
 use Rattle.pur_base.specs.declared.device.Device.TheVariants as dev
 use Rattle.pur_base.specs.Devices.{Geometry, Condition, Conditions, Sound, Missing, LeftOut, MayBecome, IsBearable, IsWithin, is_missing, missing_drives, missing_nvrams, nvrams, slots_of, drive, nvram}
-use Rattle.pur_base.specs.Plain.{Array}
 use Rattle.boot_codec.specs.declared.record.BootRecord.{BootRecord}
 use Rattle.boot_codec.specs.Spelling.{spelling}
 use Rattle.boot_codec.specs.Region.{BootSlot, other_slot, body_in, generation_in}
-use Rattle.array_spec.specs.Standing.{Stands, MayBeGiven}
 use Rattle.array_spec.proofs.Votes.{counted}
-use Rattle.world.specs.Shelf.{Shelved, Stop, MayStop, IsShelf, Continues, LeavesOnly, IsCountedBy}
-use Rattle.world.specs.Writes.{LeavesBut}
+use Rattle.world.specs.Shelf.{Shelved, Stop, Continues, LeavesOnly, IsCountedBy}
 use Rattle.world.specs.Losing.{geometry_of, has_risen}
-use Rattle.world.proofs.Moments.{then_run, weaker}
 use Rattle.boot_region.specs.Members.{IsMember}
-use Rattle.boot_region.specs.Storing.{WasGiven, AccountsFor, StandsBut, IsOlder}
+use Rattle.boot_region.specs.Storing.{AccountsFor, IsOlder}
 use Rattle.boot_region.proofs.Phases.{not_risen_before}
 use Rattle.register.specs.declared.state.Register.{Register}
 use Rattle.register.specs.Standing.{IsNextOf}
-use Rattle.register.proofs.Opened.{yields_or}
+use Rattle.register.proofs.Resting.{yields_or}
 
 -- ---- conditions
 
@@ -93,7 +88,7 @@ bearable_or shelf missing = elim (cases_lt 2 (missing_drives shelf missing)) [
 -- ---- moments
 
 -- a count that hasn't risen since an earlier moment hasn't since a later one
-not_risen_since : (a b c : ℕ) → a ≤ b → b ≤ c → has_risen a c ≡ false → has_risen b c ≡ false
+pub not_risen_since : (a b c : ℕ) → a ≤ b → b ≤ c → has_risen a c ≡ false → has_risen b c ≡ false
 not_risen_since a b c ab bc none =
     let same : a ≡ b = at_most (risen_or a c none) in
     subst (λ (x : ℕ). has_risen x c ≡ false) same none
@@ -107,7 +102,7 @@ not_risen_since a b c ab bc none =
     at_most : c ≤ a → a ≡ b
     at_most le = omega (arith, le, ab, bc)
 
-both : {a b : Shelved} {P Q : Stop → Type 0} → LeavesOnly a b P → LeavesOnly a b Q → LeavesOnly a b (λ stop. P stop × Q stop)
+pub both : {a b : Shelved} {P Q : Stop → Type 0} → LeavesOnly a b P → LeavesOnly a b Q → LeavesOnly a b (λ stop. P stop × Q stop)
 both {a} {b} {P} {Q} p q = record {
   quiet = p.quiet;
   each = λ stop left. ((p.each stop left).0, ((p.each stop left).1, (q.each stop left).1));
@@ -116,11 +111,6 @@ both {a} {b} {P} {Q} p q = record {
     | inr x ↦ elim (q.before t stop le left) [ inl was ↦ inl was | inr y ↦ inr (x.0, (x.1, y.1)) ]
   ];
 }
-
--- what may be given is one of these records, or one that might have been given before
-abbrev pub GivesOldOr : Shelved → List Bool → Conditions → BootSlot → BootRecord → (BootRecord → Type 0) → Stop → Type 0
-GivesOldOr old members missing slot held N stop = (later : Conditions) → AccountsFor old members missing slot (spelling held) stop.faults stop.write_faults later
-    → (slot2 : BootSlot) (boot2 : BootRecord) → MayBeGiven (geometry_of old) stop.image later slot2 boot2 → WasGiven old missing slot2 boot2 ⊎ N boot2
 
 -- at that moment a drive lost no write, and what a failed read of it might let be shown loses: it need not be missing then
 abbrev MayStay : Shelved → Shelved → List Bool → BootSlot → List ℕ → ℕ → Type 0
@@ -156,7 +146,7 @@ module _ (old mid : Shelved) (members : List Bool) (missing : Conditions) (slot 
       same Missing = refl
       same LeftOut = refl
 
-  accounts : IsBearable (geometry_of old) meanwhile → AccountsFor old members missing slot (spelling held) (λ d. (mid.disk d).faults) (λ d. (mid.disk d).write_faults) meanwhile
+  pub accounts : IsBearable (geometry_of old) meanwhile → AccountsFor old members missing slot (spelling held) (λ d. (mid.disk d).faults) (λ d. (mid.disk d).write_faults) meanwhile
   unfolding meanwhile
   accounts bears = record {
     within = meanwhile_within;
@@ -184,13 +174,13 @@ module _ (old mid : Shelved) (members : List Bool) (missing : Conditions) (slot 
     within_later (dev.Drive d) = later_too (stay_or d.0) (missing (dev.Drive d)) (later (dev.Drive d)) (account.within (dev.Drive d)) (λ s. kept d.0 s)
     within_later (dev.Nv n) = account.within (dev.Nv n)
 
-    bearable_then : IsBearable (geometry_of old) meanwhile
+    pub bearable_then : IsBearable (geometry_of old) meanwhile
     bearable_then = fewer_bearable (geometry_of old) meanwhile later within_later account.bearable
 
     -- and of what happened since
     module _ (now : List Bool) (next : BootSlot) (boot : BootRecord) (on : Continues old mid) (fewer : (i : ℕ) → IsMember now i → IsMember members i) (older : (i : ℕ) → IsMember now i → IsOlder mid next (spelling boot) i)
         (same_shelf : geometry_of mid ≡ geometry_of old) where
-      accounts_since : AccountsFor mid now meanwhile next (spelling boot) stop.faults stop.write_faults later
+      pub accounts_since : AccountsFor mid now meanwhile next (spelling boot) stop.faults stop.write_faults later
       accounts_since = record {
         within = within_later;
         bearable = subst (λ x. IsBearable x later) (sym same_shelf) account.bearable;
@@ -200,67 +190,6 @@ module _ (old mid : Shelved) (members : List Bool) (missing : Conditions) (slot 
         ];
         reads = λ i m s. inl (older i m);
       }
-
-  -- then it is so at every moment of both
-  pub again_moments : {W : Device → ℕ → Type 0} (new : Shelved) (now : List Bool) (next : BootSlot) (boot : BootRecord) (arrays : List Array) → Continues old mid
-      → ((i : ℕ) → IsMember now i → IsMember members i) → ((i : ℕ) → IsMember now i → IsOlder mid next (spelling boot) i)
-      → LeavesOnly old mid (StandsBut old members missing slot held arrays)
-      → (IsBearable (geometry_of old) meanwhile → AccountsFor old members missing slot (spelling held) (λ d. (mid.disk d).faults) (λ d. (mid.disk d).write_faults) meanwhile
-      → LeavesOnly mid new (StandsBut mid now meanwhile next boot arrays))
-      → LeavesOnly mid new (LeavesBut W mid)
-      → LeavesOnly old new (StandsBut old members missing slot held arrays)
-  again_moments {W} new now next boot arrays on fewer older first second counted_then = then_run on first rest
-    where
-      same_shelf : geometry_of mid ≡ geometry_of old
-      same_shelf =
-          let e : mid.drives ≡ old.drives = on.drives in
-          let f : mid.units ≡ old.units = on.units in
-          λ k. record { slots = e k; units = f k }
-
-      rest : LeavesOnly mid new (StandsBut old members missing slot held arrays)
-      rest = elim (bearable_or (geometry_of old) meanwhile) [
-        | inl bears ↦ weaker (λ stop x later account.
-            subst (λ g. Stands g stop.image later arrays) same_shelf (x.1 later (accounts_since stop x.0.counts later account now next boot on fewer older same_shelf)))
-            (both counted_then (second bears (accounts bears)))
-        | inr not ↦ weaker (λ stop x later account. absurd (not (bearable_then stop x.counts later account))) counted_then
-      ]
-
-  -- and so is what may be given
-  pub again_gives : {W : Device → ℕ → Type 0} (new : Shelved) (now : List Bool) (next : BootSlot) (boot : BootRecord) (N M : BootRecord → Type 0) → IsShelf mid → Continues old mid
-      → ((i : ℕ) → IsMember now i → IsMember members i) → ((i : ℕ) → IsMember now i → IsOlder mid next (spelling boot) i)
-      → ((b : BootRecord) → M b → N b)
-      → LeavesOnly old mid (GivesOldOr old members missing slot held N)
-      → (IsBearable (geometry_of old) meanwhile → AccountsFor old members missing slot (spelling held) (λ d. (mid.disk d).faults) (λ d. (mid.disk d).write_faults) meanwhile
-      → LeavesOnly mid new (GivesOldOr mid now meanwhile next boot M))
-      → LeavesOnly mid new (LeavesBut W mid)
-      → LeavesOnly old new (GivesOldOr old members missing slot held N)
-  again_gives {W} new now next boot N M is_mid on fewer older to first second counted_then = then_run on first rest
-    where
-      same_shelf : geometry_of mid ≡ geometry_of old
-      same_shelf =
-          let e : mid.drives ≡ old.drives = on.drives in
-          let f : mid.units ≡ old.units = on.units in
-          λ k. record { slots = e k; units = f k }
-
-      -- what may be given at the end of the first store
-      at_end : (start : Stop) → MayStop mid start → IsBearable (geometry_of old) meanwhile → (t : BootSlot) (b : BootRecord) → MayBeGiven (geometry_of mid) start.image meanwhile t b
-          → WasGiven old missing t b ⊎ N b
-      at_end start may bears t b g =
-          let exact : Stop = record { image = start.image; faults = λ k. (mid.disk k).faults; write_faults = λ k. (mid.disk k).write_faults; output = mid.output; taken = mid.taken } in
-          let may2 : MayStop mid exact = record { counts = record { faults = λ k. omega arith; write_faults = λ k. omega arith }; output = refl; taken = refl; device = may.device } in
-          let left = is_mid.counts_now old.moment exact on.later may2 in
-          (first.each exact left).1 meanwhile (accounts bears) t b (subst (λ x. MayBeGiven x start.image meanwhile t b) same_shelf g)
-
-      rest : LeavesOnly mid new (GivesOldOr old members missing slot held N)
-      rest = elim (bearable_or (geometry_of old) meanwhile) [
-        | inl bears ↦ weaker (λ stop x later account t b g.
-            elim (x.1 later (accounts_since stop x.0.counts later account now next boot on fewer older same_shelf) t b (subst (λ x. MayBeGiven x stop.image later t b) (sym same_shelf) g)) [
-              | inl was ↦ at_end was.start was.may bears t b was.given
-              | inr next_one ↦ inr (to b next_one)
-            ])
-            (both counted_then (second bears (accounts bears)))
-        | inr not ↦ weaker (λ stop x later account t b g. absurd (not (bearable_then stop x.counts later account))) counted_then
-      ]
 
 -- a record that follows on a next one is a next one
 pub next_after : (was mid : Register) (nvrams : List Bool) → IsNextOf was nvrams mid.record → ((i : ℕ) → IsMember mid.drives i → IsMember was.drives i) → (b : BootRecord) → IsNextOf mid nvrams b → IsNextOf was nvrams b

@@ -37,7 +37,7 @@ left_before Missing b h e = absurd (cc (h, e))
 left_before LeftOut b h e = refl
 
 -- a device may show itself
-shows_itself : (c : Condition) (bytes : List ℕ) → ((i : ℕ) → Rattle.std.specs.Prelude.slice_index bytes i < 256) → MayShowAs c bytes (Some bytes)
+pub shows_itself : (c : Condition) (bytes : List ℕ) → ((i : ℕ) → Rattle.std.specs.Prelude.slice_index bytes i < 256) → MayShowAs c bytes (Some bytes)
 shows_itself Sound bytes is = refl
 shows_itself Missing bytes is = inl refl
 shows_itself LeftOut bytes is = (refl, is)

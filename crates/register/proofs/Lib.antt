@@ -2,6 +2,9 @@ pub mod FlagLemmas
 pub mod Numbers
 pub mod Follows
 pub mod Opened
+pub mod Resting
 pub mod Again
+pub mod Back
 pub mod Rounds
 pub mod Stores
+pub mod Turns

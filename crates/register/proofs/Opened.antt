@@ -1,51 +1,27 @@
 -- After a store: the record alone is in force, and the devices stand for the array of the log.
-use Rattle.std.proofs.Common.{◌≡◌, ◌⊎◌, inl, inr, ℕ, zero, suc, ◌+◌, ◌*◌, ◌-◌, ◌^◌, ◌≤◌, ◌<◌, List, [], ◌∷◌, length, take, refl, sym, ◌∙◌, ap, subst, arith, Bool, true, false}
-use Rattle.std.specs.Prelude.{Some, None, Option, Contains, slice_index_or, count_by, cond, if◌then◌else◌}
+use Rattle.std.proofs.Common.{◌≡◌, ◌⊎◌, inl, inr, ℕ, zero, suc, ◌+◌, ◌-◌, ◌^◌, ◌≤◌, ◌<◌, List, [], ◌∷◌, refl, sym, ◌∙◌, ap, subst, arith, Bool, true, false}
+use Rattle.std.specs.Prelude.{Contains, slice_index_or, count_by, cond, if◌then◌else◌}
 use Rattle.std.specs.List.{range_with_len}
-use Rattle.std.specs.Str.{bytes_eq}
-use Rattle.std.specs.Cmp.Lexicographic.{same_text}
-use Rattle.std.proofs.lemmas.Bool.{cases_Bool, cases_lt}
-use Rattle.std.proofs.lemmas.List.{take_all, append-nil}
-use Rattle.pur_base.specs.Devices.{Sound, LeftOut, IsBearable, is_missing, is_sound, drive, nvram}
+use Rattle.std.proofs.lemmas.Bool.{cases_lt}
+use Rattle.pur_base.specs.Devices.{Sound, LeftOut, IsBearable, is_missing, drive, nvram}
 use Rattle.pur_base.specs.Plain.{Array}
 use Rattle.pur_base.specs.Commands.{Command, after_all}
-use Rattle.boot_codec.specs.declared.record.BootRecord.{BootRecord}
 use Rattle.boot_codec.specs.Record.{set_count}
 use Rattle.boot_codec.specs.Spelling.{spelling}
-use Rattle.boot_codec.specs.Region.{BootSlot, A, B, other_slot, body_in, shown_by, slot_of, generation_in, names, is_vote, Yields}
-use Rattle.log_codec.specs.Log.{ShowsIn}
-use Rattle.array_spec.specs.Standing.{Stands, MayBeGiven, MayAppear, IsReadInto}
-use Rattle.array_spec.specs.Laws.{IsHeld, is_sound_vote}
-use Rattle.array_spec.specs.Unflushed.{LogLies, NamesSound}
-use Rattle.array_spec.proofs.UnflushedRead.{unflushed_is_read}
-use Rattle.array_spec.proofs.Votes.{counted, one_is_effective, held_is_given}
-use Rattle.array_spec.proofs.Held.{held_stands}
-use Rattle.array_spec.proofs.Settling.{twice_other}
-use Rattle.array_spec.proofs.Spelled.{spells_one}
-use Rattle.world.specs.Shelf.{Shelved, Stop, MayStop, IsShelf}
+use Rattle.boot_codec.specs.Region.{slot_of, names}
+use Rattle.array_spec.proofs.Votes.{counted}
+use Rattle.world.specs.Shelf.{Shelved, IsShelf}
 use Rattle.world.specs.Losing.{geometry_of}
 use Rattle.boot_region.specs.Members.{IsMember}
-use Rattle.boot_region.specs.Storing.{Shows, IsOlder, IsInForceOn}
-use Rattle.boot_region.proofs.Composing.{as_it_is, is_sound_is}
-use Rattle.boot_region.proofs.ShownLemmas.{as_read, shown_body}
+use Rattle.boot_region.specs.Storing.{Shows, IsOlder}
 use Rattle.nvram_log.specs.Members as nv
 use Rattle.register.specs.declared.state.Register.{Register}
 use Rattle.register.specs.Registers.{drives_of, next_slot, named_sound}
 use Rattle.register.specs.Standing.{StandsInLog, IsOpen}
 use Rattle.register.proofs.FlagLemmas.{none_past, cut_in}
-
-votes_not : (o : Option (List ℕ)) (other : List ℕ) → ((x : List ℕ) → o ≡ Some x → bytes_eq x other ≡ false) → is_vote other o ≡ false
-votes_not None other all = refl
-votes_not (Some x) other all = all x refl
+use Rattle.register.proofs.Resting.{in_force, stands, alone}
 
 -- ---- counts
-
-count_none : (p : ℕ → Bool) (a n : ℕ) → ((i : ℕ) → a ≤ i → i < a + n → p i ≡ false) → count_by p (range_with_len a n) ≡ 0
-count_none p a zero all = refl
-count_none p a (suc n) all =
-    let first : p a ≡ false = all a (omega arith) (omega arith) in
-    let rest : count_by p (range_with_len (a + 1) n) ≡ 0 = count_none p (a + 1) n (λ i low lt. all i (omega (arith, low)) (omega (arith, lt))) in
-    rw (counted p a (range_with_len (a + 1) n)) (rw first (omega (arith, rest)))
 
 abbrev one_if : Bool → ℕ
 one_if b = cond b 1 0
@@ -117,10 +93,6 @@ not_missed : (b : Bool) → b ≡ true → is_missing (if b then Sound else Left
 not_missed true e = refl
 not_missed false e = absurd (cc e)
 
-pub yields_or : (s : BootSlot) (a b : ℕ) → Yields s a b ⊎ (Yields s a b → ⊥)
-yields_or A a b = elim (cases_lt b a) [ inl lt ↦ inr (λ le. omega (arith, lt, le)) | inr ge ↦ inl ge ]
-yields_or B a b = elim (cases_lt a b) [ inl lt ↦ inl lt | inr ge ↦ inr (λ lt. omega (arith, lt, ge)) ]
-
 module _ (shelf : Shelved) (is : IsShelf shelf) (r : Register) (nvrams : List Bool) (log : List Command)
     (logged : StandsInLog shelf r nvrams log) (drives : r.record.members.drives ≡ r.drives) (nvrams_are : r.record.members.nvrams ≡ nvrams)
     (enough : r.record.slots ≤ set_count r.drives + 2) (not_spent : r.record.generation < 2 ^ 48 - 8) (some : nv.IsSome nvrams)
@@ -162,107 +134,11 @@ module _ (shelf : Shelved) (is : IsShelf shelf) (r : Register) (nvrams : List Bo
         ]);
       }
 
-  one : (n : ℕ) × (n < 2) × nv.IsMember nvrams n
-  one = elim some [ inl m ↦ (0, omega arith, m) | inr m ↦ (1, omega arith, m) ]
+  nv_sound : (n : ℕ) → n < 2 → named_sound r.record (nvram n) ≡ Sound → nv.IsMember nvrams n
+  nv_sound n lt e = nvram_named n (is_named (names r.record (nvram n)) e)
 
-  module _ (stop : Stop) (may : MayStop shelf stop) where
-    drive_is : (i : ℕ) → IsMember (drives_of r) i → stop.image (drive i) ≡ (shelf.disk (drive i)).bytes
-    drive_is i m = as_read (shelf.disk (drive i)) (stop.image (drive i)) (shown i m).clean (may.device (drive i))
-
-    nvram_is : (n : ℕ) → n < 2 → nv.IsMember nvrams n → stop.image (nvram n) ≡ (shelf.disk (nvram n)).bytes
-    nvram_is n lt m = as_read (shelf.disk (nvram n)) (stop.image (nvram n)) (logged.holds.clean n lt m) (may.device (nvram n))
-
-    shows : (i : ℕ) → i < shelf.drives → named_sound r.record (drive i) ≡ Sound → shown_by (slot_of r.record.generation) (stop.image (drive i)) ≡ Some (spelling r.record)
-    shows i lt s = let m = sound_in i s in ap (shown_by (slot_of r.record.generation)) (drive_is i m) ∙ (shown i m).shown
-
-    -- what a drive shows in the other slot is older
-    no_vote : (other : List ℕ) → (Yields (slot_of r.record.generation) (generation_in other) (generation_in (spelling r.record)) → ⊥)
-        → (i : ℕ) → is_sound_vote stop.image (named_sound r.record) (next_slot r.record) other i ≡ false
-    no_vote other newer i = elim (cases_Bool (is_sound (named_sound r.record (drive i)))) [
-      | inr unsound ↦ rw unsound refl
-      | inl s ↦
-          let m = sound_in i (is_sound_is (named_sound r.record (drive i)) s) in
-          rw s (votes_not (shown_by (next_slot r.record) (stop.image (drive i))) other (λ x e. differs x m
-          (sym (shown_body (next_slot r.record) (stop.image (drive i)) x e) ∙ ap (body_in (next_slot r.record)) (drive_is i m))))
-    ]
-      where
-        differs : (x : List ℕ) → IsMember (drives_of r) i → x ≡ body_in (next_slot r.record) (shelf.disk (drive i)).bytes → bytes_eq x other ≡ false
-        differs x m e = elim (cases_Bool (bytes_eq x other)) [
-          | inr no_same ↦ no_same
-          | inl same ↦
-              let is_x : Yields (slot_of r.record.generation) (generation_in x) (generation_in (spelling r.record)) =
-              subst (λ (t : BootSlot). Yields t (generation_in x) (generation_in (spelling r.record))) (twice_other (slot_of r.record.generation))
-              (subst (λ (l : List ℕ). Yields (other_slot (next_slot r.record)) (generation_in l) (generation_in (spelling r.record))) (sym e) (older i m)) in
-              absurd (newer (subst (λ (l : List ℕ). Yields (slot_of r.record.generation) (generation_in l) (generation_in (spelling r.record))) (same_text x other (sym same)) is_x))
-        ]
-
-    few : (other : List ℕ) → Yields (slot_of r.record.generation) (generation_in other) (generation_in (spelling r.record))
-        ⊎ (2 * (count_by (is_sound_vote stop.image (named_sound r.record) (next_slot r.record) other) (range_with_len 0 shelf.drives) + 2) ≤ shelf.drives)
-    few other = elim (yields_or (slot_of r.record.generation) (generation_in other) (generation_in (spelling r.record))) [
-      | inl yields ↦ inl yields
-      | inr newer ↦
-          let none = count_none (is_sound_vote stop.image (named_sound r.record) (next_slot r.record) other) 0 shelf.drives (λ i low lt. no_vote other newer i) in
-          inr (omega (arith, none, is.drives.0))
-    ]
-
-    held : IsHeld (geometry_of shelf) stop.image (named_sound r.record) (slot_of r.record.generation) (spelling r.record)
-    held = record { shown = shows; few = few }
-
-    given : MayBeGiven (geometry_of shelf) stop.image (named_sound r.record) (slot_of r.record.generation) r.record
-    given =
-        let a : MayAppear (geometry_of shelf) stop.image (named_sound r.record) (named_sound r.record) (λ k. Some (stop.image k)) = record { within = as_it_is (named_sound r.record); bearable = bearable; shown = λ k s. refl } in
-        record {
-          more = named_sound r.record;
-          view = λ k. Some (stop.image k);
-          appears = a;
-          lawful = logged.is_of.lawful;
-          effective = held_is_given (geometry_of shelf) stop.image (named_sound r.record) (named_sound r.record) (λ k. Some (stop.image k)) (slot_of r.record.generation) (spelling r.record) is.drives.0 held a;
-        }
-
-    lies : LogLies stop.image (named_sound r.record) r.record log log
-    lies = record {
-      front = ([], sym (append-nil log));
-      room = (logged.holds.log one.0 one.1 one.2).room;
-      lawful = λ i c at. ((logged.holds.log one.0 one.1 one.2).between.all i c at).spelled.lawful;
-      all = λ n i c lt s at.
-          let m = nvram_named n (is_named (names r.record (nvram n)) s) in
-          subst (λ (b : List ℕ). ShowsIn b r.record.flushed i c) (sym (nvram_is n lt m)) ((logged.holds.log n lt m).between.all i c at);
-      no_other = λ n i c lt named x.
-          let m = nvram_named n named in
-          (logged.holds.log n lt m).between.no_other i c (subst (λ (b : List ℕ). ShowsIn b r.record.flushed i c) (nvram_is n lt m) x);
-      left_out = λ n lt out. is_left (names r.record (nvram n)) out;
-    }
-
-    names_sound : NamesSound (geometry_of shelf) stop.image (named_sound r.record) (slot_of r.record.generation) r.record
-    names_sound = record {
-      named = λ d on s. is_named (names r.record d) s;
-      written = λ i lt s. shown_body (slot_of r.record.generation) (stop.image (drive i)) (spelling r.record) (shows i lt s);
-    }
-
-    all_of_it : (n : ℕ) → length log ≤ n → n ≤ length log → Contains (after_all [] log ∷ []) (after_all [] (take n log))
-    all_of_it n low high = subst (λ (l : List Command). Contains (after_all [] log ∷ []) (after_all [] l)) (sym (take_all n log low)) (in_only (after_all [] log))
-
-    is_read : IsReadInto (geometry_of shelf) stop.image (named_sound r.record) (slot_of r.record.generation) r.record (after_all [] log ∷ [])
-    is_read = (unflushed_is_read (geometry_of shelf) stop.image (named_sound r.record) (slot_of r.record.generation) r.record log log (after_all [] log ∷ [])
-        logged.is_of.lawful logged.patches (record { in_its_slot = refl; not_spent = not_spent }) names_sound logged.accepted lies all_of_it).0
-
-    stands : Stands (geometry_of shelf) stop.image (named_sound r.record) (after_all [] log ∷ [])
-    stands = held_stands (geometry_of shelf) stop.image (named_sound r.record) (slot_of r.record.generation) r.record (after_all [] log ∷ []) is.drives.0 bearable (λ e. cc e) logged.is_of.lawful held is_read
-
-    alone : (slot2 : BootSlot) (boot2 : BootRecord) → MayBeGiven (geometry_of shelf) stop.image (named_sound r.record) slot2 boot2 → (slot2 ≡ slot_of r.record.generation) × (boot2 ≡ r.record)
-    alone slot2 boot2 g =
-        let mine = held_is_given (geometry_of shelf) stop.image (named_sound r.record) g.more g.view (slot_of r.record.generation) (spelling r.record) is.drives.0 held g.appears in
-        let both = one_is_effective (geometry_of shelf) g.view slot2 (slot_of r.record.generation) (spelling boot2) (spelling r.record) g.effective mine in
-        (both.0, spells_one (geometry_of shelf) boot2 r.record g.lawful logged.is_of.lawful both.1)
-
-  in_force : IsInForceOn shelf (drives_of r) (named_sound r.record) (next_slot r.record) r.record
-  in_force = record {
-    lawful = logged.is_of.lawful;
-    sound = λ i lt s. sound_in i s;
-    clean = λ i m s. (shown i m).clean;
-    shown = λ i m s. subst (λ (t : BootSlot). shown_by t (shelf.disk (drive i)).bytes ≡ Some (spelling r.record)) (sym (twice_other (slot_of r.record.generation))) (shown i m).shown;
-    given = λ start may. subst (λ (t : BootSlot). MayBeGiven (geometry_of shelf) start.image (named_sound r.record) t r.record) (sym (twice_other (slot_of r.record.generation))) (given start may);
-  }
+  left : (n : ℕ) → named_sound r.record (nvram n) ≡ LeftOut → nv.IsMember nvrams n → ⊥
+  left n out m = absurd (cc (is_left (names r.record (nvram n)) out, named_nvram n m))
 
   pub is_open : IsOpen shelf r nvrams log
   is_open = record {
@@ -270,8 +146,8 @@ module _ (shelf : Shelved) (is : IsShelf shelf) (r : Register) (nvrams : List Bo
     drives = drives;
     nvrams_are = nvrams_are;
     bearable = bearable;
-    in_force = in_force;
+    in_force = in_force shelf is r nvrams log (after_all [] log ∷ []) (in_only (after_all [] log)) logged nvrams_are not_spent some shown older (named_sound r.record) bearable (λ i lt s. sound_in i s) nv_sound left;
     older = λ i m s. older i m;
-    stands = stands;
-    alone = λ stop slot2 boot2 may g. alone stop may slot2 boot2 g;
+    stands = stands shelf is r nvrams log (after_all [] log ∷ []) (in_only (after_all [] log)) logged nvrams_are not_spent some shown older (named_sound r.record) bearable (λ i lt s. sound_in i s) nv_sound left;
+    alone = λ stop slot2 boot2 may g. alone shelf is r nvrams log (after_all [] log ∷ []) (in_only (after_all [] log)) logged nvrams_are not_spent some shown older (named_sound r.record) bearable (λ i lt s. sound_in i s) nv_sound left stop may slot2 boot2 g;
   }

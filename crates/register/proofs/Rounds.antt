@@ -10,25 +10,27 @@ use Rattle.boot_codec.specs.declared.record.BootRecord.{BootRecord}
 use Rattle.boot_codec.specs.Record.{IsBootRecord, set_count}
 use Rattle.boot_codec.specs.Spelling.{spelling}
 use Rattle.boot_codec.specs.Region.{BootSlot, A, B, IsRecordOf, other_slot, body_in, body_place, generation_in, Yields}
+use Rattle.array_spec.specs.Standing.{MayBeGiven}
 use Rattle.array_spec.proofs.Quiet.{bytes_same}
 use Rattle.array_spec.proofs.Votes.{counted, sound_before}
 use Rattle.array_spec.proofs.Settling.{twice_other}
-use Rattle.world.specs.Shelf.{Shelved, Disk, IsShelf, Continues, LeavesOnly}
+use Rattle.world.specs.Shelf.{Shelved, Disk, Stop, IsShelf, Continues, LeavesOnly}
 use Rattle.world.specs.Losing.{geometry_of}
 use Rattle.world.specs.Writes.{WritesOnly, ChangesOnly}
 use Rattle.world.proofs.Moments.{weaker}
 use Rattle.world.proofs.Writes.{writes_more}
 use Rattle.boot_region.specs.Members.{IsMember, NonMembersStay, DroppedFailed, OnSlot}
-use Rattle.boot_region.specs.Storing.{Shows, GivesOldOrNew, IsOlder, IsInForceOn, IsNewer, IsStoredIn, MayFollow, StandsBut}
+use Rattle.boot_region.specs.Storing.{Shows, IsInStore, HeldStill, IsOlder, IsInForceOn, IsNewer, IsStoredIn, MayFollow, StandsBut}
 use Rattle.boot_region.proofs.ShownLemmas.{shown_body}
 use Rattle.nvram_log.specs.Members as nv
 use Rattle.nvram_log.specs.Held.{HoldsOn}
 use Rattle.nvram_log.specs.Slots.{IsLog}
 use Rattle.register.specs.declared.state.Register.{Register}
 use Rattle.register.specs.Registers.{IsRegisterOf, OnSlots, drives_of, own_slot, next_slot, next_record}
-use Rattle.register.specs.Standing.{IsNextOf, GivesOldOrNext, StandsInLog, MayStore, MayStoreAgain}
+use Rattle.register.specs.Standing.{IsNextOf, GivesOldOrNext, IsInStoreOf, StillGiven, StandsInLog, MayStore, MayStoreAgain}
 use Rattle.register.proofs.FlagLemmas.{fewer_mask, in_cut, cut_in}
 use Rattle.register.proofs.Numbers.{generation_spelled, next_other, lower_yields}
+use Rattle.register.proofs.Back.{is_next_of, stands_back}
 use Rattle.register.proofs.Follows.{may_follow, left_before}
 
 -- ---- the next record is lawful
@@ -81,10 +83,7 @@ pub record Puts (old new : Shelved) (now : Register) (members : List Bool) (slot
   pub others : NonMembersStay members old new
   pub shown : old.honest → (i : ℕ) → IsMember (drives_of now) i → Shows new slot body i
   pub writes : old.honest → WritesOnly (OnSlot members slot) old new
-  pub any_moment : old.honest → (missing : Conditions) (held boot : BootRecord) (arrays : List Array) → body ≡ spelling boot → IsInForceOn old members missing slot held → MayFollow old missing slot boot arrays
-      → LeavesOnly old new (StandsBut old members missing slot held arrays)
-  pub gives : old.honest → (missing : Conditions) (held boot : BootRecord) (arrays : List Array) → body ≡ spelling boot → IsInForceOn old members missing slot held → MayFollow old missing slot boot arrays
-      → LeavesOnly old new (GivesOldOrNew old members missing slot held boot)
+  pub moments : old.honest → LeavesOnly old new (IsInStore old members slot body)
   pub stored : old.honest → (missing : Conditions) (held boot : BootRecord) (arrays : List Array) → body ≡ spelling boot → IsNewer slot held boot → IsInForceOn old members missing slot held → MayFollow old missing slot boot arrays
       → IsStoredIn old new members (drives_of now) missing slot held boot arrays
 
@@ -180,22 +179,14 @@ module _ (old new : Shelved) (is_old : IsShelf old) (on : Continues old new) (wa
     follow = may_follow old is_old was.record (drives_of was) was.drives nvrams missing log arrays is_of.lawful next_lawful_of not_spent may.logged.patches among some
         may.logged.holds may.logged.accepted may.in_force may.stands may.one_of may.sound may.left_out
 
-    pub moments_next : LeavesOnly old new (StandsBut old (drives_of was) missing (next_slot was.record) was.record arrays)
-    moments_next = puts.any_moment h missing was.record (next_record was.record was.drives nvrams) arrays refl may.in_force follow
+    stands_next : (stop : Stop) → IsInStore old (drives_of was) (next_slot was.record) (spelling (next_record was.record was.drives nvrams)) stop → StandsBut old (drives_of was) missing (next_slot was.record) was.record arrays stop
+    stands_next stop at = at.stands missing was.record (next_record was.record was.drives nvrams) arrays refl may.in_force follow
 
-    next_of : IsNextOf was nvrams (next_record was.record was.drives nvrams)
-    next_of = record {
-      later = record { generation = omega arith; rest = refl };
-      generation = omega arith;
-      nvrams_are = refl;
-      drives = λ i m. m;
-    }
-
-    pub gives_next : LeavesOnly old new (GivesOldOrNext old was nvrams missing)
-    gives_next = weaker (λ stop all. λ later account slot boot g. elim (all later account slot boot g) [
-      | inl e ↦ inr (subst (λ (b : BootRecord). IsNextOf was nvrams b) (sym e.1) next_of)
+    gives_next : (stop : Stop) → IsInStore old (drives_of was) (next_slot was.record) (spelling (next_record was.record was.drives nvrams)) stop → GivesOldOrNext old was nvrams missing stop
+    gives_next stop at later account slot boot g = elim (at.gives missing was.record (next_record was.record was.drives nvrams) arrays refl may.in_force follow later account slot boot g) [
+      | inl e ↦ inr (subst (λ (b : BootRecord). IsNextOf was nvrams b) (sym e.1) (is_next_of was nvrams))
       | inr given ↦ inl given
-    ]) (puts.gives h missing was.record (next_record was.record was.drives nvrams) arrays refl may.in_force follow)
+    ]
 
     pub again_next : MayStoreAgain old new was now nvrams missing log arrays
     again_next later account =
@@ -209,3 +200,25 @@ module _ (old new : Shelved) (is_old : IsShelf old) (on : Continues old new) (wa
           sound = λ n lt e. may.sound n lt (sound_before (missing (nvram n)) (later (nvram n)) (account.within (nvram n)) e);
           left_out = λ n e m. may.left_out n (left_before (missing (nvram n)) (later (nvram n)) (account.within (nvram n)) e) m;
         }
+
+  -- at each moment, whatever the conditions
+  module _ (h : old.honest) (not_spent : was.record.generation + 1 < 2 ^ 48 - 8) where
+    still_next : (log : List Command) (stop : Stop) → HeldStill old (drives_of was) (next_slot was.record) stop → StillGiven old was nvrams log stop
+    still_next log stop still missing arrays may later account given =
+        subst (λ (t : BootSlot). MayBeGiven (geometry_of old) stop.image later t was.record) (twice_other (own_slot was.record))
+        (still missing was.record may.in_force later account (λ start m. subst (λ (t : BootSlot). MayBeGiven (geometry_of old) start.image later t was.record) (sym (twice_other (own_slot was.record))) (given start m)))
+
+    in_store_next : (stop : Stop) → IsInStore old (drives_of was) (next_slot was.record) (spelling (next_record was.record was.drives nvrams)) stop → IsInStoreOf old was nvrams stop
+    in_store_next stop at = record {
+      stands = λ missing log arrays may. stands_next h not_spent missing log arrays may stop at;
+      gives = λ missing log arrays may. gives_next h not_spent missing log arrays may stop at;
+      back = λ log logged shows. elim at.phase [
+        | inl still ↦ inl (still_next log stop still)
+        | inr opening ↦ inr (record {
+          each = λ missing arrays may back m. stands_back old is_old was nvrams log some lawful not_spent shows stop opening missing arrays may back m;
+        })
+      ];
+    }
+
+    pub moments_next : LeavesOnly old new (IsInStoreOf old was nvrams)
+    moments_next = weaker in_store_next (puts.moments h)

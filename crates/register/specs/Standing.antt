@@ -1,16 +1,16 @@
 -- An array that stands in its log alone, by the record in the register.
-use Rattle.std.specs.Prelude.{◌≡◌, ◌⊎◌, ℕ, ◌<◌, List, [], ◌∷◌, Bool, Contains}
+use Rattle.std.specs.Prelude.{◌≡◌, ◌⊎◌, ℕ, ◌<◌, List, [], ◌∷◌, Bool, true, false, Contains}
 use Rattle.pur_base.specs.Devices.{Conditions, Sound, LeftOut, IsBearable, drive, nvram}
 use Rattle.pur_base.specs.Plain.{Array}
 use Rattle.pur_base.specs.Commands.{Command, AllAccepted, after_all}
 use Rattle.boot_codec.specs.declared.record.BootRecord.{BootRecord}
-use Rattle.boot_codec.specs.Region.{BootSlot, body_in}
+use Rattle.boot_codec.specs.Region.{BootSlot, body_in, names}
 use Rattle.boot_codec.specs.Spelling.{spelling}
-use Rattle.array_spec.specs.Standing.{MayBeGiven}
+use Rattle.array_spec.specs.Standing.{MayBeGiven, Stands}
 use Rattle.world.specs.Shelf.{Shelved, Stop, MayStop}
-use Rattle.world.specs.Losing.{geometry_of}
+use Rattle.world.specs.Losing.{geometry_of, has_risen}
 use Rattle.boot_region.specs.Members.{IsMember}
-use Rattle.boot_region.specs.Storing.{WasGiven, StandsNow, IsInForceOn, AreOlder, AccountsFor}
+use Rattle.boot_region.specs.Storing.{Shows, WasGiven, StandsNow, StandsBut, IsInForceOn, AreOlder, AccountsFor}
 use Rattle.nvram_log.specs.Held.{HoldsOn}
 use Rattle.nvram_log.specs.Members as nv
 use Rattle.register.specs.declared.state.Register.{Register}
@@ -52,6 +52,39 @@ abbrev pub GivesOldOrNext : Shelved → Register → List Bool → Conditions �
 GivesOldOrNext old r nvrams missing stop = (later : Conditions)
     → AccountsFor old (drives_of r) missing (next_slot r.record) (spelling r.record) stop.faults stop.write_faults later
     → (slot : BootSlot) (boot : BootRecord) → MayBeGiven (geometry_of old) stop.image later slot boot → WasGiven old missing slot boot ⊎ IsNextOf r nvrams boot
+
+-- The record may be given still, in conditions that tell what has failed by then, where it might be when the store began.
+abbrev pub StillGiven : Shelved → Register → List Bool → List Command → Stop → Type 0
+StillGiven old r nvrams log stop = (missing : Conditions) (arrays : List Array) → MayStore old r nvrams missing log arrays
+    → (later : Conditions) → AccountsFor old (drives_of r) missing (next_slot r.record) (spelling r.record) stop.faults stop.write_faults later
+    → ((start : Stop) → MayStop old start → MayBeGiven (geometry_of old) start.image later (own_slot r.record) r.record)
+    → MayBeGiven (geometry_of old) stop.image later (own_slot r.record) r.record
+
+-- Conditions in which each drive that is sound was a member, and no call on it has failed since; and each such NVRAM device is one that the record and the next one name.
+pub record AreOfMembers (old : Shelved) (r : Register) (nvrams : List Bool) (missing : Conditions) (stop : Stop) (back : Conditions) : Type 0 where
+  pub bearable : IsBearable (geometry_of old) back
+  pub on_drives : (i : ℕ) → i < old.drives → back (drive i) ≡ Sound → IsMember (drives_of r) i × (has_risen (old.disk (drive i)).faults (stop.faults (drive i)) ≡ false)
+  pub on_nvram : (n : ℕ) → n < 2 → back (nvram n) ≡ Sound → nv.IsMember nvrams n × (names r.record (nvram n) ≡ true)
+  pub left_out : (n : ℕ) → back (nvram n) ≡ LeftOut → (nv.IsMember nvrams n → ⊥) × (names r.record (nvram n) ≡ false)
+  -- one that the record names, and the next one doesn't, is as it was
+  pub dropped : (n : ℕ) → n < 2 → names r.record (nvram n) ≡ true → (nv.IsMember nvrams n → ⊥) → back (nvram n) ≡ missing (nvram n)
+
+-- the devices stand for the arrays in all such conditions, and what may be given is the record or a next one
+pub record StandsBack (old : Shelved) (r : Register) (nvrams : List Bool) (log : List Command) (stop : Stop) : Type 0 where
+  pub each : (missing : Conditions) (arrays : List Array) → MayStore old r nvrams missing log arrays → (back : Conditions) → AreOfMembers old r nvrams missing stop back
+      → Stands (geometry_of old) stop.image back arrays × ((slot : BootSlot) (boot : BootRecord) → MayBeGiven (geometry_of old) stop.image back slot boot → (boot ≡ r.record) ⊎ IsNextOf r nvrams boot)
+
+-- each of the drives shows the record, and nothing of it is dirty
+abbrev pub AllShow : Shelved → Register → Type 0
+AllShow shelf r = (i : ℕ) → IsMember (drives_of r) i → Shows shelf (own_slot r.record) (spelling r.record) i
+
+-- a stop in a store, whatever the conditions of the devices
+pub record IsInStoreOf (old : Shelved) (r : Register) (nvrams : List Bool) (stop : Stop) : Type 0 where
+  pub stands : (missing : Conditions) (log : List Command) (arrays : List Array) → MayStore old r nvrams missing log arrays
+      → StandsBut old (drives_of r) missing (next_slot r.record) r.record arrays stop
+  pub gives : (missing : Conditions) (log : List Command) (arrays : List Array) → MayStore old r nvrams missing log arrays → GivesOldOrNext old r nvrams missing stop
+  -- the record in force isn't superseded yet, or the devices stand for the arrays by it and the next one, or by later ones
+  pub back : (log : List Command) → StandsInLog old r nvrams log → AllShow old r → StillGiven old r nvrams log stop ⊎ StandsBack old r nvrams log stop
 
 -- a record that may be given is this one
 abbrev pub IsAlone : Shelved → Conditions → BootSlot → BootRecord → Type 0

@@ -10,7 +10,7 @@ ghost use Rattle.world.specs.Losing.{geometry_of};
 ghost use Rattle.world.specs.Shelf.{Continues, LeavesOnly};
 ghost use Rattle.world.specs.Writes.{WritesOnly};
 ghost use Rattle.boot_region.specs.Members.{IsMember, NonMembersStay, DroppedFailed, OnSlot};
-ghost use Rattle.boot_region.specs.Storing.{Shows, GivesOldOrNew, IsOlder, IsInForceOn, IsNewer, IsStoredIn, MayFollow, StandsBut};
+ghost use Rattle.boot_region.specs.Storing.{Shows, IsInStore, IsOlder, IsInForceOn, IsNewer, IsStoredIn, MayFollow, StandsBut};
 ghost use Rattle.nvram_log.specs.Members.{IsSome};
 
 use crate::slots::slot_for;
@@ -21,7 +21,7 @@ use world::Shelf;
 impl Register {
     ghost use Rattle.register.specs.Faults.{IsFaultOf};
     ghost use Rattle.register.specs.Registers.{IsRegisterOf, IsLaterRecord, OnSlots, drives_of, next_record, own_slot, next_slot};
-    ghost use Rattle.register.specs.Standing.{GivesOldOrNext, StandsInLog, MayStore, MayStoreAgain, IsOpen};
+    ghost use Rattle.register.specs.Standing.{AllShow, GivesOldOrNext, IsInStoreOf, StandsBack, StandsInLog, StillGiven, MayStore, MayStoreAgain, IsOpen};
 
     /// Stores the record as it is spelled, on the drives that are left. Those on which it fails are dropped.
     fn put<S: Shelf>(&mut self, shelf: &mut S)
@@ -36,12 +36,7 @@ impl Register {
         ensures others { NonMembersStay (drives_of self.old) (S.shelf shelf.old) (S.shelf shelf.new) }
         ensures shown { (S.shelf shelf.old).honest → (i : ℕ) → IsMember (drives_of self.new) i → Shows (S.shelf shelf.new) (own_slot self.old.record) self.old.body.items i }
         ensures writes { (S.shelf shelf.old).honest → WritesOnly (OnSlot (drives_of self.old) (own_slot self.old.record)) (S.shelf shelf.old) (S.shelf shelf.new) }
-        ensures any_moment { (S.shelf shelf.old).honest → (missing : Conditions) (held boot : BootRecord) (arrays : List Array)
-            → self.old.body.items ≡ spelling boot → IsInForceOn (S.shelf shelf.old) (drives_of self.old) missing (own_slot self.old.record) held → MayFollow (S.shelf shelf.old) missing (own_slot self.old.record) boot arrays
-            → LeavesOnly (S.shelf shelf.old) (S.shelf shelf.new) (StandsBut (S.shelf shelf.old) (drives_of self.old) missing (own_slot self.old.record) held arrays) }
-        ensures gives { (S.shelf shelf.old).honest → (missing : Conditions) (held boot : BootRecord) (arrays : List Array)
-            → self.old.body.items ≡ spelling boot → IsInForceOn (S.shelf shelf.old) (drives_of self.old) missing (own_slot self.old.record) held → MayFollow (S.shelf shelf.old) missing (own_slot self.old.record) boot arrays
-            → LeavesOnly (S.shelf shelf.old) (S.shelf shelf.new) (GivesOldOrNew (S.shelf shelf.old) (drives_of self.old) missing (own_slot self.old.record) held boot) }
+        ensures moments { (S.shelf shelf.old).honest → LeavesOnly (S.shelf shelf.old) (S.shelf shelf.new) (IsInStore (S.shelf shelf.old) (drives_of self.old) (own_slot self.old.record) self.old.body.items) }
         ensures stored { (S.shelf shelf.old).honest → (missing : Conditions) (held boot : BootRecord) (arrays : List Array)
             → self.old.body.items ≡ spelling boot → IsNewer (own_slot self.old.record) held boot → IsInForceOn (S.shelf shelf.old) (drives_of self.old) missing (own_slot self.old.record) held → MayFollow (S.shelf shelf.old) missing (own_slot self.old.record) boot arrays
             → IsStoredIn (S.shelf shelf.old) (S.shelf shelf.new) (drives_of self.old) (drives_of self.new) missing (own_slot self.old.record) held boot arrays }
@@ -77,12 +72,7 @@ impl Register {
         ensures shown { (S.shelf shelf.old).honest → OnOk result ((i : ℕ) → IsMember (drives_of self.new) i → Shows (S.shelf shelf.new) (own_slot self.new.record) (spelling self.new.record) i) }
         ensures older { (S.shelf shelf.old).honest → OnOk result ((log : List Command) → StandsInLog (S.shelf shelf.old) self.old nvrams log
             → (i : ℕ) → IsMember (drives_of self.new) i → IsOlder (S.shelf shelf.new) (next_slot self.new.record) (spelling self.new.record) i) }
-        ensures any_moment { (S.shelf shelf.old).honest → self.new.record.generation < 2 ^ 48 - 8 → (missing : Conditions) (log : List Command) (arrays : List Array)
-            → MayStore (S.shelf shelf.old) self.old nvrams missing log arrays
-            → LeavesOnly (S.shelf shelf.old) (S.shelf shelf.new) (StandsBut (S.shelf shelf.old) (drives_of self.old) missing (next_slot self.old.record) self.old.record arrays) }
-        ensures gives { (S.shelf shelf.old).honest → self.new.record.generation < 2 ^ 48 - 8 → (missing : Conditions) (log : List Command) (arrays : List Array)
-            → MayStore (S.shelf shelf.old) self.old nvrams missing log arrays
-            → LeavesOnly (S.shelf shelf.old) (S.shelf shelf.new) (GivesOldOrNext (S.shelf shelf.old) self.old nvrams missing) }
+        ensures moments { (S.shelf shelf.old).honest → self.new.record.generation < 2 ^ 48 - 8 → LeavesOnly (S.shelf shelf.old) (S.shelf shelf.new) (IsInStoreOf (S.shelf shelf.old) self.old nvrams) }
         // Then it may be stored again.
         ensures again { (S.shelf shelf.old).honest → self.new.record.generation < 2 ^ 48 - 8 → OnOk result ((missing : Conditions) (log : List Command) (arrays : List Array) → MayStore (S.shelf shelf.old) self.old nvrams missing log arrays
             → MayStoreAgain (S.shelf shelf.old) (S.shelf shelf.new) self.old self.new nvrams missing log arrays) }
@@ -122,6 +112,8 @@ impl Register {
         ensures fault { IfErr result (λ e. IsFaultOf self.new e) }
         // The bytes of the record stand on the drives that are left, whatever the result.
         ensures logged { (S.shelf shelf.old).honest → (log : List Command) → StandsInLog (S.shelf shelf.old) self.old nvrams log → StandsInLog (S.shelf shelf.new) self.new nvrams log }
+        // What is so at every moment, whatever the conditions of the devices.
+        ensures moments { (S.shelf shelf.old).honest → self.new.record.generation < 2 ^ 48 - 8 → LeavesOnly (S.shelf shelf.old) (S.shelf shelf.new) (IsInStoreOf (S.shelf shelf.old) self.old nvrams) }
         // At every moment the devices stand for the arrays for which they stood, as long as each record that is stored leaves room for later ones.
         ensures any_moment { (S.shelf shelf.old).honest → self.new.record.generation < 2 ^ 48 - 8 → (missing : Conditions) (log : List Command) (arrays : List Array)
             → MayStore (S.shelf shelf.old) self.old nvrams missing log arrays
@@ -130,6 +122,10 @@ impl Register {
         ensures gives { (S.shelf shelf.old).honest → self.new.record.generation < 2 ^ 48 - 8 → (missing : Conditions) (log : List Command) (arrays : List Array)
             → MayStore (S.shelf shelf.old) self.old nvrams missing log arrays
             → LeavesOnly (S.shelf shelf.old) (S.shelf shelf.new) (GivesOldOrNext (S.shelf shelf.old) self.old nvrams missing) }
+        // While the record before isn't superseded it may be given still. Then the devices stand for the arrays also where members are back that were missing.
+        ensures back { (S.shelf shelf.old).honest → self.new.record.generation < 2 ^ 48 - 8 → (log : List Command)
+            → StandsInLog (S.shelf shelf.old) self.old nvrams log → AllShow (S.shelf shelf.old) self.old
+            → LeavesOnly (S.shelf shelf.old) (S.shelf shelf.new) (λ stop. StillGiven (S.shelf shelf.old) self.old nvrams log stop ⊎ StandsBack (S.shelf shelf.old) self.old nvrams log stop) }
         // Then the record is in force, and the devices stand for the array of the log.
         ensures stored { (S.shelf shelf.old).honest → self.new.record.generation < 2 ^ 48 - 8 → (log : List Command) → StandsInLog (S.shelf shelf.old) self.old nvrams log → OnOk result (IsOpen (S.shelf shelf.new) self.new nvrams log) }
     {

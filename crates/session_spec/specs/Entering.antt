@@ -93,11 +93,16 @@ pub record IsTakenOver (shelf : Geometry) (image : Image) (found : Found shelf i
 abbrev pub IsStoredSince : {shelf : Geometry} {image : Image} → Found shelf image → Stop → Conditions → Type 0
 IsStoredSince {shelf} found stop now = (slot : BootSlot) (boot : BootRecord) → MayBeGiven shelf stop.image now slot boot → found.effective.boot.generation < boot.generation
 
+-- So it comes out, or it's one that the record names but that doesn't hold its body: it may be missing still, with no mark, while that record may be given again.
+abbrev pub ComesBack : {shelf : Geometry} {image : Image} → Found shelf image → (Device → Bool) → Conditions → Device → Type 0
+ComesBack found failed after d =
+    ComesOut found failed after d ⊎ ((after d ≢ Sound) × (names found.effective.boot d ≡ true) × (members_view found.view found.effective d ≡ None))
+
 -- Then, once each device has shown what was found, the devices that it found as members are back: the devices stand for the arrays though others have gone missing.
 abbrev pub AreBack : (old : Shelved) → Found (geometry_of old) (read_now old).image → Conditions → List Array → Stop → Type 0
 AreBack old found missing arrays stop = IsBearable (geometry_of old) (failed_by old stop missing)
     → OnlyFailedAreSilent (has_failed (read_now old) stop) found.view → IsStoredSince found stop (failed_by old stop missing)
-    → (after : Conditions) × IsTakenOver (geometry_of old) (read_now old).image found (has_failed (read_now old) stop) after
+    → (after : Conditions) × ((d : Device) → IsOn (geometry_of old) d → ComesBack found (has_failed (read_now old) stop) after d)
     × (IsBearable (geometry_of old) after → IsStanding (geometry_of old) stop.image after arrays)
 
 -- nothing was stored: no record may be given that couldn't be at the entry

@@ -112,15 +112,31 @@ one_more a cs i c b b2 at was is =
     subst (λ (n : ℕ). AllAccepted a (take n cs) × (b2 ≡ after_all a (take n cs))) e
     (accept_more a cs i c at was.0 (subst (λ (x : Array). Accepts x c) was.1 is.0), is.1 ∙ ap (λ (x : Array). after x c) was.1 ∙ sym (after_more a cs i c at))
 
-pub stopped : (a : Array) (cs : List Command) (i : ℕ) (c : Command) (b b2 : Array) → slice_get cs i ≡ Some c → AllAccepted a (take i cs) × (b ≡ after_all a (take i cs)) → IsApplied b c false b2 → IsReplayed a cs i b2
-stopped a cs i c b b2 at was is = record {
+-- those that are applied are of forms in force
+pub in_force_more : (cs : List Command) (i : ℕ) (c : Command) (r : Request) → slice_get cs i ≡ Some c → r ≡ c.request → is_in_force r ≡ true → AllByRecursion (λ d. is_in_force d.request ≡ true) (take i cs)
+    → AllByRecursion (λ d. is_in_force d.request ≡ true) (take (i + 1) cs)
+in_force_more cs i c r at same fine all =
+    let e : suc i ≡ i + 1 = omega arith in
+    subst (λ (n : ℕ). AllByRecursion (λ d. is_in_force d.request ≡ true) (take n cs)) e (one_of cs i at all)
+  where
+    one_of : (ds : List Command) (k : ℕ) → slice_get ds k ≡ Some c → AllByRecursion (λ d. is_in_force d.request ≡ true) (take k ds) → AllByRecursion (λ d. is_in_force d.request ≡ true) (take (suc k) ds)
+    one_of [] k there all_of = absurd (cc there)
+    one_of (d ∷ ds) zero there all_of = let is : c ≡ d = cc there in (subst (λ (x : Command). is_in_force x.request ≡ true) is (subst (λ (x : Request). is_in_force x ≡ true) same fine), tt)
+    one_of (d ∷ ds) (suc k) there all_of = (all_of.0, one_of ds k there all_of.1)
+
+pub stopped : (a : Array) (cs : List Command) (i : ℕ) (c : Command) (b b2 : Array) → slice_get cs i ≡ Some c → AllByRecursion (λ d. is_in_force d.request ≡ true) (take i cs)
+    → AllAccepted a (take i cs) × (b ≡ after_all a (take i cs)) → IsApplied b c false b2 → IsReplayed a cs i b2
+stopped a cs i c b b2 at all was is = record {
+  in_force = all;
   accepted = was.0;
   array = is.1 ∙ was.1;
   refused = λ d there fine. let same : d ≡ c = cc (at, there) in is.0 (subst (λ (x : Array). Accepts x c) is.1 (subst (λ (x : Command). Accepts b2 x) same fine));
 }
 
-pub ended : (a : Array) (cs : List Command) (count : ℕ) (b : Array) → length cs ≤ count → AllAccepted a (take count cs) × (b ≡ after_all a (take count cs)) → IsReplayed a cs count b
-ended a cs count b past was = record {
+pub ended : (a : Array) (cs : List Command) (count : ℕ) (b : Array) → length cs ≤ count → AllByRecursion (λ d. is_in_force d.request ≡ true) (take count cs)
+    → AllAccepted a (take count cs) × (b ≡ after_all a (take count cs)) → IsReplayed a cs count b
+ended a cs count b past all was = record {
+  in_force = all;
   accepted = was.0;
   array = was.1;
   refused = λ d there fine. absurd (omega (arith, past, slice_get_within cs count d there));

@@ -4,7 +4,7 @@ use Rattle.std.specs.Prelude.{nat_lt, nat_le, ◌||◌}
 use Rattle.std.proofs.lemmas.Bool.{cases_Bool, ltb-true, leb-true, leb-false}
 use Rattle.pur_base.specs.declared.device.Device.{Device}
 use Rattle.pur_base.specs.Devices.{Geometry, Condition, Conditions, Sound, Missing, LeftOut, is_missing, MayBecome, IsWithin, IsBearable, slots_of, nvrams, drive, nvram}
-use Rattle.world.specs.Shelf.{Shelved, Stop, Disk, Continues, IsCountedBy}
+use Rattle.world.specs.Shelf.{Shelved, Stop, Continues, IsCountedBy}
 use Rattle.world.specs.Losing.{has_risen, missing_if, losing}
 use Rattle.boot_region.proofs.Phases.{not_risen_before, risen_on_way}
 use Rattle.takeover.proofs.Members.{fewer_count}

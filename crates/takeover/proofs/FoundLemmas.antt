@@ -1,51 +1,75 @@
 -- The record is loaded and settled: at every moment the devices stand for the arrays, and then it is in force.
-use Rattle.std.proofs.Common.{◌≡◌, ◌⊎◌, inl, inr, ℕ, ◌+◌, ◌<◌, ◌≤◌, ◌-◌, ◌^◌, Bool, true, false, List, [], length, refl, sym, ◌∙◌, ap, subst, arith, Result, Ok, Err}
-use Rattle.std.specs.Prelude.{◌&&◌, slice_index_or}
+use Rattle.std.proofs.Common.{◌≡◌, ℕ, ◌+◌, ◌<◌, ◌≤◌, ◌-◌, ◌^◌, Bool, true, false, List, [], refl, sym, ◌∙◌, ap, subst, arith, Ok}
+use Rattle.std.specs.Prelude.{◌&&◌, slice_index_or, Some, None}
 use Rattle.pur_base.specs.Plain.{Array}
-use Rattle.pur_base.specs.Devices.{Geometry, Conditions, Sound, LeftOut, IsBearable, IsWithin, drive}
+use Rattle.pur_base.specs.Devices.{Geometry, Conditions, Sound, LeftOut, IsBearable, IsWithin, drive, nvram}
 use Rattle.pur_base.specs.declared.device.Device.{Device}
 use Rattle.pur_base.specs.declared.limits.TheConstants.{SECTOR_BYTES}
 use Rattle.boot_codec.specs.declared.record.BootRecord.{BootRecord}
 use Rattle.boot_codec.specs.Region.{BootSlot, other_slot, gate_place, body_in, names}
 use Rattle.boot_codec.specs.Record.{set_count}
 use Rattle.boot_codec.specs.Spelling.{spelling}
+use Rattle.log_codec.specs.Log.{ShowsIn}
 use Rattle.array_spec.specs.Laws.{IsNamedByNone}
 use Rattle.array_spec.specs.Meaning.{IsInForce}
 use Rattle.array_spec.specs.Standing.{Stands, MayBeGiven}
-use Rattle.array_spec.proofs.Standings.{more_may_go_missing, given_with_fewer}
+use Rattle.array_spec.proofs.Standings.{more_may_go_missing, given_with_fewer, within_twice}
+use Rattle.array_spec.proofs.Votes.{sound_before}
 use Rattle.world.specs.Losing.{geometry_of, has_risen}
 use Rattle.world.specs.Shelf.{Shelved, Stop, IsShelf, IsSame, Continues, MayStop, MayLeave, LeavesOnly}
 use Rattle.world.specs.Writes.{LeavesBut, WritesOnly}
 use Rattle.world.proofs.Moments.{then_run, weaker}
 use Rattle.boot_region.specs.declared.loading.Loaded.{Loaded}
-use Rattle.boot_region.specs.declared.loading.LoadFault.{LoadFault}
 use Rattle.boot_region.specs.Members.{IsMember, OnClosed}
 use Rattle.boot_region.specs.Slots.{slot_in}
 use Rattle.boot_region.specs.Regions.{is_holding}
 use Rattle.boot_region.specs.Loading.{IsLoadBy, TellsHolding, MayBeSettled}
 use Rattle.boot_region.specs.Storing.{StandsNow, IsLoaded, IsFound, IsInForceOn, TellsFailed}
 use Rattle.boot_region.proofs.Accounts.{losing_within}
-use Rattle.boot_region.proofs.Began.{began}
+use Rattle.boot_region.proofs.Began.{began, on_nvram}
 use Rattle.boot_region.proofs.FoundLemmas.{body_stands, drive_below}
-use Rattle.boot_region.proofs.Phases.{not_risen_before}
-use Rattle.boot_region.proofs.Settled.{stands_while_settling, no_more_given, settling_began}
-use Rattle.boot_region.proofs.ShownLemmas.{bodies_same}
+use Rattle.boot_region.proofs.Settled.{stands_while_settling, no_more_given, settling_began, leaves_members}
+use Rattle.boot_region.proofs.ShownLemmas.{as_read, bodies_same}
 use Rattle.takeover.proofs.NoFault.{few_lack}
-use Rattle.session_spec.specs.Entering.{Enters, failed_since, failed_by}
-use Rattle.takeover.specs.Entering.{StandsStill}
+use Rattle.session_spec.specs.Entering.{Enters, AreRead, StandsStill, read_now, failed_since, failed_by}
+use Rattle.session_spec.proofs.Resumed.{nothing_done}
 use Rattle.takeover.specs.Found.{IsFoundOn}
 use Rattle.takeover.proofs.Counts.{goes_on}
 use Rattle.takeover.proofs.Failing.{fewer_borne, by_stop, since_later, since_mid, sound_since, left_out_since}
 use Rattle.takeover.proofs.Loading.{as_they_read, may_read, at_time, may_at_time, same_leaves, same_geometry, clean_now, stands_now, member_here, in_force_here}
 
+-- what may be given at a stop when nothing was done, as reads give it
+given_at_entry : (old : Shelved) (missing : Conditions) (arrays : List Array) → Enters old missing arrays → (stop : Stop) → MayStop old stop
+    → (slot : BootSlot) (boot : BootRecord) → MayBeGiven (geometry_of old) stop.image missing slot boot → MayBeGiven (geometry_of old) (read_now old).image missing slot boot
+given_at_entry old missing arrays enters stop may slot boot g = record {
+  more = g.more;
+  view = g.view;
+  appears = record {
+    within = g.appears.within;
+    bearable = g.appears.bearable;
+    shown = λ d sound.
+        let was = sound_before (missing d) (g.more d) (g.appears.within d) sound in
+        g.appears.shown d sound ∙ ap (λ (l : List ℕ). Some l) (as_read (old.disk d) (stop.image d) (enters.clean d was) (may.device d));
+  };
+  lawful = g.lawful;
+  effective = g.effective;
+}
+
 -- where devices were only read they stand as before
 module _ (old : Shelved) (missing : Conditions) (arrays : List Array) (enters : Enters old missing arrays) where
-  pub still_reading : (stop : Stop) → LeavesBut (λ d i. ⊥) old stop → StandsStill old missing arrays stop
-  still_reading stop left bears =
-      more_may_go_missing (geometry_of old) stop.image missing (failed_by old stop missing) arrays (losing_within (λ d. has_risen (old.disk d).faults (stop.faults d)) missing) bears
-      (enters.stands (at_time old stop.image) (may_at_time old stop.image (λ d. record { size = (left.bytes d).size; is_byte = (left.bytes d).is_byte; clean = λ i clean. (left.bytes d).same i clean (λ w. w) })))
+  pub still_reading : (stop : Stop) → LeavesBut (λ d i. ⊥) old stop → StandsStill old None missing arrays stop
+  still_reading stop left =
+      let begun : Stop = record { image = stop.image; faults = stop.faults; write_faults = stop.write_faults; output = old.output; taken = old.taken } in
+      let may : MayStop old begun = record {
+        device = λ d. record { size = (left.bytes d).size; is_byte = (left.bytes d).is_byte; clean = λ i clean. (left.bytes d).same i clean (λ w. w) };
+        counts = record { faults = left.counts.faults; write_faults = left.counts.write_faults };
+        output = refl;
+        taken = refl;
+      } in
+      let is = nothing_done old missing arrays enters begun may in
+      record { standing = is.standing; stored = is.stored }
 
-  pub while_reading : (new : Shelved) → WritesOnly (λ d i. ⊥) old new → LeavesOnly old new (StandsStill old missing arrays)
+  pub while_reading : (new : Shelved) → WritesOnly (λ d i. ⊥) old new → LeavesOnly old new (StandsStill old None missing arrays)
   while_reading new writes = weaker still_reading writes.any_moment
 
 module _ (old mid : Shelved) (missing : Conditions) (arrays : List Array) (x : Loaded) (enters : Enters old missing arrays) (on : Continues old mid)
@@ -100,23 +124,58 @@ module _ (old mid : Shelved) (missing : Conditions) (arrays : List Array) (x : L
       pub stands_at : Stands (geometry_of mid) stop.image now arrays
       stands_at = stands_while_settling x.drives mid stop slot x.record now arrays is_mid h_mid left both.0
 
-      pub left_out_at : (more : Conditions) → IsWithin now more → (d : Device) → missing d ≡ LeftOut → IsNamedByNone (geometry_of mid) stop.image more d
-      left_out_at more within d out t boot g =
-          let start = began x.drives mid (gate_place slot) SECTOR_BYTES stop in
-          let begins = settling_began x.drives mid stop slot x.record now arrays is_mid h_mid left both.0 in
+      abbrev start : Stop
+      start = began x.drives mid (gate_place slot) SECTOR_BYTES stop
+
+      begins : MayStop old (at_time old start.image)
+      begins =
+          let b = settling_began x.drives mid stop slot x.record now arrays is_mid h_mid left both.0 in
+          may_at_time old start.image (λ d. may_before d (start.image d) (b.device d))
+
+      -- what may be given then might have been given when it began
+      given_then : (more : Conditions) → IsWithin now more → (t : BootSlot) (boot : BootRecord) → MayBeGiven (geometry_of mid) stop.image more t boot → MayBeGiven (geometry_of old) start.image missing t boot
+      given_then more within t boot g =
           let g_now = given_with_fewer {shelf = geometry_of mid} {image = stop.image} {missing = now} {more = more} {slot = t} {boot = boot} within g in
           let before = no_more_given x.drives mid stop slot x.record now arrays is_mid h_mid left both.0 t boot g_now in
           let g_old = given_with_fewer {shelf = geometry_of mid} {image = start.image} {missing = missing} {more = now} {slot = t} {boot = boot} (losing_within (λ d. has_risen (old.disk d).faults (mid.disk d).faults) missing) before in
-          enters.left_out (at_time old start.image) (may_at_time old start.image (λ d. may_before d (start.image d) (begins.device d))) d out t boot (subst (λ (s : Geometry). MayBeGiven s start.image missing t boot) (sym same_shelf) g_old)
+          subst (λ (s : Geometry). MayBeGiven s start.image missing t boot) (sym same_shelf) g_old
 
-  pub still_settling : (stop : Stop) → LeavesBut (OnClosed x.drives mid (gate_place slot)) mid stop → StandsStill old missing arrays stop
-  still_settling stop left bears_then =
+      pub left_out_at : (more : Conditions) → IsWithin now more → (d : Device) → missing d ≡ LeftOut → IsNamedByNone (geometry_of mid) stop.image more d
+      left_out_at more within d out t boot g = enters.left_out (at_time old start.image) begins d out t boot (given_then more within t boot g)
+
+      same_nvram : (n : ℕ) → start.image (nvram n) ≡ stop.image (nvram n)
+      same_nvram n = on_nvram x.drives mid (gate_place slot) SECTOR_BYTES stop (leaves_members x.drives mid (gate_place slot) stop left) n
+
+      pub read_at : (more : Conditions) → IsWithin now more → AreRead (geometry_of mid) stop.image more
+      read_at more within = record {
+        unflushed = λ t boot g. (enters.read (at_time old start.image) begins).unflushed t boot (given_then more within t boot g);
+        in_force = λ t boot g n i command named s. (enters.read (at_time old start.image) begins).in_force t boot (given_then more within t boot g) n i command named
+            (subst (λ (l : List ℕ). ShowsIn l boot.flushed i command) (sym (same_nvram n)) s);
+      }
+
+      -- and so at the entry
+      pub unstored_at : (more : Conditions) → IsWithin now more → (t : BootSlot) (boot : BootRecord) → MayBeGiven (geometry_of mid) stop.image more t boot → MayBeGiven (geometry_of old) (read_now old).image missing t boot
+      unstored_at more within t boot g = given_at_entry old missing arrays enters (at_time old start.image) begins t boot (given_then more within t boot g)
+
+  pub still_settling : (stop : Stop) → LeavesBut (OnClosed x.drives mid (gate_place slot)) mid stop → StandsStill old None missing arrays stop
+  still_settling stop left =
+      let later = failed_by old stop missing in
       let more = by_stop old mid stop missing left.counts in
-      let bears = fewer_borne (geometry_of old) now (failed_by old stop missing) more bears_then in
-      more_may_go_missing (geometry_of old) stop.image now (failed_by old stop missing) arrays more bears_then
-      (subst (λ (g : Geometry). Stands g stop.image now arrays) (sym same_shelf) (stands_at bears stop left))
+      record {
+        standing = λ bears_then.
+            let bears = fewer_borne (geometry_of old) now later more bears_then in
+            record {
+              stands = more_may_go_missing (geometry_of old) stop.image now later arrays more bears_then (subst (λ (g : Geometry). Stands g stop.image now arrays) (sym same_shelf) (stands_at bears stop left));
+              left_out = λ d out. subst (λ (g : Geometry). IsNamedByNone g stop.image later d) (sym same_shelf)
+                  (left_out_at bears stop left later more d (left_out_since (has_risen (old.disk d).faults (stop.faults d)) (missing d) out));
+              read = subst (λ (g : Geometry). AreRead g stop.image later) (sym same_shelf) (read_at bears stop left later more);
+            };
+        stored = λ t boot g.
+            let bears = fewer_borne (geometry_of old) now g.more (within_twice now later g.more more g.appears.within) g.appears.bearable in
+            unstored_at bears stop left later more t boot (subst (λ (s : Geometry). MayBeGiven s stop.image later t boot) same_shelf g);
+      }
 
-  pub through_moments : (new : Shelved) → WritesOnly (λ d i. ⊥) old mid → WritesOnly (OnClosed x.drives mid (gate_place slot)) mid new → LeavesOnly old new (StandsStill old missing arrays)
+  pub through_moments : (new : Shelved) → WritesOnly (λ d i. ⊥) old mid → WritesOnly (OnClosed x.drives mid (gate_place slot)) mid new → LeavesOnly old new (StandsStill old None missing arrays)
   through_moments new reading writes = then_run on (while_reading old missing arrays enters mid reading) (weaker still_settling writes.any_moment)
 
   -- after the settling
@@ -163,6 +222,7 @@ module _ (old mid : Shelved) (missing : Conditions) (arrays : List Array) (x : L
           (subst (λ (g : Geometry). Stands g stop.image now arrays) same_mid (stands_at bears_mid stop (left_by stop may)));
       left_out = λ stop may d out. subst (λ (g : Geometry). IsNamedByNone g stop.image later d) same_mid
           (left_out_at bears_mid stop (left_by stop may) later more_later d (left_out_since (has_risen (old.disk d).faults (new.disk d).faults) (missing d) out));
+      read = λ stop may. subst (λ (g : Geometry). AreRead g stop.image later) same_mid (read_at bears_mid stop (left_by stop may) later more_later);
       counted = λ d sound. goes_on (old.disk d).faults (new.disk d).faults (sound_since (has_risen (old.disk d).faults (new.disk d).faults) (missing d) sound).1;
     }
       where

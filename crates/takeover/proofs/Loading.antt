@@ -1,31 +1,26 @@
 -- What is loaded, where the devices stand for arrays: the record that each device that isn't missing holds.
-use Rattle.std.proofs.Common.{◌≡◌, inl, inr, ℕ, ◌+◌, ◌*◌, ◌<◌, ◌≤◌, ◌&&◌, Bool, true, false, List, [], length, map, Option, Some, None, option_and_then, slice_index_or, sym, ◌∙◌, ap, subst, arith, refl, Result, Ok, Err}
+use Rattle.std.proofs.Common.{◌≡◌, inl, inr, ℕ, ◌*◌, ◌<◌, ◌&&◌, Bool, true, false, List, [], length, Option, Some, None, option_and_then, slice_index_or, sym, ◌∙◌, ap, subst, arith, refl}
 use Rattle.std.specs.Prelude.{if◌then◌else◌, IsSome, bytes_eq}
-use Rattle.std.specs.List.{range_with_len}
 use Rattle.std.proofs.lemmas.Bool.{cases_Bool}
 use Rattle.std.proofs.lemmas.Slice.Eq.{bytes_eq-Decides}
 use Rattle.std.specs.Cmp.Lexicographic.{same_text}
 use Rattle.pur_base.specs.Bytes.{bytes_at}
 use Rattle.pur_base.specs.Plain.{Array}
-use Rattle.pur_base.specs.Devices.{Geometry, Image, View, Condition, Conditions, Sound, Missing, LeftOut, is_sound, IsBearable, IsWithin, MayShowAs, drive}
+use Rattle.pur_base.specs.Devices.{Geometry, Image, View, Condition, Conditions, Sound, Missing, LeftOut, is_sound, IsBearable, MayShowAs, drive}
 use Rattle.pur_base.specs.declared.device.Device.{Device}
 use Rattle.pur_base.specs.declared.device.Device.TheVariants.{Drive, Nv}
 use Rattle.boot_codec.specs.declared.record.BootRecord.{BootRecord}
-use Rattle.boot_codec.specs.Region.{BootSlot, other_slot, Effective, IsRecordOf, IsEffective, IsDecided, votes, shown_by, body_in, names, of_members, with_body}
+use Rattle.boot_codec.specs.Region.{BootSlot, other_slot, Effective, IsEffective, IsDecided, votes, shown_by, body_in, names, of_members, with_body}
 use Rattle.boot_codec.specs.Spelling.{spelling}
-use Rattle.array_spec.specs.Meaning.{AllHold, IsInForce}
+use Rattle.array_spec.specs.Meaning.{IsInForce}
 use Rattle.array_spec.specs.Standing.{Stands, MayBeGiven, MayAppear, IsViewOf, IsReadBy}
 use Rattle.array_spec.proofs.Standings.{more_may_go_missing}
-use Rattle.array_spec.proofs.Votes.{one_is_effective}
-use Rattle.array_spec.proofs.Spelled.{spells_one}
-use Rattle.world.specs.Counts.{Rises}
 use Rattle.world.specs.Losing.{geometry_of, has_risen}
 use Rattle.world.specs.Shelf.{Shelved, Stop, Disk, IsShelf, IsSame, Continues, MayStop, MayLeave}
 use Rattle.world.specs.declared.shelf.Span.{Span}
 use Rattle.boot_region.specs.Members.{IsMember}
 use Rattle.boot_region.specs.Regions.{region_at, seen, is_holding, is_body_in, IsRead}
-use Rattle.boot_region.specs.Loading.{IsHeld, AreHolding, TellsHolding}
-use Rattle.boot_region.specs.Storing.{StandsNow}
+use Rattle.boot_region.specs.Loading.{IsHeld}
 use Rattle.boot_region.proofs.Accounts.{losing_within}
 use Rattle.boot_region.proofs.Composing.{as_it_is, is_sound_is}
 use Rattle.boot_region.proofs.FoundLemmas.{same_body, same_shown, same_over}

@@ -1,32 +1,31 @@
 -- The log is read, applied and settled: what a stop leaves at each moment, and what is known in the end.
 use Rattle.std.proofs.Common.{◌≡◌, inl, inr, ℕ, zero, suc, ◌<◌, ◌≤◌, List, [], length, take, refl, sym, ◌∙◌, ap, subst, arith, Bool, true, false, Err}
-use Rattle.std.specs.Prelude.{Option, Some, Contains, slice_get, slice_index_or}
+use Rattle.std.specs.Prelude.{Option, Some, None, Contains, slice_get, slice_index_or}
 use Rattle.pur_base.specs.Commands.{Command, after_all}
 use Rattle.pur_base.specs.Devices.{Geometry, Image, Conditions, Sound, LeftOut, IsBearable, drive, nvram}
 use Rattle.pur_base.specs.Plain.{Array}
 use Rattle.pur_base.specs.declared.device.Device.{Device}
 use Rattle.pur_base.specs.declared.device.Device.TheVariants.{Drive, Nv}
-use Rattle.boot_codec.specs.declared.record.BootRecord.{BootRecord}
 use Rattle.boot_codec.specs.Spelling.{spelling}
 use Rattle.boot_codec.specs.Region.{BootSlot, IsRecordOf, body_in, names, other_slot, shown_by}
 use Rattle.log_codec.specs.Log.{Shows, ShowsIn, IsInSlot}
 use Rattle.array_spec.specs.Laws.{IsNamedByNone}
 use Rattle.array_spec.specs.Standing.{Stands, MayBeGiven}
 use Rattle.array_spec.proofs.Settling.{twice_other}
-use Rattle.array_spec.proofs.Standings.{more_may_go_missing}
 use Rattle.array_spec.proofs.LogBetween.{shower}
 use Rattle.array_spec.proofs.UnflushedRead.{one_left, kept_is}
 use Rattle.array_spec.proofs.Votes.{sound_before}
 use Rattle.world.specs.Counts.{Rises}
-use Rattle.world.specs.Losing.{geometry_of, has_risen}
+use Rattle.world.specs.Losing.{geometry_of, has_failed, has_risen}
 use Rattle.world.specs.Shelf.{Shelved, Stop, Disk, IsShelf, Continues, MayStop, MayLeave, LeavesOnly}
-use Rattle.world.specs.Writes.{WritesOnly}
+use Rattle.world.specs.Writes.{LeavesBut, WritesOnly}
 use Rattle.world.proofs.Writes.{writes_then, writes_more}
 use Rattle.world.proofs.Moments.{continues_trans, then_run, weaker}
 use Rattle.boot_region.specs.declared.loading.Loaded.{Loaded}
 use Rattle.boot_region.specs.Slots.{slot_in}
 use Rattle.boot_region.proofs.Accounts.{losing_within}
 use Rattle.boot_region.proofs.Phases.{risen_on_way}
+use Rattle.boot_region.proofs.ShownLemmas.{as_read}
 use Rattle.boot_region.proofs.Stored.{rises_between}
 use Rattle.nvram_log.specs.declared.log.NvLog.{NvLog}
 use Rattle.nvram_log.specs.declared.read.ReadFault.{ReadFault}
@@ -38,15 +37,15 @@ use Rattle.nvram_log.specs.Settling.{SettleBy, AreAsSeen, Agree}
 use Rattle.takeover.specs.declared.log.LogFault.{LogFault}
 use Rattle.takeover.specs.declared.log.LogFault.TheVariants as log_fault
 use Rattle.takeover.specs.declared.log.OpenedLog.{OpenedLog}
-use Rattle.session_spec.specs.Entering.{failed_since, failed_by}
-use Rattle.takeover.specs.Entering.{StandsStill}
+use Rattle.session_spec.specs.Entering.{AreRead, IsStanding, IsUnstored, StandsStill, failed_by, failed_since, read_now}
 use Rattle.takeover.specs.Found.{IsFoundOn}
 use Rattle.takeover.specs.LogOpen.{IsLogOpen, IsLogOpenBy, IsLogFault, ShowsUnserved}
 use Rattle.takeover.specs.Replay.{HasUnserved, IsReplayed, IsReplayFault, log_fault_of}
 use Rattle.takeover.proofs.Counts.{goes_on}
-use Rattle.takeover.proofs.Failing.{sound_since, left_out_since, fewer_borne, by_stop, since_later}
+use Rattle.takeover.proofs.Failing.{sound_since, fewer_borne, by_stop, since_later}
 use Rattle.takeover.proofs.Loading.{same_geometry}
-use Rattle.takeover.proofs.LogSettling.{bearable_or_not, nothing_else, not_risen, stays, given_moves, answers, is_one, agree_here, stands_settling}
+use Rattle.takeover.proofs.LogSettling.{bearable_or_not, nothing_else, not_risen, stays, given_moves, answers, is_one, agree_here, standing_settling}
+use Rattle.takeover.proofs.NothingStored.{given_over, standing_with_fewer}
 
 -- two things at once are true of each stop
 both_leave : {a b : Shelved} {P Q : Stop → Type 0} → LeavesOnly a b P → LeavesOnly a b Q → LeavesOnly a b (λ stop. P stop × Q stop)
@@ -72,11 +71,25 @@ may_at_once shelf image leaves = record { device = leaves; counts = record { fau
 as_read_leaves : (shelf : Shelved) → IsShelf shelf → shelf.honest → (d : Device) → MayLeave (shelf.disk d) (shelf.disk d).bytes
 as_read_leaves shelf is h d = record { size = refl; is_byte = is.bytes h d; clean = λ i out. refl }
 
+-- what is found to stand
+found_standing : (old : Shelved) (x : Loaded) (missing : Conditions) (arrays : List Array) → IsFoundOn old x missing arrays → (start : Stop) → MayStop old start → IsStanding (geometry_of old) start.image missing arrays
+found_standing old x missing arrays found start may = record { stands = found.stands start may; left_out = found.left_out start may; read = found.read start may }
+
+-- while no drive is written, nothing is stored
+unstored : (old : Shelved) (x : Loaded) (missing : Conditions) (arrays : List Array) → IsFoundOn old x missing arrays → (stop : Stop) → ((i : ℕ) → MayLeave (old.disk (drive i)) (stop.image (drive i))) → IsUnstored old missing stop
+unstored old x missing arrays found stop leaves slot boot g =
+    given_over (geometry_of old) stop.image (λ d. (old.disk d).bytes) missing (failed_by old stop missing) slot boot (losing_within (has_failed (read_now old) stop) missing)
+    (λ i lt s. as_read (old.disk (drive i)) (stop.image (drive i)) (found.in_force.clean i (found.in_force.sound i lt s) s) (leaves i)) g
+
 -- while nothing is written
-pub while_read : (old mid : Shelved) (x : Loaded) (missing : Conditions) (arrays : List Array) → WritesOnly OnNothing old mid → IsFoundOn old x missing arrays → LeavesOnly old mid (StandsStill old missing arrays)
-while_read old mid x missing arrays wrote found =
-    weaker (λ stop left bears. more_may_go_missing (geometry_of old) stop.image missing (failed_by old stop missing) arrays (losing_within (λ d. has_risen (old.disk d).faults (stop.faults d)) missing) bears
-    (found.stands (at_once old stop.image) (may_at_once old stop.image (λ d. nothing_else (λ i w. w) (left.bytes d))))) wrote.any_moment
+pub while_read : (old mid : Shelved) (x : Loaded) (missing : Conditions) (arrays : List Array) → WritesOnly OnNothing old mid → IsFoundOn old x missing arrays → LeavesOnly old mid (StandsStill old None missing arrays)
+while_read old mid x missing arrays wrote found = weaker (λ stop left.
+    let each : (d : Device) → MayLeave (old.disk d) (stop.image d) = λ d. nothing_else (λ i w. w) (left.bytes d) in
+    record {
+      standing = λ bears. standing_with_fewer (geometry_of old) stop.image missing (failed_by old stop missing) arrays (losing_within (has_failed (read_now old) stop) missing) bears
+          (found_standing old x missing arrays found (at_once old stop.image) (may_at_once old stop.image each));
+      stored = unstored old x missing arrays found stop (λ i. each (drive i));
+    }) wrote.any_moment
 
 -- one NVRAM device isn't missing
 one_sound : (shelf : Geometry) (c : Conditions) → IsBearable shelf c → (n : ℕ) × (n < 2) × (c (nvram n) ≡ Sound)
@@ -155,17 +168,26 @@ module _ (old mid new : Shelved) (x : Loaded) (missing : Conditions) (arrays : L
 
   module _ (next : Continues mid new) (writes : WritesOnly (OnMembers log.members) mid new)
       (settling : (cs : List Command) → Keeps log cs → AreAsSeen mid log → Agree mid log.members log.flushed (take count cs) → LeavesOnly mid new (SettleBy mid log.members log.flushed (take count cs))) where
-    while_settling : LeavesOnly mid new (StandsStill old missing arrays)
+    drives_left : (stop : Stop) → LeavesBut (OnMembers log.members) mid stop → (i : ℕ) → MayLeave (old.disk (drive i)) (stop.image (drive i))
+    drives_left stop left i = subst (λ (k : Disk). MayLeave k (stop.image (drive i))) (r.same_drives i) (nothing_else (λ n w. w) (left.bytes (drive i)))
+
+    while_settling : LeavesOnly mid new (StandsStill old None missing arrays)
     while_settling = elim (bearable_or_not (geometry_of old) (failed_since old mid missing)) [
-      | inl bears ↦ weaker (λ stop both borne.
-          stands_settling old mid x missing arrays r.is r.wrote r.same_drives r.found log.members r.fewer r.dropped r.clean bears
-          commands count b le (r.replayed commands r.read.keeps) placed ends r.is_mid (r.on.honest r.honest) stop both.1 (subst (λ (f : ℕ). SettleBy mid log.members f front stop) r.flushed both.0)
-          (failed_by old stop missing) (by_stop old mid stop missing both.1.counts) borne)
+      | inl bears ↦ weaker (λ stop both. record {
+        standing = λ borne.
+            standing_settling old mid x missing arrays r.is r.wrote r.same_drives r.found log.members r.fewer r.dropped r.clean bears
+            commands count b le (r.replayed commands r.read.keeps) placed ends r.is_mid (r.on.honest r.honest) stop both.1 (subst (λ (f : ℕ). SettleBy mid log.members f front stop) r.flushed both.0)
+            (failed_by old stop missing) (by_stop old mid stop missing both.1.counts) borne;
+        stored = unstored old x missing arrays r.found stop (drives_left stop both.1);
+      })
           (both_leave (settling commands r.read.keeps r.seen (agree bears)) writes.any_moment)
-      | inr not ↦ weaker (λ stop left borne. absurd (not (fewer_borne (geometry_of old) (failed_since old mid missing) (failed_by old stop missing) (by_stop old mid stop missing left.counts) borne))) writes.any_moment
+      | inr not ↦ weaker (λ stop left. record {
+        standing = λ borne. absurd (not (fewer_borne (geometry_of old) (failed_since old mid missing) (failed_by old stop missing) (by_stop old mid stop missing left.counts) borne));
+        stored = unstored old x missing arrays r.found stop (drives_left stop left);
+      }) writes.any_moment
     ]
 
-    pub while_opening : LeavesOnly old new (StandsStill old missing arrays)
+    pub while_opening : LeavesOnly old new (StandsStill old None missing arrays)
     while_opening = then_run r.on (while_read old mid x missing arrays r.wrote r.found) while_settling
 
     -- ---- afterwards
@@ -183,9 +205,6 @@ module _ (old mid new : Shelved) (x : Loaded) (missing : Conditions) (arrays : L
 
       was_sound : (d : Device) → later d ≡ Sound → (missing d ≡ Sound) × (has_risen (old.disk d).faults (new.disk d).faults ≡ false)
       was_sound d e = sound_since (has_risen (old.disk d).faults (new.disk d).faults) (missing d) e
-
-      was_left_out : (d : Device) → later d ≡ LeftOut → missing d ≡ LeftOut
-      was_left_out d e = left_out_since (has_risen (old.disk d).faults (new.disk d).faults) (missing d) e
 
       pub still_sound : (n : ℕ) → n < 2 → later (nvram n) ≡ Sound → IsMember now_members n
       still_sound n lt s =
@@ -229,19 +248,13 @@ module _ (old mid new : Shelved) (x : Loaded) (missing : Conditions) (arrays : L
         stop_before : MayStop old (at_once old image_before)
         stop_before = may_at_once old image_before left_then
 
-        stands_here : Stands (geometry_of old) start.image later arrays
-        stands_here = (while_opening.each (at_once new start.image)
-            (is_new.counts_now old.moment (at_once new start.image) all_on.later (may_at_once new start.image may.device))).1 borne
+        standing_here : IsStanding (geometry_of old) start.image later arrays
+        standing_here = (while_opening.each (at_once new start.image)
+            (is_new.counts_now old.moment (at_once new start.image) all_on.later (may_at_once new start.image may.device))).1.standing borne
 
         given_here : MayBeGiven (geometry_of old) start.image later (slot_in x.slot) x.record
         given_here = given_moves (geometry_of old) image_before start.image missing later (slot_in x.slot) x.record (λ i. refl) same_drive borne
             (subst (λ (t : BootSlot). MayBeGiven (geometry_of old) image_before missing t x.record) (twice_other (slot_in x.slot)) (r.found.in_force.given (at_once old image_before) stop_before))
-
-        given_before : (slot2 : BootSlot) (boot2 : BootRecord) → MayBeGiven (geometry_of old) start.image later slot2 boot2 → MayBeGiven (geometry_of old) image_before missing slot2 boot2
-        given_before slot2 boot2 g2 = given_moves (geometry_of old) start.image image_before later missing slot2 boot2 (λ i. refl) (λ i. sym (same_drive i)) (r.found.stands (at_once old image_before) stop_before).bearable g2
-
-        named_by_none : (d : Device) → later d ≡ LeftOut → IsNamedByNone (geometry_of old) start.image later d
-        named_by_none d out slot2 boot2 g2 = r.found.left_out (at_once old image_before) stop_before d (was_left_out d out) slot2 boot2 (given_before slot2 boot2 g2)
 
       pub found_still : IsFoundOn new x later arrays
       found_still = record {
@@ -258,9 +271,10 @@ module _ (old mid new : Shelved) (x : Loaded) (missing : Conditions) (arrays : L
         bodies = λ i m. subst (λ (d : Disk). body_in (slot_in x.slot) d.bytes ≡ spelling x.record) (sym (same_all i)) (r.found.bodies i m);
         unflushed = r.found.unflushed;
         room = r.found.room;
-        stands = λ stop may. subst (λ (g : Geometry). Stands g stop.image later arrays) same_shelf (stands_here stop may);
+        stands = λ stop may. subst (λ (g : Geometry). Stands g stop.image later arrays) same_shelf (standing_here stop may).stands;
         counted = λ d s. goes_on (old.disk d).faults (new.disk d).faults (was_sound d s).1;
-        left_out = λ start may d out. subst (λ (g : Geometry). IsNamedByNone g start.image later d) same_shelf (named_by_none start may d out);
+        left_out = λ start may d out. subst (λ (g : Geometry). IsNamedByNone g start.image later d) same_shelf ((standing_here start may).left_out d out);
+        read = λ start may. subst (λ (g : Geometry). AreRead g start.image later) same_shelf (standing_here start may).read;
       }
 
       pub opened : (o : OpenedLog) → o.log.members ≡ now_members → IsSome o.log.members → o.log.flushed ≡ log.flushed → Keeps o.log front → o.plain ≡ b
@@ -269,6 +283,7 @@ module _ (old mid new : Shelved) (x : Loaded) (missing : Conditions) (arrays : L
         found = found_still;
         commands = front;
         keeps = keeps;
+        in_force = (r.replayed commands r.read.keeps).in_force;
         flushed = flushed ∙ r.flushed;
         accepted = (r.replayed commands r.read.keeps).accepted;
         plain = plain ∙ (r.replayed commands r.read.keeps).array;
@@ -284,7 +299,7 @@ module _ (old mid new : Shelved) (x : Loaded) (missing : Conditions) (arrays : L
           left_out_not n out named =
               let image : Image = λ d. (new.disk d).bytes in
               let may = may_at_once new image (as_read_leaves new is_new (all_on.honest r.honest)) in
-              absurd (cc (named, named_by_none (at_once new image) may (nvram n) out (slot_in x.slot) x.record (given_here (at_once new image) may)))
+              absurd (cc (named, (standing_here (at_once new image) may).left_out (nvram n) out (slot_in x.slot) x.record (given_here (at_once new image) may)))
 
 -- what the calls say of a log that was read
 pub was_read : (old mid : Shelved) (x : Loaded) (missing : Conditions) (arrays : List Array) (nvrams : List Bool) (flushed : ℕ) (log : NvLog) (count : ℕ) (b : Array)

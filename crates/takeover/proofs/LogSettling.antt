@@ -35,12 +35,13 @@ use Rattle.nvram_log.specs.Held.{shown_by as shown_of}
 use Rattle.nvram_log.specs.Members.{IsMember, IsFewer, OnMembers}
 use Rattle.nvram_log.specs.Read.{OnNothing, DroppedCounted}
 use Rattle.nvram_log.specs.Settling.{SettlesBy, SettleBy}
-use Rattle.session_spec.specs.Entering.{failed_since}
+use Rattle.session_spec.specs.Entering.{IsStanding, failed_since}
 use Rattle.takeover.specs.Found.{IsFoundOn}
 use Rattle.takeover.specs.Replay.{IsReplayed}
 use Rattle.takeover.proofs.Chains.{replayed_stands, of_front, agrees, shows_move, log_moves}
 use Rattle.takeover.proofs.Failing.{sound_since, left_out_since}
 use Rattle.takeover.proofs.Generations.{this_or_later}
+use Rattle.takeover.proofs.NothingStored.{left_out_settled, read_settled}
 
 -- ---- conditions
 
@@ -357,3 +358,13 @@ module _ (old mid : Shelved) (x : Loaded) (missing : Conditions) (arrays : List 
     stands_settling =
         settling_keeps shelf was_there stop.image now later members slot boot settled arrays within bears_later (stands was_there were_left) (may_settle was_there were_left)
         (log_stands was_there were_left commands count b le replayed placed ends) settles_log
+
+    within_all : IsWithin missing later
+    within_all = within_twice missing (failed_since old mid missing) later within_now within
+
+    pub standing_settling : IsStanding shelf stop.image later arrays
+    standing_settling = record {
+      stands = stands_settling;
+      left_out = left_out_settled shelf was_there stop.image missing later members boot.flushed settled within_all settles_log (found.left_out (start was_there were_left) (may was_there were_left));
+      read = read_settled shelf was_there stop.image missing later members boot.flushed settled within_all settles_log replayed.in_force (found.read (start was_there were_left) (may was_there were_left));
+    }

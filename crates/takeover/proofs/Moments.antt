@@ -1,54 +1,34 @@
 -- The moments of an opening, one call after another.
-use Rattle.std.proofs.Common.{◌≡◌, ◌⊎◌, inl, inr, ℕ, ◌+◌, ◌-◌, ◌^◌, ◌<◌, ◌≤◌, Bool, true, false, List, [], length, refl, sym, ◌∙◌, ap, subst, arith, Result, Ok, Err}
+use Rattle.std.proofs.Common.{◌≡◌, ◌⊎◌, ℕ, ◌<◌, Bool, true, false, List, sym, ◌∙◌, ap, subst, arith, Result}
 use Rattle.std.specs.Prelude.{Contains, slice_index_or}
-use Rattle.pur_base.specs.Commands.{Command, after_all}
 use Rattle.pur_base.specs.Plain.{Array}
-use Rattle.pur_base.specs.Devices.{Geometry, Conditions, Sound, IsBearable, IsOn, drive, nvram}
+use Rattle.pur_base.specs.Devices.{Geometry, Conditions, Sound, IsBearable, IsOn, drive}
 use Rattle.pur_base.specs.declared.device.Device.{Device}
 use Rattle.pur_base.specs.declared.device.Device.TheVariants.{Drive, Nv}
 use Rattle.boot_codec.specs.declared.record.BootRecord.{BootRecord}
-use Rattle.boot_codec.specs.Record.{set_count}
 use Rattle.boot_codec.specs.Region.{names}
 use Rattle.array_spec.proofs.Votes.{sound_before}
 use Rattle.world.specs.Losing.{geometry_of}
-use Rattle.world.specs.Shelf.{Shelved, Stop, Continues, LeavesOnly}
-use Rattle.world.specs.Writes.{LeavesBut, WritesOnly}
-use Rattle.world.proofs.Moments.{then_run, weaker, continues_trans}
+use Rattle.world.specs.Shelf.{Shelved, Continues}
 use Rattle.boot_region.specs.declared.loading.Loaded.{Loaded}
 use Rattle.boot_region.specs.Members.{IsMember, DroppedFailed, LostWrites}
-use Rattle.boot_region.specs.Storing.{StandsBut}
-use Rattle.nvram_log.specs.Members.{IsMember as IsLogMember}
-use Rattle.nvram_log.proofs.SettledEach.{both_leave}
 use Rattle.register.specs.declared.state.Register.{Register}
-use Rattle.register.specs.declared.next.StoreFault.{StoreFault}
-use Rattle.register.specs.declared.next.StoreFault.TheVariants.{Spent, TooFew}
-use Rattle.register.specs.Faults.{IsFaultOf}
-use Rattle.register.specs.Registers.{IsRegisterOf, drives_of, next_slot, IsLaterRecord}
-use Rattle.register.specs.Standing.{MayStore, StandsInLog, IsOpen}
+use Rattle.register.specs.Registers.{IsRegisterOf, drives_of, IsLaterRecord}
+use Rattle.register.specs.Standing.{IsOpen}
 use Rattle.takeover.specs.declared.log.OpenedLog.{OpenedLog}
 use Rattle.takeover.specs.declared.log.LogFault.{LogFault}
-use Rattle.takeover.specs.declared.recovering.Recovered.{Recovered}
-use Rattle.session_spec.specs.Entering.{Enters, failed_since}
-use Rattle.takeover.specs.Entering.{StandsStill}
+use Rattle.session_spec.specs.Entering.{failed_since}
 use Rattle.takeover.specs.Found.{IsFoundOn}
 use Rattle.takeover.specs.LogOpen.{IsLogOpen, IsLogOpenBy}
 use Rattle.takeover.specs.Recovered.{IsRecovered}
 use Rattle.takeover.proofs.Failing.{fewer_borne, since_later}
 use Rattle.takeover.proofs.Loading.{same_geometry}
-use Rattle.takeover.proofs.RecoveredLemmas.{may_store, in_log, still_storing, left_or_lost, still_left, enough_left}
-use Rattle.takeover.proofs.Twice.{still_on, none_owed, borne_or_not, twice_since}
+use Rattle.takeover.proofs.RecoveredLemmas.{left_or_lost, still_left}
+use Rattle.takeover.proofs.Twice.{twice_since}
 
 -- the record is found, and then the log is opened
 module _ (old mid new : Shelved) (missing : Conditions) (arrays : List Array) (x : Loaded) (on : Continues old mid) (after : Continues mid new)
-    (first : LeavesOnly old mid (StandsStill old missing arrays))
     (found : IsBearable (geometry_of old) (failed_since old mid missing) → IsFoundOn mid x (failed_since old mid missing) arrays) where
-  pub then_moments : {W : Device → ℕ → Type 0} → WritesOnly W mid new
-      → (IsFoundOn mid x (failed_since old mid missing) arrays → LeavesOnly mid new (StandsStill mid (failed_since old mid missing) arrays)) → LeavesOnly old new (StandsStill old missing arrays)
-  then_moments writes next = then_run on first (elim (borne_or_not (geometry_of old) (failed_since old mid missing)) [
-    | inl bears ↦ weaker (λ stop both. still_on old mid missing arrays stop on both.1.counts both.0) (both_leave (next (found bears)) writes.any_moment)
-    | inr many ↦ weaker (λ stop left. none_owed old mid missing arrays stop left.counts many) writes.any_moment
-  ])
-
   same_conditions : failed_since mid new (failed_since old mid missing) ≡ failed_since old new missing
   same_conditions = twice_since old mid new missing on after
 
@@ -62,21 +42,8 @@ module _ (old mid new : Shelved) (missing : Conditions) (arrays : List Array) (x
 
 -- and the next record is stored
 module _ (old mid new : Shelved) (missing : Conditions) (arrays : List Array) (x : Loaded) (o : OpenedLog) (was : Register) (on : Continues old mid) (after : Continues mid new)
-    (first : LeavesOnly old mid (StandsStill old missing arrays))
     (opened : IsBearable (geometry_of old) (failed_since old mid missing) → IsLogOpen mid x (failed_since old mid missing) arrays o)
     (is_of : IsRegisterOf (geometry_of mid) was) (record_is : was.record ≡ x.record) (drives_are : was.drives ≡ x.drives) where
-  pub stored_moments : {W : Device → ℕ → Type 0} → WritesOnly W mid new
-      → ((commands : List Command) → MayStore mid was o.log.members (failed_since old mid missing) commands arrays
-      → LeavesOnly mid new (StandsBut mid (drives_of was) (failed_since old mid missing) (next_slot was.record) was.record arrays))
-      → LeavesOnly old new (StandsStill old missing arrays)
-  stored_moments writes next = then_run on first (elim (borne_or_not (geometry_of old) (failed_since old mid missing)) [
-    | inl bears ↦
-        let is = opened bears in
-        weaker (λ stop both. still_storing old mid missing arrays (drives_of was) (next_slot was.record) was.record stop on both.1.counts both.0)
-        (both_leave (next is.commands (may_store mid x (failed_since old mid missing) arrays o was is is_of record_is drives_are)) writes.any_moment)
-    | inr many ↦ weaker (λ stop left. none_owed old mid missing arrays stop left.counts many) writes.any_moment
-  ])
-
   module _ (bears : IsBearable (geometry_of old) (failed_since old new missing)) (now : Register) (lost_or_left : DroppedFailed mid new (drives_of was) (drives_of now)) (later : IsLaterRecord was.record now.record) where
     pub is_open : IsLogOpen mid x (failed_since old mid missing) arrays o
     is_open = opened (fewer_borne (geometry_of old) (failed_since old mid missing) (failed_since old new missing) (since_later old mid new missing after) bears)
@@ -92,6 +59,7 @@ module _ (old mid new : Shelved) (missing : Conditions) (arrays : List Array) (x
     recovered is_opened = record {
       commands = is_open.commands;
       keeps = is_open.keeps;
+      in_force = is_open.in_force;
       flushed = is_open.flushed ∙ sym (ap (λ (b : BootRecord). b.flushed) record_is) ∙ sym (ap (λ (b : BootRecord). b.flushed) later.rest);
       plain = is_open.plain;
       one_of = subst (λ (a : Array). Contains arrays a) (sym is_open.plain) is_open.one_of;
@@ -107,18 +75,3 @@ module _ (old mid new : Shelved) (missing : Conditions) (arrays : List Array) (x
         sound (Drive d) lt is = ap (λ (l : List Bool). slice_index_or l d.0 false) is_opened.drives
             ∙ still_left old mid new missing was.drives now.drives on after sound_mid dropped d.0 (omega (arith, lt, after.drives)) is
         sound (Nv n) lt is = ap (λ (l : List Bool). slice_index_or l n.0 false) is_opened.nvrams_are ∙ is_open.sound n.0 lt (before (Nv n) is)
-
-    -- the record can't fail to be stored
-    pub no_store_fault : (fault : StoreFault) → IsFaultOf now fault → was.record.generation < 2 ^ 48 - 16 → now.record.generation + set_count now.drives ≤ was.record.generation + set_count was.drives
-        → set_count was.drives ≤ was.record.slots → ⊥
-    no_store_fault fault is room lost within = fails fault is
-      where
-        enough : was.record.slots ≤ set_count now.drives + 2
-        enough = enough_left old mid new missing was.drives now.drives on after sound_mid dropped was.record.slots (is_of.lawful.slots ∙ on.drives) on.drives bears
-
-        slots_stay : now.record.slots ≡ was.record.slots
-        slots_stay = ap (λ (b : BootRecord). b.slots) later.rest
-
-        fails : (fault : StoreFault) → IsFaultOf now fault → ⊥
-        fails (TooFew drives) is = absurd (omega (arith, is.1, enough, slots_stay))
-        fails Spent is = absurd (omega (arith, is.1, room, lost, within, enough))

@@ -1,5 +1,5 @@
 -- No fault of a loading comes where the devices stand for arrays and no more is missing than is borne.
-use Rattle.std.proofs.Common.{◌≡◌, ◌⊎◌, inl, inr, ℕ, ◌+◌, ◌<◌, ◌≤◌, Bool, true, false, List, length, refl, sym, ◌∙◌, ap, subst, arith, Result, Ok, Err}
+use Rattle.std.proofs.Common.{◌≡◌, ◌⊎◌, inl, inr, ℕ, ◌+◌, ◌<◌, ◌≤◌, Bool, true, List, length, refl, sym, subst, arith, Result, Ok}
 use Rattle.std.proofs.lemmas.Bool.{cases_Bool}
 use Rattle.pur_base.specs.Plain.{Array}
 use Rattle.pur_base.specs.Devices.{Conditions, Sound, is_missing, IsBearable, drive}
@@ -8,18 +8,21 @@ use Rattle.boot_codec.specs.declared.bad_record.BadRecord.{BadRecord}
 use Rattle.boot_codec.specs.declared.record.BootRecord.{BootRecord}
 use Rattle.boot_codec.specs.Reading.{read_record}
 use Rattle.boot_codec.specs.Record.{set_count}
+use Rattle.boot_codec.specs.Spelling.{spelling}
 use Rattle.boot_codec.proofs.RecordLemmas.{record_again}
+use Rattle.array_spec.specs.Standing.{MayBeGiven}
+use Rattle.array_spec.proofs.Standings.{given_with_fewer}
 use Rattle.array_spec.proofs.Votes.{one_is_effective, not_missing}
-use Rattle.world.specs.Losing.{geometry_of}
+use Rattle.world.specs.Losing.{geometry_of, has_risen}
 use Rattle.world.specs.Shelf.{Shelved, Stop, IsSame, Continues, MayStop}
-use Rattle.boot_region.specs.declared.loading.Loaded.{Loaded}
 use Rattle.boot_region.specs.declared.loading.LoadFault.{LoadFault}
 use Rattle.boot_region.specs.declared.loading.LoadFault.TheVariants as faults
 use Rattle.boot_region.specs.Members.{IsMember}
 use Rattle.boot_region.specs.Regions.{IsRead}
-use Rattle.boot_region.specs.Loading.{IsFaultOf, IsBadBody, TooFewHold, IsLoadBy}
+use Rattle.boot_region.specs.Loading.{IsFaultOf, IsBadBody, IsSpent, TooFewHold}
+use Rattle.boot_region.proofs.Accounts.{losing_within}
 use Rattle.session_spec.specs.Entering.{Enters, failed_since}
-use Rattle.takeover.proofs.Loading.{given_here, here_decided, seen_effective, view, member_here}
+use Rattle.takeover.proofs.Loading.{at_time, may_at_time, same_leaves, view_appears, given_here, here_decided, seen_effective, view, member_here}
 use Rattle.takeover.proofs.Members.{enough}
 
 -- at most two drives don't have such a flag
@@ -57,10 +60,26 @@ module _ (old new : Shelved) (missing : Conditions) (arrays : List Array) (enter
             (λ i lt sound. member_here old new missing arrays enters on same bears bytes answered all read start may few.slot few.boot drives few.held i lt sound),
       ))
 
+  -- a record that may be given leaves room
+  spent : IsSpent (geometry_of old) bytes answered → ⊥
+  spent is =
+      let g : MayBeGiven (geometry_of old) start.image (failed_since old new missing) is.slot is.boot = record {
+        more = failed_since old new missing;
+        view = view old new missing arrays enters on same bears bytes answered all read start may;
+        appears = view_appears old new missing arrays enters on same bears bytes answered all read start may;
+        lawful = is.lawful;
+        effective = seen_effective old new missing arrays enters on same bears bytes answered all read start may is.slot (spelling is.boot) is.effective;
+      } in
+      let before = given_with_fewer {shelf = geometry_of old} {image = start.image} {missing = missing} {more = failed_since old new missing} {slot = is.slot} {boot = is.boot}
+      (losing_within (λ d. has_risen (old.disk d).faults (new.disk d).faults) missing) g in
+      let room = enters.room (at_time old start.image) (may_at_time old start.image (λ d. same_leaves (old.disk d) (new.disk d) (start.image d) (same d) (may.device d))) is.slot is.boot before in
+      absurd (omega (arith, room, is.spent))
+
   pub no_fault : (fault : LoadFault) → IsFaultOf (geometry_of old) bytes answered fault → (fault' : Type 0) → ((m : _) → fault ≡ faults.Memory m → fault') → fault'
   no_fault (faults.Memory m) is P memory = memory m refl
   no_fault faults.NoArray is P memory =
       let here = given_here old new missing arrays enters on same bears bytes answered all read start may in
       absurd (is here.slot _ (here_decided old new missing arrays enters on same bears bytes answered all read start may))
+  no_fault faults.Spent is P memory = absurd (spent is)
   no_fault (faults.BadRecord e) is P memory = absurd (bad_body e is)
   no_fault (faults.TooFew drives) is P memory = absurd (too_few drives is)

@@ -1,15 +1,13 @@
 -- Where no more is missing than is borne, no fault but want of memory comes from a loading.
-use Rattle.std.proofs.Common.{◌≡◌, List, Result, Ok, Err}
+use Rattle.std.proofs.Common.{List, Err}
 use Rattle.pur_base.specs.Plain.{Array}
 use Rattle.pur_base.specs.Devices.{Conditions, IsBearable}
 use Rattle.pur_base.specs.declared.device.Device.{Device}
 use Rattle.world.specs.Losing.{geometry_of}
 use Rattle.world.specs.Shelf.{Shelved, IsShelf, IsSame, Continues}
-use Rattle.boot_region.specs.declared.loading.Loaded.{Loaded}
 use Rattle.boot_region.specs.declared.loading.LoadFault.{LoadFault}
 use Rattle.boot_region.specs.declared.loading.LoadFault.TheVariants as faults
-use Rattle.boot_region.specs.Loading.{IsLoadBy, IsLoadOf}
-use Rattle.takeover.specs.declared.faults.OpenFault.{OpenFault}
+use Rattle.boot_region.specs.Loading.{IsLoadOf}
 use Rattle.session_spec.specs.Entering.{Enters, failed_since}
 use Rattle.takeover.specs.Faults.{fault_of}
 use Rattle.takeover.specs.Found.{IsFoundBy}
@@ -23,5 +21,7 @@ not_loaded old mid missing arrays is_mid h enters on same bears faults.NoArray b
     no_fault old mid missing arrays enters on same bears by.bytes by.answered by.all by.read (as_they_read mid) (may_read mid is_mid (on.honest h)) faults.NoArray by.answer ⊥ (λ m e. cc)
 not_loaded old mid missing arrays is_mid h enters on same bears (faults.BadRecord b) by =
     no_fault old mid missing arrays enters on same bears by.bytes by.answered by.all by.read (as_they_read mid) (may_read mid is_mid (on.honest h)) (faults.BadRecord b) by.answer ⊥ (λ m e. cc)
+not_loaded old mid missing arrays is_mid h enters on same bears faults.Spent by =
+    no_fault old mid missing arrays enters on same bears by.bytes by.answered by.all by.read (as_they_read mid) (may_read mid is_mid (on.honest h)) faults.Spent by.answer ⊥ (λ m e. cc)
 not_loaded old mid missing arrays is_mid h enters on same bears (faults.TooFew drives) by =
     no_fault old mid missing arrays enters on same bears by.bytes by.answered by.all by.read (as_they_read mid) (may_read mid is_mid (on.honest h)) (faults.TooFew drives) by.answer ⊥ (λ m e. cc)

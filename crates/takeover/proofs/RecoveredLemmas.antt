@@ -1,43 +1,27 @@
 -- From the log that was opened to the record that is stored.
-use Rattle.std.proofs.Common.{◌≡◌, ◌⊎◌, inl, inr, ℕ, ◌+◌, ◌-◌, ◌^◌, ◌<◌, ◌≤◌, Bool, true, false, List, [], length, take, refl, sym, ◌∙◌, ap, subst, arith, Result, Ok, Err}
-use Rattle.pur_base.specs.Commands.{Command, AllAccepted, after_all}
+use Rattle.std.proofs.Common.{◌≡◌, ◌⊎◌, inl, inr, ℕ, ◌<◌, ◌≤◌, Bool, false, List, take, refl, sym, ◌∙◌, ap, subst, arith}
 use Rattle.pur_base.specs.Plain.{Array}
-use Rattle.pur_base.specs.Devices.{Geometry, Conditions, Sound, LeftOut, IsBearable, IsOn, drive, nvram}
+use Rattle.pur_base.specs.Devices.{Conditions, Sound, drive}
 use Rattle.pur_base.specs.declared.device.Device.{Device}
-use Rattle.pur_base.specs.declared.device.Device.TheVariants.{Drive, Nv}
 use Rattle.boot_codec.specs.declared.record.BootRecord.{BootRecord}
-use Rattle.boot_codec.specs.Record.{set_count}
-use Rattle.boot_codec.specs.Region.{BootSlot, other_slot, slot_of, body_in, names, IsRecordOf}
+use Rattle.boot_codec.specs.Region.{BootSlot, other_slot, body_in}
 use Rattle.boot_codec.specs.Spelling.{spelling}
-use Rattle.array_spec.specs.Standing.{Stands}
-use Rattle.world.specs.Counts.{Rises}
 use Rattle.world.specs.Losing.{geometry_of, has_risen}
-use Rattle.world.specs.Shelf.{Shelved, Stop, IsShelf, Continues, IsCountedBy}
+use Rattle.world.specs.Shelf.{Shelved, Continues}
 use Rattle.boot_region.specs.declared.loading.Loaded.{Loaded}
-use Rattle.boot_region.specs.Loading.{IsLawfulLoad}
 use Rattle.boot_region.specs.Members.{IsMember, DroppedFailed, LostWrites}
 use Rattle.boot_region.specs.Slots.{slot_in}
-use Rattle.boot_region.specs.Storing.{IsInForceOn, StandsBut, AccountsFor}
-use Rattle.boot_region.proofs.Accounts.{failed_calls}
+use Rattle.boot_region.specs.Storing.{IsInForceOn}
 use Rattle.boot_region.proofs.Phases.{not_risen_before, risen_on_way}
 use Rattle.nvram_log.specs.Held.{HoldsOn}
-use Rattle.nvram_log.specs.Members.{IsMember as IsLogMember}
 use Rattle.register.specs.declared.state.Register.{Register}
-use Rattle.register.specs.declared.next.StoreFault.{StoreFault}
-use Rattle.register.specs.declared.next.StoreFault.TheVariants.{Spent, TooFew}
-use Rattle.register.specs.Faults.{IsFaultOf}
 use Rattle.register.specs.Registers.{IsRegisterOf, drives_of, own_slot, next_slot}
-use Rattle.register.specs.Standing.{StandsInLog, MayStore, IsOpen}
+use Rattle.register.specs.Standing.{StandsInLog, MayStore}
 use Rattle.register.proofs.FlagLemmas.{in_cut, cut_in}
-use Rattle.session_spec.specs.Entering.{failed_since, failed_by}
-use Rattle.takeover.specs.Entering.{StandsStill}
-use Rattle.takeover.specs.Found.{IsFoundOn}
+use Rattle.session_spec.specs.Entering.{failed_since}
 use Rattle.takeover.specs.LogOpen.{IsLogOpen}
 use Rattle.takeover.specs.declared.log.OpenedLog.{OpenedLog}
 use Rattle.takeover.proofs.Failing.{sound_since}
-use Rattle.takeover.proofs.NoFault.{few_lack}
-use Rattle.takeover.proofs.Loading.{same_geometry}
-use Rattle.takeover.proofs.Twice.{twice_by}
 
 -- the record that was found is in force on the drives of the shelf
 cut_force : (n : ℕ) (flags : List Bool) (shelf : Shelved) (missing : Conditions) (slot : BootSlot) (boot : BootRecord) → shelf.drives ≤ n → IsInForceOn shelf flags missing slot boot → IsInForceOn shelf (take n flags) missing slot boot
@@ -85,18 +69,6 @@ module _ (shelf : Shelved) (x : Loaded) (missing : Conditions) (arrays : List Ar
     left_out = opened.left_out;
   }
 
--- at a moment of the store
-pub still_storing : (old mid : Shelved) (missing : Conditions) (arrays : List Array) (members : List Bool) (slot : BootSlot) (held : BootRecord) (stop : Stop) → Continues old mid → IsCountedBy mid stop
-    → StandsBut mid members (failed_since old mid missing) slot held arrays stop → StandsStill old missing arrays stop
-still_storing old mid missing arrays members slot held stop on counts stands bears =
-    let same = twice_by old mid stop missing on counts in
-    let e : geometry_of old ≡ geometry_of mid = same_geometry on in
-    let later = failed_by mid stop (failed_since old mid missing) in
-    let bears_mid : IsBearable (geometry_of mid) later = subst (λ (g : Geometry). IsBearable g later) e (subst (λ (c : Conditions). IsBearable (geometry_of old) c) (sym same) bears) in
-    subst (λ (c : Conditions). Stands (geometry_of old) stop.image c arrays) same
-    (subst (λ (g : Geometry). Stands g stop.image later arrays) (sym e)
-    (stands later (failed_calls mid members (failed_since old mid missing) slot (spelling held) stop.faults stop.write_faults bears_mid)))
-
 -- a drive of the shelf on which the record was in force is left, or lost a write
 pub left_or_lost : (old new : Shelved) (was now : Register) → was.record.slots ≡ old.drives → DroppedFailed old new (drives_of was) (drives_of now) → (i : ℕ) → i < old.drives → IsMember was.drives i
     → IsMember now.drives i ⊎ LostWrites (old.disk (drive i)) (new.disk (drive i))
@@ -121,7 +93,3 @@ module _ (old mid new : Shelved) (missing : Conditions) (drives left : List Bool
         where
           before : (d : Device) → has_risen (old.disk d).faults (new.disk d).faults ≡ false → has_risen (old.disk d).faults (mid.disk d).faults ≡ false
           before d none = not_risen_before (old.disk d).faults (mid.disk d).faults (new.disk d).faults (after.faults d) none
-
-  pub enough_left : (slots : ℕ) → slots ≡ old.drives → mid.drives ≡ old.drives → IsBearable (geometry_of old) (failed_since old new missing) → slots ≤ set_count left + 2
-  enough_left slots same same_mid bears =
-      omega (arith, same, few_lack old.drives (failed_since old new missing) left old.units bears (λ i lt is. still_left i (omega (arith, lt, same_mid)) is))

@@ -1,17 +1,13 @@
 -- Devices that fail in one call and then in the next.
-use Rattle.std.proofs.Common.{◌≡◌, ◌⊎◌, inl, inr, ℕ, ◌-◌, ◌^◌, ◌<◌, ◌≤◌, Bool, true, false, List, refl, sym, ◌∙◌, ap, subst, arith}
+use Rattle.std.proofs.Common.{◌≡◌, ◌⊎◌, inl, inr, ℕ, ◌<◌, ◌≤◌, Bool, true, false, refl, sym, subst, arith}
 use Rattle.std.proofs.lemmas.Bool.{cases_Bool, cases_lt}
 use Rattle.pur_base.specs.declared.device.Device.{Device}
 use Rattle.pur_base.specs.Devices.{Geometry, Condition, Conditions, Sound, Missing, LeftOut, IsBearable, missing_drives, missing_nvrams}
-use Rattle.pur_base.specs.Plain.{Array}
-use Rattle.array_spec.specs.Standing.{Stands}
 use Rattle.world.specs.Shelf.{Shelved, Stop, Continues, IsCountedBy}
-use Rattle.world.specs.Losing.{geometry_of, has_risen, missing_if, losing}
+use Rattle.world.specs.Losing.{has_risen, missing_if}
 use Rattle.boot_region.proofs.Phases.{not_risen_before, risen_on_way}
 use Rattle.session_spec.specs.Entering.{failed_since, failed_by}
-use Rattle.takeover.specs.Entering.{StandsStill}
-use Rattle.takeover.proofs.Failing.{since_mid, fewer_borne, by_stop}
-use Rattle.takeover.proofs.Loading.{same_geometry}
+use Rattle.takeover.proofs.Failing.{since_mid}
 
 -- a count rose in all where it rose in one of the two
 rose_in_one : (a b c : ℕ) → a ≤ b → b ≤ c → has_risen a b ≡ false → has_risen b c ≡ false → has_risen a c ≡ false
@@ -61,19 +57,6 @@ twice_since old mid new missing on after = λ k d. each d k
         let b = (mid.disk d).faults in
         let c = (new.disk d).faults in
         twice_at (missing d) (has_risen a b) (has_risen b c) (has_risen a c) (not_risen_before a b c (after.faults d)) (since_mid a b c (on.faults d) (after.faults d)) (rose_in_one a b c (on.faults d) (after.faults d))
-
--- what stands by what failed since the second moment stands by what failed since the first
-pub still_on : (old mid : Shelved) (missing : Conditions) (arrays : List Array) (stop : Stop) → Continues old mid → IsCountedBy mid stop → StandsStill mid (failed_since old mid missing) arrays stop → StandsStill old missing arrays stop
-still_on old mid missing arrays stop on counts stands bears =
-    let same = twice_by old mid stop missing on counts in
-    let e : geometry_of old ≡ geometry_of mid = same_geometry on in
-    subst (λ (c : Conditions). Stands (geometry_of old) stop.image c arrays) same
-    (subst (λ (g : Geometry). Stands g stop.image (failed_by mid stop (failed_since old mid missing)) arrays) (sym e)
-    (stands (subst (λ (g : Geometry). IsBearable g (failed_by mid stop (failed_since old mid missing))) e (subst (λ (c : Conditions). IsBearable (geometry_of old) c) (sym same) bears))))
-
--- nothing is owed once more is missing than is borne
-pub none_owed : (old mid : Shelved) (missing : Conditions) (arrays : List Array) (stop : Stop) → IsCountedBy mid stop → (IsBearable (geometry_of old) (failed_since old mid missing) → ⊥) → StandsStill old missing arrays stop
-none_owed old mid missing arrays stop counts too_many bears = absurd (too_many (fewer_borne (geometry_of old) (failed_since old mid missing) (failed_by old stop missing) (by_stop old mid stop missing counts) bears))
 
 -- a set is borne or it isn't
 pub borne_or_not : (shelf : Geometry) (missing : Conditions) → IsBearable shelf missing ⊎ (IsBearable shelf missing → ⊥)

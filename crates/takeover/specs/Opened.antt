@@ -1,5 +1,5 @@
 -- What an opening found and did, whatever failed, or why the array wasn't opened.
-use Rattle.std.specs.Prelude.{◌≡◌, ◌<◌, ◌+◌, List, Result, Ok, Err, Option, Some, IfSome}
+use Rattle.std.specs.Prelude.{◌≡◌, ◌<◌, ◌+◌, List, [], Result, Ok, Err, Option, Some, IfSome}
 use Rattle.pur_base.specs.Devices.{Conditions, Sound, IsBearable}
 use Rattle.pur_base.specs.Plain.{Array}
 use Rattle.pur_base.specs.declared.device.Device.{Device}
@@ -44,7 +44,7 @@ pub record IsShut (old new : Shelved) (e : OpenFault) : Type 0 where
   pub found : Option (Found (geometry_of old) (read_now old).image)
   pub silent : IfSome found (λ f. OnlyFailedAreSilent (has_failed (read_now old) (read_now new)) f.view)
   pub each : (missing : Conditions) (arrays : List Array) → Enters old missing arrays → LeavesOnly old new (StandsStill old found missing arrays)
-  pub clean : (missing : Conditions) (arrays : List Array) → Enters old missing arrays → AreClean new (failed_since old new missing)
+  pub clean : (missing : Conditions) (arrays : List Array) → Enters old missing arrays → IsBearable (geometry_of old) (failed_since old new missing) → AreClean new (failed_since old new missing)
   pub cause : (missing : Conditions) (arrays : List Array) → Enters old missing arrays → IsBearable (geometry_of old) (failed_since old new missing) → status_of e ≡ status.Memory
 
 -- the one or the other

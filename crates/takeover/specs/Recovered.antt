@@ -1,5 +1,5 @@
 -- What an opening leaves: the array in memory, its log and its record, for which the devices stand.
-use Rattle.std.specs.Prelude.{◌≡◌, ℕ, ◌<◌, List, [], true, Contains, Result, Ok, Err, ⊤}
+use Rattle.std.specs.Prelude.{◌≡◌, List, [], true, Contains}
 use Rattle.std.specs.List.{AllByRecursion}
 use Rattle.pur_base.specs.Commands.{Command, after_all}
 use Rattle.pur_base.specs.Grammar.{is_in_force}
@@ -13,8 +13,6 @@ use Rattle.nvram_log.specs.Held.{Keeps}
 use Rattle.nvram_log.specs.Members.{IsSome}
 use Rattle.register.specs.Standing.{IsOpen}
 use Rattle.takeover.specs.declared.recovering.Recovered.{Recovered}
-use Rattle.takeover.specs.declared.faults.OpenFault.{OpenFault}
-use Rattle.takeover.specs.declared.faults.OpenFault.TheVariants as open_fault
 
 -- The array in memory is one of the arrays. A record is in force alone that names each device that isn't missing, and by it the devices stand for that array.
 pub record IsRecovered (shelf : Shelved) (r : Recovered) (missing : Conditions) (arrays : List Array) : Type 0 where
@@ -27,11 +25,3 @@ pub record IsRecovered (shelf : Shelved) (r : Recovered) (missing : Conditions) 
   pub some : IsSome r.log.members
   pub opened : IsOpen shelf r.register r.log.members commands
   pub sound : (d : Device) → IsOn (geometry_of shelf) d → missing d ≡ Sound → names r.register.record d ≡ true
-
--- Where no more is missing than is borne, the array is recovered, or memory was wanting, or the devices have what isn't served yet.
-abbrev pub IsRecoveredBy : Shelved → Conditions → List Array → Result Recovered OpenFault → Type 0
-IsRecoveredBy shelf missing arrays (Ok r) = IsRecovered shelf r missing arrays
-IsRecoveredBy shelf missing arrays (Err (open_fault.Memory m)) = ⊤
-IsRecoveredBy shelf missing arrays (Err open_fault.HasPatches) = ⊤
-IsRecoveredBy shelf missing arrays (Err open_fault.Unserved) = ⊤
-IsRecoveredBy shelf missing arrays (Err e) = ⊥

@@ -1,5 +1,6 @@
 -- The commands of a log, applied to an array up to the first that it refuses.
 use Rattle.std.specs.Prelude.{◌≡◌, ℕ, Bool, true, false, List, take, Some, slice_get}
+use Rattle.std.specs.List.{AllByRecursion}
 use Rattle.pur_base.specs.declared.request.Request.{Request}
 use Rattle.pur_base.specs.Commands.{Command, Accepts, AllAccepted, after, after_all}
 use Rattle.pur_base.specs.Grammar.{is_in_force}
@@ -13,8 +14,9 @@ use Rattle.nvram_log.specs.Held.{Keeps}
 use Rattle.takeover.specs.declared.log.LogFault.{LogFault}
 use Rattle.takeover.specs.declared.log.LogFault.TheVariants as log_fault
 
--- the first commands are accepted, one after the other, and make the array; the next one is refused
+-- the first commands are of forms in force, are accepted, one after the other, and make the array; the next one is refused
 pub record IsReplayed (a : Array) (commands : List Command) (count : ℕ) (b : Array) : Type 0 where
+  pub in_force : AllByRecursion (λ c. is_in_force c.request ≡ true) (take count commands)
   pub accepted : AllAccepted a (take count commands)
   pub array : b ≡ after_all a (take count commands)
   pub refused : (c : Command) → slice_get commands count ≡ Some c → ¬ (Accepts b c)

@@ -7,20 +7,24 @@ use Rattle.pur_base.specs.Grammar.{is_in_force}
 use Rattle.log_codec.specs.Log.{ShowsIn, LogStands}
 use Rattle.world.specs.Shelf.{Shelved}
 use Rattle.nvram_log.specs.Held.{Keeps, shown_by}
-use Rattle.nvram_log.specs.Members.{IsMember}
+use Rattle.nvram_log.specs.Members.{IsFewer, IsMember}
 use Rattle.nvram_log.specs.Read.{DroppedCounted}
 use Rattle.takeover.specs.declared.log.OpenedLog.{OpenedLog}
 use Rattle.takeover.specs.declared.log.LogFault.{LogFault}
 use Rattle.takeover.specs.declared.log.LogFault.TheVariants as log_fault
 
--- the members that are left showed this log, of forms in force alone, and the array is what it makes of nothing
+-- The members that were read showed this log, of forms in force alone, and the array is what it makes of nothing. Each one that was named and wasn't read failed, and so did each that isn't left.
 pub record IsReplayedFrom (old new : Shelved) (nvrams : List Bool) (flushed : ℕ) (o : OpenedLog) : Type 0 where
+  pub read : List Bool
+  pub named : IsFewer nvrams read
+  pub left : IsFewer read o.log.members
   pub log : List Command
-  pub log_stands : LogStands (shown_by old o.log.members) flushed [] log
+  pub log_stands : LogStands (shown_by old read) flushed [] log
   pub in_force : AllByRecursion (λ c. is_in_force c.request ≡ true) log
   pub keeps : Keeps o.log log
   pub plain : o.plain ≡ after_all [] log
   pub count : o.log.count ≡ length log
+  pub unread : DroppedCounted old new nvrams read
   pub dropped : DroppedCounted old new nvrams o.log.members
 
 -- a device that was named showed a command of a form that isn't served

@@ -1,5 +1,5 @@
 -- What the drives showed when the record was found, and the moments from there on at which it may still be given.
-use Rattle.std.specs.Prelude.{◌≡◌, ◌⊎◌, ℕ, ◌<◌, List, [], true, Option, Some, None, Result, Ok, Err, ⊤}
+use Rattle.std.specs.Prelude.{◌≡◌, ◌⊎◌, ℕ, ◌<◌, List, [], true, Some, None, Result, Ok, Err, ⊤}
 use Rattle.pur_base.specs.declared.device.Device.{Device}
 use Rattle.pur_base.specs.Devices.{View, Conditions, IsBearable, drive, nvram}
 use Rattle.pur_base.specs.Plain.{Array}

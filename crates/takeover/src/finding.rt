@@ -1,21 +1,25 @@
 // The boot record is found and settled.
-ghost use Rattle.std.specs.Prelude.{◌≡◌, ◌⊎◌, ◌<◌, ◌≤◌, ℕ, List, IfOk};
-ghost use Rattle.pur_base.specs.Devices.{Conditions, IsBearable, drive};
+ghost use Rattle.std.specs.Prelude.{◌≡◌, ◌⊎◌, ◌<◌, ◌≤◌, ◌+◌, ℕ, List, [], IfOk, Some, None, true};
+ghost use Rattle.pur_base.specs.declared.device.Device.{Device};
+ghost use Rattle.pur_base.specs.Devices.{Conditions, IsBearable, drive, nvram};
+ghost use Rattle.pur_base.specs.Gates.{is_open};
 ghost use Rattle.pur_base.specs.Plain.{Array};
 ghost use Rattle.boot_codec.specs.Record.{set_count};
-ghost use Rattle.boot_codec.specs.Region.{gate_place, other_slot};
+ghost use Rattle.boot_codec.specs.Region.{body_in, gate_place, other_slot, shown_by};
+ghost use Rattle.boot_codec.specs.Spelling.{spelling};
 ghost use Rattle.array_spec.specs.Standing.{Stands};
 ghost use Rattle.world.specs.Counts.{Rises};
 ghost use Rattle.world.specs.Losing.{geometry_of};
-ghost use Rattle.world.specs.Shelf.{Continues, LeavesOnly};
+ghost use Rattle.world.specs.Shelf.{Continues, IsCountedBy, IsSame, LeavesOnly};
 ghost use Rattle.world.specs.Writes.{WritesOnly};
 ghost use Rattle.boot_region.specs.Loading.{IsLawfulLoad};
 ghost use Rattle.boot_region.specs.Members.{IsMember, OnClosed};
 ghost use Rattle.boot_region.specs.Slots.{slot_in};
-ghost use Rattle.boot_region.specs.Storing.{IsFound, IsInForceOn, IsLoaded, TellsFailed};
-ghost use Rattle.session_spec.specs.Entering.{Enters, failed_since};
-ghost use Rattle.takeover.specs.Entering.{StandsStill};
+ghost use Rattle.boot_region.specs.Storing.{IsFound, IsInForceOn, IsLoaded, Shows, TellsFailed};
+ghost use Rattle.session_spec.specs.Entering.{Enters, StandsStill, failed_since};
 ghost use Rattle.takeover.specs.Found.{IsFoundBy};
+ghost use Rattle.takeover.specs.Opened.{AreClean};
+ghost use Rattle.takeover.specs.Seen.{IsSeenBy};
 
 use crate::OpenFault;
 use boot_codec::DRIVE_FLAGS;
@@ -43,6 +47,16 @@ fn settle_loaded<S: Shelf>(shelf: &mut S, loaded: &mut Loaded)
         → IsMember loaded.new.drives i ⊎ Rises ((S.shelf shelf.old).disk (drive i)).faults ((S.shelf shelf.new).disk (drive i)).faults }
     ensures writes { (S.shelf shelf.old).honest → WritesOnly (OnClosed loaded.old.drives (S.shelf shelf.old) (gate_place (slot_in loaded.old.slot))) (S.shelf shelf.old) (S.shelf shelf.new) }
     ensures rest { S.shelf_rest shelf.old shelf.new }
+    ensures nvrams { (n : ℕ) → (S.shelf shelf.new).disk (nvram n) ≡ (S.shelf shelf.old).disk (nvram n) }
+    // The gates of those that are left are open.
+    ensures opened { (S.shelf shelf.old).honest → (i : ℕ) → i < (S.shelf shelf.old).drives → IsMember loaded.new.drives i
+        → is_open (gate_place (slot_in loaded.old.slot)) ((S.shelf shelf.new).disk (drive i)).bytes ≡ true }
+    // What was clean is clean still, or a call on it failed.
+    ensures clean { (S.shelf shelf.old).honest → (d : Device) → ((S.shelf shelf.old).disk d).dirty ≡ []
+        → (((S.shelf shelf.new).disk d).dirty ≡ []) ⊎ Rises ((S.shelf shelf.old).disk d).faults ((S.shelf shelf.new).disk d).faults }
+    // A drive that is left shows the body that stood there, with nothing dirty.
+    ensures shows { (S.shelf shelf.old).honest → (body : List ℕ) (i : ℕ) → i < (S.shelf shelf.old).drives → IsMember loaded.new.drives i
+        → body_in (slot_in loaded.old.slot) ((S.shelf shelf.old).disk (drive i)).bytes ≡ body → Shows (S.shelf shelf.new) (slot_in loaded.old.slot) body i }
     // At every moment the devices stand for the arrays for which they stood.
     ensures any_moment { (S.shelf shelf.old).honest → (missing : Conditions) (arrays : List Array)
         → IsLoaded (S.shelf shelf.old) loaded.old.drives missing (slot_in loaded.old.slot) loaded.old.record arrays
@@ -65,9 +79,21 @@ pub fn find_record<S: Shelf>(alloc: Global, shelf: &mut S) -> Result<Loaded, Ope
     ensures continues { Continues (S.shelf shelf.old) (S.shelf shelf.new) }
     ensures rest { S.shelf_rest shelf.old shelf.new }
     ensures lawful { IfOk result (IsLawfulLoad (geometry_of (S.shelf shelf.new))) }
-    // At every moment the devices stand for the arrays for which they stood.
+    // The drives that are left show the record, whatever is missing, and at most two of the shelf's aren't among them.
+    ensures shown { (S.shelf shelf.old).honest → IfOk result (λ x. (i : ℕ) → IsMember x.drives i → shown_by (slot_in x.slot) ((S.shelf shelf.new).disk (drive i)).bytes ≡ Some (spelling x.record)) }
+    ensures enough { IfOk result (λ x. (S.shelf shelf.new).drives ≤ set_count x.drives + 2) }
+    ensures moments { (S.shelf shelf.old).honest → LeavesOnly (S.shelf shelf.old) (S.shelf shelf.new) (IsCountedBy (S.shelf shelf.old)) }
+    ensures nvrams { (S.shelf shelf.old).honest → (n : ℕ) → IsSame ((S.shelf shelf.old).disk (nvram n)) ((S.shelf shelf.new).disk (nvram n)) }
+    // What the drives showed gives the record, or why there is none.
+    ensures seen { (S.shelf shelf.old).honest → IsSeenBy (S.shelf shelf.old) (S.shelf shelf.new) result }
+    // Each drive that is left shows the record, with nothing dirty.
+    ensures shows { (S.shelf shelf.old).honest → IfOk result (λ x. (i : ℕ) → i < (S.shelf shelf.old).drives → IsMember x.drives i → Shows (S.shelf shelf.new) (slot_in x.slot) (spelling x.record) i) }
+    // At every moment the devices stand for the arrays for which they stood, and nothing was stored.
     ensures any_moment { (S.shelf shelf.old).honest → (missing : Conditions) (arrays : List Array) → Enters (S.shelf shelf.old) missing arrays
-        → LeavesOnly (S.shelf shelf.old) (S.shelf shelf.new) (StandsStill (S.shelf shelf.old) missing arrays) }
+        → LeavesOnly (S.shelf shelf.old) (S.shelf shelf.new) (StandsStill (S.shelf shelf.old) None missing arrays) }
+    // At its end nothing is dirty on devices that aren't missing.
+    ensures clean { (S.shelf shelf.old).honest → (missing : Conditions) (arrays : List Array) → Enters (S.shelf shelf.old) missing arrays
+        → AreClean (S.shelf shelf.new) (failed_since (S.shelf shelf.old) (S.shelf shelf.new) missing) }
     // Where no more is missing than is borne it is found.
     ensures found { (S.shelf shelf.old).honest → (missing : Conditions) (arrays : List Array) → Enters (S.shelf shelf.old) missing arrays
         → IsBearable (geometry_of (S.shelf shelf.old)) (failed_since (S.shelf shelf.old) (S.shelf shelf.new) missing)

@@ -1,22 +1,24 @@
 // The log is opened.
-ghost use Rattle.std.specs.Prelude.{◌≡◌, ℕ, ◌<◌, ◌≤◌, List, [], length, IfOk, IfErr};
+ghost use Rattle.std.specs.Prelude.{◌≡◌, ℕ, ◌<◌, ◌≤◌, List, [], None, length, IfOk, IfErr};
 ghost use Rattle.pur_base.specs.Commands.{Command};
+ghost use Rattle.pur_base.specs.declared.device.Device.{Device};
 ghost use Rattle.pur_base.specs.Devices.{Conditions, IsBearable, drive, nvram};
 ghost use Rattle.pur_base.specs.Plain.{Array};
 ghost use Rattle.pur_base.specs.declared.limits.TheConstants.{REQUEST_SECTORS};
 ghost use Rattle.world.specs.Losing.{geometry_of};
-ghost use Rattle.world.specs.Shelf.{Continues, LeavesOnly};
+ghost use Rattle.world.specs.Shelf.{Continues, IsCountedBy, LeavesOnly};
 ghost use Rattle.world.specs.Writes.{WritesOnly};
 ghost use Rattle.boot_region.specs.declared.loading.Loaded.{Loaded};
 ghost use Rattle.nvram_log.specs.Held.{Keeps, shown_by};
 ghost use Rattle.nvram_log.specs.Members.{IsFewer, IsMember, IsSome, OnMembers};
 ghost use Rattle.nvram_log.specs.Read.{AllFailed, DroppedCounted, IsReadFrom, OnNothing};
 ghost use Rattle.nvram_log.specs.Settling.{AreAsSeen};
-ghost use Rattle.session_spec.specs.Entering.{failed_since};
-ghost use Rattle.takeover.specs.Entering.{StandsStill};
+ghost use Rattle.session_spec.specs.Entering.{StandsStill, failed_since};
 ghost use Rattle.takeover.specs.Found.{IsFoundOn};
 ghost use Rattle.takeover.specs.LogOpen.{IsLogFault, IsLogOpenBy};
+ghost use Rattle.takeover.specs.Opened.{AreClean};
 ghost use Rattle.takeover.specs.Replay.{IsReplayed, IsReplayFault, log_fault_of};
+ghost use Rattle.takeover.specs.Replayed.{IsReplayedBy};
 ghost use Rattle.takeover.specs.declared.log.LogFault.TheVariants as faults;
 
 use crate::replay::replay;
@@ -116,6 +118,7 @@ fn read_synced<S: Shelf>(
     ensures log { IfOk result (λ log. IsReadFrom (S.shelf shelf.old).honest (shown_by (S.shelf shelf.new) log.members) log) }
     ensures seen { (S.shelf shelf.old).honest → IfOk result (λ log. AreAsSeen (S.shelf shelf.new) log) }
     ensures clean { (S.shelf shelf.old).honest → IfOk result (λ log. (n : ℕ) → n < 2 → IsMember log.members n → ((S.shelf shelf.new).disk (nvram n)).dirty ≡ []) }
+    ensures still_clean { (S.shelf shelf.old).honest → (d : Device) → ((S.shelf shelf.old).disk d).dirty ≡ [] → ((S.shelf shelf.new).disk d).dirty ≡ [] }
     ensures err { IfErr result (λ fault. AllFailed fault (S.shelf shelf.old) (S.shelf shelf.new) nvrams) }
 {
     let mut members = nvrams;
@@ -137,10 +140,16 @@ pub fn open_log<S: Shelf>(
     ensures flushed { IfOk result (λ o. o.log.flushed ≡ flushed) }
     ensures members { IfOk result (λ o. IsFewer nvrams o.log.members × IsSome o.log.members) }
     ensures err { IfErr result (λ fault. IsLogFault fault (S.shelf shelf.old) (S.shelf shelf.new) nvrams flushed) }
-    // At every moment the devices stand for the arrays for which they stood.
+    // A stop at any moment counts no fewer failed calls than there were.
+    ensures moments { (S.shelf shelf.old).honest → LeavesOnly (S.shelf shelf.old) (S.shelf shelf.new) (IsCountedBy (S.shelf shelf.old)) }
+    // The log that the devices showed makes the array, or one showed a command that isn't served.
+    ensures replayed { (S.shelf shelf.old).honest → IsReplayedBy (S.shelf shelf.old) (S.shelf shelf.new) nvrams flushed result }
+    // At every moment the devices stand for the arrays for which they stood, and nothing was stored.
     ensures any_moment { (S.shelf shelf.old).honest → (x : Loaded) (missing : Conditions) (arrays : List Array) → x.record.members.nvrams ≡ nvrams → x.record.flushed ≡ flushed
         → IsFoundOn (S.shelf shelf.old) x missing arrays
-        → LeavesOnly (S.shelf shelf.old) (S.shelf shelf.new) (StandsStill (S.shelf shelf.old) missing arrays) }
+        → LeavesOnly (S.shelf shelf.old) (S.shelf shelf.new) (StandsStill (S.shelf shelf.old) None missing arrays) }
+    // Where nothing was dirty on devices that aren't missing, nothing is, whatever the result.
+    ensures clean { (S.shelf shelf.old).honest → (missing : Conditions) → AreClean (S.shelf shelf.old) missing → AreClean (S.shelf shelf.new) (failed_since (S.shelf shelf.old) (S.shelf shelf.new) missing) }
     // Where no more is missing than is borne it is opened.
     ensures opened { (S.shelf shelf.old).honest → (x : Loaded) (missing : Conditions) (arrays : List Array) → x.record.members.nvrams ≡ nvrams → x.record.flushed ≡ flushed
         → IsFoundOn (S.shelf shelf.old) x missing arrays

@@ -1,13 +1,9 @@
 // The array is recovered from its devices.
-ghost use Rattle.std.specs.Prelude.{◌≡◌, ◌+◌, ◌<◌, ◌≤◌, ℕ, List, IfOk};
-ghost use Rattle.pur_base.specs.Devices.{Conditions, IsBearable};
-ghost use Rattle.pur_base.specs.Plain.{Array};
+ghost use Rattle.std.specs.Prelude.{◌≡◌, IfOk};
 ghost use Rattle.world.specs.Losing.{geometry_of};
-ghost use Rattle.world.specs.Shelf.{Continues, LeavesOnly};
+ghost use Rattle.world.specs.Shelf.{Continues, IsCountedBy, LeavesOnly};
 ghost use Rattle.register.specs.Registers.{IsRegisterOf};
-ghost use Rattle.session_spec.specs.Entering.{Enters, failed_since};
-ghost use Rattle.takeover.specs.Entering.{StandsStill};
-ghost use Rattle.takeover.specs.Recovered.{IsRecoveredBy};
+ghost use Rattle.takeover.specs.Opened.{IsOpenedBy};
 
 use crate::{OpenFault, find_record, open_log};
 use array_model::Plain;
@@ -33,13 +29,12 @@ pub fn recover<S: Shelf>(alloc: Global, shelf: &mut S) -> Result<Recovered, Open
     // The record is one of the shelf's, and the log follows on what it has flushed.
     ensures is_of { IfOk result (λ r. IsRegisterOf (geometry_of (S.shelf shelf.new)) r.register) }
     ensures flushed { IfOk result (λ r. r.log.flushed ≡ r.register.record.flushed) }
-    // At every moment the devices stand for the arrays for which they stood.
-    ensures any_moment { (S.shelf shelf.old).honest → (missing : Conditions) (arrays : List Array) → Enters (S.shelf shelf.old) missing arrays
-        → LeavesOnly (S.shelf shelf.old) (S.shelf shelf.new) (StandsStill (S.shelf shelf.old) missing arrays) }
-    // Where no more is missing than is borne it is recovered.
-    ensures recovered { (S.shelf shelf.old).honest → (missing : Conditions) (arrays : List Array) → Enters (S.shelf shelf.old) missing arrays
-        → IsBearable (geometry_of (S.shelf shelf.old)) (failed_since (S.shelf shelf.old) (S.shelf shelf.new) missing)
-        → IsRecoveredBy (S.shelf shelf.new) (failed_since (S.shelf shelf.old) (S.shelf shelf.new) missing) arrays result }
+    // The record names the drives on which it is in force, and the NVRAM devices of the log.
+    ensures named { IfOk result (λ r. (r.register.record.members.drives ≡ r.register.drives) × (r.register.record.members.nvrams ≡ r.log.members)) }
+    // A stop at any moment counts no fewer failed calls than there were.
+    ensures moments { (S.shelf shelf.old).honest → LeavesOnly (S.shelf shelf.old) (S.shelf shelf.new) (IsCountedBy (S.shelf shelf.old)) }
+    // What was found and done, or why the array isn't opened. For arrays for which the devices stood, they do so at every moment.
+    ensures opened { (S.shelf shelf.old).honest → IsOpenedBy (S.shelf shelf.old) (S.shelf shelf.new) result }
 {
     let loaded = find_record(alloc, shelf)?;
     let nvrams = loaded.record.members.nvrams;

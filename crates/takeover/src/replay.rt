@@ -1,10 +1,10 @@
 // The commands of a log are applied to an array.
-ghost use Rattle.std.specs.Prelude.{◌≡◌, ℕ, ◌+◌, ◌*◌, ◌≤◌, List, [], length, Ok, IfOk, IfErr};
+ghost use Rattle.std.specs.Prelude.{◌≡◌, ℕ, ◌+◌, ◌*◌, ◌≤◌, List, [], true, length, Ok, IfOk, IfErr};
 ghost use Rattle.pur_base.specs.Bytes.{bytes_at};
 ghost use Rattle.std.specs.List.{AllByRecursion, concat};
 ghost use Rattle.pur_base.specs.Bytes.{IsBytesOf};
 ghost use Rattle.pur_base.specs.Commands.{Command};
-ghost use Rattle.pur_base.specs.Grammar.{data_count};
+ghost use Rattle.pur_base.specs.Grammar.{data_count, is_in_force};
 ghost use Rattle.pur_base.specs.declared.limits.TheConstants.{SECTOR_BYTES, REQUEST_SECTORS};
 ghost use Rattle.log_codec.specs.Log.{HasSpelling};
 ghost use Rattle.nvram_log.specs.Held.{Keeps};
@@ -50,6 +50,7 @@ fn apply(plain: &mut Plain, logged: &Logged, room: &mut [Sector]) -> Result<bool
     requires sectors { (length logged.now.sectors.now ≡ SECTOR_BYTES * data_count logged.now.head.command) × (data_count logged.now.head.command ≤ REQUEST_SECTORS) }
     ensures room { length room.new ≡ length room.old }
     ensures ok { IfOk result (λ accepted. (number : ℕ) (c : Command) → HasSpelling number c → IsReadAs (Ok logged.now) number c → IsApplied plain.old c accepted plain.new) }
+    ensures in_force { IfOk result (λ accepted. is_in_force logged.now.head.command ≡ true) }
     ensures err { IfErr result (λ fault. IsApplyFault fault logged.now.head.command) }
 {
     let request = &logged.head.command;

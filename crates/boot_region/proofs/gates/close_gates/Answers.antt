@@ -77,9 +77,12 @@ returns-clause-writes g c h =
     let t = g.S.Shelf.shelf c.loop-drive.shelf in
     subst (λ (a : ℕ). WritesOnly (OnNotShut c.args.members.now s (λ d. (t.disk d).faults) a) s t) c.gate-at.ensures (c.loop-drive.invariant.writes h)
 
-pub returns-clause-any_moment : goal.returns-clause-any_moment
-returns-clause-any_moment g c h missing held clean =
+pub returns-clause-moments : goal.returns-clause-moments
+returns-clause-moments g c h =
     let s = g.S.Shelf.shelf c.args.shelf.now in
     let t = g.S.Shelf.shelf c.loop-drive.shelf in
-    let moments = subst (λ (a : ℕ). LeavesOnly s t (λ stop. LeavesBut (OnNotShut c.args.members.now s stop.faults a) s stop)) c.gate-at.ensures (c.loop-drive.invariant.moments h) in
-    weaker (λ stop left. closes_gates c.args.members.now s stop missing (slot_in c.args.slot) held (g.met.S.Shelf.is_shelf c.args.shelf.now) h left clean) moments
+    subst (λ (a : ℕ). LeavesOnly s t (λ stop. LeavesBut (OnNotShut c.args.members.now s stop.faults a) s stop)) c.gate-at.ensures (c.loop-drive.invariant.moments h)
+
+pub returns-clause-any_moment : goal.returns-clause-any_moment
+returns-clause-any_moment g c h missing held clean =
+    weaker (λ stop left. closes_gates c.args.members.now (g.S.Shelf.shelf c.args.shelf.now) stop missing (slot_in c.args.slot) held (g.met.S.Shelf.is_shelf c.args.shelf.now) h left clean) (returns-clause-moments g c h)

@@ -1,4 +1,4 @@
-use Rattle.std.proofs.Common.{rules, ◌≡◌, ◌≢◌, ℕ, length, arith, ◌∙◌, below_more, slice_index_or, false, sym, subst}
+use Rattle.std.proofs.Common.{rules, ◌≡◌, length, arith, ◌∙◌, below_more, slice_index_or, false}
 use Rattle.pur_base.specs.Devices.{drive, nvram}
 use Rattle.pur_base.proofs.Devices.{drives_apart}
 use Rattle.world.proofs.Moments.{continues_trans}

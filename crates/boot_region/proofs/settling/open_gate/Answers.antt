@@ -2,7 +2,7 @@ use Rattle.std.proofs.Common.{arith, ◌≡◌, length, ℕ, false, slice_index,
 use Rattle.pur_base.specs.Gates.{is_open}
 use Rattle.pur_base.specs.declared.limits.TheConstants.{SECTOR_BYTES}
 use Rattle.world.specs.Writes.{WritesOnly, OneRange}
-use Rattle.world.proofs.Writes.{read_writes, writes_then, writes_more}
+use Rattle.world.proofs.Writes.{read_writes, sync_writes, writes_then, writes_more}
 use Rattle.boot_region.specs.Members.{OneClosed}
 use Rattle.boot_region.proofs.GateCalls.{wrote_open}
 use Rattle.boot_region.proofs.ShownLemmas.{reads_closed}
@@ -14,7 +14,10 @@ returns-in_err-read-clause-writes g c h =
 
 pub returns-then-is_open_gate-clause-writes : goal.returns-then-is_open_gate-clause-writes
 returns-then-is_open_gate-clause-writes g c h =
-    read_writes _ c.args.device (g.met.S.Shelf.is_shelf c.args.shelf.now) c.read.ensures.time c.read.ensures.others (c.read.ensures.device h)
+    let on = c.read.ensures.time.continues in
+    writes_then on
+    (read_writes _ c.args.device (g.met.S.Shelf.is_shelf c.args.shelf.now) c.read.ensures.time c.read.ensures.others (c.read.ensures.device h))
+    (sync_writes _ c.args.device (g.met.S.Shelf.is_shelf c.read.new.self) c.sync.ensures.time c.sync.ensures.others (c.sync.ensures.device (on.honest h)))
 
 pub returns-clause-opened : goal.returns-clause-opened
 returns-clause-opened g c h =

@@ -11,7 +11,7 @@ use Rattle.pur_base.proofs.Devices.{drives_apart}
 use Rattle.boot_region.specs.Members.{IsMember, IsOneOf, OnClosed, Opened}
 use Rattle.boot_region.specs.Slots.{slot_in}
 use Rattle.boot_region.proofs.ShownLemmas.{gate_low, gate_aligned}
-use Rattle.boot_region.proofs.Settled.{closed_on_members, opened_of, gives_no_more, still_given, stands_while_settling, is_settled}
+use Rattle.boot_region.proofs.Settled.{closed_on_members, opened_of, gives_no_more, still_given, stands_while_settling, is_settled, settled_shows}
 use Rattle.boot_region.proofs.settling.settle.Goals as goal
 use Rattle.boot_region.proofs.settling.settle.Goals.{then-members-drive, else-members-drive}
 
@@ -73,6 +73,11 @@ returns-clause-writes g c h =
     let s = g.S.Shelf.shelf c.args.shelf.now in
     let t = g.S.Shelf.shelf c.loop-drive.shelf in
     subst (λ (a : ℕ). WritesOnly (OnClosed c.args.members.now s a) s t) c.gate-at.ensures (c.loop-drive.invariant.writes h)
+
+pub returns-clause-shows : goal.returns-clause-shows
+returns-clause-shows g c h body d lt m stood =
+    settled_shows (g.S.Shelf.shelf c.args.shelf.now) (g.S.Shelf.shelf c.loop-drive.shelf) (IsMember c.args.members.now d) (IsMember c.loop-drive.members d) d c.args.members.now (slot_in c.args.slot) body h
+    (returns-clause-outcome g c d lt) m (returns-clause-writes g c h) stood
 
 pub returns-clause-any_moment : goal.returns-clause-any_moment
 returns-clause-any_moment g c h missing boot arrays loaded =

@@ -1,9 +1,9 @@
 use Rattle.std.proofs.Common.{rules, ◌≡◌, ℕ, List, length, ap, ◌∙◌}
 use Rattle.std.specs.Prelude.{Some}
-use Rattle.world.proofs.Moments.{continues_trans}
+use Rattle.world.proofs.Moments.{continues_trans, weaker}
 use Rattle.boot_region.specs.Slots.{slot_in}
 use Rattle.boot_region.proofs.ShownLemmas.{member_below}
-use Rattle.boot_region.proofs.Stored.{body_stands, dropped_then, stay_then, in_slot, store_gives, store_moments, is_stored, fewer_closed, fewer_written}
+use Rattle.boot_region.proofs.Stored.{body_stands, dropped_then, stay_then, in_slot, each_moment, is_stored, fewer_closed, fewer_written}
 use Rattle.boot_region.proofs.storing.store.Goals as goal
 
 pub returns-clause-fewer : goal.returns-clause-fewer
@@ -69,8 +69,8 @@ returns-clause-writes g c h =
     in_slot c.args.members.now c.close_gates.new.members c.write_bodies.new.members (slot_in c.args.slot) a b d e (λ k. (b.disk k).faults) (fewer_closed c.args.members.now c.close_gates.new.members (g.S.Shelf.shelf c.args.shelf.now) (g.S.Shelf.shelf c.close_gates.new.shelf) as_many c.close_gates.ensures.outcome) (fewer_written c.close_gates.new.members c.write_bodies.new.members (g.S.Shelf.shelf c.close_gates.new.shelf) (g.S.Shelf.shelf c.write_bodies.new.shelf) shorter c.write_bodies.ensures.outcome) ab bd
     (c.close_gates.ensures.writes h) (c.write_bodies.ensures.writes hb) (c.open_gates.ensures.writes (bd.honest hb))
 
-pub returns-clause-any_moment : goal.returns-clause-any_moment
-returns-clause-any_moment g c h missing held boot arrays spells force follow =
+pub returns-clause-moments : goal.returns-clause-moments
+returns-clause-moments g c h =
     let a = g.S.Shelf.shelf c.args.shelf.now in
     let b = g.S.Shelf.shelf c.close_gates.new.shelf in
     let d = g.S.Shelf.shelf c.write_bodies.new.shelf in
@@ -79,27 +79,16 @@ returns-clause-any_moment g c h missing held boot arrays spells force follow =
     let bd = c.write_bodies.ensures.continues in
     let as_many : length c.close_gates.new.members ≡ length c.args.members.now = search rules in
     let shorter : length c.write_bodies.new.members ≡ length c.close_gates.new.members = search rules in
-    store_moments a b d e c.args.members.now c.close_gates.new.members c.write_bodies.new.members (slot_in c.args.slot) c.args.body.now
+    each_moment a b d e c.args.members.now c.close_gates.new.members c.write_bodies.new.members (slot_in c.args.slot) c.args.body.now
     (g.met.S.Shelf.is_shelf c.args.shelf.now) (g.met.S.Shelf.is_shelf c.close_gates.new.shelf) (g.met.S.Shelf.is_shelf c.write_bodies.new.shelf) h ab bd c.requires.members c.requires.size as_many shorter
     c.close_gates.ensures.outcome c.write_bodies.ensures.outcome
-    missing held boot arrays spells force follow
-    (c.close_gates.ensures.any_moment h) (c.write_bodies.ensures.any_moment (ab.honest h)) (c.open_gates.ensures.any_moment (bd.honest (ab.honest h)))
+    (c.close_gates.ensures.moments h) (c.write_bodies.ensures.writes (ab.honest h)).any_moment (c.open_gates.ensures.writes (bd.honest (ab.honest h))).any_moment
+
+pub returns-clause-any_moment : goal.returns-clause-any_moment
+returns-clause-any_moment g c h missing held boot arrays spells force follow = weaker (λ stop at. at.stands missing held boot arrays spells force follow) (returns-clause-moments g c h)
 
 pub returns-clause-gives : goal.returns-clause-gives
-returns-clause-gives g c h missing held boot arrays spells force follow =
-    let a = g.S.Shelf.shelf c.args.shelf.now in
-    let b = g.S.Shelf.shelf c.close_gates.new.shelf in
-    let d = g.S.Shelf.shelf c.write_bodies.new.shelf in
-    let e = g.S.Shelf.shelf c.open_gates.new.shelf in
-    let ab = c.close_gates.ensures.continues in
-    let bd = c.write_bodies.ensures.continues in
-    let as_many : length c.close_gates.new.members ≡ length c.args.members.now = search rules in
-    let shorter : length c.write_bodies.new.members ≡ length c.close_gates.new.members = search rules in
-    store_gives a b d e c.args.members.now c.close_gates.new.members c.write_bodies.new.members (slot_in c.args.slot) c.args.body.now
-    (g.met.S.Shelf.is_shelf c.args.shelf.now) (g.met.S.Shelf.is_shelf c.close_gates.new.shelf) (g.met.S.Shelf.is_shelf c.write_bodies.new.shelf) h ab bd c.requires.members c.requires.size as_many shorter
-    c.close_gates.ensures.outcome c.write_bodies.ensures.outcome
-    missing held boot arrays spells force follow
-    (c.close_gates.ensures.any_moment h) (c.write_bodies.ensures.any_moment (ab.honest h)) (c.open_gates.ensures.any_moment (bd.honest (ab.honest h)))
+returns-clause-gives g c h missing held boot arrays spells force follow = weaker (λ stop at. at.gives missing held boot arrays spells force follow) (returns-clause-moments g c h)
 
 pub returns-clause-stored : goal.returns-clause-stored
 returns-clause-stored g c h missing held boot arrays spells newer force follow later account =

@@ -1,4 +1,5 @@
-use Rattle.std.proofs.Common.{rules, ◌≡◌, ◌≢◌, ◌<◌, ℕ, List, length, arith, sym, ◌∙◌, subst, refl, below_more, get_or-set_other, get_or-set_same}
+use Rattle.std.proofs.Common.{rules, inl, inr, ◌≡◌, ◌≢◌, ◌<◌, ℕ, List, length, arith, sym, ◌∙◌, subst, refl, below_more, get_or-set_other, get_or-set_same}
+use Rattle.std.proofs.lemmas.Bool.{cases_lt}
 use Rattle.pur_base.specs.Devices.{nvram}
 use Rattle.world.specs.Shelf.{Disk}
 use Rattle.world.proofs.Moments.{continues_trans, continues_refl, started, then_run, weaker}
@@ -118,3 +119,14 @@ returns-clause-holds g c h flushed commands long are =
           o.written h is flushed commands some.0 long some.1 (are n some.0 lt (o.before is) some.1);
       clean = λ n lt is. (inv.passed n (passed n lt)).clean h is;
     }
+
+pub returns-clause-others : goal.returns-clause-others
+returns-clause-others g c n out =
+    let inv = c.loop-device.invariant in
+    elim (cases_lt n c.loop-device.device) [
+      | inl lt ↦ (inv.passed n lt).others out
+      | inr le ↦ inv.disk_ahead n le
+    ]
+
+pub returns-clause-clean : goal.returns-clause-clean
+returns-clause-clean g c h n lt is = (c.loop-device.invariant.passed n (omega (arith, lt, c.loop-device-test.false, c.requires.members))).clean h is

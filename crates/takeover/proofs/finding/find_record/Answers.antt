@@ -1,26 +1,28 @@
-use Rattle.std.proofs.Common.{rules, ◌≡◌, ◌<◌, ◌≤◌, ◌+◌, ℕ, List, [], ◌∷◌, length, refl, arith, sym, subst, ◌∙◌, Result, Ok, Err}
+use Rattle.std.proofs.Common.{◌≡◌, ◌≢◌, ℕ, ◌-◌, ◌^◌, ◌<◌, ◌≤◌, List, [], ◌∷◌, length, refl, arith, sym, subst, ap, ◌∙◌, Result, Ok, Err}
 use Rattle.std.proofs.lemmas.Result.{err_from_is_err_and}
-use Rattle.pur_base.specs.Devices.{Geometry, Conditions, IsBearable, drive}
-use Rattle.pur_base.specs.Plain.{Array}
+use Rattle.pur_base.specs.Devices.{Geometry, Conditions, IsBearable, drive, nvram}
 use Rattle.boot_codec.specs.declared.record.BootRecord.{BootRecord}
-use Rattle.boot_codec.specs.Region.{IsRecordOf, gate_place, other_slot}
+use Rattle.boot_codec.specs.Region.{BootSlot, IsRecordOf, body_in, other_slot}
+use Rattle.boot_codec.specs.Spelling.{spelling}
 use Rattle.world.specs.Losing.{geometry_of}
-use Rattle.world.specs.Shelf.{Shelved, Continues, LeavesOnly}
-use Rattle.world.proofs.Moments.{continues_trans, then_run, weaker}
+use Rattle.world.specs.Shelf.{Disk}
+use Rattle.world.proofs.Moments.{continues_refl, continues_trans, weaker}
 use Rattle.std.specs.Prelude.{IfOk}
 use Rattle.boot_region.specs.declared.loading.Loaded.{Loaded}
 use Rattle.boot_region.specs.declared.loading.LoadFault.{LoadFault}
 use Rattle.boot_region.specs.Loading.{IsLoadBy, IsLoadOf, IsLawfulLoad, MayBeSettled}
 use Rattle.boot_region.specs.Members.{IsMember}
 use Rattle.boot_region.specs.Slots.{slot_in}
-use Rattle.boot_region.specs.Storing.{IsInForceOn, TellsFailed}
+use Rattle.boot_region.specs.Storing.{IsInForceOn, Shows, TellsFailed}
+use Rattle.takeover.proofs.LeftShown.{body_of}
 use Rattle.takeover.specs.declared.faults.OpenFault.{OpenFault}
-use Rattle.session_spec.specs.Entering.{Enters, failed_since}
-use Rattle.takeover.specs.Entering.{StandsStill}
+use Rattle.session_spec.specs.Entering.{failed_since}
 use Rattle.takeover.specs.Found.{IsFoundBy, IsFoundOn}
+use Rattle.takeover.specs.Seen.{IsSeenBy}
 use Rattle.takeover.proofs.FoundLemmas.{while_reading, through_moments, both, below_slots, found_on, lacking}
 use Rattle.takeover.proofs.Loading.{same_geometry}
 use Rattle.takeover.proofs.Opened.{not_loaded}
+use Rattle.takeover.proofs.SeenIn.{clean_read, clean_settled, counted_through, shown_in, seen_in, seen_not_loaded, seen_patched, seen_too_few}
 use Rattle.takeover.proofs.finding.find_record.Goals as goal
 
 none : {X : Type 0} (xs : List X) → length xs ≤ 0 → xs ≡ []
@@ -42,12 +44,72 @@ returns-in_err-loaded-clause-found g c h missing arrays enters bears =
     let named : IsFoundBy b (failed_since a b missing) arrays (Err p.0) = subst (λ (f : OpenFault). IsFoundBy b (failed_since a b missing) arrays (Err f)) (sym p.2) fault in
     subst (λ r. IsFoundBy b (failed_since a b missing) arrays r) (sym p.1) named
 
+pub returns-in_err-loaded-clause-moments : goal.returns-in_err-loaded-clause-moments
+returns-in_err-loaded-clause-moments g c h = weaker (λ stop left. left.counts) (c.load.ensures.writes h).any_moment
+
+pub returns-in_err-loaded-clause-clean : goal.returns-in_err-loaded-clause-clean
+returns-in_err-loaded-clause-clean g c h missing arrays enters =
+    clean_read (g.S.Shelf.shelf c.args.shelf.now) (g.S.Shelf.shelf c.load.new.shelf) missing arrays enters (c.load.ensures.same h)
+
+pub returns-in_err-loaded-clause-seen : goal.returns-in_err-loaded-clause-seen
+returns-in_err-loaded-clause-seen g c h =
+    let a = g.S.Shelf.shelf c.args.shelf.now in
+    let b = g.S.Shelf.shelf c.load.new.shelf in
+    let p = err_from_is_err_and c.from_residual.result c.from_residual.ensures.1 in
+    let e = c.in_err-loaded.field-0.0 in
+    let by : IsLoadOf a b (Err e) = subst (λ r. IsLoadOf a b r) c.in_err-loaded.was (c.load.ensures.loads h) in
+    let named : IsSeenBy a b (Err p.0) = subst (λ (f : OpenFault). IsSeenBy a b (Err f)) (sym p.2) (seen_not_loaded a b (continues_refl b) e by) in
+    subst (λ r. IsSeenBy a b r) (sym p.1) named
+
+pub returns-then-len-ne0-clause-moments : goal.returns-then-len-ne0-clause-moments
+returns-then-len-ne0-clause-moments g c h = weaker (λ stop left. left.counts) (c.load.ensures.writes h).any_moment
+
+pub returns-then-len-ne0-clause-clean : goal.returns-then-len-ne0-clause-clean
+returns-then-len-ne0-clause-clean g c h missing arrays enters =
+    clean_read (g.S.Shelf.shelf c.args.shelf.now) (g.S.Shelf.shelf c.load.new.shelf) missing arrays enters (c.load.ensures.same h)
+
+pub returns-then-len-ne0-clause-seen : goal.returns-then-len-ne0-clause-seen
+returns-then-len-ne0-clause-seen g c h =
+    let a = g.S.Shelf.shelf c.args.shelf.now in
+    let b = g.S.Shelf.shelf c.load.new.shelf in
+    let x = c.in_ok-loaded.loaded in
+    let by : IsLoadBy a b (Ok x) = subst (λ r. IsLoadOf a b r) c.in_ok-loaded.was (c.load.ensures.loads h) in
+    let count : length x.record.patches ≢ 0 = λ none. absurd (c.if-len-ne0.true (c.len.ensures ∙ none)) in
+    seen_patched a b x (continues_refl b) by (λ none. count (ap length none))
+
 pub returns-then-len-ne0-clause-any_moment : goal.returns-then-len-ne0-clause-any_moment
 returns-then-len-ne0-clause-any_moment g c h missing arrays enters =
     while_reading (g.S.Shelf.shelf c.args.shelf.now) missing arrays enters (g.S.Shelf.shelf c.load.new.shelf) (c.load.ensures.writes h)
 
 pub returns-then-count_set-drives-clause-continues : goal.returns-then-count_set-drives-clause-continues
 returns-then-count_set-drives-clause-continues g c = continues_trans c.load.ensures.continues c.settle_loaded.ensures.continues
+
+pub returns-then-count_set-drives-clause-moments : goal.returns-then-count_set-drives-clause-moments
+returns-then-count_set-drives-clause-moments g c h =
+    counted_through (g.S.Shelf.shelf c.args.shelf.now) (g.S.Shelf.shelf c.load.new.shelf) (g.S.Shelf.shelf c.settle_loaded.new.shelf) c.load.ensures.continues (c.load.ensures.writes h)
+    (c.settle_loaded.ensures.writes (c.load.ensures.continues.honest h))
+
+pub returns-then-count_set-drives-clause-nvrams : goal.returns-then-count_set-drives-clause-nvrams
+returns-then-count_set-drives-clause-nvrams g c h i =
+    let is = c.load.ensures.same h (nvram i) in
+    let stays = c.settle_loaded.ensures.nvrams i in
+    record { bytes = ap (λ (k : Disk). k.bytes) stays ∙ is.bytes; dirty = ap (λ (k : Disk). k.dirty) stays ∙ is.dirty }
+
+pub returns-then-count_set-drives-clause-clean : goal.returns-then-count_set-drives-clause-clean
+returns-then-count_set-drives-clause-clean g c h missing arrays enters =
+    clean_settled (g.S.Shelf.shelf c.args.shelf.now) (g.S.Shelf.shelf c.load.new.shelf) missing arrays enters (c.load.ensures.same h) (g.S.Shelf.shelf c.settle_loaded.new.shelf) c.load.ensures.continues
+    (c.settle_loaded.ensures.clean (c.load.ensures.continues.honest h))
+
+pub returns-then-count_set-drives-clause-seen : goal.returns-then-count_set-drives-clause-seen
+returns-then-count_set-drives-clause-seen g c h =
+    let a = g.S.Shelf.shelf c.args.shelf.now in
+    let b = g.S.Shelf.shelf c.load.new.shelf in
+    let n = g.S.Shelf.shelf c.settle_loaded.new.shelf in
+    let x = c.in_ok-loaded.loaded in
+    let by : IsLoadBy a b (Ok x) = subst (λ r. IsLoadOf a b r) c.in_ok-loaded.was (c.load.ensures.loads h) in
+    seen_too_few a b n x c.load.ensures.continues c.settle_loaded.ensures.continues (c.load.ensures.same h) by (c.load.ensures.writes h) (c.settle_loaded.ensures.writes (c.load.ensures.continues.honest h))
+    c.settle_loaded.new.loaded.drives c.settle_loaded.ensures.dropped
+    (omega (arith, c.count_set.ensures.value, c.if-count_set-drives.true, c.drives.ensures, c.settle_loaded.ensures.continues.drives, c.load.ensures.continues.drives))
 
 pub returns-then-count_set-drives-clause-any_moment : goal.returns-then-count_set-drives-clause-any_moment
 returns-then-count_set-drives-clause-any_moment g c h missing arrays enters =
@@ -82,8 +144,55 @@ returns-then-count_set-drives-clause-found g c h missing arrays enters bears =
     let count = lacking a n missing y.drives bears (c.settle_loaded.ensures.continues.drives ∙ c.load.ensures.continues.drives) is.in_force.sound in
     absurd (omega (arith, count, c.count_set.ensures.value, c.if-count_set-drives.true, c.drives.ensures, c.settle_loaded.ensures.continues.drives, c.load.ensures.continues.drives))
 
+pub returns-then-count_set-drives-clause-rest : goal.returns-then-count_set-drives-clause-rest
+returns-then-count_set-drives-clause-rest g c = g.met.S.Shelf.shelf_rest_stays.transitive _ _ _ c.load.ensures.rest c.settle_loaded.ensures.rest
+
+pub returns-clause-rest : goal.returns-clause-rest
+returns-clause-rest g c = g.met.S.Shelf.shelf_rest_stays.transitive _ _ _ c.load.ensures.rest c.settle_loaded.ensures.rest
+
 pub returns-clause-continues : goal.returns-clause-continues
 returns-clause-continues g c = continues_trans c.load.ensures.continues c.settle_loaded.ensures.continues
+
+pub returns-clause-moments : goal.returns-clause-moments
+returns-clause-moments g c h =
+    counted_through (g.S.Shelf.shelf c.args.shelf.now) (g.S.Shelf.shelf c.load.new.shelf) (g.S.Shelf.shelf c.settle_loaded.new.shelf) c.load.ensures.continues (c.load.ensures.writes h)
+    (c.settle_loaded.ensures.writes (c.load.ensures.continues.honest h))
+
+pub returns-clause-nvrams : goal.returns-clause-nvrams
+returns-clause-nvrams g c h i =
+    let is = c.load.ensures.same h (nvram i) in
+    let stays = c.settle_loaded.ensures.nvrams i in
+    record { bytes = ap (λ (k : Disk). k.bytes) stays ∙ is.bytes; dirty = ap (λ (k : Disk). k.dirty) stays ∙ is.dirty }
+
+pub returns-clause-clean : goal.returns-clause-clean
+returns-clause-clean g c h missing arrays enters =
+    clean_settled (g.S.Shelf.shelf c.args.shelf.now) (g.S.Shelf.shelf c.load.new.shelf) missing arrays enters (c.load.ensures.same h) (g.S.Shelf.shelf c.settle_loaded.new.shelf) c.load.ensures.continues
+    (c.settle_loaded.ensures.clean (c.load.ensures.continues.honest h))
+
+pub returns-clause-seen : goal.returns-clause-seen
+returns-clause-seen g c h =
+    let a = g.S.Shelf.shelf c.args.shelf.now in
+    let b = g.S.Shelf.shelf c.load.new.shelf in
+    let n = g.S.Shelf.shelf c.settle_loaded.new.shelf in
+    let x = c.in_ok-loaded.loaded in
+    let by : IsLoadBy a b (Ok x) = subst (λ r. IsLoadOf a b r) c.in_ok-loaded.was (c.load.ensures.loads h) in
+    seen_in a b n x c.load.ensures.continues c.settle_loaded.ensures.continues (c.load.ensures.same h) by (c.load.ensures.writes h) (c.settle_loaded.ensures.writes (c.load.ensures.continues.honest h))
+    c.settle_loaded.new.loaded.drives c.settle_loaded.ensures.dropped c.settle_loaded.new.loaded.record c.settle_loaded.new.loaded.slot c.settle_loaded.ensures.record.0 c.settle_loaded.ensures.record.1 c.settle_loaded.ensures.fewer
+    (none x.record.patches (omega (arith, c.len.ensures, c.if-len-ne0.false)))
+
+pub returns-clause-shows : goal.returns-clause-shows
+returns-clause-shows g c h i lt member =
+    let a = g.S.Shelf.shelf c.args.shelf.now in
+    let b = g.S.Shelf.shelf c.load.new.shelf in
+    let n = g.S.Shelf.shelf c.settle_loaded.new.shelf in
+    let x = c.in_ok-loaded.loaded in
+    let boot = c.settle_loaded.new.loaded.record in
+    let slot = slot_in c.settle_loaded.new.loaded.slot in
+    let is = returns-clause-seen g c h in
+    let stood : body_in slot (b.disk (drive i)).bytes ≡ spelling boot = ap (body_in slot) (c.load.ensures.same h (drive i)).bytes ∙ body_of slot boot is.view i (a.disk (drive i)).bytes (is.held i member) in
+    subst (λ (t : BootSlot). Shows n t (spelling boot) i) (ap slot_in (sym c.settle_loaded.ensures.record.1))
+    (c.settle_loaded.ensures.shows (c.load.ensures.continues.honest h) (spelling boot) i (omega (arith, lt, c.load.ensures.continues.drives)) member
+    (subst (λ (t : BootSlot). body_in t (b.disk (drive i)).bytes ≡ spelling boot) (ap slot_in c.settle_loaded.ensures.record.1) stood))
 
 pub returns-clause-any_moment : goal.returns-clause-any_moment
 returns-clause-any_moment g c h missing arrays enters =
@@ -117,11 +226,26 @@ returns-clause-found g c h missing arrays enters bears =
     (c.settle_loaded.ensures.writes (c.load.ensures.continues.honest h)) settled unflushed bears in
     is
 
+pub returns-clause-shown : goal.returns-clause-shown
+returns-clause-shown g c h =
+    let a = g.S.Shelf.shelf c.args.shelf.now in
+    let b = g.S.Shelf.shelf c.load.new.shelf in
+    let n = g.S.Shelf.shelf c.settle_loaded.new.shelf in
+    let x = c.in_ok-loaded.loaded in
+    let by : IsLoadBy a b (Ok x) = subst (λ r. IsLoadOf a b r) c.in_ok-loaded.was (c.load.ensures.loads h) in
+    shown_in a b n x c.load.ensures.continues c.settle_loaded.ensures.continues (c.load.ensures.same h) by (c.load.ensures.writes h) (c.settle_loaded.ensures.writes (c.load.ensures.continues.honest h))
+    c.settle_loaded.new.loaded.drives c.settle_loaded.ensures.dropped c.settle_loaded.new.loaded.record c.settle_loaded.new.loaded.slot c.settle_loaded.ensures.record.0 c.settle_loaded.ensures.record.1
+    (c.settle_loaded.ensures.opened (c.load.ensures.continues.honest h)) c.settle_loaded.ensures.fewer
+
+pub returns-clause-enough : goal.returns-clause-enough
+returns-clause-enough g c = omega (arith, c.count_set.ensures.value, c.if-count_set-drives.false, c.drives.ensures)
+
 pub returns-clause-lawful : goal.returns-clause-lawful
 returns-clause-lawful g c =
     let is : IsLawfulLoad (geometry_of (g.S.Shelf.shelf c.load.new.shelf)) c.in_ok-loaded.loaded = subst (λ (r : Result Loaded LoadFault). IfOk r (IsLawfulLoad (geometry_of (g.S.Shelf.shelf c.load.new.shelf)))) c.in_ok-loaded.was c.load.ensures.lawful in
     record {
       lawful = subst (λ (b : BootRecord). IsRecordOf (geometry_of (g.S.Shelf.shelf c.settle_loaded.new.shelf)) b) (sym c.settle_loaded.ensures.record.0)
           (subst (λ (s : Geometry). IsRecordOf s c.in_ok-loaded.loaded.record) (same_geometry c.settle_loaded.ensures.continues) is.lawful);
+      room = subst (λ (b : BootRecord). b.generation < 2 ^ 48 - 8) (sym c.settle_loaded.ensures.record.0) is.room;
       named = λ i m. subst (λ (b : BootRecord). IsMember b.members.drives i) (sym c.settle_loaded.ensures.record.0) (is.named i (c.settle_loaded.ensures.fewer i m));
     }

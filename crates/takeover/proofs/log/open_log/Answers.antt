@@ -1,4 +1,4 @@
-use Rattle.std.proofs.Common.{List, Bool, Err, sym, subst}
+use Rattle.std.proofs.Common.{◌≡◌, rules, List, Bool, Err, length, sym, subst}
 use Rattle.std.proofs.lemmas.Result.{err_from_is_err_and}
 use Rattle.boot_region.proofs.LoadingLemmas.{if_err}
 use Rattle.world.proofs.Moments.{continues_trans}
@@ -7,6 +7,8 @@ use Rattle.takeover.specs.declared.log.LogFault.{LogFault}
 use Rattle.session_spec.specs.Entering.{failed_since}
 use Rattle.takeover.specs.LogOpen.{IsLogFault, IsLogOpenBy}
 use Rattle.takeover.proofs.LogOpened.{while_read, not_read, not_replayed, was_read, while_opening, not_lost, opened, agree, bears_mid, reads_only, settles_only, read_fault_is, replay_fault_is, both_lost}
+use Rattle.takeover.specs.Replayed.{IsReplayedBy}
+use Rattle.takeover.proofs.LogReplayed as showed
 use Rattle.takeover.proofs.log.open_log.Goals as goal
 
 pub returns-in_err-log-clause-any_moment : goal.returns-in_err-log-clause-any_moment
@@ -141,3 +143,79 @@ returns-in_err-settle-clause-err g c =
     let n = g.S.Shelf.shelf c.settle.new.shelf in
     if_err c.from_residual-in_err-settle.result _ _ c.from_residual-in_err-settle.ensures.1 (λ f is. subst (λ (k : LogFault). IsLogFault k a n c.args.nvrams c.args.flushed) (sym is)
     (both_lost a m n c.args.nvrams c.in_ok-log.log.members c.settle.new.self.members c.read_synced.ensures.continues c.settle.ensures.continues c.in_ok-log.ensures.counted c.settle.ensures.counted c.in_err-settle.ensures.err.1))
+
+pub returns-in_err-log-clause-moments : goal.returns-in_err-log-clause-moments
+returns-in_err-log-clause-moments g c h = showed.counted_reading (c.read_synced.ensures.writes h)
+
+pub returns-in_err-made-clause-moments : goal.returns-in_err-made-clause-moments
+returns-in_err-made-clause-moments g c h = showed.counted_reading (c.read_synced.ensures.writes h)
+
+pub returns-in_err-settle-clause-moments : goal.returns-in_err-settle-clause-moments
+returns-in_err-settle-clause-moments g c h =
+    let on = c.read_synced.ensures.continues in
+    showed.counted_settling on (c.read_synced.ensures.writes h) (c.settle.ensures.writes (on.honest h))
+
+pub returns-clause-moments : goal.returns-clause-moments
+returns-clause-moments g c h =
+    let on = c.read_synced.ensures.continues in
+    showed.counted_settling on (c.read_synced.ensures.writes h) (c.settle.ensures.writes (on.honest h))
+
+pub returns-in_err-log-clause-replayed : goal.returns-in_err-log-clause-replayed
+returns-in_err-log-clause-replayed g c h =
+    let a = g.S.Shelf.shelf c.args.shelf.now in
+    let m = g.S.Shelf.shelf c.read_synced.new.shelf in
+    let p = err_from_is_err_and c.from_residual.result c.from_residual.ensures.1 in
+    let fault : IsReplayedBy a m c.args.nvrams c.args.flushed (Err p.0) = subst (λ (f : LogFault). IsReplayedBy a m c.args.nvrams c.args.flushed (Err f)) (sym p.2)
+    (showed.not_read a m c.args.nvrams c.args.flushed c.in_err-log.field-0.0) in
+    subst (λ r. IsReplayedBy a m c.args.nvrams c.args.flushed r) (sym p.1) fault
+
+pub returns-in_err-made-clause-replayed : goal.returns-in_err-made-clause-replayed
+returns-in_err-made-clause-replayed g c h =
+    let a = g.S.Shelf.shelf c.args.shelf.now in
+    let m = g.S.Shelf.shelf c.read_synced.new.shelf in
+    let log = c.in_ok-log.log in
+    let p = err_from_is_err_and c.from_residual-in_err-made.result c.from_residual-in_err-made.ensures.1 in
+    let fault : IsReplayedBy a m c.args.nvrams c.args.flushed (Err p.0) = subst (λ (f : LogFault). IsReplayedBy a m c.args.nvrams c.args.flushed (Err f)) (sym p.2)
+    (showed.not_replayed a m m c.args.nvrams c.args.flushed h c.read_synced.ensures.continues (c.read_synced.ensures.writes h) log c.in_ok-log.ensures.flushed c.in_ok-log.ensures.members.0 c.in_ok-log.ensures.counted c.in_ok-log.ensures.log
+    c.in_err-made.field-0.0 c.in_err-made.ensures.err) in
+    subst (λ r. IsReplayedBy a m c.args.nvrams c.args.flushed r) (sym p.1) fault
+
+pub returns-in_err-settle-clause-replayed : goal.returns-in_err-settle-clause-replayed
+returns-in_err-settle-clause-replayed g c h =
+    let a = g.S.Shelf.shelf c.args.shelf.now in
+    let n = g.S.Shelf.shelf c.settle.new.shelf in
+    let p = err_from_is_err_and c.from_residual-in_err-settle.result c.from_residual-in_err-settle.ensures.1 in
+    let fault : IsReplayedBy a n c.args.nvrams c.args.flushed (Err p.0) = subst (λ (f : LogFault). IsReplayedBy a n c.args.nvrams c.args.flushed (Err f)) (sym p.2) tt in
+    subst (λ r. IsReplayedBy a n c.args.nvrams c.args.flushed r) (sym p.1) fault
+
+pub returns-clause-replayed : goal.returns-clause-replayed
+returns-clause-replayed g c h =
+    let a = g.S.Shelf.shelf c.args.shelf.now in
+    let m = g.S.Shelf.shelf c.read_synced.new.shelf in
+    let n = g.S.Shelf.shelf c.settle.new.shelf in
+    let log = c.in_ok-log.log in
+    let made = c.in_ok-made.made in
+    let read = c.in_ok-log.ensures.log in
+    showed.replayed_from a m n c.args.nvrams c.args.flushed h c.read_synced.ensures.continues (c.read_synced.ensures.writes h) log c.in_ok-log.ensures.flushed c.in_ok-log.ensures.members.0 c.in_ok-log.ensures.counted read
+    made.count made.plain c.in_ok-made.ensures.within c.in_ok-made.ensures.ok (record { log = c.settle.new.self; plain = made.plain }) c.settle.ensures.continues c.settle.ensures.fewer c.settle.ensures.counted
+    (c.in_ok-settle.ensures.keeps read.commands read.keeps) c.in_ok-settle.ensures.ok.0 (λ i. made.plain)
+
+pub returns-in_err-log-clause-clean : goal.returns-in_err-log-clause-clean
+returns-in_err-log-clause-clean g c h missing clean = showed.clean_read (g.S.Shelf.shelf c.args.shelf.now) (g.S.Shelf.shelf c.read_synced.new.shelf) missing clean (c.read_synced.ensures.still_clean h)
+
+pub returns-in_err-made-clause-clean : goal.returns-in_err-made-clause-clean
+returns-in_err-made-clause-clean g c h missing clean = showed.clean_read (g.S.Shelf.shelf c.args.shelf.now) (g.S.Shelf.shelf c.read_synced.new.shelf) missing clean (c.read_synced.ensures.still_clean h)
+
+pub returns-in_err-settle-clause-clean : goal.returns-in_err-settle-clause-clean
+returns-in_err-settle-clause-clean g c h missing clean =
+    let on = c.read_synced.ensures.continues in
+    let two : length c.args.nvrams ≡ 2 = search rules in
+    showed.clean_settled (g.S.Shelf.shelf c.args.shelf.now) (g.S.Shelf.shelf c.read_synced.new.shelf) (g.S.Shelf.shelf c.settle.new.shelf) missing c.args.nvrams c.in_ok-log.log.members c.settle.new.self.members on clean
+    (c.read_synced.ensures.still_clean h) two c.in_ok-log.ensures.members.0 c.settle.ensures.counted c.settle.ensures.drives c.settle.ensures.others (c.settle.ensures.clean (on.honest h))
+
+pub returns-clause-clean : goal.returns-clause-clean
+returns-clause-clean g c h missing clean =
+    let on = c.read_synced.ensures.continues in
+    let two : length c.args.nvrams ≡ 2 = search rules in
+    showed.clean_settled (g.S.Shelf.shelf c.args.shelf.now) (g.S.Shelf.shelf c.read_synced.new.shelf) (g.S.Shelf.shelf c.settle.new.shelf) missing c.args.nvrams c.in_ok-log.log.members c.settle.new.self.members on clean
+    (c.read_synced.ensures.still_clean h) two c.in_ok-log.ensures.members.0 c.settle.ensures.counted c.settle.ensures.drives c.settle.ensures.others (c.settle.ensures.clean (on.honest h))

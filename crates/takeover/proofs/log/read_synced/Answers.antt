@@ -1,3 +1,4 @@
+use Rattle.std.proofs.Common.{◌∙◌}
 use Rattle.nvram_log.specs.declared.log.NvLog.{NvLog}
 use Rattle.nvram_log.specs.Held.{shown_by}
 use Rattle.nvram_log.specs.Read.{IsReadFrom}
@@ -11,3 +12,6 @@ returns-clause-log g c =
     let b = g.S.Shelf.shelf c.read.new.shelf in
     ok_more c.read.result (λ (log : NvLog). IsReadFrom m.honest (shown_by b log.members) log) (λ (log : NvLog). IsReadFrom a.honest (shown_by b log.members) log) c.read.ensures.log
     (λ log r. read_more m.honest a.honest (shown_by b log.members) log c.sync_members.ensures.continues.honest r)
+
+pub returns-clause-still_clean : goal.returns-clause-still_clean
+returns-clause-still_clean g c h d clean = (c.read.ensures.same (c.sync_members.ensures.continues.honest h) d).dirty ∙ c.sync_members.ensures.still_clean h d clean

@@ -2,7 +2,7 @@ use Rattle.std.proofs.Common.{◌≡◌, Bool, true, false, sym, ◌∙◌, subs
 use Rattle.boot_region.proofs.LoadingLemmas.{if_err}
 use Rattle.takeover.specs.declared.log.LogFault.{LogFault}
 use Rattle.takeover.specs.Replay.{IsApplied, IsReplayed, IsReplayFault}
-use Rattle.takeover.proofs.Applying.{command_at, one_more, stopped, ended, replay_fault}
+use Rattle.takeover.proofs.Applying.{command_at, in_force_more, one_more, stopped, ended, replay_fault}
 use Rattle.takeover.proofs.replay.replay.Goals as goal
 
 pub returns-in_default-clause-err : goal.returns-in_default-clause-err
@@ -22,7 +22,7 @@ returns-then-not-branch-clause-ok c commands keeps =
     let at = command_at c.args.log.now commands c.loop-i.i keeps (omega (arith, c.loop-i-test.true, c.count-i-end.ensures)) in
     let is = c.in_ok-apply.ensures.ok _ at.0 (keeps.each c.loop-i.i at.0 at.1).lawful (c.in-Ok.ensures.command commands at.0 keeps at.1) in
     let shut : c.in_ok-apply.field-0 ≡ false = search rules in
-    stopped c.args.plain.now commands c.loop-i.i at.0 c.loop-i.plain c.apply.new.plain at.1 (c.loop-i.invariant.applied commands keeps)
+    stopped c.args.plain.now commands c.loop-i.i at.0 c.loop-i.plain c.apply.new.plain at.1 (c.loop-i.invariant.in_force commands keeps) (c.loop-i.invariant.applied commands keeps)
     (subst (λ (b : Bool). IsApplied c.loop-i.plain at.0 b c.apply.new.plain) shut is)
 
 pub loop-i-preserved : goal.loop-i-preserved
@@ -31,6 +31,9 @@ loop-i-preserved c =
     let fine : c.in_ok-apply.field-0 ≡ true = search rules in
     record {
       room = c.in_ok-apply.ensures.room ∙ inv.room;
+      in_force = λ commands keeps.
+          let at = command_at c.args.log.now commands c.loop-i.i keeps (omega (arith, c.loop-i-test.true, c.count-i-end.ensures)) in
+          in_force_more commands c.loop-i.i at.0 c.in-Ok.logged.head.command at.1 (c.in-Ok.ensures.command commands at.0 keeps at.1).1 c.in_ok-apply.ensures.in_force (inv.in_force commands keeps);
       applied = λ commands keeps.
           let at = command_at c.args.log.now commands c.loop-i.i keeps (omega (arith, c.loop-i-test.true, c.count-i-end.ensures)) in
           let is = c.in_ok-apply.ensures.ok _ at.0 (keeps.each c.loop-i.i at.0 at.1).lawful (c.in-Ok.ensures.command commands at.0 keeps at.1) in
@@ -42,4 +45,4 @@ pub returns-clause-ok : goal.returns-clause-ok
 returns-clause-ok c commands keeps =
     let e : c.loop-i.i ≡ c.count.result = omega (arith, c.loop-i-test.false, c.loop-i.auto.i-end, c.count.ensures, c.count-i-end.ensures) in
     subst (λ n. IsReplayed c.args.plain.now commands n c.loop-i.plain) e
-    (ended c.args.plain.now commands c.loop-i.i c.loop-i.plain (omega (arith, keeps.count, e, c.count.ensures)) (c.loop-i.invariant.applied commands keeps))
+    (ended c.args.plain.now commands c.loop-i.i c.loop-i.plain (omega (arith, keeps.count, e, c.count.ensures)) (c.loop-i.invariant.in_force commands keeps) (c.loop-i.invariant.applied commands keeps))

@@ -1,14 +1,16 @@
-use Rattle.std.proofs.Common.{rules, inl, inr, refl, subst, ◌-◌, ◌^◌, ℕ, List, Bool, arith, ◌≡◌, ◌+◌, ◌<◌, ◌≤◌, length, sym, ◌∙◌, ap}
+use Rattle.std.proofs.Common.{rules, inl, inr, subst, ◌-◌, ◌^◌, arith, ◌≡◌, ◌+◌, ◌<◌, ◌≤◌, length, sym, ◌∙◌, ap}
 use Rattle.boot_codec.specs.declared.record.BootRecord.{BootRecord}
 use Rattle.boot_codec.specs.Record.{set_count}
-use Rattle.world.proofs.Moments.{continues_trans, weaker}
+use Rattle.world.proofs.Moments.{continues_trans, then_run, weaker}
 use Rattle.world.proofs.Writes.{writes_then, writes_more}
 use Rattle.boot_region.proofs.Stored.{stay_then}
-use Rattle.register.specs.Registers.{OnSlots, drives_of, next_slot}
+use Rattle.register.specs.Registers.{drives_of}
 use Rattle.register.specs.Standing.{IsNextOf}
 use Rattle.register.proofs.FlagLemmas.{same_flags, other_flags}
 use Rattle.register.proofs.Opened.{is_open}
-use Rattle.register.proofs.Again.{again_moments, again_gives, next_after, meanwhile}
+use Rattle.register.proofs.Again.{both}
+use Rattle.register.proofs.Back.{is_next_of}
+use Rattle.register.proofs.Turns.{in_store_later}
 use Rattle.register.proofs.Stores.{at_most_slots, fewer_cut, on_more, fewer_left, on_ok, on_err}
 use Rattle.register.proofs.state.Register.+store.Given as given
 use Rattle.register.proofs.state.Register.+store.Goals as goal
@@ -122,21 +124,21 @@ returns-clause-lost g t c =
 room : (g : given.Over) (t : _) (c : goal.After-store g t) → c.store.new.self.record.generation < 2 ^ 48 - 8 → c.store_next.new.self.record.generation < 2 ^ 48 - 8
 room g t c low = omega (arith, c.store.ensures.later.generation, low)
 
-pub returns-clause-any_moment : goal.returns-clause-any_moment
-returns-clause-any_moment g t c h low missing log arrays may =
+pub returns-clause-moments : goal.returns-clause-moments
+returns-clause-moments g t c h low =
     let a = g.S.Shelf.shelf c.args.shelf.now in
     let b = g.S.Shelf.shelf c.store_next.new.shelf in
-    let e = g.S.Shelf.shelf c.store.new.shelf in
+    let was = c.args.self.now in
+    let now = c.store_next.new.self in
     let ab = c.in_ok-store_next.ensures.continues in
     let hb = ab.honest h in
-    again_moments a b (drives_of c.args.self.now) missing (next_slot c.args.self.now.record) c.args.self.now.record {W = OnSlots (drives_of c.store_next.new.self)} e (drives_of c.store_next.new.self)
-    (next_slot c.store_next.new.self.record) c.store_next.new.self.record arrays ab
-    (fewer_cut c.args.self.now c.store_next.new.self (ap (λ (x : BootRecord). x.slots) c.in_ok-store_next.ensures.next) c.in_ok-store_next.ensures.fewer)
-    (c.in_ok-store_next.ensures.older h log may.logged) (c.in_ok-store_next.ensures.any_moment h (room g t c low) missing log arrays may)
-    (λ bears account.
-    let m = c.in_ok-store_next.ensures.again h (room g t c low) missing log arrays may (meanwhile a b (drives_of c.args.self.now) missing (next_slot c.args.self.now.record) c.args.self.now.record) account in
-    c.store.ensures.any_moment hb low (meanwhile a b (drives_of c.args.self.now) missing (next_slot c.args.self.now.record) c.args.self.now.record) log arrays
-    (record {
+    let first = c.in_ok-store_next.ensures.moments h (room g t c low) in
+    let next : IsNextOf was c.args.nvrams now.record = subst (λ (x : BootRecord). IsNextOf was c.args.nvrams x) (sym c.in_ok-store_next.ensures.next) (is_next_of was c.args.nvrams) in
+    then_run ab first (weaker (λ stop x.
+    in_store_later a b (g.met.S.Shelf.is_shelf c.store_next.new.shelf) ab was now c.args.nvrams c.requires.nvrams next c.in_ok-store_next.ensures.fewer
+    (fewer_cut was now (ap (λ (x : BootRecord). x.slots) c.in_ok-store_next.ensures.next) c.in_ok-store_next.ensures.fewer) c.in_ok-store_next.ensures.dropped (room g t c low) first
+    (c.in_ok-store_next.ensures.logged h) (c.in_ok-store_next.ensures.shown h) (c.in_ok-store_next.ensures.older h) (c.in_ok-store_next.ensures.again h (room g t c low)) stop x.0.counts
+    (λ missing log arrays m. x.1.stands missing log arrays (record {
       logged = record { is_of = record { lawful = m.logged.is_of.lawful; named = m.logged.is_of.named }; patches = m.logged.patches; bodies = m.logged.bodies; holds = m.logged.holds; accepted = m.logged.accepted };
       in_force = m.in_force;
       stands = m.stands;
@@ -144,32 +146,42 @@ returns-clause-any_moment g t c h low missing log arrays may =
       sound = m.sound;
       left_out = m.left_out;
     }))
-    (c.store.ensures.writes hb).any_moment
-
-pub returns-clause-gives : goal.returns-clause-gives
-returns-clause-gives g t c h low missing log arrays may =
-    let a = g.S.Shelf.shelf c.args.shelf.now in
-    let b = g.S.Shelf.shelf c.store_next.new.shelf in
-    let e = g.S.Shelf.shelf c.store.new.shelf in
-    let ab = c.in_ok-store_next.ensures.continues in
-    let hb = ab.honest h in
-    let next : IsNextOf c.args.self.now c.args.nvrams c.store_next.new.self.record = subst (λ (x : BootRecord). IsNextOf c.args.self.now c.args.nvrams x) (sym c.in_ok-store_next.ensures.next) (record { later = record { generation = omega arith; rest = refl }; generation = omega arith; nvrams_are = refl; drives = λ i m. m }) in
-    again_gives a b (drives_of c.args.self.now) missing (next_slot c.args.self.now.record) c.args.self.now.record {W = OnSlots (drives_of c.store_next.new.self)} e (drives_of c.store_next.new.self)
-    (next_slot c.store_next.new.self.record) c.store_next.new.self.record (IsNextOf c.args.self.now c.args.nvrams) (IsNextOf c.store_next.new.self c.args.nvrams) (g.met.S.Shelf.is_shelf c.store_next.new.shelf) ab
-    (fewer_cut c.args.self.now c.store_next.new.self (ap (λ (x : BootRecord). x.slots) c.in_ok-store_next.ensures.next) c.in_ok-store_next.ensures.fewer)
-    (c.in_ok-store_next.ensures.older h log may.logged) (next_after c.args.self.now c.store_next.new.self c.args.nvrams next c.in_ok-store_next.ensures.fewer) (c.in_ok-store_next.ensures.gives h (room g t c low) missing log arrays may)
-    (λ bears account.
-    let m = c.in_ok-store_next.ensures.again h (room g t c low) missing log arrays may (meanwhile a b (drives_of c.args.self.now) missing (next_slot c.args.self.now.record) c.args.self.now.record) account in
-    weaker (λ stop all later told slot boot given. elim (all later told slot boot given) [
-      | inl was ↦ inl was
-      | inr n ↦ inr (record { later = record { generation = n.later.generation; rest = n.later.rest }; generation = n.generation; nvrams_are = n.nvrams_are; drives = n.drives })
-    ]) (c.store.ensures.gives hb low (meanwhile a b (drives_of c.args.self.now) missing (next_slot c.args.self.now.record) c.args.self.now.record) log arrays
-    (record {
+    (λ missing log arrays m later told slot boot given. elim (x.1.gives missing log arrays (record {
       logged = record { is_of = record { lawful = m.logged.is_of.lawful; named = m.logged.is_of.named }; patches = m.logged.patches; bodies = m.logged.bodies; holds = m.logged.holds; accepted = m.logged.accepted };
       in_force = m.in_force;
       stands = m.stands;
       one_of = m.one_of;
       sound = m.sound;
       left_out = m.left_out;
-    })))
-    (c.store.ensures.writes hb).any_moment
+    }) later told slot boot given) [
+      | inl before ↦ inl before
+      | inr n ↦ inr (record { later = record { generation = n.later.generation; rest = n.later.rest }; generation = n.generation; nvrams_are = n.nvrams_are; drives = n.drives })
+    ]))
+    (both (c.store.ensures.writes hb).any_moment (c.store.ensures.moments hb low)))
+
+pub returns-clause-any_moment : goal.returns-clause-any_moment
+returns-clause-any_moment g t c h low missing log arrays may = weaker (λ stop x. x.stands missing log arrays may) (returns-clause-moments g t c h low)
+
+pub returns-clause-gives : goal.returns-clause-gives
+returns-clause-gives g t c h low missing log arrays may = weaker (λ stop x. x.gives missing log arrays may) (returns-clause-moments g t c h low)
+
+pub returns-clause-back : goal.returns-clause-back
+returns-clause-back g t c h low log logged shows = weaker (λ stop x. x.back log logged shows) (returns-clause-moments g t c h low)
+
+pub returns-then-eq-clause-any_moment : goal.returns-then-eq-clause-any_moment
+returns-then-eq-clause-any_moment g t c h low missing log arrays may = weaker (λ stop x. x.stands missing log arrays may) (c.in_ok-store_next.ensures.moments h low)
+
+pub returns-then-eq-clause-gives : goal.returns-then-eq-clause-gives
+returns-then-eq-clause-gives g t c h low missing log arrays may = weaker (λ stop x. x.gives missing log arrays may) (c.in_ok-store_next.ensures.moments h low)
+
+pub returns-then-eq-clause-back : goal.returns-then-eq-clause-back
+returns-then-eq-clause-back g t c h low log logged shows = weaker (λ stop x. x.back log logged shows) (c.in_ok-store_next.ensures.moments h low)
+
+pub returns-in_err-store_next-clause-any_moment : goal.returns-in_err-store_next-clause-any_moment
+returns-in_err-store_next-clause-any_moment g t c h low missing log arrays may = weaker (λ stop x. x.stands missing log arrays may) (c.in_err-store_next.ensures.moments h low)
+
+pub returns-in_err-store_next-clause-gives : goal.returns-in_err-store_next-clause-gives
+returns-in_err-store_next-clause-gives g t c h low missing log arrays may = weaker (λ stop x. x.gives missing log arrays may) (c.in_err-store_next.ensures.moments h low)
+
+pub returns-in_err-store_next-clause-back : goal.returns-in_err-store_next-clause-back
+returns-in_err-store_next-clause-back g t c h low log logged shows = weaker (λ stop x. x.back log logged shows) (c.in_err-store_next.ensures.moments h low)

@@ -1,7 +1,7 @@
 use Rattle.std.proofs.Common.{rules, arith, ◌≡◌, ◌≤◌, ℕ, List, Bool, length, drop, sym, ◌∙◌, subst}
 use Rattle.std.proofs.lemmas.List.{length-append, length-drop}
 use Rattle.boot_region.specs.Members.{IsMember}
-use Rattle.boot_region.specs.Storing.{Shows, GivesOldOrNew, IsInForceOn, IsNewer, IsStoredIn, MayFollow, StandsBut}
+use Rattle.boot_region.specs.Storing.{Shows, IsInStore, IsInForceOn, IsNewer, IsStoredIn, MayFollow}
 use Rattle.boot_region.specs.Slots.{slot_in}
 use Rattle.boot_codec.specs.Region.{BootSlot}
 use Rattle.world.specs.Shelf.{LeavesOnly}
@@ -19,23 +19,14 @@ returns-clause-shown g c h i m =
     (subst (λ (t : BootSlot). Shows (g.S.Shelf.shelf c.store.new.shelf) t c.deref.result.now i) slot
     (c.store.ensures.shown h i (subst (λ (l : List Bool). IsMember l i) cut m)))
 
-pub returns-clause-any_moment : goal.returns-clause-any_moment
-returns-clause-any_moment g c h missing held boot arrays spells force follow =
+pub returns-clause-moments : goal.returns-clause-moments
+returns-clause-moments g c h =
     let slot : slot_in c.slot_for-slot.result ≡ own_slot c.args.self.now.record = c.slot_for-slot.ensures in
     let body : c.deref.result.now ≡ c.args.self.now.body.items = c.deref.ensures.value in
     let a = g.S.Shelf.shelf c.args.shelf.now in
     let e = g.S.Shelf.shelf c.store.new.shelf in
-    subst (λ (t : BootSlot). IsInForceOn a (drives_of c.args.self.now) missing t held → MayFollow a missing t boot arrays → LeavesOnly a e (StandsBut a (drives_of c.args.self.now) missing t held arrays)) slot
-    (λ f w. c.store.ensures.any_moment h missing held boot arrays (body ∙ spells) f w) force follow
-
-pub returns-clause-gives : goal.returns-clause-gives
-returns-clause-gives g c h missing held boot arrays spells force follow =
-    let slot : slot_in c.slot_for-slot.result ≡ own_slot c.args.self.now.record = c.slot_for-slot.ensures in
-    let body : c.deref.result.now ≡ c.args.self.now.body.items = c.deref.ensures.value in
-    let a = g.S.Shelf.shelf c.args.shelf.now in
-    let e = g.S.Shelf.shelf c.store.new.shelf in
-    subst (λ (t : BootSlot). IsInForceOn a (drives_of c.args.self.now) missing t held → MayFollow a missing t boot arrays → LeavesOnly a e (GivesOldOrNew a (drives_of c.args.self.now) missing t held boot)) slot
-    (λ f w. c.store.ensures.gives h missing held boot arrays (body ∙ spells) f w) force follow
+    subst (λ (l : List ℕ). LeavesOnly a e (IsInStore a (drives_of c.args.self.now) (own_slot c.args.self.now.record) l)) body
+    (subst (λ (t : BootSlot). LeavesOnly a e (IsInStore a (drives_of c.args.self.now) t c.deref.result.now)) slot (c.store.ensures.moments h))
 
 pub returns-clause-stored : goal.returns-clause-stored
 returns-clause-stored g c h missing held boot arrays spells newer force follow =

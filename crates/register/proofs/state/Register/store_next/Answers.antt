@@ -4,27 +4,24 @@ use Rattle.boot_codec.specs.Record.{IsBootRecord}
 use Rattle.boot_codec.specs.Spelling.{spelling}
 use Rattle.world.proofs.Moments.{started}
 use Rattle.boot_region.specs.Members.{IsMember}
-use Rattle.boot_region.specs.Storing.{StandsBut}
 use Rattle.register.specs.Registers.{drives_of, next_slot, next_record}
-use Rattle.register.proofs.Rounds.{Puts, puts_next, fewer_all, writes_slots, is_of_next, logged_next, older_next, shown_next, moments_next, gives_next, again_next}
+use Rattle.register.proofs.Rounds.{Puts, puts_next, fewer_all, writes_slots, is_of_next, logged_next, older_next, shown_next, moments_next, again_next}
 use Rattle.array_spec.proofs.Standings.{given_with_fewer}
-use Rattle.register.specs.Standing.{GivesOldOrNext}
+use Rattle.register.specs.Standing.{IsInStoreOf}
 use Rattle.register.proofs.Follows.{stands_before}
 use Rattle.register.proofs.state.Register.store_next.Given as given
 use Rattle.register.proofs.state.Register.store_next.Goals as goal
 
 -- nothing was written
-pub returns-in_err-advance-clause-any_moment : goal.returns-in_err-advance-clause-any_moment
-returns-in_err-advance-clause-any_moment g c h low missing log arrays may =
+pub returns-in_err-advance-clause-moments : goal.returns-in_err-advance-clause-moments
+returns-in_err-advance-clause-moments g c h low =
     let a = g.S.Shelf.shelf c.args.shelf.now in
-    started a (StandsBut a (drives_of c.args.self.now) missing (next_slot c.args.self.now.record) c.args.self.now.record arrays) (g.met.S.Shelf.is_shelf c.args.shelf.now)
-    (λ stop m later account. stands_before a missing later arrays stop m (may.stands stop m) account.within account.bearable)
-
-pub returns-in_err-advance-clause-gives : goal.returns-in_err-advance-clause-gives
-returns-in_err-advance-clause-gives g c h low missing log arrays may =
-    let a = g.S.Shelf.shelf c.args.shelf.now in
-    started a (GivesOldOrNext a c.args.self.now c.args.nvrams missing) (g.met.S.Shelf.is_shelf c.args.shelf.now)
-    (λ stop m later account slot boot given. inl (record { start = stop; may = m; given = given_with_fewer account.within given }))
+    started a (IsInStoreOf a c.args.self.now c.args.nvrams) (g.met.S.Shelf.is_shelf c.args.shelf.now)
+    (λ stop m. record {
+      stands = λ missing log arrays may later account. stands_before a missing later arrays stop m (may.stands stop m) account.within account.bearable;
+      gives = λ missing log arrays may later account slot boot given. inl (record { start = stop; may = m; given = given_with_fewer account.within given });
+      back = λ log logged shows. inl (λ missing arrays may later account given. given stop m);
+    })
 
 -- what `put` promises, in the words of the record before
 the_puts : (g : given.Over) (c : goal.After-put g) → Puts (g.S.Shelf.shelf c.args.shelf.now) (g.S.Shelf.shelf c.put.new.shelf) c.put.new.self (drives_of c.args.self.now) (next_slot c.args.self.now.record) (spelling (next_record c.args.self.now.record c.args.self.now.drives c.args.nvrams))
@@ -37,8 +34,7 @@ the_puts g c =
       others = c.put.ensures.others;
       shown = c.put.ensures.shown;
       writes = c.put.ensures.writes;
-      any_moment = c.put.ensures.any_moment;
-      gives = c.put.ensures.gives;
+      moments = c.put.ensures.moments;
       stored = c.put.ensures.stored;
     })
 
@@ -92,15 +88,10 @@ returns-clause-older g c h log logged =
 room : (g : given.Over) (c : goal.After-put g) → c.put.new.self.record.generation < 2 ^ 48 - 8 → c.args.self.now.record.generation + 1 < 2 ^ 48 - 8
 room g c low = subst (λ (b : BootRecord). b.generation < 2 ^ 48 - 8) (kept g c) low
 
-pub returns-clause-any_moment : goal.returns-clause-any_moment
-returns-clause-any_moment g c h low missing log arrays may =
+pub returns-clause-moments : goal.returns-clause-moments
+returns-clause-moments g c h low =
     moments_next (g.S.Shelf.shelf c.args.shelf.now) (g.S.Shelf.shelf c.put.new.shelf) (g.met.S.Shelf.is_shelf c.args.shelf.now) c.put.ensures.continues c.args.self.now c.put.new.self c.args.nvrams
-    c.requires.is_of c.requires.nvrams (lawful g c) (kept g c) (beyond g c) (the_puts g c) h (room g c low) missing log arrays may
-
-pub returns-clause-gives : goal.returns-clause-gives
-returns-clause-gives g c h low missing log arrays may =
-    gives_next (g.S.Shelf.shelf c.args.shelf.now) (g.S.Shelf.shelf c.put.new.shelf) (g.met.S.Shelf.is_shelf c.args.shelf.now) c.put.ensures.continues c.args.self.now c.put.new.self c.args.nvrams
-    c.requires.is_of c.requires.nvrams (lawful g c) (kept g c) (beyond g c) (the_puts g c) h (room g c low) missing log arrays may
+    c.requires.is_of c.requires.nvrams (lawful g c) (kept g c) (beyond g c) (the_puts g c) h (room g c low)
 
 pub returns-clause-again : goal.returns-clause-again
 returns-clause-again g c h low missing log arrays may =

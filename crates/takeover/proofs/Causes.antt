@@ -1,0 +1,116 @@
+-- Where no more failed than is borne, an array that isn't opened is so for want of memory alone.
+use Rattle.std.proofs.Common.{◌≡◌, ◌⊎◌, inl, inr, ℕ, Bool, true, false, List, Option, Some, None, refl, subst, arith}
+use Rattle.std.specs.Prelude.{if◌then◌else◌, is_some}
+use Rattle.pur_base.specs.declared.device.Device.{Device}
+use Rattle.pur_base.specs.declared.reply.Status.{Status}
+use Rattle.pur_base.specs.declared.reply.Status.TheVariants as status
+use Rattle.pur_base.specs.Commands.{Command}
+use Rattle.pur_base.specs.Devices.{Geometry, Condition, Conditions, Sound, Missing, LeftOut, View, IsBearable, is_missing, nvram}
+use Rattle.pur_base.specs.Grammar.{is_in_force}
+use Rattle.pur_base.specs.Plain.{Array}
+use Rattle.boot_codec.specs.Region.{Effective, names}
+use Rattle.log_codec.specs.Log.{Shows, ShowsIn}
+use Rattle.array_spec.specs.Losses.{not_holding}
+use Rattle.array_spec.specs.Meaning.{members_view}
+use Rattle.array_spec.specs.Standing.{MayAppear, MayBeGiven}
+use Rattle.array_spec.proofs.UnflushedRead.{kept_is}
+use Rattle.world.specs.Losing.{geometry_of, has_failed, missing_if, losing}
+use Rattle.world.specs.Shelf.{Shelved, IsShelf, MayStop}
+use Rattle.session_spec.specs.Entering.{Enters, Found, ComesOut, IsTakenOver, OnlyFailedAreSilent, read_now, failed_since}
+use Rattle.session_spec.specs.Headline.{HasNoArray, HasTooFew, IsUnopenedBy}
+use Rattle.session_spec.proofs.Conditions.{loses, borne_on}
+use Rattle.session_spec.proofs.Taken.{takeover_bears}
+use Rattle.takeover.proofs.Failing.{sound_since}
+use Rattle.takeover.proofs.Loading.{may_read}
+
+-- what becomes of a device: it is sound, or left out, or a call on it failed
+pub outcome : Bool → Option (List ℕ) → Condition
+outcome true o = Missing
+outcome false (Some bytes) = Sound
+outcome false None = LeftOut
+
+comes_out : {shelf : Geometry} {image : _} (found : Found shelf image) (failed : Device → Bool) (after : Conditions) (d : Device) (b : Bool) (o : Option (List ℕ))
+    → after d ≡ outcome b o → failed d ≡ b → members_view found.view found.effective d ≡ o → ComesOut found failed after d
+unfolding outcome
+comes_out found failed after d true o is fails shown = inr (inr ((λ e. cc (e, is)), fails))
+comes_out found failed after d false (Some bytes) is fails shown = inl is
+comes_out found failed after d false None is fails shown = inr (inl (is, shown))
+
+missing_too : (b : Bool) (o : Option (List ℕ)) → is_missing (missing_if b (if is_some o then Sound else Missing)) ≡ true → is_missing (outcome b o) ≡ true
+unfolding outcome
+missing_too true o e = refl
+missing_too false (Some bytes) e = absurd (cc e)
+missing_too false None e = refl
+
+module _ (old new : Shelved) (missing : Conditions) (arrays : List Array) (enters : Enters old missing arrays) (is : IsShelf old) (h : old.honest)
+    (bears : IsBearable (geometry_of old) (failed_since old new missing)) where
+  may : MayStop old (read_now old)
+  may = may_read old is h
+
+  -- what the devices showed is a view of them
+  appears : (view : View) → ((d : Device) → (view d ≡ Some (old.disk d).bytes) ⊎ (view d ≡ None)) → OnlyFailedAreSilent (has_failed (read_now old) (read_now new)) view
+      → MayAppear (geometry_of old) (read_now old).image missing (failed_since old new missing) view
+  appears view shown silent = record {
+    within = loses (has_failed (read_now old) (read_now new)) missing;
+    bearable = bears;
+    shown = λ d sound. elim (shown d) [
+      | inl shows ↦ shows
+      | inr none ↦ absurd (cc (silent d none, (sound_since (has_failed (read_now old) (read_now new) d) (missing d) sound).1))
+    ];
+  }
+
+  given : (view : View) → MayAppear (geometry_of old) (read_now old).image missing (failed_since old new missing) view → (e : Effective (geometry_of old) view)
+      → MayBeGiven (geometry_of old) (read_now old).image missing e.slot e.boot
+  given view seen e = record { more = failed_since old new missing; view = view; appears = seen; lawful = e.lawful; effective = e.effective }
+
+  no_command : (view : View) → ((d : Device) → (view d ≡ Some (old.disk d).bytes) ⊎ (view d ≡ None))
+      → (e : Effective (geometry_of old) view) → MayBeGiven (geometry_of old) (read_now old).image missing e.slot e.boot
+      → (device i : ℕ) (c : Command) → Shows (members_view view e) device e.boot.flushed i c → is_in_force c.request ≡ true
+  no_command view shown e g device i c shows =
+      let kept = kept_is (names e.boot (nvram device)) (view (nvram device)) shows.bytes shows.shown in
+      elim (shown (nvram device)) [
+        | inl is ↦ (enters.read (read_now old) may).in_force e.slot e.boot g device i c kept.0
+            (subst (λ (l : List ℕ). ShowsIn l e.boot.flushed i c) (some_is shows.bytes (old.disk (nvram device)).bytes (view (nvram device)) kept.1 is) (record { slot = shows.slot; gate = shows.gate; spelled = shows.spelled }))
+        | inr none ↦ absurd (cc (none, kept.1))
+      ]
+    where
+      some_is : (a b : List ℕ) (o : Option (List ℕ)) → o ≡ Some a → o ≡ Some b → a ≡ b
+      some_is a b o e f = cc
+
+  no_array : HasNoArray old new → ⊥
+  no_array none =
+      let seen = appears none.view none.shown none.silent in
+      let e = (enters.stands (read_now old) may).gives (failed_since old new missing) none.view seen in
+      let g = given none.view seen e in
+      elim (none.unread e) [
+        | inl spent ↦ absurd (spent (let below = enters.room (read_now old) may e.slot e.boot g in omega (arith, below)))
+        | inr (inl patches) ↦ absurd (patches ((enters.read (read_now old) may).unflushed e.slot e.boot g))
+        | inr (inr (device, i, c, shows, unserved)) ↦ absurd (cc (unserved, no_command none.view none.shown e g device i c shows))
+      ]
+
+  too_few : HasTooFew old new → ⊥
+  unfolding outcome
+  too_few few = few.unborne (borne_on (geometry_of old) (losing failed (not_holding few.found.effective.slot few.found.effective.boot few.found.view)) after
+      (λ d on gone. missing_too (failed d) (members_view few.found.view few.found.effective d) gone)
+      (takeover_bears (geometry_of old) (read_now old).image missing after failed few.found arrays (λ d. is.bytes h d) (enters.stands (read_now old) may) bears taken))
+    where
+      failed : Device → Bool
+      failed = has_failed (read_now old) (read_now new)
+
+      after : Conditions
+      after d = outcome (failed d) (members_view few.found.view few.found.effective d)
+
+      taken : IsTakenOver (geometry_of old) (read_now old).image few.found failed after
+      taken = record { silent = few.silent; each = λ d on. comes_out few.found failed after d (failed d) (members_view few.found.view few.found.effective d) refl refl refl }
+
+  pub cause : (ended : Status) → IsUnopenedBy ended old new → ended ≡ status.Memory
+  cause status.NoArray none = absurd (no_array none)
+  cause status.Halted few = absurd (too_few few)
+  cause status.Memory by = refl
+  cause status.Done by = absurd by
+  cause status.Words by = absurd by
+  cause status.Source by = absurd by
+  cause status.Sink by = absurd by
+  cause status.Cut by = absurd by
+  cause status.InputLimit by = absurd by
+  cause status.NotBlank by = absurd by

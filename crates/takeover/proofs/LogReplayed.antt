@@ -1,0 +1,162 @@
+-- What the devices showed of the log, or why it wasn't replayed, and that nothing is dirty in the end.
+use Rattle.std.proofs.Common.{◌≡◌, inl, inr, ℕ, ◌<◌, ◌≤◌, List, [], length, take, sym, ◌∙◌, ap, subst, arith, Bool, false, Err}
+use Rattle.std.specs.Prelude.{Option, Some, None, if◌then◌else◌, slice_index_or}
+use Rattle.std.proofs.lemmas.Bool.{cases_Bool, cases_lt}
+use Rattle.std.proofs.lemmas.List.{ext_get_or, get_or_past, length-take}
+use Rattle.pur_base.specs.Commands.{Command}
+use Rattle.pur_base.specs.Devices.{Conditions, Sound, drive, nvram}
+use Rattle.pur_base.specs.Plain.{Array}
+use Rattle.pur_base.specs.declared.device.Device.{Device}
+use Rattle.pur_base.specs.declared.device.Device.TheVariants.{Drive, Nv}
+use Rattle.log_codec.specs.Log.{LogStands, Shows, ShowsIn}
+use Rattle.array_spec.proofs.LogBetween.{shower}
+use Rattle.array_spec.proofs.UnflushedRead.{kept_is}
+use Rattle.world.specs.Losing.{has_risen}
+use Rattle.world.specs.Shelf.{Continues, Disk, IsCountedBy, LeavesOnly, Shelved}
+use Rattle.world.specs.Writes.{ChangesOnly, WritesOnly}
+use Rattle.world.proofs.Moments.{then_run, weaker}
+use Rattle.boot_region.proofs.Phases.{risen_on_way}
+use Rattle.boot_region.proofs.Stored.{rises_between}
+use Rattle.nvram_log.specs.declared.log.NvLog.{NvLog}
+use Rattle.nvram_log.specs.declared.read.ReadFault.{ReadFault}
+use Rattle.nvram_log.specs.declared.read.ReadFault.TheVariants as read_fault
+use Rattle.nvram_log.specs.Held.{Keeps, shown_by}
+use Rattle.nvram_log.specs.Members.{IsFewer, IsMember}
+use Rattle.nvram_log.specs.Read.{DroppedCounted, IsReadFrom, OnNothing}
+use Rattle.session_spec.specs.Entering.{failed_since}
+use Rattle.takeover.specs.declared.log.LogFault.{LogFault}
+use Rattle.takeover.specs.declared.log.LogFault.TheVariants as log_fault
+use Rattle.takeover.specs.declared.log.OpenedLog.{OpenedLog}
+use Rattle.takeover.specs.Opened.{AreClean}
+use Rattle.takeover.specs.Replay.{HasUnserved, IsReplayed, IsReplayFault, log_fault_of}
+use Rattle.takeover.specs.Replayed.{IsReplayedBy, IsReplayedFrom, ShowedUnserved}
+use Rattle.takeover.proofs.Chains.{log_moves, replayed_stands}
+use Rattle.takeover.proofs.Failing.{sound_since}
+
+-- ---- counts
+
+-- while nothing is written, and then while other bytes are
+pub counted_reading : {W : Device → ℕ → Type 0} {old mid : Shelved} → WritesOnly W old mid → LeavesOnly old mid (IsCountedBy old)
+counted_reading {W} {old} {mid} wrote = weaker (λ stop left. left.counts) wrote.any_moment
+
+pub counted_settling : {V W : Device → ℕ → Type 0} {old mid new : Shelved} → Continues old mid → WritesOnly V old mid → WritesOnly W mid new → LeavesOnly old new (IsCountedBy old)
+counted_settling {V} {W} {old} {mid} {new} on wrote writes = then_run on (counted_reading wrote) (weaker (λ stop left. record {
+  faults = λ d. omega (arith, on.faults d, left.counts.faults d);
+  write_faults = λ d. omega (arith, on.write_faults d, left.counts.write_faults d);
+}) writes.any_moment)
+
+-- ---- what was shown
+
+-- where nothing is written, the bytes stay
+same_bytes : (old new : Disk) → ChangesOnly (λ i. ⊥) old new → new.bytes ≡ old.bytes
+same_bytes old new same = ext_get_or 0 new.bytes old.bytes same.size (λ i lt. same.bytes i (λ w. w))
+
+module _ (old mid new : Shelved) (nvrams : List Bool) (flushed : ℕ) (honest : old.honest) (on : Continues old mid) (wrote : WritesOnly OnNothing old mid) (log : NvLog) (follows : log.flushed ≡ flushed)
+    (fewer : IsFewer nvrams log.members) (dropped : DroppedCounted old mid nvrams log.members) (read : IsReadFrom old.honest (shown_by mid log.members) log) where
+  bytes_stay : (n : ℕ) → (mid.disk (nvram n)).bytes ≡ (old.disk (nvram n)).bytes
+  bytes_stay n = same_bytes (old.disk (nvram n)) (mid.disk (nvram n)) (wrote.device (nvram n))
+
+  shows_same : (n : ℕ) → shown_by mid log.members (nvram n) ≡ shown_by old log.members (nvram n)
+  shows_same n = ap (λ (l : List ℕ). if slice_index_or log.members n false then Some l else None) (bytes_stay n)
+
+  -- a member showed what memory has
+  pub unserved_showed : HasUnserved read.commands → ShowedUnserved old nvrams flushed
+  unserved_showed u =
+      let it = shower (shown_by mid log.members) log.flushed u.place u.command (read.shown honest u.place u.command u.there) in
+      let k = kept_is (slice_index_or log.members it.0 false) (Some (mid.disk (nvram it.0)).bytes) it.2.bytes it.2.shown in
+      let same : (mid.disk (nvram it.0)).bytes ≡ it.2.bytes = some_is k.1 in
+      record {
+        device = it.0;
+        below = it.1;
+        named = fewer it.0 k.0;
+        place = u.place;
+        command = u.command;
+        shown = subst (λ (f : ℕ). ShowsIn (old.disk (nvram it.0)).bytes f u.place u.command) follows
+            (subst (λ (l : List ℕ). ShowsIn l log.flushed u.place u.command) (sym same ∙ bytes_stay it.0) (record { slot = it.2.slot; gate = it.2.gate; spelled = it.2.spelled }));
+        unserved = u.unserved;
+      }
+    where
+      some_is : {p q : List ℕ} → ◌≡◌ {A = Option (List ℕ)} (Some p) (Some q) → p ≡ q
+      some_is e = cc e
+
+  pub not_replayed : (fault : LogFault) → IsReplayFault fault log → IsReplayedBy old new nvrams flushed (Err fault)
+  not_replayed (log_fault.Memory m) is = tt
+  not_replayed log_fault.BothLost is = tt
+  not_replayed log_fault.Unserved is = unserved_showed (is read.commands read.keeps)
+
+  module _ (count : ℕ) (b : Array) (within : count ≤ log.count) (replayed : (commands : List Command) → Keeps log commands → IsReplayed [] commands count b) where
+    le : count ≤ length read.commands
+    le = omega (arith, read.keeps.count, within)
+
+    size : length (take count read.commands) ≡ count
+    size = omega (arith, length-take count read.commands, le)
+
+    ends : length read.commands < 64 → (n : ℕ) (c : Command) → n < 2 → ¬ (Shows (shown_by mid log.members) n log.flushed (length read.commands) c)
+    ends few n c lt s = read.ends honest (omega (arith, few, read.keeps.count)) n c lt (subst (λ (k : ℕ). Shows (shown_by mid log.members) n log.flushed k c) read.keeps.count s)
+
+    stands : LogStands (shown_by old log.members) flushed [] (take count read.commands)
+    stands = subst (λ (f : ℕ). LogStands (shown_by old log.members) f [] (take count read.commands)) follows
+        (log_moves (shown_by mid log.members) (shown_by old log.members) shows_same log.flushed 0 [] (take count read.commands)
+        (replayed_stands (shown_by mid log.members) log.flushed read.commands count b (replayed read.commands read.keeps) size (read.shown honest) ends le))
+
+    -- and then it was settled
+    pub replayed_from : (o : OpenedLog) → Continues mid new → IsFewer log.members o.log.members → DroppedCounted mid new log.members o.log.members
+        → Keeps o.log (take count read.commands) → o.log.count ≡ count → o.plain ≡ b → IsReplayedFrom old new nvrams flushed o
+    replayed_from o next left then_dropped keeps counts plain = record {
+      read = log.members;
+      named = fewer;
+      left = left;
+      log = take count read.commands;
+      log_stands = stands;
+      in_force = (replayed read.commands read.keeps).in_force;
+      keeps = keeps;
+      plain = plain ∙ (replayed read.commands read.keeps).array;
+      count = counts ∙ sym size;
+      unread = λ n lt m. elim (dropped n lt m) [
+        | inl is ↦ inl is
+        | inr rose ↦ inr (rises_between (old.disk (nvram n)).faults (old.disk (nvram n)).faults (mid.disk (nvram n)).faults (new.disk (nvram n)).faults (omega arith) rose (next.faults (nvram n)))
+      ];
+      dropped = λ n lt m. elim (dropped n lt m) [
+        | inr rose ↦ inr (rises_between (old.disk (nvram n)).faults (old.disk (nvram n)).faults (mid.disk (nvram n)).faults (new.disk (nvram n)).faults (omega arith) rose (next.faults (nvram n)))
+        | inl is ↦ elim (then_dropped n lt is) [
+          | inl still ↦ inl still
+          | inr rose ↦ inr (rises_between (old.disk (nvram n)).faults (mid.disk (nvram n)).faults (new.disk (nvram n)).faults (new.disk (nvram n)).faults (on.faults (nvram n)) rose (omega arith))
+        ]
+      ];
+    }
+
+pub not_read : (old new : Shelved) (nvrams : List Bool) (flushed : ℕ) (fault : ReadFault) → IsReplayedBy old new nvrams flushed (Err (log_fault_of fault))
+not_read old new nvrams flushed read_fault.NoMemory = tt
+not_read old new nvrams flushed read_fault.BothLost = tt
+
+-- ---- what is dirty
+
+pub clean_read : (old mid : Shelved) (missing : Conditions) → AreClean old missing → ((d : Device) → (old.disk d).dirty ≡ [] → (mid.disk d).dirty ≡ []) → AreClean mid (failed_since old mid missing)
+clean_read old mid missing clean still d sound = still d (clean d (sound_since (has_risen (old.disk d).faults (mid.disk d).faults) (missing d) sound).0)
+
+pub clean_settled : (old mid new : Shelved) (missing : Conditions) (nvrams members left : List Bool) → Continues old mid → AreClean old missing → ((d : Device) → (old.disk d).dirty ≡ [] → (mid.disk d).dirty ≡ [])
+    → length nvrams ≡ 2 → IsFewer nvrams members → DroppedCounted mid new members left → ((i : ℕ) → new.disk (drive i) ≡ mid.disk (drive i)) → ((n : ℕ) → ¬ (IsMember members n) → new.disk (nvram n) ≡ mid.disk (nvram n))
+    → ((n : ℕ) → n < 2 → IsMember left n → (new.disk (nvram n)).dirty ≡ []) → AreClean new (failed_since old new missing)
+clean_settled old mid new missing nvrams members left on clean still two fewer dropped drives others settled = each
+  where
+    was_sound : (d : Device) → failed_since old new missing d ≡ Sound → (missing d ≡ Sound) × (has_risen (old.disk d).faults (new.disk d).faults ≡ false)
+    was_sound d s = sound_since (has_risen (old.disk d).faults (new.disk d).faults) (missing d) s
+
+    before : (d : Device) → failed_since old new missing d ≡ Sound → (mid.disk d).dirty ≡ []
+    before d s = still d (clean d (was_sound d s).0)
+
+    below : (n : ℕ) → IsMember members n → n < 2
+    below n m = elim (cases_lt n 2) [
+      | inl lt ↦ lt
+      | inr past ↦ absurd (cc (fewer n m, get_or_past nvrams n false (omega (arith, past, two))))
+    ]
+
+    each : (d : Device) → failed_since old new missing d ≡ Sound → (new.disk d).dirty ≡ []
+    each (Drive d) s = subst (λ (k : Disk). k.dirty ≡ []) (sym (drives d.0)) (before (Drive d) s)
+    each (Nv n) s = elim (cases_Bool (slice_index_or members n.0 false)) [
+      | inr no_member ↦ subst (λ (k : Disk). k.dirty ≡ []) (sym (others n.0 (λ m. cc (m, no_member)))) (before (Nv n) s)
+      | inl member ↦ elim (dropped n.0 (below n.0 member) member) [
+        | inl is ↦ settled n.0 (below n.0 member) is
+        | inr rose ↦ absurd (risen_on_way (old.disk (Nv n)).faults (mid.disk (Nv n)).faults (new.disk (Nv n)).faults (new.disk (Nv n)).faults (on.faults (Nv n)) rose (omega arith) (was_sound (Nv n) s).1)
+      ]
+    ]

@@ -1,0 +1,116 @@
+-- What the devices stand for while the drives stay as they are: others may have failed, and NVRAM devices may show more of a log.
+use Rattle.std.proofs.Common.{◌≡◌, inl, inr, ℕ, zero, suc, ◌+◌, ◌<◌, ◌≤◌, List, [], ◌∷◌, refl, sym, ◌∙◌, ap, subst, arith, Bool, true, false}
+use Rattle.std.specs.Prelude.{Option, Some, map, nat_lt, slice_get, slice_index_or, option_and_then, if◌then◌else◌}
+use Rattle.std.specs.List.{AllByRecursion, range_with_len}
+use Rattle.std.proofs.lemmas.Bool.{cases_Bool, cases_eq, ltb-false, ltb-true}
+use Rattle.pur_base.specs.Commands.{Command}
+use Rattle.pur_base.specs.Devices.{Geometry, Image, View, Conditions, Sound, IsBearable, IsWithin, drive, nvram}
+use Rattle.pur_base.specs.Grammar.{is_in_force}
+use Rattle.pur_base.specs.Plain.{Array}
+use Rattle.pur_base.specs.declared.device.Device.{Device}
+use Rattle.pur_base.specs.declared.device.Device.TheVariants.{Drive, Nv}
+use Rattle.boot_codec.specs.declared.record.BootRecord.{BootRecord}
+use Rattle.boot_codec.specs.Region.{BootSlot, shown_by, votes}
+use Rattle.boot_codec.specs.Spelling.{spelling}
+use Rattle.log_codec.specs.Log.{ShowsIn}
+use Rattle.array_spec.specs.LogSettling.{SettlesLog}
+use Rattle.array_spec.specs.Standing.{MayBeGiven}
+use Rattle.array_spec.proofs.Quiet.{effective_moves}
+use Rattle.array_spec.proofs.Standings.{given_with_fewer, more_may_go_missing, within_twice}
+use Rattle.array_spec.proofs.UnflushedRead.{was_left_out}
+use Rattle.array_spec.proofs.Votes.{sound_before}
+use Rattle.session_spec.specs.Entering.{AreRead, IsStanding, LeftOutAreNamedByNone}
+
+votes_alike : (f g : ℕ → Option (List ℕ)) (a n : ℕ) → ((k : ℕ) → a ≤ k → k < a + n → f k ≡ g k) → map f (range_with_len a n) ≡ map g (range_with_len a n)
+votes_alike f g a zero same = refl
+votes_alike f g a (suc n) same =
+    let head : f a ≡ g a = same a (omega arith) (omega arith) in
+    let tail = votes_alike f g (a + 1) n (λ k le lt. same k (omega (arith, le)) (omega (arith, lt))) in
+    ap (λ (v : Option (List ℕ)). v ∷ map f (range_with_len (a + 1) n)) head ∙ ap (λ (l : List (Option (List ℕ))). g a ∷ l) tail
+
+picks : (b : Bool) (o : Option (List ℕ)) (l : List ℕ) → (b ≡ true → o ≡ Some l) → (if b then o else Some l) ≡ Some l
+picks true o l h = h refl
+picks false o l h = refl
+
+picked : (b : Bool) (o p : Option (List ℕ)) → b ≡ true → o ≡ (if b then o else p)
+picked true o p e = refl
+picked false o p e = absurd (cc e)
+
+-- where the drives of the shelf that aren't missing show the same, what may be given might have been given with fewer missing, whatever NVRAM devices show
+module _ (shelf : Geometry) (from to : Image) (missing now : Conditions) (slot : BootSlot) (boot : BootRecord) (within : IsWithin missing now)
+    (same : (i : ℕ) → i < shelf.slots → missing (drive i) ≡ Sound → from (drive i) ≡ to (drive i)) (g : MayBeGiven shelf from now slot boot) where
+  abbrev view_there : View
+  view_there (Drive d) = if nat_lt d.0 shelf.slots then g.view (Drive d) else Some (to (Drive d))
+  view_there (Nv n) = Some (to (Nv n))
+
+  goes_on : IsWithin missing g.more
+  goes_on = within_twice missing now g.more within g.appears.within
+
+  shown_there : (d : Device) → g.more d ≡ Sound → view_there d ≡ Some (to d)
+  shown_there (Drive d) s = picks (nat_lt d.0 shelf.slots) (g.view (Drive d)) (to (Drive d)) (λ lt. g.appears.shown (Drive d) s
+      ∙ ap (λ (l : List ℕ). Some l) (same d.0 (ltb-true d.0 shelf.slots lt) (sound_before (missing (Drive d)) (g.more (Drive d)) (goes_on (Drive d)) s)))
+  shown_there (Nv n) s = refl
+
+  inside : (k : ℕ) → k < shelf.slots → g.view (drive k) ≡ view_there (drive k)
+  inside k lt = elim (cases_Bool (nat_lt k shelf.slots)) [
+    | inl is ↦ picked (nat_lt k shelf.slots) (g.view (drive k)) (Some (to (drive k))) is
+    | inr not ↦ absurd (omega (arith, lt, ltb-false k shelf.slots not))
+  ]
+
+  same_votes : (s : BootSlot) → votes shelf g.view s ≡ votes shelf view_there s
+  same_votes s = votes_alike (λ i. option_and_then (shown_by s) (g.view (drive i))) (λ i. option_and_then (shown_by s) (view_there (drive i))) 0 shelf.slots
+      (λ k le lt. ap (option_and_then (shown_by s)) (inside k (omega (arith, lt))))
+
+  pub given_over : MayBeGiven shelf to missing slot boot
+  given_over = record {
+    more = g.more;
+    view = view_there;
+    appears = record { within = goes_on; bearable = g.appears.bearable; shown = shown_there };
+    lawful = g.lawful;
+    effective = effective_moves shelf g.view view_there slot (spelling boot) same_votes g.effective;
+  }
+
+-- others may have gone missing
+pub standing_with_fewer : (shelf : Geometry) (image : Image) (missing now : Conditions) (arrays : List Array) → IsWithin missing now → IsBearable shelf now
+    → IsStanding shelf image missing arrays → IsStanding shelf image now arrays
+standing_with_fewer shelf image missing now arrays within borne s = record {
+  stands = more_may_go_missing shelf image missing now arrays within borne s.stands;
+  left_out = λ d out slot boot g. s.left_out d (was_left_out (missing d) (now d) (within d) out) slot boot (given_with_fewer within g);
+  read = record {
+    unflushed = λ slot boot g. s.read.unflushed slot boot (given_with_fewer within g);
+    in_force = λ slot boot g. s.read.in_force slot boot (given_with_fewer within g);
+  };
+}
+
+-- a command of a list of which all are of forms in force
+pub in_force_at : (cs : List Command) (i : ℕ) (c : Command) → AllByRecursion (λ d. is_in_force d.request ≡ true) cs → slice_get cs i ≡ Some c → is_in_force c.request ≡ true
+in_force_at [] i c all at = absurd (cc at)
+in_force_at (d ∷ ds) zero c all at = let same : d ≡ c = cc at in subst (λ (x : Command). is_in_force x.request ≡ true) same all.0
+in_force_at (d ∷ ds) (suc i) c all at = in_force_at ds i c all.1 at
+
+-- NVRAM devices show more of a log
+module _ (shelf : Geometry) (was new : Image) (missing now : Conditions) (members : List Bool) (flushed : ℕ) (log : List Command) (within : IsWithin missing now)
+    (settles : SettlesLog members flushed log was new) where
+  given_then : (slot : BootSlot) (boot : BootRecord) → MayBeGiven shelf new now slot boot → MayBeGiven shelf was missing slot boot
+  given_then slot boot g = given_over shelf new was missing now slot boot within (λ i lt s. settles.only_nvram.drive i) g
+
+  pub left_out_settled : LeftOutAreNamedByNone shelf was missing → LeftOutAreNamedByNone shelf new now
+  left_out_settled none d out slot boot g = none d (was_left_out (missing d) (now d) (within d) out) slot boot (given_then slot boot g)
+
+  -- the commands of the log are of forms in force, and a device shows no others that it didn't
+  pub read_settled : AllByRecursion (λ c. is_in_force c.request ≡ true) log → AreRead shelf was missing → AreRead shelf new now
+  read_settled all r = record {
+    unflushed = λ slot boot g. r.unflushed slot boot (given_then slot boot g);
+    in_force = λ slot boot g n i c named s.
+        let before : ShowsIn (was (nvram n)) boot.flushed i c → is_in_force c.request ≡ true = λ t. r.in_force slot boot (given_then slot boot g) n i c named t in
+        elim (cases_Bool (slice_index_or members n false)) [
+          | inr no_member ↦ before (subst (λ (l : List ℕ). ShowsIn l boot.flushed i c) (settles.others n no_member) s)
+          | inl member ↦ elim (cases_eq boot.flushed flushed) [
+            | inr other ↦ before (settles.none_elsewhere n i boot.flushed c member other s)
+            | inl same ↦ elim (settles.no_other n i c member (subst (λ (f : ℕ). ShowsIn (new (nvram n)) f i c) same s)) [
+              | inl at ↦ in_force_at log i c all at
+              | inr t ↦ before (subst (λ (f : ℕ). ShowsIn (was (nvram n)) f i c) (sym same) t)
+            ]
+          ]
+        ];
+  }

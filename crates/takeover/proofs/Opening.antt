@@ -1,0 +1,219 @@
+-- The opening as a whole, from what each of its calls says.
+use Rattle.std.proofs.Common.{◌≡◌, ◌⊎◌, inl, inr, ℕ, ◌+◌, ◌-◌, ◌^◌, ◌<◌, ◌≤◌, Bool, List, Some, None, refl, sym, ◌∙◌, ap, subst, arith, Err}
+use Rattle.std.proofs.lemmas.Bool.{cases_lt}
+use Rattle.pur_base.specs.Commands.{Command}
+use Rattle.pur_base.specs.declared.device.Device.{Device}
+use Rattle.pur_base.specs.declared.reply.Status.TheVariants as status
+use Rattle.pur_base.specs.Devices.{Geometry, Conditions, IsBearable, drive, nvram}
+use Rattle.pur_base.specs.Plain.{Array}
+use Rattle.boot_codec.specs.declared.record.BootRecord.{BootRecord}
+use Rattle.boot_codec.specs.Region.{BootSlot, IsRecordOf, shown_by}
+use Rattle.boot_codec.specs.Spelling.{spelling}
+use Rattle.array_spec.specs.Standing.{MayBeGiven}
+use Rattle.world.specs.Losing.{geometry_of, has_failed}
+use Rattle.world.specs.Shelf.{Shelved, Stop, Disk, MayStop, MayLeave, IsShelf, IsSame, Continues, IsCountedBy, LeavesOnly}
+use Rattle.world.specs.Writes.{WritesOnly}
+use Rattle.world.proofs.Moments.{then_run, weaker, continues_trans}
+use Rattle.world.proofs.Writes.{counted_then, counts_grow}
+use Rattle.boot_region.specs.declared.loading.Loaded.{Loaded}
+use Rattle.boot_region.specs.Loading.{IsLawfulLoad}
+use Rattle.boot_region.specs.Members.{IsMember, DroppedFailed, LostWrites}
+use Rattle.boot_region.specs.Slots.{slot_in}
+use Rattle.boot_region.specs.Storing.{Shows, StandsBut}
+use Rattle.nvram_log.specs.Members.{OnMembers}
+use Rattle.nvram_log.proofs.SettledEach.{both_leave}
+use Rattle.register.specs.declared.state.Register.{Register}
+use Rattle.register.specs.declared.next.StoreFault.{StoreFault}
+use Rattle.register.specs.declared.next.StoreFault.TheVariants.{Spent, TooFew}
+use Rattle.register.specs.Faults.{IsFaultOf}
+use Rattle.register.specs.Registers.{IsLaterRecord, IsRegisterOf, OnSlots, drives_of, next_slot, own_slot}
+use Rattle.register.specs.Standing.{AllShow, GivesOldOrNext, MayStore, StandsBack, StandsInLog, StillGiven}
+use Rattle.register.proofs.FlagLemmas.{in_cut, not_below}
+use Rattle.session_spec.specs.Entering.{Enters, Found, OnlyFailedAreSilent, StandsStill, read_now, failed_by, failed_since}
+use Rattle.session_spec.specs.Headline.{IsUnopenedBy}
+use Rattle.takeover.specs.declared.faults.OpenFault.{OpenFault}
+use Rattle.takeover.specs.declared.faults.OpenFault.TheVariants as open_fault
+use Rattle.takeover.specs.declared.log.LogFault.{LogFault}
+use Rattle.takeover.specs.declared.log.LogFault.TheVariants as log_fault
+use Rattle.takeover.specs.declared.log.OpenedLog.{OpenedLog}
+use Rattle.takeover.specs.Faults.{fault_of_log, fault_of_store}
+use Rattle.takeover.specs.Found.{IsFoundOn}
+use Rattle.takeover.specs.LogOpen.{IsLogFault, IsLogOpen}
+use Rattle.takeover.specs.Opened.{AreClean, IsOpened, IsShut, status_of}
+use Rattle.takeover.specs.Recovered.{IsRecovered}
+use Rattle.takeover.specs.Replayed.{IsReplayedBy, IsReplayedFrom}
+use Rattle.takeover.specs.Seen.{IsGivenFrom, IsSeenBy, IsSeenIn}
+use Rattle.takeover.proofs.Causes.{cause}
+use Rattle.takeover.proofs.Loading.{same_geometry}
+use Rattle.takeover.proofs.RecoveredLemmas.{in_log, left_or_lost, may_store}
+use Rattle.takeover.proofs.Stops.{given_at, nothing_owed, unstored_by}
+use Rattle.takeover.proofs.Storing.{stored_at}
+use Rattle.takeover.proofs.Twice.{borne_or_not, twice_since}
+use Rattle.takeover.proofs.WhatFound as found_by
+
+-- a stop counts no fewer failed calls than there were at an earlier moment
+pub counted_on : {a b c : Shelved} → Continues a b → LeavesOnly a b (IsCountedBy a) → LeavesOnly b c (IsCountedBy b) → LeavesOnly a c (IsCountedBy a)
+counted_on on first next = then_run on first (weaker (λ stop counted. counted_then (counts_grow on) counted) next)
+
+pub counted_by_writes : {a b : Shelved} {W : Device → ℕ → Type 0} → WritesOnly W a b → LeavesOnly a b (IsCountedBy a)
+counted_by_writes writes = weaker (λ stop left. left.counts) writes.any_moment
+
+-- what a drive shows that stays as it was
+pub shows_still : (b n : Shelved) (slot : BootSlot) (body : List ℕ) (i : ℕ) → n.disk (drive i) ≡ b.disk (drive i) → Shows b slot body i → Shows n slot body i
+shows_still b n slot body i same s = record {
+  clean = ap (λ (k : Disk). k.dirty) same ∙ s.clean;
+  shown = ap (λ (k : Disk). shown_by slot k.bytes) same ∙ s.shown;
+}
+
+-- what is clean after both calls
+pub clean_on : (a b n : Shelved) (missing : Conditions) → Continues a b → Continues b n → AreClean n (failed_since b n (failed_since a b missing)) → AreClean n (failed_since a n missing)
+clean_on a b n missing on after clean d sound = clean d (ap (λ (c : Conditions). c d) (twice_since a b n missing on after) ∙ sound)
+
+-- ---- it isn't opened, and nothing was stored
+
+module _ (a s : Shelved) (is_a : IsShelf a) (h : a.honest) (e : OpenFault) (by : IsUnopenedBy (status_of e) a s)
+    (each : (missing : Conditions) (arrays : List Array) → Enters a missing arrays → LeavesOnly a s (StandsStill a None missing arrays))
+    (clean : (missing : Conditions) (arrays : List Array) → Enters a missing arrays → AreClean s (failed_since a s missing)) where
+  pub shut : IsShut a s e
+  shut = record {
+    by = by;
+    found = None;
+    silent = tt;
+    each = each;
+    clean = λ missing arrays enters bears. clean missing arrays enters;
+    cause = λ missing arrays enters bears. cause a s missing arrays enters is_a h bears (status_of e) by;
+  }
+
+-- no record was found
+pub unfound : (a b : Shelved) (e : OpenFault) → IsSeenBy a b (Err e) → IsUnopenedBy (status_of e) a b
+unfound a b (open_fault.Memory m) by = tt
+unfound a b open_fault.NoArray by = by
+unfound a b (open_fault.BadRecord e) by = by
+unfound a b (open_fault.TooFew drives) by = by
+unfound a b open_fault.HasPatches by = by
+unfound a b open_fault.BothLost by = absurd by
+unfound a b open_fault.Unserved by = absurd by
+unfound a b open_fault.Spent by = by
+
+-- the record was found
+module _ (a b : Shelved) (x : Loaded) (on : Continues a b) (seen : IsSeenIn a b x) (lawful_b : IsLawfulLoad (geometry_of b) x) (same : (k : ℕ) → IsSame (a.disk (nvram k)) (b.disk (nvram k)))
+    (n : Shelved) (after : Continues b n) where
+  pub lawful : IsRecordOf (geometry_of a) x.record
+  lawful = subst (λ (g : Geometry). IsRecordOf g x.record) (sym (same_geometry on)) lawful_b.lawful
+
+  -- and the log wasn't opened
+  pub unread : (fault : LogFault) → IsLogFault fault b n x.record.members.nvrams x.record.flushed → IsReplayedBy b n x.record.members.nvrams x.record.flushed (Err fault) → IsUnopenedBy (status_of (fault_of_log fault)) a n
+  unread (log_fault.Memory m) is by = tt
+  unread log_fault.BothLost is by = found_by.both_failed a b x on seen lawful n after is
+  unread log_fault.Unserved is by = found_by.showed_unserved a b x on seen lawful same n after by
+
+  -- or it was, and a record was to be stored
+  module _ (s : Shelved) (o : OpenedLog) (was now : Register) (last : Continues n s) (is_a : IsShelf a) (is_b : IsShelf b) (is_n : IsShelf n) (h : a.honest)
+      (replayed : IsReplayedFrom b n x.record.members.nvrams x.record.flushed o) (is_of : IsRegisterOf (geometry_of n) was) (record_is : was.record ≡ x.record) (drives_are : was.drives ≡ x.drives)
+      (dropped : DroppedFailed n s (drives_of was) (drives_of now)) (later : IsLaterRecord was.record now.record) (few : now.record.generation ≤ was.record.generation + 3)
+      (shows : (i : ℕ) → i < n.drives → IsMember x.drives i → Shows n (slot_in x.slot) (spelling x.record) i) where
+    abbrev pub found : Found (geometry_of a) (read_now a).image
+    found = found_by.found a b x on seen lawful same n o after replayed
+
+    on_n : Continues a n
+    on_n = continues_trans on after
+
+    h_b : b.honest
+    h_b = on.honest h
+
+    h_n : n.honest
+    h_n = on_n.honest h
+
+    slots : was.record.slots ≡ a.drives
+    slots = is_of.lawful.slots ∙ on_n.drives
+
+    left : (i : ℕ) → i < a.drives → IsMember x.drives i → IsMember now.drives i ⊎ LostWrites (n.disk (drive i)) (s.disk (drive i))
+    left i lt m = left_or_lost n s was now is_of.lawful.slots dropped i (omega (arith, lt, on_n.drives)) (subst (λ (l : List Bool). IsMember l i) (sym drives_are) m)
+
+    -- each drive shows the record in its slot
+    shows_own : slot_in x.slot ≡ own_slot x.record → AllShow n was
+    shows_own its_slot i m =
+        let lt : i < was.record.slots = elim (cases_lt i was.record.slots) [ inl is ↦ is | inr ge ↦ absurd (not_below was.drives was.record.slots i ge m) ] in
+        let member : IsMember x.drives i = subst (λ (l : List Bool). IsMember l i) drives_are (in_cut was.drives was.record.slots i m) in
+        subst (λ (b : BootRecord). Shows n (own_slot b) (spelling b) i) (sym record_is)
+        (subst (λ (t : BootSlot). Shows n t (spelling x.record) i) its_slot (shows i (omega (arith, lt, is_of.lawful.slots)) member))
+
+    pub enough_room : x.record.generation < 2 ^ 48 - 16 → now.record.generation < 2 ^ 48 - 8
+    enough_room room = omega (arith, few, room, ap (λ (b : BootRecord). b.generation) record_is)
+
+    slots_stay : now.record.slots ≡ was.record.slots
+    slots_stay = ap (λ (b : BootRecord). b.slots) later.rest
+
+    -- for arrays for which the devices stood
+    module _ (missing : Conditions) (arrays : List Array) (first : LeavesOnly a b (StandsStill a None missing arrays)) (given : LeavesOnly a b (IsGivenFrom a seen.view x missing))
+        (is_found : IsBearable (geometry_of a) (failed_since a b missing) → IsFoundOn b x (failed_since a b missing) arrays)
+        (is_open : IsBearable (geometry_of a) (failed_since a n missing) → IsLogOpen n x (failed_since a n missing) arrays o)
+        (counts : LeavesOnly b n (IsCountedBy b))
+        (next : IsFoundOn b x (failed_since a b missing) arrays → LeavesOnly b n (StandsStill b None (failed_since a b missing) arrays))
+        (drives_stay : (i : ℕ) → n.disk (drive i) ≡ b.disk (drive i))
+        (log_writes : WritesOnly (OnMembers x.record.members.nvrams) b n) (writes : WritesOnly (OnSlots (drives_of was)) n s)
+        (stands : now.record.generation < 2 ^ 48 - 8 → (commands : List Command) → MayStore n was o.log.members (failed_since a n missing) commands arrays
+        → LeavesOnly n s (StandsBut n (drives_of was) (failed_since a n missing) (next_slot was.record) was.record arrays))
+        (gives : now.record.generation < 2 ^ 48 - 8 → (commands : List Command) → MayStore n was o.log.members (failed_since a n missing) commands arrays → LeavesOnly n s (GivesOldOrNext n was o.log.members (failed_since a n missing)))
+        (back : now.record.generation < 2 ^ 48 - 8 → (commands : List Command) → StandsInLog n was o.log.members commands → AllShow n was
+        → LeavesOnly n s (λ stop. StillGiven n was o.log.members commands stop ⊎ StandsBack n was o.log.members commands stop)) where
+      -- the record might be given as the store began, in the conditions of a stop in it
+      given_begun : (stop : Stop) → IsCountedBy n stop → OnlyFailedAreSilent (has_failed (read_now a) stop) found.view → IsBearable (geometry_of a) (failed_by a stop missing) → slot_in x.slot ≡ own_slot x.record
+          → (start : Stop) → MayStop n start → MayBeGiven (geometry_of a) start.image (failed_by a stop missing) (own_slot x.record) x.record
+      given_begun stop counted silent bears its_slot start may =
+          subst (λ (t : BootSlot). MayBeGiven (geometry_of a) start.image (failed_by a stop missing) t x.record) its_slot
+          (given_at a b missing x on is_b h_b seen.view given n stop (record { faults = λ d. omega (arith, after.faults d, counted.faults d); write_faults = λ d. omega (arith, after.write_faults d, counted.write_faults d) }) start.image drives_leave
+          (λ d none. silent d (found_by.silent_before a b x on seen lawful same n o after replayed d none)) bears)
+        where
+          drives_leave : (i : ℕ) → MayLeave (b.disk (drive i)) (start.image (drive i))
+          drives_leave i = subst (λ (k : Disk). MayLeave k (start.image (drive i))) (drives_stay i) (may.device (drive i))
+
+      storing : IsLogOpen n x (failed_since a n missing) arrays o → LeavesOnly n s (StandsStill a (Some found) missing arrays)
+      storing opened =
+          let may = may_store n x (failed_since a n missing) arrays o was opened is_of record_is drives_are in
+          let logged = in_log n x (failed_since a n missing) arrays o was opened is_of record_is drives_are in
+          let room = enough_room opened.found.room in
+          weaker (λ stop all. stored_at a n x missing arrays o was on_n is_n h_n opened record_is drives_are may found refl
+          (λ fails by_then. found_by.drive_left a b x on seen lawful same n o after replayed fails by_then)
+          (λ fails by_then. found_by.nvram_left a b x on seen lawful same n o after replayed fails by_then)
+          (λ stop counted silent bears. given_begun stop counted silent bears opened.found.in_its_slot.in_its_slot)
+          stop all.0 all.1.0 all.1.1.0 all.1.1.1)
+          (both_leave writes.any_moment (both_leave (stands room opened.commands may) (both_leave (gives room opened.commands may) (back room opened.commands logged (shows_own opened.found.in_its_slot.in_its_slot)))))
+
+      pub each_moment : LeavesOnly a s (StandsStill a (Some found) missing arrays)
+      each_moment = then_run on_n
+          (unstored_by a b missing arrays x on is_b h_b first n is_found counts next seen.view given found refl (found_by.silent_before a b x on seen lawful same n o after replayed) x.record.members.nvrams log_writes)
+          (elim (borne_or_not (geometry_of a) (failed_since a n missing)) [
+            | inl bears ↦ storing (is_open bears)
+            | inr many ↦ weaker (λ stop kept. nothing_owed a n missing on_n stop kept.counts many (Some found) arrays) writes.any_moment
+          ])
+
+    module _ (each : (missing : Conditions) (arrays : List Array) → Enters a missing arrays → LeavesOnly a s (StandsStill a (Some found) missing arrays)) where
+      -- it was stored
+      pub opened : (was.record.generation < now.record.generation) → (now.record.members.drives ≡ now.drives) × (now.record.members.nvrams ≡ o.log.members)
+          → ((missing : Conditions) (arrays : List Array) → Enters a missing arrays → IsBearable (geometry_of a) (failed_since a s missing)
+          → IsRecovered s (record { plain = o.plain; log = o.log; register = now }) (failed_since a s missing) arrays)
+          → IsOpened a s (record { plain = o.plain; log = o.log; register = now })
+      opened generation members recovered = record {
+        found = found;
+        holds = found_by.holds a b x on seen lawful same n o after replayed lawful_b.room;
+        taken_over = found_by.taken_over a b x on seen lawful same n o after replayed s now last left members.0 members.1;
+        later = omega (arith, generation, ap (λ (b : BootRecord). b.generation) record_is);
+        few = omega (arith, few, ap (λ (b : BootRecord). b.generation) record_is);
+        each = each;
+        recovered = recovered;
+      }
+
+      -- or too few drives were left
+      pub unstored : (fault : StoreFault) → IsFaultOf now fault → IsShut a s (fault_of_store fault)
+      unstored (TooFew drives) is =
+          let by = found_by.too_few a b x on seen lawful same n o after replayed s now last left (omega (arith, is.1, slots, slots_stay)) in
+          record {
+            by = by;
+            found = Some found;
+            silent = found_by.silent a b x on seen lawful same n o after replayed s now last left;
+            each = each;
+            clean = λ missing arrays enters bears. absurd (cc (cause a s missing arrays enters is_a h bears status.Halted by));
+            cause = λ missing arrays enters bears. cause a s missing arrays enters is_a h bears status.Halted by;
+          }
+      unstored Spent is = absurd (omega (arith, is.1, few, lawful_b.room, ap (λ (b : BootRecord). b.generation) record_is))

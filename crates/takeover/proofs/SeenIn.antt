@@ -1,0 +1,122 @@
+-- The record that was loaded and settled, as the drives showed it.
+use Rattle.std.proofs.Common.{◌≡◌, ◌⊎◌, inl, inr, ℕ, ◌+◌, ◌<◌, Bool, true, false, List, [], Some, slice_index_or, sym, ◌∙◌, ap, subst, arith, Ok, Err}
+use Rattle.std.proofs.lemmas.Bool.{cases_Bool}
+use Rattle.pur_base.specs.declared.device.Device.{Device}
+use Rattle.pur_base.specs.Gates.{is_open}
+use Rattle.pur_base.specs.Devices.{Conditions, drive}
+use Rattle.pur_base.specs.Plain.{Array}
+use Rattle.boot_codec.specs.declared.record.BootRecord.{BootRecord}
+use Rattle.boot_codec.specs.Record.{set_count}
+use Rattle.boot_codec.specs.Region.{gate_place, body_in, shown_by}
+use Rattle.boot_codec.specs.Spelling.{spelling}
+use Rattle.world.specs.Counts.{Rises}
+use Rattle.world.specs.Losing.{has_risen}
+use Rattle.world.specs.Shelf.{Shelved, IsSame, IsCountedBy, Continues, LeavesOnly}
+use Rattle.world.specs.Writes.{WritesOnly}
+use Rattle.world.proofs.Moments.{then_run, weaker}
+use Rattle.boot_region.specs.declared.loading.Loaded.{Loaded}
+use Rattle.boot_region.specs.declared.loading.LoadFault.{LoadFault}
+use Rattle.boot_region.specs.declared.loading.LoadFault.TheVariants as faults
+use Rattle.boot_region.specs.declared.slot.Slot.{Slot}
+use Rattle.boot_region.specs.Loading.{IsLoadBy, IsLoadOf}
+use Rattle.boot_region.specs.Members.{IsMember, OnClosed}
+use Rattle.boot_region.specs.Slots.{slot_in}
+use Rattle.boot_region.proofs.Phases.{risen_on_way}
+use Rattle.boot_region.proofs.ShownLemmas.{bodies_same, open_shows}
+use Rattle.session_spec.specs.Entering.{Enters, failed_since}
+use Rattle.session_spec.specs.Headline.{HasNoArray, HasTooFew}
+use Rattle.takeover.specs.Faults.{fault_of}
+use Rattle.takeover.specs.Opened.{AreClean}
+use Rattle.takeover.specs.Seen.{IsSeenIn, IsSeenBy}
+use Rattle.takeover.proofs.Failing.{sound_since}
+use Rattle.takeover.proofs.GivenFrom.{given_from}
+use Rattle.takeover.proofs.Showing.{below, stands_on, showing, shown, nvrams, silent, gives, member_showed, other_hid, too_few, patched, seen_fault, rose_then}
+
+-- a loading that failed
+pub seen_not_loaded : (old mid : Shelved) → Continues mid mid → (e : LoadFault) → IsLoadOf old mid (Err e) → IsSeenBy old mid (Err (fault_of e))
+seen_not_loaded old mid on (faults.Memory m) by = tt
+seen_not_loaded old mid on faults.NoArray by = seen_fault old mid by.bytes by.answered by.all by.read on faults.NoArray by.answer
+seen_not_loaded old mid on (faults.BadRecord b) by = seen_fault old mid by.bytes by.answered by.all by.read on (faults.BadRecord b) by.answer
+seen_not_loaded old mid on faults.Spent by = seen_fault old mid by.bytes by.answered by.all by.read on faults.Spent by.answer
+seen_not_loaded old mid on (faults.TooFew drives) by = seen_fault old mid by.bytes by.answered by.all by.read on (faults.TooFew drives) by.answer
+
+-- a record that names patches
+pub seen_patched : (old mid : Shelved) (x : Loaded) → Continues mid mid → IsLoadBy old mid (Ok x) → (x.record.patches ≡ [] → ⊥) → HasNoArray old mid
+seen_patched old mid x on by some = patched old mid by.bytes by.answered by.all by.read mid on (slot_in x.slot) x.record x.drives by.answer.held some
+
+-- counts at a stop in either call
+pub counted_through : (old mid new : Shelved) {V W : Device → ℕ → Type 0} → Continues old mid → WritesOnly V old mid → WritesOnly W mid new → LeavesOnly old new (IsCountedBy old)
+counted_through old mid new on reading writes = then_run on (weaker (λ stop left. left.counts) reading.any_moment)
+    (weaker (λ stop left. record { faults = λ d. omega (arith, on.faults d, left.counts.faults d); write_faults = λ d. omega (arith, on.write_faults d, left.counts.write_faults d) }) writes.any_moment)
+
+module _ (old mid : Shelved) (missing : Conditions) (arrays : List Array) (enters : Enters old missing arrays) (same : (d : Device) → IsSame (old.disk d) (mid.disk d)) where
+  -- what was only read is clean still
+  pub clean_read : AreClean mid (failed_since old mid missing)
+  clean_read d sound = (same d).dirty ∙ enters.clean d (sound_since (has_risen (old.disk d).faults (mid.disk d).faults) (missing d) sound).0
+
+  -- and so after the settling
+  pub clean_settled : (new : Shelved) → Continues old mid → ((d : Device) → (mid.disk d).dirty ≡ [] → ((new.disk d).dirty ≡ []) ⊎ Rises (mid.disk d).faults (new.disk d).faults) → AreClean new (failed_since old new missing)
+  clean_settled new on stays d sound =
+      let both = sound_since (has_risen (old.disk d).faults (new.disk d).faults) (missing d) sound in
+      elim (stays d ((same d).dirty ∙ enters.clean d both.0)) [
+        | inl is ↦ is
+        | inr rose ↦ absurd (risen_on_way (old.disk d).faults (mid.disk d).faults (new.disk d).faults (new.disk d).faults (on.faults d) rose (omega arith) both.1)
+      ]
+
+module _ (old mid new : Shelved) (x : Loaded) (on : Continues old mid) (after : Continues mid new) (same : (d : Device) → IsSame (old.disk d) (mid.disk d)) (by : IsLoadBy old mid (Ok x))
+    (reading : WritesOnly (λ d i. ⊥) old mid) (writes : WritesOnly (OnClosed x.drives mid (gate_place (slot_in x.slot))) mid new)
+    (left : List Bool) (dropped : (i : ℕ) → i < mid.drives → IsMember x.drives i → IsMember left i ⊎ Rises (mid.disk (drive i)).faults (new.disk (drive i)).faults) where
+  left_or_failed : (i : ℕ) → i < old.drives → IsMember x.drives i → IsMember left i ⊎ (has_risen (old.disk (drive i)).faults (new.disk (drive i)).faults ≡ true)
+  left_or_failed i lt m = elim (dropped i (omega (arith, lt, on.drives)) m) [
+    | inl is ↦ inl is
+    | inr rose ↦ inr (rose_then (old.disk (drive i)).faults (mid.disk (drive i)).faults (new.disk (drive i)).faults (new.disk (drive i)).faults (on.faults (drive i)) rose (omega arith))
+  ]
+
+  -- too few are left
+  pub seen_too_few : set_count left + 2 < old.drives → HasTooFew old new
+  seen_too_few few = too_few old mid by.bytes by.answered by.all by.read (slot_in x.slot) x.record x.drives by.answer.held new after left left_or_failed few
+
+  -- those that are left show it
+  pub shown_on : ((i : ℕ) → i < mid.drives → IsMember left i → is_open (gate_place (slot_in x.slot)) (new.disk (drive i)).bytes ≡ true) → ((i : ℕ) → IsMember left i → IsMember x.drives i)
+      → (i : ℕ) → IsMember left i → shown_by (slot_in x.slot) (new.disk (drive i)).bytes ≡ Some (spelling x.record)
+  shown_on opened fewer i m =
+      let slot = slot_in x.slot in
+      let held = by.answer.held in
+      let lt = below old mid by.bytes by.answered by.all by.read slot x.record x.drives held i (fewer i m) in
+      let stands = stands_on old mid by.bytes by.answered by.all by.read slot x.record x.drives held i (fewer i m) in
+      open_shows slot (new.disk (drive i)).bytes (spelling x.record) (opened i (omega (arith, lt, on.drives)) m)
+      (bodies_same slot (mid.disk (drive i)).bytes (new.disk (drive i)).bytes (writes.device (drive i)).size (λ k out. (writes.device (drive i)).bytes k (λ w. out w.1)) slot
+      ∙ ap (body_in slot) (same (drive i)).bytes ∙ stands)
+
+  pub shown_in : (r : BootRecord) (s : Slot) → r ≡ x.record → s ≡ x.slot
+      → ((i : ℕ) → i < mid.drives → IsMember left i → is_open (gate_place (slot_in x.slot)) (new.disk (drive i)).bytes ≡ true) → ((i : ℕ) → IsMember left i → IsMember x.drives i)
+      → (i : ℕ) → IsMember left i → shown_by (slot_in s) (new.disk (drive i)).bytes ≡ Some (spelling r)
+  shown_in r s record_is slot_is opened fewer i m =
+      subst (λ (b : BootRecord). shown_by (slot_in s) (new.disk (drive i)).bytes ≡ Some (spelling b)) (sym record_is)
+      (subst (λ (t : Slot). shown_by (slot_in t) (new.disk (drive i)).bytes ≡ Some (spelling x.record)) (sym slot_is) (shown_on opened fewer i m))
+
+  seen_with : ((i : ℕ) → IsMember left i → IsMember x.drives i) → x.record.patches ≡ [] → IsSeenIn old new (record { «record» = x.record; slot = x.slot; drives = left })
+  seen_with fewer unflushed =
+      let held = by.answer.held in
+      let effective = gives old mid by.bytes by.answered by.all by.read (slot_in x.slot) (spelling x.record) held.effective in
+      let shows = shown old mid by.bytes by.answered by.all by.read in
+      record {
+        view = showing old by.answered;
+        shown = shows;
+        nvrams = nvrams old mid by.bytes by.answered by.all by.read;
+        silent = silent old mid by.bytes by.answered by.all by.read new after;
+        effective = effective;
+        held = λ i m. member_showed old mid by.bytes by.answered by.all by.read (slot_in x.slot) x.record x.drives held i (fewer i m);
+        dropped = λ i lt. elim (cases_Bool (slice_index_or x.drives i false)) [
+          | inl m ↦ elim (left_or_failed i lt m) [ inl is ↦ inl is | inr rose ↦ inr (inr rose) ]
+          | inr none ↦ inr (inl (other_hid old mid by.bytes by.answered by.all by.read (slot_in x.slot) x.record x.drives held i lt none))
+        ];
+        unflushed = unflushed;
+        given = λ missing arrays enters. given_from old missing arrays enters (showing old by.answered) shows (record { «record» = x.record; slot = x.slot; drives = left }) held.lawful effective mid new x.drives on same reading writes;
+      }
+
+  -- as it was settled
+  pub seen_in : (r : BootRecord) (s : Slot) → r ≡ x.record → s ≡ x.slot → ((i : ℕ) → IsMember left i → IsMember x.drives i) → x.record.patches ≡ [] → IsSeenIn old new (record { «record» = r; slot = s; drives = left })
+  seen_in r s record_is slot_is fewer unflushed =
+      subst (λ (b : BootRecord). IsSeenIn old new (record { «record» = b; slot = s; drives = left })) (sym record_is)
+      (subst (λ (t : Slot). IsSeenIn old new (record { «record» = x.record; slot = t; drives = left })) (sym slot_is) (seen_with fewer unflushed))

@@ -1,0 +1,256 @@
+-- What the drives showed, as a view of the devices, and the record that it gives.
+use Rattle.std.proofs.Common.{◌≡◌, ◌≢◌, ◌⊎◌, inl, inr, ℕ, ◌+◌, ◌*◌, ◌-◌, ◌^◌, ◌<◌, ◌≤◌, ◌&&◌, Bool, true, false, if◌then◌else◌, List, [], length, Option, Some, None, option_and_then, slice_index_or, refl, sym, ◌∙◌, ap, subst, arith, Result, Ok, Err}
+use Rattle.std.specs.Prelude.{nat_lt, is_some, bytes_eq}
+use Rattle.std.proofs.lemmas.Bool.{cases_Bool, cases_lt, ltb-true, lt-ltb}
+use Rattle.std.proofs.lemmas.List.{get_or_past}
+use Rattle.std.specs.Cmp.Lexicographic.{same_text}
+use Rattle.pur_base.specs.Bytes.{bytes_at}
+use Rattle.pur_base.specs.declared.device.Device.{Device}
+use Rattle.pur_base.specs.declared.device.Device.TheVariants.{Drive, Nv}
+use Rattle.pur_base.specs.Devices.{View, Sound, Missing, drive, nvram}
+use Rattle.boot_codec.specs.declared.bad_record.BadRecord.{BadRecord}
+use Rattle.boot_codec.specs.declared.record.BootRecord.{BootRecord}
+use Rattle.boot_codec.specs.Reading.{read_record}
+use Rattle.boot_codec.specs.Record.{set_count}
+use Rattle.boot_codec.specs.Region.{BootSlot, Effective, IsEffective, IsDecided, votes, other_slot, shown_by, body_in, with_body, of_members}
+use Rattle.boot_codec.specs.Spelling.{spelling}
+use Rattle.boot_codec.proofs.RecordLemmas.{record_again}
+use Rattle.array_spec.specs.Losses.{not_holding}
+use Rattle.array_spec.proofs.Spelled.{spells_one}
+use Rattle.array_spec.proofs.Votes.{one_is_effective}
+use Rattle.world.specs.Counts.{Rises}
+use Rattle.world.specs.Losing.{geometry_of, has_risen, has_failed, losing}
+use Rattle.world.specs.Shelf.{Shelved, Continues}
+use Rattle.boot_region.specs.declared.loading.LoadFault.{LoadFault}
+use Rattle.boot_region.specs.declared.loading.LoadFault.TheVariants as faults
+use Rattle.boot_region.specs.Members.{IsMember}
+use Rattle.boot_region.specs.Regions.{region_at, seen, is_holding, is_body_in, IsRead}
+use Rattle.boot_region.specs.Loading.{IsHeld, IsFaultOf, IsBadBody, IsSpent}
+use Rattle.boot_region.proofs.FoundLemmas.{same_body, same_shown, same_over}
+use Rattle.boot_region.proofs.Phases.{risen_on_way}
+use Rattle.session_spec.specs.Entering.{OnlyFailedAreSilent, read_now}
+use Rattle.session_spec.specs.Headline.{HasNoArray, HasTooFew, IsUnread}
+use Rattle.takeover.specs.Faults.{fault_of}
+use Rattle.takeover.specs.Seen.{IsSeenBy}
+use Rattle.takeover.proofs.Failing.{sound_since}
+use Rattle.takeover.proofs.NoFault.{few_lack}
+
+-- a count that rose on the way
+pub rose_then : (a b c d : ℕ) → a ≤ b → Rises b c → c ≤ d → has_risen a d ≡ true
+rose_then a b c d ab rose cd = elim (cases_Bool (has_risen a d)) [ inl is ↦ is | inr not ↦ absurd (risen_on_way a b c d ab rose cd not) ]
+
+-- a drive of the shelf shows its bytes where it answered, and each other device shows them
+abbrev pick : Bool → Bool → List ℕ → Option (List ℕ)
+pick true is_answered bytes = if is_answered then Some bytes else None
+pick false is_answered bytes = Some bytes
+
+pub showing : Shelved → List Bool → View
+showing old answered (Drive d) = pick (nat_lt d.0 old.drives) (slice_index_or answered d.0 false) (old.disk (Drive d)).bytes
+showing old answered (Nv n) = Some (old.disk (Nv n)).bytes
+
+if_both : (a b : Bool) (xs : List ℕ) → (if a then (if b then Some xs else None) else None) ≡ (if a && b then Some xs else None)
+if_both true true xs = refl
+if_both true false xs = refl
+if_both false b xs = refl
+
+if_none : (a b : Bool) (xs : List ℕ) → b ≡ false → (if a then None else None) ≡ (if a && b then Some xs else None)
+if_none true b xs e = rw e refl
+if_none false b xs e = refl
+
+is_some_if : (b : Bool) (xs : List ℕ) → is_some (if b then Some xs else None) ≡ true → b ≡ true
+is_some_if true xs e = refl
+is_some_if false xs e = absurd (cc e)
+
+sound_if : (b : Bool) → (if b then Sound else Missing) ≡ Sound → b ≡ true
+sound_if true e = refl
+sound_if false e = absurd (cc e)
+
+both_true : (a b : Bool) → (a && b) ≡ true → (a ≡ true) × (b ≡ true)
+both_true true true e = (refl, refl)
+both_true true false e = absurd (cc e)
+both_true false b e = absurd (cc e)
+
+module _ (old mid : Shelved) (bytes : List ℕ) (answered : List Bool) (all : length answered ≡ old.drives) (read : (i : ℕ) → i < old.drives → IsRead old mid bytes answered i) where
+  abbrev view : View
+  view = showing old answered
+
+  region_none : (i : ℕ) → slice_index_or answered i false ≡ false → region_at bytes answered i ≡ None
+  unfolding region_at
+  region_none i none = ap (λ (b : Bool). if b then Some (bytes_at (196608 * i) 196608 bytes) else None) none
+
+  region_some : (i : ℕ) → i < old.drives → slice_index_or answered i false ≡ true → region_at bytes answered i ≡ Some (bytes_at 0 196608 (old.disk (drive i)).bytes)
+  unfolding region_at
+  region_some i lt some = elim (read i lt) [
+    | inl is ↦ is
+    | inr none ↦ absurd (cc (none.0, ap (λ (b : Bool). if b then Some (bytes_at (196608 * i) 196608 bytes) else None) some))
+  ]
+
+  view_answered : (i : ℕ) → i < old.drives → slice_index_or answered i false ≡ true → view (drive i) ≡ Some (old.disk (drive i)).bytes
+  unfolding showing
+  view_answered i lt some = let below : nat_lt i old.drives ≡ true = lt-ltb i old.drives lt in rw (below, some) refl
+
+  view_silent : (i : ℕ) → i < old.drives → slice_index_or answered i false ≡ false → view (drive i) ≡ None
+  unfolding showing
+  view_silent i lt none = let below : nat_lt i old.drives ≡ true = lt-ltb i old.drives lt in rw (below, none) refl
+
+  one_shown : (below is : Bool) (b : List ℕ) → (pick below is b ≡ Some b) ⊎ (pick below is b ≡ None)
+  one_shown true true b = inl refl
+  one_shown true false b = inr refl
+  one_shown false is b = inl refl
+
+  pub shown : (d : Device) → (view d ≡ Some (old.disk d).bytes) ⊎ (view d ≡ None)
+  unfolding showing
+  shown (Drive d) = one_shown (nat_lt d.0 old.drives) (slice_index_or answered d.0 false) (old.disk (Drive d)).bytes
+  shown (Nv n) = inl refl
+
+  pub nvrams : (n : ℕ) → view (nvram n) ≡ Some (old.disk (nvram n)).bytes
+  unfolding showing
+  nvrams n = refl
+
+  one_silent : (below is : Bool) (b : List ℕ) → pick below is b ≡ None → (below ≡ true) × (is ≡ false)
+  one_silent true true b e = absurd (cc e)
+  one_silent true false b e = (refl, refl)
+  one_silent false is b e = absurd (cc e)
+
+  -- a device that showed nothing failed
+  pub failed_if_silent : (d : Device) → view d ≡ None → Rises (old.disk d).faults (mid.disk d).faults
+  unfolding showing
+  failed_if_silent (Drive d) none =
+      let is = one_silent (nat_lt d.0 old.drives) (slice_index_or answered d.0 false) (old.disk (Drive d)).bytes none in
+      elim (read d.0 (ltb-true d.0 old.drives is.0)) [
+        | inl some ↦ absurd (cc (some, region_none d.0 is.1))
+        | inr rose ↦ rose.1
+      ]
+  failed_if_silent (Nv n) none = absurd (cc none)
+
+  pub silent : (new : Shelved) → Continues mid new → OnlyFailedAreSilent (has_failed (read_now old) (read_now new)) view
+  silent new on d none =
+      rose_then (old.disk d).faults (old.disk d).faults (mid.disk d).faults (new.disk d).faults (omega arith) (failed_if_silent d none) (on.faults d)
+
+  -- ---- what it gives
+
+  same_vote : (t : BootSlot) (i : ℕ) → i < old.drives → option_and_then (shown_by t) (view (drive i)) ≡ option_and_then (shown_by t) (region_at bytes answered i)
+  same_vote t i lt = elim (cases_Bool (slice_index_or answered i false)) [
+    | inl some ↦
+        ap (option_and_then (shown_by t)) (view_answered i lt some)
+        ∙ sym (ap (option_and_then (shown_by t)) (region_some i lt some) ∙ same_shown t (old.disk (drive i)).bytes)
+    | inr none ↦ ap (option_and_then (shown_by t)) (view_silent i lt none) ∙ sym (ap (option_and_then (shown_by t)) (region_none i none))
+  ]
+
+  same_votes : (t : BootSlot) → votes (geometry_of old) view t ≡ votes (geometry_of old) (seen bytes answered) t
+  same_votes t = same_over (λ (i : ℕ). option_and_then (shown_by t) (view (drive i))) (λ (i : ℕ). option_and_then (shown_by t) (region_at bytes answered i)) 0 old.drives (λ i lt. same_vote t i (omega (arith, lt)))
+
+  pub gives : (slot : BootSlot) (body : List ℕ) → IsEffective (geometry_of old) (seen bytes answered) slot body → IsEffective (geometry_of old) view slot body
+  gives slot body e = record {
+    decided = subst (λ (v : List (Option (List ℕ))). IsDecided v body) (sym (same_votes slot)) e.decided;
+    highest = λ other decided. e.highest other (subst (λ (v : List (Option (List ℕ))). IsDecided v other) (same_votes (other_slot slot)) decided);
+  }
+
+  -- it gives one record alone
+  is_the_body : (e : Effective (geometry_of old) view) (slot : BootSlot) (body : List ℕ) → IsEffective (geometry_of old) (seen bytes answered) slot body → spelling e.boot ≡ body
+  is_the_body e slot body other = (one_is_effective (geometry_of old) view e.slot slot (spelling e.boot) body e.effective (gives slot body other)).1
+
+  pub is_the_record : (e : Effective (geometry_of old) view) (slot : BootSlot) (boot : BootRecord) (drives : List Bool) → IsHeld (geometry_of old) bytes answered slot boot drives → e.boot ≡ boot
+  is_the_record e slot boot drives held = spells_one (geometry_of old) e.boot boot e.lawful held.lawful (is_the_body e slot (spelling boot) held.effective)
+
+  -- ---- which drives hold it
+
+  module _ (slot : BootSlot) (boot : BootRecord) (drives : List Bool) (held : IsHeld (geometry_of old) bytes answered slot boot drives) where
+    held_at : (i : ℕ) → i < old.drives → of_members slot boot view (drive i)
+        ≡ (if slice_index_or boot.members.drives i false && is_holding bytes answered slot (spelling boot) i then Some (old.disk (drive i)).bytes else None)
+    unfolding is_holding
+    held_at i lt = elim (cases_Bool (slice_index_or answered i false)) [
+      | inl some ↦
+          let b : List ℕ = (old.disk (drive i)).bytes in
+          let n = slice_index_or boot.members.drives i false in
+          let is : is_body_in slot (spelling boot) (region_at bytes answered i) ≡ bytes_eq (body_in slot b) (spelling boot) =
+          ap (is_body_in slot (spelling boot)) (region_some i lt some) ∙ ap (λ (l : List ℕ). bytes_eq l (spelling boot)) (same_body slot b) in
+          ap (λ (o : Option (List ℕ)). if n then option_and_then (with_body slot (spelling boot)) o else None) (view_answered i lt some)
+          ∙ if_both n (bytes_eq (body_in slot b) (spelling boot)) b
+          ∙ ap (λ (h : Bool). if n && h then Some b else None) (sym is)
+      | inr none ↦
+          let n = slice_index_or boot.members.drives i false in
+          ap (λ (o : Option (List ℕ)). if n then option_and_then (with_body slot (spelling boot)) o else None) (view_silent i lt none)
+          ∙ if_none n (is_body_in slot (spelling boot) (region_at bytes answered i)) (old.disk (drive i)).bytes (ap (is_body_in slot (spelling boot)) (region_none i none))
+    ]
+
+    members_are : (i : ℕ) → i < old.drives → of_members slot boot view (drive i) ≡ (if slice_index_or drives i false then Some (old.disk (drive i)).bytes else None)
+    members_are i lt = held_at i lt ∙ ap (λ (b : Bool). if b then Some (old.disk (drive i)).bytes else None) (sym (held.drives_are i))
+
+    pub below : (i : ℕ) → IsMember drives i → i < old.drives
+    unfolding is_holding
+    below i m = elim (cases_lt i old.drives) [
+      | inl lt ↦ lt
+      | inr ge ↦
+          let holds : is_body_in slot (spelling boot) (region_at bytes answered i) ≡ true =
+          (both_true (slice_index_or boot.members.drives i false) (is_holding bytes answered slot (spelling boot) i) (sym (held.drives_are i) ∙ m)).1 in
+          absurd (cc (ap (is_body_in slot (spelling boot)) (region_none i (get_or_past answered i false (omega (arith, ge, all)))), holds))
+    ]
+
+    -- its body stands on each of them
+    pub stands_on : (i : ℕ) → IsMember drives i → body_in slot (old.disk (drive i)).bytes ≡ spelling boot
+    unfolding is_holding
+    stands_on i m =
+        let holds : is_body_in slot (spelling boot) (region_at bytes answered i) ≡ true =
+        (both_true (slice_index_or boot.members.drives i false) (is_holding bytes answered slot (spelling boot) i) (sym (held.drives_are i) ∙ m)).1 in
+        elim (cases_Bool (slice_index_or answered i false)) [
+          | inl some ↦
+              let front : List ℕ = bytes_at 0 196608 (old.disk (drive i)).bytes in
+              let e : bytes_eq (body_in slot front) (spelling boot) ≡ true = subst (λ (o : Option (List ℕ)). is_body_in slot (spelling boot) o ≡ true) (region_some i (below i m) some) holds in
+              sym (same_body slot (old.disk (drive i)).bytes) ∙ same_text (body_in slot front) (spelling boot) (sym e)
+          | inr none ↦ absurd (cc (ap (is_body_in slot (spelling boot)) (region_none i none), holds))
+        ]
+
+    pub member_showed : (i : ℕ) → IsMember drives i → of_members slot boot view (drive i) ≡ Some (old.disk (drive i)).bytes
+    member_showed i m = members_are i (below i m) ∙ ap (λ (b : Bool). if b then Some (old.disk (drive i)).bytes else None) m
+
+    pub other_hid : (i : ℕ) → i < old.drives → slice_index_or drives i false ≡ false → of_members slot boot view (drive i) ≡ None
+    other_hid i lt none = members_are i lt ∙ ap (λ (b : Bool). if b then Some (old.disk (drive i)).bytes else None) none
+
+    -- too few are left of them
+    pub too_few : (new : Shelved) → Continues mid new → (left : List Bool)
+        → ((i : ℕ) → i < old.drives → IsMember drives i → IsMember left i ⊎ (has_risen (old.disk (drive i)).faults (new.disk (drive i)).faults ≡ true))
+        → set_count left + 2 < old.drives → HasTooFew old new
+    too_few new on left dropped few = record {
+      found = record { view = view; shown = shown; effective = record { slot = slot; boot = boot; lawful = held.lawful; effective = gives slot (spelling boot) held.effective } };
+      silent = silent new on;
+      unborne = λ bears. absurd (omega (arith, few, few_lack old.drives (losing (has_failed (read_now old) (read_now new)) (not_holding slot boot view)) left old.units bears still));
+    }
+      where
+        is_member : (i : ℕ) → i < old.drives → (if is_some (of_members slot boot view (drive i)) then Sound else Missing) ≡ Sound → IsMember drives i
+        is_member i lt sound = is_some_if (slice_index_or drives i false) (old.disk (drive i)).bytes (subst (λ (o : Option (List ℕ)). is_some o ≡ true) (members_are i lt) (sound_if (is_some (of_members slot boot view (drive i))) sound))
+
+        still : (i : ℕ) → i < old.drives → losing (has_failed (read_now old) (read_now new)) (not_holding slot boot view) (drive i) ≡ Sound → IsMember left i
+        still i lt sound =
+            let both = sound_since (has_risen (old.disk (drive i)).faults (new.disk (drive i)).faults) (not_holding slot boot view (drive i)) sound in
+            elim (dropped i lt (is_member i lt both.0)) [ inl is ↦ is | inr rose ↦ absurd (cc (rose, both.1)) ]
+
+  -- ---- why there is none
+
+  pub no_array : (new : Shelved) → Continues mid new → ((e : Effective (geometry_of old) view) → IsUnread view e) → HasNoArray old new
+  no_array new on unread = record { view = view; shown = shown; silent = silent new on; unread = unread }
+
+  pub patched : (new : Shelved) → Continues mid new → (slot : BootSlot) (boot : BootRecord) (drives : List Bool) → IsHeld (geometry_of old) bytes answered slot boot drives → boot.patches ≢ [] → HasNoArray old new
+  patched new on slot boot drives held some = no_array new on (λ e. inr (inl (λ none. some (sym (ap (λ (b : BootRecord). b.patches) (is_the_record e slot boot drives held)) ∙ none))))
+
+  bad_body : (e : Effective (geometry_of old) view) (fault : BadRecord) → IsBadBody (geometry_of old) bytes answered fault → ⊥
+  bad_body e fault bad =
+      let same : spelling e.boot ≡ bad.body = is_the_body e bad.slot bad.body bad.effective in
+      let again : ◌≡◌ {A = Result BootRecord BadRecord} (read_record old.drives old.units bad.body) (Ok e.boot) = record_again old.drives old.units e.boot bad.body e.lawful.lawful e.lawful.slots e.lawful.units (sym same) in
+      absurd (cc (again, bad.exact))
+
+  undecided : (e : Effective (geometry_of old) view) → IsFaultOf (geometry_of old) bytes answered faults.NoArray → ⊥
+  undecided e none = none e.slot (spelling e.boot) (subst (λ (v : List (Option (List ℕ))). IsDecided v (spelling e.boot)) (same_votes e.slot) e.effective.decided)
+
+  spent : (e : Effective (geometry_of old) view) → IsSpent (geometry_of old) bytes answered → e.boot.generation < 2 ^ 48 - 8 → ⊥
+  spent e is room =
+      let same : e.boot ≡ is.boot = spells_one (geometry_of old) e.boot is.boot e.lawful is.lawful (is_the_body e is.slot (spelling is.boot) is.effective) in
+      let as_high : e.boot.generation ≡ is.boot.generation = ap (λ (b : BootRecord). b.generation) same in
+      absurd (omega (arith, room, is.spent, as_high))
+
+  pub seen_fault : Continues mid mid → (fault : LoadFault) → IsFaultOf (geometry_of old) bytes answered fault → IsSeenBy old mid (Err (fault_of fault))
+  seen_fault on (faults.Memory m) is = tt
+  seen_fault on faults.NoArray is = no_array mid on (λ e. absurd (undecided e is))
+  seen_fault on (faults.BadRecord b) is = no_array mid on (λ e. absurd (bad_body e b is))
+  seen_fault on faults.Spent is = no_array mid on (λ e. inl (λ room. spent e is room))
+  seen_fault on (faults.TooFew drives) is = too_few is.slot is.boot drives is.held mid on drives (λ i lt m. inl m) is.too_few

@@ -1,0 +1,304 @@
+-- What an opening found, as its session says it, and what becomes of each device.
+use Rattle.std.proofs.Common.{◌≡◌, ◌≢◌, ◌⊎◌, inl, inr, ℕ, ◌+◌, ◌-◌, ◌^◌, ◌<◌, ◌≤◌, Bool, true, false, List, [], Option, Some, None, refl, sym, ◌∙◌, ap, subst, arith}
+use Rattle.std.specs.Prelude.{if◌then◌else◌, slice_index_or, is_some}
+use Rattle.std.proofs.lemmas.Bool.{cases_Bool, cases_lt}
+use Rattle.std.proofs.lemmas.List.{get_or_past}
+use Rattle.pur_base.specs.declared.device.Device.{Device}
+use Rattle.pur_base.specs.declared.device.Device.TheVariants.{Drive, Nv}
+use Rattle.pur_base.specs.Devices.{Condition, Sound, Missing, LeftOut, View, IsOn, drive, nvram}
+use Rattle.boot_codec.specs.declared.record.BootRecord.{BootRecord}
+use Rattle.boot_codec.specs.Record.{set_count}
+use Rattle.boot_codec.specs.Region.{BootSlot, Effective, IsRecordOf, names, of_members}
+use Rattle.log_codec.specs.Log.{Shows, ShowsIn}
+use Rattle.array_spec.specs.Losses.{not_holding}
+use Rattle.array_spec.specs.Meaning.{members_view}
+use Rattle.array_spec.proofs.Spelled.{spells_one}
+use Rattle.array_spec.proofs.UnflushedRead.{kept_some, one_left}
+use Rattle.array_spec.proofs.Votes.{one_is_effective}
+use Rattle.world.specs.Counts.{Rises}
+use Rattle.world.specs.Losing.{geometry_of, has_failed, has_risen, losing}
+use Rattle.world.specs.Shelf.{Shelved, IsSame, Continues}
+use Rattle.boot_region.specs.declared.loading.Loaded.{Loaded}
+use Rattle.boot_region.specs.Members.{IsMember, LostWrites}
+use Rattle.boot_region.specs.Slots.{slot_in}
+use Rattle.boot_region.proofs.Phases.{not_risen_before, risen_on_way}
+use Rattle.nvram_log.specs.Held.{shown_by}
+use Rattle.nvram_log.specs.Members.{IsMember as IsLogMember}
+use Rattle.register.specs.declared.state.Register.{Register}
+use Rattle.register.specs.Registers.{named_sound}
+use Rattle.session_spec.specs.Entering.{Found, ComesOut, IsTakenOver, OnlyFailedAreSilent, read_now}
+use Rattle.session_spec.specs.Headline.{HoldsLog, HasNoArray, HasTooFew}
+use Rattle.takeover.specs.declared.log.OpenedLog.{OpenedLog}
+use Rattle.takeover.specs.Replayed.{IsReplayedFrom, ShowedUnserved}
+use Rattle.takeover.specs.Seen.{IsSeenIn}
+use Rattle.takeover.proofs.Chains.{log_moves}
+use Rattle.takeover.proofs.Failing.{sound_since}
+use Rattle.takeover.proofs.NoFault.{few_lack}
+
+-- a count that rose on the way rose in all
+pub rose : (a b c d : ℕ) → a ≤ b → Rises b c → c ≤ d → has_risen a d ≡ true
+rose a b c d ab rises cd = elim (cases_Bool (has_risen a d)) [ inl is ↦ is | inr none ↦ absurd (risen_on_way a b c d ab rises cd none) ]
+
+-- and so one that rose before
+pub rose_before : (a b c : ℕ) → b ≤ c → has_risen a b ≡ true → has_risen a c ≡ true
+rose_before a b c bc up = elim (cases_Bool (has_risen a c)) [ inl is ↦ is | inr none ↦ absurd (cc (up, not_risen_before a b c bc none)) ]
+
+-- a device that isn't named is no member
+pub not_named : (slot : BootSlot) (boot : BootRecord) (view : View) (d : Device) → names boot d ≡ false → of_members slot boot view d ≡ None
+not_named slot boot view (Drive d) none = rw none refl
+not_named slot boot view (Nv n) none = rw none refl
+
+-- a member is named
+pub named_member : (slot : BootSlot) (boot : BootRecord) (view : View) (d : Device) (bytes : List ℕ) → of_members slot boot view d ≡ Some bytes → names boot d ≡ true
+named_member slot boot view d bytes is = elim (cases_Bool (names boot d)) [ inl named ↦ named | inr none ↦ absurd (cc (is, not_named slot boot view d none)) ]
+
+-- an NVRAM device that was named and not read is silent
+pub kept : (named read : Bool) → Option (List ℕ) → Option (List ℕ)
+kept true false o = None
+kept true true o = o
+kept false read o = o
+
+kept_or_none : (named read : Bool) (o : Option (List ℕ)) (bytes : List ℕ) → o ≡ Some bytes → (kept named read o ≡ Some bytes) ⊎ (kept named read o ≡ None)
+unfolding kept
+kept_or_none true false o bytes is = inr refl
+kept_or_none true true o bytes is = inl is
+kept_or_none false read o bytes is = inl is
+
+kept_silent : (named read : Bool) (o : Option (List ℕ)) → kept named read o ≡ None → (o ≡ None) ⊎ ((named ≡ true) × (read ≡ false))
+unfolding kept
+kept_silent true false o is = inr (refl, refl)
+kept_silent true true o is = inl is
+kept_silent false read o is = inl is
+
+silent_kept : (named read : Bool) (o : Option (List ℕ)) → o ≡ None → kept named read o ≡ None
+unfolding kept
+silent_kept true false o is = refl
+silent_kept true true o is = is
+silent_kept false read o is = is
+
+-- of one that is named it shows what was read
+same_shown : (named read : Bool) (o : Option (List ℕ)) (bytes : List ℕ) → (read ≡ true → named ≡ true) → o ≡ Some bytes → (if read then Some bytes else None) ≡ (if named then kept named read o else None)
+unfolding kept
+same_shown true true o bytes of is = sym is
+same_shown true false o bytes of is = refl
+same_shown false true o bytes of is = absurd (cc (of refl))
+same_shown false false o bytes of is = refl
+
+unread_none : (named read : Bool) (o : Option (List ℕ)) → read ≡ false → (if named then kept named read o else None) ≡ None
+unfolding kept
+unread_none true true o e = absurd (cc e)
+unread_none true false o e = refl
+unread_none false read o e = refl
+
+module _ (a b : Shelved) (x : Loaded) (on : Continues a b) (seen : IsSeenIn a b x) (lawful : IsRecordOf (geometry_of a) x.record) where
+  abbrev pub slot : BootSlot
+  slot = slot_in x.slot
+
+  abbrev pub failed : Shelved → Device → Bool
+  failed s = has_failed (read_now a) (read_now s)
+
+  pub since : (s : Shelved) → Continues b s → (d : Device) → failed b d ≡ true → failed s d ≡ true
+  since s after d up = rose_before (a.disk d).faults (b.disk d).faults (s.disk d).faults (after.faults d) up
+
+  -- before the log was read
+  abbrev pub effective : Effective (geometry_of a) seen.view
+  effective = record { slot = slot; boot = x.record; lawful = lawful; effective = seen.effective }
+
+  abbrev pub first_found : Found (geometry_of a) (read_now a).image
+  first_found = record { view = seen.view; shown = seen.shown; effective = effective }
+
+  -- an NVRAM device that is named is one of the two
+  pub named_below : (k : ℕ) → IsLogMember x.record.members.nvrams k → k < 2
+  named_below k m = elim (cases_lt k 2) [
+    | inl lt ↦ lt
+    | inr past ↦
+        let none : slice_index_or x.record.members.nvrams k false ≡ false = get_or_past x.record.members.nvrams k false (omega (arith, past, lawful.lawful.members.nvram_flags)) in
+        absurd (cc (m, none))
+  ]
+
+  -- each NVRAM device that was named failed
+  pub both_failed : (n : Shelved) → Continues b n → ((k : ℕ) → k < 2 → IsLogMember x.record.members.nvrams k → Rises (b.disk (nvram k)).faults (n.disk (nvram k)).faults) → HasTooFew a n
+  both_failed n after all = record {
+    found = first_found;
+    silent = λ d none. since n after d (seen.silent d none);
+    unborne = λ bears. elim (one_left (at 0) (at 1) bears.nvrams) [
+      | inl sound ↦ absurd (lost 0 (omega arith) sound)
+      | inr sound ↦ absurd (lost 1 (omega arith) sound)
+    ];
+  }
+    where
+      at : ℕ → Condition
+      at k = losing (failed n) (not_holding slot x.record seen.view) (nvram k)
+
+      held : (o : Option (List ℕ)) → (if is_some o then Sound else Missing) ≡ Sound → (bytes : List ℕ) × (o ≡ Some bytes)
+      held (Some bytes) e = (bytes, refl)
+      held None e = absurd (cc e)
+
+      lost : (k : ℕ) → k < 2 → at k ≡ Sound → ⊥
+      lost k lt sound =
+          let two = sound_since (failed n (nvram k)) (not_holding slot x.record seen.view (nvram k)) sound in
+          let (bytes, is) = held (of_members slot x.record seen.view (nvram k)) two.0 in
+          let named = named_member slot x.record seen.view (nvram k) bytes is in
+          cc (two.1, rose (a.disk (nvram k)).faults (b.disk (nvram k)).faults (n.disk (nvram k)).faults (n.disk (nvram k)).faults (on.faults (nvram k)) (all k lt named) (omega arith))
+
+  -- an NVRAM device showed a command that isn't served
+  module _ (same : (k : ℕ) → IsSame (a.disk (nvram k)) (b.disk (nvram k))) where
+    pub showed_unserved : (n : Shelved) → Continues b n → ShowedUnserved b x.record.members.nvrams x.record.flushed → HasNoArray a n
+    showed_unserved n after u = record {
+      view = seen.view;
+      shown = seen.shown;
+      silent = λ d none. since n after d (seen.silent d none);
+      unread = λ e.
+          let one = one_is_effective (geometry_of a) seen.view e.slot slot _ _ e.effective seen.effective in
+          let boots : e.boot ≡ x.record = spells_one (geometry_of a) e.boot x.record e.lawful lawful one.1 in
+          inr (inr (u.device, u.place, u.command, shows e boots, u.unserved));
+    }
+      where
+        shows : (e : Effective (geometry_of a) seen.view) → e.boot ≡ x.record → Shows (members_view seen.view e) u.device e.boot.flushed u.place u.command
+        shows e boots =
+            let there : ShowsIn (b.disk (nvram u.device)).bytes e.boot.flushed u.place u.command = subst (λ (r : BootRecord). ShowsIn (b.disk (nvram u.device)).bytes r.flushed u.place u.command) (sym boots) u.shown in
+            let named : names e.boot (nvram u.device) ≡ true = subst (λ (r : BootRecord). names r (nvram u.device) ≡ true) (sym boots) u.named in
+            let showed : seen.view (nvram u.device) ≡ Some (b.disk (nvram u.device)).bytes = seen.nvrams u.device ∙ ap (λ (l : List ℕ). Some l) (sym (same u.device).bytes) in
+            record {
+              slot = there.slot;
+              bytes = (b.disk (nvram u.device)).bytes;
+              shown = kept_some (names e.boot (nvram u.device)) (seen.view (nvram u.device)) (b.disk (nvram u.device)).bytes named showed;
+              gate = there.gate;
+              spelled = there.spelled;
+            }
+
+    -- the log was read
+    module _ (n : Shelved) (o : OpenedLog) (after : Continues b n) (replayed : IsReplayedFrom b n x.record.members.nvrams x.record.flushed o) where
+      abbrev pub is_read : ℕ → Bool
+      is_read k = slice_index_or replayed.read k false
+
+      abbrev pub is_named : ℕ → Bool
+      is_named k = slice_index_or x.record.members.nvrams k false
+
+      abbrev pub view : View
+      view (Drive d) = seen.view (Drive d)
+      view (Nv k) = kept (is_named k.0) (is_read k.0) (seen.view (Nv k))
+
+      pub shown : (d : Device) → (view d ≡ Some (a.disk d).bytes) ⊎ (view d ≡ None)
+      shown (Drive d) = seen.shown (Drive d)
+      shown (Nv k) = kept_or_none (is_named k.0) (is_read k.0) (seen.view (Nv k)) (a.disk (Nv k)).bytes (seen.nvrams k.0)
+
+      -- what is silent was silent, or failed in the reading of the log
+      pub silent_then : (fails : Device → Bool) → OnlyFailedAreSilent fails seen.view → ((d : Device) → failed n d ≡ true → fails d ≡ true) → OnlyFailedAreSilent fails view
+      silent_then fails silent later (Drive d) none = silent (Drive d) none
+      silent_then fails silent later (Nv k) none = elim (kept_silent (is_named k.0) (is_read k.0) (seen.view (Nv k)) none) [
+        | inl was ↦ silent (Nv k) was
+        | inr both ↦ elim (replayed.unread k.0 (named_below k.0 both.0) both.0) [
+          | inl is ↦ absurd (cc (is, both.1))
+          | inr rises ↦ later (Nv k) (rose (a.disk (Nv k)).faults (b.disk (Nv k)).faults (n.disk (Nv k)).faults (n.disk (Nv k)).faults (on.faults (Nv k)) rises (omega arith))
+        ]
+      ]
+
+      pub silent_before : (d : Device) → seen.view d ≡ None → view d ≡ None
+      silent_before (Drive d) none = none
+      silent_before (Nv k) none = silent_kept (is_named k.0) (is_read k.0) (seen.view (Nv k)) none
+
+      abbrev pub gives : Effective (geometry_of a) view
+      gives = record { slot = slot; boot = x.record; lawful = lawful; effective = record { decided = seen.effective.decided; highest = seen.effective.highest } }
+
+      abbrev pub found : Found (geometry_of a) (read_now a).image
+      found = record { view = view; shown = shown; effective = gives }
+
+      abbrev pub members : View
+      members = members_view view gives
+
+      same_log : (k : ℕ) → shown_by b replayed.read (nvram k) ≡ members (nvram k)
+      same_log k = same_shown (is_named k) (is_read k) (seen.view (nvram k)) (b.disk (nvram k)).bytes (replayed.named k) (seen.nvrams k ∙ ap (λ (l : List ℕ). Some l) (sym (same k).bytes))
+
+      pub holds : x.record.generation < 2 ^ 48 - 8 → HoldsLog members x.record o.plain o.log.count
+      holds room = record {
+        not_spent = room;
+        unflushed = seen.unflushed;
+        log = replayed.log;
+        log_stands = log_moves (shown_by b replayed.read) members same_log x.record.flushed 0 [] replayed.log replayed.log_stands;
+        in_force = replayed.in_force;
+        result = replayed.plain;
+        count = replayed.count;
+      }
+
+      -- a member by the record found, on which no call failed, is left after the log was opened
+      module _ (fails : Device → Bool) (later : (d : Device) → failed n d ≡ true → fails d ≡ true) where
+        pub drive_left : (i : ℕ) → i < a.drives → members (drive i) ≢ None → fails (drive i) ≡ false → IsMember x.drives i
+        drive_left i lt member fine = elim (seen.dropped i lt) [
+          | inl is ↦ is
+          | inr (inl none) ↦ absurd (member none)
+          | inr (inr up) ↦ absurd (cc (fine, later (drive i) (since n after (drive i) up)))
+        ]
+
+        pub nvram_left : (k : ℕ) → members (nvram k) ≢ None → fails (nvram k) ≡ false → IsLogMember o.log.members k
+        nvram_left k member fine = elim (cases_Bool (is_named k)) [
+          | inr none ↦ absurd (member (not_named slot x.record view (nvram k) none))
+          | inl named ↦ elim (replayed.dropped k (named_below k named) named) [
+            | inl is ↦ is
+            | inr rises ↦ absurd (cc (fine, later (nvram k) (rose (a.disk (nvram k)).faults (b.disk (nvram k)).faults (n.disk (nvram k)).faults (n.disk (nvram k)).faults (on.faults (nvram k)) rises (omega arith))))
+          ]
+        ]
+
+      -- after the store
+      module _ (s : Shelved) (now : Register) (last : Continues n s)
+          (left : (i : ℕ) → i < a.drives → IsMember x.drives i → IsMember now.drives i ⊎ LostWrites (n.disk (drive i)) (s.disk (drive i))) where
+        pub later_on : (d : Device) → failed n d ≡ true → failed s d ≡ true
+        later_on d up = rose_before (a.disk d).faults (n.disk d).faults (s.disk d).faults (last.faults d) up
+
+        pub silent : OnlyFailedAreSilent (failed s) view
+        silent = silent_then (failed s) (λ d none. later_on d (since n after d (seen.silent d none))) later_on
+
+        pub drive_stays : (i : ℕ) → i < a.drives → members (drive i) ≢ None → failed s (drive i) ≡ false → IsMember now.drives i
+        drive_stays i lt member fine = elim (left i lt (drive_left (failed s) later_on i lt member fine)) [
+          | inl is ↦ is
+          | inr lost ↦ absurd (cc (fine, rose (a.disk (drive i)).faults (n.disk (drive i)).faults (s.disk (drive i)).faults (s.disk (drive i)).faults (omega (arith, on.faults (drive i), after.faults (drive i))) lost.faults (omega arith)))
+        ]
+
+        none_or : (o : Option (List ℕ)) → (o ≡ None) ⊎ (o ≢ None)
+        none_or (Some bytes) = inr (λ e. cc e)
+        none_or None = inl refl
+
+        out : (d : Device) → names now.record d ≡ false → named_sound now.record d ≡ LeftOut
+        out d none = ap (λ (b : Bool). if b then Sound else LeftOut) none
+
+        not_sound : (d : Device) → names now.record d ≡ false → named_sound now.record d ≢ Sound
+        not_sound d none e = cc (e, out d none)
+
+        comes : (d : Device) → names now.record d ≡ false → (members d ≢ None → failed s d ≡ false → names now.record d ≡ true) → ComesOut found (failed s) (named_sound now.record) d
+        comes d none stays = elim (none_or (members d)) [
+          | inl is ↦ inr (inl (out d none, is))
+          | inr member ↦ elim (cases_Bool (failed s d)) [
+            | inl up ↦ inr (inr (not_sound d none, up))
+            | inr fine ↦ absurd (cc (none, stays member fine))
+          ]
+        ]
+
+        pub taken_over : now.record.members.drives ≡ now.drives → now.record.members.nvrams ≡ o.log.members → IsTakenOver (geometry_of a) (read_now a).image found (failed s) (named_sound now.record)
+        taken_over drives nvrams = record {
+          silent = silent;
+          each = λ d lt. elim (cases_Bool (names now.record d)) [
+            | inl named ↦ inl (ap (λ (b : Bool). if b then Sound else LeftOut) named)
+            | inr none ↦ comes d none (stays d lt)
+          ];
+        }
+          where
+            stays : (d : Device) → IsOn (geometry_of a) d → members d ≢ None → failed s d ≡ false → names now.record d ≡ true
+            stays (Drive d) lt member fine = ap (λ (l : List Bool). slice_index_or l d.0 false) drives ∙ drive_stays d.0 lt member fine
+            stays (Nv k) lt member fine = ap (λ (l : List Bool). slice_index_or l k.0 false) nvrams ∙ nvram_left (failed s) later_on k.0 member fine
+
+        -- too few drives are left
+        pub too_few : set_count now.drives + 2 < a.drives → HasTooFew a s
+        too_few few = record {
+          found = found;
+          silent = silent;
+          unborne = λ bears. absurd (omega (arith, few, few_lack a.drives (losing (failed s) (not_holding slot x.record view)) now.drives a.units bears sound_left));
+        }
+          where
+            held : (o : Option (List ℕ)) → (if is_some o then Sound else Missing) ≡ Sound → o ≢ None
+            held (Some bytes) e none = cc none
+            held None e none = cc e
+
+            sound_left : (i : ℕ) → i < a.drives → losing (failed s) (not_holding slot x.record view) (drive i) ≡ Sound → IsMember now.drives i
+            sound_left i lt sound =
+                let two = sound_since (failed s (drive i)) (not_holding slot x.record view (drive i)) sound in
+                drive_stays i lt (held (members (drive i)) two.0) two.1
