@@ -2,13 +2,9 @@
 use Rattle.std.proofs.Common.{◌≡◌, ◌⊎◌, inl, inr, ℕ, ◌≤◌, Bool, true, false, List, [], ◌∷◌, refl, sym, ◌∙◌, ap, subst, arith, cond}
 use Rattle.std.specs.Prelude.{count_by}
 use Rattle.std.proofs.lemmas.Bool.{cases_lt}
-use Rattle.pur_base.specs.declared.device.Device.{Device}
 use Rattle.pur_base.specs.Devices.{Geometry, Condition, Conditions, Sound, Missing, LeftOut, is_missing, MayBecome, IsWithin, IsBearable, missing_drives, missing_nvrams, slots_of, nvrams, drive, nvram}
 use Rattle.array_spec.proofs.Votes.{counted}
-use Rattle.world.specs.Shelf.{Shelved, Stop, Continues, LeavesOnly, IsCountedBy}
-use Rattle.world.specs.Writes.{WritesOnly}
-use Rattle.world.proofs.Moments.{then_run, weaker}
-use Rattle.world.proofs.Writes.{counted_then, counts_grow}
+use Rattle.world.specs.Shelf.{Shelved, Stop, Continues, IsCountedBy}
 use Rattle.world.specs.Losing.{geometry_of, has_risen, missing_if}
 use Rattle.boot_region.proofs.Phases.{not_risen_before}
 use Rattle.array_core.specs.Losing.{lost_since, lost_by}
@@ -43,10 +39,6 @@ pub by_stop : (old mid : Shelved) (stop : Stop) (missing : Conditions) → IsCou
 by_stop old mid stop missing counts d =
     more_fail (has_risen (old.disk d).write_faults (mid.disk d).write_faults) (has_risen (old.disk d).write_faults (stop.write_faults d)) (missing d)
     (λ none. not_risen_before (old.disk d).write_faults (mid.disk d).write_faults (stop.write_faults d) (counts.write_faults d) none)
-
--- each stop in two runs of calls counts no fewer failed ones than there were
-pub counted_in_both : {a b c : Shelved} {V W : Device → ℕ → Type 0} → Continues a b → WritesOnly V a b → WritesOnly W b c → LeavesOnly a c (IsCountedBy a)
-counted_in_both on first next = then_run on (weaker (λ stop left. left.counts) first.any_moment) (weaker (λ stop left. counted_then (counts_grow on) left.counts) next.any_moment)
 
 -- ---- what is borne
 

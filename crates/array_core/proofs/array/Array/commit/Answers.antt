@@ -15,11 +15,17 @@ use Rattle.array_core.specs.declared.array.Array.{Array}
 use Rattle.array_core.specs.declared.perform.PerformFault.{PerformFault}
 use Rattle.array_core.specs.declared.perform.PerformFault.TheVariants.{Device}
 use Rattle.array_core.specs.Performing.{IsLost}
-use Rattle.array_core.proofs.Losses.{same_geometry, counted_in_both}
+use Rattle.array_core.proofs.Losses.{same_geometry}
 use Rattle.array_core.proofs.Lost.{lost_drives}
-use Rattle.array_core.proofs.Dropped.{drops_failed, none_joins, rises_little}
+use Rattle.array_core.proofs.Dropped.{counted_on, drops_failed, none_joins, rises_little}
 use Rattle.array_core.proofs.Appended.{appending, was_held, append_moments, off_nvrams, still_open, logged, all_moments}
 use Rattle.array_core.proofs.array.Array.commit.Goals as goal
+
+pub returns-in_err-store-clause-moments : goal.returns-in_err-store-clause-moments
+returns-in_err-store-clause-moments g c h = counted_on c.append.ensures.continues (c.append.ensures.writes h) (c.store.ensures.writes (c.append.ensures.continues.honest h))
+
+pub returns-clause-moments : goal.returns-clause-moments
+returns-clause-moments g c h = counted_on c.append.ensures.continues (c.append.ensures.writes h) (c.store.ensures.writes (c.append.ensures.continues.honest h))
 
 pub returns-in_err-append-clause-any_moment : goal.returns-in_err-append-clause-any_moment
 returns-in_err-append-clause-any_moment g c h cmds o keeps accepted in_force =
@@ -65,12 +71,6 @@ returns-then-eq-clause-held g c h cmds o keeps accepted in_force =
 
 pub returns-in_err-store-clause-continues : goal.returns-in_err-store-clause-continues
 returns-in_err-store-clause-continues g c = continues_trans c.append.ensures.continues c.store.ensures.continues
-
-pub returns-in_err-store-clause-moments : goal.returns-in_err-store-clause-moments
-returns-in_err-store-clause-moments g c h = counted_in_both c.append.ensures.continues (c.append.ensures.writes h) (c.store.ensures.writes (c.append.ensures.continues.honest h))
-
-pub returns-clause-moments : goal.returns-clause-moments
-returns-clause-moments g c h = counted_in_both c.append.ensures.continues (c.append.ensures.writes h) (c.store.ensures.writes (c.append.ensures.continues.honest h))
 
 pub returns-clause-continues : goal.returns-clause-continues
 returns-clause-continues g c = continues_trans c.append.ensures.continues c.store.ensures.continues
