@@ -50,7 +50,11 @@ fn answers_transcripts(rt: HostRuntime) -> Result<(), Fail> {
     let alloc = rt.alloc();
     let rows: [(&[u8], &[u8], usize); 5] = [
         (b"", b"", 1),
-        (b"create a 0\ncreate a 1048577\n", b"no limit\nno limit\n", 7),
+        (
+            b"create a 0\ncreate a 1048577\n",
+            b"no limit\nno limit\n",
+            7,
+        ),
         (
             b"\ncreate abcdefghijklmnopqrstuvwxy 1\nfill a 0 65 1\nread  a 0 1\ncreate a 01\n",
             b"no syntax\nno syntax\nno syntax\nno syntax\nno syntax\n",
