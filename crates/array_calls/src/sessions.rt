@@ -1,0 +1,60 @@
+// The sessions whose calls are counted.
+use crate::counting::{DeviceCalls, part};
+use array_server::{init, serve};
+use pur_base::{Device, NoMemory, NvId};
+use std::alloc::Global;
+use world_mem::MemWorld;
+
+/// The calls of something.
+#[derive(Drop)]
+pub struct Line {
+    pub name: &'static str,
+    pub calls: DeviceCalls,
+}
+
+fn line_of(name: &'static str, world: &MemWorld, at: u64) -> Line {
+    Line {
+        name,
+        calls: part(world.calls(), at),
+    }
+}
+
+/// A session, the calls before which are forgotten.
+fn session(alloc: Global, world: &mut MemWorld, input: &[u8]) -> Result<(), NoMemory> {
+    world.forget();
+    world.feed(input)?;
+    serve(alloc, world);
+    Ok(())
+}
+
+/// A create, a write of 64 sectors, a fill and a read.
+fn requests(alloc: Global) -> Result<Vec<u8>, NoMemory> {
+    let mut input = Vec::from_slice(alloc, b"create a 64\nwrite a 0 64\n")?;
+    for _ in 0..64 {
+        input.extend_from_slice(&[66; 512])?;
+    }
+    input.extend_from_slice(b"fill a 0 1 1\nread a 0 1\n")?;
+    Ok(input)
+}
+
+/// How often an NVRAM device is called by an opening.
+const OPENING: u64 = 3;
+
+pub fn lines(alloc: Global) -> Result<Vec<Line>, NoMemory> {
+    let mut lines = Vec::new(alloc);
+    let mut world = MemWorld::new(alloc, 11, 64, Vec::new(alloc))?;
+    init(alloc, &mut world);
+    lines.push(line_of("init", &world, 0))?;
+    session(alloc, &mut world, b"")?;
+    lines.push(line_of("the first opening", &world, 0))?;
+    session(alloc, &mut world, &requests(alloc)?)?;
+    lines.push(line_of("a later opening", &world, 0))?;
+    lines.push(line_of("create", &world, 1))?;
+    lines.push(line_of("write of 64 sectors", &world, 2))?;
+    lines.push(line_of("fill", &world, 3))?;
+    lines.push(line_of("read", &world, 4))?;
+    world.fail(Device::Nv(NvId(1)), OPENING + 1)?;
+    session(alloc, &mut world, b"fill a 1 1 2\n")?;
+    lines.push(line_of("fill, where an NVRAM device fails", &world, 1))?;
+    Ok(lines)
+}

@@ -1,0 +1,296 @@
+// What happens to the devices.
+ghost use Rattle.std.specs.Prelude.{◌<◌, IsTrue, length};
+ghost use Rattle.world.specs.Shelf.{Has, IsOf};
+ghost use Rattle.world_mem.specs.Past.{shelved};
+use crate::random::Random;
+use pur_base::{
+    Device, DriveId, NVRAM_BYTES, NVRAM_DEVICES, NoMemory, NvId, SECTOR_BYTES, UNIT_BYTES,
+};
+use std::alloc::Global;
+use world::Shelf;
+use world_mem::{Call, MemWorld, What};
+
+/// The drives of the shelf.
+pub const DRIVES: u8 = 11;
+
+/// The units of a drive.
+pub const UNITS: u16 = 64;
+
+/// A failing is named so many calls ahead at most.
+pub const FAIL_AHEAD: u64 = 100;
+
+/// All devices.
+const DEVICES: [Device; 13] = [
+    Device::Drive(DriveId(0)),
+    Device::Drive(DriveId(1)),
+    Device::Drive(DriveId(2)),
+    Device::Drive(DriveId(3)),
+    Device::Drive(DriveId(4)),
+    Device::Drive(DriveId(5)),
+    Device::Drive(DriveId(6)),
+    Device::Drive(DriveId(7)),
+    Device::Drive(DriveId(8)),
+    Device::Drive(DriveId(9)),
+    Device::Drive(DriveId(10)),
+    Device::Nv(NvId(0)),
+    Device::Nv(NvId(1)),
+];
+
+/// Where it stands among them.
+fn place_of(device: Device) -> usize
+    ensures { result < 13 }
+{
+    match device {
+        Device::Drive(drive) => (drive.0 % DRIVES) as usize,
+        Device::Nv(nvram) => (DRIVES + nvram.0 % NVRAM_DEVICES) as usize,
+    }
+}
+
+/// Whether the shelf has the device.
+fn is_there(world: &MemWorld, device: Device) -> bool
+    ensures { IsTrue result → IsOf (shelved world.now) device }
+{
+    match device {
+        Device::Drive(drive) => drive.0 < world.drives(),
+        Device::Nv(nvram) => nvram.0 < NVRAM_DEVICES,
+    }
+}
+
+/// The bytes of a device.
+fn size_of(world: &MemWorld, device: Device) -> u64 {
+    match device {
+        Device::Drive(_) => UNIT_BYTES as u64 * world.units() as u64,
+        Device::Nv(_) => NVRAM_BYTES as u64,
+    }
+}
+
+/// Whether the device has that range, which may be read and written at once.
+fn has(world: &MemWorld, device: Device, at: u64, count: usize) -> bool
+    ensures { IsTrue result → Has (shelved world.now) device at count }
+{
+    let count = count as u64;
+    let size = size_of(world, device);
+    let is_aligned = match device {
+        Device::Drive(_) => at % SECTOR_BYTES as u64 == 0 && count % SECTOR_BYTES as u64 == 0,
+        Device::Nv(_) => true,
+    };
+    is_there(world, device) && is_aligned && at <= size && count <= size - at
+}
+
+/// Pulls a device.
+pub fn pull(world: &mut MemWorld, device: Device) {
+    if is_there(world, device) {
+        world.pull(device);
+    }
+}
+
+/// Puts a device back.
+pub fn put_back(world: &mut MemWorld, device: Device) {
+    if is_there(world, device) {
+        world.put_back(device);
+    }
+}
+
+/// Lets the nth next call on a device fail, counted from 0.
+pub fn fail(world: &mut MemWorld, device: Device, nth: u64) -> Result<(), NoMemory> {
+    if is_there(world, device) && nth < FAIL_AHEAD {
+        world.fail(device, nth + 1)?;
+    }
+    Ok(())
+}
+
+/// Syncs a device. What isn't synced then is missing.
+fn sync(world: &mut MemWorld, device: Device) {
+    if is_there(world, device) {
+        let _ = world.sync(device);
+    }
+}
+
+/// Makes calls on a device until none is to fail.
+pub fn let_fail(world: &mut MemWorld, device: Device) {
+    for _ in 0..FAIL_AHEAD {
+        sync(world, device);
+    }
+}
+
+/// How far each device was ever written.
+#[derive(Clone, Copy)]
+pub struct Written {
+    ends: [u64; 13],
+}
+
+/// A piece of what is written over a device.
+static ZEROS: [u8; UNIT_BYTES] = [0; UNIT_BYTES];
+
+impl Written {
+    /// Not at all.
+    pub fn new() -> Written {
+        Written { ends: [0; 13] }
+    }
+
+    /// Sees the writes among the calls.
+    pub fn note(&mut self, calls: &[Call]) {
+        for call in calls {
+            match call {
+                Call::On(device, What::Write(at, was)) => self.reach(*device, *at, was.len()),
+                _ => {}
+            }
+        }
+    }
+
+    fn reach(&mut self, device: Device, at: usize, count: usize) {
+        let place = place_of(device);
+        self.ends[place] = self.ends[place].max((at as u64).saturating_add(count as u64));
+    }
+
+    /// Puts a blank device in its place. No call on it is to fail then.
+    pub fn blank(&self, world: &mut MemWorld, device: Device) {
+        put_back(world, device);
+        let_fail(world, device);
+        let piece = UNIT_BYTES as u64;
+        for k in 0..self.ends[place_of(device)].div_ceil(piece) {
+            write_zeros(world, device, k.saturating_mul(piece));
+        }
+        sync(world, device);
+    }
+
+    /// Blanks all devices.
+    pub fn blank_all(&self, world: &mut MemWorld) {
+        for device in DEVICES {
+            self.blank(world, device);
+        }
+        world.forget();
+    }
+}
+
+/// Zeros from there on, as many as a piece has or there is room for.
+fn write_zeros(world: &mut MemWorld, device: Device, at: u64) {
+    let count = size_of(world, device)
+        .saturating_sub(at)
+        .min(UNIT_BYTES as u64) as usize;
+    let zeros = &ZEROS[..count];
+    if has(world, device, at, zeros.len()) {
+        let _ = world.write(device, at, zeros);
+    }
+}
+
+/// A write that no sync has followed.
+#[derive(Drop)]
+struct Unsynced {
+    device: Device,
+    at: u64,
+    was: Vec<u8>,
+}
+
+/// The writes that no sync has followed.
+fn unsynced_writes(alloc: Global, calls: &[Call]) -> Result<Vec<Unsynced>, NoMemory> {
+    let mut synced = [false; 13];
+    let mut writes = Vec::new(alloc);
+    for call in calls.iter().rev() {
+        match call {
+            Call::On(device, What::Sync(_)) => synced[place_of(*device)] = true,
+            Call::On(device, What::Write(at, was)) => {
+                if !synced[place_of(*device)] {
+                    writes.push(Unsynced {
+                        device: *device,
+                        at: *at as u64,
+                        was: was.to_vec(alloc)?,
+                    })?;
+                }
+            }
+            _ => {}
+        }
+    }
+    Ok(writes)
+}
+
+/// What a stop makes of unsynced bytes, or of a part of them.
+#[derive(Clone, Copy)]
+enum Tear {
+    Kept,
+    Undone,
+    Random,
+    /// Zeros and ones, as gates are.
+    Gates,
+}
+
+fn tear_by(random: &mut Random) -> Tear {
+    match random.below(6) {
+        0 | 1 => Tear::Kept,
+        2 | 3 => Tear::Undone,
+        4 => Tear::Random,
+        _ => Tear::Gates,
+    }
+}
+
+/// A byte that is left.
+fn byte_left(random: &mut Random, tear: Tear, now: u8, was: u8) -> u8 {
+    match tear {
+        Tear::Kept => now,
+        Tear::Undone => was,
+        Tear::Random => random.any_byte(),
+        Tear::Gates => random.byte_below(2),
+    }
+}
+
+/// Tears the bytes: all in one way, or each piece of so many in its own.
+fn tear_bytes(random: &mut Random, now: &mut [u8], was: &[u8]) {
+    let piece = match random.below(4) {
+        0 => (random.below(64) as usize).saturating_add(1),
+        1 => SECTOR_BYTES,
+        _ => usize::MAX,
+    };
+    let mut tear = tear_by(random);
+    let mut left = piece;
+    for place in 0..now.len().min(was.len()) {
+        if left == 0 {
+            tear = tear_by(random);
+            left = piece;
+        }
+        left = left.saturating_sub(1);
+        now[place] = byte_left(random, tear, now[place], was[place]);
+    }
+}
+
+/// Leaves of a write what a stop may leave. A device that fails is missing.
+fn tear_write(
+    alloc: Global,
+    world: &mut MemWorld,
+    random: &mut Random,
+    write: &Unsynced,
+) -> Result<(), NoMemory> {
+    if !has(world, write.device, write.at, write.was.len()) {
+        return Ok(());
+    }
+    let mut bytes = vec![in alloc; 0; write.was.len()]?;
+    if world.read(write.device, write.at, &mut bytes).is_err() {
+        return Ok(());
+    }
+    tear_bytes(random, &mut bytes, &write.was);
+    let _ = world.write(write.device, write.at, &bytes);
+    Ok(())
+}
+
+/// Leaves of the devices what a stop may leave: each byte that isn't synced may be any.
+pub fn stop(alloc: Global, world: &mut MemWorld, random: &mut Random) -> Result<(), NoMemory> {
+    let writes = unsynced_writes(alloc, world.calls())?;
+    for write in &writes {
+        tear_write(alloc, world, random, write)?;
+    }
+    for device in DEVICES {
+        sync(world, device);
+    }
+    world.forget();
+    Ok(())
+}
+
+/// Whether some of the input was taken.
+pub fn has_taken(world: &MemWorld) -> bool {
+    for call in world.calls() {
+        match call {
+            Call::Take(_) => return true,
+            _ => {}
+        }
+    }
+    false
+}

@@ -1,0 +1,417 @@
+// One history.
+use crate::devices::{
+    DRIVES, FAIL_AHEAD, Written, fail, has_taken, let_fail, pull, put_back, stop,
+};
+use crate::model::Model;
+use crate::random::Random;
+use crate::request::{Ask, Known, any_ask};
+use array_server::{init, serve};
+use pur_base::{Device, DriveId, NVRAM_DEVICES, NoMemory, NvId, Status};
+use std::alloc::{AllocFailed, Global};
+use world::Source;
+use world_mem::{Fused, MemWorld};
+
+/// Where more arrays may stand, they are looked at.
+const ARRAYS: usize = 4;
+
+/// What happened in histories so far.
+#[derive(Clone, Copy)]
+pub struct Told {
+    pub acknowledged: u64,
+    pub stops: u64,
+    pub failures: u64,
+}
+
+impl Told {
+    /// Nothing.
+    pub fn new() -> Told {
+        Told {
+            acknowledged: 0,
+            stops: 0,
+            failures: 0,
+        }
+    }
+}
+
+/// Why a history doesn't come to its end.
+#[derive(Clone, Copy, Debug, PartialEq, Eq)]
+pub enum Trouble {
+    Memory,
+    /// What was answered isn't what an array of the acknowledged requests, or of one more, answers.
+    Lost,
+}
+
+impl From<NoMemory> for Trouble {
+    fn from(_error: NoMemory) -> Trouble {
+        Trouble::Memory
+    }
+}
+
+impl<T: Drop> From<AllocFailed<T>> for Trouble {
+    fn from(_failed: AllocFailed<T>) -> Trouble {
+        Trouble::Memory
+    }
+}
+
+/// The devices that may fail in a history: two drives, and an NVRAM device. They count as missing all along.
+#[derive(Clone, Copy)]
+struct Weak {
+    devices: [Device; 3],
+}
+
+impl Weak {
+    fn new(random: &mut Random) -> Weak {
+        Weak {
+            devices: [
+                Device::Drive(DriveId(random.byte_below(DRIVES))),
+                Device::Drive(DriveId(random.byte_below(DRIVES))),
+                Device::Nv(NvId(random.byte_below(NVRAM_DEVICES))),
+            ],
+        }
+    }
+}
+
+/// What a session left.
+#[derive(Drop)]
+struct Left {
+    world: MemWorld,
+    status: Status,
+    stopped: bool,
+}
+
+/// A session that is stopped after so many calls on devices.
+fn serve_for(alloc: Global, world: MemWorld, calls: u64) -> Left {
+    let mut fused = Fused::new(world, calls);
+    let status = serve(alloc, &mut fused);
+    let stopped = fused.blown();
+    Left {
+        world: fused.into_inner(),
+        status,
+        stopped,
+    }
+}
+
+/// The making of an array that is stopped after so many calls on devices.
+fn init_for(alloc: Global, world: MemWorld, calls: u64) -> Left {
+    let mut fused = Fused::new(world, calls);
+    let status = init(alloc, &mut fused);
+    let stopped = fused.blown();
+    Left {
+        world: fused.into_inner(),
+        status,
+        stopped,
+    }
+}
+
+/// Takes what is left of the input.
+fn take_rest(world: &mut MemWorld) {
+    let mut bytes = [0; 4096];
+    for _ in 0..u64::MAX {
+        match world.take(&mut bytes) {
+            Ok(0) | Err(_) => return,
+            Ok(_) => {}
+        }
+    }
+}
+
+/// After how many calls a session is stopped.
+fn calls_until(random: &mut Random) -> u64 {
+    match random.below(8) {
+        0 | 1 => u64::MAX,
+        2 | 3 => random.below(60),
+        4 | 5 => random.below(150),
+        _ => random.below(400),
+    }
+}
+
+/// How many of the requests were answered by the whole of an output, each as the array answers, which goes on by them. None where they weren't.
+fn follow(
+    alloc: Global,
+    array: &mut Model,
+    asks: &[Ask],
+    output: &[u8],
+) -> Result<Option<usize>, NoMemory> {
+    let mut rest = output;
+    let mut reply = Vec::new(alloc);
+    for place in 0..asks.len() {
+        reply.clear();
+        array.push_reply(alloc, &asks[place], &mut reply)?;
+        match rest.strip_prefix(reply.as_slice()) {
+            Some(behind) => rest = behind,
+            None => return Ok(if reply.starts_with(rest) {
+                Some(place)
+            } else {
+                None
+            }),
+        }
+        array.apply(alloc, &asks[place])?;
+    }
+    Ok(if rest.is_empty() {
+        Some(asks.len())
+    } else {
+        None
+    })
+}
+
+/// A history: what may happen in it, and the arrays that may stand.
+#[derive(Drop)]
+pub struct History {
+    alloc: Global,
+    random: Random,
+    weak: Weak,
+    written: Written,
+    arrays: Vec<Model>,
+    session: u64,
+}
+
+impl History {
+    /// The history of that number.
+    pub fn new(alloc: Global, seed: u64, number: u64) -> History {
+        let mut random = Random::new(seed, number);
+        let weak = Weak::new(&mut random);
+        History {
+            alloc,
+            random,
+            weak,
+            written: Written::new(),
+            arrays: Vec::new(alloc),
+            session: 0,
+        }
+    }
+
+    /// The sessions that it has begun.
+    pub fn session(&self) -> u64 {
+        self.session
+    }
+
+    /// Lets it happen on devices that are blank, and blanks them.
+    pub fn run(&mut self, world: MemWorld, told: &mut Told) -> Result<MemWorld, Trouble> {
+        let mut world = self.make(world, told)?;
+        self.arrays.push(Model::new(self.alloc))?;
+        let most = if self.random.once_in(8) { 40 } else { 8 };
+        for _ in 0..self.random.below(5).saturating_add(1) {
+            world = self.ask_some(world, most, told)?;
+            if self.random.once_in(2) {
+                world = self.open_only(world, told)?;
+            }
+            if self.arrays.len() > ARRAYS || self.random.once_in(2) {
+                world = self.look(world, told)?;
+            }
+        }
+        world = self.look(world, told)?;
+        self.written.blank_all(&mut world);
+        Ok(world)
+    }
+
+    /// Lets something happen to some of the devices that may fail.
+    fn disturb(&mut self, world: &mut MemWorld, told: &mut Told) -> Result<(), NoMemory> {
+        for device in self.weak.devices {
+            match self.random.below(12) {
+                0 => pull(world, device),
+                1 | 2 => {
+                    put_back(world, device);
+                    continue;
+                }
+                3 => self.written.blank(world, device),
+                4..=6 => {
+                    let ahead = if self.random.once_in(2) {
+                        12
+                    } else {
+                        FAIL_AHEAD
+                    };
+                    fail(world, device, self.random.below(ahead))?;
+                }
+                _ => continue,
+            }
+            told.failures = told.failures.saturating_add(1);
+        }
+        Ok(())
+    }
+
+    /// A stop, where there was one.
+    fn stop(
+        &mut self,
+        world: MemWorld,
+        stopped: bool,
+        told: &mut Told,
+    ) -> Result<MemWorld, NoMemory> {
+        let mut world = world;
+        self.written.note(world.calls());
+        take_rest(&mut world);
+        if stopped {
+            told.stops = told.stops.saturating_add(1);
+            if self.random.once_in(24) {
+                return world.stopped(self.alloc, &mut self.random);
+            }
+            stop(self.alloc, &mut world, &mut self.random)?;
+        }
+        world.forget();
+        Ok(world)
+    }
+
+    /// Makes the array. A making that is stopped is begun again.
+    fn make(&mut self, world: MemWorld, told: &mut Told) -> Result<MemWorld, Trouble> {
+        let mut world = world;
+        let mut calls = u64::MAX;
+        if self.random.once_in(4) {
+            calls = self.random.below(80);
+        }
+        if self.random.once_in(8) {
+            fail(&mut world, self.weak.devices[0], self.random.below(12))?;
+            told.failures = told.failures.saturating_add(1);
+        }
+        let left = init_for(self.alloc, world, calls);
+        self.written.note(left.world.calls());
+        if left.status == Status::Done && !left.stopped {
+            return Ok(left.world);
+        }
+        if left.status != Status::Halted && left.status != Status::Sink {
+            return Err(Trouble::Lost);
+        }
+        let mut world = self.stop(left.world, left.stopped, told)?;
+        let_fail(&mut world, self.weak.devices[0]);
+        self.make_again(world)
+    }
+
+    /// Makes the array on devices that give none, or the one of nothing.
+    fn make_again(&mut self, world: MemWorld) -> Result<MemWorld, Trouble> {
+        let left = init_for(self.alloc, world, u64::MAX);
+        self.written.note(left.world.calls());
+        match left.status {
+            Status::Done => return Ok(left.world),
+            Status::NotBlank => {}
+            _ => return Err(Trouble::Lost),
+        }
+        let mut world = left.world;
+        let before = world.output().len();
+        world.feed(b"list\n")?;
+        let left = serve_for(self.alloc, world, u64::MAX);
+        self.written.note(left.world.calls());
+        let mut world = left.world;
+        take_rest(&mut world);
+        let given = world.output().get(before..).unwrap_or(&[]);
+        let is_right = match left.status {
+            Status::Done => given == b"names 0\n".as_slice(),
+            Status::Halted => given.is_empty(),
+            _ => false,
+        };
+        if !is_right {
+            return Err(Trouble::Lost);
+        }
+        self.written.blank_all(&mut world);
+        let left = init_for(self.alloc, world, u64::MAX);
+        self.written.note(left.world.calls());
+        if left.status == Status::Done {
+            Ok(left.world)
+        } else {
+            Err(Trouble::Lost)
+        }
+    }
+
+    /// A session with some requests.
+    fn ask_some(
+        &mut self,
+        world: MemWorld,
+        most: u64,
+        told: &mut Told,
+    ) -> Result<MemWorld, Trouble> {
+        let mut known = match self.arrays.first() {
+            Some(array) => array.known(self.alloc)?,
+            None => Vec::new(self.alloc),
+        };
+        let mut asks = Vec::new(self.alloc);
+        for _ in 0..self.random.below(most).saturating_add(1) {
+            let next = any_ask(&mut self.random, &known);
+            if let Ask::Create { volume, sectors } = next {
+                known.push(Known { volume, sectors })?;
+            }
+            asks.push(next)?;
+        }
+        let calls = calls_until(&mut self.random);
+        self.serve(world, &asks, calls, told)
+    }
+
+    /// A session without requests, which is stopped.
+    fn open_only(&mut self, world: MemWorld, told: &mut Told) -> Result<MemWorld, Trouble> {
+        let calls = self.random.below(120);
+        self.serve(world, &[], calls, told)
+    }
+
+    /// A session that shows the array, and isn't stopped.
+    fn look(&mut self, world: MemWorld, told: &mut Told) -> Result<MemWorld, Trouble> {
+        let mut asks = Vec::new(self.alloc);
+        asks.push(Ask::List)?;
+        for array in &self.arrays {
+            array.push_questions(&mut asks)?;
+        }
+        let mut unseen = Told::new();
+        let world = self.serve(world, &asks, u64::MAX, &mut unseen)?;
+        told.failures = told.failures.saturating_add(unseen.failures);
+        Ok(world)
+    }
+
+    /// A session. The arrays are those that may stand after it.
+    fn serve(
+        &mut self,
+        world: MemWorld,
+        asks: &[Ask],
+        calls: u64,
+        told: &mut Told,
+    ) -> Result<MemWorld, Trouble> {
+        self.session = self.session.saturating_add(1);
+        let mut world = world;
+        self.disturb(&mut world, told)?;
+        let mut input = Vec::new(self.alloc);
+        for ask in asks {
+            ask.push_to(self.alloc, &mut input)?;
+        }
+        world.feed(&input)?;
+        world.forget();
+        let before = world.output().len();
+        let left = serve_for(self.alloc, world, calls);
+        let given = left.world.output().get(before..).unwrap_or(&[]);
+        if !left.stopped && left.status != Status::Done {
+            return Err(Trouble::Lost);
+        }
+        let taken = has_taken(&left.world);
+        let count = self.judge(asks, given, left.stopped, taken)?;
+        told.acknowledged = told.acknowledged.saturating_add(count as u64);
+        Ok(self.stop(left.world, left.stopped, told)?)
+    }
+
+    /// Keeps the arrays that answer what was given, as they go on: by what was answered, and after a stop perhaps by one request more.
+    /// How many were answered.
+    fn judge(
+        &mut self,
+        asks: &[Ask],
+        given: &[u8],
+        stopped: bool,
+        taken: bool,
+    ) -> Result<usize, Trouble> {
+        let mut after = Vec::new(self.alloc);
+        let mut answered = 0;
+        for array in &self.arrays {
+            let mut array = array.copy(self.alloc)?;
+            let Some(count) = follow(self.alloc, &mut array, asks, given)? else {
+                continue;
+            };
+            if !stopped && count < asks.len() {
+                continue;
+            }
+            answered = count;
+            if let Some(next) = asks.get(count) {
+                if taken && array.takes(next) {
+                    let mut more = array.copy(self.alloc)?;
+                    more.apply(self.alloc, next)?;
+                    after.push(more)?;
+                }
+            }
+            after.push(array)?;
+        }
+        if after.is_empty() {
+            return Err(Trouble::Lost);
+        }
+        self.arrays = after;
+        Ok(answered)
+    }
+}

@@ -1,0 +1,131 @@
+//! Random histories of sessions over devices in memory: stops at any call on a device, devices that fail, are pulled and come back, or come back blank,
+//! and takeovers that are stopped again. Nothing that was acknowledged may be lost. Its two words are a seed and how many histories there are.
+#![tactic(auto)]
+
+mod devices;
+mod history;
+mod model;
+mod random;
+mod request;
+mod text;
+
+use crate::devices::{DRIVES, UNITS};
+use crate::history::{History, Told, Trouble};
+use pur_base::NoMemory;
+use std::alloc::Global;
+use std::process::ExitCode;
+use std::{env, io};
+use world_mem::MemWorld;
+
+/// A world serves so many histories.
+const RENEWED: u64 = 64;
+
+/// What is to be tried.
+#[derive(Clone, Copy)]
+struct Plan {
+    seed: u64,
+    count: u64,
+}
+
+fn planned(rt: &HostRuntime) -> io::Result<Option<Plan>> {
+    let mut words = env::args(rt)?;
+    words.next();
+    let Some(seed) = words.next() else {
+        return Ok(None);
+    };
+    let Some(count) = words.next() else {
+        return Ok(None);
+    };
+    match (seed.parse::<u64>(), count.parse::<u64>()) {
+        (Ok(seed), Ok(count)) => Ok(Some(Plan { seed, count })),
+        _ => Ok(None),
+    }
+}
+
+/// Why a plan isn't carried out: which history, and the session in it.
+#[derive(Clone, Copy)]
+struct Broken {
+    why: Trouble,
+    number: u64,
+    session: u64,
+}
+
+/// A world of blank devices.
+fn blank_world(alloc: Global) -> Result<MemWorld, NoMemory> {
+    MemWorld::new(alloc, DRIVES, UNITS, Vec::new(alloc))
+}
+
+/// Lets the histories happen.
+fn try_all(alloc: Global, plan: Plan, told: &mut Told) -> Result<(), Broken> {
+    let no_memory = Broken {
+        why: Trouble::Memory,
+        number: 0,
+        session: 0,
+    };
+    let mut world = blank_world(alloc).map_err(|_| no_memory)?;
+    for number in 0..plan.count {
+        // A world keeps its input and its output.
+        if number % RENEWED == RENEWED - 1 {
+            world = blank_world(alloc).map_err(|_| no_memory)?;
+        }
+        let mut history = History::new(alloc, plan.seed, number);
+        match history.run(world, told) {
+            Ok(blank) => world = blank,
+            Err(why) => {
+                return Err(Broken {
+                    why,
+                    number,
+                    session: history.session(),
+                });
+            }
+        }
+    }
+    Ok(())
+}
+
+fn run(rt: &HostRuntime, plan: Plan) -> io::Result<ExitCode> {
+    let Plan { seed, count } = plan;
+    let mut told = Told::new();
+    match try_all(rt.alloc(), plan, &mut told) {
+        Ok(()) => {}
+        Err(
+            Broken {
+                why: Trouble::Lost,
+                number,
+                session,
+            },
+        ) => {
+            println!(rt; "seed {seed}: lost in history {number}, session {session}")?;
+            return Ok(ExitCode::from(1));
+        }
+        Err(
+            Broken {
+                why: Trouble::Memory,
+                number,
+                ..
+            },
+        ) => {
+            println!(rt; "seed {seed}: no memory in history {number}")?;
+            return Ok(ExitCode::from(2));
+        }
+    }
+    let Told {
+        acknowledged,
+        stops,
+        failures,
+    } = told;
+    println!(rt;
+        "seed {seed}: {count} histories, {acknowledged} requests acknowledged, {stops} stops, {failures} devices failed, nothing lost"
+    )?;
+    Ok(ExitCode::from(0))
+}
+
+fn main(rt: HostRuntime) -> io::Result<ExitCode> {
+    match planned(&rt)? {
+        Some(plan) => run(&rt, plan),
+        None => {
+            println!(rt; "two numbers are wanted: a seed, and how many histories")?;
+            Ok(ExitCode::from(3))
+        }
+    }
+}

@@ -1,0 +1,242 @@
+// What the array is to answer.
+use crate::request::{Ask, Known, Pattern, Range};
+use crate::text::push;
+use pur_base::NoMemory;
+use std::alloc::Global;
+
+/// As many logged requests as a log has room for.
+const LOG_SLOTS: u64 = 64;
+
+/// The most sectors of a request.
+const COUNT: u8 = 64;
+
+/// A volume, with what each of its sectors holds.
+#[derive(Drop)]
+struct Volume {
+    number: u8,
+    sectors: Vec<Pattern>,
+}
+
+impl Volume {
+    fn copy(&self, alloc: Global) -> Result<Volume, NoMemory> {
+        Ok(Volume {
+            number: self.number,
+            sectors: self.sectors.to_vec(alloc)?,
+        })
+    }
+}
+
+/// An array: its volumes in order of creation, and how many logged requests made it.
+#[derive(Drop)]
+pub struct Model {
+    volumes: Vec<Volume>,
+    logged: u64,
+}
+
+impl Model {
+    /// The array of nothing.
+    pub fn new(alloc: Global) -> Model {
+        Model {
+            volumes: Vec::new(alloc),
+            logged: 0,
+        }
+    }
+
+    /// The same once more.
+    pub fn copy(&self, alloc: Global) -> Result<Model, NoMemory> {
+        let mut volumes = Vec::new(alloc);
+        for volume in &self.volumes {
+            volumes.push(volume.copy(alloc)?)?;
+        }
+        Ok(Model {
+            volumes,
+            logged: self.logged,
+        })
+    }
+
+    /// The volumes that are there.
+    pub fn known(&self, alloc: Global) -> Result<Vec<Known>, NoMemory> {
+        let mut known = Vec::new(alloc);
+        for volume in &self.volumes {
+            known.push(Known {
+                volume: volume.number,
+                sectors: volume.sectors.len().min(255) as u8,
+            })?;
+        }
+        Ok(known)
+    }
+
+    fn place_of(&self, number: u8) -> Option<usize> {
+        for place in 0..self.volumes.len() {
+            if self.volumes[place].number == number {
+                return Some(place);
+            }
+        }
+        None
+    }
+
+    fn volume(&self, number: u8) -> Option<&Volume> {
+        match self.place_of(number) {
+            Some(place) => self.volumes.get(place),
+            None => None,
+        }
+    }
+
+    /// The sectors of a range, or why there are none.
+    fn sectors(&self, range: Range) -> Result<&[Pattern], &str> {
+        let Some(volume) = self.volume(range.volume) else {
+            return Err("unknown");
+        };
+        let lba = range.lba as usize;
+        match volume.sectors.get(lba..lba + range.count as usize) {
+            Some(sectors) => Ok(sectors),
+            None => Err("range"),
+        }
+    }
+
+    /// Why a request that is logged isn't done, whose sectors are there.
+    fn room(&self) -> Option<&str> {
+        if self.logged >= LOG_SLOTS {
+            Some("space")
+        } else {
+            None
+        }
+    }
+
+    /// Why a request is refused, if it is.
+    fn refusal(&self, ask: &Ask) -> Option<&str> {
+        match *ask {
+            Ask::Create { volume, sectors } => {
+                if self.place_of(volume).is_some() {
+                    return Some("taken");
+                }
+                if sectors == 0 {
+                    Some("limit")
+                } else {
+                    self.room()
+                }
+            }
+            Ask::Write { range, .. } | Ask::Fill { range, .. } => {
+                match self.sectors(range) {
+                    Ok(_) => self.room(),
+                    Err(why) => Some(why),
+                }
+            }
+            Ask::Read { range } => match self.sectors(range) {
+                Ok(_) => None,
+                Err(why) => Some(why),
+            },
+            Ask::List => None,
+            Ask::Nonsense => Some("syntax"),
+        }
+    }
+
+    /// The text of its answer, behind what is there.
+    pub fn push_reply(&self, alloc: Global, ask: &Ask, text: &mut Vec<u8>) -> Result<(), NoMemory> {
+        if let Some(why) = self.refusal(ask) {
+            return push(text, &format!(in alloc; "no {why}\n")?);
+        }
+        match *ask {
+            Ask::Read { range } => self.push_sectors(alloc, range, text),
+            Ask::List => self.push_names(alloc, text),
+            _ => push(text, "ok\n"),
+        }
+    }
+
+    fn push_sectors(
+        &self,
+        alloc: Global,
+        range: Range,
+        text: &mut Vec<u8>,
+    ) -> Result<(), NoMemory> {
+        let count = range.count;
+        push(text, &format!(in alloc; "data {count}\n")?)?;
+        for pattern in self.sectors(range).unwrap_or(&[]) {
+            pattern.push_to(text)?;
+        }
+        Ok(())
+    }
+
+    fn push_names(&self, alloc: Global, text: &mut Vec<u8>) -> Result<(), NoMemory> {
+        let count = self.volumes.len();
+        push(text, &format!(in alloc; "names {count}\n")?)?;
+        for volume in &self.volumes {
+            let number = volume.number;
+            let sectors = volume.sectors.len();
+            push(text, &format!(in alloc; "v{number} volume {sectors}\n")?)?;
+        }
+        Ok(())
+    }
+
+    /// Whether a request is logged, and accepted.
+    pub fn takes(&self, ask: &Ask) -> bool {
+        match ask {
+            Ask::Create { .. } | Ask::Write { .. } | Ask::Fill { .. } => self
+                .refusal(ask)
+                .is_none(),
+            _ => false,
+        }
+    }
+
+    /// Does a request, unless it's refused.
+    pub fn apply(&mut self, alloc: Global, ask: &Ask) -> Result<(), NoMemory> {
+        if !self.takes(ask) {
+            return Ok(());
+        }
+        self.logged = self.logged.saturating_add(1);
+        match *ask {
+            Ask::Create { volume, sectors } => {
+                let sectors = Vec::from_elem(alloc, Pattern::filled(0), sectors as usize)?;
+                self.volumes.push(Volume {
+                    number: volume,
+                    sectors,
+                })?;
+            }
+            Ask::Write { range, pattern } => {
+                for n in 0..range.count {
+                    self.set(range, n, pattern.nth(n));
+                }
+            }
+            Ask::Fill { range, byte } => {
+                for n in 0..range.count {
+                    self.set(range, n, Pattern::filled(byte));
+                }
+            }
+            _ => {}
+        }
+        Ok(())
+    }
+
+    fn set(&mut self, range: Range, n: u8, pattern: Pattern) {
+        let Some(place) = self.place_of(range.volume) else {
+            return;
+        };
+        let Some(volume) = self.volumes.get_mut(place) else {
+            return;
+        };
+        let lba = range.lba as usize + n as usize;
+        if let Some(sector) = volume.sectors.get_mut(lba) {
+            *sector = pattern;
+        }
+    }
+
+    /// Requests that show all of it, of volumes of up to 255 sectors.
+    pub fn push_questions(&self, asks: &mut Vec<Ask>) -> Result<(), NoMemory> {
+        for volume in &self.volumes {
+            let sectors = volume.sectors.len().min(255) as u8;
+            for piece in 0..4 {
+                let lba = piece * COUNT;
+                if lba < sectors {
+                    let count = (sectors - lba).min(COUNT);
+                    let range = Range {
+                        volume: volume.number,
+                        lba,
+                        count,
+                    };
+                    asks.push(Ask::Read { range })?;
+                }
+            }
+        }
+        Ok(())
+    }
+}

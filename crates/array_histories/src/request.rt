@@ -1,0 +1,172 @@
+// What is asked.
+use crate::random::Random;
+use crate::text::push;
+use pur_base::{NoMemory, SECTOR_BYTES};
+use std::alloc::Global;
+
+/// What a sector holds: its first byte, and what is added from each byte to the next.
+#[derive(Clone, Copy, PartialEq, Eq)]
+pub struct Pattern {
+    pub first: u8,
+    pub step: u8,
+}
+
+impl Pattern {
+    /// A sector of one byte.
+    pub fn filled(byte: u8) -> Pattern {
+        Pattern {
+            first: byte,
+            step: 0,
+        }
+    }
+
+    /// What the nth sector of a write holds whose first holds this.
+    pub fn nth(self, n: u8) -> Pattern {
+        Pattern {
+            first: self.first.wrapping_add(n.wrapping_mul(31)),
+            step: self.step,
+        }
+    }
+
+    /// The bytes of such a sector, behind what is there.
+    pub fn push_to(self, text: &mut Vec<u8>) -> Result<(), NoMemory> {
+        let mut bytes = [0; SECTOR_BYTES];
+        let mut byte = self.first;
+        for place in 0..SECTOR_BYTES {
+            bytes[place] = byte;
+            byte = byte.wrapping_add(self.step);
+        }
+        text.extend_from_slice(&bytes)?;
+        Ok(())
+    }
+}
+
+/// Sectors of a volume, which is named by a number.
+#[derive(Clone, Copy)]
+pub struct Range {
+    pub volume: u8,
+    pub lba: u8,
+    pub count: u8,
+}
+
+/// A request.
+#[derive(Clone, Copy)]
+pub enum Ask {
+    Create { volume: u8, sectors: u8 },
+    Write { range: Range, pattern: Pattern },
+    Fill { range: Range, byte: u8 },
+    Read { range: Range },
+    List,
+    /// A line that is no request.
+    Nonsense,
+}
+
+impl Ask {
+    /// Its text, behind what is there.
+    pub fn push_to(&self, alloc: Global, text: &mut Vec<u8>) -> Result<(), NoMemory> {
+        match *self {
+            Ask::Create { volume, sectors } => {
+                push(text, &format!(in alloc; "create v{volume} {sectors}\n")?)
+            }
+            Ask::Write { range, pattern } => push_write(alloc, text, range, pattern),
+            Ask::Fill { range, byte } => {
+                let Range { volume, lba, count } = range;
+                push(
+                    text,
+                    &format!(in alloc; "fill v{volume} {lba} {count} {byte}\n")?,
+                )
+            }
+            Ask::Read { range } => {
+                let Range { volume, lba, count } = range;
+                push(text, &format!(in alloc; "read v{volume} {lba} {count}\n")?)
+            }
+            Ask::List => push(text, "list\n"),
+            Ask::Nonsense => push(text, "list v1\n"),
+        }
+    }
+}
+
+fn push_write(
+    alloc: Global,
+    text: &mut Vec<u8>,
+    range: Range,
+    pattern: Pattern,
+) -> Result<(), NoMemory> {
+    let Range { volume, lba, count } = range;
+    push(text, &format!(in alloc; "write v{volume} {lba} {count}\n")?)?;
+    for n in 0..count {
+        pattern.nth(n).push_to(text)?;
+    }
+    Ok(())
+}
+
+/// No volume is asked for that is greater.
+const SECTORS: u8 = 100;
+
+/// The volumes that are named.
+const VOLUMES: u8 = 6;
+
+/// The most sectors of a request.
+const COUNT: u8 = 64;
+
+/// A volume that may be asked for, with its sectors.
+#[derive(Clone, Copy)]
+pub struct Known {
+    pub volume: u8,
+    pub sectors: u8,
+}
+
+/// Sectors of a volume, mostly within it.
+fn range_in(random: &mut Random, known: Known) -> Range {
+    let lba = random.byte_below(known.sectors);
+    let left = known.sectors.saturating_sub(lba).min(COUNT);
+    let count = if random.once_in(6) {
+        random.byte_below(COUNT)
+    } else {
+        random.byte_below(left.min(12))
+    };
+    Range {
+        volume: known.volume,
+        lba,
+        count: count.saturating_add(1),
+    }
+}
+
+/// A request by chance, of one of these volumes where there are some, and mostly one that isn't refused.
+pub fn any_ask(random: &mut Random, known: &[Known]) -> Ask {
+    let count = known.len() as u64;
+    let stranger = Known {
+        volume: random.byte_below(VOLUMES),
+        sectors: SECTORS,
+    };
+    let place = random.below(count) as usize;
+    let of = if random.once_in(12) {
+        stranger
+    } else {
+        *known.get(place).unwrap_or(&stranger)
+    };
+    let range = range_in(random, of);
+    match random.below(12 + count.min(4)) {
+        0..=4 => Ask::Write {
+            range,
+            pattern: Pattern {
+                first: random.any_byte(),
+                step: random.any_byte(),
+            },
+        },
+        5..=7 => Ask::Fill {
+            range,
+            byte: random.any_byte(),
+        },
+        8 => Ask::Read { range },
+        9 => if random.once_in(2) {
+            Ask::List
+        } else {
+            Ask::Nonsense
+        },
+        _ => Ask::Create {
+            volume: random.byte_below(VOLUMES),
+            sectors: random.byte_below(SECTORS + 1),
+        },
+    }
+}
