@@ -42,6 +42,9 @@ made-judged status.Done old new is none = none
 made-judged status.Sink old new is none = none
 made-judged _ old new is none = absurd is
 
+pub made-not-memory : (s : Status) → IsMadeEnd s → s ≡ status.Memory → ⊥
+made-not-memory s is e = subst IsMadeEnd e is
+
 -- one stream stays, and then stays again
 pub stays-on : {a b c : Streamed} → SameStream a b → SameStream b c → SameStream a c
 stays-on ab bc = record {

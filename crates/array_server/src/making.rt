@@ -1,5 +1,6 @@
 // A new array.
 ghost use Rattle.std.specs.Prelude.{◌≡◌, ◌↔◌, []};
+ghost use Rattle.pur_base.specs.declared.device.Device.{Device};
 ghost use Rattle.world.specs.Shelf.{Continues, OutputOnly};
 ghost use Rattle.world.specs.Streams.{SameStream};
 ghost use Rattle.session_spec.specs.Ends.{RisesIf, is_sink};
@@ -42,6 +43,8 @@ pub fn init<W: World>(alloc: Global, world: &mut W) -> Status
     ensures continues { Continues (W.shelf world.old) (W.shelf world.new) }
     // Where it halts, and only there, a call on a device failed.
     ensures counted { IsCountedEnd result (W.shelf world.old) (W.shelf world.new) }
+    // For want of memory no device is called.
+    ensures memory { result ≡ Status.Memory → (d : Device) → (W.shelf world.new).disk d ≡ (W.shelf world.old).disk d }
     // No record was in force where it's made, and where one is nothing is written.
     ensures judged { (W.shelf world.old).honest → IsJudgedEnd result (W.shelf world.old) (W.shelf world.new) }
     ensures made { (W.shelf world.old).honest → AreClean (W.shelf world.old) → IsMadeEnd result → IsMade (W.shelf world.new) }

@@ -3,7 +3,7 @@ use Rattle.world.proofs.Moments.{continues_trans}
 use Rattle.request_codec.proofs.CallLemmas.{both}
 use Rattle.session_spec.specs.Ends.{RisesIf, is_sink}
 use Rattle.array_server.specs.Made.{IsCountedEnd, IsInitStatus, IsMadeOutput}
-use Rattle.array_server.proofs.MadeLemmas.{made-is-init, made-counts, made-judged, made-on, none-failed-on, makes, stays-on, blank-shows-none, gives-shows}
+use Rattle.array_server.proofs.MadeLemmas.{made-is-init, made-counts, made-judged, made-not-memory, made-on, none-failed-on, makes, stays-on, blank-shows-none, gives-shows}
 use Rattle.array_server.proofs.making.init.Goals as goal
 
 pub returns-in-Ok-init : goal.returns-in-Ok-init
@@ -27,6 +27,7 @@ returns-in-Ok-init g c =
       honest_sink = both (sink.honest, sink.honest_before) said.honest_sink;
       continues = continues_trans c.in-Ok-init.ensures.continues said.output_only.continues;
       counted = counted;
+      memory = λ e. absurd (made-not-memory ended said.status e);
       judged = λ h. made-judged ended old new said.status (blank-shows-none old (c.in-Ok-init.ensures.not_blank h));
       made = λ h clean is. made-on mid new said.output_only (c.in-Ok-init.ensures.made h clean).enters;
       makes = λ h k. makes ended old new (g.W.Sink.sink c.args.world.now) given counts status counted
