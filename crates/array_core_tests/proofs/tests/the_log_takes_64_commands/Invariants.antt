@@ -4,4 +4,4 @@ use Rattle.array_core.specs.Ready.{IsArrayOf}
 use Rattle.array_core_tests.proofs.tests.the_log_takes_64_commands.Given as goal
 
 abbrev pub invariant-loop-byte : goal.invariant-loop-byte
-invariant-loop-byte l = IsArrayOf (geometry_of (shelved l.shelf)) l.array
+invariant-loop-byte g l = IsArrayOf (geometry_of (shelved l.shelf)) l.array
