@@ -1,10 +1,6 @@
-//! Tests of sessions over a world in memory: what devices hold then, sessions that are stopped at each call, devices that fail and are pulled.
+//! Tests of sessions over a world in memory that are stopped at each call, and of what the next one reads.
 #![tactic(auto)]
 
-#[cfg(test)]
-mod failing;
-#[cfg(test)]
-mod holding;
 #[cfg(test)]
 mod stage;
 #[cfg(test)]

@@ -3,25 +3,10 @@ use array_server::{init, serve};
 use pur_base::{Device, DriveId, NvId, SECTOR_BYTES, Status};
 use std::alloc::Global;
 use std::test::Fail;
-use world::{Failed, Shelf, write_synced};
-use world_mem::{Call, Choice, Fused, MemWorld, What};
+use world::{Shelf, write_synced};
+use world_mem::{Call, Fused, MemWorld, What};
 
 pub const DRIVES: u8 = 11;
-
-/// The first sectors of the bodies of slot A and slot B.
-pub const BODY_A: u16 = 128;
-
-pub const BODY_B: u16 = 256;
-
-/// Each dirty byte is this one.
-#[derive(Drop)]
-struct Each(u8);
-
-impl Choice for Each {
-    fn byte(&mut self) -> u8 {
-        self.0
-    }
-}
 
 /// Blank devices.
 pub fn blank_world(alloc: Global) -> Result<MemWorld, Fail> {
@@ -37,23 +22,6 @@ pub fn new_world(alloc: Global) -> Result<MemWorld, Fail> {
     }
     world.forget();
     Ok(world)
-}
-
-/// Makes the array anew on devices of boot records that are closed before.
-pub fn renew(alloc: Global, world: &mut MemWorld) -> Result<(), Fail> {
-    for drive in 0..DRIVES {
-        if drive >= world.drives() || world.units() < 64 {
-            return Err(Fail::new("drives"));
-        }
-        let device = Device::Drive(DriveId(drive));
-        write_synced(world, device, 0, &[0; 2 * SECTOR_BYTES])?;
-    }
-    match init(alloc, world) {
-        Status::Done => {}
-        _ => return Err(Fail::new("init")),
-    }
-    world.forget();
-    Ok(())
 }
 
 /// What was given behind so many bytes.
@@ -99,11 +67,6 @@ pub fn cut_off(alloc: Global, mut world: MemWorld, input: &[u8], calls: u64) -> 
         given,
         is_cut,
     })
-}
-
-/// What a stop leaves of a world, where each byte that isn't synced is this one then.
-pub fn stopped(alloc: Global, world: &MemWorld, byte: u8) -> Result<MemWorld, Fail> {
-    Ok(world.stopped(alloc, &mut Each(byte))?)
 }
 
 /// The range of the last call, where that is a write, which isn't synced then.
@@ -160,24 +123,6 @@ pub fn tear(alloc: Global, world: &mut MemWorld, byte: u8) -> Result<(), Fail> {
     }
 }
 
-/// How many calls on devices there were.
-pub fn device_calls(world: &MemWorld) -> u64 {
-    let mut count = 0u64;
-    for call in world.calls() {
-        if let Call::On(_, _) = call {
-            count = count.wrapping_add(1);
-        }
-    }
-    count
-}
-
-/// How many calls on devices a session makes that has no input.
-pub fn opening_calls(alloc: Global, world: &mut MemWorld) -> Result<u64, Fail> {
-    world.forget();
-    session(alloc, world, b"")?;
-    Ok(device_calls(world))
-}
-
 /// Makes a volume `a` of 64 sectors, and so many fills: the first fills its first sector with the byte 1, the next the next one with 2, and so on.
 pub fn filling(alloc: Global, count: u8) -> Result<Vec<u8>, Fail> {
     let mut input = Vec::from_slice(alloc, b"create a 64\n")?;
@@ -203,87 +148,4 @@ pub fn reads_fills(alloc: Global, world: &mut MemWorld, count: u8) -> Result<boo
     let (status, given) = session(alloc, world, b"read a 0 64\n")?;
     let wanted = filled(alloc, count)?;
     Ok(status == Status::Done && given.as_slice() == wanted.as_slice())
-}
-
-pub fn pull_drive(world: &mut MemWorld, drive: u8) -> Result<(), Fail> {
-    if drive >= world.drives() {
-        return Err(Fail::new("no such drive"));
-    }
-    world.pull(Device::Drive(DriveId(drive)));
-    Ok(())
-}
-
-pub fn pull_nvram(world: &mut MemWorld, device: u8) -> Result<(), Fail> {
-    if device >= 2 {
-        return Err(Fail::new("no such device"));
-    }
-    world.pull(Device::Nv(NvId(device)));
-    Ok(())
-}
-
-pub fn put_back_nvram(world: &mut MemWorld, device: u8) -> Result<(), Fail> {
-    if device >= 2 {
-        return Err(Fail::new("no such device"));
-    }
-    world.put_back(Device::Nv(NvId(device)));
-    Ok(())
-}
-
-/// The nth next call on a drive fails.
-pub fn fail_drive(world: &mut MemWorld, drive: u8, nth: u64) -> Result<(), Fail> {
-    if drive >= world.drives() || nth == 0 {
-        return Err(Fail::new("no such call"));
-    }
-    world.fail(Device::Drive(DriveId(drive)), nth)?;
-    Ok(())
-}
-
-/// The nth next call on an NVRAM device fails.
-pub fn fail_nvram(world: &mut MemWorld, device: u8, nth: u64) -> Result<(), Fail> {
-    if device >= 2 || nth == 0 {
-        return Err(Fail::new("no such call"));
-    }
-    world.fail(Device::Nv(NvId(device)), nth)?;
-    Ok(())
-}
-
-pub fn read_sector<S: Shelf>(
-    shelf: &mut S,
-    drive: u8,
-    sector: u16,
-) -> Result<[u8; SECTOR_BYTES], Failed> {
-    let mut bytes = [0; SECTOR_BYTES];
-    if drive >= shelf.drives() || shelf.units() < 64 || sector >= 384 {
-        return Err(Failed);
-    }
-    shelf.read(
-        Device::Drive(DriveId(drive)),
-        u64::from(sector) * SECTOR_BYTES as u64,
-        &mut bytes,
-    )?;
-    Ok(bytes)
-}
-
-/// The gate of a slot of the log.
-pub fn log_gate<S: Shelf>(shelf: &mut S, device: u8, slot: u8) -> Result<u8, Failed> {
-    let mut gate = [0; 1];
-    if device >= 2 {
-        return Err(Failed);
-    }
-    shelf.read(Device::Nv(NvId(device)), u64::from(slot), &mut gate)?;
-    Ok(gate[0])
-}
-
-/// The first sector of a record of a shelf of 11 drives of 64 units with nothing flushed. Made by hand from docs/FORMAT.md.
-pub fn record_sector(generation: u8, drives: [u8; 2], nvrams: u8) -> [u8; SECTOR_BYTES] {
-    let header: [u8; 88] = [
-        b'P', b'U', b'R', b'A', b'R', b'R', b'A', b'Y', 0, 0, 0, 1, 0, 11, 0, 64, // 11 slots, 64 units
-        0, 0, 0, 0, 0, 0, 0, generation, 0, 0, drives[0], drives[1], nvrams, 0, 0, 0, // and its members
-        0, 0, 0, 0, 0, 0, 0, 1, 0, 0, 0, 0, 0, 0, 0, 1, 0, 0, 0, 0, 0, 0, 0, 1, // the next numbers
-        0, 0, 0, 0, 0, 0, 0, 1, 0, 0, 0, 0, 0, 0, 0, 1, //
-        0, 0, 0, 0, 0, 0, 0, 0, 0, 0, 0, 0, 0, 0, 0, 88, // no patches
-    ];
-    let mut sector = [0; SECTOR_BYTES];
-    sector[..88].copy_from_slice(&header);
-    sector
 }
