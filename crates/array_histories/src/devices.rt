@@ -1,7 +1,8 @@
 // What happens to the devices.
-ghost use Rattle.std.specs.Prelude.{◌<◌, IsTrue, length};
-ghost use Rattle.world.specs.Shelf.{Has, IsOf};
+ghost use Rattle.std.specs.Prelude.{◌≡◌, ◌<◌, IsTrue};
+ghost use Rattle.world.specs.Shelf.{Has, IsAligned, IsOf, size_of};
 ghost use Rattle.world_mem.specs.Past.{shelved};
+
 use crate::random::Random;
 use pur_base::{
     Device, DriveId, NVRAM_BYTES, NVRAM_DEVICES, NoMemory, NvId, SECTOR_BYTES, UNIT_BYTES,
@@ -57,10 +58,22 @@ fn is_there(world: &MemWorld, device: Device) -> bool
 }
 
 /// The bytes of a device.
-fn size_of(world: &MemWorld, device: Device) -> u64 {
+fn bytes_of(world: &MemWorld, device: Device) -> u64
+    ensures { result ≡ size_of (shelved world.now) device }
+{
     match device {
         Device::Drive(_) => UNIT_BYTES as u64 * world.units() as u64,
         Device::Nv(_) => NVRAM_BYTES as u64,
+    }
+}
+
+/// Whether the device is read and written there by so many bytes.
+fn is_aligned(device: Device, at: u64, count: u64) -> bool
+    ensures { IsTrue result → IsAligned device at count }
+{
+    match device {
+        Device::Drive(_) => at % SECTOR_BYTES as u64 == 0 && count % SECTOR_BYTES as u64 == 0,
+        Device::Nv(_) => true,
     }
 }
 
@@ -68,13 +81,27 @@ fn size_of(world: &MemWorld, device: Device) -> u64 {
 fn has(world: &MemWorld, device: Device, at: u64, count: usize) -> bool
     ensures { IsTrue result → Has (shelved world.now) device at count }
 {
-    let count = count as u64;
-    let size = size_of(world, device);
-    let is_aligned = match device {
-        Device::Drive(_) => at % SECTOR_BYTES as u64 == 0 && count % SECTOR_BYTES as u64 == 0,
-        Device::Nv(_) => true,
-    };
-    is_there(world, device) && is_aligned && at <= size && count <= size - at
+    let size = bytes_of(world, device);
+    if !is_there(world, device) || at > size || count as u64 > size - at {
+        return false;
+    }
+    is_aligned(device, at, count as u64)
+}
+
+/// Reads, where the device has that range. False where it fails.
+fn read(world: &mut MemWorld, device: Device, at: u64, into: &mut [u8]) -> bool {
+    if has(world, device, at, into.len()) {
+        world.read(device, at, into).is_ok()
+    } else {
+        false
+    }
+}
+
+/// Writes, where the device has that range. A device that fails is missing.
+fn write(world: &mut MemWorld, device: Device, at: u64, from: &[u8]) {
+    if has(world, device, at, from.len()) {
+        let _ = world.write(device, at, from);
+    }
 }
 
 /// Pulls a device.
@@ -165,13 +192,10 @@ impl Written {
 
 /// Zeros from there on, as many as a piece has or there is room for.
 fn write_zeros(world: &mut MemWorld, device: Device, at: u64) {
-    let count = size_of(world, device)
+    let count = bytes_of(world, device)
         .saturating_sub(at)
         .min(UNIT_BYTES as u64) as usize;
-    let zeros = &ZEROS[..count];
-    if has(world, device, at, zeros.len()) {
-        let _ = world.write(device, at, zeros);
-    }
+    write(world, device, at, &ZEROS[..count]);
 }
 
 /// A write that no sync has followed.
@@ -257,17 +281,13 @@ fn tear_write(
     alloc: Global,
     world: &mut MemWorld,
     random: &mut Random,
-    write: &Unsynced,
+    unsynced: &Unsynced,
 ) -> Result<(), NoMemory> {
-    if !has(world, write.device, write.at, write.was.len()) {
-        return Ok(());
+    let mut bytes = vec![in alloc; 0; unsynced.was.len()]?;
+    if read(world, unsynced.device, unsynced.at, &mut bytes) {
+        tear_bytes(random, &mut bytes, &unsynced.was);
+        write(world, unsynced.device, unsynced.at, &bytes);
     }
-    let mut bytes = vec![in alloc; 0; write.was.len()]?;
-    if world.read(write.device, write.at, &mut bytes).is_err() {
-        return Ok(());
-    }
-    tear_bytes(random, &mut bytes, &write.was);
-    let _ = world.write(write.device, write.at, &bytes);
     Ok(())
 }
 

@@ -131,22 +131,23 @@ fn follow(
     asks: &[Ask],
     output: &[u8],
 ) -> Result<Option<usize>, NoMemory> {
-    let mut rest = output;
+    let mut at = 0;
     let mut reply = Vec::new(alloc);
     for place in 0..asks.len() {
         reply.clear();
         array.push_reply(alloc, &asks[place], &mut reply)?;
-        match rest.strip_prefix(reply.as_slice()) {
-            Some(behind) => rest = behind,
-            None => return Ok(if reply.starts_with(rest) {
+        let rest = output.get(at..).unwrap_or(&[]);
+        if !rest.starts_with(&reply) {
+            return Ok(if reply.starts_with(rest) {
                 Some(place)
             } else {
                 None
-            }),
+            });
         }
+        at = at.saturating_add(reply.len());
         array.apply(alloc, &asks[place])?;
     }
-    Ok(if rest.is_empty() {
+    Ok(if at == output.len() {
         Some(asks.len())
     } else {
         None
@@ -260,49 +261,67 @@ impl History {
             fail(&mut world, self.weak.devices[0], self.random.below(12))?;
             told.failures = told.failures.saturating_add(1);
         }
-        let left = init_for(self.alloc, world, calls);
-        self.written.note(left.world.calls());
-        if left.status == Status::Done && !left.stopped {
-            return Ok(left.world);
+        let Left {
+            world,
+            status,
+            stopped,
+        } = init_for(self.alloc, world, calls);
+        self.written.note(world.calls());
+        if status == Status::Done && !stopped {
+            return Ok(world);
         }
-        if left.status != Status::Halted && left.status != Status::Sink {
+        if status != Status::Halted && status != Status::Sink {
             return Err(Trouble::Lost);
         }
-        let mut world = self.stop(left.world, left.stopped, told)?;
+        let mut world = self.stop(world, stopped, told)?;
         let_fail(&mut world, self.weak.devices[0]);
         self.make_again(world)
     }
 
     /// Makes the array on devices that give none, or the one of nothing.
     fn make_again(&mut self, world: MemWorld) -> Result<MemWorld, Trouble> {
-        let left = init_for(self.alloc, world, u64::MAX);
-        self.written.note(left.world.calls());
-        match left.status {
-            Status::Done => return Ok(left.world),
-            Status::NotBlank => {}
-            _ => return Err(Trouble::Lost),
+        let Left { world, status, .. } = init_for(self.alloc, world, u64::MAX);
+        self.written.note(world.calls());
+        match status {
+            Status::Done => Ok(world),
+            Status::NotBlank => self.make_anew(world),
+            _ => Err(Trouble::Lost),
         }
-        let mut world = left.world;
+    }
+
+    /// Makes the array in place of one of nothing.
+    fn make_anew(&mut self, world: MemWorld) -> Result<MemWorld, Trouble> {
+        let mut world = self.look_at_nothing(world)?;
+        self.written.blank_all(&mut world);
+        let Left { world, status, .. } = init_for(self.alloc, world, u64::MAX);
+        self.written.note(world.calls());
+        if status == Status::Done {
+            Ok(world)
+        } else {
+            Err(Trouble::Lost)
+        }
+    }
+
+    /// A session on devices that stand for the array of nothing, or that too few of them do.
+    fn look_at_nothing(&mut self, world: MemWorld) -> Result<MemWorld, Trouble> {
+        let mut world = world;
         let before = world.output().len();
         world.feed(b"list\n")?;
-        let left = serve_for(self.alloc, world, u64::MAX);
-        self.written.note(left.world.calls());
-        let mut world = left.world;
+        let Left {
+            mut world,
+            status,
+            ..
+        } = serve_for(self.alloc, world, u64::MAX);
+        self.written.note(world.calls());
         take_rest(&mut world);
         let given = world.output().get(before..).unwrap_or(&[]);
-        let is_right = match left.status {
+        let is_right = match status {
             Status::Done => given == b"names 0\n".as_slice(),
             Status::Halted => given.is_empty(),
             _ => false,
         };
-        if !is_right {
-            return Err(Trouble::Lost);
-        }
-        self.written.blank_all(&mut world);
-        let left = init_for(self.alloc, world, u64::MAX);
-        self.written.note(left.world.calls());
-        if left.status == Status::Done {
-            Ok(left.world)
+        if is_right {
+            Ok(world)
         } else {
             Err(Trouble::Lost)
         }
@@ -368,15 +387,19 @@ impl History {
         world.feed(&input)?;
         world.forget();
         let before = world.output().len();
-        let left = serve_for(self.alloc, world, calls);
-        let given = left.world.output().get(before..).unwrap_or(&[]);
-        if !left.stopped && left.status != Status::Done {
+        let Left {
+            world,
+            status,
+            stopped,
+        } = serve_for(self.alloc, world, calls);
+        if !stopped && status != Status::Done {
             return Err(Trouble::Lost);
         }
-        let taken = has_taken(&left.world);
-        let count = self.judge(asks, given, left.stopped, taken)?;
+        let taken = has_taken(&world);
+        let given = world.output().get(before..).unwrap_or(&[]);
+        let count = self.judge(asks, given, stopped, taken)?;
         told.acknowledged = told.acknowledged.saturating_add(count as u64);
-        Ok(self.stop(left.world, left.stopped, told)?)
+        Ok(self.stop(world, stopped, told)?)
     }
 
     /// Keeps the arrays that answer what was given, as they go on: by what was answered, and after a stop perhaps by one request more.

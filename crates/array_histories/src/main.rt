@@ -55,6 +55,15 @@ fn blank_world(alloc: Global) -> Result<MemWorld, NoMemory> {
     MemWorld::new(alloc, DRIVES, UNITS, Vec::new(alloc))
 }
 
+/// The world, or a new one where it served enough: a world keeps its input and its output.
+fn renewed(alloc: Global, world: MemWorld, number: u64) -> Result<MemWorld, NoMemory> {
+    if number % RENEWED == RENEWED - 1 {
+        blank_world(alloc)
+    } else {
+        Ok(world)
+    }
+}
+
 /// Lets the histories happen.
 fn try_all(alloc: Global, plan: Plan, told: &mut Told) -> Result<(), Broken> {
     let no_memory = Broken {
@@ -62,14 +71,15 @@ fn try_all(alloc: Global, plan: Plan, told: &mut Told) -> Result<(), Broken> {
         number: 0,
         session: 0,
     };
-    let mut world = blank_world(alloc).map_err(|_| no_memory)?;
+    let Ok(mut world) = blank_world(alloc) else {
+        return Err(no_memory);
+    };
     for number in 0..plan.count {
-        // A world keeps its input and its output.
-        if number % RENEWED == RENEWED - 1 {
-            world = blank_world(alloc).map_err(|_| no_memory)?;
-        }
+        let Ok(ready) = renewed(alloc, world, number) else {
+            return Err(no_memory);
+        };
         let mut history = History::new(alloc, plan.seed, number);
-        match history.run(world, told) {
+        match history.run(ready, told) {
             Ok(blank) => world = blank,
             Err(why) => {
                 return Err(Broken {
