@@ -23,7 +23,7 @@ use Rattle.array_spec.proofs.Moves.{SameUnit, Keeps, same_units_keep, tables_kep
 use Rattle.array_spec.proofs.Quiet.{bytes_same}
 use Rattle.array_spec.proofs.Used.{patches_are_used, data_is_used, used_is_data}
 use Rattle.stored_spec.specs.Held.{AreSomeOf, AreEnough, TablesHold}
-use Rattle.stored_spec.specs.Laws.{NextHolds, FreeWritesKeep}
+use Rattle.stored_spec.specs.Laws.{NextHolds, ShowedBefore, FreeWritesKeep}
 
 -- ---- what the drives of a view showed before
 
@@ -73,11 +73,7 @@ moved shelf v w boot patches base same (tables, stands) =
 
 -- ---- from the drives of one record to those of another
 
--- a drive that shows the one record now showed the other then
-ShowedBefore : Image → Image → BootSlot → BootSlot → BootRecord → BootRecord → Type 0
-ShowedBefore old new slot slot2 boot next = (i : ℕ) → names next (drive i) ≡ true → body_in slot2 (new (drive i)) ≡ spelling next → (names boot (drive i) ≡ true) × (body_in slot (old (drive i)) ≡ spelling boot)
-
-module _ (shelf : Geometry) (old new : Image) (slot slot2 : BootSlot) (boot next : BootRecord) (showed : ShowedBefore old new slot slot2 boot next) (members : View) (some : AreSomeOf slot2 next new members) where
+module _ (shelf : Geometry) (old new : Image) (slot slot2 : BootSlot) (boot next : BootRecord) (showed : ShowedBefore slot boot old slot2 next new) (members : View) (some : AreSomeOf slot2 next new members) where
   before : View
   before = then_shown old members
 
@@ -89,7 +85,7 @@ module _ (shelf : Geometry) (old new : Image) (slot slot2 : BootSlot) (boot next
   ]
 
   some_before : AreSomeOf slot boot old before
-  unfolding before then_shown in_its_place ShowedBefore
+  unfolding before then_shown in_its_place
   some_before i = elim (some i) [
     | inl none ↦ inl (rw none refl)
     | inr is ↦ let of = showed i is.0 is.1 in inr (of.0, of.1, rw is.2 refl)
@@ -112,10 +108,9 @@ module _ (shelf : Geometry) (old new : Image) (slot slot2 : BootSlot) (boot next
 -- ---- a record after another
 
 pub next_holds : NextHolds
-unfolding ShowedBefore
-next_holds shelf old new slot slot2 boot next patches base lawful same fewer only tables = record {
+next_holds shelf old new slot slot2 boot next patches base lawful same showed only tables = record {
   each = λ members some enough.
-      let m = held_now shelf old new slot slot2 boot next (λ i named body. fewer i named) members some patches base (λ i. sym (only.size i)) tables enough
+      let m = held_now shelf old new slot slot2 boot next showed members some patches base (λ i. sym (only.size i)) tables enough
       (λ sound p used at e. elim (only.drive p.slot at) [
         | inl is ↦ sym is
         | inr low ↦
@@ -148,7 +143,6 @@ same_bodies old new A i long same = bytes_same (old (drive i)) (new (drive i)) 6
 same_bodies old new B i long same = bytes_same (old (drive i)) (new (drive i)) 131072 65536 long (λ at low high. same at (omega (arith, low, high)))
 
 pub free_writes_keep : FreeWritesKeep
-unfolding ShowedBefore
 free_writes_keep shelf old new slot boot patches base lawful only tables = record {
   each = λ members some enough. held_now shelf old new slot slot boot boot
       (λ i named body. (named, same_bodies old new slot i (sym (only.size i)) (λ at low. elim (only.drive i at) [
