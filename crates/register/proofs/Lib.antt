@@ -9,3 +9,4 @@ pub mod Rounds
 pub mod Stores
 pub mod Turns
 pub mod Splice
+pub mod Unflushed
