@@ -1,7 +1,7 @@
 -- While gates are opened over the next record: the devices stand for the arrays by it and by the record in force, also where members are back that were missing.
 use Rattle.std.proofs.Common.{◌≡◌, ◌⊎◌, inl, inr, ℕ, zero, suc, ◌+◌, ◌*◌, ◌-◌, ◌^◌, ◌≤◌, ◌<◌, List, [], ◌∷◌, length, map, take, refl, sym, ◌∙◌, ap, subst, arith, Bool, true, false}
 use Rattle.std.specs.Prelude.{Option, Some, None, Contains, slice_get, slice_index, slice_index_or, option_and_then, count_by, if◌then◌else◌}
-use Rattle.std.specs.List.{AllZip, range_with_len}
+use Rattle.std.specs.List.{range_with_len}
 use Rattle.std.specs.Str.{bytes_eq}
 use Rattle.std.specs.Cmp.Lexicographic.{same_text}
 use Rattle.std.proofs.lemmas.Bool.{cases_Bool, cases_lt}
@@ -14,17 +14,13 @@ use Rattle.pur_base.specs.declared.limits.TheConstants.{SLOTS_MIN}
 use Rattle.pur_base.specs.Devices.{Geometry, Image, View, Condition, Conditions, Sound, Missing, LeftOut, MayBecome, MayShowAs, IsOn, is_sound, is_missing, without_missing, drive, nvram}
 use Rattle.pur_base.specs.Plain.{Array}
 use Rattle.pur_base.specs.Commands.{Command, after_all}
-use Rattle.pur_base.specs.Visible.{objects, segment}
-use Rattle.pur_base.specs.declared.facts.SegmentFact.{SegmentFact}
 use Rattle.boot_codec.specs.declared.record.BootRecord.{BootRecord}
 use Rattle.boot_codec.specs.Record.{IsBootRecord}
 use Rattle.boot_codec.specs.Spelling.{spelling}
 use Rattle.boot_codec.specs.Region.{BootSlot, Effective, IsRecordOf, IsDecided, body_in, shown_by, votes, is_vote, generation_in, names, of_members, Yields}
 use Rattle.log_codec.specs.Log.{ShowsIn, Shows as ShowsOn, IsInSlot, LogFrom}
-use Rattle.array_spec.specs.Meaning.{HoldsBase, IsInForce, AllHold}
+use Rattle.array_spec.specs.Meaning.{IsInForce, AllHold}
 use Rattle.array_spec.specs.Standing.{Stands, MayBeGiven, MayAppear, IsViewOf, IsReadInto, IsReadBy, LeadsInto}
-use Rattle.array_spec.specs.Stored.{PatchStands, all_facts}
-use Rattle.array_spec.specs.Base.{EntryStands}
 use Rattle.array_spec.specs.Unflushed.{LogLies}
 use Rattle.array_spec.proofs.Settling.{this_or_other, twice_other}
 use Rattle.array_spec.proofs.Spelled.{spells_one}

@@ -1,8 +1,8 @@
 -- The record of an array whose tables hold nothing names no patch.
-use Rattle.std.proofs.Common.{◌≡◌, ℕ, List, [], ◌∷◌, refl, subst, arith, Bool, true, false}
+use Rattle.std.proofs.Common.{◌≡◌, List, [], ◌∷◌, refl, subst, arith, Bool, true, false}
 use Rattle.std.specs.Prelude.{Some, if◌then◌else◌}
 use Rattle.std.specs.List.{AllZip}
-use Rattle.pur_base.specs.Devices.{View, Conditions, Sound, LeftOut, drive}
+use Rattle.pur_base.specs.Devices.{View, Sound, LeftOut, drive}
 use Rattle.boot_codec.specs.Region.{BootSlot, names, of_members}
 use Rattle.array_spec.specs.Standing.{MayBeGiven, IsViewOf}
 use Rattle.array_spec.specs.Stored.{PatchStands}

@@ -13,8 +13,7 @@ use Rattle.pur_base.specs.declared.place.Place.{Place}
 use Rattle.boot_codec.specs.declared.patch.Patch.{Patch}
 use Rattle.boot_codec.specs.declared.record.BootRecord.{BootRecord}
 use Rattle.boot_codec.specs.Spelling.{spelling}
-use Rattle.boot_codec.specs.Region.{BootSlot, A, B, body_in, names}
-use Rattle.segment_codec.specs.Stripes.{write_unit}
+use Rattle.boot_codec.specs.Region.{BootSlot, A, B, body_in}
 use Rattle.array_spec.specs.Base.{BaseStands}
 use Rattle.array_spec.specs.Counts.{is_used}
 use Rattle.array_spec.specs.Sound.{AreSound, AreSegmentsSound}
@@ -63,11 +62,10 @@ moved : (shelf : Geometry) (v w : View) (boot : BootRecord) (patches : List (Lis
     → ((p : Place) → is_used boot (all_facts patches) p.slot p.unit ≡ true → SameUnit v w p)
     → TablesStand shelf v boot patches × BaseStands v (all_facts patches) boot.next.object base
     → TablesStand shelf w boot patches × BaseStands w (all_facts patches) boot.next.object base
-moved shelf v w boot patches base same (tables, stands) =
-    (
-      tables_kept v w shelf boot patches tables (patches_keep v w boot.patches (patches_are_used boot (all_facts patches) (SameUnit v w) same)) stay,
-      base_moves v w (all_facts patches) stay (objects (all_facts patches) boot.next.object) base stands,
-    )
+moved shelf v w boot patches base same (tables, stands) = (
+  tables_kept v w shelf boot patches tables (patches_keep v w boot.patches (patches_are_used boot (all_facts patches) (SameUnit v w) same)) stay,
+  base_moves v w (all_facts patches) stay (objects (all_facts patches) boot.next.object) base stands,
+)
   where
     stay : (id : ℕ) (d : SegmentFact) → segment (all_facts patches) id ≡ Some d → Keeps v w d.places
     stay id d is = same_units_keep v w d.places (data_is_used boot (all_facts patches) (SameUnit v w) tables.sound.ids.segments same id d is)
@@ -146,10 +144,13 @@ same_bodies old new B i long same = bytes_same (old (drive i)) (new (drive i)) 1
 pub free_writes_keep : FreeWritesKeep
 free_writes_keep shelf old new slot boot patches base lawful only tables = record {
   each = λ members some enough. held_now shelf old new slot slot boot boot
-      (λ i named body. (named, same_bodies old new slot i (sym (only.size i)) (λ at low. elim (only.drive i at) [
-        | inl is ↦ sym is
-        | inr free ↦ let three : 3 ≤ at / 65536 = free.data_unit in absurd (omega (arith, low, three))
-      ]) ∙ body)) members some patches base (λ i. sym (only.size i)) tables enough
+      (λ i named body. (
+        named,
+        same_bodies old new slot i (sym (only.size i)) (λ at low. elim (only.drive i at) [
+          | inl is ↦ sym is
+          | inr free ↦ let three : 3 ≤ at / 65536 = free.data_unit in absurd (omega (arith, low, three))
+        ]) ∙ body,
+      )) members some patches base (λ i. sym (only.size i)) tables enough
       (λ sound p used at e. elim (only.drive p.slot at) [
         | inl is ↦ sym is
         | inr free ↦ absurd (cc (used, subst (λ (u : ℕ). is_used boot (all_facts patches) p.slot u ≡ false) e free.unused))
