@@ -10,3 +10,4 @@ pub mod Stores
 pub mod Turns
 pub mod Splice
 pub mod Unflushed
+pub mod Shows

@@ -25,11 +25,9 @@ use Rattle.boot_region.specs.Members.{IsMember, NonMembersStay, DroppedFailed, O
 use Rattle.boot_region.specs.Storing.{Shows, IsInStore, HeldStill, IsOlder, IsInForceOn, IsNewer, IsStoredIn, MayFollow, StandsBut}
 use Rattle.boot_region.proofs.ShownLemmas.{shown_body}
 use Rattle.nvram_log.specs.Members as nv
-use Rattle.nvram_log.specs.Held.{HoldsOn}
-use Rattle.nvram_log.specs.Slots.{IsLog}
 use Rattle.register.specs.declared.state.Register.{Register}
 use Rattle.register.specs.Registers.{IsRegisterOf, OnSlots, drives_of, own_slot, next_slot, next_record}
-use Rattle.register.specs.Standing.{Content, IsNextOf, GivesOldOrNext, IsInStoreOf, StillGiven, StandsInLog, MayStore, MayStoreAgain}
+use Rattle.register.specs.Standing.{Content, IsShown, ShowsOn, IsNextOf, GivesOldOrNext, IsInStoreOf, StillGiven, StandsInLog, MayStore, MayStoreAgain}
 use Rattle.register.proofs.Again.{both}
 use Rattle.register.proofs.FlagLemmas.{fewer_mask, in_cut, cut_in, none_past}
 use Rattle.register.proofs.Numbers.{generation_spelled, next_other, lower_yields}
@@ -178,8 +176,8 @@ module _ (old new : Shelved) (is_old : IsShelf old) (on : Continues old new) (wa
       tables = λ start may. subst (λ (b : BootRecord). TablesHold (geometry_of new) start.image (own_slot b) b held.patches held.base) (sym kept) (held_now start may);
       bodies = λ i m. subst (λ (b : BootRecord). body_in (own_slot b) (new.disk (drive i)).bytes ≡ spelling b) (sym kept)
           (subst (λ (t : BootSlot). body_in t (new.disk (drive i)).bytes ≡ spelling (next_record was.record was.drives nvrams)) (sym own_is) (body_stands i m));
-      holds = subst (λ (b : BootRecord). HoldsOn new nvrams b.flushed held.log) (sym kept) (record {
-        log = λ n lt m. subst (λ (d : Disk). IsLog d.bytes was.record.flushed held.log) (sym (nvram_same n)) (logged.holds.log n lt m);
+      holds = subst (λ (b : BootRecord). ShowsOn new nvrams b.flushed held.log) (sym kept) (record {
+        log = λ n lt m. subst (λ (d : Disk). IsShown d.bytes was.record.flushed held.log) (sym (nvram_same n)) (logged.holds.log n lt m);
         clean = λ n lt m. subst (λ (d : Disk). d.dirty ≡ []) (sym (nvram_same n)) (logged.holds.clean n lt m);
       });
       accepted = logged.accepted;
