@@ -11,3 +11,4 @@ pub mod Turns
 pub mod Splice
 pub mod Unflushed
 pub mod Shows
+pub mod Tabling

@@ -7,6 +7,8 @@ mod next;
 mod slots;
 mod state;
 mod storing;
+mod tables;
 
 pub use next::StoreFault;
 pub use state::Register;
+pub use tables::Tables;

@@ -184,10 +184,13 @@ pub free_writes_keep : FreeWritesKeep
 free_writes_keep shelf old new slot boot patches base lawful only tables = record {
   each = λ members some enough. held_now shelf old new members (shown_or_none slot boot new members some) boot patches base (λ i. sym (only.size i))
       (tables.each (before shelf old new members (shown_or_none slot boot new members some))
-      (some_of_other old new slot slot boot boot (λ i named body. (named, same_bodies old new slot i (sym (only.size i)) (λ at low. elim (only.drive i at) [
-        | inl is ↦ sym is
-        | inr free ↦ let three : 3 ≤ at / 65536 = free.data_unit in absurd (omega (arith, low, three))
-      ]) ∙ body)) shelf members some)
+      (some_of_other old new slot slot boot boot (λ i named body. (
+        named,
+        same_bodies old new slot i (sym (only.size i)) (λ at low. elim (only.drive i at) [
+          | inl is ↦ sym is
+          | inr free ↦ let three : 3 ≤ at / 65536 = free.data_unit in absurd (omega (arith, low, three))
+        ]) ∙ body,
+      )) shelf members some)
       (enough_before shelf old new members (shown_or_none slot boot new members some) enough))
       (λ sound p used at e. elim (only.drive p.slot at) [
         | inl is ↦ sym is
