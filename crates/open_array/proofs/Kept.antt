@@ -31,6 +31,7 @@ use Rattle.register.proofs.Resting.{in_force, stands, alone}
 use Rattle.open_array.specs.Free.{OnFree, WritesFree, AreSynced}
 use Rattle.open_array.specs.Laws.{FreeWritesKeep, FreeWritesLeave}
 use Rattle.open_array.proofs.Before.{at_before, before_stops, differs}
+use Rattle.open_array.proofs.Reopened.{same_shelf, still_open}
 use Rattle.open_array.proofs.Standing.{is_named, is_left, member_sound, member_clean}
 
 -- ---- boot units stay
@@ -46,32 +47,10 @@ gate_low B = omega arith
 not_free : (r : Register) (held : Content) (i at : ℕ) → at < 196608 → OnFree r held (drive i) at → ⊥
 not_free r held i at low w = let unit : 3 ≤ at / 65536 = w.1.data_unit in omega (arith, low, unit)
 
--- ---- the NVRAM devices that are named
-
-abbrev one_if : Bool → ℕ
-one_if x = cond x 1 0
-
-two_missing : (p : ℕ → Bool) → p 0 ≡ true → p 1 ≡ true → count_by p (range_with_len 0 2) ≤ 1 → ⊥
-two_missing p first second few =
-    let a : count_by p (range_with_len 0 2) ≡ cond (p 0) 1 0 + count_by p (range_with_len 1 1) = counted p 0 (range_with_len 1 1) in
-    let b : count_by p (range_with_len 1 1) ≡ cond (p 1) 1 0 + count_by p (range_with_len 2 0) = counted p 1 (range_with_len 2 0) in
-    let y : ◌≡◌ {A = ℕ} (cond (p 0) 1 0) 1 = ap (λ (x : Bool). one_if x) first in
-    let z : ◌≡◌ {A = ℕ} (cond (p 1) 1 0) 1 = ap (λ (x : Bool). one_if x) second in
-    omega (arith, a, b, y, z, few)
-
-is_missed : (boot : BootRecord) (d : Device) → names boot d ≡ false → is_missing (named_sound boot d) ≡ true
-is_missed boot d e = rw e refl
-
 module _ (old new : Shelved) (is : IsShelf old) (h : old.honest) (r now : Register) (nvrams : List Bool) (held : Content) (o : IsOpen old r nvrams held) (w : WritesFree r held old new)
     (kept : now.record ≡ r.record) (fewer : (i : ℕ) → IsMember now.drives i → IsMember r.drives i) where
-  same_shelf : geometry_of old ≡ geometry_of new
-  same_shelf =
-      let e : old.drives ≡ new.drives = sym w.continues.drives in
-      let f : old.units ≡ new.units = sym w.continues.units in
-      λ k. record { slots = e k; units = f k }
-
   its_record : IsRecordOf (geometry_of new) now.record
-  its_record = subst (λ (b : BootRecord). IsRecordOf (geometry_of new) b) (sym kept) (subst (λ (g : Geometry). IsRecordOf g r.record) same_shelf o.logged.is_of.lawful)
+  its_record = subst (λ (b : BootRecord). IsRecordOf (geometry_of new) b) (sym kept) (subst (λ (g : Geometry). IsRecordOf g r.record) (same_shelf w.continues) o.logged.is_of.lawful)
 
   its_register : IsRegisterOf (geometry_of new) now
   its_register = record {
@@ -87,7 +66,7 @@ module _ (old new : Shelved) (is : IsShelf old) (h : old.honest) (r now : Regist
 
   tables_then : (start : Stop) → MayStop new start → TablesHold (geometry_of new) start.image (own_slot now.record) now.record held.patches held.base
   tables_then start may = subst (λ (b : BootRecord). TablesHold (geometry_of new) start.image (own_slot b) b held.patches held.base) (sym kept)
-      (subst (λ (g : Geometry). TablesHold g start.image (own_slot r.record) r.record held.patches held.base) same_shelf
+      (subst (λ (g : Geometry). TablesHold g start.image (own_slot r.record) r.record held.patches held.base) (same_shelf w.continues)
       (free_writes_keep (geometry_of old) (at_before old (is.bytes h) r held start.image left).image start.image (own_slot r.record) r.record held.patches held.base o.logged.is_of.lawful
       (differs old (is.bytes h) r held start.image left (member_clean old is h r nvrams held o))
       (o.logged.tables (at_before old (is.bytes h) r held start.image left) (before_stops old (is.bytes h) r held start.image left))))
@@ -122,93 +101,24 @@ module _ (old new : Shelved) (is : IsShelf old) (h : old.honest) (r now : Regist
 
 -- ---- the open array
 
-module _ (old new : Shelved) (is : IsShelf old) (is_new : IsShelf new) (h : old.honest) (r : Register) (nvrams : List Bool) (held : Content) (o : IsOpen old r nvrams held) (w : WritesFree r held old new)
-    (clean : AreSynced new r) where
-  -- what a stop leaves that loses nothing
-  now_stop : Stop
-  now_stop = record { image = λ d. (old.disk d).bytes; faults = λ d. (old.disk d).faults; write_faults = λ d. (old.disk d).write_faults; output = old.output; taken = old.taken }
-
-  now_stops : MayStop old now_stop
-  unfolding now_stop
-  now_stops = record {
-    device = λ d. record { size = refl; is_byte = is.bytes h d; clean = λ i not. refl };
-    counts = record { faults = λ d. omega arith; write_faults = λ d. omega arith };
-    output = refl;
-    taken = refl;
-  }
-
-  not_spent : r.record.generation < 2 ^ 48 - 8
-  unfolding now_stop
-  not_spent =
-      let given = o.in_force.given now_stop now_stops in
-      let reads = (o.stands now_stop now_stops).reads (other_slot (next_slot r.record)) r.record given in
-      (reads.each (named_sound r.record) (λ d. Some (old.disk d).bytes) (record {
-        within = as_it_is (named_sound r.record);
-        bearable = o.bearable;
-        shown = λ d. shows_itself (named_sound r.record d) (old.disk d).bytes (is.bytes h d);
-      })).in_force.not_spent
-
-  nvram_named : (n : ℕ) → names r.record (nvram n) ≡ true → nv.IsMember nvrams n
-  nvram_named n e = subst (λ (l : List Bool). nv.IsMember l n) o.nvrams_are e
-
-  named_nvram : (n : ℕ) → nv.IsMember nvrams n → names r.record (nvram n) ≡ true
-  named_nvram n m = subst (λ (l : List Bool). nv.IsMember l n) (sym o.nvrams_are) m
-
-  some : nv.IsSome nvrams
-  some = elim (cases_Bool (names r.record (nvram 0))) [
-    | inl m ↦ inl (nvram_named 0 m)
-    | inr none ↦ elim (cases_Bool (names r.record (nvram 1))) [
-      | inl m ↦ inr (nvram_named 1 m)
-      | inr neither ↦ absurd (two_missing (λ i. is_missing (named_sound r.record (nvram i))) (is_missed r.record (nvram 0) none) (is_missed r.record (nvram 1) neither) o.bearable.nvrams)
-    ]
-  ]
-
-  in_only : (a : Array) → Contains (a ∷ []) a
-  in_only a = (0, omega arith, refl)
-
-  logged_now : StandsInLog new r nvrams held
+module _ (old new : Shelved) (is : IsShelf old) (h : old.honest) (r : Register) (nvrams : List Bool) (held : Content) (o : IsOpen old r nvrams held) (w : WritesFree r held old new) (clean : AreSynced new r) where
+  pub logged_now : StandsInLog new r nvrams held
   logged_now = logged old new is h r r nvrams held o w refl (λ i m. m)
 
-  shown_now : (i : ℕ) → IsMember (drives_of r) i → Shows new (own_slot r.record) (spelling r.record) i
+  pub shown_now : (i : ℕ) → IsMember (drives_of r) i → Shows new (own_slot r.record) (spelling r.record) i
   shown_now i m = record {
     clean = clean i m;
     shown = same_shown old new is h r r nvrams held o w refl (λ j x. x) (own_slot r.record) i
         ∙ subst (λ (t : BootSlot). shown_by t (old.disk (drive i)).bytes ≡ Some (spelling r.record)) (twice_other (own_slot r.record)) (o.in_force.shown i m (member_sound old is h r nvrams held o i m));
   }
 
-  older_now : (i : ℕ) → IsMember (drives_of r) i → IsOlder new (next_slot r.record) (spelling r.record) i
+  pub older_now : (i : ℕ) → IsMember (drives_of r) i → IsOlder new (next_slot r.record) (spelling r.record) i
   older_now i m = subst (λ (b : List ℕ). Yields (other_slot (next_slot r.record)) (generation_in b) (generation_in (spelling r.record)))
       (sym (same_body old new is h r r nvrams held o w refl (λ j x. x) (next_slot r.record) i)) (o.older i m (member_sound old is h r nvrams held o i m))
-
-  bearable_now : IsBearable (geometry_of new) (named_sound r.record)
-  bearable_now = subst (λ (g : Geometry). IsBearable g (named_sound r.record)) (same_shelf old new is h r r nvrams held o w refl (λ j x. x)) o.bearable
-
-  sound_now : (i : ℕ) → i < new.drives → named_sound r.record (drive i) ≡ Sound → IsMember (drives_of r) i
-  sound_now i lt s = o.in_force.sound i (subst (λ (n : ℕ). i < n) w.continues.drives lt) s
-
-  nv_sound : (n : ℕ) → n < 2 → named_sound r.record (nvram n) ≡ Sound → nv.IsMember nvrams n
-  nv_sound n lt e = nvram_named n (is_named (names r.record (nvram n)) e)
-
-  left : (n : ℕ) → named_sound r.record (nvram n) ≡ LeftOut → nv.IsMember nvrams n → ⊥
-  left n out m = absurd (cc (is_left (names r.record (nvram n)) out, named_nvram n m))
-
-  no_drive : (i : ℕ) → named_sound r.record (drive i) ≡ LeftOut → names r.record (drive i) ≡ false
-  no_drive i out = is_left (names r.record (drive i)) out
-
-  pub still_open : IsOpen new r nvrams held
-  still_open = record {
-    logged = logged_now;
-    drives = o.drives;
-    nvrams_are = o.nvrams_are;
-    bearable = bearable_now;
-    in_force = in_force new is_new r nvrams held (array_of held ∷ []) (in_only (array_of held)) logged_now o.nvrams_are not_spent some shown_now older_now (named_sound r.record) bearable_now sound_now nv_sound left no_drive;
-    older = λ i m s. older_now i m;
-    stands = stands new is_new r nvrams held (array_of held ∷ []) (in_only (array_of held)) logged_now o.nvrams_are not_spent some shown_now older_now (named_sound r.record) bearable_now sound_now nv_sound left no_drive;
-    alone = λ stop slot2 boot2 may g. alone new is_new r nvrams held (array_of held ∷ []) (in_only (array_of held)) logged_now o.nvrams_are not_spent some shown_now older_now (named_sound r.record) bearable_now sound_now nv_sound left no_drive stop may slot2 boot2 g;
-  }
 
 pub free_writes_leave : (old new : Shelved) → IsShelf old → FreeWritesLeave old new
 free_writes_leave old new is h was now nvrams held o w kept fewer = logged old new is h was now nvrams held o w kept fewer
 
 pub free_writes_keep_open : (old new : Shelved) → IsShelf old → IsShelf new → FreeWritesKeep old new
-free_writes_keep_open old new is is_new h r nvrams held o w clean = still_open old new is is_new h r nvrams held o w clean
+free_writes_keep_open old new is is_new h r nvrams held o w clean =
+    still_open old is h r nvrams held o new is_new w.continues held (logged_now old new is h r nvrams held o w clean) (shown_now old new is h r nvrams held o w clean) (older_now old new is h r nvrams held o w clean)

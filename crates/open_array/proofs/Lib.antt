@@ -1,3 +1,4 @@
 pub mod Before
 pub mod Standing
+pub mod Reopened
 pub mod Kept
