@@ -1,12 +1,17 @@
--- What writes in free units leave of an array that is open.
+-- What writes in free units, and writes of the log, leave of an array that is open.
 use Rattle.std.specs.Prelude.{◌≡◌, ℕ, Bool, List}
+use Rattle.pur_base.specs.Commands.{Command, AllAccepted}
+use Rattle.pur_base.specs.Plain.{Array}
 use Rattle.world.specs.Shelf.{Shelved, LeavesOnly}
 use Rattle.boot_region.specs.Members.{IsMember}
 use Rattle.register.specs.declared.state.Register.{Register}
 use Rattle.register.specs.Registers.{drives_of}
-use Rattle.register.specs.Standing.{Content, IsOpen, StandsInLog}
+use Rattle.register.specs.Standing.{Content, IsOpen, ShowsOn, StandsInLog}
 use Rattle.register.specs.Tables.{StandsAsBefore}
 use Rattle.open_array.specs.Free.{AreSynced, WritesFree}
+use Rattle.open_array.specs.Logging.{LeadTo, StandsWhateverFails, WritesLog}
+
+-- ---- free units
 
 -- At every moment the devices stand for the array, in all conditions that tell what has failed by then.
 abbrev pub FreeWritesStand : Shelved → Shelved → Type 0
@@ -24,3 +29,25 @@ FreeWritesLeave old new = old.honest → (was now : Register) (nvrams : List Boo
     → IsOpen old was nvrams held → WritesFree was held old new
     → now.record ≡ was.record → ((i : ℕ) → IsMember now.drives i → IsMember was.drives i)
     → StandsInLog new now nvrams held
+
+-- ---- the log
+
+-- At every moment the devices stand for the arrays to which the log may lead.
+abbrev pub LogWritesStand : Shelved → Shelved → Type 0
+LogWritesStand old new = old.honest → (r : Register) (nvrams : List Bool) (held : Content) (least most : List Command) (arrays : List Array)
+    → IsOpen old r nvrams held → LeadTo r held.base least most arrays → WritesLog r nvrams least most old new
+    → LeavesOnly old new (StandsWhateverFails old r arrays)
+
+-- Where all these devices show a log at last, it is that of the open array.
+abbrev pub LogWritesKeep : Shelved → Shelved → Type 0
+LogWritesKeep old new = old.honest → (r : Register) (nvrams : List Bool) (held : Content) (least most log : List Command)
+    → IsOpen old r nvrams held → WritesLog r nvrams least most old new
+    → ShowsOn new nvrams r.record.flushed log → AllAccepted held.base log
+    → IsOpen new r nvrams (record held { log = log })
+
+-- Where some of them do, the record's bytes stand with its tables and that log.
+abbrev pub LogWritesLeave : Shelved → Shelved → Type 0
+LogWritesLeave old new = old.honest → (r : Register) (was now : List Bool) (held : Content) (least most log : List Command)
+    → IsOpen old r was held → WritesLog r was least most old new
+    → ShowsOn new now r.record.flushed log → AllAccepted held.base log
+    → StandsInLog new r now (record held { log = log })
