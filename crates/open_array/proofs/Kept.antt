@@ -3,7 +3,7 @@ use Rattle.std.proofs.Common.{◌≡◌, ◌⊎◌, inl, inr, ℕ, ◌+◌, ◌-
 use Rattle.std.specs.Prelude.{Some, Contains, count_by, cond, slice_index}
 use Rattle.std.specs.List.{range_with_len}
 use Rattle.std.proofs.lemmas.Bool.{cases_Bool, cases_lt}
-use Rattle.pur_base.specs.Devices.{Geometry, Sound, LeftOut, IsBearable, is_missing, drive, nvram}
+use Rattle.pur_base.specs.Devices.{Geometry, Conditions, Sound, LeftOut, IsBearable, is_missing, drive, nvram}
 use Rattle.pur_base.specs.declared.device.Device.{Device}
 use Rattle.pur_base.specs.Plain.{Array}
 use Rattle.boot_codec.specs.declared.record.BootRecord.{BootRecord}
@@ -19,19 +19,21 @@ use Rattle.world.specs.Losing.{geometry_of}
 use Rattle.world.specs.Writes.{MayLeaveBut}
 use Rattle.world.proofs.Writes.{may_leave_but}
 use Rattle.boot_region.specs.Members.{IsMember}
+use Rattle.boot_region.proofs.ShownLemmas.{as_read}
 use Rattle.boot_region.specs.Storing.{Shows, IsOlder}
 use Rattle.boot_region.proofs.Composing.{as_it_is}
 use Rattle.nvram_log.specs.Members as nv
 use Rattle.register.specs.declared.state.Register.{Register}
 use Rattle.register.specs.Registers.{IsRegisterOf, drives_of, named_sound, next_slot, own_slot}
-use Rattle.register.specs.Standing.{Content, IsOpen, IsShown, ShowsOn, StandsInLog, array_of}
+use Rattle.register.proofs.Resting.{may_store}
+use Rattle.register.specs.Standing.{MayStore, Content, IsOpen, IsShown, ShowsOn, StandsInLog, array_of}
 use Rattle.register.proofs.FlagLemmas.{in_cut, cut_in, not_below}
 use Rattle.register.proofs.Follows.{shows_itself}
 use Rattle.register.proofs.Resting.{in_force, stands, alone}
-use Rattle.open_array.specs.Free.{OnFree, WritesFree, AreSynced}
-use Rattle.open_array.specs.Laws.{FreeWritesKeep, FreeWritesLeave}
+use Rattle.open_array.specs.Free.{OnFree, WritesFree, AreSynced, IsKnownOf}
+use Rattle.open_array.specs.Laws.{FreeWritesKeep, FreeWritesLeave, FreeWritesMayStore, PlansStand}
 use Rattle.open_array.proofs.Before.{at_before, before_stops, differs}
-use Rattle.open_array.proofs.Reopened.{same_shelf, still_open}
+use Rattle.open_array.proofs.Reopened.{not_spent, same_shelf, some, still_open}
 use Rattle.open_array.proofs.Standing.{is_named, is_left, member_sound, member_clean}
 
 -- ---- boot units stay
@@ -99,6 +101,32 @@ module _ (old new : Shelved) (is : IsShelf old) (h : old.honest) (r now : Regist
     accepted = o.logged.accepted;
   }
 
+-- ---- some drives were lost
+
+module _ (old new : Shelved) (is : IsShelf old) (is_new : IsShelf new) (h : old.honest) (r now : Register) (nvrams : List Bool) (held : Content) (known : Conditions)
+    (o : IsOpen old r nvrams held) (w : WritesFree r held old new) (clean : AreSynced new now) (kept : now.record ≡ r.record) (fewer : (i : ℕ) → IsMember now.drives i → IsMember r.drives i)
+    (is_known : IsKnownOf new now nvrams known) where
+  shown_left : (i : ℕ) → IsMember (drives_of now) i → Shows new (own_slot now.record) (spelling now.record) i
+  shown_left i m = record {
+    clean = clean i m;
+    shown = subst (λ (b : BootRecord). shown_by (own_slot b) (new.disk (drive i)).bytes ≡ Some (spelling b)) (sym kept)
+        (same_shown old new is h r now nvrams held o w kept fewer (own_slot r.record) i
+        ∙ subst (λ (t : BootSlot). shown_by t (old.disk (drive i)).bytes ≡ Some (spelling r.record)) (twice_other (own_slot r.record))
+        (o.in_force.shown i (among old new is h r now nvrams held o w kept fewer i m) (member_sound old is h r nvrams held o i (among old new is h r now nvrams held o w kept fewer i m))));
+  }
+
+  older_left : (i : ℕ) → IsMember (drives_of now) i → IsOlder new (next_slot now.record) (spelling now.record) i
+  older_left i m = subst (λ (b : BootRecord). IsOlder new (next_slot b) (spelling b) i) (sym kept)
+      (subst (λ (b : List ℕ). Yields (other_slot (next_slot r.record)) (generation_in b) (generation_in (spelling r.record)))
+      (sym (same_body old new is h r now nvrams held o w kept fewer (next_slot r.record) i))
+      (o.older i (among old new is h r now nvrams held o w kept fewer i m) (member_sound old is h r nvrams held o i (among old new is h r now nvrams held o w kept fewer i m))))
+
+  pub may_store_left : MayStore new now nvrams known held (array_of held ∷ [])
+  may_store_left = may_store new is_new now nvrams held (array_of held ∷ []) (0, omega arith, refl) (logged old new is h r now nvrams held o w kept fewer)
+      (subst (λ (b : BootRecord). b.members.nvrams ≡ nvrams) (sym kept) o.nvrams_are)
+      (subst (λ (b : BootRecord). b.generation < 2 ^ 48 - 8) (sym kept) (not_spent old is h r nvrams held o)) (some old is h r nvrams held o) shown_left older_left known
+      is_known.bearable is_known.drives is_known.logs is_known.no_log is_known.no_drive
+
 -- ---- the open array
 
 module _ (old new : Shelved) (is : IsShelf old) (h : old.honest) (r : Register) (nvrams : List Bool) (held : Content) (o : IsOpen old r nvrams held) (w : WritesFree r held old new) (clean : AreSynced new r) where
@@ -122,3 +150,19 @@ free_writes_leave old new is h was now nvrams held o w kept fewer = logged old n
 pub free_writes_keep_open : (old new : Shelved) → IsShelf old → IsShelf new → FreeWritesKeep old new
 free_writes_keep_open old new is is_new h r nvrams held o w clean =
     still_open old is h r nvrams held o new is_new w.continues held (logged_now old new is h r nvrams held o w clean) (shown_now old new is h r nvrams held o w clean) (older_now old new is h r nvrams held o w clean)
+
+pub free_writes_may_store : (old new : Shelved) → IsShelf old → IsShelf new → FreeWritesMayStore old new
+free_writes_may_store old new is is_new h was now nvrams held known o w clean kept fewer is_known = may_store_left old new is is_new h was now nvrams held known o w clean kept fewer is_known
+
+-- what a stop leaves of synced drives is what reads give
+pub plans_stand : (shelf : Shelved) → PlansStand shelf
+plans_stand shelf r tables held next clean logged flushed no_log result stand = record {
+  flushed = flushed;
+  log = no_log;
+  result = result;
+  stand = λ start may members some enough. stand members (λ i. elim (some i) [
+    | inl none ↦ inl none
+    | inr is ↦ inr (is.0, is.1 ∙ ap (λ (b : List ℕ). Some b) (as_read (shelf.disk (drive i)) (start.image (drive i)) (clean i is.0) (may.device (drive i))))
+  ]) enough;
+  logged = logged;
+}

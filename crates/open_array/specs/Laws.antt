@@ -1,14 +1,19 @@
 -- What writes in free units, and writes of the log, leave of an array that is open.
-use Rattle.std.specs.Prelude.{◌≡◌, ℕ, Bool, List}
+use Rattle.std.specs.Prelude.{◌≡◌, ℕ, ◌+◌, Bool, List, [], ◌∷◌, length}
 use Rattle.pur_base.specs.Commands.{Command, AllAccepted}
+use Rattle.pur_base.specs.Devices.{Conditions}
 use Rattle.pur_base.specs.Plain.{Array}
+use Rattle.stored_spec.specs.Held.{DataHolds}
+use Rattle.world.specs.Losing.{geometry_of}
 use Rattle.world.specs.Shelf.{Shelved, LeavesOnly}
 use Rattle.boot_region.specs.Members.{IsMember}
+use Rattle.nvram_log.specs.Held.{HoldsOn}
 use Rattle.register.specs.declared.state.Register.{Register}
+use Rattle.register.specs.declared.tables.Tables.{Tables}
 use Rattle.register.specs.Registers.{drives_of}
-use Rattle.register.specs.Standing.{Content, IsOpen, ShowsOn, StandsInLog}
-use Rattle.register.specs.Tables.{StandsAsBefore}
-use Rattle.open_array.specs.Free.{AreSynced, WritesFree}
+use Rattle.register.specs.Standing.{Content, IsOpen, MayStore, ShowsOn, StandsInLog, array_of}
+use Rattle.register.specs.Tables.{IsPlanOf, StandsAsBefore, with_tables}
+use Rattle.open_array.specs.Free.{AreSynced, IsKnownOf, WritesFree}
 use Rattle.open_array.specs.Logging.{LeadTo, StandsWhateverFails, WritesLog}
 
 -- ---- free units
@@ -29,6 +34,22 @@ FreeWritesLeave old new = old.honest → (was now : Register) (nvrams : List Boo
     → IsOpen old was nvrams held → WritesFree was held old new
     → now.record ≡ was.record → ((i : ℕ) → IsMember now.drives i → IsMember was.drives i)
     → StandsInLog new now nvrams held
+
+-- Then the next record may be stored without those that were lost, in all conditions in which they are missing.
+abbrev pub FreeWritesMayStore : Shelved → Shelved → Type 0
+FreeWritesMayStore old new = old.honest → (was now : Register) (nvrams : List Bool) (held : Content) (known : Conditions)
+    → IsOpen old was nvrams held → WritesFree was held old new → AreSynced new now
+    → now.record ≡ was.record → ((i : ℕ) → IsMember now.drives i → IsMember was.drives i)
+    → IsKnownOf new now nvrams known
+    → MayStore new now nvrams known held (array_of held ∷ [])
+
+-- Tables that stand on the drives, as reads give them, may be stored once they hold the array of the log and the drives are synced.
+abbrev pub PlansStand : Shelved → Type 0
+PlansStand shelf = (r : Register) (tables : Tables) (held next : Content)
+    → AreSynced shelf r → HoldsOn shelf r.record.members.nvrams r.record.flushed held.log
+    → tables.flushed ≡ r.record.flushed + length held.log → next.log ≡ [] → next.base ≡ array_of held
+    → DataHolds (geometry_of shelf) (drives_of r) (λ d. (shelf.disk d).bytes) (with_tables r.record tables) next.patches next.base
+    → IsPlanOf shelf r tables held next
 
 -- ---- the log
 
