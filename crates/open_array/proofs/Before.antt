@@ -1,16 +1,16 @@
 -- What the devices held before the writes, but for what a stop leaves on drives that aren't the record's.
-use Rattle.std.proofs.Common.{◌≡◌, ◌⊎◌, inl, inr, ℕ, ◌+◌, ◌/◌, ◌≤◌, ◌<◌, List, [], length, refl, sym, ap, subst, arith, Bool, true, false}
+use Rattle.std.proofs.Common.{◌≡◌, ◌⊎◌, inl, inr, ℕ, ◌/◌, ◌<◌, List, [], length, refl, sym, subst, arith, Bool, false}
 use Rattle.std.specs.Prelude.{slice_index, slice_index_or, if◌then◌else◌}
 use Rattle.std.proofs.lemmas.Bool.{cases_Bool, cases_lt}
 use Rattle.pur_base.specs.declared.device.Device.{Device}
 use Rattle.pur_base.specs.declared.device.Device.TheVariants as dev
-use Rattle.pur_base.specs.Devices.{Image, drive, nvram}
+use Rattle.pur_base.specs.Devices.{Image, drive}
 use Rattle.pur_base.specs.Facts.{Facts}
 use Rattle.boot_codec.specs.declared.record.BootRecord.{BootRecord}
 use Rattle.array_spec.specs.Counts.{IsFree, is_used}
 use Rattle.array_spec.specs.Laws.{DiffersOnlyIn}
 use Rattle.array_spec.specs.Stored.{all_facts}
-use Rattle.world.specs.Shelf.{Shelved, Disk, Stop, MayLeave, MayStop, IsInSome}
+use Rattle.world.specs.Shelf.{Shelved, Stop, MayLeave, MayStop, IsInSome}
 use Rattle.world.specs.declared.shelf.Span.{Span}
 use Rattle.world.specs.Writes.{MayLeaveBut}
 use Rattle.boot_region.specs.Members.{IsMember}

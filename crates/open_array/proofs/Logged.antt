@@ -1,8 +1,8 @@
 -- What stands while the log is written, and once it was.
-use Rattle.std.proofs.Common.{◌≡◌, ℕ, List, [], ◌∷◌, refl, sym, ◌∙◌, ap, subst, arith, Bool}
+use Rattle.std.proofs.Common.{◌≡◌, ℕ, List, [], refl, sym, subst, arith, Bool}
 use Rattle.std.specs.Prelude.{Some}
 use Rattle.pur_base.specs.Commands.{Command, AllAccepted}
-use Rattle.pur_base.specs.Devices.{Geometry, Image, Conditions, drive, nvram}
+use Rattle.pur_base.specs.Devices.{Geometry, Image, drive}
 use Rattle.pur_base.specs.declared.device.Device.{Device}
 use Rattle.pur_base.specs.declared.device.Device.TheVariants as dev
 use Rattle.pur_base.specs.Plain.{Array}

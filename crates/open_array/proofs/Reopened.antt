@@ -1,37 +1,27 @@
 -- An array that was open is open again, with this content, once its record is shown on its drives.
-use Rattle.std.proofs.Common.{◌≡◌, ◌⊎◌, inl, inr, ℕ, ◌+◌, ◌-◌, ◌*◌, ◌/◌, ◌^◌, ◌≤◌, ◌<◌, List, [], ◌∷◌, length, refl, sym, ◌∙◌, ap, subst, arith, Bool, true, false}
-use Rattle.std.specs.Prelude.{Some, Contains, count_by, cond, slice_index}
+use Rattle.std.proofs.Common.{◌≡◌, inl, inr, ℕ, ◌+◌, ◌-◌, ◌^◌, ◌≤◌, ◌<◌, List, [], ◌∷◌, refl, sym, ap, subst, arith, Bool, true, false}
+use Rattle.std.specs.Prelude.{Some, Contains, count_by, cond}
 use Rattle.std.specs.List.{range_with_len}
-use Rattle.std.proofs.lemmas.Bool.{cases_Bool, cases_lt}
+use Rattle.std.proofs.lemmas.Bool.{cases_Bool}
 use Rattle.pur_base.specs.Devices.{Geometry, Sound, LeftOut, IsBearable, is_missing, drive, nvram}
 use Rattle.pur_base.specs.declared.device.Device.{Device}
 use Rattle.pur_base.specs.Plain.{Array}
 use Rattle.boot_codec.specs.declared.record.BootRecord.{BootRecord}
 use Rattle.boot_codec.specs.Spelling.{spelling}
-use Rattle.boot_codec.specs.Region.{BootSlot, A, B, IsRecordOf, body_in, body_place, gate_place, shown_by, generation_in, names, other_slot, Yields}
-use Rattle.array_spec.proofs.Quiet.{bytes_same}
-use Rattle.array_spec.proofs.Settling.{twice_other}
+use Rattle.boot_codec.specs.Region.{names, other_slot}
 use Rattle.array_spec.proofs.Votes.{counted}
-use Rattle.stored_spec.specs.Held.{TablesHold}
-use Rattle.stored_spec.proofs.Next.{free_writes_keep}
-use Rattle.world.specs.Shelf.{Shelved, Disk, Stop, MayStop, IsShelf, Continues}
+use Rattle.world.specs.Shelf.{Shelved, Stop, MayStop, IsShelf, Continues}
 use Rattle.world.specs.Losing.{geometry_of}
-use Rattle.world.specs.Writes.{MayLeaveBut}
-use Rattle.world.proofs.Writes.{may_leave_but}
 use Rattle.boot_region.specs.Members.{IsMember}
 use Rattle.boot_region.specs.Storing.{Shows, IsOlder}
 use Rattle.boot_region.proofs.Composing.{as_it_is}
 use Rattle.nvram_log.specs.Members as nv
 use Rattle.register.specs.declared.state.Register.{Register}
-use Rattle.register.specs.Registers.{IsRegisterOf, drives_of, named_sound, next_slot, own_slot}
-use Rattle.register.specs.Standing.{Content, IsOpen, IsShown, ShowsOn, StandsInLog, array_of}
-use Rattle.register.proofs.FlagLemmas.{in_cut, cut_in, not_below}
+use Rattle.register.specs.Registers.{drives_of, named_sound, next_slot, own_slot}
+use Rattle.register.specs.Standing.{Content, IsOpen, StandsInLog, array_of}
 use Rattle.register.proofs.Follows.{shows_itself}
 use Rattle.register.proofs.Resting.{in_force, stands, alone}
-use Rattle.open_array.specs.Free.{OnFree, WritesFree, AreSynced}
-use Rattle.open_array.specs.Laws.{FreeWritesKeep, FreeWritesLeave}
-use Rattle.open_array.proofs.Before.{at_before, before_stops, differs}
-use Rattle.open_array.proofs.Standing.{is_named, is_left, member_sound, member_clean}
+use Rattle.open_array.proofs.Standing.{is_named, is_left}
 
 -- the shelf has the same size
 pub same_shelf : {old new : Shelved} → Continues old new → geometry_of old ≡ geometry_of new

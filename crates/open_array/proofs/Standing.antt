@@ -1,11 +1,10 @@
 -- At every moment of writes in free units the devices stand for the array.
-use Rattle.std.proofs.Common.{◌≡◌, inl, inr, ℕ, ◌<◌, List, [], ◌∷◌, length, refl, sym, ◌∙◌, ap, subst, arith, Bool, true, false}
+use Rattle.std.proofs.Common.{◌≡◌, inl, inr, ℕ, List, [], ◌∷◌, refl, ◌∙◌, ap, Bool, true, false}
 use Rattle.std.specs.Prelude.{if◌then◌else◌}
 use Rattle.pur_base.specs.declared.device.Device.{Device}
 use Rattle.pur_base.specs.declared.device.Device.TheVariants as dev
-use Rattle.pur_base.specs.Bytes.{IsBytesOf}
-use Rattle.pur_base.specs.Devices.{Sound, LeftOut, IsOn, IsImage, size_of, drive}
-use Rattle.boot_codec.specs.Region.{BootSlot, body_in, names}
+use Rattle.pur_base.specs.Devices.{Sound, LeftOut, IsOn, IsImage, drive}
+use Rattle.boot_codec.specs.Region.{body_in, names}
 use Rattle.array_spec.specs.Counts.{IsFree}
 use Rattle.array_spec.specs.Laws.{DiffersOnlyIn, IsUnused}
 use Rattle.array_spec.specs.Standing.{Stands}
@@ -15,18 +14,17 @@ use Rattle.array_spec.proofs.Quiet.{quiet_writes}
 use Rattle.array_spec.proofs.Standings.{more_may_go_missing}
 use Rattle.stored_spec.specs.Held.{NamesNoneLeftOut}
 use Rattle.stored_spec.proofs.Free.{free_is_unused}
-use Rattle.world.specs.Shelf.{Shelved, Stop, IsShelf, IsOf, LeavesOnly}
+use Rattle.world.specs.Shelf.{Shelved, Stop, IsShelf, IsOf}
 use Rattle.world.specs.Losing.{geometry_of}
 use Rattle.world.specs.Writes.{LeavesBut}
 use Rattle.world.proofs.Moments.{weaker}
 use Rattle.boot_region.specs.Members.{IsMember}
-use Rattle.boot_region.proofs.ShownLemmas.{as_read}
 use Rattle.register.specs.declared.state.Register.{Register}
 use Rattle.register.specs.Registers.{drives_of, named_sound, own_slot}
 use Rattle.register.specs.Standing.{Content, IsOpen, array_of}
 use Rattle.register.specs.Tables.{StandsAsBefore}
 use Rattle.register.proofs.FlagLemmas.{in_cut}
-use Rattle.open_array.specs.Free.{OnFree, WritesFree}
+use Rattle.open_array.specs.Free.{OnFree}
 use Rattle.open_array.specs.Laws.{FreeWritesStand}
 use Rattle.open_array.proofs.Before.{at_before, before_stops, as_before, differs}
 
