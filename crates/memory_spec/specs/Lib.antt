@@ -1,0 +1,4 @@
+pub mod Tables
+pub mod Memory
+pub mod Adding
+pub mod Laws
