@@ -2,20 +2,10 @@
 //! There is no code: each public function here promises, as its contract, a law of these definitions.
 #![tactic(auto)]
 
-ghost use Rattle.memory_spec.specs.Adding.{OverwriteReads, CreateReads, SameReads, MovedReads};
-ghost use Rattle.memory_spec.specs.Laws.{VolumesOwn, PuttingReads, CreatingReads};
+ghost use Rattle.memory_spec.specs.Adding.{MovedReads, SameReads};
 
 /// What facts say decides what they read as.
 pub fn laws_of_readings()
     ensures same { SameReads }
     ensures moved { MovedReads }
-    ensures overwrite { OverwriteReads }
-    ensures create { CreateReads }
-{}
-
-/// Commands keep memory sound, and it reads as the array after them.
-pub fn laws_of_commands()
-    ensures own { VolumesOwn }
-    ensures put { PuttingReads }
-    ensures created { CreatingReads }
 {}

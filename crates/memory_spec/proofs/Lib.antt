@@ -1,0 +1,4 @@
+pub mod Lists
+pub mod Objects
+pub mod Moved
+pub mod Overlay
