@@ -18,8 +18,8 @@ use Rattle.pur_base.specs.declared.facts.ObjectFact.{ObjectFact}
 use Rattle.pur_base.specs.declared.facts.MediumFact.{MediumFact}
 use Rattle.memory_spec.specs.Memory.{Contents, PlaceReads, TargetReads, SectorReads, EntryReads, FactsRead}
 use Rattle.memory_spec.specs.Adding.{overlaid, IsOverlaid, IsOwnMedium, AreWithinSize, OverwriteReads}
-use Rattle.memory_spec.proofs.Lists.{zip_at, zip_long, in_filter_map, in_range}
-use Rattle.memory_spec.proofs.Objects.{object_is, same_objects}
+use Rattle.memory_spec.proofs.Lists.{zip_at, zip_long, of_filter_map, of_range}
+use Rattle.memory_spec.proofs.Objects.{object_is, in_objects, same_objects}
 use Rattle.memory_spec.proofs.Moved.{over_kept, over_before}
 
 -- ---- sectors with others in the place of some
@@ -150,17 +150,74 @@ module _ (old new : Facts) (next : ℕ) (name : List ℕ) (medium lba : ℕ) (ta
           ]
         ]
 
-    -- objects of these ids read as they did, where none of them has the medium
-    rest_kept : (a n : ℕ) (es : Array) → ((x : ObjectFact) → Contains (filter_map (object old) (range_with_len a n)) x → (x.sectors ≤ OBJECT_SECTORS) × (x.medium.0 ≢ medium))
-        → AllZip (EntryReads contents staged old) (filter_map (object old) (range_with_len a n)) es
-        → AllZip (EntryReads contents (staged ++ more) new) (filter_map (object old) (range_with_len a n)) es
-    rest_kept a n es h r = go (filter_map (object old) (range_with_len a n)) es h r
+    small_of : (x : ObjectFact) → Contains (objects old next) x → x.sectors ≤ OBJECT_SECTORS
+    small_of x c = size.objects x c
+
+    -- objects read as they did, where none of them has the medium
+    rest_kept : (xs : List ObjectFact) (es : Array) → ((x : ObjectFact) → Contains xs x → (x.sectors ≤ OBJECT_SECTORS) × (x.medium.0 ≢ medium))
+        → AllZip (EntryReads contents staged old) xs es → AllZip (EntryReads contents (staged ++ more) new) xs es
+    rest_kept [] [] h r = tt
+    rest_kept [] (e ∷ es) h r = r
+    rest_kept (x ∷ xs) [] h r = r
+    rest_kept (x ∷ xs) (e ∷ es) h r =
+        let k = h x (0, omega arith, refl) in
+        (entry_kept x e k.0 k.1 r.0, rest_kept xs es (λ y c. h y (suc c.0, omega (arith, c.1), c.2)) r.1)
+
+    -- the entries with other sectors
+    abbrev Replaced : Array → Array
+    Replaced es = with_sectors es name (with_span lba sectors (sectors_of es name))
+
+    -- those from an id on
+    abbrev From : ℕ → ℕ → List ObjectFact
+    From a n = filter_map (object old) (range_with_len a n)
+
+    Step : List ObjectFact → Type 0
+    Step xs = (es : Array) → AllZip (EntryReads contents staged old) xs es → AllZip (EntryReads contents (staged ++ more) new) xs (Replaced es)
+
+    step : (a n : ℕ) → a + suc n ≤ next → (o : Option ObjectFact) → object old a ≡ o → Step (From (a + 1) n) → Step (cons_option o (From (a + 1) n))
+    unfolding Step
+    step a n l None e rec es r = rec es r
+    step a n l (Some x) e rec [] r = r
+    step a n l (Some x) e rec (entry ∷ es) r = one (is_named name entry) refl
       where
-        go : (xs : List ObjectFact) (es : Array) → ((x : ObjectFact) → Contains xs x → (x.sectors ≤ OBJECT_SECTORS) × (x.medium.0 ≢ medium))
-            → AllZip (EntryReads contents staged old) xs es → AllZip (EntryReads contents (staged ++ more) new) xs es
-        go [] [] h r = tt
-        go [] (e ∷ es) h r = r
-        go (x ∷ xs) [] h r = r
-        go (x ∷ xs) (e ∷ es) h r =
-            let k = h x (0, omega arith, refl) in
-            (entry_kept x e k.0 k.1 r.0, go xs es (λ y c. h y (suc c.0, omega (arith, c.1), c.2)) r.1)
+        is_in : Contains (objects old next) x
+        is_in = in_objects old next a x e (omega (arith, l))
+
+        after : x ≡ own.owner → (y : ObjectFact) → Contains (From (a + 1) n) y → (y.sectors ≤ OBJECT_SECTORS) × (y.medium.0 ≢ medium)
+        after is y c =
+            let w = of_filter_map (object old) (range_with_len (a + 1) n) y c in
+            let at = of_range (a + 1) n w.0 w.1 in
+            let inside : Contains (objects old next) y = in_objects old next w.0 y w.2 (omega (arith, at.1, l)) in
+            let first : x.object.0 ≡ a = (object_is old a x e).1 in
+            let its : y.object.0 ≡ w.0 = (object_is old w.0 y w.2).1 in
+            (small_of y inside, λ same.
+                let one_id : y.object.0 ≡ x.object.0 = ap (λ z. z.object.0) (own.alone y inside same ∙ sym is) in
+                omega (arith, one_id, first, its, at.0))
+
+        one : (b : Bool) → is_named name entry ≡ b → AllZip (EntryReads contents (staged ++ more) new) (x ∷ From (a + 1) n)
+            (if b then record entry { sectors = with_span lba sectors (option_map_or (λ e. e.sectors) (if b then Some entry else find (is_named name) es) []) } ∷ es
+             else entry ∷ with_sectors es name (with_span lba sectors (option_map_or (λ e. e.sectors) (if b then Some entry else find (is_named name) es) [])))
+        one true t =
+            let named : name ≡ entry.name = (bytes_eq-Decides name entry.name).0 t in
+            let is : x ≡ own.owner = own.one_name x is_in (sym r.0.name ∙ sym named) in
+            let medium_is : x.medium.0 ≡ medium = ap (λ y. y.medium.0) is ∙ own.its in
+            let fits : lba + length targets ≤ x.sectors = subst (λ y. lba + length targets ≤ y.sectors) (sym is) own.fits in
+            (entry_written x entry (small_of x is_in) medium_is fits r.0, rest_kept (From (a + 1) n) es (after is) r.1)
+        one false t =
+            let other : x.medium.0 ≢ medium = λ same. both_ways (bytes_eq name entry.name) t ((bytes_eq-Decides name entry.name).1 (sym (r.0.name ∙ ap (λ y. y.name) (own.alone x is_in same) ∙ own.named))) in
+            (entry_kept x entry (small_of x is_in) other r.0, rec es r.1)
+
+    entries_replaced : (a n : ℕ) → a + n ≤ next → Step (From a n)
+    unfolding Step
+    entries_replaced a zero l [] r = tt
+    entries_replaced a zero l (e ∷ es) r = absurd r
+    entries_replaced a (suc n) l es r = step a n l (object old a) refl (entries_replaced (a + 1) n (omega (arith, l))) es r
+
+    pub all_replaced : (es : Array) → FactsRead contents staged old next es → FactsRead contents (staged ++ more) new next (Replaced es)
+    unfolding Step
+    all_replaced es r = rw (same_objects old new over.objects next) (entries_replaced 0 next (omega arith) es r)
+
+pub overwrite_reads : OverwriteReads
+overwrite_reads contents staged more old new next name medium lba targets sectors array own size given over read =
+    let long : length targets ≡ length sectors = zip_long (TargetReads contents (staged ++ more)) targets sectors given in
+    all_replaced old new next name medium lba targets over size (subst (λ n. IsOwnMedium old next name medium lba n) (sym long) own) contents staged more sectors given array read

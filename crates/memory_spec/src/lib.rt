@@ -2,10 +2,12 @@
 //! There is no code: each public function here promises, as its contract, a law of these definitions.
 #![tactic(auto)]
 
-ghost use Rattle.memory_spec.specs.Adding.{MovedReads, SameReads};
+ghost use Rattle.memory_spec.specs.Adding.{OverwriteReads, CreateReads, SameReads, MovedReads};
 
 /// What facts say decides what they read as.
 pub fn laws_of_readings()
     ensures same { SameReads }
     ensures moved { MovedReads }
+    ensures overwrite { OverwriteReads }
+    ensures create { CreateReads }
 {}
