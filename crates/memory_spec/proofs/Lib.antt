@@ -3,3 +3,6 @@ pub mod Objects
 pub mod Moved
 pub mod Overlay
 pub mod Creating
+pub mod AllTables
+pub mod Keeping
+pub mod Adding

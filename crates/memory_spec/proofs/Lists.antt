@@ -2,6 +2,7 @@
 use Rattle.std.proofs.Common.{◌≡◌, ◌≢◌, ◌⊎◌, ℕ, zero, suc, ◌+◌, ◌<◌, ◌≤◌, List, [], ◌∷◌, ◌++◌, length, refl, sym, ap, ◌∙◌, arith, inl, inr, subst, map, slice_get, Option, Some, None, filter_map, Contains}
 use Rattle.std.specs.List.{AllByRecursion, AllZip, range_with_len, cons_option}
 use Rattle.std.proofs.lemmas.Bool.{cases_lt}
+use Rattle.std.proofs.lemmas.Option.{slice_get_past, slice_get_within, get_or_from_slice_get}
 use Rattle.std.proofs.lemmas.List.Elements.{All-contains, All-from_recursion, recursion_from_All}
 use Rattle.pyramid.proofs.ContainsLemmas.{here, there, either, nowhere}
 use Rattle.pyramid.proofs.LayerLemmas.{all_contained}
@@ -93,11 +94,7 @@ zip_weaker R S w (a ∷ xs) (b ∷ ys) h = (w a b h.0, zip_weaker R S w xs ys h.
 
 -- the item of one list at the place of one of the other
 pub zip_at : {X Y : Type 0} (R : X → Y → Type 0) (xs : List X) (ys : List Y) (i : ℕ) (y : Y) → AllZip R xs ys → slice_get ys i ≡ Some y → (x : X) × (slice_get xs i ≡ Some x) × R x y
-zip_at R [] [] i y h e = absurd (not_both (slice_get [] i) e (empty i))
-  where
-    empty : {Z : Type 0} (i : ℕ) → slice_get {X = Z} [] i ≡ None
-    empty zero = refl
-    empty (suc i) = refl
+zip_at R [] [] i y h e = absurd (not_both (slice_get [] i) e (slice_get_past [] i (omega arith)))
 zip_at R [] (b ∷ ys) i y h e = absurd h
 zip_at R (a ∷ xs) [] i y h e = absurd h
 zip_at R (a ∷ xs) (b ∷ ys) zero y h e = (a, refl, subst (λ z. R a z) (same_some (Some b) refl e) h.0)
@@ -108,3 +105,14 @@ zip_long R [] [] h = refl
 zip_long R [] (b ∷ ys) h = absurd h
 zip_long R (a ∷ xs) [] h = absurd h
 zip_long R (a ∷ xs) (b ∷ ys) h = ap suc (zip_long R xs ys h.1)
+
+pub zip_left : {X Y : Type 0} (R : X → Y → Type 0) (xs : List X) (ys : List Y) (i : ℕ) (x : X) → AllZip R xs ys → slice_get xs i ≡ Some x → (y : Y) × (slice_get ys i ≡ Some y) × R x y
+zip_left R [] [] i x h e = absurd (not_both (slice_get [] i) e (slice_get_past [] i (omega arith)))
+zip_left R [] (b ∷ ys) i x h e = absurd h
+zip_left R (a ∷ xs) [] i x h e = absurd h
+zip_left R (a ∷ xs) (b ∷ ys) zero x h e = (b, refl, subst (λ z. R z b) (same_some (Some a) refl e) h.0)
+zip_left R (a ∷ xs) (b ∷ ys) (suc i) x h e = zip_left R xs ys i x h.1 e
+
+-- what is got from a list is in it
+pub contains_at : {X : Type 0} (xs : List X) (i : ℕ) (x : X) → slice_get xs i ≡ Some x → Contains xs x
+contains_at xs i x e = (i, slice_get_within xs i x e, get_or_from_slice_get xs i x x e)
