@@ -6,3 +6,4 @@ pub mod Creating
 pub mod AllTables
 pub mod Keeping
 pub mod Adding
+pub mod Run

@@ -72,7 +72,7 @@ target_kept contents staged more Zero sector e = e
 
 -- ---- where the addresses differ
 
-overlaid_out : (medium lba : ℕ) (targets : List Target) (before : ℕ → ℕ → Option Target) (m x : ℕ) → (m ≡ medium → (x < lba) ⊎ (lba + length targets ≤ x))
+pub overlaid_out : (medium lba : ℕ) (targets : List Target) (before : ℕ → ℕ → Option Target) (m x : ℕ) → (m ≡ medium → (x < lba) ⊎ (lba + length targets ≤ x))
     → overlaid medium lba targets before m x ≡ before m x
 overlaid_out medium lba targets before m x out = one (m == medium) refl
   where
@@ -83,7 +83,7 @@ overlaid_out medium lba targets before m x out = one (m == medium) refl
       | inr high ↦ (let no : nat_lt x (lba + length targets) ≡ false = le-ltb x (lba + length targets) high in (let yes : nat_le lba x ≡ true = le-leb lba x (omega (arith, high)) in rw (yes, no) refl))
     ]
 
-overlaid_in : (medium lba : ℕ) (targets : List Target) (before : ℕ → ℕ → Option Target) (x : ℕ) → lba ≤ x → x < lba + length targets
+pub overlaid_in : (medium lba : ℕ) (targets : List Target) (before : ℕ → ℕ → Option Target) (x : ℕ) → lba ≤ x → x < lba + length targets
     → overlaid medium lba targets before medium x ≡ slice_get targets (x - lba)
 overlaid_in medium lba targets before x low high = rw (eq-eqb medium medium refl, le-leb lba x low, lt-ltb x (lba + length targets) high) refl
 
