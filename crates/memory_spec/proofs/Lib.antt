@@ -7,3 +7,5 @@ pub mod AllTables
 pub mod Keeping
 pub mod Adding
 pub mod Run
+pub mod Owning
+pub mod Putting

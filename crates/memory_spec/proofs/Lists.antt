@@ -1,7 +1,8 @@
 -- What holds of lists and of their elements.
-use Rattle.std.proofs.Common.{◌≡◌, ◌≢◌, ◌⊎◌, ℕ, zero, suc, ◌+◌, ◌<◌, ◌≤◌, List, [], ◌∷◌, ◌++◌, length, refl, sym, ap, ◌∙◌, arith, inl, inr, subst, map, slice_get, Option, Some, None, filter_map, Contains}
+use Rattle.std.proofs.Common.{◌≡◌, ◌≢◌, ◌⊎◌, ℕ, zero, suc, ◌+◌, ◌<◌, ◌≤◌, List, [], ◌∷◌, ◌++◌, length, refl, sym, ap, ◌∙◌, arith, inl, inr, subst, map, slice_get, Option, Some, None, filter_map, Contains, AllPairs, get_or}
 use Rattle.std.specs.List.{AllByRecursion, AllZip, range_with_len, cons_option}
-use Rattle.std.proofs.lemmas.Bool.{cases_lt}
+use Rattle.std.proofs.lemmas.Bool.{cases_lt, cases_order}
+use Rattle.std.proofs.lemmas.List.{get_or_default}
 use Rattle.std.proofs.lemmas.Option.{slice_get_past, slice_get_within, get_or_from_slice_get}
 use Rattle.std.proofs.lemmas.List.Elements.{All-contains, All-from_recursion, recursion_from_All}
 use Rattle.pyramid.proofs.ContainsLemmas.{here, there, either, nowhere}
@@ -116,3 +117,13 @@ zip_left R (a ∷ xs) (b ∷ ys) (suc i) x h e = zip_left R xs ys i x h.1 e
 -- what is got from a list is in it
 pub contains_at : {X : Type 0} (xs : List X) (i : ℕ) (x : X) → slice_get xs i ≡ Some x → Contains xs x
 contains_at xs i x e = (i, slice_get_within xs i x e, get_or_from_slice_get xs i x x e)
+
+-- of two elements that a list keeps apart, or one
+pub pairs_of : {X : Type 0} (R : X → X → Type 0) (xs : List X) (x y : X) → AllPairs R xs → Contains xs x → Contains xs y → (x ≡ y) ⊎ (R x y ⊎ R y x)
+pairs_of R xs x y h c d = elim (cases_order c.0 d.0) [
+  | inl same ↦ inl (sym c.2 ∙ get_or_default xs c.0 x y c.1 ∙ ap (λ i. get_or xs i y) same ∙ d.2)
+  | inr either ↦ elim either [
+    | inl less ↦ (let at : get_or xs d.0 x ≡ y = get_or_default xs d.0 x y d.1 ∙ d.2 in inr (inl (subst (λ z. R x z) at (subst (λ z. R z (get_or xs d.0 x)) c.2 (h c.0 d.0 x less d.1)))))
+    | inr less ↦ (let at : get_or xs c.0 y ≡ x = get_or_default xs c.0 y x c.1 ∙ c.2 in inr (inr (subst (λ z. R y z) at (subst (λ z. R z (get_or xs c.0 y)) d.2 (h d.0 c.0 y less c.1)))))
+  ]
+]

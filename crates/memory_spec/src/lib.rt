@@ -3,6 +3,7 @@
 #![tactic(auto)]
 
 ghost use Rattle.memory_spec.specs.Adding.{OverwriteReads, CreateReads, SameReads, MovedReads};
+ghost use Rattle.memory_spec.specs.Laws.{VolumesOwn, PuttingReads};
 
 /// What facts say decides what they read as.
 pub fn laws_of_readings()
@@ -10,4 +11,10 @@ pub fn laws_of_readings()
     ensures moved { MovedReads }
     ensures overwrite { OverwriteReads }
     ensures create { CreateReads }
+{}
+
+/// Commands keep memory sound, and it reads as the array after them.
+pub fn laws_of_commands()
+    ensures own { VolumesOwn }
+    ensures put { PuttingReads }
 {}
