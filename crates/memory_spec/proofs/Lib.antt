@@ -9,3 +9,4 @@ pub mod Adding
 pub mod Run
 pub mod Owning
 pub mod Putting
+pub mod Created

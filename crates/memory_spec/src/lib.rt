@@ -3,7 +3,7 @@
 #![tactic(auto)]
 
 ghost use Rattle.memory_spec.specs.Adding.{OverwriteReads, CreateReads, SameReads, MovedReads};
-ghost use Rattle.memory_spec.specs.Laws.{VolumesOwn, PuttingReads};
+ghost use Rattle.memory_spec.specs.Laws.{VolumesOwn, PuttingReads, CreatingReads};
 
 /// What facts say decides what they read as.
 pub fn laws_of_readings()
@@ -17,4 +17,5 @@ pub fn laws_of_readings()
 pub fn laws_of_commands()
     ensures own { VolumesOwn }
     ensures put { PuttingReads }
+    ensures created { CreatingReads }
 {}
