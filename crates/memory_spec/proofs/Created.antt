@@ -331,9 +331,9 @@ module _ (contents : Contents) (was now : Memory) (x : ObjectFact) (array : Arra
   sound_mediums : AreMediumsSound (facts now.tables)
   sound_mediums = record {
     disjoint = λ m s p q o o2. r.sound.mediums.disjoint m s p q (over_was m s p o) (over_was m s q o2);
-    within = λ id start y q e f. elim (which id y e) [
+    within = λ id start y q e l f. elim (which id y e) [
       | inl same ↦ absurd (not_both (range (facts now.tables) y.medium.0 start) f (created.ranges y.medium.0 start ∙ ap (λ z. range (facts was.tables) z.medium.0 start) same ∙ fresh.no_range start))
-      | inr old ↦ r.sound.mediums.within id start y q old (sym (created.ranges y.medium.0 start) ∙ f)
+      | inr old ↦ r.sound.mediums.within id start y q old l (sym (created.ranges y.medium.0 start) ∙ f)
     ];
     frozen = λ id m start y q e kind f t. elim (which id y e) [
       | inl same ↦ leads_down m start q (sym (created.ranges m start) ∙ f) (t ∙ ap (λ z. z.medium.0) same)

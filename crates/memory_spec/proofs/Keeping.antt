@@ -46,7 +46,7 @@ module _ (old new : Facts) (elisions : new.elisions ≡ old.elisions) where
 pub mediums_sound : (old new : Facts) → ((id : ℕ) → object new id ≡ object old id) → ((m start : ℕ) → range new m start ≡ range old m start) → AreMediumsSound old → AreMediumsSound new
 mediums_sound old new same ranges h = record {
   disjoint = λ m x r s o p. h.disjoint m x r s (over_before old new ranges m x r o) (over_before old new ranges m x s p);
-  within = λ id start x r e f. h.within id start x r (sym (same id) ∙ e) (sym (ranges x.medium.0 start) ∙ f);
+  within = λ id start x r e l f. h.within id start x r (sym (same id) ∙ e) l (sym (ranges x.medium.0 start) ∙ f);
   frozen = λ id m start x r e kind f. h.frozen id m start x r (sym (same id) ∙ e) kind (sym (ranges m start) ∙ f);
 }
 
