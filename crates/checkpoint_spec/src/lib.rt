@@ -1,0 +1,20 @@
+//! What a checkpoint makes of an array's memory, and that what it stores holds the array.
+//! There is no code: each public function here promises, as its contract, a law of these definitions.
+#![tactic(auto)]
+
+ghost use Rattle.checkpoint_spec.specs.Contents.{BaseIsRead, WrittenHolds};
+ghost use Rattle.checkpoint_spec.specs.Whole.{PatchesAreFlushed, PatchesAreAll, PatchesRead, RecordIsSound};
+
+/// What memory reads of sectors that were placed stands on the drives.
+pub fn what_was_written_stands()
+    ensures base { BaseIsRead }
+    ensures holds { WrittenHolds }
+{}
+
+/// Memory with nothing beside its patches is what a record of them says.
+pub fn patches_are_memory()
+    ensures flushed { PatchesAreFlushed }
+    ensures all { PatchesAreAll }
+    ensures read { PatchesRead }
+    ensures sound { RecordIsSound }
+{}
