@@ -1,3 +1,5 @@
 pub mod Standing
 pub mod Patches
 pub mod Records
+pub mod Shrinking
+pub mod Flushed

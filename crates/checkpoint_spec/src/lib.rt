@@ -3,6 +3,7 @@
 #![tactic(auto)]
 
 ghost use Rattle.checkpoint_spec.specs.Contents.{BaseIsRead, WrittenHolds};
+ghost use Rattle.checkpoint_spec.specs.Flushing.{ShrinkingReads, FlushShrinks};
 ghost use Rattle.checkpoint_spec.specs.Whole.{PatchesAreFlushed, PatchesAreAll, PatchesRead, RecordIsSound};
 
 /// What memory reads of sectors that were placed stands on the drives.
@@ -17,4 +18,10 @@ pub fn patches_are_memory()
     ensures all { PatchesAreAll }
     ensures read { PatchesRead }
     ensures sound { RecordIsSound }
+{}
+
+/// Memory that only loses facts, and says the same, stays sound and reads the same; so does memory that is flushed.
+pub fn flushes_keep_memory()
+    ensures reads { ShrinkingReads }
+    ensures flush { FlushShrinks }
 {}
