@@ -3,3 +3,5 @@ pub mod Patches
 pub mod Records
 pub mod Shrinking
 pub mod Flushed
+pub mod Repointed
+pub mod Placing

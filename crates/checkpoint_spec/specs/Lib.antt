@@ -1,3 +1,4 @@
 pub mod Contents
 pub mod Whole
 pub mod Flushing
+pub mod Placing

@@ -4,6 +4,7 @@
 
 ghost use Rattle.checkpoint_spec.specs.Contents.{BaseIsRead, WrittenHolds};
 ghost use Rattle.checkpoint_spec.specs.Flushing.{ShrinkingReads, FlushShrinks};
+ghost use Rattle.checkpoint_spec.specs.Placing.{PlacingReads};
 ghost use Rattle.checkpoint_spec.specs.Whole.{PatchesAreFlushed, PatchesAreAll, PatchesRead, RecordIsSound};
 
 /// What memory reads of sectors that were placed stands on the drives.
@@ -24,4 +25,9 @@ pub fn patches_are_memory()
 pub fn flushes_keep_memory()
     ensures reads { ShrinkingReads }
     ensures flush { FlushShrinks }
+{}
+
+/// Memory whose staged sectors are placed in new segments stays sound and reads the same.
+pub fn placing_keeps_memory()
+    ensures { PlacingReads }
 {}

@@ -58,7 +58,7 @@ same_next n table.Elision table.Elision e = refl
 same_next n a b e = absurd (omega (arith, e))
 
 -- no elision has an id that isn't given yet
-not_elided : (n : NextNumbers) (f : Facts) (t : Table) (id : ℕ) → AreIdsBelow n f → next_id n t ≤ id → is_elided f.elisions t id ≡ false
+pub not_elided : (n : NextNumbers) (f : Facts) (t : Table) (id : ℕ) → AreIdsBelow n f → next_id n t ≤ id → is_elided f.elisions t id ≡ false
 not_elided n f t id below l = list_any_none (elides t id) f.elisions (all_contained (λ e. elides t id e ≡ false) f.elisions one)
   where
     one : (e : ElisionFact) → Contains f.elisions e → elides t id e ≡ false
