@@ -1,15 +1,13 @@
 -- A flush leaves out older facts alone, and says the same.
-use Rattle.std.proofs.Common.{◌≡◌, ℕ, ◌<◌, ◌≤◌, Bool, List, [], ◌∷◌, ◌++◌, refl, sym, ap, ◌∙◌, arith, inl, inr, subst, Option, Some, None, option_map, option_and_then, if◌then◌else◌, Contains, AllPairs, append-nil}
+use Rattle.std.proofs.Common.{◌≡◌, ℕ, Bool, List, [], ◌++◌, refl, sym, ap, ◌∙◌, arith, inl, inr, subst, Option, Some, None, option_map, option_and_then, if◌then◌else◌, Contains, append-nil}
 use Rattle.std.proofs.lemmas.Grind.{flat_map-append}
 use Rattle.std.proofs.lemmas.List.Elements.{Contains-append_left, Contains-append_right, Contains-append_cases}
-use Rattle.pur_base.specs.Facts.{Facts, object_key, medium_key, address_key, segment_key, elision_key, never, is_empty_range, is_narrower}
+use Rattle.pur_base.specs.Facts.{object_key, medium_key, address_key, segment_key, elision_key, never, is_empty_range, is_narrower}
 use Rattle.pur_base.specs.Keys.{key_of, id_of}
 use Rattle.pur_base.specs.Says.{has_key, says, unless_empty}
-use Rattle.pur_base.specs.Tags.{tag_of}
-use Rattle.pur_base.specs.Visible.{object, range, address, segment, is_elided}
+use Rattle.pur_base.specs.Visible.{is_elided}
 use Rattle.pur_base.specs.declared.request.Table.{Table}
 use Rattle.pur_base.specs.declared.request.Table.TheVariants as table
-use Rattle.pur_base.specs.declared.facts.Target.{Target}
 use Rattle.pur_base.specs.declared.facts.AddressFact.{AddressFact}
 use Rattle.pur_base.specs.declared.facts.ElisionFact.{ElisionFact}
 use Rattle.array_spec.specs.Sound.{AreElisionsSound, Grows}

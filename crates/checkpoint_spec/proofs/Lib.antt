@@ -5,3 +5,5 @@ pub mod Shrinking
 pub mod Flushed
 pub mod Repointed
 pub mod Placing
+pub mod Elided
+pub mod Eliding

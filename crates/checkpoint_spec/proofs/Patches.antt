@@ -1,12 +1,12 @@
 -- The facts of patches, table by table.
-use Rattle.std.proofs.Common.{◌≡◌, ℕ, List, [], ◌∷◌, ◌++◌, refl, sym, ap, ◌∙◌, map, filter_map, flat_map, Option, Some, None, append-nil, subst}
+use Rattle.std.proofs.Common.{◌≡◌, List, [], ◌∷◌, ◌++◌, refl, sym, ap, ◌∙◌, map, filter_map, Option, Some, None, append-nil, subst}
 use Rattle.std.specs.List.{cons_option}
 use Rattle.std.proofs.lemmas.Grind.{flat_map-append}
 use Rattle.std.proofs.lemmas.List.Elements.{filter_map-append}
 use Rattle.pur_base.specs.Facts.{Facts, by_table, as_object, as_medium, as_address, as_segment, as_elision}
 use Rattle.pur_base.specs.declared.facts.AnyFact.{AnyFact}
 use Rattle.pur_base.specs.declared.facts.AnyFact.TheVariants as any
-use Rattle.array_spec.specs.Stored.{in_patches, all_facts}
+use Rattle.array_spec.specs.Stored.{in_patches}
 use Rattle.pyramid.specs.Layers.{Layers, facts_of, facts_in}
 use Rattle.memory_spec.specs.Tables.{Tables, facts, flushed, patches, all_of}
 use Rattle.memory_spec.specs.Memory.{Memory, FactsRead}

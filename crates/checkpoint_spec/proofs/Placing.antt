@@ -1,11 +1,9 @@
 -- Memory stays sound, and reads the same, when staged sectors are placed.
-use Rattle.std.proofs.Common.{◌≡◌, ◌≢◌, ◌⊎◌, ◌↔◌, ℕ, zero, suc, ◌+◌, ◌<◌, ◌≤◌, Bool, true, false, List, [], ◌∷◌, length, refl, sym, ap, ◌∙◌, arith, inl, inr, subst, Option, Some, None, option_map, option_and_then, is_some, IsSome, slice_get, if◌then◌else◌, ◌==◌, Contains, eq-eqb, ne_eqb}
-use Rattle.std.specs.List.{AllByRecursion}
-use Rattle.pur_base.specs.Facts.{Facts, any_number, segment_key, never}
+use Rattle.std.proofs.Common.{◌≡◌, ◌⊎◌, ℕ, zero, suc, ◌<◌, ◌≤◌, true, List, [], length, refl, sym, ap, ◌∙◌, arith, inl, inr, subst, Option, Some, None, option_map, option_and_then, is_some, slice_get, if◌then◌else◌, Contains, eq-eqb, ne_eqb}
+use Rattle.pur_base.specs.Facts.{any_number, segment_key, never}
 use Rattle.pur_base.specs.Keys.{key_of, id_of}
 use Rattle.pur_base.specs.Says.{unless_empty}
-use Rattle.pur_base.specs.Visible.{objects, object, range, address, segment, is_elided}
-use Rattle.pur_base.specs.declared.limits.TheConstants.{OBJECT_SECTORS}
+use Rattle.pur_base.specs.Visible.{address, segment, is_elided}
 use Rattle.pur_base.specs.declared.request.Table.{Table}
 use Rattle.pur_base.specs.declared.request.Table.TheVariants as table
 use Rattle.pur_base.specs.declared.place.Location.{Location}
@@ -18,18 +16,15 @@ use Rattle.pur_base.specs.declared.facts.SegmentFact.{SegmentFact}
 use Rattle.pur_base.specs.declared.facts.ElisionFact.{ElisionFact}
 use Rattle.pur_base.specs.declared.facts.AnyFact.{AnyFact}
 use Rattle.pur_base.specs.declared.facts.AnyFact.TheVariants as any
-use Rattle.pur_base.specs.Plain.{Array}
 use Rattle.pur_base.proofs.SaysLemmas.{says_is}
-use Rattle.boot_codec.specs.declared.record.NextNumbers.{NextNumbers}
-use Rattle.fact_codec.specs.Fact.{IsFact}
 use Rattle.array_spec.specs.Sound.{AreIdsBelow, AreObjectsSound, AreElisionsSound, next_id}
 use Rattle.pyramid.specs.Layers.{AreDistinct, newest_of}
 use Rattle.pyramid.proofs.ContainsLemmas.{nowhere}
 use Rattle.pyramid.proofs.KeyLemmas.{id_of_key}
 use Rattle.memory_spec.specs.Tables.{facts, all_of}
-use Rattle.memory_spec.specs.Memory.{Memory, Contents, PlaceReads, TargetReads, FactsRead, FitsTarget, FitsInMemory, IsThere, AreNumbered, IsSound, ReadsAs}
+use Rattle.memory_spec.specs.Memory.{Memory, Contents, PlaceReads, TargetReads, FactsRead, FitsTarget, FitsInMemory, IsThere, AreNumbered, IsSound}
 use Rattle.memory_spec.specs.Adding.{AreMoved}
-use Rattle.memory_spec.proofs.Lists.{same_some, not_both, each_by_recursion, of_each}
+use Rattle.memory_spec.proofs.Lists.{same_some, each_by_recursion, of_each}
 use Rattle.memory_spec.proofs.Objects.{same_objects}
 use Rattle.memory_spec.proofs.AllTables.{all_objects, all_mediums, all_addresses, all_segments, all_elisions, of_all}
 use Rattle.memory_spec.proofs.Keeping.{object_kept, range_kept, objects_sound, mediums_sound}

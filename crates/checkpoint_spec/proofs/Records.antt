@@ -1,28 +1,24 @@
 -- A record that names the patches of sound memory is sound.
-use Rattle.std.proofs.Common.{◌≡◌, ◌≢◌, ◌⊎◌, ℕ, zero, suc, ◌+◌, ◌<◌, ◌≤◌, List, [], ◌∷◌, ◌++◌, length, get_or, refl, sym, ap, ◌∙◌, arith, inl, inr, subst, map, flat_map, Some, Contains, AllPairs, All}
+use Rattle.std.proofs.Common.{◌≡◌, ◌≢◌, ℕ, suc, ◌<◌, List, [], ◌∷◌, ◌++◌, length, refl, sym, ap, ◌∙◌, arith, inl, inr, subst, map, Contains, AllPairs}
 use Rattle.std.specs.List.{AllByRecursion, AllZip}
-use Rattle.std.proofs.lemmas.List.{get_or_default}
-use Rattle.std.proofs.lemmas.List.Elements.{All-append, All-contains, Contains-append_left, Contains-append_right, Contains-append_cases}
+use Rattle.std.proofs.lemmas.List.Elements.{Contains-append_left, Contains-append_right, Contains-append_cases}
 use Rattle.std.proofs.lemmas.List.Kept.{AllPairs-cons}
 use Rattle.pur_base.specs.Devices.{Geometry}
 use Rattle.pur_base.specs.Facts.{Facts, any_number, table_tag, object_key, medium_key, address_key, segment_key, elision_key}
-use Rattle.pur_base.specs.Visible.{address, segment}
-use Rattle.pur_base.specs.declared.place.Location.{Location}
-use Rattle.pur_base.specs.declared.facts.Target.TheVariants.{Stored}
 use Rattle.pur_base.specs.declared.facts.AnyFact.{AnyFact}
 use Rattle.pur_base.specs.declared.facts.AnyFact.TheVariants as any
 use Rattle.boot_codec.specs.declared.record.NextNumbers.{NextNumbers}
 use Rattle.boot_codec.specs.declared.record.BootRecord.{BootRecord}
 use Rattle.boot_codec.specs.declared.patch.Patch.{Patch}
-use Rattle.array_spec.specs.Stored.{in_patches, all_facts}
+use Rattle.array_spec.specs.Stored.{in_patches}
 use Rattle.array_spec.specs.Sound.{AreSound, AreIdsBelow, AreObjectsSound, AreMediumsSound, AreAddressesSound, AreSegmentsSound, AreElisionsSound, AreSequencesSound, IsOlder, with_facts}
-use Rattle.pyramid.specs.Layers.{facts_of, IsLayered, AreBelow, Rises}
+use Rattle.pyramid.specs.Layers.{facts_of, Rises}
 use Rattle.pyramid.proofs.ContainsLemmas.{here, there, either, nowhere}
 use Rattle.pyramid.proofs.DistinctLemmas.{Differ, differ_layers}
 use Rattle.pyramid.proofs.LayerLemmas.{all_contained, below_at}
-use Rattle.memory_spec.specs.Tables.{Tables, facts, flushed, patches, all_of}
-use Rattle.memory_spec.specs.Memory.{Memory, IsThere, AreAddressesThere, AreNumbered, IsSound}
-use Rattle.memory_spec.proofs.Lists.{each_by_recursion, of_each, of_map, in_map, pairs_of}
+use Rattle.memory_spec.specs.Tables.{Tables, facts, patches, all_of}
+use Rattle.memory_spec.specs.Memory.{Memory, IsSound}
+use Rattle.memory_spec.proofs.Lists.{each_by_recursion, of_each, of_map, in_map}
 use Rattle.checkpoint_spec.specs.Whole.{IsWhole, AreLayered, IsNamed, RecordIsSound}
 use Rattle.checkpoint_spec.proofs.Patches.{in_patches_are, flushed_are_all, patches_are_all}
 

@@ -1,5 +1,5 @@
 -- Facts that are repointed say the placed targets.
-use Rattle.std.proofs.Common.{◌≡◌, ℕ, ◌<◌, ◌≤◌, Bool, true, false, List, refl, sym, ap, ◌∙◌, arith, inl, inr, subst, Option, Some, None, IfSome, option_map, option_and_then, if◌then◌else◌, Contains, eq-eqb, eqb-true}
+use Rattle.std.proofs.Common.{◌≡◌, ℕ, ◌≤◌, Bool, true, false, List, refl, sym, ap, ◌∙◌, arith, inl, inr, subst, Option, Some, None, IfSome, option_map, option_and_then, if◌then◌else◌, Contains, eq-eqb, eqb-true}
 use Rattle.pur_base.specs.Facts.{Facts, address_key, never}
 use Rattle.pur_base.specs.Keys.{key_of, id_of}
 use Rattle.pur_base.specs.Says.{has_key, unless_empty}
@@ -8,7 +8,7 @@ use Rattle.pur_base.specs.declared.request.Table.TheVariants as table
 use Rattle.pur_base.specs.declared.place.Location.{Location}
 use Rattle.pur_base.specs.declared.facts.Target.{Target}
 use Rattle.pur_base.specs.declared.facts.AddressFact.{AddressFact}
-use Rattle.pyramid.specs.Layers.{AreDistinct, HasNewer, newest_of}
+use Rattle.pyramid.specs.Layers.{AreDistinct, newest_of}
 use Rattle.pyramid.proofs.NewestLemmas.{newest_found}
 use Rattle.pyramid.proofs.SetLemmas.{newest_over}
 use Rattle.memory_spec.proofs.Lists.{same_some, not_both}

@@ -1,10 +1,10 @@
 -- Memory of which facts were left out, and that says the same, stays sound.
-use Rattle.std.proofs.Common.{◌≡◌, ◌≢◌, ◌⊎◌, ℕ, ◌+◌, ◌<◌, ◌≤◌, false, List, [], ◌∷◌, length, refl, sym, ap, ◌∙◌, arith, inl, inr, subst, Some, IsSome, is_some, Contains, AllPairs, get_or}
+use Rattle.std.proofs.Common.{◌≡◌, ◌≢◌, ℕ, ◌<◌, ◌≤◌, false, List, length, sym, ap, ◌∙◌, arith, inl, inr, subst, is_some, Contains, AllPairs, get_or}
 use Rattle.std.specs.List.{AllByRecursion}
 use Rattle.std.proofs.lemmas.List.Elements.{Contains-get_or}
-use Rattle.pur_base.specs.Facts.{Facts, any_number}
+use Rattle.pur_base.specs.Facts.{any_number}
 use Rattle.pur_base.specs.Tags.{tag_of}
-use Rattle.pur_base.specs.Visible.{objects, object, address, segment, is_elided}
+use Rattle.pur_base.specs.Visible.{objects, is_elided}
 use Rattle.pur_base.specs.declared.limits.TheConstants.{OBJECTS}
 use Rattle.pur_base.specs.declared.request.Table.TheVariants as table
 use Rattle.pur_base.specs.declared.place.Location.{Location}
@@ -18,8 +18,7 @@ use Rattle.boot_codec.specs.declared.record.NextNumbers.{NextNumbers}
 use Rattle.boot_codec.specs.Record.{AreNext}
 use Rattle.array_spec.specs.Sound.{AreIdsBelow, AreObjectsSound, AreElisionsSound, OwnsMedium, Grows, FitTogether, next_id}
 use Rattle.memory_spec.specs.Tables.{facts, all_of}
-use Rattle.memory_spec.specs.Memory.{Memory, Contents, FactsRead, FitsInMemory, IsThere, IsSound, ReadsAs}
-use Rattle.memory_spec.specs.Adding.{SayTheSame}
+use Rattle.memory_spec.specs.Memory.{Memory, FactsRead, FitsInMemory, IsThere, IsSound}
 use Rattle.memory_spec.proofs.Lists.{each_by_recursion, of_each, pairs_of}
 use Rattle.memory_spec.proofs.Objects.{same_objects}
 use Rattle.memory_spec.proofs.AllTables.{all_objects, all_mediums, all_addresses, all_segments, all_elisions, of_all}

@@ -1,14 +1,9 @@
 -- What a flush and a merge make of memory: fewer facts, which say the same.
 use Rattle.std.specs.Prelude.{◌≡◌, ℕ, List, [], ◌++◌, Option, Contains}
-use Rattle.pur_base.specs.Facts.{Facts, object_key, medium_key, address_key, segment_key, elision_key}
+use Rattle.pur_base.specs.Facts.{object_key, medium_key, address_key, segment_key, elision_key}
 use Rattle.pur_base.specs.Plain.{Array}
 use Rattle.pur_base.specs.Visible.{segment, is_elided}
 use Rattle.pur_base.specs.declared.request.Table.{Table}
-use Rattle.pur_base.specs.declared.facts.ObjectFact.{ObjectFact}
-use Rattle.pur_base.specs.declared.facts.MediumFact.{MediumFact}
-use Rattle.pur_base.specs.declared.facts.AddressFact.{AddressFact}
-use Rattle.pur_base.specs.declared.facts.SegmentFact.{SegmentFact}
-use Rattle.pur_base.specs.declared.facts.ElisionFact.{ElisionFact}
 use Rattle.pyramid.specs.Layers.{Layers, IsFlushed, patch_facts, patches_of}
 use Rattle.memory_spec.specs.Tables.{facts}
 use Rattle.memory_spec.specs.Memory.{Memory, Contents, IsSound, ReadsAs}

@@ -2,3 +2,4 @@ pub mod Contents
 pub mod Whole
 pub mod Flushing
 pub mod Placing
+pub mod Eliding

@@ -1,5 +1,5 @@
 -- When memory has nothing beside its patches, and that the record which names them is sound.
-use Rattle.std.specs.Prelude.{◌≡◌, ℕ, List, [], length}
+use Rattle.std.specs.Prelude.{◌≡◌, List, [], length}
 use Rattle.std.specs.List.{AllByRecursion, AllZip}
 use Rattle.pur_base.specs.Devices.{Geometry}
 use Rattle.pur_base.specs.Facts.{object_key, medium_key, address_key, segment_key, elision_key, table_tag}

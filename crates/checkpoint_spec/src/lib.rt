@@ -3,6 +3,7 @@
 #![tactic(auto)]
 
 ghost use Rattle.checkpoint_spec.specs.Contents.{BaseIsRead, WrittenHolds};
+ghost use Rattle.checkpoint_spec.specs.Eliding.{ElidingReads};
 ghost use Rattle.checkpoint_spec.specs.Flushing.{ShrinkingReads, FlushShrinks};
 ghost use Rattle.checkpoint_spec.specs.Placing.{PlacingReads};
 ghost use Rattle.checkpoint_spec.specs.Whole.{PatchesAreFlushed, PatchesAreAll, PatchesRead, RecordIsSound};
@@ -30,4 +31,9 @@ pub fn flushes_keep_memory()
 /// Memory whose staged sectors are placed in new segments stays sound and reads the same.
 pub fn placing_keeps_memory()
     ensures { PlacingReads }
+{}
+
+/// Memory in which what nothing reaches is elided stays sound and reads the same.
+pub fn eliding_keeps_memory()
+    ensures { ElidingReads }
 {}
