@@ -7,3 +7,4 @@ pub mod Repointed
 pub mod Placing
 pub mod Elided
 pub mod Eliding
+pub mod Checkpointed

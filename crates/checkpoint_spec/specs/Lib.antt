@@ -3,3 +3,4 @@ pub mod Whole
 pub mod Flushing
 pub mod Placing
 pub mod Eliding
+pub mod Checkpoint

@@ -2,6 +2,7 @@
 //! There is no code: each public function here promises, as its contract, a law of these definitions.
 #![tactic(auto)]
 
+ghost use Rattle.checkpoint_spec.specs.Checkpoint.{CheckpointReads, CheckpointHolds};
 ghost use Rattle.checkpoint_spec.specs.Contents.{BaseIsRead, WrittenHolds};
 ghost use Rattle.checkpoint_spec.specs.Eliding.{ElidingReads};
 ghost use Rattle.checkpoint_spec.specs.Flushing.{ShrinkingReads, FlushShrinks};
@@ -36,4 +37,10 @@ pub fn placing_keeps_memory()
 /// Memory in which what nothing reaches is elided stays sound and reads the same.
 pub fn eliding_keeps_memory()
     ensures { ElidingReads }
+{}
+
+/// A checkpoint changes no reading, and once it is written its record holds the array.
+pub fn checkpoints_hold()
+    ensures reads { CheckpointReads }
+    ensures holds { CheckpointHolds }
 {}
