@@ -1,5 +1,5 @@
 -- The steps of a checkpoint, one after another.
-use Rattle.std.proofs.Common.{◌≡◌, ℕ, List, [], sym, ◌∙◌, subst}
+use Rattle.std.proofs.Common.{[], sym, ◌∙◌, subst}
 use Rattle.pur_base.specs.Plain.{Array}
 use Rattle.array_spec.specs.Stored.{all_facts}
 use Rattle.memory_spec.specs.Tables.{patches}
@@ -41,5 +41,5 @@ checkpoint_holds shelf image slot boot contents contents2 was now array r c reco
     let sound = record_is_sound shelf boot now after.sound all c.layered record_is.segments record_is.next record_is.patches in
     let base = patches_read contents2 now array all after in
     let same : FactsRead contents2 [] (all_facts (patches now.tables)) boot.next.object array =
-        subst (λ (n : NextNumbers). FactsRead contents2 [] (all_facts (patches now.tables)) n.object array) (sym record_is.next) base in
+    subst (λ (n : NextNumbers). FactsRead contents2 [] (all_facts (patches now.tables)) n.object array) (sym record_is.next) base in
     (sound, written_holds shelf image slot boot (patches now.tables) contents2 array sound same stands)

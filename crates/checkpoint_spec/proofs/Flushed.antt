@@ -49,7 +49,7 @@ module _ {F : Type 0} (key number : F → ℕ) (was now : Layers F) (h : IsTable
 
 -- ---- elisions
 
-grows_all : (fs : List ElisionFact) → AreElisionsSound fs → Grow elision_key (λ f. f.seq.0) is_narrower fs
+pub grows_all : (fs : List ElisionFact) → AreElisionsSound fs → Grow elision_key (λ f. f.seq.0) is_narrower fs
 grows_all fs h = elisions_grow fs (λ f g c d first tags less. elim (pairs_of (λ a b. Grows a b × Grows b a) fs f g h.grow c d) [
   | inl same ↦ (let e : f.seq.0 ≡ g.seq.0 = ap (λ z. z.seq.0) same in absurd (omega (arith, e, less)))
   | inr either ↦ elim either [ inl r ↦ r.0 first tags less | inr r ↦ r.1 first tags less ]

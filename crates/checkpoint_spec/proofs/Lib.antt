@@ -8,3 +8,4 @@ pub mod Placing
 pub mod Elided
 pub mod Eliding
 pub mod Checkpointed
+pub mod Merged

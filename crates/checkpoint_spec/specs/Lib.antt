@@ -4,3 +4,4 @@ pub mod Flushing
 pub mod Placing
 pub mod Eliding
 pub mod Checkpoint
+pub mod Merging

@@ -6,6 +6,7 @@ ghost use Rattle.checkpoint_spec.specs.Checkpoint.{CheckpointReads, CheckpointHo
 ghost use Rattle.checkpoint_spec.specs.Contents.{BaseIsRead, WrittenHolds};
 ghost use Rattle.checkpoint_spec.specs.Eliding.{ElidingReads};
 ghost use Rattle.checkpoint_spec.specs.Flushing.{ShrinkingReads, FlushShrinks};
+ghost use Rattle.checkpoint_spec.specs.Merging.{MergeShrinks};
 ghost use Rattle.checkpoint_spec.specs.Placing.{PlacingReads};
 ghost use Rattle.checkpoint_spec.specs.Whole.{PatchesAreFlushed, PatchesAreAll, PatchesRead, RecordIsSound};
 
@@ -23,10 +24,11 @@ pub fn patches_are_memory()
     ensures sound { RecordIsSound }
 {}
 
-/// Memory that only loses facts, and says the same, stays sound and reads the same; so does memory that is flushed.
+/// Memory that only loses facts, and says the same, stays sound and reads the same: so a flush and a merge change no reading.
 pub fn flushes_keep_memory()
     ensures reads { ShrinkingReads }
     ensures flush { FlushShrinks }
+    ensures merge { MergeShrinks }
 {}
 
 /// Memory whose staged sectors are placed in new segments stays sound and reads the same.
