@@ -39,6 +39,7 @@ use Rattle.register.specs.Registers.{OnSlots, drives_of, own_slot, next_slot, na
 use Rattle.register.specs.Standing.{Content, StandsInLog, MayStore, IsOpen, IsNextOf, GivesOldOrNext, unflushed}
 use Rattle.stored_spec.specs.Held.{TablesHold}
 use Rattle.stored_spec.proofs.Next.{same_drives_hold}
+use Rattle.register.proofs.Shows.{holds_shows}
 use Rattle.register.proofs.Unflushed.{unflushed_now, unflushed_record}
 use Rattle.session_spec.specs.Entering.{IsStanding}
 use Rattle.array_core.specs.Losing.{lost_since, lost_by}
@@ -322,7 +323,7 @@ module _ (a m : Shelved) (r : Register) (members now : List Bool) (cmds : List C
       };
       tables = λ start may. subst (λ (g : Geometry). TablesHold g start.image (own_slot r.record) r.record [] []) (same_geometry p.on) (held_still start may);
       bodies = λ i mem. subst (λ (d : Disk). body_in (own_slot r.record) d.bytes ≡ spelling r.record) (sym (p.same i)) (p.was_open.logged.bodies i mem);
-      holds = holds;
+      holds = holds_shows holds;
       accepted = p.accepted;
     }
 
@@ -505,7 +506,3 @@ appending a m r log now cmds c is is_mid h on o keeps low free flushed accepted 
       subst (λ (k : ℕ). HasSpelling k c) e spelled;
   in_force = in_force;
 }
-
--- the log that was held before it is appended to
-pub was_held : {a : Shelved} (r : Register) (log : NvLog) {cmds : List Command} → log.flushed ≡ r.record.flushed → IsOpen a r log.members (unflushed cmds) → HoldsOn a log.members log.flushed cmds
-was_held {a} r log {cmds} flushed o = subst (λ (f : ℕ). HoldsOn a log.members f cmds) (sym flushed) o.logged.holds

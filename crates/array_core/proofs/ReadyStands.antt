@@ -17,7 +17,7 @@ use Rattle.world.specs.Shelf.{Shelved, Stop, MayStop}
 use Rattle.boot_region.specs.Members.{IsMember}
 use Rattle.boot_region.proofs.Phases.{risen_on_way}
 use Rattle.boot_region.proofs.ShownLemmas.{as_read, member_below}
-use Rattle.nvram_log.specs.Held.{Keeps}
+use Rattle.nvram_log.specs.Held.{HoldsOn, Keeps}
 use Rattle.nvram_log.specs.Members as nv
 use Rattle.register.specs.declared.state.Register.{Register}
 use Rattle.register.specs.Registers.{drives_of, named_sound}
@@ -140,6 +140,6 @@ agrees_after old new was now commands more ready ready_now drops none conditions
         unnamed (names now.register.record d) (names was.register.record d) (named_before old was commands ready now none d) (agrees.left_out d before)
 
 -- an opening makes a ready array
-pub made_ready : (shelf : Shelved) (a : Array) (commands : List Command) → IsOpen shelf a.register a.log.members (unflushed commands) → Keeps a.log commands → a.log.flushed ≡ a.register.record.flushed
+pub made_ready : (shelf : Shelved) (a : Array) (commands : List Command) → IsOpen shelf a.register a.log.members (unflushed commands) → HoldsOn shelf a.log.members a.log.flushed commands → Keeps a.log commands → a.log.flushed ≡ a.register.record.flushed
     → a.plain ≡ after_all [] commands → nv.IsSome a.log.members → AllByRecursion (λ c. is_in_force c.request ≡ true) commands → IsReady shelf a commands
-made_ready shelf a commands o keeps flushed plain some in_force = record { is_open = o; keeps = keeps; flushed = flushed; plain = plain; some = some; in_force = in_force }
+made_ready shelf a commands o held keeps flushed plain some in_force = record { is_open = o; held = held; keeps = keeps; flushed = flushed; plain = plain; some = some; in_force = in_force }

@@ -5,7 +5,7 @@ use Rattle.pur_base.specs.Commands.{Command, after_all}
 use Rattle.pur_base.specs.Devices.{Geometry}
 use Rattle.pur_base.specs.Grammar.{is_in_force}
 use Rattle.world.specs.Shelf.{Shelved}
-use Rattle.nvram_log.specs.Held.{Keeps}
+use Rattle.nvram_log.specs.Held.{HoldsOn, Keeps}
 use Rattle.nvram_log.specs.Members.{IsSome}
 use Rattle.register.specs.Registers.{IsRegisterOf}
 use Rattle.register.specs.Standing.{IsOpen, unflushed}
@@ -19,6 +19,7 @@ pub record IsArrayOf (shelf : Geometry) (a : Array) : Type 0 where
 -- The record alone is in force, the log in memory and on its devices holds the commands, of forms in force alone, and the array is what they make of nothing.
 pub record IsReady (shelf : Shelved) (a : Array) (commands : List Command) : Type 0 where
   pub is_open : IsOpen shelf a.register a.log.members (unflushed commands)
+  pub held : HoldsOn shelf a.log.members a.log.flushed commands
   pub keeps : Keeps a.log commands
   pub flushed : a.log.flushed ≡ a.register.record.flushed
   pub plain : a.plain ≡ after_all [] commands

@@ -121,7 +121,7 @@ module _ (old mid new : Shelved) (r : Recovered) (input left : List ℕ) (ended 
       recovered : IsBearable (geometry_of old) (failed_since old start missing) → (commands : List Command) × IsReady start (array_of r) commands × Contains arrays r.plain
       recovered bears =
           let it = o.recovered missing arrays enters bears in
-          (it.commands, made_ready start (array_of r) it.commands it.opened it.keeps it.flushed it.plain it.some it.in_force, it.one_of)
+          (it.commands, made_ready start (array_of r) it.commands it.opened it.held it.keeps it.flushed it.plain it.some it.in_force, it.one_of)
 
       each : (stop : Stop) → new.left_since old.moment stop → Here stop
       each stop since = elim (bearable_or_not (geometry_of old) (failed_since old start missing)) [

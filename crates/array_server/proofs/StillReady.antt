@@ -22,6 +22,7 @@ module _ (was now : Shelved) (a : Array) (commands : List Command) where
       let o = r.is_open in
       let l = o.logged in
       record {
+        held = record { log = r.held.log; clean = r.held.clean };
         keeps = r.keeps;
         flushed = r.flushed;
         plain = r.plain;

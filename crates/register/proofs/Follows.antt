@@ -29,9 +29,8 @@ use Rattle.boot_region.specs.Storing.{StandsNow, OnlyBoot, IsInForceOn, MayFollo
 use Rattle.boot_region.proofs.Composing.{all_decide, as_it_is}
 use Rattle.boot_region.proofs.ShownLemmas.{as_read}
 use Rattle.nvram_log.specs.Members as nv
-use Rattle.nvram_log.specs.Held.{HoldsOn}
 use Rattle.register.specs.Registers.{next_record}
-use Rattle.register.specs.Standing.{Content, array_of}
+use Rattle.register.specs.Standing.{Content, ShowsOn, array_of}
 use Rattle.register.proofs.Splice.{at_splice, splice_stops, splice_bodies, splice_boot, only_boot_twice}
 use Rattle.register.proofs.Numbers.{generation_spelled, next_other, yields_le, slots_differ}
 
@@ -52,7 +51,7 @@ module _ (shelf : Shelved) (is : IsShelf shelf) (boot : BootRecord) (members dri
     (bytes : (d : Device) (i : ℕ) → slice_index (shelf.disk d).bytes i < 256)
     (tables : (start : Stop) → MayStop shelf start → TablesHold (geometry_of shelf) start.image (slot_of boot.generation) boot held.patches held.base)
     (bodies : (i : ℕ) → IsMember drives i → (names boot (drive i) ≡ true) × (body_in (slot_of boot.generation) (shelf.disk (drive i)).bytes ≡ spelling boot)) (among : (i : ℕ) → IsMember members i → IsMember drives i) (some : nv.IsSome nvrams)
-    (holds : HoldsOn shelf nvrams boot.flushed held.log) (accepted : AllAccepted held.base held.log)
+    (holds : ShowsOn shelf nvrams boot.flushed held.log) (accepted : AllAccepted held.base held.log)
     (force : IsInForceOn shelf members missing (other_slot (slot_of boot.generation)) boot) (stands : StandsNow shelf missing arrays) (one_of : Contains arrays (array_of held))
     (sound : (n : ℕ) → n < 2 → missing (nvram n) ≡ Sound → nv.IsMember nvrams n) (left_out : (n : ℕ) → missing (nvram n) ≡ LeftOut → nv.IsMember nvrams n → ⊥)
     (no_drive : (i : ℕ) → missing (drive i) ≡ LeftOut → names boot (drive i) ≡ false) where

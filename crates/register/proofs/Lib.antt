@@ -10,3 +10,5 @@ pub mod Stores
 pub mod Turns
 pub mod Splice
 pub mod Unflushed
+pub mod Shows
+pub mod Tabling

@@ -3,7 +3,7 @@ use Rattle.std.proofs.Common.{◌≡◌, inl, inr, ℕ, zero, suc, ◌+◌, ◌-
 use Rattle.std.specs.Prelude.{slice_index, slice_index_or}
 use Rattle.std.proofs.lemmas.Bool.{cases_Bool, cases_lt}
 use Rattle.pur_base.specs.declared.device.Device.{Device}
-use Rattle.pur_base.specs.Devices.{Conditions, drive, nvram}
+use Rattle.pur_base.specs.Devices.{Geometry, Conditions, drive, nvram}
 use Rattle.pur_base.specs.Plain.{Array}
 use Rattle.boot_codec.specs.declared.limits.TheConstants.{RECORD_BYTES}
 use Rattle.boot_codec.specs.declared.record.BootRecord.{BootRecord}
@@ -25,11 +25,9 @@ use Rattle.boot_region.specs.Members.{IsMember, NonMembersStay, DroppedFailed, O
 use Rattle.boot_region.specs.Storing.{Shows, IsInStore, HeldStill, IsOlder, IsInForceOn, IsNewer, IsStoredIn, MayFollow, StandsBut}
 use Rattle.boot_region.proofs.ShownLemmas.{shown_body}
 use Rattle.nvram_log.specs.Members as nv
-use Rattle.nvram_log.specs.Held.{HoldsOn}
-use Rattle.nvram_log.specs.Slots.{IsLog}
 use Rattle.register.specs.declared.state.Register.{Register}
 use Rattle.register.specs.Registers.{IsRegisterOf, OnSlots, drives_of, own_slot, next_slot, next_record}
-use Rattle.register.specs.Standing.{Content, IsNextOf, GivesOldOrNext, IsInStoreOf, StillGiven, StandsInLog, MayStore, MayStoreAgain}
+use Rattle.register.specs.Standing.{Content, IsShown, ShowsOn, IsNextOf, GivesOldOrNext, IsInStoreOf, StillGiven, StandsInLog, MayStore, MayStoreAgain}
 use Rattle.register.proofs.Again.{both}
 use Rattle.register.proofs.FlagLemmas.{fewer_mask, in_cut, cut_in, none_past}
 use Rattle.register.proofs.Numbers.{generation_spelled, next_other, lower_yields}
@@ -71,10 +69,10 @@ apart members A i k low high (inr w) = omega (arith, low, high, w.1.0, w.1.1)
 apart members B i k low high (inl w) = omega (arith, low, high, w.1.0, w.1.1)
 apart members B i k low high (inr w) = omega (arith, low, high, w.1.0, w.1.1)
 
-other_body : (members : List Bool) (s : BootSlot) (i : ℕ) (old new : Disk) → ChangesOnly (OnSlot members s (drive i)) old new → body_in (other_slot s) new.bytes ≡ body_in (other_slot s) old.bytes
+pub other_body : (members : List Bool) (s : BootSlot) (i : ℕ) (old new : Disk) → ChangesOnly (OnSlot members s (drive i)) old new → body_in (other_slot s) new.bytes ≡ body_in (other_slot s) old.bytes
 other_body members s i old new changes = bytes_same new.bytes old.bytes (body_place (other_slot s)) RECORD_BYTES changes.size (λ k low high. changes.bytes k (apart members s i k low high))
 
-on_slots : (members : List Bool) (s : BootSlot) (d : Device) (i : ℕ) → OnSlot members s d i → OnSlots members d i
+pub on_slots : (members : List Bool) (s : BootSlot) (d : Device) (i : ℕ) → OnSlot members s d i → OnSlots members d i
 on_slots members A d i w = inl w
 on_slots members B d i w = inr w
 
@@ -92,53 +90,77 @@ pub record Puts (old new : Shelved) (now : Register) (members : List Bool) (slot
       → IsStoredIn old new members (drives_of now) missing slot held boot arrays
 
 -- in the words of the record before
-pub puts_next : (old new : Shelved) (was mid now : Register) (nvrams : List Bool) → mid.record ≡ next_record was.record was.drives nvrams → mid.drives ≡ was.drives → mid.body.items ≡ spelling mid.record
-    → Puts old new now (drives_of mid) (own_slot mid.record) mid.body.items → Puts old new now (drives_of was) (next_slot was.record) (spelling (next_record was.record was.drives nvrams))
-puts_next old new was mid now nvrams record_is drives_are body_is puts =
-    let cut : drives_of mid ≡ drives_of was = ap (λ (b : BootRecord). take b.slots mid.drives) record_is ∙ ap (take was.record.slots) drives_are in
-    let slot : own_slot mid.record ≡ next_slot was.record = ap own_slot record_is ∙ next_other was.record.generation in
-    let body : mid.body.items ≡ spelling (next_record was.record was.drives nvrams) = body_is ∙ ap spelling record_is in
+pub puts_next : (old new : Shelved) (was mid now : Register) (boot : BootRecord) → boot.slots ≡ was.record.slots → own_slot boot ≡ next_slot was.record → mid.record ≡ boot → mid.drives ≡ was.drives → mid.body.items ≡ spelling mid.record
+    → Puts old new now (drives_of mid) (own_slot mid.record) mid.body.items → Puts old new now (drives_of was) (next_slot was.record) (spelling boot)
+puts_next old new was mid now boot slots goes record_is drives_are body_is puts =
+    let cut : drives_of mid ≡ drives_of was = ap (λ (b : BootRecord). take b.slots mid.drives) record_is ∙ ap (take boot.slots) drives_are ∙ ap (λ (n : ℕ). take n was.drives) slots in
+    let slot : own_slot mid.record ≡ next_slot was.record = ap own_slot record_is ∙ goes in
+    let body : mid.body.items ≡ spelling boot = body_is ∙ ap spelling record_is in
     subst (λ (l : List ℕ). Puts old new now (drives_of was) (next_slot was.record) l) body
     (subst (λ (t : BootSlot). Puts old new now (drives_of was) t mid.body.items) slot
     (subst (λ (l : List Bool). Puts old new now l (own_slot mid.record) mid.body.items) cut puts))
 
-module _ (old new : Shelved) (is_old : IsShelf old) (on : Continues old new) (was now : Register) (nvrams : List Bool) (is_of : IsRegisterOf (geometry_of old) was) (some : nv.IsSome nvrams)
-    (lawful : IsBootRecord (next_record was.record was.drives nvrams)) (kept : now.record ≡ next_record was.record was.drives nvrams)
-    (beyond : (i : ℕ) → was.record.slots ≤ i → IsMember now.drives i → IsMember was.drives i)
-    (puts : Puts old new now (drives_of was) (next_slot was.record) (spelling (next_record was.record was.drives nvrams))) where
+-- a register of a record that names the drives that are left
+module _ (old new : Shelved) (on : Continues old new) (was now : Register) (boot : BootRecord) (is_of : IsRegisterOf (geometry_of old) was) (lawful : IsBootRecord boot) (slots : boot.slots ≡ was.record.slots) (units : boot.units ≡ was.record.units)
+    (names_left : (i : ℕ) → IsMember was.drives i → IsMember boot.members.drives i) (kept : now.record ≡ boot) (beyond : (i : ℕ) → was.record.slots ≤ i → IsMember now.drives i → IsMember was.drives i)
+    (fewer : (i : ℕ) → IsMember (drives_of now) i → IsMember (drives_of was) i) where
   pub fewer_all : (i : ℕ) → IsMember now.drives i → IsMember was.drives i
   fewer_all i m = elim (cases_lt i was.record.slots) [
     | inr ge ↦ beyond i ge m
     | inl lt ↦
-        let slots : was.record.slots ≡ now.record.slots = sym (ap (λ (b : BootRecord). b.slots) kept) in
-        in_cut was.drives was.record.slots i (puts.fewer i (cut_in now.drives now.record.slots i (omega (arith, lt, slots)) m))
+        let same : was.record.slots ≡ now.record.slots = sym (ap (λ (b : BootRecord). b.slots) kept ∙ slots) in
+        in_cut was.drives was.record.slots i (fewer i (cut_in now.drives now.record.slots i (omega (arith, lt, same)) m))
   ]
-
-  pub writes_slots : old.honest → WritesOnly (OnSlots (drives_of was)) old new
-  writes_slots h = writes_more (λ d i w. on_slots (drives_of was) (next_slot was.record) d i w) (puts.writes h)
 
   pub is_of_next : IsRegisterOf (geometry_of new) now
   is_of_next = record {
     lawful = record {
       lawful = subst (λ (b : BootRecord). IsBootRecord b) (sym kept) lawful;
-      slots = ap (λ (b : BootRecord). b.slots) kept ∙ is_of.lawful.slots ∙ sym on.drives;
-      units = ap (λ (b : BootRecord). b.units) kept ∙ is_of.lawful.units ∙ sym on.units;
+      slots = ap (λ (b : BootRecord). b.slots) kept ∙ slots ∙ is_of.lawful.slots ∙ sym on.drives;
+      units = ap (λ (b : BootRecord). b.units) kept ∙ units ∙ is_of.lawful.units ∙ sym on.units;
     };
-    named = λ i m. subst (λ (b : BootRecord). IsMember b.members.drives i) (sym kept) (fewer_all i m);
+    named = λ i m. subst (λ (b : BootRecord). IsMember b.members.drives i) (sym kept) (names_left i (fewer_all i m));
   }
 
-  -- a drive that is left is one of the shelf's
-  cut_drives : (i : ℕ) → IsMember was.drives i → IsMember (drives_of was) i
-  cut_drives i m = elim (cases_lt i was.record.slots) [
-    | inl lt ↦ cut_in was.drives was.record.slots i lt m
-    | inr ge ↦ absurd (none_past was.record.members.drives was.record.slots i is_of.lawful.lawful.members.within ge (is_of.named i m))
-  ]
+-- of the shelf's drives all that are left are in the slots of its record
+pub cut_drives : (shelf : Geometry) (r : Register) → IsRegisterOf shelf r → (i : ℕ) → IsMember r.drives i → IsMember (drives_of r) i
+cut_drives shelf r is_of i m = elim (cases_lt i r.record.slots) [
+  | inl lt ↦ cut_in r.drives r.record.slots i lt m
+  | inr ge ↦ absurd (none_past r.record.members.drives r.record.slots i is_of.lawful.lawful.members.within ge (is_of.named i m))
+]
 
-  same_size : geometry_of old ≡ geometry_of new
-  same_size =
-      let e : new.drives ≡ old.drives = on.drives in
-      let f : new.units ≡ old.units = on.units in
-      λ k. record { slots = sym e k; units = sym f k }
+pub same_shelf : {old new : Shelved} → Continues old new → geometry_of old ≡ geometry_of new
+same_shelf {old} {new} on =
+    let e : new.drives ≡ old.drives = on.drives in
+    let f : new.units ≡ old.units = on.units in
+    λ k. record { slots = sym e k; units = sym f k }
+
+-- what a store leaves of the units behind the boot region, as a stop before it might have
+module _ (old new : Shelved) (h : old.honest) (now : Register) (members : List Bool) (slot : BootSlot) (body : List ℕ) (puts : Puts old new now members slot body) (start : Stop) (may : MayStop new start) where
+  pub long : (i : ℕ) → length (old.disk (drive i)).bytes ≡ length (start.image (drive i))
+  long i = sym (((puts.writes h).device (drive i)).size) ∙ sym (may.device (drive i)).size
+
+  pub same_behind : (d i : ℕ) → 196608 ≤ i → (IsInSome (old.disk (drive d)).dirty i → ⊥) → slice_index (start.image (drive d)) i ≡ slice_index (old.disk (drive d)).bytes i
+  same_behind d i le not =
+      let changes = (puts.writes h).device (drive d) in
+      let outside : OnSlot members slot (drive d) i → ⊥ = λ w. in_boot members slot d i le w in
+      (may.device (drive d)).clean i (λ dirty. elim (changes.dirty i dirty) [ inl was_dirty ↦ not was_dirty | inr w ↦ outside w ]) ∙ changes.bytes i outside
+
+  pub log_then : (n : ℕ) → MayLeave (old.disk (nvram n)) (start.image (nvram n))
+  log_then n = subst (λ (d : Disk). MayLeave d (start.image (nvram n))) (puts.others (nvram n) (λ x. x)) (may.device (nvram n))
+
+module _ (old new : Shelved) (is_old : IsShelf old) (on : Continues old new) (was now : Register) (nvrams : List Bool) (is_of : IsRegisterOf (geometry_of old) was) (some : nv.IsSome nvrams)
+    (lawful : IsBootRecord (next_record was.record was.drives nvrams)) (kept : now.record ≡ next_record was.record was.drives nvrams)
+    (beyond : (i : ℕ) → was.record.slots ≤ i → IsMember now.drives i → IsMember was.drives i)
+    (puts : Puts old new now (drives_of was) (next_slot was.record) (spelling (next_record was.record was.drives nvrams))) where
+  pub writes_slots : old.honest → WritesOnly (OnSlots (drives_of was)) old new
+  writes_slots h = writes_more (λ d i w. on_slots (drives_of was) (next_slot was.record) d i w) (puts.writes h)
+
+  its_register : IsRegisterOf (geometry_of new) now
+  its_register = is_of_next old new on was now (next_record was.record was.drives nvrams) is_of lawful refl refl (λ i m. m) kept beyond puts.fewer
+
+  cut : (i : ℕ) → IsMember was.drives i → IsMember (drives_of was) i
+  cut i m = cut_drives (geometry_of old) was is_of i m
 
   nvram_same : (n : ℕ) → new.disk (nvram n) ≡ old.disk (nvram n)
   nvram_same n = puts.others (nvram n) (λ x. x)
@@ -150,36 +172,33 @@ module _ (old new : Shelved) (is_old : IsShelf old) (on : Continues old new) (wa
     own_is : own_slot (next_record was.record was.drives nvrams) ≡ next_slot was.record
     own_is = next_other was.record.generation
 
-    -- a stop after the store leaves the other units as one before it might have
+    -- its tables hold whatever a stop leaves
     module _ (start : Stop) (may : MayStop new start) where
-      long : (i : ℕ) → length (old.disk (drive i)).bytes ≡ length (start.image (drive i))
-      long i = sym (((puts.writes h).device (drive i)).size) ∙ sym (may.device (drive i)).size
+      abbrev long_then : (i : ℕ) → length (old.disk (drive i)).bytes ≡ length (start.image (drive i))
+      long_then = long old new h now (drives_of was) (next_slot was.record) (spelling (next_record was.record was.drives nvrams)) puts start may
 
-      same : (d i : ℕ) → 196608 ≤ i → (IsInSome (old.disk (drive d)).dirty i → ⊥) → slice_index (start.image (drive d)) i ≡ slice_index (old.disk (drive d)).bytes i
-      same d i le not =
-          let changes = (puts.writes h).device (drive d) in
-          let outside : OnSlot (drives_of was) (next_slot was.record) (drive d) i → ⊥ = λ w. in_boot (drives_of was) (next_slot was.record) d i le w in
-          (may.device (drive d)).clean i (λ dirty. elim (changes.dirty i dirty) [ inl was_dirty ↦ not was_dirty | inr w ↦ outside w ]) ∙ changes.bytes i outside
+      abbrev same_then : (d i : ℕ) → 196608 ≤ i → (IsInSome (old.disk (drive d)).dirty i → ⊥) → slice_index (start.image (drive d)) i ≡ slice_index (old.disk (drive d)).bytes i
+      same_then = same_behind old new h now (drives_of was) (next_slot was.record) (spelling (next_record was.record was.drives nvrams)) puts start may
 
-      log_then : (n : ℕ) → MayLeave (old.disk (nvram n)) (start.image (nvram n))
-      log_then n = subst (λ (d : Disk). MayLeave d (start.image (nvram n))) (nvram_same n) (may.device (nvram n))
+      abbrev nvram_then : (n : ℕ) → MayLeave (old.disk (nvram n)) (start.image (nvram n))
+      nvram_then = log_then old new h now (drives_of was) (next_slot was.record) (spelling (next_record was.record was.drives nvrams)) puts start may
 
       held_now : TablesHold (geometry_of new) start.image (own_slot (next_record was.record was.drives nvrams)) (next_record was.record was.drives nvrams) held.patches held.base
-      held_now = subst (λ g. TablesHold g start.image (own_slot (next_record was.record was.drives nvrams)) (next_record was.record was.drives nvrams) held.patches held.base) same_size
-          (next_holds (geometry_of old) (at_splice old (is_old.bytes h) start.image long (λ d. (may.device d).is_byte) same log_then).image start.image (own_slot was.record) (own_slot (next_record was.record was.drives nvrams))
+      held_now = subst (λ g. TablesHold g start.image (own_slot (next_record was.record was.drives nvrams)) (next_record was.record was.drives nvrams) held.patches held.base) (same_shelf on)
+          (next_holds (geometry_of old) (at_splice old (is_old.bytes h) start.image long_then (λ d. (may.device d).is_byte) same_then nvram_then).image start.image (own_slot was.record) (own_slot (next_record was.record was.drives nvrams))
           was.record (next_record was.record was.drives nvrams) held.patches held.base is_of.lawful refl
-          (λ i m body. (is_of.named i m, splice_bodies old (is_old.bytes h) start.image long (λ d. (may.device d).is_byte) same log_then (own_slot was.record) i ∙ logged.bodies i (cut_drives i m)))
-          (splice_boot old (is_old.bytes h) start.image long (λ d. (may.device d).is_byte) same log_then)
-          (logged.tables (at_splice old (is_old.bytes h) start.image long (λ d. (may.device d).is_byte) same log_then) (splice_stops old (is_old.bytes h) start.image long (λ d. (may.device d).is_byte) same log_then)))
+          (λ i m body. (is_of.named i m, splice_bodies old (is_old.bytes h) start.image long_then (λ d. (may.device d).is_byte) same_then nvram_then (own_slot was.record) i ∙ logged.bodies i (cut i m)))
+          (splice_boot old (is_old.bytes h) start.image long_then (λ d. (may.device d).is_byte) same_then nvram_then)
+          (logged.tables (at_splice old (is_old.bytes h) start.image long_then (λ d. (may.device d).is_byte) same_then nvram_then) (splice_stops old (is_old.bytes h) start.image long_then (λ d. (may.device d).is_byte) same_then nvram_then)))
 
     pub logged_next : StandsInLog new now nvrams held
     logged_next = record {
-      is_of = is_of_next;
+      is_of = its_register;
       tables = λ start may. subst (λ (b : BootRecord). TablesHold (geometry_of new) start.image (own_slot b) b held.patches held.base) (sym kept) (held_now start may);
       bodies = λ i m. subst (λ (b : BootRecord). body_in (own_slot b) (new.disk (drive i)).bytes ≡ spelling b) (sym kept)
           (subst (λ (t : BootSlot). body_in t (new.disk (drive i)).bytes ≡ spelling (next_record was.record was.drives nvrams)) (sym own_is) (body_stands i m));
-      holds = subst (λ (b : BootRecord). HoldsOn new nvrams b.flushed held.log) (sym kept) (record {
-        log = λ n lt m. subst (λ (d : Disk). IsLog d.bytes was.record.flushed held.log) (sym (nvram_same n)) (logged.holds.log n lt m);
+      holds = subst (λ (b : BootRecord). ShowsOn new nvrams b.flushed held.log) (sym kept) (record {
+        log = λ n lt m. subst (λ (d : Disk). IsShown d.bytes was.record.flushed held.log) (sym (nvram_same n)) (logged.holds.log n lt m);
         clean = λ n lt m. subst (λ (d : Disk). d.dirty ≡ []) (sym (nvram_same n)) (logged.holds.clean n lt m);
       });
       accepted = logged.accepted;
@@ -216,7 +235,7 @@ module _ (old new : Shelved) (is_old : IsShelf old) (on : Continues old new) (wa
 
     follow : MayFollow old missing (next_slot was.record) (next_record was.record was.drives nvrams) arrays
     follow = may_follow old is_old was.record (drives_of was) was.drives nvrams missing held arrays is_of.lawful next_lawful_of not_spent (is_old.bytes h) may.logged.tables
-        (λ i m. (is_of.named i m, may.logged.bodies i (cut_drives i m))) among some may.logged.holds may.logged.accepted may.in_force may.stands may.one_of may.sound may.left_out may.unnamed
+        (λ i m. (is_of.named i m, may.logged.bodies i (cut i m))) among some may.logged.holds may.logged.accepted may.in_force may.stands may.one_of may.sound may.left_out may.unnamed
 
     stands_next : (stop : Stop) → IsInStore old (drives_of was) (next_slot was.record) (spelling (next_record was.record was.drives nvrams)) stop → StandsBut old (drives_of was) missing (next_slot was.record) was.record arrays stop
     stands_next stop at = at.stands missing was.record (next_record was.record was.drives nvrams) arrays refl may.in_force follow
@@ -258,7 +277,7 @@ module _ (old new : Shelved) (is_old : IsShelf old) (on : Continues old new) (wa
       back = λ held logged shows. elim at.phase [
         | inl still ↦ inl (still_next held stop still)
         | inr opening ↦ inr (record {
-          each = λ missing arrays may back m. stands_back old is_old was nvrams held some lawful not_spent shows (is_old.bytes h) (cut_drives) stop opening left missing arrays may back m;
+          each = λ missing arrays may back m. stands_back old is_old was nvrams held some lawful not_spent shows (is_old.bytes h) cut stop opening left missing arrays may back m;
         })
       ];
     }

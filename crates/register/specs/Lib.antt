@@ -1,3 +1,4 @@
 pub mod Registers
 pub mod Standing
+pub mod Tables
 pub mod Faults

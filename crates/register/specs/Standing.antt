@@ -1,5 +1,5 @@
 -- An array that stands in its tables and its log, by the record in the register.
-use Rattle.std.specs.Prelude.{◌≡◌, ◌⊎◌, ℕ, ◌<◌, List, [], ◌∷◌, Bool, true, false, Some, Contains}
+use Rattle.std.specs.Prelude.{◌≡◌, ◌⊎◌, ℕ, ◌<◌, ◌≤◌, List, [], ◌∷◌, length, Bool, true, false, Some, Contains}
 use Rattle.pur_base.specs.Devices.{Conditions, Sound, LeftOut, IsBearable, drive, nvram}
 use Rattle.pur_base.specs.Plain.{Array}
 use Rattle.pur_base.specs.Commands.{Command, AllAccepted, after_all}
@@ -13,7 +13,8 @@ use Rattle.world.specs.Shelf.{Shelved, Stop, MayStop}
 use Rattle.world.specs.Losing.{geometry_of, has_risen}
 use Rattle.boot_region.specs.Members.{IsMember}
 use Rattle.boot_region.specs.Storing.{WasGiven, StandsNow, StandsBut, IsInForceOn, AreOlder, AccountsFor}
-use Rattle.nvram_log.specs.Held.{HoldsOn}
+use Rattle.log_codec.specs.declared.limits.TheConstants.{LOG_SLOTS}
+use Rattle.nvram_log.specs.Slots.{IsBetween}
 use Rattle.nvram_log.specs.Members as nv
 use Rattle.register.specs.declared.state.Register.{Register}
 use Rattle.register.specs.Registers.{IsRegisterOf, IsLaterRecord, own_slot, next_slot, drives_of, named_sound}
@@ -32,12 +33,22 @@ array_of held = after_all held.base held.log
 abbrev pub unflushed : List Command → Content
 unflushed commands = record { patches = []; base = []; log = commands }
 
--- the record's bytes stand on each of the drives, its tables hold the base whatever a stop leaves, and each of the NVRAM devices holds the log
+-- the bytes show this log and no other command behind what is flushed
+pub record IsShown (bytes : List ℕ) (flushed : ℕ) (commands : List Command) : Type 0 where
+  pub room : length commands ≤ LOG_SLOTS
+  pub between : IsBetween bytes flushed commands commands
+
+-- each of the NVRAM devices does, and nothing is dirty on it
+pub record ShowsOn (shelf : Shelved) (members : List Bool) (flushed : ℕ) (commands : List Command) : Type 0 where
+  pub log : (n : ℕ) → n < 2 → nv.IsMember members n → IsShown (shelf.disk (nvram n)).bytes flushed commands
+  pub clean : (n : ℕ) → n < 2 → nv.IsMember members n → (shelf.disk (nvram n)).dirty ≡ []
+
+-- the record's bytes stand on each of the drives, its tables hold the base whatever a stop leaves, and each of the NVRAM devices shows the log
 pub record StandsInLog (shelf : Shelved) (r : Register) (nvrams : List Bool) (held : Content) : Type 0 where
   pub is_of : IsRegisterOf (geometry_of shelf) r
   pub tables : (start : Stop) → MayStop shelf start → TablesHold (geometry_of shelf) start.image (own_slot r.record) r.record held.patches held.base
   pub bodies : (i : ℕ) → IsMember (drives_of r) i → body_in (own_slot r.record) (shelf.disk (drive i)).bytes ≡ spelling r.record
-  pub holds : HoldsOn shelf nvrams r.record.flushed held.log
+  pub holds : ShowsOn shelf nvrams r.record.flushed held.log
   pub accepted : AllAccepted held.base held.log
 
 -- In these conditions the next record may be stored: the record is in force, and the devices stand for the arrays, one of which is that of the log.

@@ -23,7 +23,7 @@ impl Register {
     ghost use Rattle.register.specs.Standing.{AllShow, Content, GivesOldOrNext, IsInStoreOf, StandsBack, StandsInLog, StillGiven, MayStore, MayStoreAgain, IsOpen};
 
     /// Stores the record as it is spelled, on the drives that are left. Those on which it fails are dropped.
-    fn put<S: Shelf>(&mut self, shelf: &mut S)
+    pub(crate) fn put<S: Shelf>(&mut self, shelf: &mut S)
         requires is_of { IsRegisterOf (geometry_of (S.shelf shelf.old)) self.old }
         ensures continues { Continues (S.shelf shelf.old) (S.shelf shelf.new) }
         ensures rest { S.shelf_rest shelf.old shelf.new }

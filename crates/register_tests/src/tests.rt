@@ -1,10 +1,12 @@
 ghost use Rattle.std.specs.Prelude.{IfOk};
 ghost use Rattle.world.specs.Losing.{geometry_of};
+ghost use Rattle.boot_codec.specs.Record.{IsBootRecord};
 ghost use Rattle.register.specs.Registers.{IsRegisterOf};
+ghost use Rattle.register.specs.Tables.{with_tables};
 
 use boot_codec::{DRIVE_FLAGS, RECORD_BYTES, is_open_gate, read_record};
 use pur_base::{Device, DriveId, SECTOR_BYTES};
-use register::{Register, StoreFault};
+use register::{Register, StoreFault, Tables};
 use std::alloc::Global;
 use std::test::Fail;
 use world::{Failed, Shelf};
@@ -42,6 +44,24 @@ fn register_at<S: Shelf>(alloc: Global, shelf: &S, generation: &[u8; 8]) -> Resu
             let drives = record.members.drives;
             Ok(Register::new(alloc, record, drives)?)
         }
+        Err(_) => Err(Fail::new("record")),
+    }
+}
+
+/// Tables without a patch, for which seven logged commands count as flushed.
+fn seven_flushed<S: Shelf>(alloc: Global, shelf: &S, register: &Register) -> Result<Tables, Fail>
+    requires { IsRegisterOf (geometry_of (S.shelf shelf.now)) register.now }
+    ensures { IfOk result (λ t. IsBootRecord (with_tables register.now.record t)) }
+{
+    let mut body = [0; RECORD_BYTES];
+    body[..88].copy_from_slice(&HEADER);
+    body[79] = 7;
+    match read_record(alloc, &body, shelf.drives(), shelf.units()) {
+        Ok(record) => Ok(Tables {
+            patches: record.patches,
+            next: record.next,
+            flushed: record.flushed,
+        }),
         Err(_) => Err(Fail::new("record")),
     }
 }
@@ -149,5 +169,23 @@ fn the_last_generation_is_stored(rt: HostRuntime) -> Result<(), Fail> {
     let answer = register.store([true, true], &mut world);
     assert_eq!(rt; answer, Err(StoreFault::Spent));
     assert_eq!(rt; register.record().generation, 281474976710655);
+    Ok(())
+}
+
+#[test]
+fn a_record_with_other_tables_is_stored(rt: HostRuntime) -> Result<(), Fail> {
+    let alloc = rt.alloc();
+    let mut world = small_world(alloc)?;
+    // The write of a body fails, behind the read of the gate.
+    world.fail(Device::Drive(DriveId(3)), 2)?;
+    let mut register = register_of(alloc, &world)?;
+    let tables = seven_flushed(alloc, &world, &register)?;
+    let answer = register.store_tables(tables, &mut world);
+    assert_eq!(rt; answer, Ok(()));
+    assert_eq!(rt; register.record().flushed, 7);
+    assert_eq!(rt; register.record().generation, 3);
+    assert_eq!(rt; *register.drives(), all_but(&[3]));
+    let body = read_sector(&mut world, 0, 256)?;
+    assert_eq!(rt; body[79], 7);
     Ok(())
 }

@@ -13,9 +13,10 @@ use Rattle.pur_base.specs.declared.place.Place.{Place}
 use Rattle.boot_codec.specs.declared.patch.Patch.{Patch}
 use Rattle.boot_codec.specs.declared.record.BootRecord.{BootRecord}
 use Rattle.boot_codec.specs.Spelling.{spelling}
-use Rattle.boot_codec.specs.Region.{BootSlot, A, B, body_in}
+use Rattle.boot_codec.specs.Region.{BootSlot, A, B, body_in, IsRecordOf}
 use Rattle.array_spec.specs.Base.{BaseStands}
 use Rattle.array_spec.specs.Counts.{is_used}
+use Rattle.array_spec.specs.Laws.{DiffersOnlyIn}
 use Rattle.array_spec.specs.Sound.{AreSound, AreSegmentsSound}
 use Rattle.array_spec.specs.Meaning.{TablesStand, HoldsBase}
 use Rattle.array_spec.specs.Stored.{PatchStands, all_facts}
@@ -23,7 +24,7 @@ use Rattle.array_spec.proofs.Moves.{SameUnit, Keeps, same_units_keep, tables_kep
 use Rattle.array_spec.proofs.Quiet.{bytes_same}
 use Rattle.array_spec.proofs.Used.{patches_are_used, data_is_used, used_is_data}
 use Rattle.stored_spec.specs.Held.{AreSomeOf, AreEnough, TablesHold}
-use Rattle.stored_spec.specs.Laws.{NextHolds, ShowedBefore, FreeWritesKeep}
+use Rattle.stored_spec.specs.Laws.{NextHolds, DataIsHeld, ShowedBefore, FreeWritesKeep}
 
 -- ---- what the drives of a view showed before
 
@@ -72,7 +73,7 @@ moved shelf v w boot patches base same (tables, stands) = (
 
 -- ---- from the drives of one record to those of another
 
-module _ (shelf : Geometry) (old new : Image) (slot slot2 : BootSlot) (boot next : BootRecord) (showed : ShowedBefore slot boot old slot2 next new) (members : View) (some : AreSomeOf slot2 next new members) where
+module _ (shelf : Geometry) (old new : Image) (members : View) (some : (i : ℕ) → (members (drive i) ≡ None) ⊎ (members (drive i) ≡ Some (new (drive i)))) where
   before : View
   before = then_shown old members
 
@@ -80,15 +81,16 @@ module _ (shelf : Geometry) (old new : Image) (slot slot2 : BootSlot) (boot next
   unfolding before then_shown in_its_place Matches
   matches i = elim (some i) [
     | inl none ↦ inl (rw none refl, none)
-    | inr is ↦ inr (rw is.2 refl, is.2)
+    | inr is ↦ inr (rw is refl, is)
   ]
 
-  some_before : AreSomeOf slot boot old before
+  none_before : (i : ℕ) → members (drive i) ≡ None → before (drive i) ≡ None
   unfolding before then_shown in_its_place
-  some_before i = elim (some i) [
-    | inl none ↦ inl (rw none refl)
-    | inr is ↦ let of = showed i is.0 is.1 in inr (of.0, of.1, rw is.2 refl)
-  ]
+  none_before i none = rw none refl
+
+  some_before : (i : ℕ) → members (drive i) ≡ Some (new (drive i)) → before (drive i) ≡ Some (old (drive i))
+  unfolding before then_shown in_its_place
+  some_before i is = rw is refl
 
   enough_before : AreEnough shelf members → AreEnough shelf before
   unfolding before then_shown
@@ -97,42 +99,79 @@ module _ (shelf : Geometry) (old new : Image) (slot slot2 : BootSlot) (boot next
       omega (arith, same, few)
 
   -- what the tables held then they hold now, where the units that they use are the same
-  held_now : (patches : List (List AnyFact)) (base : Array) (long : (i : ℕ) → length (old (drive i)) ≡ length (new (drive i))) (tables : TablesHold shelf old slot boot patches base) (enough : AreEnough shelf members)
+  held_now : (boot : BootRecord) (patches : List (List AnyFact)) (base : Array) (long : (i : ℕ) → length (old (drive i)) ≡ length (new (drive i)))
+      → TablesStand shelf before boot patches × BaseStands before (all_facts patches) boot.next.object base
       → (AreSegmentsSound shelf boot (all_facts patches) → (p : Place) → is_used boot (all_facts patches) p.slot p.unit ≡ true → (at : ℕ) → at / 65536 ≡ p.unit → slice_index (old (drive p.slot)) at ≡ slice_index (new (drive p.slot)) at)
       → TablesStand shelf members boot patches × BaseStands members (all_facts patches) boot.next.object base
-  held_now patches base long tables enough units =
-      let t = tables.each before some_before (enough_before enough) in
+  held_now boot patches base long t units =
       moved shelf before members boot patches base (λ p used. same_unit (old (drive p.slot)) (new (drive p.slot)) before members p (long p.slot) (matches p.slot) (units t.0.sound.segments p used)) t
+
+-- the drives of a record, as they are
+shown_or_none : (slot : BootSlot) (boot : BootRecord) (image : Image) (members : View) → AreSomeOf slot boot image members → (i : ℕ) → (members (drive i) ≡ None) ⊎ (members (drive i) ≡ Some (image (drive i)))
+shown_or_none slot boot image members some i = elim (some i) [
+  | inl none ↦ inl none
+  | inr is ↦ inr is.2
+]
+
+-- they were some of the other's
+some_of_other : (old new : Image) (slot slot2 : BootSlot) (boot next : BootRecord) (showed : ShowedBefore slot boot old slot2 next new) (shelf : Geometry) (members : View) (some : AreSomeOf slot2 next new members)
+    → AreSomeOf slot boot old (before shelf old new members (shown_or_none slot2 next new members some))
+some_of_other old new slot slot2 boot next showed shelf members some i = elim (some i) [
+  | inl none ↦ inl (none_before shelf old new members (shown_or_none slot2 next new members some) i none)
+  | inr is ↦
+      let of = showed i is.0 is.1 in
+      inr (of.0, of.1, some_before shelf old new members (shown_or_none slot2 next new members some) i is.2)
+]
+
+-- units behind the boot region are the same
+kept_units : (shelf : Geometry) (old new : Image) (boot : BootRecord) (patches : List (List AnyFact)) → IsRecordOf shelf boot → DiffersOnlyIn (λ i unit. unit < 3) old new → AreSegmentsSound shelf boot (all_facts patches)
+    → (p : Place) → is_used boot (all_facts patches) p.slot p.unit ≡ true → (at : ℕ) → at / 65536 ≡ p.unit → slice_index (old (drive p.slot)) at ≡ slice_index (new (drive p.slot)) at
+kept_units shelf old new boot patches lawful only sound p used at e = elim (only.drive p.slot at) [
+  | inl is ↦ sym is
+  | inr low ↦
+      let three : 3 ≤ p.unit = used_is_data shelf boot (all_facts patches) p.slot p.unit lawful sound used in
+      absurd (omega (arith, e, low, three))
+]
+
+-- tables by a later record of the same tables
+by_next : (shelf : Geometry) (boot next : BootRecord) (patches : List (List AnyFact)) (members : View) → TablesStand shelf members boot patches → TablesStand shelf members (record boot { generation = next.generation; members = next.members }) patches
+by_next shelf boot next patches members m = record {
+  patches_stand = m.patches_stand;
+  sound = record {
+    ids = m.sound.ids;
+    objects = m.sound.objects;
+    mediums = m.sound.mediums;
+    addresses = m.sound.addresses;
+    segments = record { places = m.sound.segments.places; patch_ids = m.sound.segments.patch_ids; distinct = m.sound.segments.distinct; apart = m.sound.segments.apart };
+    elisions = m.sound.elisions;
+    sequences = record { below = m.sound.sequences.below; distinct = m.sound.sequences.distinct; rising = m.sound.sequences.rising };
+  };
+  data_stands = m.data_stands;
+}
 
 -- ---- a record after another
 
 pub next_holds : NextHolds
 next_holds shelf old new slot slot2 boot next patches base lawful same showed only tables = record {
   each = λ members some enough.
-      let m = held_now shelf old new slot slot2 boot next showed members some patches base (λ i. sym (only.size i)) tables enough
-      (λ sound p used at e. elim (only.drive p.slot at) [
-        | inl is ↦ sym is
-        | inr low ↦
-            let three : 3 ≤ p.unit = used_is_data shelf boot (all_facts patches) p.slot p.unit lawful sound used in
-            absurd (omega (arith, e, low, three))
-      ]) in
-      subst (λ (b : BootRecord). TablesStand shelf members b patches × BaseStands members (all_facts patches) b.next.object base) (sym same) (by_next m.0, m.1);
+      let m = held_now shelf old new members (shown_or_none slot2 next new members some) boot patches base (λ i. sym (only.size i))
+      (tables.each (before shelf old new members (shown_or_none slot2 next new members some)) (some_of_other old new slot slot2 boot next showed shelf members some)
+      (enough_before shelf old new members (shown_or_none slot2 next new members some) enough))
+      (λ sound p used at e. kept_units shelf old new boot patches lawful only sound p used at e) in
+      subst (λ (b : BootRecord). TablesStand shelf members b patches × BaseStands members (all_facts patches) b.next.object base) (sym same) (by_next shelf boot next patches members m.0, m.1);
 }
-  where
-    by_next : {members : View} → TablesStand shelf members boot patches → TablesStand shelf members (record boot { generation = next.generation; members = next.members }) patches
-    by_next m = record {
-      patches_stand = m.patches_stand;
-      sound = record {
-        ids = m.sound.ids;
-        objects = m.sound.objects;
-        mediums = m.sound.mediums;
-        addresses = m.sound.addresses;
-        segments = record { places = m.sound.segments.places; patch_ids = m.sound.segments.patch_ids; distinct = m.sound.segments.distinct; apart = m.sound.segments.apart };
-        elisions = m.sound.elisions;
-        sequences = record { below = m.sound.sequences.below; distinct = m.sound.sequences.distinct; rising = m.sound.sequences.rising };
-      };
-      data_stands = m.data_stands;
-    }
+
+pub data_is_held : DataIsHeld
+data_is_held shelf drives old new slot2 boot next patches base lawful same on only data_holds = record {
+  each = λ members some enough.
+      let m = held_now shelf old new members (shown_or_none slot2 next new members some) boot patches base (λ i. sym (only.size i))
+      (data_holds (before shelf old new members (shown_or_none slot2 next new members some)) (λ i. elim (some i) [
+        | inl none ↦ inl (none_before shelf old new members (shown_or_none slot2 next new members some) i none)
+        | inr is ↦ inr (on i is.0, some_before shelf old new members (shown_or_none slot2 next new members some) i is.2)
+      ]) (enough_before shelf old new members (shown_or_none slot2 next new members some) enough))
+      (λ sound p used at e. kept_units shelf old new boot patches lawful only sound p used at e) in
+      subst (λ (b : BootRecord). TablesStand shelf members b patches × BaseStands members (all_facts patches) b.next.object base) (sym same) (by_next shelf boot next patches members m.0, m.1);
+}
 
 -- ---- writes in free units
 
@@ -143,14 +182,16 @@ same_bodies old new B i long same = bytes_same (old (drive i)) (new (drive i)) 1
 
 pub free_writes_keep : FreeWritesKeep
 free_writes_keep shelf old new slot boot patches base lawful only tables = record {
-  each = λ members some enough. held_now shelf old new slot slot boot boot
-      (λ i named body. (
+  each = λ members some enough. held_now shelf old new members (shown_or_none slot boot new members some) boot patches base (λ i. sym (only.size i))
+      (tables.each (before shelf old new members (shown_or_none slot boot new members some))
+      (some_of_other old new slot slot boot boot (λ i named body. (
         named,
         same_bodies old new slot i (sym (only.size i)) (λ at low. elim (only.drive i at) [
           | inl is ↦ sym is
           | inr free ↦ let three : 3 ≤ at / 65536 = free.data_unit in absurd (omega (arith, low, three))
         ]) ∙ body,
-      )) members some patches base (λ i. sym (only.size i)) tables enough
+      )) shelf members some)
+      (enough_before shelf old new members (shown_or_none slot boot new members some) enough))
       (λ sound p used at e. elim (only.drive p.slot at) [
         | inl is ↦ sym is
         | inr free ↦ absurd (cc (used, subst (λ (u : ℕ). is_used boot (all_facts patches) p.slot u ≡ false) e free.unused))

@@ -1,5 +1,5 @@
 -- Tables that stand on the drives that show a record, whichever two of the shelf are missing.
-use Rattle.std.specs.Prelude.{◌≡◌, ◌⊎◌, ℕ, ◌≤◌, true, false, List, Some, None, is_none, count_by}
+use Rattle.std.specs.Prelude.{◌≡◌, ◌⊎◌, ℕ, ◌≤◌, true, false, Bool, List, slice_index_or, Some, None, is_none, count_by}
 use Rattle.pur_base.specs.Devices.{Geometry, Image, View, Conditions, LeftOut, slots_of, drive}
 use Rattle.pur_base.specs.declared.device.Device.{Device}
 use Rattle.pur_base.specs.Plain.{Array}
@@ -28,3 +28,8 @@ pub record TablesHold (shelf : Geometry) (image : Image) (slot : BootSlot) (boot
 -- the record names no device that was left out: that one may show anything
 abbrev pub NamesNoneLeftOut : Conditions → BootRecord → Type 0
 NamesNoneLeftOut missing boot = (d : Device) → missing d ≡ LeftOut → names boot d ≡ false
+
+-- The same on these drives, whatever their boot units show.
+abbrev pub DataHolds : Geometry → List Bool → Image → BootRecord → List (List AnyFact) → Array → Type 0
+DataHolds shelf drives image boot patches base = (members : View) → ((i : ℕ) → (members (drive i) ≡ None) ⊎ ((slice_index_or drives i false ≡ true) × (members (drive i) ≡ Some (image (drive i))))) → AreEnough shelf members
+    → TablesStand shelf members boot patches × BaseStands members (all_facts patches) boot.next.object base

@@ -1,5 +1,5 @@
 -- What a store of tables and a checkpoint need of the definitions.
-use Rattle.std.specs.Prelude.{◌≡◌, ℕ, ◌+◌, ◌<◌, ◌≤◌, true, List, length, take, Contains}
+use Rattle.std.specs.Prelude.{◌≡◌, ℕ, ◌+◌, ◌<◌, ◌≤◌, Bool, true, false, List, slice_index_or, length, take, Contains}
 use Rattle.pur_base.specs.Devices.{Geometry, Image, View, Conditions, drive, nvram}
 use Rattle.pur_base.specs.Plain.{Array}
 use Rattle.pur_base.specs.Commands.{Command, AllAccepted, after_all}
@@ -15,7 +15,7 @@ use Rattle.array_spec.specs.Meaning.{TablesStand, HoldsBase, IsInForce}
 use Rattle.array_spec.specs.Standing.{Stands, MayBeGiven, IsReadInto, FollowsOn}
 use Rattle.array_spec.specs.Laws.{DiffersOnlyIn, IsUnused}
 use Rattle.array_spec.specs.Unflushed.{LogLies, NamesSound}
-use Rattle.stored_spec.specs.Held.{TablesHold, NamesNoneLeftOut}
+use Rattle.stored_spec.specs.Held.{TablesHold, DataHolds, NamesNoneLeftOut}
 
 -- ---- what stands is one
 
@@ -51,6 +51,13 @@ NextHolds = (shelf : Geometry) (old new : Image) (slot slot2 : BootSlot) (boot n
     → IsRecordOf shelf boot → next ≡ record boot { generation = next.generation; members = next.members }
     → ShowedBefore slot boot old slot2 next new → DiffersOnlyIn (λ i unit. unit < BOOT_UNITS) old new
     → TablesHold shelf old slot boot patches base → TablesHold shelf new slot2 next patches base
+
+-- Tables that stand on the drives of a record hold by it, once only boot units have changed.
+abbrev pub DataIsHeld : Type 0
+DataIsHeld = (shelf : Geometry) (drives : List Bool) (old new : Image) (slot2 : BootSlot) (boot next : BootRecord) (patches : List (List AnyFact)) (base : Array)
+    → IsRecordOf shelf boot → next ≡ record boot { generation = next.generation; members = next.members }
+    → ((i : ℕ) → names next (drive i) ≡ true → slice_index_or drives i false ≡ true) → DiffersOnlyIn (λ i unit. unit < BOOT_UNITS) old new
+    → DataHolds shelf drives old boot patches base → TablesHold shelf new slot2 next patches base
 
 -- ---- writes in free units
 

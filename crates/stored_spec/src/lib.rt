@@ -2,7 +2,7 @@
 //! There is no code: each public function here promises, as its contract, a law of these definitions.
 #![tactic(auto)]
 
-ghost use Rattle.stored_spec.specs.Laws.{OnePatches, OneBase, RecordIsRead, NextHolds, FreeIsUnused, FreeWritesKeep, CheckpointFollows};
+ghost use Rattle.stored_spec.specs.Laws.{OnePatches, OneBase, RecordIsRead, NextHolds, DataIsHeld, FreeIsUnused, FreeWritesKeep, CheckpointFollows};
 
 /// What the tables of a record hold is one, in each view.
 pub fn one_array_is_held()
@@ -14,6 +14,7 @@ pub fn one_array_is_held()
 pub fn a_stored_record_is_read()
     ensures read { RecordIsRead }
     ensures next { NextHolds }
+    ensures stored { DataIsHeld }
 {}
 
 /// Writes in units that the tables leave free change nothing.

@@ -1,17 +1,19 @@
 -- The moments of an opening, one call after another.
-use Rattle.std.proofs.Common.{◌≡◌, ◌⊎◌, ℕ, ◌<◌, Bool, true, false, List, sym, ◌∙◌, ap, subst, arith, Result}
+use Rattle.std.proofs.Common.{◌≡◌, ◌⊎◌, ℕ, ◌<◌, Bool, true, false, List, [], sym, ◌∙◌, ap, subst, arith, Result}
 use Rattle.std.specs.Prelude.{Contains, slice_index_or}
 use Rattle.pur_base.specs.Plain.{Array}
-use Rattle.pur_base.specs.Devices.{Geometry, Conditions, Sound, IsBearable, IsOn, drive}
+use Rattle.pur_base.specs.Devices.{Geometry, Conditions, Sound, IsBearable, IsOn, drive, nvram}
 use Rattle.pur_base.specs.declared.device.Device.{Device}
 use Rattle.pur_base.specs.declared.device.Device.TheVariants.{Drive, Nv}
 use Rattle.boot_codec.specs.declared.record.BootRecord.{BootRecord}
 use Rattle.boot_codec.specs.Region.{names}
 use Rattle.array_spec.proofs.Votes.{sound_before}
 use Rattle.world.specs.Losing.{geometry_of}
-use Rattle.world.specs.Shelf.{Shelved, Continues}
+use Rattle.world.specs.Shelf.{Shelved, Disk, Continues}
 use Rattle.boot_region.specs.declared.loading.Loaded.{Loaded}
 use Rattle.boot_region.specs.Members.{IsMember, DroppedFailed, LostWrites}
+use Rattle.nvram_log.specs.Held.{HoldsOn}
+use Rattle.nvram_log.specs.Slots.{IsLog}
 use Rattle.register.specs.declared.state.Register.{Register}
 use Rattle.register.specs.Registers.{IsRegisterOf, drives_of, IsLaterRecord}
 use Rattle.register.specs.Standing.{IsOpen, unflushed}
@@ -54,10 +56,14 @@ module _ (old mid new : Shelved) (missing : Conditions) (arrays : List Array) (x
     sound_mid : (i : ℕ) → i < mid.drives → failed_since old mid missing (drive i) ≡ Sound → IsMember was.drives i
     sound_mid i lt sound = subst (λ (l : List Bool). IsMember l i) (sym drives_are) (is_open.found.in_force.sound i lt sound)
 
-    pub recovered : IsOpen new now o.log.members (unflushed is_open.commands)
+    pub recovered : IsOpen new now o.log.members (unflushed is_open.commands) → ((n : ℕ) → new.disk (nvram n) ≡ mid.disk (nvram n))
         → IsRecovered new (record { plain = o.plain; log = o.log; register = now }) (failed_since old new missing) arrays
-    recovered is_opened = record {
+    recovered is_opened stay = record {
       commands = is_open.commands;
+      held = subst (λ (f : ℕ). HoldsOn new o.log.members f is_open.commands) (sym is_open.flushed) (record {
+        log = λ n lt m. subst (λ (d : Disk). IsLog d.bytes x.record.flushed is_open.commands) (sym (stay n)) (is_open.holds.log n lt m);
+        clean = λ n lt m. subst (λ (d : Disk). d.dirty ≡ []) (sym (stay n)) (is_open.holds.clean n lt m);
+      });
       keeps = is_open.keeps;
       in_force = is_open.in_force;
       flushed = is_open.flushed ∙ sym (ap (λ (b : BootRecord). b.flushed) record_is) ∙ sym (ap (λ (b : BootRecord). b.flushed) later.rest);

@@ -22,6 +22,7 @@ use Rattle.nvram_log.specs.Held.{HoldsOn}
 use Rattle.register.specs.declared.state.Register.{Register}
 use Rattle.register.specs.Registers.{IsRegisterOf, drives_of, own_slot, next_slot}
 use Rattle.register.specs.Standing.{StandsInLog, MayStore, unflushed}
+use Rattle.register.proofs.Shows.{holds_shows}
 use Rattle.register.proofs.Follows.{shows_itself}
 use Rattle.register.proofs.FlagLemmas.{in_cut, cut_in}
 use Rattle.session_spec.specs.Entering.{failed_since}
@@ -67,7 +68,7 @@ module _ (shelf : Shelved) (x : Loaded) (missing : Conditions) (arrays : List Ar
     tables = λ start may. subst (λ (b : BootRecord). TablesHold (geometry_of shelf) start.image (own_slot b) b [] []) (sym record_is) (nothing_held start may);
     bodies = λ i m. subst (λ (b : BootRecord). body_in (own_slot b) (shelf.disk (drive i)).bytes ≡ spelling b) (sym record_is)
         (bodies i (subst (λ (l : List Bool). IsMember (take x.record.slots l) i) drives_are (subst (λ (b : BootRecord). IsMember (take b.slots r.drives) i) record_is m)));
-    holds = subst (λ (b : BootRecord). HoldsOn shelf o.log.members b.flushed opened.commands) (sym record_is) opened.holds;
+    holds = holds_shows (subst (λ (b : BootRecord). HoldsOn shelf o.log.members b.flushed opened.commands) (sym record_is) opened.holds);
     accepted = opened.accepted;
   }
 

@@ -9,7 +9,7 @@ use Rattle.pur_base.specs.declared.device.Device.{Device}
 use Rattle.boot_codec.specs.Region.{names}
 use Rattle.world.specs.Losing.{geometry_of}
 use Rattle.world.specs.Shelf.{Shelved}
-use Rattle.nvram_log.specs.Held.{Keeps}
+use Rattle.nvram_log.specs.Held.{HoldsOn, Keeps}
 use Rattle.nvram_log.specs.Members.{IsSome}
 use Rattle.register.specs.Standing.{IsOpen, unflushed}
 use Rattle.takeover.specs.declared.recovering.Recovered.{Recovered}
@@ -17,6 +17,7 @@ use Rattle.takeover.specs.declared.recovering.Recovered.{Recovered}
 -- The array in memory is one of the arrays. A record is in force alone that names each device that isn't missing, and by it the devices stand for that array.
 pub record IsRecovered (shelf : Shelved) (r : Recovered) (missing : Conditions) (arrays : List Array) : Type 0 where
   pub commands : List Command
+  pub held : HoldsOn shelf r.log.members r.log.flushed commands
   pub keeps : Keeps r.log commands
   pub in_force : AllByRecursion (λ c. is_in_force c.request ≡ true) commands
   pub flushed : r.log.flushed ≡ r.register.record.flushed

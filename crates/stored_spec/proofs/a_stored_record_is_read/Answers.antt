@@ -1,4 +1,4 @@
-use Rattle.stored_spec.proofs.Next.{next_holds}
+use Rattle.stored_spec.proofs.Next.{next_holds, data_is_held}
 use Rattle.stored_spec.proofs.Reading.{record_is_read}
 use Rattle.stored_spec.proofs.a_stored_record_is_read.Goals as goal
 
@@ -7,3 +7,6 @@ returns-clause-read c = record_is_read
 
 pub returns-clause-next : goal.returns-clause-next
 returns-clause-next c = next_holds
+
+pub returns-clause-stored : goal.returns-clause-stored
+returns-clause-stored c = data_is_held

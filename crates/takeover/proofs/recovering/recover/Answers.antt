@@ -2,7 +2,7 @@ use Rattle.std.proofs.Common.{◌≡◌, ◌⊎◌, ◌<◌, ◌^◌, ℕ, List,
 use Rattle.std.specs.Prelude.{IfOk, IfErr, OnOk, None, Some}
 use Rattle.std.proofs.lemmas.Result.{err_from_is_err_and}
 use Rattle.pur_base.specs.declared.memory.NoMemory.{NoMemory}
-use Rattle.pur_base.specs.Devices.{Geometry, Conditions, IsBearable, drive}
+use Rattle.pur_base.specs.Devices.{Geometry, Conditions, IsBearable, drive, nvram}
 use Rattle.pur_base.specs.Plain.{Array}
 use Rattle.boot_codec.specs.declared.record.BootRecord.{BootRecord}
 use Rattle.boot_codec.specs.Region.{IsRecordOf, shown_by}
@@ -220,7 +220,7 @@ returns-clause-opened g c h =
     let room = opening.enough_room a b x on seen lawful (c.find_record.ensures.nvrams h) n after s o was now last is_a is_b is_n h replayed is_of made.0 made.1 c.store.ensures.dropped c.store.ensures.later c.store.ensures.few shown is.found.room in
     let stored : IsOpen s now c.members.result (unflushed is.commands) = subst (λ (r : Result (Unit {0}) StoreFault). OnOk r (IsOpen s now c.members.result (unflushed is.commands))) c.in_ok-store.was (c.store.ensures.stored h_n room (unflushed is.commands) logged) in
     recovered a n s missing arrays x o was on_n last (opens missing arrays enters) is_of made.0 made.1 bears now c.store.ensures.dropped c.store.ensures.later
-    (subst (λ (l : List Bool). IsOpen s now l (unflushed is.commands)) c.members.ensures stored) in
+    (subst (λ (l : List Bool). IsOpen s now l (unflushed is.commands)) c.members.ensures stored) (λ k. c.store.ensures.others (nvram k) (λ z. z)) in
     opening.opened a b x on seen lawful (c.find_record.ensures.nvrams h) n after s o was now last is_a is_b is_n h replayed is_of made.0 made.1 c.store.ensures.dropped c.store.ensures.later c.store.ensures.few shown each
     generation.0 (members.0, members.1 ∙ c.members.ensures) is_recovered
 

@@ -4,10 +4,11 @@ use Rattle.pur_base.specs.Commands.{Command}
 use Rattle.pur_base.specs.Devices.{Conditions, Geometry, nvram}
 use Rattle.pur_base.specs.Plain as plain
 use Rattle.world.specs.Losing.{geometry_of}
-use Rattle.world.specs.Shelf.{LeavesOnly}
+use Rattle.world.specs.Shelf.{Disk, LeavesOnly}
 use Rattle.world.proofs.Moments.{continues_trans}
 use Rattle.boot_region.specs.Storing.{StandsBut}
 use Rattle.nvram_log.specs.Held.{HoldsOn}
+use Rattle.nvram_log.specs.Slots.{IsLog}
 use Rattle.register.specs.Registers.{IsRegisterOf, drives_of, next_slot}
 use Rattle.register.specs.Standing.{Content, GivesOldOrNext, IsOpen, MayStore, StandsInLog, unflushed}
 use Rattle.register.proofs.FlagLemmas.{same_flags, other_flags}
@@ -18,7 +19,7 @@ use Rattle.array_core.specs.Performing.{IsLost}
 use Rattle.array_core.proofs.Losses.{same_geometry}
 use Rattle.array_core.proofs.Lost.{lost_drives}
 use Rattle.array_core.proofs.Dropped.{counted_on, drops_failed, none_joins, rises_little}
-use Rattle.array_core.proofs.Appended.{appending, was_held, append_moments, off_nvrams, still_open, logged, all_moments}
+use Rattle.array_core.proofs.Appended.{appending, append_moments, off_nvrams, still_open, logged, all_moments}
 use Rattle.array_core.proofs.array.Array.commit.Goals as goal
 
 pub returns-in_err-store-clause-moments : goal.returns-in_err-store-clause-moments
@@ -28,7 +29,7 @@ pub returns-clause-moments : goal.returns-clause-moments
 returns-clause-moments g c h = counted_on c.append.ensures.continues (c.append.ensures.writes h) (c.store.ensures.writes (c.append.ensures.continues.honest h))
 
 pub returns-in_err-append-clause-any_moment : goal.returns-in_err-append-clause-any_moment
-returns-in_err-append-clause-any_moment g c h cmds o keeps accepted in_force =
+returns-in_err-append-clause-any_moment g c h cmds o held keeps accepted in_force =
     let a = g.S.Shelf.shelf c.args.shelf.now in
     let m = g.S.Shelf.shelf c.append.new.shelf in
     let r = c.args.self.now.register in
@@ -37,11 +38,11 @@ returns-in_err-append-clause-any_moment g c h cmds o keeps accepted in_force =
     let cmd : Command = record { request = c.args.request.now; sectors = c.args.sectors.now } in
     let x = c.append.ensures in
     let p = appending a m r log now cmds cmd (g.met.S.Shelf.is_shelf c.args.shelf.now) (g.met.S.Shelf.is_shelf c.append.new.shelf) h x.continues o keeps c.requires.not_spent c.requires.room c.requires.is_of.flushed accepted
-    x.drives x.fewer x.dropped (x.any_moment h cmds keeps (was_held r log c.requires.is_of.flushed o)) (x.writes h) (x.spelled 0 _ refl) in_force in
+    x.drives x.fewer x.dropped (x.any_moment h cmds keeps held) (x.writes h) (x.spelled 0 _ refl) in_force in
     append_moments a m r log.members now cmds cmd p
 
 pub returns-then-eq-clause-any_moment : goal.returns-then-eq-clause-any_moment
-returns-then-eq-clause-any_moment g c h cmds o keeps accepted in_force =
+returns-then-eq-clause-any_moment g c h cmds o held keeps accepted in_force =
     let a = g.S.Shelf.shelf c.args.shelf.now in
     let m = g.S.Shelf.shelf c.append.new.shelf in
     let r = c.args.self.now.register in
@@ -50,11 +51,11 @@ returns-then-eq-clause-any_moment g c h cmds o keeps accepted in_force =
     let cmd : Command = record { request = c.args.request.now; sectors = c.args.sectors.now } in
     let x = c.append.ensures in
     let p = appending a m r log now cmds cmd (g.met.S.Shelf.is_shelf c.args.shelf.now) (g.met.S.Shelf.is_shelf c.append.new.shelf) h x.continues o keeps c.requires.not_spent c.requires.room c.requires.is_of.flushed accepted
-    x.drives x.fewer x.dropped (x.any_moment h cmds keeps (was_held r log c.requires.is_of.flushed o)) (x.writes h) (x.spelled 0 _ refl) in_force in
+    x.drives x.fewer x.dropped (x.any_moment h cmds keeps held) (x.writes h) (x.spelled 0 _ refl) in_force in
     append_moments a m r log.members now cmds cmd p
 
 pub returns-then-eq-clause-held : goal.returns-then-eq-clause-held
-returns-then-eq-clause-held g c h cmds o keeps accepted in_force =
+returns-then-eq-clause-held g c h cmds o held keeps accepted in_force =
     let a = g.S.Shelf.shelf c.args.shelf.now in
     let m = g.S.Shelf.shelf c.append.new.shelf in
     let r = c.args.self.now.register in
@@ -62,12 +63,11 @@ returns-then-eq-clause-held g c h cmds o keeps accepted in_force =
     let now = c.append.new.self.members in
     let cmd : Command = record { request = c.args.request.now; sectors = c.args.sectors.now } in
     let x = c.append.ensures in
-    let held = was_held r log c.requires.is_of.flushed o in
     let p = appending a m r log now cmds cmd (g.met.S.Shelf.is_shelf c.args.shelf.now) (g.met.S.Shelf.is_shelf c.append.new.shelf) h x.continues o keeps c.requires.not_spent c.requires.room c.requires.is_of.flushed accepted
     x.drives x.fewer x.dropped (x.any_moment h cmds keeps held) (x.writes h) (x.spelled 0 _ refl) in_force in
     let holds : HoldsOn m now r.record.flushed (cmds ++ cmd ∷ []) = subst (λ (f : ℕ). HoldsOn m now f (cmds ++ cmd ∷ [])) (x.flushed ∙ c.requires.is_of.flushed) (c.in_ok-append.ensures.holds h cmds keeps held) in
     let named : r.record.members.nvrams ≡ now = o.nvrams_are ∙ sym c.members-before.ensures ∙ sym (same_flags c.members-members.result c.members-before.result c.if-eq.ensures) ∙ c.members-members.ensures in
-    still_open a m r log.members now cmds cmd p holds c.in_ok-append.ensures.ok.1 named
+    (still_open a m r log.members now cmds cmd p holds c.in_ok-append.ensures.ok.1 named, c.in_ok-append.ensures.holds h cmds keeps held)
 
 pub returns-in_err-store-clause-continues : goal.returns-in_err-store-clause-continues
 returns-in_err-store-clause-continues g c = continues_trans c.append.ensures.continues c.store.ensures.continues
@@ -91,7 +91,7 @@ returns-in_err-store-clause-lost g c =
     subst (λ (t : Result (Unit {0}) PerformFault). IfErr t (λ e. (e ≡ Device) × IsLost a n c.args.self.now)) (sym q.1) (q.2, lost)
 
 pub returns-in_err-store-clause-any_moment : goal.returns-in_err-store-clause-any_moment
-returns-in_err-store-clause-any_moment g c h cmds o keeps accepted in_force =
+returns-in_err-store-clause-any_moment g c h cmds o held keeps accepted in_force =
     let a = g.S.Shelf.shelf c.args.shelf.now in
     let m = g.S.Shelf.shelf c.append.new.shelf in
     let n = g.S.Shelf.shelf c.store.new.shelf in
@@ -101,7 +101,6 @@ returns-in_err-store-clause-any_moment g c h cmds o keeps accepted in_force =
     let cmd : Command = record { request = c.args.request.now; sectors = c.args.sectors.now } in
     let x = c.append.ensures in
     let room : c.store.new.self.record.generation < 2 ^ 48 - 8 = omega (arith, c.store.ensures.few, c.requires.not_spent) in
-    let held = was_held r log c.requires.is_of.flushed o in
     let p = appending a m r log now cmds cmd (g.met.S.Shelf.is_shelf c.args.shelf.now) (g.met.S.Shelf.is_shelf c.append.new.shelf) h x.continues o keeps c.requires.not_spent c.requires.room c.requires.is_of.flushed accepted
     x.drives x.fewer x.dropped (x.any_moment h cmds keeps held) (x.writes h) (x.spelled 0 _ refl) in_force in
     let holds : HoldsOn m now r.record.flushed (cmds ++ cmd ∷ []) = subst (λ (f : ℕ). HoldsOn m now f (cmds ++ cmd ∷ [])) (x.flushed ∙ c.requires.is_of.flushed) (c.in_ok-append.ensures.holds h cmds keeps held) in
@@ -114,7 +113,7 @@ returns-in_err-store-clause-any_moment g c h cmds o keeps accepted in_force =
     all_moments a m r log.members now cmds cmd p holds c.in_ok-append.ensures.ok.1 n (off_nvrams (drives_of r)) (c.store.ensures.writes (x.continues.honest h)) storing giving
 
 pub returns-clause-any_moment : goal.returns-clause-any_moment
-returns-clause-any_moment g c h cmds o keeps accepted in_force =
+returns-clause-any_moment g c h cmds o held keeps accepted in_force =
     let a = g.S.Shelf.shelf c.args.shelf.now in
     let m = g.S.Shelf.shelf c.append.new.shelf in
     let n = g.S.Shelf.shelf c.store.new.shelf in
@@ -124,7 +123,6 @@ returns-clause-any_moment g c h cmds o keeps accepted in_force =
     let cmd : Command = record { request = c.args.request.now; sectors = c.args.sectors.now } in
     let x = c.append.ensures in
     let room : c.store.new.self.record.generation < 2 ^ 48 - 8 = omega (arith, c.store.ensures.few, c.requires.not_spent) in
-    let held = was_held r log c.requires.is_of.flushed o in
     let p = appending a m r log now cmds cmd (g.met.S.Shelf.is_shelf c.args.shelf.now) (g.met.S.Shelf.is_shelf c.append.new.shelf) h x.continues o keeps c.requires.not_spent c.requires.room c.requires.is_of.flushed accepted
     x.drives x.fewer x.dropped (x.any_moment h cmds keeps held) (x.writes h) (x.spelled 0 _ refl) in_force in
     let holds : HoldsOn m now r.record.flushed (cmds ++ cmd ∷ []) = subst (λ (f : ℕ). HoldsOn m now f (cmds ++ cmd ∷ [])) (x.flushed ∙ c.requires.is_of.flushed) (c.in_ok-append.ensures.holds h cmds keeps held) in
@@ -137,7 +135,7 @@ returns-clause-any_moment g c h cmds o keeps accepted in_force =
     all_moments a m r log.members now cmds cmd p holds c.in_ok-append.ensures.ok.1 n (off_nvrams (drives_of r)) (c.store.ensures.writes (x.continues.honest h)) storing giving
 
 pub returns-clause-held : goal.returns-clause-held
-returns-clause-held g c h cmds o keeps accepted in_force =
+returns-clause-held g c h cmds o held keeps accepted in_force =
     let a = g.S.Shelf.shelf c.args.shelf.now in
     let m = g.S.Shelf.shelf c.append.new.shelf in
     let n = g.S.Shelf.shelf c.store.new.shelf in
@@ -147,14 +145,21 @@ returns-clause-held g c h cmds o keeps accepted in_force =
     let cmd : Command = record { request = c.args.request.now; sectors = c.args.sectors.now } in
     let x = c.append.ensures in
     let room : c.store.new.self.record.generation < 2 ^ 48 - 8 = omega (arith, c.store.ensures.few, c.requires.not_spent) in
-    let held = was_held r log c.requires.is_of.flushed o in
     let p = appending a m r log now cmds cmd (g.met.S.Shelf.is_shelf c.args.shelf.now) (g.met.S.Shelf.is_shelf c.append.new.shelf) h x.continues o keeps c.requires.not_spent c.requires.room c.requires.is_of.flushed accepted
     x.drives x.fewer x.dropped (x.any_moment h cmds keeps held) (x.writes h) (x.spelled 0 _ refl) in_force in
     let holds : HoldsOn m now r.record.flushed (cmds ++ cmd ∷ []) = subst (λ (f : ℕ). HoldsOn m now f (cmds ++ cmd ∷ [])) (x.flushed ∙ c.requires.is_of.flushed) (c.in_ok-append.ensures.holds h cmds keeps held) in
     let in_log = logged a m r log.members now cmds cmd p holds c.in_ok-append.ensures.ok.1 in
     let stored : IsOpen n c.store.new.self c.members-members.result (unflushed (cmds ++ cmd ∷ [])) =
     c.in_ok-store.ensures.stored (x.continues.honest h) room (unflushed (cmds ++ cmd ∷ [])) (subst (λ (l : List Bool). StandsInLog m r l (unflushed (cmds ++ cmd ∷ []))) (sym c.members-members.ensures) in_log) in
-    subst (λ (l : List Bool). IsOpen n c.store.new.self l (unflushed (cmds ++ cmd ∷ []))) c.members-members.ensures stored
+    let same : (k : ℕ) → n.disk (nvram k) ≡ m.disk (nvram k) = λ k. c.store.ensures.others (nvram k) (λ z. z) in
+    let still = c.in_ok-append.ensures.holds h cmds keeps held in
+    (
+      subst (λ (l : List Bool). IsOpen n c.store.new.self l (unflushed (cmds ++ cmd ∷ []))) c.members-members.ensures stored,
+      record {
+        log = λ k lt member. subst (λ (d : Disk). IsLog d.bytes c.append.new.self.flushed (cmds ++ cmd ∷ [])) (sym (same k)) (still.log k lt member);
+        clean = λ k lt member. subst (λ (d : Disk). d.dirty ≡ []) (sym (same k)) (still.clean k lt member);
+      },
+    )
 
 pub returns-clause-generation : goal.returns-clause-generation
 returns-clause-generation g c =

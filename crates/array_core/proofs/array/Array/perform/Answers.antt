@@ -22,7 +22,7 @@ pub returns-clause-any_moment : goal.returns-clause-any_moment
 returns-clause-any_moment g c h cmds ready =
     let cmd : Command = record { request = c.args.request.now; sectors = c.args.sectors.now } in
     let fine : Accepts (after_all [] cmds) cmd = subst (λ (x : plain.Array). Accepts x cmd) ready.plain c.requires.accepted in
-    c.commit.ensures.any_moment h cmds ready.is_open ready.keeps (accept_last [] cmds cmd ready.is_open.logged.accepted fine) (all_and_last cmds cmd ready.in_force c.requires.in_force)
+    c.commit.ensures.any_moment h cmds ready.is_open ready.held ready.keeps (accept_last [] cmds cmd ready.is_open.logged.accepted fine) (all_and_last cmds cmd ready.in_force c.requires.in_force)
 
 pub returns-clause-done : goal.returns-clause-done
 returns-clause-done g c h =
@@ -30,7 +30,8 @@ returns-clause-done g c h =
     on_all_ok c.commit.result c.commit.ensures.some c.commit.ensures.keeps (c.commit.ensures.held h) (λ some keeps held cmds ready.
     let fine : Accepts (after_all [] cmds) cmd = subst (λ (x : plain.Array). Accepts x cmd) ready.plain c.requires.accepted in
     record {
-      is_open = held cmds ready.is_open ready.keeps (accept_last [] cmds cmd ready.is_open.logged.accepted fine) (all_and_last cmds cmd ready.in_force c.requires.in_force);
+      is_open = (held cmds ready.is_open ready.held ready.keeps (accept_last [] cmds cmd ready.is_open.logged.accepted fine) (all_and_last cmds cmd ready.in_force c.requires.in_force)).0;
+      held = (held cmds ready.is_open ready.held ready.keeps (accept_last [] cmds cmd ready.is_open.logged.accepted fine) (all_and_last cmds cmd ready.in_force c.requires.in_force)).1;
       keeps = keeps cmds ready.keeps;
       flushed = c.commit.ensures.is_of.flushed;
       plain = c.commit.ensures.plain ∙ c.in_ok-plain_step.ensures.ok.array ∙ ap (λ (x : plain.Array). after x cmd) ready.plain ∙ sym (after_last [] cmds cmd);

@@ -1,4 +1,4 @@
-use Rattle.std.proofs.Common.{inl, arith, ◌≡◌, ◌+◌, ◌-◌, ◌^◌, ◌<◌, ◌≤◌, ℕ, List, Bool, length, ◌∙◌, ap, subst}
+use Rattle.std.proofs.Common.{refl, inl, arith, ◌≡◌, ◌+◌, ◌-◌, ◌^◌, ◌<◌, ◌≤◌, ℕ, List, Bool, length, ◌∙◌, ap, subst}
 use Rattle.boot_codec.specs.declared.record.BootRecord.{BootRecord}
 use Rattle.boot_codec.specs.Record.{IsBootRecord}
 use Rattle.boot_codec.specs.Spelling.{spelling}
@@ -9,6 +9,7 @@ use Rattle.register.proofs.Rounds.{Puts, puts_next, fewer_all, writes_slots, is_
 use Rattle.array_spec.proofs.Standings.{given_with_fewer}
 use Rattle.register.specs.Standing.{IsInStoreOf}
 use Rattle.register.proofs.Follows.{stands_before}
+use Rattle.register.proofs.Numbers.{next_other}
 use Rattle.register.proofs.state.Register.store_next.Given as given
 use Rattle.register.proofs.state.Register.store_next.Goals as goal
 
@@ -26,7 +27,7 @@ returns-in_err-advance-clause-moments g c h low =
 -- what `put` promises, in the words of the record before
 the_puts : (g : given.Over) (c : goal.After-put g) → Puts (g.S.Shelf.shelf c.args.shelf.now) (g.S.Shelf.shelf c.put.new.shelf) c.put.new.self (drives_of c.args.self.now) (next_slot c.args.self.now.record) (spelling (next_record c.args.self.now.record c.args.self.now.drives c.args.nvrams))
 the_puts g c =
-    puts_next (g.S.Shelf.shelf c.args.shelf.now) (g.S.Shelf.shelf c.put.new.shelf) c.args.self.now c.advance.new.self c.put.new.self c.args.nvrams
+    puts_next (g.S.Shelf.shelf c.args.shelf.now) (g.S.Shelf.shelf c.put.new.shelf) c.args.self.now c.advance.new.self c.put.new.self (next_record c.args.self.now.record c.args.self.now.drives c.args.nvrams) refl (next_other c.args.self.now.record.generation)
     c.in_ok-advance.ensures.ok c.in_ok-advance.ensures.drives c.in_ok-advance.ensures.body
     (record {
       fewer = c.put.ensures.fewer;
@@ -51,8 +52,8 @@ beyond g c i le m =
 
 pub returns-clause-fewer : goal.returns-clause-fewer
 returns-clause-fewer g c =
-    fewer_all (g.S.Shelf.shelf c.args.shelf.now) (g.S.Shelf.shelf c.put.new.shelf) (g.met.S.Shelf.is_shelf c.args.shelf.now) c.put.ensures.continues c.args.self.now c.put.new.self c.args.nvrams
-    c.requires.is_of c.requires.nvrams (lawful g c) (kept g c) (beyond g c) (the_puts g c)
+    fewer_all (g.S.Shelf.shelf c.args.shelf.now) (g.S.Shelf.shelf c.put.new.shelf) c.put.ensures.continues c.args.self.now c.put.new.self (next_record c.args.self.now.record c.args.self.now.drives c.args.nvrams)
+    c.requires.is_of (lawful g c) refl refl (λ i m. m) (kept g c) (beyond g c) (the_puts g c).fewer
 
 pub returns-clause-dropped : goal.returns-clause-dropped
 returns-clause-dropped g c = (the_puts g c).dropped
@@ -67,8 +68,8 @@ returns-clause-writes g c =
 
 pub returns-clause-is_of : goal.returns-clause-is_of
 returns-clause-is_of g c =
-    is_of_next (g.S.Shelf.shelf c.args.shelf.now) (g.S.Shelf.shelf c.put.new.shelf) (g.met.S.Shelf.is_shelf c.args.shelf.now) c.put.ensures.continues c.args.self.now c.put.new.self c.args.nvrams
-    c.requires.is_of c.requires.nvrams (lawful g c) (kept g c) (beyond g c) (the_puts g c)
+    is_of_next (g.S.Shelf.shelf c.args.shelf.now) (g.S.Shelf.shelf c.put.new.shelf) c.put.ensures.continues c.args.self.now c.put.new.self (next_record c.args.self.now.record c.args.self.now.drives c.args.nvrams)
+    c.requires.is_of (lawful g c) refl refl (λ i m. m) (kept g c) (beyond g c) (the_puts g c).fewer
 
 pub returns-clause-logged : goal.returns-clause-logged
 returns-clause-logged g c h held logged =

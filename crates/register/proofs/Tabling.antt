@@ -1,0 +1,260 @@
+-- A record with other tables is stored: at every moment the devices stand for the array of the log, and after it the record is in force.
+use Rattle.std.proofs.Common.{◌≡◌, inl, inr, ℕ, ◌+◌, ◌-◌, ◌^◌, ◌≤◌, ◌<◌, List, [], ◌∷◌, length, refl, sym, ◌∙◌, ap, subst, arith, Bool, true, false}
+use Rattle.std.specs.Prelude.{Some, IsTrue, slice_get, slice_index, slice_index_or, if◌then◌else◌}
+use Rattle.std.proofs.lemmas.Bool.{cases_Bool, cases_lt}
+use Rattle.std.proofs.lemmas.Option.{slice_get-get_or}
+use Rattle.pur_base.specs.declared.device.Device.{Device}
+use Rattle.pur_base.specs.declared.device.Device.TheVariants as dev
+use Rattle.pur_base.specs.Devices.{Geometry, Conditions, Sound, LeftOut, IsWithin, IsOn, drive, nvram}
+use Rattle.pur_base.specs.Plain.{Array}
+use Rattle.pur_base.specs.Commands.{Command, AllAccepted, after_all}
+use Rattle.pur_base.specs.Gates.{is_open}
+use Rattle.boot_codec.specs.declared.record.BootRecord.{BootRecord}
+use Rattle.boot_codec.specs.Record.{IsBootRecord}
+use Rattle.boot_codec.specs.Spelling.{spelling}
+use Rattle.boot_codec.specs.Region.{BootSlot, IsRecordOf, names, other_slot, body_in, generation_in, Yields}
+use Rattle.log_codec.specs.Log.{ShowsIn}
+use Rattle.array_spec.specs.Standing.{Stands, MayBeGiven, IsReadInto, FollowsOn}
+use Rattle.array_spec.specs.Unflushed.{NamesSound}
+use Rattle.array_spec.proofs.Votes.{sound_before}
+use Rattle.array_spec.proofs.Settling.{twice_other}
+use Rattle.stored_spec.specs.Held.{TablesHold, NamesNoneLeftOut}
+use Rattle.stored_spec.specs.Laws.{ShowsNone, IsCheckpointOf}
+use Rattle.stored_spec.proofs.Follow.{checkpoint_follows}
+use Rattle.stored_spec.proofs.Next.{data_is_held}
+use Rattle.world.specs.Shelf.{Shelved, Disk, Stop, IsShelf, IsInSome, MayLeave, MayStop, IsCountedBy, Continues, LeavesOnly}
+use Rattle.world.specs.Losing.{geometry_of}
+use Rattle.world.proofs.Moments.{weaker}
+use Rattle.boot_region.specs.Members.{IsMember}
+use Rattle.boot_region.specs.Storing.{Shows, OnlyBoot, IsOlder, IsInForceOn, MayFollow, StandsBut, AccountsFor}
+use Rattle.boot_region.proofs.ShownLemmas.{as_read, shown_body}
+use Rattle.nvram_log.specs.Members as nv
+use Rattle.nvram_log.specs.Slots.{IsLog}
+use Rattle.nvram_log.proofs.Closing.{one_number}
+use Rattle.register.specs.declared.state.Register.{Register}
+use Rattle.register.specs.declared.tables.Tables.{Tables}
+use Rattle.register.specs.Registers.{IsRegisterOf, drives_of, named_sound, next_record, next_slot, own_slot}
+use Rattle.register.specs.Standing.{Content, ShowsOn, IsOpen, MayStore, StandsInLog, array_of}
+use Rattle.register.specs.Tables.{IsPlanOf, MayGoOn, StandsAsBefore, with_tables}
+use Rattle.register.proofs.Again.{meanwhile, accounts, bearable_then, accounts_since}
+use Rattle.register.proofs.FlagLemmas.{in_cut}
+use Rattle.register.proofs.Follows.{left_before}
+use Rattle.register.proofs.Numbers.{generation_spelled, lower_yields, next_other}
+use Rattle.register.proofs.Rounds.{Puts, other_body, cut_drives, is_of_next, same_shelf, long, same_behind, log_then}
+use Rattle.register.proofs.Splice.{at_splice, splice_stops, splice_boot}
+
+-- a device that holds a log shows none behind it
+shows_no_more : (bytes : List ℕ) (flushed i : ℕ) (log : List Command) (c : Command) → IsLog bytes flushed log → ShowsIn bytes (flushed + length log) i c → ⊥
+shows_no_more bytes flushed i [] c held shows =
+    let e : flushed + 0 ≡ flushed = omega arith in
+    absurd (cc (held.between.no_other i c (subst (λ (f : ℕ). ShowsIn bytes f i c) e shows)))
+shows_no_more bytes flushed i (d ∷ log) c held shows = elim (cases_lt i (length (d ∷ log))) [
+  | inl lt ↦
+      let there : slice_get (d ∷ log) i ≡ Some (slice_index_or (d ∷ log) i d) = slice_get-get_or (d ∷ log) i d lt in
+      let one = one_number _ (flushed + 1 + i) (flushed + length (d ∷ log) + 1 + i) (slice_index_or (d ∷ log) i d) c (held.between.all i (slice_index_or (d ∷ log) i d) there).spelled shows.spelled in
+      omega (arith, one)
+  | inr ge ↦ absurd (closed (is_open i bytes) (held.shut i ge shows.slot) shows.gate)
+]
+  where
+    closed : (b : Bool) → b ≡ false → IsTrue b → ⊥
+    closed b e t = absurd (cc (subst (λ (x : Bool). IsTrue x) e t))
+
+is_named : (b : Bool) → (if b then Sound else LeftOut) ≡ Sound → b ≡ true
+is_named true e = refl
+is_named false e = absurd (cc e)
+
+is_left : (b : Bool) → (if b then Sound else LeftOut) ≡ LeftOut → b ≡ false
+is_left true e = absurd (cc e)
+is_left false e = refl
+
+module _ (old : Shelved) (is_old : IsShelf old) (h : old.honest) (was : Register) (tables : Tables) (is_of : IsRegisterOf (geometry_of old) was) (some : nv.IsSome was.record.members.nvrams)
+    (lawful : IsBootRecord (next_record (with_tables was.record tables) was.drives was.record.members.nvrams)) (tabled : IsBootRecord (with_tables was.record tables))
+    (held next : Content) (o : IsOpen old was was.record.members.nvrams held) (plan : IsPlanOf old was tables held next) where
+  abbrev boot : BootRecord
+  boot = next_record (with_tables was.record tables) was.drives was.record.members.nvrams
+
+  abbrev own : BootSlot
+  own = own_slot was.record
+
+  abbrev slot : BootSlot
+  slot = next_slot was.record
+
+  lawful_of : IsRecordOf (geometry_of old) boot
+  lawful_of = record { lawful = lawful; slots = is_of.lawful.slots; units = is_of.lawful.units }
+
+  tabled_of : IsRecordOf (geometry_of old) (with_tables was.record tables)
+  tabled_of = record { lawful = tabled; slots = is_of.lawful.slots; units = is_of.lawful.units }
+
+  cut : (i : ℕ) → IsMember was.drives i → IsMember (drives_of was) i
+  cut i m = cut_drives (geometry_of old) was is_of i m
+
+  named_before : (d : Device) (later : Conditions) → IsWithin (named_sound was.record) later → later d ≡ Sound → names was.record d ≡ true
+  named_before d later within s = is_named (names was.record d) (sound_before (named_sound was.record d) (later d) (within d) s)
+
+  -- ---- the record that is stored follows on
+
+  module _ (later : Conditions) (start stop : Stop) (within : IsWithin (named_sound was.record) later) (may : MayStop old start) (only : OnlyBoot start.image stop.image)
+      (written : (i : ℕ) → i < old.drives → later (drive i) ≡ Sound → body_in slot (stop.image (drive i)) ≡ spelling boot) (low : was.record.generation + 1 < 2 ^ 48 - 8) where
+    named_now : (d : Device) → IsOn (geometry_of old) d → later d ≡ Sound → names boot d ≡ true
+    named_now (dev.Drive d) on s = in_cut was.drives was.record.slots d.0 (o.in_force.sound d.0 on (sound_before (named_sound was.record (dev.Drive d)) (later (dev.Drive d)) (within (dev.Drive d)) s))
+    named_now (dev.Nv n) on s = named_before (dev.Nv n) later within s
+
+    sound_now : NamesSound (geometry_of old) stop.image later slot boot
+    sound_now = record { named = named_now; written = written }
+
+    left_now : NamesNoneLeftOut later boot
+    left_now (dev.Drive d) out = elim (cases_Bool (slice_index_or was.drives d.0 false)) [
+      | inl m ↦ absurd (cc (is_of.named d.0 m, is_left (names was.record (dev.Drive d)) (left_before (named_sound was.record (dev.Drive d)) (later (dev.Drive d)) (within (dev.Drive d)) out)))
+      | inr not ↦ not
+    ]
+    left_now (dev.Nv n) out = is_left (names was.record (dev.Nv n)) (left_before (named_sound was.record (dev.Nv n)) (later (dev.Nv n)) (within (dev.Nv n)) out)
+
+    tables_now : TablesHold (geometry_of old) stop.image slot boot next.patches next.base
+    tables_now = data_is_held (geometry_of old) (drives_of was) start.image stop.image slot (with_tables was.record tables) boot next.patches next.base tabled_of refl (λ i m. cut i m) only (plan.stand start may)
+
+    none_now : ShowsNone stop.image boot
+    none_now n i c below named shows =
+        let bytes : stop.image (nvram n) ≡ (old.disk (nvram n)).bytes = only.nvram n ∙ as_read (old.disk (nvram n)) (start.image (nvram n)) (plan.logged.clean n below named) (may.device (nvram n)) in
+        shows_no_more (old.disk (nvram n)).bytes was.record.flushed i held.log c (plan.logged.log n below named)
+        (subst (λ (f : ℕ). ShowsIn (old.disk (nvram n)).bytes f i c) plan.flushed (subst (λ (b : List ℕ). ShowsIn b tables.flushed i c) bytes shows))
+
+    sound_start : NamesSound (geometry_of old) start.image (named_sound was.record) own was.record
+    sound_start = record {
+      named = λ d on s. is_named (names was.record d) s;
+      written = λ i lt s.
+          let m = o.in_force.sound i lt s in
+          ap (body_in own) (as_read (old.disk (drive i)) (start.image (drive i)) (o.in_force.clean i m s) (may.device (drive i))) ∙ o.logged.bodies i m;
+    }
+
+    left_start : NamesNoneLeftOut (named_sound was.record) was.record
+    left_start d out = is_left (names was.record d) out
+
+    is_checkpoint : IsCheckpointOf was.record boot held.base held.log next.base
+    is_checkpoint = record { flushed = plan.flushed; generation = refl; result = plan.result }
+
+    follows : (s : Stands (geometry_of old) start.image (named_sound was.record) (array_of held ∷ []))
+        → (r : IsReadInto (geometry_of old) stop.image later slot boot (array_of held ∷ [])) × ((slot3 : BootSlot) (boot3 : BootRecord) (g : MayBeGiven (geometry_of old) start.image (named_sound was.record) slot3 boot3)
+        → FollowsOn (geometry_of old) stop.image later slot boot boot3 r.base (s.reads slot3 boot3 g).base × FollowsOn (geometry_of old) stop.image later slot3 boot3 boot (s.reads slot3 boot3 g).base r.base)
+    follows s = checkpoint_follows (geometry_of old) start.image stop.image (named_sound was.record) later own slot was.record boot held.patches next.patches held.base next.base held.log (array_of held ∷ [])
+        is_checkpoint (0, omega arith, sym plan.result) lawful_of (record { in_its_slot = sym (next_other was.record.generation); not_spent = low }) sound_now left_now tables_now none_now
+        sound_start left_start (o.logged.tables start may) (λ slot3 boot3 g. o.alone start slot3 boot3 may g) s
+
+  follow : was.record.generation + 1 < 2 ^ 48 - 8 → MayFollow old (named_sound was.record) slot boot (array_of held ∷ [])
+  follow low = record {
+    lawful = lawful_of;
+    stands = o.stands;
+    reads = λ later start stop within bearable may only written s. follows later start stop within may only written low s;
+  }
+
+  -- ---- once it was stored
+
+  module _ (new : Shelved) (on : Continues old new) (now : Register) (kept : now.record ≡ boot)
+      (beyond : (i : ℕ) → was.record.slots ≤ i → IsMember now.drives i → IsMember was.drives i) (puts : Puts old new now (drives_of was) slot (spelling boot)) where
+    its_register : IsRegisterOf (geometry_of new) now
+    its_register = is_of_next old new on was now boot is_of lawful refl refl (λ i m. m) kept beyond puts.fewer
+
+    nvram_same : (n : ℕ) → new.disk (nvram n) ≡ old.disk (nvram n)
+    nvram_same n = puts.others (nvram n) (λ x. x)
+
+    -- its tables hold whatever a stop leaves
+    module _ (start : Stop) (may : MayStop new start) where
+      abbrev long_then : (i : ℕ) → length (old.disk (drive i)).bytes ≡ length (start.image (drive i))
+      long_then = long old new h now (drives_of was) slot (spelling boot) puts start may
+
+      abbrev same_then : (d i : ℕ) → 196608 ≤ i → (IsInSome (old.disk (drive d)).dirty i → ⊥) → slice_index (start.image (drive d)) i ≡ slice_index (old.disk (drive d)).bytes i
+      same_then = same_behind old new h now (drives_of was) slot (spelling boot) puts start may
+
+      abbrev nvram_then : (n : ℕ) → MayLeave (old.disk (nvram n)) (start.image (nvram n))
+      nvram_then = log_then old new h now (drives_of was) slot (spelling boot) puts start may
+
+      held_now : TablesHold (geometry_of new) start.image (own_slot boot) boot next.patches next.base
+      held_now = subst (λ g. TablesHold g start.image (own_slot boot) boot next.patches next.base) (same_shelf on)
+          (data_is_held (geometry_of old) (drives_of was) (at_splice old (is_old.bytes h) start.image long_then (λ d. (may.device d).is_byte) same_then nvram_then).image start.image (own_slot boot) (with_tables was.record tables) boot next.patches next.base tabled_of refl
+          (λ i m. cut i m) (splice_boot old (is_old.bytes h) start.image long_then (λ d. (may.device d).is_byte) same_then nvram_then)
+          (plan.stand (at_splice old (is_old.bytes h) start.image long_then (λ d. (may.device d).is_byte) same_then nvram_then) (splice_stops old (is_old.bytes h) start.image long_then (λ d. (may.device d).is_byte) same_then nvram_then)))
+
+    body_now : (i : ℕ) → IsMember (drives_of now) i → body_in slot (new.disk (drive i)).bytes ≡ spelling boot
+    body_now i m = shown_body slot (new.disk (drive i)).bytes (spelling boot) (puts.shown h i m).shown
+
+    shows_now : ShowsOn new was.record.members.nvrams tables.flushed next.log
+    shows_now = subst (λ (l : List Command). ShowsOn new was.record.members.nvrams tables.flushed l) (sym plan.log) (record {
+      log = λ n lt m. record {
+        room = omega arith;
+        between = record {
+          all = λ i c at. cc at;
+          no_other = λ i c shows. absurd (shows_no_more (old.disk (nvram n)).bytes was.record.flushed i held.log c (plan.logged.log n lt m)
+              (subst (λ (f : ℕ). ShowsIn (old.disk (nvram n)).bytes f i c) plan.flushed (subst (λ (d : Disk). ShowsIn d.bytes tables.flushed i c) (nvram_same n) shows)));
+        };
+      };
+      clean = λ n lt m. subst (λ (d : Disk). d.dirty ≡ []) (sym (nvram_same n)) (plan.logged.clean n lt m);
+    })
+
+    pub logged_now : StandsInLog new now was.record.members.nvrams next
+    logged_now = record {
+      is_of = its_register;
+      tables = λ start may. subst (λ (b : BootRecord). TablesHold (geometry_of new) start.image (own_slot b) b next.patches next.base) (sym kept) (held_now start may);
+      bodies = λ i m. subst (λ (b : BootRecord). body_in (own_slot b) (new.disk (drive i)).bytes ≡ spelling b) (sym kept)
+          (subst (λ (t : BootSlot). body_in t (new.disk (drive i)).bytes ≡ spelling boot) (sym (next_other was.record.generation)) (body_now i m));
+      holds = subst (λ (b : BootRecord). ShowsOn new was.record.members.nvrams b.flushed next.log) (sym kept) shows_now;
+      accepted = subst (λ (l : List Command). AllAccepted next.base l) (sym plan.log) tt;
+    }
+
+    older_body : (i : ℕ) → IsMember (drives_of now) i → body_in own (new.disk (drive i)).bytes ≡ spelling was.record
+    older_body i m =
+        subst (λ (t : BootSlot). body_in t (new.disk (drive i)).bytes ≡ body_in t (old.disk (drive i)).bytes) (twice_other own)
+        (other_body (drives_of was) slot i (old.disk (drive i)) (new.disk (drive i)) ((puts.writes h).device (drive i)))
+        ∙ o.logged.bodies i (puts.fewer i m)
+
+    newer : (s : BootSlot) → Yields s (generation_in (spelling was.record)) (generation_in (spelling boot))
+    newer s =
+        let a = generation_spelled was.record is_of.lawful.lawful in
+        let b = generation_spelled boot lawful in
+        lower_yields s (generation_in (spelling was.record)) (generation_in (spelling boot)) (omega (arith, a, b))
+
+    pub older_now : (i : ℕ) → IsMember (drives_of now) i → IsOlder new (next_slot now.record) (spelling now.record) i
+    older_now i m = subst (λ (b : BootRecord). IsOlder new (next_slot b) (spelling b) i) (sym kept)
+        (subst (λ (t : BootSlot). IsOlder new (other_slot t) (spelling boot) i) (sym (next_other was.record.generation))
+        (subst (λ (t : BootSlot). Yields (other_slot t) (generation_in (body_in t (new.disk (drive i)).bytes)) (generation_in (spelling boot))) (sym (twice_other own))
+        (subst (λ (l : List ℕ). Yields slot (generation_in l) (generation_in (spelling boot))) (sym (older_body i m)) (newer slot))))
+
+    pub shown_now : (i : ℕ) → IsMember (drives_of now) i → Shows new (own_slot now.record) (spelling now.record) i
+    shown_now i m = subst (λ (b : BootRecord). Shows new (own_slot b) (spelling b) i) (sym kept)
+        (subst (λ (t : BootSlot). Shows new t (spelling boot) i) (sym (next_other was.record.generation)) (puts.shown h i m))
+
+    module _ (low : was.record.generation + 1 < 2 ^ 48 - 8) where
+      pub moments_now : LeavesOnly old new (StandsBut old (drives_of was) (named_sound was.record) slot was.record (array_of held ∷ []))
+      moments_now = weaker (λ stop at. at.stands (named_sound was.record) was.record boot (array_of held ∷ []) refl o.in_force (follow low)) (puts.moments h)
+
+      -- in conditions that tell what failed meanwhile it may be stored again
+      pub again_now : (later : Conditions) → AccountsFor old (drives_of was) (named_sound was.record) slot (spelling was.record) (λ d. (new.disk d).faults) (λ d. (new.disk d).write_faults) later
+          → MayStore new now was.record.members.nvrams later next (array_of held ∷ [])
+      again_now later account =
+          let s = puts.stored h (named_sound was.record) was.record boot (array_of held ∷ []) refl (newer slot) o.in_force (follow low) later account in
+          record {
+            logged = logged_now;
+            in_force = subst (λ (b : BootRecord). IsInForceOn new (drives_of now) later (next_slot b) b) (sym kept)
+                (subst (λ (t : BootSlot). IsInForceOn new (drives_of now) later (other_slot t) boot) (sym (next_other was.record.generation)) s.in_force);
+            stands = s.stands;
+            one_of = (0, omega arith, sym (array_next));
+            sound = λ n lt e. named_before (nvram n) later account.within e;
+            left_out = λ n e m. absurd (cc (m, is_left (names was.record (nvram n)) (left_before (named_sound was.record (nvram n)) (later (nvram n)) (account.within (nvram n)) e)));
+            unnamed = λ i e. subst (λ (b : BootRecord). names b (drive i) ≡ false) (sym kept) (elim (cases_Bool (slice_index_or was.drives i false)) [
+              | inl m ↦ absurd (cc (is_of.named i m, is_left (names was.record (drive i)) (left_before (named_sound was.record (drive i)) (later (drive i)) (account.within (drive i)) e)))
+              | inr not ↦ not
+            ]);
+          }
+        where
+          array_next : array_of next ≡ array_of held
+          array_next = ap (λ (l : List Command). after_all next.base l) plan.log ∙ plan.result
+
+-- a stop in a later round
+pub later_round : (old new : Shelved) (on : Continues old new) (was now : Register) (held next : Content) → ((i : ℕ) → IsMember (drives_of now) i → IsMember (drives_of was) i)
+    → ((i : ℕ) → IsMember (drives_of now) i → IsOlder new (next_slot now.record) (spelling now.record) i) → MayGoOn old new was now held next
+    → (stop : Stop) → IsCountedBy new stop
+    → ((missing : Conditions) (content : Content) (arrays : List Array) → MayStore new now was.record.members.nvrams missing content arrays → StandsBut new (drives_of now) missing (next_slot now.record) now.record arrays stop)
+    → StandsAsBefore old was held stop
+later_round old new on was now held next fewer older again stop counts stands later account =
+    let told = accounts old new (drives_of was) (named_sound was.record) (next_slot was.record) was.record (bearable_then old new (drives_of was) (named_sound was.record) (next_slot was.record) was.record stop counts later account) in
+    let since = accounts_since old new (drives_of was) (named_sound was.record) (next_slot was.record) was.record stop counts later account (drives_of now) (next_slot now.record) now.record on fewer older (sym (same_shelf on)) in
+    subst (λ (g : Geometry). Stands g stop.image later (array_of held ∷ [])) (sym (same_shelf on))
+    (stands (meanwhile old new (drives_of was) (named_sound was.record) (next_slot was.record) was.record) next (array_of held ∷ []) (again _ told) later since)

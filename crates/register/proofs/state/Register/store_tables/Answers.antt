@@ -1,0 +1,85 @@
+use Rattle.std.proofs.Common.{inl, inr, arith, ◌≡◌, ◌+◌, ◌-◌, ◌^◌, ◌<◌, ◌≤◌, length, sym, ◌∙◌, ap}
+use Rattle.boot_codec.specs.declared.record.BootRecord.{BootRecord}
+use Rattle.boot_codec.specs.Record.{set_count}
+use Rattle.world.proofs.Moments.{continues_trans, then_run, weaker}
+use Rattle.world.proofs.Writes.{writes_then, writes_more}
+use Rattle.boot_region.proofs.Stored.{stay_then}
+use Rattle.register.specs.Registers.{drives_of}
+use Rattle.register.proofs.Again.{both}
+use Rattle.register.proofs.FlagLemmas.{same_flags, other_flags}
+use Rattle.register.proofs.Opened.{is_open}
+use Rattle.register.proofs.Stores.{at_most_slots, fewer_cut, on_more, fewer_left}
+use Rattle.register.proofs.Tabling.{later_round}
+use Rattle.register.proofs.state.Register.store_tables.Goals as goal
+
+pub returns-clause-continues : goal.returns-clause-continues
+returns-clause-continues g c = continues_trans c.in_ok-store_first.ensures.continues c.store.ensures.continues
+
+pub returns-then-eq-clause-members : goal.returns-then-eq-clause-members
+returns-then-eq-clause-members g c =
+    let same : c.store_first.new.self.drives ≡ c.store_first.new.self.record.members.drives = same_flags c.store_first.new.self.drives c.store_first.new.self.record.members.drives c.if-eq.ensures in
+    (sym same, ap (λ (b : BootRecord). b.members.nvrams) c.in_ok-store_first.ensures.next)
+
+pub returns-clause-others : goal.returns-clause-others
+returns-clause-others g c =
+    stay_then (g.S.Shelf.shelf c.args.shelf.now) (g.S.Shelf.shelf c.store_first.new.shelf) (g.S.Shelf.shelf c.store.new.shelf) (drives_of c.args.self.now) (drives_of c.store_first.new.self)
+    (fewer_cut c.args.self.now c.store_first.new.self (ap (λ (b : BootRecord). b.slots) c.in_ok-store_first.ensures.next) c.in_ok-store_first.ensures.fewer)
+    c.in_ok-store_first.ensures.others c.store.ensures.others
+
+pub returns-clause-writes : goal.returns-clause-writes
+returns-clause-writes g c h =
+    let ab = c.in_ok-store_first.ensures.continues in
+    writes_then ab (c.in_ok-store_first.ensures.writes h)
+    (writes_more (λ d i w. on_more (drives_of c.args.self.now) (drives_of c.store_first.new.self)
+    (fewer_cut c.args.self.now c.store_first.new.self (ap (λ (b : BootRecord). b.slots) c.in_ok-store_first.ensures.next) c.in_ok-store_first.ensures.fewer) d i w)
+    (c.store.ensures.writes (ab.honest h)))
+
+pub returns-clause-few : goal.returns-clause-few
+returns-clause-few g c =
+    let most : set_count c.args.self.now.drives ≤ c.args.self.now.record.slots = at_most_slots c.args.self.now c.requires.is_of in
+    let as_many : length c.store_first.new.self.drives ≡ length c.args.self.now.drives = c.in_ok-store_first.ensures.flags in
+    let smaller : set_count c.store_first.new.self.drives < set_count c.args.self.now.drives =
+    fewer_left c.args.self.now.drives c.store_first.new.self.drives c.store_first.new.self.record.members.drives as_many c.in_ok-store_first.ensures.fewer
+    (ap (λ (b : BootRecord). b.members.drives) c.in_ok-store_first.ensures.next) (other_flags c.store_first.new.self.drives c.store_first.new.self.record.members.drives c.if-eq.ensures) in
+    let slots : c.store_first.new.self.record.slots ≡ c.args.self.now.record.slots = ap (λ (b : BootRecord). b.slots) c.in_ok-store_first.ensures.next in
+    let generation : c.store_first.new.self.record.generation ≡ c.args.self.now.record.generation + 1 = ap (λ (b : BootRecord). b.generation) c.in_ok-store_first.ensures.next in
+    elim c.store.ensures.rounds [
+      | inl same ↦ omega (arith, generation, same)
+      | inr le ↦ omega (arith, generation, le, slots, smaller, most)
+    ]
+
+pub returns-then-eq-clause-held : goal.returns-then-eq-clause-held
+returns-then-eq-clause-held g c h low held next o plan =
+    let same : c.store_first.new.self.drives ≡ c.store_first.new.self.record.members.drives = same_flags c.store_first.new.self.drives c.store_first.new.self.record.members.drives c.if-eq.ensures in
+    let slots : c.store_first.new.self.record.slots ≡ c.args.self.now.record.slots = ap (λ (b : BootRecord). b.slots) c.in_ok-store_first.ensures.next in
+    let count : set_count c.store_first.new.self.drives ≡ set_count c.args.self.now.drives = ap set_count (same ∙ ap (λ (b : BootRecord). b.members.drives) c.in_ok-store_first.ensures.next) in
+    let l = c.in_ok-store_first.ensures.logged h held next o plan in
+    let enough : c.store_first.new.self.record.slots ≤ set_count c.store_first.new.self.drives + 2 = omega (arith, slots, count, c.in_ok-store_first.ensures.enough) in
+    is_open (g.S.Shelf.shelf c.store_first.new.shelf) (g.met.S.Shelf.is_shelf c.store_first.new.shelf) _ c.args.self.now.record.members.nvrams next
+    (record { is_of = record { lawful = l.is_of.lawful; named = l.is_of.named }; tables = l.tables; bodies = l.bodies; holds = l.holds; accepted = l.accepted })
+    (sym same) (ap (λ (b : BootRecord). b.members.nvrams) c.in_ok-store_first.ensures.next) enough low c.requires.nvrams
+    (c.in_ok-store_first.ensures.shown h) (c.in_ok-store_first.ensures.older h held next o plan)
+
+pub returns-clause-any_moment : goal.returns-clause-any_moment
+returns-clause-any_moment g c h low held next o plan =
+    let a = g.S.Shelf.shelf c.args.shelf.now in
+    let b = g.S.Shelf.shelf c.store_first.new.shelf in
+    let was = c.args.self.now in
+    let now = c.store_first.new.self in
+    let ab = c.in_ok-store_first.ensures.continues in
+    let hb = ab.honest h in
+    let room : now.record.generation < 2 ^ 48 - 8 = omega (arith, c.store.ensures.later.generation, low) in
+    then_run ab (c.in_ok-store_first.ensures.any_moment h room held next o plan) (weaker (λ stop x.
+    later_round a b ab was now held next
+    (fewer_cut was now (ap (λ (r : BootRecord). r.slots) c.in_ok-store_first.ensures.next) c.in_ok-store_first.ensures.fewer)
+    (c.in_ok-store_first.ensures.older h held next o plan) (c.in_ok-store_first.ensures.again h room held next o plan) stop x.0.counts
+    (λ missing content arrays m. x.1.stands missing content arrays (record {
+      logged = record { is_of = record { lawful = m.logged.is_of.lawful; named = m.logged.is_of.named }; tables = m.logged.tables; bodies = m.logged.bodies; holds = m.logged.holds; accepted = m.logged.accepted };
+      in_force = m.in_force;
+      stands = m.stands;
+      one_of = m.one_of;
+      sound = m.sound;
+      left_out = m.left_out;
+      unnamed = m.unnamed;
+    })))
+    (both (c.store.ensures.writes hb).any_moment (c.store.ensures.moments hb low)))

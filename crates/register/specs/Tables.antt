@@ -1,0 +1,37 @@
+-- A record with other tables, and what has to stand before it is stored.
+use Rattle.std.specs.Prelude.{◌≡◌, ◌+◌, [], ◌∷◌, length}
+use Rattle.pur_base.specs.Devices.{Conditions}
+use Rattle.boot_codec.specs.declared.record.BootRecord.{BootRecord}
+use Rattle.boot_codec.specs.Spelling.{spelling}
+use Rattle.stored_spec.specs.Held.{DataHolds}
+use Rattle.world.specs.Losing.{geometry_of}
+use Rattle.world.specs.Shelf.{Shelved, Stop, MayStop}
+use Rattle.boot_region.specs.Storing.{StandsBut, AccountsFor}
+use Rattle.nvram_log.specs.Held.{HoldsOn}
+use Rattle.register.specs.declared.state.Register.{Register}
+use Rattle.register.specs.declared.tables.Tables.{Tables}
+use Rattle.register.specs.Registers.{drives_of, named_sound, next_slot}
+use Rattle.register.specs.Standing.{Content, MayStore, array_of}
+
+-- the record with these tables
+abbrev pub with_tables : BootRecord → Tables → BootRecord
+with_tables boot t = record boot { patches = t.patches; next = t.next; flushed = t.flushed }
+
+-- The tables hold the array of the log: they stand on the drives on which the record is in force, whatever a stop leaves, and have flushed all that is logged.
+pub record IsPlanOf (shelf : Shelved) (r : Register) (tables : Tables) (held next : Content) : Type 0 where
+  pub flushed : tables.flushed ≡ r.record.flushed + length held.log
+  pub log : next.log ≡ []
+  pub result : next.base ≡ array_of held
+  pub stand : (start : Stop) → MayStop shelf start → DataHolds (geometry_of shelf) (drives_of r) start.image (with_tables r.record tables) next.patches next.base
+  -- the NVRAM devices hold the log, and the gates behind it are closed
+  pub logged : HoldsOn shelf r.record.members.nvrams r.record.flushed held.log
+
+-- In all conditions that tell what has failed by then, the devices stand for the array for which they stood.
+abbrev pub StandsAsBefore : Shelved → Register → Content → Stop → Type 0
+StandsAsBefore old r held stop = StandsBut old (drives_of r) (named_sound r.record) (next_slot r.record) r.record (array_of held ∷ []) stop
+
+-- in all conditions that tell what failed meanwhile the record may be stored again, by the new tables
+abbrev pub MayGoOn : Shelved → Shelved → Register → Register → Content → Content → Type 0
+MayGoOn old new was now held next = (later : Conditions)
+    → AccountsFor old (drives_of was) (named_sound was.record) (next_slot was.record) (spelling was.record) (λ d. (new.disk d).faults) (λ d. (new.disk d).write_faults) later
+    → MayStore new now was.record.members.nvrams later next (array_of held ∷ [])

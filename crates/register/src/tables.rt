@@ -1,0 +1,125 @@
+// A record with other tables is stored.
+ghost use Rattle.std.specs.Prelude.{◌≡◌, ◌⊎◌, ◌<◌, ◌≤◌, ◌+◌, ◌-◌, ◌^◌, ℕ, OnOk, OnErr, IfErr, length};
+ghost use Rattle.boot_codec.specs.Record.{IsBootRecord, set_count};
+ghost use Rattle.boot_codec.specs.Spelling.{spelling};
+ghost use Rattle.world.specs.Losing.{geometry_of};
+ghost use Rattle.world.specs.Shelf.{Continues, LeavesOnly};
+ghost use Rattle.world.specs.Writes.{WritesOnly};
+ghost use Rattle.boot_region.specs.Members.{IsMember, NonMembersStay, DroppedFailed};
+ghost use Rattle.boot_region.specs.Storing.{IsOlder, Shows};
+ghost use Rattle.nvram_log.specs.Members.{IsSome};
+
+use crate::{Register, StoreFault};
+use boot_codec::{NextNumbers, Patches};
+use world::Shelf;
+
+/// What a record says of the tables: their patches, the numbers that are given next, and the number of the last logged command that the patches hold.
+#[derive(Drop)]
+pub struct Tables {
+    pub patches: Patches,
+    pub next: NextNumbers,
+    pub flushed: u64,
+}
+
+impl Register {
+    ghost use Rattle.register.specs.Faults.{IsFaultOf};
+    ghost use Rattle.register.specs.Registers.{IsRegisterOf, IsLaterRecord, OnSlots, drives_of, next_record, next_slot, own_slot};
+    ghost use Rattle.register.specs.Standing.{Content, IsOpen, StandsInLog};
+    ghost use Rattle.register.specs.Tables.{IsPlanOf, MayGoOn, StandsAsBefore, with_tables};
+
+    /// Makes and spells the next record with these tables. An error leaves all as it was.
+    fn advance_to(&mut self, tables: Tables) -> Result<(), StoreFault>
+        requires lawful { IsBootRecord (with_tables self.old.record tables) }
+        requires named { (i : ℕ) → IsMember self.old.drives i → IsMember self.old.record.members.drives i }
+        requires nvrams { IsSome self.old.record.members.nvrams }
+        ensures ok { OnOk result (self.new.record ≡ next_record (with_tables self.old.record tables) self.old.drives self.old.record.members.nvrams) }
+        ensures lawful { OnOk result (IsBootRecord self.new.record) }
+        ensures body { OnOk result (self.new.body.items ≡ spelling self.new.record) }
+        ensures drives { self.new.drives ≡ self.old.drives }
+        ensures enough { OnOk result (self.old.record.slots ≤ set_count self.old.drives + 2) }
+        ensures err { OnErr result (self.new ≡ self.old) }
+        ensures fault { IfErr result (λ e. IsFaultOf self.old e) }
+    {
+        self.check_next()?;
+        let nvrams = self.record.members.nvrams;
+        self.record.patches = tables.patches;
+        self.record.next = tables.next;
+        self.record.flushed = tables.flushed;
+        self.write_next(nvrams);
+        Ok(())
+    }
+
+    /// Stores the next record with these tables once. An error is told before anything is written, and leaves all as it was.
+    fn store_first<S: Shelf>(&mut self, tables: Tables, shelf: &mut S) -> Result<(), StoreFault>
+        requires is_of { IsRegisterOf (geometry_of (S.shelf shelf.old)) self.old }
+        requires lawful { IsBootRecord (with_tables self.old.record tables) }
+        requires nvrams { IsSome self.old.record.members.nvrams }
+        ensures continues { Continues (S.shelf shelf.old) (S.shelf shelf.new) }
+        ensures rest { S.shelf_rest shelf.old shelf.new }
+        ensures fewer { (i : ℕ) → IsMember self.new.drives i → IsMember self.old.drives i }
+        ensures dropped { DroppedFailed (S.shelf shelf.old) (S.shelf shelf.new) (drives_of self.old) (drives_of self.new) }
+        ensures others { NonMembersStay (drives_of self.old) (S.shelf shelf.old) (S.shelf shelf.new) }
+        ensures writes { (S.shelf shelf.old).honest → WritesOnly (OnSlots (drives_of self.old)) (S.shelf shelf.old) (S.shelf shelf.new) }
+        ensures is_of { IsRegisterOf (geometry_of (S.shelf shelf.new)) self.new }
+        ensures flags { length self.new.drives ≡ length self.old.drives }
+        ensures next { OnOk result (self.new.record ≡ next_record (with_tables self.old.record tables) self.old.drives self.old.record.members.nvrams) }
+        ensures enough { OnOk result (self.old.record.slots ≤ set_count self.old.drives + 2) }
+        ensures same { OnErr result ((self.new.record ≡ self.old.record) × (self.new.drives ≡ self.old.drives)) }
+        ensures fault { IfErr result (λ e. IsFaultOf self.old e) }
+        ensures any_moment { (S.shelf shelf.old).honest → self.new.record.generation < 2 ^ 48 - 8 → (held next : Content) → IsOpen (S.shelf shelf.old) self.old self.old.record.members.nvrams held
+            → IsPlanOf (S.shelf shelf.old) self.old tables held next → LeavesOnly (S.shelf shelf.old) (S.shelf shelf.new) (StandsAsBefore (S.shelf shelf.old) self.old held) }
+        ensures logged { (S.shelf shelf.old).honest → (held next : Content) → IsOpen (S.shelf shelf.old) self.old self.old.record.members.nvrams held
+            → IsPlanOf (S.shelf shelf.old) self.old tables held next → OnOk result (StandsInLog (S.shelf shelf.new) self.new self.old.record.members.nvrams next) }
+        ensures shown { (S.shelf shelf.old).honest → OnOk result ((i : ℕ) → IsMember (drives_of self.new) i → Shows (S.shelf shelf.new) (own_slot self.new.record) (spelling self.new.record) i) }
+        ensures older { (S.shelf shelf.old).honest → (held next : Content) → IsOpen (S.shelf shelf.old) self.old self.old.record.members.nvrams held
+            → IsPlanOf (S.shelf shelf.old) self.old tables held next → OnOk result ((i : ℕ) → IsMember (drives_of self.new) i → IsOlder (S.shelf shelf.new) (next_slot self.new.record) (spelling self.new.record) i) }
+        // Then it may be stored again.
+        ensures again { (S.shelf shelf.old).honest → self.new.record.generation < 2 ^ 48 - 8 → (held next : Content) → IsOpen (S.shelf shelf.old) self.old self.old.record.members.nvrams held
+            → IsPlanOf (S.shelf shelf.old) self.old tables held next → OnOk result (MayGoOn (S.shelf shelf.old) (S.shelf shelf.new) self.old self.new held next) }
+    {
+        self.advance_to(tables)?;
+        self.put(shelf);
+        Ok(())
+    }
+
+    /// Stores the record of the next generation with these tables, which names the drives that are left and the same NVRAM devices.
+    /// Where a drive fails meanwhile it stores again without it, one generation higher, until the record is on all drives that it names.
+    /// Before the first record is made an error changes nothing; after a later one the register holds what was stored last. It takes no memory.
+    pub fn store_tables<S: Shelf>(
+        &mut self,
+        tables: Tables,
+        shelf: &mut S,
+    ) -> Result<(), StoreFault>
+        requires is_of { IsRegisterOf (geometry_of (S.shelf shelf.old)) self.old }
+        requires lawful { IsBootRecord (with_tables self.old.record tables) }
+        requires nvrams { IsSome self.old.record.members.nvrams }
+        ensures continues { Continues (S.shelf shelf.old) (S.shelf shelf.new) }
+        ensures rest { S.shelf_rest shelf.old shelf.new }
+        ensures fewer { (i : ℕ) → IsMember self.new.drives i → IsMember self.old.drives i }
+        ensures dropped { DroppedFailed (S.shelf shelf.old) (S.shelf shelf.new) (drives_of self.old) (drives_of self.new) }
+        ensures others { NonMembersStay (drives_of self.old) (S.shelf shelf.old) (S.shelf shelf.new) }
+        ensures writes { (S.shelf shelf.old).honest → WritesOnly (OnSlots (drives_of self.old)) (S.shelf shelf.old) (S.shelf shelf.new) }
+        ensures is_of { IsRegisterOf (geometry_of (S.shelf shelf.new)) self.new }
+        // It is a record of these tables, but for an error before the first one was made.
+        ensures stored { OnOk result (IsLaterRecord (with_tables self.old.record tables) self.new.record) }
+        ensures kept { OnErr result (((self.new.record ≡ self.old.record) × (self.new.drives ≡ self.old.drives)) ⊎ IsLaterRecord (with_tables self.old.record tables) self.new.record) }
+        ensures generation { OnOk result ((self.old.record.generation < self.new.record.generation) × (self.new.record.generation < 2 ^ 48)) }
+        ensures few { self.new.record.generation ≤ self.old.record.generation + 3 }
+        ensures members { OnOk result ((self.new.record.members.drives ≡ self.new.drives) × (self.new.record.members.nvrams ≡ self.old.record.members.nvrams)) }
+        ensures fault { IfErr result (λ e. IsFaultOf self.new e) }
+        // At every moment the devices stand for the array for which they stood.
+        ensures any_moment { (S.shelf shelf.old).honest → self.new.record.generation < 2 ^ 48 - 8 → (held next : Content) → IsOpen (S.shelf shelf.old) self.old self.old.record.members.nvrams held
+            → IsPlanOf (S.shelf shelf.old) self.old tables held next
+            → LeavesOnly (S.shelf shelf.old) (S.shelf shelf.new) (StandsAsBefore (S.shelf shelf.old) self.old held) }
+        // Then the record is in force, and the devices stand for the array by its tables.
+        ensures held { (S.shelf shelf.old).honest → self.new.record.generation < 2 ^ 48 - 8 → (held next : Content) → IsOpen (S.shelf shelf.old) self.old self.old.record.members.nvrams held
+            → IsPlanOf (S.shelf shelf.old) self.old tables held next → OnOk result (IsOpen (S.shelf shelf.new) self.new self.old.record.members.nvrams next) }
+    {
+        let nvrams = self.record.members.nvrams;
+        self.store_first(tables, shelf)?;
+        if self.drives == self.record.members.drives {
+            return Ok(());
+        }
+        self.store(nvrams, shelf)
+    }
+}
