@@ -6,8 +6,8 @@ use Rattle.memory_spec.specs.Tables.{patches}
 use Rattle.memory_spec.specs.Memory.{Memory, Contents, FactsRead, ReadsAs}
 use Rattle.boot_codec.specs.declared.record.NextNumbers.{NextNumbers}
 use Rattle.checkpoint_spec.specs.Whole.{IsWhole}
-use Rattle.checkpoint_spec.specs.Checkpoint.{IsCheckpointed, CheckpointReads, CheckpointHolds}
-use Rattle.checkpoint_spec.proofs.Standing.{written_holds}
+use Rattle.checkpoint_spec.specs.Checkpoint.{IsCheckpointed, CheckpointReads, CheckpointIsSound, CheckpointHolds, CheckpointDataHolds}
+use Rattle.checkpoint_spec.proofs.Standing.{written_holds, written_data_holds}
 use Rattle.checkpoint_spec.proofs.Patches.{patches_read}
 use Rattle.checkpoint_spec.proofs.Records.{record_is_sound}
 use Rattle.checkpoint_spec.proofs.Shrinking.{shrinking_reads}
@@ -34,12 +34,20 @@ reads contents contents2 was now array r c =
 pub checkpoint_reads : CheckpointReads
 checkpoint_reads contents contents2 was now array r c = (whole contents contents2 was now c, reads contents contents2 was now array r c)
 
+pub checkpoint_is_sound : CheckpointIsSound
+checkpoint_is_sound shelf boot contents contents2 was now array r c record_is =
+    let all = whole contents contents2 was now c in
+    let after = reads contents contents2 was now array r c in (
+      record_is_sound shelf boot now after.sound all c.layered record_is.segments record_is.next record_is.patches,
+      subst (λ (n : NextNumbers). FactsRead contents2 [] (all_facts (patches now.tables)) n.object array) (sym record_is.next) (patches_read contents2 now array all after),
+    )
+
 pub checkpoint_holds : CheckpointHolds
 checkpoint_holds shelf image slot boot contents contents2 was now array r c record_is stands =
-    let all = whole contents contents2 was now c in
-    let after = reads contents contents2 was now array r c in
-    let sound = record_is_sound shelf boot now after.sound all c.layered record_is.segments record_is.next record_is.patches in
-    let base = patches_read contents2 now array all after in
-    let same : FactsRead contents2 [] (all_facts (patches now.tables)) boot.next.object array =
-    subst (λ (n : NextNumbers). FactsRead contents2 [] (all_facts (patches now.tables)) n.object array) (sym record_is.next) base in
-    (sound, written_holds shelf image slot boot (patches now.tables) contents2 array sound same stands)
+    let s = checkpoint_is_sound shelf boot contents contents2 was now array r c record_is in
+    written_holds shelf image slot boot (patches now.tables) contents2 array s.0 s.1 stands
+
+pub checkpoint_data_holds : CheckpointDataHolds
+checkpoint_data_holds shelf drives image boot contents contents2 was now array r c record_is stands =
+    let s = checkpoint_is_sound shelf boot contents contents2 was now array r c record_is in
+    written_data_holds shelf drives image boot (patches now.tables) contents2 array s.0 s.1 stands

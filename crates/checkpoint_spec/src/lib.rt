@@ -2,8 +2,8 @@
 //! There is no code: each public function here promises, as its contract, a law of these definitions.
 #![tactic(auto)]
 
-ghost use Rattle.checkpoint_spec.specs.Checkpoint.{CheckpointReads, CheckpointHolds};
-ghost use Rattle.checkpoint_spec.specs.Contents.{BaseIsRead, WrittenHolds};
+ghost use Rattle.checkpoint_spec.specs.Checkpoint.{CheckpointReads, CheckpointIsSound, CheckpointHolds, CheckpointDataHolds};
+ghost use Rattle.checkpoint_spec.specs.Contents.{BaseIsRead, WrittenHolds, WrittenDataHolds};
 ghost use Rattle.checkpoint_spec.specs.Eliding.{ElidingReads};
 ghost use Rattle.checkpoint_spec.specs.Flushing.{ShrinkingReads, FlushShrinks};
 ghost use Rattle.checkpoint_spec.specs.Merging.{MergeShrinks};
@@ -14,6 +14,7 @@ ghost use Rattle.checkpoint_spec.specs.Whole.{PatchesAreFlushed, PatchesAreAll, 
 pub fn what_was_written_stands()
     ensures base { BaseIsRead }
     ensures holds { WrittenHolds }
+    ensures data_holds { WrittenDataHolds }
 {}
 
 /// Memory with nothing beside its patches is what a record of them says.
@@ -44,5 +45,7 @@ pub fn eliding_keeps_memory()
 /// A checkpoint changes no reading, and once it is written its record holds the array.
 pub fn checkpoints_hold()
     ensures reads { CheckpointReads }
+    ensures sound { CheckpointIsSound }
     ensures holds { CheckpointHolds }
+    ensures data_holds { CheckpointDataHolds }
 {}
