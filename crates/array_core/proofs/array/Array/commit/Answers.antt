@@ -152,8 +152,7 @@ returns-clause-held g c h cmds o held keeps accepted in_force =
     let stored : IsOpen n c.store.new.self c.members-members.result (unflushed (cmds ++ cmd ∷ [])) =
     c.in_ok-store.ensures.stored (x.continues.honest h) room (unflushed (cmds ++ cmd ∷ [])) (subst (λ (l : List Bool). StandsInLog m r l (unflushed (cmds ++ cmd ∷ []))) (sym c.members-members.ensures) in_log) in
     let same : (k : ℕ) → n.disk (nvram k) ≡ m.disk (nvram k) = λ k. c.store.ensures.others (nvram k) (λ z. z) in
-    let still = c.in_ok-append.ensures.holds h cmds keeps held in
-    (
+    let still = c.in_ok-append.ensures.holds h cmds keeps held in (
       subst (λ (l : List Bool). IsOpen n c.store.new.self l (unflushed (cmds ++ cmd ∷ []))) c.members-members.ensures stored,
       record {
         log = λ k lt member. subst (λ (d : Disk). IsLog d.bytes c.append.new.self.flushed (cmds ++ cmd ∷ [])) (sym (same k)) (still.log k lt member);
