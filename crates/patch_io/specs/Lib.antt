@@ -1,0 +1,4 @@
+pub mod Tables
+pub mod Spelled
+pub mod Standing
+pub mod Faults
