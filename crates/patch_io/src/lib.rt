@@ -2,11 +2,18 @@
 //! What is read is what stands there, and what was written stands whichever two drives of a segment are missing.
 #![tactic(auto)]
 
+mod appending;
 mod decoding;
 mod fault;
+mod filling;
+mod laws;
+mod limits;
 mod loading;
 mod table;
 
+pub use appending::append_part;
 pub use fault::PatchFault;
+pub use laws::laws_of_parts;
+pub use limits::{SHARD_FACTS, STRIPE_FACTS};
 pub use loading::load_patch;
 pub use table::TableFact;
