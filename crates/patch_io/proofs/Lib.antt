@@ -5,3 +5,5 @@ pub mod Parts
 pub mod Filled
 pub mod Appended
 pub mod Written
+pub mod Apart
+pub mod Storing

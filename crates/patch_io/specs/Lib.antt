@@ -3,3 +3,4 @@ pub mod Spelled
 pub mod Standing
 pub mod Faults
 pub mod Filling
+pub mod Storing

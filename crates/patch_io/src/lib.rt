@@ -10,6 +10,7 @@ mod laws;
 mod limits;
 mod loading;
 mod table;
+mod writing;
 
 pub use appending::append_part;
 pub use fault::PatchFault;
@@ -17,3 +18,4 @@ pub use laws::laws_of_parts;
 pub use limits::{SHARD_FACTS, STRIPE_FACTS};
 pub use loading::load_patch;
 pub use table::TableFact;
+pub use writing::append_patch;
