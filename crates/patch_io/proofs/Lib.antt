@@ -7,3 +7,5 @@ pub mod Appended
 pub mod Written
 pub mod Apart
 pub mod Storing
+pub mod Shown
+pub mod Headers

@@ -4,3 +4,4 @@ pub mod Standing
 pub mod Faults
 pub mod Filling
 pub mod Storing
+pub mod Headed

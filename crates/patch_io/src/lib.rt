@@ -6,6 +6,7 @@ mod appending;
 mod decoding;
 mod fault;
 mod filling;
+mod heading;
 mod laws;
 mod limits;
 mod loading;
@@ -14,7 +15,8 @@ mod writing;
 
 pub use appending::append_part;
 pub use fault::PatchFault;
-pub use laws::laws_of_parts;
+pub use heading::write_patch_headers;
+pub use laws::{laws_of_parts, laws_of_patches};
 pub use limits::{SHARD_FACTS, STRIPE_FACTS};
 pub use loading::load_patch;
 pub use table::TableFact;
