@@ -1,14 +1,13 @@
-ghost use Rattle.std.specs.Prelude.{◌≡◌, ◌<◌, ◌≤◌, ◌+◌};
-ghost use Rattle.pur_base.specs.declared.limits.TheConstants.{OBJECT_SECTORS};
-ghost use Rattle.segment_io.specs.Places.{ArePlaces};
+ghost use Rattle.std.specs.Prelude.{IfSome};
+ghost use Rattle.boot_codec.specs.Record.{IsSegment};
 
 use boot_codec::{Patch, PatchSegment, Segments};
 use fact_codec::{FACT_BYTES, write_fact};
 use parity72::{SHARD_BYTES, SHARDS};
-use patch_io::{PatchFault, TableFact, load_patch};
+use patch_io::{PatchFault, load_patch};
 use pur_base::{
-    AddressFact, AnyFact, Device, DriveId, Lost, MediumId, Place, Places, SECTOR_BYTES,
-    SEGMENT_SECTORS, SegmentId, Seq, Target,
+    AddressFact, AnyFact, Device, DriveId, Lost, MediumId, Place, Places, SECTOR_BYTES, SegmentId,
+    Seq, Target,
 };
 use segment_codec::SegmentKind;
 use segment_io::{Open, StripeData, are_places};
@@ -144,6 +143,16 @@ fn told(answer: Result<Vec<AddressFact>, PatchFault>) -> Result<usize, PatchFaul
     }
 }
 
+/// A segment on those units, if they are units of the shelf.
+fn segment_on<S: Shelf>(shelf: &S, id: u64, places: Places) -> Option<PatchSegment>
+    ensures { IfSome result (λ segment. IsSegment (S.shelf shelf.now).drives (S.shelf shelf.now).units segment) }
+{
+    if !are_places(shelf, &places) {
+        return None;
+    }
+    Some(PatchSegment { id, places })
+}
+
 /// Reads the patch of one segment.
 fn load_one(
     alloc: Global,
@@ -153,13 +162,13 @@ fn load_one(
 ) -> Result<Result<usize, PatchFault>, Fail> {
     let mut shards = [[0; SHARD_BYTES]; SHARDS];
     let mut sectors = vec![in alloc; 0u8; 430_080]?;
-    if !are_places(world, &PLACES) || facts == 0 || facts > SEGMENT_FACTS {
-        return Err(Fail::new("places"));
+    if facts == 0 || facts > SEGMENT_FACTS {
+        return Err(Fail::new("facts"));
     }
-    let segments = [PatchSegment {
-        id: 1,
-        places: PLACES,
-    }];
+    let Some(segment) = segment_on(world, 1, PLACES) else {
+        return Err(Fail::new("places"));
+    };
+    let segments = [segment];
     let patch = Patch {
         tag: 3,
         facts,
@@ -184,22 +193,16 @@ fn load_two(
 ) -> Result<Result<usize, PatchFault>, Fail> {
     let mut shards = [[0; SHARD_BYTES]; SHARDS];
     let mut sectors = vec![in alloc; 0u8; 430_080]?;
-    if !are_places(world, &PLACES) || !are_places(world, &MORE_PLACES) {
-        return Err(Fail::new("places"));
-    }
     if facts <= SEGMENT_FACTS || facts > 2 * SEGMENT_FACTS {
         return Err(Fail::new("facts"));
     }
-    let segments = [
-        PatchSegment {
-            id: 1,
-            places: PLACES,
-        },
-        PatchSegment {
-            id: 2,
-            places: MORE_PLACES,
-        },
-    ];
+    let Some(first) = segment_on(world, 1, PLACES) else {
+        return Err(Fail::new("places"));
+    };
+    let Some(second) = segment_on(world, 2, MORE_PLACES) else {
+        return Err(Fail::new("places"));
+    };
+    let segments = [first, second];
     let patch = Patch {
         tag: 3,
         facts,
