@@ -1,19 +1,17 @@
 -- What stands in one segment stays where another is written.
-use Rattle.std.proofs.Common.{◌≡◌, ◌≢◌, ◌⊎◌, inl, inr, ℕ, ◌+◌, ◌*◌, ◌<◌, ◌≤◌, Bool, true, false, List, [], ◌++◌, length, map, take, drop, refl, sym, subst, ◌∙◌, ap, arith}
-use Rattle.std.specs.Prelude.{Some, slice_get, ◌↔◌}
-use Rattle.std.specs.Int.{div_ceil}
-use Rattle.pur_base.specs.Devices.{Image, View}
+use Rattle.std.proofs.Common.{◌≡◌, ◌⊎◌, inl, inr, ℕ, ◌+◌, ◌*◌, ◌<◌, ◌≤◌, Bool, true, false, List, length, ◌∙◌, ap, arith}
+use Rattle.std.specs.Prelude.{◌↔◌}
+use Rattle.pur_base.specs.Devices.{Image}
 use Rattle.pur_base.specs.declared.device.Device.{Device}
 use Rattle.pur_base.specs.declared.device.Device.TheVariants.{Drive, Nv}
 use Rattle.pur_base.specs.declared.place.Place.{Place}
 use Rattle.pur_base.specs.declared.facts.AnyFact.{AnyFact}
-use Rattle.world.specs.Counts.{Rises}
 use Rattle.world.specs.Shelf.{Shelved}
 use Rattle.world.specs.Writes.{WritesOnly}
 use Rattle.world.proofs.Writes.{writes_more}
 use Rattle.segment_io.specs.Lost.{is_in, LosesOnly}
 use Rattle.segment_io.specs.Places.{place_of, drive_of, write_unit_at, OnUnits}
-use Rattle.segment_io.specs.Stripes.{bytes_of, unit_in, UnitsHold, HoldsStripe}
+use Rattle.segment_io.specs.Stripes.{bytes_of, unit_in, HoldsStripe}
 use Rattle.segment_io.proofs.Losing.{not_before}
 use Rattle.segment_io.proofs.Parts.{part_stays}
 use Rattle.patch_io.specs.Filling.{HoldsPart}
@@ -67,7 +65,7 @@ loses_as a b was other now same loses = record {
 pub same_lost : (fresh was lost : List Bool) → ((slot : ℕ) → is_in fresh slot ≡ false) → ((slot : ℕ) → (is_in was slot ≡ true) ↔ ((is_in fresh slot ≡ true) ⊎ (is_in lost slot ≡ true))) → (slot : ℕ) → (is_in was slot ≡ true) ↔ (is_in lost slot ≡ true)
 same_lost fresh was lost none both slot = (
   (λ is. elim ((both slot).0 is) [ inl old ↦ absurd (let e = none slot in cc) | inr new ↦ new ]),
-  (λ is. (both slot).1 (inr is))
+  (λ is. (both slot).1 (inr is)),
 )
 
 -- fewer write units are some of more

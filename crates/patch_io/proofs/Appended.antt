@@ -1,5 +1,5 @@
 -- Facts that were appended stand on the drives.
-use Rattle.std.proofs.Common.{◌≡◌, ℕ, ◌+◌, ◌*◌, ◌/◌, ◌%◌, ◌<◌, ◌≤◌, Bool, List, [], ◌∷◌, ◌++◌, length, get_or, refl, sym, subst, ◌∙◌, ap, arith, length-append}
+use Rattle.std.proofs.Common.{◌≡◌, ℕ, ◌+◌, ◌*◌, ◌/◌, ◌%◌, Bool, List, [], ◌∷◌, length, sym, subst, ◌∙◌, ap, arith, length-append}
 use Rattle.std.proofs.lemmas.List.{get_or_append_left}
 use Rattle.pur_base.specs.Devices.{Image}
 use Rattle.pur_base.specs.declared.place.Place.{Place}
@@ -7,7 +7,7 @@ use Rattle.pur_base.specs.declared.facts.AnyFact.{AnyFact}
 use Rattle.parity72.specs.Parity.{shard_of}
 use Rattle.segment_io.specs.Stripes.{HoldsStripe, IsStripeOf}
 use Rattle.patch_io.specs.Spelled.{fact_text}
-use Rattle.patch_io.specs.Filling.{text_in, IsTextOf, HoldsFacts}
+use Rattle.patch_io.specs.Filling.{IsTextOf, HoldsFacts}
 
 -- the shards of data of a stripe hold what its data holds
 pub stripe_holds : (image : Image) (places : List Place) (lost : List Bool) (stripe : ℕ) (facts : List AnyFact) (stripe_data shards : List (List ℕ)) → IsStripeOf stripe_data shards → HoldsStripe image places lost stripe shards → HoldsFacts facts stripe stripe_data → HoldsFacts facts stripe shards

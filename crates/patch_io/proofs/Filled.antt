@@ -1,24 +1,21 @@
 -- Stripes are filled fact by fact.
 use Rattle.std.proofs.Common.{◌≡◌, ◌≢◌, inl, inr, ℕ, ◌+◌, ◌-◌, ◌*◌, ◌/◌, ◌%◌, ◌<◌, ◌≤◌, List, [], ◌++◌, length, map, take, drop, get_or, slice_index, refl, sym, subst, ◌∙◌, ap, arith, below_more}
-use Rattle.std.specs.Prelude.{Option, Some, None, slice_get, slice_set, option_map}
+use Rattle.std.specs.Prelude.{Option, Some, slice_get, slice_set, option_map}
 use Rattle.std.specs.Option.{MatchOption}
-use Rattle.std.specs.List.{AllByRecursion}
 use Rattle.std.proofs.lemmas.Bool.{cases_eq, cases_lt}
 use Rattle.std.proofs.lemmas.List.{get_or-drop, get_or-set_same, get_or-set_other, drop_at, take_at, length-take-le, length-map}
-use Rattle.std.proofs.lemmas.List.Edits.{length-between}
-use Rattle.std.proofs.lemmas.Option.{slice_get-map, slice_get-get_or, slice_get_past, slice_get_read}
+use Rattle.std.proofs.lemmas.Option.{slice_get-map, slice_get_past, slice_get_read}
 use Rattle.std.proofs.Math.Seq.{get_or-append_right}
-use borrow.Rule.Slice.PartMut.{put_mid, same_len_mid, mid_of}
-use Rattle.pur_base.specs.Bytes.{bytes_at, zeros}
+use borrow.Rule.Slice.PartMut.{put_mid, same_len_mid}
+use Rattle.pur_base.specs.Bytes.{zeros}
 use Rattle.pur_base.specs.declared.facts.AnyFact.{AnyFact}
-use Rattle.fact_codec.specs.Fact.{Decodes, IsLawful}
+use Rattle.fact_codec.specs.Fact.{Decodes}
 use Rattle.parity72.specs.Parity.{shard_of}
 use Rattle.segment_io.specs.Stripes.{stripe_in}
-use Rattle.segment_io.proofs.Parts.{part_length, at_part, same_at}
+use Rattle.segment_io.proofs.Parts.{part_length, same_at}
 use Rattle.segment_io.proofs.Pieces.{put_below}
 use Rattle.patch_io.specs.Spelled.{fact_text}
 use Rattle.patch_io.specs.Filling.{text_in, IsTextOf, HoldsFacts}
-use Rattle.patch_io.proofs.Lists.{all_at}
 
 -- ---- the bytes of one fact
 

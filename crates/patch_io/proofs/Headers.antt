@@ -1,5 +1,5 @@
 -- The headers of a patch's segments are written one after another.
-use Rattle.std.proofs.Common.{◌≡◌, ◌≢◌, ◌⊎◌, inl, inr, ℕ, zero, suc, ◌+◌, ◌-◌, ◌*◌, ◌<◌, ◌≤◌, Bool, true, false, List, [], ◌∷◌, ◌++◌, length, map, get_or, refl, sym, subst, ◌∙◌, ap, arith}
+use Rattle.std.proofs.Common.{◌≡◌, ◌⊎◌, inl, inr, ℕ, zero, suc, ◌+◌, ◌<◌, ◌≤◌, Bool, true, false, List, [], ◌∷◌, ◌++◌, length, map, get_or, sym, subst, ◌∙◌, ap, arith}
 use Rattle.std.specs.Prelude.{Some, slice_get, ◌↔◌}
 use Rattle.std.proofs.lemmas.Bool.{cases_Bool, cases_eq}
 use Rattle.std.proofs.lemmas.Option.{same_Some}
@@ -16,17 +16,16 @@ use Rattle.world.specs.Shelf.{Shelved, Continues}
 use Rattle.world.specs.Writes.{WritesOnly}
 use Rattle.world.proofs.Writes.{writes_more}
 use Rattle.segment_io.specs.declared.open.Open.{Open}
-use Rattle.segment_io.specs.Headers.{header_unit}
 use Rattle.segment_io.specs.Lost.{is_in, LosesOnly}
 use Rattle.segment_io.specs.Places.{ArePlaces, place_of, OnUnits, OthersStayOf}
-use Rattle.segment_io.specs.Stripes.{bytes_of, UnitsHold, HoldsStripe}
+use Rattle.segment_io.specs.Stripes.{bytes_of, HoldsStripe}
 use Rattle.segment_io.proofs.Losing.{not_before}
 use Rattle.patch_io.specs.Faults.{OthersStayOfPatch}
 use Rattle.patch_io.specs.Storing.{AreApart, HoldsPatch, OnPatch, IsOpenOf, AreOpenOf, facts_of_part}
 use Rattle.patch_io.specs.Headed.{id_of_part, header_of_part, MayBeHeaded, HoldsHeader}
 use Rattle.patch_io.proofs.Lists.{some_at, get_front, get_behind}
 use Rattle.patch_io.proofs.Parts.{places_are, part_places}
-use Rattle.patch_io.proofs.Apart.{AreDisjoint, unit_kept, stripe_kept, part_kept}
+use Rattle.patch_io.proofs.Apart.{unit_kept, stripe_kept, part_kept}
 use Rattle.patch_io.proofs.Storing.{disjoint_parts, part_fits}
 
 -- the id of a segment of the list
@@ -52,7 +51,7 @@ id_of_open p lost part o within is = let s = some_at p.segments part within in i
 pub joined_lost : (own was lost : List Bool) → ((slot : ℕ) → is_in own slot ≡ true → is_in lost slot ≡ true) → ((slot : ℕ) → (is_in was slot ≡ true) ↔ ((is_in own slot ≡ true) ⊎ (is_in lost slot ≡ true))) → (slot : ℕ) → (is_in was slot ≡ true) ↔ (is_in lost slot ≡ true)
 joined_lost own was lost known both slot = (
   (λ is. elim ((both slot).0 is) [ inl old ↦ known slot old | inr new ↦ new ]),
-  (λ is. (both slot).1 (inr is))
+  (λ is. (both slot).1 (inr is)),
 )
 
 -- a stripe stands but for the same drives, said in other words

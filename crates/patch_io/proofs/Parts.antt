@@ -1,10 +1,9 @@
 -- The facts of a patch, read segment by segment.
-use Rattle.std.proofs.Common.{◌≡◌, ◌⊎◌, inl, inr, ℕ, zero, suc, ◌+◌, ◌-◌, ◌*◌, ◌/◌, ◌%◌, ◌<◌, ◌≤◌, min, Bool, List, [], ◌∷◌, ◌++◌, length, map, take, drop, get_or, refl, sym, subst, ◌∙◌, ap, arith, append_assoc, length-append}
-use Rattle.std.specs.Prelude.{Some, slice_get, AllPairs}
-use Rattle.std.specs.List.{AllByRecursion}
+use Rattle.std.proofs.Common.{◌≡◌, inl, inr, ℕ, zero, suc, ◌+◌, ◌-◌, ◌*◌, ◌/◌, ◌%◌, ◌<◌, ◌≤◌, min, Bool, List, [], ◌∷◌, ◌++◌, length, map, take, drop, get_or, refl, sym, subst, ◌∙◌, ap, arith, append_assoc, length-append}
+use Rattle.std.specs.Prelude.{Some, slice_get}
 use Rattle.std.specs.Int.{div_ceil}
-use Rattle.std.proofs.lemmas.Option.{slice_get-get_or, slice_get_within}
-use Rattle.std.proofs.lemmas.List.{take-append-drop, length-take-le, get_or_append_left, get_or-map, length-map}
+use Rattle.std.proofs.lemmas.Option.{slice_get_within}
+use Rattle.std.proofs.lemmas.List.{take-append-drop, length-take-le, get_or_append_left}
 use Rattle.pur_base.specs.Devices.{View}
 use Rattle.pur_base.specs.Facts.{table_tag, any_key}
 use Rattle.pur_base.specs.declared.device.Device.{Device}
@@ -80,14 +79,14 @@ module _ (view : View) (p : Patch) (part j : ℕ) (f : AnyFact) (lt : j < 6720) 
   stands_in_patch x = (
     x.0,
     subst (λ (i : ℕ). SectorStands view (places_of_part p i) ((6720 * part + j) / 8 % 840) x.0) (sym in_part) (subst (λ (i : ℕ). SectorStands view (places_of_part p part) i x.0) (sym in_page) x.1),
-    subst (λ (i : ℕ). Decodes (fact_text x.0 i) f) (sym in_eighth) x.2
+    subst (λ (i : ℕ). Decodes (fact_text x.0 i) f) (sym in_eighth) x.2,
   )
 
   pub stands_in_part : FactStands view p (6720 * part + j) f → StandsAt view (places_of_part p part) j f
   stands_in_part x = (
     x.0,
     subst (λ (i : ℕ). SectorStands view (places_of_part p part) i x.0) in_page (subst (λ (i : ℕ). SectorStands view (places_of_part p i) ((6720 * part + j) / 8 % 840) x.0) in_part x.1),
-    subst (λ (i : ℕ). Decodes (fact_text x.0 i) f) in_eighth x.2
+    subst (λ (i : ℕ). Decodes (fact_text x.0 i) f) in_eighth x.2,
   )
 
 -- the first of some facts that are in order are so
@@ -135,12 +134,17 @@ module _ (a b : Shelved) (p : Patch) (missing : List Bool) (part count : ℕ) (g
       let more = loads.front h view facts shows stands in
       let whole : facts ≡ got ++ (take count more.0 ++ drop count more.0) = more.1 ∙ ap (λ (l : List AnyFact). got ++ l) (sym (take-append-drop count more.0)) in
       let sizes : length more.0 ≡ p.facts - length got = omega (arith, length-append got more.0, ap length more.1, stands.count) in
-      let long : length (take count more.0) ≡ count = length-take-le count more.0 (omega (arith, sizes, counts)) in
-      (take count more.0, drop count more.0, whole, long, λ j f at.
-          let lt : j < 6720 = omega (arith, slice_get_within (take count more.0) j f at, long, counts) in
-          let here : slice_get facts (length got + j) ≡ Some f = ap (λ (l : List AnyFact). slice_get l (length got + j)) more.1 ∙ get_behind got more.0 j ∙ get_taken count more.0 j f at in
-          let there : slice_get facts (6720 * part + j) ≡ Some f = subst (λ (n : ℕ). slice_get facts (n + j) ≡ Some f) before here in
-          stands_in_part view p part j f lt (stands.each (6720 * part + j) f there))
+      let long : length (take count more.0) ≡ count = length-take-le count more.0 (omega (arith, sizes, counts)) in (
+        take count more.0,
+        drop count more.0,
+        whole,
+        long,
+        λ j f at.
+            let lt : j < 6720 = omega (arith, slice_get_within (take count more.0) j f at, long, counts) in
+            let here : slice_get facts (length got + j) ≡ Some f = ap (λ (l : List AnyFact). slice_get l (length got + j)) more.1 ∙ get_behind got more.0 j ∙ get_taken count more.0 j f at in
+            let there : slice_get facts (6720 * part + j) ≡ Some f = subst (λ (n : ℕ). slice_get facts (n + j) ≡ Some f) before here in
+            stands_in_part view p part j f lt (stands.each (6720 * part + j) f there),
+      )
 
   pub loads_more : (new : List AnyFact) → ReadsPart b (places_of_part p part) missing p.tag count got new → Loads a p missing new
   loads_more new reads = record {
@@ -203,14 +207,18 @@ load_fault a b c p missing part count tag s got fault continues same segments wi
   where
     of : (f : PatchFault) → IsPartFault b c (places_of_part p part) missing p.tag count got f → IsFaultOf a c p missing f
     of Bad none = λ h view facts shows. none_stand a b p missing part count got continues.honest same segments within so_far counts loads h (none (continues.honest h)) view facts shows
-    of (Lost lost) are = (part, within, record {
-      faults = λ device. (b.disk device).faults;
-      since = continues.faults;
-      three = are.three;
-      no_other = are.no_other;
-      cause = are.cause;
-      reported = are.reported;
-    })
+    of (Lost lost) are = (
+      part,
+      within,
+      record {
+        faults = λ device. (b.disk device).faults;
+        since = continues.faults;
+        three = are.three;
+        no_other = are.no_other;
+        cause = are.cause;
+        reported = are.reported;
+      },
+    )
     of (Memory m) any = tt
 
 -- a device with none of the patch's units stays
@@ -227,7 +235,7 @@ ascend_of slots units least (p ∷ ps) each rise from = (
   from (omega arith),
   each 0 (omega arith),
   ascend_of slots units (p.slot + 1) ps (λ k lt. each (suc k) (omega (arith, lt))) (λ j k less lt. rise (suc j) (suc k) (omega (arith, less)) (omega (arith, lt)))
-      (λ some. let less : p.slot < (place_of ps 0).slot = rise 0 1 (omega arith) (omega (arith, some)) in omega (arith, less))
+      (λ some. let less : p.slot < (place_of ps 0).slot = rise 0 1 (omega arith) (omega (arith, some)) in omega (arith, less)),
 )
 
 -- units of the shelf are those of a lawful patch

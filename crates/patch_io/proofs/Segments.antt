@@ -1,6 +1,5 @@
 -- The facts of one segment, read as a run of sectors.
-use Rattle.std.proofs.Common.{◌≡◌, ℕ, ◌+◌, ◌*◌, ◌/◌, ◌%◌, ◌<◌, ◌≤◌, Bool, List, ◌++◌, length, refl, sym, subst, ◌∙◌, ap, arith}
-use Rattle.std.specs.Prelude.{Some, slice_get}
+use Rattle.std.proofs.Common.{◌≡◌, ℕ, ◌+◌, ◌*◌, ◌/◌, ◌%◌, ◌<◌, ◌≤◌, Bool, List, length, refl, sym, subst, ◌∙◌, ap, arith}
 use Rattle.std.proofs.lemmas.Option.{slice_get_within}
 use Rattle.pur_base.specs.Bytes.{bytes_at}
 use Rattle.pur_base.specs.Devices.{View}
@@ -12,9 +11,8 @@ use Rattle.array_spec.specs.Stored.{pages}
 use Rattle.world.specs.Shelf.{Shelved}
 use Rattle.segment_io.specs.Reads.{ShowsPresent}
 use Rattle.segment_io.proofs.Tried.{part_of_part}
-use Rattle.patch_io.specs.Tables.{AreInOrder}
 use Rattle.patch_io.specs.Spelled.{fact_text, Spell, Extends, SpellsNone}
-use Rattle.patch_io.specs.Standing.{StandsAt, StandIn, ReadsPart}
+use Rattle.patch_io.specs.Standing.{StandIn, ReadsPart}
 use Rattle.patch_io.specs.Faults.{IsPartFault}
 use Rattle.patch_io.specs.declared.fault.PatchFault.{PatchFault}
 use Rattle.patch_io.specs.declared.fault.PatchFault.TheVariants.{Bad, Lost, Memory}

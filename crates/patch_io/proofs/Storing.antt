@@ -1,7 +1,6 @@
 -- The segments of a patch are written one after another.
-use Rattle.std.proofs.Common.{◌≡◌, ◌≢◌, ◌⊎◌, inl, inr, ℕ, ◌+◌, ◌-◌, ◌*◌, ◌<◌, ◌≤◌, min, Bool, true, false, List, [], ◌∷◌, ◌++◌, length, map, take, drop, refl, sym, subst, ◌∙◌, ap, arith, below_more}
+use Rattle.std.proofs.Common.{◌≡◌, ◌≢◌, inl, inr, ℕ, ◌+◌, ◌-◌, ◌*◌, ◌<◌, ◌≤◌, min, Bool, true, List, [], ◌∷◌, ◌++◌, length, map, take, drop, sym, subst, ◌∙◌, ap, arith, below_more}
 use Rattle.std.specs.Prelude.{Some, slice_get}
-use Rattle.std.specs.Int.{div_ceil}
 use Rattle.std.specs.List.{AllByRecursion}
 use Rattle.std.proofs.lemmas.List.{take-map, drop-map, take_min, length-drop, length-map, length-take, take-append-drop}
 use Rattle.std.proofs.lemmas.Option.{same_Some}
@@ -12,20 +11,17 @@ use Rattle.boot_codec.specs.declared.patch.PatchSegment.{PatchSegment}
 use Rattle.segment_codec.specs.declared.kind.SegmentKind.TheVariants as kinds
 use Rattle.fact_codec.specs.Fact.{IsLawful}
 use Rattle.array_spec.specs.Stored.{places_of_part}
-use Rattle.world.specs.Shelf.{Shelved, IsShelf, Continues}
+use Rattle.world.specs.Shelf.{Shelved}
 use Rattle.world.specs.Writes.{WritesOnly}
-use Rattle.world.proofs.Moments.{continues_refl, continues_trans}
-use Rattle.world.proofs.Writes.{writes_then, nothing_written, writes_more}
+use Rattle.world.proofs.Writes.{writes_more}
 use Rattle.segment_io.specs.declared.open.Open.{Open}
 use Rattle.segment_io.specs.Lost.{is_in, LosesOnly}
-use Rattle.segment_io.specs.Places.{place_of, OnUnits, OthersStayOf}
+use Rattle.segment_io.specs.Places.{OnUnits}
 use Rattle.segment_io.specs.Stripes.{bytes_of}
-use Rattle.segment_io.proofs.Losing.{loses_none, loses_then}
-use Rattle.patch_io.specs.Faults.{OthersStayOfPatch}
 use Rattle.patch_io.specs.Filling.{HoldsPart}
-use Rattle.patch_io.specs.Storing.{facts_of_part, AreApart, HoldsPatch, OnPatch, IsOpenOf, AreOpenOf}
+use Rattle.patch_io.specs.Storing.{facts_of_part, AreApart, OnPatch, IsOpenOf, AreOpenOf}
 use Rattle.patch_io.proofs.Lists.{get_pushed, all_front}
-use Rattle.patch_io.proofs.Parts.{places_are, others_more}
+use Rattle.patch_io.proofs.Parts.{places_are}
 use Rattle.patch_io.proofs.Apart.{AreDisjoint, stripe_kept, part_kept}
 
 -- the facts of a slice are those of the part
@@ -70,10 +66,10 @@ pub stand_more : (b c : Shelved) (p : Patch) (was now : List Bool) (facts mine :
 stand_more b c p was now facts mine part s is_mine apart within at loses writes before here =
     below_more (λ k. HoldsPart (bytes_of c) (places_of_part p k) now (facts_of_part facts k)) part
     (λ k less. part_kept (bytes_of b) (bytes_of c) (places_of_part p k) was now (facts_of_part facts k) (part_fits facts k)
-        (λ stripe shards low. stripe_kept b c (places_of_part p k) (places_of_part p part) 1 15 stripe was now shards
-            (disjoint_parts p k part apart (λ (e : k ≡ part). omega (arith, e, less)) (omega (arith, less, within)) within) low (omega arith) loses
-            (subst (λ (ps : List Place). WritesOnly (OnUnits ps 1 15) b c) (sym (places_are p part s at)) writes))
-        (before k less))
+    (λ stripe shards low. stripe_kept b c (places_of_part p k) (places_of_part p part) 1 15 stripe was now shards
+    (disjoint_parts p k part apart (λ (e : k ≡ part). omega (arith, e, less)) (omega (arith, less, within)) within) low (omega arith) loses
+    (subst (λ (ps : List Place). WritesOnly (OnUnits ps 1 15) b c) (sym (places_are p part s at)) writes))
+    (before k less))
     (subst (λ (ps : List Place). HoldsPart (bytes_of c) ps now (facts_of_part facts part)) (sym (places_are p part s at)) (subst (λ (fs : List AnyFact). HoldsPart (bytes_of c) s.places now fs) is_mine here))
 
 -- one more segment is open

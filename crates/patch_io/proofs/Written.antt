@@ -10,14 +10,13 @@ use Rattle.pur_base.specs.declared.facts.AnyFact.{AnyFact}
 use Rattle.fact_codec.specs.Fact.{Decodes}
 use Rattle.parity72.specs.Parity.{shard_of}
 use Rattle.segment_codec.specs.Position as position
-use Rattle.segment_codec.specs.Stripes.{StripeStands, SectorStands, StripesStand, sector_in}
+use Rattle.segment_codec.specs.Stripes.{StripeStands, StripesStand, sector_in}
 use Rattle.array_spec.specs.Stored.{pages}
-use Rattle.segment_io.specs.Stripes.{HoldsStripe}
 use Rattle.segment_io.specs.Views.{ShowsMost}
 use Rattle.segment_io.proofs.Views.{stripe_shown}
 use Rattle.patch_io.specs.Spelled.{fact_text}
 use Rattle.patch_io.specs.Standing.{StandsAt, StandIn}
-use Rattle.patch_io.specs.Filling.{text_in, IsTextOf, HoldsFacts, HoldsPart}
+use Rattle.patch_io.specs.Filling.{text_in, HoldsFacts, HoldsPart}
 use Rattle.patch_io.proofs.Segments.{in_sector}
 
 -- where the fact r of stripe q stands
@@ -61,8 +60,7 @@ module _ (image : Image) (places : List Place) (lost : List Bool) (facts : List 
   one_shown q r f lt at =
       let within : 448 * q + r < length facts = slice_get_within facts (448 * q + r) f at in
       let x = shown q (omega (arith, within, lt)) in
-      let decodes : Decodes (text_in x.0 r) f = MatchOption-at_some (text_in x.0 r ≡ zeros 64) (λ (g : AnyFact). Decodes (text_in x.0 r) g) f at (x.2 r lt) in
-      (
+      let decodes : Decodes (text_in x.0 r) f = MatchOption-at_some (text_in x.0 r ≡ zeros 64) (λ (g : AnyFact). Decodes (text_in x.0 r) g) f at (x.2 r lt) in (
         sector_in x.0 ((448 * q + r) / 8),
         (x.0, subst (λ (s : ℕ). StripeStands view places s x.0) (sym (stripe_is q r lt)) x.1, refl),
         subst (λ (t : List ℕ). Decodes t f) (sym (text_is q r lt x.0)) decodes,

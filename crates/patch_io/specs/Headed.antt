@@ -1,5 +1,5 @@
 -- The headers of a patch's segments.
-use Rattle.std.specs.Prelude.{◌≡◌, ℕ, ◌<◌, ◌≤◌, Bool, List, length, map, slice_index_or}
+use Rattle.std.specs.Prelude.{ℕ, ◌≤◌, Bool, List, length, map, slice_index_or}
 use Rattle.pur_base.specs.Devices.{Image}
 use Rattle.boot_codec.specs.Record.{IsPatch}
 use Rattle.boot_codec.specs.declared.limits.TheConstants.{PATCH_SEGMENTS}

@@ -9,4 +9,3 @@ pub enum PatchFault {
     Lost(Lost),
     Memory(NoMemory),
 }
-

@@ -21,12 +21,10 @@ pub fn laws_of_parts()
         → HoldsPart image places lost facts → ShowsMost image places lost view → StripesStand view places (pages (length facts)) }
     ensures facts { (image : Image) (places : List Place) (lost : List Bool) (facts : List AnyFact) (view : View) → length places ≡ SEGMENT_SHARDS → length facts ≤ FACTS_PER_SEGMENT
         → HoldsPart image places lost facts → ShowsMost image places lost view → StandIn view places facts }
-{
-}
+{}
 
 /// A patch of which each segment's facts stand in it, but for its lost drives, is shown by each view in which at most two drives of each segment are missing.
 pub fn laws_of_patches()
     ensures { (image : Image) (slots units : ℕ) (p : Patch) (lost : List Bool) (facts : List AnyFact) (view : View) → IsPatch slots units p → length facts ≡ p.facts → AreInOrder p.tag facts
         → HoldsPatch image p lost facts → ShowsMostOf image p lost view → PatchStands view p facts }
-{
-}
+{}

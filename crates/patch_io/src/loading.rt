@@ -78,7 +78,15 @@ fn read_parts<F: TableFact, S: Shelf>(
     let all = patch.facts as usize;
     for segment in patch.segments.as_slice() {
         let count = (all - facts.len()).min(FACTS_PER_SEGMENT as usize);
-        read_part(shelf, &segment.places, count, missing, shards, sectors, facts)?;
+        read_part(
+            shelf,
+            &segment.places,
+            count,
+            missing,
+            shards,
+            sectors,
+            facts,
+        )?;
     }
     Ok(())
 }

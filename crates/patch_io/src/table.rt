@@ -4,9 +4,7 @@ ghost use Rattle.pur_base.specs.Facts.{table_tag};
 ghost use Rattle.pur_base.specs.declared.facts.AnyFact.{AnyFact};
 ghost use Rattle.patch_io.specs.Tables.{HaveTag, HaveKey};
 
-use pur_base::{
-    AddressFact, AnyFact, ElisionFact, Fact, MediumFact, ObjectFact, SegmentFact,
-};
+use pur_base::{AddressFact, AnyFact, ElisionFact, Fact, MediumFact, ObjectFact, SegmentFact};
 
 /// A fact of a table that patches hold.
 pub trait TableFact: Fact + Drop {

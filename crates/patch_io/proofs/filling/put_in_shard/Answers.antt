@@ -1,5 +1,4 @@
-use Rattle.std.proofs.Common.{ℕ, ◌≡◌, ◌*◌, ◌+◌, ◌-◌, List, length, ◌∙◌, sym, ap, arith}
-use Rattle.patch_io.specs.Spelled.{fact_text}
+use Rattle.std.proofs.Common.{◌≡◌, ◌*◌, ◌+◌, ◌-◌, length, ◌∙◌, ap, arith}
 use Rattle.patch_io.proofs.Filled.{put_here, put_elsewhere}
 use Rattle.patch_io.proofs.filling.put_in_shard.Goals as goal
 

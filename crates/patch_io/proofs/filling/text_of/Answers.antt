@@ -1,4 +1,4 @@
-use Rattle.std.proofs.Common.{List, map, refl, sym, subst, arith}
+use Rattle.std.proofs.Common.{map, refl, sym, subst, arith}
 use Rattle.pur_base.specs.declared.facts.AnyFact.{AnyFact}
 use Rattle.fact_codec.specs.Fact.{Decodes, IsLawful}
 use Rattle.patch_io.proofs.Lists.{all_at}

@@ -1,4 +1,4 @@
-use Rattle.std.proofs.Common.{◌≡◌, ℕ, List, Bool, sym, subst, ap, ◌∙◌}
+use Rattle.std.proofs.Common.{ℕ, List, sym, subst, ap, ◌∙◌}
 use Rattle.pur_base.specs.declared.ids.SegmentId.{SegmentId}
 use Rattle.pur_base.specs.declared.place.Place.{Place}
 use Rattle.segment_codec.specs.declared.header.Header.{Header}
@@ -19,8 +19,7 @@ pub write_headers-requires-clause-same : goal.write_headers-requires-clause-same
 write_headers-requires-clause-same g c =
     let same = c.header_of-header.ensures.header in
     let y = c.lose.ensures.same in
-    let named = id_of_open c.args.patch.now c.args.lost.now.drives c.args.part c.args.opened c.requires.part c.requires.opened in
-    (
+    let named = id_of_open c.args.patch.now c.args.lost.now.drives c.args.part c.args.opened c.requires.part c.requires.opened in (
       ap (λ (h : Header). h.segment) same ∙ ap (λ (n : ℕ). let i : SegmentId = record { 0 = n } in i) (sym named) ∙ sym y.0,
       ap (λ (h : Header). h.kind) same ∙ sym (y.1 ∙ c.requires.opened.kind),
       ap (λ (h : Header). h.places) same ∙ sym (y.2 ∙ c.requires.opened.places),

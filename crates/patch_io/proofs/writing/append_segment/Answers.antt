@@ -1,4 +1,4 @@
-use Rattle.std.proofs.Common.{◌≡◌, ◌≤◌, ℕ, Bool, List, length, map, sym, subst, ap, ◌∙◌, arith}
+use Rattle.std.proofs.Common.{◌≤◌, List, length, map, sym, subst, ap, ◌∙◌, arith}
 use Rattle.std.specs.Int.{div_ceil}
 use Rattle.pur_base.specs.declared.ids.SegmentId.{SegmentId}
 use Rattle.pur_base.specs.declared.place.Place.{Place}
