@@ -21,12 +21,12 @@ abbrev pub AreDisjoint : List Place → List Place → Type 0
 AreDisjoint places others = (j k : ℕ) → j < 9 → k < 9 → (place_of places j).slot ≡ (place_of others k).slot → (place_of places j).unit ≡ (place_of others k).unit → ⊥
 
 -- the slot of a drive
-abbrev slot_of : Device → ℕ
+abbrev pub slot_of : Device → ℕ
 slot_of (Drive d) = d.0
 slot_of (Nv n) = 0
 
 -- bytes of two units are apart
-units_apart : (u v m n count i : ℕ) → (u ≡ v → ⊥) → m < 16 → n + count ≤ 16 → 65536 * u + 4096 * m ≤ i → i < 65536 * u + 4096 * m + 4096 → 65536 * v + 4096 * n ≤ i → i < 65536 * v + 4096 * n + 4096 * count → ⊥
+pub units_apart : (u v m n count i : ℕ) → (u ≡ v → ⊥) → m < 16 → n + count ≤ 16 → 65536 * u + 4096 * m ≤ i → i < 65536 * u + 4096 * m + 4096 → 65536 * v + 4096 * n ≤ i → i < 65536 * v + 4096 * n + 4096 * count → ⊥
 units_apart u v m n count i ne low fits from to after below = ne (omega (arith, low, fits, from, to, after, below))
 
 pub unit_kept : (a b : Shelved) (places others : List Place) (n count m shard : ℕ) → AreDisjoint places others → shard < 9 → m < 16 → n + count ≤ 16 → WritesOnly (OnUnits others n count) a b → unit_in (bytes_of b) places m shard ≡ unit_in (bytes_of a) places m shard

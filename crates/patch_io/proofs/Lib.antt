@@ -9,3 +9,5 @@ pub mod Apart
 pub mod Storing
 pub mod Shown
 pub mod Headers
+pub mod Stands
+pub mod InTurn

@@ -11,6 +11,7 @@ mod laws;
 mod limits;
 mod loading;
 mod table;
+mod whole;
 mod writing;
 
 pub use appending::append_part;
@@ -20,4 +21,5 @@ pub use laws::{laws_of_parts, laws_of_patches};
 pub use limits::{SHARD_FACTS, STRIPE_FACTS};
 pub use loading::load_patch;
 pub use table::TableFact;
+pub use whole::write_patch;
 pub use writing::append_patch;

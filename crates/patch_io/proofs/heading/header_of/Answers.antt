@@ -14,8 +14,8 @@ returns-clause-header g c =
     let items = c.as_slice-segments.result.now in
     let same = c.as_slice-segments.ensures in
     let lt = c.requires.part in
-    let at = ap (λ (l : List PatchSegment). slice_get l part) (sym same) ∙ slice_get-get_or items part _ (omega (arith, lt, ap length same)) in
     let placed : c.min-placed.result ≡ pages_in_part p.facts part = omega arith in
+    let at = ap (λ (l : List PatchSegment). slice_get l part) (sym same) ∙ slice_get-get_or items part _ (omega (arith, lt, ap length same)) in
     same_header p c.args.generation part _ c.min-placed.result (length items) _ (sym (ids_are p part _ at)) placed (ap length same) (sym (places_are p part _ at))
 
 pub returns-clause-written : goal.returns-clause-written

@@ -72,9 +72,9 @@ loop-segment-preserved g c =
     let within : part < length p.segments = omega (arith, ap length c.as_slice-segment-items.ensures, c.loop-segment-test.true) in
     let fits : start ≤ length facts = omega (arith, long, within, c.requires.stored.count, c.requires.stored.lawful.room) in
     let mine = map any (take (end - start) (drop start facts)) in
+    let pushed : c.push.new.self.items ≡ segments ++ next ∷ [] = grind (arith, common_steps) in
     let is_mine = part_facts any facts part start end (omega arith) (omega arith) fits in
     let at = ap (λ (l : List PatchSegment). slice_get l part) (sym c.as_slice-segment-items.ensures) ∙ slice_get-get_or items part _ c.loop-segment-test.true in
-    let pushed : c.push.new.self.items ≡ segments ++ next ∷ [] = grind (arith, common_steps) in
     record {
       count = ap length pushed ∙ length_push segments next ∙ ap (λ (n : ℕ). n + 1) inv.count;
       capacity = omega (arith, c.push.ensures.capacity);
