@@ -1,8 +1,6 @@
 -- The headers of a patch come after its stripes.
-use Rattle.std.proofs.Common.{◌≡◌, ◌⊎◌, inl, inr, ⊎_elim, ℕ, ◌+◌, ◌*◌, ◌<◌, ◌≤◌, Bool, true, false, List, [], length, slice_index, refl, sym, subst, ◌∙◌, ap, arith}
+use Rattle.std.proofs.Common.{◌≡◌, ◌⊎◌, inl, inr, ⊎_elim, ℕ, ◌+◌, ◌*◌, ◌<◌, ◌≤◌, Bool, true, false, List, [], length, sym, subst, ◌∙◌, ap, arith}
 use Rattle.std.proofs.lemmas.Bool.{cases_eq, cases_lt, cases_Bool}
-use Rattle.pur_base.specs.Devices.{drive}
-use Rattle.pur_base.specs.declared.device.Device.{Device}
 use Rattle.pur_base.specs.declared.place.Place.{Place}
 use Rattle.pur_base.specs.declared.facts.AnyFact.{AnyFact}
 use Rattle.boot_codec.specs.Record.{IsPatch}
@@ -14,10 +12,10 @@ use Rattle.world.specs.Writes.{WritesOnly, LeavesBut}
 use Rattle.world.proofs.Moments.{then_run, weaker, started}
 use Rattle.segment_io.specs.Headers.{AreSynced, CleanStay}
 use Rattle.segment_io.specs.Lost.{is_in}
-use Rattle.segment_io.specs.Places.{ArePlaces, place_of, drive_of, write_unit_at, OnUnits}
-use Rattle.segment_io.specs.Stripes.{bytes_of, unit_in, HoldsStripe}
+use Rattle.segment_io.specs.Places.{ArePlaces, place_of, drive_of, write_unit_at}
+use Rattle.segment_io.specs.Stripes.{bytes_of, HoldsStripe}
 use Rattle.segment_io.proofs.Parts.{same_at}
-use Rattle.patch_io.specs.Storing.{AreApart, HoldsPatch, OnPatch, facts_of_part}
+use Rattle.patch_io.specs.Storing.{AreApart, HoldsPatch, OnPatch}
 use Rattle.patch_io.specs.Headed.{ComesInTurn}
 use Rattle.patch_io.proofs.Apart.{slot_of, units_apart}
 use Rattle.patch_io.proofs.Headers.{places_of, patch_kept}
@@ -28,9 +26,9 @@ one_shard : (shelf : Shelved) (places : List Place) (j k : ℕ) → ArePlaces sh
 one_shard shelf places j k are j_lt k_lt same = elim (cases_lt j k) [
   | inl less ↦ absurd (let x = are.ascending j k less k_lt in omega (arith, x, same))
   | inr above ↦ elim (cases_lt k j) [
-      | inl more ↦ absurd (let x = are.ascending k j more j_lt in omega (arith, x, same))
-      | inr below ↦ omega (arith, above, below)
-    ]
+    | inl more ↦ absurd (let x = are.ascending k j more j_lt in omega (arith, x, same))
+    | inr below ↦ omega (arith, above, below)
+  ]
 ]
 
 module _ (a : Shelved) (p : Patch) (lawful : IsPatch a.drives a.units p) (apart : AreApart p) where

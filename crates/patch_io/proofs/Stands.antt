@@ -1,9 +1,9 @@
 -- A patch that is written whole.
-use Rattle.std.proofs.Common.{◌≡◌, ◌⊎◌, inl, inr, ℕ, ◌+◌, ◌*◌, ◌<◌, ◌≤◌, Bool, true, false, List, [], length, replicate, refl, sym, subst, ◌∙◌, ap, arith, below_more}
+use Rattle.std.proofs.Common.{◌≡◌, inl, inr, ℕ, ◌+◌, ◌<◌, ◌≤◌, Bool, true, false, List, length, replicate, sym, subst, arith, below_more}
 use Rattle.std.specs.Prelude.{Some, slice_get}
 use Rattle.std.proofs.lemmas.List.{get_or-replicate, get_or_past, length-replicate}
 use Rattle.std.proofs.lemmas.Bool.{cases_lt}
-use Rattle.pur_base.specs.Devices.{View, drive}
+use Rattle.pur_base.specs.Devices.{View}
 use Rattle.pur_base.specs.declared.device.Device.{Device}
 use Rattle.pur_base.specs.declared.place.Place.{Place}
 use Rattle.pur_base.specs.declared.facts.AnyFact.{AnyFact}
@@ -15,7 +15,7 @@ use Rattle.world.specs.Writes.{WritesOnly}
 use Rattle.world.proofs.Writes.{writes_more}
 use Rattle.segment_io.specs.Headers.{AreSynced}
 use Rattle.segment_io.specs.Lost.{is_in, LosesOnly, NoByte}
-use Rattle.segment_io.specs.Places.{place_of, drive_of}
+use Rattle.segment_io.specs.Places.{place_of}
 use Rattle.segment_io.specs.Stripes.{bytes_of}
 use Rattle.segment_io.proofs.InTurn.{same_units, same_stripe}
 use Rattle.segment_io.proofs.Views.{holds_at_stop}
@@ -48,7 +48,7 @@ pub shown_after : (a e : Shelved) (p : Patch) (drives lost : List Bool) (facts :
 shown_after a e p drives lost facts stop view stored has synced holds may shows =
     patch_shown stop.image a.drives a.units p lost facts view stored.lawful stored.count
     (patch_kept (bytes_of e) stop.image p lost lost facts (λ k stripe shards lt low stands. holds_at_stop e (places_of_part p k) lost stripe shards stop may
-        (λ shard shard_lt none. synced (place_of (places_of_part p k) shard).slot (has k shard lt shard_lt) none) stands) holds)
+    (λ shard shard_lt none. synced (place_of (places_of_part p k) shard).slot (has k shard lt shard_lt) none) stands) holds)
     shows stored.in_order
 
 -- some write units are some of all of them

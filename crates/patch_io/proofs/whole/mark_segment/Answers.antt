@@ -1,6 +1,5 @@
-use Rattle.std.proofs.Common.{◌≡◌, ◌<◌, ◌⊎◌, inl, inr, ⊎_elim, ℕ, true, length, ◌∙◌, arith, below_more}
+use Rattle.std.proofs.Common.{◌<◌, inl, inr, true, length, ◌∙◌, arith, below_more}
 use Rattle.std.proofs.lemmas.List.{length-set}
-use Rattle.segment_io.specs.Lost.{is_in}
 use Rattle.segment_io.specs.Places.{place_of}
 use Rattle.segment_io.proofs.Sets.{set_here, still_in, was_in}
 use Rattle.patch_io.proofs.whole.mark_segment.Goals as goal
@@ -20,8 +19,8 @@ loop-shard-preserved c =
       no_other = λ i is. elim (was_in drives slot i is) [
         | inl e ↦ inr (shard, omega arith, e)
         | inr was ↦ elim (inv.no_other i was) [
-            | inl old ↦ inl old
-            | inr h ↦ inr (h.0, omega (arith, h.1), h.2)
-          ]
+          | inl old ↦ inl old
+          | inr h ↦ inr (h.0, omega (arith, h.1), h.2)
+        ]
       ];
     }

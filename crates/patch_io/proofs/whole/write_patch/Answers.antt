@@ -1,4 +1,4 @@
-use Rattle.std.proofs.Common.{◌≡◌, ◌<◌, ℕ, List, length, map, sym, ap, ◌∙◌, arith}
+use Rattle.std.proofs.Common.{map, arith}
 use Rattle.world.proofs.Moments.{continues_trans, weaker}
 use Rattle.world.proofs.Writes.{writes_then, writes_more}
 use Rattle.segment_io.proofs.Losing.{loses_none, loses_then}
