@@ -4,7 +4,7 @@ ghost use Rattle.boot_codec.specs.Record.{IsSegment};
 use boot_codec::{Patch, PatchSegment, Segments};
 use fact_codec::{FACT_BYTES, write_fact};
 use parity72::{SHARD_BYTES, SHARDS};
-use patch_io::{PatchFault, load_patch};
+use patch_io::{PatchFault, load_patch, write_patch};
 use pur_base::{
     AddressFact, AnyFact, Device, DriveId, Lost, MediumId, Place, Places, SECTOR_BYTES, SegmentId,
     Seq, Target,
@@ -174,14 +174,7 @@ fn load_one(
         facts,
         segments: Segments::new(&segments),
     };
-    Ok(told(load_patch(
-        alloc,
-        world,
-        &patch,
-        missing,
-        &mut shards,
-        &mut sectors,
-    )))
+    Ok(told(load_patch(alloc, world, &patch, missing, &mut shards, &mut sectors)))
 }
 
 /// Reads the patch of two segments.
@@ -208,14 +201,7 @@ fn load_two(
         facts,
         segments: Segments::new(&segments),
     };
-    Ok(told(load_patch(
-        alloc,
-        world,
-        &patch,
-        missing,
-        &mut shards,
-        &mut sectors,
-    )))
+    Ok(told(load_patch(alloc, world, &patch, missing, &mut shards, &mut sectors)))
 }
 
 /// Changes a byte of the first sector of the first stripe.
@@ -237,6 +223,57 @@ fn flip(world: &mut MemWorld, at: usize) -> Result<(), Fail> {
     if world.write(device, from, &bytes).is_err() {
         return Err(Fail::new("write"));
     }
+    Ok(())
+}
+
+/// Writes the patch of one fact, and tells which drives were lost.
+fn write_one(alloc: Global, world: &mut MemWorld) -> Result<Lost, Fail> {
+    let mut stripes = Vec::from_array(alloc, [[[0; SHARD_BYTES]; 7]; 15])?;
+    let mut room = vec![in alloc; [0; SHARD_BYTES]; 45]?;
+    let mut lost = Lost {
+        drives: [false; 24],
+    };
+    let Some(segment) = segment_on(world, 1, PLACES) else {
+        return Err(Fail::new("places"));
+    };
+    let segments = [segment];
+    let patch = Patch {
+        tag: 3,
+        facts: 1,
+        segments: Segments::new(&segments),
+    };
+    let facts = [AddressFact {
+        medium: MediumId(7),
+        sector: 0,
+        target: Target::Zero,
+        seq: Seq(3),
+    }];
+    match write_patch(
+        alloc,
+        world,
+        &patch,
+        &facts,
+        2,
+        &mut stripes,
+        &mut room,
+        &mut lost,
+    ) {
+        Ok(()) => Ok(lost),
+        Err(_) => Err(Fail::new("memory")),
+    }
+}
+
+#[test]
+fn what_was_written_is_read_back(rt: HostRuntime) -> Result<(), Fail> {
+    let alloc = rt.alloc();
+    let mut world = small_world(alloc)?;
+    // The write of the stripe fails on it.
+    world.fail(Device::Drive(DriveId(4)), 1)?;
+    let lost = write_one(alloc, &mut world)?;
+    assert_eq!(rt; lost.drives, set_of(&[4]));
+    assert_eq!(rt; load_one(alloc, &mut world, 1, &lost.drives)?, Ok(1));
+    world.pull(Device::Drive(DriveId(0)));
+    assert_eq!(rt; load_one(alloc, &mut world, 1, &lost.drives)?, Ok(1));
     Ok(())
 }
 
@@ -262,7 +299,10 @@ fn a_whole_segment_is_read_back(rt: HostRuntime) -> Result<(), Fail> {
     world.pull(Device::Drive(DriveId(2)));
     world.pull(Device::Drive(DriveId(5)));
     assert_eq!(rt; load_one(alloc, &mut world, 6720, &[])?, Ok(6720));
-    assert_eq!(rt; load_one(alloc, &mut world, 6713, &set_of(&[2, 5]))?, Ok(6713));
+    assert_eq!(rt;
+        load_one(alloc, &mut world, 6713, &set_of(&[2, 5]))?,
+        Ok(6713)
+    );
     Ok(())
 }
 
@@ -275,15 +315,24 @@ fn one_fact_more_takes_another_segment(rt: HostRuntime) -> Result<(), Fail> {
     assert_eq!(rt; load_two(alloc, &mut world, 6721, &[])?, Ok(6721));
     world.pull(Device::Drive(DriveId(0)));
     world.pull(Device::Drive(DriveId(10)));
-    assert_eq!(rt; load_two(alloc, &mut world, 6721, &set_of(&[0, 10]))?, Ok(6721));
+    assert_eq!(rt;
+        load_two(alloc, &mut world, 6721, &set_of(&[0, 10]))?,
+        Ok(6721)
+    );
     // Drive 2 has no unit of the second segment, and drive 10 none of the first.
     world.pull(Device::Drive(DriveId(2)));
-    assert_eq!(rt; load_two(alloc, &mut world, 6721, &set_of(&[0, 2, 10]))?, Ok(6721));
+    assert_eq!(rt;
+        load_two(alloc, &mut world, 6721, &set_of(&[0, 2, 10]))?,
+        Ok(6721)
+    );
     world.pull(Device::Drive(DriveId(9)));
     let lost = Lost {
         drives: set_of(&[0, 9, 10]),
     };
-    assert_eq!(rt; load_two(alloc, &mut world, 6721, &set_of(&[0, 2, 10]))?, Err(PatchFault::Lost(lost)));
+    assert_eq!(rt;
+        load_two(alloc, &mut world, 6721, &set_of(&[0, 2, 10]))?,
+        Err(PatchFault::Lost(lost))
+    );
     Ok(())
 }
 
@@ -310,7 +359,10 @@ fn faults_are_told_apart(rt: HostRuntime) -> Result<(), Fail> {
     let lost = Lost {
         drives: set_of(&[0, 1, 4]),
     };
-    assert_eq!(rt; load_one(alloc, &mut world, 8, &missing)?, Err(PatchFault::Lost(lost)));
+    assert_eq!(rt;
+        load_one(alloc, &mut world, 8, &missing)?,
+        Err(PatchFault::Lost(lost))
+    );
     assert_eq!(rt; load_one(alloc, &mut world, 8, &missing)?, Ok(8));
     Ok(())
 }
