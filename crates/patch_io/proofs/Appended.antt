@@ -1,0 +1,18 @@
+-- Facts that were appended stand on the drives.
+use Rattle.std.proofs.Common.{◌≡◌, ℕ, ◌+◌, ◌*◌, ◌/◌, ◌%◌, Bool, List, [], ◌∷◌, length, sym, subst, ◌∙◌, ap, arith, length-append}
+use Rattle.std.proofs.lemmas.List.{get_or_append_left}
+use Rattle.pur_base.specs.Devices.{Image}
+use Rattle.pur_base.specs.declared.place.Place.{Place}
+use Rattle.pur_base.specs.declared.facts.AnyFact.{AnyFact}
+use Rattle.parity72.specs.Parity.{shard_of}
+use Rattle.segment_io.specs.Stripes.{HoldsStripe, IsStripeOf}
+use Rattle.patch_io.specs.Spelled.{fact_text}
+use Rattle.patch_io.specs.Filling.{IsTextOf, HoldsFacts}
+
+-- the shards of data of a stripe hold what its data holds
+pub stripe_holds : (image : Image) (places : List Place) (lost : List Bool) (stripe : ℕ) (facts : List AnyFact) (stripe_data shards : List (List ℕ)) → IsStripeOf stripe_data shards → HoldsStripe image places lost stripe shards → HoldsFacts facts stripe stripe_data → HoldsFacts facts stripe shards
+stripe_holds image places lost stripe facts stripe_data shards (p, q, is) holds filled k lt =
+    let nine : length shards ≡ 9 = holds.codeword.count in
+    let seven : length stripe_data ≡ 7 = omega (arith, nine, ap length is, length-append stripe_data (p ∷ q ∷ [])) in
+    let same : shard_of shards (k / 64) ≡ shard_of stripe_data (k / 64) = ap (λ (l : List (List ℕ)). shard_of l (k / 64)) is ∙ get_or_append_left stripe_data (p ∷ q ∷ []) [] (k / 64) (omega (arith, lt, seven)) in
+    subst (λ (s : List ℕ). IsTextOf facts (448 * stripe + k) (fact_text s (k % 64))) (sym same) (filled k lt)

@@ -1,0 +1,70 @@
+-- The facts of one segment, read as a run of sectors.
+use Rattle.std.proofs.Common.{◌≡◌, ℕ, ◌+◌, ◌*◌, ◌/◌, ◌%◌, ◌<◌, ◌≤◌, Bool, List, length, refl, sym, subst, ◌∙◌, ap, arith}
+use Rattle.std.proofs.lemmas.Option.{slice_get_within}
+use Rattle.pur_base.specs.Bytes.{bytes_at}
+use Rattle.pur_base.specs.Devices.{View}
+use Rattle.pur_base.specs.declared.place.Place.{Place}
+use Rattle.pur_base.specs.declared.facts.AnyFact.{AnyFact}
+use Rattle.fact_codec.specs.Fact.{Decodes}
+use Rattle.segment_codec.specs.Stripes.{SectorStands, StripesStand, sector_in}
+use Rattle.array_spec.specs.Stored.{pages}
+use Rattle.world.specs.Shelf.{Shelved}
+use Rattle.segment_io.specs.Reads.{ShowsPresent}
+use Rattle.segment_io.proofs.Tried.{part_of_part}
+use Rattle.patch_io.specs.Spelled.{fact_text, Spell, Extends, SpellsNone}
+use Rattle.patch_io.specs.Standing.{StandIn, ReadsPart}
+use Rattle.patch_io.specs.Faults.{IsPartFault}
+use Rattle.patch_io.specs.declared.fault.PatchFault.{PatchFault}
+use Rattle.patch_io.specs.declared.fault.PatchFault.TheVariants.{Bad, Lost, Memory}
+use Rattle.patch_io.proofs.Lists.{whole_of}
+use Rattle.patch_io.proofs.Spelling.{begins_as}
+
+-- a fact's bytes are a part of its sector
+pub in_sector : (bytes : List ℕ) (k : ℕ) → fact_text bytes k ≡ fact_text (bytes_at (512 * (k / 8)) 512 bytes) (k % 8)
+in_sector bytes k =
+    ap (λ (at : ℕ). bytes_at at 64 bytes) (let e : 64 * k ≡ 512 * (k / 8) + 64 * (k % 8) = omega arith in e)
+    ∙ part_of_part (512 * (k / 8)) 512 (64 * (k % 8)) 64 bytes (omega arith)
+
+-- a run of sectors from the first one on is what stands in the segment by its present drives
+abbrev pub IsRead : Shelved → List Place → List Bool → ℕ → List ℕ → Type 0
+IsRead shelf places missing size bytes = (view : View) (j : ℕ) (sector : List ℕ) → 512 * j + 512 ≤ size → ShowsPresent shelf places missing view → SectorStands view places (0 + j) sector → bytes_at (512 * j) 512 bytes ≡ sector
+
+module _ (a b : Shelved) (places : List Place) (missing : List Bool) (tag count size : ℕ) (bytes : List ℕ) (old : List AnyFact) (sizes : size ≡ 512 * pages count) (read : a.honest → IsRead a places missing size bytes) where
+  -- the sector of a fact was read
+  sector_read : a.honest → (view : View) (k : ℕ) (sector : List ℕ) → k < count → ShowsPresent a places missing view → SectorStands view places (k / 8) sector → bytes_at (512 * (k / 8)) 512 bytes ≡ sector
+  sector_read h view k sector lt shows stands =
+      read h view (k / 8) sector (omega (arith, lt, sizes)) shows (subst (λ (i : ℕ). SectorStands view places i sector) (let e : k / 8 ≡ 0 + k / 8 = omega arith in e) stands)
+
+  -- what stands there was read
+  spelled : a.honest → (view : View) (facts : List AnyFact) → ShowsPresent a places missing view → length facts ≡ count → StandIn view places facts → Spell bytes facts
+  spelled h view facts shows long stand k f at =
+      let x = stand k f at in
+      let same = sector_read h view k x.0 (omega (arith, slice_get_within facts k f at, long)) shows x.1 in
+      subst (λ (t : List ℕ). Decodes t f) (sym (in_sector bytes k ∙ ap (λ (s : List ℕ). fact_text s (k % 8)) same)) x.2
+
+  -- what was read stands there
+  standing : a.honest → (view : View) (facts : List AnyFact) → ShowsPresent a places missing view → length facts ≡ count → StripesStand view places (pages count) → Spell bytes facts → StandIn view places facts
+  standing h view facts shows long stripes spell k f at =
+      let lt : k < count = omega (arith, slice_get_within facts k f at, long) in
+      let stripe = stripes (k / 8 / 56) (omega (arith, lt)) in
+      let sector = sector_in stripe.0 (k / 8) in
+      let there : SectorStands view places (k / 8) sector = (stripe.0, stripe.1, refl) in
+      let same = sector_read h view k sector lt shows there in
+      (sector, there, subst (λ (t : List ℕ). Decodes t f) (in_sector bytes k ∙ ap (λ (s : List ℕ). fact_text s (k % 8)) same) (spell k f at))
+
+  pub reads_part : (new : List AnyFact) → Extends tag bytes count old new → ReadsPart a places missing tag count old new
+  reads_part new extends = record {
+    added = extends.added;
+    behind = extends.behind;
+    size = extends.size;
+    in_order = extends.in_order;
+    stand = λ h view shows stripes. standing h view extends.added shows extends.size stripes extends.spelled;
+    no_other = λ h view others shows long stand.
+        let more = begins_as bytes extends.added others extends.spelled (spelled h view others shows long stand) (omega (arith, long, extends.size)) in
+        whole_of extends.added others more.0 more.1 (omega (arith, long, extends.size));
+  }
+
+  pub part_fault : (fault : PatchFault) → SpellsNone tag bytes count old fault → IsPartFault a b places missing tag count old fault
+  part_fault Bad none = λ h view added shows long stand order. none added long (spelled h view added shows long stand) order
+  part_fault (Lost lost) none = absurd none
+  part_fault (Memory m) none = tt

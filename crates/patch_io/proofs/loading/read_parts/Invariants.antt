@@ -1,0 +1,22 @@
+use Rattle.std.proofs.Common.{◌≡◌, ◌*◌, min, length, map}
+use Rattle.pur_base.specs.declared.device.Device.{Device}
+use Rattle.world.specs.Shelf.{Continues, IsSame}
+use Rattle.world.specs.Writes.{WritesOnly}
+use Rattle.segment_io.specs.Lost.{NoByte}
+use Rattle.patch_io.specs.Faults.{OthersStayOfPatch}
+use Rattle.patch_io.proofs.Parts.{Loads}
+use Rattle.patch_io.proofs.loading.read_parts.Given as goal
+
+abbrev pub invariant-loop-segment : goal.invariant-loop-segment
+invariant-loop-segment g l =
+    let a = g.S.Shelf.shelf l.fn.shelf in
+    let b = g.S.Shelf.shelf l.shelf in
+    record {
+      size : length l.facts.items ≡ min l.patch.facts (6720 * l.segment-index);
+      loads : Loads a l.patch l.missing (map g.F.TableFact.any l.facts.items);
+      continues : Continues a b;
+      same : a.honest → (device : Device) → IsSame (a.disk device) (b.disk device);
+      writes : a.honest → WritesOnly NoByte a b;
+      others : OthersStayOfPatch l.patch a b;
+      rest : g.S.Shelf.shelf_rest l.fn.shelf l.shelf;
+    }

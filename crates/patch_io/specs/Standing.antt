@@ -1,0 +1,43 @@
+-- Facts that stand on the drives of a segment, or of a patch.
+use Rattle.std.specs.Prelude.{◌≡◌, ℕ, ◌/◌, ◌%◌, ◌<◌, Bool, List, ◌++◌, length, Some, slice_get}
+use Rattle.pur_base.specs.Devices.{View}
+use Rattle.pur_base.specs.declared.place.Place.{Place}
+use Rattle.pur_base.specs.declared.facts.AnyFact.{AnyFact}
+use Rattle.boot_codec.specs.declared.patch.Patch.{Patch}
+use Rattle.fact_codec.specs.declared.limits.TheConstants.{PAGE_FACTS}
+use Rattle.fact_codec.specs.Fact.{Decodes}
+use Rattle.segment_codec.specs.Stripes.{SectorStands, StripesStand}
+use Rattle.array_spec.specs.Stored.{pages, places_of_part, pages_in_part}
+use Rattle.world.specs.Shelf.{Shelved}
+use Rattle.segment_io.specs.Reads.{ShowsPresent}
+use Rattle.patch_io.specs.Tables.{AreInOrder}
+use Rattle.patch_io.specs.Spelled.{fact_text}
+
+-- ---- in a segment
+
+-- the fact of that number stands there
+abbrev pub StandsAt : View → List Place → ℕ → AnyFact → Type 0
+StandsAt view places k f = (sector : List ℕ) × SectorStands view places (k / PAGE_FACTS) sector × Decodes (fact_text sector (k % PAGE_FACTS)) f
+
+-- the facts stand there, one behind another
+abbrev pub StandIn : View → List Place → List AnyFact → Type 0
+StandIn view places facts = (k : ℕ) (f : AnyFact) → slice_get facts k ≡ Some f → StandsAt view places k f
+
+-- Behind the old facts stand as many more, in order. They are those that stand in the segment by its present drives.
+pub record ReadsPart (shelf : Shelved) (places : List Place) (missing : List Bool) (tag count : ℕ) (old new : List AnyFact) : Type 0 where
+  pub added : List AnyFact
+  pub behind : new ≡ old ++ added
+  pub size : length added ≡ count
+  pub in_order : AreInOrder tag new
+  pub stand : shelf.honest → (view : View) → ShowsPresent shelf places missing view → StripesStand view places (pages count) → StandIn view places added
+  pub no_other : shelf.honest → (view : View) (others : List AnyFact) → ShowsPresent shelf places missing view → length others ≡ count → StandIn view places others → others ≡ added
+
+-- ---- in a patch
+
+-- in each segment each drive that isn't missing is shown as it stands
+abbrev pub ShowsPatch : Shelved → Patch → List Bool → View → Type 0
+ShowsPatch shelf p missing view = (part : ℕ) → part < length p.segments → ShowsPresent shelf (places_of_part p part) missing view
+
+-- each stripe of the patch stands
+abbrev pub StripesStandOf : View → Patch → Type 0
+StripesStandOf view p = (part : ℕ) → part < length p.segments → StripesStand view (places_of_part p part) (pages_in_part p.facts part)
