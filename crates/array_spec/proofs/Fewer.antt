@@ -78,7 +78,7 @@ module _ (shelf : Geometry) (more fewer : View) (less : (i : ℕ) → (fewer (dr
       one (inl e) k = subst (λ o. IfSome (option_map (bytes_at (65536 * p.unit + 4096 * (stripe + 1)) 4096) o) (λ bytes. bytes ≡ s)) (sym e) k
       one (inr e) k = subst (λ o. IfSome (option_map (bytes_at (65536 * p.unit + 4096 * (stripe + 1)) 4096) o) (λ bytes. bytes ≡ s)) (sym e) tt
 
-  places_keep : (places : List Place) → ArePlaces shelf places → Keeps more fewer places
+  pub places_keep : (places : List Place) → ArePlaces shelf places → Keeps more fewer places
   unfolding Keeps Agree lost
   places_keep places lawful stripe shards s = record {
     there = s.there;
@@ -96,12 +96,12 @@ module _ (shelf : Geometry) (more fewer : View) (less : (i : ℕ) → (fewer (dr
   segments_keep [] all = tt
   segments_keep (s ∷ ss) all = (places_keep s.places (record { nine = all.0.nine; ascending = all.0.places }), segments_keep ss all.1)
 
-  patches_keep : (ps : List Patch) → AllByRecursion (IsPatch shelf.slots shelf.units) ps → AllByRecursion (λ p. AllByRecursion (λ s. Keeps more fewer s.places) p.segments) ps
+  pub patches_keep : (ps : List Patch) → AllByRecursion (IsPatch shelf.slots shelf.units) ps → AllByRecursion (λ p. AllByRecursion (λ s. Keeps more fewer s.places) p.segments) ps
   patches_keep [] all = tt
   patches_keep (p ∷ ps) all = (segments_keep p.segments all.0.segments, patches_keep ps all.1)
 
 -- the patches of a record of the shelf are lawful on it
-patches_on : (shelf : Geometry) (boot : BootRecord) → IsRecordOf shelf boot → AllByRecursion (IsPatch shelf.slots shelf.units) boot.patches
+pub patches_on : (shelf : Geometry) (boot : BootRecord) → IsRecordOf shelf boot → AllByRecursion (IsPatch shelf.slots shelf.units) boot.patches
 patches_on shelf boot lawful =
     subst (λ n. AllByRecursion (IsPatch n shelf.units) boot.patches) lawful.slots
     (subst (λ n. AllByRecursion (IsPatch boot.slots n) boot.patches) lawful.units lawful.lawful.patches.each)

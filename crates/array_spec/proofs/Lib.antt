@@ -17,8 +17,8 @@ pub mod OneSector
 pub mod OneLog
 pub mod UnflushedRead
 pub mod ExampleValues
-mod Moves
-mod Used
-mod LogMoves
+pub mod Moves
+pub mod Used
+pub mod LogMoves
 pub mod LogSettled
 mod LogKept

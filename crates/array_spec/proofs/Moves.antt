@@ -17,7 +17,7 @@ use Rattle.boot_codec.specs.declared.patch.PatchSegment.{PatchSegment}
 use Rattle.boot_codec.specs.declared.record.BootRecord.{BootRecord}
 use Rattle.segment_codec.specs.Stripes.{write_unit, shards_shown, StripeStands, SectorStands, StripesStand}
 use Rattle.array_spec.specs.Base.{TargetStands, EntryStands}
-use Rattle.array_spec.specs.Meaning.{HoldsBase}
+use Rattle.array_spec.specs.Meaning.{TablesStand, HoldsBase}
 use Rattle.array_spec.specs.Stored.{PatchStands, places_of_part, pages_in_part, all_facts}
 
 module _ (old new : View) where
@@ -50,7 +50,7 @@ module _ (old new : View) where
   unfoldable pub Keeps : List Place → Type 0
   Keeps places = (stripe : ℕ) (shards : List (List ℕ)) → StripeStands old places stripe shards → StripeStands new places stripe shards
 
-  same_units_keep : (places : List Place) → SameUnits places → Keeps places
+  pub same_units_keep : (places : List Place) → SameUnits places → Keeps places
   unfolding Keeps
   same_units_keep places same stripe shards s = stripe_moves places stripe shards same s
 
@@ -96,11 +96,21 @@ module _ (old new : View) where
       sectors = λ place below. let one = s.sectors place below in (one.0, one.1, target_moves one.0 (slice_index_or e.sectors place []) one.2);
     }
 
-    base_moves : (xs : List ObjectFact) (es : List Entry) → AllZip (EntryStands old facts) xs es → AllZip (EntryStands new facts) xs es
+    pub base_moves : (xs : List ObjectFact) (es : List Entry) → AllZip (EntryStands old facts) xs es → AllZip (EntryStands new facts) xs es
     base_moves [] [] s = tt
     base_moves [] (e ∷ es) s = s
     base_moves (x ∷ xs) [] s = s
     base_moves (x ∷ xs) (e ∷ es) s = (entry_moves x e s.0, base_moves xs es s.1)
+
+  pub tables_kept : (shelf : Geometry) (boot : BootRecord) (patches : List (List AnyFact)) → TablesStand shelf old boot patches
+      → AllByRecursion (λ p. AllByRecursion (λ s. Keeps s.places) p.segments) boot.patches
+      → ((id : ℕ) (d : SegmentFact) → segment (all_facts patches) id ≡ Some d → Keeps d.places)
+      → TablesStand shelf new boot patches
+  tables_kept shelf boot patches t patches_keep data_keeps = record {
+    patches_stand = patches_move boot.patches patches patches_keep t.patches_stand;
+    sound = t.sound;
+    data_stands = λ id d is. stripes_move d.places d.placed (data_keeps id d is) (t.data_stands id d is);
+  }
 
   pub holds_kept : (shelf : Geometry) (boot : BootRecord) (base : Array) (h : HoldsBase shelf old boot base)
       → AllByRecursion (λ p. AllByRecursion (λ s. Keeps s.places) p.segments) boot.patches
@@ -108,11 +118,7 @@ module _ (old new : View) where
       → HoldsBase shelf new boot base
   holds_kept shelf boot base h patches_keep data_keeps = record {
     patches = h.patches;
-    tables = record {
-      patches_stand = patches_move boot.patches h.patches patches_keep h.tables.patches_stand;
-      sound = h.tables.sound;
-      data_stands = λ id d is. stripes_move d.places d.placed (data_keeps id d is) (h.tables.data_stands id d is);
-    };
+    tables = tables_kept shelf boot h.patches h.tables patches_keep data_keeps;
     base_stands = base_moves (all_facts h.patches) data_keeps (objects (all_facts h.patches) boot.next.object) base h.base_stands;
   }
 
@@ -120,7 +126,7 @@ module _ (old new : View) where
   segments_keep [] same = tt
   segments_keep (s ∷ ss) same = (same_units_keep s.places same.0, segments_keep ss same.1)
 
-  patches_keep : (ps : List Patch) → AllByRecursion (λ p. AllByRecursion (λ s. SameUnits s.places) p.segments) ps → AllByRecursion (λ p. AllByRecursion (λ s. Keeps s.places) p.segments) ps
+  pub patches_keep : (ps : List Patch) → AllByRecursion (λ p. AllByRecursion (λ s. SameUnits s.places) p.segments) ps → AllByRecursion (λ p. AllByRecursion (λ s. Keeps s.places) p.segments) ps
   patches_keep [] same = tt
   patches_keep (p ∷ ps) same = (segments_keep p.segments same.0, patches_keep ps same.1)
 

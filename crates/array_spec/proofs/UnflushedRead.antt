@@ -140,7 +140,7 @@ was_left_out LeftOut b e f = refl
 module _ (shelf : Geometry) (image : Image) (missing : Conditions) (slot : BootSlot) (boot : BootRecord) (least most : List Command)
     (lawful : IsRecordOf shelf boot) (names_sound : NamesSound shelf image missing slot boot) (lies : LogLies image missing boot least most)
     (more : Conditions) (view : View) (v : IsViewOf shelf image missing more view) where
-  members : View
+  abbrev members : View
   members = of_members slot boot view
 
   was_sound : (d : Device) → more d ≡ Sound → missing d ≡ Sound
@@ -149,8 +149,7 @@ module _ (shelf : Geometry) (image : Image) (missing : Conditions) (slot : BootS
   shows : (d : Device) → more d ≡ Sound → view d ≡ Some (image d)
   shows d e = sound_shows (more d) (image d) (view d) e (v.shown d)
 
-  all_hold : AllHold shelf more members
-  unfolding members
+  pub all_hold : AllHold shelf more members
   all_hold (Drive d) on sound =
       let named : names boot (Drive d) ≡ true = names_sound.named (Drive d) on (was_sound (Drive d) sound) in
       let there : body_in slot (image (Drive d)) ≡ spelling boot = names_sound.written d.0 on (was_sound (Drive d) sound) in
@@ -167,7 +166,6 @@ module _ (shelf : Geometry) (image : Image) (missing : Conditions) (slot : BootS
   ]
 
   all_shown : (n i : ℕ) (c : Command) → n < 2 → more (nvram n) ≡ Sound → slice_get least i ≡ Some c → Shows members n boot.flushed i c
-  unfolding members
   all_shown n i c below sound is =
       let there = lies.all n i c below (was_sound (nvram n) sound) is in
       record {
@@ -198,7 +196,6 @@ module _ (shelf : Geometry) (image : Image) (missing : Conditions) (slot : BootS
       let none : names boot (nvram n) ≡ false = lies.left_out n below (was_left_out (missing (nvram n)) LeftOut w refl) in absurd (cc (named, none))
 
   no_other : (n i : ℕ) (c : Command) → Shows members n boot.flushed i c → slice_get most i ≡ Some c
-  unfolding members
   no_other n i c s =
       let k = kept_is (names boot (nvram n)) (view (nvram n)) s.bytes s.shown in
       elim (cases_lt n 2) [
@@ -208,11 +205,10 @@ module _ (shelf : Geometry) (image : Image) (missing : Conditions) (slot : BootS
             absurd (cc (k.0, none))
       ]
 
-  between : ShowsBetween more members boot.flushed least most
+  pub between : ShowsBetween more members boot.flushed least most
   between = record { front = lies.front; room = lies.room; lawful = lies.lawful; one_sound = one_sound; all = all_shown; no_other = no_other }
 
 pub unflushed_is_read : UnflushedIsRead
-unfolding members
 unflushed_is_read shelf image missing slot boot least most arrays lawful none in_force names_sound accepted lies arrays_are = (
   record {
     base = [];

@@ -6,7 +6,7 @@ use Rattle.pur_base.specs.Facts.{Facts, any_number}
 use Rattle.pur_base.specs.Tags.{tag_of}
 use Rattle.pur_base.specs.Visible.{object, range, address, segment, objects, segments, is_elided}
 use Rattle.pur_base.specs.Mediums.{IsOver}
-use Rattle.pur_base.specs.declared.limits.TheConstants.{OBJECTS, SEGMENT_SHARDS}
+use Rattle.pur_base.specs.declared.limits.TheConstants.{OBJECTS, OBJECT_SECTORS, SEGMENT_SHARDS}
 use Rattle.pur_base.specs.declared.place.Place.{Place}
 use Rattle.pur_base.specs.declared.place.Location.{Location}
 use Rattle.pur_base.specs.declared.request.Table.{Table}
@@ -57,10 +57,11 @@ pub record AreObjectsSound (facts : Facts) (next : ℕ) : Type 0 where
   pub address_kept : AllByRecursion (λ x. is_elided facts.elisions table.Address x.medium.0 ≡ false) (objects facts next)
   pub most : length (objects facts next) ≤ OBJECTS
 
--- the visible ranges of a medium are disjoint, end within its object, and lead to no volume's medium
+-- The visible ranges of a medium are disjoint, end within its object, and lead to no volume's medium.
+-- Starts and sectors are bounded: past 2^64 the key of a medium is one of the next medium.
 pub record AreMediumsSound (facts : Facts) : Type 0 where
   pub disjoint : (medium sector : ℕ) (r s : MediumFact) → IsOver facts medium sector r → IsOver facts medium sector s → r ≡ s
-  pub within : (id start : ℕ) (x : ObjectFact) (r : MediumFact) → object facts id ≡ Some x → range facts x.medium.0 start ≡ Some r → r.end ≤ x.sectors
+  pub within : (id start : ℕ) (x : ObjectFact) (r : MediumFact) → object facts id ≡ Some x → start < OBJECT_SECTORS → range facts x.medium.0 start ≡ Some r → r.end ≤ x.sectors
   pub frozen : (id medium start : ℕ) (x : ObjectFact) (r : MediumFact) → object facts id ≡ Some x → x.kind ≡ Volume → range facts medium start ≡ Some r → r.target.0 ≢ x.medium.0
 
 -- ---- addresses and segments
@@ -68,7 +69,7 @@ pub record AreMediumsSound (facts : Facts) : Type 0 where
 -- a stored sector was placed in a visible segment, and a sector that has an address is one of its object's
 pub record AreAddressesSound (facts : Facts) : Type 0 where
   pub there : (medium sector : ℕ) (at : Location) → address facts medium sector ≡ Some (Stored at) → (d : SegmentFact) × (segment facts at.segment.0 ≡ Some d) × (at.index < d.placed)
-  pub within : (id sector : ℕ) (x : ObjectFact) → object facts id ≡ Some x → IsSome (address facts x.medium.0 sector) → sector < x.sectors
+  pub within : (id sector : ℕ) (x : ObjectFact) → object facts id ≡ Some x → sector < OBJECT_SECTORS → IsSome (address facts x.medium.0 sector) → sector < x.sectors
 
 -- the segments of all patches
 abbrev pub named_segments : BootRecord → List PatchSegment

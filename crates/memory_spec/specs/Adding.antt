@@ -3,6 +3,7 @@ use Rattle.std.specs.Prelude.{◌≡◌, ◌≢◌, ◌⊎◌, ◌↔◌, ℕ, �
 use Rattle.std.specs.List.{AllZip}
 use Rattle.pur_base.specs.Plain.{Array, replaced, appended, has}
 use Rattle.pur_base.specs.Sectors.{filled}
+use Rattle.pur_base.specs.declared.limits.TheConstants.{OBJECT_SECTORS}
 use Rattle.pur_base.specs.Facts.{Facts}
 use Rattle.pur_base.specs.Visible.{objects, object, range, address, is_elided}
 use Rattle.pur_base.specs.declared.request.Table.TheVariants as table
@@ -28,9 +29,9 @@ abbrev pub overlaid : ℕ → ℕ → List Target → (ℕ → ℕ → Option Ta
 overlaid medium lba targets before m x =
     if (m == medium) && (nat_le lba x && nat_lt x (lba + length targets)) then slice_get targets (x - lba) else before m x
 
--- the tables say the same but for that
+-- the tables say the same but for that, at each sector that an object may have
 pub record IsOverlaid (old new : Facts) (medium lba : ℕ) (targets : List Target) : Type 0 where
-  pub addresses : (m x : ℕ) → address new m x ≡ overlaid medium lba targets (address old) m x
+  pub addresses : (m x : ℕ) → x < OBJECT_SECTORS → address new m x ≡ overlaid medium lba targets (address old) m x
   pub ranges : (m start : ℕ) → range new m start ≡ range old m start
   pub objects : (id : ℕ) → object new id ≡ object old id
 
@@ -45,10 +46,16 @@ pub record IsOwnMedium (f : Facts) (next : ℕ) (name : List ℕ) (medium lba co
   pub alone : (x : ObjectFact) → Contains (objects f next) x → x.medium.0 ≡ medium → x ≡ owner
   pub frozen : (m start : ℕ) (r : MediumFact) → range f m start ≡ Some r → r.target.0 ≢ medium
 
+-- what is read lies within the greatest size: the sectors of each object, and those that a range leads to
+pub record AreWithinSize (f : Facts) (next : ℕ) : Type 0 where
+  pub objects : (x : ObjectFact) → Contains (objects f next) x → x.sectors ≤ OBJECT_SECTORS
+  pub ranges : (m start : ℕ) (r : MediumFact) → range f m start ≡ Some r → r.target_start + (r.end - r.start) ≤ OBJECT_SECTORS
+
 -- With the targets of these sectors in the span, and more sectors staged, the tables read as the array with those sectors in the span.
 abbrev pub OverwriteReads : Type 0
 OverwriteReads = (contents : Contents) (staged more : List (List ℕ)) (old new : Facts) (next : ℕ) (name : List ℕ) (medium lba : ℕ) (targets : List Target) (sectors : List (List ℕ)) (array : Array)
     → IsOwnMedium old next name medium lba (length sectors)
+    → AreWithinSize old next
     → AllZip (TargetReads contents (staged ++ more)) targets sectors
     → IsOverlaid old new medium lba targets
     → FactsRead contents staged old next array

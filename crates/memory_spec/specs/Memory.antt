@@ -75,10 +75,10 @@ FitsInMemory staged f = IsFact f
 abbrev pub IsThere : Memory → Location → Type 0
 IsThere m at = ((at.segment.0 ≡ 0) × (at.index < length m.staged)) ⊎ ((d : SegmentFact) × (segment (facts m.tables) at.segment.0 ≡ Some d) × (at.index < d.placed))
 
--- so is each visible one, and a sector that has an address is one of its object's
+-- So is each visible one, and a sector that has an address is one of its object's. Keys tell sectors of two mediums apart up to the greatest size.
 pub record AreAddressesThere (m : Memory) : Type 0 where
   pub there : (medium sector : ℕ) (at : Location) → address (facts m.tables) medium sector ≡ Some (Stored at) → IsThere m at
-  pub within : (id sector : ℕ) (x : ObjectFact) → object (facts m.tables) id ≡ Some x → IsSome (address (facts m.tables) x.medium.0 sector) → sector < x.sectors
+  pub within : (id sector : ℕ) (x : ObjectFact) → object (facts m.tables) id ≡ Some x → sector < OBJECT_SECTORS → IsSome (address (facts m.tables) x.medium.0 sector) → sector < x.sectors
 
 -- each number is below the next one, and no two facts have one
 pub record AreNumbered (m : Memory) : Type 0 where

@@ -1,0 +1,394 @@
+-- Memory stays sound when a volume is created, and reads as the array with one more volume.
+use Rattle.std.proofs.Common.{◌≡◌, ◌≢◌, ◌⊎◌, ◌↔◌, ℕ, zero, suc, ◌+◌, ◌*◌, ◌^◌, ◌<◌, ◌≤◌, Bool, true, false, List, [], ◌∷◌, ◌++◌, length, refl, sym, ap, ◌∙◌, arith, inl, inr, subst, Option, Some, None, is_some, IsSome, IsTrue, Contains, AllPairs, get_or, replicate, option_and_then, if◌then◌else◌, cond, ◌==◌, ◌&&◌, nat_le, length-append, eq-eqb, ne_eqb, eqb-true, leb-true, find}
+use Rattle.std.specs.List.{AllByRecursion, AllZip, list_any}
+use Rattle.std.proofs.lemmas.Bool.{cases_eq, and_parts, both_ways}
+use Rattle.std.proofs.lemmas.List.Elements.{Contains-get_or, Contains-push_cases}
+use Rattle.std.proofs.lemmas.List.Folds.{list_any_none}
+use Rattle.std.proofs.lemmas.List.Quantifiers.{all_pairs_push}
+use Rattle.std.proofs.lemmas.Slice.Eq.{bytes_eq-Decides}
+use Rattle.pur_base.specs.Sectors.{filled}
+use Rattle.pur_base.specs.Names.{is_name}
+use Rattle.pur_base.specs.Plain.{Entry, Array, has, is_named, appended}
+use Rattle.pur_base.specs.Facts.{Facts, any_number, object_key, never}
+use Rattle.pur_base.specs.Keys.{key_of, id_of}
+use Rattle.pur_base.specs.Says.{unless_empty}
+use Rattle.pur_base.specs.Tags.{tag_of}
+use Rattle.pur_base.specs.Visible.{objects, object, range, address, segment, elides, is_elided}
+use Rattle.pur_base.specs.Mediums.{IsOver}
+use Rattle.pur_base.specs.declared.limits.TheConstants.{OBJECTS, OBJECT_SECTORS}
+use Rattle.pur_base.specs.declared.request.Table.{Table}
+use Rattle.pur_base.specs.declared.request.Table.TheVariants as table
+use Rattle.pur_base.specs.declared.place.Location.{Location}
+use Rattle.pur_base.specs.declared.facts.Target.TheVariants.{Stored}
+use Rattle.pur_base.specs.declared.facts.ObjectKind.TheVariants.{Volume}
+use Rattle.pur_base.specs.declared.facts.ObjectFact.{ObjectFact}
+use Rattle.pur_base.specs.declared.facts.MediumFact.{MediumFact}
+use Rattle.pur_base.specs.declared.facts.AddressFact.{AddressFact}
+use Rattle.pur_base.specs.declared.facts.SegmentFact.{SegmentFact}
+use Rattle.pur_base.specs.declared.facts.ElisionFact.{ElisionFact}
+use Rattle.pur_base.specs.declared.facts.AnyFact.{AnyFact}
+use Rattle.pur_base.specs.declared.facts.AnyFact.TheVariants as any
+use Rattle.boot_codec.specs.declared.record.NextNumbers.{NextNumbers}
+use Rattle.boot_codec.specs.Record.{AreNext}
+use Rattle.fact_codec.specs.declared.limits.TheConstants.{NUMBER_LIMIT}
+use Rattle.fact_codec.specs.Fact.{IsFact, LeadsNowhere, LeadsDown}
+use Rattle.array_spec.specs.Sound.{AreIdsBelow, AreObjectsSound, AreMediumsSound, AreElisionsSound, OwnsMedium, next_id}
+use Rattle.pyramid.specs.Layers.{AreDistinct, newest_of}
+use Rattle.pyramid.proofs.ContainsLemmas.{here, there, either, nowhere}
+use Rattle.pyramid.proofs.DistinctLemmas.{one_more}
+use Rattle.pyramid.proofs.KeyLemmas.{id_of_key}
+use Rattle.pyramid.proofs.LayerLemmas.{all_contained}
+use Rattle.memory_spec.specs.Tables.{facts, all_of}
+use Rattle.memory_spec.specs.Memory.{Memory, Contents, EntryReads, FactsRead, FitsInMemory, IsThere, AreAddressesThere, IsSound, ReadsAs}
+use Rattle.memory_spec.specs.Adding.{AreNew, IsCreated, HasCreated}
+use Rattle.memory_spec.specs.Laws.{IsNextVolume, CreatingReads}
+use Rattle.memory_spec.proofs.Lists.{same_some, not_both, each_by_recursion, of_each, zip_long}
+use Rattle.memory_spec.proofs.Objects.{object_is, of_objects}
+use Rattle.memory_spec.proofs.AllTables.{all_objects, all_mediums, all_addresses, all_segments, all_elisions, of_all, numbered_more}
+use Rattle.memory_spec.proofs.Keeping.{range_kept, address_kept, segment_kept, range_is, address_is, none_since, some_since}
+use Rattle.memory_spec.proofs.Adding.{only_newest, no_newest, newest_kept, newest_given}
+use Rattle.memory_spec.proofs.Moved.{over_before}
+use Rattle.memory_spec.proofs.Creating.{objects_more, create_reads}
+use Rattle.memory_spec.proofs.Putting.{object_fits}
+
+-- ---- ids that aren't given yet
+
+same_next : (n : NextNumbers) (a b : Table) → tag_of a ≡ tag_of b → next_id n a ≡ next_id n b
+same_next n table.Object table.Object e = refl
+same_next n table.Medium table.Medium e = refl
+same_next n table.Address table.Address e = refl
+same_next n table.Segment table.Segment e = refl
+same_next n table.Elision table.Elision e = refl
+same_next n a b e = absurd (omega (arith, e))
+
+-- no elision has an id that isn't given yet
+pub not_elided : (n : NextNumbers) (f : Facts) (t : Table) (id : ℕ) → AreIdsBelow n f → next_id n t ≤ id → is_elided f.elisions t id ≡ false
+not_elided n f t id below l = list_any_none (elides t id) f.elisions (all_contained (λ e. elides t id e ≡ false) f.elisions one)
+  where
+    one : (e : ElisionFact) → Contains f.elisions e → elides t id e ≡ false
+    one e c = two (elides t id e) refl
+      where
+        two : (b : Bool) → elides t id e ≡ b → elides t id e ≡ false
+        two false is = is
+        two true is =
+            let p = and_parts ((tag_of e.table == tag_of t) && nat_le e.first id) (nat_le id e.last) is in
+            let q = and_parts (tag_of e.table == tag_of t) (nat_le e.first id) p.0 in
+            let last : id ≤ e.last = leb-true id e.last p.1 in
+            let next : next_id n e.table ≡ next_id n t = same_next n e.table t (eqb-true (tag_of e.table) (tag_of t) q.0) in
+            let less : e.last < next_id n e.table = of_each (λ (g : ElisionFact). g.last < next_id n g.table) f.elisions e below.elisions c in
+            absurd (omega (arith, last, next, less, l))
+
+-- ---- a name that no entry has
+
+no_name : (contents : Contents) (staged : List (List ℕ)) (f : Facts) (name : List ℕ) (xs : List ObjectFact) (es : Array) → AllZip (EntryReads contents staged f) xs es → has es name ≡ false
+    → (y : ObjectFact) → Contains xs y → y.name ≢ name
+no_name contents staged f name [] es h free y c same = nowhere y c
+no_name contents staged f name (x ∷ xs) [] h free y c same = h
+no_name contents staged f name (x ∷ xs) (e ∷ es) h free y c same =
+    one (is_named name e) refl free (λ rest d. no_name contents staged f name xs es h.1 rest y d same)
+  where
+    one : (b : Bool) → is_named name e ≡ b → is_some (cond b (Some e) (find (is_named name) es)) ≡ false → (has es name ≡ false → Contains xs y → ⊥) → ⊥
+    one true t none rest = absurd (both_ways true none refl)
+    one false t none rest = elim (either x y xs c) [
+      | inl first ↦ both_ways (is_named name e) t ((bytes_eq-Decides name e.name).1 (sym (h.0.name ∙ ap (λ z. z.name) (sym first) ∙ same)))
+      | inr d ↦ rest none d
+    ]
+
+-- ---- the creation
+
+module _ (contents : Contents) (was now : Memory) (x : ObjectFact) (array : Array) (r : ReadsAs contents was array) (new : IsNextVolume was x)
+    (free : has array x.name ≡ false) (room : length array < OBJECTS) (made : HasCreated was now x) where
+
+  object_ids : (y : ObjectFact) → Contains (facts was.tables).objects y → (y.object.0 < was.next.object) × (y.medium.0 < was.next.medium)
+  object_ids y c = of_each (λ f. (f.object.0 < was.next.object) × (f.medium.0 < was.next.medium)) (facts was.tables).objects y r.sound.ids.objects c
+
+  range_ids : (y : MediumFact) → Contains (facts was.tables).mediums y → y.medium.0 < was.next.medium
+  range_ids y c = of_each (λ f. f.medium.0 < was.next.medium) (facts was.tables).mediums y r.sound.ids.mediums c
+
+  address_ids : (y : AddressFact) → Contains (facts was.tables).addresses y → y.medium.0 < was.next.medium
+  address_ids y c = of_each (λ f. f.medium.0 < was.next.medium) (facts was.tables).addresses y r.sound.ids.addresses c
+
+  -- no fact speaks of it yet
+  fresh : AreNew (facts was.tables) x.object.0 x.medium.0
+  fresh = record {
+    no_object = none_since (object (facts was.tables) x.object.0) (λ y e.
+        let is = object_is (facts was.tables) x.object.0 y e in
+        let low = (object_ids y is.0).0 in
+        let next = new.object in
+        omega (arith, is.1, low, next));
+    no_address = λ s. none_since (address (facts was.tables) x.medium.0 s) (λ t e.
+        let g = address_is (facts was.tables) x.medium.0 s t e in
+        let key : key_of g.0.medium.0 g.0.sector ≡ key_of x.medium.0 s = g.2 in
+        let low = address_ids g.0 g.1 in
+        let small : g.0.sector < OBJECT_SECTORS = (r.sound.fit (any.Address g.0) (all_addresses (facts was.tables) g.0 g.1)).2 in
+        let next = new.medium in
+        omega (arith, key, low, small, next));
+    no_range = λ s. none_since (range (facts was.tables) x.medium.0 s) (λ q e.
+        let is = range_is (facts was.tables) x.medium.0 s q e in
+        let key : key_of q.medium.0 q.start ≡ key_of x.medium.0 s = is.1 in
+        let low = range_ids q is.0 in
+        let fits : IsFact (any.Medium q) = r.sound.fit (any.Medium q) (all_mediums (facts was.tables) q is.0) in
+        let small : q.start < 2 ^ 64 = fits.fits in
+        let next = new.medium in
+        omega (arith, key, low, small, next));
+  }
+
+  same_object : (f g : ObjectFact) → any.Object f ≡ any.Object g → f ≡ g
+  same_object f g e = cc
+
+  object_numbers : AreDistinct (λ (f : ObjectFact). f.seq.0) (facts was.tables).objects
+  object_numbers f g c d e = same_object f g (r.sound.numbers.distinct (any.Object f) (any.Object g) (all_objects (facts was.tables) f c) (all_objects (facts was.tables) g d) e)
+
+  alone : (f : ObjectFact) → Contains (x ∷ []) f → f ≡ x
+  alone f c = elim (either x f [] c) [ inl same ↦ same | inr d ↦ absurd (nowhere f d) ]
+
+  older : (f g : ObjectFact) → Contains (facts was.tables).objects f → Contains (x ∷ []) g → f.seq.0 < g.seq.0
+  older f g c d =
+      let less : f.seq.0 < was.next.sequence = r.sound.numbers.below (any.Object f) (all_objects (facts was.tables) f c) in
+      let same : g.seq.0 ≡ x.seq.0 = ap (λ z. z.seq.0) (alone g d) in
+      let number = new.number in
+      omega (arith, less, same, number)
+
+  one_number : AreDistinct (λ (f : ObjectFact). f.seq.0) (x ∷ [])
+  one_number f g c d e = alone f c ∙ sym (alone g d)
+
+  kept_object : is_elided (facts was.tables).elisions table.Object x.object.0 ≡ false
+  kept_object = not_elided was.next (facts was.tables) table.Object x.object.0 r.sound.ids (let next = new.object in omega (arith, next))
+
+  -- what is said of a key, by its newest fact
+  abbrev Said : List ElisionFact → ℕ → Option ObjectFact → Option ObjectFact
+  Said elisions k o = if is_elided elisions table.Object (id_of k) then None else option_and_then (unless_empty never) o
+
+  object_there : (id : ℕ) → id ≡ x.object.0 → object (facts now.tables) id ≡ Some x
+  object_there id same =
+      let key : id_of (key_of id 0) ≡ x.object.0 = id_of_key id 0 (omega arith) ∙ same in
+      let at : object_key x ≡ key_of id 0 = ap (λ i. key_of i 0) (sym same) in
+      ap (λ o. Said (facts now.tables).elisions (key_of id 0) o)
+          (newest_given object_key (λ f. f.seq.0) (facts was.tables).objects (facts now.tables).objects (x ∷ []) (one_more (facts was.tables).objects (facts now.tables).objects x made.objects) older object_numbers one_number
+          (key_of id 0) x (only_newest object_key (λ f. f.seq.0) (x ∷ []) (key_of id 0) x (here x []) at (λ f c e. alone f c)))
+      ∙ ap (λ b. if b then None else Some x)
+          (ap (λ i. is_elided (facts now.tables).elisions table.Object i) key ∙ ap (λ l. is_elided l table.Object x.object.0) made.elisions ∙ kept_object)
+
+  object_other : (id : ℕ) → (id ≡ x.object.0 → ⊥) → object (facts now.tables) id ≡ object (facts was.tables) id
+  object_other id ne =
+      let none = no_newest object_key (λ f. f.seq.0) (x ∷ []) (key_of id 0) (λ f c e.
+          let key : key_of f.object.0 0 ≡ key_of id 0 = e in
+          let same : f.object.0 ≡ x.object.0 = ap (λ z. z.object.0) (alone f c) in
+          ne (omega (arith, key, same))) in
+      ap (λ o. Said (facts now.tables).elisions (key_of id 0) o)
+          (newest_kept object_key (λ f. f.seq.0) (facts was.tables).objects (facts now.tables).objects (x ∷ []) (one_more (facts was.tables).objects (facts now.tables).objects x made.objects) older object_numbers one_number (key_of id 0) none)
+      ∙ ap (λ l. Said l (key_of id 0) (newest_of object_key (λ f. f.seq.0) (key_of id 0) (facts was.tables).objects)) made.elisions
+
+  created : IsCreated (facts was.tables) (facts now.tables) x
+  created = record {
+    objects = λ id. elim (cases_eq id x.object.0) [
+      | inl same ↦ object_there id same ∙ sym (ap (λ b. if b then Some x else object (facts was.tables) id) (eq-eqb id x.object.0 same))
+      | inr ne ↦ object_other id ne ∙ sym (ap (λ b. if b then Some x else object (facts was.tables) id) (ne_eqb id x.object.0 ne))
+    ];
+    ranges = range_kept (facts was.tables) (facts now.tables) made.elisions made.mediums;
+    addresses = address_kept (facts was.tables) (facts now.tables) made.elisions made.addresses;
+  }
+
+  -- an object is the new one or an old one
+  which : (id : ℕ) (y : ObjectFact) → object (facts now.tables) id ≡ Some y → (y ≡ x) ⊎ (object (facts was.tables) id ≡ Some y)
+  which id y e = elim (cases_eq id x.object.0) [
+    | inl same ↦ inl (same_some (object (facts now.tables) id) e (object_there id same))
+    | inr ne ↦ inr (sym (object_other id ne) ∙ e)
+  ]
+
+  -- ---- soundness, part by part
+
+  x_fits : IsFact (any.Object x)
+  x_fits =
+      let object = new.object in
+      let medium = new.medium in
+      let number = new.number in
+      let a = r.sound.next.object.0 in
+      let b = r.sound.next.medium.0 in
+      let c = r.sound.next.sequence.0 in
+      let d = new.objects_left in
+      let e = new.mediums_left in
+      let f = new.numbers_left in
+      record {
+        lawful = record {
+          id = (omega (arith, object, a), omega (arith, object, d));
+          number = (omega (arith, number, c), omega (arith, number, f));
+          statement = (new.size.0, new.size.1, omega (arith, medium, b), new.name);
+        };
+        fits = omega (arith, medium, e);
+      }
+
+  abbrev Added : AnyFact → Type 0
+  Added a = a ≡ any.Object x
+
+  split : (a : AnyFact) → Contains (all_of (facts now.tables)) a → Contains (all_of (facts was.tables)) a ⊎ Added a
+  split = of_all (facts now.tables) (λ a. Contains (all_of (facts was.tables)) a ⊎ Added a)
+      (λ y c. elim ((made.objects y).0 c) [ inl o ↦ inl (all_objects (facts was.tables) y o) | inr n ↦ inr (ap any.Object n) ])
+      (λ y c. inl (all_mediums (facts was.tables) y (subst (λ l. Contains l y) made.mediums c)))
+      (λ y c. inl (all_addresses (facts was.tables) y (subst (λ l. Contains l y) made.addresses c)))
+      (λ y c. inl (all_segments (facts was.tables) y (subst (λ l. Contains l y) made.segments c)))
+      (λ y c. inl (all_elisions (facts was.tables) y (subst (λ l. Contains l y) made.elisions c)))
+
+  fit : (a : AnyFact) → Contains (all_of (facts now.tables)) a → FitsInMemory (length now.staged) a
+  fit a c = elim (split a c) [
+    | inl o ↦ subst (λ (s : List (List ℕ)). FitsInMemory (length s) a) (sym made.staged) (r.sound.fit a o)
+    | inr n ↦ subst (λ b. FitsInMemory (length now.staged) b) (sym n) x_fits
+  ]
+
+  next : AreNext now.next
+  next = subst (λ n. AreNext n) (sym made.next) (record {
+    object = (omega arith, new.objects_left);
+    medium = (omega arith, new.mediums_left);
+    segment = r.sound.next.segment;
+    patch_segment = r.sound.next.patch_segment;
+    sequence = (omega arith, new.numbers_left);
+  })
+
+  abbrev More : NextNumbers
+  More = record was.next { object = was.next.object + 1; medium = was.next.medium + 1; sequence = was.next.sequence + 1 }
+
+  more_next : (t : Table) → next_id was.next t ≤ next_id More t
+  more_next table.Object = omega arith
+  more_next table.Medium = omega arith
+  more_next table.Address = omega arith
+  more_next table.Segment = omega arith
+  more_next table.Elision = omega arith
+
+  ids : AreIdsBelow now.next (facts now.tables)
+  ids = subst (λ n. AreIdsBelow n (facts now.tables)) (sym made.next) (record {
+    objects = each_by_recursion (λ (f : ObjectFact). (f.object.0 < More.object) × (f.medium.0 < More.medium)) (facts now.tables).objects (λ f c. elim ((made.objects f).0 c) [
+      | inl o ↦ (let low = object_ids f o in (omega (arith, low.0), omega (arith, low.1)))
+      | inr n ↦ (let object : f.object.0 ≡ x.object.0 = ap (λ z. z.object.0) n in (let medium : f.medium.0 ≡ x.medium.0 = ap (λ z. z.medium.0) n in
+          (let a = new.object in (let b = new.medium in (omega (arith, object, a), omega (arith, medium, b))))))
+    ]);
+    mediums = each_by_recursion (λ (f : MediumFact). f.medium.0 < More.medium) (facts now.tables).mediums (λ f c. let low = range_ids f (subst (λ l. Contains l f) made.mediums c) in omega (arith, low));
+    addresses = each_by_recursion (λ (f : AddressFact). f.medium.0 < More.medium) (facts now.tables).addresses (λ f c. let low = address_ids f (subst (λ l. Contains l f) made.addresses c) in omega (arith, low));
+    segments = subst (λ l. AllByRecursion (λ (f : SegmentFact). f.segment.0 < was.next.segment) l) (sym made.segments) r.sound.ids.segments;
+    elisions = each_by_recursion (λ (f : ElisionFact). f.last < next_id More f.table) (facts now.tables).elisions (λ f c.
+        let low : f.last < next_id was.next f.table = of_each (λ (g : ElisionFact). g.last < next_id was.next g.table) (facts was.tables).elisions f r.sound.ids.elisions (subst (λ l. Contains l f) made.elisions c) in
+        let more = more_next f.table in
+        omega (arith, low, more));
+  })
+
+  objects_are : objects (facts now.tables) now.next.object ≡ objects (facts was.tables) was.next.object ++ x ∷ []
+  objects_are =
+      let last : now.next.object ≡ x.object.0 + 1 = ap (λ (n : NextNumbers). n.object) made.next ∙ ap (λ n. n + 1) (sym new.object) in
+      ap (λ n. objects (facts now.tables) n) last ∙ objects_more (facts was.tables) (facts now.tables) x created ∙ ap (λ n. objects (facts was.tables) n ++ x ∷ []) new.object
+
+  -- an old object is a fact with an older medium
+  old_medium : (y : ObjectFact) → Contains (objects (facts was.tables) was.next.object) y → y.medium.0 < x.medium.0
+  old_medium y c =
+      let low = (object_ids y (object_fits was r.sound y c).0).1 in
+      let medium = new.medium in
+      omega (arith, low, medium)
+
+  not_elided_medium : (t : Table) → next_id was.next t ≡ was.next.medium → is_elided (facts now.tables).elisions t x.medium.0 ≡ false
+  not_elided_medium t e = ap (λ l. is_elided l t x.medium.0) made.elisions ∙ not_elided was.next (facts was.tables) t x.medium.0 r.sound.ids (let medium = new.medium in omega (arith, medium, e))
+
+  each_object : (P : ObjectFact → Type 0) → AllByRecursion P (objects (facts was.tables) was.next.object) → P x → AllByRecursion P (objects (facts was.tables) was.next.object ++ x ∷ [])
+  each_object P h p = each_by_recursion P (objects (facts was.tables) was.next.object ++ x ∷ []) (λ y c. elim (Contains-push_cases (objects (facts was.tables) was.next.object) x y c) [
+    | inl o ↦ of_each P (objects (facts was.tables) was.next.object) y h o
+    | inr same ↦ subst P same p
+  ])
+
+  sound_objects : AreObjectsSound (facts now.tables) now.next.object
+  sound_objects = record {
+    names = subst (λ l. AllPairs (λ a b. a.name ≢ b.name) l) (sym objects_are)
+        (all_pairs_push (λ (a b : ObjectFact). a.name ≢ b.name) (objects (facts was.tables) was.next.object) x r.sound.objects.names (λ k d l.
+        no_name contents was.staged (facts was.tables) x.name (objects (facts was.tables) was.next.object) array r.reads free
+        (get_or (objects (facts was.tables) was.next.object) k d) (Contains-get_or (objects (facts was.tables) was.next.object) k d l)));
+    mediums = subst (λ l. AllPairs (λ a b. OwnsMedium a b × OwnsMedium b a) l) (sym objects_are)
+        (all_pairs_push (λ (a b : ObjectFact). OwnsMedium a b × OwnsMedium b a) (objects (facts was.tables) was.next.object) x r.sound.objects.mediums (λ k d l.
+        let low = old_medium (get_or (objects (facts was.tables) was.next.object) k d) (Contains-get_or (objects (facts was.tables) was.next.object) k d l) in
+        (λ kind e. omega (arith, low, e), λ kind e. omega (arith, low, e))));
+    range_kept = subst (λ l. AllByRecursion (λ y. is_elided (facts now.tables).elisions table.Medium y.medium.0 ≡ false) l) (sym objects_are)
+        (each_object (λ y. is_elided (facts now.tables).elisions table.Medium y.medium.0 ≡ false)
+        (subst (λ e. AllByRecursion (λ y. is_elided e table.Medium y.medium.0 ≡ false) (objects (facts was.tables) was.next.object)) (sym made.elisions) r.sound.objects.range_kept)
+        (not_elided_medium table.Medium refl));
+    address_kept = subst (λ l. AllByRecursion (λ y. is_elided (facts now.tables).elisions table.Address y.medium.0 ≡ false) l) (sym objects_are)
+        (each_object (λ y. is_elided (facts now.tables).elisions table.Address y.medium.0 ≡ false)
+        (subst (λ e. AllByRecursion (λ y. is_elided e table.Address y.medium.0 ≡ false) (objects (facts was.tables) was.next.object)) (sym made.elisions) r.sound.objects.address_kept)
+        (not_elided_medium table.Address refl));
+    most = subst (λ (l : List ObjectFact). length l ≤ OBJECTS) (sym objects_are)
+        (let long = zip_long (EntryReads contents was.staged (facts was.tables)) (objects (facts was.tables) was.next.object) array r.reads in
+        let more = length-append (objects (facts was.tables) was.next.object) (x ∷ []) in
+        omega (arith, long, more, room));
+  }
+
+  over_was : (m s : ℕ) (q : MediumFact) → IsOver (facts now.tables) m s q → IsOver (facts was.tables) m s q
+  over_was = over_before (facts was.tables) (facts now.tables) created.ranges
+
+  -- a range leads to an older medium
+  leads_down : (m start : ℕ) (q : MediumFact) → range (facts was.tables) m start ≡ Some q → q.target.0 ≢ x.medium.0
+  leads_down m start q e same =
+      let is = range_is (facts was.tables) m start q e in
+      let fits : IsFact (any.Medium q) = r.sound.fit (any.Medium q) (all_mediums (facts was.tables) q is.0) in
+      let low = range_ids q is.0 in
+      let medium = new.medium in
+      let some = r.sound.next.medium.0 in
+      elim fits.lawful.statement [ inl h ↦ (let none = h.1 in omega (arith, none, same, medium, some)) | inr h ↦ (let down = h.down in omega (arith, down, same, medium, low)) ]
+
+  sound_mediums : AreMediumsSound (facts now.tables)
+  sound_mediums = record {
+    disjoint = λ m s p q o o2. r.sound.mediums.disjoint m s p q (over_was m s p o) (over_was m s q o2);
+    within = λ id start y q e l f. elim (which id y e) [
+      | inl same ↦ absurd (not_both (range (facts now.tables) y.medium.0 start) f (created.ranges y.medium.0 start ∙ ap (λ z. range (facts was.tables) z.medium.0 start) same ∙ fresh.no_range start))
+      | inr old ↦ r.sound.mediums.within id start y q old l (sym (created.ranges y.medium.0 start) ∙ f)
+    ];
+    frozen = λ id m start y q e kind f t. elim (which id y e) [
+      | inl same ↦ leads_down m start q (sym (created.ranges m start) ∙ f) (t ∙ ap (λ z. z.medium.0) same)
+      | inr old ↦ r.sound.mediums.frozen id m start y q old kind (sym (created.ranges m start) ∙ f) t
+    ];
+  }
+
+  still_there : (at : Location) → IsThere was at → IsThere now at
+  still_there at h = elim h [
+    | inl p ↦ inl (p.0, subst (λ (s : List (List ℕ)). at.index < length s) (sym made.staged) p.1)
+    | inr d ↦ inr (d.0, segment_kept (facts was.tables) (facts now.tables) made.elisions made.segments at.segment.0 ∙ d.1, d.2)
+  ]
+
+  sound_addresses : AreAddressesThere now
+  sound_addresses = record {
+    there = λ m s at e. still_there at (r.sound.addresses.there m s at (sym (created.addresses m s) ∙ e));
+    within = λ id s y e low some.
+        let t = some_since (address (facts now.tables) y.medium.0 s) some in
+        let was_some : address (facts was.tables) y.medium.0 s ≡ Some t.0 = sym (created.addresses y.medium.0 s) ∙ t.1 in
+        elim (which id y e) [
+          | inl same ↦ absurd (not_both (address (facts was.tables) y.medium.0 s) was_some (ap (λ z. address (facts was.tables) z.medium.0 s) same ∙ fresh.no_address s))
+          | inr old ↦ r.sound.addresses.within id s y old low (ap is_some was_some)
+        ];
+  }
+
+  pub created_sound : IsSound now
+  created_sound = record {
+    next = next;
+    fit = fit;
+    sectors = λ s c. r.sound.sectors s (subst (λ l. Contains l s) made.staged c);
+    ids = ids;
+    objects = sound_objects;
+    mediums = sound_mediums;
+    addresses = sound_addresses;
+    elisions = subst (λ l. AreElisionsSound l) (sym made.elisions) r.sound.elisions;
+    numbers = numbered_more was now Added
+        (let number : now.next.sequence ≡ was.next.sequence + 1 = ap (λ (n : NextNumbers). n.sequence) made.next in omega (arith, number)) split
+        (λ a n.
+            let is : any_number a ≡ x.seq.0 = ap any_number n in
+            let number : now.next.sequence ≡ was.next.sequence + 1 = ap (λ (n : NextNumbers). n.sequence) made.next in
+            let own = new.number in
+            (omega (arith, is, own), omega (arith, is, own, number)))
+        (λ a b n p e. n ∙ sym p)
+        r.sound.numbers;
+  }
+
+  pub created_reads : FactsRead contents now.staged (facts now.tables) now.next.object (appended array x.name false (replicate x.sectors (filled 0)))
+  created_reads =
+      let last : now.next.object ≡ x.object.0 + 1 = ap (λ (n : NextNumbers). n.object) made.next ∙ ap (λ n. n + 1) (sym new.object) in
+      subst (λ s. FactsRead contents s (facts now.tables) now.next.object (appended array x.name false (replicate x.sectors (filled 0)))) (sym made.staged)
+      (subst (λ n. FactsRead contents was.staged (facts now.tables) n (appended array x.name false (replicate x.sectors (filled 0)))) (sym last)
+      (create_reads contents was.staged (facts was.tables) (facts now.tables) x array fresh new.kind created (subst (λ n. FactsRead contents was.staged (facts was.tables) n array) (sym new.object) r.reads)))
+
+pub creating_reads : CreatingReads
+creating_reads contents was now x array r new free room made = record {
+  sound = created_sound contents was now x array r new free room made;
+  reads = created_reads contents was now x array r new free room made;
+}

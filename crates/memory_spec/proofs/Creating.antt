@@ -1,0 +1,56 @@
+-- A new volume reads as zeros, and all else as it was.
+use Rattle.std.proofs.Common.{◌≡◌, ℕ, zero, suc, ◌+◌, ◌<◌, ◌≤◌, false, List, [], ◌∷◌, ◌++◌, refl, sym, ap, ◌∙◌, arith, replicate, Option, Some, filter_map, eq-eqb, ne_eqb}
+use Rattle.std.specs.List.{cons_option, range_with_len}
+use Rattle.std.proofs.lemmas.List.{length-replicate, get_or-replicate}
+use Rattle.std.proofs.lemmas.List.Elements.{filter_map-append}
+use Rattle.pur_base.specs.Sectors.{filled}
+use Rattle.pur_base.specs.Plain.{Entry}
+use Rattle.pur_base.specs.Facts.{Facts}
+use Rattle.pur_base.specs.Visible.{objects, object}
+use Rattle.pur_base.specs.Mediums.{unwritten}
+use Rattle.pur_base.specs.declared.facts.Target.TheVariants.{Zero}
+use Rattle.pur_base.specs.declared.facts.ObjectKind.TheVariants.{Volume}
+use Rattle.pur_base.specs.declared.facts.ObjectFact.{ObjectFact}
+use Rattle.array_spec.specs.Base.{is_snapshot}
+use Rattle.memory_spec.specs.Memory.{Contents, EntryReads}
+use Rattle.memory_spec.specs.Adding.{AreNew, IsCreated, CreateReads, SayTheSame}
+use Rattle.memory_spec.proofs.Lists.{not_both, range_more, zip_append, zip_weaker}
+use Rattle.memory_spec.proofs.Moved.{over_before, entry_same}
+
+module _ (old new : Facts) (x : ObjectFact) (made : IsCreated old new x) where
+  object_new : object new x.object.0 ≡ Some x
+  object_new = made.objects x.object.0 ∙ rw (eq-eqb x.object.0 x.object.0 refl) refl
+
+  object_same : (id : ℕ) → (id ≡ x.object.0 → ⊥) → object new id ≡ object old id
+  object_same id ne = made.objects id ∙ rw (ne_eqb id x.object.0 ne) refl
+
+  objects_kept : (a n : ℕ) → a + n ≤ x.object.0 → filter_map (object new) (range_with_len a n) ≡ filter_map (object old) (range_with_len a n)
+  objects_kept a zero l = refl
+  objects_kept a (suc n) l = rw (object_same a (λ e. omega (arith, l, e))) (ap (λ l. cons_option (object old a) l) (objects_kept (a + 1) n (omega (arith, l))))
+
+  -- the new one is the last of the visible objects
+  pub objects_more : objects new (x.object.0 + 1) ≡ objects old x.object.0 ++ x ∷ []
+  objects_more =
+      let next : ℕ = x.object.0 in
+      let add : x.object.0 + 1 ≡ suc x.object.0 = omega arith in
+      let at : 0 + x.object.0 ≡ x.object.0 = omega arith in
+      ap (λ n. filter_map (object new) (range_with_len 0 n)) add
+      ∙ ap (λ l. filter_map (object new) l) (range_more 0 x.object.0)
+      ∙ filter_map-append (object new) (range_with_len 0 x.object.0) ((0 + x.object.0) ∷ [])
+      ∙ ap (λ l. l ++ filter_map (object new) ((0 + x.object.0) ∷ [])) (objects_kept 0 x.object.0 (omega arith))
+      ∙ ap (λ o. filter_map (object old) (range_with_len 0 x.object.0) ++ cons_option o []) (ap (object new) at ∙ object_new)
+
+pub create_reads : CreateReads
+create_reads contents staged old new x array fresh volume made read =
+    rw (objects_more old new x made)
+    (zip_append (EntryReads contents staged new) (objects old x.object.0) array x (record { name = x.name; snapshot = false; sectors = replicate x.sectors (filled 0) })
+    (zip_weaker (EntryReads contents staged old) (EntryReads contents staged new) (λ y e r. entry_same contents staged old new made.ranges made.addresses y e r) (objects old x.object.0) array read) empty)
+  where
+    empty : EntryReads contents staged new x (record { name = x.name; snapshot = false; sectors = replicate x.sectors (filled 0) })
+    empty = record {
+      name = refl;
+      snapshot = sym (ap is_snapshot volume);
+      size = length-replicate x.sectors (filled 0);
+      sectors = λ place l. (Zero, unwritten (made.addresses x.medium.0 place ∙ fresh.no_address place)
+          (λ r o. not_both _ (over_before old new made.ranges x.medium.0 place r o).there (fresh.no_range r.start)), get_or-replicate x.sectors place (filled 0) [] l);
+    }

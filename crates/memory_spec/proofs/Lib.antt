@@ -1,0 +1,12 @@
+pub mod Lists
+pub mod Objects
+pub mod Moved
+pub mod Overlay
+pub mod Creating
+pub mod AllTables
+pub mod Keeping
+pub mod Adding
+pub mod Run
+pub mod Owning
+pub mod Putting
+pub mod Created

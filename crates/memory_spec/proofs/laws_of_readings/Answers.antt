@@ -1,0 +1,12 @@
+use Rattle.memory_spec.proofs.Moved.{same_reads, moved_reads}
+use Rattle.memory_spec.proofs.Overlay.{overwrite_reads}
+use Rattle.memory_spec.proofs.Creating.{create_reads}
+use Rattle.memory_spec.proofs.laws_of_readings.Goals as goal
+
+pub returns : goal.returns
+returns c = record {
+  same = same_reads;
+  moved = moved_reads;
+  overwrite = overwrite_reads;
+  create = create_reads;
+}

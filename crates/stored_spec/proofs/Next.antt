@@ -1,0 +1,162 @@
+-- The tables of a record hold by a later one of the same tables, and whatever is written in units that they leave free.
+use Rattle.std.proofs.Common.{◌≡◌, ◌⊎◌, inl, inr, ℕ, ◌+◌, ◌*◌, ◌/◌, ◌<◌, ◌≤◌, List, length, refl, sym, ap, subst, ◌∙◌, arith, Bool, true, false}
+use Rattle.std.specs.Prelude.{Option, Some, None, is_none, slice_index, option_map, count_by}
+use Rattle.std.specs.List.{range_with_len}
+use Rattle.pur_base.specs.Bytes.{bytes_at}
+use Rattle.pur_base.specs.Devices.{Geometry, Image, View, drive}
+use Rattle.pur_base.specs.Plain.{Array}
+use Rattle.pur_base.specs.Visible.{objects, segment}
+use Rattle.pur_base.specs.declared.device.Device.TheVariants.{Drive, Nv}
+use Rattle.pur_base.specs.declared.facts.AnyFact.{AnyFact}
+use Rattle.pur_base.specs.declared.facts.SegmentFact.{SegmentFact}
+use Rattle.pur_base.specs.declared.place.Place.{Place}
+use Rattle.boot_codec.specs.declared.record.BootRecord.{BootRecord}
+use Rattle.boot_codec.specs.Spelling.{spelling}
+use Rattle.boot_codec.specs.Region.{BootSlot, A, B, body_in, names}
+use Rattle.segment_codec.specs.Stripes.{write_unit}
+use Rattle.array_spec.specs.Base.{BaseStands}
+use Rattle.array_spec.specs.Counts.{is_used}
+use Rattle.array_spec.specs.Sound.{AreSegmentsSound}
+use Rattle.array_spec.specs.Meaning.{TablesStand}
+use Rattle.array_spec.specs.Stored.{all_facts}
+use Rattle.array_spec.proofs.Moves.{SameUnit, Keeps, same_units_keep, tables_kept, base_moves, patches_keep}
+use Rattle.array_spec.proofs.Quiet.{bytes_same}
+use Rattle.array_spec.proofs.Used.{patches_are_used, data_is_used, used_is_data}
+use Rattle.stored_spec.specs.Held.{AreSomeOf, AreEnough, TablesHold}
+use Rattle.stored_spec.specs.Laws.{NextHolds, FreeWritesKeep}
+
+-- ---- what the drives of a view showed before
+
+Matches : List ℕ → List ℕ → Option (List ℕ) → Option (List ℕ) → Type 0
+Matches old new o n = ((o ≡ None) × (n ≡ None)) ⊎ ((o ≡ Some old) × (n ≡ Some new))
+
+in_its_place : Option (List ℕ) → List ℕ → Option (List ℕ)
+in_its_place None old = None
+in_its_place (Some bytes) old = Some old
+
+then_shown : Image → View → View
+then_shown old members (Drive d) = in_its_place (members (Drive d)) (old (Drive d))
+then_shown old members (Nv n) = members (Nv n)
+
+as_many : (o : Option (List ℕ)) (old : List ℕ) → is_none (in_its_place o old) ≡ is_none o
+unfolding in_its_place
+as_many None old = refl
+as_many (Some bytes) old = refl
+
+counted_alike : (p q : ℕ → Bool) (a n : ℕ) → ((i : ℕ) → p i ≡ q i) → count_by p (range_with_len a n) ≡ count_by q (range_with_len a n)
+counted_alike p q a n same = ap (λ (f : ℕ → Bool). count_by f (range_with_len a n)) (λ i x. same x i)
+
+in_unit : (at unit n : ℕ) → n < 16 → 65536 * unit + 4096 * n ≤ at → at < 65536 * unit + 4096 * n + 4096 → at / 65536 ≡ unit
+in_unit at unit n below from_there to_there = omega (arith, below, from_there, to_there)
+
+-- a unit is the same where the bytes of its drive are
+same_unit : (old new : List ℕ) (v w : View) (p : Place) → length old ≡ length new → Matches old new (v (drive p.slot)) (w (drive p.slot))
+    → ((at : ℕ) → at / 65536 ≡ p.unit → slice_index old at ≡ slice_index new at) → SameUnit v w p
+unfolding Matches SameUnit
+same_unit old new v w p long (inl (e, f)) same n below = ap (option_map (bytes_at (65536 * p.unit + 4096 * n) 4096)) (e ∙ sym f)
+same_unit old new v w p long (inr (e, f)) same n below =
+    rw (e, f) (ap (λ (b : List ℕ). Some b) (bytes_same old new (65536 * p.unit + 4096 * n) 4096 long (λ at low high. same at (in_unit at p.unit n below low high))))
+
+-- tables and base, moved from one view to another
+moved : (shelf : Geometry) (v w : View) (boot : BootRecord) (patches : List (List AnyFact)) (base : Array)
+    → ((p : Place) → is_used boot (all_facts patches) p.slot p.unit ≡ true → SameUnit v w p)
+    → TablesStand shelf v boot patches × BaseStands v (all_facts patches) boot.next.object base
+    → TablesStand shelf w boot patches × BaseStands w (all_facts patches) boot.next.object base
+moved shelf v w boot patches base same (tables, stands) =
+    (
+      tables_kept v w shelf boot patches tables (patches_keep v w boot.patches (patches_are_used boot (all_facts patches) (SameUnit v w) same)) stay,
+      base_moves v w (all_facts patches) stay (objects (all_facts patches) boot.next.object) base stands,
+    )
+  where
+    stay : (id : ℕ) (d : SegmentFact) → segment (all_facts patches) id ≡ Some d → Keeps v w d.places
+    stay id d is = same_units_keep v w d.places (data_is_used boot (all_facts patches) (SameUnit v w) tables.sound.ids.segments same id d is)
+
+-- ---- from the drives of one record to those of another
+
+-- a drive that shows the one record now showed the other then
+ShowedBefore : Image → Image → BootSlot → BootSlot → BootRecord → BootRecord → Type 0
+ShowedBefore old new slot slot2 boot next = (i : ℕ) → names next (drive i) ≡ true → body_in slot2 (new (drive i)) ≡ spelling next → (names boot (drive i) ≡ true) × (body_in slot (old (drive i)) ≡ spelling boot)
+
+module _ (shelf : Geometry) (old new : Image) (slot slot2 : BootSlot) (boot next : BootRecord) (showed : ShowedBefore old new slot slot2 boot next) (members : View) (some : AreSomeOf slot2 next new members) where
+  before : View
+  before = then_shown old members
+
+  matches : (i : ℕ) → Matches (old (drive i)) (new (drive i)) (before (drive i)) (members (drive i))
+  unfolding before then_shown in_its_place Matches
+  matches i = elim (some i) [
+    | inl none ↦ inl (rw none refl, none)
+    | inr is ↦ inr (rw is.2 refl, is.2)
+  ]
+
+  some_before : AreSomeOf slot boot old before
+  unfolding before then_shown in_its_place ShowedBefore
+  some_before i = elim (some i) [
+    | inl none ↦ inl (rw none refl)
+    | inr is ↦ let of = showed i is.0 is.1 in inr (of.0, of.1, rw is.2 refl)
+  ]
+
+  enough_before : AreEnough shelf members → AreEnough shelf before
+  unfolding before then_shown
+  enough_before few =
+      let same = counted_alike (λ i. is_none (then_shown old members (drive i))) (λ i. is_none (members (drive i))) 0 shelf.slots (λ i. as_many (members (drive i)) (old (drive i))) in
+      omega (arith, same, few)
+
+  -- what the tables held then they hold now, where the units that they use are the same
+  held_now : (patches : List (List AnyFact)) (base : Array) (long : (i : ℕ) → length (old (drive i)) ≡ length (new (drive i))) (tables : TablesHold shelf old slot boot patches base) (enough : AreEnough shelf members)
+      → (AreSegmentsSound shelf boot (all_facts patches) → (p : Place) → is_used boot (all_facts patches) p.slot p.unit ≡ true → (at : ℕ) → at / 65536 ≡ p.unit → slice_index (old (drive p.slot)) at ≡ slice_index (new (drive p.slot)) at)
+      → TablesStand shelf members boot patches × BaseStands members (all_facts patches) boot.next.object base
+  held_now patches base long tables enough units =
+      let t = tables.each before some_before (enough_before enough) in
+      moved shelf before members boot patches base (λ p used. same_unit (old (drive p.slot)) (new (drive p.slot)) before members p (long p.slot) (matches p.slot) (units t.0.sound.segments p used)) t
+
+-- ---- a record after another
+
+pub next_holds : NextHolds
+unfolding ShowedBefore
+next_holds shelf old new slot slot2 boot next patches base lawful same fewer only tables = record {
+  each = λ members some enough.
+      let m = held_now shelf old new slot slot2 boot next (λ i named body. fewer i named) members some patches base (λ i. sym (only.size i)) tables enough
+      (λ sound p used at e. elim (only.drive p.slot at) [
+        | inl is ↦ sym is
+        | inr low ↦
+            let three : 3 ≤ p.unit = used_is_data shelf boot (all_facts patches) p.slot p.unit lawful sound used in
+            absurd (omega (arith, e, low, three))
+      ]) in
+      subst (λ (b : BootRecord). TablesStand shelf members b patches × BaseStands members (all_facts patches) b.next.object base) (sym same) (by_next m.0, m.1);
+}
+  where
+    by_next : {members : View} → TablesStand shelf members boot patches → TablesStand shelf members (record boot { generation = next.generation; members = next.members }) patches
+    by_next m = record {
+      patches_stand = m.patches_stand;
+      sound = record {
+        ids = m.sound.ids;
+        objects = m.sound.objects;
+        mediums = m.sound.mediums;
+        addresses = m.sound.addresses;
+        segments = record { places = m.sound.segments.places; patch_ids = m.sound.segments.patch_ids; distinct = m.sound.segments.distinct; apart = m.sound.segments.apart };
+        elisions = m.sound.elisions;
+        sequences = record { below = m.sound.sequences.below; distinct = m.sound.sequences.distinct; rising = m.sound.sequences.rising };
+      };
+      data_stands = m.data_stands;
+    }
+
+-- ---- writes in free units
+
+same_bodies : (old new : Image) (slot : BootSlot) (i : ℕ) → length (old (drive i)) ≡ length (new (drive i)) → ((at : ℕ) → at / 65536 ≤ 2 → slice_index (old (drive i)) at ≡ slice_index (new (drive i)) at)
+    → body_in slot (old (drive i)) ≡ body_in slot (new (drive i))
+same_bodies old new A i long same = bytes_same (old (drive i)) (new (drive i)) 65536 65536 long (λ at low high. same at (omega (arith, low, high)))
+same_bodies old new B i long same = bytes_same (old (drive i)) (new (drive i)) 131072 65536 long (λ at low high. same at (omega (arith, low, high)))
+
+pub free_writes_keep : FreeWritesKeep
+unfolding ShowedBefore
+free_writes_keep shelf old new slot boot patches base lawful only tables = record {
+  each = λ members some enough. held_now shelf old new slot slot boot boot
+      (λ i named body. (named, same_bodies old new slot i (sym (only.size i)) (λ at low. elim (only.drive i at) [
+        | inl is ↦ sym is
+        | inr free ↦ let three : 3 ≤ at / 65536 = free.data_unit in absurd (omega (arith, low, three))
+      ]) ∙ body)) members some patches base (λ i. sym (only.size i)) tables enough
+      (λ sound p used at e. elim (only.drive p.slot at) [
+        | inl is ↦ sym is
+        | inr free ↦ absurd (cc (used, subst (λ (u : ℕ). is_used boot (all_facts patches) p.slot u ≡ false) e free.unused))
+      ]);
+}

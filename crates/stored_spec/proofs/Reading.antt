@@ -1,0 +1,37 @@
+-- A record whose tables stand is read into what its log leads to.
+use Rattle.std.proofs.Common.{◌≡◌, List, refl}
+use Rattle.pur_base.specs.Devices.{Geometry, Image, View, Conditions}
+use Rattle.pur_base.specs.Plain.{Array}
+use Rattle.pur_base.specs.declared.facts.AnyFact.{AnyFact}
+use Rattle.boot_codec.specs.declared.record.BootRecord.{BootRecord}
+use Rattle.boot_codec.specs.Region.{BootSlot, of_members}
+use Rattle.array_spec.specs.Meaning.{HoldsBase}
+use Rattle.array_spec.specs.Standing.{IsViewOf}
+use Rattle.array_spec.specs.Unflushed.{NamesSound}
+use Rattle.array_spec.proofs.LogBetween.{log_is_between}
+use Rattle.array_spec.proofs.UnflushedRead.{all_hold, between}
+use Rattle.stored_spec.specs.Held.{TablesHold, NamesNoneLeftOut}
+use Rattle.stored_spec.specs.Laws.{RecordIsRead}
+use Rattle.stored_spec.proofs.Members.{are_enough, are_some}
+
+-- in each view the members hold the base
+pub held_in : (shelf : Geometry) (image : Image) (missing : Conditions) (slot : BootSlot) (boot : BootRecord) (patches : List (List AnyFact)) (base : Array)
+    → NamesSound shelf image missing slot boot → NamesNoneLeftOut missing boot → TablesHold shelf image slot boot patches base
+    → (more : Conditions) (view : View) → IsViewOf shelf image missing more view → HoldsBase shelf (of_members slot boot view) boot base
+held_in shelf image missing slot boot patches base sound none_left tables more view v =
+    let t = tables.each (of_members slot boot view) (are_some shelf image missing slot boot sound more view v none_left) (are_enough shelf image missing slot boot sound more view v) in
+    record { patches = patches; tables = t.0; base_stands = t.1 }
+
+pub record_is_read : RecordIsRead
+record_is_read shelf image missing slot boot patches base least most arrays lawful in_force names_sound none_left tables accepted lies arrays_are = (
+  record {
+    base = base;
+    each = λ more view v. record {
+      in_force = in_force;
+      all_hold = all_hold shelf image missing slot boot least most lawful names_sound lies more view v;
+      holds = held_in shelf image missing slot boot patches base names_sound none_left tables more view v;
+      leads = log_is_between more (of_members slot boot view) boot.flushed base least most arrays accepted (between shelf image missing slot boot least most lawful names_sound lies more view v) arrays_are;
+    };
+  },
+  refl,
+)
