@@ -1,11 +1,11 @@
 -- What memory reads as after a request.
-use Rattle.std.proofs.Common.{◌≡◌, ℕ, ◌+◌, ◌<◌, ◌≤◌, Bool, true, false, List, [], ◌∷◌, ◌++◌, length, replicate, refl, sym, ap, ◌∙◌, arith, subst, Contains, Option, Some, None, ◌||◌}
+use Rattle.std.proofs.Common.{◌≡◌, ℕ, ◌+◌, ◌<◌, Bool, true, false, List, [], ◌∷◌, ◌++◌, length, replicate, refl, sym, ap, ◌∙◌, arith, subst, Contains, Some, None, ◌||◌}
 use Rattle.std.specs.List.{AllZip}
 use Rattle.std.proofs.lemmas.Bool.{leb-false}
 use Rattle.std.proofs.lemmas.List.{length-replicate}
 use Rattle.std.proofs.lemmas.List.Elements.{All-contains, All-replicate}
 use Rattle.pur_base.specs.Commands.{Accepts, after}
-use Rattle.pur_base.specs.Plain.{Array, has, is_full, is_no_size, refusal, done, replaced, appended, first_cause}
+use Rattle.pur_base.specs.Plain.{Array, has, is_full, is_no_size, done, replaced, appended, first_cause}
 use Rattle.pur_base.specs.Replies.{after_unless}
 use Rattle.pur_base.specs.Sectors.{filled}
 use Rattle.pur_base.specs.declared.limits.TheConstants.{SECTOR_BYTES, OBJECTS}

@@ -1,10 +1,8 @@
 -- What stays of a memory when its parts change.
-use Rattle.std.proofs.Common.{◌≡◌, ◌≢◌, ◌⊎◌, ◌↔◌, ℕ, ◌+◌, ◌<◌, ◌≤◌, false, List, [], ◌∷◌, ◌++◌, length, refl, sym, ap, ◌∙◌, arith, inl, inr, Contains, Option, Some, All}
-use Rattle.std.specs.Prelude.{Bool}
+use Rattle.std.proofs.Common.{◌≡◌, ◌⊎◌, ◌↔◌, ℕ, ◌+◌, ◌<◌, ◌≤◌, false, List, length, refl, sym, ap, ◌∙◌, arith, inl, inr, Contains, All}
 use Rattle.std.proofs.lemmas.Option.{slice_get_within}
-use Rattle.std.specs.List.{AllByRecursion}
-use Rattle.pur_base.specs.Facts.{Facts, any_number, object_key, never}
-use Rattle.pur_base.specs.Visible.{is_elided, object, objects}
+use Rattle.pur_base.specs.Facts.{any_number}
+use Rattle.pur_base.specs.Visible.{is_elided, objects}
 use Rattle.pur_base.specs.declared.request.Table.{Table}
 use Rattle.pur_base.specs.declared.request.Table.TheVariants as table
 use Rattle.pur_base.specs.declared.facts.Target.{Target}
@@ -12,7 +10,6 @@ use Rattle.pur_base.specs.declared.facts.ObjectFact.{ObjectFact}
 use Rattle.pur_base.specs.declared.facts.MediumFact.{MediumFact}
 use Rattle.pur_base.specs.declared.facts.AddressFact.{AddressFact}
 use Rattle.pur_base.specs.declared.facts.ElisionFact.{ElisionFact}
-use Rattle.pur_base.specs.declared.facts.SegmentFact.{SegmentFact}
 use Rattle.pur_base.specs.declared.facts.AnyFact.{AnyFact}
 use Rattle.pur_base.specs.declared.facts.AnyFact.TheVariants as any
 use Rattle.boot_codec.specs.declared.record.NextNumbers.{NextNumbers}
@@ -22,10 +19,9 @@ use Rattle.pyramid.proofs.LayerLemmas.{all_contained, all_below}
 use Rattle.elision.specs.Ranges.{ElidedRanges}
 use Rattle.object_table.specs.Objects.{Objects, AreVisible, number}
 use Rattle.segment_table.specs.Segments.{Segments}
-use Rattle.array_spec.specs.Sound.{AreIdsBelow, next_id}
+use Rattle.array_spec.specs.Sound.{next_id}
 use Rattle.memory_spec.specs.Adding.{address_facts}
 use Rattle.memory_spec.specs.Tables.{facts, all_of}
-use Rattle.memory_spec.specs.Memory.{Memory, AreNumbered}
 use Rattle.memory_spec.proofs.Lists.{each_by_recursion, of_each}
 use Rattle.memory_spec.proofs.Objects.{object_is, in_objects}
 use Rattle.memory_spec.proofs.AllTables.{all_objects, all_mediums, all_addresses, all_segments, all_elisions, of_all, numbered_more}

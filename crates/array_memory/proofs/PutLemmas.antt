@@ -1,6 +1,6 @@
 -- Steps of putting and of creating, as the calls of the tables leave them.
-use Rattle.std.proofs.Common.{◌≡◌, ◌≢◌, ◌⊎◌, ◌↔◌, ℕ, ◌+◌, ◌-◌, ◌<◌, ◌≤◌, Bool, true, false, List, [], ◌∷◌, ◌++◌, length, refl, sym, ap, ◌∙◌, arith, inl, inr, subst, Contains, Option, Some, None}
-use Rattle.std.specs.Prelude.{Result, Ok, Err, OnOk, is_err, AllPairs}
+use Rattle.std.proofs.Common.{◌≡◌, ◌≢◌, ◌⊎◌, ◌↔◌, ℕ, ◌+◌, ◌≤◌, false, List, [], ◌++◌, length, sym, ap, ◌∙◌, arith, inl, inr, subst, Contains, Option, Some, None}
+use Rattle.std.specs.Prelude.{Result, Ok, Err, OnOk, is_err}
 use Rattle.std.proofs.lemmas.List.{append-nil}
 use Rattle.std.proofs.lemmas.List.Elements.{Contains-append_left, Contains-append_right, Contains-append_cases}
 use Rattle.pur_base.specs.declared.facts.Target.{Target}
@@ -8,10 +8,10 @@ use Rattle.pur_base.specs.declared.facts.ObjectFact.{ObjectFact}
 use Rattle.pur_base.specs.declared.facts.AddressFact.{AddressFact}
 use Rattle.pyramid.specs.Layers.{Layers, facts_in, facts_of}
 use Rattle.object_table.specs.Objects.{AreNamesDistinct}
-use Rattle.memory_spec.specs.Adding.{address_facts, HasPut}
+use Rattle.memory_spec.specs.Adding.{address_facts}
 use Rattle.memory_spec.proofs.Lists.{pairs_of}
 use Rattle.array_memory.specs.Asked.{HasSpan}
-use Rattle.array_memory.specs.Kept.{Kept, HasSamePatches}
+use Rattle.array_memory.specs.Kept.{Kept}
 use Rattle.array_memory.specs.Put.{IsPut, HasRoomFor}
 use Rattle.array_memory.specs.Runs.{AreIndices}
 use Rattle.array_memory.proofs.RunLemmas.{run_long}

@@ -1,4 +1,4 @@
-use Rattle.std.proofs.Common.{◌≡◌, ◌↔◌, ◌⊎◌, ◌-◌, false, refl, sym, ap, ◌∙◌, arith, Contains, vec_len, vec_capacity}
+use Rattle.std.proofs.Common.{◌≡◌, ◌↔◌, ◌⊎◌, ◌-◌, false, refl, sym, ◌∙◌, arith, Contains, vec_len, vec_capacity}
 use Rattle.std.specs.Prelude.{is_err}
 use Rattle.pur_base.specs.Visible.{is_elided}
 use Rattle.pur_base.specs.declared.request.Table.TheVariants as table
