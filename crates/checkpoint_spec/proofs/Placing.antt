@@ -43,19 +43,28 @@ of_place : (contents : Contents) (staged : List (List ℕ)) (n index : ℕ) (bod
 of_place contents staged zero index body l e = absurd (omega (arith, l))
 of_place contents staged (suc n) index body l e = e
 
-staged_target : (place : ℕ → Location) (at : Location) → at.segment.0 ≡ 0 → placed_target place (Stored at) ≡ Stored (place at.index)
+pub staged_target : (place : ℕ → Location) (at : Location) → at.segment.0 ≡ 0 → placed_target place (Stored at) ≡ Stored (place at.index)
 staged_target place at e = ap (λ b. if b then Stored (place at.index) else Stored at) (eq-eqb at.segment.0 0 e)
 
-other_target : (place : ℕ → Location) (at : Location) → 1 ≤ at.segment.0 → placed_target place (Stored at) ≡ Stored at
+pub other_target : (place : ℕ → Location) (at : Location) → 1 ≤ at.segment.0 → placed_target place (Stored at) ≡ Stored at
 other_target place at l = ap (λ b. if b then Stored (place at.index) else Stored at) (ne_eqb at.segment.0 0 (λ e. omega (arith, e, l)))
 
 -- staged, or in a segment
-which_place : (n : ℕ) → (n ≡ 0) ⊎ (1 ≤ n)
+pub which_place : (n : ℕ) → (n ≡ 0) ⊎ (1 ≤ n)
 which_place zero = inl refl
 which_place (suc n) = inr (omega arith)
 
 same_location : (a b : Location) → Stored a ≡ Stored b → a ≡ b
 same_location a b e = cc
+
+-- the id of a visible segment was given
+pub old_segment_id : (m : Memory) → IsSound m → (id : ℕ) (d : SegmentFact) → segment (facts m.tables) id ≡ Some d → id < m.next.segment
+old_segment_id m s id d e =
+    let is = says_is segment_key (λ f. f.seq.0) never (λ f. Contains (facts m.tables).segments f) (facts m.tables).segments (is_elided (facts m.tables).elisions table.Segment) (key_of id 0) d
+    (each_by_recursion (λ f. Contains (facts m.tables).segments f) (facts m.tables).segments (λ f c. c)) e in
+    let low = of_each (λ (f : SegmentFact). f.segment.0 < m.next.segment) (facts m.tables).segments d s.ids.segments is.0 in
+    let key : key_of d.segment.0 0 ≡ key_of id 0 = is.1 in
+    omega (arith, low, key)
 
 module _ (contents contents2 : Contents) (was now : Memory) (place : ℕ → Location) (added : List SegmentFact) (s : IsSound was) (h : IsPlacing contents contents2 was now place added) where
   placed : (m x : ℕ) → address (facts now.tables) m x ≡ option_map (placed_target place) (address (facts was.tables) m x)

@@ -1,0 +1,98 @@
+-- What a request asks of an array's memory, and what it makes of it.
+use Rattle.std.specs.Prelude.{◌≡◌, ◌≢◌, ℕ, ◌+◌, ◌<◌, ◌≤◌, true, List, [], length, replicate, All, Contains}
+use Rattle.pur_base.specs.Commands.{Command}
+use Rattle.pur_base.specs.Names.{is_name}
+use Rattle.pur_base.specs.Sectors.{filled}
+use Rattle.pur_base.specs.declared.limits.TheConstants.{OBJECT_SECTORS, REQUEST_SECTORS}
+use Rattle.pur_base.specs.declared.request.Request.{Request}
+use Rattle.pur_base.specs.declared.request.Request.TheVariants as request
+use Rattle.pur_base.specs.declared.facts.ObjectKind.TheVariants.{Volume}
+use Rattle.pur_base.specs.declared.facts.ObjectFact.{ObjectFact}
+use Rattle.boot_codec.specs.declared.record.NextNumbers.{NextNumbers}
+use Rattle.fact_codec.specs.declared.limits.TheConstants.{NUMBER_LIMIT}
+use Rattle.array_memory.specs.declared.limits.TheConstants.{STAGED_SECTORS}
+use Rattle.array_memory.specs.Kept.{Kept}
+
+-- ---- what may be asked
+
+-- the command of a request and the sectors that it brings
+abbrev pub command_of : Request → List (List ℕ) → Command
+command_of r sectors = record { request = r; sectors = sectors }
+
+-- a volume of that name is visible, and has these sectors
+pub record HasSpan (objects : List ObjectFact) (name : List ℕ) (lba count : ℕ) : Type 0 where
+  pub volume : ObjectFact
+  pub there : Contains objects volume
+  pub named : volume.name ≡ name
+  pub kind : volume.kind ≡ Volume
+  pub within : lba + count ≤ volume.sectors
+  pub few : count ≤ REQUEST_SECTORS
+
+-- a volume of that name and size may be created
+pub record IsFree (objects : List ObjectFact) (name : List ℕ) (size : ℕ) : Type 0 where
+  pub lawful : is_name name ≡ true
+  pub some : 1 ≤ size
+  pub most : size ≤ OBJECT_SECTORS
+  pub fresh : All (λ x. x.name ≢ name) objects
+
+-- the visible objects allow the request
+abbrev pub IsAllowed : List ObjectFact → Request → Type 0
+IsAllowed objects (request.Create n size) = IsFree objects n size
+IsAllowed objects (request.Write n lba count) = HasSpan objects n lba count
+IsAllowed objects (request.Fill n lba count byte) = HasSpan objects n lba count
+IsAllowed objects (request.Zero n lba count) = HasSpan objects n lba count
+IsAllowed objects _ = ⊥
+
+-- ids and sequence numbers are left for any one request
+pub record AreLeft (next : NextNumbers) : Type 0 where
+  pub objects : next.object + 1 < NUMBER_LIMIT
+  pub mediums : next.medium + 1 < NUMBER_LIMIT
+  pub numbers : next.sequence + REQUEST_SECTORS < NUMBER_LIMIT
+
+-- ---- what it takes
+
+-- how many objects it adds
+abbrev pub added : Request → ℕ
+added (request.Create n size) = 1
+added _ = 0
+
+-- how many addresses it puts
+abbrev pub put : Request → ℕ
+put (request.Write n lba count) = count
+put (request.Fill n lba count byte) = count
+put (request.Zero n lba count) = count
+put _ = 0
+
+-- the sectors that it stages
+abbrev pub staged_by : Request → List (List ℕ) → List (List ℕ)
+staged_by (request.Write n lba count) sectors = sectors
+staged_by (request.Fill n lba count byte) sectors = replicate count (filled byte)
+staged_by _ sectors = []
+
+-- how many that are
+abbrev pub staged_count : Request → ℕ
+staged_count (request.Write n lba count) = count
+staged_count (request.Fill n lba count byte) = count
+staged_count _ = 0
+
+-- there is room for what it takes
+pub record IsPrepared (k : Kept) (r : Request) : Type 0 where
+  pub objects : added r ≤ k.memory.tables.objects.room
+  pub names : added r ≤ k.name_room
+  pub addresses : put r ≤ k.memory.tables.addresses.room
+  pub staged : staged_count r ≤ k.staged_room
+  pub indices : length k.memory.staged + staged_count r ≤ STAGED_SECTORS
+
+-- ---- what it leaves
+
+-- the numbers that are given next
+abbrev pub next_after : NextNumbers → Request → NextNumbers
+next_after next (request.Create n size) = record next { object = next.object + 1; medium = next.medium + 1; sequence = next.sequence + 1 }
+next_after next r = record next { sequence = next.sequence + put r }
+
+-- no more room is taken than for that
+pub record HasRoomLeft (was now : Kept) (r : Request) : Type 0 where
+  pub objects : was.memory.tables.objects.room ≤ now.memory.tables.objects.room + added r
+  pub names : was.name_room ≤ now.name_room + added r
+  pub addresses : was.memory.tables.addresses.room ≤ now.memory.tables.addresses.room + put r
+  pub staged : was.staged_room ≤ now.staged_room + staged_count r

@@ -1,0 +1,88 @@
+-- What the calls of an array's memory see of it.
+use Rattle.std.specs.Prelude.{◌≢◌, ◌≡◌, ◌≤◌, ℕ, List}
+use Rattle.pur_base.specs.Facts.{object_key, segment_key, never}
+use Rattle.pur_base.specs.Visible.{is_elided, AreElidedRanges}
+use Rattle.pur_base.specs.declared.request.Table.{Table}
+use Rattle.pur_base.specs.declared.request.Table.TheVariants as table
+use Rattle.pur_base.specs.declared.facts.ObjectFact.{ObjectFact}
+use Rattle.pur_base.specs.declared.facts.MediumFact.{MediumFact}
+use Rattle.pur_base.specs.declared.facts.AddressFact.{AddressFact}
+use Rattle.pur_base.specs.declared.facts.SegmentFact.{SegmentFact}
+use Rattle.pur_base.specs.declared.facts.ElisionFact.{ElisionFact}
+use Rattle.boot_codec.specs.declared.record.NextNumbers.{NextNumbers}
+use Rattle.boot_codec.specs.Record.{AreNext}
+use Rattle.elision.specs.Ranges.{ElidedRanges, ranges_of}
+use Rattle.pyramid.specs.Layers.{Layers}
+use Rattle.pyramid.specs.Shown.{IsShown}
+use Rattle.object_table.specs.Objects.{Objects}
+use Rattle.segment_table.specs.Segments.{Segments}
+use Rattle.array_spec.specs.Sound.{AreIdsBelow}
+use Rattle.memory_spec.specs.Tables.{Tables, facts}
+use Rattle.memory_spec.specs.Memory.{Memory, AreNumbered}
+
+-- The tables, the staged sectors and the next numbers, and what is kept beside them so that it need not be looked up.
+pub record Kept : Type 0 where
+  pub memory : Memory
+  -- the visible objects, in order of creation
+  pub objects : List ObjectFact
+  -- the visible data segments, by ascending id
+  pub segments : List SegmentFact
+  -- the elided ids of each table
+  pub elided : ElidedRanges
+  -- how many more objects are named, segments are seen and sectors are staged without memory
+  pub name_room : ℕ
+  pub segment_room : ℕ
+  pub staged_room : ℕ
+
+-- what stands in the parts
+abbrev pub kept_of : Objects → Layers MediumFact → Layers AddressFact → Segments → Layers ElisionFact → ElidedRanges → List (List ℕ) → ℕ → NextNumbers → Kept
+kept_of o m a s e elided staged room next = record {
+  memory = record {
+    tables = record { objects = o.facts; mediums = m; addresses = a; segments = s.facts; elisions = e };
+    staged = staged;
+    next = next;
+  };
+  objects = o.visible;
+  segments = s.visible;
+  elided = elided;
+  name_room = o.name_room;
+  segment_room = s.visible_room;
+  staged_room = room;
+}
+
+-- What is kept beside the tables is what their facts say. Ids and numbers of all facts are below the next ones.
+pub record IsKept (k : Kept) : Type 0 where
+  pub objects : IsShown object_key (λ f. f.seq.0) never (facts k.memory.tables).objects (is_elided (facts k.memory.tables).elisions table.Object) k.objects
+  pub segments : IsShown segment_key (λ f. f.seq.0) never (facts k.memory.tables).segments (is_elided (facts k.memory.tables).elisions table.Segment) k.segments
+  pub elided : (t : Table) → t ≢ table.Elision → AreElidedRanges (facts k.memory.tables).elisions t (ranges_of k.elided t)
+  pub next : AreNext k.memory.next
+  pub ids : AreIdsBelow k.memory.next (facts k.memory.tables)
+  pub numbers : AreNumbered k.memory
+
+-- no patch of a table was added or taken away
+pub record HasSamePatches (was now : Tables) : Type 0 where
+  pub objects : now.objects.patches ≡ was.objects.patches
+  pub mediums : now.mediums.patches ≡ was.mediums.patches
+  pub addresses : now.addresses.patches ≡ was.addresses.patches
+  pub segments : now.segments.patches ≡ was.segments.patches
+  pub elisions : now.elisions.patches ≡ was.elisions.patches
+
+-- the same but for room for names, for objects, for addresses and for staged sectors
+abbrev pub with_rooms : Kept → Kept → Kept
+with_rooms was now = record was {
+  memory = record was.memory {
+    tables = record was.memory.tables {
+      objects = record was.memory.tables.objects { room = now.memory.tables.objects.room };
+      addresses = record was.memory.tables.addresses { room = now.memory.tables.addresses.room };
+    };
+  };
+  name_room = now.name_room;
+  staged_room = now.staged_room;
+}
+
+-- at least as much room
+pub record HasNoLessRoom (was now : Kept) : Type 0 where
+  pub objects : was.memory.tables.objects.room ≤ now.memory.tables.objects.room
+  pub names : was.name_room ≤ now.name_room
+  pub addresses : was.memory.tables.addresses.room ≤ now.memory.tables.addresses.room
+  pub staged : was.staged_room ≤ now.staged_room

@@ -1,0 +1,190 @@
+ghost use Rattle.std.specs.Prelude.{◌≡◌, ◌≢◌, ◌⊎◌, ◌↔◌, ℕ, ◌+◌, ◌<◌, ◌≤◌, ◌^◌, ◌++◌, [], List, Some, None, Option, All, Contains, length, replicate};
+ghost use Rattle.pur_base.specs.Commands.{after, Accepts};
+ghost use Rattle.pur_base.specs.Grammar.{data_count};
+ghost use Rattle.pur_base.specs.Plain.{Array};
+ghost use Rattle.pur_base.specs.Sectors.{filled};
+ghost use Rattle.pyramid.specs.Layers.{facts_in};
+ghost use Rattle.memory_spec.specs.Adding.{address_facts, HasCreated};
+ghost use Rattle.memory_spec.specs.Laws.{IsNextVolume};
+ghost use Rattle.memory_spec.specs.Memory.{Contents, ReadsAs};
+ghost use Rattle.array_memory.specs.Asked.{command_of, next_after, staged_by, AreLeft, HasRoomLeft, HasSpan, IsAllowed, IsFree, IsPrepared};
+ghost use Rattle.array_memory.specs.Kept.{HasSamePatches};
+ghost use Rattle.array_memory.specs.Put.{HasRoomFor, IsPut};
+ghost use Rattle.array_memory.specs.Runs.{targets_from, AreIndices};
+
+use crate::limits::STAGED_SECTORS;
+use crate::memory::Memory;
+use crate::runs::{stage_all, stage_filled, write_run};
+use boot_codec::NextNumbers;
+use fact_codec::NUMBER_LIMIT;
+use pur_base::{
+    AddressFact, MediumId, Name, OBJECT_SECTORS, ObjectFact, ObjectId, ObjectKind, REQUEST_SECTORS,
+    Request, SECTOR_BYTES, Sector, Seq, Target,
+};
+
+/// What a place of a run holds before it is written.
+const BLANK: AddressFact = AddressFact {
+    medium: MediumId(0),
+    sector: 0,
+    target: Target::Zero,
+    seq: Seq(0),
+};
+
+impl Memory {
+    /// Adds a volume with the next numbers.
+    fn create(&mut self, name: Name, sectors: u32)
+        requires free { IsFree self.old.objects name sectors }
+        requires numbers { AreLeft self.old.memory.next }
+        requires room { 1 ≤ self.old.memory.tables.objects.room }
+        requires name_room { 1 ≤ self.old.name_room }
+        ensures created { (x : ObjectFact) × IsNextVolume self.old.memory x × (x.name ≡ name) × (x.sectors ≡ sectors) × HasCreated self.old.memory self.new.memory x }
+        ensures patches { HasSamePatches self.old.memory.tables self.new.memory.tables }
+        ensures segments { self.new.segments ≡ self.old.segments }
+        ensures elided { self.new.elided ≡ self.old.elided }
+        ensures object_room { self.old.memory.tables.objects.room ≤ self.new.memory.tables.objects.room + 1 }
+        ensures name_room_left { self.old.name_room ≤ self.new.name_room + 1 }
+        ensures address_room { self.new.memory.tables.addresses.room ≡ self.old.memory.tables.addresses.room }
+        ensures staged_room { self.new.staged_room ≡ self.old.staged_room }
+    {
+        let next = self.next;
+        let object = ObjectFact {
+            object: ObjectId(next.object),
+            kind: ObjectKind::Volume,
+            sectors,
+            medium: MediumId(next.medium),
+            name,
+            seq: Seq(next.sequence),
+        };
+        if self.objects.add(object).is_err() {
+            unreachable!()
+        }
+        self.next = NextNumbers {
+            object: next.object + 1,
+            medium: next.medium + 1,
+            sequence: next.sequence + 1,
+            ..next
+        };
+    }
+
+    /// The visible object of a name that is there.
+    fn object_of(&self, name: &Name) -> ObjectFact
+        requires { (x : ObjectFact) × Contains self.now.objects x × (x.name ≡ name.now) }
+        ensures is { (x : ObjectFact) → Contains self.now.objects x → x.name ≡ name.now → result ≡ x }
+        ensures medium { result.medium.0 < self.now.memory.next.medium }
+        ensures size { result.sectors < 2 ^ 32 }
+    {
+        // Read for it alone that each name stands once.
+        let _len = self.objects.len();
+        match self.objects.get(name) {
+            Some(object) => object,
+            None => unreachable!(),
+        }
+    }
+
+    /// Puts an address for each sector of a medium's span: sectors staged from an index on, or zeros.
+    fn put(&mut self, medium: MediumId, first: u32, staged: Option<u16>, count: u8)
+        requires medium { medium.0 < self.old.memory.next.medium }
+        requires few { count ≤ REQUEST_SECTORS }
+        requires sectors { first + count ≤ 2 ^ 32 }
+        requires staged { AreIndices staged count }
+        requires numbers { AreLeft self.old.memory.next }
+        requires room { count ≤ self.old.memory.tables.addresses.room }
+        ensures addresses { (f : AddressFact) → Contains (facts_in self.new.memory.tables.addresses) f
+            ↔ (Contains (facts_in self.old.memory.tables.addresses) f ⊎ Contains (address_facts medium.0 first self.old.memory.next.sequence (targets_from staged 0 count)) f) }
+        ensures patches { self.new.memory.tables.addresses.patches ≡ self.old.memory.tables.addresses.patches }
+        ensures room_left { self.old.memory.tables.addresses.room ≤ self.new.memory.tables.addresses.room + count }
+        ensures rest { self.new ≡ record self.old {
+          memory = record self.old.memory {
+            tables = record self.old.memory.tables { addresses = self.new.memory.tables.addresses };
+            next = record self.old.memory.next { sequence = self.old.memory.next.sequence + count };
+          };
+        } }
+    {
+        let mut run = [BLANK; REQUEST_SECTORS];
+        let run = &mut run[..usize::from(count)];
+        write_run(medium, first, self.next.sequence, staged, run);
+        if self.addresses.put_run(run).is_err() {
+            unreachable!()
+        }
+        self.next.sequence += u64::from(count);
+    }
+
+    /// Stages sectors, and puts them in a volume's span.
+    fn write(&mut self, name: &Name, lba: u64, sectors: &[Sector])
+        requires span { HasSpan self.old.objects name.now lba (length sectors.now) }
+        requires numbers { AreLeft self.old.memory.next }
+        requires room { length sectors.now ≤ self.old.memory.tables.addresses.room }
+        requires staged_room { length sectors.now ≤ self.old.staged_room }
+        requires indices { length self.old.memory.staged + length sectors.now ≤ STAGED_SECTORS }
+        ensures put { IsPut self.old self.new name.now lba (length sectors.now) (targets_from (Some (length self.old.memory.staged)) 0 (length sectors.now)) sectors.now }
+        ensures room_left { HasRoomFor self.old self.new (length sectors.now) (length sectors.now) }
+        ensures sectors { (sector : List ℕ) → Contains sectors.now sector → length sector ≡ SECTOR_BYTES }
+    {
+        let object = self.object_of(name);
+        let index = self.staged.len() as u16;
+        stage_all(&mut self.staged, sectors);
+        let count = sectors.len() as u8;
+        self.put(object.medium, lba as u32, Some(index), count);
+    }
+
+    /// Stages sectors of one byte, and puts them in a volume's span.
+    fn fill(&mut self, name: &Name, lba: u64, count: u8, byte: u8)
+        requires span { HasSpan self.old.objects name.now lba count }
+        requires numbers { AreLeft self.old.memory.next }
+        requires room { count ≤ self.old.memory.tables.addresses.room }
+        requires staged_room { count ≤ self.old.staged_room }
+        requires indices { length self.old.memory.staged + count ≤ STAGED_SECTORS }
+        ensures put { IsPut self.old self.new name.now lba count (targets_from (Some (length self.old.memory.staged)) 0 count) (replicate count (filled byte)) }
+        ensures room_left { HasRoomFor self.old self.new count count }
+    {
+        let object = self.object_of(name);
+        let index = self.staged.len() as u16;
+        stage_filled(&mut self.staged, byte, count);
+        self.put(object.medium, lba as u32, Some(index), count);
+    }
+
+    /// Puts in a volume's span that it reads as zeros.
+    fn zero(&mut self, name: &Name, lba: u64, count: u8)
+        requires span { HasSpan self.old.objects name.now lba count }
+        requires numbers { AreLeft self.old.memory.next }
+        requires room { count ≤ self.old.memory.tables.addresses.room }
+        ensures put { IsPut self.old self.new name.now lba count (targets_from None 0 count) [] }
+        ensures room_left { HasRoomFor self.old self.new count 0 }
+    {
+        let object = self.object_of(name);
+        self.put(object.medium, lba as u32, None, count);
+    }
+
+    /// Does a create, a write, a fill or a zeroing that is allowed and prepared. It takes no memory.
+    pub fn apply(&mut self, request: &Request, sectors: &[Sector])
+        requires allowed { IsAllowed self.old.objects request.now }
+        requires numbers { AreLeft self.old.memory.next }
+        requires prepared { IsPrepared self.old request.now }
+        requires sectors { length sectors.now ≡ data_count request.now }
+        ensures reads { (contents : Contents) (array : Array) → ReadsAs contents self.old.memory array → Accepts array (command_of request.now sectors.now)
+            → ReadsAs contents self.new.memory (after array (command_of request.now sectors.now)) }
+        ensures patches { HasSamePatches self.old.memory.tables self.new.memory.tables }
+        ensures staged { self.new.memory.staged ≡ self.old.memory.staged ++ staged_by request.now sectors.now }
+        ensures next { self.new.memory.next ≡ next_after self.old.memory.next request.now }
+        ensures segments { self.new.segments ≡ self.old.segments }
+        ensures elided { self.new.elided ≡ self.old.elided }
+        ensures room { HasRoomLeft self.old self.new request.now }
+    {
+        self.kept();
+        match request {
+            Request::Create {
+                name,
+                sectors: size,
+            } => self.create(*name, *size as u32),
+            Request::Write { name, lba, .. } => self.write(name, *lba, sectors),
+            Request::Fill {
+                name,
+                lba,
+                count,
+                byte,
+            } => self.fill(name, *lba, *count, *byte),
+            Request::Zero { name, lba, count } => self.zero(name, *lba, *count),
+            _ => unreachable!(),
+        }
+    }
+}

@@ -1,0 +1,13 @@
+//! What an array keeps in memory beside its log: its tables, the sectors that no segment holds yet, and the next numbers.
+//! It reads as a plain array, and a command that is done here makes of that array what the command says. No device is called.
+#![tactic(auto)]
+
+mod apply;
+mod limits;
+mod memory;
+mod prepare;
+mod resolve;
+mod runs;
+
+pub use limits::{STAGED_SECTORS, UNFLUSHED_OBJECTS};
+pub use memory::Memory;

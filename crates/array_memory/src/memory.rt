@@ -1,0 +1,138 @@
+ghost use Rattle.std.specs.Prelude.{◌≡◌, ◌≢◌, ◌≤◌, ◌<◌, [], IfOk, IfSome, IfNone, All, Contains, Some, length, slice_get};
+ghost use Rattle.object_table.specs.Objects.{AreNamesDistinct};
+ghost use Rattle.memory_spec.specs.Memory.{Contents, ReadsAs};
+ghost use Rattle.array_memory.specs.Kept.{IsKept};
+
+use crate::limits::{STAGED_SECTORS, UNFLUSHED_OBJECTS};
+use address_table::{AddressTable, UNFLUSHED_ADDRESSES};
+use boot_codec::NextNumbers;
+use elision::Elided;
+use medium_table::MediumTable;
+use object_table::ObjectTable;
+use pur_base::{ElisionFact, Name, NoMemory, OBJECTS, ObjectFact, Sector};
+use pyramid::Pyramid;
+use segment_table::SegmentTable;
+use std::alloc::Global;
+use std::marker::Model;
+
+/// The numbers that an array without facts gives next.
+const FIRST: NextNumbers = NextNumbers {
+    object: 1,
+    medium: 1,
+    segment: 1,
+    patch_segment: 1,
+    sequence: 1,
+};
+
+/// What an array keeps in memory beside its log. Contracts see its tables with the staged sectors and the next numbers,
+/// what is visible, and the room that there is.
+#[derive(Drop)]
+pub struct Memory {
+    pub(crate) objects: ObjectTable,
+    pub(crate) mediums: MediumTable,
+    pub(crate) addresses: AddressTable,
+    pub(crate) segments: SegmentTable,
+    pub(crate) elisions: Pyramid<ElisionFact>,
+    pub(crate) elided: Elided,
+    pub(crate) staged: Vec<Sector>,
+    pub(crate) next: NextNumbers,
+}
+
+impl Model for Memory {
+    ghost use Rattle.std.specs.Prelude.{◌-◌};
+    ghost use Rattle.std.specs.Vec.{vec_len, vec_capacity};
+    ghost use Rattle.array_memory.specs.Kept.{Kept, kept_of, IsKept};
+
+    ghost Value = { Kept };
+
+    ghost view = { λ m. kept_of m.objects m.mediums.facts m.addresses.facts m.segments m.elisions m.elided m.staged.items (vec_capacity m.staged - vec_len m.staged) m.next };
+
+    ghost invariant = { λ m. IsKept (kept_of m.objects m.mediums.facts m.addresses.facts m.segments m.elisions m.elided m.staged.items (vec_capacity m.staged - vec_len m.staged) m.next) };
+}
+
+impl Memory {
+    /// The memory of an array without objects, with room for the commands of a whole log.
+    pub fn new(alloc: Global) -> Result<Memory, NoMemory>
+        ensures reads { IfOk result (λ m. (contents : Contents) → ReadsAs contents m.memory []) }
+        ensures next { IfOk result (λ m. m.memory.next ≡ FIRST) }
+        ensures staged { IfOk result (λ m. m.memory.staged ≡ []) }
+        ensures objects { IfOk result (λ m. (m.memory.tables.objects.patches ≡ []) × (m.memory.tables.objects.unflushed ≡ []) × (m.memory.tables.objects.room ≡ UNFLUSHED_OBJECTS) × (OBJECTS ≤ m.name_room)) }
+        ensures mediums { IfOk result (λ m. (m.memory.tables.mediums.patches ≡ []) × (m.memory.tables.mediums.unflushed ≡ [])) }
+        ensures addresses { IfOk result (λ m. (m.memory.tables.addresses.patches ≡ []) × (m.memory.tables.addresses.unflushed ≡ []) × (m.memory.tables.addresses.room ≡ UNFLUSHED_ADDRESSES)) }
+        ensures segments { IfOk result (λ m. (m.memory.tables.segments.patches ≡ []) × (m.memory.tables.segments.unflushed ≡ [])) }
+        ensures elisions { IfOk result (λ m. (m.memory.tables.elisions.patches ≡ []) × (m.memory.tables.elisions.unflushed ≡ [])) }
+        ensures room { IfOk result (λ m. STAGED_SECTORS ≤ m.staged_room) }
+    {
+        let object_facts = Pyramid::new(alloc, UNFLUSHED_OBJECTS)?;
+        let objects = ObjectTable::from_facts(alloc, object_facts, &[])?;
+        let mediums = MediumTable::new(alloc, 0)?;
+        let addresses = AddressTable::new(alloc)?;
+        let segment_facts = Pyramid::new(alloc, 0)?;
+        let segments = SegmentTable::from_facts(alloc, segment_facts, &[])?;
+        let elisions = Pyramid::new(alloc, 0)?;
+        let elided = Elided::new(alloc);
+        let staged = Vec::with_capacity(alloc, STAGED_SECTORS)?;
+        Ok(Memory {
+            objects,
+            mediums,
+            addresses,
+            segments,
+            elisions,
+            elided,
+            staged,
+            next: FIRST,
+        })
+    }
+
+    /// What holds of each memory.
+    pub fn kept(&self)
+        ensures { IsKept self.now }
+    {
+        let _staged = &self.staged;
+    }
+
+    /// How many objects are visible, each of a name of its own.
+    pub fn len(&self) -> usize
+        ensures len { result ≡ length self.now.objects }
+        ensures distinct { AreNamesDistinct self.now.objects }
+    {
+        self.objects.len()
+    }
+
+    /// The visible object at a place in order of creation, or `None` past the last.
+    pub fn at(&self, index: usize) -> Option<ObjectFact>
+        ensures { result ≡ slice_get self.now.objects index }
+    {
+        self.objects.at(index)
+    }
+
+    /// The visible object of a name, or `None` where no object has it.
+    pub fn get(&self, name: &Name) -> Option<ObjectFact>
+        ensures some { IfSome result (λ x. Contains self.now.objects x × (x.name ≡ name.now)) }
+        ensures none { IfNone result (All (λ x. x.name ≢ name.now) self.now.objects) }
+    {
+        self.objects.get(name)
+    }
+
+    /// How many sectors are staged.
+    pub fn staged_len(&self) -> usize
+        ensures { result ≡ length self.now.memory.staged }
+    {
+        self.staged.len()
+    }
+
+    /// The staged sector of an index: what an address of segment 0 names.
+    pub fn staged(&self, index: u16) -> &Sector
+        requires { index < length self.now.memory.staged }
+        ensures { slice_get self.now.memory.staged index ≡ Some result.now }
+    {
+        &self.staged[usize::from(index)]
+    }
+
+    /// The numbers that are given next.
+    pub fn next(&self) -> NextNumbers
+        ensures { result ≡ self.now.memory.next }
+    {
+        self.next
+    }
+}
