@@ -114,16 +114,16 @@ module _ (next_medium : ℕ) (facts : Facts) (shown : List AddressFact) (objects
   segment_there id d s =
       let key = (said_found segment_key (λ f. f.seq.0) never facts.segments (is_elided facts.elisions table.Segment) (key_of id 0) d s).1 in (
         shown_at segment_key (λ f. f.seq.0) facts.segments (is_elided facts.elisions table.Segment) segments seen_segments (key_of id 0) d
-        (λ g c. let l = All-contains (λ f. f.segment.0 < 2 ^ 64) facts.segments g small_segments c in omega (arith, l)) s,
+            (λ g c. let l = All-contains (λ f. f.segment.0 < 2 ^ 64) facts.segments g small_segments c in omega (arith, l)) s,
         omega (arith, key),
       )
 
   address_there : All (λ f. f.medium.0 < next_medium) facts.addresses → (k : ℕ) (f : AddressFact) → said k ≡ Some f → Contains shown f
   address_there ids k f s = shown_at address_key (λ g. g.seq.0) facts.addresses (is_elided facts.elisions table.Address) shown seen k f
       (λ g c.
-          let low = All-contains (λ f. f.medium.0 < next_medium) facts.addresses g ids c in
-          let few = All-contains IsSmall facts.addresses g small c in
-          omega (arith, low, few, next_small)) s
+      let low = All-contains (λ f. f.medium.0 < next_medium) facts.addresses g ids c in
+      let few = All-contains IsSmall facts.addresses g small c in
+      omega (arith, low, few, next_small)) s
 
   pub addresses_from_list : AreAddressesListed next_medium facts.addresses shown objects segments → AreAddressesRight next_medium facts
   addresses_from_list h = record {

@@ -12,3 +12,5 @@ pub mod ElidedLemmas
 pub mod LastLemmas
 pub mod AddressLemmas
 pub mod MediumLemmas
+pub mod FaultLemmas
+pub mod SoundLemmas

@@ -179,7 +179,7 @@ module _ {F : Type 0} (key number : F → ℕ) (empty : F → Bool) where
   not_empty f true e = absurd cc
   not_empty f false e = refl
 
-  found_one : (f : F) (o : Option F) → option_and_then (unless_empty empty) o ≡ Some f → (o ≡ Some f) × (empty f ≡ false)
+  pub found_one : (f : F) (o : Option F) → option_and_then (unless_empty empty) o ≡ Some f → (o ≡ Some f) × (empty f ≡ false)
   found_one f None e = absurd cc
   found_one f (Some g) e = one (empty g) refl e
     where

@@ -39,6 +39,10 @@ module _ {X : Type 0} (R : X → X → Type 0) where
   pairs_cons x xs a h zero (suc j) d l m = a j d (omega (arith, m))
   pairs_cons x xs a h (suc i) (suc j) d l m = h i j d (omega (arith, l)) (omega (arith, m))
 
+  pub pairs_left : (xs ys : List X) → AllPairs R (xs ++ ys) → AllPairs R xs
+  pairs_left [] ys h = pairs_nil
+  pairs_left (x ∷ xs) ys h = pairs_cons x xs (all_left (R x) xs ys (pairs_head x (xs ++ ys) h)) (pairs_left xs ys (pairs_tail x (xs ++ ys) h))
+
   pub pairs_right : (xs ys : List X) → AllPairs R (xs ++ ys) → AllPairs R ys
   pairs_right [] ys h = h
   pairs_right (x ∷ xs) ys h = pairs_right xs ys (pairs_tail x (xs ++ ys) h)

@@ -8,3 +8,4 @@ pub mod Newest
 pub mod Last
 pub mod Addresses
 pub mod Mediums
+pub mod Faults

@@ -88,9 +88,7 @@ fn are_addresses_listed(
     requires small { All IsSmall shown.now }
     ensures { IsTrue result ↔ AreAddressesListed next_medium (facts_of patches.now) shown.now objects.now segments.now }
 {
-    are_ids_below(patches, next_medium)
-        && are_there(segments, shown)
-        && end_within(objects, shown)
+    are_ids_below(patches, next_medium) && are_there(segments, shown) && end_within(objects, shown)
 }
 
 /// Whether the addresses are sound, of which these are the visible ones.

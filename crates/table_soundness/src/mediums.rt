@@ -109,7 +109,11 @@ fn lead_elsewhere(ranges: &[MediumFact], mediums: &[u64]) -> bool
 }
 
 /// Whether no range leads to the medium of a volume.
-fn are_frozen(alloc: Global, objects: &[ObjectFact], ranges: &[MediumFact]) -> Result<bool, NoMemory>
+fn are_frozen(
+    alloc: Global,
+    objects: &[ObjectFact],
+    ranges: &[MediumFact],
+) -> Result<bool, NoMemory>
     ensures { IfOk result (λ b. IsTrue b ↔ All (IsFrozen objects.now) ranges.now) }
 {
     let mut mediums = volume_mediums(alloc, objects)?;
@@ -131,10 +135,12 @@ fn are_mediums_listed(
     ensures { IfOk result (λ b. IsTrue b ↔ AreMediumsListed next_medium (facts_of patches.now) shown.now objects.now) }
 {
     let frozen = are_frozen(alloc, objects, shown)?;
-    Ok(are_ids_below(patches, next_medium)
-        && frozen
-        && are_disjoint(shown)
-        && end_within(objects, shown))
+    Ok(
+        are_ids_below(patches, next_medium)
+            && frozen
+            && are_disjoint(shown)
+            && end_within(objects, shown),
+    )
 }
 
 /// Whether the ranges of mediums are sound, of which these are the visible ones.

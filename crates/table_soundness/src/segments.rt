@@ -62,11 +62,13 @@ fn are_segments_listed(
     let named = named_segments(alloc, &boot.patches)?;
     let distinct = are_named_apart(alloc, &named)?;
     let apart = are_units_apart(alloc, &named, shown)?;
-    Ok(are_ids_below(patches, boot.next.segment)
-        && are_named_below(&named, boot.next.patch_segment)
-        && distinct
-        && are_all_placed(shown, slots, units)
-        && apart)
+    Ok(
+        are_ids_below(patches, boot.next.segment)
+            && are_named_below(&named, boot.next.patch_segment)
+            && distinct
+            && are_all_placed(shown, slots, units)
+            && apart,
+    )
 }
 
 /// Whether the segments are sound, of which these are the visible ones.

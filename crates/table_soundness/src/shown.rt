@@ -14,7 +14,11 @@ use std::alloc::Global;
 fn newer_one<F: Fact>(first: &F, second: &F) -> F
     ensures { result ≡ newer_one F.number first.now second.now }
 {
-    if first.seq().0 < second.seq().0 { *second } else { *first }
+    if first.seq().0 < second.seq().0 {
+        *second
+    } else {
+        *first
+    }
 }
 
 /// Two lists of facts as one by ascending key, of each key the newer fact.
