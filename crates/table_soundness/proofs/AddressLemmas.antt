@@ -1,7 +1,6 @@
 -- Addresses are sound where the lists of what is visible say so.
-use Rattle.std.proofs.Common.{◌≡◌, ◌≢◌, ℕ, Bool, ◌+◌, ◌*◌, ◌<◌, ◌≤◌, ◌^◌, ◌∙◌, List, get_or, refl, sym, ap, subst, arith, All, Contains}
+use Rattle.std.proofs.Common.{◌≡◌, ◌≢◌, ℕ, Bool, ◌<◌, ◌≤◌, ◌^◌, ◌∙◌, List, get_or, refl, sym, ap, subst, arith, All, Contains}
 use Rattle.std.specs.Prelude.{Option, Some, None, IsSome, IfSome, IfNone, option_map}
-use Rattle.std.specs.List.{AllByRecursion}
 use Rattle.std.proofs.lemmas.Bool.{false≢true}
 use Rattle.std.proofs.lemmas.List.Elements.{All-contains, All-from_recursion, recursion_from_All}
 use Rattle.pur_base.specs.Facts.{Facts, address_key, object_key, segment_key, never}
@@ -14,7 +13,6 @@ use Rattle.pur_base.specs.declared.facts.SegmentFact.{SegmentFact}
 use Rattle.pur_base.specs.declared.facts.Target.{Target}
 use Rattle.pur_base.specs.declared.facts.Target.TheVariants.{Stored, Zero}
 use Rattle.pur_base.specs.declared.place.Location.{Location}
-use Rattle.pur_base.specs.declared.limits.TheConstants.{OBJECT_SECTORS}
 use Rattle.pur_base.specs.declared.request.Table.TheVariants as table
 use Rattle.pyramid.specs.Layers.{newest_of}
 use Rattle.pyramid.specs.Shown.{IsShown}

@@ -9,7 +9,7 @@ use Rattle.pur_base.specs.declared.facts.ElisionFact.{ElisionFact}
 use Rattle.pur_base.specs.declared.request.Table.{Table}
 use Rattle.pur_base.specs.declared.request.Table.TheVariants as table
 use Rattle.elision.specs.Ranges.{ElidedRanges, ranges_of}
-use Rattle.table_soundness.specs.Elided.{AddsElided, AreElidedBy, IsRange}
+use Rattle.table_soundness.specs.Elided.{AddsElided, AreElidedBy}
 
 pub same_table : (a b : Table) → tag_of a ≡ tag_of b → a ≡ b
 same_table table.Object table.Object e = refl

@@ -1,6 +1,5 @@
 -- Elisions are sound where their spans, in order, say so.
-use Rattle.std.proofs.Common.{◌≡◌, ◌≢◌, ◌⊎◌, ℕ, ◌+◌, ◌*◌, ◌^◌, ◌<◌, ◌≤◌, ◌∙◌, List, length, get_or, map, swap, refl, sym, ap, subst, arith, inl, inr, All, AllPairs, IsPermutation}
-use Rattle.std.specs.List.{AllByRecursion}
+use Rattle.std.proofs.Common.{◌≡◌, ◌≢◌, ◌⊎◌, ℕ, ◌^◌, ◌<◌, ◌≤◌, ◌∙◌, List, length, get_or, map, swap, refl, sym, ap, subst, arith, inl, inr, All, AllPairs, IsPermutation}
 use Rattle.std.proofs.lemmas.Bool.{cases_lt, cases_eq}
 use Rattle.std.proofs.lemmas.List.Edits.{Swapped, swapped_from_swap, length-swap}
 use Rattle.std.proofs.lemmas.List.Elements.{All-map, All-weaker}

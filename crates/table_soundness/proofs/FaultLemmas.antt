@@ -1,10 +1,10 @@
 -- The first table whose answer is false is the first that fails.
-use Rattle.std.proofs.Common.{◌≡◌, ℕ, ◌<◌, ◌≤◌, ◌^◌, ◌∙◌, ◌++◌, Bool, true, false, List, map, refl, sym, ap, subst, arith, inl, inr, All, Contains, IsPermutation}
-use Rattle.std.specs.Prelude.{IsTrue, IfNone, IfSome, ◌↔◌, Option, Some, None, option_and_then, if◌then◌else◌}
+use Rattle.std.proofs.Common.{◌≡◌, ℕ, ◌<◌, ◌^◌, ◌∙◌, ◌++◌, Bool, true, false, List, map, refl, sym, ap, subst, arith, inl, inr, All, IsPermutation}
+use Rattle.std.specs.Prelude.{IsTrue, IfNone, IfSome, ◌↔◌, None, option_and_then, if◌then◌else◌}
 use Rattle.std.proofs.lemmas.Bool.{false≢true, eq-eqb}
 use Rattle.std.proofs.lemmas.List.Elements.{All-weaker, All-contains}
 use Rattle.std.proofs.lemmas.List.Sorted.{IsPermutation-append_left, IsPermutation-sym, IsPermutation-trans}
-use Rattle.pur_base.specs.Facts.{Facts, object_key, medium_key, address_key, segment_key, is_empty_range, never}
+use Rattle.pur_base.specs.Facts.{medium_key, is_empty_range}
 use Rattle.pur_base.specs.Keys.{id_of}
 use Rattle.pur_base.specs.Says.{newest, has_key, says, unless_empty}
 use Rattle.pur_base.specs.Tags.{tag_of}

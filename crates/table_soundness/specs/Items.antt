@@ -1,5 +1,5 @@
 -- What is judged of each table.
-use Rattle.std.specs.Prelude.{◌≡◌, ◌≢◌, ℕ, ◌<◌, ◌≤◌, false, List, ◌++◌, length, map, All, AllPairs}
+use Rattle.std.specs.Prelude.{◌≡◌, ◌≢◌, ◌<◌, ◌≤◌, false, List, ◌++◌, length, map, All, AllPairs}
 use Rattle.std.specs.List.{AllByRecursion, flat_map}
 use Rattle.pur_base.specs.Devices.{Geometry}
 use Rattle.pur_base.specs.Facts.{Facts}

@@ -1,4 +1,4 @@
-use Rattle.std.proofs.Common.{◌≡◌, ◌+◌, ◌∷◌, List, ap, drop, refl, subst, sym, ◌∙◌, All, AllPairs}
+use Rattle.std.proofs.Common.{◌≡◌, ◌+◌, ◌∷◌, ap, drop, refl, subst, sym, ◌∙◌, All, AllPairs}
 use Rattle.std.proofs.lemmas.List.{drop_more}
 use Rattle.pur_base.specs.declared.facts.ObjectFact.{ObjectFact}
 use Rattle.table_soundness.specs.Items.{AreApartObjects}

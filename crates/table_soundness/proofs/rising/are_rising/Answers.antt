@@ -1,4 +1,4 @@
-use Rattle.std.proofs.Common.{◌≡◌, ◌+◌, ◌++◌, ◌∷◌, [], ap, refl, sym, ◌∙◌, take, get_or}
+use Rattle.std.proofs.Common.{◌≡◌, ◌+◌, ◌++◌, ◌∷◌, [], ap, sym, ◌∙◌, take, get_or}
 use Rattle.std.proofs.lemmas.List.{take_more}
 use Rattle.pyramid.specs.Layers.{facts_of}
 use Rattle.pyramid.proofs.LoadLemmas.{rises_from, rises_more}

@@ -1,4 +1,3 @@
-use Rattle.std.proofs.Common.{sym}
 use Rattle.pyramid.proofs.SpanLemmas.{for_ok}
 use Rattle.table_soundness.proofs.NewestLemmas.{newest_of_both}
 use Rattle.table_soundness.proofs.shown.+newest_of_each.Goals as goal
