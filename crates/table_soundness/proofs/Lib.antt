@@ -1,0 +1,16 @@
+pub mod DistinctLemmas
+pub mod PatchLemmas
+pub mod PairLemmas
+pub mod UnitLemmas
+pub mod SegmentLemmas
+pub mod ObjectLemmas
+pub mod SpanLemmas
+pub mod NestLemmas
+pub mod ElisionLemmas
+pub mod NewestLemmas
+pub mod ElidedLemmas
+pub mod LastLemmas
+pub mod AddressLemmas
+pub mod MediumLemmas
+pub mod FaultLemmas
+pub mod SoundLemmas

@@ -1,0 +1,7 @@
+use Rattle.std.proofs.Common.{ℕ, ◌<◌, get_or}
+use Rattle.pur_base.specs.declared.facts.AddressFact.{AddressFact}
+use Rattle.table_soundness.specs.Addresses.{IsThere}
+use Rattle.table_soundness.proofs.addresses.are_there.Given as goal
+
+abbrev pub invariant-loop-address : goal.invariant-loop-address
+invariant-loop-address l = (i : ℕ) (d : AddressFact) → i < l.address-index → IsThere l.segments (get_or l.addresses i d).target

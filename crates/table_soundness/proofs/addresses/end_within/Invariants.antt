@@ -1,0 +1,7 @@
+use Rattle.std.proofs.Common.{ℕ, ◌<◌, get_or}
+use Rattle.pur_base.specs.declared.facts.ObjectFact.{ObjectFact}
+use Rattle.table_soundness.specs.Addresses.{EndsWithin}
+use Rattle.table_soundness.proofs.addresses.end_within.Given as goal
+
+abbrev pub invariant-loop-object : goal.invariant-loop-object
+invariant-loop-object l = (i : ℕ) (d : ObjectFact) → i < l.object-index → EndsWithin l.addresses (get_or l.objects i d)

@@ -1,0 +1,7 @@
+use Rattle.std.proofs.Common.{ℕ, ◌<◌, get_or}
+use Rattle.pur_base.specs.declared.facts.ElisionFact.{ElisionFact}
+use Rattle.table_soundness.specs.Elisions.{IsBelow}
+use Rattle.table_soundness.proofs.elisions.are_below.Given as goal
+
+abbrev pub invariant-loop-fact : goal.invariant-loop-fact
+invariant-loop-fact l = (i : ℕ) (d : ElisionFact) → i < l.fact-index → IsBelow l.next (get_or l.facts i d)

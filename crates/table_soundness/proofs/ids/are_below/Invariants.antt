@@ -1,0 +1,6 @@
+use Rattle.std.proofs.Common.{ℕ, ◌<◌, get_or}
+use Rattle.pur_base.specs.Keys.{id_of}
+use Rattle.table_soundness.proofs.ids.are_below.Given as goal
+
+abbrev pub invariant-loop-fact : goal.invariant-loop-fact
+invariant-loop-fact g l = (i : ℕ) (d : g.row.F.Denot) → i < l.fact-index → id_of (g.F.Fact.key (get_or l.facts i d)) < l.next

@@ -1,0 +1,6 @@
+use Rattle.std.proofs.Common.{◌≡◌, ◌++◌, drop}
+use Rattle.table_soundness.specs.Mediums.{volume_mediums}
+use Rattle.table_soundness.proofs.mediums.volume_mediums.Given as goal
+
+abbrev pub invariant-loop-object : goal.invariant-loop-object
+invariant-loop-object l = l.mediums.items ++ volume_mediums (drop l.object-index l.objects) ≡ volume_mediums l.objects

@@ -1,0 +1,17 @@
+use Rattle.std.proofs.Common.{ap, sym, subst, arith}
+use Rattle.pur_base.specs.Facts.{object_key, never}
+use Rattle.pur_base.specs.Visible.{is_elided}
+use Rattle.pur_base.specs.declared.request.Table.TheVariants as table
+use Rattle.pyramid.specs.Layers.{facts_of}
+use Rattle.pyramid.specs.Shown.{IsShown}
+use Rattle.table_soundness.specs.Faults.{facts_in}
+use Rattle.table_soundness.proofs.own.objects_hold.Goals as goal
+
+pub are_objects_sound-requires : goal.are_objects_sound-requires
+are_objects_sound-requires c = let n = c.requires.boot.next.object.1 in omega (arith, n)
+
+pub returns : goal.returns
+returns c =
+    let t = c.args.tables.now in
+    c.are_objects_sound.ensures (facts_in t) (ap facts_of (sym c.deref.ensures.value)) c.requires.elided
+    (subst (λ xs. IsShown object_key (λ f. f.seq.0) never (facts_of t.objects.items) (is_elided (facts_of t.elisions.items) table.Object) xs) (sym c.deref-2.ensures.value) c.requires.visible.objects)

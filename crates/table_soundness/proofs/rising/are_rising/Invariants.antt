@@ -1,0 +1,10 @@
+use Rattle.std.proofs.Common.{[], take}
+use Rattle.pyramid.specs.Layers.{facts_of, Rises}
+use Rattle.pyramid.specs.Loading.{IsPast}
+use Rattle.table_soundness.proofs.rising.are_rising.Given as goal
+
+abbrev pub invariant-loop-patch : goal.invariant-loop-patch
+invariant-loop-patch g l = record {
+  rises : Rises g.F.Fact.number (take l.patch-index l.patches) [];
+  past : IsPast g.F.Fact.number (facts_of (take l.patch-index l.patches)) l.past;
+}

@@ -1,0 +1,11 @@
+pub mod Numbers
+pub mod Places
+pub mod Items
+pub mod Elided
+pub mod Spans
+pub mod Elisions
+pub mod Newest
+pub mod Last
+pub mod Addresses
+pub mod Mediums
+pub mod Faults

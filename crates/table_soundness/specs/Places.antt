@@ -1,0 +1,7 @@
+-- Places as numbers.
+use Rattle.std.specs.Prelude.{ℕ, ◌+◌, ◌*◌}
+use Rattle.pur_base.specs.declared.place.Place.{Place}
+
+-- the slot, and below it the unit, which is below 2^16
+abbrev pub code_of : Place → ℕ
+code_of p = p.slot * 65536 + p.unit

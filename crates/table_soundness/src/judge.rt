@@ -1,0 +1,58 @@
+ghost use Rattle.std.specs.Prelude.{◌≡◌, IfOk, OnOk, IfNone, IfSome};
+ghost use Rattle.pur_base.specs.declared.request.Table.{Table};
+ghost use Rattle.array_spec.specs.Sound.{AreSound};
+ghost use Rattle.boot_codec.specs.Record.{IsBootRecord};
+ghost use Rattle.table_soundness.specs.Faults.{patches_in, AreLawful, AreNamed, AreNumbersOf, IsFault, IsFirst};
+
+use crate::fault::SoundFault;
+use crate::first::first_false;
+use crate::numbers::are_numbers_sound;
+use crate::own::own_fault;
+use crate::tables::LoadedTables;
+use boot_codec::BootRecord;
+use pur_base::{NoMemory, Table};
+use std::alloc::Global;
+
+/// The first table with a number that doesn't suit those before it.
+pub fn number_fault(
+    alloc: Global,
+    next: u64,
+    tables: &LoadedTables,
+) -> Result<Option<Table>, NoMemory>
+    ensures none { IfOk result (λ o. IfNone o ((t : Table) → AreNumbersOf next tables.now t)) }
+    ensures some { IfOk result (λ o. IfSome o (IsFirst (AreNumbersOf next tables.now))) }
+{
+    let mut numbers = Vec::new(alloc);
+    let objects = are_numbers_sound(&mut numbers, &tables.objects, next)?;
+    let mediums = are_numbers_sound(&mut numbers, &tables.mediums, next)?;
+    let addresses = are_numbers_sound(&mut numbers, &tables.addresses, next)?;
+    let segments = are_numbers_sound(&mut numbers, &tables.segments, next)?;
+    let elisions = are_numbers_sound(&mut numbers, &tables.elisions, next)?;
+    Ok(first_false(objects, mediums, addresses, segments, elisions))
+}
+
+/// Whether the tables are sound. It takes memory for sorted lists alone.
+/// Want of memory aside, it answers `Unsound` with the first table that fails: each table by itself, then the sequence numbers.
+pub fn check(
+    alloc: Global,
+    slots: u8,
+    units: u16,
+    boot: &BootRecord,
+    tables: &LoadedTables,
+) -> Result<(), SoundFault>
+    requires boot { IsBootRecord boot.now }
+    requires facts { AreLawful tables.now }
+    requires named { AreNamed boot.now tables.now }
+    ensures sound { OnOk result (AreSound (record { slots = slots; units = units }) boot.now (patches_in tables.now)) }
+    ensures fault { (t : Table) → result ≡ Err (SoundFault.Unsound t) → IsFault (record { slots = slots; units = units }) boot.now tables.now t }
+{
+    let own = own_fault(alloc, slots, units, boot, tables)?;
+    if let Some(table) = own {
+        return Err(SoundFault::Unsound(table));
+    }
+    let numbers = number_fault(alloc, boot.next.sequence, tables)?;
+    match numbers {
+        Some(table) => Err(SoundFault::Unsound(table)),
+        None => Ok(()),
+    }
+}

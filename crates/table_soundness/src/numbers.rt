@@ -1,0 +1,71 @@
+ghost use Rattle.std.specs.Prelude.{◌≡◌, ◌≢◌, ℕ, ◌<◌, ◌++◌, ◌↔◌, List, IsTrue, OnOk, IfOk, All, AllPairs, map};
+ghost use Rattle.std.specs.List.Sorted.{IsPermutation};
+ghost use Rattle.pyramid.specs.Layers.{facts_of};
+ghost use Rattle.table_soundness.specs.Numbers.{AreNumbersSound};
+
+use crate::distinct::are_distinct;
+use crate::rising::are_rising;
+use pur_base::{Fact, NoMemory};
+use pyramid::Patch;
+
+/// Puts the numbers of facts behind the others.
+fn push_numbers<F: Fact>(numbers: &mut Vec<u64>, facts: &[F]) -> Result<(), NoMemory>
+    ensures { OnOk result (numbers.new.items ≡ numbers.old.items ++ map F.number facts.now) }
+{
+    numbers.reserve(facts.len())?;
+    for fact in facts {
+        numbers.push(fact.seq().0)?;
+    }
+    Ok(())
+}
+
+/// Puts the numbers of all facts of the patches behind the others.
+fn push_all_numbers<F: Fact + Drop>(
+    numbers: &mut Vec<u64>,
+    patches: &[Patch<F>],
+) -> Result<(), NoMemory>
+    ensures { OnOk result (numbers.new.items ≡ numbers.old.items ++ map F.number (facts_of patches.now)) }
+{
+    for patch in patches {
+        push_numbers(numbers, patch.facts())?;
+    }
+    Ok(())
+}
+
+/// Whether each number of the facts is below the next one.
+fn are_below<F: Fact>(facts: &[F], next: u64) -> bool
+    ensures { IsTrue result ↔ All (λ f. F.number f < next) facts.now }
+{
+    for fact in facts {
+        if fact.seq().0 >= next {
+            return false;
+        }
+    }
+    true
+}
+
+/// Whether each number of the patches is below the next one.
+fn are_all_below<F: Fact + Drop>(patches: &[Patch<F>], next: u64) -> bool
+    ensures { IsTrue result ↔ All (λ f. F.number f < next) (facts_of patches.now) }
+{
+    for patch in patches {
+        if !are_below(patch.facts(), next) {
+            return false;
+        }
+    }
+    true
+}
+
+/// Whether the numbers of a table are sound, of which the earlier tables have those. Its own are put to them, in some order.
+pub fn are_numbers_sound<F: Fact + Drop>(
+    numbers: &mut Vec<u64>,
+    patches: &[Patch<F>],
+    next: u64,
+) -> Result<bool, NoMemory>
+    ensures sound { IfOk result (λ b. IsTrue b ↔ AreNumbersSound F.number next numbers.old.items patches.now) }
+    ensures numbers { OnOk result (IsPermutation (numbers.old.items ++ map F.number (facts_of patches.now)) numbers.new.items) }
+{
+    push_all_numbers(numbers, patches)?;
+    let distinct = are_distinct(numbers);
+    Ok(distinct && are_all_below(patches, next) && are_rising(patches))
+}
