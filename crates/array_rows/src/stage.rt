@@ -24,6 +24,23 @@ pub fn new_world(alloc: Global) -> Result<MemWorld, Fail> {
     Ok(world)
 }
 
+/// A world with an array of a create and two fills, over two sessions.
+pub fn filled_world(alloc: Global) -> Result<MemWorld, Fail> {
+    let mut world = new_world(alloc)?;
+    session(alloc, &mut world, &filling(alloc, 1)?)?;
+    session(alloc, &mut world, b"fill a 1 1 2\n")?;
+    Ok(world)
+}
+
+/// Pulls a drive.
+pub fn pull_drive(world: &mut MemWorld, drive: u8) -> Result<(), Fail> {
+    if drive >= world.drives() {
+        return Err(Fail::new("no such drive"));
+    }
+    world.pull(Device::Drive(DriveId(drive)));
+    Ok(())
+}
+
 /// What was given behind so many bytes.
 fn given_since(alloc: Global, world: &MemWorld, before: usize) -> Result<Vec<u8>, Fail> {
     let given = world.output().get(before..).unwrap_or(&[]);

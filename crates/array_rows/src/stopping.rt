@@ -1,5 +1,7 @@
 // Sessions that are stopped, and what the next one reads.
-use crate::stage::{cut_off, filling, new_world, reads_fills, session, tear};
+use crate::stage::{
+    cut_off, filled_world, filling, new_world, pull_drive, reads_fills, session, tear,
+};
 use pur_base::{Device, NvId};
 use std::alloc::Global;
 use std::test::Fail;
@@ -90,14 +92,6 @@ fn the_last_fill_is_stopped_in_gates_that_stay_closed(rt: HostRuntime) -> Result
     Ok(())
 }
 
-/// An array of a create and two fills, over two sessions.
-fn filled_world(alloc: Global) -> Result<MemWorld, Fail> {
-    let mut world = new_world(alloc)?;
-    session(alloc, &mut world, &filling(alloc, 1)?)?;
-    session(alloc, &mut world, b"fill a 1 1 2\n")?;
-    Ok(world)
-}
-
 /// Stops 21 openings, the first behind so many calls, each behind one more than the last; each time the next session reads all, and the opening
 /// behind it is the next one that is stopped. What isn't synced is chosen by turns. Behind how many calls that goes wrong.
 fn wrong_in_openings(alloc: Global, from: u64) -> Result<Option<u64>, Fail> {
@@ -141,5 +135,39 @@ fn openings_stopped_behind_63_calls_and_more(rt: HostRuntime) -> Result<(), Fail
 #[test]
 fn openings_stopped_behind_84_calls_and_more(rt: HostRuntime) -> Result<(), Fail> {
     assert_eq!(rt; wrong_in_openings(rt.alloc(), 84)?, None);
+    Ok(())
+}
+
+/// Stops openings in their store before its first body, each time of a new array: the first behind so many calls, each behind one more than the last.
+/// Then two drives are pulled, and the next session takes over. Behind how many calls it doesn't read all.
+fn wrong_behind_openings(alloc: Global, from: u64, count: u8) -> Result<Option<u64>, Fail> {
+    for i in 0..count {
+        let calls = from.wrapping_add(u64::from(i));
+        let left = cut_off(alloc, filled_world(alloc)?, b"", calls)?;
+        let mut world = left.world;
+        tear(alloc, &mut world, i % 2)?;
+        pull_drive(&mut world, i % 11)?;
+        pull_drive(&mut world, (i % 11 + 5) % 11)?;
+        if !left.is_cut || !reads_fills(alloc, &mut world, 2)? {
+            return Ok(Some(calls));
+        }
+    }
+    Ok(None)
+}
+
+#[test]
+fn two_drives_are_lost_behind_an_opening_that_closed_some_gates(
+    rt: HostRuntime,
+) -> Result<(), Fail> {
+    assert_eq!(rt; wrong_behind_openings(rt.alloc(), FINDING, 17)?, None);
+    Ok(())
+}
+
+#[test]
+fn two_drives_are_lost_behind_an_opening_that_closed_more_gates(
+    rt: HostRuntime,
+) -> Result<(), Fail> {
+    // The last one is stopped where all gates are closed.
+    assert_eq!(rt; wrong_behind_openings(rt.alloc(), FINDING + 17, 17)?, None);
     Ok(())
 }
