@@ -124,11 +124,26 @@ fn fail_in_store(world: &mut MemWorld, call: u64, second: Second) -> Result<(), 
     }
 }
 
-/// Whether the third fill is acknowledged though drives are lost in its store, and a later session reads all without those drives and the NVRAM device.
+/// Whether the record names just those of drives 3 and 7 that aren't lost, and the other NVRAM device alone. A reading that fails costs no drive.
+fn names_the_rest(
+    alloc: Global,
+    world: &mut MemWorld,
+    call: u64,
+    second: Second,
+) -> Result<bool, Fail> {
+    let members = members_of(alloc, world)?;
+    let is_read = call == STORE[0];
+    let has_second = is_read || matches!(second, Second::Never);
+    let drives = [members.drives[3], members.drives[7]];
+    Ok(drives == [is_read, has_second] && members.nvrams == [false, true])
+}
+
+/// Whether the third fill is acknowledged though drives are lost in its store, the record names them no longer then, and a later session reads all
+/// without those drives and the NVRAM device.
 fn outlives_store(alloc: Global, call: u64, second: Second) -> Result<bool, Fail> {
     let mut world = filled_world(alloc)?;
     fail_in_store(&mut world, call, second)?;
-    if !takes_fill(alloc, &mut world)? {
+    if !takes_fill(alloc, &mut world)? || !names_the_rest(alloc, &mut world, call, second)? {
         return Ok(false);
     }
     pull_drive(&mut world, 3)?;
