@@ -37,6 +37,11 @@ const DEVICES: [Device; 13] = [
     Device::Nv(NvId(1)),
 ];
 
+/// A drive by chance.
+pub fn any_drive(random: &mut Random) -> Device {
+    Device::Drive(DriveId(random.byte_below(DRIVES)))
+}
+
 /// Where it stands among them.
 fn place_of(device: Device) -> usize
     ensures { result < 13 }
@@ -181,6 +186,14 @@ impl Written {
         sync(world, device);
     }
 
+    /// Blanks the drives alone.
+    pub fn blank_drives(&self, world: &mut MemWorld) {
+        for drive in 0..DRIVES {
+            self.blank(world, Device::Drive(DriveId(drive)));
+        }
+        world.forget();
+    }
+
     /// Blanks all devices.
     pub fn blank_all(&self, world: &mut MemWorld) {
         for device in DEVICES {
@@ -304,13 +317,15 @@ pub fn stop(alloc: Global, world: &mut MemWorld, random: &mut Random) -> Result<
     Ok(())
 }
 
-/// Whether some of the input was taken.
-pub fn has_taken(world: &MemWorld) -> bool {
+/// The calls on devices before some of the input was taken, if some was.
+pub fn calls_before_input(world: &MemWorld) -> Option<u64> {
+    let mut count = 0u64;
     for call in world.calls() {
         match call {
-            Call::Take(_) => return true,
-            _ => {}
+            Call::Take(_) => return Some(count),
+            Call::On(_, _) => count = count.saturating_add(1),
+            Call::Give(_) => {}
         }
     }
-    false
+    None
 }

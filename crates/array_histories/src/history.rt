@@ -1,12 +1,12 @@
 // One history.
 use crate::devices::{
-    DRIVES, FAIL_AHEAD, Written, fail, has_taken, let_fail, pull, put_back, stop,
+    FAIL_AHEAD, Written, any_drive, calls_before_input, fail, let_fail, pull, put_back, stop,
 };
 use crate::model::Model;
 use crate::random::Random;
 use crate::request::{Ask, Known, any_ask};
 use array_server::{init, serve};
-use pur_base::{Device, DriveId, NVRAM_DEVICES, NoMemory, NvId, Status};
+use pur_base::{Device, NVRAM_DEVICES, NoMemory, NvId, Status};
 use std::alloc::{AllocFailed, Global};
 use world::Source;
 use world_mem::{Fused, MemWorld};
@@ -55,32 +55,43 @@ impl<T: Drop> From<AllocFailed<T>> for Trouble {
 
 /// The devices that may fail in a history: two drives, and an NVRAM device. They count as missing all along.
 #[derive(Clone, Copy)]
-struct Weak {
-    devices: [Device; 3],
+pub(crate) struct Weak {
+    pub(crate) drives: [Device; 2],
+    pub(crate) nvram: Device,
 }
 
 impl Weak {
     fn new(random: &mut Random) -> Weak {
         Weak {
-            devices: [
-                Device::Drive(DriveId(random.byte_below(DRIVES))),
-                Device::Drive(DriveId(random.byte_below(DRIVES))),
-                Device::Nv(NvId(random.byte_below(NVRAM_DEVICES))),
-            ],
+            drives: [any_drive(random), any_drive(random)],
+            nvram: Device::Nv(NvId(random.byte_below(NVRAM_DEVICES))),
         }
+    }
+
+    fn all(&self) -> [Device; 3] {
+        [self.drives[0], self.drives[1], self.nvram]
     }
 }
 
-/// What a session left.
+/// What a session left, and how much had been given before it.
 #[derive(Drop)]
-struct Left {
-    world: MemWorld,
-    status: Status,
-    stopped: bool,
+pub(crate) struct Left {
+    pub(crate) world: MemWorld,
+    pub(crate) status: Status,
+    pub(crate) stopped: bool,
+    given_before: usize,
+}
+
+impl Left {
+    /// What it gave.
+    pub(crate) fn given(&self) -> &[u8] {
+        self.world.output().get(self.given_before..).unwrap_or(&[])
+    }
 }
 
 /// A session that is stopped after so many calls on devices.
 fn serve_for(alloc: Global, world: MemWorld, calls: u64) -> Left {
+    let given_before = world.output().len();
     let mut fused = Fused::new(world, calls);
     let status = serve(alloc, &mut fused);
     let stopped = fused.blown();
@@ -88,11 +99,13 @@ fn serve_for(alloc: Global, world: MemWorld, calls: u64) -> Left {
         world: fused.into_inner(),
         status,
         stopped,
+        given_before,
     }
 }
 
 /// The making of an array that is stopped after so many calls on devices.
-fn init_for(alloc: Global, world: MemWorld, calls: u64) -> Left {
+pub(crate) fn init_for(alloc: Global, world: MemWorld, calls: u64) -> Left {
+    let given_before = world.output().len();
     let mut fused = Fused::new(world, calls);
     let status = init(alloc, &mut fused);
     let stopped = fused.blown();
@@ -100,6 +113,7 @@ fn init_for(alloc: Global, world: MemWorld, calls: u64) -> Left {
         world: fused.into_inner(),
         status,
         stopped,
+        given_before,
     }
 }
 
@@ -114,13 +128,15 @@ fn take_rest(world: &mut MemWorld) {
     }
 }
 
-/// After how many calls a session is stopped.
-fn calls_until(random: &mut Random) -> u64 {
-    match random.below(8) {
-        0 | 1 => u64::MAX,
-        2 | 3 => random.below(60),
-        4 | 5 => random.below(150),
-        _ => random.below(400),
+/// After how many calls a session is stopped whose opening takes so many: often in its first appends.
+fn calls_until(random: &mut Random, opening: u64) -> u64 {
+    match random.below(12) {
+        0..=2 => u64::MAX,
+        3 | 4 => random.below(60),
+        5 | 6 => random.below(150),
+        7 | 8 => random.below(400),
+        9 | 10 => opening.saturating_add(random.below(10)),
+        _ => opening.saturating_add(random.below(100)),
     }
 }
 
@@ -157,13 +173,18 @@ fn follow(
 /// A history: what may happen in it, and the arrays that may stand.
 #[derive(Drop)]
 pub struct History {
-    alloc: Global,
-    random: Random,
-    weak: Weak,
-    written: Written,
-    arrays: Vec<Model>,
+    pub(crate) alloc: Global,
+    pub(crate) random: Random,
+    pub(crate) weak: Weak,
+    pub(crate) written: Written,
+    pub(crate) arrays: Vec<Model>,
     session: u64,
+    /// The calls on devices of the last opening.
+    opening: u64,
 }
+
+/// The calls of the first opening of a new array.
+const FIRST_OPENING: u64 = 83;
 
 impl History {
     /// The history of that number.
@@ -177,6 +198,7 @@ impl History {
             written: Written::new(),
             arrays: Vec::new(alloc),
             session: 0,
+            opening: FIRST_OPENING,
         }
     }
 
@@ -189,24 +211,45 @@ impl History {
     pub fn run(&mut self, world: MemWorld, told: &mut Told) -> Result<MemWorld, Trouble> {
         let mut world = self.make(world, told)?;
         self.arrays.push(Model::new(self.alloc))?;
+        world = self.begin(world, told)?;
         let most = if self.random.once_in(8) { 40 } else { 8 };
         for _ in 0..self.random.below(5).saturating_add(1) {
             world = self.ask_some(world, most, told)?;
-            if self.random.once_in(2) {
-                world = self.open_only(world, told)?;
-            }
+            world = self.go_on(world, told)?;
             if self.arrays.len() > ARRAYS || self.random.once_in(2) {
                 world = self.look(world, told)?;
             }
         }
         world = self.look(world, told)?;
+        if self.random.once_in(4) {
+            world = self.lose_three(world, told)?;
+        }
         self.written.blank_all(&mut world);
         Ok(world)
     }
 
+    /// What may happen to an array that was just made.
+    fn begin(&mut self, world: MemWorld, told: &mut Told) -> Result<MemWorld, Trouble> {
+        match self.random.below(4) {
+            0 => self.make_over(world, told),
+            1 => self.lose_other(world, told),
+            _ => Ok(world),
+        }
+    }
+
+    /// What may happen behind a session with requests.
+    fn go_on(&mut self, world: MemWorld, told: &mut Told) -> Result<MemWorld, Trouble> {
+        match self.random.below(8) {
+            0..=2 => self.open_only(world, told),
+            3 => self.open_often(world, told),
+            4 => self.leave_out(world, told),
+            _ => Ok(world),
+        }
+    }
+
     /// Lets something happen to some of the devices that may fail.
     fn disturb(&mut self, world: &mut MemWorld, told: &mut Told) -> Result<(), NoMemory> {
-        for device in self.weak.devices {
+        for device in self.weak.all() {
             match self.random.below(12) {
                 0 => pull(world, device),
                 1 | 2 => {
@@ -230,7 +273,7 @@ impl History {
     }
 
     /// A stop, where there was one.
-    fn stop(
+    pub(crate) fn stop(
         &mut self,
         world: MemWorld,
         stopped: bool,
@@ -258,13 +301,14 @@ impl History {
             calls = self.random.below(80);
         }
         if self.random.once_in(8) {
-            fail(&mut world, self.weak.devices[0], self.random.below(12))?;
+            fail(&mut world, self.weak.drives[0], self.random.below(12))?;
             told.failures = told.failures.saturating_add(1);
         }
         let Left {
             world,
             status,
             stopped,
+            ..
         } = init_for(self.alloc, world, calls);
         self.written.note(world.calls());
         if status == Status::Done && !stopped {
@@ -274,7 +318,7 @@ impl History {
             return Err(Trouble::Lost);
         }
         let mut world = self.stop(world, stopped, told)?;
-        let_fail(&mut world, self.weak.devices[0]);
+        let_fail(&mut world, self.weak.drives[0]);
         self.make_again(world)
     }
 
@@ -305,21 +349,18 @@ impl History {
     /// A session on devices that stand for the array of nothing, or that too few of them do.
     fn look_at_nothing(&mut self, world: MemWorld) -> Result<MemWorld, Trouble> {
         let mut world = world;
-        let before = world.output().len();
         world.feed(b"list\n")?;
-        let Left {
-            mut world,
-            status,
-            ..
-        } = serve_for(self.alloc, world, u64::MAX);
-        self.written.note(world.calls());
-        take_rest(&mut world);
-        let given = world.output().get(before..).unwrap_or(&[]);
+        let left = serve_for(self.alloc, world, u64::MAX);
+        let status = left.status;
+        let given = left.given();
         let is_right = match status {
             Status::Done => given == b"names 0\n".as_slice(),
             Status::Halted => given.is_empty(),
             _ => false,
         };
+        let Left { mut world, .. } = left;
+        self.written.note(world.calls());
+        take_rest(&mut world);
         if is_right {
             Ok(world)
         } else {
@@ -327,13 +368,8 @@ impl History {
         }
     }
 
-    /// A session with some requests.
-    fn ask_some(
-        &mut self,
-        world: MemWorld,
-        most: u64,
-        told: &mut Told,
-    ) -> Result<MemWorld, Trouble> {
+    /// Some requests.
+    pub(crate) fn some_asks(&mut self, most: u64) -> Result<Vec<Ask>, NoMemory> {
         let mut known = match self.arrays.first() {
             Some(array) => array.known(self.alloc)?,
             None => Vec::new(self.alloc),
@@ -346,30 +382,61 @@ impl History {
             }
             asks.push(next)?;
         }
-        let calls = calls_until(&mut self.random);
-        self.serve(world, &asks, calls, told)
+        Ok(asks)
     }
 
-    /// A session without requests, which is stopped.
-    fn open_only(&mut self, world: MemWorld, told: &mut Told) -> Result<MemWorld, Trouble> {
-        let calls = self.random.below(120);
-        self.serve(world, &[], calls, told)
-    }
-
-    /// A session that shows the array, and isn't stopped.
-    fn look(&mut self, world: MemWorld, told: &mut Told) -> Result<MemWorld, Trouble> {
+    /// Requests that show the arrays.
+    pub(crate) fn questions(&self) -> Result<Vec<Ask>, NoMemory> {
         let mut asks = Vec::new(self.alloc);
         asks.push(Ask::List)?;
         for array in &self.arrays {
             array.push_questions(&mut asks)?;
         }
+        Ok(asks)
+    }
+
+    /// After how many calls a session is stopped, often in its first appends.
+    pub(crate) fn calls_of_session(&mut self) -> u64 {
+        calls_until(&mut self.random, self.opening)
+    }
+
+    /// After how many calls an opening is stopped, often in its store.
+    pub(crate) fn calls_of_opening(&mut self) -> u64 {
+        if self.random.once_in(2) {
+            self.random.below(120)
+        } else {
+            self.opening.saturating_sub(self.random.below(70))
+        }
+    }
+
+    /// A session with some requests.
+    fn ask_some(
+        &mut self,
+        world: MemWorld,
+        most: u64,
+        told: &mut Told,
+    ) -> Result<MemWorld, Trouble> {
+        let asks = self.some_asks(most)?;
+        let calls = self.calls_of_session();
+        self.serve(world, &asks, calls, told)
+    }
+
+    /// A session without requests, which is stopped.
+    fn open_only(&mut self, world: MemWorld, told: &mut Told) -> Result<MemWorld, Trouble> {
+        let calls = self.calls_of_opening();
+        self.serve(world, &[], calls, told)
+    }
+
+    /// A session that shows the array, and isn't stopped.
+    fn look(&mut self, world: MemWorld, told: &mut Told) -> Result<MemWorld, Trouble> {
+        let asks = self.questions()?;
         let mut unseen = Told::new();
         let world = self.serve(world, &asks, u64::MAX, &mut unseen)?;
         told.failures = told.failures.saturating_add(unseen.failures);
         Ok(world)
     }
 
-    /// A session. The arrays are those that may stand after it.
+    /// A session, before which something may happen to devices.
     fn serve(
         &mut self,
         world: MemWorld,
@@ -377,28 +444,56 @@ impl History {
         calls: u64,
         told: &mut Told,
     ) -> Result<MemWorld, Trouble> {
-        self.session = self.session.saturating_add(1);
         let mut world = world;
         self.disturb(&mut world, told)?;
+        self.serve_quietly(world, asks, calls, told)
+    }
+
+    /// A session. The arrays are those that may stand after it.
+    pub(crate) fn serve_quietly(
+        &mut self,
+        world: MemWorld,
+        asks: &[Ask],
+        calls: u64,
+        told: &mut Told,
+    ) -> Result<MemWorld, Trouble> {
+        let left = self.ask(world, asks, calls)?;
+        self.heed(left, asks, told)
+    }
+
+    /// What is left of a session.
+    pub(crate) fn ask(
+        &mut self,
+        world: MemWorld,
+        asks: &[Ask],
+        calls: u64,
+    ) -> Result<Left, NoMemory> {
+        self.session = self.session.saturating_add(1);
+        let mut world = world;
         let mut input = Vec::new(self.alloc);
         for ask in asks {
             ask.push_to(self.alloc, &mut input)?;
         }
         world.feed(&input)?;
         world.forget();
-        let before = world.output().len();
-        let Left {
-            world,
-            status,
-            stopped,
-        } = serve_for(self.alloc, world, calls);
-        if !stopped && status != Status::Done {
+        Ok(serve_for(self.alloc, world, calls))
+    }
+
+    /// Heeds what a session gave.
+    pub(crate) fn heed(
+        &mut self,
+        left: Left,
+        asks: &[Ask],
+        told: &mut Told,
+    ) -> Result<MemWorld, Trouble> {
+        if !left.stopped && left.status != Status::Done {
             return Err(Trouble::Lost);
         }
-        let taken = has_taken(&world);
-        let given = world.output().get(before..).unwrap_or(&[]);
-        let count = self.judge(asks, given, stopped, taken)?;
+        let opening = calls_before_input(&left.world);
+        self.opening = opening.unwrap_or(self.opening);
+        let count = self.judge(asks, left.given(), left.stopped, opening.is_some())?;
         told.acknowledged = told.acknowledged.saturating_add(count as u64);
+        let Left { world, stopped, .. } = left;
         Ok(self.stop(world, stopped, told)?)
     }
 

@@ -7,6 +7,7 @@ mod history;
 mod model;
 mod random;
 mod request;
+mod scenes;
 mod text;
 
 use crate::devices::{DRIVES, UNITS};
