@@ -36,7 +36,10 @@ use Rattle.nvram_log.specs.Members as nv
 use Rattle.nvram_log.proofs.Lists.{get_either}
 use Rattle.register.specs.declared.state.Register.{Register}
 use Rattle.register.specs.Registers.{OnSlots, drives_of, own_slot, next_slot, named_sound}
-use Rattle.register.specs.Standing.{StandsInLog, MayStore, IsOpen, IsNextOf, GivesOldOrNext}
+use Rattle.register.specs.Standing.{Content, StandsInLog, MayStore, IsOpen, IsNextOf, GivesOldOrNext, unflushed}
+use Rattle.stored_spec.specs.Held.{TablesHold}
+use Rattle.stored_spec.proofs.Next.{same_drives_hold}
+use Rattle.register.proofs.Unflushed.{unflushed_now, unflushed_record}
 use Rattle.session_spec.specs.Entering.{IsStanding}
 use Rattle.array_core.specs.Losing.{lost_since, lost_by}
 use Rattle.array_core.specs.Performing.{IsKeptAt, without_or_with}
@@ -119,9 +122,9 @@ pub record IsAlike (boot other : BootRecord) : Type 0 where
   pub flushed : other.flushed ≡ boot.flushed
   pub fewer : (d : Device) → names other d ≡ true → names boot d ≡ true
 
-pub same_alike : {a : Shelved} (r : Register) {members : List Bool} {cmds : List Command} → IsOpen a r members cmds → (boot : BootRecord) → boot ≡ r.record → IsAlike r.record boot
-same_alike r o boot same = record {
-  patches = subst (λ (b : BootRecord). b.patches ≡ []) (sym same) o.logged.patches;
+pub same_alike : {a : Shelved} (r : Register) {members : List Bool} {cmds : List Command} → IsOpen a r members (unflushed cmds) → r.record.patches ≡ [] → (boot : BootRecord) → boot ≡ r.record → IsAlike r.record boot
+same_alike r o none boot same = record {
+  patches = subst (λ (b : BootRecord). b.patches ≡ []) (sym same) none;
   flushed = ap (λ (b : BootRecord). b.flushed) same;
   fewer = λ d e. subst (λ (b : BootRecord). names b d ≡ true) same e;
 }
@@ -135,7 +138,7 @@ both_not : (b : Bool) → b ≡ true → b ≡ false → ⊥
 both_not b e f = cc (e, f)
 
 -- where no other records may be given, and the devices of the log show commands of forms in force alone, a session can go on
-module _ (a : Shelved) (r : Register) (members : List Bool) (cmds most : List Command) (o : IsOpen a r members cmds) (in_force : AllByRecursion (λ c. is_in_force c.request ≡ true) most) where
+module _ (a : Shelved) (r : Register) (members : List Bool) (cmds most : List Command) (o : IsOpen a r members (unflushed cmds)) (in_force : AllByRecursion (λ c. is_in_force c.request ≡ true) most) where
   there : (n : ℕ) → names r.record (nvram n) ≡ true → (n < 2) × nv.IsMember members n
   there n e = (omega (arith, member_below r.record.members.nvrams n e, o.logged.is_of.lawful.lawful.members.nvram_flags), subst (λ (l : List Bool). nv.IsMember l n) o.nvrams_are e)
 
@@ -171,7 +174,7 @@ kept a boot arrays stop bytes here now agrees borne =
     agreed_standing boot now agrees failed (geometry_of a) stop.image bytes arrays borne (here (named_bears boot now agrees failed (geometry_of a) borne))
 
 -- while nothing is done
-module _ (a : Shelved) (r : Register) (members : List Bool) (cmds : List Command) (o : IsOpen a r members cmds) (in_force : AllByRecursion (λ c. is_in_force c.request ≡ true) cmds) where
+module _ (a : Shelved) (r : Register) (members : List Bool) (cmds : List Command) (o : IsOpen a r members (unflushed cmds)) (in_force : AllByRecursion (λ c. is_in_force c.request ≡ true) cmds) where
   held_now : (stop : Stop) → MayStop a stop → (n i : ℕ) (c : Command) → n < 2 → nv.IsMember members n → ShowsIn (stop.image (nvram n)) r.record.flushed i c → slice_get cmds i ≡ Some c
   held_now stop may n i c lt m shows =
       let bytes : stop.image (nvram n) ≡ (a.disk (nvram n)).bytes = as_read (a.disk (nvram n)) (stop.image (nvram n)) (o.logged.holds.clean n lt m) (may.device (nvram n)) in
@@ -183,7 +186,7 @@ module _ (a : Shelved) (r : Register) (members : List Bool) (cmds : List Command
   open_stands stop may failed borne =
       let within : IsWithin (named_sound r.record) (losing failed (named_sound r.record)) = losing_within failed (named_sound r.record) in
       can_go_on a r members cmds cmds o in_force stop.image failed (held_now stop may)
-      (λ slot boot g. same_alike r o boot (o.alone stop slot boot may (given_with_fewer within g)).1)
+      (λ slot boot g. same_alike r o (unflushed_record a r members (unflushed cmds) o refl stop may) boot (o.alone stop slot boot may (given_with_fewer within g)).1)
       (after_all [] cmds ∷ [])
       (more_may_go_missing (geometry_of a) stop.image (named_sound r.record) (losing failed (named_sound r.record)) (after_all [] cmds ∷ []) within borne (o.stands stop may))
 
@@ -197,7 +200,7 @@ module _ (a : Shelved) (r : Register) (members : List Bool) (cmds : List Command
       }))
 
 -- an NVRAM device holds the log
-pub some_member : {a : Shelved} (r : Register) (members : List Bool) {cmds : List Command} → IsOpen a r members cmds → nv.IsSome members
+pub some_member : {a : Shelved} (r : Register) (members : List Bool) {cmds : List Command} → IsOpen a r members (unflushed cmds) → nv.IsSome members
 some_member r members o = elim (one_left (named_sound r.record (nvram 0)) (named_sound r.record (nvram 1)) o.bearable.nvrams) [
   | inl s ↦ inl (subst (λ (l : List Bool). nv.IsMember l 0) o.nvrams_are (by.is_named (names r.record (nvram 0)) s))
   | inr s ↦ inr (subst (λ (l : List Bool). nv.IsMember l 1) o.nvrams_are (by.is_named (names r.record (nvram 1)) s))
@@ -214,7 +217,8 @@ pub record IsAppending (a m : Shelved) (r : Register) (members now : List Bool) 
   pub is_mid : IsShelf m
   pub honest : a.honest
   pub on : Continues a m
-  pub was_open : IsOpen a r members cmds
+  pub was_open : IsOpen a r members (unflushed cmds)
+  pub none : r.record.patches ≡ []
   pub not_spent : r.record.generation < 2 ^ 48 - 8
   pub same : (i : ℕ) → m.disk (drive i) ≡ a.disk (drive i)
   pub fewer : nv.IsFewer members now
@@ -276,10 +280,10 @@ module _ (a m : Shelved) (r : Register) (members now : List Bool) (cmds : List C
       let within = losing_within failed (named_sound r.record) in
       let drive_is : (i : ℕ) → IsMember (drives_of r) i → stop.image (drive i) ≡ (a.disk (drive i)).bytes = λ i mem. drive_left i mem (stop.image (drive i)) (nothing_else (λ k w. w) (both.1.bytes (drive i))) in
       can_go_on a r members cmds most p.was_open p.in_force stop.image failed (λ n i d lt mem x. (both.0 n lt mem).no_other i d x)
-      (λ slot boot g. same_alike r p.was_open boot (by.alone a p.is r members cmds p.was_open stop.image later within bears drive_is slot boot g).1)
+      (λ slot boot g. same_alike r p.was_open p.none boot (by.alone a p.is r members cmds p.was_open p.none stop.image later within bears drive_is slot boot g).1)
       arrays
-      (by.stands a p.is r members cmds p.was_open stop.image later within bears drive_is cmds most arrays p.not_spent p.accepted (c ∷ [], refl) p.room spelled_all
-      (λ n i d lt s at. (both.0 n lt (by.member_of a p.is r members cmds p.was_open stop.image later within bears drive_is n s)).all i d at)
+      (by.stands a p.is r members cmds p.was_open p.none stop.image later within bears drive_is cmds most arrays p.not_spent p.accepted (c ∷ [], refl) p.room spelled_all
+      (λ n i d lt s at. (both.0 n lt (by.member_of a p.is r members cmds p.was_open p.none stop.image later within bears drive_is n s)).all i d at)
       (λ n i d lt mem x. (both.0 n lt mem).no_other i d x)
       (λ e. cc e) fronts)
 
@@ -288,14 +292,35 @@ module _ (a m : Shelved) (r : Register) (members now : List Bool) (cmds : List C
 
   -- ---- afterwards
 
+  -- the drives, of which none was written, with the NVRAM devices as they were
+  module _ (start : Stop) (may : MayStop m start) where
+    drives_of_it : Image
+    drives_of_it (Drive d) = start.image (Drive d)
+    drives_of_it (Nv n) = (a.disk (Nv n)).bytes
+
+    before_it : Stop
+    before_it = record { image = drives_of_it; faults = λ d. (a.disk d).faults; write_faults = λ d. (a.disk d).write_faults; output = a.output; taken = a.taken }
+
+    may_before : MayStop a before_it
+    unfolding before_it drives_of_it
+    may_before = record { device = each; counts = record { faults = λ d. omega arith; write_faults = λ d. omega arith }; output = refl; taken = refl }
+      where
+        each : (d : Device) → MayLeave (a.disk d) (drives_of_it d)
+        each (Drive d) = subst (λ (k : Disk). MayLeave k (start.image (Drive d))) (p.same d.0) (may.device (Drive d))
+        each (Nv n) = record { size = refl; is_byte = p.is.bytes p.honest (Nv n); clean = λ i clean. refl }
+
+    held_still : TablesHold (geometry_of a) start.image (own_slot r.record) r.record [] []
+    unfolding before_it drives_of_it
+    held_still = same_drives_hold (geometry_of a) before_it.image start.image (own_slot r.record) r.record [] [] (λ i. refl) (p.was_open.logged.tables before_it may_before)
+
   module _ (holds : HoldsOn m now r.record.flushed most) (some_now : nv.IsSome now) where
-    pub logged : StandsInLog m r now most
+    pub logged : StandsInLog m r now (unflushed most)
     logged = record {
       is_of = record {
         lawful = subst (λ (g : Geometry). IsRecordOf g r.record) (same_geometry p.on) p.was_open.logged.is_of.lawful;
         named = p.was_open.logged.is_of.named;
       };
-      patches = p.was_open.logged.patches;
+      tables = λ start may. subst (λ (g : Geometry). TablesHold g start.image (own_slot r.record) r.record [] []) (same_geometry p.on) (held_still start may);
       bodies = λ i mem. subst (λ (d : Disk). body_in (own_slot r.record) d.bytes ≡ spelling r.record) (sym (p.same i)) (p.was_open.logged.bodies i mem);
       holds = holds;
       accepted = p.accepted;
@@ -314,11 +339,11 @@ module _ (a m : Shelved) (r : Register) (members now : List Bool) (cmds : List C
 
         given_then : MayBeGiven (geometry_of m) stop.image later (own_slot r.record) r.record
         given_then = subst (λ (g : Geometry). MayBeGiven g stop.image later (own_slot r.record) r.record) (same_geometry p.on)
-            (by.given a p.is r members cmds p.was_open stop.image later within bears drive_is)
+            (by.given a p.is r members cmds p.was_open p.none stop.image later within bears drive_is)
 
         alone_then : (slot2 : BootSlot) (boot2 : BootRecord) → MayBeGiven (geometry_of m) stop.image later slot2 boot2 → (slot2 ≡ own_slot r.record) × (boot2 ≡ r.record)
         alone_then slot2 boot2 g =
-            by.alone a p.is r members cmds p.was_open stop.image later within bears drive_is slot2 boot2
+            by.alone a p.is r members cmds p.was_open p.none stop.image later within bears drive_is slot2 boot2
             (subst (λ (k : Geometry). MayBeGiven k stop.image later slot2 boot2) (sym (same_geometry p.on)) g)
 
         shown : (n : ℕ) → n < 2 → later (nvram n) ≡ Sound → (i : ℕ) (d : Command) → slice_get most i ≡ Some d → ShowsIn (stop.image (nvram n)) r.record.flushed i d
@@ -330,7 +355,7 @@ module _ (a m : Shelved) (r : Register) (members now : List Bool) (cmds : List C
         stands_then others some has =
             let moment = p.left.each stop (p.is_mid.counts_now a.moment stop p.on.later may) in
             subst (λ (g : Geometry). Stands g stop.image later others) (same_geometry p.on)
-            (by.stands a p.is r members cmds p.was_open stop.image later within bears drive_is most most others p.not_spent p.accepted ([], sym (append-nil most)) p.room spelled_all
+            (by.stands a p.is r members cmds p.was_open p.none stop.image later within bears drive_is most most others p.not_spent p.accepted ([], sym (append-nil most)) p.room spelled_all
             (λ n i d lt s at. shown n lt s i d at)
             (λ n i d lt mem x. (moment.1 n lt mem).no_other i d x)
             some (λ n low high. subst (λ (l : List Command). Contains others (after_all [] l)) (sym (take_all n most low)) has))
@@ -347,7 +372,7 @@ module _ (a m : Shelved) (r : Register) (members now : List Bool) (cmds : List C
           }
 
     -- no member failed
-    pub still_open : r.record.members.nvrams ≡ now → IsOpen m r now most
+    pub still_open : r.record.members.nvrams ≡ now → IsOpen m r now (unflushed most)
     still_open named =
         let within = as_it_is (named_sound r.record) in
         let bears = p.was_open.bearable in
@@ -387,7 +412,7 @@ module _ (a m : Shelved) (r : Register) (members now : List Bool) (cmds : List C
           let named : names r.record (nvram n) ≡ true = subst (λ (l : List Bool). nv.IsMember l n) (sym p.was_open.nvrams_are) (p.fewer n mem) in
           absurd (cc (named, by.is_left (names r.record (nvram n)) was))
 
-      may_store : MayStore m r now (lost_since a m (named_sound r.record)) most arrays
+      may_store : MayStore m r now (lost_since a m (named_sound r.record)) (unflushed most) arrays
       may_store = record {
         logged = logged;
         in_force = in_force lost lost_within bears still_member;
@@ -395,11 +420,12 @@ module _ (a m : Shelved) (r : Register) (members now : List Bool) (cmds : List C
         one_of = second;
         sound = still_member;
         left_out = left_out_not;
+        unnamed = λ i out. by.is_left (names r.record (drive i)) (left_out_since (has_risen (a.disk (drive i)).write_faults (m.disk (drive i)).write_faults) (named_sound r.record (drive i)) out);
       }
 
       next_alike : (boot : BootRecord) → IsNextOf r now boot → IsAlike r.record boot
       next_alike boot next = record {
-        patches = ap (λ (b : BootRecord). b.patches) next.later.rest ∙ p.was_open.logged.patches;
+        patches = ap (λ (b : BootRecord). b.patches) next.later.rest ∙ p.none;
         flushed = ap (λ (b : BootRecord). b.flushed) next.later.rest;
         fewer = λ d e. fewer_named d e;
       }
@@ -435,18 +461,18 @@ module _ (a m : Shelved) (r : Register) (members now : List Bool) (cmds : List C
             } in
             can_go_on a r members cmds most p.was_open p.in_force stop.image failed (λ n i d lt mem x. (still_between stop both.1 n lt mem).no_other i d x)
             (λ slot boot g. elim (both.0.1 later account slot boot (subst (λ (k : Geometry). MayBeGiven k stop.image later slot boot) (same_geometry p.on) g)) [
-              | inl was ↦ same_alike r p.was_open boot (alone_then lost lost_within bears still_member was.start was.may slot boot was.given).1
+              | inl was ↦ same_alike r p.was_open p.none boot (alone_then lost lost_within bears still_member was.start was.may slot boot was.given).1
               | inr next ↦ next_alike boot next
             ])
             arrays
             (subst (λ (g : Geometry). Stands g stop.image later arrays) (sym (same_geometry p.on)) (both.0.0 later account))
 
     module _ (n : Shelved) {W : Device → ℕ → Type 0} (off : (k i : ℕ) → W (nvram k) i → ⊥) (writes : WritesOnly W m n)
-        (storing : (missing : Conditions) (log : List Command) (others : List Array) → MayStore m r now missing log others → LeavesOnly m n (StandsBut m (drives_of r) missing (next_slot r.record) r.record others))
-        (giving : (missing : Conditions) (log : List Command) (others : List Array) → MayStore m r now missing log others → LeavesOnly m n (GivesOldOrNext m r now missing)) where
+        (storing : (missing : Conditions) (held : Content) (others : List Array) → MayStore m r now missing held others → LeavesOnly m n (StandsBut m (drives_of r) missing (next_slot r.record) r.record others))
+        (giving : (missing : Conditions) (held : Content) (others : List Array) → MayStore m r now missing held others → LeavesOnly m n (GivesOldOrNext m r now missing)) where
       store_moments : LeavesOnly m n (IsKeptAt a r.record arrays)
       store_moments = elim (bearable_or_not (geometry_of a) (lost_since a m (named_sound r.record))) [
-        | inl bears ↦ weaker (λ stop both. kept a r.record arrays stop (λ d. (both.1.bytes d).is_byte) (while_storing bears off stop both)) (both_leave (both_leave (storing lost most arrays (may_store bears)) (giving lost most arrays (may_store bears))) writes.any_moment)
+        | inl bears ↦ weaker (λ stop both. kept a r.record arrays stop (λ d. (both.1.bytes d).is_byte) (while_storing bears off stop both)) (both_leave (both_leave (storing lost (unflushed most) arrays (may_store bears)) (giving lost (unflushed most) arrays (may_store bears))) writes.any_moment)
         | inr not ↦ weaker (λ stop left now agrees borne.
             let named = named_bears r.record now agrees (λ d. has_risen (a.disk d).write_faults (stop.write_faults d)) (geometry_of a) borne in
             absurd (not (fewer_borne (geometry_of a) lost (lost_by a stop (named_sound r.record)) (by_stop a m stop (named_sound r.record) left.counts) named))) writes.any_moment
@@ -456,7 +482,7 @@ module _ (a m : Shelved) (r : Register) (members now : List Bool) (cmds : List C
       all_moments = then_run p.on append_moments store_moments
 
 -- what the calls say of a command that is appended
-pub appending : (a m : Shelved) (r : Register) (log : NvLog) (now : List Bool) (cmds : List Command) (c : Command) → IsShelf a → IsShelf m → a.honest → Continues a m → IsOpen a r log.members cmds → Keeps log cmds
+pub appending : (a m : Shelved) (r : Register) (log : NvLog) (now : List Bool) (cmds : List Command) (c : Command) → IsShelf a → IsShelf m → a.honest → Continues a m → IsOpen a r log.members (unflushed cmds) → Keeps log cmds
     → r.record.generation < 2 ^ 48 - 2 ^ 24 → log.count < 64 → log.flushed ≡ r.record.flushed → AllAccepted [] (cmds ++ c ∷ []) → ((i : ℕ) → m.disk (drive i) ≡ a.disk (drive i)) → nv.IsFewer log.members now → nv.DroppedFailed a m log.members now
     → LeavesOnly a m (LeavesBetween log.members log.flushed cmds (cmds ++ c ∷ [])) → WritesOnly (nv.OnMembers log.members) a m → HasSpelling (log.flushed + 1 + (log.count + 0)) c → AllByRecursion (λ x. is_in_force x.request ≡ true) (cmds ++ c ∷ []) → IsAppending a m r log.members now cmds c
 appending a m r log now cmds c is is_mid h on o keeps low free flushed accepted same fewer dropped left writes spelled in_force = record {
@@ -465,6 +491,7 @@ appending a m r log now cmds c is is_mid h on o keeps low free flushed accepted 
   honest = h;
   on = on;
   was_open = o;
+  none = unflushed_now a r log.members (unflushed cmds) is h o refl;
   not_spent = omega (arith, low);
   same = same;
   fewer = fewer;
@@ -480,5 +507,5 @@ appending a m r log now cmds c is is_mid h on o keeps low free flushed accepted 
 }
 
 -- the log that was held before it is appended to
-pub was_held : {a : Shelved} (r : Register) (log : NvLog) {cmds : List Command} → log.flushed ≡ r.record.flushed → IsOpen a r log.members cmds → HoldsOn a log.members log.flushed cmds
+pub was_held : {a : Shelved} (r : Register) (log : NvLog) {cmds : List Command} → log.flushed ≡ r.record.flushed → IsOpen a r log.members (unflushed cmds) → HoldsOn a log.members log.flushed cmds
 was_held {a} r log {cmds} flushed o = subst (λ (f : ℕ). HoldsOn a log.members f cmds) (sym flushed) o.logged.holds

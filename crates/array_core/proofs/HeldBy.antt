@@ -29,7 +29,7 @@ use Rattle.boot_region.proofs.ShownLemmas.{shown_body}
 use Rattle.nvram_log.specs.Members as nv
 use Rattle.register.specs.declared.state.Register.{Register}
 use Rattle.register.specs.Registers.{drives_of, own_slot, next_slot, named_sound}
-use Rattle.register.specs.Standing.{IsOpen}
+use Rattle.register.specs.Standing.{IsOpen, unflushed}
 use Rattle.register.proofs.FlagLemmas.{in_cut}
 use Rattle.register.proofs.Follows.{left_before}
 use Rattle.register.proofs.Resting.{yields_or}
@@ -58,10 +58,10 @@ named_is true e = refl
 named_is false e = absurd (cc e)
 
 -- a drive on which the record is in force is sound
-pub force_sound : {shelf : Shelved} (r : Register) {nvrams : List Bool} {log : List Command} → IsOpen shelf r nvrams log → (i : ℕ) → IsMember (drives_of r) i → named_sound r.record (drive i) ≡ Sound
+pub force_sound : {shelf : Shelved} (r : Register) {nvrams : List Bool} {log : List Command} → IsOpen shelf r nvrams (unflushed log) → (i : ℕ) → IsMember (drives_of r) i → named_sound r.record (drive i) ≡ Sound
 force_sound r o i m = named_is (names r.record (drive i)) (o.logged.is_of.named i (in_cut r.drives r.record.slots i m))
 
-module _ (shelf : Shelved) (is : IsShelf shelf) (r : Register) (nvrams : List Bool) (log : List Command) (o : IsOpen shelf r nvrams log) (image : Image) (later : Conditions)
+module _ (shelf : Shelved) (is : IsShelf shelf) (r : Register) (nvrams : List Bool) (log : List Command) (o : IsOpen shelf r nvrams (unflushed log)) (none : r.record.patches ≡ []) (image : Image) (later : Conditions)
     (within : IsWithin (named_sound r.record) later) (bears : IsBearable (geometry_of shelf) later)
     (drive_is : (i : ℕ) → IsMember (drives_of r) i → image (drive i) ≡ (shelf.disk (drive i)).bytes) where
   was_sound : (d : Device) → later d ≡ Sound → named_sound r.record d ≡ Sound
@@ -164,4 +164,4 @@ module _ (shelf : Shelved) (is : IsShelf shelf) (r : Register) (nvrams : List Bo
     pub stands : Stands (geometry_of shelf) image later arrays
     stands = held_stands (geometry_of shelf) image later (own_slot r.record) r.record arrays is.drives.0 bears some o.logged.is_of.lawful held
         (unflushed_is_read (geometry_of shelf) image later (own_slot r.record) r.record least most arrays
-        o.logged.is_of.lawful o.logged.patches (record { in_its_slot = refl; not_spent = not_spent }) names_sound accepted lies fronts).0
+        o.logged.is_of.lawful none (record { in_its_slot = refl; not_spent = not_spent }) names_sound accepted lies fronts).0

@@ -21,7 +21,7 @@ use Rattle.register.specs.declared.next.StoreFault.{StoreFault}
 use Rattle.register.specs.declared.next.StoreFault.TheVariants.{Spent, TooFew}
 use Rattle.register.specs.Faults.{IsFaultOf}
 use Rattle.register.specs.Registers.{IsRegisterOf, IsLaterRecord, drives_of, named_sound}
-use Rattle.register.specs.Standing.{IsOpen}
+use Rattle.register.specs.Standing.{IsOpen, unflushed}
 use Rattle.register.proofs.FlagLemmas.{fewer_count, in_cut}
 use Rattle.array_core.specs.declared.array.Array.{Array}
 use Rattle.array_core.specs.Losing.{lost_since}
@@ -77,7 +77,7 @@ few_lack shelf missing flags bears sound =
     ]
 
 -- what is lost isn't borne
-module _ (old new : Shelved) (a : Array) (commands : List Command) (o : IsOpen old a.register a.log.members commands) (bears : IsBearable (geometry_of old) (lost_since old new (named_sound a.register.record))) where
+module _ (old new : Shelved) (a : Array) (commands : List Command) (o : IsOpen old a.register a.log.members (unflushed commands)) (bears : IsBearable (geometry_of old) (lost_since old new (named_sound a.register.record))) where
   abbrev missing : Conditions
   missing = lost_since old new (named_sound a.register.record)
 

@@ -21,7 +21,8 @@ use Rattle.nvram_log.specs.Held.{Keeps}
 use Rattle.nvram_log.specs.Members as nv
 use Rattle.register.specs.declared.state.Register.{Register}
 use Rattle.register.specs.Registers.{drives_of, named_sound}
-use Rattle.register.specs.Standing.{IsOpen}
+use Rattle.register.specs.Standing.{IsOpen, unflushed}
+use Rattle.register.proofs.Unflushed.{unflushed_record}
 use Rattle.register.proofs.FlagLemmas.{in_cut, cut_in, none_past}
 use Rattle.session_spec.specs.Entering.{IsStanding, LeftOutAreNamedByNone, AreRead}
 use Rattle.array_core.specs.declared.array.Array.{Array}
@@ -37,7 +38,7 @@ module _ (shelf : Shelved) (a : Array) (commands : List Command) (ready : IsRead
   abbrev r : Register
   r = a.register
 
-  abbrev o : IsOpen shelf r a.log.members commands
+  abbrev o : IsOpen shelf r a.log.members (unflushed commands)
   o = ready.is_open
 
   -- a drive of the record is one of the array
@@ -90,7 +91,7 @@ module _ (shelf : Shelved) (a : Array) (commands : List Command) (ready : IsRead
 
     read : AreRead (geometry_of shelf) stop.image (named_sound r.record)
     read = record {
-      unflushed = λ slot boot g. subst (λ (b : BootRecord). b.patches ≡ []) (sym (o.alone stop slot boot may g).1) o.logged.patches;
+      unflushed = λ slot boot g. subst (λ (b : BootRecord). b.patches ≡ []) (sym (o.alone stop slot boot may g).1) (unflushed_record shelf r a.log.members (unflushed commands) o refl stop may);
       in_force = λ slot boot g n i c e shows.
           let same = (o.alone stop slot boot may g).1 in
           logged_in_force n i c (subst (λ (b : BootRecord). names b (nvram n) ≡ true) same e) (subst (λ (b : BootRecord). ShowsIn (stop.image (nvram n)) b.flushed i c) same shows);
@@ -139,6 +140,6 @@ agrees_after old new was now commands more ready ready_now drops none conditions
         unnamed (names now.register.record d) (names was.register.record d) (named_before old was commands ready now none d) (agrees.left_out d before)
 
 -- an opening makes a ready array
-pub made_ready : (shelf : Shelved) (a : Array) (commands : List Command) → IsOpen shelf a.register a.log.members commands → Keeps a.log commands → a.log.flushed ≡ a.register.record.flushed
+pub made_ready : (shelf : Shelved) (a : Array) (commands : List Command) → IsOpen shelf a.register a.log.members (unflushed commands) → Keeps a.log commands → a.log.flushed ≡ a.register.record.flushed
     → a.plain ≡ after_all [] commands → nv.IsSome a.log.members → AllByRecursion (λ c. is_in_force c.request ≡ true) commands → IsReady shelf a commands
 made_ready shelf a commands o keeps flushed plain some in_force = record { is_open = o; keeps = keeps; flushed = flushed; plain = plain; some = some; in_force = in_force }

@@ -17,7 +17,7 @@ use world::Shelf;
 
 impl Array {
     ghost use Rattle.nvram_log.specs.Held.{Keeps};
-    ghost use Rattle.register.specs.Standing.{IsOpen};
+    ghost use Rattle.register.specs.Standing.{IsOpen, unflushed};
     ghost use Rattle.array_core.specs.declared.perform.PerformFault.TheVariants.{Device};
     ghost use Rattle.array_core.specs.Ready.{IsArrayOf};
     ghost use Rattle.array_core.specs.Holding.{DropsFailed, NoneJoins};
@@ -46,11 +46,11 @@ impl Array {
         ensures generation { OnOk result (MayRise (λ d. has_risen ((S.shelf shelf.old).disk d).write_faults ((S.shelf shelf.new).disk d).write_faults) self.old.register.record.generation self.new.register.record.generation) }
         ensures dropped { OnOk result (DropsFailed (S.shelf shelf.old) (S.shelf shelf.new) self.old self.new × NoneJoins self.old self.new) }
         ensures keeps { OnOk result ((commands : List Command) → Keeps self.old.log commands → Keeps self.new.log (commands ++ record { request = request.now; sectors = sectors.now } ∷ [])) }
-        ensures held { (S.shelf shelf.old).honest → OnOk result ((commands : List Command) → IsOpen (S.shelf shelf.old) self.old.register self.old.log.members commands → Keeps self.old.log commands
+        ensures held { (S.shelf shelf.old).honest → OnOk result ((commands : List Command) → IsOpen (S.shelf shelf.old) self.old.register self.old.log.members (unflushed commands) → Keeps self.old.log commands
             → AllAccepted [] (commands ++ record { request = request.now; sectors = sectors.now } ∷ [])
             → AllByRecursion (λ c. is_in_force c.request ≡ true) (commands ++ record { request = request.now; sectors = sectors.now } ∷ [])
-            → IsOpen (S.shelf shelf.new) self.new.register self.new.log.members (commands ++ record { request = request.now; sectors = sectors.now } ∷ [])) }
-        ensures any_moment { (S.shelf shelf.old).honest → (commands : List Command) → IsOpen (S.shelf shelf.old) self.old.register self.old.log.members commands → Keeps self.old.log commands
+            → IsOpen (S.shelf shelf.new) self.new.register self.new.log.members (unflushed (commands ++ record { request = request.now; sectors = sectors.now } ∷ []))) }
+        ensures any_moment { (S.shelf shelf.old).honest → (commands : List Command) → IsOpen (S.shelf shelf.old) self.old.register self.old.log.members (unflushed commands) → Keeps self.old.log commands
             → AllAccepted [] (commands ++ record { request = request.now; sectors = sectors.now } ∷ [])
             → AllByRecursion (λ c. is_in_force c.request ≡ true) (commands ++ record { request = request.now; sectors = sectors.now } ∷ [])
             → LeavesOnly (S.shelf shelf.old) (S.shelf shelf.new) (IsKeptAt (S.shelf shelf.old) self.old.register.record (without_or_with commands (record { request = request.now; sectors = sectors.now }))) }

@@ -1,23 +1,22 @@
 -- What is said of an array that was made.
-use Rattle.std.proofs.Common.{◌≡◌, ℕ, List, [], ◌∷◌, ◌++◌, ◌<◌, ◌≤◌, length, Bool, Err, refl, sym, ap, subst, ◌∙◌}
+use Rattle.std.proofs.Common.{◌≡◌, ℕ, List, [], ◌∷◌, ◌++◌, ◌≤◌, Err, refl, sym, ap, subst, ◌∙◌}
 use Rattle.std.proofs.lemmas.List.{append-nil}
 use Rattle.pur_base.specs.declared.reply.Reply.TheVariants as reply
 use Rattle.pur_base.specs.declared.reply.Status.{Status}
 use Rattle.pur_base.specs.declared.reply.Status.TheVariants as status
 use Rattle.pur_base.specs.Replies.{line_text, sectors_text}
 use Rattle.request_codec.specs.Writing.{Gave}
-use Rattle.pur_base.specs.declared.device.Device.{Device}
 use Rattle.pur_base.specs.Devices.{Geometry, IsBearable}
 use Rattle.array_spec.specs.Standing.{Stands}
 use Rattle.world.specs.Losing.{geometry_of}
-use Rattle.world.specs.Shelf.{Shelved, Disk, Stop, MayStop, MayLeave, Continues, OutputOnly}
+use Rattle.world.specs.Shelf.{Shelved, Disk, Stop, MayStop, MayLeave, OutputOnly}
 use Rattle.world.specs.Streams.{Streamed, SameStream}
 use Rattle.boot_region.specs.Regions.{CountsStay}
 use Rattle.session_spec.specs.Ends.{RisesIf, is_sink}
 use Rattle.session_spec.specs.Entering.{LeftOutAreNamedByNone, AreRead, HasRoom}
-use Rattle.session_spec.specs.Making.{none_missing, AreClean, AreSame, IsMade, Makes, MakesBy, ShowsBody}
+use Rattle.session_spec.specs.Making.{none_missing, AreClean, IsMade, Makes, MakesBy, ShowsBody}
 use Rattle.shelf_init.specs.Blank.{GivesBody, IsBlank}
-use Rattle.shelf_init.specs.Counted.{NoneFailed, OneFailed}
+use Rattle.shelf_init.specs.Counted.{NoneFailed}
 use Rattle.array_server.specs.Made.{IsCountedEnd, IsJudgedEnd, IsMadeOutput, IsMadeEnd, IsInitStatus}
 
 pub said : (before after : List ℕ) → after ≡ before ++ (line_text reply.Done ++ sectors_text []) → IsMadeOutput status.Done before after

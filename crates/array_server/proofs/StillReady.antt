@@ -30,7 +30,7 @@ module _ (was now : Shelved) (a : Array) (commands : List Command) where
         is_open = record {
           logged = record {
             is_of = l.is_of;
-            patches = l.patches;
+            tables = λ start may. l.tables (like start) (may_moved start may);
             bodies = l.bodies;
             holds = record { log = l.holds.log; clean = l.holds.clean };
             accepted = l.accepted;

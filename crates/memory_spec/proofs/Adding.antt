@@ -1,5 +1,5 @@
 -- The newest fact of a key, when newer facts are added in any order.
-use Rattle.std.proofs.Common.{◌≡◌, ◌≢◌, ◌⊎◌, ◌↔◌, ℕ, ◌<◌, ◌≤◌, true, false, List, ◌++◌, ◌∙◌, refl, sym, ap, arith, inl, inr, Option, Some, None, IfSome, Contains, eq-eqb, ne_eqb, eqb-true}
+use Rattle.std.proofs.Common.{◌≡◌, ◌⊎◌, ◌↔◌, ℕ, ◌<◌, true, false, List, ◌++◌, ◌∙◌, ap, arith, inl, inr, Some, None, IfSome, Contains, eq-eqb, ne_eqb, eqb-true}
 use Rattle.std.proofs.lemmas.List.Elements.{Contains-append_left, Contains-append_right, Contains-append_cases}
 use Rattle.pur_base.specs.Says.{has_key}
 use Rattle.pyramid.specs.Layers.{newest_of, AreDistinct}
@@ -7,7 +7,6 @@ use Rattle.pyramid.specs.Merging.{later}
 use Rattle.pyramid.proofs.NewestLemmas.{newest-append, newest_none, newest_found, later_none}
 use Rattle.pyramid.proofs.SetLemmas.{same_newest, newest_over}
 use Rattle.pyramid.proofs.LayerLemmas.{all_contained, all_below, later_below}
-use Rattle.memory_spec.proofs.Lists.{same_some}
 
 module _ {F : Type 0} (key number : F → ℕ) where
   -- the only fact of a key is its newest

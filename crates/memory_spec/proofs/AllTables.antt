@@ -1,5 +1,5 @@
 -- The facts of all tables.
-use Rattle.std.proofs.Common.{◌≡◌, ◌⊎◌, ◌<◌, ◌≤◌, ℕ, List, ◌++◌, map, sym, arith, inl, inr, subst, Contains}
+use Rattle.std.proofs.Common.{◌≡◌, ◌⊎◌, ◌<◌, ◌≤◌, List, ◌++◌, map, sym, arith, inl, inr, subst, Contains}
 use Rattle.std.proofs.lemmas.List.Elements.{Contains-append_left, Contains-append_right, Contains-append_cases}
 use Rattle.pur_base.specs.Facts.{Facts, any_number}
 use Rattle.pur_base.specs.declared.facts.ObjectFact.{ObjectFact}

@@ -1,26 +1,23 @@
 -- Memory stays sound when a volume is created, and reads as the array with one more volume.
-use Rattle.std.proofs.Common.{◌≡◌, ◌≢◌, ◌⊎◌, ◌↔◌, ℕ, zero, suc, ◌+◌, ◌*◌, ◌^◌, ◌<◌, ◌≤◌, Bool, true, false, List, [], ◌∷◌, ◌++◌, length, refl, sym, ap, ◌∙◌, arith, inl, inr, subst, Option, Some, None, is_some, IsSome, IsTrue, Contains, AllPairs, get_or, replicate, option_and_then, if◌then◌else◌, cond, ◌==◌, ◌&&◌, nat_le, length-append, eq-eqb, ne_eqb, eqb-true, leb-true, find}
-use Rattle.std.specs.List.{AllByRecursion, AllZip, list_any}
+use Rattle.std.proofs.Common.{◌≡◌, ◌≢◌, ◌⊎◌, ℕ, ◌+◌, ◌^◌, ◌<◌, ◌≤◌, Bool, true, false, List, [], ◌∷◌, ◌++◌, length, refl, sym, ap, ◌∙◌, arith, inl, inr, subst, Option, Some, None, is_some, Contains, AllPairs, get_or, replicate, option_and_then, if◌then◌else◌, cond, ◌==◌, ◌&&◌, nat_le, length-append, eq-eqb, ne_eqb, eqb-true, leb-true, find}
+use Rattle.std.specs.List.{AllByRecursion, AllZip}
 use Rattle.std.proofs.lemmas.Bool.{cases_eq, and_parts, both_ways}
 use Rattle.std.proofs.lemmas.List.Elements.{Contains-get_or, Contains-push_cases}
 use Rattle.std.proofs.lemmas.List.Folds.{list_any_none}
 use Rattle.std.proofs.lemmas.List.Quantifiers.{all_pairs_push}
 use Rattle.std.proofs.lemmas.Slice.Eq.{bytes_eq-Decides}
 use Rattle.pur_base.specs.Sectors.{filled}
-use Rattle.pur_base.specs.Names.{is_name}
-use Rattle.pur_base.specs.Plain.{Entry, Array, has, is_named, appended}
+use Rattle.pur_base.specs.Plain.{Array, has, is_named, appended}
 use Rattle.pur_base.specs.Facts.{Facts, any_number, object_key, never}
 use Rattle.pur_base.specs.Keys.{key_of, id_of}
 use Rattle.pur_base.specs.Says.{unless_empty}
 use Rattle.pur_base.specs.Tags.{tag_of}
-use Rattle.pur_base.specs.Visible.{objects, object, range, address, segment, elides, is_elided}
+use Rattle.pur_base.specs.Visible.{objects, object, range, address, elides, is_elided}
 use Rattle.pur_base.specs.Mediums.{IsOver}
 use Rattle.pur_base.specs.declared.limits.TheConstants.{OBJECTS, OBJECT_SECTORS}
 use Rattle.pur_base.specs.declared.request.Table.{Table}
 use Rattle.pur_base.specs.declared.request.Table.TheVariants as table
 use Rattle.pur_base.specs.declared.place.Location.{Location}
-use Rattle.pur_base.specs.declared.facts.Target.TheVariants.{Stored}
-use Rattle.pur_base.specs.declared.facts.ObjectKind.TheVariants.{Volume}
 use Rattle.pur_base.specs.declared.facts.ObjectFact.{ObjectFact}
 use Rattle.pur_base.specs.declared.facts.MediumFact.{MediumFact}
 use Rattle.pur_base.specs.declared.facts.AddressFact.{AddressFact}
@@ -30,11 +27,10 @@ use Rattle.pur_base.specs.declared.facts.AnyFact.{AnyFact}
 use Rattle.pur_base.specs.declared.facts.AnyFact.TheVariants as any
 use Rattle.boot_codec.specs.declared.record.NextNumbers.{NextNumbers}
 use Rattle.boot_codec.specs.Record.{AreNext}
-use Rattle.fact_codec.specs.declared.limits.TheConstants.{NUMBER_LIMIT}
-use Rattle.fact_codec.specs.Fact.{IsFact, LeadsNowhere, LeadsDown}
+use Rattle.fact_codec.specs.Fact.{IsFact}
 use Rattle.array_spec.specs.Sound.{AreIdsBelow, AreObjectsSound, AreMediumsSound, AreElisionsSound, OwnsMedium, next_id}
 use Rattle.pyramid.specs.Layers.{AreDistinct, newest_of}
-use Rattle.pyramid.proofs.ContainsLemmas.{here, there, either, nowhere}
+use Rattle.pyramid.proofs.ContainsLemmas.{here, either, nowhere}
 use Rattle.pyramid.proofs.DistinctLemmas.{one_more}
 use Rattle.pyramid.proofs.KeyLemmas.{id_of_key}
 use Rattle.pyramid.proofs.LayerLemmas.{all_contained}
@@ -43,7 +39,7 @@ use Rattle.memory_spec.specs.Memory.{Memory, Contents, EntryReads, FactsRead, Fi
 use Rattle.memory_spec.specs.Adding.{AreNew, IsCreated, HasCreated}
 use Rattle.memory_spec.specs.Laws.{IsNextVolume, CreatingReads}
 use Rattle.memory_spec.proofs.Lists.{same_some, not_both, each_by_recursion, of_each, zip_long}
-use Rattle.memory_spec.proofs.Objects.{object_is, of_objects}
+use Rattle.memory_spec.proofs.Objects.{object_is}
 use Rattle.memory_spec.proofs.AllTables.{all_objects, all_mediums, all_addresses, all_segments, all_elisions, of_all, numbered_more}
 use Rattle.memory_spec.proofs.Keeping.{range_kept, address_kept, segment_kept, range_is, address_is, none_since, some_since}
 use Rattle.memory_spec.proofs.Adding.{only_newest, no_newest, newest_kept, newest_given}
@@ -98,7 +94,6 @@ no_name contents staged f name (x ∷ xs) (e ∷ es) h free y c same =
 
 module _ (contents : Contents) (was now : Memory) (x : ObjectFact) (array : Array) (r : ReadsAs contents was array) (new : IsNextVolume was x)
     (free : has array x.name ≡ false) (room : length array < OBJECTS) (made : HasCreated was now x) where
-
   object_ids : (y : ObjectFact) → Contains (facts was.tables).objects y → (y.object.0 < was.next.object) × (y.medium.0 < was.next.medium)
   object_ids y c = of_each (λ f. (f.object.0 < was.next.object) × (f.medium.0 < was.next.medium)) (facts was.tables).objects y r.sound.ids.objects c
 
@@ -164,19 +159,19 @@ module _ (contents : Contents) (was now : Memory) (x : ObjectFact) (array : Arra
       let key : id_of (key_of id 0) ≡ x.object.0 = id_of_key id 0 (omega arith) ∙ same in
       let at : object_key x ≡ key_of id 0 = ap (λ i. key_of i 0) (sym same) in
       ap (λ o. Said (facts now.tables).elisions (key_of id 0) o)
-          (newest_given object_key (λ f. f.seq.0) (facts was.tables).objects (facts now.tables).objects (x ∷ []) (one_more (facts was.tables).objects (facts now.tables).objects x made.objects) older object_numbers one_number
-          (key_of id 0) x (only_newest object_key (λ f. f.seq.0) (x ∷ []) (key_of id 0) x (here x []) at (λ f c e. alone f c)))
+      (newest_given object_key (λ f. f.seq.0) (facts was.tables).objects (facts now.tables).objects (x ∷ []) (one_more (facts was.tables).objects (facts now.tables).objects x made.objects) older object_numbers one_number
+      (key_of id 0) x (only_newest object_key (λ f. f.seq.0) (x ∷ []) (key_of id 0) x (here x []) at (λ f c e. alone f c)))
       ∙ ap (λ b. if b then None else Some x)
-          (ap (λ i. is_elided (facts now.tables).elisions table.Object i) key ∙ ap (λ l. is_elided l table.Object x.object.0) made.elisions ∙ kept_object)
+      (ap (λ i. is_elided (facts now.tables).elisions table.Object i) key ∙ ap (λ l. is_elided l table.Object x.object.0) made.elisions ∙ kept_object)
 
   object_other : (id : ℕ) → (id ≡ x.object.0 → ⊥) → object (facts now.tables) id ≡ object (facts was.tables) id
   object_other id ne =
       let none = no_newest object_key (λ f. f.seq.0) (x ∷ []) (key_of id 0) (λ f c e.
-          let key : key_of f.object.0 0 ≡ key_of id 0 = e in
-          let same : f.object.0 ≡ x.object.0 = ap (λ z. z.object.0) (alone f c) in
-          ne (omega (arith, key, same))) in
+      let key : key_of f.object.0 0 ≡ key_of id 0 = e in
+      let same : f.object.0 ≡ x.object.0 = ap (λ z. z.object.0) (alone f c) in
+      ne (omega (arith, key, same))) in
       ap (λ o. Said (facts now.tables).elisions (key_of id 0) o)
-          (newest_kept object_key (λ f. f.seq.0) (facts was.tables).objects (facts now.tables).objects (x ∷ []) (one_more (facts was.tables).objects (facts now.tables).objects x made.objects) older object_numbers one_number (key_of id 0) none)
+      (newest_kept object_key (λ f. f.seq.0) (facts was.tables).objects (facts now.tables).objects (x ∷ []) (one_more (facts was.tables).objects (facts now.tables).objects x made.objects) older object_numbers one_number (key_of id 0) none)
       ∙ ap (λ l. Said l (key_of id 0) (newest_of object_key (λ f. f.seq.0) (key_of id 0) (facts was.tables).objects)) made.elisions
 
   created : IsCreated (facts was.tables) (facts now.tables) x
@@ -372,10 +367,10 @@ module _ (contents : Contents) (was now : Memory) (x : ObjectFact) (array : Arra
     numbers = numbered_more was now Added
         (let number : now.next.sequence ≡ was.next.sequence + 1 = ap (λ (n : NextNumbers). n.sequence) made.next in omega (arith, number)) split
         (λ a n.
-            let is : any_number a ≡ x.seq.0 = ap any_number n in
-            let number : now.next.sequence ≡ was.next.sequence + 1 = ap (λ (n : NextNumbers). n.sequence) made.next in
-            let own = new.number in
-            (omega (arith, is, own), omega (arith, is, own, number)))
+        let is : any_number a ≡ x.seq.0 = ap any_number n in
+        let number : now.next.sequence ≡ was.next.sequence + 1 = ap (λ (n : NextNumbers). n.sequence) made.next in
+        let own = new.number in
+        (omega (arith, is, own), omega (arith, is, own, number)))
         (λ a b n p e. n ∙ sym p)
         r.sound.numbers;
   }

@@ -1,19 +1,17 @@
 -- A new volume reads as zeros, and all else as it was.
-use Rattle.std.proofs.Common.{◌≡◌, ℕ, zero, suc, ◌+◌, ◌<◌, ◌≤◌, false, List, [], ◌∷◌, ◌++◌, refl, sym, ap, ◌∙◌, arith, replicate, Option, Some, filter_map, eq-eqb, ne_eqb}
+use Rattle.std.proofs.Common.{◌≡◌, ℕ, zero, suc, ◌+◌, ◌≤◌, false, [], ◌∷◌, ◌++◌, refl, sym, ap, ◌∙◌, arith, replicate, Some, filter_map, eq-eqb, ne_eqb}
 use Rattle.std.specs.List.{cons_option, range_with_len}
 use Rattle.std.proofs.lemmas.List.{length-replicate, get_or-replicate}
 use Rattle.std.proofs.lemmas.List.Elements.{filter_map-append}
 use Rattle.pur_base.specs.Sectors.{filled}
-use Rattle.pur_base.specs.Plain.{Entry}
 use Rattle.pur_base.specs.Facts.{Facts}
 use Rattle.pur_base.specs.Visible.{objects, object}
 use Rattle.pur_base.specs.Mediums.{unwritten}
 use Rattle.pur_base.specs.declared.facts.Target.TheVariants.{Zero}
-use Rattle.pur_base.specs.declared.facts.ObjectKind.TheVariants.{Volume}
 use Rattle.pur_base.specs.declared.facts.ObjectFact.{ObjectFact}
 use Rattle.array_spec.specs.Base.{is_snapshot}
-use Rattle.memory_spec.specs.Memory.{Contents, EntryReads}
-use Rattle.memory_spec.specs.Adding.{AreNew, IsCreated, CreateReads, SayTheSame}
+use Rattle.memory_spec.specs.Memory.{EntryReads}
+use Rattle.memory_spec.specs.Adding.{IsCreated, CreateReads}
 use Rattle.memory_spec.proofs.Lists.{not_both, range_more, zip_append, zip_weaker}
 use Rattle.memory_spec.proofs.Moved.{over_before, entry_same}
 
@@ -51,6 +49,10 @@ create_reads contents staged old new x array fresh volume made read =
       name = refl;
       snapshot = sym (ap is_snapshot volume);
       size = length-replicate x.sectors (filled 0);
-      sectors = λ place l. (Zero, unwritten (made.addresses x.medium.0 place ∙ fresh.no_address place)
-          (λ r o. not_both _ (over_before old new made.ranges x.medium.0 place r o).there (fresh.no_range r.start)), get_or-replicate x.sectors place (filled 0) [] l);
+      sectors = λ place l. (
+        Zero,
+        unwritten (made.addresses x.medium.0 place ∙ fresh.no_address place)
+            (λ r o. not_both _ (over_before old new made.ranges x.medium.0 place r o).there (fresh.no_range r.start)),
+        get_or-replicate x.sectors place (filled 0) [] l,
+      );
     }

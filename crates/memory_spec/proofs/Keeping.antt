@@ -1,11 +1,10 @@
 -- What facts say depends on the facts of some tables alone.
-use Rattle.std.proofs.Common.{◌≡◌, ◌≢◌, ◌⊎◌, ℕ, ◌+◌, ◌*◌, ◌^◌, ◌<◌, ◌≤◌, Bool, true, false, List, [], ◌∷◌, refl, sym, ap, ◌∙◌, arith, inl, inr, subst, Option, Some, None, option_map, Contains, AllPairs, length, IsSome}
+use Rattle.std.proofs.Common.{◌≡◌, ◌≢◌, ℕ, ◌≤◌, false, List, refl, sym, ap, ◌∙◌, subst, Option, Some, None, option_map, Contains, AllPairs, length, IsSome}
 use Rattle.std.specs.List.{AllByRecursion}
 use Rattle.pur_base.specs.Facts.{Facts, medium_key, address_key, never, is_empty_range}
 use Rattle.pur_base.specs.Keys.{key_of}
 use Rattle.pur_base.specs.Says.{says}
 use Rattle.pur_base.specs.Visible.{objects, object, range, address, segment, is_elided}
-use Rattle.pur_base.specs.declared.request.Table.{Table}
 use Rattle.pur_base.specs.declared.request.Table.TheVariants as table
 use Rattle.pur_base.specs.declared.limits.TheConstants.{OBJECTS}
 use Rattle.pur_base.specs.declared.facts.Target.{Target}

@@ -10,3 +10,5 @@ pub mod Run
 pub mod Owning
 pub mod Putting
 pub mod Created
+pub mod Entries
+pub mod ExampleValues

@@ -1,5 +1,5 @@
 -- What holds of lists and of their elements.
-use Rattle.std.proofs.Common.{◌≡◌, ◌≢◌, ◌⊎◌, ℕ, zero, suc, ◌+◌, ◌<◌, ◌≤◌, List, [], ◌∷◌, ◌++◌, length, refl, sym, ap, ◌∙◌, arith, inl, inr, subst, map, slice_get, Option, Some, None, filter_map, Contains, AllPairs, get_or}
+use Rattle.std.proofs.Common.{◌≡◌, ◌⊎◌, ℕ, zero, suc, ◌+◌, ◌<◌, ◌≤◌, List, [], ◌∷◌, ◌++◌, length, refl, sym, ap, ◌∙◌, arith, inl, inr, subst, map, slice_get, Option, Some, None, filter_map, Contains, AllPairs, get_or}
 use Rattle.std.specs.List.{AllByRecursion, AllZip, range_with_len, cons_option}
 use Rattle.std.proofs.lemmas.Bool.{cases_lt, cases_order}
 use Rattle.std.proofs.lemmas.List.{get_or_default}
@@ -92,6 +92,13 @@ zip_weaker R S w [] [] h = tt
 zip_weaker R S w [] (b ∷ ys) h = h
 zip_weaker R S w (a ∷ xs) [] h = h
 zip_weaker R S w (a ∷ xs) (b ∷ ys) h = (w a b h.0, zip_weaker R S w xs ys h.1)
+
+-- of the items that are there
+pub zip_weaker_in : {X Y : Type 0} (R S : X → Y → Type 0) (xs : List X) (ys : List Y) → ((x : X) (y : Y) → Contains xs x → R x y → S x y) → AllZip R xs ys → AllZip S xs ys
+zip_weaker_in R S [] [] w h = tt
+zip_weaker_in R S [] (b ∷ ys) w h = h
+zip_weaker_in R S (a ∷ xs) [] w h = h
+zip_weaker_in R S (a ∷ xs) (b ∷ ys) w h = (w a b (here a xs) h.0, zip_weaker_in R S xs ys (λ x y c r. w x y (there a x xs c) r) h.1)
 
 -- the item of one list at the place of one of the other
 pub zip_at : {X Y : Type 0} (R : X → Y → Type 0) (xs : List X) (ys : List Y) (i : ℕ) (y : Y) → AllZip R xs ys → slice_get ys i ≡ Some y → (x : X) × (slice_get xs i ≡ Some x) × R x y

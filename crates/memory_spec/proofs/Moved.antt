@@ -1,5 +1,5 @@
 -- Addresses that name the same sectors read the same.
-use Rattle.std.proofs.Common.{◌≡◌, ℕ, ◌+◌, ◌-◌, List, [], ◌∷◌, sym, ◌∙◌, slice_index_or, Some, None}
+use Rattle.std.proofs.Common.{◌≡◌, ℕ, ◌+◌, ◌-◌, List, [], sym, ◌∙◌, slice_index_or, Some, None}
 use Rattle.pur_base.specs.Plain.{Entry}
 use Rattle.pur_base.specs.Facts.{Facts}
 use Rattle.pur_base.specs.Visible.{range, address, objects}
@@ -9,7 +9,7 @@ use Rattle.pur_base.specs.declared.facts.Target.TheVariants.{Zero}
 use Rattle.pur_base.specs.declared.facts.ObjectFact.{ObjectFact}
 use Rattle.pur_base.specs.declared.facts.MediumFact.{MediumFact}
 use Rattle.memory_spec.specs.Memory.{Contents, TargetReads, EntryReads}
-use Rattle.memory_spec.specs.Adding.{AreMoved, MovedReads, SameReads}
+use Rattle.memory_spec.specs.Adding.{MovedReads, SameReads}
 use Rattle.memory_spec.proofs.Lists.{zip_weaker}
 use Rattle.memory_spec.proofs.Objects.{same_objects}
 
@@ -24,7 +24,7 @@ module _ (old new : Facts) (ranges : (m start : ℕ) → range new m start ≡ r
 module _ (contents contents2 : Contents) (staged staged2 : List (List ℕ)) (old new : Facts)
     (none : (m x : ℕ) → address old m x ≡ None → address new m x ≡ None)
     (some : (m x : ℕ) (t : Target) → address old m x ≡ Some t
-        → (t2 : Target) × (address new m x ≡ Some t2) × ((body : List ℕ) → TargetReads contents staged t body → TargetReads contents2 staged2 t2 body))
+    → (t2 : Target) × (address new m x ≡ Some t2) × ((body : List ℕ) → TargetReads contents staged t body → TargetReads contents2 staged2 t2 body))
     (ranges : (m start : ℕ) → range new m start ≡ range old m start) where
   reads : (m x : ℕ) (t : Target) → Reads old m x t → (body : List ℕ) → TargetReads contents staged t body
       → (t2 : Target) × Reads new m x t2 × TargetReads contents2 staged2 t2 body

@@ -1,6 +1,6 @@
 -- The visible objects, one by one.
-use Rattle.std.proofs.Common.{◌≡◌, ℕ, zero, suc, ◌+◌, ◌*◌, ◌^◌, ◌<◌, ◌≤◌, List, [], ◌∷◌, refl, sym, ap, ◌∙◌, arith, Some, filter_map, Contains}
-use Rattle.std.specs.List.{AllByRecursion, cons_option, range_with_len}
+use Rattle.std.proofs.Common.{◌≡◌, ℕ, ◌<◌, List, [], ◌∷◌, refl, ap, ◌∙◌, arith, Some, filter_map, Contains}
+use Rattle.std.specs.List.{cons_option}
 use Rattle.pur_base.specs.Facts.{Facts, object_key, never}
 use Rattle.pur_base.specs.Keys.{key_of}
 use Rattle.pur_base.specs.Visible.{objects, object, ids_below, is_elided}
@@ -21,7 +21,7 @@ same_objects old new same next = go (ids_below next)
 pub object_is : (f : Facts) (id : ℕ) (x : ObjectFact) → object f id ≡ Some x → Contains f.objects x × (x.object.0 ≡ id)
 object_is f id x e =
     let is = says_is object_key (λ g. g.seq.0) never (λ g. Contains f.objects g) f.objects (is_elided f.elisions table.Object) (key_of id 0) x
-        (each_by_recursion (λ g. Contains f.objects g) f.objects (λ g c. c)) e in
+    (each_by_recursion (λ g. Contains f.objects g) f.objects (λ g c. c)) e in
     let key : key_of x.object.0 0 ≡ key_of id 0 = is.1 in
     (is.0, omega (arith, key))
 

@@ -1,21 +1,19 @@
 -- With other targets in a span, the array reads with other sectors there.
-use Rattle.std.proofs.Common.{◌≡◌, ◌≢◌, ◌⊎◌, ℕ, zero, suc, ◌+◌, ◌-◌, ◌<◌, ◌≤◌, Bool, true, false, List, [], ◌∷◌, ◌++◌, length, refl, sym, ap, ◌∙◌, arith, inl, inr, subst, cond, get_or, take, drop, Option, Some, None, slice_get, slice_index_or, if◌then◌else◌, Contains, ◌==◌, ◌&&◌, nat_le, nat_lt, bytes_eq, filter_map, eqb-true, eq-eqb, ne_eqb, le-leb, leb-false, lt-ltb, le-ltb, ltb-true}
+use Rattle.std.proofs.Common.{◌≡◌, ◌≢◌, ◌⊎◌, ℕ, zero, suc, ◌+◌, ◌-◌, ◌<◌, ◌≤◌, Bool, true, false, List, [], ◌∷◌, ◌++◌, length, refl, sym, ap, ◌∙◌, arith, inl, inr, subst, get_or, take, drop, Option, Some, None, slice_get, slice_index_or, if◌then◌else◌, Contains, ◌==◌, ◌&&◌, nat_le, nat_lt, bytes_eq, filter_map, eqb-true, eq-eqb, le-leb, lt-ltb, le-ltb}
 use Rattle.std.specs.List.{AllZip, cons_option, range_with_len, find}
 use Rattle.std.specs.Option.{option_map_or}
-use Rattle.std.specs.Cmp.Lexicographic.{same_text}
 use Rattle.std.proofs.lemmas.Slice.Eq.{bytes_eq-Decides}
 use Rattle.std.proofs.lemmas.Bool.{cases_lt, both_ways}
 use Rattle.std.proofs.lemmas.Option.{slice_get_within, slice_get-get_or}
 use Rattle.std.proofs.lemmas.List.{get_or_append_left, get_or-append-add, get_or-append_right, get_or-drop, get_or-take, length-take-le, length-append, length-drop, append_assoc}
-use Rattle.pur_base.specs.Plain.{Entry, Array, is_named, entry, sectors_of, with_span, with_sectors, replaced}
+use Rattle.pur_base.specs.Plain.{Entry, Array, is_named, entry, sectors_of, with_span, with_sectors}
 use Rattle.pur_base.specs.Facts.{Facts}
-use Rattle.pur_base.specs.Visible.{objects, object, range, address, ids_below}
-use Rattle.pur_base.specs.Mediums.{Reads, here, below, unwritten, IsOver}
+use Rattle.pur_base.specs.Visible.{objects, object, address}
+use Rattle.pur_base.specs.Mediums.{Reads, here, below, unwritten}
 use Rattle.pur_base.specs.declared.limits.TheConstants.{OBJECT_SECTORS}
 use Rattle.pur_base.specs.declared.facts.Target.{Target}
 use Rattle.pur_base.specs.declared.facts.Target.TheVariants.{Stored, Zero}
 use Rattle.pur_base.specs.declared.facts.ObjectFact.{ObjectFact}
-use Rattle.pur_base.specs.declared.facts.MediumFact.{MediumFact}
 use Rattle.memory_spec.specs.Memory.{Contents, PlaceReads, TargetReads, SectorReads, EntryReads, FactsRead}
 use Rattle.memory_spec.specs.Adding.{overlaid, IsOverlaid, IsOwnMedium, AreWithinSize, OverwriteReads}
 use Rattle.memory_spec.proofs.Lists.{zip_at, zip_long, of_filter_map, of_range}
@@ -31,7 +29,7 @@ span_in : (lba j : ℕ) (new old : List (List ℕ)) → lba ≤ length old → j
 span_in lba j new old within l =
     let front : length (take lba old) ≡ lba = length-take-le lba old within in
     let add : get_or (take lba old ++ (new ++ drop (lba + length new) old)) (length (take lba old) + j) [] ≡ get_or (new ++ drop (lba + length new) old) j [] =
-        get_or-append-add (take lba old) (new ++ drop (lba + length new) old) j [] in
+    get_or-append-add (take lba old) (new ++ drop (lba + length new) old) j [] in
     ap (λ l. get_or l (lba + j) []) (shape lba new old) ∙ ap (λ n. get_or (take lba old ++ (new ++ drop (lba + length new) old)) (n + j) []) (sym front) ∙ add ∙ get_or_append_left new (drop (lba + length new) old) [] j l
 
 span_before : (lba place : ℕ) (new old : List (List ℕ)) → lba ≤ length old → place < lba → get_or (with_span lba new old) place [] ≡ get_or old place []
@@ -130,8 +128,10 @@ module _ (old new : Facts) (next : ℕ) (name : List ℕ) (medium lba : ℕ) (ta
       where
         long : length targets ≡ length sectors
         long = zip_long (TargetReads contents (staged ++ more)) targets sectors given
+
         size2 : length e.sectors ≡ x.sectors
         size2 = r.size
+
         at : (place : ℕ) → place < x.sectors → SectorReads contents (staged ++ more) new x.medium.0 place (slice_index_or (with_span lba sectors e.sectors) place [])
         at place l = elim (cases_lt place lba) [
           | inl before ↦ subst (λ (s : List ℕ). SectorReads contents (staged ++ more) new x.medium.0 place s) (sym (span_before lba place sectors e.sectors (omega (arith, fits, size2)) before))
@@ -143,7 +143,7 @@ module _ (old new : Facts) (next : ℕ) (name : List ℕ) (medium lba : ℕ) (ta
                 let j : lba + (place - lba) ≡ place = omega (arith, from) in
                 let less : place - lba < length sectors = omega (arith, from, inside, long) in
                 let value : get_or (with_span lba sectors e.sectors) place [] ≡ get_or sectors (place - lba) [] =
-                    ap (λ n. get_or (with_span lba sectors e.sectors) n []) (sym j) ∙ span_in lba (place - lba) sectors e.sectors (omega (arith, fits, size2)) less in
+                ap (λ n. get_or (with_span lba sectors e.sectors) n []) (sym j) ∙ span_in lba (place - lba) sectors e.sectors (omega (arith, fits, size2)) less in
                 subst (λ (s : List ℕ). SectorReads contents (staged ++ more) new x.medium.0 place s) (sym value)
                 (subst (λ (m : ℕ). SectorReads contents (staged ++ more) new m place (get_or sectors (place - lba) [])) (sym is)
                 (sector_new place (omega (arith, l, small)) from inside (get_or sectors (place - lba) []) (slice_get-get_or sectors (place - lba) [] less)))
@@ -189,14 +189,16 @@ module _ (old new : Facts) (next : ℕ) (name : List ℕ) (medium lba : ℕ) (ta
             let at = of_range (a + 1) n w.0 w.1 in
             let inside : Contains (objects old next) y = in_objects old next w.0 y w.2 (omega (arith, at.1, l)) in
             let first : x.object.0 ≡ a = (object_is old a x e).1 in
-            let its : y.object.0 ≡ w.0 = (object_is old w.0 y w.2).1 in
-            (small_of y inside, λ same.
-                let one_id : y.object.0 ≡ x.object.0 = ap (λ z. z.object.0) (own.alone y inside same ∙ sym is) in
-                omega (arith, one_id, first, its, at.0))
+            let its : y.object.0 ≡ w.0 = (object_is old w.0 y w.2).1 in (
+              small_of y inside,
+              λ same.
+                  let one_id : y.object.0 ≡ x.object.0 = ap (λ z. z.object.0) (own.alone y inside same ∙ sym is) in
+                  omega (arith, one_id, first, its, at.0),
+            )
 
         one : (b : Bool) → is_named name entry ≡ b → AllZip (EntryReads contents (staged ++ more) new) (x ∷ From (a + 1) n)
             (if b then record entry { sectors = with_span lba sectors (option_map_or (λ e. e.sectors) (if b then Some entry else find (is_named name) es) []) } ∷ es
-             else entry ∷ with_sectors es name (with_span lba sectors (option_map_or (λ e. e.sectors) (if b then Some entry else find (is_named name) es) [])))
+            else entry ∷ with_sectors es name (with_span lba sectors (option_map_or (λ e. e.sectors) (if b then Some entry else find (is_named name) es) [])))
         one true t =
             let named : name ≡ entry.name = (bytes_eq-Decides name entry.name).0 t in
             let is : x ≡ own.owner = own.one_name x is_in (sym r.0.name ∙ sym named) in

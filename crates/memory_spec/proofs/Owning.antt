@@ -1,6 +1,5 @@
 -- A volume of an array in memory owns its medium.
 use Rattle.std.proofs.Common.{◌≡◌, ◌≢◌, ℕ, ◌+◌, ◌≤◌, List, refl, sym, ◌∙◌, inl, inr, Contains}
-use Rattle.pur_base.specs.Plain.{Array}
 use Rattle.pur_base.specs.Facts.{Facts}
 use Rattle.pur_base.specs.Visible.{objects}
 use Rattle.pur_base.specs.declared.facts.ObjectKind.TheVariants.{Volume}

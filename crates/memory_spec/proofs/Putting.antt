@@ -1,11 +1,11 @@
 -- Memory stays sound when targets are put into a span of a volume, and reads as the array with those sectors.
-use Rattle.std.proofs.Common.{◌≡◌, ◌≢◌, ◌⊎◌, ◌↔◌, ℕ, zero, suc, ◌+◌, ◌-◌, ◌<◌, ◌≤◌, Bool, true, false, List, [], ◌∷◌, ◌++◌, length, refl, sym, ap, ◌∙◌, arith, inl, inr, subst, Option, Some, None, is_some, slice_get, Contains, IsSome, length-append}
+use Rattle.std.proofs.Common.{◌≡◌, ◌⊎◌, ℕ, suc, ◌+◌, ◌-◌, ◌<◌, ◌≤◌, false, List, [], ◌∷◌, ◌++◌, length, refl, sym, ap, ◌∙◌, arith, inl, inr, subst, Some, is_some, slice_get, Contains, IsSome, length-append}
 use Rattle.std.specs.List.{AllByRecursion, AllZip}
 use Rattle.std.proofs.lemmas.Option.{slice_get_within}
 use Rattle.std.proofs.lemmas.List.Elements.{Contains-append_cases}
 use Rattle.pur_base.specs.Plain.{Array, replaced}
 use Rattle.pur_base.specs.Facts.{Facts, any_number}
-use Rattle.pur_base.specs.Visible.{objects, object, range, address, segment, is_elided}
+use Rattle.pur_base.specs.Visible.{objects, object, address, is_elided}
 use Rattle.pur_base.specs.declared.limits.TheConstants.{SECTOR_BYTES, OBJECT_SECTORS}
 use Rattle.pur_base.specs.declared.request.Table.TheVariants as table
 use Rattle.pur_base.specs.declared.place.Location.{Location}
@@ -25,14 +25,14 @@ use Rattle.fact_codec.specs.Fact.{IsNext, IsFact, LeadsNowhere, LeadsDown}
 use Rattle.array_spec.specs.Sound.{AreIdsBelow, AreObjectsSound, AreElisionsSound, next_id}
 use Rattle.pyramid.specs.Layers.{AreDistinct}
 use Rattle.memory_spec.specs.Tables.{facts, all_of}
-use Rattle.memory_spec.specs.Memory.{Memory, Contents, PlaceReads, TargetReads, FactsRead, FitsTarget, FitsInMemory, IsThere, AreAddressesThere, IsSound, ReadsAs}
-use Rattle.memory_spec.specs.Adding.{address_facts, overlaid, IsOverlaid, IsOwnMedium, AreWithinSize, HasPut}
+use Rattle.memory_spec.specs.Memory.{Memory, Contents, PlaceReads, TargetReads, FactsRead, FitsTarget, FitsInMemory, IsThere, IsSound, ReadsAs}
+use Rattle.memory_spec.specs.Adding.{address_facts, IsOverlaid, IsOwnMedium, AreWithinSize, HasPut}
 use Rattle.memory_spec.specs.Laws.{PuttingReads}
 use Rattle.memory_spec.proofs.Lists.{each_by_recursion, of_each, zip_left, zip_long, contains_at}
 use Rattle.memory_spec.proofs.Objects.{same_objects, object_is, of_objects, in_objects}
 use Rattle.memory_spec.proofs.AllTables.{all_objects, all_mediums, all_addresses, all_segments, all_elisions, of_all, numbered_more}
 use Rattle.memory_spec.proofs.Keeping.{object_kept, range_kept, segment_kept, objects_sound, mediums_sound, range_is, address_is, some_since}
-use Rattle.memory_spec.proofs.Run.{fact, of_run, run_distinct, address_put, overlaid_is}
+use Rattle.memory_spec.proofs.Run.{of_run, run_distinct, address_put, overlaid_is}
 use Rattle.memory_spec.proofs.Overlay.{overwrite_reads}
 
 -- ---- with more staged sectors
@@ -86,7 +86,6 @@ module _ (contents : Contents) (was now : Memory) (name : List ℕ) (medium lba 
     (given : AllZip (TargetReads contents (was.staged ++ more)) targets sectors) (staged : (at : Location) → Contains targets (Stored at) → at.segment.0 ≡ 0)
     (sized : (sector : List ℕ) → Contains more sector → length sector ≡ SECTOR_BYTES) (left : was.next.sequence + length targets < NUMBER_LIMIT)
     (put : HasPut was now (address_facts medium lba was.next.sequence targets) more) where
-
   abbrev Old : Facts
   Old = facts was.tables
 
@@ -246,11 +245,11 @@ module _ (contents : Contents) (was now : Memory) (name : List ℕ) (medium lba 
     numbers = numbered_more was now Added
         (let number : now.next.sequence ≡ was.next.sequence + length Run = ap (λ (n : NextNumbers). n.sequence) put.next in omega (arith, number)) split
         (λ a n.
-            let between = new_number n.0 n.1 in
-            let is : any_number a ≡ n.0.seq.0 = ap any_number n.2 in
-            let number : now.next.sequence ≡ was.next.sequence + length Run = ap (λ (n : NextNumbers). n.sequence) put.next in
-            let long = run_long medium lba was.next.sequence targets in
-            (omega (arith, is, between.0), omega (arith, is, between.1, number, long)))
+        let between = new_number n.0 n.1 in
+        let is : any_number a ≡ n.0.seq.0 = ap any_number n.2 in
+        let number : now.next.sequence ≡ was.next.sequence + length Run = ap (λ (n : NextNumbers). n.sequence) put.next in
+        let long = run_long medium lba was.next.sequence targets in
+        (omega (arith, is, between.0), omega (arith, is, between.1, number, long)))
         (λ a b n p e. n.2 ∙ ap any.Address (run_distinct medium lba was.next.sequence targets n.0 p.0 n.1 p.1 (sym (ap any_number n.2) ∙ e ∙ ap any_number p.2)) ∙ sym p.2)
         r.sound.numbers;
   }

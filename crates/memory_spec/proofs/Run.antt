@@ -1,5 +1,5 @@
 -- The facts of a run of addresses, and what the addresses are once it was added.
-use Rattle.std.proofs.Common.{◌≡◌, ◌≢◌, ◌⊎◌, ◌↔◌, ℕ, zero, suc, ◌+◌, ◌-◌, ◌*◌, ◌^◌, ◌<◌, ◌≤◌, Bool, true, false, List, [], ◌∷◌, length, refl, sym, ap, ◌∙◌, arith, inl, inr, subst, Option, Some, None, option_map, option_and_then, slice_get, get_or, if◌then◌else◌, Contains, ◌==◌, ◌&&◌, nat_le, nat_lt, eqb-true, leb-true, ltb-true}
+use Rattle.std.proofs.Common.{◌≡◌, ◌⊎◌, ◌↔◌, ℕ, zero, suc, ◌+◌, ◌-◌, ◌<◌, ◌≤◌, Bool, true, false, List, [], ◌∷◌, length, refl, sym, ap, ◌∙◌, arith, inl, inr, subst, Option, Some, None, option_map, option_and_then, slice_get, get_or, if◌then◌else◌, Contains, ◌==◌, ◌&&◌, nat_le, nat_lt, eqb-true, leb-true, ltb-true}
 use Rattle.std.proofs.lemmas.Bool.{cases_lt, cases_eq, and_parts}
 use Rattle.std.proofs.lemmas.Option.{slice_get_past, slice_get_within, slice_get-get_or}
 use Rattle.pur_base.specs.Facts.{Facts, address_key, never}
@@ -100,7 +100,6 @@ module _ (medium sector number : ℕ) (ts : List Target) where
         (added : (f : AddressFact) → Contains new.addresses f ↔ (Contains old.addresses f ⊎ Contains (address_facts medium sector number ts) f))
         (below : (f g : AddressFact) → Contains old.addresses f → Contains (address_facts medium sector number ts) g → f.seq.0 < g.seq.0)
         (distinct : AreDistinct (λ f. f.seq.0) old.addresses) where
-
       -- what is said of a key, by its newest fact
       abbrev Said : Facts → ℕ → Option AddressFact → Option Target
       Said f k o = option_map (λ g. g.target) (if is_elided f.elisions table.Address (id_of k) then None else option_and_then (unless_empty never) o)
@@ -114,9 +113,9 @@ module _ (medium sector number : ℕ) (ts : List Target) where
       inside x t l low e =
           let id : id_of (key_of medium x) ≡ medium = id_of_key medium x (omega (arith, l)) in
           ap (λ o. Said new (key_of medium x) o) (newest_given address_key (λ f. f.seq.0) old.addresses new.addresses (address_facts medium sector number ts) added below distinct run_distinct (key_of medium x)
-              (fact medium x t (number + (x - sector))) (one_of_key x t low e))
+          (fact medium x t (number + (x - sector))) (one_of_key x t low e))
           ∙ ap (λ b. option_map (λ (g : AddressFact). g.target) (if b then None else Some (fact medium x t (number + (x - sector)))))
-              (ap (λ i. is_elided new.elisions table.Address i) id ∙ ap (λ l. is_elided l table.Address medium) elisions ∙ kept)
+          (ap (λ i. is_elided new.elisions table.Address i) id ∙ ap (λ l. is_elided l table.Address medium) elisions ∙ kept)
 
       -- the addresses are those of before, with the targets in their span
       pub address_put : (m x : ℕ) → x < OBJECT_SECTORS → address new m x ≡ overlaid medium sector ts (address old) m x

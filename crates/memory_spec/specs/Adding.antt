@@ -1,12 +1,11 @@
 -- Facts that a command adds, and what the tables then say.
 use Rattle.std.specs.Prelude.{◌≡◌, ◌≢◌, ◌⊎◌, ◌↔◌, ℕ, ◌+◌, ◌-◌, ◌<◌, ◌≤◌, false, List, [], ◌∷◌, ◌++◌, length, replicate, Option, Some, None, Contains, slice_get, ◌==◌, ◌&&◌, nat_le, nat_lt, if◌then◌else◌}
 use Rattle.std.specs.List.{AllZip}
-use Rattle.pur_base.specs.Plain.{Array, replaced, appended, has}
+use Rattle.pur_base.specs.Plain.{Array, replaced, appended}
 use Rattle.pur_base.specs.Sectors.{filled}
 use Rattle.pur_base.specs.declared.limits.TheConstants.{OBJECT_SECTORS}
 use Rattle.pur_base.specs.Facts.{Facts}
-use Rattle.pur_base.specs.Visible.{objects, object, range, address, is_elided}
-use Rattle.pur_base.specs.declared.request.Table.TheVariants as table
+use Rattle.pur_base.specs.Visible.{objects, object, range, address}
 use Rattle.pur_base.specs.declared.facts.Target.{Target}
 use Rattle.pur_base.specs.declared.facts.ObjectKind.TheVariants.{Volume}
 use Rattle.pur_base.specs.declared.facts.ObjectFact.{ObjectFact}
@@ -14,7 +13,6 @@ use Rattle.pur_base.specs.declared.facts.MediumFact.{MediumFact}
 use Rattle.pur_base.specs.declared.facts.AddressFact.{AddressFact}
 use Rattle.pyramid.specs.Layers.{facts_in}
 use Rattle.memory_spec.specs.Memory.{Memory, Contents, TargetReads, FactsRead}
-use Rattle.memory_spec.specs.Tables.{facts}
 
 -- ---- addresses of a span of a medium
 

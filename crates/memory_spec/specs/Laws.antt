@@ -1,8 +1,8 @@
 -- What a write, a fill, a zeroing and a creation make of memory that is sound and reads as an array.
-use Rattle.std.specs.Prelude.{◌≡◌, ℕ, ◌+◌, ◌<◌, ◌≤◌, Bool, true, false, List, ◌++◌, length, replicate, Some, Contains}
+use Rattle.std.specs.Prelude.{◌≡◌, ℕ, ◌+◌, ◌<◌, ◌≤◌, true, false, List, ◌++◌, length, replicate, Contains}
 use Rattle.std.specs.List.{AllZip}
 use Rattle.pur_base.specs.Names.{is_name}
-use Rattle.pur_base.specs.Plain.{Entry, Array, entry, has, replaced, appended}
+use Rattle.pur_base.specs.Plain.{Array, has, replaced, appended}
 use Rattle.pur_base.specs.Sectors.{filled}
 use Rattle.pur_base.specs.declared.limits.TheConstants.{SECTOR_BYTES, OBJECTS, OBJECT_SECTORS}
 use Rattle.pur_base.specs.declared.place.Location.{Location}

@@ -1,7 +1,7 @@
 -- While gates are opened over the next record: the devices stand for the arrays by it and by the record in force, also where members are back that were missing.
 use Rattle.std.proofs.Common.{◌≡◌, ◌⊎◌, inl, inr, ℕ, zero, suc, ◌+◌, ◌*◌, ◌-◌, ◌^◌, ◌≤◌, ◌<◌, List, [], ◌∷◌, length, map, take, refl, sym, ◌∙◌, ap, subst, arith, Bool, true, false}
-use Rattle.std.specs.Prelude.{Option, Some, None, Contains, slice_get, slice_index_or, option_and_then, count_by, if◌then◌else◌}
-use Rattle.std.specs.List.{AllZip, range_with_len}
+use Rattle.std.specs.Prelude.{Option, Some, None, Contains, slice_get, slice_index, slice_index_or, option_and_then, count_by, if◌then◌else◌}
+use Rattle.std.specs.List.{range_with_len}
 use Rattle.std.specs.Str.{bytes_eq}
 use Rattle.std.specs.Cmp.Lexicographic.{same_text}
 use Rattle.std.proofs.lemmas.Bool.{cases_Bool, cases_lt}
@@ -14,24 +14,26 @@ use Rattle.pur_base.specs.declared.limits.TheConstants.{SLOTS_MIN}
 use Rattle.pur_base.specs.Devices.{Geometry, Image, View, Condition, Conditions, Sound, Missing, LeftOut, MayBecome, MayShowAs, IsOn, is_sound, is_missing, without_missing, drive, nvram}
 use Rattle.pur_base.specs.Plain.{Array}
 use Rattle.pur_base.specs.Commands.{Command, after_all}
-use Rattle.pur_base.specs.Visible.{objects, segment}
-use Rattle.pur_base.specs.declared.facts.SegmentFact.{SegmentFact}
 use Rattle.boot_codec.specs.declared.record.BootRecord.{BootRecord}
 use Rattle.boot_codec.specs.Record.{IsBootRecord}
 use Rattle.boot_codec.specs.Spelling.{spelling}
 use Rattle.boot_codec.specs.Region.{BootSlot, Effective, IsRecordOf, IsDecided, body_in, shown_by, votes, is_vote, generation_in, names, of_members, Yields}
 use Rattle.log_codec.specs.Log.{ShowsIn, Shows as ShowsOn, IsInSlot, LogFrom}
-use Rattle.array_spec.specs.Meaning.{HoldsBase, IsInForce, AllHold}
+use Rattle.array_spec.specs.Meaning.{IsInForce, AllHold}
 use Rattle.array_spec.specs.Standing.{Stands, MayBeGiven, MayAppear, IsViewOf, IsReadInto, IsReadBy, LeadsInto}
-use Rattle.array_spec.specs.Stored.{PatchStands, all_facts}
-use Rattle.array_spec.specs.Base.{EntryStands}
 use Rattle.array_spec.specs.Unflushed.{LogLies}
 use Rattle.array_spec.proofs.Settling.{this_or_other, twice_other}
 use Rattle.array_spec.proofs.Spelled.{spells_one}
 use Rattle.array_spec.proofs.Standings.{sound_shows}
-use Rattle.array_spec.proofs.UnflushedRead.{unflushed_is_read, unflushed_holds_nothing, one_left}
+use Rattle.array_spec.proofs.UnflushedRead.{one_left}
+use Rattle.stored_spec.specs.Held.{TablesHold, NamesNoneLeftOut}
+use Rattle.stored_spec.proofs.Next.{next_holds}
+use Rattle.stored_spec.proofs.Reading.{record_is_read, read_holds}
+use Rattle.stored_spec.proofs.Unique.{one_base}
 use Rattle.array_spec.proofs.Votes.{most_votes, not_missing, one_is_decided, sound_before}
-use Rattle.world.specs.Shelf.{Shelved, Stop, IsShelf}
+use Rattle.world.specs.Shelf.{Shelved, Stop, IsShelf, MayLeave}
+use Rattle.world.specs.Writes.{LeavesBut}
+use Rattle.boot_region.specs.Members.{IsMember, OnSlot}
 use Rattle.world.specs.Losing.{geometry_of}
 use Rattle.boot_region.specs.Storing.{IsOpening}
 use Rattle.boot_region.proofs.Composing.{all_decide, as_it_is}
@@ -39,9 +41,10 @@ use Rattle.boot_region.proofs.ShownLemmas.{as_read, shown_body}
 use Rattle.nvram_log.specs.Members as nv
 use Rattle.register.specs.declared.state.Register.{Register}
 use Rattle.register.specs.Registers.{drives_of, own_slot, next_slot, next_record}
-use Rattle.register.specs.Standing.{AllShow, AreOfMembers, IsNextOf, MayStore}
+use Rattle.register.specs.Standing.{AllShow, Content, AreOfMembers, IsNextOf, MayStore}
 use Rattle.register.proofs.FlagLemmas.{in_cut}
 use Rattle.register.proofs.Follows.{shows_itself}
+use Rattle.register.proofs.Splice.{at_members, members_stop, members_bodies, others_bodies, members_boot}
 use Rattle.register.proofs.Numbers.{generation_spelled, lower_yields, next_other}
 
 -- the next record is a next one
@@ -117,36 +120,6 @@ agree missing more a b (suc zero) lt no_sound same n below =
     below_two (λ n. more (nvram n) ≡ missing (nvram n)) (agree_other (missing (nvram 1)) (missing (nvram 0)) (more (nvram 1)) (more (nvram 0)) no_sound same (swapped a) (swapped b)) same n below
 agree missing more a b (suc (suc d)) lt no_sound same n below = absurd (omega (arith, lt))
 
-no_zip : {X Y : Type 0} (P : X → Y → Type 0) (xs : List X) (ys : List Y) → xs ≡ [] → AllZip P xs ys → ys ≡ []
-no_zip P [] [] e z = refl
-no_zip P [] (y ∷ ys) e z = absurd z
-no_zip P (x ∷ xs) ys e z = absurd (cc e)
-
-none_zipped : {X Y : Type 0} (P : X → Y → Type 0) (xs : List X) (ys : List Y) → ys ≡ [] → AllZip P xs ys → xs ≡ []
-none_zipped P [] ys e z = refl
-none_zipped P (x ∷ xs) [] e z = absurd z
-none_zipped P (x ∷ xs) (y ∷ ys) e z = absurd (cc e)
-
-zip_none : {X Y : Type 0} (P : X → Y → Type 0) (xs : List X) (ys : List Y) → xs ≡ [] → ys ≡ [] → AllZip P xs ys
-zip_none P [] [] e f = tt
-zip_none P [] (y ∷ ys) e f = absurd (cc f)
-zip_none P (x ∷ xs) ys e f = absurd (cc e)
-
--- tables of no patches stand in any view
-holds_anywhere : (shelf : Geometry) (v w : View) (boot : BootRecord) → boot.patches ≡ [] → HoldsBase shelf v boot [] → HoldsBase shelf w boot []
-holds_anywhere shelf v w boot none h =
-    let empty : h.patches ≡ [] = no_zip (PatchStands v) boot.patches h.patches none h.tables.patches_stand in
-    let nothing : objects (all_facts h.patches) boot.next.object ≡ [] = none_zipped (EntryStands v (all_facts h.patches)) (objects (all_facts h.patches) boot.next.object) [] refl h.base_stands in
-    record {
-      patches = h.patches;
-      tables = record {
-        patches_stand = zip_none (PatchStands w) boot.patches h.patches none empty;
-        sound = h.tables.sound;
-        data_stands = λ id d is. absurd (cc (subst (λ ps. ◌≡◌ {A = Option SegmentFact} (segment (all_facts ps) id) (Some d)) empty is));
-      };
-      base_stands = zip_none (EntryStands w (all_facts h.patches)) (objects (all_facts h.patches) boot.next.object) [] nothing refl;
-    }
-
 -- the log depends on what the NVRAM devices show alone
 shows_move : (x y : View) → ((j : ℕ) → x (nvram j) ≡ y (nvram j)) → (which flushed i : ℕ) (c : Command) → ShowsOn x which flushed i c → ShowsOn y which flushed i c
 shows_move x y same which flushed i c s = record { slot = s.slot; bytes = s.bytes; shown = sym (same which) ∙ s.shown; gate = s.gate; spelled = s.spelled }
@@ -170,10 +143,10 @@ both_none true false o e = e
 both_none false true o e = sym e
 both_none false false o e = refl
 
-module _ (old : Shelved) (is : IsShelf old) (r : Register) (nvrams : List Bool) (log : List Command) (some : nv.IsSome nvrams)
-    (lawful : IsBootRecord (next_record r.record r.drives nvrams)) (not_spent : r.record.generation + 1 < 2 ^ 48 - 8) (shows : AllShow old r)
-    (stop : Stop) (o : IsOpening old (drives_of r) (next_slot r.record) (spelling (next_record r.record r.drives nvrams)) stop)
-    (missing : Conditions) (arrays : List Array) (may : MayStore old r nvrams missing log arrays) (back : Conditions) (m : AreOfMembers old r nvrams missing stop back) where
+module _ (old : Shelved) (is : IsShelf old) (r : Register) (nvrams : List Bool) (held : Content) (some : nv.IsSome nvrams)
+    (lawful : IsBootRecord (next_record r.record r.drives nvrams)) (not_spent : r.record.generation + 1 < 2 ^ 48 - 8) (shows : AllShow old r) (bytes : (d : Device) (i : ℕ) → slice_index (old.disk d).bytes i < 256) (cut : (i : ℕ) → IsMember r.drives i → IsMember (drives_of r) i)
+    (stop : Stop) (o : IsOpening old (drives_of r) (next_slot r.record) (spelling (next_record r.record r.drives nvrams)) stop) (left : LeavesBut (OnSlot (drives_of r) (next_slot r.record)) old stop)
+    (missing : Conditions) (arrays : List Array) (may : MayStore old r nvrams missing held arrays) (back : Conditions) (m : AreOfMembers old r nvrams missing stop back) where
   abbrev next : BootRecord
   next = next_record r.record r.drives nvrams
 
@@ -254,14 +227,14 @@ module _ (old : Shelved) (is : IsShelf old) (r : Register) (nvrams : List Bool) 
   one : (n : ℕ) × (n < 2) × nv.IsMember nvrams n
   one = elim some [ inl member ↦ (0, omega arith, member) | inr member ↦ (1, omega arith, member) ]
 
-  shown_there : (n i : ℕ) (c : Command) → n < 2 → nv.IsMember nvrams n → slice_get log i ≡ Some c → ShowsIn (stop.image (nvram n)) r.record.flushed i c
+  shown_there : (n i : ℕ) (c : Command) → n < 2 → nv.IsMember nvrams n → slice_get held.log i ≡ Some c → ShowsIn (stop.image (nvram n)) r.record.flushed i c
   shown_there n i c lt member at = subst (λ (b : List ℕ). ShowsIn b r.record.flushed i c) (sym (nvram_is n lt member)) ((may.logged.holds.log n lt member).between.all i c at)
 
-  no_other : (n i : ℕ) (c : Command) → n < 2 → nv.IsMember nvrams n → ShowsIn (stop.image (nvram n)) r.record.flushed i c → slice_get log i ≡ Some c
+  no_other : (n i : ℕ) (c : Command) → n < 2 → nv.IsMember nvrams n → ShowsIn (stop.image (nvram n)) r.record.flushed i c → slice_get held.log i ≡ Some c
   no_other n i c lt member x = (may.logged.holds.log n lt member).between.no_other i c (subst (λ (b : List ℕ). ShowsIn b r.record.flushed i c) (nvram_is n lt member) x)
 
-  all_of_it : (n : ℕ) → length log ≤ n → n ≤ length log → Contains arrays (after_all [] (take n log))
-  all_of_it n low high = subst (λ (l : List Command). Contains arrays (after_all [] l)) (sym (take_all n log low)) may.one_of
+  all_of_it : (n : ℕ) → length held.log ≤ n → n ≤ length held.log → Contains arrays (after_all held.base (take n held.log))
+  all_of_it n low high = subst (λ (l : List Command). Contains arrays (after_all held.base l)) (sym (take_all n held.log low)) may.one_of
 
   unnamed : (n : ℕ) → back (nvram n) ≡ LeftOut → slice_index_or nvrams n false ≡ false
   unnamed n out = elim (cases_Bool (slice_index_or nvrams n false)) [
@@ -269,15 +242,51 @@ module _ (old : Shelved) (is : IsShelf old) (r : Register) (nvrams : List Bool) 
     | inr not ↦ not
   ]
 
+  -- ---- the tables
+
+  -- as the store found them, but that each member has its boot units as they were read
+  log_then : (n : ℕ) → MayLeave (old.disk (nvram n)) (stop.image (nvram n))
+  log_then n = subst (λ (b : List ℕ). MayLeave (old.disk (nvram n)) b) (sym (o.only_boot.nvram n)) (o.may.device (nvram n))
+
+  tables_then : TablesHold shelf (at_members old bytes (drives_of r) (next_slot r.record) stop left log_then).image own r.record held.patches held.base
+  tables_then = may.logged.tables (at_members old bytes (drives_of r) (next_slot r.record) stop left log_then) (members_stop old bytes (drives_of r) (next_slot r.record) stop left log_then)
+
+  its_body : (i : ℕ) → IsMember (drives_of r) i → body_in own ((at_members old bytes (drives_of r) (next_slot r.record) stop left log_then).image (drive i)) ≡ spelling r.record
+  its_body i member = members_bodies old bytes (drives_of r) (next_slot r.record) stop left log_then own i member ∙ may.logged.bodies i member
+
+  held_own : TablesHold shelf stop.image own r.record held.patches held.base
+  held_own = next_holds shelf (at_members old bytes (drives_of r) (next_slot r.record) stop left log_then).image stop.image own own r.record r.record held.patches held.base lawful_own refl
+      (λ i named body. elim (cases_Bool (slice_index_or (drives_of r) i false)) [
+        | inl member ↦ (named, its_body i member)
+        | inr no_member ↦ (named, others_bodies old bytes (drives_of r) (next_slot r.record) stop left log_then own i no_member ∙ body)
+      ])
+      (members_boot old bytes (drives_of r) (next_slot r.record) stop left log_then) tables_then
+
+  held_next : TablesHold shelf stop.image (next_slot r.record) next held.patches held.base
+  held_next = next_holds shelf (at_members old bytes (drives_of r) (next_slot r.record) stop left log_then).image stop.image own (next_slot r.record) r.record next held.patches held.base lawful_own refl
+      (λ i named body. (may.logged.is_of.named i named, its_body i (cut i named)))
+      (members_boot old bytes (drives_of r) (next_slot r.record) stop left log_then) tables_then
+
+  none_left_next : NamesNoneLeftOut back next
+  none_left_next (dev.Drive d) out = elim (cases_Bool (slice_index_or r.drives d.0 false)) [
+    | inl member ↦ absurd (cc (may.logged.is_of.named d.0 member, m.unnamed d.0 out))
+    | inr not ↦ not
+  ]
+  none_left_next (dev.Nv n) out = unnamed n.0 out
+
+  none_left_own : NamesNoneLeftOut back r.record
+  none_left_own (dev.Drive d) out = m.unnamed d.0 out
+  none_left_own (dev.Nv n) out = (m.left_out n.0 out).1
+
   -- ---- the next record is read
 
   named_next : (d : Device) → IsOn shelf d → back d ≡ Sound → names next d ≡ true
   named_next (dev.Drive d) on s = in_cut r.drives r.record.slots d.0 (m.on_drives d.0 on s).0
   named_next (dev.Nv n) on s = (m.on_nvram n.0 on s).0
 
-  lies_next : LogLies stop.image back next log log
+  lies_next : LogLies stop.image back next held.log held.log
   lies_next = record {
-    front = ([], sym (append-nil log));
+    front = ([], sym (append-nil held.log));
     room = (may.logged.holds.log one.0 one.1 one.2).room;
     lawful = λ i c at. ((may.logged.holds.log one.0 one.1 one.2).between.all i c at).spelled.lawful;
     all = λ n i c lt s at. shown_there n i c lt (m.on_nvram n lt s).0 at;
@@ -285,10 +294,10 @@ module _ (old : Shelved) (is : IsShelf old) (r : Register) (nvrams : List Bool) 
     left_out = λ n lt out. unnamed n out;
   }
 
-  read_next : (x : IsReadInto shelf stop.image back (next_slot r.record) next arrays) × (x.base ≡ [])
-  read_next = unflushed_is_read shelf stop.image back (next_slot r.record) next log log arrays lawful_next may.logged.patches
+  read_next : (x : IsReadInto shelf stop.image back (next_slot r.record) next arrays) × (x.base ≡ held.base)
+  read_next = record_is_read shelf stop.image back (next_slot r.record) next held.patches held.base held.log held.log arrays lawful_next
       (record { in_its_slot = sym (next_other r.record.generation); not_spent = not_spent })
-      (record { named = named_next; written = λ i lt s. let d = m.on_drives i lt s in (o.written i d.0 d.1).0 }) may.logged.accepted lies_next all_of_it
+      (record { named = named_next; written = λ i lt s. let d = m.on_drives i lt s in (o.written i d.0 d.1).0 }) none_left_next held_next may.logged.accepted lies_next all_of_it
 
   -- ---- and so is the record in force
 
@@ -303,11 +312,11 @@ module _ (old : Shelved) (is : IsShelf old) (r : Register) (nvrams : List Bool) 
   written_own i lt s = shown_body own (stop.image (drive i)) (spelling r.record) (shown_own i lt s)
 
   -- each of its NVRAM devices holds the log
-  read_whole : ((n : ℕ) → n < 2 → names r.record (nvram n) ≡ true → nv.IsMember nvrams n) → (x : IsReadInto shelf stop.image back own r.record arrays) × (x.base ≡ [])
-  read_whole members = unflushed_is_read shelf stop.image back own r.record log log arrays lawful_own may.logged.patches in_force_own
-      (record { named = named_own; written = written_own }) may.logged.accepted
+  read_whole : ((n : ℕ) → n < 2 → names r.record (nvram n) ≡ true → nv.IsMember nvrams n) → (x : IsReadInto shelf stop.image back own r.record arrays) × (x.base ≡ held.base)
+  read_whole members = record_is_read shelf stop.image back own r.record held.patches held.base held.log held.log arrays lawful_own in_force_own
+      (record { named = named_own; written = written_own }) none_left_own held_own may.logged.accepted
       (record {
-        front = ([], sym (append-nil log));
+        front = ([], sym (append-nil held.log));
         room = (may.logged.holds.log one.0 one.1 one.2).room;
         lawful = λ i c at. ((may.logged.holds.log one.0 one.1 one.2).between.all i c at).spelled.lawful;
         all = λ n i c lt s at. shown_there n i c lt (m.on_nvram n lt s).0 at;
@@ -376,21 +385,22 @@ module _ (old : Shelved) (is : IsShelf old) (r : Register) (nvrams : List Bool) 
       was_read : IsReadBy shelf missing (of_members own r.record before) own r.record (stood.reads own r.record given_own).base arrays
       was_read = (stood.reads own r.record given_own).each missing before is_view
 
-      base_none : (stood.reads own r.record given_own).base ≡ []
-      base_none = unflushed_holds_nothing shelf (of_members own r.record before) r.record (stood.reads own r.record given_own).base may.logged.patches was_read.holds
+      base_is : (stood.reads own r.record given_own).base ≡ held.base
+      base_is = one_base shelf (of_members own r.record before) r.record (stood.reads own r.record given_own).base held.base was_read.holds
+          (read_holds shelf o.start.image missing missing own r.record held.patches held.base may.unnamed (may.logged.tables o.start o.may) before is_view was_read.all_hold)
 
-      leads : LeadsInto more (of_members own r.record view) r.record.flushed [] arrays
+      leads : LeadsInto more (of_members own r.record view) r.record.flushed held.base arrays
       leads =
-          let l : LeadsInto missing (of_members own r.record before) r.record.flushed [] arrays =
-          subst (λ (b : Array). LeadsInto missing (of_members own r.record before) r.record.flushed b arrays) base_none was_read.leads in
+          let l : LeadsInto missing (of_members own r.record before) r.record.flushed held.base arrays =
+          subst (λ (b : Array). LeadsInto missing (of_members own r.record before) r.record.flushed b arrays) base_is was_read.leads in
           record {
             log = l.log;
-            log_stands = log_moves (of_members own r.record before) (of_members own r.record view) same_members r.record.flushed 0 [] l.log l.log_stands;
+            log_stands = log_moves (of_members own r.record before) (of_members own r.record view) same_members r.record.flushed 0 held.base l.log l.log_stands;
             devices_agree = λ i c e t u. l.devices_agree i c e
                 (shows_move (of_members own r.record view) (of_members own r.record before) (λ j. sym (same_members j)) 0 r.record.flushed i c t)
                 (shows_move (of_members own r.record view) (of_members own r.record before) (λ j. sym (same_members j)) 1 r.record.flushed i e u);
             least = l.least;
-            least_stands = log_moves (without_missing missing (of_members own r.record before)) (without_missing more (of_members own r.record view)) same_left r.record.flushed 0 [] l.least l.least_stands;
+            least_stands = log_moves (without_missing missing (of_members own r.record before)) (without_missing more (of_members own r.record view)) same_left r.record.flushed 0 held.base l.least l.least_stands;
             enough = l.enough;
             fronts = l.fronts;
           }
@@ -407,17 +417,16 @@ module _ (old : Shelved) (is : IsShelf old) (r : Register) (nvrams : List Bool) 
           let named_it : names r.record (dev.Nv n) ≡ true = named_own (dev.Nv n) on sound in
           rw (named_it, sound_shows (more (dev.Nv n)) (stop.image (dev.Nv n)) (view (dev.Nv n)) s (v.shown (dev.Nv n))) refl
 
-      read_by : IsReadBy shelf more (of_members own r.record view) own r.record [] arrays
+      read_by : IsReadBy shelf more (of_members own r.record view) own r.record held.base arrays
       read_by = record {
         in_force = in_force_own;
         all_hold = all_hold;
-        holds = holds_anywhere shelf (of_members own r.record before) (of_members own r.record view) r.record may.logged.patches
-            (subst (λ (b : Array). HoldsBase shelf (of_members own r.record before) r.record b) base_none was_read.holds);
+        holds = read_holds shelf stop.image back more own r.record held.patches held.base m.unnamed held_own view v all_hold;
         leads = leads;
       }
 
-    read_part : (x : IsReadInto shelf stop.image back own r.record arrays) × (x.base ≡ [])
-    read_part = (record { base = []; each = read_by }, refl)
+    read_part : (x : IsReadInto shelf stop.image back own r.record arrays) × (x.base ≡ held.base)
+    read_part = (record { base = held.base; each = read_by }, refl)
 
   one_or : (d : ℕ) → (names r.record (nvram d) ≡ true → nv.IsMember nvrams d) ⊎ ((names r.record (nvram d) ≡ true) × (nv.IsMember nvrams d → ⊥))
   one_or d = elim (cases_Bool (names r.record (nvram d))) [
@@ -428,7 +437,7 @@ module _ (old : Shelved) (is : IsShelf old) (r : Register) (nvrams : List Bool) 
     ]
   ]
 
-  read_own : (x : IsReadInto shelf stop.image back own r.record arrays) × (x.base ≡ [])
+  read_own : (x : IsReadInto shelf stop.image back own r.record arrays) × (x.base ≡ held.base)
   read_own = elim (one_or 0) [
     | inr dropped ↦ read_part 0 (omega arith) dropped.0 dropped.1
     | inl first ↦ elim (one_or 1) [
@@ -439,12 +448,12 @@ module _ (old : Shelved) (is : IsShelf old) (r : Register) (nvrams : List Bool) 
 
   -- ---- the devices stand for the arrays
 
-  reading : (slot2 : BootSlot) (boot2 : BootRecord) → MayBeGiven shelf stop.image back slot2 boot2 → (x : IsReadInto shelf stop.image back slot2 boot2 arrays) × (x.base ≡ [])
+  reading : (slot2 : BootSlot) (boot2 : BootRecord) → MayBeGiven shelf stop.image back slot2 boot2 → (x : IsReadInto shelf stop.image back slot2 boot2 arrays) × (x.base ≡ held.base)
   reading slot2 boot2 g = elim (either slot2 boot2 g) [
-    | inl e ↦ subst (λ (t : BootSlot). (x : IsReadInto shelf stop.image back t boot2 arrays) × (x.base ≡ [])) (sym e.0)
-        (subst (λ (b : BootRecord). (x : IsReadInto shelf stop.image back own b arrays) × (x.base ≡ [])) (sym e.1) read_own)
-    | inr e ↦ subst (λ (t : BootSlot). (x : IsReadInto shelf stop.image back t boot2 arrays) × (x.base ≡ [])) (sym e.0)
-        (subst (λ (b : BootRecord). (x : IsReadInto shelf stop.image back (next_slot r.record) b arrays) × (x.base ≡ [])) (sym e.1) read_next)
+    | inl e ↦ subst (λ (t : BootSlot). (x : IsReadInto shelf stop.image back t boot2 arrays) × (x.base ≡ held.base)) (sym e.0)
+        (subst (λ (b : BootRecord). (x : IsReadInto shelf stop.image back own b arrays) × (x.base ≡ held.base)) (sym e.1) read_own)
+    | inr e ↦ subst (λ (t : BootSlot). (x : IsReadInto shelf stop.image back t boot2 arrays) × (x.base ≡ held.base)) (sym e.0)
+        (subst (λ (b : BootRecord). (x : IsReadInto shelf stop.image back (next_slot r.record) b arrays) × (x.base ≡ held.base)) (sym e.1) read_next)
   ]
 
   flushed_is : (slot2 : BootSlot) (boot2 : BootRecord) → MayBeGiven shelf stop.image back slot2 boot2 → boot2.flushed ≡ r.record.flushed

@@ -1,6 +1,6 @@
 -- The next record of an array that stands in its log alone follows on from what may be given before it.
 use Rattle.std.proofs.Common.{◌≡◌, ◌⊎◌, inl, inr, ℕ, ◌+◌, ◌-◌, ◌^◌, ◌≤◌, ◌<◌, List, [], length, take, refl, sym, ◌∙◌, ap, subst, arith, Bool, true, false}
-use Rattle.std.specs.Prelude.{Some, None, Contains, slice_get, slice_index_or}
+use Rattle.std.specs.Prelude.{Some, Contains, slice_index, slice_index_or}
 use Rattle.std.proofs.lemmas.Bool.{cases_Bool, cases_lt}
 use Rattle.std.proofs.lemmas.List.{take_all, append-nil}
 use Rattle.pur_base.specs.declared.device.Device.{Device}
@@ -14,7 +14,10 @@ use Rattle.boot_codec.specs.Region.{BootSlot, IsRecordOf, IsDecided, votes, othe
 use Rattle.log_codec.specs.Log.{ShowsIn}
 use Rattle.array_spec.specs.Standing.{Stands, MayBeGiven, IsViewOf, IsReadInto, FollowsOn, HasNoLog}
 use Rattle.array_spec.specs.Unflushed.{LogLies}
-use Rattle.array_spec.proofs.UnflushedRead.{unflushed_is_read, unflushed_holds_nothing}
+use Rattle.stored_spec.specs.Held.{TablesHold, NamesNoneLeftOut}
+use Rattle.stored_spec.proofs.Next.{next_holds}
+use Rattle.stored_spec.proofs.Reading.{record_is_read, read_holds}
+use Rattle.stored_spec.proofs.Unique.{one_base}
 use Rattle.array_spec.proofs.Votes.{one_is_decided, sound_before}
 use Rattle.array_spec.proofs.Standings.{within_twice, more_may_go_missing}
 use Rattle.array_spec.proofs.Settling.{this_or_other, twice_other}
@@ -28,6 +31,8 @@ use Rattle.boot_region.proofs.ShownLemmas.{as_read}
 use Rattle.nvram_log.specs.Members as nv
 use Rattle.nvram_log.specs.Held.{HoldsOn}
 use Rattle.register.specs.Registers.{next_record}
+use Rattle.register.specs.Standing.{Content, array_of}
+use Rattle.register.proofs.Splice.{at_splice, splice_stops, splice_bodies, splice_boot, only_boot_twice}
 use Rattle.register.proofs.Numbers.{generation_spelled, next_other, yields_le, slots_differ}
 
 pub left_before : (a b : Condition) → MayBecome a b → b ≡ LeftOut → a ≡ LeftOut
@@ -42,12 +47,15 @@ shows_itself Sound bytes is = refl
 shows_itself Missing bytes is = inl refl
 shows_itself LeftOut bytes is = (refl, is)
 
-module _ (shelf : Shelved) (is : IsShelf shelf) (boot : BootRecord) (members drives nvrams : List Bool) (missing : Conditions) (log : List Command) (arrays : List Array)
+module _ (shelf : Shelved) (is : IsShelf shelf) (boot : BootRecord) (members drives nvrams : List Bool) (missing : Conditions) (held : Content) (arrays : List Array)
     (lawful : IsRecordOf (geometry_of shelf) boot) (next_lawful : IsRecordOf (geometry_of shelf) (next_record boot drives nvrams)) (not_spent : boot.generation + 1 < 2 ^ 48 - 8)
-    (none : boot.patches ≡ []) (among : (i : ℕ) → IsMember members i → IsMember drives i) (some : nv.IsSome nvrams)
-    (holds : HoldsOn shelf nvrams boot.flushed log) (accepted : AllAccepted [] log)
-    (force : IsInForceOn shelf members missing (other_slot (slot_of boot.generation)) boot) (stands : StandsNow shelf missing arrays) (one_of : Contains arrays (after_all [] log))
-    (sound : (n : ℕ) → n < 2 → missing (nvram n) ≡ Sound → nv.IsMember nvrams n) (left_out : (n : ℕ) → missing (nvram n) ≡ LeftOut → nv.IsMember nvrams n → ⊥) where
+    (bytes : (d : Device) (i : ℕ) → slice_index (shelf.disk d).bytes i < 256)
+    (tables : (start : Stop) → MayStop shelf start → TablesHold (geometry_of shelf) start.image (slot_of boot.generation) boot held.patches held.base)
+    (bodies : (i : ℕ) → IsMember drives i → (names boot (drive i) ≡ true) × (body_in (slot_of boot.generation) (shelf.disk (drive i)).bytes ≡ spelling boot)) (among : (i : ℕ) → IsMember members i → IsMember drives i) (some : nv.IsSome nvrams)
+    (holds : HoldsOn shelf nvrams boot.flushed held.log) (accepted : AllAccepted held.base held.log)
+    (force : IsInForceOn shelf members missing (other_slot (slot_of boot.generation)) boot) (stands : StandsNow shelf missing arrays) (one_of : Contains arrays (array_of held))
+    (sound : (n : ℕ) → n < 2 → missing (nvram n) ≡ Sound → nv.IsMember nvrams n) (left_out : (n : ℕ) → missing (nvram n) ≡ LeftOut → nv.IsMember nvrams n → ⊥)
+    (no_drive : (i : ℕ) → missing (drive i) ≡ LeftOut → names boot (drive i) ≡ false) where
   -- ---- it is read into the arrays
   module _ (later : Conditions) (start stop : Stop) (within : IsWithin missing later) (bearable : IsBearable (geometry_of shelf) later) (may : MayStop shelf start) (only : OnlyBoot start.image stop.image)
       (written : (i : ℕ) → i < shelf.drives → later (drive i) ≡ Sound → body_in (other_slot (slot_of boot.generation)) (stop.image (drive i)) ≡ spelling (next_record boot drives nvrams)) where
@@ -70,9 +78,9 @@ module _ (shelf : Shelved) (is : IsShelf shelf) (boot : BootRecord) (members dri
       | inr not ↦ not
     ]
 
-    lies : LogLies stop.image later (next_record boot drives nvrams) log log
+    lies : LogLies stop.image later (next_record boot drives nvrams) held.log held.log
     lies = record {
-      front = ([], sym (append-nil log));
+      front = ([], sym (append-nil held.log));
       room = (holds.log one.0 one.1 one.2).room;
       lawful = λ i c at. ((holds.log one.0 one.1 one.2).between.all i c at).spelled.lawful;
       all = λ n i c lt s at.
@@ -82,15 +90,47 @@ module _ (shelf : Shelved) (is : IsShelf shelf) (boot : BootRecord) (members dri
       left_out = λ n lt out. unnamed n out;
     }
 
-    all_of_it : (n : ℕ) → length log ≤ n → n ≤ length log → Contains arrays (after_all [] (take n log))
+    all_of_it : (n : ℕ) → length held.log ≤ n → n ≤ length held.log → Contains arrays (after_all held.base (take n held.log))
     all_of_it n low high =
-        let e : length log ≡ n = omega (arith, low, high) in
-        let whole : take n log ≡ log = take_all n log low in
-        subst (λ (l : List Command). Contains arrays (after_all [] l)) (sym whole) one_of
+        let whole : take n held.log ≡ held.log = take_all n held.log low in
+        subst (λ (l : List Command). Contains arrays (after_all held.base l)) (sym whole) one_of
 
-    is_read : (r : IsReadInto (geometry_of shelf) stop.image later (other_slot (slot_of boot.generation)) (next_record boot drives nvrams) arrays) × (r.base ≡ [])
-    is_read = unflushed_is_read (geometry_of shelf) stop.image later (other_slot (slot_of boot.generation)) (next_record boot drives nvrams) log log arrays
-        next_lawful none (record { in_its_slot = sym (next_other boot.generation); not_spent = not_spent }) (record { named = named; written = written }) accepted lies all_of_it
+    none_left_out : NamesNoneLeftOut later (next_record boot drives nvrams)
+    none_left_out (dev.Drive d) out = elim (cases_Bool (slice_index_or drives d.0 false)) [
+      | inl m ↦ absurd (cc ((bodies d.0 m).0, no_drive d.0 (left_before (missing (dev.Drive d)) (later (dev.Drive d)) (within (dev.Drive d)) out)))
+      | inr not ↦ not
+    ]
+    none_left_out (dev.Nv n) out = unnamed n.0 out
+
+    -- the boot units as they are read, and the others as the store finds them
+    long : (i : ℕ) → length (shelf.disk (drive i)).bytes ≡ length (start.image (drive i))
+    long i = sym (may.device (drive i)).size
+
+    start_then : Stop
+    start_then = at_splice shelf bytes start.image long (λ d. (may.device d).is_byte) (λ d i le not. (may.device (drive d)).clean i not) (λ n. may.device (nvram n))
+
+    may_then : MayStop shelf start_then
+    unfolding start_then
+    may_then = splice_stops shelf bytes start.image long (λ d. (may.device d).is_byte) (λ d i le not. (may.device (drive d)).clean i not) (λ n. may.device (nvram n))
+
+    only_then : OnlyBoot start_then.image stop.image
+    unfolding start_then
+    only_then = only_boot_twice _ start.image stop.image
+        (splice_boot shelf bytes start.image long (λ d. (may.device d).is_byte) (λ d i le not. (may.device (drive d)).clean i not) (λ n. may.device (nvram n))) only
+
+    showed : (i : ℕ) → names (next_record boot drives nvrams) (drive i) ≡ true → (names boot (drive i) ≡ true) × (body_in (slot_of boot.generation) (start_then.image (drive i)) ≡ spelling boot)
+    unfolding start_then
+    showed i m =
+        let b = bodies i m in
+        (b.0, splice_bodies shelf bytes start.image long (λ d. (may.device d).is_byte) (λ d i le not. (may.device (drive d)).clean i not) (λ n. may.device (nvram n)) (slot_of boot.generation) i ∙ b.1)
+
+    held_next : TablesHold (geometry_of shelf) stop.image (other_slot (slot_of boot.generation)) (next_record boot drives nvrams) held.patches held.base
+    held_next = next_holds (geometry_of shelf) start_then.image stop.image (slot_of boot.generation) (other_slot (slot_of boot.generation)) boot (next_record boot drives nvrams) held.patches held.base
+        lawful refl (λ i named body. showed i named) only_then (tables start_then may_then)
+
+    is_read : (r : IsReadInto (geometry_of shelf) stop.image later (other_slot (slot_of boot.generation)) (next_record boot drives nvrams) arrays) × (r.base ≡ held.base)
+    is_read = record_is_read (geometry_of shelf) stop.image later (other_slot (slot_of boot.generation)) (next_record boot drives nvrams) held.patches held.base held.log held.log arrays
+        next_lawful (record { in_its_slot = sym (next_other boot.generation); not_spent = not_spent }) (record { named = named; written = written }) none_left_out held_next accepted lies all_of_it
 
     -- ---- and it follows on
     module _ (s : Stands (geometry_of shelf) start.image missing arrays) (slot2 : BootSlot) (boot2 : BootRecord) (g : MayBeGiven (geometry_of shelf) start.image missing slot2 boot2) where
@@ -160,9 +200,11 @@ module _ (shelf : Shelved) (is : IsShelf shelf) (boot : BootRecord) (members dri
         | inr (e, le) ↦ absurd (same_generation e (omega (arith, le, lt)))
       ]
 
-      base_none : (s.reads (slot_of boot.generation) boot given).base ≡ []
-      base_none = unflushed_holds_nothing (geometry_of shelf) (of_members (slot_of boot.generation) boot (λ d. Some (start.image d))) boot (s.reads (slot_of boot.generation) boot given).base none
-          ((s.reads (slot_of boot.generation) boot given).each missing (λ d. Some (start.image d)) itself).holds
+      base_is : (s.reads (slot_of boot.generation) boot given).base ≡ held.base
+      base_is =
+          let read = (s.reads (slot_of boot.generation) boot given).each missing (λ d. Some (start.image d)) itself in
+          one_base (geometry_of shelf) (of_members (slot_of boot.generation) boot (λ d. Some (start.image d))) boot (s.reads (slot_of boot.generation) boot given).base held.base read.holds
+          (read_holds (geometry_of shelf) start.image missing missing (slot_of boot.generation) boot held.patches held.base no_drive (tables start may) (λ d. Some (start.image d)) itself read.all_hold)
 
       -- a view of the stop shows of NVRAM what one of the start shows
       module _ (more : Conditions) (view : View) (v : IsViewOf (geometry_of shelf) stop.image later more view) where
@@ -181,17 +223,17 @@ module _ (shelf : Shelved) (is : IsShelf shelf) (boot : BootRecord) (members dri
             its.no_log lt more before (record { within = within_twice missing later more within v.within; bearable = v.bearable; shown = shown }) device i c
             (record { slot = x.slot; bytes = x.bytes; shown = x.shown; gate = x.gate; spelled = x.spelled })
 
-      follows : (base : Array) → base ≡ [] → FollowsOn (geometry_of shelf) stop.image later (other_slot (slot_of boot.generation)) (next_record boot drives nvrams) boot2 base (s.reads slot2 boot2 g).base
+      follows : (base : Array) → base ≡ held.base → FollowsOn (geometry_of shelf) stop.image later (other_slot (slot_of boot.generation)) (next_record boot drives nvrams) boot2 base (s.reads slot2 boot2 g).base
           × FollowsOn (geometry_of shelf) stop.image later slot2 boot2 (next_record boot drives nvrams) (s.reads slot2 boot2 g).base base
       follows base nothing = (
         record {
           in_order = in_order;
-          same_base = λ e. nothing ∙ sym base_none ∙ mine.same_base e;
+          same_base = λ e. nothing ∙ sym base_is ∙ mine.same_base e;
           no_log = λ lt more view v. absurd (past lt);
         },
         record {
           in_order = λ lt. no_less;
-          same_base = λ e. its.same_base e ∙ base_none ∙ sym nothing;
+          same_base = λ e. its.same_base e ∙ base_is ∙ sym nothing;
           no_log = λ lt more view v. no_log more view v lt;
         },
       )

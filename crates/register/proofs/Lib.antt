@@ -8,3 +8,5 @@ pub mod Back
 pub mod Rounds
 pub mod Stores
 pub mod Turns
+pub mod Splice
+pub mod Unflushed

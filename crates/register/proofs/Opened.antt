@@ -5,7 +5,6 @@ use Rattle.std.specs.List.{range_with_len}
 use Rattle.std.proofs.lemmas.Bool.{cases_lt}
 use Rattle.pur_base.specs.Devices.{Sound, LeftOut, IsBearable, is_missing, drive, nvram}
 use Rattle.pur_base.specs.Plain.{Array}
-use Rattle.pur_base.specs.Commands.{Command, after_all}
 use Rattle.boot_codec.specs.Record.{set_count}
 use Rattle.boot_codec.specs.Spelling.{spelling}
 use Rattle.boot_codec.specs.Region.{slot_of, names}
@@ -17,7 +16,7 @@ use Rattle.boot_region.specs.Storing.{Shows, IsOlder}
 use Rattle.nvram_log.specs.Members as nv
 use Rattle.register.specs.declared.state.Register.{Register}
 use Rattle.register.specs.Registers.{drives_of, next_slot, named_sound}
-use Rattle.register.specs.Standing.{StandsInLog, IsOpen}
+use Rattle.register.specs.Standing.{Content, StandsInLog, IsOpen, array_of}
 use Rattle.register.proofs.FlagLemmas.{none_past, cut_in}
 use Rattle.register.proofs.Resting.{in_force, stands, alone}
 
@@ -93,8 +92,8 @@ not_missed : (b : Bool) → b ≡ true → is_missing (if b then Sound else Left
 not_missed true e = refl
 not_missed false e = absurd (cc e)
 
-module _ (shelf : Shelved) (is : IsShelf shelf) (r : Register) (nvrams : List Bool) (log : List Command)
-    (logged : StandsInLog shelf r nvrams log) (drives : r.record.members.drives ≡ r.drives) (nvrams_are : r.record.members.nvrams ≡ nvrams)
+module _ (shelf : Shelved) (is : IsShelf shelf) (r : Register) (nvrams : List Bool) (held : Content)
+    (logged : StandsInLog shelf r nvrams held) (drives : r.record.members.drives ≡ r.drives) (nvrams_are : r.record.members.nvrams ≡ nvrams)
     (enough : r.record.slots ≤ set_count r.drives + 2) (not_spent : r.record.generation < 2 ^ 48 - 8) (some : nv.IsSome nvrams)
     (shown : (i : ℕ) → IsMember (drives_of r) i → Shows shelf (slot_of r.record.generation) (spelling r.record) i)
     (older : (i : ℕ) → IsMember (drives_of r) i → IsOlder shelf (next_slot r.record) (spelling r.record) i) where
@@ -140,14 +139,17 @@ module _ (shelf : Shelved) (is : IsShelf shelf) (r : Register) (nvrams : List Bo
   left : (n : ℕ) → named_sound r.record (nvram n) ≡ LeftOut → nv.IsMember nvrams n → ⊥
   left n out m = absurd (cc (is_left (names r.record (nvram n)) out, named_nvram n m))
 
-  pub is_open : IsOpen shelf r nvrams log
+  no_drive : (i : ℕ) → named_sound r.record (drive i) ≡ LeftOut → names r.record (drive i) ≡ false
+  no_drive i out = is_left (names r.record (drive i)) out
+
+  pub is_open : IsOpen shelf r nvrams held
   is_open = record {
     logged = logged;
     drives = drives;
     nvrams_are = nvrams_are;
     bearable = bearable;
-    in_force = in_force shelf is r nvrams log (after_all [] log ∷ []) (in_only (after_all [] log)) logged nvrams_are not_spent some shown older (named_sound r.record) bearable (λ i lt s. sound_in i s) nv_sound left;
+    in_force = in_force shelf is r nvrams held (array_of held ∷ []) (in_only (array_of held)) logged nvrams_are not_spent some shown older (named_sound r.record) bearable (λ i lt s. sound_in i s) nv_sound left no_drive;
     older = λ i m s. older i m;
-    stands = stands shelf is r nvrams log (after_all [] log ∷ []) (in_only (after_all [] log)) logged nvrams_are not_spent some shown older (named_sound r.record) bearable (λ i lt s. sound_in i s) nv_sound left;
-    alone = λ stop slot2 boot2 may g. alone shelf is r nvrams log (after_all [] log ∷ []) (in_only (after_all [] log)) logged nvrams_are not_spent some shown older (named_sound r.record) bearable (λ i lt s. sound_in i s) nv_sound left stop may slot2 boot2 g;
+    stands = stands shelf is r nvrams held (array_of held ∷ []) (in_only (array_of held)) logged nvrams_are not_spent some shown older (named_sound r.record) bearable (λ i lt s. sound_in i s) nv_sound left no_drive;
+    alone = λ stop slot2 boot2 may g. alone shelf is r nvrams held (array_of held ∷ []) (in_only (array_of held)) logged nvrams_are not_spent some shown older (named_sound r.record) bearable (λ i lt s. sound_in i s) nv_sound left no_drive stop may slot2 boot2 g;
   }

@@ -18,7 +18,8 @@ use Rattle.log_codec.specs.Log.{ShowsIn}
 use Rattle.array_spec.specs.Standing.{Stands, MayBeGiven, MayAppear, IsReadInto}
 use Rattle.array_spec.specs.Laws.{IsHeld, is_sound_vote}
 use Rattle.array_spec.specs.Unflushed.{LogLies, NamesSound}
-use Rattle.array_spec.proofs.UnflushedRead.{unflushed_is_read}
+use Rattle.stored_spec.specs.Held.{NamesNoneLeftOut}
+use Rattle.stored_spec.proofs.Reading.{record_is_read}
 use Rattle.array_spec.proofs.Votes.{counted, one_is_effective, held_is_given}
 use Rattle.array_spec.proofs.Held.{held_stands}
 use Rattle.array_spec.proofs.Settling.{twice_other}
@@ -32,7 +33,7 @@ use Rattle.boot_region.proofs.ShownLemmas.{as_read, shown_body}
 use Rattle.nvram_log.specs.Members as nv
 use Rattle.register.specs.declared.state.Register.{Register}
 use Rattle.register.specs.Registers.{drives_of, next_slot}
-use Rattle.register.specs.Standing.{StandsInLog, MayStore}
+use Rattle.register.specs.Standing.{Content, StandsInLog, MayStore, array_of}
 use Rattle.register.proofs.FlagLemmas.{in_cut}
 
 votes_not : (o : Option (List ℕ)) (other : List ℕ) → ((x : List ℕ) → o ≡ Some x → bytes_eq x other ≡ false) → is_vote other o ≡ false
@@ -50,13 +51,14 @@ pub yields_or : (s : BootSlot) (a b : ℕ) → Yields s a b ⊎ (Yields s a b �
 yields_or A a b = elim (cases_lt b a) [ inl lt ↦ inr (λ le. omega (arith, lt, le)) | inr ge ↦ inl ge ]
 yields_or B a b = elim (cases_lt a b) [ inl lt ↦ inl lt | inr ge ↦ inr (λ lt. omega (arith, lt, ge)) ]
 
-module _ (shelf : Shelved) (is : IsShelf shelf) (r : Register) (nvrams : List Bool) (log : List Command) (arrays : List Array) (one_of : Contains arrays (after_all [] log))
-    (logged : StandsInLog shelf r nvrams log) (nvrams_are : r.record.members.nvrams ≡ nvrams) (not_spent : r.record.generation < 2 ^ 48 - 8) (some : nv.IsSome nvrams)
+module _ (shelf : Shelved) (is : IsShelf shelf) (r : Register) (nvrams : List Bool) (held : Content) (arrays : List Array) (one_of : Contains arrays (array_of held))
+    (logged : StandsInLog shelf r nvrams held) (nvrams_are : r.record.members.nvrams ≡ nvrams) (not_spent : r.record.generation < 2 ^ 48 - 8) (some : nv.IsSome nvrams)
     (shown : (i : ℕ) → IsMember (drives_of r) i → Shows shelf (slot_of r.record.generation) (spelling r.record) i)
     (older : (i : ℕ) → IsMember (drives_of r) i → IsOlder shelf (next_slot r.record) (spelling r.record) i)
     (known : Conditions) (bearable : IsBearable (geometry_of shelf) known)
     (sound : (i : ℕ) → i < shelf.drives → known (drive i) ≡ Sound → IsMember (drives_of r) i)
-    (nv_sound : (n : ℕ) → n < 2 → known (nvram n) ≡ Sound → nv.IsMember nvrams n) (left : (n : ℕ) → known (nvram n) ≡ LeftOut → nv.IsMember nvrams n → ⊥) where
+    (nv_sound : (n : ℕ) → n < 2 → known (nvram n) ≡ Sound → nv.IsMember nvrams n) (left : (n : ℕ) → known (nvram n) ≡ LeftOut → nv.IsMember nvrams n → ⊥)
+    (no_drive : (i : ℕ) → known (drive i) ≡ LeftOut → names r.record (drive i) ≡ false) where
   nvram_named : (n : ℕ) → names r.record (nvram n) ≡ true → nv.IsMember nvrams n
   nvram_named n e = subst (λ (l : List Bool). nv.IsMember l n) nvrams_are e
 
@@ -64,9 +66,9 @@ module _ (shelf : Shelved) (is : IsShelf shelf) (r : Register) (nvrams : List Bo
   named_nvram n m = subst (λ (l : List Bool). nv.IsMember l n) (sym nvrams_are) m
 
   some_arrays : arrays ≢ []
-  some_arrays e = none_in (subst (λ (l : List Array). Contains l (after_all [] log)) e one_of)
+  some_arrays e = none_in (subst (λ (l : List Array). Contains l (array_of held)) e one_of)
     where
-      none_in : Contains [] (after_all [] log) → ⊥
+      none_in : Contains [] (array_of held) → ⊥
       none_in c = absurd (omega (arith, c.1))
 
   one : (n : ℕ) × (n < 2) × nv.IsMember nvrams n
@@ -112,8 +114,8 @@ module _ (shelf : Shelved) (is : IsShelf shelf) (r : Register) (nvrams : List Bo
           inr (omega (arith, none, is.drives.0))
     ]
 
-    held : IsHeld (geometry_of shelf) stop.image known (slot_of r.record.generation) (spelling r.record)
-    held = record { shown = shows; few = few }
+    is_held : IsHeld (geometry_of shelf) stop.image known (slot_of r.record.generation) (spelling r.record)
+    is_held = record { shown = shows; few = few }
 
     pub given : MayBeGiven (geometry_of shelf) stop.image known (slot_of r.record.generation) r.record
     given =
@@ -123,7 +125,7 @@ module _ (shelf : Shelved) (is : IsShelf shelf) (r : Register) (nvrams : List Bo
           view = λ k. Some (stop.image k);
           appears = a;
           lawful = logged.is_of.lawful;
-          effective = held_is_given (geometry_of shelf) stop.image known known (λ k. Some (stop.image k)) (slot_of r.record.generation) (spelling r.record) is.drives.0 held a;
+          effective = held_is_given (geometry_of shelf) stop.image known known (λ k. Some (stop.image k)) (slot_of r.record.generation) (spelling r.record) is.drives.0 is_held a;
         }
 
     unnamed : (n : ℕ) → known (nvram n) ≡ LeftOut → names r.record (nvram n) ≡ false
@@ -136,9 +138,9 @@ module _ (shelf : Shelved) (is : IsShelf shelf) (r : Register) (nvrams : List Bo
     named (dev.Drive d) on s = logged.is_of.named d.0 (in_cut r.drives r.record.slots d.0 (sound d.0 on s))
     named (dev.Nv n) on s = named_nvram n.0 (nv_sound n.0 on s)
 
-    lies : LogLies stop.image known r.record log log
+    lies : LogLies stop.image known r.record held.log held.log
     lies = record {
-      front = ([], sym (append-nil log));
+      front = ([], sym (append-nil held.log));
       room = (logged.holds.log one.0 one.1 one.2).room;
       lawful = λ i c at. ((logged.holds.log one.0 one.1 one.2).between.all i c at).spelled.lawful;
       all = λ n i c lt s at.
@@ -156,19 +158,23 @@ module _ (shelf : Shelved) (is : IsShelf shelf) (r : Register) (nvrams : List Bo
       written = λ i lt s. shown_body (slot_of r.record.generation) (stop.image (drive i)) (spelling r.record) (shows i lt s);
     }
 
-    all_of_it : (n : ℕ) → length log ≤ n → n ≤ length log → Contains arrays (after_all [] (take n log))
-    all_of_it n low high = subst (λ (l : List Command). Contains arrays (after_all [] l)) (sym (take_all n log low)) one_of
+    all_of_it : (n : ℕ) → length held.log ≤ n → n ≤ length held.log → Contains arrays (after_all held.base (take n held.log))
+    all_of_it n low high = subst (λ (l : List Command). Contains arrays (after_all held.base l)) (sym (take_all n held.log low)) one_of
+
+    none_left_out : NamesNoneLeftOut known r.record
+    none_left_out (dev.Drive d) out = no_drive d.0 out
+    none_left_out (dev.Nv n) out = unnamed n.0 out
 
     is_read : IsReadInto (geometry_of shelf) stop.image known (slot_of r.record.generation) r.record arrays
-    is_read = (unflushed_is_read (geometry_of shelf) stop.image known (slot_of r.record.generation) r.record log log arrays
-        logged.is_of.lawful logged.patches (record { in_its_slot = refl; not_spent = not_spent }) names_sound logged.accepted lies all_of_it).0
+    is_read = (record_is_read (geometry_of shelf) stop.image known (slot_of r.record.generation) r.record held.patches held.base held.log held.log arrays
+        logged.is_of.lawful (record { in_its_slot = refl; not_spent = not_spent }) names_sound none_left_out (logged.tables stop may) logged.accepted lies all_of_it).0
 
     pub stands : Stands (geometry_of shelf) stop.image known arrays
-    stands = held_stands (geometry_of shelf) stop.image known (slot_of r.record.generation) r.record arrays is.drives.0 bearable some_arrays logged.is_of.lawful held is_read
+    stands = held_stands (geometry_of shelf) stop.image known (slot_of r.record.generation) r.record arrays is.drives.0 bearable some_arrays logged.is_of.lawful is_held is_read
 
     pub alone : (slot2 : BootSlot) (boot2 : BootRecord) → MayBeGiven (geometry_of shelf) stop.image known slot2 boot2 → (slot2 ≡ slot_of r.record.generation) × (boot2 ≡ r.record)
     alone slot2 boot2 g =
-        let mine = held_is_given (geometry_of shelf) stop.image known g.more g.view (slot_of r.record.generation) (spelling r.record) is.drives.0 held g.appears in
+        let mine = held_is_given (geometry_of shelf) stop.image known g.more g.view (slot_of r.record.generation) (spelling r.record) is.drives.0 is_held g.appears in
         let both = one_is_effective (geometry_of shelf) g.view slot2 (slot_of r.record.generation) (spelling boot2) (spelling r.record) g.effective mine in
         (both.0, spells_one (geometry_of shelf) boot2 r.record g.lawful logged.is_of.lawful both.1)
 
@@ -181,7 +187,7 @@ module _ (shelf : Shelved) (is : IsShelf shelf) (r : Register) (nvrams : List Bo
     given = λ start may. subst (λ (t : BootSlot). MayBeGiven (geometry_of shelf) start.image known t r.record) (sym (twice_other (slot_of r.record.generation))) (given start may);
   }
 
-  pub may_store : MayStore shelf r nvrams known log arrays
+  pub may_store : MayStore shelf r nvrams known held arrays
   may_store = record {
     logged = logged;
     in_force = in_force;
@@ -189,4 +195,5 @@ module _ (shelf : Shelved) (is : IsShelf shelf) (r : Register) (nvrams : List Bo
     one_of = one_of;
     sound = nv_sound;
     left_out = left;
+    unnamed = no_drive;
   }

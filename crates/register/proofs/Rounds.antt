@@ -1,22 +1,24 @@
 -- One store of the next record.
 use Rattle.std.proofs.Common.{◌≡◌, inl, inr, ℕ, zero, suc, ◌+◌, ◌-◌, ◌^◌, ◌≤◌, ◌<◌, List, [], ◌∷◌, length, take, refl, sym, ◌∙◌, ap, subst, arith, Bool, true, false}
-use Rattle.std.proofs.lemmas.Bool.{cases_lt}
+use Rattle.std.specs.Prelude.{slice_index, slice_index_or}
+use Rattle.std.proofs.lemmas.Bool.{cases_Bool, cases_lt}
 use Rattle.pur_base.specs.declared.device.Device.{Device}
 use Rattle.pur_base.specs.Devices.{Conditions, drive, nvram}
 use Rattle.pur_base.specs.Plain.{Array}
-use Rattle.pur_base.specs.Commands.{Command}
 use Rattle.boot_codec.specs.declared.limits.TheConstants.{RECORD_BYTES}
 use Rattle.boot_codec.specs.declared.record.BootRecord.{BootRecord}
 use Rattle.boot_codec.specs.Record.{IsBootRecord, set_count}
 use Rattle.boot_codec.specs.Spelling.{spelling}
-use Rattle.boot_codec.specs.Region.{BootSlot, A, B, IsRecordOf, other_slot, body_in, body_place, generation_in, Yields}
+use Rattle.boot_codec.specs.Region.{BootSlot, A, B, IsRecordOf, names, other_slot, body_in, body_place, generation_in, Yields}
 use Rattle.array_spec.specs.Standing.{MayBeGiven}
+use Rattle.stored_spec.specs.Held.{TablesHold}
+use Rattle.stored_spec.proofs.Next.{next_holds}
 use Rattle.array_spec.proofs.Quiet.{bytes_same}
 use Rattle.array_spec.proofs.Votes.{counted, sound_before}
 use Rattle.array_spec.proofs.Settling.{twice_other}
-use Rattle.world.specs.Shelf.{Shelved, Disk, Stop, IsShelf, Continues, LeavesOnly}
+use Rattle.world.specs.Shelf.{Shelved, Disk, Stop, IsShelf, IsInSome, MayLeave, MayStop, Continues, LeavesOnly}
 use Rattle.world.specs.Losing.{geometry_of}
-use Rattle.world.specs.Writes.{WritesOnly, ChangesOnly}
+use Rattle.world.specs.Writes.{WritesOnly, ChangesOnly, LeavesBut}
 use Rattle.world.proofs.Moments.{weaker}
 use Rattle.world.proofs.Writes.{writes_more}
 use Rattle.boot_region.specs.Members.{IsMember, NonMembersStay, DroppedFailed, OnSlot}
@@ -27,11 +29,13 @@ use Rattle.nvram_log.specs.Held.{HoldsOn}
 use Rattle.nvram_log.specs.Slots.{IsLog}
 use Rattle.register.specs.declared.state.Register.{Register}
 use Rattle.register.specs.Registers.{IsRegisterOf, OnSlots, drives_of, own_slot, next_slot, next_record}
-use Rattle.register.specs.Standing.{IsNextOf, GivesOldOrNext, IsInStoreOf, StillGiven, StandsInLog, MayStore, MayStoreAgain}
-use Rattle.register.proofs.FlagLemmas.{fewer_mask, in_cut, cut_in}
+use Rattle.register.specs.Standing.{Content, IsNextOf, GivesOldOrNext, IsInStoreOf, StillGiven, StandsInLog, MayStore, MayStoreAgain}
+use Rattle.register.proofs.Again.{both}
+use Rattle.register.proofs.FlagLemmas.{fewer_mask, in_cut, cut_in, none_past}
 use Rattle.register.proofs.Numbers.{generation_spelled, next_other, lower_yields}
 use Rattle.register.proofs.Back.{is_next_of, stands_back}
 use Rattle.register.proofs.Follows.{may_follow, left_before}
+use Rattle.register.proofs.Splice.{in_boot, at_splice, splice_stops, splice_bodies, splice_boot}
 
 -- ---- the next record is lawful
 
@@ -123,24 +127,59 @@ module _ (old new : Shelved) (is_old : IsShelf old) (on : Continues old new) (wa
     named = λ i m. subst (λ (b : BootRecord). IsMember b.members.drives i) (sym kept) (fewer_all i m);
   }
 
+  -- a drive that is left is one of the shelf's
+  cut_drives : (i : ℕ) → IsMember was.drives i → IsMember (drives_of was) i
+  cut_drives i m = elim (cases_lt i was.record.slots) [
+    | inl lt ↦ cut_in was.drives was.record.slots i lt m
+    | inr ge ↦ absurd (none_past was.record.members.drives was.record.slots i is_of.lawful.lawful.members.within ge (is_of.named i m))
+  ]
+
+  same_size : geometry_of old ≡ geometry_of new
+  same_size =
+      let e : new.drives ≡ old.drives = on.drives in
+      let f : new.units ≡ old.units = on.units in
+      λ k. record { slots = sym e k; units = sym f k }
+
   nvram_same : (n : ℕ) → new.disk (nvram n) ≡ old.disk (nvram n)
   nvram_same n = puts.others (nvram n) (λ x. x)
 
-  module _ (h : old.honest) (log : List Command) (logged : StandsInLog old was nvrams log) where
+  module _ (h : old.honest) (held : Content) (logged : StandsInLog old was nvrams held) where
     body_stands : (i : ℕ) → IsMember (drives_of now) i → body_in (next_slot was.record) (new.disk (drive i)).bytes ≡ spelling (next_record was.record was.drives nvrams)
     body_stands i m = shown_body (next_slot was.record) (new.disk (drive i)).bytes (spelling (next_record was.record was.drives nvrams)) (puts.shown h i m).shown
 
     own_is : own_slot (next_record was.record was.drives nvrams) ≡ next_slot was.record
     own_is = next_other was.record.generation
 
-    pub logged_next : StandsInLog new now nvrams log
+    -- a stop after the store leaves the other units as one before it might have
+    module _ (start : Stop) (may : MayStop new start) where
+      long : (i : ℕ) → length (old.disk (drive i)).bytes ≡ length (start.image (drive i))
+      long i = sym (((puts.writes h).device (drive i)).size) ∙ sym (may.device (drive i)).size
+
+      same : (d i : ℕ) → 196608 ≤ i → (IsInSome (old.disk (drive d)).dirty i → ⊥) → slice_index (start.image (drive d)) i ≡ slice_index (old.disk (drive d)).bytes i
+      same d i le not =
+          let changes = (puts.writes h).device (drive d) in
+          let outside : OnSlot (drives_of was) (next_slot was.record) (drive d) i → ⊥ = λ w. in_boot (drives_of was) (next_slot was.record) d i le w in
+          (may.device (drive d)).clean i (λ dirty. elim (changes.dirty i dirty) [ inl was_dirty ↦ not was_dirty | inr w ↦ outside w ]) ∙ changes.bytes i outside
+
+      log_then : (n : ℕ) → MayLeave (old.disk (nvram n)) (start.image (nvram n))
+      log_then n = subst (λ (d : Disk). MayLeave d (start.image (nvram n))) (nvram_same n) (may.device (nvram n))
+
+      held_now : TablesHold (geometry_of new) start.image (own_slot (next_record was.record was.drives nvrams)) (next_record was.record was.drives nvrams) held.patches held.base
+      held_now = subst (λ g. TablesHold g start.image (own_slot (next_record was.record was.drives nvrams)) (next_record was.record was.drives nvrams) held.patches held.base) same_size
+          (next_holds (geometry_of old) (at_splice old (is_old.bytes h) start.image long (λ d. (may.device d).is_byte) same log_then).image start.image (own_slot was.record) (own_slot (next_record was.record was.drives nvrams))
+          was.record (next_record was.record was.drives nvrams) held.patches held.base is_of.lawful refl
+          (λ i m body. (is_of.named i m, splice_bodies old (is_old.bytes h) start.image long (λ d. (may.device d).is_byte) same log_then (own_slot was.record) i ∙ logged.bodies i (cut_drives i m)))
+          (splice_boot old (is_old.bytes h) start.image long (λ d. (may.device d).is_byte) same log_then)
+          (logged.tables (at_splice old (is_old.bytes h) start.image long (λ d. (may.device d).is_byte) same log_then) (splice_stops old (is_old.bytes h) start.image long (λ d. (may.device d).is_byte) same log_then)))
+
+    pub logged_next : StandsInLog new now nvrams held
     logged_next = record {
       is_of = is_of_next;
-      patches = ap (λ (b : BootRecord). b.patches) kept ∙ logged.patches;
+      tables = λ start may. subst (λ (b : BootRecord). TablesHold (geometry_of new) start.image (own_slot b) b held.patches held.base) (sym kept) (held_now start may);
       bodies = λ i m. subst (λ (b : BootRecord). body_in (own_slot b) (new.disk (drive i)).bytes ≡ spelling b) (sym kept)
           (subst (λ (t : BootSlot). body_in t (new.disk (drive i)).bytes ≡ spelling (next_record was.record was.drives nvrams)) (sym own_is) (body_stands i m));
-      holds = subst (λ (b : BootRecord). HoldsOn new nvrams b.flushed log) (sym kept) (record {
-        log = λ n lt m. subst (λ (d : Disk). IsLog d.bytes was.record.flushed log) (sym (nvram_same n)) (logged.holds.log n lt m);
+      holds = subst (λ (b : BootRecord). HoldsOn new nvrams b.flushed held.log) (sym kept) (record {
+        log = λ n lt m. subst (λ (d : Disk). IsLog d.bytes was.record.flushed held.log) (sym (nvram_same n)) (logged.holds.log n lt m);
         clean = λ n lt m. subst (λ (d : Disk). d.dirty ≡ []) (sym (nvram_same n)) (logged.holds.clean n lt m);
       });
       accepted = logged.accepted;
@@ -168,7 +207,7 @@ module _ (old new : Shelved) (is_old : IsShelf old) (on : Continues old new) (wa
   shown_next h i m = subst (λ (b : BootRecord). Shows new (own_slot b) (spelling b) i) (sym kept)
       (subst (λ (t : BootSlot). Shows new t (spelling (next_record was.record was.drives nvrams)) i) (sym (next_other was.record.generation)) (puts.shown h i m))
 
-  module _ (h : old.honest) (not_spent : was.record.generation + 1 < 2 ^ 48 - 8) (missing : Conditions) (log : List Command) (arrays : List Array) (may : MayStore old was nvrams missing log arrays) where
+  module _ (h : old.honest) (not_spent : was.record.generation + 1 < 2 ^ 48 - 8) (missing : Conditions) (held : Content) (arrays : List Array) (may : MayStore old was nvrams missing held arrays) where
     among : (i : ℕ) → IsMember (drives_of was) i → IsMember was.drives i
     among i m = in_cut was.drives was.record.slots i m
 
@@ -176,8 +215,8 @@ module _ (old new : Shelved) (is_old : IsShelf old) (on : Continues old new) (wa
     next_lawful_of = record { lawful = lawful; slots = is_of.lawful.slots; units = is_of.lawful.units }
 
     follow : MayFollow old missing (next_slot was.record) (next_record was.record was.drives nvrams) arrays
-    follow = may_follow old is_old was.record (drives_of was) was.drives nvrams missing log arrays is_of.lawful next_lawful_of not_spent may.logged.patches among some
-        may.logged.holds may.logged.accepted may.in_force may.stands may.one_of may.sound may.left_out
+    follow = may_follow old is_old was.record (drives_of was) was.drives nvrams missing held arrays is_of.lawful next_lawful_of not_spent (is_old.bytes h) may.logged.tables
+        (λ i m. (is_of.named i m, may.logged.bodies i (cut_drives i m))) among some may.logged.holds may.logged.accepted may.in_force may.stands may.one_of may.sound may.left_out may.unnamed
 
     stands_next : (stop : Stop) → IsInStore old (drives_of was) (next_slot was.record) (spelling (next_record was.record was.drives nvrams)) stop → StandsBut old (drives_of was) missing (next_slot was.record) was.record arrays stop
     stands_next stop at = at.stands missing was.record (next_record was.record was.drives nvrams) arrays refl may.in_force follow
@@ -188,37 +227,41 @@ module _ (old new : Shelved) (is_old : IsShelf old) (on : Continues old new) (wa
       | inr given ↦ inl given
     ]
 
-    pub again_next : MayStoreAgain old new was now nvrams missing log arrays
+    pub again_next : MayStoreAgain old new was now nvrams missing held arrays
     again_next later account =
-        let s = puts.stored h missing was.record (next_record was.record was.drives nvrams) arrays refl (newer h log may.logged (next_slot was.record)) may.in_force follow later account in
+        let s = puts.stored h missing was.record (next_record was.record was.drives nvrams) arrays refl (newer h held may.logged (next_slot was.record)) may.in_force follow later account in
         record {
-          logged = logged_next h log may.logged;
+          logged = logged_next h held may.logged;
           in_force = subst (λ (b : BootRecord). IsInForceOn new (drives_of now) later (next_slot b) b) (sym kept)
               (subst (λ (t : BootSlot). IsInForceOn new (drives_of now) later (other_slot t) (next_record was.record was.drives nvrams)) (sym (next_other was.record.generation)) s.in_force);
           stands = s.stands;
           one_of = may.one_of;
           sound = λ n lt e. may.sound n lt (sound_before (missing (nvram n)) (later (nvram n)) (account.within (nvram n)) e);
           left_out = λ n e m. may.left_out n (left_before (missing (nvram n)) (later (nvram n)) (account.within (nvram n)) e) m;
+          unnamed = λ i e. subst (λ (b : BootRecord). names b (drive i) ≡ false) (sym kept) (elim (cases_Bool (slice_index_or was.drives i false)) [
+            | inl m ↦ absurd (cc (is_of.named i m, may.unnamed i (left_before (missing (drive i)) (later (drive i)) (account.within (drive i)) e)))
+            | inr not ↦ not
+          ]);
         }
 
   -- at each moment, whatever the conditions
   module _ (h : old.honest) (not_spent : was.record.generation + 1 < 2 ^ 48 - 8) where
-    still_next : (log : List Command) (stop : Stop) → HeldStill old (drives_of was) (next_slot was.record) stop → StillGiven old was nvrams log stop
-    still_next log stop still missing arrays may later account given =
+    still_next : (held : Content) (stop : Stop) → HeldStill old (drives_of was) (next_slot was.record) stop → StillGiven old was nvrams held stop
+    still_next held stop still missing arrays may later account given =
         subst (λ (t : BootSlot). MayBeGiven (geometry_of old) stop.image later t was.record) (twice_other (own_slot was.record))
         (still missing was.record may.in_force later account (λ start m. subst (λ (t : BootSlot). MayBeGiven (geometry_of old) start.image later t was.record) (sym (twice_other (own_slot was.record))) (given start m)))
 
-    in_store_next : (stop : Stop) → IsInStore old (drives_of was) (next_slot was.record) (spelling (next_record was.record was.drives nvrams)) stop → IsInStoreOf old was nvrams stop
-    in_store_next stop at = record {
-      stands = λ missing log arrays may. stands_next h not_spent missing log arrays may stop at;
-      gives = λ missing log arrays may. gives_next h not_spent missing log arrays may stop at;
-      back = λ log logged shows. elim at.phase [
-        | inl still ↦ inl (still_next log stop still)
+    in_store_next : (stop : Stop) → IsInStore old (drives_of was) (next_slot was.record) (spelling (next_record was.record was.drives nvrams)) stop → LeavesBut (OnSlot (drives_of was) (next_slot was.record)) old stop → IsInStoreOf old was nvrams stop
+    in_store_next stop at left = record {
+      stands = λ missing held arrays may. stands_next h not_spent missing held arrays may stop at;
+      gives = λ missing held arrays may. gives_next h not_spent missing held arrays may stop at;
+      back = λ held logged shows. elim at.phase [
+        | inl still ↦ inl (still_next held stop still)
         | inr opening ↦ inr (record {
-          each = λ missing arrays may back m. stands_back old is_old was nvrams log some lawful not_spent shows stop opening missing arrays may back m;
+          each = λ missing arrays may back m. stands_back old is_old was nvrams held some lawful not_spent shows (is_old.bytes h) (cut_drives) stop opening left missing arrays may back m;
         })
       ];
     }
 
     pub moments_next : LeavesOnly old new (IsInStoreOf old was nvrams)
-    moments_next = weaker in_store_next (puts.moments h)
+    moments_next = weaker (λ stop x. in_store_next stop x.0 x.1) (both (puts.moments h) (puts.writes h).any_moment)

@@ -1,12 +1,11 @@
 -- A store that goes on: a moment of a later round is one of the whole.
-use Rattle.std.proofs.Common.{◌≡◌, ◌⊎◌, inl, inr, ℕ, ◌-◌, ◌^◌, ◌≤◌, ◌<◌, List, refl, sym, subst, arith, Bool}
-use Rattle.std.proofs.lemmas.Bool.{cases_lt}
+use Rattle.std.proofs.Common.{◌≡◌, ◌⊎◌, inl, inr, ℕ, ◌-◌, ◌^◌, ◌≤◌, ◌<◌, List, refl, sym, subst, arith, Bool, false}
+use Rattle.std.proofs.lemmas.Bool.{cases_Bool, cases_lt}
 use Rattle.pur_base.specs.Devices.{Conditions, Sound, LeftOut, IsBearable, drive, nvram}
 use Rattle.pur_base.specs.Plain.{Array}
-use Rattle.pur_base.specs.Commands.{Command}
 use Rattle.boot_codec.specs.declared.record.BootRecord.{BootRecord}
 use Rattle.boot_codec.specs.Spelling.{spelling}
-use Rattle.boot_codec.specs.Region.{BootSlot}
+use Rattle.boot_codec.specs.Region.{BootSlot, names}
 use Rattle.array_spec.specs.Standing.{Stands, MayBeGiven}
 use Rattle.world.specs.Shelf.{Shelved, Stop, MayStop, IsShelf, IsCountedBy, Continues, LeavesOnly}
 use Rattle.world.specs.Losing.{geometry_of}
@@ -17,7 +16,7 @@ use Rattle.boot_region.proofs.Phases.{risen_on_way}
 use Rattle.nvram_log.specs.Members as nv
 use Rattle.register.specs.declared.state.Register.{Register}
 use Rattle.register.specs.Registers.{drives_of, next_slot, own_slot}
-use Rattle.register.specs.Standing.{StandsInLog, MayStore, MayStoreAgain, IsNextOf, GivesOldOrNext, AreOfMembers, IsInStoreOf}
+use Rattle.register.specs.Standing.{Content, StandsInLog, MayStore, MayStoreAgain, IsNextOf, GivesOldOrNext, AreOfMembers, IsInStoreOf}
 use Rattle.register.proofs.Again.{meanwhile, accounts, bearable_then, accounts_since, not_risen_since, next_after}
 use Rattle.register.proofs.FlagLemmas.{not_below}
 use Rattle.register.proofs.Resting.{may_store, alone}
@@ -26,12 +25,12 @@ module _ (old mid : Shelved) (is_mid : IsShelf mid) (on : Continues old mid) (wa
     (is_next : IsNextOf was nvrams now.record) (fewer : (i : ℕ) → IsMember now.drives i → IsMember was.drives i)
     (fewer_cut : (i : ℕ) → IsMember (drives_of now) i → IsMember (drives_of was) i) (dropped : DroppedFailed old mid (drives_of was) (drives_of now)) (low : now.record.generation < 2 ^ 48 - 8)
     (first : LeavesOnly old mid (IsInStoreOf old was nvrams))
-    (logged_then : (log : List Command) → StandsInLog old was nvrams log → StandsInLog mid now nvrams log) (shown : (i : ℕ) → IsMember (drives_of now) i → Shows mid (own_slot now.record) (spelling now.record) i)
-    (older : (log : List Command) → StandsInLog old was nvrams log → (i : ℕ) → IsMember (drives_of now) i → IsOlder mid (next_slot now.record) (spelling now.record) i)
-    (again : (missing : Conditions) (log : List Command) (arrays : List Array) → MayStore old was nvrams missing log arrays → MayStoreAgain old mid was now nvrams missing log arrays)
+    (logged_then : (held : Content) → StandsInLog old was nvrams held → StandsInLog mid now nvrams held) (shown : (i : ℕ) → IsMember (drives_of now) i → Shows mid (own_slot now.record) (spelling now.record) i)
+    (older : (held : Content) → StandsInLog old was nvrams held → (i : ℕ) → IsMember (drives_of now) i → IsOlder mid (next_slot now.record) (spelling now.record) i)
+    (again : (missing : Conditions) (held : Content) (arrays : List Array) → MayStore old was nvrams missing held arrays → MayStoreAgain old mid was now nvrams missing held arrays)
     (stop : Stop) (counts : IsCountedBy mid stop)
-    (at_stands : (missing : Conditions) (log : List Command) (arrays : List Array) → MayStore mid now nvrams missing log arrays → StandsBut mid (drives_of now) missing (next_slot now.record) now.record arrays stop)
-    (at_gives : (missing : Conditions) (log : List Command) (arrays : List Array) → MayStore mid now nvrams missing log arrays → GivesOldOrNext mid now nvrams missing stop) where
+    (at_stands : (missing : Conditions) (held : Content) (arrays : List Array) → MayStore mid now nvrams missing held arrays → StandsBut mid (drives_of now) missing (next_slot now.record) now.record arrays stop)
+    (at_gives : (missing : Conditions) (held : Content) (arrays : List Array) → MayStore mid now nvrams missing held arrays → GivesOldOrNext mid now nvrams missing stop) where
   same_shelf : geometry_of mid ≡ geometry_of old
   same_shelf =
       let e : mid.drives ≡ old.drives = on.drives in
@@ -39,7 +38,7 @@ module _ (old mid : Shelved) (is_mid : IsShelf mid) (on : Continues old mid) (wa
       λ k. record { slots = e k; units = f k }
 
   -- in conditions that tell what has failed
-  module _ (missing : Conditions) (log : List Command) (arrays : List Array) (may : MayStore old was nvrams missing log arrays)
+  module _ (missing : Conditions) (held : Content) (arrays : List Array) (may : MayStore old was nvrams missing held arrays)
       (later : Conditions) (account : AccountsFor old (drives_of was) missing (next_slot was.record) (spelling was.record) stop.faults stop.write_faults later) where
     -- those of the moment between
     between : Conditions
@@ -49,15 +48,15 @@ module _ (old mid : Shelved) (is_mid : IsShelf mid) (on : Continues old mid) (wa
     unfolding between
     told = accounts old mid (drives_of was) missing (next_slot was.record) was.record (bearable_then old mid (drives_of was) missing (next_slot was.record) was.record stop counts later account)
 
-    may_again : MayStore mid now nvrams between log arrays
-    may_again = again missing log arrays may between told
+    may_again : MayStore mid now nvrams between held arrays
+    may_again = again missing held arrays may between told
 
     since : AccountsFor mid (drives_of now) between (next_slot now.record) (spelling now.record) stop.faults stop.write_faults later
     unfolding between
-    since = accounts_since old mid (drives_of was) missing (next_slot was.record) was.record stop counts later account (drives_of now) (next_slot now.record) now.record on fewer_cut (older log may.logged) same_shelf
+    since = accounts_since old mid (drives_of was) missing (next_slot was.record) was.record stop counts later account (drives_of now) (next_slot now.record) now.record on fewer_cut (older held may.logged) same_shelf
 
     stands_later : Stands (geometry_of old) stop.image later arrays
-    stands_later = subst (λ x. Stands x stop.image later arrays) same_shelf (at_stands between log arrays may_again later since)
+    stands_later = subst (λ x. Stands x stop.image later arrays) same_shelf (at_stands between held arrays may_again later since)
 
     -- what may be given at the end of the first store
     at_end : (start : Stop) → MayStop mid start → (t : BootSlot) (b : BootRecord) → MayBeGiven (geometry_of mid) start.image between t b → WasGiven old missing t b ⊎ IsNextOf was nvrams b
@@ -65,16 +64,16 @@ module _ (old mid : Shelved) (is_mid : IsShelf mid) (on : Continues old mid) (wa
         let exact : Stop = record { image = start.image; faults = λ k. (mid.disk k).faults; write_faults = λ k. (mid.disk k).write_faults; output = mid.output; taken = mid.taken } in
         let here2 : MayStop mid exact = record { counts = record { faults = λ k. omega arith; write_faults = λ k. omega arith }; output = refl; taken = refl; device = here.device } in
         let left = is_mid.counts_now old.moment exact on.later here2 in
-        (first.each exact left).1.gives missing log arrays may between told t b (subst (λ x. MayBeGiven x start.image between t b) same_shelf g)
+        (first.each exact left).1.gives missing held arrays may between told t b (subst (λ x. MayBeGiven x start.image between t b) same_shelf g)
 
     gives_later : (t : BootSlot) (b : BootRecord) → MayBeGiven (geometry_of old) stop.image later t b → WasGiven old missing t b ⊎ IsNextOf was nvrams b
-    gives_later t b g = elim (at_gives between log arrays may_again later since t b (subst (λ x. MayBeGiven x stop.image later t b) (sym same_shelf) g)) [
+    gives_later t b g = elim (at_gives between held arrays may_again later since t b (subst (λ x. MayBeGiven x stop.image later t b) (sym same_shelf) g)) [
       | inl given ↦ at_end given.start given.may t b given.given
       | inr next ↦ inr (next_after was now nvrams is_next fewer b next)
     ]
 
   -- in conditions in which members are back
-  module _ (log : List Command) (missing : Conditions) (arrays : List Array) (may : MayStore old was nvrams missing log arrays) (back : Conditions) (m : AreOfMembers old was nvrams missing stop back) where
+  module _ (held : Content) (missing : Conditions) (arrays : List Array) (may : MayStore old was nvrams missing held arrays) (back : Conditions) (m : AreOfMembers old was nvrams missing stop back) where
     sound_now : (i : ℕ) → i < mid.drives → back (drive i) ≡ Sound → IsMember (drives_of now) i
     sound_now i lt s =
         let d = m.on_drives i (omega (arith, lt, on.drives)) s in
@@ -86,8 +85,8 @@ module _ (old mid : Shelved) (is_mid : IsShelf mid) (on : Continues old mid) (wa
     bears : IsBearable (geometry_of mid) back
     bears = subst (λ x. IsBearable x back) (sym same_shelf) m.bearable
 
-    logged : StandsInLog mid now nvrams log
-    logged = logged_then log may.logged
+    logged : StandsInLog mid now nvrams held
+    logged = logged_then held may.logged
 
     nv_sound : (n : ℕ) → n < 2 → back (nvram n) ≡ Sound → nv.IsMember nvrams n
     nv_sound n lt s = (m.on_nvram n lt s).0
@@ -95,8 +94,17 @@ module _ (old mid : Shelved) (is_mid : IsShelf mid) (on : Continues old mid) (wa
     left : (n : ℕ) → back (nvram n) ≡ LeftOut → nv.IsMember nvrams n → ⊥
     left n out = (m.left_out n out).0
 
-    may_now : MayStore mid now nvrams back log arrays
-    may_now = may_store mid is_mid now nvrams log arrays may.one_of logged is_next.nvrams_are low some shown (older log may.logged) back bears sound_now nv_sound left
+    no_drive : (i : ℕ) → back (drive i) ≡ LeftOut → names now.record (drive i) ≡ false
+    no_drive i out = elim (cases_Bool (names now.record (drive i))) [
+      | inl named ↦ absurd (cc (logged_before.is_of.named i (is_next.drives i named), m.unnamed i out))
+      | inr not ↦ not
+    ]
+      where
+        logged_before : StandsInLog old was nvrams held
+        logged_before = may.logged
+
+    may_now : MayStore mid now nvrams back held arrays
+    may_now = may_store mid is_mid now nvrams held arrays may.one_of logged is_next.nvrams_are low some shown (older held may.logged) back bears sound_now nv_sound left no_drive
 
     below : (i : ℕ) → IsMember (drives_of now) i → i < old.drives
     below i member = elim (cases_lt i now.record.slots) [
@@ -109,25 +117,25 @@ module _ (old mid : Shelved) (is_mid : IsShelf mid) (on : Continues old mid) (wa
       within = as_it_is back;
       bearable = bears;
       writes = λ i member s. inl (not_risen_since (old.disk (drive i)).faults (mid.disk (drive i)).faults (stop.faults (drive i)) (on.faults (drive i)) (counts.faults (drive i)) (m.on_drives i (below i member) s).1);
-      reads = λ i member s. inl (older log may.logged i member);
+      reads = λ i member s. inl (older held may.logged i member);
     }
 
     stands_then : Stands (geometry_of old) stop.image back arrays
-    stands_then = subst (λ x. Stands x stop.image back arrays) same_shelf (at_stands back log arrays may_now back none_since)
+    stands_then = subst (λ x. Stands x stop.image back arrays) same_shelf (at_stands back held arrays may_now back none_since)
 
     given_then : (t : BootSlot) (b : BootRecord) → MayBeGiven (geometry_of old) stop.image back t b → (b ≡ was.record) ⊎ IsNextOf was nvrams b
-    given_then t b g = elim (at_gives back log arrays may_now back none_since t b (subst (λ x. MayBeGiven x stop.image back t b) (sym same_shelf) g)) [
+    given_then t b g = elim (at_gives back held arrays may_now back none_since t b (subst (λ x. MayBeGiven x stop.image back t b) (sym same_shelf) g)) [
       | inl given ↦
-          let e = alone mid is_mid now nvrams log arrays may.one_of logged is_next.nvrams_are low some shown (older log may.logged) back bears sound_now nv_sound left given.start given.may t b given.given in
+          let e = alone mid is_mid now nvrams held arrays may.one_of logged is_next.nvrams_are low some shown (older held may.logged) back bears sound_now nv_sound left no_drive given.start given.may t b given.given in
           inr (subst (λ (x : BootRecord). IsNextOf was nvrams x) (sym e.1) is_next)
       | inr next ↦ inr (next_after was now nvrams is_next fewer b next)
     ]
 
   pub in_store_later : IsInStoreOf old was nvrams stop
   in_store_later = record {
-    stands = λ missing log arrays may later account. stands_later missing log arrays may later account;
-    gives = λ missing log arrays may later account. gives_later missing log arrays may later account;
-    back = λ log logged shows. inr (record {
-      each = λ missing arrays may back m. (stands_then log missing arrays may back m, given_then log missing arrays may back m);
+    stands = λ missing held arrays may later account. stands_later missing held arrays may later account;
+    gives = λ missing held arrays may later account. gives_later missing held arrays may later account;
+    back = λ held logged shows. inr (record {
+      each = λ missing arrays may back m. (stands_then held missing arrays may back m, given_then held missing arrays may back m);
     });
   }

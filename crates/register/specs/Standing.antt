@@ -1,12 +1,14 @@
--- An array that stands in its log alone, by the record in the register.
+-- An array that stands in its tables and its log, by the record in the register.
 use Rattle.std.specs.Prelude.{◌≡◌, ◌⊎◌, ℕ, ◌<◌, List, [], ◌∷◌, Bool, true, false, Some, Contains}
 use Rattle.pur_base.specs.Devices.{Conditions, Sound, LeftOut, IsBearable, drive, nvram}
 use Rattle.pur_base.specs.Plain.{Array}
 use Rattle.pur_base.specs.Commands.{Command, AllAccepted, after_all}
+use Rattle.pur_base.specs.declared.facts.AnyFact.{AnyFact}
 use Rattle.boot_codec.specs.declared.record.BootRecord.{BootRecord}
 use Rattle.boot_codec.specs.Region.{BootSlot, body_in, names, shown_by}
 use Rattle.boot_codec.specs.Spelling.{spelling}
 use Rattle.array_spec.specs.Standing.{MayBeGiven, Stands}
+use Rattle.stored_spec.specs.Held.{TablesHold}
 use Rattle.world.specs.Shelf.{Shelved, Stop, MayStop}
 use Rattle.world.specs.Losing.{geometry_of, has_risen}
 use Rattle.boot_region.specs.Members.{IsMember}
@@ -16,29 +18,44 @@ use Rattle.nvram_log.specs.Members as nv
 use Rattle.register.specs.declared.state.Register.{Register}
 use Rattle.register.specs.Registers.{IsRegisterOf, IsLaterRecord, own_slot, next_slot, drives_of, named_sound}
 
--- the record's bytes stand on each of the drives, each of the NVRAM devices holds the log, and the array is what the log makes of nothing
-pub record StandsInLog (shelf : Shelved) (r : Register) (nvrams : List Bool) (log : List Command) : Type 0 where
+-- What the devices hold of an array: the facts of its tables, the array that these are, and the commands that were logged since.
+pub record Content : Type 0 where
+  pub patches : List (List AnyFact)
+  pub base : Array
+  pub log : List Command
+
+-- the array of the content
+abbrev pub array_of : Content → Array
+array_of held = after_all held.base held.log
+
+-- that of commands alone, where no table has been stored yet
+abbrev pub unflushed : List Command → Content
+unflushed commands = record { patches = []; base = []; log = commands }
+
+-- the record's bytes stand on each of the drives, its tables hold the base whatever a stop leaves, and each of the NVRAM devices holds the log
+pub record StandsInLog (shelf : Shelved) (r : Register) (nvrams : List Bool) (held : Content) : Type 0 where
   pub is_of : IsRegisterOf (geometry_of shelf) r
-  pub patches : r.record.patches ≡ []
+  pub tables : (start : Stop) → MayStop shelf start → TablesHold (geometry_of shelf) start.image (own_slot r.record) r.record held.patches held.base
   pub bodies : (i : ℕ) → IsMember (drives_of r) i → body_in (own_slot r.record) (shelf.disk (drive i)).bytes ≡ spelling r.record
-  pub holds : HoldsOn shelf nvrams r.record.flushed log
-  pub accepted : AllAccepted [] log
+  pub holds : HoldsOn shelf nvrams r.record.flushed held.log
+  pub accepted : AllAccepted held.base held.log
 
 -- In these conditions the next record may be stored: the record is in force, and the devices stand for the arrays, one of which is that of the log.
--- Each NVRAM device that isn't missing holds the log, and none that was left out is among them.
-pub record MayStore (shelf : Shelved) (r : Register) (nvrams : List Bool) (missing : Conditions) (log : List Command) (arrays : List Array) : Type 0 where
-  pub logged : StandsInLog shelf r nvrams log
+-- Each NVRAM device that isn't missing holds the log, and none that was left out is among them, nor does the record name such a drive.
+pub record MayStore (shelf : Shelved) (r : Register) (nvrams : List Bool) (missing : Conditions) (held : Content) (arrays : List Array) : Type 0 where
+  pub logged : StandsInLog shelf r nvrams held
   pub in_force : IsInForceOn shelf (drives_of r) missing (next_slot r.record) r.record
   pub stands : StandsNow shelf missing arrays
-  pub one_of : Contains arrays (after_all [] log)
+  pub one_of : Contains arrays (array_of held)
   pub sound : (n : ℕ) → n < 2 → missing (nvram n) ≡ Sound → nv.IsMember nvrams n
   pub left_out : (n : ℕ) → missing (nvram n) ≡ LeftOut → ¬ (nv.IsMember nvrams n)
+  pub unnamed : (i : ℕ) → missing (drive i) ≡ LeftOut → names r.record (drive i) ≡ false
 
 -- in all conditions that tell what failed meanwhile the next record may be stored again
-abbrev pub MayStoreAgain : Shelved → Shelved → Register → Register → List Bool → Conditions → List Command → List Array → Type 0
-MayStoreAgain old new was now nvrams missing log arrays = (later : Conditions)
+abbrev pub MayStoreAgain : Shelved → Shelved → Register → Register → List Bool → Conditions → Content → List Array → Type 0
+MayStoreAgain old new was now nvrams missing held arrays = (later : Conditions)
     → AccountsFor old (drives_of was) missing (next_slot was.record) (spelling was.record) (λ d. (new.disk d).faults) (λ d. (new.disk d).write_faults) later
-    → MayStore new now nvrams later log arrays
+    → MayStore new now nvrams later held arrays
 
 -- a record that such a store writes: later, with these NVRAM devices and no drive that isn't left, all else as it was
 pub record IsNextOf (r : Register) (nvrams : List Bool) (boot : BootRecord) : Type 0 where
@@ -54,8 +71,8 @@ GivesOldOrNext old r nvrams missing stop = (later : Conditions)
     → (slot : BootSlot) (boot : BootRecord) → MayBeGiven (geometry_of old) stop.image later slot boot → WasGiven old missing slot boot ⊎ IsNextOf r nvrams boot
 
 -- The record may be given still, in conditions that tell what has failed by then, where it might be when the store began.
-abbrev pub StillGiven : Shelved → Register → List Bool → List Command → Stop → Type 0
-StillGiven old r nvrams log stop = (missing : Conditions) (arrays : List Array) → MayStore old r nvrams missing log arrays
+abbrev pub StillGiven : Shelved → Register → List Bool → Content → Stop → Type 0
+StillGiven old r nvrams held stop = (missing : Conditions) (arrays : List Array) → MayStore old r nvrams missing held arrays
     → (later : Conditions) → AccountsFor old (drives_of r) missing (next_slot r.record) (spelling r.record) stop.faults stop.write_faults later
     → ((start : Stop) → MayStop old start → MayBeGiven (geometry_of old) start.image later (own_slot r.record) r.record)
     → MayBeGiven (geometry_of old) stop.image later (own_slot r.record) r.record
@@ -66,12 +83,13 @@ pub record AreOfMembers (old : Shelved) (r : Register) (nvrams : List Bool) (mis
   pub on_drives : (i : ℕ) → i < old.drives → back (drive i) ≡ Sound → IsMember (drives_of r) i × (has_risen (old.disk (drive i)).faults (stop.faults (drive i)) ≡ false)
   pub on_nvram : (n : ℕ) → n < 2 → back (nvram n) ≡ Sound → nv.IsMember nvrams n × (names r.record (nvram n) ≡ true)
   pub left_out : (n : ℕ) → back (nvram n) ≡ LeftOut → (nv.IsMember nvrams n → ⊥) × (names r.record (nvram n) ≡ false)
+  pub unnamed : (i : ℕ) → back (drive i) ≡ LeftOut → names r.record (drive i) ≡ false
   -- one that the record names, and the next one doesn't, is as it was
   pub dropped : (n : ℕ) → n < 2 → names r.record (nvram n) ≡ true → (nv.IsMember nvrams n → ⊥) → back (nvram n) ≡ missing (nvram n)
 
 -- the devices stand for the arrays in all such conditions, and what may be given is the record or a next one
-pub record StandsBack (old : Shelved) (r : Register) (nvrams : List Bool) (log : List Command) (stop : Stop) : Type 0 where
-  pub each : (missing : Conditions) (arrays : List Array) → MayStore old r nvrams missing log arrays → (back : Conditions) → AreOfMembers old r nvrams missing stop back
+pub record StandsBack (old : Shelved) (r : Register) (nvrams : List Bool) (held : Content) (stop : Stop) : Type 0 where
+  pub each : (missing : Conditions) (arrays : List Array) → MayStore old r nvrams missing held arrays → (back : Conditions) → AreOfMembers old r nvrams missing stop back
       → Stands (geometry_of old) stop.image back arrays × ((slot : BootSlot) (boot : BootRecord) → MayBeGiven (geometry_of old) stop.image back slot boot → (boot ≡ r.record) ⊎ IsNextOf r nvrams boot)
 
 -- each of the drives shows the record, as reads give it
@@ -80,23 +98,23 @@ AllShow shelf r = (i : ℕ) → IsMember (drives_of r) i → shown_by (own_slot 
 
 -- a stop in a store, whatever the conditions of the devices
 pub record IsInStoreOf (old : Shelved) (r : Register) (nvrams : List Bool) (stop : Stop) : Type 0 where
-  pub stands : (missing : Conditions) (log : List Command) (arrays : List Array) → MayStore old r nvrams missing log arrays
+  pub stands : (missing : Conditions) (held : Content) (arrays : List Array) → MayStore old r nvrams missing held arrays
       → StandsBut old (drives_of r) missing (next_slot r.record) r.record arrays stop
-  pub gives : (missing : Conditions) (log : List Command) (arrays : List Array) → MayStore old r nvrams missing log arrays → GivesOldOrNext old r nvrams missing stop
+  pub gives : (missing : Conditions) (held : Content) (arrays : List Array) → MayStore old r nvrams missing held arrays → GivesOldOrNext old r nvrams missing stop
   -- the record in force isn't superseded yet, or the devices stand for the arrays by it and the next one, or by later ones
-  pub back : (log : List Command) → StandsInLog old r nvrams log → AllShow old r → StillGiven old r nvrams log stop ⊎ StandsBack old r nvrams log stop
+  pub back : (held : Content) → StandsInLog old r nvrams held → AllShow old r → StillGiven old r nvrams held stop ⊎ StandsBack old r nvrams held stop
 
 -- a record that may be given is this one
 abbrev pub IsAlone : Shelved → Conditions → BootSlot → BootRecord → Type 0
 IsAlone shelf missing slot boot = (stop : Stop) (slot2 : BootSlot) (boot2 : BootRecord) → MayStop shelf stop → MayBeGiven (geometry_of shelf) stop.image missing slot2 boot2 → (slot2 ≡ slot) × (boot2 ≡ boot)
 
 -- The record alone is in force, on all that it names, and the devices stand for the array of the log, whatever the others show.
-pub record IsOpen (shelf : Shelved) (r : Register) (nvrams : List Bool) (log : List Command) : Type 0 where
-  pub logged : StandsInLog shelf r nvrams log
+pub record IsOpen (shelf : Shelved) (r : Register) (nvrams : List Bool) (held : Content) : Type 0 where
+  pub logged : StandsInLog shelf r nvrams held
   pub drives : r.record.members.drives ≡ r.drives
   pub nvrams_are : r.record.members.nvrams ≡ nvrams
   pub bearable : IsBearable (geometry_of shelf) (named_sound r.record)
   pub in_force : IsInForceOn shelf (drives_of r) (named_sound r.record) (next_slot r.record) r.record
   pub older : AreOlder shelf (named_sound r.record) (drives_of r) (next_slot r.record) (spelling r.record)
-  pub stands : StandsNow shelf (named_sound r.record) (after_all [] log ∷ [])
+  pub stands : StandsNow shelf (named_sound r.record) (array_of held ∷ [])
   pub alone : IsAlone shelf (named_sound r.record) (own_slot r.record) r.record

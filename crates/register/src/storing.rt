@@ -2,7 +2,6 @@
 ghost use Rattle.std.specs.Prelude.{◌≡◌, ◌⊎◌, ◌<◌, ◌≤◌, ◌+◌, ◌-◌, ◌^◌, ℕ, List, OnOk, OnErr, IfErr, length};
 ghost use Rattle.pur_base.specs.Devices.{Conditions};
 ghost use Rattle.pur_base.specs.Plain.{Array};
-ghost use Rattle.pur_base.specs.Commands.{Command};
 ghost use Rattle.boot_codec.specs.declared.record.BootRecord.{BootRecord};
 ghost use Rattle.boot_codec.specs.Record.{set_count};
 ghost use Rattle.boot_codec.specs.Spelling.{spelling};
@@ -21,7 +20,7 @@ use world::Shelf;
 impl Register {
     ghost use Rattle.register.specs.Faults.{IsFaultOf};
     ghost use Rattle.register.specs.Registers.{IsRegisterOf, IsLaterRecord, OnSlots, drives_of, next_record, own_slot, next_slot};
-    ghost use Rattle.register.specs.Standing.{AllShow, GivesOldOrNext, IsInStoreOf, StandsBack, StandsInLog, StillGiven, MayStore, MayStoreAgain, IsOpen};
+    ghost use Rattle.register.specs.Standing.{AllShow, Content, GivesOldOrNext, IsInStoreOf, StandsBack, StandsInLog, StillGiven, MayStore, MayStoreAgain, IsOpen};
 
     /// Stores the record as it is spelled, on the drives that are left. Those on which it fails are dropped.
     fn put<S: Shelf>(&mut self, shelf: &mut S)
@@ -68,14 +67,14 @@ impl Register {
         ensures enough { OnOk result (self.old.record.slots ≤ set_count self.old.drives + 2) }
         ensures same { OnErr result ((self.new.record ≡ self.old.record) × (self.new.drives ≡ self.old.drives)) }
         ensures fault { IfErr result (λ e. IsFaultOf self.new e) }
-        ensures logged { (S.shelf shelf.old).honest → (log : List Command) → StandsInLog (S.shelf shelf.old) self.old nvrams log → StandsInLog (S.shelf shelf.new) self.new nvrams log }
+        ensures logged { (S.shelf shelf.old).honest → (held : Content) → StandsInLog (S.shelf shelf.old) self.old nvrams held → StandsInLog (S.shelf shelf.new) self.new nvrams held }
         ensures shown { (S.shelf shelf.old).honest → OnOk result ((i : ℕ) → IsMember (drives_of self.new) i → Shows (S.shelf shelf.new) (own_slot self.new.record) (spelling self.new.record) i) }
-        ensures older { (S.shelf shelf.old).honest → OnOk result ((log : List Command) → StandsInLog (S.shelf shelf.old) self.old nvrams log
+        ensures older { (S.shelf shelf.old).honest → OnOk result ((held : Content) → StandsInLog (S.shelf shelf.old) self.old nvrams held
             → (i : ℕ) → IsMember (drives_of self.new) i → IsOlder (S.shelf shelf.new) (next_slot self.new.record) (spelling self.new.record) i) }
         ensures moments { (S.shelf shelf.old).honest → self.new.record.generation < 2 ^ 48 - 8 → LeavesOnly (S.shelf shelf.old) (S.shelf shelf.new) (IsInStoreOf (S.shelf shelf.old) self.old nvrams) }
         // Then it may be stored again.
-        ensures again { (S.shelf shelf.old).honest → self.new.record.generation < 2 ^ 48 - 8 → OnOk result ((missing : Conditions) (log : List Command) (arrays : List Array) → MayStore (S.shelf shelf.old) self.old nvrams missing log arrays
-            → MayStoreAgain (S.shelf shelf.old) (S.shelf shelf.new) self.old self.new nvrams missing log arrays) }
+        ensures again { (S.shelf shelf.old).honest → self.new.record.generation < 2 ^ 48 - 8 → OnOk result ((missing : Conditions) (held : Content) (arrays : List Array) → MayStore (S.shelf shelf.old) self.old nvrams missing held arrays
+            → MayStoreAgain (S.shelf shelf.old) (S.shelf shelf.new) self.old self.new nvrams missing held arrays) }
     {
         self.advance(nvrams)?;
         self.put(shelf);
@@ -111,23 +110,23 @@ impl Register {
         ensures lost { OnErr result (self.new.record.generation + set_count self.new.drives ≤ self.old.record.generation + set_count self.old.drives) }
         ensures fault { IfErr result (λ e. IsFaultOf self.new e) }
         // The bytes of the record stand on the drives that are left, whatever the result.
-        ensures logged { (S.shelf shelf.old).honest → (log : List Command) → StandsInLog (S.shelf shelf.old) self.old nvrams log → StandsInLog (S.shelf shelf.new) self.new nvrams log }
+        ensures logged { (S.shelf shelf.old).honest → (held : Content) → StandsInLog (S.shelf shelf.old) self.old nvrams held → StandsInLog (S.shelf shelf.new) self.new nvrams held }
         // What is so at every moment, whatever the conditions of the devices.
         ensures moments { (S.shelf shelf.old).honest → self.new.record.generation < 2 ^ 48 - 8 → LeavesOnly (S.shelf shelf.old) (S.shelf shelf.new) (IsInStoreOf (S.shelf shelf.old) self.old nvrams) }
         // At every moment the devices stand for the arrays for which they stood, as long as each record that is stored leaves room for later ones.
-        ensures any_moment { (S.shelf shelf.old).honest → self.new.record.generation < 2 ^ 48 - 8 → (missing : Conditions) (log : List Command) (arrays : List Array)
-            → MayStore (S.shelf shelf.old) self.old nvrams missing log arrays
+        ensures any_moment { (S.shelf shelf.old).honest → self.new.record.generation < 2 ^ 48 - 8 → (missing : Conditions) (held : Content) (arrays : List Array)
+            → MayStore (S.shelf shelf.old) self.old nvrams missing held arrays
             → LeavesOnly (S.shelf shelf.old) (S.shelf shelf.new) (StandsBut (S.shelf shelf.old) (drives_of self.old) missing (next_slot self.old.record) self.old.record arrays) }
         // What may be given at any moment is such a record, or one that might have been given before.
-        ensures gives { (S.shelf shelf.old).honest → self.new.record.generation < 2 ^ 48 - 8 → (missing : Conditions) (log : List Command) (arrays : List Array)
-            → MayStore (S.shelf shelf.old) self.old nvrams missing log arrays
+        ensures gives { (S.shelf shelf.old).honest → self.new.record.generation < 2 ^ 48 - 8 → (missing : Conditions) (held : Content) (arrays : List Array)
+            → MayStore (S.shelf shelf.old) self.old nvrams missing held arrays
             → LeavesOnly (S.shelf shelf.old) (S.shelf shelf.new) (GivesOldOrNext (S.shelf shelf.old) self.old nvrams missing) }
         // While the record before isn't superseded it may be given still. Then the devices stand for the arrays also where members are back that were missing.
-        ensures back { (S.shelf shelf.old).honest → self.new.record.generation < 2 ^ 48 - 8 → (log : List Command)
-            → StandsInLog (S.shelf shelf.old) self.old nvrams log → AllShow (S.shelf shelf.old) self.old
-            → LeavesOnly (S.shelf shelf.old) (S.shelf shelf.new) (λ stop. StillGiven (S.shelf shelf.old) self.old nvrams log stop ⊎ StandsBack (S.shelf shelf.old) self.old nvrams log stop) }
+        ensures back { (S.shelf shelf.old).honest → self.new.record.generation < 2 ^ 48 - 8 → (held : Content)
+            → StandsInLog (S.shelf shelf.old) self.old nvrams held → AllShow (S.shelf shelf.old) self.old
+            → LeavesOnly (S.shelf shelf.old) (S.shelf shelf.new) (λ stop. StillGiven (S.shelf shelf.old) self.old nvrams held stop ⊎ StandsBack (S.shelf shelf.old) self.old nvrams held stop) }
         // Then the record is in force, and the devices stand for the array of the log.
-        ensures stored { (S.shelf shelf.old).honest → self.new.record.generation < 2 ^ 48 - 8 → (log : List Command) → StandsInLog (S.shelf shelf.old) self.old nvrams log → OnOk result (IsOpen (S.shelf shelf.new) self.new nvrams log) }
+        ensures stored { (S.shelf shelf.old).honest → self.new.record.generation < 2 ^ 48 - 8 → (held : Content) → StandsInLog (S.shelf shelf.old) self.old nvrams held → OnOk result (IsOpen (S.shelf shelf.new) self.new nvrams held) }
     {
         self.store_next(nvrams, shelf)?;
         if self.drives == self.record.members.drives {

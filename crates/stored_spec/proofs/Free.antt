@@ -1,5 +1,5 @@
 -- A unit that the tables leave free is used by no record that may be given.
-use Rattle.std.proofs.Common.{◌≡◌, inl, List, subst, ap, sym, ℕ}
+use Rattle.std.proofs.Common.{◌≡◌, inl, List, subst, sym}
 use Rattle.pur_base.specs.Devices.{View, Conditions}
 use Rattle.pur_base.specs.declared.facts.AnyFact.{AnyFact}
 use Rattle.boot_codec.specs.declared.record.BootRecord.{BootRecord}

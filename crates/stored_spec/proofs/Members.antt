@@ -1,5 +1,5 @@
 -- The members that a view of the devices gives are some of the drives that show the record, and enough of them.
-use Rattle.std.proofs.Common.{◌≡◌, ◌⊎◌, inl, inr, ℕ, zero, suc, ◌+◌, ◌*◌, ◌<◌, ◌≤◌, List, [], ◌∷◌, length, replicate, take, drop, refl, sym, ap, subst, ◌∙◌, arith, Bool, true, false, cond}
+use Rattle.std.proofs.Common.{◌≡◌, ◌⊎◌, inl, inr, ℕ, zero, suc, ◌+◌, ◌<◌, ◌≤◌, List, length, take, drop, refl, sym, ap, subst, ◌∙◌, arith, Bool, true, false, cond}
 use Rattle.std.specs.Prelude.{Option, Some, None, IsSome, is_none, count_by, slice_index, option_and_then, if◌then◌else◌}
 use Rattle.std.specs.List.{range_with_len}
 use Rattle.std.specs.Str.{bytes_eq}
@@ -8,7 +8,7 @@ use Rattle.std.proofs.lemmas.Bool.{cases_Bool}
 use Rattle.std.proofs.lemmas.Slice.Eq.{bytes_eq-Decides}
 use Rattle.std.proofs.lemmas.List.{get_or-take, get_or-drop}
 use Rattle.pur_base.specs.Bytes.{zeros}
-use Rattle.pur_base.specs.Devices.{Geometry, Image, View, Condition, Conditions, Sound, Missing, LeftOut, MayBecome, MayShowAs, IsOn, is_missing, drive, nvram}
+use Rattle.pur_base.specs.Devices.{Geometry, Image, View, Condition, Conditions, Sound, Missing, LeftOut, MayShowAs, IsBearable, is_missing, drive}
 use Rattle.pur_base.specs.declared.device.Device.{Device}
 use Rattle.pur_base.specs.declared.device.Device.TheVariants.{Drive, Nv}
 use Rattle.boot_codec.specs.declared.record.BootRecord.{BootRecord}
@@ -88,13 +88,32 @@ sound_or_missing Sound = inl refl
 sound_or_missing Missing = inr refl
 sound_or_missing LeftOut = inr refl
 
+-- where each device that isn't missing is a member, they are enough
+pub enough_hold : (shelf : Geometry) (more : Conditions) (members : View) → IsBearable shelf more → AllHold shelf more members → AreEnough shelf members
+enough_hold shelf more members bearable hold =
+    let fewer = fewer_counted (λ i. is_none (members (drive i))) (λ i. is_missing (more (drive i))) 0 shelf.slots (λ i low lt none. away i (omega (arith, lt)) none) in
+    let two = bearable.drives in
+    omega (arith, fewer, two)
+  where
+    away : (i : ℕ) → i < shelf.slots → is_none (members (drive i)) ≡ true → is_missing (more (drive i)) ≡ true
+    away i on none = elim (sound_or_missing (more (drive i))) [
+      | inl sound ↦ absurd (some_not_none (members (drive i)) (hold (drive i) on sound) none)
+      | inr is ↦ is
+    ]
+
+-- the members that a view gives stand as they are
+pub some_shown : (shelf : Geometry) (image : Image) (missing more : Conditions) (slot : BootSlot) (boot : BootRecord) (view : View) → IsViewOf shelf image missing more view
+    → ((i : ℕ) → missing (drive i) ≡ LeftOut → names boot (drive i) ≡ false) → AreSomeOf slot boot image (of_members slot boot view)
+some_shown shelf image missing more slot boot view v none_left i = shown_drive slot boot (names boot (drive i)) (more (drive i)) (image (drive i)) (view (drive i)) (v.shown (drive i))
+    (λ e. none_left i (was_left_out (missing (drive i)) (more (drive i)) (v.within (drive i)) e))
+
 module _ (shelf : Geometry) (image : Image) (missing : Conditions) (slot : BootSlot) (boot : BootRecord) (names_sound : NamesSound shelf image missing slot boot)
     (more : Conditions) (view : View) (v : IsViewOf shelf image missing more view) where
   was_sound : (d : Device) → more d ≡ Sound → missing d ≡ Sound
   was_sound d e = sound_before (missing d) (more d) (v.within d) e
 
   -- each device that isn't missing is a member
-  pub all_members : AllHold shelf more (of_members slot boot view)
+  all_members : AllHold shelf more (of_members slot boot view)
   all_members (Drive d) on sound =
       let named : names boot (Drive d) ≡ true = names_sound.named (Drive d) on (was_sound (Drive d) sound) in
       let there : body_in slot (image (Drive d)) ≡ spelling boot = names_sound.written d.0 on (was_sound (Drive d) sound) in
@@ -105,17 +124,7 @@ module _ (shelf : Geometry) (image : Image) (missing : Conditions) (slot : BootS
       rw (named, sound_shows (more (Nv n)) (image (Nv n)) (view (Nv n)) sound (v.shown (Nv n))) refl
 
   pub are_enough : AreEnough shelf (of_members slot boot view)
-  are_enough =
-      let fewer = fewer_counted (λ i. is_none (of_members slot boot view (drive i))) (λ i. is_missing (more (drive i))) 0 shelf.slots (λ i low lt none. away i (omega (arith, lt)) none) in
-      let two = v.bearable.drives in
-      omega (arith, fewer, two)
-    where
-      away : (i : ℕ) → i < shelf.slots → is_none (of_members slot boot view (drive i)) ≡ true → is_missing (more (drive i)) ≡ true
-      away i on none = elim (sound_or_missing (more (drive i))) [
-        | inl sound ↦ absurd (some_not_none (of_members slot boot view (drive i)) (all_members (drive i) on sound) none)
-        | inr is ↦ is
-      ]
+  are_enough = enough_hold shelf more (of_members slot boot view) v.bearable all_members
 
   pub are_some : NamesNoneLeftOut missing boot → AreSomeOf slot boot image (of_members slot boot view)
-  are_some none_left i = shown_drive slot boot (names boot (drive i)) (more (drive i)) (image (drive i)) (view (drive i)) (v.shown (drive i))
-      (λ e. none_left (drive i) (was_left_out (missing (drive i)) (more (drive i)) (v.within (drive i)) e))
+  are_some none_left = some_shown shelf image missing more slot boot view v (λ i e. none_left (drive i) e)

@@ -1,29 +1,29 @@
 -- The tables of a record hold by a later one of the same tables, and whatever is written in units that they leave free.
-use Rattle.std.proofs.Common.{◌≡◌, ◌⊎◌, inl, inr, ℕ, ◌+◌, ◌*◌, ◌/◌, ◌<◌, ◌≤◌, List, length, refl, sym, ap, subst, ◌∙◌, arith, Bool, true, false}
-use Rattle.std.specs.Prelude.{Option, Some, None, is_none, slice_index, option_map, count_by}
-use Rattle.std.specs.List.{range_with_len}
+use Rattle.std.proofs.Common.{◌≡◌, ◌⊎◌, inl, inr, ℕ, zero, suc, [], ◌∷◌, ◌+◌, ◌*◌, ◌/◌, ◌<◌, ◌≤◌, List, length, refl, sym, ap, subst, ◌∙◌, arith, Bool, true, false}
+use Rattle.std.specs.Prelude.{Option, Some, None, is_none, slice_index, option_map, count_by, filter_map}
+use Rattle.std.specs.List.{range_with_len, AllZip}
 use Rattle.pur_base.specs.Bytes.{bytes_at}
 use Rattle.pur_base.specs.Devices.{Geometry, Image, View, drive}
 use Rattle.pur_base.specs.Plain.{Array}
-use Rattle.pur_base.specs.Visible.{objects, segment}
+use Rattle.pur_base.specs.Visible.{object, objects, segment}
 use Rattle.pur_base.specs.declared.device.Device.TheVariants.{Drive, Nv}
 use Rattle.pur_base.specs.declared.facts.AnyFact.{AnyFact}
 use Rattle.pur_base.specs.declared.facts.SegmentFact.{SegmentFact}
 use Rattle.pur_base.specs.declared.place.Place.{Place}
+use Rattle.boot_codec.specs.declared.patch.Patch.{Patch}
 use Rattle.boot_codec.specs.declared.record.BootRecord.{BootRecord}
 use Rattle.boot_codec.specs.Spelling.{spelling}
-use Rattle.boot_codec.specs.Region.{BootSlot, A, B, body_in, names}
-use Rattle.segment_codec.specs.Stripes.{write_unit}
+use Rattle.boot_codec.specs.Region.{BootSlot, A, B, body_in}
 use Rattle.array_spec.specs.Base.{BaseStands}
 use Rattle.array_spec.specs.Counts.{is_used}
-use Rattle.array_spec.specs.Sound.{AreSegmentsSound}
-use Rattle.array_spec.specs.Meaning.{TablesStand}
-use Rattle.array_spec.specs.Stored.{all_facts}
+use Rattle.array_spec.specs.Sound.{AreSound, AreSegmentsSound}
+use Rattle.array_spec.specs.Meaning.{TablesStand, HoldsBase}
+use Rattle.array_spec.specs.Stored.{PatchStands, all_facts}
 use Rattle.array_spec.proofs.Moves.{SameUnit, Keeps, same_units_keep, tables_kept, base_moves, patches_keep}
 use Rattle.array_spec.proofs.Quiet.{bytes_same}
 use Rattle.array_spec.proofs.Used.{patches_are_used, data_is_used, used_is_data}
 use Rattle.stored_spec.specs.Held.{AreSomeOf, AreEnough, TablesHold}
-use Rattle.stored_spec.specs.Laws.{NextHolds, FreeWritesKeep}
+use Rattle.stored_spec.specs.Laws.{NextHolds, ShowedBefore, FreeWritesKeep}
 
 -- ---- what the drives of a view showed before
 
@@ -62,22 +62,17 @@ moved : (shelf : Geometry) (v w : View) (boot : BootRecord) (patches : List (Lis
     → ((p : Place) → is_used boot (all_facts patches) p.slot p.unit ≡ true → SameUnit v w p)
     → TablesStand shelf v boot patches × BaseStands v (all_facts patches) boot.next.object base
     → TablesStand shelf w boot patches × BaseStands w (all_facts patches) boot.next.object base
-moved shelf v w boot patches base same (tables, stands) =
-    (
-      tables_kept v w shelf boot patches tables (patches_keep v w boot.patches (patches_are_used boot (all_facts patches) (SameUnit v w) same)) stay,
-      base_moves v w (all_facts patches) stay (objects (all_facts patches) boot.next.object) base stands,
-    )
+moved shelf v w boot patches base same (tables, stands) = (
+  tables_kept v w shelf boot patches tables (patches_keep v w boot.patches (patches_are_used boot (all_facts patches) (SameUnit v w) same)) stay,
+  base_moves v w (all_facts patches) stay (objects (all_facts patches) boot.next.object) base stands,
+)
   where
     stay : (id : ℕ) (d : SegmentFact) → segment (all_facts patches) id ≡ Some d → Keeps v w d.places
     stay id d is = same_units_keep v w d.places (data_is_used boot (all_facts patches) (SameUnit v w) tables.sound.ids.segments same id d is)
 
 -- ---- from the drives of one record to those of another
 
--- a drive that shows the one record now showed the other then
-ShowedBefore : Image → Image → BootSlot → BootSlot → BootRecord → BootRecord → Type 0
-ShowedBefore old new slot slot2 boot next = (i : ℕ) → names next (drive i) ≡ true → body_in slot2 (new (drive i)) ≡ spelling next → (names boot (drive i) ≡ true) × (body_in slot (old (drive i)) ≡ spelling boot)
-
-module _ (shelf : Geometry) (old new : Image) (slot slot2 : BootSlot) (boot next : BootRecord) (showed : ShowedBefore old new slot slot2 boot next) (members : View) (some : AreSomeOf slot2 next new members) where
+module _ (shelf : Geometry) (old new : Image) (slot slot2 : BootSlot) (boot next : BootRecord) (showed : ShowedBefore slot boot old slot2 next new) (members : View) (some : AreSomeOf slot2 next new members) where
   before : View
   before = then_shown old members
 
@@ -89,7 +84,7 @@ module _ (shelf : Geometry) (old new : Image) (slot slot2 : BootSlot) (boot next
   ]
 
   some_before : AreSomeOf slot boot old before
-  unfolding before then_shown in_its_place ShowedBefore
+  unfolding before then_shown in_its_place
   some_before i = elim (some i) [
     | inl none ↦ inl (rw none refl)
     | inr is ↦ let of = showed i is.0 is.1 in inr (of.0, of.1, rw is.2 refl)
@@ -112,10 +107,9 @@ module _ (shelf : Geometry) (old new : Image) (slot slot2 : BootSlot) (boot next
 -- ---- a record after another
 
 pub next_holds : NextHolds
-unfolding ShowedBefore
-next_holds shelf old new slot slot2 boot next patches base lawful same fewer only tables = record {
+next_holds shelf old new slot slot2 boot next patches base lawful same showed only tables = record {
   each = λ members some enough.
-      let m = held_now shelf old new slot slot2 boot next (λ i named body. fewer i named) members some patches base (λ i. sym (only.size i)) tables enough
+      let m = held_now shelf old new slot slot2 boot next showed members some patches base (λ i. sym (only.size i)) tables enough
       (λ sound p used at e. elim (only.drive p.slot at) [
         | inl is ↦ sym is
         | inr low ↦
@@ -148,15 +142,57 @@ same_bodies old new A i long same = bytes_same (old (drive i)) (new (drive i)) 6
 same_bodies old new B i long same = bytes_same (old (drive i)) (new (drive i)) 131072 65536 long (λ at low high. same at (omega (arith, low, high)))
 
 pub free_writes_keep : FreeWritesKeep
-unfolding ShowedBefore
 free_writes_keep shelf old new slot boot patches base lawful only tables = record {
   each = λ members some enough. held_now shelf old new slot slot boot boot
-      (λ i named body. (named, same_bodies old new slot i (sym (only.size i)) (λ at low. elim (only.drive i at) [
-        | inl is ↦ sym is
-        | inr free ↦ let three : 3 ≤ at / 65536 = free.data_unit in absurd (omega (arith, low, three))
-      ]) ∙ body)) members some patches base (λ i. sym (only.size i)) tables enough
+      (λ i named body. (
+        named,
+        same_bodies old new slot i (sym (only.size i)) (λ at low. elim (only.drive i at) [
+          | inl is ↦ sym is
+          | inr free ↦ let three : 3 ≤ at / 65536 = free.data_unit in absurd (omega (arith, low, three))
+        ]) ∙ body,
+      )) members some patches base (λ i. sym (only.size i)) tables enough
       (λ sound p used at e. elim (only.drive p.slot at) [
         | inl is ↦ sym is
         | inr free ↦ absurd (cc (used, subst (λ (u : ℕ). is_used boot (all_facts patches) p.slot u ≡ false) e free.unused))
       ]);
 }
+
+-- ---- the same drives
+
+-- what tables hold depends on the drives alone
+pub same_drives_hold : (shelf : Geometry) (old new : Image) (slot : BootSlot) (boot : BootRecord) (patches : List (List AnyFact)) (base : Array) → ((i : ℕ) → new (drive i) ≡ old (drive i))
+    → TablesHold shelf old slot boot patches base → TablesHold shelf new slot boot patches base
+same_drives_hold shelf old new slot boot patches base same tables = record {
+  each = λ members some enough. tables.each members (λ i. elim (some i) [
+    | inl none ↦ inl none
+    | inr is ↦ inr (is.0, subst (λ (b : List ℕ). body_in slot b ≡ spelling boot) (same i) is.1, is.2 ∙ ap (λ (b : List ℕ). Some b) (same i))
+  ]) enough;
+}
+
+-- where a record names no patch, and a view shows that its tables hold nothing, they do on whatever drives
+pub nothing_holds : (shelf : Geometry) (view : View) (image : Image) (slot : BootSlot) (boot : BootRecord) (base : Array) → boot.patches ≡ [] → HoldsBase shelf view boot base → TablesHold shelf image slot boot [] []
+nothing_holds shelf view image slot boot base none h =
+    let empty : h.patches ≡ [] = no_patches view boot.patches h.patches none h.tables.patches_stand in
+    let sound : AreSound shelf boot [] = subst (λ (ps : List (List AnyFact)). AreSound shelf boot ps) empty h.tables.sound in
+    record {
+      each = λ members some enough. (
+        record { patches_stand = none_stand members boot.patches none; sound = sound; data_stands = λ id d is. absurd (cc is) },
+        none_are members boot.next.object,
+      );
+    }
+  where
+    no_patches : (members : View) (ps : List Patch) (fs : List (List AnyFact)) → ps ≡ [] → AllZip (PatchStands members) ps fs → fs ≡ []
+    no_patches members [] [] e s = refl
+    no_patches members [] (f ∷ fs) e s = absurd s
+    no_patches members (p ∷ ps) fs e s = absurd (cc e)
+
+    none_stand : (members : View) (ps : List Patch) → ps ≡ [] → AllZip (PatchStands members) ps []
+    none_stand members [] e = tt
+    none_stand members (p ∷ ps) e = absurd (cc e)
+
+    none_given : (a n : ℕ) → filter_map (object (all_facts [])) (range_with_len a n) ≡ []
+    none_given a zero = refl
+    none_given a (suc n) = none_given (a + 1) n
+
+    none_are : (members : View) (next : ℕ) → BaseStands members (all_facts []) next []
+    none_are members next = rw (none_given 0 next) tt

@@ -1,18 +1,18 @@
 -- A record whose tables stand is read into what its log leads to.
-use Rattle.std.proofs.Common.{◌≡◌, List, refl}
-use Rattle.pur_base.specs.Devices.{Geometry, Image, View, Conditions}
+use Rattle.std.proofs.Common.{◌≡◌, ℕ, List, refl, false}
+use Rattle.pur_base.specs.Devices.{Geometry, Image, View, Conditions, LeftOut, drive}
 use Rattle.pur_base.specs.Plain.{Array}
 use Rattle.pur_base.specs.declared.facts.AnyFact.{AnyFact}
 use Rattle.boot_codec.specs.declared.record.BootRecord.{BootRecord}
-use Rattle.boot_codec.specs.Region.{BootSlot, of_members}
-use Rattle.array_spec.specs.Meaning.{HoldsBase}
+use Rattle.boot_codec.specs.Region.{BootSlot, names, of_members}
+use Rattle.array_spec.specs.Meaning.{HoldsBase, AllHold}
 use Rattle.array_spec.specs.Standing.{IsViewOf}
 use Rattle.array_spec.specs.Unflushed.{NamesSound}
 use Rattle.array_spec.proofs.LogBetween.{log_is_between}
 use Rattle.array_spec.proofs.UnflushedRead.{all_hold, between}
 use Rattle.stored_spec.specs.Held.{TablesHold, NamesNoneLeftOut}
 use Rattle.stored_spec.specs.Laws.{RecordIsRead}
-use Rattle.stored_spec.proofs.Members.{are_enough, are_some}
+use Rattle.stored_spec.proofs.Members.{are_enough, are_some, enough_hold, some_shown}
 
 -- in each view the members hold the base
 pub held_in : (shelf : Geometry) (image : Image) (missing : Conditions) (slot : BootSlot) (boot : BootRecord) (patches : List (List AnyFact)) (base : Array)
@@ -35,3 +35,11 @@ record_is_read shelf image missing slot boot patches base least most arrays lawf
   },
   refl,
 )
+
+-- a record that is read in a view, where no drive that it names was left out, holds there what its tables hold
+pub read_holds : (shelf : Geometry) (image : Image) (missing more : Conditions) (slot : BootSlot) (boot : BootRecord) (patches : List (List AnyFact)) (base : Array)
+    → ((i : ℕ) → missing (drive i) ≡ LeftOut → names boot (drive i) ≡ false) → TablesHold shelf image slot boot patches base
+    → (view : View) → IsViewOf shelf image missing more view → AllHold shelf more (of_members slot boot view) → HoldsBase shelf (of_members slot boot view) boot base
+read_holds shelf image missing more slot boot patches base none_left tables view v hold =
+    let t = tables.each (of_members slot boot view) (some_shown shelf image missing more slot boot view v none_left) (enough_hold shelf more (of_members slot boot view) v.bearable hold) in
+    record { patches = patches; tables = t.0; base_stands = t.1 }

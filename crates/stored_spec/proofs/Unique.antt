@@ -1,14 +1,12 @@
 -- In a view a record's patches hold one list of facts, and its tables one array.
-use Rattle.std.proofs.Common.{◌≡◌, ℕ, zero, suc, ◌+◌, ◌*◌, ◌/◌, ◌%◌, ◌<◌, List, [], ◌∷◌, length, refl, sym, ap, subst, ◌∙◌, arith, Bool}
-use Rattle.std.specs.Prelude.{Option, Some, None, slice_get, slice_index_or}
+use Rattle.std.proofs.Common.{◌≡◌, ℕ, suc, ◌*◌, ◌/◌, ◌%◌, ◌<◌, List, [], ◌∷◌, length, refl, sym, subst, ◌∙◌, arith}
+use Rattle.std.specs.Prelude.{Option, Some, slice_get, slice_index_or}
 use Rattle.std.specs.List.{AllZip}
 use Rattle.std.proofs.lemmas.List.{ext_get_or}
 use Rattle.pur_base.specs.Bytes.{bytes_at}
-use Rattle.pur_base.specs.Devices.{Geometry, View}
-use Rattle.pur_base.specs.Plain.{Entry, Array}
+use Rattle.pur_base.specs.Devices.{View}
+use Rattle.pur_base.specs.Plain.{Entry}
 use Rattle.pur_base.specs.Facts.{Facts}
-use Rattle.pur_base.specs.Mediums.{Reads}
-use Rattle.pur_base.specs.Sectors.{filled}
 use Rattle.pur_base.specs.Visible.{segment, objects}
 use Rattle.pur_base.specs.declared.facts.AnyFact.{AnyFact}
 use Rattle.pur_base.specs.declared.facts.ObjectFact.{ObjectFact}
@@ -16,14 +14,12 @@ use Rattle.pur_base.specs.declared.facts.SegmentFact.{SegmentFact}
 use Rattle.pur_base.specs.declared.facts.Target.{Target}
 use Rattle.pur_base.specs.declared.facts.Target.TheVariants.{Stored, Zero}
 use Rattle.boot_codec.specs.declared.patch.Patch.{Patch}
-use Rattle.boot_codec.specs.declared.record.BootRecord.{BootRecord}
 use Rattle.segment_codec.specs.Stripes.{SectorStands}
 use Rattle.fact_codec.specs.Fact.{Decodes}
 use Rattle.fact_codec.proofs.OneFact.{one_fact}
 use Rattle.array_spec.specs.Base.{TargetStands, MediumReads, EntryStands, BaseStands}
-use Rattle.array_spec.specs.Meaning.{TablesStand, HoldsBase}
 use Rattle.array_spec.specs.Sound.{AreMediumsSound}
-use Rattle.array_spec.specs.Stored.{FactStands, PatchStands, PatchesStand, all_facts, places_of_part}
+use Rattle.array_spec.specs.Stored.{FactStands, PatchStands, all_facts, places_of_part}
 use Rattle.array_spec.proofs.Mediums.{reads_one}
 use Rattle.array_spec.proofs.OneSector.{one_sector}
 use Rattle.stored_spec.specs.Laws.{OnePatches, OneBase}

@@ -40,15 +40,16 @@ RecordIsRead = (shelf : Geometry) (image : Image) (missing : Conditions) (slot :
 
 -- ---- a record after another
 
--- it names some of the drives that show the other
-abbrev pub NamesFewer : BootSlot → BootRecord → Image → BootRecord → Type 0
-NamesFewer slot boot old next = (i : ℕ) → names next (drive i) ≡ true → (names boot (drive i) ≡ true) × (body_in slot (old (drive i)) ≡ spelling boot)
+-- a drive that shows the later one showed the other before
+abbrev pub ShowedBefore : BootSlot → BootRecord → Image → BootSlot → BootRecord → Image → Type 0
+ShowedBefore slot boot old slot2 next new = (i : ℕ) → names next (drive i) ≡ true → body_in slot2 (new (drive i)) ≡ spelling next
+    → (names boot (drive i) ≡ true) × (body_in slot (old (drive i)) ≡ spelling boot)
 
 -- The tables of a record hold by a later one that differs in its generation and its members, once only boot units have changed.
 abbrev pub NextHolds : Type 0
 NextHolds = (shelf : Geometry) (old new : Image) (slot slot2 : BootSlot) (boot next : BootRecord) (patches : List (List AnyFact)) (base : Array)
     → IsRecordOf shelf boot → next ≡ record boot { generation = next.generation; members = next.members }
-    → NamesFewer slot boot old next → DiffersOnlyIn (λ i unit. unit < BOOT_UNITS) old new
+    → ShowedBefore slot boot old slot2 next new → DiffersOnlyIn (λ i unit. unit < BOOT_UNITS) old new
     → TablesHold shelf old slot boot patches base → TablesHold shelf new slot2 next patches base
 
 -- ---- writes in free units

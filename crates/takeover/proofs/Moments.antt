@@ -14,7 +14,7 @@ use Rattle.boot_region.specs.declared.loading.Loaded.{Loaded}
 use Rattle.boot_region.specs.Members.{IsMember, DroppedFailed, LostWrites}
 use Rattle.register.specs.declared.state.Register.{Register}
 use Rattle.register.specs.Registers.{IsRegisterOf, drives_of, IsLaterRecord}
-use Rattle.register.specs.Standing.{IsOpen}
+use Rattle.register.specs.Standing.{IsOpen, unflushed}
 use Rattle.takeover.specs.declared.log.OpenedLog.{OpenedLog}
 use Rattle.takeover.specs.declared.log.LogFault.{LogFault}
 use Rattle.session_spec.specs.Entering.{failed_since}
@@ -54,7 +54,7 @@ module _ (old mid new : Shelved) (missing : Conditions) (arrays : List Array) (x
     sound_mid : (i : ℕ) → i < mid.drives → failed_since old mid missing (drive i) ≡ Sound → IsMember was.drives i
     sound_mid i lt sound = subst (λ (l : List Bool). IsMember l i) (sym drives_are) (is_open.found.in_force.sound i lt sound)
 
-    pub recovered : IsOpen new now o.log.members is_open.commands
+    pub recovered : IsOpen new now o.log.members (unflushed is_open.commands)
         → IsRecovered new (record { plain = o.plain; log = o.log; register = now }) (failed_since old new missing) arrays
     recovered is_opened = record {
       commands = is_open.commands;

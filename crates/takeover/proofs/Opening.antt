@@ -1,6 +1,5 @@
 -- The opening as a whole, from what each of its calls says.
 use Rattle.std.proofs.Common.{◌≡◌, ◌⊎◌, inl, inr, ℕ, ◌+◌, ◌-◌, ◌^◌, ◌<◌, ◌≤◌, Bool, List, Some, None, refl, sym, ◌∙◌, ap, subst, arith, Err}
-use Rattle.pur_base.specs.Commands.{Command}
 use Rattle.pur_base.specs.declared.device.Device.{Device}
 use Rattle.pur_base.specs.declared.reply.Status.TheVariants as status
 use Rattle.pur_base.specs.Devices.{Geometry, Conditions, IsBearable, drive, nvram}
@@ -26,7 +25,7 @@ use Rattle.register.specs.declared.next.StoreFault.{StoreFault}
 use Rattle.register.specs.declared.next.StoreFault.TheVariants.{Spent, TooFew}
 use Rattle.register.specs.Faults.{IsFaultOf}
 use Rattle.register.specs.Registers.{IsLaterRecord, IsRegisterOf, OnSlots, drives_of, next_slot, own_slot}
-use Rattle.register.specs.Standing.{AllShow, GivesOldOrNext, MayStore, StandsBack, StandsInLog, StillGiven}
+use Rattle.register.specs.Standing.{AllShow, Content, GivesOldOrNext, MayStore, StandsBack, StandsInLog, StillGiven, unflushed}
 use Rattle.register.proofs.FlagLemmas.{in_cut}
 use Rattle.session_spec.specs.Entering.{Enters, Found, OnlyFailedAreSilent, StandsStill, read_now, failed_by, failed_since}
 use Rattle.session_spec.specs.Headline.{IsUnopenedBy}
@@ -43,7 +42,7 @@ use Rattle.takeover.specs.Recovered.{IsRecovered}
 use Rattle.takeover.specs.Replayed.{IsReplayedBy, IsReplayedFrom}
 use Rattle.takeover.specs.Seen.{IsGivenFrom, IsSeenBy, IsSeenIn}
 use Rattle.takeover.proofs.Causes.{cause}
-use Rattle.takeover.proofs.Loading.{same_geometry}
+use Rattle.takeover.proofs.Loading.{same_geometry, may_read}
 use Rattle.takeover.proofs.RecoveredLemmas.{in_log, left_or_lost, may_store}
 use Rattle.takeover.proofs.Stops.{given_at, nothing_owed, unstored_by}
 use Rattle.takeover.proofs.Storing.{stored_at}
@@ -143,11 +142,11 @@ module _ (a b : Shelved) (x : Loaded) (on : Continues a b) (seen : IsSeenIn a b 
         (next : IsFoundOn b x (failed_since a b missing) arrays → LeavesOnly b n (StandsStill b None (failed_since a b missing) arrays))
         (drives_stay : (i : ℕ) → n.disk (drive i) ≡ b.disk (drive i))
         (log_writes : WritesOnly (OnMembers x.record.members.nvrams) b n) (writes : WritesOnly (OnSlots (drives_of was)) n s)
-        (stands : now.record.generation < 2 ^ 48 - 8 → (commands : List Command) → MayStore n was o.log.members (failed_since a n missing) commands arrays
+        (stands : now.record.generation < 2 ^ 48 - 8 → (held : Content) → MayStore n was o.log.members (failed_since a n missing) held arrays
         → LeavesOnly n s (StandsBut n (drives_of was) (failed_since a n missing) (next_slot was.record) was.record arrays))
-        (gives : now.record.generation < 2 ^ 48 - 8 → (commands : List Command) → MayStore n was o.log.members (failed_since a n missing) commands arrays → LeavesOnly n s (GivesOldOrNext n was o.log.members (failed_since a n missing)))
-        (back : now.record.generation < 2 ^ 48 - 8 → (commands : List Command) → StandsInLog n was o.log.members commands → AllShow n was
-        → LeavesOnly n s (λ stop. StillGiven n was o.log.members commands stop ⊎ StandsBack n was o.log.members commands stop)) where
+        (gives : now.record.generation < 2 ^ 48 - 8 → (held : Content) → MayStore n was o.log.members (failed_since a n missing) held arrays → LeavesOnly n s (GivesOldOrNext n was o.log.members (failed_since a n missing)))
+        (back : now.record.generation < 2 ^ 48 - 8 → (held : Content) → StandsInLog n was o.log.members held → AllShow n was
+        → LeavesOnly n s (λ stop. StillGiven n was o.log.members held stop ⊎ StandsBack n was o.log.members held stop)) where
       -- the record might be given as the store began, in the conditions of a stop in it
       given_begun : (stop : Stop) → IsCountedBy n stop → OnlyFailedAreSilent (has_failed (read_now a) stop) found.view → IsBearable (geometry_of a) (failed_by a stop missing) → slot_in x.slot ≡ own_slot x.record
           → (start : Stop) → MayStop n start → MayBeGiven (geometry_of a) start.image (failed_by a stop missing) (own_slot x.record) x.record
@@ -161,7 +160,7 @@ module _ (a b : Shelved) (x : Loaded) (on : Continues a b) (seen : IsSeenIn a b 
 
       storing : IsLogOpen n x (failed_since a n missing) arrays o → LeavesOnly n s (StandsStill a (Some found) missing arrays)
       storing opened =
-          let may = may_store n x (failed_since a n missing) arrays o was opened is_of record_is drives_are in
+          let may = may_store n x (failed_since a n missing) arrays o was opened is_of record_is drives_are (read_now n) (may_read n is_n h_n) in
           let logged = in_log n x (failed_since a n missing) arrays o was opened is_of record_is drives_are in
           let room = enough_room opened.found.room in
           weaker (λ stop all. stored_at a n x missing arrays o was on_n is_n h_n opened record_is drives_are may found refl
@@ -169,7 +168,7 @@ module _ (a b : Shelved) (x : Loaded) (on : Continues a b) (seen : IsSeenIn a b 
           (λ fails by_then. found_by.nvram_left a b x on seen lawful same n o after replayed fails by_then)
           (λ stop counted silent bears. given_begun stop counted silent bears opened.found.in_its_slot.in_its_slot)
           stop all.0 all.1.0 all.1.1.0 all.1.1.1)
-          (both_leave writes.any_moment (both_leave (stands room opened.commands may) (both_leave (gives room opened.commands may) (back room opened.commands logged (shown_own opened.found.in_its_slot.in_its_slot)))))
+          (both_leave writes.any_moment (both_leave (stands room (unflushed opened.commands) may) (both_leave (gives room (unflushed opened.commands) may) (back room (unflushed opened.commands) logged (shown_own opened.found.in_its_slot.in_its_slot)))))
 
       pub each_moment : LeavesOnly a s (StandsStill a (Some found) missing arrays)
       each_moment = then_run on_n

@@ -27,7 +27,7 @@ use Rattle.boot_region.proofs.ShownLemmas.{as_read}
 use Rattle.nvram_log.specs.Members.{IsMember as IsLogMember}
 use Rattle.register.specs.declared.state.Register.{Register}
 use Rattle.register.specs.Registers.{OnSlots, drives_of, next_slot, own_slot}
-use Rattle.register.specs.Standing.{AreOfMembers, GivesOldOrNext, IsNextOf, MayStore, StandsBack, StillGiven}
+use Rattle.register.specs.Standing.{AreOfMembers, GivesOldOrNext, IsNextOf, MayStore, StandsBack, StillGiven, unflushed}
 use Rattle.register.proofs.FlagLemmas.{cut_in}
 use Rattle.session_spec.specs.Entering.{ComesBack, Found, IsStanding, LeftOutAreNamedByNone, OnlyFailedAreSilent, StandsStill, read_now, failed_by, failed_since}
 use Rattle.takeover.specs.declared.log.OpenedLog.{OpenedLog}
@@ -238,7 +238,7 @@ comes_back found failed after d true false None is named fail member = inr ((λ 
 -- the store's stops as those of the opening
 module _ (a n : Shelved) (x : Loaded) (missing : Conditions) (arrays : List Array) (o : OpenedLog) (was : Register) (on : Continues a n) (is_n : IsShelf n) (h_n : n.honest)
     (opened : IsLogOpen n x (failed_since a n missing) arrays o) (record_is : was.record ≡ x.record) (drives_are : was.drives ≡ x.drives)
-    (may_store : MayStore n was o.log.members (failed_since a n missing) opened.commands arrays)
+    (may_store : MayStore n was o.log.members (failed_since a n missing) (unflushed opened.commands) arrays)
     (found : Found (geometry_of a) (read_now a).image) (boot_is : found.effective.boot ≡ x.record)
     (drive_left : (fails : Device → Bool) → ((d : Device) → has_failed (read_now a) (read_now n) d ≡ true → fails d ≡ true) → (i : ℕ) → i < a.drives → members_view found.view found.effective (drive i) ≢ None → fails (drive i) ≡ false → IsMember x.drives i)
     (nvram_left : (fails : Device → Bool) → ((d : Device) → has_failed (read_now a) (read_now n) d ≡ true → fails d ≡ true) → (k : ℕ) → members_view found.view found.effective (nvram k) ≢ None → fails (nvram k) ≡ false → IsLogMember o.log.members k)
@@ -247,7 +247,7 @@ module _ (a n : Shelved) (x : Loaded) (missing : Conditions) (arrays : List Arra
   pub stored_at : (stop : Stop) → LeavesBut (OnSlots (drives_of was)) n stop
       → StandsBut n (drives_of was) (failed_since a n missing) (next_slot was.record) was.record arrays stop
       → GivesOldOrNext n was o.log.members (failed_since a n missing) stop
-      → StillGiven n was o.log.members opened.commands stop ⊎ StandsBack n was o.log.members opened.commands stop
+      → StillGiven n was o.log.members (unflushed opened.commands) stop ⊎ StandsBack n was o.log.members (unflushed opened.commands) stop
       → StandsStill a (Some found) missing arrays stop
   stored_at stop left stands gives back = record {
     standing = λ bears.
@@ -300,6 +300,7 @@ module _ (a n : Shelved) (x : Loaded) (missing : Conditions) (arrays : List Arra
         left_out = λ k out.
             let none = back_out (names x.record (nvram k)) (fails (nvram k)) (members_view found.view found.effective (nvram k)) out in
             ((λ m. absurd (cc (none, opened.fewer k m))), ap (λ (r : BootRecord). names r (nvram k)) record_is ∙ none);
+        unnamed = λ i out. ap (λ (r : BootRecord). names r (drive i)) record_is ∙ back_out (names x.record (drive i)) (fails (drive i)) (members_view found.view found.effective (drive i)) out;
         dropped = λ k lt named gone. back_missing k (sym (ap (λ (r : BootRecord). names r (nvram k)) record_is) ∙ named) gone ∙ sym (is_missing_now k lt (sym (ap (λ (r : BootRecord). names r (nvram k)) record_is) ∙ named) gone);
       }
         where
@@ -322,7 +323,7 @@ module _ (a n : Shelved) (x : Loaded) (missing : Conditions) (arrays : List Arra
             | inr (inr out) ↦ absurd (cc (named, opened.found.left_out (read_now n) (may_read n is_n h_n) (nvram k) out _ x.record (opened.found.in_force.given (read_now n) (may_read n is_n h_n))))
           ]
 
-      is_back : StandsBack n was o.log.members opened.commands stop → IsBearable (geometry_of a) after → IsStanding (geometry_of a) stop.image after arrays
+      is_back : StandsBack n was o.log.members (unflushed opened.commands) stop → IsBearable (geometry_of a) after → IsStanding (geometry_of a) stop.image after arrays
       is_back stood borne =
           let e : geometry_of a ≡ geometry_of n = same_geometry on in
           let both = stood.each (failed_since a n missing) arrays may_store after (of_members (subst (λ (g : Geometry). IsBearable g after) e borne)) in

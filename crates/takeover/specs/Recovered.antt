@@ -11,7 +11,7 @@ use Rattle.world.specs.Losing.{geometry_of}
 use Rattle.world.specs.Shelf.{Shelved}
 use Rattle.nvram_log.specs.Held.{Keeps}
 use Rattle.nvram_log.specs.Members.{IsSome}
-use Rattle.register.specs.Standing.{IsOpen}
+use Rattle.register.specs.Standing.{IsOpen, unflushed}
 use Rattle.takeover.specs.declared.recovering.Recovered.{Recovered}
 
 -- The array in memory is one of the arrays. A record is in force alone that names each device that isn't missing, and by it the devices stand for that array.
@@ -23,5 +23,5 @@ pub record IsRecovered (shelf : Shelved) (r : Recovered) (missing : Conditions) 
   pub plain : r.plain ≡ after_all [] commands
   pub one_of : Contains arrays r.plain
   pub some : IsSome r.log.members
-  pub opened : IsOpen shelf r.register r.log.members commands
+  pub opened : IsOpen shelf r.register r.log.members (unflushed commands)
   pub sound : (d : Device) → IsOn (geometry_of shelf) d → missing d ≡ Sound → names r.register.record d ≡ true

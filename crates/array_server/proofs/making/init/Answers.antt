@@ -3,7 +3,7 @@ use Rattle.world.proofs.Moments.{continues_trans}
 use Rattle.request_codec.proofs.CallLemmas.{both}
 use Rattle.session_spec.specs.Ends.{RisesIf, is_sink}
 use Rattle.array_server.specs.Made.{IsCountedEnd, IsInitStatus, IsMadeOutput}
-use Rattle.array_server.proofs.MadeLemmas.{made-is-init, made-counts, made-judged, made-not-memory, made-on, none-failed-on, makes, stays-on, blank-shows-none, gives-shows}
+use Rattle.array_server.proofs.MadeLemmas.{made-is-init, made-counts, made-judged, made-not-memory, made-on, none-failed-on, makes, stays-on, blank-shows-none}
 use Rattle.array_server.proofs.making.init.Goals as goal
 
 pub returns-in-Ok-init : goal.returns-in-Ok-init

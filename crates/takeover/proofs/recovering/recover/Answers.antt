@@ -18,7 +18,7 @@ use Rattle.register.specs.declared.state.Register.{Register}
 use Rattle.register.specs.declared.next.StoreFault.{StoreFault}
 use Rattle.register.specs.Faults.{IsFaultOf}
 use Rattle.register.specs.Registers.{IsRegisterOf}
-use Rattle.register.specs.Standing.{GivesOldOrNext, MayStore, StandsBack, StandsInLog, StillGiven, IsOpen}
+use Rattle.register.specs.Standing.{GivesOldOrNext, MayStore, StandsBack, StandsInLog, StillGiven, IsOpen, unflushed}
 use Rattle.session_spec.specs.Entering.{Enters, StandsStill, failed_since}
 use Rattle.takeover.specs.declared.faults.OpenFault.{OpenFault}
 use Rattle.takeover.specs.declared.faults.OpenFault.TheVariants as open_fault
@@ -150,11 +150,11 @@ returns-in_err-store-clause-opened g c h =
     opening.each_moment a b x on seen lawful (c.find_record.ensures.nvrams h) n after s o was now last is_a is_b is_n h replayed is_of made.0 made.1 c.store.ensures.dropped c.store.ensures.later c.store.ensures.few shown
     missing arrays (c.find_record.ensures.any_moment h missing arrays enters) (seen.given missing arrays enters) (is_found missing arrays enters) (opens missing arrays enters) (c.open_log.ensures.moments h_b)
     (λ is. c.open_log.ensures.any_moment h_b x (failed_since a b missing) arrays refl refl is) c.open_log.ensures.drives (c.open_log.ensures.writes h_b) (c.store.ensures.writes h_n)
-    (λ room commands may. c.store.ensures.any_moment h_n room (failed_since a n missing) commands arrays (subst (λ (l : List Bool). MayStore n was l (failed_since a n missing) commands arrays) (sym c.members.ensures) may))
-    (λ room commands may. subst (λ (l : List Bool). LeavesOnly n s (GivesOldOrNext n was l (failed_since a n missing))) c.members.ensures
-    (c.store.ensures.gives h_n room (failed_since a n missing) commands arrays (subst (λ (l : List Bool). MayStore n was l (failed_since a n missing) commands arrays) (sym c.members.ensures) may)))
-    (λ room commands logged own. subst (λ (l : List Bool). LeavesOnly n s (λ stop. StillGiven n was l commands stop ⊎ StandsBack n was l commands stop)) c.members.ensures
-    (c.store.ensures.back h_n room commands (subst (λ (l : List Bool). StandsInLog n was l commands) (sym c.members.ensures) logged) own)) in
+    (λ room held may. c.store.ensures.any_moment h_n room (failed_since a n missing) held arrays (subst (λ (l : List Bool). MayStore n was l (failed_since a n missing) held arrays) (sym c.members.ensures) may))
+    (λ room held may. subst (λ (l : List Bool). LeavesOnly n s (GivesOldOrNext n was l (failed_since a n missing))) c.members.ensures
+    (c.store.ensures.gives h_n room (failed_since a n missing) held arrays (subst (λ (l : List Bool). MayStore n was l (failed_since a n missing) held arrays) (sym c.members.ensures) may)))
+    (λ room held logged own. subst (λ (l : List Bool). LeavesOnly n s (λ stop. StillGiven n was l held stop ⊎ StandsBack n was l held stop)) c.members.ensures
+    (c.store.ensures.back h_n room held (subst (λ (l : List Bool). StandsInLog n was l held) (sym c.members.ensures) logged) own)) in
     let p = err_from_is_err_and c.from_residual-in_err-store.result c.from_residual-in_err-store.ensures.1 in
     let e = c.in_err-store.field-0.0 in
     let fault : IsFaultOf now e = subst (λ (r : Result (Unit {0}) StoreFault). IfErr r (λ f. IsFaultOf now f)) c.in_err-store.was c.store.ensures.fault in
@@ -202,11 +202,11 @@ returns-clause-opened g c h =
     opening.each_moment a b x on seen lawful (c.find_record.ensures.nvrams h) n after s o was now last is_a is_b is_n h replayed is_of made.0 made.1 c.store.ensures.dropped c.store.ensures.later c.store.ensures.few shown
     missing arrays (c.find_record.ensures.any_moment h missing arrays enters) (seen.given missing arrays enters) (is_found missing arrays enters) (opens missing arrays enters) (c.open_log.ensures.moments h_b)
     (λ is. c.open_log.ensures.any_moment h_b x (failed_since a b missing) arrays refl refl is) c.open_log.ensures.drives (c.open_log.ensures.writes h_b) (c.store.ensures.writes h_n)
-    (λ room commands may. c.store.ensures.any_moment h_n room (failed_since a n missing) commands arrays (subst (λ (l : List Bool). MayStore n was l (failed_since a n missing) commands arrays) (sym c.members.ensures) may))
-    (λ room commands may. subst (λ (l : List Bool). LeavesOnly n s (GivesOldOrNext n was l (failed_since a n missing))) c.members.ensures
-    (c.store.ensures.gives h_n room (failed_since a n missing) commands arrays (subst (λ (l : List Bool). MayStore n was l (failed_since a n missing) commands arrays) (sym c.members.ensures) may)))
-    (λ room commands logged own. subst (λ (l : List Bool). LeavesOnly n s (λ stop. StillGiven n was l commands stop ⊎ StandsBack n was l commands stop)) c.members.ensures
-    (c.store.ensures.back h_n room commands (subst (λ (l : List Bool). StandsInLog n was l commands) (sym c.members.ensures) logged) own)) in
+    (λ room held may. c.store.ensures.any_moment h_n room (failed_since a n missing) held arrays (subst (λ (l : List Bool). MayStore n was l (failed_since a n missing) held arrays) (sym c.members.ensures) may))
+    (λ room held may. subst (λ (l : List Bool). LeavesOnly n s (GivesOldOrNext n was l (failed_since a n missing))) c.members.ensures
+    (c.store.ensures.gives h_n room (failed_since a n missing) held arrays (subst (λ (l : List Bool). MayStore n was l (failed_since a n missing) held arrays) (sym c.members.ensures) may)))
+    (λ room held logged own. subst (λ (l : List Bool). LeavesOnly n s (λ stop. StillGiven n was l held stop ⊎ StandsBack n was l held stop)) c.members.ensures
+    (c.store.ensures.back h_n room held (subst (λ (l : List Bool). StandsInLog n was l held) (sym c.members.ensures) logged) own)) in
     let generation : (was.record.generation < now.record.generation) × (now.record.generation < 2 ^ 48) =
     subst (λ (r : Result (Unit {0}) StoreFault). OnOk r ((was.record.generation < now.record.generation) × (now.record.generation < 2 ^ 48))) c.in_ok-store.was c.store.ensures.generation in
     let members : (now.record.members.drives ≡ now.drives) × (now.record.members.nvrams ≡ c.members.result) =
@@ -216,11 +216,11 @@ returns-clause-opened g c h =
     λ missing arrays enters bears.
     let on_n = continues_trans on after in
     let is = is_open a n s missing arrays x o was on_n last (opens missing arrays enters) is_of made.0 made.1 bears now c.store.ensures.dropped c.store.ensures.later in
-    let logged : StandsInLog n was c.members.result is.commands = subst (λ (l : List Bool). StandsInLog n was l is.commands) (sym c.members.ensures) (in_log n x (failed_since a n missing) arrays o was is is_of made.0 made.1) in
+    let logged : StandsInLog n was c.members.result (unflushed is.commands) = subst (λ (l : List Bool). StandsInLog n was l (unflushed is.commands)) (sym c.members.ensures) (in_log n x (failed_since a n missing) arrays o was is is_of made.0 made.1) in
     let room = opening.enough_room a b x on seen lawful (c.find_record.ensures.nvrams h) n after s o was now last is_a is_b is_n h replayed is_of made.0 made.1 c.store.ensures.dropped c.store.ensures.later c.store.ensures.few shown is.found.room in
-    let stored : IsOpen s now c.members.result is.commands = subst (λ (r : Result (Unit {0}) StoreFault). OnOk r (IsOpen s now c.members.result is.commands)) c.in_ok-store.was (c.store.ensures.stored h_n room is.commands logged) in
+    let stored : IsOpen s now c.members.result (unflushed is.commands) = subst (λ (r : Result (Unit {0}) StoreFault). OnOk r (IsOpen s now c.members.result (unflushed is.commands))) c.in_ok-store.was (c.store.ensures.stored h_n room (unflushed is.commands) logged) in
     recovered a n s missing arrays x o was on_n last (opens missing arrays enters) is_of made.0 made.1 bears now c.store.ensures.dropped c.store.ensures.later
-    (subst (λ (l : List Bool). IsOpen s now l is.commands) c.members.ensures stored) in
+    (subst (λ (l : List Bool). IsOpen s now l (unflushed is.commands)) c.members.ensures stored) in
     opening.opened a b x on seen lawful (c.find_record.ensures.nvrams h) n after s o was now last is_a is_b is_n h replayed is_of made.0 made.1 c.store.ensures.dropped c.store.ensures.later c.store.ensures.few shown each
     generation.0 (members.0, members.1 ∙ c.members.ensures) is_recovered
 

@@ -9,7 +9,7 @@ use Rattle.world.proofs.Moments.{continues_trans}
 use Rattle.boot_region.specs.Storing.{StandsBut}
 use Rattle.nvram_log.specs.Held.{HoldsOn}
 use Rattle.register.specs.Registers.{IsRegisterOf, drives_of, next_slot}
-use Rattle.register.specs.Standing.{GivesOldOrNext, IsOpen, MayStore, StandsInLog}
+use Rattle.register.specs.Standing.{Content, GivesOldOrNext, IsOpen, MayStore, StandsInLog, unflushed}
 use Rattle.register.proofs.FlagLemmas.{same_flags, other_flags}
 use Rattle.array_core.specs.declared.array.Array.{Array}
 use Rattle.array_core.specs.declared.perform.PerformFault.{PerformFault}
@@ -105,11 +105,11 @@ returns-in_err-store-clause-any_moment g c h cmds o keeps accepted in_force =
     let p = appending a m r log now cmds cmd (g.met.S.Shelf.is_shelf c.args.shelf.now) (g.met.S.Shelf.is_shelf c.append.new.shelf) h x.continues o keeps c.requires.not_spent c.requires.room c.requires.is_of.flushed accepted
     x.drives x.fewer x.dropped (x.any_moment h cmds keeps held) (x.writes h) (x.spelled 0 _ refl) in_force in
     let holds : HoldsOn m now r.record.flushed (cmds ++ cmd ∷ []) = subst (λ (f : ℕ). HoldsOn m now f (cmds ++ cmd ∷ [])) (x.flushed ∙ c.requires.is_of.flushed) (c.in_ok-append.ensures.holds h cmds keeps held) in
-    let storing : (missing : Conditions) (k : List Command) (others : List plain.Array) → MayStore m r now missing k others → LeavesOnly m n (StandsBut m (drives_of r) missing (next_slot r.record) r.record others) =
-    subst (λ (l : List Bool). (missing : Conditions) (k : List Command) (others : List plain.Array) → MayStore m r l missing k others → LeavesOnly m n (StandsBut m (drives_of r) missing (next_slot r.record) r.record others))
+    let storing : (missing : Conditions) (k : Content) (others : List plain.Array) → MayStore m r now missing k others → LeavesOnly m n (StandsBut m (drives_of r) missing (next_slot r.record) r.record others) =
+    subst (λ (l : List Bool). (missing : Conditions) (k : Content) (others : List plain.Array) → MayStore m r l missing k others → LeavesOnly m n (StandsBut m (drives_of r) missing (next_slot r.record) r.record others))
     c.members-members.ensures (c.store.ensures.any_moment (x.continues.honest h) room) in
-    let giving : (missing : Conditions) (k : List Command) (others : List plain.Array) → MayStore m r now missing k others → LeavesOnly m n (GivesOldOrNext m r now missing) =
-    subst (λ (l : List Bool). (missing : Conditions) (k : List Command) (others : List plain.Array) → MayStore m r l missing k others → LeavesOnly m n (GivesOldOrNext m r l missing))
+    let giving : (missing : Conditions) (k : Content) (others : List plain.Array) → MayStore m r now missing k others → LeavesOnly m n (GivesOldOrNext m r now missing) =
+    subst (λ (l : List Bool). (missing : Conditions) (k : Content) (others : List plain.Array) → MayStore m r l missing k others → LeavesOnly m n (GivesOldOrNext m r l missing))
     c.members-members.ensures (c.store.ensures.gives (x.continues.honest h) room) in
     all_moments a m r log.members now cmds cmd p holds c.in_ok-append.ensures.ok.1 n (off_nvrams (drives_of r)) (c.store.ensures.writes (x.continues.honest h)) storing giving
 
@@ -128,11 +128,11 @@ returns-clause-any_moment g c h cmds o keeps accepted in_force =
     let p = appending a m r log now cmds cmd (g.met.S.Shelf.is_shelf c.args.shelf.now) (g.met.S.Shelf.is_shelf c.append.new.shelf) h x.continues o keeps c.requires.not_spent c.requires.room c.requires.is_of.flushed accepted
     x.drives x.fewer x.dropped (x.any_moment h cmds keeps held) (x.writes h) (x.spelled 0 _ refl) in_force in
     let holds : HoldsOn m now r.record.flushed (cmds ++ cmd ∷ []) = subst (λ (f : ℕ). HoldsOn m now f (cmds ++ cmd ∷ [])) (x.flushed ∙ c.requires.is_of.flushed) (c.in_ok-append.ensures.holds h cmds keeps held) in
-    let storing : (missing : Conditions) (k : List Command) (others : List plain.Array) → MayStore m r now missing k others → LeavesOnly m n (StandsBut m (drives_of r) missing (next_slot r.record) r.record others) =
-    subst (λ (l : List Bool). (missing : Conditions) (k : List Command) (others : List plain.Array) → MayStore m r l missing k others → LeavesOnly m n (StandsBut m (drives_of r) missing (next_slot r.record) r.record others))
+    let storing : (missing : Conditions) (k : Content) (others : List plain.Array) → MayStore m r now missing k others → LeavesOnly m n (StandsBut m (drives_of r) missing (next_slot r.record) r.record others) =
+    subst (λ (l : List Bool). (missing : Conditions) (k : Content) (others : List plain.Array) → MayStore m r l missing k others → LeavesOnly m n (StandsBut m (drives_of r) missing (next_slot r.record) r.record others))
     c.members-members.ensures (c.store.ensures.any_moment (x.continues.honest h) room) in
-    let giving : (missing : Conditions) (k : List Command) (others : List plain.Array) → MayStore m r now missing k others → LeavesOnly m n (GivesOldOrNext m r now missing) =
-    subst (λ (l : List Bool). (missing : Conditions) (k : List Command) (others : List plain.Array) → MayStore m r l missing k others → LeavesOnly m n (GivesOldOrNext m r l missing))
+    let giving : (missing : Conditions) (k : Content) (others : List plain.Array) → MayStore m r now missing k others → LeavesOnly m n (GivesOldOrNext m r now missing) =
+    subst (λ (l : List Bool). (missing : Conditions) (k : Content) (others : List plain.Array) → MayStore m r l missing k others → LeavesOnly m n (GivesOldOrNext m r l missing))
     c.members-members.ensures (c.store.ensures.gives (x.continues.honest h) room) in
     all_moments a m r log.members now cmds cmd p holds c.in_ok-append.ensures.ok.1 n (off_nvrams (drives_of r)) (c.store.ensures.writes (x.continues.honest h)) storing giving
 
@@ -152,9 +152,9 @@ returns-clause-held g c h cmds o keeps accepted in_force =
     x.drives x.fewer x.dropped (x.any_moment h cmds keeps held) (x.writes h) (x.spelled 0 _ refl) in_force in
     let holds : HoldsOn m now r.record.flushed (cmds ++ cmd ∷ []) = subst (λ (f : ℕ). HoldsOn m now f (cmds ++ cmd ∷ [])) (x.flushed ∙ c.requires.is_of.flushed) (c.in_ok-append.ensures.holds h cmds keeps held) in
     let in_log = logged a m r log.members now cmds cmd p holds c.in_ok-append.ensures.ok.1 in
-    let stored : IsOpen n c.store.new.self c.members-members.result (cmds ++ cmd ∷ []) =
-    c.in_ok-store.ensures.stored (x.continues.honest h) room (cmds ++ cmd ∷ []) (subst (λ (l : List Bool). StandsInLog m r l (cmds ++ cmd ∷ [])) (sym c.members-members.ensures) in_log) in
-    subst (λ (l : List Bool). IsOpen n c.store.new.self l (cmds ++ cmd ∷ [])) c.members-members.ensures stored
+    let stored : IsOpen n c.store.new.self c.members-members.result (unflushed (cmds ++ cmd ∷ [])) =
+    c.in_ok-store.ensures.stored (x.continues.honest h) room (unflushed (cmds ++ cmd ∷ [])) (subst (λ (l : List Bool). StandsInLog m r l (unflushed (cmds ++ cmd ∷ []))) (sym c.members-members.ensures) in_log) in
+    subst (λ (l : List Bool). IsOpen n c.store.new.self l (unflushed (cmds ++ cmd ∷ []))) c.members-members.ensures stored
 
 pub returns-clause-generation : goal.returns-clause-generation
 returns-clause-generation g c =

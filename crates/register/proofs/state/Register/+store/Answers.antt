@@ -35,16 +35,16 @@ returns-then-eq-clause-stores g t c =
     omega (arith, generation, count)
 
 pub returns-then-eq-clause-stored : goal.returns-then-eq-clause-stored
-returns-then-eq-clause-stored g t c h low log logged =
+returns-then-eq-clause-stored g t c h low held logged =
     let same : c.store_next.new.self.drives ≡ c.store_next.new.self.record.members.drives = same_flags c.store_next.new.self.drives c.store_next.new.self.record.members.drives c.if-eq.ensures in
     let slots : c.store_next.new.self.record.slots ≡ c.args.self.now.record.slots = ap (λ (b : BootRecord). b.slots) c.in_ok-store_next.ensures.next in
     let count : set_count c.store_next.new.self.drives ≡ set_count c.args.self.now.drives = ap set_count (same ∙ ap (λ (b : BootRecord). b.members.drives) c.in_ok-store_next.ensures.next) in
-    let l = c.in_ok-store_next.ensures.logged h log logged in
+    let l = c.in_ok-store_next.ensures.logged h held logged in
     let enough : c.store_next.new.self.record.slots ≤ set_count c.store_next.new.self.drives + 2 = omega (arith, slots, count, c.in_ok-store_next.ensures.enough) in
-    is_open (g.S.Shelf.shelf c.store_next.new.shelf) (g.met.S.Shelf.is_shelf c.store_next.new.shelf) _ c.args.nvrams log
-    (record { is_of = record { lawful = l.is_of.lawful; named = l.is_of.named }; patches = l.patches; bodies = l.bodies; holds = l.holds; accepted = l.accepted })
+    is_open (g.S.Shelf.shelf c.store_next.new.shelf) (g.met.S.Shelf.is_shelf c.store_next.new.shelf) _ c.args.nvrams held
+    (record { is_of = record { lawful = l.is_of.lawful; named = l.is_of.named }; tables = l.tables; bodies = l.bodies; holds = l.holds; accepted = l.accepted })
     (sym same) (ap (λ (b : BootRecord). b.members.nvrams) c.in_ok-store_next.ensures.next) enough low c.requires.nvrams
-    (c.in_ok-store_next.ensures.shown h) (c.in_ok-store_next.ensures.older h log logged)
+    (c.in_ok-store_next.ensures.shown h) (c.in_ok-store_next.ensures.older h held logged)
 
 pub store-requires : goal.store-requires
 store-requires g t c κs within =
@@ -138,21 +138,23 @@ returns-clause-moments g t c h low =
     in_store_later a b (g.met.S.Shelf.is_shelf c.store_next.new.shelf) ab was now c.args.nvrams c.requires.nvrams next c.in_ok-store_next.ensures.fewer
     (fewer_cut was now (ap (λ (x : BootRecord). x.slots) c.in_ok-store_next.ensures.next) c.in_ok-store_next.ensures.fewer) c.in_ok-store_next.ensures.dropped (room g t c low) first
     (c.in_ok-store_next.ensures.logged h) (c.in_ok-store_next.ensures.shown h) (c.in_ok-store_next.ensures.older h) (c.in_ok-store_next.ensures.again h (room g t c low)) stop x.0.counts
-    (λ missing log arrays m. x.1.stands missing log arrays (record {
-      logged = record { is_of = record { lawful = m.logged.is_of.lawful; named = m.logged.is_of.named }; patches = m.logged.patches; bodies = m.logged.bodies; holds = m.logged.holds; accepted = m.logged.accepted };
+    (λ missing held arrays m. x.1.stands missing held arrays (record {
+      logged = record { is_of = record { lawful = m.logged.is_of.lawful; named = m.logged.is_of.named }; tables = m.logged.tables; bodies = m.logged.bodies; holds = m.logged.holds; accepted = m.logged.accepted };
       in_force = m.in_force;
       stands = m.stands;
       one_of = m.one_of;
       sound = m.sound;
       left_out = m.left_out;
+      unnamed = m.unnamed;
     }))
-    (λ missing log arrays m later told slot boot given. elim (x.1.gives missing log arrays (record {
-      logged = record { is_of = record { lawful = m.logged.is_of.lawful; named = m.logged.is_of.named }; patches = m.logged.patches; bodies = m.logged.bodies; holds = m.logged.holds; accepted = m.logged.accepted };
+    (λ missing held arrays m later told slot boot given. elim (x.1.gives missing held arrays (record {
+      logged = record { is_of = record { lawful = m.logged.is_of.lawful; named = m.logged.is_of.named }; tables = m.logged.tables; bodies = m.logged.bodies; holds = m.logged.holds; accepted = m.logged.accepted };
       in_force = m.in_force;
       stands = m.stands;
       one_of = m.one_of;
       sound = m.sound;
       left_out = m.left_out;
+      unnamed = m.unnamed;
     }) later told slot boot given) [
       | inl before ↦ inl before
       | inr n ↦ inr (record { later = record { generation = n.later.generation; rest = n.later.rest }; generation = n.generation; nvrams_are = n.nvrams_are; drives = n.drives })
@@ -160,28 +162,28 @@ returns-clause-moments g t c h low =
     (both (c.store.ensures.writes hb).any_moment (c.store.ensures.moments hb low)))
 
 pub returns-clause-any_moment : goal.returns-clause-any_moment
-returns-clause-any_moment g t c h low missing log arrays may = weaker (λ stop x. x.stands missing log arrays may) (returns-clause-moments g t c h low)
+returns-clause-any_moment g t c h low missing held arrays may = weaker (λ stop x. x.stands missing held arrays may) (returns-clause-moments g t c h low)
 
 pub returns-clause-gives : goal.returns-clause-gives
-returns-clause-gives g t c h low missing log arrays may = weaker (λ stop x. x.gives missing log arrays may) (returns-clause-moments g t c h low)
+returns-clause-gives g t c h low missing held arrays may = weaker (λ stop x. x.gives missing held arrays may) (returns-clause-moments g t c h low)
 
 pub returns-clause-back : goal.returns-clause-back
-returns-clause-back g t c h low log logged shows = weaker (λ stop x. x.back log logged shows) (returns-clause-moments g t c h low)
+returns-clause-back g t c h low held logged shows = weaker (λ stop x. x.back held logged shows) (returns-clause-moments g t c h low)
 
 pub returns-then-eq-clause-any_moment : goal.returns-then-eq-clause-any_moment
-returns-then-eq-clause-any_moment g t c h low missing log arrays may = weaker (λ stop x. x.stands missing log arrays may) (c.in_ok-store_next.ensures.moments h low)
+returns-then-eq-clause-any_moment g t c h low missing held arrays may = weaker (λ stop x. x.stands missing held arrays may) (c.in_ok-store_next.ensures.moments h low)
 
 pub returns-then-eq-clause-gives : goal.returns-then-eq-clause-gives
-returns-then-eq-clause-gives g t c h low missing log arrays may = weaker (λ stop x. x.gives missing log arrays may) (c.in_ok-store_next.ensures.moments h low)
+returns-then-eq-clause-gives g t c h low missing held arrays may = weaker (λ stop x. x.gives missing held arrays may) (c.in_ok-store_next.ensures.moments h low)
 
 pub returns-then-eq-clause-back : goal.returns-then-eq-clause-back
-returns-then-eq-clause-back g t c h low log logged shows = weaker (λ stop x. x.back log logged shows) (c.in_ok-store_next.ensures.moments h low)
+returns-then-eq-clause-back g t c h low held logged shows = weaker (λ stop x. x.back held logged shows) (c.in_ok-store_next.ensures.moments h low)
 
 pub returns-in_err-store_next-clause-any_moment : goal.returns-in_err-store_next-clause-any_moment
-returns-in_err-store_next-clause-any_moment g t c h low missing log arrays may = weaker (λ stop x. x.stands missing log arrays may) (c.in_err-store_next.ensures.moments h low)
+returns-in_err-store_next-clause-any_moment g t c h low missing held arrays may = weaker (λ stop x. x.stands missing held arrays may) (c.in_err-store_next.ensures.moments h low)
 
 pub returns-in_err-store_next-clause-gives : goal.returns-in_err-store_next-clause-gives
-returns-in_err-store_next-clause-gives g t c h low missing log arrays may = weaker (λ stop x. x.gives missing log arrays may) (c.in_err-store_next.ensures.moments h low)
+returns-in_err-store_next-clause-gives g t c h low missing held arrays may = weaker (λ stop x. x.gives missing held arrays may) (c.in_err-store_next.ensures.moments h low)
 
 pub returns-in_err-store_next-clause-back : goal.returns-in_err-store_next-clause-back
-returns-in_err-store_next-clause-back g t c h low log logged shows = weaker (λ stop x. x.back log logged shows) (c.in_err-store_next.ensures.moments h low)
+returns-in_err-store_next-clause-back g t c h low held logged shows = weaker (λ stop x. x.back held logged shows) (c.in_err-store_next.ensures.moments h low)

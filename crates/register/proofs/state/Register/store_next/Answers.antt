@@ -18,9 +18,9 @@ returns-in_err-advance-clause-moments g c h low =
     let a = g.S.Shelf.shelf c.args.shelf.now in
     started a (IsInStoreOf a c.args.self.now c.args.nvrams) (g.met.S.Shelf.is_shelf c.args.shelf.now)
     (λ stop m. record {
-      stands = λ missing log arrays may later account. stands_before a missing later arrays stop m (may.stands stop m) account.within account.bearable;
-      gives = λ missing log arrays may later account slot boot given. inl (record { start = stop; may = m; given = given_with_fewer account.within given });
-      back = λ log logged shows. inl (λ missing arrays may later account given. given stop m);
+      stands = λ missing held arrays may later account. stands_before a missing later arrays stop m (may.stands stop m) account.within account.bearable;
+      gives = λ missing held arrays may later account slot boot given. inl (record { start = stop; may = m; given = given_with_fewer account.within given });
+      back = λ held logged shows. inl (λ missing arrays may later account given. given stop m);
     })
 
 -- what `put` promises, in the words of the record before
@@ -71,9 +71,9 @@ returns-clause-is_of g c =
     c.requires.is_of c.requires.nvrams (lawful g c) (kept g c) (beyond g c) (the_puts g c)
 
 pub returns-clause-logged : goal.returns-clause-logged
-returns-clause-logged g c h log logged =
+returns-clause-logged g c h held logged =
     logged_next (g.S.Shelf.shelf c.args.shelf.now) (g.S.Shelf.shelf c.put.new.shelf) (g.met.S.Shelf.is_shelf c.args.shelf.now) c.put.ensures.continues c.args.self.now c.put.new.self c.args.nvrams
-    c.requires.is_of c.requires.nvrams (lawful g c) (kept g c) (beyond g c) (the_puts g c) h log logged
+    c.requires.is_of c.requires.nvrams (lawful g c) (kept g c) (beyond g c) (the_puts g c) h held logged
 
 pub returns-clause-shown : goal.returns-clause-shown
 returns-clause-shown g c h =
@@ -81,9 +81,9 @@ returns-clause-shown g c h =
     c.requires.is_of c.requires.nvrams (lawful g c) (kept g c) (beyond g c) (the_puts g c) h
 
 pub returns-clause-older : goal.returns-clause-older
-returns-clause-older g c h log logged =
+returns-clause-older g c h held logged =
     older_next (g.S.Shelf.shelf c.args.shelf.now) (g.S.Shelf.shelf c.put.new.shelf) (g.met.S.Shelf.is_shelf c.args.shelf.now) c.put.ensures.continues c.args.self.now c.put.new.self c.args.nvrams
-    c.requires.is_of c.requires.nvrams (lawful g c) (kept g c) (beyond g c) (the_puts g c) h log logged
+    c.requires.is_of c.requires.nvrams (lawful g c) (kept g c) (beyond g c) (the_puts g c) h held logged
 
 room : (g : given.Over) (c : goal.After-put g) → c.put.new.self.record.generation < 2 ^ 48 - 8 → c.args.self.now.record.generation + 1 < 2 ^ 48 - 8
 room g c low = subst (λ (b : BootRecord). b.generation < 2 ^ 48 - 8) (kept g c) low
@@ -94,9 +94,9 @@ returns-clause-moments g c h low =
     c.requires.is_of c.requires.nvrams (lawful g c) (kept g c) (beyond g c) (the_puts g c) h (room g c low)
 
 pub returns-clause-again : goal.returns-clause-again
-returns-clause-again g c h low missing log arrays may =
+returns-clause-again g c h low missing held arrays may =
     again_next (g.S.Shelf.shelf c.args.shelf.now) (g.S.Shelf.shelf c.put.new.shelf) (g.met.S.Shelf.is_shelf c.args.shelf.now) c.put.ensures.continues c.args.self.now c.put.new.self c.args.nvrams
-    c.requires.is_of c.requires.nvrams (lawful g c) (kept g c) (beyond g c) (the_puts g c) h (room g c low) missing log arrays may
+    c.requires.is_of c.requires.nvrams (lawful g c) (kept g c) (beyond g c) (the_puts g c) h (room g c low) missing held arrays may
 
 pub returns-clause-flags : goal.returns-clause-flags
 returns-clause-flags g c = c.put.ensures.flags ∙ ap length c.in_ok-advance.ensures.drives

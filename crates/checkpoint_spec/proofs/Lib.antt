@@ -1,0 +1,10 @@
+pub mod Standing
+pub mod Patches
+pub mod Records
+pub mod Shrinking
+pub mod Flushed
+pub mod Repointed
+pub mod Placing
+pub mod Elided
+pub mod Eliding
+pub mod Checkpointed

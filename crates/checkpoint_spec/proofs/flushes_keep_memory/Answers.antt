@@ -1,0 +1,9 @@
+use Rattle.checkpoint_spec.proofs.Shrinking.{shrinking_reads}
+use Rattle.checkpoint_spec.proofs.Flushed.{flush_shrinks}
+use Rattle.checkpoint_spec.proofs.flushes_keep_memory.Goals as goal
+
+pub returns : goal.returns
+returns c = record {
+  reads = shrinking_reads;
+  flush = flush_shrinks;
+}

@@ -1,0 +1,46 @@
+//! What a checkpoint makes of an array's memory, and that what it stores holds the array.
+//! There is no code: each public function here promises, as its contract, a law of these definitions.
+#![tactic(auto)]
+
+ghost use Rattle.checkpoint_spec.specs.Checkpoint.{CheckpointReads, CheckpointHolds};
+ghost use Rattle.checkpoint_spec.specs.Contents.{BaseIsRead, WrittenHolds};
+ghost use Rattle.checkpoint_spec.specs.Eliding.{ElidingReads};
+ghost use Rattle.checkpoint_spec.specs.Flushing.{ShrinkingReads, FlushShrinks};
+ghost use Rattle.checkpoint_spec.specs.Placing.{PlacingReads};
+ghost use Rattle.checkpoint_spec.specs.Whole.{PatchesAreFlushed, PatchesAreAll, PatchesRead, RecordIsSound};
+
+/// What memory reads of sectors that were placed stands on the drives.
+pub fn what_was_written_stands()
+    ensures base { BaseIsRead }
+    ensures holds { WrittenHolds }
+{}
+
+/// Memory with nothing beside its patches is what a record of them says.
+pub fn patches_are_memory()
+    ensures flushed { PatchesAreFlushed }
+    ensures all { PatchesAreAll }
+    ensures read { PatchesRead }
+    ensures sound { RecordIsSound }
+{}
+
+/// Memory that only loses facts, and says the same, stays sound and reads the same; so does memory that is flushed.
+pub fn flushes_keep_memory()
+    ensures reads { ShrinkingReads }
+    ensures flush { FlushShrinks }
+{}
+
+/// Memory whose staged sectors are placed in new segments stays sound and reads the same.
+pub fn placing_keeps_memory()
+    ensures { PlacingReads }
+{}
+
+/// Memory in which what nothing reaches is elided stays sound and reads the same.
+pub fn eliding_keeps_memory()
+    ensures { ElidingReads }
+{}
+
+/// A checkpoint changes no reading, and once it is written its record holds the array.
+pub fn checkpoints_hold()
+    ensures reads { CheckpointReads }
+    ensures holds { CheckpointHolds }
+{}

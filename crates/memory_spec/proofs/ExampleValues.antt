@@ -1,0 +1,119 @@
+-- The small memory, step by step: no facts, two creations, and a write.
+use Rattle.std.proofs.Common.{◌≡◌, ◌≢◌, ℕ, [], ◌∷◌, length, refl, sym, ap, ◌∙◌, arith, inl, inr, subst, Some, None, Contains, AllPairs}
+use Rattle.std.proofs.lemmas.List.{length-replicate}
+use Rattle.pur_base.specs.Sectors.{filled}
+use Rattle.pur_base.specs.Tags.{tag_of}
+use Rattle.pur_base.specs.declared.limits.TheConstants.{SECTOR_BYTES}
+use Rattle.pur_base.specs.declared.facts.Target.{Target}
+use Rattle.pur_base.specs.declared.facts.Target.TheVariants.{Stored, Zero}
+use Rattle.array_spec.specs.Sound.{OwnsMedium, Grows, FitTogether}
+use Rattle.pyramid.proofs.ContainsLemmas.{here, there, either, nowhere}
+use Rattle.memory_spec.specs.Memory.{Memory, IsSound}
+use Rattle.memory_spec.specs.Adding.{HasCreated, HasPut}
+use Rattle.memory_spec.specs.Examples.{volume, written, memory_of, next_of, TwoVolumesRead}
+use Rattle.memory_spec.proofs.Owning.{volumes_own}
+use Rattle.memory_spec.proofs.Putting.{putting_reads}
+use Rattle.memory_spec.proofs.Created.{creating_reads}
+
+abbrev None_yet : Memory
+None_yet = memory_of [] [] [] (next_of 1 1 1)
+
+abbrev One : Memory
+One = memory_of (volume 1 (97 ∷ []) 1 ∷ []) [] [] (next_of 2 2 2)
+
+abbrev Two : Memory
+Two = memory_of (volume 1 (97 ∷ []) 1 ∷ volume 2 (98 ∷ []) 2 ∷ []) [] [] (next_of 3 3 3)
+
+abbrev Written : Memory
+Written = memory_of (volume 1 (97 ∷ []) 1 ∷ volume 2 (98 ∷ []) 2 ∷ []) (written ∷ []) (filled 7 ∷ []) (next_of 3 3 4)
+
+no_pairs : {X : Type 0} (R : X → X → Type 0) → AllPairs R []
+no_pairs R i j d l m = absurd (omega (arith, m))
+
+nothing_said : {X : Type 0} {x : X} → None ≡ Some x → ⊥
+nothing_said e = cc
+
+none_sound : IsSound None_yet
+none_sound = record {
+  next = record { object = (omega arith, omega arith); medium = (omega arith, omega arith); segment = (omega arith, omega arith); patch_segment = (omega arith, omega arith); sequence = (omega arith, omega arith) };
+  fit = λ a c. absurd (nowhere a c);
+  sectors = λ s c. absurd (nowhere s c);
+  ids = record { objects = tt; mediums = tt; addresses = tt; segments = tt; elisions = tt };
+  objects = record { names = no_pairs (λ x y. x.name ≢ y.name); mediums = no_pairs (λ x y. OwnsMedium x y × OwnsMedium y x); range_kept = tt; address_kept = tt; most = omega arith };
+  mediums = record {
+    disjoint = λ m s r q o p. absurd (nothing_said o.there);
+    within = λ id start x r e l f. absurd (nothing_said e);
+    frozen = λ id m start x r e kind f. absurd (nothing_said e);
+  };
+  addresses = record { there = λ m s at e. absurd (nothing_said e); within = λ id s x e l some. absurd (nothing_said e) };
+  elisions = record { grow = no_pairs (λ f g. Grows f g × Grows g f); fit = no_pairs (λ f g. tag_of f.table ≡ tag_of g.table → FitTogether f g) };
+  numbers = record { below = λ f c. absurd (nowhere f c); distinct = λ f g c d e. absurd (nowhere f c) };
+}
+
+alone : {X : Type 0} (x f : X) → Contains (x ∷ []) f → f ≡ x
+alone x f c = elim (either x f [] c) [ inl same ↦ same | inr d ↦ absurd (nowhere f d) ]
+
+first_made : HasCreated None_yet One (volume 1 (97 ∷ []) 1)
+first_made = record {
+  objects = λ f. (λ c. inr (alone (volume 1 (97 ∷ []) 1) f c), λ c. elim c [ inl d ↦ absurd (nowhere f d) | inr same ↦ subst (λ z. Contains (volume 1 (97 ∷ []) 1 ∷ []) z) (sym same) (here (volume 1 (97 ∷ []) 1) []) ]);
+  mediums = refl;
+  addresses = refl;
+  segments = refl;
+  elisions = refl;
+  staged = refl;
+  next = refl;
+}
+
+second_made : HasCreated One Two (volume 2 (98 ∷ []) 2)
+second_made = record {
+  objects = λ f. (
+    λ c. elim (either (volume 1 (97 ∷ []) 1) f (volume 2 (98 ∷ []) 2 ∷ []) c) [
+      | inl same ↦ inl (subst (λ z. Contains (volume 1 (97 ∷ []) 1 ∷ []) z) (sym same) (here (volume 1 (97 ∷ []) 1) []))
+      | inr d ↦ inr (alone (volume 2 (98 ∷ []) 2) f d)
+    ],
+    λ c. elim c [
+      | inl d ↦ subst (λ z. Contains (volume 1 (97 ∷ []) 1 ∷ volume 2 (98 ∷ []) 2 ∷ []) z) (sym (alone (volume 1 (97 ∷ []) 1) f d)) (here (volume 1 (97 ∷ []) 1) (volume 2 (98 ∷ []) 2 ∷ []))
+      | inr same ↦ subst (λ z. Contains (volume 1 (97 ∷ []) 1 ∷ volume 2 (98 ∷ []) 2 ∷ []) z) (sym same)
+          (there (volume 1 (97 ∷ []) 1) (volume 2 (98 ∷ []) 2) (volume 2 (98 ∷ []) 2 ∷ []) (here (volume 2 (98 ∷ []) 2) []))
+    ],
+  );
+  mediums = refl;
+  addresses = refl;
+  segments = refl;
+  elisions = refl;
+  staged = refl;
+  next = refl;
+}
+
+put_there : HasPut Two Written (written ∷ []) (filled 7 ∷ [])
+put_there = record {
+  objects = refl;
+  mediums = refl;
+  segments = refl;
+  elisions = refl;
+  addresses = λ f. (λ c. inr c, λ c. elim c [ inl d ↦ absurd (nowhere f d) | inr d ↦ d ]);
+  staged = refl;
+  next = refl;
+}
+
+filled_long : length (filled 7) ≡ SECTOR_BYTES
+unfolding filled
+filled_long = length-replicate {A = ℕ} SECTOR_BYTES 7
+
+-- the segment of a target, and 0 of zeros
+abbrev segment_of : Target → ℕ
+segment_of (Stored at) = at.segment.0
+segment_of Zero = 0
+
+pub two_volumes_read : TwoVolumesRead
+two_volumes_read contents =
+    let first = creating_reads contents None_yet One (volume 1 (97 ∷ []) 1) [] (record { sound = none_sound; reads = tt })
+    (record { object = refl; medium = refl; number = refl; kind = refl; name = refl; size = (omega arith, omega arith); objects_left = omega arith; mediums_left = omega arith; numbers_left = omega arith })
+    refl (omega arith) first_made in
+    let second = creating_reads contents One Two (volume 2 (98 ∷ []) 2) _ first
+    (record { object = refl; medium = refl; number = refl; kind = refl; name = refl; size = (omega arith, omega arith); objects_left = omega arith; mediums_left = omega arith; numbers_left = omega arith })
+    refl (omega arith) second_made in
+    let own = volumes_own contents Two _ (98 ∷ []) (volume 2 (98 ∷ []) 2) 1 1 second (1, omega arith, refl) refl refl (omega arith) in
+    putting_reads contents Two Written (98 ∷ []) 2 1 (Stored (record { segment = record { 0 = 0 }; index = 0 }) ∷ []) (filled 7 ∷ []) (filled 7 ∷ []) _ second own (refl, tt)
+    (λ at c. ap segment_of (alone (Stored (record { segment = record { 0 = 0 }; index = 0 })) (Stored at) c))
+    (λ s c. ap length (alone (filled 7) s c) ∙ filled_long) (omega arith) put_there
