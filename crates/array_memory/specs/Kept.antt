@@ -1,5 +1,5 @@
 -- What the calls of an array's memory see of it.
-use Rattle.std.specs.Prelude.{◌≢◌, ◌≡◌, ◌≤◌, ℕ, List, []}
+use Rattle.std.specs.Prelude.{◌≢◌, ◌≡◌, ◌≤◌, ℕ, List}
 use Rattle.pur_base.specs.Facts.{object_key, segment_key, never}
 use Rattle.pur_base.specs.Visible.{is_elided, AreElidedRanges}
 use Rattle.pur_base.specs.declared.request.Table.{Table}
@@ -12,7 +12,7 @@ use Rattle.pur_base.specs.declared.facts.ElisionFact.{ElisionFact}
 use Rattle.boot_codec.specs.declared.record.NextNumbers.{NextNumbers}
 use Rattle.boot_codec.specs.Record.{AreNext}
 use Rattle.elision.specs.Ranges.{ElidedRanges, ranges_of}
-use Rattle.pyramid.specs.Layers.{Layers, facts_in}
+use Rattle.pyramid.specs.Layers.{Layers}
 use Rattle.pyramid.specs.Shown.{IsShown}
 use Rattle.object_table.specs.Objects.{Objects}
 use Rattle.segment_table.specs.Segments.{Segments}

@@ -69,7 +69,9 @@ impl Memory {
     /// The visible object of a name that is there.
     fn object_of(&self, name: &Name) -> ObjectFact
         requires { (x : ObjectFact) × Contains self.now.objects x × (x.name ≡ name.now) }
-        ensures { (x : ObjectFact) → Contains self.now.objects x → x.name ≡ name.now → result ≡ x }
+        ensures is { (x : ObjectFact) → Contains self.now.objects x → x.name ≡ name.now → result ≡ x }
+        ensures medium { result.medium.0 < self.now.memory.next.medium }
+        ensures size { result.sectors < 2 ^ 32 }
     {
         // Read for it alone that each name stands once.
         let _len = self.objects.len();
@@ -91,9 +93,12 @@ impl Memory {
             ↔ (Contains (facts_in self.old.memory.tables.addresses) f ⊎ Contains (address_facts medium.0 first self.old.memory.next.sequence (targets_from staged 0 count)) f) }
         ensures patches { self.new.memory.tables.addresses.patches ≡ self.old.memory.tables.addresses.patches }
         ensures room_left { self.old.memory.tables.addresses.room ≤ self.new.memory.tables.addresses.room + count }
-        ensures rest { self.new ≡ record self.old { memory = record self.old.memory {
+        ensures rest { self.new ≡ record self.old {
+          memory = record self.old.memory {
             tables = record self.old.memory.tables { addresses = self.new.memory.tables.addresses };
-            next = record self.old.memory.next { sequence = self.old.memory.next.sequence + count } } } }
+            next = record self.old.memory.next { sequence = self.old.memory.next.sequence + count };
+          };
+        } }
     {
         let mut run = [BLANK; REQUEST_SECTORS];
         let run = &mut run[..usize::from(count)];
@@ -115,10 +120,11 @@ impl Memory {
         ensures room_left { HasRoomFor self.old self.new (length sectors.now) (length sectors.now) }
         ensures sectors { (sector : List ℕ) → Contains sectors.now sector → length sector ≡ SECTOR_BYTES }
     {
-        let medium = self.object_of(name).medium;
+        let object = self.object_of(name);
         let index = self.staged.len() as u16;
         stage_all(&mut self.staged, sectors);
-        self.put(medium, lba as u32, Some(index), sectors.len() as u8);
+        let count = sectors.len() as u8;
+        self.put(object.medium, lba as u32, Some(index), count);
     }
 
     /// Stages sectors of one byte, and puts them in a volume's span.
@@ -131,10 +137,10 @@ impl Memory {
         ensures put { IsPut self.old self.new name.now lba count (targets_from (Some (length self.old.memory.staged)) 0 count) (replicate count (filled byte)) }
         ensures room_left { HasRoomFor self.old self.new count count }
     {
-        let medium = self.object_of(name).medium;
+        let object = self.object_of(name);
         let index = self.staged.len() as u16;
         stage_filled(&mut self.staged, byte, count);
-        self.put(medium, lba as u32, Some(index), count);
+        self.put(object.medium, lba as u32, Some(index), count);
     }
 
     /// Puts in a volume's span that it reads as zeros.
@@ -145,8 +151,8 @@ impl Memory {
         ensures put { IsPut self.old self.new name.now lba count (targets_from None 0 count) [] }
         ensures room_left { HasRoomFor self.old self.new count 0 }
     {
-        let medium = self.object_of(name).medium;
-        self.put(medium, lba as u32, None, count);
+        let object = self.object_of(name);
+        self.put(object.medium, lba as u32, None, count);
     }
 
     /// Does a create, a write, a fill or a zeroing that is allowed and prepared. It takes no memory.
@@ -155,6 +161,8 @@ impl Memory {
         requires numbers { AreLeft self.old.memory.next }
         requires prepared { IsPrepared self.old request.now }
         requires sectors { length sectors.now ≡ data_count request.now }
+        ensures reads { (contents : Contents) (array : Array) → ReadsAs contents self.old.memory array → Accepts array (command_of request.now sectors.now)
+            → ReadsAs contents self.new.memory (after array (command_of request.now sectors.now)) }
         ensures patches { HasSamePatches self.old.memory.tables self.new.memory.tables }
         ensures staged { self.new.memory.staged ≡ self.old.memory.staged ++ staged_by request.now sectors.now }
         ensures next { self.new.memory.next ≡ next_after self.old.memory.next request.now }
@@ -162,8 +170,12 @@ impl Memory {
         ensures elided { self.new.elided ≡ self.old.elided }
         ensures room { HasRoomLeft self.old self.new request.now }
     {
+        self.kept();
         match request {
-            Request::Create { name, sectors: size } => self.create(*name, *size as u32),
+            Request::Create {
+                name,
+                sectors: size,
+            } => self.create(*name, *size as u32),
             Request::Write { name, lba, .. } => self.write(name, *lba, sectors),
             Request::Fill {
                 name,

@@ -11,6 +11,3 @@ mod runs;
 
 pub use limits::{STAGED_SECTORS, UNFLUSHED_OBJECTS};
 pub use memory::Memory;
-
-#[cfg(test)]
-mod tests;

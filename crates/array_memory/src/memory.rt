@@ -63,14 +63,23 @@ impl Memory {
         ensures elisions { IfOk result (λ m. (m.memory.tables.elisions.patches ≡ []) × (m.memory.tables.elisions.unflushed ≡ [])) }
         ensures room { IfOk result (λ m. STAGED_SECTORS ≤ m.staged_room) }
     {
+        let object_facts = Pyramid::new(alloc, UNFLUSHED_OBJECTS)?;
+        let objects = ObjectTable::from_facts(alloc, object_facts, &[])?;
+        let mediums = MediumTable::new(alloc, 0)?;
+        let addresses = AddressTable::new(alloc)?;
+        let segment_facts = Pyramid::new(alloc, 0)?;
+        let segments = SegmentTable::from_facts(alloc, segment_facts, &[])?;
+        let elisions = Pyramid::new(alloc, 0)?;
+        let elided = Elided::new(alloc);
+        let staged = Vec::with_capacity(alloc, STAGED_SECTORS)?;
         Ok(Memory {
-            objects: ObjectTable::from_facts(alloc, Pyramid::new(alloc, UNFLUSHED_OBJECTS)?, &[])?,
-            mediums: MediumTable::new(alloc, 0)?,
-            addresses: AddressTable::new(alloc)?,
-            segments: SegmentTable::from_facts(alloc, Pyramid::new(alloc, 0)?, &[])?,
-            elisions: Pyramid::new(alloc, 0)?,
-            elided: Elided::new(alloc),
-            staged: Vec::with_capacity(alloc, STAGED_SECTORS)?,
+            objects,
+            mediums,
+            addresses,
+            segments,
+            elisions,
+            elided,
+            staged,
             next: FIRST,
         })
     }

@@ -70,7 +70,7 @@ pub fn stage_filled(staged: &mut Vec<Sector>, byte: u8, count: u8)
     ensures staged { staged.new.items ≡ staged.old.items ++ replicate count (filled byte) }
     ensures capacity { vec_capacity staged.old ≤ vec_capacity staged.new }
 {
-    for _ in 0..count {
+    for _done in 0..count {
         if staged.push(Sector::filled(byte)).is_err() {
             unreachable!()
         }

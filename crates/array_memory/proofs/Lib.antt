@@ -1,0 +1,6 @@
+pub mod RunLemmas
+pub mod KeptLemmas
+pub mod PutLemmas
+pub mod ApplyLemmas
+pub mod ResolveLemmas
+pub mod Seen

@@ -1,0 +1,8 @@
+use Rattle.std.proofs.Common.{ℕ, ◌<◌, ◌+◌, get_or}
+use Rattle.pur_base.specs.Mediums.{Reads}
+use Rattle.pur_base.specs.declared.facts.Target.TheVariants.{Zero}
+use Rattle.memory_spec.specs.Tables.{facts}
+use Rattle.array_memory.proofs.memory.Memory.resolve.Given as goal
+
+abbrev pub invariant-loop-i : goal.invariant-loop-i
+invariant-loop-i l = (j : ℕ) → j < l.i → Reads (facts l.fn.self.memory.tables) l.medium.0 (l.first + j) (get_or l.out j Zero)

@@ -1,0 +1,7 @@
+use Rattle.std.proofs.Common.{◌≡◌, take}
+use Rattle.memory_spec.specs.Adding.{address_facts}
+use Rattle.array_memory.specs.Runs.{targets_from}
+use Rattle.array_memory.proofs.runs.write_run.Given as goal
+
+abbrev pub invariant-loop-i : goal.invariant-loop-i
+invariant-loop-i l = take l.i l.run ≡ address_facts l.medium.0 l.first l.number (targets_from l.staged 0 l.i)
