@@ -10,6 +10,3 @@ mod reading;
 pub use judge::refusal;
 pub use listing::{ObjectEntry, entry, len};
 pub use reading::{fetch, read};
-
-#[cfg(test)]
-mod tests;
