@@ -1,0 +1,2 @@
+pub mod OfArray
+pub mod Targets
