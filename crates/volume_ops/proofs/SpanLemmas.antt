@@ -47,7 +47,7 @@ module _ (m : Memory) (s : IsSound m) where
       one None is said = cc
       one (Some g) is said =
           let w = says_is address_key (λ h. h.seq.0) never (λ h. Contains (facts m.tables).addresses h) (facts m.tables).addresses (is_elided (facts m.tables).elisions table.Address) (key_of medium x) g
-            (each_by_recursion (λ h. Contains (facts m.tables).addresses h) (facts m.tables).addresses (λ h c. c)) is in
+          (each_by_recursion (λ h. Contains (facts m.tables).addresses h) (facts m.tables).addresses (λ h c. c)) is in
           let same : g.target ≡ t = cc in
           subst (λ z. FitsTarget (length m.staged) z) same (s.fit (any.Address g) (all_addresses (facts m.tables) g w.0)).3
 
@@ -99,8 +99,8 @@ zip_span P sectors lba (t ∷ ts) l h =
     rw front (
       subst (λ n. P t (slice_index_or sectors n [])) at (h 0 (omega arith)),
       zip_span P sectors (suc lba) ts (omega (arith, l)) (λ i low.
-      let e : lba + suc i ≡ suc lba + i = omega arith in
-      subst (λ n. P (slice_index_or ts i Zero) (slice_index_or sectors n [])) e (h (suc i) (omega (arith, low)))),
+          let e : lba + suc i ≡ suc lba + i = omega arith in
+          subst (λ n. P (slice_index_or ts i Zero) (slice_index_or sectors n [])) e (h (suc i) (omega (arith, low)))),
     )
 
 pub span_reads : (k : Kept) (x : ObjectFact) (lba : ℕ) (ts : List Target) → IsKept k → Contains k.objects x → lba + length ts ≤ x.sectors → All (Stands k.memory) ts
