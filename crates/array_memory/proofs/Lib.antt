@@ -4,3 +4,5 @@ pub mod PutLemmas
 pub mod ApplyLemmas
 pub mod ResolveLemmas
 pub mod Seen
+pub mod SoundLemmas
+pub mod AllowedLemmas

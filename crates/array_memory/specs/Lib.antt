@@ -2,3 +2,4 @@ pub mod Kept
 pub mod Runs
 pub mod Asked
 pub mod Put
+pub mod Lawful

@@ -3,11 +3,13 @@
 #![tactic(auto)]
 
 mod apply;
+mod laws;
 mod limits;
 mod memory;
 mod prepare;
 mod resolve;
 mod runs;
 
+pub use laws::laws_of_requests;
 pub use limits::{STAGED_SECTORS, UNFLUSHED_OBJECTS};
 pub use memory::Memory;

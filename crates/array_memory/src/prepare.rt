@@ -1,4 +1,6 @@
 ghost use Rattle.std.specs.Prelude.{◌≡◌, OnOk};
+ghost use Rattle.pur_base.specs.Plain.{Array};
+ghost use Rattle.memory_spec.specs.Memory.{Contents, ReadsAs};
 ghost use Rattle.array_memory.specs.Asked.{added, put, staged_count, IsPrepared};
 ghost use Rattle.array_memory.specs.Kept.{with_rooms, HasNoLessRoom};
 
@@ -43,6 +45,16 @@ impl Memory {
     /// Reserves what a request takes. Nothing else changes, whatever is answered.
     /// `NoMemory` is also where more sectors would be staged than there may be.
     pub fn prepare(&mut self, request: &Request) -> Result<(), NoMemory>
+        ensures prepared { OnOk result (IsPrepared self.new request.now) }
+        ensures room { HasNoLessRoom self.old self.new }
+        ensures rest { self.new ≡ with_rooms self.old self.new }
+        ensures reads { (contents : Contents) (array : Array) → ReadsAs contents self.old.memory array → ReadsAs contents self.new.memory array }
+    {
+        self.reserve(request)
+    }
+
+    /// The same, said of the parts.
+    fn reserve(&mut self, request: &Request) -> Result<(), NoMemory>
         ensures prepared { OnOk result (IsPrepared self.new request.now) }
         ensures room { HasNoLessRoom self.old self.new }
         ensures rest { self.new ≡ with_rooms self.old self.new }

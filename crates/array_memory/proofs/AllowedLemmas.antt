@@ -1,0 +1,104 @@
+-- What the plain array accepts is allowed in the memory that reads as it.
+use Rattle.std.proofs.Common.{◌≡◌, ◌≢◌, ℕ, zero, suc, ◌+◌, ◌<◌, ◌≤◌, Bool, true, false, not, List, [], ◌∷◌, length, refl, sym, ap, ◌∙◌, arith, Contains, All, Some, None, ◌||◌, ◌==◌}
+use Rattle.std.specs.Prelude.{nat_lt}
+use Rattle.std.proofs.lemmas.Bool.{ltb-false, eq-eqb}
+use Rattle.pur_base.specs.Commands.{Accepts}
+use Rattle.pur_base.specs.Plain.{Array, has, sectors_of, is_snapshot, is_full, is_no_size, passes, first_cause, overwrite_causes}
+use Rattle.pur_base.specs.Visible.{objects}
+use Rattle.pur_base.specs.declared.limits.TheConstants.{OBJECT_SECTORS, REQUEST_SECTORS}
+use Rattle.pur_base.specs.declared.reply.Refusal.TheVariants.{Taken, Limit, Unknown, ReadOnly, Range}
+use Rattle.pur_base.specs.declared.request.Request.{Request}
+use Rattle.pur_base.specs.declared.request.Request.TheVariants as request
+use Rattle.pur_base.specs.declared.facts.ObjectKind.{ObjectKind}
+use Rattle.pur_base.specs.declared.facts.ObjectKind.TheVariants.{Volume, Snapshot}
+use Rattle.pur_base.specs.declared.facts.ObjectFact.{ObjectFact}
+use Rattle.pyramid.proofs.LayerLemmas.{all_contained}
+use Rattle.array_spec.specs.Base.{is_snapshot as is_snapshot_kind}
+use Rattle.memory_spec.specs.Memory.{Contents, ReadsAs}
+use Rattle.memory_spec.specs.Reading.{IsEntry, AreEntries}
+use Rattle.memory_spec.specs.Tables.{facts}
+use Rattle.memory_spec.proofs.Entries.{entries_read}
+use Rattle.memory_spec.proofs.Objects.{of_objects}
+use Rattle.array_memory.specs.Asked.{command_of, HasSpan, IsAllowed, IsFree}
+use Rattle.array_memory.specs.Kept.{Kept, IsKept}
+use Rattle.array_memory.specs.Lawful.{IsLawful}
+use Rattle.array_memory.proofs.KeptLemmas.{visible_said}
+
+-- why a span isn't refused
+no_cause : (b c d : Bool) → first_cause ((not b, Unknown) ∷ (c, ReadOnly) ∷ (d, Range) ∷ []) ≡ None → (b ≡ true) × (c ≡ false) × (d ≡ false)
+no_cause false c d e = cc
+no_cause true true d e = cc
+no_cause true false true e = cc
+no_cause true false false e = (refl, refl, refl)
+
+-- why a creation isn't
+no_cause_new : (b c d f : Bool) → first_cause ((b, Taken) ∷ ((c || d) || f, Limit) ∷ []) ≡ None → (b ≡ false) × (c ≡ false) × (d ≡ false)
+no_cause_new true c d f e = cc
+no_cause_new false true d f e = cc
+no_cause_new false false true f e = cc
+no_cause_new false false false true e = cc
+no_cause_new false false false false e = (refl, refl, refl)
+
+a_volume : (kind : ObjectKind) → is_snapshot_kind kind ≡ false → kind ≡ Volume
+a_volume Volume e = refl
+a_volume Snapshot e = cc
+
+not_zero : (n : ℕ) → (n == 0) ≡ false → 1 ≤ n
+not_zero zero e = absurd (let is : (0 == 0) ≡ true = eq-eqb 0 0 refl in cc)
+not_zero (suc n) e = omega arith
+
+module _ (contents : Contents) (k : Kept) (array : Array) (h : IsKept k) (reads : ReadsAs contents k.memory array) where
+  entries : AreEntries (objects (facts k.memory.tables) k.memory.next.object) array
+  entries = entries_read contents k.memory array reads
+
+  -- an object that the facts say is seen
+  is_seen : (x : ObjectFact) → Contains (objects (facts k.memory.tables) k.memory.next.object) x → Contains k.objects x
+  is_seen x c =
+      let w = of_objects (facts k.memory.tables) k.memory.next.object x c in
+      let small = h.next.object.1 in
+      h.objects.all x (omega (arith, w.1, small)) w.0
+
+  has_span : (name : List ℕ) (lba count : ℕ) → count ≤ REQUEST_SECTORS → first_cause (overwrite_causes array name lba count) ≡ None → HasSpan k.objects name lba count
+  has_span name lba count few e =
+      let w = no_cause (has array name) (is_snapshot array name) (passes array name lba count) e in
+      let x = entries.all name w.0 in
+      let i = entries.each x.0 x.1 in
+      let kind : is_snapshot_kind x.0.kind ≡ false = sym i.kind ∙ ap (is_snapshot array) x.2 ∙ w.1 in
+      let size : length (sectors_of array name) ≡ x.0.sectors = ap (λ n. length (sectors_of array n)) (sym x.2) ∙ i.size in
+      let within : lba + count ≤ length (sectors_of array name) = ltb-false (length (sectors_of array name)) (lba + count) w.2 in
+      record { volume = x.0; there = is_seen x.0 x.1; named = x.2; kind = a_volume x.0.kind kind; within = omega (arith, within, size); few = few }
+
+  is_free : (name : List ℕ) (size : ℕ) (sectors : List (List ℕ)) → IsLawful (request.Create name size) → Accepts array (command_of (request.Create name size) sectors) → IsFree k.objects name size
+  is_free name size sectors lawful e =
+      let w = no_cause_new (has array name) (size == 0) (nat_lt OBJECT_SECTORS size) (is_full array) e in
+      record {
+        lawful = lawful;
+        some = not_zero size w.1;
+        most = ltb-false OBJECT_SECTORS size w.2;
+        fresh = all_contained (λ (x : ObjectFact). x.name ≢ name) k.objects (λ x c same.
+            let there = (entries.each x (visible_said k h x c)).there in
+            let taken : has array name ≡ true = ap (has array) (sym same) ∙ there in
+            cc);
+      }
+
+  pub allowed : (r : Request) (sectors : List (List ℕ)) → IsLawful r → Accepts array (command_of r sectors) → IsAllowed k.objects r
+  allowed (request.Create name size) sectors l e = is_free name size sectors l e
+  allowed (request.Write name lba count) sectors l e = has_span name lba count l e
+  allowed (request.Fill name lba count byte) sectors l e = has_span name lba count l e
+  allowed (request.Zero name lba count) sectors l e = has_span name lba count l e
+  allowed (request.Read name lba count) sectors l e = absurd l
+  allowed (request.Snapshot name new) sectors l e = absurd l
+  allowed (request.Clone name new) sectors l e = absurd l
+  allowed (request.Copy name lba other to count) sectors l e = absurd l
+  allowed (request.Destroy name) sectors l e = absurd l
+  allowed request.List sectors l e = absurd l
+  allowed request.Status sectors l e = absurd l
+  allowed request.Checkpoint sectors l e = absurd l
+  allowed (request.Merge table index) sectors l e = absurd l
+  allowed (request.Flatten name) sectors l e = absurd l
+  allowed (request.Clean segment) sectors l e = absurd l
+  allowed request.Reclaim sectors l e = absurd l
+  allowed (request.Evict drive) sectors l e = absurd l
+  allowed (request.Admit drive) sectors l e = absurd l
+  allowed (request.Rebuild drive) sectors l e = absurd l
+  allowed request.Takeover sectors l e = absurd l

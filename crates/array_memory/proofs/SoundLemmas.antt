@@ -1,0 +1,60 @@
+-- Of what memory being sound depends.
+use Rattle.std.proofs.Common.{◌≡◌, ℕ, List, [], refl, sym, subst}
+use Rattle.pur_base.specs.Facts.{Facts}
+use Rattle.pur_base.specs.Plain.{Array}
+use Rattle.boot_codec.specs.declared.record.NextNumbers.{NextNumbers}
+use Rattle.memory_spec.specs.Memory.{Memory, Contents, IsSound, ReadsAs}
+use Rattle.memory_spec.specs.Tables.{facts}
+use Rattle.array_memory.specs.Kept.{Kept, with_rooms}
+
+-- the memory of these facts, of which none is flushed
+abbrev plain : Facts → List (List ℕ) → NextNumbers → Memory
+plain f staged next = record {
+  tables = record {
+    objects = record { patches = []; unflushed = f.objects; room = 0; patch_room = 0 };
+    mediums = record { patches = []; unflushed = f.mediums; room = 0; patch_room = 0 };
+    addresses = record { patches = []; unflushed = f.addresses; room = 0; patch_room = 0 };
+    segments = record { patches = []; unflushed = f.segments; room = 0; patch_room = 0 };
+    elisions = record { patches = []; unflushed = f.elisions; room = 0; patch_room = 0 };
+  };
+  staged = staged;
+  next = next;
+}
+
+sound_plain : (m : Memory) → IsSound m → IsSound (plain (facts m.tables) m.staged m.next)
+sound_plain m s = record {
+  next = s.next;
+  fit = s.fit;
+  sectors = s.sectors;
+  ids = s.ids;
+  objects = s.objects;
+  mediums = s.mediums;
+  addresses = record { there = s.addresses.there; within = s.addresses.within };
+  elisions = s.elisions;
+  numbers = record { below = s.numbers.below; distinct = s.numbers.distinct };
+}
+
+plain_sound : (m : Memory) → IsSound (plain (facts m.tables) m.staged m.next) → IsSound m
+plain_sound m s = record {
+  next = s.next;
+  fit = s.fit;
+  sectors = s.sectors;
+  ids = s.ids;
+  objects = s.objects;
+  mediums = s.mediums;
+  addresses = record { there = s.addresses.there; within = s.addresses.within };
+  elisions = s.elisions;
+  numbers = record { below = s.numbers.below; distinct = s.numbers.distinct };
+}
+
+-- soundness is of facts, staged sectors and next numbers
+pub sound_as : (m n : Memory) → facts n.tables ≡ facts m.tables → n.staged ≡ m.staged → n.next ≡ m.next → IsSound m → IsSound n
+sound_as m n f st ne s =
+    plain_sound n (subst (λ (x : Facts). IsSound (plain x n.staged n.next)) (sym f)
+    (subst (λ (x : List (List ℕ)). IsSound (plain (facts m.tables) x n.next)) (sym st)
+    (subst (λ (x : NextNumbers). IsSound (plain (facts m.tables) m.staged x)) (sym ne) (sound_plain m s))))
+
+-- memory that has other room reads the same
+pub reads_with_rooms : (was now : Kept) → now ≡ with_rooms was now → (contents : Contents) (array : Array) → ReadsAs contents was.memory array → ReadsAs contents now.memory array
+reads_with_rooms was now rest contents array r =
+    subst (λ (k : Kept). ReadsAs contents k.memory array) (sym rest) (record { sound = sound_as was.memory (with_rooms was now).memory refl refl refl r.sound; reads = r.reads })

@@ -1,0 +1,14 @@
+-- Requests that are done in memory.
+use Rattle.std.specs.Prelude.{◌≡◌, ◌≤◌, true}
+use Rattle.pur_base.specs.Names.{is_name}
+use Rattle.pur_base.specs.declared.limits.TheConstants.{REQUEST_SECTORS}
+use Rattle.pur_base.specs.declared.request.Request.{Request}
+use Rattle.pur_base.specs.declared.request.Request.TheVariants as request
+
+-- a create, a write, a fill or a zeroing, with a lawful name or count
+abbrev pub IsLawful : Request → Type 0
+IsLawful (request.Create n size) = is_name n ≡ true
+IsLawful (request.Write n lba count) = count ≤ REQUEST_SECTORS
+IsLawful (request.Fill n lba count byte) = count ≤ REQUEST_SECTORS
+IsLawful (request.Zero n lba count) = count ≤ REQUEST_SECTORS
+IsLawful _ = ⊥

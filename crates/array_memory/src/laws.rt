@@ -1,0 +1,14 @@
+ghost use Rattle.std.specs.Prelude.{ℕ, List};
+ghost use Rattle.pur_base.specs.Commands.{Accepts};
+ghost use Rattle.pur_base.specs.Plain.{Array};
+ghost use Rattle.pur_base.specs.declared.request.Request.{Request};
+ghost use Rattle.memory_spec.specs.Memory.{Contents, ReadsAs};
+ghost use Rattle.array_memory.specs.Asked.{command_of, IsAllowed};
+ghost use Rattle.array_memory.specs.Kept.{Kept, IsKept};
+ghost use Rattle.array_memory.specs.Lawful.{IsLawful};
+
+/// What the plain array accepts is allowed in the memory that reads as it.
+pub fn laws_of_requests()
+    ensures { (contents : Contents) (k : Kept) (array : Array) (r : Request) (sectors : List (List ℕ)) → IsKept k → ReadsAs contents k.memory array
+        → IsLawful r → Accepts array (command_of r sectors) → IsAllowed k.objects r }
+{}
