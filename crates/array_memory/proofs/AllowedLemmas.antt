@@ -1,9 +1,9 @@
 -- What the plain array accepts is allowed in the memory that reads as it.
-use Rattle.std.proofs.Common.{◌≡◌, ◌≢◌, ℕ, zero, suc, ◌+◌, ◌<◌, ◌≤◌, Bool, true, false, not, List, [], ◌∷◌, length, refl, sym, ap, ◌∙◌, arith, Contains, All, Some, None, ◌||◌, ◌==◌}
+use Rattle.std.proofs.Common.{◌≡◌, ◌≢◌, ℕ, zero, suc, ◌+◌, ◌≤◌, Bool, true, false, not, List, [], ◌∷◌, length, refl, sym, ap, ◌∙◌, arith, Contains, None, ◌||◌, ◌==◌}
 use Rattle.std.specs.Prelude.{nat_lt}
 use Rattle.std.proofs.lemmas.Bool.{ltb-false, eq-eqb}
 use Rattle.pur_base.specs.Commands.{Accepts}
-use Rattle.pur_base.specs.Plain.{Array, has, sectors_of, is_snapshot, is_full, is_no_size, passes, first_cause, overwrite_causes}
+use Rattle.pur_base.specs.Plain.{Array, has, sectors_of, is_snapshot, is_full, passes, first_cause, overwrite_causes}
 use Rattle.pur_base.specs.Visible.{objects}
 use Rattle.pur_base.specs.declared.limits.TheConstants.{OBJECT_SECTORS, REQUEST_SECTORS}
 use Rattle.pur_base.specs.declared.reply.Refusal.TheVariants.{Taken, Limit, Unknown, ReadOnly, Range}
@@ -15,7 +15,7 @@ use Rattle.pur_base.specs.declared.facts.ObjectFact.{ObjectFact}
 use Rattle.pyramid.proofs.LayerLemmas.{all_contained}
 use Rattle.array_spec.specs.Base.{is_snapshot as is_snapshot_kind}
 use Rattle.memory_spec.specs.Memory.{Contents, ReadsAs}
-use Rattle.memory_spec.specs.Reading.{IsEntry, AreEntries}
+use Rattle.memory_spec.specs.Reading.{AreEntries}
 use Rattle.memory_spec.specs.Tables.{facts}
 use Rattle.memory_spec.proofs.Entries.{entries_read}
 use Rattle.memory_spec.proofs.Objects.{of_objects}

@@ -1,35 +1,28 @@
 -- What a plan makes of memory is a checkpoint.
-use Rattle.std.proofs.Common.{◌≡◌, ◌⊎◌, ◌↔◌, ℕ, zero, suc, ◌+◌, ◌*◌, ◌<◌, ◌≤◌, Bool, true, false, ◌&&◌, ◌==◌, List, [], ◌∷◌, ◌++◌, length, map, get_or, refl, sym, ap, ◌∙◌, arith, inl, inr, subst, Option, Some, None, slice_get, slice_index_or, Contains, eq-eqb, append-nil}
-use Rattle.std.specs.List.{list_any}
-use Rattle.std.proofs.lemmas.Bool.{both_ways, and_from}
+use Rattle.std.proofs.Common.{◌≡◌, ◌⊎◌, ◌↔◌, ℕ, ◌+◌, ◌*◌, ◌<◌, ◌≤◌, Bool, true, false, ◌==◌, List, [], ◌++◌, length, map, refl, sym, ap, ◌∙◌, arith, inl, inr, subst, Option, Some, None, slice_get, slice_index_or, Contains, eq-eqb, append-nil}
+use Rattle.std.proofs.lemmas.Bool.{and_from}
 use Rattle.std.proofs.lemmas.Option.{slice_get_within, slice_get-get_or}
 use Rattle.std.proofs.lemmas.List.Elements.{Contains-append_left, Contains-append_right, Contains-append_cases}
 use Rattle.std.proofs.lemmas.List.Folds.{list_any_at}
 use Rattle.std.proofs.lemmas.Grind.{flat_map-append}
-use Rattle.pur_base.specs.Facts.{Facts, address_key}
-use Rattle.pur_base.specs.Plain.{Array}
-use Rattle.pur_base.specs.Visible.{segment, is_elided}
 use Rattle.pur_base.specs.declared.limits.TheConstants.{SEGMENT_SECTORS}
-use Rattle.pur_base.specs.declared.request.Table.TheVariants as table
 use Rattle.pur_base.specs.declared.place.Location.{Location}
 use Rattle.pur_base.specs.declared.place.Place.{Place}
 use Rattle.pur_base.specs.declared.facts.Target.{Target}
 use Rattle.pur_base.specs.declared.facts.Target.TheVariants.{Stored, Zero}
 use Rattle.pur_base.specs.declared.facts.AddressFact.{AddressFact}
 use Rattle.pur_base.specs.declared.facts.SegmentFact.{SegmentFact}
-use Rattle.pur_base.specs.declared.facts.ElisionFact.{ElisionFact}
 use Rattle.pur_base.specs.declared.facts.AnyFact.TheVariants as any
 use Rattle.boot_codec.specs.declared.record.NextNumbers.{NextNumbers}
 use Rattle.boot_codec.specs.Record.{AreNext}
-use Rattle.fact_codec.specs.Fact.{IsFact}
-use Rattle.pyramid.specs.Layers.{HasNewer, facts_of, facts_in, patch_facts, patches_of}
+use Rattle.pyramid.specs.Layers.{facts_of, patch_facts, patches_of}
 use Rattle.pyramid.proofs.ContainsLemmas.{nowhere}
-use Rattle.memory_spec.specs.Tables.{Tables, facts}
-use Rattle.memory_spec.specs.Memory.{Memory, Contents, FitsTarget, FitsInMemory, IsSound, ReadsAs}
+use Rattle.memory_spec.specs.Tables.{facts}
+use Rattle.memory_spec.specs.Memory.{Memory, Contents, FitsTarget, FitsInMemory, IsSound}
 use Rattle.memory_spec.proofs.Lists.{same_some, in_map, of_map}
 use Rattle.memory_spec.proofs.AllTables.{all_addresses}
 use Rattle.memory_spec.proofs.Putting.{address_numbers}
-use Rattle.checkpoint_spec.specs.Eliding.{IsReached, IsEliding}
+use Rattle.checkpoint_spec.specs.Eliding.{IsEliding}
 use Rattle.checkpoint_spec.specs.Flushing.{IsFlush}
 use Rattle.checkpoint_spec.specs.Placing.{placed_target, repointed, AreRepointed, IsPlacedAt, AreNewSegments, IsPlacing}
 use Rattle.checkpoint_spec.specs.Checkpoint.{IsCheckpointed}

@@ -1,5 +1,5 @@
 -- Where staged sectors are placed: in order of staging, in new segments one after another.
-use Rattle.std.specs.Prelude.{◌≡◌, ℕ, zero, suc, ◌+◌, ◌/◌, ◌%◌, Bool, true, false, ◌&&◌, ◌==◌, IsTrue, if◌then◌else◌, List, [], ◌∷◌, Option, Some, None, IsSome, slice_index_or}
+use Rattle.std.specs.Prelude.{◌≡◌, ℕ, ◌+◌, ◌/◌, ◌%◌, Bool, false, ◌&&◌, ◌==◌, if◌then◌else◌, List, [], ◌∷◌, Option, Some, None, IsSome, slice_index_or}
 use Rattle.std.specs.List.{list_any}
 use Rattle.pur_base.specs.declared.limits.TheConstants.{SEGMENT_SECTORS}
 use Rattle.pur_base.specs.declared.place.Location.{Location}

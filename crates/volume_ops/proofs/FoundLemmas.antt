@@ -1,10 +1,10 @@
 -- What the visible objects tell of the array.
-use Rattle.std.proofs.Common.{◌≡◌, ◌≢◌, ℕ, zero, suc, ◌<◌, ◌≤◌, Bool, true, false, List, [], ◌∷◌, inl, inr, length, refl, sym, ap, ◌∙◌, arith, subst, All, Contains, Option, Some, None, option_map}
+use Rattle.std.proofs.Common.{◌≡◌, ◌≢◌, ℕ, zero, suc, ◌<◌, ◌≤◌, Bool, List, [], ◌∷◌, inl, inr, length, refl, sym, ap, ◌∙◌, arith, subst, All, Contains, Option, Some, None, option_map}
 use Rattle.std.specs.Prelude.{slice_get, IfSome, IfNone}
 use Rattle.std.proofs.lemmas.Bool.{false_from_ne_true, cases_lt}
 use Rattle.std.proofs.lemmas.Option.{slice_get_past}
 use Rattle.std.proofs.lemmas.List.Elements.{All-contains}
-use Rattle.pur_base.specs.Plain.{Entry, Array, has, sectors_of, is_snapshot}
+use Rattle.pur_base.specs.Plain.{Array, has, sectors_of, is_snapshot}
 use Rattle.pur_base.specs.Visible.{objects, is_elided}
 use Rattle.pur_base.specs.declared.request.Table.TheVariants as table
 use Rattle.pur_base.specs.declared.facts.ObjectFact.{ObjectFact}
@@ -12,7 +12,7 @@ use Rattle.array_spec.specs.Base.{is_snapshot as is_snapshot_kind}
 use Rattle.pyramid.proofs.LayerLemmas.{all_contained}
 use Rattle.object_table.proofs.ObjectLemmas.{by_ids}
 use Rattle.memory_spec.specs.Tables.{facts}
-use Rattle.memory_spec.specs.Memory.{Contents, EntryReads, ReadsAs}
+use Rattle.memory_spec.specs.Memory.{EntryReads}
 use Rattle.memory_spec.specs.Reading.{IsEntry, AreEntries}
 use Rattle.memory_spec.proofs.Lists.{zip_left, not_both}
 use Rattle.memory_spec.proofs.Entries.{entries_read}

@@ -1,5 +1,5 @@
 -- The sectors of targets.
-use Rattle.std.proofs.Common.{◌≡◌, ◌⊎◌, ℕ, zero, suc, ◌+◌, ◌<◌, ◌≤◌, List, [], ◌∷◌, length, refl, sym, ap, ◌∙◌, arith, inl, inr, subst, get_or, take, drop, All, Contains, Option, Some, None, option_map}
+use Rattle.std.proofs.Common.{◌≡◌, ℕ, zero, suc, ◌+◌, ◌<◌, ◌≤◌, List, [], ◌∷◌, length, refl, sym, arith, inl, inr, subst, get_or, drop, All, Contains, Option, Some, None, option_map}
 use Rattle.std.specs.Prelude.{slice_get, slice_index_or}
 use Rattle.std.specs.List.{AllZip}
 use Rattle.std.proofs.Math.Seq.{drop-cons}
@@ -7,10 +7,10 @@ use Rattle.std.proofs.lemmas.Option.{slice_get-get_or}
 use Rattle.std.proofs.lemmas.List.Elements.{All-nil, All-cons}
 use Rattle.pur_base.specs.Plain.{Array, sectors_of, span}
 use Rattle.pur_base.specs.Sectors.{filled}
-use Rattle.pur_base.specs.Facts.{Facts, address_key, never}
+use Rattle.pur_base.specs.Facts.{address_key, never}
 use Rattle.pur_base.specs.Keys.{key_of}
 use Rattle.pur_base.specs.Says.{says}
-use Rattle.pur_base.specs.Visible.{address, segment, objects, is_elided}
+use Rattle.pur_base.specs.Visible.{address, is_elided}
 use Rattle.pur_base.specs.Mediums.{Reads, here, below, unwritten}
 use Rattle.pur_base.specs.declared.limits.TheConstants.{OBJECT_SECTORS}
 use Rattle.pur_base.specs.declared.request.Table.TheVariants as table
@@ -19,20 +19,17 @@ use Rattle.pur_base.specs.declared.facts.Target.{Target}
 use Rattle.pur_base.specs.declared.facts.Target.TheVariants.{Stored, Zero}
 use Rattle.pur_base.specs.declared.facts.ObjectFact.{ObjectFact}
 use Rattle.pur_base.specs.declared.facts.AddressFact.{AddressFact}
-use Rattle.pur_base.specs.declared.facts.SegmentFact.{SegmentFact}
 use Rattle.pur_base.specs.declared.facts.AnyFact.TheVariants as any
 use Rattle.pur_base.proofs.SaysLemmas.{says_is}
 use Rattle.memory_spec.specs.Tables.{facts}
-use Rattle.memory_spec.specs.Memory.{Memory, Contents, PlaceReads, TargetReads, FitsTarget, FitsInMemory, IsThere, IsSound, ReadsAs}
-use Rattle.memory_spec.specs.Reading.{IsEntry}
+use Rattle.memory_spec.specs.Memory.{Memory, Contents, PlaceReads, TargetReads, FitsTarget, IsSound, ReadsAs}
 use Rattle.memory_spec.proofs.AllTables.{all_addresses}
 use Rattle.memory_spec.proofs.Lists.{each_by_recursion}
 use Rattle.memory_spec.proofs.Putting.{within_size}
 use Rattle.memory_spec.proofs.Entries.{entries_read, sectors_read}
 use Rattle.array_memory.specs.Kept.{Kept, IsKept}
 use Rattle.array_memory.proofs.KeptLemmas.{visible_said}
-use Rattle.volume_ops.specs.OfArray.{OfArray, HasObject}
-use Rattle.volume_ops.specs.Targets.{IsInSegment, Stands, IsPlaced}
+use Rattle.volume_ops.specs.Targets.{IsInSegment, Stands}
 
 -- ---- an address of a sound memory names what stands
 

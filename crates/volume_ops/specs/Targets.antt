@@ -1,5 +1,5 @@
 -- Where the sectors of targets stand.
-use Rattle.std.specs.Prelude.{◌≡◌, ◌⊎◌, ℕ, ◌<◌, ◌≤◌, List, length, Some}
+use Rattle.std.specs.Prelude.{◌≡◌, ◌⊎◌, ◌<◌, ◌≤◌, length, Some}
 use Rattle.pur_base.specs.Visible.{segment}
 use Rattle.pur_base.specs.declared.place.Location.{Location}
 use Rattle.pur_base.specs.declared.facts.Target.{Target}

@@ -1,4 +1,4 @@
-use Rattle.std.proofs.Common.{◌≡◌, ℕ, List, length, arith, subst}
+use Rattle.std.proofs.Common.{◌≡◌, ℕ, length, arith, subst}
 use Rattle.std.specs.List.{AllZip}
 use Rattle.pur_base.specs.Plain.{sectors_of, span}
 use Rattle.memory_spec.specs.Memory.{TargetReads}
