@@ -1,0 +1,4 @@
+pub mod Loops
+pub mod Units
+pub mod Tables
+pub mod LawLemmas

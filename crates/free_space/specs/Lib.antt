@@ -1,0 +1,3 @@
+pub mod Map
+pub mod Marking
+pub mod Laws
