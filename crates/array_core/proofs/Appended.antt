@@ -1,9 +1,9 @@
 -- A command was appended: what a stop leaves at each moment, and what the devices hold then.
-use Rattle.std.proofs.Common.{◌≡◌, ◌≢◌, inl, inr, ℕ, zero, suc, ◌+◌, ◌-◌, ◌^◌, ◌≤◌, ◌<◌, List, [], ◌∷◌, ◌++◌, length, take, refl, sym, ◌∙◌, ap, subst, arith, Bool, true, false, length-append}
+use Rattle.std.proofs.Common.{◌≡◌, ◌≢◌, inl, inr, ℕ, zero, suc, ◌+◌, ◌-◌, ◌≤◌, ◌<◌, List, [], ◌∷◌, ◌++◌, length, take, refl, sym, ap, subst, arith, Bool, true, false, length-append}
 use Rattle.std.specs.Prelude.{Some, Contains, slice_get, slice_index}
 use Rattle.std.specs.List.{AllByRecursion}
 use Rattle.std.proofs.lemmas.Bool.{cases_lt}
-use Rattle.std.proofs.lemmas.List.{take_all, take_at, append-nil}
+use Rattle.std.proofs.lemmas.List.{take_all, take_at}
 use Rattle.pur_base.specs.Bytes.{IsBytes}
 use Rattle.pur_base.specs.declared.device.Device.{Device}
 use Rattle.pur_base.specs.declared.device.Device.TheVariants.{Drive, Nv}
@@ -13,7 +13,7 @@ use Rattle.pur_base.specs.Plain.{Array}
 use Rattle.pur_base.specs.Commands.{Command, AllAccepted, after_all}
 use Rattle.boot_codec.specs.declared.record.BootRecord.{BootRecord}
 use Rattle.boot_codec.specs.Spelling.{spelling}
-use Rattle.boot_codec.specs.Region.{BootSlot, IsRecordOf, body_in, generation_in, names, other_slot, shown_by, Yields}
+use Rattle.boot_codec.specs.Region.{BootSlot, body_in, generation_in, names, other_slot, shown_by, Yields}
 use Rattle.log_codec.specs.Log.{HasSpelling, ShowsIn}
 use Rattle.array_spec.specs.Standing.{Stands, MayBeGiven}
 use Rattle.array_spec.proofs.Settling.{twice_other}
@@ -27,7 +27,6 @@ use Rattle.world.proofs.Moments.{started, then_run, weaker}
 use Rattle.boot_region.specs.Members.{IsMember}
 use Rattle.boot_region.specs.Storing.{IsInForceOn, IsOlder, StandsBut, AccountsFor}
 use Rattle.boot_region.proofs.Accounts.{losing_within}
-use Rattle.boot_region.proofs.Composing.{as_it_is}
 use Rattle.boot_region.proofs.Phases.{risen_on_way}
 use Rattle.boot_region.proofs.ShownLemmas.{as_read, member_below}
 use Rattle.nvram_log.specs.declared.log.NvLog.{NvLog}
@@ -36,18 +35,19 @@ use Rattle.nvram_log.specs.Members as nv
 use Rattle.nvram_log.proofs.Lists.{get_either}
 use Rattle.register.specs.declared.state.Register.{Register}
 use Rattle.register.specs.Registers.{OnSlots, drives_of, own_slot, next_slot, named_sound}
-use Rattle.register.specs.Standing.{Content, StandsInLog, MayStore, IsOpen, IsNextOf, GivesOldOrNext, unflushed}
-use Rattle.stored_spec.specs.Held.{TablesHold}
-use Rattle.stored_spec.proofs.Next.{same_drives_hold}
+use Rattle.register.specs.Standing.{Content, StandsInLog, MayStore, IsOpen, IsNextOf, GivesOldOrNext, array_of}
 use Rattle.register.proofs.Shows.{holds_shows}
-use Rattle.register.proofs.Unflushed.{unflushed_now, unflushed_record}
+use Rattle.open_array.specs.Logging.{LeadTo, StandsWhateverFails, WritesLog}
+use Rattle.open_array.proofs.Between as between
+use Rattle.open_array.proofs.Logged.{log_writes_stand, log_writes_keep, log_writes_leave}
+use Rattle.open_array.proofs.Standing.{is_named, is_left, member_clean, member_sound}
 use Rattle.session_spec.specs.Entering.{IsStanding}
+use Rattle.array_state.specs.Ready.{logged}
 use Rattle.array_core.specs.Losing.{lost_since, lost_by}
 use Rattle.array_core.specs.Performing.{IsKeptAt, without_or_with}
 use Rattle.array_core.proofs.Agreeing.{agreed_standing, named_bears}
 use Rattle.array_core.proofs.Commands.{is_of_all}
 use Rattle.array_core.proofs.Losses.{same_geometry, sound_since, left_out_since, by_stop, fewer_borne, bearable_or_not}
-use Rattle.array_core.proofs.HeldBy as by
 
 nothing_else : {W : ℕ → Type 0} {disk : Disk} {bytes : List ℕ} → ((i : ℕ) → W i → ⊥) → MayLeaveBut W disk bytes → MayLeave disk bytes
 nothing_else none h = record { size = h.size; is_byte = h.is_byte; clean = λ i out. h.same i out (none i) }
@@ -117,15 +117,13 @@ first_too : (a b x : Array) → Contains (a ∷ []) x → Contains (a ∷ b ∷ 
 first_too a b x (zero, lt, e) = (zero, omega arith, e)
 first_too a b x (suc k, lt, e) = absurd (omega (arith, lt))
 
--- the record has no patches, has flushed as much, and names no device that the other one doesn't name
+-- the record has flushed as much, and names no device that the other one doesn't name
 pub record IsAlike (boot other : BootRecord) : Type 0 where
-  pub patches : other.patches ≡ []
   pub flushed : other.flushed ≡ boot.flushed
   pub fewer : (d : Device) → names other d ≡ true → names boot d ≡ true
 
-pub same_alike : {a : Shelved} (r : Register) {members : List Bool} {cmds : List Command} → IsOpen a r members (unflushed cmds) → r.record.patches ≡ [] → (boot : BootRecord) → boot ≡ r.record → IsAlike r.record boot
-same_alike r o none boot same = record {
-  patches = subst (λ (b : BootRecord). b.patches ≡ []) (sym same) none;
+same_alike : (was boot : BootRecord) → boot ≡ was → IsAlike was boot
+same_alike was boot same = record {
   flushed = ap (λ (b : BootRecord). b.flushed) same;
   fewer = λ d e. subst (λ (b : BootRecord). names b d ≡ true) same e;
 }
@@ -139,7 +137,7 @@ both_not : (b : Bool) → b ≡ true → b ≡ false → ⊥
 both_not b e f = cc (e, f)
 
 -- where no other records may be given, and the devices of the log show commands of forms in force alone, a session can go on
-module _ (a : Shelved) (r : Register) (members : List Bool) (cmds most : List Command) (o : IsOpen a r members (unflushed cmds)) (in_force : AllByRecursion (λ c. is_in_force c.request ≡ true) most) where
+module _ (a : Shelved) (r : Register) (members : List Bool) (held : Content) (most : List Command) (o : IsOpen a r members held) (in_force : AllByRecursion (λ c. is_in_force c.request ≡ true) most) where
   there : (n : ℕ) → names r.record (nvram n) ≡ true → (n < 2) × nv.IsMember members n
   there n e = (omega (arith, member_below r.record.members.nvrams n e, o.logged.is_of.lawful.lawful.members.nvram_flags), subst (λ (l : List Bool). nv.IsMember l n) o.nvrams_are e)
 
@@ -156,12 +154,9 @@ module _ (a : Shelved) (r : Register) (members : List Bool) (cmds most : List Co
     can_go_on arrays stands = record {
       stands = stands;
       left_out = λ d out slot boot g.
-          let not : names r.record d ≡ false = by.is_left (names r.record d) (left_out_since (failed d) (named_sound r.record d) out) in
+          let not : names r.record d ≡ false = is_left (names r.record d) (left_out_since (failed d) (named_sound r.record d) out) in
           unnamed (names boot d) (λ e. both_not (names r.record d) ((given slot boot g).fewer d e) not);
-      read = record {
-        unflushed = λ slot boot g. (given slot boot g).patches;
-        in_force = λ slot boot g n i c e shows. shown_in_force boot (given slot boot g) n i c e shows;
-      };
+      read = λ slot boot g n i c e shows. shown_in_force boot (given slot boot g) n i c e shows;
     }
 
 -- at a stop a session can go on in the conditions of the record
@@ -175,36 +170,36 @@ kept a boot arrays stop bytes here now agrees borne =
     agreed_standing boot now agrees failed (geometry_of a) stop.image bytes arrays borne (here (named_bears boot now agrees failed (geometry_of a) borne))
 
 -- while nothing is done
-module _ (a : Shelved) (r : Register) (members : List Bool) (cmds : List Command) (o : IsOpen a r members (unflushed cmds)) (in_force : AllByRecursion (λ c. is_in_force c.request ≡ true) cmds) where
-  held_now : (stop : Stop) → MayStop a stop → (n i : ℕ) (c : Command) → n < 2 → nv.IsMember members n → ShowsIn (stop.image (nvram n)) r.record.flushed i c → slice_get cmds i ≡ Some c
+module _ (a : Shelved) (r : Register) (members : List Bool) (held : Content) (o : IsOpen a r members held) (in_force : AllByRecursion (λ c. is_in_force c.request ≡ true) held.log) where
+  held_now : (stop : Stop) → MayStop a stop → (n i : ℕ) (c : Command) → n < 2 → nv.IsMember members n → ShowsIn (stop.image (nvram n)) r.record.flushed i c → slice_get held.log i ≡ Some c
   held_now stop may n i c lt m shows =
       let bytes : stop.image (nvram n) ≡ (a.disk (nvram n)).bytes = as_read (a.disk (nvram n)) (stop.image (nvram n)) (o.logged.holds.clean n lt m) (may.device (nvram n)) in
       (o.logged.holds.log n lt m).between.no_other i c (subst (λ (b : List ℕ). ShowsIn b r.record.flushed i c) bytes shows)
 
   -- though devices have gone missing
   pub open_stands : (stop : Stop) → MayStop a stop → (failed : Device → Bool) → IsBearable (geometry_of a) (losing failed (named_sound r.record))
-      → IsStanding (geometry_of a) stop.image (losing failed (named_sound r.record)) (after_all [] cmds ∷ [])
+      → IsStanding (geometry_of a) stop.image (losing failed (named_sound r.record)) (array_of held ∷ [])
   open_stands stop may failed borne =
       let within : IsWithin (named_sound r.record) (losing failed (named_sound r.record)) = losing_within failed (named_sound r.record) in
-      can_go_on a r members cmds cmds o in_force stop.image failed (held_now stop may)
-      (λ slot boot g. same_alike r o (unflushed_record a r members (unflushed cmds) o refl stop may) boot (o.alone stop slot boot may (given_with_fewer within g)).1)
-      (after_all [] cmds ∷ [])
-      (more_may_go_missing (geometry_of a) stop.image (named_sound r.record) (losing failed (named_sound r.record)) (after_all [] cmds ∷ []) within borne (o.stands stop may))
+      can_go_on a r members held held.log o in_force stop.image failed (held_now stop may)
+      (λ slot boot g. same_alike r.record boot (o.alone stop slot boot may (given_with_fewer within g)).1)
+      (array_of held ∷ [])
+      (more_may_go_missing (geometry_of a) stop.image (named_sound r.record) (losing failed (named_sound r.record)) (array_of held ∷ []) within borne (o.stands stop may))
 
-  pub nothing_done : (c : Command) → IsShelf a → LeavesOnly a a (IsKeptAt a r.record (without_or_with cmds c))
-  nothing_done c is = started a (IsKeptAt a r.record (without_or_with cmds c)) is (λ stop may. kept a r.record (without_or_with cmds c) stop (λ d. (may.device d).is_byte) (λ borne.
+  pub nothing_done : (c : Command) → IsShelf a → LeavesOnly a a (IsKeptAt a r.record (without_or_with held c))
+  nothing_done c is = started a (IsKeptAt a r.record (without_or_with held c)) is (λ stop may. kept a r.record (without_or_with held c) stop (λ d. (may.device d).is_byte) (λ borne.
       let now = open_stands stop may (λ d. has_risen (a.disk d).write_faults (stop.write_faults d)) borne in
       record {
-        stands = widen (geometry_of a) stop.image (lost_by a stop (named_sound r.record)) (after_all [] cmds ∷ []) (without_or_with cmds c) (first_too (after_all [] cmds) (after_all [] (cmds ++ c ∷ []))) (λ e. cc e) now.stands;
+        stands = widen (geometry_of a) stop.image (lost_by a stop (named_sound r.record)) (array_of held ∷ []) (without_or_with held c) (first_too (array_of held) (array_of (logged held c))) (λ e. cc e) now.stands;
         left_out = now.left_out;
         read = now.read;
       }))
 
 -- an NVRAM device holds the log
-pub some_member : {a : Shelved} (r : Register) (members : List Bool) {cmds : List Command} → IsOpen a r members (unflushed cmds) → nv.IsSome members
+pub some_member : {a : Shelved} (r : Register) (members : List Bool) {held : Content} → IsOpen a r members held → nv.IsSome members
 some_member r members o = elim (one_left (named_sound r.record (nvram 0)) (named_sound r.record (nvram 1)) o.bearable.nvrams) [
-  | inl s ↦ inl (subst (λ (l : List Bool). nv.IsMember l 0) o.nvrams_are (by.is_named (names r.record (nvram 0)) s))
-  | inr s ↦ inr (subst (λ (l : List Bool). nv.IsMember l 1) o.nvrams_are (by.is_named (names r.record (nvram 1)) s))
+  | inl s ↦ inl (subst (λ (l : List Bool). nv.IsMember l 0) o.nvrams_are (is_named (names r.record (nvram 0)) s))
+  | inr s ↦ inr (subst (λ (l : List Bool). nv.IsMember l 1) o.nvrams_are (is_named (names r.record (nvram 1)) s))
 ]
 
 -- the last of a list that has one more
@@ -213,182 +208,132 @@ last_is zero c d at = (refl, cc at)
 last_is (suc i) c d at = absurd (cc at)
 
 -- the devices, as a command is appended
-pub record IsAppending (a m : Shelved) (r : Register) (members now : List Bool) (cmds : List Command) (c : Command) : Type 0 where
+pub record IsAppending (a m : Shelved) (r : Register) (members now : List Bool) (held : Content) (c : Command) : Type 0 where
   pub is : IsShelf a
   pub is_mid : IsShelf m
   pub honest : a.honest
   pub on : Continues a m
-  pub was_open : IsOpen a r members (unflushed cmds)
-  pub none : r.record.patches ≡ []
-  pub not_spent : r.record.generation < 2 ^ 48 - 8
+  pub was_open : IsOpen a r members held
   pub same : (i : ℕ) → m.disk (drive i) ≡ a.disk (drive i)
   pub fewer : nv.IsFewer members now
   pub dropped : nv.DroppedFailed a m members now
-  pub left : LeavesOnly a m (LeavesBetween members r.record.flushed cmds (cmds ++ c ∷ []))
+  pub left : LeavesOnly a m (LeavesBetween members r.record.flushed held.log (held.log ++ c ∷ []))
   pub writes : WritesOnly (nv.OnMembers members) a m
-  pub accepted : AllAccepted [] (cmds ++ c ∷ [])
-  pub room : length (cmds ++ c ∷ []) ≤ 64
-  pub spelled : HasSpelling (r.record.flushed + 1 + length cmds) c
-  pub in_force : AllByRecursion (λ x. is_in_force x.request ≡ true) (cmds ++ c ∷ [])
+  pub accepted : AllAccepted held.base (held.log ++ c ∷ [])
+  pub room : length (held.log ++ c ∷ []) ≤ 64
+  pub spelled : HasSpelling (r.record.flushed + 1 + length held.log) c
+  pub in_force : AllByRecursion (λ x. is_in_force x.request ≡ true) (held.log ++ c ∷ [])
 
-module _ (a m : Shelved) (r : Register) (members now : List Bool) (cmds : List Command) (c : Command) (p : IsAppending a m r members now cmds c) where
-  abbrev shelf : Geometry
-  shelf = geometry_of a
-
+module _ (a m : Shelved) (r : Register) (members now : List Bool) (held : Content) (c : Command) (p : IsAppending a m r members now held c) where
   abbrev most : List Command
-  most = cmds ++ c ∷ []
+  most = held.log ++ c ∷ []
 
   abbrev arrays : List Array
-  arrays = without_or_with cmds c
+  arrays = without_or_with held c
 
   one : (n : ℕ) × (n < 2) × nv.IsMember members n
   one = elim (some_member r members p.was_open) [ inl x ↦ (0, omega arith, x) | inr x ↦ (1, omega arith, x) ]
 
   spelled_all : (i : ℕ) (d : Command) → slice_get most i ≡ Some d → HasSpelling (r.record.flushed + 1 + i) d
-  spelled_all i d at = elim (get_either cmds (c ∷ []) i d at) [
+  spelled_all i d at = elim (get_either held.log (c ∷ []) i d at) [
     | inl old ↦ ((p.was_open.logged.holds.log one.0 one.1 one.2).between.all i d old).spelled.lawful
     | inr (past, last) ↦
-        let is = last_is (i - length cmds) c d last in
-        let e : length cmds ≡ i = omega (arith, is.0, past) in
-        subst (λ (k : ℕ). HasSpelling (r.record.flushed + 1 + k) d) e (subst (λ (x : Command). HasSpelling (r.record.flushed + 1 + length cmds) x) is.1 p.spelled)
+        let is = last_is (i - length held.log) c d last in
+        let e : length held.log ≡ i = omega (arith, is.0, past) in
+        subst (λ (k : ℕ). HasSpelling (r.record.flushed + 1 + k) d) e (subst (λ (x : Command). HasSpelling (r.record.flushed + 1 + length held.log) x) is.1 p.spelled)
   ]
 
-  long : length most ≡ length cmds + 1
-  long = omega (arith, length-append cmds (c ∷ []))
+  long : length most ≡ length held.log + 1
+  long = omega (arith, length-append held.log (c ∷ []))
 
-  second : Contains arrays (after_all [] most)
+  second : Contains arrays (after_all held.base most)
   second = (1, omega arith, refl)
 
-  fronts : (n : ℕ) → length cmds ≤ n → n ≤ length most → Contains arrays (after_all [] (take n most))
-  fronts n low high = elim (cases_lt (length cmds) n) [
+  fronts : (n : ℕ) → length held.log ≤ n → n ≤ length most → Contains arrays (after_all held.base (take n most))
+  fronts n low high = elim (cases_lt (length held.log) n) [
     | inl more ↦
         let e : length most ≤ n = omega (arith, more, long) in
-        subst (λ (l : List Command). Contains arrays (after_all [] l)) (sym (take_all n most e)) second
+        subst (λ (l : List Command). Contains arrays (after_all held.base l)) (sym (take_all n most e)) second
     | inr le ↦
-        let e : length cmds ≡ n = omega (arith, low, le) in
-        subst (λ (l : List Command). Contains arrays (after_all [] l)) (sym (take_at cmds (c ∷ []) n e)) (0, omega arith, refl)
+        let e : length held.log ≡ n = omega (arith, low, le) in
+        subst (λ (l : List Command). Contains arrays (after_all held.base l)) (sym (take_at held.log (c ∷ []) n e)) (0, omega arith, refl)
   ]
+
+  to : LeadTo r held.base held.log most arrays
+  to = record { front = (c ∷ [], refl); room = p.room; accepted = p.accepted; spelled = spelled_all; some = λ e. cc e; fronts = fronts }
+
+  log_written : WritesLog r members held.log most a m
+  log_written = record { continues = p.on; writes = p.writes; drives = p.same; between = p.left }
+
+  stand : LeavesOnly a m (StandsWhateverFails a r arrays)
+  stand = log_writes_stand a m p.is p.honest r members held held.log most arrays p.was_open to log_written
 
   -- ---- meanwhile
 
   drive_left : (i : ℕ) → IsMember (drives_of r) i → (bytes : List ℕ) → MayLeave (a.disk (drive i)) bytes → bytes ≡ (a.disk (drive i)).bytes
-  drive_left i mem bytes may = as_read (a.disk (drive i)) bytes (p.was_open.in_force.clean i mem (by.force_sound r p.was_open i mem)) may
+  drive_left i mem bytes may = as_read (a.disk (drive i)) bytes (member_clean a p.is p.honest r members held p.was_open i mem) may
 
-  while_appending : (stop : Stop) → LeavesBetween members r.record.flushed cmds most stop × LeavesBut (nv.OnMembers members) a stop → KeptNamed a r.record arrays stop
-  while_appending stop both bears =
+  while_appending : (stop : Stop) → LeavesBetween members r.record.flushed held.log most stop × StandsWhateverFails a r arrays stop × LeavesBut (nv.OnMembers members) a stop → KeptNamed a r.record arrays stop
+  while_appending stop (at, stands, left) bears =
       let failed : Device → Bool = λ d. has_risen (a.disk d).write_faults (stop.write_faults d) in
       let later = lost_by a stop (named_sound r.record) in
       let within = losing_within failed (named_sound r.record) in
-      let drive_is : (i : ℕ) → IsMember (drives_of r) i → stop.image (drive i) ≡ (a.disk (drive i)).bytes = λ i mem. drive_left i mem (stop.image (drive i)) (nothing_else (λ k w. w) (both.1.bytes (drive i))) in
-      can_go_on a r members cmds most p.was_open p.in_force stop.image failed (λ n i d lt mem x. (both.0 n lt mem).no_other i d x)
-      (λ slot boot g. same_alike r p.was_open p.none boot (by.alone a p.is r members cmds p.was_open p.none stop.image later within bears drive_is slot boot g).1)
-      arrays
-      (by.stands a p.is r members cmds p.was_open p.none stop.image later within bears drive_is cmds most arrays p.not_spent p.accepted (c ∷ [], refl) p.room spelled_all
-      (λ n i d lt s at. (both.0 n lt (by.member_of a p.is r members cmds p.was_open p.none stop.image later within bears drive_is n s)).all i d at)
-      (λ n i d lt mem x. (both.0 n lt mem).no_other i d x)
-      (λ e. cc e) fronts)
+      let drive_is : (i : ℕ) → IsMember (drives_of r) i → stop.image (drive i) ≡ (a.disk (drive i)).bytes = λ i mem. drive_left i mem (stop.image (drive i)) (nothing_else (λ k w. w) (left.bytes (drive i))) in
+      can_go_on a r members held most p.was_open p.in_force stop.image failed (λ n i d lt mem x. (at n lt mem).no_other i d x)
+      (λ slot boot g. same_alike r.record boot (between.alone a p.is p.honest r members held p.was_open stop.image later within bears drive_is slot boot g).1)
+      arrays (stands later within bears)
 
   pub append_moments : LeavesOnly a m (IsKeptAt a r.record arrays)
-  append_moments = weaker (λ stop both. kept a r.record arrays stop (λ d. (both.1.bytes d).is_byte) (while_appending stop both)) (both_leave p.left p.writes.any_moment)
+  append_moments = weaker (λ stop all. kept a r.record arrays stop (λ d. (all.1.1.bytes d).is_byte) (while_appending stop (all.0, all.1.0, all.1.1))) (both_leave p.left (both_leave stand p.writes.any_moment))
 
   -- ---- afterwards
 
-  -- the drives, of which none was written, with the NVRAM devices as they were
-  module _ (start : Stop) (may : MayStop m start) where
-    drives_of_it : Image
-    drives_of_it (Drive d) = start.image (Drive d)
-    drives_of_it (Nv n) = (a.disk (Nv n)).bytes
-
-    before_it : Stop
-    before_it = record { image = drives_of_it; faults = λ d. (a.disk d).faults; write_faults = λ d. (a.disk d).write_faults; output = a.output; taken = a.taken }
-
-    may_before : MayStop a before_it
-    unfolding before_it drives_of_it
-    may_before = record { device = each; counts = record { faults = λ d. omega arith; write_faults = λ d. omega arith }; output = refl; taken = refl }
-      where
-        each : (d : Device) → MayLeave (a.disk d) (drives_of_it d)
-        each (Drive d) = subst (λ (k : Disk). MayLeave k (start.image (Drive d))) (p.same d.0) (may.device (Drive d))
-        each (Nv n) = record { size = refl; is_byte = p.is.bytes p.honest (Nv n); clean = λ i clean. refl }
-
-    held_still : TablesHold (geometry_of a) start.image (own_slot r.record) r.record [] []
-    unfolding before_it drives_of_it
-    held_still = same_drives_hold (geometry_of a) before_it.image start.image (own_slot r.record) r.record [] [] (λ i. refl) (p.was_open.logged.tables before_it may_before)
-
-  module _ (holds : HoldsOn m now r.record.flushed most) (some_now : nv.IsSome now) where
-    pub logged : StandsInLog m r now (unflushed most)
-    logged = record {
-      is_of = record {
-        lawful = subst (λ (g : Geometry). IsRecordOf g r.record) (same_geometry p.on) p.was_open.logged.is_of.lawful;
-        named = p.was_open.logged.is_of.named;
-      };
-      tables = λ start may. subst (λ (g : Geometry). TablesHold g start.image (own_slot r.record) r.record [] []) (same_geometry p.on) (held_still start may);
-      bodies = λ i mem. subst (λ (d : Disk). body_in (own_slot r.record) d.bytes ≡ spelling r.record) (sym (p.same i)) (p.was_open.logged.bodies i mem);
-      holds = holds_shows holds;
-      accepted = p.accepted;
-    }
+  module _ (holds : HoldsOn m now r.record.flushed most) where
+    pub logged_then : StandsInLog m r now (logged held c)
+    logged_then = log_writes_leave a m p.is p.honest r members now held held.log most most p.was_open log_written (holds_shows holds) p.accepted
 
     older : (i : ℕ) → IsMember (drives_of r) i → IsOlder m (next_slot r.record) (spelling r.record) i
     older i mem =
-        let was : IsOlder a (next_slot r.record) (spelling r.record) i = p.was_open.older i mem (by.force_sound r p.was_open i mem) in
+        let was : IsOlder a (next_slot r.record) (spelling r.record) i = p.was_open.older i mem (member_sound a p.is p.honest r members held p.was_open i mem) in
         subst (λ (d : Disk). Yields (other_slot (next_slot r.record)) (generation_in (body_in (next_slot r.record) d.bytes)) (generation_in (spelling r.record))) (sym (p.same i)) was
 
-    -- in conditions in which each device that isn't missing is left
-    module _ (later : Conditions) (within : IsWithin (named_sound r.record) later) (bears : IsBearable (geometry_of a) later) (still : (n : ℕ) → n < 2 → later (nvram n) ≡ Sound → nv.IsMember now n) where
+    -- in conditions in which more is missing
+    module _ (later : Conditions) (within : IsWithin (named_sound r.record) later) (bears : IsBearable (geometry_of a) later) where
       module _ (stop : Stop) (may : MayStop m stop) where
         drive_is : (i : ℕ) → IsMember (drives_of r) i → stop.image (drive i) ≡ (a.disk (drive i)).bytes
         drive_is i mem = drive_left i mem (stop.image (drive i)) (subst (λ (d : Disk). MayLeave d (stop.image (drive i))) (p.same i) (may.device (drive i)))
 
         given_then : MayBeGiven (geometry_of m) stop.image later (own_slot r.record) r.record
         given_then = subst (λ (g : Geometry). MayBeGiven g stop.image later (own_slot r.record) r.record) (same_geometry p.on)
-            (by.given a p.is r members cmds p.was_open p.none stop.image later within bears drive_is)
+            (between.given a p.is p.honest r members held p.was_open stop.image later within bears drive_is)
 
         alone_then : (slot2 : BootSlot) (boot2 : BootRecord) → MayBeGiven (geometry_of m) stop.image later slot2 boot2 → (slot2 ≡ own_slot r.record) × (boot2 ≡ r.record)
         alone_then slot2 boot2 g =
-            by.alone a p.is r members cmds p.was_open p.none stop.image later within bears drive_is slot2 boot2
+            between.alone a p.is p.honest r members held p.was_open stop.image later within bears drive_is slot2 boot2
             (subst (λ (k : Geometry). MayBeGiven k stop.image later slot2 boot2) (sym (same_geometry p.on)) g)
 
-        shown : (n : ℕ) → n < 2 → later (nvram n) ≡ Sound → (i : ℕ) (d : Command) → slice_get most i ≡ Some d → ShowsIn (stop.image (nvram n)) r.record.flushed i d
-        shown n lt s i d at =
-            let mem = still n lt s in
-            subst (λ (b : List ℕ). ShowsIn b r.record.flushed i d) (sym (as_read (m.disk (nvram n)) (stop.image (nvram n)) (holds.clean n lt mem) (may.device (nvram n)))) ((holds.log n lt mem).between.all i d at)
-
-        pub stands_then : (others : List Array) → others ≢ [] → Contains others (after_all [] most) → Stands (geometry_of m) stop.image later others
-        stands_then others some has =
-            let moment = p.left.each stop (p.is_mid.counts_now a.moment stop p.on.later may) in
-            subst (λ (g : Geometry). Stands g stop.image later others) (same_geometry p.on)
-            (by.stands a p.is r members cmds p.was_open p.none stop.image later within bears drive_is most most others p.not_spent p.accepted ([], sym (append-nil most)) p.room spelled_all
-            (λ n i d lt s at. shown n lt s i d at)
-            (λ n i d lt mem x. (moment.1 n lt mem).no_other i d x)
-            some (λ n low high. subst (λ (l : List Command). Contains others (after_all [] l)) (sym (take_all n most low)) has))
+        stands_then : Stands (geometry_of m) stop.image later arrays
+        stands_then = subst (λ (g : Geometry). Stands g stop.image later arrays) (same_geometry p.on)
+            ((stand.each stop (p.is_mid.counts_now a.moment stop p.on.later may)).1 later within bears)
 
       in_force : IsInForceOn m (drives_of r) later (next_slot r.record) r.record
       in_force =
           let f = p.was_open.in_force in
           record {
-            lawful = logged.is_of.lawful;
+            lawful = logged_then.is_of.lawful;
             sound = λ i lt s. f.sound i (omega (arith, lt, p.on.drives)) (sound_before (named_sound r.record (drive i)) (later (drive i)) (within (drive i)) s);
-            clean = λ i mem s. subst (λ (d : Disk). d.dirty ≡ []) (sym (p.same i)) (f.clean i mem (by.force_sound r p.was_open i mem));
-            shown = λ i mem s. subst (λ (d : Disk). shown_by (other_slot (next_slot r.record)) d.bytes ≡ Some (spelling r.record)) (sym (p.same i)) (f.shown i mem (by.force_sound r p.was_open i mem));
+            clean = λ i mem s. subst (λ (d : Disk). d.dirty ≡ []) (sym (p.same i)) (member_clean a p.is p.honest r members held p.was_open i mem);
+            shown = λ i mem s. subst (λ (d : Disk). shown_by (other_slot (next_slot r.record)) d.bytes ≡ Some (spelling r.record)) (sym (p.same i))
+                (f.shown i mem (member_sound a p.is p.honest r members held p.was_open i mem));
             given = λ start may. subst (λ (t : BootSlot). MayBeGiven (geometry_of m) start.image later t r.record) (sym (twice_other (own_slot r.record))) (given_then start may);
           }
 
     -- no member failed
-    pub still_open : r.record.members.nvrams ≡ now → IsOpen m r now (unflushed most)
-    still_open named =
-        let within = as_it_is (named_sound r.record) in
-        let bears = p.was_open.bearable in
-        let still : (n : ℕ) → n < 2 → named_sound r.record (nvram n) ≡ Sound → nv.IsMember now n =
-        λ n lt s. subst (λ (l : List Bool). nv.IsMember l n) named (by.is_named (names r.record (nvram n)) s) in
-        record {
-          logged = logged;
-          drives = p.was_open.drives;
-          nvrams_are = named;
-          bearable = subst (λ (g : Geometry). IsBearable g (named_sound r.record)) (same_geometry p.on) bears;
-          in_force = in_force (named_sound r.record) within bears still;
-          older = λ i mem s. older i mem;
-          stands = λ stop may. stands_then (named_sound r.record) within bears still stop may (after_all [] most ∷ []) (λ e. cc e) (0, omega arith, refl);
-          alone = λ stop slot2 boot2 may g. alone_then (named_sound r.record) within bears still stop may slot2 boot2 g;
-        }
+    pub still_open : members ≡ now → IsOpen m r now (logged held c)
+    still_open same =
+        subst (λ (l : List Bool). IsOpen m r l (logged held c)) same
+        (log_writes_keep a m p.is p.is_mid p.honest r members held held.log most most p.was_open log_written
+        (holds_shows (subst (λ (l : List Bool). HoldsOn m l r.record.flushed most) (sym same) holds)) p.accepted)
 
     -- ---- a member failed: a record without it may be stored
     abbrev lost : Conditions
@@ -401,7 +346,7 @@ module _ (a m : Shelved) (r : Register) (members now : List Bool) (cmds : List C
       still_member : (n : ℕ) → n < 2 → lost_since a m (named_sound r.record) (nvram n) ≡ Sound → nv.IsMember now n
       still_member n lt s =
           let was = sound_since (has_risen (a.disk (nvram n)).write_faults (m.disk (nvram n)).write_faults) (named_sound r.record (nvram n)) s in
-          let mem : nv.IsMember members n = subst (λ (l : List Bool). nv.IsMember l n) p.was_open.nvrams_are (by.is_named (names r.record (nvram n)) was.0) in
+          let mem : nv.IsMember members n = subst (λ (l : List Bool). nv.IsMember l n) p.was_open.nvrams_are (is_named (names r.record (nvram n)) was.0) in
           elim (p.dropped n lt mem) [
             | inl is ↦ is
             | inr rose ↦ absurd (risen_on_way (a.disk (nvram n)).write_faults (a.disk (nvram n)).write_faults (m.disk (nvram n)).write_faults (m.disk (nvram n)).write_faults (omega arith) rose (omega arith) was.1)
@@ -411,22 +356,21 @@ module _ (a m : Shelved) (r : Register) (members now : List Bool) (cmds : List C
       left_out_not n out mem =
           let was = left_out_since (has_risen (a.disk (nvram n)).write_faults (m.disk (nvram n)).write_faults) (named_sound r.record (nvram n)) out in
           let named : names r.record (nvram n) ≡ true = subst (λ (l : List Bool). nv.IsMember l n) (sym p.was_open.nvrams_are) (p.fewer n mem) in
-          absurd (cc (named, by.is_left (names r.record (nvram n)) was))
+          absurd (cc (named, is_left (names r.record (nvram n)) was))
 
-      may_store : MayStore m r now (lost_since a m (named_sound r.record)) (unflushed most) arrays
+      may_store : MayStore m r now (lost_since a m (named_sound r.record)) (logged held c) arrays
       may_store = record {
-        logged = logged;
-        in_force = in_force lost lost_within bears still_member;
-        stands = λ stop may. stands_then lost lost_within bears still_member stop may arrays (λ e. cc e) second;
+        logged = logged_then;
+        in_force = in_force lost lost_within bears;
+        stands = λ stop may. stands_then lost lost_within bears stop may;
         one_of = second;
         sound = still_member;
         left_out = left_out_not;
-        unnamed = λ i out. by.is_left (names r.record (drive i)) (left_out_since (has_risen (a.disk (drive i)).write_faults (m.disk (drive i)).write_faults) (named_sound r.record (drive i)) out);
+        unnamed = λ i out. is_left (names r.record (drive i)) (left_out_since (has_risen (a.disk (drive i)).write_faults (m.disk (drive i)).write_faults) (named_sound r.record (drive i)) out);
       }
 
       next_alike : (boot : BootRecord) → IsNextOf r now boot → IsAlike r.record boot
       next_alike boot next = record {
-        patches = ap (λ (b : BootRecord). b.patches) next.later.rest ∙ p.none;
         flushed = ap (λ (b : BootRecord). b.flushed) next.later.rest;
         fewer = λ d e. fewer_named d e;
       }
@@ -437,7 +381,7 @@ module _ (a m : Shelved) (r : Register) (members now : List Bool) (cmds : List C
 
       -- a stop while the record is stored
       module _ {W : Device → ℕ → Type 0} (off : (k i : ℕ) → W (nvram k) i → ⊥) where
-        still_between : (stop : Stop) → LeavesBut W m stop → LeavesBetween members r.record.flushed cmds most stop
+        still_between : (stop : Stop) → LeavesBut W m stop → LeavesBetween members r.record.flushed held.log most stop
         still_between stop left n lt mem =
             let there : Stop = record { image = nvrams_at m stop; faults = λ d. (m.disk d).faults; write_faults = λ d. (m.disk d).write_faults; output = m.output; taken = m.taken } in
             let may : MayStop m there = record {
@@ -460,9 +404,9 @@ module _ (a m : Shelved) (r : Register) (members now : List Bool) (cmds : List C
                   inr (subst (λ (d : Disk). has_risen d.write_faults (stop.write_faults (drive i)) ≡ false) (sym (p.same i)) none);
               reads = λ i mem s. inl (older i mem);
             } in
-            can_go_on a r members cmds most p.was_open p.in_force stop.image failed (λ n i d lt mem x. (still_between stop both.1 n lt mem).no_other i d x)
+            can_go_on a r members held most p.was_open p.in_force stop.image failed (λ n i d lt mem x. (still_between stop both.1 n lt mem).no_other i d x)
             (λ slot boot g. elim (both.0.1 later account slot boot (subst (λ (k : Geometry). MayBeGiven k stop.image later slot boot) (same_geometry p.on) g)) [
-              | inl was ↦ same_alike r p.was_open p.none boot (alone_then lost lost_within bears still_member was.start was.may slot boot was.given).1
+              | inl was ↦ same_alike r.record boot (alone_then lost lost_within bears was.start was.may slot boot was.given).1
               | inr next ↦ next_alike boot next
             ])
             arrays
@@ -473,7 +417,7 @@ module _ (a m : Shelved) (r : Register) (members now : List Bool) (cmds : List C
         (giving : (missing : Conditions) (held : Content) (others : List Array) → MayStore m r now missing held others → LeavesOnly m n (GivesOldOrNext m r now missing)) where
       store_moments : LeavesOnly m n (IsKeptAt a r.record arrays)
       store_moments = elim (bearable_or_not (geometry_of a) (lost_since a m (named_sound r.record))) [
-        | inl bears ↦ weaker (λ stop both. kept a r.record arrays stop (λ d. (both.1.bytes d).is_byte) (while_storing bears off stop both)) (both_leave (both_leave (storing lost (unflushed most) arrays (may_store bears)) (giving lost (unflushed most) arrays (may_store bears))) writes.any_moment)
+        | inl bears ↦ weaker (λ stop both. kept a r.record arrays stop (λ d. (both.1.bytes d).is_byte) (while_storing bears off stop both)) (both_leave (both_leave (storing lost (logged held c) arrays (may_store bears)) (giving lost (logged held c) arrays (may_store bears))) writes.any_moment)
         | inr not ↦ weaker (λ stop left now agrees borne.
             let named = named_bears r.record now agrees (λ d. has_risen (a.disk d).write_faults (stop.write_faults d)) (geometry_of a) borne in
             absurd (not (fewer_borne (geometry_of a) lost (lost_by a stop (named_sound r.record)) (by_stop a m stop (named_sound r.record) left.counts) named))) writes.any_moment
@@ -483,26 +427,25 @@ module _ (a m : Shelved) (r : Register) (members now : List Bool) (cmds : List C
       all_moments = then_run p.on append_moments store_moments
 
 -- what the calls say of a command that is appended
-pub appending : (a m : Shelved) (r : Register) (log : NvLog) (now : List Bool) (cmds : List Command) (c : Command) → IsShelf a → IsShelf m → a.honest → Continues a m → IsOpen a r log.members (unflushed cmds) → Keeps log cmds
-    → r.record.generation < 2 ^ 48 - 2 ^ 24 → log.count < 64 → log.flushed ≡ r.record.flushed → AllAccepted [] (cmds ++ c ∷ []) → ((i : ℕ) → m.disk (drive i) ≡ a.disk (drive i)) → nv.IsFewer log.members now → nv.DroppedFailed a m log.members now
-    → LeavesOnly a m (LeavesBetween log.members log.flushed cmds (cmds ++ c ∷ [])) → WritesOnly (nv.OnMembers log.members) a m → HasSpelling (log.flushed + 1 + (log.count + 0)) c → AllByRecursion (λ x. is_in_force x.request ≡ true) (cmds ++ c ∷ []) → IsAppending a m r log.members now cmds c
-appending a m r log now cmds c is is_mid h on o keeps low free flushed accepted same fewer dropped left writes spelled in_force = record {
+pub appending : (a m : Shelved) (r : Register) (log : NvLog) (now : List Bool) (held : Content) (c : Command) → IsShelf a → IsShelf m → a.honest → Continues a m → IsOpen a r log.members held → Keeps log held.log
+    → log.count < 64 → log.flushed ≡ r.record.flushed → AllAccepted held.base (held.log ++ c ∷ []) → ((i : ℕ) → m.disk (drive i) ≡ a.disk (drive i)) → nv.IsFewer log.members now → nv.DroppedFailed a m log.members now
+    → LeavesOnly a m (LeavesBetween log.members log.flushed held.log (held.log ++ c ∷ [])) → WritesOnly (nv.OnMembers log.members) a m → HasSpelling (log.flushed + 1 + (log.count + 0)) c
+    → AllByRecursion (λ x. is_in_force x.request ≡ true) (held.log ++ c ∷ []) → IsAppending a m r log.members now held c
+appending a m r log now held c is is_mid h on o keeps free flushed accepted same fewer dropped left writes spelled in_force = record {
   is = is;
   is_mid = is_mid;
   honest = h;
   on = on;
   was_open = o;
-  none = unflushed_now a r log.members (unflushed cmds) is h o refl;
-  not_spent = omega (arith, low);
   same = same;
   fewer = fewer;
   dropped = dropped;
-  left = subst (λ (f : ℕ). LeavesOnly a m (LeavesBetween log.members f cmds (cmds ++ c ∷ []))) flushed left;
+  left = subst (λ (f : ℕ). LeavesOnly a m (LeavesBetween log.members f held.log (held.log ++ c ∷ []))) flushed left;
   writes = writes;
   accepted = accepted;
-  room = omega (arith, free, keeps.count, length-append cmds (c ∷ []));
+  room = omega (arith, free, keeps.count, length-append held.log (c ∷ []));
   spelled =
-      let e : log.flushed + 1 + (log.count + 0) ≡ r.record.flushed + 1 + length cmds = omega (arith, flushed, keeps.count) in
+      let e : log.flushed + 1 + (log.count + 0) ≡ r.record.flushed + 1 + length held.log = omega (arith, flushed, keeps.count) in
       subst (λ (k : ℕ). HasSpelling k c) e spelled;
   in_force = in_force;
 }

@@ -1,15 +1,13 @@
--- Which devices hold the array no more after a command, and how far the generation rises.
-use Rattle.std.proofs.Common.{◌≡◌, ◌⊎◌, inl, inr, ℕ, zero, suc, ◌+◌, ◌^◌, ◌<◌, ◌≤◌, List, [], ◌∷◌, length, refl, sym, ◌∙◌, ap, subst, arith, Bool, true, false, cond}
+-- Which devices hold the array no more after a command, and which records are stored.
+use Rattle.std.proofs.Common.{◌≡◌, ◌⊎◌, inl, inr, ℕ, ◌+◌, ◌<◌, ◌≤◌, List, [], ◌∷◌, length, refl, sym, ◌∙◌, ap, subst, arith, Bool, true, false}
 use Rattle.std.proofs.lemmas.Bool.{cases_Bool}
 use Rattle.std.proofs.lemmas.List.{length-take}
-use Rattle.std.proofs.Math.Nat.{pow-succ'}
 use Rattle.pur_base.specs.Devices.{Geometry, drive, nvram}
 use Rattle.pur_base.specs.declared.device.Device.{Device}
 use Rattle.pur_base.specs.declared.device.Device.TheVariants.{Drive, Nv}
 use Rattle.boot_codec.specs.declared.record.BootRecord.{BootRecord}
-use Rattle.boot_codec.specs.Record.{mask, set_count}
+use Rattle.boot_codec.specs.Record.{set_count}
 use Rattle.boot_codec.specs.Region.{names}
-use Rattle.array_spec.proofs.Votes.{counted}
 use Rattle.world.specs.Counts.{Rises}
 use Rattle.world.specs.Losing.{has_risen}
 use Rattle.world.specs.Shelf.{Shelved, Stop, Disk, IsShelf, IsCountedBy, Continues, LeavesOnly}
@@ -21,9 +19,9 @@ use Rattle.boot_region.proofs.ShownLemmas.{member_below}
 use Rattle.nvram_log.specs.Members as nv
 use Rattle.register.specs.declared.state.Register.{Register}
 use Rattle.register.specs.Registers.{IsRegisterOf, IsLaterRecord, drives_of}
-use Rattle.register.proofs.FlagLemmas.{fewer_count, in_cut, cut_in}
+use Rattle.register.proofs.FlagLemmas.{few_set, fewer_count, in_cut, cut_in}
 use Rattle.session_spec.specs.Faring.{MayRise}
-use Rattle.array_core.specs.declared.array.Array.{Array}
+use Rattle.array_state.specs.declared.array.Array.{Array}
 use Rattle.array_core.specs.Holding.{IsHolder, DropsFailed, NoneJoins}
 
 -- ---- counts of failed calls at each moment
@@ -103,7 +101,7 @@ none_joins_unstored was now same fewer = record {
     of (Drive d) h = subst (λ (r : Register). IsMember (drives_of r) d.0) same h
     of (Nv n) h = fewer n.0 h
 
-fewer_drives : (was now : Register) → IsLaterRecord was.record now.record → ((i : ℕ) → IsMember now.drives i → IsMember was.drives i) → (i : ℕ) → IsMember (drives_of now) i → IsMember (drives_of was) i
+pub fewer_drives : (was now : Register) → IsLaterRecord was.record now.record → ((i : ℕ) → IsMember now.drives i → IsMember was.drives i) → (i : ℕ) → IsMember (drives_of now) i → IsMember (drives_of was) i
 fewer_drives was now later fewer i m =
     let slots : now.record.slots ≡ was.record.slots = ap (λ (b : BootRecord). b.slots) later.rest in
     cut_in was.drives was.record.slots i (omega (arith, slots, member_below (drives_of now) i m, length-take now.record.slots now.drives)) (fewer i (in_cut now.drives now.record.slots i m))
@@ -123,28 +121,12 @@ none_joins shelf was now nvrams is later fewer fewer_nvrams log members = record
 
 -- ---- how far the generation rises
 
-at_most_one : (b : Bool) → cond b 1 0 ≤ 1
-at_most_one true = omega arith
-at_most_one false = omega arith
-
--- no more flags are set than the mask has bits
-few_set : (xs : List Bool) (n : ℕ) → mask xs < 2 ^ n → set_count xs ≤ n
-few_set [] n small = omega arith
-few_set (true ∷ xs) zero small = absurd (omega (arith, small))
-few_set (false ∷ xs) zero small =
-    let s : mask xs < 2 ^ 0 = omega (arith, small) in
-    omega (arith, few_set xs zero s, counted (λ (b : Bool). b) false xs)
-few_set (x ∷ xs) (suc n) small =
-    let e = pow-succ' 2 n in
-    let s : mask xs < 2 ^ n = omega (arith, small, e) in
-    omega (arith, few_set xs n s, counted (λ (b : Bool). b) x xs, at_most_one x)
-
 -- where the flags of the log aren't those of before, a device lost a write, and few records were stored
 pub rises_little : (old mid new : Shelved) (before now_nvrams : List Bool) (was now : Register) → length before ≡ 2 → length now_nvrams ≡ 2 → (now_nvrams ≡ before → ⊥) → nv.IsFewer before now_nvrams
     → nv.DroppedFailed old mid before now_nvrams → ((n : ℕ) → new.disk (nvram n) ≡ mid.disk (nvram n))
     → IsRegisterOf (record { slots = old.drives; units = old.units }) was → IsLaterRecord was.record now.record → was.record.generation < now.record.generation
     → now.record.slots ≤ set_count now.drives + 2 → now.record.generation + set_count now.drives ≤ was.record.generation + set_count was.drives + 1
-    → MayRise (λ d. has_risen (old.disk d).write_faults (new.disk d).write_faults) was.record.generation now.record.generation
+    → MayRise (λ d. has_risen (old.disk d).write_faults (new.disk d).write_faults) was.record now.record
 rises_little old mid new before now_nvrams was now two two_now other fewer dropped kept is later rises enough stores =
     let one = one_unset before now_nvrams two two_now other fewer in
     let slots : now.record.slots ≡ was.record.slots = ap (λ (b : BootRecord). b.slots) later.rest in
@@ -159,4 +141,5 @@ rises_little old mid new before now_nvrams was now two two_now other fewer dropp
       ],
       rises,
       omega (arith, slots, fewer_set, most, enough, stores),
+      later.rest,
     )

@@ -5,7 +5,6 @@ use Rattle.std.specs.List.{range_with_len}
 use Rattle.std.proofs.lemmas.Bool.{cases_Bool}
 use Rattle.std.proofs.lemmas.List.Sums.{count_by-le-length}
 use Rattle.pur_base.specs.Devices.{Geometry, Conditions, Sound, is_missing, IsBearable, drive, nvram}
-use Rattle.pur_base.specs.Commands.{Command}
 use Rattle.boot_codec.specs.declared.record.BootRecord.{BootRecord}
 use Rattle.boot_codec.specs.Record.{set_count}
 use Rattle.boot_codec.specs.Region.{names}
@@ -21,13 +20,13 @@ use Rattle.register.specs.declared.next.StoreFault.{StoreFault}
 use Rattle.register.specs.declared.next.StoreFault.TheVariants.{Spent, TooFew}
 use Rattle.register.specs.Faults.{IsFaultOf}
 use Rattle.register.specs.Registers.{IsRegisterOf, IsLaterRecord, drives_of, named_sound}
-use Rattle.register.specs.Standing.{IsOpen, unflushed}
+use Rattle.register.specs.Standing.{Content, IsOpen}
+use Rattle.open_array.proofs.Standing.{is_named}
 use Rattle.register.proofs.FlagLemmas.{fewer_count, in_cut}
-use Rattle.array_core.specs.declared.array.Array.{Array}
+use Rattle.array_state.specs.declared.array.Array.{Array}
 use Rattle.array_core.specs.Losing.{lost_since}
 use Rattle.array_core.specs.Performing.{IsLost, LostLog, LostDrives}
 use Rattle.array_core.proofs.Losses.{sound_since}
-use Rattle.array_core.proofs.HeldBy as by
 
 -- of so many drives each is one of the bad ones, or has a flag
 enough : (bad : ℕ → Bool) (flags : List Bool) (a n : ℕ) → ((i : ℕ) → i < n → (bad (a + i) ≡ true) ⊎ IsMember flags i) → n ≤ count_by bad (range_with_len a n) + count_by (λ b. b) flags
@@ -77,14 +76,14 @@ few_lack shelf missing flags bears sound =
     ]
 
 -- what is lost isn't borne
-module _ (old new : Shelved) (a : Array) (commands : List Command) (o : IsOpen old a.register a.log.members (unflushed commands)) (bears : IsBearable (geometry_of old) (lost_since old new (named_sound a.register.record))) where
+module _ (old new : Shelved) (a : Array) (held : Content) (o : IsOpen old a.register a.log.members held) (bears : IsBearable (geometry_of old) (lost_since old new (named_sound a.register.record))) where
   abbrev missing : Conditions
   missing = lost_since old new (named_sound a.register.record)
 
   log_left : LostLog old new a.log.members → (n : ℕ) → n < 2 → missing (nvram n) ≡ Sound → ⊥
   log_left lost n lt s =
       let was = sound_since (has_risen (old.disk (nvram n)).write_faults (new.disk (nvram n)).write_faults) (named_sound a.register.record (nvram n)) s in
-      let mem : nv.IsMember a.log.members n = subst (λ (l : List Bool). nv.IsMember l n) o.nvrams_are (by.is_named (names a.register.record (nvram n)) was.0) in
+      let mem : nv.IsMember a.log.members n = subst (λ (l : List Bool). nv.IsMember l n) o.nvrams_are (is_named (names a.register.record (nvram n)) was.0) in
       risen_on_way (old.disk (nvram n)).write_faults (old.disk (nvram n)).write_faults (new.disk (nvram n)).write_faults (new.disk (nvram n)).write_faults (omega arith) (lost n lt mem) (omega arith) was.1
 
   drives_left : LostDrives old new a.register → ⊥

@@ -1,44 +1,39 @@
 -- What is known of an array that is ready.
 use Rattle.std.proofs.Common.{refl, ◌≡◌, inl, inr, ℕ, ◌<◌, List, [], ◌∷◌, sym, subst, arith, Bool, true, false}
-use Rattle.std.specs.List.{AllByRecursion}
 use Rattle.std.proofs.lemmas.Bool.{cases_lt}
 use Rattle.pur_base.specs.declared.device.Device.{Device}
 use Rattle.pur_base.specs.declared.device.Device.TheVariants.{Drive, Nv}
 use Rattle.pur_base.specs.Devices.{Sound, IsBearable, drive, nvram, Conditions, LeftOut}
 use Rattle.pur_base.specs.Grammar.{is_in_force}
-use Rattle.pur_base.specs.Plain as plain
-use Rattle.pur_base.specs.Commands.{Command, after_all}
+use Rattle.pur_base.specs.Commands.{Command}
 use Rattle.boot_codec.specs.declared.record.BootRecord.{BootRecord}
 use Rattle.boot_codec.specs.Region.{names}
 use Rattle.log_codec.specs.Log.{ShowsIn}
-use Rattle.array_spec.specs.Standing.{Stands}
 use Rattle.world.specs.Losing.{geometry_of, has_risen}
 use Rattle.world.specs.Shelf.{Shelved, Stop, MayStop}
 use Rattle.boot_region.specs.Members.{IsMember}
 use Rattle.boot_region.proofs.Phases.{risen_on_way}
 use Rattle.boot_region.proofs.ShownLemmas.{as_read, member_below}
-use Rattle.nvram_log.specs.Held.{HoldsOn, Keeps}
 use Rattle.nvram_log.specs.Members as nv
 use Rattle.register.specs.declared.state.Register.{Register}
 use Rattle.register.specs.Registers.{drives_of, named_sound}
-use Rattle.register.specs.Standing.{IsOpen, unflushed}
-use Rattle.register.proofs.Unflushed.{unflushed_record}
+use Rattle.register.specs.Standing.{Content, IsOpen, array_of}
+use Rattle.open_array.proofs.Standing.{is_named, is_left}
 use Rattle.register.proofs.FlagLemmas.{in_cut, cut_in, none_past}
 use Rattle.session_spec.specs.Entering.{IsStanding, LeftOutAreNamedByNone, AreRead}
-use Rattle.array_core.specs.declared.array.Array.{Array}
-use Rattle.array_core.specs.Ready.{IsReady}
+use Rattle.array_state.specs.declared.array.Array.{Array}
+use Rattle.array_state.specs.Ready.{IsReady}
 use Rattle.array_core.specs.Holding.{IsHolder, DropsFailed, NoneJoins, AgreesWith}
 use Rattle.array_core.specs.Losing.{lost_since}
 use Rattle.array_core.proofs.Agreeing.{standing_in, named_is, unnamed_is}
 use Rattle.array_core.proofs.Commands.{is_of_all}
 use Rattle.array_core.proofs.Losses.{sound_since, left_out_since}
-use Rattle.array_core.proofs.HeldBy as by
 
-module _ (shelf : Shelved) (a : Array) (commands : List Command) (ready : IsReady shelf a commands) where
+module _ (shelf : Shelved) (a : Array) (held : Content) (ready : IsReady shelf a held) where
   abbrev r : Register
   r = a.register
 
-  abbrev o : IsOpen shelf r a.log.members (unflushed commands)
+  abbrev o : IsOpen shelf r a.log.members held
   o = ready.is_open
 
   -- a drive of the record is one of the array
@@ -72,60 +67,53 @@ module _ (shelf : Shelved) (a : Array) (commands : List Command) (ready : IsRead
   bearable = o.bearable
 
   pub ready_is_clean : (d : Device) → named_sound r.record d ≡ Sound → (shelf.disk d).dirty ≡ []
-  ready_is_clean (Drive d) s = o.in_force.clean d.0 (drive_holds d.0 (by.is_named (names r.record (Drive d)) s)) s
-  ready_is_clean (Nv n) s = let e = by.is_named (names r.record (Nv n)) s in o.logged.holds.clean n.0 (nvram_there n.0 e) (nvram_holds n.0 e)
+  ready_is_clean (Drive d) s = o.in_force.clean d.0 (drive_holds d.0 (is_named (names r.record (Drive d)) s)) s
+  ready_is_clean (Nv n) s = let e = is_named (names r.record (Nv n)) s in o.logged.holds.clean n.0 (nvram_there n.0 e) (nvram_holds n.0 e)
 
   module _ (stop : Stop) (may : MayStop shelf stop) where
     left_out : LeftOutAreNamedByNone (geometry_of shelf) stop.image (named_sound r.record)
     left_out d out slot boot g =
         let same = (o.alone stop slot boot may g).1 in
-        subst (λ (b : BootRecord). names b d ≡ false) (sym same) (by.is_left (names r.record d) out)
+        subst (λ (b : BootRecord). names b d ≡ false) (sym same) (is_left (names r.record d) out)
 
     logged_in_force : (n i : ℕ) (c : Command) → names r.record (nvram n) ≡ true → ShowsIn (stop.image (nvram n)) r.record.flushed i c → is_in_force c.request ≡ true
     logged_in_force n i c e shows =
         let m = nvram_holds n e in
         let lt = nvram_there n e in
         let bytes : stop.image (nvram n) ≡ (shelf.disk (nvram n)).bytes = as_read (shelf.disk (nvram n)) (stop.image (nvram n)) (o.logged.holds.clean n lt m) (may.device (nvram n)) in
-        is_of_all (λ (x : Command). is_in_force x.request ≡ true) commands ready.in_force i c
+        is_of_all (λ (x : Command). is_in_force x.request ≡ true) held.log ready.in_force i c
         ((o.logged.holds.log n lt m).between.no_other i c (subst (λ (b : List ℕ). ShowsIn b r.record.flushed i c) bytes shows))
 
     read : AreRead (geometry_of shelf) stop.image (named_sound r.record)
-    read = record {
-      unflushed = λ slot boot g. subst (λ (b : BootRecord). b.patches ≡ []) (sym (o.alone stop slot boot may g).1) (unflushed_record shelf r a.log.members (unflushed commands) o refl stop may);
-      in_force = λ slot boot g n i c e shows.
-          let same = (o.alone stop slot boot may g).1 in
-          logged_in_force n i c (subst (λ (b : BootRecord). names b (nvram n) ≡ true) same e) (subst (λ (b : BootRecord). ShowsIn (stop.image (nvram n)) b.flushed i c) same shows);
-    }
+    read slot boot g n i c e shows =
+        let same = (o.alone stop slot boot may g).1 in
+        logged_in_force n i c (subst (λ (b : BootRecord). names b (nvram n) ≡ true) same e) (subst (λ (b : BootRecord). ShowsIn (stop.image (nvram n)) b.flushed i c) same shows)
 
-    pub ready_stands : IsStanding (geometry_of shelf) stop.image (named_sound r.record) (a.plain ∷ [])
-    ready_stands = record {
-      stands = subst (λ (x : plain.Array). Stands (geometry_of shelf) stop.image (named_sound r.record) (x ∷ [])) (sym ready.plain) (o.stands stop may);
-      left_out = left_out;
-      read = read;
-    }
+    pub ready_stands : IsStanding (geometry_of shelf) stop.image (named_sound r.record) (array_of held ∷ [])
+    ready_stands = record { stands = o.stands stop may; left_out = left_out; read = read }
 
   -- so in all conditions that agree with the record
-  pub ready_stands_in : (now : Conditions) → AgreesWith r.record now → IsBearable (geometry_of shelf) now → (stop : Stop) → MayStop shelf stop → IsStanding (geometry_of shelf) stop.image now (a.plain ∷ [])
+  pub ready_stands_in : (now : Conditions) → AgreesWith r.record now → IsBearable (geometry_of shelf) now → (stop : Stop) → MayStop shelf stop → IsStanding (geometry_of shelf) stop.image now (array_of held ∷ [])
   ready_stands_in now agrees bears stop may =
       standing_in (geometry_of shelf) stop.image (named_sound r.record) now (λ d e. named_is (names r.record d) (agrees.sound d e)) (λ d e. unnamed_is (names r.record d) (agrees.left_out d e)) bears
-      (λ d. (may.device d).is_byte) (a.plain ∷ []) (ready_stands stop may)
+      (λ d. (may.device d).is_byte) (array_of held ∷ []) (ready_stands stop may)
 
   pub agreed_is_clean : (now : Conditions) → AgreesWith r.record now → (d : Device) → now d ≡ Sound → (shelf.disk d).dirty ≡ []
   agreed_is_clean now agrees d s = ready_is_clean d (named_is (names r.record d) (agrees.sound d s))
 
 -- the record's own conditions agree with it
 pub agrees_named : (boot : BootRecord) → AgreesWith boot (named_sound boot)
-agrees_named boot = record { sound = λ d e. by.is_named (names boot d) e; left_out = λ d e. by.is_left (names boot d) e }
+agrees_named boot = record { sound = λ d e. is_named (names boot d) e; left_out = λ d e. is_left (names boot d) e }
 
 -- and after a command they agree with the record then, where devices that lost a write went missing
-pub agrees_after : (old new : Shelved) (was now : Array) (commands more : List Command) → IsReady old was commands → IsReady new now more → DropsFailed old new was now → NoneJoins was now
+pub agrees_after : (old new : Shelved) (was now : Array) (held more : Content) → IsReady old was held → IsReady new now more → DropsFailed old new was now → NoneJoins was now
     → (conditions : Conditions) → AgreesWith was.register.record conditions → AgreesWith now.register.record (lost_since old new conditions)
-agrees_after old new was now commands more ready ready_now drops none conditions agrees = record { sound = λ d e. still_named d e; left_out = λ d e. still_unnamed d e }
+agrees_after old new was now held more ready ready_now drops none conditions agrees = record { sound = λ d e. still_named d e; left_out = λ d e. still_unnamed d e }
   where
     still_named : (d : Device) → lost_since old new conditions d ≡ Sound → names now.register.record d ≡ true
     still_named d e =
         let before = sound_since (has_risen (old.disk d).write_faults (new.disk d).write_faults) (conditions d) e in
-        elim (drops d (ready_holds old was commands ready d (agrees.sound d before.0))) [
+        elim (drops d (ready_holds old was held ready d (agrees.sound d before.0))) [
           | inl h ↦ ready_names new now more ready_now d h
           | inr rose ↦ absurd (risen_on_way (old.disk d).write_faults (old.disk d).write_faults (new.disk d).write_faults (new.disk d).write_faults (omega arith) rose (omega arith) before.1)
         ]
@@ -137,9 +125,4 @@ agrees_after old new was now commands more ready ready_now drops none conditions
     still_unnamed : (d : Device) → lost_since old new conditions d ≡ LeftOut → names now.register.record d ≡ false
     still_unnamed d e =
         let before = left_out_since (has_risen (old.disk d).write_faults (new.disk d).write_faults) (conditions d) e in
-        unnamed (names now.register.record d) (names was.register.record d) (named_before old was commands ready now none d) (agrees.left_out d before)
-
--- an opening makes a ready array
-pub made_ready : (shelf : Shelved) (a : Array) (commands : List Command) → IsOpen shelf a.register a.log.members (unflushed commands) → HoldsOn shelf a.log.members a.log.flushed commands → Keeps a.log commands → a.log.flushed ≡ a.register.record.flushed
-    → a.plain ≡ after_all [] commands → nv.IsSome a.log.members → AllByRecursion (λ c. is_in_force c.request ≡ true) commands → IsReady shelf a commands
-made_ready shelf a commands o held keeps flushed plain some in_force = record { is_open = o; held = held; keeps = keeps; flushed = flushed; plain = plain; some = some; in_force = in_force }
+        unnamed (names now.register.record d) (names was.register.record d) (named_before old was held ready now none d) (agrees.left_out d before)

@@ -1,4 +1,3 @@
 pub mod Losing
-pub mod Ready
 pub mod Holding
 pub mod Performing

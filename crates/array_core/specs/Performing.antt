@@ -1,13 +1,11 @@
 -- What performing a command does to the devices.
-use Rattle.std.specs.Prelude.{◌≡◌, ◌⊎◌, ℕ, ◌+◌, ◌-◌, ◌^◌, ◌<◌, ◌≤◌, Bool, List, [], ◌∷◌, ◌++◌}
-use Rattle.pur_base.specs.Commands.{Command, after_all}
+use Rattle.std.specs.Prelude.{◌≡◌, ◌⊎◌, ℕ, ◌+◌, ◌<◌, Bool, true, false, List, [], ◌∷◌}
+use Rattle.pur_base.specs.Commands.{Command}
 use Rattle.pur_base.specs.Devices.{IsBearable, nvram, Conditions}
 use Rattle.pur_base.specs.Plain as plain
-use Rattle.pur_base.specs.declared.request.Request.{Request}
 use Rattle.boot_codec.specs.declared.record.BootRecord.{BootRecord}
 use Rattle.boot_codec.specs.Record.{set_count}
 use Rattle.log_codec.specs.declared.limits.TheConstants.{LOG_SLOTS}
-use Rattle.array_model.specs.Step.{IsCreate}
 use Rattle.world.specs.Counts.{Rises}
 use Rattle.world.specs.Losing.{geometry_of}
 use Rattle.world.specs.Shelf.{Shelved, Stop}
@@ -15,16 +13,18 @@ use Rattle.boot_region.specs.Members.{DroppedFailed}
 use Rattle.nvram_log.specs.Members.{IsMember}
 use Rattle.register.specs.declared.state.Register.{Register}
 use Rattle.register.specs.Registers.{drives_of}
+use Rattle.register.specs.Standing.{Content, array_of}
 use Rattle.session_spec.specs.Entering.{IsStanding}
-use Rattle.array_core.specs.declared.array.Array.{Array}
-use Rattle.array_core.specs.declared.perform.PerformFault.{PerformFault}
-use Rattle.array_core.specs.declared.perform.PerformFault.TheVariants as fault
+use Rattle.array_state.specs.declared.array.Array.{Array}
+use Rattle.array_state.specs.Ready.{logged, is_spent}
+use Rattle.array_core.specs.declared.performing.PerformFault.{PerformFault}
+use Rattle.array_core.specs.declared.performing.PerformFault.TheVariants as fault
 use Rattle.array_core.specs.Holding.{AgreesWith}
 use Rattle.array_core.specs.Losing.{lost_by}
 
 -- the arrays without the command and with it
-abbrev pub without_or_with : List Command → Command → List plain.Array
-without_or_with commands c = after_all [] commands ∷ after_all [] (commands ++ c ∷ []) ∷ []
+abbrev pub without_or_with : Content → Command → List plain.Array
+without_or_with held c = array_of held ∷ array_of (logged held c) ∷ []
 
 -- at a stop a session can go on with these arrays, in all conditions that agree with the record, as long as what has lost writes by then is borne
 abbrev pub IsKeptAt : Shelved → BootRecord → List plain.Array → Stop → Type 0
@@ -44,24 +44,18 @@ pub record LostDrives (old new : Shelved) (r : Register) : Type 0 where
 abbrev pub IsLost : Shelved → Shelved → Array → Type 0
 IsLost old new a = LostLog old new a.log.members ⊎ LostDrives old new a.register
 
--- the generation leaves too little room
-abbrev pub IsSpent : Array → Type 0
-IsSpent a = 2 ^ 48 - 2 ^ 24 ≤ a.register.record.generation
-
 -- no slot of the log is free
 abbrev pub IsFull : Array → Type 0
 IsFull a = a.log.count ≡ LOG_SLOTS
 
 -- why there is no room for one more command
 abbrev pub IsRoomFault : Array → PerformFault → Type 0
-IsRoomFault a fault.Spent = IsSpent a
-IsRoomFault a fault.Space = (¬ (IsSpent a)) × IsFull a
-IsRoomFault a (fault.Memory m) = ⊥
+IsRoomFault a fault.Spent = is_spent a ≡ true
+IsRoomFault a fault.Space = (is_spent a ≡ false) × IsFull a
 IsRoomFault a fault.Device = ⊥
 
 -- why a command wasn't performed; but for a device fault all stays as it was
-abbrev pub IsFaultOf : Shelved → Shelved → Array → Request → Type 0 → PerformFault → Type 0
-IsFaultOf old new a r stays fault.Spent = IsSpent a × stays
-IsFaultOf old new a r stays fault.Space = (¬ (IsSpent a)) × IsFull a × stays
-IsFaultOf old new a r stays (fault.Memory m) = (¬ (IsSpent a)) × (¬ (IsFull a)) × IsCreate r × stays
-IsFaultOf old new a r stays fault.Device = (¬ (IsSpent a)) × (¬ (IsFull a)) × IsLost old new a
+abbrev pub IsFaultOf : Shelved → Shelved → Array → Type 0 → PerformFault → Type 0
+IsFaultOf old new a stays fault.Spent = (is_spent a ≡ true) × stays
+IsFaultOf old new a stays fault.Space = (is_spent a ≡ false) × IsFull a × stays
+IsFaultOf old new a stays fault.Device = (is_spent a ≡ false) × (¬ (IsFull a)) × IsLost old new a

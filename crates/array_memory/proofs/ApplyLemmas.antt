@@ -1,5 +1,5 @@
 -- What memory reads as after a request.
-use Rattle.std.proofs.Common.{◌≡◌, ℕ, ◌+◌, ◌<◌, Bool, true, false, List, [], ◌∷◌, ◌++◌, length, replicate, refl, sym, ap, ◌∙◌, arith, subst, Contains, Some, None, ◌||◌}
+use Rattle.std.proofs.Common.{◌≡◌, ◌≢◌, ℕ, ◌+◌, ◌<◌, Bool, true, false, List, [], ◌∷◌, ◌++◌, length, replicate, refl, sym, ap, ◌∙◌, arith, subst, Contains, Some, None, ◌||◌}
 use Rattle.std.specs.List.{AllZip}
 use Rattle.std.proofs.lemmas.Bool.{leb-false}
 use Rattle.std.proofs.lemmas.List.{length-replicate}
@@ -20,16 +20,16 @@ use Rattle.pyramid.proofs.ContainsLemmas.{nowhere}
 use Rattle.fact_codec.specs.declared.limits.TheConstants.{NUMBER_LIMIT}
 use Rattle.memory_spec.specs.Adding.{HasCreated, IsOwnMedium}
 use Rattle.memory_spec.specs.Laws.{IsNextVolume}
-use Rattle.memory_spec.specs.Memory.{Contents, TargetReads, ReadsAs}
+use Rattle.memory_spec.specs.Memory.{Contents, TargetReads, IsSound, ReadsAs}
 use Rattle.memory_spec.specs.Tables.{facts}
-use Rattle.memory_spec.proofs.Owning.{volumes_own}
-use Rattle.memory_spec.proofs.Putting.{putting_reads}
-use Rattle.memory_spec.proofs.Created.{creating_reads}
-use Rattle.array_memory.specs.Asked.{command_of}
+use Rattle.memory_spec.proofs.Owning.{owns, volumes_own}
+use Rattle.memory_spec.proofs.Putting.{put_sound, putting_reads}
+use Rattle.memory_spec.proofs.Created.{created_sound, creating_reads}
+use Rattle.array_memory.specs.Asked.{command_of, IsFree}
 use Rattle.array_memory.specs.Kept.{Kept, IsKept}
 use Rattle.array_memory.specs.Put.{IsPut}
 use Rattle.array_memory.specs.Runs.{targets_from}
-use Rattle.array_memory.proofs.KeptLemmas.{visible_said}
+use Rattle.array_memory.proofs.KeptLemmas.{visible_are, visible_said}
 use Rattle.array_memory.proofs.RunLemmas.{targets_long, staged_read, zeros_read, staged_only}
 
 accepted : (a : Array) (r : Request) (sectors : List (List ℕ)) → Accepts a (command_of r sectors) → after a (command_of r sectors) ≡ done a r sectors
@@ -64,6 +64,60 @@ put_reads contents was now name lba count targets more sectors array kept reads 
     (subst (λ n. IsOwnMedium (facts was.memory.tables) was.memory.next.object name h.span.volume.medium.0 lba n) (sym long)
     (volumes_own contents was.memory array name h.span.volume lba count reads (visible_said was kept h.span.volume h.span.there) h.span.named h.span.kind h.span.within))
     zip staged whole (omega (arith, left, targets_are)) h.put
+
+-- ---- soundness alone
+
+-- contents of segments of which nothing is asked
+no_contents : Contents
+no_contents id index = []
+
+put_keeps : (was now : Kept) (name : List ℕ) (lba count : ℕ) (targets : List Target) (more sectors : List (List ℕ))
+    → IsKept was → IsSound was.memory → IsPut was now name lba count targets more → length sectors ≡ count → length targets ≡ count
+    → AllZip (TargetReads no_contents (was.memory.staged ++ more)) targets sectors
+    → ((at : Location) → Contains targets (Stored at) → at.segment.0 ≡ 0)
+    → ((sector : List ℕ) → Contains more sector → length sector ≡ SECTOR_BYTES)
+    → was.memory.next.sequence + count < NUMBER_LIMIT → IsSound now.memory
+put_keeps was now name lba count targets more sectors kept sound h long targets_are zip staged whole left =
+    put_sound no_contents was.memory now.memory name h.span.volume.medium.0 lba targets sectors more sound
+    (subst (λ n. IsOwnMedium (facts was.memory.tables) was.memory.next.object name h.span.volume.medium.0 lba n) (sym long)
+    (owns (facts was.memory.tables) was.memory.next.object name h.span.volume lba count sound.objects sound.mediums (visible_said was kept h.span.volume h.span.there) h.span.named h.span.kind h.span.within))
+    zip staged whole (omega (arith, left, targets_are)) h.put
+
+module _ (was now : Kept) (kept : IsKept was) (sound : IsSound was.memory) where
+  pub write_keeps : (name : List ℕ) (lba : ℕ) (sectors : List (List ℕ))
+      → IsPut was now name lba (length sectors) (targets_from (Some (length was.memory.staged)) 0 (length sectors)) sectors
+      → ((sector : List ℕ) → Contains sectors sector → length sector ≡ SECTOR_BYTES) → was.memory.next.sequence + length sectors < NUMBER_LIMIT
+      → IsSound now.memory
+  write_keeps name lba sectors put whole left =
+      put_keeps was now name lba (length sectors) (targets_from (Some (length was.memory.staged)) 0 (length sectors)) sectors sectors kept sound put refl
+      (targets_long (Some (length was.memory.staged)) 0 (length sectors)) (staged_read no_contents was.memory.staged sectors (length was.memory.staged) 0 (omega arith))
+      (staged_only (Some (length was.memory.staged)) 0 (length sectors)) whole left
+
+  pub fill_keeps : (name : List ℕ) (lba count byte : ℕ)
+      → IsPut was now name lba count (targets_from (Some (length was.memory.staged)) 0 count) (replicate count (filled byte))
+      → was.memory.next.sequence + count < NUMBER_LIMIT → IsSound now.memory
+  fill_keeps name lba count byte put left =
+      let full : List (List ℕ) = replicate count (filled byte) in
+      let long : length full ≡ count = length-replicate count (filled byte) in
+      let zip = staged_read no_contents was.memory.staged full (length was.memory.staged) 0 (omega arith) in
+      put_keeps was now name lba count (targets_from (Some (length was.memory.staged)) 0 count) full full kept sound put long
+      (targets_long (Some (length was.memory.staged)) 0 count) (subst (λ n. AllZip (TargetReads no_contents (was.memory.staged ++ full)) (targets_from (Some (length was.memory.staged)) 0 n) full) long zip)
+      (staged_only (Some (length was.memory.staged)) 0 count) (all_whole count byte) left
+
+  pub zero_keeps : (name : List ℕ) (lba count : ℕ)
+      → IsPut was now name lba count (targets_from None 0 count) []
+      → was.memory.next.sequence + count < NUMBER_LIMIT → IsSound now.memory
+  zero_keeps name lba count put left =
+      put_keeps was now name lba count (targets_from None 0 count) [] (replicate count (filled 0)) kept sound put (length-replicate count (filled 0))
+      (targets_long None 0 count) (zeros_read no_contents (was.memory.staged ++ []) 0 count) (staged_only None 0 count) (λ s c. absurd (nowhere s c)) left
+
+  pub create_keeps : (name : List ℕ) (size : ℕ) (x : ObjectFact) → IsNextVolume was.memory x → x.name ≡ name → HasCreated was.memory now.memory x → IsFree was.objects name size → IsSound now.memory
+  create_keeps name size x next named created free =
+      created_sound was.memory now.memory x sound next
+      (λ y c same. All-contains (λ (z : ObjectFact). z.name ≢ name) was.objects y free.fresh (subst (λ l. Contains l y) (sym (visible_are was kept)) c) (same ∙ named))
+      (subst (λ (l : List ObjectFact). length l < OBJECTS) (visible_are was kept) free.few) created
+
+-- ---- what is read
 
 module _ (contents : Contents) (was now : Kept) (array : Array) (kept : IsKept was) (reads : ReadsAs contents was.memory array) where
   pub write_reads : (name : List ℕ) (lba count : ℕ) (sectors : List (List ℕ)) → length sectors ≡ count

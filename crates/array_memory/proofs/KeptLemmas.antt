@@ -18,6 +18,7 @@ use Rattle.pyramid.specs.Layers.{Layers, facts_in, AreDistinct, AreBelow}
 use Rattle.pyramid.proofs.LayerLemmas.{all_contained, all_below}
 use Rattle.elision.specs.Ranges.{ElidedRanges}
 use Rattle.object_table.specs.Objects.{Objects, AreVisible, number}
+use Rattle.object_table.proofs.ObjectLemmas.{by_ids}
 use Rattle.segment_table.specs.Segments.{Segments}
 use Rattle.array_spec.specs.Sound.{next_id}
 use Rattle.memory_spec.specs.Adding.{address_facts}
@@ -41,6 +42,12 @@ ids_of k h x c = of_each (λ (f : ObjectFact). (f.object.0 < k.memory.next.objec
 -- it is one of the objects that the facts say
 pub visible_said : (k : Kept) → IsKept k → (x : ObjectFact) → Contains k.objects x → Contains (objects (facts k.memory.tables) k.memory.next.object) x
 visible_said k h x c = in_objects (facts k.memory.tables) k.memory.next.object x.object.0 x (h.objects.said x c) (ids_of k h x (visible_fact k h x c)).0
+
+-- the visible objects are those that the facts say
+pub visible_are : (k : Kept) → IsKept k → k.objects ≡ objects (facts k.memory.tables) k.memory.next.object
+visible_are k h =
+    by_ids (facts k.memory.tables).objects (is_elided (facts k.memory.tables).elisions table.Object) k.memory.next.object k.objects (omega (arith, h.next.object.1))
+    (all_contained (λ (f : ObjectFact). f.object.0 < k.memory.next.object) (facts k.memory.tables).objects (λ f c. (ids_of k h f c).0)) h.objects
 
 pub objects_newer : (k : Kept) → IsKept k → All (λ (f : ObjectFact). f.seq.0 < k.memory.next.sequence) (facts k.memory.tables).objects
 objects_newer k h = all_contained (λ (f : ObjectFact). f.seq.0 < k.memory.next.sequence) (facts k.memory.tables).objects

@@ -6,3 +6,7 @@ pub mod ResolveLemmas
 pub mod Seen
 pub mod SoundLemmas
 pub mod AllowedLemmas
+pub mod SegmentLemmas
+pub mod LoadedLemmas
+pub mod PlanLemmas
+pub mod FinishLemmas

@@ -8,7 +8,7 @@ use Rattle.memory_spec.specs.Tables.{facts}
 use Rattle.array_memory.specs.Kept.{Kept, with_rooms}
 
 -- the memory of these facts, of which none is flushed
-abbrev plain : Facts → List (List ℕ) → NextNumbers → Memory
+abbrev pub plain : Facts → List (List ℕ) → NextNumbers → Memory
 plain f staged next = record {
   tables = record {
     objects = record { patches = []; unflushed = f.objects; room = 0; patch_room = 0 };

@@ -3,12 +3,13 @@ use Rattle.std.specs.Prelude.{◌≡◌, ◌≢◌, ℕ, ◌+◌, ◌<◌, ◌�
 use Rattle.pur_base.specs.Commands.{Command}
 use Rattle.pur_base.specs.Names.{is_name}
 use Rattle.pur_base.specs.Sectors.{filled}
-use Rattle.pur_base.specs.declared.limits.TheConstants.{OBJECT_SECTORS, REQUEST_SECTORS}
+use Rattle.pur_base.specs.declared.limits.TheConstants.{OBJECTS, OBJECT_SECTORS, REQUEST_SECTORS}
 use Rattle.pur_base.specs.declared.request.Request.{Request}
 use Rattle.pur_base.specs.declared.request.Request.TheVariants as request
 use Rattle.pur_base.specs.declared.facts.ObjectKind.TheVariants.{Volume}
 use Rattle.pur_base.specs.declared.facts.ObjectFact.{ObjectFact}
 use Rattle.boot_codec.specs.declared.record.NextNumbers.{NextNumbers}
+use Rattle.memory_spec.specs.Numbers.{put}
 use Rattle.fact_codec.specs.declared.limits.TheConstants.{NUMBER_LIMIT}
 use Rattle.array_memory.specs.declared.limits.TheConstants.{STAGED_SECTORS}
 use Rattle.array_memory.specs.Kept.{Kept}
@@ -28,12 +29,13 @@ pub record HasSpan (objects : List ObjectFact) (name : List ℕ) (lba count : �
   pub within : lba + count ≤ volume.sectors
   pub few : count ≤ REQUEST_SECTORS
 
--- a volume of that name and size may be created
+-- a volume of that name and size may be created, and isn't one too many
 pub record IsFree (objects : List ObjectFact) (name : List ℕ) (size : ℕ) : Type 0 where
   pub lawful : is_name name ≡ true
   pub some : 1 ≤ size
   pub most : size ≤ OBJECT_SECTORS
   pub fresh : All (λ x. x.name ≢ name) objects
+  pub few : length objects < OBJECTS
 
 -- the visible objects allow the request
 abbrev pub IsAllowed : List ObjectFact → Request → Type 0
@@ -56,13 +58,6 @@ abbrev pub added : Request → ℕ
 added (request.Create n size) = 1
 added _ = 0
 
--- how many addresses it puts
-abbrev pub put : Request → ℕ
-put (request.Write n lba count) = count
-put (request.Fill n lba count byte) = count
-put (request.Zero n lba count) = count
-put _ = 0
-
 -- the sectors that it stages
 abbrev pub staged_by : Request → List (List ℕ) → List (List ℕ)
 staged_by (request.Write n lba count) sectors = sectors
@@ -84,11 +79,6 @@ pub record IsPrepared (k : Kept) (r : Request) : Type 0 where
   pub indices : length k.memory.staged + staged_count r ≤ STAGED_SECTORS
 
 -- ---- what it leaves
-
--- the numbers that are given next
-abbrev pub next_after : NextNumbers → Request → NextNumbers
-next_after next (request.Create n size) = record next { object = next.object + 1; medium = next.medium + 1; sequence = next.sequence + 1 }
-next_after next r = record next { sequence = next.sequence + put r }
 
 -- no more room is taken than for that
 pub record HasRoomLeft (was now : Kept) (r : Request) : Type 0 where

@@ -3,3 +3,5 @@ pub mod Runs
 pub mod Asked
 pub mod Put
 pub mod Lawful
+pub mod Loaded
+pub mod Plan

@@ -6,8 +6,9 @@ ghost use Rattle.pur_base.specs.Sectors.{filled};
 ghost use Rattle.pyramid.specs.Layers.{facts_in};
 ghost use Rattle.memory_spec.specs.Adding.{address_facts, HasCreated};
 ghost use Rattle.memory_spec.specs.Laws.{IsNextVolume};
-ghost use Rattle.memory_spec.specs.Memory.{Contents, ReadsAs};
-ghost use Rattle.array_memory.specs.Asked.{command_of, next_after, staged_by, AreLeft, HasRoomLeft, HasSpan, IsAllowed, IsFree, IsPrepared};
+ghost use Rattle.memory_spec.specs.Memory.{Contents, IsSound, ReadsAs};
+ghost use Rattle.memory_spec.specs.Numbers.{next_after};
+ghost use Rattle.array_memory.specs.Asked.{command_of, staged_by, AreLeft, HasRoomLeft, HasSpan, IsAllowed, IsFree, IsPrepared};
 ghost use Rattle.array_memory.specs.Kept.{HasSamePatches};
 ghost use Rattle.array_memory.specs.Put.{HasRoomFor, IsPut};
 ghost use Rattle.array_memory.specs.Runs.{targets_from, AreIndices};
@@ -163,6 +164,7 @@ impl Memory {
         requires sectors { length sectors.now ≡ data_count request.now }
         ensures reads { (contents : Contents) (array : Array) → ReadsAs contents self.old.memory array → Accepts array (command_of request.now sectors.now)
             → ReadsAs contents self.new.memory (after array (command_of request.now sectors.now)) }
+        ensures sound { IsSound self.old.memory → IsSound self.new.memory }
         ensures patches { HasSamePatches self.old.memory.tables self.new.memory.tables }
         ensures staged { self.new.memory.staged ≡ self.old.memory.staged ++ staged_by request.now sectors.now }
         ensures next { self.new.memory.next ≡ next_after self.old.memory.next request.now }

@@ -7,8 +7,10 @@ ghost use Rattle.array_memory.specs.Asked.{command_of, IsAllowed};
 ghost use Rattle.array_memory.specs.Kept.{Kept, IsKept};
 ghost use Rattle.array_memory.specs.Lawful.{IsLawful};
 
-/// What the plain array accepts is allowed in the memory that reads as it.
+/// What the plain array accepts is allowed in the memory that reads as it, and what is allowed there the array accepts.
 pub fn laws_of_requests()
-    ensures { (contents : Contents) (k : Kept) (array : Array) (r : Request) (sectors : List (List ℕ)) → IsKept k → ReadsAs contents k.memory array
+    ensures allowed { (contents : Contents) (k : Kept) (array : Array) (r : Request) (sectors : List (List ℕ)) → IsKept k → ReadsAs contents k.memory array
         → IsLawful r → Accepts array (command_of r sectors) → IsAllowed k.objects r }
+    ensures accepted { (contents : Contents) (k : Kept) (array : Array) (r : Request) (sectors : List (List ℕ)) → IsKept k → ReadsAs contents k.memory array
+        → IsAllowed k.objects r → Accepts array (command_of r sectors) }
 {}

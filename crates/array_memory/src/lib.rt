@@ -3,13 +3,19 @@
 #![tactic(auto)]
 
 mod apply;
+mod finishing;
 mod laws;
 mod limits;
+mod loading;
 mod memory;
+mod plan;
+mod planning;
 mod prepare;
 mod resolve;
 mod runs;
+mod segments;
 
 pub use laws::laws_of_requests;
 pub use limits::{STAGED_SECTORS, UNFLUSHED_OBJECTS};
 pub use memory::Memory;
+pub use plan::{Counts, Placing, Plan};

@@ -1,4 +1,6 @@
 ghost use Rattle.std.specs.Prelude.{◌≡◌, ◌≢◌, ◌≤◌, ◌<◌, [], IfOk, IfSome, IfNone, All, Contains, Some, length, slice_get};
+ghost use Rattle.pur_base.specs.Facts.{object_key, medium_key, address_key, segment_key, elision_key};
+ghost use Rattle.pyramid.specs.Layers.{IsLayered};
 ghost use Rattle.object_table.specs.Objects.{AreNamesDistinct};
 ghost use Rattle.memory_spec.specs.Memory.{Contents, ReadsAs};
 ghost use Rattle.array_memory.specs.Kept.{IsKept};
@@ -89,6 +91,21 @@ impl Memory {
         ensures { IsKept self.now }
     {
         let _staged = &self.staged;
+    }
+
+    /// What holds of the layers of its tables.
+    pub fn layered(&self)
+        ensures objects { IsLayered object_key (λ f. f.seq.0) self.now.memory.tables.objects.patches self.now.memory.tables.objects.unflushed }
+        ensures mediums { IsLayered medium_key (λ f. f.seq.0) self.now.memory.tables.mediums.patches self.now.memory.tables.mediums.unflushed }
+        ensures addresses { IsLayered address_key (λ f. f.seq.0) self.now.memory.tables.addresses.patches self.now.memory.tables.addresses.unflushed }
+        ensures segments { IsLayered segment_key (λ f. f.seq.0) self.now.memory.tables.segments.patches self.now.memory.tables.segments.unflushed }
+        ensures elisions { IsLayered elision_key (λ f. f.seq.0) self.now.memory.tables.elisions.patches self.now.memory.tables.elisions.unflushed }
+    {
+        self.objects.facts().layers();
+        self.mediums.facts.layers();
+        self.addresses.facts.layers();
+        self.segments.facts().layers();
+        self.elisions.layers();
     }
 
     /// How many objects are visible, each of a name of its own.

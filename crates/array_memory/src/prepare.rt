@@ -1,7 +1,8 @@
 ghost use Rattle.std.specs.Prelude.{◌≡◌, OnOk};
 ghost use Rattle.pur_base.specs.Plain.{Array};
 ghost use Rattle.memory_spec.specs.Memory.{Contents, ReadsAs};
-ghost use Rattle.array_memory.specs.Asked.{added, put, staged_count, IsPrepared};
+ghost use Rattle.memory_spec.specs.Numbers.{put};
+ghost use Rattle.array_memory.specs.Asked.{added, staged_count, IsPrepared};
 ghost use Rattle.array_memory.specs.Kept.{with_rooms, HasNoLessRoom};
 
 use crate::limits::STAGED_SECTORS;

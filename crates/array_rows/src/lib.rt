@@ -1,4 +1,4 @@
-//! Tests of sessions over a world in memory that are stopped at each call or lose devices, and of what the next one reads.
+//! Tests of sessions over a world in memory that are stopped at each call or lose devices, that find tables on the drives, and of what the next one reads.
 #![tactic(auto)]
 
 #[cfg(test)]
@@ -6,6 +6,10 @@ mod losing;
 #[cfg(test)]
 mod opening;
 #[cfg(test)]
+mod spent;
+#[cfg(test)]
 mod stage;
 #[cfg(test)]
 mod stopping;
+#[cfg(test)]
+mod tables;

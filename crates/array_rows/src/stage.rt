@@ -94,7 +94,8 @@ fn last_write(world: &MemWorld) -> Option<(Device, usize, usize)> {
     }
 }
 
-fn overwrite_drive(
+/// Writes these sectors into the boot units of a drive, and syncs them.
+pub fn overwrite_drive(
     world: &mut MemWorld,
     drive: DriveId,
     at: usize,

@@ -1,25 +1,33 @@
--- What a session does to the arrays, put together: its opening, and what was served then.
-use Rattle.std.proofs.Common.{◌≡◌, ◌⊎◌, inl, inr, ⊎_elim, ℕ, ◌≤◌, List, refl, sym, ◌∙◌, ap, subst, arith, false}
-use Rattle.std.specs.Prelude.{Contains, length, drop}
+-- What a session does, put together: the opening, and what was served after it.
+use Rattle.std.proofs.Common.{◌≡◌, ◌⊎◌, inl, inr, ⊎_elim, ℕ, ◌≤◌, List, [], length, drop, refl, sym, ap, ◌∙◌, subst, arith, Bool, true, false}
+use Rattle.std.specs.Prelude.{Contains}
 use Rattle.pur_base.specs.declared.reply.Status.{Status}
-use Rattle.pur_base.specs.Devices.{Geometry, Conditions, IsBearable}
-use Rattle.pur_base.specs.Plain.{Array}
-use Rattle.pur_base.specs.Commands.{Command}
+use Rattle.pur_base.specs.Commands.{after_all}
+use Rattle.pur_base.specs.Devices.{Conditions, Geometry}
+use Rattle.pur_base.specs.Plain as plain
 use Rattle.pur_base.specs.Grammar.{requests}
+use Rattle.array_spec.specs.Meaning.{HoldsBase, members_view}
+use Rattle.array_spec.specs.Stored.{all_facts}
 use Rattle.world.specs.Losing.{geometry_of}
 use Rattle.world.specs.Shelf.{Shelved, Stop, IsShelf, MayStop, Continues, LeavesOnly, IsCountedBy, IsQuietBy}
+use Rattle.register.specs.Registers.{IsRegisterOf}
+use Rattle.register.specs.Standing.{array_of}
+use Rattle.memory_spec.specs.Memory.{Contents, FactsRead}
+use Rattle.memory_spec.specs.Tables.{facts, patches}
+use Rattle.loaded_spec.proofs.Sound.{sound_tables_read}
 use Rattle.session_spec.specs.Entering.{Enters, IsStanding, read_now, failed_since}
 use Rattle.session_spec.specs.Ends.{IsOutput, is_source, is_sink}
-use Rattle.session_spec.specs.Headline.{Unopened, Served, Serving, Outlasts, Replied, StandsAt}
-use Rattle.array_core.specs.Ready.{IsReady}
+use Rattle.session_spec.specs.Faring.{Point}
+use Rattle.session_spec.specs.Headline.{Unopened, Served, Serving, Outlasts, Opening, Keeps, IsInOpening, IsOpenedBearably, Replied, StandsOn}
+use Rattle.array_state.specs.declared.array.Array.{Array}
+use Rattle.array_state.specs.Drives.{SegmentsHold}
 use Rattle.array_core.proofs.Losses.{bearable_or_not}
-use Rattle.array_core.proofs.ReadyStands.{made_ready}
-use Rattle.takeover.specs.declared.recovering.Recovered.{Recovered}
 use Rattle.takeover.specs.declared.faults.OpenFault.{OpenFault}
 use Rattle.takeover.specs.declared.faults.OpenFault.TheVariants as open_fault
-use Rattle.takeover.specs.Opened.{IsOpened, IsShut, status_of}
-use Rattle.array_server.specs.Sessions.{IsServedFrom}
-use Rattle.array_server.proofs.Begun.{array_of, engine_of, first_of}
+use Rattle.takeover.specs.Opened.{IsOpened, IsShut, IsRecovered, status_of}
+use Rattle.array_engine.specs.declared.buffers.ReadBuffers.{ReadBuffers}
+use Rattle.array_session.specs.Sessions.{BeginsAt, IsHeldAt, IsServedFrom}
+use Rattle.array_server.proofs.Begun.{NamesHolders, begins, engine_of, first_of}
 
 -- ---- not opened
 
@@ -29,7 +37,8 @@ no_stream (open_fault.Memory m) = (refl, refl)
 no_stream open_fault.NoArray = (refl, refl)
 no_stream (open_fault.BadRecord b) = (refl, refl)
 no_stream (open_fault.TooFew drives) = (refl, refl)
-no_stream open_fault.HasPatches = (refl, refl)
+no_stream (open_fault.BadPatch t) = (refl, refl)
+no_stream (open_fault.Unsound t) = (refl, refl)
 no_stream open_fault.BothLost = (refl, refl)
 no_stream open_fault.Unserved = (refl, refl)
 no_stream open_fault.Spent = (refl, refl)
@@ -68,87 +77,152 @@ module _ (old new : Shelved) (e : OpenFault) (input : List ℕ) (is : IsShelf ne
 
 -- ---- opened and served
 
--- what is known of the opening, which ends at that moment, and of what was served then
-abbrev ServesAfter : Shelved → Shelved → Shelved → Recovered → List ℕ → List ℕ → Status → Type 0
-ServesAfter old start new r input left ended = IsOpened old start r → old.moment ≤ start.moment → LeavesOnly old start (IsCountedBy old)
-    → IsServedFrom start new (engine_of r) input left ended (first_of start r) → Served old new input left ended
+-- what is served from any point at which the engine stands then
+abbrev ServesFrom : Shelved → Shelved → Array → ReadBuffers → List ℕ → List ℕ → Status → Type 0
+ServesFrom start new a b input left ended = (told : Bool) (first : Point) → BeginsAt told start (engine_of a b) first → IsServedFrom told start new (engine_of a b) input left ended first
 
-module _ (old mid new : Shelved) (r : Recovered) (input left : List ℕ) (ended : Status) where
+-- the tables that were found read as some array, whatever segments hold
+abbrev pub ReadsSome : (old start : Shelved) (a : Array) → IsOpened old start a → Type 0
+ReadsSome old start a o = (contents : Contents) → (base : plain.Array) × FactsRead contents [] (all_facts (patches a.memory.memory.tables)) o.found.effective.boot.next.object base
+
+pub reads_some : (old start : Shelved) (a : Array) (o : IsOpened old start a) → ReadsSome old start a o
+reads_some old start a o contents = sound_tables_read (geometry_of old) o.found.effective.boot (patches a.memory.memory.tables) contents o.tables_sound o.lawful
+
+-- what is known of the opening, which ends at that moment, and of what was served then
+abbrev ServesAfter : Shelved → Shelved → Shelved → Array → ReadBuffers → List ℕ → List ℕ → Status → Type 0
+ServesAfter old start new a b input left ended = (o : IsOpened old start a) → ReadsSome old start a o → IsRegisterOf (geometry_of start) a.register → NamesHolders a → old.moment ≤ start.moment → LeavesOnly old start (IsCountedBy old)
+    → ServesFrom start new a b input left ended → Served old new input left ended
+
+module _ (old mid new : Shelved) (a : Array) (b : ReadBuffers) (input left : List ℕ) (ended : Status) where
   -- it has the size of the shelf at the entry
   abbrev start : Shelved
   start = record mid { drives = old.drives; units = old.units }
 
-  module _ (o : IsOpened old start r) (later : old.moment ≤ start.moment) (moments : LeavesOnly old start (IsCountedBy old)) (s : IsServedFrom start new (engine_of r) input left ended (first_of start r)) where
-    abbrev Leaving : Stop → Type 0
-    Leaving = Replied (geometry_of old) (new.left_since start.moment) (first_of start r) (requests input)
+  module _ (o : IsOpened old start a) (some : ReadsSome old start a o) (is_of : IsRegisterOf (geometry_of start) a.register) (named : NamesHolders a) (later : old.moment ≤ start.moment) (moments : LeavesOnly old start (IsCountedBy old))
+      (all : ServesFrom start new a b input left ended) where
+    abbrev opening : Opening old
+    opening = record { found = o.found; moment = start.moment; stop = read_now start }
 
     quiet_by : (stop : Stop) → start.left_since old.moment stop → IsQuietBy old stop
     quiet_by stop was = (moments.each stop was).0
 
-    serving : Serving old new input left ended
-    serving = record {
-      found = o.found;
-      moment = start.moment;
-      first = first_of start r;
-      opens = record {
-        holds = o.holds;
-        taken_over = o.taken_over;
-        later = o.later;
-        few = o.few;
-        reached = s.reached;
-        quiet = record { output = moments.quiet.output; taken = moments.quiet.taken };
-        awake = refl;
-      };
-      stops = λ stop since. ⊎_elim (λ was. inl (quiet_by stop was)) (λ at. inr at) (s.replied.before old.moment stop later since);
-      replied = s.replied.each;
-      replies = s.replies;
-      last = s.last;
-      run = s.run;
-      output = output;
-      ends = s.ends;
-    }
-      where
-        output : IsOutput ended (geometry_of old) s.last (read_now new) (drop (length s.replies) (requests input)) old.output new.output s.replies
-        output = subst (λ (l : List ℕ). IsOutput ended (geometry_of old) s.last (read_now new) (drop (length s.replies) (requests input)) l new.output s.replies) moments.quiet.output s.output
+    -- By contents and a base that the tables read as.
+    module _ (told : Bool) (contents : Contents) (base : plain.Array) (reads : FactsRead contents [] (all_facts (patches a.memory.memory.tables)) o.found.effective.boot.next.object base)
+        (known : told ≡ true → HoldsBase (geometry_of old) (members_view o.found.view o.found.effective) o.found.effective.boot base) (hold : told ≡ true → SegmentsHold contents start a.register (facts a.memory.memory.tables)) where
+      abbrev first : Point
+      first = first_of start a (after_all base o.log)
 
-    module _ (missing : Conditions) (arrays : List Array) (enters : Enters old missing arrays) where
-      abbrev Here : Stop → Type 0
-      Here stop = (here : IsQuietBy old stop ⊎ Leaving stop) × StandsAt old (new.left_since start.moment) o.found (first_of start r) (requests input) missing arrays stop here
+      s : IsServedFrom told start new (engine_of a b) input left ended first
+      s = all told first (begins (geometry_of start) a is_of named told start b (after_all base o.log) contents (o.reads contents base reads).1 hold)
 
-      in_opening : (stop : Stop) → start.left_since old.moment stop → Here stop
-      in_opening stop was = (inl (quiet_by stop was), ((o.each missing arrays enters).each stop was).1)
+      output : IsOutput ended told (geometry_of old) s.last (read_now new) (drop (length s.replies) (requests input)) old.output new.output s.replies
+      output = subst (λ (l : List ℕ). IsOutput ended told (geometry_of old) s.last (read_now new) (drop (length s.replies) (requests input)) l new.output s.replies) moments.quiet.output s.output
 
-      recovered : IsBearable (geometry_of old) (failed_since old start missing) → (commands : List Command) × IsReady start (array_of r) commands × Contains arrays r.plain
-      recovered bears =
-          let it = o.recovered missing arrays enters bears in
-          (it.commands, made_ready start (array_of r) it.commands it.opened it.held it.keeps it.flushed it.plain it.some it.in_force, it.one_of)
-
-      each : (stop : Stop) → new.left_since old.moment stop → Here stop
-      each stop since = elim (bearable_or_not (geometry_of old) (failed_since old start missing)) [
-        | inl bears ↦
-            let ready = recovered bears in
-            ⊎_elim (λ was. in_opening stop was) (λ on. (inr on.0, λ borne. on.1)) ((s.stands ready.0 ready.1).before old.moment stop later since)
-        | inr none ↦ ⊎_elim (λ was. in_opening stop was) (λ at. (inr at, λ borne. absurd (none borne))) (s.replied.before old.moment stop later since)
-      ]
-
-      outlasts : Outlasts old new input left ended serving missing arrays
-      unfolding serving
-      outlasts = record {
-        each = each;
-        keeps = λ bears.
-            let ready = recovered bears in
-            record {
-              one_of = ready.2;
-              serving = (s.stands ready.0 ready.1).each;
-              at_end = s.at_end ready.0 ready.1;
-            };
+      abbrev serving : Serving told old new input left ended opening
+      serving = record {
+        first = first;
+        opens = record {
+          holds = record {
+            not_spent = o.not_spent;
+            patches = patches a.memory.memory.tables;
+            no_other = o.no_other;
+            sound = o.tables_sound;
+            contents = contents;
+            base = base;
+            reads = reads;
+            known = known;
+            log = o.log;
+            log_stands = (o.reads contents base reads).0;
+            in_force = o.in_force;
+            result = refl;
+            count = o.count;
+            next = o.next;
+            boot_is = o.boot_is;
+            later = o.later;
+            few = o.few;
+          };
+          taken_over = o.taken_over;
+          reached = s.reached;
+          quiet = record { output = moments.quiet.output; taken = moments.quiet.taken };
+          at = refl;
+          awake = refl;
+        };
+        replied = s.replied.each;
+        replies = s.replies;
+        last = s.last;
+        run = s.run;
+        output = output;
+        ends = s.ends;
       }
 
-    served_here : Served old new input left ended
-    served_here = record { serving = serving; outlasts = outlasts }
+    -- whatever segments hold
+    abbrev blank : Contents
+    blank = λ id index. []
 
-  pub served : Continues old mid → ServesAfter old mid new r input left ended
-  served on = subst (λ (m : Shelved). ServesAfter old m new r input left ended) sizes (λ o later moments s. served_here o later moments s)
+    not_told : {P : Type 0} → false ≡ true → P
+    not_told e = absurd (cc e)
+
+    abbrev untold : Serving false old new input left ended opening
+    untold = serving false blank (some blank).0 (some blank).1 not_told not_told
+
+    abbrev untold_from : IsServedFrom false start new (engine_of a b) input left ended (first_of start a (after_all (some blank).0 o.log))
+    untold_from = s false blank (some blank).0 (some blank).1 not_told not_told
+
+    module _ (missing : Conditions) (arrays : List plain.Array) (enters : Enters old missing arrays) where
+      in_opening : (stop : Stop) → start.left_since old.moment stop → IsInOpening old opening missing arrays stop
+      in_opening stop was = record { quiet = quiet_by stop was; stands = ((o.each missing arrays enters).each stop was).1 }
+
+      -- as what the segments hold, where no more failed than is borne
+      module _ (it : IsRecovered old start o.found a o.log (failed_since old start missing) arrays) where
+        abbrev told_from : IsServedFrom true start new (engine_of a b) input left ended (first_of start a (after_all it.held.base o.log))
+        told_from = s true it.base_held.contents it.held.base it.base_held.reads (λ t. it.base_held.holds) (λ t. it.base_held.hold)
+
+        abbrev told_serving : Serving true old new input left ended opening
+        told_serving = serving true it.base_held.contents it.held.base it.base_held.reads (λ t. it.base_held.holds) (λ t. it.base_held.hold)
+
+        is_held : after_all it.held.base o.log ≡ array_of it.held
+        is_held = ap (λ l. after_all it.held.base l) (sym it.log_is)
+
+        held_at : IsHeldAt start (engine_of a b) (first_of start a (after_all it.held.base o.log))
+        held_at = (it.held, it.ready, is_held)
+
+        one_of : Contains arrays (after_all it.held.base o.log)
+        one_of = subst (λ (x : plain.Array). Contains arrays x) (sym is_held) it.one_of
+
+        abbrev keeps : Keeps old new input left ended opening missing arrays
+        keeps = record { s = told_serving; one_of = one_of; serving = (told_from.stands held_at).each; at_end = told_from.at_end held_at }
+
+      -- whether what failed is borne was decided
+      abbrev Decided : Type 0
+      Decided = IsOpenedBearably old opening missing ⊎ (IsOpenedBearably old opening missing → ⊥)
+
+      abbrev keeps_by : Decided → IsOpenedBearably old opening missing → Keeps old new input left ended opening missing arrays
+      keeps_by (inl bears) borne = keeps (o.recovered missing arrays enters bears)
+      keeps_by (inr none) borne = absurd (none borne)
+
+      each_by : (d : Decided) (stop : Stop) → new.left_since old.moment stop → IsInOpening old opening missing arrays stop
+          ⊎ ((borne : IsOpenedBearably old opening missing) → (at : Replied true (geometry_of old) (new.left_since opening.moment) (keeps_by d borne).s.first (requests input) stop)
+          × StandsOn (geometry_of old) (new.left_since opening.moment) (keeps_by d borne).s.first (requests input) stop at)
+      each_by (inl bears) stop since = ⊎_elim (λ was. inl (in_opening stop was)) (λ on. inr (λ borne. on))
+          (((told_from (o.recovered missing arrays enters bears)).stands (held_at (o.recovered missing arrays enters bears))).before old.moment stop later since)
+      each_by (inr none) stop since = ⊎_elim (λ was. inl (in_opening stop was)) (λ at. inr (λ borne. absurd (none borne))) (untold_from.replied.before old.moment stop later since)
+
+      outlasts : Outlasts old new input left ended opening missing arrays
+      outlasts =
+          let d = bearable_or_not (geometry_of old) (failed_since old start missing) in
+          record { keeps = keeps_by d; each = each_by d }
+
+    served_here : Served old new input left ended
+    unfolding s output
+    served_here = record {
+      opening = opening;
+      serving = untold;
+      stops = λ stop since. ⊎_elim (λ was. inl (quiet_by stop was)) (λ at. inr at) (untold_from.replied.before old.moment stop later since);
+      outlasts = outlasts;
+    }
+
+  pub served : Continues old mid → ServesAfter old mid new a b input left ended
+  served on = subst (λ (m : Shelved). ServesAfter old m new a b input left ended) sizes (λ o some is_of named later moments all. served_here o some is_of named later moments all)
     where
       sizes : start ≡ mid
       sizes = λ k. record mid { drives = sym on.drives k; units = sym on.units k }

@@ -1,6 +1,2 @@
-pub mod Answering
-pub mod Whole
 pub mod Made
-pub mod Engines
-pub mod Replying
-pub mod Sessions
+pub mod Serving

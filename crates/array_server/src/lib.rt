@@ -2,8 +2,6 @@
 //! The output is the text of one reply an item of the input, each the model's own or a refusal with its cause, and what is acknowledged lasts.
 #![tactic(auto)]
 
-mod answers;
-mod engine;
 mod making;
 mod session;
 

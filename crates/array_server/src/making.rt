@@ -7,7 +7,7 @@ ghost use Rattle.session_spec.specs.Ends.{RisesIf, is_sink};
 ghost use Rattle.session_spec.specs.Making.{AreClean, IsMade, Makes};
 ghost use Rattle.array_server.specs.Made.{IsCountedEnd, IsJudgedEnd, IsMadeEnd, IsMadeOutput, IsInitStatus};
 
-use crate::answers::give;
+use array_engine::give;
 use pur_base::{Reply, Status};
 use request_codec::ReplyWriter;
 use shelf_init::InitFault;

@@ -5,7 +5,9 @@ use Rattle.std.proofs.lemmas.Option.{slice_get_within, slice_get-get_or}
 use Rattle.std.proofs.lemmas.List.Elements.{Contains-append_left, Contains-append_right, Contains-append_cases}
 use Rattle.std.proofs.lemmas.List.Folds.{list_any_at}
 use Rattle.std.proofs.lemmas.Grind.{flat_map-append}
+use Rattle.pur_base.specs.Visible.{is_elided}
 use Rattle.pur_base.specs.declared.limits.TheConstants.{SEGMENT_SECTORS}
+use Rattle.pur_base.specs.declared.request.Table.{Table}
 use Rattle.pur_base.specs.declared.place.Location.{Location}
 use Rattle.pur_base.specs.declared.place.Place.{Place}
 use Rattle.pur_base.specs.declared.facts.Target.{Target}
@@ -23,10 +25,12 @@ use Rattle.memory_spec.proofs.Lists.{same_some, in_map, of_map}
 use Rattle.memory_spec.proofs.AllTables.{all_addresses}
 use Rattle.memory_spec.proofs.Putting.{address_numbers}
 use Rattle.checkpoint_spec.specs.Eliding.{IsEliding}
-use Rattle.checkpoint_spec.specs.Flushing.{IsFlush}
+use Rattle.checkpoint_spec.specs.Flushing.{IsFlush, IsShrunk}
 use Rattle.checkpoint_spec.specs.Placing.{placed_target, repointed, AreRepointed, IsPlacedAt, AreNewSegments, IsPlacing}
 use Rattle.checkpoint_spec.specs.Checkpoint.{IsCheckpointed}
-use Rattle.checkpoint_spec.proofs.Placing.{staged_target, other_target, which_place, old_segment_id}
+use Rattle.checkpoint_spec.proofs.Flushed.{flush_shrinks}
+use Rattle.checkpoint_spec.proofs.Shrinking.{shrunk_sound}
+use Rattle.checkpoint_spec.proofs.Placing.{placing_sound, staged_target, other_target, which_place, old_segment_id}
 use Rattle.checkpoint_plan.specs.Places.{is_staged_at, is_named, flagged_from, place_of, places_from, place_or_any, place_in}
 use Rattle.checkpoint_plan.specs.Segments.{segments_from}
 use Rattle.checkpoint_plan.specs.Planned.{sectors_at, extended, AreStored, IsPlanned, PlannedIsCheckpointed}
@@ -35,7 +39,7 @@ use Rattle.checkpoint_plan.proofs.SegmentsLemmas.{is_new_segment, holds_rank, ro
 
 -- ---- a fact that names a staged sector is found
 
-named_by : (newest : List AddressFact) (g : AddressFact) (at : Location) → Contains newest g → g.target ≡ Stored at → at.segment.0 ≡ 0 → is_named newest at.index ≡ true
+pub named_by : (newest : List AddressFact) (g : AddressFact) (at : Location) → Contains newest g → g.target ≡ Stored at → at.segment.0 ≡ 0 → is_named newest at.index ≡ true
 named_by newest g at c e none = list_any_at (λ f. is_staged_at at.index f.target) newest c.0 g c.1
     (ap (λ f. is_staged_at at.index f.target) c.2 ∙ ap (λ t. is_staged_at at.index t) e ∙ and_from (at.segment.0 == 0) (at.index == at.index) (eq-eqb at.segment.0 0 none) (eq-eqb at.index at.index refl))
 
@@ -61,20 +65,20 @@ nothing_elided m s = record {
 
 module _ (contents : Contents) (was now : Memory) (flags : List Bool) (newest : List AddressFact) (units : List (List Place)) (s : IsSound was) (stored : AreStored (facts_of was.tables.addresses.patches))
     (h : IsPlanned was now flags newest units) where
-  abbrev Place_of : ℕ → Location
+  abbrev pub Place_of : ℕ → Location
   Place_of = place_in (places_from was.next.segment 0 flags)
 
   abbrev Order : List ℕ
   Order = flagged_from 0 flags
 
-  abbrev Added : List SegmentFact
+  abbrev pub Added : List SegmentFact
   Added = segments_from was.next.segment was.next.sequence (length Order) units
 
-  abbrev Contents2 : Contents
+  abbrev pub Contents2 : Contents
   Contents2 = extended contents was.next.segment (sectors_at Order was.staged)
 
   -- memory once the sectors are placed, before the flush
-  abbrev Placed : Memory
+  abbrev pub Placed : Memory
   Placed = record {
     tables = record was.tables {
       addresses = record was.tables.addresses { unflushed = map (repointed Place_of) newest };
@@ -222,7 +226,7 @@ module _ (contents : Contents) (was now : Memory) (flags : List Bool) (newest : 
     ],
   )
 
-  placing : IsPlacing contents Contents2 was Placed Place_of Added
+  pub placing : IsPlacing contents Contents2 was Placed Place_of Added
   placing = record {
     addresses = are_repointed;
     placed = placed;
@@ -248,7 +252,7 @@ module _ (contents : Contents) (was now : Memory) (flags : List Bool) (newest : 
     };
   }
 
-  flush : IsFlush Placed now
+  pub flush : IsFlush Placed now
   flush = record {
     objects = h.objects;
     mediums = h.mediums;
@@ -271,6 +275,20 @@ module _ (contents : Contents) (was now : Memory) (flags : List Bool) (newest : 
     flush = flush;
     layered = h.layered;
   }
+
+  -- ---- memory stays sound, and the same ids are elided
+
+  placed_is_sound : IsSound Placed
+  placed_is_sound = placing_sound contents Contents2 was Placed Place_of Added s placing
+
+  shrunk : IsShrunk Placed now
+  shrunk = flush_shrinks Placed now placed_is_sound flush
+
+  pub planned_sound : IsSound now
+  planned_sound = shrunk_sound Placed now placed_is_sound shrunk
+
+  pub planned_elided : (t : Table) (id : ℕ) → is_elided (facts now.tables).elisions t id ≡ is_elided (facts was.tables).elisions t id
+  planned_elided t id = shrunk.same_elided t id
 
   -- ---- no fact names a staged sector any more
 

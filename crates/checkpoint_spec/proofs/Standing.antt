@@ -24,7 +24,7 @@ use Rattle.stored_spec.specs.Held.{AreSomeOf, AreEnough}
 use Rattle.checkpoint_spec.specs.Contents.{WrittenOn, AreAmong, WrittenDataHolds, ContentsStand, BaseIsRead, WrittenHolds}
 
 -- where a sector reads as a place in a segment, some address says so
-said : (facts : Facts) {medium place : ℕ} {target : Target} (at : Location) → Reads facts medium place target → target ≡ Stored at → (m x : ℕ) × (address facts m x ≡ Some (Stored at))
+pub said : (facts : Facts) {medium place : ℕ} {target : Target} (at : Location) → Reads facts medium place target → target ≡ Stored at → (m x : ℕ) × (address facts m x ≡ Some (Stored at))
 said facts {medium = medium} {place = place} at (here a) e = (medium, place, a ∙ ap (λ t. Some t) e)
 said facts at (below r a o inner) e = said facts at inner e
 said facts at (unwritten a n) e = absurd cc

@@ -96,9 +96,9 @@ pub record LeadsDown (f : MediumFact) : Type 0 where
   pub down : f.target.0 < f.medium.0
   pub target_end : f.target_start + (f.end - f.start) ≤ OBJECT_SECTORS
 
--- where a sector may stand
+-- where a sector may stand: in a segment, at an index of it
 abbrev pub IsTarget : Target → Type 0
-IsTarget (Stored at) = at.index < SEGMENT_SECTORS
+IsTarget (Stored at) = IsNext at.segment.0 × (at.index < SEGMENT_SECTORS)
 IsTarget Zero = Unit {0}
 
 -- what a fact of each table may say

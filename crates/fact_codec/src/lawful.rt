@@ -53,7 +53,7 @@ fn is_address(address: &AddressFact) -> bool
 {
     let within = u64::from(address.sector) < OBJECT_SECTORS;
     let stands = match &address.target {
-        Target::Stored(at) => at.index < SEGMENT_SECTORS,
+        Target::Stored(at) => is_next(at.segment.0) && at.index < SEGMENT_SECTORS,
         Target::Zero => true,
     };
     within && stands

@@ -92,16 +92,16 @@ no_name contents staged f name (x ∷ xs) (e ∷ es) h free y c same =
 
 -- ---- the creation
 
-module _ (contents : Contents) (was now : Memory) (x : ObjectFact) (array : Array) (r : ReadsAs contents was array) (new : IsNextVolume was x)
-    (free : has array x.name ≡ false) (room : length array < OBJECTS) (made : HasCreated was now x) where
+module _ (was now : Memory) (x : ObjectFact) (sound : IsSound was) (new : IsNextVolume was x)
+    (free : (y : ObjectFact) → Contains (objects (facts was.tables) was.next.object) y → y.name ≢ x.name) (room : length (objects (facts was.tables) was.next.object) < OBJECTS) (made : HasCreated was now x) where
   object_ids : (y : ObjectFact) → Contains (facts was.tables).objects y → (y.object.0 < was.next.object) × (y.medium.0 < was.next.medium)
-  object_ids y c = of_each (λ f. (f.object.0 < was.next.object) × (f.medium.0 < was.next.medium)) (facts was.tables).objects y r.sound.ids.objects c
+  object_ids y c = of_each (λ f. (f.object.0 < was.next.object) × (f.medium.0 < was.next.medium)) (facts was.tables).objects y sound.ids.objects c
 
   range_ids : (y : MediumFact) → Contains (facts was.tables).mediums y → y.medium.0 < was.next.medium
-  range_ids y c = of_each (λ f. f.medium.0 < was.next.medium) (facts was.tables).mediums y r.sound.ids.mediums c
+  range_ids y c = of_each (λ f. f.medium.0 < was.next.medium) (facts was.tables).mediums y sound.ids.mediums c
 
   address_ids : (y : AddressFact) → Contains (facts was.tables).addresses y → y.medium.0 < was.next.medium
-  address_ids y c = of_each (λ f. f.medium.0 < was.next.medium) (facts was.tables).addresses y r.sound.ids.addresses c
+  address_ids y c = of_each (λ f. f.medium.0 < was.next.medium) (facts was.tables).addresses y sound.ids.addresses c
 
   -- no fact speaks of it yet
   fresh : AreNew (facts was.tables) x.object.0 x.medium.0
@@ -115,14 +115,14 @@ module _ (contents : Contents) (was now : Memory) (x : ObjectFact) (array : Arra
         let g = address_is (facts was.tables) x.medium.0 s t e in
         let key : key_of g.0.medium.0 g.0.sector ≡ key_of x.medium.0 s = g.2 in
         let low = address_ids g.0 g.1 in
-        let small : g.0.sector < OBJECT_SECTORS = (r.sound.fit (any.Address g.0) (all_addresses (facts was.tables) g.0 g.1)).2 in
+        let small : g.0.sector < OBJECT_SECTORS = (sound.fit (any.Address g.0) (all_addresses (facts was.tables) g.0 g.1)).2 in
         let next = new.medium in
         omega (arith, key, low, small, next));
     no_range = λ s. none_since (range (facts was.tables) x.medium.0 s) (λ q e.
         let is = range_is (facts was.tables) x.medium.0 s q e in
         let key : key_of q.medium.0 q.start ≡ key_of x.medium.0 s = is.1 in
         let low = range_ids q is.0 in
-        let fits : IsFact (any.Medium q) = r.sound.fit (any.Medium q) (all_mediums (facts was.tables) q is.0) in
+        let fits : IsFact (any.Medium q) = sound.fit (any.Medium q) (all_mediums (facts was.tables) q is.0) in
         let small : q.start < 2 ^ 64 = fits.fits in
         let next = new.medium in
         omega (arith, key, low, small, next));
@@ -132,14 +132,14 @@ module _ (contents : Contents) (was now : Memory) (x : ObjectFact) (array : Arra
   same_object f g e = cc
 
   object_numbers : AreDistinct (λ (f : ObjectFact). f.seq.0) (facts was.tables).objects
-  object_numbers f g c d e = same_object f g (r.sound.numbers.distinct (any.Object f) (any.Object g) (all_objects (facts was.tables) f c) (all_objects (facts was.tables) g d) e)
+  object_numbers f g c d e = same_object f g (sound.numbers.distinct (any.Object f) (any.Object g) (all_objects (facts was.tables) f c) (all_objects (facts was.tables) g d) e)
 
   alone : (f : ObjectFact) → Contains (x ∷ []) f → f ≡ x
   alone f c = elim (either x f [] c) [ inl same ↦ same | inr d ↦ absurd (nowhere f d) ]
 
   older : (f g : ObjectFact) → Contains (facts was.tables).objects f → Contains (x ∷ []) g → f.seq.0 < g.seq.0
   older f g c d =
-      let less : f.seq.0 < was.next.sequence = r.sound.numbers.below (any.Object f) (all_objects (facts was.tables) f c) in
+      let less : f.seq.0 < was.next.sequence = sound.numbers.below (any.Object f) (all_objects (facts was.tables) f c) in
       let same : g.seq.0 ≡ x.seq.0 = ap (λ z. z.seq.0) (alone g d) in
       let number = new.number in
       omega (arith, less, same, number)
@@ -148,7 +148,7 @@ module _ (contents : Contents) (was now : Memory) (x : ObjectFact) (array : Arra
   one_number f g c d e = alone f c ∙ sym (alone g d)
 
   kept_object : is_elided (facts was.tables).elisions table.Object x.object.0 ≡ false
-  kept_object = not_elided was.next (facts was.tables) table.Object x.object.0 r.sound.ids (let next = new.object in omega (arith, next))
+  kept_object = not_elided was.next (facts was.tables) table.Object x.object.0 sound.ids (let next = new.object in omega (arith, next))
 
   -- what is said of a key, by its newest fact
   abbrev Said : List ElisionFact → ℕ → Option ObjectFact → Option ObjectFact
@@ -198,9 +198,9 @@ module _ (contents : Contents) (was now : Memory) (x : ObjectFact) (array : Arra
       let object = new.object in
       let medium = new.medium in
       let number = new.number in
-      let a = r.sound.next.object.0 in
-      let b = r.sound.next.medium.0 in
-      let c = r.sound.next.sequence.0 in
+      let a = sound.next.object.0 in
+      let b = sound.next.medium.0 in
+      let c = sound.next.sequence.0 in
       let d = new.objects_left in
       let e = new.mediums_left in
       let f = new.numbers_left in
@@ -226,7 +226,7 @@ module _ (contents : Contents) (was now : Memory) (x : ObjectFact) (array : Arra
 
   fit : (a : AnyFact) → Contains (all_of (facts now.tables)) a → FitsInMemory (length now.staged) a
   fit a c = elim (split a c) [
-    | inl o ↦ subst (λ (s : List (List ℕ)). FitsInMemory (length s) a) (sym made.staged) (r.sound.fit a o)
+    | inl o ↦ subst (λ (s : List (List ℕ)). FitsInMemory (length s) a) (sym made.staged) (sound.fit a o)
     | inr n ↦ subst (λ b. FitsInMemory (length now.staged) b) (sym n) x_fits
   ]
 
@@ -234,8 +234,8 @@ module _ (contents : Contents) (was now : Memory) (x : ObjectFact) (array : Arra
   next = subst (λ n. AreNext n) (sym made.next) (record {
     object = (omega arith, new.objects_left);
     medium = (omega arith, new.mediums_left);
-    segment = r.sound.next.segment;
-    patch_segment = r.sound.next.patch_segment;
+    segment = sound.next.segment;
+    patch_segment = sound.next.patch_segment;
     sequence = (omega arith, new.numbers_left);
   })
 
@@ -258,9 +258,9 @@ module _ (contents : Contents) (was now : Memory) (x : ObjectFact) (array : Arra
     ]);
     mediums = each_by_recursion (λ (f : MediumFact). f.medium.0 < More.medium) (facts now.tables).mediums (λ f c. let low = range_ids f (subst (λ l. Contains l f) made.mediums c) in omega (arith, low));
     addresses = each_by_recursion (λ (f : AddressFact). f.medium.0 < More.medium) (facts now.tables).addresses (λ f c. let low = address_ids f (subst (λ l. Contains l f) made.addresses c) in omega (arith, low));
-    segments = subst (λ l. AllByRecursion (λ (f : SegmentFact). f.segment.0 < was.next.segment) l) (sym made.segments) r.sound.ids.segments;
+    segments = subst (λ l. AllByRecursion (λ (f : SegmentFact). f.segment.0 < was.next.segment) l) (sym made.segments) sound.ids.segments;
     elisions = each_by_recursion (λ (f : ElisionFact). f.last < next_id More f.table) (facts now.tables).elisions (λ f c.
-        let low : f.last < next_id was.next f.table = of_each (λ (g : ElisionFact). g.last < next_id was.next g.table) (facts was.tables).elisions f r.sound.ids.elisions (subst (λ l. Contains l f) made.elisions c) in
+        let low : f.last < next_id was.next f.table = of_each (λ (g : ElisionFact). g.last < next_id was.next g.table) (facts was.tables).elisions f sound.ids.elisions (subst (λ l. Contains l f) made.elisions c) in
         let more = more_next f.table in
         omega (arith, low, more));
   })
@@ -273,12 +273,12 @@ module _ (contents : Contents) (was now : Memory) (x : ObjectFact) (array : Arra
   -- an old object is a fact with an older medium
   old_medium : (y : ObjectFact) → Contains (objects (facts was.tables) was.next.object) y → y.medium.0 < x.medium.0
   old_medium y c =
-      let low = (object_ids y (object_fits was r.sound y c).0).1 in
+      let low = (object_ids y (object_fits was sound y c).0).1 in
       let medium = new.medium in
       omega (arith, low, medium)
 
   not_elided_medium : (t : Table) → next_id was.next t ≡ was.next.medium → is_elided (facts now.tables).elisions t x.medium.0 ≡ false
-  not_elided_medium t e = ap (λ l. is_elided l t x.medium.0) made.elisions ∙ not_elided was.next (facts was.tables) t x.medium.0 r.sound.ids (let medium = new.medium in omega (arith, medium, e))
+  not_elided_medium t e = ap (λ l. is_elided l t x.medium.0) made.elisions ∙ not_elided was.next (facts was.tables) t x.medium.0 sound.ids (let medium = new.medium in omega (arith, medium, e))
 
   each_object : (P : ObjectFact → Type 0) → AllByRecursion P (objects (facts was.tables) was.next.object) → P x → AllByRecursion P (objects (facts was.tables) was.next.object ++ x ∷ [])
   each_object P h p = each_by_recursion P (objects (facts was.tables) was.next.object ++ x ∷ []) (λ y c. elim (Contains-push_cases (objects (facts was.tables) was.next.object) x y c) [
@@ -289,25 +289,23 @@ module _ (contents : Contents) (was now : Memory) (x : ObjectFact) (array : Arra
   sound_objects : AreObjectsSound (facts now.tables) now.next.object
   sound_objects = record {
     names = subst (λ l. AllPairs (λ a b. a.name ≢ b.name) l) (sym objects_are)
-        (all_pairs_push (λ (a b : ObjectFact). a.name ≢ b.name) (objects (facts was.tables) was.next.object) x r.sound.objects.names (λ k d l.
-        no_name contents was.staged (facts was.tables) x.name (objects (facts was.tables) was.next.object) array r.reads free
-        (get_or (objects (facts was.tables) was.next.object) k d) (Contains-get_or (objects (facts was.tables) was.next.object) k d l)));
+        (all_pairs_push (λ (a b : ObjectFact). a.name ≢ b.name) (objects (facts was.tables) was.next.object) x sound.objects.names (λ k d l.
+        free (get_or (objects (facts was.tables) was.next.object) k d) (Contains-get_or (objects (facts was.tables) was.next.object) k d l)));
     mediums = subst (λ l. AllPairs (λ a b. OwnsMedium a b × OwnsMedium b a) l) (sym objects_are)
-        (all_pairs_push (λ (a b : ObjectFact). OwnsMedium a b × OwnsMedium b a) (objects (facts was.tables) was.next.object) x r.sound.objects.mediums (λ k d l.
+        (all_pairs_push (λ (a b : ObjectFact). OwnsMedium a b × OwnsMedium b a) (objects (facts was.tables) was.next.object) x sound.objects.mediums (λ k d l.
         let low = old_medium (get_or (objects (facts was.tables) was.next.object) k d) (Contains-get_or (objects (facts was.tables) was.next.object) k d l) in
         (λ kind e. omega (arith, low, e), λ kind e. omega (arith, low, e))));
     range_kept = subst (λ l. AllByRecursion (λ y. is_elided (facts now.tables).elisions table.Medium y.medium.0 ≡ false) l) (sym objects_are)
         (each_object (λ y. is_elided (facts now.tables).elisions table.Medium y.medium.0 ≡ false)
-        (subst (λ e. AllByRecursion (λ y. is_elided e table.Medium y.medium.0 ≡ false) (objects (facts was.tables) was.next.object)) (sym made.elisions) r.sound.objects.range_kept)
+        (subst (λ e. AllByRecursion (λ y. is_elided e table.Medium y.medium.0 ≡ false) (objects (facts was.tables) was.next.object)) (sym made.elisions) sound.objects.range_kept)
         (not_elided_medium table.Medium refl));
     address_kept = subst (λ l. AllByRecursion (λ y. is_elided (facts now.tables).elisions table.Address y.medium.0 ≡ false) l) (sym objects_are)
         (each_object (λ y. is_elided (facts now.tables).elisions table.Address y.medium.0 ≡ false)
-        (subst (λ e. AllByRecursion (λ y. is_elided e table.Address y.medium.0 ≡ false) (objects (facts was.tables) was.next.object)) (sym made.elisions) r.sound.objects.address_kept)
+        (subst (λ e. AllByRecursion (λ y. is_elided e table.Address y.medium.0 ≡ false) (objects (facts was.tables) was.next.object)) (sym made.elisions) sound.objects.address_kept)
         (not_elided_medium table.Address refl));
     most = subst (λ (l : List ObjectFact). length l ≤ OBJECTS) (sym objects_are)
-        (let long = zip_long (EntryReads contents was.staged (facts was.tables)) (objects (facts was.tables) was.next.object) array r.reads in
-        let more = length-append (objects (facts was.tables) was.next.object) (x ∷ []) in
-        omega (arith, long, more, room));
+        (let more = length-append (objects (facts was.tables) was.next.object) (x ∷ []) in
+        omega (arith, more, room));
   }
 
   over_was : (m s : ℕ) (q : MediumFact) → IsOver (facts now.tables) m s q → IsOver (facts was.tables) m s q
@@ -317,22 +315,22 @@ module _ (contents : Contents) (was now : Memory) (x : ObjectFact) (array : Arra
   leads_down : (m start : ℕ) (q : MediumFact) → range (facts was.tables) m start ≡ Some q → q.target.0 ≢ x.medium.0
   leads_down m start q e same =
       let is = range_is (facts was.tables) m start q e in
-      let fits : IsFact (any.Medium q) = r.sound.fit (any.Medium q) (all_mediums (facts was.tables) q is.0) in
+      let fits : IsFact (any.Medium q) = sound.fit (any.Medium q) (all_mediums (facts was.tables) q is.0) in
       let low = range_ids q is.0 in
       let medium = new.medium in
-      let some = r.sound.next.medium.0 in
+      let some = sound.next.medium.0 in
       elim fits.lawful.statement [ inl h ↦ (let none = h.1 in omega (arith, none, same, medium, some)) | inr h ↦ (let down = h.down in omega (arith, down, same, medium, low)) ]
 
   sound_mediums : AreMediumsSound (facts now.tables)
   sound_mediums = record {
-    disjoint = λ m s p q o o2. r.sound.mediums.disjoint m s p q (over_was m s p o) (over_was m s q o2);
+    disjoint = λ m s p q o o2. sound.mediums.disjoint m s p q (over_was m s p o) (over_was m s q o2);
     within = λ id start y q e l f. elim (which id y e) [
       | inl same ↦ absurd (not_both (range (facts now.tables) y.medium.0 start) f (created.ranges y.medium.0 start ∙ ap (λ z. range (facts was.tables) z.medium.0 start) same ∙ fresh.no_range start))
-      | inr old ↦ r.sound.mediums.within id start y q old l (sym (created.ranges y.medium.0 start) ∙ f)
+      | inr old ↦ sound.mediums.within id start y q old l (sym (created.ranges y.medium.0 start) ∙ f)
     ];
     frozen = λ id m start y q e kind f t. elim (which id y e) [
       | inl same ↦ leads_down m start q (sym (created.ranges m start) ∙ f) (t ∙ ap (λ z. z.medium.0) same)
-      | inr old ↦ r.sound.mediums.frozen id m start y q old kind (sym (created.ranges m start) ∙ f) t
+      | inr old ↦ sound.mediums.frozen id m start y q old kind (sym (created.ranges m start) ∙ f) t
     ];
   }
 
@@ -344,13 +342,13 @@ module _ (contents : Contents) (was now : Memory) (x : ObjectFact) (array : Arra
 
   sound_addresses : AreAddressesThere now
   sound_addresses = record {
-    there = λ m s at e. still_there at (r.sound.addresses.there m s at (sym (created.addresses m s) ∙ e));
+    there = λ m s at e. still_there at (sound.addresses.there m s at (sym (created.addresses m s) ∙ e));
     within = λ id s y e low some.
         let t = some_since (address (facts now.tables) y.medium.0 s) some in
         let was_some : address (facts was.tables) y.medium.0 s ≡ Some t.0 = sym (created.addresses y.medium.0 s) ∙ t.1 in
         elim (which id y e) [
           | inl same ↦ absurd (not_both (address (facts was.tables) y.medium.0 s) was_some (ap (λ z. address (facts was.tables) z.medium.0 s) same ∙ fresh.no_address s))
-          | inr old ↦ r.sound.addresses.within id s y old low (ap is_some was_some)
+          | inr old ↦ sound.addresses.within id s y old low (ap is_some was_some)
         ];
   }
 
@@ -358,12 +356,12 @@ module _ (contents : Contents) (was now : Memory) (x : ObjectFact) (array : Arra
   created_sound = record {
     next = next;
     fit = fit;
-    sectors = λ s c. r.sound.sectors s (subst (λ l. Contains l s) made.staged c);
+    sectors = λ s c. sound.sectors s (subst (λ l. Contains l s) made.staged c);
     ids = ids;
     objects = sound_objects;
     mediums = sound_mediums;
     addresses = sound_addresses;
-    elisions = subst (λ l. AreElisionsSound l) (sym made.elisions) r.sound.elisions;
+    elisions = subst (λ l. AreElisionsSound l) (sym made.elisions) sound.elisions;
     numbers = numbered_more was now Added
         (let number : now.next.sequence ≡ was.next.sequence + 1 = ap (λ (n : NextNumbers). n.sequence) made.next in omega (arith, number)) split
         (λ a n.
@@ -372,18 +370,30 @@ module _ (contents : Contents) (was now : Memory) (x : ObjectFact) (array : Arra
         let own = new.number in
         (omega (arith, is, own), omega (arith, is, own, number)))
         (λ a b n p e. n ∙ sym p)
-        r.sound.numbers;
+        sound.numbers;
   }
 
-  pub created_reads : FactsRead contents now.staged (facts now.tables) now.next.object (appended array x.name false (replicate x.sectors (filled 0)))
-  created_reads =
+  pub created_reads : (contents : Contents) (array : Array) → FactsRead contents was.staged (facts was.tables) was.next.object array
+      → FactsRead contents now.staged (facts now.tables) now.next.object (appended array x.name false (replicate x.sectors (filled 0)))
+  created_reads contents array reads =
       let last : now.next.object ≡ x.object.0 + 1 = ap (λ (n : NextNumbers). n.object) made.next ∙ ap (λ n. n + 1) (sym new.object) in
       subst (λ s. FactsRead contents s (facts now.tables) now.next.object (appended array x.name false (replicate x.sectors (filled 0)))) (sym made.staged)
       (subst (λ n. FactsRead contents was.staged (facts now.tables) n (appended array x.name false (replicate x.sectors (filled 0)))) (sym last)
-      (create_reads contents was.staged (facts was.tables) (facts now.tables) x array fresh new.kind created (subst (λ n. FactsRead contents was.staged (facts was.tables) n array) (sym new.object) r.reads)))
+      (create_reads contents was.staged (facts was.tables) (facts now.tables) x array fresh new.kind created (subst (λ n. FactsRead contents was.staged (facts was.tables) n array) (sym new.object) reads)))
+
+-- what the array's own answers say of the visible objects
+module _ (contents : Contents) (m : Memory) (name : List ℕ) (array : Array) (r : ReadsAs contents m array) where
+  pub no_object : has array name ≡ false → (y : ObjectFact) → Contains (objects (facts m.tables) m.next.object) y → y.name ≢ name
+  no_object free = no_name contents m.staged (facts m.tables) name (objects (facts m.tables) m.next.object) array r.reads free
+
+  pub few_objects : length array < OBJECTS → length (objects (facts m.tables) m.next.object) < OBJECTS
+  few_objects room = let long = zip_long (EntryReads contents m.staged (facts m.tables)) (objects (facts m.tables) m.next.object) array r.reads in omega (arith, long, room)
 
 pub creating_reads : CreatingReads
-creating_reads contents was now x array r new free room made = record {
-  sound = created_sound contents was now x array r new free room made;
-  reads = created_reads contents was now x array r new free room made;
-}
+creating_reads contents was now x array r new free room made =
+    let unnamed = no_object contents was x.name array r free in
+    let few = few_objects contents was x.name array r room in
+    record {
+      sound = created_sound was now x r.sound new unnamed few made;
+      reads = created_reads was now x r.sound new unnamed few made contents array r.reads;
+    }

@@ -10,7 +10,8 @@ use Rattle.memory_spec.specs.Laws.{VolumesOwn}
 use Rattle.memory_spec.proofs.Lists.{pairs_of}
 use Rattle.memory_spec.proofs.Objects.{of_objects}
 
-owns : (f : Facts) (next : ℕ) (name : List ℕ) (x : ObjectFact) (lba count : ℕ) → AreObjectsSound f next → AreMediumsSound f → Contains (objects f next) x → x.name ≡ name → x.kind ≡ Volume
+-- as soundness alone tells
+pub owns : (f : Facts) (next : ℕ) (name : List ℕ) (x : ObjectFact) (lba count : ℕ) → AreObjectsSound f next → AreMediumsSound f → Contains (objects f next) x → x.name ≡ name → x.kind ≡ Volume
     → lba + count ≤ x.sectors → IsOwnMedium f next name x.medium.0 lba count
 owns f next name x lba count o m c named volume fits = record {
   owner = x;

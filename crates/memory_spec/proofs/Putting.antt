@@ -25,7 +25,7 @@ use Rattle.fact_codec.specs.Fact.{IsNext, IsFact, LeadsNowhere, LeadsDown}
 use Rattle.array_spec.specs.Sound.{AreIdsBelow, AreObjectsSound, AreElisionsSound, next_id}
 use Rattle.pyramid.specs.Layers.{AreDistinct}
 use Rattle.memory_spec.specs.Tables.{facts, all_of}
-use Rattle.memory_spec.specs.Memory.{Memory, Contents, PlaceReads, TargetReads, FactsRead, FitsTarget, FitsInMemory, IsThere, IsSound, ReadsAs}
+use Rattle.memory_spec.specs.Memory.{Memory, Contents, PlaceReads, TargetReads, FactsRead, FitsTarget, FitsInMemory, IsThere, IsSound}
 use Rattle.memory_spec.specs.Adding.{address_facts, IsOverlaid, IsOwnMedium, AreWithinSize, HasPut}
 use Rattle.memory_spec.specs.Laws.{PuttingReads}
 use Rattle.memory_spec.proofs.Lists.{each_by_recursion, of_each, zip_left, zip_long, contains_at}
@@ -81,8 +81,8 @@ run_long medium sector number (t ∷ ts) = ap suc (run_long medium (sector + 1) 
 
 -- ---- the put
 
-module _ (contents : Contents) (was now : Memory) (name : List ℕ) (medium lba : ℕ) (targets : List Target) (sectors more : List (List ℕ)) (array : Array)
-    (r : ReadsAs contents was array) (own : IsOwnMedium (facts was.tables) was.next.object name medium lba (length sectors))
+module _ (contents : Contents) (was now : Memory) (name : List ℕ) (medium lba : ℕ) (targets : List Target) (sectors more : List (List ℕ))
+    (sound : IsSound was) (own : IsOwnMedium (facts was.tables) was.next.object name medium lba (length sectors))
     (given : AllZip (TargetReads contents (was.staged ++ more)) targets sectors) (staged : (at : Location) → Contains targets (Stored at) → at.segment.0 ≡ 0)
     (sized : (sector : List ℕ) → Contains more sector → length sector ≡ SECTOR_BYTES) (left : was.next.sequence + length targets < NUMBER_LIMIT)
     (put : HasPut was now (address_facts medium lba was.next.sequence targets) more) where
@@ -99,23 +99,23 @@ module _ (contents : Contents) (was now : Memory) (name : List ℕ) (medium lba 
   long = zip_long (TargetReads contents (was.staged ++ more)) targets sectors given
 
   owner_fits : Contains (facts was.tables).objects own.owner × IsFact (any.Object own.owner)
-  owner_fits = object_fits was r.sound own.owner own.there
+  owner_fits = object_fits was sound own.owner own.there
 
   small : lba + length targets ≤ OBJECT_SECTORS
   small = let most : own.owner.sectors ≤ OBJECT_SECTORS = owner_fits.1.lawful.statement.1 in omega (arith, most, own.fits, long)
 
   medium_below : medium < was.next.medium
-  medium_below = subst (λ n. n < was.next.medium) own.its (of_each (λ f. (f.object.0 < was.next.object) × (f.medium.0 < was.next.medium)) (facts was.tables).objects own.owner r.sound.ids.objects owner_fits.0).1
+  medium_below = subst (λ n. n < was.next.medium) own.its (of_each (λ f. (f.object.0 < was.next.object) × (f.medium.0 < was.next.medium)) (facts was.tables).objects own.owner sound.ids.objects owner_fits.0).1
 
   medium_next : IsNext medium
-  medium_next = (subst (λ n. 1 ≤ n) own.its owner_fits.1.lawful.statement.2, (let most = r.sound.next.medium.1 in omega (arith, medium_below, most)))
+  medium_next = (subst (λ n. 1 ≤ n) own.its owner_fits.1.lawful.statement.2, (let most = sound.next.medium.1 in omega (arith, medium_below, most)))
 
   kept : is_elided (facts was.tables).elisions table.Address medium ≡ false
   kept = subst (λ n. is_elided (facts was.tables).elisions table.Address n ≡ false) own.its
-      (of_each (λ x. is_elided (facts was.tables).elisions table.Address x.medium.0 ≡ false) (objects (facts was.tables) was.next.object) own.owner r.sound.objects.address_kept own.there)
+      (of_each (λ x. is_elided (facts was.tables).elisions table.Address x.medium.0 ≡ false) (objects (facts was.tables) was.next.object) own.owner sound.objects.address_kept own.there)
 
   old_number : (f : AddressFact) → Contains (facts was.tables).addresses f → f.seq.0 < was.next.sequence
-  old_number f c = r.sound.numbers.below (any.Address f) (all_addresses (facts was.tables) f c)
+  old_number f c = sound.numbers.below (any.Address f) (all_addresses (facts was.tables) f c)
 
   new_number : (f : AddressFact) → Contains Run f → (was.next.sequence ≤ f.seq.0) × (f.seq.0 < was.next.sequence + length targets)
   new_number f c =
@@ -127,7 +127,7 @@ module _ (contents : Contents) (was now : Memory) (name : List ℕ) (medium lba 
   over : IsOverlaid (facts was.tables) (facts now.tables) medium lba targets
   over = record {
     addresses = address_put medium lba was.next.sequence targets small (facts was.tables) (facts now.tables) put.elisions kept put.addresses
-        (λ f g c d. let a = old_number f c in let b = (new_number g d).0 in omega (arith, a, b)) (address_numbers was r.sound);
+        (λ f g c d. let a = old_number f c in let b = (new_number g d).0 in omega (arith, a, b)) (address_numbers was sound);
     ranges = range_kept (facts was.tables) (facts now.tables) put.elisions put.mediums;
     objects = object_kept (facts was.tables) (facts now.tables) put.elisions put.objects;
   }
@@ -157,7 +157,7 @@ module _ (contents : Contents) (was now : Memory) (name : List ℕ) (medium lba 
   run_fits f c =
       let w = of_run medium lba was.next.sequence targets f c in
       let within : w.place < length targets = slice_get_within targets w.place w.target w.at in
-      let first = r.sound.next.sequence.0 in
+      let first = sound.next.sequence.0 in
       subst (λ z. FitsInMemory (length now.staged) (any.Address z)) (sym w.is)
       (medium_next, (omega (arith, first), omega (arith, within, left)), omega (arith, within, small), target_fits w.target w.place w.at)
 
@@ -174,29 +174,29 @@ module _ (contents : Contents) (was now : Memory) (name : List ℕ) (medium lba 
 
   fit : (a : AnyFact) → Contains (all_of (facts now.tables)) a → FitsInMemory (length now.staged) a
   fit a c = elim (split a c) [
-    | inl o ↦ fits_more (length was.staged) (length now.staged) a not_fewer (r.sound.fit a o)
+    | inl o ↦ fits_more (length was.staged) (length now.staged) a not_fewer (sound.fit a o)
     | inr n ↦ subst (λ b. FitsInMemory (length now.staged) b) (sym n.2) (run_fits n.0 n.1)
   ]
 
   next : AreNext now.next
   next = subst (λ n. AreNext n) (sym put.next) (record {
-    object = r.sound.next.object;
-    medium = r.sound.next.medium;
-    segment = r.sound.next.segment;
-    patch_segment = r.sound.next.patch_segment;
-    sequence = (let first = r.sound.next.sequence.0 in omega (arith, first), let long = run_long medium lba was.next.sequence targets in omega (arith, left, long));
+    object = sound.next.object;
+    medium = sound.next.medium;
+    segment = sound.next.segment;
+    patch_segment = sound.next.patch_segment;
+    sequence = (let first = sound.next.sequence.0 in omega (arith, first), let long = run_long medium lba was.next.sequence targets in omega (arith, left, long));
   })
 
   ids : AreIdsBelow now.next (facts now.tables)
   ids = subst (λ n. AreIdsBelow n (facts now.tables)) (sym put.next) (record {
-    objects = subst (λ l. AllByRecursion (λ (f : ObjectFact). (f.object.0 < was.next.object) × (f.medium.0 < was.next.medium)) l) (sym put.objects) r.sound.ids.objects;
-    mediums = subst (λ l. AllByRecursion (λ (f : MediumFact). f.medium.0 < was.next.medium) l) (sym put.mediums) r.sound.ids.mediums;
+    objects = subst (λ l. AllByRecursion (λ (f : ObjectFact). (f.object.0 < was.next.object) × (f.medium.0 < was.next.medium)) l) (sym put.objects) sound.ids.objects;
+    mediums = subst (λ l. AllByRecursion (λ (f : MediumFact). f.medium.0 < was.next.medium) l) (sym put.mediums) sound.ids.mediums;
     addresses = each_by_recursion (λ (f : AddressFact). f.medium.0 < was.next.medium) (facts now.tables).addresses (λ f c. elim ((put.addresses f).0 c) [
-      | inl o ↦ of_each (λ (f : AddressFact). f.medium.0 < was.next.medium) (facts was.tables).addresses f r.sound.ids.addresses o
+      | inl o ↦ of_each (λ (f : AddressFact). f.medium.0 < was.next.medium) (facts was.tables).addresses f sound.ids.addresses o
       | inr n ↦ subst (λ (z : AddressFact). z.medium.0 < was.next.medium) (sym (of_run medium lba was.next.sequence targets f n).is) medium_below
     ]);
-    segments = subst (λ l. AllByRecursion (λ (f : SegmentFact). f.segment.0 < was.next.segment) l) (sym put.segments) r.sound.ids.segments;
-    elisions = subst (λ l. AllByRecursion (λ (f : ElisionFact). f.last < next_id was.next f.table) l) (sym put.elisions) r.sound.ids.elisions;
+    segments = subst (λ l. AllByRecursion (λ (f : SegmentFact). f.segment.0 < was.next.segment) l) (sym put.segments) sound.ids.segments;
+    elisions = subst (λ l. AllByRecursion (λ (f : ElisionFact). f.last < next_id was.next f.table) l) (sym put.elisions) sound.ids.elisions;
   })
 
   objects_next : now.next.object ≡ was.next.object
@@ -213,7 +213,7 @@ module _ (contents : Contents) (was now : Memory) (name : List ℕ) (medium lba 
       let g = address_is (facts now.tables) m x (Stored at) e in
       let low : g.0.sector < OBJECT_SECTORS = (fit (any.Address g.0) (all_addresses (facts now.tables) g.0 g.1)).2 in
       elim (overlaid_is medium lba targets (address (facts was.tables)) g.0.medium.0 g.0.sector (Stored at) (sym (over.addresses g.0.medium.0 g.0.sector low) ∙ g.3)) [
-        | inl o ↦ still_there at (r.sound.addresses.there g.0.medium.0 g.0.sector at o)
+        | inl o ↦ still_there at (sound.addresses.there g.0.medium.0 g.0.sector at o)
         | inr w ↦ inl (index_staged at (g.0.sector - lba) w.3)
       ]
 
@@ -221,10 +221,10 @@ module _ (contents : Contents) (was now : Memory) (name : List ℕ) (medium lba 
   within id sector y e low some =
       let before : object (facts was.tables) id ≡ Some y = sym (over.objects id) ∙ e in
       let is = object_is (facts was.tables) id y before in
-      let id_low : y.object.0 < was.next.object = (of_each (λ f. (f.object.0 < was.next.object) × (f.medium.0 < was.next.medium)) (facts was.tables).objects y r.sound.ids.objects is.0).0 in
+      let id_low : y.object.0 < was.next.object = (of_each (λ f. (f.object.0 < was.next.object) × (f.medium.0 < was.next.medium)) (facts was.tables).objects y sound.ids.objects is.0).0 in
       let t = some_since (address (facts now.tables) y.medium.0 sector) some in
       elim (overlaid_is medium lba targets (address (facts was.tables)) y.medium.0 sector t.0 (sym (over.addresses y.medium.0 sector low) ∙ t.1)) [
-        | inl o ↦ r.sound.addresses.within id sector y before low (ap is_some o)
+        | inl o ↦ sound.addresses.within id sector y before low (ap is_some o)
         | inr w ↦
             let its : y ≡ own.owner = own.alone y (in_objects (facts was.tables) was.next.object id y before (omega (arith, id_low, is.1))) w.0 in
             let size : y.sectors ≡ own.owner.sectors = ap (λ z. z.sectors) its in
@@ -235,13 +235,13 @@ module _ (contents : Contents) (was now : Memory) (name : List ℕ) (medium lba 
   put_sound = record {
     next = next;
     fit = fit;
-    sectors = λ s c. elim (Contains-append_cases was.staged more s (subst (λ l. Contains l s) put.staged c)) [ inl a ↦ r.sound.sectors s a | inr b ↦ sized s b ];
+    sectors = λ s c. elim (Contains-append_cases was.staged more s (subst (λ l. Contains l s) put.staged c)) [ inl a ↦ sound.sectors s a | inr b ↦ sized s b ];
     ids = ids;
     objects = subst (λ n. AreObjectsSound (facts now.tables) n) (sym objects_next)
-        (objects_sound (facts was.tables) (facts now.tables) put.elisions was.next.object (same_objects (facts was.tables) (facts now.tables) over.objects was.next.object) r.sound.objects);
-    mediums = mediums_sound (facts was.tables) (facts now.tables) over.objects over.ranges r.sound.mediums;
+        (objects_sound (facts was.tables) (facts now.tables) put.elisions was.next.object (same_objects (facts was.tables) (facts now.tables) over.objects was.next.object) sound.objects);
+    mediums = mediums_sound (facts was.tables) (facts now.tables) over.objects over.ranges sound.mediums;
     addresses = record { there = there; within = within };
-    elisions = subst (λ l. AreElisionsSound l) (sym put.elisions) r.sound.elisions;
+    elisions = subst (λ l. AreElisionsSound l) (sym put.elisions) sound.elisions;
     numbers = numbered_more was now Added
         (let number : now.next.sequence ≡ was.next.sequence + length Run = ap (λ (n : NextNumbers). n.sequence) put.next in omega (arith, number)) split
         (λ a n.
@@ -251,17 +251,17 @@ module _ (contents : Contents) (was now : Memory) (name : List ℕ) (medium lba 
         let long = run_long medium lba was.next.sequence targets in
         (omega (arith, is, between.0), omega (arith, is, between.1, number, long)))
         (λ a b n p e. n.2 ∙ ap any.Address (run_distinct medium lba was.next.sequence targets n.0 p.0 n.1 p.1 (sym (ap any_number n.2) ∙ e ∙ ap any_number p.2)) ∙ sym p.2)
-        r.sound.numbers;
+        sound.numbers;
   }
 
-  pub put_reads : FactsRead contents now.staged (facts now.tables) now.next.object (replaced array name lba sectors)
-  put_reads =
+  pub put_reads : (array : Array) → FactsRead contents was.staged (facts was.tables) was.next.object array → FactsRead contents now.staged (facts now.tables) now.next.object (replaced array name lba sectors)
+  put_reads array reads =
       subst (λ s. FactsRead contents s (facts now.tables) now.next.object (replaced array name lba sectors)) (sym put.staged)
       (subst (λ n. FactsRead contents (was.staged ++ more) (facts now.tables) n (replaced array name lba sectors)) (sym objects_next)
-      (overwrite_reads contents was.staged more (facts was.tables) (facts now.tables) was.next.object name medium lba targets sectors array own (within_size was r.sound) given over r.reads))
+      (overwrite_reads contents was.staged more (facts was.tables) (facts now.tables) was.next.object name medium lba targets sectors array own (within_size was sound) given over reads))
 
 pub putting_reads : PuttingReads
 putting_reads contents was now name medium lba targets sectors more array r own given staged sized left put = record {
-  sound = put_sound contents was now name medium lba targets sectors more array r own given staged sized left put;
-  reads = put_reads contents was now name medium lba targets sectors more array r own given staged sized left put;
+  sound = put_sound contents was now name medium lba targets sectors more r.sound own given staged sized left put;
+  reads = put_reads contents was now name medium lba targets sectors more r.sound own given staged sized left put array r.reads;
 }

@@ -1,5 +1,6 @@
 pub mod Tables
 pub mod Memory
+pub mod Numbers
 pub mod Adding
 pub mod Laws
 pub mod Reading

@@ -47,6 +47,16 @@ all_at P [] k x all is = absurd (cc)
 all_at P (a ∷ xs) zero x all is = let e : a ≡ x = same_Some a x is in rw (sym e) all.0
 all_at P (a ∷ xs) (suc k) x all is = all_at P xs k x all.1 is
 
+-- what holds at each place holds of all
+pub all_from : {X : Type 0} (P : X → Type 0) (xs : List X) → ((k : ℕ) (x : X) → slice_get xs k ≡ Some x → P x) → AllByRecursion P xs
+all_from P [] each = tt
+all_from P (a ∷ xs) each = (each 0 a refl, all_from P xs (λ k x at. each (suc k) x at))
+
+-- what holds of all of two lists holds of them as one
+pub all_both : {X : Type 0} (P : X → Type 0) (xs ys : List X) → AllByRecursion P xs → AllByRecursion P ys → AllByRecursion P (xs ++ ys)
+all_both P [] ys first second = second
+all_both P (a ∷ xs) ys first second = (first.0, all_both P xs ys first.1 second)
+
 -- of one more too
 pub all_pushed : {X : Type 0} (P : X → Type 0) (xs : List X) (y : X) → AllByRecursion P xs → P y → AllByRecursion P (xs ++ y ∷ [])
 all_pushed P [] y all is = (is, tt)

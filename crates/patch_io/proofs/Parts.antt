@@ -2,6 +2,7 @@
 use Rattle.std.proofs.Common.{◌≡◌, inl, inr, ℕ, zero, suc, ◌+◌, ◌-◌, ◌*◌, ◌/◌, ◌%◌, ◌<◌, ◌≤◌, min, Bool, List, [], ◌∷◌, ◌++◌, length, map, take, drop, get_or, refl, sym, subst, ◌∙◌, ap, arith, append_assoc, length-append}
 use Rattle.std.specs.Prelude.{Some, slice_get}
 use Rattle.std.specs.Int.{div_ceil}
+use Rattle.std.specs.List.{AllByRecursion}
 use Rattle.std.proofs.lemmas.Option.{slice_get_within}
 use Rattle.std.proofs.lemmas.List.{take-append-drop, length-take-le, get_or_append_left}
 use Rattle.pur_base.specs.Devices.{View}
@@ -13,7 +14,7 @@ use Rattle.boot_codec.specs.Record.{AscendFrom, IsSegment, IsPatch}
 use Rattle.boot_codec.specs.Record as record_of
 use Rattle.boot_codec.specs.declared.patch.Patch.{Patch}
 use Rattle.boot_codec.specs.declared.patch.PatchSegment.{PatchSegment}
-use Rattle.fact_codec.specs.Fact.{Decodes}
+use Rattle.fact_codec.specs.Fact.{Decodes, IsFact}
 use Rattle.segment_codec.specs.Stripes.{SectorStands, StripesStand}
 use Rattle.array_spec.specs.Stored.{PatchStands, FactStands, pages, places_of_part, pages_in_part}
 use Rattle.world.specs.Shelf.{Shelved, Continues}
@@ -22,11 +23,11 @@ use Rattle.segment_io.specs.Stripes.{bytes_of}
 use Rattle.segment_io.specs.Reads.{ShowsPresent}
 use Rattle.patch_io.specs.Tables.{AreInOrder}
 use Rattle.patch_io.specs.Spelled.{fact_text}
-use Rattle.patch_io.specs.Standing.{StandsAt, StandIn, ReadsPart, ShowsPatch, StripesStandOf}
+use Rattle.patch_io.specs.Standing.{StandsAt, StandIn, ReadsPart, AreFactsOf, ShowsPatch, StripesStandOf}
 use Rattle.patch_io.specs.Faults.{IsPartFault, IsFaultOf, OthersStayOfPatch}
 use Rattle.patch_io.specs.declared.fault.PatchFault.{PatchFault}
 use Rattle.patch_io.specs.declared.fault.PatchFault.TheVariants.{Bad, Lost, Memory}
-use Rattle.patch_io.proofs.Lists.{get_either, get_taken, get_behind, all_at, all_front}
+use Rattle.patch_io.proofs.Lists.{get_either, get_taken, get_behind, all_at, all_both, all_front}
 
 -- ---- places of a lawful patch
 
@@ -105,12 +106,14 @@ in_order_front tag xs ys order = record {
 -- the facts so far are those of the patch's first parts
 pub record Loads (a : Shelved) (p : Patch) (missing : List Bool) (got : List AnyFact) : Type 0 where
   pub in_order : AreInOrder p.tag got
+  pub each : AllByRecursion IsFact got
   pub stand : a.honest → (view : View) → ShowsPatch a p missing view → StripesStandOf view p → (k : ℕ) (f : AnyFact) → slice_get got k ≡ Some f → FactStands view p k f
   pub front : a.honest → (view : View) (facts : List AnyFact) → ShowsPatch a p missing view → PatchStands view p facts → (rest : List AnyFact) × (facts ≡ got ++ rest)
 
 pub loads_none : (a : Shelved) (p : Patch) (missing : List Bool) → Loads a p missing []
 loads_none a p missing = record {
   in_order = record { table = tt; ascending = λ i j d less lt. absurd (omega (arith, lt)) };
+  each = tt;
   stand = λ h view shows stripes k f at. absurd (omega (arith, slice_get_within [] k f at));
   front = λ h view facts shows stands. (facts, refl);
 }
@@ -149,6 +152,7 @@ module _ (a b : Shelved) (p : Patch) (missing : List Bool) (part count : ℕ) (g
   pub loads_more : (new : List AnyFact) → ReadsPart b (places_of_part p part) missing p.tag count got new → Loads a p missing new
   loads_more new reads = record {
     in_order = reads.in_order;
+    each = subst (AllByRecursion IsFact) (sym reads.behind) (all_both IsFact got reads.added loads.each reads.each);
     stand = λ h view shows stripes k f at. elim (get_either got reads.added k f (sym (ap (λ (l : List AnyFact). slice_get l k) reads.behind) ∙ at)) [
       | inl early ↦ loads.stand h view shows stripes k f early
       | inr (j, is, here) ↦
@@ -175,6 +179,14 @@ module _ (a b : Shelved) (p : Patch) (missing : List Bool) (part count : ℕ) (g
       let x = others_of h view facts shows stands in
       let order : AreInOrder p.tag (got ++ (x.0 ++ x.1)) = subst (AreInOrder p.tag) x.2 (record { table = stands.table; ascending = stands.ascending }) in
       none view x.0 (shown h view shows) x.3 x.4 (in_order_front p.tag (got ++ x.0) x.1 (subst (AreInOrder p.tag) (sym (append_assoc got x.0 x.1)) order))
+
+-- whatever stands, as many facts were decoded
+pub facts_loaded : (a : Shelved) (p : Patch) (missing : List Bool) (part : ℕ) (got : List AnyFact) → length p.segments ≡ div_ceil p.facts 6720 → length p.segments ≤ part → length got ≡ min p.facts (6720 * part) → Loads a p missing got → AreFactsOf p got
+facts_loaded a p missing part got segments end so_far loads = record {
+  count = omega (arith, so_far, end, segments);
+  each = loads.each;
+  in_order = loads.in_order;
+}
 
 -- all facts of the patch
 pub patch_loaded : (a : Shelved) (p : Patch) (missing : List Bool) (part : ℕ) (got : List AnyFact) → length p.segments ≡ div_ceil p.facts 6720 → length p.segments ≤ part → length got ≡ min p.facts (6720 * part) → Loads a p missing got

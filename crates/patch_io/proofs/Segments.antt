@@ -5,7 +5,7 @@ use Rattle.pur_base.specs.Bytes.{bytes_at}
 use Rattle.pur_base.specs.Devices.{View}
 use Rattle.pur_base.specs.declared.place.Place.{Place}
 use Rattle.pur_base.specs.declared.facts.AnyFact.{AnyFact}
-use Rattle.fact_codec.specs.Fact.{Decodes}
+use Rattle.fact_codec.specs.Fact.{Decodes, IsFact}
 use Rattle.segment_codec.specs.Stripes.{SectorStands, StripesStand, sector_in}
 use Rattle.array_spec.specs.Stored.{pages}
 use Rattle.world.specs.Shelf.{Shelved}
@@ -16,7 +16,7 @@ use Rattle.patch_io.specs.Standing.{StandIn, ReadsPart}
 use Rattle.patch_io.specs.Faults.{IsPartFault}
 use Rattle.patch_io.specs.declared.fault.PatchFault.{PatchFault}
 use Rattle.patch_io.specs.declared.fault.PatchFault.TheVariants.{Bad, Lost, Memory}
-use Rattle.patch_io.proofs.Lists.{whole_of}
+use Rattle.patch_io.proofs.Lists.{whole_of, all_from}
 use Rattle.patch_io.proofs.Spelling.{begins_as}
 
 -- a fact's bytes are a part of its sector
@@ -57,6 +57,7 @@ module _ (a b : Shelved) (places : List Place) (missing : List Bool) (tag count 
     added = extends.added;
     behind = extends.behind;
     size = extends.size;
+    each = all_from IsFact extends.added (λ k f at. (extends.spelled k f at).fact);
     in_order = extends.in_order;
     stand = λ h view shows stripes. standing h view extends.added shows extends.size stripes extends.spelled;
     no_other = λ h view others shows long stand.

@@ -1,11 +1,12 @@
 -- Facts that stand on the drives of a segment, or of a patch.
 use Rattle.std.specs.Prelude.{◌≡◌, ℕ, ◌/◌, ◌%◌, ◌<◌, Bool, List, ◌++◌, length, Some, slice_get}
+use Rattle.std.specs.List.{AllByRecursion}
 use Rattle.pur_base.specs.Devices.{View}
 use Rattle.pur_base.specs.declared.place.Place.{Place}
 use Rattle.pur_base.specs.declared.facts.AnyFact.{AnyFact}
 use Rattle.boot_codec.specs.declared.patch.Patch.{Patch}
 use Rattle.fact_codec.specs.declared.limits.TheConstants.{PAGE_FACTS}
-use Rattle.fact_codec.specs.Fact.{Decodes}
+use Rattle.fact_codec.specs.Fact.{Decodes, IsFact}
 use Rattle.segment_codec.specs.Stripes.{SectorStands, StripesStand}
 use Rattle.array_spec.specs.Stored.{pages, places_of_part, pages_in_part}
 use Rattle.world.specs.Shelf.{Shelved}
@@ -28,11 +29,18 @@ pub record ReadsPart (shelf : Shelved) (places : List Place) (missing : List Boo
   pub added : List AnyFact
   pub behind : new ≡ old ++ added
   pub size : length added ≡ count
+  pub each : AllByRecursion IsFact added
   pub in_order : AreInOrder tag new
   pub stand : shelf.honest → (view : View) → ShowsPresent shelf places missing view → StripesStand view places (pages count) → StandIn view places added
   pub no_other : shelf.honest → (view : View) (others : List AnyFact) → ShowsPresent shelf places missing view → length others ≡ count → StandIn view places others → others ≡ added
 
 -- ---- in a patch
+
+-- as many facts as the patch names, of its table, in the order of their keys
+pub record AreFactsOf (p : Patch) (facts : List AnyFact) : Type 0 where
+  pub count : length facts ≡ p.facts
+  pub each : AllByRecursion IsFact facts
+  pub in_order : AreInOrder p.tag facts
 
 -- in each segment each drive that isn't missing is shown as it stands
 abbrev pub ShowsPatch : Shelved → Patch → List Bool → View → Type 0

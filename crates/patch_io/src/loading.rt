@@ -11,7 +11,7 @@ ghost use Rattle.world.specs.Writes.{WritesOnly};
 ghost use Rattle.segment_io.specs.Places.{ArePlaces, OthersStayOf};
 ghost use Rattle.segment_io.specs.Lost.{NoByte};
 ghost use Rattle.patch_io.specs.Tables.{AreInOrder};
-ghost use Rattle.patch_io.specs.Standing.{ReadsPart, ShowsPatch, StripesStandOf};
+ghost use Rattle.patch_io.specs.Standing.{AreFactsOf, ReadsPart, ShowsPatch, StripesStandOf};
 ghost use Rattle.patch_io.specs.Faults.{IsPartFault, IsFaultOf, OthersStayOfPatch};
 
 use crate::decoding::read_facts;
@@ -68,6 +68,7 @@ fn read_parts<F: TableFact, S: Shelf>(
     requires room { SECTOR_BYTES * SEGMENT_SECTORS ≤ length sectors.old }
     requires none { facts.old.items ≡ [] }
     ensures continues { Continues (S.shelf shelf.old) (S.shelf shelf.new) }
+    ensures decoded { OnOk result (AreFactsOf patch.now (map F.any facts.new.items)) }
     ensures facts { (S.shelf shelf.old).honest → OnOk result ((view : View) → ShowsPatch (S.shelf shelf.old) patch.now missing.now view → StripesStandOf view patch.now → PatchStands view patch.now (map F.any facts.new.items)) }
     ensures fault { IfErr result (λ fault. IsFaultOf (S.shelf shelf.old) (S.shelf shelf.new) patch.now missing.now fault) }
     ensures same { (S.shelf shelf.old).honest → (device : Device) → IsSame ((S.shelf shelf.old).disk device) ((S.shelf shelf.new).disk device) }
@@ -107,6 +108,8 @@ pub fn load_patch<F: TableFact, S: Shelf>(
     requires tag { patch.now.tag ≡ F.tag }
     requires room { SECTOR_BYTES * SEGMENT_SECTORS ≤ length sectors.old }
     ensures continues { Continues (S.shelf shelf.old) (S.shelf shelf.new) }
+    // What was decoded, whatever stands there.
+    ensures decoded { IfOk result (λ facts. AreFactsOf patch.now (map F.any facts.items)) }
     // What stands as the patch in each view that shows the drives that aren't missing.
     ensures ok { (S.shelf shelf.old).honest → IfOk result (λ facts. (view : View) → ShowsPatch (S.shelf shelf.old) patch.now missing.now view → StripesStandOf view patch.now → PatchStands view patch.now (map F.any facts.items)) }
     ensures fault { IfErr result (λ fault. IsFaultOf (S.shelf shelf.old) (S.shelf shelf.new) patch.now missing.now fault) }

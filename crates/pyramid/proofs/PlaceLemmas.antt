@@ -142,6 +142,10 @@ module _ {F : Type 0} (number : F → ℕ) where
         | inr b ↦ Contains-append_right (facts_of ps) us g (s g b)
       ]
 
+  -- another patch behind all others
+  pub rises_instead : (ps : List (List F)) (us : List F) (patch : Option (List F)) → Rises number ps us → AreBelow number (facts_of ps) (patch_facts patch) → Rises number (ps ++ patches_of patch) []
+  rises_instead ps us patch h below = rises_flushed ps (patch_facts patch) patch (rises_with number ps us (patch_facts patch) h below) (λ f c. c)
+
 module _ {F : Type 0} (key : F → ℕ) where
   pub ascend_replaced : (ps : List (List F)) (i : ℕ) (patch : Option (List F)) → All (Ascends key) ps → Ascends key (patch_facts patch) → All (Ascends key) (replaced ps i patch)
   ascend_replaced ps i patch h up = All-append (Ascends key) (take i ps) (patches_of patch ++ drop (i + 2) ps) (All-take (Ascends key) i ps h)
@@ -190,6 +194,14 @@ module _ {F : Type 0} (key number : F → ℕ) where
     ascend = ascend_flushed key ps patch h.ascend f.ascends;
     ordered = λ i j d l m. absurd (omega (arith, m));
     rises = rises_flushed number ps us patch h.rises f.source;
+  }
+
+  pub instead_layered : (ps : List (List F)) (us : List F) (patch : Option (List F)) → IsLayered key number ps us → Ascends key (patch_facts patch) → AreBelow number (facts_of ps) (patch_facts patch)
+      → IsLayered key number (ps ++ patches_of patch) []
+  instead_layered ps us patch h up below = record {
+    ascend = ascend_flushed key ps patch h.ascend up;
+    ordered = λ i j d l m. absurd (omega (arith, m));
+    rises = rises_instead number ps us patch h.rises below;
   }
 
   pub merge_layered : (ps : List (List F)) (i : ℕ) (patch : Option (List F)) (us : List F) → i + 1 < length ps → IsLayered key number ps us → Ascends key (patch_facts patch) → IsOfTwo ps i patch

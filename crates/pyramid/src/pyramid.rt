@@ -6,6 +6,8 @@ ghost use Rattle.elision.specs.Ranges.{AreApart};
 ghost use Rattle.pyramid.specs.Ends.{IsFirstSaid, IsLastSaid, IsSilent};
 ghost use Rattle.pyramid.specs.Layers.{facts_in, facts_of, newest_of, patch_at, patch_facts, patches_of, stays, AreBelow, AreCovered, AreDistinct, Grow, IsApart, IsFlushed, IsLayered, IsMerged, Rises, SaysTheSame};
 
+mod instead;
+
 use crate::ends::{first_key_of_all, last_key_of_all};
 use crate::insert::{insert_all, insert_in_order, keep_below};
 use crate::load::{LoadFault, are_rising};

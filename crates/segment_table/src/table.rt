@@ -4,6 +4,7 @@ ghost use Rattle.elision.specs.Ranges.{AreApart};
 ghost use Rattle.pyramid.specs.Layers.{AreDistinct, facts_in, facts_of};
 ghost use Rattle.segment_table.specs.Segments.{AreOwnFrom, AreVisible, number};
 
+mod added;
 mod flush;
 
 use crate::search::find;

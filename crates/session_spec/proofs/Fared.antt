@@ -12,10 +12,10 @@ use Rattle.pur_base.specs.Plain.{refusal, done}
 use Rattle.pur_base.specs.Grammar.{Item, Asked, Syntax, Cut}
 use Rattle.pur_base.specs.Replies.{Answer, given, answer_unless, after_unless}
 use Rattle.world.specs.Shelf.{Stop}
-use Rattle.world.specs.Losing.{has_risen, has_lost_writes, losing, IsLater}
+use Rattle.world.specs.Losing.{has_risen, has_failed, has_lost_writes, losing, IsLater}
 use Rattle.array_spec.specs.Runs.{Step, IsModelled, IsPhysical, IsBarred}
 use Rattle.array_spec.proofs.Standings.{within_twice}
-use Rattle.session_spec.specs.Faring.{Point, Fares, Serves, Answers, AnswersRequest, AnswersAccepted, IsRefused, IsDone, IsFailed, Where, WithRoom, is_spent, is_full}
+use Rattle.session_spec.specs.Faring.{Point, Fares, Serves, Answers, AnswersRequest, AnswersAccepted, IsLogged, IsRefused, IsFailed, Where, WithRoom, is_spent, is_full}
 use Rattle.session_spec.specs.Chain.{FaresRun, ClaimsHaveCauses, NoneComesBack, WasBorne, HaltsHaveCauses}
 use Rattle.session_spec.proofs.Conditions.{goes, unlost, borne_before, stays_so}
 
@@ -25,26 +25,27 @@ none_isn't : (why : Refusal) → None ≢ Some why
 none_isn't why e = cc e
 
 barred : (from to : Point) (why : Refusal) (r : Request) (sectors : List (List ℕ)) (q : Answer) → IsBarred why → IsRefused why from q to → Step from.array (Asked r sectors) q to.array
-barred from to why r sectors q is h = rw h.reply (inr (inl is, h.array))
+barred from to why r sectors q is h = rw h.reply (inr (inl is, h.stays.array))
 
 physical : (from to : Point) (why : Refusal) (r : Request) (sectors : List (List ℕ)) (q : Answer) → refusal from.array r ≡ None → IsPhysical why → IsRefused why from q to → Step from.array (Asked r sectors) q to.array
-physical from to why r sectors q none is h = rw h.reply (inr (inr (none, is), h.array))
+physical from to why r sectors q none is h = rw h.reply (inr (inr (none, is), h.stays.array))
 
 failed : (shelf : Geometry) (lost : Device → Bool) (from to : Point) (r : Request) (sectors : List (List ℕ)) (q : Answer) → refusal from.array r ≡ None → IsFailed shelf lost from q to → Step from.array (Asked r sectors) q to.array
-failed shelf lost from to r sectors q none h = rw h.reply (inr (inr (none, tt), h.array))
+failed shelf lost from to r sectors q none h = rw h.reply (inr (inr (none, tt), h.stays.array))
 
-modelled : (slots : ℕ) (lost : Device → Bool) (from to : Point) (r : Request) (sectors : List (List ℕ)) (q : Answer) → refusal from.array r ≡ None → IsModelled r → IsDone slots lost from r sectors q to → Step from.array (Asked r sectors) q to.array
-modelled slots lost from to r sectors q none is h = inl (
+-- the model's own answer, with its effect
+modelled : (from to : Point) (r : Request) (sectors : List (List ℕ)) (q : Answer) → refusal from.array r ≡ None → IsModelled r → q ≡ given from.array r → to.array ≡ done from.array r sectors → Step from.array (Asked r sectors) q to.array
+modelled from to r sectors q none is reply array = inl (
   inl is,
-  h.reply ∙ ap (λ (w : Option Refusal). answer_unless w (given from.array r)) (sym none),
-  h.array ∙ ap (λ (w : Option Refusal). after_unless w from.array (done from.array r sectors)) (sym none),
+  reply ∙ ap (λ (w : Option Refusal). answer_unless w (given from.array r)) (sym none),
+  array ∙ ap (λ (w : Option Refusal). after_unless w from.array (done from.array r sectors)) (sym none),
 )
 
 by_model : (from to : Point) (why : Refusal) (r : Request) (sectors : List (List ℕ)) (q : Answer) → refusal from.array r ≡ Some why → IsRefused why from q to → Step from.array (Asked r sectors) q to.array
 by_model from to why r sectors q is h = inl (
   inr (λ none. none_isn't why (sym none ∙ is)),
   h.reply ∙ ap (λ (w : Option Refusal). answer_unless w (given from.array r)) (sym is),
-  h.array ∙ ap (λ (w : Option Refusal). after_unless w from.array (done from.array r sectors)) (sym is),
+  h.stays.array ∙ ap (λ (w : Option Refusal). after_unless w from.array (done from.array r sectors)) (sym is),
 )
 
 either : (is : Bool) {one other : Type 0} {P : Type 0} → (one → P) → (other → P) → Where is one other → P
@@ -55,45 +56,42 @@ either false f g h = g h
 in_room : (from to : Point) (q : Answer) {some : Type 0} {P : Type 0} → (IsRefused refusals.Spent from q to → P) → (IsRefused refusals.Space from q to → P) → (some → P) → WithRoom from q to some → P
 in_room from to q f g h w = either (is_spent from) f (either (is_full from) g h) w
 
-accepted : (shelf : Geometry) (lost : Device → Bool) (from to : Point) (r : Request) (sectors : List (List ℕ)) (q : Answer) → refusal from.array r ≡ None
-    → AnswersAccepted shelf lost from r sectors q to → Step from.array (Asked r sectors) q to.array
-accepted shelf lost from to (request.Create n size) sectors q none h = in_room from to q (physical from to refusals.Spent (request.Create n size) sectors q none tt) (physical from to refusals.Space (request.Create n size) sectors q none tt)
+-- a logged request
+logged : (shelf : Geometry) (lost : Device → Bool) (from to : Point) (r : Request) (sectors : List (List ℕ)) (q : Answer) → refusal from.array r ≡ None → IsModelled r
+    → IsLogged shelf lost from r sectors q to → Step from.array (Asked r sectors) q to.array
+logged shelf lost from to r sectors q none is h = in_room from to q (physical from to refusals.Spent r sectors q none tt) (physical from to refusals.Space r sectors q none tt)
     (λ s. elim s [
-      | inl d ↦ modelled 1 lost from to (request.Create n size) sectors q none tt d
-      | inr (inl m) ↦ physical from to refusals.Memory (request.Create n size) sectors q none tt m
-      | inr (inr f) ↦ failed shelf lost from to (request.Create n size) sectors q none f
+      | inl d ↦ modelled from to r sectors q none is d.reply d.array
+      | inr f ↦ failed shelf lost from to r sectors q none f
     ]) h
-accepted shelf lost from to (request.Write n lba count) sectors q none h = in_room from to q (physical from to refusals.Spent (request.Write n lba count) sectors q none tt) (physical from to refusals.Space (request.Write n lba count) sectors q none tt)
-    (λ s. elim s [
-      | inl d ↦ modelled 1 lost from to (request.Write n lba count) sectors q none tt d
-      | inr f ↦ failed shelf lost from to (request.Write n lba count) sectors q none f
-    ]) h
-accepted shelf lost from to (request.Fill n lba count byte) sectors q none h = in_room from to q (physical from to refusals.Spent (request.Fill n lba count byte) sectors q none tt) (physical from to refusals.Space (request.Fill n lba count byte) sectors q none tt)
-    (λ s. elim s [
-      | inl d ↦ modelled 1 lost from to (request.Fill n lba count byte) sectors q none tt d
-      | inr f ↦ failed shelf lost from to (request.Fill n lba count byte) sectors q none f
-    ]) h
-accepted shelf lost from to (request.Read n lba count) sectors q none h = modelled 0 lost from to (request.Read n lba count) sectors q none tt h
-accepted shelf lost from to request.List sectors q none h = modelled 0 lost from to request.List sectors q none tt h
-accepted shelf lost from to _ sectors q none h = absurd h
 
-requested : (halted : Bool) (why : Option Refusal) (shelf : Geometry) (lost : Device → Bool) (from to : Point) (r : Request) (sectors : List (List ℕ)) (q : Answer)
-    → refusal from.array r ≡ why → AnswersRequest halted why shelf lost from r sectors q to → Step from.array (Asked r sectors) q to.array
-requested true why shelf lost from to r sectors q is h = barred from to refusals.Halted r sectors q tt h
-requested false (Some why) shelf lost from to r sectors q is h = by_model from to why r sectors q is h
-requested false None shelf lost from to r sectors q is h = accepted shelf lost from to r sectors q is h
+accepted : (shelf : Geometry) (fails lost : Device → Bool) (from to : Point) (r : Request) (sectors : List (List ℕ)) (q : Answer) → refusal from.array r ≡ None
+    → AnswersAccepted true shelf fails lost from r sectors q to → Step from.array (Asked r sectors) q to.array
+accepted shelf fails lost from to (request.Create n size) sectors q none h = logged shelf lost from to (request.Create n size) sectors q none tt h
+accepted shelf fails lost from to (request.Write n lba count) sectors q none h = logged shelf lost from to (request.Write n lba count) sectors q none tt h
+accepted shelf fails lost from to (request.Fill n lba count byte) sectors q none h = logged shelf lost from to (request.Fill n lba count byte) sectors q none tt h
+accepted shelf fails lost from to (request.Read n lba count) sectors q none (inl d) = modelled from to (request.Read n lba count) sectors q none tt (d.known refl) d.stays.array
+accepted shelf fails lost from to (request.Read n lba count) sectors q none (inr gone) = physical from to refusals.Device (request.Read n lba count) sectors q none tt gone.refused_so
+accepted shelf fails lost from to request.List sectors q none h = modelled from to request.List sectors q none tt h.reply h.stays.array
+accepted shelf fails lost from to _ sectors q none h = absurd h
 
-lawful : (shelf : Geometry) (lost : Device → Bool) (from to : Point) (item : Item) (q : Answer) → Answers shelf lost from item q to → Step from.array item q to.array
-lawful shelf lost from to (Asked r sectors) q h = requested from.halted (refusal from.array r) shelf lost from to r sectors q refl h
-lawful shelf lost from to Syntax q h = inl (tt, h.reply, h.array)
-lawful shelf lost from to Cut q h = inl (tt, h.reply, h.array)
+requested : (halted : Bool) (why : Option Refusal) (shelf : Geometry) (fails lost : Device → Bool) (from to : Point) (r : Request) (sectors : List (List ℕ)) (q : Answer)
+    → refusal from.array r ≡ why → AnswersRequest halted why true shelf fails lost from r sectors q to → Step from.array (Asked r sectors) q to.array
+requested true why shelf fails lost from to r sectors q is h = barred from to refusals.Halted r sectors q tt h
+requested false (Some why) shelf fails lost from to r sectors q is h = by_model from to why r sectors q is h
+requested false None shelf fails lost from to r sectors q is h = accepted shelf fails lost from to r sectors q is h
+
+lawful : (shelf : Geometry) (fails lost : Device → Bool) (from to : Point) (item : Item) (q : Answer) → Answers true shelf fails lost from item q to → Step from.array item q to.array
+lawful shelf fails lost from to (Asked r sectors) q h = requested from.halted (refusal from.array r) shelf fails lost from to r sectors q refl h
+lawful shelf fails lost from to Syntax q h = inl (tt, h.reply, h.stays.array)
+lawful shelf fails lost from to Cut q h = inl (tt, h.reply, h.stays.array)
 
 module _ (left : Stop → Type 0) where
   pub fares_run : FaresRun left
   fares_run shelf from to items [] run = ap (λ (p : Point). p.array) run
   fares_run shelf from to [] (q ∷ qs) run = absurd run
   fares_run shelf from to (item ∷ items) (q ∷ qs) run =
-      (run.0.array, lawful shelf (has_lost_writes from.stop run.0.stop) from run.0 item q run.1.answers, fares_run shelf run.0 to items qs run.2)
+      (run.0.array, lawful shelf (has_failed from.stop run.0.stop) (has_lost_writes from.stop run.0.stop) from run.0 item q run.1.answers, fares_run shelf run.0 to items qs run.2)
 
 -- ---- counts
 
@@ -121,33 +119,33 @@ becomes : (c d e : Condition) → d ≡ e → MayBecome c e → MayBecome c d
 becomes c d e is w = subst (λ (x : Condition). MayBecome c x) (sym is) w
 
 module _ (left : Stop → Type 0) where
-  fares_later : (shelf : Geometry) (from to : Point) (items : List Item) (qs : List Answer) → Fares shelf left from items qs to → IsLater from.stop to.stop
-  fares_later shelf from to items [] run = record { faults = λ d. omega (arith, ap (λ (p : Point). p.stop.faults d) run); write_faults = λ d. omega (arith, ap (λ (p : Point). p.stop.write_faults d) run) }
-  fares_later shelf from to [] (q ∷ qs) run = absurd run
-  fares_later shelf from to (item ∷ items) (q ∷ qs) run = later_then run.1.later (fares_later shelf run.0 to items qs run.2)
+  fares_later : (told : Bool) (shelf : Geometry) (from to : Point) (items : List Item) (qs : List Answer) → Fares told shelf left from items qs to → IsLater from.stop to.stop
+  fares_later told shelf from to items [] run = record { faults = λ d. omega (arith, ap (λ (p : Point). p.stop.faults d) run); write_faults = λ d. omega (arith, ap (λ (p : Point). p.stop.write_faults d) run) }
+  fares_later told shelf from to [] (q ∷ qs) run = absurd run
+  fares_later told shelf from to (item ∷ items) (q ∷ qs) run = later_then run.1.later (fares_later told shelf run.0 to items qs run.2)
 
   pub claims_have_causes : ClaimsHaveCauses left
-  claims_have_causes shelf from to items [] run d none = ap (λ (p : Point). p.conditions d) run
-  claims_have_causes shelf from to [] (q ∷ qs) run d none = absurd run
-  claims_have_causes shelf from to (item ∷ items) (q ∷ qs) run d none =
-      let counts = not_risen _ _ _ (run.1.later.write_faults d) ((fares_later shelf run.0 to items qs run.2).write_faults d) none in
-      claims_have_causes shelf run.0 to items qs run.2 d counts.1 ∙ run.1.turns d ∙ unlost (has_lost_writes from.stop run.0.stop d) (from.conditions d) counts.0
+  claims_have_causes told shelf from to items [] run d none = ap (λ (p : Point). p.conditions d) run
+  claims_have_causes told shelf from to [] (q ∷ qs) run d none = absurd run
+  claims_have_causes told shelf from to (item ∷ items) (q ∷ qs) run d none =
+      let counts = not_risen _ _ _ (run.1.later.write_faults d) ((fares_later told shelf run.0 to items qs run.2).write_faults d) none in
+      claims_have_causes told shelf run.0 to items qs run.2 d counts.1 ∙ run.1.turns d ∙ unlost (has_lost_writes from.stop run.0.stop d) (from.conditions d) counts.0
 
-  served_within : (shelf : Geometry) (from to : Point) (item : Item) (q : Answer) → Serves shelf left from item q to → IsWithin from.conditions to.conditions
-  served_within shelf from to item q s d = becomes (from.conditions d) (to.conditions d) _ (s.turns d) (goes (has_lost_writes from.stop to.stop d) (from.conditions d))
+  served_within : (told : Bool) (shelf : Geometry) (from to : Point) (item : Item) (q : Answer) → Serves told shelf left from item q to → IsWithin from.conditions to.conditions
+  served_within told shelf from to item q s d = becomes (from.conditions d) (to.conditions d) _ (s.turns d) (goes (has_lost_writes from.stop to.stop d) (from.conditions d))
 
   pub none_comes_back : NoneComesBack left
-  none_comes_back shelf from to items [] run d = becomes (from.conditions d) (to.conditions d) (from.conditions d) (ap (λ (p : Point). p.conditions d) run) (stays_so (from.conditions d))
-  none_comes_back shelf from to [] (q ∷ qs) run d = absurd run
-  none_comes_back shelf from to (item ∷ items) (q ∷ qs) run d =
-      within_twice from.conditions run.0.conditions to.conditions (served_within shelf from run.0 item q run.1) (none_comes_back shelf run.0 to items qs run.2) d
+  none_comes_back told shelf from to items [] run d = becomes (from.conditions d) (to.conditions d) (from.conditions d) (ap (λ (p : Point). p.conditions d) run) (stays_so (from.conditions d))
+  none_comes_back told shelf from to [] (q ∷ qs) run d = absurd run
+  none_comes_back told shelf from to (item ∷ items) (q ∷ qs) run d =
+      within_twice from.conditions run.0.conditions to.conditions (served_within told shelf from run.0 item q run.1) (none_comes_back told shelf run.0 to items qs run.2) d
 
   pub was_borne : WasBorne left
-  was_borne shelf from to items [] run bearable = borne_before shelf from.conditions to.conditions (none_comes_back shelf from to items [] run) bearable
-  was_borne shelf from to [] (q ∷ qs) run bearable = absurd run
-  was_borne shelf from to (item ∷ items) (q ∷ qs) run bearable = (
-    borne_before shelf from.conditions to.conditions (none_comes_back shelf from to (item ∷ items) (q ∷ qs) run) bearable,
-    was_borne shelf run.0 to items qs run.2 bearable,
+  was_borne told shelf from to items [] run bearable = borne_before shelf from.conditions to.conditions (none_comes_back told shelf from to items [] run) bearable
+  was_borne told shelf from to [] (q ∷ qs) run bearable = absurd run
+  was_borne told shelf from to (item ∷ items) (q ∷ qs) run bearable = (
+    borne_before shelf from.conditions to.conditions (none_comes_back told shelf from to (item ∷ items) (q ∷ qs) run) bearable,
+    was_borne told shelf run.0 to items qs run.2 bearable,
   )
 
 -- ---- halting
@@ -156,40 +154,44 @@ module _ (left : Stop → Type 0) where
 HaltedBy : Geometry → (Device → Bool) → Point → Point → Type 0
 HaltedBy shelf lost from to = (to.halted ≡ from.halted) ⊎ (¬ (IsBearable shelf (losing lost from.conditions)))
 
-accepted_halts : (shelf : Geometry) (lost : Device → Bool) (from to : Point) (r : Request) (sectors : List (List ℕ)) (q : Answer) → AnswersAccepted shelf lost from r sectors q to → HaltedBy shelf lost from to
+logged_halts : (shelf : Geometry) (lost : Device → Bool) (from to : Point) (r : Request) (sectors : List (List ℕ)) (q : Answer) → IsLogged shelf lost from r sectors q to → HaltedBy shelf lost from to
 unfolding HaltedBy
-accepted_halts shelf lost from to (request.Create n size) sectors q h = in_room from to q (λ s. inl s.halted) (λ s. inl s.halted)
-    (λ s. elim s [ inl d ↦ inl d.halted | inr (inl m) ↦ inl m.halted | inr (inr f) ↦ inr f.unborne ]) h
-accepted_halts shelf lost from to (request.Write n lba count) sectors q h = in_room from to q (λ s. inl s.halted) (λ s. inl s.halted) (λ s. elim s [ inl d ↦ inl d.halted | inr f ↦ inr f.unborne ]) h
-accepted_halts shelf lost from to (request.Fill n lba count byte) sectors q h = in_room from to q (λ s. inl s.halted) (λ s. inl s.halted) (λ s. elim s [ inl d ↦ inl d.halted | inr f ↦ inr f.unborne ]) h
-accepted_halts shelf lost from to (request.Read n lba count) sectors q h = inl h.halted
-accepted_halts shelf lost from to request.List sectors q h = inl h.halted
-accepted_halts shelf lost from to _ sectors q h = absurd h
+logged_halts shelf lost from to r sectors q h = in_room from to q (λ s. inl s.halted) (λ s. inl s.halted) (λ s. elim s [ inl d ↦ inl d.halted | inr f ↦ inr f.unborne ]) h
 
-request_halts : (halted : Bool) (why : Option Refusal) (shelf : Geometry) (lost : Device → Bool) (from to : Point) (r : Request) (sectors : List (List ℕ)) (q : Answer)
-    → AnswersRequest halted why shelf lost from r sectors q to → HaltedBy shelf lost from to
+accepted_halts : (told : Bool) (shelf : Geometry) (fails lost : Device → Bool) (from to : Point) (r : Request) (sectors : List (List ℕ)) (q : Answer) → AnswersAccepted told shelf fails lost from r sectors q to → HaltedBy shelf lost from to
 unfolding HaltedBy
-request_halts true why shelf lost from to r sectors q h = inl h.halted
-request_halts false (Some why) shelf lost from to r sectors q h = inl h.halted
-request_halts false None shelf lost from to r sectors q h = accepted_halts shelf lost from to r sectors q h
+accepted_halts told shelf fails lost from to (request.Create n size) sectors q h = logged_halts shelf lost from to (request.Create n size) sectors q h
+accepted_halts told shelf fails lost from to (request.Write n lba count) sectors q h = logged_halts shelf lost from to (request.Write n lba count) sectors q h
+accepted_halts told shelf fails lost from to (request.Fill n lba count byte) sectors q h = logged_halts shelf lost from to (request.Fill n lba count byte) sectors q h
+accepted_halts told shelf fails lost from to (request.Read n lba count) sectors q (inl d) = inl d.halted
+accepted_halts told shelf fails lost from to (request.Read n lba count) sectors q (inr gone) = inl gone.refused_so.halted
+accepted_halts told shelf fails lost from to request.List sectors q h = inl h.halted
+accepted_halts told shelf fails lost from to _ sectors q h = absurd h
 
-halts : (shelf : Geometry) (lost : Device → Bool) (from to : Point) (item : Item) (q : Answer) → Answers shelf lost from item q to → HaltedBy shelf lost from to
+request_halts : (halted : Bool) (why : Option Refusal) (told : Bool) (shelf : Geometry) (fails lost : Device → Bool) (from to : Point) (r : Request) (sectors : List (List ℕ)) (q : Answer)
+    → AnswersRequest halted why told shelf fails lost from r sectors q to → HaltedBy shelf lost from to
 unfolding HaltedBy
-halts shelf lost from to (Asked r sectors) q h = request_halts from.halted (refusal from.array r) shelf lost from to r sectors q h
-halts shelf lost from to Syntax q h = inl h.halted
-halts shelf lost from to Cut q h = inl h.halted
+request_halts true why told shelf fails lost from to r sectors q h = inl h.halted
+request_halts false (Some why) told shelf fails lost from to r sectors q h = inl h.halted
+request_halts false None told shelf fails lost from to r sectors q h = accepted_halts told shelf fails lost from to r sectors q h
+
+halts : (told : Bool) (shelf : Geometry) (fails lost : Device → Bool) (from to : Point) (item : Item) (q : Answer) → Answers told shelf fails lost from item q to → HaltedBy shelf lost from to
+unfolding HaltedBy
+halts told shelf fails lost from to (Asked r sectors) q h = request_halts from.halted (refusal from.array r) told shelf fails lost from to r sectors q h
+halts told shelf fails lost from to Syntax q h = inl h.halted
+halts told shelf fails lost from to Cut q h = inl h.halted
 
 module _ (left : Stop → Type 0) where
   pub halts_have_causes : HaltsHaveCauses left
   unfolding HaltedBy
-  halts_have_causes shelf from to items [] run awake asleep bearable = cc (ap (λ (p : Point). p.halted) run, awake, asleep)
-  halts_have_causes shelf from to [] (q ∷ qs) run awake asleep bearable = absurd run
-  halts_have_causes shelf from to (item ∷ items) (q ∷ qs) run awake asleep bearable =
+  halts_have_causes told shelf from to items [] run awake asleep bearable = cc (ap (λ (p : Point). p.halted) run, awake, asleep)
+  halts_have_causes told shelf from to [] (q ∷ qs) run awake asleep bearable = absurd run
+  halts_have_causes told shelf from to (item ∷ items) (q ∷ qs) run awake asleep bearable =
       let mid = run.0 in
-      let within : IsWithin mid.conditions to.conditions = none_comes_back left shelf mid to items qs run.2 in
+      let within : IsWithin mid.conditions to.conditions = none_comes_back left told shelf mid to items qs run.2 in
       let borne : IsBearable shelf mid.conditions = borne_before shelf mid.conditions to.conditions within bearable in
       let same : mid.conditions ≡ losing (has_lost_writes from.stop mid.stop) from.conditions = λ k d. run.1.turns d k in
-      elim (halts shelf (has_lost_writes from.stop mid.stop) from mid item q run.1.answers) [
-        | inl e ↦ halts_have_causes shelf mid to items qs run.2 (e ∙ awake) asleep bearable
+      elim (halts told shelf (has_failed from.stop mid.stop) (has_lost_writes from.stop mid.stop) from mid item q run.1.answers) [
+        | inl e ↦ halts_have_causes told shelf mid to items qs run.2 (e ∙ awake) asleep bearable
         | inr unborne ↦ unborne (subst (λ (c : Conditions). IsBearable shelf c) same borne)
       ]

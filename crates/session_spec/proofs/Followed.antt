@@ -1,40 +1,42 @@
 -- After a session that was stopped the next one enters.
-use Rattle.std.proofs.Common.{◌≡◌, ◌⊎◌, inl, inr, List}
-use Rattle.pur_base.specs.Devices.{Conditions}
+use Rattle.std.proofs.Common.{◌≡◌, ◌⊎◌, inl, inr, ℕ, List, true}
 use Rattle.pur_base.specs.Plain.{Array}
-use Rattle.pur_base.specs.Grammar.{Item}
-use Rattle.world.specs.Shelf.{Shelved, Stop, IsQuietBy}
+use Rattle.pur_base.specs.declared.reply.Status.{Status}
+use Rattle.pur_base.specs.Devices.{Conditions}
+use Rattle.pur_base.specs.Grammar.{requests}
+use Rattle.world.specs.Shelf.{Shelved, Stop}
 use Rattle.world.specs.Losing.{geometry_of}
-use Rattle.session_spec.specs.Entering.{Found, read_now}
-use Rattle.session_spec.specs.Faring.{Point}
-use Rattle.session_spec.specs.Headline.{Replied, StandsAt}
-use Rattle.session_spec.specs.Chain.{Resumes, EntersWith, ServedFollows, UnopenedFollows, missing_at, IsBorneAt, MayStandAt}
+use Rattle.session_spec.specs.Headline.{Opening, IsInOpening, Keeps, Replied, StandsOn}
+use Rattle.session_spec.specs.Chain.{GoesOnFrom, GoesOnFromOpening, ServedFollows, UnopenedFollows}
 use Rattle.session_spec.proofs.Resumed.{stops_chain}
 
-follows : (old next : Shelved) (left : Stop → Type 0) (found : Found (geometry_of old) (read_now old).image) (first : Point) (items : List Item) (missing later : Conditions) (arrays : List Array) (stop : Stop)
-    → (here : IsQuietBy old stop ⊎ Replied (geometry_of old) left first items stop)
-    → StandsAt old left found first items missing arrays stop here → IsBorneAt old left first items missing stop here
-    → Resumes (geometry_of old) (λ was. was ≡ stop.image) (missing_at old left first items missing stop here) next later
-    → EntersWith next later (MayStandAt old left first items missing stop arrays here)
-follows old next left found first items missing later arrays stop (inl quiet) stands borne r = record {
-  arrays = arrays;
-  each = λ array is. is;
-  enters = stops_chain next (geometry_of old) stop _ later arrays (stands.standing borne) r;
+from_opening : (old next : Shelved) (o : Opening old) (missing : Conditions) (arrays : List Array) (stop : Stop) → IsInOpening old o missing arrays stop → GoesOnFromOpening old next missing arrays stop
+from_opening old next o missing arrays stop h = record {
+  quiet = h.quiet;
+  enters = λ borne later r. stops_chain next (geometry_of old) stop _ later arrays (h.stands.standing borne) r;
 }
-follows old next left found first items missing later arrays stop (inr at) stands borne r =
-    let among = stands borne.0 borne.1 borne.2 in
-    record {
-      arrays = among.arrays;
-      each = among.each;
-      enters = stops_chain next (geometry_of old) stop _ later among.arrays among.standing r;
-    }
+
+from_reply : (old new next : Shelved) (input left : List ℕ) (ended : Status) (o : Opening old) (missing : Conditions) (arrays : List Array) (stop : Stop) (k : Keeps old new input left ended o missing arrays)
+    (at : Replied true (geometry_of old) (new.left_since o.moment) k.s.first (requests input) stop) → StandsOn (geometry_of old) (new.left_since o.moment) k.s.first (requests input) stop at → GoesOnFrom old new next input left ended o stop
+from_reply old new next input left ended o missing arrays stop k at stands = record {
+  s = k.s;
+  at = at;
+  enters = λ borne bearable later r.
+      let among = stands borne bearable in
+      record {
+        arrays = among.arrays;
+        each = among.each;
+        enters = stops_chain next (geometry_of old) stop _ later among.arrays among.standing r;
+      };
+}
 
 pub served_follows : (old new next : Shelved) → ServedFollows old new next
 served_follows old new next input left ended s missing arrays e stop since =
-    let at = (s.outlasts missing arrays e).each stop since in (
-      at.0,
-      λ borne later r. follows old next (new.left_since s.serving.moment) s.serving.found s.serving.first _ missing later arrays stop at.0 at.1 borne r,
-    )
+    let lasts = s.outlasts missing arrays e in
+    elim (lasts.each stop since) [
+      | inl h ↦ inl (from_opening old next s.opening missing arrays stop h)
+      | inr after ↦ inr (λ borne. from_reply old new next input left ended s.opening missing arrays stop (lasts.keeps borne) (after borne).0 (after borne).1)
+    ]
 
 pub unopened_follows : (old new next : Shelved) → UnopenedFollows old new next
 unopened_follows old new next input left ended u missing arrays e stop since borne later r =

@@ -170,12 +170,9 @@ module _ (shelf : Geometry) (was : Image) (now : Conditions) (image : Image) (mi
   named_is_kept e h = cc (e, h)
 
   read : LeftOutAreNamedByNone shelf was now → AreRead shelf was now → AreRead shelf image missing
-  read none r = record {
-    unflushed = λ slot boot g. r.unflushed slot boot (given g);
-    in_force = λ slot boot g n i command named s.
-        r.in_force slot boot (given g) n i command named
-        (shown_before (missing (nvram n)) (was (nvram n)) (image (nvram n)) boot.flushed i command (λ out. named_is_kept named (left_out none (nvram n) out slot boot g)) (f.shows (nvram n)) s);
-  }
+  read none r slot boot g n i command named s =
+      r slot boot (given g) n i command named
+      (shown_before (missing (nvram n)) (was (nvram n)) (image (nvram n)) boot.flushed i command (λ out. named_is_kept named (left_out none (nvram n) out slot boot g)) (f.shows (nvram n)) s)
 
   pub standing : (arrays : List Array) → IsBearable shelf missing → IsStanding shelf was now arrays → IsStanding shelf image missing arrays
   standing arrays borne s = record { stands = stands arrays borne s.stands; left_out = left_out s.left_out; read = read s.left_out s.read }
@@ -235,10 +232,7 @@ standing_with_fewer shelf missing arrays e stop may failed borne =
     record {
       stands = more_may_go_missing (geometry_of shelf) stop.image missing (losing failed missing) arrays within borne (e.stands stop may);
       left_out = λ d out slot boot given. e.left_out stop may d (left_out_once (failed d) (missing d) out) slot boot (given_with_fewer within given);
-      read = record {
-        unflushed = λ slot boot given. (e.read stop may).unflushed slot boot (given_with_fewer within given);
-        in_force = λ slot boot given. (e.read stop may).in_force slot boot (given_with_fewer within given);
-      };
+      read = λ slot boot given. e.read stop may slot boot (given_with_fewer within given);
     }
 
 pub nothing_done : (shelf : Shelved) → NothingDone shelf

@@ -16,7 +16,7 @@ use Rattle.array_spec.specs.Standing.{Stands}
 use Rattle.pur_base.specs.declared.reply.Status.{Status}
 use Rattle.pur_base.specs.declared.reply.Status.TheVariants as status
 use Rattle.world.specs.Streams.{Streamed}
-use Rattle.session_spec.specs.Headline.{Survives, Replied, IsAfter, IsOpenedBearably, Served, Unopened}
+use Rattle.session_spec.specs.Headline.{Survives, Serving, Opening, Replied, IsAfter, IsOpenedBearably, Served, Unopened}
 use Rattle.session_spec.specs.Entering.{IsStanding, IsLeft, Enters, Found, IsTakenOver, StandsStill, HasRoom, failed_by}
 use Rattle.session_spec.specs.Faring.{Point, Fares, IsBorne, now_missing}
 
@@ -53,34 +53,31 @@ abbrev pub GoesOnAtOnce : Shelved → Type 0
 GoesOnAtOnce shelf = (now : Conditions) (arrays : List Array) → IsLeft shelf now arrays → IsBearable (geometry_of shelf) now
     → ((stop : Stop) → MayStop shelf stop → HasRoom (geometry_of shelf) stop.image now) → Enters shelf now arrays
 
--- What a stop in a session leaves, in the opening or after it: which devices are missing then, whether that could be borne all the way, and the arrays for which they may stand.
-module _ (old : Shelved) (left : Stop → Type 0) (first : Point) (items : List Item) (missing : Conditions) (stop : Stop) where
-  abbrev pub missing_at : IsQuietBy old stop ⊎ Replied (geometry_of old) left first items stop → Conditions
-  missing_at (inl quiet) = failed_by old stop missing
-  missing_at (inr at) = now_missing at.point stop
-
-  abbrev pub IsBorneAt : IsQuietBy old stop ⊎ Replied (geometry_of old) left first items stop → Type 0
-  IsBorneAt (inl quiet) = IsBearable (geometry_of old) (failed_by old stop missing)
-  IsBorneAt (inr at) = IsOpenedBearably old first missing × IsBorne (geometry_of old) left first items at.replies at.point at.run × IsBearable (geometry_of old) (now_missing at.point stop)
-
-  abbrev pub MayStandAt : List Array → IsQuietBy old stop ⊎ Replied (geometry_of old) left first items stop → Array → Type 0
-  MayStandAt arrays (inl quiet) array = Contains arrays array
-  MayStandAt arrays (inr at) array = IsAfter at.point (drop (length at.replies) items) array
-
 -- The next session enters with arrays that may stand at the stop.
 pub record EntersWith (next : Shelved) (later : Conditions) (P : Array → Type 0) : Type 0 where
   pub arrays : List Array
   pub each : (array : Array) → Contains arrays array → P array
   pub enters : Enters next later arrays
 
+-- At a stop in the opening nothing was taken or given, and the next session enters with the same arrays, as long as what has failed by then is borne.
+pub record GoesOnFromOpening (old next : Shelved) (missing : Conditions) (arrays : List Array) (stop : Stop) : Type 0 where
+  pub quiet : IsQuietBy old stop
+  pub enters : IsBearable (geometry_of old) (failed_by old stop missing)
+      → (later : Conditions) → Resumes (geometry_of old) (λ was. was ≡ stop.image) (failed_by old stop missing) next later → Enters next later arrays
+
+-- At a stop after it so many replies were whole, and the next session enters with arrays that may stand there, as long as what is missing was borne all the way.
+pub record GoesOnFrom (old new next : Shelved) (input left : List ℕ) (ended : Status) (o : Opening old) (stop : Stop) : Type 0 where
+  pub s : Serving true old new input left ended o
+  pub at : Replied true (geometry_of old) (new.left_since o.moment) s.first (requests input) stop
+  pub enters : IsBorne true (geometry_of old) (new.left_since o.moment) s.first (requests input) at.replies at.point at.run → IsBearable (geometry_of old) (now_missing at.point stop)
+      → (later : Conditions) → Resumes (geometry_of old) (λ was. was ≡ stop.image) (now_missing at.point stop) next later
+      → EntersWith next later (IsAfter at.point (drop (length at.replies) (requests input)))
+
 -- A session that was served was stopped at any moment, and the next one finds what it left.
 abbrev pub ServedFollows : Shelved → Shelved → Shelved → Type 0
 ServedFollows old new next = (input left : List ℕ) (ended : Status) (s : Served old new input left ended)
     → (missing : Conditions) (arrays : List Array) → Enters old missing arrays → (stop : Stop) → new.left_since old.moment stop
-    → let points = new.left_since s.serving.moment in
-    (here : IsQuietBy old stop ⊎ Replied (geometry_of old) points s.serving.first (requests input) stop) × (IsBorneAt old points s.serving.first (requests input) missing stop here
-    → (later : Conditions) → Resumes (geometry_of old) (λ was. was ≡ stop.image) (missing_at old points s.serving.first (requests input) missing stop here) next later
-    → EntersWith next later (MayStandAt old points s.serving.first (requests input) missing stop arrays here))
+    → GoesOnFromOpening old next missing arrays stop ⊎ (IsOpenedBearably old s.opening missing → GoesOnFrom old new next input left ended s.opening stop)
 
 -- One that wasn't opened was stopped, and the next one finds the same arrays.
 abbrev pub UnopenedFollows : Shelved → Shelved → Shelved → Type 0
@@ -103,33 +100,33 @@ MayWantMemory shelf source sink = Survives shelf shelf source source sink sink s
 
 -- the replies that the devices fare by are lawful ones
 abbrev pub FaresRun : (Stop → Type 0) → Type 0
-FaresRun left = (shelf : Geometry) (from to : Point) (items : List Item) (qs : List Answer) → Fares shelf left from items qs to → Runs from.array items qs to.array
+FaresRun left = (shelf : Geometry) (from to : Point) (items : List Item) (qs : List Answer) → Fares true shelf left from items qs to → Runs from.array items qs to.array
 
 -- What may stand at a stop is what the acknowledged items leave, or one item more.
 abbrev pub LeavesAfter : (Stop → Type 0) → Type 0
-LeavesAfter left = (shelf : Geometry) (first : Point) (items : List Item) (stop : Stop) (at : Replied shelf left first items stop) (array : Array)
+LeavesAfter left = (shelf : Geometry) (first : Point) (items : List Item) (stop : Stop) (at : Replied true shelf left first items stop) (array : Array)
     → IsAfter at.point (drop (length at.replies) items) array → (n : ℕ) × After first.array items (drop (length first.stop.output) stop.output) n array
 
 -- ---- claims and their causes
 
 -- A device on which no write or sync failed is as it was: none is claimed to be missing without a cause.
 abbrev pub ClaimsHaveCauses : (Stop → Type 0) → Type 0
-ClaimsHaveCauses left = (shelf : Geometry) (from to : Point) (items : List Item) (qs : List Answer) → Fares shelf left from items qs to
+ClaimsHaveCauses left = (told : Bool) (shelf : Geometry) (from to : Point) (items : List Item) (qs : List Answer) → Fares told shelf left from items qs to
     → (d : Device) → has_lost_writes from.stop to.stop d ≡ false → to.conditions d ≡ from.conditions d
 
 -- No device comes back while requests are served.
 abbrev pub NoneComesBack : (Stop → Type 0) → Type 0
-NoneComesBack left = (shelf : Geometry) (from to : Point) (items : List Item) (qs : List Answer) → Fares shelf left from items qs to
+NoneComesBack left = (told : Bool) (shelf : Geometry) (from to : Point) (items : List Item) (qs : List Answer) → Fares told shelf left from items qs to
     → IsWithin from.conditions to.conditions
 
 -- So what can be borne at last was borne all the way.
 abbrev pub WasBorne : (Stop → Type 0) → Type 0
-WasBorne left = (shelf : Geometry) (from to : Point) (items : List Item) (qs : List Answer) (run : Fares shelf left from items qs to)
-    → IsBearable shelf to.conditions → IsBorne shelf left from items qs to run
+WasBorne left = (told : Bool) (shelf : Geometry) (from to : Point) (items : List Item) (qs : List Answer) (run : Fares told shelf left from items qs to)
+    → IsBearable shelf to.conditions → IsBorne told shelf left from items qs to run
 
 -- An array that isn't halted comes to be so only where more is missing than can be borne.
 abbrev pub HaltsHaveCauses : (Stop → Type 0) → Type 0
-HaltsHaveCauses left = (shelf : Geometry) (from to : Point) (items : List Item) (qs : List Answer) → Fares shelf left from items qs to
+HaltsHaveCauses left = (told : Bool) (shelf : Geometry) (from to : Point) (items : List Item) (qs : List Answer) → Fares told shelf left from items qs to
     → from.halted ≡ false → to.halted ≡ true → ¬ (IsBearable shelf to.conditions)
 
 -- A takeover that is done forgets none: each device that was sound, and of which no call failed in it, is sound.

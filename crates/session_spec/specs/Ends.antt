@@ -8,7 +8,7 @@ use Rattle.pur_base.specs.Devices.{Geometry}
 use Rattle.pur_base.specs.Grammar.{Item, Asked, Syntax, Cut, requests, is_whole}
 use Rattle.pur_base.specs.Replies.{Answer, text, texts}
 use Rattle.world.specs.Counts.{Rises}
-use Rattle.world.specs.Losing.{has_lost_writes}
+use Rattle.world.specs.Losing.{has_failed, has_lost_writes}
 use Rattle.world.specs.Shelf.{Stop}
 use Rattle.session_spec.specs.Faring.{Point, Answers}
 
@@ -58,21 +58,21 @@ Ends _ halted input qs left = ⊥
 -- ---- the output
 
 -- a part of the reply to the next item, of which some is missing
-pub record IsPartOfNext (shelf : Geometry) (last : Point) (stop : Stop) (rest : List Item) (part : List ℕ) : Type 0 where
+pub record IsPartOfNext (told : Bool) (shelf : Geometry) (last : Point) (stop : Stop) (rest : List Item) (part : List ℕ) : Type 0 where
   pub item : Item
   pub items : List Item
   pub next : rest ≡ item ∷ items
   pub reply : Answer
   pub to : Point
-  pub answers : Answers shelf (has_lost_writes last.stop stop) last item reply to
+  pub answers : Answers told shelf (has_failed last.stop stop) (has_lost_writes last.stop stop) last item reply to
   pub missing : List ℕ
   pub spelled : text reply ≡ part ++ missing
   pub some : 0 < length missing
 
 -- The output is the text of the replies. Where the sink failed, a part of the next one follows.
-abbrev pub IsOutput : Status → Geometry → Point → Stop → List Item → List ℕ → List ℕ → List Answer → Type 0
-IsOutput status.Sink shelf last stop rest before after qs = (part : List ℕ) × IsPartOfNext shelf last stop rest part × (after ≡ before ++ texts qs ++ part)
-IsOutput _ shelf last stop rest before after qs = after ≡ before ++ texts qs
+abbrev pub IsOutput : Status → Bool → Geometry → Point → Stop → List Item → List ℕ → List ℕ → List Answer → Type 0
+IsOutput status.Sink told shelf last stop rest before after qs = (part : List ℕ) × IsPartOfNext told shelf last stop rest part × (after ≡ before ++ texts qs ++ part)
+IsOutput _ told shelf last stop rest before after qs = after ≡ before ++ texts qs
 
 -- ---- the counts of the input and the output
 

@@ -20,11 +20,10 @@ use Rattle.array_spec.specs.Standing.{Stands, MayBeGiven}
 abbrev pub LeftOutAreNamedByNone : Geometry → Image → Conditions → Type 0
 LeftOutAreNamedByNone shelf image missing = (d : Device) → missing d ≡ LeftOut → IsNamedByNone shelf image missing d
 
--- Each record that may be given names no patch, and its log holds requests of forms in force alone: such a record is read.
-pub record AreRead (shelf : Geometry) (image : Image) (missing : Conditions) : Type 0 where
-  pub unflushed : (slot : BootSlot) (boot : BootRecord) → MayBeGiven shelf image missing slot boot → boot.patches ≡ []
-  pub in_force : (slot : BootSlot) (boot : BootRecord) → MayBeGiven shelf image missing slot boot
-      → (n i : ℕ) (c : Command) → names boot (nvram n) ≡ true → ShowsIn (image (nvram n)) boot.flushed i c → is_in_force c.request ≡ true
+-- The log of each record that may be given holds requests of forms in force alone: such a log is read.
+abbrev pub AreRead : Geometry → Image → Conditions → Type 0
+AreRead shelf image missing = (slot : BootSlot) (boot : BootRecord) → MayBeGiven shelf image missing slot boot
+    → (n i : ℕ) (c : Command) → names boot (nvram n) ≡ true → ShowsIn (image (nvram n)) boot.flushed i c → is_in_force c.request ≡ true
 
 -- the generation of each record that may be given leaves room for others
 abbrev pub HasRoom : Geometry → Image → Conditions → Type 0

@@ -1,5 +1,5 @@
 -- What a session does to the array that the devices stand for, whatever fails, and wherever it is stopped.
-use Rattle.std.specs.Prelude.{◌≡◌, ◌≢◌, ◌⊎◌, ◌<◌, ◌+◌, ◌-◌, ◌^◌, ℕ, true, false, List, [], ◌++◌, length, drop, Contains, Option, Some, None, IfSome, ⊤}
+use Rattle.std.specs.Prelude.{◌≡◌, ◌≢◌, ◌⊎◌, ◌<◌, ◌+◌, ◌-◌, ◌^◌, ℕ, Bool, true, false, List, [], ◌++◌, length, drop, Contains, Option, Some, None, IfSome, ⊤}
 use Rattle.std.proofs.Common.{inl, inr}
 use Rattle.std.specs.List.{AllByRecursion}
 use Rattle.pur_base.specs.declared.device.Device.{Device}
@@ -16,7 +16,12 @@ use Rattle.world.specs.Losing.{geometry_of, has_failed, losing}
 use Rattle.boot_codec.specs.declared.record.BootRecord.{BootRecord}
 use Rattle.boot_codec.specs.Region.{Effective}
 use Rattle.log_codec.specs.Log.{Shows, LogStands}
-use Rattle.array_spec.specs.Meaning.{members_view}
+use Rattle.pur_base.specs.declared.facts.AnyFact.{AnyFact}
+use Rattle.array_spec.specs.Meaning.{HoldsBase, members_view}
+use Rattle.array_spec.specs.Sound.{AreSound}
+use Rattle.array_spec.specs.Stored.{PatchesStand, all_facts}
+use Rattle.memory_spec.specs.Memory.{Contents, FactsRead}
+use Rattle.memory_spec.specs.Numbers.{next_after_all}
 use Rattle.array_spec.specs.Acked.{acked}
 use Rattle.array_spec.specs.After.{AcceptsNext}
 use Rattle.array_spec.specs.Losses.{not_holding}
@@ -26,9 +31,13 @@ use Rattle.session_spec.specs.Ends.{Ends, IsOutput, IsPartOfNext, RisesIf, is_so
 
 -- ---- the array isn't opened
 
--- why a record that is in force isn't read: its generation leaves no room, it names patches, or its log holds a command of a form that isn't in force
+-- no facts stand as the record's patches, in order and of their tables, that are sound
+abbrev pub HasNoTables : Geometry → View → BootRecord → Type 0
+HasNoTables shelf members boot = (patches : List (List AnyFact)) → PatchesStand members boot patches → AreSound shelf boot patches → ⊥
+
+-- why a record that is in force isn't read: its generation leaves no room, its tables can't be read or aren't sound, or its log holds a command of a form that isn't in force
 abbrev pub IsUnread : {shelf : Geometry} → (view : View) → Effective shelf view → Type 0
-IsUnread view e = (¬ (e.boot.generation < 2 ^ 48 - 8)) ⊎ (e.boot.patches ≢ [])
+IsUnread {shelf} view e = (¬ (e.boot.generation < 2 ^ 48 - 8)) ⊎ HasNoTables shelf (members_view view e) e.boot
     ⊎ ((device i : ℕ) × (c : Command) × Shows (members_view view e) device e.boot.flushed i c × (is_in_force c.request ≡ false))
 
 -- what the devices showed gives no lawful record, or one that isn't read
@@ -70,34 +79,51 @@ pub record Unopened (old new : Shelved) (input left : List ℕ) (ended : Status)
 
 -- ---- the array is opened
 
--- the record is read, and the log that the members show leads to the array, from nothing
-pub record HoldsLog (members : View) (boot : BootRecord) (array : Array) (logged : ℕ) : Type 0 where
+-- The record is read: its tables are sound, and the log that the members show leads from the array that they hold to that of the point.
+-- What segments hold is whatever it is, unless it is told: then the members hold that array.
+pub record HoldsLog (told : Bool) (shelf : Geometry) (members : View) (boot : BootRecord) (first : Point) : Type 0 where
   pub not_spent : boot.generation < 2 ^ 48 - 8
-  pub unflushed : boot.patches ≡ []
+  pub patches : List (List AnyFact)
+  -- no other facts stand as the record's patches
+  pub no_other : (there : List (List AnyFact)) → PatchesStand members boot there → there ≡ patches
+  pub sound : AreSound shelf boot patches
+  pub contents : Contents
+  pub base : Array
+  pub reads : FactsRead contents [] (all_facts patches) boot.next.object base
+  pub known : told ≡ true → HoldsBase shelf members boot base
   pub log : List Command
-  pub log_stands : LogStands members boot.flushed [] log
+  pub log_stands : LogStands members boot.flushed base log
   pub in_force : AllByRecursion (λ c. is_in_force c.request ≡ true) log
-  pub result : array ≡ after_all [] log
-  pub count : logged ≡ length log
+  pub result : first.array ≡ after_all base log
+  pub count : first.logged ≡ length log
+  pub next : first.next ≡ next_after_all boot.next log
+  -- records of its own were stored, one for each drive that failed meanwhile and one more
+  pub boot_is : first.boot ≡ record boot { generation = first.boot.generation; members = first.boot.members }
+  pub later : boot.generation < first.boot.generation
+  pub few : first.boot.generation < boot.generation + 4
+
+-- An opening that is done: the record that was found, and the moment and the stop at which it was done.
+pub record Opening (old : Shelved) : Type 0 where
+  pub found : Found (geometry_of old) (read_now old).image
+  pub moment : ℕ
+  pub stop : Stop
 
 -- the takeover is done, with nothing taken or given yet
-pub record Opens (old : Shelved) (left : Stop → Type 0) (found : Found (geometry_of old) (read_now old).image) (first : Point) : Type 0 where
-  pub holds : HoldsLog (members_view found.view found.effective) found.effective.boot first.array first.logged
-  pub taken_over : IsTakenOver (geometry_of old) (read_now old).image found (has_failed (read_now old) first.stop) first.conditions
-  -- records of its own were stored, one for each drive that failed meanwhile and one more
-  pub later : found.effective.boot.generation < first.generation
-  pub few : first.generation < found.effective.boot.generation + 4
+pub record Opens (told : Bool) (old : Shelved) (left : Stop → Type 0) (o : Opening old) (first : Point) : Type 0 where
+  pub holds : HoldsLog told (geometry_of old) (members_view o.found.view o.found.effective) o.found.effective.boot first
+  pub taken_over : IsTakenOver (geometry_of old) (read_now old).image o.found (has_failed (read_now old) first.stop) first.conditions
   pub reached : IsReached left first
   pub quiet : IsQuietBy old first.stop
+  pub at : first.stop ≡ o.stop
   pub awake : first.halted ≡ false
 
 -- the replies that were whole at a stop, and a part of the next one
-pub record Replied (shelf : Geometry) (left : Stop → Type 0) (first : Point) (items : List Item) (stop : Stop) : Type 0 where
+pub record Replied (told : Bool) (shelf : Geometry) (left : Stop → Type 0) (first : Point) (items : List Item) (stop : Stop) : Type 0 where
   pub replies : List Answer
   pub point : Point
-  pub run : Fares shelf left first items replies point
+  pub run : Fares told shelf left first items replies point
   pub part : List ℕ
-  pub is_part : (part ≡ []) ⊎ IsPartOfNext shelf point stop (drop (length replies) items) part
+  pub is_part : (part ≡ []) ⊎ IsPartOfNext told shelf point stop (drop (length replies) items) part
   pub output : stop.output ≡ first.stop.output ++ texts replies ++ part
   pub count : length replies ≡ acked (drop (length first.stop.output) stop.output)
 
@@ -119,29 +145,24 @@ abbrev pub IsAfter : Point → List Item → Array → Type 0
 IsAfter point rest array = (array ≡ point.array) ⊎ IsNext point rest array
 
 -- At a stop after the opening the devices stand for the array of the replies that were whole by then, or of one item more.
-abbrev pub StandsOn : (shelf : Geometry) (left : Stop → Type 0) (first : Point) (items : List Item) (stop : Stop) → Replied shelf left first items stop → Type 0
-StandsOn shelf left first items stop at = IsBorne shelf left first items at.replies at.point at.run → IsBearable shelf (now_missing at.point stop)
+abbrev pub StandsOn : (shelf : Geometry) (left : Stop → Type 0) (first : Point) (items : List Item) (stop : Stop) → Replied true shelf left first items stop → Type 0
+StandsOn shelf left first items stop at = IsBorne true shelf left first items at.replies at.point at.run → IsBearable shelf (now_missing at.point stop)
     → StandsAmong shelf stop.image (now_missing at.point stop) (IsAfter at.point (drop (length at.replies) items))
 
--- What a session answers that was opened. It asks nothing of the devices.
-pub record Serving (old new : Shelved) (input left : List ℕ) (ended : Status) : Type 0 where
-  pub found : Found (geometry_of old) (read_now old).image
-  -- when the opening was done
-  pub moment : ℕ
+-- What a session answers that was opened. It asks nothing of the devices; only where what their segments hold is told are the sectors that are read the array's.
+pub record Serving (told : Bool) (old new : Shelved) (input left : List ℕ) (ended : Status) (o : Opening old) : Type 0 where
   pub first : Point
-  pub opens : Opens old (new.left_since moment) found first
-  -- each stop was in the opening, or leaves replies
-  pub stops : (stop : Stop) → new.left_since old.moment stop → IsQuietBy old stop ⊎ Replied (geometry_of old) (new.left_since moment) first (requests input) stop
-  pub replied : (stop : Stop) → new.left_since moment stop → Replied (geometry_of old) (new.left_since moment) first (requests input) stop
+  pub opens : Opens told old (new.left_since o.moment) o first
+  pub replied : (stop : Stop) → new.left_since o.moment stop → Replied told (geometry_of old) (new.left_since o.moment) first (requests input) stop
   pub replies : List Answer
   pub last : Point
-  pub run : Fares (geometry_of old) (new.left_since moment) first (requests input) replies last
-  pub output : IsOutput ended (geometry_of old) last (read_now new) (drop (length replies) (requests input)) old.output new.output replies
+  pub run : Fares told (geometry_of old) (new.left_since o.moment) first (requests input) replies last
+  pub output : IsOutput ended told (geometry_of old) last (read_now new) (drop (length replies) (requests input)) old.output new.output replies
   pub ends : Ends ended last.halted input replies left
 
 -- What failed while it was opened can be borne. Else nothing more is said of the data.
-abbrev pub IsOpenedBearably : Shelved → Point → Conditions → Type 0
-IsOpenedBearably old first missing = IsBearable (geometry_of old) (failed_by old first.stop missing)
+abbrev pub IsOpenedBearably : (old : Shelved) → Opening old → Conditions → Type 0
+IsOpenedBearably old o missing = IsBearable (geometry_of old) (failed_by old o.stop missing)
 
 -- an item that wasn't answered may be done at the end only where the sink failed
 abbrev pub in_hand : Status → List Item → List Item
@@ -154,30 +175,34 @@ pub record IsLeftAfter (new : Shelved) (last : Point) (rest : List Item) : Type 
   pub each : (array : Array) → Contains arrays array → IsAfter last rest array
   pub left : IsLeft new (now_missing last (read_now new)) arrays
 
--- What it does to the arrays for which the devices stood.
-pub record Keeps (old new : Shelved) (input left : List ℕ) (ended : Status) (s : Serving old new input left ended) (missing : Conditions) (arrays : List Array) : Type 0 where
+-- What it does to the arrays for which the devices stood. It opened with one of them, and what it answers is that array's, sectors that are read too.
+pub record Keeps (old new : Shelved) (input left : List ℕ) (ended : Status) (o : Opening old) (missing : Conditions) (arrays : List Array) : Type 0 where
+  pub s : Serving true old new input left ended o
   pub one_of : Contains arrays s.first.array
-  pub serving : (stop : Stop) → new.left_since s.moment stop
-      → (at : Replied (geometry_of old) (new.left_since s.moment) s.first (requests input) stop) × StandsOn (geometry_of old) (new.left_since s.moment) s.first (requests input) stop at
-  pub at_end : IsBorne (geometry_of old) (new.left_since s.moment) s.first (requests input) s.replies s.last s.run
+  pub serving : (stop : Stop) → new.left_since o.moment stop
+      → (at : Replied true (geometry_of old) (new.left_since o.moment) s.first (requests input) stop) × StandsOn (geometry_of old) (new.left_since o.moment) s.first (requests input) stop at
+  pub at_end : IsBorne true (geometry_of old) (new.left_since o.moment) s.first (requests input) s.replies s.last s.run
       → IsBearable (geometry_of old) (now_missing s.last (read_now new)) → IsLeftAfter new s.last (in_hand ended (drop (length s.replies) (requests input)))
 
--- At a stop in the opening the devices stand for the same arrays still, and after it none is lost that was acknowledged.
-abbrev pub StandsAt : (old : Shelved) (left : Stop → Type 0) (found : Found (geometry_of old) (read_now old).image) (first : Point) (items : List Item) (missing : Conditions) (arrays : List Array) (stop : Stop)
-    → IsQuietBy old stop ⊎ Replied (geometry_of old) left first items stop → Type 0
-StandsAt old left found first items missing arrays stop (inl quiet) = StandsStill old (Some found) missing arrays stop
-StandsAt old left found first items missing arrays stop (inr at) = IsOpenedBearably old first missing → StandsOn (geometry_of old) left first items stop at
+-- a stop in the opening: the devices still stand for the same arrays
+pub record IsInOpening (old : Shelved) (o : Opening old) (missing : Conditions) (arrays : List Array) (stop : Stop) : Type 0 where
+  pub quiet : IsQuietBy old stop
+  pub stands : StandsStill old (Some o.found) missing arrays stop
 
--- so at each stop since the entry, which was in the opening, or leaves replies
-pub record Outlasts (old new : Shelved) (input left : List ℕ) (ended : Status) (s : Serving old new input left ended) (missing : Conditions) (arrays : List Array) : Type 0 where
-  pub each : (stop : Stop) → new.left_since old.moment stop → (here : IsQuietBy old stop ⊎ Replied (geometry_of old) (new.left_since s.moment) s.first (requests input) stop)
-      × StandsAt old (new.left_since s.moment) s.found s.first (requests input) missing arrays stop here
-  pub keeps : IsOpenedBearably old s.first missing → Keeps old new input left ended s missing arrays
+-- At each stop since the entry, which was in the opening, or at which so many replies were whole. After the opening none is lost that was acknowledged.
+pub record Outlasts (old new : Shelved) (input left : List ℕ) (ended : Status) (o : Opening old) (missing : Conditions) (arrays : List Array) : Type 0 where
+  pub keeps : IsOpenedBearably old o missing → Keeps old new input left ended o missing arrays
+  pub each : (stop : Stop) → new.left_since old.moment stop → IsInOpening old o missing arrays stop
+      ⊎ ((borne : IsOpenedBearably old o missing) → (at : Replied true (geometry_of old) (new.left_since o.moment) (keeps borne).s.first (requests input) stop)
+      × StandsOn (geometry_of old) (new.left_since o.moment) (keeps borne).s.first (requests input) stop at)
 
 -- what a session answers, and what it does to the arrays
 pub record Served (old new : Shelved) (input left : List ℕ) (ended : Status) : Type 0 where
-  pub serving : Serving old new input left ended
-  pub outlasts : (missing : Conditions) (arrays : List Array) → Enters old missing arrays → Outlasts old new input left ended serving missing arrays
+  pub opening : Opening old
+  pub serving : Serving false old new input left ended opening
+  -- each stop was in the opening, or so many replies were whole at it
+  pub stops : (stop : Stop) → new.left_since old.moment stop → IsQuietBy old stop ⊎ Replied false (geometry_of old) (new.left_since opening.moment) serving.first (requests input) stop
+  pub outlasts : (missing : Conditions) (arrays : List Array) → Enters old missing arrays → Outlasts old new input left ended opening missing arrays
 
 -- The headline: of a session over honest devices, from a source and to a sink that tell their bytes.
 pub record Survives (old new : Shelved) (source source_left sink sink_given : Streamed) (ended : Status) : Type 0 where

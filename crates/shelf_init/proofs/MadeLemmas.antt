@@ -106,12 +106,9 @@ module _ (s : Shelved) (is : IsShelf s) (clean : IsClean s) (shows : (i : ℕ) �
         absurd (cc (closed, shown.gate))
 
     is_read : AreRead (geometry_of s) start.image all_sound
-    is_read = record {
-      unflushed = λ slot boot g. ap (λ (b : BootRecord). b.patches) (alone slot boot g);
-      in_force = λ slot boot g n i c named shown.
-          let is = alone slot boot g in
-          absurd (shows_none n i c (nvram_below n (subst (λ (b : BootRecord). names b (nvram n) ≡ true) is named)) (subst (λ (b : BootRecord). ShowsIn (start.image (nvram n)) b.flushed i c) is shown));
-    }
+    is_read slot boot g n i c named shown =
+        let is = alone slot boot g in
+        absurd (shows_none n i c (nvram_below n (subst (λ (b : BootRecord). names b (nvram n) ≡ true) is named)) (subst (λ (b : BootRecord). ShowsIn (start.image (nvram n)) b.flushed i c) is shown))
 
     has_room : HasRoom (geometry_of s) start.image all_sound
     has_room slot boot g = subst (λ (b : BootRecord). b.generation < 2 ^ 48 - 16) (sym (alone slot boot g)) (omega arith)

@@ -33,7 +33,7 @@ flat_of_map c [] = refl
 flat_of_map c (fs ∷ ps) = ap (λ l. map c fs ++ l) (flat_of_map c ps) ∙ sym (map-append c fs (facts_of ps))
 
 -- five lists, one behind another
-abbrev five : {X : Type 0} → List X → List X → List X → List X → List X → List X
+abbrev pub five : {X : Type 0} → List X → List X → List X → List X → List X → List X
 five o m a s e = o ++ (m ++ (a ++ (s ++ e)))
 
 same_five : {X : Type 0} (o m a s e o2 m2 a2 s2 e2 : List X) → o ≡ o2 → m ≡ m2 → a ≡ a2 → s ≡ s2 → e ≡ e2 → five o m a s e ≡ five o2 m2 a2 s2 e2
@@ -53,25 +53,25 @@ filter_none h c k [] = refl
 filter_none h c k (x ∷ xs) = rw (k x) (filter_none h c k xs)
 
 module _ (t : LoadedTables) where
-  abbrev o : List ObjectFact
+  abbrev pub o : List ObjectFact
   o = facts_of t.objects.items
 
-  abbrev m : List MediumFact
+  abbrev pub m : List MediumFact
   m = facts_of t.mediums.items
 
-  abbrev a : List AddressFact
+  abbrev pub a : List AddressFact
   a = facts_of t.addresses.items
 
-  abbrev s : List SegmentFact
+  abbrev pub s : List SegmentFact
   s = facts_of t.segments.items
 
-  abbrev e : List ElisionFact
+  abbrev pub e : List ElisionFact
   e = facts_of t.elisions.items
 
-  abbrev joined : List AnyFact
+  abbrev pub joined : List AnyFact
   joined = five (map any.Object o) (map any.Medium m) (map any.Address a) (map any.Segment s) (map any.Elision e)
 
-  all_joined : in_patches (patches_in t) ≡ joined
+  pub all_joined : in_patches (patches_in t) ≡ joined
   all_joined =
       five_apart in_patches (flat_map-append (λ (fs : List AnyFact). fs)) (map (map any.Object) t.objects.items) (map (map any.Medium) t.mediums.items) (map (map any.Address) t.addresses.items) (map (map any.Segment) t.segments.items) (map (map any.Elision) t.elisions.items)
       ∙ same_five _ _ _ _ _ _ _ _ _ _ (flat_of_map any.Object t.objects.items) (flat_of_map any.Medium t.mediums.items) (flat_of_map any.Address t.addresses.items) (flat_of_map any.Segment t.segments.items) (flat_of_map any.Elision t.elisions.items)

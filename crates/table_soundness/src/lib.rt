@@ -26,6 +26,7 @@ mod spans;
 mod tables;
 mod visible;
 
+pub use elided::elided_by;
 pub use fault::SoundFault;
 pub use judge::check;
 pub use laws::laws_of_soundness;

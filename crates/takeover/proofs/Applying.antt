@@ -1,25 +1,32 @@
 -- Commands that are applied one after another, and the sectors that they bring.
-use Rattle.std.proofs.Common.{◌≡◌, inl, inr, ◌≤◌, not, ℕ, zero, suc, ◌+◌, ◌*◌, ◌<◌, List, [], ◌∷◌, ◌++◌, length, take, drop, get_or, refl, sym, ◌∙◌, ap, subst, arith, Bool, true, false}
-use Rattle.std.specs.Prelude.{Option, Some, None, slice_get}
+use Rattle.std.proofs.Common.{◌≡◌, inl, inr, ◌≤◌, ℕ, zero, suc, ◌+◌, ◌*◌, ◌<◌, List, [], ◌∷◌, ◌++◌, length, take, drop, get_or, refl, sym, ◌∙◌, ap, subst, arith, true, false}
+use Rattle.std.specs.Prelude.{Option, Some, None, is_some, slice_get}
 use Rattle.std.specs.List.{AllByRecursion, concat}
 use Rattle.std.proofs.lemmas.Option.{slice_get_within, slice_get_cases}
 use Rattle.std.proofs.lemmas.List.{take_at, drop_at, drop-drop}
 use Rattle.pur_base.specs.Bytes.{IsBytesOf, bytes_at}
 use Rattle.pur_base.specs.Commands.{Command, Accepts, AllAccepted, after, after_all}
-use Rattle.pur_base.specs.Grammar.{is_in_force}
-use Rattle.pur_base.specs.Plain.{Array, refusal}
-use Rattle.pur_base.specs.Replies.{answer_unless, after_unless, given, refused}
-use Rattle.pur_base.specs.declared.reply.Refusal.{Refusal}
+use Rattle.pur_base.specs.Grammar.{data_count, is_in_force}
+use Rattle.pur_base.specs.Plain.{Array}
+use Rattle.pur_base.specs.Visible.{segment}
 use Rattle.pur_base.specs.declared.request.Request.{Request}
 use Rattle.pur_base.specs.declared.request.Request.TheVariants as request
-use Rattle.array_model.specs.declared.step.PlainReply.{PlainReply}
-use Rattle.array_model.specs.declared.step.PlainReply.TheVariants as plain
-use Rattle.array_model.specs.Step.{Meets, answer_of}
+use Rattle.boot_codec.specs.declared.record.NextNumbers.{NextNumbers}
+use Rattle.log_codec.specs.Head.{IsCommand}
+use Rattle.memory_spec.specs.Memory.{Contents, ReadsAs}
+use Rattle.memory_spec.specs.Numbers.{next_after, next_after_all}
+use Rattle.memory_spec.specs.Tables.{Tables, facts}
+use Rattle.array_memory.specs.Asked.{command_of, staged_by, HasRoomLeft}
+use Rattle.array_memory.specs.Kept.{Kept, IsKept, HasNoLessRoom, HasSamePatches, with_rooms}
+use Rattle.array_memory.specs.Lawful.{IsLawful}
+use Rattle.volume_ops.specs.OfArray.{IsOfMemory}
+use Rattle.array_state.specs.Room.{HasRoomFor}
+use Rattle.array_state.proofs.Applied.{room_for_next, same_segments}
 use Rattle.nvram_log.specs.declared.log.NvLog.{NvLog}
 use Rattle.nvram_log.specs.Held.{Keeps}
 use Rattle.takeover.specs.declared.log.LogFault.{LogFault}
 use Rattle.takeover.specs.declared.log.LogFault.TheVariants as log_fault
-use Rattle.takeover.specs.Replay.{IsApplied, IsApplyFault, IsReplayed, IsReplayFault, is_refusal}
+use Rattle.takeover.specs.Replay.{IsApplied, IsApplyFault, IsDone, IsReplayed, IsReplayFault}
 
 -- one of the sectors that stand one behind another
 pub part_of : (sectors : List (List ℕ)) (k : ℕ) → k < length sectors → AllByRecursion (IsBytesOf 512) sectors → bytes_at (512 * k) 512 (concat sectors) ≡ get_or sectors k []
@@ -41,61 +48,64 @@ after_more a [] i c at = absurd (cc at)
 after_more a (d ∷ ds) zero c at = let same : d ≡ c = cc at in ap (after a) same
 after_more a (d ∷ ds) (suc i) c at = after_more (after a d) ds i c at
 
--- a reply that isn't a refusal is that to a request that isn't refused
-accepted_of : (o : Option Refusal) (a b : Array) (r : Request) (q : PlainReply) → is_refusal q ≡ false → answer_of b q ≡ answer_unless o (given a r) → o ≡ None
-accepted_of None a b r q isn't is = refl
-accepted_of (Some why) a b r plain.Done isn't is = cc
-accepted_of (Some why) a b r (plain.Data place) isn't is = cc
-accepted_of (Some why) a b r plain.Names isn't is = cc
-accepted_of (Some why) a b r (plain.Refused w) isn't is = cc
+-- ---- in memory
 
--- what is given is no refusal
-never_refused : (a : Array) (r : Request) (w : Refusal) → refused w ≡ given a r → ⊥
-never_refused a (request.Create n sectors) w e = cc e
-never_refused a (request.Write n lba count) w e = cc e
-never_refused a (request.Fill n lba count byte) w e = cc e
-never_refused a (request.Zero n lba count) w e = cc e
-never_refused a (request.Read n lba count) w e = cc e
-never_refused a (request.Snapshot n new) w e = cc e
-never_refused a (request.Clone n new) w e = cc e
-never_refused a (request.Copy n lba m to count) w e = cc e
-never_refused a (request.Destroy n) w e = cc e
-never_refused a request.List w e = cc e
-never_refused a request.Status w e = cc e
-never_refused a request.Checkpoint w e = cc e
-never_refused a (request.Merge t i) w e = cc e
-never_refused a (request.Flatten n) w e = cc e
-never_refused a (request.Clean s) w e = cc e
-never_refused a request.Reclaim w e = cc e
-never_refused a (request.Evict d) w e = cc e
-never_refused a (request.Admit d) w e = cc e
-never_refused a (request.Rebuild d) w e = cc e
-never_refused a request.Takeover w e = cc e
+-- a logged request of a form in force is one that memory does by itself
+pub of_memory : (r : Request) → is_in_force r ≡ true → IsCommand r → IsOfMemory r
+of_memory (request.Create n size) fine is = is.0
+of_memory (request.Write n lba count) fine is = is.2.1
+of_memory (request.Fill n lba count byte) fine is = is.2.1
+of_memory (request.Zero n lba count) fine is = is.2.1
+of_memory (request.Read n lba count) fine is = absurd is
+of_memory (request.Snapshot n new) fine is = absurd (cc fine)
+of_memory (request.Clone n new) fine is = absurd (cc fine)
+of_memory (request.Copy n lba m to count) fine is = absurd (cc fine)
+of_memory (request.Destroy n) fine is = absurd (cc fine)
+of_memory r fine is = absurd is
 
--- and a refusal is that to one that is
-refused_of : (o : Option Refusal) (a b : Array) (r : Request) (q : PlainReply) → is_refusal q ≡ true → answer_of b q ≡ answer_unless o (given a r) → o ≡ None → ⊥
-refused_of (Some why) a b r q is same none = cc
-refused_of None a b r plain.Done is same none = cc
-refused_of None a b r (plain.Data place) is same none = cc
-refused_of None a b r plain.Names is same none = cc
-refused_of None a b r (plain.Refused w) is same none = never_refused a r w same
+pub lawful_of : (r : Request) → IsOfMemory r → IsLawful r
+lawful_of (request.Create n size) is = is
+lawful_of (request.Write n lba count) is = is
+lawful_of (request.Fill n lba count byte) is = is
+lawful_of (request.Zero n lba count) is = is
+lawful_of r is = absurd is
 
-left_alone : (o : Option Refusal) (a d : Array) → (o ≡ None → ⊥) → after_unless o a d ≡ a
-left_alone None a d some = absurd (some refl)
-left_alone (Some why) a d some = refl
+-- what isn't there
+pub none_is : {A : Type 0} (o : Option A) → is_some o ≡ false → o ≡ None
+none_is (Some x) e = absurd (cc e)
+none_is None e = refl
 
-after_is : (o : Option Refusal) (a d : Array) → o ≡ None → after_unless o a d ≡ d
-after_is None a d none = refl
-after_is (Some why) a d none = absurd (cc none)
+-- no less room is enough for as many commands
+pub room_stays : (was now : Kept) → HasNoLessRoom was now → now ≡ with_rooms was now → (logged : ℕ) → HasRoomFor was logged → HasRoomFor now logged
+room_stays was now more same logged room = record {
+  objects = omega (arith, more.objects, room.objects);
+  names = omega (arith, more.names, room.names);
+  addresses = omega (arith, more.addresses, room.addresses);
+  staged = omega (arith, more.staged, room.staged);
+  indices = subst (λ (k : Kept). length k.memory.staged ≤ 64 * logged) (sym same) room.indices;
+}
 
--- what a step of the array does to a command
-pub applied_by : (a b : Array) (c : Command) (q : PlainReply) (accepted : Bool) → is_refusal q ≡ not accepted → Meets a c.request c.sectors q b → IsApplied a c accepted b
-applied_by a b c q true isn't m =
-    let fine : refusal a c.request ≡ None = accepted_of (refusal a c.request) a b c.request q isn't m.reply in
-    (fine, m.array)
-applied_by a b c q false is m =
-    let no_use : refusal a c.request ≡ None → ⊥ = refused_of (refusal a c.request) a b c.request q is m.reply in
-    (no_use, m.array ∙ left_alone (refusal a c.request) a _ no_use)
+-- A command was prepared and then done.
+pub done_by : (was mid now : Kept) (c : Command) (r : Request) (sectors : List (List ℕ)) → IsKept was → IsKept now → HasNoLessRoom was mid → mid ≡ with_rooms was mid
+    → ((contents : Contents) (a : Array) → ReadsAs contents was.memory a → Accepts a c)
+    → ((contents : Contents) (a : Array) → ReadsAs contents was.memory a → ReadsAs contents mid.memory a)
+    → ((contents : Contents) (a : Array) → ReadsAs contents mid.memory a → Accepts a (command_of r sectors) → ReadsAs contents now.memory (after a (command_of r sectors)))
+    → HasSamePatches mid.memory.tables now.memory.tables → now.segments ≡ mid.segments → now.memory.next ≡ next_after mid.memory.next r → HasRoomLeft mid now r
+    → now.memory.staged ≡ mid.memory.staged ++ staged_by r sectors → IsLawful r → length sectors ≡ data_count r
+    → command_of r sectors ≡ c → IsDone was c now
+done_by was mid now c r sectors kept kept_now more same accepts before reads patches segments next left staged lawful long is = record {
+  reads = λ contents a read. (
+    accepts contents a read,
+    subst (λ (d : Command). ReadsAs contents now.memory (after a d)) is
+        (reads contents a (before contents a read) (subst (λ (d : Command). Accepts a d) (sym is) (accepts contents a read))),
+  );
+  patches =
+      let p : HasSamePatches (with_rooms was mid).memory.tables now.memory.tables = subst (λ (k : Kept). HasSamePatches k.memory.tables now.memory.tables) same patches in
+      record { objects = p.objects; mediums = p.mediums; addresses = p.addresses; segments = p.segments; elisions = p.elisions };
+  segments = same_segments was now kept kept_now (segments ∙ ap (λ (k : Kept). k.segments) same);
+  next = next ∙ ap (λ (k : Kept). next_after k.memory.next r) same ∙ ap (λ (d : Command). next_after was.memory.next d.request) is;
+  room = λ logged room. room_for_next mid now logged (logged + 1) r sectors (room_stays was mid more same logged room) refl lawful long left staged;
+}
 
 -- ---- in a run
 
@@ -105,12 +115,38 @@ command_at log commands i keeps lt = elim (slice_get_cases commands i).1 [
   | inr past ↦ absurd (omega (arith, past.0, lt, keeps.count))
 ]
 
-pub one_more : (a : Array) (cs : List Command) (i : ℕ) (c : Command) (b b2 : Array) → slice_get cs i ≡ Some c → AllAccepted a (take i cs) × (b ≡ after_all a (take i cs)) → IsApplied b c true b2
-    → AllAccepted a (take (i + 1) cs) × (b2 ≡ after_all a (take (i + 1) cs))
-one_more a cs i c b b2 at was is =
-    let e : suc i ≡ i + 1 = omega arith in
-    subst (λ (n : ℕ). AllAccepted a (take n cs) × (b2 ≡ after_all a (take n cs))) e
-    (accept_more a cs i c at was.0 (subst (λ (x : Array). Accepts x c) was.1 is.0), is.1 ∙ ap (λ (x : Array). after x c) was.1 ∙ sym (after_more a cs i c at))
+-- so many of the commands were done
+pub record AreDone (was : Kept) (cs : List Command) (count : ℕ) (now : Kept) : Type 0 where
+  pub in_force : AllByRecursion (λ c. is_in_force c.request ≡ true) (take count cs)
+  pub reads : (contents : Contents) (a : Array) → ReadsAs contents was.memory a → AllAccepted a (take count cs) × ReadsAs contents now.memory (after_all a (take count cs))
+  pub patches : HasSamePatches was.memory.tables now.memory.tables
+  pub segments : (id : ℕ) → segment (facts now.memory.tables) id ≡ segment (facts was.memory.tables) id
+  pub next : now.memory.next ≡ next_after_all was.memory.next (take count cs)
+  pub room : (logged : ℕ) → HasRoomFor was logged → HasRoomFor now (logged + count)
+
+pub none_done : (k : Kept) (cs : List Command) → AreDone k cs 0 k
+none_done k cs = record {
+  in_force = tt;
+  reads = λ contents a read. (tt, read);
+  patches = record { objects = refl; mediums = refl; addresses = refl; segments = refl; elisions = refl };
+  segments = λ id. refl;
+  next = refl;
+  room = λ logged room. let e : logged ≡ logged + 0 = omega arith in subst (λ (n : ℕ). HasRoomFor k n) e room;
+}
+
+next_more : (n : NextNumbers) (cs : List Command) (i : ℕ) (c : Command) → slice_get cs i ≡ Some c → next_after_all n (take (suc i) cs) ≡ next_after (next_after_all n (take i cs)) c.request
+next_more n [] i c at = absurd (cc at)
+next_more n (d ∷ ds) zero c at = let same : d ≡ c = cc at in ap (λ (x : Command). next_after n x.request) same
+next_more n (d ∷ ds) (suc i) c at = next_more (next_after n d.request) ds i c at
+
+same_twice : (a b c : Tables) → HasSamePatches a b → HasSamePatches b c → HasSamePatches a c
+same_twice a b c p q = record {
+  objects = q.objects ∙ p.objects;
+  mediums = q.mediums ∙ p.mediums;
+  addresses = q.addresses ∙ p.addresses;
+  segments = q.segments ∙ p.segments;
+  elisions = q.elisions ∙ p.elisions;
+}
 
 -- those that are applied are of forms in force
 pub in_force_more : (cs : List Command) (i : ℕ) (c : Command) (r : Request) → slice_get cs i ≡ Some c → r ≡ c.request → is_in_force r ≡ true → AllByRecursion (λ d. is_in_force d.request ≡ true) (take i cs)
@@ -124,23 +160,48 @@ in_force_more cs i c r at same fine all =
     one_of (d ∷ ds) zero there all_of = let is : c ≡ d = cc there in (subst (λ (x : Command). is_in_force x.request ≡ true) is (subst (λ (x : Request). is_in_force x ≡ true) same fine), tt)
     one_of (d ∷ ds) (suc k) there all_of = (all_of.0, one_of ds k there all_of.1)
 
-pub stopped : (a : Array) (cs : List Command) (i : ℕ) (c : Command) (b b2 : Array) → slice_get cs i ≡ Some c → AllByRecursion (λ d. is_in_force d.request ≡ true) (take i cs)
-    → AllAccepted a (take i cs) × (b ≡ after_all a (take i cs)) → IsApplied b c false b2 → IsReplayed a cs i b2
-stopped a cs i c b b2 at all was is = record {
-  in_force = all;
-  accepted = was.0;
-  array = is.1 ∙ was.1;
-  refused = λ d there fine. let same : d ≡ c = cc (at, there) in is.0 (subst (λ (x : Array). Accepts x c) is.1 (subst (λ (x : Command). Accepts b2 x) same fine));
+-- one more was done
+pub one_more : (was mid now : Kept) (cs : List Command) (i : ℕ) (c : Command) (r : Request) → slice_get cs i ≡ Some c → r ≡ c.request → is_in_force r ≡ true → AreDone was cs i mid → IsDone mid c now → AreDone was cs (i + 1) now
+one_more was mid now cs i c r at same fine all is = record {
+  in_force = in_force_more cs i c r at same fine all.in_force;
+  reads = λ contents a read.
+      let before = all.reads contents a read in
+      let here = is.reads contents (after_all a (take i cs)) before.1 in (
+        subst (λ (n : ℕ). AllAccepted a (take n cs)) e (accept_more a cs i c at before.0 here.0),
+        subst (λ (n : ℕ). ReadsAs contents now.memory (after_all a (take n cs))) e (subst (λ (b : Array). ReadsAs contents now.memory b) (sym (after_more a cs i c at)) here.1),
+      );
+  patches = same_twice was.memory.tables mid.memory.tables now.memory.tables all.patches is.patches;
+  segments = λ id. is.segments id ∙ all.segments id;
+  next = is.next ∙ ap (λ (n : NextNumbers). next_after n c.request) all.next ∙ sym (next_more was.memory.next cs i c at) ∙ ap (λ (n : ℕ). next_after_all was.memory.next (take n cs)) e;
+  room = λ logged room. let f : logged + i + 1 ≡ logged + (i + 1) = omega arith in subst (λ (n : ℕ). HasRoomFor now n) f (is.room (logged + i) (all.room logged room));
+}
+  where
+    e : suc i ≡ i + 1
+    e = omega arith
+
+replayed_of : (was now : Kept) (cs : List Command) (count : ℕ) → AreDone was cs count now
+    → ((contents : Contents) (a : Array) → ReadsAs contents was.memory a → (c : Command) → slice_get cs count ≡ Some c → ¬ (Accepts (after_all a (take count cs)) c)) → IsReplayed was cs count now
+replayed_of was now cs count all refused = record {
+  in_force = all.in_force;
+  reads = λ contents a read.
+      let both = all.reads contents a read in
+      (record { accepted = both.0; refused = refused contents a read }, both.1);
+  patches = all.patches;
+  segments = all.segments;
+  next = all.next;
+  room = all.room;
 }
 
-pub ended : (a : Array) (cs : List Command) (count : ℕ) (b : Array) → length cs ≤ count → AllByRecursion (λ d. is_in_force d.request ≡ true) (take count cs)
-    → AllAccepted a (take count cs) × (b ≡ after_all a (take count cs)) → IsReplayed a cs count b
-ended a cs count b past all was = record {
-  in_force = all;
-  accepted = was.0;
-  array = was.1;
-  refused = λ d there fine. absurd (omega (arith, past, slice_get_within cs count d there));
-}
+-- the next one was refused
+pub stopped : (was mid now : Kept) (cs : List Command) (i : ℕ) (c : Command) → slice_get cs i ≡ Some c → AreDone was cs i mid → IsApplied mid c false now → IsReplayed was cs i now
+stopped was mid now cs i c at all is =
+    subst (λ (k : Kept). IsReplayed was cs i k) (sym is.1) (replayed_of was mid cs i all (λ contents a read d there fine.
+    let same : d ≡ c = cc (at, there) in
+    is.0 contents (after_all a (take i cs)) (all.reads contents a read).1 (subst (λ (x : Command). Accepts (after_all a (take i cs)) x) same fine)))
+
+-- or there was none
+pub ended : (was now : Kept) (cs : List Command) (count : ℕ) → length cs ≤ count → AreDone was cs count now → IsReplayed was cs count now
+ended was now cs count past all = replayed_of was now cs count all (λ contents a read d there fine. absurd (omega (arith, past, slice_get_within cs count d there)))
 
 -- why the log isn't replayed
 pub replay_fault : (fault : LogFault) (log : NvLog) (i : ℕ) (r : Request) → IsApplyFault fault r → ((commands : List Command) → Keeps log commands → (c : Command) × (slice_get commands i ≡ Some c) × (r ≡ c.request)) → IsReplayFault fault log

@@ -22,6 +22,7 @@ use Rattle.session_spec.proofs.Conditions.{loses, borne_on}
 use Rattle.session_spec.proofs.Taken.{takeover_bears}
 use Rattle.takeover.proofs.Failing.{sound_since}
 use Rattle.takeover.proofs.Loading.{may_read}
+use Rattle.takeover.proofs.Views.{is_view}
 
 -- what becomes of a device: it is sound, or left out, or a call on it failed
 pub outcome : Bool → Option (List ℕ) → Condition
@@ -69,7 +70,7 @@ module _ (old new : Shelved) (missing : Conditions) (arrays : List Array) (enter
   no_command view shown e g device i c shows =
       let kept = kept_is (names e.boot (nvram device)) (view (nvram device)) shows.bytes shows.shown in
       elim (shown (nvram device)) [
-        | inl is ↦ (enters.read (read_now old) may).in_force e.slot e.boot g device i c kept.0
+        | inl is ↦ enters.read (read_now old) may e.slot e.boot g device i c kept.0
             (subst (λ (l : List ℕ). ShowsIn l e.boot.flushed i c) (some_is shows.bytes (old.disk (nvram device)).bytes (view (nvram device)) kept.1 is) (record { slot = shows.slot; gate = shows.gate; spelled = shows.spelled }))
         | inr none ↦ absurd (cc (none, kept.1))
       ]
@@ -84,7 +85,10 @@ module _ (old new : Shelved) (missing : Conditions) (arrays : List Array) (enter
       let g = given none.view seen e in
       elim (none.unread e) [
         | inl spent ↦ absurd (spent (let below = enters.room (read_now old) may e.slot e.boot g in omega (arith, below)))
-        | inr (inl patches) ↦ absurd (patches ((enters.read (read_now old) may).unflushed e.slot e.boot g))
+        | inr (inl no_tables) ↦
+            let v = is_view (geometry_of old) (read_now old).image missing (failed_since old new missing) none.view (λ d. is.bytes h d) none.shown seen in
+            let held = (((enters.stands (read_now old) may).reads e.slot e.boot g).each (failed_since old new missing) none.view v).holds in
+            absurd (no_tables held.patches held.tables.patches_stand held.tables.sound)
         | inr (inr (device, i, c, shows, unserved)) ↦ absurd (cc (unserved, no_command none.view none.shown e g device i c shows))
       ]
 

@@ -6,10 +6,14 @@ use Rattle.pur_base.specs.Commands.{Command, Accepts, AllAccepted, after, after_
 use Rattle.pur_base.specs.Devices.{View, nvram}
 use Rattle.pur_base.specs.Plain.{Array}
 use Rattle.log_codec.specs.Log.{Shows, IsInSlot, LogFrom, LogStands, DevicesAgree}
+use Rattle.log_codec.proofs.OneHead.{one_command}
 use Rattle.array_spec.proofs.LogBetween.{shower}
 use Rattle.array_spec.proofs.OneLog.{one_shown, one_in_slot}
+use Rattle.nvram_log.specs.declared.log.NvLog.{NvLog}
+use Rattle.nvram_log.specs.Held.{Keeps}
 use Rattle.nvram_log.proofs.Lists.{get_front}
-use Rattle.takeover.specs.Replay.{IsReplayed}
+use Rattle.stored_spec.proofs.Unique.{same_lists}
+use Rattle.takeover.specs.Replay.{IsRun}
 
 pub log_from : (view : View) (flushed i : ℕ) (a : Array) (cs : List Command) → ((k : ℕ) (c : Command) → slice_get cs k ≡ Some c → IsInSlot view flushed (i + k) c) → AllAccepted a cs
     → ((c : Command) → IsInSlot view flushed (i + length cs) c → ¬ (Accepts (after_all a cs) c)) → LogFrom view flushed i a cs
@@ -29,18 +33,18 @@ of_front count commands k c at size =
     sym (get_front count commands k lt) ∙ at
 
 -- the front that was accepted stands as the log
-pub replayed_stands : (view : View) (flushed : ℕ) (commands : List Command) (count : ℕ) (b : Array) → IsReplayed [] commands count b → length (take count commands) ≡ count
+pub replayed_stands : (view : View) (flushed : ℕ) (base : Array) (commands : List Command) (count : ℕ) → IsRun base commands count → length (take count commands) ≡ count
     → ((k : ℕ) (c : Command) → slice_get commands k ≡ Some c → IsInSlot view flushed k c)
     → (length commands < 64 → (n : ℕ) (c : Command) → n < 2 → ¬ (Shows view n flushed (length commands) c))
-    → count ≤ length commands → LogStands view flushed [] (take count commands)
-replayed_stands view flushed commands count b replayed size placed ends le =
-    log_from view flushed 0 [] (take count commands) (λ k c at. let e : k ≡ 0 + k = omega arith in subst (λ (n : ℕ). IsInSlot view flushed n c) e (placed k c (of_front count commands k c at size))) replayed.accepted last
+    → count ≤ length commands → LogStands view flushed base (take count commands)
+replayed_stands view flushed base commands count run size placed ends le =
+    log_from view flushed 0 base (take count commands) (λ k c at. let e : k ≡ 0 + k = omega arith in subst (λ (n : ℕ). IsInSlot view flushed n c) e (placed k c (of_front count commands k c at size))) run.accepted last
   where
-    refused_there : (c : Command) → IsInSlot view flushed count c → ¬ (Accepts (after_all [] (take count commands)) c)
+    refused_there : (c : Command) → IsInSlot view flushed count c → ¬ (Accepts (after_all base (take count commands)) c)
     refused_there c s fine = elim (slice_get_cases commands count).1 [
       | inl some ↦
           let same : c ≡ some.0 = one_in_slot view flushed count c some.0 s (placed count some.0 some.2) in
-          replayed.refused some.0 some.2 (subst (λ (x : Array). Accepts x some.0) (sym replayed.array) (subst (λ (d : Command). Accepts (after_all [] (take count commands)) d) same fine))
+          run.refused some.0 some.2 (subst (λ (d : Command). Accepts (after_all base (take count commands)) d) same fine)
       | inr past ↦
           let at_end : count ≡ length commands = omega (arith, past.0, le) in
           let it = shower view flushed count c s in
@@ -48,7 +52,7 @@ replayed_stands view flushed commands count b replayed size placed ends le =
           ends (omega (arith, at_end, below)) it.0 c it.1 (subst (λ (n : ℕ). Shows view it.0 flushed n c) at_end it.2)
     ]
 
-    last : (c : Command) → IsInSlot view flushed (0 + length (take count commands)) c → ¬ (Accepts (after_all [] (take count commands)) c)
+    last : (c : Command) → IsInSlot view flushed (0 + length (take count commands)) c → ¬ (Accepts (after_all base (take count commands)) c)
     last c s = let e : 0 + length (take count commands) ≡ count = omega (arith, size) in refused_there c (subst (λ (n : ℕ). IsInSlot view flushed n c) e s)
 
 -- devices that agree show one command in a slot
@@ -72,3 +76,7 @@ slot_moves m n same flushed i c (inr (nobody, s)) = inr (λ d t. nobody d (shows
 pub log_moves : (m n : View) → ((j : ℕ) → m (nvram j) ≡ n (nvram j)) → (flushed i : ℕ) (array : Array) (cs : List Command) → LogFrom m flushed i array cs → LogFrom n flushed i array cs
 log_moves m n same flushed i array [] s = λ c t. s c (slot_moves n m (λ j. sym (same j)) flushed i c t)
 log_moves m n same flushed i array (c ∷ cs) s = (slot_moves m n same flushed i c s.0, s.1, log_moves m n same flushed (suc i) _ cs s.2)
+
+-- memory keeps one log
+pub kept_one : (log : NvLog) (cs ds : List Command) → Keeps log cs → Keeps log ds → cs ≡ ds
+kept_one log cs ds first second = same_lists cs ds (first.count ∙ sym second.count) (λ k c d at at2. one_command _ _ c d (first.each k c at) (second.each k d at2))

@@ -1,5 +1,5 @@
 -- The record is loaded and settled: at every moment the devices stand for the arrays, and then it is in force.
-use Rattle.std.proofs.Common.{◌≡◌, ℕ, ◌+◌, ◌<◌, ◌≤◌, ◌-◌, ◌^◌, Bool, true, false, List, [], refl, sym, ◌∙◌, ap, subst, arith, Ok}
+use Rattle.std.proofs.Common.{◌≡◌, ℕ, ◌+◌, ◌<◌, ◌≤◌, ◌-◌, ◌^◌, Bool, true, false, List, refl, sym, ◌∙◌, ap, subst, arith, Ok}
 use Rattle.std.specs.Prelude.{◌&&◌, slice_index_or, Some, None}
 use Rattle.pur_base.specs.Plain.{Array}
 use Rattle.pur_base.specs.Devices.{Geometry, Conditions, Sound, LeftOut, IsBearable, IsWithin, drive, nvram}
@@ -14,6 +14,7 @@ use Rattle.array_spec.specs.Laws.{IsNamedByNone}
 use Rattle.array_spec.specs.Meaning.{IsInForce}
 use Rattle.array_spec.specs.Standing.{Stands, MayBeGiven}
 use Rattle.array_spec.proofs.Standings.{more_may_go_missing, given_with_fewer, within_twice}
+use Rattle.array_spec.proofs.UnflushedRead.{was_left_out}
 use Rattle.array_spec.proofs.Votes.{sound_before}
 use Rattle.world.specs.Losing.{geometry_of, has_risen}
 use Rattle.world.specs.Shelf.{Shelved, Stop, IsShelf, IsSame, Continues, MayStop, MayLeave, LeavesOnly}
@@ -147,11 +148,8 @@ module _ (old mid : Shelved) (missing : Conditions) (arrays : List Array) (x : L
       same_nvram n = on_nvram x.drives mid (gate_place slot) SECTOR_BYTES stop (leaves_members x.drives mid (gate_place slot) stop left) n
 
       pub read_at : (more : Conditions) → IsWithin now more → AreRead (geometry_of mid) stop.image more
-      read_at more within = record {
-        unflushed = λ t boot g. (enters.read (at_time old start.image) begins).unflushed t boot (given_then more within t boot g);
-        in_force = λ t boot g n i command named s. (enters.read (at_time old start.image) begins).in_force t boot (given_then more within t boot g) n i command named
-            (subst (λ (l : List ℕ). ShowsIn l boot.flushed i command) (sym (same_nvram n)) s);
-      }
+      read_at more within = λ t boot g n i command named s. enters.read (at_time old start.image) begins t boot (given_then more within t boot g) n i command named
+          (subst (λ (l : List ℕ). ShowsIn l boot.flushed i command) (sym (same_nvram n)) s)
 
       -- and so at the entry
       pub unstored_at : (more : Conditions) → IsWithin now more → (t : BootSlot) (boot : BootRecord) → MayBeGiven (geometry_of mid) stop.image more t boot → MayBeGiven (geometry_of old) (read_now old).image missing t boot
@@ -182,12 +180,15 @@ module _ (old mid : Shelved) (missing : Conditions) (arrays : List Array) (x : L
   module _ (new : Shelved) (y : Loaded) (on_new : Continues mid new) (is_new : IsShelf new) (record_is : y.record ≡ x.record) (slot_is : y.slot ≡ x.slot)
       (fewer : (i : ℕ) → IsMember y.drives i → IsMember x.drives i) (writes : WritesOnly (OnClosed x.drives mid (gate_place slot)) mid new)
       (settled : (later : Conditions) → IsBearable (geometry_of old) now → TellsFailed mid x.drives now (λ d. (new.disk d).faults) later → IsInForceOn new y.drives later (other_slot (slot_in y.slot)) y.record)
-      (unflushed : x.record.patches ≡ []) (bears_new : IsBearable (geometry_of old) (failed_since old new missing)) where
-    abbrev later : Conditions
-    later = failed_since old new missing
-
+      (later : Conditions) (since : IsWithin (failed_since old new missing) later) (bears_new : IsBearable (geometry_of old) later) where
     more_later : IsWithin now later
-    more_later = since_later old mid new missing on_new
+    more_later = within_twice now (failed_since old new missing) later (since_later old mid new missing on_new) since
+
+    was_sound : (d : Device) → later d ≡ Sound → (missing d ≡ Sound) × (has_risen (old.disk d).faults (new.disk d).faults ≡ false)
+    was_sound d sound = sound_since (has_risen (old.disk d).faults (new.disk d).faults) (missing d) (sound_before (failed_since old new missing d) (later d) (since d) sound)
+
+    was_out : (d : Device) → later d ≡ LeftOut → missing d ≡ LeftOut
+    was_out d out = left_out_since (has_risen (old.disk d).faults (new.disk d).faults) (missing d) (was_left_out (failed_since old new missing d) (later d) (since d) out)
 
     bears_mid : IsBearable (geometry_of old) now
     bears_mid = fewer_borne (geometry_of old) now later more_later bears_new
@@ -197,7 +198,7 @@ module _ (old mid : Shelved) (missing : Conditions) (arrays : List Array) (x : L
 
     not_since : (i : ℕ) → later (drive i) ≡ Sound → has_risen (mid.disk (drive i)).faults (new.disk (drive i)).faults ≡ false
     not_since i sound = since_mid (old.disk (drive i)).faults (mid.disk (drive i)).faults (new.disk (drive i)).faults (on.faults (drive i)) (on_new.faults (drive i))
-        (sound_since (has_risen (old.disk (drive i)).faults (new.disk (drive i)).faults) (missing (drive i)) sound).1
+        (was_sound (drive i) sound).1
 
     pub tells_failed : TellsFailed mid x.drives now (λ d. (new.disk d).faults) later
     tells_failed = record {
@@ -216,14 +217,13 @@ module _ (old mid : Shelved) (missing : Conditions) (arrays : List Array) (x : L
       named = λ i m. subst (λ (b : BootRecord). names b (drive i) ≡ true) (sym record_is) (named_of i (fewer i m));
       bodies = λ i m. subst (λ (b : BootRecord). body_in (slot_in y.slot) (new.disk (drive i)).bytes ≡ spelling b) (sym record_is)
           (subst (λ s. body_in (slot_in s) (new.disk (drive i)).bytes ≡ spelling x.record) (sym slot_is) (body_of i (fewer i m)));
-      unflushed = ap (λ (b : BootRecord). b.patches) record_is ∙ unflushed;
       room = subst (λ (b : BootRecord). b.generation < 2 ^ 48 - 16) (sym record_is) (room_of bears_mid);
       stands = λ stop may. more_may_go_missing (geometry_of new) stop.image now later arrays more_later (subst (λ (g : Geometry). IsBearable g later) (same_shelf ∙ same_mid) bears_new)
           (subst (λ (g : Geometry). Stands g stop.image now arrays) same_mid (stands_at bears_mid stop (left_by stop may)));
       left_out = λ stop may d out. subst (λ (g : Geometry). IsNamedByNone g stop.image later d) same_mid
-          (left_out_at bears_mid stop (left_by stop may) later more_later d (left_out_since (has_risen (old.disk d).faults (new.disk d).faults) (missing d) out));
+          (left_out_at bears_mid stop (left_by stop may) later more_later d (was_out d out));
       read = λ stop may. subst (λ (g : Geometry). AreRead g stop.image later) same_mid (read_at bears_mid stop (left_by stop may) later more_later);
-      counted = λ d sound. goes_on (old.disk d).faults (new.disk d).faults (sound_since (has_risen (old.disk d).faults (new.disk d).faults) (missing d) sound).1;
+      counted = λ d sound. goes_on (old.disk d).faults (new.disk d).faults (was_sound d sound).1;
     }
       where
         first_true : (a b : Bool) → (a && b) ≡ true → a ≡ true
@@ -238,6 +238,6 @@ module _ (old mid : Shelved) (missing : Conditions) (arrays : List Array) (x : L
             ∙ body_stands old mid x now is_old is_mid h h_mid on.drives on.units same by (tells bears_mid) i (drive_below old mid x now is_old is_mid h h_mid on.drives on.units same by (tells bears_mid) i m) m
 
 -- the counts that are compared
-pub lacking : (old new : Shelved) (missing : Conditions) (drives : List Bool) → IsBearable (geometry_of old) (failed_since old new missing) → new.drives ≡ old.drives
-    → ((i : ℕ) → i < new.drives → failed_since old new missing (drive i) ≡ Sound → IsMember drives i) → old.drives ≤ set_count drives + 2
-lacking old new missing drives bears same sound = few_lack old.drives (failed_since old new missing) drives old.units bears (λ i lt is. sound i (omega (arith, lt, same)) is)
+pub lacking : (old new : Shelved) (later : Conditions) (drives : List Bool) → IsBearable (geometry_of old) later → new.drives ≡ old.drives
+    → ((i : ℕ) → i < new.drives → later (drive i) ≡ Sound → IsMember drives i) → old.drives ≤ set_count drives + 2
+lacking old new later drives bears same sound = few_lack old.drives later drives old.units bears (λ i lt is. sound i (omega (arith, lt, same)) is)

@@ -1,4 +1,10 @@
 mod Members
+mod Views
+mod Moved
+mod TablesHeld
+mod TablesMade
+mod TablesRead
+mod TablesLost
 mod Failing
 mod Counts
 mod Cleaned
@@ -19,7 +25,10 @@ mod LogSettling
 mod LogOpened
 mod LogReplayed
 mod Twice
+mod Enough
+mod ArrayOf
 mod RecoveredLemmas
+mod BaseHeld
 mod Moments
 mod Causes
 mod WhatFound

@@ -1,9 +1,12 @@
 -- The log is read, applied and settled: what a stop leaves at each moment, and what is known in the end.
 use Rattle.std.proofs.Common.{◌≡◌, inl, inr, ℕ, zero, suc, ◌<◌, ◌≤◌, List, [], length, take, refl, sym, ◌∙◌, ap, subst, arith, Bool, true, false, Err}
 use Rattle.std.specs.Prelude.{Option, Some, None, Contains, slice_get, slice_index_or}
+use Rattle.std.specs.List.{AllByRecursion}
 use Rattle.pur_base.specs.Commands.{Command, after_all}
 use Rattle.pur_base.specs.Devices.{Geometry, Image, Conditions, Sound, LeftOut, IsBearable, drive, nvram}
 use Rattle.pur_base.specs.Plain.{Array}
+use Rattle.pur_base.specs.Grammar.{is_in_force}
+use Rattle.pur_base.specs.declared.facts.AnyFact.{AnyFact}
 use Rattle.pur_base.specs.declared.device.Device.{Device}
 use Rattle.pur_base.specs.declared.device.Device.TheVariants.{Drive, Nv}
 use Rattle.boot_codec.specs.Spelling.{spelling}
@@ -15,6 +18,9 @@ use Rattle.array_spec.proofs.Settling.{twice_other}
 use Rattle.array_spec.proofs.LogBetween.{shower}
 use Rattle.array_spec.proofs.UnflushedRead.{one_left, kept_is}
 use Rattle.array_spec.proofs.Votes.{sound_before}
+use Rattle.stored_spec.specs.Held.{TablesHold}
+use Rattle.stored_spec.proofs.Next.{same_drives_hold}
+use Rattle.array_memory.specs.Kept.{Kept}
 use Rattle.world.specs.Counts.{Rises}
 use Rattle.world.specs.Losing.{geometry_of, has_failed, has_risen}
 use Rattle.world.specs.Shelf.{Shelved, Stop, Disk, IsShelf, Continues, MayStop, MayLeave, LeavesOnly}
@@ -40,7 +46,8 @@ use Rattle.takeover.specs.declared.log.OpenedLog.{OpenedLog}
 use Rattle.session_spec.specs.Entering.{AreRead, IsStanding, IsUnstored, StandsStill, failed_by, failed_since, read_now}
 use Rattle.takeover.specs.Found.{IsFoundOn}
 use Rattle.takeover.specs.LogOpen.{IsLogOpen, IsLogOpenBy, IsLogFault, ShowsUnserved}
-use Rattle.takeover.specs.Replay.{HasUnserved, IsReplayed, IsReplayFault, log_fault_of}
+use Rattle.takeover.specs.Replay.{HasUnserved, IsReplayed, IsReplayFault, IsRun, log_fault_of}
+use Rattle.takeover.specs.Tables.{HasTables, HoldTables}
 use Rattle.takeover.proofs.Counts.{goes_on}
 use Rattle.takeover.proofs.Failing.{sound_since, fewer_borne, by_stop, since_later}
 use Rattle.takeover.proofs.Loading.{same_geometry}
@@ -99,22 +106,22 @@ one_sound shelf c bears = elim (one_left (c (nvram 0)) (c (nvram 1)) bears.nvram
 ]
 
 -- why the log wasn't read
-pub not_read : (old mid : Shelved) (x : Loaded) (missing : Conditions) (arrays : List Array) → IsShelf old → IsShelf mid → mid.honest → WritesOnly OnNothing old mid
-    → ((i : ℕ) → mid.disk (drive i) ≡ old.disk (drive i)) → IsFoundOn old x missing arrays → IsBearable (geometry_of old) (failed_since old mid missing)
-    → (fault : ReadFault) → AllFailed fault old mid x.record.members.nvrams → IsLogOpenBy mid x (failed_since old mid missing) arrays (Err (log_fault_of fault))
-not_read old mid x missing arrays is is_mid h wrote same found bears read_fault.NoMemory all = tt
-not_read old mid x missing arrays is is_mid h wrote same found bears read_fault.BothLost all =
+pub not_read : (old mid : Shelved) (x : Loaded) (missing : Conditions) (arrays : List Array) (ps : List (List AnyFact)) (base : Array) → IsShelf old → IsShelf mid → mid.honest → WritesOnly OnNothing old mid
+    → ((i : ℕ) → mid.disk (drive i) ≡ old.disk (drive i)) → IsFoundOn old x missing arrays → HoldTables old x ps base → IsBearable (geometry_of old) (failed_since old mid missing)
+    → (fault : ReadFault) → AllFailed fault old mid x.record.members.nvrams → IsLogOpenBy mid x (failed_since old mid missing) arrays ps base (Err (log_fault_of fault))
+not_read old mid x missing arrays ps base is is_mid h wrote same found hold bears read_fault.NoMemory all = tt
+not_read old mid x missing arrays ps base is is_mid h wrote same found hold bears read_fault.BothLost all =
     let one = one_sound (geometry_of old) (failed_since old mid missing) bears in
-    absurd (cc (answers old mid x missing arrays is wrote same found [] (λ n m. absurd (cc m)) (λ n lt m. inr (all n lt m)) (λ n lt m. absurd (cc m)) bears
+    absurd (cc (answers old mid x missing arrays is wrote same found [] (λ n m. absurd (cc m)) (λ n lt m. inr (all n lt m)) (λ n lt m. absurd (cc m)) bears ps base hold
     (λ d. (mid.disk d).bytes) (as_read_leaves mid is_mid h) one.0 one.1 one.2))
 
-pub not_replayed : (new : Shelved) (x : Loaded) (missing : Conditions) (arrays : List Array) (log : NvLog) (fault : LogFault) → IsReplayFault fault log → IsLogOpenBy new x missing arrays (Err fault)
-not_replayed new x missing arrays log (log_fault.Memory m) is = tt
-not_replayed new x missing arrays log log_fault.BothLost is = is
-not_replayed new x missing arrays log log_fault.Unserved is = tt
+pub not_replayed : (new : Shelved) (x : Loaded) (missing : Conditions) (arrays : List Array) (ps : List (List AnyFact)) (base : Array) (log : NvLog) (fault : LogFault) → IsReplayFault fault log → IsLogOpenBy new x missing arrays ps base (Err fault)
+not_replayed new x missing arrays ps base log (log_fault.Memory m) is = tt
+not_replayed new x missing arrays ps base log log_fault.BothLost is = is
+not_replayed new x missing arrays ps base log log_fault.Unserved is = tt
 
--- the log was read from the devices, and its first commands make the array
-pub record WasRead (old mid : Shelved) (x : Loaded) (missing : Conditions) (arrays : List Array) (log : NvLog) (count : ℕ) (b : Array) : Type 0 where
+-- the log was read from the devices, and its first commands were done in memory that reads as the base of the tables
+pub record WasRead (old mid : Shelved) (x : Loaded) (missing : Conditions) (arrays : List Array) (ps : List (List AnyFact)) (base : Array) (log : NvLog) (count : ℕ) : Type 0 where
   pub is : IsShelf old
   pub is_mid : IsShelf mid
   pub honest : old.honest
@@ -122,6 +129,7 @@ pub record WasRead (old mid : Shelved) (x : Loaded) (missing : Conditions) (arra
   pub wrote : WritesOnly OnNothing old mid
   pub same_drives : (i : ℕ) → mid.disk (drive i) ≡ old.disk (drive i)
   pub found : IsFoundOn old x missing arrays
+  pub hold : HoldTables old x ps base
   pub fewer : IsFewer x.record.members.nvrams log.members
   pub dropped : DroppedCounted old mid x.record.members.nvrams log.members
   pub clean : (n : ℕ) → n < 2 → IsMember log.members n → (mid.disk (nvram n)).dirty ≡ []
@@ -129,9 +137,10 @@ pub record WasRead (old mid : Shelved) (x : Loaded) (missing : Conditions) (arra
   pub read : IsReadFrom old.honest (shown_of mid log.members) log
   pub seen : AreAsSeen mid log
   pub within : count ≤ log.count
-  pub replayed : (commands : List Command) → Keeps log commands → IsReplayed [] commands count b
+  pub in_force : (commands : List Command) → Keeps log commands → AllByRecursion (λ c. is_in_force c.request ≡ true) (take count commands)
+  pub run : (commands : List Command) → Keeps log commands → IsRun base commands count
 
-module _ (old mid new : Shelved) (x : Loaded) (missing : Conditions) (arrays : List Array) (log : NvLog) (count : ℕ) (b : Array) (r : WasRead old mid x missing arrays log count b) where
+module _ (old mid new : Shelved) (x : Loaded) (missing : Conditions) (arrays : List Array) (ps : List (List AnyFact)) (base : Array) (log : NvLog) (count : ℕ) (r : WasRead old mid x missing arrays ps base log count) where
   abbrev shelf : Geometry
   shelf = geometry_of old
 
@@ -153,16 +162,16 @@ module _ (old mid new : Shelved) (x : Loaded) (missing : Conditions) (arrays : L
 
   module _ (bears : IsBearable (geometry_of old) (failed_since old mid missing)) where
     answered : (n : ℕ) → n < 2 → failed_since old mid missing (nvram n) ≡ Sound → IsMember log.members n
-    answered n lt s = answers old mid x missing arrays r.is r.wrote r.same_drives r.found log.members r.fewer r.dropped r.clean bears (λ d. (mid.disk d).bytes) (as_read_leaves mid r.is_mid (r.on.honest r.honest)) n lt s
+    answered n lt s = answers old mid x missing arrays r.is r.wrote r.same_drives r.found log.members r.fewer r.dropped r.clean bears ps base r.hold (λ d. (mid.disk d).bytes) (as_read_leaves mid r.is_mid (r.on.honest r.honest)) n lt s
 
-    pub one_of : Contains arrays (after_all [] front)
-    one_of = is_one old mid x missing arrays r.is r.wrote r.same_drives r.found log.members r.fewer r.dropped r.clean bears (λ d. (mid.disk d).bytes) (as_read_leaves mid r.is_mid (r.on.honest r.honest))
-        commands count b le (r.replayed commands r.read.keeps) placed ends
+    pub one_of : Contains arrays (after_all base front)
+    one_of = is_one old mid x missing arrays r.is r.wrote r.same_drives r.found log.members r.fewer r.dropped r.clean bears ps base r.hold (λ d. (mid.disk d).bytes) (as_read_leaves mid r.is_mid (r.on.honest r.honest))
+        commands count le (r.run commands r.read.keeps) placed ends
 
     pub agree : Agree mid log.members log.flushed front
     agree n i c lt m short t =
-        agree_here old mid x missing arrays r.is r.wrote r.same_drives r.found log.members r.fewer r.dropped r.clean bears (λ d. (mid.disk d).bytes) (as_read_leaves mid r.is_mid (r.on.honest r.honest))
-        commands count b le (r.replayed commands r.read.keeps) placed ends n i c m short (subst (λ (f : ℕ). ShowsIn (mid.disk (nvram n)).bytes f i c) r.flushed t)
+        agree_here old mid x missing arrays r.is r.wrote r.same_drives r.found log.members r.fewer r.dropped r.clean bears ps base r.hold (λ d. (mid.disk d).bytes) (as_read_leaves mid r.is_mid (r.on.honest r.honest))
+        commands count le (r.run commands r.read.keeps) placed ends n i c m short (subst (λ (f : ℕ). ShowsIn (mid.disk (nvram n)).bytes f i c) r.flushed t)
 
   -- ---- it is settled
 
@@ -175,8 +184,8 @@ module _ (old mid new : Shelved) (x : Loaded) (missing : Conditions) (arrays : L
     while_settling = elim (bearable_or_not (geometry_of old) (failed_since old mid missing)) [
       | inl bears ↦ weaker (λ stop both. record {
         standing = λ borne.
-            standing_settling old mid x missing arrays r.is r.wrote r.same_drives r.found log.members r.fewer r.dropped r.clean bears
-            commands count b le (r.replayed commands r.read.keeps) placed ends r.is_mid (r.on.honest r.honest) stop both.1 (subst (λ (f : ℕ). SettleBy mid log.members f front stop) r.flushed both.0)
+            standing_settling old mid x missing arrays r.is r.wrote r.same_drives r.found log.members r.fewer r.dropped r.clean bears ps base r.hold
+            commands count le (r.run commands r.read.keeps) placed ends (r.in_force commands r.read.keeps) r.is_mid (r.on.honest r.honest) stop both.1 (subst (λ (f : ℕ). SettleBy mid log.members f front stop) r.flushed both.0)
             (failed_by old stop missing) (by_stop old mid stop missing both.1.counts) borne;
         stored = unstored old x missing arrays r.found stop (drives_left stop both.1);
       })
@@ -269,7 +278,6 @@ module _ (old mid new : Shelved) (x : Loaded) (missing : Conditions) (arrays : L
         in_its_slot = r.found.in_its_slot;
         named = r.found.named;
         bodies = λ i m. subst (λ (d : Disk). body_in (slot_in x.slot) d.bytes ≡ spelling x.record) (sym (same_all i)) (r.found.bodies i m);
-        unflushed = r.found.unflushed;
         room = r.found.room;
         stands = λ stop may. subst (λ (g : Geometry). Stands g stop.image later arrays) same_shelf (standing_here stop may).stands;
         counted = λ d s. goes_on (old.disk d).faults (new.disk d).faults (was_sound d s).1;
@@ -277,16 +285,21 @@ module _ (old mid new : Shelved) (x : Loaded) (missing : Conditions) (arrays : L
         read = λ start may. subst (λ (g : Geometry). AreRead g start.image later) same_shelf (standing_here start may).read;
       }
 
-      pub opened : (o : OpenedLog) → o.log.members ≡ now_members → IsSome o.log.members → o.log.flushed ≡ log.flushed → Keeps o.log front → o.plain ≡ b
-          → HoldsOn new o.log.members o.log.flushed front → IsLogOpen new x later arrays o
-      opened o same some flushed keeps plain holds = record {
+      -- the drives are as they were, and so the tables
+      hold_still : HoldTables new x ps base
+      hold_still start may = subst (λ (g : Geometry). TablesHold g start.image (slot_in x.slot) x.record ps base) same_shelf
+          (same_drives_hold (geometry_of old) (image_before start may) start.image (slot_in x.slot) x.record ps base (λ i. refl) (r.hold (at_once old (image_before start may)) (stop_before start may)))
+
+      pub opened : (o : OpenedLog) → o.log.members ≡ now_members → IsSome o.log.members → o.log.flushed ≡ log.flushed → Keeps o.log front
+          → HoldsOn new o.log.members o.log.flushed front → IsLogOpen new x later arrays ps base o
+      opened o same some flushed keeps holds = record {
         found = found_still;
+        hold = hold_still;
         commands = front;
         keeps = keeps;
-        in_force = (r.replayed commands r.read.keeps).in_force;
+        in_force = r.in_force commands r.read.keeps;
         flushed = flushed ∙ r.flushed;
-        accepted = (r.replayed commands r.read.keeps).accepted;
-        plain = plain ∙ (r.replayed commands r.read.keeps).array;
+        accepted = (r.run commands r.read.keeps).accepted;
         one_of = one_of bears_mid;
         holds = subst (λ (f : ℕ). HoldsOn new o.log.members f front) (flushed ∙ r.flushed) holds;
         some = some;
@@ -302,12 +315,12 @@ module _ (old mid new : Shelved) (x : Loaded) (missing : Conditions) (arrays : L
               absurd (cc (named, (standing_here (at_once new image) may).left_out (nvram n) out (slot_in x.slot) x.record (given_here (at_once new image) may)))
 
 -- what the calls say of a log that was read
-pub was_read : (old mid : Shelved) (x : Loaded) (missing : Conditions) (arrays : List Array) (nvrams : List Bool) (flushed : ℕ) (log : NvLog) (count : ℕ) (b : Array)
+pub was_read : (old mid : Shelved) (x : Loaded) (missing : Conditions) (arrays : List Array) (ps : List (List AnyFact)) (base : Array) (nvrams : List Bool) (flushed : ℕ) (log : NvLog) (count : ℕ) (was now : Kept)
     → IsShelf old → IsShelf mid → old.honest → Continues old mid → WritesOnly OnNothing old mid → ((i : ℕ) → mid.disk (drive i) ≡ old.disk (drive i))
-    → x.record.members.nvrams ≡ nvrams → x.record.flushed ≡ flushed → IsFoundOn old x missing arrays → IsFewer nvrams log.members → DroppedCounted old mid nvrams log.members
+    → x.record.members.nvrams ≡ nvrams → x.record.flushed ≡ flushed → IsFoundOn old x missing arrays → HasTables old x was ps base → IsFewer nvrams log.members → DroppedCounted old mid nvrams log.members
     → ((n : ℕ) → n < 2 → IsMember log.members n → (mid.disk (nvram n)).dirty ≡ []) → log.flushed ≡ flushed → IsReadFrom old.honest (shown_of mid log.members) log → AreAsSeen mid log
-    → count ≤ log.count → ((commands : List Command) → Keeps log commands → IsReplayed [] commands count b) → WasRead old mid x missing arrays log count b
-was_read old mid x missing arrays nvrams flushed log count b is is_mid h on wrote same same_nvrams same_flushed found fewer dropped clean flushed_is read seen within replayed = record {
+    → count ≤ log.count → ((commands : List Command) → Keeps log commands → IsReplayed was commands count now) → WasRead old mid x missing arrays ps base log count
+was_read old mid x missing arrays ps base nvrams flushed log count was now is is_mid h on wrote same same_nvrams same_flushed found has fewer dropped clean flushed_is read seen within replayed = record {
   is = is;
   is_mid = is_mid;
   honest = h;
@@ -315,6 +328,7 @@ was_read old mid x missing arrays nvrams flushed log count b is is_mid h on wrot
   wrote = wrote;
   same_drives = same;
   found = found;
+  hold = has.hold;
   fewer = subst (λ (l : List Bool). IsFewer l log.members) (sym same_nvrams) fewer;
   dropped = subst (λ (l : List Bool). DroppedCounted old mid l log.members) (sym same_nvrams) dropped;
   clean = clean;
@@ -322,7 +336,8 @@ was_read old mid x missing arrays nvrams flushed log count b is is_mid h on wrot
   read = read;
   seen = seen;
   within = within;
-  replayed = replayed;
+  in_force = λ commands keeps. (replayed commands keeps).in_force;
+  run = λ commands keeps. ((replayed commands keeps).reads has.contents base has.reads).0;
 }
 
 -- ---- faults

@@ -1,16 +1,22 @@
 -- What the devices showed of the log, or why it wasn't replayed, and that nothing is dirty in the end.
-use Rattle.std.proofs.Common.{◌≡◌, inl, inr, ℕ, ◌<◌, ◌≤◌, List, [], length, take, sym, ◌∙◌, ap, subst, arith, Bool, false, Err}
+use Rattle.std.proofs.Common.{◌≡◌, inl, inr, ℕ, ◌+◌, ◌<◌, ◌≤◌, List, [], length, take, sym, ◌∙◌, ap, subst, arith, Bool, false, Err}
 use Rattle.std.specs.Prelude.{Option, Some, None, if◌then◌else◌, slice_index_or}
 use Rattle.std.proofs.lemmas.Bool.{cases_Bool, cases_lt}
 use Rattle.std.proofs.lemmas.List.{ext_get_or, get_or_past, length-take}
-use Rattle.pur_base.specs.Commands.{Command}
+use Rattle.pur_base.specs.Commands.{Command, after_all}
 use Rattle.pur_base.specs.Devices.{Conditions, Sound, drive, nvram}
 use Rattle.pur_base.specs.Plain.{Array}
+use Rattle.pur_base.specs.Visible.{segment}
 use Rattle.pur_base.specs.declared.device.Device.{Device}
 use Rattle.pur_base.specs.declared.device.Device.TheVariants.{Drive, Nv}
 use Rattle.log_codec.specs.Log.{LogStands, Shows, ShowsIn}
 use Rattle.array_spec.proofs.LogBetween.{shower}
 use Rattle.array_spec.proofs.UnflushedRead.{kept_is}
+use Rattle.memory_spec.specs.Memory.{Contents, ReadsAs}
+use Rattle.memory_spec.specs.Tables.{facts}
+use Rattle.checkpoint_spec.specs.Whole.{AreLayered}
+use Rattle.array_memory.specs.Kept.{Kept, HasSamePatches}
+use Rattle.array_state.specs.Room.{HasRoomFor}
 use Rattle.world.specs.Losing.{has_risen}
 use Rattle.world.specs.Shelf.{Continues, Disk, IsCountedBy, LeavesOnly, Shelved}
 use Rattle.world.specs.Writes.{ChangesOnly, WritesOnly}
@@ -29,7 +35,7 @@ use Rattle.takeover.specs.declared.log.LogFault.TheVariants as log_fault
 use Rattle.takeover.specs.declared.log.OpenedLog.{OpenedLog}
 use Rattle.takeover.specs.Opened.{AreClean}
 use Rattle.takeover.specs.Replay.{HasUnserved, IsReplayed, IsReplayFault, log_fault_of}
-use Rattle.takeover.specs.Replayed.{IsReplayedBy, IsReplayedFrom, ShowedUnserved}
+use Rattle.takeover.specs.Replayed.{HasReplayed, IsReplayedBy, IsReplayedFrom, ShowedUnserved}
 use Rattle.takeover.proofs.Chains.{log_moves, replayed_stands}
 use Rattle.takeover.proofs.Failing.{sound_since}
 
@@ -79,12 +85,12 @@ module _ (old mid new : Shelved) (nvrams : List Bool) (flushed : ℕ) (honest : 
       some_is : {p q : List ℕ} → ◌≡◌ {A = Option (List ℕ)} (Some p) (Some q) → p ≡ q
       some_is e = cc e
 
-  pub not_replayed : (fault : LogFault) → IsReplayFault fault log → IsReplayedBy old new nvrams flushed (Err fault)
-  not_replayed (log_fault.Memory m) is = tt
-  not_replayed log_fault.BothLost is = tt
-  not_replayed log_fault.Unserved is = unserved_showed (is read.commands read.keeps)
+  pub not_replayed : (was : Kept) (fault : LogFault) → IsReplayFault fault log → IsReplayedBy old new nvrams flushed was (Err fault)
+  not_replayed was (log_fault.Memory m) is = tt
+  not_replayed was log_fault.BothLost is = tt
+  not_replayed was log_fault.Unserved is = unserved_showed (is read.commands read.keeps)
 
-  module _ (count : ℕ) (b : Array) (within : count ≤ log.count) (replayed : (commands : List Command) → Keeps log commands → IsReplayed [] commands count b) where
+  module _ (count : ℕ) (was now : Kept) (within : count ≤ log.count) (replayed : (commands : List Command) → Keeps log commands → IsReplayed was commands count now) where
     le : count ≤ length read.commands
     le = omega (arith, read.keeps.count, within)
 
@@ -94,24 +100,21 @@ module _ (old mid new : Shelved) (nvrams : List Bool) (flushed : ℕ) (honest : 
     ends : length read.commands < 64 → (n : ℕ) (c : Command) → n < 2 → ¬ (Shows (shown_by mid log.members) n log.flushed (length read.commands) c)
     ends few n c lt s = read.ends honest (omega (arith, few, read.keeps.count)) n c lt (subst (λ (k : ℕ). Shows (shown_by mid log.members) n log.flushed k c) read.keeps.count s)
 
-    stands : LogStands (shown_by old log.members) flushed [] (take count read.commands)
-    stands = subst (λ (f : ℕ). LogStands (shown_by old log.members) f [] (take count read.commands)) follows
-        (log_moves (shown_by mid log.members) (shown_by old log.members) shows_same log.flushed 0 [] (take count read.commands)
-        (replayed_stands (shown_by mid log.members) log.flushed read.commands count b (replayed read.commands read.keeps) size (read.shown honest) ends le))
+    stands : (contents : Contents) (a : Array) → ReadsAs contents was.memory a → LogStands (shown_by old log.members) flushed a (take count read.commands)
+    stands contents a reads = subst (λ (f : ℕ). LogStands (shown_by old log.members) f a (take count read.commands)) follows
+        (log_moves (shown_by mid log.members) (shown_by old log.members) shows_same log.flushed 0 a (take count read.commands)
+        (replayed_stands (shown_by mid log.members) log.flushed a read.commands count ((replayed read.commands read.keeps).reads contents a reads).0 size (read.shown honest) ends le))
 
     -- and then it was settled
     pub replayed_from : (o : OpenedLog) → Continues mid new → IsFewer log.members o.log.members → DroppedCounted mid new log.members o.log.members
-        → Keeps o.log (take count read.commands) → o.log.count ≡ count → o.plain ≡ b → IsReplayedFrom old new nvrams flushed o
-    replayed_from o next left then_dropped keeps counts plain = record {
+        → Keeps o.log (take count read.commands) → IsReplayedFrom old new nvrams flushed was o
+    replayed_from o next left then_dropped keeps = record {
       read = log.members;
       named = fewer;
       left = left;
       log = take count read.commands;
-      log_stands = stands;
-      in_force = (replayed read.commands read.keeps).in_force;
       keeps = keeps;
-      plain = plain ∙ (replayed read.commands read.keeps).array;
-      count = counts ∙ sym size;
+      log_stands = stands;
       unread = λ n lt m. elim (dropped n lt m) [
         | inl is ↦ inl is
         | inr rose ↦ inr (rises_between (old.disk (nvram n)).faults (old.disk (nvram n)).faults (mid.disk (nvram n)).faults (new.disk (nvram n)).faults (omega arith) rose (next.faults (nvram n)))
@@ -125,9 +128,28 @@ module _ (old mid new : Shelved) (nvrams : List Bool) (flushed : ℕ) (honest : 
       ];
     }
 
-pub not_read : (old new : Shelved) (nvrams : List Bool) (flushed : ℕ) (fault : ReadFault) → IsReplayedBy old new nvrams flushed (Err (log_fault_of fault))
-not_read old new nvrams flushed read_fault.NoMemory = tt
-not_read old new nvrams flushed read_fault.BothLost = tt
+pub not_read : (old new : Shelved) (nvrams : List Bool) (flushed : ℕ) (was : Kept) (fault : ReadFault) → IsReplayedBy old new nvrams flushed was (Err (log_fault_of fault))
+not_read old new nvrams flushed was read_fault.NoMemory = tt
+not_read old new nvrams flushed was read_fault.BothLost = tt
+
+-- ---- what memory has done
+
+pub has_replayed : (was now : Kept) (log : NvLog) (count : ℕ) (commands : List Command) (o : OpenedLog) → IsReplayed was commands count now → o.memory ≡ now → AreLayered now.memory.tables
+    → Keeps o.log (take count commands) → o.log.count ≡ count → HasReplayed was o
+has_replayed was now log count commands o replayed same layered keeps counts = record {
+  log = take count commands;
+  keeps = keeps;
+  in_force = replayed.in_force;
+  reads = λ contents a reads.
+      let both = replayed.reads contents a reads in
+      (both.0.accepted, subst (λ (k : Kept). ReadsAs contents k.memory (after_all a (take count commands))) (sym same) both.1);
+  patches = subst (λ (k : Kept). HasSamePatches was.memory.tables k.memory.tables) (sym same) replayed.patches;
+  segments = λ id. ap (λ (k : Kept). segment (facts k.memory.tables) id) same ∙ replayed.segments id;
+  layered = subst (λ (k : Kept). AreLayered k.memory.tables) (sym same) layered;
+  next = ap (λ (k : Kept). k.memory.next) same ∙ replayed.next;
+  room = λ room. subst (λ (n : ℕ). HasRoomFor o.memory n) (sym counts)
+      (subst (λ (k : Kept). HasRoomFor k count) (sym same) (let e : 0 + count ≡ count = omega arith in subst (λ (n : ℕ). HasRoomFor now n) e (replayed.room 0 room)));
+}
 
 -- ---- what is dirty
 

@@ -1,6 +1,7 @@
 -- The log that was read from devices that stand for arrays: it leads to one of them, and settling it changes nothing that they stand for.
 use Rattle.std.proofs.Common.{◌≡◌, ◌⊎◌, inl, inr, ⊎_elim, ℕ, ◌-◌, ◌^◌, ◌<◌, ◌≤◌, ◌||◌, List, [], length, take, refl, sym, ◌∙◌, ap, subst, arith, Bool, true, false}
 use Rattle.std.specs.Prelude.{Option, Some, None, IsSome, Contains, if◌then◌else◌, slice_get, slice_index, slice_index_or, nat_lt, nat_le}
+use Rattle.std.specs.List.{AllByRecursion}
 use Rattle.std.proofs.Math.Seq.{take-length}
 use Rattle.std.proofs.lemmas.Bool.{cases_lt, cases_Bool, or_cases, ltb-true, leb-true}
 use Rattle.std.proofs.lemmas.List.{get_or_past, length-take}
@@ -8,6 +9,8 @@ use Rattle.std.proofs.lemmas.Option.{slice_get_cases}
 use Rattle.pur_base.specs.Commands.{Command, after_all}
 use Rattle.pur_base.specs.Devices.{Geometry, Image, View, Condition, Conditions, Sound, Missing, LeftOut, MayShow, MayShowAs, IsBearable, IsWithin, MayBecome, is_sound, missing_drives, missing_nvrams, drive, nvram}
 use Rattle.pur_base.specs.Plain.{Array}
+use Rattle.pur_base.specs.Grammar.{is_in_force}
+use Rattle.pur_base.specs.declared.facts.AnyFact.{AnyFact}
 use Rattle.pur_base.specs.declared.device.Device.{Device}
 use Rattle.pur_base.specs.declared.device.Device.TheVariants.{Drive, Nv}
 use Rattle.boot_codec.specs.declared.record.BootRecord.{BootRecord}
@@ -21,7 +24,9 @@ use Rattle.array_spec.proofs.LogSettled.{settling_keeps}
 use Rattle.array_spec.proofs.OneLog.{one_log}
 use Rattle.array_spec.proofs.Settling.{twice_other}
 use Rattle.array_spec.proofs.Standings.{more_may_go_missing, within_twice}
-use Rattle.array_spec.proofs.UnflushedRead.{kept_some, unflushed_holds_nothing}
+use Rattle.array_spec.proofs.UnflushedRead.{kept_some}
+use Rattle.stored_spec.proofs.Reading.{read_holds}
+use Rattle.stored_spec.proofs.Unique.{one_base}
 use Rattle.world.specs.Losing.{geometry_of, has_risen, missing_if}
 use Rattle.world.specs.Shelf.{Shelved, Stop, Disk, IsShelf, MayStop, MayLeave}
 use Rattle.world.specs.Writes.{MayLeaveBut, LeavesBut, WritesOnly}
@@ -37,7 +42,8 @@ use Rattle.nvram_log.specs.Read.{OnNothing, DroppedCounted}
 use Rattle.nvram_log.specs.Settling.{SettlesBy, SettleBy}
 use Rattle.session_spec.specs.Entering.{IsStanding, failed_since}
 use Rattle.takeover.specs.Found.{IsFoundOn}
-use Rattle.takeover.specs.Replay.{IsReplayed}
+use Rattle.takeover.specs.Replay.{IsRun}
+use Rattle.takeover.specs.Tables.{HoldTables}
 use Rattle.takeover.proofs.Chains.{replayed_stands, of_front, agrees, shows_move, log_moves}
 use Rattle.takeover.proofs.Failing.{sound_since, left_out_since}
 use Rattle.takeover.proofs.Generations.{this_or_later}
@@ -142,7 +148,8 @@ module _ (shelf : Geometry) (old new : Image) (missing later : Conditions) (slot
 module _ (old mid : Shelved) (x : Loaded) (missing : Conditions) (arrays : List Array) (is : IsShelf old) (wrote : WritesOnly OnNothing old mid)
     (same_drives : (i : ℕ) → mid.disk (drive i) ≡ old.disk (drive i)) (found : IsFoundOn old x missing arrays)
     (members : List Bool) (fewer : IsFewer x.record.members.nvrams members) (dropped : DroppedCounted old mid x.record.members.nvrams members)
-    (clean : (n : ℕ) → n < 2 → IsMember members n → (mid.disk (nvram n)).dirty ≡ []) (bears : IsBearable (geometry_of old) (failed_since old mid missing)) where
+    (clean : (n : ℕ) → n < 2 → IsMember members n → (mid.disk (nvram n)).dirty ≡ []) (bears : IsBearable (geometry_of old) (failed_since old mid missing))
+    (ps : List (List AnyFact)) (base : Array) (hold : HoldTables old x ps base) where
   abbrev shelf : Geometry
   shelf = geometry_of old
 
@@ -232,14 +239,19 @@ module _ (old mid : Shelved) (x : Loaded) (missing : Conditions) (arrays : List 
     is_view : IsViewOf shelf image now now view
     is_view = record { within = as_it_is now; bearable = bears; shown = shown_now }
 
-    abbrev base : Array
-    base = (stands.reads slot boot given).base
+    abbrev its_base : Array
+    its_base = (stands.reads slot boot given).base
 
-    reading : IsReadBy shelf now (of_members slot boot view) slot boot base arrays
+    reading : IsReadBy shelf now (of_members slot boot view) slot boot its_base arrays
     reading = (stands.reads slot boot given).each now view is_view
 
-    pub base_is : base ≡ []
-    base_is = unflushed_holds_nothing shelf (of_members slot boot view) boot base found.unflushed reading.holds
+    -- that of the tables
+    pub base_is : its_base ≡ base
+    base_is = one_base shelf (of_members slot boot view) boot its_base base reading.holds
+        (read_holds shelf image missing now slot boot ps base (λ i out. found.left_out start may (drive i) out slot boot given_then) (hold start may) view (wider is_view) reading.all_hold)
+      where
+        wider : IsViewOf shelf image now now view → IsViewOf shelf image missing now view
+        wider v = record { within = within_now; bearable = v.bearable; shown = v.shown }
 
     -- each device that isn't missing is a member
     pub answers : (n : ℕ) → n < 2 → now (nvram n) ≡ Sound → IsMember members n
@@ -272,7 +284,7 @@ module _ (old mid : Shelved) (x : Loaded) (missing : Conditions) (arrays : List 
         (λ m. sym (as_read (mid.disk (nvram j)) (image (nvram j)) (clean j (named_below j (fewer j m)) m) (leaves (nvram j))))
 
     -- the commands were read and applied
-    module _ (commands : List Command) (count : ℕ) (b : Array) (le : count ≤ length commands) (replayed : IsReplayed [] commands count b)
+    module _ (commands : List Command) (count : ℕ) (le : count ≤ length commands) (run : IsRun base commands count)
         (placed : (i : ℕ) (c : Command) → slice_get commands i ≡ Some c → IsInSlot (shown_of mid members) x.record.flushed i c)
         (ends : length commands < 64 → (n : ℕ) (c : Command) → n < 2 → ¬ (Shows (shown_of mid members) n x.record.flushed (length commands) c)) where
       abbrev log : List Command
@@ -281,17 +293,17 @@ module _ (old mid : Shelved) (x : Loaded) (missing : Conditions) (arrays : List 
       size : length log ≡ count
       size = omega (arith, length-take count commands, le)
 
-      pub log_stands : LogStands (answering members image) boot.flushed base log
+      pub log_stands : LogStands (answering members image) boot.flushed its_base log
       log_stands = subst (λ (a : Array). LogStands (answering members image) boot.flushed a log) (sym base_is)
-          (log_moves (shown_of mid members) (answering members image) as_shown boot.flushed 0 [] log (replayed_stands (shown_of mid members) boot.flushed commands count b replayed size placed ends le))
+          (log_moves (shown_of mid members) (answering members image) as_shown boot.flushed 0 base log (replayed_stands (shown_of mid members) boot.flushed base commands count run size placed ends le))
 
-      pub is_one : Contains arrays (after_all [] log)
+      pub is_one : Contains arrays (after_all base log)
       is_one =
-          let mine : LogStands (of_members slot boot view) boot.flushed base log = log_moves (answering members image) (of_members slot boot view) alike boot.flushed 0 base log log_stands in
-          let same : reading.leads.log ≡ log = one_log (of_members slot boot view) boot.flushed 0 base reading.leads.log log reading.leads.log_stands mine in
+          let mine : LogStands (of_members slot boot view) boot.flushed its_base log = log_moves (answering members image) (of_members slot boot view) alike boot.flushed 0 its_base log log_stands in
+          let same : reading.leads.log ≡ log = one_log (of_members slot boot view) boot.flushed 0 its_base reading.leads.log log reading.leads.log_stands mine in
           let whole : take (length reading.leads.log) reading.leads.log ≡ log = take-length reading.leads.log ∙ same in
           subst (λ (a : Array). Contains arrays (after_all a log)) base_is
-          (subst (λ (l : List Command). Contains arrays (after_all base l)) whole (reading.leads.fronts (length reading.leads.log) reading.leads.enough (omega arith)))
+          (subst (λ (l : List Command). Contains arrays (after_all its_base l)) whole (reading.leads.fronts (length reading.leads.log) reading.leads.enough (omega arith)))
 
       pub agree_here : (n i : ℕ) (c : Command) → IsMember members n → i < length log → ShowsIn (image (nvram n)) boot.flushed i c → slice_get log i ≡ Some c
       agree_here n i c m short t = elim (slice_get_cases log i).1 [
@@ -308,10 +320,10 @@ module _ (old mid : Shelved) (x : Loaded) (missing : Conditions) (arrays : List 
 
   -- ---- while it is settled
 
-  module _ (commands : List Command) (count : ℕ) (b : Array) (le : count ≤ length commands) (replayed : IsReplayed [] commands count b)
+  module _ (commands : List Command) (count : ℕ) (le : count ≤ length commands) (run : IsRun base commands count)
       (placed : (i : ℕ) (c : Command) → slice_get commands i ≡ Some c → IsInSlot (shown_of mid members) x.record.flushed i c)
       (ends : length commands < 64 → (n : ℕ) (c : Command) → n < 2 → ¬ (Shows (shown_of mid members) n x.record.flushed (length commands) c))
-      (is_mid : IsShelf mid) (honest : mid.honest) (stop : Stop) (left : LeavesBut (OnMembers members) mid stop) (by : SettleBy mid members x.record.flushed (take count commands) stop)
+      (in_force : AllByRecursion (λ c. is_in_force c.request ≡ true) (take count commands)) (is_mid : IsShelf mid) (honest : mid.honest) (stop : Stop) (left : LeavesBut (OnMembers members) mid stop) (by : SettleBy mid members x.record.flushed (take count commands) stop)
       (later : Conditions) (within : IsWithin (failed_since old mid missing) later) (bears_later : IsBearable (geometry_of old) later) where
     abbrev settled : List Command
     settled = take count commands
@@ -357,7 +369,7 @@ module _ (old mid : Shelved) (x : Loaded) (missing : Conditions) (arrays : List 
     unfolding may_settle given
     stands_settling =
         settling_keeps shelf was_there stop.image now later members slot boot settled arrays within bears_later (stands was_there were_left) (may_settle was_there were_left)
-        (log_stands was_there were_left commands count b le replayed placed ends) settles_log
+        (log_stands was_there were_left commands count le run placed ends) settles_log
 
     within_all : IsWithin missing later
     within_all = within_twice missing (failed_since old mid missing) later within_now within
@@ -366,5 +378,5 @@ module _ (old mid : Shelved) (x : Loaded) (missing : Conditions) (arrays : List 
     standing_settling = record {
       stands = stands_settling;
       left_out = left_out_settled shelf was_there stop.image missing later members boot.flushed settled within_all settles_log (found.left_out (start was_there were_left) (may was_there were_left));
-      read = read_settled shelf was_there stop.image missing later members boot.flushed settled within_all settles_log replayed.in_force (found.read (start was_there were_left) (may was_there were_left));
+      read = read_settled shelf was_there stop.image missing later members boot.flushed settled within_all settles_log in_force (found.read (start was_there were_left) (may was_there were_left));
     }

@@ -76,10 +76,7 @@ pub standing_with_fewer : (shelf : Geometry) (image : Image) (missing now : Cond
 standing_with_fewer shelf image missing now arrays within borne s = record {
   stands = more_may_go_missing shelf image missing now arrays within borne s.stands;
   left_out = λ d out slot boot g. s.left_out d (was_left_out (missing d) (now d) (within d) out) slot boot (given_with_fewer within g);
-  read = record {
-    unflushed = λ slot boot g. s.read.unflushed slot boot (given_with_fewer within g);
-    in_force = λ slot boot g. s.read.in_force slot boot (given_with_fewer within g);
-  };
+  read = λ slot boot g. s.read slot boot (given_with_fewer within g);
 }
 
 -- a command of a list of which all are of forms in force
@@ -99,18 +96,15 @@ module _ (shelf : Geometry) (was new : Image) (missing now : Conditions) (member
 
   -- the commands of the log are of forms in force, and a device shows no others that it didn't
   pub read_settled : AllByRecursion (λ c. is_in_force c.request ≡ true) log → AreRead shelf was missing → AreRead shelf new now
-  read_settled all r = record {
-    unflushed = λ slot boot g. r.unflushed slot boot (given_then slot boot g);
-    in_force = λ slot boot g n i c named s.
-        let before : ShowsIn (was (nvram n)) boot.flushed i c → is_in_force c.request ≡ true = λ t. r.in_force slot boot (given_then slot boot g) n i c named t in
-        elim (cases_Bool (slice_index_or members n false)) [
-          | inr no_member ↦ before (subst (λ (l : List ℕ). ShowsIn l boot.flushed i c) (settles.others n no_member) s)
-          | inl member ↦ elim (cases_eq boot.flushed flushed) [
-            | inr other ↦ before (settles.none_elsewhere n i boot.flushed c member other s)
-            | inl same ↦ elim (settles.no_other n i c member (subst (λ (f : ℕ). ShowsIn (new (nvram n)) f i c) same s)) [
-              | inl at ↦ in_force_at log i c all at
-              | inr t ↦ before (subst (λ (f : ℕ). ShowsIn (was (nvram n)) f i c) (sym same) t)
-            ]
+  read_settled all r = λ slot boot g n i c named s.
+      let before : ShowsIn (was (nvram n)) boot.flushed i c → is_in_force c.request ≡ true = λ t. r slot boot (given_then slot boot g) n i c named t in
+      elim (cases_Bool (slice_index_or members n false)) [
+        | inr no_member ↦ before (subst (λ (l : List ℕ). ShowsIn l boot.flushed i c) (settles.others n no_member) s)
+        | inl member ↦ elim (cases_eq boot.flushed flushed) [
+          | inr other ↦ before (settles.none_elsewhere n i boot.flushed c member other s)
+          | inl same ↦ elim (settles.no_other n i c member (subst (λ (f : ℕ). ShowsIn (new (nvram n)) f i c) same s)) [
+            | inl at ↦ in_force_at log i c all at
+            | inr t ↦ before (subst (λ (f : ℕ). ShowsIn (was (nvram n)) f i c) (sym same) t)
           ]
-        ];
-  }
+        ]
+      ]

@@ -15,13 +15,13 @@ use Rattle.takeover.proofs.Loading.{as_they_read, may_read}
 use Rattle.takeover.proofs.NoFault.{no_fault}
 
 pub not_loaded : (old mid : Shelved) (missing : Conditions) (arrays : List Array) → IsShelf mid → old.honest → Enters old missing arrays → Continues old mid → ((d : Device) → IsSame (old.disk d) (mid.disk d))
-    → IsBearable (geometry_of old) (failed_since old mid missing) → (e : LoadFault) → IsLoadOf old mid (Err e) → IsFoundBy mid (failed_since old mid missing) arrays (Err (fault_of e))
-not_loaded old mid missing arrays is_mid h enters on same bears (faults.Memory m) by = tt
-not_loaded old mid missing arrays is_mid h enters on same bears faults.NoArray by =
+    → IsBearable (geometry_of old) (failed_since old mid missing) → (later : Conditions) (e : LoadFault) → IsLoadOf old mid (Err e) → IsFoundBy mid later arrays (Err (fault_of e))
+not_loaded old mid missing arrays is_mid h enters on same bears later (faults.Memory m) by = tt
+not_loaded old mid missing arrays is_mid h enters on same bears later faults.NoArray by =
     no_fault old mid missing arrays enters on same bears by.bytes by.answered by.all by.read (as_they_read mid) (may_read mid is_mid (on.honest h)) faults.NoArray by.answer ⊥ (λ m e. cc)
-not_loaded old mid missing arrays is_mid h enters on same bears (faults.BadRecord b) by =
+not_loaded old mid missing arrays is_mid h enters on same bears later (faults.BadRecord b) by =
     no_fault old mid missing arrays enters on same bears by.bytes by.answered by.all by.read (as_they_read mid) (may_read mid is_mid (on.honest h)) (faults.BadRecord b) by.answer ⊥ (λ m e. cc)
-not_loaded old mid missing arrays is_mid h enters on same bears faults.Spent by =
+not_loaded old mid missing arrays is_mid h enters on same bears later faults.Spent by =
     no_fault old mid missing arrays enters on same bears by.bytes by.answered by.all by.read (as_they_read mid) (may_read mid is_mid (on.honest h)) faults.Spent by.answer ⊥ (λ m e. cc)
-not_loaded old mid missing arrays is_mid h enters on same bears (faults.TooFew drives) by =
+not_loaded old mid missing arrays is_mid h enters on same bears later (faults.TooFew drives) by =
     no_fault old mid missing arrays enters on same bears by.bytes by.answered by.all by.read (as_they_read mid) (may_read mid is_mid (on.honest h)) (faults.TooFew drives) by.answer ⊥ (λ m e. cc)

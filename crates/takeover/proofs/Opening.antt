@@ -1,13 +1,23 @@
 -- The opening as a whole, from what each of its calls says.
-use Rattle.std.proofs.Common.{◌≡◌, ◌⊎◌, inl, inr, ℕ, ◌+◌, ◌-◌, ◌^◌, ◌<◌, ◌≤◌, Bool, List, Some, None, refl, sym, ◌∙◌, ap, subst, arith, Err}
+use Rattle.std.proofs.Common.{◌≡◌, ◌⊎◌, inl, inr, ℕ, ◌+◌, ◌-◌, ◌^◌, ◌<◌, ◌≤◌, Bool, List, [], Some, None, refl, sym, ◌∙◌, ap, subst, arith, Err}
 use Rattle.pur_base.specs.declared.device.Device.{Device}
 use Rattle.pur_base.specs.declared.reply.Status.TheVariants as status
-use Rattle.pur_base.specs.Devices.{Geometry, Conditions, IsBearable, drive, nvram}
-use Rattle.pur_base.specs.Plain.{Array}
+use Rattle.pur_base.specs.Commands.{Command, after_all}
+use Rattle.pur_base.specs.Devices.{Geometry, Conditions, IsBearable, View, drive, nvram}
+use Rattle.pur_base.specs.Plain as plain
+use Rattle.pur_base.specs.declared.facts.AnyFact.{AnyFact}
 use Rattle.boot_codec.specs.declared.record.BootRecord.{BootRecord}
-use Rattle.boot_codec.specs.Region.{BootSlot, IsRecordOf, shown_by}
+use Rattle.boot_codec.specs.declared.record.NextNumbers.{NextNumbers}
+use Rattle.boot_codec.specs.Region.{BootSlot, IsRecordOf, of_members, shown_by}
 use Rattle.boot_codec.specs.Spelling.{spelling}
+use Rattle.log_codec.specs.Log.{LogStands}
+use Rattle.array_spec.specs.Sound.{AreSound}
 use Rattle.array_spec.specs.Standing.{MayBeGiven}
+use Rattle.array_spec.specs.Stored.{PatchesStand, all_facts}
+use Rattle.memory_spec.specs.Memory.{Contents, FactsRead, ReadsAs}
+use Rattle.memory_spec.specs.Numbers.{next_after_all}
+use Rattle.memory_spec.specs.Tables.{patches}
+use Rattle.array_memory.specs.Kept.{Kept}
 use Rattle.world.specs.Losing.{geometry_of, has_failed}
 use Rattle.world.specs.Shelf.{Shelved, Stop, Disk, MayStop, MayLeave, IsShelf, IsSame, Continues, IsCountedBy, LeavesOnly}
 use Rattle.world.specs.Writes.{WritesOnly}
@@ -25,7 +35,7 @@ use Rattle.register.specs.declared.next.StoreFault.{StoreFault}
 use Rattle.register.specs.declared.next.StoreFault.TheVariants.{Spent, TooFew}
 use Rattle.register.specs.Faults.{IsFaultOf}
 use Rattle.register.specs.Registers.{IsLaterRecord, IsRegisterOf, OnSlots, drives_of, next_slot, own_slot}
-use Rattle.register.specs.Standing.{AllShow, Content, GivesOldOrNext, MayStore, StandsBack, StandsInLog, StillGiven, unflushed}
+use Rattle.register.specs.Standing.{AllShow, Content, GivesOldOrNext, MayStore, StandsBack, StandsInLog, StillGiven}
 use Rattle.register.proofs.FlagLemmas.{in_cut}
 use Rattle.session_spec.specs.Entering.{Enters, Found, OnlyFailedAreSilent, StandsStill, read_now, failed_by, failed_since}
 use Rattle.session_spec.specs.Headline.{IsUnopenedBy}
@@ -35,15 +45,16 @@ use Rattle.takeover.specs.declared.log.LogFault.{LogFault}
 use Rattle.takeover.specs.declared.log.LogFault.TheVariants as log_fault
 use Rattle.takeover.specs.declared.log.OpenedLog.{OpenedLog}
 use Rattle.takeover.specs.Faults.{fault_of_log, fault_of_store}
-use Rattle.takeover.specs.Found.{IsFoundOn}
 use Rattle.takeover.specs.LogOpen.{IsLogFault, IsLogOpen}
-use Rattle.takeover.specs.Opened.{AreClean, IsOpened, IsShut, status_of}
-use Rattle.takeover.specs.Recovered.{IsRecovered}
-use Rattle.takeover.specs.Replayed.{IsReplayedBy, IsReplayedFrom}
-use Rattle.takeover.specs.Seen.{IsGivenFrom, IsSeenBy, IsSeenIn}
+use Rattle.takeover.specs.Opened.{AreClean, IsOpened, IsRecovered, IsShut, status_of}
+use Rattle.takeover.specs.Replayed.{HasReplayed, IsReplayedBy, IsReplayedFrom}
+use Rattle.takeover.specs.Seen.{AreTablesSeenBy, IsGivenFrom, IsSeenIn}
+use Rattle.takeover.specs.Tables.{HasTables, IsMemoryOf}
 use Rattle.takeover.proofs.Causes.{cause}
 use Rattle.takeover.proofs.Loading.{same_geometry, may_read}
-use Rattle.takeover.proofs.RecoveredLemmas.{in_log, left_or_lost, may_store}
+use Rattle.takeover.proofs.ArrayOf.{array_with, facts_lawful, patches_are, tables_sound}
+use Rattle.takeover.proofs.Chains.{kept_one}
+use Rattle.takeover.proofs.RecoveredLemmas.{content, in_log, left_or_lost, may_store}
 use Rattle.takeover.proofs.Stops.{given_at, nothing_owed, unstored_by}
 use Rattle.takeover.proofs.Storing.{stored_at}
 use Rattle.takeover.proofs.Twice.{borne_or_not, twice_since}
@@ -63,8 +74,8 @@ clean_on a b n missing on after clean d sound = clean d (ap (λ (c : Conditions)
 -- ---- it isn't opened, and nothing was stored
 
 module _ (a s : Shelved) (is_a : IsShelf a) (h : a.honest) (e : OpenFault) (by : IsUnopenedBy (status_of e) a s)
-    (each : (missing : Conditions) (arrays : List Array) → Enters a missing arrays → LeavesOnly a s (StandsStill a None missing arrays))
-    (clean : (missing : Conditions) (arrays : List Array) → Enters a missing arrays → AreClean s (failed_since a s missing)) where
+    (each : (missing : Conditions) (arrays : List plain.Array) → Enters a missing arrays → LeavesOnly a s (StandsStill a None missing arrays))
+    (clean : (missing : Conditions) (arrays : List plain.Array) → Enters a missing arrays → AreClean s (failed_since a s missing)) where
   pub shut : IsShut a s e
   shut = record {
     by = by;
@@ -76,12 +87,13 @@ module _ (a s : Shelved) (is_a : IsShelf a) (h : a.honest) (e : OpenFault) (by :
   }
 
 -- no record was found
-pub unfound : (a b : Shelved) (e : OpenFault) → IsSeenBy a b (Err e) → IsUnopenedBy (status_of e) a b
+pub unfound : (a b : Shelved) (e : OpenFault) → AreTablesSeenBy a b (Err e) → IsUnopenedBy (status_of e) a b
 unfound a b (open_fault.Memory m) by = tt
 unfound a b open_fault.NoArray by = by
 unfound a b (open_fault.BadRecord e) by = by
 unfound a b (open_fault.TooFew drives) by = by
-unfound a b open_fault.HasPatches by = by
+unfound a b (open_fault.BadPatch t) by = by
+unfound a b (open_fault.Unsound t) by = by
 unfound a b open_fault.BothLost by = absurd by
 unfound a b open_fault.Unserved by = absurd by
 unfound a b open_fault.Spent by = by
@@ -93,18 +105,18 @@ module _ (a b : Shelved) (x : Loaded) (on : Continues a b) (seen : IsSeenIn a b 
   lawful = subst (λ (g : Geometry). IsRecordOf g x.record) (sym (same_geometry on)) lawful_b.lawful
 
   -- and the log wasn't opened
-  pub unread : (fault : LogFault) → IsLogFault fault b n x.record.members.nvrams x.record.flushed → IsReplayedBy b n x.record.members.nvrams x.record.flushed (Err fault) → IsUnopenedBy (status_of (fault_of_log fault)) a n
-  unread (log_fault.Memory m) is by = tt
-  unread log_fault.BothLost is by = found_by.both_failed a b x on seen lawful n after is
-  unread log_fault.Unserved is by = found_by.showed_unserved a b x on seen lawful same n after by
+  pub unread : (first : Kept) (fault : LogFault) → IsLogFault fault b n x.record.members.nvrams x.record.flushed → IsReplayedBy b n x.record.members.nvrams x.record.flushed first (Err fault) → IsUnopenedBy (status_of (fault_of_log fault)) a n
+  unread first (log_fault.Memory m) is by = tt
+  unread first log_fault.BothLost is by = found_by.both_failed a b x on seen lawful n after is
+  unread first log_fault.Unserved is by = found_by.showed_unserved a b x on seen lawful same n after by
 
   -- or it was, and a record was to be stored
-  module _ (s : Shelved) (o : OpenedLog) (was now : Register) (last : Continues n s) (is_a : IsShelf a) (is_b : IsShelf b) (is_n : IsShelf n) (h : a.honest)
-      (replayed : IsReplayedFrom b n x.record.members.nvrams x.record.flushed o) (is_of : IsRegisterOf (geometry_of n) was) (record_is : was.record ≡ x.record) (drives_are : was.drives ≡ x.drives)
+  module _ (s : Shelved) (first : Kept) (o : OpenedLog) (was now : Register) (last : Continues n s) (is_a : IsShelf a) (is_b : IsShelf b) (is_n : IsShelf n) (h : a.honest)
+      (replayed : IsReplayedFrom b n x.record.members.nvrams x.record.flushed first o) (is_of : IsRegisterOf (geometry_of n) was) (record_is : was.record ≡ x.record) (drives_are : was.drives ≡ x.drives)
       (dropped : DroppedFailed n s (drives_of was) (drives_of now)) (later : IsLaterRecord was.record now.record) (few : now.record.generation ≤ was.record.generation + 3)
       (shown : (i : ℕ) → IsMember x.drives i → shown_by (slot_in x.slot) (n.disk (drive i)).bytes ≡ Some (spelling x.record)) where
     abbrev pub found : Found (geometry_of a) (read_now a).image
-    found = found_by.found a b x on seen lawful same n o after replayed
+    found = found_by.found a b x on seen lawful same n first o after replayed
 
     on_n : Continues a n
     on_n = continues_trans on after
@@ -135,11 +147,11 @@ module _ (a b : Shelved) (x : Loaded) (on : Continues a b) (seen : IsSeenIn a b 
     slots_stay = ap (λ (b : BootRecord). b.slots) later.rest
 
     -- for arrays for which the devices stood
-    module _ (missing : Conditions) (arrays : List Array) (first : LeavesOnly a b (StandsStill a None missing arrays)) (given : LeavesOnly a b (IsGivenFrom a seen.view x missing))
-        (is_found : IsBearable (geometry_of a) (failed_since a b missing) → IsFoundOn b x (failed_since a b missing) arrays)
-        (is_open : IsBearable (geometry_of a) (failed_since a n missing) → IsLogOpen n x (failed_since a n missing) arrays o)
+    module _ (missing : Conditions) (arrays : List plain.Array) (first_still : LeavesOnly a b (StandsStill a None missing arrays)) (given : LeavesOnly a b (IsGivenFrom a seen.view x missing))
+        (ps : List (List AnyFact))
+        (is_open : IsBearable (geometry_of a) (failed_since a n missing) → (base : plain.Array) × HasTables b x first ps base × IsLogOpen n x (failed_since a n missing) arrays ps base o)
         (counts : LeavesOnly b n (IsCountedBy b))
-        (next : IsFoundOn b x (failed_since a b missing) arrays → LeavesOnly b n (StandsStill b None (failed_since a b missing) arrays))
+        (next : IsBearable (geometry_of a) (failed_since a b missing) → LeavesOnly b n (StandsStill b None (failed_since a b missing) arrays))
         (drives_stay : (i : ℕ) → n.disk (drive i) ≡ b.disk (drive i))
         (log_writes : WritesOnly (OnMembers x.record.members.nvrams) b n) (writes : WritesOnly (OnSlots (drives_of was)) n s)
         (stands : now.record.generation < 2 ^ 48 - 8 → (held : Content) → MayStore n was o.log.members (failed_since a n missing) held arrays
@@ -153,55 +165,80 @@ module _ (a b : Shelved) (x : Loaded) (on : Continues a b) (seen : IsSeenIn a b 
       given_begun stop counted silent bears its_slot start may =
           subst (λ (t : BootSlot). MayBeGiven (geometry_of a) start.image (failed_by a stop missing) t x.record) its_slot
           (given_at a b missing x on is_b h_b seen.view given n stop (record { faults = λ d. omega (arith, after.faults d, counted.faults d); write_faults = λ d. omega (arith, after.write_faults d, counted.write_faults d) }) start.image drives_leave
-          (λ d none. silent d (found_by.silent_before a b x on seen lawful same n o after replayed d none)) bears)
+          (λ d none. silent d (found_by.silent_before a b x on seen lawful same n first o after replayed d none)) bears)
         where
           drives_leave : (i : ℕ) → MayLeave (b.disk (drive i)) (start.image (drive i))
           drives_leave i = subst (λ (k : Disk). MayLeave k (start.image (drive i))) (drives_stay i) (may.device (drive i))
 
-      storing : IsLogOpen n x (failed_since a n missing) arrays o → LeavesOnly n s (StandsStill a (Some found) missing arrays)
-      storing opened =
-          let may = may_store n x (failed_since a n missing) arrays o was opened is_of record_is drives_are (read_now n) (may_read n is_n h_n) in
-          let logged = in_log n x (failed_since a n missing) arrays o was opened is_of record_is drives_are in
+      storing : (base : plain.Array) → IsLogOpen n x (failed_since a n missing) arrays ps base o → LeavesOnly n s (StandsStill a (Some found) missing arrays)
+      storing base opened =
+          let may = may_store n x (failed_since a n missing) arrays ps base o was opened is_of record_is drives_are (read_now n) (may_read n is_n h_n) in
+          let logged = in_log n x (failed_since a n missing) arrays ps base o was opened is_of record_is drives_are in
           let room = enough_room opened.found.room in
-          weaker (λ stop all. stored_at a n x missing arrays o was on_n is_n h_n opened record_is drives_are may found refl
-          (λ fails by_then. found_by.drive_left a b x on seen lawful same n o after replayed fails by_then)
-          (λ fails by_then. found_by.nvram_left a b x on seen lawful same n o after replayed fails by_then)
+          weaker (λ stop all. stored_at a n x missing arrays ps base o was on_n is_n h_n opened record_is drives_are may found refl
+          (λ fails by_then. found_by.drive_left a b x on seen lawful same n first o after replayed fails by_then)
+          (λ fails by_then. found_by.nvram_left a b x on seen lawful same n first o after replayed fails by_then)
           (λ stop counted silent bears. given_begun stop counted silent bears opened.found.in_its_slot.in_its_slot)
           stop all.0 all.1.0 all.1.1.0 all.1.1.1)
-          (both_leave writes.any_moment (both_leave (stands room (unflushed opened.commands) may) (both_leave (gives room (unflushed opened.commands) may) (back room (unflushed opened.commands) logged (shown_own opened.found.in_its_slot.in_its_slot)))))
+          (both_leave writes.any_moment (both_leave (stands room (content ps base opened.commands) may) (both_leave (gives room (content ps base opened.commands) may) (back room (content ps base opened.commands) logged (shown_own opened.found.in_its_slot.in_its_slot)))))
 
       pub each_moment : LeavesOnly a s (StandsStill a (Some found) missing arrays)
       each_moment = then_run on_n
-          (unstored_by a b missing arrays x on is_b h_b first n is_found counts next seen.view given found refl (found_by.silent_before a b x on seen lawful same n o after replayed) x.record.members.nvrams log_writes)
+          (unstored_by a b missing arrays on is_b h_b first_still n counts next x seen.view given found refl (found_by.silent_before a b x on seen lawful same n first o after replayed) x.record.members.nvrams log_writes)
           (elim (borne_or_not (geometry_of a) (failed_since a n missing)) [
-            | inl bears ↦ storing (is_open bears)
+            | inl bears ↦ let there = is_open bears in storing there.0 there.2
             | inr many ↦ weaker (λ stop kept. nothing_owed a n missing on_n stop kept.counts many (Some found) arrays) writes.any_moment
           ])
 
-    module _ (each : (missing : Conditions) (arrays : List Array) → Enters a missing arrays → LeavesOnly a s (StandsStill a (Some found) missing arrays)) where
+    module _ (each : (missing : Conditions) (arrays : List plain.Array) → Enters a missing arrays → LeavesOnly a s (StandsStill a (Some found) missing arrays)) where
       -- it was stored
-      pub opened : (was.record.generation < now.record.generation) → (now.record.members.drives ≡ now.drives) × (now.record.members.nvrams ≡ o.log.members)
-          → ((missing : Conditions) (arrays : List Array) → Enters a missing arrays → IsBearable (geometry_of a) (failed_since a s missing)
-          → IsRecovered s (record { plain = o.plain; log = o.log; register = now }) (failed_since a s missing) arrays)
-          → IsOpened a s (record { plain = o.plain; log = o.log; register = now })
-      opened generation members recovered = record {
-        found = found;
-        holds = found_by.holds a b x on seen lawful same n o after replayed lawful_b.room;
-        taken_over = found_by.taken_over a b x on seen lawful same n o after replayed s now last left members.0 members.1;
-        later = omega (arith, generation, ap (λ (b : BootRecord). b.generation) record_is);
-        few = omega (arith, few, ap (λ (b : BootRecord). b.generation) record_is);
-        each = each;
-        recovered = recovered;
-      }
+      module _ (memory : IsMemoryOf (geometry_of b) x.record first) (done : HasReplayed first o)
+          (no_other : (members : View) → ((i : ℕ) → members (drive i) ≡ of_members (slot_in x.slot) x.record seen.view (drive i))
+          → (there : List (List AnyFact)) → PatchesStand members x.record there → there ≡ patches first.memory.tables) where
+        same_log : replayed.log ≡ done.log
+        same_log = kept_one o.log replayed.log done.log replayed.keeps done.keeps
+
+        reads : (contents : Contents) (base : plain.Array) → FactsRead contents [] (all_facts (patches o.memory.memory.tables)) x.record.next.object base
+            → LogStands (found_by.members a b x on seen lawful same n first o after replayed) x.record.flushed base done.log × ReadsAs contents o.memory.memory (after_all base done.log)
+        reads contents base read =
+            let here : ReadsAs contents first.memory base =
+            memory.reads contents base (subst (λ (p : List (List AnyFact)). FactsRead contents [] (all_facts p) x.record.next.object base) (patches_are (geometry_of b) x.record first o memory done) read) in (
+              subst (λ (l : List Command). LogStands (found_by.members a b x on seen lawful same n first o after replayed) x.record.flushed base l) same_log
+                  (found_by.log_stands a b x on seen lawful same n first o after replayed contents base here),
+              (done.reads contents base here).1,
+            )
+
+        pub opened : (was.record.generation < now.record.generation) → (now.record.members.drives ≡ now.drives) × (now.record.members.nvrams ≡ o.log.members)
+            → ((missing : Conditions) (arrays : List plain.Array) → Enters a missing arrays → IsBearable (geometry_of a) (failed_since a s missing)
+            → IsRecovered a s found (array_with o now) done.log (failed_since a s missing) arrays)
+            → IsOpened a s (array_with o now)
+        opened generation members recovered = record {
+          found = found;
+          not_spent = lawful_b.room;
+          no_other = λ there stand. no_other (found_by.members a b x on seen lawful same n first o after replayed) (λ i. refl) there stand ∙ sym (patches_are (geometry_of b) x.record first o memory done);
+          tables_sound = subst (λ (g : Geometry). AreSound g x.record (patches o.memory.memory.tables)) (sym (same_geometry on)) (tables_sound (geometry_of b) x.record first o memory done);
+          lawful = facts_lawful (geometry_of b) x.record first o memory done;
+          log = done.log;
+          in_force = done.in_force;
+          count = sym done.keeps.count;
+          reads = reads;
+          next = done.next ∙ ap (λ (k : NextNumbers). next_after_all k done.log) memory.next;
+          boot_is = subst (λ (r : BootRecord). now.record ≡ record r { generation = now.record.generation; members = now.record.members }) record_is later.rest;
+          taken_over = found_by.taken_over a b x on seen lawful same n first o after replayed s now last left members.0 members.1;
+          later = omega (arith, generation, ap (λ (b : BootRecord). b.generation) record_is);
+          few = omega (arith, few, ap (λ (b : BootRecord). b.generation) record_is);
+          each = each;
+          recovered = recovered;
+        }
 
       -- or too few drives were left
       pub unstored : (fault : StoreFault) → IsFaultOf now fault → IsShut a s (fault_of_store fault)
       unstored (TooFew drives) is =
-          let by = found_by.too_few a b x on seen lawful same n o after replayed s now last left (omega (arith, is.1, slots, slots_stay)) in
+          let by = found_by.too_few a b x on seen lawful same n first o after replayed s now last left (omega (arith, is.1, slots, slots_stay)) in
           record {
             by = by;
             found = Some found;
-            silent = found_by.silent a b x on seen lawful same n o after replayed s now last left;
+            silent = found_by.silent a b x on seen lawful same n first o after replayed s now last left;
             each = each;
             clean = λ missing arrays enters bears. absurd (cc (cause a s missing arrays enters is_a h bears status.Halted by));
             cause = λ missing arrays enters bears. cause a s missing arrays enters is_a h bears status.Halted by;

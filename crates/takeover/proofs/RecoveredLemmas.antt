@@ -1,29 +1,26 @@
 -- From the log that was opened to the record that is stored.
-use Rattle.std.proofs.Common.{◌≡◌, ◌⊎◌, inl, inr, ℕ, ◌<◌, ◌≤◌, Bool, false, List, [], take, refl, sym, ◌∙◌, ap, subst, arith}
-use Rattle.std.specs.Prelude.{Some}
+use Rattle.std.proofs.Common.{◌≡◌, ◌⊎◌, inl, inr, ℕ, ◌<◌, ◌≤◌, Bool, false, List, take, refl, sym, ◌∙◌, ap, subst, arith}
+use Rattle.pur_base.specs.Commands.{Command}
 use Rattle.pur_base.specs.Plain.{Array}
+use Rattle.pur_base.specs.declared.facts.AnyFact.{AnyFact}
 use Rattle.pur_base.specs.Devices.{Conditions, Sound, drive}
 use Rattle.pur_base.specs.declared.device.Device.{Device}
 use Rattle.boot_codec.specs.declared.record.BootRecord.{BootRecord}
-use Rattle.boot_codec.specs.Region.{BootSlot, other_slot, body_in, names, of_members}
+use Rattle.boot_codec.specs.Region.{BootSlot, other_slot, body_in, names}
 use Rattle.boot_codec.specs.Spelling.{spelling}
-use Rattle.array_spec.specs.Standing.{IsViewOf}
 use Rattle.stored_spec.specs.Held.{TablesHold}
-use Rattle.stored_spec.proofs.Next.{nothing_holds}
 use Rattle.world.specs.Losing.{geometry_of, has_risen}
 use Rattle.world.specs.Shelf.{Shelved, Stop, MayStop, Continues}
 use Rattle.boot_region.specs.declared.loading.Loaded.{Loaded}
 use Rattle.boot_region.specs.Members.{IsMember, DroppedFailed, LostWrites}
 use Rattle.boot_region.specs.Slots.{slot_in}
 use Rattle.boot_region.specs.Storing.{IsInForceOn}
-use Rattle.boot_region.proofs.Composing.{as_it_is}
 use Rattle.boot_region.proofs.Phases.{not_risen_before, risen_on_way}
 use Rattle.nvram_log.specs.Held.{HoldsOn}
 use Rattle.register.specs.declared.state.Register.{Register}
 use Rattle.register.specs.Registers.{IsRegisterOf, drives_of, own_slot, next_slot}
-use Rattle.register.specs.Standing.{StandsInLog, MayStore, unflushed}
+use Rattle.register.specs.Standing.{Content, StandsInLog, MayStore}
 use Rattle.register.proofs.Shows.{holds_shows}
-use Rattle.register.proofs.Follows.{shows_itself}
 use Rattle.register.proofs.FlagLemmas.{in_cut, cut_in}
 use Rattle.session_spec.specs.Entering.{failed_since}
 use Rattle.takeover.specs.LogOpen.{IsLogOpen}
@@ -40,7 +37,11 @@ cut_force n flags shelf missing slot boot all is = record {
   given = is.given;
 }
 
-module _ (shelf : Shelved) (x : Loaded) (missing : Conditions) (arrays : List Array) (o : OpenedLog) (r : Register) (opened : IsLogOpen shelf x missing arrays o)
+-- what the devices hold of an array of these tables
+abbrev pub content : List (List AnyFact) → Array → List Command → Content
+content ps base commands = record { patches = ps; base = base; log = commands }
+
+module _ (shelf : Shelved) (x : Loaded) (missing : Conditions) (arrays : List Array) (ps : List (List AnyFact)) (base : Array) (o : OpenedLog) (r : Register) (opened : IsLogOpen shelf x missing arrays ps base o)
     (is_of : IsRegisterOf (geometry_of shelf) r) (record_is : r.record ≡ x.record) (drives_are : r.drives ≡ x.drives) where
   its_slot : slot_in x.slot ≡ own_slot x.record
   its_slot = opened.found.in_its_slot.in_its_slot
@@ -51,21 +52,11 @@ module _ (shelf : Shelved) (x : Loaded) (missing : Conditions) (arrays : List Ar
   bodies : (i : ℕ) → IsMember (take x.record.slots x.drives) i → body_in (own_slot x.record) (shelf.disk (drive i)).bytes ≡ spelling x.record
   bodies i m = subst (λ (t : BootSlot). body_in t (shelf.disk (drive i)).bytes ≡ spelling x.record) its_slot (opened.found.bodies i (in_cut x.drives x.record.slots i m))
 
-  -- its tables hold nothing, as each view of the devices tells
-  nothing_held : (start : Stop) → MayStop shelf start → TablesHold (geometry_of shelf) start.image (own_slot x.record) x.record [] []
-  nothing_held start may =
-      let f = opened.found.in_force in
-      let s = opened.found.stands start may in
-      let view : IsViewOf (geometry_of shelf) start.image missing missing (λ d. Some (start.image d)) =
-      record { within = as_it_is missing; bearable = s.bearable; shown = λ d. shows_itself (missing d) (start.image d) (may.device d).is_byte } in
-      let read = (s.reads (other_slot (other_slot (slot_in x.slot))) x.record (f.given start may)).each missing (λ d. Some (start.image d)) view in
-      nothing_holds (geometry_of shelf) (of_members (other_slot (other_slot (slot_in x.slot))) x.record (λ d. Some (start.image d))) start.image (own_slot x.record) x.record
-      (s.reads (other_slot (other_slot (slot_in x.slot))) x.record (f.given start may)).base opened.found.unflushed read.holds
-
-  pub in_log : StandsInLog shelf r o.log.members (unflushed opened.commands)
+  pub in_log : StandsInLog shelf r o.log.members (content ps base opened.commands)
   in_log = record {
     is_of = is_of;
-    tables = λ start may. subst (λ (b : BootRecord). TablesHold (geometry_of shelf) start.image (own_slot b) b [] []) (sym record_is) (nothing_held start may);
+    tables = λ start may. subst (λ (b : BootRecord). TablesHold (geometry_of shelf) start.image (own_slot b) b ps base) (sym record_is)
+        (subst (λ (t : BootSlot). TablesHold (geometry_of shelf) start.image t x.record ps base) its_slot (opened.hold start may));
     bodies = λ i m. subst (λ (b : BootRecord). body_in (own_slot b) (shelf.disk (drive i)).bytes ≡ spelling b) (sym record_is)
         (bodies i (subst (λ (l : List Bool). IsMember (take x.record.slots l) i) drives_are (subst (λ (b : BootRecord). IsMember (take b.slots r.drives) i) record_is m)));
     holds = holds_shows (subst (λ (b : BootRecord). HoldsOn shelf o.log.members b.flushed opened.commands) (sym record_is) opened.holds);
@@ -76,7 +67,7 @@ module _ (shelf : Shelved) (x : Loaded) (missing : Conditions) (arrays : List Ar
   force = subst (λ (t : BootSlot). IsInForceOn shelf (take x.record.slots x.drives) missing (other_slot t) x.record) its_slot
       (cut_force x.record.slots x.drives shelf missing (other_slot (slot_in x.slot)) x.record (omega (arith, slots)) opened.found.in_force)
 
-  pub may_store : (here : Stop) → MayStop shelf here → MayStore shelf r o.log.members missing (unflushed opened.commands) arrays
+  pub may_store : (here : Stop) → MayStop shelf here → MayStore shelf r o.log.members missing (content ps base opened.commands) arrays
   may_store here may_here = record {
     logged = in_log;
     in_force = subst (λ (b : BootRecord). IsInForceOn shelf (take b.slots r.drives) missing (next_slot b) b) (sym record_is)

@@ -1,17 +1,20 @@
 -- The record that was loaded and settled, as the drives showed it.
-use Rattle.std.proofs.Common.{◌≡◌, ◌⊎◌, inl, inr, ℕ, ◌+◌, ◌<◌, Bool, true, false, List, [], Some, slice_index_or, sym, ◌∙◌, ap, subst, arith, Ok, Err}
-use Rattle.std.proofs.lemmas.Bool.{cases_Bool}
+use Rattle.std.proofs.Common.{◌≡◌, ◌⊎◌, inl, inr, ℕ, ◌+◌, ◌/◌, ◌<◌, Bool, true, false, List, [], length, Some, slice_index, slice_index_or, sym, ◌∙◌, ap, subst, arith, Ok, Err}
+use Rattle.std.proofs.lemmas.Bool.{cases_Bool, cases_lt}
+use Rattle.std.proofs.lemmas.List.{ext_get_or}
+use Rattle.pur_base.specs.declared.limits.TheConstants.{BOOT_UNITS, SECTOR_BYTES, UNIT_BYTES}
 use Rattle.pur_base.specs.declared.device.Device.{Device}
 use Rattle.pur_base.specs.Gates.{is_open}
-use Rattle.pur_base.specs.Devices.{Conditions, drive}
+use Rattle.pur_base.specs.Devices.{Conditions, drive, nvram}
 use Rattle.pur_base.specs.Plain.{Array}
 use Rattle.boot_codec.specs.declared.record.BootRecord.{BootRecord}
 use Rattle.boot_codec.specs.Record.{set_count}
-use Rattle.boot_codec.specs.Region.{gate_place, body_in, shown_by}
+use Rattle.boot_codec.specs.Region.{BootSlot, gate_place, body_in, shown_by}
 use Rattle.boot_codec.specs.Spelling.{spelling}
 use Rattle.world.specs.Counts.{Rises}
 use Rattle.world.specs.Losing.{has_risen}
-use Rattle.world.specs.Shelf.{Shelved, IsSame, IsCountedBy, Continues, LeavesOnly}
+use Rattle.array_spec.specs.Laws.{DiffersOnlyIn}
+use Rattle.world.specs.Shelf.{Shelved, IsIn, IsSame, IsCountedBy, Continues, LeavesOnly}
 use Rattle.world.specs.Writes.{WritesOnly}
 use Rattle.world.proofs.Moments.{then_run, weaker}
 use Rattle.boot_region.specs.declared.loading.Loaded.{Loaded}
@@ -22,15 +25,15 @@ use Rattle.boot_region.specs.Loading.{IsLoadBy, IsLoadOf}
 use Rattle.boot_region.specs.Members.{IsMember, OnClosed}
 use Rattle.boot_region.specs.Slots.{slot_in}
 use Rattle.boot_region.proofs.Phases.{risen_on_way}
-use Rattle.boot_region.proofs.ShownLemmas.{bodies_same, open_shows}
-use Rattle.session_spec.specs.Entering.{Enters, failed_since}
-use Rattle.session_spec.specs.Headline.{HasNoArray, HasTooFew}
+use Rattle.boot_region.proofs.ShownLemmas.{bodies_same, gate_low, open_shows}
+use Rattle.session_spec.specs.Entering.{Enters, failed_since, read_now}
+use Rattle.session_spec.specs.Headline.{HasTooFew}
 use Rattle.takeover.specs.Faults.{fault_of}
 use Rattle.takeover.specs.Opened.{AreClean}
 use Rattle.takeover.specs.Seen.{IsSeenIn, IsSeenBy}
 use Rattle.takeover.proofs.Failing.{sound_since}
 use Rattle.takeover.proofs.GivenFrom.{given_from}
-use Rattle.takeover.proofs.Showing.{below, stands_on, showing, shown, nvrams, silent, gives, member_showed, other_hid, too_few, patched, seen_fault, rose_then}
+use Rattle.takeover.proofs.Showing.{below, stands_on, showing, shown, nvrams, silent, gives, member_showed, other_hid, too_few, seen_fault, rose_then}
 
 -- a loading that failed
 pub seen_not_loaded : (old mid : Shelved) → Continues mid mid → (e : LoadFault) → IsLoadOf old mid (Err e) → IsSeenBy old mid (Err (fault_of e))
@@ -39,10 +42,6 @@ seen_not_loaded old mid on faults.NoArray by = seen_fault old mid by.bytes by.an
 seen_not_loaded old mid on (faults.BadRecord b) by = seen_fault old mid by.bytes by.answered by.all by.read on (faults.BadRecord b) by.answer
 seen_not_loaded old mid on faults.Spent by = seen_fault old mid by.bytes by.answered by.all by.read on faults.Spent by.answer
 seen_not_loaded old mid on (faults.TooFew drives) by = seen_fault old mid by.bytes by.answered by.all by.read on (faults.TooFew drives) by.answer
-
--- a record that names patches
-pub seen_patched : (old mid : Shelved) (x : Loaded) → Continues mid mid → IsLoadBy old mid (Ok x) → (x.record.patches ≡ [] → ⊥) → HasNoArray old mid
-seen_patched old mid x on by some = patched old mid by.bytes by.answered by.all by.read mid on (slot_in x.slot) x.record x.drives by.answer.held some
 
 -- counts at a stop in either call
 pub counted_through : (old mid new : Shelved) {V W : Device → ℕ → Type 0} → Continues old mid → WritesOnly V old mid → WritesOnly W mid new → LeavesOnly old new (IsCountedBy old)
@@ -95,8 +94,26 @@ module _ (old mid new : Shelved) (x : Loaded) (on : Continues old mid) (after : 
       subst (λ (b : BootRecord). shown_by (slot_in s) (new.disk (drive i)).bytes ≡ Some (spelling b)) (sym record_is)
       (subst (λ (t : Slot). shown_by (slot_in t) (new.disk (drive i)).bytes ≡ Some (spelling x.record)) (sym slot_is) (shown_on opened fewer i m))
 
-  seen_with : ((i : ℕ) → IsMember left i → IsMember x.drives i) → x.record.patches ≡ [] → IsSeenIn old new (record { «record» = x.record; slot = x.slot; drives = left })
-  seen_with fewer unflushed =
+  -- a settling writes gates alone
+  low_gate : (at : ℕ) → IsIn (record { start = gate_place (slot_in x.slot); size = SECTOR_BYTES }) at → at / UNIT_BYTES < BOOT_UNITS
+  low_gate at is = omega (arith, is.1, gate_low (slot_in x.slot))
+
+  only_boot : DiffersOnlyIn (λ drive unit. unit < BOOT_UNITS) (read_now old).image (read_now new).image
+  only_boot = record {
+    nvram = λ n. ext_get_or 0 (new.disk (nvram n)).bytes (old.disk (nvram n)).bytes ((writes.device (nvram n)).size ∙ ap length (same (nvram n)).bytes)
+        (λ i lt. (writes.device (nvram n)).bytes i (λ w. w) ∙ ap (λ (l : List ℕ). slice_index l i) (same (nvram n)).bytes);
+    size = λ i. (writes.device (drive i)).size ∙ ap length (same (drive i)).bytes;
+    drive = λ i at. elim (cases_lt (at / UNIT_BYTES) BOOT_UNITS) [
+      | inl low ↦ inr low
+      | inr high ↦ inl ((writes.device (drive i)).bytes at (λ w. absurd (omega (arith, high, low_gate at w.1))) ∙ ap (λ (l : List ℕ). slice_index l at) (same (drive i)).bytes)
+    ];
+  }
+
+  bodies : (slot : BootSlot) (i : ℕ) → body_in slot (new.disk (drive i)).bytes ≡ body_in slot (old.disk (drive i)).bytes
+  bodies slot i = bodies_same (slot_in x.slot) (mid.disk (drive i)).bytes (new.disk (drive i)).bytes (writes.device (drive i)).size (λ k out. (writes.device (drive i)).bytes k (λ w. out w.1)) slot ∙ ap (body_in slot) (same (drive i)).bytes
+
+  seen_with : ((i : ℕ) → IsMember left i → IsMember x.drives i) → IsSeenIn old new (record { «record» = x.record; slot = x.slot; drives = left })
+  seen_with fewer =
       let held = by.answer.held in
       let effective = gives old mid by.bytes by.answered by.all by.read (slot_in x.slot) (spelling x.record) held.effective in
       let shows = shown old mid by.bytes by.answered by.all by.read in
@@ -111,12 +128,13 @@ module _ (old mid new : Shelved) (x : Loaded) (on : Continues old mid) (after : 
           | inl m ↦ elim (left_or_failed i lt m) [ inl is ↦ inl is | inr rose ↦ inr (inr rose) ]
           | inr none ↦ inr (inl (other_hid old mid by.bytes by.answered by.all by.read (slot_in x.slot) x.record x.drives held i lt none))
         ];
-        unflushed = unflushed;
+        only_boot = only_boot;
+        bodies = bodies;
         given = λ missing arrays enters. given_from old missing arrays enters (showing old by.answered) shows (record { «record» = x.record; slot = x.slot; drives = left }) held.lawful effective mid new x.drives on same reading writes;
       }
 
   -- as it was settled
-  pub seen_in : (r : BootRecord) (s : Slot) → r ≡ x.record → s ≡ x.slot → ((i : ℕ) → IsMember left i → IsMember x.drives i) → x.record.patches ≡ [] → IsSeenIn old new (record { «record» = r; slot = s; drives = left })
-  seen_in r s record_is slot_is fewer unflushed =
+  pub seen_in : (r : BootRecord) (s : Slot) → r ≡ x.record → s ≡ x.slot → ((i : ℕ) → IsMember left i → IsMember x.drives i) → IsSeenIn old new (record { «record» = r; slot = s; drives = left })
+  seen_in r s record_is slot_is fewer =
       subst (λ (b : BootRecord). IsSeenIn old new (record { «record» = b; slot = s; drives = left })) (sym record_is)
-      (subst (λ (t : Slot). IsSeenIn old new (record { «record» = x.record; slot = t; drives = left })) (sym slot_is) (seen_with fewer unflushed))
+      (subst (λ (t : Slot). IsSeenIn old new (record { «record» = x.record; slot = t; drives = left })) (sym slot_is) (seen_with fewer))

@@ -1,5 +1,5 @@
 -- What the drives showed, as a view of the devices, and the record that it gives.
-use Rattle.std.proofs.Common.{◌≡◌, ◌≢◌, ◌⊎◌, inl, inr, ℕ, ◌+◌, ◌*◌, ◌-◌, ◌^◌, ◌<◌, ◌≤◌, ◌&&◌, Bool, true, false, if◌then◌else◌, List, [], length, Option, Some, None, option_and_then, slice_index_or, refl, sym, ◌∙◌, ap, subst, arith, Result, Ok, Err}
+use Rattle.std.proofs.Common.{◌≡◌, ◌⊎◌, inl, inr, ℕ, ◌+◌, ◌*◌, ◌-◌, ◌^◌, ◌<◌, ◌≤◌, ◌&&◌, Bool, true, false, if◌then◌else◌, List, length, Option, Some, None, option_and_then, slice_index_or, refl, sym, ◌∙◌, ap, subst, arith, Result, Ok, Err}
 use Rattle.std.specs.Prelude.{nat_lt, is_some, bytes_eq}
 use Rattle.std.proofs.lemmas.Bool.{cases_Bool, cases_lt, ltb-true, lt-ltb}
 use Rattle.std.proofs.lemmas.List.{get_or_past}
@@ -229,9 +229,6 @@ module _ (old mid : Shelved) (bytes : List ℕ) (answered : List Bool) (all : le
 
   pub no_array : (new : Shelved) → Continues mid new → ((e : Effective (geometry_of old) view) → IsUnread view e) → HasNoArray old new
   no_array new on unread = record { view = view; shown = shown; silent = silent new on; unread = unread }
-
-  pub patched : (new : Shelved) → Continues mid new → (slot : BootSlot) (boot : BootRecord) (drives : List Bool) → IsHeld (geometry_of old) bytes answered slot boot drives → boot.patches ≢ [] → HasNoArray old new
-  patched new on slot boot drives held some = no_array new on (λ e. inr (inl (λ none. some (sym (ap (λ (b : BootRecord). b.patches) (is_the_record e slot boot drives held)) ∙ none))))
 
   bad_body : (e : Effective (geometry_of old) view) (fault : BadRecord) → IsBadBody (geometry_of old) bytes answered fault → ⊥
   bad_body e fault bad =

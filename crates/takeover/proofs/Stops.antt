@@ -17,7 +17,6 @@ use Rattle.boot_region.proofs.Composing.{as_it_is}
 use Rattle.nvram_log.specs.Members.{OnMembers}
 use Rattle.nvram_log.proofs.SettledEach.{both_leave}
 use Rattle.session_spec.specs.Entering.{Found, IsStanding, StandsStill, OnlyFailedAreSilent, read_now, failed_by, failed_since}
-use Rattle.takeover.specs.Found.{IsFoundOn}
 use Rattle.takeover.specs.Seen.{IsGivenFrom}
 use Rattle.takeover.proofs.Failing.{by_stop, fewer_borne}
 use Rattle.takeover.proofs.Loading.{may_read, same_geometry}
@@ -88,7 +87,7 @@ given_at a b missing x on is_b h_b shown given n stop counted image leaves fails
     there = (given.each start (is_b.counts_now a.moment start on.later may)).1
 
 -- the record is found, and then the log is opened
-module _ (a b : Shelved) (missing : Conditions) (arrays : List Array) (x : Loaded) (on : Continues a b) (is_b : IsShelf b) (h_b : b.honest)
+module _ (a b : Shelved) (missing : Conditions) (arrays : List Array) (on : Continues a b) (is_b : IsShelf b) (h_b : b.honest)
     (first : LeavesOnly a b (StandsStill a None missing arrays)) where
   now : Conditions
   now = failed_since a b missing
@@ -103,12 +102,12 @@ module _ (a b : Shelved) (missing : Conditions) (arrays : List Array) (x : Loade
     stored = λ slot boot g. at_b.stored slot boot (subst (λ (k : Geometry). MayBeGiven k (read_now b).image (failed_since a b missing) slot boot) (sym (same_geometry on)) (s.stored slot boot (given_from_b a b missing on stop counted slot boot g)));
   }
 
-  module _ (n : Shelved) (found : IsBearable (geometry_of a) (failed_since a b missing) → IsFoundOn b x (failed_since a b missing) arrays) (counts : LeavesOnly b n (IsCountedBy b))
-      (next : IsFoundOn b x (failed_since a b missing) arrays → LeavesOnly b n (StandsStill b None (failed_since a b missing) arrays)) where
+  module _ (n : Shelved) (counts : LeavesOnly b n (IsCountedBy b))
+      (next : IsBearable (geometry_of a) (failed_since a b missing) → LeavesOnly b n (StandsStill b None (failed_since a b missing) arrays)) where
     -- since the record was found
     unstored_since : LeavesOnly b n (StandsStill a None missing arrays)
     unstored_since = elim (borne_or_not (geometry_of a) (failed_since a b missing)) [
-      | inl bears ↦ weaker (λ stop both. still_unstored stop both.0 both.1) (both_leave counts (next (found bears)))
+      | inl bears ↦ weaker (λ stop both. still_unstored stop both.0 both.1) (both_leave counts (next bears))
       | inr many ↦ weaker (λ stop counted. nothing_owed a b missing on stop counted many None arrays) counts
     ]
 
@@ -116,7 +115,7 @@ module _ (a b : Shelved) (missing : Conditions) (arrays : List Array) (x : Loade
     unstored = then_run on first unstored_since
 
     -- and what the drives showed gives the record still
-    module _ (shown : View) (given : LeavesOnly a b (IsGivenFrom a shown x missing)) (found_then : Found (geometry_of a) (read_now a).image)
+    module _ (x : Loaded) (shown : View) (given : LeavesOnly a b (IsGivenFrom a shown x missing)) (found_then : Found (geometry_of a) (read_now a).image)
         (generation : found_then.effective.boot.generation ≡ x.record.generation) (silent : (d : Device) → shown d ≡ None → found_then.view d ≡ None) where
       still_given : (stop : Stop) → StandsStill a None missing arrays stop → IsGivenFrom a shown x missing stop → StandsStill a (Some found_then) missing arrays stop
       still_given stop stands gives = record {

@@ -1,5 +1,5 @@
 -- What a stop in the store leaves, by the record that was found.
-use Rattle.std.proofs.Common.{◌≡◌, ◌≢◌, ◌⊎◌, inl, inr, ℕ, ◌<◌, Bool, true, false, List, [], Option, Some, None, refl, sym, ◌∙◌, ap, subst, arith}
+use Rattle.std.proofs.Common.{◌≡◌, ◌≢◌, ◌⊎◌, inl, inr, ℕ, ◌<◌, Bool, true, false, List, Option, Some, None, refl, sym, ◌∙◌, ap, subst, arith}
 use Rattle.std.specs.Prelude.{slice_index_or}
 use Rattle.std.proofs.lemmas.Bool.{cases_Bool, cases_lt}
 use Rattle.std.proofs.lemmas.List.{get_or_past}
@@ -9,6 +9,7 @@ use Rattle.pur_base.specs.declared.device.Device.TheVariants.{Drive, Nv}
 use Rattle.pur_base.specs.Devices.{Geometry, Image, Condition, Conditions, Sound, Missing, LeftOut, IsBearable, drive, nvram}
 use Rattle.pur_base.specs.Grammar.{is_in_force}
 use Rattle.pur_base.specs.Plain.{Array}
+use Rattle.pur_base.specs.declared.facts.AnyFact.{AnyFact}
 use Rattle.boot_codec.specs.declared.record.BootRecord.{BootRecord}
 use Rattle.boot_codec.specs.Region.{BootSlot, names, other_slot}
 use Rattle.boot_codec.specs.Spelling.{spelling}
@@ -27,7 +28,7 @@ use Rattle.boot_region.proofs.ShownLemmas.{as_read}
 use Rattle.nvram_log.specs.Members.{IsMember as IsLogMember}
 use Rattle.register.specs.declared.state.Register.{Register}
 use Rattle.register.specs.Registers.{OnSlots, drives_of, next_slot, own_slot}
-use Rattle.register.specs.Standing.{AreOfMembers, GivesOldOrNext, IsNextOf, MayStore, StandsBack, StillGiven, unflushed}
+use Rattle.register.specs.Standing.{AreOfMembers, GivesOldOrNext, IsNextOf, MayStore, StandsBack, StillGiven}
 use Rattle.register.proofs.FlagLemmas.{cut_in}
 use Rattle.session_spec.specs.Entering.{ComesBack, Found, IsStanding, LeftOutAreNamedByNone, OnlyFailedAreSilent, StandsStill, read_now, failed_by, failed_since}
 use Rattle.takeover.specs.declared.log.OpenedLog.{OpenedLog}
@@ -35,13 +36,14 @@ use Rattle.takeover.specs.LogOpen.{IsLogOpen}
 use Rattle.takeover.proofs.Failing.{left_out_since, since_mid}
 use Rattle.takeover.proofs.Loading.{may_read, same_geometry}
 use Rattle.takeover.proofs.NothingStored.{in_force_at}
+use Rattle.takeover.proofs.RecoveredLemmas.{content}
 use Rattle.takeover.proofs.Stops.{given_on_drives, bears_from_b, standing_from_a, given_from_a}
 use Rattle.takeover.proofs.Twice.{twice_by}
 use Rattle.takeover.proofs.WhatFound.{not_named, rose_before}
 
 -- the NVRAM devices show what they might have shown when the store began, and each record that may be given is read
-module _ (n : Shelved) (x : Loaded) (now : Conditions) (arrays : List Array) (o : OpenedLog) (was : Register) (is_n : IsShelf n) (h_n : n.honest)
-    (opened : IsLogOpen n x now arrays o) (record_is : was.record ≡ x.record) (drives_are : was.drives ≡ x.drives) (stop : Stop) (left : LeavesBut (OnSlots (drives_of was)) n stop) where
+module _ (n : Shelved) (x : Loaded) (now : Conditions) (arrays : List Array) (ps : List (List AnyFact)) (base : Array) (o : OpenedLog) (was : Register) (is_n : IsShelf n) (h_n : n.honest)
+    (opened : IsLogOpen n x now arrays ps base o) (record_is : was.record ≡ x.record) (drives_are : was.drives ≡ x.drives) (stop : Stop) (left : LeavesBut (OnSlots (drives_of was)) n stop) where
   abbrev shelf : Geometry
   shelf = geometry_of n
 
@@ -76,7 +78,7 @@ module _ (n : Shelved) (x : Loaded) (now : Conditions) (arrays : List Array) (o 
   read_before : (start : Stop) → MayStop n start → (slot : BootSlot) (boot : BootRecord) → MayBeGiven shelf start.image now slot boot
       → (k i : ℕ) (c : Command) → names boot (nvram k) ≡ true → ShowsIn (stop.image (nvram k)) boot.flushed i c → is_in_force c.request ≡ true
   unfolding began begun
-  read_before start may slot boot g k i c named shows = (opened.found.read (began start) (may_begin start may)).in_force slot boot (given_begun start slot boot g) k i c named shows
+  read_before start may slot boot g k i c named shows = opened.found.read (began start) (may_begin start may) slot boot (given_begun start slot boot g) k i c named shows
 
   abbrev here : Stop
   here = read_now n
@@ -89,9 +91,6 @@ module _ (n : Shelved) (x : Loaded) (now : Conditions) (arrays : List Array) (o 
   found_given = opened.found.in_force.given here may_here
 
   -- and a record that the store writes
-  next_patches : (boot : BootRecord) → IsNextOf was o.log.members boot → boot.patches ≡ []
-  next_patches boot next = ap (λ (b : BootRecord). b.patches) next.later.rest ∙ ap (λ (b : BootRecord). b.patches) record_is ∙ opened.found.unflushed
-
   next_flushed : (boot : BootRecord) → IsNextOf was o.log.members boot → boot.flushed ≡ x.record.flushed
   next_flushed boot next = ap (λ (b : BootRecord). b.flushed) next.later.rest ∙ ap (λ (b : BootRecord). b.flushed) record_is
 
@@ -136,7 +135,7 @@ module _ (n : Shelved) (x : Loaded) (now : Conditions) (arrays : List Array) (o 
     standing_at stands = record {
       stands = stands;
       left_out = left_out;
-      read = record { unflushed = unflushed; in_force = in_force };
+      read = in_force;
     }
       where
         left_out : LeftOutAreNamedByNone shelf stop.image later
@@ -146,12 +145,6 @@ module _ (n : Shelved) (x : Loaded) (now : Conditions) (arrays : List Array) (o 
               | inl before ↦ opened.found.left_out before.start before.may d was_out slot boot before.given
               | inr next ↦ out_unnamed d was_out boot next
             ]
-
-        unflushed : (slot : BootSlot) (boot : BootRecord) → MayBeGiven shelf stop.image later slot boot → boot.patches ≡ []
-        unflushed slot boot g = elim (gives slot boot g) [
-          | inl before ↦ (opened.found.read before.start before.may).unflushed slot boot before.given
-          | inr next ↦ next_patches boot next
-        ]
 
         in_force : (slot : BootSlot) (boot : BootRecord) → MayBeGiven shelf stop.image later slot boot
             → (k i : ℕ) (c : Command) → names boot (nvram k) ≡ true → ShowsIn (stop.image (nvram k)) boot.flushed i c → is_in_force c.request ≡ true
@@ -167,7 +160,7 @@ module _ (n : Shelved) (x : Loaded) (now : Conditions) (arrays : List Array) (o 
     standing_back stands = record {
       stands = stands;
       left_out = left_out;
-      read = record { unflushed = unflushed; in_force = in_force };
+      read = in_force;
     }
       where
         left_out : LeftOutAreNamedByNone shelf stop.image back
@@ -177,12 +170,6 @@ module _ (n : Shelved) (x : Loaded) (now : Conditions) (arrays : List Array) (o 
             | inr none ↦ none
             | inl named ↦ absurd (cc (unnamed d out, is_named d boot next named))
           ]
-        ]
-
-        unflushed : (slot : BootSlot) (boot : BootRecord) → MayBeGiven shelf stop.image back slot boot → boot.patches ≡ []
-        unflushed slot boot g = elim (gives slot boot g) [
-          | inl same ↦ ap (λ (b : BootRecord). b.patches) (same ∙ record_is) ∙ opened.found.unflushed
-          | inr next ↦ next_patches boot next
         ]
 
         in_force : (slot : BootSlot) (boot : BootRecord) → MayBeGiven shelf stop.image back slot boot
@@ -236,9 +223,9 @@ comes_back found failed after d true false (Some bytes) is named fail member = i
 comes_back found failed after d true false None is named fail member = inr ((λ e. cc (e, is)), named, member)
 
 -- the store's stops as those of the opening
-module _ (a n : Shelved) (x : Loaded) (missing : Conditions) (arrays : List Array) (o : OpenedLog) (was : Register) (on : Continues a n) (is_n : IsShelf n) (h_n : n.honest)
-    (opened : IsLogOpen n x (failed_since a n missing) arrays o) (record_is : was.record ≡ x.record) (drives_are : was.drives ≡ x.drives)
-    (may_store : MayStore n was o.log.members (failed_since a n missing) (unflushed opened.commands) arrays)
+module _ (a n : Shelved) (x : Loaded) (missing : Conditions) (arrays : List Array) (ps : List (List AnyFact)) (base : Array) (o : OpenedLog) (was : Register) (on : Continues a n) (is_n : IsShelf n) (h_n : n.honest)
+    (opened : IsLogOpen n x (failed_since a n missing) arrays ps base o) (record_is : was.record ≡ x.record) (drives_are : was.drives ≡ x.drives)
+    (may_store : MayStore n was o.log.members (failed_since a n missing) (content ps base opened.commands) arrays)
     (found : Found (geometry_of a) (read_now a).image) (boot_is : found.effective.boot ≡ x.record)
     (drive_left : (fails : Device → Bool) → ((d : Device) → has_failed (read_now a) (read_now n) d ≡ true → fails d ≡ true) → (i : ℕ) → i < a.drives → members_view found.view found.effective (drive i) ≢ None → fails (drive i) ≡ false → IsMember x.drives i)
     (nvram_left : (fails : Device → Bool) → ((d : Device) → has_failed (read_now a) (read_now n) d ≡ true → fails d ≡ true) → (k : ℕ) → members_view found.view found.effective (nvram k) ≢ None → fails (nvram k) ≡ false → IsLogMember o.log.members k)
@@ -247,13 +234,13 @@ module _ (a n : Shelved) (x : Loaded) (missing : Conditions) (arrays : List Arra
   pub stored_at : (stop : Stop) → LeavesBut (OnSlots (drives_of was)) n stop
       → StandsBut n (drives_of was) (failed_since a n missing) (next_slot was.record) was.record arrays stop
       → GivesOldOrNext n was o.log.members (failed_since a n missing) stop
-      → StillGiven n was o.log.members (unflushed opened.commands) stop ⊎ StandsBack n was o.log.members (unflushed opened.commands) stop
+      → StillGiven n was o.log.members (content ps base opened.commands) stop ⊎ StandsBack n was o.log.members (content ps base opened.commands) stop
       → StandsStill a (Some found) missing arrays stop
   stored_at stop left stands gives back = record {
     standing = λ bears.
         let acc = accounts (bears_from_b a n missing on stop left.counts bears) in
         standing_from_a a n missing on stop left.counts arrays
-        (standing_at n x (failed_since a n missing) arrays o was is_n h_n opened record_is drives_are stop left (λ slot boot g. gives later acc slot boot g) (stands later acc));
+        (standing_at n x (failed_since a n missing) arrays ps base o was is_n h_n opened record_is drives_are stop left (λ slot boot g. gives later acc slot boot g) (stands later acc));
     stored = λ bears silent since. elim back [
       | inl still ↦
           let g = still (failed_since a n missing) arrays may_store later (accounts (bears_from_b a n missing on stop left.counts bears)) (given_in (begun stop left.counts silent bears)) in
@@ -323,11 +310,11 @@ module _ (a n : Shelved) (x : Loaded) (missing : Conditions) (arrays : List Arra
             | inr (inr out) ↦ absurd (cc (named, opened.found.left_out (read_now n) (may_read n is_n h_n) (nvram k) out _ x.record (opened.found.in_force.given (read_now n) (may_read n is_n h_n))))
           ]
 
-      is_back : StandsBack n was o.log.members (unflushed opened.commands) stop → IsBearable (geometry_of a) after → IsStanding (geometry_of a) stop.image after arrays
+      is_back : StandsBack n was o.log.members (content ps base opened.commands) stop → IsBearable (geometry_of a) after → IsStanding (geometry_of a) stop.image after arrays
       is_back stood borne =
           let e : geometry_of a ≡ geometry_of n = same_geometry on in
           let both = stood.each (failed_since a n missing) arrays may_store after (of_members (subst (λ (g : Geometry). IsBearable g after) e borne)) in
           subst (λ (g : Geometry). IsStanding g stop.image after arrays) (sym e)
-          (standing_back n x (failed_since a n missing) arrays o was is_n h_n opened record_is drives_are stop left after both.1
+          (standing_back n x (failed_since a n missing) arrays ps base o was is_n h_n opened record_is drives_are stop left after both.1
           (λ d out. back_out (names x.record d) (fails d) (members_view found.view found.effective d) out)
           both.0)

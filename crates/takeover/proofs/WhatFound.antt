@@ -1,5 +1,5 @@
 -- What an opening found, as its session says it, and what becomes of each device.
-use Rattle.std.proofs.Common.{◌≡◌, ◌≢◌, ◌⊎◌, inl, inr, ℕ, ◌+◌, ◌-◌, ◌^◌, ◌<◌, ◌≤◌, Bool, true, false, List, [], Option, Some, None, refl, sym, ◌∙◌, ap, subst, arith}
+use Rattle.std.proofs.Common.{◌≡◌, ◌≢◌, ◌⊎◌, inl, inr, ℕ, ◌+◌, ◌<◌, ◌≤◌, Bool, true, false, List, Option, Some, None, refl, sym, ◌∙◌, ap, subst, arith}
 use Rattle.std.specs.Prelude.{if◌then◌else◌, slice_index_or, is_some}
 use Rattle.std.proofs.lemmas.Bool.{cases_Bool, cases_lt}
 use Rattle.std.proofs.lemmas.List.{get_or_past}
@@ -9,7 +9,10 @@ use Rattle.pur_base.specs.Devices.{Condition, Sound, Missing, LeftOut, View, IsO
 use Rattle.boot_codec.specs.declared.record.BootRecord.{BootRecord}
 use Rattle.boot_codec.specs.Record.{set_count}
 use Rattle.boot_codec.specs.Region.{BootSlot, Effective, IsRecordOf, names, of_members}
-use Rattle.log_codec.specs.Log.{Shows, ShowsIn}
+use Rattle.pur_base.specs.Plain.{Array}
+use Rattle.log_codec.specs.Log.{Shows, ShowsIn, LogStands}
+use Rattle.memory_spec.specs.Memory.{Contents, ReadsAs}
+use Rattle.array_memory.specs.Kept.{Kept}
 use Rattle.array_spec.specs.Losses.{not_holding}
 use Rattle.array_spec.specs.Meaning.{members_view}
 use Rattle.array_spec.proofs.Spelled.{spells_one}
@@ -27,7 +30,7 @@ use Rattle.nvram_log.specs.Members.{IsMember as IsLogMember}
 use Rattle.register.specs.declared.state.Register.{Register}
 use Rattle.register.specs.Registers.{named_sound}
 use Rattle.session_spec.specs.Entering.{Found, ComesOut, IsTakenOver, OnlyFailedAreSilent, read_now}
-use Rattle.session_spec.specs.Headline.{HoldsLog, HasNoArray, HasTooFew}
+use Rattle.session_spec.specs.Headline.{HasNoArray, HasTooFew}
 use Rattle.takeover.specs.declared.log.OpenedLog.{OpenedLog}
 use Rattle.takeover.specs.Replayed.{IsReplayedFrom, ShowedUnserved}
 use Rattle.takeover.specs.Seen.{IsSeenIn}
@@ -168,7 +171,7 @@ module _ (a b : Shelved) (x : Loaded) (on : Continues a b) (seen : IsSeenIn a b 
             }
 
     -- the log was read
-    module _ (n : Shelved) (o : OpenedLog) (after : Continues b n) (replayed : IsReplayedFrom b n x.record.members.nvrams x.record.flushed o) where
+    module _ (n : Shelved) (first : Kept) (o : OpenedLog) (after : Continues b n) (replayed : IsReplayedFrom b n x.record.members.nvrams x.record.flushed first o) where
       abbrev pub is_read : ℕ → Bool
       is_read k = slice_index_or replayed.read k false
 
@@ -210,16 +213,9 @@ module _ (a b : Shelved) (x : Loaded) (on : Continues a b) (seen : IsSeenIn a b 
       same_log : (k : ℕ) → shown_by b replayed.read (nvram k) ≡ members (nvram k)
       same_log k = same_shown (is_named k) (is_read k) (seen.view (nvram k)) (b.disk (nvram k)).bytes (replayed.named k) (seen.nvrams k ∙ ap (λ (l : List ℕ). Some l) (sym (same k).bytes))
 
-      pub holds : x.record.generation < 2 ^ 48 - 8 → HoldsLog members x.record o.plain o.log.count
-      holds room = record {
-        not_spent = room;
-        unflushed = seen.unflushed;
-        log = replayed.log;
-        log_stands = log_moves (shown_by b replayed.read) members same_log x.record.flushed 0 [] replayed.log replayed.log_stands;
-        in_force = replayed.in_force;
-        result = replayed.plain;
-        count = replayed.count;
-      }
+      -- the log that was replayed is what they show
+      pub log_stands : (contents : Contents) (base : Array) → ReadsAs contents first.memory base → LogStands members x.record.flushed base replayed.log
+      log_stands contents base reads = log_moves (shown_by b replayed.read) members same_log x.record.flushed 0 base replayed.log (replayed.log_stands contents base reads)
 
       -- a member by the record found, on which no call failed, is left after the log was opened
       module _ (fails : Device → Bool) (later : (d : Device) → failed n d ≡ true → fails d ≡ true) where

@@ -1,8 +1,11 @@
 -- Faults of an opening.
+use Rattle.std.specs.Prelude.{◌≡◌, Bool, List}
 use Rattle.boot_region.specs.declared.loading.LoadFault.{LoadFault}
 use Rattle.boot_region.specs.declared.loading.LoadFault.TheVariants as load
 use Rattle.register.specs.declared.next.StoreFault.{StoreFault}
 use Rattle.register.specs.declared.next.StoreFault.TheVariants as store
+use Rattle.table_loading.specs.declared.fault.TablesFault.{TablesFault}
+use Rattle.table_loading.specs.declared.fault.TablesFault.TheVariants as tables
 use Rattle.takeover.specs.declared.log.LogFault.{LogFault}
 use Rattle.takeover.specs.declared.log.LogFault.TheVariants as log
 use Rattle.takeover.specs.declared.faults.OpenFault.{OpenFault}
@@ -26,3 +29,10 @@ fault_of_log log.Unserved = open_fault.Unserved
 abbrev pub fault_of_store : StoreFault → OpenFault
 fault_of_store store.Spent = open_fault.Spent
 fault_of_store (store.TooFew drives) = open_fault.TooFew drives
+
+-- that of tables that weren't loaded: of a lost patch too few drives are left
+abbrev pub IsFaultOfTables : TablesFault → OpenFault → Type 0
+IsFaultOfTables (tables.BadPatch t) fault = fault ≡ open_fault.BadPatch t
+IsFaultOfTables (tables.Unsound t) fault = fault ≡ open_fault.Unsound t
+IsFaultOfTables (tables.Lost lost) fault = (drives : List Bool) × (fault ≡ open_fault.TooFew drives)
+IsFaultOfTables (tables.Memory m) fault = fault ≡ open_fault.Memory m

@@ -1,5 +1,5 @@
 -- The record that was found, and settled on the drives that hold it.
-use Rattle.std.specs.Prelude.{◌≡◌, ℕ, ◌<◌, ◌-◌, ◌^◌, List, [], true, Result, Ok, Err, ⊤}
+use Rattle.std.specs.Prelude.{◌≡◌, ℕ, ◌<◌, ◌-◌, ◌^◌, List, true, Result, Ok, Err, ⊤}
 use Rattle.pur_base.specs.declared.device.Device.{Device}
 use Rattle.pur_base.specs.Devices.{Conditions, Sound, LeftOut, drive}
 use Rattle.pur_base.specs.Plain.{Array}
@@ -23,7 +23,6 @@ pub record IsFoundOn (shelf : Shelved) (x : Loaded) (missing : Conditions) (arra
   pub in_its_slot : IsInForce (slot_in x.slot) x.record
   pub named : (i : ℕ) → IsMember x.drives i → names x.record (drive i) ≡ true
   pub bodies : (i : ℕ) → IsMember x.drives i → body_in (slot_in x.slot) (shelf.disk (drive i)).bytes ≡ spelling x.record
-  pub unflushed : x.record.patches ≡ []
   pub room : x.record.generation < 2 ^ 48 - 16
   pub stands : StandsNow shelf missing arrays
   -- of a device that isn't missing the count of faults goes on
@@ -31,9 +30,8 @@ pub record IsFoundOn (shelf : Shelved) (x : Loaded) (missing : Conditions) (arra
   pub left_out : (start : Stop) → MayStop shelf start → (d : Device) → missing d ≡ LeftOut → IsNamedByNone (geometry_of shelf) start.image missing d
   pub read : (start : Stop) → MayStop shelf start → AreRead (geometry_of shelf) start.image missing
 
--- Where no more is missing than is borne, the record is found, or it names patches, or memory was wanting.
+-- Where no more is missing than is borne, the record is found, or memory was wanting.
 abbrev pub IsFoundBy : Shelved → Conditions → List Array → Result Loaded OpenFault → Type 0
 IsFoundBy new missing arrays (Ok x) = IsFoundOn new x missing arrays
 IsFoundBy new missing arrays (Err (open_fault.Memory m)) = ⊤
-IsFoundBy new missing arrays (Err open_fault.HasPatches) = ⊤
 IsFoundBy new missing arrays (Err e) = ⊥

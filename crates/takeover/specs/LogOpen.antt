@@ -1,10 +1,11 @@
 -- The log that was read, settled and replayed.
-use Rattle.std.specs.Prelude.{◌≡◌, ℕ, ◌<◌, Bool, true, false, List, [], Contains, Result, Ok, Err, ⊤}
+use Rattle.std.specs.Prelude.{◌≡◌, ℕ, ◌<◌, Bool, true, false, List, Contains, Result, Ok, Err, ⊤}
 use Rattle.std.specs.List.{AllByRecursion}
 use Rattle.pur_base.specs.Commands.{Command, AllAccepted, after_all}
 use Rattle.pur_base.specs.Devices.{Conditions, Sound, LeftOut, nvram}
 use Rattle.pur_base.specs.Grammar.{is_in_force}
 use Rattle.pur_base.specs.Plain.{Array}
+use Rattle.pur_base.specs.declared.facts.AnyFact.{AnyFact}
 use Rattle.log_codec.specs.Log.{ShowsIn}
 use Rattle.world.specs.Counts.{Rises}
 use Rattle.world.specs.Shelf.{Shelved}
@@ -12,20 +13,21 @@ use Rattle.boot_region.specs.declared.loading.Loaded.{Loaded}
 use Rattle.nvram_log.specs.Held.{HoldsOn, Keeps}
 use Rattle.nvram_log.specs.Members.{IsMember, IsSome, IsFewer}
 use Rattle.takeover.specs.Found.{IsFoundOn}
+use Rattle.takeover.specs.Tables.{HoldTables}
 use Rattle.takeover.specs.declared.log.OpenedLog.{OpenedLog}
 use Rattle.takeover.specs.declared.log.LogFault.{LogFault}
 use Rattle.takeover.specs.declared.log.LogFault.TheVariants as log_fault
 
--- each NVRAM device that is left holds the log, which makes one of the arrays of nothing: that in memory
-pub record IsLogOpen (shelf : Shelved) (x : Loaded) (missing : Conditions) (arrays : List Array) (o : OpenedLog) : Type 0 where
+-- the tables hold the base still, and each NVRAM device that is left holds the log of memory, which makes one of the arrays of it
+pub record IsLogOpen (shelf : Shelved) (x : Loaded) (missing : Conditions) (arrays : List Array) (ps : List (List AnyFact)) (base : Array) (o : OpenedLog) : Type 0 where
   pub found : IsFoundOn shelf x missing arrays
+  pub hold : HoldTables shelf x ps base
   pub commands : List Command
   pub keeps : Keeps o.log commands
   pub in_force : AllByRecursion (λ c. is_in_force c.request ≡ true) commands
   pub flushed : o.log.flushed ≡ x.record.flushed
-  pub accepted : AllAccepted [] commands
-  pub plain : o.plain ≡ after_all [] commands
-  pub one_of : Contains arrays (after_all [] commands)
+  pub accepted : AllAccepted base commands
+  pub one_of : Contains arrays (after_all base commands)
   pub holds : HoldsOn shelf o.log.members x.record.flushed commands
   pub some : IsSome o.log.members
   pub fewer : IsFewer x.record.members.nvrams o.log.members
@@ -47,8 +49,8 @@ IsLogFault log_fault.BothLost old new named flushed = (n : ℕ) → n < 2 → Is
 IsLogFault log_fault.Unserved old new named flushed = old.honest → ShowsUnserved new flushed
 
 -- Where no more is missing than is borne, the log is opened, or it has a command that isn't served, or memory was wanting.
-abbrev pub IsLogOpenBy : Shelved → Loaded → Conditions → List Array → Result OpenedLog LogFault → Type 0
-IsLogOpenBy new x missing arrays (Ok o) = IsLogOpen new x missing arrays o
-IsLogOpenBy new x missing arrays (Err (log_fault.Memory m)) = ⊤
-IsLogOpenBy new x missing arrays (Err log_fault.Unserved) = ⊤
-IsLogOpenBy new x missing arrays (Err log_fault.BothLost) = ⊥
+abbrev pub IsLogOpenBy : Shelved → Loaded → Conditions → List Array → List (List AnyFact) → Array → Result OpenedLog LogFault → Type 0
+IsLogOpenBy new x missing arrays ps base (Ok o) = IsLogOpen new x missing arrays ps base o
+IsLogOpenBy new x missing arrays ps base (Err (log_fault.Memory m)) = ⊤
+IsLogOpenBy new x missing arrays ps base (Err log_fault.Unserved) = ⊤
+IsLogOpenBy new x missing arrays ps base (Err log_fault.BothLost) = ⊥

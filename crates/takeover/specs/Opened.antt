@@ -1,20 +1,34 @@
 -- What an opening found and did, whatever failed, or why the array wasn't opened.
-use Rattle.std.specs.Prelude.{◌≡◌, ◌<◌, ◌+◌, List, [], Result, Ok, Err, Option, Some, IfSome}
-use Rattle.pur_base.specs.Devices.{Conditions, Sound, IsBearable}
-use Rattle.pur_base.specs.Plain.{Array}
+use Rattle.std.specs.Prelude.{◌≡◌, ◌<◌, ◌+◌, ◌-◌, ◌^◌, true, List, [], length, Contains, Result, Ok, Err, Option, Some, IfSome, All}
+use Rattle.std.specs.List.{AllByRecursion}
+use Rattle.pur_base.specs.Commands.{Command, after_all}
+use Rattle.pur_base.specs.Devices.{Conditions, Sound, IsBearable, IsOn}
+use Rattle.pur_base.specs.Grammar.{is_in_force}
+use Rattle.pur_base.specs.Plain as plain
 use Rattle.pur_base.specs.declared.device.Device.{Device}
+use Rattle.pur_base.specs.declared.facts.AnyFact.{AnyFact}
 use Rattle.pur_base.specs.declared.reply.Status.{Status}
 use Rattle.pur_base.specs.declared.reply.Status.TheVariants as status
-use Rattle.array_spec.specs.Meaning.{members_view}
+use Rattle.boot_codec.specs.Region.{names}
+use Rattle.fact_codec.specs.Fact.{IsFact}
+use Rattle.log_codec.specs.Log.{LogStands}
+use Rattle.array_spec.specs.Meaning.{HoldsBase, members_view}
+use Rattle.array_spec.specs.Sound.{AreSound}
+use Rattle.array_spec.specs.Stored.{PatchesStand, all_facts, in_patches}
 use Rattle.world.specs.Losing.{geometry_of, has_failed}
 use Rattle.world.specs.Shelf.{Shelved, LeavesOnly}
 use Rattle.register.specs.Registers.{named_sound}
+use Rattle.register.specs.Standing.{Content, array_of}
+use Rattle.memory_spec.specs.Tables.{facts, patches}
+use Rattle.memory_spec.specs.Memory.{Contents, FactsRead, ReadsAs}
+use Rattle.memory_spec.specs.Numbers.{next_after_all}
 use Rattle.session_spec.specs.Entering.{Enters, Found, IsTakenOver, OnlyFailedAreSilent, StandsStill, read_now, failed_since}
-use Rattle.session_spec.specs.Headline.{HoldsLog, IsUnopenedBy}
-use Rattle.takeover.specs.declared.recovering.Recovered.{Recovered}
+use Rattle.session_spec.specs.Headline.{IsUnopenedBy}
+use Rattle.array_state.specs.declared.array.Array.{Array}
+use Rattle.array_state.specs.Drives.{SegmentsHold}
+use Rattle.array_state.specs.Ready.{IsReady}
 use Rattle.takeover.specs.declared.faults.OpenFault.{OpenFault}
 use Rattle.takeover.specs.declared.faults.OpenFault.TheVariants as open_fault
-use Rattle.takeover.specs.Recovered.{IsRecovered}
 
 -- how a session ends that doesn't begin
 abbrev pub status_of : OpenFault → Status
@@ -27,27 +41,56 @@ status_of _ = status.NoArray
 abbrev pub AreClean : Shelved → Conditions → Type 0
 AreClean shelf missing = (d : Device) → missing d ≡ Sound → (shelf.disk d).dirty ≡ []
 
--- The record and the log that were found make the array, and a later record was stored that names the devices that are left.
+-- The devices that were found hold the base, whose sectors in segments the drives that are left hold as reads give them.
+pub record IsHeldBy (old new : Shelved) (found : Found (geometry_of old) (read_now old).image) (a : Array) (base : plain.Array) : Type 0 where
+  pub holds : HoldsBase (geometry_of old) (members_view found.view found.effective) found.effective.boot base
+  pub contents : Contents
+  pub reads : FactsRead contents [] (all_facts (patches a.memory.memory.tables)) found.effective.boot.next.object base
+  pub hold : SegmentsHold contents new a.register (facts a.memory.memory.tables)
+
+-- Where no more is missing than is borne, the array is one of those for which the devices stood. A record is in force alone that names each device that isn't missing, and by it they stand for that array.
+pub record IsRecovered (old new : Shelved) (found : Found (geometry_of old) (read_now old).image) (a : Array) (log : List Command) (missing : Conditions) (arrays : List plain.Array) : Type 0 where
+  pub held : Content
+  pub ready : IsReady new a held
+  pub one_of : Contains arrays (array_of held)
+  pub log_is : held.log ≡ log
+  pub base_held : IsHeldBy old new found a held.base
+  pub sound : (d : Device) → IsOn (geometry_of new) d → missing d ≡ Sound → names a.register.record d ≡ true
+
+-- The tables and the log that were found make the array, and a later record was stored that names the devices that are left.
 -- For arrays for which the devices stood: they still do at every moment, and then for that in memory, one of them.
-pub record IsOpened (old new : Shelved) (r : Recovered) : Type 0 where
+pub record IsOpened (old new : Shelved) (a : Array) : Type 0 where
   pub found : Found (geometry_of old) (read_now old).image
-  pub holds : HoldsLog (members_view found.view found.effective) found.effective.boot r.plain r.log.count
-  pub taken_over : IsTakenOver (geometry_of old) (read_now old).image found (has_failed (read_now old) (read_now new)) (named_sound r.register.record)
-  pub later : found.effective.boot.generation < r.register.record.generation
-  pub few : r.register.record.generation < found.effective.boot.generation + 4
-  pub each : (missing : Conditions) (arrays : List Array) → Enters old missing arrays → LeavesOnly old new (StandsStill old (Some found) missing arrays)
-  pub recovered : (missing : Conditions) (arrays : List Array) → Enters old missing arrays → IsBearable (geometry_of old) (failed_since old new missing) → IsRecovered new r (failed_since old new missing) arrays
+  pub not_spent : found.effective.boot.generation < 2 ^ 48 - 8
+  -- no other facts stand as the record's patches
+  pub no_other : (there : List (List AnyFact)) → PatchesStand (members_view found.view found.effective) found.effective.boot there → there ≡ patches a.memory.memory.tables
+  pub tables_sound : AreSound (geometry_of old) found.effective.boot (patches a.memory.memory.tables)
+  pub lawful : All IsFact (in_patches (patches a.memory.memory.tables))
+  pub log : List Command
+  pub in_force : AllByRecursion (λ c. is_in_force c.request ≡ true) log
+  pub count : a.log.count ≡ length log
+  -- whatever the segments hold: from each array that the tables read as, the log that was shown leads to one that memory reads as
+  pub reads : (contents : Contents) (base : plain.Array) → FactsRead contents [] (all_facts (patches a.memory.memory.tables)) found.effective.boot.next.object base
+      → LogStands (members_view found.view found.effective) found.effective.boot.flushed base log × ReadsAs contents a.memory.memory (after_all base log)
+  pub next : a.memory.memory.next ≡ next_after_all found.effective.boot.next log
+  pub boot_is : a.register.record ≡ record found.effective.boot { generation = a.register.record.generation; members = a.register.record.members }
+  pub taken_over : IsTakenOver (geometry_of old) (read_now old).image found (has_failed (read_now old) (read_now new)) (named_sound a.register.record)
+  pub later : found.effective.boot.generation < a.register.record.generation
+  pub few : a.register.record.generation < found.effective.boot.generation + 4
+  pub each : (missing : Conditions) (arrays : List plain.Array) → Enters old missing arrays → LeavesOnly old new (StandsStill old (Some found) missing arrays)
+  pub recovered : (missing : Conditions) (arrays : List plain.Array) → Enters old missing arrays → IsBearable (geometry_of old) (failed_since old new missing)
+      → IsRecovered old new found a log (failed_since old new missing) arrays
 
 -- Why it wasn't. For arrays for which the devices stood: they still do at every moment, and where no more is missing than is borne it was for want of memory.
 pub record IsShut (old new : Shelved) (e : OpenFault) : Type 0 where
   pub by : IsUnopenedBy (status_of e) old new
   pub found : Option (Found (geometry_of old) (read_now old).image)
   pub silent : IfSome found (λ f. OnlyFailedAreSilent (has_failed (read_now old) (read_now new)) f.view)
-  pub each : (missing : Conditions) (arrays : List Array) → Enters old missing arrays → LeavesOnly old new (StandsStill old found missing arrays)
-  pub clean : (missing : Conditions) (arrays : List Array) → Enters old missing arrays → IsBearable (geometry_of old) (failed_since old new missing) → AreClean new (failed_since old new missing)
-  pub cause : (missing : Conditions) (arrays : List Array) → Enters old missing arrays → IsBearable (geometry_of old) (failed_since old new missing) → status_of e ≡ status.Memory
+  pub each : (missing : Conditions) (arrays : List plain.Array) → Enters old missing arrays → LeavesOnly old new (StandsStill old found missing arrays)
+  pub clean : (missing : Conditions) (arrays : List plain.Array) → Enters old missing arrays → IsBearable (geometry_of old) (failed_since old new missing) → AreClean new (failed_since old new missing)
+  pub cause : (missing : Conditions) (arrays : List plain.Array) → Enters old missing arrays → IsBearable (geometry_of old) (failed_since old new missing) → status_of e ≡ status.Memory
 
 -- the one or the other
-abbrev pub IsOpenedBy : Shelved → Shelved → Result Recovered OpenFault → Type 0
-IsOpenedBy old new (Ok r) = IsOpened old new r
+abbrev pub IsOpenedBy : Shelved → Shelved → Result Array OpenFault → Type 0
+IsOpenedBy old new (Ok a) = IsOpened old new a
 IsOpenedBy old new (Err e) = IsShut old new e

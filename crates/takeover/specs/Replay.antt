@@ -1,12 +1,16 @@
--- The commands of a log, applied to an array up to the first that it refuses.
-use Rattle.std.specs.Prelude.{◌≡◌, ℕ, Bool, true, false, List, take, Some, slice_get}
+-- The commands of a log, applied to memory up to the first that the array refuses.
+use Rattle.std.specs.Prelude.{◌≡◌, ℕ, ◌+◌, Bool, true, false, List, take, Some, slice_get}
 use Rattle.std.specs.List.{AllByRecursion}
 use Rattle.pur_base.specs.declared.request.Request.{Request}
 use Rattle.pur_base.specs.Commands.{Command, Accepts, AllAccepted, after, after_all}
 use Rattle.pur_base.specs.Grammar.{is_in_force}
 use Rattle.pur_base.specs.Plain.{Array}
-use Rattle.array_model.specs.declared.step.PlainReply.{PlainReply}
-use Rattle.array_model.specs.declared.step.PlainReply.TheVariants as plain
+use Rattle.pur_base.specs.Visible.{segment}
+use Rattle.memory_spec.specs.Memory.{Contents, ReadsAs}
+use Rattle.memory_spec.specs.Numbers.{next_after, next_after_all}
+use Rattle.memory_spec.specs.Tables.{facts}
+use Rattle.array_memory.specs.Kept.{Kept, HasSamePatches}
+use Rattle.array_state.specs.Room.{HasRoomFor}
 use Rattle.nvram_log.specs.declared.log.NvLog.{NvLog}
 use Rattle.nvram_log.specs.declared.read.ReadFault.{ReadFault}
 use Rattle.nvram_log.specs.declared.read.ReadFault.TheVariants as read_fault
@@ -14,28 +18,42 @@ use Rattle.nvram_log.specs.Held.{Keeps}
 use Rattle.takeover.specs.declared.log.LogFault.{LogFault}
 use Rattle.takeover.specs.declared.log.LogFault.TheVariants as log_fault
 
--- the first commands are of forms in force, are accepted, one after the other, and make the array; the next one is refused
-pub record IsReplayed (a : Array) (commands : List Command) (count : ℕ) (b : Array) : Type 0 where
-  pub in_force : AllByRecursion (λ c. is_in_force c.request ≡ true) (take count commands)
-  pub accepted : AllAccepted a (take count commands)
-  pub array : b ≡ after_all a (take count commands)
-  pub refused : (c : Command) → slice_get commands count ≡ Some c → ¬ (Accepts b c)
+-- ---- one command
 
--- whether a reply is a refusal
-abbrev pub is_refusal : PlainReply → Bool
-is_refusal (plain.Refused why) = true
-is_refusal _ = false
+-- Memory has done the command: each array that it read as accepts it, and memory reads as what that makes of the array. No more room is taken than one command may take.
+pub record IsDone (was : Kept) (c : Command) (now : Kept) : Type 0 where
+  pub reads : (contents : Contents) (a : Array) → ReadsAs contents was.memory a → Accepts a c × ReadsAs contents now.memory (after a c)
+  pub patches : HasSamePatches was.memory.tables now.memory.tables
+  pub segments : (id : ℕ) → segment (facts now.memory.tables) id ≡ segment (facts was.memory.tables) id
+  pub next : now.memory.next ≡ next_after was.memory.next c.request
+  pub room : (logged : ℕ) → HasRoomFor was logged → HasRoomFor now (logged + 1)
 
--- an accepted command changes the array, and one that is refused leaves it
-abbrev pub IsApplied : Array → Command → Bool → Array → Type 0
-IsApplied a c true b = Accepts a c × (b ≡ after a c)
-IsApplied a c false b = (¬ (Accepts a c)) × (b ≡ a)
+-- an accepted command is done, and one that is refused leaves memory as it was
+abbrev pub IsApplied : Kept → Command → Bool → Kept → Type 0
+IsApplied was c true now = IsDone was c now
+IsApplied was c false now = ((contents : Contents) (a : Array) → ReadsAs contents was.memory a → ¬ (Accepts a c)) × (now ≡ was)
 
 -- why a command isn't applied: memory is wanting, or its form isn't served
 abbrev pub IsApplyFault : LogFault → Request → Type 0
 IsApplyFault (log_fault.Memory m) r = Unit {0}
 IsApplyFault log_fault.BothLost r = ⊥
 IsApplyFault log_fault.Unserved r = is_in_force r ≡ false
+
+-- ---- a log
+
+-- the first commands are accepted, one after the other, and the next one is refused
+pub record IsRun (a : Array) (commands : List Command) (count : ℕ) : Type 0 where
+  pub accepted : AllAccepted a (take count commands)
+  pub refused : (c : Command) → slice_get commands count ≡ Some c → ¬ (Accepts (after_all a (take count commands)) c)
+
+-- The first commands are of forms in force, and memory has done them: so it is for each array that memory read as. The next one is refused.
+pub record IsReplayed (was : Kept) (commands : List Command) (count : ℕ) (now : Kept) : Type 0 where
+  pub in_force : AllByRecursion (λ c. is_in_force c.request ≡ true) (take count commands)
+  pub reads : (contents : Contents) (a : Array) → ReadsAs contents was.memory a → IsRun a commands count × ReadsAs contents now.memory (after_all a (take count commands))
+  pub patches : HasSamePatches was.memory.tables now.memory.tables
+  pub segments : (id : ℕ) → segment (facts now.memory.tables) id ≡ segment (facts was.memory.tables) id
+  pub next : now.memory.next ≡ next_after_all was.memory.next (take count commands)
+  pub room : (logged : ℕ) → HasRoomFor was logged → HasRoomFor now (logged + count)
 
 -- one of the commands is of a form that isn't served
 pub record HasUnserved (commands : List Command) : Type 0 where

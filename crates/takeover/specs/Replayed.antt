@@ -1,29 +1,46 @@
--- The log that the NVRAM devices showed, and the array that it makes of nothing.
-use Rattle.std.specs.Prelude.{◌≡◌, ℕ, ◌<◌, true, false, Bool, List, [], length, Result, Ok, Err, ⊤}
+-- The log that the NVRAM devices showed, and what memory made of it.
+use Rattle.std.specs.Prelude.{◌≡◌, ℕ, ◌<◌, true, false, Bool, List, Result, Ok, Err, ⊤}
 use Rattle.std.specs.List.{AllByRecursion}
-use Rattle.pur_base.specs.Commands.{Command, after_all}
+use Rattle.pur_base.specs.Commands.{Command, AllAccepted, after_all}
 use Rattle.pur_base.specs.Devices.{nvram}
 use Rattle.pur_base.specs.Grammar.{is_in_force}
+use Rattle.pur_base.specs.Plain.{Array}
+use Rattle.pur_base.specs.Visible.{segment}
 use Rattle.log_codec.specs.Log.{ShowsIn, LogStands}
+use Rattle.memory_spec.specs.Memory.{Contents, ReadsAs}
+use Rattle.memory_spec.specs.Numbers.{next_after_all}
+use Rattle.memory_spec.specs.Tables.{facts}
+use Rattle.checkpoint_spec.specs.Whole.{AreLayered}
 use Rattle.world.specs.Shelf.{Shelved}
 use Rattle.nvram_log.specs.Held.{Keeps, shown_by}
 use Rattle.nvram_log.specs.Members.{IsFewer, IsMember}
 use Rattle.nvram_log.specs.Read.{DroppedCounted}
+use Rattle.array_memory.specs.Kept.{Kept, HasSamePatches}
+use Rattle.array_state.specs.Room.{HasRoomFor}
 use Rattle.takeover.specs.declared.log.OpenedLog.{OpenedLog}
 use Rattle.takeover.specs.declared.log.LogFault.{LogFault}
 use Rattle.takeover.specs.declared.log.LogFault.TheVariants as log_fault
 
--- The members that were read showed this log, of forms in force alone, and the array is what it makes of nothing. Each one that was named and wasn't read failed, and so did each that isn't left.
-pub record IsReplayedFrom (old new : Shelved) (nvrams : List Bool) (flushed : ℕ) (o : OpenedLog) : Type 0 where
+-- Memory has done the commands of the log, which are of forms in force and accepted: so it is for each array that memory read as.
+pub record HasReplayed (was : Kept) (o : OpenedLog) : Type 0 where
+  pub log : List Command
+  pub keeps : Keeps o.log log
+  pub in_force : AllByRecursion (λ c. is_in_force c.request ≡ true) log
+  pub reads : (contents : Contents) (a : Array) → ReadsAs contents was.memory a → AllAccepted a log × ReadsAs contents o.memory.memory (after_all a log)
+  pub patches : HasSamePatches was.memory.tables o.memory.memory.tables
+  pub segments : (id : ℕ) → segment (facts o.memory.memory.tables) id ≡ segment (facts was.memory.tables) id
+  pub layered : AreLayered o.memory.memory.tables
+  pub next : o.memory.memory.next ≡ next_after_all was.memory.next log
+  pub room : HasRoomFor was 0 → HasRoomFor o.memory o.log.count
+
+-- The members that were read showed the log of memory, from each array that it read as. Each one that was named and wasn't read failed, and so did each that isn't left.
+pub record IsReplayedFrom (old new : Shelved) (nvrams : List Bool) (flushed : ℕ) (was : Kept) (o : OpenedLog) : Type 0 where
   pub read : List Bool
   pub named : IsFewer nvrams read
   pub left : IsFewer read o.log.members
   pub log : List Command
-  pub log_stands : LogStands (shown_by old read) flushed [] log
-  pub in_force : AllByRecursion (λ c. is_in_force c.request ≡ true) log
   pub keeps : Keeps o.log log
-  pub plain : o.plain ≡ after_all [] log
-  pub count : o.log.count ≡ length log
+  pub log_stands : (contents : Contents) (a : Array) → ReadsAs contents was.memory a → LogStands (shown_by old read) flushed a log
   pub unread : DroppedCounted old new nvrams read
   pub dropped : DroppedCounted old new nvrams o.log.members
 
@@ -38,7 +55,7 @@ pub record ShowedUnserved (old : Shelved) (nvrams : List Bool) (flushed : ℕ) :
   pub unserved : is_in_force command.request ≡ false
 
 -- the log was replayed, or why not
-abbrev pub IsReplayedBy : Shelved → Shelved → List Bool → ℕ → Result OpenedLog LogFault → Type 0
-IsReplayedBy old new nvrams flushed (Ok o) = IsReplayedFrom old new nvrams flushed o
-IsReplayedBy old new nvrams flushed (Err log_fault.Unserved) = ShowedUnserved old nvrams flushed
-IsReplayedBy old new nvrams flushed (Err e) = ⊤
+abbrev pub IsReplayedBy : Shelved → Shelved → List Bool → ℕ → Kept → Result OpenedLog LogFault → Type 0
+IsReplayedBy old new nvrams flushed was (Ok o) = IsReplayedFrom old new nvrams flushed was o
+IsReplayedBy old new nvrams flushed was (Err log_fault.Unserved) = ShowedUnserved old nvrams flushed
+IsReplayedBy old new nvrams flushed was (Err e) = ⊤

@@ -1,11 +1,16 @@
 -- What the drives showed when the record was found, and the moments from there on at which it may still be given.
-use Rattle.std.specs.Prelude.{◌≡◌, ◌⊎◌, ℕ, ◌<◌, List, [], true, Some, None, Result, Ok, Err, ⊤}
+use Rattle.std.specs.Prelude.{◌≡◌, ◌⊎◌, ℕ, ◌<◌, List, true, Some, None, Result, Ok, Err, ⊤}
 use Rattle.pur_base.specs.declared.device.Device.{Device}
+use Rattle.pur_base.specs.declared.limits.TheConstants.{BOOT_UNITS}
 use Rattle.pur_base.specs.Devices.{View, Conditions, IsBearable, drive, nvram}
 use Rattle.pur_base.specs.Plain.{Array}
-use Rattle.boot_codec.specs.Region.{IsEffective, of_members}
+use Rattle.pur_base.specs.declared.facts.AnyFact.{AnyFact}
+use Rattle.boot_codec.specs.Region.{BootSlot, IsEffective, body_in, of_members}
 use Rattle.boot_codec.specs.Spelling.{spelling}
+use Rattle.array_spec.specs.Laws.{DiffersOnlyIn}
 use Rattle.array_spec.specs.Standing.{MayBeGiven}
+use Rattle.array_spec.specs.Stored.{PatchesStand}
+use Rattle.memory_spec.specs.Tables.{patches}
 use Rattle.world.specs.Losing.{geometry_of, has_failed}
 use Rattle.world.specs.Shelf.{Shelved, Stop, LeavesOnly}
 use Rattle.session_spec.specs.Entering.{Enters, OnlyFailedAreSilent, read_now, failed_by}
@@ -13,6 +18,7 @@ use Rattle.session_spec.specs.Headline.{HasNoArray, HasTooFew}
 use Rattle.boot_region.specs.declared.loading.Loaded.{Loaded}
 use Rattle.boot_region.specs.Members.{IsMember}
 use Rattle.boot_region.specs.Slots.{slot_in}
+use Rattle.takeover.specs.declared.tables.FoundArray.{FoundArray}
 use Rattle.takeover.specs.declared.faults.OpenFault.{OpenFault}
 use Rattle.takeover.specs.declared.faults.OpenFault.TheVariants as open_fault
 
@@ -32,7 +38,9 @@ pub record IsSeenIn (old new : Shelved) (x : Loaded) : Type 0 where
   pub held : (i : ℕ) → IsMember x.drives i → of_members (slot_in x.slot) x.record view (drive i) ≡ Some (old.disk (drive i)).bytes
   -- one that isn't left did not, or failed
   pub dropped : (i : ℕ) → i < old.drives → IsMember x.drives i ⊎ (of_members (slot_in x.slot) x.record view (drive i) ≡ None) ⊎ (has_failed (read_now old) (read_now new) (drive i) ≡ true)
-  pub unflushed : x.record.patches ≡ []
+  -- of the drives nothing but boot units has changed, and no body
+  pub only_boot : DiffersOnlyIn (λ drive unit. unit < BOOT_UNITS) (read_now old).image (read_now new).image
+  pub bodies : (slot : BootSlot) (i : ℕ) → body_in slot (new.disk (drive i)).bytes ≡ body_in slot (old.disk (drive i)).bytes
   pub given : (missing : Conditions) (arrays : List Array) → Enters old missing arrays → LeavesOnly old new (IsGivenFrom old view x missing)
 
 -- the record was found, or why not
@@ -42,7 +50,27 @@ IsSeenBy old new (Err (open_fault.Memory m)) = ⊤
 IsSeenBy old new (Err open_fault.NoArray) = HasNoArray old new
 IsSeenBy old new (Err (open_fault.BadRecord e)) = HasNoArray old new
 IsSeenBy old new (Err open_fault.Spent) = HasNoArray old new
-IsSeenBy old new (Err open_fault.HasPatches) = HasNoArray old new
+IsSeenBy old new (Err (open_fault.BadPatch t)) = ⊥
+IsSeenBy old new (Err (open_fault.Unsound t)) = ⊥
 IsSeenBy old new (Err (open_fault.TooFew drives)) = HasTooFew old new
 IsSeenBy old new (Err open_fault.BothLost) = ⊥
 IsSeenBy old new (Err open_fault.Unserved) = ⊥
+
+-- So it was, and no other facts stand as its patches, where the drives that it gave are members.
+pub record AreTablesSeen (old new : Shelved) (f : FoundArray) : Type 0 where
+  pub seen : IsSeenIn old new f.loaded
+  pub no_other : (members : View) → ((i : ℕ) → members (drive i) ≡ of_members (slot_in f.loaded.slot) f.loaded.record seen.view (drive i))
+      → (there : List (List AnyFact)) → PatchesStand members f.loaded.record there → there ≡ patches f.memory.memory.tables
+
+-- the record was found and its tables were read, or why not
+abbrev pub AreTablesSeenBy : Shelved → Shelved → Result FoundArray OpenFault → Type 0
+AreTablesSeenBy old new (Ok f) = AreTablesSeen old new f
+AreTablesSeenBy old new (Err (open_fault.Memory m)) = ⊤
+AreTablesSeenBy old new (Err open_fault.NoArray) = HasNoArray old new
+AreTablesSeenBy old new (Err (open_fault.BadRecord e)) = HasNoArray old new
+AreTablesSeenBy old new (Err (open_fault.BadPatch t)) = HasNoArray old new
+AreTablesSeenBy old new (Err (open_fault.Unsound t)) = HasNoArray old new
+AreTablesSeenBy old new (Err open_fault.Spent) = HasNoArray old new
+AreTablesSeenBy old new (Err (open_fault.TooFew drives)) = HasTooFew old new
+AreTablesSeenBy old new (Err open_fault.BothLost) = ⊥
+AreTablesSeenBy old new (Err open_fault.Unserved) = ⊥

@@ -1,13 +1,15 @@
 // Why an array isn't opened.
-ghost use Rattle.std.specs.Prelude.{◌≡◌};
-ghost use Rattle.takeover.specs.Faults.{fault_of, fault_of_log, fault_of_store};
+ghost use Rattle.std.specs.Prelude.{◌≡◌, ◌<◌, ◌&&◌, ℕ, not};
+ghost use Rattle.segment_io.specs.Lost.{is_in};
+ghost use Rattle.takeover.specs.Faults.{fault_of, fault_of_log, fault_of_store, IsFaultOfTables};
 ghost use Rattle.takeover.specs.declared.faults.OpenFault.TheVariants as open_fault;
 
 use crate::LogFault;
 use boot_codec::{BadRecord, DRIVE_FLAGS};
 use boot_region::LoadFault;
-use pur_base::NoMemory;
+use pur_base::{NoMemory, Table};
 use register::StoreFault;
+use table_loading::TablesFault;
 
 /// Why an array wasn't opened.
 #[derive(Clone, Copy, Debug, PartialEq, Eq, Drop)]
@@ -18,8 +20,10 @@ pub enum OpenFault {
     BadRecord(BadRecord),
     /// More than two drives of the shelf are missing from these.
     TooFew([bool; DRIVE_FLAGS]),
-    /// The record names patches, which aren't read yet.
-    HasPatches,
+    /// No facts of that table stand as a patch that the record names.
+    BadPatch(Table),
+    /// The tables of the record aren't sound: that one is at fault.
+    Unsound(Table),
     /// No NVRAM device is left.
     BothLost,
     /// The log has a command of a form that isn't served yet.
@@ -70,5 +74,30 @@ impl From<StoreFault> for OpenFault {
             StoreFault::Spent => OpenFault::Spent,
             StoreFault::TooFew(drives) => OpenFault::TooFew(drives),
         }
+    }
+}
+
+/// The drives that are left without those that are lost.
+fn left_of(drives: &[bool; DRIVE_FLAGS], lost: &[bool; DRIVE_FLAGS]) -> [bool; DRIVE_FLAGS]
+    ensures { (slot : ℕ) → slot < DRIVE_FLAGS → is_in result slot ≡ (is_in drives.now slot && not (is_in lost.now slot)) }
+{
+    let mut left = *drives;
+    for slot in 0..DRIVE_FLAGS {
+        if lost[slot] {
+            left[slot] = false;
+        }
+    }
+    left
+}
+
+/// The fault of tables that weren't loaded from these drives.
+pub(crate) fn fault_of_tables(fault: TablesFault, drives: &[bool; DRIVE_FLAGS]) -> OpenFault
+    ensures { IsFaultOfTables fault result }
+{
+    match fault {
+        TablesFault::BadPatch(table) => OpenFault::BadPatch(table),
+        TablesFault::Unsound(table) => OpenFault::Unsound(table),
+        TablesFault::Lost(lost) => OpenFault::TooFew(left_of(drives, &lost.drives)),
+        TablesFault::Memory(none) => OpenFault::Memory(none),
     }
 }

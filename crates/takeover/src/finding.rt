@@ -1,7 +1,7 @@
 // The boot record is found and settled.
 ghost use Rattle.std.specs.Prelude.{◌≡◌, ◌⊎◌, ◌<◌, ◌≤◌, ◌+◌, ℕ, List, [], IfOk, Some, None, true};
 ghost use Rattle.pur_base.specs.declared.device.Device.{Device};
-ghost use Rattle.pur_base.specs.Devices.{Conditions, IsBearable, drive, nvram};
+ghost use Rattle.pur_base.specs.Devices.{Conditions, IsBearable, IsWithin, drive, nvram};
 ghost use Rattle.pur_base.specs.Gates.{is_open};
 ghost use Rattle.pur_base.specs.Plain.{Array};
 ghost use Rattle.boot_codec.specs.Record.{set_count};
@@ -89,15 +89,12 @@ pub fn find_record<S: Shelf>(alloc: Global, shelf: &mut S) -> Result<Loaded, Ope
     // At its end nothing is dirty on devices that aren't missing.
     ensures clean { (S.shelf shelf.old).honest → (missing : Conditions) (arrays : List Array) → Enters (S.shelf shelf.old) missing arrays
         → AreClean (S.shelf shelf.new) (failed_since (S.shelf shelf.old) (S.shelf shelf.new) missing) }
-    // Where no more is missing than is borne it is found.
+    // Where no more is missing than is borne it is found, also where more has gone missing since.
     ensures found { (S.shelf shelf.old).honest → (missing : Conditions) (arrays : List Array) → Enters (S.shelf shelf.old) missing arrays
-        → IsBearable (geometry_of (S.shelf shelf.old)) (failed_since (S.shelf shelf.old) (S.shelf shelf.new) missing)
-        → IsFoundBy (S.shelf shelf.new) (failed_since (S.shelf shelf.old) (S.shelf shelf.new) missing) arrays result }
+        → (later : Conditions) → IsWithin (failed_since (S.shelf shelf.old) (S.shelf shelf.new) missing) later → IsBearable (geometry_of (S.shelf shelf.old)) later
+        → IsFoundBy (S.shelf shelf.new) later arrays result }
 {
     let mut loaded = load(alloc, shelf)?;
-    if loaded.record.patches.len() != 0 {
-        return Err(OpenFault::HasPatches);
-    }
     settle_loaded(shelf, &mut loaded);
     if count_set(&loaded.drives) + MISSING_MAX < shelf.drives() as usize {
         return Err(OpenFault::TooFew(loaded.drives));

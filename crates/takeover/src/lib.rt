@@ -7,8 +7,10 @@ mod finding;
 mod log;
 mod recovering;
 mod replay;
+mod tables;
 
 pub use faults::OpenFault;
 pub use finding::find_record;
 pub use log::{LogFault, OpenedLog, open_log};
-pub use recovering::{Recovered, recover};
+pub use recovering::recover;
+pub use tables::{FoundArray, find_array};

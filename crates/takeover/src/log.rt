@@ -4,10 +4,12 @@ ghost use Rattle.pur_base.specs.Commands.{Command};
 ghost use Rattle.pur_base.specs.declared.device.Device.{Device};
 ghost use Rattle.pur_base.specs.Devices.{Conditions, IsBearable, drive, nvram};
 ghost use Rattle.pur_base.specs.Plain.{Array};
+ghost use Rattle.pur_base.specs.declared.facts.AnyFact.{AnyFact};
 ghost use Rattle.pur_base.specs.declared.limits.TheConstants.{REQUEST_SECTORS};
 ghost use Rattle.world.specs.Losing.{geometry_of};
 ghost use Rattle.world.specs.Shelf.{Continues, IsCountedBy, LeavesOnly};
 ghost use Rattle.world.specs.Writes.{WritesOnly};
+ghost use Rattle.checkpoint_spec.specs.Whole.{AreLayered};
 ghost use Rattle.boot_region.specs.declared.loading.Loaded.{Loaded};
 ghost use Rattle.nvram_log.specs.Held.{Keeps, shown_by};
 ghost use Rattle.nvram_log.specs.Members.{IsFewer, IsMember, IsSome, OnMembers};
@@ -18,11 +20,12 @@ ghost use Rattle.takeover.specs.Found.{IsFoundOn};
 ghost use Rattle.takeover.specs.LogOpen.{IsLogFault, IsLogOpenBy};
 ghost use Rattle.takeover.specs.Opened.{AreClean};
 ghost use Rattle.takeover.specs.Replay.{IsReplayed, IsReplayFault, log_fault_of};
-ghost use Rattle.takeover.specs.Replayed.{IsReplayedBy};
+ghost use Rattle.takeover.specs.Replayed.{HasReplayed, IsReplayedBy};
+ghost use Rattle.takeover.specs.Tables.{HasTables};
 ghost use Rattle.takeover.specs.declared.log.LogFault.TheVariants as faults;
 
 use crate::replay::replay;
-use array_model::Plain;
+use array_memory::Memory;
 use nvram_log::{BothLost, NvLog, ReadFault, sync_members};
 use pur_base::{NoMemory, REQUEST_SECTORS, Sector};
 use std::alloc::Global;
@@ -31,11 +34,11 @@ use world::Shelf;
 /// The NVRAM devices of a shelf.
 const DEVICES: usize = 2;
 
-/// The log of the array, and the array that its commands make of nothing.
+/// The log of the array, and memory in which its commands are done.
 #[derive(Drop)]
 pub struct OpenedLog {
     pub log: NvLog,
-    pub plain: Plain,
+    pub memory: Memory,
 }
 
 /// Why the log wasn't opened.
@@ -75,23 +78,25 @@ impl From<BothLost> for LogFault {
     }
 }
 
-/// What the commands of a log make of nothing, up to the first that is refused, and how many there are before it.
+/// Memory in which the commands of a log are done, up to the first that is refused, and how many there are before it.
 #[derive(Drop)]
 struct Replayed {
-    plain: Plain,
+    memory: Memory,
     count: usize,
 }
 
-/// Applies the commands of the log to the empty array.
-fn replay_log(alloc: Global, log: &NvLog) -> Result<Replayed, LogFault>
+/// Applies the commands of the log to memory.
+fn replay_log(alloc: Global, log: &NvLog, mut memory: Memory) -> Result<Replayed, LogFault>
+    requires { (commands : List Command) × Keeps log.now commands }
     ensures within { IfOk result (λ made. made.count ≤ log.now.count) }
-    ensures ok { IfOk result (λ made. (commands : List Command) → Keeps log.now commands → IsReplayed [] commands made.count made.plain) }
+    ensures ok { IfOk result (λ made. (commands : List Command) → Keeps log.now commands → IsReplayed memory commands made.count made.memory) }
+    ensures layered { IfOk result (λ made. AreLayered made.memory.memory.tables) }
     ensures err { IfErr result (λ fault. IsReplayFault fault log.now) }
 {
-    let mut plain = Plain::new(alloc);
     let mut room = sector_room(alloc)?;
-    let count = replay(&mut plain, log, &mut room)?;
-    Ok(Replayed { plain, count })
+    let count = replay(&mut memory, log, &mut room)?;
+    memory.layered();
+    Ok(Replayed { memory, count })
 }
 
 /// Room for the sectors of a command.
@@ -126,12 +131,13 @@ fn read_synced<S: Shelf>(
     NvLog::read(alloc, shelf, members, flushed)
 }
 
-/// Reads the log of the members, applies its commands to the empty array, and settles it on the devices: it ends before the first command that the array refuses.
+/// Reads the log of the members, applies its commands to memory, and settles it on the devices: it ends before the first command that the array refuses.
 pub fn open_log<S: Shelf>(
     alloc: Global,
     shelf: &mut S,
     nvrams: [bool; DEVICES],
     flushed: u64,
+    memory: Memory,
 ) -> Result<OpenedLog, LogFault>
     ensures continues { Continues (S.shelf shelf.old) (S.shelf shelf.new) }
     ensures rest { S.shelf_rest shelf.old shelf.new }
@@ -139,28 +145,30 @@ pub fn open_log<S: Shelf>(
     ensures drives { (i : ℕ) → (S.shelf shelf.new).disk (drive i) ≡ (S.shelf shelf.old).disk (drive i) }
     ensures flushed { IfOk result (λ o. o.log.flushed ≡ flushed) }
     ensures members { IfOk result (λ o. IsFewer nvrams o.log.members × IsSome o.log.members) }
+    // Memory has done the commands that are left of the log.
+    ensures done { IfOk result (HasReplayed memory) }
     ensures err { IfErr result (λ fault. IsLogFault fault (S.shelf shelf.old) (S.shelf shelf.new) nvrams flushed) }
     // A stop at any moment counts no fewer failed calls than there were.
     ensures moments { (S.shelf shelf.old).honest → LeavesOnly (S.shelf shelf.old) (S.shelf shelf.new) (IsCountedBy (S.shelf shelf.old)) }
-    // The log that the devices showed makes the array, or one showed a command that isn't served.
-    ensures replayed { (S.shelf shelf.old).honest → IsReplayedBy (S.shelf shelf.old) (S.shelf shelf.new) nvrams flushed result }
+    // The log is what the devices showed, from each array that memory read as, or one showed a command that isn't served.
+    ensures replayed { (S.shelf shelf.old).honest → IsReplayedBy (S.shelf shelf.old) (S.shelf shelf.new) nvrams flushed memory result }
     // At every moment the devices stand for the arrays for which they stood, and nothing was stored.
-    ensures any_moment { (S.shelf shelf.old).honest → (x : Loaded) (missing : Conditions) (arrays : List Array) → x.record.members.nvrams ≡ nvrams → x.record.flushed ≡ flushed
-        → IsFoundOn (S.shelf shelf.old) x missing arrays
+    ensures any_moment { (S.shelf shelf.old).honest → (x : Loaded) (missing : Conditions) (arrays : List Array) (patches : List (List AnyFact)) (base : Array) → x.record.members.nvrams ≡ nvrams → x.record.flushed ≡ flushed
+        → IsFoundOn (S.shelf shelf.old) x missing arrays → HasTables (S.shelf shelf.old) x memory patches base
         → LeavesOnly (S.shelf shelf.old) (S.shelf shelf.new) (StandsStill (S.shelf shelf.old) None missing arrays) }
     // Where nothing was dirty on devices that aren't missing, nothing is, whatever the result.
     ensures clean { (S.shelf shelf.old).honest → (missing : Conditions) → AreClean (S.shelf shelf.old) missing → AreClean (S.shelf shelf.new) (failed_since (S.shelf shelf.old) (S.shelf shelf.new) missing) }
     // Where no more is missing than is borne it is opened.
-    ensures opened { (S.shelf shelf.old).honest → (x : Loaded) (missing : Conditions) (arrays : List Array) → x.record.members.nvrams ≡ nvrams → x.record.flushed ≡ flushed
-        → IsFoundOn (S.shelf shelf.old) x missing arrays
+    ensures opened { (S.shelf shelf.old).honest → (x : Loaded) (missing : Conditions) (arrays : List Array) (patches : List (List AnyFact)) (base : Array) → x.record.members.nvrams ≡ nvrams → x.record.flushed ≡ flushed
+        → IsFoundOn (S.shelf shelf.old) x missing arrays → HasTables (S.shelf shelf.old) x memory patches base
         → IsBearable (geometry_of (S.shelf shelf.old)) (failed_since (S.shelf shelf.old) (S.shelf shelf.new) missing)
-        → IsLogOpenBy (S.shelf shelf.new) x (failed_since (S.shelf shelf.old) (S.shelf shelf.new) missing) arrays result }
+        → IsLogOpenBy (S.shelf shelf.new) x (failed_since (S.shelf shelf.old) (S.shelf shelf.new) missing) arrays patches base result }
 {
     let mut log = read_synced(alloc, shelf, nvrams, flushed)?;
-    let made = replay_log(alloc, &log)?;
+    let made = replay_log(alloc, &log, memory)?;
     log.settle(made.count, shelf)?;
     Ok(OpenedLog {
         log,
-        plain: made.plain,
+        memory: made.memory,
     })
 }

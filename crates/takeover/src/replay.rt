@@ -1,20 +1,26 @@
-// The commands of a log are applied to an array.
-ghost use Rattle.std.specs.Prelude.{◌≡◌, ℕ, ◌+◌, ◌*◌, ◌≤◌, List, [], true, length, Ok, IfOk, IfErr};
+// The commands of a log are applied to memory.
+ghost use Rattle.std.specs.Prelude.{◌≡◌, ◌↔◌, ℕ, ◌+◌, ◌*◌, ◌≤◌, List, true, length, IsTrue, Ok, IfOk, IfErr, OnOk};
 ghost use Rattle.pur_base.specs.Bytes.{bytes_at};
 ghost use Rattle.std.specs.List.{AllByRecursion, concat};
 ghost use Rattle.pur_base.specs.Bytes.{IsBytesOf};
-ghost use Rattle.pur_base.specs.Commands.{Command};
+ghost use Rattle.pur_base.specs.Commands.{Command, Accepts};
+ghost use Rattle.pur_base.specs.Plain.{Array};
 ghost use Rattle.pur_base.specs.Grammar.{data_count, is_in_force};
-ghost use Rattle.pur_base.specs.declared.limits.TheConstants.{SECTOR_BYTES, REQUEST_SECTORS};
+ghost use Rattle.log_codec.specs.Head.{IsCommand};
 ghost use Rattle.log_codec.specs.Log.{HasSpelling};
 ghost use Rattle.nvram_log.specs.Held.{Keeps};
 ghost use Rattle.nvram_log.specs.Logged.{IsReadAs};
-ghost use Rattle.takeover.specs.Replay.{IsApplied, IsApplyFault, IsReplayed, IsReplayFault, is_refusal};
+ghost use Rattle.array_memory.specs.Asked.{AreLeft, IsAllowed};
+ghost use Rattle.array_memory.specs.Lawful.{IsLawful};
+ghost use Rattle.memory_spec.specs.Memory.{Contents, ReadsAs};
+ghost use Rattle.takeover.specs.Replay.{IsApplied, IsApplyFault, IsDone, IsReplayed, IsReplayFault};
 
 use crate::LogFault;
-use array_model::{Plain, PlainReply, plain_step};
+use array_memory::Memory;
+use boot_codec::{NUMBER_LIMIT, NextNumbers};
 use nvram_log::{Logged, NvLog};
-use pur_base::{SECTOR_BYTES, Sector};
+use pur_base::{NoMemory, REQUEST_SECTORS, SECTOR_BYTES, Sector};
+use volume_ops::refusal;
 
 /// The i-th of the sectors that stand one behind another.
 fn sector_at(bytes: &[u8], i: usize) -> Sector
@@ -37,19 +43,23 @@ fn copy_sectors(bytes: &[u8], into: &mut [Sector])
     }
 }
 
-/// Whether that is a refusal.
-fn is_refused(reply: &PlainReply) -> bool
-    ensures { result ≡ is_refusal reply.now }
+/// Whether ids and sequence numbers are left for any one request.
+fn are_left(next: &NextNumbers) -> bool
+    ensures { IsTrue result ↔ AreLeft next.now }
 {
-    matches!(reply, PlainReply::Refused(_))
+    next.object < NUMBER_LIMIT - 1
+        && next.medium < NUMBER_LIMIT - 1
+        && next.sequence < NUMBER_LIMIT - REQUEST_SECTORS as u64
 }
 
-/// Applies a command of the log, its sectors copied into the room. Whether the array accepts it.
-fn apply(plain: &mut Plain, logged: &Logged, room: &mut [Sector]) -> Result<bool, LogFault>
+/// Applies a command of the log, its sectors copied into the room. Whether the array that memory reads as accepts it.
+/// `Memory` is also where no numbers are left: a request is refused long before.
+fn apply(memory: &mut Memory, logged: &Logged, room: &mut [Sector]) -> Result<bool, LogFault>
     requires room { length room.old ≡ REQUEST_SECTORS }
     requires sectors { (length logged.now.sectors.now ≡ SECTOR_BYTES * data_count logged.now.head.command) × (data_count logged.now.head.command ≤ REQUEST_SECTORS) }
+    requires command { IsCommand logged.now.head.command }
     ensures room { length room.new ≡ length room.old }
-    ensures ok { IfOk result (λ accepted. (number : ℕ) (c : Command) → HasSpelling number c → IsReadAs (Ok logged.now) number c → IsApplied plain.old c accepted plain.new) }
+    ensures ok { IfOk result (λ accepted. (number : ℕ) (c : Command) → HasSpelling number c → IsReadAs (Ok logged.now) number c → IsApplied memory.old c accepted memory.new) }
     ensures in_force { IfOk result (λ accepted. is_in_force logged.now.head.command ≡ true) }
     ensures err { IfErr result (λ fault. IsApplyFault fault logged.now.head.command) }
 {
@@ -57,24 +67,50 @@ fn apply(plain: &mut Plain, logged: &Logged, room: &mut [Sector]) -> Result<bool
     if !request.is_in_force() {
         return Err(LogFault::Unserved);
     }
-    let count = request.data_sectors() as usize;
-    copy_sectors(logged.sectors, &mut room[..count]);
-    let reply = plain_step(plain, request, &room[..count])?;
-    Ok(!is_refused(&reply))
+    if refusal(memory, request).is_some() {
+        return Ok(false);
+    }
+    if !are_left(&memory.next()) {
+        return Err(LogFault::Memory(NoMemory));
+    }
+    do_accepted(memory, logged, room)?;
+    Ok(true)
 }
 
-/// Applies the commands of the log to the array, up to the first that it refuses. How many it accepts before.
-pub fn replay(plain: &mut Plain, log: &NvLog, room: &mut [Sector]) -> Result<usize, LogFault>
-    requires { length room.old ≡ REQUEST_SECTORS }
+/// Does a command that memory allows.
+fn do_accepted(memory: &mut Memory, logged: &Logged, room: &mut [Sector]) -> Result<(), NoMemory>
+    requires room { length room.old ≡ REQUEST_SECTORS }
+    requires sectors { (length logged.now.sectors.now ≡ SECTOR_BYTES * data_count logged.now.head.command) × (data_count logged.now.head.command ≤ REQUEST_SECTORS) }
+    requires lawful { IsLawful logged.now.head.command }
+    requires allowed { IsAllowed memory.old.objects logged.now.head.command }
+    requires numbers { AreLeft memory.old.memory.next }
+    ensures room { length room.new ≡ length room.old }
+    ensures done { OnOk result ((number : ℕ) (c : Command) → HasSpelling number c → IsReadAs (Ok logged.now) number c
+        → ((contents : Contents) (a : Array) → ReadsAs contents memory.old.memory a → Accepts a c) → IsDone memory.old c memory.new) }
+{
+    let request = &logged.head.command;
+    memory.kept();
+    memory.prepare(request)?;
+    let count = request.data_sectors() as usize;
+    copy_sectors(logged.sectors, &mut room[..count]);
+    memory.apply(request, &room[..count]);
+    memory.kept();
+    Ok(())
+}
+
+/// Applies the commands of the log to memory, up to the first that the array refuses. How many it accepts before.
+pub fn replay(memory: &mut Memory, log: &NvLog, room: &mut [Sector]) -> Result<usize, LogFault>
+    requires room { length room.old ≡ REQUEST_SECTORS }
+    requires kept { (commands : List Command) × Keeps log.now commands }
     ensures within { IfOk result (λ count. count ≤ log.now.count) }
-    ensures ok { IfOk result (λ count. (commands : List Command) → Keeps log.now commands → IsReplayed plain.old commands count plain.new) }
+    ensures ok { IfOk result (λ count. (commands : List Command) → Keeps log.now commands → IsReplayed memory.old commands count memory.new) }
     ensures err { IfErr result (λ fault. IsReplayFault fault log.now) }
 {
     for i in 0..log.count() {
         let Ok(logged) = log.record_at(i) else {
             return Err(LogFault::Unserved);
         };
-        if !apply(plain, &logged, room)? {
+        if !apply(memory, &logged, room)? {
             return Ok(i);
         }
     }

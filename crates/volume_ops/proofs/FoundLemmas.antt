@@ -5,29 +5,20 @@ use Rattle.std.proofs.lemmas.Bool.{false_from_ne_true, cases_lt}
 use Rattle.std.proofs.lemmas.Option.{slice_get_past}
 use Rattle.std.proofs.lemmas.List.Elements.{All-contains}
 use Rattle.pur_base.specs.Plain.{Array, has, sectors_of, is_snapshot}
-use Rattle.pur_base.specs.Visible.{objects, is_elided}
-use Rattle.pur_base.specs.declared.request.Table.TheVariants as table
+use Rattle.pur_base.specs.Visible.{objects}
 use Rattle.pur_base.specs.declared.facts.ObjectFact.{ObjectFact}
 use Rattle.array_spec.specs.Base.{is_snapshot as is_snapshot_kind}
-use Rattle.pyramid.proofs.LayerLemmas.{all_contained}
-use Rattle.object_table.proofs.ObjectLemmas.{by_ids}
 use Rattle.memory_spec.specs.Tables.{facts}
 use Rattle.memory_spec.specs.Memory.{EntryReads}
 use Rattle.memory_spec.specs.Reading.{IsEntry, AreEntries}
 use Rattle.memory_spec.proofs.Lists.{zip_left, not_both}
 use Rattle.memory_spec.proofs.Entries.{entries_read}
 use Rattle.array_memory.specs.Kept.{Kept, IsKept}
-use Rattle.array_memory.proofs.KeptLemmas.{ids_of}
+use Rattle.array_memory.proofs.KeptLemmas.{visible_are}
 use Rattle.volume_ops.specs.declared.listing.ObjectEntry.{ObjectEntry}
 use Rattle.volume_ops.specs.OfArray.{OfArray, HasObject, HasFound, line_of}
 
--- the visible objects are those that the facts say
-pub visible_are : (k : Kept) → IsKept k → k.objects ≡ objects (facts k.memory.tables) k.memory.next.object
-visible_are k h =
-    by_ids (facts k.memory.tables).objects (is_elided (facts k.memory.tables).elisions table.Object) k.memory.next.object k.objects (omega (arith, h.next.object.1))
-    (all_contained (λ (f : ObjectFact). f.object.0 < k.memory.next.object) (facts k.memory.tables).objects (λ f c. (ids_of k h f c).0)) h.objects
-
--- so they are the entries of the array
+-- the visible objects are the entries of the array
 pub entries_are : (k : Kept) → IsKept k → OfArray k.memory (AreEntries k.objects)
 entries_are k h contents array r = subst (λ l. AreEntries l array) (sym (visible_are k h)) (entries_read contents k.memory array r)
 

@@ -1,4 +1,4 @@
-ghost use Rattle.std.specs.Prelude.{◌≡◌, ◌≤◌, None, true};
+ghost use Rattle.std.specs.Prelude.{◌≡◌, ◌<◌, ◌≤◌, None, true, false, length};
 ghost use Rattle.pur_base.specs.Names.{is_name};
 ghost use Rattle.pur_base.specs.Plain.{refusal as refusal_of, first_cause, overwrite_causes, read_causes, derive_causes, is_full as has_full, is_no_size as has_no_size, has as has_name};
 ghost use Rattle.pur_base.specs.declared.request.Request.TheVariants.{Create as CreateForm, Copy as CopyForm, Destroy as DestroyForm};
@@ -28,7 +28,8 @@ fn has(memory: &Memory, name: &Name) -> bool
 
 /// Whether there are as many objects as there may be.
 fn is_full(memory: &Memory) -> bool
-    ensures { OfArray memory.now.memory (λ array. result ≡ has_full array) }
+    ensures array { OfArray memory.now.memory (λ array. result ≡ has_full array) }
+    ensures objects { result ≡ false → length memory.now.objects < OBJECTS }
 {
     OBJECTS <= len(memory)
 }

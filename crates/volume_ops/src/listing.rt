@@ -16,7 +16,8 @@ pub struct ObjectEntry {
 
 /// The number of volumes and snapshots.
 pub fn len(memory: &Memory) -> usize
-    ensures { OfArray memory.now.memory (λ array. result ≡ length array) }
+    ensures array { OfArray memory.now.memory (λ array. result ≡ length array) }
+    ensures objects { result ≡ length memory.now.objects }
 {
     memory.kept();
     memory.len()

@@ -21,6 +21,16 @@ impl ObjectTable {
         self.facts.flushed(alloc)
     }
 
+    /// Reserves room for one patch more. Nothing else changes, whatever is answered.
+    pub fn reserve_patch(&mut self) -> Result<(), NoMemory>
+        ensures room { OnOk result (0 < self.new.facts.patch_room) }
+        ensures room_left { self.old.facts.patch_room ≤ self.new.facts.patch_room }
+        ensures facts { self.new.facts ≡ record self.old.facts { patch_room = self.new.facts.patch_room } }
+        ensures rest { self.new ≡ record self.old { facts = self.new.facts } }
+    {
+        self.facts.reserve_patch()
+    }
+
     /// The second half of a flush: the patch is the newest one, and no fact is unflushed. It takes no memory.
     pub fn put_flushed(&mut self, patch: Option<Patch<ObjectFact>>)
         requires patch_room { 0 < self.old.facts.patch_room }

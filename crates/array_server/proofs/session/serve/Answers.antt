@@ -1,15 +1,17 @@
-use Rattle.std.proofs.Common.{◌≡◌, inl, inr, ℕ, List, sym, subst, Bool, false}
+use Rattle.std.proofs.Common.{◌≡◌, inl, inr, ℕ, List, refl, sym, subst, ap, ◌∙◌, Bool, false}
 use Rattle.pur_base.specs.declared.reply.Status.{Status}
+use Rattle.pur_base.specs.Devices.{Geometry}
+use Rattle.world.specs.Losing.{geometry_of}
 use Rattle.world.proofs.Moments.{continues_trans}
+use Rattle.request_codec.proofs.CallLemmas.{both}
 use Rattle.session_spec.specs.Ends.{RisesIf, is_source, is_sink}
 use Rattle.session_spec.specs.Headline.{Unopened, Served}
 use Rattle.session_spec.proofs.Resumed.{may_want_memory}
-use Rattle.array_server.specs.declared.engine.Engine.{Engine}
-use Rattle.array_server.specs.Sessions.{BeginsAt, IsServedFrom}
-use Rattle.array_server.specs.Whole.{IsLawful}
-use Rattle.array_server.proofs.Begun.{begins, engine_is, first_of, engine_of}
-use Rattle.array_server.proofs.Headlines.{served, unopened, no_stream}
-use Rattle.array_server.proofs.LawfulLog.{lawful_log}
+use Rattle.array_state.specs.declared.array.Array.{Array}
+use Rattle.array_engine.specs.declared.engine.Engine.{Engine}
+use Rattle.array_session.specs.Sessions.{BeginsAt, IsServedFrom}
+use Rattle.array_server.proofs.Begun.{engine_of}
+use Rattle.array_server.proofs.Headlines.{served, unopened, no_stream, reads_some}
 use Rattle.array_server.proofs.session.serve.Goals as goal
 
 pub returns-in_default-clause-survives : goal.returns-in_default-clause-survives
@@ -18,8 +20,36 @@ returns-in_default-clause-survives g c = λ h hs hk. may_want_memory (g.W.Shelf.
 pub returns-in_default-new-clause-survives : goal.returns-in_default-new-clause-survives
 returns-in_default-new-clause-survives g c = λ h hs hk. may_want_memory (g.W.Shelf.shelf c.args.world.now) (g.W.Source.source c.args.world.now) (g.W.Sink.sink c.args.world.now) (g.met.W.Shelf.is_shelf c.args.world.now)
 
+pub returns-in_default-new-2-clause-survives : goal.returns-in_default-new-2-clause-survives
+returns-in_default-new-2-clause-survives g c = λ h hs hk. may_want_memory (g.W.Shelf.shelf c.args.world.now) (g.W.Source.source c.args.world.now) (g.W.Sink.sink c.args.world.now) (g.met.W.Shelf.is_shelf c.args.world.now)
+
 pub returns-in-Ok-recover-clause-continues : goal.returns-in-Ok-recover-clause-continues
 returns-in-Ok-recover-clause-continues g c = continues_trans c.in-Ok-recover.ensures.continues c.answer_all.ensures.continues
+
+pub returns-in-Ok-recover-clause-source : goal.returns-in-Ok-recover-clause-source
+returns-in-Ok-recover-clause-source g c =
+    let source = g.W.Source.source in
+    let from = g.met.W.World.shelf_keeps_source c.args.world.now c.recover.new.shelf c.in-Ok-recover.ensures.rest in
+    subst (λ (n : ℕ). RisesIf (is_source c.answer_all.result) n (source c.answer_all.new.world).faults) from.faults c.answer_all.ensures.source
+
+pub returns-in-Ok-recover-clause-sink : goal.returns-in-Ok-recover-clause-sink
+returns-in-Ok-recover-clause-sink g c =
+    let sink = g.W.Sink.sink in
+    let to = g.met.W.World.shelf_keeps_sink c.args.world.now c.recover.new.shelf c.in-Ok-recover.ensures.rest in
+    subst (λ (n : ℕ). RisesIf (is_sink c.answer_all.result) n (sink c.answer_all.new.world).faults) to.faults c.answer_all.ensures.sink
+
+pub returns-in-Ok-recover-clause-honest_source : goal.returns-in-Ok-recover-clause-honest_source
+returns-in-Ok-recover-clause-honest_source g c =
+    let from = g.met.W.World.shelf_keeps_source c.args.world.now c.recover.new.shelf c.in-Ok-recover.ensures.rest in
+    both (from.honest, from.honest_before) c.answer_all.ensures.honest_source
+
+pub returns-in-Ok-recover-clause-honest_sink : goal.returns-in-Ok-recover-clause-honest_sink
+returns-in-Ok-recover-clause-honest_sink g c =
+    let to = g.met.W.World.shelf_keeps_sink c.args.world.now c.recover.new.shelf c.in-Ok-recover.ensures.rest in
+    both (to.honest, to.honest_before) c.answer_all.ensures.honest_sink
+
+pub answer_all-requires-clause-is_of : goal.answer_all-requires-clause-is_of
+answer_all-requires-clause-is_of g c = λ awake. rw c.new-in-Ok-recover.ensures.0 c.in-Ok-recover.ensures.is_of
 
 pub returns-in-Ok-recover-clause-survives : goal.returns-in-Ok-recover-clause-survives
 returns-in-Ok-recover-clause-survives g c = λ h hs hk.
@@ -29,25 +59,22 @@ returns-in-Ok-recover-clause-survives g c = λ h hs hk.
     let old = c.args.world.now in
     let mid = c.recover.new.shelf in
     let new = c.answer_all.new.world in
-    let r = c.in-Ok-recover.opened in
+    let a = c.in-Ok-recover.array in
     let ended = c.answer_all.result in
     let opening = c.in-Ok-recover.ensures in
     let from = g.met.W.World.shelf_keeps_source old mid opening.rest in
     let to = g.met.W.World.shelf_keeps_sink old mid opening.rest in
     let o = opening.opened h in
     let e = c.new-in-Ok-recover.result in
-    let is : e ≡ engine_of r = engine_is r c.new-array.result e c.new-array.ensures c.new-in-Ok-recover.ensures in
+    let is : e ≡ engine_of a e.buffers = λ k. record { array = c.new-in-Ok-recover.ensures.0 k; halted = c.new-in-Ok-recover.ensures.1 k; buffers = e.buffers } in
     record {
       source_counts = subst (λ (n : ℕ). RisesIf (is_source ended) n (source new).faults) from.faults c.answer_all.ensures.source;
       sink_counts = subst (λ (n : ℕ). RisesIf (is_sink ended) n (sink new).faults) to.faults c.answer_all.ensures.sink;
       session = λ unlapsed.
-          let lawful : IsLawful e.array.plain = subst (λ (x : Engine). IsLawful x.array.plain) (sym is) (lawful_log _ _ _ _ o.holds) in
-          let begun : BeginsAt (shelf mid) e (first_of (shelf mid) r) = subst (λ (x : Engine). BeginsAt (shelf mid) x (first_of (shelf mid) r)) (sym is) (begins _ r opening.is_of opening.named (shelf mid)) in
-          let all = c.answer_all.ensures.served (opening.continues.honest h) (from.honest hs) (to.honest hk) unlapsed lawful (first_of (shelf mid) r) begun in
-          let same : IsServedFrom (shelf mid) (shelf new) (engine_of r) (source mid).bytes (source new).bytes ended (first_of (shelf mid) r) =
-          subst (λ (x : Engine). IsServedFrom (shelf mid) (shelf new) x (source mid).bytes (source new).bytes ended (first_of (shelf mid) r)) is all in
           inr (subst (λ (l : List ℕ). Served (shelf old) (shelf new) l (source new).bytes ended) from.bytes
-          (served (shelf old) (shelf mid) (shelf new) r (source mid).bytes (source new).bytes ended opening.continues o opening.continues.later (opening.moments h) same));
+          (served (shelf old) (shelf mid) (shelf new) a e.buffers (source mid).bytes (source new).bytes ended opening.continues o (reads_some (shelf old) (shelf mid) a o) opening.is_of.of_shelf opening.named opening.continues.later (opening.moments h)
+          (λ told first begins. subst (λ (x : Engine). IsServedFrom told (shelf mid) (shelf new) x (source mid).bytes (source new).bytes ended first) is
+          (c.answer_all.ensures.served (opening.continues.honest h) (from.honest hs) (to.honest hk) unlapsed told first (subst (λ (x : Engine). BeginsAt told (shelf mid) x first) (sym is) begins)))));
     }
 
 pub returns-in-Err-clause-survives : goal.returns-in-Err-clause-survives

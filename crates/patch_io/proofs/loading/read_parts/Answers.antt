@@ -10,7 +10,7 @@ use Rattle.world.proofs.Writes.{writes_then, nothing_written}
 use Rattle.segment_io.proofs.Gathers.{same_then}
 use Rattle.segment_io.proofs.Places.{still_places}
 use Rattle.patch_io.specs.Tables.{AreInOrder}
-use Rattle.patch_io.proofs.Parts.{Loads, loads_none, loads_more, size_more, patch_loaded, part_places, reads_as, load_fault, others_more}
+use Rattle.patch_io.proofs.Parts.{Loads, loads_none, loads_more, size_more, patch_loaded, facts_loaded, part_places, reads_as, load_fault, others_more}
 use Rattle.patch_io.proofs.loading.read_parts.Goals as goal
 
 pub loop-segment-init : goal.loop-segment-init
@@ -95,6 +95,12 @@ returns-in_err-read_part-clause-others g c =
     let within : part < length c.args.patch.now.segments = omega (arith, ap length c.as_slice-segment-items.ensures, c.loop-segment-test.true) in
     others_more (g.S.Shelf.shelf c.args.shelf.now) (g.S.Shelf.shelf c.loop-segment.shelf) (g.S.Shelf.shelf c.read_part.new.shelf) c.args.patch.now part _ within
     (ap (λ (l : List PatchSegment). slice_get l part) (sym c.as_slice-segment-items.ensures) ∙ slice_get-get_or items part _ c.loop-segment-test.true) c.loop-segment.invariant.others c.read_part.ensures.others
+
+pub returns-clause-decoded : goal.returns-clause-decoded
+returns-clause-decoded g c =
+    let got = map g.F.TableFact.any c.loop-segment.facts.items in
+    facts_loaded (g.S.Shelf.shelf c.args.shelf.now) c.args.patch.now c.args.missing.now c.loop-segment.segment-index got c.requires.patch.room
+    (omega (arith, ap length c.as_slice-segment-items.ensures, c.loop-segment-test.false)) (length-map c.loop-segment.facts.items g.F.TableFact.any ∙ c.loop-segment.invariant.size) c.loop-segment.invariant.loads
 
 pub returns-clause-facts : goal.returns-clause-facts
 returns-clause-facts g c h view shows stripes =

@@ -12,93 +12,93 @@ use Rattle.takeover.proofs.LogReplayed as showed
 use Rattle.takeover.proofs.log.open_log.Goals as goal
 
 pub returns-in_err-log-clause-any_moment : goal.returns-in_err-log-clause-any_moment
-returns-in_err-log-clause-any_moment g c h x missing arrays same_nvrams same_flushed found =
+returns-in_err-log-clause-any_moment g c h x missing arrays ps base same_nvrams same_flushed found has =
     while_read (g.S.Shelf.shelf c.args.shelf.now) (g.S.Shelf.shelf c.read_synced.new.shelf) x missing arrays (c.read_synced.ensures.writes h) found
 
 pub returns-in_err-log-clause-opened : goal.returns-in_err-log-clause-opened
-returns-in_err-log-clause-opened g c h x missing arrays same_nvrams same_flushed found borne =
+returns-in_err-log-clause-opened g c h x missing arrays ps base same_nvrams same_flushed found has borne =
     let a = g.S.Shelf.shelf c.args.shelf.now in
     let m = g.S.Shelf.shelf c.read_synced.new.shelf in
     let on = c.read_synced.ensures.continues in
     let p = err_from_is_err_and c.from_residual.result c.from_residual.ensures.1 in
     let e = c.in_err-log.field-0.0 in
     let all : AllFailed e a m x.record.members.nvrams = subst (λ (l : List Bool). AllFailed e a m l) (sym same_nvrams) c.in_err-log.ensures.err in
-    let fault = not_read a m x missing arrays (g.met.S.Shelf.is_shelf c.args.shelf.now) (g.met.S.Shelf.is_shelf c.read_synced.new.shelf) (on.honest h) (c.read_synced.ensures.writes h) c.read_synced.ensures.drives found borne e all in
-    let named : IsLogOpenBy m x (failed_since a m missing) arrays (Err p.0) = subst (λ (f : LogFault). IsLogOpenBy m x (failed_since a m missing) arrays (Err f)) (sym p.2) fault in
-    subst (λ r. IsLogOpenBy m x (failed_since a m missing) arrays r) (sym p.1) named
+    let fault = not_read a m x missing arrays ps base (g.met.S.Shelf.is_shelf c.args.shelf.now) (g.met.S.Shelf.is_shelf c.read_synced.new.shelf) (on.honest h) (c.read_synced.ensures.writes h) c.read_synced.ensures.drives found has.hold borne e all in
+    let named : IsLogOpenBy m x (failed_since a m missing) arrays ps base (Err p.0) = subst (λ (f : LogFault). IsLogOpenBy m x (failed_since a m missing) arrays ps base (Err f)) (sym p.2) fault in
+    subst (λ r. IsLogOpenBy m x (failed_since a m missing) arrays ps base r) (sym p.1) named
 
 pub returns-in_err-made-clause-any_moment : goal.returns-in_err-made-clause-any_moment
-returns-in_err-made-clause-any_moment g c h x missing arrays same_nvrams same_flushed found =
+returns-in_err-made-clause-any_moment g c h x missing arrays ps base same_nvrams same_flushed found has =
     while_read (g.S.Shelf.shelf c.args.shelf.now) (g.S.Shelf.shelf c.read_synced.new.shelf) x missing arrays (c.read_synced.ensures.writes h) found
 
 pub returns-in_err-made-clause-opened : goal.returns-in_err-made-clause-opened
-returns-in_err-made-clause-opened g c h x missing arrays same_nvrams same_flushed found borne =
+returns-in_err-made-clause-opened g c h x missing arrays ps base same_nvrams same_flushed found has borne =
     let a = g.S.Shelf.shelf c.args.shelf.now in
     let m = g.S.Shelf.shelf c.read_synced.new.shelf in
     let p = err_from_is_err_and c.from_residual-in_err-made.result c.from_residual-in_err-made.ensures.1 in
-    let fault = not_replayed m x (failed_since a m missing) arrays c.in_ok-log.log c.in_err-made.field-0.0 c.in_err-made.ensures.err in
-    let named : IsLogOpenBy m x (failed_since a m missing) arrays (Err p.0) = subst (λ (f : LogFault). IsLogOpenBy m x (failed_since a m missing) arrays (Err f)) (sym p.2) fault in
-    subst (λ r. IsLogOpenBy m x (failed_since a m missing) arrays r) (sym p.1) named
+    let fault = not_replayed m x (failed_since a m missing) arrays ps base c.in_ok-log.log c.in_err-made.field-0.0 c.in_err-made.ensures.err in
+    let named : IsLogOpenBy m x (failed_since a m missing) arrays ps base (Err p.0) = subst (λ (f : LogFault). IsLogOpenBy m x (failed_since a m missing) arrays ps base (Err f)) (sym p.2) fault in
+    subst (λ r. IsLogOpenBy m x (failed_since a m missing) arrays ps base r) (sym p.1) named
 
 pub returns-in_err-settle-clause-any_moment : goal.returns-in_err-settle-clause-any_moment
-returns-in_err-settle-clause-any_moment g c h x missing arrays same_nvrams same_flushed found =
+returns-in_err-settle-clause-any_moment g c h x missing arrays ps base same_nvrams same_flushed found has =
     let a = g.S.Shelf.shelf c.args.shelf.now in
     let m = g.S.Shelf.shelf c.read_synced.new.shelf in
     let n = g.S.Shelf.shelf c.settle.new.shelf in
     let log = c.in_ok-log.log in
     let made = c.in_ok-made.made in
     let on = c.read_synced.ensures.continues in
-    let r = was_read a m x missing arrays c.args.nvrams c.args.flushed log made.count made.plain (g.met.S.Shelf.is_shelf c.args.shelf.now) (g.met.S.Shelf.is_shelf c.read_synced.new.shelf) h on (c.read_synced.ensures.writes h)
-    c.read_synced.ensures.drives same_nvrams same_flushed found c.in_ok-log.ensures.members.0 c.in_ok-log.ensures.counted (c.in_ok-log.ensures.clean h) c.in_ok-log.ensures.flushed c.in_ok-log.ensures.log (c.in_ok-log.ensures.seen h)
+    let r = was_read a m x missing arrays ps base c.args.nvrams c.args.flushed log made.count c.args.memory made.memory (g.met.S.Shelf.is_shelf c.args.shelf.now) (g.met.S.Shelf.is_shelf c.read_synced.new.shelf) h on (c.read_synced.ensures.writes h)
+    c.read_synced.ensures.drives same_nvrams same_flushed found has c.in_ok-log.ensures.members.0 c.in_ok-log.ensures.counted (c.in_ok-log.ensures.clean h) c.in_ok-log.ensures.flushed c.in_ok-log.ensures.log (c.in_ok-log.ensures.seen h)
     c.in_ok-made.ensures.within c.in_ok-made.ensures.ok in
-    while_opening a m n x missing arrays log made.count made.plain r c.settle.ensures.continues (c.settle.ensures.writes (on.honest h)) (c.settle.ensures.any_moment (on.honest h))
+    while_opening a m n x missing arrays ps base log made.count r c.settle.ensures.continues (c.settle.ensures.writes (on.honest h)) (c.settle.ensures.any_moment (on.honest h))
 
 pub returns-in_err-settle-clause-opened : goal.returns-in_err-settle-clause-opened
-returns-in_err-settle-clause-opened g c h x missing arrays same_nvrams same_flushed found borne =
+returns-in_err-settle-clause-opened g c h x missing arrays ps base same_nvrams same_flushed found has borne =
     let a = g.S.Shelf.shelf c.args.shelf.now in
     let m = g.S.Shelf.shelf c.read_synced.new.shelf in
     let n = g.S.Shelf.shelf c.settle.new.shelf in
     let log = c.in_ok-log.log in
     let made = c.in_ok-made.made in
     let on = c.read_synced.ensures.continues in
-    let r = was_read a m x missing arrays c.args.nvrams c.args.flushed log made.count made.plain (g.met.S.Shelf.is_shelf c.args.shelf.now) (g.met.S.Shelf.is_shelf c.read_synced.new.shelf) h on (c.read_synced.ensures.writes h)
-    c.read_synced.ensures.drives same_nvrams same_flushed found c.in_ok-log.ensures.members.0 c.in_ok-log.ensures.counted (c.in_ok-log.ensures.clean h) c.in_ok-log.ensures.flushed c.in_ok-log.ensures.log (c.in_ok-log.ensures.seen h)
+    let r = was_read a m x missing arrays ps base c.args.nvrams c.args.flushed log made.count c.args.memory made.memory (g.met.S.Shelf.is_shelf c.args.shelf.now) (g.met.S.Shelf.is_shelf c.read_synced.new.shelf) h on (c.read_synced.ensures.writes h)
+    c.read_synced.ensures.drives same_nvrams same_flushed found has c.in_ok-log.ensures.members.0 c.in_ok-log.ensures.counted (c.in_ok-log.ensures.clean h) c.in_ok-log.ensures.flushed c.in_ok-log.ensures.log (c.in_ok-log.ensures.seen h)
     c.in_ok-made.ensures.within c.in_ok-made.ensures.ok in
-    absurd (not_lost a m n x missing arrays log made.count made.plain r c.settle.ensures.continues (c.settle.ensures.writes (on.honest h)) (c.settle.ensures.any_moment (on.honest h)) (g.met.S.Shelf.is_shelf c.settle.new.shelf)
+    absurd (not_lost a m n x missing arrays ps base log made.count r c.settle.ensures.continues (c.settle.ensures.writes (on.honest h)) (c.settle.ensures.any_moment (on.honest h)) (g.met.S.Shelf.is_shelf c.settle.new.shelf)
     c.settle.ensures.drives c.settle.new.self.members c.settle.ensures.fewer c.settle.ensures.counted borne c.in_err-settle.ensures.err.1)
 
 pub returns-clause-any_moment : goal.returns-clause-any_moment
-returns-clause-any_moment g c h x missing arrays same_nvrams same_flushed found =
+returns-clause-any_moment g c h x missing arrays ps base same_nvrams same_flushed found has =
     let a = g.S.Shelf.shelf c.args.shelf.now in
     let m = g.S.Shelf.shelf c.read_synced.new.shelf in
     let n = g.S.Shelf.shelf c.settle.new.shelf in
     let log = c.in_ok-log.log in
     let made = c.in_ok-made.made in
     let on = c.read_synced.ensures.continues in
-    let r = was_read a m x missing arrays c.args.nvrams c.args.flushed log made.count made.plain (g.met.S.Shelf.is_shelf c.args.shelf.now) (g.met.S.Shelf.is_shelf c.read_synced.new.shelf) h on (c.read_synced.ensures.writes h)
-    c.read_synced.ensures.drives same_nvrams same_flushed found c.in_ok-log.ensures.members.0 c.in_ok-log.ensures.counted (c.in_ok-log.ensures.clean h) c.in_ok-log.ensures.flushed c.in_ok-log.ensures.log (c.in_ok-log.ensures.seen h)
+    let r = was_read a m x missing arrays ps base c.args.nvrams c.args.flushed log made.count c.args.memory made.memory (g.met.S.Shelf.is_shelf c.args.shelf.now) (g.met.S.Shelf.is_shelf c.read_synced.new.shelf) h on (c.read_synced.ensures.writes h)
+    c.read_synced.ensures.drives same_nvrams same_flushed found has c.in_ok-log.ensures.members.0 c.in_ok-log.ensures.counted (c.in_ok-log.ensures.clean h) c.in_ok-log.ensures.flushed c.in_ok-log.ensures.log (c.in_ok-log.ensures.seen h)
     c.in_ok-made.ensures.within c.in_ok-made.ensures.ok in
-    while_opening a m n x missing arrays log made.count made.plain r c.settle.ensures.continues (c.settle.ensures.writes (on.honest h)) (c.settle.ensures.any_moment (on.honest h))
+    while_opening a m n x missing arrays ps base log made.count r c.settle.ensures.continues (c.settle.ensures.writes (on.honest h)) (c.settle.ensures.any_moment (on.honest h))
 
 pub returns-clause-opened : goal.returns-clause-opened
-returns-clause-opened g c h x missing arrays same_nvrams same_flushed found borne =
+returns-clause-opened g c h x missing arrays ps base same_nvrams same_flushed found has borne =
     let a = g.S.Shelf.shelf c.args.shelf.now in
     let m = g.S.Shelf.shelf c.read_synced.new.shelf in
     let n = g.S.Shelf.shelf c.settle.new.shelf in
     let log = c.in_ok-log.log in
     let made = c.in_ok-made.made in
     let on = c.read_synced.ensures.continues in
-    let r = was_read a m x missing arrays c.args.nvrams c.args.flushed log made.count made.plain (g.met.S.Shelf.is_shelf c.args.shelf.now) (g.met.S.Shelf.is_shelf c.read_synced.new.shelf) h on (c.read_synced.ensures.writes h)
-    c.read_synced.ensures.drives same_nvrams same_flushed found c.in_ok-log.ensures.members.0 c.in_ok-log.ensures.counted (c.in_ok-log.ensures.clean h) c.in_ok-log.ensures.flushed c.in_ok-log.ensures.log (c.in_ok-log.ensures.seen h)
+    let r = was_read a m x missing arrays ps base c.args.nvrams c.args.flushed log made.count c.args.memory made.memory (g.met.S.Shelf.is_shelf c.args.shelf.now) (g.met.S.Shelf.is_shelf c.read_synced.new.shelf) h on (c.read_synced.ensures.writes h)
+    c.read_synced.ensures.drives same_nvrams same_flushed found has c.in_ok-log.ensures.members.0 c.in_ok-log.ensures.counted (c.in_ok-log.ensures.clean h) c.in_ok-log.ensures.flushed c.in_ok-log.ensures.log (c.in_ok-log.ensures.seen h)
     c.in_ok-made.ensures.within c.in_ok-made.ensures.ok in
     let writes = c.settle.ensures.writes (on.honest h) in
     let moments = c.settle.ensures.any_moment (on.honest h) in
     let is_new = g.met.S.Shelf.is_shelf c.settle.new.shelf in
-    let bears = bears_mid a m n x missing arrays log made.count made.plain r c.settle.ensures.continues writes moments is_new c.settle.ensures.drives c.settle.new.self.members c.settle.ensures.fewer c.settle.ensures.counted borne in
-    opened a m n x missing arrays log made.count made.plain r c.settle.ensures.continues writes moments is_new
-    c.settle.ensures.drives c.settle.new.self.members c.settle.ensures.fewer c.settle.ensures.counted borne (record { log = c.settle.new.self; plain = made.plain }) (λ i. c.settle.new.self.members) c.in_ok-settle.ensures.ok.1 c.settle.ensures.flushed
-    (c.in_ok-settle.ensures.keeps r.read.commands r.read.keeps) (λ i. made.plain)
-    (c.in_ok-settle.ensures.holds (on.honest h) r.read.commands r.read.keeps r.seen (agree a m n x missing arrays log made.count made.plain r bears))
+    let bears = bears_mid a m n x missing arrays ps base log made.count r c.settle.ensures.continues writes moments is_new c.settle.ensures.drives c.settle.new.self.members c.settle.ensures.fewer c.settle.ensures.counted borne in
+    opened a m n x missing arrays ps base log made.count r c.settle.ensures.continues writes moments is_new
+    c.settle.ensures.drives c.settle.new.self.members c.settle.ensures.fewer c.settle.ensures.counted borne (record { log = c.settle.new.self; memory = made.memory }) (λ i. c.settle.new.self.members) c.in_ok-settle.ensures.ok.1 c.settle.ensures.flushed
+    (c.in_ok-settle.ensures.keeps r.read.commands r.read.keeps)
+    (c.in_ok-settle.ensures.holds (on.honest h) r.read.commands r.read.keeps r.seen (agree a m n x missing arrays ps base log made.count r bears))
 
 pub returns-in_err-settle-clause-continues : goal.returns-in_err-settle-clause-continues
 returns-in_err-settle-clause-continues g c = continues_trans c.read_synced.ensures.continues c.settle.ensures.continues
@@ -165,9 +165,9 @@ returns-in_err-log-clause-replayed g c h =
     let a = g.S.Shelf.shelf c.args.shelf.now in
     let m = g.S.Shelf.shelf c.read_synced.new.shelf in
     let p = err_from_is_err_and c.from_residual.result c.from_residual.ensures.1 in
-    let fault : IsReplayedBy a m c.args.nvrams c.args.flushed (Err p.0) = subst (λ (f : LogFault). IsReplayedBy a m c.args.nvrams c.args.flushed (Err f)) (sym p.2)
-    (showed.not_read a m c.args.nvrams c.args.flushed c.in_err-log.field-0.0) in
-    subst (λ r. IsReplayedBy a m c.args.nvrams c.args.flushed r) (sym p.1) fault
+    let fault : IsReplayedBy a m c.args.nvrams c.args.flushed c.args.memory (Err p.0) = subst (λ (f : LogFault). IsReplayedBy a m c.args.nvrams c.args.flushed c.args.memory (Err f)) (sym p.2)
+    (showed.not_read a m c.args.nvrams c.args.flushed c.args.memory c.in_err-log.field-0.0) in
+    subst (λ r. IsReplayedBy a m c.args.nvrams c.args.flushed c.args.memory r) (sym p.1) fault
 
 pub returns-in_err-made-clause-replayed : goal.returns-in_err-made-clause-replayed
 returns-in_err-made-clause-replayed g c h =
@@ -175,18 +175,18 @@ returns-in_err-made-clause-replayed g c h =
     let m = g.S.Shelf.shelf c.read_synced.new.shelf in
     let log = c.in_ok-log.log in
     let p = err_from_is_err_and c.from_residual-in_err-made.result c.from_residual-in_err-made.ensures.1 in
-    let fault : IsReplayedBy a m c.args.nvrams c.args.flushed (Err p.0) = subst (λ (f : LogFault). IsReplayedBy a m c.args.nvrams c.args.flushed (Err f)) (sym p.2)
+    let fault : IsReplayedBy a m c.args.nvrams c.args.flushed c.args.memory (Err p.0) = subst (λ (f : LogFault). IsReplayedBy a m c.args.nvrams c.args.flushed c.args.memory (Err f)) (sym p.2)
     (showed.not_replayed a m m c.args.nvrams c.args.flushed h c.read_synced.ensures.continues (c.read_synced.ensures.writes h) log c.in_ok-log.ensures.flushed c.in_ok-log.ensures.members.0 c.in_ok-log.ensures.counted c.in_ok-log.ensures.log
-    c.in_err-made.field-0.0 c.in_err-made.ensures.err) in
-    subst (λ r. IsReplayedBy a m c.args.nvrams c.args.flushed r) (sym p.1) fault
+    c.args.memory c.in_err-made.field-0.0 c.in_err-made.ensures.err) in
+    subst (λ r. IsReplayedBy a m c.args.nvrams c.args.flushed c.args.memory r) (sym p.1) fault
 
 pub returns-in_err-settle-clause-replayed : goal.returns-in_err-settle-clause-replayed
 returns-in_err-settle-clause-replayed g c h =
     let a = g.S.Shelf.shelf c.args.shelf.now in
     let n = g.S.Shelf.shelf c.settle.new.shelf in
     let p = err_from_is_err_and c.from_residual-in_err-settle.result c.from_residual-in_err-settle.ensures.1 in
-    let fault : IsReplayedBy a n c.args.nvrams c.args.flushed (Err p.0) = subst (λ (f : LogFault). IsReplayedBy a n c.args.nvrams c.args.flushed (Err f)) (sym p.2) tt in
-    subst (λ r. IsReplayedBy a n c.args.nvrams c.args.flushed r) (sym p.1) fault
+    let fault : IsReplayedBy a n c.args.nvrams c.args.flushed c.args.memory (Err p.0) = subst (λ (f : LogFault). IsReplayedBy a n c.args.nvrams c.args.flushed c.args.memory (Err f)) (sym p.2) tt in
+    subst (λ r. IsReplayedBy a n c.args.nvrams c.args.flushed c.args.memory r) (sym p.1) fault
 
 pub returns-clause-replayed : goal.returns-clause-replayed
 returns-clause-replayed g c h =
@@ -197,8 +197,8 @@ returns-clause-replayed g c h =
     let made = c.in_ok-made.made in
     let read = c.in_ok-log.ensures.log in
     showed.replayed_from a m n c.args.nvrams c.args.flushed h c.read_synced.ensures.continues (c.read_synced.ensures.writes h) log c.in_ok-log.ensures.flushed c.in_ok-log.ensures.members.0 c.in_ok-log.ensures.counted read
-    made.count made.plain c.in_ok-made.ensures.within c.in_ok-made.ensures.ok (record { log = c.settle.new.self; plain = made.plain }) c.settle.ensures.continues c.settle.ensures.fewer c.settle.ensures.counted
-    (c.in_ok-settle.ensures.keeps read.commands read.keeps) c.in_ok-settle.ensures.ok.0 (λ i. made.plain)
+    made.count c.args.memory made.memory c.in_ok-made.ensures.within c.in_ok-made.ensures.ok (record { log = c.settle.new.self; memory = made.memory }) c.settle.ensures.continues c.settle.ensures.fewer c.settle.ensures.counted
+    (c.in_ok-settle.ensures.keeps read.commands read.keeps)
 
 pub returns-in_err-log-clause-clean : goal.returns-in_err-log-clause-clean
 returns-in_err-log-clause-clean g c h missing clean = showed.clean_read (g.S.Shelf.shelf c.args.shelf.now) (g.S.Shelf.shelf c.read_synced.new.shelf) missing clean (c.read_synced.ensures.still_clean h)
@@ -219,3 +219,20 @@ returns-clause-clean g c h missing clean =
     let two : length c.args.nvrams ≡ 2 = search rules in
     showed.clean_settled (g.S.Shelf.shelf c.args.shelf.now) (g.S.Shelf.shelf c.read_synced.new.shelf) (g.S.Shelf.shelf c.settle.new.shelf) missing c.args.nvrams c.in_ok-log.log.members c.settle.new.self.members on clean
     (c.read_synced.ensures.still_clean h) two c.in_ok-log.ensures.members.0 c.settle.ensures.counted c.settle.ensures.drives c.settle.ensures.others (c.settle.ensures.clean (on.honest h))
+
+-- memory keeps what was read
+pub replay_log-requires : goal.replay_log-requires
+replay_log-requires g c = (c.in_ok-log.ensures.log.commands, c.in_ok-log.ensures.log.keeps)
+
+pub returns-clause-done : goal.returns-clause-done
+returns-clause-done g c =
+    let made = c.in_ok-made.made in
+    let read = c.in_ok-log.ensures.log in
+    showed.has_replayed c.args.memory made.memory c.in_ok-log.log made.count read.commands (record { log = c.settle.new.self; memory = made.memory }) (c.in_ok-made.ensures.ok read.commands read.keeps) (λ i. made.memory) c.in_ok-made.ensures.layered
+    (c.in_ok-settle.ensures.keeps read.commands read.keeps) c.in_ok-settle.ensures.ok.0
+
+pub returns-in_err-settle-clause-rest : goal.returns-in_err-settle-clause-rest
+returns-in_err-settle-clause-rest g c = g.met.S.Shelf.shelf_rest_stays.transitive _ _ _ c.read_synced.ensures.rest c.settle.ensures.rest
+
+pub returns-clause-rest : goal.returns-clause-rest
+returns-clause-rest g c = g.met.S.Shelf.shelf_rest_stays.transitive _ _ _ c.read_synced.ensures.rest c.settle.ensures.rest

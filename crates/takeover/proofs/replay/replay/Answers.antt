@@ -1,9 +1,21 @@
-use Rattle.std.proofs.Common.{◌≡◌, Bool, true, false, sym, ◌∙◌, subst, arith, rules}
+use Rattle.std.proofs.Common.{◌≡◌, Bool, true, false, ℕ, subst, sym, arith, rules}
 use Rattle.boot_region.proofs.LoadingLemmas.{if_err}
+use Rattle.pur_base.specs.declared.request.Request.{Request}
+use Rattle.log_codec.specs.Head.{IsCommand}
 use Rattle.takeover.specs.declared.log.LogFault.{LogFault}
 use Rattle.takeover.specs.Replay.{IsApplied, IsReplayed, IsReplayFault}
-use Rattle.takeover.proofs.Applying.{command_at, in_force_more, one_more, stopped, ended, replay_fault}
+use Rattle.takeover.proofs.Applying.{command_at, none_done, one_more, stopped, ended, replay_fault}
 use Rattle.takeover.proofs.replay.replay.Goals as goal
+
+pub loop-i-init : goal.loop-i-init
+loop-i-init c = record { room = search rules; done = λ commands keeps. none_done c.args.memory.now commands }
+
+-- a logged command is lawful
+pub apply-requires-clause-command : goal.apply-requires-clause-command
+apply-requires-clause-command c =
+    let kept = c.requires.kept in
+    let at = command_at c.args.log.now kept.0 c.loop-i.i kept.1 (omega (arith, c.loop-i-test.true, c.count-i-end.ensures)) in
+    subst (λ (r : Request). IsCommand r) (sym (c.in-Ok.ensures.command kept.0 at.0 kept.1 at.1).1) (kept.1.each c.loop-i.i at.0 at.1).lawful.command
 
 pub returns-in_default-clause-err : goal.returns-in_default-clause-err
 returns-in_default-clause-err c commands keeps =
@@ -22,27 +34,24 @@ returns-then-not-branch-clause-ok c commands keeps =
     let at = command_at c.args.log.now commands c.loop-i.i keeps (omega (arith, c.loop-i-test.true, c.count-i-end.ensures)) in
     let is = c.in_ok-apply.ensures.ok _ at.0 (keeps.each c.loop-i.i at.0 at.1).lawful (c.in-Ok.ensures.command commands at.0 keeps at.1) in
     let shut : c.in_ok-apply.field-0 ≡ false = search rules in
-    stopped c.args.plain.now commands c.loop-i.i at.0 c.loop-i.plain c.apply.new.plain at.1 (c.loop-i.invariant.in_force commands keeps) (c.loop-i.invariant.applied commands keeps)
-    (subst (λ (b : Bool). IsApplied c.loop-i.plain at.0 b c.apply.new.plain) shut is)
+    stopped c.args.memory.now c.loop-i.memory c.apply.new.memory commands c.loop-i.i at.0 at.1 (c.loop-i.invariant.done commands keeps)
+    (subst (λ (b : Bool). IsApplied c.loop-i.memory at.0 b c.apply.new.memory) shut is)
 
 pub loop-i-preserved : goal.loop-i-preserved
 loop-i-preserved c =
     let inv = c.loop-i.invariant in
     let fine : c.in_ok-apply.field-0 ≡ true = search rules in
     record {
-      room = c.in_ok-apply.ensures.room ∙ inv.room;
-      in_force = λ commands keeps.
-          let at = command_at c.args.log.now commands c.loop-i.i keeps (omega (arith, c.loop-i-test.true, c.count-i-end.ensures)) in
-          in_force_more commands c.loop-i.i at.0 c.in-Ok.logged.head.command at.1 (c.in-Ok.ensures.command commands at.0 keeps at.1).1 c.in_ok-apply.ensures.in_force (inv.in_force commands keeps);
-      applied = λ commands keeps.
+      room = search rules;
+      done = λ commands keeps.
           let at = command_at c.args.log.now commands c.loop-i.i keeps (omega (arith, c.loop-i-test.true, c.count-i-end.ensures)) in
           let is = c.in_ok-apply.ensures.ok _ at.0 (keeps.each c.loop-i.i at.0 at.1).lawful (c.in-Ok.ensures.command commands at.0 keeps at.1) in
-          one_more c.args.plain.now commands c.loop-i.i at.0 c.loop-i.plain c.apply.new.plain at.1 (inv.applied commands keeps)
-          (subst (λ (b : Bool). IsApplied c.loop-i.plain at.0 b c.apply.new.plain) fine is);
+          one_more c.args.memory.now c.loop-i.memory c.apply.new.memory commands c.loop-i.i at.0 c.in-Ok.logged.head.command at.1 (c.in-Ok.ensures.command commands at.0 keeps at.1).1 c.in_ok-apply.ensures.in_force (inv.done commands keeps)
+          (subst (λ (b : Bool). IsApplied c.loop-i.memory at.0 b c.apply.new.memory) fine is);
     }
 
 pub returns-clause-ok : goal.returns-clause-ok
 returns-clause-ok c commands keeps =
     let e : c.loop-i.i ≡ c.count.result = omega (arith, c.loop-i-test.false, c.loop-i.auto.i-end, c.count.ensures, c.count-i-end.ensures) in
-    subst (λ n. IsReplayed c.args.plain.now commands n c.loop-i.plain) e
-    (ended c.args.plain.now commands c.loop-i.i c.loop-i.plain (omega (arith, keeps.count, e, c.count.ensures)) (c.loop-i.invariant.in_force commands keeps) (c.loop-i.invariant.applied commands keeps))
+    subst (λ (n : ℕ). IsReplayed c.args.memory.now commands n c.loop-i.memory) e
+    (ended c.args.memory.now c.loop-i.memory commands c.loop-i.i (omega (arith, keeps.count, e, c.count.ensures)) (c.loop-i.invariant.done commands keeps))

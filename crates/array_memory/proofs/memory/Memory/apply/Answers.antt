@@ -3,7 +3,7 @@ use Rattle.fact_codec.specs.declared.limits.TheConstants.{NUMBER_LIMIT}
 use Rattle.array_memory.specs.Runs.{targets_from}
 use Rattle.array_memory.proofs.RunLemmas.{targets_long}
 use Rattle.array_memory.proofs.PutLemmas.{put_next}
-use Rattle.array_memory.proofs.ApplyLemmas.{write_reads, fill_reads, zero_reads, create_reads}
+use Rattle.array_memory.proofs.ApplyLemmas.{write_keeps, fill_keeps, zero_keeps, create_keeps, write_reads, fill_reads, zero_reads, create_reads}
 use Rattle.array_memory.proofs.memory.Memory.apply.Goals as goal
 
 pub returns-in-Create-clause-reads : goal.returns-in-Create-clause-reads
@@ -51,3 +51,23 @@ returns-in-Zero-clause-reads c =
     let left : k.memory.next.sequence + c.in-Zero.count < NUMBER_LIMIT = omega (arith, c.requires.numbers.numbers, c.zero.ensures.put.span.few) in
     rw c.in-Zero.is (λ contents array reads accepted.
     zero_reads contents k c.zero.new.self array c.kept.ensures reads c.in-Zero.name c.in-Zero.lba c.in-Zero.count c.args.sectors.now c.zero.ensures.put left accepted)
+
+pub returns-in-Create-clause-sound : goal.returns-in-Create-clause-sound
+returns-in-Create-clause-sound c =
+    let w = c.create.ensures.created in
+    λ sound. create_keeps c.args.self.now c.create.new.self c.kept.ensures sound c.in-Create.name c.in-Create.size w.0 w.1 w.2 w.4 (rw c.in-Create.is at c.requires.allowed)
+
+pub returns-in-Write-clause-sound : goal.returns-in-Write-clause-sound
+returns-in-Write-clause-sound c =
+    let left : c.args.self.now.memory.next.sequence + length c.args.sectors.now < NUMBER_LIMIT = omega (arith, c.requires.numbers.numbers, c.write.ensures.put.span.few) in
+    λ sound. write_keeps c.args.self.now c.write.new.self c.kept.ensures sound c.in-Write.name c.in-Write.lba c.args.sectors.now c.write.ensures.put c.write.ensures.sectors left
+
+pub returns-in-Fill-clause-sound : goal.returns-in-Fill-clause-sound
+returns-in-Fill-clause-sound c =
+    let left : c.args.self.now.memory.next.sequence + c.in-Fill.count < NUMBER_LIMIT = omega (arith, c.requires.numbers.numbers, c.fill.ensures.put.span.few) in
+    λ sound. fill_keeps c.args.self.now c.fill.new.self c.kept.ensures sound c.in-Fill.name c.in-Fill.lba c.in-Fill.count c.in-Fill.byte c.fill.ensures.put left
+
+pub returns-in-Zero-clause-sound : goal.returns-in-Zero-clause-sound
+returns-in-Zero-clause-sound c =
+    let left : c.args.self.now.memory.next.sequence + c.in-Zero.count < NUMBER_LIMIT = omega (arith, c.requires.numbers.numbers, c.zero.ensures.put.span.few) in
+    λ sound. zero_keeps c.args.self.now c.zero.new.self c.kept.ensures sound c.in-Zero.name c.in-Zero.lba c.in-Zero.count c.zero.ensures.put left

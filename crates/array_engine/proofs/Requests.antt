@@ -1,0 +1,38 @@
+-- Requests that were read are within the bounds that memory and the log ask for.
+use Rattle.std.proofs.Common.{◌≡◌, ℕ, List, true, arith}
+use Rattle.std.specs.Prelude.{length}
+use Rattle.pur_base.specs.Commands.{IsLogged}
+use Rattle.pur_base.specs.Grammar.{is_in_force}
+use Rattle.pur_base.specs.declared.limits.TheConstants.{OBJECT_SECTORS, REQUEST_SECTORS}
+use Rattle.pur_base.specs.declared.facts.ObjectFact.{ObjectFact}
+use Rattle.pur_base.specs.declared.request.Request.{Request}
+use Rattle.pur_base.specs.declared.request.Request.TheVariants as request
+use Rattle.log_codec.specs.Head.{IsCommand}
+use Rattle.array_memory.specs.Asked.{IsAllowed}
+use Rattle.array_memory.specs.Lawful.{IsLawful}
+use Rattle.volume_ops.specs.OfArray.{IsOfMemory}
+use Rattle.request_codec.specs.Spelled.{IsSpelledRequest}
+
+pub is_of_memory : (r : Request) → IsLogged r → is_in_force r ≡ true → IsSpelledRequest r → IsOfMemory r
+is_of_memory (request.Create n size) logs force h = h.0
+is_of_memory (request.Write n lba count) logs force h = h.few
+is_of_memory (request.Fill n lba count byte) logs force h = h.0.few
+is_of_memory (request.Read n lba count) logs force h = absurd logs
+is_of_memory request.List logs force h = absurd logs
+is_of_memory _ logs force h = absurd cc
+
+pub is_lawful : (r : Request) → IsLogged r → is_in_force r ≡ true → IsSpelledRequest r → IsLawful r
+is_lawful (request.Create n size) logs force h = h.0
+is_lawful (request.Write n lba count) logs force h = h.few
+is_lawful (request.Fill n lba count byte) logs force h = h.0.few
+is_lawful (request.Read n lba count) logs force h = absurd logs
+is_lawful request.List logs force h = absurd logs
+is_lawful _ logs force h = absurd cc
+
+pub is_command : (objects : List ObjectFact) (r : Request) → IsLogged r → is_in_force r ≡ true → IsSpelledRequest r → IsAllowed objects r → IsCommand r
+is_command objects (request.Create n size) logs force h allowed = (h.0, omega (arith, allowed.most))
+is_command objects (request.Write n lba count) logs force h allowed = (h.named, omega (arith, h.number), (h.some, h.few))
+is_command objects (request.Fill n lba count byte) logs force h allowed = (h.0.named, omega (arith, h.0.number), (h.0.some, h.0.few), h.1)
+is_command objects (request.Read n lba count) logs force h allowed = absurd logs
+is_command objects request.List logs force h allowed = absurd logs
+is_command objects _ logs force h allowed = absurd cc

@@ -1,0 +1,98 @@
+-- Sectors of the array's segments: where they may be read, what is shown of them, and why they can't be had.
+use Rattle.std.proofs.Common.{◌≡◌, ◌≢◌, ◌⊎◌, inl, inr, ℕ, ◌<◌, ◌≤◌, List, Some, None, refl, sym, subst, arith, Bool, true, false, not}
+use Rattle.std.specs.Prelude.{Contains, if◌then◌else◌, slice_index_or, length}
+use Rattle.std.proofs.lemmas.Bool.{cases_Bool}
+use Rattle.pur_base.specs.declared.device.Device.{Device}
+use Rattle.pur_base.specs.declared.limits.TheConstants.{SEGMENT_SECTORS}
+use Rattle.pur_base.specs.declared.request.Table.TheVariants as table
+use Rattle.pur_base.specs.declared.facts.SegmentFact.{SegmentFact}
+use Rattle.pur_base.specs.declared.facts.AnyFact.TheVariants as any
+use Rattle.pur_base.specs.Devices.{Sound, drive}
+use Rattle.pur_base.specs.Facts.{Facts, segment_key, never}
+use Rattle.pur_base.specs.Keys.{key_of}
+use Rattle.pur_base.specs.Visible.{is_elided, segment}
+use Rattle.pur_base.proofs.SaysLemmas.{says_is}
+use Rattle.boot_codec.specs.declared.patch.PatchSegment.{PatchSegment}
+use Rattle.boot_region.specs.Members.{IsMember}
+use Rattle.world.specs.Counts.{Rises}
+use Rattle.world.specs.Losing.{geometry_of, has_risen}
+use Rattle.world.specs.Shelf.{Shelved}
+use Rattle.patch_io.proofs.Parts.{segment_places}
+use Rattle.segment_io.specs.Lost.{is_in}
+use Rattle.segment_io.specs.Stripes.{bytes_of}
+use Rattle.register.specs.declared.state.Register.{Register}
+use Rattle.register.specs.Registers.{IsRegisterOf, drives_of}
+use Rattle.register.proofs.FlagLemmas.{cut_in, in_cut}
+use Rattle.memory_spec.specs.Tables.{facts}
+use Rattle.memory_spec.specs.Memory.{Memory, IsSound}
+use Rattle.memory_spec.proofs.AllTables.{all_segments}
+use Rattle.memory_spec.proofs.Lists.{each_by_recursion}
+use Rattle.session_spec.specs.Faring as faring
+use Rattle.session_spec.specs.Faring.{Point, IsGone}
+use Rattle.array_state.specs.declared.array.Array.{Array}
+use Rattle.array_state.specs.Drives.{drives_view}
+use Rattle.array_state.specs.Ready.{IsArrayOf}
+use Rattle.target_io.specs.Reading.{AreReadable, ShowsDrives, IsLost, LosesThree}
+use Rattle.array_core.specs.Holding.{IsHolder}
+use Rattle.array_engine.specs.Engines.{IsAt, StandsAt, failed_in}
+use Rattle.array_engine.proofs.Unborne.{not_risen}
+
+-- ---- where they may be read
+
+segment_in : (f : Facts) (id : ℕ) (d : SegmentFact) → segment f id ≡ Some d → Contains f.segments d
+segment_in f id d e = (says_is segment_key (λ g. g.seq.0) never (λ g. Contains f.segments g) f.segments (is_elided f.elisions table.Segment) (key_of id 0) d
+    (each_by_recursion (λ g. Contains f.segments g) f.segments (λ g c. c)) e).0
+
+pub readable : (shelf : Shelved) (a : Array) → IsArrayOf (geometry_of shelf) a → AreReadable shelf (facts a.memory.memory.tables)
+readable shelf a is id d there =
+    let p = is.segments.places id d there in
+    let s : PatchSegment = record { id = 0; places = d.places } in
+    let fits = is.sound.fit (any.Segment d) (all_segments (facts a.memory.memory.tables) d (segment_in (facts a.memory.memory.tables) id d there)) in
+    (segment_places shelf s (record { id = omega arith; nine = p.nine; places = p.ascending }), fits.lawful.statement.1)
+
+-- ---- which drives are missing
+
+-- of each slot: the record isn't in force on its drive
+abbrev pub AreMissing : Register → List Bool → Type 0
+AreMissing r missing = (slot : ℕ) → slot < 24 → is_in missing slot ≡ not (is_in r.drives slot)
+
+module _ (shelf : Shelved) (r : Register) (missing : List Bool) (is : IsRegisterOf (geometry_of shelf) r) (are : AreMissing r missing) where
+  few_slots : shelf.drives ≤ 24
+  few_slots = omega (arith, is.lawful.slots, is.lawful.lawful.slots.1)
+
+  there_or : (b c : Bool) → c ≡ not b → c ≡ false → b ≡ true
+  there_or true c e f = refl
+  there_or false c e f = absurd (cc (e, f))
+
+  is_there : (slot : ℕ) → slot < shelf.drives → is_in missing slot ≡ false → IsMember (drives_of r) slot
+  is_there slot lt none = cut_in r.drives r.record.slots slot (omega (arith, lt, is.lawful.slots)) (there_or (is_in r.drives slot) (is_in missing slot) (are slot (omega (arith, lt, few_slots))) none)
+
+  pub shows : ShowsDrives shelf missing (drives_view shelf r)
+  shows slot lt none = rw (is_there slot lt none) refl
+
+  isn't_there : (b c : Bool) → c ≡ not b → c ≡ true → b ≡ true → ⊥
+  isn't_there true c e f g = cc (e, f)
+  isn't_there false c e f g = cc g
+
+  -- ---- why they can't be had
+
+  module _ (new : Shelved) (from : Point) (a : Array) (same : a.register ≡ r) (holders : (d : Device) → from.conditions d ≡ Sound → IsHolder a d) where
+    rises : (i : ℕ) → Rises (shelf.disk (drive i)).faults (new.disk (drive i)).faults → failed_in shelf new (drive i) ≡ true
+    rises i rose = elim (cases_Bool (has_risen (shelf.disk (drive i)).faults (new.disk (drive i)).faults)) [
+      | inl risen ↦ risen
+      | inr not ↦ absurd (not_risen (shelf.disk (drive i)).faults (new.disk (drive i)).faults not rose)
+    ]
+
+    gone : (i : ℕ) → i < shelf.drives → IsLost shelf new missing i → IsGone (failed_in shelf new) from i
+    gone i lt (inl is_missing) = inl (λ sound. isn't_there (is_in r.drives i) (is_in missing i) (are i (omega (arith, lt, few_slots))) is_missing
+        (in_cut r.drives r.record.slots i (subst (λ (x : Register). IsMember (drives_of x) i) same (holders (drive i) sound))))
+    gone i lt (inr rose) = inr (rises i rose)
+
+    pub loses_three : LosesThree shelf new missing → faring.LosesThree (geometry_of shelf) (failed_in shelf new) from
+    loses_three l = record {
+      first = l.first;
+      second = l.second;
+      third = l.third;
+      in_order = l.in_order;
+      are = (gone l.first (omega (arith, l.in_order.0, l.in_order.1, l.in_order.2)) l.are.0, gone l.second (omega (arith, l.in_order.1, l.in_order.2)) l.are.1, gone l.third l.in_order.2 l.are.2);
+    }

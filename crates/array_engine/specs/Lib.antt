@@ -1,0 +1,4 @@
+pub mod Answering
+pub mod Saying
+pub mod Engines
+pub mod Replying

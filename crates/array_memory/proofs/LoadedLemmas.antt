@@ -1,0 +1,230 @@
+-- Memory of tables that were loaded is sound, and what is kept beside them is what they say.
+use Rattle.std.proofs.Common.{◌≡◌, ◌≢◌, ℕ, ◌<◌, ◌≤◌, List, [], ◌++◌, map, refl, sym, ap, subst, ◌∙◌, inl, inr, Some, All, Contains, append-nil}
+use Rattle.std.specs.Prelude.{IsTrue, Result, Ok, Err, IfOk}
+use Rattle.std.proofs.lemmas.List.Elements.{All-contains, recursion_from_All, Contains-append_left}
+use Rattle.pur_base.specs.Devices.{Geometry}
+use Rattle.pur_base.specs.Facts.{Facts, any_number, object_key, medium_key, address_key, segment_key, elision_key, never}
+use Rattle.pur_base.specs.Plain.{Array}
+use Rattle.pur_base.specs.Says.{says}
+use Rattle.pur_base.specs.Visible.{objects, is_elided, is_within}
+use Rattle.pur_base.specs.declared.place.Location.{Location}
+use Rattle.pur_base.specs.declared.request.Table.{Table}
+use Rattle.pur_base.specs.declared.request.Table.TheVariants as table
+use Rattle.pur_base.specs.declared.facts.Target.{Target}
+use Rattle.pur_base.specs.declared.facts.Target.TheVariants.{Stored, Zero}
+use Rattle.pur_base.specs.declared.facts.ObjectFact.{ObjectFact}
+use Rattle.pur_base.specs.declared.facts.MediumFact.{MediumFact}
+use Rattle.pur_base.specs.declared.facts.AddressFact.{AddressFact}
+use Rattle.pur_base.specs.declared.facts.SegmentFact.{SegmentFact}
+use Rattle.pur_base.specs.declared.facts.ElisionFact.{ElisionFact}
+use Rattle.pur_base.specs.declared.facts.AnyFact.{AnyFact}
+use Rattle.pur_base.specs.declared.facts.AnyFact.TheVariants as any
+use Rattle.boot_codec.specs.declared.record.NextNumbers.{NextNumbers}
+use Rattle.boot_codec.specs.declared.record.BootRecord.{BootRecord}
+use Rattle.boot_codec.specs.Record.{AreNext}
+use Rattle.fact_codec.specs.Fact.{IsFact, IsTarget}
+use Rattle.elision.specs.Ranges.{ElidedRanges, ranges_of, AreApart}
+use Rattle.pyramid.specs.Layers.{Layers, facts_in, facts_of, Rises}
+use Rattle.pyramid.specs.Shown.{IsShown}
+use Rattle.pyramid.proofs.ContainsLemmas.{nowhere}
+use Rattle.pyramid.proofs.LayerLemmas.{all_contained}
+use Rattle.object_table.specs.Objects.{Objects}
+use Rattle.segment_table.specs.Segments.{Segments}
+use Rattle.array_spec.specs.Sound.{AreSound, AreIdsBelow, AreObjectsSound, AreMediumsSound, AreAddressesSound, AreElisionsSound}
+use Rattle.array_spec.specs.Stored.{all_facts, in_patches}
+use Rattle.memory_spec.specs.Memory.{Memory, Contents, FactsRead, FitsTarget, FitsInMemory, AreAddressesThere, AreNumbered, IsSound, ReadsAs}
+use Rattle.memory_spec.specs.Tables.{facts, patches, all_of}
+use Rattle.memory_spec.proofs.AllTables.{all_elisions, of_all}
+use Rattle.memory_spec.proofs.Lists.{of_each, pairs_of}
+use Rattle.memory_spec.proofs.Objects.{object_is, in_objects}
+use Rattle.table_soundness.specs.Elided.{AreElidedBy, IsRange}
+use Rattle.table_soundness.specs.Faults.{facts_in as facts_loaded, patches_in, AreLawful, AreNamed}
+use Rattle.table_soundness.specs.declared.tables.LoadedTables.{LoadedTables}
+use Rattle.table_soundness.proofs.FaultLemmas.{elided_ranges}
+use Rattle.table_soundness.proofs.SoundLemmas.{all_joined, same_facts, parts_from_sequences}
+use Rattle.array_memory.specs.Kept.{kept_of, IsKept}
+use Rattle.array_memory.specs.Loaded.{memory_of, with_room_of, HasOnly, IsLoaded, AreInSegments}
+use Rattle.array_memory.proofs.SoundLemmas.{plain, sound_as}
+
+-- what holds of a result holds of it with less
+pub if_ok : {T E : Type 0} (r : Result T E) (P Q : T → Type 0) → ((x : T) → P x → Q x) → IfOk r P → IfOk r Q
+if_ok (Ok x) P Q weaker h = weaker x h
+if_ok (Err e) P Q weaker h = h
+
+-- ---- the facts of patches alone
+
+only_facts : {F : Type 0} (key number : F → ℕ) (given : List (List F)) (l : Layers F) → HasOnly key number given l → facts_in l ≡ facts_of given
+only_facts key number given l h = ap (λ u. facts_of l.patches ++ u) h.unflushed ∙ append-nil (facts_of l.patches) ∙ ap facts_of h.patches
+
+module _ (boot : BootRecord) (t : LoadedTables) (m : Memory) (h : IsLoaded boot t m) where
+  pub facts_same : facts m.tables ≡ facts_loaded t
+  facts_same =
+      let o = only_facts object_key (λ f. f.seq.0) t.objects.items m.tables.objects h.objects in
+      let d = only_facts medium_key (λ f. f.seq.0) t.mediums.items m.tables.mediums h.mediums in
+      let a = only_facts address_key (λ f. f.seq.0) t.addresses.items m.tables.addresses h.addresses in
+      let s = only_facts segment_key (λ f. f.seq.0) t.segments.items m.tables.segments h.segments in
+      let e = only_facts elision_key (λ f. f.seq.0) t.elisions.items m.tables.elisions h.elisions in
+      λ i. record { objects = o i; mediums = d i; addresses = a i; segments = s i; elisions = e i }
+
+  patches_same : patches m.tables ≡ patches_in t
+  patches_same = λ i.
+      map (map any.Object) (h.objects.patches i) ++ (map (map any.Medium) (h.mediums.patches i) ++ (map (map any.Address) (h.addresses.patches i)
+      ++ (map (map any.Segment) (h.segments.patches i) ++ map (map any.Elision) (h.elisions.patches i))))
+
+  all_same : all_facts (patches m.tables) ≡ facts m.tables
+  all_same = ap all_facts patches_same ∙ same_facts t ∙ sym facts_same
+
+-- memory that has other room is of the same tables
+pub loaded_with_room : (boot : BootRecord) (t : LoadedTables) (was now : Memory) → IsLoaded boot t was → now ≡ with_room_of was now → IsLoaded boot t now
+loaded_with_room boot t was now h e = subst (λ (m : Memory). IsLoaded boot t m) (sym e) (record {
+  objects = record { patches = h.objects.patches; unflushed = h.objects.unflushed; layered = h.objects.layered };
+  mediums = h.mediums;
+  addresses = record { patches = h.addresses.patches; unflushed = h.addresses.unflushed; layered = h.addresses.layered };
+  segments = h.segments;
+  elisions = h.elisions;
+  staged = h.staged;
+  next = h.next;
+})
+
+-- and is as sound
+pub sound_with_room : (was now : Memory) → now.tables.objects ≡ record was.tables.objects { room = now.tables.objects.room } → now.tables.mediums ≡ was.tables.mediums
+    → now.tables.addresses ≡ record was.tables.addresses { room = now.tables.addresses.room } → now.tables.segments ≡ was.tables.segments → now.tables.elisions ≡ was.tables.elisions
+    → now.staged ≡ was.staged → now.next ≡ was.next → IsSound was → IsSound now
+sound_with_room was now o d a s e st n is =
+    sound_as was now (λ i. record { objects = facts_in (o i); mediums = facts_in (d i); addresses = facts_in (a i); segments = facts_in (s i); elisions = facts_in (e i) }) st n is
+
+-- ---- it is sound
+
+module _ (shelf : Geometry) (boot : BootRecord) (t : LoadedTables) (sound : AreSound shelf boot (patches_in t)) (lawful : AreLawful t) (next : AreNext boot.next) where
+  abbrev Loaded : Memory
+  Loaded = plain (facts_loaded t) [] boot.next
+
+  target_fits : (target : Target) → IsTarget target → FitsTarget 0 target
+  target_fits (Stored at) h = inr (h.0.0, h.0.1, h.1)
+  target_fits Zero h = tt
+
+  address_fits : (f : AddressFact) → Contains (facts_of t.addresses.items) f → FitsInMemory 0 (any.Address f)
+  address_fits f c =
+      let w = All-contains (λ x. IsFact (any.Address x)) (facts_of t.addresses.items) f lawful.addresses c in
+      (w.lawful.id, w.lawful.number, w.lawful.statement.0, target_fits f.target w.lawful.statement.1)
+
+  stored : AreInSegments (facts_of t.addresses.items)
+  stored f at c e = (subst IsTarget e (All-contains (λ x. IsFact (any.Address x)) (facts_of t.addresses.items) f lawful.addresses c).lawful.statement.1).0
+
+  fit : (a : AnyFact) → Contains (all_of (facts_loaded t)) a → FitsInMemory 0 a
+  fit = of_all (facts_loaded t) (λ a. FitsInMemory 0 a)
+      (λ x c. All-contains (λ y. IsFact (any.Object y)) (facts_of t.objects.items) x lawful.objects c)
+      (λ x c. All-contains (λ y. IsFact (any.Medium y)) (facts_of t.mediums.items) x lawful.mediums c)
+      address_fits
+      (λ x c. All-contains (λ y. IsFact (any.Segment y)) (facts_of t.segments.items) x lawful.segments c)
+      (λ x c. All-contains (λ y. IsFact (any.Elision y)) (facts_of t.elisions.items) x lawful.elisions c)
+
+  there : AreAddressesThere Loaded
+  there =
+      let a = subst AreAddressesSound (same_facts t) sound.addresses in
+      record { there = λ medium sector at e. inr (a.there medium sector at e); within = a.within }
+
+  numbered : AreNumbered Loaded
+  numbered = record {
+    below = λ f c. of_each (λ x. any_number x < boot.next.sequence) (in_patches (patches_in t)) f sound.sequences.below (subst (λ l. Contains l f) (sym (all_joined t)) c);
+    distinct = λ f g c d e. elim (pairs_of (λ x y. any_number x ≢ any_number y) (in_patches (patches_in t)) f g sound.sequences.distinct
+        (subst (λ l. Contains l f) (sym (all_joined t)) c) (subst (λ l. Contains l g) (sym (all_joined t)) d)) [
+          | inl same ↦ same
+          | inr either ↦ elim either [ inl differ ↦ absurd (differ e) | inr differ ↦ absurd (differ (sym e)) ]
+        ];
+  }
+
+  as_plain : IsSound Loaded
+  as_plain = record {
+    next = next;
+    fit = fit;
+    sectors = λ sector c. absurd (nowhere sector c);
+    ids = subst (λ f. AreIdsBelow boot.next f) (same_facts t) sound.ids;
+    objects = subst (λ f. AreObjectsSound f boot.next.object) (same_facts t) sound.objects;
+    mediums = subst AreMediumsSound (same_facts t) sound.mediums;
+    addresses = there;
+    elisions = subst (λ (f : Facts). AreElisionsSound f.elisions) (same_facts t) sound.elisions;
+    numbers = numbered;
+  }
+
+  pub loaded_sound : (m : Memory) → IsLoaded boot t m → IsSound m
+  loaded_sound m h = sound_as Loaded m (facts_same boot t m h) h.staged h.next as_plain
+
+  pub loaded_reads : (m : Memory) → IsLoaded boot t m → (contents : Contents) (base : Array) → FactsRead contents [] (all_facts (patches m.tables)) m.next.object base → ReadsAs contents m base
+  loaded_reads m h contents base read = record {
+    sound = loaded_sound m h;
+    reads = subst (λ (s : List (List ℕ)). FactsRead contents s (facts m.tables) m.next.object base) (sym h.staged)
+        (subst (λ f. FactsRead contents [] f m.next.object base) (all_same boot t m h) read);
+  }
+
+  pub loaded_stored : (m : Memory) → IsLoaded boot t m → AreInSegments (facts m.tables).addresses
+  loaded_stored m h = subst (λ (f : Facts). AreInSegments f.addresses) (sym (facts_same boot t m h)) stored
+
+-- ---- what is kept beside sound facts
+
+module _ (el : ElidedRanges) (e : Layers ElisionFact) (flushed : e.unflushed ≡ []) (by : AreElidedBy (facts_of e.patches) el) where
+  same_id : (x : Table) (id : ℕ) → is_elided (facts_in e) x id ≡ is_within (ranges_of el x) id
+  same_id x id = ap (λ l. is_elided l x id) (ap (λ u. facts_of e.patches ++ u) flushed ∙ append-nil (facts_of e.patches)) ∙ by.ids x id
+
+  same_test : (x : Table) → is_elided (facts_in e) x ≡ is_within (ranges_of el x)
+  same_test x = λ i id. same_id x id i
+
+  pub kept_of_sound : (o : Objects) (d : Layers MediumFact) (a : Layers AddressFact) (s : Segments) (st : List (List ℕ)) (r : ℕ) (n : NextNumbers)
+      → IsSound (kept_of o d a s e el st r n).memory → ((x : Table) → AreApart (ranges_of el x))
+      → IsShown object_key (λ f. f.seq.0) never (facts_in o.facts) (is_within (ranges_of el table.Object)) o.visible
+      → IsShown segment_key (λ f. f.seq.0) never (facts_in s.facts) (is_within (ranges_of el table.Segment)) s.visible
+      → IsKept (kept_of o d a s e el st r n)
+  kept_of_sound o d a s st r n is apart shown_objects shown_segments = record {
+    objects = subst (λ test. IsShown object_key (λ f. f.seq.0) never (facts_in o.facts) test o.visible) (sym (same_test table.Object)) shown_objects;
+    segments = subst (λ test. IsShown segment_key (λ f. f.seq.0) never (facts_in s.facts) test s.visible) (sym (same_test table.Segment)) shown_segments;
+    elided = λ x not_elisions. record {
+      same = λ id. (subst (λ b. IsTrue b) (same_id x id), subst (λ b. IsTrue b) (sym (same_id x id)));
+      whole = recursion_from_All (λ r. r.0 ≤ r.1) (ranges_of el x) (apart x).whole;
+      apart = (apart x).apart;
+    };
+    next = is.next;
+    ids = is.ids;
+    numbers = is.numbers;
+  }
+
+  -- objects that sound facts say have names of their own
+  pub own_names : (o : Layers ObjectFact) (d : Layers MediumFact) (a : Layers AddressFact) (s : Layers SegmentFact) (n : NextNumbers) → IsSound (memory_of o d a s e n)
+      → (x y : ObjectFact) → says object_key (λ f. f.seq.0) never (facts_in o) (is_within (ranges_of el table.Object)) (object_key x) ≡ Some x
+      → says object_key (λ f. f.seq.0) never (facts_in o) (is_within (ranges_of el table.Object)) (object_key y) ≡ Some y → x.name ≡ y.name → x ≡ y
+  own_names o d a s n is x y p q same = elim (pairs_of (λ v w. v.name ≢ w.name) (objects (facts (memory_of o d a s e n).tables) n.object) x y is.objects.names (visible x p) (visible y q)) [
+    | inl one ↦ one
+    | inr either ↦ elim either [ inl differ ↦ absurd (differ same) | inr differ ↦ absurd (differ (sym same)) ]
+  ]
+    where
+      visible : (z : ObjectFact) → says object_key (λ f. f.seq.0) never (facts_in o) (is_within (ranges_of el table.Object)) (object_key z) ≡ Some z
+          → Contains (objects (facts (memory_of o d a s e n).tables) n.object) z
+      visible z said_within =
+          let said = subst (λ test. says object_key (λ f. f.seq.0) never (facts_in o) test (object_key z) ≡ Some z) (sym (same_test table.Object)) said_within in
+          let found = object_is (facts (memory_of o d a s e n).tables) z.object.0 z said in
+          in_objects (facts (memory_of o d a s e n).tables) n.object z.object.0 z said
+          (of_each (λ (f : ObjectFact). (f.object.0 < n.object) × (f.medium.0 < n.medium)) (facts_in o) z is.ids.objects found.0).0
+
+-- elisions of sound memory elide ranges
+pub sound_ranges : (o : Layers ObjectFact) (d : Layers MediumFact) (a : Layers AddressFact) (s : Layers SegmentFact) (e : Layers ElisionFact) (n : NextNumbers) → IsSound (memory_of o d a s e n) → e.unflushed ≡ []
+    → All IsRange (facts_of e.patches)
+sound_ranges o d a s e n is flushed = elided_ranges (facts_of e.patches) (all_contained (λ f. IsFact (any.Elision f)) (facts_of e.patches) (λ f c.
+    is.fit (any.Elision f) (all_elisions (facts (memory_of o d a s e n).tables) f (Contains-append_left (facts_of e.patches) e.unflushed f c))))
+
+-- ---- what loading asks
+
+module _ (shelf : Geometry) (boot : BootRecord) (t : LoadedTables) (sound : AreSound shelf boot (patches_in t)) where
+  module _ (named : AreNamed boot t) where
+    pub objects_rise : Rises (λ (f : ObjectFact). f.seq.0) t.objects.items []
+    objects_rise = (parts_from_sequences boot t named sound.sequences table.Object).rising
+
+    pub mediums_rise : Rises (λ (f : MediumFact). f.seq.0) t.mediums.items []
+    mediums_rise = (parts_from_sequences boot t named sound.sequences table.Medium).rising
+
+    pub addresses_rise : Rises (λ (f : AddressFact). f.seq.0) t.addresses.items []
+    addresses_rise = (parts_from_sequences boot t named sound.sequences table.Address).rising
+
+    pub segments_rise : Rises (λ (f : SegmentFact). f.seq.0) t.segments.items []
+    segments_rise = (parts_from_sequences boot t named sound.sequences table.Segment).rising
+
+    pub elisions_rise : Rises (λ (f : ElisionFact). f.seq.0) t.elisions.items []
+    elisions_rise = (parts_from_sequences boot t named sound.sequences table.Elision).rising

@@ -1,0 +1,49 @@
+use Rattle.std.proofs.Common.{rules, ◌≡◌, length, ap, ◌∙◌, arith, map}
+use Rattle.std.proofs.lemmas.Grind.{common_steps}
+use Rattle.pur_base.specs.declared.facts.SegmentFact.{SegmentFact}
+use Rattle.checkpoint_plan.specs.Segments.{segments_from}
+use Rattle.array_memory.specs.declared.plan.Plan.{Plan}
+use Rattle.array_memory.proofs.Seen.{seen}
+use Rattle.array_memory.proofs.PlanLemmas.{ids_rise, made_for, segments_units}
+use Rattle.array_memory.proofs.FinishLemmas.{new_last}
+use Rattle.array_memory.proofs.memory.Memory.planned.Goals as goal
+
+pub newest_with-requires-clause-ascends : goal.newest_with-requires-clause-ascends
+newest_with-requires-clause-ascends c = rw (c.deref.ensures.value, c.in_ok-segments.ensures) (ids_rise c.self.inside.next.segment c.self.inside.next.sequence c.len.result c.args.units.now)
+
+pub newest_with-requires-clause-last : goal.newest_with-requires-clause-last
+newest_with-requires-clause-last c = rw c.deref.ensures.value (new_last (seen c.self.inside) c.len.result c.args.units.now c.in_ok-segments.segments.items c.self.invariant c.in_ok-segments.ensures)
+
+plan : goal.After-next_past → Plan
+plan c = record {
+  placing = c.args.placing;
+  segments = c.in_ok-segments.segments;
+  objects = c.in_ok-objects.objects;
+  mediums = c.in_ok-mediums.mediums;
+  addresses = c.in_ok-addresses.addresses;
+  segment_facts = c.in_ok-segment_facts.segment_facts;
+  elisions = c.in_ok-elisions.elisions;
+  next = c.next_past.result;
+}
+
+long : (c : goal.After-next_past) → c.len.result ≡ length c.args.placing.order.items
+long c = first_of (search rules, grind (arith, common_steps))
+
+pub returns-clause-plan : goal.returns-clause-plan
+unfolding plan
+returns-clause-plan c =
+    let sound = rw (← c.self.view_is) at c.requires.sound in
+    let stored = rw (← c.self.view_is) at c.requires.stored in
+    let layered = rw (← c.self.view_is) at c.layers.ensures in
+    let placing = rw (← c.self.view_is) at c.requires.placing in
+    let left = rw (← c.self.view_is) at c.requires.left in
+    let objects = rw c.facts.ensures at c.in_ok-objects.ensures in
+    let addresses = rw (← c.self.view_is) at c.in_ok-addresses.ensures in
+    let segment_facts = rw c.deref.ensures.value at c.in_ok-segment_facts.ensures in
+    let next = rw (← c.self.view_is) at c.next_past.ensures in
+    rw (← c.self.view_is) (made_for (seen c.self.inside).memory (plan c) c.args.units.now sound stored layered placing c.requires.wanted c.requires.places left
+    (c.in_ok-segments.ensures ∙ ap (λ n. segments_from c.self.inside.next.segment c.self.inside.next.sequence n c.args.units.now) (long c))
+    objects c.in_ok-mediums.ensures addresses segment_facts c.in_ok-elisions.ensures next)
+
+pub returns-clause-units : goal.returns-clause-units
+returns-clause-units c = ap (λ l. map (λ (d : SegmentFact). d.places) l) c.in_ok-segments.ensures ∙ segments_units c.self.inside.next.segment c.self.inside.next.sequence c.len.result c.args.units.now

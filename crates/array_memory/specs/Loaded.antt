@@ -1,0 +1,60 @@
+-- Memory of tables that were loaded.
+use Rattle.std.specs.Prelude.{◌≡◌, ℕ, ◌+◌, ◌≤◌, List, [], length, Contains}
+use Rattle.pur_base.specs.Facts.{object_key, medium_key, address_key, segment_key, elision_key}
+use Rattle.pur_base.specs.declared.limits.TheConstants.{OBJECTS}
+use Rattle.pur_base.specs.declared.place.Location.{Location}
+use Rattle.pur_base.specs.declared.facts.Target.TheVariants.{Stored}
+use Rattle.pur_base.specs.declared.facts.ObjectFact.{ObjectFact}
+use Rattle.pur_base.specs.declared.facts.MediumFact.{MediumFact}
+use Rattle.pur_base.specs.declared.facts.AddressFact.{AddressFact}
+use Rattle.pur_base.specs.declared.facts.SegmentFact.{SegmentFact}
+use Rattle.pur_base.specs.declared.facts.ElisionFact.{ElisionFact}
+use Rattle.boot_codec.specs.declared.record.NextNumbers.{NextNumbers}
+use Rattle.boot_codec.specs.declared.record.BootRecord.{BootRecord}
+use Rattle.fact_codec.specs.Fact.{IsNext}
+use Rattle.pyramid.specs.Layers.{Layers, IsLayered}
+use Rattle.address_table.specs.declared.table.TheConstants.{UNFLUSHED_ADDRESSES}
+use Rattle.table_soundness.specs.declared.tables.LoadedTables.{LoadedTables}
+use Rattle.memory_spec.specs.Memory.{Memory}
+use Rattle.array_memory.specs.declared.limits.TheConstants.{STAGED_SECTORS, UNFLUSHED_OBJECTS}
+use Rattle.array_memory.specs.Kept.{Kept}
+
+-- these patches in layers, and no fact beside them
+pub record HasOnly {F : Type 0} (key number : F → ℕ) (given : List (List F)) (l : Layers F) : Type 0 where
+  pub patches : l.patches ≡ given
+  pub unflushed : l.unflushed ≡ []
+  pub layered : IsLayered key number l.patches l.unflushed
+
+-- the tables with nothing beside their patches, nothing staged, and the next numbers of the record
+pub record IsLoaded (boot : BootRecord) (t : LoadedTables) (m : Memory) : Type 0 where
+  pub objects : HasOnly object_key (λ f. f.seq.0) t.objects.items m.tables.objects
+  pub mediums : HasOnly medium_key (λ f. f.seq.0) t.mediums.items m.tables.mediums
+  pub addresses : HasOnly address_key (λ f. f.seq.0) t.addresses.items m.tables.addresses
+  pub segments : HasOnly segment_key (λ f. f.seq.0) t.segments.items m.tables.segments
+  pub elisions : HasOnly elision_key (λ f. f.seq.0) t.elisions.items m.tables.elisions
+  pub staged : m.staged ≡ []
+  pub next : m.next ≡ boot.next
+
+-- memory of these facts, in which nothing is staged
+abbrev pub memory_of : Layers ObjectFact → Layers MediumFact → Layers AddressFact → Layers SegmentFact → Layers ElisionFact → NextNumbers → Memory
+memory_of o d a s e next = record { tables = record { objects = o; mediums = d; addresses = a; segments = s; elisions = e }; staged = []; next = next }
+
+-- the same but for room for objects and addresses
+abbrev pub with_room_of : Memory → Memory → Memory
+with_room_of was now = record was {
+  tables = record was.tables {
+    objects = record was.tables.objects { room = now.tables.objects.room };
+    addresses = record was.tables.addresses { room = now.tables.addresses.room };
+  };
+}
+
+-- no address names a staged sector: each stored one is of a segment with an id
+abbrev pub AreInSegments : List AddressFact → Type 0
+AreInSegments facts = (f : AddressFact) (at : Location) → Contains facts f → f.target ≡ Stored at → IsNext at.segment.0
+
+-- room for the commands of a whole log
+pub record HasLogRoom (k : Kept) : Type 0 where
+  pub objects : UNFLUSHED_OBJECTS ≤ k.memory.tables.objects.room
+  pub names : OBJECTS ≤ length k.objects + k.name_room
+  pub addresses : UNFLUSHED_ADDRESSES ≤ k.memory.tables.addresses.room
+  pub staged : STAGED_SECTORS ≤ k.staged_room

@@ -1,0 +1,66 @@
+ghost use Rattle.std.specs.Prelude.{◌≡◌, length};
+ghost use Rattle.pyramid.specs.Layers.{patch_facts};
+ghost use Rattle.array_memory.specs.Plan.{AreCounts};
+
+use boot_codec::NextNumbers;
+use pur_base::{AddressFact, ElisionFact, Fact, MediumFact, ObjectFact, SegmentFact};
+use pyramid::Patch;
+
+/// Which staged sectors a checkpoint places: those that a newest unflushed address names.
+#[derive(Drop)]
+pub struct Placing {
+    /// The indices of the sectors that are placed, ascending.
+    pub order: Vec<u16>,
+    /// For each staged sector whether it is placed.
+    pub flags: Vec<bool>,
+    /// Of each address the newest unflushed fact.
+    pub newest: Option<Patch<AddressFact>>,
+}
+
+/// What a checkpoint makes of memory: the new segments, the new patch of each table, and the next numbers.
+#[derive(Drop)]
+pub struct Plan {
+    pub placing: Placing,
+    pub segments: Vec<SegmentFact>,
+    pub objects: Option<Patch<ObjectFact>>,
+    pub mediums: Option<Patch<MediumFact>>,
+    pub addresses: Option<Patch<AddressFact>>,
+    pub segment_facts: Option<Patch<SegmentFact>>,
+    pub elisions: Option<Patch<ElisionFact>>,
+    pub next: NextNumbers,
+}
+
+/// How many facts the new patch of each table has, or 0 where there is none.
+#[derive(Clone, Copy, Debug, PartialEq, Eq)]
+pub struct Counts {
+    pub objects: usize,
+    pub mediums: usize,
+    pub addresses: usize,
+    pub segments: usize,
+    pub elisions: usize,
+}
+
+/// The facts of a patch, or none.
+pub fn facts_of<F: Fact + Drop>(patch: &Option<Patch<F>>) -> &[F]
+    ensures { result.now ≡ patch_facts patch.now }
+{
+    match patch {
+        Some(patch) => patch.facts(),
+        None => &[],
+    }
+}
+
+impl Plan {
+    /// How many facts the new patch of each table has: so many are written.
+    pub fn counts(&self) -> Counts
+        ensures { AreCounts self.now result }
+    {
+        Counts {
+            objects: facts_of(&self.objects).len(),
+            mediums: facts_of(&self.mediums).len(),
+            addresses: facts_of(&self.addresses).len(),
+            segments: facts_of(&self.segment_facts).len(),
+            elisions: facts_of(&self.elisions).len(),
+        }
+    }
+}

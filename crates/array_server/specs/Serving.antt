@@ -1,0 +1,10 @@
+-- How a session ends.
+use Rattle.pur_base.specs.declared.reply.Status.{Status}
+use Rattle.pur_base.specs.declared.reply.Status.TheVariants as status
+use Rattle.array_session.specs.Sessions.{IsSessionEnd}
+
+-- the ways in which `serve` ends
+abbrev pub IsServeStatus : Status → Type 0
+IsServeStatus status.Memory = Unit {0}
+IsServeStatus status.NoArray = Unit {0}
+IsServeStatus s = IsSessionEnd s

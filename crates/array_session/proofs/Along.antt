@@ -1,0 +1,103 @@
+-- A session so far: the replies that were given, and what each stop since its start leaves, whatever is called next.
+use Rattle.std.proofs.Common.{◌≡◌, ◌⊎◌, inl, inr, ⊎_elim, ℕ, ◌≤◌, List, [], ◌++◌, length, drop, refl, sym, ◌∙◌, ap, arith, append_assoc, None, Bool}
+use Rattle.std.specs.List.{AllByRecursion}
+use Rattle.std.proofs.lemmas.List.{append-nil, drop_at}
+use Rattle.pur_base.specs.Grammar.{Item}
+use Rattle.pur_base.specs.Replies.{Answer, texts}
+use Rattle.array_spec.specs.Acked.{IsAnswer, acked, after_reply}
+use Rattle.array_spec.proofs.AckedLemmas.{counts-replies}
+use Rattle.world.specs.Losing.{geometry_of, IsLater}
+use Rattle.world.specs.Shelf.{Shelved, Stop, Continues, Leaves, IsCountedBy}
+use Rattle.session_spec.specs.Faring.{Point, IsReached, Fares}
+use Rattle.session_spec.specs.Ends.{IsPartOfNext}
+use Rattle.session_spec.specs.Headline.{Replied}
+use Rattle.session_spec.specs.Reaching.{NoMore}
+use Rattle.array_session.proofs.Going.{IsUpTo, later_than, up_to_before, fares_later, fares_on, replied_on}
+
+-- At a stop these replies were whole, and R is so of it.
+pub record HasReplied (told : Bool) (start now : Shelved) (first : Point) (items : List Item) (R : Point → List Item → Stop → Type 0) (stop : Stop) : Type 0 where
+  pub at : Replied told (geometry_of start) (now.left_since start.moment) first items stop
+  pub up_to : IsUpTo now at.point.stop
+  pub holds : R at.point (drop (length at.replies) items) stop
+
+-- These replies were given, and no more.
+pub record Along (told : Bool) (start now : Shelved) (first : Point) (items : List Item) (R : Point → List Item → Stop → Type 0) (replies : List Answer) (last : Point) : Type 0 where
+  pub continues : Continues start now
+  pub reached : IsReached (now.left_since start.moment) first
+  pub run : Fares told (geometry_of start) (now.left_since start.moment) first items replies last
+  pub whole : AllByRecursion IsAnswer replies
+  pub output : now.output ≡ first.stop.output ++ texts replies
+  pub said : last.stop.output ≡ now.output
+  pub up_to : IsUpTo now last.stop
+  pub bounded : NoMore start.moment now
+  pub moments : Leaves start now (HasReplied told start now first items R)
+
+-- what a stop may leave after some calls: what it might before, or what has Q
+abbrev pub Adds : Shelved → Shelved → (Stop → Type 0) → Type 0
+Adds a b Q = (t : ℕ) (stop : Stop) → t ≤ a.moment → b.left_since t stop → a.left_since t stop ⊎ Q stop
+
+pub up_to_then : {a b : Shelved} {stop : Stop} → Continues a b → IsUpTo a stop → IsUpTo b stop
+up_to_then {a} {b} {stop} on up = record { faults = λ d. omega (arith, up.faults d, on.faults d); write_faults = λ d. omega (arith, up.write_faults d, on.write_faults d) }
+
+-- so many replies are whole in what was given, where they are, and a part of the next is not
+pub count_of : (before out : List ℕ) (replies : List Answer) (part : List ℕ) → AllByRecursion IsAnswer replies → after_reply part ≡ None → out ≡ before ++ texts replies ++ part → length replies ≡ acked (drop (length before) out)
+count_of before out replies part whole none is =
+    let same : drop (length before) out ≡ texts replies ++ part = ap (λ (l : List ℕ). drop (length before) l) (is ∙ append_assoc before (texts replies) part) ∙ drop_at before (texts replies ++ part) (length before) refl in
+    sym (ap acked same ∙ counts-replies replies part whole none)
+
+-- Some calls later, where each new stop has counts that are no lower.
+module _ (told : Bool) (start a b : Shelved) (first last : Point) (items : List Item) (R : Point → List Item → Stop → Type 0) (replies : List Answer) (Q : Stop → Type 0)
+    (so : Along told start a first items R replies last) (on : Continues a b) (unlapsed : b.lapsed → ⊥) (adds : Adds a b Q) (counted : (stop : Stop) → Q stop → IsCountedBy a stop) where
+  grows : (stop : Stop) → a.left_since start.moment stop → b.left_since start.moment stop
+  grows stop left = on.keeps unlapsed start.moment stop so.continues.later left
+
+  back : (point : Stop) → IsUpTo a point → (stop : Stop) → b.left_since start.moment stop → a.left_since start.moment stop ⊎ IsLater point stop
+  back point up stop left = ⊎_elim (λ was. inl was) (λ now. inr (later_than up (counted stop now))) (adds start.moment stop so.continues.later left)
+
+  pub run_on : Fares told (geometry_of start) (b.left_since start.moment) first items replies last
+  run_on = fares_on told (geometry_of start) (a.left_since start.moment) (b.left_since start.moment) grows first last items replies (back last.stop so.up_to) so.run
+
+  pub reached_on : IsReached (b.left_since start.moment) first
+  reached_on =
+      let first_up_to = up_to_before (fares_later told (a.left_since start.moment) (geometry_of start) first last items replies so.run) so.up_to in
+      record {
+        may = grows first.stop so.reached.may;
+        first = λ stop left long. ⊎_elim (λ was. so.reached.first stop was long) (λ later. later) (back first.stop first_up_to stop left);
+      }
+
+  told_on : (stop : Stop) → HasReplied told start a first items R stop → HasReplied told start b first items R stop
+  told_on stop was = record {
+    at = replied_on told (geometry_of start) (a.left_since start.moment) (b.left_since start.moment) grows first items stop was.at (back was.at.point.stop was.up_to);
+    up_to = up_to_then on was.up_to;
+    holds = was.holds;
+  }
+
+  pub moments_on : ((stop : Stop) → Q stop → HasReplied told start b first items R stop) → Leaves start b (HasReplied told start b first items R)
+  moments_on here = record {
+    each = λ stop left. ⊎_elim (λ was. told_on stop (so.moments.each stop was)) (λ now. here stop now) (adds start.moment stop so.continues.later left);
+    before = λ t stop le left.
+        let le_a : t ≤ a.moment = omega (arith, le, so.continues.later) in
+        ⊎_elim (λ was. ⊎_elim (λ older. inl older) (λ t. inr (told_on stop t)) (so.moments.before t stop le was)) (λ now. inr (here stop now)) (adds t stop le_a left);
+  }
+
+  -- a stop that leaves the same replies, and a part of the next
+  pub told_part : (stop : Stop) (part : List ℕ) → after_reply part ≡ None → (part ≡ []) ⊎ IsPartOfNext told (geometry_of start) last stop (drop (length replies) items) part → stop.output ≡ a.output ++ part
+      → R last (drop (length replies) items) stop → HasReplied told start b first items R stop
+  told_part stop part none is_part output holds =
+      let whole : stop.output ≡ first.stop.output ++ texts replies ++ part = output ∙ ap (λ (l : List ℕ). l ++ part) so.output in
+      record {
+        at = record {
+          replies = replies;
+          point = last;
+          run = run_on;
+          part = part;
+          is_part = is_part;
+          output = whole;
+          count = count_of first.stop.output stop.output replies part so.whole none whole;
+        };
+        up_to = up_to_then on so.up_to;
+        holds = holds;
+      }
+
+  pub told_same : (stop : Stop) → stop.output ≡ a.output → R last (drop (length replies) items) stop → HasReplied told start b first items R stop
+  told_same stop output holds = told_part stop [] refl (inl refl) (output ∙ sym (append-nil a.output)) holds

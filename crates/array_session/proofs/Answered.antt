@@ -1,0 +1,93 @@
+-- Answers where more calls have failed, and more devices have lost writes.
+use Rattle.std.proofs.Common.{◌≡◌, inl, inr, ⊎_elim, ℕ, ◌≤◌, ◌-◌, ◌^◌, List, refl, subst, arith, Bool, true, false}
+use Rattle.std.specs.Prelude.{Option, Some, None, ◌||◌, nat_lt, nat_le}
+use Rattle.std.proofs.lemmas.Bool.{cases_lt, lt-ltb, le-ltb, or_left, or_right}
+use Rattle.pur_base.specs.declared.device.Device.{Device}
+use Rattle.pur_base.specs.declared.request.Request.{Request}
+use Rattle.pur_base.specs.declared.request.Request.TheVariants as request
+use Rattle.pur_base.specs.declared.reply.Refusal.{Refusal}
+use Rattle.pur_base.specs.Devices.{Geometry, Condition, Sound, Missing, LeftOut, MayBecome, drive}
+use Rattle.pur_base.specs.Plain.{refusal}
+use Rattle.pur_base.specs.Grammar.{Item, Asked, Syntax, Cut}
+use Rattle.pur_base.specs.Replies.{Answer}
+use Rattle.world.specs.Losing.{has_risen, missing_if, losing}
+use Rattle.session_spec.specs.Faring as faring
+use Rattle.session_spec.specs.Faring.{Point, Answers, AnswersRequest, AnswersAccepted, IsDone, IsFailed, IsGone, IsLost, LosesThree, Where, WithRoom, is_spent, is_full}
+use Rattle.session_spec.proofs.Conditions.{borne_before}
+
+pub risen_more : (a b c : ℕ) → b ≤ c → has_risen a b ≡ true → has_risen a c ≡ true
+risen_more a b c le is = elim (cases_lt a c) [
+  | inl lt ↦ or_left (nat_lt a c) (nat_le (2 ^ 64 - 1) a) (lt-ltb a c lt)
+  | inr ge ↦
+      let isn't : nat_lt a b ≡ false = le-ltb a b (omega (arith, ge, le)) in
+      or_right (nat_lt a c) (nat_le (2 ^ 64 - 1) a) (subst (λ (x : Bool). (x || nat_le (2 ^ 64 - 1) a) ≡ true) isn't is)
+]
+
+pub goes_more : (c : Condition) (p q : Bool) → (p ≡ true → q ≡ true) → MayBecome (missing_if p c) (missing_if q c)
+goes_more Sound true true f = refl
+goes_more Sound true false f = absurd (cc (f refl))
+goes_more Sound false true f = inr refl
+goes_more Sound false false f = inl refl
+goes_more Missing p q f = refl
+goes_more LeftOut p q f = refl
+
+where_more : (is : Bool) (one some others : Type 0) → (some → others) → Where is one some → Where is one others
+where_more true one some others f h = h
+where_more false one some others f h = f h
+
+module _ (told : Bool) (shelf : Geometry) (failed others lost more : Device → Bool) (f : (d : Device) → failed d ≡ true → others d ≡ true) (g : (d : Device) → lost d ≡ true → more d ≡ true) (from to : Point) (q : Answer) where
+  done_more : (r : Request) (sectors : List (List ℕ)) → IsDone lost from r sectors q to → IsDone more from r sectors q to
+  done_more r sectors h = record {
+    reply = h.reply;
+    array = h.array;
+    logged = h.logged;
+    boot = ⊎_elim (λ same. inl same) (λ rose. inr (rose.0, g rose.0 rose.1, rose.2, rose.3, rose.4)) h.boot;
+    next = h.next;
+    halted = h.halted;
+  }
+
+  failed_more : IsFailed shelf lost from q to → IsFailed shelf more from q to
+  failed_more h = record {
+    unborne = λ b. h.unborne (borne_before shelf (losing lost from.conditions) (losing more from.conditions) (λ d. goes_more (from.conditions d) (lost d) (more d) (g d)) b);
+    reply = h.reply;
+    stays = h.stays;
+    halted = h.halted;
+  }
+
+  gone_more : (i : ℕ) → IsGone failed from i → IsGone others from i
+  gone_more i h = ⊎_elim (λ missing. inl missing) (λ is. inr (f (drive i) is)) h
+
+  lost_more : IsLost shelf failed from q to → IsLost shelf others from q to
+  lost_more h = record {
+    three = record {
+      first = h.three.first;
+      second = h.three.second;
+      third = h.three.third;
+      in_order = h.three.in_order;
+      are = (gone_more h.three.first h.three.are.0, gone_more h.three.second h.three.are.1, gone_more h.three.third h.three.are.2);
+    };
+    refused_so = h.refused_so;
+  }
+
+  logged_more : (r : Request) (sectors : List (List ℕ)) → faring.IsLogged shelf lost from r sectors q to → faring.IsLogged shelf more from r sectors q to
+  logged_more r sectors h = where_more (is_spent from) _ _ _ (λ w. where_more (is_full from) _ _ _ (λ s. ⊎_elim (λ d. inl (done_more r sectors d)) (λ x. inr (failed_more x)) s) w) h
+
+  accepted_more : (r : Request) (sectors : List (List ℕ)) → AnswersAccepted told shelf failed lost from r sectors q to → AnswersAccepted told shelf others more from r sectors q to
+  accepted_more (request.Create n size) sectors h = logged_more (request.Create n size) sectors h
+  accepted_more (request.Write n lba count) sectors h = logged_more (request.Write n lba count) sectors h
+  accepted_more (request.Fill n lba count byte) sectors h = logged_more (request.Fill n lba count byte) sectors h
+  accepted_more (request.Read n lba count) sectors h = ⊎_elim (λ is. inl is) (λ is. inr (lost_more is)) h
+  accepted_more request.List sectors h = h
+  accepted_more _ sectors h = absurd h
+
+  request_more : (halted : Bool) (why : Option Refusal) (r : Request) (sectors : List (List ℕ)) → AnswersRequest halted why told shelf failed lost from r sectors q to → AnswersRequest halted why told shelf others more from r sectors q to
+  request_more true why r sectors h = h
+  request_more false (Some why) r sectors h = h
+  request_more false None r sectors h = accepted_more r sectors h
+
+-- the same answer where more have failed
+pub answers_more : (told : Bool) (shelf : Geometry) (failed others lost more : Device → Bool) → ((d : Device) → failed d ≡ true → others d ≡ true) → ((d : Device) → lost d ≡ true → more d ≡ true) → (from : Point) (item : Item) (q : Answer) (to : Point)
+    → Answers told shelf failed lost from item q to → Answers told shelf others more from item q to
+answers_more told shelf failed others lost more f g from (Asked r sectors) q to h = request_more told shelf failed others lost more f g from to q from.halted (refusal from.array r) r sectors h
+answers_more told shelf failed others lost more f g from Syntax q to h = h
+answers_more told shelf failed others lost more f g from Cut q to h = h

@@ -1,0 +1,102 @@
+-- What an answer makes of the array: the same, the item is done, or more failed than is borne.
+use Rattle.std.proofs.Common.{◌≡◌, ◌⊎◌, inl, inr, ℕ, List, [], ◌∷◌, refl, sym, ◌∙◌, ap, subst, Bool, true, false}
+use Rattle.std.specs.Prelude.{Option, Some, None}
+use Rattle.pur_base.specs.declared.device.Device.{Device}
+use Rattle.pur_base.specs.declared.request.Request.{Request}
+use Rattle.pur_base.specs.declared.request.Request.TheVariants as request
+use Rattle.pur_base.specs.declared.reply.Refusal.{Refusal}
+use Rattle.pur_base.specs.declared.reply.Refusal.TheVariants as refusals
+use Rattle.pur_base.specs.Devices.{Geometry, IsBearable}
+use Rattle.pur_base.specs.Plain.{refusal, done}
+use Rattle.pur_base.specs.Grammar.{Item, Asked, Syntax, Cut}
+use Rattle.pur_base.specs.Commands.{IsLogged}
+use Rattle.pur_base.specs.Replies.{Answer, after_unless}
+use Rattle.world.specs.Losing.{losing}
+use Rattle.session_spec.specs.Faring as faring
+use Rattle.session_spec.specs.Faring.{Point, Answers, AnswersRequest, AnswersAccepted, IsRefused, IsDone, IsFailed, IsLost, Where, WithRoom, is_spent, is_full}
+use Rattle.session_spec.specs.Headline.{IsAfter, IsNext}
+
+where_not : (b : Bool) {one other P : Type 0} → (one → P) → (b ≡ false → other → P) → Where b one other → P
+where_not true f g h = f h
+where_not false f g h = g refl h
+
+in_room : (from to : Point) (q : Answer) {some P : Type 0} → ((why : Refusal) → IsRefused why from q to → P) → (is_spent from ≡ false → is_full from ≡ false → some → P) → WithRoom from q to some → P
+in_room from to q f g h = where_not (is_spent from) (f refusals.Spent) (λ unspent. where_not (is_full from) (f refusals.Space) (λ room. g unspent room)) h
+
+-- how an item may come out: with the array as it was, with it done, or with too much lost
+abbrev pub ComesTo : Geometry → (Device → Bool) → Point → List Item → Point → Type 0
+ComesTo shelf lost from rest to = ((to.array ≡ from.array) × (to.halted ≡ from.halted)) ⊎ (IsNext from rest to.array × (to.halted ≡ from.halted)) ⊎ ((to.array ≡ from.array) × ¬ (IsBearable shelf (losing lost from.conditions)))
+
+module _ (told : Bool) (shelf : Geometry) (failed lost : Device → Bool) (from to : Point) (q : Answer) (more : List Item) (sectors : List (List ℕ)) (awake : from.halted ≡ false) where
+  Came : Request → Type 0
+  Came r = ComesTo shelf lost from (Asked r sectors ∷ more) to
+
+  refused_came : (why : Refusal) (r : Request) → IsRefused why from q to → Came r
+  unfolding Came
+  refused_came why r h = inl (h.stays.array, h.halted)
+
+  same_came : (r : Request) → to.array ≡ from.array → to.halted ≡ from.halted → Came r
+  unfolding Came
+  same_came r e f = inl (e, f)
+
+  failed_came : (r : Request) → IsFailed shelf lost from q to → Came r
+  unfolding Came
+  failed_came r h = inr (inr (h.stays.array, h.unborne))
+
+  done_came : (r : Request) → IsLogged r → refusal from.array r ≡ None → is_spent from ≡ false → is_full from ≡ false → IsDone lost from r sectors q to → Came r
+  unfolding Came
+  done_came r logged none unspent room h = inr (inl (
+    record {
+      accepts = (logged, none, h.array ∙ ap (λ (w : Option Refusal). after_unless w from.array (done from.array r sectors)) (sym none));
+      unspent = unspent;
+      room = room;
+      awake = awake;
+    },
+    h.halted,
+  ))
+
+  logged_came : (r : Request) → IsLogged r → refusal from.array r ≡ None → faring.IsLogged shelf lost from r sectors q to → Came r
+  logged_came r logs none h = in_room from to q (λ why. refused_came why r) (λ unspent room s. elim s [
+    | inl d ↦ done_came r logs none unspent room d
+    | inr f ↦ failed_came r f
+  ]) h
+
+  accepted_came : (r : Request) → refusal from.array r ≡ None → AnswersAccepted told shelf failed lost from r sectors q to → Came r
+  accepted_came (request.Create n size) none h = logged_came (request.Create n size) tt none h
+  accepted_came (request.Write n lba count) none h = logged_came (request.Write n lba count) tt none h
+  accepted_came (request.Fill n lba count byte) none h = logged_came (request.Fill n lba count byte) tt none h
+  accepted_came (request.Read n lba count) none h = elim h [
+    | inl read ↦ same_came (request.Read n lba count) read.stays.array read.halted
+    | inr lost ↦ same_came (request.Read n lba count) lost.refused_so.stays.array lost.refused_so.halted
+  ]
+  accepted_came request.List none h = same_came request.List h.stays.array h.halted
+  accepted_came _ none h = absurd h
+
+  request_came : (why : Option Refusal) (r : Request) → refusal from.array r ≡ why → AnswersRequest false why told shelf failed lost from r sectors q to → Came r
+  request_came (Some why) r is h = refused_came why r h
+  request_came None r is h = accepted_came r is h
+
+  asked_came : (r : Request) → Answers told shelf failed lost from (Asked r sectors) q to → ComesTo shelf lost from (Asked r sectors ∷ more) to
+  unfolding Came
+  asked_came r h = request_came (refusal from.array r) r refl (subst (λ (b : Bool). AnswersRequest b (refusal from.array r) told shelf failed lost from r sectors q to) awake h)
+
+pub comes_to : (told : Bool) (shelf : Geometry) (failed lost : Device → Bool) (from to : Point) (item : Item) (q : Answer) (more : List Item) → from.halted ≡ false → Answers told shelf failed lost from item q to → ComesTo shelf lost from (item ∷ more) to
+comes_to told shelf failed lost from to (Asked r sectors) q more awake h = asked_came told shelf failed lost from to q more sectors awake r h
+comes_to told shelf failed lost from to Syntax q more awake h = inl (h.stays.array, h.halted)
+comes_to told shelf failed lost from to Cut q more awake h = inl (h.stays.array, h.halted)
+
+-- the array after an item is that before it, or has done it
+pub answered_after : (told : Bool) (shelf : Geometry) (failed lost : Device → Bool) (from to : Point) (item : Item) (q : Answer) (more : List Item) → from.halted ≡ false → Answers told shelf failed lost from item q to → IsAfter from (item ∷ more) to.array
+answered_after told shelf failed lost from to item q more awake h = elim (comes_to told shelf failed lost from to item q more awake h) [
+  | inl same ↦ inl same.0
+  | inr (inl next) ↦ inr next.0
+  | inr (inr failed) ↦ inl failed.0
+]
+
+-- an array that isn't halted comes to be so only where more is lost than is borne
+pub stays_awake : (told : Bool) (shelf : Geometry) (failed lost : Device → Bool) (from to : Point) (item : Item) (q : Answer) → from.halted ≡ false → Answers told shelf failed lost from item q to → IsBearable shelf (losing lost from.conditions) → to.halted ≡ false
+stays_awake told shelf failed lost from to item q awake h bears = elim (comes_to told shelf failed lost from to item q [] awake h) [
+  | inl same ↦ same.1 ∙ awake
+  | inr (inl next) ↦ next.1 ∙ awake
+  | inr (inr failed) ↦ absurd (failed.1 bears)
+]

@@ -1,0 +1,76 @@
+-- How a session ends.
+use Rattle.std.proofs.Common.{◌≡◌, ℕ, ◌+◌, ◌<◌, List, [], ◌∷◌, ◌++◌, length, drop, refl, sym, ◌∙◌, ap, Bool, true, false}
+use Rattle.std.specs.List.{list_any}
+use Rattle.std.proofs.lemmas.List.{append-nil}
+use Rattle.pur_base.specs.declared.limits.TheConstants.{INPUT_BYTES}
+use Rattle.pur_base.specs.declared.reply.Status.{Status}
+use Rattle.pur_base.specs.declared.reply.Status.TheVariants as status
+use Rattle.pur_base.specs.Grammar.{Item, requests, is_whole}
+use Rattle.pur_base.specs.Replies.{texts}
+use Rattle.world.specs.Losing.{geometry_of}
+use Rattle.world.specs.Shelf.{Shelved, Stop}
+use Rattle.world.proofs.Moments.{leaves_weaker}
+use Rattle.request_codec.specs.Reading.{Unfinished}
+use Rattle.session_spec.specs.Entering.{read_now}
+use Rattle.session_spec.specs.Ends.{Ends, IsAnswered, IsOutput, is_cut, ends_in_write}
+use Rattle.session_spec.specs.Faring.{Point}
+use Rattle.session_spec.specs.Headline.{in_hand}
+use Rattle.array_core.proofs.Losses.{same_geometry}
+use Rattle.array_engine.specs.declared.engine.Engine.{Engine}
+use Rattle.array_session.specs.Sessions.{IsServedFrom, end_of}
+use Rattle.array_session.proofs.InHand.{left_after}
+use Rattle.array_session.proofs.SoFar.{SoFar, borne_at}
+
+module _ (told : Bool) (start new : Shelved) (e0 e : Engine) (input unread left : List ℕ) (first : Point) (cut : Bool) (s : SoFar told start new e0 e input unread first cut) (begins : first.stop ≡ read_now start) where
+  ended : (how : Status) → IsOutput how told (geometry_of start) s.last (read_now new) (drop (length s.replies) (requests input)) start.output new.output s.replies → Ends how s.last.halted input s.replies left
+      → IsServedFrom told start new e0 input left how first
+  ended how output ends = record {
+    reached = s.run.reached;
+    replies = s.replies;
+    last = s.last;
+    run = s.run.run;
+    output = output;
+    ends = ends;
+    replied = leaves_weaker (λ stop tells. tells.at) s.run.moments;
+    stands = λ held. leaves_weaker (λ stop tells. (tells.at, λ borne bears. tells.holds bears)) (s.standing held).moments;
+    at_end = λ held borne bears.
+        let ready = s.ready held (borne_at (geometry_of start) s.last (read_now new) bears) in
+        left_after told (geometry_of start) new new (sym (same_geometry s.run.continues)) e s.last s.at ready.1 ready.0.0 ready.0.1 ready.0.2 (in_hand how (drop (length s.replies) (requests input))) bears;
+  }
+
+  all_given : new.output ≡ start.output ++ texts s.replies
+  all_given = s.run.output ∙ ap (λ (there : Stop). there.output ++ texts s.replies) begins
+
+  -- the source failed
+  pub stopped_source : Unfinished unread left (λ rest. is_whole rest ≡ false) → IsServedFrom told start new e0 input left status.Source first
+  stopped_source u = ended status.Source all_given (record { front = s.front; rest = u.rest; items = s.items ∙ ap (λ (x : List ℕ). s.front ++ requests x) u.split; count = s.count; part = u.part })
+
+  -- at the limit
+  pub stopped_limit : (rest : List ℕ) (byte : ℕ) → unread ≡ rest ++ byte ∷ left → is_whole rest ≡ false → length input ≡ INPUT_BYTES + 1 + length left → IsServedFrom told start new e0 input left status.InputLimit first
+  stopped_limit rest byte split part taken = ended status.InputLimit all_given (record {
+    byte = byte;
+    taken = taken;
+    answered = record { front = s.front; rest = rest; items = s.items ∙ ap (λ (x : List ℕ). s.front ++ requests x) split; count = s.count; part = part };
+  })
+
+  -- the input is answered
+  module _ (none : unread ≡ []) (no_more : left ≡ []) (within : length input < INPUT_BYTES + 1) where
+    all : requests input ≡ s.front
+    all = s.items ∙ ap (λ (u : List ℕ). s.front ++ requests u) none ∙ append-nil s.front
+
+    is_answered : IsAnswered input s.replies left
+    is_answered = record { count = s.count ∙ ap (λ (l : List Item). length l) (sym all); none = no_more; within = within }
+
+    in_write : ends_in_write input ≡ cut
+    in_write = ap (λ (l : List Item). list_any is_cut l) all ∙ s.cuts
+
+    well : (halted : Bool) → e.halted ≡ halted → cut ≡ false → IsServedFrom told start new e0 input left (end_of halted) first
+    unfolding ended all_given is_answered in_write
+    well true is whole = ended status.Halted all_given (s.at.halted ∙ is, in_write ∙ whole, is_answered)
+    well false is whole = ended status.Done all_given (s.at.halted ∙ is, in_write ∙ whole, is_answered)
+
+    pub stopped_done : cut ≡ false → IsServedFrom told start new e0 input left (end_of e.halted) first
+    stopped_done whole = well e.halted refl whole
+
+    pub stopped_cut : cut ≡ true → IsServedFrom told start new e0 input left status.Cut first
+    stopped_cut is = ended status.Cut all_given (in_write ∙ is, is_answered)

@@ -1,0 +1,330 @@
+-- A session so far, at the top of its loop: what was answered, where the engine stands, and what the devices hold.
+use Rattle.std.proofs.Common.{◌≡◌, inl, inr, ℕ, ◌<◌, List, [], ◌∷◌, ◌++◌, length, drop, refl, sym, ◌∙◌, ap, subst, arith, append_assoc, length-append, Bool, true, false, ◌||◌}
+use Rattle.std.specs.List.{list_any}
+use Rattle.std.proofs.lemmas.List.{drop_at}
+use Rattle.pur_base.specs.declared.device.Device.{Device}
+use Rattle.pur_base.specs.Devices.{Geometry, IsBearable}
+use Rattle.pur_base.specs.declared.reply.Status.TheVariants as status
+use Rattle.pur_base.specs.Grammar.{Item, requests, first_item}
+use Rattle.pur_base.specs.Replies.{Answer, text, texts}
+use Rattle.pur_base.proofs.ItemLemmas.{requests-step}
+use Rattle.array_spec.specs.Acked.{IsAnswer}
+use Rattle.world.specs.Losing.{geometry_of, has_failed, has_lost_writes, has_risen, losing}
+use Rattle.world.specs.Shelf.{Shelved, Stop, Disk, IsShelf, Continues, TakenOnly, OutputOnly, LeavesOnly, IsCountedBy}
+use Rattle.world.proofs.Moments.{continues_trans, weaker, leaves_weaker}
+use Rattle.register.specs.Standing.{Content, array_of}
+use Rattle.session_spec.specs.Entering.{read_now}
+use Rattle.session_spec.specs.Ends.{is_cut}
+use Rattle.session_spec.specs.Faring.{Point, Answers, now_missing}
+use Rattle.session_spec.specs.Headline.{StandsAmong, IsAfter, IsLeftAfter}
+use Rattle.session_spec.proofs.Conditions.{borne_before, loses}
+use Rattle.array_state.specs.Ready.{IsReady}
+use Rattle.array_core.proofs.Losses.{same_geometry, bearable_or_not}
+use Rattle.array_engine.specs.declared.engine.Engine.{Engine}
+use Rattle.array_engine.specs.declared.said.Said.{Said}
+use Rattle.array_engine.specs.Engines.{IsAt, IsAnsweredAt, IsKeptBy, failed_in, lost_in, point_after}
+use Rattle.array_session.specs.Sessions.{IsServedFrom, BeginsAt, IsHeldAt}
+use Rattle.array_session.proofs.Came.{stays_awake}
+use Rattle.array_session.proofs.Kept.{kept_stands, ready_stands_on}
+use Rattle.array_session.proofs.InHand.{in_hand_stands, in_hand_left}
+use Rattle.array_session.proofs.StillReady.{ready_still, segments_still}
+use Rattle.array_session.proofs.Along.{Along}
+use Rattle.array_session.proofs.Answered.{goes_more, risen_more}
+use Rattle.array_session.proofs.Steps.{HoldsNow, Broken, begun, taken, called, given, broken}
+
+-- nothing is asked of the devices
+abbrev pub Nothing : Point → List Item → Stop → Type 0
+Nothing last rest stop = Unit {0}
+
+-- they stand on for the array where the last reply was given, or for one item more
+abbrev pub StandsFor : Geometry → Point → List Item → Stop → Type 0
+StandsFor shelf last rest stop = IsBearable shelf (now_missing last stop) → StandsAmong shelf stop.image (now_missing last stop) (IsAfter last rest)
+
+-- the devices hold the array of the point, and the engine isn't halted
+abbrev pub HoldsPoint : Shelved → Engine → Point → Type 0
+HoldsPoint now e last = ((held : Content) × IsReady now e.array held × (last.array ≡ array_of held)) × (e.halted ≡ false)
+
+-- The items in front of what is unread are answered. Where the devices held the array they do so still, as long as what is missing is borne.
+pub record SoFar (told : Bool) (start now : Shelved) (e0 e : Engine) (input unread : List ℕ) (first : Point) (cut : Bool) : Type 0 where
+  pub replies : List Answer
+  pub front : List Item
+  pub last : Point
+  pub run : Along told start now first (requests input) Nothing replies last
+  pub standing : IsHeldAt start e0 first → Along told start now first (requests input) (StandsFor (geometry_of start)) replies last
+  pub items : requests input ≡ front ++ requests unread
+  pub count : length replies ≡ length front
+  pub cuts : list_any is_cut front ≡ cut
+  pub at : IsAt told now e last
+  -- no call has failed since the last reply
+  pub same_faults : (d : Device) → last.stop.faults d ≡ (now.disk d).faults
+  pub same : (d : Device) → last.stop.write_faults d ≡ (now.disk d).write_faults
+  pub ready : IsHeldAt start e0 first → IsBearable (geometry_of start) last.conditions → HoldsPoint now e last
+
+-- what is borne at a stop was borne where the last reply was given
+pub borne_at : (shelf : Geometry) (last : Point) (stop : Stop) → IsBearable shelf (now_missing last stop) → IsBearable shelf last.conditions
+borne_at shelf last stop bears = borne_before shelf last.conditions (now_missing last stop) (loses (has_lost_writes last.stop stop) last.conditions) bears
+
+-- where the array is ready it stands wherever a stop now leaves
+stands_now : (told : Bool) (start there now : Shelved) (e : Engine) (last : Point) (rest : List Item) → geometry_of start ≡ geometry_of now → IsAt told there e last
+    → (IsBearable (geometry_of start) last.conditions → HoldsPoint now e last) → HoldsNow now (StandsFor (geometry_of start) last rest)
+stands_now told start there now e last rest same at ready stop device counts bears =
+    let r = ready (borne_at (geometry_of start) last stop bears) in
+    ready_stands_on told (geometry_of start) there now (sym same) e last at r.1 r.0.0 r.0.1 r.0.2 rest stop device bears
+
+-- the engine stands where it stood while no device is called
+at_still : (told : Bool) (was now : Shelved) (e : Engine) (p : Point) → ((d : Device) → now.disk d ≡ was.disk d) → IsAt told was e p → IsAt told now e p
+at_still told was now e p disk at = record {
+  halted = at.halted;
+  stands = λ awake. let s = at.stands awake in record {
+    logged = s.logged;
+    boot = s.boot;
+    next = s.next;
+    contents = s.contents;
+    reads = s.reads;
+    hold = λ t. segments_still was now e.array s.contents disk (s.hold t);
+    holders = s.holders;
+    left_out = s.left_out;
+  };
+}
+
+-- ---- the start
+
+pub begun_so_far : (told : Bool) (start : Shelved) (e0 : Engine) (input : List ℕ) (first : Point) → IsShelf start → start.honest → BeginsAt told start e0 first → SoFar told start start e0 e0 input input first false
+begun_so_far told start e0 input first is honest b = record {
+  replies = [];
+  front = [];
+  last = first;
+  run = begun told start first (requests input) Nothing is honest b.stop (λ stop device counts. tt);
+  standing = λ held. begun told start first (requests input) (StandsFor (geometry_of start)) is honest b.stop (stands_now told start start start e0 first (requests input) refl b.at (λ bears. (held, b.awake)));
+  items = refl;
+  count = refl;
+  cuts = refl;
+  at = b.at;
+  same_faults = λ d. ap (λ (s : Stop). s.faults d) b.stop;
+  same = λ d. ap (λ (s : Stop). s.write_faults d) b.stop;
+  ready = λ held bears. (held, b.awake);
+}
+
+-- ---- input is taken
+
+pub taken_so_far : (told : Bool) (start now mid : Shelved) (e0 e : Engine) (input unread : List ℕ) (first : Point) (cut : Bool) → SoFar told start now e0 e input unread first cut → TakenOnly now mid → (mid.lapsed → ⊥) → SoFar told start mid e0 e input unread first cut
+taken_so_far told start now mid e0 e input unread first cut s takes unlapsed =
+    let run = taken told start now mid first s.last (requests input) Nothing s.replies s.run takes unlapsed (λ stop device counts. tt) in
+    record {
+      replies = s.replies;
+      front = s.front;
+      last = s.last;
+      run = run;
+      standing = λ held. taken told start now mid first s.last (requests input) (StandsFor (geometry_of start)) s.replies (s.standing held) takes unlapsed
+          (stands_now told start now now e s.last (drop (length s.replies) (requests input)) (same_geometry s.run.continues) s.at (s.ready held));
+      items = s.items;
+      count = s.count;
+      cuts = s.cuts;
+      at = at_still told now mid e s.last takes.disk s.at;
+      same_faults = λ d. s.same_faults d ∙ ap (λ (x : Disk). x.faults) (sym (takes.disk d));
+      same = λ d. s.same d ∙ ap (λ (x : Disk). x.write_faults) (sym (takes.disk d));
+      ready = λ held bears.
+          let was = s.ready held bears in
+          ((was.0.0, ready_still now mid e.array was.0.0 takes.continues.drives takes.continues.units takes.disk was.0.1, was.0.2), was.1);
+    }
+
+-- ---- an item is answered
+
+either_or : (b c d : Bool) → b ≡ d → (b || c) ≡ (d || c)
+either_or b c d e = ap (λ (x : Bool). x || c) e
+
+any_more : (xs : List Item) (item : Item) (b : Bool) → list_any is_cut xs ≡ false → is_cut item ≡ b → list_any is_cut (xs ++ item ∷ []) ≡ b
+any_more [] item b e f = last (is_cut item) b f
+  where
+    last : (c d : Bool) → c ≡ d → (c || false) ≡ d
+    last true d f = f
+    last false d f = f
+any_more (x ∷ xs) item b e f = first (is_cut x) (list_any is_cut xs) (list_any is_cut (xs ++ item ∷ [])) e (λ h. any_more xs item b h f)
+  where
+    first : (c d g : Bool) → (c || d) ≡ false → (d ≡ false → g ≡ b) → (c || g) ≡ b
+    first true d g e h = absurd cc
+    first false d g e h = h e
+
+-- two things are true of each stop
+both_leave : {a b : Shelved} {P Q : Stop → Type 0} → LeavesOnly a b P → LeavesOnly a b Q → LeavesOnly a b (λ stop. P stop × Q stop)
+both_leave {a} {b} {P} {Q} p q = record {
+  quiet = p.quiet;
+  each = λ stop left. let x = p.each stop left in (x.0, (x.1, (q.each stop left).1));
+  before = λ t stop le left. elim (p.before t stop le left) [
+    | inl was ↦ inl was
+    | inr x ↦ elim (q.before t stop le left) [
+      | inl was ↦ inl was
+      | inr y ↦ inr (x.0, (x.1, y.1))
+    ]
+  ];
+}
+
+-- The engine has answered an item, and its reply isn't given yet: mid and between are the devices before and after.
+module _ (told : Bool) (start mid between : Shelved) (e0 e e' : Engine) (input unread unread' : List ℕ) (first : Point) (item : Item) (said : Said) (s : SoFar told start mid e0 e input unread first false)
+    (some : 0 < length unread) (is : first_item unread ≡ (item, unread')) (on : Continues mid between) (calls : LeavesOnly mid between (IsCountedBy mid))
+    (x : IsAnsweredAt told mid between e e' item said s.last)
+    (kept : e.halted ≡ false → (held : Content) → IsReady mid e.array held → LeavesOnly mid between (IsKeptBy mid e (array_of held) item)) (unlapsed : between.lapsed → ⊥) where
+  abbrev shelf : Geometry
+  shelf = geometry_of start
+
+  abbrev items : List Item
+  items = requests input
+
+  abbrev q : Answer
+  q = x.reply
+
+  abbrev to : Stop → Point
+  to stop = point_after e' x.array (lost_in mid between) stop s.last
+
+  same_mid : shelf ≡ geometry_of mid
+  same_mid = same_geometry s.run.continues
+
+  next : requests unread ≡ item ∷ requests unread'
+  next = requests-step unread item unread' some is
+
+  pub rest : drop (length s.replies) items ≡ item ∷ requests unread'
+  unfolding next
+  rest = ap (λ (l : List Item). drop (length s.replies) l) s.items ∙ drop_at s.front (requests unread) (length s.replies) (sym s.count) ∙ next
+
+  pub items_more : items ≡ (s.front ++ item ∷ []) ++ requests unread'
+  items_more = s.items ∙ ap (λ (l : List Item). s.front ++ l) next ∙ sym (append_assoc s.front (item ∷ []) (requests unread'))
+
+  pub count_more : length (s.replies ++ q ∷ []) ≡ length (s.front ++ item ∷ [])
+  count_more = omega (arith, s.count, length-append s.replies (q ∷ []), length-append s.front (item ∷ []))
+
+  -- at a stop while the item is answered
+  kept_now : IsHeldAt start e0 first → LeavesOnly mid between (λ stop. IsCountedBy mid stop × StandsFor shelf s.last (drop (length s.replies) items) stop)
+  kept_now held = elim (bearable_or_not shelf s.last.conditions) [
+    | inl bears ↦
+        let ready = s.ready held bears in
+        weaker (λ stop both. (
+          both.0,
+          λ now. subst (λ (l : List Item). StandsAmong shelf stop.image (now_missing s.last stop) (IsAfter s.last l)) (sym rest)
+              (kept_stands told shelf mid (sym same_mid) e s.last s.at ready.1 s.same ready.0.0 ready.0.1 ready.0.2 item (requests unread') stop both.1 now),
+        )) (both_leave calls (kept ready.1 ready.0.0 ready.0.1))
+    | inr too_many ↦ weaker (λ stop counts. (counts, λ now. absurd (too_many (borne_at shelf s.last stop now)))) calls
+  ]
+
+  -- what was given so far, after it
+  pub run_called : Along told start between first items Nothing s.replies s.last
+  run_called = called told start mid between first s.last items Nothing s.replies s.run on unlapsed (weaker (λ stop counts. (counts, tt)) calls)
+
+  pub standing_called : IsHeldAt start e0 first → Along told start between first items (StandsFor shelf) s.replies s.last
+  unfolding kept_now
+  standing_called held = called told start mid between first s.last items (StandsFor shelf) s.replies (s.standing held) on unlapsed (kept_now held)
+
+  answers_here : (stop : Stop) → Answers told shelf (failed_in mid between) (lost_in mid between) s.last item q (to stop)
+  answers_here stop = subst (λ (g : Geometry). Answers told g (failed_in mid between) (lost_in mid between) s.last item q (to stop)) (sym same_mid) (x.answers stop)
+
+  -- where what was lost is borne the array is ready after it
+  pub went_on : IsHeldAt start e0 first → IsBearable shelf (losing (lost_in mid between) s.last.conditions) → ((more : Content) × IsReady between e'.array more × (x.array ≡ array_of more)) × (e'.halted ≡ false)
+  went_on held bears =
+      let before = s.ready held (borne_before shelf s.last.conditions (losing (lost_in mid between) s.last.conditions) (loses (lost_in mid between) s.last.conditions) bears) in
+      let awake : e'.halted ≡ false = stays_awake told shelf (failed_in mid between) (lost_in mid between) s.last (to s.last.stop) item q (s.at.halted ∙ before.1) (answers_here s.last.stop) bears in
+      (x.ready awake before.0.0 before.0.1 before.0.2, awake)
+
+  -- what is missing at a stop since then was lost by then
+  lost_before : (stop : Stop) → IsCountedBy between stop → IsBearable shelf (now_missing s.last stop) → IsBearable shelf (losing (lost_in mid between) s.last.conditions)
+  lost_before stop counts bears = borne_before shelf (losing (lost_in mid between) s.last.conditions) (now_missing s.last stop)
+      (λ d. goes_more (s.last.conditions d) (lost_in mid between d) (has_lost_writes s.last.stop stop d)
+      (λ lost. risen_more (s.last.stop.write_faults d) (between.disk d).write_faults (stop.write_faults d) (counts.write_faults d)
+      (subst (λ (n : ℕ). has_risen n (between.disk d).write_faults ≡ true) (sym (s.same d)) lost))) bears
+
+  same_between : shelf ≡ geometry_of between
+  same_between = same_geometry (continues_trans s.run.continues on)
+
+  -- while the reply is given
+  pub in_hand : IsHeldAt start e0 first → HoldsNow between (StandsFor shelf s.last (item ∷ requests unread'))
+  in_hand held stop device counts bears =
+      let went = went_on held (lost_before stop counts bears) in
+      let before = s.ready held (borne_at shelf s.last stop bears) in
+      in_hand_stands told shelf mid between between (sym same_between) e' x.array s.last s.last.stop (x.at s.last.stop) went.1 s.same (λ d. omega arith) (s.at.halted ∙ before.1) went.0.0 went.0.1 went.0.2
+      item (requests unread') q (answers_here s.last.stop) stop device counts bears
+
+  -- The reply is given, whole or in part: after is then.
+  module _ (after : Shelved) (gives : OutputOnly between after) (unlapsed_then : after.lapsed → ⊥) where
+    abbrev pub new : Point
+    new = to (read_now after)
+
+    lost_is_at : (d : Device) → lost_in mid between d ≡ has_lost_writes s.last.stop (read_now after) d
+    lost_is_at d = ap (λ (n : ℕ). has_risen n (between.disk d).write_faults) (sym (s.same d)) ∙ ap (λ (y : Disk). has_risen (s.last.stop.write_faults d) y.write_faults) (sym (gives.disk d))
+
+    lost_is : lost_in mid between ≡ has_lost_writes s.last.stop (read_now after)
+    lost_is = λ k d. lost_is_at d k
+
+    failed_is_at : (d : Device) → failed_in mid between d ≡ has_failed s.last.stop (read_now after) d
+    failed_is_at d = ap (λ (n : ℕ). has_risen n (between.disk d).faults) (sym (s.same_faults d)) ∙ ap (λ (y : Disk). has_risen (s.last.stop.faults d) y.faults) (sym (gives.disk d))
+
+    failed_is : failed_in mid between ≡ has_failed s.last.stop (read_now after)
+    failed_is = λ k d. failed_is_at d k
+
+    pub answers_now : Answers told shelf (has_failed s.last.stop (read_now after)) (has_lost_writes s.last.stop (read_now after)) s.last item q new
+    answers_now = subst (λ (lost : Device → Bool). Answers told shelf (has_failed s.last.stop (read_now after)) lost s.last item q new) lost_is
+        (subst (λ (failed : Device → Bool). Answers told shelf failed (lost_in mid between) s.last item q new) failed_is (answers_here (read_now after)))
+
+    pub ready_after : IsHeldAt start e0 first → IsBearable shelf (losing (lost_in mid between) s.last.conditions) → ((more : Content) × IsReady after e'.array more × (x.array ≡ array_of more)) × (e'.halted ≡ false)
+    ready_after held bears =
+        let went = went_on held bears in
+        ((went.0.0, ready_still between after e'.array went.0.0 gives.continues.drives gives.continues.units gives.disk went.0.1, went.0.2), went.1)
+
+    -- where the sink failed
+    module _ (begins : first.stop ≡ read_now start) (part missing : List ℕ) (gave : after.output ≡ between.output ++ part) (spelled : text q ≡ part ++ missing) (lacks : 0 < length missing) where
+      counted_then : IsCountedBy between (read_now after)
+      counted_then = record { faults = gives.continues.faults; write_faults = gives.continues.write_faults }
+
+      told_part : Broken told start after first items Nothing s.replies s.last
+      told_part = broken told start between after first s.last new items (requests unread') item Nothing s.replies q run_called gives unlapsed_then rest x.whole answers_now (λ stop device counts. tt) part missing gave spelled lacks
+
+      standing_part : IsHeldAt start e0 first → Broken told start after first items (StandsFor shelf) s.replies s.last
+      standing_part held =
+          broken told start between after first s.last new items (requests unread') item (StandsFor shelf) s.replies q (standing_called held) gives unlapsed_then rest x.whole answers_now (in_hand held) part missing gave spelled lacks
+
+      same_after : shelf ≡ geometry_of after
+      same_after = same_geometry (continues_trans (continues_trans s.run.continues on) gives.continues)
+
+      left_in_hand : IsHeldAt start e0 first → IsBearable shelf (now_missing s.last (read_now after)) → IsLeftAfter after s.last (item ∷ requests unread')
+      unfolding counted_then
+      left_in_hand held bears =
+          let now = ready_after held (lost_before (read_now after) counted_then bears) in
+          let before = s.ready held (borne_at shelf s.last (read_now after) bears) in
+          in_hand_left told shelf mid between after (sym same_after) e' x.array s.last s.last.stop (x.at s.last.stop) now.1 s.same gives.continues.write_faults (s.at.halted ∙ before.1) now.0.0 now.0.1 now.0.2
+          item (requests unread') q (answers_here s.last.stop) bears
+
+      pub sank : (left : List ℕ) → IsServedFrom told start after e0 input left status.Sink first
+      sank left = record {
+        reached = told_part.reached;
+        replies = s.replies;
+        last = s.last;
+        run = told_part.run;
+        output = (told_part.part, told_part.is_part, told_part.output ∙ ap (λ (there : Stop). there.output ++ texts s.replies ++ told_part.part) begins);
+        ends = omega (arith, s.count, ap (λ (l : List Item). length l) items_more, length-append (s.front ++ item ∷ []) (requests unread'), length-append s.front (item ∷ []));
+        replied = leaves_weaker (λ stop tells. tells.at) told_part.moments;
+        stands = λ held. leaves_weaker (λ stop tells. (tells.at, λ borne bears. tells.holds bears)) (standing_part held).moments;
+        at_end = λ held borne bears. subst (λ (l : List Item). IsLeftAfter after s.last l) (sym rest) (left_in_hand held bears);
+      }
+
+    -- where it was given whole
+    module _ (gave : after.output ≡ between.output ++ text q) (is_shelf : IsShelf after) (honest : after.honest) where
+      turns : (d : Device) → new.conditions d ≡ losing (has_lost_writes s.last.stop (read_now after)) s.last.conditions d
+      turns d = ap (λ (lost : Device → Bool). losing lost s.last.conditions d) lost_is
+
+      pub run_given : Along told start after first items Nothing (s.replies ++ q ∷ []) new
+      run_given = given told start between after first s.last new items (requests unread') item Nothing s.replies q run_called gives unlapsed_then rest x.whole answers_now (λ stop device counts. tt) gave is_shelf honest refl turns (λ stop device counts. tt)
+
+      pub answered : (cut : Bool) → is_cut item ≡ cut → SoFar told start after e0 e' input unread' first cut
+      unfolding run_given
+      answered cut cuts = record {
+        replies = s.replies ++ q ∷ [];
+        front = s.front ++ item ∷ [];
+        last = new;
+        run = run_given;
+        standing = λ held. given told start between after first s.last new items (requests unread') item (StandsFor shelf) s.replies q (standing_called held) gives unlapsed_then rest x.whole answers_now (in_hand held)
+            gave is_shelf honest refl turns (stands_now told start between between e' new (requests unread') same_between (x.at (read_now after)) (went_on held));
+        items = items_more;
+        count = count_more;
+        cuts = any_more s.front item cut s.cuts cuts;
+        at = at_still told between after e' new gives.disk (x.at (read_now after));
+        same_faults = λ d. refl;
+        same = λ d. refl;
+        ready = ready_after;
+      }

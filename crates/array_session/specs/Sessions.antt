@@ -1,0 +1,61 @@
+-- What a session answers from the moment on when its array is open, and what it does to that.
+use Rattle.std.specs.Prelude.{◌≡◌, ℕ, Bool, true, false, List, length, drop}
+use Rattle.pur_base.specs.declared.reply.Status.{Status}
+use Rattle.pur_base.specs.declared.reply.Status.TheVariants as status
+use Rattle.pur_base.specs.Devices.{Geometry, IsBearable}
+use Rattle.pur_base.specs.Grammar.{Item, requests}
+use Rattle.pur_base.specs.Replies.{Answer}
+use Rattle.world.specs.Losing.{geometry_of}
+use Rattle.world.specs.Shelf.{Shelved, Stop, Leaves}
+use Rattle.register.specs.Standing.{Content, array_of}
+use Rattle.session_spec.specs.Entering.{read_now}
+use Rattle.session_spec.specs.Faring.{Point, IsReached, Fares, IsBorne, now_missing}
+use Rattle.session_spec.specs.Ends.{Ends, IsOutput}
+use Rattle.session_spec.specs.Headline.{Replied, StandsAmong, IsAfter, IsLeftAfter, in_hand}
+use Rattle.array_state.specs.Ready.{IsReady}
+use Rattle.array_engine.specs.declared.engine.Engine.{Engine}
+use Rattle.array_engine.specs.Engines.{IsAt}
+
+-- the ways in which a session ends that was opened
+abbrev pub IsSessionEnd : Status → Type 0
+IsSessionEnd status.Done = Unit {0}
+IsSessionEnd status.Halted = Unit {0}
+IsSessionEnd status.Source = Unit {0}
+IsSessionEnd status.Sink = Unit {0}
+IsSessionEnd status.Cut = Unit {0}
+IsSessionEnd status.InputLimit = Unit {0}
+IsSessionEnd _ = ⊥
+
+-- how a session ends whose input is answered to its end
+abbrev pub end_of : Bool → Status
+end_of true = status.Halted
+end_of false = status.Done
+
+-- a session begins there: the engine isn't halted, and nothing has happened since
+pub record BeginsAt (told : Bool) (start : Shelved) (e : Engine) (first : Point) : Type 0 where
+  pub at : IsAt told start e first
+  pub awake : e.halted ≡ false
+  pub stop : first.stop ≡ read_now start
+
+-- the devices held the array of the first point at the beginning
+abbrev pub IsHeldAt : Shelved → Engine → Point → Type 0
+IsHeldAt start e first = (held : Content) × IsReady start e.array held × (first.array ≡ array_of held)
+
+-- at a stop they stand for the array of the replies that were whole by then, or of one item more
+abbrev pub StandsOn : (told : Bool) (shelf : Geometry) (left : Stop → Type 0) (first : Point) (items : List Item) (stop : Stop) → Replied told shelf left first items stop → Type 0
+StandsOn told shelf left first items stop at = IsBorne told shelf left first items at.replies at.point at.run → IsBearable shelf (now_missing at.point stop)
+    → StandsAmong shelf stop.image (now_missing at.point stop) (IsAfter at.point (drop (length at.replies) items))
+
+-- The replies and how the session ended, and at each stop those that were whole. Where the devices held the array at the beginning, they stand for what the replies tell at each stop and at the end.
+pub record IsServedFrom (told : Bool) (start new : Shelved) (e : Engine) (input left : List ℕ) (ended : Status) (first : Point) : Type 0 where
+  pub reached : IsReached (new.left_since start.moment) first
+  pub replies : List Answer
+  pub last : Point
+  pub run : Fares told (geometry_of start) (new.left_since start.moment) first (requests input) replies last
+  pub output : IsOutput ended told (geometry_of start) last (read_now new) (drop (length replies) (requests input)) start.output new.output replies
+  pub ends : Ends ended last.halted input replies left
+  pub replied : Leaves start new (Replied told (geometry_of start) (new.left_since start.moment) first (requests input))
+  pub stands : IsHeldAt start e first → Leaves start new (λ stop.
+      (at : Replied told (geometry_of start) (new.left_since start.moment) first (requests input) stop) × StandsOn told (geometry_of start) (new.left_since start.moment) first (requests input) stop at)
+  pub at_end : IsHeldAt start e first → IsBorne told (geometry_of start) (new.left_since start.moment) first (requests input) replies last run
+      → IsBearable (geometry_of start) (now_missing last (read_now new)) → IsLeftAfter new last (in_hand ended (drop (length replies) (requests input)))

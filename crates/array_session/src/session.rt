@@ -1,0 +1,66 @@
+// The requests from a source are answered on a sink.
+ghost use Rattle.std.specs.Prelude.{◌≡◌, ◌↔◌, [], false, Bool};
+ghost use Rattle.world.specs.Losing.{geometry_of};
+ghost use Rattle.world.specs.Shelf.{Continues};
+ghost use Rattle.session_spec.specs.Ends.{RisesIf, is_source, is_sink};
+ghost use Rattle.session_spec.specs.Faring.{Point};
+ghost use Rattle.array_engine.specs.Engines.{IsOf};
+ghost use Rattle.array_session.specs.Sessions.{BeginsAt, IsServedFrom, IsSessionEnd, end_of};
+
+use array_engine::Engine;
+use pur_base::Status;
+use request_codec::{Item, Reader, ReplyWriter};
+use world::World;
+
+/// How a session ends whose input is answered to its end.
+fn ended(halted: bool) -> Status
+    ensures { result ≡ end_of halted }
+{
+    if halted { Status::Halted } else { Status::Done }
+}
+
+/// Answers every item that the reader reads, each before the next is taken, and tells why it stopped: `Done` at the end of the input, or `Halted` where
+/// a logged request was answered `no device` by then, `Cut` where the input ends inside a write's data, `InputLimit` where 2^40 bytes were taken and
+/// another came, and `Source` or `Sink` at once where a call of the source or the sink failed.
+pub fn answer_all<W: World>(
+    mut reader: Reader,
+    mut writer: ReplyWriter,
+    mut engine: Engine,
+    world: &mut W,
+) -> Status
+    requires pending { reader.ahead.pending ≡ [] }
+    requires taken { reader.ahead.taken ≡ 0 }
+    requires begun { reader.ahead.ended ≡ false }
+    requires empty { writer ≡ [] }
+    requires is_of { IsOf (geometry_of (W.shelf world.old)) engine }
+    // Wherever it begins: the replies, each with its cause, and what they leave, with what segments hold or without.
+    ensures served { (W.shelf world.old).honest → (W.source world.old).honest → (W.sink world.old).honest → ¬ (W.shelf world.new).lapsed
+        → (told : Bool) (first : Point) → BeginsAt told (W.shelf world.old) engine first
+        → IsServedFrom told (W.shelf world.old) (W.shelf world.new) engine (W.source world.old).bytes (W.source world.new).bytes result first }
+    ensures status { IsSessionEnd result }
+    ensures source { RisesIf (is_source result) (W.source world.old).faults (W.source world.new).faults }
+    ensures sink { RisesIf (is_sink result) (W.sink world.old).faults (W.sink world.new).faults }
+    ensures honest_source { (W.source world.old).honest ↔ (W.source world.new).honest }
+    ensures honest_sink { (W.sink world.old).honest ↔ (W.sink world.new).honest }
+    ensures continues { Continues (W.shelf world.old) (W.shelf world.new) }
+{
+    'items: loop {
+        let Ok(item) = reader.next(world) else {
+            return Status::Source;
+        };
+        match item {
+            Item::End => return ended(engine.is_halted()),
+            Item::Limit => return Status::InputLimit,
+            _ => {}
+        }
+        let said = engine.respond(&item, reader.sectors(), world);
+        match engine.give(&said, &mut writer, world) {
+            Ok(()) => {}
+            Err(_) => return Status::Sink,
+        }
+        match item {
+            Item::Cut => return Status::Cut,
+            _ => {}
+        }
+    }
+}

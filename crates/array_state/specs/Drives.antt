@@ -1,0 +1,20 @@
+-- What the drives of an array's record show, and what its segments hold there.
+use Rattle.std.specs.Prelude.{◌≡◌, Bool, false, Option, Some, None, List, slice_index_or, if◌then◌else◌}
+use Rattle.pur_base.specs.Devices.{View}
+use Rattle.pur_base.specs.Facts.{Facts}
+use Rattle.pur_base.specs.declared.device.Device.{Device}
+use Rattle.pur_base.specs.declared.device.Device.TheVariants.{Drive, Nv}
+use Rattle.world.specs.Shelf.{Shelved}
+use Rattle.memory_spec.specs.Memory.{Contents}
+use Rattle.checkpoint_spec.specs.Contents.{ContentsStand}
+use Rattle.register.specs.declared.state.Register.{Register}
+use Rattle.register.specs.Registers.{drives_of}
+
+-- the drives on which the record is in force, as reads give them
+abbrev pub drives_view : Shelved → Register → View
+drives_view shelf r (Drive d) = if slice_index_or (drives_of r) d.0 false then Some (shelf.disk (Drive d)).bytes else None
+drives_view shelf r (Nv n) = None
+
+-- each sector that was placed in a visible segment stands on them
+abbrev pub SegmentsHold : Contents → Shelved → Register → Facts → Type 0
+SegmentsHold contents shelf r facts = ContentsStand contents (drives_view shelf r) facts

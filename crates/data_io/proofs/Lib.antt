@@ -1,0 +1,10 @@
+pub mod Lists
+pub mod Filled
+pub mod Appended
+pub mod Apart
+pub mod Storing
+pub mod Headers
+pub mod Written
+pub mod Shown
+pub mod Stands
+pub mod InTurn

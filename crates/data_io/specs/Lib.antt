@@ -1,0 +1,5 @@
+pub mod Placing
+pub mod Filling
+pub mod Storing
+pub mod Headed
+pub mod Standing

@@ -1,0 +1,5 @@
+pub mod Lawful
+pub mod Descent
+pub mod Sound
+pub mod Stored
+pub mod Held

@@ -1,0 +1,74 @@
+-- What it means that tables weren't loaded.
+use Rattle.std.proofs.Common.{◌≡◌, Bool, List, refl, subst}
+use Rattle.std.specs.Prelude.{Contains}
+use Rattle.std.specs.List.{AllByRecursion, AllZip}
+use Rattle.std.proofs.lemmas.List.Elements.{All-from_recursion, All-contains}
+use Rattle.pur_base.specs.Devices.{View}
+use Rattle.pur_base.specs.Tags.{tag_of}
+use Rattle.pur_base.specs.declared.request.Table.{Table}
+use Rattle.pur_base.specs.declared.facts.AnyFact.{AnyFact}
+use Rattle.boot_codec.specs.Record.{IsPatch}
+use Rattle.boot_codec.specs.declared.patch.Patch.{Patch}
+use Rattle.boot_codec.specs.declared.record.BootRecord.{BootRecord}
+use Rattle.array_spec.specs.Sound.{AreSound}
+use Rattle.array_spec.specs.Stored.{PatchStands}
+use Rattle.table_soundness.specs.declared.fault.SoundFault.{SoundFault}
+use Rattle.table_soundness.specs.declared.fault.SoundFault.TheVariants as sound_fault
+use Rattle.table_soundness.specs.declared.tables.LoadedTables.{LoadedTables}
+use Rattle.table_soundness.specs.Faults.{patches_in, IsFault}
+use Rattle.table_soundness.proofs.SoundLemmas.{not_at_fault}
+use Rattle.world.specs.Losing.{geometry_of}
+use Rattle.world.specs.Shelf.{Shelved}
+use Rattle.patch_io.specs.declared.fault.PatchFault.{PatchFault}
+use Rattle.patch_io.specs.declared.fault.PatchFault.TheVariants as patch_fault
+use Rattle.patch_io.specs.Faults.{IsFaultOf}
+use Rattle.patch_io.specs.Standing.{StripesStandOf}
+use Rattle.table_loading.specs.Loading.{IsLoaded}
+use Rattle.table_loading.specs.Faults.{fault_in, fault_of, IsPatchFault, IsFaultIn, IsTablesFault}
+use Rattle.table_loading.specs.declared.fault.TablesFault.{TablesFault}
+use Rattle.table_loading.specs.declared.fault.TablesFault.TheVariants.{BadPatch, Unsound, Lost, Memory}
+use Rattle.table_loading.proofs.Zips.{zip_first}
+use Rattle.table_loading.proofs.OnePatch.{one_of_each}
+use Rattle.table_loading.proofs.Reading.{shows_patch}
+use Rattle.table_loading.proofs.Loaded.{are_named, all_stand}
+
+-- a patch that wasn't loaded
+pub patch_fault_of : (a b : Shelved) (missing : List Bool) (p : Patch) (t : Table) (fault : PatchFault) → p.tag ≡ tag_of t → IsFaultOf a b p missing fault → IsPatchFault a b missing p (fault_in t fault)
+patch_fault_of a b missing p t patch_fault.Bad tag is = λ ps there. (p, there, tag, is)
+patch_fault_of a b missing p t (patch_fault.Lost lost) tag is = λ ps there. (p, there, is)
+patch_fault_of a b missing p t (patch_fault.Memory m) tag is = λ ps there. tt
+
+-- what stands as all patches has facts that stand as each
+stands_at : (view : View) (ps : List Patch) (patches : List (List AnyFact)) (p : Patch) → AllZip (PatchStands view) ps patches → Contains ps p → (facts : List AnyFact) × PatchStands view p facts
+stands_at view ps patches p stand there =
+    All-contains (λ q. (facts : List AnyFact) × PatchStands view q facts) ps p
+    (All-from_recursion (λ q. (facts : List AnyFact) × PatchStands view q facts) ps (zip_first (PatchStands view) (λ q. (facts : List AnyFact) × PatchStands view q facts) (λ q facts is. (facts, is)) ps patches stand)) there
+
+module _ (a b : Shelved) (boot : BootRecord) (missing : List Bool) (lawful : AllByRecursion (IsPatch a.drives a.units) boot.patches) where
+  -- one of the patches wasn't loaded
+  pub read_fault : (fault : TablesFault) → IsFaultIn a b missing boot.patches fault → IsTablesFault a b boot missing fault
+  read_fault (BadPatch t) (p, there, tag, bad) = record {
+    patch = p;
+    named = there;
+    of_table = tag;
+    bad = bad;
+    none = λ h view patches shows stand.
+        let x = stands_at view boot.patches patches p stand there in
+        bad h view x.0 (shows_patch a p missing view (All-contains (IsPatch a.drives a.units) boot.patches p (All-from_recursion (IsPatch a.drives a.units) boot.patches lawful) there) shows) x.1;
+  }
+  read_fault (Unsound t) none = absurd none
+  read_fault (Lost lost) is = is
+  read_fault (Memory m) is = tt
+
+  -- they were loaded, and a table is at fault
+  pub check_fault : (t : LoadedTables) → AllZip (IsLoaded a missing) boot.patches (patches_in t) → (fault : SoundFault) → ((x : Table) → fault ≡ sound_fault.Unsound x → IsFault (geometry_of a) boot t x) → IsTablesFault a b boot missing (fault_of fault)
+  check_fault t loaded (sound_fault.Unsound x) is = record {
+    tables = t;
+    loaded = loaded;
+    fault = is x refl;
+    none = λ h view patches shows stand sound.
+        let stripes = zip_first (PatchStands view) (StripesStandOf view) (λ p facts stands. stands.stripes) boot.patches patches stand in
+        let same : patches ≡ patches_in t = one_of_each view boot.patches patches (patches_in t) stand (all_stand a missing boot t loaded lawful h view shows stripes) in
+        not_at_fault boot t (are_named a missing boot t loaded a.drives a.units lawful) (geometry_of a) x (is x refl) (subst (AreSound (geometry_of a) boot) same sound);
+  }
+  check_fault t loaded (sound_fault.Memory m) is = tt

@@ -1,0 +1,98 @@
+-- Runs in which the drives are read.
+use Rattle.std.proofs.Common.{◌≡◌, ℕ, Bool, List, refl, sym, ◌∙◌, ap, arith}
+use Rattle.std.specs.Prelude.{Some}
+use Rattle.std.specs.List.{AllZip}
+use Rattle.pur_base.specs.Devices.{View, nvram, drive}
+use Rattle.pur_base.specs.declared.device.Device.{Device}
+use Rattle.pur_base.specs.declared.facts.AnyFact.{AnyFact}
+use Rattle.boot_codec.specs.Record.{IsPatch}
+use Rattle.boot_codec.specs.declared.patch.Patch.{Patch}
+use Rattle.array_spec.specs.Stored.{places_of_part}
+use Rattle.world.specs.Shelf.{Shelved, Continues, IsSame, IsShelf}
+use Rattle.world.specs.Writes.{WritesOnly}
+use Rattle.world.proofs.Moments.{continues_refl, continues_trans}
+use Rattle.world.proofs.Writes.{writes_then, nothing_written}
+use Rattle.segment_io.specs.Lost.{NoByte}
+use Rattle.segment_io.specs.Places.{drive_of, place_of}
+use Rattle.segment_io.proofs.Gathers.{same_then}
+use Rattle.patch_io.specs.Faults.{OthersStayOfPatch}
+use Rattle.patch_io.specs.Standing.{ShowsPatch}
+use Rattle.patch_io.proofs.Stands.{slot_below}
+use Rattle.table_loading.specs.Loading.{IsLoaded, OnlyReads, ShowsDrives}
+use Rattle.table_loading.specs.Faults.{IsFaultIn, IsLostIn}
+use Rattle.table_loading.specs.declared.fault.TablesFault.{TablesFault}
+use Rattle.table_loading.specs.declared.fault.TablesFault.TheVariants.{BadPatch, Unsound, Lost, Memory}
+use Rattle.table_loading.proofs.Zips.{zip_as}
+
+-- nothing was done yet
+pub reads_none : (a : Shelved) → IsShelf a → OnlyReads a a
+reads_none a is = record {
+  continues = continues_refl a;
+  nvrams = λ n. refl;
+  same = λ h device. record { bytes = refl; dirty = refl };
+  writes = λ h. nothing_written a is;
+}
+
+pub reads_then : {a b c : Shelved} → OnlyReads a b → OnlyReads b c → OnlyReads a c
+reads_then {a} {b} {c} first next = record {
+  continues = continues_trans first.continues next.continues;
+  nvrams = λ n. next.nvrams n ∙ first.nvrams n;
+  same = λ h device. same_then (first.same h device) (next.same (first.continues.honest h) device);
+  writes = λ h. writes_then first.continues (first.writes h) (next.writes (first.continues.honest h));
+}
+
+-- a patch is read
+pub reads_patch : (a b : Shelved) (p : Patch) → Continues a b → OthersStayOfPatch p a b → (a.honest → (device : Device) → IsSame (a.disk device) (b.disk device)) → (a.honest → WritesOnly NoByte a b) → OnlyReads a b
+reads_patch a b p continues others same writes = record {
+  continues = continues;
+  nvrams = λ n. others (nvram n) (λ part shard within lt. nvram_apart n (place_of (places_of_part p part) shard).slot);
+  same = same;
+  writes = writes;
+}
+  where
+    nvram_apart : (n slot : ℕ) → nvram n ≡ drive slot → ⊥
+    nvram_apart n slot e = absurd (cc e)
+
+-- the same is shown before drives are read as after it
+shown_before : (a b : Shelved) (p : Patch) (missing : List Bool) (view : View) → OnlyReads a b → a.honest → ShowsPatch a p missing view → ShowsPatch b p missing view
+shown_before a b p missing view reads h shows part within shard lt is =
+    let device = drive_of (places_of_part p part) shard in
+    shows part within shard lt is ∙ ap Some (sym (reads.same h device).bytes)
+
+-- what is loaded later was there before
+pub loaded_before : (a b : Shelved) (missing : List Bool) (p : Patch) (facts : List AnyFact) → OnlyReads a b → IsLoaded b missing p facts → IsLoaded a missing p facts
+loaded_before a b missing p facts reads is = record {
+  decoded = is.decoded;
+  stands = λ h view shows stripes. is.stands (reads.continues.honest h) view (shown_before a b p missing view reads h shows) stripes;
+}
+
+pub all_before : (a b : Shelved) (missing : List Bool) (ps : List Patch) (patches : List (List AnyFact)) → OnlyReads a b → AllZip (IsLoaded b missing) ps patches → AllZip (IsLoaded a missing) ps patches
+all_before a b missing ps patches reads all = zip_as (IsLoaded b missing) (IsLoaded a missing) (λ p facts is. loaded_before a b missing p facts reads is) ps patches all
+
+-- and so is a fault
+lost_before : (a b c : Shelved) (missing : List Bool) (p : Patch) (drives : List Bool) → OnlyReads a b → IsLostIn b c missing p drives → IsLostIn a c missing p drives
+lost_before a b c missing p drives reads (part, within, are) = (
+  part,
+  within,
+  record {
+    faults = are.faults;
+    since = λ device. omega (arith, reads.continues.faults device, are.since device);
+    three = are.three;
+    no_other = are.no_other;
+    cause = are.cause;
+    reported = are.reported;
+  },
+)
+
+pub fault_before : (a b c : Shelved) (missing : List Bool) (ps : List Patch) (fault : TablesFault) → OnlyReads a b → IsFaultIn b c missing ps fault → IsFaultIn a c missing ps fault
+fault_before a b c missing ps (BadPatch t) reads (p, there, tag, bad) =
+    (p, there, tag, λ h view facts shows. bad (reads.continues.honest h) view facts (shown_before a b p missing view reads h shows))
+fault_before a b c missing ps (Unsound t) reads none = none
+fault_before a b c missing ps (Lost lost) reads (p, there, is) = (p, there, lost_before a b c missing p lost.drives reads is)
+fault_before a b c missing ps (Memory m) reads is = tt
+
+-- a view of the drives shows each lawful patch
+pub shows_patch : (a : Shelved) (p : Patch) (missing : List Bool) (view : View) → IsPatch a.drives a.units p → ShowsDrives a missing view → ShowsPatch a p missing view
+shows_patch a p missing view lawful shows part within shard lt is =
+    let slot = (place_of (places_of_part p part) shard).slot in
+    shows slot (slot_below a p part shard slot lawful within lt refl) is

@@ -1,0 +1,44 @@
+-- What is loaded of the patches that a record names.
+use Rattle.std.specs.Prelude.{◌≡◌, ℕ, ◌<◌, ◌==◌, false, Bool, List, Some}
+use Rattle.std.specs.List.{AllByRecursion, filter}
+use Rattle.pur_base.specs.Devices.{View, drive, nvram}
+use Rattle.pur_base.specs.declared.device.Device.{Device}
+use Rattle.pur_base.specs.declared.facts.AnyFact.{AnyFact}
+use Rattle.boot_codec.specs.declared.patch.Patch.{Patch}
+use Rattle.boot_codec.specs.declared.record.BootRecord.{BootRecord}
+use Rattle.array_spec.specs.Stored.{PatchStands}
+use Rattle.world.specs.Shelf.{Shelved, Continues, IsSame}
+use Rattle.world.specs.Writes.{WritesOnly}
+use Rattle.segment_io.specs.Lost.{NoByte, is_in}
+use Rattle.segment_io.specs.Stripes.{bytes_of}
+use Rattle.patch_io.specs.Standing.{AreFactsOf, ShowsPatch, StripesStandOf}
+
+-- ---- views
+
+-- each drive that isn't missing is shown as it stands
+abbrev pub ShowsDrives : Shelved → List Bool → View → Type 0
+ShowsDrives shelf missing view = (slot : ℕ) → slot < shelf.drives → is_in missing slot ≡ false → view (drive slot) ≡ Some (bytes_of shelf (drive slot))
+
+-- each stripe of all patches stands
+abbrev pub StripesStandOfAll : View → BootRecord → Type 0
+StripesStandOfAll view boot = AllByRecursion (StripesStandOf view) boot.patches
+
+-- ---- patches
+
+-- the patches of the table with that tag
+abbrev pub of_tag : ℕ → List Patch → List Patch
+of_tag tag ps = filter (λ p. p.tag == tag) ps
+
+-- What was decoded of a patch. It stands as the patch where its stripes do, by its present drives.
+pub record IsLoaded (shelf : Shelved) (missing : List Bool) (p : Patch) (facts : List AnyFact) : Type 0 where
+  pub decoded : AreFactsOf p facts
+  pub stands : shelf.honest → (view : View) → ShowsPatch shelf p missing view → StripesStandOf view p → PatchStands view p facts
+
+-- ---- the shelf
+
+-- the drives are read, and nothing else is done
+pub record OnlyReads (old new : Shelved) : Type 0 where
+  pub continues : Continues old new
+  pub nvrams : (n : ℕ) → new.disk (nvram n) ≡ old.disk (nvram n)
+  pub same : old.honest → (device : Device) → IsSame (old.disk device) (new.disk device)
+  pub writes : old.honest → WritesOnly NoByte old new

@@ -1,0 +1,88 @@
+-- Patches stand alike in two views that show the same of their units.
+use Rattle.std.proofs.Common.{◌≡◌, ◌⊎◌, inl, inr, ℕ, zero, suc, ◌+◌, ◌*◌, ◌/◌, ◌≤◌, ◌<◌, List, [], ◌∷◌, map, sym, ap, ◌∙◌, arith}
+use Rattle.std.specs.Prelude.{Some, None, slice_index_or, option_map}
+use Rattle.std.specs.List.{AllByRecursion, AllZip}
+use Rattle.pur_base.specs.Bytes.{bytes_at}
+use Rattle.pur_base.specs.Devices.{Geometry, Image, View, drive}
+use Rattle.pur_base.specs.declared.facts.AnyFact.{AnyFact}
+use Rattle.pur_base.specs.declared.place.Place.{Place}
+use Rattle.boot_codec.specs.Record.{AscendFrom, IsSegment, IsPatch}
+use Rattle.boot_codec.specs.Region.{IsRecordOf}
+use Rattle.boot_codec.specs.declared.patch.Patch.{Patch}
+use Rattle.boot_codec.specs.declared.patch.PatchSegment.{PatchSegment}
+use Rattle.boot_codec.specs.declared.record.BootRecord.{BootRecord}
+use Rattle.segment_codec.specs.Stripes.{SectorStands, StripesStand}
+use Rattle.array_spec.specs.Laws.{DiffersOnlyIn}
+use Rattle.array_spec.specs.Stored.{PatchStands, PatchesStand, places_of_part, pages_in_part}
+use Rattle.array_spec.proofs.Fewer.{patches_on}
+use Rattle.array_spec.proofs.Moves.{SameUnit, SameUnits, Keeps, same_units_keep}
+use Rattle.array_spec.proofs.Quiet.{bytes_same}
+
+module _ (old new : View) where
+  sector_moves : (places : List Place) (index : ℕ) (sector : List ℕ) → Keeps old new places → SectorStands old places index sector → SectorStands new places index sector
+  unfolding Keeps
+  sector_moves places index sector keeps (shards, stands, is) = (shards, keeps (index / 56) shards stands, is)
+
+  stripes_move : (places : List Place) (placed : ℕ) → Keeps old new places → StripesStand old places placed → StripesStand new places placed
+  unfolding Keeps
+  stripes_move places placed keeps s stripe below = let one = s stripe below in (one.0, keeps stripe one.0 one.1)
+
+  part_keeps : (segments : List PatchSegment) (part : ℕ) → AllByRecursion (λ s. SameUnits old new s.places) segments → Keeps old new (slice_index_or (map (λ s. s.places) segments) part [])
+  part_keeps [] part same = same_units_keep old new [] tt
+  part_keeps (s ∷ ss) zero same = same_units_keep old new s.places same.0
+  part_keeps (s ∷ ss) (suc part) same = part_keeps ss part same.1
+
+  patch_moves : (p : Patch) (facts : List AnyFact) → AllByRecursion (λ s. SameUnits old new s.places) p.segments → PatchStands old p facts → PatchStands new p facts
+  patch_moves p facts same s = record {
+    count = s.count;
+    each = λ k f e. let one = s.each k f e in (one.0, sector_moves (places_of_part p (k / 8 / 840)) _ one.0 (part_keeps p.segments (k / 8 / 840) same) one.1, one.2);
+    table = s.table;
+    ascending = s.ascending;
+    stripes = λ part below. stripes_move (places_of_part p part) (pages_in_part p.facts part) (part_keeps p.segments part same) (s.stripes part below);
+  }
+
+  pub patches_move : (ps : List Patch) (fs : List (List AnyFact)) → AllByRecursion (λ p. AllByRecursion (λ s. SameUnits old new s.places) p.segments) ps
+      → AllZip (PatchStands old) ps fs → AllZip (PatchStands new) ps fs
+  patches_move [] [] same s = tt
+  patches_move [] (f ∷ fs) same s = s
+  patches_move (p ∷ ps) [] same s = s
+  patches_move (p ∷ ps) (f ∷ fs) same s = (patch_moves p f same.0 s.0, patches_move ps fs same.1 s.1)
+
+-- ---- where only boot units differ
+
+in_unit : (at unit n : ℕ) → n < 16 → 65536 * unit + 4096 * n ≤ at → at < 65536 * unit + 4096 * n + 4096 → at / 65536 ≡ unit
+in_unit at unit n below from_there to_there = omega (arith, below, from_there, to_there)
+
+-- in each view a drive shows nothing, or what the image of that view has
+abbrev pub ShowAlike : Image → Image → View → View → Type 0
+ShowAlike was now v w = (i : ℕ) → ((v (drive i) ≡ None) × (w (drive i) ≡ None)) ⊎ ((v (drive i) ≡ Some (was (drive i))) × (w (drive i) ≡ Some (now (drive i))))
+
+module _ (was now : Image) (only : DiffersOnlyIn (λ drive unit. unit < 3) was now) (v w : View) (alike : ShowAlike was now v w) where
+  same_unit : (p : Place) → 3 ≤ p.unit → SameUnit v w p
+  unfolding SameUnit
+  same_unit p high n below = elim (alike p.slot) [
+    | inl none ↦ ap (option_map (bytes_at (65536 * p.unit + 4096 * n) 4096)) (none.0 ∙ sym none.1)
+    | inr some ↦
+        let same : bytes_at (65536 * p.unit + 4096 * n) 4096 (was (drive p.slot)) ≡ bytes_at (65536 * p.unit + 4096 * n) 4096 (now (drive p.slot)) =
+        bytes_same (was (drive p.slot)) (now (drive p.slot)) (65536 * p.unit + 4096 * n) 4096 (sym (only.size p.slot)) (λ at low more. elim (only.drive p.slot at) [
+          | inl is ↦ sym is
+          | inr boot ↦ let e : at / 65536 ≡ p.unit = in_unit at p.unit n below low more in absurd (omega (arith, e, boot, high))
+        ]) in
+        ap (option_map (bytes_at (65536 * p.unit + 4096 * n) 4096)) some.0 ∙ ap (λ (b : List ℕ). Some b) same ∙ sym (ap (option_map (bytes_at (65536 * p.unit + 4096 * n) 4096)) some.1)
+  ]
+
+  places_same : (slots units least : ℕ) (ps : List Place) → AscendFrom slots units least ps → SameUnits v w ps
+  places_same slots units least [] lawful = tt
+  places_same slots units least (p ∷ ps) lawful = (same_unit p lawful.1.data_unit, places_same slots units (p.slot + 1) ps lawful.2)
+
+  segments_same : (slots units : ℕ) (ss : List PatchSegment) → AllByRecursion (IsSegment slots units) ss → AllByRecursion (λ s. SameUnits v w s.places) ss
+  segments_same slots units [] lawful = tt
+  segments_same slots units (s ∷ ss) lawful = (places_same slots units 0 s.places lawful.0.places, segments_same slots units ss lawful.1)
+
+  all_same : (slots units : ℕ) (ps : List Patch) → AllByRecursion (IsPatch slots units) ps → AllByRecursion (λ p. AllByRecursion (λ s. SameUnits v w s.places) p.segments) ps
+  all_same slots units [] lawful = tt
+  all_same slots units (p ∷ ps) lawful = (segments_same slots units p.segments lawful.0.segments, all_same slots units ps lawful.1)
+
+  -- the patches of a lawful record stand in the one as they stand in the other
+  pub patches_alike : (shelf : Geometry) (boot : BootRecord) (patches : List (List AnyFact)) → IsRecordOf shelf boot → PatchesStand v boot patches → PatchesStand w boot patches
+  patches_alike shelf boot patches lawful stand = patches_move v w boot.patches patches (all_same shelf.slots shelf.units boot.patches (patches_on shelf boot lawful)) stand

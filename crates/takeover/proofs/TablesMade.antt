@@ -1,0 +1,86 @@
+-- Memory that was made of tables, as the record that names them sees it.
+use Rattle.std.proofs.Common.{◌≡◌, ℕ, ◌≤◌, List, [], ◌++◌, length, map, sym, ap, subst, arith}
+use Rattle.std.specs.Prelude.{All, Contains}
+use Rattle.std.proofs.lemmas.List.Elements.{All-contains, All-from_recursion, recursion_from_All, Contains-append_left}
+use Rattle.pur_base.specs.Devices.{Geometry}
+use Rattle.pur_base.specs.Facts.{table_tag}
+use Rattle.pur_base.specs.Plain.{Array}
+use Rattle.pur_base.specs.declared.facts.AnyFact.{AnyFact}
+use Rattle.pur_base.specs.declared.facts.AnyFact.TheVariants as any
+use Rattle.boot_codec.specs.declared.record.BootRecord.{BootRecord}
+use Rattle.fact_codec.specs.Fact.{IsFact}
+use Rattle.array_spec.specs.Sound.{AreSound}
+use Rattle.array_spec.specs.Stored.{all_facts, in_patches}
+use Rattle.pyramid.specs.Layers.{facts_of}
+use Rattle.memory_spec.specs.Memory.{Contents, FactsRead, ReadsAs}
+use Rattle.memory_spec.specs.Tables.{all_of, facts, flushed, patches}
+use Rattle.memory_spec.proofs.AllTables.{of_all}
+use Rattle.memory_spec.proofs.Lists.{each_by_recursion, zip_weaker}
+use Rattle.checkpoint_spec.specs.Whole.{IsNamed, IsWhole}
+use Rattle.checkpoint_spec.proofs.Patches.{in_patches_are, patches_are_all}
+use Rattle.table_soundness.specs.declared.tables.LoadedTables.{LoadedTables}
+use Rattle.table_soundness.specs.Faults as judged
+use Rattle.table_soundness.specs.Faults.{patches_in, AreLawful, AreNamed}
+use Rattle.loaded_spec.proofs.Sound.{sound_tables_read}
+use Rattle.array_memory.specs.Kept.{Kept}
+use Rattle.array_memory.specs.Loaded.{AreInSegments, HasLogRoom, IsLoaded}
+use Rattle.takeover.specs.Tables.{IsMemoryOf}
+
+module _ (shelf : Geometry) (boot : BootRecord) (t : LoadedTables) (k : Kept) (sound : AreSound shelf boot (patches_in t)) (lawful : AreLawful t) (named : AreNamed boot t) (loaded : IsLoaded boot t k.memory) where
+  pub patches_are : patches k.memory.tables ≡ patches_in t
+  patches_are = λ i.
+      map (map any.Object) (loaded.objects.patches i)
+      ++ (map (map any.Medium) (loaded.mediums.patches i)
+      ++ (map (map any.Address) (loaded.addresses.patches i)
+      ++ (map (map any.Segment) (loaded.segments.patches i)
+      ++ map (map any.Elision) (loaded.elisions.patches i))))
+
+  -- each fact of a table was decoded
+  of_table : {F : Type 0} (any : F → AnyFact) (given now : List (List F)) → now ≡ given → All (λ f. IsFact (any f)) (facts_of given) → (f : F) → Contains (facts_of now) f → IsFact (any f)
+  of_table {F} any given now same all f there = All-contains (λ (g : F). IsFact (any g)) (facts_of given) f all (subst (λ (fs : List (List F)). Contains (facts_of fs) f) same there)
+
+  each_fact : (f : AnyFact) → Contains (all_of (flushed k.memory.tables)) f → IsFact f
+  each_fact = of_all (flushed k.memory.tables) IsFact
+      (of_table any.Object t.objects.items k.memory.tables.objects.patches loaded.objects.patches lawful.objects)
+      (of_table any.Medium t.mediums.items k.memory.tables.mediums.patches loaded.mediums.patches lawful.mediums)
+      (of_table any.Address t.addresses.items k.memory.tables.addresses.patches loaded.addresses.patches lawful.addresses)
+      (of_table any.Segment t.segments.items k.memory.tables.segments.patches loaded.segments.patches lawful.segments)
+      (of_table any.Elision t.elisions.items k.memory.tables.elisions.patches loaded.elisions.patches lawful.elisions)
+
+  all_lawful : All IsFact (in_patches (patches k.memory.tables))
+  all_lawful = subst (λ (fs : List AnyFact). All IsFact fs) (sym (in_patches_are k.memory.tables))
+      (All-from_recursion IsFact (all_of (flushed k.memory.tables)) (each_by_recursion IsFact (all_of (flushed k.memory.tables)) each_fact))
+
+  whole : IsWhole k.memory
+  whole = record {
+    staged = loaded.staged;
+    objects = loaded.objects.unflushed;
+    mediums = loaded.mediums.unflushed;
+    addresses = loaded.addresses.unflushed;
+    segments = loaded.segments.unflushed;
+    elisions = loaded.elisions.unflushed;
+  }
+
+  sound_here : AreSound shelf boot (patches k.memory.tables)
+  sound_here = subst (λ (ps : List (List AnyFact)). AreSound shelf boot ps) (sym patches_are) sound
+
+  pub memory_of : ((contents : Contents) (base : Array) → FactsRead contents [] (all_facts (patches k.memory.tables)) k.memory.next.object base → ReadsAs contents k.memory base)
+      → AreInSegments (facts k.memory.tables).addresses → HasLogRoom k → 64 ≤ k.name_room → IsMemoryOf shelf boot k
+  memory_of reads stored room names = record {
+    tables_sound = sound_here;
+    lawful = all_lawful;
+    some = λ contents. sound_tables_read shelf boot (patches k.memory.tables) contents sound_here all_lawful;
+    reads = λ contents base read. reads contents base (subst (λ (n : ℕ). FactsRead contents [] (all_facts (patches k.memory.tables)) n base) (sym (ap (λ n. n.object) loaded.next)) read);
+    all = patches_are_all k.memory whole;
+    named = subst (λ (ps : List (List AnyFact)). Rattle.std.specs.List.AllZip IsNamed boot.patches ps) (sym patches_are)
+        (zip_weaker judged.IsNamed IsNamed (λ p fs is. record { count = sym is.count; table = recursion_from_All (λ (f : AnyFact). table_tag f ≡ p.tag) fs is.of_table }) boot.patches (patches_in t) named);
+    stored = λ f at there is. (stored f at (Contains-append_left (facts_of k.memory.tables.addresses.patches) k.memory.tables.addresses.unflushed f there) is).0;
+    next = loaded.next;
+    room = record {
+      objects = omega (arith, room.objects);
+      names = omega (arith, names);
+      addresses = omega (arith, room.addresses);
+      staged = omega (arith, room.staged);
+      indices = omega (arith, ap (λ (l : List (List ℕ)). length l) loaded.staged);
+    };
+  }

@@ -1,0 +1,64 @@
+-- Sectors that stand one behind another in a segment.
+use Rattle.std.proofs.Common.{◌≡◌, ℕ, zero, suc, ◌+◌, ◌<◌, ◌≤◌, Bool, List, [], ◌++◌, length, refl, sym, ◌∙◌, ap, subst, arith, Option, Some}
+use Rattle.std.specs.Prelude.{slice_index_or}
+use Rattle.std.proofs.lemmas.List.{get_or_append_left}
+use Rattle.pur_base.specs.Devices.{View}
+use Rattle.pur_base.specs.Facts.{Facts}
+use Rattle.pur_base.specs.Visible.{segment}
+use Rattle.pur_base.specs.declared.place.Location.{Location}
+use Rattle.pur_base.specs.declared.place.Place.{Place}
+use Rattle.pur_base.specs.declared.facts.Target.{Target}
+use Rattle.pur_base.specs.declared.facts.Target.TheVariants.{Zero}
+use Rattle.pur_base.specs.declared.facts.SegmentFact.{SegmentFact}
+use Rattle.segment_codec.specs.Stripes.{SectorStands}
+use Rattle.world.specs.Shelf.{Shelved}
+use Rattle.segment_io.specs.Places.{ArePlaces, place_of}
+use Rattle.segment_io.specs.Reads.{AreLost, ShowsPresent, is_missing_in}
+use Rattle.memory_spec.specs.Memory.{Contents, PlaceReads, TargetReads}
+use Rattle.checkpoint_spec.specs.Contents.{ContentsStand}
+use Rattle.target_io.specs.Reading.{AreReadable, ShowsDrives, LosesThree}
+use Rattle.target_io.specs.Targets.{AreSectorsOf, target_behind}
+use Rattle.target_io.proofs.Reading.{lost_places}
+
+-- a segment that memory gave the places of
+abbrev pub HasPlaces : Facts → ℕ → List Place → Type 0
+HasPlaces fs id places = (d : SegmentFact) × (segment fs id ≡ Some d) × (d.places ≡ places)
+
+same_some : (o : Option SegmentFact) (x y : SegmentFact) → o ≡ Some x → o ≡ Some y → x ≡ y
+same_some o x y e f = cc
+
+sector_stands : (view : View) (fs : Facts) (contents : Contents) (id index j : ℕ) (which : SegmentFact) (places : List Place) → ContentsStand contents view fs → segment fs id ≡ Some which → index + j < which.placed → HasPlaces fs id places
+    → SectorStands view places (index + j) (contents id (index + j))
+sector_stands view fs contents id index j which places stand there low given =
+    let same : which ≡ given.0 = same_some (segment fs id) which given.0 there given.1 in
+    let placed : index + j < given.0.placed = omega (arith, low, ap (λ (d : SegmentFact). d.placed) same) in
+    subst (λ (units : List Place). SectorStands view units (index + j) (contents id (index + j))) given.2 (stand id (index + j) given.0 given.1 placed)
+
+places_are : (a : Shelved) (fs : Facts) (id : ℕ) (places : List Place) → AreReadable a fs → HasPlaces fs id places → ArePlaces a places
+places_are a fs id places readable given = subst (λ (units : List Place). ArePlaces a units) given.2 (readable id given.0 given.1).0
+
+-- so a run of them is read as memory reads it
+pub run_read : (a : Shelved) (fs : Facts) (missing : List Bool) (contents : Contents) (view : View) (id index count : ℕ) (which : SegmentFact) (places : List Place) (out : List (List ℕ)) → AreReadable a fs → segment fs id ≡ Some which → index + count ≤ which.placed → HasPlaces fs id places
+    → ((view : View) (j : ℕ) (sector : List ℕ) → j < count → ShowsPresent a places missing view → SectorStands view places (index + j) sector → slice_index_or out j [] ≡ sector)
+    → ShowsDrives a missing view → ContentsStand contents view fs → (j : ℕ) → j < count → slice_index_or out j [] ≡ contents id (index + j)
+run_read a fs missing contents view id index count which places out readable there placed given read shows stand j low =
+    read view j (contents id (index + j)) low (λ shard within present. shows (place_of places shard).slot ((places_are a fs id places readable given).each shard within).slot present)
+    (sector_stands view fs contents id index j which places stand there (omega (arith, low, placed)) given)
+
+-- and where that fails, three drives are lost
+pub run_lost : (a b : Shelved) (fs : Facts) (missing drives : List Bool) (id : ℕ) (places : List Place) → AreReadable a fs → HasPlaces fs id places → AreLost a b places (is_missing_in missing places) drives → LosesThree a b missing
+run_lost a b fs missing drives id places readable given lost = lost_places a b places missing drives (places_are a fs id places readable given) lost
+
+-- ---- the targets of such sectors
+
+placed_reads : (contents : Contents) (staged : List (List ℕ)) (id index : ℕ) → 1 ≤ id → PlaceReads contents staged id index (contents id index)
+placed_reads contents staged zero index given = absurd (omega (arith, given))
+placed_reads contents staged (suc id) index given = refl
+
+pub run_sectors : (contents : Contents) (staged : List (List ℕ)) (targets : List Target) (at : Location) (count : ℕ) (part rest : List (List ℕ)) → 1 ≤ at.segment.0 → count ≤ length part
+    → ((j : ℕ) → j < count → slice_index_or targets j Zero ≡ target_behind at j) → ((j : ℕ) → j < count → slice_index_or part j [] ≡ contents at.segment.0 (at.index + j))
+    → AreSectorsOf contents staged targets count (part ++ rest)
+run_sectors contents staged targets at count part rest given long follow read j low =
+    let is : slice_index_or (part ++ rest) j [] ≡ contents at.segment.0 (at.index + j) = get_or_append_left part rest [] j (omega (arith, low, long)) ∙ read j low in
+    subst (λ (s : List ℕ). TargetReads contents staged (slice_index_or targets j Zero) s) (sym is)
+    (subst (λ (t : Target). TargetReads contents staged t (contents at.segment.0 (at.index + j))) (sym (follow j low)) (placed_reads contents staged at.segment.0 (at.index + j) given))

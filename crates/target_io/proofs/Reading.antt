@@ -1,0 +1,89 @@
+-- One read after another.
+use Rattle.std.proofs.Common.{◌≢◌, inl, inr, ⊎_elim, ℕ, Bool, List, refl, sym, ◌∙◌, ap, arith}
+use Rattle.std.specs.Prelude.{Some}
+use Rattle.pur_base.specs.declared.place.Place.{Place}
+use Rattle.pur_base.specs.Devices.{View, drive, nvram}
+use Rattle.pur_base.specs.Facts.{Facts}
+use Rattle.world.specs.Shelf.{Shelved, IsShelf, Continues, IsSame}
+use Rattle.world.specs.Writes.{WritesOnly}
+use Rattle.world.proofs.Moments.{continues_refl, continues_trans}
+use Rattle.world.proofs.Writes.{writes_then, nothing_written}
+use Rattle.segment_io.specs.Lost.{NoByte}
+use Rattle.segment_io.specs.Places.{ArePlaces, OthersStayOf, place_of}
+use Rattle.segment_io.specs.Reads.{AreLost, is_missing_in}
+use Rattle.segment_io.proofs.Gathers.{same_then}
+use Rattle.segment_io.proofs.Losing.{rises_then}
+use Rattle.segment_io.proofs.Places.{still_places}
+use Rattle.target_io.specs.Reading.{AreReadable, ShowsDrives, ReadsOnly, IsLost, LosesThree}
+
+pub reads_none : (a : Shelved) → IsShelf a → ReadsOnly a a
+reads_none a is = record {
+  continues = continues_refl a;
+  nvrams = λ n. refl;
+  same = λ h device. record { bytes = refl; dirty = refl };
+  writes = λ h. nothing_written a is;
+}
+
+pub reads_then : {a b c : Shelved} → ReadsOnly a b → ReadsOnly b c → ReadsOnly a c
+reads_then {a} {b} {c} ab bc = record {
+  continues = continues_trans ab.continues bc.continues;
+  nvrams = λ n. bc.nvrams n ∙ ab.nvrams n;
+  same = λ h device. same_then (ab.same h device) (bc.same (ab.continues.honest h) device);
+  writes = λ h. writes_then ab.continues (ab.writes h) (bc.writes (ab.continues.honest h));
+}
+
+no_nvram : (n slot : ℕ) → nvram n ≢ drive slot
+no_nvram n slot e = cc
+
+-- a read of the nine drives of a segment
+pub reads_places : (a b : Shelved) (places : List Place) → Continues a b → (a.honest → (device : _) → IsSame (a.disk device) (b.disk device)) → (a.honest → WritesOnly NoByte a b) → OthersStayOf places a b → ReadsOnly a b
+reads_places a b places continues same writes others = record {
+  continues = continues;
+  nvrams = λ n. others (nvram n) (λ shard low. no_nvram n (place_of places shard).slot);
+  same = same;
+  writes = writes;
+}
+
+-- ---- what stays
+
+pub still_readable : {a b : Shelved} (facts : Facts) → Continues a b → AreReadable a facts → AreReadable b facts
+still_readable facts on are id d said = let w = are id d said in (still_places on w.0, w.1)
+
+-- what is shown of the drives is so after reads
+pub still_shows : {a b : Shelved} (missing : List Bool) (view : View) → a.honest → ReadsOnly a b → ShowsDrives a missing view → ShowsDrives b missing view
+still_shows {a} {b} missing view h reads shows slot low present = shows slot (omega (arith, low, reads.continues.drives)) present ∙ ap (λ (bytes : List ℕ). Some bytes) (sym (reads.same h (drive slot)).bytes)
+
+-- ---- what is lost
+
+-- what is lost in the second of two calls is lost in both
+pub lost_since : (a b c : Shelved) (missing : List Bool) → Continues a b → LosesThree b c missing → LosesThree a c missing
+lost_since a b c missing on lost = record {
+  first = lost.first;
+  second = lost.second;
+  third = lost.third;
+  in_order = (lost.in_order.0, lost.in_order.1, omega (arith, lost.in_order.2, on.drives));
+  are = (since lost.first lost.are.0, since lost.second lost.are.1, since lost.third lost.are.2);
+}
+  where
+    since : (slot : ℕ) → IsLost b c missing slot → IsLost a c missing slot
+    since slot is = ⊎_elim (λ was. inl was) (λ rose. inr (rises_then (a.disk (drive slot)).faults (b.disk (drive slot)).faults (c.disk (drive slot)).faults (on.faults (drive slot)) rose)) is
+
+-- three drives of a segment
+pub lost_places : (a b : Shelved) (places : List Place) (missing drives : List Bool) → ArePlaces a places → AreLost a b places (is_missing_in missing places) drives → LosesThree a b missing
+lost_places a b places missing drives are lost =
+    let three = lost.three in
+    record {
+      first = (place_of places three.first).slot;
+      second = (place_of places three.second).slot;
+      third = (place_of places three.third).slot;
+      in_order = (
+        are.ascending three.first three.second three.in_order.0 (omega (arith, three.in_order)),
+        are.ascending three.second three.third three.in_order.1 three.in_order.2,
+        (are.each three.third three.in_order.2).slot,
+      );
+      are = (
+        lost.cause three.first (omega (arith, three.in_order)) three.are.0,
+        lost.cause three.second (omega (arith, three.in_order)) three.are.1,
+        lost.cause three.third three.in_order.2 three.are.2,
+      );
+    }

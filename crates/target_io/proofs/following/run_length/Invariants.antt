@@ -1,0 +1,7 @@
+use Rattle.std.proofs.Common.{◌≡◌, ℕ, ◌<◌, slice_index_or}
+use Rattle.pur_base.specs.declared.facts.Target.TheVariants.{Zero}
+use Rattle.target_io.specs.Targets.{target_behind}
+use Rattle.target_io.proofs.following.run_length.Given as goal
+
+abbrev pub invariant-loop-i : goal.invariant-loop-i
+invariant-loop-i l = (j : ℕ) → j < l.i → slice_index_or l.targets j Zero ≡ target_behind l.at j

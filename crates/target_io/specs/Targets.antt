@@ -1,0 +1,37 @@
+-- The sectors of targets.
+use Rattle.std.specs.Prelude.{◌≡◌, ℕ, ◌+◌, ◌<◌, ◌≤◌, List, [], Some, slice_index_or}
+use Rattle.pur_base.specs.Visible.{segment}
+use Rattle.pur_base.specs.declared.place.Location.{Location}
+use Rattle.pur_base.specs.declared.facts.Target.{Target}
+use Rattle.pur_base.specs.declared.facts.Target.TheVariants.{Stored, Zero}
+use Rattle.pur_base.specs.declared.facts.SegmentFact.{SegmentFact}
+use Rattle.pur_base.specs.declared.reply.Refusal.{Refusal}
+use Rattle.memory_spec.specs.Tables.{facts}
+use Rattle.memory_spec.specs.Memory.{Memory, Contents, TargetReads}
+use Rattle.target_io.specs.declared.fault.ReadFault.{ReadFault}
+use Rattle.target_io.specs.declared.fault.ReadFault.TheVariants.{Refused, Lost}
+
+-- the target of the sector so many places behind that location
+abbrev pub target_behind : Location → ℕ → Target
+target_behind at j = Stored (record at { index = at.index + j })
+
+-- so many sectors from the location on were placed in a visible segment
+pub record IsRun (m : Memory) (at : Location) (count : ℕ) : Type 0 where
+  pub given : 1 ≤ at.segment.0
+  pub which : SegmentFact
+  pub there : segment (facts m.tables) at.segment.0 ≡ Some which
+  pub placed : at.index + count ≤ which.placed
+
+-- the first sectors are those that the targets stand for
+abbrev pub AreSectorsOf : Contents → List (List ℕ) → List Target → ℕ → List (List ℕ) → Type 0
+AreSectorsOf contents staged targets count sectors = (j : ℕ) → j < count → TargetReads contents staged (slice_index_or targets j Zero) (slice_index_or sectors j [])
+
+-- it holds of the refusal, where the fault is one
+abbrev pub IfRefused : ReadFault → (Refusal → Type 0) → Type 0
+IfRefused (Refused why) P = P why
+IfRefused Lost P = Unit {0}
+
+-- it holds, where the fault is that drives are lost
+abbrev pub IfLost : ReadFault → Type 0 → Type 0
+IfLost (Refused why) P = Unit {0}
+IfLost Lost P = P

@@ -1,0 +1,67 @@
+ghost use Rattle.std.specs.Prelude.{◌≡◌, ℕ, ◌≤◌, None, Some, length, IfErr, OnOk};
+ghost use Rattle.pur_base.specs.declared.device.Device.{Device};
+ghost use Rattle.pur_base.specs.declared.limits.TheConstants.{REQUEST_SECTORS};
+ghost use Rattle.pur_base.specs.Devices.{View, nvram};
+ghost use Rattle.pur_base.specs.Plain.{first_cause, read_causes, sectors_of, span, Array};
+ghost use Rattle.world.specs.Shelf.{Continues, IsSame};
+ghost use Rattle.world.specs.Writes.{WritesOnly};
+ghost use Rattle.segment_io.specs.Lost.{NoByte};
+ghost use Rattle.memory_spec.specs.Memory.{Contents, IsSound, ReadsAs};
+ghost use Rattle.memory_spec.specs.Tables.{facts};
+ghost use Rattle.checkpoint_spec.specs.Contents.{ContentsStand};
+ghost use Rattle.volume_ops.specs.OfArray.{OfArray};
+ghost use Rattle.target_io.specs.Reading.{AreReadable, ShowsDrives, LosesThree};
+ghost use Rattle.target_io.specs.Targets.{IfRefused, IfLost};
+
+use crate::fault::ReadFault;
+use crate::room::ReadRoom;
+use crate::targets::read_targets;
+use array_memory::Memory;
+use pur_base::{Name, REQUEST_SECTORS, Sector, Target};
+use volume_ops::read;
+use world::Shelf;
+
+/// Reads the sectors of an object from `lba` on, as many as there are places, or says why not. Which drives are missing is given by slot.
+/// Sectors that stand one behind another in a segment are read in one run: one call for each shard that it touches. It takes no memory.
+/// After a fault any sectors may stand in the places.
+pub fn read_span<S: Shelf>(
+    memory: &Memory,
+    name: &Name,
+    lba: u64,
+    missing: &[bool],
+    room: &mut ReadRoom,
+    out: &mut [Sector],
+    shelf: &mut S,
+) -> Result<(), ReadFault>
+    requires sound { IsSound memory.now.memory }
+    requires places { AreReadable (S.shelf shelf.old) (facts memory.now.memory.tables) }
+    requires few { length out.old ≤ REQUEST_SECTORS }
+    ensures continues { Continues (S.shelf shelf.old) (S.shelf shelf.new) }
+    ensures rest { S.shelf_rest shelf.old shelf.new }
+    ensures nvrams { (n : ℕ) → (S.shelf shelf.new).disk (nvram n) ≡ (S.shelf shelf.old).disk (nvram n) }
+    ensures same { (S.shelf shelf.old).honest → (device : Device) → IsSame ((S.shelf shelf.old).disk device) ((S.shelf shelf.new).disk device) }
+    ensures writes { (S.shelf shelf.old).honest → WritesOnly NoByte (S.shelf shelf.old) (S.shelf shelf.new) }
+    ensures count { length out.new ≡ length out.old }
+
+    // What the plain array refuses is refused for its cause, and then no device is called and nothing changes.
+    ensures accepted { OnOk result (OfArray memory.now.memory (λ array. first_cause (read_causes array name.now lba (length out.old)) ≡ None)) }
+    ensures refused { IfErr result (λ fault. IfRefused fault (λ why. OfArray memory.now.memory (λ array. first_cause (read_causes array name.now lba (length out.old)) ≡ Some why))) }
+    ensures unchanged { IfErr result (λ fault. IfRefused fault (λ _why. (shelf.new ≡ shelf.old) × (out.new ≡ out.old))) }
+
+    // The sectors are those of each array that memory reads as, where those of segments stand in a view that shows the drives that aren't missing.
+    ensures sectors { (S.shelf shelf.old).honest → OnOk result ((contents : Contents) (array : Array) (view : View) → ReadsAs contents memory.now.memory array
+        → ShowsDrives (S.shelf shelf.old) missing.now view → ContentsStand contents view (facts memory.now.memory.tables) → out.new ≡ span lba (length out.old) (sectors_of array name.now)) }
+    // `Lost` comes only of a read that the plain array accepts.
+    ensures accepted_where_lost { IfErr result (λ fault. IfLost fault (OfArray memory.now.memory (λ array. first_cause (read_causes array name.now lba (length out.old)) ≡ None))) }
+    ensures lost { IfErr result (λ fault. IfLost fault (LosesThree (S.shelf shelf.old) (S.shelf shelf.new) missing.now)) }
+{
+    let mut targets = [Target::Zero; REQUEST_SECTORS];
+    let targets = &mut targets[..out.len()];
+    if let Err(why) = read(memory, name, lba, targets) {
+        return Err(ReadFault::Refused(why));
+    }
+    match read_targets(memory, targets, missing, &mut room.run, out, shelf) {
+        Ok(()) => Ok(()),
+        Err(_lost) => Err(ReadFault::Lost),
+    }
+}
