@@ -1,5 +1,6 @@
 pub mod RunLemmas
 pub mod KeptLemmas
+pub mod CountLemmas
 pub mod PutLemmas
 pub mod ApplyLemmas
 pub mod ResolveLemmas
@@ -10,3 +11,5 @@ pub mod SegmentLemmas
 pub mod LoadedLemmas
 pub mod PlanLemmas
 pub mod FinishLemmas
+pub mod VisibleLemmas
+pub mod LastingLemmas

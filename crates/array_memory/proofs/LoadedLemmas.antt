@@ -1,5 +1,5 @@
 -- Memory of tables that were loaded is sound, and what is kept beside them is what they say.
-use Rattle.std.proofs.Common.{◌≡◌, ◌≢◌, ℕ, ◌<◌, ◌≤◌, List, [], ◌++◌, map, refl, sym, ap, subst, ◌∙◌, inl, inr, Some, All, Contains, append-nil}
+use Rattle.std.proofs.Common.{◌≡◌, ◌≢◌, ℕ, ◌<◌, ◌≤◌, List, [], ◌++◌, map, sym, ap, subst, ◌∙◌, inl, inr, Some, All, Contains, append-nil}
 use Rattle.std.specs.Prelude.{IsTrue, Result, Ok, Err, IfOk}
 use Rattle.std.proofs.lemmas.List.Elements.{All-contains, recursion_from_All, Contains-append_left}
 use Rattle.pur_base.specs.Devices.{Geometry}
@@ -7,7 +7,6 @@ use Rattle.pur_base.specs.Facts.{Facts, any_number, object_key, medium_key, addr
 use Rattle.pur_base.specs.Plain.{Array}
 use Rattle.pur_base.specs.Says.{says}
 use Rattle.pur_base.specs.Visible.{objects, is_elided, is_within}
-use Rattle.pur_base.specs.declared.place.Location.{Location}
 use Rattle.pur_base.specs.declared.request.Table.{Table}
 use Rattle.pur_base.specs.declared.request.Table.TheVariants as table
 use Rattle.pur_base.specs.declared.facts.Target.{Target}

@@ -13,6 +13,8 @@ use Rattle.pur_base.specs.declared.facts.AddressFact.{AddressFact}
 use Rattle.pur_base.specs.declared.facts.SegmentFact.{SegmentFact}
 use Rattle.pur_base.specs.Plain.{Array}
 use Rattle.pur_base.specs.declared.facts.AnyFact.TheVariants as any
+use Rattle.boot_codec.specs.declared.record.NextNumbers.{NextNumbers}
+use Rattle.fact_codec.specs.declared.limits.TheConstants.{NUMBER_LIMIT}
 use Rattle.pyramid.specs.Layers.{Layers, AreBelow, IsFlushed, IsLayered, facts_of, patch_facts}
 use Rattle.pyramid.proofs.LayerLemmas.{all_contained, all_below, below_at, rises_below}
 use Rattle.pyramid.proofs.MergeLemmas.{ascends-cons, ascends-nil}
@@ -35,7 +37,7 @@ use Rattle.checkpoint_plan.proofs.SegmentsLemmas.{IsNewSegment, is_new_segment}
 use Rattle.array_memory.specs.declared.plan.Placing.{Placing}
 use Rattle.array_memory.specs.declared.plan.Plan.{Plan}
 use Rattle.array_memory.specs.Kept.{Kept}
-use Rattle.array_memory.specs.Plan.{after_plan, next_past, placed_addresses, units_of, with_patch_rooms, AreLeftFor, AreUnits, HasRoomForPatches, HasSameLayers, IsPlacingOf, IsPlanFor, IsPlanOf, IsSameMemory}
+use Rattle.array_memory.specs.Plan.{after_plan, next_past, next_with, placed_addresses, units_of, with_patch_rooms, AreLeftFor, AreUnits, HasRoomForPatches, HasSameLayers, IsPlacingOf, IsPlanFor, IsPlanOf, IsSameMemory}
 use Rattle.array_memory.proofs.SoundLemmas.{sound_as}
 
 -- ---- sectors have places
@@ -94,7 +96,7 @@ pub segments_units : (first number sectors : ℕ) (units : List (List Place)) �
 segments_units first number sectors [] = refl
 segments_units first number sectors (u ∷ units) = ap (λ l. u ∷ l) (segments_units (first + 1) (number + 1) _ units)
 
-long_map : {A B : Type 0} (f : A → B) (xs : List A) → length (map f xs) ≡ length xs
+pub long_map : {A B : Type 0} (f : A → B) (xs : List A) → length (map f xs) ≡ length xs
 long_map f [] = refl
 long_map f (x ∷ xs) = let inner = long_map f xs in omega (arith, inner)
 
@@ -185,7 +187,8 @@ module _ (m : Memory) (p : Plan) (h : IsPlanFor m p) where
     mediums = record { patch = p.mediums; made = h.mediums; patches = refl; unflushed = refl };
     elisions = record { patch = p.elisions; made = h.elisions; patches = refl; unflushed = refl };
     staged = refl;
-    next = h.next ∙ ap (λ n. next_past m.next n) (sym units_long);
+    next = h.next ∙ ap (λ n. next_with m.next n p.next.patch_segment) (sym units_long);
+    patch_segments = h.patch_segments;
     layered = layered;
   }
 
@@ -213,11 +216,15 @@ made_for m p units sound stored layered placing wanted places left are objects m
   addresses = addresses;
   segment_facts = segment_facts;
   elisions = elisions;
-  next = next ∙ ap (λ n. next_past m.next n) (sym long);
+  next = next ∙ ap (λ n. next_past m.next n) (sym long) ∙ ap (λ k. next_with m.next (length p.segments.items) k) (sym same_patch_segment);
+  patch_segments = (omega (arith, same_patch_segment), (let l = sound.next.patch_segment.1 in omega (arith, l, same_patch_segment)));
 }
   where
     long : length p.segments.items ≡ length units
     long = ap length are ∙ segments_long m.next.segment m.next.sequence (length p.placing.order.items) units
+
+    same_patch_segment : p.next.patch_segment ≡ m.next.patch_segment
+    same_patch_segment = ap (λ (n : NextNumbers). n.patch_segment) next
 
     own : units_of p ≡ units
     own = ap (λ l. map (λ (d : SegmentFact). d.places) l) are ∙ segments_units m.next.segment m.next.sequence (length p.placing.order.items) units
@@ -245,7 +252,8 @@ planned_same was a b flags newest units same h = record {
   mediums = same_flushed medium_key (λ f. f.seq.0) was.tables.mediums a.tables.mediums b.tables.mediums same.mediums h.mediums;
   elisions = same_flushed elision_key (λ f. f.seq.0) was.tables.elisions a.tables.elisions b.tables.elisions same.elisions h.elisions;
   staged = same.staged ∙ h.staged;
-  next = same.next ∙ h.next;
+  next = same.next ∙ h.next ∙ ap (λ k. next_with was.next (length units) k) (ap (λ (n : NextNumbers). n.patch_segment) (sym same.next));
+  patch_segments = subst (λ (n : NextNumbers). (was.next.patch_segment ≤ n.patch_segment) × (n.patch_segment < NUMBER_LIMIT)) (sym same.next) h.patch_segments;
   layered = record {
     objects = same_layered object_key (λ f. f.seq.0) a.tables.objects b.tables.objects same.objects h.layered.objects;
     mediums = same_layered medium_key (λ f. f.seq.0) a.tables.mediums b.tables.mediums same.mediums h.layered.mediums;
@@ -282,6 +290,28 @@ roomed_for was now p h = record {
   segment_facts = h.segment_facts;
   elisions = h.elisions;
   next = h.next;
+  patch_segments = h.patch_segments;
+}
+
+-- and it stays one where ids are given to segments of its patches
+pub numbered : (m : Memory) (p : Plan) (n : NextNumbers) → n ≡ record p.next { patch_segment = n.patch_segment } → p.next.patch_segment ≤ n.patch_segment → n.patch_segment < NUMBER_LIMIT
+    → IsPlanFor m p → IsPlanFor m (record p { next = n })
+numbered m p n same more left h = record {
+  sound = h.sound;
+  stored = h.stored;
+  layered = h.layered;
+  placing = h.placing;
+  wanted = h.wanted;
+  segments = h.segments;
+  units = h.units;
+  left = h.left;
+  objects = h.objects;
+  mediums = h.mediums;
+  addresses = h.addresses;
+  segment_facts = h.segment_facts;
+  elisions = h.elisions;
+  next = same ∙ ap (λ (k : NextNumbers). record k { patch_segment = n.patch_segment }) h.next;
+  patch_segments = (let a = h.patch_segments.0 in omega (arith, a, more), left);
 }
 
 pub plan_of : (was now : Kept) (p : Plan) (units : List (List Place)) → now ≡ with_patch_rooms was now → IsPlanFor was.memory p → units_of p ≡ units → HasRoomForPatches now (length units) → IsPlanOf now p

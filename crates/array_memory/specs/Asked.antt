@@ -80,9 +80,18 @@ pub record IsPrepared (k : Kept) (r : Request) : Type 0 where
 
 -- ---- what it leaves
 
--- no more room is taken than for that
+-- No more room is taken than for that, and no more facts are unflushed than that. What is taken up and the room that is left aren't less together than before.
 pub record HasRoomLeft (was now : Kept) (r : Request) : Type 0 where
   pub objects : was.memory.tables.objects.room ≤ now.memory.tables.objects.room + added r
   pub names : was.name_room ≤ now.name_room + added r
   pub addresses : was.memory.tables.addresses.room ≤ now.memory.tables.addresses.room + put r
   pub staged : was.staged_room ≤ now.staged_room + staged_count r
+  pub unflushed_objects : length now.memory.tables.objects.unflushed ≤ length was.memory.tables.objects.unflushed + added r
+  pub unflushed_addresses : length now.memory.tables.addresses.unflushed ≤ length was.memory.tables.addresses.unflushed + put r
+  pub mediums : now.memory.tables.mediums.unflushed ≡ was.memory.tables.mediums.unflushed
+  pub segments : now.memory.tables.segments.unflushed ≡ was.memory.tables.segments.unflushed
+  pub elisions : now.memory.tables.elisions.unflushed ≡ was.memory.tables.elisions.unflushed
+  pub object_capacity : length was.memory.tables.objects.unflushed + was.memory.tables.objects.room ≤ length now.memory.tables.objects.unflushed + now.memory.tables.objects.room
+  pub name_capacity : length was.objects + was.name_room ≤ length now.objects + now.name_room
+  pub address_capacity : length was.memory.tables.addresses.unflushed + was.memory.tables.addresses.room ≤ length now.memory.tables.addresses.unflushed + now.memory.tables.addresses.room
+  pub staged_capacity : length was.memory.staged + was.staged_room ≤ length now.memory.staged + now.staged_room

@@ -5,3 +5,4 @@ pub mod Put
 pub mod Lawful
 pub mod Loaded
 pub mod Plan
+pub mod Lasting

@@ -48,11 +48,15 @@ AreLeftFor next count = (next.segment + count < NUMBER_LIMIT) × (next.sequence 
 abbrev pub next_past : NextNumbers → ℕ → NextNumbers
 next_past next count = record next { segment = next.segment + count; sequence = next.sequence + count }
 
+-- and where ids of segments of patches were given, up to that one
+abbrev pub next_with : NextNumbers → ℕ → ℕ → NextNumbers
+next_with next count patch_segment = record next { segment = next.segment + count; sequence = next.sequence + count; patch_segment = patch_segment }
+
 -- units that a fact may name
 abbrev pub AreUnits : List (List Place) → Type 0
 AreUnits units = (u : List Place) → Contains units u → (length u ≡ SEGMENT_SHARDS) × AllByRecursion FitsBytes u
 
--- The plan is of this memory, which is sound: of each table the newest unflushed facts, with sectors placed in segments of its own.
+-- The plan is of this memory, which is sound: of each table the newest unflushed facts, with sectors placed in segments of its own. It may give ids to segments of the new patches.
 pub record IsPlanFor (m : Memory) (p : Plan) : Type 0 where
   pub sound : IsSound m
   pub stored : AreStored (facts_of m.tables.addresses.patches)
@@ -67,7 +71,8 @@ pub record IsPlanFor (m : Memory) (p : Plan) : Type 0 where
   pub addresses : patch_facts p.addresses ≡ placed_addresses m p.placing
   pub segment_facts : IsFlushed segment_key (λ f. f.seq.0) (m.tables.segments.unflushed ++ p.segments.items) (patch_facts p.segment_facts)
   pub elisions : IsFlushed elision_key (λ f. f.seq.0) m.tables.elisions.unflushed (patch_facts p.elisions)
-  pub next : p.next ≡ next_past m.next (length p.segments.items)
+  pub next : p.next ≡ next_with m.next (length p.segments.items) p.next.patch_segment
+  pub patch_segments : (m.next.patch_segment ≤ p.next.patch_segment) × (p.next.patch_segment < NUMBER_LIMIT)
 
 -- there is room for a patch more of each table, and for so many more visible segments
 pub record HasRoomForPatches (k : Kept) (count : ℕ) : Type 0 where

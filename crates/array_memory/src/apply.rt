@@ -46,6 +46,11 @@ impl Memory {
         ensures name_room_left { self.old.name_room ≤ self.new.name_room + 1 }
         ensures address_room { self.new.memory.tables.addresses.room ≡ self.old.memory.tables.addresses.room }
         ensures staged_room { self.new.staged_room ≡ self.old.staged_room }
+        ensures unflushed { length self.new.memory.tables.objects.unflushed ≤ length self.old.memory.tables.objects.unflushed + 1 }
+        ensures tables { self.new.memory.tables ≡ record self.old.memory.tables { objects = self.new.memory.tables.objects } }
+        ensures capacity { length self.old.memory.tables.objects.unflushed + self.old.memory.tables.objects.room ≤ length self.new.memory.tables.objects.unflushed + self.new.memory.tables.objects.room }
+        ensures name_capacity { length self.old.objects + self.old.name_room ≤ length self.new.objects + self.new.name_room }
+        ensures staged { self.new.memory.staged ≡ self.old.memory.staged }
     {
         let next = self.next;
         let object = ObjectFact {
@@ -56,9 +61,11 @@ impl Memory {
             name,
             seq: Seq(next.sequence),
         };
+        self.objects.facts().layers();
         if self.objects.add(object).is_err() {
             unreachable!()
         }
+        self.objects.facts().layers();
         self.next = NextNumbers {
             object: next.object + 1,
             medium: next.medium + 1,
@@ -94,6 +101,8 @@ impl Memory {
             ↔ (Contains (facts_in self.old.memory.tables.addresses) f ⊎ Contains (address_facts medium.0 first self.old.memory.next.sequence (targets_from staged 0 count)) f) }
         ensures patches { self.new.memory.tables.addresses.patches ≡ self.old.memory.tables.addresses.patches }
         ensures room_left { self.old.memory.tables.addresses.room ≤ self.new.memory.tables.addresses.room + count }
+        ensures unflushed { length self.new.memory.tables.addresses.unflushed ≤ length self.old.memory.tables.addresses.unflushed + count }
+        ensures capacity { length self.old.memory.tables.addresses.unflushed + self.old.memory.tables.addresses.room ≤ length self.new.memory.tables.addresses.unflushed + self.new.memory.tables.addresses.room }
         ensures rest { self.new ≡ record self.old {
           memory = record self.old.memory {
             tables = record self.old.memory.tables { addresses = self.new.memory.tables.addresses };
@@ -104,9 +113,11 @@ impl Memory {
         let mut run = [BLANK; REQUEST_SECTORS];
         let run = &mut run[..usize::from(count)];
         write_run(medium, first, self.next.sequence, staged, run);
+        self.addresses.facts.layers();
         if self.addresses.put_run(run).is_err() {
             unreachable!()
         }
+        self.addresses.facts.layers();
         self.next.sequence += u64::from(count);
     }
 

@@ -14,8 +14,10 @@ mod prepare;
 mod resolve;
 mod runs;
 mod segments;
+mod visible;
 
-pub use laws::laws_of_requests;
+pub use laws::{laws_of_requests, plans_are_lawful};
 pub use limits::{STAGED_SECTORS, UNFLUSHED_OBJECTS};
 pub use memory::Memory;
 pub use plan::{Counts, Placing, Plan};
+pub use visible::visible_segments;

@@ -146,6 +146,13 @@ impl Memory {
         &self.staged[usize::from(index)]
     }
 
+    /// All staged sectors, in order of staging.
+    pub fn all_staged(&self) -> &[Sector]
+        ensures { result.now ≡ self.now.memory.staged }
+    {
+        &self.staged
+    }
+
     /// The numbers that are given next.
     pub fn next(&self) -> NextNumbers
         ensures { result ≡ self.now.memory.next }

@@ -1,6 +1,8 @@
-ghost use Rattle.std.specs.Prelude.{◌≡◌, length};
+ghost use Rattle.std.specs.Prelude.{◌≡◌, ◌+◌, ◌<◌, length};
+ghost use Rattle.fact_codec.specs.declared.limits.TheConstants.{NUMBER_LIMIT};
 ghost use Rattle.pyramid.specs.Layers.{patch_facts};
-ghost use Rattle.array_memory.specs.Plan.{AreCounts};
+ghost use Rattle.memory_spec.specs.Memory.{Memory};
+ghost use Rattle.array_memory.specs.Plan.{AreCounts, IsPlanFor};
 
 use boot_codec::NextNumbers;
 use pur_base::{AddressFact, ElisionFact, Fact, MediumFact, ObjectFact, SegmentFact};
@@ -62,5 +64,15 @@ impl Plan {
             segments: facts_of(&self.segment_facts).len(),
             elisions: facts_of(&self.elisions).len(),
         }
+    }
+
+    /// Gives ids to so many segments of the new patches: the next one is behind them.
+    pub fn number_patches(&mut self, count: usize)
+        requires { self.old.next.patch_segment + count < NUMBER_LIMIT }
+        ensures next { self.new.next ≡ record self.old.next { patch_segment = self.old.next.patch_segment + count } }
+        ensures rest { self.new ≡ record self.old { next = self.new.next } }
+        ensures plan { (m : Memory) → IsPlanFor m self.old → IsPlanFor m self.new }
+    {
+        self.next.patch_segment += count as u64;
     }
 }

@@ -82,6 +82,7 @@ impl Memory {
         requires places { AreUnits units.now }
         requires left { AreLeftFor self.now.memory.next (length units.now) }
         ensures plan { IfOk result (IsPlanFor self.now.memory) }
+        ensures next { IfOk result (λ p. p.next ≡ next_past self.now.memory.next (length units.now)) }
         ensures placing { IfOk result (λ p. p.placing ≡ placing) }
         ensures units { IfOk result (λ p. units_of p ≡ units.now) }
     {
@@ -144,6 +145,7 @@ impl Memory {
         ensures planned { IfOk result (λ p. IsPlanned self.old.memory (after_plan self.old.memory p) p.placing.flags.items (patch_facts p.placing.newest) units.now) }
         ensures placing { IfOk result (λ p. p.placing ≡ placing) }
         ensures units { IfOk result (λ p. units_of p ≡ units.now) }
+        ensures next { IfOk result (λ p. p.next ≡ next_past self.old.memory.next (length units.now)) }
         ensures room { HasNoLessPatchRoom self.old self.new }
         ensures rest { self.new ≡ with_patch_rooms self.old self.new }
         ensures reads { (contents : Contents) (array : Array) → ReadsAs contents self.old.memory array → ReadsAs contents self.new.memory array }

@@ -1,8 +1,9 @@
 -- What a command that memory has done leaves of what is known of the array.
-use Rattle.std.proofs.Common.{◌≡◌, ◌≢◌, ℕ, ◌+◌, ◌-◌, ◌^◌, ◌≤◌, ◌<◌, List, length, replicate, refl, sym, ap, ◌∙◌, subst, arith, false, length-append}
-use Rattle.std.specs.Prelude.{Option, Some, None, AllPairs, Contains, filter_map, map, ◌++◌, ◌||◌}
+use Rattle.std.proofs.Common.{◌≡◌, ◌≢◌, ℕ, ◌+◌, ◌^◌, ◌≤◌, ◌<◌, List, [], ◌∷◌, length, replicate, refl, sym, ap, ◌∙◌, subst, arith, length-append}
+use Rattle.std.specs.Prelude.{Option, Some, None, AllPairs, Contains, filter_map, map, ◌++◌}
 use Rattle.std.specs.List.{AllByRecursion}
 use Rattle.std.proofs.lemmas.List.{length-replicate}
+use Rattle.pur_base.specs.Commands.{Command}
 use Rattle.pur_base.specs.Devices.{Geometry}
 use Rattle.pur_base.specs.Facts.{Facts, segment_key, never}
 use Rattle.pur_base.specs.Grammar.{data_count}
@@ -13,19 +14,23 @@ use Rattle.pur_base.specs.Says.{says}
 use Rattle.pur_base.specs.declared.request.Table.TheVariants as table
 use Rattle.pur_base.proofs.SaysLemmas.{says_is}
 use Rattle.pur_base.specs.declared.facts.AnyFact.TheVariants as any
+use Rattle.pur_base.specs.declared.facts.AddressFact.{AddressFact}
+use Rattle.pur_base.specs.declared.facts.ObjectFact.{ObjectFact}
 use Rattle.pur_base.specs.declared.facts.SegmentFact.{SegmentFact}
 use Rattle.pur_base.specs.declared.request.Request.{Request}
 use Rattle.pur_base.specs.declared.request.Request.TheVariants as request
 use Rattle.boot_codec.specs.declared.record.BootRecord.{BootRecord}
+use Rattle.boot_codec.specs.declared.record.NextNumbers.{NextNumbers}
 use Rattle.array_spec.specs.Sound.{AreSegmentsSound, AreApart, named_segments, used_places}
 use Rattle.register.specs.Registers.{IsLaterRecord}
-use Rattle.memory_spec.specs.Numbers.{put}
+use Rattle.memory_spec.specs.Numbers.{put, next_after, next_after_all}
 use Rattle.memory_spec.specs.Tables.{Tables, facts, patches}
 use Rattle.memory_spec.proofs.Lists.{each_by_recursion, of_each}
-use Rattle.array_memory.specs.Asked.{HasRoomLeft, added, staged_by, staged_count}
+use Rattle.array_memory.specs.Asked.{HasRoomLeft, IsAllowed, IsPrepared, added, staged_by, staged_count}
 use Rattle.array_memory.specs.Kept.{Kept, IsKept, HasSamePatches}
 use Rattle.array_memory.specs.Lawful.{IsLawful}
-use Rattle.array_state.specs.Room.{HasRoomFor}
+use Rattle.array_memory.specs.Plan.{HasRoomAgain}
+use Rattle.array_state.specs.Room.{HasCapacity, HasRoomFor}
 
 -- ---- room
 
@@ -86,11 +91,100 @@ room_for_next was now logged later r sectors room count lawful written left stag
     let more : length now.memory.staged ≡ length was.memory.staged + length (staged_by r sectors) = ap (λ (l : List (List ℕ)). length l) staged ∙ length-append was.memory.staged (staged_by r sectors) in
     record {
       objects = omega (arith, room.objects, left.objects, s.objects, count);
-      names = omega (arith, room.names, left.names, s.objects, count);
       addresses = omega (arith, room.addresses, left.addresses, s.addresses, count);
       staged = omega (arith, room.staged, left.staged, s.staged, count);
       indices = omega (arith, room.indices, more, staged_long r sectors lawful written, count);
+      unflushed_objects = omega (arith, room.unflushed_objects, left.unflushed_objects, s.objects, count);
+      unflushed_addresses = omega (arith, room.unflushed_addresses, left.unflushed_addresses, s.addresses, count);
+      no_mediums = left.mediums ∙ room.no_mediums;
+      no_segments = left.segments ∙ room.no_segments;
+      no_elisions = left.elisions ∙ room.no_elisions;
+      capacity = record {
+        objects = omega (arith, room.capacity.objects, left.object_capacity);
+        names = omega (arith, room.capacity.names, left.name_capacity);
+        addresses = omega (arith, room.capacity.addresses, left.address_capacity);
+        staged = omega (arith, room.capacity.staged, left.staged_capacity);
+      };
     }
+
+-- where a slot of the log is free there is room for a command that the visible objects allow
+pub is_prepared : (k : Kept) (logged : ℕ) (r : Request) → HasRoomFor k logged → logged < 64 → IsLawful r → IsAllowed k.objects r → IsPrepared k r
+is_prepared k logged r room free lawful allowed =
+    let s = small r lawful in
+    record {
+      objects = omega (arith, room.objects, s.objects, free);
+      names = names r allowed;
+      addresses = omega (arith, room.addresses, s.addresses, free);
+      staged = omega (arith, room.staged, s.staged, free);
+      indices = omega (arith, room.indices, s.staged, free);
+    }
+  where
+    -- more objects may be named than there are
+    names : (r : Request) → IsAllowed k.objects r → added r ≤ k.name_room
+    names (request.Create n size) a = let all = room.capacity.names in let few = a.few in omega (arith, all, few)
+    names (request.Write n lba count) a = omega arith
+    names (request.Fill n lba count byte) a = omega arith
+    names (request.Zero n lba count) a = omega arith
+    names r a = absurd a
+
+-- a checkpoint makes room again of what was taken up
+pub capacity_again : (was now : Kept) → HasCapacity was → HasRoomAgain was now → now.objects ≡ was.objects → HasCapacity now
+capacity_again was now had again same = record {
+  objects = (let a = had.objects in let b = again.objects in omega (arith, a, b));
+  names = (let a = had.names in let b = again.names in omega (arith, a, b, ap (λ (l : List ObjectFact). length l) same));
+  addresses = (let a = had.addresses in let b = again.addresses in omega (arith, a, b));
+  staged = (let a = had.staged in let b = again.staged in omega (arith, a, b));
+}
+
+-- what a checkpoint makes of the room
+pub room_again : (was now : Kept) (logged : ℕ) → HasRoomFor was logged → HasRoomAgain was now → now.objects ≡ was.objects → now.memory.staged ≡ []
+    → now.memory.tables.objects.unflushed ≡ [] → now.memory.tables.mediums.unflushed ≡ [] → now.memory.tables.addresses.unflushed ≡ [] → now.memory.tables.segments.unflushed ≡ [] → now.memory.tables.elisions.unflushed ≡ []
+    → HasRoomFor now 0
+room_again was now logged room again same staged objects mediums addresses segments elisions =
+    let all = capacity_again was now room.capacity again same in
+    let none_staged : length now.memory.staged ≡ 0 = ap (λ (l : List (List ℕ)). length l) staged in
+    let none_objects : length now.memory.tables.objects.unflushed ≡ 0 = ap (λ (l : List ObjectFact). length l) objects in
+    let none_addresses : length now.memory.tables.addresses.unflushed ≡ 0 = ap (λ (l : List AddressFact). length l) addresses in
+    record {
+      objects = (let a = all.objects in omega (arith, a, none_objects));
+      addresses = (let a = all.addresses in omega (arith, a, none_addresses));
+      staged = (let a = all.staged in omega (arith, a, none_staged));
+      indices = omega (arith, none_staged);
+      unflushed_objects = omega (arith, none_objects);
+      unflushed_addresses = omega (arith, none_addresses);
+      no_mediums = mediums;
+      no_segments = segments;
+      no_elisions = elisions;
+      capacity = all;
+    }
+
+-- ---- ids of segments
+
+-- none was given
+pub record HasSameSegmentIds (was now : NextNumbers) : Type 0 where
+  pub segment : now.segment ≡ was.segment
+  pub patch_segment : now.patch_segment ≡ was.patch_segment
+
+-- not by a command
+one_gives_none : (n : NextNumbers) (r : Request) → HasSameSegmentIds n (next_after n r)
+one_gives_none n (request.Create name size) = record { segment = refl; patch_segment = refl }
+one_gives_none n r = record { segment = refl; patch_segment = refl }
+
+pub gives_none : (was mid now : NextNumbers) (r : Request) → mid ≡ was → now ≡ next_after mid r → HasSameSegmentIds was now
+gives_none was mid now r same next =
+    let one = one_gives_none mid r in
+    record {
+      segment = ap (λ (n : NextNumbers). n.segment) next ∙ one.segment ∙ ap (λ (n : NextNumbers). n.segment) same;
+      patch_segment = ap (λ (n : NextNumbers). n.patch_segment) next ∙ one.patch_segment ∙ ap (λ (n : NextNumbers). n.patch_segment) same;
+    }
+
+-- nor by all commands of a log
+pub all_give_none : (commands : List Command) (n : NextNumbers) → HasSameSegmentIds n (next_after_all n commands)
+all_give_none [] n = record { segment = refl; patch_segment = refl }
+all_give_none (c ∷ commands) n =
+    let one = one_gives_none n c.request in
+    let all = all_give_none commands (next_after n c.request) in
+    record { segment = all.segment ∙ one.segment; patch_segment = all.patch_segment ∙ one.patch_segment }
 
 -- ---- segments
 

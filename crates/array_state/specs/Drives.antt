@@ -1,8 +1,7 @@
 -- What the drives of an array's record show, and what its segments hold there.
-use Rattle.std.specs.Prelude.{◌≡◌, Bool, false, Option, Some, None, List, slice_index_or, if◌then◌else◌}
+use Rattle.std.specs.Prelude.{false, Some, None, slice_index_or, if◌then◌else◌}
 use Rattle.pur_base.specs.Devices.{View}
 use Rattle.pur_base.specs.Facts.{Facts}
-use Rattle.pur_base.specs.declared.device.Device.{Device}
 use Rattle.pur_base.specs.declared.device.Device.TheVariants.{Drive, Nv}
 use Rattle.world.specs.Shelf.{Shelved}
 use Rattle.memory_spec.specs.Memory.{Contents}

@@ -3,14 +3,12 @@ use Rattle.std.specs.Prelude.{◌≡◌, ◌⊎◌, ℕ, List, [], ◌∷◌, �
 use Rattle.std.specs.List.{AllByRecursion, AllZip}
 use Rattle.pur_base.specs.Commands.{Command}
 use Rattle.pur_base.specs.Devices.{Geometry}
-use Rattle.pur_base.specs.Facts.{Facts}
 use Rattle.pur_base.specs.Grammar.{is_in_force}
-use Rattle.boot_codec.specs.declared.record.BootRecord.{BootRecord}
 use Rattle.array_spec.specs.Sound.{AreSegmentsSound}
 use Rattle.world.specs.Shelf.{Shelved}
 use Rattle.nvram_log.specs.Held.{HoldsOn, Keeps}
 use Rattle.nvram_log.specs.Members.{IsSome}
-use Rattle.register.specs.Registers.{IsRegisterOf, own_slot, drives_of}
+use Rattle.register.specs.Registers.{IsRegisterOf}
 use Rattle.register.specs.Standing.{Content, IsOpen, array_of}
 use Rattle.memory_spec.specs.Tables.{facts, patches}
 use Rattle.memory_spec.specs.Memory.{Contents, IsSound, ReadsAs}
@@ -23,7 +21,7 @@ use Rattle.array_state.specs.declared.array.Array.{Array}
 use Rattle.array_state.specs.Drives.{SegmentsHold}
 use Rattle.array_state.specs.Room.{HasRoomFor}
 
--- Of a shelf of this size: the register is one of it, the log follows on what its record has flushed, and memory is sound, has the record's patches and room for what the log has room for.
+-- Of a shelf of this size: the register is one of it, the log follows on what its record has flushed, and memory is sound, has the record's patches and room for what the log has room for. Segments have got no ids but those before the record's next ones.
 pub record IsArrayOf (shelf : Geometry) (a : Array) : Type 0 where
   pub of_shelf : IsRegisterOf shelf a.register
   pub flushed : a.log.flushed ≡ a.register.record.flushed
@@ -34,6 +32,8 @@ pub record IsArrayOf (shelf : Geometry) (a : Array) : Type 0 where
   pub named : AllZip IsNamed a.register.record.patches (patches a.memory.memory.tables)
   pub segments : AreSegmentsSound shelf a.register.record (facts a.memory.memory.tables)
   pub room : HasRoomFor a.memory a.log.count
+  pub segment_ids : a.memory.memory.next.segment ≡ a.register.record.next.segment
+  pub patch_ids : a.memory.memory.next.patch_segment ≡ a.register.record.next.patch_segment
 
 -- The record alone is in force, and the devices hold these tables and this log, of forms in force alone; memory has the same patches, and reads as their array.
 pub record IsReady (shelf : Shelved) (a : Array) (held : Content) : Type 0 where

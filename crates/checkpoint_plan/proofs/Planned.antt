@@ -242,7 +242,7 @@ module _ (contents : Contents) (was now : Memory) (flags : List Bool) (newest : 
         object = s.next.object;
         medium = s.next.medium;
         segment = (let a = s.next.segment.0 in omega (arith, a), h.left.0);
-        patch_segment = s.next.patch_segment;
+        patch_segment = (let a = s.next.patch_segment.0 in let b = h.patch_segments.0 in omega (arith, a, b), h.patch_segments.1);
         sequence = (let b = s.next.sequence.0 in omega (arith, b), h.left.1);
       });
       object = ap (λ (n : NextNumbers). n.object) h.next;

@@ -33,7 +33,7 @@ abbrev pub AreStored : List AddressFact → Type 0
 AreStored facts = (f : AddressFact) (at : Location) → Contains facts f → f.target ≡ Stored at → 1 ≤ at.segment.0
 
 -- Of the address facts that aren't flushed the newest stand in a patch, repointed to the places of the staged sectors that they name;
--- the new segments are flushed with the others, and so is each other table.
+-- the new segments are flushed with the others, and so is each other table. Ids may have been given to segments of the new patches.
 pub record IsPlanned (was now : Memory) (flags : List Bool) (newest : List AddressFact) (units : List (List Place)) : Type 0 where
   pub made : IsFlushed address_key (λ f. f.seq.0) was.tables.addresses.unflushed newest
   pub count : length flags ≡ length was.staged
@@ -48,7 +48,8 @@ pub record IsPlanned (was now : Memory) (flags : List Bool) (newest : List Addre
   pub mediums : IsTableFlushed medium_key (λ f. f.seq.0) was.tables.mediums now.tables.mediums
   pub elisions : IsTableFlushed elision_key (λ f. f.seq.0) was.tables.elisions now.tables.elisions
   pub staged : now.staged ≡ []
-  pub next : now.next ≡ record was.next { segment = was.next.segment + length units; sequence = was.next.sequence + length units }
+  pub next : now.next ≡ record was.next { segment = was.next.segment + length units; sequence = was.next.sequence + length units; patch_segment = now.next.patch_segment }
+  pub patch_segments : (was.next.patch_segment ≤ now.next.patch_segment) × (now.next.patch_segment < NUMBER_LIMIT)
   pub layered : AreLayered now.tables
 
 -- That is a checkpoint: the placed sectors stand in the new segments, in order of staging.

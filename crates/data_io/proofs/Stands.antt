@@ -1,25 +1,26 @@
 -- Segments that are written whole.
-use Rattle.std.proofs.Common.{◌≡◌, inl, inr, ℕ, ◌+◌, ◌<◌, ◌≤◌, Bool, true, false, List, length, replicate, sym, subst, arith, below_more}
+use Rattle.std.proofs.Common.{◌≡◌, inl, inr, ℕ, ◌+◌, ◌<◌, ◌≤◌, Bool, true, false, List, length, replicate, sym, subst, ◌∙◌, ap, arith, below_more}
 use Rattle.std.specs.Prelude.{Some, slice_get}
 use Rattle.std.proofs.lemmas.List.{get_or-replicate, get_or_past, length-replicate}
-use Rattle.std.proofs.lemmas.Bool.{cases_lt}
-use Rattle.pur_base.specs.Devices.{View}
+use Rattle.std.proofs.lemmas.Bool.{cases_lt, cases_Bool}
+use Rattle.pur_base.specs.Devices.{View, drive}
 use Rattle.pur_base.specs.declared.device.Device.{Device}
 use Rattle.pur_base.specs.declared.facts.SegmentFact.{SegmentFact}
 use Rattle.pur_base.specs.declared.place.Place.{Place}
-use Rattle.world.specs.Shelf.{Shelved, Stop, MayStop}
+use Rattle.world.specs.Shelf.{Shelved, Disk, Stop, MayStop}
 use Rattle.world.specs.Writes.{WritesOnly}
 use Rattle.world.proofs.Writes.{writes_more}
 use Rattle.segment_io.specs.Headers.{AreSynced}
-use Rattle.segment_io.specs.Lost.{is_in, LosesOnly, NoByte}
+use Rattle.segment_io.specs.Lost.{is_in, LosesOnly, NoByte, OthersStayBut}
 use Rattle.segment_io.specs.Places.{place_of}
 use Rattle.segment_io.specs.Stripes.{bytes_of}
 use Rattle.segment_io.proofs.InTurn.{same_units, same_stripe}
 use Rattle.segment_io.proofs.Views.{holds_at_stop}
 use Rattle.data_io.specs.Placing.{places_in, MayBePlaced}
-use Rattle.data_io.specs.Storing.{HoldsData, OnData, ShowsMostOf}
+use Rattle.data_io.specs.Storing.{HoldsData, OnData, OthersStayOfData, ShowsMostOf, StaysClean}
 use Rattle.data_io.specs.Headed.{HoldsHeader}
 use Rattle.data_io.specs.Standing.{DataStands}
+use Rattle.data_io.proofs.Apart.{slot_of}
 use Rattle.data_io.proofs.Storing.{places_are}
 use Rattle.data_io.proofs.Headers.{data_kept}
 use Rattle.data_io.proofs.Shown.{data_shown}
@@ -67,3 +68,17 @@ fresh_none n slot P is = elim (cases_lt slot n) [
 -- headers stay where the drives are synced
 pub header_kept : (a b : Shelved) (segments : List SegmentFact) (was now : List Bool) (generation number : ℕ) → LosesOnly a b was now → ((device : Device) → (b.disk device).bytes ≡ (a.disk device).bytes) → HoldsHeader (bytes_of a) segments was generation number → HoldsHeader (bytes_of b) segments now generation number
 header_kept a b segments was now generation number loses same holds = same_units a b (places_in segments number) was now 0 _ loses same holds
+
+-- a drive that isn't of the set stays where the segments are written
+pub others_but : (a b : Shelved) (segments : List SegmentFact) (drives : List Bool) → HoldsDrives segments drives → OthersStayOfData segments a b → OthersStayBut drives a b
+others_but a b segments drives has others device none = others device (λ number shard within lt e. none (place_of (places_in segments number) shard).slot (has number shard within lt) e)
+
+pub others_then : (a b c : Shelved) (drives : List Bool) → OthersStayBut drives a b → OthersStayBut drives b c → OthersStayBut drives a c
+others_then a b c drives first second device none = second device none ∙ first device none
+
+-- a drive of the set was synced, and any other stays
+pub clean_again : (a e : Shelved) (drives lost : List Bool) → OthersStayBut drives a e → AreSynced e drives lost → StaysClean lost a e
+clean_again a e drives lost others synced slot none was = elim (cases_Bool (is_in drives slot)) [
+  | inl is ↦ synced slot is none
+  | inr out ↦ ap (λ (d : Disk). d.dirty) (others (drive slot) (λ other is same. let e : slot ≡ other = ap slot_of same in absurd (cc))) ∙ was
+]

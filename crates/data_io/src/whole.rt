@@ -10,7 +10,7 @@ ghost use Rattle.segment_io.specs.Places.{place_of};
 ghost use Rattle.segment_io.specs.Lost.{is_in, LosesOnly};
 ghost use Rattle.segment_io.specs.Stripes.{bytes_of};
 ghost use Rattle.data_io.specs.Placing.{places_in, MayBePlaced};
-ghost use Rattle.data_io.specs.Storing.{OnData, OthersStayOfData, ShowsMostOf};
+ghost use Rattle.data_io.specs.Storing.{HoldsData, OnData, OthersStayOfData, ShowsMostOf, AreCleanOf, StaysClean};
 ghost use Rattle.data_io.specs.Headed.{HoldsHeader, ComesInTurn};
 ghost use Rattle.data_io.specs.Standing.{DataStands};
 
@@ -72,6 +72,9 @@ pub fn write_data<S: Shelf>(
     // After it, whatever stop comes and whichever drives are missing, up to two of the nine of each segment, the sectors stand.
     ensures stand { (S.shelf shelf.old).honest → OnOk result ((stop : Stop) (view : View) → MayStop (S.shelf shelf.new) stop → ShowsMostOf stop.image segments.now lost.new.drives view → DataStands view segments.now staged.now order.now) }
     ensures headers { (S.shelf shelf.old).honest → OnOk result ((number : ℕ) → number < length segments.now → HoldsHeader (bytes_of (S.shelf shelf.new)) segments.now lost.new.drives generation number) }
+    ensures holds { (S.shelf shelf.old).honest → OnOk result (HoldsData (bytes_of (S.shelf shelf.new)) segments.now lost.new.drives staged.now order.now) }
+    ensures synced { (S.shelf shelf.old).honest → OnOk result (AreCleanOf segments.now lost.new.drives (S.shelf shelf.new)) }
+    ensures clean { (S.shelf shelf.old).honest → OnOk result (StaysClean lost.new.drives (S.shelf shelf.old) (S.shelf shelf.new)) }
     // At every moment no header is there yet, or the sectors stand.
     ensures in_turn { (S.shelf shelf.old).honest → LeavesOnly (S.shelf shelf.old) (S.shelf shelf.new) (ComesInTurn (S.shelf shelf.old) segments.now lost.new.drives staged.now order.now) }
     ensures err { OnErr result ((shelf.new ≡ shelf.old) × (lost.new ≡ lost.old)) }

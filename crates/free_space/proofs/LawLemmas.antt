@@ -76,8 +76,9 @@ is_free_unit boot facts slot unit = is_data_unit boot.units unit && not (is_used
 free_behind : (boot : BootRecord) (facts : Facts) (slot unit : ℕ) → 3 ≤ unit → unit < boot.units → is_free_unit boot facts slot unit ≡ not (is_used boot facts slot unit)
 free_behind boot facts slot unit low high = ap (λ (b : Bool). b && not (is_used boot facts slot unit)) (data_unit_true boot.units unit low high)
 
-free_count_is : (boot : BootRecord) (facts : Facts) (drives : List Drive) (slot : ℕ) → IsMapOf boot facts drives → slot < boot.slots → free_count (drive_at drives slot) ≡ free_units boot facts slot
-free_count_is boot facts drives slot h lt =
+pub free_count_is : (boot : BootRecord) (facts : Facts) (member : ℕ → Bool) (drives : List Drive) (slot : ℕ) → IsMapWith boot.slots boot.units member (is_used boot facts) drives → slot < boot.slots
+    → free_count (drive_at drives slot) ≡ free_units boot facts slot
+free_count_is boot facts member drives slot h lt =
     count_is (is_free_unit boot facts slot) 0 (drive_at drives slot).free (λ i within. h.free slot i lt ∙ ap (is_free_unit boot facts slot) (let e : i ≡ 0 + i = omega arith in e))
     ∙ ap (λ (n : ℕ). count_by (is_free_unit boot facts slot) (range_with_len 0 n)) (h.sizes slot lt)
     ∙ count_behind (is_free_unit boot facts slot) boot.units refl refl refl
@@ -126,7 +127,7 @@ totals boot facts drives groups h =
     total_is groups (is_member boot) (free_units boot facts) 0 drives (λ i lt.
     let within : i < boot.slots = omega (arith, lt, h.drive_of_each_slot) in
     let e : i ≡ 0 + i = omega arith in
-    (h.members i within ∙ ap (is_member boot) e, free_count_is boot facts drives i h within ∙ ap (free_units boot facts) e))
+    (h.members i within ∙ ap (is_member boot) e, free_count_is boot facts (is_member boot) drives i h within ∙ ap (free_units boot facts) e))
     ∙ ap (λ (n : ℕ). units_for groups (map (free_units boot facts) (filter (is_member boot) (range_with_len 0 n)))) h.drive_of_each_slot
 
 pub groups_of_the_tables : GroupsOfTheTables

@@ -2,3 +2,5 @@ pub mod Loops
 pub mod Units
 pub mod Tables
 pub mod LawLemmas
+pub mod Taking
+pub mod Left

@@ -31,7 +31,7 @@ marking_more old now all ps rest h = record {
   so_far = sym (fold-append (with_unit false) now ps rest) ∙ h.so_far;
 }
 
-next : {X : Type 0} (f : X → List Place) (xs : List X) (i : ℕ) (x d : X) → i < length xs → get_or xs i d ≡ x → flat_map f (drop i xs) ≡ f x ++ flat_map f (drop (i + 1) xs)
+pub next : {X : Type 0} (f : X → List Place) (xs : List X) (i : ℕ) (x d : X) → i < length xs → get_or xs i d ≡ x → flat_map f (drop i xs) ≡ f x ++ flat_map f (drop (i + 1) xs)
 next f xs i x d lt is = rw add-one (ap (flat_map f) (drop-cons xs i d lt) ∙ ap (λ y. f y ++ flat_map f (drop (suc i) xs)) is)
 
 pub next_can : {X : Type 0} (f : X → List Place) (xs : List X) (i : ℕ) (x d : X) (old now : List Drive) (all : List Place) → i < length xs → get_or xs i d ≡ x
@@ -50,7 +50,7 @@ all_marked f xs i old now all le h = sym (at_drop_all (λ ys. with_units false n
 
 -- ---- places of one segment
 
-one : (ps : List Place) (i : ℕ) (p d : Place) → i < length ps → get_or ps i d ≡ p → drop i ps ≡ (p ∷ []) ++ drop (i + 1) ps
+pub one : (ps : List Place) (i : ℕ) (p d : Place) → i < length ps → get_or ps i d ≡ p → drop i ps ≡ (p ∷ []) ++ drop (i + 1) ps
 one ps i p d lt is = rw add-one (drop-cons ps i d lt ∙ ap (λ y. y ∷ drop (suc i) ps) is)
 
 pub one_can : (ps : List Place) (i : ℕ) (p d : Place) (old now : List Drive) (all : List Place) → i < length ps → get_or ps i d ≡ p → IsMarking old now all (drop i ps) → CanMark now (p ∷ [])

@@ -87,23 +87,26 @@ all_units slots units (ps ∷ pss) h = all_append (record_of.IsPlace slots units
 -- ---- the map
 
 -- the units of a map where none is used may all be made used
-pub can_mark_tables : (boot : BootRecord) (ds : List SegmentFact) (drives : List Drive) → IsBootRecord boot → AreDataSegments boot ds → IsMapWith boot.slots boot.units (is_member boot) (λ slot unit. false) drives
+pub can_mark_tables : (boot : BootRecord) (ds : List SegmentFact) (member : ℕ → Bool) (drives : List Drive) → IsBootRecord boot → AreDataSegments boot ds → IsMapWith boot.slots boot.units member (λ slot unit. false) drives
     → CanMark drives (patches_units boot.patches ++ data_units ds)
-can_mark_tables boot ds drives lawful given h =
+can_mark_tables boot ds member drives lawful given h =
     subst (CanMark drives) (units_are boot given.tables ds given.visible)
-    (can_segments boot.slots boot.units (is_member boot) (λ slot unit. false) drives (used_places boot given.tables) h (used_ascend boot given.tables lawful given.sound) given.sound.apart (λ ps c p d. refl))
+    (can_segments boot.slots boot.units member (λ slot unit. false) drives (used_places boot given.tables) h (used_ascend boot given.tables lawful given.sound) given.sound.apart (λ ps c p d. refl))
+
+-- they are units of the shelf
+pub all_places : (boot : BootRecord) (ds : List SegmentFact) → IsBootRecord boot → AreDataSegments boot ds → AllByRecursion (record_of.IsPlace boot.slots boot.units) (patches_units boot.patches ++ data_units ds)
+all_places boot ds lawful given =
+    subst (AllByRecursion (record_of.IsPlace boot.slots boot.units)) (units_are boot given.tables ds given.visible) (all_units boot.slots boot.units (used_places boot given.tables) (used_ascend boot given.tables lawful given.sound))
 
 -- and are the used ones then
-pub map_is : (boot : BootRecord) (ds : List SegmentFact) (drives result : List Drive) → IsBootRecord boot → AreDataSegments boot ds → IsMapWith boot.slots boot.units (is_member boot) (λ slot unit. false) drives
-    → result ≡ with_units false drives (patches_units boot.patches ++ data_units ds) → (facts : Facts) → segments facts boot.next.segment ≡ ds → IsMapOf boot facts result
-map_is boot ds drives result lawful given h e facts same =
+pub map_is : (boot : BootRecord) (ds : List SegmentFact) (member : ℕ → Bool) (drives result : List Drive) → IsBootRecord boot → AreDataSegments boot ds → IsMapWith boot.slots boot.units member (λ slot unit. false) drives
+    → result ≡ with_units false drives (patches_units boot.patches ++ data_units ds) → (facts : Facts) → segments facts boot.next.segment ≡ ds → IsMapWith boot.slots boot.units member (is_used boot facts) result
+map_is boot ds member drives result lawful given h e facts same =
     let all : List Place = patches_units boot.patches ++ data_units ds in
-    let places : AllByRecursion (record_of.IsPlace boot.slots boot.units) all =
-    subst (AllByRecursion (record_of.IsPlace boot.slots boot.units)) (units_are boot given.tables ds given.visible) (all_units boot.slots boot.units (used_places boot given.tables) (used_ascend boot given.tables lawful given.sound)) in
-    let marked : IsMapWith boot.slots boot.units (is_member boot) (used_or_among (λ slot unit. false) all) (with_units false drives all) =
-    marked_all boot.slots boot.units (is_member boot) (λ slot unit. false) drives all h places in
-    subst (IsMapOf boot facts) (sym e)
-    (same_used boot.slots boot.units (is_member boot) (used_or_among (λ slot unit. false) all) (is_used boot facts) (with_units false drives all)
+    let marked : IsMapWith boot.slots boot.units member (used_or_among (λ slot unit. false) all) (with_units false drives all) =
+    marked_all boot.slots boot.units member (λ slot unit. false) drives all h (all_places boot ds lawful given) in
+    subst (IsMapWith boot.slots boot.units member (is_used boot facts)) (sym e)
+    (same_used boot.slots boot.units member (used_or_among (λ slot unit. false) all) (is_used boot facts) (with_units false drives all)
     (λ slot unit. ap (list_any (is_place slot unit)) (sym (units_are boot facts ds same)) ∙ sym (any_in (is_place slot unit) (used_places boot facts))) marked)
 
 -- ---- step by step
@@ -117,15 +120,15 @@ ready boot made set_up lawful e is =
 
 pub can_mark_patches : (boot : BootRecord) (ds : List SegmentFact) (drives : List Drive) → IsBootRecord boot → AreDataSegments boot ds → IsMapWith boot.slots boot.units (is_member boot) (λ slot unit. false) drives
     → CanMark drives (patches_units boot.patches)
-can_mark_patches boot ds drives lawful given h = (can_split drives (patches_units boot.patches) (data_units ds) (can_mark_tables boot ds drives lawful given h)).0
+can_mark_patches boot ds drives lawful given h = (can_split drives (patches_units boot.patches) (data_units ds) (can_mark_tables boot ds (is_member boot) drives lawful given h)).0
 
 pub can_mark_data : (boot : BootRecord) (ds : List SegmentFact) (drives patched : List Drive) → IsBootRecord boot → AreDataSegments boot ds → IsMapWith boot.slots boot.units (is_member boot) (λ slot unit. false) drives
     → patched ≡ with_units false drives (patches_units boot.patches) → CanMark patched (data_units ds)
 can_mark_data boot ds drives patched lawful given h e =
-    subst (λ (m : List Drive). CanMark m (data_units ds)) (sym e) (can_split drives (patches_units boot.patches) (data_units ds) (can_mark_tables boot ds drives lawful given h)).1
+    subst (λ (m : List Drive). CanMark m (data_units ds)) (sym e) (can_split drives (patches_units boot.patches) (data_units ds) (can_mark_tables boot ds (is_member boot) drives lawful given h)).1
 
 pub map_done : (boot : BootRecord) (ds : List SegmentFact) (drives patched result : List Drive) → IsBootRecord boot → AreDataSegments boot ds → IsMapWith boot.slots boot.units (is_member boot) (λ slot unit. false) drives
     → patched ≡ with_units false drives (patches_units boot.patches) → result ≡ with_units false patched (data_units ds) → (facts : Facts) → segments facts boot.next.segment ≡ ds → IsMapOf boot facts result
 map_done boot ds drives patched result lawful given h e f facts same =
-    map_is boot ds drives result lawful given h
+    map_is boot ds (is_member boot) drives result lawful given h
     (f ∙ ap (λ (m : List Drive). with_units false m (data_units ds)) e ∙ sym (fold-append (with_unit false) drives (patches_units boot.patches) (data_units ds))) facts same

@@ -212,7 +212,8 @@ fresh_is units (suc (suc (suc k))) =
     leb3 : (k : ℕ) → leb 3 (suc (suc (suc k))) ≡ true
     leb3 k = ⊎_elim (λ (e : leb 3 (suc (suc (suc k))) ≡ true). e) (λ (e : leb 3 (suc (suc (suc k))) ≡ false). absurd (omega (arith, leb-false 3 (suc (suc (suc k))) e))) (cases_Bool (leb 3 (suc (suc (suc k)))))
 
-abbrev all_fresh : ℕ → Drive
+-- a drive whose data units are all free
+abbrev pub all_fresh : ℕ → Drive
 all_fresh units = record { member = true; free = fresh units }
 
 pub fresh_map : (slots units : ℕ) → 3 ≤ units → IsMapWith slots units (λ slot. true) (λ slot unit. false) (replicate slots (all_fresh units))

@@ -1,3 +1,4 @@
 pub mod Map
 pub mod Marking
+pub mod Left
 pub mod Laws

@@ -33,7 +33,7 @@ one_shard shelf places j k are j_lt k_lt same = elim (cases_lt j k) [
 
 module _ (a : Shelved) (p : Patch) (lawful : IsPatch a.drives a.units p) (apart : AreApart p) where
   -- a byte of one write unit of the patch is no byte of others
-  outside : (part shard m n count i : ℕ) → part < length p.segments → shard < 9 → m < 16 → n + count ≤ 16 → ((m + 1 ≤ n) ⊎ (n + count ≤ m))
+  pub outside : (part shard m n count i : ℕ) → part < length p.segments → shard < 9 → m < 16 → n + count ≤ 16 → ((m + 1 ≤ n) ⊎ (n + count ≤ m))
       → write_unit_at (place_of (places_of_part p part) shard) m ≤ i → i < write_unit_at (place_of (places_of_part p part) shard) m + 4096 → OnPatch p n count (drive_of (places_of_part p part) shard) i → ⊥
   outside part shard m n count i within lt low fits other from to (part2, within2, (shard2, lt2, (same, range))) = elim (cases_eq part part2) [
     | inr ne ↦ units_apart (place_of (places_of_part p part) shard).unit (place_of (places_of_part p part2) shard2).unit m n count i (apart part part2 shard shard2 ne within within2 lt lt2 (ap slot_of same)) low fits from to range.0 range.1

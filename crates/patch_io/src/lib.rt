@@ -21,5 +21,5 @@ pub use laws::{laws_of_parts, laws_of_patches};
 pub use limits::{SHARD_FACTS, STRIPE_FACTS};
 pub use loading::load_patch;
 pub use table::TableFact;
-pub use whole::write_patch;
+pub use whole::{drives_of, write_patch};
 pub use writing::append_patch;

@@ -39,8 +39,8 @@ fn mark_segment(places: &Places, drives: &mut [bool; SLOTS])
     }
 }
 
-// The drives of all units of a patch.
-fn drives_of(patch: &Patch<'_>) -> [bool; SLOTS]
+/// The set of the drives of all units of a patch, by slot: those that `sync_drives` is to sync.
+pub fn drives_of(patch: &Patch<'_>) -> [bool; SLOTS]
     requires { (part shard : ℕ) → part < length patch.now.segments → shard < SEGMENT_SHARDS → (place_of (places_of_part patch.now part) shard).slot < SLOTS_MAX }
     ensures each { (part shard : ℕ) → part < length patch.now.segments → shard < SEGMENT_SHARDS → is_in result (place_of (places_of_part patch.now part) shard).slot ≡ true }
     ensures no_other { (slot : ℕ) → is_in result slot ≡ true → (part shard : ℕ) × (part < length patch.now.segments) × (shard < SEGMENT_SHARDS) × (slot ≡ (place_of (places_of_part patch.now part) shard).slot) }

@@ -12,3 +12,4 @@ pub mod Splice
 pub mod Unflushed
 pub mod Shows
 pub mod Tabling
+pub mod Left

@@ -1,5 +1,5 @@
 -- A record with other tables is stored: at every moment the devices stand for the array of the log, and after it the record is in force.
-use Rattle.std.proofs.Common.{◌≡◌, inl, inr, ℕ, ◌+◌, ◌-◌, ◌^◌, ◌≤◌, ◌<◌, List, [], ◌∷◌, length, refl, sym, ◌∙◌, ap, subst, arith, Bool, true, false}
+use Rattle.std.proofs.Common.{◌≡◌, ◌⊎◌, inl, inr, ℕ, ◌+◌, ◌-◌, ◌^◌, ◌≤◌, ◌<◌, List, [], ◌∷◌, length, refl, sym, ◌∙◌, ap, subst, arith, Bool, true, false}
 use Rattle.std.specs.Prelude.{Some, IsTrue, slice_get, slice_index, slice_index_or, if◌then◌else◌}
 use Rattle.std.proofs.lemmas.Bool.{cases_Bool, cases_lt}
 use Rattle.std.proofs.lemmas.Option.{slice_get-get_or}
@@ -26,7 +26,7 @@ use Rattle.world.specs.Shelf.{Shelved, Disk, Stop, IsShelf, IsInSome, MayLeave, 
 use Rattle.world.specs.Losing.{geometry_of}
 use Rattle.world.proofs.Moments.{weaker}
 use Rattle.boot_region.specs.Members.{IsMember}
-use Rattle.boot_region.specs.Storing.{Shows, OnlyBoot, IsOlder, IsInForceOn, MayFollow, StandsBut, AccountsFor}
+use Rattle.boot_region.specs.Storing.{Shows, OnlyBoot, IsOlder, IsInForceOn, MayFollow, StandsBut, WasGiven, AccountsFor}
 use Rattle.boot_region.proofs.ShownLemmas.{as_read, shown_body}
 use Rattle.nvram_log.specs.Members as nv
 use Rattle.nvram_log.specs.Slots.{IsLog}
@@ -34,7 +34,8 @@ use Rattle.nvram_log.proofs.Closing.{one_number}
 use Rattle.register.specs.declared.state.Register.{Register}
 use Rattle.register.specs.declared.tables.Tables.{Tables}
 use Rattle.register.specs.Registers.{IsRegisterOf, drives_of, named_sound, next_record, next_slot, own_slot}
-use Rattle.register.specs.Standing.{Content, ShowsOn, IsOpen, MayStore, StandsInLog, array_of}
+use Rattle.register.specs.Standing.{Content, ShowsOn, IsNextOf, IsOpen, GivesOldOrNext, MayStore, StandsInLog, array_of}
+use Rattle.register.specs.Giving.{GivesOldOrTables, IsNextWith}
 use Rattle.register.specs.Tables.{IsPlanOf, MayGoOn, StandsAsBefore, with_tables}
 use Rattle.register.proofs.Again.{meanwhile, accounts, bearable_then, accounts_since}
 use Rattle.register.proofs.FlagLemmas.{in_cut}
@@ -44,7 +45,7 @@ use Rattle.register.proofs.Rounds.{Puts, other_body, cut_drives, is_of_next, sam
 use Rattle.register.proofs.Splice.{at_splice, splice_stops, splice_boot}
 
 -- a device that holds a log shows none behind it
-shows_no_more : (bytes : List ℕ) (flushed i : ℕ) (log : List Command) (c : Command) → IsLog bytes flushed log → ShowsIn bytes (flushed + length log) i c → ⊥
+pub shows_no_more : (bytes : List ℕ) (flushed i : ℕ) (log : List Command) (c : Command) → IsLog bytes flushed log → ShowsIn bytes (flushed + length log) i c → ⊥
 shows_no_more bytes flushed i [] c held shows =
     let e : flushed + 0 ≡ flushed = omega arith in
     absurd (cc (held.between.no_other i c (subst (λ (f : ℕ). ShowsIn bytes f i c) e shows)))
@@ -58,6 +59,28 @@ shows_no_more bytes flushed i (d ∷ log) c held shows = elim (cases_lt i (lengt
   where
     closed : (b : Bool) → b ≡ false → IsTrue b → ⊥
     closed b e t = absurd (cc (subst (λ (x : Bool). IsTrue x) e t))
+
+-- the record that is made is one of these tables
+pub is_next_with : (r : Register) (tables : Tables) → IsNextWith r tables (next_record (with_tables r.record tables) r.drives r.record.members.nvrams)
+is_next_with r tables = record {
+  later = record { generation = omega arith; rest = refl };
+  generation = omega arith;
+  nvrams_are = refl;
+  drives = λ i m. m;
+}
+
+-- and so is one that follows on such a one
+next_with_after : (was mid : Register) (tables : Tables) → IsNextWith was tables mid.record → ((i : ℕ) → IsMember mid.drives i → IsMember was.drives i)
+    → (b : BootRecord) → IsNextOf mid was.record.members.nvrams b → IsNextWith was tables b
+next_with_after was mid tables first fewer b next = record {
+  later = record {
+    generation = omega (arith, first.generation, next.generation);
+    rest = next.later.rest ∙ ap (λ (x : BootRecord). record x { generation = b.generation; members = b.members }) first.later.rest;
+  };
+  generation = omega (arith, first.generation, next.generation);
+  nvrams_are = next.nvrams_are;
+  drives = λ i m. fewer i (next.drives i m);
+}
 
 is_named : (b : Bool) → (if b then Sound else LeftOut) ≡ Sound → b ≡ true
 is_named true e = refl
@@ -225,6 +248,12 @@ module _ (old : Shelved) (is_old : IsShelf old) (h : old.honest) (was : Register
       pub moments_now : LeavesOnly old new (StandsBut old (drives_of was) (named_sound was.record) slot was.record (array_of held ∷ []))
       moments_now = weaker (λ stop at. at.stands (named_sound was.record) was.record boot (array_of held ∷ []) refl o.in_force (follow low)) (puts.moments h)
 
+      pub gives_now : LeavesOnly old new (GivesOldOrTables old was tables)
+      gives_now = weaker (λ stop at later account slot2 boot2 g. elim (at.gives (named_sound was.record) was.record boot (array_of held ∷ []) refl o.in_force (follow low) later account slot2 boot2 g) [
+        | inl e ↦ inr (subst (λ (b : BootRecord). IsNextWith was tables b) (sym e.1) (is_next_with was tables))
+        | inr given ↦ inl (o.alone given.start slot2 boot2 given.may given.given).1
+      ]) (puts.moments h)
+
       -- in conditions that tell what failed meanwhile it may be stored again
       pub again_now : (later : Conditions) → AccountsFor old (drives_of was) (named_sound was.record) slot (spelling was.record) (λ d. (new.disk d).faults) (λ d. (new.disk d).write_faults) later
           → MayStore new now was.record.members.nvrams later next (array_of held ∷ [])
@@ -258,3 +287,27 @@ later_round old new on was now held next fewer older again stop counts stands la
     let since = accounts_since old new (drives_of was) (named_sound was.record) (next_slot was.record) was.record stop counts later account (drives_of now) (next_slot now.record) now.record on fewer older (sym (same_shelf on)) in
     subst (λ (g : Geometry). Stands g stop.image later (array_of held ∷ [])) (sym (same_shelf on))
     (stands (meanwhile old new (drives_of was) (named_sound was.record) (next_slot was.record) was.record) next (array_of held ∷ []) (again _ told) later since)
+
+-- what may be given at a stop in a later round
+pub later_gives : (old new : Shelved) (is_new : IsShelf new) (on : Continues old new) (was now : Register) (tables : Tables) (held next : Content) → IsNextWith was tables now.record
+    → ((i : ℕ) → IsMember now.drives i → IsMember was.drives i) → ((i : ℕ) → IsMember (drives_of now) i → IsMember (drives_of was) i)
+    → ((i : ℕ) → IsMember (drives_of now) i → IsOlder new (next_slot now.record) (spelling now.record) i) → MayGoOn old new was now held next → LeavesOnly old new (GivesOldOrTables old was tables)
+    → (stop : Stop) → IsCountedBy new stop
+    → ((missing : Conditions) (content : Content) (arrays : List Array) → MayStore new now was.record.members.nvrams missing content arrays → GivesOldOrNext new now was.record.members.nvrams missing stop)
+    → GivesOldOrTables old was tables stop
+later_gives old new is_new on was now tables held next is_next fewer fewer_cut older again first stop counts gives later account slot boot g =
+    let between : Conditions = meanwhile old new (drives_of was) (named_sound was.record) (next_slot was.record) was.record in
+    let told = accounts old new (drives_of was) (named_sound was.record) (next_slot was.record) was.record (bearable_then old new (drives_of was) (named_sound was.record) (next_slot was.record) was.record stop counts later account) in
+    let since = accounts_since old new (drives_of was) (named_sound was.record) (next_slot was.record) was.record stop counts later account (drives_of now) (next_slot now.record) now.record on fewer_cut older (sym (same_shelf on)) in
+    elim (gives between next (array_of held ∷ []) (again _ told) later since slot boot (subst (λ (k : Geometry). MayBeGiven k stop.image later slot boot) (same_shelf on) g)) [
+      | inl given ↦ at_end between told given
+      | inr n ↦ inr (next_with_after was now tables is_next fewer boot n)
+    ]
+  where
+    -- what might be given when the first round had ended
+    at_end : (between : Conditions) → AccountsFor old (drives_of was) (named_sound was.record) (next_slot was.record) (spelling was.record) (λ d. (new.disk d).faults) (λ d. (new.disk d).write_faults) between
+        → WasGiven new between slot boot → (boot ≡ was.record) ⊎ IsNextWith was tables boot
+    at_end between told given =
+        let exact : Stop = record { image = given.start.image; faults = λ k. (new.disk k).faults; write_faults = λ k. (new.disk k).write_faults; output = new.output; taken = new.taken } in
+        let here : MayStop new exact = record { counts = record { faults = λ k. omega arith; write_faults = λ k. omega arith }; output = refl; taken = refl; device = given.may.device } in
+        (first.each exact (is_new.counts_now old.moment exact on.later here)).1 between told slot boot (subst (λ (k : Geometry). MayBeGiven k given.start.image between slot boot) (sym (same_shelf on)) given.given)

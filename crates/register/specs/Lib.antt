@@ -2,3 +2,4 @@ pub mod Registers
 pub mod Standing
 pub mod Tables
 pub mod Faults
+pub mod Giving

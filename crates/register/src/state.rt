@@ -1,6 +1,8 @@
 // The record in force.
-ghost use Rattle.std.specs.Prelude.{◌≡◌, IfOk, length};
-ghost use Rattle.boot_codec.specs.declared.limits.TheConstants.{RECORD_BYTES};
+ghost use Rattle.std.specs.Prelude.{◌≡◌, ◌<◌, ◌&&◌, ◌↔◌, ℕ, IfOk, length, not, slice_index_or, false};
+ghost use Rattle.pur_base.specs.Devices.{Geometry};
+ghost use Rattle.boot_codec.specs.declared.limits.TheConstants.{DRIVE_FLAGS, RECORD_BYTES};
+ghost use Rattle.boot_region.specs.Members.{IsMember};
 
 use boot_codec::{BootRecord, DRIVE_FLAGS, RECORD_BYTES};
 use pur_base::NoMemory;
@@ -18,7 +20,22 @@ pub struct Register {
     ghost room: { length body.items ≡ RECORD_BYTES },
 }
 
+/// The drives that are left without those that are lost.
+fn left_of(drives: &[bool; DRIVE_FLAGS], lost: &[bool; DRIVE_FLAGS]) -> [bool; DRIVE_FLAGS]
+    ensures { (slot : ℕ) → slot < DRIVE_FLAGS → slice_index_or result slot false ≡ (slice_index_or drives.now slot false && not (slice_index_or lost.now slot false)) }
+{
+    let mut left = *drives;
+    for slot in 0..DRIVE_FLAGS {
+        if lost[slot] {
+            left[slot] = false;
+        }
+    }
+    left
+}
+
 impl Register {
+    ghost use Rattle.register.specs.Registers.{IsRegisterOf};
+
     /// Of a record that was loaded, and the drives that its settling left. It takes all memory that a store needs, and fails for want of memory only.
     pub fn new(
         alloc: Global,
@@ -47,5 +64,20 @@ impl Register {
         ensures { result.now ≡ self.now.drives }
     {
         &self.drives
+    }
+    /// Takes these drives as lost, as where writes on them failed: until the next store the record is in force on the others alone.
+    /// Tells whether it was on any of them.
+    pub fn lose(&mut self, lost: &[bool; DRIVE_FLAGS]) -> bool
+        ensures record { self.new.record ≡ self.old.record }
+        ensures left { (i : ℕ) → IsMember self.new.drives i ↔ (IsMember self.old.drives i × ¬ (IsMember lost.now i)) }
+        ensures none { result ≡ false → self.new ≡ self.old }
+        ensures kept { (shelf : Geometry) → IsRegisterOf shelf self.old → IsRegisterOf shelf self.new }
+    {
+        let left = left_of(&self.drives, lost);
+        if left == self.drives {
+            return false;
+        }
+        self.drives = left;
+        true
     }
 }

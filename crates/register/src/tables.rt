@@ -25,6 +25,7 @@ impl Register {
     ghost use Rattle.register.specs.Faults.{IsFaultOf};
     ghost use Rattle.register.specs.Registers.{IsRegisterOf, IsLaterRecord, OnSlots, drives_of, next_record, next_slot, own_slot};
     ghost use Rattle.register.specs.Standing.{Content, IsOpen, StandsInLog};
+    ghost use Rattle.register.specs.Giving.{GivesOldOrTables};
     ghost use Rattle.register.specs.Tables.{IsPlanOf, MayGoOn, StandsAsBefore, with_tables};
 
     /// Makes and spells the next record with these tables. An error leaves all as it was.
@@ -68,6 +69,8 @@ impl Register {
         ensures fault { IfErr result (λ e. IsFaultOf self.old e) }
         ensures any_moment { (S.shelf shelf.old).honest → self.new.record.generation < 2 ^ 48 - 8 → (held next : Content) → IsOpen (S.shelf shelf.old) self.old self.old.record.members.nvrams held
             → IsPlanOf (S.shelf shelf.old) self.old tables held next → LeavesOnly (S.shelf shelf.old) (S.shelf shelf.new) (StandsAsBefore (S.shelf shelf.old) self.old held) }
+        ensures gives { (S.shelf shelf.old).honest → self.new.record.generation < 2 ^ 48 - 8 → (held next : Content) → IsOpen (S.shelf shelf.old) self.old self.old.record.members.nvrams held
+            → IsPlanOf (S.shelf shelf.old) self.old tables held next → LeavesOnly (S.shelf shelf.old) (S.shelf shelf.new) (GivesOldOrTables (S.shelf shelf.old) self.old tables) }
         ensures logged { (S.shelf shelf.old).honest → (held next : Content) → IsOpen (S.shelf shelf.old) self.old self.old.record.members.nvrams held
             → IsPlanOf (S.shelf shelf.old) self.old tables held next → OnOk result (StandsInLog (S.shelf shelf.new) self.new self.old.record.members.nvrams next) }
         ensures shown { (S.shelf shelf.old).honest → OnOk result ((i : ℕ) → IsMember (drives_of self.new) i → Shows (S.shelf shelf.new) (own_slot self.new.record) (spelling self.new.record) i) }
@@ -106,11 +109,16 @@ impl Register {
         ensures generation { OnOk result ((self.old.record.generation < self.new.record.generation) × (self.new.record.generation < 2 ^ 48)) }
         ensures few { self.new.record.generation ≤ self.old.record.generation + 3 }
         ensures members { OnOk result ((self.new.record.members.drives ≡ self.new.drives) × (self.new.record.members.nvrams ≡ self.old.record.members.nvrams)) }
+        ensures enough { OnOk result (self.new.record.slots ≤ set_count self.new.drives + 2) }
         ensures fault { IfErr result (λ e. IsFaultOf self.new e) }
         // At every moment the devices stand for the array for which they stood.
         ensures any_moment { (S.shelf shelf.old).honest → self.new.record.generation < 2 ^ 48 - 8 → (held next : Content) → IsOpen (S.shelf shelf.old) self.old self.old.record.members.nvrams held
             → IsPlanOf (S.shelf shelf.old) self.old tables held next
             → LeavesOnly (S.shelf shelf.old) (S.shelf shelf.new) (StandsAsBefore (S.shelf shelf.old) self.old held) }
+        // What may be given then is the record before, or one of these tables.
+        ensures gives { (S.shelf shelf.old).honest → self.new.record.generation < 2 ^ 48 - 8 → (held next : Content) → IsOpen (S.shelf shelf.old) self.old self.old.record.members.nvrams held
+            → IsPlanOf (S.shelf shelf.old) self.old tables held next
+            → LeavesOnly (S.shelf shelf.old) (S.shelf shelf.new) (GivesOldOrTables (S.shelf shelf.old) self.old tables) }
         // Then the record is in force, and the devices stand for the array by its tables.
         ensures held { (S.shelf shelf.old).honest → self.new.record.generation < 2 ^ 48 - 8 → (held next : Content) → IsOpen (S.shelf shelf.old) self.old self.old.record.members.nvrams held
             → IsPlanOf (S.shelf shelf.old) self.old tables held next → OnOk result (IsOpen (S.shelf shelf.new) self.new self.old.record.members.nvrams next) }

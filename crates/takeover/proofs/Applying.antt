@@ -79,10 +79,20 @@ none_is None e = refl
 pub room_stays : (was now : Kept) → HasNoLessRoom was now → now ≡ with_rooms was now → (logged : ℕ) → HasRoomFor was logged → HasRoomFor now logged
 room_stays was now more same logged room = record {
   objects = omega (arith, more.objects, room.objects);
-  names = omega (arith, more.names, room.names);
   addresses = omega (arith, more.addresses, room.addresses);
   staged = omega (arith, more.staged, room.staged);
   indices = subst (λ (k : Kept). length k.memory.staged ≤ 64 * logged) (sym same) room.indices;
+  unflushed_objects = subst (λ (k : Kept). length k.memory.tables.objects.unflushed ≤ logged) (sym same) room.unflushed_objects;
+  unflushed_addresses = subst (λ (k : Kept). length k.memory.tables.addresses.unflushed ≤ 64 * logged) (sym same) room.unflushed_addresses;
+  no_mediums = ap (λ (k : Kept). k.memory.tables.mediums.unflushed) same ∙ room.no_mediums;
+  no_segments = ap (λ (k : Kept). k.memory.tables.segments.unflushed) same ∙ room.no_segments;
+  no_elisions = ap (λ (k : Kept). k.memory.tables.elisions.unflushed) same ∙ room.no_elisions;
+  capacity = record {
+    objects = omega (arith, more.objects, room.capacity.objects, ap (λ (k : Kept). length k.memory.tables.objects.unflushed) same);
+    names = omega (arith, more.names, room.capacity.names, ap (λ (k : Kept). length k.objects) same);
+    addresses = omega (arith, more.addresses, room.capacity.addresses, ap (λ (k : Kept). length k.memory.tables.addresses.unflushed) same);
+    staged = omega (arith, more.staged, room.capacity.staged, ap (λ (k : Kept). length k.memory.staged) same);
+  };
 }
 
 -- A command was prepared and then done.

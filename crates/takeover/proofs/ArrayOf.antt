@@ -8,19 +8,21 @@ use Rattle.pur_base.specs.Visible.{segment}
 use Rattle.pur_base.specs.declared.facts.AddressFact.{AddressFact}
 use Rattle.pur_base.specs.declared.facts.AnyFact.{AnyFact}
 use Rattle.boot_codec.specs.declared.record.BootRecord.{BootRecord}
+use Rattle.boot_codec.specs.declared.record.NextNumbers.{NextNumbers}
 use Rattle.fact_codec.specs.Fact.{IsFact}
 use Rattle.array_spec.specs.Sound.{AreSound}
 use Rattle.array_spec.specs.Stored.{all_facts, in_patches}
 use Rattle.nvram_log.specs.Members.{IsSome}
 use Rattle.pyramid.specs.Layers.{facts_of}
 use Rattle.memory_spec.specs.Memory.{Contents, IsSound}
+use Rattle.memory_spec.specs.Numbers.{next_after_all}
 use Rattle.memory_spec.specs.Tables.{facts, patches}
 use Rattle.checkpoint_spec.specs.Whole.{IsNamed}
 use Rattle.checkpoint_plan.specs.Planned.{AreStored}
 use Rattle.array_memory.specs.Kept.{Kept}
 use Rattle.array_state.specs.Ready.{IsArrayOf}
 use Rattle.array_state.specs.declared.array.Array.{Array}
-use Rattle.array_state.proofs.Applied.{same_patches, segments_sound}
+use Rattle.array_state.proofs.Applied.{HasSameSegmentIds, all_give_none, same_patches, segments_sound}
 use Rattle.register.specs.declared.state.Register.{Register}
 use Rattle.register.specs.Registers.{IsLaterRecord, IsRegisterOf}
 use Rattle.takeover.specs.Replayed.{HasReplayed}
@@ -55,6 +57,10 @@ module _ (shelf : Geometry) (boot : BootRecord) (first : Kept) (o : OpenedLog) (
       let some = memory.some no_contents in
       (done.reads no_contents some.0 (memory.reads no_contents some.0 some.1)).1.sound
 
+  -- nor did the commands of the log give ids to segments
+  none_given : HasSameSegmentIds first.memory.next (next_after_all first.memory.next done.log)
+  none_given = all_give_none done.log first.memory.next
+
   pub array_of_shelf : (now : Register) → IsRegisterOf shelf now → IsLaterRecord boot now.record → o.log.flushed ≡ boot.flushed → IsSome o.log.members → IsArrayOf shelf (array_with o now)
   array_of_shelf now is_of later flushed some = record {
     of_shelf = is_of;
@@ -67,4 +73,6 @@ module _ (shelf : Geometry) (boot : BootRecord) (first : Kept) (o : OpenedLog) (
         (subst (λ (ps : List (List AnyFact)). AllZip IsNamed boot.patches ps) (sym patches_are) memory.named);
     segments = segments_sound shelf boot now.record (all_facts (patches first.memory.tables)) (facts o.memory.memory.tables) later segments_are memory.tables_sound.segments;
     room = done.room memory.room;
+    segment_ids = ap (λ (n : NextNumbers). n.segment) done.next ∙ none_given.segment ∙ ap (λ (n : NextNumbers). n.segment) memory.next ∙ sym (ap (λ (r : BootRecord). r.next.segment) later.rest);
+    patch_ids = ap (λ (n : NextNumbers). n.patch_segment) done.next ∙ none_given.patch_segment ∙ ap (λ (n : NextNumbers). n.patch_segment) memory.next ∙ sym (ap (λ (r : BootRecord). r.next.patch_segment) later.rest);
   }

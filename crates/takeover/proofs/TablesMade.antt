@@ -5,6 +5,8 @@ use Rattle.std.proofs.lemmas.List.Elements.{All-contains, All-from_recursion, re
 use Rattle.pur_base.specs.Devices.{Geometry}
 use Rattle.pur_base.specs.Facts.{table_tag}
 use Rattle.pur_base.specs.Plain.{Array}
+use Rattle.pur_base.specs.declared.facts.ObjectFact.{ObjectFact}
+use Rattle.pur_base.specs.declared.facts.AddressFact.{AddressFact}
 use Rattle.pur_base.specs.declared.facts.AnyFact.{AnyFact}
 use Rattle.pur_base.specs.declared.facts.AnyFact.TheVariants as any
 use Rattle.boot_codec.specs.declared.record.BootRecord.{BootRecord}
@@ -78,9 +80,19 @@ module _ (shelf : Geometry) (boot : BootRecord) (t : LoadedTables) (k : Kept) (s
     next = loaded.next;
     room = record {
       objects = omega (arith, room.objects);
-      names = omega (arith, names);
       addresses = omega (arith, room.addresses);
       staged = omega (arith, room.staged);
       indices = omega (arith, ap (λ (l : List (List ℕ)). length l) loaded.staged);
+      unflushed_objects = omega (arith, ap (λ (l : List ObjectFact). length l) loaded.objects.unflushed);
+      unflushed_addresses = omega (arith, ap (λ (l : List AddressFact). length l) loaded.addresses.unflushed);
+      no_mediums = loaded.mediums.unflushed;
+      no_segments = loaded.segments.unflushed;
+      no_elisions = loaded.elisions.unflushed;
+      capacity = record {
+        objects = omega (arith, room.objects);
+        names = room.names;
+        addresses = omega (arith, room.addresses);
+        staged = omega (arith, room.staged);
+      };
     };
   }

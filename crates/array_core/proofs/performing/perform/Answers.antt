@@ -24,7 +24,7 @@ use Rattle.array_state.specs.Room.{HasRoomFor}
 use Rattle.array_core.specs.declared.performing.PerformFault.{PerformFault}
 use Rattle.array_core.specs.declared.performing.PerformFault.TheVariants.{Device}
 use Rattle.array_core.specs.Losing.{lost_since}
-use Rattle.array_state.proofs.Applied.{room_for_next, segments_sound, same_patches}
+use Rattle.array_state.proofs.Applied.{gives_none, room_for_next, segments_sound, same_patches}
 use Rattle.array_core.proofs.Appended.{nothing_done}
 use Rattle.array_core.proofs.Commands.{accept_last, after_last, all_and_last}
 use Rattle.array_core.proofs.Losses.{same_geometry}
@@ -96,6 +96,7 @@ returns-clause-is_of g c =
     let addresses : c.apply.new.memory.memory.tables.addresses.patches ≡ was.memory.memory.tables.addresses.patches =
     y.patches.addresses ∙ ap (λ (k : Kept). k.memory.tables.addresses.patches) c.commit.ensures.memory in
     let stored : AreStored (facts_of was.memory.memory.tables.addresses.patches) = of.stored in
+    let ids = gives_none was.memory.memory.next now.memory.memory.next c.apply.new.memory.memory.next c.args.request.now (ap (λ (k : Kept). k.memory.next) c.commit.ensures.memory) y.next in
     record {
       of_shelf = x.of_shelf;
       flushed = x.flushed;
@@ -109,6 +110,8 @@ returns-clause-is_of g c =
           (segments_sound (geometry_of a) was.register.record now.register.record (facts was.memory.memory.tables) (facts c.apply.new.memory.memory.tables) x.later same of.segments);
       room = room_for_next now.memory c.apply.new.memory was.log.count now.log.count c.args.request.now c.args.sectors.now (subst (λ (k : Kept). HasRoomFor k was.log.count) (sym c.commit.ensures.memory) of.room)
           x.count c.requires.lawful c.requires.written y.room y.staged;
+      segment_ids = ids.segment ∙ of.segment_ids ∙ sym (ap (λ (b : BootRecord). b.next.segment) x.later.rest);
+      patch_ids = ids.patch_segment ∙ of.patch_ids ∙ sym (ap (λ (b : BootRecord). b.next.patch_segment) x.later.rest);
     }
 
 pub returns-clause-segments : goal.returns-clause-segments

@@ -1,7 +1,9 @@
 use Rattle.std.proofs.Common.{arith}
 use Rattle.world.proofs.Moments.{continues_trans, weaker}
 use Rattle.world.proofs.Writes.{writes_then, writes_more}
-use Rattle.data_io.proofs.Stands.{synced_kept, shown_after, on_all, none_on_all, header_kept}
+use Rattle.segment_io.specs.Places.{place_of}
+use Rattle.data_io.specs.Placing.{places_in}
+use Rattle.data_io.proofs.Stands.{synced_kept, shown_after, on_all, none_on_all, header_kept, others_but, others_then, clean_again}
 use Rattle.data_io.proofs.InTurn.{in_turn, more_lost}
 use Rattle.data_io.proofs.whole.write_data.Goals as goal
 
@@ -29,6 +31,47 @@ returns-clause-stand g c h stop view may shows =
     let second = synced_kept b m segments c.append_data.new.lost.drives c.sync_drives.new.lost.drives staged order y.lost (y.bytes at_b) (x.stand h) in
     let last = synced_kept d e segments c.write_data_headers.new.lost.drives c.sync_drives-2.new.lost.drives staged order w.lost (w.bytes at_d) (z.kept at_m staged order second) in
     shown_after a e segments c.drives_of-drives.result c.sync_drives-2.new.lost.drives staged order stop view c.requires.placed c.drives_of-drives.ensures.each (w.clean at_d) last may shows
+
+pub returns-clause-holds : goal.returns-clause-holds
+returns-clause-holds g c h =
+    let b = g.S.Shelf.shelf c.append_data.new.shelf in
+    let m = g.S.Shelf.shelf c.sync_drives.new.shelf in
+    let d = g.S.Shelf.shelf c.write_data_headers.new.shelf in
+    let e = g.S.Shelf.shelf c.sync_drives-2.new.shelf in
+    let segments = c.args.segments.now in
+    let staged = c.args.staged.now in
+    let order = c.args.order.now in
+    let x = c.in_ok-opened.ensures in
+    let y = c.sync_drives.ensures in
+    let z = c.write_data_headers.ensures in
+    let w = c.sync_drives-2.ensures in
+    let at_b = x.continues.honest h in
+    let at_m = y.continues.honest at_b in
+    let second = synced_kept b m segments c.append_data.new.lost.drives c.sync_drives.new.lost.drives staged order y.lost (y.bytes at_b) (x.stand h) in
+    synced_kept d e segments c.write_data_headers.new.lost.drives c.sync_drives-2.new.lost.drives staged order w.lost (w.bytes (z.continues.honest at_m)) (z.kept at_m staged order second)
+
+pub returns-clause-synced : goal.returns-clause-synced
+returns-clause-synced g c h number shard within lt none =
+    let at_d = c.write_data_headers.ensures.continues.honest (c.sync_drives.ensures.continues.honest (c.in_ok-opened.ensures.continues.honest h)) in
+    c.sync_drives-2.ensures.clean at_d (place_of (places_in c.args.segments.now number) shard).slot (c.drives_of-drives.ensures.each number shard within lt) none
+
+pub returns-clause-clean : goal.returns-clause-clean
+returns-clause-clean g c h =
+    let a = g.S.Shelf.shelf c.args.shelf.now in
+    let b = g.S.Shelf.shelf c.append_data.new.shelf in
+    let m = g.S.Shelf.shelf c.sync_drives.new.shelf in
+    let d = g.S.Shelf.shelf c.write_data_headers.new.shelf in
+    let e = g.S.Shelf.shelf c.sync_drives-2.new.shelf in
+    let segments = c.args.segments.now in
+    let drives = c.drives_of-drives.result in
+    let has = c.drives_of-drives.ensures.each in
+    let x = c.in_ok-opened.ensures in
+    let y = c.sync_drives.ensures in
+    let z = c.write_data_headers.ensures in
+    let w = c.sync_drives-2.ensures in
+    let first = others_then a b m drives (others_but a b segments drives has x.others) y.others in
+    let second = others_then m d e drives (others_but m d segments drives has z.others) w.others in
+    clean_again a e drives c.sync_drives-2.new.lost.drives (others_then a m e drives first second) (w.clean (z.continues.honest (y.continues.honest (x.continues.honest h))))
 
 pub returns-clause-headers : goal.returns-clause-headers
 returns-clause-headers g c h number within =

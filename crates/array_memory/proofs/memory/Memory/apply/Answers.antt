@@ -1,8 +1,9 @@
-use Rattle.std.proofs.Common.{◌≡◌, ◌+◌, ◌<◌, ◌∙◌, ℕ, ap, arith, length, Some, None}
+use Rattle.std.proofs.Common.{◌≡◌, ◌+◌, ◌<◌, ◌∙◌, ℕ, refl, ap, arith, length, Some, None}
+use Rattle.pur_base.specs.declared.request.Request.TheVariants as request
 use Rattle.fact_codec.specs.declared.limits.TheConstants.{NUMBER_LIMIT}
 use Rattle.array_memory.specs.Runs.{targets_from}
 use Rattle.array_memory.proofs.RunLemmas.{targets_long}
-use Rattle.array_memory.proofs.PutLemmas.{put_next}
+use Rattle.array_memory.proofs.PutLemmas.{left_by_create, left_by_put, put_next}
 use Rattle.array_memory.proofs.ApplyLemmas.{write_keeps, fill_keeps, zero_keeps, create_keeps, write_reads, fill_reads, zero_reads, create_reads}
 use Rattle.array_memory.proofs.memory.Memory.apply.Goals as goal
 
@@ -71,3 +72,24 @@ pub returns-in-Zero-clause-sound : goal.returns-in-Zero-clause-sound
 returns-in-Zero-clause-sound c =
     let left : c.args.self.now.memory.next.sequence + c.in-Zero.count < NUMBER_LIMIT = omega (arith, c.requires.numbers.numbers, c.zero.ensures.put.span.few) in
     λ sound. zero_keeps c.args.self.now c.zero.new.self c.kept.ensures sound c.in-Zero.name c.in-Zero.lba c.in-Zero.count c.zero.ensures.put left
+
+pub returns-in-Create-clause-room : goal.returns-in-Create-clause-room
+returns-in-Create-clause-room c =
+    let e = c.create.ensures in
+    rw c.in-Create.is (left_by_create c.args.self.now c.create.new.self c.in-Create.name c.in-Create.size e.object_room e.name_room_left e.address_room e.staged_room e.unflushed e.tables e.capacity e.name_capacity e.staged)
+
+pub returns-in-Write-clause-room : goal.returns-in-Write-clause-room
+returns-in-Write-clause-room c =
+    let n = length c.args.sectors.now in
+    let long : n ≡ c.in-Write.count = rw c.in-Write.is at c.requires.sectors in
+    rw c.in-Write.is (left_by_put c.args.self.now c.write.new.self (request.Write c.in-Write.name c.in-Write.lba c.in-Write.count) n n c.write.ensures.room_left c.write.ensures.put.objects long long)
+
+pub returns-in-Fill-clause-room : goal.returns-in-Fill-clause-room
+returns-in-Fill-clause-room c =
+    let n = c.in-Fill.count in
+    rw c.in-Fill.is (left_by_put c.args.self.now c.fill.new.self (request.Fill c.in-Fill.name c.in-Fill.lba n c.in-Fill.byte) n n c.fill.ensures.room_left c.fill.ensures.put.objects refl refl)
+
+pub returns-in-Zero-clause-room : goal.returns-in-Zero-clause-room
+returns-in-Zero-clause-room c =
+    let n = c.in-Zero.count in
+    rw c.in-Zero.is (left_by_put c.args.self.now c.zero.new.self (request.Zero c.in-Zero.name c.in-Zero.lba n) n 0 c.zero.ensures.room_left c.zero.ensures.put.objects refl refl)

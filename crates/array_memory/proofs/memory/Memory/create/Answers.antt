@@ -1,10 +1,13 @@
-use Rattle.std.proofs.Common.{◌≡◌, ◌↔◌, ◌⊎◌, ◌-◌, false, refl, sym, ◌∙◌, arith, Contains, vec_len, vec_capacity}
+use Rattle.std.proofs.Common.{◌≡◌, ◌↔◌, ◌⊎◌, ◌-◌, ◌<◌, false, List, [], ◌∷◌, length, refl, sym, ap, ◌∙◌, arith, Contains, vec_len, vec_capacity, length-append}
 use Rattle.std.specs.Prelude.{is_err}
+use Rattle.std.proofs.lemmas.List.Elements.{All-contains, Contains-append_right}
+use Rattle.pur_base.specs.Facts.{object_key}
 use Rattle.pur_base.specs.Visible.{is_elided}
 use Rattle.pur_base.specs.declared.request.Table.TheVariants as table
 use Rattle.pur_base.specs.declared.facts.ObjectKind.TheVariants.{Volume}
 use Rattle.pur_base.specs.declared.facts.ObjectFact.{ObjectFact}
-use Rattle.pyramid.specs.Layers.{facts_in}
+use Rattle.pyramid.specs.Layers.{facts_in, facts_of}
+use Rattle.array_memory.proofs.CountLemmas.{one_fact_more, with_one_more}
 use Rattle.array_memory.proofs.KeptLemmas.{objects_newer, objects_last, objects_distinct, free_object, create_kept}
 use Rattle.array_memory.proofs.PutLemmas.{at_ok, taken_behind}
 use Rattle.array_memory.proofs.memory.Memory.create.Goals as goal
@@ -59,3 +62,23 @@ returns-clause-created c =
       refl,
       record { objects = added c; mediums = refl; addresses = refl; segments = refl; elisions = refl; staged = refl; next = refl },
     )
+
+pub returns-clause-unflushed : goal.returns-clause-unflushed
+returns-clause-unflushed c =
+    let layers = rw c.facts-2.ensures at c.layers-2.ensures in
+    rw (← c.self.view_is) (one_fact_more object_key (λ (f : ObjectFact). f.seq.0) c.self.inside.objects.facts.unflushed (made c) c.add.new.self.facts.unflushed layers.ordered (at_ok c.add.result _ (fine c) c.add.ensures.facts))
+
+pub returns-clause-capacity : goal.returns-clause-capacity
+returns-clause-capacity c =
+    let o = c.self.inside.objects.facts in
+    let layers = rw c.facts.ensures at c.layers.ensures in
+    let taken = at_ok c.add.result _ (fine c) c.add.ensures.facts in
+    let many = with_one_more object_key (λ (f : ObjectFact). f.seq.0) o.unflushed (made c) c.add.new.self.facts.unflushed layers.ordered
+    (λ f x. All-contains (λ (h : ObjectFact). h.seq.0 < c.self.inside.next.sequence) (facts_in o) f (objects_newer _ c.self.invariant) (Contains-append_right (facts_of o.patches) o.unflushed f x)) (λ f x. (taken f).1 x) in
+    rw (← c.self.view_is) (omega (arith, many, c.add.ensures.room_left))
+
+pub returns-clause-name_capacity : goal.returns-clause-name_capacity
+returns-clause-name_capacity c =
+    let visible = at_ok c.add.result _ (fine c) c.add.ensures.visible in
+    let long = ap (λ (l : List ObjectFact). length l) visible in
+    rw (← c.self.view_is) (omega (arith, long, length-append c.self.inside.objects.visible (made c ∷ []), c.add.ensures.name_room_left))

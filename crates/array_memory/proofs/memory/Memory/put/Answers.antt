@@ -1,11 +1,16 @@
-use Rattle.std.proofs.Common.{rules, ◌≡◌, ◌↔◌, ◌⊎◌, ℕ, ◌+◌, ◌-◌, false, sym, ap, ◌∙◌, arith, Contains, vec_len, vec_capacity}
+use Rattle.std.proofs.Common.{rules, ◌≡◌, ◌↔◌, ◌⊎◌, ℕ, ◌+◌, ◌-◌, false, List, length, sym, ap, ◌∙◌, arith, Contains, vec_len, vec_capacity}
 use Rattle.std.proofs.lemmas.Grind.{common_steps}
 use Rattle.std.specs.Prelude.{is_err}
+use Rattle.std.proofs.lemmas.List.Elements.{Contains-append_right}
+use Rattle.pur_base.specs.Facts.{address_key}
+use Rattle.pur_base.specs.Says.{Ascends}
 use Rattle.pur_base.specs.declared.facts.AddressFact.{AddressFact}
-use Rattle.pyramid.specs.Layers.{facts_in}
+use Rattle.pyramid.specs.Layers.{facts_in, facts_of, AreBelow}
+use Rattle.pyramid.proofs.LayerLemmas.{below_at}
 use Rattle.memory_spec.specs.Adding.{address_facts}
 use Rattle.array_memory.specs.Runs.{targets_from}
-use Rattle.array_memory.proofs.RunLemmas.{run_ascends, targets_long}
+use Rattle.array_memory.proofs.CountLemmas.{no_fewer_facts, no_more_facts}
+use Rattle.array_memory.proofs.RunLemmas.{run_ascends, run_long, targets_long}
 use Rattle.array_memory.proofs.KeptLemmas.{run_newest, put_kept}
 use Rattle.array_memory.proofs.PutLemmas.{at_ok, taken_behind}
 use Rattle.array_memory.proofs.memory.Memory.put.Goals as goal
@@ -40,3 +45,24 @@ invariant_of-self c =
 
 pub returns-clause-addresses : goal.returns-clause-addresses
 returns-clause-addresses c = rw (← c.self.view_is) (added c)
+
+-- what was taken in, and how many those are
+taken : (c : goal.After-self-1) → (f : AddressFact) → Contains c.put_run.new.self.facts.unflushed f ↔ (Contains c.self.inside.addresses.facts.unflushed f ⊎ Contains c.write_run.new.run f)
+taken c = at_ok c.put_run.result _ (sym c.is_err.ensures.value ∙ c.if-is_err.false) c.put_run.ensures.facts
+
+long : (c : goal.After-self-1) → length c.write_run.new.run ≡ c.args.count
+long c = ap (λ (l : List AddressFact). length l) (run_is c) ∙ run_long c.args.medium.0 c.args.first c.self.inside.next.sequence (targets_from c.args.staged 0 c.args.count) ∙ targets_long c.args.staged 0 c.args.count
+
+pub returns-clause-unflushed : goal.returns-clause-unflushed
+returns-clause-unflushed c =
+    let few = no_more_facts address_key (λ (f : AddressFact). f.seq.0) c.self.inside.addresses.facts.unflushed c.write_run.new.run c.put_run.new.self.facts.unflushed c.layers-2.ensures.ordered (taken c) in
+    rw (← c.self.view_is) (omega (arith, few, long c))
+
+pub returns-clause-capacity : goal.returns-clause-capacity
+returns-clause-capacity c =
+    let a = c.self.inside.addresses.facts in
+    let up : Ascends address_key c.write_run.new.run = rw c.write_run.ensures (run_ascends c.args.medium.0 c.args.first c.self.inside.next.sequence _) in
+    let below : AreBelow (λ (f : AddressFact). f.seq.0) (facts_in a) c.write_run.new.run = rw c.write_run.ensures (run_newest _ c.args.medium.0 c.args.first _ c.self.invariant) in
+    let many = no_fewer_facts address_key (λ (f : AddressFact). f.seq.0) a.unflushed c.write_run.new.run c.put_run.new.self.facts.unflushed c.layers.ensures.ordered up
+    (λ f g x y. below_at (λ (h : AddressFact). h.seq.0) (facts_in a) c.write_run.new.run f g below (Contains-append_right (facts_of a.patches) a.unflushed f x) y) (λ f x. (taken c f).1 x) in
+    rw (← c.self.view_is) (omega (arith, many, c.put_run.ensures.room_left))

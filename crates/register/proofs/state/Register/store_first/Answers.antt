@@ -1,17 +1,19 @@
-use Rattle.std.proofs.Common.{refl, arith, ◌≡◌, ◌+◌, ◌-◌, ◌^◌, ◌<◌, ◌≤◌, ◌∷◌, [], ℕ, List, Bool, length, ◌∙◌, ap, subst}
+use Rattle.std.proofs.Common.{refl, inl, arith, ◌≡◌, ◌+◌, ◌-◌, ◌^◌, ◌<◌, ◌≤◌, ◌∷◌, [], ℕ, List, Bool, length, ◌∙◌, ap, subst}
 use Rattle.boot_codec.specs.declared.record.BootRecord.{BootRecord}
 use Rattle.boot_codec.specs.Record.{IsBootRecord}
 use Rattle.boot_codec.specs.Spelling.{spelling}
+use Rattle.array_spec.proofs.Standings.{given_with_fewer}
 use Rattle.world.proofs.Moments.{started}
 use Rattle.world.proofs.Writes.{writes_more}
 use Rattle.boot_region.specs.Members.{IsMember}
 use Rattle.register.specs.Registers.{drives_of, named_sound, next_slot, next_record}
 use Rattle.register.specs.Standing.{array_of}
+use Rattle.register.specs.Giving.{GivesOldOrTables}
 use Rattle.register.specs.Tables.{StandsAsBefore, with_tables}
 use Rattle.register.proofs.Follows.{stands_before}
 use Rattle.register.proofs.Numbers.{next_other}
 use Rattle.register.proofs.Rounds.{Puts, puts_next, fewer_all, is_of_next, on_slots}
-use Rattle.register.proofs.Tabling.{logged_now, older_now, moments_now, again_now}
+use Rattle.register.proofs.Tabling.{logged_now, older_now, moments_now, gives_now, again_now}
 use Rattle.register.proofs.state.Register.store_first.Given as given
 use Rattle.register.proofs.state.Register.store_first.Goals as goal
 
@@ -21,6 +23,12 @@ returns-in_err-advance_to-clause-any_moment g c h low held next o plan =
     let a = g.S.Shelf.shelf c.args.shelf.now in
     started a (StandsAsBefore a c.args.self.now held) (g.met.S.Shelf.is_shelf c.args.shelf.now)
     (λ stop m later account. stands_before a (named_sound c.args.self.now.record) later (array_of held ∷ []) stop m (o.stands stop m) account.within account.bearable)
+
+pub returns-in_err-advance_to-clause-gives : goal.returns-in_err-advance_to-clause-gives
+returns-in_err-advance_to-clause-gives g c h low held next o plan =
+    let a = g.S.Shelf.shelf c.args.shelf.now in
+    started a (GivesOldOrTables a c.args.self.now c.args.tables) (g.met.S.Shelf.is_shelf c.args.shelf.now)
+    (λ stop m later account slot boot given. inl (o.alone stop slot boot m (given_with_fewer account.within given)).1)
 
 -- the record that is stored
 abbrev made : (g : given.Over) → goal.After-put g → BootRecord
@@ -79,6 +87,11 @@ room g c low = subst (λ (b : BootRecord). b.generation < 2 ^ 48 - 8) (kept g c)
 pub returns-clause-any_moment : goal.returns-clause-any_moment
 returns-clause-any_moment g c h low held next o plan =
     moments_now (g.S.Shelf.shelf c.args.shelf.now) (g.met.S.Shelf.is_shelf c.args.shelf.now) h c.args.self.now c.args.tables c.requires.is_of c.requires.nvrams (lawful g c) c.requires.lawful held next o plan
+    (g.S.Shelf.shelf c.put.new.shelf) c.put.ensures.continues c.put.new.self (kept g c) (beyond g c) (the_puts g c) (room g c low)
+
+pub returns-clause-gives : goal.returns-clause-gives
+returns-clause-gives g c h low held next o plan =
+    gives_now (g.S.Shelf.shelf c.args.shelf.now) (g.met.S.Shelf.is_shelf c.args.shelf.now) h c.args.self.now c.args.tables c.requires.is_of c.requires.nvrams (lawful g c) c.requires.lawful held next o plan
     (g.S.Shelf.shelf c.put.new.shelf) c.put.ensures.continues c.put.new.self (kept g c) (beyond g c) (the_puts g c) (room g c low)
 
 pub returns-clause-logged : goal.returns-clause-logged

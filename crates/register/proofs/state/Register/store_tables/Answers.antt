@@ -1,15 +1,16 @@
-use Rattle.std.proofs.Common.{inl, inr, arith, ◌≡◌, ◌+◌, ◌-◌, ◌^◌, ◌<◌, ◌≤◌, length, sym, ◌∙◌, ap}
+use Rattle.std.proofs.Common.{inl, inr, arith, ◌≡◌, ◌+◌, ◌-◌, ◌^◌, ◌<◌, ◌≤◌, length, sym, ◌∙◌, ap, subst}
 use Rattle.boot_codec.specs.declared.record.BootRecord.{BootRecord}
 use Rattle.boot_codec.specs.Record.{set_count}
 use Rattle.world.proofs.Moments.{continues_trans, then_run, weaker}
 use Rattle.world.proofs.Writes.{writes_then, writes_more}
 use Rattle.boot_region.proofs.Stored.{stay_then}
 use Rattle.register.specs.Registers.{drives_of}
+use Rattle.register.specs.Giving.{IsNextWith}
 use Rattle.register.proofs.Again.{both}
 use Rattle.register.proofs.FlagLemmas.{same_flags, other_flags}
 use Rattle.register.proofs.Opened.{is_open}
 use Rattle.register.proofs.Stores.{at_most_slots, fewer_cut, on_more, fewer_left}
-use Rattle.register.proofs.Tabling.{later_round}
+use Rattle.register.proofs.Tabling.{is_next_with, later_gives, later_round}
 use Rattle.register.proofs.state.Register.store_tables.Goals as goal
 
 pub returns-clause-continues : goal.returns-clause-continues
@@ -19,6 +20,13 @@ pub returns-then-eq-clause-members : goal.returns-then-eq-clause-members
 returns-then-eq-clause-members g c =
     let same : c.store_first.new.self.drives ≡ c.store_first.new.self.record.members.drives = same_flags c.store_first.new.self.drives c.store_first.new.self.record.members.drives c.if-eq.ensures in
     (sym same, ap (λ (b : BootRecord). b.members.nvrams) c.in_ok-store_first.ensures.next)
+
+pub returns-then-eq-clause-enough : goal.returns-then-eq-clause-enough
+returns-then-eq-clause-enough g c =
+    let same : c.store_first.new.self.drives ≡ c.store_first.new.self.record.members.drives = same_flags c.store_first.new.self.drives c.store_first.new.self.record.members.drives c.if-eq.ensures in
+    let slots : c.store_first.new.self.record.slots ≡ c.args.self.now.record.slots = ap (λ (b : BootRecord). b.slots) c.in_ok-store_first.ensures.next in
+    let count : set_count c.store_first.new.self.drives ≡ set_count c.args.self.now.drives = ap set_count (same ∙ ap (λ (b : BootRecord). b.members.drives) c.in_ok-store_first.ensures.next) in
+    omega (arith, slots, count, c.in_ok-store_first.ensures.enough)
 
 pub returns-clause-others : goal.returns-clause-others
 returns-clause-others g c =
@@ -82,4 +90,33 @@ returns-clause-any_moment g c h low held next o plan =
       left_out = m.left_out;
       unnamed = m.unnamed;
     })))
+    (both (c.store.ensures.writes hb).any_moment (c.store.ensures.moments hb low)))
+
+pub returns-clause-gives : goal.returns-clause-gives
+returns-clause-gives g c h low held next o plan =
+    let a = g.S.Shelf.shelf c.args.shelf.now in
+    let b = g.S.Shelf.shelf c.store_first.new.shelf in
+    let was = c.args.self.now in
+    let now = c.store_first.new.self in
+    let ab = c.in_ok-store_first.ensures.continues in
+    let hb = ab.honest h in
+    let room : now.record.generation < 2 ^ 48 - 8 = omega (arith, c.store.ensures.later.generation, low) in
+    let first = c.in_ok-store_first.ensures.gives h room held next o plan in
+    let is_next : IsNextWith was c.args.tables now.record = subst (λ (r : BootRecord). IsNextWith was c.args.tables r) (sym c.in_ok-store_first.ensures.next) (is_next_with was c.args.tables) in
+    then_run ab first (weaker (λ stop x.
+    later_gives a b (g.met.S.Shelf.is_shelf c.store_first.new.shelf) ab was now c.args.tables held next is_next c.in_ok-store_first.ensures.fewer
+    (fewer_cut was now (ap (λ (r : BootRecord). r.slots) c.in_ok-store_first.ensures.next) c.in_ok-store_first.ensures.fewer)
+    (c.in_ok-store_first.ensures.older h held next o plan) (c.in_ok-store_first.ensures.again h room held next o plan) first stop x.0.counts
+    (λ missing content arrays m later told slot boot given. elim (x.1.gives missing content arrays (record {
+      logged = record { is_of = record { lawful = m.logged.is_of.lawful; named = m.logged.is_of.named }; tables = m.logged.tables; bodies = m.logged.bodies; holds = m.logged.holds; accepted = m.logged.accepted };
+      in_force = m.in_force;
+      stands = m.stands;
+      one_of = m.one_of;
+      sound = m.sound;
+      left_out = m.left_out;
+      unnamed = m.unnamed;
+    }) later told slot boot given) [
+      | inl before ↦ inl before
+      | inr n ↦ inr (record { later = record { generation = n.later.generation; rest = n.later.rest }; generation = n.generation; nvrams_are = n.nvrams_are; drives = n.drives })
+    ]))
     (both (c.store.ensures.writes hb).any_moment (c.store.ensures.moments hb low)))

@@ -1,0 +1,11 @@
+pub mod Rooms
+pub mod Like
+pub mod Stays
+pub mod UnitLists
+pub mod Units
+pub mod PatchUnits
+pub mod FreeUnits
+pub mod ShownUnits
+pub mod Holds
+pub mod Next
+pub mod PreparedLemmas

@@ -1,0 +1,31 @@
+-- The segments of patches are counted, and the visible data segments are those that the patches show.
+use Rattle.std.proofs.Common.{◌≡◌, ◌∙◌, ℕ, ◌+◌, ◌<◌, List, [], ◌++◌, length, drop, sym, ap, get_or}
+use Rattle.std.proofs.lemmas.List.{append-nil}
+use Rattle.std.proofs.lemmas.List.Sums.{sum_by-drop_more}
+use Rattle.pur_base.specs.Facts.{Facts}
+use Rattle.pur_base.specs.Visible.{segments}
+use Rattle.pur_base.specs.declared.facts.ElisionFact.{ElisionFact}
+use Rattle.pur_base.specs.declared.facts.SegmentFact.{SegmentFact}
+use Rattle.boot_codec.specs.declared.patch.Patch.{Patch}
+use Rattle.boot_codec.specs.Record.{patch_segments}
+use Rattle.array_spec.specs.Stored.{all_facts}
+use Rattle.pyramid.specs.Layers.{Layers, facts_in, facts_of}
+use Rattle.memory_spec.specs.Tables.{Tables, facts, flushed, patches}
+use Rattle.checkpoint_spec.proofs.Patches.{patches_are_flushed}
+
+-- one patch more
+pub next_patch : (ps : List Patch) (n : ℕ) (d : Patch) → n < length ps → patch_segments (drop n ps) ≡ length (get_or ps n d).segments + patch_segments (drop (n + 1) ps)
+next_patch ps n d lt = sum_by-drop_more (λ (p : Patch). length p.segments) ps n d lt
+
+-- the visible segments, by the two tables that tell of them
+abbrev seen_in : ℕ → List SegmentFact → List ElisionFact → List SegmentFact
+seen_in n ss es = segments (record { objects = []; mediums = []; addresses = []; segments = ss; elisions = es }) n
+
+all_in : {F : Type 0} (l : Layers F) → l.unflushed ≡ [] → facts_of l.patches ≡ facts_in l
+all_in l none = sym (ap (λ u. facts_of l.patches ++ u) none ∙ append-nil (facts_of l.patches))
+
+-- where no segment and no elision is unflushed
+pub patches_show : (t : Tables) (n : ℕ) → t.segments.unflushed ≡ [] → t.elisions.unflushed ≡ [] → segments (all_facts (patches t)) n ≡ segments (facts t) n
+patches_show t n no_segments no_elisions =
+    let same : segments (flushed t) n ≡ segments (facts t) n = λ k. seen_in n (all_in t.segments no_segments k) (all_in t.elisions no_elisions k) in
+    ap (λ (f : Facts). segments f n) (patches_are_flushed t) ∙ same

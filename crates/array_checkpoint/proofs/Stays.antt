@@ -1,0 +1,158 @@
+-- What stands on the drives of an open array, once units that its tables leave free were written.
+use Rattle.std.proofs.Common.{◌≡◌, ◌⊎◌, inl, inr, ℕ, zero, suc, ◌+◌, ◌-◌, ◌*◌, ◌/◌, ◌≤◌, ◌<◌, List, [], ◌∷◌, refl, sym, ◌∙◌, ap, subst, arith, Bool, true, false, cond}
+use Rattle.std.specs.Prelude.{Option, Some, None, count_by, is_none, slice_index_or}
+use Rattle.std.specs.List.{AllByRecursion, range_with_len}
+use Rattle.std.proofs.lemmas.Bool.{cases_eq}
+use Rattle.pur_base.specs.declared.device.Device.TheVariants.{Drive, Nv}
+use Rattle.pur_base.specs.Devices.{Geometry, View, drive}
+use Rattle.pur_base.specs.Visible.{segment}
+use Rattle.pur_base.specs.declared.place.Place.{Place}
+use Rattle.pur_base.specs.declared.facts.SegmentFact.{SegmentFact}
+use Rattle.boot_codec.specs.Record.{AscendFrom}
+use Rattle.boot_codec.specs.declared.record.BootRecord.{BootRecord}
+use Rattle.pur_base.specs.Facts.{Facts}
+use Rattle.pur_base.specs.declared.device.Device.{Device}
+use Rattle.array_spec.specs.Counts.{is_used}
+use Rattle.array_spec.specs.Meaning.{TablesStand}
+use Rattle.array_spec.specs.Sound.{ArePlaces}
+use Rattle.array_spec.proofs.Fewer.{places_keep}
+use Rattle.array_spec.proofs.Quiet.{bytes_same}
+use Rattle.array_spec.proofs.Moves.{Keeps, SameUnit, same_units_keep}
+use Rattle.array_spec.proofs.Used.{data_is_used}
+use Rattle.array_spec.proofs.Votes.{counted}
+use Rattle.stored_spec.specs.Held.{AreEnough}
+use Rattle.world.specs.Losing.{geometry_of}
+use Rattle.world.specs.Shelf.{IsShelf, MayStop, Shelved}
+use Rattle.world.specs.Writes.{WritesOnly}
+use Rattle.boot_region.specs.Members.{IsMember}
+use Rattle.register.specs.declared.state.Register.{Register}
+use Rattle.register.specs.Registers.{drives_of}
+use Rattle.register.specs.Standing.{Content, StandsInLog}
+use Rattle.register.proofs.FlagLemmas.{in_cut}
+use Rattle.memory_spec.specs.Memory.{Contents}
+use Rattle.checkpoint_spec.specs.Contents.{AreAmong, ContentsStand}
+use Rattle.session_spec.specs.Entering.{read_now}
+use Rattle.array_state.specs.Drives.{drives_view}
+
+-- ---- what segments hold
+
+-- what a drive that is shown now showed before
+shown_then : Option (List ℕ) → List ℕ → Option (List ℕ)
+shown_then None old = None
+shown_then (Some bytes) old = Some old
+
+as_many : (o : Option (List ℕ)) (old : List ℕ) → is_none (shown_then o old) ≡ is_none o
+unfolding shown_then
+as_many None old = refl
+as_many (Some bytes) old = refl
+
+counted_alike : (p q : ℕ → Bool) (a n : ℕ) → ((i : ℕ) → p i ≡ q i) → count_by p (range_with_len a n) ≡ count_by q (range_with_len a n)
+counted_alike p q a n same = ap (λ (f : ℕ → Bool). count_by f (range_with_len a n)) (λ i x. same x i)
+
+in_unit : (at unit n : ℕ) → n < 16 → 65536 * unit + 4096 * n ≤ at → at < 65536 * unit + 4096 * n + 4096 → at / 65536 ≡ unit
+in_unit at unit n below from_there to_there = omega (arith, below, from_there, to_there)
+
+-- no byte of a unit that a segment uses is written
+abbrev pub SparesUsed : BootRecord → Facts → (Device → ℕ → Type 0) → Type 0
+SparesUsed boot f W = (p : Place) → is_used boot f p.slot p.unit ≡ true → (at : ℕ) → at / 65536 ≡ p.unit → W (drive p.slot) at → ⊥
+
+module _ (shelf : Geometry) (start mid : Shelved) (r : Register) (members : View)
+    (some : (i : ℕ) → (members (drive i) ≡ None) ⊎ (IsMember (drives_of r) i × (members (drive i) ≡ Some (mid.disk (drive i)).bytes))) where
+  was : View
+  was (Drive d) = shown_then (members (Drive d)) (start.disk (Drive d)).bytes
+  was (Nv n) = None
+
+  was_fewer : (i : ℕ) → (was (drive i) ≡ drives_view start r (drive i)) ⊎ (was (drive i) ≡ None)
+  unfolding was shown_then
+  was_fewer i = elim (some i) [
+    | inl none ↦ inr (rw none refl)
+    | inr is ↦
+        let m : slice_index_or (drives_of r) i false ≡ true = is.0 in
+        let shown : members (drive i) ≡ Some (mid.disk (drive i)).bytes = is.1 in
+        inl (rw m (rw shown refl))
+  ]
+
+  was_enough : AreEnough shelf members → AreEnough shelf was
+  unfolding was
+  was_enough few =
+      let same = counted_alike (λ i. is_none (shown_then (members (drive i)) (start.disk (drive i)).bytes)) (λ i. is_none (members (drive i))) 0 shelf.slots (λ i. as_many (members (drive i)) (start.disk (drive i)).bytes) in
+      omega (arith, same, few)
+
+  -- a unit that a segment uses shows the same
+  unit_stays : (boot : BootRecord) (f : Facts) (W : Device → ℕ → Type 0) → WritesOnly W start mid → SparesUsed boot f W → (p : Place) → is_used boot f p.slot p.unit ≡ true → SameUnit was members p
+  unfolding was shown_then SameUnit
+  unit_stays boot f W writes spares p used n below = elim (some p.slot) [
+    | inl none ↦ rw none refl
+    | inr is ↦
+        let shown : members (drive p.slot) ≡ Some (mid.disk (drive p.slot)).bytes = is.1 in
+        rw shown (ap (λ (b : List ℕ). Some b) (bytes_same (start.disk (drive p.slot)).bytes (mid.disk (drive p.slot)).bytes (65536 * p.unit + 4096 * n) 4096 (sym (writes.device (drive p.slot)).size)
+        (λ at low high. sym ((writes.device (drive p.slot)).bytes at (spares p used at (in_unit at p.unit n below low high))))))
+  ]
+
+  -- each sector that was placed stands on the members as it did on the drives of the record
+  pub contents_stay : (boot : BootRecord) (f : Facts) (W : Device → ℕ → Type 0) → AreEnough shelf members → WritesOnly W start mid → SparesUsed boot f W
+      → AllByRecursion (λ x. x.segment.0 < boot.next.segment) f.segments
+      → ((id : ℕ) (d : SegmentFact) → segment f id ≡ Some d → ArePlaces shelf d.places)
+      → (contents : Contents) → ContentsStand contents (drives_view start r) f → ContentsStand contents members f
+  unfolding Keeps
+  contents_stay boot f W enough writes spares below places contents hold id index d is placed =
+      let s = hold id index d is placed in
+      let kept = places_keep shelf (drives_view start r) was was_fewer (was_enough enough) d.places (places id d is) in
+      let moved = same_units_keep was members d.places (data_is_used boot f (SameUnit was members) below (unit_stays boot f W writes spares) id d is) in
+      (s.0, moved (index / 56) s.0 (kept (index / 56) s.0 s.1), s.2)
+
+-- ---- tables
+
+may_stop_now : (s : Shelved) → IsShelf s → s.honest → MayStop s (read_now s)
+may_stop_now s is honest = record {
+  device = λ d. record { size = refl; is_byte = λ i. is.bytes honest d i; clean = λ i out. refl };
+  counts = record { faults = λ d. omega arith; write_faults = λ d. omega arith };
+  output = refl;
+  taken = refl;
+}
+
+-- the old tables stand on enough of the drives that are left
+pub tables_stay : (mid : Shelved) (r : Register) (nvrams : List Bool) (held : Content) → IsShelf mid → mid.honest → StandsInLog mid r nvrams held
+    → (members : View) → AreAmong (drives_of r) (λ d. (mid.disk d).bytes) members → AreEnough (geometry_of mid) members → TablesStand (geometry_of mid) members r.record held.patches
+tables_stay mid r nvrams held is honest stands members among enough =
+    ((stands.tables (read_now mid) (may_stop_now mid is honest)).each members (λ i. elim (among i) [
+      | inl none ↦ inl none
+      | inr shown ↦ inr (stands.is_of.named i (in_cut r.drives r.record.slots i shown.0), stands.bodies i shown.0, shown.1)
+    ]) enough).0
+
+-- ---- few drives are missing
+
+-- a number in a range and those above it count at most as the range
+split_count : (f : ℕ → Bool) (a n b m : ℕ) → a ≤ b → b < a + n → b + 1 + m ≡ a + n → cond (f b) 1 0 + count_by f (range_with_len (b + 1) m) ≤ count_by f (range_with_len a n)
+split_count f a zero b m low high is = absurd (omega (arith, low, high))
+split_count f a (suc n) b m low high is =
+    rw (counted f a (range_with_len (a + 1) n))
+    (elim (cases_eq a b) [
+      | inl e ↦
+          let k : m ≡ n = omega (arith, e, is) in
+          subst (λ x. cond (f x) 1 0 + count_by f (range_with_len (x + 1) m) ≤ cond (f a) 1 0 + count_by f (range_with_len (a + 1) n)) e
+          (subst (λ x. cond (f a) 1 0 + count_by f (range_with_len (a + 1) x) ≤ cond (f a) 1 0 + count_by f (range_with_len (a + 1) n)) (sym k) (omega arith))
+      | inr other ↦
+          let rest : cond (f b) 1 0 + count_by f (range_with_len (b + 1) m) ≤ count_by f (range_with_len (a + 1) n) =
+          split_count f (a + 1) n b m (omega (arith, low, other)) (omega (arith, high)) (omega (arith, is)) in
+          omega (arith, rest)
+    ])
+
+-- places on ascending slots count at most as the slots do
+places_count : (slots units : ℕ) (f : ℕ → Bool) (ps : List Place) (a n : ℕ) → a + n ≡ slots → AscendFrom slots units a ps
+    → count_by (λ p. f p.slot) ps ≤ count_by f (range_with_len a n)
+places_count slots units f [] a n is ascend = omega arith
+places_count slots units f (p ∷ ps) a n is ascend =
+    let h : p.slot < slots = ascend.1.slot in
+    let m : p.slot + 1 + (a + n - (p.slot + 1)) ≡ a + n = omega (arith, h, is) in
+    let one : cond (f p.slot) 1 0 + count_by f (range_with_len (p.slot + 1) (a + n - (p.slot + 1))) ≤ count_by f (range_with_len a n) =
+    split_count f a n p.slot (a + n - (p.slot + 1)) ascend.0 (omega (arith, h, is)) m in
+    let rest : count_by (λ x. f x.slot) ps ≤ count_by f (range_with_len (p.slot + 1) (a + n - (p.slot + 1))) =
+    places_count slots units f ps (p.slot + 1) (a + n - (p.slot + 1)) (m ∙ is) ascend.2 in
+    rw (counted (λ x. f x.slot) p ps) (omega (arith, one, rest))
+
+-- at most two of nine units are on drives that are missing, where no more are of the shelf
+pub few_missing : (shelf : Geometry) (members : View) (places : List Place) → ArePlaces shelf places → AreEnough shelf members → count_by (λ place. is_none (members (drive place.slot))) places ≤ 2
+few_missing shelf members places lawful enough =
+    let few = places_count shelf.slots shelf.units (λ i. is_none (members (drive i))) places 0 shelf.slots (omega arith) lawful.ascending in
+    omega (arith, few, enough)

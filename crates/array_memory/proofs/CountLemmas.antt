@@ -1,0 +1,124 @@
+-- How many facts there are at most.
+use Rattle.std.proofs.Common.{◌≡◌, ◌⊎◌, ◌↔◌, ℕ, zero, suc, ◌+◌, ◌<◌, ◌≤◌, List, [], ◌∷◌, ◌++◌, length, refl, sym, ap, ◌∙◌, arith, inl, inr, subst, All, Contains, AllPairs, length-append}
+use Rattle.std.proofs.lemmas.List.Elements.{Contains-append_left, Contains-append_right, Contains-append_cases}
+use Rattle.pur_base.specs.Says.{Ascends}
+use Rattle.pyramid.specs.Layers.{IsBefore, IsFlushed, IsOrdered}
+use Rattle.pyramid.proofs.ContainsLemmas.{here, there, either, nowhere}
+use Rattle.pyramid.proofs.LayerLemmas.{all_contained}
+
+-- ---- lists without repetition
+
+module _ {X : Type 0} where
+  -- the list without one of its items
+  pub record IsWithout (ys : List X) (x : X) : Type 0 where
+    pub rest : List X
+    pub long : length ys ≡ suc (length rest)
+    pub others : (y : X) → Contains ys y → (y ≡ x) ⊎ Contains rest y
+
+  without : (ys : List X) (x : X) → Contains ys x → IsWithout ys x
+  without [] x c = absurd (nowhere x c)
+  without (y ∷ ys) x c = elim (either y x ys c) [
+    | inl same ↦ record {
+      rest = ys;
+      long = refl;
+      others = λ z d. elim (either y z ys d) [ inl e ↦ inl (e ∙ sym same) | inr e ↦ inr e ];
+    }
+    | inr behind ↦
+        let w = without ys x behind in
+        record {
+          rest = y ∷ w.rest;
+          long = ap suc w.long;
+          others = λ z d. elim (either y z ys d) [
+            | inl e ↦ inr (subst (λ k. Contains (y ∷ w.rest) k) (sym e) (here y w.rest))
+            | inr e ↦ elim (w.others z e) [ inl q ↦ inl q | inr q ↦ inr (there y z w.rest q) ]
+          ];
+        }
+  ]
+
+  -- items of which no two are the same are no more than those among which they are
+  pub no_more_than : (R : X → X → Type 0) → ((x : X) → R x x → ⊥) → (xs ys : List X) → AllPairs R xs → ((x : X) → Contains xs x → Contains ys x) → length xs ≤ length ys
+  no_more_than R not [] ys pairs among = omega arith
+  no_more_than R not (x ∷ xs) ys pairs among =
+      let w = without ys x (among x (here x xs)) in
+      let long = w.long in
+      let rest : length xs ≤ length w.rest = no_more_than R not xs w.rest (λ i j d l m. pairs (suc i) (suc j) d (omega (arith, l)) (omega (arith, m))) (λ y c. elim (w.others y (among y (there x y xs c))) [
+        | inl same ↦ absurd (not x (subst (λ z. R x z) same (before y c)))
+        | inr there ↦ there
+      ]) in
+      omega (arith, rest, long)
+    where
+      before : (y : X) → Contains xs y → R x y
+      before y c = subst (λ z. R x z) c.2 (pairs 0 (suc c.0) y (omega arith) (let l = c.1 in omega (arith, l)))
+
+-- pairs of two lists, one behind the other
+module _ {X : Type 0} (R : X → X → Type 0) where
+  pairs_cons : (x : X) (xs : List X) → All (R x) xs → AllPairs R xs → AllPairs R (x ∷ xs)
+  pairs_cons x xs a h i zero d l m = absurd (omega (arith, l))
+  pairs_cons x xs a h zero (suc j) d l m = a j d (omega (arith, m))
+  pairs_cons x xs a h (suc i) (suc j) d l m = h i j d (omega (arith, l)) (omega (arith, m))
+
+  pub pairs_append : (xs ys : List X) → AllPairs R xs → AllPairs R ys → ((x y : X) → Contains xs x → Contains ys y → R x y) → AllPairs R (xs ++ ys)
+  pairs_append [] ys h k across = k
+  pairs_append (x ∷ xs) ys h k across = pairs_cons x (xs ++ ys)
+      (all_contained (R x) (xs ++ ys) (λ y c. elim (Contains-append_cases xs ys y c) [
+        | inl a ↦ subst (λ z. R x z) a.2 (h 0 (suc a.0) y (omega arith) (let l = a.1 in omega (arith, l)))
+        | inr b ↦ across x y (here x xs) b
+      ]))
+      (pairs_append xs ys (λ i j d l m. h (suc i) (suc j) d (omega (arith, l)) (omega (arith, m))) k (λ z y c d. across z y (there x z xs c) d))
+
+-- ---- facts
+
+-- no fact stands before itself
+not_before : {F : Type 0} (key number : F → ℕ) (f : F) → IsBefore key number f f → ⊥
+not_before key number f (inl less) = omega (arith, less)
+not_before key number f (inr both) = let less = both.1 in omega (arith, less)
+
+-- facts in order that were taken from these and those are no more than both
+pub no_more_facts : {F : Type 0} (key number : F → ℕ) (was more now : List F) → IsOrdered key number now → ((f : F) → Contains now f ↔ (Contains was f ⊎ Contains more f)) → length now ≤ length was + length more
+no_more_facts key number was more now ordered taken =
+    let few = no_more_than (IsBefore key number) (not_before key number) now (was ++ more) ordered (λ f c. elim ((taken f).0 c) [
+      | inl a ↦ Contains-append_left was more f a
+      | inr b ↦ Contains-append_right was more f b
+    ]) in
+    omega (arith, few, length-append was more)
+
+-- in order, or newer
+abbrev Apart : {F : Type 0} → (F → ℕ) → (F → ℕ) → F → F → Type 0
+Apart key number f g = IsBefore key number f g ⊎ (number f < number g)
+
+not_apart : {F : Type 0} (key number : F → ℕ) (f : F) → Apart key number f f → ⊥
+not_apart key number f (inl before) = not_before key number f before
+not_apart key number f (inr less) = omega (arith, less)
+
+-- nor fewer, where those are newer
+pub no_fewer_facts : {F : Type 0} (key number : F → ℕ) (was more now : List F) → IsOrdered key number was → Ascends key more → ((f g : F) → Contains was f → Contains more g → number f < number g)
+    → ((f : F) → Contains was f ⊎ Contains more f → Contains now f) → length was + length more ≤ length now
+no_fewer_facts key number was more now ordered up newer kept =
+    let few = no_more_than (Apart key number) (not_apart key number) (was ++ more) now
+    (pairs_append (Apart key number) was more (λ i j d l m. inl (ordered i j d l m)) (λ i j d l m. inl (inl (up i j d l m))) (λ f g c d. inr (newer f g c d)))
+    (λ f c. kept f (Contains-append_cases was more f c)) in
+    omega (arith, few, length-append was more)
+
+-- and so where one was
+pub one_fact_more : {F : Type 0} (key number : F → ℕ) (was : List F) (x : F) (now : List F) → IsOrdered key number now → ((f : F) → Contains now f ↔ (Contains was f ⊎ (f ≡ x))) → length now ≤ length was + 1
+one_fact_more key number was x now ordered taken =
+    let few = no_more_than (IsBefore key number) (not_before key number) now (was ++ x ∷ []) ordered (λ f c. elim ((taken f).0 c) [
+      | inl a ↦ Contains-append_left was (x ∷ []) f a
+      | inr e ↦ Contains-append_right was (x ∷ []) f (subst (λ z. Contains (x ∷ []) z) (sym e) (here x []))
+    ]) in
+    omega (arith, few, length-append was (x ∷ []))
+
+pub with_one_more : {F : Type 0} (key number : F → ℕ) (was : List F) (x : F) (now : List F) → IsOrdered key number was → ((f : F) → Contains was f → number f < number x)
+    → ((f : F) → Contains was f ⊎ (f ≡ x) → Contains now f) → length was + 1 ≤ length now
+with_one_more {F} key number was x now ordered newer kept =
+    no_fewer_facts key number was (x ∷ []) now ordered one (λ f g c d. subst (λ (y : F). number f < number y) (sym (only g d)) (newer f c)) (λ f c. kept f (elim c [ inl a ↦ inl a | inr b ↦ inr (only f b) ]))
+  where
+    one : Ascends key (x ∷ [])
+    one i j d l m = absurd (omega (arith, l, m))
+
+    only : (g : F) → Contains (x ∷ []) g → g ≡ x
+    only g c = elim (either x g [] c) [ inl same ↦ same | inr rest ↦ absurd (nowhere g rest) ]
+
+-- a new patch has no more facts than were unflushed
+pub flushed_fewer : {F : Type 0} (key number : F → ℕ) (unflushed new : List F) → IsFlushed key number unflushed new → length new ≤ length unflushed
+flushed_fewer key number unflushed new h = no_more_than (λ f g. key f < key g) (λ f less. omega (arith, less)) new unflushed h.ascends h.source

@@ -1,0 +1,5 @@
+use Rattle.array_memory.proofs.VisibleLemmas.{visible_segments_are}
+use Rattle.array_memory.proofs.visible.visible_segments.Goals as goal
+
+pub returns : goal.returns
+returns c = visible_segments_are

@@ -1,0 +1,11 @@
+pub mod Keeping
+pub mod Alone
+pub mod Free
+pub mod Storing
+pub mod Lost
+pub mod Tables
+pub mod Cleared
+pub mod Moved
+pub mod Stages
+pub mod Whole
+pub mod Holders

@@ -1,0 +1,3 @@
+pub mod Planned
+pub mod Storing
+pub mod Standing

@@ -1,0 +1,38 @@
+// The drives of patches.
+ghost use Rattle.std.specs.Prelude.{◌≡◌, ◌⊎◌, ◌↔◌, ℕ, ◌<◌, true, length, Some, slice_get};
+ghost use Rattle.pur_base.specs.declared.limits.TheConstants.{SEGMENT_SHARDS, SLOTS_MAX};
+ghost use Rattle.boot_codec.specs.declared.patch.Patch.{Patch as OnePatch};
+ghost use Rattle.array_spec.specs.Stored.{places_of_part};
+ghost use Rattle.segment_io.specs.Lost.{is_in};
+ghost use Rattle.segment_io.specs.Places.{place_of};
+ghost use Rattle.checkpoint_io.specs.Storing.{HoldDrivesOf, IsSlotOf};
+
+use boot_codec::Patches;
+use patch_io::drives_of;
+use pur_base::SLOTS_MAX;
+
+/// The slots that a set of drives tells of.
+const SLOTS: usize = SLOTS_MAX as usize;
+
+// Adds the drives of one set to another.
+fn join(drives: &mut [bool; SLOTS], more: &[bool; SLOTS])
+    ensures { (slot : ℕ) → (is_in drives.new slot ≡ true) ↔ ((is_in drives.old slot ≡ true) ⊎ (is_in more.now slot ≡ true)) }
+{
+    for slot in 0..SLOTS {
+        drives[slot] |= more[slot];
+    }
+}
+
+/// The set of the drives of all units of the patches, by slot.
+pub(crate) fn drives_of_patches(patches: &Patches) -> [bool; SLOTS]
+    requires { (index part shard : ℕ) (p : OnePatch) → slice_get patches.now index ≡ Some p → part < length p.segments → shard < SEGMENT_SHARDS → (place_of (places_of_part p part) shard).slot < SLOTS_MAX }
+    ensures each { HoldDrivesOf patches.now result }
+    ensures no_other { (slot : ℕ) → is_in result slot ≡ true → IsSlotOf patches.now slot }
+{
+    let mut drives = [false; SLOTS];
+    for index in 0..patches.len() {
+        let more = drives_of(&patches.at(index));
+        join(&mut drives, &more);
+    }
+    drives
+}

@@ -1,0 +1,26 @@
+use Rattle.std.proofs.Common.{refl, [], get_or, arith}
+use Rattle.boot_codec.specs.declared.patch.PatchSegment.{PatchSegment}
+use Rattle.free_space.specs.Marking.{patch_units}
+use Rattle.free_space.proofs.Taking.{next_has, next_taken, taking_none, all_taken}
+use Rattle.free_space.proofs.counting.take_patch.Goals as goal
+
+abbrev blank : PatchSegment
+blank = record { id = 0; places = [] }
+
+pub loop-segment-init : goal.loop-segment-init
+loop-segment-init c = taking_none c.args.free.now (patch_units c.args.segments.now) c.requires
+
+pub take_places-requires : goal.take_places-requires
+take_places-requires c =
+    let segments = c.args.segments.now in
+    let index = c.loop-segment.segment-index in
+    next_has (λ (s : PatchSegment). s.places) segments index (get_or segments index blank) blank c.args.free.now c.loop-segment.free (patch_units segments) (omega (arith, c.loop-segment-test.true)) refl c.loop-segment.invariant
+
+pub loop-segment-preserved : goal.loop-segment-preserved
+loop-segment-preserved c =
+    let segments = c.args.segments.now in
+    let index = c.loop-segment.segment-index in
+    next_taken (λ (s : PatchSegment). s.places) segments index (get_or segments index blank) blank c.args.free.now c.loop-segment.free c.take_places.new.free (patch_units segments) (omega (arith, c.loop-segment-test.true)) refl c.loop-segment.invariant c.take_places.ensures
+
+pub returns : goal.returns
+returns c = all_taken (λ (s : PatchSegment). s.places) c.args.segments.now c.loop-segment.segment-index c.args.free.now c.loop-segment.free (patch_units c.args.segments.now) (omega (arith, c.loop-segment-test.false)) c.loop-segment.invariant

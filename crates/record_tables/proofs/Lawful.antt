@@ -1,0 +1,106 @@
+-- What a record may say, it may say of the old patches and the new ones.
+use Rattle.std.proofs.Common.{◌≡◌, ℕ, zero, suc, ◌+◌, ◌^◌, ◌<◌, ◌≤◌, List, [], ◌∷◌, ◌++◌, length, refl, sym, ap, ◌∙◌, arith, subst, take, drop, sum_by}
+use Rattle.std.specs.List.{AllByRecursion, flat_map}
+use Rattle.std.proofs.lemmas.List.{take-append-drop}
+use Rattle.std.proofs.lemmas.List.Concat.{length-flat_map}
+use Rattle.std.proofs.lemmas.List.Sums.{sum_by-cons}
+use Rattle.pur_base.specs.Devices.{Geometry}
+use Rattle.pur_base.specs.declared.place.Place.{Place}
+use Rattle.boot_codec.specs.declared.patch.PatchSegment.{PatchSegment}
+use Rattle.boot_codec.specs.declared.patch.Patch.{Patch}
+use Rattle.boot_codec.specs.Record.{IsSegment, IsPatch, ByTagFrom, ArePatches, patch_segments}
+use Rattle.array_spec.specs.Sound.{ArePlaces}
+use Rattle.record_tables.specs.Patches.{segments_for, counts_of, segments_from, new_patch, added_from, added_patches, by_tag}
+use Rattle.record_tables.specs.Laws.{NextPatchesAreLawful}
+use Rattle.record_tables.proofs.Lists.{all_append, all_front, all_back, all_weaker}
+use Rattle.record_tables.proofs.Woven.{Woven, woven_all, woven_sum}
+use Rattle.record_tables.proofs.Tags.{HaveTagsBelow, woven_in_order, ordered}
+use Rattle.record_tables.proofs.Added.{the_patch, new_some, new_each, segments_long, taken_long, left_long, added_segments}
+
+-- ---- tags
+
+new_by_tag : (tag n id : ℕ) (units : List (List Place)) (rest : List Patch) → ByTagFrom (tag + 1) rest → ByTagFrom tag (new_patch tag n id units ++ rest)
+new_by_tag tag zero id units [] h = tt
+new_by_tag tag zero id units (p ∷ rest) h = let low = h.0 in (omega (arith, low), h.1)
+new_by_tag tag (suc n) id units rest h = subst (λ ps. ByTagFrom tag (ps ++ rest)) (sym (new_some tag (suc n) id units (omega arith))) (omega arith, lower rest h)
+  where
+    lower : (ps : List Patch) → ByTagFrom (tag + 1) ps → ByTagFrom tag ps
+    lower [] h = tt
+    lower (p ∷ ps) h = let low = h.0 in (omega (arith, low), h.1)
+
+pub added_by_tag : (tag : ℕ) (counts : List ℕ) (id : ℕ) (units : List (List Place)) → ByTagFrom tag (added_from tag counts id units)
+added_by_tag tag [] id units = tt
+added_by_tag tag (n ∷ counts) id units =
+    new_by_tag tag n id (take (segments_for n) units) (added_from (tag + 1) counts (id + segments_for n) (drop (segments_for n) units)) (added_by_tag (tag + 1) counts (id + segments_for n) (drop (segments_for n) units))
+
+pub added_below : (tag : ℕ) (counts : List ℕ) (id : ℕ) (units : List (List Place)) → HaveTagsBelow (tag + length counts) (added_from tag counts id units)
+added_below tag [] id units = tt
+added_below tag (n ∷ counts) id units =
+    all_append (λ p. p.tag < tag + suc (length counts)) (new_patch tag n id (take (segments_for n) units)) (added_from (tag + 1) counts (id + segments_for n) (drop (segments_for n) units))
+    (new_each (λ p. p.tag < tag + suc (length counts)) tag n id (take (segments_for n) units) (λ some. omega arith))
+    (all_weaker (λ p. p.tag < tag + 1 + length counts) (λ p. p.tag < tag + suc (length counts)) (λ p l. omega (arith, l)) (added_from (tag + 1) counts (id + segments_for n) (drop (segments_for n) units))
+    (added_below (tag + 1) counts (id + segments_for n) (drop (segments_for n) units)))
+
+-- lawful patches have a table's tag
+pub tags_below : (slots units : ℕ) (ps : List Patch) → AllByRecursion (IsPatch slots units) ps → HaveTagsBelow 6 ps
+tags_below slots units ps h = all_weaker (IsPatch slots units) (λ p. p.tag < 6) (λ p l. let t = l.tag in omega (arith, t)) ps h
+
+-- the old patches and the new ones are woven
+pub next_woven : (slots units : ℕ) (was : List Patch) (counts : List ℕ) (id : ℕ) (places : List (List Place)) → length counts ≡ 5 → AllByRecursion (IsPatch slots units) was → ByTagFrom 1 was
+    → Woven was (added_from 1 counts id places) (by_tag was (added_from 1 counts id places))
+next_woven slots units was counts id places five each up =
+    woven_in_order 1 5 was (added_from 1 counts id places) up (tags_below slots units was each) (added_by_tag 1 counts id places)
+    (subst (λ n. HaveTagsBelow n (added_from 1 counts id places)) (omega (arith, five)) (added_below 1 counts id places))
+
+-- ---- lawful patches
+
+new_segments : (slots units id : ℕ) (places : List (List Place)) → AllByRecursion (ArePlaces (record { slots = slots; units = units })) places → id + length places < 2 ^ 64
+    → AllByRecursion (IsSegment slots units) (segments_from id places)
+new_segments slots units id [] h l = tt
+new_segments slots units id (u ∷ places) h l =
+    (record { id = omega (arith, l); nine = h.0.nine; places = h.0.ascending }, new_segments slots units (id + 1) places h.1 (omega (arith, l)))
+
+added_lawful : (slots units tag : ℕ) (counts : List ℕ) (id : ℕ) (places : List (List Place)) → tag + length counts ≤ 6 → AllByRecursion (λ n. n < 2 ^ 32) counts → sum_by segments_for counts ≡ length places
+    → AllByRecursion (ArePlaces (record { slots = slots; units = units })) places → id + length places < 2 ^ 64 → AllByRecursion (IsPatch slots units) (added_from tag counts id places)
+added_lawful slots units tag [] id places t few e h l = tt
+added_lawful slots units tag (n ∷ counts) id places t few e h l =
+    let k : ℕ = segments_for n in
+    let long : length (take k places) ≡ k = taken_long n counts places e in
+    let left : sum_by segments_for counts ≡ length (drop k places) = left_long n counts places e in
+    let sum : sum_by segments_for (n ∷ counts) ≡ k + sum_by segments_for counts = sum_by-cons segments_for n counts in
+    let whole = subst (λ u. AllByRecursion (ArePlaces (record { slots = slots; units = units })) u) (sym (take-append-drop k places)) h in
+    all_append (IsPatch slots units) (new_patch tag n id (take k places)) (added_from (tag + 1) counts (id + k) (drop k places))
+    (new_each (IsPatch slots units) tag n id (take k places) (λ some. record {
+      tag = omega (arith, t);
+      facts = (some, few.0);
+      room = segments_long id (take k places) ∙ long;
+      segments = new_segments slots units id (take k places) (all_front (ArePlaces (record { slots = slots; units = units })) (take k places) (drop k places) whole) (omega (arith, l, long, e, sum));
+    }))
+    (added_lawful slots units (tag + 1) counts (id + k) (drop k places) (omega (arith, t)) few.1 left (all_back (ArePlaces (record { slots = slots; units = units })) (take k places) (drop k places) whole)
+    (omega (arith, l, left, e, sum)))
+
+-- ---- how many
+
+added_room : (tag : ℕ) (counts : List ℕ) (id : ℕ) (places : List (List Place)) → sum_by segments_for counts ≡ length places → patch_segments (added_from tag counts id places) ≡ length places
+added_room tag counts id places e =
+    sym (length-flat_map (λ (p : Patch). p.segments) (added_from tag counts id places)) ∙ ap length (added_segments tag counts id places e) ∙ segments_long id places
+
+-- each has a segment
+fewer : (slots units : ℕ) (ps : List Patch) → AllByRecursion (IsPatch slots units) ps → length ps ≤ patch_segments ps
+fewer slots units [] h = omega arith
+fewer slots units (p ∷ ps) h =
+    let rest = fewer slots units ps h.1 in
+    let room = h.0.room in
+    let some = h.0.facts.0 in
+    omega (arith, rest, room, some, sum_by-cons (λ (q : Patch). length q.segments) p ps)
+
+pub next_patches_are_lawful : NextPatchesAreLawful
+next_patches_are_lawful slots units was counts first places lawful fit room each ids few =
+    let new : List Patch = added_patches counts first places in
+    let woven : Woven was new (by_tag was new) = next_woven slots units was (counts_of counts) first places refl lawful.each lawful.by_tag in
+    let all : AllByRecursion (IsPatch slots units) (by_tag was new) =
+    woven_all (IsPatch slots units) was new (by_tag was new) woven lawful.each (added_lawful slots units 1 (counts_of counts) first places (omega arith) fit room each (omega (arith, ids))) in
+    let sum : patch_segments (by_tag was new) ≡ patch_segments was + length places =
+    woven_sum (λ p. length p.segments) was new (by_tag was new) woven ∙ ap (λ n. patch_segments was + n) (added_room 1 (counts_of counts) first places room) in
+    let short = fewer slots units (by_tag was new) all in
+    (record { count = omega (arith, short, sum, few); each = all; by_tag = ordered 1 5 was new; room = omega (arith, sum, few) }, sum)

@@ -1,0 +1,10 @@
+pub mod Lists
+pub mod Woven
+pub mod Tags
+pub mod Added
+pub mod Lawful
+pub mod Named
+pub mod Room
+pub mod Taking
+pub mod Visible
+pub mod Sound

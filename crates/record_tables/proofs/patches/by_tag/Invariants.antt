@@ -1,0 +1,7 @@
+use Rattle.std.proofs.Common.{◌≡◌, ◌-◌, ◌++◌}
+use Rattle.record_tables.specs.Patches.{by_tag}
+use Rattle.record_tables.proofs.Tags.{in_order}
+use Rattle.record_tables.proofs.patches.by_tag.Given as goal
+
+abbrev pub invariant-loop-tag : goal.invariant-loop-tag
+invariant-loop-tag l = l.all ++ in_order l.tag (6 - l.tag) l.was l.added ≡ by_tag l.was l.added

@@ -1,0 +1,6 @@
+use Rattle.std.proofs.Common.{◌≡◌, ◌++◌, take}
+use Rattle.record_tables.specs.Patches.{of_tag}
+use Rattle.record_tables.proofs.patches.push_of_tag.Given as goal
+
+abbrev pub invariant-loop-index : goal.invariant-loop-index
+invariant-loop-index l = l.patches ≡ l.initial.patches ++ of_tag l.tag (take l.index l.from)

@@ -1,0 +1,22 @@
+use Rattle.std.proofs.Common.{rules, ◌≡◌, ◌↔◌, List, Bool, length, subst}
+use Rattle.boot_region.specs.Members.{IsMember}
+use Rattle.register.proofs.FlagLemmas.{same_flags}
+use Rattle.register.proofs.Left.{in_left}
+use Rattle.register.proofs.state.Register.lose.Goals as goal
+
+pub returns-then-eq-clause-left : goal.returns-then-eq-clause-left
+returns-then-eq-clause-left c i =
+    let all : length c.left_of-left.result ≡ 24 = search rules in
+    let all_before : length c.args.self.now.drives ≡ 24 = search rules in
+    let same : c.left_of-left.result ≡ c.args.self.now.drives = same_flags c.left_of-left.result c.args.self.now.drives c.if-eq.ensures in
+    subst (λ (l : List Bool). IsMember l i ↔ (IsMember c.args.self.now.drives i × ¬ (IsMember c.args.lost.now i))) same
+    (in_left c.args.self.now.drives c.args.lost.now c.left_of-left.result all all_before c.left_of-left.ensures i)
+
+pub returns-clause-left : goal.returns-clause-left
+returns-clause-left c i =
+    let all : length c.left_of-left.result ≡ 24 = search rules in
+    let all_before : length c.args.self.now.drives ≡ 24 = search rules in
+    in_left c.args.self.now.drives c.args.lost.now c.left_of-left.result all all_before c.left_of-left.ensures i
+
+pub returns-clause-kept : goal.returns-clause-kept
+returns-clause-kept c shelf is = record { lawful = is.lawful; named = λ i m. is.named i ((returns-clause-left c i).0 m).0 }
