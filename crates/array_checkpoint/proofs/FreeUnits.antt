@@ -1,14 +1,17 @@
 -- A checkpoint writes only units that the tables leave free.
-use Rattle.std.proofs.Common.{◌≡◌, ℕ, ◌+◌, ◌*◌, ◌/◌, ◌<◌, ◌≤◌, true, false, List, [], ◌∷◌, ◌++◌, length, sym, arith, inl, inr, subst, Contains}
+use Rattle.std.proofs.Common.{◌≡◌, ℕ, ◌+◌, ◌*◌, ◌/◌, ◌<◌, ◌≤◌, true, false, List, [], ◌∷◌, ◌++◌, length, sym, ap, arith, inl, inr, subst, Contains}
 use Rattle.std.specs.Prelude.{Bool, slice_index_or}
 use Rattle.std.specs.List.{AllByRecursion}
-use Rattle.pur_base.specs.Devices.{nvram}
+use Rattle.pur_base.specs.Devices.{drive, nvram}
 use Rattle.pur_base.specs.Facts.{Facts}
 use Rattle.pur_base.specs.declared.device.Device.{Device}
+use Rattle.pur_base.specs.declared.device.Device.TheVariants.{Drive}
+use Rattle.pur_base.specs.declared.device.DriveId.{DriveId}
 use Rattle.pur_base.specs.declared.place.Place.{Place}
 use Rattle.boot_codec.specs.Record.{AscendFrom}
+use Rattle.boot_codec.specs.declared.record.BootRecord.{BootRecord}
 use Rattle.segment_codec.specs.declared.position.TheConstants.{STRIPES}
-use Rattle.array_spec.specs.Counts.{IsFree}
+use Rattle.array_spec.specs.Counts.{IsFree, is_used}
 use Rattle.array_spec.specs.Stored.{all_facts, places_of_part}
 use Rattle.free_space.specs.Laws.{AreUnitsToTake}
 use Rattle.free_space.specs.Map.{is_member}
@@ -28,6 +31,8 @@ use Rattle.data_io.specs.Placing.{places_in}
 use Rattle.record_tables.specs.Patches.{added_patches, segments_of}
 use Rattle.checkpoint_io.specs.Storing.{OnCheckpoint, OthersStayOfCheckpoint}
 use Rattle.record_tables.specs.Units.{AreNewUnits}
+use Rattle.array_switch.proofs.Keeping.{both_not}
+use Rattle.array_checkpoint.proofs.Stays.{SparesUsed}
 use Rattle.array_checkpoint.proofs.UnitLists.{in_at, in_get}
 use Rattle.array_checkpoint.proofs.Units.{data_among}
 use Rattle.array_checkpoint.proofs.PatchUnits.{part_among}
@@ -40,32 +45,61 @@ slots_below slots units least (p ∷ places) h = (h.1.slot, slots_below slots un
 one_unit : (unit i : ℕ) → 65536 * unit + 4096 * 0 ≤ i → i < 65536 * unit + 4096 * 0 + 4096 * 16 → i / 65536 ≡ unit
 one_unit unit i low high = omega (arith, low, high)
 
--- the write units of new units are free, on drives on which the record is in force
-module _ (r : Register) (held : Content) (tables : Facts) (all : r.record.members.drives ≡ r.drives)
-    (free : (slot unit : ℕ) → IsFree r.record tables slot unit → IsFree r.record (all_facts held.patches) slot unit) where
-  unit_is_free : (places : List Place) → AreUnitsToTake r.record tables places → (device : Device) (i : ℕ) → OnUnits places 0 (STRIPES + 1) device i → OnFree r held device i
-  unit_is_free places h device i (shard, less, (same, range)) =
-      let p : Place = place_of places shard in
-      let c : Contains places p = in_at places shard _ (let nine = h.lawful.nine in omega (arith, nine, less)) in
-      let member : slice_index_or r.record.members.drives p.slot false ≡ true = of_each (λ q. is_member r.record q.slot ≡ true) places p h.members c in
-      let slot : p.slot < r.record.slots = of_each (λ q. q.slot < r.record.slots) places p (slots_below r.record.slots r.record.units 0 places h.lawful.ascending) c in
-      let own : i / 65536 ≡ p.unit = one_unit p.unit i range.0 range.1 in
-      subst (λ d. OnFree r held d i) (sym same) (
-        cut_in r.drives r.record.slots p.slot slot (subst (λ (flags : List Bool). slice_index_or flags p.slot false ≡ true) all member),
-        subst (λ u. IsFree r.record (all_facts held.patches) p.slot u) (sym own) (free p.slot p.unit (of_each (λ q. IsFree r.record tables q.slot q.unit) places p h.free c)),
-      )
+same_drive : (a b : DriveId) → Drive a ≡ Drive b → a ≡ b
+same_drive a b e = cc
 
--- a checkpoint writes only these
+-- a byte of a unit that the tables leave free, on a drive that the record names
+pub record IsFreeByte (boot : BootRecord) (tables : Facts) (device : Device) (i : ℕ) : Type 0 where
+  pub slot : ℕ
+  pub same : device ≡ drive slot
+  pub within : slot < boot.slots
+  pub named : is_member boot slot ≡ true
+  pub free : IsFree boot tables slot (i / 65536)
+
+-- such are the bytes of write units of new units
+free_byte : (boot : BootRecord) (tables : Facts) (places : List Place) → AreUnitsToTake boot tables places → (device : Device) (i : ℕ) → OnUnits places 0 (STRIPES + 1) device i → IsFreeByte boot tables device i
+free_byte boot tables places h device i (shard, less, (same, range)) =
+    let p : Place = place_of places shard in
+    let c : Contains places p = in_at places shard _ (let nine = h.lawful.nine in omega (arith, nine, less)) in
+    let own : i / 65536 ≡ p.unit = one_unit p.unit i range.0 range.1 in
+    record {
+      slot = p.slot;
+      same = same;
+      within = of_each (λ q. q.slot < boot.slots) places p (slots_below boot.slots boot.units 0 places h.lawful.ascending) c;
+      named = of_each (λ q. is_member boot q.slot ≡ true) places p h.members c;
+      free = subst (λ u. IsFree boot tables p.slot u) (sym own) (of_each (λ q. IsFree boot tables q.slot q.unit) places p h.free c);
+    }
+
+-- and so all that a checkpoint writes
+module _ (boot : BootRecord) (m : Memory) (p : Plan) (counts : Counts) (first : ℕ) (units : List (List Place)) (long : segments_of counts ≡ length units)
+    (new : AreNewUnits boot (facts m.tables) (units_of p ++ units)) where
+  only_free_bytes : (device : Device) (i : ℕ) → OnCheckpoint p.segments.items (added_patches counts first units) device i → IsFreeByte boot (facts m.tables) device i
+  only_free_bytes device i (inl (number, less, on)) =
+      free_byte boot (facts m.tables) (places_in p.segments.items number)
+      (of_each (AreUnitsToTake boot (facts m.tables)) (units_of p ++ units) (places_in p.segments.items number) new.each (data_among p units number less)) device i on
+  only_free_bytes device i (inr (index, q, at, (part, less, on))) =
+      free_byte boot (facts m.tables) (places_of_part q part)
+      (of_each (AreUnitsToTake boot (facts m.tables)) (units_of p ++ units) (places_of_part q part) new.each (part_among p counts first units long q part (in_get (added_patches counts first units) index q at) less)) device i on
+
+  -- no unit that a segment uses is written
+  pub spares_used : SparesUsed boot (facts m.tables) (OnCheckpoint p.segments.items (added_patches counts first units))
+  spares_used place used at own w =
+      let f = only_free_bytes (drive place.slot) at w in
+      let slot : f.slot ≡ place.slot = sym (ap (λ (d : DriveId). d.0) (same_drive (record { 0 = place.slot }) (record { 0 = f.slot }) f.same)) in
+      both_not (is_used boot (facts m.tables) place.slot place.unit) used
+      (subst (λ u. is_used boot (facts m.tables) place.slot u ≡ false) own (subst (λ s. is_used boot (facts m.tables) s (at / 65536) ≡ false) slot f.free.unused))
+
+-- a checkpoint writes only units that are free, on drives on which the record is in force
 pub only_free : (r : Register) (held : Content) (m : Memory) (p : Plan) (counts : Counts) (first : ℕ) (units : List (List Place)) → r.record.members.drives ≡ r.drives
     → ((slot unit : ℕ) → IsFree r.record (facts m.tables) slot unit → IsFree r.record (all_facts held.patches) slot unit)
     → segments_of counts ≡ length units → AreNewUnits r.record (facts m.tables) (units_of p ++ units)
     → (device : Device) (i : ℕ) → OnCheckpoint p.segments.items (added_patches counts first units) device i → OnFree r held device i
-only_free r held m p counts first units all free long new device i (inl (number, less, on)) =
-    unit_is_free r held (facts m.tables) all free (places_in p.segments.items number)
-    (of_each (AreUnitsToTake r.record (facts m.tables)) (units_of p ++ units) (places_in p.segments.items number) new.each (data_among p units number less)) device i on
-only_free r held m p counts first units all free long new device i (inr (index, q, at, (part, less, on))) =
-    unit_is_free r held (facts m.tables) all free (places_of_part q part)
-    (of_each (AreUnitsToTake r.record (facts m.tables)) (units_of p ++ units) (places_of_part q part) new.each (part_among p counts first units long q part (in_get (added_patches counts first units) index q at) less)) device i on
+only_free r held m p counts first units all free long new device i w =
+    let f = only_free_bytes r.record m p counts first units long new device i w in
+    subst (λ d. OnFree r held d i) (sym f.same) (
+      cut_in r.drives r.record.slots f.slot f.within (subst (λ (flags : List Bool). slice_index_or flags f.slot false ≡ true) all f.named),
+      free f.slot (i / 65536) f.free,
+    )
 
 -- no NVRAM device is called
 pub nvrams_stay : (p : Plan) (counts : Counts) (first : ℕ) (units : List (List Place)) (old new : Shelved) → OthersStayOfCheckpoint p.segments.items (added_patches counts first units) old new

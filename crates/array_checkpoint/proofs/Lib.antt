@@ -9,3 +9,11 @@ pub mod ShownUnits
 pub mod Holds
 pub mod Next
 pub mod PreparedLemmas
+pub mod Wrote
+pub mod Left
+pub mod NextRecord
+pub mod NextHolds
+pub mod After
+pub mod Flushed
+pub mod Behind
+pub mod Joined

@@ -71,7 +71,7 @@ added_are_lawful slots units counts first places fit long lawful ids few =
     woven_second (IsPatch slots units) [] (added_patches counts first places) (by_tag [] (added_patches counts first places)) (next_woven slots units [] (counts_of counts) first places refl tt tt) all
 
 -- units that the next record may name
-lawful_places : (boot : BootRecord) (m : Memory) (p : Plan) (units : List (List Place)) → AreNewUnits boot (facts m.tables) (units_of p ++ units) → AllByRecursion (sound.ArePlaces (shelf_of boot)) units
+pub lawful_places : (boot : BootRecord) (m : Memory) (p : Plan) (units : List (List Place)) → AreNewUnits boot (facts m.tables) (units_of p ++ units) → AllByRecursion (sound.ArePlaces (shelf_of boot)) units
 lawful_places boot m p units new = all_weaker (AreUnitsToTake boot (facts m.tables)) (sound.ArePlaces (shelf_of boot)) (λ u t. t.lawful) units (all_back (AreUnitsToTake boot (facts m.tables)) (units_of p) units new.each)
 
 -- the facts of a patch are lawful, and their keys ascend

@@ -53,9 +53,12 @@ none_of false b e = (refl, e)
 below : (n : ℕ) → is_used_up n ≡ false → n < 2 ^ 48 - 2 ^ 24
 below n e = leb-false (2 ^ 48 - 2 ^ 24) n e
 
--- the numbers of which a checkpoint gives some
+-- the numbers that an array counts and gives
 pub record AreLow (a : Array) : Type 0 where
+  pub generation : a.register.record.generation < 2 ^ 48 - 2 ^ 24
   pub flushed : a.register.record.flushed < 2 ^ 48 - 2 ^ 24
+  pub object : a.memory.memory.next.object < 2 ^ 48 - 2 ^ 24
+  pub medium : a.memory.memory.next.medium < 2 ^ 48 - 2 ^ 24
   pub segment : a.memory.memory.next.segment < 2 ^ 48 - 2 ^ 24
   pub patch_segment : a.memory.memory.next.patch_segment < 2 ^ 48 - 2 ^ 24
   pub sequence : a.memory.memory.next.sequence < 2 ^ 48 - 2 ^ 24
@@ -69,7 +72,16 @@ are_low a e =
     let five = none_of (is_used_up n.object || is_used_up n.medium || is_used_up n.segment || is_used_up n.patch_segment) (is_used_up n.sequence) all.1 in
     let four = none_of (is_used_up n.object || is_used_up n.medium || is_used_up n.segment) (is_used_up n.patch_segment) five.0 in
     let three = none_of (is_used_up n.object || is_used_up n.medium) (is_used_up n.segment) four.0 in
-    record { flushed = below r.flushed one.1; segment = below n.segment three.1; patch_segment = below n.patch_segment four.1; sequence = below n.sequence five.1 }
+    let two = none_of (is_used_up n.object) (is_used_up n.medium) three.0 in
+    record {
+      generation = below r.generation one.0;
+      flushed = below r.flushed one.1;
+      object = below n.object two.0;
+      medium = below n.medium two.1;
+      segment = below n.segment three.1;
+      patch_segment = below n.patch_segment four.1;
+      sequence = below n.sequence five.1;
+    }
 
 pub left_for_six : (a : Array) → is_spent a ≡ false → AreLeftFor a.memory.memory.next 6
 left_for_six a e = let l = are_low a e in let s = l.segment in let q = l.sequence in (omega (arith, s), omega (arith, q))
@@ -125,7 +137,7 @@ room_then was now taken more many left few h is = let w = some_groups was in let
 -- ---- the array's
 
 module _ (shelf : Geometry) (a : Array) (is : IsArrayOf shelf a) where
-  same_shelf : shelf_of a.register.record ≡ shelf
+  pub same_shelf : shelf_of a.register.record ≡ shelf
   same_shelf = λ k. record { slots = is.of_shelf.lawful.slots k; units = is.of_shelf.lawful.units k }
 
   pub data_segments : (ds : List SegmentFact) → segments (facts a.memory.memory.tables) a.memory.memory.next.segment ≡ ds → AreDataSegments a.register.record ds

@@ -1,2 +1,3 @@
 pub mod Prepared
 pub mod Room
+pub mod Made

@@ -1,10 +1,9 @@
 -- What a checkpoint writes and stores, once all memory is taken for it.
-use Rattle.std.specs.Prelude.{◌≡◌, ◌+◌, ◌≤◌, ◌++◌, ℕ, List, length}
+use Rattle.std.specs.Prelude.{◌≡◌, ◌+◌, ◌≤◌, ◌++◌, List, length}
 use Rattle.pur_base.specs.declared.place.Place.{Place}
-use Rattle.boot_codec.specs.declared.record.NextNumbers.{NextNumbers}
 use Rattle.memory_spec.specs.Tables.{facts}
 use Rattle.array_memory.specs.declared.plan.Counts.{Counts}
-use Rattle.array_memory.specs.Plan.{with_patch_rooms, AreCounts, IsPlanOf, units_of}
+use Rattle.array_memory.specs.Plan.{next_past, units_of, with_patch_rooms, AreCounts, IsPlanOf}
 use Rattle.record_tables.specs.Patches.{added_patches, by_tag, segments_of, FitRecord}
 use Rattle.record_tables.specs.Units.{AreNewUnits}
 use Rattle.record_tables.specs.Laws.{HaveFacts}
@@ -17,10 +16,6 @@ pub record IsLike (was now : Array) : Type 0 where
   pub register : now.register ≡ was.register
   pub log : now.log ≡ was.log
   pub memory : now.memory ≡ with_patch_rooms was.memory now.memory
-
--- the next numbers, where so many data segments are made, and so many segments of patches
-abbrev pub next_past : NextNumbers → ℕ → ℕ → NextNumbers
-next_past next segments patches = record next { segment = next.segment + segments; sequence = next.sequence + segments; patch_segment = next.patch_segment + patches }
 
 -- The plan is one of the array's memory. Its segments and those of its new patches stand on free units, and the tables name them behind those of the record.
 pub record IsPreparedFor (a : Array) (p : Prepared) : Type 0 where
@@ -36,7 +31,7 @@ pub record IsPreparedFor (a : Array) (p : Prepared) : Type 0 where
   pub added : p.added ≡ added_patches counts a.memory.memory.next.patch_segment units
   pub patches : p.tables.patches ≡ by_tag a.register.record.patches p.added
   pub next : p.tables.next ≡ p.plan.next
-  pub next_is : p.plan.next ≡ next_past a.memory.memory.next (length p.plan.segments.items) (length units)
+  pub next_is : p.plan.next ≡ record (next_past a.memory.memory.next (length p.plan.segments.items)) { patch_segment = a.memory.memory.next.patch_segment + length units }
   pub flushed : p.tables.flushed ≡ a.register.record.flushed + a.log.count
   pub few_data : length p.plan.segments.items ≤ DATA_SEGMENTS
   pub few_patches : length units ≤ NEW_PATCHES

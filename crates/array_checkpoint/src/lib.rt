@@ -1,11 +1,16 @@
-//! What a checkpoint of an open array writes is planned, and all memory is taken for it, before anything is written.
-//! The segments of staged sectors and of new patches stand on units that the tables leave free, and the tables of the next record name them.
+//! A checkpoint brings what an open array has staged and unflushed to the drives, and clears its log.
+//! All of it is planned, and all memory taken for it, before anything is written. The segments of staged sectors and of new patches stand on units that the tables leave free,
+//! and the tables of the next record name them.
 #![tactic(auto)]
 
+mod ending;
 mod limits;
+mod making;
 mod preparing;
 mod room;
+mod writing;
 
-pub use limits::{CHECKPOINT_GROUPS, DATA_SEGMENTS, NEW_PATCHES};
+pub use limits::{CHECKPOINT_GROUPS, DATA_SEGMENTS, NEW_PATCHES, SEGMENTS_END};
+pub use making::{CheckpointFault, checkpoint};
 pub use preparing::{Prepared, prepare};
-pub use room::Room;
+pub use room::{Room, RoomFault, check_room};

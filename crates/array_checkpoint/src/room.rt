@@ -1,14 +1,19 @@
 // What is left for more commands, beside slots of the log.
-ghost use Rattle.std.specs.Prelude.{◌≡◌, ◌≤◌};
+ghost use Rattle.std.specs.Prelude.{◌≡◌, ◌≤◌, OnOk, IfErr};
 ghost use Rattle.pur_base.specs.Devices.{Geometry};
 ghost use Rattle.boot_codec.specs.Record.{patch_segments};
 ghost use Rattle.boot_codec.specs.declared.limits.TheConstants.{PATCH_SEGMENTS};
-ghost use Rattle.array_state.specs.Ready.{IsArrayOf};
-ghost use Rattle.array_checkpoint.specs.Room.{IsRoomOf};
+ghost use Rattle.memory_spec.specs.Numbers.{are_used_up, is_used_up};
+ghost use Rattle.array_state.specs.Ready.{IsArrayOf, is_spent};
+ghost use Rattle.array_checkpoint.specs.Room.{IsRoomFault, IsRoomOf, MayAdd};
 
 use array_state::Array;
-use boot_codec::Patches;
+use boot_codec::{NUMBER_LIMIT, NextNumbers, Patches};
 use free_space::groups_left;
+use session_spec::{ADDING_GROUPS, LIMITED_SEGMENTS};
+
+/// From this number on no command is taken, so that room is left for the records of later takeovers and for work in the background.
+const NUMBER_END: u64 = NUMBER_LIMIT - 0x100_0000;
 
 /// What an array's record and its tables leave. It changes with the record alone.
 #[derive(Clone, Copy, Debug, PartialEq, Eq)]
@@ -17,6 +22,17 @@ pub struct Room {
     pub patch_segments: usize,
     /// For how many more segments the members have free units.
     pub groups: u32,
+}
+
+/// Why no command is added.
+#[derive(Clone, Copy, Debug, PartialEq, Eq, Drop)]
+pub enum RoomFault {
+    /// The patches of the record have 480 segments or more.
+    Limited,
+    /// A generation, a number of commands, an id or a sequence number is 2^48 - 2^24 or higher.
+    Spent,
+    /// There are free units for fewer than 24 segments.
+    Space,
 }
 
 /// How many segments the patches have.
@@ -44,4 +60,48 @@ impl Room {
             groups: groups_left(record, array.memory.segments()),
         }
     }
+}
+
+/// Whether too few numbers are left from there on.
+fn is_used_up(n: u64) -> bool
+    ensures { result ≡ is_used_up n }
+{
+    NUMBER_END <= n
+}
+
+/// Whether too few ids or sequence numbers are left.
+fn are_used_up(next: &NextNumbers) -> bool
+    ensures { result ≡ are_used_up next.now }
+{
+    is_used_up(next.object)
+        || is_used_up(next.medium)
+        || is_used_up(next.segment)
+        || is_used_up(next.patch_segment)
+        || is_used_up(next.sequence)
+}
+
+/// Whether too few numbers are left for one more command.
+fn is_spent(array: &Array) -> bool
+    ensures { result ≡ is_spent array.now }
+{
+    let record = array.register.record();
+    is_used_up(record.generation) || is_used_up(record.flushed) || are_used_up(&array.memory.next())
+}
+
+/// Whether one more command may be added, but for a slot of the log, where so much room was counted.
+pub fn check_room(array: &Array, room: &Room) -> Result<(), RoomFault>
+    requires { IsRoomOf array.now room.now }
+    ensures ok { OnOk result (MayAdd array.now) }
+    ensures err { IfErr result (λ e. IsRoomFault array.now e) }
+{
+    if room.patch_segments >= LIMITED_SEGMENTS {
+        return Err(RoomFault::Limited);
+    }
+    if is_spent(array) {
+        return Err(RoomFault::Spent);
+    }
+    if room.groups < ADDING_GROUPS {
+        return Err(RoomFault::Space);
+    }
+    Ok(())
 }

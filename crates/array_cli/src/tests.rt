@@ -127,19 +127,19 @@ fn ends_a_cut_write(rt: HostRuntime) -> Result<(), Fail> {
 }
 
 #[test]
-fn fills_its_log(rt: HostRuntime) -> Result<(), Fail> {
+fn goes_past_its_log(rt: HostRuntime) -> Result<(), Fail> {
     let alloc = rt.alloc();
     let mut input = text_of(alloc, b"create a 1048576\nread a 1048575 1\n")?;
     let mut output = text_of(alloc, b"ok\ndata 1\n")?;
     output.extend_from_slice(&[0; 512])?;
-    for number in 1..64u32 {
+    for number in 1..65u32 {
         let line = format!(in alloc; "create n{number} 1\n")?;
         input.extend_from_slice(line.as_bytes())?;
         output.extend_from_slice(b"ok\n")?;
     }
-    input.extend_from_slice(b"create n64 1\nlist\nread n63 0 1\n")?;
-    output.extend_from_slice(b"no space\nnames 64\na volume 1048576\n")?;
-    for number in 1..64u32 {
+    input.extend_from_slice(b"list\nread n63 0 1\n")?;
+    output.extend_from_slice(b"names 65\na volume 1048576\n")?;
+    for number in 1..65u32 {
         let line = format!(in alloc; "n{number} volume 1\n")?;
         output.extend_from_slice(line.as_bytes())?;
     }

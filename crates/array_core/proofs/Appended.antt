@@ -1,5 +1,5 @@
 -- A command was appended: what a stop leaves at each moment, and what the devices hold then.
-use Rattle.std.proofs.Common.{◌≡◌, ◌≢◌, inl, inr, ℕ, zero, suc, ◌+◌, ◌-◌, ◌≤◌, ◌<◌, List, [], ◌∷◌, ◌++◌, length, take, refl, sym, ap, subst, arith, Bool, true, false, length-append}
+use Rattle.std.proofs.Common.{◌≡◌, inl, inr, ℕ, zero, suc, ◌+◌, ◌-◌, ◌≤◌, ◌<◌, List, [], ◌∷◌, ◌++◌, length, take, refl, sym, ap, subst, arith, Bool, true, false, length-append}
 use Rattle.std.specs.Prelude.{Some, Contains, slice_get, slice_index}
 use Rattle.std.specs.List.{AllByRecursion}
 use Rattle.std.proofs.lemmas.Bool.{cases_lt}
@@ -17,13 +17,12 @@ use Rattle.boot_codec.specs.Region.{BootSlot, body_in, generation_in, names, oth
 use Rattle.log_codec.specs.Log.{HasSpelling, ShowsIn}
 use Rattle.array_spec.specs.Standing.{Stands, MayBeGiven}
 use Rattle.array_spec.proofs.Settling.{twice_other}
-use Rattle.array_spec.proofs.Standings.{more_may_go_missing, given_with_fewer}
 use Rattle.array_spec.proofs.UnflushedRead.{one_left}
 use Rattle.array_spec.proofs.Votes.{sound_before}
 use Rattle.world.specs.Losing.{geometry_of, has_risen, losing}
 use Rattle.world.specs.Shelf.{Shelved, Stop, Disk, IsShelf, Continues, MayStop, MayLeave, LeavesOnly}
 use Rattle.world.specs.Writes.{MayLeaveBut, LeavesBut, WritesOnly}
-use Rattle.world.proofs.Moments.{started, then_run, weaker}
+use Rattle.world.proofs.Moments.{then_run, weaker}
 use Rattle.boot_region.specs.Members.{IsMember}
 use Rattle.boot_region.specs.Storing.{IsInForceOn, IsOlder, StandsBut, AccountsFor}
 use Rattle.boot_region.proofs.Accounts.{losing_within}
@@ -35,7 +34,7 @@ use Rattle.nvram_log.specs.Members as nv
 use Rattle.nvram_log.proofs.Lists.{get_either}
 use Rattle.register.specs.declared.state.Register.{Register}
 use Rattle.register.specs.Registers.{OnSlots, drives_of, own_slot, next_slot, named_sound}
-use Rattle.register.specs.Standing.{Content, StandsInLog, MayStore, IsOpen, IsNextOf, GivesOldOrNext, array_of}
+use Rattle.register.specs.Standing.{Content, StandsInLog, MayStore, IsOpen, IsNextOf, GivesOldOrNext}
 use Rattle.register.proofs.Shows.{holds_shows}
 use Rattle.open_array.specs.Logging.{LeadTo, StandsWhateverFails, WritesLog}
 use Rattle.open_array.proofs.Between as between
@@ -81,41 +80,6 @@ both_leave p q = record {
     ]
   ];
 }
-
--- what stands for some arrays stands for them and more
-widen : (shelf : Geometry) (image : Image) (missing : Conditions) (arrays others : List Array) → ((x : Array) → Contains arrays x → Contains others x) → others ≢ []
-    → Stands shelf image missing arrays → Stands shelf image missing others
-widen shelf image missing arrays others more some s = record {
-  bearable = s.bearable;
-  some = some;
-  gives = s.gives;
-  reads = λ slot boot g.
-      let r = s.reads slot boot g in
-      record {
-        base = r.base;
-        each = λ then view v.
-            let b = r.each then view v in
-            record {
-              in_force = b.in_force;
-              all_hold = b.all_hold;
-              holds = b.holds;
-              leads = record {
-                log = b.leads.log;
-                log_stands = b.leads.log_stands;
-                devices_agree = b.leads.devices_agree;
-                least = b.leads.least;
-                least_stands = b.leads.least_stands;
-                enough = b.leads.enough;
-                fronts = λ n low high. more (after_all r.base (take n b.leads.log)) (b.leads.fronts n low high);
-              };
-            };
-      };
-  agree = λ slot slot2 boot boot2 g g2. s.agree slot slot2 boot boot2 g g2;
-}
-
-first_too : (a b x : Array) → Contains (a ∷ []) x → Contains (a ∷ b ∷ []) x
-first_too a b x (zero, lt, e) = (zero, omega arith, e)
-first_too a b x (suc k, lt, e) = absurd (omega (arith, lt))
 
 -- the record has flushed as much, and names no device that the other one doesn't name
 pub record IsAlike (boot other : BootRecord) : Type 0 where
@@ -168,32 +132,6 @@ kept : (a : Shelved) (boot : BootRecord) (arrays : List Array) (stop : Stop) →
 kept a boot arrays stop bytes here now agrees borne =
     let failed : Device → Bool = λ d. has_risen (a.disk d).write_faults (stop.write_faults d) in
     agreed_standing boot now agrees failed (geometry_of a) stop.image bytes arrays borne (here (named_bears boot now agrees failed (geometry_of a) borne))
-
--- while nothing is done
-module _ (a : Shelved) (r : Register) (members : List Bool) (held : Content) (o : IsOpen a r members held) (in_force : AllByRecursion (λ c. is_in_force c.request ≡ true) held.log) where
-  held_now : (stop : Stop) → MayStop a stop → (n i : ℕ) (c : Command) → n < 2 → nv.IsMember members n → ShowsIn (stop.image (nvram n)) r.record.flushed i c → slice_get held.log i ≡ Some c
-  held_now stop may n i c lt m shows =
-      let bytes : stop.image (nvram n) ≡ (a.disk (nvram n)).bytes = as_read (a.disk (nvram n)) (stop.image (nvram n)) (o.logged.holds.clean n lt m) (may.device (nvram n)) in
-      (o.logged.holds.log n lt m).between.no_other i c (subst (λ (b : List ℕ). ShowsIn b r.record.flushed i c) bytes shows)
-
-  -- though devices have gone missing
-  pub open_stands : (stop : Stop) → MayStop a stop → (failed : Device → Bool) → IsBearable (geometry_of a) (losing failed (named_sound r.record))
-      → IsStanding (geometry_of a) stop.image (losing failed (named_sound r.record)) (array_of held ∷ [])
-  open_stands stop may failed borne =
-      let within : IsWithin (named_sound r.record) (losing failed (named_sound r.record)) = losing_within failed (named_sound r.record) in
-      can_go_on a r members held held.log o in_force stop.image failed (held_now stop may)
-      (λ slot boot g. same_alike r.record boot (o.alone stop slot boot may (given_with_fewer within g)).1)
-      (array_of held ∷ [])
-      (more_may_go_missing (geometry_of a) stop.image (named_sound r.record) (losing failed (named_sound r.record)) (array_of held ∷ []) within borne (o.stands stop may))
-
-  pub nothing_done : (c : Command) → IsShelf a → LeavesOnly a a (IsKeptAt a r.record (without_or_with held c))
-  nothing_done c is = started a (IsKeptAt a r.record (without_or_with held c)) is (λ stop may. kept a r.record (without_or_with held c) stop (λ d. (may.device d).is_byte) (λ borne.
-      let now = open_stands stop may (λ d. has_risen (a.disk d).write_faults (stop.write_faults d)) borne in
-      record {
-        stands = widen (geometry_of a) stop.image (lost_by a stop (named_sound r.record)) (array_of held ∷ []) (without_or_with held c) (first_too (array_of held) (array_of (logged held c))) (λ e. cc e) now.stands;
-        left_out = now.left_out;
-        read = now.read;
-      }))
 
 -- an NVRAM device holds the log
 pub some_member : {a : Shelved} (r : Register) (members : List Bool) {held : Content} → IsOpen a r members held → nv.IsSome members

@@ -1,7 +1,8 @@
 -- Devices that go missing as they lose writes.
 use Rattle.std.proofs.Common.{◌≡◌, ◌⊎◌, inl, inr, ℕ, ◌≤◌, Bool, true, false, List, [], ◌∷◌, refl, sym, ◌∙◌, ap, subst, arith, cond}
-use Rattle.std.specs.Prelude.{count_by}
-use Rattle.std.proofs.lemmas.Bool.{cases_lt}
+use Rattle.std.specs.Prelude.{◌||◌, count_by}
+use Rattle.std.proofs.lemmas.Bool.{cases_lt, or_right}
+use Rattle.std.proofs.lemmas.Bool.Decides.{nat_tests}
 use Rattle.pur_base.specs.Devices.{Geometry, Condition, Conditions, Sound, Missing, LeftOut, is_missing, MayBecome, IsWithin, IsBearable, missing_drives, missing_nvrams, slots_of, nvrams, drive, nvram}
 use Rattle.array_spec.proofs.Votes.{counted}
 use Rattle.world.specs.Shelf.{Shelved, Stop, Continues, IsCountedBy}
@@ -39,6 +40,31 @@ pub by_stop : (old mid : Shelved) (stop : Stop) (missing : Conditions) → IsCou
 by_stop old mid stop missing counts d =
     more_fail (has_risen (old.disk d).write_faults (mid.disk d).write_faults) (has_risen (old.disk d).write_faults (stop.write_faults d)) (missing d)
     (λ none. not_risen_before (old.disk d).write_faults (mid.disk d).write_faults (stop.write_faults d) (counts.write_faults d) none)
+
+-- ---- one moment after another
+
+-- a count that rose rose before a moment in between or after it
+pub risen_or : (a b c : ℕ) → a ≤ b → b ≤ c → has_risen a c ≡ has_risen a b || has_risen b c
+risen_or a b c first next = grind (arith, nat_tests)
+
+pub risen_more : (a b c : ℕ) → a ≤ b → b ≤ c → has_risen b c ≡ true → has_risen a c ≡ true
+risen_more a b c first next rose = risen_or a b c first next ∙ or_right (has_risen a b) (has_risen b c) rose
+
+missing_or : (c : Condition) (p q : Bool) → missing_if q (missing_if p c) ≡ missing_if (p || q) c
+missing_or Sound true q = refl
+missing_or Sound false q = refl
+missing_or Missing p q = refl
+missing_or LeftOut p q = refl
+
+-- what was lost by then and what was lost after it is all that was lost
+twice_at : (c : Condition) (x y z : ℕ) → x ≤ y → y ≤ z → missing_if (has_risen y z) (missing_if (has_risen x y) c) ≡ missing_if (has_risen x z) c
+twice_at c x y z first next = missing_or c (has_risen x y) (has_risen y z) ∙ ap (λ (b : Bool). missing_if b c) (sym (risen_or x y z first next))
+
+pub lost_twice : {old mid new : Shelved} (missing : Conditions) → Continues old mid → Continues mid new → lost_since mid new (lost_since old mid missing) ≡ lost_since old new missing
+lost_twice {old} {mid} {new} missing on after = λ k d. twice_at (missing d) (old.disk d).write_faults (mid.disk d).write_faults (new.disk d).write_faults (on.write_faults d) (after.write_faults d) k
+
+pub lost_twice_by : {old mid : Shelved} {stop : Stop} (missing : Conditions) → Continues old mid → IsCountedBy mid stop → lost_by mid stop (lost_since old mid missing) ≡ lost_by old stop missing
+lost_twice_by {old} {mid} {stop} missing on counts = λ k d. twice_at (missing d) (old.disk d).write_faults (mid.disk d).write_faults (stop.write_faults d) (on.write_faults d) (counts.write_faults d) k
 
 -- ---- what is borne
 

@@ -110,7 +110,7 @@ lost_log old new was now dropped none (suc zero) lt mem = elim (dropped 1 lt mem
 lost_log old new was now dropped none (suc (suc n)) lt mem = absurd (omega (arith, lt))
 
 -- where no record was stored, more than two drives aren't left
-pub lost_drives : (old mid new : Shelved) (was now : Register) → ((i : ℕ) → mid.disk (drive i) ≡ old.disk (drive i)) → IsRegisterOf (geometry_of mid) was → was.record.generation < 2 ^ 48 - 2 ^ 24
+pub lost_drives : (old mid new : Shelved) (was now : Register) → ((i : ℕ) → mid.disk (drive i) ≡ old.disk (drive i)) → IsRegisterOf (geometry_of mid) was → was.record.generation < 2 ^ 48 - 2 ^ 23
     → DroppedFailed mid new (drives_of was) (drives_of now) → IsLaterRecord was.record now.record → now.record.generation + set_count now.drives ≤ was.record.generation + set_count was.drives
     → (e : StoreFault) → IsFaultOf now e → LostDrives old new was
 lost_drives old mid new was now same is room dropped later lost (TooFew left) fault = record {

@@ -34,7 +34,7 @@ unfolding Keeps
 sector_keeps v w places index sector keeps (shards, stands, is) = (shards, keeps (stripe_of index) shards stands, is)
 
 -- of so many numbers each is a bad one, or has a flag, but not both
-few_bad : (bad : ℕ → Bool) (flags : List Bool) (a : ℕ) → ((i : ℕ) → IsMember flags i → bad (a + i) ≡ false) → count_by bad (range_with_len a (length flags)) + set_count flags ≤ length flags
+pub few_bad : (bad : ℕ → Bool) (flags : List Bool) (a : ℕ) → ((i : ℕ) → IsMember flags i → bad (a + i) ≡ false) → count_by bad (range_with_len a (length flags)) + set_count flags ≤ length flags
 few_bad bad [] a good = omega arith
 few_bad bad (f ∷ fs) a good =
     let rest : count_by bad (range_with_len (a + 1) (length fs)) + set_count fs ≤ length fs = few_bad bad fs (a + 1) (λ i m. subst (λ (k : ℕ). bad k ≡ false) (shifted i) (good (suc i) m)) in

@@ -1,11 +1,10 @@
 -- What performing a command does to the devices.
-use Rattle.std.specs.Prelude.{◌≡◌, ◌⊎◌, ℕ, ◌+◌, ◌<◌, Bool, true, false, List, [], ◌∷◌}
+use Rattle.std.specs.Prelude.{◌⊎◌, ℕ, ◌+◌, ◌-◌, ◌^◌, ◌<◌, Bool, List, [], ◌∷◌}
 use Rattle.pur_base.specs.Commands.{Command}
 use Rattle.pur_base.specs.Devices.{IsBearable, nvram, Conditions}
 use Rattle.pur_base.specs.Plain as plain
 use Rattle.boot_codec.specs.declared.record.BootRecord.{BootRecord}
 use Rattle.boot_codec.specs.Record.{set_count}
-use Rattle.log_codec.specs.declared.limits.TheConstants.{LOG_SLOTS}
 use Rattle.world.specs.Counts.{Rises}
 use Rattle.world.specs.Losing.{geometry_of}
 use Rattle.world.specs.Shelf.{Shelved, Stop}
@@ -15,10 +14,9 @@ use Rattle.register.specs.declared.state.Register.{Register}
 use Rattle.register.specs.Registers.{drives_of}
 use Rattle.register.specs.Standing.{Content, array_of}
 use Rattle.session_spec.specs.Entering.{IsStanding}
+use Rattle.array_memory.specs.Asked.{AreLeft}
 use Rattle.array_state.specs.declared.array.Array.{Array}
-use Rattle.array_state.specs.Ready.{logged, is_spent}
-use Rattle.array_core.specs.declared.performing.PerformFault.{PerformFault}
-use Rattle.array_core.specs.declared.performing.PerformFault.TheVariants as fault
+use Rattle.array_state.specs.Ready.{logged}
 use Rattle.array_core.specs.Holding.{AgreesWith}
 use Rattle.array_core.specs.Losing.{lost_by}
 
@@ -44,18 +42,7 @@ pub record LostDrives (old new : Shelved) (r : Register) : Type 0 where
 abbrev pub IsLost : Shelved → Shelved → Array → Type 0
 IsLost old new a = LostLog old new a.log.members ⊎ LostDrives old new a.register
 
--- no slot of the log is free
-abbrev pub IsFull : Array → Type 0
-IsFull a = a.log.count ≡ LOG_SLOTS
-
--- why there is no room for one more command
-abbrev pub IsRoomFault : Array → PerformFault → Type 0
-IsRoomFault a fault.Spent = is_spent a ≡ true
-IsRoomFault a fault.Space = (is_spent a ≡ false) × IsFull a
-IsRoomFault a fault.Device = ⊥
-
--- why a command wasn't performed; but for a device fault all stays as it was
-abbrev pub IsFaultOf : Shelved → Shelved → Array → Type 0 → PerformFault → Type 0
-IsFaultOf old new a stays fault.Spent = (is_spent a ≡ true) × stays
-IsFaultOf old new a stays fault.Space = (is_spent a ≡ false) × IsFull a × stays
-IsFaultOf old new a stays fault.Device = (is_spent a ≡ false) × (¬ (IsFull a)) × IsLost old new a
+-- numbers are left for one more command, and for the records that it may cost
+pub record HasNumbers (a : Array) : Type 0 where
+  pub generation : a.register.record.generation < 2 ^ 48 - 2 ^ 23
+  pub next : AreLeft a.memory.memory.next

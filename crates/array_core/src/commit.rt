@@ -34,7 +34,7 @@ pub(crate) fn commit<S: Shelf>(
     shelf: &mut S,
 ) -> Result<(), PerformFault>
     requires is_of { IsArrayOf (geometry_of (S.shelf shelf.old)) array.old }
-    requires not_spent { array.old.register.record.generation < 2 ^ 48 - 2 ^ 24 }
+    requires not_spent { array.old.register.record.generation < 2 ^ 48 - 2 ^ 23 }
     requires room { array.old.log.count < LOG_SLOTS }
     requires command { IsCommand request.now }
     requires written { length sectors.now ≡ data_count request.now }

@@ -1,5 +1,5 @@
 // A command is performed.
-ghost use Rattle.std.specs.Prelude.{◌≡◌, ◌<◌, ◌+◌, ◌++◌, ℕ, true, false, length, OnOk, OnErr, IfErr};
+ghost use Rattle.std.specs.Prelude.{◌≡◌, ◌<◌, ◌+◌, ◌++◌, ℕ, true, length, OnOk, OnErr};
 ghost use Rattle.pur_base.specs.Commands.{Accepts, Command, after};
 ghost use Rattle.pur_base.specs.Devices.{IsBearable};
 ghost use Rattle.pur_base.specs.Grammar.{is_in_force, data_count};
@@ -12,7 +12,7 @@ ghost use Rattle.world.specs.Shelf.{Continues, LeavesOnly, IsCountedBy};
 ghost use Rattle.register.specs.Registers.{named_sound};
 ghost use Rattle.register.specs.Standing.{Content};
 ghost use Rattle.memory_spec.specs.Memory.{Contents, IsSound, ReadsAs};
-ghost use Rattle.memory_spec.specs.Numbers.{are_used_up, is_used_up, next_after};
+ghost use Rattle.memory_spec.specs.Numbers.{next_after};
 ghost use Rattle.memory_spec.specs.Tables.{facts};
 ghost use Rattle.array_memory.specs.Asked.{staged_by, AreLeft, HasRoomLeft, IsAllowed, IsPrepared};
 ghost use Rattle.array_memory.specs.Kept.{HasSamePatches};
@@ -20,31 +20,22 @@ ghost use Rattle.array_memory.specs.Lawful.{IsLawful};
 ghost use Rattle.checkpoint_spec.specs.Whole.{AreLayered};
 ghost use Rattle.session_spec.specs.Faring.{MayRise};
 ghost use Rattle.array_state.specs.Drives.{SegmentsHold};
-ghost use Rattle.array_state.specs.Ready.{IsArrayOf, IsReady, is_spent, logged};
+ghost use Rattle.array_state.specs.Ready.{IsArrayOf, IsReady, logged};
 ghost use Rattle.array_core.specs.Holding.{DropsFailed, NoneJoins};
 ghost use Rattle.array_core.specs.Losing.{lost_since};
-ghost use Rattle.array_core.specs.Performing.{IsFull, IsRoomFault, IsFaultOf, IsKeptAt, without_or_with};
-ghost use Rattle.array_core.specs.declared.performing.PerformFault.TheVariants.{Device};
+ghost use Rattle.array_core.specs.Performing.{HasNumbers, IsKeptAt, IsLost, without_or_with};
 
 use crate::commit::commit;
 use array_memory::Memory;
 use array_state::Array;
-use boot_codec::{NUMBER_LIMIT, NextNumbers};
 use nvram_log::BothLost;
 use pur_base::{Request, Sector};
 use register::StoreFault;
 use world::Shelf;
 
-/// From this number on no command is taken, so that room is left for the records of later takeovers and for work in the background.
-const NUMBER_END: u64 = NUMBER_LIMIT - 0x100_0000;
-
 /// Why a command wasn't performed.
 #[derive(Clone, Copy, Debug, PartialEq, Eq, Drop)]
 pub enum PerformFault {
-    /// A generation, a number of commands, an id or a sequence number is 2^48 - 2^24 or higher.
-    Spent,
-    /// No slot of the log is free.
-    Space,
     /// More devices failed than are borne: the command is undecided, and the array is to halt.
     Device,
 }
@@ -69,46 +60,6 @@ impl From<StoreFault> for PerformFault {
     }
 }
 
-/// Whether too few numbers are left from there on.
-fn is_used_up(n: u64) -> bool
-    ensures { result ≡ is_used_up n }
-{
-    NUMBER_END <= n
-}
-
-/// Whether too few ids or sequence numbers are left.
-fn are_used_up(next: &NextNumbers) -> bool
-    ensures { result ≡ are_used_up next.now }
-{
-    is_used_up(next.object)
-        || is_used_up(next.medium)
-        || is_used_up(next.segment)
-        || is_used_up(next.patch_segment)
-        || is_used_up(next.sequence)
-}
-
-/// Whether too few numbers are left for one more command.
-fn is_spent(array: &Array) -> bool
-    ensures { result ≡ is_spent array.now }
-{
-    let record = array.register.record();
-    is_used_up(record.generation) || is_used_up(record.flushed) || are_used_up(&array.memory.next())
-}
-
-/// Whether there is room for one more command.
-fn check_room(array: &Array) -> Result<(), PerformFault>
-    ensures ok { OnOk result ((is_spent array.now ≡ false) × (array.now.log.count < LOG_SLOTS)) }
-    ensures err { IfErr result (λ e. IsRoomFault array.now e) }
-{
-    if is_spent(array) {
-        return Err(PerformFault::Spent);
-    }
-    if array.log.free_slots() == 0 {
-        return Err(PerformFault::Space);
-    }
-    Ok(())
-}
-
 /// Applies a request in memory, where there is room for it.
 fn apply(memory: &mut Memory, request: &Request, sectors: &[Sector])
     requires allowed { IsAllowed memory.old.objects request.now }
@@ -130,8 +81,8 @@ fn apply(memory: &mut Memory, request: &Request, sectors: &[Sector])
     memory.layered();
 }
 
-/// Does a logged request, which the array accepts: it is appended to the log on each member, where a member fails a record without it is stored, and then it is applied in memory.
-/// `Spent` and `Space` leave all as it was, with no device call. After `Device` the command is undecided, and memory is as it was. It takes no memory.
+/// Does a logged request, which the array accepts and for which a slot of the log is free: it is appended to the log on each member, where a member fails a record without it is stored,
+/// and then it is applied in memory. After `Device` the command is undecided, and memory is as it was. It takes no memory.
 pub fn perform<S: Shelf>(
     array: &mut Array,
     request: &Request,
@@ -139,6 +90,8 @@ pub fn perform<S: Shelf>(
     shelf: &mut S,
 ) -> Result<(), PerformFault>
     requires is_of { IsArrayOf (geometry_of (S.shelf shelf.old)) array.old }
+    requires numbers { HasNumbers array.old }
+    requires slot { array.old.log.count < LOG_SLOTS }
     requires in_force { is_in_force request.now ≡ true }
     requires command { IsCommand request.now }
     requires lawful { IsLawful request.now }
@@ -147,13 +100,13 @@ pub fn perform<S: Shelf>(
     ensures continues { Continues (S.shelf shelf.old) (S.shelf shelf.new) }
     ensures rest { S.shelf_rest shelf.old shelf.new }
     ensures is_of { OnOk result (IsArrayOf (geometry_of (S.shelf shelf.new)) array.new) }
-    ensures room { OnOk result ((is_spent array.old ≡ false) × (¬ (IsFull array.old))) }
-    ensures fault { IfErr result (λ e. IsFaultOf (S.shelf shelf.old) (S.shelf shelf.new) array.old ((array.new ≡ array.old) × (shelf.new ≡ shelf.old)) e) }
+    ensures lost { OnErr result (IsLost (S.shelf shelf.old) (S.shelf shelf.new) array.old) }
     // Memory reads as the array after the command then, whatever the segments hold; after a fault it is as it was.
     ensures applied { OnOk result ((contents : Contents) (a : plain.Array) → ReadsAs contents array.old.memory.memory a → Accepts a (record { request = request.now; sectors = sectors.now })
         → ReadsAs contents array.new.memory.memory (after a (record { request = request.now; sectors = sectors.now }))) }
     ensures unapplied { OnErr result (array.new.memory ≡ array.old.memory) }
     ensures next { OnOk result (array.new.memory.memory.next ≡ next_after array.old.memory.memory.next request.now) }
+    ensures patches { OnOk result (HasSamePatches array.old.memory.memory.tables array.new.memory.memory.tables) }
     ensures moments { (S.shelf shelf.old).honest → LeavesOnly (S.shelf shelf.old) (S.shelf shelf.new) (IsCountedBy (S.shelf shelf.old)) }
     ensures count { OnOk result (array.new.log.count ≡ array.old.log.count + 1) }
     // A record is stored only where a device lost a write, and so three more at most, since two drives of the shelf at most may be missing then.
@@ -169,10 +122,9 @@ pub fn perform<S: Shelf>(
     ensures any_moment { (S.shelf shelf.old).honest → (held : Content) → IsReady (S.shelf shelf.old) array.old held
         → LeavesOnly (S.shelf shelf.old) (S.shelf shelf.new) (IsKeptAt (S.shelf shelf.old) array.old.register.record (without_or_with held (record { request = request.now; sectors = sectors.now }))) }
     // Where no more is missing than is borne, no device fault is answered.
-    ensures borne { (S.shelf shelf.old).honest → IfErr result (λ e. e ≡ Device → (held : Content) → IsReady (S.shelf shelf.old) array.old held
+    ensures borne { (S.shelf shelf.old).honest → OnErr result ((held : Content) → IsReady (S.shelf shelf.old) array.old held
         → IsBearable (geometry_of (S.shelf shelf.old)) (lost_since (S.shelf shelf.old) (S.shelf shelf.new) (named_sound array.old.register.record)) → ⊥) }
 {
-    check_room(array)?;
     array.memory.kept();
     commit(array, request, sectors, shelf)?;
     apply(&mut array.memory, request, sectors);

@@ -1,10 +1,10 @@
 -- What the end of a read or of a command leaves of the engine.
-use Rattle.std.proofs.Common.{◌≡◌, ℕ, ◌≤◌, Bool, true, false, List, Option, Some, None, Result, Ok, Err, OnOk, IfErr, refl, sym, ap, subst, ◌∙◌, arith, ◌++◌, [], ◌∷◌, zero, suc}
+use Rattle.std.proofs.Common.{◌≡◌, ℕ, ◌≤◌, Bool, true, false, List, Some, None, Result, Ok, Err, OnOk, IfErr, refl, sym, ap, ◌∙◌, arith, ◌++◌}
 use Rattle.std.specs.Prelude.{length, take}
 use Rattle.std.specs.List.{AllByRecursion}
 use Rattle.std.proofs.lemmas.List.{length-take}
 use Rattle.std.proofs.Math.Seq.{take-append_seam}
-use Rattle.pur_base.specs.Devices.{Geometry, View}
+use Rattle.pur_base.specs.Devices.{View}
 use Rattle.pur_base.specs.Grammar.{Asked}
 use Rattle.pur_base.specs.Plain as plain
 use Rattle.pur_base.specs.Plain.{refusal, first_cause, read_causes, sectors_of, span}
@@ -25,15 +25,14 @@ use Rattle.session_spec.specs.Faring.{Point}
 use Rattle.array_state.specs.declared.array.Array.{Array}
 use Rattle.array_state.specs.Drives.{drives_view}
 use Rattle.array_state.specs.Ready.{IsArrayOf}
-use Rattle.array_core.specs.declared.performing.PerformFault.{PerformFault}
-use Rattle.array_core.specs.declared.performing.PerformFault.TheVariants as fault
-use Rattle.array_core.specs.Performing.{IsFaultOf}
-use Rattle.array_core.proofs.Losses.{same_geometry}
+use Rattle.array_checkpoint.specs.Prepared.{IsLike}
 use Rattle.array_engine.specs.declared.engine.Engine.{Engine}
+use Rattle.array_engine.specs.declared.appending.AppendFault.{AppendFault}
+use Rattle.array_engine.specs.declared.appending.AppendFault.TheVariants as fault
 use Rattle.array_engine.specs.Saying.{HasSectors}
-use Rattle.array_engine.specs.Engines.{IsAt, IsAnsweredAt, IsOf}
-use Rattle.array_engine.specs.Replying.{said_of, said_of_read, ends_lost}
-use Rattle.array_engine.proofs.Points.{refused_by_cause, was_read, was_lost}
+use Rattle.array_engine.specs.Engines.{IsAt, IsAnsweredAt}
+use Rattle.array_engine.specs.Replying.{said_of, said_of_read}
+use Rattle.array_engine.proofs.Points.{was_read, was_lost}
 use Rattle.array_engine.proofs.Meanwhile.{OnlyReads, read_keeps, read_keeps_segments}
 use Rattle.array_engine.proofs.Spans.{AreMissing, shows, loses_three}
 
@@ -42,11 +41,11 @@ use Rattle.array_engine.proofs.Spans.{AreMissing, shows, loses_three}
 -- what is known of a read that ended
 pub record WasRead (old new : Shelved) (a : Array) (name : List ℕ) (lba count : ℕ) (missing : List Bool) (sectors : List (List ℕ)) (ended : Result Unit ReadFault) : Type 0 where
   pub refused : IfErr ended (λ f. IfRefused f (λ why. OfArray a.memory.memory (λ array. first_cause (read_causes array name lba count) ≡ Some why)))
-  pub given : OnOk ended ((contents : Contents) (array : plain.Array) (view : View) → ReadsAs contents a.memory.memory array → ShowsDrives old missing view → ContentsStand contents view (facts a.memory.memory.tables)
+  pub given : old.honest → OnOk ended ((contents : Contents) (array : plain.Array) (view : View) → ReadsAs contents a.memory.memory array → ShowsDrives old missing view → ContentsStand contents view (facts a.memory.memory.tables)
       → sectors ≡ span lba count (sectors_of array name))
   pub lost : IfErr ended (λ f. IfLost f (LosesThree old new missing))
 
-module _ (told : Bool) (old new : Shelved) (e f : Engine) (is : f.array ≡ e.array) (halts : f.halted ≡ e.halted) (reads : OnlyReads old new) (is_old : IsShelf old) (is_new : IsShelf new) (honest : old.honest)
+module _ (told : Bool) (old new : Shelved) (e f : Engine) (like : IsLike e.array f.array) (halts : f.halted ≡ e.halted) (reads : OnlyReads old new) (is_old : IsShelf old) (is_new : IsShelf new) (honest : told ≡ true → old.honest)
     (from : Point) (at : IsAt told old e from) (awake : e.halted ≡ false) (name : List ℕ) (lba count : ℕ) (few : count ≤ REQUEST_SECTORS) (missing : List Bool) (is_of : IsArrayOf (geometry_of old) e.array) (are : AreMissing e.array.register missing)
     (filled : length f.buffers.sectors.items ≡ REQUEST_SECTORS) (whole : AllByRecursion (λ sector. length sector ≡ SECTOR_BYTES) (take count f.buffers.sectors.items))
     (accepted : OfArray e.array.memory.memory (λ array. refusal array (request.Read name lba count) ≡ None)) (asked : List (List ℕ)) where
@@ -57,11 +56,11 @@ module _ (told : Bool) (old new : Shelved) (e f : Engine) (is : f.array ≡ e.ar
   size = omega (arith, length-take count f.buffers.sectors.items, filled, few)
 
   pub read_answered : (ended : Result Unit ReadFault) → WasRead old new e.array name lba count missing (take count f.buffers.sectors.items) ended → IsAnsweredAt told old new e f (Asked (request.Read name lba count) asked) (said_of_read count ended) from
-  read_answered (Ok u) w = was_read told old new e f is halts (read_keeps_segments old new reads e.array) from at (read_keeps old new reads is_old is_new honest e.array) awake name lba count asked none
+  read_answered (Ok u) w = was_read told old new e f like halts (read_keeps_segments told old new reads honest f.array) from at (read_keeps old new reads is_old is_new f.array) awake name lba count asked none
       (take count f.buffers.sectors.items) refl size whole (omega (arith, few))
-      (λ t. ap Sectors (w.given (at.stands awake).contents from.array (drives_view old e.array.register) (at.stands awake).reads (shows old e.array.register missing is_of.of_shelf are) ((at.stands awake).hold t)))
+      (λ t. ap Sectors (w.given (honest t) (at.stands awake).contents from.array (drives_view old e.array.register) (at.stands awake).reads (shows old e.array.register missing is_of.of_shelf are) ((at.stands awake).hold t)))
   read_answered (Err (read.Refused why)) w = absurd (cc (none, w.refused (at.stands awake).contents from.array (at.stands awake).reads))
-  read_answered (Err read.Lost) w = was_lost told old new e f is halts (read_keeps_segments old new reads e.array) from at (read_keeps old new reads is_old is_new honest e.array) awake name lba count asked none
+  read_answered (Err read.Lost) w = was_lost told old new e f like halts (read_keeps_segments told old new reads honest f.array) from at (read_keeps old new reads is_old is_new f.array) awake name lba count asked none
       (loses_three old e.array.register missing is_of.of_shelf are new from e.array refl (at.stands awake).holders w.lost)
 
 -- the sectors are there
@@ -72,21 +71,13 @@ read_there sectors count filled few (Err read.Lost) = tt
 
 -- ---- a command
 
-pub command_there : (sectors : List (List ℕ)) (ended : Result Unit PerformFault) → HasSectors sectors (said_of ended)
+pub command_there : (sectors : List (List ℕ)) (ended : Result Unit AppendFault) → HasSectors sectors (said_of ended)
 command_there sectors (Ok u) = tt
+command_there sectors (Err fault.Limited) = tt
 command_there sectors (Err fault.Spent) = tt
 command_there sectors (Err fault.Space) = tt
+command_there sectors (Err fault.Memory) = tt
 command_there sectors (Err fault.Device) = tt
-
--- unless it's halted then, its array is one of the shelf
-pub command_is_of : (old new : Shelved) (e f : Engine) (stays : Type 0) (same : stays → (f.array ≡ e.array) × (new ≡ old)) → IsArrayOf (geometry_of old) e.array
-    → (ended : Result Unit PerformFault) → OnOk ended (IsArrayOf (geometry_of new) f.array) → IfErr ended (λ x. IsFaultOf old new e.array stays x) → f.halted ≡ ends_lost ended → IsOf (geometry_of new) f
-command_is_of old new e f stays same is (Ok u) now failed halted awake = now
-command_is_of old new e f stays same is (Err fault.Spent) now failed halted awake =
-    let s = same failed.1 in subst (λ (x : Shelved). IsArrayOf (geometry_of x) f.array) (sym s.1) (subst (λ (a : Array). IsArrayOf (geometry_of old) a) (sym s.0) is)
-command_is_of old new e f stays same is (Err fault.Space) now failed halted awake =
-    let s = same failed.2 in subst (λ (x : Shelved). IsArrayOf (geometry_of x) f.array) (sym s.1) (subst (λ (a : Array). IsArrayOf (geometry_of old) a) (sym s.0) is)
-command_is_of old new e f stays same is (Err fault.Device) now failed halted awake = absurd (cc (awake, halted))
 
 -- ---- the first places
 

@@ -1,6 +1,10 @@
 pub mod ReplyLemmas
 pub mod Unborne
+pub mod Cleared
+pub mod Appended
+pub mod Faults
 pub mod Points
+pub mod Commands
 pub mod Meanwhile
 pub mod Spans
 pub mod Requests

@@ -1,9 +1,7 @@
 -- Requests that were read are within the bounds that memory and the log ask for.
-use Rattle.std.proofs.Common.{◌≡◌, ℕ, List, true, arith}
-use Rattle.std.specs.Prelude.{length}
+use Rattle.std.proofs.Common.{◌≡◌, List, true, arith}
 use Rattle.pur_base.specs.Commands.{IsLogged}
 use Rattle.pur_base.specs.Grammar.{is_in_force}
-use Rattle.pur_base.specs.declared.limits.TheConstants.{OBJECT_SECTORS, REQUEST_SECTORS}
 use Rattle.pur_base.specs.declared.facts.ObjectFact.{ObjectFact}
 use Rattle.pur_base.specs.declared.request.Request.{Request}
 use Rattle.pur_base.specs.declared.request.Request.TheVariants as request

@@ -1,9 +1,8 @@
 -- Sectors of the array's segments: where they may be read, what is shown of them, and why they can't be had.
-use Rattle.std.proofs.Common.{◌≡◌, ◌≢◌, ◌⊎◌, inl, inr, ℕ, ◌<◌, ◌≤◌, List, Some, None, refl, sym, subst, arith, Bool, true, false, not}
-use Rattle.std.specs.Prelude.{Contains, if◌then◌else◌, slice_index_or, length}
+use Rattle.std.proofs.Common.{◌≡◌, inl, inr, ℕ, ◌<◌, ◌≤◌, List, Some, refl, subst, arith, Bool, true, false, not}
+use Rattle.std.specs.Prelude.{Contains}
 use Rattle.std.proofs.lemmas.Bool.{cases_Bool}
 use Rattle.pur_base.specs.declared.device.Device.{Device}
-use Rattle.pur_base.specs.declared.limits.TheConstants.{SEGMENT_SECTORS}
 use Rattle.pur_base.specs.declared.request.Table.TheVariants as table
 use Rattle.pur_base.specs.declared.facts.SegmentFact.{SegmentFact}
 use Rattle.pur_base.specs.declared.facts.AnyFact.TheVariants as any
@@ -19,12 +18,10 @@ use Rattle.world.specs.Losing.{geometry_of, has_risen}
 use Rattle.world.specs.Shelf.{Shelved}
 use Rattle.patch_io.proofs.Parts.{segment_places}
 use Rattle.segment_io.specs.Lost.{is_in}
-use Rattle.segment_io.specs.Stripes.{bytes_of}
 use Rattle.register.specs.declared.state.Register.{Register}
 use Rattle.register.specs.Registers.{IsRegisterOf, drives_of}
 use Rattle.register.proofs.FlagLemmas.{cut_in, in_cut}
 use Rattle.memory_spec.specs.Tables.{facts}
-use Rattle.memory_spec.specs.Memory.{Memory, IsSound}
 use Rattle.memory_spec.proofs.AllTables.{all_segments}
 use Rattle.memory_spec.proofs.Lists.{each_by_recursion}
 use Rattle.session_spec.specs.Faring as faring
@@ -34,7 +31,7 @@ use Rattle.array_state.specs.Drives.{drives_view}
 use Rattle.array_state.specs.Ready.{IsArrayOf}
 use Rattle.target_io.specs.Reading.{AreReadable, ShowsDrives, IsLost, LosesThree}
 use Rattle.array_core.specs.Holding.{IsHolder}
-use Rattle.array_engine.specs.Engines.{IsAt, StandsAt, failed_in}
+use Rattle.array_engine.specs.Appending.{failed_in}
 use Rattle.array_engine.proofs.Unborne.{not_risen}
 
 -- ---- where they may be read

@@ -8,42 +8,37 @@ use Rattle.pur_base.specs.Replies.{Answer}
 use Rattle.boot_codec.specs.Region.{names}
 use Rattle.array_spec.specs.Acked.{IsAnswer}
 use Rattle.array_spec.specs.After.{AcceptsNext}
-use Rattle.world.specs.Losing.{geometry_of, has_risen, losing}
+use Rattle.world.specs.Losing.{geometry_of, losing}
 use Rattle.world.specs.Shelf.{Shelved, Stop}
 use Rattle.register.specs.Registers.{named_sound}
 use Rattle.register.specs.Standing.{Content, array_of}
 use Rattle.memory_spec.specs.Memory.{Contents, ReadsAs}
-use Rattle.memory_spec.specs.Tables.{facts}
+use Rattle.memory_spec.specs.Tables.{facts, patches}
 use Rattle.session_spec.specs.Entering.{IsStanding}
 use Rattle.session_spec.specs.Faring.{Point, Answers}
 use Rattle.array_state.specs.declared.array.Array.{Array}
 use Rattle.array_state.specs.Drives.{SegmentsHold}
-use Rattle.array_state.specs.Ready.{IsArrayOf, IsReady, is_spent}
+use Rattle.array_state.specs.Ready.{IsArrayOf, IsReady}
 use Rattle.array_core.specs.Holding.{IsHolder}
 use Rattle.array_core.specs.Losing.{lost_by}
-use Rattle.array_core.specs.Performing.{IsFull}
+use Rattle.array_checkpoint.specs.Room.{IsRoomOf, MayAdd}
 use Rattle.array_engine.specs.declared.said.Said.{Said}
 use Rattle.array_engine.specs.declared.engine.Engine.{Engine}
+use Rattle.array_engine.specs.Appending.{failed_in, lost_in}
 use Rattle.array_engine.specs.Saying.{Says}
-
--- on which device a call failed in between, and on which a write or a sync did
-abbrev pub failed_in : Shelved → Shelved → Device → Bool
-failed_in old new = λ d. has_risen (old.disk d).faults (new.disk d).faults
-
-abbrev pub lost_in : Shelved → Shelved → Device → Bool
-lost_in old new = λ d. has_risen (old.disk d).write_faults (new.disk d).write_faults
 
 -- ---- where it stands
 
--- unless it is halted its array is one of a shelf of this size
+-- unless it is halted its array is one of a shelf of this size, and what room that leaves is known
 abbrev pub IsOf : Geometry → Engine → Type 0
-IsOf shelf e = e.halted ≡ false → IsArrayOf shelf e.array
+IsOf shelf e = e.halted ≡ false → IsArrayOf shelf e.array × IsRoomOf e.array e.room
 
 -- The array's memory reads as the point's array, for sectors in segments of which the drives hold those that were placed, where that is told.
 -- Each device that is sound at the point holds the array, and one that was left out doesn't, and isn't named by its record.
 pub record StandsAt (told : Bool) (shelf : Shelved) (a : Array) (p : Point) : Type 0 where
   pub logged : p.logged ≡ a.log.count
   pub boot : p.boot ≡ a.register.record
+  pub patches : p.patches ≡ patches a.memory.memory.tables
   pub next : p.next ≡ a.memory.memory.next
   pub contents : Contents
   pub reads : ReadsAs contents a.memory.memory p.array
@@ -64,13 +59,14 @@ point_after e array lost stop from = record {
   array = array;
   logged = if e.halted then from.logged else e.array.log.count;
   boot = if e.halted then from.boot else e.array.register.record;
+  patches = if e.halted then from.patches else patches e.array.memory.memory.tables;
   next = if e.halted then from.next else e.array.memory.memory.next;
   conditions = losing lost from.conditions;
   halted = e.halted;
   stop = stop;
 }
 
--- An item was answered at a point: the answer is whole and has its cause, and the engine stands behind it then. Where the devices held the point's array they hold that behind it, unless it's halted.
+-- An item was answered at a point: the answer is whole and has its cause, and the engine stands behind it then. Where honest devices held the point's array they hold that behind it, unless it's halted.
 pub record IsAnsweredAt (told : Bool) (old new : Shelved) (e f : Engine) (item : Item) (said : Said) (from : Point) : Type 0 where
   pub reply : Answer
   pub says : Says f.array.memory.memory f.buffers.sectors.items said reply
@@ -78,16 +74,15 @@ pub record IsAnsweredAt (told : Bool) (old new : Shelved) (e f : Engine) (item :
   pub array : plain.Array
   pub answers : (stop : Stop) → Answers told (geometry_of old) (failed_in old new) (lost_in old new) from item reply (point_after f array (lost_in old new) stop from)
   pub at : (stop : Stop) → IsAt told new f (point_after f array (lost_in old new) stop from)
-  pub ready : f.halted ≡ false → (held : Content) → IsReady old e.array held → from.array ≡ array_of held → (more : Content) × IsReady new f.array more × (array ≡ array_of more)
+  pub ready : old.honest → f.halted ≡ false → (held : Content) → IsReady old e.array held → from.array ≡ array_of held → (more : Content) × IsReady new f.array more × (array ≡ array_of more)
 
 -- the item may be done: the array accepts it, and there is room for it
-pub record MayBeDone (e : Engine) (was : plain.Array) (item : Item) (array : plain.Array) : Type 0 where
+pub record MayBeDone (a : Array) (was : plain.Array) (item : Item) (array : plain.Array) : Type 0 where
   pub accepts : AcceptsNext was (item ∷ []) array
-  pub unspent : is_spent e.array ≡ false
-  pub room : ¬ (IsFull e.array)
+  pub room : MayAdd a
 
 -- at a stop while the item is answered a session can go on, from the array without it or with it, as long as what has lost writes by then is borne
-abbrev pub IsKeptBy : Shelved → Engine → plain.Array → Item → Stop → Type 0
-IsKeptBy old e was item stop = IsBearable (geometry_of old) (lost_by old stop (named_sound e.array.register.record))
-    → (arrays : List plain.Array) × ((array : plain.Array) → Contains arrays array → (array ≡ was) ⊎ MayBeDone e was item array)
-    × IsStanding (geometry_of old) stop.image (lost_by old stop (named_sound e.array.register.record)) arrays
+abbrev pub IsKeptBy : Shelved → Array → plain.Array → Item → Stop → Type 0
+IsKeptBy old a was item stop = IsBearable (geometry_of old) (lost_by old stop (named_sound a.register.record))
+    → (arrays : List plain.Array) × ((array : plain.Array) → Contains arrays array → (array ≡ was) ⊎ MayBeDone a was item array)
+    × IsStanding (geometry_of old) stop.image (lost_by old stop (named_sound a.register.record)) arrays

@@ -1,4 +1,5 @@
 pub mod Answering
+pub mod Appending
 pub mod Saying
 pub mod Engines
 pub mod Replying

@@ -1,22 +1,24 @@
--- What the end of a command or a read answers.
+-- What the end of a logged request or a read answers.
 use Rattle.std.specs.Prelude.{ℕ, Bool, true, false, Result, Ok, Err}
 use Rattle.pur_base.specs.declared.reply.Refusal.TheVariants as refusals
-use Rattle.array_core.specs.declared.performing.PerformFault.{PerformFault}
-use Rattle.array_core.specs.declared.performing.PerformFault.TheVariants as fault
 use Rattle.target_io.specs.declared.fault.ReadFault.{ReadFault}
 use Rattle.target_io.specs.declared.fault.ReadFault.TheVariants as read
+use Rattle.array_engine.specs.declared.appending.AppendFault.{AppendFault}
+use Rattle.array_engine.specs.declared.appending.AppendFault.TheVariants as fault
 use Rattle.array_engine.specs.declared.said.Said.{Said}
 use Rattle.array_engine.specs.declared.said.Said.TheVariants as said
 
--- what is answered to a command, by how it ended
-abbrev pub said_of : Result Unit PerformFault → Said
+-- what is answered to a logged request, by how it ended
+abbrev pub said_of : Result Unit AppendFault → Said
 said_of (Ok u) = said.Done
+said_of (Err fault.Limited) = said.Refused refusals.Limit
 said_of (Err fault.Spent) = said.Refused refusals.Spent
 said_of (Err fault.Space) = said.Refused refusals.Space
+said_of (Err fault.Memory) = said.Refused refusals.Memory
 said_of (Err fault.Device) = said.Refused refusals.Device
 
 -- whether it ended for more failed devices than are borne
-abbrev pub ends_lost : Result Unit PerformFault → Bool
+abbrev pub ends_lost : Result Unit AppendFault → Bool
 ends_lost (Err fault.Device) = true
 ends_lost _ = false
 

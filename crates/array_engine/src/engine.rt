@@ -1,5 +1,6 @@
 // The array that is served: each item is answered by it.
 ghost use Rattle.std.specs.Prelude.{◌≡◌, ◌<◌, ◌≤◌, ℕ, true, false, None, Bool, List, length, not, slice_index_or};
+ghost use Rattle.pur_base.specs.Devices.{Geometry};
 ghost use Rattle.pur_base.specs.Grammar.{Asked, is_in_force, data_count};
 ghost use Rattle.pur_base.specs.Commands.{IsLogged};
 ghost use Rattle.pur_base.specs.declared.limits.TheConstants.{REQUEST_SECTORS};
@@ -9,6 +10,7 @@ ghost use Rattle.world.specs.Shelf.{Continues, LeavesOnly, IsCountedBy};
 ghost use Rattle.register.specs.Standing.{Content, array_of};
 ghost use Rattle.session_spec.specs.Faring.{Point};
 ghost use Rattle.array_state.specs.Ready.{IsArrayOf, IsReady};
+ghost use Rattle.array_checkpoint.specs.Room.{IsRoomOf};
 ghost use Rattle.pur_base.specs.Plain.{refusal as refusal_of};
 ghost use Rattle.volume_ops.specs.OfArray.{OfArray, IsOfMemory};
 ghost use Rattle.array_memory.specs.Asked.{IsAllowed};
@@ -18,21 +20,24 @@ ghost use Rattle.array_engine.specs.Answering.{IsAnswered};
 ghost use Rattle.array_engine.specs.Replying.{said_of, said_of_read, ends_lost};
 ghost use Rattle.array_engine.specs.Saying.{HasSectors};
 
+use crate::appending::{AppendFault, append};
 use crate::buffers::ReadBuffers;
 use crate::said::Said;
-use array_core::{PerformFault, perform};
+use array_checkpoint::Room;
 use array_state::Array;
 use boot_codec::DRIVE_FLAGS;
 use pur_base::{Name, Refusal, Request, Sector};
 use request_codec::Item;
+use std::alloc::Global;
 use target_io::ReadFault;
 use volume_ops::refusal;
 use world::Shelf;
 
-/// The array that is served, and whether a `no device` was answered to a logged request.
+/// The array that is served, what room its record and tables leave, and whether a `no device` was answered to a logged request.
 #[derive(Drop)]
 pub struct Engine {
     pub(crate) array: Array,
+    pub(crate) room: Room,
     pub(crate) halted: bool,
     pub(crate) buffers: ReadBuffers,
 }
@@ -48,22 +53,24 @@ fn missing_of(drives: &[bool; DRIVE_FLAGS]) -> [bool; DRIVE_FLAGS]
     missing
 }
 
-/// Whether a command ended for more failed devices than are borne.
-fn is_lost(done: &Result<(), PerformFault>) -> bool
+/// Whether a logged request ended for more failed devices than are borne.
+fn is_lost(done: &Result<(), AppendFault>) -> bool
     ensures { result ≡ ends_lost done.now }
 {
-    matches!(done, Err(PerformFault::Device))
+    matches!(done, Err(AppendFault::Device))
 }
 
-/// What is answered to a command, by how it ended.
-fn said_to(done: &Result<(), PerformFault>) -> Said
+/// What is answered to a logged request, by how it ended.
+fn said_to(done: &Result<(), AppendFault>) -> Said
     ensures { result ≡ said_of done.now }
 {
     match done {
         Ok(()) => Said::Done,
-        Err(PerformFault::Spent) => Said::Refused(Refusal::Spent),
-        Err(PerformFault::Space) => Said::Refused(Refusal::Space),
-        Err(PerformFault::Device) => Said::Refused(Refusal::Device),
+        Err(AppendFault::Limited) => Said::Refused(Refusal::Limit),
+        Err(AppendFault::Spent) => Said::Refused(Refusal::Spent),
+        Err(AppendFault::Space) => Said::Refused(Refusal::Space),
+        Err(AppendFault::Memory) => Said::Refused(Refusal::Memory),
+        Err(AppendFault::Device) => Said::Refused(Refusal::Device),
     }
 }
 
@@ -83,10 +90,15 @@ impl Engine {
 
     /// Of an array that was opened.
     pub fn new(array: Array, buffers: ReadBuffers) -> Engine
-        ensures { (result.array ≡ array) × (result.halted ≡ false) }
+        requires { (shelf : Geometry) × IsArrayOf shelf array }
+        ensures array { result.array ≡ array }
+        ensures room { IsRoomOf array result.room }
+        ensures awake { result.halted ≡ false }
     {
+        let room = Room::of(&array);
         Engine {
             array,
+            room,
             halted: false,
             buffers,
         }
@@ -102,6 +114,7 @@ impl Engine {
     /// Reads sectors of an object into the buffer. Where three drives are each missing or failed, `no device` is answered, and nothing changes.
     fn read<S: Shelf>(&mut self, name: &Name, lba: u64, count: u8, shelf: &mut S) -> Said
         requires is_of { IsArrayOf (geometry_of (S.shelf shelf.old)) self.old.array }
+        requires room { IsRoomOf self.old.array self.old.room }
         requires awake { self.old.halted ≡ false }
         requires few { count ≤ REQUEST_SECTORS }
         requires accepted { OfArray self.old.array.memory.memory (λ array. refusal_of array (Read name.now lba count) ≡ None) }
@@ -110,12 +123,12 @@ impl Engine {
         ensures is_of { IsOf (geometry_of (S.shelf shelf.new)) self.new }
         ensures moments { (S.shelf shelf.old).honest → LeavesOnly (S.shelf shelf.old) (S.shelf shelf.new) (IsCountedBy (S.shelf shelf.old)) }
         ensures there { HasSectors self.new.buffers.sectors.items result }
-        // The answer and its cause, and where the engine stands then.
-        ensures answers { (S.shelf shelf.old).honest → (sectors : List (List ℕ)) (told : Bool) (from : Point) → IsAt told (S.shelf shelf.old) self.old from
+        // The answer and its cause, and where the engine stands then. What segments hold is told of honest devices alone.
+        ensures answers { (sectors : List (List ℕ)) (told : Bool) (from : Point) → (told ≡ true → (S.shelf shelf.old).honest) → IsAt told (S.shelf shelf.old) self.old from
             → IsAnsweredAt told (S.shelf shelf.old) (S.shelf shelf.new) self.old self.new (Asked (Read name.now lba count) sectors) result from }
         // At every moment a session can go on.
         ensures kept { (S.shelf shelf.old).honest → (sectors : List (List ℕ)) (held : Content) → IsReady (S.shelf shelf.old) self.old.array held
-            → LeavesOnly (S.shelf shelf.old) (S.shelf shelf.new) (IsKeptBy (S.shelf shelf.old) self.old (array_of held) (Asked (Read name.now lba count) sectors)) }
+            → LeavesOnly (S.shelf shelf.old) (S.shelf shelf.new) (IsKeptBy (S.shelf shelf.old) self.old.array (array_of held) (Asked (Read name.now lba count) sectors)) }
     {
         let missing = missing_of(self.array.register.drives());
         let done = self
@@ -125,8 +138,15 @@ impl Engine {
     }
 
     /// Does a request that is logged, which the array accepts.
-    fn apply<S: Shelf>(&mut self, request: &Request, sectors: &[Sector], shelf: &mut S) -> Said
+    fn apply<S: Shelf>(
+        &mut self,
+        alloc: Global,
+        request: &Request,
+        sectors: &[Sector],
+        shelf: &mut S,
+    ) -> Said
         requires is_of { IsArrayOf (geometry_of (S.shelf shelf.old)) self.old.array }
+        requires room { IsRoomOf self.old.array self.old.room }
         requires awake { self.old.halted ≡ false }
         requires logged { IsLogged request.now }
         requires in_force { is_in_force request.now ≡ true }
@@ -139,14 +159,21 @@ impl Engine {
         ensures is_of { IsOf (geometry_of (S.shelf shelf.new)) self.new }
         ensures moments { (S.shelf shelf.old).honest → LeavesOnly (S.shelf shelf.old) (S.shelf shelf.new) (IsCountedBy (S.shelf shelf.old)) }
         ensures there { HasSectors self.new.buffers.sectors.items result }
-        // The answer and its cause, and where the engine stands then.
-        ensures answers { (S.shelf shelf.old).honest → (told : Bool) (from : Point) → IsAt told (S.shelf shelf.old) self.old from
+        // The answer and its cause, and where the engine stands then. What segments hold is told of honest devices alone.
+        ensures answers { (told : Bool) (from : Point) → (told ≡ true → (S.shelf shelf.old).honest) → IsAt told (S.shelf shelf.old) self.old from
             → IsAnsweredAt told (S.shelf shelf.old) (S.shelf shelf.new) self.old self.new (Asked request.now sectors.now) result from }
         // At every moment a session can go on.
         ensures kept { (S.shelf shelf.old).honest → (held : Content) → IsReady (S.shelf shelf.old) self.old.array held
-            → LeavesOnly (S.shelf shelf.old) (S.shelf shelf.new) (IsKeptBy (S.shelf shelf.old) self.old (array_of held) (Asked request.now sectors.now)) }
+            → LeavesOnly (S.shelf shelf.old) (S.shelf shelf.new) (IsKeptBy (S.shelf shelf.old) self.old.array (array_of held) (Asked request.now sectors.now)) }
     {
-        let done = perform(&mut self.array, request, sectors, shelf);
+        let done = append(
+            alloc,
+            &mut self.array,
+            &mut self.room,
+            request,
+            sectors,
+            shelf,
+        );
         self.halted = is_lost(&done);
         said_to(&done)
     }
@@ -154,11 +181,13 @@ impl Engine {
     /// Answers a request that the array accepts.
     fn answer_accepted<S: Shelf>(
         &mut self,
+        alloc: Global,
         request: &Request,
         sectors: &[Sector],
         shelf: &mut S,
     ) -> Said
         requires is_of { IsArrayOf (geometry_of (S.shelf shelf.old)) self.old.array }
+        requires room { IsRoomOf self.old.array self.old.room }
         requires awake { self.old.halted ≡ false }
         requires in_force { is_in_force request.now ≡ true }
         requires spelled { IsSpelledRequest request.now }
@@ -170,22 +199,28 @@ impl Engine {
         ensures is_of { IsOf (geometry_of (S.shelf shelf.new)) self.new }
         ensures moments { (S.shelf shelf.old).honest → LeavesOnly (S.shelf shelf.old) (S.shelf shelf.new) (IsCountedBy (S.shelf shelf.old)) }
         ensures there { HasSectors self.new.buffers.sectors.items result }
-        // The answer and its cause, and where the engine stands then.
-        ensures answers { (S.shelf shelf.old).honest → (told : Bool) (from : Point) → IsAt told (S.shelf shelf.old) self.old from
+        // The answer and its cause, and where the engine stands then. What segments hold is told of honest devices alone.
+        ensures answers { (told : Bool) (from : Point) → (told ≡ true → (S.shelf shelf.old).honest) → IsAt told (S.shelf shelf.old) self.old from
             → IsAnsweredAt told (S.shelf shelf.old) (S.shelf shelf.new) self.old self.new (Asked request.now sectors.now) result from }
         // At every moment a session can go on.
         ensures kept { (S.shelf shelf.old).honest → (held : Content) → IsReady (S.shelf shelf.old) self.old.array held
-            → LeavesOnly (S.shelf shelf.old) (S.shelf shelf.new) (IsKeptBy (S.shelf shelf.old) self.old (array_of held) (Asked request.now sectors.now)) }
+            → LeavesOnly (S.shelf shelf.old) (S.shelf shelf.new) (IsKeptBy (S.shelf shelf.old) self.old.array (array_of held) (Asked request.now sectors.now)) }
     {
         match request {
             Request::Read { name, lba, count } => self.read(name, *lba, *count, shelf),
             Request::List => Said::Names,
-            _ => self.apply(request, sectors, shelf),
+            _ => self.apply(alloc, request, sectors, shelf),
         }
     }
 
     /// Answers a request.
-    fn answer<S: Shelf>(&mut self, request: &Request, sectors: &[Sector], shelf: &mut S) -> Said
+    fn answer<S: Shelf>(
+        &mut self,
+        alloc: Global,
+        request: &Request,
+        sectors: &[Sector],
+        shelf: &mut S,
+    ) -> Said
         requires is_of { IsOf (geometry_of (S.shelf shelf.old)) self.old }
         requires in_force { is_in_force request.now ≡ true }
         requires spelled { IsSpelledRequest request.now }
@@ -197,25 +232,31 @@ impl Engine {
         ensures there { HasSectors self.new.buffers.sectors.items result }
         // A halted engine makes no call.
         ensures untouched { self.old.halted ≡ true → (shelf.new ≡ shelf.old) × (self.new ≡ self.old) }
-        // The answer and its cause, and where the engine stands then.
-        ensures answers { (S.shelf shelf.old).honest → (told : Bool) (from : Point) → IsAt told (S.shelf shelf.old) self.old from
+        // The answer and its cause, and where the engine stands then. What segments hold is told of honest devices alone.
+        ensures answers { (told : Bool) (from : Point) → (told ≡ true → (S.shelf shelf.old).honest) → IsAt told (S.shelf shelf.old) self.old from
             → IsAnsweredAt told (S.shelf shelf.old) (S.shelf shelf.new) self.old self.new (Asked request.now sectors.now) result from }
         // At every moment a session can go on.
         ensures kept { (S.shelf shelf.old).honest → self.old.halted ≡ false → (held : Content) → IsReady (S.shelf shelf.old) self.old.array held
-            → LeavesOnly (S.shelf shelf.old) (S.shelf shelf.new) (IsKeptBy (S.shelf shelf.old) self.old (array_of held) (Asked request.now sectors.now)) }
+            → LeavesOnly (S.shelf shelf.old) (S.shelf shelf.new) (IsKeptBy (S.shelf shelf.old) self.old.array (array_of held) (Asked request.now sectors.now)) }
     {
         if self.halted {
             return Said::Refused(Refusal::Halted);
         }
         match refusal(&self.array.memory, request) {
             Some(why) => Said::Refused(why),
-            None => self.answer_accepted(request, sectors, shelf),
+            None => self.answer_accepted(alloc, request, sectors, shelf),
         }
     }
 
     /// Answers an item. A halted engine answers `no halted` to each request, and the others as ever, with no call on a device.
     /// After a device fault of a logged request, which halts it, the request is undecided.
-    pub fn respond<S: Shelf>(&mut self, item: &Item, sectors: &[Sector], shelf: &mut S) -> Said
+    pub fn respond<S: Shelf>(
+        &mut self,
+        alloc: Global,
+        item: &Item,
+        sectors: &[Sector],
+        shelf: &mut S,
+    ) -> Said
         requires is_of { IsOf (geometry_of (S.shelf shelf.old)) self.old }
         requires item { IsAnswered item.now }
         requires written { HasData item.now sectors.now }
@@ -227,15 +268,15 @@ impl Engine {
         ensures there { HasSectors self.new.buffers.sectors.items result }
         // A halted engine makes no call.
         ensures untouched { self.old.halted ≡ true → (shelf.new ≡ shelf.old) × (self.new ≡ self.old) }
-        // The answer and its cause, and where the engine stands then.
-        ensures answers { (S.shelf shelf.old).honest → (told : Bool) (from : Point) → IsAt told (S.shelf shelf.old) self.old from
+        // The answer and its cause, and where the engine stands then. What segments hold is told of honest devices alone.
+        ensures answers { (told : Bool) (from : Point) → (told ≡ true → (S.shelf shelf.old).honest) → IsAt told (S.shelf shelf.old) self.old from
             → IsAnsweredAt told (S.shelf shelf.old) (S.shelf shelf.new) self.old self.new (item_read item.now sectors.now) result from }
         // At every moment a session can go on.
         ensures kept { (S.shelf shelf.old).honest → self.old.halted ≡ false → (held : Content) → IsReady (S.shelf shelf.old) self.old.array held
-            → LeavesOnly (S.shelf shelf.old) (S.shelf shelf.new) (IsKeptBy (S.shelf shelf.old) self.old (array_of held) (item_read item.now sectors.now)) }
+            → LeavesOnly (S.shelf shelf.old) (S.shelf shelf.new) (IsKeptBy (S.shelf shelf.old) self.old.array (array_of held) (item_read item.now sectors.now)) }
     {
         match item {
-            Item::Request(request) => self.answer(request, sectors, shelf),
+            Item::Request(request) => self.answer(alloc, request, sectors, shelf),
             Item::Syntax => Said::Refused(Refusal::Syntax),
             Item::Cut => Said::Refused(Refusal::Cut),
             Item::Limit | Item::End => unreachable!(),

@@ -3,6 +3,7 @@
 #![tactic(auto)]
 
 mod answers;
+mod appending;
 mod buffers;
 mod engine;
 mod said;

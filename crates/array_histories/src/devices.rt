@@ -5,7 +5,8 @@ ghost use Rattle.world_mem.specs.Past.{shelved};
 
 use crate::random::Random;
 use pur_base::{
-    Device, DriveId, NVRAM_BYTES, NVRAM_DEVICES, NoMemory, NvId, SECTOR_BYTES, UNIT_BYTES,
+    BOOT_UNITS, Device, DriveId, NVRAM_BYTES, NVRAM_DEVICES, NoMemory, NvId, SECTOR_BYTES,
+    UNIT_BYTES,
 };
 use std::alloc::Global;
 use world::Shelf;
@@ -151,6 +152,9 @@ pub struct Written {
     ends: [u64; 13],
 }
 
+/// Where the boot units of a drive end.
+const BOOT_END: u64 = BOOT_UNITS as u64 * UNIT_BYTES as u64;
+
 /// A piece of what is written over a device.
 static ZEROS: [u8; UNIT_BYTES] = [0; UNIT_BYTES];
 
@@ -173,6 +177,13 @@ impl Written {
     fn reach(&mut self, device: Device, at: usize, count: usize) {
         let place = place_of(device);
         self.ends[place] = self.ends[place].max((at as u64).saturating_add(count as u64));
+    }
+
+    /// Whether a drive was written behind its boot units, as a checkpoint does.
+    pub fn has_data(&self) -> bool {
+        self.ends[..DRIVES as usize]
+            .iter()
+            .any(|end| *end > BOOT_END)
     }
 
     /// Puts a blank device in its place. No call on it is to fail then.

@@ -20,6 +20,8 @@ pub struct Told {
     pub acknowledged: u64,
     pub stops: u64,
     pub failures: u64,
+    /// How many histories have come to a checkpoint.
+    pub flushed: u64,
 }
 
 impl Told {
@@ -29,6 +31,7 @@ impl Told {
             acknowledged: 0,
             stops: 0,
             failures: 0,
+            flushed: 0,
         }
     }
 }
@@ -140,12 +143,17 @@ fn calls_until(random: &mut Random, opening: u64) -> u64 {
     }
 }
 
+/// What a read is answered whose sectors stand on drives of which three fail.
+const NO_DEVICE: &[u8] = b"no device\n";
+
 /// How many of the requests were answered by the whole of an output, each as the array answers, which goes on by them. None where they weren't.
+/// Where three drives fail meanwhile, sectors may be out of reach of a read.
 fn follow(
     alloc: Global,
     array: &mut Model,
     asks: &[Ask],
     output: &[u8],
+    three_fail: bool,
 ) -> Result<Option<usize>, NoMemory> {
     let mut at = 0;
     let mut reply = Vec::new(alloc);
@@ -153,6 +161,10 @@ fn follow(
         reply.clear();
         array.push_reply(alloc, &asks[place], &mut reply)?;
         let rest = output.get(at..).unwrap_or(&[]);
+        if three_fail && asks[place].is_read() && rest.starts_with(NO_DEVICE) {
+            at = at.saturating_add(NO_DEVICE.len());
+            continue;
+        }
         if !rest.starts_with(&reply) {
             return Ok(if reply.starts_with(rest) {
                 Some(place)
@@ -181,7 +193,12 @@ pub struct History {
     session: u64,
     /// The calls on devices of the last opening.
     opening: u64,
+    /// Whether three drives fail in this session.
+    pub(crate) three_fail: bool,
 }
+
+/// As many requests of a session may fill the log twice.
+const MANY: u64 = 150;
 
 /// The calls of the first opening of a new array.
 const FIRST_OPENING: u64 = 83;
@@ -199,6 +216,7 @@ impl History {
             arrays: Vec::new(alloc),
             session: 0,
             opening: FIRST_OPENING,
+            three_fail: false,
         }
     }
 
@@ -212,7 +230,11 @@ impl History {
         let mut world = self.make(world, told)?;
         self.arrays.push(Model::new(self.alloc))?;
         world = self.begin(world, told)?;
-        let most = if self.random.once_in(8) { 40 } else { 8 };
+        let most = match self.random.below(16) {
+            0 | 1 => MANY,
+            2 | 3 => 40,
+            _ => 8,
+        };
         for _ in 0..self.random.below(5).saturating_add(1) {
             world = self.ask_some(world, most, told)?;
             world = self.go_on(world, told)?;
@@ -223,6 +245,9 @@ impl History {
         world = self.look(world, told)?;
         if self.random.once_in(4) {
             world = self.lose_three(world, told)?;
+        }
+        if self.written.has_data() {
+            told.flushed = told.flushed.saturating_add(1);
         }
         self.written.blank_all(&mut world);
         Ok(world)
@@ -400,6 +425,15 @@ impl History {
         calls_until(&mut self.random, self.opening)
     }
 
+    /// After how many calls a session with many requests is stopped: now and then in a checkpoint.
+    fn calls_of_long_session(&mut self) -> u64 {
+        if self.random.once_in(2) {
+            u64::MAX
+        } else {
+            self.opening.saturating_add(self.random.below(1200))
+        }
+    }
+
     /// After how many calls an opening is stopped, often in its store.
     pub(crate) fn calls_of_opening(&mut self) -> u64 {
         if self.random.once_in(2) {
@@ -417,7 +451,11 @@ impl History {
         told: &mut Told,
     ) -> Result<MemWorld, Trouble> {
         let asks = self.some_asks(most)?;
-        let calls = self.calls_of_session();
+        let calls = if most == MANY {
+            self.calls_of_long_session()
+        } else {
+            self.calls_of_session()
+        };
         self.serve(world, &asks, calls, told)
     }
 
@@ -510,7 +548,7 @@ impl History {
         let mut answered = 0;
         for array in &self.arrays {
             let mut array = array.copy(self.alloc)?;
-            let Some(count) = follow(self.alloc, &mut array, asks, given)? else {
+            let Some(count) = follow(self.alloc, &mut array, asks, given, self.three_fail)? else {
                 continue;
             };
             if !stopped && count < asks.len() {

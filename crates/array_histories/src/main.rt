@@ -124,9 +124,10 @@ fn run(rt: &HostRuntime, plan: Plan) -> io::Result<ExitCode> {
         acknowledged,
         stops,
         failures,
+        flushed,
     } = told;
     println!(rt;
-        "seed {seed}: {count} histories, {acknowledged} requests acknowledged, {stops} stops, {failures} devices failed, nothing lost"
+        "seed {seed}: {count} histories, {flushed} of them with checkpoints, {acknowledged} requests acknowledged, {stops} stops, {failures} devices failed, nothing lost"
     )?;
     Ok(ExitCode::from(0))
 }

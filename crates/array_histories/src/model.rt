@@ -4,9 +4,6 @@ use crate::text::push;
 use pur_base::NoMemory;
 use std::alloc::Global;
 
-/// As many logged requests as a log has room for.
-const LOG_SLOTS: u64 = 64;
-
 /// The most sectors of a request.
 const COUNT: u8 = 64;
 
@@ -26,11 +23,10 @@ impl Volume {
     }
 }
 
-/// An array: its volumes in order of creation, and how many logged requests made it.
+/// An array: its volumes in order of creation.
 #[derive(Drop)]
 pub struct Model {
     volumes: Vec<Volume>,
-    logged: u64,
 }
 
 impl Model {
@@ -38,7 +34,6 @@ impl Model {
     pub fn new(alloc: Global) -> Model {
         Model {
             volumes: Vec::new(alloc),
-            logged: 0,
         }
     }
 
@@ -48,10 +43,7 @@ impl Model {
         for volume in &self.volumes {
             volumes.push(volume.copy(alloc)?)?;
         }
-        Ok(Model {
-            volumes,
-            logged: self.logged,
-        })
+        Ok(Model { volumes })
     }
 
     /// The volumes that are there.
@@ -94,15 +86,6 @@ impl Model {
         }
     }
 
-    /// Why a request that is logged isn't done, whose sectors are there.
-    fn room(&self) -> Option<&str> {
-        if self.logged >= LOG_SLOTS {
-            Some("space")
-        } else {
-            None
-        }
-    }
-
     /// Why a request is refused, if it is.
     fn refusal(&self, ask: &Ask) -> Option<&str> {
         match *ask {
@@ -110,22 +93,14 @@ impl Model {
                 if self.place_of(volume).is_some() {
                     return Some("taken");
                 }
-                if sectors == 0 {
-                    Some("limit")
-                } else {
-                    self.room()
-                }
+                if sectors == 0 { Some("limit") } else { None }
             }
-            Ask::Write { range, .. } | Ask::Fill { range, .. } => {
+            Ask::Write { range, .. } | Ask::Fill { range, .. } | Ask::Read { range } => {
                 match self.sectors(range) {
-                    Ok(_) => self.room(),
+                    Ok(_) => None,
                     Err(why) => Some(why),
                 }
             }
-            Ask::Read { range } => match self.sectors(range) {
-                Ok(_) => None,
-                Err(why) => Some(why),
-            },
             Ask::List => None,
             Ask::Nonsense => Some("syntax"),
         }
@@ -183,7 +158,6 @@ impl Model {
         if !self.takes(ask) {
             return Ok(());
         }
-        self.logged = self.logged.saturating_add(1);
         match *ask {
             Ask::Create { volume, sectors } => {
                 let sectors = Vec::from_elem(alloc, Pattern::filled(0), sectors as usize)?;

@@ -62,6 +62,11 @@ pub enum Ask {
 }
 
 impl Ask {
+    /// Whether it reads sectors.
+    pub fn is_read(&self) -> bool {
+        matches!(self, Ask::Read { .. })
+    }
+
     /// Its text, behind what is there.
     pub fn push_to(&self, alloc: Global, text: &mut Vec<u8>) -> Result<(), NoMemory> {
         match *self {

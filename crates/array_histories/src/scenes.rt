@@ -166,7 +166,9 @@ impl History {
             let Left { world, .. } = left;
             return Ok(self.stop(world, false, told)?);
         }
+        self.three_fail = true;
         let mut world = self.heed(left, &asks, told)?;
+        self.three_fail = false;
         for drive in drives {
             let_fail(&mut world, drive);
         }

@@ -12,13 +12,13 @@ use world_mem::MemWorld;
 const FINDING: u64 = 22 + 6;
 
 /// The calls of an opening where gates are open in both slots: in its store a reading, a write and a sync of each gate, a write and a sync of each body, and of each gate again.
-const OPENING: u64 = FINDING + 33 + 22 + 22;
+pub const OPENING: u64 = FINDING + 33 + 22 + 22;
 
 /// The device calls of a logged request: on each NVRAM device its slot and a sync, then on each its gate and a sync.
 const REQUEST_CALLS: u64 = 8;
 
-/// The last command for which the log has room, and one behind it, which makes no call.
-const LAST_FILL: &[u8] = b"fill a 62 1 63\nfill a 63 1 64\n";
+/// The last command for which the log has room, and one behind it that is refused, which makes no call.
+const LAST_FILL: &[u8] = b"fill a 62 1 63\nfill a 64 1 65\n";
 
 /// An array of a create and 62 fills.
 fn almost_full(alloc: Global) -> Result<MemWorld, Fail> {
@@ -50,7 +50,7 @@ fn wrong_in_last_fill(
         let calls = from.wrapping_add(i as u64);
         let is_whole = calls == REQUEST_CALLS;
         let left = cut_off(alloc, world, LAST_FILL, OPENING.wrapping_add(calls))?;
-        let wanted: &[u8] = if is_whole { b"ok\nno space\n" } else { b"" };
+        let wanted: &[u8] = if is_whole { b"ok\nno range\n" } else { b"" };
         world = left.world;
         tear(alloc, &mut world, byte)?;
         if left.is_cut == is_whole || left.given.as_slice() != wanted {

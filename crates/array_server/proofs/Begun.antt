@@ -13,25 +13,25 @@ use Rattle.register.specs.Registers.{IsRegisterOf, named_sound}
 use Rattle.register.proofs.FlagLemmas.{in_cut, cut_in, none_past}
 use Rattle.open_array.proofs.Standing.{is_named, is_left}
 use Rattle.memory_spec.specs.Memory.{Contents, ReadsAs}
-use Rattle.memory_spec.specs.Tables.{facts}
+use Rattle.memory_spec.specs.Tables.{facts, patches}
 use Rattle.session_spec.specs.Entering.{read_now}
 use Rattle.session_spec.specs.Faring.{Point}
 use Rattle.array_state.specs.declared.array.Array.{Array}
 use Rattle.array_state.specs.Drives.{SegmentsHold}
 use Rattle.array_core.specs.Holding.{IsHolder}
-use Rattle.array_engine.specs.declared.buffers.ReadBuffers.{ReadBuffers}
 use Rattle.array_engine.specs.declared.engine.Engine.{Engine}
 use Rattle.array_session.specs.Sessions.{BeginsAt}
 
 -- an engine over the array that was opened, and where the replies begin
-abbrev pub engine_of : Array → ReadBuffers → Engine
-engine_of a b = record { array = a; halted = false; buffers = b }
+abbrev pub engine_of : Engine → Array → Engine
+engine_of e a = record e { array = a; halted = false }
 
 abbrev pub first_of : Shelved → Array → plain.Array → Point
 first_of start a array = record {
   array = array;
   logged = a.log.count;
   boot = a.register.record;
+  patches = patches a.memory.memory.tables;
   next = a.memory.memory.next;
   conditions = named_sound a.register.record;
   halted = false;
@@ -62,14 +62,15 @@ module _ (shelf : Geometry) (a : Array) (is_of : IsRegisterOf shelf a.register) 
       let is : names a.register.record (Nv n) ≡ true = subst (λ (l : List Bool). nv.IsMember l n.0) (sym named.1) h in
       cc (none, is)
 
-  pub begins : (told : Bool) (start : Shelved) (b : ReadBuffers) (array : plain.Array) (contents : Contents) → ReadsAs contents a.memory.memory array
-      → (told ≡ true → SegmentsHold contents start a.register (facts a.memory.memory.tables)) → BeginsAt told start (engine_of a b) (first_of start a array)
-  begins told start b array contents reads hold = record {
+  pub begins : (told : Bool) (start : Shelved) (e : Engine) (array : plain.Array) (contents : Contents) → ReadsAs contents a.memory.memory array
+      → (told ≡ true → SegmentsHold contents start a.register (facts a.memory.memory.tables)) → BeginsAt told start (engine_of e a) (first_of start a array)
+  begins told start e array contents reads hold = record {
     at = record {
       halted = refl;
       stands = λ awake. record {
         logged = refl;
         boot = refl;
+        patches = refl;
         next = refl;
         contents = contents;
         reads = reads;

@@ -25,7 +25,7 @@ use Rattle.array_core.proofs.Losses.{bearable_or_not}
 use Rattle.takeover.specs.declared.faults.OpenFault.{OpenFault}
 use Rattle.takeover.specs.declared.faults.OpenFault.TheVariants as open_fault
 use Rattle.takeover.specs.Opened.{IsOpened, IsShut, IsRecovered, status_of}
-use Rattle.array_engine.specs.declared.buffers.ReadBuffers.{ReadBuffers}
+use Rattle.array_engine.specs.declared.engine.Engine.{Engine}
 use Rattle.array_session.specs.Sessions.{BeginsAt, IsHeldAt, IsServedFrom}
 use Rattle.array_server.proofs.Begun.{NamesHolders, begins, engine_of, first_of}
 
@@ -78,8 +78,8 @@ module _ (old new : Shelved) (e : OpenFault) (input : List ℕ) (is : IsShelf ne
 -- ---- opened and served
 
 -- what is served from any point at which the engine stands then
-abbrev ServesFrom : Shelved → Shelved → Array → ReadBuffers → List ℕ → List ℕ → Status → Type 0
-ServesFrom start new a b input left ended = (told : Bool) (first : Point) → BeginsAt told start (engine_of a b) first → IsServedFrom told start new (engine_of a b) input left ended first
+abbrev ServesFrom : Shelved → Shelved → Array → Engine → List ℕ → List ℕ → Status → Type 0
+ServesFrom start new a e input left ended = (told : Bool) (first : Point) → BeginsAt told start (engine_of e a) first → IsServedFrom told start new (engine_of e a) input left ended first
 
 -- the tables that were found read as some array, whatever segments hold
 abbrev pub ReadsSome : (old start : Shelved) (a : Array) → IsOpened old start a → Type 0
@@ -89,17 +89,17 @@ pub reads_some : (old start : Shelved) (a : Array) (o : IsOpened old start a) �
 reads_some old start a o contents = sound_tables_read (geometry_of old) o.found.effective.boot (patches a.memory.memory.tables) contents o.tables_sound o.lawful
 
 -- what is known of the opening, which ends at that moment, and of what was served then
-abbrev ServesAfter : Shelved → Shelved → Shelved → Array → ReadBuffers → List ℕ → List ℕ → Status → Type 0
-ServesAfter old start new a b input left ended = (o : IsOpened old start a) → ReadsSome old start a o → IsRegisterOf (geometry_of start) a.register → NamesHolders a → old.moment ≤ start.moment → LeavesOnly old start (IsCountedBy old)
-    → ServesFrom start new a b input left ended → Served old new input left ended
+abbrev ServesAfter : Shelved → Shelved → Shelved → Array → Engine → List ℕ → List ℕ → Status → Type 0
+ServesAfter old start new a e input left ended = (o : IsOpened old start a) → ReadsSome old start a o → IsRegisterOf (geometry_of start) a.register → NamesHolders a → old.moment ≤ start.moment → LeavesOnly old start (IsCountedBy old)
+    → ServesFrom start new a e input left ended → Served old new input left ended
 
-module _ (old mid new : Shelved) (a : Array) (b : ReadBuffers) (input left : List ℕ) (ended : Status) where
+module _ (old mid new : Shelved) (a : Array) (e : Engine) (input left : List ℕ) (ended : Status) where
   -- it has the size of the shelf at the entry
   abbrev start : Shelved
   start = record mid { drives = old.drives; units = old.units }
 
   module _ (o : IsOpened old start a) (some : ReadsSome old start a o) (is_of : IsRegisterOf (geometry_of start) a.register) (named : NamesHolders a) (later : old.moment ≤ start.moment) (moments : LeavesOnly old start (IsCountedBy old))
-      (all : ServesFrom start new a b input left ended) where
+      (all : ServesFrom start new a e input left ended) where
     abbrev opening : Opening old
     opening = record { found = o.found; moment = start.moment; stop = read_now start }
 
@@ -112,8 +112,8 @@ module _ (old mid new : Shelved) (a : Array) (b : ReadBuffers) (input left : Lis
       abbrev first : Point
       first = first_of start a (after_all base o.log)
 
-      s : IsServedFrom told start new (engine_of a b) input left ended first
-      s = all told first (begins (geometry_of start) a is_of named told start b (after_all base o.log) contents (o.reads contents base reads).1 hold)
+      s : IsServedFrom told start new (engine_of e a) input left ended first
+      s = all told first (begins (geometry_of start) a is_of named told start e (after_all base o.log) contents (o.reads contents base reads).1 hold)
 
       output : IsOutput ended told (geometry_of old) s.last (read_now new) (drop (length s.replies) (requests input)) old.output new.output s.replies
       output = subst (λ (l : List ℕ). IsOutput ended told (geometry_of old) s.last (read_now new) (drop (length s.replies) (requests input)) l new.output s.replies) moments.quiet.output s.output
@@ -124,7 +124,6 @@ module _ (old mid new : Shelved) (a : Array) (b : ReadBuffers) (input left : Lis
         opens = record {
           holds = record {
             not_spent = o.not_spent;
-            patches = patches a.memory.memory.tables;
             no_other = o.no_other;
             sound = o.tables_sound;
             contents = contents;
@@ -165,7 +164,7 @@ module _ (old mid new : Shelved) (a : Array) (b : ReadBuffers) (input left : Lis
     abbrev untold : Serving false old new input left ended opening
     untold = serving false blank (some blank).0 (some blank).1 not_told not_told
 
-    abbrev untold_from : IsServedFrom false start new (engine_of a b) input left ended (first_of start a (after_all (some blank).0 o.log))
+    abbrev untold_from : IsServedFrom false start new (engine_of e a) input left ended (first_of start a (after_all (some blank).0 o.log))
     untold_from = s false blank (some blank).0 (some blank).1 not_told not_told
 
     module _ (missing : Conditions) (arrays : List plain.Array) (enters : Enters old missing arrays) where
@@ -174,7 +173,7 @@ module _ (old mid new : Shelved) (a : Array) (b : ReadBuffers) (input left : Lis
 
       -- as what the segments hold, where no more failed than is borne
       module _ (it : IsRecovered old start o.found a o.log (failed_since old start missing) arrays) where
-        abbrev told_from : IsServedFrom true start new (engine_of a b) input left ended (first_of start a (after_all it.held.base o.log))
+        abbrev told_from : IsServedFrom true start new (engine_of e a) input left ended (first_of start a (after_all it.held.base o.log))
         told_from = s true it.base_held.contents it.held.base it.base_held.reads (λ t. it.base_held.holds) (λ t. it.base_held.hold)
 
         abbrev told_serving : Serving true old new input left ended opening
@@ -183,7 +182,7 @@ module _ (old mid new : Shelved) (a : Array) (b : ReadBuffers) (input left : Lis
         is_held : after_all it.held.base o.log ≡ array_of it.held
         is_held = ap (λ l. after_all it.held.base l) (sym it.log_is)
 
-        held_at : IsHeldAt start (engine_of a b) (first_of start a (after_all it.held.base o.log))
+        held_at : IsHeldAt start (engine_of e a) (first_of start a (after_all it.held.base o.log))
         held_at = (it.held, it.ready, is_held)
 
         one_of : Contains arrays (after_all it.held.base o.log)
@@ -221,8 +220,8 @@ module _ (old mid new : Shelved) (a : Array) (b : ReadBuffers) (input left : Lis
       outlasts = outlasts;
     }
 
-  pub served : Continues old mid → ServesAfter old mid new a b input left ended
-  served on = subst (λ (m : Shelved). ServesAfter old m new a b input left ended) sizes (λ o some is_of named later moments all. served_here o some is_of named later moments all)
+  pub served : Continues old mid → ServesAfter old mid new a e input left ended
+  served on = subst (λ (m : Shelved). ServesAfter old m new a e input left ended) sizes (λ o some is_of named later moments all. served_here o some is_of named later moments all)
     where
       sizes : start ≡ mid
       sizes = λ k. record mid { drives = sym on.drives k; units = sym on.units k }

@@ -52,7 +52,7 @@ pub fn serve<W: World>(alloc: Global, world: &mut W) -> Status
         return Status::Memory;
     };
     match recover(alloc, world) {
-        Ok(array) => answer_all(reader, writer, Engine::new(array, buffers), world),
+        Ok(array) => answer_all(alloc, reader, writer, Engine::new(array, buffers), world),
         Err(fault) => status_for(&fault),
     }
 }

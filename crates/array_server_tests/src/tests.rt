@@ -53,22 +53,52 @@ fn what_one_session_wrote_the_next_one_reads(rt: HostRuntime) -> Result<(), Fail
     Ok(())
 }
 
+/// A create and 63 fills, as many commands as the log has room for, and two behind them: the first finds the log full, and a checkpoint is made.
 #[test]
-fn the_log_takes_64_commands(rt: HostRuntime) -> Result<(), Fail> {
+fn a_full_log_makes_a_checkpoint(rt: HostRuntime) -> Result<(), Fail> {
     let alloc = rt.alloc();
     let mut world = made(alloc)?;
-    let mut input = Vec::from_slice(alloc, b"create a 1\n")?;
+    let mut input = Vec::from_slice(alloc, b"create a 2\n")?;
     input.extend_from_slice(&repeated(alloc, b"fill a 0 1 65\n", 63)?)?;
-    input.extend_from_slice(b"fill a 0 1 66\nfill a 0 2 66\n")?;
+    input.extend_from_slice(b"fill a 1 1 66\nfill a 0 3 66\nread a 0 2\n")?;
     let (status, output) = session(alloc, &mut world, &input)?;
     assert_eq!(rt; status, Status::Done);
-    let mut want = repeated(alloc, b"ok\n", 64)?;
-    want.extend_from_slice(b"no space\nno range\n")?;
+    let mut read = Vec::from_slice(alloc, b"data 2\n")?;
+    read.extend_from_slice(&[65; 512])?;
+    read.extend_from_slice(&[66; 512])?;
+    let mut want = repeated(alloc, b"ok\n", 65)?;
+    want.extend_from_slice(b"no range\n")?;
+    want.extend_from_slice(&read)?;
     assert!(rt; output.as_slice() == want.as_slice());
-    let (status, output) = session(alloc, &mut world, b"create b 1\nread a 0 1\n")?;
+    // What it stored is found, and so is what was logged behind it.
+    let (status, output) = session(alloc, &mut world, b"create b 1\nread a 0 2\n")?;
     assert_eq!(rt; status, Status::Done);
-    let mut want = Vec::from_slice(alloc, b"no space\ndata 1\n")?;
+    let mut want = Vec::from_slice(alloc, b"ok\n")?;
+    want.extend_from_slice(&read)?;
+    assert!(rt; output.as_slice() == want.as_slice());
+    Ok(())
+}
+
+/// Three full logs, of which two were brought to the drives, are read by the next session with two drives missing.
+#[test]
+fn what_two_checkpoints_stored_is_read_without_two_drives(rt: HostRuntime) -> Result<(), Fail> {
+    let alloc = rt.alloc();
+    let mut world = made(alloc)?;
+    let mut input = Vec::from_slice(alloc, b"create a 3\n")?;
+    input.extend_from_slice(&repeated(alloc, b"fill a 0 1 65\n", 63)?)?;
+    input.extend_from_slice(&repeated(alloc, b"fill a 1 1 66\n", 64)?)?;
+    input.extend_from_slice(&repeated(alloc, b"fill a 2 1 67\n", 64)?)?;
+    let (status, output) = session(alloc, &mut world, &input)?;
+    assert_eq!(rt; status, Status::Done);
+    assert!(rt; output.as_slice() == repeated(alloc, b"ok\n", 192)?.as_slice());
+    world.pull(Device::Drive(DriveId(0)));
+    world.pull(Device::Drive(DriveId(5)));
+    let (status, output) = session(alloc, &mut world, b"read a 0 3\n")?;
+    assert_eq!(rt; status, Status::Done);
+    let mut want = Vec::from_slice(alloc, b"data 3\n")?;
     want.extend_from_slice(&[65; 512])?;
+    want.extend_from_slice(&[66; 512])?;
+    want.extend_from_slice(&[67; 512])?;
     assert!(rt; output.as_slice() == want.as_slice());
     Ok(())
 }

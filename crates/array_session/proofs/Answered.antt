@@ -12,7 +12,8 @@ use Rattle.pur_base.specs.Grammar.{Item, Asked, Syntax, Cut}
 use Rattle.pur_base.specs.Replies.{Answer}
 use Rattle.world.specs.Losing.{has_risen, missing_if, losing}
 use Rattle.session_spec.specs.Faring as faring
-use Rattle.session_spec.specs.Faring.{Point, Answers, AnswersRequest, AnswersAccepted, IsDone, IsFailed, IsGone, IsLost, LosesThree, Where, WithRoom, is_spent, is_full}
+use Rattle.session_spec.specs.Faring.{Point, Answers, AnswersRequest, AnswersAccepted, IsAppended, IsAppendedBehind, IsDone, IsFailed, IsGone, IsLost, LosesThree, Where, is_full, is_limited, is_spent}
+use Rattle.session_spec.specs.declared.limits.TheConstants.{ADDING_GROUPS}
 use Rattle.session_spec.proofs.Conditions.{borne_before}
 
 pub risen_more : (a b c : ℕ) → b ≤ c → has_risen a b ≡ true → has_risen a c ≡ true
@@ -31,17 +32,23 @@ goes_more Sound false false f = inl refl
 goes_more Missing p q f = refl
 goes_more LeftOut p q f = refl
 
+-- so it is in both cases
+both_more : (is : Bool) (one ones some others : Type 0) → (one → ones) → (some → others) → Where is one some → Where is ones others
+both_more true one ones some others f g h = f h
+both_more false one ones some others f g h = g h
+
 where_more : (is : Bool) (one some others : Type 0) → (some → others) → Where is one some → Where is one others
 where_more true one some others f h = h
 where_more false one some others f h = f h
 
 module _ (told : Bool) (shelf : Geometry) (failed others lost more : Device → Bool) (f : (d : Device) → failed d ≡ true → others d ≡ true) (g : (d : Device) → lost d ≡ true → more d ≡ true) (from to : Point) (q : Answer) where
-  done_more : (r : Request) (sectors : List (List ℕ)) → IsDone lost from r sectors q to → IsDone more from r sectors q to
-  done_more r sectors h = record {
+  done_more : (at : Point) (r : Request) (sectors : List (List ℕ)) → IsDone lost at r sectors q to → IsDone more at r sectors q to
+  done_more at r sectors h = record {
     reply = h.reply;
     array = h.array;
     logged = h.logged;
     boot = ⊎_elim (λ same. inl same) (λ rose. inr (rose.0, g rose.0 rose.1, rose.2, rose.3, rose.4)) h.boot;
+    patches = h.patches;
     next = h.next;
     halted = h.halted;
   }
@@ -69,8 +76,17 @@ module _ (told : Bool) (shelf : Geometry) (failed others lost more : Device → 
     refused_so = h.refused_so;
   }
 
+  -- with a slot that is free, or behind a checkpoint
+  appended_more : (r : Request) (sectors : List (List ℕ)) → IsAppended shelf lost from r sectors q to → IsAppended shelf more from r sectors q to
+  appended_more r sectors h = ⊎_elim (λ is. inl (done_more from r sectors is)) (λ x. inr (failed_more x)) h
+
+  behind_more : (r : Request) (sectors : List (List ℕ)) → IsAppendedBehind shelf lost from r sectors q to → IsAppendedBehind shelf more from r sectors q to
+  behind_more r sectors h = ⊎_elim (λ made. inl (made.0, made.1, done_more made.0 r sectors made.2)) (λ other. inr (⊎_elim (λ wanted. inl wanted) (λ x. inr (failed_more x)) other)) h
+
   logged_more : (r : Request) (sectors : List (List ℕ)) → faring.IsLogged shelf lost from r sectors q to → faring.IsLogged shelf more from r sectors q to
-  logged_more r sectors h = where_more (is_spent from) _ _ _ (λ w. where_more (is_full from) _ _ _ (λ s. ⊎_elim (λ d. inl (done_more r sectors d)) (λ x. inr (failed_more x)) s) w) h
+  logged_more r sectors h =
+      where_more (is_limited from) _ _ _ (λ unlimited. where_more (is_spent from) _ _ _ (λ w.
+      (w.0, w.1, where_more (nat_lt w.0 ADDING_GROUPS) _ _ _ (λ x. both_more (is_full from) _ _ _ _ (behind_more r sectors) (appended_more r sectors) x) w.2)) unlimited) h
 
   accepted_more : (r : Request) (sectors : List (List ℕ)) → AnswersAccepted told shelf failed lost from r sectors q to → AnswersAccepted told shelf others more from r sectors q to
   accepted_more (request.Create n size) sectors h = logged_more (request.Create n size) sectors h

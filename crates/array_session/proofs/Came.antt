@@ -1,6 +1,7 @@
 -- What an answer makes of the array: the same, the item is done, or more failed than is borne.
 use Rattle.std.proofs.Common.{◌≡◌, ◌⊎◌, inl, inr, ℕ, List, [], ◌∷◌, refl, sym, ◌∙◌, ap, subst, Bool, true, false}
-use Rattle.std.specs.Prelude.{Option, Some, None}
+use Rattle.std.specs.Prelude.{Option, Some, None, nat_lt}
+use Rattle.std.proofs.lemmas.Bool.{ltb-false}
 use Rattle.pur_base.specs.declared.device.Device.{Device}
 use Rattle.pur_base.specs.declared.request.Request.{Request}
 use Rattle.pur_base.specs.declared.request.Request.TheVariants as request
@@ -13,15 +14,25 @@ use Rattle.pur_base.specs.Commands.{IsLogged}
 use Rattle.pur_base.specs.Replies.{Answer, after_unless}
 use Rattle.world.specs.Losing.{losing}
 use Rattle.session_spec.specs.Faring as faring
-use Rattle.session_spec.specs.Faring.{Point, Answers, AnswersRequest, AnswersAccepted, IsRefused, IsDone, IsFailed, IsLost, Where, WithRoom, is_spent, is_full}
+use Rattle.session_spec.specs.Faring.{Point, Answers, AnswersRequest, AnswersAccepted, HasGroups, IsCheckpointed, IsRefused, IsDone, IsFailed, IsLost, MayAdd, Where, WithRoom, is_full, is_limited, is_spent}
+use Rattle.session_spec.specs.declared.limits.TheConstants.{ADDING_GROUPS}
 use Rattle.session_spec.specs.Headline.{IsAfter, IsNext}
 
 where_not : (b : Bool) {one other P : Type 0} → (one → P) → (b ≡ false → other → P) → Where b one other → P
 where_not true f g h = f h
 where_not false f g h = g refl h
 
-in_room : (from to : Point) (q : Answer) {some P : Type 0} → ((why : Refusal) → IsRefused why from q to → P) → (is_spent from ≡ false → is_full from ≡ false → some → P) → WithRoom from q to some → P
-in_room from to q f g h = where_not (is_spent from) (f refusals.Spent) (λ unspent. where_not (is_full from) (f refusals.Space) (λ room. g unspent room)) h
+-- in both cases
+in_both : (b : Bool) {one other P : Type 0} → (one → P) → (other → P) → Where b one other → P
+in_both true f g h = f h
+in_both false f g h = g h
+
+in_room : (from to : Point) (q : Answer) {some P : Type 0} → ((why : Refusal) → IsRefused why from q to → P) → (MayAdd from → some → P) → WithRoom from q to some → P
+in_room from to q {some} {P} f g h = where_not (is_limited from) (f refusals.Limit) (λ unlimited. where_not (is_spent from) (f refusals.Spent) (λ unspent w. in_groups unlimited unspent w.0 w.1 w.2)) h
+  where
+    in_groups : is_limited from ≡ false → is_spent from ≡ false → (groups : ℕ) → HasGroups from groups → Where (nat_lt groups ADDING_GROUPS) (IsRefused refusals.Space from q to) some → P
+    in_groups unlimited unspent groups left w = where_not (nat_lt groups ADDING_GROUPS) (f refusals.Space)
+        (λ enough is. g (record { unlimited = unlimited; unspent = unspent; groups = groups; left = left; enough = ltb-false groups ADDING_GROUPS enough }) is) w
 
 -- how an item may come out: with the array as it was, with it done, or with too much lost
 abbrev pub ComesTo : Geometry → (Device → Bool) → Point → List Item → Point → Type 0
@@ -43,23 +54,33 @@ module _ (told : Bool) (shelf : Geometry) (failed lost : Device → Bool) (from 
   unfolding Came
   failed_came r h = inr (inr (h.stays.array, h.unborne))
 
-  done_came : (r : Request) → IsLogged r → refusal from.array r ≡ None → is_spent from ≡ false → is_full from ≡ false → IsDone lost from r sectors q to → Came r
+  done_came : (r : Request) → IsLogged r → refusal from.array r ≡ None → MayAdd from → to.array ≡ done from.array r sectors → to.halted ≡ from.halted → Came r
   unfolding Came
-  done_came r logged none unspent room h = inr (inl (
+  done_came r logged none room is stays = inr (inl (
     record {
-      accepts = (logged, none, h.array ∙ ap (λ (w : Option Refusal). after_unless w from.array (done from.array r sectors)) (sym none));
-      unspent = unspent;
+      accepts = (logged, none, is ∙ ap (λ (w : Option Refusal). after_unless w from.array (done from.array r sectors)) (sym none));
       room = room;
       awake = awake;
     },
-    h.halted,
+    stays,
   ))
 
+  -- a checkpoint changes neither the array nor whether it is halted
+  behind_came : (r : Request) → IsLogged r → refusal from.array r ≡ None → MayAdd from → (mid : Point) → IsCheckpointed shelf from mid → IsDone lost mid r sectors q to → Came r
+  behind_came r logged none room mid made is =
+      done_came r logged none room (is.array ∙ ap (λ (p : Point). done p.array r sectors) made.same) (is.halted ∙ ap (λ (p : Point). p.halted) made.same)
+
   logged_came : (r : Request) → IsLogged r → refusal from.array r ≡ None → faring.IsLogged shelf lost from r sectors q to → Came r
-  logged_came r logs none h = in_room from to q (λ why. refused_came why r) (λ unspent room s. elim s [
-    | inl d ↦ done_came r logs none unspent room d
-    | inr f ↦ failed_came r f
-  ]) h
+  logged_came r logs none h = in_room from to q (λ why. refused_came why r) (λ room. in_both (is_full from)
+      (λ behind. elim behind [
+        | inl made ↦ behind_came r logs none room made.0 made.1 made.2
+        | inr (inl wanted) ↦ refused_came refusals.Memory r wanted
+        | inr (inr failed) ↦ failed_came r failed
+      ])
+      (λ there. elim there [
+        | inl is ↦ done_came r logs none room is.array is.halted
+        | inr failed ↦ failed_came r failed
+      ])) h
 
   accepted_came : (r : Request) → refusal from.array r ≡ None → AnswersAccepted told shelf failed lost from r sectors q to → Came r
   accepted_came (request.Create n size) none h = logged_came (request.Create n size) tt none h

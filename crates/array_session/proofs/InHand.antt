@@ -18,7 +18,8 @@ use Rattle.register.specs.Standing.{Content, array_of}
 use Rattle.array_state.specs.Ready.{IsReady}
 use Rattle.array_core.proofs.Losses.{sound_since, left_out_since}
 use Rattle.array_engine.specs.declared.engine.Engine.{Engine}
-use Rattle.array_engine.specs.Engines.{IsAt, failed_in, lost_in, point_after}
+use Rattle.array_engine.specs.Appending.{failed_in, lost_in}
+use Rattle.array_engine.specs.Engines.{IsAt, point_after}
 use Rattle.array_core.proofs.ReadyStands.{ready_is_clean}
 use Rattle.array_session.proofs.StandsAtPoint.{sound_is_named}
 use Rattle.array_session.proofs.Kept.{stands_in, only_one}

@@ -38,3 +38,7 @@ same_then {a} {b} {c} f g = record { honest = λ h. g.honest (f.honest h); hones
 -- a cut write is none that was stopped by the limit
 pub cut_is_no_limit : reads.Cut ≡ reads.Limit → ⊥
 cut_is_no_limit e = cc
+
+-- nor is the end of the input
+pub end_is_no_limit : reads.End ≡ reads.Limit → ⊥
+end_is_no_limit e = cc

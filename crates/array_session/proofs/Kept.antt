@@ -1,42 +1,24 @@
 -- What the devices stand for at a stop: told by the point of the last reply that was whole.
-use Rattle.std.proofs.Common.{◌≡◌, inl, inr, ℕ, ◌≤◌, List, [], ◌∷◌, refl, sym, ◌∙◌, subst, arith, false, get_or, Bool}
-use Rattle.std.specs.Prelude.{Contains, nat_le}
-use Rattle.std.proofs.lemmas.Bool.{cases_Bool, leb-true}
+use Rattle.std.proofs.Common.{◌≡◌, inl, inr, ℕ, List, [], ◌∷◌, refl, sym, ◌∙◌, subst, arith, false, get_or, Bool}
+use Rattle.std.specs.Prelude.{Contains}
 use Rattle.pur_base.specs.declared.device.Device.{Device}
 use Rattle.pur_base.specs.Devices.{Geometry, Conditions, Sound, LeftOut, IsBearable}
 use Rattle.pur_base.specs.Plain as plain
 use Rattle.pur_base.specs.Grammar.{Item, Asked, Syntax, Cut}
-use Rattle.log_codec.specs.declared.limits.TheConstants.{LOG_SLOTS}
 use Rattle.array_spec.specs.After.{AcceptsNext}
 use Rattle.world.specs.Losing.{geometry_of, has_risen}
 use Rattle.world.specs.Shelf.{Shelved, Stop, MayStop, MayLeave}
 use Rattle.register.specs.Standing.{Content, array_of}
 use Rattle.session_spec.specs.Entering.{IsStanding}
-use Rattle.session_spec.specs.Faring.{Point, is_spent, is_full, now_missing}
+use Rattle.session_spec.specs.Faring.{Point, now_missing}
 use Rattle.session_spec.specs.Headline.{StandsAmong, IsAfter, IsNext}
-use Rattle.array_state.specs.declared.array.Array.{Array}
-use Rattle.array_state.specs.Ready as state
 use Rattle.array_state.specs.Ready.{IsReady}
-use Rattle.array_core.specs.Performing.{IsFull}
 use Rattle.array_core.proofs.Losses.{sound_since, left_out_since}
 use Rattle.array_core.proofs.ReadyStands.{ready_stands}
 use Rattle.array_engine.specs.declared.engine.Engine.{Engine}
 use Rattle.array_engine.specs.Engines.{IsAt, MayBeDone, IsKeptBy}
+use Rattle.array_engine.proofs.Commands.{may_add_at}
 use Rattle.array_session.proofs.StandsAtPoint.{borne_at_point, stands_at_point, stands_as, sound_is_named}
-
--- ---- room
-
-not_spent : (a : Array) (p : Point) → p.boot ≡ a.register.record → p.next ≡ a.memory.memory.next → state.is_spent a ≡ false → is_spent p ≡ false
-not_spent a p boot next room = rw (boot, next) room
-
-not_full : (a : Array) (p : Point) → p.logged ≡ a.log.count → ¬ (IsFull a) → is_full p ≡ false
-not_full a p same room = elim (cases_Bool (nat_le LOG_SLOTS p.logged)) [
-  | inl is ↦
-      let le : LOG_SLOTS ≤ p.logged = leb-true LOG_SLOTS p.logged is in
-      let most : a.log.count ≤ LOG_SLOTS = a.log.room in
-      absurd (room (omega (arith, le, same, most)))
-  | inr isn't ↦ isn't
-]
 
 -- ---- the next item
 
@@ -45,13 +27,11 @@ next_too a (Asked r sectors) more b h = h
 next_too a Syntax more b h = h
 next_too a Cut more b h = h
 
-may_be_next : (told : Bool) (there : Shelved) (e : Engine) (p : Point) (was : plain.Array) (item : Item) (more : List Item) (array : plain.Array) → IsAt told there e p → e.halted ≡ false → p.array ≡ was → MayBeDone e was item array → IsNext p (item ∷ more) array
+may_be_next : (told : Bool) (there : Shelved) (e : Engine) (p : Point) (was : plain.Array) (item : Item) (more : List Item) (array : plain.Array) → IsAt told there e p → e.halted ≡ false → p.array ≡ was → MayBeDone e.array was item array → IsNext p (item ∷ more) array
 may_be_next told there e p was item more array at awake is_held may =
-    let s = at.stands awake in
     record {
       accepts = subst (λ (a : plain.Array). AcceptsNext a (item ∷ more) array) (sym is_held) (next_too was item more array may.accepts);
-      unspent = not_spent e.array p s.boot s.next may.unspent;
-      room = not_full e.array p s.logged may.room;
+      room = may_add_at (at.stands awake) may.room;
       awake = at.halted ∙ awake;
     }
 
@@ -60,7 +40,7 @@ may_be_next told there e p was item more array at awake is_held may =
 -- At a stop in the answering of an item, by the point of the reply before it.
 module _ (told : Bool) (shelf : Geometry) (mid : Shelved) (is : geometry_of mid ≡ shelf) (e : Engine) (p : Point) (at : IsAt told mid e p) (awake : e.halted ≡ false) (same : (d : Device) → p.stop.write_faults d ≡ (mid.disk d).write_faults)
     (held : Content) (ready : IsReady mid e.array held) (is_held : p.array ≡ array_of held) where
-  pub kept_stands : (item : Item) (more : List Item) (stop : Stop) → IsKeptBy mid e (array_of held) item stop → IsBearable shelf (now_missing p stop) → StandsAmong shelf stop.image (now_missing p stop) (IsAfter p (item ∷ more))
+  pub kept_stands : (item : Item) (more : List Item) (stop : Stop) → IsKeptBy mid e.array (array_of held) item stop → IsBearable shelf (now_missing p stop) → StandsAmong shelf stop.image (now_missing p stop) (IsAfter p (item ∷ more))
   kept_stands item more stop kept = subst (λ (g : Geometry). IsBearable g (now_missing p stop) → StandsAmong g stop.image (now_missing p stop) (IsAfter p (item ∷ more))) is here
     where
       here : IsBearable (geometry_of mid) (now_missing p stop) → StandsAmong (geometry_of mid) stop.image (now_missing p stop) (IsAfter p (item ∷ more))

@@ -22,7 +22,8 @@ use Rattle.array_state.specs.Ready.{IsReady}
 use Rattle.array_core.proofs.Losses.{same_geometry, bearable_or_not}
 use Rattle.array_engine.specs.declared.engine.Engine.{Engine}
 use Rattle.array_engine.specs.declared.said.Said.{Said}
-use Rattle.array_engine.specs.Engines.{IsAt, IsAnsweredAt, IsKeptBy, failed_in, lost_in, point_after}
+use Rattle.array_engine.specs.Appending.{failed_in, lost_in}
+use Rattle.array_engine.specs.Engines.{IsAt, IsAnsweredAt, IsKeptBy, point_after}
 use Rattle.array_session.specs.Sessions.{IsServedFrom, BeginsAt, IsHeldAt}
 use Rattle.array_session.proofs.Came.{stays_awake}
 use Rattle.array_session.proofs.Kept.{kept_stands, ready_stands_on}
@@ -78,6 +79,7 @@ at_still told was now e p disk at = record {
   stands = λ awake. let s = at.stands awake in record {
     logged = s.logged;
     boot = s.boot;
+    patches = s.patches;
     next = s.next;
     contents = s.contents;
     reads = s.reads;
@@ -161,9 +163,9 @@ both_leave {a} {b} {P} {Q} p q = record {
 
 -- The engine has answered an item, and its reply isn't given yet: mid and between are the devices before and after.
 module _ (told : Bool) (start mid between : Shelved) (e0 e e' : Engine) (input unread unread' : List ℕ) (first : Point) (item : Item) (said : Said) (s : SoFar told start mid e0 e input unread first false)
-    (some : 0 < length unread) (is : first_item unread ≡ (item, unread')) (on : Continues mid between) (calls : LeavesOnly mid between (IsCountedBy mid))
+    (some : 0 < length unread) (is : first_item unread ≡ (item, unread')) (on : Continues mid between) (calls : LeavesOnly mid between (IsCountedBy mid)) (tells : mid.honest)
     (x : IsAnsweredAt told mid between e e' item said s.last)
-    (kept : e.halted ≡ false → (held : Content) → IsReady mid e.array held → LeavesOnly mid between (IsKeptBy mid e (array_of held) item)) (unlapsed : between.lapsed → ⊥) where
+    (kept : e.halted ≡ false → (held : Content) → IsReady mid e.array held → LeavesOnly mid between (IsKeptBy mid e.array (array_of held) item)) (unlapsed : between.lapsed → ⊥) where
   abbrev shelf : Geometry
   shelf = geometry_of start
 
@@ -221,7 +223,7 @@ module _ (told : Bool) (start mid between : Shelved) (e0 e e' : Engine) (input u
   went_on held bears =
       let before = s.ready held (borne_before shelf s.last.conditions (losing (lost_in mid between) s.last.conditions) (loses (lost_in mid between) s.last.conditions) bears) in
       let awake : e'.halted ≡ false = stays_awake told shelf (failed_in mid between) (lost_in mid between) s.last (to s.last.stop) item q (s.at.halted ∙ before.1) (answers_here s.last.stop) bears in
-      (x.ready awake before.0.0 before.0.1 before.0.2, awake)
+      (x.ready tells awake before.0.0 before.0.1 before.0.2, awake)
 
   -- what is missing at a stop since then was lost by then
   lost_before : (stop : Stop) → IsCountedBy between stop → IsBearable shelf (now_missing s.last stop) → IsBearable shelf (losing (lost_in mid between) s.last.conditions)

@@ -10,6 +10,7 @@ ghost use Rattle.array_session.specs.Sessions.{BeginsAt, IsServedFrom, IsSession
 use array_engine::Engine;
 use pur_base::Status;
 use request_codec::{Item, Reader, ReplyWriter};
+use std::alloc::Global;
 use world::World;
 
 /// How a session ends whose input is answered to its end.
@@ -23,6 +24,7 @@ fn ended(halted: bool) -> Status
 /// a logged request was answered `no device` by then, `Cut` where the input ends inside a write's data, `InputLimit` where 2^40 bytes were taken and
 /// another came, and `Source` or `Sink` at once where a call of the source or the sink failed.
 pub fn answer_all<W: World>(
+    alloc: Global,
     mut reader: Reader,
     mut writer: ReplyWriter,
     mut engine: Engine,
@@ -53,7 +55,7 @@ pub fn answer_all<W: World>(
             Item::Limit => return Status::InputLimit,
             _ => {}
         }
-        let said = engine.respond(&item, reader.sectors(), world);
+        let said = engine.respond(alloc, &item, reader.sectors(), world);
         match engine.give(&said, &mut writer, world) {
             Ok(()) => {}
             Err(_) => return Status::Sink,

@@ -8,14 +8,15 @@ use Rattle.pur_base.specs.declared.request.Request.TheVariants as request
 use Rattle.pur_base.specs.declared.reply.Refusal.{Refusal}
 use Rattle.pur_base.specs.declared.reply.Refusal.TheVariants as refusals
 use Rattle.pur_base.specs.Devices.{Geometry, Condition, Conditions, IsBearable, IsWithin, MayBecome}
-use Rattle.pur_base.specs.Plain.{refusal, done}
+use Rattle.pur_base.specs.Plain.{Array, refusal, done}
 use Rattle.pur_base.specs.Grammar.{Item, Asked, Syntax, Cut}
 use Rattle.pur_base.specs.Replies.{Answer, given, answer_unless, after_unless}
 use Rattle.world.specs.Shelf.{Stop}
 use Rattle.world.specs.Losing.{has_risen, has_failed, has_lost_writes, losing, IsLater}
 use Rattle.array_spec.specs.Runs.{Step, IsModelled, IsPhysical, IsBarred}
 use Rattle.array_spec.proofs.Standings.{within_twice}
-use Rattle.session_spec.specs.Faring.{Point, Fares, Serves, Answers, AnswersRequest, AnswersAccepted, IsLogged, IsRefused, IsFailed, Where, WithRoom, is_spent, is_full}
+use Rattle.session_spec.specs.Faring.{Point, Fares, Serves, Answers, AnswersRequest, AnswersAccepted, IsAppended, IsAppendedBehind, IsCheckpointed, IsDone, IsLogged, IsRefused, IsFailed, Where, WithRoom, is_full, is_limited, is_spent}
+use Rattle.session_spec.specs.declared.limits.TheConstants.{ADDING_GROUPS}
 use Rattle.session_spec.specs.Chain.{FaresRun, ClaimsHaveCauses, NoneComesBack, WasBorne, HaltsHaveCauses}
 use Rattle.session_spec.proofs.Conditions.{goes, unlost, borne_before, stays_so}
 
@@ -53,17 +54,44 @@ either true f g h = f h
 either false f g h = g h
 
 -- with room or without
-in_room : (from to : Point) (q : Answer) {some : Type 0} {P : Type 0} → (IsRefused refusals.Spent from q to → P) → (IsRefused refusals.Space from q to → P) → (some → P) → WithRoom from q to some → P
-in_room from to q f g h w = either (is_spent from) f (either (is_full from) g h) w
+in_room : (from to : Point) (q : Answer) {some : Type 0} {P : Type 0} → (IsRefused refusals.Limit from q to → P) → (IsRefused refusals.Spent from q to → P) → (IsRefused refusals.Space from q to → P) → (some → P)
+    → WithRoom from q to some → P
+in_room from to q f g h k w = either (is_limited from) f (either (is_spent from) g (λ (groups, left, s). either (nat_lt groups ADDING_GROUPS) h k s)) w
+
+-- the array is the same behind a checkpoint
+same_array : {shelf : Geometry} {from mid : Point} → IsCheckpointed shelf from mid → mid.array ≡ from.array
+same_array c = ap (λ (p : Point). p.array) c.same
+
+same_halted : {shelf : Geometry} {from mid : Point} → IsCheckpointed shelf from mid → mid.halted ≡ from.halted
+same_halted c = ap (λ (p : Point). p.halted) c.same
+
+-- with a free slot, and without
+module _ (shelf : Geometry) (lost : Device → Bool) (from to : Point) (r : Request) (sectors : List (List ℕ)) (q : Answer) where
+  appended : {P : Type 0} → (IsDone lost from r sectors q to → P) → (IsFailed shelf lost from q to → P) → IsAppended shelf lost from r sectors q to → P
+  appended f g (inl d) = f d
+  appended f g (inr x) = g x
+
+  appended_behind : {P : Type 0} → ((mid : Point) → IsCheckpointed shelf from mid → IsDone lost mid r sectors q to → P) → (IsRefused refusals.Memory from q to → P) → (IsFailed shelf lost from q to → P)
+      → IsAppendedBehind shelf lost from r sectors q to → P
+  appended_behind f g h (inl (mid, c, d)) = f mid c d
+  appended_behind f g h (inr (inl m)) = g m
+  appended_behind f g h (inr (inr x)) = h x
 
 -- a logged request
-logged : (shelf : Geometry) (lost : Device → Bool) (from to : Point) (r : Request) (sectors : List (List ℕ)) (q : Answer) → refusal from.array r ≡ None → IsModelled r
-    → IsLogged shelf lost from r sectors q to → Step from.array (Asked r sectors) q to.array
-logged shelf lost from to r sectors q none is h = in_room from to q (physical from to refusals.Spent r sectors q none tt) (physical from to refusals.Space r sectors q none tt)
-    (λ s. elim s [
-      | inl d ↦ modelled from to r sectors q none is d.reply d.array
-      | inr f ↦ failed shelf lost from to r sectors q none f
-    ]) h
+module _ (shelf : Geometry) (lost : Device → Bool) (from to : Point) (r : Request) (sectors : List (List ℕ)) (q : Answer) (none : refusal from.array r ≡ None) (is : IsModelled r) where
+  done_behind : (mid : Point) → IsCheckpointed shelf from mid → IsDone lost mid r sectors q to → Step from.array (Asked r sectors) q to.array
+  done_behind mid c d =
+      let e : mid.array ≡ from.array = same_array c in
+      modelled from to r sectors q none is (d.reply ∙ ap (λ (a : Array). given a r) e) (d.array ∙ ap (λ (a : Array). done a r sectors) e)
+
+  logged : IsLogged shelf lost from r sectors q to → Step from.array (Asked r sectors) q to.array
+  logged h =
+      let failing = λ (f : IsFailed shelf lost from q to). failed shelf lost from to r sectors q none f in
+      in_room from to q (physical from to refusals.Limit r sectors q none tt) (physical from to refusals.Spent r sectors q none tt) (physical from to refusals.Space r sectors q none tt)
+      (either (is_full from)
+      (appended_behind shelf lost from to r sectors q done_behind (physical from to refusals.Memory r sectors q none tt) failing)
+      (appended shelf lost from to r sectors q (λ d. modelled from to r sectors q none is d.reply d.array) failing))
+      h
 
 accepted : (shelf : Geometry) (fails lost : Device → Bool) (from to : Point) (r : Request) (sectors : List (List ℕ)) (q : Answer) → refusal from.array r ≡ None
     → AnswersAccepted true shelf fails lost from r sectors q to → Step from.array (Asked r sectors) q to.array
@@ -156,7 +184,12 @@ HaltedBy shelf lost from to = (to.halted ≡ from.halted) ⊎ (¬ (IsBearable sh
 
 logged_halts : (shelf : Geometry) (lost : Device → Bool) (from to : Point) (r : Request) (sectors : List (List ℕ)) (q : Answer) → IsLogged shelf lost from r sectors q to → HaltedBy shelf lost from to
 unfolding HaltedBy
-logged_halts shelf lost from to r sectors q h = in_room from to q (λ s. inl s.halted) (λ s. inl s.halted) (λ s. elim s [ inl d ↦ inl d.halted | inr f ↦ inr f.unborne ]) h
+logged_halts shelf lost from to r sectors q h =
+    in_room from to q (λ s. inl s.halted) (λ s. inl s.halted) (λ s. inl s.halted)
+    (either (is_full from)
+    (appended_behind shelf lost from to r sectors q (λ mid c d. inl (d.halted ∙ same_halted c)) (λ s. inl s.halted) (λ f. inr f.unborne))
+    (appended shelf lost from to r sectors q (λ d. inl d.halted) (λ f. inr f.unborne)))
+    h
 
 accepted_halts : (told : Bool) (shelf : Geometry) (fails lost : Device → Bool) (from to : Point) (r : Request) (sectors : List (List ℕ)) (q : Answer) → AnswersAccepted told shelf fails lost from r sectors q to → HaltedBy shelf lost from to
 unfolding HaltedBy

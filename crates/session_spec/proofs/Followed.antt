@@ -1,5 +1,5 @@
 -- After a session that was stopped the next one enters.
-use Rattle.std.proofs.Common.{◌≡◌, ◌⊎◌, inl, inr, ℕ, List, true}
+use Rattle.std.proofs.Common.{inl, inr, ℕ, List, true}
 use Rattle.pur_base.specs.Plain.{Array}
 use Rattle.pur_base.specs.declared.reply.Status.{Status}
 use Rattle.pur_base.specs.Devices.{Conditions}

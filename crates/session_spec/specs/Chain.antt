@@ -1,6 +1,5 @@
 -- Laws of sessions: how one follows another, and that no claim comes without its cause.
 use Rattle.std.specs.Prelude.{◌≡◌, Bool, true, false, List, [], length, drop, Some, None, ℕ, ◌⊎◌, Contains}
-use Rattle.std.proofs.Common.{inl, inr}
 use Rattle.pur_base.specs.declared.device.Device.{Device}
 use Rattle.pur_base.specs.Bytes.{IsBytes}
 use Rattle.pur_base.specs.Devices.{Geometry, Image, Conditions, Sound, IsOn, IsBearable, IsWithin, MayShowAs}

@@ -1,22 +1,30 @@
 -- How the array and its devices fare while requests are served: at each reply what was answered and why, and which devices are missing.
-use Rattle.std.specs.Prelude.{◌≡◌, ◌≢◌, ◌⊎◌, ◌||◌, ◌+◌, ◌-◌, ◌^◌, ◌<◌, ◌≤◌, ℕ, Bool, true, false, nat_le, List, [], ◌∷◌, ◌++◌, length, Option, Some, None}
+use Rattle.std.specs.Prelude.{◌≡◌, ◌≢◌, ◌⊎◌, ◌||◌, ◌+◌, ◌<◌, ◌≤◌, ℕ, Bool, true, false, nat_le, nat_lt, List, [], ◌∷◌, ◌++◌, length, Option, Some, None}
 use Rattle.pur_base.specs.declared.device.Device.{Device}
 use Rattle.pur_base.specs.declared.request.Request.{Request}
 use Rattle.pur_base.specs.declared.request.Request.TheVariants as request
 use Rattle.pur_base.specs.declared.reply.Refusal.{Refusal}
 use Rattle.pur_base.specs.declared.reply.Refusal.TheVariants as refusals
 use Rattle.pur_base.specs.Devices.{Geometry, Conditions, Sound, IsBearable, drive}
-use Rattle.std.specs.List.{AllByRecursion}
+use Rattle.std.specs.List.{AllByRecursion, AllZip}
 use Rattle.pur_base.specs.Plain.{Array, refusal, done}
 use Rattle.pur_base.specs.Grammar.{Item, Asked, Syntax, Cut}
 use Rattle.pur_base.specs.Replies.{Answer, Sectors, refused, given, text}
 use Rattle.world.specs.Shelf.{Stop}
 use Rattle.pur_base.specs.declared.limits.TheConstants.{SECTOR_BYTES}
+use Rattle.pur_base.specs.declared.facts.AnyFact.{AnyFact}
 use Rattle.world.specs.Losing.{has_failed, has_lost_writes, losing, IsLater}
+use Rattle.boot_codec.specs.Record.{patch_segments}
 use Rattle.boot_codec.specs.declared.record.BootRecord.{BootRecord}
 use Rattle.boot_codec.specs.declared.record.NextNumbers.{NextNumbers}
+use Rattle.array_spec.specs.Counts.{IsGroups, free_of_members}
+use Rattle.array_spec.specs.Sound.{AreSound}
+use Rattle.array_spec.specs.Stored.{all_facts}
+use Rattle.memory_spec.specs.Memory.{Contents, FactsRead}
 use Rattle.memory_spec.specs.Numbers.{are_used_up, is_used_up, next_after}
+use Rattle.checkpoint_spec.specs.Whole.{IsNamed}
 use Rattle.log_codec.specs.declared.limits.TheConstants.{LOG_SLOTS}
+use Rattle.session_spec.specs.declared.limits.TheConstants.{ADDING_GROUPS, DATA_SEGMENTS, LIMITED_SEGMENTS, NEW_PATCHES}
 
 -- where a reply has just been given
 pub record Point : Type 0 where
@@ -25,6 +33,8 @@ pub record Point : Type 0 where
   pub logged : ℕ
   -- the record in force
   pub boot : BootRecord
+  -- the facts of the patches that it names
+  pub patches : List (List AnyFact)
   -- the numbers that are given next
   pub next : NextNumbers
   pub conditions : Conditions
@@ -45,6 +55,7 @@ pub record IsAsBefore (from to : Point) : Type 0 where
   pub array : to.array ≡ from.array
   pub logged : to.logged ≡ from.logged
   pub boot : to.boot ≡ from.boot
+  pub patches : to.patches ≡ from.patches
   pub next : to.next ≡ from.next
 
 -- a drive is missing, or a call on it failed
@@ -68,6 +79,7 @@ pub record IsDone (lost : Device → Bool) (from : Point) (r : Request) (sectors
   pub array : to.array ≡ done from.array r sectors
   pub logged : to.logged ≡ from.logged + 1
   pub boot : MayRise lost from.boot to.boot
+  pub patches : to.patches ≡ from.patches
   pub next : to.next ≡ next_after from.next r
   pub halted : to.halted ≡ from.halted
 
@@ -112,21 +124,75 @@ abbrev pub Where : Bool → Type 0 → Type 0 → Type 0
 Where true one other = one
 Where false one other = other
 
+-- the patches have so many segments that some are to be merged first
+abbrev pub is_limited : Point → Bool
+is_limited point = nat_le LIMITED_SEGMENTS (patch_segments point.boot.patches)
+
 -- too few generations, numbers of commands, or ids and sequence numbers are left
 abbrev pub is_spent : Point → Bool
 is_spent point = is_used_up point.boot.generation || is_used_up point.boot.flushed || are_used_up point.next
+
+-- for so many more segments there are free units
+abbrev pub HasGroups : Point → ℕ → Type 0
+HasGroups point groups = IsGroups (free_of_members point.boot (all_facts point.patches)) groups
 
 -- no slot of the log is free
 abbrev pub is_full : Point → Bool
 is_full point = nat_le LOG_SLOTS point.logged
 
--- the answers `spent` and `no space`, each exactly where it's so, and in that order
+-- the answers `no limit`, `no spent` and `no space`, each exactly where it's so, and in that order
 abbrev pub WithRoom : Point → Answer → Point → Type 0 → Type 0
-WithRoom from q to some = Where (is_spent from) (IsRefused refusals.Spent from q to) (Where (is_full from) (IsRefused refusals.Space from q to) some)
+WithRoom from q to some = Where (is_limited from) (IsRefused refusals.Limit from q to) (Where (is_spent from) (IsRefused refusals.Spent from q to)
+    ((groups : ℕ) × HasGroups from groups × Where (nat_lt groups ADDING_GROUPS) (IsRefused refusals.Space from q to) some))
 
--- a logged request is done, or more devices failed than can be borne
+-- A checkpoint was made: it is the same array, with nothing in the log, and nothing else has changed but the record, the facts of its patches and the next numbers.
+-- Three stores wrote three records each at most. The record names the new patches, which are sound and read as the array; few segments were given to data and to patches.
+pub record IsCheckpointed (shelf : Geometry) (from to : Point) : Type 0 where
+  pub same : to ≡ record from { logged = 0; boot = to.boot; patches = to.patches; next = to.next }
+  pub rises : from.boot.generation < to.boot.generation
+  pub few : to.boot.generation ≤ from.boot.generation + 9
+  pub boot : to.boot ≡ record from.boot {
+    generation = to.boot.generation;
+    members = to.boot.members;
+    patches = to.boot.patches;
+    next = to.next;
+    flushed = from.boot.flushed + from.logged;
+  }
+  pub data_segments : ℕ
+  pub new_segments : ℕ
+  pub few_data : data_segments ≤ DATA_SEGMENTS
+  pub few_new : new_segments ≤ NEW_PATCHES
+  pub next : to.next ≡ record from.next {
+    segment = from.next.segment + data_segments;
+    sequence = from.next.sequence + data_segments;
+    patch_segment = from.next.patch_segment + new_segments;
+  }
+  pub patch_segments_are : patch_segments to.boot.patches ≡ patch_segments from.boot.patches + new_segments
+  pub named : AllZip IsNamed to.boot.patches to.patches
+  pub sound : AreSound shelf to.boot to.patches
+  pub contents : Contents
+  pub reads : FactsRead contents [] (all_facts to.patches) to.next.object to.array
+
+-- a slot is free: the request is done, or more devices failed than can be borne
+abbrev pub IsAppended : Geometry → (Device → Bool) → Point → Request → List (List ℕ) → Answer → Point → Type 0
+IsAppended shelf lost from r sectors q to = IsDone lost from r sectors q to ⊎ IsFailed shelf lost from q to
+
+-- No slot is free: a checkpoint is made, and then the request is done, or memory is wanted for the checkpoint, or more devices failed than can be borne, in it or after it.
+abbrev pub IsAppendedBehind : Geometry → (Device → Bool) → Point → Request → List (List ℕ) → Answer → Point → Type 0
+IsAppendedBehind shelf lost from r sectors q to =
+    ((mid : Point) × IsCheckpointed shelf from mid × IsDone lost mid r sectors q to) ⊎ IsRefused refusals.Memory from q to ⊎ IsFailed shelf lost from q to
+
+-- a logged request, where there is room for it
 abbrev pub IsLogged : Geometry → (Device → Bool) → Point → Request → List (List ℕ) → Answer → Point → Type 0
-IsLogged shelf lost from r sectors q to = WithRoom from q to (IsDone lost from r sectors q to ⊎ IsFailed shelf lost from q to)
+IsLogged shelf lost from r sectors q to = WithRoom from q to (Where (is_full from) (IsAppendedBehind shelf lost from r sectors q to) (IsAppended shelf lost from r sectors q to))
+
+-- what is asked of a point where a logged request may be done
+pub record MayAdd (point : Point) : Type 0 where
+  pub unlimited : is_limited point ≡ false
+  pub unspent : is_spent point ≡ false
+  pub groups : ℕ
+  pub left : HasGroups point groups
+  pub enough : ADDING_GROUPS ≤ groups
 
 -- How a request is answered that the model accepts, while the array isn't halted.
 abbrev pub AnswersAccepted : Bool → Geometry → (Device → Bool) → (Device → Bool) → Point → Request → List (List ℕ) → Answer → Point → Type 0

@@ -1,6 +1,5 @@
 -- What a session does to the array that the devices stand for, whatever fails, and wherever it is stopped.
-use Rattle.std.specs.Prelude.{◌≡◌, ◌≢◌, ◌⊎◌, ◌<◌, ◌+◌, ◌-◌, ◌^◌, ℕ, Bool, true, false, List, [], ◌++◌, length, drop, Contains, Option, Some, None, IfSome, ⊤}
-use Rattle.std.proofs.Common.{inl, inr}
+use Rattle.std.specs.Prelude.{◌≡◌, ◌⊎◌, ◌<◌, ◌+◌, ◌-◌, ◌^◌, ℕ, Bool, true, false, List, [], ◌++◌, length, drop, Contains, Option, Some, None, IfSome, ⊤}
 use Rattle.std.specs.List.{AllByRecursion}
 use Rattle.pur_base.specs.declared.device.Device.{Device}
 use Rattle.pur_base.specs.declared.reply.Status.{Status}
@@ -26,7 +25,7 @@ use Rattle.array_spec.specs.Acked.{acked}
 use Rattle.array_spec.specs.After.{AcceptsNext}
 use Rattle.array_spec.specs.Losses.{not_holding}
 use Rattle.session_spec.specs.Entering.{Enters, IsLeft, IsStanding, Found, IsTakenOver, OnlyFailedAreSilent, StandsStill, read_now, failed_by, failed_since}
-use Rattle.session_spec.specs.Faring.{Point, IsReached, Fares, IsBorne, is_spent, is_full, now_missing}
+use Rattle.session_spec.specs.Faring.{Point, IsReached, Fares, IsBorne, MayAdd, now_missing}
 use Rattle.session_spec.specs.Ends.{Ends, IsOutput, IsPartOfNext, RisesIf, is_source, is_sink}
 
 -- ---- the array isn't opened
@@ -83,13 +82,12 @@ pub record Unopened (old new : Shelved) (input left : List ℕ) (ended : Status)
 -- What segments hold is whatever it is, unless it is told: then the members hold that array.
 pub record HoldsLog (told : Bool) (shelf : Geometry) (members : View) (boot : BootRecord) (first : Point) : Type 0 where
   pub not_spent : boot.generation < 2 ^ 48 - 8
-  pub patches : List (List AnyFact)
   -- no other facts stand as the record's patches
-  pub no_other : (there : List (List AnyFact)) → PatchesStand members boot there → there ≡ patches
-  pub sound : AreSound shelf boot patches
+  pub no_other : (there : List (List AnyFact)) → PatchesStand members boot there → there ≡ first.patches
+  pub sound : AreSound shelf boot first.patches
   pub contents : Contents
   pub base : Array
-  pub reads : FactsRead contents [] (all_facts patches) boot.next.object base
+  pub reads : FactsRead contents [] (all_facts first.patches) boot.next.object base
   pub known : told ≡ true → HoldsBase shelf members boot base
   pub log : List Command
   pub log_stands : LogStands members boot.flushed base log
@@ -136,8 +134,7 @@ pub record StandsAmong (shelf : Geometry) (image : Image) (missing : Conditions)
 -- the next item may have been done: a logged request that the model accepts, with room for it in an array that isn't halted
 pub record IsNext (point : Point) (rest : List Item) (array : Array) : Type 0 where
   pub accepts : AcceptsNext point.array rest array
-  pub unspent : is_spent point ≡ false
-  pub room : is_full point ≡ false
+  pub room : MayAdd point
   pub awake : point.halted ≡ false
 
 -- the array where the last reply was given, or where the next item is done as well

@@ -1,13 +1,15 @@
 //! What a session over devices does to the array, whatever fails and wherever it is stopped.
-//! There is no code: each public function here promises, as its contract, a law of these definitions.
+//! But for limits there is no code: each public function here promises, as its contract, a law of these definitions.
 #![tactic(auto)]
 
 mod causes;
 mod chaining;
+mod limits;
 mod reaching;
 
 pub use causes::{claims_have_causes, replies_are_lawful, takeovers_keep};
 pub use chaining::{
     memory_may_be_wanted, nothing_is_lost_untouched, sessions_chain, sessions_follow,
 };
+pub use limits::{ADDING_GROUPS, DATA_SEGMENTS, LIMITED_SEGMENTS, NEW_PATCHES};
 pub use reaching::points_are_reached;

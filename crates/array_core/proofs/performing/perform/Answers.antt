@@ -1,4 +1,4 @@
-use Rattle.std.proofs.Common.{◌≡◌, ◌∙◌, ℕ, List, Result, IfErr, sym, ap, subst}
+use Rattle.std.proofs.Common.{◌≡◌, ◌∙◌, ℕ, List, Result, OnErr, sym, ap, subst}
 use Rattle.std.specs.List.{AllZip}
 use Rattle.std.proofs.lemmas.Result.{err_from_is_err_and}
 use Rattle.pur_base.specs.Commands.{Command, Accepts}
@@ -22,10 +22,8 @@ use Rattle.array_memory.proofs.AllowedLemmas.{accepted}
 use Rattle.array_state.specs.Ready.{IsReady}
 use Rattle.array_state.specs.Room.{HasRoomFor}
 use Rattle.array_core.specs.declared.performing.PerformFault.{PerformFault}
-use Rattle.array_core.specs.declared.performing.PerformFault.TheVariants.{Device}
 use Rattle.array_core.specs.Losing.{lost_since}
 use Rattle.array_state.proofs.Applied.{gives_none, room_for_next, segments_sound, same_patches}
-use Rattle.array_core.proofs.Appended.{nothing_done}
 use Rattle.array_core.proofs.Commands.{accept_last, after_last, all_and_last}
 use Rattle.array_core.proofs.Losses.{same_geometry}
 use Rattle.array_core.proofs.Lost.{not_lost}
@@ -34,11 +32,6 @@ use Rattle.array_core.proofs.performing.perform.Goals as goal
 -- what is said of segments, by memory as it was before the call
 same_segments_since : (was mid now : Kept) → mid ≡ was → ((id : ℕ) → segment (facts now.memory.tables) id ≡ segment (facts mid.memory.tables) id) → (id : ℕ) → segment (facts now.memory.tables) id ≡ segment (facts was.memory.tables) id
 same_segments_since was mid now e same id = same id ∙ ap (λ (k : Kept). segment (facts k.memory.tables) id) e
-
-pub returns-in_err-check_room-clause-any_moment : goal.returns-in_err-check_room-clause-any_moment
-returns-in_err-check_room-clause-any_moment g c h held ready =
-    let cmd : Command = record { request = c.args.request.now; sectors = c.args.sectors.now } in
-    nothing_done (g.S.Shelf.shelf c.args.shelf.now) c.args.array.now.register c.args.array.now.log.members held ready.is_open ready.in_force cmd (g.met.S.Shelf.is_shelf c.args.shelf.now)
 
 pub returns-in_err-commit-clause-any_moment : goal.returns-in_err-commit-clause-any_moment
 returns-in_err-commit-clause-any_moment g c h held ready =
@@ -50,9 +43,9 @@ pub returns-in_err-commit-clause-borne : goal.returns-in_err-commit-clause-borne
 returns-in_err-commit-clause-borne g c h =
     let a = g.S.Shelf.shelf c.args.shelf.now in
     let n = g.S.Shelf.shelf c.commit.new.shelf in
-    let q = err_from_is_err_and c.from_residual-in_err-commit.result c.from_residual-in_err-commit.ensures.1 in
-    subst (λ (t : Result (Unit {0}) PerformFault). IfErr t (λ e. e ≡ Device → (held : Content) → IsReady a c.args.array.now held → IsBearable (geometry_of a) (lost_since a n (named_sound c.args.array.now.register.record)) → ⊥)) (sym q.1)
-    (λ is held ready bears. not_lost a n c.args.array.now held ready.is_open bears c.in_err-commit.ensures.lost.1)
+    let q = err_from_is_err_and c.from_residual.result c.from_residual.ensures.1 in
+    subst (λ (t : Result (Unit {0}) PerformFault). OnErr t ((held : Content) → IsReady a c.args.array.now held → IsBearable (geometry_of a) (lost_since a n (named_sound c.args.array.now.register.record)) → ⊥)) (sym q.1)
+    (λ held ready bears. not_lost a n c.args.array.now held ready.is_open bears c.in_err-commit.ensures.lost.1)
 
 pub returns-clause-any_moment : goal.returns-clause-any_moment
 returns-clause-any_moment g c h held ready =

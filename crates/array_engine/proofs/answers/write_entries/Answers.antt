@@ -1,8 +1,8 @@
-use Rattle.std.proofs.Common.{◌<◌, length, subst, sym, arith}
+use Rattle.std.proofs.Common.{◌<◌, length, arith}
 use Rattle.std.proofs.lemmas.Result.{err_from_is_err_and}
 use Rattle.request_codec.proofs.WritingLemmas.{extends-on}
 use Rattle.request_codec.proofs.CallLemmas.{went-on}
-use Rattle.array_engine.proofs.ReplyLemmas.{entries-cut, entry-went, entries-all}
+use Rattle.array_engine.proofs.ReplyLemmas.{entries-cut, entry-went}
 use Rattle.array_engine.proofs.answers.write_entries.Goals as goal
 
 pub returns-in_err-write_entry_at-clause-gave : goal.returns-in_err-write_entry_at-clause-gave

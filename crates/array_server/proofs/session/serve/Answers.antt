@@ -49,7 +49,10 @@ returns-in-Ok-recover-clause-honest_sink g c =
     both (to.honest, to.honest_before) c.answer_all.ensures.honest_sink
 
 pub answer_all-requires-clause-is_of : goal.answer_all-requires-clause-is_of
-answer_all-requires-clause-is_of g c = λ awake. rw c.new-in-Ok-recover.ensures.0 c.in-Ok-recover.ensures.is_of
+answer_all-requires-clause-is_of g c = λ awake. (rw c.new-in-Ok-recover.ensures.array c.in-Ok-recover.ensures.is_of, rw c.new-in-Ok-recover.ensures.array c.new-in-Ok-recover.ensures.room)
+
+pub new-requires-in-Ok-recover : goal.new-requires-in-Ok-recover
+new-requires-in-Ok-recover g c = (geometry_of (g.W.Shelf.shelf c.recover.new.shelf), c.in-Ok-recover.ensures.is_of)
 
 pub returns-in-Ok-recover-clause-survives : goal.returns-in-Ok-recover-clause-survives
 returns-in-Ok-recover-clause-survives g c = λ h hs hk.
@@ -66,13 +69,13 @@ returns-in-Ok-recover-clause-survives g c = λ h hs hk.
     let to = g.met.W.World.shelf_keeps_sink old mid opening.rest in
     let o = opening.opened h in
     let e = c.new-in-Ok-recover.result in
-    let is : e ≡ engine_of a e.buffers = λ k. record { array = c.new-in-Ok-recover.ensures.0 k; halted = c.new-in-Ok-recover.ensures.1 k; buffers = e.buffers } in
+    let is : e ≡ engine_of e a = λ k. record e { array = c.new-in-Ok-recover.ensures.array k; halted = c.new-in-Ok-recover.ensures.awake k } in
     record {
       source_counts = subst (λ (n : ℕ). RisesIf (is_source ended) n (source new).faults) from.faults c.answer_all.ensures.source;
       sink_counts = subst (λ (n : ℕ). RisesIf (is_sink ended) n (sink new).faults) to.faults c.answer_all.ensures.sink;
       session = λ unlapsed.
           inr (subst (λ (l : List ℕ). Served (shelf old) (shelf new) l (source new).bytes ended) from.bytes
-          (served (shelf old) (shelf mid) (shelf new) a e.buffers (source mid).bytes (source new).bytes ended opening.continues o (reads_some (shelf old) (shelf mid) a o) opening.is_of.of_shelf opening.named opening.continues.later (opening.moments h)
+          (served (shelf old) (shelf mid) (shelf new) a e (source mid).bytes (source new).bytes ended opening.continues o (reads_some (shelf old) (shelf mid) a o) opening.is_of.of_shelf opening.named opening.continues.later (opening.moments h)
           (λ told first begins. subst (λ (x : Engine). IsServedFrom told (shelf mid) (shelf new) x (source mid).bytes (source new).bytes ended first) is
           (c.answer_all.ensures.served (opening.continues.honest h) (from.honest hs) (to.honest hk) unlapsed told first (subst (λ (x : Engine). BeginsAt told (shelf mid) x first) (sym is) begins)))));
     }

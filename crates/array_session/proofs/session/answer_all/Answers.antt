@@ -14,7 +14,7 @@ use Rattle.array_session.proofs.SoFar.{SoFar}
 use Rattle.array_session.specs.Sessions.{IsServedFrom, end_of}
 use Rattle.array_session.proofs.SoFar.{begun_so_far, taken_so_far, answered, sank}
 use Rattle.array_session.proofs.Ends.{stopped_source, stopped_limit, stopped_done, stopped_cut}
-use Rattle.array_session.proofs.ItemsRead.{reads_item, uncut, is_answered, same_then, cut_is_no_limit}
+use Rattle.array_session.proofs.ItemsRead.{reads_item, uncut, is_answered, same_then, cut_is_no_limit, end_is_no_limit}
 use Rattle.array_session.proofs.session.answer_all.Goals as goal
 
 -- no sink failed at the end of the input
@@ -64,7 +64,7 @@ returns-in-End-clause-served g c = λ h hs hk unlapsed told first begins.
     let so = inv.so_far h hs hk (λ l. unlapsed (takes.continues.lapsed l)) told first begins in
     let read = rw c.in-End.is at (c.in-Ok.ensures.told (inv.tells hs)) in
     let none = read.0.ended (c.in-Ok.ensures.end c.in-End.is) in
-    let total = (rw c.in-End.is at (c.in-Ok.ensures.total (inv.tells hs))).same (λ e. cc) in
+    let total = (rw c.in-End.is at (c.in-Ok.ensures.total (inv.tells hs))).same end_is_no_limit in
     let done = stopped_done _ _ _ _ _ _ _ _ _ _ (taken_so_far _ _ _ _ _ _ _ _ _ _ so takes unlapsed) begins.stop read.1.0 none
     (omega (arith, total, inv.total hs, ap length none, c.in-Ok.ensures.limited inv.limited)) refl in
     subst (λ (s : Status). IsServedFrom told (g.W.Shelf.shelf c.args.world.now) (g.W.Shelf.shelf c.next.new.source) c.args.engine (g.W.Source.source c.args.world.now).bytes (g.W.Source.source c.next.new.source).bytes s first) (sym (c.ended.ensures ∙ ap end_of c.is_halted.ensures)) done
@@ -140,12 +140,12 @@ returns-in-Err g c =
           let honest_mid = ab.honest h in
           let read = c.in-Ok.ensures.told (inv.tells hs) in
           let item = reads_item c.in-Ok.item c.sectors.result.now (c.items.reader.ahead.pending ++ (source c.items.world).bytes) (c.next.new.self.ahead.pending ++ (source c.next.new.source).bytes) c.in_default-item.not-End c.in_default-item.not-Limit (rw c.sectors.ensures read.1) in
-          let y = x.answers honest_mid told at_mid.last at_mid.at in
+          let y = x.answers told at_mid.last (λ is. honest_mid) at_mid.at in
           let tells_between = stays.honest (inv.sink_honest.0 hk) in
           let cut = c.in-Err.ensures.gave tells_between y.reply y.says in
           let gave : (shelf c.give.new.sink).output ≡ (shelf c.respond-said.new.shelf).output ++ cut.0 =
           world.one_clock c.give.new.sink (c.in-Err.ensures.honest.0 tells_between) ∙ cut.4 ∙ ap (λ (l : List ℕ). l ++ cut.0) (sym (world.one_clock c.respond-said.new.shelf tells_between)) in
-          sank _ _ _ _ _ _ _ _ _ _ _ (item_read c.in-Ok.item c.sectors.result.now) c.respond-said.result at_mid item.0 item.1 x.continues (x.moments honest_mid) y (x.kept honest_mid) unlapsed_between
+          sank _ _ _ _ _ _ _ _ _ _ _ (item_read c.in-Ok.item c.sectors.result.now) c.respond-said.result at_mid item.0 item.1 x.continues (x.moments honest_mid) honest_mid y (x.kept honest_mid) unlapsed_between
           _ gives unlapsed begins.stop cut.0 cut.1 gave cut.3 cut.2 _;
       status = tt;
       source = kept.faults ∙ c.in-Ok.ensures.counts ∙ inv.source_faults;
@@ -178,12 +178,12 @@ returns-in-Cut g c =
           let honest_mid = ab.honest h in
           let read = c.in-Ok.ensures.told (inv.tells hs) in
           let item = reads_item c.in-Ok.item c.sectors.result.now (c.items.reader.ahead.pending ++ (source c.items.world).bytes) (c.next.new.self.ahead.pending ++ (source c.next.new.source).bytes) c.in_default-item.not-End c.in_default-item.not-Limit (rw c.sectors.ensures read.1) in
-          let y = x.answers honest_mid told at_mid.last at_mid.at in
+          let y = x.answers told at_mid.last (λ is. honest_mid) at_mid.at in
           let tells_between = stays.honest (inv.sink_honest.0 hk) in
           let gave : (shelf c.give.new.sink).output ≡ (shelf c.respond-said.new.shelf).output ++ text y.reply =
           world.one_clock c.give.new.sink (c.in-Ok-give.ensures.honest.0 tells_between) ∙ c.in-Ok-give.ensures.gave tells_between y.reply y.says ∙ ap (λ (l : List ℕ). l ++ text y.reply) (sym (world.one_clock c.respond-said.new.shelf tells_between)) in
           let honest_after = gives.continues.honest (ac.honest h) in
-          let next = answered _ _ _ _ _ _ _ _ _ _ _ (item_read c.in-Ok.item c.sectors.result.now) c.respond-said.result at_mid item.0 item.1 x.continues (x.moments honest_mid) y (x.kept honest_mid) unlapsed_between
+          let next = answered _ _ _ _ _ _ _ _ _ _ _ (item_read c.in-Ok.item c.sectors.result.now) c.respond-said.result at_mid item.0 item.1 x.continues (x.moments honest_mid) honest_mid y (x.kept honest_mid) unlapsed_between
           _ gives unlapsed gave (g.met.W.Shelf.is_shelf c.give.new.sink) honest_after true (rw c.in-Cut.is refl) in
           let none = read.0.ended (c.in-Ok.ensures.cut c.in-Cut.is) in
           let total = (rw c.in-Cut.is at (c.in-Ok.ensures.total (inv.tells hs))).same cut_is_no_limit in
@@ -225,12 +225,12 @@ items-preserved g c =
           let honest_mid = ab.honest h in
           let read = c.in-Ok.ensures.told (inv.tells hs) in
           let item = reads_item c.in-Ok.item c.sectors.result.now (c.items.reader.ahead.pending ++ (source c.items.world).bytes) (c.next.new.self.ahead.pending ++ (source c.next.new.source).bytes) c.in_default-item.not-End c.in_default-item.not-Limit (rw c.sectors.ensures read.1) in
-          let y = x.answers honest_mid told at_mid.last at_mid.at in
+          let y = x.answers told at_mid.last (λ is. honest_mid) at_mid.at in
           let tells_between = stays.honest (inv.sink_honest.0 hk) in
           let gave : (shelf c.give.new.sink).output ≡ (shelf c.respond-said.new.shelf).output ++ text y.reply =
           world.one_clock c.give.new.sink (c.in-Ok-give.ensures.honest.0 tells_between) ∙ c.in-Ok-give.ensures.gave tells_between y.reply y.says ∙ ap (λ (l : List ℕ). l ++ text y.reply) (sym (world.one_clock c.respond-said.new.shelf tells_between)) in
           let honest_after = gives.continues.honest (ac.honest h) in
-          let next = answered _ _ _ _ _ _ _ _ _ _ _ (item_read c.in-Ok.item c.sectors.result.now) c.respond-said.result at_mid item.0 item.1 x.continues (x.moments honest_mid) y (x.kept honest_mid) unlapsed_between
+          let next = answered _ _ _ _ _ _ _ _ _ _ _ (item_read c.in-Ok.item c.sectors.result.now) c.respond-said.result at_mid item.0 item.1 x.continues (x.moments honest_mid) honest_mid y (x.kept honest_mid) unlapsed_between
           _ gives unlapsed gave (g.met.W.Shelf.is_shelf c.give.new.sink) honest_after false (uncut c.in-Ok.item c.sectors.result.now c.in_default-item-2.not-Cut) in
           subst (λ (l : List ℕ). SoFar told (shelf c.args.world.now) (shelf c.give.new.sink) c.args.engine c.respond-said.new.self (source c.args.world.now).bytes (c.next.new.self.ahead.pending ++ l) first false) (sym kept.bytes) next;
       total = λ h.

@@ -1,31 +1,34 @@
 use Rattle.std.proofs.Common.{refl, sym}
 use Rattle.pur_base.specs.Grammar.{Asked}
 use Rattle.array_engine.proofs.Meanwhile.{kept_at_once, nothing_done, nothing_moved}
-use Rattle.array_engine.proofs.Points.{refused_by_cause, refused_halted}
+use Rattle.array_engine.proofs.Points.{like_itself, refused_by_cause, refused_halted}
 use Rattle.array_engine.proofs.engine.Engine.answer.Goals as goal
 
 pub returns-then-self-clause-answers : goal.returns-then-self-clause-answers
-returns-then-self-clause-answers g c = λ honest told from at.
+returns-then-self-clause-answers g c = λ told from honest at.
     let shelf = g.S.Shelf.shelf c.args.shelf.now in
     let e = c.args.self.now in
-    refused_halted told shelf shelf e e refl refl (nothing_moved shelf e.array) from at (nothing_done shelf e.array) c.if-self.true c.args.request.now c.args.sectors.now
+    refused_halted told shelf shelf e e (like_itself e.array) refl (nothing_moved told shelf e.array) from at (nothing_done shelf e.array) c.if-self.true c.args.request.now c.args.sectors.now
 
 pub returns-in-Some-clause-answers : goal.returns-in-Some-clause-answers
-returns-in-Some-clause-answers g c = λ honest told from at.
+returns-in-Some-clause-answers g c = λ told from honest at.
     let shelf = g.S.Shelf.shelf c.args.shelf.now in
     let e = c.args.self.now in
     let s = at.stands c.if-self.false in
-    refused_by_cause told shelf shelf e e refl refl (nothing_moved shelf e.array) from at c.if-self.false c.args.request.now c.args.sectors.now (nothing_done shelf e.array) c.in-Some.why (sym (c.in-Some.ensures.array s.contents from.array s.reads))
+    refused_by_cause told shelf shelf e e (like_itself e.array) refl (nothing_moved told shelf e.array) from at c.if-self.false c.args.request.now c.args.sectors.now (nothing_done shelf e.array) c.in-Some.why (sym (c.in-Some.ensures.array s.contents from.array s.reads))
 
 pub returns-in-Some-clause-kept : goal.returns-in-Some-clause-kept
 returns-in-Some-clause-kept g c = λ honest awake held ready.
-    kept_at_once (g.S.Shelf.shelf c.args.shelf.now) c.args.self.now held ready (g.met.S.Shelf.is_shelf c.args.shelf.now) (Asked c.args.request.now c.args.sectors.now)
+    kept_at_once (g.S.Shelf.shelf c.args.shelf.now) c.args.self.now.array held ready (g.met.S.Shelf.is_shelf c.args.shelf.now) (Asked c.args.request.now c.args.sectors.now)
 
 pub answer_accepted-requires-clause-accepted : goal.answer_accepted-requires-clause-accepted
 answer_accepted-requires-clause-accepted g c = λ contents array reads. sym (c.in-None.ensures.array contents array reads)
 
 pub answer_accepted-requires-clause-is_of : goal.answer_accepted-requires-clause-is_of
-answer_accepted-requires-clause-is_of g c = c.requires.is_of c.if-self.false
+answer_accepted-requires-clause-is_of g c = (c.requires.is_of c.if-self.false).0
+
+pub answer_accepted-requires-clause-room : goal.answer_accepted-requires-clause-room
+answer_accepted-requires-clause-room g c = (c.requires.is_of c.if-self.false).1
 
 pub returns-in-None-clause-kept : goal.returns-in-None-clause-kept
 returns-in-None-clause-kept g c = λ honest awake held ready. c.answer_accepted.ensures.kept honest held ready

@@ -1,7 +1,7 @@
 use Rattle.std.proofs.Common.{refl}
 use Rattle.pur_base.specs.Grammar.{Asked}
 use Rattle.array_engine.proofs.Meanwhile.{kept_at_once, nothing_done, nothing_moved}
-use Rattle.array_engine.proofs.Points.{listed}
+use Rattle.array_engine.proofs.Points.{like_itself, listed}
 use Rattle.array_engine.proofs.WholeReplies.{names_whole}
 use Rattle.array_engine.proofs.engine.Engine.answer_accepted.Goals as goal
 
@@ -9,12 +9,12 @@ pub returns-in-Read-clause-kept : goal.returns-in-Read-clause-kept
 returns-in-Read-clause-kept g c = rw c.in-Read.is (λ honest held ready. c.read.ensures.kept honest c.args.sectors.now held ready)
 
 pub returns-in-List-clause-answers : goal.returns-in-List-clause-answers
-returns-in-List-clause-answers g c = λ honest told from at.
+returns-in-List-clause-answers g c = λ told from honest at.
     let shelf = g.S.Shelf.shelf c.args.shelf.now in
     let e = c.args.self.now in
     let s = at.stands c.requires.awake in
-    rw c.in-List.is (listed told shelf shelf e e refl refl (nothing_moved shelf e.array) from at (nothing_done shelf e.array) c.requires.awake c.args.sectors.now (names_whole s.contents e.array.memory.memory from.array s.reads))
+    rw c.in-List.is (listed told shelf shelf e e (like_itself e.array) refl (nothing_moved told shelf e.array) from at (nothing_done shelf e.array) c.requires.awake c.args.sectors.now (names_whole s.contents e.array.memory.memory from.array s.reads))
 
 pub returns-in-List-clause-kept : goal.returns-in-List-clause-kept
 returns-in-List-clause-kept g c = λ honest held ready.
-    kept_at_once (g.S.Shelf.shelf c.args.shelf.now) c.args.self.now held ready (g.met.S.Shelf.is_shelf c.args.shelf.now) (Asked c.args.request.now c.args.sectors.now)
+    kept_at_once (g.S.Shelf.shelf c.args.shelf.now) c.args.self.now.array held ready (g.met.S.Shelf.is_shelf c.args.shelf.now) (Asked c.args.request.now c.args.sectors.now)

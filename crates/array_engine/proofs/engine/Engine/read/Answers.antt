@@ -1,4 +1,4 @@
-use Rattle.std.proofs.Common.{ℕ, List, refl, sym, subst}
+use Rattle.std.proofs.Common.{refl, sym, subst}
 use Rattle.std.specs.Prelude.{take}
 use Rattle.pur_base.specs.Devices.{Geometry}
 use Rattle.pur_base.specs.Grammar.{Asked}
@@ -12,11 +12,12 @@ use Rattle.array_engine.specs.Saying.{HasSectors}
 use Rattle.array_engine.specs.Engines.{IsAnsweredAt}
 use Rattle.array_engine.proofs.Ending.{WasRead, read_answered, read_there}
 use Rattle.array_engine.proofs.Meanwhile.{OnlyReads, kept_read}
+use Rattle.array_engine.proofs.Points.{like_itself}
 use Rattle.array_engine.proofs.Spans.{AreMissing, readable}
 use Rattle.array_engine.proofs.engine.Engine.read.Goals as goal
 
 pub returns-clause-is_of : goal.returns-clause-is_of
-returns-clause-is_of g c = λ awake. subst (λ (k : Geometry). IsArrayOf k c.args.self.now.array) (same_geometry c.read-done.ensures.continues) c.requires.is_of
+returns-clause-is_of g c = λ awake. (subst (λ (k : Geometry). IsArrayOf k c.args.self.now.array) (same_geometry c.read-done.ensures.continues) c.requires.is_of, c.requires.room)
 
 pub returns-clause-moments : goal.returns-clause-moments
 returns-clause-moments g c = λ honest. weaker (λ stop left. left.counts) (c.read-done.ensures.writes honest).any_moment
@@ -26,23 +27,23 @@ returns-clause-there g c =
     subst (λ (q : Said). HasSectors c.read-done.new.self.sectors.items q) (sym c.said_to_read.ensures) (read_there c.read-done.new.self.sectors.items c.args.count c.read-done.ensures.filled c.requires.few c.read-done.result)
 
 pub returns-clause-answers : goal.returns-clause-answers
-returns-clause-answers g c = λ honest sectors told from at.
+returns-clause-answers g c = λ sectors told from honest at.
     let old = g.S.Shelf.shelf c.args.shelf.now in
     let new = g.S.Shelf.shelf c.read-done.new.shelf in
     let e = c.args.self.now in
-    let f : Engine = record { array = e.array; halted = e.halted; buffers = c.read-done.new.self } in
+    let f : Engine = record { array = e.array; room = e.room; halted = e.halted; buffers = c.read-done.new.self } in
     let does = c.read-done.ensures in
-    let reads : OnlyReads old new = record { continues = does.continues; same = does.same honest; writes = does.writes honest; nvrams = does.nvrams } in
+    let reads : OnlyReads old new = record { continues = does.continues; same = does.same; writes = does.writes; nvrams = does.nvrams } in
     let are : AreMissing e.array.register c.missing_of-missing.result = rw c.drives.ensures at c.missing_of-missing.ensures in
     let w : WasRead old new e.array c.args.name.now c.args.lba c.args.count c.missing_of-missing.result (take c.args.count f.buffers.sectors.items) c.read-done.result =
-    record { refused = does.refused; given = does.sectors honest; lost = does.lost } in
+    record { refused = does.refused; given = does.sectors; lost = does.lost } in
     subst (λ (q : Said). IsAnsweredAt told old new e f (Asked (request.Read c.args.name.now c.args.lba c.args.count) sectors) q from) (sym c.said_to_read.ensures)
-    (read_answered told old new e f refl refl reads (g.met.S.Shelf.is_shelf c.args.shelf.now) (g.met.S.Shelf.is_shelf c.read-done.new.shelf) honest from at c.requires.awake c.args.name.now c.args.lba c.args.count c.requires.few
+    (read_answered told old new e f (like_itself e.array) refl reads (g.met.S.Shelf.is_shelf c.args.shelf.now) (g.met.S.Shelf.is_shelf c.read-done.new.shelf) honest from at c.requires.awake c.args.name.now c.args.lba c.args.count c.requires.few
     c.missing_of-missing.result c.requires.is_of are does.filled does.whole c.requires.accepted sectors c.read-done.result w)
 
 pub returns-clause-kept : goal.returns-clause-kept
 returns-clause-kept g c = λ honest sectors held ready.
-    kept_read (g.S.Shelf.shelf c.args.shelf.now) c.args.self.now held ready (g.S.Shelf.shelf c.read-done.new.shelf) (c.read-done.ensures.writes honest) (Asked (request.Read c.args.name.now c.args.lba c.args.count) sectors)
+    kept_read (g.S.Shelf.shelf c.args.shelf.now) c.args.self.now.array held ready (g.S.Shelf.shelf c.read-done.new.shelf) (c.read-done.ensures.writes honest) (Asked (request.Read c.args.name.now c.args.lba c.args.count) sectors)
 
 pub read-done-requires-clause-places : goal.read-done-requires-clause-places
 read-done-requires-clause-places g c = readable (g.S.Shelf.shelf c.args.shelf.now) c.args.self.now.array c.requires.is_of

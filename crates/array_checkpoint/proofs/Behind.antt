@@ -1,0 +1,70 @@
+-- What segments hold on the drives that are left behind a checkpoint.
+use Rattle.std.proofs.Common.{◌≡◌, inl, inr, ℕ, ◌+◌, ◌≤◌, List, length, refl, sym, subst, arith, Bool, false}
+use Rattle.std.specs.Prelude.{Some, is_none, count_by, slice_index_or}
+use Rattle.std.specs.List.{range_with_len}
+use Rattle.std.proofs.lemmas.Bool.{cases_Bool}
+use Rattle.pur_base.specs.Devices.{Geometry, slots_of, drive}
+use Rattle.pur_base.specs.Facts.{Facts}
+use Rattle.pur_base.specs.Visible.{segment}
+use Rattle.pur_base.specs.declared.facts.SegmentFact.{SegmentFact}
+use Rattle.boot_codec.specs.Record.{set_count}
+use Rattle.array_spec.specs.Sound.{ArePlaces}
+use Rattle.stored_spec.specs.Held.{AreEnough}
+use Rattle.world.specs.Losing.{geometry_of}
+use Rattle.world.specs.Shelf.{Shelved}
+use Rattle.world.specs.Writes.{WritesOnly}
+use Rattle.boot_region.specs.Members.{IsMember}
+use Rattle.register.specs.declared.state.Register.{Register}
+use Rattle.register.specs.Registers.{drives_of}
+use Rattle.register.proofs.FlagLemmas.{in_cut}
+use Rattle.register.proofs.Stores.{fewer_cut}
+use Rattle.memory_spec.specs.Memory.{Contents}
+use Rattle.checkpoint_spec.specs.Contents.{AreAmong}
+use Rattle.array_state.specs.Drives.{SegmentsHold, drives_view}
+use Rattle.array_core.proofs.Segments.{AreKept, few_bad, hold_kept, off_slots}
+use Rattle.array_switch.specs.Switching.{OnSlotsAndLog}
+use Rattle.array_checkpoint.specs.Made.{HoldOnLeft}
+
+-- the drives of a record show themselves
+view_among : (shelf : Shelved) (r : Register) → AreAmong (drives_of r) (λ d. (shelf.disk d).bytes) (drives_view shelf r)
+view_among shelf r i = elim (cases_Bool (slice_index_or (drives_of r) i false)) [
+  | inl m ↦ inr (m, rw m refl)
+  | inr none ↦ inl (rw none refl)
+]
+
+-- and are enough, where they are all but two of the shelf
+view_enough : (size : Geometry) (shelf : Shelved) (r : Register) → length (drives_of r) ≡ size.slots → size.slots ≤ set_count (drives_of r) + 2 → AreEnough size (drives_view shelf r)
+view_enough size shelf r slots enough =
+    let few = few_bad (λ i. is_none (drives_view shelf r (drive i))) (drives_of r) 0 not_lost in
+    let few_of : count_by (λ i. is_none (drives_view shelf r (drive i))) (slots_of size) + set_count (drives_of r) ≤ size.slots =
+    subst (λ (n : ℕ). count_by (λ i. is_none (drives_view shelf r (drive i))) (range_with_len 0 n) + set_count (drives_of r) ≤ n) slots few in
+    omega (arith, few_of, enough)
+  where
+    not_lost : (i : ℕ) → IsMember (drives_of r) i → is_none (drives_view shelf r (drive (0 + i))) ≡ false
+    not_lost i m =
+        let e : 0 + i ≡ i = omega arith in
+        subst (λ (k : ℕ). is_none (drives_view shelf r (drive k)) ≡ false) (sym e) (rw m refl)
+
+-- the drives of a later record are of those that were, and not lost
+pub fewer_left : (was now : Register) (lost : List Bool) → now.record.slots ≡ was.record.slots → ((i : ℕ) → IsMember now.drives i → IsMember was.drives i × ¬ (IsMember lost i))
+    → (i : ℕ) → IsMember (drives_of now) i → IsMember (drives_of was) i × ¬ (IsMember lost i)
+fewer_left was now lost slots fewer i m = (fewer_cut was now slots (λ k y. (fewer k y).0) i m, (fewer i (in_cut now.drives now.record.slots i m)).1)
+
+-- both boot slots lie in front of all data units, and the log is on other devices
+off_data : (r : Register) (members : List Bool) (k i : ℕ) → 196608 ≤ i → OnSlotsAndLog r members (drive k) i → ⊥
+off_data r members k i past (inl on) = off_slots (drives_of r) k i past on
+off_data r members k i past (inr none) = none
+
+-- What stands on all drives that aren't lost, or all but two of the shelf, stands on those of a later record, once it was stored and the log cleared.
+pub hold_left : (old new : Shelved) (was now : Register) (members lost : List Bool) (contents : Contents) (fs : Facts)
+    → WritesOnly (OnSlotsAndLog was members) old new → length (drives_of now) ≡ (geometry_of old).slots → (geometry_of old).slots ≤ set_count (drives_of now) + 2
+    → ((i : ℕ) → IsMember (drives_of now) i → IsMember (drives_of was) i × ¬ (IsMember lost i))
+    → ((id : ℕ) (d : SegmentFact) → segment fs id ≡ Some d → ArePlaces (geometry_of old) d.places)
+    → HoldOnLeft old was lost contents fs → SegmentsHold contents new now fs
+hold_left old new was now members lost contents fs writes slots enough fewer places hold =
+    let kept : AreKept old new now = record {
+      size = λ i m. (writes.device (drive i)).size;
+      bytes = λ i at m past. (writes.device (drive i)).bytes at (off_data was members i at past);
+    } in
+    hold_kept (geometry_of old) old new now kept contents fs places
+    (hold (drives_of now) fewer (drives_view old now) (view_among old now) (view_enough (geometry_of old) old now slots enough))

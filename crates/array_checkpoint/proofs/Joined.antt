@@ -1,0 +1,125 @@
+-- What holds behind a checkpoint of an array whose memory got room for it first.
+use Rattle.std.proofs.Common.{◌≡◌, inl, inr, [], ◌∷◌, true, refl, sym, ap, subst}
+use Rattle.std.specs.Prelude.{Err, OnErr, Result}
+use Rattle.pur_base.specs.Plain as plain
+use Rattle.pur_base.specs.declared.device.Device.{Device}
+use Rattle.pur_base.specs.declared.device.Device.TheVariants.{Drive, Nv}
+use Rattle.world.specs.Shelf.{Continues, IsCountedBy, IsShelf, LeavesOnly, Shelved}
+use Rattle.world.proofs.Moments.{continues_refl, started, then_run, weaker}
+use Rattle.world.proofs.Writes.{counted_then, counts_grow, nothing_written}
+use Rattle.boot_codec.specs.Region.{names}
+use Rattle.register.specs.Standing.{Content, array_of}
+use Rattle.memory_spec.specs.Memory.{Contents, ReadsAs}
+use Rattle.memory_spec.specs.Tables.{facts}
+use Rattle.array_memory.specs.Kept.{Kept}
+use Rattle.array_state.specs.declared.array.Array.{Array}
+use Rattle.array_state.specs.Drives.{SegmentsHold}
+use Rattle.array_state.specs.Ready.{IsReady, is_spent}
+use Rattle.array_core.specs.Holding as core
+use Rattle.array_core.specs.Performing.{IsKeptAt, IsLost}
+use Rattle.array_switch.specs.Switching.{DropsFailed, IsHolder, IsTooMuch, NoneJoins, WasOpen}
+use Rattle.array_switch.proofs.Free.{free_writes_go_on}
+use Rattle.array_checkpoint.specs.Prepared.{IsLike}
+use Rattle.array_checkpoint.specs.Made.{HasFlushed}
+use Rattle.array_checkpoint.proofs.Like.{like_is, roomed, roomed_reads}
+
+-- ---- what was open
+
+pub was_open : (shelf : Shelved) (a : Array) (held : Content) → IsReady shelf a held → WasOpen shelf a.register a.log held
+was_open shelf a held ready = record { is_open = ready.is_open; held_log = ready.held_log; keeps = ready.keeps; in_force = ready.in_force }
+
+-- ---- the array with room is the same
+
+module _ (was mid : Array) (like : IsLike was mid) where
+  same : mid ≡ roomed was mid.memory
+  same = like_is was mid like
+
+  pub same_spent : is_spent mid ≡ is_spent was
+  same_spent = ap (λ (a : Array). is_spent a) same
+
+  pub same_objects : mid.memory.objects ≡ was.memory.objects
+  same_objects = ap (λ (k : Kept). k.objects) like.memory
+
+  pub reads_roomed : (contents : Contents) (x : plain.Array) → ReadsAs contents was.memory.memory x → ReadsAs contents mid.memory.memory x
+  reads_roomed contents x r = subst (λ (a : Array). ReadsAs contents a.memory.memory x) (sym same) (roomed_reads was mid.memory contents x r)
+
+  pub hold_roomed : (shelf : Shelved) (contents : Contents) → SegmentsHold contents shelf was.register (facts was.memory.memory.tables) → SegmentsHold contents shelf mid.register (facts mid.memory.memory.tables)
+  hold_roomed shelf contents hold = subst (λ (a : Array). SegmentsHold contents shelf a.register (facts a.memory.memory.tables)) (sym same) hold
+
+  -- what has become of it
+  flushed_roomed : (k : Kept) (now : Array) → HasFlushed (roomed was k) now → HasFlushed was now
+  flushed_roomed k now h = record {
+    none = h.none;
+    rises = h.rises;
+    few = h.few;
+    rest = h.rest;
+    data_segments = h.data_segments;
+    new_segments = h.new_segments;
+    few_data = h.few_data;
+    few_new = h.few_new;
+    next = h.next;
+    patch_segments_are = h.patch_segments_are;
+  }
+
+  pub flushed_since : (now : Array) → HasFlushed mid now → HasFlushed was now
+  flushed_since now h = flushed_roomed mid.memory now (subst (λ (a : Array). HasFlushed a now) same h)
+
+  -- who holds it
+  holds_core : (a : Array) (d : Device) → IsHolder a.register a.log.members d → core.IsHolder a d
+  holds_core a (Drive d) m = m
+  holds_core a (Nv n) m = m
+
+  core_holds : (a : Array) (d : Device) → core.IsHolder a d → IsHolder a.register a.log.members d
+  core_holds a (Drive d) m = m
+  core_holds a (Nv n) m = m
+
+  held_by_both : (d : Device) → core.IsHolder was d → IsHolder mid.register mid.log.members d
+  held_by_both d m = core_holds mid d (subst (λ (a : Array). core.IsHolder a d) (sym same) (roomed_holder d m))
+    where
+      roomed_holder : (d : Device) → core.IsHolder was d → core.IsHolder (roomed was mid.memory) d
+      roomed_holder (Drive d) m = m
+      roomed_holder (Nv n) m = m
+
+  held_by_was : (d : Device) → IsHolder mid.register mid.log.members d → core.IsHolder was d
+  held_by_was d m = roomed_holder d (subst (λ (a : Array). core.IsHolder a d) same (holds_core mid d m))
+    where
+      roomed_holder : (d : Device) → core.IsHolder (roomed was mid.memory) d → core.IsHolder was d
+      roomed_holder (Drive d) m = m
+      roomed_holder (Nv n) m = m
+
+  pub drops : (start new : Shelved) (now : Array) → DropsFailed start new mid.register mid.log.members now.register now.log.members → core.DropsFailed start new was now
+  drops start new now dropped d m = elim (dropped d (held_by_both d m)) [ inl is ↦ inl (holds_core now d is) | inr rose ↦ inr rose ]
+
+  pub joins : (now : Array) → NoneJoins mid.register mid.log.members now.register now.log.members → core.NoneJoins was now
+  joins now none = record {
+    holders = λ d m. held_by_was d (none.holders d (core_holds now d m));
+    named = λ d e. elim (none.named d e) [
+      | inl named ↦ inl (subst (λ (a : Array). names a.register.record d ≡ true) same named)
+      | inr m ↦ inr (held_by_was d m)
+    ];
+  }
+
+  pub too_much : (start new : Shelved) → IsTooMuch start new mid.register mid.log.members → IsLost start new was
+  too_much start new lost = subst (λ (a : Array). IsLost start new a) same lost
+
+-- ---- where nothing was written
+
+module _ (shelf : Shelved) (is : IsShelf shelf) where
+  pub counted_now : LeavesOnly shelf shelf (IsCountedBy shelf)
+  counted_now = started shelf (IsCountedBy shelf) is (λ stop may. may.counts)
+
+  -- a session can go on
+  pub goes_on : shelf.honest → (a : Array) (held : Content) → IsReady shelf a held → LeavesOnly shelf shelf (IsKeptAt shelf a.register.record (array_of held ∷ []))
+  goes_on honest a held ready = free_writes_go_on shelf shelf is honest a.register a.log.members held ready.is_open ready.in_force (record {
+    continues = continues_refl shelf;
+    writes = nothing_written shelf is;
+    nvrams = λ n. refl;
+  })
+
+-- what was counted since a later moment was counted since an earlier one
+pub counted_since : {a b c : Shelved} → Continues a b → LeavesOnly a b (IsCountedBy a) → LeavesOnly b c (IsCountedBy b) → LeavesOnly a c (IsCountedBy a)
+counted_since ab first next = then_run ab first (weaker (λ stop counted. counted_then (counts_grow ab) counted) next)
+
+-- what is so behind an error
+pub err_on : {T E : Type 0} (r : Result T E) (P : Type 0) (e : E) → r ≡ Err e → P → OnErr r P
+err_on {T} {E} r P e is p = subst (λ (x : Result T E). OnErr x P) (sym is) p

@@ -1,0 +1,86 @@
+-- What segments hold on the drives that aren't lost, once a prepared checkpoint was written.
+use Rattle.std.proofs.Common.{◌≡◌, inl, inr, ℕ, ◌<◌, List, sym, subst, Bool, true, false}
+use Rattle.std.specs.Prelude.{slice_index_or}
+use Rattle.std.specs.List.{AllByRecursion}
+use Rattle.pur_base.specs.Devices.{Image, View, drive}
+use Rattle.pur_base.specs.declared.facts.SegmentFact.{SegmentFact}
+use Rattle.stored_spec.specs.Held.{AreEnough}
+use Rattle.free_space.specs.Map.{shelf_of}
+use Rattle.world.specs.Shelf.{Shelved, Continues}
+use Rattle.world.specs.Losing.{geometry_of}
+use Rattle.boot_region.specs.Members.{IsMember}
+use Rattle.register.specs.declared.state.Register.{Register}
+use Rattle.register.specs.Registers.{drives_of}
+use Rattle.memory_spec.specs.Memory.{Contents}
+use Rattle.memory_spec.specs.Tables.{facts}
+use Rattle.checkpoint_spec.specs.Contents.{AreAmong, ContentsStand}
+use Rattle.segment_io.specs.Lost.{is_in}
+use Rattle.segment_io.specs.Stripes.{bytes_of}
+use Rattle.data_io.specs.Standing.{DataStands}
+use Rattle.array_state.specs.declared.array.Array.{Array}
+use Rattle.array_state.specs.Drives.{SegmentsHold}
+use Rattle.array_state.specs.Ready.{IsArrayOf}
+use Rattle.array_core.proofs.Losses.{same_geometry}
+use Rattle.array_switch.proofs.Keeping.{unnamed}
+use Rattle.checkpoint_io.specs.Storing.{OnCheckpoint}
+use Rattle.array_checkpoint.specs.declared.preparing.Prepared.{Prepared}
+use Rattle.array_checkpoint.specs.Prepared.{IsPreparedFor}
+use Rattle.array_checkpoint.specs.Made.{contents_after, facts_after, HoldOnLeft}
+use Rattle.array_checkpoint.proofs.FreeUnits.{spares_used}
+use Rattle.array_checkpoint.proofs.Holds.{contents_hold}
+use Rattle.array_checkpoint.proofs.PreparedLemmas.{same_shelf}
+use Rattle.array_checkpoint.proofs.ShownUnits.{shows_data}
+use Rattle.array_checkpoint.proofs.Stays.{SparesUsed, contents_stay}
+use Rattle.array_checkpoint.proofs.Units.{may_be_placed, new_segment}
+use Rattle.array_checkpoint.proofs.Wrote.{Wrote}
+
+-- drives of the record that aren't lost
+abbrev pub AreLeft : Register → List Bool → List Bool → Type 0
+AreLeft r lost left = (i : ℕ) → IsMember left i → IsMember (drives_of r) i × ¬ (IsMember lost i)
+
+module _ (r : Register) (image : Image) (lost left : List Bool) (fewer : AreLeft r lost left) where
+  -- members among them are among the drives of the record
+  pub among_record : (members : View) → AreAmong left image members → AreAmong (drives_of r) image members
+  among_record members among i = elim (among i) [
+    | inl none ↦ inl none
+    | inr shown ↦ inr ((fewer i shown.0).0, shown.1)
+  ]
+
+  pub not_lost : (i : ℕ) → slice_index_or left i false ≡ true → is_in lost i ≡ false
+  not_lost i m = unnamed (is_in lost i) (fewer i m).1
+
+-- the size of the shelf is the record's
+pub own_size : (shelf : Shelved) (x : Array) → IsArrayOf (geometry_of shelf) x → geometry_of shelf ≡ shelf_of x.register.record
+own_size shelf x of = sym (same_shelf (geometry_of shelf) x of)
+
+module _ (a b : Shelved) (x : Array) (q : Prepared) (of : IsArrayOf (geometry_of a) x) (h : IsPreparedFor x q) (on : Continues a b) (lost : List Bool)
+    (w : Wrote a b q.plan q.added x.memory.memory.staged lost) (left : List Bool) (fewer : AreLeft x.register lost left)
+    (members : View) (among : AreAmong left (bytes_of b) members) (enough : AreEnough (geometry_of b) members) where
+  pub enough_then : AreEnough (geometry_of a) members
+  enough_then = subst (λ g. AreEnough g members) (sym (same_geometry on)) enough
+
+  -- the sectors that were placed stand
+  pub data_stand : DataStands members q.plan.segments.items x.memory.memory.staged q.plan.placing.order.items
+  data_stand = w.sectors members
+      (shows_data (geometry_of a) (bytes_of b) left lost members among (not_lost x.register (bytes_of b) lost left fewer) enough_then x.register.record x.memory.memory q.plan h.units (own_size a x of) h.free)
+
+  spares : SparesUsed x.register.record (facts x.memory.memory.tables) (OnCheckpoint q.plan.segments.items q.added)
+  spares p used at own on_it =
+      spares_used x.register.record x.memory.memory q.plan h.counts x.memory.memory.next.patch_segment h.units h.wanted h.free p used at own
+      (subst (λ ps. OnCheckpoint q.plan.segments.items ps (drive p.slot) at) h.added on_it)
+
+  -- and those of before stand still
+  still_stand : (contents : Contents) → SegmentsHold contents a x.register (facts x.memory.memory.tables) → ContentsStand contents members (facts x.memory.memory.tables)
+  still_stand contents hold =
+      contents_stay (geometry_of a) a b x.register members (among_record x.register (bytes_of b) lost left fewer members among) x.register.record (facts x.memory.memory.tables)
+      (OnCheckpoint q.plan.segments.items q.added) enough_then w.writes spares
+      (subst (λ n. AllByRecursion (λ (f : SegmentFact). f.segment.0 < n) (facts x.memory.memory.tables).segments) of.segment_ids of.sound.ids.segments) of.segments.places contents hold
+
+  pub both_stand : (contents : Contents) → SegmentsHold contents a x.register (facts x.memory.memory.tables) → ContentsStand (contents_after x.memory.memory q.plan contents) members (facts_after x.memory.memory q.plan)
+  both_stand contents hold =
+      contents_hold contents x.memory.memory q.plan h.plan.plan members (new_segment x.memory.memory q.plan h.plan.plan)
+      (may_be_placed a x.register.record x.memory.memory q.plan h.units (own_size a x of) h.plan.plan h.free).filled (still_stand contents hold) data_stand
+
+pub holds_on_left : (a b : Shelved) (x : Array) (q : Prepared) → IsArrayOf (geometry_of a) x → IsPreparedFor x q → Continues a b → (lost : List Bool) → Wrote a b q.plan q.added x.memory.memory.staged lost
+    → (contents : Contents) → SegmentsHold contents a x.register (facts x.memory.memory.tables) → HoldOnLeft b x.register lost (contents_after x.memory.memory q.plan contents) (facts_after x.memory.memory q.plan)
+holds_on_left a b x q of h on lost w contents hold left fewer members among enough = both_stand a b x q of h on lost w left fewer members among enough contents hold

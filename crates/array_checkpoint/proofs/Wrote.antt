@@ -1,0 +1,83 @@
+-- What the writes of a prepared checkpoint leave: only free units were written, and at every moment a session can go on.
+use Rattle.std.proofs.Common.{◌≡◌, inl, inr, ℕ, List, [], ◌∷◌, sym, subst, Bool, true}
+use Rattle.std.proofs.lemmas.Bool.{cases_Bool}
+use Rattle.pur_base.specs.Devices.{View}
+use Rattle.pur_base.specs.declared.device.Device.{Device}
+use Rattle.boot_codec.specs.declared.patch.Patch.{Patch}
+use Rattle.array_spec.specs.Counts.{IsFree}
+use Rattle.array_spec.specs.Stored.{all_facts}
+use Rattle.world.specs.Shelf.{Shelved, Continues, LeavesOnly, IsShelf}
+use Rattle.world.specs.Losing.{geometry_of}
+use Rattle.world.specs.Writes.{WritesOnly}
+use Rattle.world.proofs.Writes.{writes_more}
+use Rattle.register.specs.declared.state.Register.{Register}
+use Rattle.register.specs.Standing.{Content, array_of}
+use Rattle.memory_spec.specs.Tables.{facts}
+use Rattle.array_memory.specs.declared.plan.Plan.{Plan}
+use Rattle.record_tables.specs.Laws.{new_facts}
+use Rattle.segment_io.specs.Lost.{is_in, LosesOnly}
+use Rattle.segment_io.specs.Stripes.{bytes_of}
+use Rattle.data_io.specs.Standing.{DataStands}
+use Rattle.data_io.specs.Storing.{ShowsMostOf, StaysClean}
+use Rattle.checkpoint_io.specs.Storing.{OnCheckpoint, OthersStayOfCheckpoint}
+use Rattle.checkpoint_io.specs.Standing.{FactsStand}
+use Rattle.open_array.specs.Free.{OnFree, WritesFree}
+use Rattle.open_array.proofs.Standing.{member_clean}
+use Rattle.array_state.specs.declared.array.Array.{Array}
+use Rattle.array_state.specs.Ready.{IsArrayOf, IsReady}
+use Rattle.array_core.specs.Performing.{IsKeptAt}
+use Rattle.array_switch.specs.Switching.{AreLost, WroteFree}
+use Rattle.array_switch.proofs.Free.{free_writes_go_on}
+use Rattle.array_checkpoint.specs.declared.preparing.Prepared.{Prepared}
+use Rattle.array_checkpoint.specs.Prepared.{IsPreparedFor}
+use Rattle.array_checkpoint.proofs.FreeUnits.{nvrams_stay, only_free}
+use Rattle.array_checkpoint.proofs.Next.{same_free}
+
+-- sectors and facts stand on the drives that weren't lost
+pub record Wrote (a b : Shelved) (p : Plan) (added : List Patch) (staged : List (List ℕ)) (lost : List Bool) : Type 0 where
+  pub sectors : (view : View) → ShowsMostOf (bytes_of b) p.segments.items lost view → DataStands view p.segments.items staged p.placing.order.items
+  pub facts_stand : FactsStand (bytes_of b) added lost (new_facts p)
+  pub writes : WritesOnly (OnCheckpoint p.segments.items added) a b
+
+-- where none was lost before, each that is lost lost a write
+pub all_lost : (a b : Shelved) (r : Register) (was lost : List Bool) → ((slot : ℕ) → ¬ (is_in was slot ≡ true)) → LosesOnly a b was lost → AreLost a b r lost
+all_lost a b r was lost none loses i m is = elim (loses.cause i is) [
+  | inl before ↦ absurd (none i before)
+  | inr rose ↦ record { faults = rose.0; write_faults = rose.1 }
+]
+
+-- units that memory's tables leave free are free by its patches alone
+free_of_patches : (shelf : Shelved) (x : Array) (held : Content) → IsArrayOf (geometry_of shelf) x → IsReady shelf x held → (slot unit : ℕ) → IsFree x.register.record (facts x.memory.memory.tables) slot unit
+    → IsFree x.register.record (all_facts held.patches) slot unit
+free_of_patches shelf x held of ready slot unit free =
+    subst (λ ps. IsFree x.register.record (all_facts ps) slot unit) (sym ready.patches_are)
+    (same_free x.register.record x.memory.memory.tables of.room.no_segments of.room.no_elisions slot unit free)
+
+module _ (a b : Shelved) (x : Array) (q : Prepared) (of : IsArrayOf (geometry_of a) x) (h : IsPreparedFor x q) (on : Continues a b)
+    (writes : WritesOnly (OnCheckpoint q.plan.segments.items q.added) a b) (others : OthersStayOfCheckpoint q.plan.segments.items q.added a b)
+    (held : Content) (ready : IsReady a x held) where
+  free : (d : Device) (i : ℕ) → OnCheckpoint q.plan.segments.items q.added d i → OnFree x.register held d i
+  free d i w = only_free x.register held x.memory.memory q.plan h.counts x.memory.memory.next.patch_segment h.units ready.is_open.drives (free_of_patches a x held of ready) h.wanted h.free d i
+      (subst (λ ps. OnCheckpoint q.plan.segments.items ps d i) h.added w)
+
+  pub writes_free : WritesFree x.register held a b
+  writes_free = record {
+    continues = on;
+    writes = writes_more free writes;
+    nvrams = nvrams_stay q.plan h.counts x.memory.memory.next.patch_segment h.units a b (subst (λ ps. OthersStayOfCheckpoint q.plan.segments.items ps a b) h.added others);
+  }
+
+  -- meanwhile a session can go on
+  pub goes_on : IsShelf a → a.honest → LeavesOnly a b (IsKeptAt a x.register.record (array_of held ∷ []))
+  goes_on is honest = free_writes_go_on a b is honest x.register x.log.members held ready.is_open ready.in_force writes_free
+
+  -- drives that aren't lost are synced
+  pub wrote_free : IsShelf a → a.honest → (lost : List Bool) → AreLost a b x.register lost → StaysClean lost a b → WroteFree a b x.register lost held
+  wrote_free is honest lost are clean = record {
+    free = writes_free;
+    cause = are;
+    synced = λ i m. elim (cases_Bool (is_in lost i)) [
+      | inl is_lost ↦ inl is_lost
+      | inr isn't ↦ inr (clean i isn't (member_clean a is honest x.register x.log.members held ready.is_open i m))
+    ];
+  }

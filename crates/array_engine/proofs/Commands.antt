@@ -1,0 +1,294 @@
+-- The point behind a logged request.
+use Rattle.std.proofs.Common.{◌≡◌, inl, inr, ℕ, ◌+◌, ◌≤◌, ◌<◌, Bool, true, false, List, Option, Some, None, Result, Ok, Err, OnOk, IfErr, refl, sym, ap, subst, ◌∙◌, arith}
+use Rattle.std.specs.Prelude.{nat_lt}
+use Rattle.std.proofs.lemmas.Bool.{cases_lt, cond-false, cond-true, le-leb, lt-leb, le-ltb, lt-ltb}
+use Rattle.pur_base.specs.declared.device.Device.{Device}
+use Rattle.pur_base.specs.declared.request.Request.{Request}
+use Rattle.pur_base.specs.declared.request.Request.TheVariants as request
+use Rattle.pur_base.specs.declared.reply.Refusal.{Refusal}
+use Rattle.pur_base.specs.declared.reply.Refusal.TheVariants as refusals
+use Rattle.pur_base.specs.declared.reply.Reply.TheVariants as reply
+use Rattle.pur_base.specs.Commands.{Command, IsLogged, after}
+use Rattle.pur_base.specs.Devices.{Geometry, IsBearable}
+use Rattle.pur_base.specs.Grammar.{Asked, is_in_force}
+use Rattle.pur_base.specs.Plain as plain
+use Rattle.pur_base.specs.Plain.{refusal, done}
+use Rattle.pur_base.specs.Replies.{Answer, Line, refused, given, after_unless}
+use Rattle.boot_codec.specs.Record.{patch_segments}
+use Rattle.boot_codec.specs.declared.record.BootRecord.{BootRecord}
+use Rattle.boot_codec.specs.declared.record.NextNumbers.{NextNumbers}
+use Rattle.boot_codec.specs.Region.{names}
+use Rattle.log_codec.specs.declared.limits.TheConstants.{LOG_SLOTS}
+use Rattle.world.specs.Shelf.{Shelved, Stop}
+use Rattle.world.specs.Losing.{geometry_of, losing}
+use Rattle.memory_spec.specs.Numbers.{next_after}
+use Rattle.memory_spec.specs.Tables.{facts, patches}
+use Rattle.checkpoint_spec.proofs.Patches.{patches_read}
+use Rattle.checkpoint_spec.proofs.Records.{record_is_sound}
+use Rattle.session_spec.specs.Faring as faring
+use Rattle.session_spec.specs.Faring.{Point, Answers, AnswersRequest, AnswersAccepted, IsAppended as IsAppendedAt, IsAppendedBehind, IsCheckpointed, IsDone, IsFailed, IsRefused, MayRise, Where, WithRoom}
+use Rattle.session_spec.specs.declared.limits.TheConstants.{ADDING_GROUPS, LIMITED_SEGMENTS}
+use Rattle.array_state.specs.declared.array.Array.{Array}
+use Rattle.array_state.specs.Drives.{SegmentsHold}
+use Rattle.array_state.specs.Ready.{IsArrayOf, IsReady, is_spent}
+use Rattle.array_state.proofs.Applied.{same_patches}
+use Rattle.array_core.proofs.Losses.{sound_since, left_out_since}
+use Rattle.array_checkpoint.specs.Made.{HasFlushed}
+use Rattle.array_checkpoint.specs.Prepared.{IsLike}
+use Rattle.array_checkpoint.specs.Room.{HasGroups, MayAdd}
+use Rattle.array_engine.specs.declared.engine.Engine.{Engine}
+use Rattle.array_engine.specs.declared.appending.AppendFault.{AppendFault}
+use Rattle.array_engine.specs.declared.appending.AppendFault.TheVariants as fault
+use Rattle.array_engine.specs.declared.said.Said.TheVariants as said
+use Rattle.array_engine.specs.Appending.{AppliesTo, IsAppended, IsAppendFault, IsCleared, IsFull, failed_in, lost_in}
+use Rattle.array_engine.specs.Engines.{IsAt, StandsAt, IsAnsweredAt, point_after}
+use Rattle.array_engine.specs.Replying.{said_of, ends_lost}
+use Rattle.array_engine.proofs.Points.{KeepsReady, KeepsSegments, answered_refused}
+use Rattle.array_engine.proofs.Unborne.{not_risen}
+use Rattle.array_engine.proofs.Cleared.{cleared_tables}
+
+-- ---- room
+
+-- the one case or the other
+where_so : (b : Bool) {one : Type 0} (other : Type 0) → b ≡ true → one → Where b one other
+where_so true other e h = h
+where_so false other e h = absurd (cc e)
+
+where_not : (b : Bool) (one : Type 0) {other : Type 0} → b ≡ false → other → Where b one other
+where_not true one e h = absurd (cc e)
+where_not false one e h = h
+
+where_either : (b : Bool) {one other : Type 0} → one → other → Where b one other
+where_either true h k = h
+where_either false h k = k
+
+-- at a point at which an array stands there is the same room
+module _ {told : Bool} {shelf : Shelved} {a : Array} {p : Point} (s : StandsAt told shelf a p) where
+  limited_same : patch_segments p.boot.patches ≡ patch_segments a.register.record.patches
+  limited_same = ap (λ (b : BootRecord). patch_segments b.patches) s.boot
+
+  spent_same : faring.is_spent p ≡ is_spent a
+  spent_same = rw (s.boot, s.next) refl
+
+  groups_same : (groups : ℕ) → HasGroups a groups → faring.HasGroups p groups
+  groups_same groups h = rw (s.boot, s.patches) h
+
+  unlimited_same : patch_segments a.register.record.patches < LIMITED_SEGMENTS → faring.is_limited p ≡ false
+  unlimited_same few = lt-leb LIMITED_SEGMENTS (patch_segments p.boot.patches) (omega (arith, few, limited_same))
+
+  pub may_add_at : MayAdd a → faring.MayAdd p
+  may_add_at m = record {
+    unlimited = unlimited_same m.unlimited;
+    unspent = spent_same ∙ m.unspent;
+    groups = m.groups;
+    left = groups_same m.groups m.left;
+    enough = m.enough;
+  }
+
+  full_is : IsFull a → faring.is_full p ≡ true
+  full_is full = le-leb LOG_SLOTS p.logged (omega (arith, s.logged, full))
+
+  free_is : ¬ (IsFull a) → faring.is_full p ≡ false
+  free_is not = elim (cases_lt a.log.count LOG_SLOTS) [
+    | inl lt ↦ lt-leb LOG_SLOTS p.logged (omega (arith, s.logged, lt))
+    | inr le ↦ absurd (not (omega (arith, le, a.log.room)))
+  ]
+
+with_room : (from : Point) (q : Answer) (to : Point) (some : Type 0) → faring.MayAdd from → some → WithRoom from q to some
+with_room from q to some m h = where_not (faring.is_limited from) _ m.unlimited (where_not (faring.is_spent from) _ m.unspent (m.groups, m.left, where_not (nat_lt m.groups ADDING_GROUPS) _ (le-ltb m.groups ADDING_GROUPS m.enough) h))
+
+-- ---- what is answered
+
+-- how a logged request is answered
+accepted_logged : (told : Bool) (shelf : Geometry) (failed lost : Device → Bool) (from : Point) (sectors : List (List ℕ)) (q : Answer) (to : Point) (r : Request) → IsLogged r → is_in_force r ≡ true
+    → faring.IsLogged shelf lost from r sectors q to → AnswersAccepted told shelf failed lost from r sectors q to
+accepted_logged told shelf failed lost from sectors q to (request.Create n size) logs force h = h
+accepted_logged told shelf failed lost from sectors q to (request.Write n lba count) logs force h = h
+accepted_logged told shelf failed lost from sectors q to (request.Fill n lba count byte) logs force h = h
+accepted_logged told shelf failed lost from sectors q to (request.Read n lba count) logs force h = absurd logs
+accepted_logged told shelf failed lost from sectors q to request.List logs force h = absurd logs
+accepted_logged told shelf failed lost from sectors q to _ logs force h = absurd cc
+
+-- what is answered to a logged request that isn't refused
+given_logged : (a : plain.Array) (r : Request) → IsLogged r → Line reply.Done ≡ given a r
+given_logged a (request.Read n lba count) logs = absurd logs
+given_logged a request.List logs = absurd logs
+given_logged a _ logs = refl
+
+-- what a request that isn't refused leaves
+after_accepted : (o : Option Refusal) (a b : plain.Array) → o ≡ None → after_unless o a b ≡ b
+after_accepted None a b e = refl
+after_accepted (Some why) a b e = absurd cc
+
+unnamed : (b : Bool) → (b ≡ true → ⊥) → b ≡ false
+unnamed true h = absurd (h refl)
+unnamed false h = refl
+
+-- What a logged request makes of the engine, which wasn't halted and whose array accepts it.
+module _ (told : Bool) (old new : Shelved) (e f : Engine) (r : Request) (sectors : List (List ℕ)) (stays : Type 0) (from : Point) (honest : told ≡ true → old.honest)
+    (at : IsAt told old e from) (awake : e.halted ≡ false) (logs : IsLogged r) (force : is_in_force r ≡ true) (accepted : refusal from.array r ≡ None) (same : stays → IsLike e.array f.array × (new ≡ old)) where
+  abbrev c : Command
+  c = record { request = r; sectors = sectors }
+
+  abbrev s : StandsAt told old e.array from
+  s = at.stands awake
+
+  was_awake : from.halted ≡ false
+  was_awake = at.halted ∙ awake
+
+  -- the answer of an array that isn't halted, to a request that is accepted
+  by_accepted : (to : Point) (q : Answer) → faring.IsLogged (geometry_of old) (lost_in old new) from r sectors q to → Answers told (geometry_of old) (failed_in old new) (lost_in old new) from (Asked r sectors) q to
+  by_accepted to q h = subst (λ (b : Bool). AnswersRequest b (refusal from.array r) told (geometry_of old) (failed_in old new) (lost_in old new) from r sectors q to) (sym was_awake)
+      (subst (λ (o : Option Refusal). AnswersRequest false o told (geometry_of old) (failed_in old new) (lost_in old new) from r sectors q to) (sym accepted)
+      (accepted_logged told (geometry_of old) (failed_in old new) (lost_in old new) from sectors q to r logs force h))
+
+  -- ---- it was done
+
+  module _ (p : IsAppended old new e.array f.array c) (halted : f.halted ≡ false) where
+    abbrev applied : AppliesTo old new e.array p.mid f.array c s.contents from.array
+    applied = p.applied s.contents from.array s.reads accepted
+
+    -- the point at which the command was added
+    abbrev between : Point
+    between = record from { logged = 0; boot = p.mid.register.record; patches = patches p.mid.memory.memory.tables; next = p.mid.memory.memory.next }
+
+    checkpointed : IsArrayOf (geometry_of old) p.mid → HasFlushed e.array p.mid → IsCheckpointed (geometry_of old) from between
+    checkpointed is flushed =
+        let whole = cleared_tables (geometry_of old) p.mid is flushed.none in
+        record {
+          same = refl;
+          rises = subst (λ (b : BootRecord). b.generation < p.mid.register.record.generation) (sym s.boot) flushed.rises;
+          few = subst (λ (b : BootRecord). p.mid.register.record.generation ≤ b.generation + 9) (sym s.boot) flushed.few;
+          boot = rw (s.boot, s.logged) flushed.rest;
+          data_segments = flushed.data_segments;
+          new_segments = flushed.new_segments;
+          few_data = flushed.few_data;
+          few_new = flushed.few_new;
+          next = rw s.next flushed.next;
+          patch_segments_are = rw s.boot flushed.patch_segments_are;
+          named = is.named;
+          sound = record_is_sound (geometry_of old) p.mid.register.record p.mid.memory.memory is.sound whole is.layered is.segments (ap (λ (b : BootRecord). b.next) flushed.rest) is.named;
+          contents = applied.more;
+          reads = patches_read applied.more p.mid.memory.memory from.array whole applied.before;
+        }
+
+    module _ (stop : Stop) where
+      abbrev to : Point
+      to = point_after f (after from.array c) (lost_in old new) stop from
+
+      done_at : (m : Point) → m.array ≡ from.array → m.logged ≡ p.mid.log.count → m.boot ≡ p.mid.register.record → m.patches ≡ patches p.mid.memory.memory.tables → m.next ≡ p.mid.memory.memory.next → m.halted ≡ from.halted
+          → IsDone (lost_in old new) m r sectors (Line reply.Done) to
+      done_at m array logged boot tables next halts = record {
+        reply = given_logged m.array r logs;
+        array = after_accepted (refusal from.array r) from.array (done from.array r sectors) accepted ∙ ap (λ (x : plain.Array). done x r sectors) (sym array);
+        logged = cond-false f.halted from.logged f.array.log.count halted ∙ p.count ∙ ap (λ (n : ℕ). n + 1) (sym logged);
+        boot = subst (λ (b : BootRecord). MayRise (lost_in old new) b to.boot) (sym boot)
+            (subst (λ (b : BootRecord). MayRise (lost_in old new) p.mid.register.record b) (sym (cond-false f.halted from.boot f.array.register.record halted)) p.boot);
+        patches = cond-false f.halted from.patches (patches f.array.memory.memory.tables) halted ∙ same_patches p.mid.memory.memory.tables f.array.memory.memory.tables p.patches ∙ sym tables;
+        next = cond-false f.halted from.next f.array.memory.memory.next halted ∙ p.next ∙ ap (λ (n : NextNumbers). next_after n r) (sym next);
+        halted = halted ∙ sym was_awake ∙ sym halts;
+      }
+
+      done_behind : IsCleared old e.array p.mid
+          → Where (faring.is_full from) (IsAppendedBehind (geometry_of old) (lost_in old new) from r sectors (Line reply.Done) to) (IsAppendedAt (geometry_of old) (lost_in old new) from r sectors (Line reply.Done) to)
+      done_behind (inl (free, is)) = where_not (faring.is_full from) _ (free_is s free) (inl (done_at from refl
+          (s.logged ∙ ap (λ (x : Array). x.log.count) (sym is))
+          (s.boot ∙ ap (λ (x : Array). x.register.record) (sym is))
+          (s.patches ∙ ap (λ (x : Array). patches x.memory.memory.tables) (sym is))
+          (s.next ∙ ap (λ (x : Array). x.memory.memory.next) (sym is))
+          refl))
+      done_behind (inr (full, is, flushed)) = where_so (faring.is_full from) _ (full_is s full) (inl (between, checkpointed is flushed, done_at between refl (sym flushed.none) refl refl refl refl))
+
+      -- the devices that lost a write hold the array no more
+      at_done : IsAt told new f to
+      at_done = record {
+        halted = refl;
+        stands = λ still. record {
+          logged = cond-false f.halted from.logged f.array.log.count halted;
+          boot = cond-false f.halted from.boot f.array.register.record halted;
+          patches = cond-false f.halted from.patches (patches f.array.memory.memory.tables) halted;
+          next = cond-false f.halted from.next f.array.memory.memory.next halted;
+          contents = applied.more;
+          reads = applied.reads;
+          hold = λ t. applied.hold (honest t) (s.hold t);
+          holders = λ d h.
+              let was = sound_since (lost_in old new d) (from.conditions d) h in
+              elim (p.dropped d (s.holders d was.0)) [
+                | inl holds ↦ holds
+                | inr rose ↦ absurd (not_risen (old.disk d).write_faults (new.disk d).write_faults was.1 rose)
+              ];
+          left_out = λ d l.
+              let was = s.left_out d (left_out_since (lost_in old new d) (from.conditions d) l) in (
+                unnamed (names f.array.register.record d) (λ is. elim (p.joins.named d is) [
+                  | inl named ↦ cc (named, was.0)
+                  | inr holds ↦ was.1 holds
+                ]),
+                λ holds. was.1 (p.joins.holders d holds),
+              );
+        };
+      }
+
+    was_done : IsAnsweredAt told old new e f (Asked r sectors) said.Done from
+    was_done = record {
+      reply = Line reply.Done;
+      says = refl;
+      whole = tt;
+      array = after from.array c;
+      answers = λ stop. by_accepted (to stop) (Line reply.Done) (with_room from (Line reply.Done) (to stop) _ (may_add_at s p.room) (done_behind stop p.cleared));
+      at = at_done;
+      ready = λ h still held is is_held. let next = p.done h held is in (next.0, next.1, ap (λ (a : plain.Array). after a c) is_held ∙ sym next.2);
+    }
+
+  -- ---- it wasn't
+
+  -- nothing has changed but room
+  module _ (halted : f.halted ≡ false) (is : stays) where
+    keeps_segments : KeepsSegments told old new f.array
+    keeps_segments t contents h = subst (λ (x : Shelved). SegmentsHold contents x f.array.register (facts f.array.memory.memory.tables)) (sym (same is).1) h
+
+    keeps_ready : KeepsReady old new f.array
+    keeps_ready honest held h = subst (λ (x : Shelved). IsReady x f.array held) (sym (same is).1) h
+
+    refused_for : (why : Refusal) → ((q : Answer) (to : Point) → IsRefused why from q to → faring.IsLogged (geometry_of old) (lost_in old new) from r sectors q to) → IsAnsweredAt told old new e f (Asked r sectors) (said.Refused why) from
+    unfolding keeps_segments keeps_ready
+    refused_for why cause = answered_refused told old new e f (same is).0 (halted ∙ sym awake) keeps_segments from at keeps_ready (Asked r sectors) why
+        (λ stop h. by_accepted (point_after f from.array (lost_in old new) stop from) (refused why) (cause (refused why) (point_after f from.array (lost_in old new) stop from) h))
+
+  -- more devices failed than are borne
+  failed_so : f.halted ≡ true → MayAdd e.array → ¬ (IsBearable (geometry_of old) (losing (lost_in old new) from.conditions)) → IsAnsweredAt told old new e f (Asked r sectors) (said.Refused refusals.Device) from
+  failed_so halted room unborne = record {
+    reply = refused refusals.Device;
+    says = refl;
+    whole = tt;
+    array = from.array;
+    answers = λ stop.
+        let to = point_after f from.array (lost_in old new) stop from in
+        let failed : IsFailed (geometry_of old) (lost_in old new) from (refused refusals.Device) to = record {
+          unborne = unborne;
+          reply = refl;
+          stays = record {
+            array = refl;
+            logged = cond-true f.halted from.logged f.array.log.count halted;
+            boot = cond-true f.halted from.boot f.array.register.record halted;
+            patches = cond-true f.halted from.patches (patches f.array.memory.memory.tables) halted;
+            next = cond-true f.halted from.next f.array.memory.memory.next halted;
+          };
+          halted = halted;
+        } in
+        by_accepted to (refused refusals.Device) (with_room from (refused refusals.Device) to _ (may_add_at s room) (where_either (faring.is_full from) (inr (inr failed)) (inr failed)));
+    at = λ stop. record { halted = refl; stands = λ still. absurd (cc (still, halted)) };
+    ready = λ h still held is is_held. absurd (cc (still, halted));
+  }
+
+  pub command_answered : (ended : Result Unit AppendFault) → OnOk ended (IsAppended old new e.array f.array c) → IfErr ended (λ x. IsAppendFault old new e.array stays x) → f.halted ≡ ends_lost ended
+      → IsAnsweredAt told old new e f (Asked r sectors) (said_of ended) from
+  command_answered (Ok u) p none halted = was_done p halted
+  command_answered (Err fault.Limited) none w halted = refused_for halted w.1 refusals.Limit (λ q to h. where_so (faring.is_limited from) _ (le-leb LIMITED_SEGMENTS (patch_segments from.boot.patches) (omega (arith, w.0, limited_same s))) h)
+  command_answered (Err fault.Spent) none w halted = refused_for halted w.1 refusals.Spent
+      (λ q to h. where_not (faring.is_limited from) _ (unlimited_same s w.0.0) (where_so (faring.is_spent from) _ (spent_same s ∙ w.0.1) h))
+  command_answered (Err fault.Space) none w halted = refused_for halted w.1 refusals.Space
+      (λ q to h. where_not (faring.is_limited from) _ (unlimited_same s w.0.0) (where_not (faring.is_spent from) _ (spent_same s ∙ w.0.1)
+      (w.0.2.0, groups_same s w.0.2.0 w.0.2.1, where_so (nat_lt w.0.2.0 ADDING_GROUPS) _ (lt-ltb w.0.2.0 ADDING_GROUPS w.0.2.2) h)))
+  command_answered (Err fault.Memory) none w halted = refused_for halted w.2 refusals.Memory
+      (λ q to h. with_room from q to _ (may_add_at s w.0) (where_so (faring.is_full from) _ (full_is s w.1) (inr (inl h))))
+  command_answered (Err fault.Device) none w halted = failed_so halted w.0 (w.1 from.conditions s.holders)

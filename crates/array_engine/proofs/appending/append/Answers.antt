@@ -1,0 +1,125 @@
+use Rattle.std.proofs.Common.{◌≡◌, false, Result, Err, IfErr, sym, ap, subst, arith}
+use Rattle.std.proofs.lemmas.Result.{err_from_is_err_and, on_ok_weaker}
+use Rattle.pur_base.specs.Commands.{Command}
+use Rattle.pur_base.specs.Grammar.{Asked}
+use Rattle.world.specs.Losing.{geometry_of}
+use Rattle.world.specs.Shelf.{Shelved}
+use Rattle.world.proofs.Moments.{continues_trans, then_run, weaker}
+use Rattle.world.proofs.Writes.{counted_then, counts_grow}
+use Rattle.register.specs.Standing.{array_of}
+use Rattle.array_state.specs.Ready.{IsArrayOf}
+use Rattle.array_checkpoint.specs.Prepared.{IsLike}
+use Rattle.array_checkpoint.specs.Room.{IsRoomOf}
+use Rattle.array_checkpoint.proofs.Like.{like_is_of}
+use Rattle.array_engine.specs.declared.appending.AppendFault.{AppendFault}
+use Rattle.array_engine.specs.Appending.{IsAppendFault, IsFull}
+use Rattle.array_engine.specs.Replying.{ends_lost}
+use Rattle.array_engine.proofs.Appended.{at_once, behind, like_room}
+use Rattle.array_engine.proofs.Faults.{fault_in_checkpoint, lost_in_performing, stays_behind}
+use Rattle.array_engine.proofs.Meanwhile.{kept_adding, kept_at_once, kept_behind, kept_flushing}
+use Rattle.array_engine.proofs.Unborne.{unborne, unborne_behind}
+use Rattle.array_engine.proofs.appending.append.Goals as goal
+
+pub returns-in_err-check_room-clause-kept : goal.returns-in_err-check_room-clause-kept
+returns-in_err-check_room-clause-kept g c = λ honest held ready.
+    kept_at_once (g.S.Shelf.shelf c.args.shelf.now) c.args.array.now held ready (g.met.S.Shelf.is_shelf c.args.shelf.now) (Asked c.args.request.now c.args.sectors.now)
+
+-- ---- at once
+
+pub returns-then-free_slots-gt0-clause-done : goal.returns-then-free_slots-gt0-clause-done
+returns-then-free_slots-gt0-clause-done g c =
+    let a = c.args.array.now in
+    let cmd : Command = record { request = c.args.request.now; sectors = c.args.sectors.now } in
+    let free : ¬ (IsFull a) = λ full. omega (arith, full, c.free_slots.ensures, c.if-free_slots-gt0.true) in
+    on_ok_weaker c.perform_counted.result
+    (at_once (g.S.Shelf.shelf c.args.shelf.now) (g.S.Shelf.shelf c.perform_counted.new.shelf) a c.perform_counted.new.array cmd c.in_ok-check_room.ensures.ok free) c.perform_counted.ensures.done
+
+pub returns-then-free_slots-gt0-clause-fault : goal.returns-then-free_slots-gt0-clause-fault
+returns-then-free_slots-gt0-clause-fault g c =
+    let old = g.S.Shelf.shelf c.args.shelf.now in
+    let new = g.S.Shelf.shelf c.perform_counted.new.shelf in
+    lost_in_performing old new c.args.array.now _ c.in_ok-check_room.ensures.ok c.perform_counted.result (unborne old new c.args.array.now c.requires.is_of.of_shelf) c.perform_counted.ensures.fault
+
+pub returns-then-free_slots-gt0-clause-kept : goal.returns-then-free_slots-gt0-clause-kept
+returns-then-free_slots-gt0-clause-kept g c = λ honest held ready.
+    kept_adding (g.S.Shelf.shelf c.args.shelf.now) c.args.array.now held ready c.args.request.now c.args.sectors.now c.requires.logged (c.requires.accepted ready.contents (array_of held) ready.reads) c.in_ok-check_room.ensures.ok
+    (g.S.Shelf.shelf c.perform_counted.new.shelf) (c.perform_counted.ensures.any_moment honest held ready)
+
+-- ---- no checkpoint was made
+
+pub returns-in_err-checkpoint-clause-is_of : goal.returns-in_err-checkpoint-clause-is_of
+returns-in_err-checkpoint-clause-is_of g c =
+    let old = g.S.Shelf.shelf c.args.shelf.now in
+    let new = g.S.Shelf.shelf c.checkpoint.new.shelf in
+    let a = c.args.array.now in
+    let b = c.checkpoint.new.array in
+    let stays = IsLike a b × (c.checkpoint.new.shelf ≡ c.args.shelf.now) in
+    let q = err_from_is_err_and c.from_residual-in_err-checkpoint.result c.from_residual-in_err-checkpoint.ensures.1 in
+    subst (λ (t : Result (Unit {0}) AppendFault). ends_lost t ≡ false → IsArrayOf (geometry_of new) b × IsRoomOf b c.args.room.now) (sym q.1)
+    (λ awake.
+    let s = stays_behind old new a stays c.in_err-checkpoint.field-0.0 c.in_err-checkpoint.ensures.fault (subst (λ (e : AppendFault). ends_lost (Err e) ≡ false) q.2 awake) in
+    (subst (λ (x : Shelved). IsArrayOf (geometry_of x) b) (sym (ap g.S.Shelf.shelf s.1)) (like_is_of (geometry_of old) a b s.0 c.requires.is_of), like_room a b c.args.room.now s.0 c.requires.room))
+
+pub returns-in_err-checkpoint-clause-fault : goal.returns-in_err-checkpoint-clause-fault
+returns-in_err-checkpoint-clause-fault g c =
+    let old = g.S.Shelf.shelf c.args.shelf.now in
+    let new = g.S.Shelf.shelf c.checkpoint.new.shelf in
+    let a = c.args.array.now in
+    let stays = IsLike a c.checkpoint.new.array × (c.checkpoint.new.shelf ≡ c.args.shelf.now) in
+    let full : IsFull a = omega (arith, c.free_slots.ensures, c.if-free_slots-gt0.false) in
+    let q = err_from_is_err_and c.from_residual-in_err-checkpoint.result c.from_residual-in_err-checkpoint.ensures.1 in
+    subst (λ (t : Result (Unit {0}) AppendFault). IfErr t (λ e. IsAppendFault old new a stays e)) (sym q.1)
+    (subst (λ (e : AppendFault). IsAppendFault old new a stays e) (sym q.2)
+    (fault_in_checkpoint old new a stays c.in_ok-check_room.ensures.ok c.in_err-checkpoint.field-0.0 full (unborne old new a c.requires.is_of.of_shelf) c.in_err-checkpoint.ensures.fault))
+
+pub returns-in_err-checkpoint-clause-kept : goal.returns-in_err-checkpoint-clause-kept
+returns-in_err-checkpoint-clause-kept g c = λ honest held ready.
+    kept_flushing (g.S.Shelf.shelf c.args.shelf.now) c.args.array.now held ready (g.S.Shelf.shelf c.checkpoint.new.shelf) (Asked c.args.request.now c.args.sectors.now) (c.in_err-checkpoint.ensures.any_moment honest held ready)
+
+-- ---- behind a checkpoint
+
+pub returns-clause-continues : goal.returns-clause-continues
+returns-clause-continues g c = continues_trans c.in_ok-checkpoint.ensures.continues c.perform_counted-2.ensures.continues
+
+pub returns-clause-rest : goal.returns-clause-rest
+returns-clause-rest g c = g.met.S.Shelf.shelf_rest_stays.transitive _ _ _ c.in_ok-checkpoint.ensures.rest c.perform_counted-2.ensures.rest
+
+pub returns-clause-moments : goal.returns-clause-moments
+returns-clause-moments g c = λ honest.
+    let made = c.in_ok-checkpoint.ensures in
+    then_run made.continues (made.moments honest) (weaker (λ stop counted. counted_then (counts_grow made.continues) counted) (c.perform_counted-2.ensures.moments (made.continues.honest honest)))
+
+pub returns-clause-done : goal.returns-clause-done
+returns-clause-done g c =
+    let old = g.S.Shelf.shelf c.args.shelf.now in
+    let mid = g.S.Shelf.shelf c.checkpoint.new.shelf in
+    let new = g.S.Shelf.shelf c.perform_counted-2.new.shelf in
+    let a = c.args.array.now in
+    let made = c.in_ok-checkpoint.ensures in
+    let cmd : Command = record { request = c.args.request.now; sectors = c.args.sectors.now } in
+    let full : IsFull a = omega (arith, c.free_slots.ensures, c.if-free_slots-gt0.false) in
+    on_ok_weaker c.perform_counted-2.result
+    (behind old new a c.perform_counted-2.new.array cmd c.in_ok-check_room.ensures.ok mid c.checkpoint.new.array made.continues c.perform_counted-2.ensures.continues full made.is_of made.flushed made.dropped.0 made.dropped.1 made.reads made.done)
+    c.perform_counted-2.ensures.done
+
+pub returns-clause-fault : goal.returns-clause-fault
+returns-clause-fault g c =
+    let old = g.S.Shelf.shelf c.args.shelf.now in
+    let mid = g.S.Shelf.shelf c.checkpoint.new.shelf in
+    let new = g.S.Shelf.shelf c.perform_counted-2.new.shelf in
+    let a = c.args.array.now in
+    let made = c.in_ok-checkpoint.ensures in
+    lost_in_performing old new a _ c.in_ok-check_room.ensures.ok c.perform_counted-2.result
+    (unborne_behind old mid new a c.checkpoint.new.array made.continues c.perform_counted-2.ensures.continues made.is_of.of_shelf made.dropped.0) c.perform_counted-2.ensures.fault
+
+pub returns-clause-kept : goal.returns-clause-kept
+returns-clause-kept g c = λ honest held ready.
+    let old = g.S.Shelf.shelf c.args.shelf.now in
+    let mid = g.S.Shelf.shelf c.checkpoint.new.shelf in
+    let new = g.S.Shelf.shelf c.perform_counted-2.new.shelf in
+    let made = c.in_ok-checkpoint.ensures in
+    let done = c.perform_counted-2.ensures in
+    let next = made.done honest held ready in
+    let honest_then = made.continues.honest honest in
+    kept_behind old c.args.array.now held ready c.args.request.now c.args.sectors.now c.requires.logged (c.requires.accepted ready.contents (array_of held) ready.reads) c.in_ok-check_room.ensures.ok
+    mid made.continues c.checkpoint.new.array next.0 next.1 next.2 made.dropped.0 made.dropped.1 new (made.any_moment honest held ready) (done.moments honest_then) (done.any_moment honest_then next.0 next.1)

@@ -1,0 +1,20 @@
+//! Tests of sessions over a world in memory that are stopped at each call or lose devices, that make checkpoints or find tables on the drives, and of what the next one reads.
+//! It is a program, which does nothing but for its tests: no crate stands on it.
+#![tactic(auto)]
+
+#[cfg(test)]
+mod flushing;
+#[cfg(test)]
+mod losing;
+#[cfg(test)]
+mod opening;
+#[cfg(test)]
+mod spent;
+#[cfg(test)]
+mod stage;
+#[cfg(test)]
+mod stopping;
+#[cfg(test)]
+mod tables;
+
+fn main(_rt: HostRuntime) {}
