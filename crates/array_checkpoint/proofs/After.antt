@@ -1,25 +1,36 @@
 -- Memory once it is what a plan says.
-use Rattle.std.proofs.Common.{◌≡◌, ℕ, Bool, List, [], sym, subst}
+use Rattle.std.proofs.Common.{◌≡◌, ◌∙◌, ℕ, Bool, List, [], sym, inr, subst, None, Contains}
 use Rattle.pur_base.specs.Plain.{Array}
+use Rattle.pur_base.specs.Visible.{segment}
+use Rattle.pur_base.specs.declared.request.Table.TheVariants as table
 use Rattle.pur_base.specs.declared.facts.AddressFact.{AddressFact}
 use Rattle.pyramid.specs.Layers.{facts_of, patch_facts}
 use Rattle.memory_spec.specs.Memory.{Contents, IsSound, Memory, ReadsAs}
+use Rattle.checkpoint_spec.specs.Eliding.{IsEliding}
 use Rattle.checkpoint_spec.proofs.Checkpointed.{checkpoint_reads}
+use Rattle.memory_spec.specs.Tables.{facts}
+use Rattle.checkpoint_plan.specs.Eliding.{AreElisionsOf, IsElidedBy}
 use Rattle.checkpoint_plan.specs.Places.{flagged_from}
+use Rattle.checkpoint_plan.proofs.ElidedLemmas.{segments_elided}
 use Rattle.checkpoint_plan.specs.Planned.{extended, sectors_at, AreStored, IsPlanned}
-use Rattle.checkpoint_plan.proofs.Planned.{planned_is_checkpointed, planned_sound, still_stored}
+use Rattle.checkpoint_plan.proofs.Planned.{elided_is_checkpointed, planned_elided, planned_sound, still_stored}
 use Rattle.array_memory.specs.declared.plan.Plan.{Plan}
+use Rattle.array_memory.specs.Eliding.{eliding_by}
 use Rattle.array_memory.specs.Plan.{after_plan, units_of, IsPlanFor, IsSameMemory}
 use Rattle.array_memory.proofs.PlanLemmas.{planned, planned_same}
 use Rattle.array_checkpoint.specs.Made.{contents_after}
+use Rattle.array_checkpoint.proofs.ElidedSegments.{gone_where}
 
 -- of no segment anything is told
 nothing : Contents
 nothing id index = []
 
-module _ (m : Memory) (p : Plan) (plan : IsPlanFor m p) where
+module _ (m : Memory) (p : Plan) (keeps : IsEliding m (eliding_by m p.eliding) p.eliding.facts.items) (plan : IsPlanFor (eliding_by m p.eliding) p) where
+  abbrev Elided : Memory
+  Elided = eliding_by m p.eliding
+
   pub sound_after : IsSound (after_plan m p)
-  sound_after = planned_sound nothing m (after_plan m p) p.placing.flags.items (patch_facts p.placing.newest) (units_of p) plan.sound plan.stored (planned m p plan)
+  sound_after = planned_sound nothing Elided (after_plan m p) p.placing.flags.items (patch_facts p.placing.newest) (units_of p) plan.sound plan.stored (planned Elided p plan)
 
   -- memory as it is planned, but for room
   module _ (n : Memory) (same : IsSameMemory (after_plan m p) n) where
@@ -29,14 +40,19 @@ module _ (m : Memory) (p : Plan) (plan : IsPlanFor m p) where
     abbrev Newest : List AddressFact
     Newest = patch_facts p.placing.newest
 
-    pub is_planned : IsPlanned m n Flags Newest (units_of p)
-    is_planned = planned_same m (after_plan m p) n Flags Newest (units_of p) same (planned m p plan)
+    pub is_planned : IsPlanned Elided n Flags Newest (units_of p)
+    is_planned = planned_same Elided (after_plan m p) n Flags Newest (units_of p) same (planned Elided p plan)
 
     pub sound_then : IsSound n
-    sound_then = planned_sound nothing m n Flags Newest (units_of p) plan.sound plan.stored is_planned
+    sound_then = planned_sound nothing Elided n Flags Newest (units_of p) plan.sound plan.stored is_planned
+
+    -- the segments that were to be elided are gone
+    pub gone_then : (ids : List ℕ) → AreElisionsOf (IsElidedBy (facts m.tables)) m.next.sequence ids p.eliding.facts.items → (id : ℕ) → Contains ids id → segment (facts n.tables) id ≡ None
+    gone_then ids made id c =
+        gone_where (facts n.tables) id (planned_elided nothing Elided n Flags Newest (units_of p) plan.sound plan.stored is_planned table.Segment id ∙ (segments_elided m ids p.eliding.facts.items made id).1 (inr c))
 
     pub stored_then : AreStored (facts_of n.tables.addresses.patches)
-    stored_then = still_stored nothing m n Flags Newest (units_of p) plan.sound plan.stored is_planned
+    stored_then = still_stored nothing Elided n Flags Newest (units_of p) plan.sound plan.stored is_planned
 
     -- it reads as the same array, where the new segments hold the sectors that were placed
     pub reads_then : (contents : Contents) (array : Array) → ReadsAs contents m array → ReadsAs (contents_after m p contents) n array
@@ -44,4 +60,4 @@ module _ (m : Memory) (p : Plan) (plan : IsPlanFor m p) where
         let placed : p.placing.order.items ≡ flagged_from 0 Flags = plan.placing.order in
         subst (λ (order : List ℕ). ReadsAs (extended contents m.next.segment (sectors_at order m.staged)) n array) (sym placed)
         (checkpoint_reads contents (extended contents m.next.segment (sectors_at (flagged_from 0 Flags) m.staged)) m n array r
-        (planned_is_checkpointed contents m n Flags Newest (units_of p) array r plan.stored is_planned).0).1
+        (elided_is_checkpointed contents m n p.eliding.facts.items Flags Newest (units_of p) array r plan.stored keeps is_planned).0).1

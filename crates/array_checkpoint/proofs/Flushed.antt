@@ -13,7 +13,9 @@ use Rattle.array_spec.specs.Sound.{AreSegmentsSound}
 use Rattle.memory_spec.specs.Tables.{facts, patches}
 use Rattle.checkpoint_spec.specs.Whole.{IsNamed}
 use Rattle.checkpoint_spec.specs.Checkpoint.{IsRecordOfMemory}
-use Rattle.array_memory.specs.Plan.{after_plan, IsSameMemory, HasRoomAgain}
+use Rattle.checkpoint_plan.specs.Eliding.{IsElidedBy}
+use Rattle.checkpoint_plan.proofs.ElidedLemmas.{as_many}
+use Rattle.array_memory.specs.Plan.{after_plan, next_past, IsSameMemory, HasRoomAgain}
 use Rattle.array_memory.proofs.PlanLemmas.{facts_same, patches_same}
 use Rattle.nvram_log.specs.Members.{IsSome}
 use Rattle.register.specs.Registers.{IsLaterRecord, IsRegisterOf}
@@ -27,7 +29,7 @@ use Rattle.array_state.proofs.Applied.{room_again, segments_sound}
 use Rattle.array_checkpoint.specs.declared.preparing.Prepared.{Prepared}
 use Rattle.array_checkpoint.specs.Prepared.{IsPreparedFor}
 use Rattle.array_checkpoint.specs.Made.{HasFlushed}
-use Rattle.array_checkpoint.proofs.After.{is_planned, sound_after, sound_then, stored_then}
+use Rattle.array_checkpoint.proofs.After.{gone_then, is_planned, sound_after, sound_then, stored_then}
 use Rattle.array_checkpoint.proofs.NextRecord.{ids_left, record_of_memory, tables_are}
 use Rattle.array_checkpoint.proofs.PatchUnits.{lawful_next, lawful_places}
 use Rattle.array_checkpoint.proofs.PreparedLemmas.{are_low}
@@ -44,7 +46,7 @@ module _ (shelf : Geometry) (was : Array) (p : Prepared) (is : IsArrayOf shelf w
   next_record = record_of_memory shelf was p is prep
 
   next_lawful : AreNext p.tables.next
-  next_lawful = subst (λ (n : NextNumbers). AreNext n) (sym prep.next) (sound_after was.memory.memory p.plan prep.plan.plan).next
+  next_lawful = subst (λ (n : NextNumbers). AreNext n) (sym prep.next) (sound_after was.memory.memory p.plan prep.plan.keeps prep.plan.plan).next
 
   -- ---- the next record
 
@@ -86,7 +88,7 @@ module _ (shelf : Geometry) (was : Array) (p : Prepared) (is : IsArrayOf shelf w
 
       room_then : HasRoomAgain was.memory now.memory → now.memory.objects ≡ was.memory.objects → HasRoomFor now.memory 0
       room_then again objects =
-          let made = is_planned was.memory.memory p.plan prep.plan.plan now.memory.memory same in
+          let made = is_planned was.memory.memory p.plan prep.plan.keeps prep.plan.plan now.memory.memory same in
           room_again was.memory now.memory was.log.count is.room again objects made.staged made.objects.unflushed made.mediums.unflushed made.addresses.unflushed made.segments.unflushed made.elisions.unflushed
 
       -- it is an array
@@ -96,9 +98,9 @@ module _ (shelf : Geometry) (was : Array) (p : Prepared) (is : IsArrayOf shelf w
         of_shelf = of_shelf;
         flushed = flushed;
         some = some;
-        sound = sound_then was.memory.memory p.plan prep.plan.plan now.memory.memory same;
-        layered = (is_planned was.memory.memory p.plan prep.plan.plan now.memory.memory same).layered;
-        stored = stored_then was.memory.memory p.plan prep.plan.plan now.memory.memory same;
+        sound = sound_then was.memory.memory p.plan prep.plan.keeps prep.plan.plan now.memory.memory same;
+        layered = (is_planned was.memory.memory p.plan prep.plan.keeps prep.plan.plan now.memory.memory same).layered;
+        stored = stored_then was.memory.memory p.plan prep.plan.keeps prep.plan.plan now.memory.memory same;
         named = named_then;
         segments = segments_then;
         room = subst (λ (n : ℕ). HasRoomFor now.memory n) (sym none) (room_then again objects);
@@ -116,10 +118,15 @@ module _ (shelf : Geometry) (was : Array) (p : Prepared) (is : IsArrayOf shelf w
             ∙ ap (λ (ps : List Patch). record Boot { generation = now.register.record.generation; members = now.register.record.members; patches = ps; next = p.tables.next; flushed = p.tables.flushed }) (sym patches_are)
             ∙ ap (λ (n : NextNumbers). record Boot { generation = now.register.record.generation; members = now.register.record.members; patches = now.register.record.patches; next = n; flushed = p.tables.flushed }) (prep.next ∙ sym same.next)
             ∙ ap (λ (n : ℕ). record Boot { generation = now.register.record.generation; members = now.register.record.members; patches = now.register.record.patches; next = now.memory.memory.next; flushed = n }) prep.flushed;
+        elided = p.plan.eliding.segments.items;
+        few_elided = prep.plan.eliding.unused.few;
+        lowest = prep.plan.eliding.unused;
+        gone = gone_then was.memory.memory p.plan prep.plan.keeps prep.plan.plan now.memory.memory same p.plan.eliding.segments.items prep.plan.eliding.made;
         data_segments = length p.plan.segments.items;
         new_segments = length prep.units;
         few_data = prep.few_data;
         few_new = prep.few_patches;
-        next = same.next ∙ prep.next_is;
+        next = same.next ∙ prep.next_is ∙ ap (λ (n : ℕ). record (next_past (record was.memory.memory.next { sequence = was.memory.memory.next.sequence + n }) (length p.plan.segments.items)) { patch_segment = First + length prep.units })
+            (as_many (IsElidedBy (facts was.memory.memory.tables)) was.memory.memory.next.sequence p.plan.eliding.segments.items p.plan.eliding.facts.items prep.plan.eliding.made);
         patch_segments_are = ap (λ (ps : List Patch). patch_segments ps) patches_are ∙ segments_counted;
       }

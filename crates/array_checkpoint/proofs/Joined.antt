@@ -55,6 +55,10 @@ module _ (was mid : Array) (like : IsLike was mid) where
     rest = h.rest;
     data_segments = h.data_segments;
     new_segments = h.new_segments;
+    elided = h.elided;
+    few_elided = h.few_elided;
+    lowest = h.lowest;
+    gone = h.gone;
     few_data = h.few_data;
     few_new = h.few_new;
     next = h.next;

@@ -26,6 +26,8 @@ use Rattle.checkpoint_io.specs.Storing.{OnCheckpoint}
 use Rattle.array_checkpoint.specs.declared.preparing.Prepared.{Prepared}
 use Rattle.array_checkpoint.specs.Prepared.{IsPreparedFor}
 use Rattle.array_checkpoint.specs.Made.{contents_after, facts_after, HoldOnLeft}
+use Rattle.array_memory.specs.Eliding.{eliding_by}
+use Rattle.array_checkpoint.proofs.ElidedSegments.{contents_then}
 use Rattle.array_checkpoint.proofs.FreeUnits.{spares_used}
 use Rattle.array_checkpoint.proofs.Holds.{contents_hold}
 use Rattle.array_checkpoint.proofs.PreparedLemmas.{same_shelf}
@@ -78,8 +80,10 @@ module _ (a b : Shelved) (x : Array) (q : Prepared) (of : IsArrayOf (geometry_of
 
   pub both_stand : (contents : Contents) → SegmentsHold contents a x.register (facts x.memory.memory.tables) → ContentsStand (contents_after x.memory.memory q.plan contents) members (facts_after x.memory.memory q.plan)
   both_stand contents hold =
-      contents_hold contents x.memory.memory q.plan h.plan.plan members (new_segment x.memory.memory q.plan h.plan.plan)
-      (may_be_placed a x.register.record x.memory.memory q.plan h.units (own_size a x of) h.plan.plan h.free).filled (still_stand contents hold) data_stand
+      let elided = eliding_by x.memory.memory q.plan.eliding in
+      contents_hold contents elided q.plan h.plan.plan members (new_segment elided q.plan h.plan.plan)
+      (may_be_placed a x.register.record (facts x.memory.memory.tables) elided q.plan h.units (own_size a x of) h.plan.plan h.free).filled
+      (contents_then x.memory.memory q.plan.eliding h.plan.keeps contents members (still_stand contents hold)) data_stand
 
 pub holds_on_left : (a b : Shelved) (x : Array) (q : Prepared) → IsArrayOf (geometry_of a) x → IsPreparedFor x q → Continues a b → (lost : List Bool) → Wrote a b q.plan q.added x.memory.memory.staged lost
     → (contents : Contents) → SegmentsHold contents a x.register (facts x.memory.memory.tables) → HoldOnLeft b x.register lost (contents_after x.memory.memory q.plan contents) (facts_after x.memory.memory q.plan)

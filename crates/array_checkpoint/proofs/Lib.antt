@@ -17,3 +17,4 @@ pub mod After
 pub mod Flushed
 pub mod Behind
 pub mod Joined
+pub mod ElidedSegments

@@ -23,8 +23,9 @@ use Rattle.checkpoint_spec.specs.Contents.{AreAmong, ContentsStand, WrittenOn}
 use Rattle.checkpoint_spec.proofs.Checkpointed.{checkpoint_data_holds}
 use Rattle.checkpoint_spec.proofs.Patches.{patches_are_all}
 use Rattle.checkpoint_plan.specs.Planned.{extended, sectors_at}
-use Rattle.checkpoint_plan.proofs.Planned.{planned_is_checkpointed}
+use Rattle.checkpoint_plan.proofs.Planned.{elided_is_checkpointed}
 use Rattle.pyramid.specs.Layers.{patch_facts}
+use Rattle.array_memory.specs.Eliding.{eliding_by}
 use Rattle.array_memory.specs.Plan.{after_plan, units_of}
 use Rattle.array_memory.proofs.PlanLemmas.{planned}
 use Rattle.record_tables.specs.Laws.{new_facts}
@@ -40,6 +41,7 @@ use Rattle.array_switch.specs.Switching.{HoldNext}
 use Rattle.array_checkpoint.specs.declared.preparing.Prepared.{Prepared}
 use Rattle.array_checkpoint.specs.Prepared.{IsPreparedFor}
 use Rattle.array_checkpoint.specs.Made.{contents_after, held_after}
+use Rattle.array_checkpoint.proofs.ElidedSegments.{segment_before}
 use Rattle.array_checkpoint.proofs.Holds.{patches_hold, stripes_hold}
 use Rattle.array_checkpoint.proofs.Left.{AreLeft, among_record, both_stand, data_stand, enough_then, not_lost, own_size}
 use Rattle.array_checkpoint.proofs.Next.{same_segment}
@@ -56,7 +58,8 @@ checkpointed x q h shelf held ready =
     let m = x.memory.memory in
     let p = q.plan in
     subst (λ (order : List ℕ). IsCheckpointed ready.contents (extended ready.contents m.next.segment (sectors_at order m.staged)) m (after_plan m p)) (sym h.plan.plan.placing.order)
-    (planned_is_checkpointed ready.contents m (after_plan m p) p.placing.flags.items (patch_facts p.placing.newest) (units_of p) (array_of held) ready.reads h.plan.plan.stored (planned m p h.plan.plan)).0
+    (elided_is_checkpointed ready.contents m (after_plan m p) p.eliding.facts.items p.placing.flags.items (patch_facts p.placing.newest) (units_of p) (array_of held) ready.reads h.plan.plan.stored h.plan.keeps
+    (planned (eliding_by m p.eliding) p h.plan.plan)).0
 
 -- all facts of memory are in its patches then
 all_flushed_then : (x : Array) (q : Prepared) → all_facts (patches (after_plan x.memory.memory q.plan).tables) ≡ facts (after_plan x.memory.memory q.plan).tables
@@ -82,14 +85,14 @@ module _ (a b : Shelved) (is : IsShelf a) (is_b : IsShelf b) (honest : a.honest)
     patches_then =
         let was = x.register.record.patches in
         subst (λ (ps : List Patch). AllZip (PatchStands members) ps (patches (after_plan x.memory.memory q.plan).tables)) (sym (tables_are (geometry_of a) x q of h))
-        (patches_hold ready.contents x.memory.memory q.plan h.plan.plan members was h.counts x.memory.memory.next.patch_segment h.units
+        (patches_hold ready.contents (eliding_by x.memory.memory q.plan.eliding) q.plan h.plan.plan members was h.counts x.memory.memory.next.patch_segment h.units
         (all_weaker (IsPatch x.register.record.slots x.register.record.units) (λ p. 1 ≤ p.facts) (λ p l. l.facts.0) was of.of_shelf.lawful.lawful.patches.each) of.named h.some h.counted
         (subst (λ (fs : List (List AnyFact)). AllZip (PatchStands members) was fs) ready.patches_are old.patches_stand) new_patch)
 
     stripes_then : (id : ℕ) (d : SegmentFact) → segment (facts (after_plan x.memory.memory q.plan).tables) id ≡ Some d → StripesStand members d.places d.placed
-    stripes_then = stripes_hold ready.contents x.memory.memory q.plan h.plan.plan members (new_segment x.memory.memory q.plan h.plan.plan)
+    stripes_then = stripes_hold ready.contents (eliding_by x.memory.memory q.plan.eliding) q.plan h.plan.plan members (new_segment (eliding_by x.memory.memory q.plan.eliding) q.plan h.plan.plan)
         (λ id d there. old.data_stands id d (ap (λ (fs : List (List AnyFact)). segment (all_facts fs) id) ready.patches_are
-        ∙ same_segment x.memory.memory.tables of.room.no_segments of.room.no_elisions id ∙ there))
+        ∙ same_segment x.memory.memory.tables of.room.no_segments of.room.no_elisions id ∙ segment_before x.memory.memory q.plan.eliding h.plan.keeps id d there))
         (data_stand a b x q of h on lost w left fewer members among enough)
 
     contents_then : ContentsStand (contents_after x.memory.memory q.plan ready.contents) members (facts (after_plan x.memory.memory q.plan).tables)

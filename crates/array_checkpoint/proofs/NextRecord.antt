@@ -1,5 +1,5 @@
 -- The record with the tables of a prepared checkpoint is one of memory after its plan.
-use Rattle.std.proofs.Common.{◌≡◌, ◌+◌, ◌<◌, ◌∙◌, List, length, sym, ap, subst, arith}
+use Rattle.std.proofs.Common.{◌≡◌, ◌+◌, ◌<◌, ◌++◌, ◌∙◌, List, length, sym, ap, subst, arith}
 use Rattle.std.specs.List.{AllZip}
 use Rattle.pur_base.specs.Devices.{Geometry}
 use Rattle.boot_codec.specs.declared.limits.TheConstants.{NUMBER_LIMIT}
@@ -13,7 +13,8 @@ use Rattle.memory_spec.specs.Memory.{Memory}
 use Rattle.memory_spec.specs.Tables.{facts, patches}
 use Rattle.checkpoint_spec.specs.Checkpoint.{IsRecordOfMemory}
 use Rattle.checkpoint_spec.specs.Whole.{IsNamed}
-use Rattle.array_memory.specs.Plan.{after_plan}
+use Rattle.array_memory.specs.Eliding.{eliding_by}
+use Rattle.array_memory.specs.Plan.{after_plan, units_of}
 use Rattle.record_tables.specs.Laws.{with_patches}
 use Rattle.record_tables.specs.Patches.{added_patches, by_tag}
 use Rattle.record_tables.proofs.Named.{next_patches_are_named}
@@ -22,6 +23,7 @@ use Rattle.array_state.specs.declared.array.Array.{Array}
 use Rattle.array_state.specs.Ready.{IsArrayOf}
 use Rattle.array_checkpoint.specs.declared.preparing.Prepared.{Prepared}
 use Rattle.array_checkpoint.specs.Prepared.{IsPreparedFor}
+use Rattle.array_checkpoint.proofs.ElidedSegments.{new_then, sound_then}
 use Rattle.array_checkpoint.proofs.PreparedLemmas.{same_shelf}
 
 module _ (shelf : Geometry) (x : Array) (q : Prepared) (of : IsArrayOf shelf x) (h : IsPreparedFor x q) where
@@ -49,8 +51,9 @@ module _ (shelf : Geometry) (x : Array) (q : Prepared) (of : IsArrayOf shelf x) 
   sound : AreSegmentsSound shelf (with_tables boot q.tables) (facts (after_plan m q.plan).tables)
   sound =
       let is : AreSegmentsSound (shelf_of boot) (with_patches boot (by_tag boot.patches (added_patches h.counts m.next.patch_segment h.units)) q.tables.next q.tables.flushed) (facts (after_plan m q.plan).tables) =
-      next_segments_are_sound boot m q.plan h.counts m.next.patch_segment h.units q.tables.next q.tables.flushed of.of_shelf.lawful.lawful
-      (subst (λ (g : Geometry). AreSegmentsSound g boot (facts m.tables)) (sym (same_shelf shelf x of)) of.segments) h.plan.plan h.wanted h.free
+      next_segments_are_sound boot (eliding_by m q.plan.eliding) q.plan h.counts m.next.patch_segment h.units q.tables.next q.tables.flushed of.of_shelf.lawful.lawful
+      (sound_then m q.plan.eliding h.plan.keeps (shelf_of boot) boot (subst (λ (g : Geometry). AreSegmentsSound g boot (facts m.tables)) (sym (same_shelf shelf x of)) of.segments))
+      h.plan.plan h.wanted (new_then m q.plan.eliding h.plan.keeps boot (units_of q.plan ++ h.units) h.free)
       (sym of.segment_ids) (let e = of.patch_ids in omega (arith, e))
       (ap (λ (n : NextNumbers). n.segment) (h.next ∙ h.next_is)) (ap (λ (n : NextNumbers). n.patch_segment) (h.next ∙ h.next_is)) in
       subst (λ (g : Geometry). AreSegmentsSound g (with_tables boot q.tables) (facts (after_plan m q.plan).tables)) (same_shelf shelf x of)

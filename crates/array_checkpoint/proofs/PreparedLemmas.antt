@@ -1,5 +1,5 @@
 -- What a checkpoint prepares: there are numbers and units for all that it writes, and it names what is planned.
-use Rattle.std.proofs.Common.{◌≡◌, ℕ, ◌+◌, ◌-◌, ◌^◌, ◌<◌, ◌≤◌, Bool, true, false, ◌||◌, List, [], ◌∷◌, ◌++◌, length, refl, sym, ap, subst, ◌∙◌, arith, sum_by}
+use Rattle.std.proofs.Common.{◌≡◌, ℕ, ◌+◌, ◌-◌, ◌^◌, ◌<◌, ◌≤◌, Bool, true, false, ◌||◌, List, [], ◌∷◌, ◌++◌, length, refl, sym, ap, subst, ◌∙◌, arith, sum_by, length-append}
 use Rattle.std.specs.Int.{div_ceil}
 use Rattle.std.specs.List.{AllByRecursion}
 use Rattle.std.proofs.lemmas.Bool.{leb-false}
@@ -20,16 +20,21 @@ use Rattle.unit_map.specs.Map.{IsGroups}
 use Rattle.free_space.specs.Map.{shelf_of, AreDataSegments, IsMapOf}
 use Rattle.free_space.specs.Laws.{AreUnitsToTake}
 use Rattle.free_space.proofs.LawLemmas.{groups_of_the_tables}
+use Rattle.checkpoint_spec.specs.Eliding.{IsEliding}
+use Rattle.checkpoint_plan.specs.Eliding.{IsElidedBy}
 use Rattle.checkpoint_plan.specs.Places.{flagged_from}
+use Rattle.checkpoint_plan.proofs.ElidedLemmas.{as_many}
 use Rattle.checkpoint_plan.proofs.PlacesLemmas.{few_flagged}
 use Rattle.memory_spec.specs.Memory.{Memory}
 use Rattle.memory_spec.proofs.Lists.{of_each}
 use Rattle.memory_spec.specs.Numbers.{are_used_up, is_used_up}
 use Rattle.memory_spec.specs.Tables.{facts, patches}
 use Rattle.array_memory.specs.Kept.{Kept}
+use Rattle.array_memory.specs.declared.plan.Eliding.{Eliding}
 use Rattle.array_memory.specs.declared.plan.Placing.{Placing}
 use Rattle.array_memory.specs.declared.plan.Plan.{Plan}
 use Rattle.array_memory.specs.declared.plan.Counts.{Counts}
+use Rattle.array_memory.specs.Eliding.{eliding_by, IsElidingOf}
 use Rattle.array_memory.specs.Plan.{next_past, units_of, with_patch_rooms, AreCounts, AreLeftFor, AreUnits, HasRoomForPatches, IsPlacingOf, IsPlanFor, IsPlanOf}
 use Rattle.array_memory.proofs.LastingLemmas.{no_more}
 use Rattle.array_memory.proofs.PlanLemmas.{long_map}
@@ -83,7 +88,7 @@ are_low a e =
       sequence = below n.sequence five.1;
     }
 
-pub left_for_six : (a : Array) → is_spent a ≡ false → AreLeftFor a.memory.memory.next 6
+pub left_for_six : (a : Array) → is_spent a ≡ false → AreLeftFor (record a.memory.memory.next { sequence = a.memory.memory.next.sequence + 1024 }) 6
 left_for_six a e = let l = are_low a e in let s = l.segment in let q = l.sequence in (omega (arith, s), omega (arith, q))
 
 -- ---- few segments
@@ -161,22 +166,25 @@ module _ (shelf : Geometry) (a : Array) (is : IsArrayOf shelf a) where
         many g ((groups_of_the_tables a.register.record (all_facts (patches t)) map g shown).0 groups)
 
   -- the new patches have few facts
-  pub few_facts : a.log.count ≤ 64 → (now : Kept) → now ≡ with_patch_rooms a.memory now → (p : Plan) → IsPlanFor now.memory p → length p.segments.items ≤ 6 → (c : Counts) → AreCounts p c → (segments_of c ≤ 5) × FitRecord c
+  pub few_facts : a.log.count ≤ 64 → (now : Kept) → now ≡ with_patch_rooms a.memory now → (p : Plan) → IsPlanOf now p → length p.segments.items ≤ 6 → (c : Counts) → AreCounts p c → (segments_of c ≤ 5) × FitRecord c
   few_facts logged now rest p plan few c counted =
       let m = now.memory in
       let w = a.memory.memory in
-      let no = no_more m p plan in
+      let e = p.eliding in
+      let no = no_more (eliding_by m e) p plan.plan in
       let objects : length m.tables.objects.unflushed ≡ length w.tables.objects.unflushed = ap (λ (k : Kept). length k.memory.tables.objects.unflushed) rest in
       let mediums : length m.tables.mediums.unflushed ≡ 0 = ap (λ (k : Kept). length k.memory.tables.mediums.unflushed) rest ∙ ap length is.room.no_mediums in
       let addresses : length m.tables.addresses.unflushed ≡ length w.tables.addresses.unflushed = ap (λ (k : Kept). length k.memory.tables.addresses.unflushed) rest in
       let segs : length m.tables.segments.unflushed ≡ 0 = ap (λ (k : Kept). length k.memory.tables.segments.unflushed) rest ∙ ap length is.room.no_segments in
       let elisions : length m.tables.elisions.unflushed ≡ 0 = ap (λ (k : Kept). length k.memory.tables.elisions.unflushed) rest ∙ ap length is.room.no_elisions in
+      let many = as_many (IsElidedBy (facts m.tables)) m.next.sequence e.segments.items e.facts.items plan.eliding.made in
+      let most = plan.eliding.unused.few in
       one_each c
       (omega (arith, counted.objects, no.objects, objects, is.room.unflushed_objects, logged))
       (omega (arith, counted.mediums, no.mediums, mediums))
       (omega (arith, counted.addresses, no.addresses, addresses, is.room.unflushed_addresses, logged))
       (omega (arith, counted.segments, no.segments, segs, few))
-      (omega (arith, counted.elisions, no.elisions, elisions))
+      (omega (arith, counted.elisions, no.elisions, elisions, many, most, length-append m.tables.elisions.unflushed e.facts.items))
 
 -- ---- what is prepared
 
@@ -194,14 +202,22 @@ module _ (p q : Plan) (rest : q ≡ record p { next = q.next }) where
   pub same_units : units_of q ≡ units_of p
   same_units = ap units_of rest
 
-  pub same_plan : (k : Kept) → IsPlanOf k p → IsPlanFor k.memory q → IsPlanOf k q
-  same_plan k h plan = record { plan = plan; room = subst (λ (n : ℕ). HasRoomForPatches k n) (sym same_long) h.room }
+  same_eliding : q.eliding ≡ p.eliding
+  same_eliding = ap (λ (x : Plan). x.eliding) rest
+
+  pub same_plan : (k : Kept) → IsPlanOf k p → IsPlanFor (eliding_by k.memory q.eliding) q → IsPlanOf k q
+  same_plan k h plan = record {
+    eliding = subst (λ (e : Eliding). IsElidingOf k e) (sym same_eliding) h.eliding;
+    keeps = subst (λ (e : Eliding). IsEliding k.memory (eliding_by k.memory e) e.facts.items) (sym same_eliding) h.keeps;
+    plan = plan;
+    room = subst (λ (n : ℕ). HasRoomForPatches k n) (sym same_long) h.room;
+  }
 
 -- all of it, for the array as it is then
 pub prepared : (a : Array) (p q : Plan) (c : Counts) (units : List (List Place)) (r : Prepared) → IsPlanOf a.memory p → HaveFacts p → AreCounts p c → FitRecord c → segments_of c ≡ length units
     → AreNewUnits a.register.record (facts a.memory.memory.tables) (units_of p ++ units)
-    → q ≡ record p { next = q.next } → q.next ≡ record p.next { patch_segment = p.next.patch_segment + length units } → IsPlanFor a.memory.memory q
-    → p.next ≡ next_past a.memory.memory.next (length p.segments.items)
+    → q ≡ record p { next = q.next } → q.next ≡ record p.next { patch_segment = p.next.patch_segment + length units } → IsPlanFor (eliding_by a.memory.memory q.eliding) q
+    → p.next ≡ next_past (eliding_by a.memory.memory p.eliding).next (length p.segments.items)
     → length p.segments.items ≤ 6 → length units ≤ 5
     → r.plan ≡ q → r.added ≡ added_patches c p.next.patch_segment units → r.tables.patches ≡ by_tag a.register.record.patches r.added → r.tables.next ≡ q.next → r.tables.flushed ≡ a.register.record.flushed + a.log.count
     → IsPreparedFor a r
@@ -218,7 +234,7 @@ prepared a p q c units r plan some counted fit wanted free rest next numbered fi
   patches = all;
   next = named ∙ sym (ap (λ (x : Plan). x.next) own);
   next_is = ap (λ (x : Plan). x.next) own ∙ next ∙ ap (λ (n : NextNumbers). record n { patch_segment = n.patch_segment + length units }) first
-      ∙ ap (λ (n : ℕ). record a.memory.memory.next { segment = a.memory.memory.next.segment + n; sequence = a.memory.memory.next.sequence + n; patch_segment = a.memory.memory.next.patch_segment + length units }) (sym (same_long p q rest) ∙ sym (ap (λ (x : Plan). length x.segments.items) own));
+      ∙ ap (λ (x : Plan). record (next_past (eliding_by a.memory.memory x.eliding).next (length x.segments.items)) { patch_segment = a.memory.memory.next.patch_segment + length units }) (sym (own ∙ rest));
   flushed = flushed;
   few_data = (let e = ap (λ (x : Plan). length x.segments.items) own in let s = same_long p q rest in omega (arith, e, s, few_data));
   few_patches = few_patches;
@@ -226,9 +242,9 @@ prepared a p q c units r plan some counted fit wanted free rest next numbered fi
 
 -- for an array that differs from one in its memory, which differs in room alone
 module _ (shelf : Geometry) (a : Array) (is : IsArrayOf shelf a) (spent : is_spent a ≡ false) (logged : a.log.count ≤ 64) (k : Kept) (rest : k ≡ with_patch_rooms a.memory k) where
-  module _ (p : Plan) (plan : IsPlanOf k p) (few : length p.segments.items ≤ 6) (next : p.next ≡ next_past a.memory.memory.next (length p.segments.items)) (c : Counts) (counted : AreCounts p c) where
+  module _ (p : Plan) (plan : IsPlanOf k p) (few : length p.segments.items ≤ 6) (next : p.next ≡ next_past (eliding_by a.memory.memory p.eliding).next (length p.segments.items)) (c : Counts) (counted : AreCounts p c) where
     pub fit_counts : (segments_of c ≤ 5) × FitRecord c
-    fit_counts = few_facts shelf a is logged k rest p plan.plan few c counted
+    fit_counts = few_facts shelf a is logged k rest p plan few c counted
 
     pub low_ids : (n : ℕ) → n ≡ segments_of c → p.next.patch_segment + n < 2 ^ 48
     low_ids n e =
@@ -242,13 +258,13 @@ module _ (shelf : Geometry) (a : Array) (is : IsArrayOf shelf a) (spent : is_spe
 
     pub all_prepared : (q : Plan) (units : List (List Place)) (r : Prepared) → HaveFacts p → segments_of c ≡ length units
         → AreNewUnits a.register.record (facts a.memory.memory.tables) (units_of p ++ units)
-        → q ≡ record p { next = q.next } → q.next ≡ record p.next { patch_segment = p.next.patch_segment + length units } → IsPlanFor k.memory q
+        → q ≡ record p { next = q.next } → q.next ≡ record p.next { patch_segment = p.next.patch_segment + length units } → IsPlanFor (eliding_by k.memory q.eliding) q
         → r.plan ≡ q → r.added ≡ added_patches c p.next.patch_segment units → r.tables.patches ≡ by_tag a.register.record.patches r.added → r.tables.next ≡ q.next → r.tables.flushed ≡ a.register.record.flushed + a.log.count
         → IsPreparedFor (record a { memory = k }) r
     all_prepared q units r some wanted free same numbers planned own added all named flushed =
         prepared (record a { memory = k }) p q c units r plan some counted fit_counts.1 wanted
         (subst (λ (fs : Facts). AreNewUnits a.register.record fs (units_of p ++ units)) (sym (ap (λ (x : Kept). facts x.memory.tables) rest)) free)
         same numbers planned
-        (next ∙ ap (λ (x : NextNumbers). next_past x (length p.segments.items)) (sym (ap (λ (x : Kept). x.memory.next) rest)))
+        (next ∙ ap (λ (x : Kept). next_past (eliding_by x.memory p.eliding).next (length p.segments.items)) (sym rest))
         few (let f = fit_counts.0 in omega (arith, f, wanted))
         own added all named flushed

@@ -13,7 +13,6 @@ use Rattle.boot_codec.specs.Record.{AscendFrom}
 use Rattle.array_spec.specs.Sound as sound
 use Rattle.free_space.specs.Map.{shelf_of}
 use Rattle.free_space.specs.Laws.{AreUnitsToTake}
-use Rattle.memory_spec.specs.Tables.{facts}
 use Rattle.memory_spec.specs.Memory.{Memory}
 use Rattle.memory_spec.proofs.Lists.{of_each, in_map}
 use Rattle.checkpoint_plan.specs.Places.{flagged_from}
@@ -86,17 +85,17 @@ pub data_among : (p : Plan) (units : List (List Place)) (number : ℕ) → numbe
 data_among p units number l =
     Contains-append_left (units_of p) units (places_in p.segments.items number) (data_in p number l)
 
-module _ (shelf : Shelved) (boot : BootRecord) (m : Memory) (p : Plan) (units : List (List Place)) (size : geometry_of shelf ≡ shelf_of boot) (h : IsPlanFor m p)
-    (new : AreNewUnits boot (facts m.tables) (units_of p ++ units)) where
+module _ (shelf : Shelved) (boot : BootRecord) (tables : Facts) (m : Memory) (p : Plan) (units : List (List Place)) (size : geometry_of shelf ≡ shelf_of boot) (h : IsPlanFor m p)
+    (new : AreNewUnits boot tables (units_of p ++ units)) where
   have_places : HavePlaces shelf p.segments.items
   have_places number l =
       are_places shelf boot (places_in p.segments.items number) size
-      (of_each (AreUnitsToTake boot (facts m.tables)) (units_of p ++ units) (places_in p.segments.items number) new.each (data_among p units number l)).lawful
+      (of_each (AreUnitsToTake boot tables) (units_of p ++ units) (places_in p.segments.items number) new.each (data_among p units number l)).lawful
 
   are_apart : AreApart p.segments.items
   are_apart number other j k differ l less low few slots =
       pairs_two (λ (d e : SegmentFact). StandApart d.places e.places) (λ d e. stand_back d.places e.places) p.segments.items number other _
-      (pairs_of_map StandApart (λ d. d.places) p.segments.items (pairs_front StandApart (units_of p) units (new_apart boot (facts m.tables) (units_of p ++ units) new)))
+      (pairs_of_map StandApart (λ d. d.places) p.segments.items (pairs_front StandApart (units_of p) units (new_apart boot tables (units_of p ++ units) new)))
       differ l less j k low few slots
 
   are_filled : AreFilled p.segments.items (length p.placing.order.items)

@@ -1,7 +1,8 @@
 -- What a checkpoint makes of an array, and of its devices.
-use Rattle.std.specs.Prelude.{◌≡◌, ℕ, ◌+◌, ◌<◌, ◌≤◌, Bool, List, []}
+use Rattle.std.specs.Prelude.{◌≡◌, ℕ, ◌+◌, ◌<◌, ◌≤◌, Bool, List, [], length, None, Contains}
 use Rattle.pur_base.specs.Facts.{Facts}
 use Rattle.pur_base.specs.Plain as plain
+use Rattle.pur_base.specs.Visible.{segment}
 use Rattle.boot_codec.specs.Record.{patch_segments}
 use Rattle.world.specs.Losing.{geometry_of}
 use Rattle.world.specs.Shelf.{Shelved}
@@ -15,7 +16,9 @@ use Rattle.memory_spec.specs.Memory.{Contents, Memory, ReadsAs}
 use Rattle.memory_spec.specs.Tables.{facts, patches}
 use Rattle.checkpoint_spec.specs.Contents.{AreAmong, ContentsStand}
 use Rattle.checkpoint_plan.specs.Planned.{extended, sectors_at}
+use Rattle.array_memory.specs.declared.limits.TheConstants.{ELIDED_SEGMENTS}
 use Rattle.array_memory.specs.declared.plan.Plan.{Plan}
+use Rattle.array_memory.specs.Eliding.{AreLowestUnused}
 use Rattle.array_memory.specs.Plan.{after_plan, next_past}
 use Rattle.array_state.specs.declared.array.Array.{Array}
 use Rattle.array_state.specs.Drives.{SegmentsHold}
@@ -46,6 +49,7 @@ HoldOnLeft now r lost contents fs = (left : List Bool) → ((i : ℕ) → IsMemb
 -- ---- what becomes of the array
 
 -- The log is empty, and what it held is flushed. The next record has memory's next numbers, of which few were given, and memory's patches. Three stores write three records each at most.
+-- Of the segments that were visible and that no address named, those of the lowest ids are elided, each by a fact with a number of its own; the facts of the new segments have the numbers behind.
 pub record HasFlushed (was now : Array) : Type 0 where
   pub none : now.log.count ≡ 0
   pub rises : was.register.record.generation < now.register.record.generation
@@ -57,11 +61,16 @@ pub record HasFlushed (was now : Array) : Type 0 where
     next = now.memory.memory.next;
     flushed = was.register.record.flushed + was.log.count;
   }
+  -- the ids of the elided segments
+  pub elided : List ℕ
+  pub few_elided : length elided ≤ ELIDED_SEGMENTS
+  pub lowest : AreLowestUnused (facts was.memory.memory.tables) elided
+  pub gone : (id : ℕ) → Contains elided id → segment (facts now.memory.memory.tables) id ≡ None
   pub data_segments : ℕ
   pub new_segments : ℕ
   pub few_data : data_segments ≤ DATA_SEGMENTS
   pub few_new : new_segments ≤ NEW_PATCHES
-  pub next : now.memory.memory.next ≡ record (next_past was.memory.memory.next data_segments) { patch_segment = was.memory.memory.next.patch_segment + new_segments }
+  pub next : now.memory.memory.next ≡ record (next_past (record was.memory.memory.next { sequence = was.memory.memory.next.sequence + length elided }) data_segments) { patch_segment = was.memory.memory.next.patch_segment + new_segments }
   pub patch_segments_are : patch_segments now.register.record.patches ≡ patch_segments was.register.record.patches + new_segments
 
 -- Memory reads as the same array, for sectors in segments that the drives hold where they held those of before.

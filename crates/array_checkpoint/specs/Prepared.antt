@@ -3,6 +3,7 @@ use Rattle.std.specs.Prelude.{◌≡◌, ◌+◌, ◌≤◌, ◌++◌, List, len
 use Rattle.pur_base.specs.declared.place.Place.{Place}
 use Rattle.memory_spec.specs.Tables.{facts}
 use Rattle.array_memory.specs.declared.plan.Counts.{Counts}
+use Rattle.array_memory.specs.Eliding.{eliding_by}
 use Rattle.array_memory.specs.Plan.{next_past, units_of, with_patch_rooms, AreCounts, IsPlanOf}
 use Rattle.record_tables.specs.Patches.{added_patches, by_tag, segments_of, FitRecord}
 use Rattle.record_tables.specs.Units.{AreNewUnits}
@@ -17,7 +18,7 @@ pub record IsLike (was now : Array) : Type 0 where
   pub log : now.log ≡ was.log
   pub memory : now.memory ≡ with_patch_rooms was.memory now.memory
 
--- The plan is one of the array's memory. Its segments and those of its new patches stand on free units, and the tables name them behind those of the record.
+-- The plan is one of the array's memory, once its segments are elided. Its new segments and those of its new patches stand on free units, and the tables name them behind those of the record.
 pub record IsPreparedFor (a : Array) (p : Prepared) : Type 0 where
   pub plan : IsPlanOf a.memory p.plan
   pub some : HaveFacts p.plan
@@ -31,7 +32,7 @@ pub record IsPreparedFor (a : Array) (p : Prepared) : Type 0 where
   pub added : p.added ≡ added_patches counts a.memory.memory.next.patch_segment units
   pub patches : p.tables.patches ≡ by_tag a.register.record.patches p.added
   pub next : p.tables.next ≡ p.plan.next
-  pub next_is : p.plan.next ≡ record (next_past a.memory.memory.next (length p.plan.segments.items)) { patch_segment = a.memory.memory.next.patch_segment + length units }
+  pub next_is : p.plan.next ≡ record (next_past (eliding_by a.memory.memory p.plan.eliding).next (length p.plan.segments.items)) { patch_segment = a.memory.memory.next.patch_segment + length units }
   pub flushed : p.tables.flushed ≡ a.register.record.flushed + a.log.count
   pub few_data : length p.plan.segments.items ≤ DATA_SEGMENTS
   pub few_patches : length units ≤ NEW_PATCHES

@@ -4,7 +4,7 @@ use Rattle.boot_codec.specs.Record.{patch_segments}
 use Rattle.array_spec.specs.Counts.{IsGroups, free_of_members}
 use Rattle.array_spec.specs.Stored.{all_facts}
 use Rattle.memory_spec.specs.Tables.{patches}
-use Rattle.session_spec.specs.declared.limits.TheConstants.{ADDING_GROUPS, LIMITED_SEGMENTS}
+use Rattle.session_spec.specs.declared.limits.TheConstants.{ADDING_GROUPS, CHECKPOINT_GROUPS, LIMITED_SEGMENTS, SEGMENTS_END}
 use Rattle.array_state.specs.declared.array.Array.{Array}
 use Rattle.array_state.specs.Ready.{is_spent}
 use Rattle.array_checkpoint.specs.declared.room.Room.{Room}
@@ -20,16 +20,30 @@ pub record IsRoomOf (a : Array) (r : Room) : Type 0 where
   pub segments : r.patch_segments ≡ patch_segments a.register.record.patches
   pub groups : HasGroups a r.groups
 
--- what is asked of an array where a command is added
-pub record MayAdd (a : Array) : Type 0 where
-  pub unlimited : patch_segments a.register.record.patches < LIMITED_SEGMENTS
+-- the patches have fewer segments than the limit, numbers are left, and there are free units for as many segments as the floor
+pub record MayTake (limit floor : ℕ) (a : Array) : Type 0 where
+  pub unlimited : patch_segments a.register.record.patches < limit
   pub unspent : is_spent a ≡ false
   pub groups : ℕ
   pub left : HasGroups a groups
-  pub enough : ADDING_GROUPS ≤ groups
+  pub enough : floor ≤ groups
 
 -- which of that isn't so first
+abbrev pub IsRoomFaultOf : ℕ → ℕ → Array → RoomFault → Type 0
+IsRoomFaultOf limit floor a fault.Limited = limit ≤ patch_segments a.register.record.patches
+IsRoomFaultOf limit floor a fault.Spent = (patch_segments a.register.record.patches < limit) × (is_spent a ≡ true)
+IsRoomFaultOf limit floor a fault.Space = (patch_segments a.register.record.patches < limit) × (is_spent a ≡ false) × ((groups : ℕ) × HasGroups a groups × (groups < floor))
+
+-- what is asked of an array where a command is added
+abbrev pub MayAdd : Array → Type 0
+MayAdd a = MayTake LIMITED_SEGMENTS ADDING_GROUPS a
+
 abbrev pub IsRoomFault : Array → RoomFault → Type 0
-IsRoomFault a fault.Limited = LIMITED_SEGMENTS ≤ patch_segments a.register.record.patches
-IsRoomFault a fault.Spent = (patch_segments a.register.record.patches < LIMITED_SEGMENTS) × (is_spent a ≡ true)
-IsRoomFault a fault.Space = (patch_segments a.register.record.patches < LIMITED_SEGMENTS) × (is_spent a ≡ false) × ((groups : ℕ) × HasGroups a groups × (groups < ADDING_GROUPS))
+IsRoomFault a e = IsRoomFaultOf LIMITED_SEGMENTS ADDING_GROUPS a e
+
+-- and where a checkpoint is made that is asked for
+abbrev pub MayFlush : Array → Type 0
+MayFlush a = MayTake SEGMENTS_END CHECKPOINT_GROUPS a
+
+abbrev pub IsFlushRoomFault : Array → RoomFault → Type 0
+IsFlushRoomFault a e = IsRoomFaultOf SEGMENTS_END CHECKPOINT_GROUPS a e

@@ -7,7 +7,7 @@ pub const DATA_SEGMENTS: usize = session_spec::DATA_SEGMENTS;
 pub const NEW_PATCHES: usize = session_spec::NEW_PATCHES;
 
 /// So many groups of free units have to be left for a checkpoint.
-pub const CHECKPOINT_GROUPS: u32 = 12;
+pub const CHECKPOINT_GROUPS: u32 = session_spec::CHECKPOINT_GROUPS;
 
 /// A checkpoint asks that the patches of the record have fewer segments: so many and those of its new patches a record can name.
-pub const SEGMENTS_END: usize = 596;
+pub const SEGMENTS_END: usize = session_spec::SEGMENTS_END;

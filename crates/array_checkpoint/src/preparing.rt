@@ -11,6 +11,8 @@ ghost use Rattle.unit_map.specs.Map.{IsGroups};
 ghost use Rattle.free_space.specs.Map.{IsMapOf};
 ghost use Rattle.memory_spec.specs.Memory.{IsSound};
 ghost use Rattle.checkpoint_plan.specs.Planned.{AreStored};
+ghost use Rattle.array_memory.specs.declared.limits.TheConstants.{ELIDED_SEGMENTS};
+ghost use Rattle.array_memory.specs.Eliding.{eliding_by};
 ghost use Rattle.array_memory.specs.Plan.{next_past, units_of, with_patch_rooms, AreLeftFor, IsPlanOf};
 ghost use Rattle.record_tables.specs.Units.{IsMapAfter};
 ghost use Rattle.array_checkpoint.specs.declared.limits.TheConstants.{CHECKPOINT_GROUPS, DATA_SEGMENTS};
@@ -32,7 +34,7 @@ use unit_map::UnitMap;
 /// What a checkpoint writes and stores.
 #[derive(Drop)]
 pub struct Prepared {
-    /// The new data segments, the facts of the new patches, and all that memory is afterwards.
+    /// The elided segments, the new ones, the facts of the new patches, and all that memory is afterwards.
     pub plan: Plan,
     /// The new patches, by tag.
     pub added: Patches,
@@ -40,24 +42,26 @@ pub struct Prepared {
     pub tables: Tables,
 }
 
-/// Plans new segments for the staged sectors that an address names, on units of the map.
+/// Plans which segments are elided, and new segments for the staged sectors that an address names, on units of the map.
 fn plan(alloc: Global, memory: &mut Memory, map: &mut UnitMap) -> Result<Plan, NoMemory>
     requires sound { IsSound memory.old.memory }
     requires stored { AreStored (facts_of memory.old.memory.tables.addresses.patches) }
     requires few { length memory.old.memory.staged ≤ REQUEST_SECTORS * LOG_SLOTS }
-    requires left { AreLeftFor memory.old.memory.next DATA_SEGMENTS }
+    requires left { AreLeftFor (record memory.old.memory.next { sequence = memory.old.memory.next.sequence + ELIDED_SEGMENTS }) DATA_SEGMENTS }
     requires groups { (g : ℕ) → IsGroups map.old g → DATA_SEGMENTS ≤ g }
     requires of { (boot : BootRecord) × (facts : Facts) × IsBootRecord boot × IsMapOf boot facts map.old }
     ensures plan { IfOk result (IsPlanOf memory.new) }
     ensures few { IfOk result (λ p. length p.segments.items ≤ DATA_SEGMENTS) }
-    ensures next { IfOk result (λ p. p.next ≡ next_past memory.old.memory.next (length p.segments.items)) }
+    ensures next { IfOk result (λ p. p.next ≡ next_past (eliding_by memory.old.memory p.eliding).next (length p.segments.items)) }
     ensures units { IfOk result (λ p. (boot : BootRecord) (facts : Facts) → IsMapOf boot facts map.old → IsMapAfter boot facts (units_of p) map.new) }
     ensures left { IfOk result (λ p. (g h : ℕ) → IsGroups map.old g → IsGroups map.new h → g ≤ h + length p.segments.items) }
     ensures rest { memory.new ≡ with_patch_rooms memory.old memory.new }
 {
+    let eliding = memory.eliding(alloc)?;
     let placing = memory.placing(alloc)?;
     let units = take_units(alloc, map, segments_for(placing.order.len()))?;
-    memory.plan(alloc, placing, &units)
+    let plan = memory.plan(alloc, eliding, placing, &units)?;
+    Ok(plan)
 }
 
 /// Plans a checkpoint. It fails for want of memory only, and the array is as it was then, but for room.

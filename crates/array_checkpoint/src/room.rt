@@ -5,8 +5,9 @@ ghost use Rattle.boot_codec.specs.Record.{patch_segments};
 ghost use Rattle.boot_codec.specs.declared.limits.TheConstants.{PATCH_SEGMENTS};
 ghost use Rattle.memory_spec.specs.Numbers.{are_used_up, is_used_up};
 ghost use Rattle.array_state.specs.Ready.{IsArrayOf, is_spent};
-ghost use Rattle.array_checkpoint.specs.Room.{IsRoomFault, IsRoomOf, MayAdd};
+ghost use Rattle.array_checkpoint.specs.Room.{IsFlushRoomFault, IsRoomFault, IsRoomFaultOf, IsRoomOf, MayAdd, MayFlush, MayTake};
 
+use crate::limits::{CHECKPOINT_GROUPS, SEGMENTS_END};
 use array_state::Array;
 use boot_codec::{NUMBER_LIMIT, NextNumbers, Patches};
 use free_space::groups_left;
@@ -24,14 +25,14 @@ pub struct Room {
     pub groups: u32,
 }
 
-/// Why no command is added.
+/// Why no command is added, or no checkpoint made.
 #[derive(Clone, Copy, Debug, PartialEq, Eq, Drop)]
 pub enum RoomFault {
-    /// The patches of the record have 480 segments or more.
+    /// The patches of the record have as many segments as that, or more.
     Limited,
     /// A generation, a number of commands, an id or a sequence number is 2^48 - 2^24 or higher.
     Spent,
-    /// There are free units for fewer than 24 segments.
+    /// There are free units for too few segments.
     Space,
 }
 
@@ -88,20 +89,38 @@ fn is_spent(array: &Array) -> bool
     is_used_up(record.generation) || is_used_up(record.flushed) || are_used_up(&array.memory.next())
 }
 
+/// Whether the record's patches have fewer segments than the limit, and there are free units for as many segments as the floor.
+fn check(array: &Array, room: &Room, limit: usize, floor: u32) -> Result<(), RoomFault>
+    requires { IsRoomOf array.now room.now }
+    ensures ok { OnOk result (MayTake limit floor array.now) }
+    ensures err { IfErr result (λ e. IsRoomFaultOf limit floor array.now e) }
+{
+    if room.patch_segments >= limit {
+        return Err(RoomFault::Limited);
+    }
+    if is_spent(array) {
+        return Err(RoomFault::Spent);
+    }
+    if room.groups < floor {
+        return Err(RoomFault::Space);
+    }
+    Ok(())
+}
+
 /// Whether one more command may be added, but for a slot of the log, where so much room was counted.
 pub fn check_room(array: &Array, room: &Room) -> Result<(), RoomFault>
     requires { IsRoomOf array.now room.now }
     ensures ok { OnOk result (MayAdd array.now) }
     ensures err { IfErr result (λ e. IsRoomFault array.now e) }
 {
-    if room.patch_segments >= LIMITED_SEGMENTS {
-        return Err(RoomFault::Limited);
-    }
-    if is_spent(array) {
-        return Err(RoomFault::Spent);
-    }
-    if room.groups < ADDING_GROUPS {
-        return Err(RoomFault::Space);
-    }
-    Ok(())
+    check(array, room, LIMITED_SEGMENTS, ADDING_GROUPS)
+}
+
+/// Whether a checkpoint that is asked for may be made, where so much room was counted.
+pub fn check_checkpoint(array: &Array, room: &Room) -> Result<(), RoomFault>
+    requires { IsRoomOf array.now room.now }
+    ensures ok { OnOk result (MayFlush array.now) }
+    ensures err { IfErr result (λ e. IsFlushRoomFault array.now e) }
+{
+    check(array, room, SEGMENTS_END, CHECKPOINT_GROUPS)
 }

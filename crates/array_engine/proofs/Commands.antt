@@ -1,7 +1,6 @@
 -- The point behind a logged request.
-use Rattle.std.proofs.Common.{◌≡◌, inl, inr, ℕ, ◌+◌, ◌≤◌, ◌<◌, Bool, true, false, List, Option, Some, None, Result, Ok, Err, OnOk, IfErr, refl, sym, ap, subst, ◌∙◌, arith}
-use Rattle.std.specs.Prelude.{nat_lt}
-use Rattle.std.proofs.lemmas.Bool.{cases_lt, cond-false, cond-true, le-leb, lt-leb, le-ltb, lt-ltb}
+use Rattle.std.proofs.Common.{◌≡◌, inl, inr, ℕ, ◌+◌, Bool, true, false, List, Option, Some, None, Result, Ok, Err, OnOk, IfErr, refl, sym, ap, subst, ◌∙◌, arith}
+use Rattle.std.proofs.lemmas.Bool.{cases_lt, cond-false, cond-true, le-leb, lt-leb}
 use Rattle.pur_base.specs.declared.device.Device.{Device}
 use Rattle.pur_base.specs.declared.request.Request.{Request}
 use Rattle.pur_base.specs.declared.request.Request.TheVariants as request
@@ -14,7 +13,6 @@ use Rattle.pur_base.specs.Grammar.{Asked, is_in_force}
 use Rattle.pur_base.specs.Plain as plain
 use Rattle.pur_base.specs.Plain.{refusal, done}
 use Rattle.pur_base.specs.Replies.{Answer, Line, refused, given, after_unless}
-use Rattle.boot_codec.specs.Record.{patch_segments}
 use Rattle.boot_codec.specs.declared.record.BootRecord.{BootRecord}
 use Rattle.boot_codec.specs.declared.record.NextNumbers.{NextNumbers}
 use Rattle.boot_codec.specs.Region.{names}
@@ -23,19 +21,17 @@ use Rattle.world.specs.Shelf.{Shelved, Stop}
 use Rattle.world.specs.Losing.{geometry_of, losing}
 use Rattle.memory_spec.specs.Numbers.{next_after}
 use Rattle.memory_spec.specs.Tables.{facts, patches}
-use Rattle.checkpoint_spec.proofs.Patches.{patches_read}
-use Rattle.checkpoint_spec.proofs.Records.{record_is_sound}
 use Rattle.session_spec.specs.Faring as faring
-use Rattle.session_spec.specs.Faring.{Point, Answers, AnswersRequest, AnswersAccepted, IsAppended as IsAppendedAt, IsAppendedBehind, IsCheckpointed, IsDone, IsFailed, IsRefused, MayRise, Where, WithRoom}
+use Rattle.session_spec.specs.Faring.{Point, Answers, AnswersRequest, AnswersAccepted, IsAppended as IsAppendedAt, IsAppendedBehind, IsDone, IsFailed, IsRefused, MayRise, Where}
 use Rattle.session_spec.specs.declared.limits.TheConstants.{ADDING_GROUPS, LIMITED_SEGMENTS}
 use Rattle.array_state.specs.declared.array.Array.{Array}
 use Rattle.array_state.specs.Drives.{SegmentsHold}
-use Rattle.array_state.specs.Ready.{IsArrayOf, IsReady, is_spent}
+use Rattle.array_state.specs.Ready.{IsReady}
 use Rattle.array_state.proofs.Applied.{same_patches}
 use Rattle.array_core.proofs.Losses.{sound_since, left_out_since}
-use Rattle.array_checkpoint.specs.Made.{HasFlushed}
 use Rattle.array_checkpoint.specs.Prepared.{IsLike}
-use Rattle.array_checkpoint.specs.Room.{HasGroups, MayAdd}
+use Rattle.array_checkpoint.specs.Room.{MayAdd}
+use Rattle.array_checkpoint.specs.declared.room.RoomFault.TheVariants as lacks
 use Rattle.array_engine.specs.declared.engine.Engine.{Engine}
 use Rattle.array_engine.specs.declared.appending.AppendFault.{AppendFault}
 use Rattle.array_engine.specs.declared.appending.AppendFault.TheVariants as fault
@@ -44,47 +40,17 @@ use Rattle.array_engine.specs.Appending.{AppliesTo, IsAppended, IsAppendFault, I
 use Rattle.array_engine.specs.Engines.{IsAt, StandsAt, IsAnsweredAt, point_after}
 use Rattle.array_engine.specs.Replying.{said_of, ends_lost}
 use Rattle.array_engine.proofs.Points.{KeepsReady, KeepsSegments, answered_refused}
+use Rattle.array_engine.proofs.Rooms.{where_not, where_so, with_room, without_room}
 use Rattle.array_engine.proofs.Unborne.{not_risen}
-use Rattle.array_engine.proofs.Cleared.{cleared_tables}
+use Rattle.array_engine.proofs.Behind.{between, checkpointed}
 
--- ---- room
-
--- the one case or the other
-where_so : (b : Bool) {one : Type 0} (other : Type 0) → b ≡ true → one → Where b one other
-where_so true other e h = h
-where_so false other e h = absurd (cc e)
-
-where_not : (b : Bool) (one : Type 0) {other : Type 0} → b ≡ false → other → Where b one other
-where_not true one e h = absurd (cc e)
-where_not false one e h = h
+-- ---- slots of the log
 
 where_either : (b : Bool) {one other : Type 0} → one → other → Where b one other
 where_either true h k = h
 where_either false h k = k
 
--- at a point at which an array stands there is the same room
 module _ {told : Bool} {shelf : Shelved} {a : Array} {p : Point} (s : StandsAt told shelf a p) where
-  limited_same : patch_segments p.boot.patches ≡ patch_segments a.register.record.patches
-  limited_same = ap (λ (b : BootRecord). patch_segments b.patches) s.boot
-
-  spent_same : faring.is_spent p ≡ is_spent a
-  spent_same = rw (s.boot, s.next) refl
-
-  groups_same : (groups : ℕ) → HasGroups a groups → faring.HasGroups p groups
-  groups_same groups h = rw (s.boot, s.patches) h
-
-  unlimited_same : patch_segments a.register.record.patches < LIMITED_SEGMENTS → faring.is_limited p ≡ false
-  unlimited_same few = lt-leb LIMITED_SEGMENTS (patch_segments p.boot.patches) (omega (arith, few, limited_same))
-
-  pub may_add_at : MayAdd a → faring.MayAdd p
-  may_add_at m = record {
-    unlimited = unlimited_same m.unlimited;
-    unspent = spent_same ∙ m.unspent;
-    groups = m.groups;
-    left = groups_same m.groups m.left;
-    enough = m.enough;
-  }
-
   full_is : IsFull a → faring.is_full p ≡ true
   full_is full = le-leb LOG_SLOTS p.logged (omega (arith, s.logged, full))
 
@@ -93,9 +59,6 @@ module _ {told : Bool} {shelf : Shelved} {a : Array} {p : Point} (s : StandsAt t
     | inl lt ↦ lt-leb LOG_SLOTS p.logged (omega (arith, s.logged, lt))
     | inr le ↦ absurd (not (omega (arith, le, a.log.room)))
   ]
-
-with_room : (from : Point) (q : Answer) (to : Point) (some : Type 0) → faring.MayAdd from → some → WithRoom from q to some
-with_room from q to some m h = where_not (faring.is_limited from) _ m.unlimited (where_not (faring.is_spent from) _ m.unspent (m.groups, m.left, where_not (nat_lt m.groups ADDING_GROUPS) _ (le-ltb m.groups ADDING_GROUPS m.enough) h))
 
 -- ---- what is answered
 
@@ -107,6 +70,8 @@ accepted_logged told shelf failed lost from sectors q to (request.Write n lba co
 accepted_logged told shelf failed lost from sectors q to (request.Fill n lba count byte) logs force h = h
 accepted_logged told shelf failed lost from sectors q to (request.Read n lba count) logs force h = absurd logs
 accepted_logged told shelf failed lost from sectors q to request.List logs force h = absurd logs
+accepted_logged told shelf failed lost from sectors q to request.Status logs force h = absurd logs
+accepted_logged told shelf failed lost from sectors q to request.Checkpoint logs force h = absurd logs
 accepted_logged told shelf failed lost from sectors q to _ logs force h = absurd cc
 
 -- what is answered to a logged request that isn't refused
@@ -120,7 +85,7 @@ after_accepted : (o : Option Refusal) (a b : plain.Array) → o ≡ None → aft
 after_accepted None a b e = refl
 after_accepted (Some why) a b e = absurd cc
 
-unnamed : (b : Bool) → (b ≡ true → ⊥) → b ≡ false
+pub unnamed : (b : Bool) → (b ≡ true → ⊥) → b ≡ false
 unnamed true h = absurd (h refl)
 unnamed false h = refl
 
@@ -148,30 +113,6 @@ module _ (told : Bool) (old new : Shelved) (e f : Engine) (r : Request) (sectors
     abbrev applied : AppliesTo old new e.array p.mid f.array c s.contents from.array
     applied = p.applied s.contents from.array s.reads accepted
 
-    -- the point at which the command was added
-    abbrev between : Point
-    between = record from { logged = 0; boot = p.mid.register.record; patches = patches p.mid.memory.memory.tables; next = p.mid.memory.memory.next }
-
-    checkpointed : IsArrayOf (geometry_of old) p.mid → HasFlushed e.array p.mid → IsCheckpointed (geometry_of old) from between
-    checkpointed is flushed =
-        let whole = cleared_tables (geometry_of old) p.mid is flushed.none in
-        record {
-          same = refl;
-          rises = subst (λ (b : BootRecord). b.generation < p.mid.register.record.generation) (sym s.boot) flushed.rises;
-          few = subst (λ (b : BootRecord). p.mid.register.record.generation ≤ b.generation + 9) (sym s.boot) flushed.few;
-          boot = rw (s.boot, s.logged) flushed.rest;
-          data_segments = flushed.data_segments;
-          new_segments = flushed.new_segments;
-          few_data = flushed.few_data;
-          few_new = flushed.few_new;
-          next = rw s.next flushed.next;
-          patch_segments_are = rw s.boot flushed.patch_segments_are;
-          named = is.named;
-          sound = record_is_sound (geometry_of old) p.mid.register.record p.mid.memory.memory is.sound whole is.layered is.segments (ap (λ (b : BootRecord). b.next) flushed.rest) is.named;
-          contents = applied.more;
-          reads = patches_read applied.more p.mid.memory.memory from.array whole applied.before;
-        }
-
     module _ (stop : Stop) where
       abbrev to : Point
       to = point_after f (after from.array c) (lost_in old new) stop from
@@ -197,7 +138,7 @@ module _ (told : Bool) (old new : Shelved) (e f : Engine) (r : Request) (sectors
           (s.patches ∙ ap (λ (x : Array). patches x.memory.memory.tables) (sym is))
           (s.next ∙ ap (λ (x : Array). x.memory.memory.next) (sym is))
           refl))
-      done_behind (inr (full, is, flushed)) = where_so (faring.is_full from) _ (full_is s full) (inl (between, checkpointed is flushed, done_at between refl (sym flushed.none) refl refl refl refl))
+      done_behind (inr (full, is, flushed)) = where_so (faring.is_full from) _ (full_is s full) (inl (between from p.mid, checkpointed s p.mid is flushed applied.more applied.before, done_at (between from p.mid) refl (sym flushed.none) refl refl refl refl))
 
       -- the devices that lost a write hold the array no more
       at_done : IsAt told new f to
@@ -234,7 +175,7 @@ module _ (told : Bool) (old new : Shelved) (e f : Engine) (r : Request) (sectors
       says = refl;
       whole = tt;
       array = after from.array c;
-      answers = λ stop. by_accepted (to stop) (Line reply.Done) (with_room from (Line reply.Done) (to stop) _ (may_add_at s p.room) (done_behind stop p.cleared));
+      answers = λ stop. by_accepted (to stop) (Line reply.Done) (with_room s LIMITED_SEGMENTS ADDING_GROUPS (Line reply.Done) (to stop) _ p.room (done_behind stop p.cleared));
       at = at_done;
       ready = λ h still held is is_held. let next = p.done h held is in (next.0, next.1, ap (λ (a : plain.Array). after a c) is_held ∙ sym next.2);
     }
@@ -275,7 +216,7 @@ module _ (told : Bool) (old new : Shelved) (e f : Engine) (r : Request) (sectors
           };
           halted = halted;
         } in
-        by_accepted to (refused refusals.Device) (with_room from (refused refusals.Device) to _ (may_add_at s room) (where_either (faring.is_full from) (inr (inr failed)) (inr failed)));
+        by_accepted to (refused refusals.Device) (with_room s LIMITED_SEGMENTS ADDING_GROUPS (refused refusals.Device) to _ room (where_either (faring.is_full from) (inr (inr failed)) (inr failed)));
     at = λ stop. record { halted = refl; stands = λ still. absurd (cc (still, halted)) };
     ready = λ h still held is is_held. absurd (cc (still, halted));
   }
@@ -283,12 +224,9 @@ module _ (told : Bool) (old new : Shelved) (e f : Engine) (r : Request) (sectors
   pub command_answered : (ended : Result Unit AppendFault) → OnOk ended (IsAppended old new e.array f.array c) → IfErr ended (λ x. IsAppendFault old new e.array stays x) → f.halted ≡ ends_lost ended
       → IsAnsweredAt told old new e f (Asked r sectors) (said_of ended) from
   command_answered (Ok u) p none halted = was_done p halted
-  command_answered (Err fault.Limited) none w halted = refused_for halted w.1 refusals.Limit (λ q to h. where_so (faring.is_limited from) _ (le-leb LIMITED_SEGMENTS (patch_segments from.boot.patches) (omega (arith, w.0, limited_same s))) h)
-  command_answered (Err fault.Spent) none w halted = refused_for halted w.1 refusals.Spent
-      (λ q to h. where_not (faring.is_limited from) _ (unlimited_same s w.0.0) (where_so (faring.is_spent from) _ (spent_same s ∙ w.0.1) h))
-  command_answered (Err fault.Space) none w halted = refused_for halted w.1 refusals.Space
-      (λ q to h. where_not (faring.is_limited from) _ (unlimited_same s w.0.0) (where_not (faring.is_spent from) _ (spent_same s ∙ w.0.1)
-      (w.0.2.0, groups_same s w.0.2.0 w.0.2.1, where_so (nat_lt w.0.2.0 ADDING_GROUPS) _ (lt-ltb w.0.2.0 ADDING_GROUPS w.0.2.2) h)))
+  command_answered (Err fault.Limited) none w halted = refused_for halted w.1 refusals.Limit (λ q to h. without_room s LIMITED_SEGMENTS ADDING_GROUPS q to _ lacks.Limited w.0 h)
+  command_answered (Err fault.Spent) none w halted = refused_for halted w.1 refusals.Spent (λ q to h. without_room s LIMITED_SEGMENTS ADDING_GROUPS q to _ lacks.Spent w.0 h)
+  command_answered (Err fault.Space) none w halted = refused_for halted w.1 refusals.Space (λ q to h. without_room s LIMITED_SEGMENTS ADDING_GROUPS q to _ lacks.Space w.0 h)
   command_answered (Err fault.Memory) none w halted = refused_for halted w.2 refusals.Memory
-      (λ q to h. with_room from q to _ (may_add_at s w.0) (where_so (faring.is_full from) _ (full_is s w.1) (inr (inl h))))
+      (λ q to h. with_room s LIMITED_SEGMENTS ADDING_GROUPS q to _ w.0 (where_so (faring.is_full from) _ (full_is s w.1) (inr (inl h))))
   command_answered (Err fault.Device) none w halted = failed_so halted w.0 (w.1 from.conditions s.holders)

@@ -4,7 +4,11 @@ pub mod Cleared
 pub mod Appended
 pub mod Faults
 pub mod Points
+pub mod Rooms
+pub mod Behind
 pub mod Commands
+pub mod Flushes
+pub mod Numbers
 pub mod Meanwhile
 pub mod Spans
 pub mod Requests

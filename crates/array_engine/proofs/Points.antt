@@ -1,5 +1,5 @@
 -- The point behind an answer.
-use Rattle.std.proofs.Common.{◌≡◌, inl, inr, ℕ, ◌≤◌, Bool, true, false, cond, List, Option, Some, None, refl, sym, subst, ◌∙◌, arith}
+use Rattle.std.proofs.Common.{◌≡◌, inl, inr, ℕ, ◌≤◌, Bool, true, false, cond, List, Option, Some, None, refl, sym, ap, subst, ◌∙◌, arith}
 use Rattle.std.specs.List.{AllByRecursion}
 use Rattle.std.specs.Prelude.{length}
 use Rattle.pur_base.specs.declared.device.Device.{Device}
@@ -11,14 +11,16 @@ use Rattle.pur_base.specs.declared.limits.TheConstants.{SECTOR_BYTES}
 use Rattle.pur_base.specs.Grammar.{Item, Asked}
 use Rattle.pur_base.specs.Plain as plain
 use Rattle.pur_base.specs.Plain.{refusal}
-use Rattle.pur_base.specs.Replies.{Answer, Sectors, Entries, refused, given}
+use Rattle.pur_base.specs.declared.reply.Reply.TheVariants as reply
+use Rattle.pur_base.specs.Replies.{Answer, Line, Sectors, Entries, refused, given}
 use Rattle.array_spec.specs.Acked.{IsAnswer}
 use Rattle.world.specs.Shelf.{Shelved, Stop}
 use Rattle.world.specs.Losing.{geometry_of, losing}
 use Rattle.register.specs.Standing.{Content}
 use Rattle.memory_spec.specs.Memory.{Contents, ReadsAs}
 use Rattle.memory_spec.specs.Tables.{facts, patches}
-use Rattle.session_spec.specs.Faring.{Point, Answers, AnswersRequest, IsAsBefore, IsRefused, LosesThree}
+use Rattle.session_spec.specs.Faring as faring
+use Rattle.session_spec.specs.Faring.{Point, Answers, AnswersRequest, IsAsBefore, IsRefused, LosesThree, numbers_at}
 use Rattle.array_state.specs.declared.array.Array.{Array}
 use Rattle.array_state.specs.Drives.{SegmentsHold}
 use Rattle.array_state.specs.Ready.{IsReady}
@@ -139,6 +141,14 @@ module _ (told : Bool) (old new : Shelved) (e f : Engine) (like : IsLike e.array
       answered_so ready (Asked request.List sectors) said.Names (Entries from.array)
       (from.array, record { contents = s.contents; reads = s.reads }, refl) whole
       (λ stop. by_cause awake request.List sectors None refl (Entries from.array) stop (record { reply = refl; stays = as_before stop; halted = halts ∙ sym at.halted }))
+
+  -- numbers, of which each is so
+  pub stated : KeepsReady old new f.array → (awake : e.halted ≡ false) → (sectors : List (List ℕ)) (groups : ℕ) (numbers : List ℕ) → faring.HasGroups from groups → numbers ≡ numbers_at from groups → IsAnswer (Line (reply.Numbers numbers))
+      → IsAnsweredAt told old new e f (Asked request.Status sectors) (said.Numbers numbers) from
+  stated ready awake sectors groups numbers left are whole =
+      answered_so ready (Asked request.Status sectors) (said.Numbers numbers) (Line (reply.Numbers numbers)) refl whole
+      (λ stop. by_cause awake request.Status sectors None refl (Line (reply.Numbers numbers)) stop
+      (record { groups = groups; left = left; reply = ap (λ (ns : List ℕ). Line (reply.Numbers ns)) are; stays = as_before stop; halted = halts ∙ sym at.halted }))
 
   -- sectors
   module _ (ready : KeepsReady old new f.array) (awake : e.halted ≡ false) (name : List ℕ) (lba count : ℕ) (sectors : List (List ℕ)) (accepted : refusal from.array (request.Read name lba count) ≡ None) where

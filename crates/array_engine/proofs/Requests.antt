@@ -17,6 +17,8 @@ is_of_memory (request.Write n lba count) logs force h = h.few
 is_of_memory (request.Fill n lba count byte) logs force h = h.0.few
 is_of_memory (request.Read n lba count) logs force h = absurd logs
 is_of_memory request.List logs force h = absurd logs
+is_of_memory request.Status logs force h = absurd logs
+is_of_memory request.Checkpoint logs force h = absurd logs
 is_of_memory _ logs force h = absurd cc
 
 pub is_lawful : (r : Request) → IsLogged r → is_in_force r ≡ true → IsSpelledRequest r → IsLawful r
@@ -25,6 +27,8 @@ is_lawful (request.Write n lba count) logs force h = h.few
 is_lawful (request.Fill n lba count byte) logs force h = h.0.few
 is_lawful (request.Read n lba count) logs force h = absurd logs
 is_lawful request.List logs force h = absurd logs
+is_lawful request.Status logs force h = absurd logs
+is_lawful request.Checkpoint logs force h = absurd logs
 is_lawful _ logs force h = absurd cc
 
 pub is_command : (objects : List ObjectFact) (r : Request) → IsLogged r → is_in_force r ≡ true → IsSpelledRequest r → IsAllowed objects r → IsCommand r
@@ -33,4 +37,6 @@ is_command objects (request.Write n lba count) logs force h allowed = (h.named, 
 is_command objects (request.Fill n lba count byte) logs force h allowed = (h.0.named, omega (arith, h.0.number), (h.0.some, h.0.few), h.1)
 is_command objects (request.Read n lba count) logs force h allowed = absurd logs
 is_command objects request.List logs force h allowed = absurd logs
+is_command objects request.Status logs force h allowed = absurd logs
+is_command objects request.Checkpoint logs force h allowed = absurd logs
 is_command objects _ logs force h allowed = absurd cc

@@ -17,6 +17,7 @@ abbrev pub Says : Memory → List (List ℕ) → Said → Answer → Type 0
 Says m sectors said.Done q = q ≡ Line reply.Done
 Says m sectors (said.Data count) q = q ≡ Sectors (take count sectors)
 Says m sectors said.Names q = (array : Array) × IsListOf m array × (q ≡ Entries array)
+Says m sectors (said.Numbers numbers) q = q ≡ Line (reply.Numbers numbers)
 Says m sectors (said.Refused why) q = q ≡ refused why
 
 -- the sectors are there

@@ -1,7 +1,8 @@
 // Replies are given.
 ghost use Rattle.std.specs.Prelude.{◌≡◌, ◌≤◌, ◌<◌, ◌↔◌, ◌++◌, [], ℕ, List, length, take, drop, OnErr};
 ghost use Rattle.pur_base.specs.Plain.{Array};
-ghost use Rattle.pur_base.specs.Replies.{Answer, Sectors, Entries, refused, line_text, sectors_text, entries_text, text};
+ghost use Rattle.pur_base.specs.Replies.{Answer, Line, Sectors, Entries, refused, line_text, sectors_text, entries_text, text};
+ghost use Rattle.pur_base.specs.declared.reply.Reply.TheVariants.{Numbers};
 ghost use Rattle.world.specs.Counts.{Counts};
 ghost use Rattle.memory_spec.specs.Memory.{Contents, ReadsAs};
 ghost use Rattle.request_codec.specs.Writing.{Gave, Goes, Extends};
@@ -124,6 +125,21 @@ fn give_names<K: Sink>(
     writer.flush(sink)
 }
 
+fn give_numbers<K: Sink>(
+    writer: &mut ReplyWriter,
+    numbers: &[u64; 10],
+    sink: &mut K,
+) -> Result<(), Failed>
+    requires { writer.old ≡ [] }
+    ensures gave { (K.sink sink.old).honest → Gave result (K.sink sink.old).bytes (K.sink sink.new).bytes (text (Line (Numbers numbers.now))) }
+    ensures emptied { writer.new ≡ [] }
+    ensures honest { (K.sink sink.old).honest ↔ (K.sink sink.new).honest }
+    ensures counts { Counts result (K.sink sink.old).faults (K.sink sink.new).faults }
+    ensures rest { K.sink_rest sink.old sink.new }
+{
+    give(writer, &Reply::Numbers { numbers: *numbers }, &[], sink)
+}
+
 fn refuse<K: Sink>(writer: &mut ReplyWriter, why: Refusal, sink: &mut K) -> Result<(), Failed>
     requires { writer.old ≡ [] }
     ensures gave { (K.sink sink.old).honest → Gave result (K.sink sink.old).bytes (K.sink sink.new).bytes (text (refused why)) }
@@ -156,6 +172,7 @@ impl Engine {
             Said::Done => give(writer, &Reply::Done, &[], sink),
             Said::Data(count) => give_sectors(writer, self.buffers.sectors(*count), sink),
             Said::Names => give_names(writer, &self.array.memory, sink),
+            Said::Numbers(numbers) => give_numbers(writer, numbers, sink),
             Said::Refused(why) => refuse(writer, *why, sink),
         }
     }

@@ -4,7 +4,7 @@ ghost use Rattle.pur_base.specs.Devices.{Geometry};
 ghost use Rattle.pur_base.specs.Grammar.{Asked, is_in_force, data_count};
 ghost use Rattle.pur_base.specs.Commands.{IsLogged};
 ghost use Rattle.pur_base.specs.declared.limits.TheConstants.{REQUEST_SECTORS};
-ghost use Rattle.pur_base.specs.declared.request.Request.TheVariants.{Read};
+ghost use Rattle.pur_base.specs.declared.request.Request.TheVariants.{Read, Checkpoint};
 ghost use Rattle.world.specs.Losing.{geometry_of};
 ghost use Rattle.world.specs.Shelf.{Continues, LeavesOnly, IsCountedBy};
 ghost use Rattle.register.specs.Standing.{Content, array_of};
@@ -22,7 +22,9 @@ ghost use Rattle.array_engine.specs.Saying.{HasSectors};
 
 use crate::appending::{AppendFault, append};
 use crate::buffers::ReadBuffers;
+use crate::flushing::flush;
 use crate::said::Said;
+use crate::status::numbers_of;
 use array_checkpoint::Room;
 use array_state::Array;
 use boot_codec::DRIVE_FLAGS;
@@ -53,14 +55,14 @@ fn missing_of(drives: &[bool; DRIVE_FLAGS]) -> [bool; DRIVE_FLAGS]
     missing
 }
 
-/// Whether a logged request ended for more failed devices than are borne.
+/// Whether a logged request or a checkpoint ended for more failed devices than are borne.
 fn is_lost(done: &Result<(), AppendFault>) -> bool
     ensures { result ≡ ends_lost done.now }
 {
     matches!(done, Err(AppendFault::Device))
 }
 
-/// What is answered to a logged request, by how it ended.
+/// What is answered to a logged request or a checkpoint, by how it ended.
 fn said_to(done: &Result<(), AppendFault>) -> Said
     ensures { result ≡ said_of done.now }
 {
@@ -178,6 +180,28 @@ impl Engine {
         said_to(&done)
     }
 
+    /// Makes a checkpoint that is asked for.
+    fn flush<S: Shelf>(&mut self, alloc: Global, shelf: &mut S) -> Said
+        requires is_of { IsArrayOf (geometry_of (S.shelf shelf.old)) self.old.array }
+        requires room { IsRoomOf self.old.array self.old.room }
+        requires awake { self.old.halted ≡ false }
+        ensures continues { Continues (S.shelf shelf.old) (S.shelf shelf.new) }
+        ensures rest { S.shelf_rest shelf.old shelf.new }
+        ensures is_of { IsOf (geometry_of (S.shelf shelf.new)) self.new }
+        ensures moments { (S.shelf shelf.old).honest → LeavesOnly (S.shelf shelf.old) (S.shelf shelf.new) (IsCountedBy (S.shelf shelf.old)) }
+        ensures there { HasSectors self.new.buffers.sectors.items result }
+        // The answer and its cause, and where the engine stands then. What segments hold is told of honest devices alone.
+        ensures answers { (sectors : List (List ℕ)) (told : Bool) (from : Point) → (told ≡ true → (S.shelf shelf.old).honest) → IsAt told (S.shelf shelf.old) self.old from
+            → IsAnsweredAt told (S.shelf shelf.old) (S.shelf shelf.new) self.old self.new (Asked Checkpoint sectors) result from }
+        // At every moment a session can go on.
+        ensures kept { (S.shelf shelf.old).honest → (sectors : List (List ℕ)) (held : Content) → IsReady (S.shelf shelf.old) self.old.array held
+            → LeavesOnly (S.shelf shelf.old) (S.shelf shelf.new) (IsKeptBy (S.shelf shelf.old) self.old.array (array_of held) (Asked Checkpoint sectors)) }
+    {
+        let done = flush(alloc, &mut self.array, &mut self.room, shelf);
+        self.halted = is_lost(&done);
+        said_to(&done)
+    }
+
     /// Answers a request that the array accepts.
     fn answer_accepted<S: Shelf>(
         &mut self,
@@ -209,6 +233,8 @@ impl Engine {
         match request {
             Request::Read { name, lba, count } => self.read(name, *lba, *count, shelf),
             Request::List => Said::Names,
+            Request::Status => Said::Numbers(numbers_of(&self.array, &self.room)),
+            Request::Checkpoint => self.flush(alloc, shelf),
             _ => self.apply(alloc, request, sectors, shelf),
         }
     }

@@ -6,7 +6,9 @@ mod answers;
 mod appending;
 mod buffers;
 mod engine;
+mod flushing;
 mod said;
+mod status;
 
 pub use answers::give;
 pub use buffers::ReadBuffers;

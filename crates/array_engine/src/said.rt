@@ -7,5 +7,7 @@ pub enum Said {
     /// So many sectors.
     Data(u8),
     Names,
+    /// The numbers of a status.
+    Numbers([u64; 10]),
     Refused(Refusal),
 }

@@ -1,10 +1,10 @@
 -- What is kept when a plan is done.
-use Rattle.std.proofs.Common.{◌≡◌, ℕ, ◌<◌, Bool, false, List, [], sym, ap, ◌∙◌, arith, subst, None, option_and_then, if◌then◌else◌, All, Contains}
+use Rattle.std.proofs.Common.{◌≡◌, ℕ, ◌<◌, Bool, false, List, [], sym, ap, ◌∙◌, arith, inl, subst, IsTrue, None, option_and_then, if◌then◌else◌, All, Contains}
 use Rattle.std.proofs.lemmas.List.Elements.{Contains-append_right}
 use Rattle.pur_base.specs.Facts.{object_key, segment_key, never}
 use Rattle.pur_base.specs.Keys.{id_of}
 use Rattle.pur_base.specs.Says.{unless_empty, says}
-use Rattle.pur_base.specs.Visible.{is_elided, AreElidedRanges}
+use Rattle.pur_base.specs.Visible.{is_elided, is_within, AreElidedRanges}
 use Rattle.pur_base.specs.declared.request.Table.{Table}
 use Rattle.pur_base.specs.declared.request.Table.TheVariants as table
 use Rattle.pur_base.specs.declared.place.Place.{Place}
@@ -14,17 +14,20 @@ use Rattle.pur_base.specs.declared.facts.AnyFact.TheVariants as any
 use Rattle.elision.specs.Ranges.{ElidedRanges, ranges_of}
 use Rattle.pyramid.specs.Layers.{AreDistinct, facts_of, newest_of}
 use Rattle.pyramid.specs.Shown.{IsShown}
+use Rattle.pyramid.proofs.KeyLemmas.{within_elided}
 use Rattle.pyramid.proofs.LayerLemmas.{all_contained}
 use Rattle.pyramid.proofs.ShownLemmas.{said_found}
-use Rattle.memory_spec.specs.Memory.{IsSound}
+use Rattle.memory_spec.specs.Memory.{Memory, IsSound}
 use Rattle.memory_spec.specs.Tables.{facts}
 use Rattle.memory_spec.proofs.AllTables.{all_segments}
 use Rattle.memory_spec.proofs.Created.{not_elided}
 use Rattle.memory_spec.proofs.Lists.{of_each}
 use Rattle.checkpoint_plan.specs.Planned.{IsPlanned}
 use Rattle.checkpoint_plan.specs.Segments.{segments_from}
+use Rattle.checkpoint_plan.proofs.ElidedLemmas.{objects_same, segments_elided}
 use Rattle.checkpoint_plan.proofs.SegmentsLemmas.{is_new_segment}
 use Rattle.checkpoint_plan.proofs.Planned.{planned_sound, planned_elided}
+use Rattle.array_memory.specs.Eliding.{eliding_by, IsElidingOf}
 use Rattle.array_memory.specs.Kept.{Kept, IsKept}
 use Rattle.array_memory.specs.declared.plan.Plan.{Plan}
 use Rattle.array_memory.specs.Plan.{IsPlanFor}
@@ -37,19 +40,19 @@ segment_there k h d c =
     (said_found segment_key (λ (f : SegmentFact). f.seq.0) never (facts k.memory.tables).segments (is_elided (facts k.memory.tables).elisions table.Segment) (segment_key d) d (h.segments.said d c)).0
 
 -- new ids are above those of visible segments
-pub new_behind : (k : Kept) (p : Plan) → IsKept k → IsPlanFor k.memory p → (d e : SegmentFact) → Contains k.segments d → Contains p.segments.items e → d.segment.0 < e.segment.0
+pub new_behind : (k : Kept) (p : Plan) → IsKept k → IsPlanFor (eliding_by k.memory p.eliding) p → (d e : SegmentFact) → Contains k.segments d → Contains p.segments.items e → d.segment.0 < e.segment.0
 new_behind k p h plan d e a b =
     let low = of_each (λ (f : SegmentFact). f.segment.0 < k.memory.next.segment) (facts k.memory.tables).segments d h.ids.segments (segment_there k h d a) in
-    let high = new_id k.memory p plan e b in
+    let high = new_id (eliding_by k.memory p.eliding) p plan e b in
     omega (arith, low, high)
 
 -- and above those of unflushed facts
-pub new_last : (k : Kept) (sectors : ℕ) (units : List (List Place)) (ds : List SegmentFact) → IsKept k → ds ≡ segments_from k.memory.next.segment k.memory.next.sequence sectors units
+pub new_last : (k : Kept) (number sectors : ℕ) (units : List (List Place)) (ds : List SegmentFact) → IsKept k → ds ≡ segments_from k.memory.next.segment number sectors units
     → (f d : SegmentFact) → Contains k.memory.tables.segments.unflushed f → Contains ds d → f.segment.0 < d.segment.0
-new_last k sectors units ds h are f d a b =
+new_last k number sectors units ds h are f d a b =
     let there : Contains (facts k.memory.tables).segments f = Contains-append_right (facts_of k.memory.tables.segments.patches) k.memory.tables.segments.unflushed f a in
     let low = of_each (λ (x : SegmentFact). x.segment.0 < k.memory.next.segment) (facts k.memory.tables).segments f h.ids.segments there in
-    let high = (is_new_segment k.memory.next.segment k.memory.next.sequence sectors units d (subst (λ l. Contains l d) are b)).id in
+    let high = (is_new_segment k.memory.next.segment number sectors units d (subst (λ l. Contains l d) are b)).id in
     omega (arith, low, high)
 
 same_segment : (f g : SegmentFact) → any.Segment f ≡ any.Segment g → f ≡ g
@@ -58,11 +61,19 @@ same_segment f g e = cc
 pub segments_distinct : (k : Kept) → IsKept k → AreDistinct (λ (d : SegmentFact). d.seq.0) (facts k.memory.tables).segments
 segments_distinct k h f g c d e = same_segment f g (h.numbers.distinct (any.Segment f) (any.Segment g) (all_segments (facts k.memory.tables) f c) (all_segments (facts k.memory.tables) g d) e)
 
-pub new_visible : (k : Kept) (p : Plan) → IsKept k → IsPlanFor k.memory p → All (λ (d : SegmentFact). is_elided (facts k.memory.tables).elisions table.Segment d.segment.0 ≡ false) p.segments.items
-new_visible k p h plan = all_contained (λ (d : SegmentFact). is_elided (facts k.memory.tables).elisions table.Segment d.segment.0 ≡ false) p.segments.items
-    (λ d c. not_elided k.memory.next (facts k.memory.tables) table.Segment d.segment.0 h.ids (new_id k.memory p plan d c))
+-- what was elided still is
+pub still_within : (k : Kept) (p : Plan) → IsElidingOf k p.eliding → (id : ℕ) → IsTrue (is_elided (facts k.memory.tables).elisions table.Segment id) → IsTrue (is_within (ranges_of p.eliding.elided table.Segment) id)
+still_within k p e id is = ((e.elided table.Segment (λ x. cc)).same id).0 ((segments_elided k.memory p.eliding.segments.items p.eliding.facts.items e.made id).1 (inl is))
 
--- ---- the same ids are elided
+-- none of the new segments is elided
+pub new_visible : (k : Kept) (p : Plan) → IsElidingOf k p.eliding → IsPlanFor (eliding_by k.memory p.eliding) p → All (λ (d : SegmentFact). is_within (ranges_of p.eliding.elided table.Segment) d.segment.0 ≡ false) p.segments.items
+new_visible k p e plan = all_contained (λ (d : SegmentFact). is_within (ranges_of p.eliding.elided table.Segment) d.segment.0 ≡ false) p.segments.items
+    (λ d c.
+    let m = eliding_by k.memory p.eliding in
+    sym (within_elided (facts m.tables).elisions table.Segment (ranges_of p.eliding.elided table.Segment) d.segment.0 (e.elided table.Segment (λ is. cc)))
+    ∙ not_elided m.next (facts m.tables) table.Segment d.segment.0 plan.sound.ids (new_id m p plan d c))
+
+-- ---- which ids are elided
 
 shown_where : {F : Type 0} (key number : F → ℕ) (empty : F → Bool) (fs : List F) (before after : ℕ → Bool) (shown : List F) → ((id : ℕ) → after id ≡ before id)
     → IsShown key number empty fs before shown → IsShown key number empty fs after shown
@@ -75,28 +86,37 @@ shown_where {F} key number empty fs before after shown same h = record {
     alike : (k : ℕ) → says key number empty fs after k ≡ says key number empty fs before k
     alike k = ap (λ b. if b then None else option_and_then (unless_empty empty) (newest_of key number k fs)) (same (id_of k))
 
-module _ (k n : Kept) (p : Plan) (newest : List AddressFact) (flags : List Bool) (units : List (List Place)) (h : IsKept k) (plan : IsPlanFor k.memory p)
-    (planned : IsPlanned k.memory n.memory flags newest units) where
-  same_elided : (t : Table) (id : ℕ) → is_elided (facts n.memory.tables).elisions t id ≡ is_elided (facts k.memory.tables).elisions t id
-  same_elided t id = planned_elided (λ a b. []) k.memory n.memory flags newest units plan.sound plan.stored planned t id
+module _ (k n : Kept) (p : Plan) (newest : List AddressFact) (flags : List Bool) (units : List (List Place)) (h : IsKept k) (e : IsElidingOf k p.eliding)
+    (plan : IsPlanFor (eliding_by k.memory p.eliding) p) (planned : IsPlanned (eliding_by k.memory p.eliding) n.memory flags newest units) where
+  abbrev Elided : Memory
+  Elided = eliding_by k.memory p.eliding
+
+  same_elided : (t : Table) (id : ℕ) → is_elided (facts n.memory.tables).elisions t id ≡ is_elided (facts Elided.tables).elisions t id
+  same_elided t id = planned_elided (λ a b. []) Elided n.memory flags newest units plan.sound plan.stored planned t id
 
   sound : IsSound n.memory
-  sound = planned_sound (λ a b. []) k.memory n.memory flags newest units plan.sound plan.stored planned
+  sound = planned_sound (λ a b. []) Elided n.memory flags newest units plan.sound plan.stored planned
 
-  still_elided : (t : Table) (rs : List (ℕ × ℕ)) → AreElidedRanges (facts k.memory.tables).elisions t rs → AreElidedRanges (facts n.memory.tables).elisions t rs
+  still_elided : (t : Table) (rs : List (ℕ × ℕ)) → AreElidedRanges (facts Elided.tables).elisions t rs → AreElidedRanges (facts n.memory.tables).elisions t rs
   still_elided t rs r = record {
     same = λ id. (λ x. (r.same id).0 (sym (same_elided t id) ∙ x), λ x. same_elided t id ∙ (r.same id).1 x);
     whole = r.whole;
     apart = r.apart;
   }
 
-  pub finished_kept : n.elided ≡ k.elided
+  objects_elided : (id : ℕ) → is_elided (facts n.memory.tables).elisions table.Object id ≡ is_elided (facts k.memory.tables).elisions table.Object id
+  objects_elided id = same_elided table.Object id ∙ objects_same k.memory p.eliding.segments.items p.eliding.facts.items e.made id
+
+  segments_within : (id : ℕ) → is_elided (facts n.memory.tables).elisions table.Segment id ≡ is_within (ranges_of p.eliding.elided table.Segment) id
+  segments_within id = same_elided table.Segment id ∙ within_elided (facts Elided.tables).elisions table.Segment (ranges_of p.eliding.elided table.Segment) id (e.elided table.Segment (λ is. cc))
+
+  pub finished_kept : n.elided ≡ p.eliding.elided
       → IsShown object_key (λ f. f.seq.0) never (facts n.memory.tables).objects (is_elided (facts k.memory.tables).elisions table.Object) n.objects
-      → IsShown segment_key (λ f. f.seq.0) never (facts n.memory.tables).segments (is_elided (facts k.memory.tables).elisions table.Segment) n.segments → IsKept n
+      → IsShown segment_key (λ f. f.seq.0) never (facts n.memory.tables).segments (is_within (ranges_of p.eliding.elided table.Segment)) n.segments → IsKept n
   finished_kept elided objects segments = record {
-    objects = shown_where object_key (λ f. f.seq.0) never (facts n.memory.tables).objects (is_elided (facts k.memory.tables).elisions table.Object) (is_elided (facts n.memory.tables).elisions table.Object) n.objects (same_elided table.Object) objects;
-    segments = shown_where segment_key (λ f. f.seq.0) never (facts n.memory.tables).segments (is_elided (facts k.memory.tables).elisions table.Segment) (is_elided (facts n.memory.tables).elisions table.Segment) n.segments (same_elided table.Segment) segments;
-    elided = λ t ne. still_elided t (ranges_of n.elided t) (subst (λ (e : ElidedRanges). AreElidedRanges (facts k.memory.tables).elisions t (ranges_of e t)) (sym elided) (h.elided t ne));
+    objects = shown_where object_key (λ f. f.seq.0) never (facts n.memory.tables).objects (is_elided (facts k.memory.tables).elisions table.Object) (is_elided (facts n.memory.tables).elisions table.Object) n.objects objects_elided objects;
+    segments = shown_where segment_key (λ f. f.seq.0) never (facts n.memory.tables).segments (is_within (ranges_of p.eliding.elided table.Segment)) (is_elided (facts n.memory.tables).elisions table.Segment) n.segments segments_within segments;
+    elided = λ t ne. subst (λ (x : ElidedRanges). AreElidedRanges (facts n.memory.tables).elisions t (ranges_of x t)) (sym elided) (still_elided t (ranges_of p.eliding.elided t) (e.elided t ne));
     next = sound.next;
     ids = sound.ids;
     numbers = sound.numbers;

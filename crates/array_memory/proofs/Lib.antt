@@ -12,4 +12,6 @@ pub mod LoadedLemmas
 pub mod PlanLemmas
 pub mod FinishLemmas
 pub mod VisibleLemmas
+pub mod UnusedLemmas
+pub mod ElidingLemmas
 pub mod LastingLemmas

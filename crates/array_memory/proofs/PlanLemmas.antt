@@ -11,6 +11,7 @@ use Rattle.pur_base.specs.declared.facts.Target.{Target}
 use Rattle.pur_base.specs.declared.facts.Target.TheVariants.{Stored, Zero}
 use Rattle.pur_base.specs.declared.facts.AddressFact.{AddressFact}
 use Rattle.pur_base.specs.declared.facts.SegmentFact.{SegmentFact}
+use Rattle.pur_base.specs.declared.facts.ElisionFact.{ElisionFact}
 use Rattle.pur_base.specs.Plain.{Array}
 use Rattle.pur_base.specs.declared.facts.AnyFact.TheVariants as any
 use Rattle.boot_codec.specs.declared.record.NextNumbers.{NextNumbers}
@@ -25,6 +26,7 @@ use Rattle.memory_spec.specs.Memory.{Memory, Contents, FitsTarget, FitsInMemory,
 use Rattle.memory_spec.specs.Tables.{facts, patches}
 use Rattle.memory_spec.proofs.AllTables.{all_addresses, all_segments}
 use Rattle.memory_spec.proofs.Lists.{of_map}
+use Rattle.checkpoint_spec.specs.Eliding.{IsEliding}
 use Rattle.checkpoint_spec.specs.Flushing.{IsTableFlushed}
 use Rattle.checkpoint_spec.specs.Placing.{repointed}
 use Rattle.checkpoint_spec.specs.Whole.{AreLayered}
@@ -34,10 +36,12 @@ use Rattle.checkpoint_plan.specs.Segments.{segments_from}
 use Rattle.checkpoint_plan.proofs.PlacesLemmas.{is_flagged}
 use Rattle.checkpoint_plan.proofs.Planned.{named_by}
 use Rattle.checkpoint_plan.proofs.SegmentsLemmas.{IsNewSegment, is_new_segment}
+use Rattle.array_memory.specs.declared.plan.Eliding.{Eliding}
 use Rattle.array_memory.specs.declared.plan.Placing.{Placing}
 use Rattle.array_memory.specs.declared.plan.Plan.{Plan}
+use Rattle.array_memory.specs.Eliding.{eliding_by, IsElidingOf}
 use Rattle.array_memory.specs.Kept.{Kept}
-use Rattle.array_memory.specs.Plan.{after_plan, next_past, next_with, placed_addresses, units_of, with_patch_rooms, AreLeftFor, AreUnits, HasRoomForPatches, HasSameLayers, IsPlacingOf, IsPlanFor, IsPlanOf, IsSameMemory}
+use Rattle.array_memory.specs.Plan.{after_plan, next_past, next_with, placed_addresses, units_of, with_patch_rooms, without_elisions, AreLeftFor, AreUnits, HasRoomForPatches, HasSameLayers, IsPlacingOf, IsPlanFor, IsPlanOf, IsSameMemory}
 use Rattle.array_memory.proofs.SoundLemmas.{sound_as}
 
 -- ---- sectors have places
@@ -152,13 +156,17 @@ module _ (m : Memory) (p : Plan) (h : IsPlanFor m p) where
   segment_facts_newer = rising_with m.tables.segments.patches m.tables.segments.unflushed p.segments.items (patch_facts p.segment_facts)
       (rises_below (λ (d : SegmentFact). d.seq.0) m.tables.segments.patches m.tables.segments.unflushed h.layered.segments.rises) segments_newer h.segment_facts.source
 
+  pub elisions_newer : AreBelow (λ (f : ElisionFact). f.seq.0) (facts_of m.tables.elisions.patches) (patch_facts p.elisions)
+  elisions_newer = all_below (λ (f : ElisionFact). f.seq.0) (facts_of m.tables.elisions.patches) (patch_facts p.elisions) (λ f g c d.
+      below_at (λ (x : ElisionFact). x.seq.0) (facts_of m.tables.elisions.patches) m.tables.elisions.unflushed f g h.elisions_rise c (h.elisions.source g d))
+
   layered : AreLayered (after_plan m p).tables
   layered = record {
     objects = flush_layered object_key (λ f. f.seq.0) m.tables.objects.patches m.tables.objects.unflushed p.objects h.layered.objects h.objects;
     mediums = flush_layered medium_key (λ f. f.seq.0) m.tables.mediums.patches m.tables.mediums.unflushed p.mediums h.layered.mediums h.mediums;
     addresses = instead_layered address_key (λ f. f.seq.0) m.tables.addresses.patches m.tables.addresses.unflushed p.addresses h.layered.addresses addresses_ascend addresses_newer;
     segments = instead_layered segment_key (λ f. f.seq.0) m.tables.segments.patches m.tables.segments.unflushed p.segment_facts h.layered.segments h.segment_facts.ascends segment_facts_newer;
-    elisions = flush_layered elision_key (λ f. f.seq.0) m.tables.elisions.patches m.tables.elisions.unflushed p.elisions h.layered.elisions h.elisions;
+    elisions = instead_layered elision_key (λ f. f.seq.0) m.tables.elisions.patches [] p.elisions h.layered.elisions h.elisions.ascends elisions_newer;
   }
 
   -- memory as it will be is memory after a checkpoint
@@ -193,7 +201,8 @@ module _ (m : Memory) (p : Plan) (h : IsPlanFor m p) where
   }
 
 -- what a plan is made of
-pub made_for : (m : Memory) (p : Plan) (units : List (List Place)) → IsSound m → AreStored (facts_of m.tables.addresses.patches) → AreLayered m.tables → IsPlacingOf m p.placing
+pub made_for : (m : Memory) (p : Plan) (units : List (List Place)) → IsSound m → AreStored (facts_of m.tables.addresses.patches) → AreLayered (without_elisions m.tables)
+    → AreBelow (λ f. f.seq.0) (facts_of m.tables.elisions.patches) m.tables.elisions.unflushed → IsPlacingOf m p.placing
     → div_ceil (length p.placing.order.items) SEGMENT_SECTORS ≡ length units → AreUnits units → AreLeftFor m.next (length units)
     → p.segments.items ≡ segments_from m.next.segment m.next.sequence (length p.placing.order.items) units
     → IsFlushed object_key (λ f. f.seq.0) m.tables.objects.unflushed (patch_facts p.objects)
@@ -202,10 +211,11 @@ pub made_for : (m : Memory) (p : Plan) (units : List (List Place)) → IsSound m
     → IsFlushed segment_key (λ f. f.seq.0) (m.tables.segments.unflushed ++ p.segments.items) (patch_facts p.segment_facts)
     → IsFlushed elision_key (λ f. f.seq.0) m.tables.elisions.unflushed (patch_facts p.elisions)
     → p.next ≡ next_past m.next (length units) → IsPlanFor m p
-made_for m p units sound stored layered placing wanted places left are objects mediums addresses segment_facts elisions next = record {
+made_for m p units sound stored layers rise placing wanted places left are objects mediums addresses segment_facts elisions next = record {
   sound = sound;
   stored = stored;
-  layered = layered;
+  layered = layers;
+  elisions_rise = rise;
   placing = placing;
   wanted = wanted ∙ sym long;
   segments = are ∙ ap (λ u. segments_from m.next.segment m.next.sequence (length p.placing.order.items) u) (sym own);
@@ -274,11 +284,12 @@ patches_same a b s = rw (s.objects.patches, s.mediums.patches, s.addresses.patch
 -- ---- room
 
 -- a plan is one of memory with other room
-roomed_for : (was now : Kept) (p : Plan) → IsPlanFor was.memory p → IsPlanFor (with_patch_rooms was now).memory p
+roomed_for : (was now : Kept) (p : Plan) → IsPlanFor (eliding_by was.memory p.eliding) p → IsPlanFor (eliding_by (with_patch_rooms was now).memory p.eliding) p
 roomed_for was now p h = record {
-  sound = sound_as was.memory (with_patch_rooms was now).memory refl refl refl h.sound;
+  sound = sound_as (eliding_by was.memory p.eliding) (eliding_by (with_patch_rooms was now).memory p.eliding) refl refl refl h.sound;
   stored = h.stored;
   layered = record { objects = h.layered.objects; mediums = h.layered.mediums; addresses = h.layered.addresses; segments = h.layered.segments; elisions = h.layered.elisions };
+  elisions_rise = h.elisions_rise;
   placing = record { made = h.placing.made; count = h.placing.count; named = h.placing.named; order = h.placing.order };
   wanted = h.wanted;
   segments = h.segments;
@@ -300,6 +311,7 @@ numbered m p n same more left h = record {
   sound = h.sound;
   stored = h.stored;
   layered = h.layered;
+  elisions_rise = h.elisions_rise;
   placing = h.placing;
   wanted = h.wanted;
   segments = h.segments;
@@ -314,10 +326,35 @@ numbered m p n same more left h = record {
   patch_segments = (let a = h.patch_segments.0 in omega (arith, a, more), left);
 }
 
-pub plan_of : (was now : Kept) (p : Plan) (units : List (List Place)) → now ≡ with_patch_rooms was now → IsPlanFor was.memory p → units_of p ≡ units → HasRoomForPatches now (length units) → IsPlanOf now p
-plan_of was now p units rest h own room = record {
-  plan = subst (λ (k : Kept). IsPlanFor k.memory p) (sym rest) (roomed_for was now p h);
-  room = subst (λ n. HasRoomForPatches now n) (sym (ap length own) ∙ units_long was.memory p h) room;
+-- what is elided is elided of memory with other room
+roomed_eliding : (was now : Kept) (e : Eliding) → IsElidingOf was e → IsElidingOf (with_patch_rooms was now) e
+roomed_eliding was now e h = record { unused = h.unused; made = h.made; elided = h.elided }
+
+roomed_keeps : (was now : Kept) (e : Eliding) → IsEliding was.memory (eliding_by was.memory e) e.facts.items → IsEliding (with_patch_rooms was now).memory (eliding_by (with_patch_rooms was now).memory e) e.facts.items
+roomed_keeps was now e h = record {
+  elisions = h.elisions;
+  new_elisions = record { each = h.new_elisions.each; ids = h.new_elisions.ids; numbers = h.new_elisions.numbers; one_number = h.new_elisions.one_number };
+  sound = h.sound;
+  no_object = h.no_object;
+  mediums_unreached = h.mediums_unreached;
+  addresses_unreached = h.addresses_unreached;
+  segments_unused = h.segments_unused;
+  objects = refl;
+  mediums = refl;
+  addresses = refl;
+  segments = refl;
+  staged = refl;
+  next = refl;
+  numbers = h.numbers;
+}
+
+pub plan_of : (was now : Kept) (p : Plan) (units : List (List Place)) → now ≡ with_patch_rooms was now → IsElidingOf was p.eliding → IsEliding was.memory (eliding_by was.memory p.eliding) p.eliding.facts.items
+    → IsPlanFor (eliding_by was.memory p.eliding) p → units_of p ≡ units → HasRoomForPatches now (length units) → IsPlanOf now p
+plan_of was now p units rest e keeps h own room = record {
+  eliding = subst (λ (k : Kept). IsElidingOf k p.eliding) (sym rest) (roomed_eliding was now p.eliding e);
+  keeps = subst (λ (k : Kept). IsEliding k.memory (eliding_by k.memory p.eliding) p.eliding.facts.items) (sym rest) (roomed_keeps was now p.eliding keeps);
+  plan = subst (λ (k : Kept). IsPlanFor (eliding_by k.memory p.eliding) p) (sym rest) (roomed_for was now p h);
+  room = subst (λ n. HasRoomForPatches now n) (sym (ap length own) ∙ units_long (eliding_by was.memory p.eliding) p h) room;
 }
 
 pub reads_roomed : (was now : Kept) → now ≡ with_patch_rooms was now → (contents : Contents) (array : Array) → ReadsAs contents was.memory array → ReadsAs contents now.memory array

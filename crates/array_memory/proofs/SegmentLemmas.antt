@@ -13,7 +13,7 @@ use Rattle.memory_spec.proofs.Lists.{each_by_recursion, of_each}
 use Rattle.array_memory.specs.Kept.{Kept, IsKept}
 
 -- a segment that the facts say is visible
-said_visible : (k : Kept) → IsKept k → (id : ℕ) (d : SegmentFact) → segment (facts k.memory.tables) id ≡ Some d → Contains k.segments d × (d.segment.0 ≡ id)
+pub said_visible : (k : Kept) → IsKept k → (id : ℕ) (d : SegmentFact) → segment (facts k.memory.tables) id ≡ Some d → Contains k.segments d × (d.segment.0 ≡ id)
 said_visible k h id d e =
     let fs = (facts k.memory.tables).segments in
     let is = says_is segment_key (λ f. f.seq.0) never (λ f. Contains fs f) fs (is_elided (facts k.memory.tables).elisions table.Segment) (key_of id 0) d (each_by_recursion (λ f. Contains fs f) fs (λ f c. c)) e in

@@ -4,5 +4,6 @@ pub mod Asked
 pub mod Put
 pub mod Lawful
 pub mod Loaded
+pub mod Eliding
 pub mod Plan
 pub mod Lasting

@@ -9,8 +9,10 @@ use Rattle.pur_base.specs.declared.facts.AddressFact.{AddressFact}
 use Rattle.byte_fields.specs.Places.{FitsBytes}
 use Rattle.boot_codec.specs.declared.record.NextNumbers.{NextNumbers}
 use Rattle.fact_codec.specs.declared.limits.TheConstants.{NUMBER_LIMIT}
-use Rattle.pyramid.specs.Layers.{Layers, IsFlushed, facts_of, patch_facts, patches_of}
+use Rattle.pyramid.specs.Layers.{Layers, AreBelow, IsFlushed, facts_of, patch_facts, patches_of}
 use Rattle.memory_spec.specs.Memory.{Memory, IsSound}
+use Rattle.memory_spec.specs.Tables.{Tables}
+use Rattle.checkpoint_spec.specs.Eliding.{IsEliding}
 use Rattle.checkpoint_spec.specs.Whole.{AreLayered}
 use Rattle.checkpoint_spec.specs.Placing.{repointed}
 use Rattle.checkpoint_plan.specs.Places.{flagged_from, is_named, place_in, places_from}
@@ -19,6 +21,7 @@ use Rattle.checkpoint_plan.specs.Segments.{segments_from}
 use Rattle.array_memory.specs.declared.plan.Placing.{Placing}
 use Rattle.array_memory.specs.declared.plan.Plan.{Plan}
 use Rattle.array_memory.specs.declared.plan.Counts.{Counts}
+use Rattle.array_memory.specs.Eliding.{eliding_by, IsElidingOf}
 use Rattle.array_memory.specs.Kept.{Kept}
 
 -- ---- what is placed
@@ -56,11 +59,16 @@ next_with next count patch_segment = record next { segment = next.segment + coun
 abbrev pub AreUnits : List (List Place) → Type 0
 AreUnits units = (u : List Place) → Contains units u → (length u ≡ SEGMENT_SHARDS) × AllByRecursion FitsBytes u
 
+-- the tables, but for elisions that aren't flushed: in what order these stand doesn't count
+abbrev pub without_elisions : Tables → Tables
+without_elisions t = record t { elisions = record t.elisions { unflushed = [] } }
+
 -- The plan is of this memory, which is sound: of each table the newest unflushed facts, with sectors placed in segments of its own. It may give ids to segments of the new patches.
 pub record IsPlanFor (m : Memory) (p : Plan) : Type 0 where
   pub sound : IsSound m
   pub stored : AreStored (facts_of m.tables.addresses.patches)
-  pub layered : AreLayered m.tables
+  pub layered : AreLayered (without_elisions m.tables)
+  pub elisions_rise : AreBelow (λ f. f.seq.0) (facts_of m.tables.elisions.patches) m.tables.elisions.unflushed
   pub placing : IsPlacingOf m p.placing
   pub wanted : div_ceil (length p.placing.order.items) SEGMENT_SECTORS ≡ length p.segments.items
   pub segments : p.segments.items ≡ segments_from m.next.segment m.next.sequence (length p.placing.order.items) (units_of p)
@@ -83,9 +91,11 @@ pub record HasRoomForPatches (k : Kept) (count : ℕ) : Type 0 where
   pub elisions : 0 < k.memory.tables.elisions.patch_room
   pub visible : count ≤ k.segment_room
 
--- the plan is one of this memory, which has room for it
+-- the plan is one of this memory once its segments are elided, and there is room for it
 pub record IsPlanOf (k : Kept) (p : Plan) : Type 0 where
-  pub plan : IsPlanFor k.memory p
+  pub eliding : IsElidingOf k p.eliding
+  pub keeps : IsEliding k.memory (eliding_by k.memory p.eliding) p.eliding.facts.items
+  pub plan : IsPlanFor (eliding_by k.memory p.eliding) p
   pub room : HasRoomForPatches k (length p.segments.items)
 
 -- the counts are those of the plan's patches

@@ -1,24 +1,29 @@
-ghost use Rattle.std.specs.Prelude.{◌≡◌, ◌≤◌, ◌+◌, ◌++◌, length};
+ghost use Rattle.std.specs.Prelude.{◌≡◌, ◌≤◌, ◌+◌, ◌++◌, filter, length, not};
+ghost use Rattle.pur_base.specs.Visible.{is_within};
+ghost use Rattle.elision.specs.Ranges.{ranges_of};
 ghost use Rattle.pyramid.specs.Layers.{patch_facts};
 ghost use Rattle.checkpoint_plan.specs.Planned.{IsPlanned};
+ghost use Rattle.array_memory.specs.Eliding.{eliding_by};
 ghost use Rattle.array_memory.specs.Plan.{after_plan, units_of, HasRoomAgain, IsPlanOf, IsSameMemory};
 
 use crate::memory::Memory;
 use crate::plan::Plan;
+use pur_base::Table;
 
 impl Memory {
-    /// Makes memory what the plan says: each table is flushed, nothing is staged, and the next numbers are its own. It takes no memory.
+    /// Makes memory what the plan says: the elided segments are gone, each table is flushed, nothing is staged, and the next numbers are its own. It takes no memory.
     pub fn finish(&mut self, plan: Plan)
         requires { IsPlanOf self.old plan }
-        ensures planned { IsPlanned self.old.memory self.new.memory plan.placing.flags.items (patch_facts plan.placing.newest) (units_of plan) }
+        ensures planned { IsPlanned (eliding_by self.old.memory plan.eliding) self.new.memory plan.placing.flags.items (patch_facts plan.placing.newest) (units_of plan) }
         ensures memory { IsSameMemory (after_plan self.old.memory plan) self.new.memory }
         ensures objects { self.new.objects ≡ self.old.objects }
-        ensures segments { self.new.segments ≡ self.old.segments ++ plan.segments.items }
-        ensures elided { self.new.elided ≡ self.old.elided }
+        ensures segments { self.new.segments ≡ filter (λ d. not (is_within (ranges_of plan.eliding.elided Table.Segment) d.segment.0)) self.old.segments ++ plan.segments.items }
+        ensures elided { self.new.elided ≡ plan.eliding.elided }
         ensures room { HasRoomAgain self.old self.new }
         ensures visible_room { self.old.segment_room ≤ self.new.segment_room + length plan.segments.items }
     {
         let Plan {
+            eliding,
             segments,
             objects,
             mediums,
@@ -31,8 +36,11 @@ impl Memory {
         self.objects.put_flushed(objects);
         self.mediums.facts.put_flushed(mediums);
         self.addresses.facts.put_instead(addresses);
+        self.segments
+            .remove_elided(eliding.elided.ranges(Table::Segment));
         self.segments.put_with(&segments, segment_facts);
-        self.elisions.put_flushed(elisions);
+        self.elisions.put_instead(elisions);
+        self.elided = eliding.elided;
         self.staged.clear();
         self.next = next;
     }

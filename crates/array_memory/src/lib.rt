@@ -3,6 +3,7 @@
 #![tactic(auto)]
 
 mod apply;
+mod eliding;
 mod finishing;
 mod laws;
 mod limits;
@@ -17,7 +18,7 @@ mod segments;
 mod visible;
 
 pub use laws::{laws_of_requests, plans_are_lawful};
-pub use limits::{STAGED_SECTORS, UNFLUSHED_OBJECTS};
+pub use limits::{ELIDED_SEGMENTS, STAGED_SECTORS, UNFLUSHED_OBJECTS};
 pub use memory::Memory;
-pub use plan::{Counts, Placing, Plan};
+pub use plan::{Counts, Eliding, Placing, Plan};
 pub use visible::visible_segments;

@@ -3,3 +3,6 @@ pub const STAGED_SECTORS: usize = 4_936;
 
 /// For how many unflushed facts of objects room is reserved: one for each slot of the log.
 pub const UNFLUSHED_OBJECTS: usize = 64;
+
+/// The most segments that one checkpoint elides.
+pub const ELIDED_SEGMENTS: usize = 1_024;

@@ -33,7 +33,7 @@ use std::alloc::Global;
 use table_soundness::elided_by;
 
 /// That no ranges of a table overlap or touch: they are read for it alone.
-fn are_apart(elided: &Elided)
+pub(crate) fn are_apart(elided: &Elided)
     ensures { (t : Table) → AreApart (ranges_of elided.now t) }
 {
     let _objects = elided.ranges(Table::Object);

@@ -5,6 +5,7 @@ ghost use Rattle.memory_spec.specs.Memory.{Memory};
 ghost use Rattle.array_memory.specs.Plan.{AreCounts, IsPlanFor};
 
 use boot_codec::NextNumbers;
+use elision::Elided;
 use pur_base::{AddressFact, ElisionFact, Fact, MediumFact, ObjectFact, SegmentFact};
 use pyramid::Patch;
 
@@ -19,9 +20,21 @@ pub struct Placing {
     pub newest: Option<Patch<AddressFact>>,
 }
 
-/// What a checkpoint makes of memory: the new segments, the new patch of each table, and the next numbers.
+/// What a checkpoint elides: the data segments that no address names any more.
+#[derive(Drop)]
+pub struct Eliding {
+    /// Their ids, ascending.
+    pub segments: Vec<u64>,
+    /// An elision for each.
+    pub facts: Vec<ElisionFact>,
+    /// The elided ids of each table then.
+    pub elided: Elided,
+}
+
+/// What a checkpoint makes of memory: the elided segments, the new segments, the new patch of each table, and the next numbers.
 #[derive(Drop)]
 pub struct Plan {
+    pub eliding: Eliding,
     pub placing: Placing,
     pub segments: Vec<SegmentFact>,
     pub objects: Option<Patch<ObjectFact>>,

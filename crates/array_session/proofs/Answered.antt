@@ -12,8 +12,8 @@ use Rattle.pur_base.specs.Grammar.{Item, Asked, Syntax, Cut}
 use Rattle.pur_base.specs.Replies.{Answer}
 use Rattle.world.specs.Losing.{has_risen, missing_if, losing}
 use Rattle.session_spec.specs.Faring as faring
-use Rattle.session_spec.specs.Faring.{Point, Answers, AnswersRequest, AnswersAccepted, IsAppended, IsAppendedBehind, IsDone, IsFailed, IsGone, IsLost, LosesThree, Where, is_full, is_limited, is_spent}
-use Rattle.session_spec.specs.declared.limits.TheConstants.{ADDING_GROUPS}
+use Rattle.session_spec.specs.Faring.{Point, Answers, AnswersRequest, AnswersAccepted, IsAppended, IsAppendedBehind, IsDone, IsFailed, IsGone, IsLost, IsFlushing, LosesThree, Where, has_segments, is_full, is_limited, is_spent}
+use Rattle.session_spec.specs.declared.limits.TheConstants.{ADDING_GROUPS, CHECKPOINT_GROUPS, SEGMENTS_END}
 use Rattle.session_spec.proofs.Conditions.{borne_before}
 
 pub risen_more : (a b c : ℕ) → b ≤ c → has_risen a b ≡ true → has_risen a c ≡ true
@@ -88,12 +88,20 @@ module _ (told : Bool) (shelf : Geometry) (failed others lost more : Device → 
       where_more (is_limited from) _ _ _ (λ unlimited. where_more (is_spent from) _ _ _ (λ w.
       (w.0, w.1, where_more (nat_lt w.0 ADDING_GROUPS) _ _ _ (λ x. both_more (is_full from) _ _ _ _ (behind_more r sectors) (appended_more r sectors) x) w.2)) unlimited) h
 
+  -- a checkpoint that was asked for
+  flushing_more : IsFlushing shelf lost from q to → IsFlushing shelf more from q to
+  flushing_more h =
+      where_more (has_segments SEGMENTS_END from) _ _ _ (λ unlimited. where_more (is_spent from) _ _ _ (λ w.
+      (w.0, w.1, where_more (nat_lt w.0 CHECKPOINT_GROUPS) _ _ _ (λ x. ⊎_elim (λ made. inl made) (λ other. inr (⊎_elim (λ wanted. inl wanted) (λ f. inr (failed_more f)) other)) x) w.2)) unlimited) h
+
   accepted_more : (r : Request) (sectors : List (List ℕ)) → AnswersAccepted told shelf failed lost from r sectors q to → AnswersAccepted told shelf others more from r sectors q to
   accepted_more (request.Create n size) sectors h = logged_more (request.Create n size) sectors h
   accepted_more (request.Write n lba count) sectors h = logged_more (request.Write n lba count) sectors h
   accepted_more (request.Fill n lba count byte) sectors h = logged_more (request.Fill n lba count byte) sectors h
   accepted_more (request.Read n lba count) sectors h = ⊎_elim (λ is. inl is) (λ is. inr (lost_more is)) h
   accepted_more request.List sectors h = h
+  accepted_more request.Status sectors h = h
+  accepted_more request.Checkpoint sectors h = flushing_more h
   accepted_more _ sectors h = absurd h
 
   request_more : (halted : Bool) (why : Option Refusal) (r : Request) (sectors : List (List ℕ)) → AnswersRequest halted why told shelf failed lost from r sectors q to → AnswersRequest halted why told shelf others more from r sectors q to

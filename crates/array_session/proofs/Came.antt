@@ -14,8 +14,8 @@ use Rattle.pur_base.specs.Commands.{IsLogged}
 use Rattle.pur_base.specs.Replies.{Answer, after_unless}
 use Rattle.world.specs.Losing.{losing}
 use Rattle.session_spec.specs.Faring as faring
-use Rattle.session_spec.specs.Faring.{Point, Answers, AnswersRequest, AnswersAccepted, HasGroups, IsCheckpointed, IsRefused, IsDone, IsFailed, IsLost, MayAdd, Where, WithRoom, is_full, is_limited, is_spent}
-use Rattle.session_spec.specs.declared.limits.TheConstants.{ADDING_GROUPS}
+use Rattle.session_spec.specs.Faring.{Point, Answers, AnswersRequest, AnswersAccepted, HasGroups, IsCheckpointed, IsRefused, IsDone, IsFailed, IsFlushing, IsLost, MayAdd, Where, WithRoom, has_segments, is_full, is_limited, is_spent}
+use Rattle.session_spec.specs.declared.limits.TheConstants.{ADDING_GROUPS, CHECKPOINT_GROUPS, LIMITED_SEGMENTS, SEGMENTS_END}
 use Rattle.session_spec.specs.Headline.{IsAfter, IsNext}
 
 where_not : (b : Bool) {one other P : Type 0} → (one → P) → (b ≡ false → other → P) → Where b one other → P
@@ -27,12 +27,16 @@ in_both : (b : Bool) {one other P : Type 0} → (one → P) → (other → P) �
 in_both true f g h = f h
 in_both false f g h = g h
 
-in_room : (from to : Point) (q : Answer) {some P : Type 0} → ((why : Refusal) → IsRefused why from q to → P) → (MayAdd from → some → P) → WithRoom from q to some → P
+in_room : (from to : Point) (q : Answer) {some P : Type 0} → ((why : Refusal) → IsRefused why from q to → P) → (MayAdd from → some → P) → WithRoom LIMITED_SEGMENTS ADDING_GROUPS from q to some → P
 in_room from to q {some} {P} f g h = where_not (is_limited from) (f refusals.Limit) (λ unlimited. where_not (is_spent from) (f refusals.Spent) (λ unspent w. in_groups unlimited unspent w.0 w.1 w.2)) h
   where
     in_groups : is_limited from ≡ false → is_spent from ≡ false → (groups : ℕ) → HasGroups from groups → Where (nat_lt groups ADDING_GROUPS) (IsRefused refusals.Space from q to) some → P
     in_groups unlimited unspent groups left w = where_not (nat_lt groups ADDING_GROUPS) (f refusals.Space)
         (λ enough is. g (record { unlimited = unlimited; unspent = unspent; groups = groups; left = left; enough = ltb-false groups ADDING_GROUPS enough }) is) w
+
+-- with room or without, where the room itself matters to nobody
+in_any_room : (limit floor : ℕ) (from to : Point) (q : Answer) {some P : Type 0} → ((why : Refusal) → IsRefused why from q to → P) → (some → P) → WithRoom limit floor from q to some → P
+in_any_room limit floor from to q f g h = in_both (has_segments limit from) (f refusals.Limit) (in_both (is_spent from) (f refusals.Spent) (λ w. in_both (nat_lt w.0 floor) (f refusals.Space) g w.2)) h
 
 -- how an item may come out: with the array as it was, with it done, or with too much lost
 abbrev pub ComesTo : Geometry → (Device → Bool) → Point → List Item → Point → Type 0
@@ -82,6 +86,15 @@ module _ (told : Bool) (shelf : Geometry) (failed lost : Device → Bool) (from 
         | inr failed ↦ failed_came r failed
       ])) h
 
+  -- a checkpoint that was asked for
+  flushing_came : IsFlushing shelf lost from q to → Came request.Checkpoint
+  flushing_came h = in_any_room SEGMENTS_END CHECKPOINT_GROUPS from to q (λ why. refused_came why request.Checkpoint)
+      (λ ends. elim ends [
+        | inl flushed ↦ same_came request.Checkpoint (flushed.stays.array ∙ ap (λ (p : Point). p.array) flushed.made.same) flushed.halted
+        | inr (inl wanted) ↦ refused_came refusals.Memory request.Checkpoint wanted
+        | inr (inr failed) ↦ failed_came request.Checkpoint failed
+      ]) h
+
   accepted_came : (r : Request) → refusal from.array r ≡ None → AnswersAccepted told shelf failed lost from r sectors q to → Came r
   accepted_came (request.Create n size) none h = logged_came (request.Create n size) tt none h
   accepted_came (request.Write n lba count) none h = logged_came (request.Write n lba count) tt none h
@@ -91,6 +104,8 @@ module _ (told : Bool) (shelf : Geometry) (failed lost : Device → Bool) (from 
     | inr lost ↦ same_came (request.Read n lba count) lost.refused_so.stays.array lost.refused_so.halted
   ]
   accepted_came request.List none h = same_came request.List h.stays.array h.halted
+  accepted_came request.Status none h = same_came request.Status h.stays.array h.halted
+  accepted_came request.Checkpoint none h = flushing_came h
   accepted_came _ none h = absurd h
 
   request_came : (why : Option Refusal) (r : Request) → refusal from.array r ≡ why → AnswersRequest false why told shelf failed lost from r sectors q to → Came r

@@ -28,12 +28,14 @@ use Rattle.checkpoint_spec.specs.Eliding.{IsEliding}
 use Rattle.checkpoint_spec.specs.Flushing.{IsFlush, IsShrunk}
 use Rattle.checkpoint_spec.specs.Placing.{placed_target, repointed, AreRepointed, IsPlacedAt, AreNewSegments, IsPlacing}
 use Rattle.checkpoint_spec.specs.Checkpoint.{IsCheckpointed}
+use Rattle.checkpoint_spec.proofs.Eliding.{eliding_reads}
 use Rattle.checkpoint_spec.proofs.Flushed.{flush_shrinks}
 use Rattle.checkpoint_spec.proofs.Shrinking.{shrunk_sound}
 use Rattle.checkpoint_spec.proofs.Placing.{placing_sound, staged_target, other_target, which_place, old_segment_id}
 use Rattle.checkpoint_plan.specs.Places.{is_staged_at, is_named, flagged_from, place_of, places_from, place_or_any, place_in}
 use Rattle.checkpoint_plan.specs.Segments.{segments_from}
-use Rattle.checkpoint_plan.specs.Planned.{sectors_at, extended, AreStored, IsPlanned, PlannedIsCheckpointed}
+use Rattle.checkpoint_plan.specs.Eliding.{eliding}
+use Rattle.checkpoint_plan.specs.Planned.{sectors_at, extended, AreStored, IsPlanned, ElidedIsCheckpointed, PlannedIsCheckpointed}
 use Rattle.checkpoint_plan.proofs.PlacesLemmas.{is_flagged, placed_contents, older_contents}
 use Rattle.checkpoint_plan.proofs.SegmentsLemmas.{is_new_segment, holds_rank, rooms}
 
@@ -330,3 +332,21 @@ module _ (contents : Contents) (was now : Memory) (flags : List Bool) (newest : 
 pub planned_is_checkpointed : PlannedIsCheckpointed
 planned_is_checkpointed contents was now flags newest units array r stored h =
     (checkpointed contents was now flags newest units r.sound stored h, still_stored contents was now flags newest units r.sound stored h)
+
+-- the same behind elisions
+pub elided_is_checkpointed : ElidedIsCheckpointed
+elided_is_checkpointed contents was now added flags newest units array r stored e h =
+    let sound : IsSound (eliding was added) = (eliding_reads contents was (eliding was added) added array r e).sound in (
+      record {
+        elisions = added;
+        elided = eliding was added;
+        eliding = e;
+        place = Place_of contents (eliding was added) now flags newest units sound stored h;
+        segments = Added contents (eliding was added) now flags newest units sound stored h;
+        placed = Placed contents (eliding was added) now flags newest units sound stored h;
+        placing = placing contents (eliding was added) now flags newest units sound stored h;
+        flush = flush contents (eliding was added) now flags newest units sound stored h;
+        layered = h.layered;
+      },
+      still_stored contents (eliding was added) now flags newest units sound stored h,
+    )

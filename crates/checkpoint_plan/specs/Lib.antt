@@ -1,3 +1,5 @@
 pub mod Places
 pub mod Segments
+pub mod Unused
+pub mod Eliding
 pub mod Planned

@@ -9,6 +9,7 @@ use Rattle.pur_base.specs.declared.place.Place.{Place}
 use Rattle.pur_base.specs.declared.place.Location.{Location}
 use Rattle.pur_base.specs.declared.facts.Target.TheVariants.{Stored}
 use Rattle.pur_base.specs.declared.facts.AddressFact.{AddressFact}
+use Rattle.pur_base.specs.declared.facts.ElisionFact.{ElisionFact}
 use Rattle.byte_fields.specs.Places.{FitsBytes}
 use Rattle.fact_codec.specs.declared.limits.TheConstants.{NUMBER_LIMIT}
 use Rattle.pyramid.specs.Layers.{IsFlushed, facts_of}
@@ -16,9 +17,11 @@ use Rattle.memory_spec.specs.Memory.{Memory, Contents, ReadsAs}
 use Rattle.checkpoint_spec.specs.Whole.{AreLayered}
 use Rattle.checkpoint_spec.specs.Flushing.{IsTableFlushed}
 use Rattle.checkpoint_spec.specs.Placing.{repointed}
+use Rattle.checkpoint_spec.specs.Eliding.{IsEliding}
 use Rattle.checkpoint_spec.specs.Checkpoint.{IsCheckpointed}
 use Rattle.checkpoint_plan.specs.Places.{is_named, flagged_from, places_from, place_in}
 use Rattle.checkpoint_plan.specs.Segments.{segments_from}
+use Rattle.checkpoint_plan.specs.Eliding.{eliding}
 
 -- the sectors of these indices
 abbrev pub sectors_at : List ℕ → List (List ℕ) → List (List ℕ)
@@ -56,4 +59,10 @@ pub record IsPlanned (was now : Memory) (flags : List Bool) (newest : List Addre
 abbrev pub PlannedIsCheckpointed : Type 0
 PlannedIsCheckpointed = (contents : Contents) (was now : Memory) (flags : List Bool) (newest : List AddressFact) (units : List (List Place)) (array : Array)
     → ReadsAs contents was array → AreStored (facts_of was.tables.addresses.patches) → IsPlanned was now flags newest units
+    → IsCheckpointed contents (extended contents was.next.segment (sectors_at (flagged_from 0 flags) was.staged)) was now × AreStored (facts_of now.tables.addresses.patches)
+
+-- So it is where elisions of what nothing reaches come first: the plan is one of the memory that has them.
+abbrev pub ElidedIsCheckpointed : Type 0
+ElidedIsCheckpointed = (contents : Contents) (was now : Memory) (added : List ElisionFact) (flags : List Bool) (newest : List AddressFact) (units : List (List Place)) (array : Array)
+    → ReadsAs contents was array → AreStored (facts_of was.tables.addresses.patches) → IsEliding was (eliding was added) added → IsPlanned (eliding was added) now flags newest units
     → IsCheckpointed contents (extended contents was.next.segment (sectors_at (flagged_from 0 flags) was.staged)) was now × AreStored (facts_of now.tables.addresses.patches)

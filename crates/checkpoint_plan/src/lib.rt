@@ -1,14 +1,18 @@
-//! What a checkpoint will place and write: which staged sectors, where, and the facts that say so.
+//! What a checkpoint will place, elide and write: which staged sectors, where, which segments, and the facts that say so.
 //! Nothing here changes an array's memory: each call makes a list of another.
 #![tactic(auto)]
 
+mod eliding;
 mod laws;
 mod placing;
 mod segments;
+mod unused;
 
-pub use laws::a_plan_is_a_checkpoint;
+pub use eliding::{copied, elide_segments};
+pub use laws::{a_plan_is_a_checkpoint, unused_may_be_elided};
 pub use placing::{flagged, flags, places, repointed_facts};
 pub use segments::{new_segments, segments_for};
+pub use unused::unused_segments;
 
 #[cfg(test)]
 mod tests;

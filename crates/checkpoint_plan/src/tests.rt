@@ -1,6 +1,9 @@
-use crate::{flagged, flags, new_segments, places, segments_for};
+use crate::{
+    copied, elide_segments, flagged, flags, new_segments, places, segments_for, unused_segments,
+};
+use elision::Elided;
 use pur_base::{
-    AddressFact, Location, MediumId, NoMemory, Place, SEGMENT_SHARDS, SegmentId, Seq, Target,
+    AddressFact, Location, MediumId, NoMemory, Place, SEGMENT_SHARDS, SegmentId, Seq, Table, Target,
 };
 use std::alloc::Global;
 
@@ -39,5 +42,38 @@ fn all_segments_but_the_last_are_full(rt: HostRuntime) -> Result<(), NoMemory> {
     assert_eq!(rt; segments[1].placed, 1);
     assert_eq!(rt; segments[1].segment.0, 6);
     assert_eq!(rt; segments[1].seq.0, 21);
+    Ok(())
+}
+
+#[test]
+fn segments_that_no_fact_names_are_unused(rt: HostRuntime) -> Result<(), NoMemory> {
+    let units = [Place { slot: 1, unit: 3 }; SEGMENT_SHARDS];
+    let segments = new_segments(rt.alloc(), 5, 20, 2000, &[units, units, units])?;
+    let facts = [fact(0, 6, 2), fact(1, 4, 1), fact(2, 6, 0)];
+    let ids = unused_segments(rt.alloc(), &segments, &facts)?;
+    assert_eq!(rt; *ids.as_slice(), *[5, 7].as_slice());
+    Ok(())
+}
+
+#[test]
+fn an_elided_segment_joins_its_neighbours(rt: HostRuntime) -> Result<(), NoMemory> {
+    let mut old = Elided::new(rt.alloc());
+    old.elide_range(Table::Segment, 1, 2)?;
+    old.elide_range(Table::Segment, 8, 9)?;
+    old.elide(Table::Medium, 4)?;
+    let mut elided = copied(rt.alloc(), &old)?;
+    let facts = elide_segments(rt.alloc(), &mut elided, &[3, 5, 6, 7], 40)?;
+    assert_eq!(rt; facts.len(), 4);
+    for (i, first, last) in [(0, 1, 3), (1, 5, 5), (2, 5, 6), (3, 5, 9)] {
+        assert_eq!(rt; facts[i].first, first);
+        assert_eq!(rt; facts[i].last, last);
+    }
+    assert_eq!(rt; facts[3].seq.0, 43);
+    assert_eq!(rt;
+        *elided.ranges(Table::Segment),
+        *[(1, 3), (5, 9)].as_slice()
+    );
+    assert_eq!(rt; elided.is_elided(Table::Medium, 4), true);
+    assert_eq!(rt; old.is_elided(Table::Segment, 3), false);
     Ok(())
 }

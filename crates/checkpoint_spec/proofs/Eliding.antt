@@ -25,7 +25,7 @@ use Rattle.boot_codec.specs.Record.{AreNext}
 use Rattle.array_spec.specs.Sound.{AreIdsBelow, AreObjectsSound, AreMediumsSound, OwnsMedium, next_id}
 use Rattle.pyramid.proofs.KeyLemmas.{id_of_key}
 use Rattle.memory_spec.specs.Tables.{facts, all_of}
-use Rattle.memory_spec.specs.Memory.{Memory, Contents, EntryReads, FactsRead, FitsInMemory, IsThere, IsSound, ReadsAs}
+use Rattle.memory_spec.specs.Memory.{Memory, Contents, EntryReads, FactsRead, FitsInMemory, IsThere, IsSound}
 use Rattle.memory_spec.proofs.Lists.{each_by_recursion, of_each, zip_weaker_in}
 use Rattle.memory_spec.proofs.Objects.{same_objects}
 use Rattle.memory_spec.proofs.AllTables.{all_objects, all_mediums, all_addresses, all_segments, all_elisions, of_all, numbered_more}
@@ -34,7 +34,7 @@ use Rattle.memory_spec.proofs.Putting.{within_size}
 use Rattle.checkpoint_spec.specs.Eliding.{IsReached, of_object, of_range, IsEliding, ElidingReads}
 use Rattle.checkpoint_spec.proofs.Elided.{not_before, as_before, same_where, object_tag, said_before, says_where}
 
-module _ (contents : Contents) (was now : Memory) (added : List ElisionFact) (array : Array) (r : ReadsAs contents was array) (h : IsEliding was now added) where
+module _ (contents : Contents) (was now : Memory) (added : List ElisionFact) (array : Array) (s : IsSound was) (h : IsEliding was now added) where
   objects_elided : (id : ℕ) → is_elided (facts now.tables).elisions table.Object id ≡ is_elided (facts was.tables).elisions table.Object id
   objects_elided id = as_before (facts was.tables).elisions (facts now.tables).elisions added h.elisions table.Object id h.no_object object_tag
 
@@ -96,7 +96,7 @@ module _ (contents : Contents) (was now : Memory) (added : List ElisionFact) (ar
       below q (address_same m x small reached ∙ a)
       (record { there = range_same m q.start (let low = o.from_start in omega (arith, low, small)) reached ∙ o.there; from_start = o.from_start; below_end = o.below_end })
       (reads_kept q.target.0 (q.target_start + (x - q.start)) t inner
-      (let most = (within_size was r.sound).ranges m q.start q o.there in let low = o.from_start in let high = o.below_end in omega (arith, most, low, high)) (of_range reached o.there))
+      (let most = (within_size was s).ranges m q.start q o.there in let low = o.from_start in let high = o.below_end in omega (arith, most, low, high)) (of_range reached o.there))
   reads_kept m x t (unwritten a n) small reached = unwritten (address_same m x small reached ∙ a) (λ q o. n q (over_before m x q o))
 
   entry_kept : (x : ObjectFact) (e : Entry) → Contains (objects (facts was.tables) was.next.object) x → EntryReads contents was.staged (facts was.tables) x e → EntryReads contents was.staged (facts now.tables) x e
@@ -105,9 +105,9 @@ module _ (contents : Contents) (was now : Memory) (added : List ElisionFact) (ar
     snapshot = read.snapshot;
     size = read.size;
     sectors = λ place l.
-        let s = read.sectors place l in
-        let most = (within_size was r.sound).objects x c in
-        (s.0, reads_kept x.medium.0 place s.0 s.1 (omega (arith, l, most)) (of_object c), s.2);
+        let sector = read.sectors place l in
+        let most = (within_size was s).objects x c in
+        (sector.0, reads_kept x.medium.0 place sector.0 sector.1 (omega (arith, l, most)) (of_object c), sector.2);
   }
 
   visible : objects (facts now.tables) was.next.object ≡ objects (facts was.tables) was.next.object
@@ -116,12 +116,12 @@ module _ (contents : Contents) (was now : Memory) (added : List ElisionFact) (ar
   objects_next : now.next.object ≡ was.next.object
   objects_next = ap (λ (n : NextNumbers). n.object) h.next
 
-  pub eliding_read : FactsRead contents now.staged (facts now.tables) now.next.object array
-  eliding_read =
+  pub eliding_read : FactsRead contents was.staged (facts was.tables) was.next.object array → FactsRead contents now.staged (facts now.tables) now.next.object array
+  eliding_read r =
       subst (λ l. FactsRead contents l (facts now.tables) now.next.object array) (sym h.staged)
       (subst (λ n. FactsRead contents was.staged (facts now.tables) n array) (sym objects_next)
       (subst (λ l. AllZip (EntryReads contents was.staged (facts now.tables)) l array) (sym visible)
-      (zip_weaker_in (EntryReads contents was.staged (facts was.tables)) (EntryReads contents was.staged (facts now.tables)) (objects (facts was.tables) was.next.object) array entry_kept r.reads)))
+      (zip_weaker_in (EntryReads contents was.staged (facts was.tables)) (EntryReads contents was.staged (facts now.tables)) (objects (facts was.tables) was.next.object) array entry_kept r)))
 
   -- ---- soundness, part by part
 
@@ -130,22 +130,22 @@ module _ (contents : Contents) (was now : Memory) (added : List ElisionFact) (ar
 
   sound_objects : AreObjectsSound (facts now.tables) was.next.object
   sound_objects = record {
-    names = subst (λ l. AllPairs (λ x y. x.name ≢ y.name) l) (sym visible) r.sound.objects.names;
-    mediums = subst (λ l. AllPairs (λ x y. OwnsMedium x y × OwnsMedium y x) l) (sym visible) r.sound.objects.mediums;
+    names = subst (λ l. AllPairs (λ x y. x.name ≢ y.name) l) (sym visible) s.objects.names;
+    mediums = subst (λ l. AllPairs (λ x y. OwnsMedium x y × OwnsMedium y x) l) (sym visible) s.objects.mediums;
     range_kept = subst (λ l. AllByRecursion (λ x. is_elided (facts now.tables).elisions table.Medium x.medium.0 ≡ false) l) (sym visible)
         (each_by_recursion (λ x. is_elided (facts now.tables).elisions table.Medium x.medium.0 ≡ false) (objects (facts was.tables) was.next.object) (λ x c. mediums_elided x.medium.0 (reached_of x c)
-        ∙ of_each (λ x. is_elided (facts was.tables).elisions table.Medium x.medium.0 ≡ false) (objects (facts was.tables) was.next.object) x r.sound.objects.range_kept c));
+        ∙ of_each (λ x. is_elided (facts was.tables).elisions table.Medium x.medium.0 ≡ false) (objects (facts was.tables) was.next.object) x s.objects.range_kept c));
     address_kept = subst (λ l. AllByRecursion (λ x. is_elided (facts now.tables).elisions table.Address x.medium.0 ≡ false) l) (sym visible)
         (each_by_recursion (λ x. is_elided (facts now.tables).elisions table.Address x.medium.0 ≡ false) (objects (facts was.tables) was.next.object) (λ x c. addresses_elided x.medium.0 (reached_of x c)
-        ∙ of_each (λ x. is_elided (facts was.tables).elisions table.Address x.medium.0 ≡ false) (objects (facts was.tables) was.next.object) x r.sound.objects.address_kept c));
-    most = subst (λ (l : List ObjectFact). length l ≤ OBJECTS) (sym visible) r.sound.objects.most;
+        ∙ of_each (λ x. is_elided (facts was.tables).elisions table.Address x.medium.0 ≡ false) (objects (facts was.tables) was.next.object) x s.objects.address_kept c));
+    most = subst (λ (l : List ObjectFact). length l ≤ OBJECTS) (sym visible) s.objects.most;
   }
 
   sound_mediums : AreMediumsSound (facts now.tables)
   sound_mediums = record {
-    disjoint = λ m x p q o o2. r.sound.mediums.disjoint m x p q (over_before m x p o) (over_before m x q o2);
-    within = λ id start x q e l f. r.sound.mediums.within id start x q (sym (object_same id) ∙ e) l (range_before x.medium.0 start q f);
-    frozen = λ id m start x q e kind f. r.sound.mediums.frozen id m start x q (sym (object_same id) ∙ e) kind (range_before m start q f);
+    disjoint = λ m x p q o o2. s.mediums.disjoint m x p q (over_before m x p o) (over_before m x q o2);
+    within = λ id start x q e l f. s.mediums.within id start x q (sym (object_same id) ∙ e) l (range_before x.medium.0 start q f);
+    frozen = λ id m start x q e kind f. s.mediums.frozen id m start x q (sym (object_same id) ∙ e) kind (range_before m start q f);
   }
 
   -- a segment that an address points to is still visible
@@ -164,7 +164,7 @@ module _ (contents : Contents) (was now : Memory) (added : List ElisionFact) (ar
       ]
 
   there : (m x : ℕ) (at : Location) → address (facts now.tables) m x ≡ Some (Stored at) → IsThere now at
-  there m x at e = elim (r.sound.addresses.there m x at (address_before m x (Stored at) e)) [
+  there m x at e = elim (s.addresses.there m x at (address_before m x (Stored at) e)) [
     | inl p ↦ inl (p.0, subst (λ (l : List (List ℕ)). at.index < length l) (sym h.staged) p.1)
     | inr d ↦ inr (d.0, segment_stays at d.0 (λ id same is. elim (h.segments_unused id is) [ inl before ↦ before | inr unused ↦ absurd (unused m x at e (sym same)) ]) d.1, d.2)
   ]
@@ -181,25 +181,25 @@ module _ (contents : Contents) (was now : Memory) (added : List ElisionFact) (ar
       (λ x c. elim ((h.elisions x).0 c) [ inl o ↦ inl (all_elisions (facts was.tables) x o) | inr n ↦ inr (x, n, refl) ])
 
   fit : (a : AnyFact) → Contains (all_of (facts now.tables)) a → FitsInMemory (length was.staged) a
-  fit a c = elim (split a c) [ inl o ↦ r.sound.fit a o | inr n ↦ subst (λ b. FitsInMemory (length was.staged) b) (sym n.2) (h.new_elisions.each n.0 n.1) ]
+  fit a c = elim (split a c) [ inl o ↦ s.fit a o | inr n ↦ subst (λ b. FitsInMemory (length was.staged) b) (sym n.2) (h.new_elisions.each n.0 n.1) ]
 
   next : AreNext now.next
   next = subst (λ n. AreNext n) (sym h.next) (record {
-    object = r.sound.next.object;
-    medium = r.sound.next.medium;
-    segment = r.sound.next.segment;
-    patch_segment = r.sound.next.patch_segment;
-    sequence = (let first = r.sound.next.sequence.0 in let more = h.numbers.0 in omega (arith, first, more), h.numbers.1);
+    object = s.next.object;
+    medium = s.next.medium;
+    segment = s.next.segment;
+    patch_segment = s.next.patch_segment;
+    sequence = (let first = s.next.sequence.0 in let more = h.numbers.0 in omega (arith, first, more), h.numbers.1);
   })
 
   ids : AreIdsBelow now.next (facts now.tables)
   ids = subst (λ n. AreIdsBelow n (facts now.tables)) (sym h.next) (record {
-    objects = subst (λ l. AllByRecursion (λ (f : ObjectFact). (f.object.0 < was.next.object) × (f.medium.0 < was.next.medium)) l) (sym h.objects) r.sound.ids.objects;
-    mediums = subst (λ l. AllByRecursion (λ (f : MediumFact). f.medium.0 < was.next.medium) l) (sym h.mediums) r.sound.ids.mediums;
-    addresses = subst (λ l. AllByRecursion (λ (f : AddressFact). f.medium.0 < was.next.medium) l) (sym h.addresses) r.sound.ids.addresses;
-    segments = subst (λ l. AllByRecursion (λ (f : SegmentFact). f.segment.0 < was.next.segment) l) (sym h.segments) r.sound.ids.segments;
+    objects = subst (λ l. AllByRecursion (λ (f : ObjectFact). (f.object.0 < was.next.object) × (f.medium.0 < was.next.medium)) l) (sym h.objects) s.ids.objects;
+    mediums = subst (λ l. AllByRecursion (λ (f : MediumFact). f.medium.0 < was.next.medium) l) (sym h.mediums) s.ids.mediums;
+    addresses = subst (λ l. AllByRecursion (λ (f : AddressFact). f.medium.0 < was.next.medium) l) (sym h.addresses) s.ids.addresses;
+    segments = subst (λ l. AllByRecursion (λ (f : SegmentFact). f.segment.0 < was.next.segment) l) (sym h.segments) s.ids.segments;
     elisions = each_by_recursion (λ (f : ElisionFact). f.last < next_id was.next f.table) (facts now.tables).elisions (λ f c. elim ((h.elisions f).0 c) [
-      | inl o ↦ of_each (λ (g : ElisionFact). g.last < next_id was.next g.table) (facts was.tables).elisions f r.sound.ids.elisions o
+      | inl o ↦ of_each (λ (g : ElisionFact). g.last < next_id was.next g.table) (facts was.tables).elisions f s.ids.elisions o
       | inr n ↦ h.new_elisions.ids f n
     ]);
   })
@@ -208,7 +208,7 @@ module _ (contents : Contents) (was now : Memory) (added : List ElisionFact) (ar
   eliding_sound = record {
     next = next;
     fit = λ a c. subst (λ (l : List (List ℕ)). FitsInMemory (length l) a) (sym h.staged) (fit a c);
-    sectors = λ x c. r.sound.sectors x (subst (λ l. Contains l x) h.staged c);
+    sectors = λ x c. s.sectors x (subst (λ l. Contains l x) h.staged c);
     ids = ids;
     objects = subst (λ n. AreObjectsSound (facts now.tables) n) (sym objects_next) sound_objects;
     mediums = sound_mediums;
@@ -216,7 +216,7 @@ module _ (contents : Contents) (was now : Memory) (added : List ElisionFact) (ar
       there = there;
       within = λ id x y e l some.
           let t = some_since (address (facts now.tables) y.medium.0 x) some in
-          r.sound.addresses.within id x y (sym (object_same id) ∙ e) l (ap (λ o. is_some o) (address_before y.medium.0 x t.0 t.1));
+          s.addresses.within id x y (sym (object_same id) ∙ e) l (ap (λ o. is_some o) (address_before y.medium.0 x t.0 t.1));
     };
     elisions = h.sound;
     numbers = numbered_more was now Added h.numbers.0 split
@@ -227,8 +227,8 @@ module _ (contents : Contents) (was now : Memory) (added : List ElisionFact) (ar
         let high = between.1 in
         (omega (arith, is, low), omega (arith, is, high)))
         (λ a b n p e. n.2 ∙ ap any.Elision (h.new_elisions.one_number n.0 p.0 n.1 p.1 (sym (ap any_number n.2) ∙ e ∙ ap any_number p.2)) ∙ sym p.2)
-        r.sound.numbers;
+        s.numbers;
   }
 
 pub eliding_reads : ElidingReads
-eliding_reads contents was now added array r h = record { sound = eliding_sound contents was now added array r h; reads = eliding_read contents was now added array r h }
+eliding_reads contents was now added array r h = record { sound = eliding_sound contents was now added array r.sound h; reads = eliding_read contents was now added array r.sound h r.reads }

@@ -183,6 +183,8 @@ is_in_force (request.Write n lba count) = true
 is_in_force (request.Fill n lba count byte) = true
 is_in_force (request.Read n lba count) = true
 is_in_force request.List = true
+is_in_force request.Status = true
+is_in_force request.Checkpoint = true
 is_in_force _ = false
 
 -- the request, if its form is served

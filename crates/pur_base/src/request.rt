@@ -130,6 +130,8 @@ impl Request {
                 | Request::Fill { .. }
                 | Request::Read { .. }
                 | Request::List
+                | Request::Status
+                | Request::Checkpoint
         )
     }
 

@@ -15,8 +15,8 @@ use Rattle.world.specs.Shelf.{Stop}
 use Rattle.world.specs.Losing.{has_risen, has_failed, has_lost_writes, losing, IsLater}
 use Rattle.array_spec.specs.Runs.{Step, IsModelled, IsPhysical, IsBarred}
 use Rattle.array_spec.proofs.Standings.{within_twice}
-use Rattle.session_spec.specs.Faring.{Point, Fares, Serves, Answers, AnswersRequest, AnswersAccepted, IsAppended, IsAppendedBehind, IsCheckpointed, IsDone, IsLogged, IsRefused, IsFailed, Where, WithRoom, is_full, is_limited, is_spent}
-use Rattle.session_spec.specs.declared.limits.TheConstants.{ADDING_GROUPS}
+use Rattle.session_spec.specs.Faring.{Point, Fares, Serves, Answers, AnswersRequest, AnswersAccepted, IsAppended, IsAppendedBehind, IsCheckpointed, IsDone, IsLogged, IsRefused, IsFailed, IsFlushing, IsFlushed, Where, WithRoom, has_segments, is_full, is_spent}
+use Rattle.session_spec.specs.declared.limits.TheConstants.{ADDING_GROUPS, CHECKPOINT_GROUPS, LIMITED_SEGMENTS, SEGMENTS_END}
 use Rattle.session_spec.specs.Chain.{FaresRun, ClaimsHaveCauses, NoneComesBack, WasBorne, HaltsHaveCauses}
 use Rattle.session_spec.proofs.Conditions.{goes, unlost, borne_before, stays_so}
 
@@ -54,9 +54,9 @@ either true f g h = f h
 either false f g h = g h
 
 -- with room or without
-in_room : (from to : Point) (q : Answer) {some : Type 0} {P : Type 0} → (IsRefused refusals.Limit from q to → P) → (IsRefused refusals.Spent from q to → P) → (IsRefused refusals.Space from q to → P) → (some → P)
-    → WithRoom from q to some → P
-in_room from to q f g h k w = either (is_limited from) f (either (is_spent from) g (λ (groups, left, s). either (nat_lt groups ADDING_GROUPS) h k s)) w
+in_room : (limit floor : ℕ) (from to : Point) (q : Answer) {some : Type 0} {P : Type 0} → (IsRefused refusals.Limit from q to → P) → (IsRefused refusals.Spent from q to → P) → (IsRefused refusals.Space from q to → P) → (some → P)
+    → WithRoom limit floor from q to some → P
+in_room limit floor from to q f g h k w = either (has_segments limit from) f (either (is_spent from) g (λ (groups, left, s). either (nat_lt groups floor) h k s)) w
 
 -- the array is the same behind a checkpoint
 same_array : {shelf : Geometry} {from mid : Point} → IsCheckpointed shelf from mid → mid.array ≡ from.array
@@ -77,6 +77,13 @@ module _ (shelf : Geometry) (lost : Device → Bool) (from to : Point) (r : Requ
   appended_behind f g h (inr (inl m)) = g m
   appended_behind f g h (inr (inr x)) = h x
 
+-- how a checkpoint ends that there was room for
+flushing_ends : (shelf : Geometry) (lost : Device → Bool) (from to : Point) (q : Answer) {P : Type 0} → (IsFlushed shelf from q to → P) → (IsRefused refusals.Memory from q to → P) → (IsFailed shelf lost from q to → P)
+    → (IsFlushed shelf from q to ⊎ IsRefused refusals.Memory from q to ⊎ IsFailed shelf lost from q to) → P
+flushing_ends shelf lost from to q f g h (inl d) = f d
+flushing_ends shelf lost from to q f g h (inr (inl m)) = g m
+flushing_ends shelf lost from to q f g h (inr (inr x)) = h x
+
 -- a logged request
 module _ (shelf : Geometry) (lost : Device → Bool) (from to : Point) (r : Request) (sectors : List (List ℕ)) (q : Answer) (none : refusal from.array r ≡ None) (is : IsModelled r) where
   done_behind : (mid : Point) → IsCheckpointed shelf from mid → IsDone lost mid r sectors q to → Step from.array (Asked r sectors) q to.array
@@ -87,11 +94,22 @@ module _ (shelf : Geometry) (lost : Device → Bool) (from to : Point) (r : Requ
   logged : IsLogged shelf lost from r sectors q to → Step from.array (Asked r sectors) q to.array
   logged h =
       let failing = λ (f : IsFailed shelf lost from q to). failed shelf lost from to r sectors q none f in
-      in_room from to q (physical from to refusals.Limit r sectors q none tt) (physical from to refusals.Spent r sectors q none tt) (physical from to refusals.Space r sectors q none tt)
+      in_room LIMITED_SEGMENTS ADDING_GROUPS from to q (physical from to refusals.Limit r sectors q none tt) (physical from to refusals.Spent r sectors q none tt) (physical from to refusals.Space r sectors q none tt)
       (either (is_full from)
       (appended_behind shelf lost from to r sectors q done_behind (physical from to refusals.Memory r sectors q none tt) failing)
       (appended shelf lost from to r sectors q (λ d. modelled from to r sectors q none is d.reply d.array) failing))
       h
+
+-- a checkpoint leaves the array
+flushed_at : (shelf : Geometry) (from to : Point) (sectors : List (List ℕ)) (q : Answer) → refusal from.array request.Checkpoint ≡ None → IsFlushed shelf from q to → Step from.array (Asked request.Checkpoint sectors) q to.array
+flushed_at shelf from to sectors q none h = rw h.reply (inr ((none, tt), h.stays.array ∙ same_array h.made))
+
+flushing : (shelf : Geometry) (lost : Device → Bool) (from to : Point) (sectors : List (List ℕ)) (q : Answer) → refusal from.array request.Checkpoint ≡ None → IsFlushing shelf lost from q to → Step from.array (Asked request.Checkpoint sectors) q to.array
+flushing shelf lost from to sectors q none h =
+    let r = request.Checkpoint in
+    in_room SEGMENTS_END CHECKPOINT_GROUPS from to q (physical from to refusals.Limit r sectors q none tt) (physical from to refusals.Spent r sectors q none tt) (physical from to refusals.Space r sectors q none tt)
+    (flushing_ends shelf lost from to q (flushed_at shelf from to sectors q none) (physical from to refusals.Memory r sectors q none tt) (λ f. failed shelf lost from to r sectors q none f))
+    h
 
 accepted : (shelf : Geometry) (fails lost : Device → Bool) (from to : Point) (r : Request) (sectors : List (List ℕ)) (q : Answer) → refusal from.array r ≡ None
     → AnswersAccepted true shelf fails lost from r sectors q to → Step from.array (Asked r sectors) q to.array
@@ -101,6 +119,8 @@ accepted shelf fails lost from to (request.Fill n lba count byte) sectors q none
 accepted shelf fails lost from to (request.Read n lba count) sectors q none (inl d) = modelled from to (request.Read n lba count) sectors q none tt (d.known refl) d.stays.array
 accepted shelf fails lost from to (request.Read n lba count) sectors q none (inr gone) = physical from to refusals.Device (request.Read n lba count) sectors q none tt gone.refused_so
 accepted shelf fails lost from to request.List sectors q none h = modelled from to request.List sectors q none tt h.reply h.stays.array
+accepted shelf fails lost from to request.Status sectors q none h = rw h.reply (inr ((none, refl), h.stays.array))
+accepted shelf fails lost from to request.Checkpoint sectors q none h = flushing shelf lost from to sectors q none h
 accepted shelf fails lost from to _ sectors q none h = absurd h
 
 requested : (halted : Bool) (why : Option Refusal) (shelf : Geometry) (fails lost : Device → Bool) (from to : Point) (r : Request) (sectors : List (List ℕ)) (q : Answer)
@@ -185,10 +205,17 @@ HaltedBy shelf lost from to = (to.halted ≡ from.halted) ⊎ (¬ (IsBearable sh
 logged_halts : (shelf : Geometry) (lost : Device → Bool) (from to : Point) (r : Request) (sectors : List (List ℕ)) (q : Answer) → IsLogged shelf lost from r sectors q to → HaltedBy shelf lost from to
 unfolding HaltedBy
 logged_halts shelf lost from to r sectors q h =
-    in_room from to q (λ s. inl s.halted) (λ s. inl s.halted) (λ s. inl s.halted)
+    in_room LIMITED_SEGMENTS ADDING_GROUPS from to q (λ s. inl s.halted) (λ s. inl s.halted) (λ s. inl s.halted)
     (either (is_full from)
     (appended_behind shelf lost from to r sectors q (λ mid c d. inl (d.halted ∙ same_halted c)) (λ s. inl s.halted) (λ f. inr f.unborne))
     (appended shelf lost from to r sectors q (λ d. inl d.halted) (λ f. inr f.unborne)))
+    h
+
+flushing_halts : (shelf : Geometry) (lost : Device → Bool) (from to : Point) (q : Answer) → IsFlushing shelf lost from q to → HaltedBy shelf lost from to
+unfolding HaltedBy
+flushing_halts shelf lost from to q h =
+    in_room SEGMENTS_END CHECKPOINT_GROUPS from to q (λ s. inl s.halted) (λ s. inl s.halted) (λ s. inl s.halted)
+    (flushing_ends shelf lost from to q (λ d. inl d.halted) (λ s. inl s.halted) (λ f. inr f.unborne))
     h
 
 accepted_halts : (told : Bool) (shelf : Geometry) (fails lost : Device → Bool) (from to : Point) (r : Request) (sectors : List (List ℕ)) (q : Answer) → AnswersAccepted told shelf fails lost from r sectors q to → HaltedBy shelf lost from to
@@ -199,6 +226,8 @@ accepted_halts told shelf fails lost from to (request.Fill n lba count byte) sec
 accepted_halts told shelf fails lost from to (request.Read n lba count) sectors q (inl d) = inl d.halted
 accepted_halts told shelf fails lost from to (request.Read n lba count) sectors q (inr gone) = inl gone.refused_so.halted
 accepted_halts told shelf fails lost from to request.List sectors q h = inl h.halted
+accepted_halts told shelf fails lost from to request.Status sectors q h = inl h.halted
+accepted_halts told shelf fails lost from to request.Checkpoint sectors q h = flushing_halts shelf lost from to q h
 accepted_halts told shelf fails lost from to _ sectors q h = absurd h
 
 request_halts : (halted : Bool) (why : Option Refusal) (told : Bool) (shelf : Geometry) (fails lost : Device → Bool) (from to : Point) (r : Request) (sectors : List (List ℕ)) (q : Answer)

@@ -1,15 +1,18 @@
 -- How the array and its devices fare while requests are served: at each reply what was answered and why, and which devices are missing.
-use Rattle.std.specs.Prelude.{◌≡◌, ◌≢◌, ◌⊎◌, ◌||◌, ◌+◌, ◌<◌, ◌≤◌, ℕ, Bool, true, false, nat_le, nat_lt, List, [], ◌∷◌, ◌++◌, length, Option, Some, None}
+use Rattle.std.specs.Prelude.{◌≡◌, ◌≢◌, ◌⊎◌, ◌||◌, ◌+◌, ◌-◌, ◌<◌, ◌≤◌, ℕ, Bool, true, false, nat_le, nat_lt, List, [], ◌∷◌, ◌++◌, length, Option, Some, None, Contains, count_by}
 use Rattle.pur_base.specs.declared.device.Device.{Device}
 use Rattle.pur_base.specs.declared.request.Request.{Request}
 use Rattle.pur_base.specs.declared.request.Request.TheVariants as request
 use Rattle.pur_base.specs.declared.reply.Refusal.{Refusal}
 use Rattle.pur_base.specs.declared.reply.Refusal.TheVariants as refusals
+use Rattle.pur_base.specs.declared.reply.Reply.TheVariants as reply
 use Rattle.pur_base.specs.Devices.{Geometry, Conditions, Sound, IsBearable, drive}
-use Rattle.std.specs.List.{AllByRecursion, AllZip}
+use Rattle.std.specs.List.{AllByRecursion, AllZip, sum_by}
 use Rattle.pur_base.specs.Plain.{Array, refusal, done}
 use Rattle.pur_base.specs.Grammar.{Item, Asked, Syntax, Cut}
-use Rattle.pur_base.specs.Replies.{Answer, Sectors, refused, given, text}
+use Rattle.pur_base.specs.Replies.{Answer, Line, Sectors, refused, given, text}
+use Rattle.pur_base.specs.Visible.{segment, segments}
+use Rattle.pur_base.specs.declared.facts.SegmentFact.{SegmentFact}
 use Rattle.world.specs.Shelf.{Stop}
 use Rattle.pur_base.specs.declared.limits.TheConstants.{SECTOR_BYTES}
 use Rattle.pur_base.specs.declared.facts.AnyFact.{AnyFact}
@@ -24,7 +27,7 @@ use Rattle.memory_spec.specs.Memory.{Contents, FactsRead}
 use Rattle.memory_spec.specs.Numbers.{are_used_up, is_used_up, next_after}
 use Rattle.checkpoint_spec.specs.Whole.{IsNamed}
 use Rattle.log_codec.specs.declared.limits.TheConstants.{LOG_SLOTS}
-use Rattle.session_spec.specs.declared.limits.TheConstants.{ADDING_GROUPS, DATA_SEGMENTS, LIMITED_SEGMENTS, NEW_PATCHES}
+use Rattle.session_spec.specs.declared.limits.TheConstants.{ADDING_GROUPS, CHECKPOINT_GROUPS, CONTROLLER, DATA_SEGMENTS, ELIDED_SEGMENTS, LIMITED_SEGMENTS, NEW_PATCHES, SEGMENTS_END}
 
 -- where a reply has just been given
 pub record Point : Type 0 where
@@ -124,9 +127,13 @@ abbrev pub Where : Bool → Type 0 → Type 0 → Type 0
 Where true one other = one
 Where false one other = other
 
+-- the patches have so many segments, or more
+abbrev pub has_segments : ℕ → Point → Bool
+has_segments limit point = nat_le limit (patch_segments point.boot.patches)
+
 -- the patches have so many segments that some are to be merged first
 abbrev pub is_limited : Point → Bool
-is_limited point = nat_le LIMITED_SEGMENTS (patch_segments point.boot.patches)
+is_limited point = has_segments LIMITED_SEGMENTS point
 
 -- too few generations, numbers of commands, or ids and sequence numbers are left
 abbrev pub is_spent : Point → Bool
@@ -140,12 +147,13 @@ HasGroups point groups = IsGroups (free_of_members point.boot (all_facts point.p
 abbrev pub is_full : Point → Bool
 is_full point = nat_le LOG_SLOTS point.logged
 
--- the answers `no limit`, `no spent` and `no space`, each exactly where it's so, and in that order
-abbrev pub WithRoom : Point → Answer → Point → Type 0 → Type 0
-WithRoom from q to some = Where (is_limited from) (IsRefused refusals.Limit from q to) (Where (is_spent from) (IsRefused refusals.Spent from q to)
-    ((groups : ℕ) × HasGroups from groups × Where (nat_lt groups ADDING_GROUPS) (IsRefused refusals.Space from q to) some))
+-- The answers `no limit`, `no spent` and `no space`, each exactly where it's so, and in that order: the patches have as many segments as that or more, too few numbers are left, or there are free units for fewer segments than that.
+abbrev pub WithRoom : ℕ → ℕ → Point → Answer → Point → Type 0 → Type 0
+WithRoom limit floor from q to some = Where (has_segments limit from) (IsRefused refusals.Limit from q to) (Where (is_spent from) (IsRefused refusals.Spent from q to)
+    ((groups : ℕ) × HasGroups from groups × Where (nat_lt groups floor) (IsRefused refusals.Space from q to) some))
 
 -- A checkpoint was made: it is the same array, with nothing in the log, and nothing else has changed but the record, the facts of its patches and the next numbers.
+-- Some data segments were elided, each by a fact of its own: their units are free then.
 -- Three stores wrote three records each at most. The record names the new patches, which are sound and read as the array; few segments were given to data and to patches.
 pub record IsCheckpointed (shelf : Geometry) (from to : Point) : Type 0 where
   pub same : to ≡ record from { logged = 0; boot = to.boot; patches = to.patches; next = to.next }
@@ -162,9 +170,13 @@ pub record IsCheckpointed (shelf : Geometry) (from to : Point) : Type 0 where
   pub new_segments : ℕ
   pub few_data : data_segments ≤ DATA_SEGMENTS
   pub few_new : new_segments ≤ NEW_PATCHES
+  -- the ids of those that were elided
+  pub elided : List ℕ
+  pub few_elided : length elided ≤ ELIDED_SEGMENTS
+  pub gone : (id : ℕ) → Contains elided id → segment (all_facts to.patches) id ≡ None
   pub next : to.next ≡ record from.next {
     segment = from.next.segment + data_segments;
-    sequence = from.next.sequence + data_segments;
+    sequence = from.next.sequence + length elided + data_segments;
     patch_segment = from.next.patch_segment + new_segments;
   }
   pub patch_segments_are : patch_segments to.boot.patches ≡ patch_segments from.boot.patches + new_segments
@@ -184,7 +196,51 @@ IsAppendedBehind shelf lost from r sectors q to =
 
 -- a logged request, where there is room for it
 abbrev pub IsLogged : Geometry → (Device → Bool) → Point → Request → List (List ℕ) → Answer → Point → Type 0
-IsLogged shelf lost from r sectors q to = WithRoom from q to (Where (is_full from) (IsAppendedBehind shelf lost from r sectors q to) (IsAppended shelf lost from r sectors q to))
+IsLogged shelf lost from r sectors q to = WithRoom LIMITED_SEGMENTS ADDING_GROUPS from q to (Where (is_full from) (IsAppendedBehind shelf lost from r sectors q to) (IsAppended shelf lost from r sectors q to))
+
+-- a checkpoint that was asked for is made
+pub record IsFlushed (shelf : Geometry) (from : Point) (q : Answer) (to : Point) : Type 0 where
+  pub reply : q ≡ Line reply.Done
+  pub mid : Point
+  pub made : IsCheckpointed shelf from mid
+  pub stays : IsAsBefore mid to
+  pub halted : to.halted ≡ from.halted
+
+-- A checkpoint, where there is room for it: it is made, or memory is wanted for it, or more devices failed than can be borne.
+abbrev pub IsFlushing : Geometry → (Device → Bool) → Point → Answer → Point → Type 0
+IsFlushing shelf lost from q to = WithRoom SEGMENTS_END CHECKPOINT_GROUPS from q to (IsFlushed shelf from q to ⊎ IsRefused refusals.Memory from q to ⊎ IsFailed shelf lost from q to)
+
+-- how many of the flags are set
+abbrev pub set_flags : List Bool → ℕ
+set_flags flags = count_by (λ flag. flag) flags
+
+-- the data segments that the record's patches show
+abbrev pub data_segments_at : Point → List SegmentFact
+data_segments_at point = segments (all_facts point.patches) point.next.segment
+
+-- The numbers of a status, where there are free units for so many more segments: the controller, objects, those segments, the drives and the NVRAM devices that the record names, free slots of the log,
+-- data segments, segments of patches, the sectors that were placed in data segments, and the generation.
+abbrev pub numbers_at : Point → ℕ → List ℕ
+numbers_at point groups =
+    CONTROLLER
+    ∷ length point.array
+    ∷ groups
+    ∷ set_flags point.boot.members.drives
+    ∷ set_flags point.boot.members.nvrams
+    ∷ (LOG_SLOTS - point.logged)
+    ∷ length (data_segments_at point)
+    ∷ patch_segments point.boot.patches
+    ∷ sum_by (λ d. d.placed) (data_segments_at point)
+    ∷ point.boot.generation
+    ∷ []
+
+-- the numbers are given, and nothing changes
+pub record IsStatus (from : Point) (q : Answer) (to : Point) : Type 0 where
+  pub groups : ℕ
+  pub left : HasGroups from groups
+  pub reply : q ≡ Line (reply.Numbers (numbers_at from groups))
+  pub stays : IsAsBefore from to
+  pub halted : to.halted ≡ from.halted
 
 -- what is asked of a point where a logged request may be done
 pub record MayAdd (point : Point) : Type 0 where
@@ -201,6 +257,8 @@ AnswersAccepted told shelf failed lost from (request.Write n lba count) sectors 
 AnswersAccepted told shelf failed lost from (request.Fill n lba count byte) sectors q to = IsLogged shelf lost from (request.Fill n lba count byte) sectors q to
 AnswersAccepted told shelf failed lost from (request.Read n lba count) sectors q to = IsRead told from n lba count q to ⊎ IsLost shelf failed from q to
 AnswersAccepted told shelf failed lost from request.List sectors q to = IsListed from q to
+AnswersAccepted told shelf failed lost from request.Status sectors q to = IsStatus from q to
+AnswersAccepted told shelf failed lost from request.Checkpoint sectors q to = IsFlushing shelf lost from q to
 -- no item asks for a form that isn't in force
 AnswersAccepted told shelf failed lost from _ sectors q to = ⊥
 

@@ -11,5 +11,8 @@ pub use causes::{claims_have_causes, replies_are_lawful, takeovers_keep};
 pub use chaining::{
     memory_may_be_wanted, nothing_is_lost_untouched, sessions_chain, sessions_follow,
 };
-pub use limits::{ADDING_GROUPS, DATA_SEGMENTS, LIMITED_SEGMENTS, NEW_PATCHES};
+pub use limits::{
+    ADDING_GROUPS, CHECKPOINT_GROUPS, CONTROLLER, DATA_SEGMENTS, ELIDED_SEGMENTS, LIMITED_SEGMENTS,
+    NEW_PATCHES, SEGMENTS_END,
+};
 pub use reaching::points_are_reached;

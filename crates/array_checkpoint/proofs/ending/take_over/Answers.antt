@@ -46,7 +46,7 @@ returns-clause-flushed g c =
 
 pub returns-clause-reads : goal.returns-clause-reads
 returns-clause-reads g c contents a r =
-    reads_then c.args.array.now.memory.memory c.args.prepared.plan c.requires.prepared.plan.plan c.finish.new.self.memory c.finish.ensures.memory contents a r
+    reads_then c.args.array.now.memory.memory c.args.prepared.plan c.requires.prepared.plan.keeps c.requires.prepared.plan.plan c.finish.new.self.memory c.finish.ensures.memory contents a r
 
 pub returns-clause-segments : goal.returns-clause-segments
 returns-clause-segments g c h contents hold =
@@ -85,7 +85,7 @@ returns-clause-done g c h start held was wrote next contents reads hold =
       in_force = tt;
       patches_are = sym (patches_same (after_plan m plan) now c.finish.ensures.memory);
       contents = contents_after m plan contents;
-      reads = reads_then m plan c.requires.prepared.plan.plan now c.finish.ensures.memory contents (array_of held) reads;
+      reads = reads_then m plan c.requires.prepared.plan.keeps c.requires.prepared.plan.plan now c.finish.ensures.memory contents (array_of held) reads;
       hold = returns-clause-segments g c h (contents_after m plan contents) hold;
     }
 

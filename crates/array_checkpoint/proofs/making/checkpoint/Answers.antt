@@ -15,6 +15,7 @@ use Rattle.array_core.specs.Losing.{lost_since}
 use Rattle.array_core.specs.Performing.{IsKeptAt}
 use Rattle.array_switch.proofs.Stages.{err_is}
 use Rattle.array_checkpoint.specs.declared.making.CheckpointFault.{CheckpointFault}
+use Rattle.array_checkpoint.specs.declared.making.CheckpointFault.TheVariants as fault
 use Rattle.array_checkpoint.specs.Prepared.{IsLike}
 use Rattle.array_core.proofs.Losses.{same_geometry}
 use Rattle.array_checkpoint.specs.Made.{contents_after, held_after, IsFaultOf}
@@ -182,6 +183,14 @@ returns-in_err-lost-clause-any_moment g c h held is_ready =
     let a = g.S.Shelf.shelf c.args.shelf.now in
     let n = g.S.Shelf.shelf c.write_prepared.new.shelf in
     subst (λ (r : Register). LeavesOnly a n (IsKeptAt a r.record (array_of held ∷ []))) like.register (c.write_prepared.ensures.any_moment h held (like_is_ready a was mid held like is_ready))
+
+memory_only : (e : CheckpointFault) → e ≡ fault.Memory → e ≡ fault.Device → ⊥
+memory_only e memory device = cc
+
+pub returns-in_err-lost-clause-borne : goal.returns-in_err-lost-clause-borne
+returns-in_err-lost-clause-borne g c h =
+    let q = err_from_is_err_and c.from_residual-in_err-lost.result c.from_residual-in_err-lost.ensures.1 in
+    err_is c.from_residual-in_err-lost.result _ q.0 q.1 (λ is held ready bears. memory_only q.0 q.2 is)
 
 pub returns-in_err-prepared-clause-moments : goal.returns-in_err-prepared-clause-moments
 returns-in_err-prepared-clause-moments g c h = counted_now (g.S.Shelf.shelf c.args.shelf.now) (g.met.S.Shelf.is_shelf c.args.shelf.now)

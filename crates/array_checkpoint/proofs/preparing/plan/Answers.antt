@@ -1,11 +1,12 @@
-use Rattle.std.proofs.Common.{◌≡◌, ℕ, ◌≤◌, List, [], length, sym, subst, ◌∙◌, arith}
+use Rattle.std.proofs.Common.{◌≡◌, ℕ, ◌≤◌, List, [], length, sym, ap, subst, ◌∙◌, arith}
 use Rattle.std.specs.Int.{div_ceil}
-use Rattle.std.proofs.lemmas.Result.{IfOk-weaker}
-use Rattle.pur_base.specs.Facts.{Facts}
 use Rattle.pur_base.specs.declared.place.Place.{Place}
-use Rattle.boot_codec.specs.declared.record.BootRecord.{BootRecord}
-use Rattle.free_space.specs.Map.{IsMapOf}
-use Rattle.array_memory.specs.Plan.{units_of, AreUnits}
+use Rattle.memory_spec.specs.Tables.{facts}
+use Rattle.checkpoint_plan.specs.Eliding.{IsElidedBy}
+use Rattle.checkpoint_plan.proofs.ElidedLemmas.{as_many}
+use Rattle.array_memory.specs.declared.plan.Eliding.{Eliding}
+use Rattle.array_memory.specs.Eliding.{eliding_by}
+use Rattle.array_memory.specs.Plan.{next_past, AreUnits}
 use Rattle.record_tables.specs.Units.{IsMapAfter}
 use Rattle.record_tables.proofs.Taking.{none_is_taken}
 use Rattle.array_checkpoint.proofs.PreparedLemmas.{are_units, few_placed, segments_long}
@@ -33,7 +34,11 @@ plan-requires-clause-left c =
     let few : div_ceil c.len.result 840 ≤ 5 = subst (λ (n : ℕ). div_ceil n 840 ≤ 5) long (few_placed c.args.memory.now.memory c.in_ok-placing.placing c.in_ok-placing.ensures c.requires.few) in
     let most : length c.in_ok-units.units.items ≤ 5 = omega (arith, few, c.segments_for.ensures, c.in_ok-units.ensures.count) in
     let same : length c.deref.result.now ≤ 5 = subst (λ (us : List (List Place)). length us ≤ 5) (sym c.deref.ensures.value) most in
-    (omega (arith, same, c.requires.left.0), omega (arith, same, c.requires.left.1))
+    let m = c.args.memory.now.memory in
+    let e = c.in_ok-eliding.eliding in
+    let many = as_many (IsElidedBy (facts m.tables)) m.next.sequence e.segments.items e.facts.items c.in_ok-eliding.ensures.made in
+    let elided = c.in_ok-eliding.ensures.unused.few in
+    (omega (arith, same, c.requires.left.0), omega (arith, same, c.requires.left.1, many, elided))
 
 pub returns-clause-few : goal.returns-clause-few
 returns-clause-few c =
@@ -42,10 +47,16 @@ returns-clause-few c =
     let few : div_ceil c.len.result 840 ≤ 5 = subst (λ (n : ℕ). div_ceil n 840 ≤ 5) long (few_placed c.args.memory.now.memory c.in_ok-placing.placing c.in_ok-placing.ensures c.requires.few) in
     let most : length c.in_ok-units.units.items ≤ 5 = omega (arith, few, c.segments_for.ensures, c.in_ok-units.ensures.count) in
     let same : length c.deref.result.now ≤ 5 = subst (λ (us : List (List Place)). length us ≤ 5) (sym c.deref.ensures.value) most in
-    IfOk-weaker c.plan.result (λ p. units_of p ≡ c.deref.result.now) (λ p. length p.segments.items ≤ 6)
-    (λ p own. let all = segments_long p c.deref.result.now own in omega (arith, all, same)) c.plan.ensures.units
+    let all = segments_long c.in_ok-plan.plan c.deref.result.now c.in_ok-plan.ensures.units in
+    omega (arith, all, same)
+
+pub returns-clause-next : goal.returns-clause-next
+returns-clause-next c =
+    let m = c.args.memory.now.memory in
+    let p = c.in_ok-plan.plan in
+    c.in_ok-plan.ensures.next ∙ ap (λ (n : ℕ). next_past (eliding_by m c.in_ok-eliding.eliding).next n) (sym (segments_long p c.deref.result.now c.in_ok-plan.ensures.units))
+    ∙ ap (λ (e : Eliding). next_past (eliding_by m e).next (length p.segments.items)) (sym c.in_ok-plan.ensures.eliding)
 
 pub returns-clause-units : goal.returns-clause-units
-returns-clause-units c =
-    IfOk-weaker c.plan.result (λ p. units_of p ≡ c.deref.result.now) (λ p. (boot : BootRecord) (facts : Facts) → IsMapOf boot facts c.args.map.now → IsMapAfter boot facts (units_of p) c.take_units.new.map)
-    (λ p own boot facts is. subst (λ (us : List (List Place)). IsMapAfter boot facts us c.take_units.new.map) (sym c.deref.ensures.value ∙ sym own) (c.in_ok-units.ensures.more boot facts [] (none_is_taken boot facts c.args.map.now is))) c.plan.ensures.units
+returns-clause-units c = λ boot facts is.
+    subst (λ (us : List (List Place)). IsMapAfter boot facts us c.take_units.new.map) (sym c.deref.ensures.value ∙ sym c.in_ok-plan.ensures.units) (c.in_ok-units.ensures.more boot facts [] (none_is_taken boot facts c.args.map.now is))

@@ -5,10 +5,16 @@ use Rattle.pur_base.specs.declared.place.Place.{Place}
 use Rattle.boot_codec.specs.declared.record.BootRecord.{BootRecord}
 use Rattle.free_space.specs.Map.{IsMapOf}
 use Rattle.memory_spec.specs.Tables.{facts}
-use Rattle.array_memory.specs.Plan.{units_of}
+use Rattle.array_memory.specs.declared.plan.Eliding.{Eliding}
+use Rattle.array_memory.specs.declared.plan.Plan.{Plan}
+use Rattle.array_memory.specs.Eliding.{eliding_by}
+use Rattle.array_memory.specs.Plan.{units_of, IsPlanFor}
 use Rattle.record_tables.specs.Patches.{added_patches, by_tag, segments_of}
-use Rattle.array_checkpoint.proofs.PreparedLemmas.{all_prepared, fit_counts, low_ids, many_groups, map_of_facts, room_for_patches}
+use Rattle.array_checkpoint.proofs.PreparedLemmas.{all_prepared, fit_counts, left_for_six, low_ids, many_groups, map_of_facts, room_for_patches}
 use Rattle.array_checkpoint.proofs.preparing.prepare.Goals as goal
+
+pub plan-requires-clause-left : goal.plan-requires-clause-left
+plan-requires-clause-left c = left_for_six c.args.array.now c.requires.unspent
 
 pub plan-requires-clause-groups : goal.plan-requires-clause-groups
 plan-requires-clause-groups c =
@@ -88,7 +94,8 @@ returns-clause-prepared c =
     c.patches_have_facts.ensures count after.new
     c.number_patches.ensures.rest
     (c.number_patches.ensures.next ∙ ap (λ (n : ℕ). record p.next { patch_segment = p.next.patch_segment + n }) long)
-    (c.number_patches.ensures.plan c.plan.new.memory.memory c.in_ok-plan.ensures.plan.plan)
+    (subst (λ (e : Eliding). IsPlanFor (eliding_by c.plan.new.memory.memory e) c.number_patches.new.self) (sym (ap (λ (x : Plan). x.eliding) c.number_patches.ensures.rest))
+    (c.number_patches.ensures.plan (eliding_by c.plan.new.memory.memory p.eliding) c.in_ok-plan.ensures.plan.plan))
     refl
     (c.in_ok-patches.ensures.added ∙ ap (λ (us : List (List Place)). added_patches c.counts-counts.result p.next.patch_segment us) c.deref.ensures.value)
     (c.in_ok-patches.ensures.all ∙ ap (λ (b : BootRecord). by_tag b.patches c.in_ok-patches.patches.added) c.record-record.ensures)

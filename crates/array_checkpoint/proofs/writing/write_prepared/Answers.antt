@@ -4,6 +4,8 @@ use Rattle.world.specs.Losing.{geometry_of}
 use Rattle.data_io.specs.Placing.{MayBePlaced}
 use Rattle.data_io.proofs.Stands.{fresh_none}
 use Rattle.checkpoint_io.specs.Storing.{MayBeStoredWith}
+use Rattle.memory_spec.specs.Tables.{facts}
+use Rattle.array_memory.specs.Eliding.{eliding_by}
 use Rattle.array_memory.proofs.LastingLemmas.{lawful_patches}
 use Rattle.array_core.proofs.Dropped.{counted_so_far}
 use Rattle.array_checkpoint.proofs.Left.{holds_on_left, own_size}
@@ -21,7 +23,7 @@ write_checkpoint-requires-clause-placed g c =
     let p = c.args.prepared.now.plan in
     let h = c.requires.prepared in
     subst (λ (staged : List (List ℕ)). MayBePlaced a p.segments.items staged p.placing.order.items) (sym c.all_staged.ensures)
-    (may_be_placed a x.register.record x.memory.memory p h.units (own_size a x c.requires.is_of) h.plan.plan h.free)
+    (may_be_placed a x.register.record (facts x.memory.memory.tables) (eliding_by x.memory.memory p.eliding) p h.units (own_size a x c.requires.is_of) h.plan.plan h.free)
 
 pub write_checkpoint-requires-clause-stored : goal.write_checkpoint-requires-clause-stored
 write_checkpoint-requires-clause-stored g c =
@@ -32,7 +34,7 @@ write_checkpoint-requires-clause-stored g c =
     let few = h.few_patches in
     subst (λ (ps : List Patch). MayBeStoredWith a p ps) (sym h.added)
     (may_be_stored a x.register.record x.memory.memory p h.counts x.memory.memory.next.patch_segment h.units h.wanted h.free (own_size a x c.requires.is_of) h.fit
-    (ids_left (geometry_of a) x c.args.prepared.now c.requires.is_of h) (omega (arith, few)) h.some h.counted (lawful_patches x.memory.memory p h.plan.plan))
+    (ids_left (geometry_of a) x c.args.prepared.now c.requires.is_of h) (omega (arith, few)) h.some h.counted (lawful_patches (eliding_by x.memory.memory p.eliding) p h.plan.plan))
 
 -- ---- no memory
 

@@ -1,3 +1,9 @@
+use Rattle.std.proofs.Common.{sym, subst, arith}
+use Rattle.checkpoint_spec.specs.Eliding.{IsEliding}
+use Rattle.array_memory.specs.declared.plan.Eliding.{Eliding}
+use Rattle.array_memory.specs.Eliding.{eliding_by, IsElidingOf}
+use Rattle.array_memory.specs.Plan.{IsPlanFor}
+use Rattle.array_memory.proofs.ElidingLemmas.{keeps}
 use Rattle.array_memory.proofs.PlanLemmas.{plan_of, planned_on, reads_roomed}
 use Rattle.array_memory.proofs.memory.Memory.plan.Goals as goal
 
@@ -5,10 +11,19 @@ pub returns-in_err-reserve_for_plan-clause-reads : goal.returns-in_err-reserve_f
 returns-in_err-reserve_for_plan-clause-reads c = reads_roomed c.args.self.now c.reserve_for_plan.new.self c.reserve_for_plan.ensures.rest
 
 pub returns-clause-plan : goal.returns-clause-plan
-returns-clause-plan c = plan_of c.args.self.now c.reserve_for_plan.new.self c.in_ok-plan.plan c.args.units.now c.reserve_for_plan.ensures.rest c.in_ok-plan.ensures.plan c.in_ok-plan.ensures.units c.in_ok-reserve_for_plan.ensures.room
+returns-clause-plan c =
+    let was = c.args.self.now in
+    let p = c.in_ok-plan.plan in
+    let same = sym c.in_ok-plan.ensures.eliding in
+    let numbers = c.requires.left.1 in
+    plan_of was c.reserve_for_plan.new.self p c.args.units.now c.reserve_for_plan.ensures.rest
+    (subst (λ (e : Eliding). IsElidingOf was e) same c.requires.eliding)
+    (subst (λ (e : Eliding). IsEliding was.memory (eliding_by was.memory e) e.facts.items) same (keeps was c.args.eliding c.requires.sound c.requires.eliding (omega (arith, numbers))))
+    (subst (λ (e : Eliding). IsPlanFor (eliding_by was.memory e) p) same c.in_ok-plan.ensures.plan)
+    c.in_ok-plan.ensures.units c.in_ok-reserve_for_plan.ensures.room
 
 pub returns-clause-planned : goal.returns-clause-planned
-returns-clause-planned c = planned_on c.args.self.now.memory c.in_ok-plan.plan c.args.units.now c.in_ok-plan.ensures.plan c.in_ok-plan.ensures.units
+returns-clause-planned c = planned_on (eliding_by c.args.self.now.memory c.args.eliding) c.in_ok-plan.plan c.args.units.now c.in_ok-plan.ensures.plan c.in_ok-plan.ensures.units
 
 pub returns-clause-reads : goal.returns-clause-reads
 returns-clause-reads c = reads_roomed c.args.self.now c.reserve_for_plan.new.self c.reserve_for_plan.ensures.rest

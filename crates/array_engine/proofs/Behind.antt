@@ -1,0 +1,45 @@
+-- The point behind a checkpoint, told of an array that stands at the point before it.
+use Rattle.std.proofs.Common.{◌≡◌, ◌<◌, ◌≤◌, ◌+◌, Bool, refl, sym, ap, subst, None}
+use Rattle.pur_base.specs.Facts.{Facts}
+use Rattle.pur_base.specs.Visible.{segment}
+use Rattle.boot_codec.specs.declared.record.BootRecord.{BootRecord}
+use Rattle.world.specs.Shelf.{Shelved}
+use Rattle.world.specs.Losing.{geometry_of}
+use Rattle.memory_spec.specs.Memory.{Contents, ReadsAs}
+use Rattle.memory_spec.specs.Tables.{patches}
+use Rattle.checkpoint_spec.proofs.Patches.{patches_are_all, patches_read}
+use Rattle.checkpoint_spec.proofs.Records.{record_is_sound}
+use Rattle.session_spec.specs.Faring.{Point, IsCheckpointed}
+use Rattle.array_state.specs.declared.array.Array.{Array}
+use Rattle.array_state.specs.Ready.{IsArrayOf}
+use Rattle.array_checkpoint.specs.Made.{HasFlushed}
+use Rattle.array_engine.specs.Engines.{StandsAt}
+use Rattle.array_engine.proofs.Cleared.{cleared_tables}
+
+-- the point with that array's record, its patches and next numbers, and nothing in the log
+abbrev pub between : Point → Array → Point
+between from mid = record from { logged = 0; boot = mid.register.record; patches = patches mid.memory.memory.tables; next = mid.memory.memory.next }
+
+pub checkpointed : {told : Bool} {old : Shelved} {a : Array} {from : Point} → StandsAt told old a from → (mid : Array) → IsArrayOf (geometry_of old) mid → HasFlushed a mid
+    → (contents : Contents) → ReadsAs contents mid.memory.memory from.array → IsCheckpointed (geometry_of old) from (between from mid)
+checkpointed {told} {old} {a} {from} s mid is flushed contents reads =
+    let whole = cleared_tables (geometry_of old) mid is flushed.none in
+    record {
+      same = refl;
+      rises = subst (λ (b : BootRecord). b.generation < mid.register.record.generation) (sym s.boot) flushed.rises;
+      few = subst (λ (b : BootRecord). mid.register.record.generation ≤ b.generation + 9) (sym s.boot) flushed.few;
+      boot = rw (s.boot, s.logged) flushed.rest;
+      data_segments = flushed.data_segments;
+      new_segments = flushed.new_segments;
+      few_data = flushed.few_data;
+      few_new = flushed.few_new;
+      elided = flushed.elided;
+      few_elided = flushed.few_elided;
+      gone = λ id c. subst (λ (f : Facts). segment f id ≡ None) (sym (patches_are_all mid.memory.memory whole)) (flushed.gone id c);
+      next = rw s.next flushed.next;
+      patch_segments_are = rw s.boot flushed.patch_segments_are;
+      named = is.named;
+      sound = record_is_sound (geometry_of old) mid.register.record mid.memory.memory is.sound whole is.layered is.segments (ap (λ (b : BootRecord). b.next) flushed.rest) is.named;
+      contents = contents;
+      reads = patches_read contents mid.memory.memory from.array whole reads;
+    }

@@ -1,0 +1,38 @@
+-- The numbers of a status, at a point at which the array stands.
+use Rattle.std.proofs.Common.{◌≡◌, ℕ, ◌+◌, ◌≤◌, Bool, List, [], ◌∷◌, length, Option, Some, None, refl, arith}
+use Rattle.std.specs.Prelude.{filter_map}
+use Rattle.std.specs.List.{cons_option, range_with_len}
+use Rattle.std.proofs.lemmas.List.FromFn.{length-range_with_len}
+use Rattle.pur_base.specs.Facts.{Facts}
+use Rattle.pur_base.specs.Devices.{Geometry}
+use Rattle.pur_base.specs.Visible.{segment, segments}
+use Rattle.world.specs.Shelf.{Shelved}
+use Rattle.session_spec.specs.Faring.{Point, data_segments_at, numbers_at}
+use Rattle.array_state.specs.declared.array.Array.{Array}
+use Rattle.array_state.specs.Ready.{IsArrayOf}
+use Rattle.array_checkpoint.proofs.Rooms.{patches_show}
+use Rattle.array_engine.specs.Engines.{StandsAt}
+use Rattle.array_engine.specs.Status.{numbers_of, segments_of}
+
+-- a list of some of these is no longer
+some_more : {B : Type 0} (o : Option B) (ys : List B) (n : ℕ) → length ys ≤ n → length (cons_option o ys) ≤ n + 1
+some_more None ys n le = omega (arith, le)
+some_more (Some y) ys n le = omega (arith, le)
+
+few_some : {A B : Type 0} (f : A → Option B) (xs : List A) → length (filter_map f xs) ≤ length xs
+few_some f [] = omega arith
+few_some f (x ∷ xs) = let more = some_more (f x) (filter_map f xs) (length xs) (few_some f xs) in omega (arith, more)
+
+-- so there are no more visible segments than ids
+pub few_segments : (f : Facts) (next : ℕ) → length (segments f next) ≤ next
+few_segments f next = omega (arith, few_some (segment f) (range_with_len 0 next), length-range_with_len 0 next)
+
+-- the record's patches show the same segments as memory
+shown_same : {told : Bool} {shelf : Shelved} {a : Array} {p : Point} (size : Geometry) → IsArrayOf size a → StandsAt told shelf a p → data_segments_at p ≡ segments_of a
+shown_same {told} {shelf} {a} {p} size is s =
+    rw (s.patches, s.next) (patches_show a.memory.memory.tables a.memory.memory.next.segment is.room.no_segments is.room.no_elisions)
+
+pub numbers_same : {told : Bool} {shelf : Shelved} {a : Array} {p : Point} (size : Geometry) (groups : ℕ) → IsArrayOf size a → StandsAt told shelf a p → numbers_of a groups (length p.array) ≡ numbers_at p groups
+numbers_same {told} {shelf} {a} {p} size groups is s =
+    let seen : data_segments_at p ≡ segments_of a = shown_same size is s in
+    rw (s.boot, s.logged, seen) refl

@@ -1,0 +1,70 @@
+use Rattle.std.proofs.Common.{◌≡◌, false, Result, Err, IfErr, sym, ap, subst}
+use Rattle.std.proofs.lemmas.Result.{err_from_is_err_and}
+use Rattle.pur_base.specs.Devices.{Geometry}
+use Rattle.world.specs.Losing.{geometry_of}
+use Rattle.world.specs.Shelf.{Shelved}
+use Rattle.array_state.specs.Ready.{IsArrayOf}
+use Rattle.array_core.proofs.Losses.{same_geometry}
+use Rattle.array_checkpoint.specs.Prepared.{IsLike}
+use Rattle.array_checkpoint.specs.Room.{IsRoomOf}
+use Rattle.array_checkpoint.proofs.Like.{like_is_of}
+use Rattle.array_engine.specs.declared.appending.AppendFault.{AppendFault}
+use Rattle.array_engine.specs.Flushing.{IsFlushFault}
+use Rattle.array_engine.specs.Replying.{ends_lost}
+use Rattle.array_engine.proofs.Appended.{like_room}
+use Rattle.array_engine.proofs.Faults.{fault_in_flush, stays_behind}
+use Rattle.array_engine.proofs.Meanwhile.{kept_at_once, kept_flushing}
+use Rattle.array_engine.proofs.Unborne.{unborne}
+use Rattle.array_engine.proofs.flushing.flush.Goals as goal
+
+pub returns-in_err-check_checkpoint-clause-kept : goal.returns-in_err-check_checkpoint-clause-kept
+returns-in_err-check_checkpoint-clause-kept g c = λ honest item held ready. kept_at_once (g.S.Shelf.shelf c.args.shelf.now) c.args.array.now held ready (g.met.S.Shelf.is_shelf c.args.shelf.now) item
+
+-- ---- it wasn't made
+
+pub returns-in_err-checkpoint-clause-is_of : goal.returns-in_err-checkpoint-clause-is_of
+returns-in_err-checkpoint-clause-is_of g c =
+    let old = g.S.Shelf.shelf c.args.shelf.now in
+    let new = g.S.Shelf.shelf c.checkpoint.new.shelf in
+    let a = c.args.array.now in
+    let b = c.checkpoint.new.array in
+    let stays = IsLike a b × (c.checkpoint.new.shelf ≡ c.args.shelf.now) in
+    let q = err_from_is_err_and c.from_residual-in_err-checkpoint.result c.from_residual-in_err-checkpoint.ensures.1 in
+    subst (λ (t : Result (Unit {0}) AppendFault). ends_lost t ≡ false → IsArrayOf (geometry_of new) b × IsRoomOf b c.args.room.now) (sym q.1)
+    (λ awake.
+    let s = stays_behind old new a stays c.in_err-checkpoint.field-0.0 c.in_err-checkpoint.ensures.fault (subst (λ (e : AppendFault). ends_lost (Err e) ≡ false) q.2 awake) in
+    (subst (λ (x : Shelved). IsArrayOf (geometry_of x) b) (sym (ap g.S.Shelf.shelf s.1)) (like_is_of (geometry_of old) a b s.0 c.requires.is_of), like_room a b c.args.room.now s.0 c.requires.room))
+
+pub returns-in_err-checkpoint-clause-fault : goal.returns-in_err-checkpoint-clause-fault
+returns-in_err-checkpoint-clause-fault g c =
+    let old = g.S.Shelf.shelf c.args.shelf.now in
+    let new = g.S.Shelf.shelf c.checkpoint.new.shelf in
+    let a = c.args.array.now in
+    let stays = IsLike a c.checkpoint.new.array × (c.checkpoint.new.shelf ≡ c.args.shelf.now) in
+    let q = err_from_is_err_and c.from_residual-in_err-checkpoint.result c.from_residual-in_err-checkpoint.ensures.1 in
+    subst (λ (t : Result (Unit {0}) AppendFault). IfErr t (λ e. IsFlushFault old new a stays e)) (sym q.1)
+    (subst (λ (e : AppendFault). IsFlushFault old new a stays e) (sym q.2)
+    (fault_in_flush old new a stays c.in_ok-check_checkpoint.ensures.ok c.in_err-checkpoint.field-0.0 (unborne old new a c.requires.is_of.of_shelf) c.in_err-checkpoint.ensures.fault))
+
+pub returns-in_err-checkpoint-clause-kept : goal.returns-in_err-checkpoint-clause-kept
+returns-in_err-checkpoint-clause-kept g c = λ honest item held ready.
+    kept_flushing (g.S.Shelf.shelf c.args.shelf.now) c.args.array.now held ready (g.S.Shelf.shelf c.checkpoint.new.shelf) item (c.in_err-checkpoint.ensures.any_moment honest held ready)
+
+-- ---- it was made
+
+pub returns-clause-made : goal.returns-clause-made
+returns-clause-made g c =
+    let made = c.in_ok-checkpoint.ensures in
+    record {
+      room = c.in_ok-check_checkpoint.ensures.ok;
+      is_of = subst (λ (k : Geometry). IsArrayOf k c.checkpoint.new.array) (sym (same_geometry made.continues)) made.is_of;
+      flushed = made.flushed;
+      dropped = made.dropped.0;
+      joins = made.dropped.1;
+      reads = made.reads;
+      done = made.done;
+    }
+
+pub returns-clause-kept : goal.returns-clause-kept
+returns-clause-kept g c = λ honest item held ready.
+    kept_flushing (g.S.Shelf.shelf c.args.shelf.now) c.args.array.now held ready (g.S.Shelf.shelf c.checkpoint.new.shelf) item (c.in_ok-checkpoint.ensures.any_moment honest held ready)

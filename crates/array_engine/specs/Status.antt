@@ -1,0 +1,30 @@
+-- The numbers of a status, of an array in memory.
+use Rattle.std.specs.Prelude.{ℕ, ◌-◌, List, [], ◌∷◌, length}
+use Rattle.std.specs.List.{sum_by}
+use Rattle.pur_base.specs.Visible.{segments}
+use Rattle.pur_base.specs.declared.facts.SegmentFact.{SegmentFact}
+use Rattle.boot_codec.specs.Record.{patch_segments}
+use Rattle.log_codec.specs.declared.limits.TheConstants.{LOG_SLOTS}
+use Rattle.memory_spec.specs.Tables.{facts}
+use Rattle.session_spec.specs.Faring.{set_flags}
+use Rattle.session_spec.specs.declared.limits.TheConstants.{CONTROLLER}
+use Rattle.array_state.specs.declared.array.Array.{Array}
+
+-- the data segments that its tables show
+abbrev pub segments_of : Array → List SegmentFact
+segments_of a = segments (facts a.memory.memory.tables) a.memory.memory.next.segment
+
+-- its numbers, where there are free units for so many more segments, and so many objects
+abbrev pub numbers_of : Array → ℕ → ℕ → List ℕ
+numbers_of a groups objects =
+    CONTROLLER
+    ∷ objects
+    ∷ groups
+    ∷ set_flags a.register.record.members.drives
+    ∷ set_flags a.register.record.members.nvrams
+    ∷ (LOG_SLOTS - a.log.count)
+    ∷ length (segments_of a)
+    ∷ patch_segments a.register.record.patches
+    ∷ sum_by (λ d. d.placed) (segments_of a)
+    ∷ a.register.record.generation
+    ∷ []

@@ -1,0 +1,17 @@
+use Rattle.array_memory.proofs.Seen.{seen}
+use Rattle.array_memory.proofs.ElidingLemmas.{made_beside, elided_now}
+use Rattle.array_memory.proofs.memory.Memory.eliding.Goals as goal
+
+pub returns : goal.returns
+returns c =
+    let k = seen c.self.inside in
+    let ids = c.in_ok-segments.segments.items in
+    let fs = c.in_ok-facts.facts.items in
+    let unused = rw (← c.self.view_is) at c.in_ok-segments.ensures in
+    let made = rw c.deref.ensures.value at c.in_ok-facts.ensures.facts in
+    let more = rw c.deref.ensures.value at c.in_ok-facts.ensures.ids in
+    rw (← c.self.view_is) (record {
+      unused = unused;
+      made = made_beside k c.self.invariant ids fs c.in_ok-elided.elided c.elide_segments.new.elided c.in_ok-elided.ensures made more c.elide_segments.ensures.others c.are_apart.ensures;
+      elided = elided_now k c.self.invariant ids fs c.in_ok-elided.elided c.elide_segments.new.elided c.in_ok-elided.ensures made more c.elide_segments.ensures.others c.are_apart.ensures;
+    })

@@ -1,0 +1,78 @@
+ghost use Rattle.std.specs.Prelude.{◌≡◌, ◌⊎◌, ◌↔◌, ◌+◌, ◌<◌, ◌++◌, [], Contains, IfOk, OnOk};
+ghost use Rattle.pur_base.specs.Facts.{elision_key};
+ghost use Rattle.pur_base.specs.declared.facts.ElisionFact.{ElisionFact};
+ghost use Rattle.fact_codec.specs.declared.limits.TheConstants.{NUMBER_LIMIT};
+ghost use Rattle.pyramid.specs.Layers.{patch_facts, AreDistinct, IsFlushed};
+ghost use Rattle.memory_spec.specs.Memory.{IsSound};
+ghost use Rattle.memory_spec.specs.Tables.{facts as all_facts};
+ghost use Rattle.array_memory.specs.Eliding.{AreLowestUnused, IsElidingOf};
+
+use crate::limits::ELIDED_SEGMENTS;
+use crate::loading::are_apart;
+use crate::memory::Memory;
+use crate::plan::Eliding;
+use checkpoint_plan::{copied, elide_segments, unused_segments};
+use pur_base::{ElisionFact, NoMemory, Table};
+use pyramid::{Patch, Pyramid};
+use std::alloc::Global;
+
+/// Takes facts into a table of which nothing is flushed.
+fn insert_each(facts: &[ElisionFact], table: &mut Pyramid<ElisionFact>) -> Result<(), NoMemory>
+    requires patches { table.old.patches ≡ [] }
+    requires distinct { AreDistinct (λ f. f.seq.0) (table.old.unflushed ++ facts.now) }
+    ensures patches { table.new.patches ≡ [] }
+    ensures facts { OnOk result ((f : ElisionFact) → Contains table.new.unflushed f ↔ (Contains table.old.unflushed f ⊎ Contains facts.now f)) }
+{
+    for fact in facts {
+        table.insert(*fact)?;
+    }
+    Ok(())
+}
+
+impl Memory {
+    /// The visible data segments that no visible address names, by ascending id: the 1,024 of the lowest ids at most.
+    /// It reads each visible address once, and fails for want of memory only.
+    pub fn unused(&self, alloc: Global) -> Result<Vec<u64>, NoMemory>
+        requires { IsSound self.now.memory }
+        ensures { IfOk result (λ v. AreLowestUnused (all_facts self.now.memory.tables) v.items) }
+    {
+        let elided = self.elided.ranges(Table::Address);
+        let addresses = self.addresses.facts.range(alloc, 0, u128::MAX, elided)?;
+        let mut ids = unused_segments(alloc, self.segments.all(), &addresses)?;
+        ids.truncate(ELIDED_SEGMENTS);
+        Ok(ids)
+    }
+
+    /// What a checkpoint would elide: the unused segments of the lowest ids. It fails for want of memory only.
+    pub fn eliding(&self, alloc: Global) -> Result<Eliding, NoMemory>
+        requires sound { IsSound self.now.memory }
+        requires left { self.now.memory.next.sequence + ELIDED_SEGMENTS < NUMBER_LIMIT }
+        ensures { IfOk result (IsElidingOf self.now) }
+    {
+        let segments = self.unused(alloc)?;
+        let mut elided = copied(alloc, &self.elided)?;
+        let facts = elide_segments(alloc, &mut elided, &segments, self.next.sequence)?;
+        are_apart(&elided);
+        Ok(Eliding {
+            segments,
+            facts,
+            elided,
+        })
+    }
+
+    /// The patch of the unflushed elisions and of these: of each key the newest.
+    pub(crate) fn newest_elisions(
+        &self,
+        alloc: Global,
+        added: &[ElisionFact],
+    ) -> Result<Option<Patch<ElisionFact>>, NoMemory>
+        requires { AreDistinct (λ f. f.seq.0) (self.now.memory.tables.elisions.unflushed ++ added.now) }
+        ensures { IfOk result (λ patch. IsFlushed elision_key (λ f. f.seq.0) (self.now.memory.tables.elisions.unflushed ++ added.now) (patch_facts patch)) }
+    {
+        let mut all = Pyramid::new(alloc, added.len())?;
+        insert_each(self.elisions.unflushed(), &mut all)?;
+        insert_each(added, &mut all)?;
+        let patch = all.newest_unflushed(alloc)?;
+        Ok(patch)
+    }
+}

@@ -1,0 +1,59 @@
+-- What eliding segments that no address names makes of memory: a fact for each of their ids, behind the unflushed ones.
+use Rattle.std.specs.Prelude.{◌≡◌, ◌≢◌, ◌⊎◌, ℕ, ◌+◌, ◌<◌, ◌≤◌, IsTrue, List, [], ◌∷◌, ◌++◌, length, Some, Contains}
+use Rattle.pur_base.specs.Facts.{Facts}
+use Rattle.pur_base.specs.Visible.{address, segment, is_elided}
+use Rattle.pur_base.specs.declared.request.Table.TheVariants as table
+use Rattle.pur_base.specs.declared.place.Location.{Location}
+use Rattle.pur_base.specs.declared.facts.Target.TheVariants.{Stored}
+use Rattle.pur_base.specs.declared.facts.SegmentFact.{SegmentFact}
+use Rattle.pur_base.specs.declared.facts.ElisionFact.{ElisionFact}
+use Rattle.fact_codec.specs.declared.limits.TheConstants.{NUMBER_LIMIT}
+use Rattle.memory_spec.specs.Tables.{facts}
+use Rattle.memory_spec.specs.Memory.{Memory, IsSound}
+use Rattle.checkpoint_spec.specs.Eliding.{IsEliding}
+
+-- ---- which segments
+
+-- the segment of the id is visible, and no visible address names one of its sectors
+pub record IsUnused (facts : Facts) (id : ℕ) : Type 0 where
+  pub fact : SegmentFact
+  pub visible : segment facts id ≡ Some fact
+  pub unnamed : (medium sector : ℕ) (at : Location) → address facts medium sector ≡ Some (Stored at) → at.segment.0 ≢ id
+
+-- ---- their facts
+
+-- The elision of a segment where ids of some are elided: its range is the widest one about the id in which all other ids are.
+pub record IsElisionOf (IsElided : ℕ → Type 0) (number id : ℕ) (f : ElisionFact) : Type 0 where
+  pub of_segments : f.table ≡ table.Segment
+  pub numbered : f.seq.0 ≡ number
+  pub has : (f.first ≤ id) × (id ≤ f.last)
+  pub within : (i : ℕ) → f.first ≤ i → i ≤ f.last → IsElided i ⊎ (i ≡ id)
+  pub before : (i : ℕ) → i + 1 ≡ f.first → ¬ (IsElided i)
+  pub behind : ¬ (IsElided (f.last + 1))
+
+-- those of several segments: to each the ids before it are elided too, and numbers rise by one
+abbrev pub AreElisionsOf : (ℕ → Type 0) → ℕ → List ℕ → List ElisionFact → Type 0
+AreElisionsOf IsElided number [] [] = Unit {0}
+AreElisionsOf IsElided number [] (f ∷ fs) = ⊥
+AreElisionsOf IsElided number (id ∷ ids) [] = ⊥
+AreElisionsOf IsElided number (id ∷ ids) (f ∷ fs) = IsElisionOf IsElided number id f × AreElisionsOf (λ i. IsElided i ⊎ (i ≡ id)) (number + 1) ids fs
+
+-- the facts elide a segment of that id
+abbrev pub IsElidedBy : Facts → ℕ → Type 0
+IsElidedBy facts id = IsTrue (is_elided facts.elisions table.Segment id)
+
+-- ---- memory
+
+-- memory with these elisions behind the unflushed ones, and its next number behind theirs
+abbrev pub eliding : Memory → List ElisionFact → Memory
+eliding m added = record m {
+  tables = record m.tables { elisions = record m.tables.elisions { unflushed = m.tables.elisions.unflushed ++ added } };
+  next = record m.next { sequence = m.next.sequence + length added };
+}
+
+-- Unused segments may be elided so.
+abbrev pub UnusedMayBeElided : Type 0
+UnusedMayBeElided = (m : Memory) (ids : List ℕ) (added : List ElisionFact)
+    → IsSound m → ((id : ℕ) → Contains ids id → IsUnused (facts m.tables) id) → AreElisionsOf (IsElidedBy (facts m.tables)) m.next.sequence ids added
+    → m.next.sequence + length added < NUMBER_LIMIT
+    → IsEliding m (eliding m added) added
