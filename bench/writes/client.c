@@ -1,5 +1,7 @@
-// Runs the program that its words give, asks it for a volume of 64 sectors and 63 writes of 64 sectors, each once the one before is answered, and
-// prints how many nanoseconds the writes took.
+// Runs the program that its words give, asks it for a volume of 4,096 sectors and so many writes of 64 sectors, each once the one before is answered: one
+// behind another through the volume, and again from its front. Prints how many nanoseconds the writes took in all, and how many of them those took that
+// found the log full.
+// Usage: client WRITES PROGRAM [WORD]..
 #define _GNU_SOURCE
 #include <stdio.h>
 #include <stdlib.h>
@@ -8,7 +10,7 @@
 #include <time.h>
 #include <unistd.h>
 
-enum { WRITES = 63, DATA = 64 * 512 };
+enum { SECTORS = 4096, COUNT = 64, DATA = COUNT * 512, SLOTS = 64, LINE = 32 };
 
 static int to[2], from[2];
 
@@ -39,7 +41,8 @@ static long long now(void) {
 }
 
 int main(int argc, char **argv) {
-    check(argc > 1 && pipe(to) == 0 && pipe(from) == 0);
+    check(argc > 2 && pipe(to) == 0 && pipe(from) == 0);
+    long writes = atol(argv[1]);
     pid_t program = fork();
     check(program >= 0);
     if (program == 0) {
@@ -47,19 +50,30 @@ int main(int argc, char **argv) {
         dup2(from[1], 1);
         close(to[1]);
         close(from[0]);
-        execv(argv[1], argv + 1);
+        execv(argv[2], argv + 2);
         _exit(127);
     }
     close(to[0]);
     close(from[1]);
-    static char request[32 + DATA];
-    int line = sprintf(request, "create a 64\n");
-    ask(request, (size_t)line);
-    line = sprintf(request, "write a 0 64\n");
-    memset(request + line, 7, DATA);
-    long long start = now();
-    for (int n = 0; n < WRITES; n++) ask(request, (size_t)line + DATA);
-    printf("%lld\n", now() - start);
+    // The line of a write ends where its data begins.
+    static char request[LINE + DATA];
+    char line[LINE];
+    int length = sprintf(line, "create a %d\n", SECTORS);
+    ask(line, (size_t)length);
+    memset(request + LINE, 7, DATA);
+    long long all = 0, full = 0;
+    for (long n = 0; n < writes; n++) {
+        length = sprintf(line, "write a %ld %d\n", n * COUNT % SECTORS, COUNT);
+        char *start = request + LINE - length;
+        memcpy(start, line, (size_t)length);
+        long long before = now();
+        ask(start, (size_t)length + DATA);
+        long long took = now() - before;
+        all += took;
+        // The create has the first slot.
+        if ((n + 1) % SLOTS == 0) full += took;
+    }
+    printf("%lld %lld\n", all, full);
     close(to[1]);
     int status;
     check(waitpid(program, &status, 0) == program && WIFEXITED(status) && WEXITSTATUS(status) == 0);

@@ -27,13 +27,31 @@ fn session(alloc: Global, world: &mut MemWorld, input: &[u8]) -> Result<(), NoMe
     Ok(())
 }
 
+/// The most sectors that a request writes.
+const COUNT: u16 = 64;
+
+/// As many requests fill the log.
+const SLOTS: u16 = 64;
+
 /// A create, a write of 64 sectors, a fill and a read.
 fn requests(alloc: Global) -> Result<Vec<u8>, NoMemory> {
     let mut input = Vec::from_slice(alloc, b"create a 64\nwrite a 0 64\n")?;
-    for _ in 0..64 {
+    for _ in 0..COUNT {
         input.extend_from_slice(&[66; 512])?;
     }
     input.extend_from_slice(b"fill a 0 1 1\nread a 0 1\n")?;
+    Ok(input)
+}
+
+/// A checkpoint behind a fill, and one behind a full log of fills of 64 sectors each. What stood in the log before is brought to the drives first.
+fn checkpoints(alloc: Global) -> Result<Vec<u8>, NoMemory> {
+    let mut input = Vec::from_slice(alloc, b"create b 4097\ncheckpoint\n")?;
+    input.extend_from_slice(b"fill b 4096 1 1\ncheckpoint\n")?;
+    for n in 0..SLOTS {
+        let line = format!(in alloc; "fill b {} {COUNT} 1\n", n * COUNT)?;
+        input.extend_from_slice(line.as_bytes())?;
+    }
+    input.extend_from_slice(b"checkpoint\n")?;
     Ok(input)
 }
 
@@ -53,6 +71,9 @@ pub fn lines(alloc: Global) -> Result<Vec<Line>, NoMemory> {
     lines.push(line_of("write of 64 sectors", &world, 2))?;
     lines.push(line_of("fill", &world, 3))?;
     lines.push(line_of("read", &world, 4))?;
+    session(alloc, &mut world, &checkpoints(alloc)?)?;
+    lines.push(line_of("checkpoint behind a fill", &world, 4))?;
+    lines.push(line_of("checkpoint behind 64 fills of 64 sectors", &world, 69))?;
     world.fail(Device::Nv(NvId(1)), OPENING + 1)?;
     session(alloc, &mut world, b"fill a 1 1 2\n")?;
     lines.push(line_of("fill, where an NVRAM device fails", &world, 1))?;

@@ -48,7 +48,7 @@ fn served(
 #[test]
 fn answers_transcripts(rt: HostRuntime) -> Result<(), Fail> {
     let alloc = rt.alloc();
-    let rows: [(&[u8], &[u8], usize); 5] = [
+    let rows: [(&[u8], &[u8], usize); 6] = [
         (b"", b"", 1),
         (
             b"create a 0\ncreate a 1048577\n",
@@ -66,9 +66,14 @@ fn answers_transcripts(rt: HostRuntime) -> Result<(), Fail> {
             100_000,
         ),
         (
-            b"status\nzero a 0 1\ntakeover\n",
+            b"merge object 0\nzero a 0 1\ntakeover\n",
             b"no syntax\nno syntax\nno syntax\n",
             7,
+        ),
+        (
+            b"status\ncheckpoint\nstatus 1\nstatus",
+            b"status 0 0 74 11 2 64 0 0 0 2\nok\nno syntax\nstatus 0 0 74 11 2 64 0 0 0 3\n",
+            5,
         ),
     ];
     for (input, output, piece) in rows {

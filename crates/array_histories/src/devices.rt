@@ -146,6 +146,65 @@ pub fn let_fail(world: &mut MemWorld, device: Device) {
     }
 }
 
+/// On which devices calls failed, and which of them lost a write or a sync by that.
+#[derive(Clone, Copy)]
+pub struct Failures {
+    failed: [bool; 13],
+    lost: [bool; 13],
+}
+
+/// How many of the flags are set.
+fn set_flags(flags: &[bool]) -> u64 {
+    flags.iter().filter(|flag| **flag).count() as u64
+}
+
+impl Failures {
+    /// On none.
+    pub fn new() -> Failures {
+        Failures {
+            failed: [false; 13],
+            lost: [false; 13],
+        }
+    }
+
+    /// Sees those among the calls. What lost a write or a sync is noted as lost where that is told.
+    pub fn note(&mut self, calls: &[Call], lose: bool) {
+        for call in calls {
+            match call {
+                Call::On(device, what) => self.note_call(*device, what, lose),
+                _ => {}
+            }
+        }
+    }
+
+    fn note_call(&mut self, device: Device, what: &What, lose: bool) {
+        let place = place_of(device);
+        match what {
+            What::FailedWrite(_) | What::FailedSync(_) => {
+                self.failed[place] = true;
+                self.lost[place] = self.lost[place] || lose;
+            }
+            What::FailedRead(_) => self.failed[place] = true,
+            _ => {}
+        }
+    }
+
+    /// Another device is in its place: it may be left out.
+    pub fn replace(&mut self, device: Device) {
+        self.failed[place_of(device)] = true;
+    }
+
+    /// Drives that may be left out, and that must be.
+    pub fn drives(&self) -> (u64, u64) {
+        (set_flags(&self.failed[..11]), set_flags(&self.lost[..11]))
+    }
+
+    /// NVRAM devices that may be left out, and that must be.
+    pub fn nvrams(&self) -> (u64, u64) {
+        (set_flags(&self.failed[11..]), set_flags(&self.lost[11..]))
+    }
+}
+
 /// How far each device was ever written.
 #[derive(Clone, Copy)]
 pub struct Written {

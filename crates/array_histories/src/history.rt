@@ -1,15 +1,16 @@
 // One history.
 use crate::devices::{
-    FAIL_AHEAD, Written, any_drive, calls_before_input, fail, let_fail, pull, put_back, stop,
+    FAIL_AHEAD, Failures, Written, any_drive, calls_before_input, fail, let_fail, pull, put_back,
+    stop,
 };
-use crate::model::Model;
+use crate::model::{Heard, Model};
 use crate::random::Random;
 use crate::request::{Ask, Known, any_ask};
 use array_server::{init, serve};
 use pur_base::{Device, NVRAM_DEVICES, NoMemory, NvId, Status};
 use std::alloc::{AllocFailed, Global};
 use world::Source;
-use world_mem::{Fused, MemWorld};
+use world_mem::{Call, Fused, MemWorld};
 
 /// Where more arrays may stand, they are looked at.
 const ARRAYS: usize = 4;
@@ -20,8 +21,9 @@ pub struct Told {
     pub acknowledged: u64,
     pub stops: u64,
     pub failures: u64,
-    /// How many histories have come to a checkpoint.
+    /// How many histories have come to a checkpoint, and how many to the end of the room.
     pub flushed: u64,
+    pub full: u64,
 }
 
 impl Told {
@@ -32,6 +34,7 @@ impl Told {
             stops: 0,
             failures: 0,
             flushed: 0,
+            full: 0,
         }
     }
 }
@@ -143,9 +146,6 @@ fn calls_until(random: &mut Random, opening: u64) -> u64 {
     }
 }
 
-/// What a read is answered whose sectors stand on drives of which three fail.
-const NO_DEVICE: &[u8] = b"no device\n";
-
 /// How many of the requests were answered by the whole of an output, each as the array answers, which goes on by them. None where they weren't.
 /// Where three drives fail meanwhile, sectors may be out of reach of a read.
 fn follow(
@@ -156,30 +156,37 @@ fn follow(
     three_fail: bool,
 ) -> Result<Option<usize>, NoMemory> {
     let mut at = 0;
-    let mut reply = Vec::new(alloc);
     for place in 0..asks.len() {
-        reply.clear();
-        array.push_reply(alloc, &asks[place], &mut reply)?;
         let rest = output.get(at..).unwrap_or(&[]);
-        if three_fail && asks[place].is_read() && rest.starts_with(NO_DEVICE) {
-            at = at.saturating_add(NO_DEVICE.len());
-            continue;
+        match array.hear(alloc, &asks[place], rest, three_fail)? {
+            Heard::Whole(size) => at = at.saturating_add(size),
+            Heard::Part => return Ok(Some(place)),
+            Heard::Other => return Ok(None),
         }
-        if !rest.starts_with(&reply) {
-            return Ok(if reply.starts_with(rest) {
-                Some(place)
-            } else {
-                None
-            });
-        }
-        at = at.saturating_add(reply.len());
-        array.apply(alloc, &asks[place])?;
     }
     Ok(if at == output.len() {
         Some(asks.len())
     } else {
         None
     })
+}
+
+/// The array behind a request during which a stop came: as it may be, if not as before.
+fn push_later(
+    alloc: Global,
+    array: &Model,
+    next: &Ask,
+    after: &mut Vec<Model>,
+) -> Result<(), NoMemory> {
+    if let Some(flushed) = array.flushed(alloc, next)? {
+        after.push(flushed)?;
+    }
+    if array.takes(next) {
+        let mut more = array.copy(alloc)?;
+        more.apply(alloc, next)?;
+        after.push(more)?;
+    }
+    Ok(())
 }
 
 /// A history: what may happen in it, and the arrays that may stand.
@@ -189,6 +196,7 @@ pub struct History {
     pub(crate) random: Random,
     pub(crate) weak: Weak,
     pub(crate) written: Written,
+    pub(crate) failures: Failures,
     pub(crate) arrays: Vec<Model>,
     session: u64,
     /// The calls on devices of the last opening.
@@ -213,6 +221,7 @@ impl History {
             random,
             weak,
             written: Written::new(),
+            failures: Failures::new(),
             arrays: Vec::new(alloc),
             session: 0,
             opening: FIRST_OPENING,
@@ -249,6 +258,9 @@ impl History {
         if self.written.has_data() {
             told.flushed = told.flushed.saturating_add(1);
         }
+        if self.arrays.iter().any(|array| array.lacked_space()) {
+            told.full = told.full.saturating_add(1);
+        }
         self.written.blank_all(&mut world);
         Ok(world)
     }
@@ -268,6 +280,11 @@ impl History {
             0..=2 => self.open_only(world, told),
             3 => self.open_often(world, told),
             4 => self.leave_out(world, told),
+            5 => if self.random.once_in(4) {
+                self.use_up(world, told)
+            } else {
+                Ok(world)
+            },
             _ => Ok(world),
         }
     }
@@ -281,7 +298,10 @@ impl History {
                     put_back(world, device);
                     continue;
                 }
-                3 => self.written.blank(world, device),
+                3 => {
+                    self.written.blank(world, device);
+                    self.failures.replace(device);
+                }
                 4..=6 => {
                     let ahead = if self.random.once_in(2) {
                         12
@@ -410,9 +430,10 @@ impl History {
         Ok(asks)
     }
 
-    /// Requests that show the arrays.
+    /// Requests that show the arrays, and how much of them stands in the log.
     pub(crate) fn questions(&self) -> Result<Vec<Ask>, NoMemory> {
         let mut asks = Vec::new(self.alloc);
+        asks.push(Ask::Status)?;
         asks.push(Ask::List)?;
         for array in &self.arrays {
             array.push_questions(&mut asks)?;
@@ -426,7 +447,7 @@ impl History {
     }
 
     /// After how many calls a session with many requests is stopped: now and then in a checkpoint.
-    fn calls_of_long_session(&mut self) -> u64 {
+    pub(crate) fn calls_of_long_session(&mut self) -> u64 {
         if self.random.once_in(2) {
             u64::MAX
         } else {
@@ -529,13 +550,24 @@ impl History {
         }
         let opening = calls_before_input(&left.world);
         self.opening = opening.unwrap_or(self.opening);
+        self.note_failures(left.world.calls(), false);
         let count = self.judge(asks, left.given(), left.stopped, opening.is_some())?;
+        // Behind a session that wasn't stopped the record doesn't name them any more.
+        self.note_failures(left.world.calls(), !left.stopped);
         told.acknowledged = told.acknowledged.saturating_add(count as u64);
         let Left { world, stopped, .. } = left;
         Ok(self.stop(world, stopped, told)?)
     }
 
-    /// Keeps the arrays that answer what was given, as they go on: by what was answered, and after a stop perhaps by one request more.
+    /// Notes the calls that failed: what the records of the arrays may name behind them.
+    fn note_failures(&mut self, calls: &[Call], lose: bool) {
+        self.failures.note(calls, lose);
+        for array in &mut self.arrays {
+            array.heed(&self.failures);
+        }
+    }
+
+    /// Keeps the arrays that answer what was given, as they go on: by what was answered, and after a stop perhaps by one request more, or its checkpoint.
     /// How many were answered.
     fn judge(
         &mut self,
@@ -556,10 +588,8 @@ impl History {
             }
             answered = count;
             if let Some(next) = asks.get(count) {
-                if taken && array.takes(next) {
-                    let mut more = array.copy(self.alloc)?;
-                    more.apply(self.alloc, next)?;
-                    after.push(more)?;
+                if taken {
+                    push_later(self.alloc, &array, next, &mut after)?;
                 }
             }
             after.push(array)?;

@@ -2,6 +2,7 @@
 //! and takeovers that are stopped again. Nothing that was acknowledged may be lost. Its two words are a seed and how many histories there are.
 #![tactic(auto)]
 
+mod counts;
 mod devices;
 mod history;
 mod model;
@@ -125,9 +126,10 @@ fn run(rt: &HostRuntime, plan: Plan) -> io::Result<ExitCode> {
         stops,
         failures,
         flushed,
+        full,
     } = told;
     println!(rt;
-        "seed {seed}: {count} histories, {flushed} of them with checkpoints, {acknowledged} requests acknowledged, {stops} stops, {failures} devices failed, nothing lost"
+        "seed {seed}: {count} histories, {flushed} of them with checkpoints and {full} with no room left, {acknowledged} requests acknowledged, {stops} stops, {failures} devices failed, nothing lost"
     )?;
     Ok(ExitCode::from(0))
 }

@@ -1,4 +1,6 @@
 // What the array is to answer.
+use crate::counts::{Counts, numbers_of};
+use crate::devices::Failures;
 use crate::request::{Ask, Known, Pattern, Range};
 use crate::text::push;
 use pur_base::NoMemory;
@@ -6,6 +8,12 @@ use std::alloc::Global;
 
 /// The most sectors of a request.
 const COUNT: u8 = 64;
+
+/// What a read is answered whose sectors stand on drives of which three fail.
+const NO_DEVICE: &[u8] = b"no device\n";
+
+/// What a command or a checkpoint is answered where too few units are free.
+const NO_SPACE: &[u8] = b"no space\n";
 
 /// A volume, with what each of its sectors holds.
 #[derive(Drop)]
@@ -23,10 +31,33 @@ impl Volume {
     }
 }
 
-/// An array: its volumes in order of creation.
+/// How an output goes on.
+#[derive(Clone, Copy)]
+pub enum Heard {
+    /// With a reply of so many bytes, which the array may give.
+    Whole(usize),
+    /// It ends before the reply does.
+    Part,
+    /// With something else.
+    Other,
+}
+
+/// How an output goes on where just this reply is right.
+fn heard_as(reply: &[u8], rest: &[u8]) -> Heard {
+    if rest.starts_with(reply) {
+        Heard::Whole(reply.len())
+    } else if reply.starts_with(rest) {
+        Heard::Part
+    } else {
+        Heard::Other
+    }
+}
+
+/// An array: its volumes in order of creation, and what is known of its log, its record and its checkpoints.
 #[derive(Drop)]
 pub struct Model {
     volumes: Vec<Volume>,
+    counts: Counts,
 }
 
 impl Model {
@@ -34,6 +65,7 @@ impl Model {
     pub fn new(alloc: Global) -> Model {
         Model {
             volumes: Vec::new(alloc),
+            counts: Counts::new(),
         }
     }
 
@@ -43,7 +75,10 @@ impl Model {
         for volume in &self.volumes {
             volumes.push(volume.copy(alloc)?)?;
         }
-        Ok(Model { volumes })
+        Ok(Model {
+            volumes,
+            counts: self.counts,
+        })
     }
 
     /// The volumes that are there.
@@ -101,13 +136,13 @@ impl Model {
                     Err(why) => Some(why),
                 }
             }
-            Ask::List => None,
+            Ask::List | Ask::Status | Ask::Checkpoint => None,
             Ask::Nonsense => Some("syntax"),
         }
     }
 
-    /// The text of its answer, behind what is there.
-    pub fn push_reply(&self, alloc: Global, ask: &Ask, text: &mut Vec<u8>) -> Result<(), NoMemory> {
+    /// The text of its answer but to a status, behind what is there.
+    fn push_reply(&self, alloc: Global, ask: &Ask, text: &mut Vec<u8>) -> Result<(), NoMemory> {
         if let Some(why) = self.refusal(ask) {
             return push(text, &format!(in alloc; "no {why}\n")?);
         }
@@ -153,11 +188,92 @@ impl Model {
         }
     }
 
-    /// Does a request, unless it's refused.
+    /// Goes on by a request, unless it's refused.
     pub fn apply(&mut self, alloc: Global, ask: &Ask) -> Result<(), NoMemory> {
-        if !self.takes(ask) {
-            return Ok(());
+        if matches!(ask, Ask::Checkpoint) {
+            self.counts.flush();
         }
+        if self.takes(ask) {
+            self.counts.log();
+            self.change(alloc, ask)?;
+        }
+        Ok(())
+    }
+
+    /// The same array behind the checkpoint that a request makes, if it makes one.
+    pub fn flushed(&self, alloc: Global, ask: &Ask) -> Result<Option<Model>, NoMemory> {
+        if !matches!(ask, Ask::Checkpoint) && !(self.takes(ask) && self.counts.is_full()) {
+            return Ok(None);
+        }
+        let mut model = self.copy(alloc)?;
+        model.counts.flush();
+        Ok(Some(model))
+    }
+
+    /// Whether a request may be answered `no space`.
+    fn may_lack_space(&self, ask: &Ask) -> bool {
+        if matches!(ask, Ask::Checkpoint) {
+            self.counts.may_lack_space_to_flush()
+        } else {
+            self.takes(ask) && self.counts.may_lack_space()
+        }
+    }
+
+    /// What failures of devices tell of the record.
+    pub fn heed(&mut self, failures: &Failures) {
+        self.counts.narrow(failures.drives(), failures.nvrams());
+    }
+
+    /// Whether a request was answered `no space`.
+    pub fn lacked_space(&self) -> bool {
+        self.counts.lacked_space()
+    }
+
+    /// How an output goes on with the reply to a request, and the array by it. Where three drives fail meanwhile, sectors may be out of reach of a read.
+    pub fn hear(
+        &mut self,
+        alloc: Global,
+        ask: &Ask,
+        rest: &[u8],
+        three_fail: bool,
+    ) -> Result<Heard, NoMemory> {
+        if three_fail && ask.is_read() && rest.starts_with(NO_DEVICE) {
+            return Ok(Heard::Whole(NO_DEVICE.len()));
+        }
+        if rest.starts_with(NO_SPACE) && self.may_lack_space(ask) {
+            self.counts.lack_space();
+            return Ok(Heard::Whole(NO_SPACE.len()));
+        }
+        if matches!(ask, Ask::Status) {
+            return Ok(self.hear_status(rest));
+        }
+        let mut reply = Vec::new(alloc);
+        self.push_reply(alloc, ask, &mut reply)?;
+        let heard = heard_as(&reply, rest);
+        if matches!(heard, Heard::Whole(_)) {
+            self.apply(alloc, ask)?;
+        }
+        Ok(heard)
+    }
+
+    /// How an output goes on with the reply to a status.
+    fn hear_status(&mut self, rest: &[u8]) -> Heard {
+        if rest.is_empty() {
+            return Heard::Part;
+        }
+        let objects = self.volumes.len() as u64;
+        match numbers_of(rest) {
+            Some((numbers, size)) => if self.counts.see(&numbers, objects) {
+                Heard::Whole(size)
+            } else {
+                Heard::Other
+            },
+            None => Heard::Other,
+        }
+    }
+
+    /// Does a request that is accepted.
+    fn change(&mut self, alloc: Global, ask: &Ask) -> Result<(), NoMemory> {
         match *ask {
             Ask::Create { volume, sectors } => {
                 let sectors = Vec::from_elem(alloc, Pattern::filled(0), sectors as usize)?;

@@ -57,6 +57,8 @@ pub enum Ask {
     Fill { range: Range, byte: u8 },
     Read { range: Range },
     List,
+    Status,
+    Checkpoint,
     /// A line that is no request.
     Nonsense,
 }
@@ -86,6 +88,8 @@ impl Ask {
                 push(text, &format!(in alloc; "read v{volume} {lba} {count}\n")?)
             }
             Ask::List => push(text, "list\n"),
+            Ask::Status => push(text, "status\n"),
+            Ask::Checkpoint => push(text, "checkpoint\n"),
             Ask::Nonsense => push(text, "list v1\n"),
         }
     }
@@ -137,8 +141,17 @@ fn range_in(random: &mut Random, known: Known) -> Range {
     }
 }
 
-/// A request by chance, of one of these volumes where there are some, and mostly one that isn't refused.
+/// A request by chance: now and then a checkpoint or a status, and else of sectors or names.
 pub fn any_ask(random: &mut Random, known: &[Known]) -> Ask {
+    match random.below(100) {
+        0..=2 => Ask::Checkpoint,
+        3 | 4 => Ask::Status,
+        _ => any_use(random, known),
+    }
+}
+
+/// A request by chance of one of these volumes where there are some, and mostly one that isn't refused.
+fn any_use(random: &mut Random, known: &[Known]) -> Ask {
     let count = known.len() as u64;
     let stranger = Known {
         volume: random.byte_below(VOLUMES),

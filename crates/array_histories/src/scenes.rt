@@ -1,7 +1,8 @@
 // What happens in a row, where a slip of the engine would show.
-use crate::devices::{any_drive, fail, let_fail, pull, put_back};
+use crate::devices::{Failures, any_drive, fail, let_fail, pull, put_back};
 use crate::history::{History, Left, Told, Trouble, init_for};
 use crate::model::Model;
+use crate::request::Ask;
 use pur_base::{Device, NvId, Status};
 use world_mem::MemWorld;
 
@@ -13,6 +14,9 @@ const NEAR: u64 = 14;
 
 /// A drive that may fail does so at one of so many calls: an opening has two, and its store seven.
 const NEAR_STORE: u64 = 10;
+
+/// The most requests behind which checkpoints are asked for, in a row.
+const PAIRS: u64 = 64;
 
 /// The other NVRAM device.
 fn other_than(nvram: Device) -> Device {
@@ -54,6 +58,7 @@ impl History {
     ) -> Result<MemWorld, Trouble> {
         let mut world = self.ask_quietly(world, told)?;
         self.written.blank_drives(&mut world);
+        self.failures = Failures::new();
         self.arrays.clear();
         self.arrays.push(Model::new(self.alloc))?;
         let Left { world, status, .. } = init_for(self.alloc, world, u64::MAX);
@@ -82,6 +87,17 @@ impl History {
         put_back(&mut world, first);
         put_back(&mut world, second);
         Ok(world)
+    }
+
+    /// Behind each request a checkpoint is asked for, until there is no room for more or a stop comes.
+    pub(crate) fn use_up(&mut self, world: MemWorld, told: &mut Told) -> Result<MemWorld, Trouble> {
+        let mut asks = Vec::new(self.alloc);
+        for ask in &self.some_asks(PAIRS)? {
+            asks.push(*ask)?;
+            asks.push(Ask::Checkpoint)?;
+        }
+        let calls = self.calls_of_long_session();
+        self.serve_quietly(world, &asks, calls, told)
     }
 
     /// The NVRAM device that may fail is away for a session or two, and comes back.

@@ -1,30 +1,47 @@
-// A command behind a full log, which makes a checkpoint first, and what the next session reads.
+// Checkpoints that are stopped, and what the next session reads: of a command behind a full log, which makes one first, and one that is asked for.
 use crate::stage::{cut_off, filling, new_world, pull_drive, reads_fills, session};
 use crate::stopping::OPENING;
 use std::alloc::Global;
 use std::test::Fail;
 use world_mem::MemWorld;
 
+/// A request that makes a checkpoint, of an array of a create and so many fills, and how many fills there are behind it.
+#[derive(Clone, Copy)]
+struct Making {
+    request: &'static [u8],
+    before: u8,
+    after: u8,
+}
+
 /// A command that finds no free slot.
-const BEHIND: &[u8] = b"fill a 63 1 64\n";
+const BEHIND: Making = Making {
+    request: b"fill a 63 1 64\n",
+    before: 63,
+    after: 64,
+};
 
-/// So many stops are tried in a row.
-const STOPS: u8 = 50;
+/// A checkpoint that is asked for.
+const ASKED: Making = Making {
+    request: b"checkpoint\n",
+    before: 2,
+    after: 2,
+};
 
-/// An array with a full log, of a create and 63 fills.
-fn full(alloc: Global) -> Result<MemWorld, Fail> {
+/// An array of a create and so many fills.
+fn world_of(alloc: Global, fills: u8) -> Result<MemWorld, Fail> {
     let mut world = new_world(alloc)?;
-    let (_, given) = session(alloc, &mut world, &filling(alloc, 63)?)?;
-    if given.len() != 3 * 64 {
+    let (_, given) = session(alloc, &mut world, &filling(alloc, fills)?)?;
+    if given.len() != 3 * (1 + fills as usize) {
         return Err(Fail::new("fills"));
     }
     Ok(world)
 }
 
-/// Whether it goes wrong to stop the command behind so many calls: where it was answered it has to be there, and else may be there or not.
+/// Whether it goes wrong to stop the request behind so many calls: where it was answered its effect has to be there, and else may be there or not.
 /// By turns two drives are away then.
-fn goes_wrong(alloc: Global, calls: u64) -> Result<bool, Fail> {
-    let left = cut_off(alloc, full(alloc)?, BEHIND, OPENING.wrapping_add(calls))?;
+fn goes_wrong(alloc: Global, making: Making, calls: u64) -> Result<bool, Fail> {
+    let world = world_of(alloc, making.before)?;
+    let left = cut_off(alloc, world, making.request, OPENING.wrapping_add(calls))?;
     let mut world = left.world;
     if calls % 2 == 1 {
         pull_drive(&mut world, 0)?;
@@ -34,49 +51,84 @@ fn goes_wrong(alloc: Global, calls: u64) -> Result<bool, Fail> {
     if is_done == left.is_cut {
         return Ok(true);
     }
-    if reads_fills(alloc, &mut world, 64)? {
+    if reads_fills(alloc, &mut world, making.after)? {
         return Ok(false);
     }
-    Ok(is_done || !reads_fills(alloc, &mut world, 63)?)
+    Ok(is_done || !reads_fills(alloc, &mut world, making.before)?)
 }
 
-/// Stops the command behind so many calls and more: behind how many that goes wrong.
-fn wrong_behind(alloc: Global, from: u64) -> Result<Option<u64>, Fail> {
-    for i in 0..STOPS {
+/// Stops the request so many times, each behind one call more: behind how many that goes wrong.
+fn wrong_behind(alloc: Global, making: Making, from: u64, stops: u8) -> Result<Option<u64>, Fail> {
+    for i in 0..stops {
         let calls = from.wrapping_add(u64::from(i));
-        if goes_wrong(alloc, calls)? {
+        if goes_wrong(alloc, making, calls)? {
             return Ok(Some(calls));
         }
     }
     Ok(None)
 }
 
+/// Whether the request makes so many calls.
+fn makes_calls(alloc: Global, making: Making, calls: u64) -> Result<bool, Fail> {
+    let most = OPENING.wrapping_add(calls);
+    let whole = cut_off(alloc, world_of(alloc, making.before)?, making.request, most)?;
+    let short = cut_off(
+        alloc,
+        world_of(alloc, making.before)?,
+        making.request,
+        most.wrapping_sub(1),
+    )?;
+    Ok(short.is_cut && !whole.is_cut)
+}
+
+#[test]
+fn a_command_behind_a_full_log_is_stopped_behind_0_calls_and_more(
+    rt: HostRuntime,
+) -> Result<(), Fail> {
+    assert_eq!(rt; wrong_behind(rt.alloc(), BEHIND, 0, 51)?, None);
+    Ok(())
+}
+
+#[test]
+fn a_command_behind_a_full_log_is_stopped_behind_51_calls_and_more(
+    rt: HostRuntime,
+) -> Result<(), Fail> {
+    assert_eq!(rt; wrong_behind(rt.alloc(), BEHIND, 51, 51)?, None);
+    Ok(())
+}
+
+#[test]
+fn a_command_behind_a_full_log_is_stopped_behind_102_calls_and_more(
+    rt: HostRuntime,
+) -> Result<(), Fail> {
+    assert_eq!(rt; wrong_behind(rt.alloc(), BEHIND, 102, 51)?, None);
+    Ok(())
+}
+
+#[test]
+fn a_command_behind_a_full_log_is_stopped_behind_153_calls_and_more(
+    rt: HostRuntime,
+) -> Result<(), Fail> {
+    assert_eq!(rt; wrong_behind(rt.alloc(), BEHIND, 153, 51)?, None);
+    Ok(())
+}
+
 #[test]
 fn a_checkpoint_is_stopped_behind_0_calls_and_more(rt: HostRuntime) -> Result<(), Fail> {
-    assert_eq!(rt; wrong_behind(rt.alloc(), 0)?, None);
+    assert_eq!(rt; wrong_behind(rt.alloc(), ASKED, 0, 97)?, None);
     Ok(())
 }
 
 #[test]
-fn a_checkpoint_is_stopped_behind_50_calls_and_more(rt: HostRuntime) -> Result<(), Fail> {
-    assert_eq!(rt; wrong_behind(rt.alloc(), 50)?, None);
+fn a_checkpoint_is_stopped_behind_97_calls_and_more(rt: HostRuntime) -> Result<(), Fail> {
+    assert_eq!(rt; wrong_behind(rt.alloc(), ASKED, 97, 97)?, None);
     Ok(())
 }
 
 #[test]
-fn a_checkpoint_is_stopped_behind_100_calls_and_more(rt: HostRuntime) -> Result<(), Fail> {
-    assert_eq!(rt; wrong_behind(rt.alloc(), 100)?, None);
-    Ok(())
-}
-
-#[test]
-fn a_checkpoint_is_stopped_behind_150_calls_and_more(rt: HostRuntime) -> Result<(), Fail> {
-    assert_eq!(rt; wrong_behind(rt.alloc(), 150)?, None);
-    Ok(())
-}
-
-#[test]
-fn a_checkpoint_is_stopped_behind_200_calls_and_more(rt: HostRuntime) -> Result<(), Fail> {
-    assert_eq!(rt; wrong_behind(rt.alloc(), 200)?, None);
+fn checkpoints_are_stopped_behind_each_of_their_calls(rt: HostRuntime) -> Result<(), Fail> {
+    // The second one is made by a command, which is appended behind it.
+    assert!(rt; makes_calls(rt.alloc(), ASKED, 193)?);
+    assert!(rt; makes_calls(rt.alloc(), BEHIND, 193 + 8)?);
     Ok(())
 }

@@ -73,14 +73,19 @@ fn an_nvram_device_fails_in_an_append(rt: HostRuntime) -> Result<(), Fail> {
     Ok(())
 }
 
-/// Whether the third fill is answered by `no device` where these calls on both NVRAM devices fail, the next request by `no halted`,
+/// Whether the third fill is answered by `no device` where these calls on both NVRAM devices fail, the next requests by `no halted`,
 /// and a later session reads the array without the fill or with it.
 fn halts(alloc: Global, first: u64, second: u64) -> Result<bool, Fail> {
     let mut world = filled_world(alloc)?;
     fail_nvram(&mut world, 0, first)?;
     fail_nvram(&mut world, 1, second)?;
-    let (status, given) = session(alloc, &mut world, b"fill a 2 1 3\nread a 0 1\n")?;
-    if status != Status::Halted || given.as_slice() != b"no device\nno halted\n".as_slice() {
+    let (status, given) = session(
+        alloc,
+        &mut world,
+        b"fill a 2 1 3\nread a 0 1\ncheckpoint\nstatus\n",
+    )?;
+    let wanted = b"no device\nno halted\nno halted\nno halted\n".as_slice();
+    if status != Status::Halted || given.as_slice() != wanted {
         return Ok(false);
     }
     Ok(reads_fills(alloc, &mut world, 2)? || reads_fills(alloc, &mut world, 3)?)
@@ -159,5 +164,38 @@ fn drives_are_lost_in_a_store(rt: HostRuntime) -> Result<(), Fail> {
             assert!(rt; outlives_store(rt.alloc(), call, second)?, "at {call}");
         }
     }
+    Ok(())
+}
+
+/// A session with a checkpoint, at the first write of which so many drives fail.
+fn checkpoint_losing(
+    alloc: Global,
+    world: &mut MemWorld,
+    drives: u8,
+) -> Result<(Status, Vec<u8>), Fail> {
+    for drive in 0..drives {
+        fail_drive(world, drive, STORE[0])?;
+    }
+    session(alloc, world, b"checkpoint\nlist\n")
+}
+
+#[test]
+fn drives_are_lost_in_a_checkpoint(rt: HostRuntime) -> Result<(), Fail> {
+    let alloc = rt.alloc();
+    let mut world = filled_world(alloc)?;
+    let (status, given) = checkpoint_losing(alloc, &mut world, 2)?;
+    assert_eq!(rt; status, Status::Done);
+    assert!(rt; given.as_slice() == b"ok\nnames 1\na volume 64\n".as_slice());
+    let drives = members_of(alloc, &mut world)?.drives;
+    assert_eq!(rt; [drives[0], drives[1], drives[2]], [false, false, true]);
+    pull_drive(&mut world, 0)?;
+    pull_drive(&mut world, 1)?;
+    assert!(rt; reads_fills(alloc, &mut world, 2)?);
+    // A third one is one too many.
+    let mut world = filled_world(alloc)?;
+    let (status, given) = checkpoint_losing(alloc, &mut world, 3)?;
+    assert_eq!(rt; status, Status::Halted);
+    assert!(rt; given.as_slice() == b"no device\nno halted\n".as_slice());
+    assert!(rt; reads_fills(alloc, &mut world, 2)?);
     Ok(())
 }

@@ -16,5 +16,7 @@ mod stage;
 mod stopping;
 #[cfg(test)]
 mod tables;
+#[cfg(test)]
+mod transcripts;
 
 fn main(_rt: HostRuntime) {}

@@ -1,0 +1,226 @@
+// What is known of an array beside its volumes, and what a status may say of it.
+
+/// The slots of the log.
+const SLOTS: u64 = 64;
+
+/// What a checkpoint takes at most: data segments, and segments of patches.
+const DATA_SEGMENTS: u64 = 6;
+
+const PATCH_SEGMENTS: u64 = 5;
+
+/// The most sectors of a data segment.
+const SEGMENT_SECTORS: u64 = 840;
+
+/// The units of a drive that segments may take.
+const FREE_UNITS: u64 = 61;
+
+/// The groups that are asked for where a command is added, and where a checkpoint is asked for.
+const ADDING_GROUPS: u64 = 24;
+
+const CHECKPOINT_GROUPS: u64 = 12;
+
+/// For so many segments a new array has room.
+const ROOM: u64 = 74;
+
+/// How many devices of a kind the record may name.
+#[derive(Clone, Copy)]
+struct Members {
+    least: u64,
+    most: u64,
+}
+
+impl Members {
+    /// Of so many where so many may be left out, and so many must be.
+    fn narrow(&mut self, all: u64, may: u64, must: u64) {
+        self.least = all.saturating_sub(may);
+        self.most = self.most.min(all.saturating_sub(must));
+    }
+
+    /// Whether it may name so many. None joins, so that it names no more from now on.
+    fn see(&mut self, shown: u64) -> bool {
+        let is_right = self.least <= shown && shown <= self.most;
+        self.most = shown;
+        is_right
+    }
+}
+
+/// The drives, of which nine are named at least, and the NVRAM devices, of which one is.
+const DRIVES: u64 = 11;
+
+const NVRAMS: u64 = 2;
+
+/// What is known of an array's log, of its checkpoints and of its record.
+#[derive(Clone, Copy)]
+pub struct Counts {
+    /// The slots of the log that are taken.
+    logged: u64,
+    /// The checkpoints that were made.
+    flushes: u64,
+    /// The drives and the NVRAM devices that the record may name.
+    drives: Members,
+    nvrams: Members,
+    /// No record of a lower generation is in force.
+    generation: u64,
+    /// Whether room was ever wanted.
+    lacked_space: bool,
+}
+
+/// The numbers of a status.
+#[derive(Clone, Copy)]
+pub struct Numbers {
+    of: [u64; 10],
+}
+
+impl Counts {
+    /// Of a new array.
+    pub fn new() -> Counts {
+        Counts {
+            logged: 0,
+            flushes: 0,
+            drives: Members {
+                least: DRIVES,
+                most: DRIVES,
+            },
+            nvrams: Members {
+                least: NVRAMS,
+                most: NVRAMS,
+            },
+            generation: 1,
+            lacked_space: false,
+        }
+    }
+
+    /// So many drives and NVRAM devices may be left out, and so many must be.
+    pub fn narrow(&mut self, drives: (u64, u64), nvrams: (u64, u64)) {
+        self.drives.narrow(DRIVES, drives.0.min(2), drives.1);
+        self.nvrams.narrow(NVRAMS, nvrams.0.min(1), nvrams.1);
+    }
+
+    /// Whether no slot of the log is free.
+    pub fn is_full(&self) -> bool {
+        self.logged >= SLOTS
+    }
+
+    /// Whether room was ever wanted.
+    pub fn lacked_space(&self) -> bool {
+        self.lacked_space
+    }
+
+    /// Room is wanted.
+    pub fn lack_space(&mut self) {
+        self.lacked_space = true;
+    }
+
+    /// A checkpoint is made.
+    pub fn flush(&mut self) {
+        self.logged = 0;
+        self.flushes = self.flushes.saturating_add(1);
+    }
+
+    /// A command is logged, behind a checkpoint where no slot is free.
+    pub fn log(&mut self) {
+        if self.is_full() {
+            self.flush();
+        }
+        self.logged = self.logged.saturating_add(1);
+    }
+
+    /// So many segments were given at most, each of which has a unit of a drive at most.
+    fn given(&self) -> u64 {
+        self.flushes.saturating_mul(DATA_SEGMENTS + PATCH_SEGMENTS)
+    }
+
+    /// For so many more segments there is room at least, by whatever nine drives.
+    fn groups(&self) -> u64 {
+        FREE_UNITS.saturating_sub(self.given())
+    }
+
+    /// Whether room may be wanted where a command is added.
+    pub fn may_lack_space(&self) -> bool {
+        self.groups() < ADDING_GROUPS
+    }
+
+    /// Whether room may be wanted where a checkpoint is asked for.
+    pub fn may_lack_space_to_flush(&self) -> bool {
+        self.groups() < CHECKPOINT_GROUPS
+    }
+
+    /// Sees the numbers of a status, of an array of so many objects: whether they may be its own.
+    pub fn see(&mut self, numbers: &Numbers, objects: u64) -> bool {
+        let [
+            controller,
+            shown,
+            groups,
+            drives,
+            nvrams,
+            free,
+            segments,
+            patch_segments,
+            placed,
+            generation,
+        ] = numbers.of;
+        let is_right = controller == 0
+            && shown == objects
+            && free == SLOTS.saturating_sub(self.logged)
+            && self.is_room(groups, segments, patch_segments, placed)
+            && self.generation <= generation;
+        self.generation = generation;
+        let has_drives = self.drives.see(drives);
+        let has_nvrams = self.nvrams.see(nvrams);
+        is_right && has_drives && has_nvrams
+    }
+
+    /// Whether the checkpoints may have left so much room, and made so many segments.
+    fn is_room(&self, groups: u64, segments: u64, patch_segments: u64, placed: u64) -> bool {
+        self.groups() <= groups
+            && groups <= ROOM
+            && segments <= self.flushes.saturating_mul(DATA_SEGMENTS)
+            && patch_segments <= self.flushes.saturating_mul(PATCH_SEGMENTS)
+            && placed <= segments.saturating_mul(SEGMENT_SECTORS)
+            && segments <= placed
+    }
+}
+
+/// The number that digits are, and how many they are.
+fn number_of(text: &[u8]) -> Option<(u64, usize)> {
+    let mut number = 0u64;
+    let mut digits = 0usize;
+    for byte in text {
+        if !byte.is_ascii_digit() {
+            break;
+        }
+        number = number
+            .wrapping_mul(10)
+            .wrapping_add(u64::from(*byte - b'0'));
+        digits = digits.wrapping_add(1);
+    }
+    if digits == 0 {
+        None
+    } else {
+        Some((number, digits))
+    }
+}
+
+/// What stands in front of the numbers of a status.
+const STATUS: &[u8] = b"status";
+
+/// The ten numbers of a status with which a text begins, and how long the reply is.
+pub fn numbers_of(text: &[u8]) -> Option<(Numbers, usize)> {
+    if !text.starts_with(STATUS) {
+        return None;
+    }
+    let mut at = STATUS.len();
+    let mut of = [0; 10];
+    for place in 0..10 {
+        if text.get(at) != Some(&b' ') {
+            return None;
+        }
+        let (number, digits) = number_of(text.get(at.wrapping_add(1)..)?)?;
+        of[place] = number;
+        at = at.wrapping_add(1).wrapping_add(digits);
+    }
+    if text.get(at) != Some(&b'\n') {
+        return None;
+    }
+    Some((Numbers { of }, at.wrapping_add(1)))
+}
