@@ -43,7 +43,7 @@ fn requests(alloc: Global) -> Result<Vec<u8>, NoMemory> {
     Ok(input)
 }
 
-/// A checkpoint behind a fill, and one behind a full log of fills of 64 sectors each. What stood in the log before is brought to the drives first.
+/// A checkpoint behind a fill, and one behind a full log of fills of 64 sectors each, and then a merge. What stood in the log before is brought to the drives first.
 fn checkpoints(alloc: Global) -> Result<Vec<u8>, NoMemory> {
     let mut input = Vec::from_slice(alloc, b"create b 4097\ncheckpoint\n")?;
     input.extend_from_slice(b"fill b 4096 1 1\ncheckpoint\n")?;
@@ -51,7 +51,7 @@ fn checkpoints(alloc: Global) -> Result<Vec<u8>, NoMemory> {
         let line = format!(in alloc; "fill b {} {COUNT} 1\n", n * COUNT)?;
         input.extend_from_slice(line.as_bytes())?;
     }
-    input.extend_from_slice(b"checkpoint\n")?;
+    input.extend_from_slice(b"checkpoint\nmerge address 0\n")?;
     Ok(input)
 }
 
@@ -74,6 +74,7 @@ pub fn lines(alloc: Global) -> Result<Vec<Line>, NoMemory> {
     session(alloc, &mut world, &checkpoints(alloc)?)?;
     lines.push(line_of("checkpoint behind a fill", &world, 4))?;
     lines.push(line_of("checkpoint behind 64 fills of 64 sectors", &world, 69))?;
+    lines.push(line_of("merge of two patches of a segment each", &world, 70))?;
     world.fail(Device::Nv(NvId(1)), OPENING + 1)?;
     session(alloc, &mut world, b"fill a 1 1 2\n")?;
     lines.push(line_of("fill, where an NVRAM device fails", &world, 1))?;

@@ -57,7 +57,7 @@ pub record IsFreeByte (boot : BootRecord) (tables : Facts) (device : Device) (i 
   pub free : IsFree boot tables slot (i / 65536)
 
 -- such are the bytes of write units of new units
-free_byte : (boot : BootRecord) (tables : Facts) (places : List Place) → AreUnitsToTake boot tables places → (device : Device) (i : ℕ) → OnUnits places 0 (STRIPES + 1) device i → IsFreeByte boot tables device i
+pub free_byte : (boot : BootRecord) (tables : Facts) (places : List Place) → AreUnitsToTake boot tables places → (device : Device) (i : ℕ) → OnUnits places 0 (STRIPES + 1) device i → IsFreeByte boot tables device i
 free_byte boot tables places h device i (shard, less, (same, range)) =
     let p : Place = place_of places shard in
     let c : Contains places p = in_at places shard _ (let nine = h.lawful.nine in omega (arith, nine, less)) in
@@ -70,7 +70,25 @@ free_byte boot tables places h device i (shard, less, (same, range)) =
       free = subst (λ u. IsFree boot tables p.slot u) (sym own) (of_each (λ q. IsFree boot tables q.slot q.unit) places p h.free c);
     }
 
--- and so all that a checkpoint writes
+-- where such bytes alone are written no unit is that a segment uses,
+pub spares_used_by : (boot : BootRecord) (tables : Facts) (W : Device → ℕ → Type 0) → ((device : Device) (i : ℕ) → W device i → IsFreeByte boot tables device i) → SparesUsed boot tables W
+spares_used_by boot tables W free place used at own w =
+    let f = free (drive place.slot) at w in
+    let slot : f.slot ≡ place.slot = sym (ap (λ (d : DriveId). d.0) (same_drive (record { 0 = place.slot }) (record { 0 = f.slot }) f.same)) in
+    both_not (is_used boot tables place.slot place.unit) used
+    (subst (λ u. is_used boot tables place.slot u ≡ false) own (subst (λ s. is_used boot tables s (at / 65536) ≡ false) slot f.free.unused))
+
+-- and they are on drives on which the record is in force
+pub on_free : (r : Register) (held : Content) (tables : Facts) → r.record.members.drives ≡ r.drives
+    → ((slot unit : ℕ) → IsFree r.record tables slot unit → IsFree r.record (all_facts held.patches) slot unit)
+    → (device : Device) (i : ℕ) → IsFreeByte r.record tables device i → OnFree r held device i
+on_free r held tables all free device i f =
+    subst (λ d. OnFree r held d i) (sym f.same) (
+      cut_in r.drives r.record.slots f.slot f.within (subst (λ (flags : List Bool). slice_index_or flags f.slot false ≡ true) all f.named),
+      free f.slot (i / 65536) f.free,
+    )
+
+-- such is all that a checkpoint writes
 module _ (boot : BootRecord) (m : Memory) (p : Plan) (counts : Counts) (first : ℕ) (units : List (List Place)) (long : segments_of counts ≡ length units)
     (new : AreNewUnits boot (facts m.tables) (units_of p ++ units)) where
   only_free_bytes : (device : Device) (i : ℕ) → OnCheckpoint p.segments.items (added_patches counts first units) device i → IsFreeByte boot (facts m.tables) device i
@@ -83,23 +101,14 @@ module _ (boot : BootRecord) (m : Memory) (p : Plan) (counts : Counts) (first : 
 
   -- no unit that a segment uses is written
   pub spares_used : SparesUsed boot (facts m.tables) (OnCheckpoint p.segments.items (added_patches counts first units))
-  spares_used place used at own w =
-      let f = only_free_bytes (drive place.slot) at w in
-      let slot : f.slot ≡ place.slot = sym (ap (λ (d : DriveId). d.0) (same_drive (record { 0 = place.slot }) (record { 0 = f.slot }) f.same)) in
-      both_not (is_used boot (facts m.tables) place.slot place.unit) used
-      (subst (λ u. is_used boot (facts m.tables) place.slot u ≡ false) own (subst (λ s. is_used boot (facts m.tables) s (at / 65536) ≡ false) slot f.free.unused))
+  spares_used = spares_used_by boot (facts m.tables) (OnCheckpoint p.segments.items (added_patches counts first units)) only_free_bytes
 
 -- a checkpoint writes only units that are free, on drives on which the record is in force
 pub only_free : (r : Register) (held : Content) (m : Memory) (p : Plan) (counts : Counts) (first : ℕ) (units : List (List Place)) → r.record.members.drives ≡ r.drives
     → ((slot unit : ℕ) → IsFree r.record (facts m.tables) slot unit → IsFree r.record (all_facts held.patches) slot unit)
     → segments_of counts ≡ length units → AreNewUnits r.record (facts m.tables) (units_of p ++ units)
     → (device : Device) (i : ℕ) → OnCheckpoint p.segments.items (added_patches counts first units) device i → OnFree r held device i
-only_free r held m p counts first units all free long new device i w =
-    let f = only_free_bytes r.record m p counts first units long new device i w in
-    subst (λ d. OnFree r held d i) (sym f.same) (
-      cut_in r.drives r.record.slots f.slot f.within (subst (λ (flags : List Bool). slice_index_or flags f.slot false ≡ true) all f.named),
-      free f.slot (i / 65536) f.free,
-    )
+only_free r held m p counts first units all free long new device i w = on_free r held (facts m.tables) all free device i (only_free_bytes r.record m p counts first units long new device i w)
 
 -- no NVRAM device is called
 pub nvrams_stay : (p : Plan) (counts : Counts) (first : ℕ) (units : List (List Place)) (old new : Shelved) → OthersStayOfCheckpoint p.segments.items (added_patches counts first units) old new

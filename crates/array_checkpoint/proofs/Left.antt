@@ -3,11 +3,13 @@ use Rattle.std.proofs.Common.{◌≡◌, inl, inr, ℕ, ◌<◌, List, sym, subs
 use Rattle.std.specs.Prelude.{slice_index_or}
 use Rattle.std.specs.List.{AllByRecursion}
 use Rattle.pur_base.specs.Devices.{Image, View, drive}
+use Rattle.pur_base.specs.declared.device.Device.{Device}
 use Rattle.pur_base.specs.declared.facts.SegmentFact.{SegmentFact}
 use Rattle.stored_spec.specs.Held.{AreEnough}
 use Rattle.free_space.specs.Map.{shelf_of}
 use Rattle.world.specs.Shelf.{Shelved, Continues}
 use Rattle.world.specs.Losing.{geometry_of}
+use Rattle.world.specs.Writes.{WritesOnly}
 use Rattle.boot_region.specs.Members.{IsMember}
 use Rattle.register.specs.declared.state.Register.{Register}
 use Rattle.register.specs.Registers.{drives_of}
@@ -55,11 +57,23 @@ module _ (r : Register) (image : Image) (lost left : List Bool) (fewer : AreLeft
 pub own_size : (shelf : Shelved) (x : Array) → IsArrayOf (geometry_of shelf) x → geometry_of shelf ≡ shelf_of x.register.record
 own_size shelf x of = sym (same_shelf (geometry_of shelf) x of)
 
+module _ (a b : Shelved) (x : Array) (of : IsArrayOf (geometry_of a) x) (on : Continues a b) (lost left : List Bool) (fewer : AreLeft x.register lost left)
+    (members : View) (among : AreAmong left (bytes_of b) members) (enough : AreEnough (geometry_of b) members) where
+  pub enough_before : AreEnough (geometry_of a) members
+  enough_before = subst (λ g. AreEnough g members) (sym (same_geometry on)) enough
+
+  -- what segments held stands still, where no unit was written that one uses
+  pub still_held : (W : Device → ℕ → Type 0) → WritesOnly W a b → SparesUsed x.register.record (facts x.memory.memory.tables) W
+      → (contents : Contents) → SegmentsHold contents a x.register (facts x.memory.memory.tables) → ContentsStand contents members (facts x.memory.memory.tables)
+  still_held W writes spares contents hold =
+      contents_stay (geometry_of a) a b x.register members (among_record x.register (bytes_of b) lost left fewer members among) x.register.record (facts x.memory.memory.tables) W enough_before writes spares
+      (subst (λ n. AllByRecursion (λ (f : SegmentFact). f.segment.0 < n) (facts x.memory.memory.tables).segments) of.segment_ids of.sound.ids.segments) of.segments.places contents hold
+
 module _ (a b : Shelved) (x : Array) (q : Prepared) (of : IsArrayOf (geometry_of a) x) (h : IsPreparedFor x q) (on : Continues a b) (lost : List Bool)
     (w : Wrote a b q.plan q.added x.memory.memory.staged lost) (left : List Bool) (fewer : AreLeft x.register lost left)
     (members : View) (among : AreAmong left (bytes_of b) members) (enough : AreEnough (geometry_of b) members) where
   pub enough_then : AreEnough (geometry_of a) members
-  enough_then = subst (λ g. AreEnough g members) (sym (same_geometry on)) enough
+  enough_then = enough_before a b x of on lost left fewer members among enough
 
   -- the sectors that were placed stand
   pub data_stand : DataStands members q.plan.segments.items x.memory.memory.staged q.plan.placing.order.items
@@ -73,10 +87,7 @@ module _ (a b : Shelved) (x : Array) (q : Prepared) (of : IsArrayOf (geometry_of
 
   -- and those of before stand still
   still_stand : (contents : Contents) → SegmentsHold contents a x.register (facts x.memory.memory.tables) → ContentsStand contents members (facts x.memory.memory.tables)
-  still_stand contents hold =
-      contents_stay (geometry_of a) a b x.register members (among_record x.register (bytes_of b) lost left fewer members among) x.register.record (facts x.memory.memory.tables)
-      (OnCheckpoint q.plan.segments.items q.added) enough_then w.writes spares
-      (subst (λ n. AllByRecursion (λ (f : SegmentFact). f.segment.0 < n) (facts x.memory.memory.tables).segments) of.segment_ids of.sound.ids.segments) of.segments.places contents hold
+  still_stand contents hold = still_held a b x of on lost left fewer members among enough (OnCheckpoint q.plan.segments.items q.added) w.writes spares contents hold
 
   pub both_stand : (contents : Contents) → SegmentsHold contents a x.register (facts x.memory.memory.tables) → ContentsStand (contents_after x.memory.memory q.plan contents) members (facts_after x.memory.memory q.plan)
   both_stand contents hold =

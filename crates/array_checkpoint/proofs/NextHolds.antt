@@ -47,7 +47,7 @@ use Rattle.array_checkpoint.proofs.Left.{AreLeft, among_record, both_stand, data
 use Rattle.array_checkpoint.proofs.Next.{same_segment}
 use Rattle.array_checkpoint.proofs.NextRecord.{record_of_memory, tables_are}
 use Rattle.array_checkpoint.proofs.ShownUnits.{shows_patch}
-use Rattle.array_checkpoint.proofs.Stays.{tables_stay}
+use Rattle.array_checkpoint.proofs.Stays.{tables_hold}
 use Rattle.array_checkpoint.proofs.UnitLists.{in_get}
 use Rattle.array_checkpoint.proofs.Units.{new_segment}
 use Rattle.array_checkpoint.proofs.Wrote.{Wrote}
@@ -70,8 +70,8 @@ module _ (a b : Shelved) (is : IsShelf a) (is_b : IsShelf b) (honest : a.honest)
   module _ (members : View) (among : AreAmong left (bytes_of b) members) (enough : AreEnough (geometry_of b) members) where
     -- the tables of the record stand still
     old : TablesStand (geometry_of b) members x.register.record held.patches
-    old = tables_stay b x.register x.log.members held is_b (on.honest honest)
-        (free_writes_leave a b is honest x.register x.register x.log.members held ready.is_open free refl (λ i m. m)) members (among_record x.register (bytes_of b) lost left fewer members among) enough
+    old = (tables_hold b x.register x.log.members held is_b (on.honest honest)
+        (free_writes_leave a b is honest x.register x.register x.log.members held ready.is_open free refl (λ i m. m)) members (among_record x.register (bytes_of b) lost left fewer members among) enough).0
 
     -- and the new patches stand
     new_patch : (i : ℕ) (p : Patch) (fs : List AnyFact) → slice_get (added_patches h.counts x.memory.memory.next.patch_segment h.units) i ≡ Some p → slice_get (new_facts q.plan) i ≡ Some fs → PatchStands members p fs

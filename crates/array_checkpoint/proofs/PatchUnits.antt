@@ -25,7 +25,8 @@ use Rattle.memory_spec.proofs.Lists.{each_by_recursion, of_each}
 use Rattle.checkpoint_spec.specs.Whole.{IsNamed}
 use Rattle.array_memory.specs.declared.plan.Counts.{Counts}
 use Rattle.array_memory.specs.declared.plan.Plan.{Plan}
-use Rattle.array_memory.specs.Lasting.{AreLawfulPatches, ArePatchFacts}
+use Rattle.checkpoint_plan.specs.Patches.{ArePatchFacts}
+use Rattle.array_memory.specs.Lasting.{AreLawfulPatches}
 use Rattle.array_memory.specs.Plan.{AreCounts, units_of}
 use Rattle.world.specs.Losing.{geometry_of}
 use Rattle.world.specs.Shelf.{Shelved}

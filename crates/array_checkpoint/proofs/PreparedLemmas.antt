@@ -158,12 +158,16 @@ module _ (shelf : Geometry) (a : Array) (is : IsArrayOf shelf a) where
     pub map_of_facts : IsMapOf a.register.record (facts a.memory.memory.tables) map
     map_of_facts = of (facts a.memory.memory.tables) (ap (λ (n : ℕ). segments (facts a.memory.memory.tables) n) (sym is.segment_ids) ∙ said)
 
-    pub many_groups : ((g : ℕ) → HasGroups a g → 12 ≤ g) → (g : ℕ) → IsGroups map g → 12 ≤ g
-    many_groups many g groups =
+    -- its groups are those that the array has
+    pub has_groups : (g : ℕ) → IsGroups map g → HasGroups a g
+    has_groups g groups =
         let t = a.memory.memory.tables in
         let n = a.register.record.next.segment in
         let shown = of (all_facts (patches t)) (patches_show t n is.room.no_segments is.room.no_elisions ∙ ap (λ (i : ℕ). segments (facts t) i) (sym is.segment_ids) ∙ said) in
-        many g ((groups_of_the_tables a.register.record (all_facts (patches t)) map g shown).0 groups)
+        (groups_of_the_tables a.register.record (all_facts (patches t)) map g shown).0 groups
+
+    pub many_groups : ((g : ℕ) → HasGroups a g → 12 ≤ g) → (g : ℕ) → IsGroups map g → 12 ≤ g
+    many_groups many g groups = many g (has_groups g groups)
 
   -- the new patches have few facts
   pub few_facts : a.log.count ≤ 64 → (now : Kept) → now ≡ with_patch_rooms a.memory now → (p : Plan) → IsPlanOf now p → length p.segments.items ≤ 6 → (c : Counts) → AreCounts p c → (segments_of c ≤ 5) × FitRecord c

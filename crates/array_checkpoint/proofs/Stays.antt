@@ -13,8 +13,10 @@ use Rattle.boot_codec.specs.declared.record.BootRecord.{BootRecord}
 use Rattle.pur_base.specs.Facts.{Facts}
 use Rattle.pur_base.specs.declared.device.Device.{Device}
 use Rattle.array_spec.specs.Counts.{is_used}
+use Rattle.array_spec.specs.Base.{BaseStands}
 use Rattle.array_spec.specs.Meaning.{TablesStand}
 use Rattle.array_spec.specs.Sound.{ArePlaces}
+use Rattle.array_spec.specs.Stored.{all_facts}
 use Rattle.array_spec.proofs.Fewer.{places_keep}
 use Rattle.array_spec.proofs.Quiet.{bytes_same}
 use Rattle.array_spec.proofs.Moves.{Keeps, SameUnit, same_units_keep}
@@ -103,7 +105,8 @@ module _ (shelf : Geometry) (start mid : Shelved) (r : Register) (members : View
 
 -- ---- tables
 
-may_stop_now : (s : Shelved) → IsShelf s → s.honest → MayStop s (read_now s)
+-- what reads give now is what a stop may leave
+pub may_stop_now : (s : Shelved) → IsShelf s → s.honest → MayStop s (read_now s)
 may_stop_now s is honest = record {
   device = λ d. record { size = refl; is_byte = λ i. is.bytes honest d i; clean = λ i out. refl };
   counts = record { faults = λ d. omega arith; write_faults = λ d. omega arith };
@@ -111,14 +114,15 @@ may_stop_now s is honest = record {
   taken = refl;
 }
 
--- the old tables stand on enough of the drives that are left
-pub tables_stay : (mid : Shelved) (r : Register) (nvrams : List Bool) (held : Content) → IsShelf mid → mid.honest → StandsInLog mid r nvrams held
-    → (members : View) → AreAmong (drives_of r) (λ d. (mid.disk d).bytes) members → AreEnough (geometry_of mid) members → TablesStand (geometry_of mid) members r.record held.patches
-tables_stay mid r nvrams held is honest stands members among enough =
-    ((stands.tables (read_now mid) (may_stop_now mid is honest)).each members (λ i. elim (among i) [
+-- the old tables stand on enough of the drives that are left, and hold the base
+pub tables_hold : (mid : Shelved) (r : Register) (nvrams : List Bool) (held : Content) → IsShelf mid → mid.honest → StandsInLog mid r nvrams held
+    → (members : View) → AreAmong (drives_of r) (λ d. (mid.disk d).bytes) members → AreEnough (geometry_of mid) members
+    → TablesStand (geometry_of mid) members r.record held.patches × BaseStands members (all_facts held.patches) r.record.next.object held.base
+tables_hold mid r nvrams held is honest stands members among enough =
+    (stands.tables (read_now mid) (may_stop_now mid is honest)).each members (λ i. elim (among i) [
       | inl none ↦ inl none
       | inr shown ↦ inr (stands.is_of.named i (in_cut r.drives r.record.slots i shown.0), stands.bodies i shown.0, shown.1)
-    ]) enough).0
+    ]) enough
 
 -- ---- few drives are missing
 

@@ -47,11 +47,23 @@ all_lost a b r was lost none loses i m is = elim (loses.cause i is) [
 ]
 
 -- units that memory's tables leave free are free by its patches alone
-free_of_patches : (shelf : Shelved) (x : Array) (held : Content) → IsArrayOf (geometry_of shelf) x → IsReady shelf x held → (slot unit : ℕ) → IsFree x.register.record (facts x.memory.memory.tables) slot unit
+pub free_of_patches : (shelf : Shelved) (x : Array) (held : Content) → IsArrayOf (geometry_of shelf) x → IsReady shelf x held → (slot unit : ℕ) → IsFree x.register.record (facts x.memory.memory.tables) slot unit
     → IsFree x.register.record (all_facts held.patches) slot unit
 free_of_patches shelf x held of ready slot unit free =
     subst (λ ps. IsFree x.register.record (all_facts ps) slot unit) (sym ready.patches_are)
     (same_free x.register.record x.memory.memory.tables of.room.no_segments of.room.no_elisions slot unit free)
+
+-- where drives that aren't lost are clean as before, nothing is dirty on them
+pub wrote_units : (a b : Shelved) (x : Array) (held : Content) → IsReady a x held → WritesFree x.register held a b → IsShelf a → a.honest → (lost : List Bool) → AreLost a b x.register lost → StaysClean lost a b
+    → WroteFree a b x.register lost held
+wrote_units a b x held ready free is honest lost are clean = record {
+  free = free;
+  cause = are;
+  synced = λ i m. elim (cases_Bool (is_in lost i)) [
+    | inl is_lost ↦ inl is_lost
+    | inr isn't ↦ inr (clean i isn't (member_clean a is honest x.register x.log.members held ready.is_open i m))
+  ];
+}
 
 module _ (a b : Shelved) (x : Array) (q : Prepared) (of : IsArrayOf (geometry_of a) x) (h : IsPreparedFor x q) (on : Continues a b)
     (writes : WritesOnly (OnCheckpoint q.plan.segments.items q.added) a b) (others : OthersStayOfCheckpoint q.plan.segments.items q.added a b)
@@ -73,11 +85,4 @@ module _ (a b : Shelved) (x : Array) (q : Prepared) (of : IsArrayOf (geometry_of
 
   -- drives that aren't lost are synced
   pub wrote_free : IsShelf a → a.honest → (lost : List Bool) → AreLost a b x.register lost → StaysClean lost a b → WroteFree a b x.register lost held
-  wrote_free is honest lost are clean = record {
-    free = writes_free;
-    cause = are;
-    synced = λ i m. elim (cases_Bool (is_in lost i)) [
-      | inl is_lost ↦ inl is_lost
-      | inr isn't ↦ inr (clean i isn't (member_clean a is honest x.register x.log.members held ready.is_open i m))
-    ];
-  }
+  wrote_free is honest lost are clean = wrote_units a b x held ready writes_free is honest lost are clean

@@ -13,4 +13,4 @@ mod writing;
 pub use limits::{CHECKPOINT_GROUPS, DATA_SEGMENTS, NEW_PATCHES, SEGMENTS_END};
 pub use making::{CheckpointFault, checkpoint};
 pub use preparing::{Prepared, prepare};
-pub use room::{Room, RoomFault, check_checkpoint, check_room};
+pub use room::{Room, RoomFault, check_checkpoint, check_room, is_spent};

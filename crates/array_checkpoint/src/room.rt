@@ -81,8 +81,8 @@ fn are_used_up(next: &NextNumbers) -> bool
         || is_used_up(next.sequence)
 }
 
-/// Whether too few numbers are left for one more command.
-fn is_spent(array: &Array) -> bool
+/// Whether too few numbers are left for one more command, or a step in the background.
+pub fn is_spent(array: &Array) -> bool
     ensures { result ≡ is_spent array.now }
 {
     let record = array.register.record();

@@ -66,8 +66,8 @@ fn answers_transcripts(rt: HostRuntime) -> Result<(), Fail> {
             100_000,
         ),
         (
-            b"merge object 0\nzero a 0 1\ntakeover\n",
-            b"no syntax\nno syntax\nno syntax\n",
+            b"merge object 0\nmerge objects 0\nzero a 0 1\ntakeover\n",
+            b"no nothing-there\nno syntax\nno syntax\nno syntax\n",
             7,
         ),
         (

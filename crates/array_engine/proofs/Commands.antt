@@ -72,6 +72,7 @@ accepted_logged told shelf failed lost from sectors q to (request.Read n lba cou
 accepted_logged told shelf failed lost from sectors q to request.List logs force h = absurd logs
 accepted_logged told shelf failed lost from sectors q to request.Status logs force h = absurd logs
 accepted_logged told shelf failed lost from sectors q to request.Checkpoint logs force h = absurd logs
+accepted_logged told shelf failed lost from sectors q to (request.Merge t i) logs force h = absurd logs
 accepted_logged told shelf failed lost from sectors q to _ logs force h = absurd cc
 
 -- what is answered to a logged request that isn't refused

@@ -26,12 +26,14 @@ use Rattle.array_state.specs.declared.array.Array.{Array}
 use Rattle.array_state.specs.Drives.{drives_view}
 use Rattle.array_state.specs.Ready.{IsArrayOf}
 use Rattle.array_checkpoint.specs.Prepared.{IsLike}
+use Rattle.pyramid_jobs.specs.declared.fault.MergeFault.{MergeFault}
+use Rattle.pyramid_jobs.specs.declared.fault.MergeFault.TheVariants as merge
 use Rattle.array_engine.specs.declared.engine.Engine.{Engine}
 use Rattle.array_engine.specs.declared.appending.AppendFault.{AppendFault}
 use Rattle.array_engine.specs.declared.appending.AppendFault.TheVariants as fault
 use Rattle.array_engine.specs.Saying.{HasSectors}
 use Rattle.array_engine.specs.Engines.{IsAt, IsAnsweredAt}
-use Rattle.array_engine.specs.Replying.{said_of, said_of_read}
+use Rattle.array_engine.specs.Replying.{said_of, said_of_merge, said_of_read}
 use Rattle.array_engine.proofs.Points.{was_read, was_lost}
 use Rattle.array_engine.proofs.Meanwhile.{OnlyReads, read_keeps, read_keeps_segments}
 use Rattle.array_engine.proofs.Spans.{AreMissing, shows, loses_three}
@@ -78,6 +80,14 @@ command_there sectors (Err fault.Spent) = tt
 command_there sectors (Err fault.Space) = tt
 command_there sectors (Err fault.Memory) = tt
 command_there sectors (Err fault.Device) = tt
+
+pub merge_there : (sectors : List (List ℕ)) (ended : Result Unit MergeFault) → HasSectors sectors (said_of_merge ended)
+merge_there sectors (Ok u) = tt
+merge_there sectors (Err merge.Spent) = tt
+merge_there sectors (Err merge.NothingThere) = tt
+merge_there sectors (Err merge.Space) = tt
+merge_there sectors (Err merge.Memory) = tt
+merge_there sectors (Err merge.Device) = tt
 
 -- ---- the first places
 

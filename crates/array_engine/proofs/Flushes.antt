@@ -1,6 +1,5 @@
 -- The point behind a checkpoint that was asked for.
 use Rattle.std.proofs.Common.{◌≡◌, inl, inr, ℕ, Bool, true, false, List, Result, Ok, Err, OnOk, IfErr, refl, sym, subst, ◌∙◌}
-use Rattle.std.proofs.lemmas.Bool.{cond-false, cond-true}
 use Rattle.pur_base.specs.declared.request.Request.TheVariants as request
 use Rattle.pur_base.specs.declared.reply.Refusal.{Refusal}
 use Rattle.pur_base.specs.declared.reply.Refusal.TheVariants as refusals
@@ -9,16 +8,13 @@ use Rattle.pur_base.specs.Devices.{IsBearable}
 use Rattle.pur_base.specs.Grammar.{Asked}
 use Rattle.pur_base.specs.Plain.{refusal}
 use Rattle.pur_base.specs.Replies.{Answer, Line, refused}
-use Rattle.boot_codec.specs.Region.{names}
 use Rattle.world.specs.Shelf.{Shelved, Stop}
 use Rattle.world.specs.Losing.{geometry_of, losing}
-use Rattle.memory_spec.specs.Memory.{Contents, ReadsAs}
-use Rattle.memory_spec.specs.Tables.{facts, patches}
-use Rattle.session_spec.specs.Faring.{Point, Answers, AnswersRequest, IsFailed, IsFlushed as IsFlushedAt, IsFlushing, IsRefused}
+use Rattle.memory_spec.specs.Tables.{facts}
+use Rattle.session_spec.specs.Faring.{Point, Answers, AnswersRequest, IsFlushed as IsFlushedAt, IsFlushing, IsRefused}
 use Rattle.session_spec.specs.declared.limits.TheConstants.{CHECKPOINT_GROUPS, SEGMENTS_END}
 use Rattle.array_state.specs.Drives.{SegmentsHold}
 use Rattle.array_state.specs.Ready.{IsReady}
-use Rattle.array_core.proofs.Losses.{sound_since, left_out_since}
 use Rattle.array_checkpoint.specs.Prepared.{IsLike}
 use Rattle.array_checkpoint.specs.Room.{MayFlush}
 use Rattle.array_checkpoint.specs.declared.room.RoomFault.TheVariants as lacks
@@ -31,80 +27,36 @@ use Rattle.array_engine.specs.Engines.{IsAt, StandsAt, IsAnsweredAt, point_after
 use Rattle.array_engine.specs.Flushing.{IsFlushed, IsFlushFault}
 use Rattle.array_engine.specs.Replying.{said_of, ends_lost}
 use Rattle.array_engine.proofs.Behind.{between, checkpointed}
-use Rattle.array_engine.proofs.Commands.{unnamed}
 use Rattle.array_engine.proofs.Points.{KeepsReady, KeepsSegments, answered_refused}
+use Rattle.array_engine.proofs.Remade.{as_awake, at_failed, at_remade, fails_so, is_remade, more, reads_then, was_awake}
 use Rattle.array_engine.proofs.Rooms.{with_room, without_room}
-use Rattle.array_engine.proofs.Unborne.{not_risen}
 
 -- What a checkpoint that is asked for makes of the engine, which wasn't halted.
 module _ (told : Bool) (old new : Shelved) (e f : Engine) (sectors : List (List ℕ)) (stays : Type 0) (from : Point) (honest : told ≡ true → old.honest)
     (at : IsAt told old e from) (awake : e.halted ≡ false) (same : stays → IsLike e.array f.array × (new ≡ old)) where
-  abbrev s : StandsAt told old e.array from
-  s = at.stands awake
-
-  was_awake : from.halted ≡ false
-  was_awake = at.halted ∙ awake
+  abbrev stood : StandsAt told old e.array from
+  stood = at.stands awake
 
   -- the answer of an array that isn't halted
   by_flushing : (to : Point) (q : Answer) → IsFlushing (geometry_of old) (lost_in old new) from q to → Answers told (geometry_of old) (failed_in old new) (lost_in old new) from (Asked request.Checkpoint sectors) q to
-  by_flushing to q h = subst (λ (b : Bool). AnswersRequest b (refusal from.array request.Checkpoint) told (geometry_of old) (failed_in old new) (lost_in old new) from request.Checkpoint sectors q to) (sym was_awake) h
+  by_flushing to q h = subst (λ (b : Bool). AnswersRequest b (refusal from.array request.Checkpoint) told (geometry_of old) (failed_in old new) (lost_in old new) from request.Checkpoint sectors q to) (sym (was_awake told old new e f from honest at awake)) h
 
   -- ---- it was made
 
   module _ (p : IsFlushed old new e.array f.array) (halted : f.halted ≡ false) where
-    -- memory reads as the same array
-    abbrev more : Contents
-    more = (p.reads s.contents from.array s.reads).0
-
-    reads_then : ReadsAs more f.array.memory.memory from.array
-    reads_then = (p.reads s.contents from.array s.reads).1
-
     abbrev to : Stop → Point
     to stop = point_after f from.array (lost_in old new) stop from
 
     made_at : (stop : Stop) → IsFlushedAt (geometry_of old) from (Line reply.Done) (to stop)
-    made_at stop = record {
-      reply = refl;
-      mid = between from f.array;
-      made = checkpointed s f.array p.is_of p.flushed more reads_then;
-      stays = record {
-        array = refl;
-        logged = cond-false f.halted from.logged f.array.log.count halted ∙ p.flushed.none;
-        boot = cond-false f.halted from.boot f.array.register.record halted;
-        patches = cond-false f.halted from.patches (patches f.array.memory.memory.tables) halted;
-        next = cond-false f.halted from.next f.array.memory.memory.next halted;
-      };
-      halted = halted ∙ sym was_awake;
-    }
-
-    -- the devices that lost a write hold the array no more
-    at_made : (stop : Stop) → IsAt told new f (to stop)
-    at_made stop = record {
-      halted = refl;
-      stands = λ still. record {
-        logged = cond-false f.halted from.logged f.array.log.count halted;
-        boot = cond-false f.halted from.boot f.array.register.record halted;
-        patches = cond-false f.halted from.patches (patches f.array.memory.memory.tables) halted;
-        next = cond-false f.halted from.next f.array.memory.memory.next halted;
-        contents = more;
-        reads = reads_then;
-        hold = λ t. (p.reads s.contents from.array s.reads).2 (honest t) (s.hold t);
-        holders = λ d h.
-            let was = sound_since (lost_in old new d) (from.conditions d) h in
-            elim (p.dropped d (s.holders d was.0)) [
-              | inl holds ↦ holds
-              | inr rose ↦ absurd (not_risen (old.disk d).write_faults (new.disk d).write_faults was.1 rose)
-            ];
-        left_out = λ d l.
-            let was = s.left_out d (left_out_since (lost_in old new d) (from.conditions d) l) in (
-              unnamed (names f.array.register.record d) (λ is. elim (p.joins.named d is) [
-                | inl named ↦ cc (named, was.0)
-                | inr holds ↦ was.1 holds
-              ]),
-              λ holds. was.1 (p.joins.holders d holds),
-            );
-      };
-    }
+    made_at stop =
+        let stays = is_remade told old new e f from honest at awake p.reads p.dropped p.joins halted stop in
+        record {
+          reply = refl;
+          mid = between from f.array;
+          made = checkpointed stood f.array p.is_of p.flushed (more told old new e f from honest at awake p.reads p.dropped p.joins halted) (reads_then told old new e f from honest at awake p.reads p.dropped p.joins halted);
+          stays = record { array = stays.array; logged = stays.logged ∙ p.flushed.none; boot = stays.boot; patches = stays.patches; next = stays.next };
+          halted = as_awake told old new e f from honest at awake p.reads p.dropped p.joins halted;
+        }
 
     was_made : IsAnsweredAt told old new e f (Asked request.Checkpoint sectors) said.Done from
     was_made = record {
@@ -112,8 +64,8 @@ module _ (told : Bool) (old new : Shelved) (e f : Engine) (sectors : List (List 
       says = refl;
       whole = tt;
       array = from.array;
-      answers = λ stop. by_flushing (to stop) (Line reply.Done) (with_room s SEGMENTS_END CHECKPOINT_GROUPS (Line reply.Done) (to stop) _ p.room (inl (made_at stop)));
-      at = at_made;
+      answers = λ stop. by_flushing (to stop) (Line reply.Done) (with_room stood SEGMENTS_END CHECKPOINT_GROUPS (Line reply.Done) (to stop) _ p.room (inl (made_at stop)));
+      at = at_remade told old new e f from honest at awake p.reads p.dropped p.joins halted;
       ready = λ h still held is is_held. let next = p.done h held is in (next.0, next.1, is_held ∙ sym next.2);
     }
 
@@ -141,28 +93,16 @@ module _ (told : Bool) (old new : Shelved) (e f : Engine) (sectors : List (List 
     array = from.array;
     answers = λ stop.
         let to = point_after f from.array (lost_in old new) stop from in
-        let failed : IsFailed (geometry_of old) (lost_in old new) from (refused refusals.Device) to = record {
-          unborne = unborne;
-          reply = refl;
-          stays = record {
-            array = refl;
-            logged = cond-true f.halted from.logged f.array.log.count halted;
-            boot = cond-true f.halted from.boot f.array.register.record halted;
-            patches = cond-true f.halted from.patches (patches f.array.memory.memory.tables) halted;
-            next = cond-true f.halted from.next f.array.memory.memory.next halted;
-          };
-          halted = halted;
-        } in
-        by_flushing to (refused refusals.Device) (with_room s SEGMENTS_END CHECKPOINT_GROUPS (refused refusals.Device) to _ room (inr (inr failed)));
-    at = λ stop. record { halted = refl; stands = λ still. absurd (cc (still, halted)) };
+        by_flushing to (refused refusals.Device) (with_room stood SEGMENTS_END CHECKPOINT_GROUPS (refused refusals.Device) to _ room (inr (inr (fails_so told old new e f from honest at awake halted unborne stop))));
+    at = at_failed told old new e f from honest at awake halted;
     ready = λ h still held is is_held. absurd (cc (still, halted));
   }
 
   pub flush_answered : (ended : Result Unit AppendFault) → OnOk ended (IsFlushed old new e.array f.array) → IfErr ended (λ x. IsFlushFault old new e.array stays x) → f.halted ≡ ends_lost ended
       → IsAnsweredAt told old new e f (Asked request.Checkpoint sectors) (said_of ended) from
   flush_answered (Ok u) p none halted = was_made p halted
-  flush_answered (Err fault.Limited) none w halted = refused_for halted w.1 refusals.Limit (λ q to h. without_room s SEGMENTS_END CHECKPOINT_GROUPS q to _ lacks.Limited w.0 h)
-  flush_answered (Err fault.Spent) none w halted = refused_for halted w.1 refusals.Spent (λ q to h. without_room s SEGMENTS_END CHECKPOINT_GROUPS q to _ lacks.Spent w.0 h)
-  flush_answered (Err fault.Space) none w halted = refused_for halted w.1 refusals.Space (λ q to h. without_room s SEGMENTS_END CHECKPOINT_GROUPS q to _ lacks.Space w.0 h)
-  flush_answered (Err fault.Memory) none w halted = refused_for halted w.1 refusals.Memory (λ q to h. with_room s SEGMENTS_END CHECKPOINT_GROUPS q to _ w.0 (inr (inl h)))
-  flush_answered (Err fault.Device) none w halted = failed_so halted w.0 (w.1 from.conditions s.holders)
+  flush_answered (Err fault.Limited) none w halted = refused_for halted w.1 refusals.Limit (λ q to h. without_room stood SEGMENTS_END CHECKPOINT_GROUPS q to _ lacks.Limited w.0 h)
+  flush_answered (Err fault.Spent) none w halted = refused_for halted w.1 refusals.Spent (λ q to h. without_room stood SEGMENTS_END CHECKPOINT_GROUPS q to _ lacks.Spent w.0 h)
+  flush_answered (Err fault.Space) none w halted = refused_for halted w.1 refusals.Space (λ q to h. without_room stood SEGMENTS_END CHECKPOINT_GROUPS q to _ lacks.Space w.0 h)
+  flush_answered (Err fault.Memory) none w halted = refused_for halted w.1 refusals.Memory (λ q to h. with_room stood SEGMENTS_END CHECKPOINT_GROUPS q to _ w.0 (inr (inl h)))
+  flush_answered (Err fault.Device) none w halted = failed_so halted w.0 (w.1 from.conditions stood.holders)

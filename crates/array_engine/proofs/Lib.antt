@@ -3,11 +3,14 @@ pub mod Unborne
 pub mod Cleared
 pub mod Appended
 pub mod Faults
+pub mod MergeFaults
 pub mod Points
 pub mod Rooms
 pub mod Behind
 pub mod Commands
+pub mod Remade
 pub mod Flushes
+pub mod Merges
 pub mod Numbers
 pub mod Meanwhile
 pub mod Spans

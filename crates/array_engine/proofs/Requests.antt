@@ -19,6 +19,7 @@ is_of_memory (request.Read n lba count) logs force h = absurd logs
 is_of_memory request.List logs force h = absurd logs
 is_of_memory request.Status logs force h = absurd logs
 is_of_memory request.Checkpoint logs force h = absurd logs
+is_of_memory (request.Merge t i) logs force h = absurd logs
 is_of_memory _ logs force h = absurd cc
 
 pub is_lawful : (r : Request) → IsLogged r → is_in_force r ≡ true → IsSpelledRequest r → IsLawful r
@@ -29,6 +30,7 @@ is_lawful (request.Read n lba count) logs force h = absurd logs
 is_lawful request.List logs force h = absurd logs
 is_lawful request.Status logs force h = absurd logs
 is_lawful request.Checkpoint logs force h = absurd logs
+is_lawful (request.Merge t i) logs force h = absurd logs
 is_lawful _ logs force h = absurd cc
 
 pub is_command : (objects : List ObjectFact) (r : Request) → IsLogged r → is_in_force r ≡ true → IsSpelledRequest r → IsAllowed objects r → IsCommand r
@@ -39,4 +41,5 @@ is_command objects (request.Read n lba count) logs force h allowed = absurd logs
 is_command objects request.List logs force h allowed = absurd logs
 is_command objects request.Status logs force h allowed = absurd logs
 is_command objects request.Checkpoint logs force h allowed = absurd logs
+is_command objects (request.Merge t i) logs force h allowed = absurd logs
 is_command objects _ logs force h allowed = absurd cc

@@ -37,7 +37,7 @@ module _ {told : Bool} {shelf : Shelved} {a : Array} {p : Point} (s : StandsAt t
   limited_same : patch_segments p.boot.patches ≡ patch_segments a.register.record.patches
   limited_same = ap (λ (b : BootRecord). patch_segments b.patches) s.boot
 
-  spent_same : faring.is_spent p ≡ is_spent a
+  pub spent_same : faring.is_spent p ≡ is_spent a
   spent_same = rw (s.boot, s.next) refl
 
   pub groups_same : (groups : ℕ) → HasGroups a groups → faring.HasGroups p groups

@@ -7,6 +7,7 @@ mod appending;
 mod buffers;
 mod engine;
 mod flushing;
+mod merging;
 mod said;
 mod status;
 

@@ -1,4 +1,5 @@
 // What is known of an array beside its volumes, and what a status may say of it.
+use pur_base::Table;
 
 /// The slots of the log.
 const SLOTS: u64 = 64;
@@ -18,6 +19,9 @@ const FREE_UNITS: u64 = 61;
 const ADDING_GROUPS: u64 = 24;
 
 const CHECKPOINT_GROUPS: u64 = 12;
+
+/// And where a merge is asked for: patches of so few facts have a segment each.
+const MERGE_GROUPS: u64 = 12 + 2;
 
 /// For so many segments a new array has room.
 const ROOM: u64 = 74;
@@ -49,6 +53,40 @@ const DRIVES: u64 = 11;
 
 const NVRAMS: u64 = 2;
 
+/// How many patches a table has, and whether something was added to it since the last checkpoint.
+#[derive(Clone, Copy)]
+struct Patches {
+    /// So many at least, and at most.
+    least: u64,
+    most: u64,
+    is_added_to: bool,
+}
+
+/// Of a new array.
+const NO_PATCHES: Patches = Patches {
+    least: 0,
+    most: 0,
+    is_added_to: false,
+};
+
+impl Patches {
+    /// A checkpoint adds one, where something was added.
+    fn flush(&mut self) {
+        if self.is_added_to {
+            self.least = self.least.saturating_add(1);
+            self.most = self.most.saturating_add(1);
+        }
+        self.is_added_to = false;
+    }
+
+    /// Two are merged, which are there: into one, or into none where no fact is left.
+    fn merge(&mut self, may_vanish: bool) {
+        let gone = if may_vanish { 2 } else { 1 };
+        self.least = self.least.max(2).saturating_sub(gone);
+        self.most = self.most.saturating_sub(1);
+    }
+}
+
 /// What is known of an array's log, of its checkpoints and of its record.
 #[derive(Clone, Copy)]
 pub struct Counts {
@@ -63,6 +101,12 @@ pub struct Counts {
     generation: u64,
     /// Whether room was ever wanted.
     lacked_space: bool,
+    /// The patches of tables: objects are never elided, nor are addresses of volumes.
+    objects: Patches,
+    addresses: Patches,
+    segments: Patches,
+    /// Elisions are made by checkpoints, which aren't told.
+    elisions: Patches,
 }
 
 /// The numbers of a status.
@@ -87,6 +131,10 @@ impl Counts {
             },
             generation: 1,
             lacked_space: false,
+            objects: NO_PATCHES,
+            addresses: NO_PATCHES,
+            segments: NO_PATCHES,
+            elisions: NO_PATCHES,
         }
     }
 
@@ -115,14 +163,60 @@ impl Counts {
     pub fn flush(&mut self) {
         self.logged = 0;
         self.flushes = self.flushes.saturating_add(1);
+        self.objects.flush();
+        self.addresses.flush();
+        self.segments.flush();
+        // A checkpoint may elide segments or not, and write that with its patches.
+        self.elisions.most = self.elisions.most.saturating_add(1);
     }
 
-    /// A command is logged, behind a checkpoint where no slot is free.
-    pub fn log(&mut self) {
+    /// The patches of a table; there are none of mediums.
+    fn patches(&self, table: Table) -> Patches {
+        match table {
+            Table::Object => self.objects,
+            Table::Medium => NO_PATCHES,
+            Table::Address => self.addresses,
+            Table::Segment => self.segments,
+            Table::Elision => self.elisions,
+        }
+    }
+
+    /// Whether a table has a patch of that index, and one behind it.
+    pub fn has_pair(&self, table: Table, index: u64) -> bool {
+        index.saturating_add(1) < self.patches(table).least
+    }
+
+    /// Whether it may have them.
+    pub fn may_have_pair(&self, table: Table, index: u64) -> bool {
+        index.saturating_add(1) < self.patches(table).most
+    }
+
+    /// Two patches are merged, where they may be there.
+    pub fn merge(&mut self, table: Table, index: u64) {
+        if !self.may_have_pair(table, index) {
+            return;
+        }
+        match table {
+            Table::Object => self.objects.merge(false),
+            Table::Medium => {}
+            Table::Address => self.addresses.merge(false),
+            Table::Segment => self.segments.merge(true),
+            Table::Elision => self.elisions.merge(false),
+        }
+    }
+
+    /// A command is logged, which creates a volume or writes sectors, behind a checkpoint where no slot is free.
+    pub fn log(&mut self, creates: bool) {
         if self.is_full() {
             self.flush();
         }
         self.logged = self.logged.saturating_add(1);
+        if creates {
+            self.objects.is_added_to = true;
+        } else {
+            self.addresses.is_added_to = true;
+            self.segments.is_added_to = true;
+        }
     }
 
     /// So many segments were given at most, each of which has a unit of a drive at most.
@@ -143,6 +237,11 @@ impl Counts {
     /// Whether room may be wanted where a checkpoint is asked for.
     pub fn may_lack_space_to_flush(&self) -> bool {
         self.groups() < CHECKPOINT_GROUPS
+    }
+
+    /// Whether room may be wanted where a merge is asked for.
+    pub fn may_lack_space_to_merge(&self) -> bool {
+        self.groups() < MERGE_GROUPS
     }
 
     /// Sees the numbers of a status, of an array of so many objects: whether they may be its own.

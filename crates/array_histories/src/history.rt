@@ -178,8 +178,8 @@ fn push_later(
     next: &Ask,
     after: &mut Vec<Model>,
 ) -> Result<(), NoMemory> {
-    if let Some(flushed) = array.flushed(alloc, next)? {
-        after.push(flushed)?;
+    if let Some(stored) = array.stored(alloc, next)? {
+        after.push(stored)?;
     }
     if array.takes(next) {
         let mut more = array.copy(alloc)?;
@@ -567,7 +567,7 @@ impl History {
         }
     }
 
-    /// Keeps the arrays that answer what was given, as they go on: by what was answered, and after a stop perhaps by one request more, or its checkpoint.
+    /// Keeps the arrays that answer what was given, as they go on: by what was answered, and after a stop perhaps by one request more, or its checkpoint or merge.
     /// How many were answered.
     fn judge(
         &mut self,

@@ -3,7 +3,7 @@ use crate::counts::{Counts, numbers_of};
 use crate::devices::Failures;
 use crate::request::{Ask, Known, Pattern, Range};
 use crate::text::push;
-use pur_base::NoMemory;
+use pur_base::{NoMemory, Table};
 use std::alloc::Global;
 
 /// The most sectors of a request.
@@ -12,8 +12,11 @@ const COUNT: u8 = 64;
 /// What a read is answered whose sectors stand on drives of which three fail.
 const NO_DEVICE: &[u8] = b"no device\n";
 
-/// What a command or a checkpoint is answered where too few units are free.
+/// What a command, a checkpoint or a merge is answered where too few units are free.
 const NO_SPACE: &[u8] = b"no space\n";
+
+/// What a merge is answered where the table has no such two patches.
+const NOTHING_THERE: &[u8] = b"no nothing-there\n";
 
 /// A volume, with what each of its sectors holds.
 #[derive(Drop)]
@@ -136,7 +139,7 @@ impl Model {
                     Err(why) => Some(why),
                 }
             }
-            Ask::List | Ask::Status | Ask::Checkpoint => None,
+            Ask::List | Ask::Status | Ask::Checkpoint | Ask::Merge { .. } => None,
             Ask::Nonsense => Some("syntax"),
         }
     }
@@ -190,32 +193,41 @@ impl Model {
 
     /// Goes on by a request, unless it's refused.
     pub fn apply(&mut self, alloc: Global, ask: &Ask) -> Result<(), NoMemory> {
-        if matches!(ask, Ask::Checkpoint) {
-            self.counts.flush();
-        }
-        if self.takes(ask) {
-            self.counts.log();
-            self.change(alloc, ask)?;
+        match ask {
+            Ask::Checkpoint => self.counts.flush(),
+            Ask::Merge { table, index } => self.counts.merge(*table, u64::from(*index)),
+            _ => if self.takes(ask) {
+                self.counts.log(matches!(ask, Ask::Create { .. }));
+                self.change(alloc, ask)?;
+            },
         }
         Ok(())
     }
 
-    /// The same array behind the checkpoint that a request makes, if it makes one.
-    pub fn flushed(&self, alloc: Global, ask: &Ask) -> Result<Option<Model>, NoMemory> {
-        if !matches!(ask, Ask::Checkpoint) && !(self.takes(ask) && self.counts.is_full()) {
+    /// The same array behind the checkpoint or the merge that a request makes, if it makes one.
+    pub fn stored(&self, alloc: Global, ask: &Ask) -> Result<Option<Model>, NoMemory> {
+        let is_made = match ask {
+            Ask::Checkpoint => true,
+            Ask::Merge { table, index } => self.counts.may_have_pair(*table, u64::from(*index)),
+            _ => self.takes(ask) && self.counts.is_full(),
+        };
+        if !is_made {
             return Ok(None);
         }
         let mut model = self.copy(alloc)?;
-        model.counts.flush();
+        match ask {
+            Ask::Merge { table, index } => model.counts.merge(*table, u64::from(*index)),
+            _ => model.counts.flush(),
+        }
         Ok(Some(model))
     }
 
     /// Whether a request may be answered `no space`.
     fn may_lack_space(&self, ask: &Ask) -> bool {
-        if matches!(ask, Ask::Checkpoint) {
-            self.counts.may_lack_space_to_flush()
-        } else {
-            self.takes(ask) && self.counts.may_lack_space()
+        match ask {
+            Ask::Checkpoint => self.counts.may_lack_space_to_flush(),
+            Ask::Merge { .. } => self.counts.may_lack_space_to_merge(),
+            _ => self.takes(ask) && self.counts.may_lack_space(),
         }
     }
 
@@ -246,6 +258,14 @@ impl Model {
         }
         if matches!(ask, Ask::Status) {
             return Ok(self.hear_status(rest));
+        }
+        if let Ask::Merge { table, index } = ask {
+            if !self.counts.has_pair(*table, u64::from(*index)) && rest.starts_with(NOTHING_THERE) {
+                return Ok(Heard::Whole(NOTHING_THERE.len()));
+            }
+            if !self.counts.may_have_pair(*table, u64::from(*index)) {
+                return Ok(heard_as(NOTHING_THERE, rest));
+            }
         }
         let mut reply = Vec::new(alloc);
         self.push_reply(alloc, ask, &mut reply)?;

@@ -1,7 +1,7 @@
 // What is asked.
 use crate::random::Random;
 use crate::text::push;
-use pur_base::{NoMemory, SECTOR_BYTES};
+use pur_base::{NoMemory, SECTOR_BYTES, Table};
 use std::alloc::Global;
 
 /// What a sector holds: its first byte, and what is added from each byte to the next.
@@ -59,6 +59,8 @@ pub enum Ask {
     List,
     Status,
     Checkpoint,
+    /// Of the patch of an index of a table, and the next one.
+    Merge { table: Table, index: u8 },
     /// A line that is no request.
     Nonsense,
 }
@@ -90,8 +92,23 @@ impl Ask {
             Ask::List => push(text, "list\n"),
             Ask::Status => push(text, "status\n"),
             Ask::Checkpoint => push(text, "checkpoint\n"),
+            Ask::Merge { table, index } => {
+                let name = name_of(table);
+                push(text, &format!(in alloc; "merge {name} {index}\n")?)
+            }
             Ask::Nonsense => push(text, "list v1\n"),
         }
+    }
+}
+
+/// The word for a table.
+fn name_of(table: Table) -> &'static str {
+    match table {
+        Table::Object => "object",
+        Table::Medium => "medium",
+        Table::Address => "address",
+        Table::Segment => "segment",
+        Table::Elision => "elision",
     }
 }
 
@@ -141,13 +158,30 @@ fn range_in(random: &mut Random, known: Known) -> Range {
     }
 }
 
-/// A request by chance: now and then a checkpoint or a status, and else of sectors or names.
+/// A request by chance: now and then a checkpoint, a merge or a status, and else of sectors or names.
 pub fn any_ask(random: &mut Random, known: &[Known]) -> Ask {
     match random.below(100) {
         0..=2 => Ask::Checkpoint,
         3 | 4 => Ask::Status,
+        5..=7 => any_merge(random),
         _ => any_use(random, known),
     }
+}
+
+/// A merge by chance, mostly of the oldest two patches.
+pub fn any_merge(random: &mut Random) -> Ask {
+    let table = match random.below(8) {
+        0 | 1 => Table::Object,
+        2..=4 => Table::Address,
+        5 | 6 => Table::Segment,
+        _ => Table::Elision,
+    };
+    let index = if random.once_in(3) {
+        random.byte_below(3)
+    } else {
+        0
+    };
+    Ask::Merge { table, index }
 }
 
 /// A request by chance of one of these volumes where there are some, and mostly one that isn't refused.

@@ -2,7 +2,7 @@
 use crate::devices::{Failures, any_drive, fail, let_fail, pull, put_back};
 use crate::history::{History, Left, Told, Trouble, init_for};
 use crate::model::Model;
-use crate::request::Ask;
+use crate::request::{Ask, any_merge};
 use pur_base::{Device, NvId, Status};
 use world_mem::MemWorld;
 
@@ -89,12 +89,16 @@ impl History {
         Ok(world)
     }
 
-    /// Behind each request a checkpoint is asked for, until there is no room for more or a stop comes.
+    /// Behind each request a checkpoint is asked for, and now and then a merge, until there is no room for more or a stop comes.
     pub(crate) fn use_up(&mut self, world: MemWorld, told: &mut Told) -> Result<MemWorld, Trouble> {
         let mut asks = Vec::new(self.alloc);
         for ask in &self.some_asks(PAIRS)? {
             asks.push(*ask)?;
             asks.push(Ask::Checkpoint)?;
+            if self.random.once_in(3) {
+                let merge = any_merge(&mut self.random);
+                asks.push(merge)?;
+            }
         }
         let calls = self.calls_of_long_session();
         self.serve_quietly(world, &asks, calls, told)

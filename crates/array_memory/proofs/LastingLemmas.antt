@@ -21,7 +21,8 @@ use Rattle.memory_spec.proofs.Lists.{each_by_recursion, of_map}
 use Rattle.checkpoint_plan.specs.Places.{flagged_from}
 use Rattle.checkpoint_plan.proofs.Planned.{planned_sound}
 use Rattle.array_memory.specs.declared.plan.Plan.{Plan}
-use Rattle.array_memory.specs.Lasting.{ArePatchFacts, AreLawfulPatches, AreNoMore}
+use Rattle.checkpoint_plan.specs.Patches.{ArePatchFacts}
+use Rattle.array_memory.specs.Lasting.{AreLawfulPatches, AreNoMore}
 use Rattle.array_memory.specs.Plan.{after_plan, flushed_with, units_of, IsPlanFor}
 use Rattle.array_memory.proofs.CountLemmas.{flushed_fewer}
 use Rattle.array_memory.proofs.PlanLemmas.{addresses_ascend, long_map, planned}

@@ -15,3 +15,4 @@ pub mod VisibleLemmas
 pub mod UnusedLemmas
 pub mod ElidingLemmas
 pub mod LastingLemmas
+pub mod MergingLemmas

@@ -1,22 +1,12 @@
 -- What a plan's patches hold, so that they can be written.
-use Rattle.std.specs.Prelude.{◌≡◌, ℕ, ◌+◌, ◌<◌, ◌≤◌, List, length, map, AllPairs}
-use Rattle.std.specs.List.{AllByRecursion}
-use Rattle.pur_base.specs.Facts.{any_key, table_tag}
-use Rattle.pur_base.specs.declared.facts.AnyFact.{AnyFact}
+use Rattle.std.specs.Prelude.{◌+◌, ◌≤◌, length, map}
 use Rattle.pur_base.specs.declared.facts.AnyFact.TheVariants as any
-use Rattle.fact_codec.specs.Fact.{IsFact, IsLawful}
 use Rattle.pyramid.specs.Layers.{patch_facts}
 use Rattle.memory_spec.specs.Memory.{Memory}
+use Rattle.checkpoint_plan.specs.Patches.{ArePatchFacts}
 use Rattle.array_memory.specs.declared.plan.Plan.{Plan}
 
--- facts of the table of that tag as a patch may hold them: each has a spelling, and keys ascend
-pub record ArePatchFacts (tag : ℕ) (facts : List AnyFact) : Type 0 where
-  pub each : AllByRecursion IsFact facts
-  pub lawful : AllByRecursion IsLawful facts
-  pub table : AllByRecursion (λ f. table_tag f ≡ tag) facts
-  pub ascending : AllPairs (λ f g. any_key f < any_key g) facts
-
--- so are those of each new patch
+-- the facts of each new patch may be written
 pub record AreLawfulPatches (p : Plan) : Type 0 where
   pub objects : ArePatchFacts 1 (map any.Object (patch_facts p.objects))
   pub mediums : ArePatchFacts 2 (map any.Medium (patch_facts p.mediums))

@@ -9,6 +9,7 @@ mod laws;
 mod limits;
 mod loading;
 mod memory;
+mod merging;
 mod plan;
 mod planning;
 mod prepare;

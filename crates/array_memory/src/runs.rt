@@ -49,6 +49,15 @@ pub fn write_run(
     }
 }
 
+/// That each sector has 512 bytes: they are looked at for it alone.
+fn are_whole(sectors: &[Sector])
+    ensures { (sector : List ℕ) → Contains sectors.now sector → length sector ≡ SECTOR_BYTES }
+{
+    for sector in sectors {
+        let _bytes = sector.as_bytes();
+    }
+}
+
 /// Stages sectors behind those that are staged. It takes no memory.
 pub fn stage_all(staged: &mut Vec<Sector>, sectors: &[Sector])
     requires { vec_len staged.old + length sectors.now ≤ vec_capacity staged.old }
@@ -56,11 +65,9 @@ pub fn stage_all(staged: &mut Vec<Sector>, sectors: &[Sector])
     ensures capacity { vec_capacity staged.old ≤ vec_capacity staged.new }
     ensures sectors { (sector : List ℕ) → Contains sectors.now sector → length sector ≡ SECTOR_BYTES }
 {
-    for sector in sectors {
-        let _bytes = sector.as_bytes();
-        if staged.push(*sector).is_err() {
-            unreachable!()
-        }
+    are_whole(sectors);
+    if staged.extend_from_slice(sectors).is_err() {
+        unreachable!()
     }
 }
 
@@ -70,9 +77,8 @@ pub fn stage_filled(staged: &mut Vec<Sector>, byte: u8, count: u8)
     ensures staged { staged.new.items ≡ staged.old.items ++ replicate count (filled byte) }
     ensures capacity { vec_capacity staged.old ≤ vec_capacity staged.new }
 {
-    for _done in 0..count {
-        if staged.push(Sector::filled(byte)).is_err() {
-            unreachable!()
-        }
+    let len = staged.len() + usize::from(count);
+    if staged.resize(len, Sector::filled(byte)).is_err() {
+        unreachable!()
     }
 }

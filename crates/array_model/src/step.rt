@@ -104,7 +104,7 @@ pub fn plain_step(
         } => Ok(fill(plain, name, *lba, *count, *byte)),
         Request::Read { name, lba, count } => Ok(read(plain, name, *lba, *count)),
         Request::List => Ok(PlainReply::Names),
-        Request::Status | Request::Checkpoint => Ok(PlainReply::Done),
+        Request::Status | Request::Checkpoint | Request::Merge { .. } => Ok(PlainReply::Done),
         _ => unreachable!(),
     }
 }
@@ -144,7 +144,7 @@ pub fn refusal_of(plain: &Plain, request: &Request) -> Option<Refusal>
             ..
         } => overwrite_refusal(plain, name, *lba, *count),
         Request::Read { name, lba, count } => read_refusal(plain, name, *lba, *count),
-        Request::List | Request::Status | Request::Checkpoint => None,
+        Request::List | Request::Status | Request::Checkpoint | Request::Merge { .. } => None,
         _ => unreachable!(),
     }
 }

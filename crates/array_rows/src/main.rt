@@ -1,4 +1,4 @@
-//! Tests of sessions over a world in memory that are stopped at each call or lose devices, that make checkpoints or find tables on the drives, and of what the next one reads.
+//! Tests of sessions over a world in memory that are stopped at each call or lose devices, that make checkpoints and merges or find tables on the drives, and of what the next one reads.
 //! It is a program, which does nothing but for its tests: no crate stands on it.
 #![tactic(auto)]
 
@@ -6,6 +6,8 @@
 mod flushing;
 #[cfg(test)]
 mod losing;
+#[cfg(test)]
+mod merging;
 #[cfg(test)]
 mod opening;
 #[cfg(test)]

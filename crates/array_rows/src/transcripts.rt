@@ -6,7 +6,7 @@ use std::test::Fail;
 use world_mem::MemWorld;
 
 /// What a session gives that ends well.
-fn given_by(alloc: Global, world: &mut MemWorld, input: &[u8]) -> Result<Vec<u8>, Fail> {
+pub fn given_by(alloc: Global, world: &mut MemWorld, input: &[u8]) -> Result<Vec<u8>, Fail> {
     let (status, given) = session(alloc, world, input)?;
     if status != Status::Done {
         return Err(Fail::new("status"));
@@ -15,12 +15,12 @@ fn given_by(alloc: Global, world: &mut MemWorld, input: &[u8]) -> Result<Vec<u8>
 }
 
 /// What a session over a new array gives.
-fn given_to(alloc: Global, input: &[u8]) -> Result<Vec<u8>, Fail> {
+pub fn given_to(alloc: Global, input: &[u8]) -> Result<Vec<u8>, Fail> {
     given_by(alloc, &mut new_world(alloc)?, input)
 }
 
 /// A text, so many times.
-fn repeated(alloc: Global, text: &[u8], times: u16) -> Result<Vec<u8>, Fail> {
+pub fn repeated(alloc: Global, text: &[u8], times: u16) -> Result<Vec<u8>, Fail> {
     let mut all = Vec::new(alloc);
     for _ in 0..times {
         all.extend_from_slice(text)?;
@@ -80,7 +80,7 @@ fn a_checkpoint_frees_segments_that_no_address_names(rt: HostRuntime) -> Result<
 }
 
 /// The first pair takes units for four segments, each later one for three: behind 17 pairs there are units for 22.
-const PAIRS: u16 = 17;
+pub const PAIRS: u16 = 17;
 
 #[test]
 fn checkpoints_use_up_the_room(rt: HostRuntime) -> Result<(), Fail> {
@@ -111,7 +111,7 @@ fn refused(alloc: Global, lines: &[u8]) -> Result<Vec<u8>, Fail> {
 #[test]
 fn lines_that_are_no_requests(rt: HostRuntime) -> Result<(), Fail> {
     let alloc = rt.alloc();
-    let rows: [&[u8]; 11] = [
+    let rows: [&[u8]; 12] = [
         b"create\ncreate b\ncreate b 1 1\ncreate B 1\ncreate b/c 1\ncreate  1\ncreate b  1\n",
         b"create abcdefghijklmnopqrstuvwxy 1\ncreate b 01\ncreate b -1\ncreate b x\ncreate b 1000000000000000\n",
         b" create b 1\ncreate b 1 \nCreate b 1\ncreateb 1\ncreate b 1\r\ncreate\tb 1\n",
@@ -120,7 +120,8 @@ fn lines_that_are_no_requests(rt: HostRuntime) -> Result<(), Fail> {
         b"read a 0\nread a 0 0\nread a 0 65\nread a 0 1 1\nread  a 0 1\nread a 01 1\nread a 0 x\n",
         b"list a\nlist \n list\nlists\nLIST\nlis\n",
         b"status 1\nstatus \n status\nstatu\nstatuses\ncheckpoint x\ncheckpoint \n checkpoint\ncheckpoints\ncheck\n",
-        b"zero a 0 1\nsnapshot a s\nclone a b\ncopy a 0 a 1 1\ndestroy a\nmerge object 1\nflatten a\n",
+        b"merge\nmerge object\nmerge 0\nmerge objects 0\nmerge object 00\nmerge object x\nmerge object 0 1\nmerge  object 0\nmerges object 0\n",
+        b"zero a 0 1\nsnapshot a s\nclone a b\ncopy a 0 a 1 1\ndestroy a\nflatten a\n",
         b"clean 1\nreclaim\nevict 1\nadmit 1\nrebuild 1\ntakeover\n",
         b"\n \n\0\n1\na\n",
     ];

@@ -1,9 +1,10 @@
 -- Answers where more calls have failed, and more devices have lost writes.
 use Rattle.std.proofs.Common.{◌≡◌, inl, inr, ⊎_elim, ℕ, ◌≤◌, ◌-◌, ◌^◌, List, refl, subst, arith, Bool, true, false}
-use Rattle.std.specs.Prelude.{Option, Some, None, ◌||◌, nat_lt, nat_le}
+use Rattle.std.specs.Prelude.{Option, Some, None, ◌+◌, ◌||◌, not, nat_lt, nat_le}
 use Rattle.std.proofs.lemmas.Bool.{cases_lt, lt-ltb, le-ltb, or_left, or_right}
 use Rattle.pur_base.specs.declared.device.Device.{Device}
 use Rattle.pur_base.specs.declared.request.Request.{Request}
+use Rattle.pur_base.specs.declared.request.Table.{Table}
 use Rattle.pur_base.specs.declared.request.Request.TheVariants as request
 use Rattle.pur_base.specs.declared.reply.Refusal.{Refusal}
 use Rattle.pur_base.specs.Devices.{Geometry, Condition, Sound, Missing, LeftOut, MayBecome, drive}
@@ -11,9 +12,10 @@ use Rattle.pur_base.specs.Plain.{refusal}
 use Rattle.pur_base.specs.Grammar.{Item, Asked, Syntax, Cut}
 use Rattle.pur_base.specs.Replies.{Answer}
 use Rattle.world.specs.Losing.{has_risen, missing_if, losing}
+use Rattle.checkpoint_spec.specs.Merging.{has_pair, pair_segments}
 use Rattle.session_spec.specs.Faring as faring
-use Rattle.session_spec.specs.Faring.{Point, Answers, AnswersRequest, AnswersAccepted, IsAppended, IsAppendedBehind, IsDone, IsFailed, IsGone, IsLost, IsFlushing, LosesThree, Where, has_segments, is_full, is_limited, is_spent}
-use Rattle.session_spec.specs.declared.limits.TheConstants.{ADDING_GROUPS, CHECKPOINT_GROUPS, SEGMENTS_END}
+use Rattle.session_spec.specs.Faring.{Point, Answers, AnswersRequest, AnswersAccepted, IsAppended, IsAppendedBehind, IsDone, IsFailed, IsGone, IsLost, IsFlushing, IsMerging, LosesThree, Where, has_segments, is_full, is_limited, is_spent}
+use Rattle.session_spec.specs.declared.limits.TheConstants.{ADDING_GROUPS, CHECKPOINT_GROUPS, MERGE_GROUPS, SEGMENTS_END}
 use Rattle.session_spec.proofs.Conditions.{borne_before}
 
 pub risen_more : (a b c : ℕ) → b ≤ c → has_risen a b ≡ true → has_risen a c ≡ true
@@ -94,6 +96,12 @@ module _ (told : Bool) (shelf : Geometry) (failed others lost more : Device → 
       where_more (has_segments SEGMENTS_END from) _ _ _ (λ unlimited. where_more (is_spent from) _ _ _ (λ w.
       (w.0, w.1, where_more (nat_lt w.0 CHECKPOINT_GROUPS) _ _ _ (λ x. ⊎_elim (λ made. inl made) (λ other. inr (⊎_elim (λ wanted. inl wanted) (λ f. inr (failed_more f)) other)) x) w.2)) unlimited) h
 
+  -- a merge that was asked for
+  merging_more : (t : Table) (i : ℕ) → IsMerging shelf lost from t i q to → IsMerging shelf more from t i q to
+  merging_more t i h =
+      where_more (is_spent from) _ _ _ (λ unspent. where_more (not (has_pair t i from.boot.patches)) _ _ _ (λ w.
+      (w.0, w.1, where_more (nat_lt w.0 (MERGE_GROUPS + pair_segments t i from.boot.patches)) _ _ _ (λ x. ⊎_elim (λ made. inl made) (λ other. inr (⊎_elim (λ wanted. inl wanted) (λ f. inr (failed_more f)) other)) x) w.2)) unspent) h
+
   accepted_more : (r : Request) (sectors : List (List ℕ)) → AnswersAccepted told shelf failed lost from r sectors q to → AnswersAccepted told shelf others more from r sectors q to
   accepted_more (request.Create n size) sectors h = logged_more (request.Create n size) sectors h
   accepted_more (request.Write n lba count) sectors h = logged_more (request.Write n lba count) sectors h
@@ -102,6 +110,7 @@ module _ (told : Bool) (shelf : Geometry) (failed others lost more : Device → 
   accepted_more request.List sectors h = h
   accepted_more request.Status sectors h = h
   accepted_more request.Checkpoint sectors h = flushing_more h
+  accepted_more (request.Merge t i) sectors h = merging_more t i h
   accepted_more _ sectors h = absurd h
 
   request_more : (halted : Bool) (why : Option Refusal) (r : Request) (sectors : List (List ℕ)) → AnswersRequest halted why told shelf failed lost from r sectors q to → AnswersRequest halted why told shelf others more from r sectors q to

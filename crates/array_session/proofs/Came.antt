@@ -1,9 +1,10 @@
 -- What an answer makes of the array: the same, the item is done, or more failed than is borne.
 use Rattle.std.proofs.Common.{◌≡◌, ◌⊎◌, inl, inr, ℕ, List, [], ◌∷◌, refl, sym, ◌∙◌, ap, subst, Bool, true, false}
-use Rattle.std.specs.Prelude.{Option, Some, None, nat_lt}
+use Rattle.std.specs.Prelude.{Option, Some, None, ◌+◌, not, nat_lt}
 use Rattle.std.proofs.lemmas.Bool.{ltb-false}
 use Rattle.pur_base.specs.declared.device.Device.{Device}
 use Rattle.pur_base.specs.declared.request.Request.{Request}
+use Rattle.pur_base.specs.declared.request.Table.{Table}
 use Rattle.pur_base.specs.declared.request.Request.TheVariants as request
 use Rattle.pur_base.specs.declared.reply.Refusal.{Refusal}
 use Rattle.pur_base.specs.declared.reply.Refusal.TheVariants as refusals
@@ -13,9 +14,10 @@ use Rattle.pur_base.specs.Grammar.{Item, Asked, Syntax, Cut}
 use Rattle.pur_base.specs.Commands.{IsLogged}
 use Rattle.pur_base.specs.Replies.{Answer, after_unless}
 use Rattle.world.specs.Losing.{losing}
+use Rattle.checkpoint_spec.specs.Merging.{has_pair, pair_segments}
 use Rattle.session_spec.specs.Faring as faring
-use Rattle.session_spec.specs.Faring.{Point, Answers, AnswersRequest, AnswersAccepted, HasGroups, IsCheckpointed, IsRefused, IsDone, IsFailed, IsFlushing, IsLost, MayAdd, Where, WithRoom, has_segments, is_full, is_limited, is_spent}
-use Rattle.session_spec.specs.declared.limits.TheConstants.{ADDING_GROUPS, CHECKPOINT_GROUPS, LIMITED_SEGMENTS, SEGMENTS_END}
+use Rattle.session_spec.specs.Faring.{Point, Answers, AnswersRequest, AnswersAccepted, HasGroups, IsCheckpointed, IsRefused, IsDone, IsFailed, IsFlushing, IsLost, IsMerging, MayAdd, Where, WithPair, WithRoom, has_segments, is_full, is_limited, is_spent}
+use Rattle.session_spec.specs.declared.limits.TheConstants.{ADDING_GROUPS, CHECKPOINT_GROUPS, LIMITED_SEGMENTS, MERGE_GROUPS, SEGMENTS_END}
 use Rattle.session_spec.specs.Headline.{IsAfter, IsNext}
 
 where_not : (b : Bool) {one other P : Type 0} → (one → P) → (b ≡ false → other → P) → Where b one other → P
@@ -37,6 +39,11 @@ in_room from to q {some} {P} f g h = where_not (is_limited from) (f refusals.Lim
 -- with room or without, where the room itself matters to nobody
 in_any_room : (limit floor : ℕ) (from to : Point) (q : Answer) {some P : Type 0} → ((why : Refusal) → IsRefused why from q to → P) → (some → P) → WithRoom limit floor from q to some → P
 in_any_room limit floor from to q f g h = in_both (has_segments limit from) (f refusals.Limit) (in_both (is_spent from) (f refusals.Spent) (λ w. in_both (nat_lt w.0 floor) (f refusals.Space) g w.2)) h
+
+-- with a pair that is merged or without, where the room itself matters to nobody
+in_any_pair : (t : Table) (i : ℕ) (from to : Point) (q : Answer) {some P : Type 0} → ((why : Refusal) → IsRefused why from q to → P) → (some → P) → WithPair t i from q to some → P
+in_any_pair t i from to q f g h =
+    in_both (is_spent from) (f refusals.Spent) (in_both (not (has_pair t i from.boot.patches)) (f refusals.NothingThere) (λ w. in_both (nat_lt w.0 (MERGE_GROUPS + pair_segments t i from.boot.patches)) (f refusals.Space) g w.2)) h
 
 -- how an item may come out: with the array as it was, with it done, or with too much lost
 abbrev pub ComesTo : Geometry → (Device → Bool) → Point → List Item → Point → Type 0
@@ -95,6 +102,15 @@ module _ (told : Bool) (shelf : Geometry) (failed lost : Device → Bool) (from 
         | inr (inr failed) ↦ failed_came request.Checkpoint failed
       ]) h
 
+  -- a merge that was asked for
+  merging_came : (t : Table) (i : ℕ) → IsMerging shelf lost from t i q to → Came (request.Merge t i)
+  merging_came t i h = in_any_pair t i from to q (λ why. refused_came why (request.Merge t i))
+      (λ ends. elim ends [
+        | inl merged ↦ same_came (request.Merge t i) (merged.stays.array ∙ ap (λ (p : Point). p.array) merged.made.same) merged.halted
+        | inr (inl wanted) ↦ refused_came refusals.Memory (request.Merge t i) wanted
+        | inr (inr failed) ↦ failed_came (request.Merge t i) failed
+      ]) h
+
   accepted_came : (r : Request) → refusal from.array r ≡ None → AnswersAccepted told shelf failed lost from r sectors q to → Came r
   accepted_came (request.Create n size) none h = logged_came (request.Create n size) tt none h
   accepted_came (request.Write n lba count) none h = logged_came (request.Write n lba count) tt none h
@@ -106,6 +122,7 @@ module _ (told : Bool) (shelf : Geometry) (failed lost : Device → Bool) (from 
   accepted_came request.List none h = same_came request.List h.stays.array h.halted
   accepted_came request.Status none h = same_came request.Status h.stays.array h.halted
   accepted_came request.Checkpoint none h = flushing_came h
+  accepted_came (request.Merge t i) none h = merging_came t i h
   accepted_came _ none h = absurd h
 
   request_came : (why : Option Refusal) (r : Request) → refusal from.array r ≡ why → AnswersRequest false why told shelf failed lost from r sectors q to → Came r

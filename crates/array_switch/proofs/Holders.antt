@@ -1,4 +1,4 @@
--- Who holds the array after a checkpoint's end.
+-- Who holds the array after the end of a checkpoint or a merge.
 use Rattle.std.proofs.Common.{◌≡◌, ◌⊎◌, inl, inr, ℕ, List, length, subst, arith, Bool, true}
 use Rattle.pur_base.specs.declared.device.Device.{Device}
 use Rattle.pur_base.specs.declared.device.Device.TheVariants.{Drive, Nv}
@@ -48,21 +48,36 @@ too_much_since start mid new on next was now members slots dropped (inr drives) 
 
 -- ---- who joins
 
+-- by the same log devices
+pub named_left : (was now : Register) (nvrams members : List Bool) → nvrams ≡ members → ((d : Device) → names now.record d ≡ true → (names was.record d ≡ true) ⊎ IsHolder was nvrams d)
+    → (d : Device) → names now.record d ≡ true → (names was.record d ≡ true) ⊎ IsHolder was members d
+named_left was now nvrams members same named = subst (λ (l : List Bool). (d : Device) → names now.record d ≡ true → (names was.record d ≡ true) ⊎ IsHolder was l d) same named
+
+-- once the tables were stored, by a record that names the log devices of the one before
+pub none_joins_tables : (shelf : Geometry) (r0 r1 r2 : Register) (members : List Bool) → IsRegisterOf shelf r0 → ((i : ℕ) → IsMember r1.drives i → IsMember r0.drives i) → ((i : ℕ) → IsMember r2.drives i → IsMember r1.drives i)
+    → r2.record.slots ≡ r0.record.slots → ((d : Device) → names r1.record d ≡ true → (names r0.record d ≡ true) ⊎ IsHolder r0 members d)
+    → (r2.record.members.drives ≡ r2.drives) × (r2.record.members.nvrams ≡ r1.record.members.nvrams) → NoneJoins r0 members r2 members
+none_joins_tables shelf r0 r1 r2 members is fewer1 fewer2 slots2 named1 are2 = record { holders = λ d m. held d m; named = λ d e. named2 d e }
+  where
+    held : (d : Device) → IsHolder r2 members d → IsHolder r0 members d
+    held (Drive d) m = fewer_cut r0 r2 slots2 (λ i x. fewer1 i (fewer2 i x)) d.0 m
+    held (Nv n) m = m
+
+    named2 : (d : Device) → names r2.record d ≡ true → (names r0.record d ≡ true) ⊎ IsHolder r0 members d
+    named2 (Drive d) e = inl (is.named d.0 (fewer1 d.0 (fewer2 d.0 (subst (λ (l : List Bool). IsMember l d.0) are2.0 e))))
+    named2 (Nv n) e = named1 (Nv n) (subst (λ (l : List Bool). nv.IsMember l n.0) are2.1 e)
+
+-- and the log was cleared
 pub none_joins : (shelf : Geometry) (r0 r1 r2 r3 : Register) (members left : List Bool) → IsRegisterOf shelf r0 → ((i : ℕ) → IsMember r1.drives i → IsMember r0.drives i) → ((i : ℕ) → IsMember r2.drives i → IsMember r1.drives i)
     → ((i : ℕ) → IsMember r3.drives i → IsMember r2.drives i) → r2.record.slots ≡ r0.record.slots → r3.record.slots ≡ r0.record.slots → nv.IsFewer members left
     → ((d : Device) → names r1.record d ≡ true → (names r0.record d ≡ true) ⊎ IsHolder r0 members d)
     → (r2.record.members.drives ≡ r2.drives) × (r2.record.members.nvrams ≡ r1.record.members.nvrams)
     → ((d : Device) → names r3.record d ≡ true → (names r2.record d ≡ true) ⊎ IsHolder r2 members d) → NoneJoins r0 members r3 left
-none_joins shelf r0 r1 r2 r3 members left is fewer1 fewer2 fewer3 slots2 slots3 fewer_logs named1 are2 named3 = record { holders = λ d m. held d m; named = λ d e. elim (named3 d e) [ inl x ↦ named2 d x | inr m ↦ inr (held2 d m) ] }
+none_joins shelf r0 r1 r2 r3 members left is fewer1 fewer2 fewer3 slots2 slots3 fewer_logs named1 are2 named3 = record { holders = λ d m. held d m; named = λ d e. elim (named3 d e) [ inl x ↦ stored.named d x | inr m ↦ inr (stored.holders d m) ] }
   where
     held : (d : Device) → IsHolder r3 left d → IsHolder r0 members d
     held (Drive d) m = fewer_cut r0 r3 slots3 (λ i x. fewer1 i (fewer2 i (fewer3 i x))) d.0 m
     held (Nv n) m = fewer_logs n.0 m
 
-    held2 : (d : Device) → IsHolder r2 members d → IsHolder r0 members d
-    held2 (Drive d) m = fewer_cut r0 r2 slots2 (λ i x. fewer1 i (fewer2 i x)) d.0 m
-    held2 (Nv n) m = m
-
-    named2 : (d : Device) → names r2.record d ≡ true → (names r0.record d ≡ true) ⊎ IsHolder r0 members d
-    named2 (Drive d) e = inl (is.named d.0 (fewer1 d.0 (fewer2 d.0 (subst (λ (l : List Bool). IsMember l d.0) are2.0 e))))
-    named2 (Nv n) e = named1 (Nv n) (subst (λ (l : List Bool). nv.IsMember l n.0) are2.1 e)
+    stored : NoneJoins r0 members r2 members
+    stored = none_joins_tables shelf r0 r1 r2 members is fewer1 fewer2 slots2 named1 are2

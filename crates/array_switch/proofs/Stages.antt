@@ -1,4 +1,4 @@
--- What one stage of a checkpoint's end leaves for the next one.
+-- What one stage of the end of a checkpoint or a merge leaves for the next one.
 use Rattle.std.proofs.Common.{◌≡◌, ◌⊎◌, inl, inr, ℕ, ◌+◌, ◌≤◌, List, [], ◌∷◌, length, refl, sym, ◌∙◌, ap, subst, arith, Bool, true, false, Result, Ok, Err, OnOk, IfErr}
 use Rattle.pur_base.specs.declared.device.Device.{Device}
 use Rattle.pur_base.specs.declared.device.Device.TheVariants.{Drive, Nv}
@@ -20,13 +20,13 @@ use Rattle.register.specs.declared.state.Register.{Register}
 use Rattle.register.specs.declared.tables.Tables.{Tables}
 use Rattle.register.specs.Registers.{IsLaterRecord, IsRegisterOf, OnSlots, drives_of}
 use Rattle.register.specs.Standing.{Content, IsOpen}
-use Rattle.register.specs.Tables.{IsPlanOf, with_tables}
+use Rattle.register.specs.Tables.{IsPlanOf, KeepsArray, with_tables}
 use Rattle.register.proofs.FlagLemmas.{in_cut}
 use Rattle.register.proofs.Rounds.{cut_drives}
 use Rattle.open_array.proofs.Kept.{plans_stand}
 use Rattle.open_array.proofs.Standing.{member_clean}
 use Rattle.array_core.proofs.Losses.{same_geometry}
-use Rattle.array_switch.specs.Switching.{AreLost, HoldNext}
+use Rattle.array_switch.specs.Switching.{AreLost}
 use Rattle.array_switch.proofs.Keeping.{CameAfter}
 use Rattle.array_switch.proofs.Lost.{rises_since}
 use Rattle.array_switch.proofs.Moved.{data_moves, only_boot}
@@ -89,9 +89,12 @@ some_named boot is = some_set boot.members.nvrams is.members.nvram_flags is.memb
 
 -- ---- who is left
 
+-- a drive is lost, or left, or it lost a write meanwhile
+abbrev pub AreLeft : Shelved → Shelved → Register → Register → List Bool → Type 0
+AreLeft a b was now lost = (i : ℕ) → IsMember (drives_of was) i → IsMember lost i ⊎ (IsMember (drives_of now) i ⊎ LostWrites (a.disk (drive i)) (b.disk (drive i)))
+
 -- drives that were lost before, or in the store
-pub left_dropped : (start a b : Shelved) → Continues start a → Continues a b → (was now : Register) (lost : List Bool) → AreLost start a was lost
-    → ((i : ℕ) → IsMember (drives_of was) i → IsMember lost i ⊎ (IsMember (drives_of now) i ⊎ LostWrites (a.disk (drive i)) (b.disk (drive i)))) → DroppedFailed start b (drives_of was) (drives_of now)
+pub left_dropped : (start a b : Shelved) → Continues start a → Continues a b → (was now : Register) (lost : List Bool) → AreLost start a was lost → AreLeft a b was now lost → DroppedFailed start b (drives_of was) (drives_of now)
 left_dropped start a b first next was now lost are dropped i m = elim (dropped i m) [
   | inl is ↦ inr (rises_since start start a b (continues_refl start) next i (are i m is))
   | inr x ↦ elim x [
@@ -118,13 +121,23 @@ came_after start now was r members held next o p fewer dropped = record { fewer 
 
 -- ---- the tables
 
+-- the tables stand on whichever drives aren't lost
+abbrev pub StandUnlost : Shelved → Register → List Bool → Tables → Content → Type 0
+StandUnlost now r lost tables next = (left : List Bool) → ((i : ℕ) → IsMember left i → IsMember (drives_of r) i × ¬ (IsMember lost i))
+    → DataHolds (geometry_of now) left (λ d. (now.disk d).bytes) (with_tables r.record tables) next.patches next.base
+
+-- what they keep by a record they keep by a later one
+keeps_later : (was r : Register) (tables : Tables) (held next : Content) → r.record.flushed ≡ was.record.flushed → KeepsArray was tables held next → KeepsArray r tables held next
+keeps_later was r tables held next same (inl all) = inl (record { flushed = all.flushed ∙ ap (λ (f : ℕ). f + length held.log) (sym same); log = all.log; base = all.base })
+keeps_later was r tables held next same (inr none) = inr (record { flushed = none.flushed ∙ sym same; log = none.log; base = none.base })
+
 -- tables that were written stand for the record to be stored, once one was stored without the drives that were lost
 pub plan_at : (a b : Shelved) (is : IsShelf b) (h : b.honest) (on : Continues a b) (was r : Register) (members lost : List Bool) (tables : Tables) (held next : Content) → IsRegisterOf (geometry_of a) was → IsBootRecord (with_tables was.record tables)
-    → IsLaterRecord was.record r.record → ((i : ℕ) → IsMember (drives_of r) i → IsMember (drives_of was) i × ¬ (IsMember lost i)) → HoldNext a was lost tables held next → IsOpen b r members held
-    → ((n : ℕ) → b.disk (nvram n) ≡ a.disk (nvram n)) → WritesOnly (OnSlots (drives_of was)) a b → HoldsOn b r.record.members.nvrams r.record.flushed held.log → tables.flushed ≡ r.record.flushed + length held.log → IsPlanOf b r tables held next
-plan_at a b is h on was r members lost tables held next is_of lawful later among holds o same writes logged flushed =
-    plans_stand b r tables held next (λ i m. member_clean b is h r members held o i m) logged flushed holds.log holds.base
+    → IsLaterRecord was.record r.record → ((i : ℕ) → IsMember (drives_of r) i → IsMember (drives_of was) i × ¬ (IsMember lost i)) → StandUnlost a was lost tables next → KeepsArray was tables held next → IsOpen b r members held
+    → ((n : ℕ) → b.disk (nvram n) ≡ a.disk (nvram n)) → WritesOnly (OnSlots (drives_of was)) a b → HoldsOn b r.record.members.nvrams r.record.flushed held.log → IsPlanOf b r tables held next
+plan_at a b is h on was r members lost tables held next is_of lawful later among stand keeps o same writes logged =
+    plans_stand b r tables held next (λ i m. member_clean b is h r members held o i m) logged (keeps_later was r tables held next (ap (λ (x : BootRecord). x.flushed) later.rest) keeps)
     (subst (λ (g : Geometry). DataHolds g (drives_of r) (λ d. (b.disk d).bytes) (with_tables r.record tables) next.patches next.base) (same_geometry on)
     (data_moves (geometry_of a) (drives_of r) (drives_of r) (λ d. (a.disk d).bytes) (λ d. (b.disk d).bytes) (with_tables was.record tables) (with_tables r.record tables) next.patches next.base
     (record { lawful = lawful; slots = is_of.lawful.slots; units = is_of.lawful.units }) (ap (λ (x : BootRecord). with_tables x tables) later.rest) (λ i m. m) (only_boot a b (drives_of was) same writes)
-    (holds.stand (drives_of r) among)))
+    (stand (drives_of r) among)))

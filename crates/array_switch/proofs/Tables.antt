@@ -1,5 +1,5 @@
 -- A record of the next tables is stored: at every moment a session can go on with the array.
-use Rattle.std.proofs.Common.{◌≡◌, inl, inr, ℕ, ◌+◌, List, [], ◌∷◌, length, sym, ◌∙◌, ap, subst, Bool, true}
+use Rattle.std.proofs.Common.{◌≡◌, inl, inr, ℕ, List, [], ◌∷◌, sym, ◌∙◌, ap, subst, Bool, true}
 use Rattle.pur_base.specs.Commands.{Command}
 use Rattle.pur_base.specs.Devices.{IsBearable, drive, nvram}
 use Rattle.pur_base.specs.declared.device.Device.{Device}
@@ -50,8 +50,8 @@ module _ (b c : Shelved) (is : IsShelf b) (h : b.honest) (r : Register) (tables 
   next_names boot n (Drive d) e = o.logged.is_of.named d.0 (n.drives d.0 e)
   next_names boot n (Nv v) e = subst (λ (x : List Bool). nv.IsMember x v.0) n.nvrams_are e
 
-  flushed_as : (boot : BootRecord) → IsNextWith r tables boot → boot.flushed ≡ r.record.flushed + length held.log
-  flushed_as boot n = ap (λ (x : BootRecord). x.flushed) n.later.rest ∙ plan.flushed
+  flushed_as : (boot : BootRecord) → IsNextWith r tables boot → boot.flushed ≡ tables.flushed
+  flushed_as boot n = ap (λ (x : BootRecord). x.flushed) n.later.rest
 
   module _ (stop : Stop) (left : LeavesBut W b stop) where
     bytes_are : (n : ℕ) → names r.record (nvram n) ≡ true → stop.image (nvram n) ≡ (b.disk (nvram n)).bytes
@@ -65,13 +65,16 @@ module _ (b c : Shelved) (is : IsShelf b) (h : b.honest) (r : Register) (tables 
         is_of_all (λ (y : Command). is_in_force y.request ≡ true) held.log in_force i x
         ((plan.logged.log n at.0 at.1).between.no_other i x (subst (λ (l : List ℕ). ShowsIn l r.record.flushed i x) (bytes_are n e) shows))
 
-    -- behind what the tables have flushed there is no command
-    read_after : (boot : BootRecord) → IsNextWith r tables boot → (n i : ℕ) (x : Command) → names boot (nvram n) ≡ true → ShowsIn (stop.image (nvram n)) boot.flushed i x → ⊥
+    -- behind what the tables have flushed there is no command, or the log as it was
+    read_after : (boot : BootRecord) → IsNextWith r tables boot → (n i : ℕ) (x : Command) → names boot (nvram n) ≡ true → ShowsIn (stop.image (nvram n)) boot.flushed i x → is_in_force x.request ≡ true
     read_after boot k n i x e shows =
         let named = next_names boot k (nvram n) e in
         let at = log_member r r.record.members.nvrams o n named in
-        shows_no_more (b.disk (nvram n)).bytes r.record.flushed i held.log x (plan.logged.log n at.0 at.1)
-        (subst (λ (f : ℕ). ShowsIn (b.disk (nvram n)).bytes f i x) (flushed_as boot k) (subst (λ (l : List ℕ). ShowsIn l boot.flushed i x) (bytes_are n named) shows))
+        elim plan.keeps [
+          | inl all ↦ absurd (shows_no_more (b.disk (nvram n)).bytes r.record.flushed i held.log x (plan.logged.log n at.0 at.1)
+              (subst (λ (f : ℕ). ShowsIn (b.disk (nvram n)).bytes f i x) (flushed_as boot k ∙ all.flushed) (subst (λ (l : List ℕ). ShowsIn l boot.flushed i x) (bytes_are n named) shows)))
+          | inr none ↦ read_before n i x named (subst (λ (f : ℕ). ShowsIn (stop.image (nvram n)) f i x) (flushed_as boot k ∙ none.flushed) shows)
+        ]
 
     module _ (stands : StandsAsBefore b r held stop) (gives : GivesOldOrTables b r tables stop) (borne : IsBearable (geometry_of b) (lost_by b stop (named_sound r.record))) where
       account : AccountsFor b (drives_of r) (named_sound r.record) (next_slot r.record) (spelling r.record) stop.faults stop.write_faults (lost_by b stop (named_sound r.record))
@@ -85,7 +88,7 @@ module _ (b c : Shelved) (is : IsShelf b) (h : b.honest) (r : Register) (tables 
       readable : (slot : BootSlot) (boot : BootRecord) → MayBeGiven (geometry_of b) stop.image (lost_by b stop (named_sound r.record)) slot boot → IsReadable r.record stop.image boot
       readable slot boot g = elim (gives (lost_by b stop (named_sound r.record)) account slot boot g) [
         | inl same ↦ subst (λ (x : BootRecord). IsReadable r.record stop.image x) (sym same) (record { fewer = λ d e. e; read = read_before })
-        | inr k ↦ record { fewer = next_names boot k; read = λ n i x e shows. absurd (read_after boot k n i x e shows) }
+        | inr k ↦ record { fewer = next_names boot k; read = read_after boot k }
       ]
 
     kept_in_store : StandsAsBefore b r held stop → GivesOldOrTables b r tables stop → KeptNamed b r.record (array_of held ∷ []) stop

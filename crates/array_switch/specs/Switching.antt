@@ -1,4 +1,4 @@
--- The end of a checkpoint: what its writes left, and which devices hold the array then.
+-- The end of a checkpoint or a merge: what its writes left, and which devices hold the array then.
 use Rattle.std.specs.Prelude.{◌≡◌, ◌⊎◌, ℕ, Bool, true, List, []}
 use Rattle.pur_base.specs.declared.device.Device.{Device}
 use Rattle.pur_base.specs.declared.device.Device.TheVariants.{Drive, Nv}
@@ -46,6 +46,13 @@ pub record HoldNext (now : Shelved) (r : Register) (lost : List Bool) (tables : 
       → DataHolds (geometry_of now) left (λ d. (now.disk d).bytes) (with_tables r.record tables) next.patches next.base
   pub base : next.base ≡ array_of held
   pub log : next.log ≡ []
+
+-- on the drives that aren't lost stand the next tables, and they hold the same base, from which the same log goes on
+pub record HoldMerged (now : Shelved) (r : Register) (lost : List Bool) (tables : Tables) (held next : Content) : Type 0 where
+  pub stand : (left : List Bool) → ((i : ℕ) → IsMember left i → IsMember (drives_of r) i × ¬ (IsMember lost i))
+      → DataHolds (geometry_of now) left (λ d. (now.disk d).bytes) (with_tables r.record tables) next.patches next.base
+  pub base : next.base ≡ held.base
+  pub log : next.log ≡ held.log
 
 -- ---- what is written, and what is lost
 

@@ -1,3 +1,4 @@
+pub mod Patches
 pub mod Places
 pub mod Segments
 pub mod Unused

@@ -18,7 +18,7 @@ use Rattle.memory_spec.specs.Tables.{facts}
 use Rattle.memory_spec.specs.Memory.{Memory, IsSound}
 use Rattle.checkpoint_spec.specs.Whole.{AreLayered}
 use Rattle.checkpoint_spec.specs.Flushing.{AreOf}
-use Rattle.checkpoint_spec.specs.Merging.{IsTableMerged, IsTableRewritten, IsCompacted, IsMerge, MergeShrinks}
+use Rattle.checkpoint_spec.specs.Merging.{IsTableMerged, IsTableRewritten, IsCompacted, IsMerge, MergeShrinks, IsMergedAt, OneMergeIsMerge}
 use Rattle.checkpoint_spec.proofs.Elided.{says_where}
 use Rattle.checkpoint_spec.proofs.Flushed.{grows_all}
 
@@ -137,4 +137,54 @@ merge_shrinks was now s l h = record {
   same_elided = same_elided was now s l h;
   staged = h.staged;
   next = h.next;
+}
+
+-- ---- one merge
+
+-- where tables are as they were but for one, so are the facts of the others
+pub one_merge_is_merge : OneMergeIsMerge
+one_merge_is_merge table.Object i was now h = record {
+  objects = inr (inl h.0);
+  mediums = inl (ap (λ (m : Memory). facts_in m.tables.mediums) h.2);
+  addresses = inl (ap (λ (m : Memory). facts_in m.tables.addresses) h.2);
+  segments = inl (ap (λ (m : Memory). facts_in m.tables.segments) h.2);
+  elisions = inl (ap (λ (m : Memory). facts_in m.tables.elisions) h.2);
+  staged = ap (λ (m : Memory). m.staged) h.2;
+  next = ap (λ (m : Memory). m.next) h.2;
+}
+one_merge_is_merge table.Medium i was now h = record {
+  objects = inl (ap (λ (m : Memory). facts_in m.tables.objects) h.2);
+  mediums = inr (inl h.0);
+  addresses = inl (ap (λ (m : Memory). facts_in m.tables.addresses) h.2);
+  segments = inl (ap (λ (m : Memory). facts_in m.tables.segments) h.2);
+  elisions = inl (ap (λ (m : Memory). facts_in m.tables.elisions) h.2);
+  staged = ap (λ (m : Memory). m.staged) h.2;
+  next = ap (λ (m : Memory). m.next) h.2;
+}
+one_merge_is_merge table.Address i was now h = record {
+  objects = inl (ap (λ (m : Memory). facts_in m.tables.objects) h.2);
+  mediums = inl (ap (λ (m : Memory). facts_in m.tables.mediums) h.2);
+  addresses = inr (inl h.0);
+  segments = inl (ap (λ (m : Memory). facts_in m.tables.segments) h.2);
+  elisions = inl (ap (λ (m : Memory). facts_in m.tables.elisions) h.2);
+  staged = ap (λ (m : Memory). m.staged) h.2;
+  next = ap (λ (m : Memory). m.next) h.2;
+}
+one_merge_is_merge table.Segment i was now h = record {
+  objects = inl (ap (λ (m : Memory). facts_in m.tables.objects) h.2);
+  mediums = inl (ap (λ (m : Memory). facts_in m.tables.mediums) h.2);
+  addresses = inl (ap (λ (m : Memory). facts_in m.tables.addresses) h.2);
+  segments = inr (inl h.0);
+  elisions = inl (ap (λ (m : Memory). facts_in m.tables.elisions) h.2);
+  staged = ap (λ (m : Memory). m.staged) h.2;
+  next = ap (λ (m : Memory). m.next) h.2;
+}
+one_merge_is_merge table.Elision i was now h = record {
+  objects = inl (ap (λ (m : Memory). facts_in m.tables.objects) h.2);
+  mediums = inl (ap (λ (m : Memory). facts_in m.tables.mediums) h.2);
+  addresses = inl (ap (λ (m : Memory). facts_in m.tables.addresses) h.2);
+  segments = inl (ap (λ (m : Memory). facts_in m.tables.segments) h.2);
+  elisions = inr (inl h.0);
+  staged = ap (λ (m : Memory). m.staged) h.2;
+  next = ap (λ (m : Memory). m.next) h.2;
 }

@@ -6,7 +6,7 @@ ghost use Rattle.checkpoint_spec.specs.Checkpoint.{CheckpointReads, CheckpointIs
 ghost use Rattle.checkpoint_spec.specs.Contents.{BaseIsRead, WrittenHolds, WrittenDataHolds};
 ghost use Rattle.checkpoint_spec.specs.Eliding.{ElidingReads};
 ghost use Rattle.checkpoint_spec.specs.Flushing.{ShrinkingReads, FlushShrinks};
-ghost use Rattle.checkpoint_spec.specs.Merging.{MergeShrinks};
+ghost use Rattle.checkpoint_spec.specs.Merging.{MergeShrinks, OneMergeIsMerge};
 ghost use Rattle.checkpoint_spec.specs.Placing.{PlacingReads};
 ghost use Rattle.checkpoint_spec.specs.Whole.{PatchesAreFlushed, PatchesAreAll, PatchesRead, RecordIsSound};
 
@@ -30,6 +30,7 @@ pub fn flushes_keep_memory()
     ensures reads { ShrinkingReads }
     ensures flush { FlushShrinks }
     ensures merge { MergeShrinks }
+    ensures one_merge { OneMergeIsMerge }
 {}
 
 /// Memory whose staged sectors are placed in new segments stays sound and reads the same.

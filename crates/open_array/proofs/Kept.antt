@@ -149,10 +149,8 @@ free_writes_may_store old new is is_new h was now nvrams held known o w clean ke
 
 -- what a stop leaves of synced drives is what reads give
 pub plans_stand : (shelf : Shelved) → PlansStand shelf
-plans_stand shelf r tables held next clean logged flushed no_log result stand = record {
-  flushed = flushed;
-  log = no_log;
-  result = result;
+plans_stand shelf r tables held next clean logged keeps stand = record {
+  keeps = keeps;
   stand = λ start may members some enough. stand members (λ i. elim (some i) [
     | inl none ↦ inl none
     | inr is ↦ inr (is.0, is.1 ∙ ap (λ (b : List ℕ). Some b) (as_read (shelf.disk (drive i)) (start.image (drive i)) (clean i is.0) (may.device (drive i))))

@@ -1,5 +1,5 @@
 -- What writes in free units, and writes of the log, leave of an array that is open.
-use Rattle.std.specs.Prelude.{◌≡◌, ℕ, ◌+◌, Bool, List, [], ◌∷◌, length}
+use Rattle.std.specs.Prelude.{◌≡◌, ℕ, Bool, List, [], ◌∷◌}
 use Rattle.pur_base.specs.Commands.{Command, AllAccepted}
 use Rattle.pur_base.specs.Devices.{Conditions}
 use Rattle.pur_base.specs.Plain.{Array}
@@ -12,7 +12,7 @@ use Rattle.register.specs.declared.state.Register.{Register}
 use Rattle.register.specs.declared.tables.Tables.{Tables}
 use Rattle.register.specs.Registers.{drives_of}
 use Rattle.register.specs.Standing.{Content, IsOpen, MayStore, ShowsOn, StandsInLog, array_of}
-use Rattle.register.specs.Tables.{IsPlanOf, StandsAsBefore, with_tables}
+use Rattle.register.specs.Tables.{IsPlanOf, KeepsArray, StandsAsBefore, with_tables}
 use Rattle.open_array.specs.Free.{AreSynced, IsKnownOf, WritesFree}
 use Rattle.open_array.specs.Logging.{LeadTo, StandsWhateverFails, WritesLog}
 
@@ -43,11 +43,11 @@ FreeWritesMayStore old new = old.honest → (was now : Register) (nvrams : List 
     → IsKnownOf new now nvrams known
     → MayStore new now nvrams known held (array_of held ∷ [])
 
--- Tables that stand on the drives, as reads give them, may be stored once they hold the array of the log and the drives are synced.
+-- Tables that stand on the drives, as reads give them, may be stored once they hold the same array with what they leave of the log, and the drives are synced.
 abbrev pub PlansStand : Shelved → Type 0
 PlansStand shelf = (r : Register) (tables : Tables) (held next : Content)
     → AreSynced shelf r → HoldsOn shelf r.record.members.nvrams r.record.flushed held.log
-    → tables.flushed ≡ r.record.flushed + length held.log → next.log ≡ [] → next.base ≡ array_of held
+    → KeepsArray r tables held next
     → DataHolds (geometry_of shelf) (drives_of r) (λ d. (shelf.disk d).bytes) (with_tables r.record tables) next.patches next.base
     → IsPlanOf shelf r tables held next
 

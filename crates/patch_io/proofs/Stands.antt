@@ -1,29 +1,31 @@
 -- A patch that is written whole.
-use Rattle.std.proofs.Common.{◌≡◌, inl, inr, ℕ, ◌+◌, ◌<◌, ◌≤◌, Bool, true, false, List, length, replicate, sym, subst, arith, below_more}
+use Rattle.std.proofs.Common.{◌≡◌, inl, inr, ℕ, ◌+◌, ◌<◌, ◌≤◌, Bool, true, false, List, length, replicate, sym, subst, ◌∙◌, ap, arith, below_more}
 use Rattle.std.specs.Prelude.{Some, slice_get}
 use Rattle.std.proofs.lemmas.List.{get_or-replicate, get_or_past, length-replicate}
-use Rattle.std.proofs.lemmas.Bool.{cases_lt}
-use Rattle.pur_base.specs.Devices.{View}
+use Rattle.std.proofs.lemmas.Bool.{cases_lt, cases_Bool}
+use Rattle.pur_base.specs.Devices.{View, drive}
 use Rattle.pur_base.specs.declared.device.Device.{Device}
 use Rattle.pur_base.specs.declared.place.Place.{Place}
 use Rattle.pur_base.specs.declared.facts.AnyFact.{AnyFact}
 use Rattle.boot_codec.specs.declared.patch.Patch.{Patch}
 use Rattle.boot_codec.specs.declared.patch.PatchSegment.{PatchSegment}
 use Rattle.array_spec.specs.Stored.{PatchStands, places_of_part}
-use Rattle.world.specs.Shelf.{Shelved, Stop, MayStop}
+use Rattle.world.specs.Shelf.{Shelved, Disk, Stop, MayStop}
 use Rattle.world.specs.Writes.{WritesOnly}
 use Rattle.world.proofs.Writes.{writes_more}
 use Rattle.segment_io.specs.Headers.{AreSynced}
-use Rattle.segment_io.specs.Lost.{is_in, LosesOnly, NoByte}
+use Rattle.segment_io.specs.Lost.{is_in, LosesOnly, NoByte, OthersStayBut}
 use Rattle.segment_io.specs.Places.{place_of}
 use Rattle.segment_io.specs.Stripes.{bytes_of}
 use Rattle.segment_io.proofs.InTurn.{same_units, same_stripe}
 use Rattle.segment_io.proofs.Views.{holds_at_stop}
 use Rattle.boot_codec.specs.Record.{IsPatch}
 use Rattle.segment_io.specs.declared.open.Open.{Open}
-use Rattle.patch_io.specs.Storing.{MayBeStored, HoldsPatch, OnPatch, ShowsMostOf, AreOpenOf}
+use Rattle.patch_io.specs.Storing.{MayBeStored, HoldsPatch, OnPatch, ShowsMostOf, StaysClean, AreOpenOf}
+use Rattle.patch_io.specs.Faults.{OthersStayOfPatch}
 use Rattle.patch_io.specs.Headed.{HoldsHeader}
 use Rattle.patch_io.proofs.Parts.{places_are}
+use Rattle.patch_io.proofs.Apart.{slot_of}
 use Rattle.patch_io.proofs.Headers.{patch_kept, places_of}
 use Rattle.patch_io.proofs.Shown.{patch_shown}
 
@@ -78,3 +80,27 @@ slot_below a p part shard slot lawful within lt is = let place = (places_of a p 
 -- headers stay where the drives are synced
 pub header_kept : (a b : Shelved) (p : Patch) (was now : List Bool) (generation part : ℕ) → LosesOnly a b was now → ((device : Device) → (b.disk device).bytes ≡ (a.disk device).bytes) → HoldsHeader (bytes_of a) p was generation part → HoldsHeader (bytes_of b) p now generation part
 header_kept a b p was now generation part loses same holds = same_units a b (places_of_part p part) was now 0 _ loses same holds
+
+-- ---- other drives
+
+-- a drive is in the set only if a unit of the patch is on it
+abbrev pub HoldsNoOther : Patch → List Bool → Type 0
+HoldsNoOther p drives = (slot : ℕ) → is_in drives slot ≡ true → (part shard : ℕ) × (part < length p.segments) × (shard < 9) × (slot ≡ (place_of (places_of_part p part) shard).slot)
+
+-- a drive that isn't of the set stays where the patch is written
+pub patch_but : (a b : Shelved) (p : Patch) (drives : List Bool) → HoldsDrives p drives → OthersStayOfPatch p a b → OthersStayBut drives a b
+patch_but a b p drives has others device none = others device (λ part shard within lt e. none (place_of (places_of_part p part) shard).slot (has part shard within lt) e)
+
+-- and a device that has no unit stays where drives of the set are synced
+pub but_patch : (a b : Shelved) (p : Patch) (drives : List Bool) → HoldsNoOther p drives → OthersStayBut drives a b → OthersStayOfPatch p a b
+but_patch a b p drives only others device none = others device (λ slot is same. let of = only slot is in none of.0 of.1 of.2 of.3 (same ∙ ap drive of.4))
+
+pub patch_then : (a b c : Shelved) (p : Patch) → OthersStayOfPatch p a b → OthersStayOfPatch p b c → OthersStayOfPatch p a c
+patch_then a b c p first second device none = second device none ∙ first device none
+
+-- a drive of the set was synced, and any other stays
+pub clean_again : (a e : Shelved) (drives lost : List Bool) → OthersStayBut drives a e → AreSynced e drives lost → StaysClean lost a e
+clean_again a e drives lost others synced slot none was = elim (cases_Bool (is_in drives slot)) [
+  | inl is ↦ synced slot is none
+  | inr out ↦ ap (λ (d : Disk). d.dirty) (others (drive slot) (λ other is same. let e : slot ≡ other = ap slot_of same in absurd (cc))) ∙ was
+]

@@ -1,7 +1,7 @@
 -- Patches that are written.
-use Rattle.std.specs.Prelude.{◌≡◌, ◌≢◌, ℕ, ◌*◌, ◌<◌, true, Bool, List, length, take, drop, Some, slice_get}
+use Rattle.std.specs.Prelude.{◌≡◌, ◌≢◌, ℕ, ◌*◌, ◌<◌, true, false, Bool, List, [], length, take, drop, Some, slice_get}
 use Rattle.std.specs.List.{AllByRecursion}
-use Rattle.pur_base.specs.Devices.{Image, View}
+use Rattle.pur_base.specs.Devices.{Image, View, drive}
 use Rattle.pur_base.specs.declared.device.Device.{Device}
 use Rattle.pur_base.specs.declared.limits.TheConstants.{SEGMENT_SHARDS}
 use Rattle.pur_base.specs.declared.facts.AnyFact.{AnyFact}
@@ -44,6 +44,10 @@ HoldsPatch image p lost facts = (part : ℕ) → part < length p.segments → Ho
 -- so many write units from the n-th on, in each unit of the patch
 abbrev pub OnPatch : Patch → ℕ → ℕ → Device → ℕ → Type 0
 OnPatch p n count device i = (part : ℕ) × (part < length p.segments) × OnUnits (places_of_part p part) n count device i
+
+-- a drive on which nothing was dirty is so again, if it isn't lost
+abbrev pub StaysClean : List Bool → Shelved → Shelved → Type 0
+StaysClean lost old new = (slot : ℕ) → is_in lost slot ≡ false → (old.disk (drive slot)).dirty ≡ [] → (new.disk (drive slot)).dirty ≡ []
 
 -- of the nine drives of each segment the view shows none that is lost, the others as they stand, and at most two are missing in it
 abbrev pub ShowsMostOf : Image → Patch → List Bool → View → Type 0

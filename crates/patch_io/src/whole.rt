@@ -1,5 +1,5 @@
 // A patch is written whole.
-ghost use Rattle.std.specs.Prelude.{◌≡◌, ◌⊎◌, ℕ, ◌+◌, ◌*◌, ◌<◌, ◌≤◌, true, length, map, OnOk};
+ghost use Rattle.std.specs.Prelude.{◌≡◌, ◌⊎◌, ℕ, ◌+◌, ◌*◌, ◌<◌, ◌≤◌, true, length, map, OnOk, OnErr};
 ghost use Rattle.pur_base.specs.Devices.{View};
 ghost use Rattle.pur_base.specs.declared.limits.TheConstants.{SEGMENT_SHARDS, SLOTS_MAX};
 ghost use Rattle.segment_codec.specs.declared.position.TheConstants.{STRIPES};
@@ -11,7 +11,7 @@ ghost use Rattle.segment_io.specs.Places.{place_of};
 ghost use Rattle.segment_io.specs.Lost.{is_in, LosesOnly};
 ghost use Rattle.segment_io.specs.Stripes.{bytes_of};
 ghost use Rattle.patch_io.specs.Faults.{OthersStayOfPatch};
-ghost use Rattle.patch_io.specs.Storing.{MayBeStored, OnPatch, ShowsMostOf};
+ghost use Rattle.patch_io.specs.Storing.{MayBeStored, OnPatch, ShowsMostOf, StaysClean};
 ghost use Rattle.patch_io.specs.Headed.{MayBeHeaded, HoldsHeader, ComesInTurn};
 
 use crate::heading::write_patch_headers;
@@ -76,7 +76,10 @@ pub fn write_patch<F: TableFact, S: Shelf>(
     ensures headers { (S.shelf shelf.old).honest → OnOk result ((part : ℕ) → part < length patch.now.segments → HoldsHeader (bytes_of (S.shelf shelf.new)) patch.now lost.new.drives generation part) }
     // At every moment no header is there yet, or the facts stand.
     ensures in_turn { (S.shelf shelf.old).honest → LeavesOnly (S.shelf shelf.old) (S.shelf shelf.new) (ComesInTurn (S.shelf shelf.old) patch.now lost.new.drives (map F.any facts.now)) }
+    ensures clean { (S.shelf shelf.old).honest → OnOk result (StaysClean lost.new.drives (S.shelf shelf.old) (S.shelf shelf.new)) }
+    ensures err { OnErr result ((shelf.new ≡ shelf.old) × (lost.new ≡ lost.old)) }
     ensures writes { (S.shelf shelf.old).honest → WritesOnly (OnPatch patch.now 0 (STRIPES + 1)) (S.shelf shelf.old) (S.shelf shelf.new) }
+    ensures others { OthersStayOfPatch patch.now (S.shelf shelf.old) (S.shelf shelf.new) }
     ensures rest { S.shelf_rest shelf.old shelf.new }
 {
     let count = patch.segments.as_slice().len();

@@ -185,6 +185,7 @@ is_in_force (request.Read n lba count) = true
 is_in_force request.List = true
 is_in_force request.Status = true
 is_in_force request.Checkpoint = true
+is_in_force (request.Merge t i) = true
 is_in_force _ = false
 
 -- the request, if its form is served

@@ -132,6 +132,7 @@ impl Request {
                 | Request::List
                 | Request::Status
                 | Request::Checkpoint
+                | Request::Merge { .. }
         )
     }
 

@@ -50,6 +50,11 @@ pub patch_segments_are : (tag n id : ℕ) (units : List (List Place)) → length
 patch_segments_are tag zero id units e = no_places id units e
 patch_segments_are tag (suc n) id units e = ap (λ ps. flat_map (λ (p : Patch). p.segments) ps) (new_some tag (suc n) id units (omega arith)) ∙ append-nil (segments_from id units)
 
+-- there is one at most
+pub one_at_most : (tag n id : ℕ) (units : List (List Place)) → length (new_patch tag n id units) ≤ 1
+one_at_most tag zero id units = omega arith
+one_at_most tag (suc n) id units = let one = ap length (new_some tag (suc n) id units (omega arith)) in omega (arith, one)
+
 -- what holds of it holds of each new patch
 pub new_each : (P : Patch → Type 0) (tag n id : ℕ) (units : List (List Place)) → (1 ≤ n → P (the_patch tag n id units)) → AllByRecursion P (new_patch tag n id units)
 new_each P tag zero id units h = tt

@@ -15,7 +15,7 @@ use Rattle.record_tables.specs.Laws.{NextPatchesAreLawful}
 use Rattle.record_tables.proofs.Lists.{all_append, all_front, all_back, all_weaker}
 use Rattle.record_tables.proofs.Woven.{Woven, woven_all, woven_sum}
 use Rattle.record_tables.proofs.Tags.{HaveTagsBelow, woven_in_order, ordered}
-use Rattle.record_tables.proofs.Added.{the_patch, new_some, new_each, segments_long, taken_long, left_long, added_segments}
+use Rattle.record_tables.proofs.Added.{the_patch, new_some, new_each, segments_long, patch_segments_are, taken_long, left_long, added_segments}
 
 -- ---- tags
 
@@ -60,6 +60,16 @@ new_segments slots units id [] h l = tt
 new_segments slots units id (u ∷ places) h l =
     (record { id = omega (arith, l); nine = h.0.nine; places = h.0.ascending }, new_segments slots units (id + 1) places h.1 (omega (arith, l)))
 
+-- a new patch on its units
+pub new_lawful : (slots units tag n id : ℕ) (places : List (List Place)) → tag ≤ 5 → n < 2 ^ 32 → length places ≡ segments_for n → AllByRecursion (ArePlaces (record { slots = slots; units = units })) places
+    → id + length places < 2 ^ 64 → AllByRecursion (IsPatch slots units) (new_patch tag n id places)
+new_lawful slots units tag n id places t few e h l = new_each (IsPatch slots units) tag n id places (λ some. record {
+  tag = t;
+  facts = (some, few);
+  room = segments_long id places ∙ e;
+  segments = new_segments slots units id places h l;
+})
+
 added_lawful : (slots units tag : ℕ) (counts : List ℕ) (id : ℕ) (places : List (List Place)) → tag + length counts ≤ 6 → AllByRecursion (λ n. n < 2 ^ 32) counts → sum_by segments_for counts ≡ length places
     → AllByRecursion (ArePlaces (record { slots = slots; units = units })) places → id + length places < 2 ^ 64 → AllByRecursion (IsPatch slots units) (added_from tag counts id places)
 added_lawful slots units tag [] id places t few e h l = tt
@@ -70,23 +80,23 @@ added_lawful slots units tag (n ∷ counts) id places t few e h l =
     let sum : sum_by segments_for (n ∷ counts) ≡ k + sum_by segments_for counts = sum_by-cons segments_for n counts in
     let whole = subst (λ u. AllByRecursion (ArePlaces (record { slots = slots; units = units })) u) (sym (take-append-drop k places)) h in
     all_append (IsPatch slots units) (new_patch tag n id (take k places)) (added_from (tag + 1) counts (id + k) (drop k places))
-    (new_each (IsPatch slots units) tag n id (take k places) (λ some. record {
-      tag = omega (arith, t);
-      facts = (some, few.0);
-      room = segments_long id (take k places) ∙ long;
-      segments = new_segments slots units id (take k places) (all_front (ArePlaces (record { slots = slots; units = units })) (take k places) (drop k places) whole) (omega (arith, l, long, e, sum));
-    }))
+    (new_lawful slots units tag n id (take k places) (omega (arith, t)) few.0 long (all_front (ArePlaces (record { slots = slots; units = units })) (take k places) (drop k places) whole) (omega (arith, l, long, e, sum)))
     (added_lawful slots units (tag + 1) counts (id + k) (drop k places) (omega (arith, t)) few.1 left (all_back (ArePlaces (record { slots = slots; units = units })) (take k places) (drop k places) whole)
     (omega (arith, l, left, e, sum)))
 
 -- ---- how many
+
+-- it takes all of its units
+pub new_room : (tag n id : ℕ) (places : List (List Place)) → length places ≡ segments_for n → patch_segments (new_patch tag n id places) ≡ length places
+new_room tag n id places e =
+    sym (length-flat_map (λ (p : Patch). p.segments) (new_patch tag n id places)) ∙ ap length (patch_segments_are tag n id places e) ∙ segments_long id places
 
 added_room : (tag : ℕ) (counts : List ℕ) (id : ℕ) (places : List (List Place)) → sum_by segments_for counts ≡ length places → patch_segments (added_from tag counts id places) ≡ length places
 added_room tag counts id places e =
     sym (length-flat_map (λ (p : Patch). p.segments) (added_from tag counts id places)) ∙ ap length (added_segments tag counts id places e) ∙ segments_long id places
 
 -- each has a segment
-fewer : (slots units : ℕ) (ps : List Patch) → AllByRecursion (IsPatch slots units) ps → length ps ≤ patch_segments ps
+pub fewer : (slots units : ℕ) (ps : List Patch) → AllByRecursion (IsPatch slots units) ps → length ps ≤ patch_segments ps
 fewer slots units [] h = omega arith
 fewer slots units (p ∷ ps) h =
     let rest = fewer slots units ps h.1 in

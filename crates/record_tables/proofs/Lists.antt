@@ -1,10 +1,18 @@
 -- What holds of each element of lists, and of each two.
-use Rattle.std.proofs.Common.{◌≡◌, ◌⊎◌, ℕ, suc, ◌<◌, List, [], ◌∷◌, ◌++◌, length, refl, sym, ap, arith, inl, inr, subst, map, Contains, AllPairs}
+use Rattle.std.proofs.Common.{◌≡◌, ◌⊎◌, ℕ, zero, suc, ◌<◌, List, [], ◌∷◌, ◌++◌, length, get_or, refl, sym, ap, arith, inl, inr, subst, map, Contains, AllPairs}
 use Rattle.std.specs.List.{AllByRecursion, AllZip}
 use Rattle.std.proofs.lemmas.List.Elements.{Contains-append_left, Contains-append_right, Contains-append_cases}
 use Rattle.std.proofs.lemmas.List.Kept.{AllPairs-cons}
 use Rattle.pyramid.proofs.ContainsLemmas.{here, there, either, nowhere}
 use Rattle.pyramid.proofs.LayerLemmas.{all_contained}
+
+-- ---- some left out
+
+pub contains_without : {X : Type 0} (xs ys zs : List X) (x : X) → Contains (xs ++ zs) x → Contains (xs ++ (ys ++ zs)) x
+contains_without xs ys zs x c = elim (Contains-append_cases xs zs x c) [
+  | inl a ↦ Contains-append_left xs (ys ++ zs) x a
+  | inr b ↦ Contains-append_right xs (ys ++ zs) x (Contains-append_right ys zs x b)
+]
 
 -- ---- each element
 
@@ -60,6 +68,12 @@ module _ {X : Type 0} (R : X → X → Type 0) where
     | inr rest ↦ pairs_across xs ys (pairs_tail z (xs ++ ys) h) x y rest d
   ]
 
+  -- without those between
+  pub pairs_without : (xs ys zs : List X) → AllPairs R (xs ++ (ys ++ zs)) → AllPairs R (xs ++ zs)
+  pairs_without xs ys zs h =
+      pairs_append xs zs (pairs_front xs (ys ++ zs) h) (pairs_back ys zs (pairs_back xs (ys ++ zs) h))
+      (λ x y c d. pairs_across xs (ys ++ zs) h x y c (Contains-append_right ys zs y d))
+
   -- the other way round
   pub pairs_swapped : ((x y : X) → R x y → R y x) → (xs ys : List X) → AllPairs R (xs ++ ys) → AllPairs R (ys ++ xs)
   pairs_swapped back xs ys h = pairs_append ys xs (pairs_back xs ys h) (pairs_front xs ys h) (λ y x c d. back x y (pairs_across xs ys h x y d c))
@@ -72,6 +86,20 @@ module _ {A B : Type 0} (R : A → B → Type 0) where
   zip_join [] (y ∷ ys) vs ws h k = absurd h
   zip_join (x ∷ xs) [] vs ws h k = absurd h
   zip_join (x ∷ xs) (y ∷ ys) vs ws h k = (h.0, zip_join xs ys vs ws h.1 k)
+
+  -- the parts of both
+  pub zip_parts : (xs : List A) (ys : List B) (vs : List A) (ws : List B) → length xs ≡ length ys → AllZip R (xs ++ vs) (ys ++ ws) → AllZip R xs ys × AllZip R vs ws
+  zip_parts [] [] vs ws l h = (tt, h)
+  zip_parts [] (y ∷ ys) vs ws l h = absurd (omega (arith, l))
+  zip_parts (x ∷ xs) [] vs ws l h = absurd (omega (arith, l))
+  zip_parts (x ∷ xs) (y ∷ ys) vs ws l h = let rest = zip_parts xs ys vs ws (omega (arith, l)) h.1 in ((h.0, rest.0), rest.1)
+
+  -- the elements of one place
+  pub zip_at : (xs : List A) (ys : List B) (i : ℕ) (d : A) (e : B) → AllZip R xs ys → i < length xs → R (get_or xs i d) (get_or ys i e)
+  zip_at [] ys i d e h l = absurd (omega (arith, l))
+  zip_at (x ∷ xs) [] i d e h l = absurd h
+  zip_at (x ∷ xs) (y ∷ ys) zero d e h l = h.0
+  zip_at (x ∷ xs) (y ∷ ys) (suc i) d e h l = zip_at xs ys i d e h.1 (omega (arith, l))
 
   -- a list that stands beside two
   pub record IsSplit (all : List A) (ys zs : List B) : Type 0 where

@@ -23,17 +23,18 @@ use Rattle.record_tables.proofs.Added.{the_patch, new_some, added_filled, added_
 
 -- ---- the new patches
 
-each_mapped : {F : Type 0} (c : F → AnyFact) (tag : ℕ) → ((f : F) → table_tag (c f) ≡ tag) → (fs : List F) → AllByRecursion (λ f. table_tag f ≡ tag) (map c fs)
-each_mapped c tag is [] = tt
-each_mapped c tag is (f ∷ fs) = (is f, each_mapped c tag is fs)
+-- facts of one table have its tag
+each_passes : {F : Type 0} (P : ℕ → Type 0) (c : F → AnyFact) → ((f : F) → P (table_tag (c f))) → (fs : List F) → AllByRecursion (λ f. P (table_tag f)) (map c fs)
+each_passes P c passes [] = tt
+each_passes P c passes (f ∷ fs) = (passes f, each_passes P c passes fs)
 
 -- the new patch of a table is named by how many facts it has
-new_named : {F : Type 0} (c : F → AnyFact) (tag : ℕ) → ((f : F) → table_tag (c f) ≡ tag) → (patch : Option (List F)) (n id : ℕ) (units : List (List Place)) → HasFacts patch → n ≡ length (patch_facts patch)
+pub new_named : {F : Type 0} (c : F → AnyFact) (tag : ℕ) → ((f : F) → table_tag (c f) ≡ tag) → (patch : Option (List F)) (n id : ℕ) (units : List (List Place)) → HasFacts patch → n ≡ length (patch_facts patch)
     → AllZip IsNamed (new_patch tag n id units) (map (map c) (patches_of patch))
 new_named c tag is None n id units some e = subst (λ k. AllZip IsNamed (new_patch tag k id units) []) (sym e) tt
 new_named c tag is (Some fs) n id units some e =
     subst (λ ps. AllZip IsNamed ps (map c fs ∷ [])) (sym (new_some tag n id units (omega (arith, some, e))))
-    (record { count = e ∙ sym (length-map fs c); table = each_mapped c tag is fs }, tt)
+    (record { count = e ∙ sym (length-map fs c); table = each_passes (λ k. k ≡ tag) c is fs }, tt)
 
 pub added_are_named : AddedAreNamed
 added_are_named p counts first units some are =
@@ -72,18 +73,22 @@ abbrev AreTables : ℕ → List Table → Type 0
 AreTables tag [] = Unit {0}
 AreTables tag (t ∷ ts) = AreOfTable tag t.0 × AreOfTable tag t.1 × AreTables (tag + 1) ts
 
-abbrev AreFilled : List Patch → Type 0
+abbrev pub AreFilled : List Patch → Type 0
 AreFilled ps = AllByRecursion (λ p. 1 ≤ p.facts) ps
 
--- a patch that is named by facts of a table has its tag
-tag_is : (tag : ℕ) (p : Patch) (fs : List AnyFact) → 1 ≤ p.facts → IsNamed p fs → AllByRecursion (λ f. table_tag f ≡ tag) fs → p.tag ≡ tag
-tag_is tag p [] some n h = let none = n.count in absurd (omega (arith, some, none))
-tag_is tag p (f ∷ fs) some n h = sym n.table.0 ∙ h.0
+-- what holds of the tag of each fact holds of that of the patch that they name
+tag_passes : (P : ℕ → Type 0) (p : Patch) (fs : List AnyFact) → 1 ≤ p.facts → IsNamed p fs → AllByRecursion (λ f. P (table_tag f)) fs → P p.tag
+tag_passes P p [] some n h = let none = n.count in absurd (omega (arith, some, none))
+tag_passes P p (f ∷ fs) some n h = subst P n.table.0 h.0
+
+pub tags_pass : (P : ℕ → Type 0) (ps : List Patch) (fss : List (List AnyFact)) → AreFilled ps → AllZip IsNamed ps fss → AllByRecursion (λ fs. AllByRecursion (λ f. P (table_tag f)) fs) fss
+    → AllByRecursion (λ p. P p.tag) ps
+tags_pass P [] fss some n h = tt
+tags_pass P (p ∷ ps) [] some n h = absurd n
+tags_pass P (p ∷ ps) (fs ∷ fss) some n h = (tag_passes P p fs some.0 n.0 h.0, tags_pass P ps fss some.1 n.1 h.1)
 
 tags_are : (tag : ℕ) (ps : List Patch) (fss : List (List AnyFact)) → AreFilled ps → AllZip IsNamed ps fss → AreOfTable tag fss → HaveTag tag ps
-tags_are tag [] fss some n h = tt
-tags_are tag (p ∷ ps) [] some n h = absurd n
-tags_are tag (p ∷ ps) (fs ∷ fss) some n h = (tag_is tag p fs some.0 n.0 h.0, tags_are tag ps fss some.1 n.1 h.1)
+tags_are tag ps fss some n h = tags_pass (λ k. k ≡ tag) ps fss some n h
 
 module _ (part : Table → List (List AnyFact)) (all : List Table → List (List AnyFact)) (none : all [] ≡ []) (next : (t : Table) (ts : List Table) → all (t ∷ ts) ≡ part t ++ all ts)
     (own : (tag : ℕ) (t : Table) → AreOfTable tag t.0 → AreOfTable tag t.1 → AreOfTable tag (part t)) where
@@ -132,9 +137,13 @@ module _ (R : Patch → List AnyFact → Type 0) where
 
 -- ---- the five tables
 
+-- so have those of its patches
+pub all_pass : {F : Type 0} (P : ℕ → Type 0) (c : F → AnyFact) → ((f : F) → P (table_tag (c f))) → (ps : List (List F)) → AllByRecursion (λ fs. AllByRecursion (λ f. P (table_tag f)) fs) (map (map c) ps)
+all_pass P c passes [] = tt
+all_pass P c passes (fs ∷ ps) = (each_passes P c passes fs, all_pass P c passes ps)
+
 facts_of_table : {F : Type 0} (c : F → AnyFact) (tag : ℕ) → ((f : F) → table_tag (c f) ≡ tag) → (ps : List (List F)) → AreOfTable tag (map (map c) ps)
-facts_of_table c tag is [] = tt
-facts_of_table c tag is (fs ∷ ps) = (each_mapped c tag is fs, facts_of_table c tag is ps)
+facts_of_table c tag is ps = all_pass (λ k. k ≡ tag) c is ps
 
 module _ (m : Memory) (p : Plan) where
   abbrev five : List Table

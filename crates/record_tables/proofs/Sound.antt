@@ -34,7 +34,7 @@ use Rattle.record_tables.proofs.Taking.{none_passes, apart_where_unused}
 
 -- ---- ids
 
-ids_between : (id : ℕ) (units : List (List Place)) → AllByRecursion (λ s. (id ≤ s.id) × (s.id < id + length units)) (segments_from id units)
+pub ids_between : (id : ℕ) (units : List (List Place)) → AllByRecursion (λ s. (id ≤ s.id) × (s.id < id + length units)) (segments_from id units)
 ids_between id [] = tt
 ids_between id (u ∷ units) = (
   (omega arith, omega arith),
@@ -42,10 +42,10 @@ ids_between id (u ∷ units) = (
       (ids_between (id + 1) units),
 )
 
-abbrev OwnId : PatchSegment → PatchSegment → Type 0
+abbrev pub OwnId : PatchSegment → PatchSegment → Type 0
 OwnId s t = s.id ≢ t.id
 
-ids_differ : (id : ℕ) (units : List (List Place)) → AllPairs OwnId (segments_from id units)
+pub ids_differ : (id : ℕ) (units : List (List Place)) → AllPairs OwnId (segments_from id units)
 ids_differ id [] = no_pairs OwnId
 ids_differ id (u ∷ units) =
     cons_pairs OwnId (record { id = id; places = u }) (segments_from (id + 1) units)
@@ -54,12 +54,12 @@ ids_differ id (u ∷ units) =
 
 -- ---- units
 
-apart_back : (ps qs : List Place) → AreApart ps qs → AreApart qs ps
+pub apart_back : (ps qs : List Place) → AreApart ps qs → AreApart qs ps
 apart_back ps qs h = each_by_recursion (λ q. AllByRecursion (λ p. q ≢ p) ps) qs (λ q d. each_by_recursion (λ p. q ≢ p) ps (λ p c e.
     of_each (λ q. p ≢ q) qs q (of_each (λ p. AllByRecursion (λ q. p ≢ q) qs) ps p h c) d (sym e)))
 
 -- free units are in no segment that is named or visible
-free_apart : (boot : BootRecord) (fs : Facts) (us vs : List Place) → AreUnitsToTake boot fs us → Contains (used_places boot fs) vs → AreApart vs us
+pub free_apart : (boot : BootRecord) (fs : Facts) (us vs : List Place) → AreUnitsToTake boot fs us → Contains (used_places boot fs) vs → AreApart vs us
 free_apart boot fs us vs h c = apart_where_unused vs us (λ q d.
     none_passes (list_any (is_place q.slot q.unit)) (used_places boot fs) vs (of_each _ us q h.free d).unused c)
 

@@ -82,11 +82,11 @@ pub tags_from : (least low : ℕ) (ps : List Patch) → ByTagFrom low ps → lea
 tags_from least low [] h l = tt
 tags_from least low (p ∷ ps) h l = let low_is = h.0 in (omega (arith, l, low_is), tags_from least p.tag ps h.1 (omega (arith, l, low_is)))
 
-lower : (least low : ℕ) (ps : List Patch) → least ≤ low → ByTagFrom low ps → ByTagFrom least ps
+pub lower : (least low : ℕ) (ps : List Patch) → least ≤ low → ByTagFrom low ps → ByTagFrom least ps
 lower least low [] l h = tt
 lower least low (p ∷ ps) l h = let low_is = h.0 in (omega (arith, l, low_is), h.1)
 
-behind_tag : (tag : ℕ) (ps rest : List Patch) → HaveTag tag ps → ByTagFrom tag rest → ByTagFrom tag (ps ++ rest)
+pub behind_tag : (tag : ℕ) (ps rest : List Patch) → HaveTag tag ps → ByTagFrom tag rest → ByTagFrom tag (ps ++ rest)
 behind_tag tag [] rest h k = k
 behind_tag tag (p ∷ ps) rest h k =
     let is = h.0 in

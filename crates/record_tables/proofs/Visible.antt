@@ -40,7 +40,7 @@ range_split a (suc x) y =
     ap (λ n. range_with_len a n) (let e : suc x + y ≡ suc (x + y) = omega arith in e)
     ∙ ap (λ l. a ∷ l) (range_split (a + 1) x y ∙ ap (λ n. range_with_len (a + 1) x ++ range_with_len n y) (let e : a + 1 + x ≡ a + suc x = omega arith in e))
 
-same_below : {X : Type 0} (f g : ℕ → Option X) (a n : ℕ) → ((i : ℕ) → a ≤ i → i < a + n → f i ≡ g i) → filter_map f (range_with_len a n) ≡ filter_map g (range_with_len a n)
+pub same_below : {X : Type 0} (f g : ℕ → Option X) (a n : ℕ) → ((i : ℕ) → a ≤ i → i < a + n → f i ≡ g i) → filter_map f (range_with_len a n) ≡ filter_map g (range_with_len a n)
 same_below f g a zero h = refl
 same_below f g a (suc n) h =
     ap (λ o. cons_option o (filter_map f (range_with_len (a + 1) n))) (h a (omega arith) (omega arith))

@@ -86,6 +86,15 @@ module _ {X : Type 0} where
   woven_joined [] (b ∷ rs) = inr (rs, refl, woven_joined [] rs)
   woven_joined (a ∷ ls) rs = inl (ls, refl, woven_joined ls rs)
 
+  -- one list between two parts of the other
+  pub woven_between : (ls ns rs : List X) → Woven (ls ++ rs) ns (ls ++ (ns ++ rs))
+  woven_between ls ns rs = woven_left ls rs ns (ns ++ rs) (before ns rs)
+    where
+      before : (ns rs : List X) → Woven rs ns (ns ++ rs)
+      before [] [] = (refl, refl)
+      before [] (r ∷ rs) = inl (rs, refl, before [] rs)
+      before (n ∷ ns) rs = inr (ns, refl, before ns rs)
+
 pub woven_map : {X Y : Type 0} (f : X → Y) (ls rs xs : List X) → Woven ls rs xs → Woven (map f ls) (map f rs) (map f xs)
 woven_map f ls rs [] w = rw (w.0, w.1) (refl, refl)
 woven_map f ls rs (x ∷ xs) w = elim w [

@@ -1,3 +1,4 @@
 pub mod Patches
 pub mod Units
 pub mod Laws
+pub mod Joined

@@ -2,11 +2,13 @@
 //! The record stays lawful, names each patch of memory after the plan, and keeps its segments apart. No device is called.
 #![tactic(auto)]
 
+mod joined;
 mod laws;
 mod patches;
 mod segments;
 mod units;
 
+pub use joined::{Pair, joined_patches, joined_patches_are_lawful, merged_has_facts, pair_of};
 pub use laws::{
     added_are_named, next_patches_are_lawful, next_patches_are_named, next_segments_are_sound,
     none_is_taken, patches_have_facts,

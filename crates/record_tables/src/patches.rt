@@ -52,7 +52,7 @@ fn segments_from(alloc: Global, first: u64, units: &[Places]) -> Result<Vec<Patc
 }
 
 /// Adds the new patch of a table, if it has new facts.
-fn push_new(
+pub(crate) fn push_new(
     alloc: Global,
     patches: &mut Patches,
     tag: u8,

@@ -1,7 +1,8 @@
 -- A record with other tables is stored: at every moment the devices stand for the array of the log, and after it the record is in force.
-use Rattle.std.proofs.Common.{◌≡◌, ◌⊎◌, inl, inr, ℕ, ◌+◌, ◌-◌, ◌^◌, ◌≤◌, ◌<◌, List, [], ◌∷◌, length, refl, sym, ◌∙◌, ap, subst, arith, Bool, true, false}
-use Rattle.std.specs.Prelude.{Some, IsTrue, slice_get, slice_index, slice_index_or, if◌then◌else◌}
+use Rattle.std.proofs.Common.{◌≡◌, ◌⊎◌, inl, inr, ℕ, ◌+◌, ◌-◌, ◌^◌, ◌≤◌, ◌<◌, List, [], ◌∷◌, length, take, refl, sym, ◌∙◌, ap, subst, arith, Bool, true, false}
+use Rattle.std.specs.Prelude.{Some, Contains, IsTrue, slice_get, slice_index, slice_index_or, if◌then◌else◌}
 use Rattle.std.proofs.lemmas.Bool.{cases_Bool, cases_lt}
+use Rattle.std.proofs.lemmas.List.{take_all, append-nil}
 use Rattle.std.proofs.lemmas.Option.{slice_get-get_or}
 use Rattle.pur_base.specs.declared.device.Device.{Device}
 use Rattle.pur_base.specs.declared.device.Device.TheVariants as dev
@@ -15,12 +16,12 @@ use Rattle.boot_codec.specs.Spelling.{spelling}
 use Rattle.boot_codec.specs.Region.{BootSlot, IsRecordOf, names, other_slot, body_in, generation_in, Yields}
 use Rattle.log_codec.specs.Log.{ShowsIn}
 use Rattle.array_spec.specs.Standing.{Stands, MayBeGiven, IsReadInto, FollowsOn}
-use Rattle.array_spec.specs.Unflushed.{NamesSound}
+use Rattle.array_spec.specs.Unflushed.{LogLies, NamesSound}
 use Rattle.array_spec.proofs.Votes.{sound_before}
 use Rattle.array_spec.proofs.Settling.{twice_other}
 use Rattle.stored_spec.specs.Held.{TablesHold, NamesNoneLeftOut}
-use Rattle.stored_spec.specs.Laws.{ShowsNone, IsCheckpointOf}
-use Rattle.stored_spec.proofs.Follow.{checkpoint_follows}
+use Rattle.stored_spec.specs.Laws.{ShowsNone}
+use Rattle.stored_spec.proofs.Follow.{checkpoint_follows, merge_follows}
 use Rattle.stored_spec.proofs.Next.{data_is_held}
 use Rattle.world.specs.Shelf.{Shelved, Disk, Stop, IsShelf, IsInSome, MayLeave, MayStop, IsCountedBy, Continues, LeavesOnly}
 use Rattle.world.specs.Losing.{geometry_of}
@@ -34,9 +35,9 @@ use Rattle.nvram_log.proofs.Closing.{one_number}
 use Rattle.register.specs.declared.state.Register.{Register}
 use Rattle.register.specs.declared.tables.Tables.{Tables}
 use Rattle.register.specs.Registers.{IsRegisterOf, drives_of, named_sound, next_record, next_slot, own_slot}
-use Rattle.register.specs.Standing.{Content, ShowsOn, IsNextOf, IsOpen, GivesOldOrNext, MayStore, StandsInLog, array_of}
+use Rattle.register.specs.Standing.{Content, IsShown, ShowsOn, IsNextOf, IsOpen, GivesOldOrNext, MayStore, StandsInLog, array_of}
 use Rattle.register.specs.Giving.{GivesOldOrTables, IsNextWith}
-use Rattle.register.specs.Tables.{IsPlanOf, MayGoOn, StandsAsBefore, with_tables}
+use Rattle.register.specs.Tables.{FlushesAll, FlushesNone, IsPlanOf, KeepsArray, MayGoOn, StandsAsBefore, with_tables}
 use Rattle.register.proofs.Again.{meanwhile, accounts, bearable_then, accounts_since}
 use Rattle.register.proofs.FlagLemmas.{in_cut}
 use Rattle.register.proofs.Follows.{left_before}
@@ -59,6 +60,11 @@ shows_no_more bytes flushed i (d ∷ log) c held shows = elim (cases_lt i (lengt
   where
     closed : (b : Bool) → b ≡ false → IsTrue b → ⊥
     closed b e t = absurd (cc (subst (λ (x : Bool). IsTrue x) e t))
+
+-- the tables hold the same array with what they leave of the log
+pub same_array : (r : Register) (tables : Tables) (held next : Content) → KeepsArray r tables held next → array_of next ≡ array_of held
+same_array r tables held next (inl all) = ap (λ (l : List Command). after_all next.base l) all.log ∙ all.base
+same_array r tables held next (inr none) = ap (λ (l : List Command). after_all next.base l) none.log ∙ ap (λ (b : Array). after_all b held.log) none.base
 
 -- the record that is made is one of these tables
 pub is_next_with : (r : Register) (tables : Tables) → IsNextWith r tables (next_record (with_tables r.record tables) r.drives r.record.members.nvrams)
@@ -135,11 +141,8 @@ module _ (old : Shelved) (is_old : IsShelf old) (h : old.honest) (was : Register
     tables_now : TablesHold (geometry_of old) stop.image slot boot next.patches next.base
     tables_now = data_is_held (geometry_of old) (drives_of was) start.image stop.image slot (with_tables was.record tables) boot next.patches next.base tabled_of refl (λ i m. cut i m) only (plan.stand start may)
 
-    none_now : ShowsNone stop.image boot
-    none_now n i c below named shows =
-        let bytes : stop.image (nvram n) ≡ (old.disk (nvram n)).bytes = only.nvram n ∙ as_read (old.disk (nvram n)) (start.image (nvram n)) (plan.logged.clean n below named) (may.device (nvram n)) in
-        shows_no_more (old.disk (nvram n)).bytes was.record.flushed i held.log c (plan.logged.log n below named)
-        (subst (λ (f : ℕ). ShowsIn (old.disk (nvram n)).bytes f i c) plan.flushed (subst (λ (b : List ℕ). ShowsIn b tables.flushed i c) bytes shows))
+    nvram_is : (n : ℕ) → n < 2 → nv.IsMember was.record.members.nvrams n → stop.image (nvram n) ≡ (old.disk (nvram n)).bytes
+    nvram_is n lt m = only.nvram n ∙ as_read (old.disk (nvram n)) (start.image (nvram n)) (plan.logged.clean n lt m) (may.device (nvram n))
 
     sound_start : NamesSound (geometry_of old) start.image (named_sound was.record) own was.record
     sound_start = record {
@@ -152,15 +155,50 @@ module _ (old : Shelved) (is_old : IsShelf old) (h : old.honest) (was : Register
     left_start : NamesNoneLeftOut (named_sound was.record) was.record
     left_start d out = is_left (names was.record d) out
 
-    is_checkpoint : IsCheckpointOf was.record boot held.base held.log next.base
-    is_checkpoint = record { flushed = plan.flushed; generation = refl; result = plan.result }
-
-    follows : (s : Stands (geometry_of old) start.image (named_sound was.record) (array_of held ∷ []))
-        → (r : IsReadInto (geometry_of old) stop.image later slot boot (array_of held ∷ [])) × ((slot3 : BootSlot) (boot3 : BootRecord) (g : MayBeGiven (geometry_of old) start.image (named_sound was.record) slot3 boot3)
+    abbrev Follows : Stands (geometry_of old) start.image (named_sound was.record) (array_of held ∷ []) → Type 0
+    Follows s = (r : IsReadInto (geometry_of old) stop.image later slot boot (array_of held ∷ [])) × ((slot3 : BootSlot) (boot3 : BootRecord) (g : MayBeGiven (geometry_of old) start.image (named_sound was.record) slot3 boot3)
         → FollowsOn (geometry_of old) stop.image later slot boot boot3 r.base (s.reads slot3 boot3 g).base × FollowsOn (geometry_of old) stop.image later slot3 boot3 boot (s.reads slot3 boot3 g).base r.base)
-    follows s = checkpoint_follows (geometry_of old) start.image stop.image (named_sound was.record) later own slot was.record boot held.patches next.patches held.base next.base held.log (array_of held ∷ [])
-        is_checkpoint (0, omega arith, sym plan.result) lawful_of (record { in_its_slot = sym (next_other was.record.generation); not_spent = low }) sound_now left_now tables_now none_now
+
+    -- where all that is logged was flushed, no command is shown behind it
+    none_now : FlushesAll was tables held next → ShowsNone stop.image boot
+    none_now all n i c below named shows =
+        shows_no_more (old.disk (nvram n)).bytes was.record.flushed i held.log c (plan.logged.log n below named)
+        (subst (λ (f : ℕ). ShowsIn (old.disk (nvram n)).bytes f i c) all.flushed (subst (λ (b : List ℕ). ShowsIn b tables.flushed i c) (nvram_is n below named) shows))
+
+    follows_all : FlushesAll was tables held next → (s : Stands (geometry_of old) start.image (named_sound was.record) (array_of held ∷ [])) → Follows s
+    follows_all all s = checkpoint_follows (geometry_of old) start.image stop.image (named_sound was.record) later own slot was.record boot held.patches next.patches held.base next.base held.log (array_of held ∷ [])
+        (record { flushed = all.flushed; generation = refl; result = all.base }) (0, omega arith, sym all.base)
+        lawful_of (record { in_its_slot = sym (next_other was.record.generation); not_spent = low }) sound_now left_now tables_now (none_now all)
         sound_start left_start (o.logged.tables start may) (λ slot3 boot3 g. o.alone start slot3 boot3 may g) s
+
+    -- where none was, the same log goes on
+    lies_now : FlushesNone was tables held next → LogLies stop.image later boot held.log held.log
+    lies_now none = subst (λ (f : ℕ). LogLies stop.image later (record boot { flushed = f }) held.log held.log) (sym none.flushed) (record {
+      front = ([], sym (append-nil held.log));
+      room = (plan.logged.log one.0 one.1 one.2).room;
+      lawful = λ i c at. ((plan.logged.log one.0 one.1 one.2).between.all i c at).spelled.lawful;
+      all = λ n i c lt s at.
+          let m = named_before (nvram n) later within s in
+          subst (λ (b : List ℕ). ShowsIn b was.record.flushed i c) (sym (nvram_is n lt m)) ((plan.logged.log n lt m).between.all i c at);
+      no_other = λ n i c lt m shown. (plan.logged.log n lt m).between.no_other i c (subst (λ (b : List ℕ). ShowsIn b was.record.flushed i c) (nvram_is n lt m) shown);
+      left_out = λ n lt out. left_now (nvram n) out;
+    })
+      where
+        one : (n : ℕ) × (n < 2) × nv.IsMember was.record.members.nvrams n
+        one = elim some [ inl m ↦ (0, omega arith, m) | inr m ↦ (1, omega arith, m) ]
+
+    all_of_it : (n : ℕ) → length held.log ≤ n → n ≤ length held.log → Contains (array_of held ∷ []) (after_all held.base (take n held.log))
+    all_of_it n from_there to_there = (0, omega arith, ap (after_all held.base) (sym (take_all n held.log from_there)))
+
+    follows_none : FlushesNone was tables held next → (s : Stands (geometry_of old) start.image (named_sound was.record) (array_of held ∷ [])) → Follows s
+    follows_none none s = merge_follows (geometry_of old) start.image stop.image (named_sound was.record) later own slot was.record boot held.patches next.patches held.base held.log held.log (array_of held ∷ [])
+        (record { flushed = none.flushed; generation = refl })
+        lawful_of (record { in_its_slot = sym (next_other was.record.generation); not_spent = low }) sound_now left_now
+        (subst (λ (b : Array). TablesHold (geometry_of old) stop.image slot boot next.patches b) none.base tables_now) o.logged.accepted (lies_now none) all_of_it
+        sound_start left_start (o.logged.tables start may) (λ slot3 boot3 g. o.alone start slot3 boot3 may g) s
+
+    follows : (s : Stands (geometry_of old) start.image (named_sound was.record) (array_of held ∷ [])) → Follows s
+    follows s = elim plan.keeps [ inl all ↦ follows_all all s | inr none ↦ follows_none none s ]
 
   follow : was.record.generation + 1 < 2 ^ 48 - 8 → MayFollow old (named_sound was.record) slot boot (array_of held ∷ [])
   follow low = record {
@@ -199,18 +237,37 @@ module _ (old : Shelved) (is_old : IsShelf old) (h : old.honest) (was : Register
     body_now : (i : ℕ) → IsMember (drives_of now) i → body_in slot (new.disk (drive i)).bytes ≡ spelling boot
     body_now i m = shown_body slot (new.disk (drive i)).bytes (spelling boot) (puts.shown h i m).shown
 
-    shows_now : ShowsOn new was.record.members.nvrams tables.flushed next.log
-    shows_now = subst (λ (l : List Command). ShowsOn new was.record.members.nvrams tables.flushed l) (sym plan.log) (record {
+    shows_none : FlushesAll was tables held next → ShowsOn new was.record.members.nvrams tables.flushed []
+    shows_none all = record {
       log = λ n lt m. record {
         room = omega arith;
         between = record {
           all = λ i c at. cc at;
           no_other = λ i c shows. absurd (shows_no_more (old.disk (nvram n)).bytes was.record.flushed i held.log c (plan.logged.log n lt m)
-              (subst (λ (f : ℕ). ShowsIn (old.disk (nvram n)).bytes f i c) plan.flushed (subst (λ (d : Disk). ShowsIn d.bytes tables.flushed i c) (nvram_same n) shows)));
+              (subst (λ (f : ℕ). ShowsIn (old.disk (nvram n)).bytes f i c) all.flushed (subst (λ (d : Disk). ShowsIn d.bytes tables.flushed i c) (nvram_same n) shows)));
         };
       };
       clean = λ n lt m. subst (λ (d : Disk). d.dirty ≡ []) (sym (nvram_same n)) (plan.logged.clean n lt m);
-    })
+    }
+
+    shows_still : ShowsOn new was.record.members.nvrams was.record.flushed held.log
+    shows_still = record {
+      log = λ n lt m. subst (λ (d : Disk). IsShown d.bytes was.record.flushed held.log) (sym (nvram_same n)) (o.logged.holds.log n lt m);
+      clean = λ n lt m. subst (λ (d : Disk). d.dirty ≡ []) (sym (nvram_same n)) (o.logged.holds.clean n lt m);
+    }
+
+    shows_now : ShowsOn new was.record.members.nvrams tables.flushed next.log
+    shows_now = elim plan.keeps [
+      | inl all ↦ subst (λ (l : List Command). ShowsOn new was.record.members.nvrams tables.flushed l) (sym all.log) (shows_none all)
+      | inr none ↦ subst (λ (l : List Command). ShowsOn new was.record.members.nvrams tables.flushed l) (sym none.log)
+          (subst (λ (f : ℕ). ShowsOn new was.record.members.nvrams f held.log) (sym none.flushed) shows_still)
+    ]
+
+    accepted_now : AllAccepted next.base next.log
+    accepted_now = elim plan.keeps [
+      | inl all ↦ subst (λ (l : List Command). AllAccepted next.base l) (sym all.log) tt
+      | inr none ↦ subst (λ (l : List Command). AllAccepted next.base l) (sym none.log) (subst (λ (b : Array). AllAccepted b held.log) (sym none.base) o.logged.accepted)
+    ]
 
     pub logged_now : StandsInLog new now was.record.members.nvrams next
     logged_now = record {
@@ -219,7 +276,7 @@ module _ (old : Shelved) (is_old : IsShelf old) (h : old.honest) (was : Register
       bodies = λ i m. subst (λ (b : BootRecord). body_in (own_slot b) (new.disk (drive i)).bytes ≡ spelling b) (sym kept)
           (subst (λ (t : BootSlot). body_in t (new.disk (drive i)).bytes ≡ spelling boot) (sym (next_other was.record.generation)) (body_now i m));
       holds = subst (λ (b : BootRecord). ShowsOn new was.record.members.nvrams b.flushed next.log) (sym kept) shows_now;
-      accepted = subst (λ (l : List Command). AllAccepted next.base l) (sym plan.log) tt;
+      accepted = accepted_now;
     }
 
     older_body : (i : ℕ) → IsMember (drives_of now) i → body_in own (new.disk (drive i)).bytes ≡ spelling was.record
@@ -264,7 +321,7 @@ module _ (old : Shelved) (is_old : IsShelf old) (h : old.honest) (was : Register
             in_force = subst (λ (b : BootRecord). IsInForceOn new (drives_of now) later (next_slot b) b) (sym kept)
                 (subst (λ (t : BootSlot). IsInForceOn new (drives_of now) later (other_slot t) boot) (sym (next_other was.record.generation)) s.in_force);
             stands = s.stands;
-            one_of = (0, omega arith, sym (array_next));
+            one_of = (0, omega arith, sym (same_array was tables held next plan.keeps));
             sound = λ n lt e. named_before (nvram n) later account.within e;
             left_out = λ n e m. absurd (cc (m, is_left (names was.record (nvram n)) (left_before (named_sound was.record (nvram n)) (later (nvram n)) (account.within (nvram n)) e)));
             unnamed = λ i e. subst (λ (b : BootRecord). names b (drive i) ≡ false) (sym kept) (elim (cases_Bool (slice_index_or was.drives i false)) [
@@ -272,9 +329,6 @@ module _ (old : Shelved) (is_old : IsShelf old) (h : old.honest) (was : Register
               | inr not ↦ not
             ]);
           }
-        where
-          array_next : array_of next ≡ array_of held
-          array_next = ap (λ (l : List Command). after_all next.base l) plan.log ∙ plan.result
 
 -- a stop in a later round
 pub later_round : (old new : Shelved) (on : Continues old new) (was now : Register) (held next : Content) → ((i : ℕ) → IsMember (drives_of now) i → IsMember (drives_of was) i)

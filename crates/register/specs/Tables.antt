@@ -1,5 +1,5 @@
 -- A record with other tables, and what has to stand before it is stored.
-use Rattle.std.specs.Prelude.{◌≡◌, ◌+◌, [], ◌∷◌, length}
+use Rattle.std.specs.Prelude.{◌≡◌, ◌⊎◌, ◌+◌, [], ◌∷◌, length}
 use Rattle.pur_base.specs.Devices.{Conditions}
 use Rattle.boot_codec.specs.declared.record.BootRecord.{BootRecord}
 use Rattle.boot_codec.specs.Spelling.{spelling}
@@ -17,11 +17,25 @@ use Rattle.register.specs.Standing.{Content, MayStore, array_of}
 abbrev pub with_tables : BootRecord → Tables → BootRecord
 with_tables boot t = record boot { patches = t.patches; next = t.next; flushed = t.flushed }
 
--- The tables hold the array of the log: they stand on the drives on which the record is in force, whatever a stop leaves, and have flushed all that is logged.
-pub record IsPlanOf (shelf : Shelved) (r : Register) (tables : Tables) (held next : Content) : Type 0 where
+-- the tables have flushed all that is logged, and hold the array of the log
+pub record FlushesAll (r : Register) (tables : Tables) (held next : Content) : Type 0 where
   pub flushed : tables.flushed ≡ r.record.flushed + length held.log
   pub log : next.log ≡ []
-  pub result : next.base ≡ array_of held
+  pub base : next.base ≡ array_of held
+
+-- or they hold the same base, from which the same log goes on
+pub record FlushesNone (r : Register) (tables : Tables) (held next : Content) : Type 0 where
+  pub flushed : tables.flushed ≡ r.record.flushed
+  pub log : next.log ≡ held.log
+  pub base : next.base ≡ held.base
+
+-- either way it is the same array
+abbrev pub KeepsArray : Register → Tables → Content → Content → Type 0
+KeepsArray r tables held next = FlushesAll r tables held next ⊎ FlushesNone r tables held next
+
+-- The tables, with what is left of the log, hold the same array, and stand on the drives on which the record is in force, whatever a stop leaves.
+pub record IsPlanOf (shelf : Shelved) (r : Register) (tables : Tables) (held next : Content) : Type 0 where
+  pub keeps : KeepsArray r tables held next
   pub stand : (start : Stop) → MayStop shelf start → DataHolds (geometry_of shelf) (drives_of r) start.image (with_tables r.record tables) next.patches next.base
   -- the NVRAM devices hold the log, and the gates behind it are closed
   pub logged : HoldsOn shelf r.record.members.nvrams r.record.flushed held.log

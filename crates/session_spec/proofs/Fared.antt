@@ -1,9 +1,10 @@
 -- What is true of a run of replies.
 use Rattle.std.proofs.Common.{◌≡◌, ◌≢◌, ◌⊎◌, inl, inr, ℕ, ◌<◌, ◌≤◌, ◌-◌, ◌^◌, List, [], ◌∷◌, refl, sym, ◌∙◌, ap, subst, arith, Bool, true, false}
-use Rattle.std.specs.Prelude.{Option, Some, None, ◌||◌, nat_lt, nat_le}
+use Rattle.std.specs.Prelude.{Option, Some, None, ◌+◌, ◌||◌, not, nat_lt, nat_le}
 use Rattle.std.proofs.lemmas.Bool.{cases_Bool, cases_lt, ltb-false}
 use Rattle.pur_base.specs.declared.device.Device.{Device}
 use Rattle.pur_base.specs.declared.request.Request.{Request}
+use Rattle.pur_base.specs.declared.request.Table.{Table}
 use Rattle.pur_base.specs.declared.request.Request.TheVariants as request
 use Rattle.pur_base.specs.declared.reply.Refusal.{Refusal}
 use Rattle.pur_base.specs.declared.reply.Refusal.TheVariants as refusals
@@ -15,8 +16,9 @@ use Rattle.world.specs.Shelf.{Stop}
 use Rattle.world.specs.Losing.{has_risen, has_failed, has_lost_writes, losing, IsLater}
 use Rattle.array_spec.specs.Runs.{Step, IsModelled, IsPhysical, IsBarred}
 use Rattle.array_spec.proofs.Standings.{within_twice}
-use Rattle.session_spec.specs.Faring.{Point, Fares, Serves, Answers, AnswersRequest, AnswersAccepted, IsAppended, IsAppendedBehind, IsCheckpointed, IsDone, IsLogged, IsRefused, IsFailed, IsFlushing, IsFlushed, Where, WithRoom, has_segments, is_full, is_spent}
-use Rattle.session_spec.specs.declared.limits.TheConstants.{ADDING_GROUPS, CHECKPOINT_GROUPS, LIMITED_SEGMENTS, SEGMENTS_END}
+use Rattle.session_spec.specs.Faring.{Point, Fares, Serves, Answers, AnswersRequest, AnswersAccepted, IsAppended, IsAppendedBehind, IsCheckpointed, IsDone, IsLogged, IsRefused, IsFailed, IsFlushing, IsMergeDone, IsMerging, IsFlushed, Where, WithPair, WithRoom, has_segments, is_full, is_spent}
+use Rattle.checkpoint_spec.specs.Merging.{has_pair, pair_segments}
+use Rattle.session_spec.specs.declared.limits.TheConstants.{ADDING_GROUPS, CHECKPOINT_GROUPS, LIMITED_SEGMENTS, MERGE_GROUPS, SEGMENTS_END}
 use Rattle.session_spec.specs.Chain.{FaresRun, ClaimsHaveCauses, NoneComesBack, WasBorne, HaltsHaveCauses}
 use Rattle.session_spec.proofs.Conditions.{goes, unlost, borne_before, stays_so}
 
@@ -58,6 +60,12 @@ in_room : (limit floor : ℕ) (from to : Point) (q : Answer) {some : Type 0} {P 
     → WithRoom limit floor from q to some → P
 in_room limit floor from to q f g h k w = either (has_segments limit from) f (either (is_spent from) g (λ (groups, left, s). either (nat_lt groups floor) h k s)) w
 
+-- with a pair that is merged, or without
+in_pair : (t : Table) (i : ℕ) (from to : Point) (q : Answer) {some : Type 0} {P : Type 0} → (IsRefused refusals.Spent from q to → P) → (IsRefused refusals.NothingThere from q to → P) → (IsRefused refusals.Space from q to → P) → (some → P)
+    → WithPair t i from q to some → P
+in_pair t i from to q f g h k w =
+    either (is_spent from) f (either (not (has_pair t i from.boot.patches)) g (λ (groups, left, s). either (nat_lt groups (MERGE_GROUPS + pair_segments t i from.boot.patches)) h k s)) w
+
 -- the array is the same behind a checkpoint
 same_array : {shelf : Geometry} {from mid : Point} → IsCheckpointed shelf from mid → mid.array ≡ from.array
 same_array c = ap (λ (p : Point). p.array) c.same
@@ -77,12 +85,12 @@ module _ (shelf : Geometry) (lost : Device → Bool) (from to : Point) (r : Requ
   appended_behind f g h (inr (inl m)) = g m
   appended_behind f g h (inr (inr x)) = h x
 
--- how a checkpoint ends that there was room for
-flushing_ends : (shelf : Geometry) (lost : Device → Bool) (from to : Point) (q : Answer) {P : Type 0} → (IsFlushed shelf from q to → P) → (IsRefused refusals.Memory from q to → P) → (IsFailed shelf lost from q to → P)
-    → (IsFlushed shelf from q to ⊎ IsRefused refusals.Memory from q to ⊎ IsFailed shelf lost from q to) → P
-flushing_ends shelf lost from to q f g h (inl d) = f d
-flushing_ends shelf lost from to q f g h (inr (inl m)) = g m
-flushing_ends shelf lost from to q f g h (inr (inr x)) = h x
+-- how a checkpoint or a merge ends that there was room for
+step_ends : (shelf : Geometry) (lost : Device → Bool) (from to : Point) (q : Answer) {made P : Type 0} → (made → P) → (IsRefused refusals.Memory from q to → P) → (IsFailed shelf lost from q to → P)
+    → (made ⊎ IsRefused refusals.Memory from q to ⊎ IsFailed shelf lost from q to) → P
+step_ends shelf lost from to q f g h (inl d) = f d
+step_ends shelf lost from to q f g h (inr (inl m)) = g m
+step_ends shelf lost from to q f g h (inr (inr x)) = h x
 
 -- a logged request
 module _ (shelf : Geometry) (lost : Device → Bool) (from to : Point) (r : Request) (sectors : List (List ℕ)) (q : Answer) (none : refusal from.array r ≡ None) (is : IsModelled r) where
@@ -108,7 +116,19 @@ flushing : (shelf : Geometry) (lost : Device → Bool) (from to : Point) (sector
 flushing shelf lost from to sectors q none h =
     let r = request.Checkpoint in
     in_room SEGMENTS_END CHECKPOINT_GROUPS from to q (physical from to refusals.Limit r sectors q none tt) (physical from to refusals.Spent r sectors q none tt) (physical from to refusals.Space r sectors q none tt)
-    (flushing_ends shelf lost from to q (flushed_at shelf from to sectors q none) (physical from to refusals.Memory r sectors q none tt) (λ f. failed shelf lost from to r sectors q none f))
+    (step_ends shelf lost from to q (flushed_at shelf from to sectors q none) (physical from to refusals.Memory r sectors q none tt) (λ f. failed shelf lost from to r sectors q none f))
+    h
+
+-- and so does a merge
+merged_at : (shelf : Geometry) (t : Table) (i : ℕ) (from to : Point) (sectors : List (List ℕ)) (q : Answer) → refusal from.array (request.Merge t i) ≡ None → IsMergeDone shelf t i from q to → Step from.array (Asked (request.Merge t i) sectors) q to.array
+merged_at shelf t i from to sectors q none h = rw h.reply (inr ((none, tt), h.stays.array ∙ ap (λ (p : Point). p.array) h.made.same))
+
+merging : (shelf : Geometry) (lost : Device → Bool) (t : Table) (i : ℕ) (from to : Point) (sectors : List (List ℕ)) (q : Answer) → refusal from.array (request.Merge t i) ≡ None → IsMerging shelf lost from t i q to
+    → Step from.array (Asked (request.Merge t i) sectors) q to.array
+merging shelf lost t i from to sectors q none h =
+    let r = request.Merge t i in
+    in_pair t i from to q (physical from to refusals.Spent r sectors q none tt) (physical from to refusals.NothingThere r sectors q none tt) (physical from to refusals.Space r sectors q none tt)
+    (step_ends shelf lost from to q (merged_at shelf t i from to sectors q none) (physical from to refusals.Memory r sectors q none tt) (λ f. failed shelf lost from to r sectors q none f))
     h
 
 accepted : (shelf : Geometry) (fails lost : Device → Bool) (from to : Point) (r : Request) (sectors : List (List ℕ)) (q : Answer) → refusal from.array r ≡ None
@@ -121,6 +141,7 @@ accepted shelf fails lost from to (request.Read n lba count) sectors q none (inr
 accepted shelf fails lost from to request.List sectors q none h = modelled from to request.List sectors q none tt h.reply h.stays.array
 accepted shelf fails lost from to request.Status sectors q none h = rw h.reply (inr ((none, refl), h.stays.array))
 accepted shelf fails lost from to request.Checkpoint sectors q none h = flushing shelf lost from to sectors q none h
+accepted shelf fails lost from to (request.Merge t i) sectors q none h = merging shelf lost t i from to sectors q none h
 accepted shelf fails lost from to _ sectors q none h = absurd h
 
 requested : (halted : Bool) (why : Option Refusal) (shelf : Geometry) (fails lost : Device → Bool) (from to : Point) (r : Request) (sectors : List (List ℕ)) (q : Answer)
@@ -215,7 +236,14 @@ flushing_halts : (shelf : Geometry) (lost : Device → Bool) (from to : Point) (
 unfolding HaltedBy
 flushing_halts shelf lost from to q h =
     in_room SEGMENTS_END CHECKPOINT_GROUPS from to q (λ s. inl s.halted) (λ s. inl s.halted) (λ s. inl s.halted)
-    (flushing_ends shelf lost from to q (λ d. inl d.halted) (λ s. inl s.halted) (λ f. inr f.unborne))
+    (step_ends shelf lost from to q (λ (d : IsFlushed shelf from q to). inl d.halted) (λ s. inl s.halted) (λ f. inr f.unborne))
+    h
+
+merging_halts : (shelf : Geometry) (lost : Device → Bool) (t : Table) (i : ℕ) (from to : Point) (q : Answer) → IsMerging shelf lost from t i q to → HaltedBy shelf lost from to
+unfolding HaltedBy
+merging_halts shelf lost t i from to q h =
+    in_pair t i from to q (λ s. inl s.halted) (λ s. inl s.halted) (λ s. inl s.halted)
+    (step_ends shelf lost from to q (λ (d : IsMergeDone shelf t i from q to). inl d.halted) (λ s. inl s.halted) (λ f. inr f.unborne))
     h
 
 accepted_halts : (told : Bool) (shelf : Geometry) (fails lost : Device → Bool) (from to : Point) (r : Request) (sectors : List (List ℕ)) (q : Answer) → AnswersAccepted told shelf fails lost from r sectors q to → HaltedBy shelf lost from to
@@ -228,6 +256,7 @@ accepted_halts told shelf fails lost from to (request.Read n lba count) sectors 
 accepted_halts told shelf fails lost from to request.List sectors q h = inl h.halted
 accepted_halts told shelf fails lost from to request.Status sectors q h = inl h.halted
 accepted_halts told shelf fails lost from to request.Checkpoint sectors q h = flushing_halts shelf lost from to q h
+accepted_halts told shelf fails lost from to (request.Merge t i) sectors q h = merging_halts shelf lost t i from to q h
 accepted_halts told shelf fails lost from to _ sectors q h = absurd h
 
 request_halts : (halted : Bool) (why : Option Refusal) (told : Bool) (shelf : Geometry) (fails lost : Device → Bool) (from to : Point) (r : Request) (sectors : List (List ℕ)) (q : Answer)

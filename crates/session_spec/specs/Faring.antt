@@ -1,7 +1,8 @@
 -- How the array and its devices fare while requests are served: at each reply what was answered and why, and which devices are missing.
-use Rattle.std.specs.Prelude.{◌≡◌, ◌≢◌, ◌⊎◌, ◌||◌, ◌+◌, ◌-◌, ◌<◌, ◌≤◌, ℕ, Bool, true, false, nat_le, nat_lt, List, [], ◌∷◌, ◌++◌, length, Option, Some, None, Contains, count_by}
+use Rattle.std.specs.Prelude.{◌≡◌, ◌≢◌, ◌⊎◌, ◌||◌, ◌+◌, ◌-◌, ◌<◌, ◌≤◌, ℕ, Bool, true, false, nat_le, nat_lt, not, List, [], ◌∷◌, ◌++◌, length, Option, Some, None, Contains, count_by}
 use Rattle.pur_base.specs.declared.device.Device.{Device}
 use Rattle.pur_base.specs.declared.request.Request.{Request}
+use Rattle.pur_base.specs.declared.request.Table.{Table}
 use Rattle.pur_base.specs.declared.request.Request.TheVariants as request
 use Rattle.pur_base.specs.declared.reply.Refusal.{Refusal}
 use Rattle.pur_base.specs.declared.reply.Refusal.TheVariants as refusals
@@ -18,6 +19,7 @@ use Rattle.pur_base.specs.declared.limits.TheConstants.{SECTOR_BYTES}
 use Rattle.pur_base.specs.declared.facts.AnyFact.{AnyFact}
 use Rattle.world.specs.Losing.{has_failed, has_lost_writes, losing, IsLater}
 use Rattle.boot_codec.specs.Record.{patch_segments}
+use Rattle.boot_codec.specs.declared.patch.Patch.{Patch}
 use Rattle.boot_codec.specs.declared.record.BootRecord.{BootRecord}
 use Rattle.boot_codec.specs.declared.record.NextNumbers.{NextNumbers}
 use Rattle.array_spec.specs.Counts.{IsGroups, free_of_members}
@@ -25,9 +27,10 @@ use Rattle.array_spec.specs.Sound.{AreSound}
 use Rattle.array_spec.specs.Stored.{all_facts}
 use Rattle.memory_spec.specs.Memory.{Contents, FactsRead}
 use Rattle.memory_spec.specs.Numbers.{are_used_up, is_used_up, next_after}
+use Rattle.checkpoint_spec.specs.Merging.{AreJoined, HaveShrunk, has_pair, pair_segments, place_in}
 use Rattle.checkpoint_spec.specs.Whole.{IsNamed}
 use Rattle.log_codec.specs.declared.limits.TheConstants.{LOG_SLOTS}
-use Rattle.session_spec.specs.declared.limits.TheConstants.{ADDING_GROUPS, CHECKPOINT_GROUPS, CONTROLLER, DATA_SEGMENTS, ELIDED_SEGMENTS, LIMITED_SEGMENTS, NEW_PATCHES, SEGMENTS_END}
+use Rattle.session_spec.specs.declared.limits.TheConstants.{ADDING_GROUPS, CHECKPOINT_GROUPS, CONTROLLER, DATA_SEGMENTS, ELIDED_SEGMENTS, LIMITED_SEGMENTS, MERGE_GROUPS, NEW_PATCHES, SEGMENTS_END}
 
 -- where a reply has just been given
 pub record Point : Type 0 where
@@ -210,6 +213,49 @@ pub record IsFlushed (shelf : Geometry) (from : Point) (q : Answer) (to : Point)
 abbrev pub IsFlushing : Geometry → (Device → Bool) → Point → Answer → Point → Type 0
 IsFlushing shelf lost from q to = WithRoom SEGMENTS_END CHECKPOINT_GROUPS from q to (IsFlushed shelf from q to ⊎ IsRefused refusals.Memory from q to ⊎ IsFailed shelf lost from q to)
 
+-- Two patches of a table were merged: it is the same array, with the same log, and nothing else has changed but the record, the facts of its patches and the ids that their segments get next.
+-- One patch, or none where no fact is left, stands in the place of the two. What the facts say is the same, and they are sound if they were. Two stores wrote three records each at most.
+pub record IsMerged (shelf : Geometry) (t : Table) (i : ℕ) (from to : Point) : Type 0 where
+  pub same : to ≡ record from { boot = to.boot; patches = to.patches; next = to.next }
+  pub rises : from.boot.generation < to.boot.generation
+  pub few : to.boot.generation ≤ from.boot.generation + 6
+  -- how many segments the one patch has
+  pub new_segments : ℕ
+  pub boot : to.boot ≡ record from.boot {
+    generation = to.boot.generation;
+    members = to.boot.members;
+    patches = to.boot.patches;
+    next = record from.boot.next { patch_segment = from.boot.next.patch_segment + new_segments };
+  }
+  pub next : to.next ≡ record from.next { patch_segment = from.next.patch_segment + new_segments }
+  pub joined : List Patch
+  pub joined_named : AreJoined (place_in t i from.boot.patches) from.boot.patches joined to.boot.patches
+  pub facts : List (List AnyFact)
+  pub joined_facts : AreJoined (place_in t i from.boot.patches) from.patches facts to.patches
+  pub few_new : new_segments ≤ pair_segments t i from.boot.patches
+  pub patch_segments_are : patch_segments to.boot.patches + pair_segments t i from.boot.patches ≡ patch_segments from.boot.patches + new_segments
+  pub named : AllZip IsNamed to.boot.patches to.patches
+  pub says : HaveShrunk (all_facts from.patches) (all_facts to.patches)
+  pub sound : AreSound shelf from.boot from.patches → AreSound shelf to.boot to.patches
+
+-- a merge that was asked for is made
+pub record IsMergeDone (shelf : Geometry) (t : Table) (i : ℕ) (from : Point) (q : Answer) (to : Point) : Type 0 where
+  pub reply : q ≡ Line reply.Done
+  pub mid : Point
+  pub made : IsMerged shelf t i from mid
+  pub stays : IsAsBefore mid to
+  pub halted : to.halted ≡ from.halted
+
+-- The answers `no spent`, `no nothing-there` and `no space`, each exactly where it's so, and in that order: too few numbers are left, the table has no patch of that index or none behind it,
+-- or there are free units for fewer segments than the two have and twelve more.
+abbrev pub WithPair : Table → ℕ → Point → Answer → Point → Type 0 → Type 0
+WithPair t i from q to some = Where (is_spent from) (IsRefused refusals.Spent from q to) (Where (not (has_pair t i from.boot.patches)) (IsRefused refusals.NothingThere from q to)
+    ((groups : ℕ) × HasGroups from groups × Where (nat_lt groups (MERGE_GROUPS + pair_segments t i from.boot.patches)) (IsRefused refusals.Space from q to) some))
+
+-- A merge of the patch of that index of a table and the next one, where they are there and there is room for it: it is made, or memory is wanted for it, or more devices failed than can be borne.
+abbrev pub IsMerging : Geometry → (Device → Bool) → Point → Table → ℕ → Answer → Point → Type 0
+IsMerging shelf lost from t i q to = WithPair t i from q to (IsMergeDone shelf t i from q to ⊎ IsRefused refusals.Memory from q to ⊎ IsFailed shelf lost from q to)
+
 -- how many of the flags are set
 abbrev pub set_flags : List Bool → ℕ
 set_flags flags = count_by (λ flag. flag) flags
@@ -259,6 +305,7 @@ AnswersAccepted told shelf failed lost from (request.Read n lba count) sectors q
 AnswersAccepted told shelf failed lost from request.List sectors q to = IsListed from q to
 AnswersAccepted told shelf failed lost from request.Status sectors q to = IsStatus from q to
 AnswersAccepted told shelf failed lost from request.Checkpoint sectors q to = IsFlushing shelf lost from q to
+AnswersAccepted told shelf failed lost from (request.Merge t i) sectors q to = IsMerging shelf lost from t i q to
 -- no item asks for a form that isn't in force
 AnswersAccepted told shelf failed lost from _ sectors q to = ⊥
 

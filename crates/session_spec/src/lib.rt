@@ -13,6 +13,6 @@ pub use chaining::{
 };
 pub use limits::{
     ADDING_GROUPS, CHECKPOINT_GROUPS, CONTROLLER, DATA_SEGMENTS, ELIDED_SEGMENTS, LIMITED_SEGMENTS,
-    NEW_PATCHES, SEGMENTS_END,
+    MERGE_GROUPS, NEW_PATCHES, SEGMENTS_END,
 };
 pub use reaching::points_are_reached;

@@ -21,5 +21,8 @@ pub const SEGMENTS_END: usize = 596;
 /// And only where there are free units for so many more segments.
 pub const CHECKPOINT_GROUPS: u32 = 12;
 
+/// A merge is made only where there are free units for so many more segments than the two patches have.
+pub const MERGE_GROUPS: u32 = 12;
+
 /// The one controller.
 pub const CONTROLLER: u64 = 0;

@@ -12,7 +12,7 @@ use Rattle.array_spec.specs.Standing.{Stands, MayBeGiven, IsReadInto, IsViewOf, 
 use Rattle.array_spec.specs.Unflushed.{LogLies, NamesSound}
 use Rattle.array_spec.proofs.UnflushedRead.{between}
 use Rattle.stored_spec.specs.Held.{TablesHold, NamesNoneLeftOut}
-use Rattle.stored_spec.specs.Laws.{CheckpointFollows, IsCheckpointOf, ShowsNone}
+use Rattle.stored_spec.specs.Laws.{CheckpointFollows, IsCheckpointOf, IsMergeOf, MergeFollows, ShowsNone}
 use Rattle.stored_spec.proofs.Reading.{held_in, record_is_read}
 use Rattle.stored_spec.proofs.Unique.{one_base}
 
@@ -45,6 +45,32 @@ none_left : (log : List Command) → length log ≡ 0 → log ≡ []
 none_left [] e = refl
 none_left (c ∷ cs) e = absurd (omega (arith, e))
 
+-- ---- the record that alone may be given
+
+module _ (shelf : Geometry) (old : Image) (missing : Conditions) (slot : BootSlot) (boot : BootRecord) (patches : List (List AnyFact)) (base : Array) (arrays : List Array)
+    (sound : NamesSound shelf old missing slot boot) (left : NamesNoneLeftOut missing boot) (tables : TablesHold shelf old slot boot patches base)
+    (alone : (slot3 : BootSlot) (boot3 : BootRecord) → MayBeGiven shelf old missing slot3 boot3 → (slot3 ≡ slot) × (boot3 ≡ boot)) (s : Stands shelf old missing arrays)
+    (slot3 : BootSlot) (boot3 : BootRecord) (g : MayBeGiven shelf old missing slot3 boot3) where
+  it_is : (slot3 ≡ slot) × (boot3 ≡ boot)
+  it_is = alone slot3 boot3 g
+
+  given_flushed : boot3.flushed ≡ boot.flushed
+  given_flushed = ap (λ (b : BootRecord). b.flushed) it_is.1
+
+  given_generation : boot3.generation ≡ boot.generation
+  given_generation = ap (λ (b : BootRecord). b.generation) it_is.1
+
+  given_base : (s.reads slot3 boot3 g).base ≡ base
+  given_base =
+      let v = is_view shelf old missing s.bearable in
+      let there : HoldsBase shelf (of_members slot3 boot3 (as_they_are old missing)) boot3 (s.reads slot3 boot3 g).base = ((s.reads slot3 boot3 g).each missing (as_they_are old missing) v).holds in
+      let here : HoldsBase shelf (of_members slot boot (as_they_are old missing)) boot (s.reads slot3 boot3 g).base =
+      subst (λ (b : BootRecord). HoldsBase shelf (of_members slot b (as_they_are old missing)) b (s.reads slot3 boot3 g).base) it_is.1
+      (subst (λ (t : BootSlot). HoldsBase shelf (of_members t boot3 (as_they_are old missing)) boot3 (s.reads slot3 boot3 g).base) it_is.0 there) in
+      one_base shelf (of_members slot boot (as_they_are old missing)) boot (s.reads slot3 boot3 g).base base here (held_in shelf old missing slot boot patches base sound left tables missing (as_they_are old missing) v)
+
+-- ---- a checkpoint
+
 module _ (shelf : Geometry) (old new : Image) (missing later : Conditions) (slot slot2 : BootSlot) (boot next : BootRecord) (patches patches2 : List (List AnyFact)) (base after_it : Array) (log : List Command) (arrays : List Array)
     (is : IsCheckpointOf boot next base log after_it) (one_of : Contains arrays after_it)
     (lawful : IsRecordOf shelf next) (in_force : IsInForce slot2 next) (sound2 : NamesSound shelf new later slot2 next) (left2 : NamesNoneLeftOut later next) (tables2 : TablesHold shelf new slot2 next patches2 after_it)
@@ -73,23 +99,14 @@ module _ (shelf : Geometry) (old new : Image) (missing later : Conditions) (slot
       absurd (cc ((between shelf new later slot2 next [] [] lawful sound2 lies more view v).no_other device i c shown))
 
   module _ (slot3 : BootSlot) (boot3 : BootRecord) (g : MayBeGiven shelf old missing slot3 boot3) where
-    it_is : (slot3 ≡ slot) × (boot3 ≡ boot)
-    it_is = alone slot3 boot3 g
-
     flushed : boot3.flushed ≡ boot.flushed
-    flushed = ap (λ (b : BootRecord). b.flushed) it_is.1
+    flushed = given_flushed shelf old missing slot boot patches base arrays sound left tables alone s slot3 boot3 g
 
     generation : boot3.generation ≡ boot.generation
-    generation = ap (λ (b : BootRecord). b.generation) it_is.1
+    generation = given_generation shelf old missing slot boot patches base arrays sound left tables alone s slot3 boot3 g
 
     its_base : (s.reads slot3 boot3 g).base ≡ base
-    its_base =
-        let v = is_view shelf old missing s.bearable in
-        let there : HoldsBase shelf (of_members slot3 boot3 (as_they_are old missing)) boot3 (s.reads slot3 boot3 g).base = ((s.reads slot3 boot3 g).each missing (as_they_are old missing) v).holds in
-        let here : HoldsBase shelf (of_members slot boot (as_they_are old missing)) boot (s.reads slot3 boot3 g).base =
-        subst (λ (b : BootRecord). HoldsBase shelf (of_members slot b (as_they_are old missing)) b (s.reads slot3 boot3 g).base) it_is.1
-        (subst (λ (t : BootSlot). HoldsBase shelf (of_members t boot3 (as_they_are old missing)) boot3 (s.reads slot3 boot3 g).base) it_is.0 there) in
-        one_base shelf (of_members slot boot (as_they_are old missing)) boot (s.reads slot3 boot3 g).base base here (held_in shelf old missing slot boot patches base sound left tables missing (as_they_are old missing) v)
+    its_base = given_base shelf old missing slot boot patches base arrays sound left tables alone s slot3 boot3 g
 
     -- where nothing was logged the array is the base
     same : length log ≡ 0 → after_it ≡ base
@@ -114,3 +131,36 @@ checkpoint_follows shelf old new missing later slot slot2 boot next patches patc
   (read shelf old new missing later slot slot2 boot next patches patches2 base after_it log arrays is one_of lawful in_force sound2 left2 tables2 none sound left tables alone s).0,
   λ slot3 boot3 g. follows shelf old new missing later slot slot2 boot next patches patches2 base after_it log arrays is one_of lawful in_force sound2 left2 tables2 none sound left tables alone s slot3 boot3 g,
 )
+
+-- ---- a merge
+
+module _ (shelf : Geometry) (old new : Image) (missing later : Conditions) (slot slot2 : BootSlot) (boot next : BootRecord) (patches patches2 : List (List AnyFact)) (base : Array) (arrays : List Array) (is : IsMergeOf boot next)
+    (read : (r : IsReadInto shelf new later slot2 next arrays) × (r.base ≡ base))
+    (sound : NamesSound shelf old missing slot boot) (left : NamesNoneLeftOut missing boot) (tables : TablesHold shelf old slot boot patches base)
+    (alone : (slot3 : BootSlot) (boot3 : BootRecord) → MayBeGiven shelf old missing slot3 boot3 → (slot3 ≡ slot) × (boot3 ≡ boot)) (s : Stands shelf old missing arrays)
+    (slot3 : BootSlot) (boot3 : BootRecord) (g : MayBeGiven shelf old missing slot3 boot3) where
+  same_flushed : boot3.flushed ≡ next.flushed
+  same_flushed = given_flushed shelf old missing slot boot patches base arrays sound left tables alone s slot3 boot3 g ∙ sym is.flushed
+
+  same_base : read.0.base ≡ (s.reads slot3 boot3 g).base
+  same_base = read.1 ∙ sym (given_base shelf old missing slot boot patches base arrays sound left tables alone s slot3 boot3 g)
+
+  merge_goes_on : FollowsOn shelf new later slot2 next boot3 read.0.base (s.reads slot3 boot3 g).base × FollowsOn shelf new later slot3 boot3 next (s.reads slot3 boot3 g).base read.0.base
+  merge_goes_on =
+      let generation = given_generation shelf old missing slot boot patches base arrays sound left tables alone s slot3 boot3 g in (
+        record {
+          in_order = λ lt. omega (arith, same_flushed);
+          same_base = λ e. same_base;
+          no_log = λ lt more view v. absurd (omega (arith, lt, same_flushed));
+        },
+        record {
+          in_order = λ lt. absurd (omega (arith, lt, generation, is.generation));
+          same_base = λ e. sym same_base;
+          no_log = λ lt more view v. absurd (omega (arith, lt, same_flushed));
+        },
+      )
+
+pub merge_follows : MergeFollows
+merge_follows shelf old new missing later slot slot2 boot next patches patches2 base least most arrays is lawful in_force sound2 left2 tables2 accepted lies fronts sound left tables alone s =
+    let read = record_is_read shelf new later slot2 next patches2 base least most arrays lawful in_force sound2 left2 tables2 accepted lies fronts in
+    (read.0, λ slot3 boot3 g. merge_goes_on shelf old new missing later slot slot2 boot next patches patches2 base arrays is read sound left tables alone s slot3 boot3 g)

@@ -97,3 +97,23 @@ CheckpointFollows = (shelf : Geometry) (old new : Image) (missing later : Condit
     → (s : Stands shelf old missing arrays)
     → (r : IsReadInto shelf new later slot2 next arrays) × ((slot3 : BootSlot) (boot3 : BootRecord) (g : MayBeGiven shelf old missing slot3 boot3)
     → FollowsOn shelf new later slot2 next boot3 r.base (s.reads slot3 boot3 g).base × FollowsOn shelf new later slot3 boot3 next (s.reads slot3 boot3 g).base r.base)
+
+-- ---- a merge
+
+-- a record that a merge stores: it has flushed what the one in force has, and the log goes on from the same base
+pub record IsMergeOf (boot next : BootRecord) : Type 0 where
+  pub flushed : next.flushed ≡ boot.flushed
+  pub generation : next.generation ≡ boot.generation + 1
+
+-- While a record alone may be given, one that a merge made is read into the arrays to which the log may lead from the same base, and it follows on.
+abbrev pub MergeFollows : Type 0
+MergeFollows = (shelf : Geometry) (old new : Image) (missing later : Conditions) (slot slot2 : BootSlot) (boot next : BootRecord) (patches patches2 : List (List AnyFact)) (base : Array) (least most : List Command) (arrays : List Array)
+    → IsMergeOf boot next
+    → IsRecordOf shelf next → IsInForce slot2 next → NamesSound shelf new later slot2 next → NamesNoneLeftOut later next → TablesHold shelf new slot2 next patches2 base
+    → AllAccepted base most → LogLies new later next least most
+    → ((n : ℕ) → length least ≤ n → n ≤ length most → Contains arrays (after_all base (take n most)))
+    → NamesSound shelf old missing slot boot → NamesNoneLeftOut missing boot → TablesHold shelf old slot boot patches base
+    → ((slot3 : BootSlot) (boot3 : BootRecord) → MayBeGiven shelf old missing slot3 boot3 → (slot3 ≡ slot) × (boot3 ≡ boot))
+    → (s : Stands shelf old missing arrays)
+    → (r : IsReadInto shelf new later slot2 next arrays) × ((slot3 : BootSlot) (boot3 : BootRecord) (g : MayBeGiven shelf old missing slot3 boot3)
+    → FollowsOn shelf new later slot2 next boot3 r.base (s.reads slot3 boot3 g).base × FollowsOn shelf new later slot3 boot3 next (s.reads slot3 boot3 g).base r.base)

@@ -2,7 +2,7 @@
 //! There is no code: each public function here promises, as its contract, a law of these definitions.
 #![tactic(auto)]
 
-ghost use Rattle.stored_spec.specs.Laws.{OnePatches, OneBase, RecordIsRead, NextHolds, DataIsHeld, FreeIsUnused, FreeWritesKeep, CheckpointFollows};
+ghost use Rattle.stored_spec.specs.Laws.{OnePatches, OneBase, RecordIsRead, NextHolds, DataIsHeld, FreeIsUnused, FreeWritesKeep, CheckpointFollows, MergeFollows};
 
 /// What the tables of a record hold is one, in each view.
 pub fn one_array_is_held()
@@ -26,4 +26,9 @@ pub fn free_writes()
 /// The record of a checkpoint follows on from the one that is in force.
 pub fn a_checkpoint_follows()
     ensures { CheckpointFollows }
+{}
+
+/// So does the record of a merge.
+pub fn a_merge_follows()
+    ensures { MergeFollows }
 {}

@@ -1,6 +1,6 @@
 use Rattle.checkpoint_spec.proofs.Shrinking.{shrinking_reads}
 use Rattle.checkpoint_spec.proofs.Flushed.{flush_shrinks}
-use Rattle.checkpoint_spec.proofs.Merged.{merge_shrinks}
+use Rattle.checkpoint_spec.proofs.Merged.{merge_shrinks, one_merge_is_merge}
 use Rattle.checkpoint_spec.proofs.flushes_keep_memory.Goals as goal
 
 pub returns : goal.returns
@@ -8,4 +8,5 @@ returns c = record {
   reads = shrinking_reads;
   flush = flush_shrinks;
   merge = merge_shrinks;
+  one_merge = one_merge_is_merge;
 }

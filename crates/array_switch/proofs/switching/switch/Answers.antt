@@ -1,25 +1,16 @@
-use Rattle.std.proofs.Common.{rules, ◌≡◌, ◌⊎◌, ◌∙◌, inl, inr, ℕ, ◌+◌, ◌-◌, ◌^◌, ◌<◌, List, Bool, true, length, arith, sym, ap, subst}
+use Rattle.std.proofs.Common.{rules, ◌≡◌, ◌∙◌, inl, inr, ℕ, ◌+◌, ◌-◌, ◌^◌, ◌<◌, List, Bool, length, arith, sym, ap, subst}
 use Rattle.std.proofs.lemmas.Result.{err_from_is_err_and}
-use Rattle.pur_base.specs.declared.device.Device.{Device}
 use Rattle.pur_base.specs.Devices.{nvram}
 use Rattle.boot_codec.specs.declared.record.BootRecord.{BootRecord}
-use Rattle.boot_codec.specs.Region.{names}
 use Rattle.world.proofs.Moments.{continues_trans, then_run}
 use Rattle.world.proofs.Writes.{writes_then, writes_more}
-use Rattle.register.specs.declared.state.Register.{Register}
 use Rattle.register.specs.Registers.{drives_of}
 use Rattle.register.specs.Standing.{IsOpen}
-use Rattle.array_switch.specs.Switching.{IsHolder}
-use Rattle.array_switch.proofs.Holders.{all_failed, all_of_more, drives_failed, none_joins, slots_of_more, too_much_since}
-use Rattle.array_switch.proofs.Lost.{dropped_then, drives_lost, not_too_much}
-use Rattle.array_switch.proofs.Stages.{err_if, err_is, left_dropped, ok_if, some_named}
-use Rattle.array_switch.proofs.Whole.{HasLeft, open_b, plan, tables_run, open_c, holds_c, clear_run}
+use Rattle.array_switch.proofs.Holders.{all_failed, all_of_more, drives_failed, named_left, none_joins, too_much_since}
+use Rattle.array_switch.proofs.Lost.{dropped_then, not_too_much}
+use Rattle.array_switch.proofs.Stages.{err_if, err_is, ok_if, some_named}
+use Rattle.array_switch.proofs.Whole.{both_dropped, both_write, none_left, none_stored, has_left, open_b, plan, tables_run, open_c, holds_c, clear_run}
 use Rattle.array_switch.proofs.switching.switch.Goals as goal
-
--- by the same log devices
-named_left : (was now : Register) (nvrams members : List Bool) → nvrams ≡ members → ((d : Device) → names now.record d ≡ true → (names was.record d ≡ true) ⊎ IsHolder was nvrams d)
-    → (d : Device) → names now.record d ≡ true → (names was.record d ≡ true) ⊎ IsHolder was members d
-named_left was now nvrams members same named = subst (λ (l : List Bool). (d : Device) → names now.record d ≡ true → (names was.record d ≡ true) ⊎ IsHolder was l d) same named
 
 pub store_tables-requires-clause-nvrams : goal.store_tables-requires-clause-nvrams
 store_tables-requires-clause-nvrams g c = some_named c.leave_lost.new.register.record c.leave_lost.ensures.is_of.lawful.lawful
@@ -37,8 +28,7 @@ returns-in_err-leave_lost-clause-fault g c =
     let low : r1.record.generation + 1 < 2 ^ 48 = omega (arith, x.few, c.requires.not_spent) in
     err_is c.from_residual.result _ q.0 q.1 (
       q.2,
-      λ start on are. inr (drives_lost (g.S.Shelf.shelf start) b r0 r1 (ap (λ (k : BootRecord). k.slots) x.later.rest)
-          (left_dropped (g.S.Shelf.shelf start) a b on x.continues r0 r1 c.args.lost.now are x.dropped) low c.in_err-leave_lost.field-0.0 c.in_err-leave_lost.ensures.fault),
+      λ start on are. inr (none_left (g.S.Shelf.shelf start) a b on x.continues r0 r1 c.args.lost.now are x.dropped x.later low c.in_err-leave_lost.field-0.0 c.in_err-leave_lost.ensures.fault),
     )
 
 pub returns-in_err-leave_lost-clause-borne : goal.returns-in_err-leave_lost-clause-borne
@@ -54,9 +44,11 @@ returns-in_err-store_tables-clause-continues g c = continues_trans c.leave_lost.
 
 pub returns-in_err-store_tables-clause-writes : goal.returns-in_err-store_tables-clause-writes
 returns-in_err-store_tables-clause-writes g c h =
+    let a = g.S.Shelf.shelf c.args.shelf.now in
+    let b = g.S.Shelf.shelf c.leave_lost.new.shelf in
+    let e = g.S.Shelf.shelf c.store_tables.new.shelf in
     let x = c.leave_lost.ensures in
-    writes_then x.continues (writes_more (λ d i w. inl w) (x.writes h))
-    (writes_more (λ d i w. inl (slots_of_more c.args.register.now c.leave_lost.new.register (ap (λ (k : BootRecord). k.slots) x.later.rest) (λ k m. (x.fewer k m).0) d i w)) (c.store_tables.ensures.writes (x.continues.honest h)))
+    writes_more (λ d i w. inl w) (both_write a b e x.continues c.args.register.now c.leave_lost.new.register x.later (λ k m. (x.fewer k m).0) (x.writes h) (c.store_tables.ensures.writes (x.continues.honest h)))
 
 pub returns-in_err-store_tables-clause-dropped : goal.returns-in_err-store_tables-clause-dropped
 returns-in_err-store_tables-clause-dropped g c start on are d m =
@@ -69,7 +61,7 @@ returns-in_err-store_tables-clause-dropped g c start on are d m =
     let r2 = c.store_tables.new.self in
     let x = c.leave_lost.ensures in
     drives_failed s e r0 r2 c.args.log.now.members
-    (dropped_then s b e (continues_trans on x.continues) c.store_tables.ensures.continues (drives_of r0) (drives_of r1) (drives_of r2) (left_dropped s a b on x.continues r0 r1 c.args.lost.now are x.dropped) c.store_tables.ensures.dropped) d m
+    (both_dropped s a b e on x.continues c.store_tables.ensures.continues r0 r1 r2 c.args.lost.now are x.dropped c.store_tables.ensures.dropped) d m
 
 pub returns-in_err-store_tables-clause-fault : goal.returns-in_err-store_tables-clause-fault
 returns-in_err-store_tables-clause-fault g c =
@@ -83,18 +75,10 @@ returns-in_err-store_tables-clause-fault g c =
     let y = c.store_tables.ensures in
     let q = err_from_is_err_and c.from_residual-in_err-store_tables.result c.from_residual-in_err-store_tables.ensures.1 in
     let low : r2.record.generation + 1 < 2 ^ 48 = omega (arith, x.few, y.few, c.requires.not_spent) in
-    let first : r1.record.slots ≡ r0.record.slots = ap (λ (k : BootRecord). k.slots) x.later.rest in
-    let slots : r2.record.slots ≡ r0.record.slots = elim c.in_err-store_tables.ensures.kept [
-      | inl same ↦ ap (λ (k : BootRecord). k.slots) same.0 ∙ first
-      | inr later ↦ ap (λ (k : BootRecord). k.slots) later.rest ∙ first
-    ] in
     err_is c.from_residual-in_err-store_tables.result _ q.0 q.1 (
       q.2,
-      λ start on are.
-          let s = g.S.Shelf.shelf start in
-          inr (drives_lost s e r0 r2 slots
-          (dropped_then s b e (continues_trans on x.continues) y.continues (drives_of r0) (drives_of r1) (drives_of r2) (left_dropped s a b on x.continues r0 r1 c.args.lost.now are x.dropped) y.dropped)
-          low c.in_err-store_tables.field-0.0 c.in_err-store_tables.ensures.fault),
+      λ start on are. inr (none_stored (g.S.Shelf.shelf start) a b e on x.continues y.continues r0 r1 r2 c.args.lost.now c.args.tables are x.dropped y.dropped x.later c.in_err-store_tables.ensures.kept low
+          c.in_err-store_tables.field-0.0 c.in_err-store_tables.ensures.fault),
     )
 
 pub returns-in_err-store_tables-clause-borne : goal.returns-in_err-store_tables-clause-borne
@@ -117,24 +101,9 @@ returns-in_err-store_tables-clause-any_moment g c h start held next was w hold =
     let hb = x.continues.honest h in
     let low : c.store_tables.new.self.record.generation < 2 ^ 48 - 8 = omega (arith, x.few, y.few, c.requires.not_spent) in
     let o : IsOpen s r0 c.members.result held = subst (λ (l : List Bool). IsOpen s r0 l held) (sym c.members.ensures) was.is_open in
-    let p : HasLeft s a b r0 r1 log c.args.lost.now c.args.tables held next = record {
-      is = g.met.S.Shelf.is_shelf c.leave_lost.new.shelf;
-      honest = h;
-      on = x.continues;
-      is_of = c.requires.is_of;
-      flushed = c.requires.flushed;
-      lawful = c.requires.lawful;
-      counted = c.requires.counted;
-      was_open = was;
-      wrote = w;
-      hold = hold;
-      later = x.later;
-      fewer = x.fewer;
-      dropped = x.dropped;
-      same = x.others;
-      writes = x.writes h;
-      is_open = subst (λ (l : List Bool). IsOpen b r1 l held) c.members.ensures (c.in_ok-leave_lost.ensures.held h start held o w);
-    } in
+    let flushed : c.args.tables.flushed ≡ r0.record.flushed + length held.log = omega (arith, c.requires.counted, was.keeps.count) in
+    let p = has_left s a b (g.met.S.Shelf.is_shelf c.leave_lost.new.shelf) h x.continues r0 r1 log c.members.result c.args.lost.now c.args.tables held next c.members.ensures c.requires.is_of c.requires.lawful was w
+    hold.stand (inl (record { flushed = flushed; log = hold.log; base = hold.base })) x.later x.fewer x.dropped x.others (x.writes h) (c.in_ok-leave_lost.ensures.held h start held o w) in
     let ob = open_b s a b r0 r1 log c.args.lost.now c.args.tables held next p in
     let pl = plan s a b r0 r1 log c.args.lost.now c.args.tables held next p in
     then_run x.continues (x.any_moment h start held o was.in_force w)
@@ -150,6 +119,9 @@ returns-clause-rest g c = g.met.S.Shelf.shelf_rest_stays.transitive _ _ _ c.leav
 
 pub returns-clause-writes : goal.returns-clause-writes
 returns-clause-writes g c h =
+    let a = g.S.Shelf.shelf c.args.shelf.now in
+    let b = g.S.Shelf.shelf c.leave_lost.new.shelf in
+    let e = g.S.Shelf.shelf c.store_tables.new.shelf in
     let r0 = c.args.register.now in
     let r1 = c.leave_lost.new.register in
     let r2 = c.store_tables.new.self in
@@ -158,9 +130,8 @@ returns-clause-writes g c h =
     let first : r1.record.slots ≡ r0.record.slots = ap (λ (k : BootRecord). k.slots) x.later.rest in
     let next : r2.record.slots ≡ r0.record.slots = ap (λ (k : BootRecord). k.slots) c.in_ok-store_tables.ensures.stored.rest ∙ first in
     let hb = x.continues.honest h in
-    writes_then x.continues (writes_more (λ d i w. inl w) (x.writes h))
-    (writes_then y.continues (writes_more (λ d i w. inl (slots_of_more r0 r1 first (λ k m. (x.fewer k m).0) d i w)) (y.writes hb))
-    (writes_more (λ d i w. all_of_more r0 r2 c.args.log.now.members next (λ k m. (x.fewer k (y.fewer k m)).0) d i w) (c.clear_log.ensures.writes (y.continues.honest hb))))
+    writes_then (continues_trans x.continues y.continues) (writes_more (λ d i w. inl w) (both_write a b e x.continues r0 r1 x.later (λ k m. (x.fewer k m).0) (x.writes h) (y.writes hb)))
+    (writes_more (λ d i w. all_of_more r0 r2 c.args.log.now.members next (λ k m. (x.fewer k (y.fewer k m)).0) d i w) (c.clear_log.ensures.writes (y.continues.honest hb)))
 
 pub returns-clause-dropped : goal.returns-clause-dropped
 returns-clause-dropped g c start on are d m =
@@ -176,12 +147,11 @@ returns-clause-dropped g c start on are d m =
     let x = c.leave_lost.ensures in
     let y = c.store_tables.ensures in
     let z = c.clear_log.ensures in
-    let sb = continues_trans on x.continues in
-    let se = continues_trans sb y.continues in
+    let se = continues_trans (continues_trans on x.continues) y.continues in
     let two : length c.args.log.now.members ≡ 2 = search rules in
     all_failed s e n se r0 r3 c.args.log.now.members c.clear_log.new.log.members two
     (dropped_then s e n se z.continues (drives_of r0) (drives_of r2) (drives_of r3)
-    (dropped_then s b e sb y.continues (drives_of r0) (drives_of r1) (drives_of r2) (left_dropped s a b on x.continues r0 r1 c.args.lost.now are x.dropped) y.dropped) z.dropped) z.dropped_logs d m
+    (both_dropped s a b e on x.continues y.continues r0 r1 r2 c.args.lost.now are x.dropped y.dropped) z.dropped) z.dropped_logs d m
 
 pub returns-clause-joins : goal.returns-clause-joins
 returns-clause-joins g c = ok_if c.clear_log.result (λ get.
@@ -211,11 +181,10 @@ returns-clause-fault g c = err_if c.clear_log.result (λ k lost. (
       let r2 = c.store_tables.new.self in
       let x = c.leave_lost.ensures in
       let y = c.store_tables.ensures in
-      let sb = continues_trans on x.continues in
       let first : r1.record.slots ≡ r0.record.slots = ap (λ (k2 : BootRecord). k2.slots) x.later.rest in
       let next : r2.record.slots ≡ r0.record.slots = ap (λ (k2 : BootRecord). k2.slots) c.in_ok-store_tables.ensures.stored.rest ∙ first in
-      too_much_since s e n (continues_trans sb y.continues) c.clear_log.ensures.continues r0 r2 c.args.log.now.members next
-      (dropped_then s b e sb y.continues (drives_of r0) (drives_of r1) (drives_of r2) (left_dropped s a b on x.continues r0 r1 c.args.lost.now are x.dropped) y.dropped) lost.1,
+      too_much_since s e n (continues_trans (continues_trans on x.continues) y.continues) c.clear_log.ensures.continues r0 r2 c.args.log.now.members next
+      (both_dropped s a b e on x.continues y.continues r0 r1 r2 c.args.lost.now are x.dropped y.dropped) lost.1,
 )) c.clear_log.ensures.lost
 
 pub returns-clause-borne : goal.returns-clause-borne
@@ -242,24 +211,9 @@ returns-clause-any_moment g c h start held next was w hold =
     let he = y.continues.honest hb in
     let low : c.store_tables.new.self.record.generation < 2 ^ 48 - 8 = omega (arith, x.few, y.few, c.requires.not_spent) in
     let o : IsOpen s r0 c.members.result held = subst (λ (l : List Bool). IsOpen s r0 l held) (sym c.members.ensures) was.is_open in
-    let p : HasLeft s a b r0 r1 log c.args.lost.now c.args.tables held next = record {
-      is = g.met.S.Shelf.is_shelf c.leave_lost.new.shelf;
-      honest = h;
-      on = x.continues;
-      is_of = c.requires.is_of;
-      flushed = c.requires.flushed;
-      lawful = c.requires.lawful;
-      counted = c.requires.counted;
-      was_open = was;
-      wrote = w;
-      hold = hold;
-      later = x.later;
-      fewer = x.fewer;
-      dropped = x.dropped;
-      same = x.others;
-      writes = x.writes h;
-      is_open = subst (λ (l : List Bool). IsOpen b r1 l held) c.members.ensures (c.in_ok-leave_lost.ensures.held h start held o w);
-    } in
+    let flushed : c.args.tables.flushed ≡ r0.record.flushed + length held.log = omega (arith, c.requires.counted, was.keeps.count) in
+    let p = has_left s a b (g.met.S.Shelf.is_shelf c.leave_lost.new.shelf) h x.continues r0 r1 log c.members.result c.args.lost.now c.args.tables held next c.members.ensures c.requires.is_of c.requires.lawful was w
+    hold.stand (inl (record { flushed = flushed; log = hold.log; base = hold.base })) x.later x.fewer x.dropped x.others (x.writes h) (c.in_ok-leave_lost.ensures.held h start held o w) in
     let ob = open_b s a b r0 r1 log c.args.lost.now c.args.tables held next p in
     let pl = plan s a b r0 r1 log c.args.lost.now c.args.tables held next p in
     let same : (k : ℕ) → e.disk (nvram k) ≡ b.disk (nvram k) = λ k. y.others (nvram k) (λ v. v) in
@@ -287,24 +241,9 @@ returns-clause-done g c h = ok_if c.clear_log.result (λ get start held next was
     let he = y.continues.honest hb in
     let low : c.store_tables.new.self.record.generation < 2 ^ 48 - 8 = omega (arith, x.few, y.few, c.requires.not_spent) in
     let o : IsOpen s r0 c.members.result held = subst (λ (l : List Bool). IsOpen s r0 l held) (sym c.members.ensures) was.is_open in
-    let p : HasLeft s a b r0 r1 log c.args.lost.now c.args.tables held next = record {
-      is = g.met.S.Shelf.is_shelf c.leave_lost.new.shelf;
-      honest = h;
-      on = x.continues;
-      is_of = c.requires.is_of;
-      flushed = c.requires.flushed;
-      lawful = c.requires.lawful;
-      counted = c.requires.counted;
-      was_open = was;
-      wrote = w;
-      hold = hold;
-      later = x.later;
-      fewer = x.fewer;
-      dropped = x.dropped;
-      same = x.others;
-      writes = x.writes h;
-      is_open = subst (λ (l : List Bool). IsOpen b r1 l held) c.members.ensures (c.in_ok-leave_lost.ensures.held h start held o w);
-    } in
+    let flushed : c.args.tables.flushed ≡ r0.record.flushed + length held.log = omega (arith, c.requires.counted, was.keeps.count) in
+    let p = has_left s a b (g.met.S.Shelf.is_shelf c.leave_lost.new.shelf) h x.continues r0 r1 log c.members.result c.args.lost.now c.args.tables held next c.members.ensures c.requires.is_of c.requires.lawful was w
+    hold.stand (inl (record { flushed = flushed; log = hold.log; base = hold.base })) x.later x.fewer x.dropped x.others (x.writes h) (c.in_ok-leave_lost.ensures.held h start held o w) in
     let ob = open_b s a b r0 r1 log c.args.lost.now c.args.tables held next p in
     let pl = plan s a b r0 r1 log c.args.lost.now c.args.tables held next p in
     let same : (k : ℕ) → e.disk (nvram k) ≡ b.disk (nvram k) = λ k. y.others (nvram k) (λ v. v) in

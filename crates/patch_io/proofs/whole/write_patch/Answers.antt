@@ -3,7 +3,7 @@ use Rattle.world.proofs.Moments.{continues_trans, weaker}
 use Rattle.world.proofs.Writes.{writes_then, writes_more}
 use Rattle.segment_io.proofs.Losing.{loses_none, loses_then}
 use Rattle.patch_io.proofs.Headers.{places_of, headed_later}
-use Rattle.patch_io.proofs.Stands.{synced_kept, shown_after, on_all, none_on_all, opened_later, slot_below, header_kept}
+use Rattle.patch_io.proofs.Stands.{synced_kept, shown_after, on_all, none_on_all, opened_later, slot_below, header_kept, patch_but, but_patch, patch_then, clean_again}
 use Rattle.patch_io.proofs.InTurn.{in_turn, more_lost, untouched}
 use Rattle.patch_io.proofs.whole.write_patch.Goals as goal
 
@@ -101,6 +101,29 @@ returns-clause-writes g c h =
     let at_d = z.continues.honest at_m in
     writes_then (continues_trans x.continues y.continues) (writes_then x.continues (on_all a b p 1 15 (omega arith) (x.writes h)) (none_on_all b m p (y.writes at_b)))
     (writes_then z.continues (on_all m d p 0 1 (omega arith) (z.writes at_m)) (none_on_all d e p (w.writes at_d)))
+
+-- what the four steps left as it was
+pub returns-clause-others : goal.returns-clause-others
+returns-clause-others g c =
+    let a = g.S.Shelf.shelf c.args.shelf.now in
+    let b = g.S.Shelf.shelf c.append_patch.new.shelf in
+    let m = g.S.Shelf.shelf c.sync_drives.new.shelf in
+    let d = g.S.Shelf.shelf c.write_patch_headers.new.shelf in
+    let e = g.S.Shelf.shelf c.sync_drives-2.new.shelf in
+    let p = c.args.patch.now in
+    let drives = c.drives_of-drives.result in
+    let only = c.drives_of-drives.ensures.no_other in
+    patch_then a m e p (patch_then a b m p c.append_patch.ensures.others (but_patch b m p drives only c.sync_drives.ensures.others))
+    (patch_then m d e p c.write_patch_headers.ensures.others (but_patch d e p drives only c.sync_drives-2.ensures.others))
+
+pub returns-clause-clean : goal.returns-clause-clean
+returns-clause-clean g c h =
+    let a = g.S.Shelf.shelf c.args.shelf.now in
+    let e = g.S.Shelf.shelf c.sync_drives-2.new.shelf in
+    let drives = c.drives_of-drives.result in
+    let now = c.sync_drives-2.new.lost.drives in
+    clean_again a e drives now (patch_but a e c.args.patch.now drives c.drives_of-drives.ensures.each (returns-clause-others g c))
+    (c.sync_drives-2.ensures.clean (c.write_patch_headers.ensures.continues.honest (c.sync_drives.ensures.continues.honest (c.append_patch.ensures.continues.honest h))))
 
 pub returns-clause-rest : goal.returns-clause-rest
 returns-clause-rest g c =

@@ -39,3 +39,9 @@ returns-in-Checkpoint-clause-answers g c = rw c.in-Checkpoint.is (λ told from h
 
 pub returns-in-Checkpoint-clause-kept : goal.returns-in-Checkpoint-clause-kept
 returns-in-Checkpoint-clause-kept g c = rw c.in-Checkpoint.is (λ honest held ready. c.flush.ensures.kept honest c.args.sectors.now held ready)
+
+pub returns-in-Merge-clause-answers : goal.returns-in-Merge-clause-answers
+returns-in-Merge-clause-answers g c = rw c.in-Merge.is (λ told from honest at. c.merge.ensures.answers c.args.sectors.now told from honest at)
+
+pub returns-in-Merge-clause-kept : goal.returns-in-Merge-clause-kept
+returns-in-Merge-clause-kept g c = rw c.in-Merge.is (λ honest held ready. c.merge.ensures.kept honest c.args.sectors.now held ready)

@@ -1,0 +1,30 @@
+use Rattle.std.proofs.Common.{◌≡◌, ap, sym, subst, ◌∙◌}
+use Rattle.pur_base.specs.Grammar.{Asked}
+use Rattle.pur_base.specs.declared.request.Request.TheVariants as request
+use Rattle.array_engine.specs.declared.engine.Engine.{Engine}
+use Rattle.array_engine.specs.declared.said.Said.{Said}
+use Rattle.array_engine.specs.Saying.{HasSectors}
+use Rattle.array_engine.specs.Engines.{IsAnsweredAt}
+use Rattle.array_engine.proofs.Ending.{merge_there}
+use Rattle.array_engine.proofs.Merges.{merge_answered}
+use Rattle.array_engine.proofs.engine.Engine.merge.Goals as goal
+
+pub returns-clause-is_of : goal.returns-clause-is_of
+returns-clause-is_of g c = λ awake. c.merge_patches-done.ensures.is_of (sym c.is_merge_lost-self.ensures ∙ awake)
+
+pub returns-clause-there : goal.returns-clause-there
+returns-clause-there g c = subst (λ (q : Said). HasSectors c.args.self.now.buffers.sectors.items q) (sym c.said_to_merge.ensures) (merge_there c.args.self.now.buffers.sectors.items c.merge_patches-done.result)
+
+pub returns-clause-answers : goal.returns-clause-answers
+returns-clause-answers g c = λ sectors told from honest at.
+    let old = g.S.Shelf.shelf c.args.shelf.now in
+    let new = g.S.Shelf.shelf c.merge_patches-done.new.shelf in
+    let e = c.args.self.now in
+    let f : Engine = record { array = c.merge_patches-done.new.array; room = c.merge_patches-done.new.room; halted = c.is_merge_lost-self.result; buffers = e.buffers } in
+    let does = c.merge_patches-done.ensures in
+    let stays = (f.array ≡ e.array) × (c.merge_patches-done.new.shelf ≡ c.args.shelf.now) in
+    subst (λ (q : Said). IsAnsweredAt told old new e f (Asked (request.Merge c.args.table c.args.index) sectors) q from) (sym c.said_to_merge.ensures)
+    (merge_answered told old new e f c.args.table c.args.index sectors stays from honest at c.requires.awake (λ x. (x.0, ap g.S.Shelf.shelf x.1)) c.merge_patches-done.result does.made does.fault c.is_merge_lost-self.ensures)
+
+pub returns-clause-kept : goal.returns-clause-kept
+returns-clause-kept g c = λ honest sectors held ready. c.merge_patches-done.ensures.kept honest (Asked (request.Merge c.args.table c.args.index) sectors) held ready

@@ -1,0 +1,114 @@
+-- What is kept when a merged patch is put.
+use Rattle.std.proofs.Common.{◌≡◌, ◌≢◌, ℕ, ◌+◌, ◌<◌, List, refl, sym, ap, ◌∙◌, arith, subst}
+use Rattle.pur_base.specs.Facts.{object_key, segment_key, never, any_number}
+use Rattle.pur_base.specs.Visible.{is_elided, is_within, AreElidedRanges}
+use Rattle.pur_base.specs.declared.request.Table.{Table}
+use Rattle.pur_base.specs.declared.request.Table.TheVariants as table
+use Rattle.pur_base.specs.declared.facts.ObjectFact.{ObjectFact}
+use Rattle.pur_base.specs.declared.facts.SegmentFact.{SegmentFact}
+use Rattle.pur_base.specs.declared.facts.ElisionFact.{ElisionFact}
+use Rattle.boot_codec.specs.declared.record.NextNumbers.{NextNumbers}
+use Rattle.boot_codec.specs.Record.{AreNext}
+use Rattle.fact_codec.specs.declared.limits.TheConstants.{NUMBER_LIMIT}
+use Rattle.elision.specs.Ranges.{ElidedRanges, ranges_of}
+use Rattle.pyramid.specs.Shown.{IsShown}
+use Rattle.pyramid.proofs.KeyLemmas.{within_elided}
+use Rattle.array_spec.specs.Sound.{next_id, AreIdsBelow}
+use Rattle.memory_spec.specs.Tables.{facts}
+use Rattle.memory_spec.specs.Memory.{Memory, IsSound}
+use Rattle.memory_spec.proofs.Lists.{each_by_recursion, of_each}
+use Rattle.checkpoint_spec.specs.Flushing.{IsShrunk}
+use Rattle.checkpoint_spec.specs.Merging.{IsMergedAt}
+use Rattle.checkpoint_spec.specs.Whole.{AreLayered}
+use Rattle.checkpoint_spec.proofs.Merged.{merge_shrinks, one_merge_is_merge}
+use Rattle.checkpoint_spec.proofs.Shrinking.{shrunk_sound}
+use Rattle.array_memory.specs.Kept.{Kept, IsKept}
+
+-- ---- what is merged
+
+-- the ranges of a table elide what its elisions do
+pub elided_test : (k : Kept) (t u : Table) (ranges : List (ℕ × ℕ)) → IsKept k → ranges ≡ ranges_of k.elided t → t ≡ u → u ≢ table.Elision → is_within ranges ≡ is_elided (facts k.memory.tables).elisions u
+elided_test k t u ranges h is same ne = λ i id. all id i
+  where
+    all : (id : ℕ) → is_within ranges id ≡ is_elided (facts k.memory.tables).elisions u id
+    all id = ap (λ rs. is_within rs id) (is ∙ ap (λ x. ranges_of k.elided x) same) ∙ sym (within_elided (facts k.memory.tables).elisions u (ranges_of k.elided u) id (h.elided u ne))
+
+-- ---- what stays kept
+
+-- ids of segments of patches are no ids of a table
+same_next_id : (n : NextNumbers) (id : ℕ) (t : Table) → next_id n t ≡ next_id (record n { patch_segment = id }) t
+same_next_id n id table.Object = refl
+same_next_id n id table.Medium = refl
+same_next_id n id table.Address = refl
+same_next_id n id table.Segment = refl
+same_next_id n id table.Elision = refl
+
+-- two patches of a table stand as one, and so many ids were given to segments of patches
+module _ (k n : Kept) (t : Table) (i count : ℕ) (h : IsKept k) (s : IsSound k.memory) (l : AreLayered k.memory.tables) (merge : IsMergedAt t i k.memory (record n.memory { next = k.memory.next }))
+    (objects : n.objects ≡ k.objects) (segments : n.segments ≡ k.segments) (elided : n.elided ≡ k.elided)
+    (next : n.memory.next ≡ record k.memory.next { patch_segment = k.memory.next.patch_segment + count }) (left : k.memory.next.patch_segment + count < NUMBER_LIMIT) where
+  abbrev Put : Memory
+  Put = record n.memory { next = k.memory.next }
+
+  shrunk : IsShrunk k.memory Put
+  shrunk = merge_shrinks k.memory Put s l (one_merge_is_merge t i k.memory Put merge)
+
+  sound : IsSound Put
+  sound = shrunk_sound k.memory Put s shrunk
+
+  shown_objects : IsShown object_key (λ f. f.seq.0) never (facts n.memory.tables).objects (is_elided (facts n.memory.tables).elisions table.Object) k.objects
+  shown_objects = record {
+    ascends = h.objects.ascends;
+    said = λ f c. shrunk.same.objects f.object.0 ∙ h.objects.said f c;
+    all = λ f few said. h.objects.all f few (sym (shrunk.same.objects f.object.0) ∙ said);
+  }
+
+  shown_segments : IsShown segment_key (λ f. f.seq.0) never (facts n.memory.tables).segments (is_elided (facts n.memory.tables).elisions table.Segment) k.segments
+  shown_segments = record {
+    ascends = h.segments.ascends;
+    said = λ f c. shrunk.same_segments f.segment.0 ∙ h.segments.said f c;
+    all = λ f few said. h.segments.all f few (sym (shrunk.same_segments f.segment.0) ∙ said);
+  }
+
+  still_elided : (x : Table) → x ≢ table.Elision → AreElidedRanges (facts n.memory.tables).elisions x (ranges_of k.elided x)
+  still_elided x ne = record {
+    same = λ id. (λ is. ((h.elided x ne).same id).0 (sym (shrunk.same_elided x id) ∙ is), λ is. shrunk.same_elided x id ∙ ((h.elided x ne).same id).1 is);
+    whole = (h.elided x ne).whole;
+    apart = (h.elided x ne).apart;
+  }
+
+  abbrev After : NextNumbers
+  After = record k.memory.next { patch_segment = k.memory.next.patch_segment + count }
+
+  ids_after : AreIdsBelow After (facts n.memory.tables)
+  ids_after = record {
+    objects = sound.ids.objects;
+    mediums = sound.ids.mediums;
+    addresses = sound.ids.addresses;
+    segments = sound.ids.segments;
+    elisions = each_by_recursion (λ (f : ElisionFact). f.last < next_id After f.table) (facts n.memory.tables).elisions (λ f c.
+        subst (λ id. f.last < id) (same_next_id k.memory.next (k.memory.next.patch_segment + count) f.table)
+        (of_each (λ (x : ElisionFact). x.last < next_id k.memory.next x.table) (facts n.memory.tables).elisions f sound.ids.elisions c));
+  }
+
+  next_after : AreNext After
+  next_after = record {
+    object = h.next.object;
+    medium = h.next.medium;
+    segment = h.next.segment;
+    patch_segment = (let some = h.next.patch_segment.0 in omega (arith, some), left);
+    sequence = h.next.sequence;
+  }
+
+  pub merge_kept : IsKept n
+  merge_kept = record {
+    objects = subst (λ (os : List ObjectFact). IsShown object_key (λ f. f.seq.0) never (facts n.memory.tables).objects (is_elided (facts n.memory.tables).elisions table.Object) os) (sym objects) shown_objects;
+    segments = subst (λ (ds : List SegmentFact). IsShown segment_key (λ f. f.seq.0) never (facts n.memory.tables).segments (is_elided (facts n.memory.tables).elisions table.Segment) ds) (sym segments) shown_segments;
+    elided = λ x ne. subst (λ (e : ElidedRanges). AreElidedRanges (facts n.memory.tables).elisions x (ranges_of e x)) (sym elided) (still_elided x ne);
+    next = subst (λ m. AreNext m) (sym next) next_after;
+    ids = subst (λ m. AreIdsBelow m (facts n.memory.tables)) (sym next) ids_after;
+    numbers = record {
+      below = λ f c. subst (λ (m : NextNumbers). any_number f < m.sequence) (sym next) (sound.numbers.below f c);
+      distinct = sound.numbers.distinct;
+    };
+  }

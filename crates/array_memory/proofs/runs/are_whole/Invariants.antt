@@ -1,0 +1,6 @@
+use Rattle.std.proofs.Common.{◌≡◌, ◌<◌, ℕ, List, length, get_or}
+use Rattle.pur_base.specs.declared.limits.TheConstants.{SECTOR_BYTES}
+use Rattle.array_memory.proofs.runs.are_whole.Given as goal
+
+abbrev pub invariant-loop-sector : goal.invariant-loop-sector
+invariant-loop-sector l = (k : ℕ) (d : List ℕ) → k < l.sector-index → length (get_or l.sectors k d) ≡ SECTOR_BYTES

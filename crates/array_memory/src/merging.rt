@@ -1,0 +1,62 @@
+// Two neighbouring patches of a table are made one.
+ghost use Rattle.std.specs.Prelude.{◌≡◌, ◌+◌, ◌<◌, IfOk};
+ghost use Rattle.fact_codec.specs.declared.limits.TheConstants.{NUMBER_LIMIT};
+ghost use Rattle.memory_spec.specs.Memory.{IsSound};
+ghost use Rattle.merge_plan.specs.Merging.{memory_with, patch_count, table_of, IsMergedOf};
+ghost use Rattle.array_memory.specs.Plan.{with_patch_rooms, HasNoLessPatchRoom};
+
+use crate::memory::Memory;
+use merge_plan::Merged;
+use pur_base::{NoMemory, Table};
+use std::alloc::Global;
+
+impl Memory {
+    /// How many patches a table has.
+    pub fn patches(&self, table: Table) -> usize
+        ensures { result ≡ patch_count self.now.memory.tables table }
+    {
+        match table {
+            Table::Object => self.objects.facts().patches().len(),
+            Table::Medium => self.mediums.facts.patches().len(),
+            Table::Address => self.addresses.facts.patches().len(),
+            Table::Segment => self.segments.facts().patches().len(),
+            Table::Elision => self.elisions.patches().len(),
+        }
+    }
+
+    /// A table's patch of that index and the next one as one, without what they need not keep. It fails for want of memory only.
+    pub fn merged(&self, alloc: Global, table: Table, index: usize) -> Result<Merged, NoMemory>
+        requires { index + 1 < patch_count self.now.memory.tables table }
+        ensures table { IfOk result (λ p. table_of p ≡ table) }
+        ensures merged { IfOk result (IsMergedOf self.now.memory index) }
+    {
+        let elided = self.elided.ranges(table);
+        Ok(match table {
+            Table::Object => Merged::Object(self.objects.facts().merged(alloc, index, elided)?),
+            Table::Medium => Merged::Medium(self.mediums.facts.merged(alloc, index, elided)?),
+            Table::Address => Merged::Address(self.addresses.facts.merged(alloc, index, elided)?),
+            Table::Segment => Merged::Segment(self.segments.facts().merged(alloc, index, elided)?),
+            Table::Elision => Merged::Elision(self.elisions.merged(alloc, index, elided)?),
+        })
+    }
+
+    /// Puts the patch in the place of the two that it is made of, and gives ids to so many segments of it. Memory reads as before, and takes none.
+    pub fn put_merged(&mut self, index: usize, merged: Merged, segments: usize)
+        requires sound { IsSound self.old.memory }
+        requires merged { IsMergedOf self.old.memory index merged }
+        requires left { self.old.memory.next.patch_segment + segments < NUMBER_LIMIT }
+        ensures memory { self.new ≡ with_patch_rooms (record self.old { memory = memory_with self.old.memory index merged segments }) self.new }
+        ensures segment_room { self.new.segment_room ≡ self.old.segment_room }
+        ensures patch_room { HasNoLessPatchRoom self.old self.new }
+    {
+        self.layered();
+        match merged {
+            Merged::Object(patch) => self.objects.put_merged(index, patch),
+            Merged::Medium(patch) => self.mediums.facts.put_merged(index, patch),
+            Merged::Address(patch) => self.addresses.facts.put_merged(index, patch),
+            Merged::Segment(patch) => self.segments.put_merged(index, patch),
+            Merged::Elision(patch) => self.elisions.put_merged(index, patch),
+        }
+        self.next.patch_segment += segments as u64;
+    }
+}

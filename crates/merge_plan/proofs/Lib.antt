@@ -1,0 +1,3 @@
+pub mod PatchFacts
+pub mod CountLemmas
+pub mod MergeLemmas

@@ -1,0 +1,4 @@
+pub mod Patched
+pub mod Shrunk
+pub mod Sound
+pub mod Holding

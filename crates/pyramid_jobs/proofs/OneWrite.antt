@@ -1,0 +1,46 @@
+-- What the write of the one patch leaves: only free units were written, and at every moment a session can go on.
+use Rattle.std.proofs.Common.{ℕ, List, [], ◌∷◌, Bool}
+use Rattle.pur_base.specs.Devices.{nvram}
+use Rattle.pur_base.specs.declared.request.Table.{Table}
+use Rattle.world.specs.Losing.{geometry_of}
+use Rattle.world.specs.Shelf.{Shelved, Continues, IsShelf, LeavesOnly}
+use Rattle.world.specs.Writes.{WritesOnly}
+use Rattle.world.proofs.Writes.{writes_more}
+use Rattle.register.specs.Standing.{Content, array_of}
+use Rattle.memory_spec.specs.Memory.{Contents}
+use Rattle.memory_spec.specs.Tables.{facts}
+use Rattle.open_array.specs.Free.{WritesFree}
+use Rattle.array_state.specs.declared.array.Array.{Array}
+use Rattle.array_state.specs.Drives.{SegmentsHold}
+use Rattle.array_state.specs.Ready.{IsArrayOf, IsReady}
+use Rattle.array_core.specs.Performing.{IsKeptAt}
+use Rattle.array_switch.proofs.Free.{free_writes_go_on}
+use Rattle.array_checkpoint.specs.Made.{HoldOnLeft}
+use Rattle.array_checkpoint.proofs.FreeUnits.{on_free, spares_used_by}
+use Rattle.array_checkpoint.proofs.Left.{still_held}
+use Rattle.array_checkpoint.proofs.Stays.{SparesUsed}
+use Rattle.array_checkpoint.proofs.Wrote.{free_of_patches}
+use Rattle.pyramid_jobs.specs.declared.preparing.Prepared.{Prepared}
+use Rattle.pyramid_jobs.specs.Prepared.{IsPreparedFor}
+use Rattle.pyramid_jobs.specs.Written.{OnOne, OthersStayOfOne}
+use Rattle.pyramid_jobs.proofs.OnePatch.{free_bytes}
+
+module _ (a b : Shelved) (x : Array) (t : Table) (i : ℕ) (q : Prepared) (of : IsArrayOf (geometry_of a) x) (h : IsPreparedFor x t i q) (on : Continues a b) (writes : WritesOnly (OnOne q.added) a b) where
+  spares : SparesUsed x.register.record (facts x.memory.memory.tables) (OnOne q.added)
+  spares = spares_used_by x.register.record (facts x.memory.memory.tables) (OnOne q.added) (free_bytes a x t i q of h)
+
+  -- what segments held they hold, on the drives that aren't lost
+  pub still_on_left : (lost : List Bool) (contents : Contents) → SegmentsHold contents a x.register (facts x.memory.memory.tables) → HoldOnLeft b x.register lost contents (facts x.memory.memory.tables)
+  still_on_left lost contents hold left fewer members among enough = still_held a b x of on lost left fewer members among enough (OnOne q.added) writes spares contents hold
+
+  module _ (others : OthersStayOfOne q.added a b) (held : Content) (ready : IsReady a x held) where
+    pub writes_free : WritesFree x.register held a b
+    writes_free = record {
+      continues = on;
+      writes = writes_more (λ d k w. on_free x.register held (facts x.memory.memory.tables) ready.is_open.drives (free_of_patches a x held of ready) d k (free_bytes a x t i q of h d k w)) writes;
+      nvrams = λ n. others (nvram n) (λ p part shard at l less e. cc);
+    }
+
+    -- meanwhile a session can go on
+    pub goes_on : IsShelf a → a.honest → LeavesOnly a b (IsKeptAt a x.register.record (array_of held ∷ []))
+    goes_on is honest = free_writes_go_on a b is honest x.register x.log.members held ready.is_open ready.in_force writes_free

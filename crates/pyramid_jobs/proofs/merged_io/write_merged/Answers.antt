@@ -1,0 +1,25 @@
+use Rattle.std.proofs.Common.{◌≡◌, length, refl, sym, subst, ◌∙◌, arith}
+use Rattle.std.specs.Prelude.{Some, slice_get}
+use Rattle.std.proofs.lemmas.Option.{same_Some, slice_get_read}
+use Rattle.std.proofs.lemmas.Result.{on_ok_weaker}
+use Rattle.boot_codec.specs.declared.patch.Patch.{Patch}
+use Rattle.world.proofs.Writes.{writes_more}
+use Rattle.merge_plan.specs.Merging.{merged_facts}
+use Rattle.pyramid_jobs.specs.Written.{FactsStand}
+use Rattle.pyramid_jobs.proofs.merged_io.write_merged.Goals as goal
+
+pub returns-clause-stand : goal.returns-clause-stand
+returns-clause-stand g c h =
+    let ps = c.args.added.now in
+    let r = c.at-patch.result in
+    let at : slice_get ps 0 ≡ Some r = slice_get_read ps (length ps) 0 r refl (omega arith) c.at-patch.ensures in
+    on_ok_weaker c.write_facts.result
+    (λ stand p is. subst (λ (o : Patch). FactsStand (g.S.Shelf.shelf c.write_facts.new.shelf) o c.write_facts.new.lost.drives (merged_facts c.args.merged.now)) (same_Some r p (sym at ∙ is)) stand)
+    (c.write_facts.ensures.stand h)
+
+pub returns-clause-writes : goal.returns-clause-writes
+returns-clause-writes g c h =
+    let ps = c.args.added.now in
+    let r = c.at-patch.result in
+    let at : slice_get ps 0 ≡ Some r = slice_get_read ps (length ps) 0 r refl (omega arith) c.at-patch.ensures in
+    writes_more (λ d i on. (r, at, on)) (c.write_facts.ensures.writes h)

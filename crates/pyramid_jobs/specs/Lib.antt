@@ -1,0 +1,4 @@
+pub mod Checked
+pub mod Prepared
+pub mod Written
+pub mod Made

@@ -1,0 +1,40 @@
+-- What a merge writes and stores, once all memory is taken for it.
+use Rattle.std.specs.Prelude.{◌≡◌, ℕ, ◌+◌, ◌<◌, ◌≤◌, ◌^◌, true, List, length}
+use Rattle.pur_base.specs.Tags.{tag_of}
+use Rattle.pur_base.specs.declared.request.Table.{Table}
+use Rattle.pur_base.specs.declared.place.Place.{Place}
+use Rattle.boot_codec.specs.declared.limits.TheConstants.{NUMBER_LIMIT}
+use Rattle.register.specs.Standing.{Content}
+use Rattle.memory_spec.specs.Tables.{facts, patches}
+use Rattle.memory_spec.specs.Memory.{Memory}
+use Rattle.checkpoint_spec.specs.Merging.{AreJoined, has_pair, pair_segments, place_in}
+use Rattle.merge_plan.specs.declared.merged.Merged.{Merged}
+use Rattle.merge_plan.specs.Merging.{merged_facts, table_of, tables_with, IsMergedOf}
+use Rattle.record_tables.specs.Joined.{HasMergedFacts}
+use Rattle.record_tables.specs.Patches.{new_patch, segments_for}
+use Rattle.record_tables.specs.Units.{AreNewUnits}
+use Rattle.array_state.specs.declared.array.Array.{Array}
+use Rattle.pyramid_jobs.specs.declared.preparing.Prepared.{Prepared}
+
+-- The one patch is made of the table's at that index and behind it. Its segments stand on free units, and the record's tables name it in the place of the two, by ids that are given next.
+pub record IsPreparedFor (a : Array) (t : Table) (i : ℕ) (p : Prepared) : Type 0 where
+  pub merged : IsMergedOf a.memory.memory i p.merged
+  pub table : table_of p.merged ≡ t
+  pub some : HasMergedFacts p.merged
+  pub there : has_pair t i a.register.record.patches ≡ true
+  -- the units of its segments
+  pub units : List (List Place)
+  pub wanted : segments_for (length (merged_facts p.merged)) ≡ length units
+  pub count : p.segments ≡ length units
+  pub fits : length (merged_facts p.merged) < 2 ^ 32
+  pub few : length units ≤ pair_segments t i a.register.record.patches
+  pub free : AreNewUnits a.register.record (facts a.memory.memory.tables) units
+  pub ids : a.register.record.next.patch_segment + length units < NUMBER_LIMIT
+  pub added : p.added ≡ new_patch (tag_of t) (length (merged_facts p.merged)) a.register.record.next.patch_segment units
+  pub patches : AreJoined (place_in t i a.register.record.patches) a.register.record.patches p.added p.tables.patches
+  pub next : p.tables.next ≡ record a.register.record.next { patch_segment = a.register.record.next.patch_segment + length units }
+  pub flushed : p.tables.flushed ≡ a.register.record.flushed
+
+-- what the devices hold by its tables: the same base, and the same log
+abbrev pub held_after : Memory → ℕ → Merged → Content → Content
+held_after m i p held = record held { patches = patches (tables_with m.tables i p) }

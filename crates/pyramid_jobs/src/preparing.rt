@@ -1,0 +1,73 @@
+// All that a merge writes is planned, and all memory taken, before anything is written.
+ghost use Rattle.std.specs.Prelude.{◌≡◌, ℕ, IfOk};
+ghost use Rattle.pur_base.specs.Devices.{Geometry};
+ghost use Rattle.checkpoint_spec.specs.Merging.{place_in};
+ghost use Rattle.array_state.specs.Ready.{IsArrayOf};
+ghost use Rattle.pyramid_jobs.specs.Checked.{MayMerge};
+ghost use Rattle.pyramid_jobs.specs.Prepared.{IsPreparedFor};
+
+use array_state::Array;
+use boot_codec::{NextNumbers, Patches};
+use free_space::map_of;
+use merge_plan::Merged;
+use pur_base::{NoMemory, Table};
+use record_tables::{Pair, joined_patches, merged_has_facts, segments_for, take_units};
+use register::Tables;
+use std::alloc::Global;
+
+/// What a merge writes and stores.
+#[derive(Drop)]
+pub(crate) struct Prepared {
+    /// The patch that is to stand in the place of the two.
+    pub(crate) merged: Merged,
+    /// The same as the record names it, or none where no fact is left.
+    pub(crate) added: Patches,
+    /// What the next record says of the tables.
+    pub(crate) tables: Tables,
+    /// How many segments the patch has.
+    pub(crate) segments: usize,
+}
+
+/// Plans a merge. It fails for want of memory only.
+pub(crate) fn prepare(
+    alloc: Global,
+    array: &Array,
+    table: Table,
+    index: u64,
+    pair: Pair,
+) -> Result<Prepared, NoMemory>
+    requires is_of { (shelf : Geometry) × IsArrayOf shelf array.now }
+    requires may { MayMerge table index array.now }
+    requires place { pair.place ≡ place_in table index array.now.register.record.patches }
+    ensures { IfOk result (IsPreparedFor array.now table index) }
+{
+    let record = array.register.record();
+    let merged = array.memory.merged(alloc, table, index as usize)?;
+    merged_has_facts(&merged);
+    let facts = merged.len();
+    let mut map = map_of(alloc, record, array.memory.segments())?;
+    let units = take_units(alloc, &mut map, segments_for(facts))?;
+    let first = record.next.patch_segment;
+    let patches = joined_patches(
+        alloc,
+        &record.patches,
+        pair.place,
+        table,
+        facts as u32,
+        first,
+        &units,
+    )?;
+    Ok(Prepared {
+        merged,
+        added: patches.added,
+        tables: Tables {
+            patches: patches.all,
+            next: NextNumbers {
+                patch_segment: first + units.len() as u64,
+                ..record.next
+            },
+            flushed: record.flushed,
+        },
+        segments: units.len(),
+    })
+}
