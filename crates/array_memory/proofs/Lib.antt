@@ -12,6 +12,7 @@ pub mod LoadedLemmas
 pub mod PlanLemmas
 pub mod FinishLemmas
 pub mod VisibleLemmas
+pub mod NamedLemmas
 pub mod UnusedLemmas
 pub mod ElidingLemmas
 pub mod LastingLemmas

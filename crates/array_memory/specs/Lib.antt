@@ -4,6 +4,7 @@ pub mod Asked
 pub mod Put
 pub mod Lawful
 pub mod Loaded
+pub mod Named
 pub mod Eliding
 pub mod Plan
 pub mod Lasting

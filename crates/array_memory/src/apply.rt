@@ -1,4 +1,4 @@
-ghost use Rattle.std.specs.Prelude.{◌≡◌, ◌≢◌, ◌⊎◌, ◌↔◌, ℕ, ◌+◌, ◌<◌, ◌≤◌, ◌^◌, ◌++◌, [], List, Some, None, Option, All, Contains, length, replicate};
+ghost use Rattle.std.specs.Prelude.{◌≡◌, ◌⊎◌, ◌↔◌, ℕ, ◌+◌, ◌<◌, ◌≤◌, ◌^◌, ◌++◌, [], List, Some, None, Option, Contains, length, replicate};
 ghost use Rattle.pur_base.specs.Commands.{after, Accepts};
 ghost use Rattle.pur_base.specs.Grammar.{data_count};
 ghost use Rattle.pur_base.specs.Plain.{Array};

@@ -3,7 +3,6 @@ ghost use Rattle.pur_base.specs.Facts.{elision_key};
 ghost use Rattle.pur_base.specs.declared.facts.ElisionFact.{ElisionFact};
 ghost use Rattle.fact_codec.specs.declared.limits.TheConstants.{NUMBER_LIMIT};
 ghost use Rattle.pyramid.specs.Layers.{patch_facts, AreDistinct, IsFlushed};
-ghost use Rattle.memory_spec.specs.Memory.{IsSound};
 ghost use Rattle.memory_spec.specs.Tables.{facts as all_facts};
 ghost use Rattle.array_memory.specs.Eliding.{AreLowestUnused, IsElidingOf};
 
@@ -11,7 +10,7 @@ use crate::limits::ELIDED_SEGMENTS;
 use crate::loading::are_apart;
 use crate::memory::Memory;
 use crate::plan::Eliding;
-use checkpoint_plan::{copied, elide_segments, unused_segments};
+use checkpoint_plan::{Witness, copied, elide_segments, unfound};
 use pur_base::{ElisionFact, NoMemory, Table};
 use pyramid::{Patch, Pyramid};
 use std::alloc::Global;
@@ -29,34 +28,42 @@ fn insert_each(facts: &[ElisionFact], table: &mut Pyramid<ElisionFact>) -> Resul
     Ok(())
 }
 
+/// Which data segments no visible address names, and of the others an address each that does.
+#[derive(Drop)]
+struct Looked {
+    ids: Vec<u64>,
+    witnesses: Vec<Witness>,
+}
+
 impl Memory {
-    /// The visible data segments that no visible address names, by ascending id: the 1,024 of the lowest ids at most.
-    /// It reads each visible address once, and fails for want of memory only.
-    pub fn unused(&self, alloc: Global) -> Result<Vec<u64>, NoMemory>
-        requires { IsSound self.now.memory }
-        ensures { IfOk result (λ v. AreLowestUnused (all_facts self.now.memory.tables) v.items) }
+    /// Looks for the unused segments of the lowest ids. Where each segment's witness still holds there is none, and no fact is read but theirs.
+    fn looked(&self, alloc: Global) -> Result<Looked, NoMemory>
+        ensures { IfOk result (λ l. AreLowestUnused (all_facts self.now.memory.tables) l.ids.items) }
     {
-        let elided = self.elided.ranges(Table::Address);
-        let addresses = self.addresses.facts.range(alloc, 0, u128::MAX, elided)?;
-        let mut ids = unused_segments(alloc, self.segments.all(), &addresses)?;
+        self.kept();
+        let lost = self.lost(alloc)?;
+        let found = self.find(alloc, &lost)?;
+        let mut ids = unfound(alloc, &lost, &found)?;
         ids.truncate(ELIDED_SEGMENTS);
-        Ok(ids)
+        let witnesses = self.renewed(alloc, &lost, &found)?;
+        Ok(Looked { ids, witnesses })
     }
 
-    /// What a checkpoint would elide: the unused segments of the lowest ids. It fails for want of memory only.
+    /// What a checkpoint would elide: the visible data segments that no visible address names, by ascending id, the 1,024 of the lowest ids at most.
+    /// It fails for want of memory only.
     pub fn eliding(&self, alloc: Global) -> Result<Eliding, NoMemory>
-        requires sound { IsSound self.now.memory }
-        requires left { self.now.memory.next.sequence + ELIDED_SEGMENTS < NUMBER_LIMIT }
+        requires { self.now.memory.next.sequence + ELIDED_SEGMENTS < NUMBER_LIMIT }
         ensures { IfOk result (IsElidingOf self.now) }
     {
-        let segments = self.unused(alloc)?;
+        let looked = self.looked(alloc)?;
         let mut elided = copied(alloc, &self.elided)?;
-        let facts = elide_segments(alloc, &mut elided, &segments, self.next.sequence)?;
+        let facts = elide_segments(alloc, &mut elided, &looked.ids, self.next.sequence)?;
         are_apart(&elided);
         Ok(Eliding {
-            segments,
+            segments: looked.ids,
             facts,
             elided,
+            witnesses: looked.witnesses,
         })
     }
 

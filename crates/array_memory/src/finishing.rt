@@ -31,6 +31,7 @@ impl Memory {
             segment_facts,
             elisions,
             next,
+            witnesses,
             ..
         } = plan;
         self.objects.put_flushed(objects);
@@ -43,5 +44,6 @@ impl Memory {
         self.elided = eliding.elided;
         self.staged.clear();
         self.next = next;
+        self.witnesses = witnesses;
     }
 }

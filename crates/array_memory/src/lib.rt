@@ -17,6 +17,7 @@ mod resolve;
 mod runs;
 mod segments;
 mod visible;
+mod witnesses;
 
 pub use laws::{laws_of_requests, plans_are_lawful};
 pub use limits::{ELIDED_SEGMENTS, STAGED_SECTORS, UNFLUSHED_OBJECTS};

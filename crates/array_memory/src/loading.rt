@@ -130,6 +130,7 @@ fn of_facts(
         elided,
         staged,
         next,
+        witnesses: Vec::new(alloc),
     })
 }
 

@@ -8,6 +8,7 @@ ghost use Rattle.array_memory.specs.Kept.{IsKept};
 use crate::limits::{STAGED_SECTORS, UNFLUSHED_OBJECTS};
 use address_table::{AddressTable, UNFLUSHED_ADDRESSES};
 use boot_codec::NextNumbers;
+use checkpoint_plan::Witness;
 use elision::Elided;
 use medium_table::MediumTable;
 use object_table::ObjectTable;
@@ -38,6 +39,8 @@ pub struct Memory {
     pub(crate) elided: Elided,
     pub(crate) staged: Vec<Sector>,
     pub(crate) next: NextNumbers,
+    /// For each visible data segment, by ascending id, an address that named a sector of it when it was last looked at.
+    pub(crate) witnesses: Vec<Witness>,
 }
 
 impl Model for Memory {
@@ -83,6 +86,7 @@ impl Memory {
             elided,
             staged,
             next: FIRST,
+            witnesses: Vec::new(alloc),
         })
     }
 

@@ -1,10 +1,11 @@
-ghost use Rattle.std.specs.Prelude.{◌≡◌, ◌+◌, ◌<◌, length};
+ghost use Rattle.std.specs.Prelude.{◌≡◌, ◌+◌, ◌<◌};
 ghost use Rattle.fact_codec.specs.declared.limits.TheConstants.{NUMBER_LIMIT};
 ghost use Rattle.pyramid.specs.Layers.{patch_facts};
 ghost use Rattle.memory_spec.specs.Memory.{Memory};
 ghost use Rattle.array_memory.specs.Plan.{AreCounts, IsPlanFor};
 
 use boot_codec::NextNumbers;
+use checkpoint_plan::Witness;
 use elision::Elided;
 use pur_base::{AddressFact, ElisionFact, Fact, MediumFact, ObjectFact, SegmentFact};
 use pyramid::Patch;
@@ -29,6 +30,8 @@ pub struct Eliding {
     pub facts: Vec<ElisionFact>,
     /// The elided ids of each table then.
     pub elided: Elided,
+    /// For each other data segment an address that names a sector of it.
+    pub witnesses: Vec<Witness>,
 }
 
 /// What a checkpoint makes of memory: the elided segments, the new segments, the new patch of each table, and the next numbers.
@@ -43,6 +46,8 @@ pub struct Plan {
     pub segment_facts: Option<Patch<SegmentFact>>,
     pub elisions: Option<Patch<ElisionFact>>,
     pub next: NextNumbers,
+    /// For each data segment then an address that names a sector of it.
+    pub witnesses: Vec<Witness>,
 }
 
 /// How many facts the new patch of each table has, or 0 where there is none.

@@ -4,7 +4,6 @@ ghost use Rattle.pur_base.specs.Plain.{Array};
 ghost use Rattle.pyramid.specs.Layers.{facts_of, patch_facts};
 ghost use Rattle.memory_spec.specs.Memory.{Contents, IsSound, ReadsAs};
 ghost use Rattle.checkpoint_plan.specs.Planned.{AreStored, IsPlanned};
-ghost use Rattle.checkpoint_plan.specs.Segments.{segments_from};
 ghost use Rattle.checkpoint_spec.specs.Whole.{AreLayered};
 ghost use Rattle.array_memory.specs.Eliding.{eliding_by, IsElidingOf};
 ghost use Rattle.array_memory.specs.Plan.{after_plan, next_past, placed_addresses, units_of, with_patch_rooms, AreLeftFor, AreUnits, HasNoLessPatchRoom, HasRoomForPatches, IsPlacingOf, IsPlanFor, IsPlanOf};
@@ -108,6 +107,7 @@ impl Memory {
         let addresses = self.placed_addresses(alloc, &placing)?;
         let segment_facts = self.segments.newest_with(alloc, &segments)?;
         let elisions = self.newest_elisions(alloc, &eliding.facts)?;
+        let witnesses = self.witnesses_behind(alloc, &eliding, units.len(), facts_of(&addresses))?;
         Ok(Plan {
             next: self.next_past(eliding.facts.len(), units.len()),
             eliding,
@@ -118,6 +118,7 @@ impl Memory {
             addresses,
             segment_facts,
             elisions,
+            witnesses,
         })
     }
 

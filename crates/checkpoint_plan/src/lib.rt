@@ -6,13 +6,12 @@ mod eliding;
 mod laws;
 mod placing;
 mod segments;
-mod unused;
+mod witnesses;
 
 pub use eliding::{copied, elide_segments};
 pub use laws::{a_plan_is_a_checkpoint, unused_may_be_elided};
 pub use placing::{flagged, flags, places, repointed_facts};
 pub use segments::{new_segments, segments_for};
-pub use unused::unused_segments;
-
-#[cfg(test)]
-mod tests;
+pub use witnesses::{
+    Witness, new_witnesses, place_in, place_of, stands_in, unfound, with_found, witness_of,
+};

@@ -1,4 +1,4 @@
-ghost use Rattle.std.specs.Prelude.{◌≡◌, ℕ, ◌+◌, ◌<◌, ◌≤◌, ◌^◌, ◌||◌, Bool, false, length, map, IfOk, All, slice_index_or};
+ghost use Rattle.std.specs.Prelude.{◌≡◌, ℕ, ◌+◌, ◌<◌, ◌≤◌, ◌^◌, ◌||◌, false, length, map, IfOk, All, slice_index_or};
 ghost use Rattle.checkpoint_plan.specs.Places.{flagged_from, has_places, is_named, is_staged_at, place_of, places_from, place_in};
 ghost use Rattle.checkpoint_spec.specs.Placing.{repointed};
 

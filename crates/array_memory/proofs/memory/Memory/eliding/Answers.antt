@@ -5,9 +5,9 @@ use Rattle.array_memory.proofs.memory.Memory.eliding.Goals as goal
 pub returns : goal.returns
 returns c =
     let k = seen c.self.inside in
-    let ids = c.in_ok-segments.segments.items in
+    let ids = c.in_ok-looked.looked.ids.items in
     let fs = c.in_ok-facts.facts.items in
-    let unused = rw (← c.self.view_is) at c.in_ok-segments.ensures in
+    let unused = rw (← c.self.view_is) at c.in_ok-looked.ensures in
     let made = rw c.deref.ensures.value at c.in_ok-facts.ensures.facts in
     let more = rw c.deref.ensures.value at c.in_ok-facts.ensures.ids in
     rw (← c.self.view_is) (record {

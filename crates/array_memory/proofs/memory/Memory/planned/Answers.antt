@@ -38,6 +38,7 @@ plan c = record {
   segment_facts = c.in_ok-segment_facts.segment_facts;
   elisions = c.in_ok-elisions.elisions;
   next = c.next_past.result;
+  witnesses = c.in_ok-witnesses.witnesses;
 }
 
 facts_long : (c : goal.After-next_past) → c.len.result ≡ length c.args.eliding.facts.items

@@ -1,0 +1,13 @@
+use Rattle.std.proofs.Common.{◌≡◌, ℕ, ◌<◌, length, get_or, take, None}
+use Rattle.std.specs.List.{list_any}
+use Rattle.std.specs.Option.{is_some}
+use Rattle.pyramid.specs.Layers.{facts_of}
+use Rattle.memory_spec.specs.Tables.{facts}
+use Rattle.array_memory.specs.Named.{names}
+use Rattle.array_memory.proofs.memory.Memory.find.Given as goal
+
+abbrev pub invariant-loop-patch : goal.invariant-loop-patch
+invariant-loop-patch l = record {
+  len : length l.found.items ≡ length l.ids;
+  each : (i : ℕ) → i < length l.ids → is_some (get_or l.found.items i None) ≡ list_any (names (facts l.fn.self.memory.tables) (get_or l.ids i 0)) (facts_of (take l.patch-index l.fn.self.memory.tables.addresses.patches));
+}

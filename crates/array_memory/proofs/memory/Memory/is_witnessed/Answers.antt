@@ -1,0 +1,7 @@
+use Rattle.std.proofs.Common.{sym, ◌∙◌}
+use Rattle.memory_spec.specs.Tables.{facts}
+use Rattle.array_memory.proofs.NamedLemmas.{named_by}
+use Rattle.array_memory.proofs.memory.Memory.is_witnessed.Goals as goal
+
+pub returns-in-Some : goal.returns-in-Some
+returns-in-Some c = λ holds. named_by (facts c.args.self.now.memory.tables) c.args.segment _ _ (sym c.names_at.ensures ∙ holds)

@@ -1,0 +1,145 @@
+// Which visible data segments an address names: the witnesses are asked first, and the facts of addresses only for segments that have lost theirs.
+ghost use Rattle.std.specs.Prelude.{◌≡◌, ℕ, ◌<◌, ◌||◌, true, length, map, slice_index, slice_index_or, AllPairs, IfOk, None};
+ghost use Rattle.std.specs.List.{list_any};
+ghost use Rattle.std.specs.Option.{is_some};
+ghost use Rattle.memory_spec.specs.Tables.{facts as all_facts};
+ghost use Rattle.array_memory.specs.Named.{is_named, names, names_at, unnamed};
+
+use crate::memory::Memory;
+use crate::plan::Eliding;
+use checkpoint_plan::{
+    Witness, new_witnesses, place_in, place_of, stands_in, with_found, witness_of,
+};
+use pur_base::{AddressFact, NoMemory, Table};
+use std::alloc::Global;
+
+impl Memory {
+    /// Whether the witness's address names a sector of the segment.
+    fn names_at(&self, witness: Witness, segment: u64) -> bool
+        ensures { result ≡ names_at (all_facts self.now.memory.tables) segment witness.medium.0 witness.sector }
+    {
+        let elided = self.elided.ranges(Table::Address);
+        match self.addresses.at(witness.medium, witness.sector, elided) {
+            Some(target) => stands_in(&target, segment),
+            None => false,
+        }
+    }
+
+    /// Whether the witness at a place holds of the segment.
+    fn is_witnessed(&self, place: usize, segment: u64) -> bool
+        ensures { result ≡ true → is_named (all_facts self.now.memory.tables) segment ≡ true }
+    {
+        match self.witnesses.get(place) {
+            Some(witness) => self.names_at(*witness, segment),
+            None => false,
+        }
+    }
+
+    /// The visible segments whose witness doesn't hold, by ascending id: no other is unnamed.
+    pub(crate) fn lost(&self, alloc: Global) -> Result<Vec<u64>, NoMemory>
+        ensures ascending { IfOk result (λ v. AllPairs (λ i j. i < j) v.items) }
+        ensures unnamed { IfOk result (λ v. unnamed (all_facts self.now.memory.tables) v.items ≡ unnamed (all_facts self.now.memory.tables) (map (λ d. d.segment.0) self.now.segments)) }
+    {
+        let segments = self.segments.all();
+        let mut ids = Vec::new(alloc);
+        for (i, segment) in segments.iter().enumerate() {
+            let id = segment.segment.0;
+            if !self.is_witnessed(i, id) {
+                ids.push(id)?;
+            }
+        }
+        Ok(ids)
+    }
+
+    /// The address of a fact, if it names a sector of the segment.
+    fn witness(&self, fact: &AddressFact, segment: u64) -> Option<Witness>
+        ensures { is_some result ≡ names_at (all_facts self.now.memory.tables) segment fact.now.medium.0 fact.now.sector }
+    {
+        let witness = witness_of(fact);
+        if self.names_at(witness, segment) {
+            Some(witness)
+        } else {
+            None
+        }
+    }
+
+    /// Puts the address of a fact in the place of the segment that it names, if that is one of these, has none yet, and the address names it still.
+    fn find_by(&self, fact: &AddressFact, ids: &[u64], found: &mut [Option<Witness>])
+        requires ascending { AllPairs (λ i j. i < j) ids.now }
+        requires len { length found.old ≡ length ids.now }
+        ensures { (i : ℕ) → i < length ids.now → is_some (slice_index_or found.new i None)
+            ≡ (is_some (slice_index_or found.old i None) || names (all_facts self.now.memory.tables) (slice_index ids.now i) fact.now) }
+    {
+        if let Some(place) = place_in(&fact.target, ids) {
+            if found[place].is_none() {
+                found[place] = self.witness(fact, ids[place]);
+            }
+        }
+    }
+
+    /// The same for each of these facts.
+    fn find_among(&self, facts: &[AddressFact], ids: &[u64], found: &mut [Option<Witness>])
+        requires ascending { AllPairs (λ i j. i < j) ids.now }
+        requires len { length found.old ≡ length ids.now }
+        ensures { (i : ℕ) → i < length ids.now → is_some (slice_index_or found.new i None)
+            ≡ (is_some (slice_index_or found.old i None) || list_any (names (all_facts self.now.memory.tables) (slice_index ids.now i)) facts.now) }
+    {
+        for fact in facts {
+            self.find_by(fact, ids, found);
+        }
+    }
+
+    /// Of each of these segments an address that names a sector of it, or `None` where no visible address does: one pass over the facts, if there are any segments.
+    pub(crate) fn find(&self, alloc: Global, ids: &[u64]) -> Result<Vec<Option<Witness>>, NoMemory>
+        requires { AllPairs (λ i j. i < j) ids.now }
+        ensures len { IfOk result (λ v. length v.items ≡ length ids.now) }
+        ensures found { IfOk result (λ v. (i : ℕ) → i < length ids.now → is_some (slice_index_or v.items i None) ≡ is_named (all_facts self.now.memory.tables) (slice_index ids.now i)) }
+    {
+        let mut found = vec![in alloc; None; ids.len()]?;
+        if ids.is_empty() {
+            return Ok(found);
+        }
+        for patch in self.addresses.facts.patches() {
+            self.find_among(patch.facts(), ids, &mut found);
+        }
+        self.find_among(self.addresses.facts.unflushed(), ids, &mut found);
+        Ok(found)
+    }
+
+    /// The witnesses of the visible segments: those that hold, and those that were found for the others.
+    pub(crate) fn renewed(
+        &self,
+        alloc: Global,
+        lost: &[u64],
+        found: &[Option<Witness>],
+    ) -> Result<Vec<Witness>, NoMemory>
+        requires ascending { AllPairs (λ i j. i < j) lost.now }
+        requires len { length found.now ≡ length lost.now }
+    {
+        let segments = self.segments.all();
+        let mut out = Vec::with_capacity(alloc, segments.len())?;
+        for (i, segment) in segments.iter().enumerate() {
+            let witness = match place_of(lost, segment.segment.0) {
+                Some(place) => found[place],
+                None => self.witnesses.get(i).copied(),
+            };
+            if let Some(witness) = witness {
+                out.push(witness)?;
+            }
+        }
+        Ok(out)
+    }
+
+    /// The witnesses of the segments behind a checkpoint: those that were looked at, and for each of so many new segments the last of these addresses that names it.
+    pub(crate) fn witnesses_behind(
+        &self,
+        alloc: Global,
+        eliding: &Eliding,
+        count: usize,
+        addresses: &[AddressFact],
+    ) -> Result<Vec<Witness>, NoMemory> {
+        let found = new_witnesses(alloc, self.next.segment, count, addresses)?;
+        let witnesses = with_found(alloc, &eliding.witnesses, &found)?;
+        Ok(witnesses)
+    }
+}
