@@ -8,6 +8,3 @@ mod table;
 
 pub use laws::laws_of_addresses;
 pub use table::{AddressTable, UNFLUSHED_ADDRESSES};
-
-#[cfg(test)]
-mod tests;

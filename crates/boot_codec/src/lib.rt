@@ -26,6 +26,3 @@ pub use patch::{Patch, PatchSegment, Patches, Segments};
 pub use reading::read_record;
 pub use record::{BootRecord, Members, NextNumbers};
 pub use writing::write_record;
-
-#[cfg(test)]
-mod tests;

@@ -15,6 +15,3 @@ pub use limits::{FACT_BYTES, NUMBER_LIMIT, PAGE_FACTS, VALUE_BYTES};
 pub use order::may_follow;
 pub use reading::{BadFact, read_fact};
 pub use writing::write_fact;
-
-#[cfg(test)]
-mod tests;

@@ -13,6 +13,3 @@ pub use head::{Head, is_command};
 pub use limits::{LOG_SLOTS, SLOT_BYTES, SLOTS_START};
 pub use reading::{BadHead, read_head};
 pub use writing::write_head;
-
-#[cfg(test)]
-mod tests;

@@ -10,6 +10,3 @@ mod table;
 
 pub use laws::laws_of_ranges;
 pub use table::{MediumTable, Range};
-
-#[cfg(test)]
-mod tests;

@@ -8,6 +8,3 @@ mod table;
 
 pub use laws::laws_of_objects;
 pub use table::ObjectTable;
-
-#[cfg(test)]
-mod tests;

@@ -19,6 +19,3 @@ pub use load::LoadFault;
 pub use patch::Patch;
 pub use pyramid::Pyramid;
 pub use search::key_of;
-
-#[cfg(test)]
-mod tests;

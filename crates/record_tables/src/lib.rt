@@ -16,6 +16,3 @@ pub use laws::{
 pub use patches::{NextPatches, next_patches};
 pub use segments::{segments_for, segments_of};
 pub use units::take_units;
-
-#[cfg(test)]
-mod tests;

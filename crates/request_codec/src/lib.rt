@@ -11,8 +11,6 @@ mod reader;
 mod reply_lines;
 mod reply_writer;
 mod search;
-#[cfg(test)]
-mod tests;
 mod words;
 
 pub use buffer::BUFFER_BYTES;

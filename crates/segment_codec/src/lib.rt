@@ -16,6 +16,3 @@ pub use position::{
 };
 pub use reading::{BadHeader, read_header};
 pub use writing::write_header;
-
-#[cfg(test)]
-mod tests;

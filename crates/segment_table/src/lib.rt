@@ -8,6 +8,3 @@ mod table;
 
 pub use laws::laws_of_segments;
 pub use table::SegmentTable;
-
-#[cfg(test)]
-mod tests;

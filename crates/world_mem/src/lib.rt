@@ -15,8 +15,6 @@ mod several;
 mod shelf;
 mod stopped;
 mod streams;
-#[cfg(test)]
-mod tests;
 mod turns;
 
 pub use fused::Fused;

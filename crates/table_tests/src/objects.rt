@@ -2,7 +2,7 @@ ghost use Rattle.std.specs.Prelude.{◌≡◌, ◌<◌, [], All, Contains, IfOk}
 ghost use Rattle.pur_base.specs.declared.facts.ObjectFact.{ObjectFact};
 ghost use Rattle.pyramid.specs.Layers.{facts_in};
 
-use crate::ObjectTable;
+use object_table::ObjectTable;
 use pur_base::{MediumId, Name, NoMemory, ObjectFact, ObjectId, ObjectKind, Seq};
 use pyramid::Pyramid;
 use std::alloc::Global;

@@ -1,8 +1,8 @@
 use Rattle.std.proofs.Common.{◌≡◌, ◌<◌, ◌++◌, [], ◌∷◌, arith}
 use Rattle.pur_base.specs.Visible.{is_within}
 use Rattle.pyramid.specs.Layers.{facts_in, facts_of}
-use Rattle.medium_table.proofs.OneRangeLemmas.{first_range, one_descending}
-use Rattle.medium_table.proofs.tests.mediums_are_reached_by_ranges.Goals as goal
+use Rattle.table_tests.proofs.OneRangeLemmas.{first_range, one_descending}
+use Rattle.table_tests.proofs.mediums.mediums_are_reached_by_ranges.Goals as goal
 
 pub reachable-requires-clause-descending : goal.reachable-requires-clause-descending
 reachable-requires-clause-descending g c = one_descending (facts_in c.over.new.self.facts) (is_within []) first_range

@@ -1,6 +1,6 @@
 ghost use Rattle.std.specs.Prelude.{◌≤◌};
 
-use super::*;
+use log_codec::{Head, is_command, read_head, write_head};
 use pur_base::{Name, Request, SECTOR_BYTES, Sector};
 use std::process::Abort;
 use std::test::*;

@@ -1,8 +1,8 @@
-use crate::{Choice, Fused, MemWorld};
 use pur_base::{Device, DriveId, NvId};
 use std::alloc::Global;
 use std::test::Fail;
 use world::{Failed, Shelf, Sink, Source};
+use world_mem::{Choice, Fused, MemWorld};
 
 const NVRAM: Device = Device::Nv(NvId(0));
 

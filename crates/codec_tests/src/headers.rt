@@ -3,8 +3,8 @@ ghost use Rattle.pur_base.specs.declared.limits.TheConstants.{SECTOR_BYTES};
 ghost use Rattle.segment_codec.specs.Header.{IsLawful, IsOfNoPatch};
 ghost use Rattle.segment_codec.specs.declared.kind.SegmentKind.TheVariants.{Patch};
 
-use super::*;
 use pur_base::{Place, SECTOR_BYTES, Sector, SegmentId};
+use segment_codec::{BadHeader, Header, Position, SegmentKind, read_header, write_header};
 use std::test::*;
 
 const FIELDS: usize = 67;

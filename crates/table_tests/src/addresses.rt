@@ -1,4 +1,4 @@
-use crate::table::AddressTable;
+use address_table::AddressTable;
 use pur_base::{AddressFact, Location, MediumId, NoMemory, SegmentId, Seq, Target};
 
 const HERE: Location = Location {

@@ -1,8 +1,8 @@
 ghost use Rattle.std.specs.Prelude.{◌≡◌, [], IfOk};
 
-use crate::SegmentTable;
 use pur_base::{NoMemory, Place, SEGMENT_SHARDS, SegmentFact, SegmentId, Seq};
 use pyramid::Pyramid;
+use segment_table::SegmentTable;
 use std::alloc::Global;
 
 fn segment() -> SegmentFact {

@@ -1,6 +1,9 @@
 ghost use Rattle.boot_codec.specs.Record.{IsBootRecord};
 
-use super::*;
+use boot_codec::{
+    BadRecord, BootRecord, DRIVE_FLAGS, FORMAT, HEADER_BYTES, Members, NVRAM_FLAGS, NextNumbers,
+    Patches, RECORD_BYTES, ReadError, read_record, write_record,
+};
 use pur_base::Place;
 use std::alloc::Global;
 use std::test::*;

@@ -2,10 +2,10 @@ ghost use Rattle.std.specs.Prelude.{◌≡◌, ◌+◌, ◌≤◌, length, IfOk,
 ghost use Rattle.boot_codec.specs.Record.{patch_segments};
 ghost use Rattle.boot_codec.specs.declared.limits.TheConstants.{PATCH_SEGMENTS};
 
-use crate::{Pair, joined_patches, next_patches, pair_of, segments_of};
 use array_memory::Counts;
 use boot_codec::{Patch, PatchSegment, Patches, Segments};
 use pur_base::{NoMemory, Place, Places, SEGMENT_SHARDS, Table};
+use record_tables::{Pair, joined_patches, next_patches, pair_of, segments_of};
 use std::alloc::Global;
 
 const COUNTS: Counts = Counts {

@@ -1,8 +1,8 @@
 // A reader over a source that gives little at once, and a writer over a sink that counts.
 ghost use Rattle.std.specs.Prelude.{◌≡◌};
 
-use crate::{Item, Reader, ReplyWriter};
 use pur_base::{REQUEST_SECTORS, Reply, Request, Sector};
+use request_codec::{Item, Reader, ReplyWriter};
 use std::alloc::{AllocError, Global};
 use std::test::Fail;
 use world::{Failed, Sink, Source};

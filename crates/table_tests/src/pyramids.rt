@@ -1,10 +1,8 @@
 ghost use Rattle.std.specs.Prelude.{◌≡◌, ◌+◌, ◌<◌, [], All, OnOk};
 ghost use Rattle.pyramid.specs.Layers.{facts_of};
 
-use crate::load::LoadFault;
-use crate::patch::Patch;
-use crate::pyramid::Pyramid;
 use pur_base::{MediumFact, MediumId, NoMemory, Seq};
+use pyramid::{LoadFault, Patch, Pyramid};
 use std::alloc::Global;
 
 const START: u64 = 4;

@@ -1,4 +1,4 @@
-use crate::table::{MediumTable, Range};
+use medium_table::{MediumTable, Range};
 use pur_base::{MediumId, NoMemory, Seq};
 
 const RANGE: Range = Range {

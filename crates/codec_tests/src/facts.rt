@@ -1,4 +1,4 @@
-use super::*;
+use fact_codec::{BadFact, FACT_BYTES, may_follow, read_fact, write_fact};
 use pur_base::{
     AddressFact, AnyFact, ElisionFact, Location, MediumFact, MediumId, Name, ObjectFact, ObjectId,
     ObjectKind, Place, SegmentFact, SegmentId, Seq, Table, Target,

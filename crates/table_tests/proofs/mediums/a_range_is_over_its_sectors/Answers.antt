@@ -1,8 +1,8 @@
 use Rattle.std.proofs.Common.{◌≡◌, ◌<◌, ◌++◌, [], ◌∷◌, ap, ◌∙◌, arith}
 use Rattle.pur_base.specs.Visible.{is_within}
 use Rattle.pyramid.specs.Layers.{facts_in, facts_of}
-use Rattle.medium_table.proofs.OneRangeLemmas.{first_range, one_disjoint}
-use Rattle.medium_table.proofs.tests.a_range_is_over_its_sectors.Goals as goal
+use Rattle.table_tests.proofs.OneRangeLemmas.{first_range, one_disjoint}
+use Rattle.table_tests.proofs.mediums.a_range_is_over_its_sectors.Goals as goal
 
 pub step-requires-clause-disjoint : goal.step-requires-clause-disjoint
 step-requires-clause-disjoint g c = one_disjoint (facts_in c.over.new.self.facts) (is_within []) first_range

@@ -1,0 +1,7 @@
+//! Tests of what a checkpoint plans, and of what the next boot record says of it or of a merge. No device is called.
+#![tactic(auto)]
+
+#[cfg(test)]
+mod checkpoints;
+#[cfg(test)]
+mod records;
