@@ -1,0 +1,131 @@
+// What an opening of an array does on its devices, in C, once. It computes nothing, but that it makes a record of the next generation of the one in force.
+// Usage: opening WHAT, where WHAT is
+//   reads   it reads what an opening must, with the calls that the program makes for it, and keeps it: the boot region of each drive and both NVRAM devices, and
+//           then the facts of each patch that the record names
+//   least   it reads the same, but what a unit has of a patch with one call, and all into the same memory again and again
+//   stores  it makes all calls of an opening that finds nothing to mend: it also reads gates once more, syncs, and stores a record
+//   told    it reads each patch's headers and facts, looks at their ids and tables, and prints what an opening reads
+#include "../shelf.h"
+
+static unsigned char regions[DRIVES][REGION], logs[NVRAM][NVRAM_BYTES];
+static unsigned char bytes[SECTOR * SEGMENT_SECTORS], gate[SECTOR];
+static unsigned char *record;
+static int slot;
+
+// The first one is kept, which has the record.
+static void read_regions(int are_kept) {
+    for (unsigned n = 0; n < drives; n++) read_drive(n, regions[are_kept ? n : n > 0], REGION, 0);
+    slot = slot_of(regions[0]);
+    record = regions[0] + UNIT + UNIT * slot;
+    load_patches(record);
+}
+
+static void read_logs(int are_kept) {
+    for (int n = 0; n < NVRAM; n++) check(pread(nvram_files[n], logs[are_kept ? n : 0], NVRAM_BYTES, 0) == NVRAM_BYTES);
+}
+
+static void read_patches(void) {
+    for (unsigned n = 0; n < patch_count; n++)
+        for (unsigned i = 0; i < patches[n].count; i++) read_sectors(&patches[n].segments[i], 0, sectors_for(facts_in(&patches[n], i)), bytes);
+}
+
+// What a unit has of the segment is one range: a write unit for each stripe, the last of which may be cut by the end of the facts, or not be there.
+static void read_units(const struct segment *segment, unsigned sectors) {
+    unsigned stripe_sectors = SHARD_SECTORS * DATA_SHARDS, rest = sectors % stripe_sectors;
+    for (unsigned shard = 0; shard < DATA_SHARDS; shard++) {
+        unsigned before = SHARD_SECTORS * shard, last = rest <= before ? 0 : rest - before;
+        if (last > SHARD_SECTORS) last = SHARD_SECTORS;
+        unsigned size = WRITE_UNIT * (sectors / stripe_sectors) + SECTOR * last;
+        if (size == 0) return;
+        read_drive(segment->places[shard].slot, bytes, size, place_of(segment->places[shard], 1));
+    }
+}
+
+static void read_patch_units(void) {
+    for (unsigned n = 0; n < patch_count; n++)
+        for (unsigned i = 0; i < patches[n].count; i++) read_units(&patches[n].segments[i], sectors_for(facts_in(&patches[n], i)));
+}
+
+static void sync_logs(void) {
+    for (int n = 0; n < NVRAM; n++) check(fdatasync(nvram_files[n]) == 0);
+}
+
+static void write_synced(unsigned drive, const void *from, size_t size, off_t at) {
+    check(pwrite(drive_files[drive], from, size, at) == (ssize_t)size && fdatasync(drive_files[drive]) == 0);
+}
+
+static void put_number(unsigned char *at, uint64_t value) {
+    for (int i = 7; i >= 0; i--, value >>= 8) at[i] = (unsigned char)value;
+}
+
+static void read_gates(void) {
+    for (unsigned n = 0; n < drives; n++) {
+        read_drive(n, gate, SECTOR, SECTOR * slot);
+        check(gate[0] == 1);
+    }
+}
+
+// The gate of the other slot is closed, the body written behind it, and the gate opened, each on all drives before the next.
+static void store(void) {
+    static unsigned char closed_gate[SECTOR], open_gate[SECTOR] = {1};
+    int next = 1 - slot;
+    put_number(record + GENERATION, number(record + GENERATION, 8) + 1);
+    for (unsigned n = 0; n < drives; n++) {
+        read_drive(n, gate, SECTOR, SECTOR * next);
+        if (gate[0] == 1) write_synced(n, closed_gate, SECTOR, SECTOR * next);
+    }
+    for (unsigned n = 0; n < drives; n++) write_synced(n, record, UNIT, UNIT + UNIT * next);
+    for (unsigned n = 0; n < drives; n++) write_synced(n, open_gate, SECTOR, SECTOR * next);
+}
+
+static void look_at(const struct patch *patch, unsigned index) {
+    const struct segment *segment = &patch->segments[index];
+    unsigned facts = facts_in(patch, index);
+    for (unsigned shard = 0; shard < SHARDS; shard++) {
+        read_drive(segment->places[shard].slot, bytes, SECTOR, place_of(segment->places[shard], 0));
+        check(memcmp(bytes, "PURSEGMT", 8) == 0 && number(bytes + 8, 8) == segment->id);
+        check(bytes[24] == 2 && bytes[25] == shard && bytes[28] == patch->tag && number(bytes + 32, 2) == index);
+    }
+    read_sectors(segment, 0, sectors_for(facts), bytes);
+    for (unsigned n = 0; n < facts; n++) check(bytes[FACT * n] == patch->tag);
+}
+
+static void tell(void) {
+    unsigned segments = 0, facts = 0, sectors = 0;
+    for (unsigned n = 0; n < patch_count; n++) {
+        for (unsigned i = 0; i < patches[n].count; i++) {
+            look_at(&patches[n], i);
+            sectors += sectors_for(facts_in(&patches[n], i));
+        }
+        segments += patches[n].count;
+        facts += patches[n].facts;
+    }
+    printf("an opening reads %u KiB of boot regions, %u KiB of NVRAM, and %u KiB of patches: %u of them, in %u segments, with %u facts\n", drives * REGION / 1024,
+           NVRAM * NVRAM_BYTES / 1024, SECTOR * sectors / 1024, patch_count, segments, facts);
+}
+
+int main(int argc, char **argv) {
+    check(argc == 2);
+    const char *what = argv[1];
+    int is_least = strcmp(what, "least") == 0;
+    open_shelf();
+    read_regions(!is_least);
+    if (strcmp(what, "reads") == 0) {
+        read_patches();
+        read_logs(1);
+    } else if (is_least) {
+        read_patch_units();
+        read_logs(0);
+    } else if (strcmp(what, "stores") == 0) {
+        read_gates();
+        read_patches();
+        sync_logs();
+        read_logs(1);
+        sync_logs();
+        store();
+    } else {
+        check(strcmp(what, "told") == 0);
+        tell();
+    }
+    return 0;
+}
