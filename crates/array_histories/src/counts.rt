@@ -101,6 +101,8 @@ pub struct Counts {
     generation: u64,
     /// Whether room was ever wanted.
     lacked_space: bool,
+    /// Whether two patches were ever merged.
+    has_merged: bool,
     /// The patches of tables: objects are never elided, nor are addresses of volumes.
     objects: Patches,
     addresses: Patches,
@@ -131,6 +133,7 @@ impl Counts {
             },
             generation: 1,
             lacked_space: false,
+            has_merged: false,
             objects: NO_PATCHES,
             addresses: NO_PATCHES,
             segments: NO_PATCHES,
@@ -152,6 +155,11 @@ impl Counts {
     /// Whether room was ever wanted.
     pub fn lacked_space(&self) -> bool {
         self.lacked_space
+    }
+
+    /// Whether two patches were ever merged.
+    pub fn has_merged(&self) -> bool {
+        self.has_merged
     }
 
     /// Room is wanted.
@@ -196,6 +204,7 @@ impl Counts {
         if !self.may_have_pair(table, index) {
             return;
         }
+        self.has_merged = true;
         match table {
             Table::Object => self.objects.merge(false),
             Table::Medium => {}

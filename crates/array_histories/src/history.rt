@@ -21,8 +21,9 @@ pub struct Told {
     pub acknowledged: u64,
     pub stops: u64,
     pub failures: u64,
-    /// How many histories have come to a checkpoint, and how many to the end of the room.
+    /// How many histories have come to a checkpoint, to a merge, and to the end of the room.
     pub flushed: u64,
+    pub merged: u64,
     pub full: u64,
 }
 
@@ -34,6 +35,7 @@ impl Told {
             stops: 0,
             failures: 0,
             flushed: 0,
+            merged: 0,
             full: 0,
         }
     }
@@ -257,6 +259,9 @@ impl History {
         }
         if self.written.has_data() {
             told.flushed = told.flushed.saturating_add(1);
+        }
+        if self.arrays.iter().any(|array| array.has_merged()) {
+            told.merged = told.merged.saturating_add(1);
         }
         if self.arrays.iter().any(|array| array.lacked_space()) {
             told.full = told.full.saturating_add(1);

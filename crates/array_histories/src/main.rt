@@ -126,10 +126,11 @@ fn run(rt: &HostRuntime, plan: Plan) -> io::Result<ExitCode> {
         stops,
         failures,
         flushed,
+        merged,
         full,
     } = told;
     println!(rt;
-        "seed {seed}: {count} histories, {flushed} of them with checkpoints and {full} with no room left, {acknowledged} requests acknowledged, {stops} stops, {failures} devices failed, nothing lost"
+        "seed {seed}: {count} histories, {flushed} of them with checkpoints, {merged} with merges and {full} with no room left, {acknowledged} requests acknowledged, {stops} stops, {failures} devices failed, nothing lost"
     )?;
     Ok(ExitCode::from(0))
 }

@@ -241,6 +241,11 @@ impl Model {
         self.counts.lacked_space()
     }
 
+    /// Whether two patches were ever merged.
+    pub fn has_merged(&self) -> bool {
+        self.counts.has_merged()
+    }
+
     /// How an output goes on with the reply to a request, and the array by it. Where three drives fail meanwhile, sectors may be out of reach of a read.
     pub fn hear(
         &mut self,
