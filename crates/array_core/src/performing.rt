@@ -1,6 +1,6 @@
 // A command is performed.
 ghost use Rattle.std.specs.Prelude.{◌≡◌, ◌<◌, ◌+◌, ◌++◌, ℕ, true, length, OnOk, OnErr};
-ghost use Rattle.pur_base.specs.Commands.{Accepts, Command, after};
+ghost use Rattle.pur_base.specs.Commands.{Accepts, after};
 ghost use Rattle.pur_base.specs.Devices.{IsBearable};
 ghost use Rattle.pur_base.specs.Grammar.{is_in_force, data_count};
 ghost use Rattle.pur_base.specs.Plain as plain;

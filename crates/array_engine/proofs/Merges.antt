@@ -13,7 +13,6 @@ use Rattle.pur_base.specs.Grammar.{Asked}
 use Rattle.pur_base.specs.Plain.{refusal}
 use Rattle.pur_base.specs.Replies.{Answer, Line, refused}
 use Rattle.boot_codec.specs.Record.{patch_segments}
-use Rattle.boot_codec.specs.declared.patch.Patch.{Patch}
 use Rattle.boot_codec.specs.declared.record.BootRecord.{BootRecord}
 use Rattle.boot_codec.specs.declared.record.NextNumbers.{NextNumbers}
 use Rattle.array_spec.specs.Sound.{AreSound}

@@ -1,5 +1,5 @@
 -- The point behind a checkpoint or a merge that was asked for: it is the same array by other tables.
-use Rattle.std.proofs.Common.{◌≡◌, inl, inr, ℕ, Bool, true, false, List, refl, ◌∙◌}
+use Rattle.std.proofs.Common.{◌≡◌, inl, inr, Bool, true, false, refl, ◌∙◌}
 use Rattle.std.proofs.lemmas.Bool.{cond-false, cond-true}
 use Rattle.pur_base.specs.declared.reply.Refusal.TheVariants as refusals
 use Rattle.pur_base.specs.Devices.{IsBearable}
@@ -8,7 +8,7 @@ use Rattle.boot_codec.specs.Region.{names}
 use Rattle.world.specs.Shelf.{Shelved, Stop}
 use Rattle.world.specs.Losing.{geometry_of, losing}
 use Rattle.memory_spec.specs.Memory.{Contents, ReadsAs}
-use Rattle.memory_spec.specs.Tables.{facts, patches}
+use Rattle.memory_spec.specs.Tables.{patches}
 use Rattle.session_spec.specs.Faring.{Point, IsAsBefore, IsFailed}
 use Rattle.array_state.specs.declared.array.Array.{Array}
 use Rattle.array_core.specs.Holding.{DropsFailed, NoneJoins}

@@ -1,5 +1,5 @@
 // Replies are given.
-ghost use Rattle.std.specs.Prelude.{◌≡◌, ◌≤◌, ◌<◌, ◌↔◌, ◌++◌, [], ℕ, List, length, take, drop, OnErr};
+ghost use Rattle.std.specs.Prelude.{◌≡◌, ◌<◌, ◌↔◌, ◌++◌, [], length, take, drop, OnErr};
 ghost use Rattle.pur_base.specs.Plain.{Array};
 ghost use Rattle.pur_base.specs.Replies.{Answer, Line, Sectors, Entries, refused, line_text, sectors_text, entries_text, text};
 ghost use Rattle.pur_base.specs.declared.reply.Reply.TheVariants.{Numbers};

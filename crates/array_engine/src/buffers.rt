@@ -1,5 +1,5 @@
 // Room for what is read.
-ghost use Rattle.std.specs.Prelude.{◌≡◌, ◌≤◌, ℕ, None, Some, List, length, take, OnOk, IfErr};
+ghost use Rattle.std.specs.Prelude.{◌≡◌, ◌≤◌, ℕ, None, Some, length, take, OnOk, IfErr};
 ghost use Rattle.std.specs.List.{AllByRecursion};
 ghost use Rattle.pur_base.specs.Devices.{View, nvram};
 ghost use Rattle.pur_base.specs.Plain.{Array, first_cause, read_causes, sectors_of, span};

@@ -1,5 +1,5 @@
 // The numbers of a status.
-ghost use Rattle.std.specs.Prelude.{◌≡◌, ◌<◌, ◌^◌, length, count_by};
+ghost use Rattle.std.specs.Prelude.{◌≡◌, ◌<◌, ◌^◌, length};
 ghost use Rattle.std.specs.List.{AllByRecursion, sum_by};
 ghost use Rattle.pur_base.specs.Devices.{Geometry};
 ghost use Rattle.session_spec.specs.Faring.{set_flags};

@@ -1,5 +1,5 @@
 -- A session begins: the array that was opened, and the point at which its replies begin.
-use Rattle.std.proofs.Common.{◌≡◌, ℕ, List, refl, sym, ◌∙◌, subst, arith, Bool, true, false, inl, inr}
+use Rattle.std.proofs.Common.{◌≡◌, ℕ, List, refl, sym, subst, Bool, true, false, inl, inr}
 use Rattle.std.proofs.lemmas.Bool.{cases_lt}
 use Rattle.pur_base.specs.declared.device.Device.{Device}
 use Rattle.pur_base.specs.declared.device.Device.TheVariants.{Drive, Nv}

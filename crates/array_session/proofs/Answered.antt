@@ -14,7 +14,7 @@ use Rattle.pur_base.specs.Replies.{Answer}
 use Rattle.world.specs.Losing.{has_risen, missing_if, losing}
 use Rattle.checkpoint_spec.specs.Merging.{has_pair, pair_segments}
 use Rattle.session_spec.specs.Faring as faring
-use Rattle.session_spec.specs.Faring.{Point, Answers, AnswersRequest, AnswersAccepted, IsAppended, IsAppendedBehind, IsDone, IsFailed, IsGone, IsLost, IsFlushing, IsMerging, LosesThree, Where, has_segments, is_full, is_limited, is_spent}
+use Rattle.session_spec.specs.Faring.{Point, Answers, AnswersRequest, AnswersAccepted, IsAppended, IsAppendedBehind, IsDone, IsFailed, IsGone, IsLost, IsFlushing, IsMerging, Where, has_segments, is_full, is_limited, is_spent}
 use Rattle.session_spec.specs.declared.limits.TheConstants.{ADDING_GROUPS, CHECKPOINT_GROUPS, MERGE_GROUPS, SEGMENTS_END}
 use Rattle.session_spec.proofs.Conditions.{borne_before}
 

@@ -8,7 +8,6 @@ use Rattle.pur_base.specs.declared.reply.Status.TheVariants as status
 use Rattle.pur_base.specs.Grammar.{Item, requests, first_item}
 use Rattle.pur_base.specs.Replies.{Answer, text, texts}
 use Rattle.pur_base.proofs.ItemLemmas.{requests-step}
-use Rattle.array_spec.specs.Acked.{IsAnswer}
 use Rattle.world.specs.Losing.{geometry_of, has_failed, has_lost_writes, has_risen, losing}
 use Rattle.world.specs.Shelf.{Shelved, Stop, Disk, IsShelf, Continues, TakenOnly, OutputOnly, LeavesOnly, IsCountedBy}
 use Rattle.world.proofs.Moments.{continues_trans, weaker, leaves_weaker}

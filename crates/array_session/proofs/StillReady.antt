@@ -1,5 +1,5 @@
 -- An array stays ready while input is taken and output given, and its segments hold what they held.
-use Rattle.std.proofs.Common.{◌≡◌, ℕ, List, refl, sym, subst}
+use Rattle.std.proofs.Common.{◌≡◌, ℕ, refl, sym, subst}
 use Rattle.pur_base.specs.declared.device.Device.{Device}
 use Rattle.world.specs.Shelf.{Shelved, Stop, Disk, MayStop}
 use Rattle.register.specs.Standing.{Content}

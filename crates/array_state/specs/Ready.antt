@@ -1,5 +1,5 @@
 -- The array in memory, and what the devices hold of it.
-use Rattle.std.specs.Prelude.{◌≡◌, ◌⊎◌, ℕ, List, [], ◌∷◌, ◌++◌, true, Bool, ◌||◌}
+use Rattle.std.specs.Prelude.{◌≡◌, [], ◌∷◌, ◌++◌, true, Bool, ◌||◌}
 use Rattle.std.specs.List.{AllByRecursion, AllZip}
 use Rattle.pur_base.specs.Commands.{Command}
 use Rattle.pur_base.specs.Devices.{Geometry}
@@ -16,7 +16,6 @@ use Rattle.memory_spec.specs.Numbers.{are_used_up, is_used_up}
 use Rattle.checkpoint_spec.specs.Whole.{AreLayered, IsNamed}
 use Rattle.checkpoint_plan.specs.Planned.{AreStored}
 use Rattle.pyramid.specs.Layers.{facts_of}
-use Rattle.array_memory.specs.Kept.{Kept}
 use Rattle.array_state.specs.declared.array.Array.{Array}
 use Rattle.array_state.specs.Drives.{SegmentsHold}
 use Rattle.array_state.specs.Room.{HasRoomFor}

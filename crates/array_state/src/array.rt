@@ -1,5 +1,4 @@
 // The array's parts.
-ghost use Rattle.std.specs.Prelude.{◌≡◌};
 
 use array_memory::Memory;
 use nvram_log::NvLog;

@@ -4,7 +4,7 @@ use Rattle.pur_base.specs.declared.device.Device.{Device}
 use Rattle.pur_base.specs.declared.device.Device.TheVariants.{Drive, Nv}
 use Rattle.pur_base.specs.Devices.{Geometry, drive, nvram}
 use Rattle.boot_codec.specs.declared.record.BootRecord.{BootRecord}
-use Rattle.boot_codec.specs.Record.{ArePatches, IsBootRecord, set_count}
+use Rattle.boot_codec.specs.Record.{IsBootRecord, set_count}
 use Rattle.boot_codec.specs.Region.{names}
 use Rattle.array_spec.proofs.Votes.{counted}
 use Rattle.stored_spec.specs.Held.{DataHolds}
@@ -50,30 +50,6 @@ err_is r P e is p = subst (λ x. IfErr x P) (sym is) p
 
 pub later_itself : (boot : BootRecord) → IsLaterRecord boot boot
 later_itself boot = record { generation = omega arith; rest = refl }
-
-pub later_then : (a b c : BootRecord) → IsLaterRecord a b → IsLaterRecord b c → IsLaterRecord a c
-later_then a b c first next = record {
-  generation = omega (arith, first.generation, next.generation);
-  rest = next.rest ∙ ap (λ (x : BootRecord). record x { generation = c.generation; members = c.members }) first.rest;
-}
-
--- one of the tables, after a later one of those before
-pub later_tables : (tables : Tables) (a b c : BootRecord) → IsLaterRecord a b → IsLaterRecord (with_tables b tables) c → IsLaterRecord (with_tables a tables) c
-later_tables tables a b c first next = record {
-  generation = omega (arith, first.generation, next.generation);
-  rest = next.rest ∙ ap (λ (x : BootRecord). record (with_tables x tables) { generation = c.generation; members = c.members }) first.rest;
-}
-
-pub tables_lawful : (tables : Tables) (was boot : BootRecord) → IsBootRecord (with_tables was tables) → IsLaterRecord was boot → IsBootRecord boot → IsBootRecord (with_tables boot tables)
-tables_lawful tables was boot lawful later is = record {
-  slots = is.slots;
-  units = is.units;
-  generation = is.generation;
-  members = is.members;
-  next = lawful.next;
-  flushed = lawful.flushed;
-  patches = subst (λ (b : BootRecord). ArePatches b.slots b.units tables.patches) (sym later.rest) lawful.patches;
-}
 
 some_set : (flags : List Bool) → length flags ≡ 2 → 1 ≤ set_count flags → nv.IsSome flags
 some_set (true ∷ b ∷ []) two one = inl refl

@@ -87,7 +87,7 @@ module _ (shelf : Geometry) (boot : BootRecord) (t : Tables) (sound : AreSound s
 -- ---- and once two of them were merged
 
 pub merged_patches_are_sound : MergedPatchesAreSound
-merged_patches_are_sound shelf boot next t i was now layered flushed h sound lawful boot_next next_next same named segments =
+merged_patches_are_sound shelf boot next t i was now layered flushed h sound lawful next_next same named segments =
     let memory : Memory = patched was.tables next.next in
     let merged : Memory = patched now.tables next.next in
     let is : IsSound memory = subst (λ n. IsSound (patched was.tables n)) (sym same) (loaded_sound shelf boot was.tables sound lawful next.next.patch_segment (subst AreNext same next_next)) in

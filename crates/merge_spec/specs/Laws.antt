@@ -26,7 +26,7 @@ MergedPatchesShrink = (t : Table) (i : ℕ) (was now : Memory) → IsSound was �
 abbrev pub MergedPatchesAreSound : Type 0
 MergedPatchesAreSound = (shelf : Geometry) (boot next : BootRecord) (t : Table) (i : ℕ) (was now : Memory)
     → AreLayered was.tables → was.tables.elisions.unflushed ≡ [] → IsMergedAt t i was now
-    → AreSound shelf boot (patches was.tables) → All IsFact (in_patches (patches was.tables)) → AreNext boot.next
+    → AreSound shelf boot (patches was.tables) → All IsFact (in_patches (patches was.tables))
     → AreNext next.next → next.next ≡ record boot.next { patch_segment = next.next.patch_segment }
     → AllZip IsNamed next.patches (patches now.tables) → AreSegmentsSound shelf next (all_facts (patches now.tables))
     → AreSound shelf next (patches now.tables)

@@ -1,5 +1,5 @@
 // What was written is made the array's.
-ghost use Rattle.std.specs.Prelude.{◌≡◌, ◌<◌, ◌-◌, ◌^◌, ℕ, [], ◌∷◌, false, OnOk, OnErr, IfErr};
+ghost use Rattle.std.specs.Prelude.{◌≡◌, ◌<◌, ◌-◌, [], ◌∷◌, false, OnOk, OnErr, IfErr};
 ghost use Rattle.pur_base.specs.Devices.{IsBearable};
 ghost use Rattle.pur_base.specs.Plain as plain;
 ghost use Rattle.world.specs.Losing.{geometry_of};

@@ -1,5 +1,5 @@
 // All that a merge writes is planned, and all memory taken, before anything is written.
-ghost use Rattle.std.specs.Prelude.{◌≡◌, ℕ, IfOk};
+ghost use Rattle.std.specs.Prelude.{◌≡◌, IfOk};
 ghost use Rattle.pur_base.specs.Devices.{Geometry};
 ghost use Rattle.checkpoint_spec.specs.Merging.{place_in};
 ghost use Rattle.array_state.specs.Ready.{IsArrayOf};

@@ -1,5 +1,5 @@
 -- The patches of the next record stand beside those of memory after the plan.
-use Rattle.std.proofs.Common.{◌≡◌, ℕ, zero, suc, ◌+◌, ◌<◌, ◌≤◌, List, [], ◌∷◌, ◌++◌, length, refl, sym, ap, ◌∙◌, arith, subst, map, take, drop, Option, Some, None, append-nil}
+use Rattle.std.proofs.Common.{◌≡◌, ℕ, suc, ◌+◌, ◌≤◌, List, [], ◌∷◌, ◌++◌, length, refl, sym, ap, ◌∙◌, arith, subst, map, Option, Some, None, append-nil}
 use Rattle.std.specs.List.{AllByRecursion, AllZip}
 use Rattle.std.proofs.lemmas.List.{map-append, length-map}
 use Rattle.pur_base.specs.Facts.{table_tag}
@@ -9,17 +9,17 @@ use Rattle.pur_base.specs.declared.facts.AnyFact.TheVariants as any
 use Rattle.boot_codec.specs.declared.patch.Patch.{Patch}
 use Rattle.boot_codec.specs.Record.{IsPatch}
 use Rattle.pyramid.specs.Layers.{patch_facts, patches_of}
-use Rattle.memory_spec.specs.Tables.{Tables, patches}
+use Rattle.memory_spec.specs.Tables.{patches}
 use Rattle.memory_spec.specs.Memory.{Memory}
 use Rattle.checkpoint_spec.specs.Whole.{IsNamed}
 use Rattle.array_memory.specs.declared.plan.Counts.{Counts}
 use Rattle.array_memory.specs.declared.plan.Plan.{Plan}
 use Rattle.array_memory.specs.Plan.{after_plan, AreCounts}
-use Rattle.record_tables.specs.Patches.{segments_for, segments_from, counts_of, new_patch, added_from, added_patches, by_tag}
+use Rattle.record_tables.specs.Patches.{counts_of, new_patch, added_patches, by_tag}
 use Rattle.record_tables.specs.Laws.{HasFacts, HaveFacts, new_facts, AddedAreNamed, AddedTakeTheUnits, NextPatchesAreNamed}
 use Rattle.record_tables.proofs.Lists.{all_append, all_front, all_back, all_weaker, zip_join, zip_split, zip_weaker, zip_both}
 use Rattle.record_tables.proofs.Tags.{HaveTag, HaveTagsFrom, in_order, first_table}
-use Rattle.record_tables.proofs.Added.{the_patch, new_some, added_filled, added_places}
+use Rattle.record_tables.proofs.Added.{new_some, added_filled, added_places}
 
 -- ---- the new patches
 

@@ -1,11 +1,11 @@
 -- Patches by their tags: how the old ones and the new ones of each table stand together.
-use Rattle.std.proofs.Common.{◌≡◌, ◌≢◌, ◌⊎◌, ℕ, zero, suc, ◌+◌, ◌<◌, ◌≤◌, Bool, ◌==◌, List, [], ◌∷◌, ◌++◌, length, refl, sym, ap, ◌∙◌, arith, inl, inr, subst, filter, cond, true, false, append-nil, eq-eqb, ne_eqb}
+use Rattle.std.proofs.Common.{◌≡◌, ◌≢◌, ℕ, zero, suc, ◌+◌, ◌<◌, ◌≤◌, Bool, ◌==◌, List, [], ◌∷◌, ◌++◌, refl, sym, ap, ◌∙◌, arith, inl, inr, subst, cond, true, false, append-nil, eq-eqb, ne_eqb}
 use Rattle.std.specs.List.{AllByRecursion, flat_map, range_with_len}
-use Rattle.std.proofs.lemmas.Bool.{cases_lt, cases_Bool, eqb-true}
+use Rattle.std.proofs.lemmas.Bool.{cases_lt, eqb-true}
 use Rattle.std.proofs.lemmas.List.Elements.{filter-append}
 use Rattle.boot_codec.specs.declared.patch.Patch.{Patch}
 use Rattle.boot_codec.specs.Record.{ByTagFrom}
-use Rattle.record_tables.specs.Patches.{of_tag, by_tag}
+use Rattle.record_tables.specs.Patches.{of_tag}
 use Rattle.record_tables.proofs.Lists.{all_append, all_back, all_weaker}
 use Rattle.record_tables.proofs.Woven.{Woven, woven_append, woven_joined}
 

@@ -1,5 +1,5 @@
 -- Units that are taken of a map, segment by segment.
-use Rattle.std.proofs.Common.{◌≡◌, ◌≢◌, ℕ, ◌+◌, ◌-◌, ◌<◌, ◌≤◌, Bool, true, false, not, ◌||◌, ◌==◌, List, [], ◌∷◌, ◌++◌, length, refl, sym, ap, ◌∙◌, arith, inl, inr, subst, get_or, append-nil, append_assoc, Contains, AllPairs, eq-eqb}
+use Rattle.std.proofs.Common.{◌≡◌, ◌≢◌, ℕ, ◌+◌, ◌-◌, ◌<◌, ◌≤◌, Bool, true, false, not, ◌||◌, ◌==◌, List, [], ◌∷◌, ◌++◌, length, refl, sym, ap, ◌∙◌, arith, inl, inr, subst, get_or, append-nil, append_assoc, Contains, eq-eqb}
 use Rattle.std.specs.List.{AllByRecursion, list_any, flat_map}
 use Rattle.std.proofs.lemmas.Bool.{cases_Bool, and_parts, and_from, or_parts, not-true}
 use Rattle.std.proofs.lemmas.Grind.{flat_map-append}
@@ -11,10 +11,10 @@ use Rattle.pur_base.specs.declared.place.Place.{Place}
 use Rattle.boot_codec.specs.declared.record.BootRecord.{BootRecord}
 use Rattle.array_spec.specs.Counts.{is_place, is_used}
 use Rattle.array_spec.specs.Sound.{AreApart}
-use Rattle.pyramid.proofs.ContainsLemmas.{here, there, either, nowhere}
+use Rattle.pyramid.proofs.ContainsLemmas.{either, nowhere}
 use Rattle.unit_map.specs.declared.drive.Drive.{Drive}
-use Rattle.unit_map.specs.Map.{is_free, with_units, IsTaken, IsGroups, LowersByOne}
-use Rattle.free_space.specs.Map.{IsMapOf, IsMapBut, unit_at, is_data_unit, is_member, used_or_among}
+use Rattle.unit_map.specs.Map.{with_units, IsTaken, IsGroups, LowersByOne}
+use Rattle.free_space.specs.Map.{IsMapOf, IsMapBut, is_data_unit, is_member, used_or_among}
 use Rattle.free_space.specs.Laws.{AreUnitsToTake}
 use Rattle.free_space.proofs.LawLemmas.{taken_units_are_free, taken_units_are_used}
 use Rattle.free_space.proofs.Units.{same_used}

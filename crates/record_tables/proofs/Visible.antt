@@ -1,11 +1,11 @@
 -- The visible segments of memory after a plan: the old ones, and those of the plan.
-use Rattle.std.proofs.Common.{◌≡◌, ◌⊎◌, ℕ, zero, suc, ◌+◌, ◌-◌, ◌<◌, ◌≤◌, min, Bool, List, [], ◌∷◌, ◌++◌, length, refl, sym, ap, ◌∙◌, arith, inl, inr, subst, append_assoc, Option, Some, None, option_and_then, if◌then◌else◌, filter_map, slice_get, Contains}
+use Rattle.std.proofs.Common.{◌≡◌, ◌⊎◌, ℕ, zero, suc, ◌+◌, ◌-◌, ◌<◌, ◌≤◌, min, List, [], ◌∷◌, ◌++◌, length, refl, sym, ap, ◌∙◌, arith, inl, inr, subst, append_assoc, Option, Some, None, option_and_then, if◌then◌else◌, filter_map, slice_get, Contains}
 use Rattle.std.specs.List.{cons_option, range_with_len}
 use Rattle.std.proofs.lemmas.Bool.{cases_lt}
-use Rattle.std.proofs.lemmas.List.Elements.{Contains-append_left, Contains-append_right, Contains-append_cases, filter_map-append}
+use Rattle.std.proofs.lemmas.List.Elements.{Contains-append_cases, filter_map-append}
 use Rattle.pur_base.specs.Facts.{Facts, segment_key, elision_key, never, is_narrower}
 use Rattle.pur_base.specs.Keys.{key_of, id_of}
-use Rattle.pur_base.specs.Says.{has_key, says, unless_empty}
+use Rattle.pur_base.specs.Says.{has_key, unless_empty}
 use Rattle.pur_base.specs.Visible.{segment, segments, is_elided}
 use Rattle.pur_base.specs.declared.limits.TheConstants.{SEGMENT_SECTORS}
 use Rattle.pur_base.specs.declared.place.Place.{Place}
@@ -13,7 +13,7 @@ use Rattle.pur_base.specs.declared.request.Table.{Table}
 use Rattle.pur_base.specs.declared.request.Table.TheVariants as table
 use Rattle.pur_base.specs.declared.facts.SegmentFact.{SegmentFact}
 use Rattle.pur_base.proofs.SaysLemmas.{says_is}
-use Rattle.pyramid.specs.Layers.{Layers, facts_of, facts_in, newest_of, AreCovered}
+use Rattle.pyramid.specs.Layers.{Layers, facts_of, newest_of, AreCovered}
 use Rattle.pyramid.specs.Merging.{later}
 use Rattle.pyramid.proofs.ContainsLemmas.{here, there}
 use Rattle.pyramid.proofs.CoverLemmas.{cover_put}

@@ -1,5 +1,5 @@
 -- Two lists woven to one: the elements of each stand in it in their order.
-use Rattle.std.proofs.Common.{◌≡◌, ◌⊎◌, ℕ, ◌+◌, List, [], ◌∷◌, ◌++◌, refl, sym, ap, ◌∙◌, arith, inl, inr, subst, map, sum_by, Contains, AllPairs}
+use Rattle.std.proofs.Common.{◌≡◌, ◌⊎◌, ℕ, ◌+◌, List, [], ◌∷◌, ◌++◌, refl, sym, ap, arith, inl, inr, subst, map, sum_by, Contains, AllPairs}
 use Rattle.std.specs.List.{AllByRecursion, flat_map}
 use Rattle.std.proofs.lemmas.List.Sums.{sum_by-cons}
 use Rattle.pyramid.proofs.ContainsLemmas.{here, there, either, nowhere}

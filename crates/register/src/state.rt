@@ -39,14 +39,14 @@ impl Register {
     /// Of a record that was loaded, and the drives that its settling left. It takes all memory that a store needs, and fails for want of memory only.
     pub fn new(
         alloc: Global,
-        record: BootRecord,
+        found: BootRecord,
         drives: [bool; DRIVE_FLAGS],
     ) -> Result<Register, NoMemory>
-        ensures { IfOk result (λ r. (r.record ≡ «record») × (r.drives ≡ drives)) }
+        ensures { IfOk result (λ r. (r.record ≡ found) × (r.drives ≡ drives)) }
     {
         let body = vec![in alloc; 0; RECORD_BYTES]?;
         Ok(Register {
-            record,
+            record: found,
             drives,
             body,
         })

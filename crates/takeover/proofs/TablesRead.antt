@@ -18,7 +18,6 @@ use Rattle.world.specs.Losing.{geometry_of, has_failed}
 use Rattle.world.specs.Shelf.{Shelved, Stop, IsShelf, IsSame, Continues, MayStop}
 use Rattle.world.specs.Writes.{WritesOnly}
 use Rattle.world.proofs.Moments.{then_run, weaker}
-use Rattle.memory_spec.specs.Memory.{ReadsAs}
 use Rattle.memory_spec.specs.Tables.{patches}
 use Rattle.patch_io.specs.Standing.{StripesStandOf}
 use Rattle.segment_io.specs.Lost.{is_in}

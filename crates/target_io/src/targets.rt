@@ -1,5 +1,5 @@
 // The sectors of targets are read.
-ghost use Rattle.std.specs.Prelude.{◌≡◌, ℕ, ◌<◌, ◌≤◌, All, length, IfOk, OnErr, OnOk};
+ghost use Rattle.std.specs.Prelude.{◌≡◌, ◌<◌, ◌≤◌, All, length, IfOk, OnErr, OnOk};
 ghost use Rattle.pur_base.specs.declared.limits.TheConstants.{REQUEST_SECTORS};
 ghost use Rattle.pur_base.specs.Devices.{View};
 ghost use Rattle.memory_spec.specs.Memory.{Contents};

@@ -1,13 +1,11 @@
-use Rattle.std.proofs.Common.{◌≡◌, inl, inr, ℕ, List, refl, sym, subst, ap, ◌∙◌, Bool, false}
+use Rattle.std.proofs.Common.{◌≡◌, inl, inr, ℕ, List, sym, subst, Bool, false}
 use Rattle.pur_base.specs.declared.reply.Status.{Status}
-use Rattle.pur_base.specs.Devices.{Geometry}
 use Rattle.world.specs.Losing.{geometry_of}
 use Rattle.world.proofs.Moments.{continues_trans}
 use Rattle.request_codec.proofs.CallLemmas.{both}
 use Rattle.session_spec.specs.Ends.{RisesIf, is_source, is_sink}
 use Rattle.session_spec.specs.Headline.{Unopened, Served}
 use Rattle.session_spec.proofs.Resumed.{may_want_memory}
-use Rattle.array_state.specs.declared.array.Array.{Array}
 use Rattle.array_engine.specs.declared.engine.Engine.{Engine}
 use Rattle.array_session.specs.Sessions.{BeginsAt, IsServedFrom}
 use Rattle.array_server.proofs.Begun.{engine_of}

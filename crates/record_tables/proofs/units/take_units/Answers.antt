@@ -1,7 +1,6 @@
-use Rattle.std.proofs.Common.{◌≡◌, ◌∷◌, [], ◌++◌, ◌<◌, List, length, cond, true, not, sym, ap, ◌∙◌, arith, rules, subst}
+use Rattle.std.proofs.Common.{◌≡◌, ◌∷◌, [], ◌++◌, ◌<◌, length, cond, true, not, sym, ap, ◌∙◌, arith, rules, subst}
 use Rattle.std.specs.Result.{is_ok}
 use Rattle.pur_base.specs.declared.limits.TheConstants.{SEGMENT_SHARDS}
-use Rattle.pur_base.specs.declared.place.Place.{Place}
 use Rattle.record_tables.proofs.Taking.{AreTaken, one_more, taken_first}
 use Rattle.record_tables.proofs.units.take_units.Goals as goal
 
