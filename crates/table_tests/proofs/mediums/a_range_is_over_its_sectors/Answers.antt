@@ -1,6 +1,6 @@
-use Rattle.std.proofs.Common.{◌≡◌, ◌<◌, ◌++◌, [], ◌∷◌, ap, ◌∙◌, arith}
+use Rattle.std.proofs.Common.{[], arith}
 use Rattle.pur_base.specs.Visible.{is_within}
-use Rattle.pyramid.specs.Layers.{facts_in, facts_of}
+use Rattle.pyramid.specs.Layers.{facts_in}
 use Rattle.table_tests.proofs.OneRangeLemmas.{first_range, one_disjoint}
 use Rattle.table_tests.proofs.mediums.a_range_is_over_its_sectors.Goals as goal
 

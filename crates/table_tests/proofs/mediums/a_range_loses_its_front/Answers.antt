@@ -1,4 +1,4 @@
-use Rattle.std.proofs.Common.{◌≡◌, ◌<◌, ◌++◌, [], ◌∷◌, ◌∙◌, arith, All}
+use Rattle.std.proofs.Common.{◌<◌, [], ◌∷◌, ◌∙◌}
 use Rattle.medium_table.specs.Ranges.{number}
 use Rattle.table_tests.proofs.OneRangeLemmas.{all_taken, first_number, first_range}
 use Rattle.table_tests.proofs.mediums.a_range_loses_its_front.Goals as goal
