@@ -1,4 +1,5 @@
 pub mod DistinctLemmas
+pub mod MarkLemmas
 pub mod PatchLemmas
 pub mod PairLemmas
 pub mod UnitLemmas

@@ -23,15 +23,15 @@ pub fn number_fault(
     ensures some { IfOk result (λ o. IfSome o (IsFirst (AreNumbersOf next tables.now))) }
 {
     let mut numbers = Vec::new(alloc);
-    let objects = are_numbers_sound(&mut numbers, &tables.objects, next)?;
-    let mediums = are_numbers_sound(&mut numbers, &tables.mediums, next)?;
-    let addresses = are_numbers_sound(&mut numbers, &tables.addresses, next)?;
-    let segments = are_numbers_sound(&mut numbers, &tables.segments, next)?;
-    let elisions = are_numbers_sound(&mut numbers, &tables.elisions, next)?;
+    let objects = are_numbers_sound(alloc, &mut numbers, &tables.objects, next)?;
+    let mediums = are_numbers_sound(alloc, &mut numbers, &tables.mediums, next)?;
+    let addresses = are_numbers_sound(alloc, &mut numbers, &tables.addresses, next)?;
+    let segments = are_numbers_sound(alloc, &mut numbers, &tables.segments, next)?;
+    let elisions = are_numbers_sound(alloc, &mut numbers, &tables.elisions, next)?;
     Ok(first_false(objects, mediums, addresses, segments, elisions))
 }
 
-/// Whether the tables are sound. It takes memory for sorted lists alone.
+/// Whether the tables are sound. It takes memory for lists of numbers and their marks alone.
 /// Want of memory aside, it answers `Unsound` with the first table that fails: each table by itself, then the sequence numbers.
 pub fn check(
     alloc: Global,

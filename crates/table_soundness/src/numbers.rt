@@ -7,6 +7,7 @@ use crate::distinct::are_distinct;
 use crate::rising::are_rising;
 use pur_base::{Fact, NoMemory};
 use pyramid::Patch;
+use std::alloc::Global;
 
 /// Puts the numbers of facts behind the others.
 fn push_numbers<F: Fact>(numbers: &mut Vec<u64>, facts: &[F]) -> Result<(), NoMemory>
@@ -58,6 +59,7 @@ fn are_all_below<F: Fact + Drop>(patches: &[Patch<F>], next: u64) -> bool
 
 /// Whether the numbers of a table are sound, of which the earlier tables have those. Its own are put to them, in some order.
 pub fn are_numbers_sound<F: Fact + Drop>(
+    alloc: Global,
     numbers: &mut Vec<u64>,
     patches: &[Patch<F>],
     next: u64,
@@ -66,6 +68,6 @@ pub fn are_numbers_sound<F: Fact + Drop>(
     ensures numbers { OnOk result (IsPermutation (numbers.old.items ++ map F.number (facts_of patches.now)) numbers.new.items) }
 {
     push_all_numbers(numbers, patches)?;
-    let distinct = are_distinct(numbers);
+    let distinct = are_distinct(alloc, numbers)?;
     Ok(distinct && are_all_below(patches, next) && are_rising(patches))
 }

@@ -97,6 +97,31 @@ fn segments_hold(
     )
 }
 
+/// The first table that isn't sound, by what is elided and what is visible.
+fn first_unsound(
+    alloc: Global,
+    slots: u8,
+    units: u16,
+    boot: &BootRecord,
+    tables: &LoadedTables,
+    elided: &Elided,
+    visible: &Visible,
+) -> Result<Option<Table>, NoMemory>
+    requires boot { IsBootRecord boot.now }
+    requires facts { AreLawful tables.now }
+    requires elided { AreElidedBy (facts_of tables.now.elisions.items) elided.now }
+    requires visible { AreVisible (facts_in tables.now) visible.now }
+    ensures none { IfOk result (λ o. IfNone o ((t : Table) → IsTableSound (record { slots = slots; units = units }) boot.now (facts_in tables.now) t)) }
+    ensures some { IfOk result (λ o. IfSome o (IsFirst (IsTableSound (record { slots = slots; units = units }) boot.now (facts_in tables.now)))) }
+{
+    let objects = objects_hold(boot, elided, tables, visible);
+    let mediums = mediums_hold(alloc, boot, tables, visible)?;
+    let addresses = addresses_hold(boot, tables, visible);
+    let segments = segments_hold(alloc, slots, units, boot, tables, visible)?;
+    let elisions = are_elisions_sound(alloc, &boot.next, &tables.elisions)?;
+    Ok(first_false(objects, mediums, addresses, segments, elisions))
+}
+
 /// The first table that isn't sound by itself.
 pub fn own_fault(
     alloc: Global,
@@ -112,10 +137,5 @@ pub fn own_fault(
 {
     let elided = elided_by(alloc, &tables.elisions)?;
     let visible = visible_in(alloc, tables, &elided)?;
-    let objects = objects_hold(boot, &elided, tables, &visible);
-    let mediums = mediums_hold(alloc, boot, tables, &visible)?;
-    let addresses = addresses_hold(boot, tables, &visible);
-    let segments = segments_hold(alloc, slots, units, boot, tables, &visible)?;
-    let elisions = are_elisions_sound(alloc, &boot.next, &tables.elisions)?;
-    Ok(first_false(objects, mediums, addresses, segments, elisions))
+    first_unsound(alloc, slots, units, boot, tables, &elided, &visible)
 }

@@ -1,4 +1,5 @@
 use crate::LoadedTables;
+use crate::distinct::are_distinct;
 use crate::judge::number_fault;
 use pur_base::{
     ElisionFact, Fact, NoMemory, Place, SEGMENT_SHARDS, SegmentFact, SegmentId, Seq, Table,
@@ -57,5 +58,18 @@ fn the_first_number_that_fails_is_named(rt: HostRuntime) -> Result<(), NoMemory>
     assert_eq!(rt; fault(rt.alloc(), 9, 9)?, Some(Table::Elision));
     assert_eq!(rt; fault(rt.alloc(), 10, 9)?, Some(Table::Segment));
     assert_eq!(rt; fault(rt.alloc(), 9, 10)?, Some(Table::Elision));
+    Ok(())
+}
+
+#[test]
+fn numbers_are_told_apart_near_and_far(rt: HostRuntime) -> Result<(), NoMemory> {
+    assert_eq!(rt; are_distinct(rt.alloc(), &mut [])?, true);
+    assert_eq!(rt; are_distinct(rt.alloc(), &mut [7, 5, 6])?, true);
+    assert_eq!(rt; are_distinct(rt.alloc(), &mut [7, 5, 7])?, false);
+    assert_eq!(rt; are_distinct(rt.alloc(), &mut [u64::MAX, 0, 6])?, true);
+    assert_eq!(rt;
+        are_distinct(rt.alloc(), &mut [u64::MAX, 0, u64::MAX])?,
+        false
+    );
     Ok(())
 }
