@@ -85,6 +85,10 @@ loaded_with_room boot t was now h e = subst (λ (m : Memory). IsLoaded boot t m)
   next = h.next;
 })
 
+-- layers are as those before but for their room, also by another name
+pub roomed : {F : Type 0} (now mid was : Layers F) → now ≡ mid → mid ≡ record was { room = mid.room } → now ≡ record was { room = now.room }
+roomed now mid was same rest = subst (λ l. l ≡ record was { room = l.room }) (sym same) rest
+
 -- and is as sound
 pub sound_with_room : (was now : Memory) → now.tables.objects ≡ record was.tables.objects { room = now.tables.objects.room } → now.tables.mediums ≡ was.tables.mediums
     → now.tables.addresses ≡ record was.tables.addresses { room = now.tables.addresses.room } → now.tables.segments ≡ was.tables.segments → now.tables.elisions ≡ was.tables.elisions

@@ -1,4 +1,4 @@
-ghost use Rattle.std.specs.Prelude.{◌≡◌, ◌+◌, ◌≤◌, [], length, All, Some, IfOk};
+ghost use Rattle.std.specs.Prelude.{◌≡◌, ◌+◌, ◌≤◌, [], length, vec_capacity, All, Some, IfOk, OnOk};
 ghost use Rattle.boot_codec.specs.Record.{AreNext};
 ghost use Rattle.pur_base.specs.Devices.{Geometry};
 ghost use Rattle.pur_base.specs.Plain.{Array};
@@ -9,6 +9,7 @@ ghost use Rattle.pur_base.specs.Visible.{is_within};
 ghost use Rattle.elision.specs.Ranges.{ranges_of, AreApart};
 ghost use Rattle.pyramid.specs.Layers.{facts_in, facts_of, IsLayered, Rises};
 ghost use Rattle.object_table.specs.Objects.{number, AreVisible};
+ghost use Rattle.segment_table.specs.Segments.{AreVisible as AreShown};
 ghost use Rattle.array_spec.specs.Sound.{AreSound};
 ghost use Rattle.array_spec.specs.Stored.{all_facts};
 ghost use Rattle.memory_spec.specs.Memory.{Contents, FactsRead, IsSound, ReadsAs};
@@ -25,7 +26,8 @@ use elision::Elided;
 use medium_table::MediumTable;
 use object_table::ObjectTable;
 use pur_base::{
-    AddressFact, ElisionFact, Fact, MediumFact, NoMemory, OBJECTS, ObjectFact, SegmentFact, Table,
+    AddressFact, ElisionFact, Fact, MediumFact, NoMemory, OBJECTS, ObjectFact, Sector, SegmentFact,
+    Table,
 };
 use pyramid::{Patch, Pyramid};
 use segment_table::SegmentTable;
@@ -89,23 +91,57 @@ fn object_table(
     Ok(table)
 }
 
-/// The table of addresses, with room for those of a whole log.
-fn address_table(facts: Pyramid<AddressFact>) -> Result<AddressTable, NoMemory>
-    ensures facts { IfOk result (λ t. t.facts ≡ record facts { room = t.facts.room }) }
-    ensures room { IfOk result (λ t. UNFLUSHED_ADDRESSES ≤ t.facts.room) }
+/// The tables that hold beside their facts what is visible: of objects, with room for those of a whole log, and of segments.
+fn seen_tables(
+    alloc: Global,
+    objects: Pyramid<ObjectFact>,
+    segments: Pyramid<SegmentFact>,
+    elided: &Elided,
+) -> Result<(ObjectTable, SegmentTable), NoMemory>
+    requires { (x y : ObjectFact) → says object_key number never (facts_in objects) (is_within (ranges_of elided.now Table.Object)) (object_key x) ≡ Some x
+        → says object_key number never (facts_in objects) (is_within (ranges_of elided.now Table.Object)) (object_key y) ≡ Some y → x.name ≡ y.name → x ≡ y }
+    ensures objects { IfOk result (λ t. t.0.facts ≡ record objects { room = t.0.facts.room }) }
+    ensures visible { IfOk result (λ t. AreVisible (is_within (ranges_of elided.now Table.Object)) t.0) }
+    ensures room { IfOk result (λ t. UNFLUSHED_OBJECTS ≤ t.0.facts.room) }
+    ensures name_room { IfOk result (λ t. OBJECTS ≤ length t.0.visible + t.0.name_room) }
+    ensures names { IfOk result (λ t. UNFLUSHED_OBJECTS ≤ t.0.name_room) }
+    ensures segments { IfOk result (λ t. t.1.facts ≡ segments) }
+    ensures shown { IfOk result (λ t. AreShown (is_within (ranges_of elided.now Table.Segment)) t.1) }
 {
-    let mut table = AddressTable::from_facts(facts);
-    table.reserve_facts(UNFLUSHED_ADDRESSES)?;
-    Ok(table)
+    let objects = object_table(alloc, objects, elided)?;
+    let segments = SegmentTable::from_facts(alloc, segments, elided.ranges(Table::Segment))?;
+    Ok((objects, segments))
+}
+
+/// What elisions elide, of which none is unflushed, and room for the staged sectors of a whole log. The addresses get room for it too.
+fn elided_and_staged(
+    alloc: Global,
+    addresses: &mut Pyramid<AddressFact>,
+    elisions: &Pyramid<ElisionFact>,
+) -> Result<(Elided, Vec<Sector>), NoMemory>
+    requires flushed { elisions.now.unflushed ≡ [] }
+    requires ranges { All IsRange (facts_of elisions.now.patches) }
+    ensures elided { IfOk result (λ r. AreElidedBy (facts_of elisions.now.patches) r.0) }
+    ensures apart { IfOk result (λ r. (t : Table) → AreApart (ranges_of r.0 t)) }
+    ensures staged { IfOk result (λ r. r.1.items ≡ []) }
+    ensures staged_room { IfOk result (λ r. STAGED_SECTORS ≤ vec_capacity r.1) }
+    ensures addresses { addresses.new ≡ record addresses.old { room = addresses.new.room } }
+    ensures address_room { OnOk result (UNFLUSHED_ADDRESSES ≤ addresses.new.room) }
+{
+    addresses.reserve(UNFLUSHED_ADDRESSES)?;
+    let staged = Vec::with_capacity(alloc, STAGED_SECTORS)?;
+    let elided = elided_ids(alloc, elisions)?;
+    Ok((elided, staged))
 }
 
 /// Memory of these sound facts, in which nothing is staged, with room for the commands of a whole log.
+/// What fails does so in the calls above, which own little: here each early end drops all that there is.
 fn of_facts(
     alloc: Global,
     next: NextNumbers,
     objects: Pyramid<ObjectFact>,
     mediums: Pyramid<MediumFact>,
-    addresses: Pyramid<AddressFact>,
+    mut addresses: Pyramid<AddressFact>,
     segments: Pyramid<SegmentFact>,
     elisions: Pyramid<ElisionFact>,
 ) -> Result<Memory, NoMemory>
@@ -115,16 +151,12 @@ fn of_facts(
     ensures room { IfOk result HasLogRoom }
     ensures names { IfOk result (λ m. UNFLUSHED_OBJECTS ≤ m.name_room) }
 {
-    let elided = elided_ids(alloc, &elisions)?;
-    let objects = object_table(alloc, objects, &elided)?;
-    let mediums = MediumTable::from_facts(mediums);
-    let addresses = address_table(addresses)?;
-    let segments = SegmentTable::from_facts(alloc, segments, elided.ranges(Table::Segment))?;
-    let staged = Vec::with_capacity(alloc, STAGED_SECTORS)?;
+    let (elided, staged) = elided_and_staged(alloc, &mut addresses, &elisions)?;
+    let (objects, segments) = seen_tables(alloc, objects, segments, &elided)?;
     Ok(Memory {
         objects,
-        mediums,
-        addresses,
+        mediums: MediumTable::from_facts(mediums),
+        addresses: AddressTable::from_facts(addresses),
         segments,
         elisions,
         elided,

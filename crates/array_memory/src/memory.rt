@@ -1,7 +1,9 @@
-ghost use Rattle.std.specs.Prelude.{◌≡◌, ◌≢◌, ◌≤◌, ◌<◌, [], IfOk, IfSome, IfNone, All, Contains, Some, length, slice_get};
+ghost use Rattle.std.specs.Prelude.{◌≡◌, ◌≢◌, ◌≤◌, ◌<◌, ◌+◌, [], IfOk, IfSome, IfNone, All, Contains, Some, length, slice_get};
 ghost use Rattle.pur_base.specs.Facts.{object_key, medium_key, address_key, segment_key, elision_key};
 ghost use Rattle.pyramid.specs.Layers.{IsLayered};
-ghost use Rattle.object_table.specs.Objects.{AreNamesDistinct};
+ghost use Rattle.pur_base.specs.Visible.{is_within};
+ghost use Rattle.object_table.specs.Objects.{AreNamesDistinct, AreVisible};
+ghost use Rattle.segment_table.specs.Segments.{AreVisible as AreShown};
 ghost use Rattle.memory_spec.specs.Memory.{Contents, ReadsAs};
 ghost use Rattle.array_memory.specs.Kept.{IsKept};
 
@@ -29,7 +31,6 @@ const FIRST: NextNumbers = NextNumbers {
 
 /// What an array keeps in memory beside its log. Contracts see its tables with the staged sectors and the next numbers,
 /// what is visible, and the room that there is.
-#[derive(Drop)]
 pub struct Memory {
     pub(crate) objects: ObjectTable,
     pub(crate) mediums: MediumTable,
@@ -39,8 +40,25 @@ pub struct Memory {
     pub(crate) elided: Elided,
     pub(crate) staged: Vec<Sector>,
     pub(crate) next: NextNumbers,
-    /// For each visible data segment, by ascending id, an address that named a sector of it when it was last looked at.
+    /// By ascending id of the visible data segments, an address that named a sector of each when it was last looked at. Each is checked where it is used.
     pub(crate) witnesses: Vec<Witness>,
+}
+
+// It has a drop of its own, and none that is derived: where one is dropped that is one call, and not one of each table.
+impl Drop for Memory {
+    fn drop(self) {
+        let Memory {
+            objects: _,
+            mediums: _,
+            addresses: _,
+            segments: _,
+            elisions: _,
+            elided: _,
+            staged: _,
+            next: _,
+            witnesses: _,
+        } = self;
+    }
 }
 
 impl Model for Memory {
@@ -53,6 +71,52 @@ impl Model for Memory {
     ghost view = { λ m. kept_of m.objects m.mediums.facts m.addresses.facts m.segments m.elisions m.elided m.staged.items (vec_capacity m.staged - vec_len m.staged) m.next };
 
     ghost invariant = { λ m. IsKept (kept_of m.objects m.mediums.facts m.addresses.facts m.segments m.elisions m.elided m.staged.items (vec_capacity m.staged - vec_len m.staged) m.next) };
+}
+
+/// A table without objects, with room for those of a whole log.
+fn object_table(alloc: Global) -> Result<ObjectTable, NoMemory>
+    ensures facts { IfOk result (λ t. (t.facts.patches ≡ []) × (t.facts.unflushed ≡ []) × (t.facts.room ≡ UNFLUSHED_OBJECTS)) }
+    ensures visible { IfOk result (AreVisible (is_within [])) }
+    ensures name_room { IfOk result (λ t. OBJECTS ≤ length t.visible + t.name_room) }
+{
+    let facts = Pyramid::new(alloc, UNFLUSHED_OBJECTS)?;
+    ObjectTable::from_facts(alloc, facts, &[])
+}
+
+/// A table without segments.
+fn segment_table(alloc: Global) -> Result<SegmentTable, NoMemory>
+    ensures facts { IfOk result (λ t. (t.facts.patches ≡ []) × (t.facts.unflushed ≡ [])) }
+    ensures visible { IfOk result (AreShown (is_within [])) }
+{
+    let facts = Pyramid::new(alloc, 0)?;
+    SegmentTable::from_facts(alloc, facts, &[])
+}
+
+/// Both tables that hold beside their facts what is visible.
+fn seen_tables(alloc: Global) -> Result<(ObjectTable, SegmentTable), NoMemory>
+    ensures objects { IfOk result (λ t. (t.0.facts.patches ≡ []) × (t.0.facts.unflushed ≡ []) × (t.0.facts.room ≡ UNFLUSHED_OBJECTS)) }
+    ensures visible { IfOk result (λ t. AreVisible (is_within []) t.0) }
+    ensures name_room { IfOk result (λ t. OBJECTS ≤ length t.0.visible + t.0.name_room) }
+    ensures segments { IfOk result (λ t. (t.1.facts.patches ≡ []) × (t.1.facts.unflushed ≡ [])) }
+    ensures shown { IfOk result (λ t. AreShown (is_within []) t.1) }
+{
+    let objects = object_table(alloc)?;
+    let segments = segment_table(alloc)?;
+    Ok((objects, segments))
+}
+
+/// The other tables without facts, of addresses with room for those of a whole log.
+fn other_tables(
+    alloc: Global,
+) -> Result<(MediumTable, AddressTable, Pyramid<ElisionFact>), NoMemory>
+    ensures mediums { IfOk result (λ t. (t.0.facts.patches ≡ []) × (t.0.facts.unflushed ≡ [])) }
+    ensures addresses { IfOk result (λ t. (t.1.facts.patches ≡ []) × (t.1.facts.unflushed ≡ []) × (t.1.facts.room ≡ UNFLUSHED_ADDRESSES)) }
+    ensures elisions { IfOk result (λ t. (t.2.patches ≡ []) × (t.2.unflushed ≡ [])) }
+{
+    let mediums = MediumTable::new(alloc, 0)?;
+    let addresses = AddressTable::new(alloc)?;
+    let elisions = Pyramid::new(alloc, 0)?;
+    Ok((mediums, addresses, elisions))
 }
 
 impl Memory {
@@ -68,22 +132,16 @@ impl Memory {
         ensures elisions { IfOk result (λ m. (m.memory.tables.elisions.patches ≡ []) × (m.memory.tables.elisions.unflushed ≡ [])) }
         ensures room { IfOk result (λ m. STAGED_SECTORS ≤ m.staged_room) }
     {
-        let object_facts = Pyramid::new(alloc, UNFLUSHED_OBJECTS)?;
-        let objects = ObjectTable::from_facts(alloc, object_facts, &[])?;
-        let mediums = MediumTable::new(alloc, 0)?;
-        let addresses = AddressTable::new(alloc)?;
-        let segment_facts = Pyramid::new(alloc, 0)?;
-        let segments = SegmentTable::from_facts(alloc, segment_facts, &[])?;
-        let elisions = Pyramid::new(alloc, 0)?;
-        let elided = Elided::new(alloc);
         let staged = Vec::with_capacity(alloc, STAGED_SECTORS)?;
+        let (objects, segments) = seen_tables(alloc)?;
+        let (mediums, addresses, elisions) = other_tables(alloc)?;
         Ok(Memory {
             objects,
             mediums,
             addresses,
             segments,
             elisions,
-            elided,
+            elided: Elided::new(alloc),
             staged,
             next: FIRST,
             witnesses: Vec::new(alloc),

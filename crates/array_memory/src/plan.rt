@@ -30,7 +30,7 @@ pub struct Eliding {
     pub facts: Vec<ElisionFact>,
     /// The elided ids of each table then.
     pub elided: Elided,
-    /// For each other data segment an address that names a sector of it.
+    /// For each data segment that was found to be named an address that names a sector of it. Unused segments that wait for another checkpoint have none.
     pub witnesses: Vec<Witness>,
 }
 
@@ -46,7 +46,7 @@ pub struct Plan {
     pub segment_facts: Option<Patch<SegmentFact>>,
     pub elisions: Option<Patch<ElisionFact>>,
     pub next: NextNumbers,
-    /// For each data segment then an address that names a sector of it.
+    /// The witnesses that are kept then: those of the segments that were looked at, and behind them one for each new segment.
     pub witnesses: Vec<Witness>,
 }
 

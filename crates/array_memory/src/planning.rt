@@ -1,7 +1,10 @@
-ghost use Rattle.std.specs.Prelude.{◌≡◌, ◌+◌, ◌<◌, ◌≤◌, IfOk, OnOk, length};
+ghost use Rattle.std.specs.Prelude.{◌≡◌, ◌+◌, ◌<◌, ◌≤◌, ◌++◌, Contains, IfOk, OnOk, length};
 ghost use Rattle.std.specs.Int.{div_ceil};
+ghost use Rattle.pur_base.specs.Facts.{object_key, medium_key, segment_key, elision_key};
 ghost use Rattle.pur_base.specs.Plain.{Array};
-ghost use Rattle.pyramid.specs.Layers.{facts_of, patch_facts};
+ghost use Rattle.pur_base.specs.Says.{Ascends};
+ghost use Rattle.pyramid.specs.Layers.{AreDistinct, IsFlushed, facts_of, patch_facts};
+ghost use Rattle.checkpoint_plan.specs.Segments.{segments_from};
 ghost use Rattle.memory_spec.specs.Memory.{Contents, IsSound, ReadsAs};
 ghost use Rattle.checkpoint_plan.specs.Planned.{AreStored, IsPlanned};
 ghost use Rattle.checkpoint_spec.specs.Whole.{AreLayered};
@@ -12,10 +15,31 @@ use crate::limits::STAGED_SECTORS;
 use crate::memory::Memory;
 use crate::plan::{Eliding, Placing, Plan, facts_of};
 use boot_codec::NextNumbers;
-use checkpoint_plan::{flagged, flags, new_segments, places, repointed_facts};
-use pur_base::{AddressFact, NoMemory, Places, SEGMENT_SECTORS};
+use checkpoint_plan::{Witness, flagged, flags, new_segments, places, repointed_facts};
+use pur_base::{
+    AddressFact, ElisionFact, MediumFact, NoMemory, ObjectFact, Places, SEGMENT_SECTORS,
+    SegmentFact,
+};
 use pyramid::Patch;
 use std::alloc::Global;
+
+/// The new patch of each table, if there is one.
+#[derive(Drop)]
+struct NewPatches {
+    objects: Option<Patch<ObjectFact>>,
+    mediums: Option<Patch<MediumFact>>,
+    addresses: Option<Patch<AddressFact>>,
+    segments: Option<Patch<SegmentFact>>,
+    elisions: Option<Patch<ElisionFact>>,
+}
+
+/// What is made for a plan: the new segments, the new patches, and the witnesses that are kept then.
+#[derive(Drop)]
+struct Made {
+    segments: Vec<SegmentFact>,
+    patches: NewPatches,
+    witnesses: Vec<Witness>,
+}
 
 impl Memory {
     /// What a checkpoint would place: the staged sectors that a newest unflushed address names. It fails for want of memory only.
@@ -72,6 +96,78 @@ impl Memory {
         self.elisions.layers();
     }
 
+    /// The new patch of each table, with these new segments among the segments.
+    fn new_patches(
+        &self,
+        alloc: Global,
+        eliding: &Eliding,
+        placing: &Placing,
+        segments: &[SegmentFact],
+    ) -> Result<NewPatches, NoMemory>
+        requires sound { IsSound self.now.memory }
+        requires few { length self.now.memory.staged ≤ STAGED_SECTORS }
+        requires placing { IsPlacingOf self.now.memory placing.now }
+        requires elisions { AreDistinct (λ f. f.seq.0) (self.now.memory.tables.elisions.unflushed ++ eliding.now.facts.items) }
+        requires ascends { Ascends segment_key segments.now }
+        requires last { (f d : SegmentFact) → Contains self.now.memory.tables.segments.unflushed f → Contains segments.now d → f.segment.0 < d.segment.0 }
+        ensures objects { IfOk result (λ p. IsFlushed object_key (λ f. f.seq.0) self.now.memory.tables.objects.unflushed (patch_facts p.objects)) }
+        ensures mediums { IfOk result (λ p. IsFlushed medium_key (λ f. f.seq.0) self.now.memory.tables.mediums.unflushed (patch_facts p.mediums)) }
+        ensures addresses { IfOk result (λ p. patch_facts p.addresses ≡ placed_addresses self.now.memory placing.now) }
+        ensures segments { IfOk result (λ p. IsFlushed segment_key (λ f. f.seq.0) (self.now.memory.tables.segments.unflushed ++ segments.now) (patch_facts p.segments)) }
+        ensures elisions { IfOk result (λ p. IsFlushed elision_key (λ f. f.seq.0) (self.now.memory.tables.elisions.unflushed ++ eliding.now.facts.items) (patch_facts p.elisions)) }
+    {
+        let objects = self.objects.facts().newest_unflushed(alloc)?;
+        let mediums = self.mediums.facts.newest_unflushed(alloc)?;
+        let addresses = self.placed_addresses(alloc, placing)?;
+        let segments = self.segments.newest_with(alloc, segments)?;
+        let elisions = self.newest_elisions(alloc, &eliding.facts)?;
+        Ok(NewPatches {
+            objects,
+            mediums,
+            addresses,
+            segments,
+            elisions,
+        })
+    }
+
+    /// What a plan holds beside what it elides and places, and the next numbers.
+    fn made(
+        &self,
+        alloc: Global,
+        eliding: &Eliding,
+        placing: &Placing,
+        units: &[Places],
+    ) -> Result<Made, NoMemory>
+        requires sound { IsSound self.now.memory }
+        requires few { length self.now.memory.staged ≤ STAGED_SECTORS }
+        requires eliding { IsElidingOf self.now eliding.now }
+        requires placing { IsPlacingOf self.now.memory placing.now }
+        requires wanted { div_ceil (length placing.now.order.items) SEGMENT_SECTORS ≡ length units.now }
+        requires left { AreLeftFor (eliding_by self.now.memory eliding.now).next (length units.now) }
+        ensures segments { IfOk result (λ m. m.segments.items ≡ segments_from self.now.memory.next.segment (self.now.memory.next.sequence + length eliding.now.facts.items) (length placing.now.order.items) units.now) }
+        ensures objects { IfOk result (λ m. IsFlushed object_key (λ f. f.seq.0) self.now.memory.tables.objects.unflushed (patch_facts m.patches.objects)) }
+        ensures mediums { IfOk result (λ m. IsFlushed medium_key (λ f. f.seq.0) self.now.memory.tables.mediums.unflushed (patch_facts m.patches.mediums)) }
+        ensures addresses { IfOk result (λ m. patch_facts m.patches.addresses ≡ placed_addresses self.now.memory placing.now) }
+        ensures segment_facts { IfOk result (λ m. IsFlushed segment_key (λ f. f.seq.0) (self.now.memory.tables.segments.unflushed ++ m.segments.items) (patch_facts m.patches.segments)) }
+        ensures elisions { IfOk result (λ m. IsFlushed elision_key (λ f. f.seq.0) (self.now.memory.tables.elisions.unflushed ++ eliding.now.facts.items) (patch_facts m.patches.elisions)) }
+    {
+        let segments = new_segments(
+            alloc,
+            self.next.segment,
+            self.next.sequence + eliding.facts.len() as u64,
+            placing.order.len(),
+            units,
+        )?;
+        let patches = self.new_patches(alloc, eliding, placing, &segments)?;
+        let addresses = facts_of(&patches.addresses);
+        let witnesses = self.witnesses_behind(alloc, eliding, units.len(), addresses)?;
+        Ok(Made {
+            segments,
+            patches,
+            witnesses,
+        })
+    }
+
     /// What is planned, before there is room for it.
     fn planned(
         &self,
@@ -95,30 +191,18 @@ impl Memory {
         ensures units { IfOk result (λ p. units_of p ≡ units.now) }
     {
         self.layers();
-        let segments = new_segments(
-            alloc,
-            self.next.segment,
-            self.next.sequence + eliding.facts.len() as u64,
-            placing.order.len(),
-            units,
-        )?;
-        let objects = self.objects.facts().newest_unflushed(alloc)?;
-        let mediums = self.mediums.facts.newest_unflushed(alloc)?;
-        let addresses = self.placed_addresses(alloc, &placing)?;
-        let segment_facts = self.segments.newest_with(alloc, &segments)?;
-        let elisions = self.newest_elisions(alloc, &eliding.facts)?;
-        let witnesses = self.witnesses_behind(alloc, &eliding, units.len(), facts_of(&addresses))?;
+        let made = self.made(alloc, &eliding, &placing, units)?;
         Ok(Plan {
             next: self.next_past(eliding.facts.len(), units.len()),
             eliding,
             placing,
-            segments,
-            objects,
-            mediums,
-            addresses,
-            segment_facts,
-            elisions,
-            witnesses,
+            segments: made.segments,
+            objects: made.patches.objects,
+            mediums: made.patches.mediums,
+            addresses: made.patches.addresses,
+            segment_facts: made.patches.segments,
+            elisions: made.patches.elisions,
+            witnesses: made.witnesses,
         })
     }
 

@@ -2,6 +2,7 @@
 use Rattle.std.proofs.Common.{◌≡◌, ◌⊎◌, inl, inr, ⊎_elim, ℕ, ◌≤◌, List, [], length, drop, refl, sym, ap, ◌∙◌, subst, arith, Bool, true, false}
 use Rattle.std.specs.Prelude.{Contains}
 use Rattle.pur_base.specs.declared.reply.Status.{Status}
+use Rattle.pur_base.specs.declared.reply.Status.TheVariants as status
 use Rattle.pur_base.specs.Commands.{after_all}
 use Rattle.pur_base.specs.Devices.{Conditions, Geometry}
 use Rattle.pur_base.specs.Plain as plain
@@ -26,7 +27,8 @@ use Rattle.takeover.specs.declared.faults.OpenFault.{OpenFault}
 use Rattle.takeover.specs.declared.faults.OpenFault.TheVariants as open_fault
 use Rattle.takeover.specs.Opened.{IsOpened, IsShut, IsRecovered, status_of}
 use Rattle.array_engine.specs.declared.engine.Engine.{Engine}
-use Rattle.array_session.specs.Sessions.{BeginsAt, IsHeldAt, IsServedFrom}
+use Rattle.array_session.specs.Sessions.{BeginsAt, IsHeldAt, IsServedFrom, IsSessionEnd}
+use Rattle.array_server.specs.Serving.{IsServeStatus}
 use Rattle.array_server.proofs.Begun.{NamesHolders, begins, engine_of, first_of}
 
 -- ---- not opened
@@ -42,6 +44,19 @@ no_stream (open_fault.Unsound t) = (refl, refl)
 no_stream open_fault.BothLost = (refl, refl)
 no_stream open_fault.Unserved = (refl, refl)
 no_stream open_fault.Spent = (refl, refl)
+
+-- an end of a session is an end of serving
+pub serves : (s : Status) → IsSessionEnd s → IsServeStatus s
+serves status.Done h = h
+serves status.Words h = h
+serves status.NoArray h = tt
+serves status.Halted h = h
+serves status.Source h = h
+serves status.Sink h = h
+serves status.Memory h = tt
+serves status.Cut h = h
+serves status.InputLimit h = h
+serves status.NotBlank h = h
 
 module _ (old new : Shelved) (e : OpenFault) (input : List ℕ) (is : IsShelf new) (on : Continues old new) (moments : LeavesOnly old new (IsCountedBy old)) (shut : IsShut old new e) where
   -- a stop now, with the counts as they are

@@ -42,17 +42,23 @@ pub fn serve<W: World>(alloc: Global, world: &mut W) -> Status
     ensures honest_sink { (W.sink world.old).honest ↔ (W.sink world.new).honest }
     ensures continues { Continues (W.shelf world.old) (W.shelf world.new) }
 {
-    let Ok(reader) = Reader::new(alloc) else {
+    let Ok(mut reader) = Reader::new(alloc) else {
         return Status::Memory;
     };
-    let Ok(writer) = ReplyWriter::new(alloc) else {
+    let Ok(mut writer) = ReplyWriter::new(alloc) else {
         return Status::Memory;
     };
     let Ok(buffers) = ReadBuffers::new(alloc) else {
         return Status::Memory;
     };
     match recover(alloc, world) {
-        Ok(array) => answer_all(alloc, reader, writer, Engine::new(array, buffers), world),
+        Ok(array) => answer_all(
+            alloc,
+            &mut reader,
+            &mut writer,
+            &mut Engine::new(array, buffers),
+            world,
+        ),
         Err(fault) => status_for(&fault),
     }
 }

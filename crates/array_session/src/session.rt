@@ -25,20 +25,20 @@ fn ended(halted: bool) -> Status
 /// another came, and `Source` or `Sink` at once where a call of the source or the sink failed.
 pub fn answer_all<W: World>(
     alloc: Global,
-    mut reader: Reader,
-    mut writer: ReplyWriter,
-    mut engine: Engine,
+    reader: &mut Reader,
+    writer: &mut ReplyWriter,
+    engine: &mut Engine,
     world: &mut W,
 ) -> Status
-    requires pending { reader.ahead.pending ≡ [] }
-    requires taken { reader.ahead.taken ≡ 0 }
-    requires begun { reader.ahead.ended ≡ false }
-    requires empty { writer ≡ [] }
-    requires is_of { IsOf (geometry_of (W.shelf world.old)) engine }
+    requires pending { reader.old.ahead.pending ≡ [] }
+    requires taken { reader.old.ahead.taken ≡ 0 }
+    requires begun { reader.old.ahead.ended ≡ false }
+    requires empty { writer.old ≡ [] }
+    requires is_of { IsOf (geometry_of (W.shelf world.old)) engine.old }
     // Wherever it begins: the replies, each with its cause, and what they leave, with what segments hold or without.
     ensures served { (W.shelf world.old).honest → (W.source world.old).honest → (W.sink world.old).honest → ¬ (W.shelf world.new).lapsed
-        → (told : Bool) (first : Point) → BeginsAt told (W.shelf world.old) engine first
-        → IsServedFrom told (W.shelf world.old) (W.shelf world.new) engine (W.source world.old).bytes (W.source world.new).bytes result first }
+        → (told : Bool) (first : Point) → BeginsAt told (W.shelf world.old) engine.old first
+        → IsServedFrom told (W.shelf world.old) (W.shelf world.new) engine.old (W.source world.old).bytes (W.source world.new).bytes result first }
     ensures status { IsSessionEnd result }
     ensures source { RisesIf (is_source result) (W.source world.old).faults (W.source world.new).faults }
     ensures sink { RisesIf (is_sink result) (W.sink world.old).faults (W.sink world.new).faults }
@@ -56,7 +56,7 @@ pub fn answer_all<W: World>(
             _ => {}
         }
         let said = engine.respond(alloc, &item, reader.sectors(), world);
-        match engine.give(&said, &mut writer, world) {
+        match engine.give(&said, writer, world) {
             Ok(()) => {}
             Err(_) => return Status::Sink,
         }

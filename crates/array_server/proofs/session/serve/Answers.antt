@@ -9,7 +9,7 @@ use Rattle.session_spec.proofs.Resumed.{may_want_memory}
 use Rattle.array_engine.specs.declared.engine.Engine.{Engine}
 use Rattle.array_session.specs.Sessions.{BeginsAt, IsServedFrom}
 use Rattle.array_server.proofs.Begun.{engine_of}
-use Rattle.array_server.proofs.Headlines.{served, unopened, no_stream, reads_some}
+use Rattle.array_server.proofs.Headlines.{served, serves, unopened, no_stream, reads_some}
 use Rattle.array_server.proofs.session.serve.Goals as goal
 
 pub returns-in_default-clause-survives : goal.returns-in_default-clause-survives
@@ -23,6 +23,9 @@ returns-in_default-new-2-clause-survives g c = λ h hs hk. may_want_memory (g.W.
 
 pub returns-in-Ok-recover-clause-continues : goal.returns-in-Ok-recover-clause-continues
 returns-in-Ok-recover-clause-continues g c = continues_trans c.in-Ok-recover.ensures.continues c.answer_all.ensures.continues
+
+pub returns-in-Ok-recover-clause-status : goal.returns-in-Ok-recover-clause-status
+returns-in-Ok-recover-clause-status g c = serves c.answer_all.result c.answer_all.ensures.status
 
 pub returns-in-Ok-recover-clause-source : goal.returns-in-Ok-recover-clause-source
 returns-in-Ok-recover-clause-source g c =
@@ -78,8 +81,8 @@ returns-in-Ok-recover-clause-survives g c = λ h hs hk.
           (c.answer_all.ensures.served (opening.continues.honest h) (from.honest hs) (to.honest hk) unlapsed told first (subst (λ (x : Engine). BeginsAt told (shelf mid) x first) (sym is) begins)))));
     }
 
-pub returns-in-Err-clause-survives : goal.returns-in-Err-clause-survives
-returns-in-Err-clause-survives g c = λ h hs hk.
+pub returns-clause-survives : goal.returns-clause-survives
+returns-clause-survives g c = λ h hs hk.
     let shelf = g.W.Shelf.shelf in
     let source = g.W.Source.source in
     let sink = g.W.Sink.sink in

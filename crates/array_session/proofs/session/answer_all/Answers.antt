@@ -67,7 +67,7 @@ returns-in-End-clause-served g c = λ h hs hk unlapsed told first begins.
     let total = (rw c.in-End.is at (c.in-Ok.ensures.total (inv.tells hs))).same end_is_no_limit in
     let done = stopped_done _ _ _ _ _ _ _ _ _ _ (taken_so_far _ _ _ _ _ _ _ _ _ _ so takes unlapsed) begins.stop read.1.0 none
     (omega (arith, total, inv.total hs, ap length none, c.in-Ok.ensures.limited inv.limited)) refl in
-    subst (λ (s : Status). IsServedFrom told (g.W.Shelf.shelf c.args.world.now) (g.W.Shelf.shelf c.next.new.source) c.args.engine (g.W.Source.source c.args.world.now).bytes (g.W.Source.source c.next.new.source).bytes s first) (sym (c.ended.ensures ∙ ap end_of c.is_halted.ensures)) done
+    subst (λ (s : Status). IsServedFrom told (g.W.Shelf.shelf c.args.world.now) (g.W.Shelf.shelf c.next.new.source) c.args.engine.now (g.W.Source.source c.args.world.now).bytes (g.W.Source.source c.next.new.source).bytes s first) (sym (c.ended.ensures ∙ ap end_of c.is_halted.ensures)) done
 
 pub returns-in-Limit-clause-served : goal.returns-in-Limit-clause-served
 returns-in-Limit-clause-served g c = λ h hs hk unlapsed told first begins.
@@ -232,7 +232,7 @@ items-preserved g c =
           let honest_after = gives.continues.honest (ac.honest h) in
           let next = answered _ _ _ _ _ _ _ _ _ _ _ (item_read c.in-Ok.item c.sectors.result.now) c.respond-said.result at_mid item.0 item.1 x.continues (x.moments honest_mid) honest_mid y (x.kept honest_mid) unlapsed_between
           _ gives unlapsed gave (g.met.W.Shelf.is_shelf c.give.new.sink) honest_after false (uncut c.in-Ok.item c.sectors.result.now c.in_default-item-2.not-Cut) in
-          subst (λ (l : List ℕ). SoFar told (shelf c.args.world.now) (shelf c.give.new.sink) c.args.engine c.respond-said.new.self (source c.args.world.now).bytes (c.next.new.self.ahead.pending ++ l) first false) (sym kept.bytes) next;
+          subst (λ (l : List ℕ). SoFar told (shelf c.args.world.now) (shelf c.give.new.sink) c.args.engine.now c.respond-said.new.self (source c.args.world.now).bytes (c.next.new.self.ahead.pending ++ l) first false) (sym kept.bytes) next;
       total = λ h.
           let total = (c.in-Ok.ensures.total (inv.tells h)).same c.in_default-item.not-Limit in
           ap (λ (l : List ℕ). c.next.new.self.ahead.taken + length l) kept.bytes ∙ total ∙ inv.total h;
