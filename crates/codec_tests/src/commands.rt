@@ -133,6 +133,23 @@ fn bytes_of(row: &Row) -> [u8; SECTOR_BYTES] {
     bytes
 }
 
+// The head is lawful, and is written as this sector.
+fn writes(rt: &impl Abort, head: &Head, sector: &Sector) {
+    let lawful = is_command(&head.command);
+    assert!(rt; lawful);
+    assert!(rt; write_head(head).as_bytes() == sector.as_bytes());
+}
+
+// A head of this number is read from the sector, and is written so again.
+fn reads(rt: &impl Abort, sector: &Sector, number: u64) {
+    let read = read_head(sector);
+    assert!(rt; read.is_ok());
+    if let Ok(head) = read {
+        assert_eq!(rt; head.number, number);
+        writes(rt, &head, sector);
+    }
+}
+
 // The command's head stands as in the row, and is read from there.
 fn stands(rt: &impl Abort, command: Request, row: &Row) {
     let sector = Sector::new(bytes_of(row));
@@ -140,15 +157,8 @@ fn stands(rt: &impl Abort, command: Request, row: &Row) {
         number: 258,
         command,
     };
-    let lawful = is_command(&head.command);
-    assert!(rt; lawful);
-    assert!(rt; write_head(&head).as_bytes() == sector.as_bytes());
-    let read = read_head(&sector);
-    assert!(rt; read.is_ok());
-    if let Ok(read) = read {
-        assert_eq!(rt; read.number, 258);
-        assert!(rt; write_head(&read).as_bytes() == sector.as_bytes());
-    }
+    writes(rt, &head, &sector);
+    reads(rt, &sector, 258);
 }
 
 #[test]
@@ -238,48 +248,56 @@ fn a_copy_is_read(rt: HostRuntime) {
     }
 }
 
-// The row's sector with some bytes changed is refused.
-fn refuses(rt: &impl Abort, row: &Row, changes: &[(usize, u8)], why: &str) {
+// A row, what is changed in it, and why it is refused then.
+type Refused = (&'static Row, &'static [(usize, u8)], &'static str);
+
+const REFUSED: [Refused; 27] = [
+    (&WRITE, &[(0, 81)], "another word"),
+    (&DESTROY, &[(16, 0)], "kind 0"),
+    (&DESTROY, &[(16, 9)], "kind 9"),
+    (&WRITE, &[(16, 8)], "a write as a destroy"),
+    (&WRITE, &[(17, 0)], "no first name"),
+    (&WRITE, &[(17, 25)], "a first name of 25 bytes"),
+    (&WRITE, &[(17, 5)], "a name with a zero"),
+    (&WRITE, &[(40, 86)], "a name with a capital"),
+    (&WRITE, &[(44, 97)], "a byte behind the first name"),
+    (&SNAPSHOT, &[(65, 97)], "a byte behind the second name"),
+    (&SNAPSHOT, &[(18, 0), (64, 0)], "no second name"),
+    (&SNAPSHOT, &[(18, 25)], "a second name of 25 bytes"),
+    (&WRITE, &[(18, 1), (64, 115)], "a second name of a write"),
+    (&WRITE, &[(64, 115)], "a second name without a length"),
+    (&WRITE, &[(19, 65)], "a fill byte of a write"),
+    (&WRITE, &[(23, 0)], "count 0 of a write"),
+    (&WRITE, &[(23, 65)], "count 65 of a write"),
+    (&WRITE, &[(22, 1)], "count 320 of a write"),
+    (&FILL, &[(23, 0)], "count 0 of a fill"),
+    (&ZERO, &[(23, 65)], "count 65 of a zero"),
+    (&COPY, &[(21, 0), (22, 0), (23, 0)], "count 0 of a copy"),
+    (&SNAPSHOT, &[(23, 1)], "a count of a snapshot"),
+    (&CREATE, &[(31, 1)], "an LBA of a create"),
+    (&FILL, &[(39, 1)], "a second LBA of a fill"),
+    (&WRITE, &[(88, 1)], "a byte behind the fields"),
+    (&WRITE, &[(511, 1)], "a byte at the end"),
+    (&CLONE, &[(19, 1)], "a fill byte of a clone"),
+];
+
+// The row's sector with some bytes changed.
+fn changed(rt: &impl Abort, row: &Row, changes: &[(usize, u8)]) -> Sector {
     let mut bytes = bytes_of(row);
     for (at, byte) in changes {
         assert!(rt; *at < SECTOR_BYTES);
         bytes[*at] = *byte;
     }
-    assert!(rt; read_head(&Sector::new(bytes)).is_err(), "{why}");
+    Sector::new(bytes)
+}
+
+fn refuses(rt: &impl Abort, rows: &[Refused]) {
+    for (row, changes, why) in rows {
+        assert!(rt; read_head(&changed(rt, row, changes)).is_err(), "{why}");
+    }
 }
 
 #[test]
 fn refused(rt: HostRuntime) {
-    let table: [(&Row, &[(usize, u8)], &str); 27] = [
-        (&WRITE, &[(0, 81)], "another word"),
-        (&DESTROY, &[(16, 0)], "kind 0"),
-        (&DESTROY, &[(16, 9)], "kind 9"),
-        (&WRITE, &[(16, 8)], "a write as a destroy"),
-        (&WRITE, &[(17, 0)], "no first name"),
-        (&WRITE, &[(17, 25)], "a first name of 25 bytes"),
-        (&WRITE, &[(17, 5)], "a name with a zero"),
-        (&WRITE, &[(40, 86)], "a name with a capital"),
-        (&WRITE, &[(44, 97)], "a byte behind the first name"),
-        (&SNAPSHOT, &[(65, 97)], "a byte behind the second name"),
-        (&SNAPSHOT, &[(18, 0), (64, 0)], "no second name"),
-        (&SNAPSHOT, &[(18, 25)], "a second name of 25 bytes"),
-        (&WRITE, &[(18, 1), (64, 115)], "a second name of a write"),
-        (&WRITE, &[(64, 115)], "a second name without a length"),
-        (&WRITE, &[(19, 65)], "a fill byte of a write"),
-        (&WRITE, &[(23, 0)], "count 0 of a write"),
-        (&WRITE, &[(23, 65)], "count 65 of a write"),
-        (&WRITE, &[(22, 1)], "count 320 of a write"),
-        (&FILL, &[(23, 0)], "count 0 of a fill"),
-        (&ZERO, &[(23, 65)], "count 65 of a zero"),
-        (&COPY, &[(21, 0), (22, 0), (23, 0)], "count 0 of a copy"),
-        (&SNAPSHOT, &[(23, 1)], "a count of a snapshot"),
-        (&CREATE, &[(31, 1)], "an LBA of a create"),
-        (&FILL, &[(39, 1)], "a second LBA of a fill"),
-        (&WRITE, &[(88, 1)], "a byte behind the fields"),
-        (&WRITE, &[(511, 1)], "a byte at the end"),
-        (&CLONE, &[(19, 1)], "a fill byte of a clone"),
-    ];
-    for (row, changes, why) in table {
-        refuses(&rt, row, changes, why);
-    }
+    refuses(&rt, &REFUSED);
 }

@@ -1,10 +1,11 @@
 ghost use Rattle.std.specs.Prelude.{◌≡◌, ◌<◌};
 ghost use Rattle.pur_base.specs.declared.limits.TheConstants.{SECTOR_BYTES};
 ghost use Rattle.segment_codec.specs.Header.{IsLawful, IsOfNoPatch};
-ghost use Rattle.segment_codec.specs.declared.kind.SegmentKind.TheVariants.{Patch};
+ghost use Rattle.segment_codec.specs.declared.kind.SegmentKind.TheVariants.{Data, Patch};
 
 use pur_base::{Place, SECTOR_BYTES, Sector, SegmentId};
 use segment_codec::{BadHeader, Header, Position, SegmentKind, read_header, write_header};
+use std::process::Abort;
 use std::test::*;
 
 const FIELDS: usize = 67;
@@ -95,24 +96,37 @@ fn changed(at: usize, byte: u8) -> Sector
     Sector::new(bytes)
 }
 
+// The header is written as these fields, and is read from there.
+fn stands(rt: &impl Abort, header: &Header, fields: &[u8; FIELDS])
+    requires lawful { IsLawful header.now }
+    requires no_patch { header.now.kind ≡ Data → IsOfNoPatch header.now }
+{
+    let sector = write_header(header);
+    assert!(rt; sector.as_bytes() == sector_of(fields).as_bytes());
+    assert_eq!(rt; read_header(&sector), Ok(*header));
+}
+
 #[test]
 fn by_hand(rt: HostRuntime) {
-    let data = write_header(&data_header());
-    assert!(rt; data.as_bytes() == sector_of(&DATA).as_bytes());
-    assert_eq!(rt; read_header(&data), Ok(data_header()));
-    let patch = write_header(&patch_header());
-    assert!(rt; patch.as_bytes() == sector_of(&PATCH).as_bytes());
-    assert_eq!(rt; read_header(&patch), Ok(patch_header()));
+    stands(&rt, &data_header(), &DATA);
+    stands(&rt, &patch_header(), &PATCH);
+}
+
+// The fields of data with this byte raised by one are refused where they have to be, and are another header else.
+fn is_raised(rt: &impl Abort, at: usize)
+    requires { at < FIELDS }
+{
+    let read = read_header(&changed(at, DATA[at].wrapping_add(1)));
+    // the word, the kind, the shard, the sectors placed, the tag and the zeros behind it
+    let refused = at < 8 || (24..32).contains(&at);
+    assert_eq!(rt; read.is_err(), refused, "byte {at}");
+    assert!(rt; read != Ok(data_header()), "byte {at}");
 }
 
 #[test]
 fn each_byte_matters(rt: HostRuntime) {
     for at in 0..FIELDS {
-        let read = read_header(&changed(at, DATA[at].wrapping_add(1)));
-        // the word, the kind, the shard, the sectors placed, the tag and the zeros behind it
-        let refused = at < 8 || (24..32).contains(&at);
-        assert_eq!(rt; read.is_err(), refused, "byte {at}");
-        assert!(rt; read != Ok(data_header()), "byte {at}");
+        is_raised(&rt, at);
     }
     for at in [FIELDS, SECTOR_BYTES - 1] {
         assert_eq!(rt; read_header(&changed(at, 1)), Err(BadHeader), "byte {at}");

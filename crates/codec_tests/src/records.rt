@@ -1,11 +1,13 @@
+ghost use Rattle.std.specs.Prelude.{◌≡◌, length, IfOk};
 ghost use Rattle.boot_codec.specs.Record.{IsBootRecord};
 
 use boot_codec::{
     BadRecord, BootRecord, DRIVE_FLAGS, FORMAT, HEADER_BYTES, Members, NVRAM_FLAGS, NextNumbers,
-    Patches, RECORD_BYTES, ReadError, read_record, write_record,
+    Patch, PatchSegment, Patches, RECORD_BYTES, ReadError, read_record, write_record,
 };
 use pur_base::Place;
-use std::alloc::Global;
+use std::alloc::{AllocError, Global};
+use std::process::Abort;
 use std::test::*;
 
 /// The record of a new shelf of 11 drives of 64 units.
@@ -32,6 +34,29 @@ fn new_record(alloc: Global) -> BootRecord
         flushed: 0,
         patches: Patches::new(alloc),
     }
+}
+
+/// Its bytes, all of them written.
+fn bytes_of_new(alloc: Global) -> [u8; RECORD_BYTES] {
+    let mut bytes = [7; RECORD_BYTES];
+    write_record(&new_record(alloc), &mut bytes);
+    bytes
+}
+
+/// The record of such a shelf that the bytes spell.
+fn read(alloc: Global, bytes: &[u8; RECORD_BYTES]) -> Result<BootRecord, Fail>
+    ensures { IfOk result (λ r. IsBootRecord r) }
+{
+    Ok(read_record(alloc, bytes, 11, 64).ok().ok_or("a record")?)
+}
+
+/// Whether the record is spelled by these bytes.
+fn is_spelled(boot: &BootRecord, bytes: &[u8; RECORD_BYTES]) -> bool
+    requires { IsBootRecord boot.now }
+{
+    let mut again = [9; RECORD_BYTES];
+    write_record(boot, &mut again);
+    bytes[..] == again[..]
 }
 
 /// What becomes of that record when a byte is raised by one, 255 to 0: the place and the byte of its fault, or `None` where it is another lawful record.
@@ -105,9 +130,9 @@ const RAISED: [(usize, Option<(usize, u8)>); 46] = [
 /// The row that serves a byte.
 fn raised(index: usize) -> Option<(usize, u8)> {
     let mut expected = None;
-    for (first, fault) in RAISED {
-        if first <= index {
-            expected = fault;
+    for (first, fault) in &RAISED {
+        if *first <= index {
+            expected = *fault;
         }
     }
     expected
@@ -128,8 +153,7 @@ const PATCHES_BY_HAND: [u8; 127] = [
 
 /// The bytes of that record.
 fn bytes_of_patches(alloc: Global) -> [u8; RECORD_BYTES] {
-    let mut bytes = [0; RECORD_BYTES];
-    write_record(&new_record(alloc), &mut bytes);
+    let mut bytes = bytes_of_new(alloc);
     bytes[80..207].copy_from_slice(&PATCHES_BY_HAND);
     bytes
 }
@@ -216,116 +240,123 @@ const FAULTS: [(usize, u8, BadRecord); 12] = [
     ),
 ];
 
+/// The first bytes of a new record.
+const OPENING: [u8; 29] = [
+    80, 85, 82, 65, 82, 82, 65, 89, 0, 0, 0, 1, 0, 11, 0, 64, 0, 0, 0, 0, 0, 0, 0, 1, 0, 0, 7, 255,
+    3,
+];
+
 #[test]
 fn a_new_record(rt: HostRuntime) -> Result<(), Fail> {
-    let record = new_record(rt.alloc());
-    let mut bytes = [7; RECORD_BYTES];
-    write_record(&record, &mut bytes);
-    let opening = [
-        80, 85, 82, 65, 82, 82, 65, 89, 0, 0, 0, 1, 0, 11, 0, 64, 0, 0, 0, 0, 0, 0, 0, 1, 0, 0, 7,
-        255, 3,
-    ];
-    assert!(rt; bytes.starts_with(&opening));
+    let bytes = bytes_of_new(rt.alloc());
+    assert!(rt; bytes.starts_with(&OPENING));
     assert_eq!(rt; &bytes[84..88], &[0, 0, 0, 88][..]);
-    let read = read_record(rt.alloc(), &bytes, 11, 64)
-        .ok()
-        .ok_or("a record")?;
-    let mut again = [9; RECORD_BYTES];
-    write_record(&read, &mut again);
-    assert!(rt; bytes[..] == again[..]);
+    let read = read(rt.alloc(), &bytes)?;
+    assert!(rt; is_spelled(&read, &bytes));
     Ok(())
+}
+
+/// The bytes with this one raised have the fault of its row, or spell another record.
+fn is_raised(rt: &impl Abort, alloc: Global, bytes: &[u8; RECORD_BYTES], index: usize) {
+    let expected = raised(index);
+    match read_record(alloc, bytes, 11, 64) {
+        Ok(other) => {
+            assert_eq!(rt; None, expected, "byte {index}");
+            assert!(rt; is_spelled(&other, bytes), "byte {index}");
+        }
+        Err(ReadError::Bad(bad)) => {
+            assert_eq!(rt; Some((bad.place, bad.byte)), expected, "byte {index}");
+        }
+        Err(ReadError::Memory(_)) => assert!(rt; false, "memory"),
+    }
 }
 
 #[test]
 fn one_byte_raised(rt: HostRuntime) {
-    let mut bytes = [0; RECORD_BYTES];
-    write_record(&new_record(rt.alloc()), &mut bytes);
+    let mut bytes = bytes_of_new(rt.alloc());
     for index in 0..HEADER_BYTES {
         let was = bytes[index];
         bytes[index] = was.wrapping_add(1);
-        match read_record(rt.alloc(), &bytes, 11, 64) {
-            Ok(other) => {
-                assert_eq!(rt; None, raised(index), "byte {index}");
-                let mut again = [0; RECORD_BYTES];
-                write_record(&other, &mut again);
-                assert!(rt; bytes[..] == again[..], "byte {index}");
-            }
-            Err(ReadError::Bad(bad)) => {
-                assert_eq!(rt; Some((bad.place, bad.byte)), raised(index), "byte {index}");
-            }
-            Err(ReadError::Memory(_)) => assert!(rt; false, "memory"),
-        }
+        is_raised(&rt, rt.alloc(), &bytes, index);
         bytes[index] = was;
     }
+}
+
+/// The two patches of the record by hand.
+fn are_by_hand(rt: &impl Abort, first: &Patch<'_>, second: &Patch<'_>) {
+    assert_eq!(rt; (first.tag, first.facts), (1, 6720));
+    assert_eq!(rt; (second.tag, second.facts), (5, 6721));
+}
+
+/// Their segments: one of the first patch, and the same one twice of the second.
+fn are_segments_by_hand(rt: &impl Abort, first: &[PatchSegment], second: &[PatchSegment]) {
+    assert_eq!(rt; first.len(), 1);
+    let only = first[0];
+    assert_eq!(rt; only.id, 258);
+    assert_eq!(rt; only.places[8], Place { slot: 10, unit: 11 });
+    assert_eq!(rt; second, &[only, only][..]);
 }
 
 #[test]
 fn two_patches(rt: HostRuntime) -> Result<(), Fail> {
     let bytes = bytes_of_patches(rt.alloc());
-    let read = read_record(rt.alloc(), &bytes, 11, 64)
-        .ok()
-        .ok_or("a record")?;
-    let mut again = [9; RECORD_BYTES];
-    write_record(&read, &mut again);
-    assert!(rt; bytes[..] == again[..]);
+    let read = read(rt.alloc(), &bytes)?;
+    assert!(rt; is_spelled(&read, &bytes));
     assert_eq!(rt; read.patches.len(), 2);
     let first = read.patches.at(0);
     let second = read.patches.at(1);
-    assert_eq!(rt; (first.tag, first.facts), (1, 6720));
-    assert_eq!(rt; (second.tag, second.facts), (5, 6721));
-    let [only] = first.segments.as_slice() else {
-        return Err("one segment".into());
-    };
-    assert_eq!(rt; only.id, 258);
-    assert_eq!(rt; only.places[8], Place { slot: 10, unit: 11 });
-    assert_eq!(rt; second.segments.as_slice(), &[*only, *only][..]);
+    are_by_hand(&rt, &first, &second);
+    are_segments_by_hand(&rt, first.segments.as_slice(), second.segments.as_slice());
     Ok(())
+}
+
+/// The two patches, the second one first.
+fn turned(alloc: Global, patches: &Patches) -> Result<Patches, AllocError>
+    requires { length patches.now ≡ 2 }
+{
+    let mut turned = Patches::new(alloc);
+    turned.push(&patches.at(1))?;
+    turned.push(&patches.at(0))?;
+    Ok(turned)
+}
+
+/// A patch has the segments of the other.
+fn have_same_segments(rt: &impl Abort, patch: &Patch<'_>, other: &Patch<'_>) {
+    assert_eq!(rt; patch.segments.as_slice(), other.segments.as_slice());
 }
 
 #[test]
 fn patches_in_turn(rt: HostRuntime) -> Result<(), Fail> {
     let bytes = bytes_of_patches(rt.alloc());
-    let read = read_record(rt.alloc(), &bytes, 11, 64)
-        .ok()
-        .ok_or("a record")?;
+    let read = read(rt.alloc(), &bytes)?;
     assert_eq!(rt; read.patches.len(), 2);
-    let mut patches = Patches::new(rt.alloc());
-    patches.push(&read.patches.at(1))?;
-    patches.push(&read.patches.at(0))?;
-    assert_eq!(rt; patches.len(), 2);
-    let first = patches.at(0);
-    let second = patches.at(1);
-    assert_eq!(rt; (first.tag, first.facts), (5, 6721));
-    assert_eq!(rt; (second.tag, second.facts), (1, 6720));
-    assert_eq!(rt;
-        first.segments.as_slice(),
-        read.patches.at(1).segments.as_slice()
-    );
-    assert_eq!(rt;
-        second.segments.as_slice(),
-        read.patches.at(0).segments.as_slice()
-    );
+    let turned = turned(rt.alloc(), &read.patches)?;
+    assert_eq!(rt; turned.len(), 2);
+    let first = turned.at(0);
+    let second = turned.at(1);
+    are_by_hand(&rt, &second, &first);
+    have_same_segments(&rt, &first, &read.patches.at(1));
+    have_same_segments(&rt, &second, &read.patches.at(0));
     Ok(())
 }
 
 #[test]
 fn one_byte_of_patches_changed(rt: HostRuntime) {
     let mut bytes = bytes_of_patches(rt.alloc());
-    for (index, byte, bad) in FAULTS {
+    for (index, byte, bad) in &FAULTS {
+        let index = *index;
         assert!(rt; index < RECORD_BYTES);
         let was = bytes[index];
-        bytes[index] = byte;
+        bytes[index] = *byte;
         let error = read_record(rt.alloc(), &bytes, 11, 64).err();
-        assert_eq!(rt; error, Some(ReadError::Bad(bad)), "byte {index}");
+        assert_eq!(rt; error, Some(ReadError::Bad(*bad)), "byte {index}");
         bytes[index] = was;
     }
 }
 
 #[test]
 fn padding_that_is_not_zero(rt: HostRuntime) {
-    let record = new_record(rt.alloc());
-    let mut bytes = [0; RECORD_BYTES];
-    write_record(&record, &mut bytes);
+    let mut bytes = bytes_of_new(rt.alloc());
     bytes[RECORD_BYTES - 1] = 9;
     for place in [HEADER_BYTES, 4096, RECORD_BYTES - 1] {
         bytes[place] = 5;

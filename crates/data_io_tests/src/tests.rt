@@ -1,5 +1,5 @@
 ghost use Rattle.std.specs.Prelude.{◌≡◌, ◌≢◌, ◌↔◌, IsTrue, All};
-ghost use Rattle.data_io.specs.Placing.{AreIndicesOf};
+ghost use Rattle.data_io.specs.Placing.{AreIndicesOf, MayBePlaced};
 
 use data_io::write_data;
 use parity72::{SHARD_BYTES, SHARDS};
@@ -10,6 +10,7 @@ use pur_base::{
 use segment_codec::{Header, SegmentKind, read_header};
 use segment_io::{are_places, read_sector, read_sectors};
 use std::alloc::Global;
+use std::process::Abort;
 use std::test::Fail;
 use world::Shelf;
 use world_mem::{Call, MemWorld, What};
@@ -96,6 +97,37 @@ fn lack_unit(places: &Places, unit: u16) -> bool
     places.iter().all(|place| place.unit != unit)
 }
 
+/// Writes the sectors to the segments, and tells which drives were lost.
+fn write_segments<S: Shelf>(
+    alloc: Global,
+    shelf: &mut S,
+    segments: &[SegmentFact],
+    staged: &[Sector],
+    order: &[u16],
+) -> Result<Lost, Fail>
+    requires { MayBePlaced (S.shelf shelf.old) segments.now staged.now order.now }
+{
+    let mut stripes = Vec::from_array(alloc, [[[7; SHARD_BYTES]; 7]; 15])?;
+    let mut room = vec![in alloc; [0; SHARD_BYTES]; 45]?;
+    let mut lost = Lost {
+        drives: [false; 24],
+    };
+    match write_data(
+        alloc,
+        shelf,
+        segments,
+        staged,
+        order,
+        2,
+        &mut stripes,
+        &mut room,
+        &mut lost,
+    ) {
+        Ok(()) => Ok(lost),
+        Err(NoMemory) => Err(Fail::new("memory")),
+    }
+}
+
 /// Writes the sectors to one segment, and tells which drives were lost.
 fn write_one<S: Shelf>(
     alloc: Global,
@@ -103,11 +135,6 @@ fn write_one<S: Shelf>(
     staged: &[Sector],
     order: &[u16],
 ) -> Result<Lost, Fail> {
-    let mut stripes = Vec::from_array(alloc, [[[7; SHARD_BYTES]; 7]; 15])?;
-    let mut room = vec![in alloc; [0; SHARD_BYTES]; 45]?;
-    let mut lost = Lost {
-        drives: [false; 24],
-    };
     if order.is_empty() || order.len() > 840 || !are_indices(staged, order) {
         return Err(Fail::new("order"));
     }
@@ -121,20 +148,7 @@ fn write_one<S: Shelf>(
         placed: order.len() as u16,
         seq: Seq(9),
     }];
-    match write_data(
-        alloc,
-        shelf,
-        &segments,
-        staged,
-        order,
-        2,
-        &mut stripes,
-        &mut room,
-        &mut lost,
-    ) {
-        Ok(()) => Ok(lost),
-        Err(NoMemory) => Err(Fail::new("memory")),
-    }
+    write_segments(alloc, shelf, &segments, staged, order)
 }
 
 /// Writes the sectors to two segments, and tells which drives were lost.
@@ -144,11 +158,6 @@ fn write_two<S: Shelf>(
     staged: &[Sector],
     order: &[u16],
 ) -> Result<Lost, Fail> {
-    let mut stripes = Vec::from_array(alloc, [[[7; SHARD_BYTES]; 7]; 15])?;
-    let mut room = vec![in alloc; [0; SHARD_BYTES]; 45]?;
-    let mut lost = Lost {
-        drives: [false; 24],
-    };
     if order.len() <= 840 || order.len() > 1680 || !are_indices(staged, order) {
         return Err(Fail::new("order"));
     }
@@ -174,20 +183,7 @@ fn write_two<S: Shelf>(
             seq: Seq(10),
         },
     ];
-    match write_data(
-        alloc,
-        shelf,
-        &segments,
-        staged,
-        order,
-        2,
-        &mut stripes,
-        &mut room,
-        &mut lost,
-    ) {
-        Ok(()) => Ok(lost),
-        Err(NoMemory) => Err(Fail::new("memory")),
-    }
+    write_segments(alloc, shelf, &segments, staged, order)
 }
 
 /// Whether so many sectors stand in a segment, one behind another, that were staged from that index on.
@@ -277,15 +273,36 @@ fn calls_of(world: &MemWorld) -> (usize, usize) {
     (writes, syncs)
 }
 
+/// Writes 57 sectors to one segment, and tells which drives were lost.
+fn write_few(alloc: Global, world: &mut MemWorld) -> Result<Lost, Fail> {
+    let staged = staged_sectors(alloc, 100)?;
+    let order = order_from(alloc, 30, 57)?;
+    write_one(alloc, world, &staged, &order)
+}
+
+/// Asserts that zeros stand behind the last one of 57 sectors.
+fn assert_zeros_behind(
+    rt: &impl Abort,
+    world: &mut MemWorld,
+    missing: &[bool],
+) -> Result<(), Fail> {
+    for (index, byte) in [(56, 86), (57, 0), (111, 0)] {
+        assert_eq!(rt;
+            ends_of(world, &PLACES, index, missing)?,
+            Some((byte, byte)),
+            "at {index}"
+        );
+    }
+    Ok(())
+}
+
 #[test]
 fn what_was_written_is_read_back(rt: HostRuntime) -> Result<(), Fail> {
     let alloc = rt.alloc();
     let mut world = small_world(alloc)?;
-    let staged = staged_sectors(alloc, 100)?;
-    let order = order_from(alloc, 30, 57)?;
     // The write of the stripes fails on it.
     world.fail(Device::Drive(DriveId(4)), 1)?;
-    let lost = write_one(alloc, &mut world, &staged, &order)?;
+    let lost = write_few(alloc, &mut world)?;
     assert_eq!(rt; lost.drives, set_of(&[4]));
     assert_eq!(rt;
         stand_from(alloc, &mut world, &PLACES, 30, 57, &lost.drives)?,
@@ -296,20 +313,7 @@ fn what_was_written_is_read_back(rt: HostRuntime) -> Result<(), Fail> {
         stand_from(alloc, &mut world, &PLACES, 30, 57, &lost.drives)?,
         true
     );
-    // Zeros stand behind the last one.
-    assert_eq!(rt;
-        ends_of(&mut world, &PLACES, 56, &lost.drives)?,
-        Some((86, 86))
-    );
-    assert_eq!(rt;
-        ends_of(&mut world, &PLACES, 57, &lost.drives)?,
-        Some((0, 0))
-    );
-    assert_eq!(rt;
-        ends_of(&mut world, &PLACES, 111, &lost.drives)?,
-        Some((0, 0))
-    );
-    Ok(())
+    assert_zeros_behind(&rt, &mut world, &lost.drives)
 }
 
 #[test]
@@ -327,18 +331,17 @@ fn sectors_are_written_in_their_order(rt: HostRuntime) -> Result<(), Fail> {
     Ok(())
 }
 
-#[test]
-fn one_sector_more_takes_another_segment(rt: HostRuntime) -> Result<(), Fail> {
-    let alloc = rt.alloc();
-    let mut world = small_world(alloc)?;
+/// Writes 841 sectors to two segments, and tells which drives were lost.
+fn write_many(alloc: Global, world: &mut MemWorld) -> Result<Lost, Fail> {
     let staged = staged_sectors(alloc, 900)?;
     let order = order_from(alloc, 30, 841)?;
     world.forget();
-    let lost = write_two(alloc, &mut world, &staged, &order)?;
-    assert_eq!(rt; lost.drives, [false; 24]);
-    // Of each segment nine writes for its stripes and nine for its headers, and two syncs of each drive.
-    assert_eq!(rt; calls_of(&world), (36, 22));
-    let first = header_at(&mut world, PLACES[4])?;
+    write_two(alloc, world, &staged, &order)
+}
+
+/// Asserts what the headers of the two segments say.
+fn assert_headers(rt: &impl Abort, world: &mut MemWorld) -> Result<(), Fail> {
+    let first = header_at(world, PLACES[4])?;
     assert_eq!(rt;
         first,
         Header {
@@ -354,27 +357,45 @@ fn one_sector_more_takes_another_segment(rt: HostRuntime) -> Result<(), Fail> {
             places: PLACES,
         }
     );
-    let second = header_at(&mut world, MORE_PLACES[8])?;
+    let second = header_at(world, MORE_PLACES[8])?;
     assert_eq!(rt; second.placed, 1);
     assert_eq!(rt; second.places, MORE_PLACES);
+    Ok(())
+}
+
+/// Asserts that both segments are read with two drives pulled.
+fn assert_two_may_be_missing(
+    rt: &impl Abort,
+    alloc: Global,
+    world: &mut MemWorld,
+) -> Result<(), Fail> {
     world.pull(Device::Drive(DriveId(3)));
     world.pull(Device::Drive(DriveId(8)));
-    assert_eq!(rt; two_stand(alloc, &mut world, &[])?, true);
-    assert_eq!(rt; two_stand(alloc, &mut world, &set_of(&[3, 8]))?, true);
+    assert_eq!(rt; two_stand(alloc, world, &[])?, true);
+    assert_eq!(rt; two_stand(alloc, world, &set_of(&[3, 8]))?, true);
+    Ok(())
+}
+
+/// Asserts that a segment is lost with the third of its drives, where two were pulled before.
+fn assert_three_may_not(rt: &impl Abort, alloc: Global, world: &mut MemWorld) -> Result<(), Fail> {
     // A third one is missing for the first segment alone: the sector of the second stands on a drive that is there.
     world.pull(Device::Drive(DriveId(5)));
-    assert_eq!(rt;
-        stand_from(alloc, &mut world, &PLACES, 30, 840, &[])?,
-        false
-    );
-    assert_eq!(rt;
-        stand_from(alloc, &mut world, &MORE_PLACES, 870, 1, &[])?,
-        true
-    );
+    assert_eq!(rt; stand_from(alloc, world, &PLACES, 30, 840, &[])?, false);
+    assert_eq!(rt; stand_from(alloc, world, &MORE_PLACES, 870, 1, &[])?, true);
     world.pull(Device::Drive(DriveId(0)));
-    assert_eq!(rt;
-        stand_from(alloc, &mut world, &MORE_PLACES, 870, 1, &[])?,
-        false
-    );
+    assert_eq!(rt; stand_from(alloc, world, &MORE_PLACES, 870, 1, &[])?, false);
     Ok(())
+}
+
+#[test]
+fn one_sector_more_takes_another_segment(rt: HostRuntime) -> Result<(), Fail> {
+    let alloc = rt.alloc();
+    let mut world = small_world(alloc)?;
+    let lost = write_many(alloc, &mut world)?;
+    assert_eq!(rt; lost.drives, [false; 24]);
+    // Of each segment nine writes for its stripes and nine for its headers, and two syncs of each drive.
+    assert_eq!(rt; calls_of(&world), (36, 22));
+    assert_headers(&rt, &mut world)?;
+    assert_two_may_be_missing(&rt, alloc, &mut world)?;
+    assert_three_may_not(&rt, alloc, &mut world)
 }

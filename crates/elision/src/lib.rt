@@ -10,6 +10,3 @@ mod search;
 pub use elided::Elided;
 pub use laws::laws_of_ranges;
 pub use search::is_within;
-
-#[cfg(test)]
-mod tests;

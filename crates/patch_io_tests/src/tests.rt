@@ -1,5 +1,5 @@
-ghost use Rattle.std.specs.Prelude.{IfSome};
-ghost use Rattle.boot_codec.specs.Record.{IsSegment};
+ghost use Rattle.std.specs.Prelude.{◌≡◌, IfSome};
+ghost use Rattle.boot_codec.specs.Record.{IsPatch, IsSegment};
 
 use boot_codec::{Patch, PatchSegment, Segments};
 use fact_codec::{FACT_BYTES, write_fact};
@@ -12,6 +12,7 @@ use pur_base::{
 use segment_codec::SegmentKind;
 use segment_io::{Open, StripeData, are_places};
 use std::alloc::Global;
+use std::process::Abort;
 use std::test::Fail;
 use world::Shelf;
 use world_mem::MemWorld;
@@ -153,6 +154,21 @@ fn segment_on<S: Shelf>(shelf: &S, id: u64, places: Places) -> Option<PatchSegme
     Some(PatchSegment { id, places })
 }
 
+/// Reads a patch of address facts.
+fn load<S: Shelf>(
+    alloc: Global,
+    shelf: &mut S,
+    patch: &Patch<'_>,
+    missing: &[bool],
+) -> Result<Result<usize, PatchFault>, Fail>
+    requires patch { IsPatch (S.shelf shelf.old).drives (S.shelf shelf.old).units patch.now }
+    requires tag { patch.now.tag ≡ 3 }
+{
+    let mut shards = [[0; SHARD_BYTES]; SHARDS];
+    let mut sectors = vec![in alloc; 0u8; 430_080]?;
+    Ok(told(load_patch(alloc, shelf, patch, missing, &mut shards, &mut sectors)))
+}
+
 /// Reads the patch of one segment.
 fn load_one(
     alloc: Global,
@@ -160,8 +176,6 @@ fn load_one(
     facts: u32,
     missing: &[bool],
 ) -> Result<Result<usize, PatchFault>, Fail> {
-    let mut shards = [[0; SHARD_BYTES]; SHARDS];
-    let mut sectors = vec![in alloc; 0u8; 430_080]?;
     if facts == 0 || facts > SEGMENT_FACTS {
         return Err(Fail::new("facts"));
     }
@@ -174,7 +188,7 @@ fn load_one(
         facts,
         segments: Segments::new(&segments),
     };
-    Ok(told(load_patch(alloc, world, &patch, missing, &mut shards, &mut sectors)))
+    load(alloc, world, &patch, missing)
 }
 
 /// Reads the patch of two segments.
@@ -184,8 +198,6 @@ fn load_two(
     facts: u32,
     missing: &[bool],
 ) -> Result<Result<usize, PatchFault>, Fail> {
-    let mut shards = [[0; SHARD_BYTES]; SHARDS];
-    let mut sectors = vec![in alloc; 0u8; 430_080]?;
     if facts <= SEGMENT_FACTS || facts > 2 * SEGMENT_FACTS {
         return Err(Fail::new("facts"));
     }
@@ -201,7 +213,7 @@ fn load_two(
         facts,
         segments: Segments::new(&segments),
     };
-    Ok(told(load_patch(alloc, world, &patch, missing, &mut shards, &mut sectors)))
+    load(alloc, world, &patch, missing)
 }
 
 /// Changes a byte of the first sector of the first stripe.
@@ -263,6 +275,42 @@ fn write_one(alloc: Global, world: &mut MemWorld) -> Result<Lost, Fail> {
     }
 }
 
+/// Asserts that so many facts are read of a patch of one segment, if those drives are missing.
+fn assert_loads(
+    rt: &impl Abort,
+    alloc: Global,
+    world: &mut MemWorld,
+    facts: u32,
+    missing: &[bool],
+) -> Result<(), Fail> {
+    assert_eq!(rt; load_one(alloc, world, facts, missing)?, Ok(facts as usize));
+    Ok(())
+}
+
+/// Asserts why so many facts are not read of a patch of one segment, if those drives are missing.
+fn assert_fault(
+    rt: &impl Abort,
+    alloc: Global,
+    world: &mut MemWorld,
+    facts: u32,
+    missing: &[bool],
+    fault: PatchFault,
+) -> Result<(), Fail> {
+    assert_eq!(rt; load_one(alloc, world, facts, missing)?, Err(fault));
+    Ok(())
+}
+
+/// Asserts that a patch of two segments is read, if those drives are missing.
+fn assert_loads_two(
+    rt: &impl Abort,
+    alloc: Global,
+    world: &mut MemWorld,
+    missing: &[bool],
+) -> Result<(), Fail> {
+    assert_eq!(rt; load_two(alloc, world, 6721, missing)?, Ok(6721));
+    Ok(())
+}
+
 #[test]
 fn what_was_written_is_read_back(rt: HostRuntime) -> Result<(), Fail> {
     let alloc = rt.alloc();
@@ -271,10 +319,9 @@ fn what_was_written_is_read_back(rt: HostRuntime) -> Result<(), Fail> {
     world.fail(Device::Drive(DriveId(4)), 1)?;
     let lost = write_one(alloc, &mut world)?;
     assert_eq!(rt; lost.drives, set_of(&[4]));
-    assert_eq!(rt; load_one(alloc, &mut world, 1, &lost.drives)?, Ok(1));
+    assert_loads(&rt, alloc, &mut world, 1, &lost.drives)?;
     world.pull(Device::Drive(DriveId(0)));
-    assert_eq!(rt; load_one(alloc, &mut world, 1, &lost.drives)?, Ok(1));
-    Ok(())
+    assert_loads(&rt, alloc, &mut world, 1, &lost.drives)
 }
 
 #[test]
@@ -282,13 +329,12 @@ fn one_fact_is_read_back(rt: HostRuntime) -> Result<(), Fail> {
     let alloc = rt.alloc();
     let mut world = small_world(alloc)?;
     write_segment(&mut world, PLACES, 0, 1, false)?;
-    assert_eq!(rt; load_one(alloc, &mut world, 1, &[])?, Ok(1));
+    assert_loads(&rt, alloc, &mut world, 1, &[])?;
     world.pull(Device::Drive(DriveId(0)));
     world.pull(Device::Drive(DriveId(7)));
-    assert_eq!(rt; load_one(alloc, &mut world, 1, &set_of(&[0, 7]))?, Ok(1));
+    assert_loads(&rt, alloc, &mut world, 1, &set_of(&[0, 7]))?;
     // Behind it stand zeros, which spell no fact.
-    assert_eq!(rt; load_one(alloc, &mut world, 2, &[])?, Err(PatchFault::Bad));
-    Ok(())
+    assert_fault(&rt, alloc, &mut world, 2, &[], PatchFault::Bad)
 }
 
 #[test]
@@ -298,12 +344,22 @@ fn a_whole_segment_is_read_back(rt: HostRuntime) -> Result<(), Fail> {
     write_segment(&mut world, PLACES, 0, 6720, false)?;
     world.pull(Device::Drive(DriveId(2)));
     world.pull(Device::Drive(DriveId(5)));
-    assert_eq!(rt; load_one(alloc, &mut world, 6720, &[])?, Ok(6720));
-    assert_eq!(rt;
-        load_one(alloc, &mut world, 6713, &set_of(&[2, 5]))?,
-        Ok(6713)
-    );
-    Ok(())
+    assert_loads(&rt, alloc, &mut world, 6720, &[])?;
+    assert_loads(&rt, alloc, &mut world, 6713, &set_of(&[2, 5]))
+}
+
+/// Asserts that two segments are read with two drives pulled of each.
+fn assert_two_may_be_missing(
+    rt: &impl Abort,
+    alloc: Global,
+    world: &mut MemWorld,
+) -> Result<(), Fail> {
+    world.pull(Device::Drive(DriveId(0)));
+    world.pull(Device::Drive(DriveId(10)));
+    assert_loads_two(rt, alloc, world, &set_of(&[0, 10]))?;
+    // Drive 2 has no unit of the second segment, and drive 10 none of the first.
+    world.pull(Device::Drive(DriveId(2)));
+    assert_loads_two(rt, alloc, world, &set_of(&[0, 2, 10]))
 }
 
 #[test]
@@ -312,19 +368,8 @@ fn one_fact_more_takes_another_segment(rt: HostRuntime) -> Result<(), Fail> {
     let mut world = small_world(alloc)?;
     write_segment(&mut world, PLACES, 0, 6720, false)?;
     write_segment(&mut world, MORE_PLACES, 6720, 6721, false)?;
-    assert_eq!(rt; load_two(alloc, &mut world, 6721, &[])?, Ok(6721));
-    world.pull(Device::Drive(DriveId(0)));
-    world.pull(Device::Drive(DriveId(10)));
-    assert_eq!(rt;
-        load_two(alloc, &mut world, 6721, &set_of(&[0, 10]))?,
-        Ok(6721)
-    );
-    // Drive 2 has no unit of the second segment, and drive 10 none of the first.
-    world.pull(Device::Drive(DriveId(2)));
-    assert_eq!(rt;
-        load_two(alloc, &mut world, 6721, &set_of(&[0, 2, 10]))?,
-        Ok(6721)
-    );
+    assert_loads_two(&rt, alloc, &mut world, &[])?;
+    assert_two_may_be_missing(&rt, alloc, &mut world)?;
     world.pull(Device::Drive(DriveId(9)));
     let lost = Lost {
         drives: set_of(&[0, 9, 10]),
@@ -336,22 +381,28 @@ fn one_fact_more_takes_another_segment(rt: HostRuntime) -> Result<(), Fail> {
     Ok(())
 }
 
-#[test]
-fn faults_are_told_apart(rt: HostRuntime) -> Result<(), Fail> {
-    let alloc = rt.alloc();
-    let mut world = small_world(alloc)?;
-    write_segment(&mut world, PLACES, 0, 8, true)?;
+/// Asserts that facts are read only in their order.
+fn assert_order_matters(rt: &impl Abort, alloc: Global, world: &mut MemWorld) -> Result<(), Fail> {
+    write_segment(world, PLACES, 0, 8, true)?;
     // Two neighbours stand the other way round.
-    assert_eq!(rt; load_one(alloc, &mut world, 8, &[])?, Err(PatchFault::Bad));
-    write_segment(&mut world, PLACES, 0, 8, false)?;
-    assert_eq!(rt; load_one(alloc, &mut world, 8, &[])?, Ok(8));
+    assert_fault(rt, alloc, world, 8, &[], PatchFault::Bad)?;
+    write_segment(world, PLACES, 0, 8, false)?;
+    assert_loads(rt, alloc, world, 8, &[])
+}
+
+/// Asserts that a changed byte of the last of eight facts is seen, and changes it back.
+fn assert_change_is_seen(rt: &impl Abort, alloc: Global, world: &mut MemWorld) -> Result<(), Fail> {
     // The byte behind the tag of the last fact.
-    flip(&mut world, 449)?;
-    assert_eq!(rt; load_one(alloc, &mut world, 8, &[])?, Err(PatchFault::Bad));
-    assert_eq!(rt; load_one(alloc, &mut world, 7, &[])?, Ok(7));
+    flip(world, 449)?;
+    assert_fault(rt, alloc, world, 8, &[], PatchFault::Bad)?;
+    assert_loads(rt, alloc, world, 7, &[])?;
     // Without that drive the fact stands as it was written.
-    assert_eq!(rt; load_one(alloc, &mut world, 8, &set_of(&[0]))?, Ok(8));
-    flip(&mut world, 449)?;
+    assert_loads(rt, alloc, world, 8, &set_of(&[0]))?;
+    flip(world, 449)
+}
+
+/// Asserts that eight facts are lost while a third drive fails.
+fn assert_third_is_lost(rt: &impl Abort, alloc: Global, world: &mut MemWorld) -> Result<(), Fail> {
     world.pull(Device::Drive(DriveId(0)));
     world.pull(Device::Drive(DriveId(1)));
     let missing = set_of(&[0, 1]);
@@ -359,10 +410,15 @@ fn faults_are_told_apart(rt: HostRuntime) -> Result<(), Fail> {
     let lost = Lost {
         drives: set_of(&[0, 1, 4]),
     };
-    assert_eq!(rt;
-        load_one(alloc, &mut world, 8, &missing)?,
-        Err(PatchFault::Lost(lost))
-    );
-    assert_eq!(rt; load_one(alloc, &mut world, 8, &missing)?, Ok(8));
-    Ok(())
+    assert_fault(rt, alloc, world, 8, &missing, PatchFault::Lost(lost))?;
+    assert_loads(rt, alloc, world, 8, &missing)
+}
+
+#[test]
+fn faults_are_told_apart(rt: HostRuntime) -> Result<(), Fail> {
+    let alloc = rt.alloc();
+    let mut world = small_world(alloc)?;
+    assert_order_matters(&rt, alloc, &mut world)?;
+    assert_change_is_seen(&rt, alloc, &mut world)?;
+    assert_third_is_lost(&rt, alloc, &mut world)
 }

@@ -2,9 +2,11 @@ use parity72::{DATA_SHARDS, SHARD_BYTES, SHARDS};
 use pur_base::{Device, DriveId, Lost, Place, Places, SECTOR_BYTES, Sector, SegmentId};
 use segment_codec::{Header, SegmentKind, read_header};
 use segment_io::{
-    Open, RUN_ROOM, RebuildFault, StripeData, are_places, read_sector, read_sectors, rebuild_shard,
+    Open, RUN_ROOM, RebuildFault, StripeBuffer, StripeData, are_places, read_sector, read_sectors,
+    rebuild_shard,
 };
 use std::alloc::Global;
+use std::process::Abort;
 use std::test::Fail;
 use world::Shelf;
 use world_mem::MemWorld;
@@ -117,6 +119,47 @@ fn set_of(drives: &[u8]) -> [bool; 24] {
     set
 }
 
+/// Asserts that the sector at a place of a unit is full of one byte.
+fn assert_full(
+    rt: &impl Abort,
+    world: &mut MemWorld,
+    place: Place,
+    sector: u8,
+    byte: u8,
+) -> Result<(), Fail> {
+    let found = sector_at(world, place, sector)?;
+    assert_eq!(rt; found.as_bytes(), [byte; 512].as_slice());
+    Ok(())
+}
+
+/// Asserts that the sector of that index begins and ends with one byte.
+fn assert_ends(
+    rt: &impl Abort,
+    world: &mut MemWorld,
+    index: u16,
+    missing: &[bool],
+    byte: u8,
+) -> Result<(), Fail> {
+    assert_eq!(rt; ends_of(world, index, missing)?, Ok((byte, byte)));
+    Ok(())
+}
+
+/// Asserts that sectors are read without drives 0 and 6, and lost while a third one fails.
+fn assert_third_is_lost(rt: &impl Abort, world: &mut MemWorld) -> Result<(), Fail> {
+    let missing = set_of(&[0, 6]);
+    for (index, byte) in [(0, 1), (48, 7), (111, 9)] {
+        assert_ends(rt, world, index, &missing, byte)?;
+    }
+    // Drives that fail are recovered from too, though they aren't known to be missing.
+    assert_ends(rt, world, 0, &[], 1)?;
+    world.fail(Device::Drive(DriveId(3)), 1)?;
+    let lost = Lost {
+        drives: set_of(&[0, 3, 6]),
+    };
+    assert_eq!(rt; ends_of(world, 0, &missing)?, Err(lost));
+    assert_ends(rt, world, 0, &missing, 1)
+}
+
 #[test]
 fn two_drives_may_be_missing(rt: HostRuntime) -> Result<(), Fail> {
     let alloc = rt.alloc();
@@ -124,24 +167,48 @@ fn two_drives_may_be_missing(rt: HostRuntime) -> Result<(), Fail> {
     let none = write_segment(&mut world)?;
     assert_eq!(rt; none.drives, [false; 24]);
     // P and Q of the first stripe.
-    let p = sector_at(&mut world, PLACES[7], 8)?;
-    assert_eq!(rt; p.as_bytes(), [0u8; 512].as_slice());
-    let q = sector_at(&mut world, PLACES[8], 15)?;
-    assert_eq!(rt; q.as_bytes(), [100u8; 512].as_slice());
+    assert_full(&rt, &mut world, PLACES[7], 8, 0)?;
+    assert_full(&rt, &mut world, PLACES[8], 15, 100)?;
     world.pull(Device::Drive(DriveId(0)));
     world.pull(Device::Drive(DriveId(6)));
-    let missing = set_of(&[0, 6]);
-    assert_eq!(rt; ends_of(&mut world, 0, &missing)?, Ok((1, 1)));
-    assert_eq!(rt; ends_of(&mut world, 48, &missing)?, Ok((7, 7)));
-    assert_eq!(rt; ends_of(&mut world, 111, &missing)?, Ok((9, 9)));
-    // Drives that fail are recovered from too, though they aren't known to be missing.
-    assert_eq!(rt; ends_of(&mut world, 0, &[])?, Ok((1, 1)));
-    world.fail(Device::Drive(DriveId(3)), 1)?;
-    let lost = Lost {
-        drives: set_of(&[0, 3, 6]),
-    };
-    assert_eq!(rt; ends_of(&mut world, 0, &missing)?, Err(lost));
-    assert_eq!(rt; ends_of(&mut world, 0, &missing)?, Ok((1, 1)));
+    assert_third_is_lost(&rt, &mut world)
+}
+
+/// Asserts what the headers say, of which the one on drive 2 was not written.
+fn assert_headers(rt: &impl Abort, world: &mut MemWorld) -> Result<(), Fail> {
+    for (shard, place) in PLACES.iter().enumerate() {
+        let header = read_header(&sector_at(world, *place, 0)?);
+        let expected = Header {
+            shard: shard as u8,
+            ..HEADER
+        };
+        assert_eq!(rt; header.is_ok(), shard != 2);
+        assert!(rt; shard == 2 || header == Ok(expected));
+    }
+    Ok(())
+}
+
+/// Rebuilds the shard on drive 2.
+fn rebuild(
+    world: &mut MemWorld,
+    shards: &mut StripeBuffer,
+) -> Result<Result<(), RebuildFault>, Fail> {
+    if !are_places(world, &PLACES) {
+        return Err(Fail::new("places"));
+    }
+    Ok(rebuild_shard(world, &PLACES, 2, 2, &set_of(&[2]), shards))
+}
+
+/// Asserts that the shard on drive 2 is rebuilt, unless the drive fails.
+fn assert_rebuilds(rt: &impl Abort, world: &mut MemWorld) -> Result<(), Fail> {
+    let mut shards = [[0; SHARD_BYTES]; SHARDS];
+    assert_eq!(rt; rebuild(world, &mut shards)?, Ok(()));
+    for (sector, byte) in [(8, 3), (23, 9), (24, 0)] {
+        assert_full(rt, world, PLACES[2], sector, byte)?;
+    }
+    // The drive fails again in its write.
+    world.fail(Device::Drive(DriveId(2)), 1)?;
+    assert_eq!(rt; rebuild(world, &mut shards)?, Err(RebuildFault::Target));
     Ok(())
 }
 
@@ -153,37 +220,9 @@ fn a_lost_drive_is_rebuilt(rt: HostRuntime) -> Result<(), Fail> {
     world.fail(Device::Drive(DriveId(2)), 1)?;
     let lost = write_segment(&mut world)?;
     assert_eq!(rt; lost.drives, set_of(&[2]));
-    for (shard, place) in PLACES.iter().enumerate() {
-        let header = read_header(&sector_at(&mut world, *place, 0)?);
-        let expected = Header {
-            shard: shard as u8,
-            ..HEADER
-        };
-        assert_eq!(rt; header.is_ok(), shard != 2);
-        assert!(rt; shard == 2 || header == Ok(expected));
-    }
+    assert_headers(&rt, &mut world)?;
     world.put_blank(Device::Drive(DriveId(2)));
-    let missing = set_of(&[2]);
-    let mut shards = [[0; SHARD_BYTES]; SHARDS];
-    if !are_places(&world, &PLACES) {
-        return Err(Fail::new("places"));
-    }
-    let rebuilt = rebuild_shard(&mut world, &PLACES, 2, 2, &missing, &mut shards);
-    assert_eq!(rt; rebuilt, Ok(()));
-    let first = sector_at(&mut world, PLACES[2], 8)?;
-    assert_eq!(rt; first.as_bytes(), [3u8; 512].as_slice());
-    let second = sector_at(&mut world, PLACES[2], 23)?;
-    assert_eq!(rt; second.as_bytes(), [9u8; 512].as_slice());
-    let behind = sector_at(&mut world, PLACES[2], 24)?;
-    assert_eq!(rt; behind.as_bytes(), [0u8; 512].as_slice());
-    // The drive fails again in its write.
-    world.fail(Device::Drive(DriveId(2)), 1)?;
-    if !are_places(&world, &PLACES) {
-        return Err(Fail::new("places"));
-    }
-    let failed = rebuild_shard(&mut world, &PLACES, 2, 2, &missing, &mut shards);
-    assert_eq!(rt; failed, Err(RebuildFault::Target));
-    Ok(())
+    assert_rebuilds(&rt, &mut world)
 }
 
 /// Reads sectors 4 to 59, and tells whether they are right and how many calls that took.
@@ -263,8 +302,7 @@ fn a_run_of_stripes_takes_nine_writes(rt: HostRuntime) -> Result<(), Fail> {
     let mut world = small_world(alloc)?;
     assert_eq!(rt; write_run(&mut world)?, (9, 9));
     // Q of the second stripe.
-    let second = sector_at(&mut world, PLACES[8], 16)?;
-    assert_eq!(rt; second.as_bytes(), [100u8; 512].as_slice());
+    assert_full(&rt, &mut world, PLACES[8], 16, 100)?;
     world.pull(Device::Drive(DriveId(0)));
     world.pull(Device::Drive(DriveId(6)));
     let missing = set_of(&[0, 6]);
@@ -281,7 +319,7 @@ fn a_run_of_stripes_takes_nine_writes(rt: HostRuntime) -> Result<(), Fail> {
         (176, 11),
         (223, 16),
     ] {
-        assert_eq!(rt; ends_of(&mut world, index, &missing)?, Ok((byte, byte)));
+        assert_ends(&rt, &mut world, index, &missing, byte)?;
     }
     Ok(())
 }
@@ -314,7 +352,7 @@ fn a_segment_is_one_run(rt: HostRuntime) -> Result<(), Fail> {
     world.pull(Device::Drive(DriveId(8)));
     let missing = set_of(&[2, 8]);
     for (index, byte) in [(0, 1), (16, 3), (783, 7), (784, 10), (800, 12), (839, 16)] {
-        assert_eq!(rt; ends_of(&mut world, index, &missing)?, Ok((byte, byte)));
+        assert_ends(&rt, &mut world, index, &missing, byte)?;
     }
     Ok(())
 }

@@ -1,5 +1,7 @@
 use address_table::AddressTable;
 use pur_base::{AddressFact, Location, MediumId, NoMemory, SegmentId, Seq, Target};
+use std::alloc::Global;
+use std::process::Abort;
 
 const HERE: Location = Location {
     segment: SegmentId(5),
@@ -20,16 +22,31 @@ const ZERO: AddressFact = AddressFact {
     seq: Seq(2),
 };
 
+fn stand(rt: &impl Abort, table: &AddressTable) {
+    assert_eq!(rt; table.at(MediumId(3), 7, &[]), Some(Target::Stored(HERE)));
+    assert_eq!(rt; table.at(MediumId(3), 8, &[]), Some(Target::Zero));
+    assert_eq!(rt; table.at(MediumId(3), 7, &[(2, 4)]), None);
+}
+
+fn span(rt: &impl Abort, table: &AddressTable) {
+    let mut out = [None; 4];
+    table.span(MediumId(3), 6, &[], &mut out);
+    assert_eq!(rt; out, [None, Some(FIRST), Some(ZERO), None]);
+}
+
 #[test]
 fn sectors_stand_where_the_facts_say(rt: HostRuntime) -> Result<(), NoMemory> {
     let mut table = AddressTable::new(rt.alloc())?;
     table.put_run(&[FIRST, ZERO])?;
-    assert_eq!(rt; table.at(MediumId(3), 7, &[]), Some(Target::Stored(HERE)));
-    assert_eq!(rt; table.at(MediumId(3), 8, &[]), Some(Target::Zero));
-    assert_eq!(rt; table.at(MediumId(3), 7, &[(2, 4)]), None);
-    let mut out = [None; 4];
-    table.span(MediumId(3), 6, &[], &mut out);
-    assert_eq!(rt; out, [None, Some(FIRST), Some(ZERO), None]);
+    stand(&rt, &table);
+    span(&rt, &table);
+    Ok(())
+}
+
+/// The first fact alone points to its segment.
+fn points(rt: &impl Abort, alloc: Global, table: &AddressTable) -> Result<(), NoMemory> {
+    let found = table.pointing_to(alloc, SegmentId(5), &[])?;
+    assert_eq!(rt; *found.as_slice(), *[FIRST].as_slice());
     Ok(())
 }
 
@@ -37,8 +54,7 @@ fn sectors_stand_where_the_facts_say(rt: HostRuntime) -> Result<(), NoMemory> {
 fn a_segment_is_pointed_to(rt: HostRuntime) -> Result<(), NoMemory> {
     let mut table = AddressTable::new(rt.alloc())?;
     table.put(FIRST)?;
-    let found = table.pointing_to(rt.alloc(), SegmentId(5), &[])?;
-    assert_eq!(rt; *found.as_slice(), *[FIRST].as_slice());
+    points(&rt, rt.alloc(), &table)?;
     table.take_back(Seq(1));
     assert_eq!(rt; table.facts.unflushed().len(), 0);
     Ok(())

@@ -4,6 +4,8 @@
 #[cfg(test)]
 mod addresses;
 #[cfg(test)]
+mod elisions;
+#[cfg(test)]
 mod mediums;
 #[cfg(test)]
 mod objects;

@@ -1,5 +1,6 @@
 use medium_table::{MediumTable, Range};
 use pur_base::{MediumId, NoMemory, Seq};
+use std::process::Abort;
 
 const RANGE: Range = Range {
     medium: MediumId(7),
@@ -19,15 +20,25 @@ const REST: Range = Range {
     seq: Seq(12),
 };
 
+/// A look-up found what was expected.
+fn finds(rt: &impl Abort, found: Option<Range>, expected: Option<Range>) {
+    assert_eq!(rt; found, expected);
+}
+
+/// The range is the next one from before its start, and not from behind it. An elided medium has no lowest range.
+fn is_next(rt: &impl Abort, table: &MediumTable) {
+    finds(rt, table.lowest(MediumId(7), &[(7, 7)]), None);
+    finds(rt, table.next(MediumId(7), 3, &[]), Some(RANGE));
+    finds(rt, table.next(MediumId(7), 5, &[]), None);
+}
+
 #[test]
 fn a_range_is_over_its_sectors(rt: HostRuntime) -> Result<(), NoMemory> {
     let mut table = MediumTable::new(rt.alloc(), 4)?;
     table.over(&[RANGE])?;
-    assert_eq!(rt; table.step(MediumId(7), 7, &[]), Some(RANGE));
-    assert_eq!(rt; table.step(MediumId(7), 8, &[]), None);
-    assert_eq!(rt; table.lowest(MediumId(7), &[(7, 7)]), None);
-    assert_eq!(rt; table.next(MediumId(7), 3, &[]), Some(RANGE));
-    assert_eq!(rt; table.next(MediumId(7), 5, &[]), None);
+    finds(&rt, table.step(MediumId(7), 7, &[]), Some(RANGE));
+    finds(&rt, table.step(MediumId(7), 8, &[]), None);
+    is_next(&rt, &table);
     Ok(())
 }
 
@@ -35,9 +46,10 @@ fn a_range_is_over_its_sectors(rt: HostRuntime) -> Result<(), NoMemory> {
 fn a_range_loses_its_front(rt: HostRuntime) -> Result<(), NoMemory> {
     let mut table = MediumTable::new(rt.alloc(), 4)?;
     table.over(&[RANGE])?;
+    // what is cut has to be the lowest range
     assert_eq!(rt; table.lowest(MediumId(7), &[]), Some(RANGE));
     table.cut_front(MediumId(7), 6, Seq(11), &[])?;
-    assert_eq!(rt; table.lowest(MediumId(7), &[]), Some(REST));
+    finds(&rt, table.lowest(MediumId(7), &[]), Some(REST));
     Ok(())
 }
 

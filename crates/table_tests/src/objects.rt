@@ -6,6 +6,7 @@ use object_table::ObjectTable;
 use pur_base::{MediumId, Name, NoMemory, ObjectFact, ObjectId, ObjectKind, Seq};
 use pyramid::Pyramid;
 use std::alloc::Global;
+use std::process::Abort;
 
 fn name_a() -> Name {
     match Name::read(b"a") {
@@ -47,11 +48,23 @@ fn table_of_one(alloc: Global) -> Result<ObjectTable, NoMemory>
     Ok(table)
 }
 
+/// The volume is the only object.
+fn has_the_volume(rt: &impl Abort, table: &ObjectTable) {
+    assert_eq!(rt; table.len(), 1);
+    assert_eq!(rt; table.get(&name_a()).is_some(), true);
+}
+
+/// The volume reads as this medium, by the second of two facts.
+fn has_medium(rt: &impl Abort, table: &ObjectTable, expected: MediumId) {
+    let medium = table.at(0).map(|object| object.medium);
+    assert_eq!(rt; medium, Some(expected));
+    assert_eq!(rt; table.facts().unflushed().len(), 2);
+}
+
 #[test]
 fn an_object_is_found_until_it_is_removed(rt: HostRuntime) -> Result<(), NoMemory> {
     let mut table = table_of_one(rt.alloc())?;
-    assert_eq!(rt; table.len(), 1);
-    assert_eq!(rt; table.get(&name_a()).is_some(), true);
+    has_the_volume(&rt, &table);
     table.remove(ObjectId(3));
     assert_eq!(rt; table.get(&name_a()).is_none(), true);
     Ok(())
@@ -61,8 +74,6 @@ fn an_object_is_found_until_it_is_removed(rt: HostRuntime) -> Result<(), NoMemor
 fn an_object_takes_another_medium(rt: HostRuntime) -> Result<(), NoMemory> {
     let mut table = table_of_one(rt.alloc())?;
     table.set_medium(ObjectId(3), MediumId(6), Seq(11))?;
-    let medium = table.at(0).map(|object| object.medium);
-    assert_eq!(rt; medium, Some(MediumId(6)));
-    assert_eq!(rt; table.facts().unflushed().len(), 2);
+    has_medium(&rt, &table, MediumId(6));
     Ok(())
 }

@@ -1,9 +1,10 @@
-ghost use Rattle.std.specs.Prelude.{◌≡◌, ◌+◌, ◌<◌, [], All, OnOk};
+ghost use Rattle.std.specs.Prelude.{◌≡◌, ◌+◌, ◌<◌, [], All, length, OnOk};
 ghost use Rattle.pyramid.specs.Layers.{facts_of};
 
 use pur_base::{MediumFact, MediumId, NoMemory, Seq};
 use pyramid::{LoadFault, Patch, Pyramid};
 use std::alloc::Global;
+use std::process::Abort;
 
 const START: u64 = 4;
 
@@ -22,25 +23,45 @@ fn range() -> MediumFact
     }
 }
 
-#[test]
-fn a_fact_is_said_before_a_flush(rt: HostRuntime) -> Result<(), NoMemory> {
-    let mut table = Pyramid::new(rt.alloc(), 4)?;
+/// A table of that range, with no patch yet.
+fn table_of_one(alloc: Global) -> Result<Pyramid<MediumFact>, NoMemory> {
+    let mut table = Pyramid::new(alloc, 4)?;
     table.insert_run(&[range()])?;
+    Ok(table)
+}
+
+/// The table says the range at its key, and nothing at the next one.
+fn says_the_range(
+    rt: &impl Abort,
+    alloc: Global,
+    table: &Pyramid<MediumFact>,
+) -> Result<(), NoMemory> {
     assert_eq!(rt; table.newest(KEY, &[]), Some(range()));
     assert_eq!(rt; table.newest(KEY + 1, &[]), None);
-    let found = table.range(rt.alloc(), KEY, KEY, &[])?;
+    let found = table.range(alloc, KEY, KEY, &[])?;
     assert_eq!(rt; *found.as_slice(), *[range()].as_slice());
+    Ok(())
+}
+
+#[test]
+fn a_fact_is_said_before_a_flush(rt: HostRuntime) -> Result<(), NoMemory> {
+    let mut table = table_of_one(rt.alloc())?;
+    says_the_range(&rt, rt.alloc(), &table)?;
     table.take_back(Seq(10));
     assert_eq!(rt; table.unflushed().is_empty(), true);
     Ok(())
 }
 
+fn flush(table: &mut Pyramid<MediumFact>, alloc: Global) -> Result<(), NoMemory> {
+    let patch = table.flushed(alloc)?;
+    table.put_flushed(patch);
+    Ok(())
+}
+
 #[test]
 fn a_fact_is_said_after_a_flush(rt: HostRuntime) -> Result<(), NoMemory> {
-    let mut table = Pyramid::new(rt.alloc(), 4)?;
-    table.insert_run(&[range()])?;
-    let patch = table.flushed(rt.alloc())?;
-    table.put_flushed(patch);
+    let mut table = table_of_one(rt.alloc())?;
+    flush(&mut table, rt.alloc())?;
     assert_eq!(rt; table.patches().len(), 1);
     assert_eq!(rt; table.unflushed().is_empty(), true);
     assert_eq!(rt; table.newest(KEY, &[]), Some(range()));
@@ -82,14 +103,30 @@ fn two_patches(alloc: Global) -> Result<Pyramid<MediumFact>, NoMemory> {
     Ok(table)
 }
 
+fn merge_both(table: &mut Pyramid<MediumFact>, alloc: Global) -> Result<(), NoMemory>
+    requires { length table.old.patches ≡ 2 }
+{
+    let patch = table.merged(alloc, 0, &[])?;
+    table.put_merged(0, patch);
+    Ok(())
+}
+
 #[test]
 fn a_merge_leaves_the_newer_fact(rt: HostRuntime) -> Result<(), NoMemory> {
     let mut table = two_patches(rt.alloc())?;
     assert_eq!(rt; table.patches().len(), 2);
-    let patch = table.merged(rt.alloc(), 0, &[])?;
-    table.put_merged(0, patch);
+    merge_both(&mut table, rt.alloc())?;
     assert_eq!(rt; table.patches().len(), 1);
     assert_eq!(rt; *table.patches()[0].facts(), *[longer()].as_slice());
+    Ok(())
+}
+
+/// Rewrites the only patch, where the ids 6 and 7 are elided.
+fn rewrite(table: &mut Pyramid<MediumFact>, alloc: Global) -> Result<(), NoMemory>
+    requires { length table.old.patches ≡ 1 }
+{
+    let patch = table.rewritten(alloc, &[(6, 7)])?;
+    table.put_rewritten(patch);
     Ok(())
 }
 
@@ -98,8 +135,7 @@ fn a_rewriting_leaves_no_elided_fact(rt: HostRuntime) -> Result<(), NoMemory> {
     let mut table = Pyramid::new(rt.alloc(), 1)?;
     flush_one(&mut table, rt.alloc(), range())?;
     assert_eq!(rt; table.patches().len(), 1);
-    let patch = table.rewritten(rt.alloc(), &[(6, 7)])?;
-    table.put_rewritten(patch);
+    rewrite(&mut table, rt.alloc())?;
     assert_eq!(rt; table.patches().len(), 0);
     Ok(())
 }

@@ -4,6 +4,7 @@ use pur_base::{NoMemory, Place, SEGMENT_SHARDS, SegmentFact, SegmentId, Seq};
 use pyramid::Pyramid;
 use segment_table::SegmentTable;
 use std::alloc::Global;
+use std::process::Abort;
 
 fn segment() -> SegmentFact {
     SegmentFact {
@@ -23,17 +24,32 @@ fn empty_table(alloc: Global) -> Result<SegmentTable, NoMemory>
     Ok(table)
 }
 
-#[test]
-fn a_segment_is_found_until_its_id_is_elided(rt: HostRuntime) -> Result<(), NoMemory> {
-    let mut table = empty_table(rt.alloc())?;
+fn table_of_one(alloc: Global) -> Result<SegmentTable, NoMemory> {
+    let mut table = empty_table(alloc)?;
     table.reserve(1)?;
     table.add(segment())?;
-    let patch = table.flushed(rt.alloc())?;
+    Ok(table)
+}
+
+fn flush(table: &mut SegmentTable, alloc: Global) -> Result<(), NoMemory> {
+    let patch = table.flushed(alloc)?;
     table.put_flushed(patch);
-    assert_eq!(rt; table.facts().patches().len(), 1);
+    Ok(())
+}
+
+/// The segment is visible, and no other.
+fn has_the_segment(rt: &impl Abort, table: &SegmentTable) {
     assert_eq!(rt; table.all().len(), 1);
     assert_eq!(rt; table.places(SegmentId(3)), Some(segment().places));
     assert_eq!(rt; table.nth(0).is_some(), true);
+}
+
+#[test]
+fn a_segment_is_found_until_its_id_is_elided(rt: HostRuntime) -> Result<(), NoMemory> {
+    let mut table = table_of_one(rt.alloc())?;
+    flush(&mut table, rt.alloc())?;
+    assert_eq!(rt; table.facts().patches().len(), 1);
+    has_the_segment(&rt, &table);
     table.remove_elided(&[(1, 3)]);
     assert_eq!(rt; table.places(SegmentId(3)), None);
     Ok(())

@@ -1,4 +1,7 @@
+ghost use Rattle.std.specs.Prelude.{◌≡◌, length};
+
 use pur_base::{NoMemory, Place, Places, SEGMENT_SHARDS};
+use std::process::Abort;
 use unit_map::UnitMap;
 
 const FIRST: [(u8, u16); SEGMENT_SHARDS] = [
@@ -34,15 +37,20 @@ fn places_of(places: [(u8, u16); SEGMENT_SHARDS]) -> Places {
     all
 }
 
-#[test]
-fn takes_and_gives_back(rt: HostRuntime) -> Result<(), NoMemory> {
-    let mut map = UnitMap::new(rt.alloc(), 11, 64)?;
-    assert_eq!(rt; map.free(10), 61);
+/// The groups that are taken first, one by one.
+fn takes_in_order(rt: &impl Abort, map: &mut UnitMap) {
     assert_eq!(rt; map.groups(), 74);
     let first = map.take();
     assert_eq!(rt; first, Some(places_of(FIRST)));
     assert_eq!(rt; map.groups(), 73);
     assert_eq!(rt; map.take(), Some(places_of(SECOND)));
+}
+
+#[test]
+fn takes_and_gives_back(rt: HostRuntime) -> Result<(), NoMemory> {
+    let mut map = UnitMap::new(rt.alloc(), 11, 64)?;
+    assert_eq!(rt; map.free(10), 61);
+    takes_in_order(&rt, &mut map);
     map.take();
     map.take();
     assert_eq!(rt; map.groups(), 70);
@@ -60,15 +68,23 @@ fn gives_back_what_it_took(rt: HostRuntime) -> Result<(), NoMemory> {
     Ok(())
 }
 
-#[test]
-fn takes_of_members_alone(rt: HostRuntime) -> Result<(), NoMemory> {
-    let mut map = UnitMap::new(rt.alloc(), 11, 64)?;
+/// Fewer members leave fewer groups, and eight of them none.
+fn loses_members(rt: &impl Abort, map: &mut UnitMap)
+    requires { length map.old ≡ 11 }
+    ensures { length map.new ≡ 11 }
+{
     map.set_member(0, false);
     assert_eq!(rt; map.groups(), 67);
     map.set_member(10, false);
     assert_eq!(rt; map.groups(), 61);
     map.set_member(9, false);
     assert_eq!(rt; map.groups(), 0);
+}
+
+#[test]
+fn takes_of_members_alone(rt: HostRuntime) -> Result<(), NoMemory> {
+    let mut map = UnitMap::new(rt.alloc(), 11, 64)?;
+    loses_members(&rt, &mut map);
     assert_eq!(rt; map.take(), None);
     map.set_member(0, true);
     assert_eq!(rt; map.take(), Some(places_of(FIRST)));
