@@ -4,6 +4,7 @@ use boot_region::{
 };
 use pur_base::{Device, DriveId, SECTOR_BYTES};
 use std::alloc::Global;
+use std::process::Abort;
 use std::test::Fail;
 use world::{Failed, Shelf};
 use world_mem::{Call, Choice, Fused, MemWorld, What};
@@ -29,17 +30,26 @@ fn small_world(alloc: Global) -> Result<MemWorld, Fail> {
     Ok(MemWorld::new(alloc, DRIVES, 64, Vec::new(alloc))?)
 }
 
+fn store_body<S: Shelf>(
+    shelf: &mut S,
+    members: &mut [bool],
+    slot: Slot,
+    body: &[u8; RECORD_BYTES],
+) -> Result<(), Failed> {
+    if members.len() > usize::from(shelf.drives()) {
+        return Err(Failed);
+    }
+    store(shelf, members, slot, body);
+    Ok(())
+}
+
 fn store_in<S: Shelf>(
     shelf: &mut S,
     members: &mut [bool],
     slot: Slot,
     byte: u8,
 ) -> Result<(), Failed> {
-    if members.len() > usize::from(shelf.drives()) {
-        return Err(Failed);
-    }
-    store(shelf, members, slot, &[byte; RECORD_BYTES]);
-    Ok(())
+    store_body(shelf, members, slot, &[byte; RECORD_BYTES])
 }
 
 /// The header of the record of a new shelf of 11 drives of 64 units. Made by hand from docs/FORMAT.md.
@@ -52,13 +62,9 @@ const HEADER: [u8; 88] = [
 ];
 
 fn store_new(world: &mut MemWorld, members: &mut [bool]) -> Result<(), Failed> {
-    if members.len() > usize::from(world.drives()) {
-        return Err(Failed);
-    }
     let mut body = [0; RECORD_BYTES];
     body[..88].copy_from_slice(&HEADER);
-    store(world, members, Slot::B, &body);
-    Ok(())
+    store_body(world, members, Slot::B, &body)
 }
 
 fn settle_in<S: Shelf>(shelf: &mut S, members: &mut [bool], slot: Slot) -> Result<(), Failed> {
@@ -115,6 +121,15 @@ fn writes_of(world: &MemWorld) -> usize {
     count
 }
 
+/// Asserts that a drive shows the record in slot A, and none in slot B.
+fn assert_shows_old(rt: &impl Abort, world: &mut MemWorld, drive: u8) -> Result<(), Failed> {
+    assert!(rt; is_open(world, drive, Slot::A)?);
+    assert_eq!(rt; ends(world, drive, Slot::A)?, (OLD, OLD));
+    assert!(rt; !is_open(world, drive, Slot::B)?);
+    assert_eq!(rt; ends(world, drive, Slot::B)?, (0, 0));
+    Ok(())
+}
+
 #[test]
 fn a_stored_record_is_shown_after_a_stop(rt: HostRuntime) -> Result<(), Fail> {
     let alloc = rt.alloc();
@@ -124,10 +139,7 @@ fn a_stored_record_is_shown_after_a_stop(rt: HostRuntime) -> Result<(), Fail> {
     assert_eq!(rt; members, [true; 11]);
     let mut stopped = world.stopped(alloc, &mut Ones)?;
     for drive in 0..DRIVES {
-        assert!(rt; is_open(&mut stopped, drive, Slot::A)?);
-        assert_eq!(rt; ends(&mut stopped, drive, Slot::A)?, (OLD, OLD));
-        assert!(rt; !is_open(&mut stopped, drive, Slot::B)?);
-        assert_eq!(rt; ends(&mut stopped, drive, Slot::B)?, (0, 0));
+        assert_shows_old(&rt, &mut stopped, drive)?;
     }
     Ok(())
 }
@@ -146,10 +158,8 @@ fn a_gate_that_reads_as_closed_is_not_written(rt: HostRuntime) -> Result<(), Fai
     Ok(())
 }
 
-#[test]
-fn members_that_fail_are_dropped(rt: HostRuntime) -> Result<(), Fail> {
-    let alloc = rt.alloc();
-    let mut world = small_world(alloc)?;
+/// Stores a record in slot A while some drives fail, and tells which members are left.
+fn store_with_failures(world: &mut MemWorld) -> Result<[bool; 11], Fail> {
     let mut members = [true; 11];
     // The read of a gate fails, and it is written then.
     world.fail(Device::Drive(DriveId(2)), 1)?;
@@ -158,15 +168,53 @@ fn members_that_fail_are_dropped(rt: HostRuntime) -> Result<(), Fail> {
     // The sync of a gate that is opened fails.
     world.fail(Device::Drive(DriveId(4)), 5)?;
     world.pull(Device::Drive(DriveId(5)));
-    store_in(&mut world, &mut members, Slot::A, NEW)?;
+    store_in(world, &mut members, Slot::A, NEW)?;
+    Ok(members)
+}
+
+/// Asserts that drive 2 shows the new record, and drive 3 none.
+fn assert_shown_by_two(rt: &impl Abort, world: &mut MemWorld) -> Result<(), Failed> {
+    assert!(rt; is_open(world, 2, Slot::A)?);
+    assert!(rt; !is_open(world, 3, Slot::A)?);
+    assert_eq!(rt; ends(world, 2, Slot::A)?, (NEW, NEW));
+    Ok(())
+}
+
+#[test]
+fn members_that_fail_are_dropped(rt: HostRuntime) -> Result<(), Fail> {
+    let alloc = rt.alloc();
+    let mut world = small_world(alloc)?;
+    let members = store_with_failures(&mut world)?;
     let mut left = [true; 11];
     left[3] = false;
     left[4] = false;
     left[5] = false;
     assert_eq!(rt; members, left);
-    assert!(rt; is_open(&mut world, 2, Slot::A)?);
-    assert!(rt; !is_open(&mut world, 3, Slot::A)?);
-    assert_eq!(rt; ends(&mut world, 2, Slot::A)?, (NEW, NEW));
+    assert_shown_by_two(&rt, &mut world)?;
+    Ok(())
+}
+
+/// Closes the gate of slot A on drive 6.
+fn close_one(rt: &impl Abort, world: &mut MemWorld) -> Result<(), Failed> {
+    let mut shut = [false; 11];
+    shut[6] = true;
+    if shut.len() > usize::from(world.drives()) || world.units() < 64 {
+        return Err(Failed);
+    }
+    close_gates(world, &mut shut, Slot::A);
+    assert!(rt; !is_open(world, 6, Slot::A)?);
+    Ok(())
+}
+
+/// Asserts that settling takes one write, and opens the gate on drive 6.
+fn assert_settles(
+    rt: &impl Abort,
+    world: &mut MemWorld,
+    members: &mut [bool],
+) -> Result<(), Failed> {
+    settle_in(world, members, Slot::A)?;
+    assert_eq!(rt; writes_of(world), 1);
+    assert!(rt; is_open(world, 6, Slot::A)?);
     Ok(())
 }
 
@@ -176,22 +224,22 @@ fn settling_opens_what_is_closed(rt: HostRuntime) -> Result<(), Fail> {
     let mut world = small_world(alloc)?;
     let mut members = [true; 11];
     store_in(&mut world, &mut members, Slot::A, NEW)?;
-    let mut shut = [false; 11];
-    shut[6] = true;
-    if shut.len() > usize::from(world.drives()) || world.units() < 64 {
-        return Err(Fail::new("drives"));
-    }
-    close_gates(&mut world, &mut shut, Slot::A);
-    assert!(rt; !is_open(&mut world, 6, Slot::A)?);
+    close_one(&rt, &mut world)?;
     world.forget();
     world.pull(Device::Drive(DriveId(8)));
-    settle_in(&mut world, &mut members, Slot::A)?;
-    assert_eq!(rt; writes_of(&world), 1);
-    assert!(rt; is_open(&mut world, 6, Slot::A)?);
+    assert_settles(&rt, &mut world, &mut members)?;
     let mut left = [true; 11];
     left[8] = false;
     assert_eq!(rt; members, left);
     Ok(())
+}
+
+/// Whether a drive shows the record in slot A still, and in slot B the new one or none.
+fn drive_shows_old_or_new(world: &mut MemWorld, drive: u8) -> Result<bool, Failed> {
+    if !is_open(world, drive, Slot::A)? || ends(world, drive, Slot::A)? != (OLD, OLD) {
+        return Ok(false);
+    }
+    Ok(!is_open(world, drive, Slot::B)? || ends(world, drive, Slot::B)? == (NEW, NEW))
 }
 
 /// Whether, cut off after so many calls of a store in slot B, each drive shows the record in slot A still, and in slot B the new one or none.
@@ -203,14 +251,7 @@ fn shows_old_or_new(alloc: Global, calls: u64) -> Result<bool, Fail> {
     store_in(&mut fused, &mut members, Slot::B, NEW)?;
     let mut stopped = fused.into_inner().stopped(alloc, &mut Ones)?;
     for drive in 0..DRIVES {
-        if !is_open(&mut stopped, drive, Slot::A)?
-            || ends(&mut stopped, drive, Slot::A)? != (OLD, OLD)
-        {
-            return Ok(false);
-        }
-        if is_open(&mut stopped, drive, Slot::B)?
-            && ends(&mut stopped, drive, Slot::B)? != (NEW, NEW)
-        {
+        if !drive_shows_old_or_new(&mut stopped, drive)? {
             return Ok(false);
         }
     }
@@ -248,29 +289,42 @@ fn in_force(alloc: Global, world: &mut MemWorld) -> Result<Option<(Slot, u8)>, F
     }
 }
 
+/// Asserts which slot is in force, and the first byte of its body.
+fn assert_in_force(
+    rt: &impl Abort,
+    alloc: Global,
+    world: &mut MemWorld,
+    expected: Option<(Slot, u8)>,
+) -> Result<(), Fail> {
+    assert_eq!(rt; in_force(alloc, world)?, expected);
+    Ok(())
+}
+
+/// Asserts that five drives which show the higher generation don't decide, and that six do.
+fn assert_six_decide(rt: &impl Abort, alloc: Global, world: &mut MemWorld) -> Result<(), Fail> {
+    let mut five = [
+        true, true, true, true, true, false, false, false, false, false, false,
+    ];
+    store_in(world, &mut five, Slot::B, NEW)?;
+    assert_in_force(rt, alloc, world, Some((Slot::A, OLD)))?;
+    let mut one = [
+        false, false, false, false, false, true, false, false, false, false, false,
+    ];
+    store_in(world, &mut one, Slot::B, NEW)?;
+    assert_in_force(rt, alloc, world, Some((Slot::B, NEW)))
+}
+
 #[test]
 fn more_than_half_of_all_drives_decide(rt: HostRuntime) -> Result<(), Fail> {
     let alloc = rt.alloc();
     let mut world = small_world(alloc)?;
-    assert_eq!(rt; in_force(alloc, &mut world)?, None);
-    let mut members = [true; 11];
-    store_in(&mut world, &mut members, Slot::A, OLD)?;
-    assert_eq!(rt; in_force(alloc, &mut world)?, Some((Slot::A, OLD)));
-    // Five drives show the higher generation, then six.
-    let mut five = [
-        true, true, true, true, true, false, false, false, false, false, false,
-    ];
-    store_in(&mut world, &mut five, Slot::B, NEW)?;
-    assert_eq!(rt; in_force(alloc, &mut world)?, Some((Slot::A, OLD)));
-    let mut one = [
-        false, false, false, false, false, true, false, false, false, false, false,
-    ];
-    store_in(&mut world, &mut one, Slot::B, NEW)?;
-    assert_eq!(rt; in_force(alloc, &mut world)?, Some((Slot::B, NEW)));
+    assert_in_force(&rt, alloc, &mut world, None)?;
+    store_in(&mut world, &mut [true; 11], Slot::A, OLD)?;
+    assert_in_force(&rt, alloc, &mut world, Some((Slot::A, OLD)))?;
+    assert_six_decide(&rt, alloc, &mut world)?;
     // A drive that shows it is pulled.
     world.pull(Device::Drive(DriveId(3)));
-    assert_eq!(rt; in_force(alloc, &mut world)?, Some((Slot::A, OLD)));
-    Ok(())
+    assert_in_force(&rt, alloc, &mut world, Some((Slot::A, OLD)))
 }
 
 #[test]
@@ -279,10 +333,9 @@ fn a_tie_goes_to_slot_a(rt: HostRuntime) -> Result<(), Fail> {
     let mut world = small_world(alloc)?;
     let mut members = [true; 11];
     store_in(&mut world, &mut members, Slot::B, OLD)?;
-    assert_eq!(rt; in_force(alloc, &mut world)?, Some((Slot::B, OLD)));
+    assert_in_force(&rt, alloc, &mut world, Some((Slot::B, OLD)))?;
     store_in(&mut world, &mut members, Slot::A, OLD)?;
-    assert_eq!(rt; in_force(alloc, &mut world)?, Some((Slot::A, OLD)));
-    Ok(())
+    assert_in_force(&rt, alloc, &mut world, Some((Slot::A, OLD)))
 }
 
 /// Why nothing is loaded, or `None` where a record is.
@@ -310,6 +363,27 @@ fn blank_or_garbled_drives_give_no_record(rt: HostRuntime) -> Result<(), Fail> {
     Ok(())
 }
 
+/// Asserts that the new record is loaded, from slot B of those drives.
+fn assert_loads(
+    rt: &impl Abort,
+    alloc: Global,
+    world: &mut MemWorld,
+    held: [bool; 24],
+) -> Result<(), Fail> {
+    let Loaded {
+        record,
+        slot,
+        drives,
+    } = match load(alloc, world) {
+        Ok(loaded) => loaded,
+        Err(_) => return Err(Fail::new("not loaded")),
+    };
+    assert_eq!(rt; slot, Slot::B);
+    assert_eq!(rt; record.generation, 1);
+    assert_eq!(rt; drives, held);
+    Ok(())
+}
+
 #[test]
 fn a_stored_record_is_loaded_without_two_drives(rt: HostRuntime) -> Result<(), Fail> {
     let alloc = rt.alloc();
@@ -317,21 +391,11 @@ fn a_stored_record_is_loaded_without_two_drives(rt: HostRuntime) -> Result<(), F
     store_new(&mut world, &mut [true; 11])?;
     world.pull(Device::Drive(DriveId(4)));
     world.pull(Device::Drive(DriveId(9)));
-    let Loaded {
-        record,
-        slot,
-        drives,
-    } = match load(alloc, &mut world) {
-        Ok(loaded) => loaded,
-        Err(_) => return Err(Fail::new("not loaded")),
-    };
     let mut held = [false; 24];
     held[..11].fill(true);
     held[4] = false;
     held[9] = false;
-    assert_eq!(rt; slot, Slot::B);
-    assert_eq!(rt; record.generation, 1);
-    assert_eq!(rt; drives, held);
+    assert_loads(&rt, alloc, &mut world, held)?;
     world.pull(Device::Drive(DriveId(0)));
     held[0] = false;
     assert_eq!(rt;
@@ -350,16 +414,10 @@ fn a_record_that_leaves_no_room_is_not_loaded(rt: HostRuntime) -> Result<(), Fai
     // The highest generation that leaves room is 2^48 - 9.
     body[16..24].copy_from_slice(&[0, 0, 255, 255, 255, 255, 255, 247]);
     let mut members = [true; 11];
-    if members.len() > usize::from(world.drives()) {
-        return Err(Fail::new("drives"));
-    }
-    store(&mut world, &mut members, Slot::B, &body);
+    store_body(&mut world, &mut members, Slot::B, &body)?;
     assert_eq!(rt; load_fault(alloc, &mut world), None);
     body[23] = 248;
-    if members.len() > usize::from(world.drives()) {
-        return Err(Fail::new("drives"));
-    }
-    store(&mut world, &mut members, Slot::A, &body);
+    store_body(&mut world, &mut members, Slot::A, &body)?;
     assert_eq!(rt; load_fault(alloc, &mut world), Some(LoadFault::Spent));
     Ok(())
 }
