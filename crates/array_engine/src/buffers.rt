@@ -1,8 +1,9 @@
 // Room for what is read.
-ghost use Rattle.std.specs.Prelude.{◌≡◌, ◌≤◌, ℕ, None, Some, length, take, OnOk, IfErr};
+ghost use Rattle.std.specs.Prelude.{◌≡◌, ◌≤◌, ℕ, None, Some, length, take, replicate, IfOk, OnOk, IfErr};
 ghost use Rattle.std.specs.List.{AllByRecursion};
 ghost use Rattle.pur_base.specs.Devices.{View, nvram};
 ghost use Rattle.pur_base.specs.Plain.{Array, first_cause, read_causes, sectors_of, span};
+ghost use Rattle.pur_base.specs.Sectors.{filled};
 ghost use Rattle.pur_base.specs.declared.device.Device.{Device};
 ghost use Rattle.pur_base.specs.declared.limits.TheConstants.{REQUEST_SECTORS, SECTOR_BYTES};
 ghost use Rattle.world.specs.Shelf.{Continues, IsSame};
@@ -70,7 +71,9 @@ fn check_sectors(sectors: &[Sector])
 
 impl ReadBuffers {
     /// Room for the sectors of one request.
-    pub fn new(alloc: Global) -> Result<ReadBuffers, NoMemory> {
+    pub fn new(alloc: Global) -> Result<ReadBuffers, NoMemory>
+        ensures { IfOk result (λ buffers. buffers.sectors.items ≡ replicate REQUEST_SECTORS (filled 0)) }
+    {
         let room = ReadRoom::new(alloc)?;
         let sectors = vec![in alloc; Sector::filled(0); REQUEST_SECTORS]?;
         Ok(ReadBuffers { room, sectors })

@@ -6,6 +6,8 @@ use Rattle.pur_base.specs.Facts.{object_key, medium_key, address_key, segment_ke
 use Rattle.pur_base.specs.declared.limits.TheConstants.{SEGMENT_SECTORS, SEGMENT_SHARDS}
 use Rattle.pur_base.specs.declared.place.Place.{Place}
 use Rattle.pur_base.specs.declared.facts.AddressFact.{AddressFact}
+use Rattle.pur_base.specs.declared.facts.SegmentFact.{SegmentFact}
+use Rattle.pur_base.specs.declared.facts.ElisionFact.{ElisionFact}
 use Rattle.byte_fields.specs.Places.{FitsBytes}
 use Rattle.boot_codec.specs.declared.record.NextNumbers.{NextNumbers}
 use Rattle.fact_codec.specs.declared.limits.TheConstants.{NUMBER_LIMIT}
@@ -21,6 +23,7 @@ use Rattle.checkpoint_plan.specs.Segments.{segments_from}
 use Rattle.array_memory.specs.declared.plan.Placing.{Placing}
 use Rattle.array_memory.specs.declared.plan.Plan.{Plan}
 use Rattle.array_memory.specs.declared.plan.Counts.{Counts}
+use Rattle.array_memory.specs.declared.planning.NewPatches.{NewPatches}
 use Rattle.array_memory.specs.Eliding.{eliding_by, IsElidingOf}
 use Rattle.array_memory.specs.Kept.{Kept}
 
@@ -36,6 +39,14 @@ pub record IsPlacingOf (m : Memory) (p : Placing) : Type 0 where
 -- the newest addresses, where the sectors that they name are placed
 abbrev pub placed_addresses : Memory → Placing → List AddressFact
 placed_addresses m p = map (repointed (place_in (places_from m.next.segment 0 p.flags.items))) (patch_facts p.newest)
+
+-- of each table what a checkpoint flushes: beside what is unflushed these new elisions and segments, and the addresses as they are placed
+pub record AreNewPatches (m : Memory) (placing : Placing) (new_elisions : List ElisionFact) (new_segments : List SegmentFact) (p : NewPatches) : Type 0 where
+  pub objects : IsFlushed object_key (λ f. f.seq.0) m.tables.objects.unflushed (patch_facts p.objects)
+  pub mediums : IsFlushed medium_key (λ f. f.seq.0) m.tables.mediums.unflushed (patch_facts p.mediums)
+  pub addresses : patch_facts p.addresses ≡ placed_addresses m placing
+  pub segments : IsFlushed segment_key (λ f. f.seq.0) (m.tables.segments.unflushed ++ new_segments) (patch_facts p.segments)
+  pub elisions : IsFlushed elision_key (λ f. f.seq.0) (m.tables.elisions.unflushed ++ new_elisions) (patch_facts p.elisions)
 
 -- ---- what is planned
 

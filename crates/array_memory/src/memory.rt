@@ -74,7 +74,7 @@ impl Model for Memory {
 }
 
 /// A table without objects, with room for those of a whole log.
-fn object_table(alloc: Global) -> Result<ObjectTable, NoMemory>
+fn no_objects(alloc: Global) -> Result<ObjectTable, NoMemory>
     ensures facts { IfOk result (λ t. (t.facts.patches ≡ []) × (t.facts.unflushed ≡ []) × (t.facts.room ≡ UNFLUSHED_OBJECTS)) }
     ensures visible { IfOk result (AreVisible (is_within [])) }
     ensures name_room { IfOk result (λ t. OBJECTS ≤ length t.visible + t.name_room) }
@@ -84,7 +84,7 @@ fn object_table(alloc: Global) -> Result<ObjectTable, NoMemory>
 }
 
 /// A table without segments.
-fn segment_table(alloc: Global) -> Result<SegmentTable, NoMemory>
+fn no_segments(alloc: Global) -> Result<SegmentTable, NoMemory>
     ensures facts { IfOk result (λ t. (t.facts.patches ≡ []) × (t.facts.unflushed ≡ [])) }
     ensures visible { IfOk result (AreShown (is_within [])) }
 {
@@ -92,16 +92,16 @@ fn segment_table(alloc: Global) -> Result<SegmentTable, NoMemory>
     SegmentTable::from_facts(alloc, facts, &[])
 }
 
-/// Both tables that hold beside their facts what is visible.
-fn seen_tables(alloc: Global) -> Result<(ObjectTable, SegmentTable), NoMemory>
+/// Those tables that hold beside their facts what is visible, without facts.
+fn no_seen_tables(alloc: Global) -> Result<(ObjectTable, SegmentTable), NoMemory>
     ensures objects { IfOk result (λ t. (t.0.facts.patches ≡ []) × (t.0.facts.unflushed ≡ []) × (t.0.facts.room ≡ UNFLUSHED_OBJECTS)) }
     ensures visible { IfOk result (λ t. AreVisible (is_within []) t.0) }
     ensures name_room { IfOk result (λ t. OBJECTS ≤ length t.0.visible + t.0.name_room) }
     ensures segments { IfOk result (λ t. (t.1.facts.patches ≡ []) × (t.1.facts.unflushed ≡ [])) }
     ensures shown { IfOk result (λ t. AreShown (is_within []) t.1) }
 {
-    let objects = object_table(alloc)?;
-    let segments = segment_table(alloc)?;
+    let objects = no_objects(alloc)?;
+    let segments = no_segments(alloc)?;
     Ok((objects, segments))
 }
 
@@ -133,7 +133,7 @@ impl Memory {
         ensures room { IfOk result (λ m. STAGED_SECTORS ≤ m.staged_room) }
     {
         let staged = Vec::with_capacity(alloc, STAGED_SECTORS)?;
-        let (objects, segments) = seen_tables(alloc)?;
+        let (objects, segments) = no_seen_tables(alloc)?;
         let (mediums, addresses, elisions) = other_tables(alloc)?;
         Ok(Memory {
             objects,

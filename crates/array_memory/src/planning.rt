@@ -1,15 +1,15 @@
 ghost use Rattle.std.specs.Prelude.{◌≡◌, ◌+◌, ◌<◌, ◌≤◌, ◌++◌, Contains, IfOk, OnOk, length};
 ghost use Rattle.std.specs.Int.{div_ceil};
-ghost use Rattle.pur_base.specs.Facts.{object_key, medium_key, segment_key, elision_key};
+ghost use Rattle.pur_base.specs.Facts.{segment_key};
 ghost use Rattle.pur_base.specs.Plain.{Array};
 ghost use Rattle.pur_base.specs.Says.{Ascends};
-ghost use Rattle.pyramid.specs.Layers.{AreDistinct, IsFlushed, facts_of, patch_facts};
+ghost use Rattle.pyramid.specs.Layers.{AreDistinct, facts_of, patch_facts};
 ghost use Rattle.checkpoint_plan.specs.Segments.{segments_from};
 ghost use Rattle.memory_spec.specs.Memory.{Contents, IsSound, ReadsAs};
 ghost use Rattle.checkpoint_plan.specs.Planned.{AreStored, IsPlanned};
 ghost use Rattle.checkpoint_spec.specs.Whole.{AreLayered};
 ghost use Rattle.array_memory.specs.Eliding.{eliding_by, IsElidingOf};
-ghost use Rattle.array_memory.specs.Plan.{after_plan, next_past, placed_addresses, units_of, with_patch_rooms, AreLeftFor, AreUnits, HasNoLessPatchRoom, HasRoomForPatches, IsPlacingOf, IsPlanFor, IsPlanOf};
+ghost use Rattle.array_memory.specs.Plan.{after_plan, next_past, placed_addresses, units_of, with_patch_rooms, AreLeftFor, AreNewPatches, AreUnits, HasNoLessPatchRoom, HasRoomForPatches, IsPlacingOf, IsPlanFor, IsPlanOf};
 
 use crate::limits::STAGED_SECTORS;
 use crate::memory::Memory;
@@ -25,12 +25,12 @@ use std::alloc::Global;
 
 /// The new patch of each table, if there is one.
 #[derive(Drop)]
-struct NewPatches {
-    objects: Option<Patch<ObjectFact>>,
-    mediums: Option<Patch<MediumFact>>,
-    addresses: Option<Patch<AddressFact>>,
-    segments: Option<Patch<SegmentFact>>,
-    elisions: Option<Patch<ElisionFact>>,
+pub struct NewPatches {
+    pub objects: Option<Patch<ObjectFact>>,
+    pub mediums: Option<Patch<MediumFact>>,
+    pub addresses: Option<Patch<AddressFact>>,
+    pub segments: Option<Patch<SegmentFact>>,
+    pub elisions: Option<Patch<ElisionFact>>,
 }
 
 /// What is made for a plan: the new segments, the new patches, and the witnesses that are kept then.
@@ -110,11 +110,7 @@ impl Memory {
         requires elisions { AreDistinct (λ f. f.seq.0) (self.now.memory.tables.elisions.unflushed ++ eliding.now.facts.items) }
         requires ascends { Ascends segment_key segments.now }
         requires last { (f d : SegmentFact) → Contains self.now.memory.tables.segments.unflushed f → Contains segments.now d → f.segment.0 < d.segment.0 }
-        ensures objects { IfOk result (λ p. IsFlushed object_key (λ f. f.seq.0) self.now.memory.tables.objects.unflushed (patch_facts p.objects)) }
-        ensures mediums { IfOk result (λ p. IsFlushed medium_key (λ f. f.seq.0) self.now.memory.tables.mediums.unflushed (patch_facts p.mediums)) }
-        ensures addresses { IfOk result (λ p. patch_facts p.addresses ≡ placed_addresses self.now.memory placing.now) }
-        ensures segments { IfOk result (λ p. IsFlushed segment_key (λ f. f.seq.0) (self.now.memory.tables.segments.unflushed ++ segments.now) (patch_facts p.segments)) }
-        ensures elisions { IfOk result (λ p. IsFlushed elision_key (λ f. f.seq.0) (self.now.memory.tables.elisions.unflushed ++ eliding.now.facts.items) (patch_facts p.elisions)) }
+        ensures { IfOk result (AreNewPatches self.now.memory placing.now eliding.now.facts.items segments.now) }
     {
         let objects = self.objects.facts().newest_unflushed(alloc)?;
         let mediums = self.mediums.facts.newest_unflushed(alloc)?;
@@ -145,11 +141,7 @@ impl Memory {
         requires wanted { div_ceil (length placing.now.order.items) SEGMENT_SECTORS ≡ length units.now }
         requires left { AreLeftFor (eliding_by self.now.memory eliding.now).next (length units.now) }
         ensures segments { IfOk result (λ m. m.segments.items ≡ segments_from self.now.memory.next.segment (self.now.memory.next.sequence + length eliding.now.facts.items) (length placing.now.order.items) units.now) }
-        ensures objects { IfOk result (λ m. IsFlushed object_key (λ f. f.seq.0) self.now.memory.tables.objects.unflushed (patch_facts m.patches.objects)) }
-        ensures mediums { IfOk result (λ m. IsFlushed medium_key (λ f. f.seq.0) self.now.memory.tables.mediums.unflushed (patch_facts m.patches.mediums)) }
-        ensures addresses { IfOk result (λ m. patch_facts m.patches.addresses ≡ placed_addresses self.now.memory placing.now) }
-        ensures segment_facts { IfOk result (λ m. IsFlushed segment_key (λ f. f.seq.0) (self.now.memory.tables.segments.unflushed ++ m.segments.items) (patch_facts m.patches.segments)) }
-        ensures elisions { IfOk result (λ m. IsFlushed elision_key (λ f. f.seq.0) (self.now.memory.tables.elisions.unflushed ++ eliding.now.facts.items) (patch_facts m.patches.elisions)) }
+        ensures patches { IfOk result (λ m. AreNewPatches self.now.memory placing.now eliding.now.facts.items m.segments.items m.patches) }
     {
         let segments = new_segments(
             alloc,

@@ -1,10 +1,12 @@
 // Slots are read.
-ghost use Rattle.std.specs.Prelude.{◌≡◌, ℕ, ◌+◌, ◌*◌, ◌<◌, ◌≤◌, length, take, true, false, Some, slice_get, List, IfOk};
+ghost use Rattle.std.specs.Prelude.{◌≡◌, ℕ, ◌+◌, ◌*◌, ◌<◌, ◌≤◌, ◌↔◌, length, take, drop, true, false, Some, slice_get, List, IfOk, IsErr};
 ghost use Rattle.pur_base.specs.Grammar.{data_count};
 ghost use Rattle.pur_base.specs.Commands.{Command};
 ghost use Rattle.pur_base.specs.declared.limits.TheConstants.{SECTOR_BYTES, REQUEST_SECTORS, NVRAM_BYTES};
 ghost use Rattle.log_codec.specs.declared.limits.TheConstants.{LOG_SLOTS, SLOT_BYTES};
+ghost use Rattle.log_codec.specs.Head.{Decodes};
 ghost use Rattle.log_codec.specs.Log.{ShowsIn};
+ghost use Rattle.log_codec.specs.declared.head.Head.{Head};
 
 use crate::NvLog;
 use crate::bodies::SLOT;
@@ -30,14 +32,17 @@ fn first_sector(slot: &[u8]) -> Sector
 }
 
 impl NvLog {
-    ghost use Rattle.nvram_log.specs.Held.{Keeps};
+    ghost use Rattle.nvram_log.specs.Held.{Keeps, slot_in};
     ghost use Rattle.nvram_log.specs.Logged.{IsReadAs};
 
     /// The command of a slot of the log, from memory.
     pub fn record_at(&self, i: usize) -> Result<Logged<'_>, BadHead>
         requires { i < self.now.count }
         ensures command { (commands : List Command) (c : Command) → Keeps self.now commands → slice_get commands i ≡ Some c → IsReadAs result (self.now.flushed + 1 + i) c }
-        ensures sectors { IfOk result (λ l. (length l.sectors.now ≡ SECTOR_BYTES * data_count l.head.command) × (data_count l.head.command ≤ REQUEST_SECTORS)) }
+        ensures head { IfOk result (λ l. Decodes (take SECTOR_BYTES (slot_in self.now i)) l.head) }
+        ensures sectors { IfOk result (λ l. l.sectors.now ≡ take (SECTOR_BYTES * data_count l.head.command) (drop SECTOR_BYTES (slot_in self.now i))) }
+        ensures count { IfOk result (λ l. (length l.sectors.now ≡ SECTOR_BYTES * data_count l.head.command) × (data_count l.head.command ≤ REQUEST_SECTORS)) }
+        ensures err { IsErr result ↔ ((head : Head) → ¬ Decodes (take SECTOR_BYTES (slot_in self.now i)) head) }
     {
         let from = SLOT * i;
         let slot = &self.slots[from..from + SLOT];

@@ -1,5 +1,5 @@
 // The record in force.
-ghost use Rattle.std.specs.Prelude.{◌≡◌, ◌<◌, ◌&&◌, ◌↔◌, ℕ, IfOk, length, not, slice_index_or, false};
+ghost use Rattle.std.specs.Prelude.{◌≡◌, ◌<◌, ◌&&◌, ◌↔◌, ℕ, IfOk, ◌≢◌, length, not, slice_index_or, true, false};
 ghost use Rattle.pur_base.specs.Devices.{Geometry};
 ghost use Rattle.boot_codec.specs.declared.limits.TheConstants.{DRIVE_FLAGS, RECORD_BYTES};
 ghost use Rattle.boot_region.specs.Members.{IsMember};
@@ -71,6 +71,7 @@ impl Register {
         ensures record { self.new.record ≡ self.old.record }
         ensures left { (i : ℕ) → IsMember self.new.drives i ↔ (IsMember self.old.drives i × ¬ (IsMember lost.now i)) }
         ensures none { result ≡ false → self.new ≡ self.old }
+        ensures some { result ≡ true → self.new.drives ≢ self.old.drives }
         ensures kept { (shelf : Geometry) → IsRegisterOf shelf self.old → IsRegisterOf shelf self.new }
     {
         let left = left_of(&self.drives, lost);

@@ -1,7 +1,6 @@
-ghost use Rattle.std.specs.Prelude.{◌≡◌, ◌≢◌, ◌↔◌, ◌<◌, ◌≤◌, ◌-◌, false, length, IsTrue, IfOk, All, AllPairs, Contains};
+ghost use Rattle.std.specs.Prelude.{◌≡◌, ◌≢◌, ◌↔◌, ◌<◌, ◌≤◌, ◌-◌, false, length, IsTrue, All, AllPairs, Contains};
 ghost use Rattle.std.specs.List.Sorted.{IsPermutation};
 
-use pur_base::NoMemory;
 use std::alloc::Global;
 
 /// At most that many marks are made for each number: a byte each, they take no more memory than the numbers.
@@ -54,20 +53,22 @@ fn are_strictly_rising(numbers: &[u64]) -> bool
 }
 
 /// Whether no number stands there twice. It may put them in another order.
-/// Numbers that lie densely, as those of an array's facts do, are marked, in time linear in their count. Others are sorted.
-pub fn are_distinct(alloc: Global, numbers: &mut [u64]) -> Result<bool, NoMemory>
+/// Numbers that lie densely, as those of an array's facts do, are marked, in time linear in their count.
+/// Others are sorted, and so are those for whose marks there is no memory.
+pub fn are_distinct(alloc: Global, numbers: &mut [u64]) -> bool
     ensures permutation { IsPermutation numbers.old numbers.new }
-    ensures distinct { IfOk result (λ b. IsTrue b ↔ AllPairs (λ m n. m ≢ n) numbers.old) }
+    ensures distinct { IsTrue result ↔ AllPairs (λ m n. m ≢ n) numbers.old }
 {
     if numbers.is_empty() {
-        return Ok(true);
+        return true;
     }
     let (low, high) = lowest_and_highest(numbers);
     let most = numbers.len().saturating_mul(MARKS_FOR_EACH);
     if high - low < most as u64 {
-        let mut marks = vec![in alloc; false; (high - low) as usize + 1]?;
-        return Ok(are_marked_once(numbers, low, &mut marks));
+        if let Ok(mut marks) = vec![in alloc; false; (high - low) as usize + 1] {
+            return are_marked_once(numbers, low, &mut marks);
+        }
     }
     numbers.sort_unstable();
-    Ok(are_strictly_rising(numbers))
+    are_strictly_rising(numbers)
 }

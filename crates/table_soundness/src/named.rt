@@ -46,5 +46,5 @@ pub fn are_named_apart(alloc: Global, named: &[PatchSegment]) -> Result<bool, No
     ensures { IfOk result (λ b. IsTrue b ↔ AllPairs (λ s t. s.id ≢ t.id) named.now) }
 {
     let mut ids = ids_of(alloc, named)?;
-    are_distinct(alloc, &mut ids)
+    Ok(are_distinct(alloc, &mut ids))
 }

@@ -68,6 +68,6 @@ pub fn are_numbers_sound<F: Fact + Drop>(
     ensures numbers { OnOk result (IsPermutation (numbers.old.items ++ map F.number (facts_of patches.now)) numbers.new.items) }
 {
     push_all_numbers(numbers, patches)?;
-    let distinct = are_distinct(alloc, numbers)?;
+    let distinct = are_distinct(alloc, numbers);
     Ok(distinct && are_all_below(patches, next) && are_rising(patches))
 }

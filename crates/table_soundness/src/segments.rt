@@ -45,7 +45,7 @@ fn are_units_apart(
     let mut codes = Vec::new(alloc);
     push_named(&mut codes, named)?;
     push_visible(&mut codes, shown)?;
-    are_distinct(alloc, &mut codes)
+    Ok(are_distinct(alloc, &mut codes))
 }
 
 /// Whether the segments pass, as lists of them say it.

@@ -62,14 +62,13 @@ fn the_first_number_that_fails_is_named(rt: HostRuntime) -> Result<(), NoMemory>
 }
 
 #[test]
-fn numbers_are_told_apart_near_and_far(rt: HostRuntime) -> Result<(), NoMemory> {
-    assert_eq!(rt; are_distinct(rt.alloc(), &mut [])?, true);
-    assert_eq!(rt; are_distinct(rt.alloc(), &mut [7, 5, 6])?, true);
-    assert_eq!(rt; are_distinct(rt.alloc(), &mut [7, 5, 7])?, false);
-    assert_eq!(rt; are_distinct(rt.alloc(), &mut [u64::MAX, 0, 6])?, true);
+fn numbers_are_told_apart_near_and_far(rt: HostRuntime) {
+    assert_eq!(rt; are_distinct(rt.alloc(), &mut []), true);
+    assert_eq!(rt; are_distinct(rt.alloc(), &mut [7, 5, 6]), true);
+    assert_eq!(rt; are_distinct(rt.alloc(), &mut [7, 5, 7]), false);
+    assert_eq!(rt; are_distinct(rt.alloc(), &mut [u64::MAX, 0, 6]), true);
     assert_eq!(rt;
-        are_distinct(rt.alloc(), &mut [u64::MAX, 0, u64::MAX])?,
+        are_distinct(rt.alloc(), &mut [u64::MAX, 0, u64::MAX]),
         false
     );
-    Ok(())
 }

@@ -1,3 +1,6 @@
+ghost use Rattle.std.specs.Prelude.{◌≡◌, replicate, IfOk};
+ghost use Rattle.target_io.specs.declared.room.TheConstants.{RUN_BYTES};
+
 use parity72::{SHARD_BYTES, SHARDS};
 use pur_base::{NoMemory, REQUEST_SECTORS, SECTOR_BYTES};
 use segment_io::StripeBuffer;
@@ -20,8 +23,10 @@ pub struct ReadRoom {
 }
 
 impl ReadRoom {
-    /// Room for the sectors of one request.
-    pub fn new(alloc: Global) -> Result<ReadRoom, NoMemory> {
+    /// Room for the sectors of one request. `NoMemory` comes only where there is no memory for it.
+    pub fn new(alloc: Global) -> Result<ReadRoom, NoMemory>
+        ensures { IfOk result (λ room. room.run.value.bytes ≡ replicate RUN_BYTES 0) }
+    {
         let run = Box::new(
             alloc,
             RunRoom {

@@ -1,13 +1,11 @@
 use Rattle.std.proofs.Common.{◌≢◌}
 use Rattle.boot_codec.specs.declared.patch.PatchSegment.{PatchSegment}
-use Rattle.pyramid.proofs.SpanLemmas.{for_ok}
 use Rattle.table_soundness.proofs.PairLemmas.{pairs_map, pairs_unmap}
 use Rattle.table_soundness.proofs.named.are_named_apart.Goals as goal
 
 pub returns : goal.returns
 returns c =
-    let distinct = rw (c.deref_mut.ensures.value, c.in_ok-ids.ensures) at c.are_distinct.ensures.distinct in
-    for_ok c.are_distinct.result _ _ distinct (λ b d. (
+    let d = rw (c.deref_mut.ensures.value, c.in_ok-ids.ensures) at c.are_distinct.ensures.distinct in (
       λ yes. pairs_unmap (λ m n. m ≢ n) (λ (s : PatchSegment). s.id) c.args.named.now (d.0 yes),
       λ h. d.1 (pairs_map (λ m n. m ≢ n) (λ (s : PatchSegment). s.id) c.args.named.now h),
-    ))
+    )

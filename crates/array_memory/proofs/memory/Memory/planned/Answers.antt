@@ -37,7 +37,7 @@ returns-clause-plan c =
     let made = c.in_ok-made.ensures in
     made_for (eliding_by k.memory e) (plan c) c.args.units.now (elided_sound k e r.sound r.eliding few) r.stored (layered_without k.memory e c.layers.ensures) (elisions_rise k e r.sound r.eliding few c.layers.ensures)
     (placing_then k.memory e c.args.placing r.placing) r.wanted r.places r.left
-    made.segments made.objects made.mediums made.addresses made.segment_facts made.elisions
+    made.segments made.patches.objects made.patches.mediums made.patches.addresses made.patches.segments made.patches.elisions
     (c.next_past.ensures ∙ ap (λ n. next_past (record k.memory.next { sequence = k.memory.next.sequence + n }) (length c.args.units.now)) (facts_long c))
 
 pub returns-clause-units : goal.returns-clause-units

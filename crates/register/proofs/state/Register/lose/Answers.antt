@@ -1,6 +1,6 @@
 use Rattle.std.proofs.Common.{rules, ◌≡◌, ◌↔◌, List, Bool, length, subst}
 use Rattle.boot_region.specs.Members.{IsMember}
-use Rattle.register.proofs.FlagLemmas.{same_flags}
+use Rattle.register.proofs.FlagLemmas.{other_flags, same_flags}
 use Rattle.register.proofs.Left.{in_left}
 use Rattle.register.proofs.state.Register.lose.Goals as goal
 
@@ -20,3 +20,6 @@ returns-clause-left c i =
 
 pub returns-clause-kept : goal.returns-clause-kept
 returns-clause-kept c shelf is = record { lawful = is.lawful; named = λ i m. is.named i ((returns-clause-left c i).0 m).0 }
+
+pub returns-clause-some : goal.returns-clause-some
+returns-clause-some c is same = other_flags c.left_of-left.result c.args.self.now.drives c.if-eq.ensures same
