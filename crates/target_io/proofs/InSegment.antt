@@ -16,7 +16,7 @@ use Rattle.segment_io.specs.Places.{ArePlaces, place_of}
 use Rattle.segment_io.specs.Reads.{AreLost, ShowsPresent, is_missing_in}
 use Rattle.memory_spec.specs.Memory.{Contents, PlaceReads, TargetReads}
 use Rattle.checkpoint_spec.specs.Contents.{ContentsStand}
-use Rattle.target_io.specs.Reading.{AreReadable, ShowsDrives, LosesThree}
+use Rattle.target_io.specs.Reading.{AreReadable, ShowsDrives, AreDrivesLost}
 use Rattle.target_io.specs.Targets.{AreSectorsOf, target_behind}
 use Rattle.target_io.proofs.Reading.{lost_places}
 
@@ -45,8 +45,8 @@ run_read a fs missing contents view id index count which places out readable the
     read view j (contents id (index + j)) low (λ shard within present. shows (place_of places shard).slot ((places_are a fs id places readable given).each shard within).slot present)
     (sector_stands view fs contents id index j which places stand there (omega (arith, low, placed)) given)
 
--- and where that fails, three drives are lost
-pub run_lost : (a b : Shelved) (fs : Facts) (missing drives : List Bool) (id : ℕ) (places : List Place) → AreReadable a fs → HasPlaces fs id places → AreLost a b places (is_missing_in missing places) drives → LosesThree a b missing
+-- and where that fails, drives are lost
+pub run_lost : (a b : Shelved) (fs : Facts) (missing drives : List Bool) (id : ℕ) (places : List Place) → AreReadable a fs → HasPlaces fs id places → AreLost a b places (is_missing_in missing places) drives → AreDrivesLost a b missing drives
 run_lost a b fs missing drives id places readable given lost = lost_places a b places missing drives (places_are a fs id places readable given) lost
 
 -- ---- the targets of such sectors

@@ -1,5 +1,5 @@
 -- One read after another.
-use Rattle.std.proofs.Common.{◌≢◌, inl, inr, ⊎_elim, ℕ, Bool, List, refl, sym, ◌∙◌, ap, arith}
+use Rattle.std.proofs.Common.{◌≡◌, ◌≢◌, inl, inr, ⊎_elim, ℕ, Bool, List, true, refl, sym, ◌∙◌, ap, subst, arith}
 use Rattle.std.specs.Prelude.{Some}
 use Rattle.pur_base.specs.declared.place.Place.{Place}
 use Rattle.pur_base.specs.Devices.{View, drive, nvram}
@@ -8,13 +8,13 @@ use Rattle.world.specs.Shelf.{Shelved, IsShelf, Continues, IsSame}
 use Rattle.world.specs.Writes.{WritesOnly}
 use Rattle.world.proofs.Moments.{continues_refl, continues_trans}
 use Rattle.world.proofs.Writes.{writes_then, nothing_written}
-use Rattle.segment_io.specs.Lost.{NoByte}
+use Rattle.segment_io.specs.Lost.{is_in, NoByte}
 use Rattle.segment_io.specs.Places.{ArePlaces, OthersStayOf, place_of}
 use Rattle.segment_io.specs.Reads.{AreLost, is_missing_in}
 use Rattle.segment_io.proofs.Gathers.{same_then}
 use Rattle.segment_io.proofs.Losing.{rises_then}
 use Rattle.segment_io.proofs.Places.{still_places}
-use Rattle.target_io.specs.Reading.{AreReadable, ShowsDrives, ReadsOnly, IsLost, LosesThree}
+use Rattle.target_io.specs.Reading.{AreReadable, ShowsDrives, ReadsOnly, IsLost, AreDrivesLost}
 
 pub reads_none : (a : Shelved) → IsShelf a → ReadsOnly a a
 reads_none a is = record {
@@ -56,34 +56,44 @@ still_shows {a} {b} missing view h reads shows slot low present = shows slot (om
 -- ---- what is lost
 
 -- what is lost in the second of two calls is lost in both
-pub lost_since : (a b c : Shelved) (missing : List Bool) → Continues a b → LosesThree b c missing → LosesThree a c missing
-lost_since a b c missing on lost = record {
-  first = lost.first;
-  second = lost.second;
-  third = lost.third;
-  in_order = (lost.in_order.0, lost.in_order.1, omega (arith, lost.in_order.2, on.drives));
-  are = (since lost.first lost.are.0, since lost.second lost.are.1, since lost.third lost.are.2);
-}
+pub lost_since : (a b c : Shelved) (missing drives : List Bool) → Continues a b → AreDrivesLost b c missing drives → AreDrivesLost a c missing drives
+lost_since a b c missing drives on lost =
+    let t = lost.three in
+    record {
+      three = record {
+        first = t.first;
+        second = t.second;
+        third = t.third;
+        in_order = (t.in_order.0, t.in_order.1, omega (arith, t.in_order.2, on.drives));
+        are = (since t.first t.are.0, since t.second t.are.1, since t.third t.are.2);
+      };
+      named = lost.named;
+      each = λ slot is. since slot (lost.each slot is);
+    }
   where
     since : (slot : ℕ) → IsLost b c missing slot → IsLost a c missing slot
     since slot is = ⊎_elim (λ was. inl was) (λ rose. inr (rises_then (a.disk (drive slot)).faults (b.disk (drive slot)).faults (c.disk (drive slot)).faults (on.faults (drive slot)) rose)) is
 
--- three drives of a segment
-pub lost_places : (a b : Shelved) (places : List Place) (missing drives : List Bool) → ArePlaces a places → AreLost a b places (is_missing_in missing places) drives → LosesThree a b missing
+-- drives of a segment
+pub lost_places : (a b : Shelved) (places : List Place) (missing drives : List Bool) → ArePlaces a places → AreLost a b places (is_missing_in missing places) drives → AreDrivesLost a b missing drives
 lost_places a b places missing drives are lost =
     let three = lost.three in
     record {
-      first = (place_of places three.first).slot;
-      second = (place_of places three.second).slot;
-      third = (place_of places three.third).slot;
-      in_order = (
-        are.ascending three.first three.second three.in_order.0 (omega (arith, three.in_order)),
-        are.ascending three.second three.third three.in_order.1 three.in_order.2,
-        (are.each three.third three.in_order.2).slot,
-      );
-      are = (
-        lost.cause three.first (omega (arith, three.in_order)) three.are.0,
-        lost.cause three.second (omega (arith, three.in_order)) three.are.1,
-        lost.cause three.third three.in_order.2 three.are.2,
-      );
+      three = record {
+        first = (place_of places three.first).slot;
+        second = (place_of places three.second).slot;
+        third = (place_of places three.third).slot;
+        in_order = (
+          are.ascending three.first three.second three.in_order.0 (omega (arith, three.in_order)),
+          are.ascending three.second three.third three.in_order.1 three.in_order.2,
+          (are.each three.third three.in_order.2).slot,
+        );
+        are = (
+          lost.cause three.first (omega (arith, three.in_order)) three.are.0,
+          lost.cause three.second (omega (arith, three.in_order)) three.are.1,
+          lost.cause three.third three.in_order.2 three.are.2,
+        );
+      };
+      named = three.are;
+      each = λ slot is. let at = lost.no_other slot is in subst (IsLost a b missing) (sym at.2) (lost.cause at.0 at.1 (subst (λ (s : ℕ). is_in drives s ≡ true) at.2 is));
     }

@@ -39,3 +39,9 @@ pub record LosesThree (old new : Shelved) (missing : List Bool) : Type 0 where
   pub third : ℕ
   pub in_order : (first < second) × (second < third) × (third < old.drives)
   pub are : IsLost old new missing first × IsLost old new missing second × IsLost old new missing third
+
+-- these drives are lost, three of them or more
+pub record AreDrivesLost (old new : Shelved) (missing drives : List Bool) : Type 0 where
+  pub three : LosesThree old new missing
+  pub named : (is_in drives three.first ≡ true) × (is_in drives three.second ≡ true) × (is_in drives three.third ≡ true)
+  pub each : (slot : ℕ) → is_in drives slot ≡ true → IsLost old new missing slot

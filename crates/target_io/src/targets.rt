@@ -1,12 +1,12 @@
 // The sectors of targets are read.
-ghost use Rattle.std.specs.Prelude.{◌≡◌, ◌<◌, ◌≤◌, All, length, IfOk, OnErr, OnOk};
+ghost use Rattle.std.specs.Prelude.{◌≡◌, ◌<◌, ◌≤◌, All, length, IfOk, IfErr, OnOk};
 ghost use Rattle.pur_base.specs.declared.limits.TheConstants.{REQUEST_SECTORS};
 ghost use Rattle.pur_base.specs.Devices.{View};
 ghost use Rattle.memory_spec.specs.Memory.{Contents};
 ghost use Rattle.memory_spec.specs.Tables.{facts};
 ghost use Rattle.checkpoint_spec.specs.Contents.{ContentsStand};
 ghost use Rattle.volume_ops.specs.Targets.{Stands};
-ghost use Rattle.target_io.specs.Reading.{AreReadable, ShowsDrives, ReadsOnly, LosesThree};
+ghost use Rattle.target_io.specs.Reading.{AreReadable, ShowsDrives, ReadsOnly, AreDrivesLost};
 ghost use Rattle.target_io.specs.Targets.{AreSectorsOf};
 
 use crate::following::run_length;
@@ -36,7 +36,7 @@ fn read_next<S: Shelf>(
     ensures some { IfOk result (λ count. (1 ≤ count) × (count ≤ length targets.now)) }
     ensures sectors { (S.shelf shelf.old).honest → IfOk result (λ count. (contents : Contents) (view : View) → ShowsDrives (S.shelf shelf.old) missing.now view → ContentsStand contents view (facts memory.now.memory.tables)
         → AreSectorsOf contents memory.now.memory.staged targets.now count out.new) }
-    ensures lost { OnErr result (LosesThree (S.shelf shelf.old) (S.shelf shelf.new) missing.now) }
+    ensures lost { IfErr result (λ lost. AreDrivesLost (S.shelf shelf.old) (S.shelf shelf.new) missing.now lost.drives) }
 {
     let first = &mut out[0];
     let Some(at) = fetch(memory, targets[0], first) else {
@@ -48,7 +48,7 @@ fn read_next<S: Shelf>(
     Ok(count)
 }
 
-/// Reads the sectors of all targets.
+/// Reads the sectors of all targets. `Lost` names drives that are each missing or failed in this call, three at least.
 pub fn read_targets<S: Shelf>(
     memory: &Memory,
     targets: &[Target],
@@ -65,7 +65,7 @@ pub fn read_targets<S: Shelf>(
     ensures rest { S.shelf_rest shelf.old shelf.new }
     ensures sectors { (S.shelf shelf.old).honest → OnOk result ((contents : Contents) (view : View) → ShowsDrives (S.shelf shelf.old) missing.now view → ContentsStand contents view (facts memory.now.memory.tables)
         → AreSectorsOf contents memory.now.memory.staged targets.now (length targets.now) out.new) }
-    ensures lost { OnErr result (LosesThree (S.shelf shelf.old) (S.shelf shelf.new) missing.now) }
+    ensures lost { IfErr result (λ lost. AreDrivesLost (S.shelf shelf.old) (S.shelf shelf.new) missing.now lost.drives) }
 {
     let mut done = 0;
     while done < targets.len() {
