@@ -6,7 +6,8 @@ use Rattle.pur_base.specs.declared.device.Device.TheVariants.{Drive, Nv}
 use Rattle.world.specs.declared.streams.Failed.{Failed}
 use Rattle.world.specs.Shelf.{Disk, WriteCounts}
 use Rattle.world.specs.Writes.{OneRange}
-use Rattle.nvram_log.specs.Members.{IsMember, OnRange, Outcome}
+use Rattle.world.specs.Ran.{Only}
+use Rattle.nvram_log.specs.Members.{IsMember, IsOnMember, OnRange, Outcome}
 
 number : Device → ℕ
 number (Drive d) = d.0
@@ -18,6 +19,9 @@ nvrams_apart a b ne e = ne (λ i. number (e i))
 
 pub range_on_members : (members : List Bool) (n at size : ℕ) → IsMember members n → (d : Device) (i : ℕ) → OneRange (nvram n) at size d i → OnRange members at size d i
 range_on_members members n at size member d i w = subst (λ (x : Device). OnRange members at size x i) (sym w.0) (member, w.1)
+
+pub only_member : (members : List Bool) (n : ℕ) → IsMember members n → (d : Device) → Only (nvram n) d → IsOnMember members d
+only_member members n member d is = subst (IsOnMember members) (sym is) member
 
 pub outcome_of : (answer : Result (Unit {0}) Failed) (honest was holds : Type 0) (old new : Disk) → was → (honest → OnOk answer holds) → (honest → OnOk answer (new.dirty ≡ [])) → WriteCounts answer old new
     → Outcome honest was (is_ok answer ≡ true) holds old new

@@ -14,7 +14,7 @@ use Rattle.world.specs.Counts.{Rises}
 use Rattle.world.specs.Shelf.{Shelved, Stop, Disk, IsShelf, IsIn, IsInSome, Written}
 use Rattle.world.specs.Writes.{WritesOnly, LeavesBut, MayLeaveBut, ChangesOnly}
 use Rattle.nvram_log.specs.declared.record.Record.{Record}
-use Rattle.nvram_log.specs.Members.{IsMember, IsFewer, OnMembers, OnRange, Outcome}
+use Rattle.nvram_log.specs.Members.{IsMember, IsOnMember, IsFewer, OnMembers, OnRange, Outcome}
 use Rattle.nvram_log.specs.Records.{commands_of, command_of, slot_place, OnSlotsFrom, StandFrom, SpellFrom}
 use Rattle.nvram_log.specs.Slots.{IsBetween, IsLog}
 use Rattle.nvram_log.specs.Held.{HoldsOn, LeavesBetween}
@@ -131,6 +131,10 @@ module _ (a m : Shelved) (members left : List Bool) (slots : List ℕ) (flushed 
 pub slots_of_members : (members : List Bool) (first : ℕ) (d : Device) (i : ℕ) → OnSlotsFrom members first d i → OnMembers members d i
 slots_of_members members first (Drive d) i w = w
 slots_of_members members first (Nv v) i w = w.0
+
+pub fewer_members : (members left : List Bool) → IsFewer members left → (d : Device) → IsOnMember left d → IsOnMember members d
+fewer_members members left fewer (Drive d) is = is
+fewer_members members left fewer (Nv v) is = fewer v.0 is
 
 pub range_of_members : (members left : List Bool) (at n : ℕ) → IsFewer members left → (d : Device) (i : ℕ) → OnRange left at n d i → OnMembers members d i
 range_of_members members left at n fewer (Drive d) i w = w

@@ -26,6 +26,16 @@ IsFewer was now = (n : ℕ) → IsMember now n → IsMember was n
 abbrev pub DroppedFailed : Shelved → Shelved → List Bool → List Bool → Type 0
 DroppedFailed old new was now = (n : ℕ) → n < 2 → IsMember was n → IsMember now n ⊎ Rises (old.disk (nvram n)).write_faults (new.disk (nvram n)).write_faults
 
+-- it is a member device
+abbrev pub IsOnMember : List Bool → Device → Type 0
+IsOnMember members (Drive d) = ⊥
+IsOnMember members (Nv n) = IsMember members n.0
+
+-- it is no drive
+abbrev pub IsNvram : Device → Type 0
+IsNvram (Drive d) = ⊥
+IsNvram (Nv n) = Unit {0}
+
 -- bytes of the member devices
 abbrev pub OnMembers : List Bool → Device → ℕ → Type 0
 OnMembers members (Drive d) i = ⊥

@@ -1,12 +1,11 @@
 // Records are appended.
 ghost use Rattle.std.specs.Prelude.{◌≡◌, ℕ, ◌+◌, ◌*◌, ◌^◌, ◌<◌, ◌≤◌, ◌++◌, List, length, OnOk, OnErr};
 ghost use Rattle.pur_base.specs.Commands.{Command};
-ghost use Rattle.pur_base.specs.Devices.{drive};
 ghost use Rattle.pur_base.specs.declared.limits.TheConstants.{NVRAM_DEVICES};
 ghost use Rattle.log_codec.specs.declared.limits.TheConstants.{LOG_SLOTS, SLOT_BYTES};
-ghost use Rattle.world.specs.Shelf.{Continues, LeavesOnly};
-ghost use Rattle.world.specs.Writes.{WritesOnly};
-ghost use Rattle.nvram_log.specs.Members.{IsSome, IsFewer, DroppedFailed, OnMembers};
+ghost use Rattle.world.specs.Shelf.{LeavesOnly};
+ghost use Rattle.world.specs.Ran.{Ran};
+ghost use Rattle.nvram_log.specs.Members.{IsSome, IsFewer, DroppedFailed, OnMembers, IsOnMember};
 ghost use Rattle.nvram_log.specs.Records.{AreRecords, SpellFrom, commands_of};
 ghost use Rattle.nvram_log.specs.Read.{DroppedCounted};
 ghost use Rattle.nvram_log.specs.Held.{HoldsOn, LeavesBetween};
@@ -31,10 +30,7 @@ fn store<S: Shelf>(
     requires slots { length slots.now ≡ SLOT_BYTES * LOG_SLOTS }
     requires room { first + length records.now ≤ LOG_SLOTS }
     requires lawful { AreRecords records.now }
-    ensures continues { Continues (S.shelf shelf.old) (S.shelf shelf.new) }
-    ensures writes { (S.shelf shelf.old).honest → WritesOnly (OnMembers members.old) (S.shelf shelf.old) (S.shelf shelf.new) }
-    ensures rest { S.shelf_rest shelf.old shelf.new }
-    ensures drives { (i : ℕ) → (S.shelf shelf.new).disk (drive i) ≡ (S.shelf shelf.old).disk (drive i) }
+    ensures ran { Ran S.shelf S.shelf_rest (IsOnMember members.old) (OnMembers members.old) shelf.old shelf.new }
     ensures fewer { IsFewer members.old members.new }
     ensures dropped { DroppedFailed (S.shelf shelf.old) (S.shelf shelf.new) members.old members.new }
     ensures counted { DroppedCounted (S.shelf shelf.old) (S.shelf shelf.new) members.old members.new }
@@ -56,10 +52,7 @@ impl NvLog {
         requires room { self.old.count + length records.now ≤ LOG_SLOTS }
         requires numbers { self.old.flushed + self.old.count + length records.now < 2 ^ 64 }
         requires lawful { AreRecords records.now }
-        ensures continues { Continues (S.shelf shelf.old) (S.shelf shelf.new) }
-        ensures writes { (S.shelf shelf.old).honest → WritesOnly (OnMembers self.old.members) (S.shelf shelf.old) (S.shelf shelf.new) }
-        ensures rest { S.shelf_rest shelf.old shelf.new }
-        ensures drives { (i : ℕ) → (S.shelf shelf.new).disk (drive i) ≡ (S.shelf shelf.old).disk (drive i) }
+        ensures ran { Ran S.shelf S.shelf_rest (IsOnMember self.old.members) (OnMembers self.old.members) shelf.old shelf.new }
         ensures fewer { IsFewer self.old.members self.new.members }
         ensures dropped { DroppedFailed (S.shelf shelf.old) (S.shelf shelf.new) self.old.members self.new.members }
         ensures counted { DroppedCounted (S.shelf shelf.old) (S.shelf shelf.new) self.old.members self.new.members }

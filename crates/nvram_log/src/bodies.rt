@@ -1,11 +1,12 @@
 // The slots of new records, on each member.
 ghost use Rattle.std.specs.Prelude.{◌≡◌, ℕ, ◌+◌, ◌*◌, ◌<◌, ◌≤◌, [], length, OnOk, slice_index};
 ghost use Rattle.pur_base.specs.declared.limits.TheConstants.{SECTOR_BYTES, REQUEST_SECTORS, NVRAM_DEVICES};
-ghost use Rattle.pur_base.specs.Devices.{drive, nvram};
+ghost use Rattle.pur_base.specs.Devices.{nvram};
 ghost use Rattle.log_codec.specs.declared.limits.TheConstants.{LOG_SLOTS, SLOT_BYTES};
-ghost use Rattle.world.specs.Shelf.{Continues, OthersStay, WriteCounts};
-ghost use Rattle.world.specs.Writes.{OneRange, WritesOnly};
-ghost use Rattle.nvram_log.specs.Members.{IsMember, Outcome};
+ghost use Rattle.world.specs.Shelf.{WriteCounts};
+ghost use Rattle.world.specs.Ran.{Only, Ran};
+ghost use Rattle.world.specs.Writes.{OneRange};
+ghost use Rattle.nvram_log.specs.Members.{IsMember, Outcome, IsOnMember};
 ghost use Rattle.nvram_log.specs.Records.{slot_place, FromSlot, OnSlotsFrom, StandFrom, AreRecords};
 
 use crate::Record;
@@ -28,13 +29,10 @@ fn write_body<S: Shelf>(
     requires slots { length slots.now ≡ SLOT_BYTES * LOG_SLOTS }
     requires slot { slot < LOG_SLOTS }
     requires sectors { sectors ≤ REQUEST_SECTORS }
-    ensures continues { Continues (S.shelf shelf.old) (S.shelf shelf.new) }
-    ensures writes { (S.shelf shelf.old).honest → WritesOnly (OneRange (nvram device.0) (slot_place slot) (SECTOR_BYTES * (1 + sectors))) (S.shelf shelf.old) (S.shelf shelf.new) }
+    ensures ran { Ran S.shelf S.shelf_rest (Only (nvram device.0)) (OneRange (nvram device.0) (slot_place slot) (SECTOR_BYTES * (1 + sectors))) shelf.old shelf.new }
     ensures stands { (S.shelf shelf.old).honest → OnOk result ((o : ℕ) → o < SECTOR_BYTES * (1 + sectors)
         → slice_index ((S.shelf shelf.new).disk (nvram device.0)).bytes (slot_place slot + o) ≡ slice_index slots.now (SLOT_BYTES * slot + o)) }
-    ensures others { OthersStay (nvram device.0) (S.shelf shelf.old) (S.shelf shelf.new) }
     ensures counts { WriteCounts result ((S.shelf shelf.old).disk (nvram device.0)) ((S.shelf shelf.new).disk (nvram device.0)) }
-    ensures rest { S.shelf_rest shelf.old shelf.new }
 {
     let from = SLOT * slot;
     let body = &slots[from..from + SECTOR_BYTES * (1 + sectors)];
@@ -53,13 +51,10 @@ fn write_bodies_on<S: Shelf>(
     requires slots { length slots.now ≡ SLOT_BYTES * LOG_SLOTS }
     requires room { first + length records.now ≤ LOG_SLOTS }
     requires records { AreRecords records.now }
-    ensures continues { Continues (S.shelf shelf.old) (S.shelf shelf.new) }
-    ensures writes { (S.shelf shelf.old).honest → WritesOnly (FromSlot (nvram device.0) first) (S.shelf shelf.old) (S.shelf shelf.new) }
+    ensures ran { Ran S.shelf S.shelf_rest (Only (nvram device.0)) (FromSlot (nvram device.0) first) shelf.old shelf.new }
     ensures stands { (S.shelf shelf.old).honest → OnOk result (StandFrom ((S.shelf shelf.new).disk (nvram device.0)).bytes slots.now first records.now) }
     ensures clean { (S.shelf shelf.old).honest → OnOk result (((S.shelf shelf.new).disk (nvram device.0)).dirty ≡ []) }
-    ensures others { OthersStay (nvram device.0) (S.shelf shelf.old) (S.shelf shelf.new) }
     ensures counts { WriteCounts result ((S.shelf shelf.old).disk (nvram device.0)) ((S.shelf shelf.new).disk (nvram device.0)) }
-    ensures rest { S.shelf_rest shelf.old shelf.new }
 {
     for (j, record) in records.iter().enumerate() {
         write_body(shelf, device, slots, first + j, record.sectors.len())?;
@@ -79,13 +74,10 @@ pub fn write_bodies<S: Shelf>(
     requires slots { length slots.now ≡ SLOT_BYTES * LOG_SLOTS }
     requires room { first + length records.now ≤ LOG_SLOTS }
     requires records { AreRecords records.now }
-    ensures continues { Continues (S.shelf shelf.old) (S.shelf shelf.new) }
     ensures outcome { (n : ℕ) → n < NVRAM_DEVICES
         → Outcome (S.shelf shelf.old).honest (IsMember members.old n) (IsMember members.new n) (StandFrom ((S.shelf shelf.new).disk (nvram n)).bytes slots.now first records.now)
         ((S.shelf shelf.old).disk (nvram n)) ((S.shelf shelf.new).disk (nvram n)) }
-    ensures writes { (S.shelf shelf.old).honest → WritesOnly (OnSlotsFrom members.old first) (S.shelf shelf.old) (S.shelf shelf.new) }
-    ensures rest { S.shelf_rest shelf.old shelf.new }
-    ensures drives { (i : ℕ) → (S.shelf shelf.new).disk (drive i) ≡ (S.shelf shelf.old).disk (drive i) }
+    ensures ran { Ran S.shelf S.shelf_rest (IsOnMember members.old) (OnSlotsFrom members.old first) shelf.old shelf.new }
 {
     for device in 0..members.len() {
         if members[device] {

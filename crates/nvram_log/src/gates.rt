@@ -1,11 +1,11 @@
 // The gates of slots, on each member.
 ghost use Rattle.std.specs.Prelude.{◌≡◌, ℕ, ◌+◌, ◌<◌, ◌≤◌, length, replicate};
 ghost use Rattle.pur_base.specs.declared.limits.TheConstants.{NVRAM_DEVICES};
-ghost use Rattle.pur_base.specs.Devices.{drive, nvram};
+ghost use Rattle.pur_base.specs.Devices.{nvram};
 ghost use Rattle.log_codec.specs.declared.limits.TheConstants.{LOG_SLOTS};
-ghost use Rattle.world.specs.Shelf.{Continues, Written};
-ghost use Rattle.world.specs.Writes.{WritesOnly};
-ghost use Rattle.nvram_log.specs.Members.{IsMember, OnRange, Outcome};
+ghost use Rattle.world.specs.Shelf.{Written};
+ghost use Rattle.world.specs.Ran.{Ran};
+ghost use Rattle.nvram_log.specs.Members.{IsMember, OnRange, Outcome, IsOnMember};
 
 use crate::members::write_members;
 use log_codec::LOG_SLOTS;
@@ -27,14 +27,11 @@ pub fn write_gates<S: Shelf>(
 )
     requires members { length members.old ≡ NVRAM_DEVICES }
     requires slots { first + count ≤ LOG_SLOTS }
-    ensures continues { Continues (S.shelf shelf.old) (S.shelf shelf.new) }
     ensures outcome { (n : ℕ) → n < NVRAM_DEVICES
         → Outcome (S.shelf shelf.old).honest (IsMember members.old n) (IsMember members.new n)
         (Written first (replicate count gate) ((S.shelf shelf.old).disk (nvram n)).bytes ((S.shelf shelf.new).disk (nvram n)).bytes)
         ((S.shelf shelf.old).disk (nvram n)) ((S.shelf shelf.new).disk (nvram n)) }
-    ensures writes { (S.shelf shelf.old).honest → WritesOnly (OnRange members.old first count) (S.shelf shelf.old) (S.shelf shelf.new) }
-    ensures rest { S.shelf_rest shelf.old shelf.new }
-    ensures drives { (i : ℕ) → (S.shelf shelf.new).disk (drive i) ≡ (S.shelf shelf.old).disk (drive i) }
+    ensures ran { Ran S.shelf S.shelf_rest (IsOnMember members.old) (OnRange members.old first count) shelf.old shelf.new }
 {
     let gates = [gate; LOG_SLOTS];
     write_members(shelf, members, first as u64, &gates[..count]);

@@ -1,10 +1,10 @@
 // A write on each member.
 ghost use Rattle.std.specs.Prelude.{◌≡◌, ◌↔◌, ℕ, ◌+◌, ◌<◌, ◌≤◌, length, IsTrue};
 ghost use Rattle.pur_base.specs.declared.limits.TheConstants.{NVRAM_BYTES, NVRAM_DEVICES};
-ghost use Rattle.pur_base.specs.Devices.{drive, nvram};
-ghost use Rattle.world.specs.Shelf.{Continues, Written};
-ghost use Rattle.world.specs.Writes.{WritesOnly};
-ghost use Rattle.nvram_log.specs.Members.{IsMember, IsSome, OnRange, Outcome};
+ghost use Rattle.pur_base.specs.Devices.{nvram};
+ghost use Rattle.world.specs.Shelf.{Written};
+ghost use Rattle.world.specs.Ran.{Ran};
+ghost use Rattle.nvram_log.specs.Members.{IsMember, IsSome, OnRange, Outcome, IsOnMember};
 
 use crate::log::DEVICES;
 use pur_base::{Device, NvId};
@@ -21,13 +21,10 @@ pub fn has_any(members: &[bool; DEVICES]) -> bool
 pub fn write_members<S: Shelf>(shelf: &mut S, members: &mut [bool], at: u64, from: &[u8])
     requires members { length members.old ≡ NVRAM_DEVICES }
     requires fits { at + length from.now ≤ NVRAM_BYTES }
-    ensures continues { Continues (S.shelf shelf.old) (S.shelf shelf.new) }
     ensures outcome { (n : ℕ) → n < NVRAM_DEVICES
         → Outcome (S.shelf shelf.old).honest (IsMember members.old n) (IsMember members.new n) (Written at from.now ((S.shelf shelf.old).disk (nvram n)).bytes ((S.shelf shelf.new).disk (nvram n)).bytes)
         ((S.shelf shelf.old).disk (nvram n)) ((S.shelf shelf.new).disk (nvram n)) }
-    ensures writes { (S.shelf shelf.old).honest → WritesOnly (OnRange members.old at (length from.now)) (S.shelf shelf.old) (S.shelf shelf.new) }
-    ensures rest { S.shelf_rest shelf.old shelf.new }
-    ensures drives { (i : ℕ) → (S.shelf shelf.new).disk (drive i) ≡ (S.shelf shelf.old).disk (drive i) }
+    ensures ran { Ran S.shelf S.shelf_rest (IsOnMember members.old) (OnRange members.old at (length from.now)) shelf.old shelf.new }
 {
     for device in 0..members.len() {
         if members[device] {

@@ -5,8 +5,9 @@ ghost use Rattle.pur_base.specs.Devices.{nvram};
 ghost use Rattle.pur_base.specs.declared.limits.TheConstants.{NVRAM_DEVICES};
 ghost use Rattle.log_codec.specs.declared.limits.TheConstants.{LOG_SLOTS, SLOT_BYTES};
 ghost use Rattle.log_codec.specs.Log.{slot_at};
-ghost use Rattle.world.specs.Shelf.{Continues, OthersStay, WriteCounts};
-ghost use Rattle.world.specs.Writes.{OneRange, WritesOnly};
+ghost use Rattle.world.specs.Shelf.{WriteCounts};
+ghost use Rattle.world.specs.Ran.{Only, Ran};
+ghost use Rattle.world.specs.Writes.{OneRange};
 ghost use Rattle.nvram_log.specs.Records.{slot_place};
 ghost use Rattle.nvram_log.specs.Settling.{OnGates, OnSlots, GatesAre, SlotsAre};
 
@@ -20,12 +21,9 @@ use world::{Failed, Shelf};
 fn write_gate<S: Shelf>(shelf: &mut S, device: NvId, slot: usize, gate: u8) -> Result<(), Failed>
     requires device { device.0 < NVRAM_DEVICES }
     requires slot { slot < LOG_SLOTS }
-    ensures continues { Continues (S.shelf shelf.old) (S.shelf shelf.new) }
-    ensures writes { (S.shelf shelf.old).honest → WritesOnly (OneRange (nvram device.0) slot 1) (S.shelf shelf.old) (S.shelf shelf.new) }
+    ensures ran { Ran S.shelf S.shelf_rest (Only (nvram device.0)) (OneRange (nvram device.0) slot 1) shelf.old shelf.new }
     ensures written { (S.shelf shelf.old).honest → OnOk result (slice_index ((S.shelf shelf.new).disk (nvram device.0)).bytes slot ≡ gate) }
-    ensures others { OthersStay (nvram device.0) (S.shelf shelf.old) (S.shelf shelf.new) }
     ensures counts { WriteCounts result ((S.shelf shelf.old).disk (nvram device.0)) ((S.shelf shelf.new).disk (nvram device.0)) }
-    ensures rest { S.shelf_rest shelf.old shelf.new }
 {
     shelf.write(Device::Nv(device), slot as u64, &[gate])
 }
@@ -40,12 +38,9 @@ fn write_slot<S: Shelf>(
     requires device { device.0 < NVRAM_DEVICES }
     requires slots { length slots.now ≡ SLOT_BYTES * LOG_SLOTS }
     requires slot { slot < LOG_SLOTS }
-    ensures continues { Continues (S.shelf shelf.old) (S.shelf shelf.new) }
-    ensures writes { (S.shelf shelf.old).honest → WritesOnly (OneRange (nvram device.0) (slot_place slot) SLOT_BYTES) (S.shelf shelf.old) (S.shelf shelf.new) }
+    ensures ran { Ran S.shelf S.shelf_rest (Only (nvram device.0)) (OneRange (nvram device.0) (slot_place slot) SLOT_BYTES) shelf.old shelf.new }
     ensures written { (S.shelf shelf.old).honest → OnOk result (slot_at slot ((S.shelf shelf.new).disk (nvram device.0)).bytes ≡ bytes_at (SLOT_BYTES * slot) SLOT_BYTES slots.now) }
-    ensures others { OthersStay (nvram device.0) (S.shelf shelf.old) (S.shelf shelf.new) }
     ensures counts { WriteCounts result ((S.shelf shelf.old).disk (nvram device.0)) ((S.shelf shelf.new).disk (nvram device.0)) }
-    ensures rest { S.shelf_rest shelf.old shelf.new }
 {
     let from = SLOT * slot;
     shelf.write(
@@ -63,13 +58,10 @@ pub fn write_some_gates<S: Shelf>(
     gate: u8,
 ) -> Result<(), Failed>
     requires device { device.0 < NVRAM_DEVICES }
-    ensures continues { Continues (S.shelf shelf.old) (S.shelf shelf.new) }
-    ensures writes { (S.shelf shelf.old).honest → WritesOnly (OnGates (nvram device.0) flags.now) (S.shelf shelf.old) (S.shelf shelf.new) }
+    ensures ran { Ran S.shelf S.shelf_rest (Only (nvram device.0)) (OnGates (nvram device.0) flags.now) shelf.old shelf.new }
     ensures written { (S.shelf shelf.old).honest → OnOk result (GatesAre flags.now gate ((S.shelf shelf.new).disk (nvram device.0)).bytes) }
     ensures clean { (S.shelf shelf.old).honest → OnOk result (((S.shelf shelf.new).disk (nvram device.0)).dirty ≡ []) }
-    ensures others { OthersStay (nvram device.0) (S.shelf shelf.old) (S.shelf shelf.new) }
     ensures counts { WriteCounts result ((S.shelf shelf.old).disk (nvram device.0)) ((S.shelf shelf.new).disk (nvram device.0)) }
-    ensures rest { S.shelf_rest shelf.old shelf.new }
 {
     for i in 0..LOG_SLOTS {
         if !flags[i] {
@@ -89,13 +81,10 @@ pub fn write_some_slots<S: Shelf>(
 ) -> Result<(), Failed>
     requires device { device.0 < NVRAM_DEVICES }
     requires slots { length slots.now ≡ SLOT_BYTES * LOG_SLOTS }
-    ensures continues { Continues (S.shelf shelf.old) (S.shelf shelf.new) }
-    ensures writes { (S.shelf shelf.old).honest → WritesOnly (OnSlots (nvram device.0) flags.now) (S.shelf shelf.old) (S.shelf shelf.new) }
+    ensures ran { Ran S.shelf S.shelf_rest (Only (nvram device.0)) (OnSlots (nvram device.0) flags.now) shelf.old shelf.new }
     ensures written { (S.shelf shelf.old).honest → OnOk result (SlotsAre flags.now slots.now ((S.shelf shelf.new).disk (nvram device.0)).bytes) }
     ensures clean { (S.shelf shelf.old).honest → OnOk result (((S.shelf shelf.new).disk (nvram device.0)).dirty ≡ []) }
-    ensures others { OthersStay (nvram device.0) (S.shelf shelf.old) (S.shelf shelf.new) }
     ensures counts { WriteCounts result ((S.shelf shelf.old).disk (nvram device.0)) ((S.shelf shelf.new).disk (nvram device.0)) }
-    ensures rest { S.shelf_rest shelf.old shelf.new }
 {
     for i in 0..LOG_SLOTS {
         if !flags[i] {

@@ -1,12 +1,12 @@
 // The log is read from the devices.
 ghost use Rattle.std.specs.Prelude.{◌≡◌, ◌⊎◌, ℕ, ◌*◌, ◌<◌, length, true, IfOk, IfErr, OnErr};
-ghost use Rattle.pur_base.specs.Devices.{drive, nvram};
+ghost use Rattle.pur_base.specs.Devices.{nvram};
 ghost use Rattle.pur_base.specs.declared.device.Device.{Device};
 ghost use Rattle.pur_base.specs.declared.limits.TheConstants.{NVRAM_BYTES, NVRAM_DEVICES};
 ghost use Rattle.world.specs.Counts.{Rises};
-ghost use Rattle.world.specs.Shelf.{Continues, IsSame};
-ghost use Rattle.world.specs.Writes.{WritesOnly};
-ghost use Rattle.nvram_log.specs.Members.{IsFewer, IsMember, IsSome};
+ghost use Rattle.world.specs.Shelf.{IsSame};
+ghost use Rattle.world.specs.Ran.{Ran};
+ghost use Rattle.nvram_log.specs.Members.{IsFewer, IsMember, IsSome, IsNvram};
 ghost use Rattle.log_codec.specs.declared.limits.TheConstants.{LOG_SLOTS, SLOT_BYTES};
 ghost use Rattle.nvram_log.specs.Views.{AreWhole, AreSeenIn, IsGathered, NoneShown};
 ghost use Rattle.nvram_log.specs.Read.{OnNothing, DroppedCounted};
@@ -33,11 +33,8 @@ pub enum ReadFault {
 fn read_member<S: Shelf>(shelf: &mut S, device: NvId, is_member: bool, into: &mut [u8]) -> bool
     requires device { device.0 < NVRAM_DEVICES }
     requires size { length into.old ≡ NVRAM_BYTES }
-    ensures continues { Continues (S.shelf shelf.old) (S.shelf shelf.new) }
     ensures same { (S.shelf shelf.old).honest → (d : Device) → IsSame ((S.shelf shelf.old).disk d) ((S.shelf shelf.new).disk d) }
-    ensures writes { (S.shelf shelf.old).honest → WritesOnly OnNothing (S.shelf shelf.old) (S.shelf shelf.new) }
-    ensures rest { S.shelf_rest shelf.old shelf.new }
-    ensures drives { (i : ℕ) → (S.shelf shelf.new).disk (drive i) ≡ (S.shelf shelf.old).disk (drive i) }
+    ensures ran { Ran S.shelf S.shelf_rest IsNvram OnNothing shelf.old shelf.new }
     ensures before { result ≡ true → is_member ≡ true }
     ensures dropped { is_member ≡ true → (result ≡ true) ⊎ Rises ((S.shelf shelf.old).disk (nvram device.0)).faults ((S.shelf shelf.new).disk (nvram device.0)).faults }
     ensures bytes { (S.shelf shelf.old).honest → result ≡ true → into.new ≡ ((S.shelf shelf.new).disk (nvram device.0)).bytes }
@@ -54,11 +51,8 @@ fn read_both<S: Shelf>(
 ) -> [bool; DEVICES]
     requires first { length first.old ≡ NVRAM_BYTES }
     requires second { length second.old ≡ NVRAM_BYTES }
-    ensures continues { Continues (S.shelf shelf.old) (S.shelf shelf.new) }
     ensures same { (S.shelf shelf.old).honest → (d : Device) → IsSame ((S.shelf shelf.old).disk d) ((S.shelf shelf.new).disk d) }
-    ensures writes { (S.shelf shelf.old).honest → WritesOnly OnNothing (S.shelf shelf.old) (S.shelf shelf.new) }
-    ensures rest { S.shelf_rest shelf.old shelf.new }
-    ensures drives { (i : ℕ) → (S.shelf shelf.new).disk (drive i) ≡ (S.shelf shelf.old).disk (drive i) }
+    ensures ran { Ran S.shelf S.shelf_rest IsNvram OnNothing shelf.old shelf.new }
     ensures fewer { IsFewer members result }
     ensures dropped { DroppedCounted (S.shelf shelf.old) (S.shelf shelf.new) members result }
     ensures first_read { (S.shelf shelf.old).honest → IsMember result 0 → first.new ≡ ((S.shelf shelf.new).disk (nvram 0)).bytes }
@@ -113,11 +107,8 @@ impl NvLog {
         members: [bool; DEVICES],
         flushed: u64,
     ) -> Result<NvLog, ReadFault>
-        ensures continues { Continues (S.shelf shelf.old) (S.shelf shelf.new) }
         ensures same { (S.shelf shelf.old).honest → (d : Device) → IsSame ((S.shelf shelf.old).disk d) ((S.shelf shelf.new).disk d) }
-        ensures writes { (S.shelf shelf.old).honest → WritesOnly OnNothing (S.shelf shelf.old) (S.shelf shelf.new) }
-        ensures rest { S.shelf_rest shelf.old shelf.new }
-        ensures drives { (i : ℕ) → (S.shelf shelf.new).disk (drive i) ≡ (S.shelf shelf.old).disk (drive i) }
+        ensures ran { Ran S.shelf S.shelf_rest IsNvram OnNothing shelf.old shelf.new }
         ensures flushed { IfOk result (λ log. log.flushed ≡ flushed) }
         ensures members { IfOk result (λ log. IsFewer members log.members × IsSome log.members) }
         ensures dropped { IfOk result (λ log. DroppedCounted (S.shelf shelf.old) (S.shelf shelf.new) members log.members) }

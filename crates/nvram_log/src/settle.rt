@@ -1,13 +1,13 @@
 // The log is settled on the devices.
 ghost use Rattle.std.specs.Prelude.{◌≡◌, ℕ, ◌+◌, ◌*◌, ◌<◌, ◌≤◌, List, [], length, take, true, false, not, OnOk, OnErr};
 ghost use Rattle.pur_base.specs.Commands.{Command};
-ghost use Rattle.pur_base.specs.Devices.{drive, nvram};
+ghost use Rattle.pur_base.specs.Devices.{nvram};
 ghost use Rattle.pur_base.specs.declared.limits.TheConstants.{NVRAM_DEVICES};
 ghost use Rattle.log_codec.specs.declared.limits.TheConstants.{LOG_SLOTS, SLOT_BYTES};
-ghost use Rattle.world.specs.Shelf.{Continues, LeavesOnly, MayLeave, OthersStay, WriteCounts};
-ghost use Rattle.world.specs.Writes.{WritesOnly};
+ghost use Rattle.world.specs.Shelf.{LeavesOnly, MayLeave, WriteCounts};
+ghost use Rattle.world.specs.Ran.{Only, Ran};
 ghost use Rattle.nvram_log.specs.Slots.{IsLog};
-ghost use Rattle.nvram_log.specs.Members.{IsFlagged, IsMember, IsSome, IsFewer, DroppedFailed, OnMembers};
+ghost use Rattle.nvram_log.specs.Members.{IsFlagged, IsMember, IsSome, IsFewer, DroppedFailed, OnMembers, IsOnMember};
 ghost use Rattle.nvram_log.specs.Read.{DroppedCounted};
 ghost use Rattle.nvram_log.specs.Held.{HoldsOn};
 ghost use Rattle.nvram_log.specs.Settling.{OnDevice, IsToSettle, SettlesBy, AreToSettle, SettleBy};
@@ -38,11 +38,8 @@ fn settle_on<S: Shelf>(
 ) -> Result<(), Failed>
     requires device { device.0 < NVRAM_DEVICES }
     requires slots { length slots.now ≡ SLOT_BYTES * LOG_SLOTS }
-    ensures continues { Continues (S.shelf shelf.old) (S.shelf shelf.new) }
-    ensures writes { (S.shelf shelf.old).honest → WritesOnly (OnDevice (nvram device.0)) (S.shelf shelf.old) (S.shelf shelf.new) }
-    ensures others { OthersStay (nvram device.0) (S.shelf shelf.old) (S.shelf shelf.new) }
+    ensures ran { Ran S.shelf S.shelf_rest (Only (nvram device.0)) (OnDevice (nvram device.0)) shelf.old shelf.new }
     ensures counts { WriteCounts result ((S.shelf shelf.old).disk (nvram device.0)) ((S.shelf shelf.new).disk (nvram device.0)) }
-    ensures rest { S.shelf_rest shelf.old shelf.new }
     ensures settled { (S.shelf shelf.old).honest → OnOk result ((flushed : ℕ) (commands : List Command) → length commands ≡ count
         → IsToSettle ((S.shelf shelf.old).disk (nvram device.0)).bytes flushed seen.now slots.now commands → IsLog ((S.shelf shelf.new).disk (nvram device.0)).bytes flushed commands) }
     ensures clean { (S.shelf shelf.old).honest → OnOk result (((S.shelf shelf.new).disk (nvram device.0)).dirty ≡ []) }
@@ -74,14 +71,10 @@ fn settle_each<S: Shelf>(
 )
     requires members { length members.old ≡ NVRAM_DEVICES }
     requires slots { length slots.now ≡ SLOT_BYTES * LOG_SLOTS }
-    ensures continues { Continues (S.shelf shelf.old) (S.shelf shelf.new) }
-    ensures writes { (S.shelf shelf.old).honest → WritesOnly (OnMembers members.old) (S.shelf shelf.old) (S.shelf shelf.new) }
-    ensures rest { S.shelf_rest shelf.old shelf.new }
-    ensures drives { (i : ℕ) → (S.shelf shelf.new).disk (drive i) ≡ (S.shelf shelf.old).disk (drive i) }
+    ensures ran { Ran S.shelf S.shelf_rest (IsOnMember members.old) (OnMembers members.old) shelf.old shelf.new }
     ensures fewer { IsFewer members.old members.new }
     ensures dropped { DroppedFailed (S.shelf shelf.old) (S.shelf shelf.new) members.old members.new }
     ensures counted { DroppedCounted (S.shelf shelf.old) (S.shelf shelf.new) members.old members.new }
-    ensures others { (n : ℕ) → ¬ (IsMember members.old n) → (S.shelf shelf.new).disk (nvram n) ≡ (S.shelf shelf.old).disk (nvram n) }
     ensures clean { (S.shelf shelf.old).honest → (n : ℕ) → n < 2 → IsMember members.new n → ((S.shelf shelf.new).disk (nvram n)).dirty ≡ [] }
     ensures holds { (S.shelf shelf.old).honest → (flushed : ℕ) (commands : List Command) → length commands ≡ count
         → AreToSettle (S.shelf shelf.old) members.old flushed seen.now slots.now commands → HoldsOn (S.shelf shelf.new) members.new flushed commands }
@@ -104,14 +97,10 @@ impl NvLog {
     /// Settles the log that was read, cut to its first commands: each member then holds them, and shows no other. A member that fails is dropped, and where none is left the log stays as it is in memory. It takes no memory.
     pub fn settle<S: Shelf>(&mut self, count: usize, shelf: &mut S) -> Result<(), BothLost>
         requires { count ≤ self.old.count }
-        ensures continues { Continues (S.shelf shelf.old) (S.shelf shelf.new) }
-        ensures writes { (S.shelf shelf.old).honest → WritesOnly (OnMembers self.old.members) (S.shelf shelf.old) (S.shelf shelf.new) }
-        ensures rest { S.shelf_rest shelf.old shelf.new }
-        ensures drives { (i : ℕ) → (S.shelf shelf.new).disk (drive i) ≡ (S.shelf shelf.old).disk (drive i) }
+        ensures ran { Ran S.shelf S.shelf_rest (IsOnMember self.old.members) (OnMembers self.old.members) shelf.old shelf.new }
         ensures fewer { IsFewer self.old.members self.new.members }
         ensures dropped { DroppedFailed (S.shelf shelf.old) (S.shelf shelf.new) self.old.members self.new.members }
         ensures counted { DroppedCounted (S.shelf shelf.old) (S.shelf shelf.new) self.old.members self.new.members }
-        ensures others { (n : ℕ) → ¬ (IsMember self.old.members n) → (S.shelf shelf.new).disk (nvram n) ≡ (S.shelf shelf.old).disk (nvram n) }
         ensures clean { (S.shelf shelf.old).honest → (n : ℕ) → n < 2 → IsMember self.new.members n → ((S.shelf shelf.new).disk (nvram n)).dirty ≡ [] }
         ensures flushed { self.new.flushed ≡ self.old.flushed }
         ensures ok { OnOk result ((self.new.count ≡ count) × IsSome self.new.members) }

@@ -1,11 +1,10 @@
 // The members are synced.
 ghost use Rattle.std.specs.Prelude.{◌≡◌, ℕ, ◌<◌, [], length};
-ghost use Rattle.pur_base.specs.Devices.{drive, nvram};
+ghost use Rattle.pur_base.specs.Devices.{nvram};
 ghost use Rattle.pur_base.specs.declared.device.Device.{Device};
 ghost use Rattle.pur_base.specs.declared.limits.TheConstants.{NVRAM_DEVICES};
-ghost use Rattle.world.specs.Shelf.{Continues};
-ghost use Rattle.world.specs.Writes.{WritesOnly};
-ghost use Rattle.nvram_log.specs.Members.{IsMember, IsFewer, DroppedFailed};
+ghost use Rattle.world.specs.Ran.{Ran};
+ghost use Rattle.nvram_log.specs.Members.{IsMember, IsFewer, DroppedFailed, IsOnMember};
 ghost use Rattle.nvram_log.specs.Read.{OnNothing, DroppedCounted};
 
 use pur_base::{Device, NvId};
@@ -14,15 +13,11 @@ use world::Shelf;
 /// Syncs each member device, so that what was read of it before or later is what a stop leaves. One that fails is dropped, and one that isn't a member is left alone. It writes no byte.
 pub fn sync_members<S: Shelf>(shelf: &mut S, members: &mut [bool])
     requires members { length members.old ≡ NVRAM_DEVICES }
-    ensures continues { Continues (S.shelf shelf.old) (S.shelf shelf.new) }
-    ensures writes { (S.shelf shelf.old).honest → WritesOnly OnNothing (S.shelf shelf.old) (S.shelf shelf.new) }
-    ensures rest { S.shelf_rest shelf.old shelf.new }
+    ensures ran { Ran S.shelf S.shelf_rest (IsOnMember members.old) OnNothing shelf.old shelf.new }
     ensures fewer { IsFewer members.old members.new }
     ensures dropped { DroppedFailed (S.shelf shelf.old) (S.shelf shelf.new) members.old members.new }
     ensures counted { DroppedCounted (S.shelf shelf.old) (S.shelf shelf.new) members.old members.new }
     ensures bytes { (S.shelf shelf.old).honest → (d : Device) → ((S.shelf shelf.new).disk d).bytes ≡ ((S.shelf shelf.old).disk d).bytes }
-    ensures drives { (d : ℕ) → (S.shelf shelf.new).disk (drive d) ≡ (S.shelf shelf.old).disk (drive d) }
-    ensures others { (n : ℕ) → ¬ (IsMember members.old n) → (S.shelf shelf.new).disk (nvram n) ≡ (S.shelf shelf.old).disk (nvram n) }
     ensures clean { (S.shelf shelf.old).honest → (n : ℕ) → n < 2 → IsMember members.new n → ((S.shelf shelf.new).disk (nvram n)).dirty ≡ [] }
     ensures still_clean { (S.shelf shelf.old).honest → (d : Device) → ((S.shelf shelf.old).disk d).dirty ≡ [] → ((S.shelf shelf.new).disk d).dirty ≡ [] }
 {

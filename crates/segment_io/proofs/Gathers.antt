@@ -62,7 +62,7 @@ gathers_one a b c places stripe was mid shards shard is bytes into are within fl
   continues = continues_trans so_far.continues continues;
   same = λ h d. same_then (so_far.same h d) (same (so_far.continues.honest h) d);
   writes = λ h. writes_then so_far.continues (so_far.writes h) (writes (so_far.continues.honest h));
-  others = λ d none. others d (none shard within) ∙ so_far.others d none;
+  others = λ d none. others d (λ e. none (shard, within, e)) ∙ so_far.others d none;
   passed = below_more (λ k. PartRead a.honest (is_unknown was k) (is_unknown (slice_set mid shard is) k) (unit_in (bytes_of a) places (stripe + 1) k) (shard_of (slice_set shards shard into) k) (a.disk (drive_of places k)) (c.disk (drive_of places k))) shard earlier here;
   flag_ahead = λ k le. let ne : k ≢ shard = omega (arith, le) in get_or-set_other mid shard k is false ne ∙ so_far.flag_ahead k (omega (arith, le));
   disk_ahead = λ k le lt. others (drive_of places k) (apart a places k shard are (omega (arith, le)) lt within) ∙ so_far.disk_ahead k (omega (arith, le)) lt;

@@ -1,15 +1,16 @@
 -- Stripes are synced, headers written, and these synced.
 use Rattle.std.proofs.Common.{◌≡◌, inl, inr, ⊎_elim, ℕ, ◌+◌, ◌*◌, ◌<◌, ◌≤◌, Bool, false, List, [], slice_index, ◌∙◌, ap, subst, arith}
 use Rattle.pur_base.specs.Bytes.{bytes_at}
+use Rattle.pur_base.specs.Devices.{drive}
 use Rattle.pur_base.specs.declared.device.Device.{Device}
 use Rattle.pur_base.specs.declared.place.Place.{Place}
 use Rattle.world.specs.declared.shelf.Span.{Span}
 use Rattle.world.specs.Shelf.{Shelved, Stop, IsInSome, Continues, LeavesOnly}
 use Rattle.world.specs.Writes.{WritesOnly, LeavesBut}
 use Rattle.world.proofs.Moments.{continues_trans, then_run, weaker}
-use Rattle.world.proofs.Writes.{writes_then, writes_more}
-use Rattle.segment_io.specs.Lost.{is_in, LosesOnly, NoByte}
-use Rattle.segment_io.specs.Places.{ArePlaces, place_of, drive_of, write_unit_at, OnUnits}
+use Rattle.world.proofs.Writes.{writes_more}
+use Rattle.segment_io.specs.Lost.{is_in, LosesOnly, NoByte, IsOnSlot}
+use Rattle.segment_io.specs.Places.{ArePlaces, place_of, drive_of, write_unit_at, OnUnits, IsOnPlace}
 use Rattle.segment_io.specs.Stripes.{bytes_of, UnitsHold, HoldsStripe}
 use Rattle.segment_io.specs.Headers.{AreDrivesOf, AreSynced, HeadersComeLast}
 use Rattle.segment_io.proofs.Losing.{not_before}
@@ -28,6 +29,10 @@ same_stripe a b places was now stripe shards loses same holds = record {
   codeword = holds.codeword;
   units = same_units a b places was now (stripe + 1) _ loses same holds.units;
 }
+
+-- a drive of the set is one of the nine
+pub on_drives : (places : List Place) (drives : List Bool) → AreDrivesOf places drives → (d : Device) → IsOnSlot drives d → IsOnPlace places d
+on_drives places drives of d on = let h = of.no_other on.0 on.1 in (h.0, h.1, on.2 ∙ ap drive h.2)
 
 -- the drives of a segment are one set
 pub synced_as : (e : Shelved) (places : List Place) (drives others lost : List Bool) → AreDrivesOf places drives → AreDrivesOf places others → AreSynced e drives lost → AreSynced e others lost
@@ -67,6 +72,3 @@ module _ (a b c e : Shelved) (places : List Place) (stripes : ℕ) (drives secon
 
   pub headers_come_last : LeavesOnly a e (HeadersComeLast a places stripes fourth)
   headers_come_last = then_run (continues_trans ab bc) (then_run ab (weaker syncing first.any_moment) (weaker heading headers.any_moment)) (weaker ending last.any_moment)
-
-  pub close_writes : WritesOnly (OnUnits places 0 1) a e
-  close_writes = writes_then (continues_trans ab bc) (writes_then ab (nothing (OnUnits places 0 1) first) headers) (nothing (OnUnits places 0 1) last)

@@ -57,7 +57,7 @@ one_more a b c places n count was mid now Stands shard size from are within long
   lost = loses_then a b c was mid now is_c so_far.continues continues so_far.lost loses;
   written = λ h. below_more (λ k. is_in now (place_of places k).slot ≡ false → Stands k (part_in (bytes_of c) places n count k)) shard (earlier h) (λ none. subst (Stands shard) (sym (here h none)) stands);
   writes = λ h. writes_then so_far.continues (so_far.writes h) (writes_more (in_units places n count shard within) (sized h));
-  others = λ d none. others d (none shard within) ∙ so_far.others d none;
+  others = λ d none. others d (λ e. none (shard, within, e)) ∙ so_far.others d none;
 }
   where
     sized : a.honest → WritesOnly (OneRange (drive_of places shard) (write_unit_at (place_of places shard) n) (4096 * count)) b c

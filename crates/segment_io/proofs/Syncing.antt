@@ -53,7 +53,7 @@ one_synced a b c drives was mid now slot within is_c so_far continues loses clea
   bytes = λ h d. bytes (so_far.continues.honest h) d ∙ so_far.bytes h d;
   clean = λ h. below_more (λ k. is_in drives k ≡ true → is_in now k ≡ false → (c.disk (drive k)).dirty ≡ []) slot (earlier h) (λ is none. clean (so_far.continues.honest h) none);
   writes = λ h. writes_then so_far.continues (so_far.writes h) (writes (so_far.continues.honest h));
-  others = λ d none. others d (none slot within) ∙ so_far.others d none;
+  others = λ d none. others d (λ e. none (slot, within, e)) ∙ so_far.others d none;
 }
   where
     earlier : a.honest → (k : ℕ) → k < slot → is_in drives k ≡ true → is_in now k ≡ false → (c.disk (drive k)).dirty ≡ []

@@ -170,7 +170,7 @@ written_run a b c places target stripe said now {answer} {from} are within is_b 
   same = λ h. same_but a b c (drive_of places target) (same h) alone;
   writes = λ h. writes_then ab (nothing (OneRange (drive_of places target) (write_unit_at (place_of places target) (stripe + 1)) (4096 * 1)) (writes h))
       (write_writes (OneRange (drive_of places target) (write_unit_at (place_of places target) (stripe + 1)) (4096 * 1)) (drive_of places target) is_b time alone (written (ab.honest h)) (λ i is. (refl, (is.0, omega (arith, is.1, size)))));
-  others = λ d none. alone d (none target within) ∙ others d none;
+  others = λ d none. alone d (λ e. none (target, within, e)) ∙ others d none;
 }
   where
     wanted : is_unknown now target ≡ true

@@ -42,7 +42,7 @@ tries_one a b c places said mid shard is {honest} {bytes} {into} are is_c within
   tried = tried_one a b c places said mid shard is honest bytes into are is_c so_far.continues continues within nine so_far.tried part others;
   same = λ h d. same_then (so_far.same h d) (same (so_far.continues.honest h) d);
   writes = λ h. writes_then so_far.continues (so_far.writes h) (writes (so_far.continues.honest h));
-  others = λ d none. others d (none shard within) ∙ so_far.others d none;
+  others = λ d none. others d (λ e. none (shard, within, e)) ∙ so_far.others d none;
 }
 
 pub tries_then : (a b c : Shelved) (places : List Place) (said : ℕ → Bool) (mid now : List Bool) → IsShelf c → Tries a b places said mid → Tries b c places (is_unknown mid) now → Tries a c places said now

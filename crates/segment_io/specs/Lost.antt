@@ -1,5 +1,5 @@
 -- Sets of drives, and the drives that a call loses.
-use Rattle.std.specs.Prelude.{◌≡◌, ◌≢◌, ◌⊎◌, ℕ, Bool, true, false, List, slice_index_or}
+use Rattle.std.specs.Prelude.{◌≡◌, ◌⊎◌, ℕ, Bool, true, false, List, slice_index_or}
 use Rattle.pur_base.specs.declared.device.Device.{Device}
 use Rattle.pur_base.specs.Devices.{drive}
 use Rattle.world.specs.Counts.{Rises}
@@ -25,6 +25,10 @@ pub record LosesOnly (old new : Shelved) (was now : List Bool) : Type 0 where
 abbrev pub NoByte : Device → ℕ → Type 0
 NoByte device i = ⊥
 
+-- it is a drive of the set
+abbrev pub IsOnSlot : List Bool → Device → Type 0
+IsOnSlot drives device = (slot : ℕ) × (is_in drives slot ≡ true) × (device ≡ drive slot)
+
 -- a device that isn't of the set stays as it was
 abbrev pub OthersStayBut : List Bool → Shelved → Shelved → Type 0
-OthersStayBut drives old new = (device : Device) → ((slot : ℕ) → is_in drives slot ≡ true → device ≢ drive slot) → new.disk device ≡ old.disk device
+OthersStayBut drives old new = (device : Device) → (IsOnSlot drives device → ⊥) → new.disk device ≡ old.disk device

@@ -1,5 +1,5 @@
 -- The units of a segment on the drives of a shelf.
-use Rattle.std.specs.Prelude.{◌≡◌, ◌≢◌, ℕ, ◌+◌, ◌*◌, ◌<◌, ◌≤◌, List, length, slice_index_or}
+use Rattle.std.specs.Prelude.{◌≡◌, ℕ, ◌+◌, ◌*◌, ◌<◌, ◌≤◌, List, length, slice_index_or}
 use Rattle.pur_base.specs.declared.device.Device.{Device}
 use Rattle.pur_base.specs.declared.limits.TheConstants.{UNIT_BYTES, BOOT_UNITS, SEGMENT_SHARDS}
 use Rattle.pur_base.specs.declared.place.Place.{Place}
@@ -36,6 +36,10 @@ write_unit_at place n = UNIT_BYTES * place.unit + WRITE_UNIT_BYTES * n
 abbrev pub OnUnits : List Place → ℕ → ℕ → Device → ℕ → Type 0
 OnUnits places n count device i = (shard : ℕ) × (shard < SEGMENT_SHARDS) × OneRange (drive_of places shard) (write_unit_at (place_of places shard) n) (WRITE_UNIT_BYTES * count) device i
 
+-- it is the drive of one of the nine units
+abbrev pub IsOnPlace : List Place → Device → Type 0
+IsOnPlace places device = (shard : ℕ) × (shard < SEGMENT_SHARDS) × (device ≡ drive_of places shard)
+
 -- a device that has none of the nine units stays as it was
 abbrev pub OthersStayOf : List Place → Shelved → Shelved → Type 0
-OthersStayOf places old new = (device : Device) → ((shard : ℕ) → shard < SEGMENT_SHARDS → device ≢ drive_of places shard) → new.disk device ≡ old.disk device
+OthersStayOf places old new = (device : Device) → (IsOnPlace places device → ⊥) → new.disk device ≡ old.disk device

@@ -3,9 +3,8 @@ ghost use Rattle.std.specs.Prelude.{◌≡◌, ℕ, ◌+◌, ◌*◌, ◌<◌, �
 ghost use Rattle.pur_base.specs.declared.limits.TheConstants.{SEGMENT_SHARDS};
 ghost use Rattle.parity72.specs.Parity.{IsCodeword, shard_of};
 ghost use Rattle.segment_codec.specs.declared.position.TheConstants.{WRITE_UNIT_BYTES, STRIPES};
-ghost use Rattle.world.specs.Shelf.{Continues};
-ghost use Rattle.world.specs.Writes.{WritesOnly};
-ghost use Rattle.segment_io.specs.Places.{ArePlaces, OnUnits, OthersStayOf};
+ghost use Rattle.world.specs.Ran.{Ran};
+ghost use Rattle.segment_io.specs.Places.{ArePlaces, OnUnits, IsOnPlace};
 ghost use Rattle.segment_io.specs.Lost.{LosesOnly};
 ghost use Rattle.segment_io.specs.Stripes.{bytes_of, shards_in, IsRunOf, IsGathered, RunHolds};
 
@@ -82,12 +81,9 @@ pub fn write_run<S: Shelf>(
     requires places { ArePlaces (S.shelf shelf.old) places.now }
     requires fits { number + length stripes.now ≤ STRIPES }
     requires room { (length stripes.now ≤ length run.old) × (length stripes.now ≤ length p.now) × (length stripes.now ≤ length q.now) }
-    ensures continues { Continues (S.shelf shelf.old) (S.shelf shelf.new) }
     ensures lost { LosesOnly (S.shelf shelf.old) (S.shelf shelf.new) lost.old.drives lost.new.drives }
     ensures written { (S.shelf shelf.old).honest → RunHolds (bytes_of (S.shelf shelf.new)) places.now lost.new.drives (number + 1) (length stripes.now) (λ k. shard_of (shards_in stripes.now p.now q.now k)) }
-    ensures writes { (S.shelf shelf.old).honest → WritesOnly (OnUnits places.now (number + 1) (length stripes.now)) (S.shelf shelf.old) (S.shelf shelf.new) }
-    ensures others { OthersStayOf places.now (S.shelf shelf.old) (S.shelf shelf.new) }
-    ensures rest { S.shelf_rest shelf.old shelf.new }
+    ensures ran { Ran S.shelf S.shelf_rest (IsOnPlace places.now) (OnUnits places.now (number + 1) (length stripes.now)) shelf.old shelf.new }
 {
     for shard in 0..SHARDS {
         gather_shard(stripes, shard, run);

@@ -6,10 +6,10 @@ ghost use Rattle.pur_base.specs.Devices.{View};
 ghost use Rattle.segment_codec.specs.declared.position.TheConstants.{STRIPES};
 ghost use Rattle.segment_codec.specs.Position.{stripe_of};
 ghost use Rattle.segment_codec.specs.Stripes.{SectorStands, sector_in};
-ghost use Rattle.world.specs.Shelf.{Continues, Stop, MayStop, LeavesOnly};
-ghost use Rattle.world.specs.Writes.{WritesOnly};
-ghost use Rattle.segment_io.specs.Places.{ArePlaces, OnUnits, OthersStayOf, place_of};
-ghost use Rattle.segment_io.specs.Lost.{is_in, LosesOnly, NoByte, OthersStayBut};
+ghost use Rattle.world.specs.Ran.{Ran};
+ghost use Rattle.world.specs.Shelf.{Stop, MayStop, LeavesOnly};
+ghost use Rattle.segment_io.specs.Places.{ArePlaces, OnUnits, place_of, IsOnPlace};
+ghost use Rattle.segment_io.specs.Lost.{is_in, LosesOnly, NoByte, IsOnSlot};
 ghost use Rattle.segment_io.specs.Stripes.{bytes_of, UnitsHold, HoldsStripe};
 ghost use Rattle.segment_io.specs.Headers.{MayBeWritten, header_unit, AreDrivesOf, AreSynced, HeadersComeLast};
 ghost use Rattle.segment_io.specs.Views.{ShowsMost};
@@ -70,12 +70,9 @@ fn spell_header(header: &Header, shard: u8) -> [u8; WRITE_UNIT_BYTES]
 fn write_each_header<S: Shelf>(shelf: &mut S, places: &Places, header: &Header, lost: &mut Lost)
     requires places { ArePlaces (S.shelf shelf.old) places.now }
     requires header { MayBeWritten header.now }
-    ensures continues { Continues (S.shelf shelf.old) (S.shelf shelf.new) }
     ensures lost { LosesOnly (S.shelf shelf.old) (S.shelf shelf.new) lost.old.drives lost.new.drives }
     ensures written { (S.shelf shelf.old).honest → UnitsHold (bytes_of (S.shelf shelf.new)) places.now lost.new.drives 0 (header_unit header.now) }
-    ensures writes { (S.shelf shelf.old).honest → WritesOnly (OnUnits places.now 0 1) (S.shelf shelf.old) (S.shelf shelf.new) }
-    ensures others { OthersStayOf places.now (S.shelf shelf.old) (S.shelf shelf.new) }
-    ensures rest { S.shelf_rest shelf.old shelf.new }
+    ensures ran { Ran S.shelf S.shelf_rest (IsOnPlace places.now) (OnUnits places.now 0 1) shelf.old shelf.new }
 {
     for shard in 0..SHARDS {
         let unit = spell_header(header, shard as u8);
@@ -87,13 +84,10 @@ fn write_each_header<S: Shelf>(shelf: &mut S, places: &Places, header: &Header, 
 /// Segments that are closed together share a sync of their stripes and one of their headers.
 pub fn sync_drives<S: Shelf>(shelf: &mut S, drives: &[bool], lost: &mut Lost)
     requires { (slot : ℕ) → is_in drives.now slot ≡ true → slot < (S.shelf shelf.old).drives }
-    ensures continues { Continues (S.shelf shelf.old) (S.shelf shelf.new) }
     ensures lost { LosesOnly (S.shelf shelf.old) (S.shelf shelf.new) lost.old.drives lost.new.drives }
     ensures clean { (S.shelf shelf.old).honest → AreSynced (S.shelf shelf.new) drives.now lost.new.drives }
     ensures bytes { (S.shelf shelf.old).honest → (device : Device) → ((S.shelf shelf.new).disk device).bytes ≡ ((S.shelf shelf.old).disk device).bytes }
-    ensures writes { (S.shelf shelf.old).honest → WritesOnly NoByte (S.shelf shelf.old) (S.shelf shelf.new) }
-    ensures others { OthersStayBut drives.now (S.shelf shelf.old) (S.shelf shelf.new) }
-    ensures rest { S.shelf_rest shelf.old shelf.new }
+    ensures ran { Ran S.shelf S.shelf_rest (IsOnSlot drives.now) NoByte shelf.old shelf.new }
 {
     for slot in 0..drives.len() {
         if !drives[slot] {
@@ -140,15 +134,12 @@ impl Open {
         requires header { MayBeWritten header.now }
         requires same { (header.now.segment ≡ self.id) × (header.now.kind ≡ self.kind) × (header.now.places ≡ self.places) }
         requires some { 0 < self.stripes }
-        ensures continues { Continues (S.shelf shelf.old) (S.shelf shelf.new) }
         ensures closed { (result.0.id ≡ self.id) × (result.0.places ≡ self.places) × (result.0.stripes ≡ self.stripes) }
         ensures lost { LosesOnly (S.shelf shelf.old) (S.shelf shelf.new) self.lost.drives result.1.drives }
         ensures headers { (S.shelf shelf.old).honest → UnitsHold (bytes_of (S.shelf shelf.new)) self.places result.1.drives 0 (header_unit header.now) }
         ensures kept { (S.shelf shelf.old).honest → (stripe : ℕ) (shards : List (List ℕ)) → HoldsStripe (bytes_of (S.shelf shelf.old)) self.places self.lost.drives stripe shards
             → HoldsStripe (bytes_of (S.shelf shelf.new)) self.places result.1.drives stripe shards }
-        ensures writes { (S.shelf shelf.old).honest → WritesOnly (OnUnits self.places 0 1) (S.shelf shelf.old) (S.shelf shelf.new) }
-        ensures others { OthersStayOf self.places (S.shelf shelf.old) (S.shelf shelf.new) }
-        ensures rest { S.shelf_rest shelf.old shelf.new }
+        ensures ran { Ran S.shelf S.shelf_rest (IsOnPlace self.places) (OnUnits self.places 0 1) shelf.old shelf.new }
     {
         let mut lost = self.lost;
         write_each_header(shelf, &self.places, header, &mut lost);
@@ -167,7 +158,6 @@ impl Open {
         requires header { MayBeWritten header.now }
         requires same { (header.now.segment ≡ self.id) × (header.now.kind ≡ self.kind) × (header.now.places ≡ self.places) }
         requires some { 0 < self.stripes }
-        ensures continues { Continues (S.shelf shelf.old) (S.shelf shelf.new) }
         ensures closed { (result.0.id ≡ self.id) × (result.0.places ≡ self.places) × (result.0.stripes ≡ self.stripes) }
         ensures lost { LosesOnly (S.shelf shelf.old) (S.shelf shelf.new) self.lost.drives result.1.drives }
         ensures headers { (S.shelf shelf.old).honest → UnitsHold (bytes_of (S.shelf shelf.new)) self.places result.1.drives 0 (header_unit header.now) }
@@ -179,9 +169,7 @@ impl Open {
             → stripe_of index < STRIPES → HoldsStripe (bytes_of (S.shelf shelf.old)) self.places self.lost.drives (stripe_of index) shards → SectorStands view self.places index (sector_in shards index) }
         // At every moment no header is there yet, or the stripes are there whole.
         ensures in_turn { (S.shelf shelf.old).honest → LeavesOnly (S.shelf shelf.old) (S.shelf shelf.new) (HeadersComeLast (S.shelf shelf.old) self.places self.stripes result.1.drives) }
-        ensures writes { (S.shelf shelf.old).honest → WritesOnly (OnUnits self.places 0 1) (S.shelf shelf.old) (S.shelf shelf.new) }
-        ensures others { OthersStayOf self.places (S.shelf shelf.old) (S.shelf shelf.new) }
-        ensures rest { S.shelf_rest shelf.old shelf.new }
+        ensures ran { Ran S.shelf S.shelf_rest (IsOnPlace self.places) (OnUnits self.places 0 1) shelf.old shelf.new }
     {
         let drives = self.drives();
         sync_drives(shelf, &drives, &mut self.lost);

@@ -1,9 +1,8 @@
 // Segments that are written.
 ghost use Rattle.std.specs.Prelude.{◌≡◌, ℕ, ◌+◌, ◌*◌, ◌<◌, ◌≤◌, false, List, length};
 ghost use Rattle.segment_codec.specs.declared.position.TheConstants.{STRIPES};
-ghost use Rattle.world.specs.Shelf.{Continues};
-ghost use Rattle.world.specs.Writes.{WritesOnly};
-ghost use Rattle.segment_io.specs.Places.{ArePlaces, OnUnits, OthersStayOf};
+ghost use Rattle.world.specs.Ran.{Ran};
+ghost use Rattle.segment_io.specs.Places.{ArePlaces, OnUnits, IsOnPlace};
 ghost use Rattle.segment_io.specs.Lost.{is_in, LosesOnly};
 ghost use Rattle.segment_io.specs.Stripes.{bytes_of, HoldsStripe, IsStripeOf, stripe_in};
 
@@ -82,7 +81,6 @@ impl Open {
     pub fn append_stripe<S: Shelf>(&mut self, stripe: &StripeData, shelf: &mut S) -> Lost
         requires places { ArePlaces (S.shelf shelf.old) self.old.places }
         requires room { self.old.stripes < STRIPES }
-        ensures continues { Continues (S.shelf shelf.old) (S.shelf shelf.new) }
         ensures result { result ≡ self.new.lost }
         ensures lost { LosesOnly (S.shelf shelf.old) (S.shelf shelf.new) self.old.lost.drives self.new.lost.drives }
         ensures same { (self.new.id ≡ self.old.id) × (self.new.kind ≡ self.old.kind) × (self.new.places ≡ self.old.places) }
@@ -91,9 +89,7 @@ impl Open {
         // The stripes before it stand as they did.
         ensures kept { (S.shelf shelf.old).honest → (earlier : ℕ) (shards : List (List ℕ)) → earlier < self.old.stripes
             → HoldsStripe (bytes_of (S.shelf shelf.old)) self.old.places self.old.lost.drives earlier shards → HoldsStripe (bytes_of (S.shelf shelf.new)) self.new.places self.new.lost.drives earlier shards }
-        ensures writes { (S.shelf shelf.old).honest → WritesOnly (OnUnits self.old.places (self.old.stripes + 1) 1) (S.shelf shelf.old) (S.shelf shelf.new) }
-        ensures others { OthersStayOf self.old.places (S.shelf shelf.old) (S.shelf shelf.new) }
-        ensures rest { S.shelf_rest shelf.old shelf.new }
+        ensures ran { Ran S.shelf S.shelf_rest (IsOnPlace self.old.places) (OnUnits self.old.places (self.old.stripes + 1) 1) shelf.old shelf.new }
     {
         let mut room = [[0; SHARD_BYTES]; RUN_ROOM];
         self.append_stripes(from_ref(stripe), &mut room, shelf)
@@ -111,7 +107,6 @@ impl Open {
         requires places { ArePlaces (S.shelf shelf.old) self.old.places }
         requires fits { self.old.stripes + length stripes.now ≤ STRIPES }
         requires room { RUN_ROOM * length stripes.now ≤ length room.old }
-        ensures continues { Continues (S.shelf shelf.old) (S.shelf shelf.new) }
         ensures result { result ≡ self.new.lost }
         ensures lost { LosesOnly (S.shelf shelf.old) (S.shelf shelf.new) self.old.lost.drives self.new.lost.drives }
         ensures same { (self.new.id ≡ self.old.id) × (self.new.kind ≡ self.old.kind) × (self.new.places ≡ self.old.places) }
@@ -121,9 +116,7 @@ impl Open {
         // The stripes before them stand as they did.
         ensures kept { (S.shelf shelf.old).honest → (earlier : ℕ) (shards : List (List ℕ)) → earlier < self.old.stripes
             → HoldsStripe (bytes_of (S.shelf shelf.old)) self.old.places self.old.lost.drives earlier shards → HoldsStripe (bytes_of (S.shelf shelf.new)) self.new.places self.new.lost.drives earlier shards }
-        ensures writes { (S.shelf shelf.old).honest → WritesOnly (OnUnits self.old.places (self.old.stripes + 1) (length stripes.now)) (S.shelf shelf.old) (S.shelf shelf.new) }
-        ensures others { OthersStayOf self.old.places (S.shelf shelf.old) (S.shelf shelf.new) }
-        ensures rest { S.shelf_rest shelf.old shelf.new }
+        ensures ran { Ran S.shelf S.shelf_rest (IsOnPlace self.old.places) (OnUnits self.old.places (self.old.stripes + 1) (length stripes.now)) shelf.old shelf.new }
     {
         let count = stripes.len();
         let (run, parities) = room.split_at_mut(count);

@@ -4,9 +4,9 @@ ghost use Rattle.pur_base.specs.declared.device.Device.{Device};
 ghost use Rattle.pur_base.specs.declared.limits.TheConstants.{SEGMENT_SECTORS, SEGMENT_SHARDS};
 ghost use Rattle.pur_base.specs.Devices.{View};
 ghost use Rattle.segment_codec.specs.Stripes.{SectorStands};
-ghost use Rattle.world.specs.Shelf.{Continues, IsSame};
-ghost use Rattle.world.specs.Writes.{WritesOnly};
-ghost use Rattle.segment_io.specs.Places.{ArePlaces, OthersStayOf};
+ghost use Rattle.world.specs.Ran.{Ran};
+ghost use Rattle.world.specs.Shelf.{IsSame};
+ghost use Rattle.segment_io.specs.Places.{ArePlaces, IsOnPlace};
 ghost use Rattle.segment_io.specs.Lost.{is_in, NoByte};
 ghost use Rattle.segment_io.specs.Reads.{is_unknown, is_missing_in, AreLost, ShowsAnswering};
 
@@ -47,15 +47,12 @@ pub fn read_sector<S: Shelf>(
 ) -> Result<Sector, Lost>
     requires places { ArePlaces (S.shelf shelf.old) places.now }
     requires index { index < SEGMENT_SECTORS }
-    ensures continues { Continues (S.shelf shelf.old) (S.shelf shelf.new) }
     // What stands at the index in each view that shows the drives that answered.
     ensures sector { (S.shelf shelf.old).honest → IfOk result (λ sector. (view : View) (bytes : List ℕ)
         → ShowsAnswering (S.shelf shelf.old) (S.shelf shelf.new) places.now missing.now view → SectorStands view places.now index bytes → sector ≡ bytes) }
     ensures lost { IfErr result (λ lost. AreLost (S.shelf shelf.old) (S.shelf shelf.new) places.now (is_missing_in missing.now places.now) lost.drives) }
     ensures same { (S.shelf shelf.old).honest → (device : Device) → IsSame ((S.shelf shelf.old).disk device) ((S.shelf shelf.new).disk device) }
-    ensures writes { (S.shelf shelf.old).honest → WritesOnly NoByte (S.shelf shelf.old) (S.shelf shelf.new) }
-    ensures others { OthersStayOf places.now (S.shelf shelf.old) (S.shelf shelf.new) }
-    ensures rest { S.shelf_rest shelf.old shelf.new }
+    ensures ran { Ran S.shelf S.shelf_rest (IsOnPlace places.now) NoByte shelf.old shelf.new }
 {
     let position = Position::of(index);
     let shard = position.shard as usize;

@@ -5,9 +5,9 @@ ghost use Rattle.pur_base.specs.Devices.{View};
 ghost use Rattle.parity72.specs.Parity.{shard_of};
 ghost use Rattle.segment_codec.specs.declared.position.TheConstants.{WRITE_UNIT_BYTES, STRIPES};
 ghost use Rattle.segment_codec.specs.Stripes.{StripeStands};
-ghost use Rattle.world.specs.Shelf.{Continues};
-ghost use Rattle.world.specs.Writes.{OneRange, WritesOnly};
-ghost use Rattle.segment_io.specs.Places.{ArePlaces, OthersStayOf, place_of, drive_of, write_unit_at};
+ghost use Rattle.world.specs.Ran.{Ran};
+ghost use Rattle.world.specs.Writes.{OneRange};
+ghost use Rattle.segment_io.specs.Places.{ArePlaces, place_of, drive_of, write_unit_at, IsOnPlace};
 ghost use Rattle.segment_io.specs.Stripes.{bytes_of, unit_in};
 ghost use Rattle.segment_io.specs.Reads.{is_unknown, IsOn, ShowsPresent};
 ghost use Rattle.segment_io.specs.Rebuilds.{is_wanted, IsFaultOf, OthersAreSame, Rebuilds, AreRebuilt};
@@ -97,16 +97,13 @@ pub fn rebuild_shard<S: Shelf>(
     requires places { ArePlaces (S.shelf shelf.old) places.now }
     requires shard { shard < SEGMENT_SHARDS }
     requires stripes { stripes ≤ STRIPES }
-    ensures continues { Continues (S.shelf shelf.old) (S.shelf shelf.new) }
     // What stands in each stripe by the other drives.
     ensures rebuilt { (S.shelf shelf.old).honest → OnOk result ((view : View) (stripe : ℕ) (whole : List (List ℕ)) → stripe < stripes → ShowsPresent (S.shelf shelf.old) places.now missing.now view
         → StripeStands view places.now stripe whole → unit_in (bytes_of (S.shelf shelf.new)) places.now (stripe + 1) shard ≡ shard_of whole shard) }
     ensures clean { (S.shelf shelf.old).honest → OnOk result (((S.shelf shelf.new).disk (drive_of places.now shard)).dirty ≡ []) }
     ensures fault { IfErr result (λ fault. IsFaultOf (S.shelf shelf.old) (S.shelf shelf.new) places.now (is_wanted shard missing.now places.now) shard fault) }
     ensures same { (S.shelf shelf.old).honest → OthersAreSame (drive_of places.now shard) (S.shelf shelf.old) (S.shelf shelf.new) }
-    ensures writes { (S.shelf shelf.old).honest → WritesOnly (OneRange (drive_of places.now shard) (write_unit_at (place_of places.now shard) 1) (WRITE_UNIT_BYTES * stripes)) (S.shelf shelf.old) (S.shelf shelf.new) }
-    ensures others { OthersStayOf places.now (S.shelf shelf.old) (S.shelf shelf.new) }
-    ensures rest { S.shelf_rest shelf.old shelf.new }
+    ensures ran { Ran S.shelf S.shelf_rest (IsOnPlace places.now) (OneRange (drive_of places.now shard) (write_unit_at (place_of places.now shard) 1) (WRITE_UNIT_BYTES * stripes)) shelf.old shelf.new }
 {
     let mut unknown = missing_shards(places, missing);
     unknown[shard as usize] = true;

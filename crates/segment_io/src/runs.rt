@@ -6,9 +6,9 @@ ghost use Rattle.pur_base.specs.Bytes.{bytes_at};
 ghost use Rattle.pur_base.specs.Devices.{View};
 ghost use Rattle.segment_codec.specs.Stripes.{SectorStands};
 ghost use Rattle.segment_codec.specs.declared.position.TheConstants.{WRITE_UNIT_BYTES, DATA_SHARDS, STRIPES};
-ghost use Rattle.world.specs.Shelf.{Continues, IsSame};
-ghost use Rattle.world.specs.Writes.{WritesOnly};
-ghost use Rattle.segment_io.specs.Places.{ArePlaces, OthersStayOf};
+ghost use Rattle.world.specs.Ran.{Ran};
+ghost use Rattle.world.specs.Shelf.{IsSame};
+ghost use Rattle.segment_io.specs.Places.{ArePlaces, IsOnPlace};
 ghost use Rattle.segment_io.specs.Lost.{NoByte};
 ghost use Rattle.segment_io.specs.Reads.{is_unknown, is_missing_in, Tried, AreLost, ShowsPresent};
 ghost use Rattle.segment_io.specs.Runs.{IsDataFrom, StandsBut};
@@ -52,14 +52,11 @@ fn read_directly<S: Shelf>(
     requires stripe { stripe < STRIPES }
     requires fits { offset + length into.old ≤ WRITE_UNIT_BYTES * DATA_SHARDS }
     requires aligned { (offset % SECTOR_BYTES ≡ 0) × (length into.old % SECTOR_BYTES ≡ 0) }
-    ensures continues { Continues (S.shelf shelf.old) (S.shelf shelf.new) }
     ensures read { (S.shelf shelf.old).honest → result ≡ true → (whole : List (List ℕ)) → StandsBut (S.shelf shelf.old) places.now (is_unknown unknown.old) stripe whole → IsDataFrom whole offset (length into.old) into.new }
     ensures some { result ≡ false → (shard : ℕ) × (shard < SEGMENT_SHARDS) × (is_unknown unknown.new shard ≡ true) }
     ensures tried { Tried (S.shelf shelf.old) (S.shelf shelf.new) places.now (is_unknown unknown.old) unknown.new }
     ensures same { (S.shelf shelf.old).honest → (device : Device) → IsSame ((S.shelf shelf.old).disk device) ((S.shelf shelf.new).disk device) }
-    ensures writes { (S.shelf shelf.old).honest → WritesOnly NoByte (S.shelf shelf.old) (S.shelf shelf.new) }
-    ensures others { OthersStayOf places.now (S.shelf shelf.old) (S.shelf shelf.new) }
-    ensures rest { S.shelf_rest shelf.old shelf.new }
+    ensures ran { Ran S.shelf S.shelf_rest (IsOnPlace places.now) NoByte shelf.old shelf.new }
 {
     let mut done = 0;
     while done < into.len() {
@@ -93,14 +90,11 @@ fn read_in_stripe<S: Shelf>(
     requires stripe { stripe < STRIPES }
     requires fits { offset + length into.old ≤ WRITE_UNIT_BYTES * DATA_SHARDS }
     requires aligned { (offset % SECTOR_BYTES ≡ 0) × (length into.old % SECTOR_BYTES ≡ 0) }
-    ensures continues { Continues (S.shelf shelf.old) (S.shelf shelf.new) }
     ensures read { (S.shelf shelf.old).honest → OnOk result ((whole : List (List ℕ)) → StandsBut (S.shelf shelf.old) places.now (is_unknown unknown.old) stripe whole → IsDataFrom whole offset (length into.old) into.new) }
     ensures tried { Tried (S.shelf shelf.old) (S.shelf shelf.new) places.now (is_unknown unknown.old) unknown.new }
     ensures lost { IfErr result (λ lost. AreLost (S.shelf shelf.old) (S.shelf shelf.new) places.now (is_unknown unknown.old) lost.drives) }
     ensures same { (S.shelf shelf.old).honest → (device : Device) → IsSame ((S.shelf shelf.old).disk device) ((S.shelf shelf.new).disk device) }
-    ensures writes { (S.shelf shelf.old).honest → WritesOnly NoByte (S.shelf shelf.old) (S.shelf shelf.new) }
-    ensures others { OthersStayOf places.now (S.shelf shelf.old) (S.shelf shelf.new) }
-    ensures rest { S.shelf_rest shelf.old shelf.new }
+    ensures ran { Ran S.shelf S.shelf_rest (IsOnPlace places.now) NoByte shelf.old shelf.new }
 {
     if read_directly(shelf, places, stripe, offset, unknown, into) {
         return Ok(());
@@ -124,15 +118,12 @@ pub fn read_sectors<S: Shelf>(
     requires places { ArePlaces (S.shelf shelf.old) places.now }
     requires whole { length into.old % SECTOR_BYTES ≡ 0 }
     requires run { SECTOR_BYTES * index + length into.old ≤ SECTOR_BYTES * SEGMENT_SECTORS }
-    ensures continues { Continues (S.shelf shelf.old) (S.shelf shelf.new) }
     // What stands at each index in each view that shows the drives that aren't missing.
     ensures sectors { (S.shelf shelf.old).honest → OnOk result ((view : View) (j : ℕ) (bytes : List ℕ) → SECTOR_BYTES * j + SECTOR_BYTES ≤ length into.old
         → ShowsPresent (S.shelf shelf.old) places.now missing.now view → SectorStands view places.now (index + j) bytes → bytes_at (SECTOR_BYTES * j) SECTOR_BYTES into.new ≡ bytes) }
     ensures lost { IfErr result (λ lost. AreLost (S.shelf shelf.old) (S.shelf shelf.new) places.now (is_missing_in missing.now places.now) lost.drives) }
     ensures same { (S.shelf shelf.old).honest → (device : Device) → IsSame ((S.shelf shelf.old).disk device) ((S.shelf shelf.new).disk device) }
-    ensures writes { (S.shelf shelf.old).honest → WritesOnly NoByte (S.shelf shelf.old) (S.shelf shelf.new) }
-    ensures others { OthersStayOf places.now (S.shelf shelf.old) (S.shelf shelf.new) }
-    ensures rest { S.shelf_rest shelf.old shelf.new }
+    ensures ran { Ran S.shelf S.shelf_rest (IsOnPlace places.now) NoByte shelf.old shelf.new }
 {
     let start = SECTOR_BYTES * index as usize;
     let mut unknown = missing_shards(places, missing);

@@ -5,8 +5,8 @@ ghost use Rattle.pur_base.specs.declared.device.Device.{Device};
 ghost use Rattle.pur_base.specs.declared.limits.TheConstants.{SECTOR_BYTES, UNIT_BYTES};
 ghost use Rattle.pur_base.specs.Devices.{drive};
 ghost use Rattle.segment_codec.specs.declared.position.TheConstants.{WRITE_UNIT_BYTES};
-ghost use Rattle.world.specs.Shelf.{Continues, OthersStay};
-ghost use Rattle.world.specs.Writes.{OneRange, WritesOnly};
+ghost use Rattle.world.specs.Ran.{Only, Ran};
+ghost use Rattle.world.specs.Writes.{OneRange};
 ghost use Rattle.segment_io.specs.Places.{IsPlace, ArePlaces, write_unit_at};
 ghost use Rattle.segment_io.specs.Lost.{is_in, LosesOnly, NoByte};
 
@@ -47,12 +47,9 @@ pub fn write_units<S: Shelf>(shelf: &mut S, place: Place, n: u8, from: &[u8], lo
     requires place { IsPlace (S.shelf shelf.old) place }
     requires fits { WRITE_UNIT_BYTES * n + length from.now ≤ UNIT_BYTES }
     requires aligned { length from.now % SECTOR_BYTES ≡ 0 }
-    ensures continues { Continues (S.shelf shelf.old) (S.shelf shelf.new) }
     ensures lost { LosesOnly (S.shelf shelf.old) (S.shelf shelf.new) lost.old.drives lost.new.drives }
     ensures written { (S.shelf shelf.old).honest → is_in lost.new.drives place.slot ≡ false → bytes_at (write_unit_at place n) (length from.now) ((S.shelf shelf.new).disk (drive place.slot)).bytes ≡ from.now }
-    ensures writes { (S.shelf shelf.old).honest → WritesOnly (OneRange (drive place.slot) (write_unit_at place n) (length from.now)) (S.shelf shelf.old) (S.shelf shelf.new) }
-    ensures others { OthersStay (drive place.slot) (S.shelf shelf.old) (S.shelf shelf.new) }
-    ensures rest { S.shelf_rest shelf.old shelf.new }
+    ensures ran { Ran S.shelf S.shelf_rest (Only (drive place.slot)) (OneRange (drive place.slot) (write_unit_at place n) (length from.now)) shelf.old shelf.new }
 {
     let slot = place.slot as usize;
     if lost.drives[slot] {
@@ -69,13 +66,10 @@ pub fn write_units<S: Shelf>(shelf: &mut S, place: Place, n: u8, from: &[u8], lo
 /// Syncs a drive, unless it is lost. Where that fails, it is lost.
 pub fn sync_drive<S: Shelf>(shelf: &mut S, slot: u8, lost: &mut Lost)
     requires { slot < (S.shelf shelf.old).drives }
-    ensures continues { Continues (S.shelf shelf.old) (S.shelf shelf.new) }
     ensures lost { LosesOnly (S.shelf shelf.old) (S.shelf shelf.new) lost.old.drives lost.new.drives }
     ensures clean { (S.shelf shelf.old).honest → is_in lost.new.drives slot ≡ false → ((S.shelf shelf.new).disk (drive slot)).dirty ≡ [] }
     ensures bytes { (S.shelf shelf.old).honest → (device : Device) → ((S.shelf shelf.new).disk device).bytes ≡ ((S.shelf shelf.old).disk device).bytes }
-    ensures writes { (S.shelf shelf.old).honest → WritesOnly NoByte (S.shelf shelf.old) (S.shelf shelf.new) }
-    ensures others { OthersStay (drive slot) (S.shelf shelf.old) (S.shelf shelf.new) }
-    ensures rest { S.shelf_rest shelf.old shelf.new }
+    ensures ran { Ran S.shelf S.shelf_rest (Only (drive slot)) NoByte shelf.old shelf.new }
 {
     let at = slot as usize;
     if lost.drives[at] {

@@ -1,5 +1,6 @@
 pub mod Counts
 pub mod Losing
+pub mod Ran
 pub mod Shelf
 pub mod Streams
 pub mod Tallies

@@ -2,6 +2,7 @@
 ghost use Rattle.std.specs.Prelude.{◌≡◌, [], length, OnOk};
 ghost use Rattle.world.specs.Shelf.{Has, Continues, Written, OthersStay, WriteCounts};
 ghost use Rattle.world.specs.Writes.{OneRange, WritesOnly};
+ghost use Rattle.world.specs.Ran.{Only, Ran};
 
 use crate::{Failed, Shelf};
 use pur_base::Device;
@@ -21,6 +22,7 @@ pub fn write_synced<S: Shelf>(
     ensures others { OthersStay device (S.shelf shelf.old) (S.shelf shelf.new) }
     ensures counts { WriteCounts result ((S.shelf shelf.old).disk device) ((S.shelf shelf.new).disk device) }
     ensures rest { S.shelf_rest shelf.old shelf.new }
+    ensures ran { Ran S.shelf S.shelf_rest (Only device) (OneRange device at (length from.now)) shelf.old shelf.new }
 {
     shelf.write(device, at, from)?;
     shelf.sync(device)

@@ -1,7 +1,7 @@
 use Rattle.std.proofs.Common.{rules, ◌≡◌, ◌∙◌, sym, subst, refl, inl, inr, ℕ, ◌-◌, ◌^◌, ◌<◌, ◌++◌, ◌∷◌, [], List, length, Bool, Result, IfErr, arith}
 use Rattle.std.proofs.lemmas.Result.{err_from_is_err_and}
 use Rattle.pur_base.specs.Commands.{Command}
-use Rattle.pur_base.specs.Devices.{Conditions, Geometry, nvram}
+use Rattle.pur_base.specs.Devices.{Conditions, Geometry, drive, nvram}
 use Rattle.pur_base.specs.Plain as plain
 use Rattle.world.specs.Losing.{geometry_of}
 use Rattle.world.specs.Shelf.{Disk, LeavesOnly}
@@ -26,10 +26,10 @@ use Rattle.array_core.proofs.Segments.{AreKept, behind_boot, drives_left, hold_f
 use Rattle.array_core.proofs.commit.commit.Goals as goal
 
 pub returns-in_err-store-clause-moments : goal.returns-in_err-store-clause-moments
-returns-in_err-store-clause-moments g c h = counted_on c.append.ensures.continues (c.append.ensures.writes h) (c.store.ensures.writes (c.append.ensures.continues.honest h))
+returns-in_err-store-clause-moments g c h = counted_on c.append.ensures.ran.on.continues (c.append.ensures.ran.on.writes h) (c.store.ensures.writes (c.append.ensures.ran.on.continues.honest h))
 
 pub returns-clause-moments : goal.returns-clause-moments
-returns-clause-moments g c h = counted_on c.append.ensures.continues (c.append.ensures.writes h) (c.store.ensures.writes (c.append.ensures.continues.honest h))
+returns-clause-moments g c h = counted_on c.append.ensures.ran.on.continues (c.append.ensures.ran.on.writes h) (c.store.ensures.writes (c.append.ensures.ran.on.continues.honest h))
 
 pub returns-in_err-append-clause-any_moment : goal.returns-in_err-append-clause-any_moment
 returns-in_err-append-clause-any_moment g c h held o holds keeps accepted in_force =
@@ -40,8 +40,8 @@ returns-in_err-append-clause-any_moment g c h held o holds keeps accepted in_for
     let now = c.append.new.self.members in
     let cmd : Command = record { request = c.args.request.now; sectors = c.args.sectors.now } in
     let x = c.append.ensures in
-    let p = appending a m r log now held cmd (g.met.S.Shelf.is_shelf c.args.shelf.now) (g.met.S.Shelf.is_shelf c.append.new.shelf) h x.continues o keeps c.requires.room c.requires.is_of.flushed accepted
-    x.drives x.fewer x.dropped (x.any_moment h held.log keeps holds) (x.writes h) (x.spelled 0 _ refl) in_force in
+    let p = appending a m r log now held cmd (g.met.S.Shelf.is_shelf c.args.shelf.now) (g.met.S.Shelf.is_shelf c.append.new.shelf) h x.ran.on.continues o keeps c.requires.room c.requires.is_of.flushed accepted
+    (λ i. x.ran.on.others (drive i) (λ none. none)) x.fewer x.dropped (x.any_moment h held.log keeps holds) (x.ran.on.writes h) (x.spelled 0 _ refl) in_force in
     append_moments a m r log.members now held cmd p
 
 pub returns-then-eq-clause-any_moment : goal.returns-then-eq-clause-any_moment
@@ -53,8 +53,8 @@ returns-then-eq-clause-any_moment g c h held o holds keeps accepted in_force =
     let now = c.append.new.self.members in
     let cmd : Command = record { request = c.args.request.now; sectors = c.args.sectors.now } in
     let x = c.append.ensures in
-    let p = appending a m r log now held cmd (g.met.S.Shelf.is_shelf c.args.shelf.now) (g.met.S.Shelf.is_shelf c.append.new.shelf) h x.continues o keeps c.requires.room c.requires.is_of.flushed accepted
-    x.drives x.fewer x.dropped (x.any_moment h held.log keeps holds) (x.writes h) (x.spelled 0 _ refl) in_force in
+    let p = appending a m r log now held cmd (g.met.S.Shelf.is_shelf c.args.shelf.now) (g.met.S.Shelf.is_shelf c.append.new.shelf) h x.ran.on.continues o keeps c.requires.room c.requires.is_of.flushed accepted
+    (λ i. x.ran.on.others (drive i) (λ none. none)) x.fewer x.dropped (x.any_moment h held.log keeps holds) (x.ran.on.writes h) (x.spelled 0 _ refl) in_force in
     append_moments a m r log.members now held cmd p
 
 pub returns-then-eq-clause-held : goal.returns-then-eq-clause-held
@@ -66,20 +66,20 @@ returns-then-eq-clause-held g c h held o holds keeps accepted in_force =
     let now = c.append.new.self.members in
     let cmd : Command = record { request = c.args.request.now; sectors = c.args.sectors.now } in
     let x = c.append.ensures in
-    let p = appending a m r log now held cmd (g.met.S.Shelf.is_shelf c.args.shelf.now) (g.met.S.Shelf.is_shelf c.append.new.shelf) h x.continues o keeps c.requires.room c.requires.is_of.flushed accepted
-    x.drives x.fewer x.dropped (x.any_moment h held.log keeps holds) (x.writes h) (x.spelled 0 _ refl) in_force in
+    let p = appending a m r log now held cmd (g.met.S.Shelf.is_shelf c.args.shelf.now) (g.met.S.Shelf.is_shelf c.append.new.shelf) h x.ran.on.continues o keeps c.requires.room c.requires.is_of.flushed accepted
+    (λ i. x.ran.on.others (drive i) (λ none. none)) x.fewer x.dropped (x.any_moment h held.log keeps holds) (x.ran.on.writes h) (x.spelled 0 _ refl) in_force in
     let held_then : HoldsOn m now r.record.flushed (held.log ++ cmd ∷ []) = subst (λ (f : ℕ). HoldsOn m now f (held.log ++ cmd ∷ [])) (x.flushed ∙ c.requires.is_of.flushed) (c.in_ok-append.ensures.holds h held.log keeps holds) in
     let same : log.members ≡ now = sym c.members-before.ensures ∙ sym (same_flags c.members-members.result c.members-before.result c.if-eq.ensures) ∙ c.members-members.ensures in
     (still_open a m r log.members now held cmd p held_then same, c.in_ok-append.ensures.holds h held.log keeps holds)
 
 pub returns-in_err-store-clause-continues : goal.returns-in_err-store-clause-continues
-returns-in_err-store-clause-continues g c = continues_trans c.append.ensures.continues c.store.ensures.continues
+returns-in_err-store-clause-continues g c = continues_trans c.append.ensures.ran.on.continues c.store.ensures.continues
 
 pub returns-clause-continues : goal.returns-clause-continues
-returns-clause-continues g c = continues_trans c.append.ensures.continues c.store.ensures.continues
+returns-clause-continues g c = continues_trans c.append.ensures.ran.on.continues c.store.ensures.continues
 
 pub returns-clause-rest : goal.returns-clause-rest
-returns-clause-rest g c = g.met.S.Shelf.shelf_rest_stays.transitive _ _ _ c.append.ensures.rest c.store.ensures.rest
+returns-clause-rest g c = g.met.S.Shelf.shelf_rest_stays.transitive _ _ _ c.append.ensures.ran.rest c.store.ensures.rest
 
 pub returns-in_err-store-clause-lost : goal.returns-in_err-store-clause-lost
 returns-in_err-store-clause-lost g c =
@@ -88,9 +88,9 @@ returns-in_err-store-clause-lost g c =
     let n = g.S.Shelf.shelf c.store.new.shelf in
     let r = c.args.array.now.register in
     let q = err_from_is_err_and c.from_residual-in_err-store.result c.from_residual-in_err-store.ensures.1 in
-    let is : IsRegisterOf (geometry_of m) r = subst (λ (k : Geometry). IsRegisterOf k r) (same_geometry c.append.ensures.continues) c.requires.is_of.of_shelf in
+    let is : IsRegisterOf (geometry_of m) r = subst (λ (k : Geometry). IsRegisterOf k r) (same_geometry c.append.ensures.ran.on.continues) c.requires.is_of.of_shelf in
     let lost : IsLost a n c.args.array.now =
-    inr (lost_drives a m n r c.store.new.self c.append.ensures.drives is c.requires.not_spent c.store.ensures.dropped c.store.ensures.later c.in_err-store.ensures.lost c.in_err-store.field-0.0 c.in_err-store.ensures.fault) in
+    inr (lost_drives a m n r c.store.new.self (λ i. c.append.ensures.ran.on.others (drive i) (λ none. none)) is c.requires.not_spent c.store.ensures.dropped c.store.ensures.later c.in_err-store.ensures.lost c.in_err-store.field-0.0 c.in_err-store.ensures.fault) in
     subst (λ (t : Result (Unit {0}) PerformFault). IfErr t (λ e. (e ≡ Device) × IsLost a n c.args.array.now)) (sym q.1) (q.2, lost)
 
 pub returns-in_err-store-clause-any_moment : goal.returns-in_err-store-clause-any_moment
@@ -104,16 +104,16 @@ returns-in_err-store-clause-any_moment g c h held o holds keeps accepted in_forc
     let cmd : Command = record { request = c.args.request.now; sectors = c.args.sectors.now } in
     let x = c.append.ensures in
     let room : c.store.new.self.record.generation < 2 ^ 48 - 8 = omega (arith, c.store.ensures.few, c.requires.not_spent) in
-    let p = appending a m r log now held cmd (g.met.S.Shelf.is_shelf c.args.shelf.now) (g.met.S.Shelf.is_shelf c.append.new.shelf) h x.continues o keeps c.requires.room c.requires.is_of.flushed accepted
-    x.drives x.fewer x.dropped (x.any_moment h held.log keeps holds) (x.writes h) (x.spelled 0 _ refl) in_force in
+    let p = appending a m r log now held cmd (g.met.S.Shelf.is_shelf c.args.shelf.now) (g.met.S.Shelf.is_shelf c.append.new.shelf) h x.ran.on.continues o keeps c.requires.room c.requires.is_of.flushed accepted
+    (λ i. x.ran.on.others (drive i) (λ none. none)) x.fewer x.dropped (x.any_moment h held.log keeps holds) (x.ran.on.writes h) (x.spelled 0 _ refl) in_force in
     let held_then : HoldsOn m now r.record.flushed (held.log ++ cmd ∷ []) = subst (λ (f : ℕ). HoldsOn m now f (held.log ++ cmd ∷ [])) (x.flushed ∙ c.requires.is_of.flushed) (c.in_ok-append.ensures.holds h held.log keeps holds) in
     let storing : (missing : Conditions) (k : Content) (others : List plain.Array) → MayStore m r now missing k others → LeavesOnly m n (StandsBut m (drives_of r) missing (next_slot r.record) r.record others) =
     subst (λ (l : List Bool). (missing : Conditions) (k : Content) (others : List plain.Array) → MayStore m r l missing k others → LeavesOnly m n (StandsBut m (drives_of r) missing (next_slot r.record) r.record others))
-    c.members-members.ensures (c.store.ensures.any_moment (x.continues.honest h) room) in
+    c.members-members.ensures (c.store.ensures.any_moment (x.ran.on.continues.honest h) room) in
     let giving : (missing : Conditions) (k : Content) (others : List plain.Array) → MayStore m r now missing k others → LeavesOnly m n (GivesOldOrNext m r now missing) =
     subst (λ (l : List Bool). (missing : Conditions) (k : Content) (others : List plain.Array) → MayStore m r l missing k others → LeavesOnly m n (GivesOldOrNext m r l missing))
-    c.members-members.ensures (c.store.ensures.gives (x.continues.honest h) room) in
-    all_moments a m r log.members now held cmd p held_then n (off_nvrams (drives_of r)) (c.store.ensures.writes (x.continues.honest h)) storing giving
+    c.members-members.ensures (c.store.ensures.gives (x.ran.on.continues.honest h) room) in
+    all_moments a m r log.members now held cmd p held_then n (off_nvrams (drives_of r)) (c.store.ensures.writes (x.ran.on.continues.honest h)) storing giving
 
 pub returns-clause-any_moment : goal.returns-clause-any_moment
 returns-clause-any_moment g c h held o holds keeps accepted in_force =
@@ -126,16 +126,16 @@ returns-clause-any_moment g c h held o holds keeps accepted in_force =
     let cmd : Command = record { request = c.args.request.now; sectors = c.args.sectors.now } in
     let x = c.append.ensures in
     let room : c.store.new.self.record.generation < 2 ^ 48 - 8 = omega (arith, c.store.ensures.few, c.requires.not_spent) in
-    let p = appending a m r log now held cmd (g.met.S.Shelf.is_shelf c.args.shelf.now) (g.met.S.Shelf.is_shelf c.append.new.shelf) h x.continues o keeps c.requires.room c.requires.is_of.flushed accepted
-    x.drives x.fewer x.dropped (x.any_moment h held.log keeps holds) (x.writes h) (x.spelled 0 _ refl) in_force in
+    let p = appending a m r log now held cmd (g.met.S.Shelf.is_shelf c.args.shelf.now) (g.met.S.Shelf.is_shelf c.append.new.shelf) h x.ran.on.continues o keeps c.requires.room c.requires.is_of.flushed accepted
+    (λ i. x.ran.on.others (drive i) (λ none. none)) x.fewer x.dropped (x.any_moment h held.log keeps holds) (x.ran.on.writes h) (x.spelled 0 _ refl) in_force in
     let held_then : HoldsOn m now r.record.flushed (held.log ++ cmd ∷ []) = subst (λ (f : ℕ). HoldsOn m now f (held.log ++ cmd ∷ [])) (x.flushed ∙ c.requires.is_of.flushed) (c.in_ok-append.ensures.holds h held.log keeps holds) in
     let storing : (missing : Conditions) (k : Content) (others : List plain.Array) → MayStore m r now missing k others → LeavesOnly m n (StandsBut m (drives_of r) missing (next_slot r.record) r.record others) =
     subst (λ (l : List Bool). (missing : Conditions) (k : Content) (others : List plain.Array) → MayStore m r l missing k others → LeavesOnly m n (StandsBut m (drives_of r) missing (next_slot r.record) r.record others))
-    c.members-members.ensures (c.store.ensures.any_moment (x.continues.honest h) room) in
+    c.members-members.ensures (c.store.ensures.any_moment (x.ran.on.continues.honest h) room) in
     let giving : (missing : Conditions) (k : Content) (others : List plain.Array) → MayStore m r now missing k others → LeavesOnly m n (GivesOldOrNext m r now missing) =
     subst (λ (l : List Bool). (missing : Conditions) (k : Content) (others : List plain.Array) → MayStore m r l missing k others → LeavesOnly m n (GivesOldOrNext m r l missing))
-    c.members-members.ensures (c.store.ensures.gives (x.continues.honest h) room) in
-    all_moments a m r log.members now held cmd p held_then n (off_nvrams (drives_of r)) (c.store.ensures.writes (x.continues.honest h)) storing giving
+    c.members-members.ensures (c.store.ensures.gives (x.ran.on.continues.honest h) room) in
+    all_moments a m r log.members now held cmd p held_then n (off_nvrams (drives_of r)) (c.store.ensures.writes (x.ran.on.continues.honest h)) storing giving
 
 pub returns-clause-held : goal.returns-clause-held
 returns-clause-held g c h held o holds keeps accepted in_force =
@@ -148,12 +148,12 @@ returns-clause-held g c h held o holds keeps accepted in_force =
     let cmd : Command = record { request = c.args.request.now; sectors = c.args.sectors.now } in
     let x = c.append.ensures in
     let room : c.store.new.self.record.generation < 2 ^ 48 - 8 = omega (arith, c.store.ensures.few, c.requires.not_spent) in
-    let p = appending a m r log now held cmd (g.met.S.Shelf.is_shelf c.args.shelf.now) (g.met.S.Shelf.is_shelf c.append.new.shelf) h x.continues o keeps c.requires.room c.requires.is_of.flushed accepted
-    x.drives x.fewer x.dropped (x.any_moment h held.log keeps holds) (x.writes h) (x.spelled 0 _ refl) in_force in
+    let p = appending a m r log now held cmd (g.met.S.Shelf.is_shelf c.args.shelf.now) (g.met.S.Shelf.is_shelf c.append.new.shelf) h x.ran.on.continues o keeps c.requires.room c.requires.is_of.flushed accepted
+    (λ i. x.ran.on.others (drive i) (λ none. none)) x.fewer x.dropped (x.any_moment h held.log keeps holds) (x.ran.on.writes h) (x.spelled 0 _ refl) in_force in
     let held_then : HoldsOn m now r.record.flushed (held.log ++ cmd ∷ []) = subst (λ (f : ℕ). HoldsOn m now f (held.log ++ cmd ∷ [])) (x.flushed ∙ c.requires.is_of.flushed) (c.in_ok-append.ensures.holds h held.log keeps holds) in
     let in_log = logged_then a m r log.members now held cmd p held_then in
     let stored : IsOpen n c.store.new.self c.members-members.result (logged held cmd) =
-    c.in_ok-store.ensures.stored (x.continues.honest h) room (logged held cmd) (subst (λ (l : List Bool). StandsInLog m r l (logged held cmd)) (sym c.members-members.ensures) in_log) in
+    c.in_ok-store.ensures.stored (x.ran.on.continues.honest h) room (logged held cmd) (subst (λ (l : List Bool). StandsInLog m r l (logged held cmd)) (sym c.members-members.ensures) in_log) in
     let same : (k : ℕ) → n.disk (nvram k) ≡ m.disk (nvram k) = λ k. c.store.ensures.others (nvram k) (λ z. z) in
     let still = c.in_ok-append.ensures.holds h held.log keeps holds in (
       subst (λ (l : List Bool). IsOpen n c.store.new.self l (logged held cmd)) c.members-members.ensures stored,
@@ -187,7 +187,7 @@ returns-clause-dropped g c =
     let now : Array = record { memory = was.memory; log = c.append.new.self; register = c.store.new.self } in
     let x = c.append.ensures in
     let two : length was.log.members ≡ 2 = search rules in (
-      drops_failed a m n was now two x.drives (λ k. c.store.ensures.others (nvram k) (λ none. none)) x.dropped c.store.ensures.dropped,
+      drops_failed a m n was now two (λ i. x.ran.on.others (drive i) (λ none. none)) (λ k. c.store.ensures.others (nvram k) (λ none. none)) x.dropped c.store.ensures.dropped,
       none_joins (geometry_of a) was now c.members-members.result c.requires.is_of.of_shelf c.store.ensures.later c.store.ensures.fewer x.fewer c.members-members.ensures c.in_ok-store.ensures.members,
     )
 
@@ -196,7 +196,7 @@ returns-then-eq-clause-segments g c h contents hold =
     let a = g.S.Shelf.shelf c.args.shelf.now in
     let m = g.S.Shelf.shelf c.append.new.shelf in
     let was = c.args.array.now.register in
-    hold_kept (geometry_of a) a m was (unwritten a m was c.append.ensures.drives) contents (facts c.args.array.now.memory.memory.tables) c.requires.is_of.segments.places hold
+    hold_kept (geometry_of a) a m was (unwritten a m was (λ i. c.append.ensures.ran.on.others (drive i) (λ none. none))) contents (facts c.args.array.now.memory.memory.tables) c.requires.is_of.segments.places hold
 
 pub returns-clause-segments : goal.returns-clause-segments
 returns-clause-segments g c h contents hold =
@@ -209,7 +209,7 @@ returns-clause-segments g c h contents hold =
     let tables = facts c.args.array.now.memory.memory.tables in
     let of_shelf = c.requires.is_of.of_shelf in
     let fewer = fewer_drives was now c.store.ensures.later c.store.ensures.fewer in
-    let kept : AreKept a n now = behind_boot a m n was now c.append.ensures.drives (c.store.ensures.writes (c.append.ensures.continues.honest h)) in
+    let kept : AreKept a n now = behind_boot a m n was now (λ i. c.append.ensures.ran.on.others (drive i) (λ none. none)) (c.store.ensures.writes (c.append.ensures.ran.on.continues.honest h)) in
     let flags = drives_left (geometry_of a) was now of_shelf c.store.ensures.later (c.in_ok-store.ensures.members.0) c.store.ensures.is_of.lawful.lawful.members.drive_flags
     c.store.ensures.is_of.lawful.lawful.members.within c.in_ok-store.ensures.enough in
     hold_kept (geometry_of a) a n now kept contents tables places
@@ -224,4 +224,4 @@ returns-in_err-append-clause-lost g c =
     subst (λ (t : Result (Unit {0}) PerformFault). IfErr t (λ e. (e ≡ Device) × IsLost a m c.args.array.now)) (sym q.1) (q.2, lost)
 
 pub returns-in_err-store-clause-rest : goal.returns-in_err-store-clause-rest
-returns-in_err-store-clause-rest g c = g.met.S.Shelf.shelf_rest_stays.transitive _ _ _ c.append.ensures.rest c.store.ensures.rest
+returns-in_err-store-clause-rest g c = g.met.S.Shelf.shelf_rest_stays.transitive _ _ _ c.append.ensures.ran.rest c.store.ensures.rest

@@ -1,7 +1,6 @@
 use Rattle.std.proofs.Common.{◌≡◌, ℕ, ◌+◌, ◌<◌, Some, slice_get}
 use Rattle.pur_base.specs.Devices.{nvram}
-use Rattle.world.specs.Shelf.{Continues, OthersStay}
-use Rattle.world.specs.Writes.{WritesOnly}
+use Rattle.world.specs.Ran.{Only, Ran}
 use Rattle.nvram_log.specs.declared.record.Record.{Record}
 use Rattle.nvram_log.specs.Records.{FromSlot, StandsIn}
 use Rattle.nvram_log.proofs.bodies.write_bodies_on.Given as goal
@@ -12,10 +11,7 @@ invariant-loop-j g l =
     let b = g.S.Shelf.shelf l.shelf in
     let device = nvram l.device.0 in
     record {
-      continues : Continues a b;
-      rest : g.S.Shelf.shelf_rest l.initial.shelf l.shelf;
-      writes : a.honest → WritesOnly (FromSlot device l.first) a b;
-      others : OthersStay device a b;
+      ran : Ran g.S.Shelf.shelf g.S.Shelf.shelf_rest (Only device) (FromSlot device l.first) l.initial.shelf l.shelf;
       faults : (b.disk device).faults ≡ (a.disk device).faults;
       write_faults : (b.disk device).write_faults ≡ (a.disk device).write_faults;
       stood : a.honest → (k : ℕ) (r : Record) → k < l.j → slice_get l.records k ≡ Some r → StandsIn (b.disk device).bytes l.slots (l.first + k) r;

@@ -1,10 +1,8 @@
 use Rattle.std.proofs.Common.{◌≢◌, ◌<◌, length, arith, sym, ◌∙◌, below_more, get_or-set_other, get_or-set_same}
-use Rattle.world.proofs.Moments.{continues_trans}
-use Rattle.world.proofs.Writes.{writes_then, writes_more}
+use Rattle.world.proofs.Ran.{ran_then, ran_more}
 use Rattle.pur_base.specs.Devices.{nvram}
 use Rattle.nvram_log.specs.Members.{IsMember}
-use Rattle.nvram_log.proofs.Synced.{drive_apart}
-use Rattle.nvram_log.proofs.OnEach.{range_on_members, outcome_of, nvrams_apart}
+use Rattle.nvram_log.proofs.OnEach.{only_member, range_on_members, outcome_of, nvrams_apart}
 use Rattle.nvram_log.proofs.members.write_members.Goals as goal
 use Rattle.nvram_log.proofs.members.write_members.Goals.{then-members-device, else-members-device}
 
@@ -17,25 +15,19 @@ loop-device-preserved g c =
           let x = w.write_synced-answer in
           let member : IsMember c.args.members.now slot = sym (inv.same_ahead slot (omega arith)) ∙ w.if-members-device.true in
           rw (w.shelf-is, w.members-is) (record {
-            continues = continues_trans inv.continues x.ensures.continues;
-            rest = g.met.S.Shelf.shelf_rest_stays.transitive _ _ _ inv.rest x.ensures.rest;
-            drives = λ i. x.ensures.others _ (drive_apart i slot) ∙ inv.drives i;
-            writes = λ h. writes_then inv.continues (inv.writes h) (writes_more (range_on_members c.args.members.now slot c.args.at (length c.args.from.now) member) (x.ensures.writes (inv.continues.honest h)));
+            ran = ran_then g.met.S.Shelf.shelf_rest_stays inv.ran (ran_more (only_member c.args.members.now slot member) (range_on_members c.args.members.now slot c.args.at (length c.args.from.now) member) x.ensures.ran);
             passed = below_more _ _
-                (λ d lt. let ne : d ≢ slot = omega arith in rw (get_or-set_other, x.ensures.others (nvram d) (nvrams_apart d slot ne)) (inv.passed d lt))
+                (λ d lt. let ne : d ≢ slot = omega arith in rw (get_or-set_other, x.ensures.ran.on.others (nvram d) (nvrams_apart d slot ne)) (inv.passed d lt))
                 (let lt : slot < length c.loop-device.members = omega arith in
                 rw (get_or-set_same, w.is_ok.ensures.value, ← inv.disk_ahead slot (omega arith))
-                (outcome_of x.result _ _ _ _ _ member (λ h. x.ensures.written (inv.continues.honest h)) (λ h. x.ensures.clean (inv.continues.honest h)) x.ensures.counts));
+                (outcome_of x.result _ _ _ _ _ member (λ h. x.ensures.written (inv.ran.on.continues.honest h)) (λ h. x.ensures.clean (inv.ran.on.continues.honest h)) x.ensures.counts));
             same_ahead = λ d le. let ne : d ≢ slot = omega arith in rw get_or-set_other (inv.same_ahead d (omega arith));
-            disk_ahead = λ d le. x.ensures.others (nvram d) (nvrams_apart d slot (omega arith)) ∙ inv.disk_ahead d (omega arith);
+            disk_ahead = λ d le. x.ensures.ran.on.others (nvram d) (nvrams_apart d slot (omega arith)) ∙ inv.disk_ahead d (omega arith);
           })
       | else-members-device w ↦
           let shut : IsMember c.args.members.now slot → ⊥ = λ m. absurd (cc (inv.same_ahead slot (omega arith), w.if-members-device.false, m)) in
           rw (w.shelf-is, w.members-is) (record {
-            continues = inv.continues;
-            rest = inv.rest;
-            drives = inv.drives;
-            writes = inv.writes;
+            ran = inv.ran;
             passed = below_more _ _ inv.passed (record {
               before = λ is. absurd (cc (is, w.if-members-device.false));
               written = λ h is. absurd (cc (is, w.if-members-device.false));

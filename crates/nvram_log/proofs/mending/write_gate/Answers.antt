@@ -1,14 +1,12 @@
 use Rattle.std.proofs.Common.{◌≡◌, ◌∷◌, [], List, ℕ, length, slice_index, refl, arith}
 use Rattle.pur_base.specs.Devices.{nvram}
-use Rattle.world.specs.Writes.{OneRange}
-use Rattle.world.proofs.Writes.{write_writes}
+use Rattle.world.proofs.Ran.{ran_write}
 use Rattle.nvram_log.proofs.Mended.{gate_is, where_written}
 use Rattle.nvram_log.proofs.mending.write_gate.Goals as goal
 
-pub returns-clause-writes : goal.returns-clause-writes
-returns-clause-writes g c h =
-    let device = nvram c.args.device.0 in
-    write_writes (OneRange device c.args.slot 1) device (g.met.S.Shelf.is_shelf c.args.shelf.now) c.write.ensures.time c.write.ensures.others (c.write.ensures.device h) (λ i is. (refl, is))
+pub returns-clause-ran : goal.returns-clause-ran
+returns-clause-ran g c =
+    ran_write (nvram c.args.device.0) refl (g.met.S.Shelf.is_shelf c.args.shelf.now) c.write.ensures.time c.write.ensures.others c.write.ensures.rest c.write.ensures.device (λ i is. (refl, is))
 
 pub returns-clause-written : goal.returns-clause-written
 returns-clause-written g c h =

@@ -1,7 +1,6 @@
 use Rattle.std.proofs.Common.{◌≡◌, ℕ, ◌<◌, slice_index}
 use Rattle.pur_base.specs.Devices.{nvram}
-use Rattle.world.specs.Shelf.{Continues, OthersStay}
-use Rattle.world.specs.Writes.{WritesOnly}
+use Rattle.world.specs.Ran.{Only, Ran}
 use Rattle.nvram_log.specs.Members.{IsFlagged}
 use Rattle.nvram_log.specs.Settling.{OnGates}
 use Rattle.nvram_log.proofs.mending.write_some_gates.Given as goal
@@ -12,10 +11,7 @@ invariant-loop-i g l =
     let b = g.S.Shelf.shelf l.shelf in
     let device = nvram l.device.0 in
     record {
-      continues : Continues a b;
-      rest : g.S.Shelf.shelf_rest l.initial.shelf l.shelf;
-      writes : a.honest → WritesOnly (OnGates device l.flags) a b;
-      others : OthersStay device a b;
+      ran : Ran g.S.Shelf.shelf g.S.Shelf.shelf_rest (Only device) (OnGates device l.flags) l.initial.shelf l.shelf;
       faults : (b.disk device).faults ≡ (a.disk device).faults;
       write_faults : (b.disk device).write_faults ≡ (a.disk device).write_faults;
       stood : a.honest → (k : ℕ) → k < l.i → IsFlagged l.flags k → slice_index (b.disk device).bytes k ≡ l.gate;

@@ -3,8 +3,7 @@ use Rattle.pur_base.specs.Bytes.{bytes_at}
 use Rattle.log_codec.specs.Log.{slot_at}
 use Rattle.log_codec.specs.declared.limits.TheConstants.{SLOT_BYTES}
 use Rattle.pur_base.specs.Devices.{nvram}
-use Rattle.world.specs.Shelf.{Continues, OthersStay}
-use Rattle.world.specs.Writes.{WritesOnly}
+use Rattle.world.specs.Ran.{Only, Ran}
 use Rattle.nvram_log.specs.Members.{IsFlagged}
 use Rattle.nvram_log.specs.Settling.{OnSlots}
 use Rattle.nvram_log.proofs.mending.write_some_slots.Given as goal
@@ -15,10 +14,7 @@ invariant-loop-i g l =
     let b = g.S.Shelf.shelf l.shelf in
     let device = nvram l.device.0 in
     record {
-      continues : Continues a b;
-      rest : g.S.Shelf.shelf_rest l.initial.shelf l.shelf;
-      writes : a.honest → WritesOnly (OnSlots device l.flags) a b;
-      others : OthersStay device a b;
+      ran : Ran g.S.Shelf.shelf g.S.Shelf.shelf_rest (Only device) (OnSlots device l.flags) l.initial.shelf l.shelf;
       faults : (b.disk device).faults ≡ (a.disk device).faults;
       write_faults : (b.disk device).write_faults ≡ (a.disk device).write_faults;
       stood : a.honest → (k : ℕ) → k < l.i → IsFlagged l.flags k → slot_at k (b.disk device).bytes ≡ bytes_at (SLOT_BYTES * k) SLOT_BYTES l.slots;

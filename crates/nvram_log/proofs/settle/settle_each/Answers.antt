@@ -1,14 +1,12 @@
-use Rattle.std.proofs.Common.{rules, inl, inr, ◌≡◌, ◌≢◌, ◌<◌, ℕ, List, length, arith, sym, ◌∙◌, subst, refl, below_more, get_or-set_other, get_or-set_same}
-use Rattle.std.proofs.lemmas.Bool.{cases_lt}
+use Rattle.std.proofs.Common.{rules, ◌≡◌, ◌≢◌, ◌<◌, ℕ, List, length, arith, sym, ◌∙◌, subst, refl, below_more, get_or-set_other, get_or-set_same}
 use Rattle.pur_base.specs.Devices.{nvram}
 use Rattle.world.specs.Shelf.{Disk}
-use Rattle.world.proofs.Moments.{continues_trans, continues_refl, started, then_run, weaker}
-use Rattle.world.proofs.Writes.{writes_then, writes_more, nothing_written}
+use Rattle.world.proofs.Moments.{started, then_run, weaker}
+use Rattle.world.proofs.Ran.{ran_none, ran_then, ran_more}
 use Rattle.nvram_log.specs.declared.seen.SeenSlots.{SeenSlots}
 use Rattle.nvram_log.specs.Members.{IsMember}
 use Rattle.nvram_log.specs.Settling.{IsToSettle, SettlesBy, SettleBy}
-use Rattle.nvram_log.proofs.Synced.{drive_apart}
-use Rattle.nvram_log.proofs.OnEach.{outcome_of, nvrams_apart}
+use Rattle.nvram_log.proofs.OnEach.{only_member, outcome_of, nvrams_apart}
 use Rattle.nvram_log.proofs.Settled.{where_ok}
 use Rattle.nvram_log.proofs.SettledEach.{both_leave, nothing_settled, but_elsewhere, on_members, each_settles, settles_with, seen_at}
 use Rattle.nvram_log.proofs.settle.settle_each.Goals as goal
@@ -19,10 +17,7 @@ loop-device-init g c =
     let a = g.S.Shelf.shelf c.args.shelf.now in
     let shelf = g.met.S.Shelf.is_shelf c.args.shelf.now in
     record {
-      continues = continues_refl a;
-      rest = g.met.S.Shelf.shelf_rest_stays.reflexive _;
-      drives = λ i. refl;
-      writes = λ h. nothing_written a shelf;
+      ran = ran_none g.met.S.Shelf.shelf_rest_stays c.args.shelf.now shelf;
       passed = λ d lt. absurd (omega (arith, lt));
       later = λ d lt. absurd (omega (arith, lt));
       any_moment = λ h flushed commands long are. started a (SettleBy a c.args.members.now flushed commands) shelf
@@ -48,30 +43,27 @@ loop-device-preserved g c =
           let two : slot < 2 = omega arith in
           let there : length seen ≡ 2 = search rules in
           rw (w.shelf-is, w.members-is) (record {
-            continues = continues_trans inv.continues x.ensures.continues;
-            rest = g.met.S.Shelf.shelf_rest_stays.transitive _ _ _ inv.rest x.ensures.rest;
-            drives = λ i. x.ensures.others _ (drive_apart i slot) ∙ inv.drives i;
-            writes = λ h. writes_then inv.continues (inv.writes h) (writes_more (on_members c.args.members.now slot member) (x.ensures.writes (inv.continues.honest h)));
+            ran = ran_then g.met.S.Shelf.shelf_rest_stays inv.ran (ran_more (only_member c.args.members.now slot member) (on_members c.args.members.now slot member) x.ensures.ran);
             passed = below_more _ _
-                (λ d lt. let ne : d ≢ slot = omega arith in rw (get_or-set_other, x.ensures.others (nvram d) (nvrams_apart d slot ne)) (inv.passed d lt))
+                (λ d lt. let ne : d ≢ slot = omega arith in rw (get_or-set_other, x.ensures.ran.on.others (nvram d) (nvrams_apart d slot ne)) (inv.passed d lt))
                 (let lt : slot < length c.loop-device.members = omega arith in
                 rw (get_or-set_same, w.is_ok.ensures.value, ← here)
                 (outcome_of x.result _ _ _ _ _ member
-                (λ h. where_ok _ _ x.result (x.ensures.settled (inv.continues.honest h)) (λ f flushed commands s long at is. f flushed commands long (seen_at (b.disk (nvram slot)).bytes seen slot s flushed c.args.slots.now commands at is)))
-                (λ h. x.ensures.clean (inv.continues.honest h)) x.ensures.counts));
+                (λ h. where_ok _ _ x.result (x.ensures.settled (inv.ran.on.continues.honest h)) (λ f flushed commands s long at is. f flushed commands long (seen_at (b.disk (nvram slot)).bytes seen slot s flushed c.args.slots.now commands at is)))
+                (λ h. x.ensures.clean (inv.ran.on.continues.honest h)) x.ensures.counts));
             later = below_more _ _
-                (λ d lt. let ne : d ≢ slot = omega arith in rw (x.ensures.others (nvram d) (nvrams_apart d slot ne)) (inv.later d lt))
+                (λ d lt. let ne : d ≢ slot = omega arith in rw (x.ensures.ran.on.others (nvram d) (nvrams_apart d slot ne)) (inv.later d lt))
                 (record {
                   later = λ h was flushed commands s long at is bytes may.
                       subst (λ (disk : Disk). SettlesBy disk flushed commands bytes) here
-                      (x.ensures.later (inv.continues.honest h) flushed commands long
+                      (x.ensures.later (inv.ran.on.continues.honest h) flushed commands long
                       (seen_at (b.disk (nvram slot)).bytes seen slot s flushed c.args.slots.now commands at (subst (λ (disk : Disk). IsToSettle disk.bytes flushed s c.args.slots.now commands) (sym here) is)) bytes may);
                 });
             any_moment = λ h flushed commands long are.
                 let some = settles_with seen slot (omega (arith, two, there)) in
                 let mine = are slot some.0 two member some.1 in
                 let mine_now = seen_at (b.disk (nvram slot)).bytes seen slot some.0 flushed c.args.slots.now commands some.1 (subst (λ (disk : Disk). IsToSettle disk.bytes flushed some.0 c.args.slots.now commands) (sym here) mine) in
-                then_run inv.continues (inv.any_moment h flushed commands long are)
+                then_run inv.ran.on.continues (inv.any_moment h flushed commands long are)
                 (weaker (λ stop both n lt is. each_settles n slot lt two
                 (λ e. subst (λ (k : ℕ). SettlesBy (a.disk (nvram k)) flushed commands (stop.image (nvram k))) (sym e) (subst (λ (disk : Disk). SettlesBy disk flushed commands (stop.image (nvram slot))) here both.0))
                 (λ below.
@@ -79,19 +71,16 @@ loop-device-preserved g c =
                 (inv.later n below).later h is flushed commands other.0 long other.1 (are n other.0 lt is other.1) (stop.image (nvram n))
                 (but_elsewhere (nvram slot) (nvram n) (b.disk (nvram n)) (stop.image (nvram n)) (nvrams_apart n slot (omega (arith, below))) (both.1.bytes (nvram n))))
                 (λ above. subst (λ (disk : Disk). SettlesBy disk flushed commands (stop.image (nvram n))) (inv.disk_ahead n (omega (arith, above)))
-                (nothing_settled (b.disk (nvram n)) flushed commands (stop.image (nvram n)) ((g.met.S.Shelf.is_shelf c.loop-device.shelf).sizes (inv.continues.honest h) (nvram n) lt)
+                (nothing_settled (b.disk (nvram n)) flushed commands (stop.image (nvram n)) ((g.met.S.Shelf.is_shelf c.loop-device.shelf).sizes (inv.ran.on.continues.honest h) (nvram n) lt)
                 (but_elsewhere (nvram slot) (nvram n) (b.disk (nvram n)) (stop.image (nvram n)) (nvrams_apart n slot (omega (arith, above))) (both.1.bytes (nvram n))))))
-                (both_leave (x.ensures.any_moment (inv.continues.honest h) flushed commands long mine_now) (x.ensures.writes (inv.continues.honest h)).any_moment));
+                (both_leave (x.ensures.any_moment (inv.ran.on.continues.honest h) flushed commands long mine_now) (x.ensures.ran.on.writes (inv.ran.on.continues.honest h)).any_moment));
             same_ahead = λ d le. let ne : d ≢ slot = omega arith in rw get_or-set_other (inv.same_ahead d (omega arith));
-            disk_ahead = λ d le. x.ensures.others (nvram d) (nvrams_apart d slot (omega arith)) ∙ inv.disk_ahead d (omega arith);
+            disk_ahead = λ d le. x.ensures.ran.on.others (nvram d) (nvrams_apart d slot (omega arith)) ∙ inv.disk_ahead d (omega arith);
           })
       | else-members-device w ↦
           let shut : IsMember c.args.members.now slot → ⊥ = λ m. absurd (cc (inv.same_ahead slot (omega arith), w.if-members-device.false, m)) in
           rw (w.shelf-is, w.members-is) (record {
-            continues = inv.continues;
-            rest = inv.rest;
-            drives = inv.drives;
-            writes = inv.writes;
+            ran = inv.ran;
             passed = below_more _ _ inv.passed (record {
               before = λ is. absurd (cc (is, w.if-members-device.false));
               written = λ h is. absurd (cc (is, w.if-members-device.false));
@@ -119,14 +108,6 @@ returns-clause-holds g c h flushed commands long are =
           o.written h is flushed commands some.0 long some.1 (are n some.0 lt (o.before is) some.1);
       clean = λ n lt is. (inv.passed n (passed n lt)).clean h is;
     }
-
-pub returns-clause-others : goal.returns-clause-others
-returns-clause-others g c n out =
-    let inv = c.loop-device.invariant in
-    elim (cases_lt n c.loop-device.device) [
-      | inl lt ↦ (inv.passed n lt).others out
-      | inr le ↦ inv.disk_ahead n le
-    ]
 
 pub returns-clause-clean : goal.returns-clause-clean
 returns-clause-clean g c h n lt is = (c.loop-device.invariant.passed n (omega (arith, lt, c.loop-device-test.false, c.requires.members))).clean h is

@@ -1,10 +1,10 @@
 use Rattle.std.proofs.Common.{◌≡◌, ℕ, ◌<◌, ◌≤◌, List, length, Some, slice_get, slice_index_or, false}
 use Rattle.pur_base.specs.Commands.{Command}
-use Rattle.pur_base.specs.Devices.{drive, nvram}
-use Rattle.world.specs.Shelf.{Continues, LeavesOnly}
-use Rattle.world.specs.Writes.{WritesOnly}
+use Rattle.pur_base.specs.Devices.{nvram}
+use Rattle.world.specs.Shelf.{LeavesOnly}
+use Rattle.world.specs.Ran.{Ran}
 use Rattle.nvram_log.specs.declared.seen.SeenSlots.{SeenSlots}
-use Rattle.nvram_log.specs.Members.{IsMember, OnMembers, Outcome}
+use Rattle.nvram_log.specs.Members.{IsMember, IsOnMember, OnMembers, Outcome}
 use Rattle.nvram_log.specs.Slots.{IsLog}
 use Rattle.nvram_log.specs.Settling.{IsToSettle, AreToSettle, SettleBy}
 use Rattle.nvram_log.proofs.SettledEach.{Passed}
@@ -15,10 +15,7 @@ invariant-loop-device g l =
     let a = g.S.Shelf.shelf l.initial.shelf in
     let b = g.S.Shelf.shelf l.shelf in
     record {
-      continues : Continues a b;
-      rest : g.S.Shelf.shelf_rest l.initial.shelf l.shelf;
-      drives : (i : ℕ) → b.disk (drive i) ≡ a.disk (drive i);
-      writes : a.honest → WritesOnly (OnMembers l.initial.members) a b;
+      ran : Ran g.S.Shelf.shelf g.S.Shelf.shelf_rest (IsOnMember l.initial.members) (OnMembers l.initial.members) l.initial.shelf l.shelf;
       passed : (d : ℕ) → d < l.device → Outcome a.honest (IsMember l.initial.members d) (IsMember l.members d)
           ((flushed : ℕ) (commands : List Command) (s : SeenSlots) → length commands ≡ l.count → slice_get l.seen d ≡ Some s → IsToSettle (a.disk (nvram d)).bytes flushed s l.slots commands → IsLog (b.disk (nvram d)).bytes flushed commands)
           (a.disk (nvram d)) (b.disk (nvram d));

@@ -1,20 +1,15 @@
 use Rattle.std.proofs.Common.{rules, ◌≡◌, List, Bool, length, refl}
 use Rattle.pur_base.specs.Devices.{nvram}
 use Rattle.world.proofs.Moments.{continues_trans, then_run, weaker}
-use Rattle.world.proofs.Writes.{writes_then, writes_more, may_leave_but, unchanged}
+use Rattle.world.proofs.Writes.{may_leave_but, unchanged}
+use Rattle.world.proofs.Ran.{ran_then, ran_more}
 use Rattle.nvram_log.specs.Settling.{GatesAre, SlotsAre}
 use Rattle.nvram_log.proofs.Storing.{none_dirty}
 use Rattle.nvram_log.proofs.Settled.{flags_of, where_ok, on_gates, on_slots, while_closing, while_copying, while_opening, settled}
 use Rattle.nvram_log.proofs.settle.settle_on.Goals as goal
 
-pub returns-in_err-write_some_gates-clause-writes : goal.returns-in_err-write_some_gates-clause-writes
-returns-in_err-write_some_gates-clause-writes g c h =
-    let a = g.S.Shelf.shelf c.args.shelf.now in
-    let d = nvram c.args.device.0 in
-    let closing : List Bool = c.closing-closing.result in
-    let lacking : List Bool = c.lacking-lacking.result in
-    let w1 = c.write_some_gates.ensures.writes h in
-    writes_more (on_gates d closing) w1
+pub returns-in_err-write_some_gates-clause-ran : goal.returns-in_err-write_some_gates-clause-ran
+returns-in_err-write_some_gates-clause-ran g c = ran_more (λ d is. is) (on_gates _ c.closing-closing.result) c.write_some_gates.ensures.ran
 
 pub returns-in_err-write_some_gates-clause-any_moment : goal.returns-in_err-write_some_gates-clause-any_moment
 returns-in_err-write_some_gates-clause-any_moment g c h flushed commands long is =
@@ -22,7 +17,7 @@ returns-in_err-write_some_gates-clause-any_moment g c h flushed commands long is
     let d = nvram c.args.device.0 in
     let closing : List Bool = c.closing-closing.result in
     let lacking : List Bool = c.lacking-lacking.result in
-    let w1 = c.write_some_gates.ensures.writes h in
+    let w1 = c.write_some_gates.ensures.ran.on.writes h in
     let size : length closing ≡ 64 = search rules in
     let flags = flags_of c.args.seen.now c.args.count (length commands) closing lacking size long c.closing-closing.ensures c.lacking-lacking.ensures in
     let shelf = g.met.S.Shelf.is_shelf c.args.shelf.now in
@@ -34,20 +29,14 @@ returns-in_err-write_some_gates-clause-later g c h flushed commands long is byte
     let d = nvram c.args.device.0 in
     let closing : List Bool = c.closing-closing.result in
     let lacking : List Bool = c.lacking-lacking.result in
-    let w1 = c.write_some_gates.ensures.writes h in
+    let w1 = c.write_some_gates.ensures.ran.on.writes h in
     let size : length closing ≡ 64 = search rules in
     let flags = flags_of c.args.seen.now c.args.count (length commands) closing lacking size long c.closing-closing.ensures c.lacking-lacking.ensures in
     let shelf = g.met.S.Shelf.is_shelf c.args.shelf.now in
     while_closing (a.disk d) d flushed c.args.seen.now c.args.slots.now commands closing lacking (shelf.sizes h d c.requires.device) (shelf.bytes h d) is flags bytes (may_leave_but (w1.device d) may)
 
-pub returns-then-not-has_flag-clause-writes : goal.returns-then-not-has_flag-clause-writes
-returns-then-not-has_flag-clause-writes g c h =
-    let a = g.S.Shelf.shelf c.args.shelf.now in
-    let d = nvram c.args.device.0 in
-    let closing : List Bool = c.closing-closing.result in
-    let lacking : List Bool = c.lacking-lacking.result in
-    let w1 = c.write_some_gates.ensures.writes h in
-    writes_more (on_gates d closing) w1
+pub returns-then-not-has_flag-clause-ran : goal.returns-then-not-has_flag-clause-ran
+returns-then-not-has_flag-clause-ran g c = ran_more (λ d is. is) (on_gates _ c.closing-closing.result) c.write_some_gates.ensures.ran
 
 pub returns-then-not-has_flag-clause-any_moment : goal.returns-then-not-has_flag-clause-any_moment
 returns-then-not-has_flag-clause-any_moment g c h flushed commands long is =
@@ -55,7 +44,7 @@ returns-then-not-has_flag-clause-any_moment g c h flushed commands long is =
     let d = nvram c.args.device.0 in
     let closing : List Bool = c.closing-closing.result in
     let lacking : List Bool = c.lacking-lacking.result in
-    let w1 = c.write_some_gates.ensures.writes h in
+    let w1 = c.write_some_gates.ensures.ran.on.writes h in
     let size : length closing ≡ 64 = search rules in
     let flags = flags_of c.args.seen.now c.args.count (length commands) closing lacking size long c.closing-closing.ensures c.lacking-lacking.ensures in
     let shelf = g.met.S.Shelf.is_shelf c.args.shelf.now in
@@ -67,7 +56,7 @@ returns-then-not-has_flag-clause-later g c h flushed commands long is bytes may 
     let d = nvram c.args.device.0 in
     let closing : List Bool = c.closing-closing.result in
     let lacking : List Bool = c.lacking-lacking.result in
-    let w1 = c.write_some_gates.ensures.writes h in
+    let w1 = c.write_some_gates.ensures.ran.on.writes h in
     let size : length closing ≡ 64 = search rules in
     let flags = flags_of c.args.seen.now c.args.count (length commands) closing lacking size long c.closing-closing.ensures c.lacking-lacking.ensures in
     let shelf = g.met.S.Shelf.is_shelf c.args.shelf.now in
@@ -79,9 +68,9 @@ returns-then-not-has_flag-clause-settled g c h flushed commands long is =
     let d = nvram c.args.device.0 in
     let closing : List Bool = c.closing-closing.result in
     let lacking : List Bool = c.lacking-lacking.result in
-    let w1 = c.write_some_gates.ensures.writes h in
+    let w1 = c.write_some_gates.ensures.ran.on.writes h in
     let b = g.S.Shelf.shelf c.write_some_gates.new.shelf in
-    let k1 = c.write_some_gates.ensures.continues in
+    let k1 = c.write_some_gates.ensures.ran.on.continues in
     let shut : GatesAre closing 0 (b.disk d).bytes = c.in_ok-write_some_gates.ensures.written h in
     let clean1 = c.in_ok-write_some_gates.ensures.clean h in
     let size : length closing ≡ 64 = search rules in
@@ -90,19 +79,9 @@ returns-then-not-has_flag-clause-settled g c h flushed commands long is =
     let none = c.has_flag.ensures c.if-not-has_flag.true in
     settled (a.disk d) d flushed c.args.seen.now c.args.slots.now commands closing lacking (shelf.sizes h d c.requires.device) (shelf.bytes h d) is flags (b.disk d) (w1.device d) shut clean1 (b.disk d) (unchanged (b.disk d)) (λ i lt flag. absurd (none i flag)) clean1 (b.disk d).bytes refl (λ k out. refl) (λ i lt flag. absurd (none i flag))
 
-pub returns-in_err-write_some_slots-clause-writes : goal.returns-in_err-write_some_slots-clause-writes
-returns-in_err-write_some_slots-clause-writes g c h =
-    let a = g.S.Shelf.shelf c.args.shelf.now in
-    let d = nvram c.args.device.0 in
-    let closing : List Bool = c.closing-closing.result in
-    let lacking : List Bool = c.lacking-lacking.result in
-    let w1 = c.write_some_gates.ensures.writes h in
-    let b = g.S.Shelf.shelf c.write_some_gates.new.shelf in
-    let k1 = c.write_some_gates.ensures.continues in
-    let shut : GatesAre closing 0 (b.disk d).bytes = c.in_ok-write_some_gates.ensures.written h in
-    let clean1 = c.in_ok-write_some_gates.ensures.clean h in
-    let w2 = c.write_some_slots.ensures.writes (k1.honest h) in
-    writes_then k1 (writes_more (on_gates d closing) w1) (writes_more (on_slots d lacking) w2)
+pub returns-in_err-write_some_slots-clause-ran : goal.returns-in_err-write_some_slots-clause-ran
+returns-in_err-write_some_slots-clause-ran g c =
+    ran_then g.met.S.Shelf.shelf_rest_stays (ran_more (λ d is. is) (on_gates _ c.closing-closing.result) c.write_some_gates.ensures.ran) (ran_more (λ d is. is) (on_slots _ c.lacking-lacking.result) c.write_some_slots.ensures.ran)
 
 pub returns-in_err-write_some_slots-clause-any_moment : goal.returns-in_err-write_some_slots-clause-any_moment
 returns-in_err-write_some_slots-clause-any_moment g c h flushed commands long is =
@@ -110,12 +89,12 @@ returns-in_err-write_some_slots-clause-any_moment g c h flushed commands long is
     let d = nvram c.args.device.0 in
     let closing : List Bool = c.closing-closing.result in
     let lacking : List Bool = c.lacking-lacking.result in
-    let w1 = c.write_some_gates.ensures.writes h in
+    let w1 = c.write_some_gates.ensures.ran.on.writes h in
     let b = g.S.Shelf.shelf c.write_some_gates.new.shelf in
-    let k1 = c.write_some_gates.ensures.continues in
+    let k1 = c.write_some_gates.ensures.ran.on.continues in
     let shut : GatesAre closing 0 (b.disk d).bytes = c.in_ok-write_some_gates.ensures.written h in
     let clean1 = c.in_ok-write_some_gates.ensures.clean h in
-    let w2 = c.write_some_slots.ensures.writes (k1.honest h) in
+    let w2 = c.write_some_slots.ensures.ran.on.writes (k1.honest h) in
     let size : length closing ≡ 64 = search rules in
     let flags = flags_of c.args.seen.now c.args.count (length commands) closing lacking size long c.closing-closing.ensures c.lacking-lacking.ensures in
     let shelf = g.met.S.Shelf.is_shelf c.args.shelf.now in
@@ -127,35 +106,22 @@ returns-in_err-write_some_slots-clause-later g c h flushed commands long is byte
     let d = nvram c.args.device.0 in
     let closing : List Bool = c.closing-closing.result in
     let lacking : List Bool = c.lacking-lacking.result in
-    let w1 = c.write_some_gates.ensures.writes h in
+    let w1 = c.write_some_gates.ensures.ran.on.writes h in
     let b = g.S.Shelf.shelf c.write_some_gates.new.shelf in
-    let k1 = c.write_some_gates.ensures.continues in
+    let k1 = c.write_some_gates.ensures.ran.on.continues in
     let shut : GatesAre closing 0 (b.disk d).bytes = c.in_ok-write_some_gates.ensures.written h in
     let clean1 = c.in_ok-write_some_gates.ensures.clean h in
-    let w2 = c.write_some_slots.ensures.writes (k1.honest h) in
+    let w2 = c.write_some_slots.ensures.ran.on.writes (k1.honest h) in
     let size : length closing ≡ 64 = search rules in
     let flags = flags_of c.args.seen.now c.args.count (length commands) closing lacking size long c.closing-closing.ensures c.lacking-lacking.ensures in
     let shelf = g.met.S.Shelf.is_shelf c.args.shelf.now in
     while_copying (a.disk d) d flushed c.args.seen.now c.args.slots.now commands closing lacking (shelf.sizes h d c.requires.device) (shelf.bytes h d) is flags (b.disk d) (w1.device d) shut clean1 bytes (may_leave_but (w2.device d) may)
 
-pub returns-clause-writes : goal.returns-clause-writes
-returns-clause-writes g c h =
-    let a = g.S.Shelf.shelf c.args.shelf.now in
-    let d = nvram c.args.device.0 in
-    let closing : List Bool = c.closing-closing.result in
-    let lacking : List Bool = c.lacking-lacking.result in
-    let w1 = c.write_some_gates.ensures.writes h in
-    let b = g.S.Shelf.shelf c.write_some_gates.new.shelf in
-    let k1 = c.write_some_gates.ensures.continues in
-    let shut : GatesAre closing 0 (b.disk d).bytes = c.in_ok-write_some_gates.ensures.written h in
-    let clean1 = c.in_ok-write_some_gates.ensures.clean h in
-    let w2 = c.write_some_slots.ensures.writes (k1.honest h) in
-    let e = g.S.Shelf.shelf c.write_some_slots.new.shelf in
-    let k2 = c.write_some_slots.ensures.continues in
-    let copied : SlotsAre lacking c.args.slots.now (e.disk d).bytes = c.in_ok-write_some_slots.ensures.written (k1.honest h) in
-    let clean2 = c.in_ok-write_some_slots.ensures.clean (k1.honest h) in
-    let w3 = c.write_some_gates-2.ensures.writes (k2.honest (k1.honest h)) in
-    writes_then (continues_trans k1 k2) (writes_then k1 (writes_more (on_gates d closing) w1) (writes_more (on_slots d lacking) w2)) (writes_more (on_gates d lacking) w3)
+pub returns-clause-ran : goal.returns-clause-ran
+returns-clause-ran g c =
+    let stays = g.met.S.Shelf.shelf_rest_stays in
+    let first = ran_then stays (ran_more (λ d is. is) (on_gates _ c.closing-closing.result) c.write_some_gates.ensures.ran) (ran_more (λ d is. is) (on_slots _ c.lacking-lacking.result) c.write_some_slots.ensures.ran) in
+    ran_then stays first (ran_more (λ d is. is) (on_gates _ c.lacking-lacking.result) c.write_some_gates-2.ensures.ran)
 
 pub returns-clause-settled : goal.returns-clause-settled
 returns-clause-settled g c h =
@@ -163,17 +129,17 @@ returns-clause-settled g c h =
     let d = nvram c.args.device.0 in
     let closing : List Bool = c.closing-closing.result in
     let lacking : List Bool = c.lacking-lacking.result in
-    let w1 = c.write_some_gates.ensures.writes h in
+    let w1 = c.write_some_gates.ensures.ran.on.writes h in
     let b = g.S.Shelf.shelf c.write_some_gates.new.shelf in
-    let k1 = c.write_some_gates.ensures.continues in
+    let k1 = c.write_some_gates.ensures.ran.on.continues in
     let shut : GatesAre closing 0 (b.disk d).bytes = c.in_ok-write_some_gates.ensures.written h in
     let clean1 = c.in_ok-write_some_gates.ensures.clean h in
-    let w2 = c.write_some_slots.ensures.writes (k1.honest h) in
+    let w2 = c.write_some_slots.ensures.ran.on.writes (k1.honest h) in
     let e = g.S.Shelf.shelf c.write_some_slots.new.shelf in
-    let k2 = c.write_some_slots.ensures.continues in
+    let k2 = c.write_some_slots.ensures.ran.on.continues in
     let copied : SlotsAre lacking c.args.slots.now (e.disk d).bytes = c.in_ok-write_some_slots.ensures.written (k1.honest h) in
     let clean2 = c.in_ok-write_some_slots.ensures.clean (k1.honest h) in
-    let w3 = c.write_some_gates-2.ensures.writes (k2.honest (k1.honest h)) in
+    let w3 = c.write_some_gates-2.ensures.ran.on.writes (k2.honest (k1.honest h)) in
     let f = g.S.Shelf.shelf c.write_some_gates-2.new.shelf in
     where_ok (GatesAre lacking 1 (f.disk d).bytes) _ c.write_some_gates-2.result (c.write_some_gates-2.ensures.written (k2.honest (k1.honest h)))
     (λ opened flushed commands long is.
@@ -189,17 +155,17 @@ returns-clause-any_moment g c h flushed commands long is =
     let d = nvram c.args.device.0 in
     let closing : List Bool = c.closing-closing.result in
     let lacking : List Bool = c.lacking-lacking.result in
-    let w1 = c.write_some_gates.ensures.writes h in
+    let w1 = c.write_some_gates.ensures.ran.on.writes h in
     let b = g.S.Shelf.shelf c.write_some_gates.new.shelf in
-    let k1 = c.write_some_gates.ensures.continues in
+    let k1 = c.write_some_gates.ensures.ran.on.continues in
     let shut : GatesAre closing 0 (b.disk d).bytes = c.in_ok-write_some_gates.ensures.written h in
     let clean1 = c.in_ok-write_some_gates.ensures.clean h in
-    let w2 = c.write_some_slots.ensures.writes (k1.honest h) in
+    let w2 = c.write_some_slots.ensures.ran.on.writes (k1.honest h) in
     let e = g.S.Shelf.shelf c.write_some_slots.new.shelf in
-    let k2 = c.write_some_slots.ensures.continues in
+    let k2 = c.write_some_slots.ensures.ran.on.continues in
     let copied : SlotsAre lacking c.args.slots.now (e.disk d).bytes = c.in_ok-write_some_slots.ensures.written (k1.honest h) in
     let clean2 = c.in_ok-write_some_slots.ensures.clean (k1.honest h) in
-    let w3 = c.write_some_gates-2.ensures.writes (k2.honest (k1.honest h)) in
+    let w3 = c.write_some_gates-2.ensures.ran.on.writes (k2.honest (k1.honest h)) in
     let size : length closing ≡ 64 = search rules in
     let flags = flags_of c.args.seen.now c.args.count (length commands) closing lacking size long c.closing-closing.ensures c.lacking-lacking.ensures in
     let shelf = g.met.S.Shelf.is_shelf c.args.shelf.now in
@@ -211,17 +177,17 @@ returns-clause-later g c h flushed commands long is bytes may =
     let d = nvram c.args.device.0 in
     let closing : List Bool = c.closing-closing.result in
     let lacking : List Bool = c.lacking-lacking.result in
-    let w1 = c.write_some_gates.ensures.writes h in
+    let w1 = c.write_some_gates.ensures.ran.on.writes h in
     let b = g.S.Shelf.shelf c.write_some_gates.new.shelf in
-    let k1 = c.write_some_gates.ensures.continues in
+    let k1 = c.write_some_gates.ensures.ran.on.continues in
     let shut : GatesAre closing 0 (b.disk d).bytes = c.in_ok-write_some_gates.ensures.written h in
     let clean1 = c.in_ok-write_some_gates.ensures.clean h in
-    let w2 = c.write_some_slots.ensures.writes (k1.honest h) in
+    let w2 = c.write_some_slots.ensures.ran.on.writes (k1.honest h) in
     let e = g.S.Shelf.shelf c.write_some_slots.new.shelf in
-    let k2 = c.write_some_slots.ensures.continues in
+    let k2 = c.write_some_slots.ensures.ran.on.continues in
     let copied : SlotsAre lacking c.args.slots.now (e.disk d).bytes = c.in_ok-write_some_slots.ensures.written (k1.honest h) in
     let clean2 = c.in_ok-write_some_slots.ensures.clean (k1.honest h) in
-    let w3 = c.write_some_gates-2.ensures.writes (k2.honest (k1.honest h)) in
+    let w3 = c.write_some_gates-2.ensures.ran.on.writes (k2.honest (k1.honest h)) in
     let size : length closing ≡ 64 = search rules in
     let flags = flags_of c.args.seen.now c.args.count (length commands) closing lacking size long c.closing-closing.ensures c.lacking-lacking.ensures in
     let shelf = g.met.S.Shelf.is_shelf c.args.shelf.now in

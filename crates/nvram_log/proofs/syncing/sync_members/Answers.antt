@@ -1,11 +1,9 @@
 use Rattle.std.proofs.Common.{◌≢◌, ◌<◌, length, arith, sym, ◌∙◌, below_more, get_or-set_other, get_or-set_same}
-use Rattle.world.proofs.Moments.{continues_trans}
-use Rattle.world.proofs.Writes.{writes_then, sync_writes}
+use Rattle.world.proofs.Ran.{ran_then, ran_sync}
 use Rattle.pur_base.specs.Devices.{nvram}
 use Rattle.nvram_log.specs.Members.{IsMember}
-use Rattle.nvram_log.specs.Read.{OnNothing}
 use Rattle.nvram_log.proofs.OnEach.{outcome_of, nvrams_apart, always}
-use Rattle.nvram_log.proofs.Synced.{drive_apart, one_clean, clean_now, same_bytes, all_clean}
+use Rattle.nvram_log.proofs.Synced.{one_clean, clean_now, same_bytes, all_clean}
 use Rattle.nvram_log.proofs.syncing.sync_members.Goals as goal
 use Rattle.nvram_log.proofs.syncing.sync_members.Goals.{then-members-device, else-members-device}
 
@@ -19,33 +17,24 @@ loop-device-preserved g c =
       | then-members-device w ↦
           let x = w.sync-answer in
           let m = g.S.Shelf.shelf x.new.self in
-          let on = x.ensures.time.continues in
           let member : IsMember c.args.members.now slot = sym (inv.same_ahead slot (omega arith)) ∙ w.if-members-device.true in
           rw (w.shelf-is, w.members-is) (record {
-            continues = continues_trans inv.continues on;
-            rest = g.met.S.Shelf.shelf_rest_stays.transitive _ _ _ inv.rest x.ensures.rest;
-            writes = λ h. writes_then inv.continues (inv.writes h) (sync_writes OnNothing (nvram slot) shelf x.ensures.time x.ensures.others (x.ensures.device (inv.continues.honest h)));
-            bytes = λ h d. same_bytes b m (nvram slot) x.ensures.others (x.ensures.device (inv.continues.honest h)).bytes d ∙ inv.bytes h d;
-            drives = λ d. x.ensures.others _ (drive_apart d slot) ∙ inv.drives d;
-            others = λ n out. x.ensures.others (nvram n) (nvrams_apart n slot (λ e. out (rw e member))) ∙ inv.others n out;
-            still_clean = λ h d clean. all_clean b m (nvram slot) x.ensures.others (one_clean x.result _ _ (x.ensures.device (inv.continues.honest h))) d (inv.still_clean h d clean);
+            ran = ran_then g.met.S.Shelf.shelf_rest_stays inv.ran (ran_sync (nvram slot) member shelf x.ensures.time x.ensures.others x.ensures.rest x.ensures.device);
+            bytes = λ h d. same_bytes b m (nvram slot) x.ensures.others (x.ensures.device (inv.ran.on.continues.honest h)).bytes d ∙ inv.bytes h d;
+            still_clean = λ h d clean. all_clean b m (nvram slot) x.ensures.others (one_clean x.result _ _ (x.ensures.device (inv.ran.on.continues.honest h))) d (inv.still_clean h d clean);
             passed = below_more _ _
                 (λ d lt. let ne : d ≢ slot = omega arith in rw (get_or-set_other, x.ensures.others (nvram d) (nvrams_apart d slot ne)) (inv.passed d lt))
                 (let lt : slot < length c.loop-device.members = omega arith in
                 rw (get_or-set_same, w.is_ok.ensures.value, ← inv.disk_ahead slot (omega arith))
-                (outcome_of x.result _ _ _ _ _ member (λ h. always x.result _ tt) (λ h. clean_now x.result _ _ (x.ensures.device (inv.continues.honest h))) x.ensures.counts));
+                (outcome_of x.result _ _ _ _ _ member (λ h. always x.result _ tt) (λ h. clean_now x.result _ _ (x.ensures.device (inv.ran.on.continues.honest h))) x.ensures.counts));
             same_ahead = λ d le. let ne : d ≢ slot = omega arith in rw get_or-set_other (inv.same_ahead d (omega arith));
             disk_ahead = λ d le. x.ensures.others (nvram d) (nvrams_apart d slot (omega arith)) ∙ inv.disk_ahead d (omega arith);
           })
       | else-members-device w ↦
           let shut : IsMember c.args.members.now slot → ⊥ = λ m. absurd (cc (inv.same_ahead slot (omega arith), w.if-members-device.false, m)) in
           rw (w.shelf-is, w.members-is) (record {
-            continues = inv.continues;
-            rest = inv.rest;
-            writes = inv.writes;
+            ran = inv.ran;
             bytes = inv.bytes;
-            drives = inv.drives;
-            others = inv.others;
             still_clean = inv.still_clean;
             passed = below_more _ _ inv.passed (record {
               before = λ is. absurd (cc (is, w.if-members-device.false));

@@ -1,9 +1,8 @@
 use Rattle.std.proofs.Common.{◌≡◌, ℕ, ◌<◌, ◌≤◌, [], slice_index_or, false}
-use Rattle.world.specs.Shelf.{Continues}
-use Rattle.world.specs.Writes.{WritesOnly}
-use Rattle.pur_base.specs.Devices.{drive, nvram}
+use Rattle.world.specs.Ran.{Ran}
+use Rattle.pur_base.specs.Devices.{nvram}
 use Rattle.pur_base.specs.declared.device.Device.{Device}
-use Rattle.nvram_log.specs.Members.{IsMember, Outcome}
+use Rattle.nvram_log.specs.Members.{IsMember, IsOnMember, Outcome}
 use Rattle.nvram_log.specs.Read.{OnNothing}
 use Rattle.nvram_log.proofs.syncing.sync_members.Given as goal
 
@@ -12,12 +11,8 @@ invariant-loop-device g l =
     let a = g.S.Shelf.shelf l.initial.shelf in
     let b = g.S.Shelf.shelf l.shelf in
     record {
-      continues : Continues a b;
-      rest : g.S.Shelf.shelf_rest l.initial.shelf l.shelf;
-      writes : a.honest → WritesOnly OnNothing a b;
+      ran : Ran g.S.Shelf.shelf g.S.Shelf.shelf_rest (IsOnMember l.initial.members) OnNothing l.initial.shelf l.shelf;
       bytes : a.honest → (d : Device) → (b.disk d).bytes ≡ (a.disk d).bytes;
-      drives : (d : ℕ) → b.disk (drive d) ≡ a.disk (drive d);
-      others : (n : ℕ) → ¬ (IsMember l.initial.members n) → b.disk (nvram n) ≡ a.disk (nvram n);
       still_clean : a.honest → (d : Device) → (a.disk d).dirty ≡ [] → (b.disk d).dirty ≡ [];
       passed : (d : ℕ) → d < l.device → Outcome a.honest (IsMember l.initial.members d) (IsMember l.members d) (Unit {0}) (a.disk (nvram d)) (b.disk (nvram d));
       same_ahead : (d : ℕ) → l.device ≤ d → slice_index_or l.members d false ≡ slice_index_or l.initial.members d false;

@@ -25,8 +25,8 @@ loop-shard-preserved g c =
       progress = one_more (g.S.Shelf.shelf c.args.shelf.now) (g.S.Shelf.shelf c.loop-shard.shelf) (g.S.Shelf.shelf c.write_units.new.shelf) c.args.places.now (c.args.number + 1) (length c.args.stripes.now)
           c.args.lost.now.drives c.loop-shard.lost.drives c.write_units.new.lost.drives (λ shard bytes. IsRunOf (λ number. shard_of (shards_in c.args.stripes.now c.args.p.now c.args.q.now number) shard) (length c.args.stripes.now) bytes)
           c.loop-shard.shard _ c.run_of_shard-bytes.result.now
-          c.requires.places c.loop-shard-test.true run.size (g.met.S.Shelf.is_shelf c.write_units.new.shelf) inv.progress x.continues x.lost run.units x.written x.writes x.others;
-      rest = g.met.S.Shelf.shelf_rest_stays.transitive _ _ _ inv.rest x.rest;
+          c.requires.places c.loop-shard-test.true run.size (g.met.S.Shelf.is_shelf c.write_units.new.shelf) inv.progress x.ran.on.continues x.lost run.units x.written x.ran.on.writes x.ran.on.others;
+      rest = g.met.S.Shelf.shelf_rest_stays.transitive _ _ _ inv.rest x.ran.rest;
     }
 
 pub returns-clause-written : goal.returns-clause-written

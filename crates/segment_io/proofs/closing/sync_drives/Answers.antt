@@ -20,8 +20,8 @@ loop-slot-preserved g c =
     let x = c.sync_drive.ensures in
     record {
       syncs = one_synced _ (g.S.Shelf.shelf c.loop-slot.shelf) _ c.args.drives.now c.args.lost.now.drives c.loop-slot.lost.drives c.sync_drive.new.lost.drives c.loop-slot.slot
-          c.if-not-drives-slot.false (g.met.S.Shelf.is_shelf c.sync_drive.new.shelf) inv.syncs x.continues x.lost x.clean x.bytes x.writes x.others;
-      rest = g.met.S.Shelf.shelf_rest_stays.transitive _ _ _ inv.rest x.rest;
+          c.if-not-drives-slot.false (g.met.S.Shelf.is_shelf c.sync_drive.new.shelf) inv.syncs x.ran.on.continues x.lost x.clean x.bytes x.ran.on.writes x.ran.on.others;
+      rest = g.met.S.Shelf.shelf_rest_stays.transitive _ _ _ inv.rest x.ran.rest;
     }
 
 pub sync_drive-requires : goal.sync_drive-requires

@@ -20,6 +20,6 @@ loop-shard-preserved g c =
     record {
       progress = one_more (g.S.Shelf.shelf c.args.shelf.now) (g.S.Shelf.shelf c.loop-shard.shelf) (g.S.Shelf.shelf c.write_units.new.shelf) c.args.places.now 0 1
           c.args.lost.now.drives c.loop-shard.lost.drives c.write_units.new.lost.drives (λ k bytes. bytes ≡ header_unit c.args.header.now k) c.loop-shard.shard _ c.spell_header-unit.result
-          c.requires.places c.loop-shard-test.true (omega arith) (g.met.S.Shelf.is_shelf c.write_units.new.shelf) inv.progress x.continues x.lost c.spell_header-unit.ensures x.written x.writes x.others;
-      rest = g.met.S.Shelf.shelf_rest_stays.transitive _ _ _ inv.rest x.rest;
+          c.requires.places c.loop-shard-test.true (omega arith) (g.met.S.Shelf.is_shelf c.write_units.new.shelf) inv.progress x.ran.on.continues x.lost c.spell_header-unit.ensures x.written x.ran.on.writes x.ran.on.others;
+      rest = g.met.S.Shelf.shelf_rest_stays.transitive _ _ _ inv.rest x.ran.rest;
     }

@@ -1,6 +1,9 @@
 use Rattle.std.proofs.Common.{rules, take, drop, ◌≡◌, ◌<◌, ◌+◌, ◌*◌, ◌-◌, true, sym, ◌∙◌, ap, arith}
-use Rattle.world.proofs.Moments.{continues_refl, continues_trans}
-use Rattle.world.proofs.Writes.{writes_then}
+use Rattle.pur_base.specs.declared.device.Device.{Device}
+use Rattle.world.specs.Ran.{Only}
+use Rattle.world.proofs.Moments.{continues_refl}
+use Rattle.world.proofs.Ran.{ran_then, ran_more}
+use Rattle.segment_io.specs.Places.{drive_of, IsOnPlace}
 use Rattle.std.specs.Prelude.{slice_set}
 use Rattle.std.proofs.lemmas.Result.{err_from_is_err_and}
 use Rattle.pur_base.specs.Bytes.{bytes_at}
@@ -19,9 +22,6 @@ returns-then-not-is_unknown-clause-sector g c h view bytes shows stands =
     ∙ read_directly (g.S.Shelf.shelf c.args.shelf.now) (g.S.Shelf.shelf c.read_part-is_unknown.new.shelf) c.args.places.now c.args.missing.now c.args.index p _ c.read_part-is_unknown.new.into view bytes
     c.requires.places h of (c.missing_shards-unknown.ensures p.shard (omega (arith, e.bounds.shard))) c.if-not-is_unknown.ensures.read shows stands
 
-pub returns-in_err-read_stripe-clause-continues : goal.returns-in_err-read_stripe-clause-continues
-returns-in_err-read_stripe-clause-continues g c = continues_trans c.read_part-is_unknown.ensures.continues c.read_stripe.ensures.continues
-
 pub returns-in_err-read_stripe-clause-lost : goal.returns-in_err-read_stripe-clause-lost
 returns-in_err-read_stripe-clause-lost g c =
     let r = err_from_is_err_and c.from_residual.result c.from_residual.ensures.1 in
@@ -34,21 +34,9 @@ returns-in_err-read_stripe-clause-lost g c =
     let flags = c.missing_shards-unknown.result in
     let lt : p.shard < 9 = omega (arith, c.of-position.ensures.bounds.shard) in
     let tried : Tried a b places (is_missing_in c.args.missing.now places) (slice_set flags p.shard true) =
-    tried_one a a b places (is_missing_in c.args.missing.now places) flags p.shard true _ _ _ c.requires.places (g.met.S.Shelf.is_shelf c.read_part-is_unknown.new.shelf) (continues_refl a) x.continues lt (omega arith)
-    (tried_none a places (is_missing_in c.args.missing.now places) flags c.missing_shards-unknown.ensures) c.if-not-is_unknown.ensures.read x.others in
-    rw (r.1, r.2) (lost_in_all a b n places (is_missing_in c.args.missing.now places) (slice_set flags p.shard true) c.in_err-read_stripe.field-0.0.drives (g.met.S.Shelf.is_shelf c.read_stripe.new.shelf) x.continues c.read_stripe.ensures.continues tried c.in_err-read_stripe.ensures.lost)
-
-pub returns-in_err-read_stripe-clause-writes : goal.returns-in_err-read_stripe-clause-writes
-returns-in_err-read_stripe-clause-writes g c h =
-    let x = c.read_part-is_unknown.ensures in
-    writes_then x.continues (x.writes h) (c.read_stripe.ensures.writes (x.continues.honest h))
-
-pub returns-in_err-read_stripe-clause-others : goal.returns-in_err-read_stripe-clause-others
-returns-in_err-read_stripe-clause-others g c device none =
-    c.read_stripe.ensures.others device none ∙ c.read_part-is_unknown.ensures.others device (none c.of-position.result.shard (omega (arith, c.of-position.ensures.bounds.shard)))
-
-pub returns-clause-continues : goal.returns-clause-continues
-returns-clause-continues g c = continues_trans c.read_part-is_unknown.ensures.continues c.read_stripe.ensures.continues
+    tried_one a a b places (is_missing_in c.args.missing.now places) flags p.shard true _ _ _ c.requires.places (g.met.S.Shelf.is_shelf c.read_part-is_unknown.new.shelf) (continues_refl a) x.ran.on.continues lt (omega arith)
+    (tried_none a places (is_missing_in c.args.missing.now places) flags c.missing_shards-unknown.ensures) c.if-not-is_unknown.ensures.read x.ran.on.others in
+    rw (r.1, r.2) (lost_in_all a b n places (is_missing_in c.args.missing.now places) (slice_set flags p.shard true) c.in_err-read_stripe.field-0.0.drives (g.met.S.Shelf.is_shelf c.read_stripe.new.shelf) x.ran.on.continues c.read_stripe.ensures.ran.on.continues tried c.in_err-read_stripe.ensures.lost)
 
 pub returns-clause-sector : goal.returns-clause-sector
 returns-clause-sector g c h view bytes shows stands =
@@ -64,16 +52,21 @@ returns-clause-sector g c h view bytes shows stands =
     let flags = c.missing_shards-unknown.result in
     let lt : p.shard < 9 = omega (arith, e.bounds.shard) in
     let tried : Tried a b places (is_missing_in c.args.missing.now places) (slice_set flags p.shard true) =
-    tried_one a a b places (is_missing_in c.args.missing.now places) flags p.shard true _ _ _ c.requires.places (g.met.S.Shelf.is_shelf c.read_part-is_unknown.new.shelf) (continues_refl a) x.continues lt (omega arith)
-    (tried_none a places (is_missing_in c.args.missing.now places) flags c.missing_shards-unknown.ensures) c.if-not-is_unknown.ensures.read x.others in
-    let whole = c.in_ok-read_stripe.ensures.read (x.continues.honest h) s.0 (is_on a b n places c.args.missing.now (slice_set flags p.shard true) p.stripe view s.0 c.requires.places (x.same h) tried shows s.1) in
+    tried_one a a b places (is_missing_in c.args.missing.now places) flags p.shard true _ _ _ c.requires.places (g.met.S.Shelf.is_shelf c.read_part-is_unknown.new.shelf) (continues_refl a) x.ran.on.continues lt (omega arith)
+    (tried_none a places (is_missing_in c.args.missing.now places) flags c.missing_shards-unknown.ensures) c.if-not-is_unknown.ensures.read x.ran.on.others in
+    let whole = c.in_ok-read_stripe.ensures.read (x.ran.on.continues.honest h) s.0 (is_on a b n places c.args.missing.now (slice_set flags p.shard true) p.stripe view s.0 c.requires.places (x.same h) tried shows s.1) in
     let from = 512 * p.eighth in
     let all : 512 ≡ from + 512 - from = omega arith in
     let part = shard_of c.read_stripe.new.shards p.shard in
     let copied : c.copy_from_slice.new.self ≡ take (from + 512 - from) (drop from part) = search rules in
     c.new-2.ensures ∙ copied ∙ sym (ap (λ k. take k (drop from part)) all) ∙ ap (λ ss. bytes_at (512 * p.eighth) 512 (shard_of ss p.shard)) whole ∙ sym s.2
 
-pub returns-clause-writes : goal.returns-clause-writes
-returns-clause-writes g c h =
-    let x = c.read_part-is_unknown.ensures in
-    writes_then x.continues (x.writes h) (c.read_stripe.ensures.writes (x.continues.honest h))
+pub returns-in_err-read_stripe-clause-ran : goal.returns-in_err-read_stripe-clause-ran
+returns-in_err-read_stripe-clause-ran g c =
+    let on : (d : Device) → Only (drive_of c.args.places.now c.of-position.result.shard) d → IsOnPlace c.args.places.now d = λ d e. (c.of-position.result.shard, omega (arith, c.of-position.ensures.bounds.shard), e) in
+    ran_then g.met.S.Shelf.shelf_rest_stays (ran_more on (λ d i w. w) c.read_part-is_unknown.ensures.ran) c.read_stripe.ensures.ran
+
+pub returns-clause-ran : goal.returns-clause-ran
+returns-clause-ran g c =
+    let on : (d : Device) → Only (drive_of c.args.places.now c.of-position.result.shard) d → IsOnPlace c.args.places.now d = λ d e. (c.of-position.result.shard, omega (arith, c.of-position.ensures.bounds.shard), e) in
+    ran_then g.met.S.Shelf.shelf_rest_stays (ran_more on (λ d i w. w) c.read_part-is_unknown.ensures.ran) c.read_stripe.ensures.ran

@@ -1,9 +1,8 @@
-use Rattle.std.proofs.Common.{◌+◌, ◌*◌, true, ◌∙◌, ap, arith}
+use Rattle.std.proofs.Common.{refl, ◌+◌, true, ◌∙◌, ap, arith}
 use Rattle.std.specs.Prelude.{slice_set}
 use Rattle.std.proofs.lemmas.Result.{err_from_is_err_and}
 use Rattle.pur_base.specs.Bytes.{bytes_at}
-use Rattle.world.specs.Writes.{OneRange}
-use Rattle.world.proofs.Writes.{writes_then, sync_writes}
+use Rattle.world.proofs.Ran.{ran_then, ran_sync}
 use Rattle.segment_io.specs.Places.{place_of, drive_of, write_unit_at}
 use Rattle.segment_io.specs.Reads.{is_unknown}
 use Rattle.segment_io.specs.Rebuilds.{is_wanted}
@@ -18,13 +17,6 @@ returns-in_err-rebuild_stripes-clause-fault g c =
     rw (r.1, r.2) (fault_as (g.S.Shelf.shelf c.args.shelf.now) (g.S.Shelf.shelf c.rebuild_stripes.new.shelf) places (is_unknown (slice_set flags c.args.shard true)) (is_wanted c.args.shard c.args.missing.now places) c.args.shard c.in_err-rebuild_stripes.field-0.0
     (wanted_flags c.args.missing.now flags places c.args.shard (omega arith) c.requires.shard c.missing_shards-unknown.ensures) c.in_err-rebuild_stripes.ensures.fault)
 
-pub returns-then-is_err-clause-writes : goal.returns-then-is_err-clause-writes
-returns-then-is_err-clause-writes g c h =
-    let W = OneRange (drive_of c.args.places.now c.args.shard) (write_unit_at (place_of c.args.places.now c.args.shard) 1) (4096 * c.args.stripes) in
-    let x = c.rebuild_stripes.ensures.run in
-    let y = c.sync-answer.ensures in
-    writes_then x.continues (x.writes h) (sync_writes W (drive_of c.args.places.now c.args.shard) (g.met.S.Shelf.is_shelf c.rebuild_stripes.new.shelf) y.time y.others (y.device (x.continues.honest h)))
-
 pub returns-clause-rebuilt : goal.returns-clause-rebuilt
 returns-clause-rebuilt g c h view stripe whole lt shows stands =
     let x = c.rebuild_stripes.ensures.run in
@@ -37,9 +29,16 @@ returns-clause-rebuilt g c h view stripe whole lt shows stands =
     (wanted_flags c.args.missing.now flags places c.args.shard (omega arith) c.requires.shard c.missing_shards-unknown.ensures)
     (c.in_ok-rebuild_stripes.ensures.rebuilt h) lt shows stands
 
-pub returns-clause-writes : goal.returns-clause-writes
-returns-clause-writes g c h =
-    let W = OneRange (drive_of c.args.places.now c.args.shard) (write_unit_at (place_of c.args.places.now c.args.shard) 1) (4096 * c.args.stripes) in
-    let x = c.rebuild_stripes.ensures.run in
+pub returns-then-is_err-clause-ran : goal.returns-then-is_err-clause-ran
+returns-then-is_err-clause-ran g c =
+    let x = c.rebuild_stripes.ensures in
     let y = c.sync-answer.ensures in
-    writes_then x.continues (x.writes h) (sync_writes W (drive_of c.args.places.now c.args.shard) (g.met.S.Shelf.is_shelf c.rebuild_stripes.new.shelf) y.time y.others (y.device (x.continues.honest h)))
+    ran_then g.met.S.Shelf.shelf_rest_stays (record { on = record { continues = x.run.continues; others = x.run.others; writes = x.run.writes }; rest = x.rest })
+    (ran_sync (drive_of c.args.places.now c.args.shard) (c.args.shard, c.requires.shard, refl) (g.met.S.Shelf.is_shelf c.rebuild_stripes.new.shelf) y.time y.others y.rest y.device)
+
+pub returns-clause-ran : goal.returns-clause-ran
+returns-clause-ran g c =
+    let x = c.rebuild_stripes.ensures in
+    let y = c.sync-answer.ensures in
+    ran_then g.met.S.Shelf.shelf_rest_stays (record { on = record { continues = x.run.continues; others = x.run.others; writes = x.run.writes }; rest = x.rest })
+    (ran_sync (drive_of c.args.places.now c.args.shard) (c.args.shard, c.requires.shard, refl) (g.met.S.Shelf.is_shelf c.rebuild_stripes.new.shelf) y.time y.others y.rest y.device)

@@ -1,7 +1,6 @@
 use Rattle.std.proofs.Common.{◌+◌, arith, ◌∙◌, ap}
 use Rattle.std.proofs.lemmas.Result.{err_from_is_err_and}
-use Rattle.world.proofs.Moments.{continues_trans}
-use Rattle.world.proofs.Writes.{writes_then}
+use Rattle.world.proofs.Ran.{ran_then}
 use Rattle.segment_io.specs.Reads.{is_unknown}
 use Rattle.segment_io.specs.Runs.{data_byte}
 use Rattle.segment_io.proofs.Tried.{tried_then, lost_in_all}
@@ -13,50 +12,37 @@ returns-in_err-read_stripe-clause-tried g c =
     let x = c.read_directly.ensures in
     let y = c.read_stripe.ensures in
     tried_then (g.S.Shelf.shelf c.args.shelf.now) (g.S.Shelf.shelf c.read_directly.new.shelf) (g.S.Shelf.shelf c.read_stripe.new.shelf) c.args.places.now (is_unknown c.args.unknown.now) c.read_directly.new.unknown c.read_stripe.new.unknown
-    (g.met.S.Shelf.is_shelf c.read_stripe.new.shelf) x.continues y.continues x.tried y.tried
+    (g.met.S.Shelf.is_shelf c.read_stripe.new.shelf) x.ran.on.continues y.ran.on.continues x.tried y.tried
 
 pub returns-in_err-read_stripe-clause-lost : goal.returns-in_err-read_stripe-clause-lost
 returns-in_err-read_stripe-clause-lost g c =
     let r = err_from_is_err_and c.from_residual.result c.from_residual.ensures.1 in
     let x = c.read_directly.ensures in
     rw (r.1, r.2) (lost_in_all (g.S.Shelf.shelf c.args.shelf.now) (g.S.Shelf.shelf c.read_directly.new.shelf) (g.S.Shelf.shelf c.read_stripe.new.shelf) c.args.places.now (is_unknown c.args.unknown.now) c.read_directly.new.unknown c.in_err-read_stripe.field-0.0.drives
-    (g.met.S.Shelf.is_shelf c.read_stripe.new.shelf) x.continues c.read_stripe.ensures.continues x.tried c.in_err-read_stripe.ensures.lost)
-
-pub returns-in_err-read_stripe-clause-writes : goal.returns-in_err-read_stripe-clause-writes
-returns-in_err-read_stripe-clause-writes g c h =
-    let x = c.read_directly.ensures in
-    writes_then x.continues (x.writes h) (c.read_stripe.ensures.writes (x.continues.honest h))
+    (g.met.S.Shelf.is_shelf c.read_stripe.new.shelf) x.ran.on.continues c.read_stripe.ensures.ran.on.continues x.tried c.in_err-read_stripe.ensures.lost)
 
 pub returns-clause-tried : goal.returns-clause-tried
 returns-clause-tried g c =
     let x = c.read_directly.ensures in
     let y = c.read_stripe.ensures in
     tried_then (g.S.Shelf.shelf c.args.shelf.now) (g.S.Shelf.shelf c.read_directly.new.shelf) (g.S.Shelf.shelf c.read_stripe.new.shelf) c.args.places.now (is_unknown c.args.unknown.now) c.read_directly.new.unknown c.read_stripe.new.unknown
-    (g.met.S.Shelf.is_shelf c.read_stripe.new.shelf) x.continues y.continues x.tried y.tried
+    (g.met.S.Shelf.is_shelf c.read_stripe.new.shelf) x.ran.on.continues y.ran.on.continues x.tried y.tried
 
 pub returns-clause-read : goal.returns-clause-read
 returns-clause-read g c h whole stands i lt =
     let x = c.read_directly.ensures in
-    let same = c.in_ok-read_stripe.ensures.read (x.continues.honest h) whole
+    let same = c.in_ok-read_stripe.ensures.read (x.ran.on.continues.honest h) whole
     (on_after (g.S.Shelf.shelf c.args.shelf.now) (g.S.Shelf.shelf c.read_directly.new.shelf) (g.S.Shelf.shelf c.read_stripe.new.shelf) c.args.places.now (is_unknown c.args.unknown.now) c.read_directly.new.unknown c.args.stripe whole (x.same h) x.tried stands) in
     c.copy_data.ensures i (omega (arith, lt)) ∙ ap (λ ss. data_byte ss (c.args.offset + i)) same
-
-pub returns-clause-writes : goal.returns-clause-writes
-returns-clause-writes g c h =
-    let x = c.read_directly.ensures in
-    writes_then x.continues (x.writes h) (c.read_stripe.ensures.writes (x.continues.honest h))
-
-pub returns-in_err-read_stripe-clause-continues : goal.returns-in_err-read_stripe-clause-continues
-returns-in_err-read_stripe-clause-continues g c = continues_trans c.read_directly.ensures.continues c.read_stripe.ensures.continues
 
 pub returns-in_err-read_stripe-clause-same : goal.returns-in_err-read_stripe-clause-same
 returns-in_err-read_stripe-clause-same g c h device =
     let was = c.read_directly.ensures.same h device in
-    let is = c.read_stripe.ensures.same (c.read_directly.ensures.continues.honest h) device in
+    let is = c.read_stripe.ensures.same (c.read_directly.ensures.ran.on.continues.honest h) device in
     record { bytes = is.bytes ∙ was.bytes; dirty = is.dirty ∙ was.dirty }
 
-pub returns-in_err-read_stripe-clause-rest : goal.returns-in_err-read_stripe-clause-rest
-returns-in_err-read_stripe-clause-rest g c = g.met.S.Shelf.shelf_rest_stays.transitive _ _ _ c.read_directly.ensures.rest c.read_stripe.ensures.rest
+pub returns-in_err-read_stripe-clause-ran : goal.returns-in_err-read_stripe-clause-ran
+returns-in_err-read_stripe-clause-ran g c = ran_then g.met.S.Shelf.shelf_rest_stays c.read_directly.ensures.ran c.read_stripe.ensures.ran
 
-pub returns-clause-continues : goal.returns-clause-continues
-returns-clause-continues g c = continues_trans c.read_directly.ensures.continues c.read_stripe.ensures.continues
+pub returns-clause-ran : goal.returns-clause-ran
+returns-clause-ran g c = ran_then g.met.S.Shelf.shelf_rest_stays c.read_directly.ensures.ran c.read_stripe.ensures.ran

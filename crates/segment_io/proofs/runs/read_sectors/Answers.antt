@@ -9,13 +9,6 @@ use Rattle.segment_io.proofs.Targets.{lost_as}
 use Rattle.segment_io.proofs.Sectors.{one_stripe, sector_of_run}
 use Rattle.segment_io.proofs.runs.read_sectors.Goals as goal
 
-pub returns-in_err-read_in_stripe-clause-continues : goal.returns-in_err-read_in_stripe-clause-continues
-returns-in_err-read_in_stripe-clause-continues g c =
-    let x = c.read_in_stripe.ensures in
-    let tries = tries_then (g.S.Shelf.shelf c.args.shelf.now) (g.S.Shelf.shelf c.loop-done.shelf) (g.S.Shelf.shelf c.read_in_stripe.new.shelf) c.args.places.now (is_unknown c.missing_shards-unknown.result) c.loop-done.unknown c.read_in_stripe.new.unknown
-    (g.met.S.Shelf.is_shelf c.read_in_stripe.new.shelf) c.loop-done.invariant.tries (record { continues = x.continues; tried = x.tried; same = x.same; writes = x.writes; others = x.others }) in
-    tries.continues
-
 pub returns-in_err-read_in_stripe-clause-lost : goal.returns-in_err-read_in_stripe-clause-lost
 returns-in_err-read_in_stripe-clause-lost g c =
     let r = err_from_is_err_and c.from_residual.result c.from_residual.ensures.1 in
@@ -25,14 +18,14 @@ returns-in_err-read_in_stripe-clause-lost g c =
     let drives = c.in_err-read_in_stripe.field-0.0.drives in
     rw (r.1, r.2) (lost_as a n places (is_unknown c.missing_shards-unknown.result) (is_missing_in c.args.missing.now places) drives c.missing_shards-unknown.ensures
     (lost_in_all a (g.S.Shelf.shelf c.loop-done.shelf) n places (is_unknown c.missing_shards-unknown.result) c.loop-done.unknown drives
-    (g.met.S.Shelf.is_shelf c.read_in_stripe.new.shelf) c.loop-done.invariant.tries.continues c.read_in_stripe.ensures.continues c.loop-done.invariant.tries.tried c.in_err-read_in_stripe.ensures.lost))
+    (g.met.S.Shelf.is_shelf c.read_in_stripe.new.shelf) c.loop-done.invariant.tries.continues c.read_in_stripe.ensures.ran.on.continues c.loop-done.invariant.tries.tried c.in_err-read_in_stripe.ensures.lost))
 
-pub returns-in_err-read_in_stripe-clause-writes : goal.returns-in_err-read_in_stripe-clause-writes
-returns-in_err-read_in_stripe-clause-writes g c =
+pub returns-in_err-read_in_stripe-clause-ran : goal.returns-in_err-read_in_stripe-clause-ran
+returns-in_err-read_in_stripe-clause-ran g c =
     let x = c.read_in_stripe.ensures in
     let tries = tries_then (g.S.Shelf.shelf c.args.shelf.now) (g.S.Shelf.shelf c.loop-done.shelf) (g.S.Shelf.shelf c.read_in_stripe.new.shelf) c.args.places.now (is_unknown c.missing_shards-unknown.result) c.loop-done.unknown c.read_in_stripe.new.unknown
-    (g.met.S.Shelf.is_shelf c.read_in_stripe.new.shelf) c.loop-done.invariant.tries (record { continues = x.continues; tried = x.tried; same = x.same; writes = x.writes; others = x.others }) in
-    tries.writes
+    (g.met.S.Shelf.is_shelf c.read_in_stripe.new.shelf) c.loop-done.invariant.tries (record { continues = x.ran.on.continues; tried = x.tried; same = x.same; writes = x.ran.on.writes; others = x.ran.on.others }) in
+    record { on = record { continues = tries.continues; others = tries.others; writes = tries.writes }; rest = g.met.S.Shelf.shelf_rest_stays.transitive _ _ _ c.loop-done.invariant.rest x.ran.rest }
 
 pub loop-done-preserved : goal.loop-done-preserved
 loop-done-preserved g c =
@@ -55,10 +48,10 @@ loop-done-preserved g c =
     record {
       within = omega arith;
       aligned = omega arith;
-      tries = tries_then a b n places said c.loop-done.unknown c.read_in_stripe.new.unknown (g.met.S.Shelf.is_shelf c.read_in_stripe.new.shelf) inv.tries (record { continues = x.continues; tried = x.tried; same = x.same; writes = x.writes; others = x.others });
+      tries = tries_then a b n places said c.loop-done.unknown c.read_in_stripe.new.unknown (g.met.S.Shelf.is_shelf c.read_in_stripe.new.shelf) inv.tries (record { continues = x.ran.on.continues; tried = x.tried; same = x.same; writes = x.ran.on.writes; others = x.ran.on.others });
       holds = λ h. one_stripe a places said start done size _ _ into part (inv.holds h) fits long cut inside
           (λ whole stands. c.in_ok-read_in_stripe.ensures.read (inv.tries.continues.honest h) whole (stands_after a b places said c.loop-done.unknown _ whole h inv.tries stands));
-      rest = g.met.S.Shelf.shelf_rest_stays.transitive _ _ _ inv.rest x.rest;
+      rest = g.met.S.Shelf.shelf_rest_stays.transitive _ _ _ inv.rest x.ran.rest;
     }
 
 pub returns-clause-sectors : goal.returns-clause-sectors

@@ -1,7 +1,6 @@
 use Rattle.std.proofs.Common.{false, length, arith, refl, sym, ◌∙◌, get_or-set_same}
 use Rattle.pur_base.specs.Devices.{drive}
-use Rattle.world.specs.Writes.{OneRange}
-use Rattle.world.proofs.Writes.{write_writes}
+use Rattle.world.proofs.Ran.{ran_write}
 use Rattle.segment_io.specs.Places.{write_unit_at}
 use Rattle.segment_io.proofs.Losing.{loses_one}
 use Rattle.segment_io.proofs.Writing.{was_written}
@@ -16,8 +15,7 @@ returns-clause-written g c h is =
     was_written c.write-answer.result _ (write_unit_at c.args.place c.args.n) (length c.args.from.now) c.args.from.now _ _ refl (c.write-answer.ensures.device h)
     (sym c.is_err.ensures.value ∙ sym (get_or-set_same c.args.lost.now.drives c.args.place.slot c.is_err.result false (omega (arith, (g.met.S.Shelf.is_shelf c.args.shelf.now).drives.1))) ∙ is)
 
-pub returns-clause-writes : goal.returns-clause-writes
-returns-clause-writes g c h =
-    let device = drive c.args.place.slot in
-    let at = write_unit_at c.args.place c.args.n in
-    write_writes (OneRange device at (length c.args.from.now)) device (g.met.S.Shelf.is_shelf c.args.shelf.now) c.write-answer.ensures.time c.write-answer.ensures.others (c.write-answer.ensures.device h) (λ i is. (refl, is))
+pub returns-clause-ran : goal.returns-clause-ran
+returns-clause-ran g c =
+    let x = c.write-answer.ensures in
+    ran_write (drive c.args.place.slot) refl (g.met.S.Shelf.is_shelf c.args.shelf.now) x.time x.others x.rest x.device (λ i is. (refl, is))

@@ -9,26 +9,26 @@ pub returns-then-not-has_any-clause-any_moment : goal.returns-then-not-has_any-c
 returns-then-not-has_any-clause-any_moment g c h commands keeps holds =
     let a = g.S.Shelf.shelf c.args.shelf.now in
     let log = c.args.self.now in
-    let wrote = subst (λ (n : ℕ). WritesOnly (OnRange log.members 0 n) a (g.S.Shelf.shelf c.close.new.shelf)) (sym keeps.count) (c.close.ensures.writes h) in
+    let wrote = subst (λ (n : ℕ). WritesOnly (OnRange log.members 0 n) a (g.S.Shelf.shelf c.close.new.shelf)) (sym keeps.count) (c.close.ensures.ran.on.writes h) in
     weaker (while_closing a log.members log.flushed commands (g.met.S.Shelf.is_shelf c.args.shelf.now) h holds) wrote.any_moment
 
 pub returns-then-not-has_any-clause-none_later : goal.returns-then-not-has_any-clause-none_later
 returns-then-not-has_any-clause-none_later g c h commands keeps holds =
     let a = g.S.Shelf.shelf c.args.shelf.now in
     let log = c.args.self.now in
-    let wrote = subst (λ (n : ℕ). WritesOnly (OnRange log.members 0 n) a (g.S.Shelf.shelf c.close.new.shelf)) (sym keeps.count) (c.close.ensures.writes h) in
+    let wrote = subst (λ (n : ℕ). WritesOnly (OnRange log.members 0 n) a (g.S.Shelf.shelf c.close.new.shelf)) (sym keeps.count) (c.close.ensures.ran.on.writes h) in
     weaker (none_while_closing a log.members log.flushed commands (g.met.S.Shelf.is_shelf c.args.shelf.now) h holds) wrote.any_moment
 
 pub returns-clause-any_moment : goal.returns-clause-any_moment
 returns-clause-any_moment g c h commands keeps holds =
     let a = g.S.Shelf.shelf c.args.shelf.now in
     let log = c.args.self.now in
-    let wrote = subst (λ (n : ℕ). WritesOnly (OnRange log.members 0 n) a (g.S.Shelf.shelf c.close.new.shelf)) (sym keeps.count) (c.close.ensures.writes h) in
+    let wrote = subst (λ (n : ℕ). WritesOnly (OnRange log.members 0 n) a (g.S.Shelf.shelf c.close.new.shelf)) (sym keeps.count) (c.close.ensures.ran.on.writes h) in
     weaker (while_closing a log.members log.flushed commands (g.met.S.Shelf.is_shelf c.args.shelf.now) h holds) wrote.any_moment
 
 pub returns-clause-none_later : goal.returns-clause-none_later
 returns-clause-none_later g c h commands keeps holds =
     let a = g.S.Shelf.shelf c.args.shelf.now in
     let log = c.args.self.now in
-    let wrote = subst (λ (n : ℕ). WritesOnly (OnRange log.members 0 n) a (g.S.Shelf.shelf c.close.new.shelf)) (sym keeps.count) (c.close.ensures.writes h) in
+    let wrote = subst (λ (n : ℕ). WritesOnly (OnRange log.members 0 n) a (g.S.Shelf.shelf c.close.new.shelf)) (sym keeps.count) (c.close.ensures.ran.on.writes h) in
     weaker (none_while_closing a log.members log.flushed commands (g.met.S.Shelf.is_shelf c.args.shelf.now) h holds) wrote.any_moment

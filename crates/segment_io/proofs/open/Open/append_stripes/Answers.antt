@@ -20,4 +20,4 @@ returns-clause-stand g c h number lt =
 pub returns-clause-kept : goal.returns-clause-kept
 returns-clause-kept g c h earlier shards before holds =
     stripe_stays _ _ c.args.self.now.places (c.args.self.now.stripes + 1) (length c.args.stripes.now) earlier c.args.self.now.lost.drives c.write_run.new.lost.drives shards c.requires.places (inl (omega (arith, before)))
-    c.write_run.ensures.lost (c.write_run.ensures.writes h) holds
+    c.write_run.ensures.lost (c.write_run.ensures.ran.on.writes h) holds
