@@ -2,13 +2,17 @@
 use Rattle.std.proofs.Common.{◌≡◌, ◌⊎◌, inl, inr, ℕ, ◌+◌, ◌*◌, ◌≤◌, ◌<◌, List, map, refl, sym, ◌∙◌, ap, subst, arith, Bool, true, false}
 use Rattle.std.specs.Prelude.{Option, Some, None, IfSome, option_and_then, count_by}
 use Rattle.std.specs.List.{range_with_len}
+use Rattle.std.specs.Str.{bytes_eq}
+use Rattle.std.specs.Cmp.Lexicographic.{same_text}
+use Rattle.std.proofs.lemmas.Bool.{cases_Bool}
 use Rattle.std.proofs.lemmas.List.FromFn.{length-map-range_with_len}
+use Rattle.pur_base.specs.declared.device.Device.{Device}
 use Rattle.pur_base.specs.declared.limits.TheConstants.{SLOTS_MIN}
-use Rattle.pur_base.specs.Devices.{Geometry, Image, View, Condition, Conditions, Sound, Missing, LeftOut, IsWithin, MayBecome, is_missing, is_sound, drive}
+use Rattle.pur_base.specs.Devices.{Geometry, Image, View, Condition, Conditions, Sound, Missing, LeftOut, IsWithin, MayBecome, IsBearable, is_missing, is_sound, drive}
 use Rattle.pur_base.specs.Plain.{Array}
 use Rattle.boot_codec.specs.declared.record.BootRecord.{BootRecord}
 use Rattle.boot_codec.specs.Spelling.{spelling}
-use Rattle.boot_codec.specs.Region.{BootSlot, Effective, IsDecided, other_slot, body_in, shown_by, votes, is_vote, Yields, generation_in}
+use Rattle.boot_codec.specs.Region.{BootSlot, A, B, Effective, IsDecided, other_slot, body_in, shown_by, votes, is_vote, Yields, generation_in}
 use Rattle.array_spec.specs.Standing.{Stands, MayBeGiven, MayAppear}
 use Rattle.array_spec.specs.Laws.{OpensGatesOf, ClosesGatesOf, DiffersOnlyIn, IsOldOrNew}
 use Rattle.array_spec.proofs.Votes.{held_votes, most_votes, not_missing, sound_before}
@@ -16,15 +20,19 @@ use Rattle.array_spec.proofs.Store.{store_keeps, boot_keeps}
 use Rattle.array_spec.proofs.Settling.{opening_gives, opening_still_gives, closing_gives_no_more, closing_still_gives, this_or_other}
 use Rattle.array_spec.proofs.Spelled.{spells_one}
 use Rattle.world.specs.Shelf.{Shelved, Stop, MayStop, IsShelf}
-use Rattle.world.specs.Losing.{geometry_of, IsLater}
-use Rattle.boot_region.specs.Storing.{SoundAreMembers, OnlyBoot, Closes, Writes, Opens, IsInForceOn, MayFollow, AccountsFor}
+use Rattle.world.specs.Losing.{geometry_of, has_risen, IsLater}
+use Rattle.boot_region.specs.Storing.{SoundAreMembers, OnSound, OnlyBoot, IsOlder, AreOlder, Closes, Writes, Opens, IsInForceOn, MayFollow, StandsNow, AccountsFor}
 use Rattle.boot_region.proofs.Phases.{not_risen_before}
 use Rattle.boot_region.proofs.StillGiven.{closing_keeps}
-use Rattle.boot_region.proofs.ShownLemmas.{as_read}
+use Rattle.boot_region.proofs.ShownLemmas.{as_read, shown_body}
 
--- votes of drives that all show nothing decide nothing, whatever two more show
+pub votes_not : (o : Option (List ℕ)) (other : List ℕ) → ((x : List ℕ) → o ≡ Some x → bytes_eq x other ≡ false) → is_vote other o ≡ false
+votes_not None other all = refl
+votes_not (Some x) other all = all x refl
+
+-- a body that no sound drive shows isn't decided, whatever two more show
 pub none_decided : (shelf : Geometry) (image : Image) (missing more : Conditions) (view : View) (slot : BootSlot) (body : List ℕ) → SLOTS_MIN ≤ shelf.slots
-    → ((i : ℕ) → i < shelf.slots → missing (drive i) ≡ Sound → shown_by slot (image (drive i)) ≡ None)
+    → ((i : ℕ) → i < shelf.slots → missing (drive i) ≡ Sound → is_vote body (shown_by slot (image (drive i))) ≡ false)
     → MayAppear shelf image missing more view → IsDecided (votes shelf view slot) body → ⊥
 none_decided shelf image missing more view slot body eleven none a d =
     let bound : count_by (is_vote body) (map vote (range_with_len 0 shelf.slots)) ≤ count_by missing_at (range_with_len 0 shelf.slots) + count_by missing_at (range_with_len 0 shelf.slots) =
@@ -46,9 +54,9 @@ none_decided shelf image missing more view slot body eleven none a d =
     shows_none i lt unmarked voted =
         let sound : more (drive i) ≡ Sound = not_missing (more (drive i)) unmarked in
         let shown : view (drive i) ≡ Some (image (drive i)) = a.shown (drive i) sound in
-        let nothing : shown_by slot (image (drive i)) ≡ None = none i lt (sound_before (missing (drive i)) (more (drive i)) (a.within (drive i)) sound) in
-        let is : vote i ≡ None = ap (option_and_then (shown_by slot)) shown ∙ nothing in
-        subst (λ (o : Option (List ℕ)). is_vote body o ≡ true) is voted
+        let other : is_vote body (shown_by slot (image (drive i))) ≡ false = none i lt (sound_before (missing (drive i)) (more (drive i)) (a.within (drive i)) sound) in
+        let is : vote i ≡ shown_by slot (image (drive i)) = ap (option_and_then (shown_by slot)) shown in
+        sym other ∙ subst (λ (o : Option (List ℕ)). is_vote body o ≡ true) is voted
 
 -- what all sound drives show is decided
 pub all_decide : (shelf : Geometry) (image : Image) (missing more : Conditions) (view : View) (slot : BootSlot) (body : List ℕ) → SLOTS_MIN ≤ shelf.slots
@@ -96,10 +104,26 @@ is_sound_is Sound e = refl
 is_sound_is Missing e = cc
 is_sound_is LeftOut e = cc
 
+-- Conditions that are borne, in which what a failed read of its gate might let be shown on a member that is sound still loses against the record in force.
+pub record IsBorneOn (shelf : Shelved) (members : List Bool) (missing : Conditions) (slot : BootSlot) (held : List ℕ) (faults : Device → ℕ) (later : Conditions) : Type 0 where
+  pub within : IsWithin missing later
+  pub bearable : IsBearable (geometry_of shelf) later
+  pub reads : OnSound later members (λ i. IsOlder shelf slot held i ⊎ (has_risen (shelf.disk (drive i)).faults (faults (drive i)) ≡ false))
+
+-- those that tell what has failed are
+pub borne : {shelf : Shelved} {members : List Bool} {missing : Conditions} {slot : BootSlot} {held : List ℕ} {faults write_faults : Device → ℕ} {later : Conditions}
+    → AccountsFor shelf members missing slot held faults write_faults later → IsBorneOn shelf members missing slot held faults later
+borne {shelf} {members} {missing} {slot} {held} {faults} {write_faults} {later} a = record { within = a.within; bearable = a.bearable; reads = a.reads }
+
+-- of two records one yields
+pub yields_to_one : (slot : BootSlot) (a b : ℕ) → Yields slot a b → Yields (other_slot slot) b a → ⊥
+yields_to_one A a b le lt = omega (arith, le, lt)
+yields_to_one B a b lt le = omega (arith, le, lt)
+
 -- at a moment of a store
 module _ (shelf : Shelved) (members : List Bool) (missing : Conditions) (slot : BootSlot) (held : BootRecord)
     (is : IsShelf shelf) (force : IsInForceOn shelf members missing slot held)
-    (start stop : Stop) (may : MayStop shelf start) (later : Conditions) (account : AccountsFor shelf members missing slot (spelling held) stop.faults stop.write_faults later) where
+    (start stop : Stop) (may : MayStop shelf start) (later : Conditions) (account : IsBorneOn shelf members missing slot (spelling held) stop.faults later) where
   sound_then : (i : ℕ) → later (drive i) ≡ Sound → missing (drive i) ≡ Sound
   sound_then i s = sound_before (missing (drive i)) (later (drive i)) (account.within (drive i)) s
 
@@ -120,7 +144,30 @@ module _ (shelf : Shelved) (members : List Bool) (missing : Conditions) (slot : 
 
   none_given : (image : Image) → ((i : ℕ) → i < shelf.drives → later (drive i) ≡ Sound → shown_by slot (image (drive i)) ≡ None) → (b : BootRecord)
       → MayBeGiven (geometry_of shelf) image later slot b → ⊥
-  none_given image none b g = none_decided (geometry_of shelf) image later g.more g.view slot (spelling b) is.drives.0 none g.appears g.effective.decided
+  none_given image none b g = none_decided (geometry_of shelf) image later g.more g.view slot (spelling b) is.drives.0 (λ i lt s. ap (is_vote (spelling b)) (none i lt s)) g.appears g.effective.decided
+
+  -- a drive that is sound shows what it held, where it's a member
+  as_began : (i : ℕ) → i < shelf.drives → later (drive i) ≡ Sound → start.image (drive i) ≡ (shelf.disk (drive i)).bytes
+  as_began i lt s = let sound = sound_then i s in as_read (shelf.disk (drive i)) (start.image (drive i)) (force.clean i (force.sound i lt sound) sound) (may.device (drive i))
+
+  -- where what the slot holds is older no record in it may be given
+  pub stale : AreOlder shelf later members slot (spelling held) → (b : BootRecord) → MayBeGiven (geometry_of shelf) start.image later slot b → ⊥
+  stale older b g = none_decided (geometry_of shelf) start.image later g.more g.view slot (spelling b) is.drives.0 no_vote g.appears g.effective.decided
+    where
+      wins : Yields slot (generation_in (spelling held)) (generation_in (spelling b))
+      wins = g.effective.highest (spelling held) (decided start.image (λ i s. refl) g.more g.view g.appears)
+
+      differs : (x : List ℕ) → Yields (other_slot slot) (generation_in x) (generation_in (spelling held)) → bytes_eq x (spelling b) ≡ false
+      differs x old = elim (cases_Bool (bytes_eq x (spelling b))) [
+        | inr not ↦ not
+        | inl same ↦ absurd (yields_to_one slot (generation_in (spelling held)) (generation_in (spelling b)) wins
+            (subst (λ (y : List ℕ). Yields (other_slot slot) (generation_in y) (generation_in (spelling held))) (same_text x (spelling b) (sym same)) old))
+      ]
+
+      no_vote : (i : ℕ) → i < shelf.drives → later (drive i) ≡ Sound → is_vote (spelling b) (shown_by slot (start.image (drive i))) ≡ false
+      no_vote i lt s = votes_not (shown_by slot (start.image (drive i))) (spelling b)
+          (λ x e. differs x (subst (λ (y : List ℕ). Yields (other_slot slot) (generation_in y) (generation_in (spelling held)))
+              (ap (body_in slot) (sym (as_began i lt s)) ∙ shown_body slot (start.image (drive i)) x e) (older i (force.sound i lt (sound_then i s)) s)))
 
   -- what the first phase does to the drives that are sound still
   closes_of : (mid : Stop) → IsLater mid stop → Closes shelf members missing slot (spelling held) start mid → ClosesGatesOf start.image mid.image later slot (spelling held)
@@ -165,11 +212,45 @@ module _ (shelf : Shelved) (members : List Bool) (missing : Conditions) (slot : 
       let closes = closes_then mid stop now (closes_of mid on c) w in
       closing_keeps (geometry_of shelf) start.image stop.image later slot held closes (decided stop.image closes.others)
 
-  -- and where another follows on
-  module _ (boot : BootRecord) (arrays : List Array) (follow : MayFollow shelf missing slot boot arrays) where
+  -- the arrays for which the devices stood
+  module _ (arrays : List Array) (stand : StandsNow shelf missing arrays) where
     still_gives : (image : Image) → ClosesGatesOf start.image image later slot (spelling held) → (more : Conditions) (view : View) → MayAppear (geometry_of shelf) image later more view → Effective (geometry_of shelf) view
-    still_gives image closes = closing_still_gives (geometry_of shelf) start.image image missing later slot held account.within force.lawful (decided image closes.others) closes (follow.stands start may).gives
+    still_gives image closes = closing_still_gives (geometry_of shelf) start.image image missing later slot held account.within force.lawful (decided image closes.others) closes (stand start may).gives
 
+    -- the first phase
+    pub while_closing : Closes shelf members missing slot (spelling held) start stop → Stands (geometry_of shelf) stop.image later arrays
+    while_closing c =
+        let closes = closes_of stop (record { faults = λ d. omega arith; write_faults = λ d. omega arith }) c in
+        boot_keeps (geometry_of shelf) start.image stop.image missing later arrays account.within account.bearable c.only_boot (still_gives stop.image closes)
+        (λ t b g. (gives_no_more stop.image closes t b g, λ i. c.bodies t i)) (stand start may)
+
+    -- the second phase, in which no record of the slot may be given
+    while_writing_behind : (mid : Stop) (now : List Bool) → IsLater mid stop → ((b : BootRecord) → MayBeGiven (geometry_of shelf) stop.image later slot b → ⊥)
+        → Closes shelf members missing slot (spelling held) start mid → Writes missing now slot mid stop → Stands (geometry_of shelf) stop.image later arrays
+    while_writing_behind mid now on none c w =
+        let closes = closes_then mid stop now (closes_of mid on c) w in
+        boot_keeps (geometry_of shelf) start.image stop.image missing later arrays account.within account.bearable (differs_then c.only_boot w.only_boot) (still_gives stop.image closes)
+        (λ t b g. (
+          gives_no_more stop.image closes t b g,
+          λ i. elim (this_or_other t slot) [
+            | inl this ↦ absurd (none b (subst (λ x. MayBeGiven (geometry_of shelf) stop.image later x b) this g))
+            | inr other ↦ subst (λ x. body_in x (stop.image (drive i)) ≡ body_in x (start.image (drive i))) (sym other) (w.bodies i ∙ c.bodies (other_slot slot) i)
+          ],
+        )) (stand start may)
+
+    -- since no sound drive shows one
+    pub while_writing : (mid : Stop) (now : List Bool) → IsLater mid stop → SoundAreMembers shelf later now → Closes shelf members missing slot (spelling held) start mid → Writes missing now slot mid stop
+        → Stands (geometry_of shelf) stop.image later arrays
+    while_writing mid now on sound c w = while_writing_behind mid now on (none_given stop.image (λ k lt s. w.none k (sound k lt s) (sound_then k s))) c w
+
+    -- or since those that are shown are older
+    pub while_writing_over : (mid : Stop) (now : List Bool) → IsLater mid stop → missing ≡ later → AreOlder shelf later members slot (spelling held) → Closes shelf members missing slot (spelling held) start mid → Writes missing now slot mid stop
+        → Stands (geometry_of shelf) stop.image later arrays
+    while_writing_over mid now on same older c w = while_writing_behind mid now on
+        (λ b g. stale older b (subst (λ x. MayBeGiven (geometry_of shelf) start.image x slot b) same (gives_while_writing mid now on c w slot b g))) c w
+
+  -- and where another record follows on
+  module _ (boot : BootRecord) (arrays : List Array) (follow : MayFollow shelf missing slot boot arrays) where
     pub gives_while_opening : (first second : Stop) (now last : List Bool) → IsLater first stop
         → Closes shelf members missing slot (spelling held) start first → Writes missing now slot first second → Opens missing last slot (spelling boot) second stop
         → (t : BootSlot) (b : BootRecord) → MayBeGiven (geometry_of shelf) stop.image later t b → ((t ≡ slot) × (b ≡ boot)) ⊎ MayBeGiven (geometry_of shelf) start.image missing t b
@@ -179,27 +260,6 @@ module _ (shelf : Shelved) (members : List Bool) (missing : Conditions) (slot : 
           | inl new_one ↦ inl (new_one.0, spells_one (geometry_of shelf) b boot g.lawful follow.lawful (sym new_one.1))
           | inr before ↦ inr (gives_no_more second.image (closes_then first second now (closes_of first on c) w) t b before)
         ]
-
-    -- the first phase
-    pub while_closing : Closes shelf members missing slot (spelling held) start stop → Stands (geometry_of shelf) stop.image later arrays
-    while_closing c =
-        let closes = closes_of stop (record { faults = λ d. omega arith; write_faults = λ d. omega arith }) c in
-        boot_keeps (geometry_of shelf) start.image stop.image missing later arrays account.within account.bearable c.only_boot (still_gives stop.image closes)
-        (λ t b g. (gives_no_more stop.image closes t b g, λ i. c.bodies t i)) (follow.stands start may)
-
-    -- the second phase
-    pub while_writing : (mid : Stop) (now : List Bool) → IsLater mid stop → SoundAreMembers shelf later now → Closes shelf members missing slot (spelling held) start mid → Writes missing now slot mid stop
-        → Stands (geometry_of shelf) stop.image later arrays
-    while_writing mid now on sound c w =
-        let closes = closes_then mid stop now (closes_of mid on c) w in
-        boot_keeps (geometry_of shelf) start.image stop.image missing later arrays account.within account.bearable (differs_then c.only_boot w.only_boot) (still_gives stop.image closes)
-        (λ t b g. (
-          gives_no_more stop.image closes t b g,
-          λ i. elim (this_or_other t slot) [
-            | inl this ↦ absurd (none_given stop.image (λ k lt s. w.none k (sound k lt s) (sound_then k s)) b (subst (λ x. MayBeGiven (geometry_of shelf) stop.image later x b) this g))
-            | inr other ↦ subst (λ x. body_in x (stop.image (drive i)) ≡ body_in x (start.image (drive i))) (sym other) (w.bodies i ∙ c.bodies (other_slot slot) i)
-          ],
-        )) (follow.stands start may)
 
     -- the third phase
     pub while_opening : (first second : Stop) (now last : List Bool) → IsLater first stop → SoundAreMembers shelf later last
@@ -215,7 +275,7 @@ module _ (shelf : Shelved) (members : List Bool) (missing : Conditions) (slot : 
           within = account.within;
           bearable = account.bearable;
           only_boot = only_boot;
-          gives = opening_still_gives (geometry_of shelf) second.image stop.image later later slot boot (as_it_is later) follow.lawful opens (still_gives second.image closes);
+          gives = opening_still_gives (geometry_of shelf) second.image stop.image later later slot boot (as_it_is later) follow.lawful opens (still_gives arrays follow.stands second.image closes);
           old_or_new = λ t b g. elim (opening_gives (geometry_of shelf) second.image stop.image later later slot t boot b (as_it_is later) opens g) [
             | inl new_one ↦ inl (new_one.0, spells_one (geometry_of shelf) b boot g.lawful follow.lawful (sym new_one.1))
             | inr before ↦ elim (this_or_other t slot) [

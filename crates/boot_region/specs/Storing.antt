@@ -1,11 +1,12 @@
 -- What a store does to the devices, and what its caller has to know of the record.
-use Rattle.std.specs.Prelude.{◌≡◌, ◌⊎◌, ◌*◌, ◌+◌, ◌<◌, ◌≤◌, ℕ, Bool, false, List, [], count_by, Some, None, IfSome}
+use Rattle.std.specs.Prelude.{◌≡◌, ◌⊎◌, ◌*◌, ◌+◌, ◌<◌, ◌≤◌, ℕ, Bool, false, List, [], length, count_by, Some, None, IfSome}
 use Rattle.pur_base.specs.declared.device.Device.{Device}
 use Rattle.pur_base.specs.declared.limits.TheConstants.{BOOT_UNITS}
-use Rattle.pur_base.specs.Devices.{Geometry, Image, View, Conditions, Sound, IsBearable, IsWithin, slots_of, drive}
+use Rattle.pur_base.specs.Devices.{Geometry, Image, View, Conditions, Sound, IsBearable, IsWithin, slots_of, drive, nvram}
 use Rattle.pur_base.specs.Gates.{is_open}
 use Rattle.pur_base.specs.Plain.{Array}
 use Rattle.boot_codec.specs.declared.record.BootRecord.{BootRecord}
+use Rattle.boot_codec.specs.Record.{set_count}
 use Rattle.boot_codec.specs.Spelling.{spelling}
 use Rattle.boot_codec.specs.Region.{BootSlot, IsRecordOf, IsEffective, other_slot, gate_place, body_in, shown_by, generation_in, Yields}
 use Rattle.array_spec.specs.Standing.{Stands, MayBeGiven, IsReadInto, FollowsOn}
@@ -222,3 +223,27 @@ pub record TellsFailed (shelf : Shelved) (members : List Bool) (missing : Condit
   pub within : IsWithin missing later
   pub bearable : IsBearable (geometry_of shelf) later
   pub calls : OnSound later members (λ i. has_risen (shelf.disk (drive i)).faults (faults (drive i)) ≡ false)
+
+-- ---- whatever fails
+
+-- no more than two drives of the shelf are missing from the members
+abbrev pub AreEnough : List Bool → Type 0
+AreEnough members = length members ≤ set_count members + 2
+
+-- A store may begin of which nothing is lost, whatever fails: the members are the sound drives of the shelf, the record in force stands on them, and what the slot of the next one holds is older.
+pub record IsFirmOn (shelf : Shelved) (members : List Bool) (missing : Conditions) (next : BootSlot) (held : BootRecord) : Type 0 where
+  pub in_force : IsInForceOn shelf members missing next held
+  pub as_many : length members ≡ shelf.drives
+  pub sound : (i : ℕ) → IsMember members i → missing (drive i) ≡ Sound
+  pub older : AreOlder shelf missing members next (spelling held)
+
+-- At a stop, whatever has failed by then: once the devices answer again with what they hold, these stand for the arrays where no more of them are taken for missing than is borne.
+pub record StandsAgain (old : Shelved) (missing : Conditions) (arrays : List Array) (stop : Stop) : Type 0 where
+  pub later : Conditions
+  pub within : IsWithin missing later
+  pub logs : (n : ℕ) → later (nvram n) ≡ missing (nvram n)
+  pub stands : Stands (geometry_of old) stop.image later arrays
+
+-- in all borne conditions in which each drive that isn't missing is a member still the record is stored
+abbrev pub IsStoredOn : Shelved → Shelved → List Bool → Conditions → BootSlot → BootRecord → List Array → Type 0
+IsStoredOn old new now missing slot boot arrays = (later : Conditions) → IsWithin missing later → IsBearable (geometry_of old) later → SoundAreMembers new later now → IsStored new now slot boot arrays later

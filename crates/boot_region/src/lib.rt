@@ -18,4 +18,4 @@ pub use reading::read_regions;
 pub use regions::{REGION_BYTES, Regions};
 pub use settling::settle;
 pub use slot::Slot;
-pub use storing::store;
+pub use storing::{TooFew, store};

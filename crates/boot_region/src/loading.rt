@@ -9,14 +9,12 @@ ghost use Rattle.boot_codec.specs.Record.{set_count};
 ghost use Rattle.boot_region.specs.declared.loading.LoadFault.TheVariants as faults;
 ghost use Rattle.boot_region.specs.Loading.{IsLoadOf, IsGiven, IsFaultOf, IsLawfulLoad, MayBeSettled, fault_of};
 
+use crate::members::{MISSING_MAX, count_set};
 use crate::{Regions, Slot, read_regions};
 use boot_codec::{BadRecord, BootRecord, DRIVE_FLAGS, NUMBER_LIMIT, ReadError, read_record};
 use pur_base::NoMemory;
 use std::alloc::Global;
 use world::Shelf;
-
-/// As many drives may be missing.
-const MISSING_MAX: usize = 2;
 
 /// A record of this generation or a higher one leaves no room for later ones.
 const GENERATION_LIMIT: u64 = NUMBER_LIMIT - 8;
@@ -40,14 +38,6 @@ pub enum LoadFault {
     Spent,
     /// More than two drives of the shelf are missing from these.
     TooFew([bool; DRIVE_FLAGS]),
-}
-
-/// How many flags are set.
-fn count_set(flags: &[bool; DRIVE_FLAGS]) -> usize
-    ensures value { result ≡ set_count flags.now }
-    ensures bound { result ≤ 24 }
-{
-    flags.iter().filter(|flag| **flag).count()
 }
 
 impl From<NoMemory> for LoadFault {

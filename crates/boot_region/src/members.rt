@@ -1,13 +1,25 @@
-// A write on each member.
+// A write on each member, and how many there are.
 ghost use Rattle.std.specs.Prelude.{◌≡◌, ℕ, ◌+◌, ◌*◌, ◌%◌, ◌<◌, ◌≤◌, length};
 ghost use Rattle.pur_base.specs.Devices.{drive};
 ghost use Rattle.pur_base.specs.declared.limits.TheConstants.{SECTOR_BYTES, UNIT_BYTES};
+ghost use Rattle.boot_codec.specs.Record.{set_count};
 ghost use Rattle.world.specs.Shelf.{Continues};
 ghost use Rattle.world.specs.Writes.{WritesOnly};
 ghost use Rattle.boot_region.specs.Members.{IsMember, NonMembersStay, OnMembers, Outcome};
 
 use pur_base::{Device, DriveId};
 use world::{Shelf, write_synced};
+
+/// As many drives may be missing.
+pub(crate) const MISSING_MAX: usize = 2;
+
+/// How many flags are set.
+pub(crate) fn count_set(flags: &[bool]) -> usize
+    ensures value { result ≡ set_count flags.now }
+    ensures bound { result ≤ length flags.now }
+{
+    flags.iter().filter(|flag| **flag).count()
+}
 
 /// Writes and syncs on each member drive. One that fails is no longer a member.
 pub fn write_members<S: Shelf>(shelf: &mut S, members: &mut [bool], at: u64, from: &[u8])

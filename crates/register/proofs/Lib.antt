@@ -13,3 +13,4 @@ pub mod Unflushed
 pub mod Shows
 pub mod Tabling
 pub mod Left
+pub mod Outlasts

@@ -1,9 +1,10 @@
 -- One store of the next record.
-use Rattle.std.proofs.Common.{◌≡◌, inl, inr, ℕ, zero, suc, ◌+◌, ◌-◌, ◌^◌, ◌≤◌, ◌<◌, List, [], ◌∷◌, length, take, refl, sym, ◌∙◌, ap, subst, arith, Bool, true, false}
+use Rattle.std.proofs.Common.{◌≡◌, inl, inr, ℕ, zero, suc, ◌+◌, ◌-◌, ◌^◌, ◌≤◌, ◌<◌, List, [], ◌∷◌, ◌++◌, length, take, drop, refl, sym, ◌∙◌, ap, subst, arith, Bool, true, false}
 use Rattle.std.specs.Prelude.{slice_index, slice_index_or}
 use Rattle.std.proofs.lemmas.Bool.{cases_Bool, cases_lt}
+use Rattle.std.proofs.lemmas.List.{get_or_append_left, get_or-append_right, get_or-drop}
 use Rattle.pur_base.specs.declared.device.Device.{Device}
-use Rattle.pur_base.specs.Devices.{Geometry, Conditions, drive, nvram}
+use Rattle.pur_base.specs.Devices.{Geometry, Conditions, IsBearable, IsWithin, drive, nvram}
 use Rattle.pur_base.specs.Plain.{Array}
 use Rattle.boot_codec.specs.declared.limits.TheConstants.{RECORD_BYTES}
 use Rattle.boot_codec.specs.declared.record.BootRecord.{BootRecord}
@@ -22,17 +23,18 @@ use Rattle.world.specs.Writes.{WritesOnly, ChangesOnly, LeavesBut}
 use Rattle.world.proofs.Moments.{weaker}
 use Rattle.world.proofs.Writes.{writes_more}
 use Rattle.boot_region.specs.Members.{IsMember, NonMembersStay, DroppedFailed, OnSlot}
-use Rattle.boot_region.specs.Storing.{Shows, IsInStore, HeldStill, IsOlder, IsInForceOn, IsNewer, IsStoredIn, MayFollow, StandsBut}
+use Rattle.boot_region.specs.Storing.{Shows, IsInStore, HeldStill, IsOlder, IsFirmOn, IsInForceOn, IsNewer, IsStored, IsStoredIn, IsStoredOn, MayFollow, StandsAgain, StandsBut}
 use Rattle.boot_region.proofs.ShownLemmas.{shown_body}
 use Rattle.nvram_log.specs.Members as nv
 use Rattle.register.specs.declared.state.Register.{Register}
 use Rattle.register.specs.Registers.{IsRegisterOf, OnSlots, drives_of, own_slot, next_slot, next_record}
-use Rattle.register.specs.Standing.{Content, IsShown, ShowsOn, IsNextOf, GivesOldOrNext, IsInStoreOf, StillGiven, StandsInLog, MayStore, MayStoreAgain}
+use Rattle.register.specs.Standing.{Content, IsShown, ShowsOn, IsNextOf, GivesOldOrNext, IsInStoreOf, StillGiven, StandsInLog, IsFirm, MayStore, MayStoreAgain, MayStoreFirmly}
 use Rattle.register.proofs.Again.{both}
 use Rattle.register.proofs.FlagLemmas.{fewer_mask, in_cut, cut_in, none_past}
 use Rattle.register.proofs.Numbers.{generation_spelled, next_other, lower_yields}
 use Rattle.register.proofs.Back.{is_next_of, stands_back}
 use Rattle.register.proofs.Follows.{may_follow, left_before}
+use Rattle.register.proofs.Stores.{cut_length}
 use Rattle.register.proofs.Splice.{in_boot, at_splice, splice_stops, splice_bodies, splice_boot}
 
 -- ---- the next record is lawful
@@ -78,27 +80,31 @@ on_slots members B d i w = inr w
 
 -- ---- what the call promises
 
--- the body was stored in the slot of these members, some of which the register has left
-pub record Puts (old new : Shelved) (now : Register) (members : List Bool) (slot : BootSlot) (body : List ℕ) : Type 0 where
+-- the body was stored in the slot of these members, some of which the register has left, or the call ended early
+pub record Puts (ok : Type 0) (old new : Shelved) (now : Register) (members : List Bool) (slot : BootSlot) (body : List ℕ) : Type 0 where
   pub fewer : (i : ℕ) → IsMember (drives_of now) i → IsMember members i
   pub dropped : DroppedFailed old new members (drives_of now)
   pub others : NonMembersStay members old new
-  pub shown : old.honest → (i : ℕ) → IsMember (drives_of now) i → Shows new slot body i
+  pub shown : ok → old.honest → (i : ℕ) → IsMember (drives_of now) i → Shows new slot body i
   pub writes : old.honest → WritesOnly (OnSlot members slot) old new
   pub moments : old.honest → LeavesOnly old new (IsInStore old members slot body)
-  pub stored : old.honest → (missing : Conditions) (held boot : BootRecord) (arrays : List Array) → body ≡ spelling boot → IsNewer slot held boot → IsInForceOn old members missing slot held → MayFollow old missing slot boot arrays
+  pub again : old.honest → (missing : Conditions) (held boot : BootRecord) (arrays : List Array) → body ≡ spelling boot → IsFirmOn old members missing slot held → MayFollow old missing slot boot arrays
+      → LeavesOnly old new (StandsAgain old missing arrays)
+  pub stored_on : ok → old.honest → (missing : Conditions) (held boot : BootRecord) (arrays : List Array) → body ≡ spelling boot → IsNewer slot held boot → IsFirmOn old members missing slot held → MayFollow old missing slot boot arrays
+      → IsStoredOn old new (drives_of now) missing slot boot arrays
+  pub stored : ok → old.honest → (missing : Conditions) (held boot : BootRecord) (arrays : List Array) → body ≡ spelling boot → IsNewer slot held boot → IsInForceOn old members missing slot held → MayFollow old missing slot boot arrays
       → IsStoredIn old new members (drives_of now) missing slot held boot arrays
 
 -- in the words of the record before
-pub puts_next : (old new : Shelved) (was mid now : Register) (boot : BootRecord) → boot.slots ≡ was.record.slots → own_slot boot ≡ next_slot was.record → mid.record ≡ boot → mid.drives ≡ was.drives → mid.body.items ≡ spelling mid.record
-    → Puts old new now (drives_of mid) (own_slot mid.record) mid.body.items → Puts old new now (drives_of was) (next_slot was.record) (spelling boot)
-puts_next old new was mid now boot slots goes record_is drives_are body_is puts =
+pub puts_next : {ok : Type 0} (old new : Shelved) (was mid now : Register) (boot : BootRecord) → boot.slots ≡ was.record.slots → own_slot boot ≡ next_slot was.record → mid.record ≡ boot → mid.drives ≡ was.drives → mid.body.items ≡ spelling mid.record
+    → Puts ok old new now (drives_of mid) (own_slot mid.record) mid.body.items → Puts ok old new now (drives_of was) (next_slot was.record) (spelling boot)
+puts_next {ok} old new was mid now boot slots goes record_is drives_are body_is puts =
     let cut : drives_of mid ≡ drives_of was = ap (λ (b : BootRecord). take b.slots mid.drives) record_is ∙ ap (take boot.slots) drives_are ∙ ap (λ (n : ℕ). take n was.drives) slots in
     let slot : own_slot mid.record ≡ next_slot was.record = ap own_slot record_is ∙ goes in
     let body : mid.body.items ≡ spelling boot = body_is ∙ ap spelling record_is in
-    subst (λ (l : List ℕ). Puts old new now (drives_of was) (next_slot was.record) l) body
-    (subst (λ (t : BootSlot). Puts old new now (drives_of was) t mid.body.items) slot
-    (subst (λ (l : List Bool). Puts old new now l (own_slot mid.record) mid.body.items) cut puts))
+    subst (λ (l : List ℕ). Puts ok old new now (drives_of was) (next_slot was.record) l) body
+    (subst (λ (t : BootSlot). Puts ok old new now (drives_of was) t mid.body.items) slot
+    (subst (λ (l : List Bool). Puts ok old new now l (own_slot mid.record) mid.body.items) cut puts))
 
 -- a register of a record that names the drives that are left
 module _ (old new : Shelved) (on : Continues old new) (was now : Register) (boot : BootRecord) (is_of : IsRegisterOf (geometry_of old) was) (lawful : IsBootRecord boot) (slots : boot.slots ≡ was.record.slots) (units : boot.units ≡ was.record.units)
@@ -129,6 +135,18 @@ cut_drives shelf r is_of i m = elim (cases_lt i r.record.slots) [
   | inr ge ↦ absurd (none_past r.record.members.drives r.record.slots i is_of.lawful.lawful.members.within ge (is_of.named i m))
 ]
 
+-- and so are those that a call has left of them
+pub cut_left : {shelf : Geometry} {r : Register} → IsRegisterOf shelf r → (members : List Bool) (i : ℕ) → length members ≡ r.record.slots → IsMember (members ++ drop r.record.slots r.drives) i → IsMember members i
+cut_left {shelf} {r} is_of members i all m = elim (cases_lt i r.record.slots) [
+  | inl lt ↦ sym (get_or_append_left members (drop r.record.slots r.drives) false i (omega (arith, lt, all))) ∙ m
+  | inr ge ↦ absurd (none_past r.record.members.drives r.record.slots i is_of.lawful.lawful.members.within ge (is_of.named i (behind ge)))
+]
+  where
+    behind : r.record.slots ≤ i → IsMember r.drives i
+    behind ge =
+        let at : r.record.slots + (i - r.record.slots) ≡ i = omega (arith, ge) in
+        sym (get_or-append_right members (drop r.record.slots r.drives) r.record.slots i false all ge ∙ get_or-drop r.record.slots r.drives (i - r.record.slots) false ∙ ap (λ (k : ℕ). slice_index_or r.drives k false) at) ∙ m
+
 pub same_shelf : {old new : Shelved} → Continues old new → geometry_of old ≡ geometry_of new
 same_shelf {old} {new} on =
     let e : new.drives ≡ old.drives = on.drives in
@@ -136,7 +154,7 @@ same_shelf {old} {new} on =
     λ k. record { slots = sym e k; units = sym f k }
 
 -- what a store leaves of the units behind the boot region, as a stop before it might have
-module _ (old new : Shelved) (h : old.honest) (now : Register) (members : List Bool) (slot : BootSlot) (body : List ℕ) (puts : Puts old new now members slot body) (start : Stop) (may : MayStop new start) where
+module _ {ok : Type 0} (old new : Shelved) (h : old.honest) (now : Register) (members : List Bool) (slot : BootSlot) (body : List ℕ) (puts : Puts ok old new now members slot body) (start : Stop) (may : MayStop new start) where
   pub long : (i : ℕ) → length (old.disk (drive i)).bytes ≡ length (start.image (drive i))
   long i = sym (((puts.writes h).device (drive i)).size) ∙ sym (may.device (drive i)).size
 
@@ -149,10 +167,10 @@ module _ (old new : Shelved) (h : old.honest) (now : Register) (members : List B
   pub log_then : (n : ℕ) → MayLeave (old.disk (nvram n)) (start.image (nvram n))
   log_then n = subst (λ (d : Disk). MayLeave d (start.image (nvram n))) (puts.others (nvram n) (λ x. x)) (may.device (nvram n))
 
-module _ (old new : Shelved) (is_old : IsShelf old) (on : Continues old new) (was now : Register) (nvrams : List Bool) (is_of : IsRegisterOf (geometry_of old) was) (some : nv.IsSome nvrams)
+module _ {ok : Type 0} (old new : Shelved) (is_old : IsShelf old) (on : Continues old new) (was now : Register) (nvrams : List Bool) (is_of : IsRegisterOf (geometry_of old) was) (some : nv.IsSome nvrams)
     (lawful : IsBootRecord (next_record was.record was.drives nvrams)) (kept : now.record ≡ next_record was.record was.drives nvrams)
     (beyond : (i : ℕ) → was.record.slots ≤ i → IsMember now.drives i → IsMember was.drives i)
-    (puts : Puts old new now (drives_of was) (next_slot was.record) (spelling (next_record was.record was.drives nvrams))) where
+    (puts : Puts ok old new now (drives_of was) (next_slot was.record) (spelling (next_record was.record was.drives nvrams))) where
   pub writes_slots : old.honest → WritesOnly (OnSlots (drives_of was)) old new
   writes_slots h = writes_more (λ d i w. on_slots (drives_of was) (next_slot was.record) d i w) (puts.writes h)
 
@@ -165,9 +183,9 @@ module _ (old new : Shelved) (is_old : IsShelf old) (on : Continues old new) (wa
   nvram_same : (n : ℕ) → new.disk (nvram n) ≡ old.disk (nvram n)
   nvram_same n = puts.others (nvram n) (λ x. x)
 
-  module _ (h : old.honest) (held : Content) (logged : StandsInLog old was nvrams held) where
+  module _ (h : old.honest) (held : Content) (logged : StandsInLog old was nvrams held) (stood : ok) where
     body_stands : (i : ℕ) → IsMember (drives_of now) i → body_in (next_slot was.record) (new.disk (drive i)).bytes ≡ spelling (next_record was.record was.drives nvrams)
-    body_stands i m = shown_body (next_slot was.record) (new.disk (drive i)).bytes (spelling (next_record was.record was.drives nvrams)) (puts.shown h i m).shown
+    body_stands i m = shown_body (next_slot was.record) (new.disk (drive i)).bytes (spelling (next_record was.record was.drives nvrams)) (puts.shown stood h i m).shown
 
     own_is : own_slot (next_record was.record was.drives nvrams) ≡ next_slot was.record
     own_is = next_other was.record.generation
@@ -222,9 +240,9 @@ module _ (old new : Shelved) (is_old : IsShelf old) (on : Continues old new) (wa
         (subst (λ (t : BootSlot). Yields (other_slot t) (generation_in (body_in t (new.disk (drive i)).bytes)) (generation_in (spelling (next_record was.record was.drives nvrams)))) (sym (twice_other (own_slot was.record)))
         (subst (λ (l : List ℕ). Yields (next_slot was.record) (generation_in l) (generation_in (spelling (next_record was.record was.drives nvrams)))) (sym (older_body i m)) (newer (next_slot was.record)))))
 
-  pub shown_next : old.honest → (i : ℕ) → IsMember (drives_of now) i → Shows new (own_slot now.record) (spelling now.record) i
-  shown_next h i m = subst (λ (b : BootRecord). Shows new (own_slot b) (spelling b) i) (sym kept)
-      (subst (λ (t : BootSlot). Shows new t (spelling (next_record was.record was.drives nvrams)) i) (sym (next_other was.record.generation)) (puts.shown h i m))
+  pub shown_next : ok → old.honest → (i : ℕ) → IsMember (drives_of now) i → Shows new (own_slot now.record) (spelling now.record) i
+  shown_next stood h i m = subst (λ (b : BootRecord). Shows new (own_slot b) (spelling b) i) (sym kept)
+      (subst (λ (t : BootSlot). Shows new t (spelling (next_record was.record was.drives nvrams)) i) (sym (next_other was.record.generation)) (puts.shown stood h i m))
 
   module _ (h : old.honest) (not_spent : was.record.generation + 1 < 2 ^ 48 - 8) (missing : Conditions) (held : Content) (arrays : List Array) (may : MayStore old was nvrams missing held arrays) where
     among : (i : ℕ) → IsMember (drives_of was) i → IsMember was.drives i
@@ -246,22 +264,49 @@ module _ (old new : Shelved) (is_old : IsShelf old) (on : Continues old new) (wa
       | inr given ↦ inl given
     ]
 
-    pub again_next : MayStoreAgain old new was now nvrams missing held arrays
-    again_next later account =
-        let s = puts.stored h missing was.record (next_record was.record was.drives nvrams) arrays refl (newer h held may.logged (next_slot was.record)) may.in_force follow later account in
-        record {
-          logged = logged_next h held may.logged;
-          in_force = subst (λ (b : BootRecord). IsInForceOn new (drives_of now) later (next_slot b) b) (sym kept)
-              (subst (λ (t : BootSlot). IsInForceOn new (drives_of now) later (other_slot t) (next_record was.record was.drives nvrams)) (sym (next_other was.record.generation)) s.in_force);
-          stands = s.stands;
-          one_of = may.one_of;
-          sound = λ n lt e. may.sound n lt (sound_before (missing (nvram n)) (later (nvram n)) (account.within (nvram n)) e);
-          left_out = λ n e m. may.left_out n (left_before (missing (nvram n)) (later (nvram n)) (account.within (nvram n)) e) m;
-          unnamed = λ i e. subst (λ (b : BootRecord). names b (drive i) ≡ false) (sym kept) (elim (cases_Bool (slice_index_or was.drives i false)) [
-            | inl m ↦ absurd (cc (is_of.named i m, may.unnamed i (left_before (missing (drive i)) (later (drive i)) (account.within (drive i)) e)))
-            | inr not ↦ not
-          ]);
-        }
+    -- where the record was stored in later conditions the next one may be stored
+    may_store_then : ok → (later : Conditions) → IsWithin missing later → IsStored new (drives_of now) (next_slot was.record) (next_record was.record was.drives nvrams) arrays later → MayStore new now nvrams later held arrays
+    may_store_then stood later within s = record {
+      logged = logged_next h held may.logged stood;
+      in_force = subst (λ (b : BootRecord). IsInForceOn new (drives_of now) later (next_slot b) b) (sym kept)
+          (subst (λ (t : BootSlot). IsInForceOn new (drives_of now) later (other_slot t) (next_record was.record was.drives nvrams)) (sym (next_other was.record.generation)) s.in_force);
+      stands = s.stands;
+      one_of = may.one_of;
+      sound = λ n lt e. may.sound n lt (sound_before (missing (nvram n)) (later (nvram n)) (within (nvram n)) e);
+      left_out = λ n e m. may.left_out n (left_before (missing (nvram n)) (later (nvram n)) (within (nvram n)) e) m;
+      unnamed = λ i e. subst (λ (b : BootRecord). names b (drive i) ≡ false) (sym kept) (elim (cases_Bool (slice_index_or was.drives i false)) [
+        | inl m ↦ absurd (cc (is_of.named i m, may.unnamed i (left_before (missing (drive i)) (later (drive i)) (within (drive i)) e)))
+        | inr not ↦ not
+      ]);
+    }
+
+    pub again_next : ok → MayStoreAgain old new was now nvrams missing held arrays
+    again_next stood later account =
+        may_store_then stood later account.within
+        (puts.stored stood h missing was.record (next_record was.record was.drives nvrams) arrays refl (newer h held may.logged stood (next_slot was.record)) may.in_force follow later account)
+
+    -- whatever fails
+    firm_on : length was.drives ≡ 24 → IsFirm old was missing → IsFirmOn old (drives_of was) missing (next_slot was.record) was.record
+    firm_on flags firm = record {
+      in_force = may.in_force;
+      as_many = cut_length was flags is_of;
+      sound = firm.sound;
+      older = firm.older;
+    }
+
+    pub outlasts_next : length was.drives ≡ 24 → IsFirm old was missing → LeavesOnly old new (StandsAgain old missing arrays)
+    outlasts_next flags firm = puts.again h missing was.record (next_record was.record was.drives nvrams) arrays refl (firm_on flags firm) follow
+
+    pub firmly_next : ok → length was.drives ≡ 24 → IsFirm old was missing → MayStoreFirmly old new now nvrams missing held arrays
+    firmly_next stood flags firm later within bearable sound all = (
+      may_store_then stood later within
+          (puts.stored_on stood h missing was.record (next_record was.record was.drives nvrams) arrays refl (newer h held may.logged stood (next_slot was.record)) (firm_on flags firm) follow later within bearable sound),
+      record {
+        bearable = subst (λ g. IsBearable g later) (same_shelf on) bearable;
+        sound = all;
+        older = λ i m s. older_next h held may.logged stood i m;
+      },
+    )
 
   -- at each moment, whatever the conditions
   module _ (h : old.honest) (not_spent : was.record.generation + 1 < 2 ^ 48 - 8) where

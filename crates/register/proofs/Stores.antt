@@ -1,13 +1,15 @@
 -- A store that goes on until the record is on all drives that it names.
-use Rattle.std.proofs.Common.{◌≡◌, inl, inr, ℕ, ◌<◌, ◌≤◌, List, Bool, sym, ◌∙◌, arith, length, Result, Ok, Err, OnOk, OnErr}
+use Rattle.std.proofs.Common.{◌≡◌, inl, inr, ℕ, ◌<◌, ◌≤◌, List, Bool, refl, sym, ◌∙◌, arith, length, Result, Ok, Err, OnOk, OnErr}
+use Rattle.std.specs.Prelude.{IsOk}
 use Rattle.std.proofs.lemmas.Bool.{cases_lt}
-use Rattle.pur_base.specs.Devices.{Geometry}
+use Rattle.std.proofs.lemmas.List.{length-take}
+use Rattle.pur_base.specs.Devices.{Geometry, Sound, drive}
 use Rattle.boot_codec.specs.Record.{set_count}
 use Rattle.boot_region.specs.Members.{IsMember}
 use Rattle.pur_base.specs.declared.device.Device.{Device}
 use Rattle.pur_base.specs.declared.device.Device.TheVariants as dev
 use Rattle.register.specs.declared.state.Register.{Register}
-use Rattle.register.specs.Registers.{IsRegisterOf, OnSlots, drives_of}
+use Rattle.register.specs.Registers.{IsRegisterOf, OnSlots, drives_of, named_sound}
 use Rattle.register.proofs.FlagLemmas.{few_set, fewer_mask, same_count, in_cut, cut_in, not_below}
 
 -- fewer drives in all are fewer of the shelf's
@@ -43,6 +45,22 @@ pub on_err : {T E P Q : Type 0} (r : Result T E) → (P → Q) → OnErr r P →
 on_err (Ok x) f p = tt
 on_err (Err e) f p = f p
 
+pub from_ok : {T E P : Type 0} (r : Result T E) → OnOk r P → IsOk r → P
+from_ok (Ok x) p is = p
+from_ok (Err e) p is = absurd (cc is)
+
+pub when_ok : {T E P : Type 0} (r : Result T E) → (IsOk r → P) → OnOk r P
+when_ok (Ok x) f = f refl
+when_ok (Err e) f = tt
+
 -- no more drives are left than the shelf has
 pub at_most_slots : {shelf : Geometry} (r : Register) → IsRegisterOf shelf r → set_count r.drives ≤ r.record.slots
 at_most_slots {shelf} r is = few_set r.drives r.record.slots (let le = fewer_mask r.drives r.record.members.drives is.named in omega (arith, le, is.lawful.lawful.members.within))
+
+-- as many flags are left as the shelf has drives
+pub cut_length : {shelf : Geometry} (r : Register) → length r.drives ≡ 24 → IsRegisterOf shelf r → length (drives_of r) ≡ shelf.slots
+cut_length {shelf} r flags is = let few = is.lawful.lawful.slots.1 in length-take r.record.slots r.drives ∙ omega (arith, flags, few) ∙ is.lawful.slots
+
+-- each drive that is left is one that the record names
+pub members_sound : {shelf : Geometry} (r : Register) → IsRegisterOf shelf r → (i : ℕ) → IsMember (drives_of r) i → named_sound r.record (drive i) ≡ Sound
+members_sound {shelf} r is i m = let named = is.named i (in_cut r.drives r.record.slots i m) in rw named refl

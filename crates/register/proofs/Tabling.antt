@@ -6,7 +6,7 @@ use Rattle.std.proofs.lemmas.List.{take_all, append-nil}
 use Rattle.std.proofs.lemmas.Option.{slice_get-get_or}
 use Rattle.pur_base.specs.declared.device.Device.{Device}
 use Rattle.pur_base.specs.declared.device.Device.TheVariants as dev
-use Rattle.pur_base.specs.Devices.{Geometry, Conditions, Sound, LeftOut, IsWithin, IsOn, drive, nvram}
+use Rattle.pur_base.specs.Devices.{Geometry, Conditions, Sound, LeftOut, IsBearable, IsWithin, IsOn, drive, nvram}
 use Rattle.pur_base.specs.Plain.{Array}
 use Rattle.pur_base.specs.Commands.{Command, AllAccepted, after_all}
 use Rattle.pur_base.specs.Gates.{is_open}
@@ -27,7 +27,7 @@ use Rattle.world.specs.Shelf.{Shelved, Disk, Stop, IsShelf, IsInSome, MayLeave, 
 use Rattle.world.specs.Losing.{geometry_of}
 use Rattle.world.proofs.Moments.{weaker}
 use Rattle.boot_region.specs.Members.{IsMember}
-use Rattle.boot_region.specs.Storing.{Shows, OnlyBoot, IsOlder, IsInForceOn, MayFollow, StandsBut, WasGiven, AccountsFor}
+use Rattle.boot_region.specs.Storing.{Shows, OnlyBoot, IsOlder, IsFirmOn, IsInForceOn, IsStored, MayFollow, StandsAgain, StandsBut, WasGiven, AccountsFor}
 use Rattle.boot_region.proofs.ShownLemmas.{as_read, shown_body}
 use Rattle.nvram_log.specs.Members as nv
 use Rattle.nvram_log.specs.Slots.{IsLog}
@@ -35,7 +35,7 @@ use Rattle.nvram_log.proofs.Closing.{one_number}
 use Rattle.register.specs.declared.state.Register.{Register}
 use Rattle.register.specs.declared.tables.Tables.{Tables}
 use Rattle.register.specs.Registers.{IsRegisterOf, drives_of, named_sound, next_record, next_slot, own_slot}
-use Rattle.register.specs.Standing.{Content, IsShown, ShowsOn, IsNextOf, IsOpen, GivesOldOrNext, MayStore, StandsInLog, array_of}
+use Rattle.register.specs.Standing.{Content, IsShown, ShowsOn, IsNextOf, IsOpen, GivesOldOrNext, IsFirm, MayStore, MayStoreFirmly, StandsInLog, array_of}
 use Rattle.register.specs.Giving.{GivesOldOrTables, IsNextWith}
 use Rattle.register.specs.Tables.{FlushesAll, FlushesNone, IsPlanOf, KeepsArray, MayGoOn, StandsAsBefore, with_tables}
 use Rattle.register.proofs.Again.{meanwhile, accounts, bearable_then, accounts_since}
@@ -43,6 +43,7 @@ use Rattle.register.proofs.FlagLemmas.{in_cut}
 use Rattle.register.proofs.Follows.{left_before}
 use Rattle.register.proofs.Numbers.{generation_spelled, lower_yields, next_other}
 use Rattle.register.proofs.Rounds.{Puts, other_body, cut_drives, is_of_next, same_shelf, long, same_behind, log_then}
+use Rattle.register.proofs.Stores.{cut_length, members_sound}
 use Rattle.register.proofs.Splice.{at_splice, splice_stops, splice_boot}
 
 -- a device that holds a log shows none behind it
@@ -209,8 +210,8 @@ module _ (old : Shelved) (is_old : IsShelf old) (h : old.honest) (was : Register
 
   -- ---- once it was stored
 
-  module _ (new : Shelved) (on : Continues old new) (now : Register) (kept : now.record ≡ boot)
-      (beyond : (i : ℕ) → was.record.slots ≤ i → IsMember now.drives i → IsMember was.drives i) (puts : Puts old new now (drives_of was) slot (spelling boot)) where
+  module _ {ok : Type 0} (new : Shelved) (on : Continues old new) (now : Register) (kept : now.record ≡ boot)
+      (beyond : (i : ℕ) → was.record.slots ≤ i → IsMember now.drives i → IsMember was.drives i) (puts : Puts ok old new now (drives_of was) slot (spelling boot)) where
     its_register : IsRegisterOf (geometry_of new) now
     its_register = is_of_next old new on was now boot is_of lawful refl refl (λ i m. m) kept beyond puts.fewer
 
@@ -234,8 +235,8 @@ module _ (old : Shelved) (is_old : IsShelf old) (h : old.honest) (was : Register
           (λ i m. cut i m) (splice_boot old (is_old.bytes h) start.image long_then (λ d. (may.device d).is_byte) same_then nvram_then)
           (plan.stand (at_splice old (is_old.bytes h) start.image long_then (λ d. (may.device d).is_byte) same_then nvram_then) (splice_stops old (is_old.bytes h) start.image long_then (λ d. (may.device d).is_byte) same_then nvram_then)))
 
-    body_now : (i : ℕ) → IsMember (drives_of now) i → body_in slot (new.disk (drive i)).bytes ≡ spelling boot
-    body_now i m = shown_body slot (new.disk (drive i)).bytes (spelling boot) (puts.shown h i m).shown
+    body_now : ok → (i : ℕ) → IsMember (drives_of now) i → body_in slot (new.disk (drive i)).bytes ≡ spelling boot
+    body_now stood i m = shown_body slot (new.disk (drive i)).bytes (spelling boot) (puts.shown stood h i m).shown
 
     shows_none : FlushesAll was tables held next → ShowsOn new was.record.members.nvrams tables.flushed []
     shows_none all = record {
@@ -269,12 +270,12 @@ module _ (old : Shelved) (is_old : IsShelf old) (h : old.honest) (was : Register
       | inr none ↦ subst (λ (l : List Command). AllAccepted next.base l) (sym none.log) (subst (λ (b : Array). AllAccepted b held.log) (sym none.base) o.logged.accepted)
     ]
 
-    pub logged_now : StandsInLog new now was.record.members.nvrams next
-    logged_now = record {
+    pub logged_now : ok → StandsInLog new now was.record.members.nvrams next
+    logged_now stood = record {
       is_of = its_register;
       tables = λ start may. subst (λ (b : BootRecord). TablesHold (geometry_of new) start.image (own_slot b) b next.patches next.base) (sym kept) (held_now start may);
       bodies = λ i m. subst (λ (b : BootRecord). body_in (own_slot b) (new.disk (drive i)).bytes ≡ spelling b) (sym kept)
-          (subst (λ (t : BootSlot). body_in t (new.disk (drive i)).bytes ≡ spelling boot) (sym (next_other was.record.generation)) (body_now i m));
+          (subst (λ (t : BootSlot). body_in t (new.disk (drive i)).bytes ≡ spelling boot) (sym (next_other was.record.generation)) (body_now stood i m));
       holds = subst (λ (b : BootRecord). ShowsOn new was.record.members.nvrams b.flushed next.log) (sym kept) shows_now;
       accepted = accepted_now;
     }
@@ -297,9 +298,9 @@ module _ (old : Shelved) (is_old : IsShelf old) (h : old.honest) (was : Register
         (subst (λ (t : BootSlot). Yields (other_slot t) (generation_in (body_in t (new.disk (drive i)).bytes)) (generation_in (spelling boot))) (sym (twice_other own))
         (subst (λ (l : List ℕ). Yields slot (generation_in l) (generation_in (spelling boot))) (sym (older_body i m)) (newer slot))))
 
-    pub shown_now : (i : ℕ) → IsMember (drives_of now) i → Shows new (own_slot now.record) (spelling now.record) i
-    shown_now i m = subst (λ (b : BootRecord). Shows new (own_slot b) (spelling b) i) (sym kept)
-        (subst (λ (t : BootSlot). Shows new t (spelling boot) i) (sym (next_other was.record.generation)) (puts.shown h i m))
+    pub shown_now : ok → (i : ℕ) → IsMember (drives_of now) i → Shows new (own_slot now.record) (spelling now.record) i
+    shown_now stood i m = subst (λ (b : BootRecord). Shows new (own_slot b) (spelling b) i) (sym kept)
+        (subst (λ (t : BootSlot). Shows new t (spelling boot) i) (sym (next_other was.record.generation)) (puts.shown stood h i m))
 
     module _ (low : was.record.generation + 1 < 2 ^ 48 - 8) where
       pub moments_now : LeavesOnly old new (StandsBut old (drives_of was) (named_sound was.record) slot was.record (array_of held ∷ []))
@@ -311,24 +312,49 @@ module _ (old : Shelved) (is_old : IsShelf old) (h : old.honest) (was : Register
         | inr given ↦ inl (o.alone given.start slot2 boot2 given.may given.given).1
       ]) (puts.moments h)
 
+      -- where the record was stored in later conditions the next one may be stored
+      may_store_now : ok → (later : Conditions) → IsWithin (named_sound was.record) later → IsStored new (drives_of now) slot boot (array_of held ∷ []) later → MayStore new now was.record.members.nvrams later next (array_of held ∷ [])
+      may_store_now stood later within s = record {
+        logged = logged_now stood;
+        in_force = subst (λ (b : BootRecord). IsInForceOn new (drives_of now) later (next_slot b) b) (sym kept)
+            (subst (λ (t : BootSlot). IsInForceOn new (drives_of now) later (other_slot t) boot) (sym (next_other was.record.generation)) s.in_force);
+        stands = s.stands;
+        one_of = (0, omega arith, sym (same_array was tables held next plan.keeps));
+        sound = λ n lt e. named_before (nvram n) later within e;
+        left_out = λ n e m. absurd (cc (m, is_left (names was.record (nvram n)) (left_before (named_sound was.record (nvram n)) (later (nvram n)) (within (nvram n)) e)));
+        unnamed = λ i e. subst (λ (b : BootRecord). names b (drive i) ≡ false) (sym kept) (elim (cases_Bool (slice_index_or was.drives i false)) [
+          | inl m ↦ absurd (cc (is_of.named i m, is_left (names was.record (drive i)) (left_before (named_sound was.record (drive i)) (later (drive i)) (within (drive i)) e)))
+          | inr not ↦ not
+        ]);
+      }
+
       -- in conditions that tell what failed meanwhile it may be stored again
-      pub again_now : (later : Conditions) → AccountsFor old (drives_of was) (named_sound was.record) slot (spelling was.record) (λ d. (new.disk d).faults) (λ d. (new.disk d).write_faults) later
+      pub again_now : ok → (later : Conditions) → AccountsFor old (drives_of was) (named_sound was.record) slot (spelling was.record) (λ d. (new.disk d).faults) (λ d. (new.disk d).write_faults) later
           → MayStore new now was.record.members.nvrams later next (array_of held ∷ [])
-      again_now later account =
-          let s = puts.stored h (named_sound was.record) was.record boot (array_of held ∷ []) refl (newer slot) o.in_force (follow low) later account in
-          record {
-            logged = logged_now;
-            in_force = subst (λ (b : BootRecord). IsInForceOn new (drives_of now) later (next_slot b) b) (sym kept)
-                (subst (λ (t : BootSlot). IsInForceOn new (drives_of now) later (other_slot t) boot) (sym (next_other was.record.generation)) s.in_force);
-            stands = s.stands;
-            one_of = (0, omega arith, sym (same_array was tables held next plan.keeps));
-            sound = λ n lt e. named_before (nvram n) later account.within e;
-            left_out = λ n e m. absurd (cc (m, is_left (names was.record (nvram n)) (left_before (named_sound was.record (nvram n)) (later (nvram n)) (account.within (nvram n)) e)));
-            unnamed = λ i e. subst (λ (b : BootRecord). names b (drive i) ≡ false) (sym kept) (elim (cases_Bool (slice_index_or was.drives i false)) [
-              | inl m ↦ absurd (cc (is_of.named i m, is_left (names was.record (drive i)) (left_before (named_sound was.record (drive i)) (later (drive i)) (account.within (drive i)) e)))
-              | inr not ↦ not
-            ]);
-          }
+      again_now stood later account =
+          may_store_now stood later account.within (puts.stored stood h (named_sound was.record) was.record boot (array_of held ∷ []) refl (newer slot) o.in_force (follow low) later account)
+
+      -- whatever fails
+      firm_on : length was.drives ≡ 24 → IsFirmOn old (drives_of was) (named_sound was.record) slot was.record
+      firm_on flags = record {
+        in_force = o.in_force;
+        as_many = cut_length was flags is_of;
+        sound = members_sound was is_of;
+        older = o.older;
+      }
+
+      pub outlasts_now : length was.drives ≡ 24 → LeavesOnly old new (StandsAgain old (named_sound was.record) (array_of held ∷ []))
+      outlasts_now flags = puts.again h (named_sound was.record) was.record boot (array_of held ∷ []) refl (firm_on flags) (follow low)
+
+      pub firmly_now : ok → length was.drives ≡ 24 → MayStoreFirmly old new now was.record.members.nvrams (named_sound was.record) next (array_of held ∷ [])
+      firmly_now stood flags later within bearable sound all = (
+        may_store_now stood later within (puts.stored_on stood h (named_sound was.record) was.record boot (array_of held ∷ []) refl (newer slot) (firm_on flags) (follow low) later within bearable sound),
+        record {
+          bearable = subst (λ g. IsBearable g later) (same_shelf on) bearable;
+          sound = all;
+          older = λ i m s. older_now i m;
+        },
+      )
 
 -- a stop in a later round
 pub later_round : (old new : Shelved) (on : Continues old new) (was now : Register) (held next : Content) → ((i : ℕ) → IsMember (drives_of now) i → IsMember (drives_of was) i)

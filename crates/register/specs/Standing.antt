@@ -1,6 +1,6 @@
 -- An array that stands in its tables and its log, by the record in the register.
 use Rattle.std.specs.Prelude.{◌≡◌, ◌⊎◌, ℕ, ◌<◌, ◌≤◌, List, [], ◌∷◌, length, Bool, true, false, Some, Contains}
-use Rattle.pur_base.specs.Devices.{Conditions, Sound, LeftOut, IsBearable, drive, nvram}
+use Rattle.pur_base.specs.Devices.{Conditions, Sound, LeftOut, IsBearable, IsWithin, drive, nvram}
 use Rattle.pur_base.specs.Plain.{Array}
 use Rattle.pur_base.specs.Commands.{Command, AllAccepted, after_all}
 use Rattle.pur_base.specs.declared.facts.AnyFact.{AnyFact}
@@ -12,7 +12,7 @@ use Rattle.stored_spec.specs.Held.{TablesHold}
 use Rattle.world.specs.Shelf.{Shelved, Stop, MayStop}
 use Rattle.world.specs.Losing.{geometry_of, has_risen}
 use Rattle.boot_region.specs.Members.{IsMember}
-use Rattle.boot_region.specs.Storing.{WasGiven, StandsNow, StandsBut, IsInForceOn, AreOlder, AccountsFor}
+use Rattle.boot_region.specs.Storing.{WasGiven, StandsNow, StandsBut, SoundAreMembers, IsInForceOn, AreOlder, AccountsFor}
 use Rattle.log_codec.specs.declared.limits.TheConstants.{LOG_SLOTS}
 use Rattle.nvram_log.specs.Slots.{IsBetween}
 use Rattle.nvram_log.specs.Members as nv
@@ -61,6 +61,18 @@ pub record MayStore (shelf : Shelved) (r : Register) (nvrams : List Bool) (missi
   pub sound : (n : ℕ) → n < 2 → missing (nvram n) ≡ Sound → nv.IsMember nvrams n
   pub left_out : (n : ℕ) → missing (nvram n) ≡ LeftOut → ¬ (nv.IsMember nvrams n)
   pub unnamed : (i : ℕ) → missing (drive i) ≡ LeftOut → names r.record (drive i) ≡ false
+
+-- Where nothing is lost by a store, whatever fails: each drive on which the record is in force is sound, and what its other slot holds is older.
+pub record IsFirm (shelf : Shelved) (r : Register) (missing : Conditions) : Type 0 where
+  pub bearable : IsBearable (geometry_of shelf) missing
+  pub sound : (i : ℕ) → IsMember (drives_of r) i → missing (drive i) ≡ Sound
+  pub older : AreOlder shelf missing (drives_of r) (next_slot r.record) (spelling r.record)
+
+-- in borne conditions in which just the drives that are left are sound, of those that were, the next record may be stored again so
+abbrev pub MayStoreFirmly : Shelved → Shelved → Register → List Bool → Conditions → Content → List Array → Type 0
+MayStoreFirmly old new now nvrams missing held arrays = (later : Conditions) → IsWithin missing later → IsBearable (geometry_of old) later
+    → SoundAreMembers new later (drives_of now) → ((i : ℕ) → IsMember (drives_of now) i → later (drive i) ≡ Sound)
+    → MayStore new now nvrams later held arrays × IsFirm new now later
 
 -- in all conditions that tell what failed meanwhile the next record may be stored again
 abbrev pub MayStoreAgain : Shelved → Shelved → Register → Register → List Bool → Conditions → Content → List Array → Type 0

@@ -9,21 +9,22 @@ ghost use Rattle.world.specs.Losing.{geometry_of};
 ghost use Rattle.world.specs.Shelf.{Continues, LeavesOnly};
 ghost use Rattle.world.specs.Writes.{WritesOnly};
 ghost use Rattle.boot_region.specs.Members.{IsMember, NonMembersStay, DroppedFailed, OnSlot};
-ghost use Rattle.boot_region.specs.Storing.{Shows, IsInStore, IsOlder, IsInForceOn, IsNewer, IsStoredIn, MayFollow, StandsBut};
+ghost use Rattle.boot_region.specs.Storing.{Shows, AreEnough, IsFirmOn, IsInStore, IsOlder, IsInForceOn, IsNewer, IsStoredIn, IsStoredOn, MayFollow, StandsAgain, StandsBut};
 ghost use Rattle.nvram_log.specs.Members.{IsSome};
 
 use crate::slots::slot_for;
 use crate::{Register, StoreFault};
 use boot_codec::NVRAM_FLAGS;
+use boot_region::TooFew;
 use world::Shelf;
 
 impl Register {
     ghost use Rattle.register.specs.Faults.{IsFaultOf};
     ghost use Rattle.register.specs.Registers.{IsRegisterOf, IsLaterRecord, OnSlots, drives_of, next_record, own_slot, next_slot};
-    ghost use Rattle.register.specs.Standing.{AllShow, Content, GivesOldOrNext, IsInStoreOf, StandsBack, StandsInLog, StillGiven, MayStore, MayStoreAgain, IsOpen};
+    ghost use Rattle.register.specs.Standing.{AllShow, Content, IsFirm, MayStoreFirmly, GivesOldOrNext, IsInStoreOf, StandsBack, StandsInLog, StillGiven, MayStore, MayStoreAgain, IsOpen};
 
     /// Stores the record as it is spelled, on the drives that are left. Those on which it fails are dropped.
-    pub(crate) fn put<S: Shelf>(&mut self, shelf: &mut S)
+    pub(crate) fn put<S: Shelf>(&mut self, shelf: &mut S) -> Result<(), StoreFault>
         requires is_of { IsRegisterOf (geometry_of (S.shelf shelf.old)) self.old }
         ensures continues { Continues (S.shelf shelf.old) (S.shelf shelf.new) }
         ensures rest { S.shelf_rest shelf.old shelf.new }
@@ -33,21 +34,34 @@ impl Register {
         ensures beyond { (i : ℕ) → self.old.record.slots ≤ i → IsMember self.new.drives i → IsMember self.old.drives i }
         ensures dropped { DroppedFailed (S.shelf shelf.old) (S.shelf shelf.new) (drives_of self.old) (drives_of self.new) }
         ensures others { NonMembersStay (drives_of self.old) (S.shelf shelf.old) (S.shelf shelf.new) }
-        ensures shown { (S.shelf shelf.old).honest → (i : ℕ) → IsMember (drives_of self.new) i → Shows (S.shelf shelf.new) (own_slot self.old.record) self.old.body.items i }
+        ensures enough { OnOk result (AreEnough (drives_of self.new)) }
+        ensures fault { IfErr result (λ e. IsFaultOf self.new e) }
+        ensures too_few { OnErr result (set_count self.new.drives + 2 < self.new.record.slots) }
+        ensures shown { (S.shelf shelf.old).honest → OnOk result ((i : ℕ) → IsMember (drives_of self.new) i → Shows (S.shelf shelf.new) (own_slot self.old.record) self.old.body.items i) }
         ensures writes { (S.shelf shelf.old).honest → WritesOnly (OnSlot (drives_of self.old) (own_slot self.old.record)) (S.shelf shelf.old) (S.shelf shelf.new) }
         ensures moments { (S.shelf shelf.old).honest → LeavesOnly (S.shelf shelf.old) (S.shelf shelf.new) (IsInStore (S.shelf shelf.old) (drives_of self.old) (own_slot self.old.record) self.old.body.items) }
-        ensures stored { (S.shelf shelf.old).honest → (missing : Conditions) (held boot : BootRecord) (arrays : List Array)
+        ensures again { (S.shelf shelf.old).honest → (missing : Conditions) (held boot : BootRecord) (arrays : List Array)
+            → self.old.body.items ≡ spelling boot → IsFirmOn (S.shelf shelf.old) (drives_of self.old) missing (own_slot self.old.record) held → MayFollow (S.shelf shelf.old) missing (own_slot self.old.record) boot arrays
+            → LeavesOnly (S.shelf shelf.old) (S.shelf shelf.new) (StandsAgain (S.shelf shelf.old) missing arrays) }
+        ensures stored { (S.shelf shelf.old).honest → OnOk result ((missing : Conditions) (held boot : BootRecord) (arrays : List Array)
             → self.old.body.items ≡ spelling boot → IsNewer (own_slot self.old.record) held boot → IsInForceOn (S.shelf shelf.old) (drives_of self.old) missing (own_slot self.old.record) held → MayFollow (S.shelf shelf.old) missing (own_slot self.old.record) boot arrays
-            → IsStoredIn (S.shelf shelf.old) (S.shelf shelf.new) (drives_of self.old) (drives_of self.new) missing (own_slot self.old.record) held boot arrays }
+            → IsStoredIn (S.shelf shelf.old) (S.shelf shelf.new) (drives_of self.old) (drives_of self.new) missing (own_slot self.old.record) held boot arrays) }
+        ensures stored_on { (S.shelf shelf.old).honest → OnOk result ((missing : Conditions) (held boot : BootRecord) (arrays : List Array)
+            → self.old.body.items ≡ spelling boot → IsNewer (own_slot self.old.record) held boot → IsFirmOn (S.shelf shelf.old) (drives_of self.old) missing (own_slot self.old.record) held → MayFollow (S.shelf shelf.old) missing (own_slot self.old.record) boot arrays
+            → IsStoredOn (S.shelf shelf.old) (S.shelf shelf.new) (drives_of self.new) missing (own_slot self.old.record) boot arrays) }
     {
         let slots = self.record.slots as usize;
         let slot = slot_for(self.record.generation);
         let mut drives = self.drives;
-        boot_region::store(shelf, &mut drives[..slots], slot, &self.body);
+        let stored = boot_region::store(shelf, &mut drives[..slots], slot, &self.body);
         self.drives = drives;
+        match stored {
+            Ok(()) => Ok(()),
+            Err(TooFew) => Err(StoreFault::TooFew(drives)),
+        }
     }
 
-    /// Stores the next record once. An error is told before anything is written.
+    /// Stores the next record once. After an error the register holds what it held, or the record that more than two drives would not hold.
     fn store_next<S: Shelf>(
         &mut self,
         nvrams: [bool; NVRAM_FLAGS],
@@ -65,9 +79,10 @@ impl Register {
         ensures flags { length self.new.drives ≡ length self.old.drives }
         ensures next { OnOk result (self.new.record ≡ next_record self.old.record self.old.drives nvrams) }
         ensures enough { OnOk result (self.old.record.slots ≤ set_count self.old.drives + 2) }
-        ensures same { OnErr result ((self.new.record ≡ self.old.record) × (self.new.drives ≡ self.old.drives)) }
+        ensures left { OnOk result (AreEnough (drives_of self.new)) }
+        ensures kept { OnErr result (((self.new.record ≡ self.old.record) × (self.new.drives ≡ self.old.drives)) ⊎ ((self.new.record ≡ next_record self.old.record self.old.drives nvrams) × (self.old.record.slots ≤ set_count self.old.drives + 2) × (set_count self.new.drives < set_count self.old.drives))) }
         ensures fault { IfErr result (λ e. IsFaultOf self.new e) }
-        ensures logged { (S.shelf shelf.old).honest → (held : Content) → StandsInLog (S.shelf shelf.old) self.old nvrams held → StandsInLog (S.shelf shelf.new) self.new nvrams held }
+        ensures logged { (S.shelf shelf.old).honest → OnOk result ((held : Content) → StandsInLog (S.shelf shelf.old) self.old nvrams held → StandsInLog (S.shelf shelf.new) self.new nvrams held) }
         ensures shown { (S.shelf shelf.old).honest → OnOk result ((i : ℕ) → IsMember (drives_of self.new) i → Shows (S.shelf shelf.new) (own_slot self.new.record) (spelling self.new.record) i) }
         ensures older { (S.shelf shelf.old).honest → OnOk result ((held : Content) → StandsInLog (S.shelf shelf.old) self.old nvrams held
             → (i : ℕ) → IsMember (drives_of self.new) i → IsOlder (S.shelf shelf.new) (next_slot self.new.record) (spelling self.new.record) i) }
@@ -75,15 +90,19 @@ impl Register {
         // Then it may be stored again.
         ensures again { (S.shelf shelf.old).honest → self.new.record.generation < 2 ^ 48 - 8 → OnOk result ((missing : Conditions) (held : Content) (arrays : List Array) → MayStore (S.shelf shelf.old) self.old nvrams missing held arrays
             → MayStoreAgain (S.shelf shelf.old) (S.shelf shelf.new) self.old self.new nvrams missing held arrays) }
+        ensures firmly { (S.shelf shelf.old).honest → self.new.record.generation < 2 ^ 48 - 8 → OnOk result ((missing : Conditions) (held : Content) (arrays : List Array) → MayStore (S.shelf shelf.old) self.old nvrams missing held arrays
+            → IsFirm (S.shelf shelf.old) self.old missing → MayStoreFirmly (S.shelf shelf.old) (S.shelf shelf.new) self.new nvrams missing held arrays) }
+        ensures outlasts { (S.shelf shelf.old).honest → self.new.record.generation < 2 ^ 48 - 8 → (missing : Conditions) (held : Content) (arrays : List Array) → MayStore (S.shelf shelf.old) self.old nvrams missing held arrays
+            → IsFirm (S.shelf shelf.old) self.old missing → LeavesOnly (S.shelf shelf.old) (S.shelf shelf.new) (StandsAgain (S.shelf shelf.old) missing arrays) }
     {
         self.advance(nvrams)?;
-        self.put(shelf);
-        Ok(())
+        self.put(shelf)
     }
 
     /// Stores the record of the next generation, which names the drives that are left and these NVRAM devices, with all else as it was.
     /// Where a drive fails meanwhile it stores again without it, one generation higher, until the record is on all drives that it names.
-    /// After an error the register holds what was stored last. It takes no memory.
+    /// Where more than two drives of the shelf would not hold a record, it ends before any gate is opened where that is known by then.
+    /// After an error the register holds the record that was tried last, which is to be used no more. It takes no memory.
     pub fn store<S: Shelf>(
         &mut self,
         nvrams: [bool; NVRAM_FLAGS],
@@ -109,8 +128,8 @@ impl Register {
         ensures stores { OnOk result (self.new.record.generation + set_count self.new.drives ≤ self.old.record.generation + set_count self.old.drives + 1) }
         ensures lost { OnErr result (self.new.record.generation + set_count self.new.drives ≤ self.old.record.generation + set_count self.old.drives) }
         ensures fault { IfErr result (λ e. IsFaultOf self.new e) }
-        // The bytes of the record stand on the drives that are left, whatever the result.
-        ensures logged { (S.shelf shelf.old).honest → (held : Content) → StandsInLog (S.shelf shelf.old) self.old nvrams held → StandsInLog (S.shelf shelf.new) self.new nvrams held }
+        // The bytes of the record stand on the drives that are left.
+        ensures logged { (S.shelf shelf.old).honest → OnOk result ((held : Content) → StandsInLog (S.shelf shelf.old) self.old nvrams held → StandsInLog (S.shelf shelf.new) self.new nvrams held) }
         // What is so at every moment, whatever the conditions of the devices.
         ensures moments { (S.shelf shelf.old).honest → self.new.record.generation < 2 ^ 48 - 8 → LeavesOnly (S.shelf shelf.old) (S.shelf shelf.new) (IsInStoreOf (S.shelf shelf.old) self.old nvrams) }
         // At every moment the devices stand for the arrays for which they stood, as long as each record that is stored leaves room for later ones.
@@ -125,6 +144,10 @@ impl Register {
         ensures back { (S.shelf shelf.old).honest → self.new.record.generation < 2 ^ 48 - 8 → (held : Content)
             → StandsInLog (S.shelf shelf.old) self.old nvrams held → AllShow (S.shelf shelf.old) self.old
             → LeavesOnly (S.shelf shelf.old) (S.shelf shelf.new) (λ stop. StillGiven (S.shelf shelf.old) self.old nvrams held stop ⊎ StandsBack (S.shelf shelf.old) self.old nvrams held stop) }
+        // Whatever fails, more than is borne too: at every moment the devices stand for the arrays once they answer again with what they hold.
+        ensures outlasts { (S.shelf shelf.old).honest → self.new.record.generation < 2 ^ 48 - 8 → (missing : Conditions) (held : Content) (arrays : List Array)
+            → MayStore (S.shelf shelf.old) self.old nvrams missing held arrays → IsFirm (S.shelf shelf.old) self.old missing
+            → LeavesOnly (S.shelf shelf.old) (S.shelf shelf.new) (StandsAgain (S.shelf shelf.old) missing arrays) }
         // Then the record is in force, and the devices stand for the array of the log.
         ensures stored { (S.shelf shelf.old).honest → self.new.record.generation < 2 ^ 48 - 8 → (held : Content) → StandsInLog (S.shelf shelf.old) self.old nvrams held → OnOk result (IsOpen (S.shelf shelf.new) self.new nvrams held) }
     {

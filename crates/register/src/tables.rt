@@ -1,12 +1,12 @@
 // A record with other tables is stored.
-ghost use Rattle.std.specs.Prelude.{◌≡◌, ◌⊎◌, ◌<◌, ◌≤◌, ◌+◌, ◌-◌, ◌^◌, ℕ, OnOk, OnErr, IfErr, length};
+ghost use Rattle.std.specs.Prelude.{◌≡◌, ◌⊎◌, ◌<◌, ◌≤◌, ◌+◌, ◌-◌, ◌^◌, ℕ, OnOk, OnErr, IfErr, length, ◌∷◌, []};
 ghost use Rattle.boot_codec.specs.Record.{IsBootRecord, set_count};
 ghost use Rattle.boot_codec.specs.Spelling.{spelling};
 ghost use Rattle.world.specs.Losing.{geometry_of};
 ghost use Rattle.world.specs.Shelf.{Continues, LeavesOnly};
 ghost use Rattle.world.specs.Writes.{WritesOnly};
 ghost use Rattle.boot_region.specs.Members.{IsMember, NonMembersStay, DroppedFailed};
-ghost use Rattle.boot_region.specs.Storing.{IsOlder, Shows};
+ghost use Rattle.boot_region.specs.Storing.{AreEnough, IsOlder, Shows, StandsAgain};
 ghost use Rattle.nvram_log.specs.Members.{IsSome};
 
 use crate::{Register, StoreFault};
@@ -23,8 +23,8 @@ pub struct Tables {
 
 impl Register {
     ghost use Rattle.register.specs.Faults.{IsFaultOf};
-    ghost use Rattle.register.specs.Registers.{IsRegisterOf, IsLaterRecord, OnSlots, drives_of, next_record, next_slot, own_slot};
-    ghost use Rattle.register.specs.Standing.{Content, IsOpen, StandsInLog};
+    ghost use Rattle.register.specs.Registers.{IsRegisterOf, IsLaterRecord, OnSlots, drives_of, named_sound, next_record, next_slot, own_slot};
+    ghost use Rattle.register.specs.Standing.{Content, IsOpen, MayStoreFirmly, StandsInLog, array_of};
     ghost use Rattle.register.specs.Giving.{GivesOldOrTables};
     ghost use Rattle.register.specs.Tables.{IsPlanOf, MayGoOn, StandsAsBefore, with_tables};
 
@@ -50,7 +50,7 @@ impl Register {
         Ok(())
     }
 
-    /// Stores the next record with these tables once. An error is told before anything is written, and leaves all as it was.
+    /// Stores the next record with these tables once. An error before the record is made leaves all as it was.
     fn store_first<S: Shelf>(&mut self, tables: Tables, shelf: &mut S) -> Result<(), StoreFault>
         requires is_of { IsRegisterOf (geometry_of (S.shelf shelf.old)) self.old }
         requires lawful { IsBootRecord (with_tables self.old.record tables) }
@@ -65,8 +65,9 @@ impl Register {
         ensures flags { length self.new.drives ≡ length self.old.drives }
         ensures next { OnOk result (self.new.record ≡ next_record (with_tables self.old.record tables) self.old.drives self.old.record.members.nvrams) }
         ensures enough { OnOk result (self.old.record.slots ≤ set_count self.old.drives + 2) }
-        ensures same { OnErr result ((self.new.record ≡ self.old.record) × (self.new.drives ≡ self.old.drives)) }
-        ensures fault { IfErr result (λ e. IsFaultOf self.old e) }
+        ensures left { OnOk result (AreEnough (drives_of self.new)) }
+        ensures kept { OnErr result (((self.new.record ≡ self.old.record) × (self.new.drives ≡ self.old.drives)) ⊎ (self.new.record ≡ next_record (with_tables self.old.record tables) self.old.drives self.old.record.members.nvrams)) }
+        ensures fault { IfErr result (λ e. IsFaultOf self.new e) }
         ensures any_moment { (S.shelf shelf.old).honest → self.new.record.generation < 2 ^ 48 - 8 → (held next : Content) → IsOpen (S.shelf shelf.old) self.old self.old.record.members.nvrams held
             → IsPlanOf (S.shelf shelf.old) self.old tables held next → LeavesOnly (S.shelf shelf.old) (S.shelf shelf.new) (StandsAsBefore (S.shelf shelf.old) self.old held) }
         ensures gives { (S.shelf shelf.old).honest → self.new.record.generation < 2 ^ 48 - 8 → (held next : Content) → IsOpen (S.shelf shelf.old) self.old self.old.record.members.nvrams held
@@ -79,15 +80,22 @@ impl Register {
         // Then it may be stored again.
         ensures again { (S.shelf shelf.old).honest → self.new.record.generation < 2 ^ 48 - 8 → (held next : Content) → IsOpen (S.shelf shelf.old) self.old self.old.record.members.nvrams held
             → IsPlanOf (S.shelf shelf.old) self.old tables held next → OnOk result (MayGoOn (S.shelf shelf.old) (S.shelf shelf.new) self.old self.new held next) }
+        ensures firmly { (S.shelf shelf.old).honest → self.new.record.generation < 2 ^ 48 - 8 → (held next : Content) → IsOpen (S.shelf shelf.old) self.old self.old.record.members.nvrams held
+            → IsPlanOf (S.shelf shelf.old) self.old tables held next
+            → OnOk result (MayStoreFirmly (S.shelf shelf.old) (S.shelf shelf.new) self.new self.old.record.members.nvrams (named_sound self.old.record) next (array_of held ∷ [])) }
+        ensures outlasts { (S.shelf shelf.old).honest → self.new.record.generation < 2 ^ 48 - 8 → (held next : Content) → IsOpen (S.shelf shelf.old) self.old self.old.record.members.nvrams held
+            → IsPlanOf (S.shelf shelf.old) self.old tables held next
+            → LeavesOnly (S.shelf shelf.old) (S.shelf shelf.new) (StandsAgain (S.shelf shelf.old) (named_sound self.old.record) (array_of held ∷ [])) }
     {
         self.advance_to(tables)?;
-        self.put(shelf);
-        Ok(())
+        self.put(shelf)
     }
 
     /// Stores the record of the next generation with these tables, which names the drives that are left and the same NVRAM devices.
     /// Where a drive fails meanwhile it stores again without it, one generation higher, until the record is on all drives that it names.
-    /// Before the first record is made an error changes nothing; after a later one the register holds what was stored last. It takes no memory.
+    /// Where more than two drives of the shelf would not hold a record, it ends before any gate is opened where that is known by then.
+    /// Before the first record is made an error changes nothing; after a later one the register holds the record that was tried last, which is to be used no more.
+    /// It takes no memory.
     pub fn store_tables<S: Shelf>(
         &mut self,
         tables: Tables,
@@ -119,6 +127,10 @@ impl Register {
         ensures gives { (S.shelf shelf.old).honest → self.new.record.generation < 2 ^ 48 - 8 → (held next : Content) → IsOpen (S.shelf shelf.old) self.old self.old.record.members.nvrams held
             → IsPlanOf (S.shelf shelf.old) self.old tables held next
             → LeavesOnly (S.shelf shelf.old) (S.shelf shelf.new) (GivesOldOrTables (S.shelf shelf.old) self.old tables) }
+        // Whatever fails, more than is borne too: at every moment the devices stand for the array once they answer again with what they hold.
+        ensures outlasts { (S.shelf shelf.old).honest → self.new.record.generation < 2 ^ 48 - 8 → (held next : Content) → IsOpen (S.shelf shelf.old) self.old self.old.record.members.nvrams held
+            → IsPlanOf (S.shelf shelf.old) self.old tables held next
+            → LeavesOnly (S.shelf shelf.old) (S.shelf shelf.new) (StandsAgain (S.shelf shelf.old) (named_sound self.old.record) (array_of held ∷ [])) }
         // Then the record is in force, and the devices stand for the array by its tables.
         ensures held { (S.shelf shelf.old).honest → self.new.record.generation < 2 ^ 48 - 8 → (held next : Content) → IsOpen (S.shelf shelf.old) self.old self.old.record.members.nvrams held
             → IsPlanOf (S.shelf shelf.old) self.old tables held next → OnOk result (IsOpen (S.shelf shelf.new) self.new self.old.record.members.nvrams next) }

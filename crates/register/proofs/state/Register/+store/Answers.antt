@@ -5,13 +5,14 @@ use Rattle.world.proofs.Moments.{continues_trans, then_run, weaker}
 use Rattle.world.proofs.Writes.{writes_then, writes_more}
 use Rattle.boot_region.proofs.Stored.{stay_then}
 use Rattle.register.specs.Registers.{drives_of}
-use Rattle.register.specs.Standing.{IsNextOf}
+use Rattle.register.specs.Standing.{IsFirm, IsNextOf, MayStore}
 use Rattle.register.proofs.FlagLemmas.{same_flags, other_flags}
 use Rattle.register.proofs.Opened.{is_open}
 use Rattle.register.proofs.Again.{both}
 use Rattle.register.proofs.Back.{is_next_of}
 use Rattle.register.proofs.Turns.{in_store_later}
-use Rattle.register.proofs.Stores.{at_most_slots, fewer_cut, on_more, fewer_left, on_ok, on_err}
+use Rattle.register.proofs.Outlasts.{left, next_round, later_again}
+use Rattle.register.proofs.Stores.{cut_length, at_most_slots, fewer_cut, on_more, fewer_left, on_ok, on_err}
 use Rattle.register.proofs.state.Register.+store.Given as given
 use Rattle.register.proofs.state.Register.+store.Goals as goal
 
@@ -187,3 +188,38 @@ returns-in_err-store_next-clause-gives g t c h low missing held arrays may = wea
 
 pub returns-in_err-store_next-clause-back : goal.returns-in_err-store_next-clause-back
 returns-in_err-store_next-clause-back g t c h low held logged shows = weaker (λ stop x. x.back held logged shows) (c.in_err-store_next.ensures.moments h low)
+
+pub returns-clause-outlasts : goal.returns-clause-outlasts
+returns-clause-outlasts g t c h low missing held arrays may firm =
+    let a = g.S.Shelf.shelf c.args.shelf.now in
+    let b = g.S.Shelf.shelf c.store_next.new.shelf in
+    let was = c.args.self.now in
+    let now = c.store_next.new.self in
+    let ab = c.in_ok-store_next.ensures.continues in
+    let before : MayStore a was c.args.nvrams missing held arrays = record {
+      logged = record { is_of = record { lawful = may.logged.is_of.lawful; named = may.logged.is_of.named }; tables = may.logged.tables; bodies = may.logged.bodies; holds = may.logged.holds; accepted = may.logged.accepted };
+      in_force = may.in_force;
+      stands = may.stands;
+      one_of = may.one_of;
+      sound = may.sound;
+      left_out = may.left_out;
+      unnamed = may.unnamed;
+    } in
+    let firm_before : IsFirm a was missing = record { bearable = firm.bearable; sound = firm.sound; older = firm.older } in
+    let flags : length now.drives ≡ 24 = search rules in
+    let fewer = fewer_cut was now (ap (λ (x : BootRecord). x.slots) c.in_ok-store_next.ensures.next) c.in_ok-store_next.ensures.fewer in
+    let as_many = cut_length now flags c.in_ok-store_next.ensures.is_of in
+    let firmly = c.in_ok-store_next.ensures.firmly h (room g t c low) missing held arrays before firm_before in
+    let next = next_round a b ab now (drives_of was) c.args.nvrams missing held arrays firm.bearable firm.sound fewer as_many c.in_ok-store_next.ensures.left firmly in
+    let again = later_again a b ab now (drives_of was) c.args.nvrams missing held arrays firm.bearable firm.sound fewer as_many c.in_ok-store_next.ensures.left firmly in
+    let after = left a b ab now (drives_of was) c.args.nvrams missing held arrays firm.bearable firm.sound fewer as_many c.in_ok-store_next.ensures.left firmly in
+    then_run ab (c.in_ok-store_next.ensures.outlasts h (room g t c low) missing held arrays before firm_before)
+    (weaker again (c.store.ensures.outlasts (ab.honest h) low after held arrays (record {
+      logged = record { is_of = record { lawful = next.0.logged.is_of.lawful; named = next.0.logged.is_of.named }; tables = next.0.logged.tables; bodies = next.0.logged.bodies; holds = next.0.logged.holds; accepted = next.0.logged.accepted };
+      in_force = next.0.in_force;
+      stands = next.0.stands;
+      one_of = next.0.one_of;
+      sound = next.0.sound;
+      left_out = next.0.left_out;
+      unnamed = next.0.unnamed;
+    }) (record { bearable = next.1.bearable; sound = next.1.sound; older = next.1.older })))

@@ -1,50 +1,98 @@
-use Rattle.std.proofs.Common.{rules, arith, ◌≡◌, ◌≤◌, ℕ, List, Bool, length, drop, sym, ◌∙◌, subst}
-use Rattle.std.proofs.lemmas.List.{length-append, length-drop}
+use Rattle.std.proofs.Common.{rules, arith, ◌≡◌, ◌+◌, ◌<◌, ◌≤◌, ℕ, List, Bool, ◌++◌, refl, length, drop, sym, ◌∙◌, subst}
 use Rattle.boot_region.specs.Members.{IsMember}
-use Rattle.boot_region.specs.Storing.{Shows, IsInStore, IsInForceOn, IsNewer, IsStoredIn, MayFollow}
+use Rattle.boot_region.specs.Storing.{Shows, AreEnough, IsFirmOn, IsInStore, IsInForceOn, IsNewer, IsStoredIn, IsStoredOn, MayFollow, StandsAgain}
 use Rattle.boot_region.specs.Slots.{slot_in}
+use Rattle.pur_base.specs.Devices.{Conditions}
+use Rattle.pur_base.specs.Plain.{Array}
+use Rattle.boot_codec.specs.declared.record.BootRecord.{BootRecord}
+use Rattle.boot_codec.specs.Spelling.{spelling}
 use Rattle.boot_codec.specs.Region.{BootSlot}
 use Rattle.world.specs.Shelf.{LeavesOnly}
 use Rattle.register.specs.Registers.{drives_of, own_slot}
-use Rattle.register.proofs.FlagLemmas.{put_back}
+use Rattle.boot_codec.specs.Record.{set_count}
+use Rattle.register.proofs.FlagLemmas.{put_back, fewer_count}
+use Rattle.register.proofs.Rounds.{cut_left}
+use Rattle.register.proofs.Stores.{from_ok}
+use Rattle.std.specs.Prelude.{IsOk}
 use Rattle.register.proofs.state.Register.put.Goals as goal
 
-pub returns-clause-shown : goal.returns-clause-shown
-returns-clause-shown g c h i m =
+pub returns-in-Ok-clause-shown : goal.returns-in-Ok-clause-shown
+returns-in-Ok-clause-shown g c h i m =
     let slot : slot_in c.slot_for-slot.result ≡ own_slot c.args.self.now.record = c.slot_for-slot.ensures in
     let body : c.deref.result.now ≡ c.args.self.now.body.items = c.deref.ensures.value in
-    let all : length c.store.new.members ≡ c.args.self.now.record.slots = search rules in
-    let cut = put_back c.args.self.now.record.slots c.store.new.members (drop c.args.self.now.record.slots c.args.self.now.drives) all in
-    subst (λ (l : List ℕ). Shows (g.S.Shelf.shelf c.store.new.shelf) (own_slot c.args.self.now.record) l i) body
-    (subst (λ (t : BootSlot). Shows (g.S.Shelf.shelf c.store.new.shelf) t c.deref.result.now i) slot
-    (c.store.ensures.shown h i (subst (λ (l : List Bool). IsMember l i) cut m)))
-
-pub returns-clause-moments : goal.returns-clause-moments
-returns-clause-moments g c h =
-    let slot : slot_in c.slot_for-slot.result ≡ own_slot c.args.self.now.record = c.slot_for-slot.ensures in
-    let body : c.deref.result.now ≡ c.args.self.now.body.items = c.deref.ensures.value in
+    let all : length c.store-stored.new.members ≡ c.args.self.now.record.slots = search rules in
+    let cut = put_back c.args.self.now.record.slots c.store-stored.new.members (drop c.args.self.now.record.slots c.args.self.now.drives) all in
     let a = g.S.Shelf.shelf c.args.shelf.now in
-    let e = g.S.Shelf.shelf c.store.new.shelf in
-    subst (λ (l : List ℕ). LeavesOnly a e (IsInStore a (drives_of c.args.self.now) (own_slot c.args.self.now.record) l)) body
-    (subst (λ (t : BootSlot). LeavesOnly a e (IsInStore a (drives_of c.args.self.now) t c.deref.result.now)) slot (c.store.ensures.moments h))
+    let e = g.S.Shelf.shelf c.store-stored.new.shelf in
+    let shown : (i : ℕ) → IsMember c.store-stored.new.members i → Shows e (slot_in c.slot_for-slot.result) c.deref.result.now i = search rules in
+    subst (λ (l : List ℕ). Shows e (own_slot c.args.self.now.record) l i) body
+    (subst (λ (t : BootSlot). Shows e t c.deref.result.now i) slot
+    (shown i (subst (λ (l : List Bool). IsMember l i) cut m)))
 
-pub returns-clause-stored : goal.returns-clause-stored
-returns-clause-stored g c h missing held boot arrays spells newer force follow =
+pub returns-in-Ok-clause-again : goal.returns-in-Ok-clause-again
+returns-in-Ok-clause-again g c h missing held boot arrays spells firm follow =
     let slot : slot_in c.slot_for-slot.result ≡ own_slot c.args.self.now.record = c.slot_for-slot.ensures in
     let body : c.deref.result.now ≡ c.args.self.now.body.items = c.deref.ensures.value in
-    let all : length c.store.new.members ≡ c.args.self.now.record.slots = search rules in
-    let cut = put_back c.args.self.now.record.slots c.store.new.members (drop c.args.self.now.record.slots c.args.self.now.drives) all in
+    let all : length c.store-stored.new.members ≡ c.args.self.now.record.slots = search rules in
+    let cut = put_back c.args.self.now.record.slots c.store-stored.new.members (drop c.args.self.now.record.slots c.args.self.now.drives) all in
     let a = g.S.Shelf.shelf c.args.shelf.now in
-    let e = g.S.Shelf.shelf c.store.new.shelf in
+    let e = g.S.Shelf.shelf c.store-stored.new.shelf in
+    subst (λ (t : BootSlot). IsFirmOn a (drives_of c.args.self.now) missing t held → MayFollow a missing t boot arrays → LeavesOnly a e (StandsAgain a missing arrays)) slot
+    (λ f w. c.store-stored.ensures.again h missing held boot arrays (body ∙ spells) f w) firm follow
+
+pub returns-in-Err-clause-again : goal.returns-in-Err-clause-again
+returns-in-Err-clause-again g c h missing held boot arrays spells firm follow =
+    let slot : slot_in c.slot_for-slot.result ≡ own_slot c.args.self.now.record = c.slot_for-slot.ensures in
+    let body : c.deref.result.now ≡ c.args.self.now.body.items = c.deref.ensures.value in
+    let all : length c.store-stored.new.members ≡ c.args.self.now.record.slots = search rules in
+    let cut = put_back c.args.self.now.record.slots c.store-stored.new.members (drop c.args.self.now.record.slots c.args.self.now.drives) all in
+    let a = g.S.Shelf.shelf c.args.shelf.now in
+    let e = g.S.Shelf.shelf c.store-stored.new.shelf in
+    subst (λ (t : BootSlot). IsFirmOn a (drives_of c.args.self.now) missing t held → MayFollow a missing t boot arrays → LeavesOnly a e (StandsAgain a missing arrays)) slot
+    (λ f w. c.store-stored.ensures.again h missing held boot arrays (body ∙ spells) f w) firm follow
+
+pub returns-in-Ok-clause-stored : goal.returns-in-Ok-clause-stored
+returns-in-Ok-clause-stored g c h missing held boot arrays spells newer force follow =
+    let slot : slot_in c.slot_for-slot.result ≡ own_slot c.args.self.now.record = c.slot_for-slot.ensures in
+    let body : c.deref.result.now ≡ c.args.self.now.body.items = c.deref.ensures.value in
+    let all : length c.store-stored.new.members ≡ c.args.self.now.record.slots = search rules in
+    let cut = put_back c.args.self.now.record.slots c.store-stored.new.members (drop c.args.self.now.record.slots c.args.self.now.drives) all in
+    let a = g.S.Shelf.shelf c.args.shelf.now in
+    let e = g.S.Shelf.shelf c.store-stored.new.shelf in
+    let is : IsOk c.store-stored.result = search rules in
+    let stored = from_ok c.store-stored.result (c.store-stored.ensures.stored h) is in
     subst (λ (l : List Bool). IsStoredIn a e (drives_of c.args.self.now) l missing (own_slot c.args.self.now.record) held boot arrays) (sym cut)
     (subst (λ (t : BootSlot). IsNewer t held boot → IsInForceOn a (drives_of c.args.self.now) missing t held → MayFollow a missing t boot arrays
-    → IsStoredIn a e (drives_of c.args.self.now) c.store.new.members missing t held boot arrays) slot
-    (λ n f w. c.store.ensures.stored h missing held boot arrays (body ∙ spells) n f w) newer force follow)
+    → IsStoredIn a e (drives_of c.args.self.now) c.store-stored.new.members missing t held boot arrays) slot
+    (λ n f w. stored missing held boot arrays (body ∙ spells) n f w) newer force follow)
 
-pub returns-clause-flags : goal.returns-clause-flags
-returns-clause-flags g c =
-    let all : length c.store.new.members ≡ c.args.self.now.record.slots = search rules in
-    let flags : length c.args.self.now.drives ≡ 24 = search rules in
-    let few : c.args.self.now.record.slots ≤ 24 = c.requires.is_of.lawful.lawful.slots.1 in
-    length-append c.store.new.members (drop c.args.self.now.record.slots c.args.self.now.drives)
-    ∙ omega (arith, all, flags, few, length-drop c.args.self.now.record.slots c.args.self.now.drives)
+pub returns-in-Ok-clause-stored_on : goal.returns-in-Ok-clause-stored_on
+returns-in-Ok-clause-stored_on g c h missing held boot arrays spells newer firm follow =
+    let slot : slot_in c.slot_for-slot.result ≡ own_slot c.args.self.now.record = c.slot_for-slot.ensures in
+    let body : c.deref.result.now ≡ c.args.self.now.body.items = c.deref.ensures.value in
+    let all : length c.store-stored.new.members ≡ c.args.self.now.record.slots = search rules in
+    let cut = put_back c.args.self.now.record.slots c.store-stored.new.members (drop c.args.self.now.record.slots c.args.self.now.drives) all in
+    let a = g.S.Shelf.shelf c.args.shelf.now in
+    let e = g.S.Shelf.shelf c.store-stored.new.shelf in
+    let is : IsOk c.store-stored.result = search rules in
+    let stored = from_ok c.store-stored.result (c.store-stored.ensures.stored_on h) is in
+    subst (λ (l : List Bool). IsStoredOn a e l missing (own_slot c.args.self.now.record) boot arrays) (sym cut)
+    (subst (λ (t : BootSlot). IsNewer t held boot → IsFirmOn a (drives_of c.args.self.now) missing t held → MayFollow a missing t boot arrays
+    → IsStoredOn a e c.store-stored.new.members missing t boot arrays) slot
+    (λ n f w. stored missing held boot arrays (body ∙ spells) n f w) newer firm follow)
+
+pub returns-in-Err-clause-fault : goal.returns-in-Err-clause-fault
+returns-in-Err-clause-fault g c =
+    let slot : slot_in c.slot_for-slot.result ≡ own_slot c.args.self.now.record = c.slot_for-slot.ensures in
+    let body : c.deref.result.now ≡ c.args.self.now.body.items = c.deref.ensures.value in
+    let all : length c.store-stored.new.members ≡ c.args.self.now.record.slots = search rules in
+    let cut = put_back c.args.self.now.record.slots c.store-stored.new.members (drop c.args.self.now.record.slots c.args.self.now.drives) all in
+    let a = g.S.Shelf.shelf c.args.shelf.now in
+    let e = g.S.Shelf.shelf c.store-stored.new.shelf in
+    let few : set_count c.store-stored.new.members + 2 < length c.store-stored.new.members = search rules in
+    let left = fewer_count (c.store-stored.new.members ++ drop c.args.self.now.record.slots c.args.self.now.drives) c.store-stored.new.members
+        (λ i m. cut_left c.requires.is_of c.store-stored.new.members i all m) in
+    (refl, omega (arith, few, left, all))
+
+pub returns-in-Err-clause-too_few : goal.returns-in-Err-clause-too_few
+returns-in-Err-clause-too_few g c = (returns-in-Err-clause-fault g c).1

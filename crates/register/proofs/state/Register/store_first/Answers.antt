@@ -1,4 +1,4 @@
-use Rattle.std.proofs.Common.{refl, inl, arith, ◌≡◌, ◌+◌, ◌-◌, ◌^◌, ◌<◌, ◌≤◌, ◌∷◌, [], ℕ, List, Bool, length, ◌∙◌, ap, subst}
+use Rattle.std.proofs.Common.{rules, refl, inl, arith, ◌≡◌, ◌+◌, ◌-◌, ◌^◌, ◌<◌, ◌≤◌, ◌∷◌, [], ℕ, List, Bool, length, ◌∙◌, ap, subst}
 use Rattle.boot_codec.specs.declared.record.BootRecord.{BootRecord}
 use Rattle.boot_codec.specs.Record.{IsBootRecord}
 use Rattle.boot_codec.specs.Spelling.{spelling}
@@ -12,8 +12,13 @@ use Rattle.register.specs.Giving.{GivesOldOrTables}
 use Rattle.register.specs.Tables.{StandsAsBefore, with_tables}
 use Rattle.register.proofs.Follows.{stands_before}
 use Rattle.register.proofs.Numbers.{next_other}
+use Rattle.register.proofs.Stores.{from_ok, when_ok}
+use Rattle.boot_region.proofs.Stored.{for_ok}
+use Rattle.boot_region.specs.Storing.{StandsAgain}
+use Rattle.boot_region.proofs.Composing.{as_it_is}
+use Rattle.std.specs.Prelude.{IsOk}
 use Rattle.register.proofs.Rounds.{Puts, puts_next, fewer_all, is_of_next, on_slots}
-use Rattle.register.proofs.Tabling.{logged_now, older_now, moments_now, gives_now, again_now}
+use Rattle.register.proofs.Tabling.{logged_now, older_now, moments_now, gives_now, again_now, firmly_now, outlasts_now}
 use Rattle.register.proofs.state.Register.store_first.Given as given
 use Rattle.register.proofs.state.Register.store_first.Goals as goal
 
@@ -34,7 +39,7 @@ returns-in_err-advance_to-clause-gives g c h low held next o plan =
 abbrev made : (g : given.Over) → goal.After-put g → BootRecord
 made g c = next_record (with_tables c.args.self.now.record c.args.tables) c.args.self.now.drives c.args.self.now.record.members.nvrams
 
-the_puts : (g : given.Over) (c : goal.After-put g) → Puts (g.S.Shelf.shelf c.args.shelf.now) (g.S.Shelf.shelf c.put.new.shelf) c.put.new.self (drives_of c.args.self.now) (next_slot c.args.self.now.record) (spelling (made g c))
+the_puts : (g : given.Over) (c : goal.After-put g) → Puts (IsOk c.put.result) (g.S.Shelf.shelf c.args.shelf.now) (g.S.Shelf.shelf c.put.new.shelf) c.put.new.self (drives_of c.args.self.now) (next_slot c.args.self.now.record) (spelling (made g c))
 the_puts g c =
     puts_next (g.S.Shelf.shelf c.args.shelf.now) (g.S.Shelf.shelf c.put.new.shelf) c.args.self.now c.advance_to.new.self c.put.new.self (made g c) refl (next_other c.args.self.now.record.generation)
     c.in_ok-advance_to.ensures.ok c.in_ok-advance_to.ensures.drives c.in_ok-advance_to.ensures.body
@@ -42,10 +47,12 @@ the_puts g c =
       fewer = c.put.ensures.fewer;
       dropped = c.put.ensures.dropped;
       others = c.put.ensures.others;
-      shown = c.put.ensures.shown;
+      shown = λ is h. from_ok c.put.result (c.put.ensures.shown h) is;
       writes = c.put.ensures.writes;
       moments = c.put.ensures.moments;
-      stored = c.put.ensures.stored;
+      again = c.put.ensures.again;
+      stored_on = λ is h. from_ok c.put.result (c.put.ensures.stored_on h) is;
+      stored = λ is h. from_ok c.put.result (c.put.ensures.stored h) is;
     })
 
 lawful : (g : given.Over) (c : goal.After-put g) → IsBootRecord (made g c)
@@ -95,16 +102,34 @@ returns-clause-gives g c h low held next o plan =
     (g.S.Shelf.shelf c.put.new.shelf) c.put.ensures.continues c.put.new.self (kept g c) (beyond g c) (the_puts g c) (room g c low)
 
 pub returns-clause-logged : goal.returns-clause-logged
-returns-clause-logged g c h held next o plan =
-    logged_now (g.S.Shelf.shelf c.args.shelf.now) (g.met.S.Shelf.is_shelf c.args.shelf.now) h c.args.self.now c.args.tables c.requires.is_of c.requires.nvrams (lawful g c) c.requires.lawful held next o plan
-    (g.S.Shelf.shelf c.put.new.shelf) c.put.ensures.continues c.put.new.self (kept g c) (beyond g c) (the_puts g c)
+returns-clause-logged g c h held next o plan = when_ok c.put.result (λ is. logged_now (g.S.Shelf.shelf c.args.shelf.now) (g.met.S.Shelf.is_shelf c.args.shelf.now) h c.args.self.now c.args.tables c.requires.is_of c.requires.nvrams (lawful g c) c.requires.lawful held next o plan
+    (g.S.Shelf.shelf c.put.new.shelf) c.put.ensures.continues c.put.new.self (kept g c) (beyond g c) (the_puts g c) is)
 
 pub returns-clause-again : goal.returns-clause-again
-returns-clause-again g c h low held next o plan later account =
+returns-clause-again g c h low held next o plan = when_ok c.put.result (λ is later account.
     again_now (g.S.Shelf.shelf c.args.shelf.now) (g.met.S.Shelf.is_shelf c.args.shelf.now) h c.args.self.now c.args.tables c.requires.is_of c.requires.nvrams (lawful g c) c.requires.lawful held next o plan
-    (g.S.Shelf.shelf c.put.new.shelf) c.put.ensures.continues c.put.new.self (kept g c) (beyond g c) (the_puts g c) (room g c low) later account
+    (g.S.Shelf.shelf c.put.new.shelf) c.put.ensures.continues c.put.new.self (kept g c) (beyond g c) (the_puts g c) (room g c low) is later account)
+
+pub returns-clause-firmly : goal.returns-clause-firmly
+returns-clause-firmly g c h low held next o plan =
+    let flags : length c.args.self.now.drives ≡ 24 = search rules in
+    when_ok c.put.result (λ is.
+    firmly_now (g.S.Shelf.shelf c.args.shelf.now) (g.met.S.Shelf.is_shelf c.args.shelf.now) h c.args.self.now c.args.tables c.requires.is_of c.requires.nvrams (lawful g c) c.requires.lawful held next o plan
+    (g.S.Shelf.shelf c.put.new.shelf) c.put.ensures.continues c.put.new.self (kept g c) (beyond g c) (the_puts g c) (room g c low) is flags)
+
+pub returns-clause-outlasts : goal.returns-clause-outlasts
+returns-clause-outlasts g c h low held next o plan =
+    let flags : length c.args.self.now.drives ≡ 24 = search rules in
+    outlasts_now (g.S.Shelf.shelf c.args.shelf.now) (g.met.S.Shelf.is_shelf c.args.shelf.now) h c.args.self.now c.args.tables c.requires.is_of c.requires.nvrams (lawful g c) c.requires.lawful held next o plan
+    (g.S.Shelf.shelf c.put.new.shelf) c.put.ensures.continues c.put.new.self (kept g c) (beyond g c) (the_puts g c) (room g c low) flags
+
+pub returns-in_err-advance_to-clause-outlasts : goal.returns-in_err-advance_to-clause-outlasts
+returns-in_err-advance_to-clause-outlasts g c h low held next o plan =
+    let a = g.S.Shelf.shelf c.args.shelf.now in
+    started a (StandsAgain a (named_sound c.args.self.now.record) (array_of held ∷ [])) (g.met.S.Shelf.is_shelf c.args.shelf.now)
+    (λ stop m. record { later = named_sound c.args.self.now.record; within = as_it_is (named_sound c.args.self.now.record); logs = λ n. refl; stands = o.stands stop m })
 
 pub returns-clause-older : goal.returns-clause-older
-returns-clause-older g c h held next o plan =
+returns-clause-older g c h held next o plan = for_ok c.put.result (
     older_now (g.S.Shelf.shelf c.args.shelf.now) (g.met.S.Shelf.is_shelf c.args.shelf.now) h c.args.self.now c.args.tables c.requires.is_of c.requires.nvrams (lawful g c) c.requires.lawful held next o plan
-    (g.S.Shelf.shelf c.put.new.shelf) c.put.ensures.continues c.put.new.self (kept g c) (beyond g c) (the_puts g c)
+    (g.S.Shelf.shelf c.put.new.shelf) c.put.ensures.continues c.put.new.self (kept g c) (beyond g c) (the_puts g c))

@@ -1,15 +1,19 @@
-use Rattle.std.proofs.Common.{refl, inl, arith, ◌≡◌, ◌+◌, ◌-◌, ◌^◌, ◌<◌, ◌≤◌, ℕ, List, Bool, length, ◌∙◌, ap, subst}
+use Rattle.std.proofs.Common.{rules, refl, inl, inr, arith, ◌≡◌, ◌+◌, ◌-◌, ◌^◌, ◌<◌, ◌≤◌, ℕ, List, Bool, length, ◌∙◌, ap, subst}
 use Rattle.boot_codec.specs.declared.record.BootRecord.{BootRecord}
 use Rattle.boot_codec.specs.Record.{IsBootRecord}
 use Rattle.boot_codec.specs.Spelling.{spelling}
 use Rattle.world.proofs.Moments.{started}
 use Rattle.boot_region.specs.Members.{IsMember}
 use Rattle.register.specs.Registers.{drives_of, next_slot, next_record}
-use Rattle.register.proofs.Rounds.{Puts, puts_next, fewer_all, writes_slots, is_of_next, logged_next, older_next, shown_next, moments_next, again_next}
+use Rattle.register.proofs.Rounds.{Puts, puts_next, fewer_all, writes_slots, is_of_next, logged_next, older_next, shown_next, moments_next, again_next, firmly_next, outlasts_next}
 use Rattle.array_spec.proofs.Standings.{given_with_fewer}
 use Rattle.register.specs.Standing.{IsInStoreOf}
 use Rattle.register.proofs.Follows.{stands_before}
 use Rattle.register.proofs.Numbers.{next_other}
+use Rattle.register.proofs.Stores.{from_ok, when_ok, on_err}
+use Rattle.boot_region.specs.Storing.{StandsAgain}
+use Rattle.boot_region.proofs.Composing.{as_it_is}
+use Rattle.std.specs.Prelude.{IsOk}
 use Rattle.register.proofs.state.Register.store_next.Given as given
 use Rattle.register.proofs.state.Register.store_next.Goals as goal
 
@@ -25,7 +29,7 @@ returns-in_err-advance-clause-moments g c h low =
     })
 
 -- what `put` promises, in the words of the record before
-the_puts : (g : given.Over) (c : goal.After-put g) → Puts (g.S.Shelf.shelf c.args.shelf.now) (g.S.Shelf.shelf c.put.new.shelf) c.put.new.self (drives_of c.args.self.now) (next_slot c.args.self.now.record) (spelling (next_record c.args.self.now.record c.args.self.now.drives c.args.nvrams))
+the_puts : (g : given.Over) (c : goal.After-put g) → Puts (IsOk c.put.result) (g.S.Shelf.shelf c.args.shelf.now) (g.S.Shelf.shelf c.put.new.shelf) c.put.new.self (drives_of c.args.self.now) (next_slot c.args.self.now.record) (spelling (next_record c.args.self.now.record c.args.self.now.drives c.args.nvrams))
 the_puts g c =
     puts_next (g.S.Shelf.shelf c.args.shelf.now) (g.S.Shelf.shelf c.put.new.shelf) c.args.self.now c.advance.new.self c.put.new.self (next_record c.args.self.now.record c.args.self.now.drives c.args.nvrams) refl (next_other c.args.self.now.record.generation)
     c.in_ok-advance.ensures.ok c.in_ok-advance.ensures.drives c.in_ok-advance.ensures.body
@@ -33,10 +37,12 @@ the_puts g c =
       fewer = c.put.ensures.fewer;
       dropped = c.put.ensures.dropped;
       others = c.put.ensures.others;
-      shown = c.put.ensures.shown;
+      shown = λ is h. from_ok c.put.result (c.put.ensures.shown h) is;
       writes = c.put.ensures.writes;
       moments = c.put.ensures.moments;
-      stored = c.put.ensures.stored;
+      again = c.put.ensures.again;
+      stored_on = λ is h. from_ok c.put.result (c.put.ensures.stored_on h) is;
+      stored = λ is h. from_ok c.put.result (c.put.ensures.stored h) is;
     })
 
 lawful : (g : given.Over) (c : goal.After-put g) → IsBootRecord (next_record c.args.self.now.record c.args.self.now.drives c.args.nvrams)
@@ -72,19 +78,19 @@ returns-clause-is_of g c =
     c.requires.is_of (lawful g c) refl refl (λ i m. m) (kept g c) (beyond g c) (the_puts g c).fewer
 
 pub returns-clause-logged : goal.returns-clause-logged
-returns-clause-logged g c h held logged =
+returns-clause-logged g c h = when_ok c.put.result (λ is held logged.
     logged_next (g.S.Shelf.shelf c.args.shelf.now) (g.S.Shelf.shelf c.put.new.shelf) (g.met.S.Shelf.is_shelf c.args.shelf.now) c.put.ensures.continues c.args.self.now c.put.new.self c.args.nvrams
-    c.requires.is_of c.requires.nvrams (lawful g c) (kept g c) (beyond g c) (the_puts g c) h held logged
+    c.requires.is_of c.requires.nvrams (lawful g c) (kept g c) (beyond g c) (the_puts g c) h held logged is)
 
 pub returns-clause-shown : goal.returns-clause-shown
-returns-clause-shown g c h =
+returns-clause-shown g c h = when_ok c.put.result (λ is.
     shown_next (g.S.Shelf.shelf c.args.shelf.now) (g.S.Shelf.shelf c.put.new.shelf) (g.met.S.Shelf.is_shelf c.args.shelf.now) c.put.ensures.continues c.args.self.now c.put.new.self c.args.nvrams
-    c.requires.is_of c.requires.nvrams (lawful g c) (kept g c) (beyond g c) (the_puts g c) h
+    c.requires.is_of c.requires.nvrams (lawful g c) (kept g c) (beyond g c) (the_puts g c) is h)
 
 pub returns-clause-older : goal.returns-clause-older
-returns-clause-older g c h held logged =
+returns-clause-older g c h = when_ok c.put.result (λ is held logged.
     older_next (g.S.Shelf.shelf c.args.shelf.now) (g.S.Shelf.shelf c.put.new.shelf) (g.met.S.Shelf.is_shelf c.args.shelf.now) c.put.ensures.continues c.args.self.now c.put.new.self c.args.nvrams
-    c.requires.is_of c.requires.nvrams (lawful g c) (kept g c) (beyond g c) (the_puts g c) h held logged
+    c.requires.is_of c.requires.nvrams (lawful g c) (kept g c) (beyond g c) (the_puts g c) h held logged is)
 
 room : (g : given.Over) (c : goal.After-put g) → c.put.new.self.record.generation < 2 ^ 48 - 8 → c.args.self.now.record.generation + 1 < 2 ^ 48 - 8
 room g c low = subst (λ (b : BootRecord). b.generation < 2 ^ 48 - 8) (kept g c) low
@@ -95,9 +101,33 @@ returns-clause-moments g c h low =
     c.requires.is_of c.requires.nvrams (lawful g c) (kept g c) (beyond g c) (the_puts g c) h (room g c low)
 
 pub returns-clause-again : goal.returns-clause-again
-returns-clause-again g c h low missing held arrays may =
+returns-clause-again g c h low = when_ok c.put.result (λ is missing held arrays may.
     again_next (g.S.Shelf.shelf c.args.shelf.now) (g.S.Shelf.shelf c.put.new.shelf) (g.met.S.Shelf.is_shelf c.args.shelf.now) c.put.ensures.continues c.args.self.now c.put.new.self c.args.nvrams
-    c.requires.is_of c.requires.nvrams (lawful g c) (kept g c) (beyond g c) (the_puts g c) h (room g c low) missing held arrays may
+    c.requires.is_of c.requires.nvrams (lawful g c) (kept g c) (beyond g c) (the_puts g c) h (room g c low) missing held arrays may is)
+
+pub returns-clause-firmly : goal.returns-clause-firmly
+returns-clause-firmly g c h low =
+    let flags : length c.args.self.now.drives ≡ 24 = search rules in
+    when_ok c.put.result (λ is missing held arrays may firm.
+    firmly_next (g.S.Shelf.shelf c.args.shelf.now) (g.S.Shelf.shelf c.put.new.shelf) (g.met.S.Shelf.is_shelf c.args.shelf.now) c.put.ensures.continues c.args.self.now c.put.new.self c.args.nvrams
+    c.requires.is_of c.requires.nvrams (lawful g c) (kept g c) (beyond g c) (the_puts g c) h (room g c low) missing held arrays may is flags firm)
+
+pub returns-clause-outlasts : goal.returns-clause-outlasts
+returns-clause-outlasts g c h low missing held arrays may firm =
+    let flags : length c.args.self.now.drives ≡ 24 = search rules in
+    outlasts_next (g.S.Shelf.shelf c.args.shelf.now) (g.S.Shelf.shelf c.put.new.shelf) (g.met.S.Shelf.is_shelf c.args.shelf.now) c.put.ensures.continues c.args.self.now c.put.new.self c.args.nvrams
+    c.requires.is_of c.requires.nvrams (lawful g c) (kept g c) (beyond g c) (the_puts g c) h (room g c low) missing held arrays may flags firm
+
+pub returns-in_err-advance-clause-outlasts : goal.returns-in_err-advance-clause-outlasts
+returns-in_err-advance-clause-outlasts g c h low missing held arrays may firm =
+    let a = g.S.Shelf.shelf c.args.shelf.now in
+    started a (StandsAgain a missing arrays) (g.met.S.Shelf.is_shelf c.args.shelf.now)
+    (λ stop m. record { later = missing; within = as_it_is missing; logs = λ n. refl; stands = may.stands stop m })
 
 pub returns-clause-flags : goal.returns-clause-flags
 returns-clause-flags g c = c.put.ensures.flags ∙ ap length c.in_ok-advance.ensures.drives
+
+pub returns-clause-kept : goal.returns-clause-kept
+returns-clause-kept g c =
+    let slots : c.put.new.self.record.slots ≡ c.args.self.now.record.slots = ap (λ (b : BootRecord). b.slots) (kept g c) in
+    on_err c.put.result (λ few. inr (kept g c, c.in_ok-advance.ensures.enough, omega (arith, few, slots, c.in_ok-advance.ensures.enough))) c.put.ensures.too_few

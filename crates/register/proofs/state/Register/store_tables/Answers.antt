@@ -1,15 +1,18 @@
-use Rattle.std.proofs.Common.{inl, inr, arith, ◌≡◌, ◌+◌, ◌-◌, ◌^◌, ◌<◌, ◌≤◌, length, sym, ◌∙◌, ap, subst}
+use Rattle.std.proofs.Common.{rules, List, ◌∷◌, [], inl, inr, arith, ◌≡◌, ◌+◌, ◌-◌, ◌^◌, ◌<◌, ◌≤◌, length, sym, ◌∙◌, ap, subst}
 use Rattle.boot_codec.specs.declared.record.BootRecord.{BootRecord}
 use Rattle.boot_codec.specs.Record.{set_count}
 use Rattle.world.proofs.Moments.{continues_trans, then_run, weaker}
 use Rattle.world.proofs.Writes.{writes_then, writes_more}
 use Rattle.boot_region.proofs.Stored.{stay_then}
-use Rattle.register.specs.Registers.{drives_of}
+use Rattle.pur_base.specs.Plain.{Array}
+use Rattle.register.specs.Registers.{drives_of, named_sound}
+use Rattle.register.specs.Standing.{array_of}
 use Rattle.register.specs.Giving.{IsNextWith}
 use Rattle.register.proofs.Again.{both}
 use Rattle.register.proofs.FlagLemmas.{same_flags, other_flags}
 use Rattle.register.proofs.Opened.{is_open}
-use Rattle.register.proofs.Stores.{at_most_slots, fewer_cut, on_more, fewer_left}
+use Rattle.register.proofs.Outlasts.{left, next_round, later_again}
+use Rattle.register.proofs.Stores.{cut_length, members_sound, at_most_slots, fewer_cut, on_more, fewer_left}
 use Rattle.register.proofs.Tabling.{is_next_with, later_gives, later_round}
 use Rattle.register.proofs.state.Register.store_tables.Goals as goal
 
@@ -120,3 +123,32 @@ returns-clause-gives g c h low held next o plan =
       | inr n ↦ inr (record { later = record { generation = n.later.generation; rest = n.later.rest }; generation = n.generation; nvrams_are = n.nvrams_are; drives = n.drives })
     ]))
     (both (c.store.ensures.writes hb).any_moment (c.store.ensures.moments hb low)))
+
+pub returns-clause-outlasts : goal.returns-clause-outlasts
+returns-clause-outlasts g c h low held next o plan =
+    let a = g.S.Shelf.shelf c.args.shelf.now in
+    let b = g.S.Shelf.shelf c.store_first.new.shelf in
+    let was = c.args.self.now in
+    let now = c.store_first.new.self in
+    let nvrams = c.args.self.now.record.members.nvrams in
+    let ab = c.in_ok-store_first.ensures.continues in
+    let room : now.record.generation < 2 ^ 48 - 8 = omega (arith, c.store.ensures.later.generation, low) in
+    let flags : length now.drives ≡ 24 = search rules in
+    let fewer = fewer_cut was now (ap (λ (r : BootRecord). r.slots) c.in_ok-store_first.ensures.next) c.in_ok-store_first.ensures.fewer in
+    let as_many = cut_length now flags c.in_ok-store_first.ensures.is_of in
+    let firmly = c.in_ok-store_first.ensures.firmly h room held next o plan in
+    let sound = members_sound was c.requires.is_of in
+    let arrays : List Array = array_of held ∷ [] in
+    let round = next_round a b ab now (drives_of was) nvrams (named_sound was.record) next arrays o.bearable sound fewer as_many c.in_ok-store_first.ensures.left firmly in
+    let again = later_again a b ab now (drives_of was) nvrams (named_sound was.record) next arrays o.bearable sound fewer as_many c.in_ok-store_first.ensures.left firmly in
+    let after = left a b ab now (drives_of was) nvrams (named_sound was.record) next arrays o.bearable sound fewer as_many c.in_ok-store_first.ensures.left firmly in
+    then_run ab (c.in_ok-store_first.ensures.outlasts h room held next o plan)
+    (weaker again (c.store.ensures.outlasts (ab.honest h) low after next arrays (record {
+      logged = record { is_of = record { lawful = round.0.logged.is_of.lawful; named = round.0.logged.is_of.named }; tables = round.0.logged.tables; bodies = round.0.logged.bodies; holds = round.0.logged.holds; accepted = round.0.logged.accepted };
+      in_force = round.0.in_force;
+      stands = round.0.stands;
+      one_of = round.0.one_of;
+      sound = round.0.sound;
+      left_out = round.0.left_out;
+      unnamed = round.0.unnamed;
+    }) (record { bearable = round.1.bearable; sound = round.1.sound; older = round.1.older })))
