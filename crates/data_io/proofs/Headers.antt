@@ -83,7 +83,7 @@ pub header_on_data : (a b : Shelved) (segments : List SegmentFact) (number n cou
 header_on_data a b segments number n count within writes = writes_more (λ d i on. (number, within, on)) writes
 
 pub others_stay_more : (a b c : Shelved) (segments : List SegmentFact) (number : ℕ) → number < length segments → OthersStayOfData segments a b → OthersStayOf (places_in segments number) b c → OthersStayOfData segments a c
-others_stay_more a b c segments number within so_far more device none = more device (λ shard lt. none number shard within lt) ∙ so_far device none
+others_stay_more a b c segments number within so_far more device none = more device (λ on. none number on.0 within on.1 on.2) ∙ so_far device none
 
 -- a shelf of the same size
 pub headed_later : (a b : Shelved) (segments : List SegmentFact) → Continues a b → MayBeHeaded a segments → MayBeHeaded b segments

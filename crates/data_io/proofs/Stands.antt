@@ -71,7 +71,7 @@ header_kept a b segments was now generation number loses same holds = same_units
 
 -- a drive that isn't of the set stays where the segments are written
 pub others_but : (a b : Shelved) (segments : List SegmentFact) (drives : List Bool) → HoldsDrives segments drives → OthersStayOfData segments a b → OthersStayBut drives a b
-others_but a b segments drives has others device none = others device (λ number shard within lt e. none (place_of (places_in segments number) shard).slot (has number shard within lt) e)
+others_but a b segments drives has others device none = others device (λ number shard within lt e. none ((place_of (places_in segments number) shard).slot, has number shard within lt, e))
 
 pub others_then : (a b c : Shelved) (drives : List Bool) → OthersStayBut drives a b → OthersStayBut drives b c → OthersStayBut drives a c
 others_then a b c drives first second device none = second device none ∙ first device none
@@ -80,5 +80,5 @@ others_then a b c drives first second device none = second device none ∙ first
 pub clean_again : (a e : Shelved) (drives lost : List Bool) → OthersStayBut drives a e → AreSynced e drives lost → StaysClean lost a e
 clean_again a e drives lost others synced slot none was = elim (cases_Bool (is_in drives slot)) [
   | inl is ↦ synced slot is none
-  | inr out ↦ ap (λ (d : Disk). d.dirty) (others (drive slot) (λ other is same. let e : slot ≡ other = ap slot_of same in absurd (cc))) ∙ was
+  | inr out ↦ ap (λ (d : Disk). d.dirty) (others (drive slot) (λ on. let is = on.1 in let e : slot ≡ on.0 = ap slot_of on.2 in absurd (cc))) ∙ was
 ]

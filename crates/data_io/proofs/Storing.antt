@@ -62,7 +62,7 @@ on_data a b segments number d n count within at writes =
 -- a device with none of the units stays
 pub others_more : (a b c : Shelved) (segments : List SegmentFact) (number : ℕ) (d : SegmentFact) → number < length segments → slice_get segments number ≡ Some d → OthersStayOfData segments a b → OthersStayOf d.places b c → OthersStayOfData segments a c
 others_more a b c segments number d within at so_far more device none =
-    subst (λ (ps : List Place). OthersStayOf ps b c) (sym (places_are segments number d at)) more device (λ shard lt. none number shard within lt) ∙ so_far device none
+    subst (λ (ps : List Place). OthersStayOf ps b c) (sym (places_are segments number d at)) more device (λ on. none number on.0 within on.1 on.2) ∙ so_far device none
 
 -- the first segments hold their sectors
 abbrev pub StandUpto : Shelved → List SegmentFact → List Bool → List (List ℕ) → List ℕ → ℕ → Type 0

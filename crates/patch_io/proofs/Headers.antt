@@ -109,7 +109,7 @@ pub header_on_patch : (a b : Shelved) (p : Patch) (part n count : ℕ) → part 
 header_on_patch a b p part n count within writes = writes_more (λ d i on. (part, within, on)) writes
 
 pub others_stay_more : (a b c : Shelved) (p : Patch) (part : ℕ) → part < length p.segments → OthersStayOfPatch p a b → OthersStayOf (places_of_part p part) b c → OthersStayOfPatch p a c
-others_stay_more a b c p part within so_far more device none = more device (λ shard lt. none part shard within lt) ∙ so_far device none
+others_stay_more a b c p part within so_far more device none = more device (λ on. none part on.0 within on.1 on.2) ∙ so_far device none
 
 -- ---- one header
 

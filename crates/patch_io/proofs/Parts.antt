@@ -236,7 +236,7 @@ load_fault a b c p missing part count tag s got fault continues same segments wi
 -- a device with none of the patch's units stays
 pub others_more : (a b c : Shelved) (p : Patch) (part : ℕ) (s : PatchSegment) → part < length p.segments → slice_get p.segments part ≡ Some s → OthersStayOfPatch p a b → OthersStayOf s.places b c → OthersStayOfPatch p a c
 others_more a b c p part s within at so_far more device none =
-    subst (λ (ps : List Place). OthersStayOf ps b c) (sym (places_are p part s at)) more device (λ shard lt. none part shard within lt) ∙ so_far device none
+    subst (λ (ps : List Place). OthersStayOf ps b c) (sym (places_are p part s at)) more device (λ on. none part on.0 within on.1 on.2) ∙ so_far device none
 
 -- ---- places that are known to be units of the shelf
 

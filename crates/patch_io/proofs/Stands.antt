@@ -89,11 +89,11 @@ HoldsNoOther p drives = (slot : ℕ) → is_in drives slot ≡ true → (part sh
 
 -- a drive that isn't of the set stays where the patch is written
 pub patch_but : (a b : Shelved) (p : Patch) (drives : List Bool) → HoldsDrives p drives → OthersStayOfPatch p a b → OthersStayBut drives a b
-patch_but a b p drives has others device none = others device (λ part shard within lt e. none (place_of (places_of_part p part) shard).slot (has part shard within lt) e)
+patch_but a b p drives has others device none = others device (λ part shard within lt e. none ((place_of (places_of_part p part) shard).slot, has part shard within lt, e))
 
 -- and a device that has no unit stays where drives of the set are synced
 pub but_patch : (a b : Shelved) (p : Patch) (drives : List Bool) → HoldsNoOther p drives → OthersStayBut drives a b → OthersStayOfPatch p a b
-but_patch a b p drives only others device none = others device (λ slot is same. let of = only slot is in none of.0 of.1 of.2 of.3 (same ∙ ap drive of.4))
+but_patch a b p drives only others device none = others device (λ on. let of = only on.0 on.1 in none of.0 of.1 of.2 of.3 (on.2 ∙ ap drive of.4))
 
 pub patch_then : (a b c : Shelved) (p : Patch) → OthersStayOfPatch p a b → OthersStayOfPatch p b c → OthersStayOfPatch p a c
 patch_then a b c p first second device none = second device none ∙ first device none
@@ -102,5 +102,5 @@ patch_then a b c p first second device none = second device none ∙ first devic
 pub clean_again : (a e : Shelved) (drives lost : List Bool) → OthersStayBut drives a e → AreSynced e drives lost → StaysClean lost a e
 clean_again a e drives lost others synced slot none was = elim (cases_Bool (is_in drives slot)) [
   | inl is ↦ synced slot is none
-  | inr out ↦ ap (λ (d : Disk). d.dirty) (others (drive slot) (λ other is same. let e : slot ≡ other = ap slot_of same in absurd (cc))) ∙ was
+  | inr out ↦ ap (λ (d : Disk). d.dirty) (others (drive slot) (λ on. let is = on.1 in let e : slot ≡ on.0 = ap slot_of on.2 in absurd (cc))) ∙ was
 ]

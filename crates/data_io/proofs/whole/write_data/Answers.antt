@@ -9,7 +9,7 @@ use Rattle.data_io.proofs.whole.write_data.Goals as goal
 
 pub returns-clause-continues : goal.returns-clause-continues
 returns-clause-continues g c =
-    continues_trans (continues_trans c.in_ok-opened.ensures.continues c.sync_drives.ensures.continues) (continues_trans c.write_data_headers.ensures.continues c.sync_drives-2.ensures.continues)
+    continues_trans (continues_trans c.in_ok-opened.ensures.continues c.sync_drives.ensures.ran.on.continues) (continues_trans c.write_data_headers.ensures.continues c.sync_drives-2.ensures.ran.on.continues)
 
 pub returns-clause-stand : goal.returns-clause-stand
 returns-clause-stand g c h stop view may shows =
@@ -26,7 +26,7 @@ returns-clause-stand g c h stop view may shows =
     let z = c.write_data_headers.ensures in
     let w = c.sync_drives-2.ensures in
     let at_b = x.continues.honest h in
-    let at_m = y.continues.honest at_b in
+    let at_m = y.ran.on.continues.honest at_b in
     let at_d = z.continues.honest at_m in
     let second = synced_kept b m segments c.append_data.new.lost.drives c.sync_drives.new.lost.drives staged order y.lost (y.bytes at_b) (x.stand h) in
     let last = synced_kept d e segments c.write_data_headers.new.lost.drives c.sync_drives-2.new.lost.drives staged order w.lost (w.bytes at_d) (z.kept at_m staged order second) in
@@ -46,13 +46,13 @@ returns-clause-holds g c h =
     let z = c.write_data_headers.ensures in
     let w = c.sync_drives-2.ensures in
     let at_b = x.continues.honest h in
-    let at_m = y.continues.honest at_b in
+    let at_m = y.ran.on.continues.honest at_b in
     let second = synced_kept b m segments c.append_data.new.lost.drives c.sync_drives.new.lost.drives staged order y.lost (y.bytes at_b) (x.stand h) in
     synced_kept d e segments c.write_data_headers.new.lost.drives c.sync_drives-2.new.lost.drives staged order w.lost (w.bytes (z.continues.honest at_m)) (z.kept at_m staged order second)
 
 pub returns-clause-synced : goal.returns-clause-synced
 returns-clause-synced g c h number shard within lt none =
-    let at_d = c.write_data_headers.ensures.continues.honest (c.sync_drives.ensures.continues.honest (c.in_ok-opened.ensures.continues.honest h)) in
+    let at_d = c.write_data_headers.ensures.continues.honest (c.sync_drives.ensures.ran.on.continues.honest (c.in_ok-opened.ensures.continues.honest h)) in
     c.sync_drives-2.ensures.clean at_d (place_of (places_in c.args.segments.now number) shard).slot (c.drives_of-drives.ensures.each number shard within lt) none
 
 pub returns-clause-clean : goal.returns-clause-clean
@@ -69,9 +69,9 @@ returns-clause-clean g c h =
     let y = c.sync_drives.ensures in
     let z = c.write_data_headers.ensures in
     let w = c.sync_drives-2.ensures in
-    let first = others_then a b m drives (others_but a b segments drives has x.others) y.others in
-    let second = others_then m d e drives (others_but m d segments drives has z.others) w.others in
-    clean_again a e drives c.sync_drives-2.new.lost.drives (others_then a m e drives first second) (w.clean (z.continues.honest (y.continues.honest (x.continues.honest h))))
+    let first = others_then a b m drives (others_but a b segments drives has x.others) y.ran.on.others in
+    let second = others_then m d e drives (others_but m d segments drives has z.others) w.ran.on.others in
+    clean_again a e drives c.sync_drives-2.new.lost.drives (others_then a m e drives first second) (w.clean (z.continues.honest (y.ran.on.continues.honest (x.continues.honest h))))
 
 pub returns-clause-headers : goal.returns-clause-headers
 returns-clause-headers g c h number within =
@@ -79,7 +79,7 @@ returns-clause-headers g c h number within =
     let y = c.sync_drives.ensures in
     let z = c.write_data_headers.ensures in
     let w = c.sync_drives-2.ensures in
-    let at_m = y.continues.honest (x.continues.honest h) in
+    let at_m = y.ran.on.continues.honest (x.continues.honest h) in
     header_kept (g.S.Shelf.shelf c.write_data_headers.new.shelf) (g.S.Shelf.shelf c.sync_drives-2.new.shelf) c.args.segments.now c.write_data_headers.new.lost.drives c.sync_drives-2.new.lost.drives c.args.generation number w.lost
     (w.bytes (z.continues.honest at_m)) (z.headers at_m number within)
 
@@ -99,13 +99,13 @@ returns-clause-in_turn g c h =
     let z = c.write_data_headers.ensures in
     let w = c.sync_drives-2.ensures in
     let at_b = x.continues.honest h in
-    let at_m = y.continues.honest at_b in
+    let at_m = y.ran.on.continues.honest at_b in
     let at_d = z.continues.honest at_m in
     let holds = synced_kept b m segments c.append_data.new.lost.drives was staged order y.lost (y.bytes at_b) (x.stand h) in
     weaker (λ stop turn. more_lost a segments was now staged order stop (λ slot is. w.lost.stays slot (z.lost.stays slot is)) turn)
-    (in_turn a m e segments c.drives_of-drives.result was staged order c.requires.placed.places c.requires.placed.apart c.drives_of-drives.ensures.each (y.clean at_b) holds (continues_trans x.continues y.continues)
-    (writes_then x.continues (x.writes h) (writes_more (λ d i none. absurd none) (y.writes at_b)))
-    (writes_then z.continues (z.writes at_m) (writes_more (λ d i none. absurd none) (w.writes at_d))))
+    (in_turn a m e segments c.drives_of-drives.result was staged order c.requires.placed.places c.requires.placed.apart c.drives_of-drives.ensures.each (y.clean at_b) holds (continues_trans x.continues y.ran.on.continues)
+    (writes_then x.continues (x.writes h) (writes_more (λ d i none. absurd none) (y.ran.on.writes at_b)))
+    (writes_then z.continues (z.writes at_m) (writes_more (λ d i none. absurd none) (w.ran.on.writes at_d))))
 
 pub returns-clause-writes : goal.returns-clause-writes
 returns-clause-writes g c h =
@@ -120,12 +120,12 @@ returns-clause-writes g c h =
     let z = c.write_data_headers.ensures in
     let w = c.sync_drives-2.ensures in
     let at_b = x.continues.honest h in
-    let at_m = y.continues.honest at_b in
+    let at_m = y.ran.on.continues.honest at_b in
     let at_d = z.continues.honest at_m in
-    writes_then (continues_trans x.continues y.continues) (writes_then x.continues (on_all a b segments 1 15 (omega arith) (x.writes h)) (none_on_all b m segments (y.writes at_b)))
-    (writes_then z.continues (on_all m d segments 0 1 (omega arith) (z.writes at_m)) (none_on_all d e segments (w.writes at_d)))
+    writes_then (continues_trans x.continues y.ran.on.continues) (writes_then x.continues (on_all a b segments 1 15 (omega arith) (x.writes h)) (none_on_all b m segments (y.ran.on.writes at_b)))
+    (writes_then z.continues (on_all m d segments 0 1 (omega arith) (z.writes at_m)) (none_on_all d e segments (w.ran.on.writes at_d)))
 
 pub returns-clause-rest : goal.returns-clause-rest
 returns-clause-rest g c =
     let after = g.met.S.Shelf.shelf_rest_stays.transitive in
-    after _ _ _ (after _ _ _ c.in_ok-opened.ensures.rest c.sync_drives.ensures.rest) (after _ _ _ c.write_data_headers.ensures.rest c.sync_drives-2.ensures.rest)
+    after _ _ _ (after _ _ _ c.in_ok-opened.ensures.rest c.sync_drives.ensures.ran.rest) (after _ _ _ c.write_data_headers.ensures.rest c.sync_drives-2.ensures.ran.rest)

@@ -35,7 +35,7 @@ returns-clause-writes g c h =
     let kept : length c.fill_stripes.new.stripes ≡ length (take count c.args.stripes.now) = c.fill_stripes.auto.stripes in
     let first : c.args.segment.now.stripes + 1 ≡ 1 = omega arith in
     let many : length c.fill_stripes.new.stripes ≡ div_ceil (length c.args.facts.now) 448 = kept ∙ cut ∙ c.div_ceil-count.ensures in
-    subst (λ (m : ℕ). WritesOnly (OnUnits places 1 m) a b) many (subst (λ (n : ℕ). WritesOnly (OnUnits places n (length c.fill_stripes.new.stripes)) a b) first (c.append_stripes.ensures.writes h))
+    subst (λ (m : ℕ). WritesOnly (OnUnits places 1 m) a b) many (subst (λ (n : ℕ). WritesOnly (OnUnits places n (length c.fill_stripes.new.stripes)) a b) first (c.append_stripes.ensures.ran.on.writes h))
 
 pub returns-clause-stripes : goal.returns-clause-stripes
 returns-clause-stripes g c =

@@ -52,8 +52,8 @@ returns-clause-kept g c h stripe shards holds =
 
 pub returns-clause-writes : goal.returns-clause-writes
 returns-clause-writes g c h =
-    subst (λ (ps : List Place). WritesOnly (OnUnits ps 0 1) (g.S.Shelf.shelf c.args.shelf.now) (g.S.Shelf.shelf c.write_headers.new.shelf)) (c.lose.ensures.same.2 ∙ c.requires.opened.places) (c.write_headers.ensures.writes h)
+    subst (λ (ps : List Place). WritesOnly (OnUnits ps 0 1) (g.S.Shelf.shelf c.args.shelf.now) (g.S.Shelf.shelf c.write_headers.new.shelf)) (c.lose.ensures.same.2 ∙ c.requires.opened.places) (c.write_headers.ensures.ran.on.writes h)
 
 pub returns-clause-others : goal.returns-clause-others
 returns-clause-others g c =
-    subst (λ (ps : List Place). OthersStayOf ps (g.S.Shelf.shelf c.args.shelf.now) (g.S.Shelf.shelf c.write_headers.new.shelf)) (c.lose.ensures.same.2 ∙ c.requires.opened.places) c.write_headers.ensures.others
+    subst (λ (ps : List Place). OthersStayOf ps (g.S.Shelf.shelf c.args.shelf.now) (g.S.Shelf.shelf c.write_headers.new.shelf)) (c.lose.ensures.same.2 ∙ c.requires.opened.places) c.write_headers.ensures.ran.on.others
