@@ -1,15 +1,16 @@
 // Merges that are asked for: what is answered and left, also where the log isn't empty, and what the next session reads where they are stopped.
+use crate::parts::Part::{Sector, Text, Times};
+use crate::parts::{gives, gives_anew};
 use crate::stage::{cut_off, filling, new_world, pull_drive, reads_fills, session};
 use crate::stopping::OPENING;
-use crate::transcripts::{PAIRS, given_by, given_to, repeated};
-use pur_base::SECTOR_BYTES;
+use crate::transcripts::PAIRS;
 use std::alloc::Global;
 use std::test::Fail;
 use world_mem::MemWorld;
 
 #[test]
 fn a_status_tells_of_merges(rt: HostRuntime) -> Result<(), Fail> {
-    let rows: [(&[u8], &[u8]); 3] = [
+    let rows: [(&'static [u8], &'static [u8]); 3] = [
         (
             b"create a 8\nfill a 0 8 65\ncheckpoint\nfill a 0 8 66\ncheckpoint\nstatus\nmerge address 0\nmerge segment 0\nmerge elision 0\nstatus\n",
             b"ok\nok\nok\nok\nok\nstatus 0 1 67 11 2 64 1 6 8 4\nok\nok\nno nothing-there\nstatus 0 1 69 11 2 64 1 4 8 6\n",
@@ -24,28 +25,32 @@ fn a_status_tells_of_merges(rt: HostRuntime) -> Result<(), Fail> {
         ),
     ];
     for (input, output) in rows {
-        let given = given_to(rt.alloc(), input)?;
-        assert_eq!(rt; given.as_slice(), output);
+        assert!(rt;
+            gives_anew(rt.alloc(), &[Text(input)], &[Text(output)])?,
+            "{input:?}"
+        );
     }
     Ok(())
 }
 
 #[test]
 fn merges_make_room(rt: HostRuntime) -> Result<(), Fail> {
-    let alloc = rt.alloc();
-    let mut input = Vec::from_slice(alloc, b"create a 8\n")?;
-    input.extend_from_slice(&repeated(alloc, b"fill a 0 8 65\ncheckpoint\n", PAIRS)?)?;
     // There are units for 22 segments then. The first merge gives those of one back, and the second those of two, as no fact is left.
-    input.extend_from_slice(
-        b"fill a 0 1 66\nmerge address 0\nfill a 0 1 66\nmerge segment 0\nfill a 0 1 66\nread a 0 2\n",
-    )?;
-    let mut wanted = Vec::from_slice(alloc, b"ok\n")?;
-    wanted.extend_from_slice(&repeated(alloc, b"ok\nok\n", PAIRS)?)?;
-    wanted.extend_from_slice(b"no space\nok\nno space\nok\nok\ndata 2\n")?;
-    wanted.extend_from_slice(&[66; SECTOR_BYTES])?;
-    wanted.extend_from_slice(&[65; SECTOR_BYTES])?;
-    let given = given_to(alloc, &input)?;
-    assert!(rt; given.as_slice() == wanted.as_slice());
+    let input = [
+        Text(b"create a 8\n"),
+        Times(PAIRS, b"fill a 0 8 65\ncheckpoint\n"),
+        Text(
+            b"fill a 0 1 66\nmerge address 0\nfill a 0 1 66\nmerge segment 0\nfill a 0 1 66\nread a 0 2\n",
+        ),
+    ];
+    let output = [
+        Text(b"ok\n"),
+        Times(PAIRS, b"ok\nok\n"),
+        Text(b"no space\nok\nno space\nok\nok\ndata 2\n"),
+        Sector(66),
+        Sector(65),
+    ];
+    assert!(rt; gives_anew(rt.alloc(), &input, &output)?);
     Ok(())
 }
 
@@ -53,20 +58,25 @@ fn merges_make_room(rt: HostRuntime) -> Result<(), Fail> {
 fn the_log_goes_on_behind_a_merge(rt: HostRuntime) -> Result<(), Fail> {
     let alloc = rt.alloc();
     let mut world = new_world(alloc)?;
-    let input =
-        b"create a 8\nfill a 0 8 65\ncheckpoint\nfill a 0 4 66\ncheckpoint\nfill a 0 2 67\ncreate b 1\nmerge address 0\nstatus\nfill a 0 1 68\n";
-    let given = given_by(alloc, &mut world, input)?;
-    assert_eq!(rt;
-        given.as_slice(),
-        b"ok\nok\nok\nok\nok\nok\nok\nok\nstatus 0 2 68 11 2 62 2 4 12 5\nok\n".as_slice()
-    );
-    let given = given_by(alloc, &mut world, b"read a 0 5\nlist\n")?;
-    let mut wanted = Vec::from_slice(alloc, b"data 5\n")?;
-    for byte in [68, 67, 66, 66, 65] {
-        wanted.extend_from_slice(&[byte; SECTOR_BYTES])?;
-    }
-    wanted.extend_from_slice(b"names 2\na volume 8\nb volume 1\n")?;
-    assert!(rt; given.as_slice() == wanted.as_slice());
+    let input = [
+        Text(b"create a 8\nfill a 0 8 65\ncheckpoint\nfill a 0 4 66\ncheckpoint\nfill a 0 2 67\n"),
+        Text(b"create b 1\nmerge address 0\nstatus\nfill a 0 1 68\n"),
+    ];
+    let output = [
+        Times(8, b"ok\n"),
+        Text(b"status 0 2 68 11 2 62 2 4 12 5\nok\n"),
+    ];
+    assert!(rt; gives(alloc, &mut world, &input, &output)?);
+    let output = [
+        Text(b"data 5\n"),
+        Sector(68),
+        Sector(67),
+        Sector(66),
+        Sector(66),
+        Sector(65),
+        Text(b"names 2\na volume 8\nb volume 1\n"),
+    ];
+    assert!(rt; gives(alloc, &mut world, &[Text(b"read a 0 5\nlist\n")], &output)?);
     Ok(())
 }
 

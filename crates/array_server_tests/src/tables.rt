@@ -1,5 +1,7 @@
 // An array whose tables were written by hand, as docs/FORMAT.md has them, is opened and read.
-use crate::stage::{DRIVES, new_world, overwrite_drive, pull_drive, session};
+use crate::parts::Part::{Sector, Text};
+use crate::parts::{ends, gives};
+use crate::stage::{DRIVES, new_world, overwrite_drive, pull_drive};
 use pur_base::{Device, DriveId, Place, Places, SECTOR_BYTES, SegmentId, Status};
 use segment_codec::SegmentKind;
 use segment_io::{Open, are_places};
@@ -122,6 +124,14 @@ fn write_record_on(world: &mut MemWorld, drive: u8) -> Result<(), Fail> {
     overwrite_drive(world, DriveId(drive), BODY_AT as usize, &front)
 }
 
+/// Writes the record again on each drive.
+fn write_records(world: &mut MemWorld) -> Result<(), Fail> {
+    for drive in 0..DRIVES {
+        write_record_on(world, drive)?;
+    }
+    Ok(())
+}
+
 /// A world with an array that has tables: volume `a`, of which sector 7 is full of the byte 65.
 fn world_with_tables(alloc: Global) -> Result<MemWorld, Fail> {
     let mut world = new_world(alloc)?;
@@ -129,46 +139,36 @@ fn world_with_tables(alloc: Global) -> Result<MemWorld, Fail> {
     write_segment(&mut world, SegmentKind::Patch, ADDRESSES_UNIT, &ADDRESS, 0)?;
     write_segment(&mut world, SegmentKind::Patch, SEGMENTS_UNIT, &SEGMENT, 0)?;
     write_segment(&mut world, SegmentKind::Data, DATA_UNIT, &OBJECT, 65)?;
-    for drive in 0..DRIVES {
-        write_record_on(&mut world, drive)?;
-    }
+    write_records(&mut world)?;
     Ok(world)
 }
 
-/// Whether a session reads sectors 6 and 7 of `a` and these two names, and ends well.
-fn reads_tables(alloc: Global, world: &mut MemWorld, names: &[u8]) -> Result<bool, Fail> {
-    let (status, given) = session(alloc, world, b"read a 6 2\nlist\n")?;
-    let mut wanted = Vec::from_slice(alloc, b"data 2\n")?;
-    wanted.extend_from_slice(&[0; SECTOR_BYTES])?;
-    wanted.extend_from_slice(&[65; SECTOR_BYTES])?;
-    wanted.extend_from_slice(names)?;
-    Ok(status == Status::Done && given.as_slice() == wanted.as_slice())
+/// Whether a session reads sectors 6 and 7 of `a` and lists it, and ends well.
+fn reads_tables(alloc: Global, world: &mut MemWorld) -> Result<bool, Fail> {
+    let output = [
+        Text(b"data 2\n"),
+        Sector(0),
+        Sector(65),
+        Text(b"names 1\na volume 8\n"),
+    ];
+    gives(alloc, world, &[Text(b"read a 6 2\nlist\n")], &output)
 }
 
 #[test]
 fn tables_are_read(rt: HostRuntime) -> Result<(), Fail> {
     let alloc = rt.alloc();
     let mut world = world_with_tables(alloc)?;
-    assert_eq!(rt;
-        reads_tables(alloc, &mut world, b"names 1\na volume 8\n")?,
-        true
-    );
-    let (status, given) = session(
-        alloc,
-        &mut world,
-        b"create b 1\nfill a 6 1 66\nfill a 7 1 67\nread a 6 2\n",
-    )?;
-    let mut wanted = Vec::from_slice(alloc, b"ok\nok\nok\ndata 2\n")?;
-    wanted.extend_from_slice(&[66; SECTOR_BYTES])?;
-    wanted.extend_from_slice(&[67; SECTOR_BYTES])?;
-    assert_eq!(rt; status, Status::Done);
-    assert_eq!(rt; given.as_slice(), wanted.as_slice());
-    let (status, given) = session(alloc, &mut world, b"read a 7 1\nlist\n")?;
-    let mut wanted = Vec::from_slice(alloc, b"data 1\n")?;
-    wanted.extend_from_slice(&[67; SECTOR_BYTES])?;
-    wanted.extend_from_slice(b"names 2\na volume 8\nb volume 1\n")?;
-    assert_eq!(rt; status, Status::Done);
-    assert_eq!(rt; given.as_slice(), wanted.as_slice());
+    assert!(rt; reads_tables(alloc, &mut world)?);
+    let input = [Text(b"create b 1\nfill a 6 1 66\nfill a 7 1 67\nread a 6 2\n")];
+    let output = [Text(b"ok\nok\nok\ndata 2\n"), Sector(66), Sector(67)];
+    assert!(rt; gives(alloc, &mut world, &input, &output)?);
+    let input = [Text(b"read a 7 1\nlist\n")];
+    let output = [
+        Text(b"data 1\n"),
+        Sector(67),
+        Text(b"names 2\na volume 8\nb volume 1\n"),
+    ];
+    assert!(rt; gives(alloc, &mut world, &input, &output)?);
     Ok(())
 }
 
@@ -178,14 +178,17 @@ fn tables_are_read_with_two_drives_missing(rt: HostRuntime) -> Result<(), Fail> 
     let mut world = world_with_tables(alloc)?;
     pull_drive(&mut world, 0)?;
     pull_drive(&mut world, 4)?;
-    assert_eq!(rt;
-        reads_tables(alloc, &mut world, b"names 1\na volume 8\n")?,
-        true
-    );
+    assert!(rt; reads_tables(alloc, &mut world)?);
     pull_drive(&mut world, 5)?;
-    let (status, given) = session(alloc, &mut world, b"read a 6 2\n")?;
-    assert_eq!(rt; status, Status::Halted);
-    assert_eq!(rt; given.len(), 0);
+    assert!(rt;
+        ends(
+            alloc,
+            &mut world,
+            &[Text(b"read a 6 2\n")],
+            Status::Halted,
+            &[]
+        )?
+    );
     Ok(())
 }
 
@@ -197,11 +200,15 @@ fn tables_that_arent_sound_are_no_array(rt: HostRuntime) -> Result<(), Fail> {
     write_segment(&mut world, SegmentKind::Patch, ADDRESSES_UNIT, &ADDRESS, 0)?;
     // The address names a segment that isn't there.
     write_segment(&mut world, SegmentKind::Patch, SEGMENTS_UNIT, &[0; 64], 0)?;
-    for drive in 0..DRIVES {
-        write_record_on(&mut world, drive)?;
-    }
-    let (status, given) = session(alloc, &mut world, b"read a 6 2\n")?;
-    assert_eq!(rt; status, Status::NoArray);
-    assert_eq!(rt; given.len(), 0);
+    write_records(&mut world)?;
+    assert!(rt;
+        ends(
+            alloc,
+            &mut world,
+            &[Text(b"read a 6 2\n")],
+            Status::NoArray,
+            &[]
+        )?
+    );
     Ok(())
 }

@@ -1,6 +1,6 @@
-// Vectors from outside, and the one law that no contract states.
+// Vectors of GF(256) from outside, and the one law that no contract states.
 
-use crate::*;
+use gf256::{div, double, mul, mul_into, mul2_into, power_of_two, xor_into};
 
 #[test]
 fn doublings_from_80(rt: HostRuntime) {

@@ -1,10 +1,14 @@
-// Vectors from outside, and each kind of loss once.
+// Vectors of the parities from outside, and each kind of loss once.
 
 ghost use Rattle.std.specs.Prelude.{◌<◌, ◌≢◌};
 
-use crate::layout::{DATA_SHARDS, P, Q, SHARD_BYTES, SHARDS};
-use crate::{encode, recover};
 use arrayvec::ArrayVec;
+use parity72::{DATA_SHARDS, SHARD_BYTES, SHARDS, encode, recover};
+
+// The places of the parities, behind the data.
+const P: usize = 7;
+
+const Q: usize = 8;
 
 // The nine shards of data shards that are each full of one byte.
 fn encoded(bytes: [u8; DATA_SHARDS]) -> [[u8; SHARD_BYTES]; SHARDS] {

@@ -1,6 +1,6 @@
-use crate::{Blind, session, write_members};
 use pur_base::NvId;
 use std::test::Fail;
+use world_clients::{Blind, session, write_members};
 use world_mem::MemWorld;
 
 #[test]

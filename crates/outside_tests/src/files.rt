@@ -1,9 +1,10 @@
-use crate::{Files, NoShelf};
+// The world over files: which texts tell the shape of a shelf, and which files serve.
 use pur_base::{Device, DriveId, NVRAM_BYTES, NvId, UNIT_BYTES};
 use std::fs::{File, OpenFile};
 use std::test::Fail;
 use std::{fs, io};
 use world::{Failed, Shelf};
+use world_file::{Files, NoShelf};
 
 const DRIVE_BYTES: u64 = 64 * UNIT_BYTES as u64;
 
@@ -52,8 +53,45 @@ fn try_drive(files: &mut Files, drive: u8) -> ([bool; 3], u64, u64) {
     )
 }
 
+/// Texts, and how many drives and units they tell where they tell a shape.
+const SHAPES: [(&str, Option<(u8, u16)>); 20] = [
+    ("11 64\n", Some((11, 64))),
+    ("24 4096\n", Some((24, 4096))),
+    ("15 100\n", Some((15, 100))),
+    ("10 64\n", None),
+    ("25 64\n", None),
+    ("11 63\n", None),
+    ("11 4097\n", None),
+    ("11 9999\n", None),
+    ("11 64", None),
+    ("11 64\n\n", None),
+    ("011 64\n", None),
+    ("11 064\n", None),
+    ("11  64\n", None),
+    (" 11 64\n", None),
+    ("11 64 \n", None),
+    ("11\n", None),
+    ("11 \n", None),
+    ("1a 64\n", None),
+    ("\n", None),
+    ("", None),
+];
+
+/// What a shelf has whose text that is.
+fn shape_of(rt: &HostRuntime, text: &str) -> Result<Option<(u8, u16)>, Fail> {
+    fs::write(rt, "shelf/shelf.txt", text)?;
+    match Files::open(rt) {
+        Ok(files) => Ok(Some((files.drives(), files.units()))),
+        Err(NoShelf::BadText) => Ok(None),
+        Err(NoShelf::Memory) => Err(Fail::new("memory")),
+    }
+}
+
+// Both in one test, since the folder has one name.
 #[test]
-fn files_that_are_absent_or_of_another_length_fail(rt: HostRuntime) -> Result<(), Fail> {
+fn only_texts_of_the_form_tell_a_shape_and_files_that_are_absent_or_of_another_length_fail(
+    rt: HostRuntime,
+) -> Result<(), Fail> {
     assert_eq!(rt; Files::open(&rt).err(), Some(NoShelf::BadText));
     make_shelf(&rt)?;
     let mut files = Files::open(&rt)?;
@@ -64,6 +102,9 @@ fn files_that_are_absent_or_of_another_length_fail(rt: HostRuntime) -> Result<()
     assert_eq!(rt; try_drive(&mut files, 3), ([false; 3], 3, 2), "absent");
     assert_eq!(rt; files.sync(Device::Nv(NvId(0))), Err(Failed));
     assert_eq!(rt; files.sync(Device::Nv(NvId(1))), Ok(()));
+    for (text, want) in SHAPES {
+        assert_eq!(rt; shape_of(&rt, text)?, want, "at {text}");
+    }
     remove_shelf(&rt)?;
     Ok(())
 }

@@ -93,21 +93,21 @@ fn write_first(world: &mut MemWorld, places: Places, text: &[u8; FACT_BYTES]) ->
     Ok(())
 }
 
-/// A shelf with a sector of medium 7 that reads as zeros, and an object that is elided.
-fn world_of_two(alloc: Global) -> Result<MemWorld, Fail> {
+/// A shelf with a sector of medium 7 that reads as zeros, and an object that is elided, by facts of these numbers.
+fn world_of_two(alloc: Global, address: u64, elision: u64) -> Result<MemWorld, Fail> {
     let mut world = MemWorld::new(alloc, 11, 64, Vec::new(alloc))?;
     let address = write_fact(&AnyFact::Address(AddressFact {
         medium: MediumId(7),
         sector: 0,
         target: Target::Zero,
-        seq: Seq(1),
+        seq: Seq(address),
     }));
     write_first(&mut world, PLACES, &address)?;
     let elision = write_fact(&AnyFact::Elision(ElisionFact {
         first: 1,
         table: Table::Object,
         last: 1,
-        seq: Seq(2),
+        seq: Seq(elision),
     }));
     write_first(&mut world, MORE_PLACES, &elision)?;
     Ok(world)
@@ -151,7 +151,7 @@ fn load(
 fn two_tables_are_read(rt: HostRuntime) -> Result<(), Fail> {
     let alloc = rt.alloc();
     let boot = record(alloc, 3, 3)?;
-    let mut world = world_of_two(alloc)?;
+    let mut world = world_of_two(alloc, 1, 2)?;
     assert_eq!(rt; load(alloc, &mut world, &boot, &[])?, Ok([0, 0, 1, 0, 1]));
     world.pull(Device::Drive(DriveId(0)));
     world.pull(Device::Drive(DriveId(7)));
@@ -174,7 +174,7 @@ fn two_tables_are_read(rt: HostRuntime) -> Result<(), Fail> {
 #[test]
 fn faults_name_their_table(rt: HostRuntime) -> Result<(), Fail> {
     let alloc = rt.alloc();
-    let mut world = world_of_two(alloc)?;
+    let mut world = world_of_two(alloc, 1, 2)?;
     // An address stands where the record names an object.
     let other = record(alloc, 1, 3)?;
     assert_eq!(rt;
@@ -187,5 +187,29 @@ fn faults_name_their_table(rt: HostRuntime) -> Result<(), Fail> {
         load(alloc, &mut world, &behind, &[])?,
         Err(TablesFault::Unsound(Table::Elision))
     );
+    Ok(())
+}
+
+#[test]
+fn the_first_table_with_a_number_that_fails_is_named(rt: HostRuntime) -> Result<(), Fail> {
+    let alloc = rt.alloc();
+    let boot = record(alloc, 3, 10)?;
+    for (address, elision, fault) in [
+        (8, 9, None),
+        (9, 9, Some(Table::Elision)),
+        (10, 9, Some(Table::Address)),
+        (9, 10, Some(Table::Elision)),
+    ] {
+        let mut world = world_of_two(alloc, address, elision)?;
+        let wanted = match fault {
+            Some(table) => Err(TablesFault::Unsound(table)),
+            None => Ok([0, 0, 1, 0, 1]),
+        };
+        assert_eq!(rt;
+            load(alloc, &mut world, &boot, &[])?,
+            wanted,
+            "{address} and {elision}"
+        );
+    }
     Ok(())
 }

@@ -1,6 +1,6 @@
 ghost use Rattle.std.specs.Prelude.{◌≡◌, ⊤, slice_get};
 
-use crate::{Fnv, Hint, Index};
+use dedup_index::{Fnv, Hint, Index, hash};
 use pur_base::{Location, Lost, ReadBack, Sector, SegmentId};
 use std::test::*;
 
@@ -93,4 +93,16 @@ fn sectors_that_are_lost_or_forgotten_are_not_found(rt: HostRuntime) -> Result<(
     assert_eq!(rt; kept, Some(place(1, 1)));
     assert_eq!(rt; index.len(), 1);
     Ok(())
+}
+
+#[test]
+fn published_texts_are_hashed(rt: HostRuntime) {
+    let hashes: [(&[u8], u64); 3] = [
+        (b"", 0xcbf29ce484222325),
+        (b"a", 0xaf63dc4c8601ec8c),
+        (b"foobar", 0x85944171f73967e8),
+    ];
+    for (text, want) in hashes {
+        assert_eq!(rt; hash(text), want, "{text:?}");
+    }
 }

@@ -1,8 +1,8 @@
 ghost use Rattle.std.specs.Prelude.{◌≡◌, []};
 ghost use Rattle.boot_codec.specs.Record.{IsBootRecord};
 
-use super::*;
 use boot_codec::{BootRecord, DRIVE_FLAGS, Members, NVRAM_FLAGS, NextNumbers, Patches};
+use free_space::groups_left;
 use pur_base::{Place, SegmentFact, SegmentId, Seq};
 use std::alloc::Global;
 use std::test::*;

@@ -1,7 +1,7 @@
 use Rattle.std.proofs.Common.{refl, arith}
 use Rattle.std.proofs.lemmas.Bool.Decides.{nat_tests}
-use Rattle.data_io_tests.proofs.Few.{one_placed}
-use Rattle.data_io_tests.proofs.tests.write_one.Goals as goal
+use Rattle.segment_tests.proofs.Few.{one_placed}
+use Rattle.segment_tests.proofs.data.write_one.Goals as goal
 
 pub write_segments-requires : goal.write_segments-requires
 write_segments-requires g c =

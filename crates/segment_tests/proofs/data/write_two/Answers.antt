@@ -1,6 +1,6 @@
 use Rattle.std.proofs.Common.{refl, arith}
-use Rattle.data_io_tests.proofs.Few.{two_placed}
-use Rattle.data_io_tests.proofs.tests.write_two.Goals as goal
+use Rattle.segment_tests.proofs.Few.{two_placed}
+use Rattle.segment_tests.proofs.data.write_two.Goals as goal
 
 pub write_segments-requires : goal.write_segments-requires
 write_segments-requires g c =

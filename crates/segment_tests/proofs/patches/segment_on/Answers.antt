@@ -1,6 +1,6 @@
 use Rattle.std.proofs.Common.{refl, arith}
 use Rattle.patch_io.proofs.Parts.{lawful_places}
-use Rattle.patch_io_tests.proofs.tests.segment_on.Goals as goal
+use Rattle.segment_tests.proofs.patches.segment_on.Goals as goal
 
 pub returns : goal.returns
 returns g c =
