@@ -67,3 +67,15 @@ fn files_that_are_absent_or_of_another_length_fail(rt: HostRuntime) -> Result<()
     remove_shelf(&rt)?;
     Ok(())
 }
+
+#[test]
+fn a_shelf_is_opened_once_at_a_time(rt: HostRuntime) -> Result<(), Fail> {
+    make_shelf(&rt)?;
+    let files = Files::open(&rt)?;
+    assert_eq!(rt; Files::open(&rt).err(), Some(NoShelf::InUse));
+    assert_eq!(rt; files.drives(), 11);
+    drop(files);
+    assert_eq!(rt; Files::open(&rt).err(), None);
+    remove_shelf(&rt)?;
+    Ok(())
+}
