@@ -4,8 +4,6 @@
 
 mod command;
 mod ending;
-#[cfg(test)]
-mod tests;
 
 use crate::command::array_main;
 use crate::ending::{NO_SHELF, code_of, text_of};

@@ -1,7 +1,7 @@
 // One history.
 use crate::devices::{
-    FAIL_AHEAD, Failures, Written, any_drive, calls_before_input, fail, let_fail, pull, put_back,
-    stop,
+    DRIVES, FAIL_AHEAD, Failures, UNITS, Written, any_drive, calls_before_input, fail, let_fail,
+    pull, put_back, stop,
 };
 use crate::model::{Heard, Model};
 use crate::random::Random;
@@ -9,8 +9,9 @@ use crate::request::{Ask, Known, any_ask};
 use array_server::{init, serve};
 use pur_base::{Device, NVRAM_DEVICES, NoMemory, NvId, Status};
 use std::alloc::{AllocFailed, Global};
+use std::mem;
 use world::Source;
-use world_mem::{Call, Fused, MemWorld};
+use world_mem::{Fused, MemWorld};
 
 /// Where more arrays may stand, they are looked at.
 const ARRAYS: usize = 4;
@@ -81,47 +82,18 @@ impl Weak {
     }
 }
 
-/// What a session left, and how much had been given before it.
-#[derive(Drop)]
+/// How a session ended, and how much had been given before it.
+#[derive(Clone, Copy)]
 pub(crate) struct Left {
-    pub(crate) world: MemWorld,
     pub(crate) status: Status,
     pub(crate) stopped: bool,
     given_before: usize,
 }
 
 impl Left {
-    /// What it gave.
-    pub(crate) fn given(&self) -> &[u8] {
-        self.world.output().get(self.given_before..).unwrap_or(&[])
-    }
-}
-
-/// A session that is stopped after so many calls on devices.
-fn serve_for(alloc: Global, world: MemWorld, calls: u64) -> Left {
-    let given_before = world.output().len();
-    let mut fused = Fused::new(world, calls);
-    let status = serve(alloc, &mut fused);
-    let stopped = fused.blown();
-    Left {
-        world: fused.into_inner(),
-        status,
-        stopped,
-        given_before,
-    }
-}
-
-/// The making of an array that is stopped after so many calls on devices.
-pub(crate) fn init_for(alloc: Global, world: MemWorld, calls: u64) -> Left {
-    let given_before = world.output().len();
-    let mut fused = Fused::new(world, calls);
-    let status = init(alloc, &mut fused);
-    let stopped = fused.blown();
-    Left {
-        world: fused.into_inner(),
-        status,
-        stopped,
-        given_before,
+    /// What it gave, of what the world was given.
+    pub(crate) fn given(self, world: &MemWorld) -> &[u8] {
+        world.output().get(self.given_before..).unwrap_or(&[])
     }
 }
 
@@ -191,12 +163,97 @@ fn push_later(
     Ok(())
 }
 
-/// A history: what may happen in it, and the arrays that may stand.
+/// What is seen of a session beside what it gave: whether it was stopped, whether input was taken, and whether three drives failed meanwhile.
+#[derive(Clone, Copy)]
+struct Seen {
+    stopped: bool,
+    taken: bool,
+    three_fail: bool,
+}
+
+/// Puts an array behind the others where it answers what was given, as it goes on: by what was answered, and after a stop perhaps by one request more,
+/// or its checkpoint or merge. How many were answered.
+fn keep(
+    alloc: Global,
+    array: &Model,
+    asks: &[Ask],
+    given: &[u8],
+    seen: Seen,
+    after: &mut Vec<Model>,
+) -> Result<Option<usize>, NoMemory> {
+    let mut array = array.copy(alloc)?;
+    let Some(count) = follow(alloc, &mut array, asks, given, seen.three_fail)? else {
+        return Ok(None);
+    };
+    if !seen.stopped && count < asks.len() {
+        return Ok(None);
+    }
+    if let Some(next) = asks.get(count) {
+        if seen.taken {
+            push_later(alloc, &array, next, after)?;
+        }
+    }
+    after.push(array)?;
+    Ok(Some(count))
+}
+
+/// Keeps those of the arrays that answer what was given.
+fn keep_all(
+    alloc: Global,
+    arrays: &[Model],
+    asks: &[Ask],
+    given: &[u8],
+    seen: Seen,
+    after: &mut Vec<Model>,
+) -> Result<usize, NoMemory> {
+    let mut answered = 0;
+    for array in arrays {
+        if let Some(count) = keep(alloc, array, asks, given, seen, after)? {
+            answered = count;
+        }
+    }
+    Ok(answered)
+}
+
+/// Lets the arrays be those that answer what was given, as they go on. How many requests were answered.
+fn judge(
+    alloc: Global,
+    arrays: &mut Vec<Model>,
+    asks: &[Ask],
+    given: &[u8],
+    seen: Seen,
+) -> Result<usize, Trouble> {
+    let mut after = Vec::new(alloc);
+    let answered = keep_all(alloc, arrays.as_slice(), asks, given, seen, &mut after)?;
+    if after.is_empty() {
+        return Err(Trouble::Lost);
+    }
+    *arrays = after;
+    Ok(answered)
+}
+
+/// The texts of requests.
+fn push_all(alloc: Global, asks: &[Ask], text: &mut Vec<u8>) -> Result<(), NoMemory> {
+    for ask in asks {
+        ask.push_to(alloc, text)?;
+    }
+    Ok(())
+}
+
+/// A world of blank devices.
+fn blank_world(alloc: Global) -> Result<MemWorld, NoMemory> {
+    MemWorld::new(alloc, DRIVES, UNITS, Vec::new(alloc))
+}
+
+/// A history: what may happen in it, the devices, and the arrays that may stand on them.
 #[derive(Drop)]
 pub struct History {
     pub(crate) alloc: Global,
     pub(crate) random: Random,
     pub(crate) weak: Weak,
+    pub(crate) world: MemWorld,
+    /// Stands in for the world while a session has that.
+    spare: Option<MemWorld>,
     pub(crate) written: Written,
     pub(crate) failures: Failures,
     pub(crate) arrays: Vec<Model>,
@@ -214,21 +271,43 @@ const MANY: u64 = 150;
 const FIRST_OPENING: u64 = 83;
 
 impl History {
-    /// The history of that number.
-    pub fn new(alloc: Global, seed: u64, number: u64) -> History {
-        let mut random = Random::new(seed, number);
+    /// The first history of a seed, on blank devices.
+    pub fn new(alloc: Global, seed: u64) -> Result<History, NoMemory> {
+        let mut random = Random::new(seed, 0);
         let weak = Weak::new(&mut random);
-        History {
+        let world = blank_world(alloc)?;
+        let spare = blank_world(alloc)?;
+        Ok(History {
             alloc,
             random,
             weak,
+            world,
+            spare: Some(spare),
             written: Written::new(),
             failures: Failures::new(),
             arrays: Vec::new(alloc),
             session: 0,
             opening: FIRST_OPENING,
             three_fail: false,
-        }
+        })
+    }
+
+    /// Becomes the history of that number, on the same devices, which are blank.
+    pub fn restart(&mut self, seed: u64, number: u64) {
+        self.random = Random::new(seed, number);
+        self.weak = Weak::new(&mut self.random);
+        self.written = Written::new();
+        self.failures = Failures::new();
+        self.arrays.clear();
+        self.session = 0;
+        self.opening = FIRST_OPENING;
+        self.three_fail = false;
+    }
+
+    /// Takes new devices.
+    pub fn renew(&mut self) -> Result<(), NoMemory> {
+        self.world = blank_world(self.alloc)?;
+        Ok(())
     }
 
     /// The sessions that it has begun.
@@ -237,26 +316,33 @@ impl History {
     }
 
     /// Lets it happen on devices that are blank, and blanks them.
-    pub fn run(&mut self, world: MemWorld, told: &mut Told) -> Result<MemWorld, Trouble> {
-        let mut world = self.make(world, told)?;
+    pub fn run(&mut self, told: &mut Told) -> Result<(), Trouble> {
+        self.make(told)?;
         self.arrays.push(Model::new(self.alloc))?;
-        world = self.begin(world, told)?;
+        self.begin(told)?;
         let most = match self.random.below(16) {
             0 | 1 => MANY,
             2 | 3 => 40,
             _ => 8,
         };
         for _ in 0..self.random.below(5).saturating_add(1) {
-            world = self.ask_some(world, most, told)?;
-            world = self.go_on(world, told)?;
+            self.ask_some(most, told)?;
+            self.go_on(told)?;
             if self.arrays.len() > ARRAYS || self.random.once_in(2) {
-                world = self.look(world, told)?;
+                self.look(told)?;
             }
         }
-        world = self.look(world, told)?;
+        self.look(told)?;
         if self.random.once_in(4) {
-            world = self.lose_three(world, told)?;
+            self.lose_three(told)?;
         }
+        self.tell(told);
+        self.written.blank_all(&mut self.world);
+        Ok(())
+    }
+
+    /// Tells how far it came.
+    fn tell(&self, told: &mut Told) {
         if self.written.has_data() {
             told.flushed = told.flushed.saturating_add(1);
         }
@@ -266,45 +352,43 @@ impl History {
         if self.arrays.iter().any(|array| array.lacked_space()) {
             told.full = told.full.saturating_add(1);
         }
-        self.written.blank_all(&mut world);
-        Ok(world)
     }
 
     /// What may happen to an array that was just made.
-    fn begin(&mut self, world: MemWorld, told: &mut Told) -> Result<MemWorld, Trouble> {
+    fn begin(&mut self, told: &mut Told) -> Result<(), Trouble> {
         match self.random.below(4) {
-            0 => self.make_over(world, told),
-            1 => self.lose_other(world, told),
-            _ => Ok(world),
+            0 => self.make_over(told),
+            1 => self.lose_other(told),
+            _ => Ok(()),
         }
     }
 
     /// What may happen behind a session with requests.
-    fn go_on(&mut self, world: MemWorld, told: &mut Told) -> Result<MemWorld, Trouble> {
+    fn go_on(&mut self, told: &mut Told) -> Result<(), Trouble> {
         match self.random.below(8) {
-            0..=2 => self.open_only(world, told),
-            3 => self.open_often(world, told),
-            4 => self.leave_out(world, told),
+            0..=2 => self.open_only(told),
+            3 => self.open_often(told),
+            4 => self.leave_out(told),
             5 => if self.random.once_in(4) {
-                self.use_up(world, told)
+                self.use_up(told)
             } else {
-                Ok(world)
+                Ok(())
             },
-            _ => Ok(world),
+            _ => Ok(()),
         }
     }
 
     /// Lets something happen to some of the devices that may fail.
-    fn disturb(&mut self, world: &mut MemWorld, told: &mut Told) -> Result<(), NoMemory> {
+    fn disturb(&mut self, told: &mut Told) -> Result<(), NoMemory> {
         for device in self.weak.all() {
             match self.random.below(12) {
-                0 => pull(world, device),
+                0 => pull(&mut self.world, device),
                 1 | 2 => {
-                    put_back(world, device);
+                    put_back(&mut self.world, device);
                     continue;
                 }
                 3 => {
-                    self.written.blank(world, device);
+                    self.written.blank(&mut self.world, device);
                     self.failures.replace(device);
                 }
                 4..=6 => {
@@ -313,7 +397,8 @@ impl History {
                     } else {
                         FAIL_AHEAD
                     };
-                    fail(world, device, self.random.below(ahead))?;
+                    let nth = self.random.below(ahead);
+                    fail(&mut self.world, device, nth)?;
                 }
                 _ => continue,
             }
@@ -322,127 +407,175 @@ impl History {
         Ok(())
     }
 
+    /// A session that is stopped after so many calls on devices.
+    fn serve_for(&mut self, calls: u64) -> Result<Left, NoMemory> {
+        let mut fused = self.take_world(calls)?;
+        let given_before = fused.inner().output().len();
+        let status = serve(self.alloc, &mut fused);
+        Ok(self.put_world(fused, status, given_before))
+    }
+
+    /// The making of an array that is stopped after so many calls on devices.
+    pub(crate) fn init_for(&mut self, calls: u64) -> Result<Left, NoMemory> {
+        let mut fused = self.take_world(calls)?;
+        let given_before = fused.inner().output().len();
+        let status = init(self.alloc, &mut fused);
+        Ok(self.put_world(fused, status, given_before))
+    }
+
+    /// Takes the world, behind a fuse that passes so many calls: the spare one stands in for it.
+    fn take_world(&mut self, calls: u64) -> Result<Fused<MemWorld>, NoMemory> {
+        match self.spare.take() {
+            Some(spare) => Ok(Fused::new(mem::replace(&mut self.world, spare), calls)),
+            None => Err(NoMemory),
+        }
+    }
+
+    /// Puts the world back.
+    fn put_world(&mut self, fused: Fused<MemWorld>, status: Status, given_before: usize) -> Left {
+        let stopped = fused.blown();
+        self.spare = Some(mem::replace(&mut self.world, fused.into_inner()));
+        Left {
+            status,
+            stopped,
+            given_before,
+        }
+    }
+
     /// A stop, where there was one.
-    pub(crate) fn stop(
-        &mut self,
-        world: MemWorld,
-        stopped: bool,
-        told: &mut Told,
-    ) -> Result<MemWorld, NoMemory> {
-        let mut world = world;
-        self.written.note(world.calls());
-        take_rest(&mut world);
+    pub(crate) fn stop(&mut self, stopped: bool, told: &mut Told) -> Result<(), NoMemory> {
+        self.written.note(self.world.calls());
+        take_rest(&mut self.world);
         if stopped {
             told.stops = told.stops.saturating_add(1);
             if self.random.once_in(24) {
-                return world.stopped(self.alloc, &mut self.random);
+                self.world = self.world.stopped(self.alloc, &mut self.random)?;
+                return Ok(());
             }
-            stop(self.alloc, &mut world, &mut self.random)?;
+            stop(self.alloc, &mut self.world, &mut self.random)?;
         }
-        world.forget();
-        Ok(world)
+        self.world.forget();
+        Ok(())
     }
 
     /// Makes the array. A making that is stopped is begun again.
-    fn make(&mut self, world: MemWorld, told: &mut Told) -> Result<MemWorld, Trouble> {
-        let mut world = world;
+    fn make(&mut self, told: &mut Told) -> Result<(), Trouble> {
         let mut calls = u64::MAX;
         if self.random.once_in(4) {
             calls = self.random.below(80);
         }
         if self.random.once_in(8) {
-            fail(&mut world, self.weak.drives[0], self.random.below(12))?;
+            let nth = self.random.below(12);
+            fail(&mut self.world, self.weak.drives[0], nth)?;
             told.failures = told.failures.saturating_add(1);
         }
         let Left {
-            world,
             status,
             stopped,
             ..
-        } = init_for(self.alloc, world, calls);
-        self.written.note(world.calls());
+        } = self.init_for(calls)?;
+        self.written.note(self.world.calls());
         if status == Status::Done && !stopped {
-            return Ok(world);
+            return Ok(());
         }
         if status != Status::Halted && status != Status::Sink {
             return Err(Trouble::Lost);
         }
-        let mut world = self.stop(world, stopped, told)?;
-        let_fail(&mut world, self.weak.drives[0]);
-        self.make_again(world)
+        self.stop(stopped, told)?;
+        let_fail(&mut self.world, self.weak.drives[0]);
+        self.make_again()
     }
 
     /// Makes the array on devices that give none, or the one of nothing.
-    fn make_again(&mut self, world: MemWorld) -> Result<MemWorld, Trouble> {
-        let Left { world, status, .. } = init_for(self.alloc, world, u64::MAX);
-        self.written.note(world.calls());
-        match status {
-            Status::Done => Ok(world),
-            Status::NotBlank => self.make_anew(world),
+    fn make_again(&mut self) -> Result<(), Trouble> {
+        let left = self.init_for(u64::MAX)?;
+        self.written.note(self.world.calls());
+        match left.status {
+            Status::Done => Ok(()),
+            Status::NotBlank => self.make_anew(),
             _ => Err(Trouble::Lost),
         }
     }
 
     /// Makes the array in place of one of nothing.
-    fn make_anew(&mut self, world: MemWorld) -> Result<MemWorld, Trouble> {
-        let mut world = self.look_at_nothing(world)?;
-        self.written.blank_all(&mut world);
-        let Left { world, status, .. } = init_for(self.alloc, world, u64::MAX);
-        self.written.note(world.calls());
-        if status == Status::Done {
-            Ok(world)
+    fn make_anew(&mut self) -> Result<(), Trouble> {
+        self.look_at_nothing()?;
+        self.written.blank_all(&mut self.world);
+        self.make_at_once()
+    }
+
+    /// Makes the array on blank devices.
+    pub(crate) fn make_at_once(&mut self) -> Result<(), Trouble> {
+        let left = self.init_for(u64::MAX)?;
+        self.written.note(self.world.calls());
+        if left.status == Status::Done {
+            Ok(())
         } else {
             Err(Trouble::Lost)
         }
     }
 
     /// A session on devices that stand for the array of nothing, or that too few of them do.
-    fn look_at_nothing(&mut self, world: MemWorld) -> Result<MemWorld, Trouble> {
-        let mut world = world;
-        world.feed(b"list\n")?;
-        let left = serve_for(self.alloc, world, u64::MAX);
-        let status = left.status;
-        let given = left.given();
-        let is_right = match status {
+    fn look_at_nothing(&mut self) -> Result<(), Trouble> {
+        self.world.feed(b"list\n")?;
+        let left = self.serve_for(u64::MAX)?;
+        let given = left.given(&self.world);
+        let is_right = match left.status {
             Status::Done => given == b"names 0\n".as_slice(),
             Status::Halted => given.is_empty(),
             _ => false,
         };
-        let Left { mut world, .. } = left;
-        self.written.note(world.calls());
-        take_rest(&mut world);
-        if is_right {
-            Ok(world)
-        } else {
-            Err(Trouble::Lost)
+        self.written.note(self.world.calls());
+        take_rest(&mut self.world);
+        if is_right { Ok(()) } else { Err(Trouble::Lost) }
+    }
+
+    /// The volumes of the first array that may stand.
+    fn known(&self) -> Result<Vec<Known>, NoMemory> {
+        match self.arrays.first() {
+            Some(array) => array.known(self.alloc),
+            None => Ok(Vec::new(self.alloc)),
         }
     }
 
-    /// Some requests.
-    pub(crate) fn some_asks(&mut self, most: u64) -> Result<Vec<Ask>, NoMemory> {
-        let mut known = match self.arrays.first() {
-            Some(array) => array.known(self.alloc)?,
-            None => Vec::new(self.alloc),
-        };
-        let mut asks = Vec::new(self.alloc);
+    /// Some requests of those volumes, and of those that they create.
+    fn push_some(
+        &mut self,
+        most: u64,
+        known: &mut Vec<Known>,
+        asks: &mut Vec<Ask>,
+    ) -> Result<(), NoMemory> {
         for _ in 0..self.random.below(most).saturating_add(1) {
-            let next = any_ask(&mut self.random, &known);
+            let next = any_ask(&mut self.random, known.as_slice());
             if let Ask::Create { volume, sectors } = next {
                 known.push(Known { volume, sectors })?;
             }
             asks.push(next)?;
         }
+        Ok(())
+    }
+
+    /// Some requests.
+    pub(crate) fn some_asks(&mut self, most: u64) -> Result<Vec<Ask>, NoMemory> {
+        let mut known = self.known()?;
+        let mut asks = Vec::new(self.alloc);
+        self.push_some(most, &mut known, &mut asks)?;
         Ok(asks)
+    }
+
+    fn push_questions(&self, asks: &mut Vec<Ask>) -> Result<(), NoMemory> {
+        asks.push(Ask::Status)?;
+        asks.push(Ask::List)?;
+        for array in &self.arrays {
+            array.push_questions(asks)?;
+        }
+        Ok(())
     }
 
     /// Requests that show the arrays, and how much of them stands in the log.
     pub(crate) fn questions(&self) -> Result<Vec<Ask>, NoMemory> {
         let mut asks = Vec::new(self.alloc);
-        asks.push(Ask::Status)?;
-        asks.push(Ask::List)?;
-        for array in &self.arrays {
-            array.push_questions(&mut asks)?;
-        }
+        self.push_questions(&mut asks)?;
         Ok(asks)
     }
 
@@ -470,77 +603,61 @@ impl History {
     }
 
     /// A session with some requests.
-    fn ask_some(
-        &mut self,
-        world: MemWorld,
-        most: u64,
-        told: &mut Told,
-    ) -> Result<MemWorld, Trouble> {
+    fn ask_some(&mut self, most: u64, told: &mut Told) -> Result<(), Trouble> {
         let asks = self.some_asks(most)?;
         let calls = if most == MANY {
             self.calls_of_long_session()
         } else {
             self.calls_of_session()
         };
-        self.serve(world, &asks, calls, told)
+        self.serve(&asks, calls, told)
     }
 
     /// A session without requests, which is stopped.
-    fn open_only(&mut self, world: MemWorld, told: &mut Told) -> Result<MemWorld, Trouble> {
+    fn open_only(&mut self, told: &mut Told) -> Result<(), Trouble> {
         let calls = self.calls_of_opening();
-        self.serve(world, &[], calls, told)
+        self.serve(&[], calls, told)
     }
 
     /// A session that shows the array, and isn't stopped.
-    fn look(&mut self, world: MemWorld, told: &mut Told) -> Result<MemWorld, Trouble> {
+    fn look(&mut self, told: &mut Told) -> Result<(), Trouble> {
         let asks = self.questions()?;
         let mut unseen = Told::new();
-        let world = self.serve(world, &asks, u64::MAX, &mut unseen)?;
+        self.serve(&asks, u64::MAX, &mut unseen)?;
         told.failures = told.failures.saturating_add(unseen.failures);
-        Ok(world)
+        Ok(())
     }
 
     /// A session, before which something may happen to devices.
-    fn serve(
-        &mut self,
-        world: MemWorld,
-        asks: &[Ask],
-        calls: u64,
-        told: &mut Told,
-    ) -> Result<MemWorld, Trouble> {
-        let mut world = world;
-        self.disturb(&mut world, told)?;
-        self.serve_quietly(world, asks, calls, told)
+    fn serve(&mut self, asks: &[Ask], calls: u64, told: &mut Told) -> Result<(), Trouble> {
+        self.disturb(told)?;
+        self.serve_quietly(asks, calls, told)
     }
 
     /// A session. The arrays are those that may stand after it.
     pub(crate) fn serve_quietly(
         &mut self,
-        world: MemWorld,
         asks: &[Ask],
         calls: u64,
         told: &mut Told,
-    ) -> Result<MemWorld, Trouble> {
-        let left = self.ask(world, asks, calls)?;
+    ) -> Result<(), Trouble> {
+        let left = self.ask(asks, calls)?;
         self.heed(left, asks, told)
     }
 
-    /// What is left of a session.
-    pub(crate) fn ask(
-        &mut self,
-        world: MemWorld,
-        asks: &[Ask],
-        calls: u64,
-    ) -> Result<Left, NoMemory> {
-        self.session = self.session.saturating_add(1);
-        let mut world = world;
+    fn feed(&mut self, asks: &[Ask]) -> Result<(), NoMemory> {
         let mut input = Vec::new(self.alloc);
-        for ask in asks {
-            ask.push_to(self.alloc, &mut input)?;
-        }
-        world.feed(&input)?;
-        world.forget();
-        Ok(serve_for(self.alloc, world, calls))
+        push_all(self.alloc, asks, &mut input)?;
+        self.world.feed(&input)?;
+        Ok(())
+    }
+
+    /// Lets a session happen.
+    pub(crate) fn ask(&mut self, asks: &[Ask], calls: u64) -> Result<Left, NoMemory> {
+        self.session = self.session.saturating_add(1);
+        self.feed(asks)?;
+        self.world.forget();
+        self.serve_for(calls)
     }
 
     /// Heeds what a session gave.
@@ -549,60 +666,32 @@ impl History {
         left: Left,
         asks: &[Ask],
         told: &mut Told,
-    ) -> Result<MemWorld, Trouble> {
+    ) -> Result<(), Trouble> {
         if !left.stopped && left.status != Status::Done {
             return Err(Trouble::Lost);
         }
-        let opening = calls_before_input(&left.world);
+        let opening = calls_before_input(&self.world);
         self.opening = opening.unwrap_or(self.opening);
-        self.note_failures(left.world.calls(), false);
-        let count = self.judge(asks, left.given(), left.stopped, opening.is_some())?;
+        self.note_failures(false);
+        let seen = Seen {
+            stopped: left.stopped,
+            taken: opening.is_some(),
+            three_fail: self.three_fail,
+        };
+        let given = left.given(&self.world);
+        let count = judge(self.alloc, &mut self.arrays, asks, given, seen)?;
         // Behind a session that wasn't stopped the record doesn't name them any more.
-        self.note_failures(left.world.calls(), !left.stopped);
+        self.note_failures(!left.stopped);
         told.acknowledged = told.acknowledged.saturating_add(count as u64);
-        let Left { world, stopped, .. } = left;
-        Ok(self.stop(world, stopped, told)?)
+        self.stop(left.stopped, told)?;
+        Ok(())
     }
 
     /// Notes the calls that failed: what the records of the arrays may name behind them.
-    fn note_failures(&mut self, calls: &[Call], lose: bool) {
-        self.failures.note(calls, lose);
+    fn note_failures(&mut self, lose: bool) {
+        self.failures.note(self.world.calls(), lose);
         for array in &mut self.arrays {
             array.heed(&self.failures);
         }
-    }
-
-    /// Keeps the arrays that answer what was given, as they go on: by what was answered, and after a stop perhaps by one request more, or its checkpoint or merge.
-    /// How many were answered.
-    fn judge(
-        &mut self,
-        asks: &[Ask],
-        given: &[u8],
-        stopped: bool,
-        taken: bool,
-    ) -> Result<usize, Trouble> {
-        let mut after = Vec::new(self.alloc);
-        let mut answered = 0;
-        for array in &self.arrays {
-            let mut array = array.copy(self.alloc)?;
-            let Some(count) = follow(self.alloc, &mut array, asks, given, self.three_fail)? else {
-                continue;
-            };
-            if !stopped && count < asks.len() {
-                continue;
-            }
-            answered = count;
-            if let Some(next) = asks.get(count) {
-                if taken {
-                    push_later(self.alloc, &array, next, &mut after)?;
-                }
-            }
-            after.push(array)?;
-        }
-        if after.is_empty() {
-            return Err(Trouble::Lost);
-        }
-        self.arrays = after;
-        Ok(answered)
     }
 }

@@ -11,15 +11,12 @@ mod request;
 mod scenes;
 mod text;
 
-use crate::devices::{DRIVES, UNITS};
 use crate::history::{History, Told, Trouble};
-use pur_base::NoMemory;
 use std::alloc::Global;
 use std::process::ExitCode;
 use std::{env, io};
-use world_mem::MemWorld;
 
-/// A world serves so many histories.
+/// The same devices serve so many histories.
 const RENEWED: u64 = 64;
 
 /// What is to be tried.
@@ -52,44 +49,32 @@ struct Broken {
     session: u64,
 }
 
-/// A world of blank devices.
-fn blank_world(alloc: Global) -> Result<MemWorld, NoMemory> {
-    MemWorld::new(alloc, DRIVES, UNITS, Vec::new(alloc))
-}
-
-/// The world, or a new one where it served enough: a world keeps its input and its output.
-fn renewed(alloc: Global, world: MemWorld, number: u64) -> Result<MemWorld, NoMemory> {
+/// The history of that number, on new devices where the last ones served enough: a world keeps its input and its output.
+fn try_one(history: &mut History, number: u64, told: &mut Told) -> Result<(), Trouble> {
     if number % RENEWED == RENEWED - 1 {
-        blank_world(alloc)
-    } else {
-        Ok(world)
+        history.renew()?;
     }
+    history.run(told)
 }
 
 /// Lets the histories happen.
 fn try_all(alloc: Global, plan: Plan, told: &mut Told) -> Result<(), Broken> {
-    let no_memory = Broken {
-        why: Trouble::Memory,
-        number: 0,
-        session: 0,
-    };
-    let Ok(mut world) = blank_world(alloc) else {
-        return Err(no_memory);
+    let Ok(mut history) = History::new(alloc, plan.seed) else {
+        return Err(Broken {
+            why: Trouble::Memory,
+            number: 0,
+            session: 0,
+        });
     };
     for number in 0..plan.count {
-        let Ok(ready) = renewed(alloc, world, number) else {
-            return Err(no_memory);
-        };
-        let mut history = History::new(alloc, plan.seed, number);
-        match history.run(ready, told) {
-            Ok(blank) => world = blank,
-            Err(why) => {
-                return Err(Broken {
-                    why,
-                    number,
-                    session: history.session(),
-                });
-            }
+        history.restart(plan.seed, number);
+        if let Err(why) = try_one(&mut history, number, told) {
+            let session = history.session();
+            return Err(Broken {
+                why,
+                number,
+                session,
+            });
         }
     }
     Ok(())

@@ -1,8 +1,29 @@
-//! Tests of sessions over a world in memory: what one session wrote the next one reads, and which status each end has.
+//! Tests of sessions over a world in memory: what one session wrote the next one reads, which status each end has, and transcripts.
+//! Sessions are stopped at each call or lose devices, make checkpoints and merges, or find tables on the drives, and the next one reads what it should.
 //! It is a program, which does nothing but for its tests: no crate stands on it.
 #![tactic(auto)]
 
 #[cfg(test)]
-mod tests;
+mod flushing;
+#[cfg(test)]
+mod losing;
+#[cfg(test)]
+mod merging;
+#[cfg(test)]
+mod opening;
+#[cfg(test)]
+mod parts;
+#[cfg(test)]
+mod sessions;
+#[cfg(test)]
+mod spent;
+#[cfg(test)]
+mod stage;
+#[cfg(test)]
+mod stopping;
+#[cfg(test)]
+mod tables;
+#[cfg(test)]
+mod transcripts;
 
 fn main(_rt: HostRuntime) {}

@@ -20,7 +20,7 @@ fn mix(state: u64, byte: u8) -> u64
 }
 
 /// The hash of bytes.
-fn hash(bytes: &[u8]) -> u64
+pub fn hash(bytes: &[u8]) -> u64
     ensures { result ≡ hash_of bytes.now }
 {
     let mut state = START;
@@ -58,22 +58,5 @@ impl Hint for Fnv {
     fn of_four(sectors: [&Sector; 4]) -> [u64; 4] {
         let [a, b, c, d] = sectors;
         hash_four(a.as_bytes(), b.as_bytes(), c.as_bytes(), d.as_bytes())
-    }
-}
-
-#[cfg(test)]
-mod tests {
-    use super::*;
-
-    #[test]
-    fn hashes_published_texts(rt: HostRuntime) {
-        let hashes: [(&[u8], u64); 3] = [
-            (b"", 0xcbf29ce484222325),
-            (b"a", 0xaf63dc4c8601ec8c),
-            (b"foobar", 0x85944171f73967e8),
-        ];
-        for (text, want) in hashes {
-            assert_eq!(rt; hash(text), want, "{text:?}");
-        }
     }
 }

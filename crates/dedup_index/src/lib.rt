@@ -6,9 +6,6 @@ mod fnv;
 mod hint;
 mod index;
 
-pub use fnv::Fnv;
+pub use fnv::{Fnv, hash};
 pub use hint::Hint;
 pub use index::Index;
-
-#[cfg(test)]
-mod tests;

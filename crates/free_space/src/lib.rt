@@ -13,6 +13,3 @@ mod room;
 pub use laws::{free_units, groups, taken_units};
 pub use map::map_of;
 pub use room::groups_left;
-
-#[cfg(test)]
-mod tests;

@@ -56,22 +56,3 @@ pub fn groups_left(boot: &BootRecord, segments: &[SegmentFact]) -> u32
     count_members(&mut free, &boot.members.drives);
     groups_of(&free[..boot.slots as usize])
 }
-
-#[cfg(test)]
-mod tests {
-    use super::*;
-    use std::test::*;
-
-    #[test]
-    fn as_many_groups_as_nine_drives_share(rt: HostRuntime) {
-        assert_eq!(rt; groups_of(&[61; 11]), 74);
-        assert_eq!(rt;
-            groups_of(&[61, 61, 60, 60, 60, 60, 60, 60, 60, 60, 60]),
-            73
-        );
-        assert_eq!(rt; groups_of(&[55; 11]), 67);
-        assert_eq!(rt; groups_of(&[61, 61, 61, 61, 61, 61, 61, 61, 5]), 5);
-        assert_eq!(rt; groups_of(&[61; 8]), 0);
-        assert_eq!(rt; groups_of(&[]), 0);
-    }
-}

@@ -5,8 +5,6 @@
 mod bytes;
 mod lanes;
 mod slices;
-#[cfg(test)]
-mod tests;
 
 pub use bytes::{div, double, mul, power_of_two};
 pub use lanes::{

@@ -7,8 +7,6 @@ mod deciding;
 mod encoding;
 mod layout;
 mod recovery;
-#[cfg(test)]
-mod tests;
 
 pub use deciding::any_seven_decide;
 pub use encoding::encode;

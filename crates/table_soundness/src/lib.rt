@@ -31,6 +31,3 @@ pub use fault::SoundFault;
 pub use judge::check;
 pub use laws::laws_of_soundness;
 pub use tables::LoadedTables;
-
-#[cfg(test)]
-mod tests;

@@ -6,8 +6,6 @@ mod adapt;
 mod blind;
 mod members;
 mod said;
-#[cfg(test)]
-mod tests;
 mod turns;
 
 pub use blind::Blind;

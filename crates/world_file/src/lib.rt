@@ -6,8 +6,6 @@ mod files;
 mod opening;
 mod shape;
 mod streams;
-#[cfg(test)]
-mod tests;
 
 pub use files::Files;
 pub use opening::NoShelf;
