@@ -146,6 +146,47 @@ pub fn let_fail(world: &mut MemWorld, device: Device) {
     }
 }
 
+/// A device that doesn't answer any more fails at so many calls.
+const SILENT: u64 = 16;
+
+/// Lets a device answer no more from its nth next call on, counted from 0.
+pub fn silence(world: &mut MemWorld, device: Device, nth: u64) -> Result<(), NoMemory> {
+    for later in 0..SILENT {
+        fail(world, device, nth.saturating_add(later))?;
+    }
+    Ok(())
+}
+
+/// Lets a device answer again with what it holds, which isn't synced by that.
+fn bring_back(world: &mut MemWorld, device: Device) {
+    let mut bytes = [0; SECTOR_BYTES];
+    put_back(world, device);
+    for _ in 0..FAIL_AHEAD {
+        let _ = read(world, device, 0, &mut bytes);
+    }
+}
+
+/// Lets all devices answer again.
+pub fn bring_all_back(world: &mut MemWorld) {
+    for device in DEVICES {
+        bring_back(world, device);
+    }
+    world.forget();
+}
+
+/// Whether a device was synced in one of these calls.
+pub fn was_synced(calls: &[Call], device: Device) -> bool {
+    for call in calls {
+        match call {
+            Call::On(on, What::Sync(_)) => if *on == device {
+                return true;
+            },
+            _ => {}
+        }
+    }
+    false
+}
+
 /// On which devices calls failed, and which of them lost a write or a sync by that.
 #[derive(Clone, Copy)]
 pub struct Failures {

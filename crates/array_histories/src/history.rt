@@ -1,17 +1,17 @@
 // One history.
 use crate::devices::{
     DRIVES, FAIL_AHEAD, Failures, UNITS, Written, any_drive, calls_before_input, fail, let_fail,
-    pull, put_back, stop,
+    pull, put_back, stop, was_synced,
 };
 use crate::model::{Heard, Model};
 use crate::random::Random;
 use crate::request::{Ask, Known, any_ask};
 use array_server::{init, serve};
-use pur_base::{Device, NVRAM_DEVICES, NoMemory, NvId, Status};
+use pur_base::{Device, DriveId, NVRAM_DEVICES, NoMemory, NvId, Status};
 use std::alloc::{AllocFailed, Global};
 use std::mem;
 use world::Source;
-use world_mem::{Fused, MemWorld};
+use world_mem::{Call, Fused, MemWorld};
 
 /// Where more arrays may stand, they are looked at.
 const ARRAYS: usize = 4;
@@ -22,6 +22,8 @@ pub struct Told {
     pub acknowledged: u64,
     pub stops: u64,
     pub failures: u64,
+    /// How many sessions were halted, since more devices failed than can be borne.
+    pub halts: u64,
     /// How many histories have come to a checkpoint, to a merge, and to the end of the room.
     pub flushed: u64,
     pub merged: u64,
@@ -35,6 +37,7 @@ impl Told {
             acknowledged: 0,
             stops: 0,
             failures: 0,
+            halts: 0,
             flushed: 0,
             merged: 0,
             full: 0,
@@ -75,6 +78,26 @@ impl Weak {
             drives: [any_drive(random), any_drive(random)],
             nvram: Device::Nv(NvId(random.byte_below(NVRAM_DEVICES))),
         }
+    }
+
+    /// Those that weren't synced in a whole opening, since its record leaves them out, and others where there are fewer.
+    fn of_unsynced(random: &mut Random, calls: &[Call]) -> Weak {
+        let mut weak = Weak::new(random);
+        let mut found = 0;
+        for drive in 0..DRIVES {
+            let device = Device::Drive(DriveId(drive));
+            if found < 2 && !was_synced(calls, device) {
+                weak.drives[found] = device;
+                found += 1;
+            }
+        }
+        for nvram in 0..NVRAM_DEVICES {
+            let device = Device::Nv(NvId(nvram));
+            if !was_synced(calls, device) {
+                weak.nvram = device;
+            }
+        }
+        weak
     }
 
     fn all(&self) -> [Device; 3] {
@@ -120,21 +143,57 @@ fn calls_until(random: &mut Random, opening: u64) -> u64 {
     }
 }
 
+/// How a session ended.
+#[derive(Clone, Copy, PartialEq, Eq)]
+enum End {
+    Whole,
+    Stopped,
+    /// More devices failed than can be borne.
+    Halted,
+}
+
+/// What is seen of a session beside what it gave: its end, whether input was taken, and whether more devices failed meanwhile than can be borne.
+#[derive(Clone, Copy)]
+struct Seen {
+    end: End,
+    taken: bool,
+    many_fail: bool,
+}
+
+impl Seen {
+    /// Whether it may end so where some requests are left that it didn't answer, or none are.
+    fn may_end(self, some_left: bool) -> bool {
+        match self.end {
+            End::Whole => !some_left,
+            End::Stopped => true,
+            End::Halted => some_left || !self.taken,
+        }
+    }
+
+    /// Whether its output may end in a reply: a halted one gives whole replies.
+    fn may_break(self) -> bool {
+        self.end == End::Stopped || !self.taken
+    }
+}
+
 /// How many of the requests were answered by the whole of an output, each as the array answers, which goes on by them. None where they weren't.
-/// Where three drives fail meanwhile, sectors may be out of reach of a read.
+/// Where more devices fail meanwhile than can be borne, sectors may be out of reach of a read, and a request may halt the session.
 fn follow(
     alloc: Global,
     array: &mut Model,
     asks: &[Ask],
     output: &[u8],
-    three_fail: bool,
+    seen: Seen,
 ) -> Result<Option<usize>, NoMemory> {
     let mut at = 0;
     for place in 0..asks.len() {
         let rest = output.get(at..).unwrap_or(&[]);
-        match array.hear(alloc, &asks[place], rest, three_fail)? {
+        if seen.end == End::Halted && array.is_halted(&asks[place..], rest) {
+            return Ok(Some(place));
+        }
+        match array.hear(alloc, &asks[place], rest, seen.many_fail)? {
             Heard::Whole(size) => at = at.saturating_add(size),
-            Heard::Part => return Ok(Some(place)),
+            Heard::Part => return Ok(if seen.may_break() { Some(place) } else { None }),
             Heard::Other => return Ok(None),
         }
     }
@@ -163,16 +222,8 @@ fn push_later(
     Ok(())
 }
 
-/// What is seen of a session beside what it gave: whether it was stopped, whether input was taken, and whether three drives failed meanwhile.
-#[derive(Clone, Copy)]
-struct Seen {
-    stopped: bool,
-    taken: bool,
-    three_fail: bool,
-}
-
-/// Puts an array behind the others where it answers what was given, as it goes on: by what was answered, and after a stop perhaps by one request more,
-/// or its checkpoint or merge. How many were answered.
+/// Puts an array behind the others where it answers what was given, as it goes on: by what was answered, and after a stop or a halt perhaps by one request
+/// more, or its checkpoint or merge. How many were answered.
 fn keep(
     alloc: Global,
     array: &Model,
@@ -182,10 +233,10 @@ fn keep(
     after: &mut Vec<Model>,
 ) -> Result<Option<usize>, NoMemory> {
     let mut array = array.copy(alloc)?;
-    let Some(count) = follow(alloc, &mut array, asks, given, seen.three_fail)? else {
+    let Some(count) = follow(alloc, &mut array, asks, given, seen)? else {
         return Ok(None);
     };
-    if !seen.stopped && count < asks.len() {
+    if !seen.may_end(count < asks.len()) {
         return Ok(None);
     }
     if let Some(next) = asks.get(count) {
@@ -260,8 +311,8 @@ pub struct History {
     session: u64,
     /// The calls on devices of the last opening.
     opening: u64,
-    /// Whether three drives fail in this session.
-    pub(crate) three_fail: bool,
+    /// Whether more devices may fail in this session than can be borne.
+    pub(crate) many_fail: bool,
 }
 
 /// As many requests of a session may fill the log twice.
@@ -288,7 +339,7 @@ impl History {
             arrays: Vec::new(alloc),
             session: 0,
             opening: FIRST_OPENING,
-            three_fail: false,
+            many_fail: false,
         })
     }
 
@@ -301,7 +352,7 @@ impl History {
         self.arrays.clear();
         self.session = 0;
         self.opening = FIRST_OPENING;
-        self.three_fail = false;
+        self.many_fail = false;
     }
 
     /// Takes new devices.
@@ -374,6 +425,7 @@ impl History {
             } else {
                 Ok(())
             },
+            6 => self.lose_many(told),
             _ => Ok(()),
         }
     }
@@ -667,24 +719,51 @@ impl History {
         asks: &[Ask],
         told: &mut Told,
     ) -> Result<(), Trouble> {
-        if !left.stopped && left.status != Status::Done {
+        let Some(end) = self.end_of(left) else {
             return Err(Trouble::Lost);
-        }
+        };
         let opening = calls_before_input(&self.world);
         self.opening = opening.unwrap_or(self.opening);
         self.note_failures(false);
         let seen = Seen {
-            stopped: left.stopped,
+            end,
             taken: opening.is_some(),
-            three_fail: self.three_fail,
+            many_fail: self.many_fail,
         };
         let given = left.given(&self.world);
         let count = judge(self.alloc, &mut self.arrays, asks, given, seen)?;
-        // Behind a session that wasn't stopped the record doesn't name them any more.
-        self.note_failures(!left.stopped);
+        // Behind a whole session the record doesn't name them any more.
+        self.note_failures(end == End::Whole);
         told.acknowledged = told.acknowledged.saturating_add(count as u64);
+        if end == End::Halted {
+            told.halts = told.halts.saturating_add(1);
+        }
         self.stop(left.stopped, told)?;
         Ok(())
+    }
+
+    /// How a session ended, if it may end so.
+    fn end_of(&self, left: Left) -> Option<End> {
+        if left.stopped {
+            return Some(End::Stopped);
+        }
+        match left.status {
+            Status::Done => Some(End::Whole),
+            Status::Halted => if self.many_fail {
+                Some(End::Halted)
+            } else {
+                None
+            },
+            _ => None,
+        }
+    }
+
+    /// A session that shows the array, in which all devices answer. Those that its record leaves out are the ones that may fail from now on.
+    pub(crate) fn look_at_all(&mut self) -> Result<(), Trouble> {
+        let asks = self.questions()?;
+        let left = self.ask(&asks, u64::MAX)?;
+        self.weak = Weak::of_unsynced(&mut self.random, self.world.calls());
+        self.heed(left, &asks, &mut Told::new())
     }
 
     /// Notes the calls that failed: what the records of the arrays may name behind them.

@@ -110,12 +110,13 @@ fn run(rt: &HostRuntime, plan: Plan) -> io::Result<ExitCode> {
         acknowledged,
         stops,
         failures,
+        halts,
         flushed,
         merged,
         full,
     } = told;
     println!(rt;
-        "seed {seed}: {count} histories, {flushed} of them with checkpoints, {merged} with merges and {full} with no room left, {acknowledged} requests acknowledged, {stops} stops, {failures} devices failed, nothing lost"
+        "seed {seed}: {count} histories, {flushed} of them with checkpoints, {merged} with merges and {full} with no room left, {acknowledged} requests acknowledged, {stops} stops, {failures} devices failed, {halts} sessions halted, nothing lost"
     )?;
     Ok(ExitCode::from(0))
 }

@@ -9,7 +9,7 @@ use std::alloc::Global;
 /// The most sectors of a request.
 const COUNT: u8 = 64;
 
-/// What a read is answered whose sectors stand on drives of which three fail.
+/// What a request is answered where more devices fail than can be borne. A read is where its sectors stand on drives of which three fail.
 const NO_DEVICE: &[u8] = b"no device\n";
 
 /// What a command, a checkpoint or a merge is answered where too few units are free.
@@ -45,6 +45,11 @@ pub enum Heard {
     Other,
 }
 
+/// What requests are answered behind that, but for lines that are none.
+const NO_HALTED: &[u8] = b"no halted\n";
+
+const NO_SYNTAX: &[u8] = b"no syntax\n";
+
 /// How an output goes on where just this reply is right.
 fn heard_as(reply: &[u8], rest: &[u8]) -> Heard {
     if rest.starts_with(reply) {
@@ -54,6 +59,23 @@ fn heard_as(reply: &[u8], rest: &[u8]) -> Heard {
     } else {
         Heard::Other
     }
+}
+
+/// Whether an output is that of requests behind the one in which a session was halted.
+fn are_halted(asks: &[Ask], output: &[u8]) -> bool {
+    let mut at = 0usize;
+    for ask in asks {
+        let reply = if ask.is_nonsense() {
+            NO_SYNTAX
+        } else {
+            NO_HALTED
+        };
+        if !output.get(at..).unwrap_or(&[]).starts_with(reply) {
+            return false;
+        }
+        at = at.saturating_add(reply.len());
+    }
+    at == output.len()
 }
 
 /// An array: its volumes in order of creation, and what is known of its log, its record and its checkpoints.
@@ -229,6 +251,23 @@ impl Model {
             Ask::Merge { .. } => self.counts.may_lack_space_to_merge(),
             _ => self.takes(ask) && self.counts.may_lack_space(),
         }
+    }
+
+    /// Whether the whole rest of an output is that of a session that was halted in the first of these requests.
+    pub fn is_halted(&self, asks: &[Ask], rest: &[u8]) -> bool {
+        let Some(first) = asks.first() else {
+            return false;
+        };
+        let may_halt = match first {
+            Ask::Checkpoint => true,
+            Ask::Merge { table, index } => self.counts.may_have_pair(*table, u64::from(*index)),
+            _ => self.takes(first),
+        };
+        if !may_halt || !rest.starts_with(NO_DEVICE) {
+            return false;
+        }
+        let behind = rest.get(NO_DEVICE.len()..).unwrap_or(&[]);
+        are_halted(asks.get(1..).unwrap_or(&[]), behind)
     }
 
     /// What failures of devices tell of the record.

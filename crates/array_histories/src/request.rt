@@ -71,6 +71,11 @@ impl Ask {
         matches!(self, Ask::Read { .. })
     }
 
+    /// Whether it is a line that is no request.
+    pub fn is_nonsense(&self) -> bool {
+        matches!(self, Ask::Nonsense)
+    }
+
     /// Its text, behind what is there.
     pub fn push_to(&self, alloc: Global, text: &mut Vec<u8>) -> Result<(), NoMemory> {
         match *self {

@@ -1,9 +1,11 @@
 // What happens in a row, where a slip of the engine would show.
-use crate::devices::{Failures, any_drive, fail, let_fail, pull, put_back};
+use crate::devices::{
+    DRIVES, Failures, any_drive, bring_all_back, fail, let_fail, pull, put_back, silence,
+};
 use crate::history::{History, Told, Trouble};
 use crate::model::Model;
 use crate::request::{Ask, any_merge};
-use pur_base::{Device, NoMemory, NvId, Status};
+use pur_base::{Device, DriveId, NoMemory, NvId, Status};
 
 /// The most requests of a session here.
 const MOST: u64 = 6;
@@ -13,6 +15,9 @@ const NEAR: u64 = 14;
 
 /// A drive that may fail does so at one of so many calls: an opening has two, and its store seven.
 const NEAR_STORE: u64 = 10;
+
+/// Drives that fail together do so within so many calls: a checkpoint takes seventeen.
+const LATER: u64 = 60;
 
 /// The most requests behind which checkpoints are asked for, in a row.
 const PAIRS: u64 = 64;
@@ -160,31 +165,104 @@ impl History {
         Ok(())
     }
 
-    /// A session in which three drives fail: whether it isn't halted by that.
-    fn outlives_three(&mut self, told: &mut Told) -> Result<bool, Trouble> {
-        let asks = self.some_asks(MOST)?;
-        let left = self.ask(&asks, u64::MAX)?;
-        if left.status == Status::Halted {
-            self.stop(false, told)?;
-            return Ok(false);
-        }
-        self.three_fail = true;
-        self.heed(left, &asks, told)?;
-        self.three_fail = false;
-        Ok(true)
+    /// A session in which more devices may fail than can be borne.
+    fn ask_while_many_fail(
+        &mut self,
+        asks: &[Ask],
+        calls: u64,
+        told: &mut Told,
+    ) -> Result<(), Trouble> {
+        self.many_fail = true;
+        let heeded = self.serve_quietly(asks, calls, told);
+        self.many_fail = false;
+        heeded
     }
 
-    /// Three drives fail in a session, mostly in its store. Where it isn't halted by that, the next one isn't, with all drives back.
+    /// Three drives fail in a session, mostly in its store. With all drives back the next one isn't halted.
     pub(crate) fn lose_three(&mut self, told: &mut Told) -> Result<(), Trouble> {
         let [first, second] = self.weak.drives;
         let drives = [first, second, any_drive(&mut self.random)];
         self.fail_all(drives, told)?;
-        if !self.outlives_three(told)? {
-            return Ok(());
-        }
+        let asks = self.some_asks(MOST)?;
+        self.ask_while_many_fail(&asks, u64::MAX, told)?;
         for drive in drives {
             let_fail(&mut self.world, drive);
         }
         self.look_quietly()
+    }
+
+    /// When devices fail: often in the opening.
+    fn moment(&mut self) -> u64 {
+        if self.random.once_in(2) {
+            self.random.below(NEAR_STORE)
+        } else {
+            self.random.below(LATER)
+        }
+    }
+
+    /// Lets three drives or more answer no more, from nearly the same call on.
+    fn silence_drives(&mut self, told: &mut Told) -> Result<(), NoMemory> {
+        let count = self.random.byte_below(DRIVES - 2).saturating_add(3);
+        let step = self.random.byte_below(DRIVES - 1).saturating_add(1);
+        let mut drive = self.random.byte_below(DRIVES);
+        let moment = self.moment();
+        for _ in 0..count {
+            let nth = moment.saturating_add(self.random.below(3));
+            silence(&mut self.world, Device::Drive(DriveId(drive)), nth)?;
+            drive = drive.saturating_add(step) % DRIVES;
+        }
+        told.failures = told.failures.saturating_add(u64::from(count));
+        Ok(())
+    }
+
+    /// Lets an NVRAM device answer no more.
+    fn silence_nvram(&mut self, nvram: u8, told: &mut Told) -> Result<(), NoMemory> {
+        let nth = self.random.below(NEAR);
+        silence(&mut self.world, Device::Nv(NvId(nvram)), nth)?;
+        told.failures = told.failures.saturating_add(1);
+        Ok(())
+    }
+
+    /// Lets more devices fail than can be borne: three drives or more, both NVRAM devices, or all of these.
+    fn silence_many(&mut self, told: &mut Told) -> Result<(), NoMemory> {
+        let kind = self.random.below(4);
+        if kind != 0 {
+            self.silence_drives(told)?;
+        }
+        if kind != 1 {
+            self.silence_nvram(0, told)?;
+        }
+        if kind != 1 && kind != 2 {
+            self.silence_nvram(1, told)?;
+        }
+        Ok(())
+    }
+
+    /// Some requests, with checkpoints behind them or without.
+    fn asks_or_checkpoints(&mut self) -> Result<Vec<Ask>, NoMemory> {
+        let some = self.some_asks(MOST)?;
+        if self.random.once_in(2) {
+            return Ok(some);
+        }
+        let mut asks = Vec::new(self.alloc);
+        self.push_with_checkpoints(&some, &mut asks)?;
+        Ok(asks)
+    }
+
+    /// More devices fail at once than can be borne, and answer again behind that session: the next one has the array of before or behind the request in hand.
+    pub(crate) fn lose_many(&mut self, told: &mut Told) -> Result<(), Trouble> {
+        // A device that lost something has to be left out before others fail.
+        bring_all_back(&mut self.world);
+        self.look_at_all()?;
+        self.silence_many(told)?;
+        let asks = self.asks_or_checkpoints()?;
+        let calls = if self.random.once_in(4) {
+            self.calls_of_session()
+        } else {
+            u64::MAX
+        };
+        self.ask_while_many_fail(&asks, calls, told)?;
+        bring_all_back(&mut self.world);
+        self.look_at_all()
     }
 }

@@ -11,12 +11,12 @@ use world::Shelf;
 use world_mem::MemWorld;
 
 /// The calls of an append on each NVRAM device: its slot and a sync, then its gate and a sync. Before them stand a sync, a reading and a sync.
-const APPEND: [u64; 4] = [4, 5, 6, 7];
+pub const APPEND: [u64; 4] = [4, 5, 6, 7];
 
 /// The next fill of a filled world.
-const THIRD_FILL: &[u8] = b"fill a 2 1 3\n";
+pub const THIRD_FILL: &[u8] = b"fill a 2 1 3\n";
 
-fn fail_nvram(world: &mut MemWorld, device: u8, call: u64) -> Result<(), Fail> {
+pub fn fail_nvram(world: &mut MemWorld, device: u8, call: u64) -> Result<(), Fail> {
     if device >= 2 || call == 0 {
         return Err(Fail::new("no such call"));
     }
@@ -24,7 +24,7 @@ fn fail_nvram(world: &mut MemWorld, device: u8, call: u64) -> Result<(), Fail> {
     Ok(())
 }
 
-fn fail_drive(world: &mut MemWorld, drive: u8, call: u64) -> Result<(), Fail> {
+pub fn fail_drive(world: &mut MemWorld, drive: u8, call: u64) -> Result<(), Fail> {
     if drive >= world.drives() || call == 0 {
         return Err(Fail::new("no such call"));
     }
@@ -112,7 +112,7 @@ fn both_nvram_devices_fail_in_an_append(rt: HostRuntime) -> Result<(), Fail> {
 
 /// The calls of a store on each drive: the reading of a gate, a write and a sync of it, of the body and of the gate. Before it stand the two readings of
 /// an opening and the store of that.
-const STORE: [u64; 7] = [10, 11, 12, 13, 14, 15, 16];
+pub const STORE: [u64; 7] = [10, 11, 12, 13, 14, 15, 16];
 
 /// Where the second drive is lost.
 #[derive(Clone, Copy)]

@@ -14,6 +14,8 @@ mod opening;
 #[cfg(test)]
 mod parts;
 #[cfg(test)]
+mod returning;
+#[cfg(test)]
 mod sessions;
 #[cfg(test)]
 mod spent;

@@ -1,12 +1,13 @@
 use boot_codec::{BadRecord, RECORD_BYTES, is_open_gate};
 use boot_region::{
-    LoadFault, Loaded, Regions, Slot, close_gates, load, read_regions, settle, store,
+    LoadFault, Loaded, Regions, Slot, close_gates, load, open_gates, read_regions, settle, store,
+    write_bodies,
 };
 use pur_base::{Device, DriveId, SECTOR_BYTES};
 use std::alloc::Global;
 use std::process::Abort;
 use std::test::Fail;
-use world::{Failed, Shelf};
+use world::{Failed, Shelf, write_synced};
 use world_mem::{Call, Choice, Fused, MemWorld, What};
 
 const DRIVES: u8 = 11;
@@ -30,17 +31,30 @@ fn small_world(alloc: Global) -> Result<MemWorld, Fail> {
     Ok(MemWorld::new(alloc, DRIVES, 64, Vec::new(alloc))?)
 }
 
+/// Whether a store says that enough drives hold the record.
+fn is_stored<S: Shelf>(
+    shelf: &mut S,
+    members: &mut [bool],
+    slot: Slot,
+    body: &[u8; RECORD_BYTES],
+) -> Result<bool, Failed> {
+    if members.len() > usize::from(shelf.drives()) {
+        return Err(Failed);
+    }
+    Ok(store(shelf, members, slot, body).is_ok())
+}
+
 fn store_body<S: Shelf>(
     shelf: &mut S,
     members: &mut [bool],
     slot: Slot,
     body: &[u8; RECORD_BYTES],
 ) -> Result<(), Failed> {
-    if members.len() > usize::from(shelf.drives()) {
-        return Err(Failed);
+    if is_stored(shelf, members, slot, body)? {
+        Ok(())
+    } else {
+        Err(Failed)
     }
-    store(shelf, members, slot, body);
-    Ok(())
 }
 
 fn store_in<S: Shelf>(
@@ -158,8 +172,8 @@ fn a_gate_that_reads_as_closed_is_not_written(rt: HostRuntime) -> Result<(), Fai
     Ok(())
 }
 
-/// Stores a record in slot A while some drives fail, and tells which members are left.
-fn store_with_failures(world: &mut MemWorld) -> Result<[bool; 11], Fail> {
+/// Stores a record in slot A while some drives fail, and tells which members are left: one too few.
+fn store_with_failures(rt: &impl Abort, world: &mut MemWorld) -> Result<[bool; 11], Fail> {
     let mut members = [true; 11];
     // The read of a gate fails, and it is written then.
     world.fail(Device::Drive(DriveId(2)), 1)?;
@@ -168,7 +182,7 @@ fn store_with_failures(world: &mut MemWorld) -> Result<[bool; 11], Fail> {
     // The sync of a gate that is opened fails.
     world.fail(Device::Drive(DriveId(4)), 5)?;
     world.pull(Device::Drive(DriveId(5)));
-    store_in(world, &mut members, Slot::A, NEW)?;
+    assert!(rt; !is_stored(world, &mut members, Slot::A, &[NEW; RECORD_BYTES])?);
     Ok(members)
 }
 
@@ -184,7 +198,7 @@ fn assert_shown_by_two(rt: &impl Abort, world: &mut MemWorld) -> Result<(), Fail
 fn members_that_fail_are_dropped(rt: HostRuntime) -> Result<(), Fail> {
     let alloc = rt.alloc();
     let mut world = small_world(alloc)?;
-    let members = store_with_failures(&mut world)?;
+    let members = store_with_failures(&rt, &mut world)?;
     let mut left = [true; 11];
     left[3] = false;
     left[4] = false;
@@ -248,7 +262,9 @@ fn shows_old_or_new(alloc: Global, calls: u64) -> Result<bool, Fail> {
     let mut members = [true; 11];
     store_in(&mut world, &mut members, Slot::A, OLD)?;
     let mut fused = Fused::new(world, calls);
-    store_in(&mut fused, &mut members, Slot::B, NEW)?;
+    if is_stored(&mut fused, &mut members, Slot::B, &[NEW; RECORD_BYTES])? {
+        return Ok(false);
+    }
     let mut stopped = fused.into_inner().stopped(alloc, &mut Ones)?;
     for drive in 0..DRIVES {
         if !drive_shows_old_or_new(&mut stopped, drive)? {
@@ -300,17 +316,35 @@ fn assert_in_force(
     Ok(())
 }
 
+/// Shows a record in a slot of these drives alone, however few they are.
+fn show_in<S: Shelf>(
+    shelf: &mut S,
+    members: &mut [bool],
+    slot: Slot,
+    byte: u8,
+) -> Result<(), Failed> {
+    if members.len() > usize::from(shelf.drives()) || shelf.units() < 64 {
+        return Err(Failed);
+    }
+    close_gates(shelf, members, slot);
+    write_bodies(shelf, members, slot, &[byte; RECORD_BYTES]);
+    open_gates(shelf, members, slot);
+    Ok(())
+}
+
 /// Asserts that five drives which show the higher generation don't decide, and that six do.
 fn assert_six_decide(rt: &impl Abort, alloc: Global, world: &mut MemWorld) -> Result<(), Fail> {
     let mut five = [
         true, true, true, true, true, false, false, false, false, false, false,
     ];
-    store_in(world, &mut five, Slot::B, NEW)?;
+    assert!(rt; !is_stored(world, &mut five, Slot::B, &[NEW; RECORD_BYTES])?);
+    assert!(rt; !is_open(world, 0, Slot::B)?);
+    show_in(world, &mut five, Slot::B, NEW)?;
     assert_in_force(rt, alloc, world, Some((Slot::A, OLD)))?;
     let mut one = [
         false, false, false, false, false, true, false, false, false, false, false,
     ];
-    store_in(world, &mut one, Slot::B, NEW)?;
+    show_in(world, &mut one, Slot::B, NEW)?;
     assert_in_force(rt, alloc, world, Some((Slot::B, NEW)))
 }
 
@@ -419,5 +453,170 @@ fn a_record_that_leaves_no_room_is_not_loaded(rt: HostRuntime) -> Result<(), Fai
     body[23] = 248;
     store_body(&mut world, &mut members, Slot::A, &body)?;
     assert_eq!(rt; load_fault(alloc, &mut world), Some(LoadFault::Spent));
+    Ok(())
+}
+
+/// The calls of a store on a drive whose gate is open: its reading, a write and a sync that close it, those of the body, and those that open it.
+const STORE_CALLS: u64 = 7;
+
+/// Which calls of a store fail on some of the drives, and what stands there then.
+#[derive(Clone, Copy)]
+struct Failing {
+    /// On so many.
+    drives: u8,
+    first: u64,
+    last: u64,
+    /// What each byte is of a write that failed, or that was not synced. Else the bytes are those from before it.
+    torn: Option<u8>,
+}
+
+/// The body of the record of an array of nothing, of this generation, by which so many commands are flushed.
+fn body_of(generation: u8, flushed: u8) -> [u8; RECORD_BYTES] {
+    let mut body = [0; RECORD_BYTES];
+    body[..88].copy_from_slice(&HEADER);
+    body[23] = generation;
+    body[79] = flushed;
+    body
+}
+
+fn other_slot(slot: Slot) -> Slot {
+    match slot {
+        Slot::A => Slot::B,
+        Slot::B => Slot::A,
+    }
+}
+
+/// Lets these calls fail.
+fn fail_calls(world: &mut MemWorld, failing: Failing) -> Result<(), Fail> {
+    if failing.drives > world.drives() || failing.first == 0 {
+        return Err(Fail::new("no such call"));
+    }
+    for drive in 0..failing.drives {
+        for call in failing.first..failing.last + 1 {
+            world.fail(Device::Drive(DriveId(drive)), call)?;
+        }
+    }
+    Ok(())
+}
+
+/// Makes calls on the drives until none is to fail.
+fn bring_back(world: &mut MemWorld) {
+    for drive in 0..world.drives() {
+        for _ in 0..STORE_CALLS {
+            let _ = world.sync(Device::Drive(DriveId(drive)));
+        }
+    }
+}
+
+/// Puts this byte all over what a store in slot B left unsynced on a drive.
+fn tear_drive(world: &mut MemWorld, drive: u8, failing: Failing, byte: u8) -> Result<(), Failed> {
+    if drive >= world.drives() || world.units() < 64 {
+        return Err(Failed);
+    }
+    let device = Device::Drive(DriveId(drive));
+    match failing.first {
+        4 | 5 => write_synced(world, device, Slot::B.body(), &[byte; RECORD_BYTES]),
+        _ => write_synced(world, device, Slot::B.gate(), &[byte; SECTOR_BYTES]),
+    }
+}
+
+/// What the drives hold that failed.
+fn tear(world: &mut MemWorld, failing: Failing) -> Result<(), Failed> {
+    let Some(byte) = failing.torn else {
+        return Ok(());
+    };
+    for drive in 0..failing.drives {
+        tear_drive(world, drive, failing, byte)?;
+    }
+    Ok(())
+}
+
+/// The record that is loaded.
+fn loaded(alloc: Global, world: &mut MemWorld) -> Result<Loaded, Fail> {
+    match load(alloc, world) {
+        Ok(loaded) => Ok(loaded),
+        Err(_) => Err(Fail::new("not loaded")),
+    }
+}
+
+/// Whether another record is stored behind the one that is loaded, on the drives that hold that, and is loaded then.
+fn stores_next(alloc: Global, world: &mut MemWorld, found: &Loaded) -> Result<bool, Fail> {
+    let mut members = [false; 11];
+    members.copy_from_slice(&found.drives[..11]);
+    let slot = other_slot(found.slot);
+    let generation = if found.slot == Slot::A { 3 } else { 4 };
+    if !is_stored(world, &mut members, slot, &body_of(generation, 1))? {
+        return Ok(false);
+    }
+    let next = loaded(alloc, world)?;
+    Ok(next.slot == slot && next.record.flushed == 1)
+}
+
+/// Whether, of records 1 and 2 in slots B and A, the second one or a third in place of the first is loaded where drives fail in the store of that and come
+/// back, and a next one is stored then.
+fn outlives(alloc: Global, world: &mut MemWorld, failing: Failing) -> Result<bool, Fail> {
+    store_body(world, &mut [true; 11], Slot::B, &body_of(1, 0))?;
+    store_body(world, &mut [true; 11], Slot::A, &body_of(2, 0))?;
+    fail_calls(world, failing)?;
+    let is_third = is_stored(world, &mut [true; 11], Slot::B, &body_of(3, 0))?;
+    bring_back(world);
+    tear(world, failing)?;
+    world.forget();
+    // A gate whose reading alone fails is closed.
+    if is_third != (failing.last == 1) {
+        return Ok(false);
+    }
+    let found = loaded(alloc, world)?;
+    let is_right = match found.slot {
+        Slot::A => found.record.generation == 2 && !is_third,
+        Slot::B => found.record.generation == 3,
+    };
+    Ok(is_right && stores_next(alloc, world, &found)?)
+}
+
+/// Of how many drives, and at which call, it goes wrong that three and more fail at each call of a store, there alone or from there on.
+fn wrong_in_stores(
+    alloc: Global,
+    goes_on: bool,
+    torn: Option<u8>,
+) -> Result<Option<(u8, u64)>, Fail> {
+    let mut world = small_world(alloc)?;
+    for drives in 3..DRIVES + 1 {
+        for first in 1..STORE_CALLS + 1 {
+            let failing = Failing {
+                drives,
+                first,
+                last: if goes_on { STORE_CALLS } else { first },
+                torn,
+            };
+            if !outlives(alloc, &mut world, failing)? {
+                return Ok(Some((drives, first)));
+            }
+        }
+    }
+    Ok(None)
+}
+
+#[test]
+fn three_drives_and_more_fail_at_a_call_of_a_store(rt: HostRuntime) -> Result<(), Fail> {
+    assert_eq!(rt; wrong_in_stores(rt.alloc(), false, None)?, None);
+    Ok(())
+}
+
+#[test]
+fn three_drives_and_more_fail_from_a_call_of_a_store_on(rt: HostRuntime) -> Result<(), Fail> {
+    assert_eq!(rt; wrong_in_stores(rt.alloc(), true, None)?, None);
+    Ok(())
+}
+
+#[test]
+fn three_drives_and_more_fail_in_a_store_and_leave_ones(rt: HostRuntime) -> Result<(), Fail> {
+    assert_eq!(rt; wrong_in_stores(rt.alloc(), true, Some(1))?, None);
+    Ok(())
+}
+
+#[test]
+fn three_drives_and_more_fail_in_a_store_and_leave_zeros(rt: HostRuntime) -> Result<(), Fail> {
+    assert_eq!(rt; wrong_in_stores(rt.alloc(), true, Some(0))?, None);
     Ok(())
 }
