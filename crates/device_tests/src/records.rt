@@ -492,7 +492,7 @@ fn fail_calls(world: &mut MemWorld, failing: Failing) -> Result<(), Fail> {
         return Err(Fail::new("no such call"));
     }
     for drive in 0..failing.drives {
-        for call in failing.first..failing.last + 1 {
+        for call in failing.first..failing.last.saturating_add(1) {
             world.fail(Device::Drive(DriveId(drive)), call)?;
         }
     }
@@ -503,7 +503,9 @@ fn fail_calls(world: &mut MemWorld, failing: Failing) -> Result<(), Fail> {
 fn bring_back(world: &mut MemWorld) {
     for drive in 0..world.drives() {
         for _ in 0..STORE_CALLS {
-            let _ = world.sync(Device::Drive(DriveId(drive)));
+            if drive < world.drives() {
+                let _ = world.sync(Device::Drive(DriveId(drive)));
+            }
         }
     }
 }
