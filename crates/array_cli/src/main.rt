@@ -4,6 +4,8 @@
 
 mod command;
 mod ending;
+#[cfg(test)]
+mod tests;
 
 use crate::command::array_main;
 use crate::ending::{IN_USE, NO_SHELF, code_of, text_of};
