@@ -1,5 +1,5 @@
 // Checkpoints that are stopped, and what the next session reads: of a command behind a full log, which makes one first, and one that is asked for.
-use crate::stage::{cut_off, filling, new_world, pull_drive, reads_fills, session};
+use crate::stage::{cut_off, filling, new_world, pull_two, reads_fills, session};
 use crate::stopping::OPENING;
 use std::alloc::Global;
 use std::test::Fail;
@@ -41,20 +41,29 @@ fn world_of(alloc: Global, fills: u8) -> Result<MemWorld, Fail> {
 /// By turns two drives are away then.
 fn goes_wrong(alloc: Global, making: Making, calls: u64) -> Result<bool, Fail> {
     let world = world_of(alloc, making.before)?;
-    let left = cut_off(alloc, world, making.request, OPENING.wrapping_add(calls))?;
-    let mut world = left.world;
-    if calls % 2 == 1 {
-        pull_drive(&mut world, 0)?;
-        pull_drive(&mut world, 8)?;
-    }
-    let is_done = left.given.as_slice() == b"ok\n".as_slice();
+    let mut left = cut_off(alloc, world, making.request, OPENING.wrapping_add(calls))?;
+    let is_done = left.is_ok();
     if is_done == left.is_cut {
         return Ok(true);
     }
-    if reads_fills(alloc, &mut world, making.after)? {
+    leaves_wrong(alloc, &mut left.world, making, is_done, calls % 2 == 1)
+}
+
+/// Whether what is left is wrong, with all drives or without two: the effect isn't there, and it was answered, or what was before it isn't there either.
+fn leaves_wrong(
+    alloc: Global,
+    world: &mut MemWorld,
+    making: Making,
+    is_done: bool,
+    without_two: bool,
+) -> Result<bool, Fail> {
+    if without_two {
+        pull_two(world)?;
+    }
+    if reads_fills(alloc, world, making.after)? {
         return Ok(false);
     }
-    Ok(is_done || !reads_fills(alloc, &mut world, making.before)?)
+    Ok(is_done || !reads_fills(alloc, world, making.before)?)
 }
 
 /// Stops the request so many times, each behind one call more: behind how many that goes wrong.

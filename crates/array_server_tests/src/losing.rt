@@ -1,4 +1,6 @@
 // Sessions that lose devices, and what the next one reads.
+use crate::parts::Part::Text;
+use crate::parts::{Part, ends};
 use crate::stage::{filled_world, pull_drive, reads_fills, session};
 use boot_codec::Members;
 use boot_region::load;
@@ -46,21 +48,25 @@ fn takes_fill(alloc: Global, world: &mut MemWorld) -> Result<bool, Fail> {
 
 /// Whether the third fill is acknowledged though that call on one NVRAM device fails, the record names the other one alone then,
 /// and later sessions read all without the device and with it.
-fn outlives(alloc: Global, device: u8, call: u64) -> Result<bool, Fail> {
-    let mut world = filled_world(alloc)?;
-    fail_nvram(&mut world, device, call)?;
-    if !takes_fill(alloc, &mut world)? {
+fn outlives_in(alloc: Global, world: &mut MemWorld, device: u8, call: u64) -> Result<bool, Fail> {
+    fail_nvram(world, device, call)?;
+    if !takes_fill(alloc, world)? {
         return Ok(false);
     }
-    if members_of(alloc, &mut world)?.nvrams != [device == 1, device == 0] {
+    if members_of(alloc, world)?.nvrams != [device == 1, device == 0] {
         return Ok(false);
     }
     world.pull(Device::Nv(NvId(device % 2)));
-    if !reads_fills(alloc, &mut world, 3)? {
+    if !reads_fills(alloc, world, 3)? {
         return Ok(false);
     }
     world.put_back(Device::Nv(NvId(device % 2)));
-    reads_fills(alloc, &mut world, 3)
+    reads_fills(alloc, world, 3)
+}
+
+/// The same over a filled world.
+fn outlives(alloc: Global, device: u8, call: u64) -> Result<bool, Fail> {
+    outlives_in(alloc, &mut filled_world(alloc)?, device, call)
 }
 
 #[test]
@@ -75,20 +81,20 @@ fn an_nvram_device_fails_in_an_append(rt: HostRuntime) -> Result<(), Fail> {
 
 /// Whether the third fill is answered by `no device` where these calls on both NVRAM devices fail, the next requests by `no halted`,
 /// and a later session reads the array without the fill or with it.
-fn halts(alloc: Global, first: u64, second: u64) -> Result<bool, Fail> {
-    let mut world = filled_world(alloc)?;
-    fail_nvram(&mut world, 0, first)?;
-    fail_nvram(&mut world, 1, second)?;
-    let (status, given) = session(
-        alloc,
-        &mut world,
-        b"fill a 2 1 3\nread a 0 1\ncheckpoint\nstatus\n",
-    )?;
-    let wanted = b"no device\nno halted\nno halted\nno halted\n".as_slice();
-    if status != Status::Halted || given.as_slice() != wanted {
+fn halts_in(alloc: Global, world: &mut MemWorld, first: u64, second: u64) -> Result<bool, Fail> {
+    fail_nvram(world, 0, first)?;
+    fail_nvram(world, 1, second)?;
+    let input = [Text(b"fill a 2 1 3\nread a 0 1\ncheckpoint\nstatus\n")];
+    let output = [Text(b"no device\nno halted\nno halted\nno halted\n")];
+    if !ends(alloc, world, &input, Status::Halted, &output)? {
         return Ok(false);
     }
-    Ok(reads_fills(alloc, &mut world, 2)? || reads_fills(alloc, &mut world, 3)?)
+    Ok(reads_fills(alloc, world, 2)? || reads_fills(alloc, world, 3)?)
+}
+
+/// The same over a filled world.
+fn halts(alloc: Global, first: u64, second: u64) -> Result<bool, Fail> {
+    halts_in(alloc, &mut filled_world(alloc)?, first, second)
 }
 
 #[test]
@@ -145,16 +151,25 @@ fn names_the_rest(
 
 /// Whether the third fill is acknowledged though drives are lost in its store, the record names them no longer then, and a later session reads all
 /// without those drives and the NVRAM device.
-fn outlives_store(alloc: Global, call: u64, second: Second) -> Result<bool, Fail> {
-    let mut world = filled_world(alloc)?;
-    fail_in_store(&mut world, call, second)?;
-    if !takes_fill(alloc, &mut world)? || !names_the_rest(alloc, &mut world, call, second)? {
+fn outlives_store_in(
+    alloc: Global,
+    world: &mut MemWorld,
+    call: u64,
+    second: Second,
+) -> Result<bool, Fail> {
+    fail_in_store(world, call, second)?;
+    if !takes_fill(alloc, world)? || !names_the_rest(alloc, world, call, second)? {
         return Ok(false);
     }
-    pull_drive(&mut world, 3)?;
-    pull_drive(&mut world, 7)?;
+    pull_drive(world, 3)?;
+    pull_drive(world, 7)?;
     world.pull(Device::Nv(NvId(0)));
-    reads_fills(alloc, &mut world, 3)
+    reads_fills(alloc, world, 3)
+}
+
+/// The same over a filled world.
+fn outlives_store(alloc: Global, call: u64, second: Second) -> Result<bool, Fail> {
+    outlives_store_in(alloc, &mut filled_world(alloc)?, call, second)
 }
 
 #[test]
@@ -167,35 +182,40 @@ fn drives_are_lost_in_a_store(rt: HostRuntime) -> Result<(), Fail> {
     Ok(())
 }
 
-/// A session with a checkpoint, at the first write of which so many drives fail.
-fn checkpoint_losing(
+/// Whether a session with a checkpoint, at the first write of which so many drives fail, ends and gives so.
+fn ends_losing(
     alloc: Global,
     world: &mut MemWorld,
     drives: u8,
-) -> Result<(Status, Vec<u8>), Fail> {
+    status: Status,
+    output: &[Part],
+) -> Result<bool, Fail> {
     for drive in 0..drives {
         fail_drive(world, drive, STORE[0])?;
     }
-    session(alloc, world, b"checkpoint\nlist\n")
+    ends(alloc, world, &[Text(b"checkpoint\nlist\n")], status, output)
 }
 
 #[test]
-fn drives_are_lost_in_a_checkpoint(rt: HostRuntime) -> Result<(), Fail> {
+fn two_drives_are_lost_in_a_checkpoint(rt: HostRuntime) -> Result<(), Fail> {
     let alloc = rt.alloc();
     let mut world = filled_world(alloc)?;
-    let (status, given) = checkpoint_losing(alloc, &mut world, 2)?;
-    assert_eq!(rt; status, Status::Done);
-    assert!(rt; given.as_slice() == b"ok\nnames 1\na volume 64\n".as_slice());
+    let output = [Text(b"ok\nnames 1\na volume 64\n")];
+    assert!(rt; ends_losing(alloc, &mut world, 2, Status::Done, &output)?);
     let drives = members_of(alloc, &mut world)?.drives;
     assert_eq!(rt; [drives[0], drives[1], drives[2]], [false, false, true]);
     pull_drive(&mut world, 0)?;
     pull_drive(&mut world, 1)?;
     assert!(rt; reads_fills(alloc, &mut world, 2)?);
-    // A third one is one too many.
+    Ok(())
+}
+
+#[test]
+fn a_third_drive_is_one_too_many_in_a_checkpoint(rt: HostRuntime) -> Result<(), Fail> {
+    let alloc = rt.alloc();
     let mut world = filled_world(alloc)?;
-    let (status, given) = checkpoint_losing(alloc, &mut world, 3)?;
-    assert_eq!(rt; status, Status::Halted);
-    assert!(rt; given.as_slice() == b"no device\nno halted\n".as_slice());
+    let output = [Text(b"no device\nno halted\n")];
+    assert!(rt; ends_losing(alloc, &mut world, 3, Status::Halted, &output)?);
     assert!(rt; reads_fills(alloc, &mut world, 2)?);
     Ok(())
 }

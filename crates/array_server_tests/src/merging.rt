@@ -1,7 +1,7 @@
 // Merges that are asked for: what is answered and left, also where the log isn't empty, and what the next session reads where they are stopped.
 use crate::parts::Part::{Sector, Text, Times};
 use crate::parts::{gives, gives_anew};
-use crate::stage::{cut_off, filling, new_world, pull_drive, reads_fills, session};
+use crate::stage::{cut_off, filling, new_world, pull_two, reads_fills, session};
 use crate::stopping::OPENING;
 use crate::transcripts::PAIRS;
 use std::alloc::Global;
@@ -104,14 +104,11 @@ const MERGE: u64 = 36 + 77;
 /// Whether it goes wrong to stop the merge behind so many calls: what was there has to be there. By turns two drives are away then.
 fn goes_wrong(alloc: Global, calls: u64) -> Result<bool, Fail> {
     let most = OPENING.wrapping_add(PATCHES).wrapping_add(calls);
-    let left = cut_off(alloc, two_patches(alloc)?, b"merge address 0\n", most)?;
-    let mut world = left.world;
+    let mut left = cut_off(alloc, two_patches(alloc)?, b"merge address 0\n", most)?;
     if calls % 2 == 1 {
-        pull_drive(&mut world, 0)?;
-        pull_drive(&mut world, 8)?;
+        pull_two(&mut left.world)?;
     }
-    let is_done = left.given.as_slice() == b"ok\n".as_slice();
-    Ok(is_done == left.is_cut || !reads_fills(alloc, &mut world, FILLS)?)
+    Ok(left.is_ok() == left.is_cut || !reads_fills(alloc, &mut left.world, FILLS)?)
 }
 
 /// Stops the merge so many times, each behind one call more: behind how many that goes wrong.

@@ -41,6 +41,12 @@ pub fn pull_drive(world: &mut MemWorld, drive: u8) -> Result<(), Fail> {
     Ok(())
 }
 
+/// Pulls two drives.
+pub fn pull_two(world: &mut MemWorld) -> Result<(), Fail> {
+    pull_drive(world, 0)?;
+    pull_drive(world, 8)
+}
+
 /// What was given behind so many bytes.
 fn given_since(alloc: Global, world: &MemWorld, before: usize) -> Result<Vec<u8>, Fail> {
     let given = world.output().get(before..).unwrap_or(&[]);
@@ -67,6 +73,13 @@ pub struct Left {
     pub given: Vec<u8>,
     /// Whether it came to the call at which it was to be cut off.
     pub is_cut: bool,
+}
+
+impl Left {
+    /// Whether it gave `ok` alone.
+    pub fn is_ok(&self) -> bool {
+        self.given.as_slice() == b"ok\n".as_slice()
+    }
 }
 
 /// What is left where a session with this input makes so many device calls, and is cut off at the next one.
