@@ -6,6 +6,9 @@ use pur_base::Status;
 /// The exit status where the current folder has no shelf.
 pub const NO_SHELF: u8 = 10;
 
+/// The exit status where another program has the shelf open.
+pub const IN_USE: u8 = 11;
+
 /// The exit status of the program.
 pub fn code_of(status: Status) -> u8
     ensures { result ≡ exit_code status }

@@ -6,7 +6,7 @@ mod command;
 mod ending;
 
 use crate::command::array_main;
-use crate::ending::{NO_SHELF, code_of, text_of};
+use crate::ending::{IN_USE, NO_SHELF, code_of, text_of};
 use pur_base::Status;
 use std::process::ExitCode;
 use std::{env, io};
@@ -38,12 +38,17 @@ fn run(rt: &HostRuntime, files: &mut Files) -> Status {
     }
 }
 
-/// Says on standard error why the program ends, where that isn't well.
+/// Says on standard error why the program ends, and ends it with that exit status.
+fn leave(rt: &HostRuntime, code: u8, text: &str) -> ExitCode {
+    let _ = eprintln!(rt; "array_cli: {text}");
+    ExitCode::from(code)
+}
+
 fn end(rt: &HostRuntime, status: Status) -> ExitCode {
-    if status != Status::Done {
-        let _ = eprintln!(rt; "array_cli: {}", text_of(status));
+    match status {
+        Status::Done => ExitCode::SUCCESS,
+        _ => leave(rt, code_of(status), text_of(status)),
     }
-    ExitCode::from(code_of(status))
 }
 
 fn main(rt: HostRuntime) -> ExitCode {
@@ -53,9 +58,7 @@ fn main(rt: HostRuntime) -> ExitCode {
             end(&rt, status)
         }
         Err(NoShelf::Memory) => end(&rt, Status::Memory),
-        Err(NoShelf::BadText) => {
-            let _ = eprintln!(rt; "array_cli: no shelf");
-            ExitCode::from(NO_SHELF)
-        }
+        Err(NoShelf::BadText) => leave(&rt, NO_SHELF, "no shelf"),
+        Err(NoShelf::InUse) => leave(&rt, IN_USE, "in use"),
     }
 }

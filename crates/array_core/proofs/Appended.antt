@@ -184,7 +184,7 @@ module _ (a m : Shelved) (r : Register) (members now : List Bool) (held : Conten
   long : length most ≡ length held.log + 1
   long = omega (arith, length-append held.log (c ∷ []))
 
-  second : Contains arrays (after_all held.base most)
+  pub second : Contains arrays (after_all held.base most)
   second = (1, omega arith, refl)
 
   fronts : (n : ℕ) → length held.log ≤ n → n ≤ length most → Contains arrays (after_all held.base (take n most))
@@ -203,7 +203,7 @@ module _ (a m : Shelved) (r : Register) (members now : List Bool) (held : Conten
   log_written : WritesLog r members held.log most a m
   log_written = record { continues = p.on; writes = p.writes; drives = p.same; between = p.left }
 
-  stand : LeavesOnly a m (StandsWhateverFails a r arrays)
+  pub stand : LeavesOnly a m (StandsWhateverFails a r arrays)
   stand = log_writes_stand a m p.is p.honest r members held held.log most arrays p.was_open to log_written
 
   -- ---- meanwhile
@@ -230,7 +230,7 @@ module _ (a m : Shelved) (r : Register) (members now : List Bool) (held : Conten
     pub logged_then : StandsInLog m r now (logged held c)
     logged_then = log_writes_leave a m p.is p.honest r members now held held.log most most p.was_open log_written (holds_shows holds) p.accepted
 
-    older : (i : ℕ) → IsMember (drives_of r) i → IsOlder m (next_slot r.record) (spelling r.record) i
+    pub older : (i : ℕ) → IsMember (drives_of r) i → IsOlder m (next_slot r.record) (spelling r.record) i
     older i mem =
         let was : IsOlder a (next_slot r.record) (spelling r.record) i = p.was_open.older i mem (member_sound a p.is p.honest r members held p.was_open i mem) in
         subst (λ (d : Disk). Yields (other_slot (next_slot r.record)) (generation_in (body_in (next_slot r.record) d.bytes)) (generation_in (spelling r.record))) (sym (p.same i)) was
@@ -250,11 +250,11 @@ module _ (a m : Shelved) (r : Register) (members now : List Bool) (held : Conten
             between.alone a p.is p.honest r members held p.was_open stop.image later within bears drive_is slot2 boot2
             (subst (λ (k : Geometry). MayBeGiven k stop.image later slot2 boot2) (sym (same_geometry p.on)) g)
 
-        stands_then : Stands (geometry_of m) stop.image later arrays
+        pub stands_then : Stands (geometry_of m) stop.image later arrays
         stands_then = subst (λ (g : Geometry). Stands g stop.image later arrays) (same_geometry p.on)
             ((stand.each stop (p.is_mid.counts_now a.moment stop p.on.later may)).1 later within bears)
 
-      in_force : IsInForceOn m (drives_of r) later (next_slot r.record) r.record
+      pub in_force : IsInForceOn m (drives_of r) later (next_slot r.record) r.record
       in_force =
           let f = p.was_open.in_force in
           record {

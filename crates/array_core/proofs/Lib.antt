@@ -6,3 +6,4 @@ pub mod Lost
 pub mod Dropped
 pub mod Segments
 pub mod ReadyStands
+mod Outlasts

@@ -1,17 +1,18 @@
 -- What performing a command does to the devices.
 use Rattle.std.specs.Prelude.{◌⊎◌, ℕ, ◌+◌, ◌-◌, ◌^◌, ◌<◌, Bool, List, [], ◌∷◌}
 use Rattle.pur_base.specs.Commands.{Command}
-use Rattle.pur_base.specs.Devices.{IsBearable, nvram, Conditions}
+use Rattle.pur_base.specs.Devices.{IsBearable, IsWithin, nvram, Conditions}
 use Rattle.pur_base.specs.Plain as plain
 use Rattle.boot_codec.specs.declared.record.BootRecord.{BootRecord}
 use Rattle.boot_codec.specs.Record.{set_count}
+use Rattle.array_spec.specs.Standing.{Stands}
 use Rattle.world.specs.Counts.{Rises}
 use Rattle.world.specs.Losing.{geometry_of}
 use Rattle.world.specs.Shelf.{Shelved, Stop}
 use Rattle.boot_region.specs.Members.{DroppedFailed}
 use Rattle.nvram_log.specs.Members.{IsMember}
 use Rattle.register.specs.declared.state.Register.{Register}
-use Rattle.register.specs.Registers.{drives_of}
+use Rattle.register.specs.Registers.{drives_of, named_sound}
 use Rattle.register.specs.Standing.{Content, array_of}
 use Rattle.session_spec.specs.Entering.{IsStanding}
 use Rattle.array_memory.specs.Asked.{AreLeft}
@@ -27,6 +28,12 @@ without_or_with held c = array_of held ∷ array_of (logged held c) ∷ []
 -- at a stop a session can go on with these arrays, in all conditions that agree with the record, as long as what has lost writes by then is borne
 abbrev pub IsKeptAt : Shelved → BootRecord → List plain.Array → Stop → Type 0
 IsKeptAt old boot arrays stop = (now : Conditions) → AgreesWith boot now → IsBearable (geometry_of old) (lost_by old stop now) → IsStanding (geometry_of old) stop.image (lost_by old stop now) arrays
+
+-- At a stop, whatever has failed by then: once the devices answer again with what they hold, these stand for the arrays where no more of those that the record names are taken for missing than is borne.
+pub record StandsOnceBack (old : Shelved) (boot : BootRecord) (arrays : List plain.Array) (stop : Stop) : Type 0 where
+  pub later : Conditions
+  pub within : IsWithin (named_sound boot) later
+  pub stands : Stands (geometry_of old) stop.image later arrays
 
 -- each device that held the log lost a write
 abbrev pub LostLog : Shelved → Shelved → List Bool → Type 0

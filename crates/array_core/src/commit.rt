@@ -18,7 +18,7 @@ ghost use Rattle.array_state.specs.Drives.{SegmentsHold};
 ghost use Rattle.array_state.specs.Ready.{IsArrayOf, logged};
 ghost use Rattle.array_core.specs.declared.performing.PerformFault.TheVariants.{Device};
 ghost use Rattle.array_core.specs.Holding.{DropsFailed, NoneJoins};
-ghost use Rattle.array_core.specs.Performing.{IsLost, IsKeptAt, without_or_with};
+ghost use Rattle.array_core.specs.Performing.{IsLost, IsKeptAt, StandsOnceBack, without_or_with};
 
 use crate::PerformFault;
 use array_state::Array;
@@ -64,6 +64,10 @@ pub(crate) fn commit<S: Shelf>(
         → AllAccepted held.base (held.log ++ record { request = request.now; sectors = sectors.now } ∷ [])
         → AllByRecursion (λ c. is_in_force c.request ≡ true) (held.log ++ record { request = request.now; sectors = sectors.now } ∷ [])
         → LeavesOnly (S.shelf shelf.old) (S.shelf shelf.new) (IsKeptAt (S.shelf shelf.old) array.old.register.record (without_or_with held (record { request = request.now; sectors = sectors.now }))) }
+    ensures outlasts { (S.shelf shelf.old).honest → (held : Content) → IsOpen (S.shelf shelf.old) array.old.register array.old.log.members held → HoldsOn (S.shelf shelf.old) array.old.log.members array.old.log.flushed held.log → Keeps array.old.log held.log
+        → AllAccepted held.base (held.log ++ record { request = request.now; sectors = sectors.now } ∷ [])
+        → AllByRecursion (λ c. is_in_force c.request ≡ true) (held.log ++ record { request = request.now; sectors = sectors.now } ∷ [])
+        → LeavesOnly (S.shelf shelf.old) (S.shelf shelf.new) (StandsOnceBack (S.shelf shelf.old) array.old.register.record (without_or_with held (record { request = request.now; sectors = sectors.now }))) }
 {
     let before = array.log.members();
     array.log.append(&[Record { request, sectors }], shelf)?;

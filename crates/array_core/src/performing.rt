@@ -23,7 +23,7 @@ ghost use Rattle.array_state.specs.Drives.{SegmentsHold};
 ghost use Rattle.array_state.specs.Ready.{IsArrayOf, IsReady, logged};
 ghost use Rattle.array_core.specs.Holding.{DropsFailed, NoneJoins};
 ghost use Rattle.array_core.specs.Losing.{lost_since};
-ghost use Rattle.array_core.specs.Performing.{HasNumbers, IsKeptAt, IsLost, without_or_with};
+ghost use Rattle.array_core.specs.Performing.{HasNumbers, IsKeptAt, StandsOnceBack, IsLost, without_or_with};
 
 use crate::commit::commit;
 use array_memory::Memory;
@@ -121,6 +121,9 @@ pub fn perform<S: Shelf>(
     // At every moment a session can go on, with the array without the command or with it.
     ensures any_moment { (S.shelf shelf.old).honest → (held : Content) → IsReady (S.shelf shelf.old) array.old held
         → LeavesOnly (S.shelf shelf.old) (S.shelf shelf.new) (IsKeptAt (S.shelf shelf.old) array.old.register.record (without_or_with held (record { request = request.now; sectors = sectors.now }))) }
+    // Whatever fails, more than is borne too: at every moment the devices stand for these arrays once they answer again with what they hold.
+    ensures outlasts { (S.shelf shelf.old).honest → (held : Content) → IsReady (S.shelf shelf.old) array.old held
+        → LeavesOnly (S.shelf shelf.old) (S.shelf shelf.new) (StandsOnceBack (S.shelf shelf.old) array.old.register.record (without_or_with held (record { request = request.now; sectors = sectors.now }))) }
     // Where no more is missing than is borne, no device fault is answered.
     ensures borne { (S.shelf shelf.old).honest → OnErr result ((held : Content) → IsReady (S.shelf shelf.old) array.old held
         → IsBearable (geometry_of (S.shelf shelf.old)) (lost_since (S.shelf shelf.old) (S.shelf shelf.new) (named_sound array.old.register.record)) → ⊥) }

@@ -167,7 +167,7 @@ module _ (shelf : Shelved) (members : List Bool) (missing : Conditions) (slot : 
       no_vote : (i : ℕ) → i < shelf.drives → later (drive i) ≡ Sound → is_vote (spelling b) (shown_by slot (start.image (drive i))) ≡ false
       no_vote i lt s = votes_not (shown_by slot (start.image (drive i))) (spelling b)
           (λ x e. differs x (subst (λ (y : List ℕ). Yields (other_slot slot) (generation_in y) (generation_in (spelling held)))
-              (ap (body_in slot) (sym (as_began i lt s)) ∙ shown_body slot (start.image (drive i)) x e) (older i (force.sound i lt (sound_then i s)) s)))
+          (ap (body_in slot) (sym (as_began i lt s)) ∙ shown_body slot (start.image (drive i)) x e) (older i (force.sound i lt (sound_then i s)) s)))
 
   -- what the first phase does to the drives that are sound still
   closes_of : (mid : Stop) → IsLater mid stop → Closes shelf members missing slot (spelling held) start mid → ClosesGatesOf start.image mid.image later slot (spelling held)

@@ -35,7 +35,12 @@ fn check_enough(members: &[bool]) -> Result<(), TooFew>
 /// Stores a record in a slot of each member: its body goes behind closed gates, which are opened then, each step synced on all members before the next.
 /// A gate that reads as closed is not written. A member on which a write or a sync fails is dropped.
 /// Where more than two drives of the shelf would not hold the record it ends, before any gate is opened where that is known by then.
-pub fn store<S: Shelf>(shelf: &mut S, members: &mut [bool], slot: Slot, body: &[u8]) -> Result<(), TooFew>
+pub fn store<S: Shelf>(
+    shelf: &mut S,
+    members: &mut [bool],
+    slot: Slot,
+    body: &[u8],
+) -> Result<(), TooFew>
     requires members { length members.old ≤ (S.shelf shelf.old).drives }
     requires size { length body.now ≡ RECORD_BYTES }
     ensures continues { Continues (S.shelf shelf.old) (S.shelf shelf.new) }

@@ -42,8 +42,8 @@ slot_below a plan ps slot may of =
 
 -- a drive that isn't of the set stays where the patches are written
 pub patches_but : (a b : Shelved) (ps : List Patch) (drives : List Bool) → HoldDrivesOf ps drives → OthersStayOfPatches ps a b → OthersStayBut drives a b
-patches_but a b ps drives has others device none = others device (λ index part shard p at within lt e. none (place_of (places_of_part p part) shard).slot (has index part shard p at within lt) e)
+patches_but a b ps drives has others device none = others device (λ index part shard p at within lt e. none ((place_of (places_of_part p part) shard).slot, has index part shard p at within lt, e))
 
 -- and a device that has no unit stays where drives of the set are synced
 pub but_patches : (a b : Shelved) (ps : List Patch) (drives : List Bool) → ((slot : ℕ) → is_in drives slot ≡ true → IsSlotOf ps slot) → OthersStayBut drives a b → OthersStayOfPatches ps a b
-but_patches a b ps drives only others device none = others device (λ slot is same. let of = only slot is in none of.0 of.1 of.2 of.3 of.4 of.5 of.6 (same ∙ ap drive of.7))
+but_patches a b ps drives only others device none = others device (λ on. let of = only on.0 on.1 in none of.0 of.1 of.2 of.3 of.4 of.5 of.6 (on.2 ∙ ap drive of.7))

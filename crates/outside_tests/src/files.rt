@@ -108,3 +108,15 @@ fn only_texts_of_the_form_tell_a_shape_and_files_that_are_absent_or_of_another_l
     remove_shelf(&rt)?;
     Ok(())
 }
+
+#[test]
+fn a_shelf_is_opened_once_at_a_time(rt: HostRuntime) -> Result<(), Fail> {
+    make_shelf(&rt)?;
+    let files = Files::open(&rt)?;
+    assert_eq!(rt; Files::open(&rt).err(), Some(NoShelf::InUse));
+    assert_eq!(rt; files.drives(), 11);
+    drop(files);
+    assert_eq!(rt; Files::open(&rt).err(), None);
+    remove_shelf(&rt)?;
+    Ok(())
+}

@@ -1,16 +1,16 @@
 -- The newest facts of keys in a row.
-use Rattle.std.proofs.Common.{◌≡◌, ℕ, ◌+◌, ◌<◌, ◌≤◌, true, false, List, [], ◌∷◌, ◌++◌, length, get_or, take, drop, refl, sym, ap, ◌∙◌, arith, inl, inr, Contains, set}
+use Rattle.std.proofs.Common.{◌≡◌, ℕ, zero, suc, ◌+◌, ◌<◌, ◌≤◌, true, false, List, [], ◌∷◌, ◌++◌, length, get_or, take, drop, refl, sym, ap, ◌∙◌, arith, inl, inr, Contains, set}
 use Rattle.std.specs.Prelude.{Option, Some, None, IfSome, ◌==◌}
-use Rattle.std.specs.Option.{option_or}
-use Rattle.std.proofs.lemmas.Bool.{cases_eq, eqb-true, eq-eqb, ne_eqb, lt-ltb}
+use Rattle.std.specs.Option.{is_some, option_or}
+use Rattle.std.proofs.lemmas.Option.{none-some}
+use Rattle.std.proofs.lemmas.Bool.{false≢true, cases_eq, eqb-true, eq-eqb, ne_eqb, lt-ltb}
 use Rattle.std.proofs.lemmas.List.{take_more, take-append-drop, get_or-take, get_or_default, length-take-le, get_or-drop, length-drop, get_or-set_same, get_or-set_other}
-use Rattle.pur_base.specs.Says.{has_key}
+use Rattle.pur_base.specs.Says.{has_key, Ascends}
 use Rattle.pyramid.specs.Layers.{facts_of, newest_of, IsOrdered, AreBelow, Rises}
 use Rattle.pyramid.specs.Merging.{later}
 use Rattle.pyramid.proofs.NewestLemmas.{newest-append, newest_none, newest_found, later_none}
-use Rattle.pyramid.proofs.LayerLemmas.{later_below}
+use Rattle.pyramid.proofs.LayerLemmas.{later_below, below-left}
 use Rattle.pyramid.proofs.SearchLemmas.{rises}
-use Rattle.pyramid.proofs.SpanLemmas.{facts_more, below_next}
 
 pub option_or-assoc : {F : Type 0} (a b c : Option F) → option_or a (option_or b c) ≡ option_or (option_or a b) c
 option_or-assoc None b c = refl
@@ -19,6 +19,16 @@ option_or-assoc (Some x) b c = refl
 pub option_or-none : {F : Type 0} (a b : Option F) → b ≡ None → option_or a b ≡ a
 option_or-none None b e = e
 option_or-none (Some x) b e = refl
+
+-- what isn't there, by its test
+pub by_none : {F : Type 0} (o : Option F) → is_some o ≡ false → o ≡ None
+by_none None e = refl
+by_none (Some x) e = absurd (false≢true (sym e))
+
+-- what is there, by its test
+pub by_some : {F : Type 0} (o : Option F) → is_some o ≡ true → o ≡ None → ⊥
+by_some None e n = absurd (false≢true e)
+by_some (Some x) e n = absurd (none-some x (sym n))
 
 module _ {F : Type 0} (key number : F → ℕ) where
   -- no fact has the key
@@ -108,17 +118,81 @@ module _ {F : Type 0} (key number : F → ℕ) where
         get_or-set_other out p i (Some x) None other ∙ so_far i m ∙ rw miss refl
   ]
 
-  -- a patch more, over what stands there
-  pub over_more : (k : ℕ) (ps : List (List F)) (i : ℕ) (p : List F) (old now new : Option F) → Rises number ps [] → i < length ps → p ≡ get_or ps i p
-      → now ≡ option_or (newest_of key number k (facts_of (take i ps))) old → new ≡ option_or (newest_of key number k p) now
-      → new ≡ option_or (newest_of key number k (facts_of (take (i + 1) ps))) old
-  over_more k ps i p old now new h l is e f =
-      let more : newest_of key number k (facts_of (take (i + 1) ps)) ≡ option_or (newest_of key number k p) (newest_of key number k (facts_of (take i ps))) =
-      ap (newest_of key number k) (facts_more key number ps i p l is) ∙ newer_over k (facts_of (take i ps)) p (below_next key number ps [] i p h l is) in
-      f ∙ ap (λ o. option_or (newest_of key number k p) o) e ∙ option_or-assoc (newest_of key number k p) (newest_of key number k (facts_of (take i ps))) old ∙ rw more refl
+  -- a key of which nothing stands in front, where facts ascend
+  pub none_before : (k : ℕ) (fs : List F) (at : ℕ) (x : F) → Ascends key fs → at < length fs → x ≡ get_or fs at x → key x ≡ k → newest_of key number k (take at fs) ≡ None
+  none_before k fs at x ascends l is e = none_of k (take at fs) (λ j d m same.
+      let short : length (take at fs) ≡ at = length-take-le at fs (omega (arith, l)) in
+      let less : j < at = omega (arith, m, short) in
+      let there : get_or (take at fs) j d ≡ get_or fs j d = get_or-take at fs j d less in
+      let here : get_or fs at d ≡ x = get_or_default fs at d x l ∙ sym is in
+      let up : key (get_or fs j d) < key (get_or fs at d) = ascends j at d less l in
+      let kj : key (get_or fs j d) ≡ k = rw there at same in
+      let kx : key (get_or fs at d) ≡ k = ap key here ∙ e in
+      omega (arith, up, kj, kx))
 
-  -- first nothing, then the flushed facts, then the others
-  pub over_all : (k : ℕ) (fs us : List F) (a b c : Option F) → AreBelow number fs us → a ≡ None → b ≡ option_or (newest_of key number k fs) a → c ≡ option_or (newest_of key number k us) b
+  -- what is filled stays
+  pub filled_stays : (o m : Option F) → (o ≡ None → ⊥) → option_or o m ≡ o
+  filled_stays None m ne = absurd (ne refl)
+  filled_stays (Some x) m ne = refl
+
+  -- a fact put where nothing stood
+  pub put_absent : (fs : List F) (from at p : ℕ) (x : F) (out old : List (Option F)) → Ascends key fs → IsOrdered key number fs → at < length fs → x ≡ get_or fs at x → p < length out → key x ≡ from + p → get_or out p None ≡ None
+      → ((i : ℕ) → i < length out → get_or out i None ≡ option_or (get_or old i None) (newest_of key number (from + i) (take at fs)))
+      → (i : ℕ) → i < length out → get_or (set out p (Some x)) i None ≡ option_or (get_or old i None) (newest_of key number (from + i) (take (at + 1) fs))
+  put_absent fs from at p x out old ascends ordered l is fits here none so_far i m = elim (cases_eq i p) [
+    | inl same ↦
+        let hit : newest_of key number (from + i) (take (at + 1) fs) ≡ Some x = more_same (from + i) fs at x ordered l is (here ∙ ap (λ j. from + j) (sym same)) in
+        let there : get_or (set out p (Some x)) i None ≡ Some x = ap (λ j. get_or (set out p (Some x)) j None) same ∙ get_or-set_same out p (Some x) None fits in
+        let before : newest_of key number (from + p) (take at fs) ≡ None = none_before (from + p) fs at x ascends l is here in
+        let empty : get_or old p None ≡ None = sym (option_or-none (get_or old p None) (newest_of key number (from + p) (take at fs)) before) ∙ sym (so_far p fits) ∙ none in
+        there ∙ rw (hit, same, empty) refl
+    | inr other ↦
+        let miss : newest_of key number (from + i) (take (at + 1) fs) ≡ newest_of key number (from + i) (take at fs) = more_other (from + i) fs at x l is (λ e. other (omega (arith, e, here))) in
+        get_or-set_other out p i (Some x) None other ∙ so_far i m ∙ rw miss refl
+  ]
+
+  -- a fact left out where something stands
+  pub put_present : (fs : List F) (from at p : ℕ) (x : F) (out old : List (Option F)) → Ascends key fs → at < length fs → x ≡ get_or fs at x → p < length out → key x ≡ from + p → (get_or out p None ≡ None → ⊥)
+      → ((i : ℕ) → i < length out → get_or out i None ≡ option_or (get_or old i None) (newest_of key number (from + i) (take at fs)))
+      → (i : ℕ) → i < length out → get_or out i None ≡ option_or (get_or old i None) (newest_of key number (from + i) (take (at + 1) fs))
+  put_present fs from at p x out old ascends l is fits here some so_far i m = elim (cases_eq i p) [
+    | inl same ↦
+        let before : newest_of key number (from + p) (take at fs) ≡ None = none_before (from + p) fs at x ascends l is here in
+        let there : get_or out p None ≡ get_or old p None = so_far p fits ∙ option_or-none (get_or old p None) (newest_of key number (from + p) (take at fs)) before in
+        rw same (there ∙ sym (filled_stays (get_or old p None) (newest_of key number (from + p) (take (at + 1) fs)) (λ e. some (there ∙ e))))
+    | inr other ↦
+        let miss : newest_of key number (from + i) (take (at + 1) fs) ≡ newest_of key number (from + i) (take at fs) = more_other (from + i) fs at x l is (λ e. other (omega (arith, e, here))) in
+        so_far i m ∙ rw miss refl
+  ]
+
+  -- the newest in a patch and those behind it
+  pub newest_from_patch : (k : ℕ) (ps : List (List F)) (us : List F) (i : ℕ) (p : List F) → Rises number ps us → i < length ps → p ≡ get_or ps i p
+      → newest_of key number k (facts_of (drop i ps)) ≡ option_or (newest_of key number k (facts_of (drop (suc i) ps))) (newest_of key number k p)
+  newest_from_patch k [] us i p h l is = absurd (omega (arith, l))
+  newest_from_patch k (q ∷ ps) us zero p h l is = newer_over k q (facts_of ps) (below-left number q (facts_of ps) us h.0) ∙ rw (← is) refl
+  newest_from_patch k (q ∷ ps) us (suc i) p h l is = newest_from_patch k ps us i p h.1 (omega (arith, l)) is
+
+  -- a patch more, under what stands there
+  pub under_more : (k : ℕ) (ps : List (List F)) (us : List F) (i : ℕ) (p : List F) (old now new : Option F) → Rises number ps us → i < length ps → p ≡ get_or ps i p
+      → now ≡ option_or old (newest_of key number k (facts_of (drop (suc i) ps))) → new ≡ option_or now (newest_of key number k p)
+      → new ≡ option_or old (newest_of key number k (facts_of (drop i ps)))
+  under_more k ps us i p old now new h l is e f =
+      f ∙ ap (λ o. option_or o (newest_of key number k p)) e ∙ sym (option_or-assoc old (newest_of key number k (facts_of (drop (suc i) ps))) (newest_of key number k p))
+      ∙ ap (λ o. option_or old o) (sym (newest_from_patch k ps us i p h l is))
+
+  -- what is filled by the newest patches stays, whatever the older ones say
+  pub under_filled : (k : ℕ) (ps : List (List F)) (us : List F) (i : ℕ) (old now : Option F) → Rises number ps us → (now ≡ None → ⊥)
+      → now ≡ option_or old (newest_of key number k (facts_of (drop i ps))) → now ≡ option_or old (newest_of key number k (facts_of ps))
+  under_filled k ps us zero old now h some e = e
+  under_filled k [] us (suc i) old now h some e = e
+  under_filled k (q ∷ ps) us (suc i) old now h some e =
+      let inner : now ≡ option_or old (newest_of key number k (facts_of ps)) = under_filled k ps us i old now h.1 some e in
+      let more : newest_of key number k (q ++ facts_of ps) ≡ option_or (newest_of key number k (facts_of ps)) (newest_of key number k q) = newer_over k q (facts_of ps) (below-left number q (facts_of ps) us h.0) in
+      sym (filled_stays now (newest_of key number k q) some) ∙ ap (λ o. option_or o (newest_of key number k q)) inner
+      ∙ sym (option_or-assoc old (newest_of key number k (facts_of ps)) (newest_of key number k q)) ∙ ap (λ o. option_or old o) (sym more)
+
+  -- first nothing, then the unflushed facts, then the others
+  pub under_all : (k : ℕ) (fs us : List F) (a b c : Option F) → AreBelow number fs us → a ≡ None → b ≡ option_or (newest_of key number k us) a → c ≡ option_or b (newest_of key number k fs)
       → c ≡ newest_of key number k (fs ++ us)
-  over_all k fs us a b c below e f h =
-      h ∙ ap (λ o. option_or (newest_of key number k us) o) (f ∙ option_or-none (newest_of key number k fs) a e) ∙ sym (newer_over k fs us below)
+  under_all k fs us a b c below e f h =
+      h ∙ ap (λ o. option_or o (newest_of key number k fs)) (f ∙ option_or-none (newest_of key number k us) a e) ∙ sym (newer_over k fs us below)

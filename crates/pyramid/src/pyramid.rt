@@ -16,7 +16,7 @@ use crate::patch::{Patch, push_patch, replace_only, replace_pair};
 use crate::prune::prune;
 use crate::range::{gathered, span};
 use crate::search::{id_of, newest_in};
-use crate::walk::{empty_all, put_newest, put_newest_flushed};
+use crate::walk::{empty_all, put_missing_flushed, put_newest};
 use elision::is_within;
 use pur_base::{Fact, NoMemory, Seq};
 use std::alloc::Global;
@@ -157,8 +157,8 @@ impl<F: Fact + Drop> Pyramid<F> {
         ensures { (i : ℕ) → i < length out.new → slice_index_or out.new i None ≡ newest_of F.key F.number (from + i) (facts_in self.now) }
     {
         empty_all(out);
-        put_newest_flushed(&self.patches, from, out);
         put_newest(&self.unflushed, from, out);
+        put_missing_flushed(&self.patches, from, out);
     }
 
     /// The last fact that is said of the keys from the first to the last: two searches a patch for each key that is passed over.

@@ -39,7 +39,7 @@ no_nvram n slot e = cc
 pub reads_places : (a b : Shelved) (places : List Place) → Continues a b → (a.honest → (device : _) → IsSame (a.disk device) (b.disk device)) → (a.honest → WritesOnly NoByte a b) → OthersStayOf places a b → ReadsOnly a b
 reads_places a b places continues same writes others = record {
   continues = continues;
-  nvrams = λ n. others (nvram n) (λ shard low. no_nvram n (place_of places shard).slot);
+  nvrams = λ n. others (nvram n) (λ on. no_nvram n (place_of places on.0).slot on.2);
   same = same;
   writes = writes;
 }

@@ -2,7 +2,7 @@
 ghost use Rattle.std.specs.Prelude.{◌≡◌, ◌≤◌, length};
 ghost use Rattle.pur_base.specs.declared.limits.TheConstants.{SLOTS_MIN, SLOTS_MAX, UNITS_MIN, UNITS_MAX, NVRAM_DEVICES};
 
-use crate::opening::{NoShelf, open_drives, open_nvram, read_shape};
+use crate::opening::{NoShelf, open_drives, open_locked, open_nvram, read_shape};
 use pur_base::Device;
 use std::fs::File;
 use std::io::{Stdin, Stdout};
@@ -13,6 +13,8 @@ use world::{Failed, Shelf, Tallies};
 /// A file that is absent or has another length is a device whose calls fail.
 #[derive(Drop)]
 pub struct Files {
+    /// `shelf.txt`, locked for as long as it is open.
+    pub(crate) lock: File,
     pub(crate) drives: u8,
     pub(crate) units: u16,
     pub(crate) drive_files: Vec<Option<File>>,
@@ -36,15 +38,18 @@ impl Files {
     ghost use Rattle.world.specs.Tallies.{tally_of};
     ghost use Rattle.world.specs.Untold.{untold};
 
-    /// Opens the files for reads and writes, and truncates none of them.
+    /// Opens the files for reads and writes, and truncates none of them. No other program, nor another call here, opens them while
+    /// these are open: it gets `InUse` before it touches a device.
     pub fn open(rt: &HostRuntime) -> Result<Files, NoShelf>
         ensures faults { IfOk result (λ files. (d : Device) → tally_of files.tallies d ≡ none) }
         ensures streams { IfOk result (λ files. (files.source_faults ≡ 0) × (files.sink_faults ≡ 0)) }
     {
-        let Some(shape) = read_shape(rt) else {
+        let lock = open_locked(rt)?;
+        let Some(shape) = read_shape(&lock) else {
             return Err(NoShelf::BadText);
         };
         Ok(Files {
+            lock,
             drives: shape.slots,
             units: shape.units,
             drive_files: open_drives(rt, shape)?,

@@ -5,14 +5,17 @@ use crate::shape::Shape;
 use pur_base::{NVRAM_BYTES, NVRAM_DEVICES, NoMemory, SLOTS_MAX, UNIT_BYTES};
 use std::alloc::Global;
 use std::fs;
-use std::fs::{File, OpenOptions};
+use std::fs::{File, OpenOptions, TryLockError};
+use std::io::ErrorKind;
 use std::os::unix::fs::FileExt;
 
 /// Why there is no shelf.
 #[derive(Clone, Copy, Debug, PartialEq, Eq)]
 pub enum NoShelf {
-    /// `shelf/shelf.txt` can't be read, isn't of its form, or tells a shape out of bounds.
+    /// `shelf/shelf.txt` can't be opened, locked or read, isn't of its form, or tells a shape out of bounds.
     BadText,
+    /// Another program has the shelf open.
+    InUse,
     /// No memory was found.
     Memory,
 }
@@ -77,11 +80,25 @@ fn read_short(file: &File, into: &mut [u8; 16]) -> Option<usize>
     None
 }
 
+/// Opens `shelf.txt` and takes the lock on it, which keeps every other program off the shelf until the file is closed.
+pub(crate) fn open_locked(rt: &HostRuntime) -> Result<File, NoShelf> {
+    let Ok(file) = fs::open(rt, SHAPE) else {
+        return Err(NoShelf::BadText);
+    };
+    match file.try_lock() {
+        Ok(()) => Ok(file),
+        Err(TryLockError::WouldBlock) => Err(NoShelf::InUse),
+        Err(TryLockError::Error(error)) if error.kind() == ErrorKind::OutOfMemory => {
+            Err(NoShelf::Memory)
+        }
+        Err(TryLockError::Error(_)) => Err(NoShelf::BadText),
+    }
+}
+
 /// What `shelf.txt` says.
-pub(crate) fn read_shape(rt: &HostRuntime) -> Option<Shape> {
-    let file = fs::open(rt, SHAPE).ok()?;
+pub(crate) fn read_shape(file: &File) -> Option<Shape> {
     let mut text = [0; 16];
-    let n = read_short(&file, &mut text)?;
+    let n = read_short(file, &mut text)?;
     Shape::read(&text[..n])
 }
 

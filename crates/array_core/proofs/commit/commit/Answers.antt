@@ -6,11 +6,11 @@ use Rattle.pur_base.specs.Plain as plain
 use Rattle.world.specs.Losing.{geometry_of}
 use Rattle.world.specs.Shelf.{Disk, LeavesOnly}
 use Rattle.world.proofs.Moments.{continues_trans}
-use Rattle.boot_region.specs.Storing.{StandsBut}
+use Rattle.boot_region.specs.Storing.{StandsAgain, StandsBut}
 use Rattle.nvram_log.specs.Held.{HoldsOn}
 use Rattle.nvram_log.specs.Slots.{IsLog}
 use Rattle.register.specs.Registers.{IsRegisterOf, drives_of, next_slot}
-use Rattle.register.specs.Standing.{Content, GivesOldOrNext, IsOpen, MayStore, StandsInLog}
+use Rattle.register.specs.Standing.{Content, GivesOldOrNext, IsFirm, IsOpen, MayStore, StandsInLog}
 use Rattle.register.proofs.FlagLemmas.{same_flags, other_flags}
 use Rattle.array_state.specs.declared.array.Array.{Array}
 use Rattle.array_core.specs.declared.performing.PerformFault.{PerformFault}
@@ -22,6 +22,7 @@ use Rattle.array_core.proofs.Losses.{same_geometry}
 use Rattle.array_core.proofs.Lost.{lost_drives, lost_log}
 use Rattle.array_core.proofs.Dropped.{counted_on, drops_failed, fewer_drives, none_joins, rises_little}
 use Rattle.array_core.proofs.Appended.{appending, append_moments, off_nvrams, still_open, logged_then, all_moments}
+use Rattle.array_core.proofs.Outlasts.{append_again, store_again}
 use Rattle.array_core.proofs.Segments.{AreKept, behind_boot, drives_left, hold_fewer, hold_kept, unwritten}
 use Rattle.array_core.proofs.commit.commit.Goals as goal
 
@@ -225,3 +226,67 @@ returns-in_err-append-clause-lost g c =
 
 pub returns-in_err-store-clause-rest : goal.returns-in_err-store-clause-rest
 returns-in_err-store-clause-rest g c = g.met.S.Shelf.shelf_rest_stays.transitive _ _ _ c.append.ensures.ran.rest c.store.ensures.rest
+
+pub returns-in_err-append-clause-outlasts : goal.returns-in_err-append-clause-outlasts
+returns-in_err-append-clause-outlasts g c h held o holds keeps accepted in_force =
+    let a = g.S.Shelf.shelf c.args.shelf.now in
+    let m = g.S.Shelf.shelf c.append.new.shelf in
+    let r = c.args.array.now.register in
+    let log = c.args.array.now.log in
+    let now = c.append.new.self.members in
+    let cmd : Command = record { request = c.args.request.now; sectors = c.args.sectors.now } in
+    let x = c.append.ensures in
+    let p = appending a m r log now held cmd (g.met.S.Shelf.is_shelf c.args.shelf.now) (g.met.S.Shelf.is_shelf c.append.new.shelf) h x.ran.on.continues o keeps c.requires.room c.requires.is_of.flushed accepted
+    (λ i. x.ran.on.others (drive i) (λ none. none)) x.fewer x.dropped (x.any_moment h held.log keeps holds) (x.ran.on.writes h) (x.spelled 0 _ refl) in_force in
+    append_again a m r log.members now held cmd p
+
+pub returns-then-eq-clause-outlasts : goal.returns-then-eq-clause-outlasts
+returns-then-eq-clause-outlasts g c h held o holds keeps accepted in_force =
+    let a = g.S.Shelf.shelf c.args.shelf.now in
+    let m = g.S.Shelf.shelf c.append.new.shelf in
+    let r = c.args.array.now.register in
+    let log = c.args.array.now.log in
+    let now = c.append.new.self.members in
+    let cmd : Command = record { request = c.args.request.now; sectors = c.args.sectors.now } in
+    let x = c.append.ensures in
+    let p = appending a m r log now held cmd (g.met.S.Shelf.is_shelf c.args.shelf.now) (g.met.S.Shelf.is_shelf c.append.new.shelf) h x.ran.on.continues o keeps c.requires.room c.requires.is_of.flushed accepted
+    (λ i. x.ran.on.others (drive i) (λ none. none)) x.fewer x.dropped (x.any_moment h held.log keeps holds) (x.ran.on.writes h) (x.spelled 0 _ refl) in_force in
+    append_again a m r log.members now held cmd p
+
+pub returns-in_err-store-clause-outlasts : goal.returns-in_err-store-clause-outlasts
+returns-in_err-store-clause-outlasts g c h held o holds keeps accepted in_force =
+    let a = g.S.Shelf.shelf c.args.shelf.now in
+    let m = g.S.Shelf.shelf c.append.new.shelf in
+    let r = c.args.array.now.register in
+    let log = c.args.array.now.log in
+    let now = c.append.new.self.members in
+    let cmd : Command = record { request = c.args.request.now; sectors = c.args.sectors.now } in
+    let x = c.append.ensures in
+    let p = appending a m r log now held cmd (g.met.S.Shelf.is_shelf c.args.shelf.now) (g.met.S.Shelf.is_shelf c.append.new.shelf) h x.ran.on.continues o keeps c.requires.room c.requires.is_of.flushed accepted
+    (λ i. x.ran.on.others (drive i) (λ none. none)) x.fewer x.dropped (x.any_moment h held.log keeps holds) (x.ran.on.writes h) (x.spelled 0 _ refl) in_force in
+    let n = g.S.Shelf.shelf c.store.new.shelf in
+    let room : c.store.new.self.record.generation < 2 ^ 48 - 8 = omega (arith, c.store.ensures.few, c.requires.not_spent) in
+    let held_then : HoldsOn m now r.record.flushed (held.log ++ cmd ∷ []) = subst (λ (f : ℕ). HoldsOn m now f (held.log ++ cmd ∷ [])) (x.flushed ∙ c.requires.is_of.flushed) (c.in_ok-append.ensures.holds h held.log keeps holds) in
+    let storing : (missing : Conditions) (k : Content) (others : List plain.Array) → MayStore m r now missing k others → IsFirm m r missing → LeavesOnly m n (StandsAgain m missing others) =
+    subst (λ (l : List Bool). (missing : Conditions) (k : Content) (others : List plain.Array) → MayStore m r l missing k others → IsFirm m r missing → LeavesOnly m n (StandsAgain m missing others))
+    c.members-members.ensures (c.store.ensures.outlasts (x.ran.on.continues.honest h) room) in
+    store_again a m r log.members now held cmd p held_then c.in_ok-append.ensures.ok.1 n storing
+
+pub returns-clause-outlasts : goal.returns-clause-outlasts
+returns-clause-outlasts g c h held o holds keeps accepted in_force =
+    let a = g.S.Shelf.shelf c.args.shelf.now in
+    let m = g.S.Shelf.shelf c.append.new.shelf in
+    let r = c.args.array.now.register in
+    let log = c.args.array.now.log in
+    let now = c.append.new.self.members in
+    let cmd : Command = record { request = c.args.request.now; sectors = c.args.sectors.now } in
+    let x = c.append.ensures in
+    let p = appending a m r log now held cmd (g.met.S.Shelf.is_shelf c.args.shelf.now) (g.met.S.Shelf.is_shelf c.append.new.shelf) h x.ran.on.continues o keeps c.requires.room c.requires.is_of.flushed accepted
+    (λ i. x.ran.on.others (drive i) (λ none. none)) x.fewer x.dropped (x.any_moment h held.log keeps holds) (x.ran.on.writes h) (x.spelled 0 _ refl) in_force in
+    let n = g.S.Shelf.shelf c.store.new.shelf in
+    let room : c.store.new.self.record.generation < 2 ^ 48 - 8 = omega (arith, c.store.ensures.few, c.requires.not_spent) in
+    let held_then : HoldsOn m now r.record.flushed (held.log ++ cmd ∷ []) = subst (λ (f : ℕ). HoldsOn m now f (held.log ++ cmd ∷ [])) (x.flushed ∙ c.requires.is_of.flushed) (c.in_ok-append.ensures.holds h held.log keeps holds) in
+    let storing : (missing : Conditions) (k : Content) (others : List plain.Array) → MayStore m r now missing k others → IsFirm m r missing → LeavesOnly m n (StandsAgain m missing others) =
+    subst (λ (l : List Bool). (missing : Conditions) (k : Content) (others : List plain.Array) → MayStore m r l missing k others → IsFirm m r missing → LeavesOnly m n (StandsAgain m missing others))
+    c.members-members.ensures (c.store.ensures.outlasts (x.ran.on.continues.honest h) room) in
+    store_again a m r log.members now held cmd p held_then c.in_ok-append.ensures.ok.1 n storing

@@ -111,3 +111,15 @@ pub returns-clause-segments : goal.returns-clause-segments
 returns-clause-segments g c h contents hold id index d is placed =
     let same = same_segments_since c.args.array.now.memory c.commit.new.array.memory c.apply.new.memory c.commit.ensures.memory c.apply.ensures.segments in
     c.in_ok-commit.ensures.segments h contents hold id index d (sym (same id) ∙ is) placed
+
+pub returns-in_err-commit-clause-outlasts : goal.returns-in_err-commit-clause-outlasts
+returns-in_err-commit-clause-outlasts g c h held ready =
+    let cmd : Command = record { request = c.args.request.now; sectors = c.args.sectors.now } in
+    let fine : Accepts (array_of held) cmd = accepted ready.contents c.args.array.now.memory (array_of held) c.kept.ensures ready.reads c.args.request.now c.args.sectors.now c.requires.allowed in
+    c.commit.ensures.outlasts h held ready.is_open ready.held_log ready.keeps (accept_last held.base held.log cmd ready.is_open.logged.accepted fine) (all_and_last held.log cmd ready.in_force c.requires.in_force)
+
+pub returns-clause-outlasts : goal.returns-clause-outlasts
+returns-clause-outlasts g c h held ready =
+    let cmd : Command = record { request = c.args.request.now; sectors = c.args.sectors.now } in
+    let fine : Accepts (array_of held) cmd = accepted ready.contents c.args.array.now.memory (array_of held) c.kept.ensures ready.reads c.args.request.now c.args.sectors.now c.requires.allowed in
+    c.commit.ensures.outlasts h held ready.is_open ready.held_log ready.keeps (accept_last held.base held.log cmd ready.is_open.logged.accepted fine) (all_and_last held.log cmd ready.in_force c.requires.in_force)

@@ -1,6 +1,6 @@
 use Rattle.std.proofs.Common.{◌≡◌, ◌∙◌, inl, inr, ℕ, ◌+◌, ◌-◌, ◌^◌, ◌<◌, [], List, Bool, Result, IfErr, arith, sym, ap, subst}
 use Rattle.std.proofs.lemmas.Result.{err_from_is_err_and}
-use Rattle.pur_base.specs.Devices.{nvram}
+use Rattle.pur_base.specs.Devices.{drive, nvram}
 use Rattle.boot_codec.specs.declared.record.BootRecord.{BootRecord}
 use Rattle.world.proofs.Moments.{continues_refl}
 use Rattle.world.proofs.Writes.{writes_then, writes_more}
@@ -25,7 +25,7 @@ returns-in_err-clear-clause-any_moment g c h commands next o empty keeps holds =
     let log = c.args.log.now in
     let x = c.clear.ensures in
     clear_moments a m r log.members c.clear.new.self.members next
-    (clearing a m r log c.clear.new.self.members commands next (g.met.S.Shelf.is_shelf c.args.shelf.now) (g.met.S.Shelf.is_shelf c.clear.new.shelf) h x.continues o empty x.drives x.fewer x.dropped (x.none_later h commands keeps holds) (x.writes h) c.requires.flushed keeps)
+    (clearing a m r log c.clear.new.self.members commands next (g.met.S.Shelf.is_shelf c.args.shelf.now) (g.met.S.Shelf.is_shelf c.clear.new.shelf) h x.ran.on.continues o empty (λ i. x.ran.on.others (drive i) (λ none. none)) x.fewer x.dropped (x.none_later h commands keeps holds) (x.ran.on.writes h) c.requires.flushed keeps)
 
 pub returns-then-eq-clause-any_moment : goal.returns-then-eq-clause-any_moment
 returns-then-eq-clause-any_moment g c h commands next o empty keeps holds =
@@ -35,7 +35,7 @@ returns-then-eq-clause-any_moment g c h commands next o empty keeps holds =
     let log = c.args.log.now in
     let x = c.clear.ensures in
     clear_moments a m r log.members c.clear.new.self.members next
-    (clearing a m r log c.clear.new.self.members commands next (g.met.S.Shelf.is_shelf c.args.shelf.now) (g.met.S.Shelf.is_shelf c.clear.new.shelf) h x.continues o empty x.drives x.fewer x.dropped (x.none_later h commands keeps holds) (x.writes h) c.requires.flushed keeps)
+    (clearing a m r log c.clear.new.self.members commands next (g.met.S.Shelf.is_shelf c.args.shelf.now) (g.met.S.Shelf.is_shelf c.clear.new.shelf) h x.ran.on.continues o empty (λ i. x.ran.on.others (drive i) (λ none. none)) x.fewer x.dropped (x.none_later h commands keeps holds) (x.ran.on.writes h) c.requires.flushed keeps)
 
 pub returns-then-eq-clause-held : goal.returns-then-eq-clause-held
 returns-then-eq-clause-held g c h commands next o empty keeps holds =
@@ -45,7 +45,7 @@ returns-then-eq-clause-held g c h commands next o empty keeps holds =
     let log = c.args.log.now in
     let now = c.clear.new.self.members in
     let x = c.clear.ensures in
-    let p = clearing a m r log now commands next (g.met.S.Shelf.is_shelf c.args.shelf.now) (g.met.S.Shelf.is_shelf c.clear.new.shelf) h x.continues o empty x.drives x.fewer x.dropped (x.none_later h commands keeps holds) (x.writes h) c.requires.flushed keeps in
+    let p = clearing a m r log now commands next (g.met.S.Shelf.is_shelf c.args.shelf.now) (g.met.S.Shelf.is_shelf c.clear.new.shelf) h x.ran.on.continues o empty (λ i. x.ran.on.others (drive i) (λ none. none)) x.fewer x.dropped (x.none_later h commands keeps holds) (x.ran.on.writes h) c.requires.flushed keeps in
     let held_then : HoldsOn m now r.record.flushed [] = subst (λ (f : ℕ). HoldsOn m now f []) (c.in_ok-clear.ensures.ok.0 ∙ sym c.requires.flushed) (c.in_ok-clear.ensures.holds h commands keeps holds) in
     let same : now ≡ log.members = sym c.members-members.ensures ∙ same_flags c.members-members.result c.members-before.result c.if-eq.ensures ∙ c.members-before.ensures in
     (still_open a m r log.members now next p held_then same, c.in_ok-clear.ensures.holds h commands keeps holds)
@@ -53,12 +53,12 @@ returns-then-eq-clause-held g c h commands next o empty keeps holds =
 pub returns-in_err-store-clause-writes : goal.returns-in_err-store-clause-writes
 returns-in_err-store-clause-writes g c h =
     let x = c.clear.ensures in
-    writes_then x.continues (writes_more (λ d i w. inr w) (x.writes h)) (writes_more (λ d i w. inl w) (c.store.ensures.writes (x.continues.honest h)))
+    writes_then x.ran.on.continues (writes_more (λ d i w. inr w) (x.ran.on.writes h)) (writes_more (λ d i w. inl w) (c.store.ensures.writes (x.ran.on.continues.honest h)))
 
 pub returns-clause-writes : goal.returns-clause-writes
 returns-clause-writes g c h =
     let x = c.clear.ensures in
-    writes_then x.continues (writes_more (λ d i w. inr w) (x.writes h)) (writes_more (λ d i w. inl w) (c.store.ensures.writes (x.continues.honest h)))
+    writes_then x.ran.on.continues (writes_more (λ d i w. inr w) (x.ran.on.writes h)) (writes_more (λ d i w. inl w) (c.store.ensures.writes (x.ran.on.continues.honest h)))
 
 pub returns-in_err-store-clause-lost : goal.returns-in_err-store-clause-lost
 returns-in_err-store-clause-lost g c =
@@ -70,7 +70,7 @@ returns-in_err-store-clause-lost g c =
     let q = err_from_is_err_and c.from_residual-in_err-store.result c.from_residual-in_err-store.ensures.1 in
     let dropped : DroppedFailed a n (drives_of r) (drives_of now) = λ i mem. elim (c.store.ensures.dropped i mem) [
       | inl is ↦ inl is
-      | inr rose ↦ inr (rises_since a m n n c.clear.ensures.continues (continues_refl n) i rose)
+      | inr rose ↦ inr (rises_since a m n n c.clear.ensures.ran.on.continues (continues_refl n) i rose)
     ] in
     let low : now.record.generation + 1 < 2 ^ 48 = omega (arith, c.store.ensures.few, c.requires.not_spent) in
     let lost : IsTooMuch a n r c.args.log.now.members =
@@ -87,9 +87,9 @@ returns-in_err-store-clause-any_moment g c h commands next o empty keeps holds =
     let now = c.clear.new.self.members in
     let x = c.clear.ensures in
     let room : c.store.new.self.record.generation < 2 ^ 48 - 8 = omega (arith, c.store.ensures.few, c.requires.not_spent) in
-    let p = clearing a m r log now commands next (g.met.S.Shelf.is_shelf c.args.shelf.now) (g.met.S.Shelf.is_shelf c.clear.new.shelf) h x.continues o empty x.drives x.fewer x.dropped (x.none_later h commands keeps holds) (x.writes h) c.requires.flushed keeps in
+    let p = clearing a m r log now commands next (g.met.S.Shelf.is_shelf c.args.shelf.now) (g.met.S.Shelf.is_shelf c.clear.new.shelf) h x.ran.on.continues o empty (λ i. x.ran.on.others (drive i) (λ none. none)) x.fewer x.dropped (x.none_later h commands keeps holds) (x.ran.on.writes h) c.requires.flushed keeps in
     let held_then : HoldsOn m now r.record.flushed [] = subst (λ (f : ℕ). HoldsOn m now f []) (c.in_ok-clear.ensures.ok.0 ∙ sym c.requires.flushed) (c.in_ok-clear.ensures.holds h commands keeps holds) in
-    all_moments a m n r log.members now c.members-members.result next p held_then c.members-members.ensures (c.store.ensures.writes (x.continues.honest h)) (c.store.ensures.any_moment (x.continues.honest h) room) (c.store.ensures.gives (x.continues.honest h) room)
+    all_moments a m n r log.members now c.members-members.result next p held_then c.members-members.ensures (c.store.ensures.writes (x.ran.on.continues.honest h)) (c.store.ensures.any_moment (x.ran.on.continues.honest h) room) (c.store.ensures.gives (x.ran.on.continues.honest h) room)
 
 pub returns-clause-any_moment : goal.returns-clause-any_moment
 returns-clause-any_moment g c h commands next o empty keeps holds =
@@ -101,9 +101,9 @@ returns-clause-any_moment g c h commands next o empty keeps holds =
     let now = c.clear.new.self.members in
     let x = c.clear.ensures in
     let room : c.store.new.self.record.generation < 2 ^ 48 - 8 = omega (arith, c.store.ensures.few, c.requires.not_spent) in
-    let p = clearing a m r log now commands next (g.met.S.Shelf.is_shelf c.args.shelf.now) (g.met.S.Shelf.is_shelf c.clear.new.shelf) h x.continues o empty x.drives x.fewer x.dropped (x.none_later h commands keeps holds) (x.writes h) c.requires.flushed keeps in
+    let p = clearing a m r log now commands next (g.met.S.Shelf.is_shelf c.args.shelf.now) (g.met.S.Shelf.is_shelf c.clear.new.shelf) h x.ran.on.continues o empty (λ i. x.ran.on.others (drive i) (λ none. none)) x.fewer x.dropped (x.none_later h commands keeps holds) (x.ran.on.writes h) c.requires.flushed keeps in
     let held_then : HoldsOn m now r.record.flushed [] = subst (λ (f : ℕ). HoldsOn m now f []) (c.in_ok-clear.ensures.ok.0 ∙ sym c.requires.flushed) (c.in_ok-clear.ensures.holds h commands keeps holds) in
-    all_moments a m n r log.members now c.members-members.result next p held_then c.members-members.ensures (c.store.ensures.writes (x.continues.honest h)) (c.store.ensures.any_moment (x.continues.honest h) room) (c.store.ensures.gives (x.continues.honest h) room)
+    all_moments a m n r log.members now c.members-members.result next p held_then c.members-members.ensures (c.store.ensures.writes (x.ran.on.continues.honest h)) (c.store.ensures.any_moment (x.ran.on.continues.honest h) room) (c.store.ensures.gives (x.ran.on.continues.honest h) room)
 
 pub returns-clause-held : goal.returns-clause-held
 returns-clause-held g c h commands next o empty keeps holds =
@@ -115,11 +115,11 @@ returns-clause-held g c h commands next o empty keeps holds =
     let now = c.clear.new.self.members in
     let x = c.clear.ensures in
     let room : c.store.new.self.record.generation < 2 ^ 48 - 8 = omega (arith, c.store.ensures.few, c.requires.not_spent) in
-    let p = clearing a m r log now commands next (g.met.S.Shelf.is_shelf c.args.shelf.now) (g.met.S.Shelf.is_shelf c.clear.new.shelf) h x.continues o empty x.drives x.fewer x.dropped (x.none_later h commands keeps holds) (x.writes h) c.requires.flushed keeps in
+    let p = clearing a m r log now commands next (g.met.S.Shelf.is_shelf c.args.shelf.now) (g.met.S.Shelf.is_shelf c.clear.new.shelf) h x.ran.on.continues o empty (λ i. x.ran.on.others (drive i) (λ none. none)) x.fewer x.dropped (x.none_later h commands keeps holds) (x.ran.on.writes h) c.requires.flushed keeps in
     let holds_now = c.in_ok-clear.ensures.holds h commands keeps holds in
     let held_then : HoldsOn m now r.record.flushed [] = subst (λ (f : ℕ). HoldsOn m now f []) (c.in_ok-clear.ensures.ok.0 ∙ sym c.requires.flushed) holds_now in
     let stored : IsOpen n c.store.new.self c.members-members.result next =
-    c.in_ok-store.ensures.stored (x.continues.honest h) room next (subst (λ (l : List Bool). StandsInLog m r l next) (sym c.members-members.ensures) (logged_left a m r log.members now next p held_then)) in (
+    c.in_ok-store.ensures.stored (x.ran.on.continues.honest h) room next (subst (λ (l : List Bool). StandsInLog m r l next) (sym c.members-members.ensures) (logged_left a m r log.members now next p held_then)) in (
       subst (λ (l : List Bool). IsOpen n c.store.new.self l next) c.members-members.ensures stored,
       still_holds m n now c.clear.new.self.flushed [] (λ k. c.store.ensures.others (nvram k) (λ z. z)) holds_now,
     )

@@ -1,6 +1,7 @@
 use Rattle.std.proofs.Common.{◌≡◌, rules, List, Bool, Err, length, sym, subst}
 use Rattle.std.proofs.lemmas.Result.{err_from_is_err_and}
 use Rattle.boot_region.proofs.LoadingLemmas.{if_err}
+use Rattle.pur_base.specs.Devices.{drive, nvram}
 use Rattle.world.proofs.Moments.{continues_trans}
 use Rattle.nvram_log.specs.Read.{AllFailed}
 use Rattle.takeover.specs.declared.log.LogFault.{LogFault}
@@ -51,7 +52,7 @@ returns-in_err-settle-clause-any_moment g c h x missing arrays ps base same_nvra
     let r = was_read a m x missing arrays ps base c.args.nvrams c.args.flushed log made.count c.args.memory made.memory (g.met.S.Shelf.is_shelf c.args.shelf.now) (g.met.S.Shelf.is_shelf c.read_synced.new.shelf) h on (c.read_synced.ensures.writes h)
     c.read_synced.ensures.drives same_nvrams same_flushed found has c.in_ok-log.ensures.members.0 c.in_ok-log.ensures.counted (c.in_ok-log.ensures.clean h) c.in_ok-log.ensures.flushed c.in_ok-log.ensures.log (c.in_ok-log.ensures.seen h)
     c.in_ok-made.ensures.within c.in_ok-made.ensures.ok in
-    while_opening a m n x missing arrays ps base log made.count r c.settle.ensures.continues (c.settle.ensures.writes (on.honest h)) (c.settle.ensures.any_moment (on.honest h))
+    while_opening a m n x missing arrays ps base log made.count r c.settle.ensures.ran.on.continues (c.settle.ensures.ran.on.writes (on.honest h)) (c.settle.ensures.any_moment (on.honest h))
 
 pub returns-in_err-settle-clause-opened : goal.returns-in_err-settle-clause-opened
 returns-in_err-settle-clause-opened g c h x missing arrays ps base same_nvrams same_flushed found has borne =
@@ -64,8 +65,8 @@ returns-in_err-settle-clause-opened g c h x missing arrays ps base same_nvrams s
     let r = was_read a m x missing arrays ps base c.args.nvrams c.args.flushed log made.count c.args.memory made.memory (g.met.S.Shelf.is_shelf c.args.shelf.now) (g.met.S.Shelf.is_shelf c.read_synced.new.shelf) h on (c.read_synced.ensures.writes h)
     c.read_synced.ensures.drives same_nvrams same_flushed found has c.in_ok-log.ensures.members.0 c.in_ok-log.ensures.counted (c.in_ok-log.ensures.clean h) c.in_ok-log.ensures.flushed c.in_ok-log.ensures.log (c.in_ok-log.ensures.seen h)
     c.in_ok-made.ensures.within c.in_ok-made.ensures.ok in
-    absurd (not_lost a m n x missing arrays ps base log made.count r c.settle.ensures.continues (c.settle.ensures.writes (on.honest h)) (c.settle.ensures.any_moment (on.honest h)) (g.met.S.Shelf.is_shelf c.settle.new.shelf)
-    c.settle.ensures.drives c.settle.new.self.members c.settle.ensures.fewer c.settle.ensures.counted borne c.in_err-settle.ensures.err.1)
+    absurd (not_lost a m n x missing arrays ps base log made.count r c.settle.ensures.ran.on.continues (c.settle.ensures.ran.on.writes (on.honest h)) (c.settle.ensures.any_moment (on.honest h)) (g.met.S.Shelf.is_shelf c.settle.new.shelf)
+    (λ i. c.settle.ensures.ran.on.others (drive i) (λ none. none)) c.settle.new.self.members c.settle.ensures.fewer c.settle.ensures.counted borne c.in_err-settle.ensures.err.1)
 
 pub returns-clause-any_moment : goal.returns-clause-any_moment
 returns-clause-any_moment g c h x missing arrays ps base same_nvrams same_flushed found has =
@@ -78,7 +79,7 @@ returns-clause-any_moment g c h x missing arrays ps base same_nvrams same_flushe
     let r = was_read a m x missing arrays ps base c.args.nvrams c.args.flushed log made.count c.args.memory made.memory (g.met.S.Shelf.is_shelf c.args.shelf.now) (g.met.S.Shelf.is_shelf c.read_synced.new.shelf) h on (c.read_synced.ensures.writes h)
     c.read_synced.ensures.drives same_nvrams same_flushed found has c.in_ok-log.ensures.members.0 c.in_ok-log.ensures.counted (c.in_ok-log.ensures.clean h) c.in_ok-log.ensures.flushed c.in_ok-log.ensures.log (c.in_ok-log.ensures.seen h)
     c.in_ok-made.ensures.within c.in_ok-made.ensures.ok in
-    while_opening a m n x missing arrays ps base log made.count r c.settle.ensures.continues (c.settle.ensures.writes (on.honest h)) (c.settle.ensures.any_moment (on.honest h))
+    while_opening a m n x missing arrays ps base log made.count r c.settle.ensures.ran.on.continues (c.settle.ensures.ran.on.writes (on.honest h)) (c.settle.ensures.any_moment (on.honest h))
 
 pub returns-clause-opened : goal.returns-clause-opened
 returns-clause-opened g c h x missing arrays ps base same_nvrams same_flushed found has borne =
@@ -91,20 +92,20 @@ returns-clause-opened g c h x missing arrays ps base same_nvrams same_flushed fo
     let r = was_read a m x missing arrays ps base c.args.nvrams c.args.flushed log made.count c.args.memory made.memory (g.met.S.Shelf.is_shelf c.args.shelf.now) (g.met.S.Shelf.is_shelf c.read_synced.new.shelf) h on (c.read_synced.ensures.writes h)
     c.read_synced.ensures.drives same_nvrams same_flushed found has c.in_ok-log.ensures.members.0 c.in_ok-log.ensures.counted (c.in_ok-log.ensures.clean h) c.in_ok-log.ensures.flushed c.in_ok-log.ensures.log (c.in_ok-log.ensures.seen h)
     c.in_ok-made.ensures.within c.in_ok-made.ensures.ok in
-    let writes = c.settle.ensures.writes (on.honest h) in
+    let writes = c.settle.ensures.ran.on.writes (on.honest h) in
     let moments = c.settle.ensures.any_moment (on.honest h) in
     let is_new = g.met.S.Shelf.is_shelf c.settle.new.shelf in
-    let bears = bears_mid a m n x missing arrays ps base log made.count r c.settle.ensures.continues writes moments is_new c.settle.ensures.drives c.settle.new.self.members c.settle.ensures.fewer c.settle.ensures.counted borne in
-    opened a m n x missing arrays ps base log made.count r c.settle.ensures.continues writes moments is_new
-    c.settle.ensures.drives c.settle.new.self.members c.settle.ensures.fewer c.settle.ensures.counted borne (record { log = c.settle.new.self; memory = made.memory }) (λ i. c.settle.new.self.members) c.in_ok-settle.ensures.ok.1 c.settle.ensures.flushed
+    let bears = bears_mid a m n x missing arrays ps base log made.count r c.settle.ensures.ran.on.continues writes moments is_new (λ i. c.settle.ensures.ran.on.others (drive i) (λ none. none)) c.settle.new.self.members c.settle.ensures.fewer c.settle.ensures.counted borne in
+    opened a m n x missing arrays ps base log made.count r c.settle.ensures.ran.on.continues writes moments is_new
+    (λ i. c.settle.ensures.ran.on.others (drive i) (λ none. none)) c.settle.new.self.members c.settle.ensures.fewer c.settle.ensures.counted borne (record { log = c.settle.new.self; memory = made.memory }) (λ i. c.settle.new.self.members) c.in_ok-settle.ensures.ok.1 c.settle.ensures.flushed
     (c.in_ok-settle.ensures.keeps r.read.commands r.read.keeps)
     (c.in_ok-settle.ensures.holds (on.honest h) r.read.commands r.read.keeps r.seen (agree a m n x missing arrays ps base log made.count r bears))
 
 pub returns-in_err-settle-clause-continues : goal.returns-in_err-settle-clause-continues
-returns-in_err-settle-clause-continues g c = continues_trans c.read_synced.ensures.continues c.settle.ensures.continues
+returns-in_err-settle-clause-continues g c = continues_trans c.read_synced.ensures.continues c.settle.ensures.ran.on.continues
 
 pub returns-clause-continues : goal.returns-clause-continues
-returns-clause-continues g c = continues_trans c.read_synced.ensures.continues c.settle.ensures.continues
+returns-clause-continues g c = continues_trans c.read_synced.ensures.continues c.settle.ensures.ran.on.continues
 
 pub returns-in_err-log-clause-writes : goal.returns-in_err-log-clause-writes
 returns-in_err-log-clause-writes g c h = reads_only c.args.nvrams (c.read_synced.ensures.writes h)
@@ -115,12 +116,12 @@ returns-in_err-made-clause-writes g c h = reads_only c.args.nvrams (c.read_synce
 pub returns-in_err-settle-clause-writes : goal.returns-in_err-settle-clause-writes
 returns-in_err-settle-clause-writes g c h =
     let on = c.read_synced.ensures.continues in
-    settles_only c.args.nvrams c.in_ok-log.log.members c.in_ok-log.ensures.members.0 on (c.read_synced.ensures.writes h) (c.settle.ensures.writes (on.honest h))
+    settles_only c.args.nvrams c.in_ok-log.log.members c.in_ok-log.ensures.members.0 on (c.read_synced.ensures.writes h) (c.settle.ensures.ran.on.writes (on.honest h))
 
 pub returns-clause-writes : goal.returns-clause-writes
 returns-clause-writes g c h =
     let on = c.read_synced.ensures.continues in
-    settles_only c.args.nvrams c.in_ok-log.log.members c.in_ok-log.ensures.members.0 on (c.read_synced.ensures.writes h) (c.settle.ensures.writes (on.honest h))
+    settles_only c.args.nvrams c.in_ok-log.log.members c.in_ok-log.ensures.members.0 on (c.read_synced.ensures.writes h) (c.settle.ensures.ran.on.writes (on.honest h))
 
 pub returns-in_err-log-clause-err : goal.returns-in_err-log-clause-err
 returns-in_err-log-clause-err g c =
@@ -142,7 +143,7 @@ returns-in_err-settle-clause-err g c =
     let m = g.S.Shelf.shelf c.read_synced.new.shelf in
     let n = g.S.Shelf.shelf c.settle.new.shelf in
     if_err c.from_residual-in_err-settle.result _ _ c.from_residual-in_err-settle.ensures.1 (λ f is. subst (λ (k : LogFault). IsLogFault k a n c.args.nvrams c.args.flushed) (sym is)
-    (both_lost a m n c.args.nvrams c.in_ok-log.log.members c.settle.new.self.members c.read_synced.ensures.continues c.settle.ensures.continues c.in_ok-log.ensures.counted c.settle.ensures.counted c.in_err-settle.ensures.err.1))
+    (both_lost a m n c.args.nvrams c.in_ok-log.log.members c.settle.new.self.members c.read_synced.ensures.continues c.settle.ensures.ran.on.continues c.in_ok-log.ensures.counted c.settle.ensures.counted c.in_err-settle.ensures.err.1))
 
 pub returns-in_err-log-clause-moments : goal.returns-in_err-log-clause-moments
 returns-in_err-log-clause-moments g c h = showed.counted_reading (c.read_synced.ensures.writes h)
@@ -153,12 +154,12 @@ returns-in_err-made-clause-moments g c h = showed.counted_reading (c.read_synced
 pub returns-in_err-settle-clause-moments : goal.returns-in_err-settle-clause-moments
 returns-in_err-settle-clause-moments g c h =
     let on = c.read_synced.ensures.continues in
-    showed.counted_settling on (c.read_synced.ensures.writes h) (c.settle.ensures.writes (on.honest h))
+    showed.counted_settling on (c.read_synced.ensures.writes h) (c.settle.ensures.ran.on.writes (on.honest h))
 
 pub returns-clause-moments : goal.returns-clause-moments
 returns-clause-moments g c h =
     let on = c.read_synced.ensures.continues in
-    showed.counted_settling on (c.read_synced.ensures.writes h) (c.settle.ensures.writes (on.honest h))
+    showed.counted_settling on (c.read_synced.ensures.writes h) (c.settle.ensures.ran.on.writes (on.honest h))
 
 pub returns-in_err-log-clause-replayed : goal.returns-in_err-log-clause-replayed
 returns-in_err-log-clause-replayed g c h =
@@ -197,7 +198,7 @@ returns-clause-replayed g c h =
     let made = c.in_ok-made.made in
     let read = c.in_ok-log.ensures.log in
     showed.replayed_from a m n c.args.nvrams c.args.flushed h c.read_synced.ensures.continues (c.read_synced.ensures.writes h) log c.in_ok-log.ensures.flushed c.in_ok-log.ensures.members.0 c.in_ok-log.ensures.counted read
-    made.count c.args.memory made.memory c.in_ok-made.ensures.within c.in_ok-made.ensures.ok (record { log = c.settle.new.self; memory = made.memory }) c.settle.ensures.continues c.settle.ensures.fewer c.settle.ensures.counted
+    made.count c.args.memory made.memory c.in_ok-made.ensures.within c.in_ok-made.ensures.ok (record { log = c.settle.new.self; memory = made.memory }) c.settle.ensures.ran.on.continues c.settle.ensures.fewer c.settle.ensures.counted
     (c.in_ok-settle.ensures.keeps read.commands read.keeps)
 
 pub returns-in_err-log-clause-clean : goal.returns-in_err-log-clause-clean
@@ -211,14 +212,14 @@ returns-in_err-settle-clause-clean g c h missing clean =
     let on = c.read_synced.ensures.continues in
     let two : length c.args.nvrams ≡ 2 = search rules in
     showed.clean_settled (g.S.Shelf.shelf c.args.shelf.now) (g.S.Shelf.shelf c.read_synced.new.shelf) (g.S.Shelf.shelf c.settle.new.shelf) missing c.args.nvrams c.in_ok-log.log.members c.settle.new.self.members on clean
-    (c.read_synced.ensures.still_clean h) two c.in_ok-log.ensures.members.0 c.settle.ensures.counted c.settle.ensures.drives c.settle.ensures.others (c.settle.ensures.clean (on.honest h))
+    (c.read_synced.ensures.still_clean h) two c.in_ok-log.ensures.members.0 c.settle.ensures.counted (λ i. c.settle.ensures.ran.on.others (drive i) (λ none. none)) (λ k out. c.settle.ensures.ran.on.others (nvram k) out) (c.settle.ensures.clean (on.honest h))
 
 pub returns-clause-clean : goal.returns-clause-clean
 returns-clause-clean g c h missing clean =
     let on = c.read_synced.ensures.continues in
     let two : length c.args.nvrams ≡ 2 = search rules in
     showed.clean_settled (g.S.Shelf.shelf c.args.shelf.now) (g.S.Shelf.shelf c.read_synced.new.shelf) (g.S.Shelf.shelf c.settle.new.shelf) missing c.args.nvrams c.in_ok-log.log.members c.settle.new.self.members on clean
-    (c.read_synced.ensures.still_clean h) two c.in_ok-log.ensures.members.0 c.settle.ensures.counted c.settle.ensures.drives c.settle.ensures.others (c.settle.ensures.clean (on.honest h))
+    (c.read_synced.ensures.still_clean h) two c.in_ok-log.ensures.members.0 c.settle.ensures.counted (λ i. c.settle.ensures.ran.on.others (drive i) (λ none. none)) (λ k out. c.settle.ensures.ran.on.others (nvram k) out) (c.settle.ensures.clean (on.honest h))
 
 -- memory keeps what was read
 pub replay_log-requires : goal.replay_log-requires
@@ -232,7 +233,7 @@ returns-clause-done g c =
     (c.in_ok-settle.ensures.keeps read.commands read.keeps) c.in_ok-settle.ensures.ok.0
 
 pub returns-in_err-settle-clause-rest : goal.returns-in_err-settle-clause-rest
-returns-in_err-settle-clause-rest g c = g.met.S.Shelf.shelf_rest_stays.transitive _ _ _ c.read_synced.ensures.rest c.settle.ensures.rest
+returns-in_err-settle-clause-rest g c = g.met.S.Shelf.shelf_rest_stays.transitive _ _ _ c.read_synced.ensures.rest c.settle.ensures.ran.rest
 
 pub returns-clause-rest : goal.returns-clause-rest
-returns-clause-rest g c = g.met.S.Shelf.shelf_rest_stays.transitive _ _ _ c.read_synced.ensures.rest c.settle.ensures.rest
+returns-clause-rest g c = g.met.S.Shelf.shelf_rest_stays.transitive _ _ _ c.read_synced.ensures.rest c.settle.ensures.ran.rest

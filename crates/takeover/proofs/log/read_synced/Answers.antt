@@ -11,7 +11,7 @@ returns-clause-log g c =
     let m = g.S.Shelf.shelf c.sync_members.new.shelf in
     let b = g.S.Shelf.shelf c.read.new.shelf in
     ok_more c.read.result (λ (log : NvLog). IsReadFrom m.honest (shown_by b log.members) log) (λ (log : NvLog). IsReadFrom a.honest (shown_by b log.members) log) c.read.ensures.log
-    (λ log r. read_more m.honest a.honest (shown_by b log.members) log c.sync_members.ensures.continues.honest r)
+    (λ log r. read_more m.honest a.honest (shown_by b log.members) log c.sync_members.ensures.ran.on.continues.honest r)
 
 pub returns-clause-still_clean : goal.returns-clause-still_clean
-returns-clause-still_clean g c h d clean = (c.read.ensures.same (c.sync_members.ensures.continues.honest h) d).dirty ∙ c.sync_members.ensures.still_clean h d clean
+returns-clause-still_clean g c h d clean = (c.read.ensures.same (c.sync_members.ensures.ran.on.continues.honest h) d).dirty ∙ c.sync_members.ensures.still_clean h d clean

@@ -91,7 +91,7 @@ returns-in-Err-clause-fault g c =
     let e = g.S.Shelf.shelf c.store-stored.new.shelf in
     let few : set_count c.store-stored.new.members + 2 < length c.store-stored.new.members = search rules in
     let left = fewer_count (c.store-stored.new.members ++ drop c.args.self.now.record.slots c.args.self.now.drives) c.store-stored.new.members
-        (λ i m. cut_left c.requires.is_of c.store-stored.new.members i all m) in
+    (λ i m. cut_left c.requires.is_of c.store-stored.new.members i all m) in
     (refl, omega (arith, few, left, all))
 
 pub returns-in-Err-clause-too_few : goal.returns-in-Err-clause-too_few

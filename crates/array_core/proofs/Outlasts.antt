@@ -1,0 +1,142 @@
+-- A command is appended, and a record without a device stored, whatever fails.
+use Rattle.std.proofs.Common.{◌≡◌, ◌⊎◌, inl, inr, ℕ, ◌+◌, ◌≤◌, ◌<◌, List, ◌∷◌, [], ◌++◌, refl, sym, subst, arith, Bool, true, false, cond}
+use Rattle.std.specs.Prelude.{count_by, slice_index_or, if◌then◌else◌}
+use Rattle.std.specs.List.{range_with_len}
+use Rattle.std.proofs.lemmas.Bool.{cases_Bool}
+use Rattle.pur_base.specs.declared.device.Device.TheVariants.{Drive, Nv}
+use Rattle.pur_base.specs.Devices.{Condition, Conditions, Sound, Missing, LeftOut, MayBecome, IsBearable, IsWithin, is_missing, missing_nvrams, nvrams, drive, nvram}
+use Rattle.pur_base.specs.Commands.{Command}
+use Rattle.pur_base.specs.Plain.{Array}
+use Rattle.boot_codec.specs.Region.{names}
+use Rattle.array_spec.specs.Standing.{Stands}
+use Rattle.array_spec.proofs.Standings.{within_twice}
+use Rattle.array_spec.proofs.Votes.{counted}
+use Rattle.world.specs.Losing.{geometry_of}
+use Rattle.world.specs.Shelf.{Shelved, Stop, LeavesOnly}
+use Rattle.world.proofs.Moments.{then_run, weaker}
+use Rattle.boot_region.specs.Storing.{StandsAgain}
+use Rattle.boot_region.proofs.Composing.{as_it_is}
+use Rattle.nvram_log.specs.Held.{HoldsOn}
+use Rattle.nvram_log.specs.Members as nv
+use Rattle.register.specs.declared.state.Register.{Register}
+use Rattle.register.specs.Registers.{named_sound}
+use Rattle.register.specs.Standing.{Content, IsFirm, MayStore}
+use Rattle.register.proofs.Stores.{members_sound}
+use Rattle.open_array.proofs.Standing.{is_left}
+use Rattle.array_state.specs.Ready.{logged}
+use Rattle.array_core.specs.Performing.{StandsOnceBack, without_or_with}
+use Rattle.array_core.proofs.Appended as appended
+use Rattle.array_core.proofs.Appended.{IsAppending}
+use Rattle.array_core.proofs.Losses.{same_geometry}
+
+-- what a device becomes that no longer holds what it should
+gone : Condition → Condition
+gone Sound = Missing
+gone Missing = Missing
+gone LeftOut = LeftOut
+
+gone_within : (c : Condition) → MayBecome c (gone c)
+unfolding gone
+gone_within Sound = inr refl
+gone_within Missing = refl
+gone_within LeftOut = refl
+
+never_sound : (c : Condition) → gone c ≡ Sound → ⊥
+unfolding gone
+never_sound Sound e = cc e
+never_sound Missing e = cc e
+never_sound LeftOut e = cc e
+
+-- of NVRAM devices the others than these are missing
+abbrev logs_lost : Conditions → List Bool → Conditions
+logs_lost missing members (Drive d) = missing (Drive d)
+logs_lost missing members (Nv n) = if slice_index_or members n.0 false then missing (Nv n) else gone (missing (Nv n))
+
+logs_within : (missing : Conditions) (members : List Bool) → IsWithin missing (logs_lost missing members)
+logs_within missing members (Drive d) = as_it_is missing (Drive d)
+logs_within missing members (Nv n) = elim (cases_Bool (slice_index_or members n.0 false)) [
+  | inl is ↦ rw is (as_it_is missing (Nv n))
+  | inr not ↦ rw not (gone_within (missing (Nv n)))
+]
+
+-- one of the two is sound
+one_is_left : (missing : Conditions) → ((missing (nvram 0) ≡ Sound) ⊎ (missing (nvram 1) ≡ Sound)) → missing_nvrams missing ≤ 1
+one_is_left missing some =
+    let first = counted (λ i. is_missing (missing (nvram i))) 0 (1 ∷ []) in
+    let second = counted (λ i. is_missing (missing (nvram i))) 1 [] in
+    elim some [
+      | inl s ↦ most (is_missing (missing (nvram 0))) (is_missing (missing (nvram 1))) first second (inl (rw s refl))
+      | inr s ↦ most (is_missing (missing (nvram 0))) (is_missing (missing (nvram 1))) first second (inr (rw s refl))
+    ]
+  where
+    most : (x y : Bool) → missing_nvrams missing ≡ cond x 1 0 + count_by (λ i. is_missing (missing (nvram i))) (1 ∷ []) → count_by (λ i. is_missing (missing (nvram i))) (1 ∷ []) ≡ cond y 1 0 + 0
+        → (x ≡ false) ⊎ (y ≡ false) → missing_nvrams missing ≤ 1
+    most true true first second (inl e) = absurd (cc e)
+    most true true first second (inr e) = absurd (cc e)
+    most true false first second e = omega (arith, first, second)
+    most false true first second e = omega (arith, first, second)
+    most false false first second e = omega (arith, first, second)
+
+module _ (a m : Shelved) (r : Register) (members now : List Bool) (held : Content) (c : Command) (p : IsAppending a m r members now held c) where
+  abbrev arrays : List Array
+  arrays = without_or_with held c
+
+  -- while the command is appended
+  pub append_again : LeavesOnly a m (StandsOnceBack a r.record arrays)
+  append_again = weaker (λ stop stands. record {
+    later = named_sound r.record;
+    within = as_it_is (named_sound r.record);
+    stands = stands (named_sound r.record) (as_it_is (named_sound r.record)) p.was_open.bearable;
+  }) (appended.stand a m r members now held c p)
+
+  -- and while the record is stored that names the devices that are left
+  module _ (holds : HoldsOn m now r.record.flushed (held.log ++ c ∷ [])) (some : nv.IsSome now) where
+    abbrev left : Conditions
+    left = logs_lost (named_sound r.record) now
+
+    named : (n : ℕ) → nv.IsMember now n → names r.record (nvram n) ≡ true
+    named n mem = subst (λ (l : List Bool). nv.IsMember l n) (sym p.was_open.nvrams_are) (p.fewer n mem)
+
+    sound_of : (n : ℕ) → nv.IsMember now n → left (nvram n) ≡ Sound
+    sound_of n mem = rw mem (rw (named n mem) refl)
+
+    bears : IsBearable (geometry_of a) left
+    bears = record {
+      drives = p.was_open.bearable.drives;
+      nvrams = one_is_left left (elim some [ inl x ↦ inl (sound_of 0 x) | inr x ↦ inr (sound_of 1 x) ]);
+    }
+
+    member_of : (n : ℕ) → left (nvram n) ≡ Sound → nv.IsMember now n
+    member_of n s = elim (cases_Bool (slice_index_or now n false)) [
+      | inl is ↦ is
+      | inr not ↦ absurd (never_sound (named_sound r.record (nvram n)) (subst (λ (t : Bool). cond t (named_sound r.record (nvram n)) (gone (named_sound r.record (nvram n))) ≡ Sound) not s))
+    ]
+
+    no_member : (n : ℕ) → left (nvram n) ≡ LeftOut → nv.IsMember now n → ⊥
+    no_member n out mem = cc (sound_of n mem, out)
+
+    may_store : MayStore m r now left (logged held c) arrays
+    may_store = record {
+      logged = appended.logged_then a m r members now held c p holds;
+      in_force = appended.in_force a m r members now held c p holds left (logs_within (named_sound r.record) now) bears;
+      stands = λ stop may. appended.stands_then a m r members now held c p holds left (logs_within (named_sound r.record) now) bears stop may;
+      one_of = appended.second a m r members now held c p;
+      sound = λ n lt s. member_of n s;
+      left_out = no_member;
+      unnamed = λ i out. is_left (names r.record (drive i)) out;
+    }
+
+    firm : IsFirm m r left
+    firm = record {
+      bearable = subst (λ g. IsBearable g left) (same_geometry p.on) bears;
+      sound = λ i mem. members_sound r p.was_open.logged.is_of i mem;
+      older = λ i mem s. appended.older a m r members now held c p holds i mem;
+    }
+
+    pub store_again : (n : Shelved) → ((missing : Conditions) (k : Content) (others : List Array) → MayStore m r now missing k others → IsFirm m r missing → LeavesOnly m n (StandsAgain m missing others))
+        → LeavesOnly a n (StandsOnceBack a r.record arrays)
+    store_again n storing = then_run p.on append_again (weaker (λ stop x. record {
+      later = x.later;
+      within = within_twice (named_sound r.record) left x.later (logs_within (named_sound r.record) now) x.within;
+      stands = subst (λ g. Stands g stop.image x.later arrays) (sym (same_geometry p.on)) x.stands;
+    }) (storing left (logged held c) arrays may_store firm))

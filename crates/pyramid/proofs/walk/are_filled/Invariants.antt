@@ -1,0 +1,6 @@
+use Rattle.std.proofs.Common.{◌≡◌, ℕ, ◌<◌, get_or}
+use Rattle.std.specs.Prelude.{None}
+use Rattle.pyramid.proofs.walk.are_filled.Given as goal
+
+abbrev pub invariant-loop-place : goal.invariant-loop-place
+invariant-loop-place g l = (i : ℕ) → i < l.place-index → get_or l.out i None ≡ None → ⊥
