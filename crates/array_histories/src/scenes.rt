@@ -178,13 +178,18 @@ impl History {
         heeded
     }
 
+    /// The same with some requests, that isn't stopped.
+    fn ask_while_three_fail(&mut self, told: &mut Told) -> Result<(), Trouble> {
+        let asks = self.some_asks(MOST)?;
+        self.ask_while_many_fail(&asks, u64::MAX, told)
+    }
+
     /// Three drives fail in a session, mostly in its store. With all drives back the next one isn't halted.
     pub(crate) fn lose_three(&mut self, told: &mut Told) -> Result<(), Trouble> {
         let [first, second] = self.weak.drives;
         let drives = [first, second, any_drive(&mut self.random)];
         self.fail_all(drives, told)?;
-        let asks = self.some_asks(MOST)?;
-        self.ask_while_many_fail(&asks, u64::MAX, told)?;
+        self.ask_while_three_fail(told)?;
         for drive in drives {
             let_fail(&mut self.world, drive);
         }
@@ -249,19 +254,24 @@ impl History {
         Ok(asks)
     }
 
-    /// More devices fail at once than can be borne, and answer again behind that session: the next one has the array of before or behind the request in hand.
-    pub(crate) fn lose_many(&mut self, told: &mut Told) -> Result<(), Trouble> {
-        // A device that lost something has to be left out before others fail.
-        bring_all_back(&mut self.world);
-        self.look_at_all()?;
-        self.silence_many(told)?;
+    /// A session of these, which may be stopped, in which more devices may fail than can be borne.
+    fn ask_in_silence(&mut self, told: &mut Told) -> Result<(), Trouble> {
         let asks = self.asks_or_checkpoints()?;
         let calls = if self.random.once_in(4) {
             self.calls_of_session()
         } else {
             u64::MAX
         };
-        self.ask_while_many_fail(&asks, calls, told)?;
+        self.ask_while_many_fail(&asks, calls, told)
+    }
+
+    /// More devices fail at once than can be borne, and answer again behind that session: the next one has the array of before or behind the request in hand.
+    pub(crate) fn lose_many(&mut self, told: &mut Told) -> Result<(), Trouble> {
+        // A device that lost something has to be left out before others fail.
+        bring_all_back(&mut self.world);
+        self.look_at_all()?;
+        self.silence_many(told)?;
+        self.ask_in_silence(told)?;
         bring_all_back(&mut self.world);
         self.look_at_all()
     }

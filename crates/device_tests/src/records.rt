@@ -577,12 +577,12 @@ fn outlives(alloc: Global, world: &mut MemWorld, failing: Failing) -> Result<boo
 }
 
 /// Of how many drives, and at which call, it goes wrong that three and more fail at each call of a store, there alone or from there on.
-fn wrong_in_stores(
+fn wrong_in(
     alloc: Global,
+    world: &mut MemWorld,
     goes_on: bool,
     torn: Option<u8>,
 ) -> Result<Option<(u8, u64)>, Fail> {
-    let mut world = small_world(alloc)?;
     for drives in 3..DRIVES + 1 {
         for first in 1..STORE_CALLS + 1 {
             let failing = Failing {
@@ -591,12 +591,21 @@ fn wrong_in_stores(
                 last: if goes_on { STORE_CALLS } else { first },
                 torn,
             };
-            if !outlives(alloc, &mut world, failing)? {
+            if !outlives(alloc, world, failing)? {
                 return Ok(Some((drives, first)));
             }
         }
     }
     Ok(None)
+}
+
+/// The same over blank drives.
+fn wrong_in_stores(
+    alloc: Global,
+    goes_on: bool,
+    torn: Option<u8>,
+) -> Result<Option<(u8, u64)>, Fail> {
+    wrong_in(alloc, &mut small_world(alloc)?, goes_on, torn)
 }
 
 #[test]
