@@ -488,11 +488,11 @@ fn other_slot(slot: Slot) -> Slot {
 
 /// Lets these calls fail.
 fn fail_calls(world: &mut MemWorld, failing: Failing) -> Result<(), Fail> {
-    if failing.drives > world.drives() || failing.first == 0 {
-        return Err(Fail::new("no such call"));
-    }
     for drive in 0..failing.drives {
         for call in failing.first..failing.last.saturating_add(1) {
+            if drive >= world.drives() || call == 0 {
+                return Err(Fail::new("no such call"));
+            }
             world.fail(Device::Drive(DriveId(drive)), call)?;
         }
     }
