@@ -747,14 +747,17 @@ impl History {
         if left.stopped {
             return Some(End::Stopped);
         }
-        match left.status {
-            Status::Done => Some(End::Whole),
-            Status::Halted => if self.many_fail {
-                Some(End::Halted)
-            } else {
-                None
-            },
-            _ => None,
+        // Where more than half of the drives don't answer, no record is in force.
+        let may_halt = match left.status {
+            Status::Done => return Some(End::Whole),
+            Status::Halted => true,
+            Status::NoArray => left.given(&self.world).is_empty(),
+            _ => false,
+        };
+        if self.many_fail && may_halt {
+            Some(End::Halted)
+        } else {
+            None
         }
     }
 
