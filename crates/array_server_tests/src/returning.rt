@@ -35,7 +35,9 @@ fn silence_three(world: &mut MemWorld, call: u64) -> Result<(), Fail> {
 fn wake(world: &mut MemWorld) {
     for _ in 0..2 * LONG {
         for drive in 0..world.drives() {
-            let _ = world.sync(Device::Drive(DriveId(drive)));
+            if drive < world.drives() {
+                let _ = world.sync(Device::Drive(DriveId(drive)));
+            }
         }
         for nvram in 0..2 {
             let _ = world.sync(Device::Nv(NvId(nvram)));

@@ -83,40 +83,31 @@ fn shape_of(rt: &HostRuntime, text: &str) -> Result<Option<(u8, u16)>, Fail> {
     match Files::open(rt) {
         Ok(files) => Ok(Some((files.drives(), files.units()))),
         Err(NoShelf::BadText) => Ok(None),
+        Err(NoShelf::InUse) => Err(Fail::new("in use")),
         Err(NoShelf::Memory) => Err(Fail::new("memory")),
     }
 }
 
-// Both in one test, since the folder has one name.
+// All in one test, since the folder has one name.
 #[test]
-fn only_texts_of_the_form_tell_a_shape_and_files_that_are_absent_or_of_another_length_fail(
+fn a_shelf_is_opened_once_at_a_time_by_texts_of_the_form_and_files_absent_or_of_another_length_fail(
     rt: HostRuntime,
 ) -> Result<(), Fail> {
     assert_eq!(rt; Files::open(&rt).err(), Some(NoShelf::BadText));
     make_shelf(&rt)?;
     let mut files = Files::open(&rt)?;
     assert_eq!(rt; (files.drives(), files.units()), (11, 64));
+    assert_eq!(rt; Files::open(&rt).err(), Some(NoShelf::InUse));
     assert_eq!(rt; try_drive(&mut files, 0), ([true; 3], 0, 0), "sound");
     assert_eq!(rt; try_drive(&mut files, 1), ([false; 3], 3, 2), "short");
     assert_eq!(rt; try_drive(&mut files, 2), ([false; 3], 3, 2), "long");
     assert_eq!(rt; try_drive(&mut files, 3), ([false; 3], 3, 2), "absent");
     assert_eq!(rt; files.sync(Device::Nv(NvId(0))), Err(Failed));
     assert_eq!(rt; files.sync(Device::Nv(NvId(1))), Ok(()));
+    drop(files);
     for (text, want) in SHAPES {
         assert_eq!(rt; shape_of(&rt, text)?, want, "at {text}");
     }
-    remove_shelf(&rt)?;
-    Ok(())
-}
-
-#[test]
-fn a_shelf_is_opened_once_at_a_time(rt: HostRuntime) -> Result<(), Fail> {
-    make_shelf(&rt)?;
-    let files = Files::open(&rt)?;
-    assert_eq!(rt; Files::open(&rt).err(), Some(NoShelf::InUse));
-    assert_eq!(rt; files.drives(), 11);
-    drop(files);
-    assert_eq!(rt; Files::open(&rt).err(), None);
     remove_shelf(&rt)?;
     Ok(())
 }

@@ -2,7 +2,7 @@ ghost use Rattle.std.specs.Prelude.{◌≡◌, IfOk};
 ghost use Rattle.boot_codec.specs.Record.{IsBootRecord};
 
 use boot_codec::{BootRecord, RECORD_BYTES, read_record};
-use fact_codec::{FACT_BYTES, write_fact};
+use fact_codec::{FACT_BYTES, NUMBER_LIMIT, write_fact};
 use parity72::SHARD_BYTES;
 use pur_base::{
     AddressFact, AnyFact, Device, DriveId, ElisionFact, Lost, MediumId, Place, Places, SegmentId,
@@ -95,6 +95,9 @@ fn write_first(world: &mut MemWorld, places: Places, text: &[u8; FACT_BYTES]) ->
 
 /// A shelf with a sector of medium 7 that reads as zeros, and an object that is elided, by facts of these numbers.
 fn world_of_two(alloc: Global, address: u64, elision: u64) -> Result<MemWorld, Fail> {
+    if address == 0 || address >= NUMBER_LIMIT || elision == 0 || elision >= NUMBER_LIMIT {
+        return Err(Fail::new("no such number"));
+    }
     let mut world = MemWorld::new(alloc, 11, 64, Vec::new(alloc))?;
     let address = write_fact(&AnyFact::Address(AddressFact {
         medium: MediumId(7),
