@@ -1,10 +1,9 @@
 -- A command is appended, and a record without a device stored, whatever fails.
-use Rattle.std.proofs.Common.{◌≡◌, ◌⊎◌, inl, inr, ℕ, ◌+◌, ◌≤◌, ◌<◌, List, ◌∷◌, [], ◌++◌, refl, sym, subst, arith, Bool, true, false, cond}
+use Rattle.std.proofs.Common.{◌≡◌, ◌⊎◌, inl, inr, ℕ, ◌+◌, ◌≤◌, List, ◌∷◌, [], ◌++◌, refl, sym, subst, arith, Bool, true, false, cond}
 use Rattle.std.specs.Prelude.{count_by, slice_index_or, if◌then◌else◌}
-use Rattle.std.specs.List.{range_with_len}
 use Rattle.std.proofs.lemmas.Bool.{cases_Bool}
 use Rattle.pur_base.specs.declared.device.Device.TheVariants.{Drive, Nv}
-use Rattle.pur_base.specs.Devices.{Condition, Conditions, Sound, Missing, LeftOut, MayBecome, IsBearable, IsWithin, is_missing, missing_nvrams, nvrams, drive, nvram}
+use Rattle.pur_base.specs.Devices.{Condition, Conditions, Sound, Missing, LeftOut, MayBecome, IsBearable, IsWithin, is_missing, missing_nvrams, drive, nvram}
 use Rattle.pur_base.specs.Commands.{Command}
 use Rattle.pur_base.specs.Plain.{Array}
 use Rattle.boot_codec.specs.Region.{names}
@@ -12,7 +11,7 @@ use Rattle.array_spec.specs.Standing.{Stands}
 use Rattle.array_spec.proofs.Standings.{within_twice}
 use Rattle.array_spec.proofs.Votes.{counted}
 use Rattle.world.specs.Losing.{geometry_of}
-use Rattle.world.specs.Shelf.{Shelved, Stop, LeavesOnly}
+use Rattle.world.specs.Shelf.{Shelved, LeavesOnly}
 use Rattle.world.proofs.Moments.{then_run, weaker}
 use Rattle.boot_region.specs.Storing.{StandsAgain}
 use Rattle.boot_region.proofs.Composing.{as_it_is}

@@ -1,6 +1,6 @@
 -- A whole store, from what its phases say.
 use Rattle.std.proofs.Common.{◌≡◌, ◌⊎◌, inl, inr, ℕ, zero, suc, ◌+◌, ◌*◌, ◌≤◌, ◌<◌, List, [], length, refl, sym, ◌∙◌, ap, subst, arith, Bool, false, cond, Result, Ok, Err, OnOk}
-use Rattle.std.specs.Prelude.{Option, Some, None, ◌∷◌, true, count_by, slice_index_or, if◌then◌else◌}
+use Rattle.std.specs.Prelude.{Some, ◌∷◌, true, count_by, slice_index_or, if◌then◌else◌}
 use Rattle.std.specs.List.{range_with_len}
 use Rattle.std.specs.Str.{bytes_eq}
 use Rattle.std.specs.Cmp.Lexicographic.{same_text}
@@ -14,7 +14,7 @@ use Rattle.boot_codec.specs.declared.limits.TheConstants.{RECORD_BYTES}
 use Rattle.boot_codec.specs.declared.record.BootRecord.{BootRecord}
 use Rattle.boot_codec.specs.Record.{set_count}
 use Rattle.boot_codec.specs.Spelling.{spelling}
-use Rattle.boot_codec.specs.Region.{BootSlot, IsRecordOf, other_slot, gate_place, body_place, body_in, shown_by, is_vote, Yields, generation_in}
+use Rattle.boot_codec.specs.Region.{BootSlot, IsRecordOf, other_slot, gate_place, body_place, body_in, shown_by, Yields, generation_in}
 use Rattle.array_spec.specs.Standing.{Stands, MayBeGiven, MayAppear}
 use Rattle.array_spec.specs.Laws.{IsHeld, is_sound_vote}
 use Rattle.array_spec.proofs.Votes.{counted, held_is_given, sound_before}
@@ -24,9 +24,9 @@ use Rattle.world.specs.Shelf.{Shelved, Stop, MayStop, IsShelf, IsIn, Continues, 
 use Rattle.world.specs.Writes.{ChangesOnly, WritesOnly, LeavesBut}
 use Rattle.world.specs.Losing.{geometry_of, IsLater}
 use Rattle.world.proofs.Writes.{writes_then, writes_more}
-use Rattle.world.proofs.Moments.{then_run, weaker, continues_trans, continues_refl}
+use Rattle.world.proofs.Moments.{continues_trans, continues_refl}
 use Rattle.boot_region.specs.Members.{IsMember, IsOneOf, NonMembersStay, OnSlot, OnMembers, OnNotShut, Outcome, Closed, LostWrites, DroppedFailed}
-use Rattle.boot_region.specs.Storing.{AreClean, AreClosed, AreWritten, AreOlder, SoundAreMembers, ComesOf, Closes, Writes, Opens, IsInForceOn, MayFollow, AccountsFor, GivesOldOrNew, IsInStore, GivesNoMore, HeldStill, IsOpening, StandsBut, StandsNow, IsNewer, IsStored, IsStoredOn, IsFirmOn, AreEnough, StandsAgain}
+use Rattle.boot_region.specs.Storing.{AreClean, AreClosed, AreOlder, SoundAreMembers, ComesOf, Closes, Writes, Opens, IsInForceOn, MayFollow, AccountsFor, IsInStore, GivesNoMore, HeldStill, IsOpening, StandsBut, StandsNow, IsNewer, IsStored, IsStoredOn, IsFirmOn, AreEnough, StandsAgain}
 use Rattle.boot_region.proofs.Composing.{borne, votes_not, IsBorneOn, differs_then, still_while_closing, still_while_writing, gives_while_closing, gives_while_writing, gives_while_opening, while_closing, while_writing, while_writing_over, while_opening, as_it_is, is_sound_is}
 use Rattle.boot_region.proofs.Phases.{risen_on_way, closes_gates, writes_bodies, opens_gates}
 use Rattle.boot_region.proofs.ShownLemmas.{gate_same, member_below, body_low, body_is, bodies_same, other_same, other_body_same, other_shown_same, as_read, shown_body}

@@ -1,6 +1,6 @@
 -- A store that goes on, whatever fails: a moment of a later round is one of the whole.
-use Rattle.std.proofs.Common.{◌≡◌, ◌⊎◌, inl, inr, ℕ, ◌+◌, ◌≤◌, ◌<◌, List, length, ◌∙◌, sym, subst, arith, Bool}
-use Rattle.pur_base.specs.Devices.{Conditions, Sound, IsBearable, drive, nvram}
+use Rattle.std.proofs.Common.{◌≡◌, ℕ, List, length, ◌∙◌, sym, subst, Bool}
+use Rattle.pur_base.specs.Devices.{Conditions, Sound, IsBearable, drive}
 use Rattle.pur_base.specs.Plain.{Array}
 use Rattle.array_spec.specs.Standing.{Stands}
 use Rattle.array_spec.proofs.Standings.{within_twice}

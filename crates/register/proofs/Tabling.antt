@@ -35,7 +35,7 @@ use Rattle.nvram_log.proofs.Closing.{one_number}
 use Rattle.register.specs.declared.state.Register.{Register}
 use Rattle.register.specs.declared.tables.Tables.{Tables}
 use Rattle.register.specs.Registers.{IsRegisterOf, drives_of, named_sound, next_record, next_slot, own_slot}
-use Rattle.register.specs.Standing.{Content, IsShown, ShowsOn, IsNextOf, IsOpen, GivesOldOrNext, IsFirm, MayStore, MayStoreFirmly, StandsInLog, array_of}
+use Rattle.register.specs.Standing.{Content, IsShown, ShowsOn, IsNextOf, IsOpen, GivesOldOrNext, MayStore, MayStoreFirmly, StandsInLog, array_of}
 use Rattle.register.specs.Giving.{GivesOldOrTables, IsNextWith}
 use Rattle.register.specs.Tables.{FlushesAll, FlushesNone, IsPlanOf, KeepsArray, MayGoOn, StandsAsBefore, with_tables}
 use Rattle.register.proofs.Again.{meanwhile, accounts, bearable_then, accounts_since}

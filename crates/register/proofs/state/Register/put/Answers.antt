@@ -1,11 +1,7 @@
-use Rattle.std.proofs.Common.{rules, arith, ◌≡◌, ◌+◌, ◌<◌, ◌≤◌, ℕ, List, Bool, ◌++◌, refl, length, drop, sym, ◌∙◌, subst}
+use Rattle.std.proofs.Common.{rules, arith, ◌≡◌, ◌+◌, ◌<◌, ℕ, List, Bool, ◌++◌, refl, length, drop, sym, ◌∙◌, subst}
 use Rattle.boot_region.specs.Members.{IsMember}
-use Rattle.boot_region.specs.Storing.{Shows, AreEnough, IsFirmOn, IsInStore, IsInForceOn, IsNewer, IsStoredIn, IsStoredOn, MayFollow, StandsAgain}
+use Rattle.boot_region.specs.Storing.{Shows, IsFirmOn, IsInForceOn, IsNewer, IsStoredIn, IsStoredOn, MayFollow, StandsAgain}
 use Rattle.boot_region.specs.Slots.{slot_in}
-use Rattle.pur_base.specs.Devices.{Conditions}
-use Rattle.pur_base.specs.Plain.{Array}
-use Rattle.boot_codec.specs.declared.record.BootRecord.{BootRecord}
-use Rattle.boot_codec.specs.Spelling.{spelling}
 use Rattle.boot_codec.specs.Region.{BootSlot}
 use Rattle.world.specs.Shelf.{LeavesOnly}
 use Rattle.register.specs.Registers.{drives_of, own_slot}
