@@ -3,7 +3,7 @@ use Rattle.std.proofs.Common.{◌≡◌, ◌⊎◌, inl, inr, ℕ, ◌+◌, ◌�
 use Rattle.std.specs.Prelude.{count_by, slice_index_or, if◌then◌else◌}
 use Rattle.std.proofs.lemmas.Bool.{cases_Bool}
 use Rattle.pur_base.specs.declared.device.Device.TheVariants.{Drive, Nv}
-use Rattle.pur_base.specs.Devices.{Condition, Conditions, Sound, Missing, LeftOut, MayBecome, IsBearable, IsWithin, is_missing, missing_nvrams, drive, nvram}
+use Rattle.pur_base.specs.Devices.{Conditions, Sound, LeftOut, IsBearable, IsWithin, is_missing, missing_nvrams, drive, nvram}
 use Rattle.pur_base.specs.Commands.{Command}
 use Rattle.pur_base.specs.Plain.{Array}
 use Rattle.boot_codec.specs.Region.{names}
@@ -15,6 +15,7 @@ use Rattle.world.specs.Shelf.{Shelved, LeavesOnly}
 use Rattle.world.proofs.Moments.{then_run, weaker}
 use Rattle.boot_region.specs.Storing.{StandsAgain}
 use Rattle.boot_region.proofs.Composing.{as_it_is}
+use Rattle.boot_region.proofs.Stored.{lost, lost_within, never_sound}
 use Rattle.nvram_log.specs.Held.{HoldsOn}
 use Rattle.nvram_log.specs.Members as nv
 use Rattle.register.specs.declared.state.Register.{Register}
@@ -28,34 +29,16 @@ use Rattle.array_core.proofs.Appended as appended
 use Rattle.array_core.proofs.Appended.{IsAppending}
 use Rattle.array_core.proofs.Losses.{same_geometry}
 
--- what a device becomes that no longer holds what it should
-gone : Condition → Condition
-gone Sound = Missing
-gone Missing = Missing
-gone LeftOut = LeftOut
-
-gone_within : (c : Condition) → MayBecome c (gone c)
-unfolding gone
-gone_within Sound = inr refl
-gone_within Missing = refl
-gone_within LeftOut = refl
-
-never_sound : (c : Condition) → gone c ≡ Sound → ⊥
-unfolding gone
-never_sound Sound e = cc e
-never_sound Missing e = cc e
-never_sound LeftOut e = cc e
-
 -- of NVRAM devices the others than these are missing
 abbrev logs_lost : Conditions → List Bool → Conditions
 logs_lost missing members (Drive d) = missing (Drive d)
-logs_lost missing members (Nv n) = if slice_index_or members n.0 false then missing (Nv n) else gone (missing (Nv n))
+logs_lost missing members (Nv n) = if slice_index_or members n.0 false then missing (Nv n) else lost (missing (Nv n))
 
 logs_within : (missing : Conditions) (members : List Bool) → IsWithin missing (logs_lost missing members)
 logs_within missing members (Drive d) = as_it_is missing (Drive d)
 logs_within missing members (Nv n) = elim (cases_Bool (slice_index_or members n.0 false)) [
   | inl is ↦ rw is (as_it_is missing (Nv n))
-  | inr not ↦ rw not (gone_within (missing (Nv n)))
+  | inr not ↦ rw not (lost_within (missing (Nv n)))
 ]
 
 -- one of the two is sound
@@ -108,7 +91,7 @@ module _ (a m : Shelved) (r : Register) (members now : List Bool) (held : Conten
     member_of : (n : ℕ) → left (nvram n) ≡ Sound → nv.IsMember now n
     member_of n s = elim (cases_Bool (slice_index_or now n false)) [
       | inl is ↦ is
-      | inr not ↦ absurd (never_sound (named_sound r.record (nvram n)) (subst (λ (t : Bool). cond t (named_sound r.record (nvram n)) (gone (named_sound r.record (nvram n))) ≡ Sound) not s))
+      | inr not ↦ absurd (never_sound (named_sound r.record (nvram n)) (subst (λ (t : Bool). cond t (named_sound r.record (nvram n)) (lost (named_sound r.record (nvram n))) ≡ Sound) not s))
     ]
 
     no_member : (n : ℕ) → left (nvram n) ≡ LeftOut → nv.IsMember now n → ⊥

@@ -122,13 +122,13 @@ abbrev pub others_lost : Conditions → List Bool → Conditions
 others_lost missing members (dev.Drive d) = if slice_index_or members d.0 false then missing (dev.Drive d) else lost (missing (dev.Drive d))
 others_lost missing members (dev.Nv n) = missing (dev.Nv n)
 
-lost_within : (c : Condition) → MayBecome c (lost c)
+pub lost_within : (c : Condition) → MayBecome c (lost c)
 unfolding lost
 lost_within Sound = inr refl
 lost_within Missing = refl
 lost_within LeftOut = refl
 
-never_sound : (c : Condition) → lost c ≡ Sound → ⊥
+pub never_sound : (c : Condition) → lost c ≡ Sound → ⊥
 unfolding lost
 never_sound Sound e = cc e
 never_sound Missing e = cc e
