@@ -22,7 +22,8 @@ use Rattle.array_memory.specs.Eliding.{AreLowestUnused}
 use Rattle.array_memory.specs.Plan.{after_plan, next_past}
 use Rattle.array_state.specs.declared.array.Array.{Array}
 use Rattle.array_state.specs.Drives.{SegmentsHold}
-use Rattle.array_core.specs.Performing.{IsLost}
+use Rattle.array_core.specs.Going.{by_faults}
+use Rattle.array_core.specs.Goes.{Halts}
 use Rattle.array_checkpoint.specs.declared.making.CheckpointFault.{CheckpointFault}
 use Rattle.array_checkpoint.specs.declared.making.CheckpointFault.TheVariants as fault
 use Rattle.array_checkpoint.specs.declared.limits.TheConstants.{DATA_SEGMENTS, NEW_PATCHES}
@@ -79,7 +80,7 @@ StillReads old new was now = (contents : Contents) (array : plain.Array) → Rea
     → (more : Contents) × ReadsAs more now.memory.memory array
     × (old.honest → SegmentsHold contents old was.register (facts was.memory.memory.tables) → SegmentsHold more new now.register (facts now.memory.memory.tables))
 
--- why a checkpoint wasn't made: for want of memory, and then all stays as it was, or since more devices failed than are borne
+-- why a checkpoint wasn't made: for want of memory, and then all stays as it was, or since more devices failed than are borne, and then the array is to halt
 abbrev pub IsFaultOf : Shelved → Shelved → Array → Type 0 → CheckpointFault → Type 0
 IsFaultOf old new a stays fault.Memory = stays
-IsFaultOf old new a stays fault.Device = IsLost old new a
+IsFaultOf old new a stays fault.Device = Halts by_faults old new a []

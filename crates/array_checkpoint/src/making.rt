@@ -1,21 +1,16 @@
 // A checkpoint is made.
-ghost use Rattle.std.specs.Prelude.{◌≡◌, ◌<◌, ◌≤◌, ℕ, [], ◌∷◌, false, OnOk, OnErr, IfErr};
-ghost use Rattle.pur_base.specs.Devices.{IsBearable};
+ghost use Rattle.std.specs.Prelude.{◌≡◌, ◌<◌, ◌≤◌, ℕ, [], false, OnOk, OnErr, IfErr};
 ghost use Rattle.boot_codec.specs.Record.{patch_segments};
 ghost use Rattle.world.specs.Losing.{geometry_of};
 ghost use Rattle.world.specs.Shelf.{Continues, LeavesOnly, IsCountedBy};
-ghost use Rattle.register.specs.Registers.{named_sound};
-ghost use Rattle.register.specs.Standing.{Content, array_of};
 ghost use Rattle.array_memory.specs.Plan.{with_patch_rooms};
-ghost use Rattle.array_state.specs.Ready.{IsArrayOf, IsReady, is_spent};
-ghost use Rattle.array_core.specs.Holding.{DropsFailed, NoneJoins};
-ghost use Rattle.array_core.specs.Losing.{lost_since};
-ghost use Rattle.array_core.specs.Performing.{IsKeptAt};
+ghost use Rattle.array_state.specs.Ready.{IsArrayOf, is_spent};
+ghost use Rattle.array_core.specs.Going.{by_faults};
+ghost use Rattle.array_core.specs.Goes.{Goes};
 ghost use Rattle.array_checkpoint.specs.declared.limits.TheConstants.{CHECKPOINT_GROUPS, SEGMENTS_END};
-ghost use Rattle.array_checkpoint.specs.declared.making.CheckpointFault.TheVariants.{Device};
 ghost use Rattle.array_checkpoint.specs.Prepared.{IsLike};
 ghost use Rattle.array_checkpoint.specs.Room.{HasGroups};
-ghost use Rattle.array_checkpoint.specs.Made.{HasFlushed, IsFaultOf, StillReads};
+ghost use Rattle.array_checkpoint.specs.Made.{HasFlushed, IsFaultOf};
 
 use crate::ending::take_over;
 use crate::preparing::prepare;
@@ -69,22 +64,12 @@ pub fn checkpoint<S: Shelf>(
     ensures continues { Continues (S.shelf shelf.old) (S.shelf shelf.new) }
     ensures rest { S.shelf_rest shelf.old shelf.new }
     ensures moments { (S.shelf shelf.old).honest → LeavesOnly (S.shelf shelf.old) (S.shelf shelf.new) (IsCountedBy (S.shelf shelf.old)) }
-    ensures is_of { OnOk result (IsArrayOf (geometry_of (S.shelf shelf.new)) array.new) }
+    // The array has gone on as the same one, by the new tables and with an empty log.
+    ensures goes { OnOk result (Goes by_faults (S.shelf shelf.old) (S.shelf shelf.new) array.old array.new []) }
     ensures flushed { OnOk result (HasFlushed array.old array.new) }
     ensures objects { array.new.memory.objects ≡ array.old.memory.objects }
     ensures fault { IfErr result (λ e. IsFaultOf (S.shelf shelf.old) (S.shelf shelf.new) array.old (IsLike array.old array.new × (shelf.new ≡ shelf.old)) e) }
     ensures kept { OnErr result (array.new.memory ≡ with_patch_rooms array.old.memory array.new.memory) }
-    ensures dropped { OnOk result (DropsFailed (S.shelf shelf.old) (S.shelf shelf.new) array.old array.new × NoneJoins array.old array.new) }
-    ensures reads { OnOk result (StillReads (S.shelf shelf.old) (S.shelf shelf.new) array.old array.new) }
-    // Where the devices held the array, they hold the same by the new tables, with an empty log.
-    ensures done { (S.shelf shelf.old).honest → OnOk result ((held : Content) → IsReady (S.shelf shelf.old) array.old held
-        → (next : Content) × IsReady (S.shelf shelf.new) array.new next × (array_of next ≡ array_of held)) }
-    // At every moment a session can go on with the array.
-    ensures any_moment { (S.shelf shelf.old).honest → (held : Content) → IsReady (S.shelf shelf.old) array.old held
-        → LeavesOnly (S.shelf shelf.old) (S.shelf shelf.new) (IsKeptAt (S.shelf shelf.old) array.old.register.record (array_of held ∷ [])) }
-    // Where no more is missing than is borne, no device fault is answered.
-    ensures borne { (S.shelf shelf.old).honest → IfErr result (λ e. e ≡ Device → (held : Content) → IsReady (S.shelf shelf.old) array.old held
-        → IsBearable (geometry_of (S.shelf shelf.old)) (lost_since (S.shelf shelf.old) (S.shelf shelf.new) (named_sound array.old.register.record)) → ⊥) }
 {
     let prepared = prepare(alloc, array)?;
     let lost = write_prepared(alloc, array, &prepared, shelf)?;

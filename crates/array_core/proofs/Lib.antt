@@ -7,3 +7,7 @@ pub mod Dropped
 pub mod Segments
 pub mod ReadyStands
 mod Outlasts
+pub mod OnWay
+pub mod HandingOn
+pub mod GoingOn
+pub mod Steps

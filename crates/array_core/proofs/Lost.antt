@@ -4,12 +4,13 @@ use Rattle.std.specs.Prelude.{count_by}
 use Rattle.std.specs.List.{range_with_len}
 use Rattle.std.proofs.lemmas.Bool.{cases_Bool}
 use Rattle.std.proofs.lemmas.List.Sums.{count_by-le-length}
+use Rattle.pur_base.specs.declared.device.Device.{Device}
 use Rattle.pur_base.specs.Devices.{Geometry, Conditions, Sound, is_missing, IsBearable, drive, nvram}
 use Rattle.boot_codec.specs.declared.record.BootRecord.{BootRecord}
 use Rattle.boot_codec.specs.Record.{set_count}
-use Rattle.boot_codec.specs.Region.{names}
 use Rattle.array_spec.proofs.UnflushedRead.{one_left}
 use Rattle.array_spec.proofs.Votes.{counted, not_missing}
+use Rattle.world.specs.Counts.{Rises}
 use Rattle.world.specs.Shelf.{Shelved, Disk}
 use Rattle.world.specs.Losing.{geometry_of, has_risen}
 use Rattle.boot_region.specs.Members.{IsMember, DroppedFailed, LostWrites}
@@ -19,11 +20,10 @@ use Rattle.register.specs.declared.state.Register.{Register}
 use Rattle.register.specs.declared.next.StoreFault.{StoreFault}
 use Rattle.register.specs.declared.next.StoreFault.TheVariants.{Spent, TooFew}
 use Rattle.register.specs.Faults.{IsFaultOf}
-use Rattle.register.specs.Registers.{IsRegisterOf, IsLaterRecord, drives_of, named_sound}
-use Rattle.register.specs.Standing.{Content, IsOpen}
-use Rattle.open_array.proofs.Standing.{is_named}
+use Rattle.register.specs.Registers.{IsRegisterOf, IsLaterRecord, drives_of}
 use Rattle.register.proofs.FlagLemmas.{fewer_count, in_cut}
 use Rattle.array_state.specs.declared.array.Array.{Array}
+use Rattle.array_core.specs.Holding.{IsHolder}
 use Rattle.array_core.specs.Losing.{lost_since}
 use Rattle.array_core.specs.Performing.{IsLost, LostLog, LostDrives}
 use Rattle.array_core.proofs.Losses.{sound_since}
@@ -75,33 +75,36 @@ few_lack shelf missing flags bears sound =
       | inr is ↦ inr (sound i lt (not_missing (missing (drive i)) is))
     ]
 
+-- a count that rose tells of a device that lost a write
+pub not_risen : (before now : ℕ) → has_risen before now ≡ false → Rises before now → ⊥
+not_risen before now none rose = risen_on_way before before now now (omega arith) rose (omega arith) none
+
 -- what is lost isn't borne
-module _ (old new : Shelved) (a : Array) (held : Content) (o : IsOpen old a.register a.log.members held) (bears : IsBearable (geometry_of old) (lost_since old new (named_sound a.register.record))) where
+module _ (old new : Shelved) (a : Array) (conditions : Conditions) (is : IsRegisterOf (geometry_of old) a.register) (holders : (d : Device) → conditions d ≡ Sound → IsHolder a d) where
   abbrev missing : Conditions
-  missing = lost_since old new (named_sound a.register.record)
+  missing = lost_since old new conditions
 
   log_left : LostLog old new a.log.members → (n : ℕ) → n < 2 → missing (nvram n) ≡ Sound → ⊥
   log_left lost n lt s =
-      let was = sound_since (has_risen (old.disk (nvram n)).write_faults (new.disk (nvram n)).write_faults) (named_sound a.register.record (nvram n)) s in
-      let mem : nv.IsMember a.log.members n = subst (λ (l : List Bool). nv.IsMember l n) o.nvrams_are (is_named (names a.register.record (nvram n)) was.0) in
-      risen_on_way (old.disk (nvram n)).write_faults (old.disk (nvram n)).write_faults (new.disk (nvram n)).write_faults (new.disk (nvram n)).write_faults (omega arith) (lost n lt mem) (omega arith) was.1
+      let was = sound_since (has_risen (old.disk (nvram n)).write_faults (new.disk (nvram n)).write_faults) (conditions (nvram n)) s in
+      not_risen (old.disk (nvram n)).write_faults (new.disk (nvram n)).write_faults was.1 (lost n lt (holders (nvram n) was.0))
 
-  drives_left : LostDrives old new a.register → ⊥
-  drives_left lost =
-      let few : old.drives ≤ set_count lost.left + 2 = few_lack (geometry_of old) missing lost.left bears (λ i lt s.
-      let was = sound_since (has_risen (old.disk (drive i)).write_faults (new.disk (drive i)).write_faults) (named_sound a.register.record (drive i)) s in
-      elim (lost.dropped i (o.in_force.sound i lt was.0)) [
-        | inl is ↦ is
-        | inr rose ↦ absurd (risen_on_way (old.disk (drive i)).write_faults (old.disk (drive i)).write_faults (new.disk (drive i)).write_faults (new.disk (drive i)).write_faults (omega arith) rose.write_faults (omega arith) was.1)
+  drives_left : LostDrives old new a.register → IsBearable (geometry_of old) missing → ⊥
+  drives_left lost bears =
+      let few : old.drives ≤ _ = few_lack (geometry_of old) missing lost.left bears (λ i lt s.
+      let was = sound_since (has_risen (old.disk (drive i)).write_faults (new.disk (drive i)).write_faults) (conditions (drive i)) s in
+      elim (lost.dropped i (holders (drive i) was.0)) [
+        | inl left ↦ left
+        | inr rose ↦ absurd (not_risen (old.disk (drive i)).write_faults (new.disk (drive i)).write_faults was.1 rose.write_faults)
       ]) in
-      omega (arith, few, lost.too_few, o.logged.is_of.lawful.slots)
+      omega (arith, few, lost.too_few, is.lawful.slots)
 
-  pub not_lost : IsLost old new a → ⊥
-  not_lost (inl log) = elim (one_left (missing (nvram 0)) (missing (nvram 1)) bears.nvrams) [
+  pub lost_unborne : IsLost old new a → IsBearable (geometry_of old) missing → ⊥
+  lost_unborne (inl log) bears = elim (one_left (missing (nvram 0)) (missing (nvram 1)) bears.nvrams) [
     | inl s ↦ log_left log 0 (omega arith) s
     | inr s ↦ log_left log 1 (omega arith) s
   ]
-  not_lost (inr drives) = drives_left drives
+  lost_unborne (inr drives) bears = drives_left drives bears
 
 -- where no member of the log is left, each lost a write
 pub lost_log : (old new : Shelved) (was now : List Bool) → nv.DroppedFailed old new was now → (nv.IsSome now → ⊥) → LostLog old new was

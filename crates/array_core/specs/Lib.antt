@@ -1,3 +1,5 @@
 pub mod Losing
 pub mod Holding
 pub mod Performing
+pub mod Going
+pub mod Goes

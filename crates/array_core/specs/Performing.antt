@@ -1,21 +1,25 @@
 -- What performing a command does to the devices.
-use Rattle.std.specs.Prelude.{◌⊎◌, ℕ, ◌+◌, ◌-◌, ◌^◌, ◌<◌, Bool, List, [], ◌∷◌}
+use Rattle.std.specs.Prelude.{◌≡◌, ◌⊎◌, ℕ, ◌+◌, ◌-◌, ◌^◌, ◌<◌, Bool, List, [], ◌∷◌}
 use Rattle.pur_base.specs.Commands.{Command}
 use Rattle.pur_base.specs.Devices.{IsBearable, IsWithin, nvram, Conditions}
 use Rattle.pur_base.specs.Plain as plain
+use Rattle.pur_base.specs.declared.request.Request.{Request}
 use Rattle.boot_codec.specs.declared.record.BootRecord.{BootRecord}
 use Rattle.boot_codec.specs.Record.{set_count}
 use Rattle.array_spec.specs.Standing.{Stands}
 use Rattle.world.specs.Counts.{Rises}
-use Rattle.world.specs.Losing.{geometry_of}
+use Rattle.world.specs.Losing.{geometry_of, has_risen}
 use Rattle.world.specs.Shelf.{Shelved, Stop}
 use Rattle.boot_region.specs.Members.{DroppedFailed}
 use Rattle.nvram_log.specs.Members.{IsMember}
 use Rattle.register.specs.declared.state.Register.{Register}
 use Rattle.register.specs.Registers.{drives_of, named_sound}
 use Rattle.register.specs.Standing.{Content, array_of}
+use Rattle.memory_spec.specs.Numbers.{next_after}
 use Rattle.session_spec.specs.Entering.{IsStanding}
+use Rattle.session_spec.specs.Faring.{MayRise}
 use Rattle.array_memory.specs.Asked.{AreLeft}
+use Rattle.array_memory.specs.Kept.{HasSamePatches}
 use Rattle.array_state.specs.declared.array.Array.{Array}
 use Rattle.array_state.specs.Ready.{logged}
 use Rattle.array_core.specs.Holding.{AgreesWith}
@@ -48,6 +52,13 @@ pub record LostDrives (old new : Shelved) (r : Register) : Type 0 where
 -- more devices failed than are borne
 abbrev pub IsLost : Shelved → Shelved → Array → Type 0
 IsLost old new a = LostLog old new a.log.members ⊎ LostDrives old new a.register
+
+-- One more command is logged, and its number given. The patches are as they were. A record is stored only where a device lost a write, and so three more at most, since two drives of the shelf at most may be missing then.
+pub record HasLogged (old new : Shelved) (a b : Array) (request : Request) : Type 0 where
+  pub count : b.log.count ≡ a.log.count + 1
+  pub next : b.memory.memory.next ≡ next_after a.memory.memory.next request
+  pub patches : HasSamePatches a.memory.memory.tables b.memory.memory.tables
+  pub boot : MayRise (λ d. has_risen (old.disk d).write_faults (new.disk d).write_faults) a.register.record b.register.record
 
 -- numbers are left for one more command, and for the records that it may cost
 pub record HasNumbers (a : Array) : Type 0 where

@@ -1,15 +1,13 @@
 // A command is performed.
-ghost use Rattle.std.specs.Prelude.{◌≡◌, ◌<◌, ◌+◌, ◌++◌, ℕ, true, length, OnOk, OnErr};
-ghost use Rattle.pur_base.specs.Commands.{Accepts, after};
-ghost use Rattle.pur_base.specs.Devices.{IsBearable};
+ghost use Rattle.std.specs.Prelude.{◌≡◌, ◌<◌, ◌+◌, ◌++◌, ◌∷◌, [], ℕ, true, length, OnOk, OnErr};
+ghost use Rattle.pur_base.specs.Commands.{after};
 ghost use Rattle.pur_base.specs.Grammar.{is_in_force, data_count};
 ghost use Rattle.pur_base.specs.Plain as plain;
 ghost use Rattle.pur_base.specs.Visible.{segment};
 ghost use Rattle.log_codec.specs.Head.{IsCommand};
 ghost use Rattle.log_codec.specs.declared.limits.TheConstants.{LOG_SLOTS};
-ghost use Rattle.world.specs.Losing.{geometry_of, has_risen};
+ghost use Rattle.world.specs.Losing.{geometry_of};
 ghost use Rattle.world.specs.Shelf.{Continues, LeavesOnly, IsCountedBy};
-ghost use Rattle.register.specs.Registers.{named_sound};
 ghost use Rattle.register.specs.Standing.{Content};
 ghost use Rattle.memory_spec.specs.Memory.{Contents, IsSound, ReadsAs};
 ghost use Rattle.memory_spec.specs.Numbers.{next_after};
@@ -18,12 +16,10 @@ ghost use Rattle.array_memory.specs.Asked.{staged_by, AreLeft, HasRoomLeft, IsAl
 ghost use Rattle.array_memory.specs.Kept.{HasSamePatches};
 ghost use Rattle.array_memory.specs.Lawful.{IsLawful};
 ghost use Rattle.checkpoint_spec.specs.Whole.{AreLayered};
-ghost use Rattle.session_spec.specs.Faring.{MayRise};
-ghost use Rattle.array_state.specs.Drives.{SegmentsHold};
-ghost use Rattle.array_state.specs.Ready.{IsArrayOf, IsReady, logged};
-ghost use Rattle.array_core.specs.Holding.{DropsFailed, NoneJoins};
-ghost use Rattle.array_core.specs.Losing.{lost_since};
-ghost use Rattle.array_core.specs.Performing.{HasNumbers, IsKeptAt, StandsOnceBack, IsLost, without_or_with};
+ghost use Rattle.array_state.specs.Ready.{IsArrayOf, IsReady};
+ghost use Rattle.array_core.specs.Going.{by_faults};
+ghost use Rattle.array_core.specs.Goes.{Goes, Halts};
+ghost use Rattle.array_core.specs.Performing.{HasLogged, HasNumbers, StandsOnceBack, without_or_with};
 
 use crate::commit::commit;
 use array_memory::Memory;
@@ -99,34 +95,16 @@ pub fn perform<S: Shelf>(
     requires allowed { IsAllowed array.old.memory.objects request.now }
     ensures continues { Continues (S.shelf shelf.old) (S.shelf shelf.new) }
     ensures rest { S.shelf_rest shelf.old shelf.new }
-    ensures is_of { OnOk result (IsArrayOf (geometry_of (S.shelf shelf.new)) array.new) }
-    ensures lost { OnErr result (IsLost (S.shelf shelf.old) (S.shelf shelf.new) array.old) }
-    // Memory reads as the array after the command then, whatever the segments hold; after a fault it is as it was.
-    ensures applied { OnOk result ((contents : Contents) (a : plain.Array) → ReadsAs contents array.old.memory.memory a → Accepts a (record { request = request.now; sectors = sectors.now })
-        → ReadsAs contents array.new.memory.memory (after a (record { request = request.now; sectors = sectors.now }))) }
-    ensures unapplied { OnErr result (array.new.memory ≡ array.old.memory) }
-    ensures next { OnOk result (array.new.memory.memory.next ≡ next_after array.old.memory.memory.next request.now) }
-    ensures patches { OnOk result (HasSamePatches array.old.memory.memory.tables array.new.memory.memory.tables) }
     ensures moments { (S.shelf shelf.old).honest → LeavesOnly (S.shelf shelf.old) (S.shelf shelf.new) (IsCountedBy (S.shelf shelf.old)) }
-    ensures count { OnOk result (array.new.log.count ≡ array.old.log.count + 1) }
-    // A record is stored only where a device lost a write, and so three more at most, since two drives of the shelf at most may be missing then.
-    ensures record { OnOk result (MayRise (λ d. has_risen ((S.shelf shelf.old).disk d).write_faults ((S.shelf shelf.new).disk d).write_faults) array.old.register.record array.new.register.record) }
-    ensures dropped { OnOk result (DropsFailed (S.shelf shelf.old) (S.shelf shelf.new) array.old array.new × NoneJoins array.old array.new) }
-    // What segments hold on the drives that are left is as it was.
-    ensures segments { (S.shelf shelf.old).honest → OnOk result ((contents : Contents) → SegmentsHold contents (S.shelf shelf.old) array.old.register (facts array.old.memory.memory.tables)
-        → SegmentsHold contents (S.shelf shelf.new) array.new.register (facts array.new.memory.memory.tables)) }
-    // Then the array has done the command, and so do the devices hold it.
-    ensures done { (S.shelf shelf.old).honest → OnOk result ((held : Content) → IsReady (S.shelf shelf.old) array.old held
-        → IsReady (S.shelf shelf.new) array.new (logged held (record { request = request.now; sectors = sectors.now }))) }
-    // At every moment a session can go on, with the array without the command or with it.
-    ensures any_moment { (S.shelf shelf.old).honest → (held : Content) → IsReady (S.shelf shelf.old) array.old held
-        → LeavesOnly (S.shelf shelf.old) (S.shelf shelf.new) (IsKeptAt (S.shelf shelf.old) array.old.register.record (without_or_with held (record { request = request.now; sectors = sectors.now }))) }
+    // The array has gone on by the command. Or it is to halt, and the command is undecided.
+    ensures goes { OnOk result (Goes by_faults (S.shelf shelf.old) (S.shelf shelf.new) array.old array.new (record { request = request.now; sectors = sectors.now } ∷ [])) }
+    ensures halts { OnErr result (Halts by_faults (S.shelf shelf.old) (S.shelf shelf.new) array.old (record { request = request.now; sectors = sectors.now } ∷ [])) }
+    ensures unapplied { OnErr result (array.new.memory ≡ array.old.memory) }
+    // After the command: its number given, its slot taken, and a record stored only where a device lost a write.
+    ensures logged { OnOk result (HasLogged (S.shelf shelf.old) (S.shelf shelf.new) array.old array.new request.now) }
     // Whatever fails, more than is borne too: at every moment the devices stand for these arrays once they answer again with what they hold.
     ensures outlasts { (S.shelf shelf.old).honest → (held : Content) → IsReady (S.shelf shelf.old) array.old held
         → LeavesOnly (S.shelf shelf.old) (S.shelf shelf.new) (StandsOnceBack (S.shelf shelf.old) array.old.register.record (without_or_with held (record { request = request.now; sectors = sectors.now }))) }
-    // Where no more is missing than is borne, no device fault is answered.
-    ensures borne { (S.shelf shelf.old).honest → OnErr result ((held : Content) → IsReady (S.shelf shelf.old) array.old held
-        → IsBearable (geometry_of (S.shelf shelf.old)) (lost_since (S.shelf shelf.old) (S.shelf shelf.new) (named_sound array.old.register.record)) → ⊥) }
 {
     array.memory.kept();
     commit(array, request, sectors, shelf)?;

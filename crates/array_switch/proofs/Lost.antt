@@ -69,31 +69,3 @@ drives_lost start now was r slots dropped low Spent fault = absurd (omega (arith
 pub log_lost_since : (a b c : Shelved) → Continues a b → (members : List Bool) → LostLog b c members → LostLog a c members
 log_lost_since a b c ab members lost n lt m =
     rises_on (a.disk (nvram n)).write_faults (b.disk (nvram n)).write_faults (c.disk (nvram n)).write_faults (c.disk (nvram n)).write_faults (ab.write_faults (nvram n)) (lost n lt m) (omega arith)
-
--- what is too much isn't borne
-module _ (old new : Shelved) (r : Register) (members : List Bool) (held : Content) (o : IsOpen old r members held) (bears : IsBearable (geometry_of old) (lost_since old new (named_sound r.record))) where
-  abbrev missing : Conditions
-  missing = lost_since old new (named_sound r.record)
-
-  log_left : LostLog old new members → (n : ℕ) → n < 2 → missing (nvram n) ≡ Sound → ⊥
-  log_left lost n lt s =
-      let was = sound_since (has_risen (old.disk (nvram n)).write_faults (new.disk (nvram n)).write_faults) (named_sound r.record (nvram n)) s in
-      let mem : nv.IsMember members n = subst (λ (l : List Bool). nv.IsMember l n) o.nvrams_are (is_named (names r.record (nvram n)) was.0) in
-      risen_on_way (old.disk (nvram n)).write_faults (old.disk (nvram n)).write_faults (new.disk (nvram n)).write_faults (new.disk (nvram n)).write_faults (omega arith) (lost n lt mem) (omega arith) was.1
-
-  drives_left : LostDrives old new r → ⊥
-  drives_left lost =
-      let few : old.drives ≤ set_count lost.left + 2 = few_lack (geometry_of old) missing lost.left bears (λ i lt s.
-      let was = sound_since (has_risen (old.disk (drive i)).write_faults (new.disk (drive i)).write_faults) (named_sound r.record (drive i)) s in
-      elim (lost.dropped i (o.in_force.sound i lt was.0)) [
-        | inl is ↦ is
-        | inr rose ↦ absurd (risen_on_way (old.disk (drive i)).write_faults (old.disk (drive i)).write_faults (new.disk (drive i)).write_faults (new.disk (drive i)).write_faults (omega arith) rose.write_faults (omega arith) was.1)
-      ]) in
-      omega (arith, few, lost.too_few, o.logged.is_of.lawful.slots)
-
-  pub not_too_much : IsTooMuch old new r members → ⊥
-  not_too_much (inl log) = elim (one_left (missing (nvram 0)) (missing (nvram 1)) bears.nvrams) [
-    | inl s ↦ log_left log 0 (omega arith) s
-    | inr s ↦ log_left log 1 (omega arith) s
-  ]
-  not_too_much (inr drives) = drives_left drives

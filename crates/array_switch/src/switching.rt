@@ -69,9 +69,6 @@ pub fn switch<S: Shelf>(
     ensures any_moment { (S.shelf shelf.old).honest → (start : S) (held next : Content) → WasOpen (S.shelf start) register.old log.old held → WroteFree (S.shelf start) (S.shelf shelf.old) register.old lost.now held
         → HoldNext (S.shelf shelf.old) register.old lost.now tables held next
         → LeavesOnly (S.shelf shelf.old) (S.shelf shelf.new) (IsKeptAt (S.shelf start) register.old.record (array_of held ∷ [])) }
-    // Where no more is missing than is borne, no fault is answered.
-    ensures borne { IfErr result (λ e. (start : S) (held : Content) → Continues (S.shelf start) (S.shelf shelf.old) → WasOpen (S.shelf start) register.old log.old held → AreLost (S.shelf start) (S.shelf shelf.old) register.old lost.now
-        → IsBearable (geometry_of (S.shelf start)) (lost_since (S.shelf start) (S.shelf shelf.new) (named_sound register.old.record)) → ⊥) }
 {
     leave_lost(register, log.members(), lost, shelf)?;
     register.store_tables(tables, shelf)?;

@@ -1,5 +1,5 @@
 -- What a merge makes of an array, and why it isn't made.
-use Rattle.std.specs.Prelude.{◌≡◌, ℕ, ◌+◌, ◌<◌, ◌≤◌, List}
+use Rattle.std.specs.Prelude.{◌≡◌, ℕ, ◌+◌, ◌<◌, ◌≤◌, List, []}
 use Rattle.pur_base.specs.Devices.{Geometry}
 use Rattle.pur_base.specs.declared.request.Table.{Table}
 use Rattle.boot_codec.specs.declared.patch.Patch.{Patch}
@@ -13,7 +13,8 @@ use Rattle.merge_plan.specs.declared.merged.Merged.{Merged}
 use Rattle.merge_plan.specs.Merging.{memory_with, merged_patches, table_of, IsMergedOf}
 use Rattle.array_memory.specs.Plan.{with_patch_rooms}
 use Rattle.array_state.specs.declared.array.Array.{Array}
-use Rattle.array_core.specs.Performing.{IsLost}
+use Rattle.array_core.specs.Going.{by_faults}
+use Rattle.array_core.specs.Goes.{Halts}
 use Rattle.pyramid_jobs.specs.declared.fault.MergeFault.{MergeFault}
 use Rattle.pyramid_jobs.specs.declared.fault.MergeFault.TheVariants as fault
 use Rattle.pyramid_jobs.specs.Checked.{IsCheckFault, MayMerge}
@@ -44,10 +45,10 @@ pub record HasMerged (shelf : Geometry) (t : Table) (i : ℕ) (was now : Array) 
   pub says : HaveShrunk (all_facts (patches was.memory.memory.tables)) (all_facts (patches now.memory.memory.tables))
   pub sound : AreSound shelf was.register.record (patches was.memory.memory.tables) → AreSound shelf now.register.record (patches now.memory.memory.tables)
 
--- why they weren't merged; but for a device fault all stays as it was
+-- why they weren't merged; but for a device fault, after which the array is to halt, all stays as it was
 abbrev pub IsFaultOf : Table → ℕ → Shelved → Shelved → Array → Type 0 → MergeFault → Type 0
 IsFaultOf t i old new a stays fault.Spent = IsCheckFault t i a fault.Spent × stays
 IsFaultOf t i old new a stays fault.NothingThere = IsCheckFault t i a fault.NothingThere × stays
 IsFaultOf t i old new a stays fault.Space = IsCheckFault t i a fault.Space × stays
 IsFaultOf t i old new a stays fault.Memory = MayMerge t i a × stays
-IsFaultOf t i old new a stays fault.Device = MayMerge t i a × IsLost old new a
+IsFaultOf t i old new a stays fault.Device = MayMerge t i a × Halts by_faults old new a []

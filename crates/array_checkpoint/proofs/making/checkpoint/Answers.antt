@@ -1,26 +1,25 @@
-use Rattle.std.proofs.Common.{◌≡◌, ◌∙◌, ◌<◌, [], ◌∷◌, refl, sym, ap, subst}
+use Rattle.std.proofs.Common.{◌≡◌, ◌∙◌, ◌<◌, [], ◌∷◌, sym, ap, subst}
 use Rattle.std.proofs.lemmas.Result.{err_from_is_err_and}
-use Rattle.pur_base.specs.Devices.{Geometry, IsBearable}
+use Rattle.pur_base.specs.Devices.{Geometry}
 use Rattle.boot_codec.specs.Record.{patch_segments}
 use Rattle.world.specs.Losing.{geometry_of}
 use Rattle.world.proofs.Moments.{continues_trans, then_run}
 use Rattle.world.specs.Shelf.{LeavesOnly}
 use Rattle.register.specs.declared.state.Register.{Register}
-use Rattle.register.specs.Registers.{named_sound}
-use Rattle.register.specs.Standing.{array_of}
+use Rattle.register.specs.Standing.{Content, array_of}
 use Rattle.array_memory.specs.Kept.{Kept}
 use Rattle.array_memory.specs.Plan.{with_patch_rooms}
 use Rattle.array_state.specs.Ready.{IsArrayOf, IsReady}
-use Rattle.array_core.specs.Losing.{lost_since}
+use Rattle.array_core.specs.Going.{Calls}
 use Rattle.array_core.specs.Performing.{IsKeptAt}
+use Rattle.array_core.proofs.Losses.{same_geometry}
+use Rattle.array_core.proofs.Steps.{hands, lost_halts, same_meanwhile}
 use Rattle.array_switch.proofs.Stages.{err_is}
 use Rattle.array_checkpoint.specs.declared.making.CheckpointFault.{CheckpointFault}
-use Rattle.array_checkpoint.specs.declared.making.CheckpointFault.TheVariants as fault
 use Rattle.array_checkpoint.specs.Prepared.{IsLike}
-use Rattle.array_core.proofs.Losses.{same_geometry}
 use Rattle.array_checkpoint.specs.Made.{contents_after, held_after, IsFaultOf}
 use Rattle.array_checkpoint.proofs.Like.{like_is_of, like_is_ready}
-use Rattle.array_checkpoint.proofs.Joined.{counted_now, counted_since, drops, err_on, flushed_since, goes_on, hold_roomed, joins, reads_roomed, same_objects, same_spent, too_much, was_open}
+use Rattle.array_checkpoint.proofs.Joined.{counted_now, counted_since, drops, err_on, flushed_since, hold_roomed, joins, reads_roomed, same_objects, same_spent, too_much, was_open}
 use Rattle.array_checkpoint.proofs.making.checkpoint.Goals as goal
 
 pub write_prepared-requires-clause-is_of : goal.write_prepared-requires-clause-is_of
@@ -57,56 +56,44 @@ returns-clause-moments g c h =
     let on = c.write_prepared.ensures.continues in
     counted_since on (c.write_prepared.ensures.moments h) (c.take_over.ensures.moments (on.honest h))
 
-pub returns-clause-dropped : goal.returns-clause-dropped
-returns-clause-dropped g c =
+pub returns-clause-goes : goal.returns-clause-goes
+returns-clause-goes g c =
     let was = c.args.array.now in
     let mid = c.prepare.new.array in
     let now = c.take_over.new.array in
-    let a = g.S.Shelf.shelf c.args.shelf.now in
-    let n = g.S.Shelf.shelf c.take_over.new.shelf in (
-      drops was mid c.prepare.ensures.like a n now (c.take_over.ensures.dropped c.args.shelf.now c.write_prepared.ensures.continues c.in_ok-lost.ensures.lost),
-      joins was mid c.prepare.ensures.like now c.in_ok-take_over.ensures.joins,
-    )
-
-pub returns-clause-reads : goal.returns-clause-reads
-returns-clause-reads g c contents array r =
-    let was = c.args.array.now in
-    let mid = c.prepare.new.array in
     let like = c.prepare.ensures.like in
     let plan = c.in_ok-prepared.prepared.plan in
-    let a = g.S.Shelf.shelf c.args.shelf.now in
-    let on = c.write_prepared.ensures.continues in
-    let more = contents_after mid.memory.memory plan contents in (
-      more,
-      c.in_ok-take_over.ensures.reads contents array (reads_roomed was mid like contents array r),
-      λ h hold. c.in_ok-take_over.ensures.segments (on.honest h) more (c.in_ok-lost.ensures.contents h contents (hold_roomed was mid like a contents hold)),
-    )
-
-pub returns-clause-done : goal.returns-clause-done
-returns-clause-done g c h held is_ready =
-    let mid = c.prepare.new.array in
-    let plan = c.in_ok-prepared.prepared.plan in
-    let a = g.S.Shelf.shelf c.args.shelf.now in
-    let on = c.write_prepared.ensures.continues in
-    let ready : IsReady a mid held = like_is_ready a c.args.array.now mid held c.prepare.ensures.like is_ready in
-    let w = c.in_ok-lost.ensures in (
-      held_after mid.memory.memory plan held,
-      c.in_ok-take_over.ensures.done (on.honest h) c.args.shelf.now held (was_open a mid held ready) (w.free h held ready) (w.hold h held ready) ready.contents ready.reads (w.contents h ready.contents ready.hold),
-      refl,
-    )
-
-pub returns-clause-any_moment : goal.returns-clause-any_moment
-returns-clause-any_moment g c h held is_ready =
-    let was = c.args.array.now in
-    let mid = c.prepare.new.array in
-    let like = c.prepare.ensures.like in
     let a = g.S.Shelf.shelf c.args.shelf.now in
     let n = g.S.Shelf.shelf c.take_over.new.shelf in
     let on = c.write_prepared.ensures.continues in
-    let ready : IsReady a mid held = like_is_ready a was mid held like is_ready in
     let w = c.in_ok-lost.ensures in
-    subst (λ (r : Register). LeavesOnly a n (IsKeptAt a r.record (array_of held ∷ []))) like.register
-    (then_run on (c.write_prepared.ensures.any_moment h held ready) (c.take_over.ensures.any_moment (on.honest h) c.args.shelf.now held (was_open a mid held ready) (w.free h held ready) (w.hold h held ready)))
+    let x = c.in_ok-take_over.ensures in
+    let roomed : (held : Content) → IsReady a was held → IsReady a mid held = λ held ready. like_is_ready a was mid held like ready in
+    record {
+      ran = record { continues = continues_trans on c.take_over.ensures.continues; counted = λ h. counted_since on (c.write_prepared.ensures.moments h) (c.take_over.ensures.moments (on.honest h)) };
+      is_of = x.is_of;
+      hands_on = hands a n was now (drops was mid like a n now (c.take_over.ensures.dropped c.args.shelf.now on w.lost)) (joins was mid like now x.joins);
+      accepted = λ contents z r. tt;
+      reads = λ contents z r.
+          let more = contents_after mid.memory.memory plan contents in
+          record {
+            more = more;
+            reads = x.reads contents z (reads_roomed was mid like contents z r);
+            hold = λ h hold. x.segments (on.honest h) more (w.contents h contents (hold_roomed was mid like a contents hold));
+          };
+      holds = λ h z holds.
+          let held = holds.held in
+          let ready = roomed held holds.ready in
+          record {
+            held = held_after mid.memory.memory plan held;
+            ready = x.done (on.honest h) c.args.shelf.now held (was_open a mid held ready) (w.free h held ready) (w.hold h held ready) ready.contents ready.reads (w.contents h ready.contents ready.hold);
+            is = holds.is;
+          };
+      any_moment = same_meanwhile a n was (λ h held is_ready.
+          let ready = roomed held is_ready in
+          subst (λ (r : Register). LeavesOnly a n (IsKeptAt a r.record (array_of held ∷ []))) like.register
+          (then_run on (c.write_prepared.ensures.any_moment h held ready) (c.take_over.ensures.any_moment (on.honest h) c.args.shelf.now held (was_open a mid held ready) (w.free h held ready) (w.hold h held ready))));
+    }
 
 -- ---- where the tables could not be taken over
 
@@ -124,28 +111,23 @@ returns-in_err-take_over-clause-moments g c h =
 pub returns-in_err-take_over-clause-objects : goal.returns-in_err-take_over-clause-objects
 returns-in_err-take_over-clause-objects g c = c.take_over.ensures.objects ∙ same_objects c.args.array.now c.prepare.new.array c.prepare.ensures.like
 
-pub returns-in_err-take_over-clause-any_moment : goal.returns-in_err-take_over-clause-any_moment
-returns-in_err-take_over-clause-any_moment g c h held is_ready =
+pub returns-in_err-take_over-clause-fault : goal.returns-in_err-take_over-clause-fault
+returns-in_err-take_over-clause-fault g c =
     let was = c.args.array.now in
     let mid = c.prepare.new.array in
     let like = c.prepare.ensures.like in
     let a = g.S.Shelf.shelf c.args.shelf.now in
     let n = g.S.Shelf.shelf c.take_over.new.shelf in
     let on = c.write_prepared.ensures.continues in
-    let ready : IsReady a mid held = like_is_ready a was mid held like is_ready in
     let w = c.in_ok-lost.ensures in
-    subst (λ (r : Register). LeavesOnly a n (IsKeptAt a r.record (array_of held ∷ []))) like.register
-    (then_run on (c.write_prepared.ensures.any_moment h held ready) (c.take_over.ensures.any_moment (on.honest h) c.args.shelf.now held (was_open a mid held ready) (w.free h held ready) (w.hold h held ready)))
-
-pub returns-in_err-take_over-clause-fault : goal.returns-in_err-take_over-clause-fault
-returns-in_err-take_over-clause-fault g c =
-    let was = c.args.array.now in
-    let mid = c.prepare.new.array in
-    let a = g.S.Shelf.shelf c.args.shelf.now in
-    let n = g.S.Shelf.shelf c.take_over.new.shelf in
     let q = err_from_is_err_and c.from_residual-in_err-take_over.result c.from_residual-in_err-take_over.ensures.1 in
+    let moments = same_meanwhile a n was (λ h held is_ready.
+    let ready = like_is_ready a was mid held like is_ready in
+    subst (λ (r : Register). LeavesOnly a n (IsKeptAt a r.record (array_of held ∷ []))) like.register
+    (then_run on (c.write_prepared.ensures.any_moment h held ready) (c.take_over.ensures.any_moment (on.honest h) c.args.shelf.now held (was_open a mid held ready) (w.free h held ready) (w.hold h held ready)))) in
+    let ran : Calls a n = record { continues = continues_trans on c.take_over.ensures.continues; counted = λ h. counted_since on (c.write_prepared.ensures.moments h) (c.take_over.ensures.moments (on.honest h)) } in
     err_is c.from_residual-in_err-take_over.result _ q.0 q.1 (subst (λ (e : CheckpointFault). IsFaultOf a n was (IsLike was c.take_over.new.array × (c.take_over.new.shelf ≡ c.args.shelf.now)) e) (sym q.2)
-    (too_much was mid c.prepare.ensures.like a n (c.in_err-take_over.ensures.fault.1 c.args.shelf.now c.write_prepared.ensures.continues c.in_ok-lost.ensures.lost)))
+    (lost_halts a n was [] ran c.requires.is_of (too_much was mid like a n (c.in_err-take_over.ensures.fault.1 c.args.shelf.now on w.lost)) moments))
 
 pub returns-in_err-take_over-clause-kept : goal.returns-in_err-take_over-clause-kept
 returns-in_err-take_over-clause-kept g c =
@@ -155,18 +137,6 @@ returns-in_err-take_over-clause-kept g c =
     let same = c.in_err-take_over.ensures.unfinished in
     err_on c.from_residual-in_err-take_over.result _ q.0 q.1 (same ∙ c.prepare.ensures.like.memory ∙ ap (λ (k : Kept). with_patch_rooms was.memory k) (sym same))
 
-pub returns-in_err-take_over-clause-borne : goal.returns-in_err-take_over-clause-borne
-returns-in_err-take_over-clause-borne g c h =
-    let was = c.args.array.now in
-    let mid = c.prepare.new.array in
-    let like = c.prepare.ensures.like in
-    let a = g.S.Shelf.shelf c.args.shelf.now in
-    let n = g.S.Shelf.shelf c.take_over.new.shelf in
-    let q = err_from_is_err_and c.from_residual-in_err-take_over.result c.from_residual-in_err-take_over.ensures.1 in
-    err_is c.from_residual-in_err-take_over.result _ q.0 q.1 (λ is held ready bears.
-    c.in_err-take_over.ensures.borne c.args.shelf.now held c.write_prepared.ensures.continues (was_open a mid held (like_is_ready a was mid held like ready)) c.in_ok-lost.ensures.lost
-    (subst (λ (r : Register). IsBearable (geometry_of a) (lost_since a n (named_sound r.record))) (sym like.register) bears))
-
 -- ---- where memory was wanted
 
 pub returns-in_err-lost-clause-moments : goal.returns-in_err-lost-clause-moments
@@ -175,28 +145,8 @@ returns-in_err-lost-clause-moments g c h = c.write_prepared.ensures.moments h
 pub returns-in_err-lost-clause-objects : goal.returns-in_err-lost-clause-objects
 returns-in_err-lost-clause-objects g c = same_objects c.args.array.now c.prepare.new.array c.prepare.ensures.like
 
-pub returns-in_err-lost-clause-any_moment : goal.returns-in_err-lost-clause-any_moment
-returns-in_err-lost-clause-any_moment g c h held is_ready =
-    let was = c.args.array.now in
-    let mid = c.prepare.new.array in
-    let like = c.prepare.ensures.like in
-    let a = g.S.Shelf.shelf c.args.shelf.now in
-    let n = g.S.Shelf.shelf c.write_prepared.new.shelf in
-    subst (λ (r : Register). LeavesOnly a n (IsKeptAt a r.record (array_of held ∷ []))) like.register (c.write_prepared.ensures.any_moment h held (like_is_ready a was mid held like is_ready))
-
-memory_only : (e : CheckpointFault) → e ≡ fault.Memory → e ≡ fault.Device → ⊥
-memory_only e memory device = cc
-
-pub returns-in_err-lost-clause-borne : goal.returns-in_err-lost-clause-borne
-returns-in_err-lost-clause-borne g c h =
-    let q = err_from_is_err_and c.from_residual-in_err-lost.result c.from_residual-in_err-lost.ensures.1 in
-    err_is c.from_residual-in_err-lost.result _ q.0 q.1 (λ is held ready bears. memory_only q.0 q.2 is)
-
 pub returns-in_err-prepared-clause-moments : goal.returns-in_err-prepared-clause-moments
 returns-in_err-prepared-clause-moments g c h = counted_now (g.S.Shelf.shelf c.args.shelf.now) (g.met.S.Shelf.is_shelf c.args.shelf.now)
 
 pub returns-in_err-prepared-clause-objects : goal.returns-in_err-prepared-clause-objects
 returns-in_err-prepared-clause-objects g c = same_objects c.args.array.now c.prepare.new.array c.prepare.ensures.like
-
-pub returns-in_err-prepared-clause-any_moment : goal.returns-in_err-prepared-clause-any_moment
-returns-in_err-prepared-clause-any_moment g c h held is_ready = goes_on (g.S.Shelf.shelf c.args.shelf.now) (g.met.S.Shelf.is_shelf c.args.shelf.now) h c.args.array.now held is_ready

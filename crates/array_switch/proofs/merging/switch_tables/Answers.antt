@@ -7,8 +7,7 @@ use Rattle.world.proofs.Moments.{continues_trans, then_run}
 use Rattle.nvram_log.specs.Held.{HoldsOn}
 use Rattle.register.specs.Standing.{IsOpen}
 use Rattle.array_switch.proofs.Holders.{drives_failed, named_left, none_joins_tables}
-use Rattle.array_switch.proofs.Lost.{not_too_much}
-use Rattle.array_switch.proofs.Stages.{err_if, err_is, some_named}
+use Rattle.array_switch.proofs.Stages.{err_is, some_named}
 use Rattle.array_switch.proofs.Whole.{both_dropped, both_write, none_left, none_stored, has_left, open_b, plan, tables_run, open_c, holds_c}
 use Rattle.array_switch.proofs.merging.switch_tables.Goals as goal
 
@@ -30,12 +29,6 @@ returns-in_err-leave_lost-clause-fault g c =
       q.2,
       λ start on are. inr (none_left (g.S.Shelf.shelf start) a b on x.continues r0 r1 c.args.lost.now are x.dropped x.later low c.in_err-leave_lost.field-0.0 c.in_err-leave_lost.ensures.fault),
     )
-
-pub returns-in_err-leave_lost-clause-borne : goal.returns-in_err-leave_lost-clause-borne
-returns-in_err-leave_lost-clause-borne g c =
-    err_if c.from_residual.result (λ e x start held on was are bears.
-    not_too_much (g.S.Shelf.shelf start) (g.S.Shelf.shelf c.leave_lost.new.shelf) c.args.register.now c.args.log.now.members held was.is_open bears (x.1 start on are))
-    (returns-in_err-leave_lost-clause-fault g c)
 
 -- ---- no record of the tables could be stored
 
@@ -83,12 +76,6 @@ returns-in_err-store_tables-clause-fault g c =
       λ start on are. inr (none_stored (g.S.Shelf.shelf start) a b e on x.continues y.continues r0 r1 r2 c.args.lost.now c.args.tables are x.dropped y.dropped x.later c.in_err-store_tables.ensures.kept low
           c.in_err-store_tables.field-0.0 c.in_err-store_tables.ensures.fault),
     )
-
-pub returns-in_err-store_tables-clause-borne : goal.returns-in_err-store_tables-clause-borne
-returns-in_err-store_tables-clause-borne g c =
-    err_if c.from_residual-in_err-store_tables.result (λ e x start held on was are bears.
-    not_too_much (g.S.Shelf.shelf start) (g.S.Shelf.shelf c.store_tables.new.shelf) c.args.register.now c.args.log.now.members held was.is_open bears (x.1 start on are))
-    (returns-in_err-store_tables-clause-fault g c)
 
 pub returns-in_err-store_tables-clause-any_moment : goal.returns-in_err-store_tables-clause-any_moment
 returns-in_err-store_tables-clause-any_moment g c h start held next was w hold =

@@ -7,7 +7,7 @@ use Rattle.world.proofs.Writes.{writes_then, writes_more}
 use Rattle.register.specs.Registers.{drives_of}
 use Rattle.register.specs.Standing.{IsOpen}
 use Rattle.array_switch.proofs.Holders.{all_failed, all_of_more, drives_failed, named_left, none_joins, too_much_since}
-use Rattle.array_switch.proofs.Lost.{dropped_then, not_too_much}
+use Rattle.array_switch.proofs.Lost.{dropped_then}
 use Rattle.array_switch.proofs.Stages.{err_if, err_is, ok_if, some_named}
 use Rattle.array_switch.proofs.Whole.{both_dropped, both_write, none_left, none_stored, has_left, open_b, plan, tables_run, open_c, holds_c, clear_run}
 use Rattle.array_switch.proofs.switching.switch.Goals as goal
@@ -30,12 +30,6 @@ returns-in_err-leave_lost-clause-fault g c =
       q.2,
       λ start on are. inr (none_left (g.S.Shelf.shelf start) a b on x.continues r0 r1 c.args.lost.now are x.dropped x.later low c.in_err-leave_lost.field-0.0 c.in_err-leave_lost.ensures.fault),
     )
-
-pub returns-in_err-leave_lost-clause-borne : goal.returns-in_err-leave_lost-clause-borne
-returns-in_err-leave_lost-clause-borne g c =
-    err_if c.from_residual.result (λ e x start held on was are bears.
-    not_too_much (g.S.Shelf.shelf start) (g.S.Shelf.shelf c.leave_lost.new.shelf) c.args.register.now c.args.log.now.members held was.is_open bears (x.1 start on are))
-    (returns-in_err-leave_lost-clause-fault g c)
 
 -- ---- no record of the tables could be stored
 
@@ -80,12 +74,6 @@ returns-in_err-store_tables-clause-fault g c =
       λ start on are. inr (none_stored (g.S.Shelf.shelf start) a b e on x.continues y.continues r0 r1 r2 c.args.lost.now c.args.tables are x.dropped y.dropped x.later c.in_err-store_tables.ensures.kept low
           c.in_err-store_tables.field-0.0 c.in_err-store_tables.ensures.fault),
     )
-
-pub returns-in_err-store_tables-clause-borne : goal.returns-in_err-store_tables-clause-borne
-returns-in_err-store_tables-clause-borne g c =
-    err_if c.from_residual-in_err-store_tables.result (λ e x start held on was are bears.
-    not_too_much (g.S.Shelf.shelf start) (g.S.Shelf.shelf c.store_tables.new.shelf) c.args.register.now c.args.log.now.members held was.is_open bears (x.1 start on are))
-    (returns-in_err-store_tables-clause-fault g c)
 
 pub returns-in_err-store_tables-clause-any_moment : goal.returns-in_err-store_tables-clause-any_moment
 returns-in_err-store_tables-clause-any_moment g c h start held next was w hold =
@@ -186,12 +174,6 @@ returns-clause-fault g c = err_if c.clear_log.result (λ k lost. (
       too_much_since s e n (continues_trans (continues_trans on x.continues) y.continues) c.clear_log.ensures.continues r0 r2 c.args.log.now.members next
       (both_dropped s a b e on x.continues y.continues r0 r1 r2 c.args.lost.now are x.dropped y.dropped) lost.1,
 )) c.clear_log.ensures.lost
-
-pub returns-clause-borne : goal.returns-clause-borne
-returns-clause-borne g c =
-    err_if c.clear_log.result (λ e x start held on was are bears.
-    not_too_much (g.S.Shelf.shelf start) (g.S.Shelf.shelf c.clear_log.new.shelf) c.args.register.now c.args.log.now.members held was.is_open bears (x.1 start on are))
-    (returns-clause-fault g c)
 
 pub returns-clause-any_moment : goal.returns-clause-any_moment
 returns-clause-any_moment g c h start held next was w hold =
