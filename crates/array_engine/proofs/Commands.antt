@@ -1,6 +1,6 @@
 -- The point behind a logged request.
-use Rattle.std.proofs.Common.{◌≡◌, inl, inr, ℕ, ◌+◌, Bool, true, false, List, Option, Some, None, Result, Ok, Err, OnOk, IfErr, refl, sym, ap, subst, ◌∙◌, arith}
-use Rattle.std.proofs.lemmas.Bool.{cases_lt, cond-false, cond-true, le-leb, lt-leb}
+use Rattle.std.proofs.Common.{◌≡◌, inl, inr, ℕ, ◌+◌, Bool, true, false, List, [], ◌∷◌, Option, Some, None, Result, Ok, Err, OnOk, IfErr, refl, sym, ap, subst, ◌∙◌, arith}
+use Rattle.std.proofs.lemmas.Bool.{cases_lt, cond-false, le-leb, lt-leb}
 use Rattle.pur_base.specs.declared.device.Device.{Device}
 use Rattle.pur_base.specs.declared.request.Request.{Request}
 use Rattle.pur_base.specs.declared.request.Request.TheVariants as request
@@ -8,40 +8,36 @@ use Rattle.pur_base.specs.declared.reply.Refusal.{Refusal}
 use Rattle.pur_base.specs.declared.reply.Refusal.TheVariants as refusals
 use Rattle.pur_base.specs.declared.reply.Reply.TheVariants as reply
 use Rattle.pur_base.specs.Commands.{Command, IsLogged, after}
-use Rattle.pur_base.specs.Devices.{Geometry, IsBearable}
+use Rattle.pur_base.specs.Devices.{Geometry}
 use Rattle.pur_base.specs.Grammar.{Asked, is_in_force}
 use Rattle.pur_base.specs.Plain as plain
 use Rattle.pur_base.specs.Plain.{refusal, done}
 use Rattle.pur_base.specs.Replies.{Answer, Line, refused, given, after_unless}
 use Rattle.boot_codec.specs.declared.record.BootRecord.{BootRecord}
 use Rattle.boot_codec.specs.declared.record.NextNumbers.{NextNumbers}
-use Rattle.boot_codec.specs.Region.{names}
 use Rattle.log_codec.specs.declared.limits.TheConstants.{LOG_SLOTS}
 use Rattle.world.specs.Shelf.{Shelved, Stop}
-use Rattle.world.specs.Losing.{geometry_of, losing}
+use Rattle.world.specs.Losing.{geometry_of}
 use Rattle.memory_spec.specs.Numbers.{next_after}
-use Rattle.memory_spec.specs.Tables.{facts, patches}
+use Rattle.memory_spec.specs.Tables.{patches}
 use Rattle.session_spec.specs.Faring as faring
-use Rattle.session_spec.specs.Faring.{Point, Answers, AnswersRequest, AnswersAccepted, IsAppended as IsAppendedAt, IsAppendedBehind, IsDone, IsFailed, IsRefused, MayRise, Where}
+use Rattle.session_spec.specs.Faring.{Point, Answers, AnswersRequest, AnswersAccepted, IsAppended as IsAppendedAt, IsAppendedBehind, IsDone, IsRefused, MayRise, Where}
 use Rattle.session_spec.specs.declared.limits.TheConstants.{ADDING_GROUPS, LIMITED_SEGMENTS}
 use Rattle.array_state.specs.declared.array.Array.{Array}
-use Rattle.array_state.specs.Drives.{SegmentsHold}
-use Rattle.array_state.specs.Ready.{IsReady}
 use Rattle.array_state.proofs.Applied.{same_patches}
-use Rattle.array_core.proofs.Losses.{sound_since, left_out_since}
+use Rattle.array_core.specs.Going.{by_faults}
+use Rattle.array_core.specs.Goes.{Goes}
 use Rattle.array_checkpoint.specs.Prepared.{IsLike}
-use Rattle.array_checkpoint.specs.Room.{MayAdd}
 use Rattle.array_checkpoint.specs.declared.room.RoomFault.TheVariants as lacks
 use Rattle.array_engine.specs.declared.engine.Engine.{Engine}
 use Rattle.array_engine.specs.declared.appending.AppendFault.{AppendFault}
 use Rattle.array_engine.specs.declared.appending.AppendFault.TheVariants as fault
 use Rattle.array_engine.specs.declared.said.Said.TheVariants as said
-use Rattle.array_engine.specs.Appending.{AppliesTo, IsAppended, IsAppendFault, IsCleared, IsFull, failed_in, lost_in}
+use Rattle.array_engine.specs.Appending.{IsAppended, IsAppendFault, IsCleared, IsFull, failed_in, lost_in}
 use Rattle.array_engine.specs.Engines.{IsAt, StandsAt, IsAnsweredAt, point_after}
 use Rattle.array_engine.specs.Replying.{said_of, ends_lost}
-use Rattle.array_engine.proofs.Points.{KeepsReady, KeepsSegments, answered_refused}
+use Rattle.array_engine.proofs.AtPoint.{goes_answered, halts_answered, stays_answered}
 use Rattle.array_engine.proofs.Rooms.{where_not, where_so, with_room, without_room}
-use Rattle.array_engine.proofs.Unborne.{not_risen}
 use Rattle.array_engine.proofs.Behind.{between, checkpointed}
 
 -- ---- slots of the log
@@ -86,10 +82,6 @@ after_accepted : (o : Option Refusal) (a b : plain.Array) → o ≡ None → aft
 after_accepted None a b e = refl
 after_accepted (Some why) a b e = absurd cc
 
-pub unnamed : (b : Bool) → (b ≡ true → ⊥) → b ≡ false
-unnamed true h = absurd (h refl)
-unnamed false h = refl
-
 -- What a logged request makes of the engine, which wasn't halted and whose array accepts it.
 module _ (told : Bool) (old new : Shelved) (e f : Engine) (r : Request) (sectors : List (List ℕ)) (stays : Type 0) (from : Point) (honest : told ≡ true → old.honest)
     (at : IsAt told old e from) (awake : e.halted ≡ false) (logs : IsLogged r) (force : is_in_force r ≡ true) (accepted : refusal from.array r ≡ None) (same : stays → IsLike e.array f.array × (new ≡ old)) where
@@ -108,12 +100,8 @@ module _ (told : Bool) (old new : Shelved) (e f : Engine) (r : Request) (sectors
       (subst (λ (o : Option Refusal). AnswersRequest false o told (geometry_of old) (failed_in old new) (lost_in old new) from r sectors q to) (sym accepted)
       (accepted_logged told (geometry_of old) (failed_in old new) (lost_in old new) from sectors q to r logs force h))
 
-  -- ---- it was done
-
-  module _ (p : IsAppended old new e.array f.array c) (halted : f.halted ≡ false) where
-    abbrev applied : AppliesTo old new e.array p.mid f.array c s.contents from.array
-    applied = p.applied s.contents from.array s.reads accepted
-
+  -- it was done
+  module _ (goes : Goes by_faults old new e.array f.array (c ∷ [])) (p : IsAppended old new e.array f.array c) (halted : f.halted ≡ false) where
     module _ (stop : Stop) where
       abbrev to : Point
       to = point_after f (after from.array c) (lost_in old new) stop from
@@ -123,11 +111,11 @@ module _ (told : Bool) (old new : Shelved) (e f : Engine) (r : Request) (sectors
       done_at m array logged boot tables next halts = record {
         reply = given_logged m.array r logs;
         array = after_accepted (refusal from.array r) from.array (done from.array r sectors) accepted ∙ ap (λ (x : plain.Array). done x r sectors) (sym array);
-        logged = cond-false f.halted from.logged f.array.log.count halted ∙ p.count ∙ ap (λ (n : ℕ). n + 1) (sym logged);
+        logged = cond-false f.halted from.logged f.array.log.count halted ∙ p.logged.count ∙ ap (λ (n : ℕ). n + 1) (sym logged);
         boot = subst (λ (b : BootRecord). MayRise (lost_in old new) b to.boot) (sym boot)
-            (subst (λ (b : BootRecord). MayRise (lost_in old new) p.mid.register.record b) (sym (cond-false f.halted from.boot f.array.register.record halted)) p.boot);
-        patches = cond-false f.halted from.patches (patches f.array.memory.memory.tables) halted ∙ same_patches p.mid.memory.memory.tables f.array.memory.memory.tables p.patches ∙ sym tables;
-        next = cond-false f.halted from.next f.array.memory.memory.next halted ∙ p.next ∙ ap (λ (n : NextNumbers). next_after n r) (sym next);
+            (subst (λ (b : BootRecord). MayRise (lost_in old new) p.mid.register.record b) (sym (cond-false f.halted from.boot f.array.register.record halted)) p.logged.boot);
+        patches = cond-false f.halted from.patches (patches f.array.memory.memory.tables) halted ∙ same_patches p.mid.memory.memory.tables f.array.memory.memory.tables p.logged.patches ∙ sym tables;
+        next = cond-false f.halted from.next f.array.memory.memory.next halted ∙ p.logged.next ∙ ap (λ (n : NextNumbers). next_after n r) (sym next);
         halted = halted ∙ sym was_awake ∙ sym halts;
       }
 
@@ -139,95 +127,28 @@ module _ (told : Bool) (old new : Shelved) (e f : Engine) (r : Request) (sectors
           (s.patches ∙ ap (λ (x : Array). patches x.memory.memory.tables) (sym is))
           (s.next ∙ ap (λ (x : Array). x.memory.memory.next) (sym is))
           refl))
-      done_behind (inr (full, is, flushed)) = where_so (faring.is_full from) _ (full_is s full) (inl (between from p.mid, checkpointed s p.mid is flushed applied.more applied.before, done_at (between from p.mid) refl (sym flushed.none) refl refl refl refl))
-
-      -- the devices that lost a write hold the array no more
-      at_done : IsAt told new f to
-      at_done = record {
-        halted = refl;
-        stands = λ still. record {
-          logged = cond-false f.halted from.logged f.array.log.count halted;
-          boot = cond-false f.halted from.boot f.array.register.record halted;
-          patches = cond-false f.halted from.patches (patches f.array.memory.memory.tables) halted;
-          next = cond-false f.halted from.next f.array.memory.memory.next halted;
-          contents = applied.more;
-          reads = applied.reads;
-          hold = λ t. applied.hold (honest t) (s.hold t);
-          holders = λ d h.
-              let was = sound_since (lost_in old new d) (from.conditions d) h in
-              elim (p.dropped d (s.holders d was.0)) [
-                | inl holds ↦ holds
-                | inr rose ↦ absurd (not_risen (old.disk d).write_faults (new.disk d).write_faults was.1 rose)
-              ];
-          left_out = λ d l.
-              let was = s.left_out d (left_out_since (lost_in old new d) (from.conditions d) l) in (
-                unnamed (names f.array.register.record d) (λ is. elim (p.joins.named d is) [
-                  | inl named ↦ cc (named, was.0)
-                  | inr holds ↦ was.1 holds
-                ]),
-                λ holds. was.1 (p.joins.holders d holds),
-              );
-        };
-      }
+      done_behind (inr (full, is, flushed)) =
+          let before = p.before s.contents from.array s.reads in
+          where_so (faring.is_full from) _ (full_is s full) (inl (between from p.mid, checkpointed s p.mid is flushed before.0 before.1, done_at (between from p.mid) refl (sym flushed.none) refl refl refl refl))
 
     was_done : IsAnsweredAt told old new e f (Asked r sectors) said.Done from
-    was_done = record {
-      reply = Line reply.Done;
-      says = refl;
-      whole = tt;
-      array = after from.array c;
-      answers = λ stop. by_accepted (to stop) (Line reply.Done) (with_room s LIMITED_SEGMENTS ADDING_GROUPS (Line reply.Done) (to stop) _ p.room (done_behind stop p.cleared));
-      at = at_done;
-      ready = λ h still held is is_held. let next = p.done h held is in (next.0, next.1, ap (λ (a : plain.Array). after a c) is_held ∙ sym next.2);
-    }
+    was_done = goes_answered told old new e f (c ∷ []) from honest at awake goes halted (Asked r sectors) said.Done (Line reply.Done) refl tt
+        (λ stop. by_accepted (to stop) (Line reply.Done) (with_room s LIMITED_SEGMENTS ADDING_GROUPS (Line reply.Done) (to stop) _ p.room (done_behind stop p.cleared)))
 
-  -- ---- it wasn't
+  -- it wasn't
+  abbrev here : Stop → Point
+  here stop = point_after f from.array (lost_in old new) stop from
 
-  -- nothing has changed but room
-  module _ (halted : f.halted ≡ false) (is : stays) where
-    keeps_segments : KeepsSegments told old new f.array
-    keeps_segments t contents h = subst (λ (x : Shelved). SegmentsHold contents x f.array.register (facts f.array.memory.memory.tables)) (sym (same is).1) h
+  refused_for : f.halted ≡ false → stays → (why : Refusal) → ((q : Answer) (to : Point) → IsRefused why from q to → faring.IsLogged (geometry_of old) (lost_in old new) from r sectors q to) → IsAnsweredAt told old new e f (Asked r sectors) (said.Refused why) from
+  refused_for halted is why cause = stays_answered told old new e f from at awake halted (same is).0 (same is).1 (Asked r sectors) why (λ stop h. by_accepted (here stop) (refused why) (cause (refused why) (here stop) h))
 
-    keeps_ready : KeepsReady old new f.array
-    keeps_ready honest held h = subst (λ (x : Shelved). IsReady x f.array held) (sym (same is).1) h
-
-    refused_for : (why : Refusal) → ((q : Answer) (to : Point) → IsRefused why from q to → faring.IsLogged (geometry_of old) (lost_in old new) from r sectors q to) → IsAnsweredAt told old new e f (Asked r sectors) (said.Refused why) from
-    unfolding keeps_segments keeps_ready
-    refused_for why cause = answered_refused told old new e f (same is).0 (halted ∙ sym awake) keeps_segments from at keeps_ready (Asked r sectors) why
-        (λ stop h. by_accepted (point_after f from.array (lost_in old new) stop from) (refused why) (cause (refused why) (point_after f from.array (lost_in old new) stop from) h))
-
-  -- more devices failed than are borne
-  failed_so : f.halted ≡ true → MayAdd e.array → ¬ (IsBearable (geometry_of old) (losing (lost_in old new) from.conditions)) → IsAnsweredAt told old new e f (Asked r sectors) (said.Refused refusals.Device) from
-  failed_so halted room unborne = record {
-    reply = refused refusals.Device;
-    says = refl;
-    whole = tt;
-    array = from.array;
-    answers = λ stop.
-        let to = point_after f from.array (lost_in old new) stop from in
-        let failed : IsFailed (geometry_of old) (lost_in old new) from (refused refusals.Device) to = record {
-          unborne = unborne;
-          reply = refl;
-          stays = record {
-            array = refl;
-            logged = cond-true f.halted from.logged f.array.log.count halted;
-            boot = cond-true f.halted from.boot f.array.register.record halted;
-            patches = cond-true f.halted from.patches (patches f.array.memory.memory.tables) halted;
-            next = cond-true f.halted from.next f.array.memory.memory.next halted;
-          };
-          halted = halted;
-        } in
-        by_accepted to (refused refusals.Device) (with_room s LIMITED_SEGMENTS ADDING_GROUPS (refused refusals.Device) to _ room (where_either (faring.is_full from) (inr (inr failed)) (inr failed)));
-    at = λ stop. record { halted = refl; stands = λ still. absurd (cc (still, halted)) };
-    ready = λ h still held is is_held. absurd (cc (still, halted));
-  }
-
-  pub command_answered : (ended : Result Unit AppendFault) → OnOk ended (IsAppended old new e.array f.array c) → IfErr ended (λ x. IsAppendFault old new e.array stays x) → f.halted ≡ ends_lost ended
-      → IsAnsweredAt told old new e f (Asked r sectors) (said_of ended) from
-  command_answered (Ok u) p none halted = was_done p halted
-  command_answered (Err fault.Limited) none w halted = refused_for halted w.1 refusals.Limit (λ q to h. without_room s LIMITED_SEGMENTS ADDING_GROUPS q to _ lacks.Limited w.0 h)
-  command_answered (Err fault.Spent) none w halted = refused_for halted w.1 refusals.Spent (λ q to h. without_room s LIMITED_SEGMENTS ADDING_GROUPS q to _ lacks.Spent w.0 h)
-  command_answered (Err fault.Space) none w halted = refused_for halted w.1 refusals.Space (λ q to h. without_room s LIMITED_SEGMENTS ADDING_GROUPS q to _ lacks.Space w.0 h)
-  command_answered (Err fault.Memory) none w halted = refused_for halted w.2 refusals.Memory
+  pub command_answered : (ended : Result Unit AppendFault) → OnOk ended (Goes by_faults old new e.array f.array (c ∷ [])) → OnOk ended (IsAppended old new e.array f.array c) → IfErr ended (λ x. IsAppendFault old new e.array stays c x)
+      → f.halted ≡ ends_lost ended → IsAnsweredAt told old new e f (Asked r sectors) (said_of ended) from
+  command_answered (Ok u) goes p none halted = was_done goes p halted
+  command_answered (Err fault.Limited) goes p w halted = refused_for halted w.1 refusals.Limit (λ q to h. without_room s LIMITED_SEGMENTS ADDING_GROUPS q to _ lacks.Limited w.0 h)
+  command_answered (Err fault.Spent) goes p w halted = refused_for halted w.1 refusals.Spent (λ q to h. without_room s LIMITED_SEGMENTS ADDING_GROUPS q to _ lacks.Spent w.0 h)
+  command_answered (Err fault.Space) goes p w halted = refused_for halted w.1 refusals.Space (λ q to h. without_room s LIMITED_SEGMENTS ADDING_GROUPS q to _ lacks.Space w.0 h)
+  command_answered (Err fault.Memory) goes p w halted = refused_for halted w.2 refusals.Memory
       (λ q to h. with_room s LIMITED_SEGMENTS ADDING_GROUPS q to _ w.0 (where_so (faring.is_full from) _ (full_is s w.1) (inr (inl h))))
-  command_answered (Err fault.Device) none w halted = failed_so halted w.0 (w.1 from.conditions s.holders)
+  command_answered (Err fault.Device) goes p w halted = halts_answered told old new e f from at awake (c ∷ []) w.1 halted (Asked r sectors)
+      (λ stop h. by_accepted (here stop) (refused refusals.Device) (with_room s LIMITED_SEGMENTS ADDING_GROUPS (refused refusals.Device) (here stop) _ w.0 (where_either (faring.is_full from) (inr (inr h)) (inr h))))

@@ -1,14 +1,12 @@
 pub mod ReplyLemmas
-pub mod Unborne
 pub mod Cleared
 pub mod Appended
 pub mod Faults
-pub mod MergeFaults
 pub mod Points
+pub mod AtPoint
 pub mod Rooms
 pub mod Behind
 pub mod Commands
-pub mod Remade
 pub mod Flushes
 pub mod Merges
 pub mod Numbers

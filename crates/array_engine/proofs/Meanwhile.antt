@@ -1,23 +1,20 @@
--- At every moment while an item is answered a session can go on, and a read leaves what the devices hold.
-use Rattle.std.proofs.Common.{◌≡◌, ◌⊎◌, inl, inr, ℕ, zero, suc, List, [], ◌∷◌, None, refl, sym, ap, subst, ◌∙◌, arith, Bool, true}
+-- At every moment while nothing is written a session can go on, and a read leaves what the devices hold.
+use Rattle.std.proofs.Common.{◌≡◌, ℕ, zero, suc, List, [], ◌∷◌, refl, sym, ap, subst, ◌∙◌, arith, Bool, true}
 use Rattle.std.specs.Prelude.{Contains, if◌then◌else◌, Some, false, slice_index_or}
 use Rattle.pur_base.specs.declared.device.Device.{Device}
 use Rattle.pur_base.specs.declared.device.Device.TheVariants.{Drive, Nv}
-use Rattle.pur_base.specs.declared.request.Request.{Request}
-use Rattle.pur_base.specs.Commands.{Command, IsLogged, after}
-use Rattle.pur_base.specs.Devices.{Conditions, Geometry, IsBearable, drive, nvram, View}
-use Rattle.pur_base.specs.Grammar.{Item, Asked}
+use Rattle.pur_base.specs.Commands.{Command}
+use Rattle.pur_base.specs.Devices.{drive, nvram, View}
+use Rattle.pur_base.specs.Grammar.{Item}
 use Rattle.pur_base.specs.Plain as plain
-use Rattle.pur_base.specs.Plain.{refusal}
-use Rattle.world.specs.Losing.{geometry_of, has_risen}
-use Rattle.world.specs.Shelf.{Shelved, Stop, Disk, IsCountedBy, IsShelf, IsSame, Continues, LeavesOnly, MayLeave, MayStop}
+use Rattle.world.specs.Losing.{has_risen}
+use Rattle.world.specs.Shelf.{Shelved, Stop, Disk, IsShelf, IsSame, Continues, LeavesOnly, MayLeave, MayStop}
 use Rattle.world.specs.Writes.{WritesOnly}
-use Rattle.world.proofs.Moments.{started, then_run, weaker}
+use Rattle.world.proofs.Moments.{started, weaker}
 use Rattle.segment_io.specs.Lost.{NoByte}
 use Rattle.register.specs.declared.state.Register.{Register}
-use Rattle.register.specs.Registers.{drives_of, named_sound}
+use Rattle.register.specs.Registers.{drives_of}
 use Rattle.register.specs.Standing.{Content, array_of}
-use Rattle.register.proofs.Again.{both}
 use Rattle.open_array.specs.Free.{WritesFree, OnFree}
 use Rattle.open_array.proofs.Kept.{free_writes_keep_open}
 use Rattle.open_array.proofs.Standing.{member_clean}
@@ -29,16 +26,14 @@ use Rattle.memory_spec.specs.Tables.{facts}
 use Rattle.checkpoint_spec.specs.Contents.{ContentsStand}
 use Rattle.array_state.specs.declared.array.Array.{Array}
 use Rattle.array_state.specs.Drives.{SegmentsHold, drives_view}
-use Rattle.array_state.specs.Ready.{IsReady, logged}
-use Rattle.session_spec.specs.Entering.{IsStanding}
-use Rattle.array_core.specs.Holding.{AgreesWith, DropsFailed, NoneJoins}
-use Rattle.array_core.specs.Losing.{lost_by, lost_since}
-use Rattle.array_core.specs.Performing.{IsKeptAt, without_or_with}
-use Rattle.array_core.proofs.Commands.{after_last}
-use Rattle.array_core.proofs.Losses.{left_out_since, lost_twice_by, same_geometry, sound_since}
-use Rattle.array_core.proofs.ReadyStands.{agrees_after, agrees_named, ready_stands_in}
-use Rattle.array_checkpoint.specs.Room.{MayAdd}
+use Rattle.array_state.specs.Ready.{IsReady}
+use Rattle.array_core.specs.Going.{by_faults, GoesOnAt, IsOnWay}
+use Rattle.array_core.specs.Goes.{GoesOnMeanwhile, Holds}
+use Rattle.array_core.specs.Losing.{lost_by}
+use Rattle.array_core.proofs.Losses.{left_out_since, sound_since}
+use Rattle.array_core.proofs.ReadyStands.{ready_stands_in}
 use Rattle.array_engine.specs.Engines.{IsKeptBy}
+use Rattle.array_engine.proofs.AtPoint.{kept_same}
 use Rattle.array_engine.proofs.Points.{KeepsReady, KeepsSegments}
 
 -- ---- a read
@@ -102,40 +97,37 @@ nothing_moved told shelf a t contents h = h
 
 -- ---- at a stop
 
--- the only one
-one_of : (x array : plain.Array) → Contains (x ∷ []) array → array ≡ x
-one_of x array (zero, lt, e) = sym e
-one_of x array (suc k, lt, e) = absurd (omega (arith, lt))
+only_one : (x z y : plain.Array) (commands : List Command) → x ≡ z → Contains (z ∷ []) y → IsOnWay x commands y
+only_one x z y commands is (zero, lt, e) = record { front = []; rest = commands; whole = refl; is = sym e ∙ sym is }
+only_one x z y commands is (suc k, lt, e) = absurd (omega (arith, lt))
 
-two_of : (x y array : plain.Array) → Contains (x ∷ y ∷ []) array → (array ≡ x) ⊎ (array ≡ y)
-two_of x y array (zero, lt, e) = inl (sym e)
-two_of x y array (suc zero, lt, e) = inr (sym e)
-two_of x y array (suc (suc k), lt, e) = absurd (omega (arith, lt))
+-- each device is as it was, but for what is dirty
+module _ (old : Shelved) (a : Array) (x : plain.Array) (commands : List Command) (holds : Holds old a x) (stop : Stop) (device : (d : Device) → MayLeave (old.disk d) (stop.image d)) where
+  abbrev as_now : Stop
+  as_now = record { image = stop.image; faults = λ d. (old.disk d).faults; write_faults = λ d. (old.disk d).write_faults; output = old.output; taken = old.taken }
+
+  may_now : MayStop old as_now
+  may_now = record { device = device; counts = record { faults = λ d. omega arith; write_faults = λ d. omega arith }; output = refl; taken = refl }
+
+  goes_on : GoesOnAt by_faults old a.register.record x commands stop
+  goes_on now agrees borne = record {
+    arrays = array_of holds.held ∷ [];
+    each = λ y has. only_one x (array_of holds.held) y commands holds.is has;
+    standing = ready_stands_in old a holds.held holds.ready (lost_by old stop now) (record {
+      sound = λ d e. (agrees.sound d (sound_since (has_risen (old.disk d).write_faults (stop.write_faults d)) (now d) e).0).0;
+      left_out = λ d e. (agrees.left_out d (left_out_since (has_risen (old.disk d).write_faults (stop.write_faults d)) (now d) e)).0;
+    }) borne as_now may_now;
+  }
+
+-- while nothing is done
+pub nothing_meanwhile : (old new : Shelved) → new ≡ old → IsShelf old → (a : Array) (commands : List Command) → GoesOnMeanwhile by_faults old new a commands
+nothing_meanwhile old new same is a commands h x holds = subst (λ (s : Shelved). LeavesOnly old s (GoesOnAt by_faults old a.register.record x commands)) (sym same)
+    (started old (GoesOnAt by_faults old a.register.record x commands) is (λ stop may. goes_on old a x commands holds stop may.device))
 
 module _ (old : Shelved) (a : Array) (held : Content) (ready : IsReady old a held) where
-  agrees : (stop : Stop) → AgreesWith a.register.record (lost_by old stop (named_sound a.register.record))
-  agrees stop =
-      let named = agrees_named a.register.record in
-      record {
-        sound = λ d s. named.sound d (sound_since (has_risen (old.disk d).write_faults (stop.write_faults d)) (named_sound a.register.record d) s).0;
-        left_out = λ d l. named.left_out d (left_out_since (has_risen (old.disk d).write_faults (stop.write_faults d)) (named_sound a.register.record d) l);
-      }
-
-  abbrev as_now : Stop → Stop
-  as_now stop = record { image = stop.image; faults = λ d. (old.disk d).faults; write_faults = λ d. (old.disk d).write_faults; output = old.output; taken = old.taken }
-
-  may_now : (stop : Stop) → ((d : Device) → MayLeave (old.disk d) (stop.image d)) → MayStop old (as_now stop)
-  may_now stop device = record { device = device; counts = record { faults = λ d. omega arith; write_faults = λ d. omega arith }; output = refl; taken = refl }
-
-  -- each device is as it was, but for what is dirty
   kept_still : (item : Item) (stop : Stop) → ((d : Device) → MayLeave (old.disk d) (stop.image d)) → IsKeptBy old a (array_of held) item stop
-  kept_still item stop device borne = (
-    array_of held ∷ [],
-    λ array one. inl (one_of (array_of held) array one),
-    ready_stands_in old a held ready (lost_by old stop (named_sound a.register.record)) (agrees stop) borne (as_now stop) (may_now stop device),
-  )
+  kept_still item stop device = kept_same old a (array_of held) item stop (goes_on old a (array_of held) [] (record { held = held; ready = ready; is = refl }) stop device)
 
-  -- while nothing is done
   pub kept_at_once : IsShelf old → (item : Item) → LeavesOnly old old (IsKeptBy old a (array_of held) item)
   kept_at_once is item = started old (IsKeptBy old a (array_of held) item) is (λ stop may. kept_still item stop may.device)
 
@@ -144,48 +136,3 @@ module _ (old : Shelved) (a : Array) (held : Content) (ready : IsReady old a hel
   kept_read new writes item = weaker (λ stop left. kept_still item stop (λ d.
       let m = left.bytes d in
       record { size = m.size; is_byte = m.is_byte; clean = λ i out. m.same i out (λ w. w) })) writes.any_moment
-
-  -- while a checkpoint is made
-  kept_one : (item : Item) (stop : Stop) → IsKeptAt old a.register.record (array_of held ∷ []) stop → IsKeptBy old a (array_of held) item stop
-  kept_one item stop kept borne = (
-    array_of held ∷ [],
-    λ array one. inl (one_of (array_of held) array one),
-    kept (named_sound a.register.record) (agrees_named a.register.record) borne,
-  )
-
-  pub kept_flushing : (new : Shelved) (item : Item) → LeavesOnly old new (IsKeptAt old a.register.record (array_of held ∷ [])) → LeavesOnly old new (IsKeptBy old a (array_of held) item)
-  kept_flushing new item moments = weaker (kept_one item) moments
-
-  -- while a logged request is done
-  module _ (r : Request) (sectors : List (List ℕ)) (logs : IsLogged r) (accepted : refusal (array_of held) r ≡ None) (room : MayAdd a) where
-    abbrev c : Command
-    c = record { request = r; sectors = sectors }
-
-    -- by the tables of before, or by others that hold the same array
-    kept_with : (next : Content) → array_of next ≡ array_of held → (stop : Stop) → IsKeptAt old a.register.record (without_or_with next c) stop → IsKeptBy old a (array_of held) (Asked r sectors) stop
-    kept_with next is stop kept borne = (
-      without_or_with next c,
-      λ array some. elim (two_of (array_of next) (array_of (logged next c)) array some) [
-        | inl without ↦ inl (without ∙ is)
-        | inr with ↦ inr (record { accepts = (logs, accepted, with ∙ after_last next.base next.log c ∙ ap (λ (x : plain.Array). after x c) is); room = room })
-      ],
-      kept (named_sound a.register.record) (agrees_named a.register.record) borne,
-    )
-
-    pub kept_adding : (new : Shelved) → LeavesOnly old new (IsKeptAt old a.register.record (without_or_with held c)) → LeavesOnly old new (IsKeptBy old a (array_of held) (Asked r sectors))
-    kept_adding new moments = weaker (kept_with held refl) moments
-
-    -- and so behind a checkpoint
-    module _ (mid : Shelved) (on : Continues old mid) (m : Array) (next : Content) (ready_then : IsReady mid m next) (is : array_of next ≡ array_of held) (dropped : DropsFailed old mid a m) (joins : NoneJoins a m) where
-      kept_since : (stop : Stop) → IsKeptAt mid m.register.record (without_or_with next c) stop → IsCountedBy mid stop → IsKeptAt old a.register.record (without_or_with next c) stop
-      kept_since stop kept counts now agree borne =
-          let same : lost_by mid stop (lost_since old mid now) ≡ lost_by old stop now = lost_twice_by now on counts in
-          let shelf = same_geometry on in
-          let here = kept (lost_since old mid now) (agrees_after old mid a m held next ready ready_then dropped joins now agree)
-          (subst (λ (x : Conditions). IsBearable (geometry_of mid) x) (sym same) (subst (λ (g : Geometry). IsBearable g (lost_by old stop now)) shelf borne)) in
-          subst (λ (g : Geometry). IsStanding g stop.image (lost_by old stop now) (without_or_with next c)) (sym shelf)
-          (subst (λ (x : Conditions). IsStanding (geometry_of mid) stop.image x (without_or_with next c)) same here)
-
-      pub kept_behind : (new : Shelved) → LeavesOnly old mid (IsKeptAt old a.register.record (array_of held ∷ [])) → LeavesOnly mid new (IsCountedBy mid) → LeavesOnly mid new (IsKeptAt mid m.register.record (without_or_with next c))
-          → LeavesOnly old new (IsKeptBy old a (array_of held) (Asked r sectors))
-      kept_behind new first counted moments = then_run on (kept_flushing mid (Asked r sectors) first) (weaker (λ stop x. kept_with next is stop (kept_since stop x.0 x.1)) (both moments counted))

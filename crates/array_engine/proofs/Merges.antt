@@ -1,14 +1,14 @@
 -- The point behind a merge that was asked for.
-use Rattle.std.proofs.Common.{◌≡◌, inl, inr, ℕ, ◌+◌, ◌<◌, ◌≤◌, Bool, true, false, List, Result, Ok, Err, OnOk, IfErr, refl, sym, ap, subst, ◌∙◌, arith}
+use Rattle.std.proofs.Common.{◌≡◌, inl, inr, ℕ, ◌+◌, ◌<◌, ◌≤◌, Bool, true, false, List, [], Result, Ok, Err, OnOk, IfErr, refl, sym, ap, subst, ◌∙◌, arith}
 use Rattle.std.specs.Prelude.{not, nat_lt}
-use Rattle.std.proofs.lemmas.Bool.{le-ltb, lt-ltb}
+use Rattle.std.proofs.lemmas.Bool.{cond-false, le-ltb, lt-ltb}
 use Rattle.pur_base.specs.declared.request.Request.TheVariants as request
 use Rattle.pur_base.specs.declared.request.Table.{Table}
 use Rattle.pur_base.specs.declared.reply.Refusal.{Refusal}
 use Rattle.pur_base.specs.declared.reply.Refusal.TheVariants as refusals
 use Rattle.pur_base.specs.declared.reply.Reply.TheVariants as reply
 use Rattle.pur_base.specs.declared.facts.AnyFact.{AnyFact}
-use Rattle.pur_base.specs.Devices.{IsBearable}
+use Rattle.pur_base.specs.Devices.{Geometry}
 use Rattle.pur_base.specs.Grammar.{Asked}
 use Rattle.pur_base.specs.Plain.{refusal}
 use Rattle.pur_base.specs.Replies.{Answer, Line, refused}
@@ -18,30 +18,31 @@ use Rattle.boot_codec.specs.declared.record.NextNumbers.{NextNumbers}
 use Rattle.array_spec.specs.Sound.{AreSound}
 use Rattle.array_spec.specs.Stored.{all_facts}
 use Rattle.world.specs.Shelf.{Shelved, Stop}
-use Rattle.world.specs.Losing.{geometry_of, losing}
-use Rattle.memory_spec.specs.Tables.{facts, patches}
+use Rattle.world.specs.Losing.{geometry_of}
+use Rattle.memory_spec.specs.Tables.{patches}
 use Rattle.checkpoint_spec.specs.Merging.{AreJoined, HaveShrunk, has_pair, pair_segments, place_in}
 use Rattle.merge_plan.specs.Merging.{merged_patches}
 use Rattle.session_spec.specs.Faring as faring
 use Rattle.session_spec.specs.Faring.{Point, Answers, AnswersRequest, IsMergeDone, IsMerging, IsRefused, WithPair}
 use Rattle.session_spec.specs.declared.limits.TheConstants.{MERGE_GROUPS}
 use Rattle.array_state.specs.declared.array.Array.{Array}
-use Rattle.array_state.specs.Drives.{SegmentsHold}
-use Rattle.array_state.specs.Ready.{IsArrayOf, IsReady, is_spent}
+use Rattle.array_state.specs.Ready.{IsArrayOf, is_spent}
+use Rattle.array_core.specs.Going.{by_faults}
+use Rattle.array_core.specs.Goes.{Goes}
+use Rattle.array_core.proofs.Losses.{same_geometry}
 use Rattle.array_memory.specs.Kept.{Kept}
 use Rattle.array_checkpoint.specs.Prepared.{IsLike}
 use Rattle.pyramid_jobs.specs.Checked.{IsCheckFault, MayMerge}
-use Rattle.pyramid_jobs.specs.Made.{HasMerged}
+use Rattle.pyramid_jobs.specs.Made.{HasMerged, IsFaultOf}
 use Rattle.pyramid_jobs.specs.declared.fault.MergeFault.{MergeFault}
 use Rattle.pyramid_jobs.specs.declared.fault.MergeFault.TheVariants as fault
 use Rattle.array_engine.specs.declared.engine.Engine.{Engine}
 use Rattle.array_engine.specs.declared.said.Said.TheVariants as said
 use Rattle.array_engine.specs.Appending.{failed_in, lost_in}
 use Rattle.array_engine.specs.Engines.{IsAt, StandsAt, IsAnsweredAt, point_after}
-use Rattle.array_engine.specs.Merging.{IsMerged, IsMergeFault}
 use Rattle.array_engine.specs.Replying.{merge_ends_lost, said_of_merge}
-use Rattle.array_engine.proofs.Points.{KeepsReady, KeepsSegments, answered_refused, like_itself}
-use Rattle.array_engine.proofs.Remade.{as_awake, at_failed, at_remade, fails_so, is_remade, was_awake}
+use Rattle.array_engine.proofs.AtPoint.{goes_answered, halts_answered, stays_answered}
+use Rattle.array_engine.proofs.Points.{like_itself}
 use Rattle.array_engine.proofs.Rooms.{groups_same, spent_same, where_not, where_so}
 
 -- ---- the pair
@@ -110,79 +111,45 @@ module _ (told : Bool) (old new : Shelved) (e f : Engine) (t : Table) (i : ℕ) 
   abbrev stood : StandsAt told old e.array from
   stood = at.stands awake
 
+  abbrev to : Stop → Point
+  to stop = point_after f from.array (lost_in old new) stop from
+
   -- the answer of an array that isn't halted
-  by_merging : (to : Point) (q : Answer) → IsMerging (geometry_of old) (lost_in old new) from t i q to → Answers told (geometry_of old) (failed_in old new) (lost_in old new) from (Asked (request.Merge t i) sectors) q to
-  by_merging to q h = subst (λ (b : Bool). AnswersRequest b (refusal from.array (request.Merge t i)) told (geometry_of old) (failed_in old new) (lost_in old new) from (request.Merge t i) sectors q to)
-      (sym (was_awake told old new e f from honest at awake)) h
+  by_merging : (p : Point) (q : Answer) → IsMerging (geometry_of old) (lost_in old new) from t i q p → Answers told (geometry_of old) (failed_in old new) (lost_in old new) from (Asked (request.Merge t i) sectors) q p
+  by_merging p q h = subst (λ (b : Bool). AnswersRequest b (refusal from.array (request.Merge t i)) told (geometry_of old) (failed_in old new) (lost_in old new) from (request.Merge t i) sectors q p) (sym (at.halted ∙ awake)) h
 
-  -- ---- it was made
-
-  module _ (p : IsMerged old new t i e.array f.array) (halted : f.halted ≡ false) where
-    abbrev to : Stop → Point
-    to stop = point_after f from.array (lost_in old new) stop from
-
+  -- it was made
+  module _ (goes : Goes by_faults old new e.array f.array []) (made : MayMerge t i e.array × HasMerged (geometry_of old) t i e.array f.array) (halted : f.halted ≡ false) where
     done_at : (stop : Stop) → IsMergeDone (geometry_of old) t i from (Line reply.Done) (to stop)
-    done_at stop =
-        let stays = is_remade told old new e f from honest at awake p.reads p.dropped p.joins halted stop in
-        record {
-          reply = refl;
-          mid = merged_point from f.array;
-          made = made_at;
-          stays = record { array = stays.array; logged = stays.logged ∙ same_log; boot = stays.boot; patches = stays.patches; next = stays.next };
-          halted = as_awake told old new e f from honest at awake p.reads p.dropped p.joins halted;
-        }
-      where
-        made_at : faring.IsMerged (geometry_of old) t i from (merged_point from f.array)
-        made_at = merged_point_at stood t i f.array p.is_of p.merged
-
-        same_log : f.array.log.count ≡ from.logged
-        same_log = ap (λ l. l.count) p.merged.log ∙ sym stood.logged
-
-    was_merged : IsAnsweredAt told old new e f (Asked (request.Merge t i) sectors) said.Done from
-    was_merged = record {
-      reply = Line reply.Done;
-      says = refl;
-      whole = tt;
-      array = from.array;
-      answers = λ stop. by_merging (to stop) (Line reply.Done) (with_pair stood t i (Line reply.Done) (to stop) _ p.room (inl (done_at stop)));
-      at = at_remade told old new e f from honest at awake p.reads p.dropped p.joins halted;
-      ready = λ h still held is is_held. let next = p.done h held is in (next.0, next.1, is_held ∙ sym next.2);
+    done_at stop = record {
+      reply = refl;
+      mid = merged_point from f.array;
+      made = merged_point_at stood t i f.array (subst (λ (g : Geometry). IsArrayOf g f.array) (sym (same_geometry goes.ran.continues)) goes.is_of) made.1;
+      stays = record {
+        array = refl;
+        logged = cond-false f.halted from.logged f.array.log.count halted ∙ ap (λ l. l.count) made.1.log ∙ sym stood.logged;
+        boot = cond-false f.halted from.boot f.array.register.record halted;
+        patches = cond-false f.halted from.patches (patches f.array.memory.memory.tables) halted;
+        next = cond-false f.halted from.next f.array.memory.memory.next halted;
+      };
+      halted = halted ∙ sym (at.halted ∙ awake);
     }
 
-  -- ---- it wasn't
+    was_merged : IsAnsweredAt told old new e f (Asked (request.Merge t i) sectors) said.Done from
+    was_merged = goes_answered told old new e f [] from honest at awake goes halted (Asked (request.Merge t i) sectors) said.Done (Line reply.Done) refl tt
+        (λ stop. by_merging (to stop) (Line reply.Done) (with_pair stood t i (Line reply.Done) (to stop) _ made.0 (inl (done_at stop))))
 
-  -- nothing has changed
-  module _ (halted : f.halted ≡ false) (is : stays) where
-    keeps_segments : KeepsSegments told old new f.array
-    keeps_segments t contents h = subst (λ (x : Shelved). SegmentsHold contents x f.array.register (facts f.array.memory.memory.tables)) (sym (same is).1) h
+  -- it wasn't
+  refused_for : f.halted ≡ false → stays → (why : Refusal) → ((q : Answer) (p : Point) → IsRefused why from q p → IsMerging (geometry_of old) (lost_in old new) from t i q p) → IsAnsweredAt told old new e f (Asked (request.Merge t i) sectors) (said.Refused why) from
+  refused_for halted is why cause = stays_answered told old new e f from at awake halted (subst (λ (a : Array). IsLike e.array a) (sym (same is).0) (like_itself e.array)) (same is).1 (Asked (request.Merge t i) sectors) why
+      (λ stop h. by_merging (to stop) (refused why) (cause (refused why) (to stop) h))
 
-    keeps_ready : KeepsReady old new f.array
-    keeps_ready honest held h = subst (λ (x : Shelved). IsReady x f.array held) (sym (same is).1) h
-
-    refused_for : (why : Refusal) → ((q : Answer) (to : Point) → IsRefused why from q to → IsMerging (geometry_of old) (lost_in old new) from t i q to) → IsAnsweredAt told old new e f (Asked (request.Merge t i) sectors) (said.Refused why) from
-    unfolding keeps_segments keeps_ready
-    refused_for why cause = answered_refused told old new e f (subst (λ (a : Array). IsLike e.array a) (sym (same is).0) (like_itself e.array)) (halted ∙ sym awake) keeps_segments from at keeps_ready (Asked (request.Merge t i) sectors) why
-        (λ stop h. by_merging (point_after f from.array (lost_in old new) stop from) (refused why) (cause (refused why) (point_after f from.array (lost_in old new) stop from) h))
-
-  -- more devices failed than are borne
-  failed_so : f.halted ≡ true → MayMerge t i e.array → ¬ (IsBearable (geometry_of old) (losing (lost_in old new) from.conditions)) → IsAnsweredAt told old new e f (Asked (request.Merge t i) sectors) (said.Refused refusals.Device) from
-  failed_so halted room unborne = record {
-    reply = refused refusals.Device;
-    says = refl;
-    whole = tt;
-    array = from.array;
-    answers = λ stop.
-        let to = point_after f from.array (lost_in old new) stop from in
-        by_merging to (refused refusals.Device) (with_pair stood t i (refused refusals.Device) to _ room (inr (inr (fails_so told old new e f from honest at awake halted unborne stop))));
-    at = at_failed told old new e f from honest at awake halted;
-    ready = λ h still held is is_held. absurd (cc (still, halted));
-  }
-
-  pub merge_answered : (ended : Result Unit MergeFault) → OnOk ended (IsMerged old new t i e.array f.array) → IfErr ended (λ x. IsMergeFault t i old new e.array stays x) → f.halted ≡ merge_ends_lost ended
-      → IsAnsweredAt told old new e f (Asked (request.Merge t i) sectors) (said_of_merge ended) from
-  merge_answered (Ok u) p none halted = was_merged p halted
-  merge_answered (Err fault.Spent) none w halted = refused_for halted w.1 refusals.Spent (λ q to h. spent_so stood t i q to _ w.0 h)
-  merge_answered (Err fault.NothingThere) none w halted = refused_for halted w.1 refusals.NothingThere (λ q to h. nothing_so stood t i q to _ w.0.0 w.0.1 h)
-  merge_answered (Err fault.Space) none w halted = refused_for halted w.1 refusals.Space (λ q to h. full_so stood t i q to _ w.0 h)
-  merge_answered (Err fault.Memory) none w halted = refused_for halted w.1 refusals.Memory (λ q to h. with_pair stood t i q to _ w.0 (inr (inl h)))
-  merge_answered (Err fault.Device) none w halted = failed_so halted w.0 (w.1 from.conditions stood.holders)
+  pub merge_answered : (ended : Result Unit MergeFault) → OnOk ended (Goes by_faults old new e.array f.array []) → OnOk ended (MayMerge t i e.array × HasMerged (geometry_of old) t i e.array f.array)
+      → IfErr ended (λ x. IsFaultOf t i old new e.array stays x) → f.halted ≡ merge_ends_lost ended → IsAnsweredAt told old new e f (Asked (request.Merge t i) sectors) (said_of_merge ended) from
+  merge_answered (Ok u) goes made none halted = was_merged goes made halted
+  merge_answered (Err fault.Spent) goes made w halted = refused_for halted w.1 refusals.Spent (λ q p h. spent_so stood t i q p _ w.0 h)
+  merge_answered (Err fault.NothingThere) goes made w halted = refused_for halted w.1 refusals.NothingThere (λ q p h. nothing_so stood t i q p _ w.0.0 w.0.1 h)
+  merge_answered (Err fault.Space) goes made w halted = refused_for halted w.1 refusals.Space (λ q p h. full_so stood t i q p _ w.0 h)
+  merge_answered (Err fault.Memory) goes made w halted = refused_for halted w.1 refusals.Memory (λ q p h. with_pair stood t i q p _ w.0 (inr (inl h)))
+  merge_answered (Err fault.Device) goes made w halted = halts_answered told old new e f from at awake [] w.1 halted (Asked (request.Merge t i) sectors)
+      (λ stop h. by_merging (to stop) (refused refusals.Device) (with_pair stood t i (refused refusals.Device) (to stop) _ w.0 (inr (inr h))))

@@ -32,7 +32,7 @@ use Rattle.array_state.specs.Ready.{IsArrayOf}
 use Rattle.target_io.specs.Reading.{AreReadable, ShowsDrives, IsLost, LosesThree}
 use Rattle.array_core.specs.Holding.{IsHolder}
 use Rattle.array_engine.specs.Appending.{failed_in}
-use Rattle.array_engine.proofs.Unborne.{not_risen}
+use Rattle.array_core.proofs.Lost.{not_risen}
 
 -- ---- where they may be read
 

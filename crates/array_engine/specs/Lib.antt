@@ -1,7 +1,6 @@
 pub mod Answering
 pub mod Appending
 pub mod Flushing
-pub mod Merging
 pub mod Saying
 pub mod Status
 pub mod Engines

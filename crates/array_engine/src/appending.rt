@@ -1,5 +1,5 @@
 // A logged request is done, behind a checkpoint where the log is full.
-ghost use Rattle.std.specs.Prelude.{◌≡◌, ◌<◌, None, true, false, length, OnOk, IfErr};
+ghost use Rattle.std.specs.Prelude.{◌≡◌, ◌<◌, None, true, false, [], ◌∷◌, length, OnOk, IfErr};
 ghost use Rattle.pur_base.specs.Commands.{IsLogged};
 ghost use Rattle.pur_base.specs.Grammar.{Asked, is_in_force, data_count};
 ghost use Rattle.pur_base.specs.Plain.{refusal as refusal_of};
@@ -12,10 +12,12 @@ ghost use Rattle.volume_ops.specs.OfArray.{OfArray};
 ghost use Rattle.array_memory.specs.Asked.{IsAllowed};
 ghost use Rattle.array_memory.specs.Lawful.{IsLawful};
 ghost use Rattle.array_state.specs.Ready.{IsArrayOf, IsReady};
-ghost use Rattle.array_core.specs.Performing.{HasNumbers, IsKeptAt, IsLost, without_or_with};
+ghost use Rattle.array_core.specs.Going.{by_faults};
+ghost use Rattle.array_core.specs.Goes.{Goes, Halts};
+ghost use Rattle.array_core.specs.Performing.{HasLogged, HasNumbers};
 ghost use Rattle.array_checkpoint.specs.Prepared.{IsLike};
 ghost use Rattle.array_checkpoint.specs.Room.{IsRoomOf};
-ghost use Rattle.array_engine.specs.Appending.{IsAppended, IsAppendFault, IsPerformed};
+ghost use Rattle.array_engine.specs.Appending.{IsAppended, IsAppendFault};
 ghost use Rattle.array_engine.specs.Engines.{IsKeptBy};
 ghost use Rattle.array_engine.specs.Replying.{ends_lost};
 ghost use Rattle.array_engine.specs.declared.appending.AppendFault.TheVariants.{Device};
@@ -99,13 +101,11 @@ fn perform_counted<S: Shelf>(
     ensures continues { Continues (S.shelf shelf.old) (S.shelf shelf.new) }
     ensures rest { S.shelf_rest shelf.old shelf.new }
     ensures moments { (S.shelf shelf.old).honest → LeavesOnly (S.shelf shelf.old) (S.shelf shelf.new) (IsCountedBy (S.shelf shelf.old)) }
-    ensures is_of { OnOk result (IsArrayOf (geometry_of (S.shelf shelf.new)) array.new) }
     ensures counted { OnOk result (IsRoomOf array.new room.new) }
-    ensures done { OnOk result (IsPerformed (S.shelf shelf.old) (S.shelf shelf.new) array.old array.new (record { request = request.now; sectors = sectors.now })) }
-    ensures fault { IfErr result (λ e. (e ≡ Device) × IsLost (S.shelf shelf.old) (S.shelf shelf.new) array.old) }
-    // At every moment a session can go on, with the array without the request or with it.
-    ensures any_moment { (S.shelf shelf.old).honest → (held : Content) → IsReady (S.shelf shelf.old) array.old held
-        → LeavesOnly (S.shelf shelf.old) (S.shelf shelf.new) (IsKeptAt (S.shelf shelf.old) array.old.register.record (without_or_with held (record { request = request.now; sectors = sectors.now }))) }
+    ensures logged { OnOk result (HasLogged (S.shelf shelf.old) (S.shelf shelf.new) array.old array.new request.now) }
+    // The array has gone on by the command, or is to halt.
+    ensures goes { OnOk result (Goes by_faults (S.shelf shelf.old) (S.shelf shelf.new) array.old array.new (record { request = request.now; sectors = sectors.now } ∷ [])) }
+    ensures halts { IfErr result (λ e. (e ≡ Device) × Halts by_faults (S.shelf shelf.old) (S.shelf shelf.new) array.old (record { request = request.now; sectors = sectors.now } ∷ [])) }
 {
     let before = array.register.record().generation;
     perform(array, request, sectors, shelf)?;
@@ -139,8 +139,9 @@ pub(crate) fn append<S: Shelf>(
     ensures moments { (S.shelf shelf.old).honest → LeavesOnly (S.shelf shelf.old) (S.shelf shelf.new) (IsCountedBy (S.shelf shelf.old)) }
     ensures is_of { ends_lost result ≡ false → IsArrayOf (geometry_of (S.shelf shelf.new)) array.new × IsRoomOf array.new room.new }
     ensures done { OnOk result (IsAppended (S.shelf shelf.old) (S.shelf shelf.new) array.old array.new (record { request = request.now; sectors = sectors.now })) }
-    ensures fault { IfErr result (λ e. IsAppendFault (S.shelf shelf.old) (S.shelf shelf.new) array.old (IsLike array.old array.new × (shelf.new ≡ shelf.old)) e) }
-    // At every moment a session can go on.
+    ensures goes { OnOk result (Goes by_faults (S.shelf shelf.old) (S.shelf shelf.new) array.old array.new (record { request = request.now; sectors = sectors.now } ∷ [])) }
+    ensures fault { IfErr result (λ e. IsAppendFault (S.shelf shelf.old) (S.shelf shelf.new) array.old (IsLike array.old array.new × (shelf.new ≡ shelf.old)) (record { request = request.now; sectors = sectors.now }) e) }
+    // At every moment a session can go on, with the array without the request, or with it where there is room for it.
     ensures kept { (S.shelf shelf.old).honest → (held : Content) → IsReady (S.shelf shelf.old) array.old held
         → LeavesOnly (S.shelf shelf.old) (S.shelf shelf.new) (IsKeptBy (S.shelf shelf.old) array.old (array_of held) (Asked request.now sectors.now)) }
 {

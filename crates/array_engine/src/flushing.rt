@@ -1,14 +1,14 @@
 // A checkpoint is made that was asked for.
-ghost use Rattle.std.specs.Prelude.{◌≡◌, false, OnOk, IfErr};
-ghost use Rattle.pur_base.specs.Grammar.{Item};
+ghost use Rattle.std.specs.Prelude.{◌≡◌, false, [], OnOk, IfErr};
 ghost use Rattle.world.specs.Losing.{geometry_of};
 ghost use Rattle.world.specs.Shelf.{Continues, LeavesOnly, IsCountedBy};
-ghost use Rattle.register.specs.Standing.{Content, array_of};
-ghost use Rattle.array_state.specs.Ready.{IsArrayOf, IsReady};
+ghost use Rattle.array_state.specs.Ready.{IsArrayOf};
+ghost use Rattle.array_core.specs.Going.{by_faults};
+ghost use Rattle.array_core.specs.Goes.{Goes, GoesOnMeanwhile};
+ghost use Rattle.array_checkpoint.specs.Made.{HasFlushed};
 ghost use Rattle.array_checkpoint.specs.Prepared.{IsLike};
-ghost use Rattle.array_checkpoint.specs.Room.{IsRoomOf};
-ghost use Rattle.array_engine.specs.Engines.{IsKeptBy};
-ghost use Rattle.array_engine.specs.Flushing.{IsFlushed, IsFlushFault};
+ghost use Rattle.array_checkpoint.specs.Room.{IsRoomOf, MayFlush};
+ghost use Rattle.array_engine.specs.Flushing.{IsFlushFault};
 ghost use Rattle.array_engine.specs.Replying.{ends_lost};
 
 use crate::appending::AppendFault;
@@ -30,11 +30,11 @@ pub(crate) fn flush<S: Shelf>(
     ensures rest { S.shelf_rest shelf.old shelf.new }
     ensures moments { (S.shelf shelf.old).honest → LeavesOnly (S.shelf shelf.old) (S.shelf shelf.new) (IsCountedBy (S.shelf shelf.old)) }
     ensures is_of { ends_lost result ≡ false → IsArrayOf (geometry_of (S.shelf shelf.new)) array.new × IsRoomOf array.new room.new }
-    ensures made { OnOk result (IsFlushed (S.shelf shelf.old) (S.shelf shelf.new) array.old array.new) }
+    ensures made { OnOk result (MayFlush array.old × HasFlushed array.old array.new) }
+    ensures goes { OnOk result (Goes by_faults (S.shelf shelf.old) (S.shelf shelf.new) array.old array.new []) }
     ensures fault { IfErr result (λ e. IsFlushFault (S.shelf shelf.old) (S.shelf shelf.new) array.old (IsLike array.old array.new × (shelf.new ≡ shelf.old)) e) }
     // At every moment a session can go on with the array.
-    ensures kept { (S.shelf shelf.old).honest → (item : Item) (held : Content) → IsReady (S.shelf shelf.old) array.old held
-        → LeavesOnly (S.shelf shelf.old) (S.shelf shelf.new) (IsKeptBy (S.shelf shelf.old) array.old (array_of held) item) }
+    ensures meanwhile { GoesOnMeanwhile by_faults (S.shelf shelf.old) (S.shelf shelf.new) array.old [] }
 {
     check_checkpoint(array, room)?;
     checkpoint(alloc, array, shelf)?;

@@ -1,13 +1,13 @@
 // Two patches are merged, where it was asked for.
-ghost use Rattle.std.specs.Prelude.{◌≡◌, false, OnOk, IfErr};
-ghost use Rattle.pur_base.specs.Grammar.{Item};
+ghost use Rattle.std.specs.Prelude.{◌≡◌, false, [], OnOk, IfErr};
 ghost use Rattle.world.specs.Losing.{geometry_of};
 ghost use Rattle.world.specs.Shelf.{Continues, LeavesOnly, IsCountedBy};
-ghost use Rattle.register.specs.Standing.{Content, array_of};
-ghost use Rattle.array_state.specs.Ready.{IsArrayOf, IsReady};
+ghost use Rattle.array_state.specs.Ready.{IsArrayOf};
+ghost use Rattle.array_core.specs.Going.{by_faults};
+ghost use Rattle.array_core.specs.Goes.{Goes, GoesOnMeanwhile};
 ghost use Rattle.array_checkpoint.specs.Room.{IsRoomOf};
-ghost use Rattle.array_engine.specs.Engines.{IsKeptBy};
-ghost use Rattle.array_engine.specs.Merging.{IsMerged, IsMergeFault};
+ghost use Rattle.pyramid_jobs.specs.Checked.{MayMerge};
+ghost use Rattle.pyramid_jobs.specs.Made.{HasMerged, IsFaultOf};
 ghost use Rattle.array_engine.specs.Replying.{merge_ends_lost};
 
 use array_checkpoint::Room;
@@ -32,11 +32,11 @@ pub(crate) fn merge_patches<S: Shelf>(
     ensures rest { S.shelf_rest shelf.old shelf.new }
     ensures moments { (S.shelf shelf.old).honest → LeavesOnly (S.shelf shelf.old) (S.shelf shelf.new) (IsCountedBy (S.shelf shelf.old)) }
     ensures is_of { merge_ends_lost result ≡ false → IsArrayOf (geometry_of (S.shelf shelf.new)) array.new × IsRoomOf array.new room.new }
-    ensures made { OnOk result (IsMerged (S.shelf shelf.old) (S.shelf shelf.new) table index array.old array.new) }
-    ensures fault { IfErr result (λ e. IsMergeFault table index (S.shelf shelf.old) (S.shelf shelf.new) array.old ((array.new ≡ array.old) × (shelf.new ≡ shelf.old)) e) }
+    ensures made { OnOk result (MayMerge table index array.old × HasMerged (geometry_of (S.shelf shelf.old)) table index array.old array.new) }
+    ensures goes { OnOk result (Goes by_faults (S.shelf shelf.old) (S.shelf shelf.new) array.old array.new []) }
+    ensures fault { IfErr result (λ e. IsFaultOf table index (S.shelf shelf.old) (S.shelf shelf.new) array.old ((array.new ≡ array.old) × (shelf.new ≡ shelf.old)) e) }
     // At every moment a session can go on with the array.
-    ensures kept { (S.shelf shelf.old).honest → (item : Item) (held : Content) → IsReady (S.shelf shelf.old) array.old held
-        → LeavesOnly (S.shelf shelf.old) (S.shelf shelf.new) (IsKeptBy (S.shelf shelf.old) array.old (array_of held) item) }
+    ensures meanwhile { GoesOnMeanwhile by_faults (S.shelf shelf.old) (S.shelf shelf.new) array.old [] }
 {
     merge(alloc, array, room, table, index, shelf)?;
     *room = Room::of(array);

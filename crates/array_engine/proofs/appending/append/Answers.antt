@@ -1,13 +1,14 @@
-use Rattle.std.proofs.Common.{◌≡◌, false, Result, Err, IfErr, sym, ap, subst, arith}
+use Rattle.std.proofs.Common.{◌≡◌, false, [], ◌∷◌, Result, Err, IfErr, sym, ap, subst, arith}
 use Rattle.std.proofs.lemmas.Result.{err_from_is_err_and, on_ok_weaker}
 use Rattle.pur_base.specs.Commands.{Command}
 use Rattle.pur_base.specs.Grammar.{Asked}
 use Rattle.world.specs.Losing.{geometry_of}
 use Rattle.world.specs.Shelf.{Shelved}
-use Rattle.world.proofs.Moments.{continues_trans, then_run, weaker}
-use Rattle.world.proofs.Writes.{counted_then, counts_grow}
+use Rattle.world.proofs.Moments.{continues_trans}
 use Rattle.register.specs.Standing.{array_of}
 use Rattle.array_state.specs.Ready.{IsArrayOf}
+use Rattle.array_core.specs.Going.{by_faults, Calls}
+use Rattle.array_core.proofs.GoingOn.{calls_then, goes_and_halts, goes_then, meanwhile}
 use Rattle.array_checkpoint.specs.Prepared.{IsLike}
 use Rattle.array_checkpoint.specs.Room.{IsRoomOf}
 use Rattle.array_checkpoint.proofs.Like.{like_is_of}
@@ -15,9 +16,9 @@ use Rattle.array_engine.specs.declared.appending.AppendFault.{AppendFault}
 use Rattle.array_engine.specs.Appending.{IsAppendFault, IsFull}
 use Rattle.array_engine.specs.Replying.{ends_lost}
 use Rattle.array_engine.proofs.Appended.{at_once, behind, like_room}
-use Rattle.array_engine.proofs.Faults.{fault_in_checkpoint, lost_in_performing, stays_behind}
-use Rattle.array_engine.proofs.Meanwhile.{kept_adding, kept_at_once, kept_behind, kept_flushing}
-use Rattle.array_engine.proofs.Unborne.{unborne, unborne_behind}
+use Rattle.array_engine.proofs.Faults.{either_meanwhile, fault_in_checkpoint, halts_on_err, kept_on_ok, lost_in_performing, meanwhile_behind, stays_behind}
+use Rattle.array_engine.proofs.AtPoint.{keeps_command, keeps_same}
+use Rattle.array_engine.proofs.Meanwhile.{kept_at_once}
 use Rattle.array_engine.proofs.appending.append.Goals as goal
 
 pub returns-in_err-check_room-clause-kept : goal.returns-in_err-check_room-clause-kept
@@ -26,24 +27,33 @@ returns-in_err-check_room-clause-kept g c = λ honest held ready.
 
 -- ---- at once
 
+pub returns-then-free_slots-gt0-clause-is_of : goal.returns-then-free_slots-gt0-clause-is_of
+returns-then-free_slots-gt0-clause-is_of g c =
+    kept_on_ok c.perform_counted.result c.perform_counted.ensures.goes c.perform_counted.ensures.counted (λ goes. goes.is_of) c.perform_counted.ensures.halts
+
 pub returns-then-free_slots-gt0-clause-done : goal.returns-then-free_slots-gt0-clause-done
 returns-then-free_slots-gt0-clause-done g c =
     let a = c.args.array.now in
     let cmd : Command = record { request = c.args.request.now; sectors = c.args.sectors.now } in
     let free : ¬ (IsFull a) = λ full. omega (arith, full, c.free_slots.ensures, c.if-free_slots-gt0.true) in
-    on_ok_weaker c.perform_counted.result
-    (at_once (g.S.Shelf.shelf c.args.shelf.now) (g.S.Shelf.shelf c.perform_counted.new.shelf) a c.perform_counted.new.array cmd c.in_ok-check_room.ensures.ok free) c.perform_counted.ensures.done
+    on_ok_weaker c.perform_counted.result (at_once (g.S.Shelf.shelf c.args.shelf.now) (g.S.Shelf.shelf c.perform_counted.new.shelf) a c.perform_counted.new.array cmd c.in_ok-check_room.ensures.ok free) c.perform_counted.ensures.logged
 
 pub returns-then-free_slots-gt0-clause-fault : goal.returns-then-free_slots-gt0-clause-fault
 returns-then-free_slots-gt0-clause-fault g c =
     let old = g.S.Shelf.shelf c.args.shelf.now in
     let new = g.S.Shelf.shelf c.perform_counted.new.shelf in
-    lost_in_performing old new c.args.array.now _ c.in_ok-check_room.ensures.ok c.perform_counted.result (unborne old new c.args.array.now c.requires.is_of.of_shelf) c.perform_counted.ensures.fault
+    let cmd : Command = record { request = c.args.request.now; sectors = c.args.sectors.now } in
+    lost_in_performing old new c.args.array.now _ cmd c.in_ok-check_room.ensures.ok c.perform_counted.result (λ halts. halts) c.perform_counted.ensures.halts
 
 pub returns-then-free_slots-gt0-clause-kept : goal.returns-then-free_slots-gt0-clause-kept
 returns-then-free_slots-gt0-clause-kept g c = λ honest held ready.
-    kept_adding (g.S.Shelf.shelf c.args.shelf.now) c.args.array.now held ready c.args.request.now c.args.sectors.now c.requires.logged (c.requires.accepted ready.contents (array_of held) ready.reads) c.in_ok-check_room.ensures.ok
-    (g.S.Shelf.shelf c.perform_counted.new.shelf) (c.perform_counted.ensures.any_moment honest held ready)
+    let old = g.S.Shelf.shelf c.args.shelf.now in
+    let new = g.S.Shelf.shelf c.perform_counted.new.shelf in
+    let a = c.args.array.now in
+    let done = c.perform_counted.ensures in
+    let cmd : Command = record { request = c.args.request.now; sectors = c.args.sectors.now } in
+    keeps_command old new a honest held ready cmd (either_meanwhile old new a c.perform_counted.new.array (cmd ∷ []) c.perform_counted.result done.goes (halts_on_err c.perform_counted.result done.halts))
+    c.requires.logged (c.requires.accepted ready.contents (array_of held) ready.reads) c.in_ok-check_room.ensures.ok
 
 -- ---- no checkpoint was made
 
@@ -65,16 +75,20 @@ returns-in_err-checkpoint-clause-fault g c =
     let old = g.S.Shelf.shelf c.args.shelf.now in
     let new = g.S.Shelf.shelf c.checkpoint.new.shelf in
     let a = c.args.array.now in
+    let cmd : Command = record { request = c.args.request.now; sectors = c.args.sectors.now } in
     let stays = IsLike a c.checkpoint.new.array × (c.checkpoint.new.shelf ≡ c.args.shelf.now) in
     let full : IsFull a = omega (arith, c.free_slots.ensures, c.if-free_slots-gt0.false) in
     let q = err_from_is_err_and c.from_residual-in_err-checkpoint.result c.from_residual-in_err-checkpoint.ensures.1 in
-    subst (λ (t : Result (Unit {0}) AppendFault). IfErr t (λ e. IsAppendFault old new a stays e)) (sym q.1)
-    (subst (λ (e : AppendFault). IsAppendFault old new a stays e) (sym q.2)
-    (fault_in_checkpoint old new a stays c.in_ok-check_room.ensures.ok c.in_err-checkpoint.field-0.0 full (unborne old new a c.requires.is_of.of_shelf) c.in_err-checkpoint.ensures.fault))
+    subst (λ (t : Result (Unit {0}) AppendFault). IfErr t (λ e. IsAppendFault old new a stays cmd e)) (sym q.1)
+    (subst (λ (e : AppendFault). IsAppendFault old new a stays cmd e) (sym q.2)
+    (fault_in_checkpoint old new a stays cmd c.in_ok-check_room.ensures.ok c.in_err-checkpoint.field-0.0 full c.in_err-checkpoint.ensures.fault))
 
 pub returns-in_err-checkpoint-clause-kept : goal.returns-in_err-checkpoint-clause-kept
 returns-in_err-checkpoint-clause-kept g c = λ honest held ready.
-    kept_flushing (g.S.Shelf.shelf c.args.shelf.now) c.args.array.now held ready (g.S.Shelf.shelf c.checkpoint.new.shelf) (Asked c.args.request.now c.args.sectors.now) (c.in_err-checkpoint.ensures.any_moment honest held ready)
+    let old = g.S.Shelf.shelf c.args.shelf.now in
+    let new = g.S.Shelf.shelf c.checkpoint.new.shelf in
+    let a = c.args.array.now in
+    keeps_same old new a honest held ready (meanwhile_behind old new a _ (g.met.S.Shelf.is_shelf c.args.shelf.now) (λ s. ap g.S.Shelf.shelf s.1) c.in_err-checkpoint.field-0.0 c.in_err-checkpoint.ensures.fault) (Asked c.args.request.now c.args.sectors.now)
 
 -- ---- behind a checkpoint
 
@@ -85,9 +99,12 @@ pub returns-clause-rest : goal.returns-clause-rest
 returns-clause-rest g c = g.met.S.Shelf.shelf_rest_stays.transitive _ _ _ c.in_ok-checkpoint.ensures.rest c.perform_counted-2.ensures.rest
 
 pub returns-clause-moments : goal.returns-clause-moments
-returns-clause-moments g c = λ honest.
-    let made = c.in_ok-checkpoint.ensures in
-    then_run made.continues (made.moments honest) (weaker (λ stop counted. counted_then (counts_grow made.continues) counted) (c.perform_counted-2.ensures.moments (made.continues.honest honest)))
+returns-clause-moments g c =
+    let done : Calls (g.S.Shelf.shelf c.checkpoint.new.shelf) (g.S.Shelf.shelf c.perform_counted-2.new.shelf) = record { continues = c.perform_counted-2.ensures.continues; counted = c.perform_counted-2.ensures.moments } in
+    (calls_then c.in_ok-checkpoint.ensures.goes.ran done).counted
+
+pub returns-clause-is_of : goal.returns-clause-is_of
+returns-clause-is_of g c = kept_on_ok c.perform_counted-2.result c.perform_counted-2.ensures.goes c.perform_counted-2.ensures.counted (λ goes. goes.is_of) c.perform_counted-2.ensures.halts
 
 pub returns-clause-done : goal.returns-clause-done
 returns-clause-done g c =
@@ -99,8 +116,16 @@ returns-clause-done g c =
     let cmd : Command = record { request = c.args.request.now; sectors = c.args.sectors.now } in
     let full : IsFull a = omega (arith, c.free_slots.ensures, c.if-free_slots-gt0.false) in
     on_ok_weaker c.perform_counted-2.result
-    (behind old new a c.perform_counted-2.new.array cmd c.in_ok-check_room.ensures.ok mid c.checkpoint.new.array made.continues c.perform_counted-2.ensures.continues full made.is_of made.flushed made.dropped.0 made.dropped.1 made.reads made.done)
-    c.perform_counted-2.ensures.done
+    (behind old new a c.perform_counted-2.new.array cmd c.in_ok-check_room.ensures.ok mid c.checkpoint.new.array made.continues c.perform_counted-2.ensures.continues full made.goes made.flushed)
+    c.perform_counted-2.ensures.logged
+
+pub returns-clause-goes : goal.returns-clause-goes
+returns-clause-goes g c =
+    let old = g.S.Shelf.shelf c.args.shelf.now in
+    let mid = g.S.Shelf.shelf c.checkpoint.new.shelf in
+    let new = g.S.Shelf.shelf c.perform_counted-2.new.shelf in
+    let cmd : Command = record { request = c.args.request.now; sectors = c.args.sectors.now } in
+    on_ok_weaker c.perform_counted-2.result (goes_then by_faults old mid new c.args.array.now c.checkpoint.new.array c.perform_counted-2.new.array [] (cmd ∷ []) c.in_ok-checkpoint.ensures.goes) c.perform_counted-2.ensures.goes
 
 pub returns-clause-fault : goal.returns-clause-fault
 returns-clause-fault g c =
@@ -108,18 +133,20 @@ returns-clause-fault g c =
     let mid = g.S.Shelf.shelf c.checkpoint.new.shelf in
     let new = g.S.Shelf.shelf c.perform_counted-2.new.shelf in
     let a = c.args.array.now in
-    let made = c.in_ok-checkpoint.ensures in
-    lost_in_performing old new a _ c.in_ok-check_room.ensures.ok c.perform_counted-2.result
-    (unborne_behind old mid new a c.checkpoint.new.array made.continues c.perform_counted-2.ensures.continues made.is_of.of_shelf made.dropped.0) c.perform_counted-2.ensures.fault
+    let cmd : Command = record { request = c.args.request.now; sectors = c.args.sectors.now } in
+    lost_in_performing old new a _ cmd c.in_ok-check_room.ensures.ok c.perform_counted-2.result
+    (goes_and_halts by_faults old mid new a c.checkpoint.new.array [] (cmd ∷ []) c.in_ok-checkpoint.ensures.goes) c.perform_counted-2.ensures.halts
 
 pub returns-clause-kept : goal.returns-clause-kept
 returns-clause-kept g c = λ honest held ready.
     let old = g.S.Shelf.shelf c.args.shelf.now in
     let mid = g.S.Shelf.shelf c.checkpoint.new.shelf in
     let new = g.S.Shelf.shelf c.perform_counted-2.new.shelf in
-    let made = c.in_ok-checkpoint.ensures in
+    let a = c.args.array.now in
+    let m = c.checkpoint.new.array in
     let done = c.perform_counted-2.ensures in
-    let next = made.done honest held ready in
-    let honest_then = made.continues.honest honest in
-    kept_behind old c.args.array.now held ready c.args.request.now c.args.sectors.now c.requires.logged (c.requires.accepted ready.contents (array_of held) ready.reads) c.in_ok-check_room.ensures.ok
-    mid made.continues c.checkpoint.new.array next.0 next.1 next.2 made.dropped.0 made.dropped.1 new (made.any_moment honest held ready) (done.moments honest_then) (done.any_moment honest_then next.0 next.1)
+    let cmd : Command = record { request = c.args.request.now; sectors = c.args.sectors.now } in
+    keeps_command old new a honest held ready cmd
+    (meanwhile by_faults old mid new a m [] (cmd ∷ []) c.in_ok-checkpoint.ensures.goes (record { continues = done.continues; counted = done.moments })
+    (either_meanwhile mid new m c.perform_counted-2.new.array (cmd ∷ []) c.perform_counted-2.result done.goes (halts_on_err c.perform_counted-2.result done.halts)))
+    c.requires.logged (c.requires.accepted ready.contents (array_of held) ready.reads) c.in_ok-check_room.ensures.ok

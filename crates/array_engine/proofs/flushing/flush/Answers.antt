@@ -1,10 +1,8 @@
-use Rattle.std.proofs.Common.{◌≡◌, false, Result, Err, IfErr, sym, ap, subst}
+use Rattle.std.proofs.Common.{◌≡◌, false, [], Result, Err, IfErr, refl, sym, ap, subst}
 use Rattle.std.proofs.lemmas.Result.{err_from_is_err_and}
-use Rattle.pur_base.specs.Devices.{Geometry}
 use Rattle.world.specs.Losing.{geometry_of}
 use Rattle.world.specs.Shelf.{Shelved}
 use Rattle.array_state.specs.Ready.{IsArrayOf}
-use Rattle.array_core.proofs.Losses.{same_geometry}
 use Rattle.array_checkpoint.specs.Prepared.{IsLike}
 use Rattle.array_checkpoint.specs.Room.{IsRoomOf}
 use Rattle.array_checkpoint.proofs.Like.{like_is_of}
@@ -12,13 +10,14 @@ use Rattle.array_engine.specs.declared.appending.AppendFault.{AppendFault}
 use Rattle.array_engine.specs.Flushing.{IsFlushFault}
 use Rattle.array_engine.specs.Replying.{ends_lost}
 use Rattle.array_engine.proofs.Appended.{like_room}
-use Rattle.array_engine.proofs.Faults.{fault_in_flush, stays_behind}
-use Rattle.array_engine.proofs.Meanwhile.{kept_at_once, kept_flushing}
-use Rattle.array_engine.proofs.Unborne.{unborne}
+use Rattle.array_engine.proofs.Faults.{fault_in_flush, meanwhile_behind, stays_behind}
+use Rattle.array_engine.proofs.Meanwhile.{nothing_meanwhile}
 use Rattle.array_engine.proofs.flushing.flush.Goals as goal
 
-pub returns-in_err-check_checkpoint-clause-kept : goal.returns-in_err-check_checkpoint-clause-kept
-returns-in_err-check_checkpoint-clause-kept g c = λ honest item held ready. kept_at_once (g.S.Shelf.shelf c.args.shelf.now) c.args.array.now held ready (g.met.S.Shelf.is_shelf c.args.shelf.now) item
+pub returns-in_err-check_checkpoint-clause-meanwhile : goal.returns-in_err-check_checkpoint-clause-meanwhile
+returns-in_err-check_checkpoint-clause-meanwhile g c =
+    let old = g.S.Shelf.shelf c.args.shelf.now in
+    nothing_meanwhile old old refl (g.met.S.Shelf.is_shelf c.args.shelf.now) c.args.array.now []
 
 -- ---- it wasn't made
 
@@ -44,27 +43,13 @@ returns-in_err-checkpoint-clause-fault g c =
     let q = err_from_is_err_and c.from_residual-in_err-checkpoint.result c.from_residual-in_err-checkpoint.ensures.1 in
     subst (λ (t : Result (Unit {0}) AppendFault). IfErr t (λ e. IsFlushFault old new a stays e)) (sym q.1)
     (subst (λ (e : AppendFault). IsFlushFault old new a stays e) (sym q.2)
-    (fault_in_flush old new a stays c.in_ok-check_checkpoint.ensures.ok c.in_err-checkpoint.field-0.0 (unborne old new a c.requires.is_of.of_shelf) c.in_err-checkpoint.ensures.fault))
+    (fault_in_flush old new a stays c.in_ok-check_checkpoint.ensures.ok c.in_err-checkpoint.field-0.0 c.in_err-checkpoint.ensures.fault))
 
-pub returns-in_err-checkpoint-clause-kept : goal.returns-in_err-checkpoint-clause-kept
-returns-in_err-checkpoint-clause-kept g c = λ honest item held ready.
-    kept_flushing (g.S.Shelf.shelf c.args.shelf.now) c.args.array.now held ready (g.S.Shelf.shelf c.checkpoint.new.shelf) item (c.in_err-checkpoint.ensures.any_moment honest held ready)
+pub returns-in_err-checkpoint-clause-meanwhile : goal.returns-in_err-checkpoint-clause-meanwhile
+returns-in_err-checkpoint-clause-meanwhile g c =
+    meanwhile_behind (g.S.Shelf.shelf c.args.shelf.now) (g.S.Shelf.shelf c.checkpoint.new.shelf) c.args.array.now _ (g.met.S.Shelf.is_shelf c.args.shelf.now) (λ s. ap g.S.Shelf.shelf s.1) c.in_err-checkpoint.field-0.0 c.in_err-checkpoint.ensures.fault
 
 -- ---- it was made
 
-pub returns-clause-made : goal.returns-clause-made
-returns-clause-made g c =
-    let made = c.in_ok-checkpoint.ensures in
-    record {
-      room = c.in_ok-check_checkpoint.ensures.ok;
-      is_of = subst (λ (k : Geometry). IsArrayOf k c.checkpoint.new.array) (sym (same_geometry made.continues)) made.is_of;
-      flushed = made.flushed;
-      dropped = made.dropped.0;
-      joins = made.dropped.1;
-      reads = made.reads;
-      done = made.done;
-    }
-
-pub returns-clause-kept : goal.returns-clause-kept
-returns-clause-kept g c = λ honest item held ready.
-    kept_flushing (g.S.Shelf.shelf c.args.shelf.now) c.args.array.now held ready (g.S.Shelf.shelf c.checkpoint.new.shelf) item (c.in_ok-checkpoint.ensures.any_moment honest held ready)
+pub returns-clause-meanwhile : goal.returns-clause-meanwhile
+returns-clause-meanwhile g c = c.in_ok-checkpoint.ensures.goes.any_moment

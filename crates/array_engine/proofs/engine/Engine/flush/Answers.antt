@@ -7,6 +7,7 @@ use Rattle.array_engine.specs.declared.said.Said.{Said}
 use Rattle.array_engine.specs.Saying.{HasSectors}
 use Rattle.array_engine.specs.Engines.{IsAnsweredAt}
 use Rattle.array_engine.proofs.Ending.{command_there}
+use Rattle.array_engine.proofs.AtPoint.{keeps_same}
 use Rattle.array_engine.proofs.Flushes.{flush_answered}
 use Rattle.array_engine.proofs.engine.Engine.flush.Goals as goal
 
@@ -25,7 +26,8 @@ returns-clause-answers g c = λ sectors told from honest at.
     let does = c.flush-done.ensures in
     let stays = IsLike e.array f.array × (c.flush-done.new.shelf ≡ c.args.shelf.now) in
     subst (λ (q : Said). IsAnsweredAt told old new e f (Asked request.Checkpoint sectors) q from) (sym c.said_to.ensures)
-    (flush_answered told old new e f sectors stays from honest at c.requires.awake (λ x. (x.0, ap g.S.Shelf.shelf x.1)) c.flush-done.result does.made does.fault c.is_lost-self.ensures)
+    (flush_answered told old new e f sectors stays from honest at c.requires.awake (λ x. (x.0, ap g.S.Shelf.shelf x.1)) c.flush-done.result does.goes does.made does.fault c.is_lost-self.ensures)
 
 pub returns-clause-kept : goal.returns-clause-kept
-returns-clause-kept g c = λ honest sectors held ready. c.flush-done.ensures.kept honest (Asked request.Checkpoint sectors) held ready
+returns-clause-kept g c = λ honest sectors held ready.
+    keeps_same (g.S.Shelf.shelf c.args.shelf.now) (g.S.Shelf.shelf c.flush-done.new.shelf) c.args.self.now.array honest held ready c.flush-done.ensures.meanwhile (Asked request.Checkpoint sectors)

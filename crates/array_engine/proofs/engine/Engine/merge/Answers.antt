@@ -6,6 +6,7 @@ use Rattle.array_engine.specs.declared.said.Said.{Said}
 use Rattle.array_engine.specs.Saying.{HasSectors}
 use Rattle.array_engine.specs.Engines.{IsAnsweredAt}
 use Rattle.array_engine.proofs.Ending.{merge_there}
+use Rattle.array_engine.proofs.AtPoint.{keeps_same}
 use Rattle.array_engine.proofs.Merges.{merge_answered}
 use Rattle.array_engine.proofs.engine.Engine.merge.Goals as goal
 
@@ -24,7 +25,8 @@ returns-clause-answers g c = λ sectors told from honest at.
     let does = c.merge_patches-done.ensures in
     let stays = (f.array ≡ e.array) × (c.merge_patches-done.new.shelf ≡ c.args.shelf.now) in
     subst (λ (q : Said). IsAnsweredAt told old new e f (Asked (request.Merge c.args.table c.args.index) sectors) q from) (sym c.said_to_merge.ensures)
-    (merge_answered told old new e f c.args.table c.args.index sectors stays from honest at c.requires.awake (λ x. (x.0, ap g.S.Shelf.shelf x.1)) c.merge_patches-done.result does.made does.fault c.is_merge_lost-self.ensures)
+    (merge_answered told old new e f c.args.table c.args.index sectors stays from honest at c.requires.awake (λ x. (x.0, ap g.S.Shelf.shelf x.1)) c.merge_patches-done.result does.goes does.made does.fault c.is_merge_lost-self.ensures)
 
 pub returns-clause-kept : goal.returns-clause-kept
-returns-clause-kept g c = λ honest sectors held ready. c.merge_patches-done.ensures.kept honest (Asked (request.Merge c.args.table c.args.index) sectors) held ready
+returns-clause-kept g c = λ honest sectors held ready.
+    keeps_same (g.S.Shelf.shelf c.args.shelf.now) (g.S.Shelf.shelf c.merge_patches-done.new.shelf) c.args.self.now.array honest held ready c.merge_patches-done.ensures.meanwhile (Asked (request.Merge c.args.table c.args.index) sectors)
