@@ -22,18 +22,18 @@ use Rattle.array_engine.specs.Replying.{ends_lost, merge_ends_lost}
 use Rattle.array_engine.proofs.Meanwhile.{nothing_meanwhile}
 
 -- what an error of the performing says
-pub halts_on_err : {T L : Type 0} (r : Result T AppendFault) → IfErr r (λ e. (e ≡ fault.Device) × L) → OnErr r L
-halts_on_err (Ok x) w = tt
-halts_on_err (Err e) w = w.1
+pub halts_on_err : {T : Type 0} (L : Type 0) (r : Result T AppendFault) → IfErr r (λ e. (e ≡ fault.Device) × L) → OnErr r L
+halts_on_err L (Ok x) w = tt
+halts_on_err L (Err e) w = w.1
 
 -- where it isn't lost it was done
-pub kept_on_ok : {A B C L : Type 0} (r : Result Unit AppendFault) → OnOk r A → OnOk r B → (A → C) → IfErr r (λ e. (e ≡ fault.Device) × L) → ends_lost r ≡ false → C × B
-kept_on_ok (Ok x) a b to w awake = (to a, b)
-kept_on_ok (Err fault.Device) a b to w awake = absurd (cc awake)
-kept_on_ok (Err fault.Limited) a b to w awake = absurd (cc (w.0))
-kept_on_ok (Err fault.Spent) a b to w awake = absurd (cc (w.0))
-kept_on_ok (Err fault.Space) a b to w awake = absurd (cc (w.0))
-kept_on_ok (Err fault.Memory) a b to w awake = absurd (cc (w.0))
+pub kept_on_ok : {A B C : Type 0} (L : Type 0) (r : Result Unit AppendFault) → OnOk r A → OnOk r B → (A → C) → IfErr r (λ e. (e ≡ fault.Device) × L) → ends_lost r ≡ false → C × B
+kept_on_ok L (Ok x) a b to w awake = (to a, b)
+kept_on_ok L (Err fault.Device) a b to w awake = absurd (cc awake)
+kept_on_ok L (Err fault.Limited) a b to w awake = absurd (cc (w.0))
+kept_on_ok L (Err fault.Spent) a b to w awake = absurd (cc (w.0))
+kept_on_ok L (Err fault.Space) a b to w awake = absurd (cc (w.0))
+kept_on_ok L (Err fault.Memory) a b to w awake = absurd (cc (w.0))
 
 module _ (old new : Shelved) (a : Array) where
   -- whether it goes on or is to halt

@@ -1,6 +1,6 @@
 -- At every moment while nothing is written a session can go on, and a read leaves what the devices hold.
 use Rattle.std.proofs.Common.{◌≡◌, ℕ, zero, suc, List, [], ◌∷◌, refl, sym, ap, subst, ◌∙◌, arith, Bool, true}
-use Rattle.std.specs.Prelude.{Contains, if◌then◌else◌, Some, false, slice_index_or}
+use Rattle.std.specs.Prelude.{Contains, if◌then◌else◌, None, Some, false, slice_index_or}
 use Rattle.pur_base.specs.declared.device.Device.{Device}
 use Rattle.pur_base.specs.declared.device.Device.TheVariants.{Drive, Nv}
 use Rattle.pur_base.specs.Commands.{Command}

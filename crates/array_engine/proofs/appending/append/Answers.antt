@@ -29,7 +29,7 @@ returns-in_err-check_room-clause-kept g c = λ honest held ready.
 
 pub returns-then-free_slots-gt0-clause-is_of : goal.returns-then-free_slots-gt0-clause-is_of
 returns-then-free_slots-gt0-clause-is_of g c =
-    kept_on_ok c.perform_counted.result c.perform_counted.ensures.goes c.perform_counted.ensures.counted (λ goes. goes.is_of) c.perform_counted.ensures.halts
+    kept_on_ok _ c.perform_counted.result c.perform_counted.ensures.goes c.perform_counted.ensures.counted (λ goes. goes.is_of) c.perform_counted.ensures.halts
 
 pub returns-then-free_slots-gt0-clause-done : goal.returns-then-free_slots-gt0-clause-done
 returns-then-free_slots-gt0-clause-done g c =
@@ -52,7 +52,7 @@ returns-then-free_slots-gt0-clause-kept g c = λ honest held ready.
     let a = c.args.array.now in
     let done = c.perform_counted.ensures in
     let cmd : Command = record { request = c.args.request.now; sectors = c.args.sectors.now } in
-    keeps_command old new a honest held ready cmd (either_meanwhile old new a c.perform_counted.new.array (cmd ∷ []) c.perform_counted.result done.goes (halts_on_err c.perform_counted.result done.halts))
+    keeps_command old new a honest held ready cmd (either_meanwhile old new a c.perform_counted.new.array (cmd ∷ []) c.perform_counted.result done.goes (halts_on_err _ c.perform_counted.result done.halts))
     c.requires.logged (c.requires.accepted ready.contents (array_of held) ready.reads) c.in_ok-check_room.ensures.ok
 
 -- ---- no checkpoint was made
@@ -104,7 +104,7 @@ returns-clause-moments g c =
     (calls_then c.in_ok-checkpoint.ensures.goes.ran done).counted
 
 pub returns-clause-is_of : goal.returns-clause-is_of
-returns-clause-is_of g c = kept_on_ok c.perform_counted-2.result c.perform_counted-2.ensures.goes c.perform_counted-2.ensures.counted (λ goes. goes.is_of) c.perform_counted-2.ensures.halts
+returns-clause-is_of g c = kept_on_ok _ c.perform_counted-2.result c.perform_counted-2.ensures.goes c.perform_counted-2.ensures.counted (λ goes. goes.is_of) c.perform_counted-2.ensures.halts
 
 pub returns-clause-done : goal.returns-clause-done
 returns-clause-done g c =
@@ -148,5 +148,5 @@ returns-clause-kept g c = λ honest held ready.
     let cmd : Command = record { request = c.args.request.now; sectors = c.args.sectors.now } in
     keeps_command old new a honest held ready cmd
     (meanwhile by_faults old mid new a m [] (cmd ∷ []) c.in_ok-checkpoint.ensures.goes (record { continues = done.continues; counted = done.moments })
-    (either_meanwhile mid new m c.perform_counted-2.new.array (cmd ∷ []) c.perform_counted-2.result done.goes (halts_on_err c.perform_counted-2.result done.halts)))
+    (either_meanwhile mid new m c.perform_counted-2.new.array (cmd ∷ []) c.perform_counted-2.result done.goes (halts_on_err _ c.perform_counted-2.result done.halts)))
     c.requires.logged (c.requires.accepted ready.contents (array_of held) ready.reads) c.in_ok-check_room.ensures.ok
