@@ -17,16 +17,15 @@ use Rattle.world.specs.declared.shelf.Span.{Span}
 use Rattle.world.specs.Losing.{geometry_of}
 use Rattle.world.specs.Shelf.{Shelved, Disk, Stop, IsOf, IsIn, IsInSome, IsShelf, Continues, LeavesOnly, OthersStay, Written}
 use Rattle.world.specs.Writes.{OneRange, WritesOnly, LeavesBut, MayLeaveBut}
-use Rattle.world.specs.Ran.{Only, Ran}
+use Rattle.world.specs.Ran.{Only}
 use Rattle.world.proofs.Moments.{then_run, weaker, still_of}
-use Rattle.world.proofs.Ran.{ran_more}
 use Rattle.world.proofs.Writes.{writes_more}
-use Rattle.boot_region.specs.Members.{IsMember, IsDrive, IsOneOf, OnMembers}
+use Rattle.boot_region.specs.Members.{IsMember, IsDrive, IsOneOf, OnMembers, OnSlot}
 use Rattle.boot_region.specs.Regions.{CountsStay}
 use Rattle.boot_region.proofs.ShownLemmas.{closed_shows, gates_stay, bodies_same, other_same, opened, body_low, body_is, shows_written}
 use Rattle.boot_region.proofs.Stored.{rises_between}
 use Rattle.shelf_init.specs.First.{all_drives, first_record}
-use Rattle.shelf_init.specs.Blank.{IsBlank, IsClean, IsShut, IsEmptied, HasNoCommand, HidesOnly, IsNvram, OnLogGates}
+use Rattle.shelf_init.specs.Blank.{IsBlank, IsClean, IsShut, IsEmptied, HasNoCommand, HidesOnly, IsNvram, OnAllOpen, OnBootOrLog, OnLogGates}
 use Rattle.shelf_init.specs.Counted.{NoneFailed, OneFailed, TellsFailed}
 use Rattle.shelf_init.specs.Made.{IsNoneOrEmpty, IsMade}
 use Rattle.shelf_init.proofs.FirstLemmas.{first_is_lawful, is_named}
@@ -268,9 +267,22 @@ pub one_drive : (members : List Bool) (d : Device) → IsOneOf members d → IsD
 one_drive members (dev.Drive k) is = tt
 one_drive members (dev.Nv n) is = is
 
--- whatever it runs on and writes
-pub ran_anywhere : {X : Type 0} {shelf : X → Shelved} {same_rest : X → X → Type 0} {D : Device → Type 0} {W : Device → ℕ → Type 0} {a b : X} → Ran shelf same_rest D W a b → Ran shelf same_rest (λ d. Unit {0}) (λ d i. Unit {0}) a b
-ran_anywhere ran = ran_more (λ d is. tt) (λ d i w. tt) ran
+-- what each phase writes is of the boot region, or the gates of the log
+pub open_in_boot : (bytes : List ℕ) (d : Device) (i : ℕ) → OnAllOpen bytes d i → OnBootOrLog d i
+open_in_boot bytes (dev.Drive k) i (inl w) = omega (arith, w.1)
+open_in_boot bytes (dev.Drive k) i (inr w) = omega (arith, w.1)
+open_in_boot bytes (dev.Nv n) i (inl w) = absurd w
+open_in_boot bytes (dev.Nv n) i (inr w) = absurd w
+
+pub gates_in_log : (d : Device) (i : ℕ) → OnLogGates d i → OnBootOrLog d i
+gates_in_log (dev.Drive k) i w = absurd w
+gates_in_log (dev.Nv n) i w = w
+
+pub slot_in_boot : (members : List Bool) (d : Device) (i : ℕ) → OnSlot members B d i → OnBootOrLog d i
+slot_in_boot members (dev.Drive k) i (inl w) = omega (arith, w.1)
+slot_in_boot members (dev.Drive k) i (inr w) = omega (arith, w.1)
+slot_in_boot members (dev.Nv n) i (inl w) = absurd w
+slot_in_boot members (dev.Nv n) i (inr w) = absurd w
 
 pub written_there : (a b : Shelved) {flags all : List Bool} {at place : ℕ} {from : List ℕ} → flags ≡ all → at ≡ place
     → ((i : ℕ) → IsMember flags i → Written at from (a.disk (drive i)).bytes (b.disk (drive i)).bytes) → (i : ℕ) → IsMember all i → Written place from (a.disk (drive i)).bytes (b.disk (drive i)).bytes

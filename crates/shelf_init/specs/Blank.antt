@@ -84,3 +84,8 @@ IsNvram (Nv n) = Unit {0}
 abbrev pub OnLogGates : Device → ℕ → Type 0
 OnLogGates (Drive d) i = ⊥
 OnLogGates (Nv n) i = i < LOG_SLOTS
+
+-- the boot region of a drive, and those
+abbrev pub OnBootOrLog : Device → ℕ → Type 0
+OnBootOrLog (Drive d) i = i < REGION_BYTES
+OnBootOrLog (Nv n) i = i < LOG_SLOTS

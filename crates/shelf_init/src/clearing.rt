@@ -1,5 +1,5 @@
 // The logs of the NVRAM devices are emptied.
-ghost use Rattle.std.specs.Prelude.{◌≡◌, OnOk};
+ghost use Rattle.std.specs.Prelude.{OnOk};
 ghost use Rattle.world.specs.Ran.{Ran};
 ghost use Rattle.shelf_init.specs.Blank.{IsClean, IsNvram, HasNoCommand, OnLogGates};
 ghost use Rattle.shelf_init.specs.Counted.{TellsFailed};

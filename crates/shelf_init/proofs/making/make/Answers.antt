@@ -1,18 +1,20 @@
 use Rattle.world.proofs.Moments.{then_run, continues_trans, continues_refl}
-use Rattle.world.proofs.Ran.{ran_then}
-use Rattle.shelf_init.proofs.CallLemmas.{ran_anywhere, making_first, making_two, spells_then, moments_of, emptied, tells_then, none_then}
+use Rattle.world.proofs.Ran.{ran_then, ran_more}
+use Rattle.shelf_init.specs.First.{all_drives}
+use Rattle.shelf_init.proofs.CallLemmas.{open_in_boot, gates_in_log, slot_in_boot, making_first, making_two, spells_then, moments_of, emptied, tells_then, none_then}
 use Rattle.shelf_init.proofs.making.make.Goals as goal
 
 pub returns-in_err-close_all_gates-clause-ran : goal.returns-in_err-close_all_gates-clause-ran
-returns-in_err-close_all_gates-clause-ran g c = ran_anywhere c.close_all_gates.ensures.ran
+returns-in_err-close_all_gates-clause-ran g c = ran_more (λ d is. tt) (open_in_boot c.args.regions.now.bytes.items) c.close_all_gates.ensures.ran
 
 pub returns-in_err-clear_nvram-clause-ran : goal.returns-in_err-clear_nvram-clause-ran
-returns-in_err-clear_nvram-clause-ran g c = ran_then g.met.S.Shelf.shelf_rest_stays (ran_anywhere c.close_all_gates.ensures.ran) (ran_anywhere c.clear_nvram.ensures.ran)
+returns-in_err-clear_nvram-clause-ran g c = ran_then g.met.S.Shelf.shelf_rest_stays (ran_more (λ d is. tt) (open_in_boot c.args.regions.now.bytes.items) c.close_all_gates.ensures.ran) (ran_more (λ d is. tt) gates_in_log c.clear_nvram.ensures.ran)
 
 pub returns-clause-ran : goal.returns-clause-ran
 returns-clause-ran g c =
     let stays = g.met.S.Shelf.shelf_rest_stays in
-    ran_then stays (ran_then stays (ran_anywhere c.close_all_gates.ensures.ran) (ran_anywhere c.clear_nvram.ensures.ran)) (ran_anywhere c.store_first.ensures.ran)
+    ran_then stays (ran_then stays (ran_more (λ d is. tt) (open_in_boot c.args.regions.now.bytes.items) c.close_all_gates.ensures.ran) (ran_more (λ d is. tt) gates_in_log c.clear_nvram.ensures.ran))
+    (ran_more (λ d is. tt) (slot_in_boot (all_drives (g.S.Shelf.shelf c.clear_nvram.new.shelf).drives)) c.store_first.ensures.ran)
 
 pub returns-in_err-close_all_gates-clause-any_moment : goal.returns-in_err-close_all_gates-clause-any_moment
 returns-in_err-close_all_gates-clause-any_moment g c h clean blank read spells =

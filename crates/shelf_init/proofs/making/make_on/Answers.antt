@@ -1,7 +1,7 @@
 use Rattle.std.proofs.lemmas.Result.{err_from_is_err_and}
 use Rattle.world.proofs.Moments.{then_run}
-use Rattle.world.proofs.Ran.{ran_then}
-use Rattle.shelf_init.proofs.CallLemmas.{ran_anywhere, failed_later, none_then, moments_of, spells_then}
+use Rattle.world.proofs.Ran.{ran_then, ran_more}
+use Rattle.shelf_init.proofs.CallLemmas.{failed_later, none_then, moments_of, spells_then}
 use Rattle.shelf_init.proofs.InitLemmas.{while_reading, still_blank, still_clean}
 use Rattle.shelf_init.proofs.making.make_on.Goals as goal
 
@@ -9,13 +9,13 @@ pub make-requires-clause-drives : goal.make-requires-clause-drives
 make-requires-clause-drives g c = c.look.ensures.drives
 
 pub returns-in_err-look-clause-ran : goal.returns-in_err-look-clause-ran
-returns-in_err-look-clause-ran g c = ran_anywhere c.look.ensures.ran
+returns-in_err-look-clause-ran g c = ran_more (λ d is. tt) (λ d i none. absurd none) c.look.ensures.ran
 
 pub returns-in_err-make-clause-ran : goal.returns-in_err-make-clause-ran
-returns-in_err-make-clause-ran g c = ran_then g.met.S.Shelf.shelf_rest_stays (ran_anywhere c.look.ensures.ran) c.make.ensures.ran
+returns-in_err-make-clause-ran g c = ran_then g.met.S.Shelf.shelf_rest_stays (ran_more (λ d is. tt) (λ d i none. absurd none) c.look.ensures.ran) c.make.ensures.ran
 
 pub returns-clause-ran : goal.returns-clause-ran
-returns-clause-ran g c = ran_then g.met.S.Shelf.shelf_rest_stays (ran_anywhere c.look.ensures.ran) c.make.ensures.ran
+returns-clause-ran g c = ran_then g.met.S.Shelf.shelf_rest_stays (ran_more (λ d is. tt) (λ d i none. absurd none) c.look.ensures.ran) c.make.ensures.ran
 
 pub returns-in_err-look-clause-device : goal.returns-in_err-look-clause-device
 returns-in_err-look-clause-device g c = let r = err_from_is_err_and c.from_residual.result c.from_residual.ensures.1 in rw (r.1, r.2) c.in_err-look.ensures.device
