@@ -9,11 +9,15 @@ use Rattle.pur_base.specs.Devices.{drive}
 use Rattle.pur_base.specs.Gates.{is_open}
 use Rattle.world.specs.declared.streams.Failed.{Failed}
 use Rattle.world.specs.Counts.{Rises}
-use Rattle.world.specs.Shelf.{Shelved, Stop, Disk, Continues, LeavesOnly, ReadCounts, Written}
+use Rattle.world.specs.Shelf.{Shelved, Stop, Disk, Continues, Elapses, IsSame, IsShelf, LeavesOnly, OthersStay, ReadCounts, Written}
+use Rattle.world.specs.Streams.{IsPreorder}
 use Rattle.world.specs.Writes.{OneRange, WritesOnly, LeavesBut, ChangesOnly}
-use Rattle.world.proofs.Moments.{then_run, weaker}
-use Rattle.world.proofs.Writes.{but_then, counted_then, counts_grow, writes_then, writes_more}
-use Rattle.boot_region.specs.Members.{IsMember, OnNotShut, OneNotShut, IsNotShut, Closed, LostWrites}
+use Rattle.world.specs.Ran.{Only, Ran}
+use Rattle.world.proofs.Moments.{continues_trans, then_run, weaker}
+use Rattle.world.proofs.Ran.{runs_read}
+use Rattle.world.proofs.Writes.{but_then, counted_then, counts_grow, read_writes, writes_then, writes_more}
+use Rattle.boot_region.specs.Members.{IsMember, IsOneOf, OnNotShut, OneNotShut, IsNotShut, Closed, LostWrites}
+use Rattle.boot_region.proofs.OnEach.{only_member}
 use Rattle.boot_codec.specs.Gate.{gate_bytes}
 use Rattle.boot_region.proofs.ShownLemmas.{reads_open, gate_opens, gate_closes, gate_size, open_begins, closed_begins}
 
@@ -52,14 +56,30 @@ changes_more {W} {V} {old} {new} to changes = record {
 pub left_then : {W : Device → ℕ → Type 0} {a b : Shelved} {stop : Stop} → Continues a b → ((d : Device) → ChangesOnly (W d) (a.disk d) (b.disk d)) → LeavesBut W b stop → LeavesBut W a stop
 left_then {W} {a} {b} {stop} on changes left = record { bytes = λ d. but_then (changes d) (left.bytes d); counts = counted_then (counts_grow on) left.counts }
 
+-- a read
+pub ran_read : {X : Type 0} {shelf : X → Shelved} {same_rest : X → X → Type 0} {D : Device → Type 0} {W : Device → ℕ → Type 0} {a b : X} (device : Device) → D device → IsShelf (shelf a) → Elapses (shelf a) (shelf b) → OthersStay device (shelf a) (shelf b) → same_rest a b
+    → ((shelf a).honest → IsSame ((shelf a).disk device) ((shelf b).disk device)) → Ran shelf same_rest D W a b
+ran_read device on is time others rest same = record { on = runs_read device on is time others same; rest = rest }
+
+-- a read of a device, and then a write of a gate's sector on it
+pub ran_behind_read : {X : Type 0} {shelf : X → Shelved} {same_rest : X → X → Type 0} {W : Device → ℕ → Type 0} {a b c : X} {n : ℕ} (device : Device) (at : ℕ) → n ≡ SECTOR_BYTES → IsShelf (shelf a) → IsPreorder same_rest
+    → Elapses (shelf a) (shelf b) → OthersStay device (shelf a) (shelf b) → same_rest a b → ((shelf a).honest → IsSame ((shelf a).disk device) ((shelf b).disk device))
+    → Ran shelf same_rest (Only device) (OneRange device at n) b c → ((shelf a).honest → (d : Device) (i : ℕ) → OneRange device at SECTOR_BYTES d i → W d i) → Ran shelf same_rest (Only device) W a c
+ran_behind_read {shelf = shelf} {W = W} {a = a} {b = b} {c = c} device at size is stays time others rest same wrote to = record {
+  on = record {
+    continues = continues_trans time.continues wrote.on.continues;
+    others = λ d out. wrote.on.others d out ∙ others d out;
+    writes = λ h. writes_then time.continues (read_writes W device is time others (same h))
+        (writes_more (λ d i w. to h d i (subst (λ (k : ℕ). OneRange device at k d i) size w)) (wrote.on.writes (time.continues.honest h)));
+  };
+  rest = stays.transitive a b c rest wrote.rest;
+}
+
 -- a gate that isn't shut is written
 module _ (device : Device) (at : ℕ) (a b c : Shelved) (ab : Continues a b) (read : WritesOnly (λ d i. ⊥) a b) (open_or_failed : IsNotShut at (a.disk device).bytes (a.disk device).faults (b.disk device).faults)
     (bc : Continues b c) (wrote : WritesOnly (OneRange device at SECTOR_BYTES) b c) where
   to : (later : ℕ) → (b.disk device).faults ≤ later → (d : Device) (i : ℕ) → OneRange device at SECTOR_BYTES d i → OneNotShut (a.disk device) later device at d i
   to later le d i w = (w.0, w.1, not_shut_on at (a.disk device).bytes (a.disk device).faults (b.disk device).faults later le open_or_failed)
-
-  pub closing_writes : WritesOnly (OneNotShut (a.disk device) (c.disk device).faults device at) a c
-  closing_writes = writes_then ab (writes_more (λ d i none. absurd none) read) (writes_more (to (c.disk device).faults (bc.faults device)) wrote)
 
   pub closing_moments : LeavesOnly a c (λ stop. LeavesBut (OneNotShut (a.disk device) (stop.faults device) device at) a stop)
   closing_moments = then_run ab
@@ -75,7 +95,7 @@ module _ (members : List Bool) (at slot : ℕ) (a b c : Shelved) (member : IsMem
   earlier before now grown (dev.Drive k) i w = (w.0, w.1, not_shut_on at (a.disk (dev.Drive k)).bytes (a.disk (dev.Drive k)).faults (before (dev.Drive k)) (now (dev.Drive k)) (grown (dev.Drive k)) w.2)
   earlier before now grown (dev.Nv k) i w = w
 
-  pub closing_next_writes : WritesOnly (OnNotShut members a (λ d. (b.disk d).faults) at) a b → WritesOnly (OneNotShut (b.disk (drive slot)) (c.disk (drive slot)).faults (drive slot) at) b c → WritesOnly (OnNotShut members a (λ d. (c.disk d).faults) at) a c
+  closing_next_writes : WritesOnly (OnNotShut members a (λ d. (b.disk d).faults) at) a b → WritesOnly (OneNotShut (b.disk (drive slot)) (c.disk (drive slot)).faults (drive slot) at) b c → WritesOnly (OnNotShut members a (λ d. (c.disk d).faults) at) a c
   closing_next_writes first next = writes_then ab (writes_more (earlier (λ d. (b.disk d).faults) (λ d. (c.disk d).faults) bc.faults) first) (writes_more (on_member (λ d. (c.disk d).faults)) next)
 
   pub closing_next_moments : WritesOnly (OnNotShut members a (λ d. (b.disk d).faults) at) a b → LeavesOnly a b (λ stop. LeavesBut (OnNotShut members a stop.faults at) a stop)
@@ -83,6 +103,18 @@ module _ (members : List Bool) (at slot : ℕ) (a b c : Shelved) (member : IsMem
       → LeavesOnly a c (λ stop. LeavesBut (OnNotShut members a stop.faults at) a stop)
   closing_next_moments wrote first next = then_run ab first
       (weaker (λ stop left. left_then ab (λ d. changes_more (λ i w. earlier (λ k. (b.disk k).faults) stop.faults left.counts.faults d i w) (wrote.device d)) (left_more (on_member stop.faults) left)) next)
+
+pub closing_next : {X : Type 0} {shelf : X → Shelved} {same_rest : X → X → Type 0} {a b c : X} (members : List Bool) (at slot : ℕ) → IsMember members slot → ((shelf b).disk (drive slot) ≡ (shelf a).disk (drive slot)) → IsPreorder same_rest
+    → Ran shelf same_rest (IsOneOf members) (OnNotShut members (shelf a) (λ d. ((shelf b).disk d).faults) at) a b → Ran shelf same_rest (Only (drive slot)) (OneNotShut ((shelf b).disk (drive slot)) ((shelf c).disk (drive slot)).faults (drive slot) at) b c
+    → Ran shelf same_rest (IsOneOf members) (OnNotShut members (shelf a) (λ d. ((shelf c).disk d).faults) at) a c
+closing_next {shelf = shelf} {a = a} {b = b} {c = c} members at slot member same stays first next = record {
+  on = record {
+    continues = continues_trans first.on.continues next.on.continues;
+    others = λ d out. next.on.others d (λ is. out (only_member members slot member d is)) ∙ first.on.others d out;
+    writes = λ h. closing_next_writes members at slot (shelf a) (shelf b) (shelf c) member same first.on.continues next.on.continues (first.on.writes h) (next.on.writes (first.on.continues.honest h));
+  };
+  rest = stays.transitive a b c first.rest next.rest;
+}
 
 pub closed_of : (answer : Result (Unit {0}) Failed) (honest was : Type 0) (at : ℕ) (old new : Disk) → was → (honest → OnOk answer (is_open at new.bytes ≡ false)) → (honest → OnOk answer (old.dirty ≡ [] → new.dirty ≡ [])) → OnErr answer (LostWrites old new)
     → Closed honest was (is_ok answer ≡ true) at old new

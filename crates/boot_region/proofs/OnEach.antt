@@ -4,11 +4,15 @@ use Rattle.pur_base.specs.declared.device.Device.{Device}
 use Rattle.world.specs.declared.streams.Failed.{Failed}
 use Rattle.world.specs.Shelf.{Disk, Written, WriteCounts}
 use Rattle.world.specs.Writes.{OneRange}
+use Rattle.world.specs.Ran.{Only}
 use Rattle.pur_base.specs.Devices.{drive}
-use Rattle.boot_region.specs.Members.{IsMember, OnMembers, Outcome}
+use Rattle.boot_region.specs.Members.{IsMember, IsOneOf, OnMembers, Outcome}
 
 pub range_on_members : (members : List Bool) (slot at n : ℕ) → IsMember members slot → (d : Device) (i : ℕ) → OneRange (drive slot) at n d i → OnMembers members at n d i
 range_on_members members slot at n member d i w = subst (λ (x : Device). OnMembers members at n x i) (sym w.0) (member, w.1)
+
+pub only_member : (members : List Bool) (slot : ℕ) → IsMember members slot → (d : Device) → Only (drive slot) d → IsOneOf members d
+only_member members slot member d is = subst (IsOneOf members) (sym is) member
 
 pub outcome_of : (answer : Result (Unit {0}) Failed) (honest was : Type 0) (at : ℕ) (from : List ℕ) (old new : Disk) → was → (honest → OnOk answer (Written at from old.bytes new.bytes)) → (honest → OnOk answer (new.dirty ≡ [])) → WriteCounts answer old new
     → Outcome honest was (is_ok answer ≡ true) at from old new

@@ -9,7 +9,10 @@ use borrow.Rule.Slice.PartMut.{put_mid}
 use Rattle.pur_base.specs.Bytes.{bytes_at}
 use Rattle.boot_region.specs.declared.regions.TheConstants.{REGION_BYTES}
 use Rattle.boot_region.specs.Regions.{region_at, IsRead, AnswerCounts}
-use Rattle.pur_base.specs.Devices.{drive, nvram}
+use Rattle.pur_base.specs.declared.device.Device.{Device}
+use Rattle.pur_base.specs.Devices.{drive}
+use Rattle.world.specs.Ran.{Only}
+use Rattle.boot_region.specs.Members.{IsDrive}
 use Rattle.world.specs.Counts.{Counts, Rises}
 use Rattle.world.specs.Shelf.{Disk, Shelved, ReadCounts}
 use Rattle.world.specs.declared.streams.Failed.{Failed}
@@ -152,6 +155,5 @@ counts_stay was is old before now counts same disk = subst (λ (a : Bool). Answe
 pub first_counts : (is : Bool) (old before now : Disk) → AnswerCounts is before now → before ≡ old → AnswerCounts is old now
 first_counts is old before now counts disk = subst (λ (d : Disk). AnswerCounts is d now) disk counts
 
--- an NVRAM device is no drive
-pub nvram_apart : (n i : ℕ) → nvram n ≢ drive i
-nvram_apart n i = λ e. absurd (cc e)
+pub only_drive : (i : ℕ) (d : Device) → Only (drive i) d → IsDrive d
+only_drive i d is = subst IsDrive (sym is) tt

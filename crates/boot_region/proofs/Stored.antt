@@ -25,7 +25,7 @@ use Rattle.world.specs.Writes.{ChangesOnly, WritesOnly, LeavesBut}
 use Rattle.world.specs.Losing.{geometry_of, IsLater}
 use Rattle.world.proofs.Writes.{writes_then, writes_more}
 use Rattle.world.proofs.Moments.{continues_trans, continues_refl}
-use Rattle.boot_region.specs.Members.{IsMember, IsOneOf, NonMembersStay, OnSlot, OnMembers, OnNotShut, Outcome, Closed, LostWrites, DroppedFailed}
+use Rattle.boot_region.specs.Members.{IsMember, IsOneOf, OnSlot, OnMembers, OnNotShut, Outcome, Closed, LostWrites, DroppedFailed}
 use Rattle.boot_region.specs.Storing.{AreClean, AreClosed, AreOlder, SoundAreMembers, ComesOf, Closes, Writes, Opens, IsInForceOn, MayFollow, AccountsFor, IsInStore, GivesNoMore, HeldStill, IsOpening, StandsBut, StandsNow, IsNewer, IsStored, IsStoredOn, IsFirmOn, AreEnough, StandsAgain}
 use Rattle.boot_region.proofs.Composing.{borne, votes_not, IsBorneOn, differs_then, still_while_closing, still_while_writing, gives_while_closing, gives_while_writing, gives_while_opening, while_closing, while_writing, while_writing_over, while_opening, as_it_is, is_sound_is}
 use Rattle.boot_region.proofs.Phases.{risen_on_way, closes_gates, writes_bodies, opens_gates}
@@ -79,35 +79,23 @@ fewer_closed {honest} {at} m0 m1 a b as_many outcome i m = (outcome i (omega (ar
 pub fewer_written : {honest : Type 0} {at : ℕ} {body : List ℕ} (m0 m1 : List Bool) (a b : Shelved) → length m1 ≡ length m0 → ((i : ℕ) → i < length m0 → Outcome honest (IsMember m0 i) (IsMember m1 i) at body (a.disk (drive i)) (b.disk (drive i))) → (i : ℕ) → IsMember m1 i → IsMember m0 i
 fewer_written {honest} {at} {body} m0 m1 a b as_many outcome i m = (outcome i (omega (arith, member_below m1 i m, as_many))).before m
 
--- what isn't a member at first is none later
-pub stay_then : (a b c : Shelved) (m0 m1 : List Bool) → ((i : ℕ) → IsMember m1 i → IsMember m0 i) → NonMembersStay m0 a b → NonMembersStay m1 b c → NonMembersStay m0 a c
-stay_then a b c m0 m1 fewer first next device none = next device (λ is. none (to device is)) ∙ first device none
-  where
-    to : (k : Device) → IsOneOf m1 k → IsOneOf m0 k
-    to (dev.Drive k) is = fewer k.0 is
-    to (dev.Nv k) is = is
+-- members of fewer are members of more
+pub on_fewer : (m0 m1 : List Bool) → ((i : ℕ) → IsMember m1 i → IsMember m0 i) → (k : Device) → IsOneOf m1 k → IsOneOf m0 k
+on_fewer m0 m1 fewer (dev.Drive k) is = fewer k.0 is
+on_fewer m0 m1 fewer (dev.Nv k) is = is
 
 -- the phases write in the slot
-on_gates : (m : List Bool) (slot : BootSlot) (a : Shelved) (faults : Device → ℕ) (k : Device) (i : ℕ) → OnNotShut m a faults (gate_place slot) k i → OnSlot m slot k i
+pub on_gates : (m : List Bool) (slot : BootSlot) (a : Shelved) (faults : Device → ℕ) (k : Device) (i : ℕ) → OnNotShut m a faults (gate_place slot) k i → OnSlot m slot k i
 on_gates m slot a faults (dev.Drive k) i w = inl (w.0, w.1)
 on_gates m slot a faults (dev.Nv k) i w = absurd w
 
-on_bodies : (m0 m1 : List Bool) (slot : BootSlot) → ((i : ℕ) → IsMember m1 i → IsMember m0 i) → (k : Device) (i : ℕ) → OnMembers m1 (body_place slot) RECORD_BYTES k i → OnSlot m0 slot k i
+pub on_bodies : (m0 m1 : List Bool) (slot : BootSlot) → ((i : ℕ) → IsMember m1 i → IsMember m0 i) → (k : Device) (i : ℕ) → OnMembers m1 (body_place slot) RECORD_BYTES k i → OnSlot m0 slot k i
 on_bodies m0 m1 slot before (dev.Drive k) i w = inr (before k.0 w.0, w.1)
 on_bodies m0 m1 slot before (dev.Nv k) i w = absurd w
 
-pub in_slot_written : (m0 m1 : List Bool) (slot : BootSlot) (a b c : Shelved) (faults : Device → ℕ) → ((i : ℕ) → IsMember m1 i → IsMember m0 i) → Continues a b
-    → WritesOnly (OnNotShut m0 a faults (gate_place slot)) a b → WritesOnly (OnMembers m1 (body_place slot) RECORD_BYTES) b c → WritesOnly (OnSlot m0 slot) a c
-in_slot_written m0 m1 slot a b c faults before ab w1 w2 = writes_then ab (writes_more (on_gates m0 slot a faults) w1) (writes_more (on_bodies m0 m1 slot before) w2)
-
-pub in_slot : (m0 m1 m2 : List Bool) (slot : BootSlot) (a b c d : Shelved) (faults : Device → ℕ) → ((i : ℕ) → IsMember m1 i → IsMember m0 i) → ((i : ℕ) → IsMember m2 i → IsMember m1 i) → Continues a b → Continues b c
-    → WritesOnly (OnNotShut m0 a faults (gate_place slot)) a b → WritesOnly (OnMembers m1 (body_place slot) RECORD_BYTES) b c → WritesOnly (OnMembers m2 (gate_place slot) SECTOR_BYTES) c d → WritesOnly (OnSlot m0 slot) a d
-in_slot m0 m1 m2 slot a b c d faults before1 before2 ab bc w1 w2 w3 =
-    writes_then ab (writes_more (on_gates m0 slot a faults) w1) (writes_then bc (writes_more (on_bodies m0 m1 slot before1) w2) (writes_more last w3))
-  where
-    last : (k : Device) (i : ℕ) → OnMembers m2 (gate_place slot) SECTOR_BYTES k i → OnSlot m0 slot k i
-    last (dev.Drive k) i w = inl (before1 k.0 (before2 k.0 w.0), w.1)
-    last (dev.Nv k) i w = absurd w
+pub on_opened : (m0 m2 : List Bool) (slot : BootSlot) → ((i : ℕ) → IsMember m2 i → IsMember m0 i) → (k : Device) (i : ℕ) → OnMembers m2 (gate_place slot) SECTOR_BYTES k i → OnSlot m0 slot k i
+on_opened m0 m2 slot before (dev.Drive k) i w = inl (before k.0 w.0, w.1)
+on_opened m0 m2 slot before (dev.Nv k) i w = absurd w
 
 -- ---- who is left
 

@@ -19,6 +19,11 @@ abbrev pub IsOneOf : List Bool → Device → Type 0
 IsOneOf members (Drive d) = IsMember members d.0
 IsOneOf members (Nv v) = ⊥
 
+-- the device is a drive
+abbrev pub IsDrive : Device → Type 0
+IsDrive (Drive d) = Unit {0}
+IsDrive (Nv v) = ⊥
+
 -- a device that isn't a member stays as it was
 abbrev pub NonMembersStay : List Bool → Shelved → Shelved → Type 0
 NonMembersStay members old new = (device : Device) → (IsOneOf members device → ⊥) → new.disk device ≡ old.disk device

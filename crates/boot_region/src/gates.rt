@@ -9,9 +9,10 @@ ghost use Rattle.boot_codec.specs.Region.{gate_place, body_place, body_in, shown
 ghost use Rattle.boot_codec.specs.Spelling.{spelling};
 ghost use Rattle.array_spec.specs.Laws.{IsHeld};
 ghost use Rattle.world.specs.Losing.{geometry_of};
-ghost use Rattle.world.specs.Shelf.{Has, Continues, LeavesOnly, OthersStay, MayStop, Stop};
-ghost use Rattle.world.specs.Writes.{WritesOnly, LeavesBut};
-ghost use Rattle.boot_region.specs.Members.{IsMember, NonMembersStay, OnMembers, OnNotShut, OneNotShut, Outcome, Closed, LostWrites, DroppedFailed};
+ghost use Rattle.world.specs.Shelf.{Has, LeavesOnly, MayStop, Stop};
+ghost use Rattle.world.specs.Writes.{LeavesBut};
+ghost use Rattle.world.specs.Ran.{Only, Ran};
+ghost use Rattle.boot_region.specs.Members.{IsMember, IsOneOf, OnMembers, OnNotShut, OneNotShut, Outcome, Closed, LostWrites, DroppedFailed};
 ghost use Rattle.boot_region.specs.Slots.{slot_in};
 ghost use Rattle.boot_region.specs.Storing.{SoundAreMembers, AreClean, AreClosed, AreWritten, OthersLose, LeavesBy, Closes, Writes, Opens};
 
@@ -23,14 +24,11 @@ use world::{Failed, Shelf, write_synced};
 /// Closes a gate, and syncs, unless it reads as closed.
 fn close_gate<S: Shelf>(shelf: &mut S, device: Device, at: u64) -> Result<(), Failed>
     requires { Has (S.shelf shelf.old) device at SECTOR_BYTES }
-    ensures continues { Continues (S.shelf shelf.old) (S.shelf shelf.new) }
+    ensures ran { Ran S.shelf S.shelf_rest (Only device) (OneNotShut ((S.shelf shelf.old).disk device) ((S.shelf shelf.new).disk device).faults device at) shelf.old shelf.new }
     ensures closed { (S.shelf shelf.old).honest → OnOk result (is_open at ((S.shelf shelf.new).disk device).bytes ≡ false) }
     ensures clean { (S.shelf shelf.old).honest → OnOk result (((S.shelf shelf.old).disk device).dirty ≡ [] → ((S.shelf shelf.new).disk device).dirty ≡ []) }
-    ensures writes { (S.shelf shelf.old).honest → WritesOnly (OneNotShut ((S.shelf shelf.old).disk device) ((S.shelf shelf.new).disk device).faults device at) (S.shelf shelf.old) (S.shelf shelf.new) }
     ensures any_moment { (S.shelf shelf.old).honest → LeavesOnly (S.shelf shelf.old) (S.shelf shelf.new) (λ stop. LeavesBut (OneNotShut ((S.shelf shelf.old).disk device) (stop.faults device) device at) (S.shelf shelf.old) stop) }
-    ensures others { OthersStay device (S.shelf shelf.old) (S.shelf shelf.new) }
     ensures counts { OnErr result (LostWrites ((S.shelf shelf.old).disk device) ((S.shelf shelf.new).disk device)) }
-    ensures rest { S.shelf_rest shelf.old shelf.new }
 {
     let mut seen = [0; SECTOR_BYTES];
     let answer = shelf.read(device, at, &mut seen);
@@ -44,12 +42,9 @@ fn close_gate<S: Shelf>(shelf: &mut S, device: Device, at: u64) -> Result<(), Fa
 /// Closes the gate of a slot on each member, and syncs. A gate that reads as closed is not written. A member that fails is dropped.
 pub fn close_gates<S: Shelf>(shelf: &mut S, members: &mut [bool], slot: Slot)
     requires { length members.old ≤ (S.shelf shelf.old).drives }
-    ensures continues { Continues (S.shelf shelf.old) (S.shelf shelf.new) }
+    ensures ran { Ran S.shelf S.shelf_rest (IsOneOf members.old) (OnNotShut members.old (S.shelf shelf.old) (λ d. ((S.shelf shelf.new).disk d).faults) (gate_place (slot_in slot))) shelf.old shelf.new }
     ensures outcome { (d : ℕ) → d < length members.old
         → Closed (S.shelf shelf.old).honest (IsMember members.old d) (IsMember members.new d) (gate_place (slot_in slot)) ((S.shelf shelf.old).disk (drive d)) ((S.shelf shelf.new).disk (drive d)) }
-    ensures writes { (S.shelf shelf.old).honest → WritesOnly (OnNotShut members.old (S.shelf shelf.old) (λ d. ((S.shelf shelf.new).disk d).faults) (gate_place (slot_in slot))) (S.shelf shelf.old) (S.shelf shelf.new) }
-    ensures others { NonMembersStay members.old (S.shelf shelf.old) (S.shelf shelf.new) }
-    ensures rest { S.shelf_rest shelf.old shelf.new }
     ensures moments { (S.shelf shelf.old).honest → LeavesOnly (S.shelf shelf.old) (S.shelf shelf.new) (λ stop. LeavesBut (OnNotShut members.old (S.shelf shelf.old) stop.faults (gate_place (slot_in slot))) (S.shelf shelf.old) stop) }
     ensures any_moment { (S.shelf shelf.old).honest → (missing : Conditions) (held : List ℕ) → AreClean (S.shelf shelf.old) missing members.old
         → LeavesBy (S.shelf shelf.old) (S.shelf shelf.new) (Closes (S.shelf shelf.old) members.old missing (slot_in slot) held) }
@@ -67,12 +62,9 @@ pub fn close_gates<S: Shelf>(shelf: &mut S, members: &mut [bool], slot: Slot)
 pub fn write_bodies<S: Shelf>(shelf: &mut S, members: &mut [bool], slot: Slot, body: &[u8])
     requires members { length members.old ≤ (S.shelf shelf.old).drives }
     requires size { length body.now ≡ RECORD_BYTES }
-    ensures continues { Continues (S.shelf shelf.old) (S.shelf shelf.new) }
+    ensures ran { Ran S.shelf S.shelf_rest (IsOneOf members.old) (OnMembers members.old (body_place (slot_in slot)) RECORD_BYTES) shelf.old shelf.new }
     ensures outcome { (d : ℕ) → d < length members.old
         → Outcome (S.shelf shelf.old).honest (IsMember members.old d) (IsMember members.new d) (body_place (slot_in slot)) body.now ((S.shelf shelf.old).disk (drive d)) ((S.shelf shelf.new).disk (drive d)) }
-    ensures writes { (S.shelf shelf.old).honest → WritesOnly (OnMembers members.old (body_place (slot_in slot)) RECORD_BYTES) (S.shelf shelf.old) (S.shelf shelf.new) }
-    ensures others { NonMembersStay members.old (S.shelf shelf.old) (S.shelf shelf.new) }
-    ensures rest { S.shelf_rest shelf.old shelf.new }
     ensures any_moment { (S.shelf shelf.old).honest → (missing : Conditions) → AreClean (S.shelf shelf.old) missing members.old → AreClosed (S.shelf shelf.old) missing members.old (slot_in slot)
         → LeavesBy (S.shelf shelf.old) (S.shelf shelf.new) (Writes missing members.old (slot_in slot)) }
 {
@@ -82,10 +74,7 @@ pub fn write_bodies<S: Shelf>(shelf: &mut S, members: &mut [bool], slot: Slot, b
 /// Opens the gate of a slot on each member, and syncs. A member that fails is dropped.
 pub fn open_gates<S: Shelf>(shelf: &mut S, members: &mut [bool], slot: Slot)
     requires { length members.old ≤ (S.shelf shelf.old).drives }
-    ensures continues { Continues (S.shelf shelf.old) (S.shelf shelf.new) }
-    ensures writes { (S.shelf shelf.old).honest → WritesOnly (OnMembers members.old (gate_place (slot_in slot)) SECTOR_BYTES) (S.shelf shelf.old) (S.shelf shelf.new) }
-    ensures others { NonMembersStay members.old (S.shelf shelf.old) (S.shelf shelf.new) }
-    ensures rest { S.shelf_rest shelf.old shelf.new }
+    ensures ran { Ran S.shelf S.shelf_rest (IsOneOf members.old) (OnMembers members.old (gate_place (slot_in slot)) SECTOR_BYTES) shelf.old shelf.new }
     ensures fewer { (i : ℕ) → IsMember members.new i → IsMember members.old i }
     ensures dropped { DroppedFailed (S.shelf shelf.old) (S.shelf shelf.new) members.old members.new }
     ensures clean { (S.shelf shelf.old).honest → (i : ℕ) → IsMember members.new i → ((S.shelf shelf.new).disk (drive i)).dirty ≡ [] }

@@ -3,8 +3,9 @@ ghost use Rattle.std.specs.Prelude.{◌≡◌, ◌<◌, ◌≤◌, ℕ, IfOk, If
 ghost use Rattle.pur_base.specs.Devices.{Geometry};
 ghost use Rattle.pur_base.specs.declared.device.Device.{Device};
 ghost use Rattle.world.specs.Losing.{geometry_of};
-ghost use Rattle.world.specs.Shelf.{Continues, IsSame};
-ghost use Rattle.world.specs.Writes.{WritesOnly};
+ghost use Rattle.world.specs.Shelf.{IsSame};
+ghost use Rattle.world.specs.Ran.{Ran};
+ghost use Rattle.boot_region.specs.Members.{IsDrive};
 ghost use Rattle.boot_codec.specs.Record.{set_count};
 ghost use Rattle.boot_region.specs.declared.loading.LoadFault.TheVariants as faults;
 ghost use Rattle.boot_region.specs.Loading.{IsLoadOf, IsGiven, IsFaultOf, IsLawfulLoad, MayBeSettled, fault_of};
@@ -90,10 +91,8 @@ impl Regions {
 
 /// Loads the record in force: it reads the boot units of each drive, and writes nothing.
 pub fn load<S: Shelf>(alloc: Global, shelf: &mut S) -> Result<Loaded, LoadFault>
-    ensures continues { Continues (S.shelf shelf.old) (S.shelf shelf.new) }
+    ensures ran { Ran S.shelf S.shelf_rest IsDrive (λ d i. ⊥) shelf.old shelf.new }
     ensures same { (S.shelf shelf.old).honest → (device : Device) → IsSame ((S.shelf shelf.old).disk device) ((S.shelf shelf.new).disk device) }
-    ensures writes { (S.shelf shelf.old).honest → WritesOnly (λ d i. ⊥) (S.shelf shelf.old) (S.shelf shelf.new) }
-    ensures rest { S.shelf_rest shelf.old shelf.new }
     ensures loads { (S.shelf shelf.old).honest → IsLoadOf (S.shelf shelf.old) (S.shelf shelf.new) result }
     // A record that was loaded is one of the shelf's, and names the drives that hold it.
     ensures lawful { IfOk result (IsLawfulLoad (geometry_of (S.shelf shelf.new))) }

@@ -3,9 +3,8 @@ ghost use Rattle.std.specs.Prelude.{◌≡◌, ℕ, ◌+◌, ◌*◌, ◌%◌, �
 ghost use Rattle.pur_base.specs.Devices.{drive};
 ghost use Rattle.pur_base.specs.declared.limits.TheConstants.{SECTOR_BYTES, UNIT_BYTES};
 ghost use Rattle.boot_codec.specs.Record.{set_count};
-ghost use Rattle.world.specs.Shelf.{Continues};
-ghost use Rattle.world.specs.Writes.{WritesOnly};
-ghost use Rattle.boot_region.specs.Members.{IsMember, NonMembersStay, OnMembers, Outcome};
+ghost use Rattle.world.specs.Ran.{Ran};
+ghost use Rattle.boot_region.specs.Members.{IsMember, IsOneOf, OnMembers, Outcome};
 
 use pur_base::{Device, DriveId};
 use world::{Shelf, write_synced};
@@ -26,12 +25,9 @@ pub fn write_members<S: Shelf>(shelf: &mut S, members: &mut [bool], at: u64, fro
     requires members { length members.old ≤ (S.shelf shelf.old).drives }
     requires fits { at + length from.now ≤ UNIT_BYTES * (S.shelf shelf.old).units }
     requires aligned { (at % SECTOR_BYTES ≡ 0) × (length from.now % SECTOR_BYTES ≡ 0) }
-    ensures continues { Continues (S.shelf shelf.old) (S.shelf shelf.new) }
+    ensures ran { Ran S.shelf S.shelf_rest (IsOneOf members.old) (OnMembers members.old at (length from.now)) shelf.old shelf.new }
     ensures outcome { (d : ℕ) → d < length members.old
         → Outcome (S.shelf shelf.old).honest (IsMember members.old d) (IsMember members.new d) at from.now ((S.shelf shelf.old).disk (drive d)) ((S.shelf shelf.new).disk (drive d)) }
-    ensures writes { (S.shelf shelf.old).honest → WritesOnly (OnMembers members.old at (length from.now)) (S.shelf shelf.old) (S.shelf shelf.new) }
-    ensures others { NonMembersStay members.old (S.shelf shelf.old) (S.shelf shelf.new) }
-    ensures rest { S.shelf_rest shelf.old shelf.new }
 {
     for slot in 0..members.len() {
         if members[slot] {

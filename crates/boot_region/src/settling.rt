@@ -9,9 +9,9 @@ ghost use Rattle.boot_codec.specs.Region.{gate_place, other_slot};
 ghost use Rattle.array_spec.specs.Standing.{MayBeGiven, Stands};
 ghost use Rattle.world.specs.Counts.{Rises};
 ghost use Rattle.world.specs.Losing.{geometry_of};
-ghost use Rattle.world.specs.Shelf.{Has, Continues, LeavesOnly, OthersStay};
-ghost use Rattle.world.specs.Writes.{WritesOnly};
-ghost use Rattle.boot_region.specs.Members.{IsMember, NonMembersStay, OnClosed, OneClosed, Opened};
+ghost use Rattle.world.specs.Shelf.{Has, LeavesOnly};
+ghost use Rattle.world.specs.Ran.{Only, Ran};
+ghost use Rattle.boot_region.specs.Members.{IsMember, IsOneOf, OnClosed, OneClosed, Opened};
 ghost use Rattle.boot_region.specs.Slots.{slot_in};
 ghost use Rattle.boot_region.specs.Storing.{GivesNoMore, IsFound, IsInForceOn, IsLoaded, TellsFailed};
 
@@ -23,13 +23,10 @@ use world::{Failed, Shelf, write_synced};
 /// Opens a gate, and syncs, unless it reads as open.
 fn open_gate<S: Shelf>(shelf: &mut S, device: Device, at: u64) -> Result<(), Failed>
     requires { Has (S.shelf shelf.old) device at SECTOR_BYTES }
-    ensures continues { Continues (S.shelf shelf.old) (S.shelf shelf.new) }
+    ensures ran { Ran S.shelf S.shelf_rest (Only device) (OneClosed ((S.shelf shelf.old).disk device).bytes device at) shelf.old shelf.new }
     ensures opened { (S.shelf shelf.old).honest → OnOk result (is_open at ((S.shelf shelf.new).disk device).bytes ≡ true) }
     ensures clean { (S.shelf shelf.old).honest → OnOk result (((S.shelf shelf.old).disk device).dirty ≡ [] → ((S.shelf shelf.new).disk device).dirty ≡ []) }
-    ensures writes { (S.shelf shelf.old).honest → WritesOnly (OneClosed ((S.shelf shelf.old).disk device).bytes device at) (S.shelf shelf.old) (S.shelf shelf.new) }
-    ensures others { OthersStay device (S.shelf shelf.old) (S.shelf shelf.new) }
     ensures counts { OnErr result (Rises ((S.shelf shelf.old).disk device).faults ((S.shelf shelf.new).disk device).faults) }
-    ensures rest { S.shelf_rest shelf.old shelf.new }
 {
     let mut seen = [0; SECTOR_BYTES];
     shelf.read(device, at, &mut seen)?;
@@ -43,12 +40,9 @@ fn open_gate<S: Shelf>(shelf: &mut S, device: Device, at: u64) -> Result<(), Fai
 /// Opens the gate of the record that was loaded, and syncs, on each member where it is closed. A member that fails is dropped.
 pub fn settle<S: Shelf>(shelf: &mut S, members: &mut [bool], slot: Slot)
     requires { length members.old ≤ (S.shelf shelf.old).drives }
-    ensures continues { Continues (S.shelf shelf.old) (S.shelf shelf.new) }
+    ensures ran { Ran S.shelf S.shelf_rest (IsOneOf members.old) (OnClosed members.old (S.shelf shelf.old) (gate_place (slot_in slot))) shelf.old shelf.new }
     ensures outcome { (d : ℕ) → d < length members.old
         → Opened (S.shelf shelf.old).honest (IsMember members.old d) (IsMember members.new d) (gate_place (slot_in slot)) ((S.shelf shelf.old).disk (drive d)) ((S.shelf shelf.new).disk (drive d)) }
-    ensures writes { (S.shelf shelf.old).honest → WritesOnly (OnClosed members.old (S.shelf shelf.old) (gate_place (slot_in slot))) (S.shelf shelf.old) (S.shelf shelf.new) }
-    ensures others { NonMembersStay members.old (S.shelf shelf.old) (S.shelf shelf.new) }
-    ensures rest { S.shelf_rest shelf.old shelf.new }
     // At every moment the devices stand for the arrays for which they stood.
     ensures any_moment { (S.shelf shelf.old).honest → (missing : Conditions) (boot : BootRecord) (arrays : List Array)
         → IsLoaded (S.shelf shelf.old) members.old missing (slot_in slot) boot arrays

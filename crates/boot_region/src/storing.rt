@@ -6,9 +6,9 @@ ghost use Rattle.boot_codec.specs.declared.limits.TheConstants.{RECORD_BYTES};
 ghost use Rattle.boot_codec.specs.declared.record.BootRecord.{BootRecord};
 ghost use Rattle.boot_codec.specs.Record.{set_count};
 ghost use Rattle.boot_codec.specs.Spelling.{spelling};
-ghost use Rattle.world.specs.Shelf.{Continues, LeavesOnly};
-ghost use Rattle.world.specs.Writes.{WritesOnly};
-ghost use Rattle.boot_region.specs.Members.{IsMember, NonMembersStay, DroppedFailed, OnSlot};
+ghost use Rattle.world.specs.Shelf.{LeavesOnly};
+ghost use Rattle.world.specs.Ran.{Ran};
+ghost use Rattle.boot_region.specs.Members.{IsMember, IsOneOf, DroppedFailed, OnSlot};
 ghost use Rattle.boot_region.specs.Slots.{slot_in};
 ghost use Rattle.boot_region.specs.Storing.{Shows, AreEnough, IsFirmOn, IsInStore, IsInForceOn, IsNewer, IsStoredIn, IsStoredOn, MayFollow, StandsAgain};
 
@@ -43,13 +43,10 @@ pub fn store<S: Shelf>(
 ) -> Result<(), TooFew>
     requires members { length members.old ≤ (S.shelf shelf.old).drives }
     requires size { length body.now ≡ RECORD_BYTES }
-    ensures continues { Continues (S.shelf shelf.old) (S.shelf shelf.new) }
+    ensures ran { Ran S.shelf S.shelf_rest (IsOneOf members.old) (OnSlot members.old (slot_in slot)) shelf.old shelf.new }
     ensures fewer { (i : ℕ) → IsMember members.new i → IsMember members.old i }
     ensures dropped { DroppedFailed (S.shelf shelf.old) (S.shelf shelf.new) members.old members.new }
     ensures shown { (S.shelf shelf.old).honest → OnOk result ((i : ℕ) → IsMember members.new i → Shows (S.shelf shelf.new) (slot_in slot) body.now i) }
-    ensures writes { (S.shelf shelf.old).honest → WritesOnly (OnSlot members.old (slot_in slot)) (S.shelf shelf.old) (S.shelf shelf.new) }
-    ensures others { NonMembersStay members.old (S.shelf shelf.old) (S.shelf shelf.new) }
-    ensures rest { S.shelf_rest shelf.old shelf.new }
     ensures enough { OnOk result (AreEnough members.new) }
     ensures too_few { OnErr result (set_count members.new + 2 < length members.new) }
     // What is so at every moment, whatever the conditions of the devices: they stand for the arrays for which they stood, and what may be given is the record

@@ -13,4 +13,5 @@ pub mod Unflushed
 pub mod Shows
 pub mod Tabling
 pub mod Left
+pub mod Moments
 pub mod Outlasts

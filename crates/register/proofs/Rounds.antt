@@ -19,10 +19,10 @@ use Rattle.array_spec.proofs.Votes.{counted, sound_before}
 use Rattle.array_spec.proofs.Settling.{twice_other}
 use Rattle.world.specs.Shelf.{Shelved, Disk, Stop, IsShelf, IsInSome, MayLeave, MayStop, Continues, LeavesOnly}
 use Rattle.world.specs.Losing.{geometry_of}
-use Rattle.world.specs.Writes.{WritesOnly, ChangesOnly, LeavesBut}
+use Rattle.world.specs.Writes.{ChangesOnly, LeavesBut}
+use Rattle.world.specs.Ran.{Runs}
 use Rattle.world.proofs.Moments.{weaker}
-use Rattle.world.proofs.Writes.{writes_more}
-use Rattle.boot_region.specs.Members.{IsMember, NonMembersStay, DroppedFailed, OnSlot}
+use Rattle.boot_region.specs.Members.{IsMember, IsOneOf, DroppedFailed, OnSlot}
 use Rattle.boot_region.specs.Storing.{Shows, IsInStore, HeldStill, IsOlder, IsFirmOn, IsInForceOn, IsNewer, IsStored, IsStoredIn, IsStoredOn, MayFollow, StandsAgain, StandsBut}
 use Rattle.boot_region.proofs.ShownLemmas.{shown_body}
 use Rattle.nvram_log.specs.Members as nv
@@ -84,9 +84,8 @@ on_slots members B d i w = inr w
 pub record Puts (ok : Type 0) (old new : Shelved) (now : Register) (members : List Bool) (slot : BootSlot) (body : List ℕ) : Type 0 where
   pub fewer : (i : ℕ) → IsMember (drives_of now) i → IsMember members i
   pub dropped : DroppedFailed old new members (drives_of now)
-  pub others : NonMembersStay members old new
   pub shown : ok → old.honest → (i : ℕ) → IsMember (drives_of now) i → Shows new slot body i
-  pub writes : old.honest → WritesOnly (OnSlot members slot) old new
+  pub runs : Runs (IsOneOf members) (OnSlot members slot) old new
   pub moments : old.honest → LeavesOnly old new (IsInStore old members slot body)
   pub again : old.honest → (missing : Conditions) (held boot : BootRecord) (arrays : List Array) → body ≡ spelling boot → IsFirmOn old members missing slot held → MayFollow old missing slot boot arrays
       → LeavesOnly old new (StandsAgain old missing arrays)
@@ -156,24 +155,21 @@ same_shelf {old} {new} on =
 -- what a store leaves of the units behind the boot region, as a stop before it might have
 module _ {ok : Type 0} (old new : Shelved) (h : old.honest) (now : Register) (members : List Bool) (slot : BootSlot) (body : List ℕ) (puts : Puts ok old new now members slot body) (start : Stop) (may : MayStop new start) where
   pub long : (i : ℕ) → length (old.disk (drive i)).bytes ≡ length (start.image (drive i))
-  long i = sym (((puts.writes h).device (drive i)).size) ∙ sym (may.device (drive i)).size
+  long i = sym (((puts.runs.writes h).device (drive i)).size) ∙ sym (may.device (drive i)).size
 
   pub same_behind : (d i : ℕ) → 196608 ≤ i → (IsInSome (old.disk (drive d)).dirty i → ⊥) → slice_index (start.image (drive d)) i ≡ slice_index (old.disk (drive d)).bytes i
   same_behind d i le not =
-      let changes = (puts.writes h).device (drive d) in
+      let changes = (puts.runs.writes h).device (drive d) in
       let outside : OnSlot members slot (drive d) i → ⊥ = λ w. in_boot members slot d i le w in
       (may.device (drive d)).clean i (λ dirty. elim (changes.dirty i dirty) [ inl was_dirty ↦ not was_dirty | inr w ↦ outside w ]) ∙ changes.bytes i outside
 
   pub log_then : (n : ℕ) → MayLeave (old.disk (nvram n)) (start.image (nvram n))
-  log_then n = subst (λ (d : Disk). MayLeave d (start.image (nvram n))) (puts.others (nvram n) (λ x. x)) (may.device (nvram n))
+  log_then n = subst (λ (d : Disk). MayLeave d (start.image (nvram n))) (puts.runs.others (nvram n) (λ x. x)) (may.device (nvram n))
 
 module _ {ok : Type 0} (old new : Shelved) (is_old : IsShelf old) (on : Continues old new) (was now : Register) (nvrams : List Bool) (is_of : IsRegisterOf (geometry_of old) was) (some : nv.IsSome nvrams)
     (lawful : IsBootRecord (next_record was.record was.drives nvrams)) (kept : now.record ≡ next_record was.record was.drives nvrams)
     (beyond : (i : ℕ) → was.record.slots ≤ i → IsMember now.drives i → IsMember was.drives i)
     (puts : Puts ok old new now (drives_of was) (next_slot was.record) (spelling (next_record was.record was.drives nvrams))) where
-  pub writes_slots : old.honest → WritesOnly (OnSlots (drives_of was)) old new
-  writes_slots h = writes_more (λ d i w. on_slots (drives_of was) (next_slot was.record) d i w) (puts.writes h)
-
   its_register : IsRegisterOf (geometry_of new) now
   its_register = is_of_next old new on was now (next_record was.record was.drives nvrams) is_of lawful refl refl (λ i m. m) kept beyond puts.fewer
 
@@ -181,7 +177,7 @@ module _ {ok : Type 0} (old new : Shelved) (is_old : IsShelf old) (on : Continue
   cut i m = cut_drives (geometry_of old) was is_of i m
 
   nvram_same : (n : ℕ) → new.disk (nvram n) ≡ old.disk (nvram n)
-  nvram_same n = puts.others (nvram n) (λ x. x)
+  nvram_same n = puts.runs.others (nvram n) (λ x. x)
 
   module _ (h : old.honest) (held : Content) (logged : StandsInLog old was nvrams held) (stood : ok) where
     body_stands : (i : ℕ) → IsMember (drives_of now) i → body_in (next_slot was.record) (new.disk (drive i)).bytes ≡ spelling (next_record was.record was.drives nvrams)
@@ -225,7 +221,7 @@ module _ {ok : Type 0} (old new : Shelved) (is_old : IsShelf old) (on : Continue
     older_body : (i : ℕ) → IsMember (drives_of now) i → body_in (own_slot was.record) (new.disk (drive i)).bytes ≡ spelling was.record
     older_body i m =
         subst (λ (t : BootSlot). body_in t (new.disk (drive i)).bytes ≡ body_in t (old.disk (drive i)).bytes) (twice_other (own_slot was.record))
-        (other_body (drives_of was) (next_slot was.record) i (old.disk (drive i)) (new.disk (drive i)) ((puts.writes h).device (drive i)))
+        (other_body (drives_of was) (next_slot was.record) i (old.disk (drive i)) (new.disk (drive i)) ((puts.runs.writes h).device (drive i)))
         ∙ logged.bodies i (puts.fewer i m)
 
     newer : (slot : BootSlot) → Yields slot (generation_in (spelling was.record)) (generation_in (spelling (next_record was.record was.drives nvrams)))
@@ -328,4 +324,4 @@ module _ {ok : Type 0} (old new : Shelved) (is_old : IsShelf old) (on : Continue
     }
 
     pub moments_next : LeavesOnly old new (IsInStoreOf old was nvrams)
-    moments_next = weaker (λ stop x. in_store_next stop x.0 x.1) (both (puts.moments h) (puts.writes h).any_moment)
+    moments_next = weaker (λ stop x. in_store_next stop x.0 x.1) (both (puts.moments h) (puts.runs.writes h).any_moment)

@@ -1,6 +1,6 @@
 -- A store that goes on until the record is on all drives that it names.
 use Rattle.std.proofs.Common.{◌≡◌, inl, inr, ℕ, ◌<◌, ◌≤◌, List, Bool, refl, sym, ◌∙◌, arith, length, Result, Ok, Err, OnOk, OnErr}
-use Rattle.std.specs.Prelude.{IsOk}
+use Rattle.std.specs.Prelude.{IsOk, IfErr, ◌⊎◌, ◌+◌}
 use Rattle.std.proofs.lemmas.Bool.{cases_lt}
 use Rattle.std.proofs.lemmas.List.{length-take}
 use Rattle.pur_base.specs.Devices.{Geometry, Sound, drive}
@@ -8,7 +8,10 @@ use Rattle.boot_codec.specs.Record.{set_count}
 use Rattle.boot_region.specs.Members.{IsMember}
 use Rattle.pur_base.specs.declared.device.Device.{Device}
 use Rattle.pur_base.specs.declared.device.Device.TheVariants as dev
+use Rattle.register.specs.declared.next.StoreFault.{StoreFault}
+use Rattle.register.specs.declared.next.StoreFault.TheVariants.{Spent, TooFew}
 use Rattle.register.specs.declared.state.Register.{Register}
+use Rattle.register.specs.Faults.{EndedMidway, IsFaultOf}
 use Rattle.register.specs.Registers.{IsRegisterOf, OnSlots, drives_of, named_sound}
 use Rattle.register.proofs.FlagLemmas.{few_set, fewer_mask, same_count, in_cut, cut_in, not_below}
 
@@ -52,6 +55,26 @@ from_ok (Err e) p is = absurd (cc is)
 pub when_ok : {T E P : Type 0} (r : Result T E) → (IsOk r → P) → OnOk r P
 when_ok (Ok x) f = f refl
 when_ok (Err e) f = tt
+
+pub for_err : {T E : Type 0} {P : E → Type 0} (r : Result T E) → ((e : E) → P e) → IfErr r P
+for_err (Ok x) f = tt
+for_err (Err e) f = f e
+
+pub if_err : {T E : Type 0} {P Q : E → Type 0} (r : Result T E) → ((e : E) → P e → Q e) → IfErr r P → IfErr r Q
+if_err (Ok x) f p = tt
+if_err (Err e) f p = f e p
+
+-- a store of a later record that ended with too few drives
+pub ended_midway : (P : Type 0) (was now : Register) (r : Result (Unit {0}) StoreFault) → was.record.generation < now.record.generation → OnErr r (set_count now.drives + 2 < now.record.slots) → IfErr r (λ e. IsFaultOf now e)
+    → IfErr r (λ e. P ⊎ EndedMidway was now e)
+ended_midway P was now (Ok x) later few fault = tt
+ended_midway P was now (Err (TooFew drives)) later few fault = inr (later, few)
+ended_midway P was now (Err Spent) later few fault = absurd (omega (arith, few, fault.0))
+
+-- and one that did so after another record was stored
+pub midway_then : (was mid now : Register) (e : StoreFault) → was.record.generation ≤ mid.record.generation → EndedMidway mid now e → EndedMidway was now e
+midway_then was mid now (TooFew drives) le midway = (omega (arith, le, midway.0), midway.1)
+midway_then was mid now Spent le midway = midway
 
 -- no more drives are left than the shelf has
 pub at_most_slots : {shelf : Geometry} (r : Register) → IsRegisterOf shelf r → set_count r.drives ≤ r.record.slots

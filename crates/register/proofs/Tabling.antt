@@ -216,7 +216,7 @@ module _ (old : Shelved) (is_old : IsShelf old) (h : old.honest) (was : Register
     its_register = is_of_next old new on was now boot is_of lawful refl refl (λ i m. m) kept beyond puts.fewer
 
     nvram_same : (n : ℕ) → new.disk (nvram n) ≡ old.disk (nvram n)
-    nvram_same n = puts.others (nvram n) (λ x. x)
+    nvram_same n = puts.runs.others (nvram n) (λ x. x)
 
     -- its tables hold whatever a stop leaves
     module _ (start : Stop) (may : MayStop new start) where
@@ -283,7 +283,7 @@ module _ (old : Shelved) (is_old : IsShelf old) (h : old.honest) (was : Register
     older_body : (i : ℕ) → IsMember (drives_of now) i → body_in own (new.disk (drive i)).bytes ≡ spelling was.record
     older_body i m =
         subst (λ (t : BootSlot). body_in t (new.disk (drive i)).bytes ≡ body_in t (old.disk (drive i)).bytes) (twice_other own)
-        (other_body (drives_of was) slot i (old.disk (drive i)) (new.disk (drive i)) ((puts.writes h).device (drive i)))
+        (other_body (drives_of was) slot i (old.disk (drive i)) (new.disk (drive i)) ((puts.runs.writes h).device (drive i)))
         ∙ o.logged.bodies i (puts.fewer i m)
 
     newer : (s : BootSlot) → Yields s (generation_in (spelling was.record)) (generation_in (spelling boot))

@@ -9,3 +9,8 @@ use Rattle.register.specs.declared.next.StoreFault.TheVariants.{Spent, TooFew}
 abbrev pub IsFaultOf : Register → StoreFault → Type 0
 IsFaultOf r (TooFew drives) = (drives ≡ r.drives) × (set_count r.drives + 2 < r.record.slots)
 IsFaultOf r Spent = (r.record.slots ≤ set_count r.drives + 2) × (2 ^ 48 ≤ r.record.generation + 1)
+
+-- a store ended in the midst of a later record, which more than two drives of the shelf would not hold
+abbrev pub EndedMidway : Register → Register → StoreFault → Type 0
+EndedMidway was now (TooFew drives) = (was.record.generation < now.record.generation) × (set_count now.drives + 2 < now.record.slots)
+EndedMidway was now Spent = ⊥

@@ -51,6 +51,10 @@ pub record StandsInLog (shelf : Shelved) (r : Register) (nvrams : List Bool) (he
   pub holds : ShowsOn shelf nvrams r.record.flushed held.log
   pub accepted : AllAccepted held.base held.log
 
+-- wherever the bytes of the record stood, those of the one that the register holds by then stand
+abbrev pub StaysLogged : Shelved → Shelved → Register → Register → List Bool → Type 0
+StaysLogged old new was now nvrams = (held : Content) → StandsInLog old was nvrams held → StandsInLog new now nvrams held
+
 -- In these conditions the next record may be stored: the record is in force, and the devices stand for the arrays, one of which is that of the log.
 -- Each NVRAM device that isn't missing holds the log, and none that was left out is among them, nor does the record name such a drive.
 pub record MayStore (shelf : Shelved) (r : Register) (nvrams : List Bool) (missing : Conditions) (held : Content) (arrays : List Array) : Type 0 where

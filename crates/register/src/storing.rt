@@ -6,10 +6,10 @@ ghost use Rattle.boot_codec.specs.declared.record.BootRecord.{BootRecord};
 ghost use Rattle.boot_codec.specs.Record.{set_count};
 ghost use Rattle.boot_codec.specs.Spelling.{spelling};
 ghost use Rattle.world.specs.Losing.{geometry_of};
-ghost use Rattle.world.specs.Shelf.{Continues, LeavesOnly};
-ghost use Rattle.world.specs.Writes.{WritesOnly};
-ghost use Rattle.boot_region.specs.Members.{IsMember, NonMembersStay, DroppedFailed, OnSlot};
-ghost use Rattle.boot_region.specs.Storing.{Shows, AreEnough, IsFirmOn, IsInStore, IsOlder, IsInForceOn, IsNewer, IsStoredIn, IsStoredOn, MayFollow, StandsAgain, StandsBut};
+ghost use Rattle.world.specs.Shelf.{LeavesOnly};
+ghost use Rattle.world.specs.Ran.{Ran};
+ghost use Rattle.boot_region.specs.Members.{IsMember, IsOneOf, DroppedFailed, OnSlot};
+ghost use Rattle.boot_region.specs.Storing.{Shows, AreEnough, IsFirmOn, IsInStore, IsOlder, IsInForceOn, IsNewer, IsStoredIn, IsStoredOn, MayFollow, StandsAgain};
 ghost use Rattle.nvram_log.specs.Members.{IsSome};
 
 use crate::slots::slot_for;
@@ -19,26 +19,23 @@ use boot_region::TooFew;
 use world::Shelf;
 
 impl Register {
-    ghost use Rattle.register.specs.Faults.{IsFaultOf};
+    ghost use Rattle.register.specs.Faults.{EndedMidway, IsFaultOf};
     ghost use Rattle.register.specs.Registers.{IsRegisterOf, IsLaterRecord, OnSlots, drives_of, next_record, own_slot, next_slot};
-    ghost use Rattle.register.specs.Standing.{AllShow, Content, IsFirm, MayStoreFirmly, GivesOldOrNext, IsInStoreOf, StandsBack, StandsInLog, StillGiven, MayStore, MayStoreAgain, IsOpen};
+    ghost use Rattle.register.specs.Standing.{Content, IsFirm, MayStoreFirmly, IsInStoreOf, StandsInLog, StaysLogged, MayStore, MayStoreAgain, IsOpen};
 
     /// Stores the record as it is spelled, on the drives that are left. Those on which it fails are dropped.
     pub(crate) fn put<S: Shelf>(&mut self, shelf: &mut S) -> Result<(), StoreFault>
         requires is_of { IsRegisterOf (geometry_of (S.shelf shelf.old)) self.old }
-        ensures continues { Continues (S.shelf shelf.old) (S.shelf shelf.new) }
-        ensures rest { S.shelf_rest shelf.old shelf.new }
+        ensures ran { Ran S.shelf S.shelf_rest (IsOneOf (drives_of self.old)) (OnSlot (drives_of self.old) (own_slot self.old.record)) shelf.old shelf.new }
         ensures kept { self.new.record ≡ self.old.record }
         ensures fewer { (i : ℕ) → IsMember (drives_of self.new) i → IsMember (drives_of self.old) i }
         ensures flags { length self.new.drives ≡ length self.old.drives }
         ensures beyond { (i : ℕ) → self.old.record.slots ≤ i → IsMember self.new.drives i → IsMember self.old.drives i }
         ensures dropped { DroppedFailed (S.shelf shelf.old) (S.shelf shelf.new) (drives_of self.old) (drives_of self.new) }
-        ensures others { NonMembersStay (drives_of self.old) (S.shelf shelf.old) (S.shelf shelf.new) }
         ensures enough { OnOk result (AreEnough (drives_of self.new)) }
         ensures fault { IfErr result (λ e. IsFaultOf self.new e) }
         ensures too_few { OnErr result (set_count self.new.drives + 2 < self.new.record.slots) }
         ensures shown { (S.shelf shelf.old).honest → OnOk result ((i : ℕ) → IsMember (drives_of self.new) i → Shows (S.shelf shelf.new) (own_slot self.old.record) self.old.body.items i) }
-        ensures writes { (S.shelf shelf.old).honest → WritesOnly (OnSlot (drives_of self.old) (own_slot self.old.record)) (S.shelf shelf.old) (S.shelf shelf.new) }
         ensures moments { (S.shelf shelf.old).honest → LeavesOnly (S.shelf shelf.old) (S.shelf shelf.new) (IsInStore (S.shelf shelf.old) (drives_of self.old) (own_slot self.old.record) self.old.body.items) }
         ensures again { (S.shelf shelf.old).honest → (missing : Conditions) (held boot : BootRecord) (arrays : List Array)
             → self.old.body.items ≡ spelling boot → IsFirmOn (S.shelf shelf.old) (drives_of self.old) missing (own_slot self.old.record) held → MayFollow (S.shelf shelf.old) missing (own_slot self.old.record) boot arrays
@@ -69,12 +66,9 @@ impl Register {
     ) -> Result<(), StoreFault>
         requires is_of { IsRegisterOf (geometry_of (S.shelf shelf.old)) self.old }
         requires nvrams { IsSome nvrams }
-        ensures continues { Continues (S.shelf shelf.old) (S.shelf shelf.new) }
-        ensures rest { S.shelf_rest shelf.old shelf.new }
+        ensures ran { Ran S.shelf S.shelf_rest (IsOneOf (drives_of self.old)) (OnSlots (drives_of self.old)) shelf.old shelf.new }
         ensures fewer { (i : ℕ) → IsMember self.new.drives i → IsMember self.old.drives i }
         ensures dropped { DroppedFailed (S.shelf shelf.old) (S.shelf shelf.new) (drives_of self.old) (drives_of self.new) }
-        ensures others { NonMembersStay (drives_of self.old) (S.shelf shelf.old) (S.shelf shelf.new) }
-        ensures writes { (S.shelf shelf.old).honest → WritesOnly (OnSlots (drives_of self.old)) (S.shelf shelf.old) (S.shelf shelf.new) }
         ensures is_of { IsRegisterOf (geometry_of (S.shelf shelf.new)) self.new }
         ensures flags { length self.new.drives ≡ length self.old.drives }
         ensures next { OnOk result (self.new.record ≡ next_record self.old.record self.old.drives nvrams) }
@@ -82,7 +76,8 @@ impl Register {
         ensures left { OnOk result (AreEnough (drives_of self.new)) }
         ensures kept { OnErr result (((self.new.record ≡ self.old.record) × (self.new.drives ≡ self.old.drives)) ⊎ ((self.new.record ≡ next_record self.old.record self.old.drives nvrams) × (self.old.record.slots ≤ set_count self.old.drives + 2) × (set_count self.new.drives < set_count self.old.drives))) }
         ensures fault { IfErr result (λ e. IsFaultOf self.new e) }
-        ensures logged { (S.shelf shelf.old).honest → OnOk result ((held : Content) → StandsInLog (S.shelf shelf.old) self.old nvrams held → StandsInLog (S.shelf shelf.new) self.new nvrams held) }
+        ensures logged { (S.shelf shelf.old).honest → OnOk result (StaysLogged (S.shelf shelf.old) (S.shelf shelf.new) self.old self.new nvrams) }
+        ensures logged_still { (S.shelf shelf.old).honest → IfErr result (λ e. StaysLogged (S.shelf shelf.old) (S.shelf shelf.new) self.old self.new nvrams ⊎ EndedMidway self.old self.new e) }
         ensures shown { (S.shelf shelf.old).honest → OnOk result ((i : ℕ) → IsMember (drives_of self.new) i → Shows (S.shelf shelf.new) (own_slot self.new.record) (spelling self.new.record) i) }
         ensures older { (S.shelf shelf.old).honest → OnOk result ((held : Content) → StandsInLog (S.shelf shelf.old) self.old nvrams held
             → (i : ℕ) → IsMember (drives_of self.new) i → IsOlder (S.shelf shelf.new) (next_slot self.new.record) (spelling self.new.record) i) }
@@ -110,12 +105,9 @@ impl Register {
     ) -> Result<(), StoreFault>
         requires is_of { IsRegisterOf (geometry_of (S.shelf shelf.old)) self.old }
         requires nvrams { IsSome nvrams }
-        ensures continues { Continues (S.shelf shelf.old) (S.shelf shelf.new) }
-        ensures rest { S.shelf_rest shelf.old shelf.new }
+        ensures ran { Ran S.shelf S.shelf_rest (IsOneOf (drives_of self.old)) (OnSlots (drives_of self.old)) shelf.old shelf.new }
         ensures fewer { (i : ℕ) → IsMember self.new.drives i → IsMember self.old.drives i }
         ensures dropped { DroppedFailed (S.shelf shelf.old) (S.shelf shelf.new) (drives_of self.old) (drives_of self.new) }
-        ensures others { NonMembersStay (drives_of self.old) (S.shelf shelf.old) (S.shelf shelf.new) }
-        ensures writes { (S.shelf shelf.old).honest → WritesOnly (OnSlots (drives_of self.old)) (S.shelf shelf.old) (S.shelf shelf.new) }
         ensures is_of { IsRegisterOf (geometry_of (S.shelf shelf.new)) self.new }
         ensures later { IsLaterRecord self.old.record self.new.record }
         ensures generation { OnOk result ((self.old.record.generation < self.new.record.generation) × (self.new.record.generation < 2 ^ 48)) }
@@ -129,21 +121,13 @@ impl Register {
         ensures lost { OnErr result (self.new.record.generation + set_count self.new.drives ≤ self.old.record.generation + set_count self.old.drives) }
         ensures fault { IfErr result (λ e. IsFaultOf self.new e) }
         // The bytes of the record stand on the drives that are left.
-        ensures logged { (S.shelf shelf.old).honest → OnOk result ((held : Content) → StandsInLog (S.shelf shelf.old) self.old nvrams held → StandsInLog (S.shelf shelf.new) self.new nvrams held) }
-        // What is so at every moment, whatever the conditions of the devices.
+        ensures logged { (S.shelf shelf.old).honest → OnOk result (StaysLogged (S.shelf shelf.old) (S.shelf shelf.new) self.old self.new nvrams) }
+        // They do after an error too, unless it ended in the midst of a later record, which more than two drives of the shelf would not hold.
+        ensures logged_still { (S.shelf shelf.old).honest → IfErr result (λ e. StaysLogged (S.shelf shelf.old) (S.shelf shelf.new) self.old self.new nvrams ⊎ EndedMidway self.old self.new e) }
+        // At every moment, whatever the conditions of the devices, they stand for the arrays for which they stood, as long as each record that is stored leaves room for later ones.
+        // What may be given then is such a record, or one that might have been given before. While the record before isn't superseded it may be given still;
+        // then the devices stand for the arrays also where members are back that were missing.
         ensures moments { (S.shelf shelf.old).honest → self.new.record.generation < 2 ^ 48 - 8 → LeavesOnly (S.shelf shelf.old) (S.shelf shelf.new) (IsInStoreOf (S.shelf shelf.old) self.old nvrams) }
-        // At every moment the devices stand for the arrays for which they stood, as long as each record that is stored leaves room for later ones.
-        ensures any_moment { (S.shelf shelf.old).honest → self.new.record.generation < 2 ^ 48 - 8 → (missing : Conditions) (held : Content) (arrays : List Array)
-            → MayStore (S.shelf shelf.old) self.old nvrams missing held arrays
-            → LeavesOnly (S.shelf shelf.old) (S.shelf shelf.new) (StandsBut (S.shelf shelf.old) (drives_of self.old) missing (next_slot self.old.record) self.old.record arrays) }
-        // What may be given at any moment is such a record, or one that might have been given before.
-        ensures gives { (S.shelf shelf.old).honest → self.new.record.generation < 2 ^ 48 - 8 → (missing : Conditions) (held : Content) (arrays : List Array)
-            → MayStore (S.shelf shelf.old) self.old nvrams missing held arrays
-            → LeavesOnly (S.shelf shelf.old) (S.shelf shelf.new) (GivesOldOrNext (S.shelf shelf.old) self.old nvrams missing) }
-        // While the record before isn't superseded it may be given still. Then the devices stand for the arrays also where members are back that were missing.
-        ensures back { (S.shelf shelf.old).honest → self.new.record.generation < 2 ^ 48 - 8 → (held : Content)
-            → StandsInLog (S.shelf shelf.old) self.old nvrams held → AllShow (S.shelf shelf.old) self.old
-            → LeavesOnly (S.shelf shelf.old) (S.shelf shelf.new) (λ stop. StillGiven (S.shelf shelf.old) self.old nvrams held stop ⊎ StandsBack (S.shelf shelf.old) self.old nvrams held stop) }
         // Whatever fails, more than is borne too: at every moment the devices stand for the arrays once they answer again with what they hold.
         ensures outlasts { (S.shelf shelf.old).honest → self.new.record.generation < 2 ^ 48 - 8 → (missing : Conditions) (held : Content) (arrays : List Array)
             → MayStore (S.shelf shelf.old) self.old nvrams missing held arrays → IsFirm (S.shelf shelf.old) self.old missing

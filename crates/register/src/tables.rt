@@ -3,9 +3,9 @@ ghost use Rattle.std.specs.Prelude.{◌≡◌, ◌⊎◌, ◌<◌, ◌≤◌, �
 ghost use Rattle.boot_codec.specs.Record.{IsBootRecord, set_count};
 ghost use Rattle.boot_codec.specs.Spelling.{spelling};
 ghost use Rattle.world.specs.Losing.{geometry_of};
-ghost use Rattle.world.specs.Shelf.{Continues, LeavesOnly};
-ghost use Rattle.world.specs.Writes.{WritesOnly};
-ghost use Rattle.boot_region.specs.Members.{IsMember, NonMembersStay, DroppedFailed};
+ghost use Rattle.world.specs.Shelf.{LeavesOnly};
+ghost use Rattle.world.specs.Ran.{Ran};
+ghost use Rattle.boot_region.specs.Members.{IsMember, IsOneOf, DroppedFailed};
 ghost use Rattle.boot_region.specs.Storing.{AreEnough, IsOlder, Shows, StandsAgain};
 ghost use Rattle.nvram_log.specs.Members.{IsSome};
 
@@ -55,12 +55,9 @@ impl Register {
         requires is_of { IsRegisterOf (geometry_of (S.shelf shelf.old)) self.old }
         requires lawful { IsBootRecord (with_tables self.old.record tables) }
         requires nvrams { IsSome self.old.record.members.nvrams }
-        ensures continues { Continues (S.shelf shelf.old) (S.shelf shelf.new) }
-        ensures rest { S.shelf_rest shelf.old shelf.new }
+        ensures ran { Ran S.shelf S.shelf_rest (IsOneOf (drives_of self.old)) (OnSlots (drives_of self.old)) shelf.old shelf.new }
         ensures fewer { (i : ℕ) → IsMember self.new.drives i → IsMember self.old.drives i }
         ensures dropped { DroppedFailed (S.shelf shelf.old) (S.shelf shelf.new) (drives_of self.old) (drives_of self.new) }
-        ensures others { NonMembersStay (drives_of self.old) (S.shelf shelf.old) (S.shelf shelf.new) }
-        ensures writes { (S.shelf shelf.old).honest → WritesOnly (OnSlots (drives_of self.old)) (S.shelf shelf.old) (S.shelf shelf.new) }
         ensures is_of { IsRegisterOf (geometry_of (S.shelf shelf.new)) self.new }
         ensures flags { length self.new.drives ≡ length self.old.drives }
         ensures next { OnOk result (self.new.record ≡ next_record (with_tables self.old.record tables) self.old.drives self.old.record.members.nvrams) }
@@ -104,12 +101,9 @@ impl Register {
         requires is_of { IsRegisterOf (geometry_of (S.shelf shelf.old)) self.old }
         requires lawful { IsBootRecord (with_tables self.old.record tables) }
         requires nvrams { IsSome self.old.record.members.nvrams }
-        ensures continues { Continues (S.shelf shelf.old) (S.shelf shelf.new) }
-        ensures rest { S.shelf_rest shelf.old shelf.new }
+        ensures ran { Ran S.shelf S.shelf_rest (IsOneOf (drives_of self.old)) (OnSlots (drives_of self.old)) shelf.old shelf.new }
         ensures fewer { (i : ℕ) → IsMember self.new.drives i → IsMember self.old.drives i }
         ensures dropped { DroppedFailed (S.shelf shelf.old) (S.shelf shelf.new) (drives_of self.old) (drives_of self.new) }
-        ensures others { NonMembersStay (drives_of self.old) (S.shelf shelf.old) (S.shelf shelf.new) }
-        ensures writes { (S.shelf shelf.old).honest → WritesOnly (OnSlots (drives_of self.old)) (S.shelf shelf.old) (S.shelf shelf.new) }
         ensures is_of { IsRegisterOf (geometry_of (S.shelf shelf.new)) self.new }
         // It is a record of these tables, but for an error before the first one was made.
         ensures stored { OnOk result (IsLaterRecord (with_tables self.old.record tables) self.new.record) }

@@ -17,13 +17,15 @@ use Rattle.world.specs.declared.shelf.Span.{Span}
 use Rattle.world.specs.Losing.{geometry_of}
 use Rattle.world.specs.Shelf.{Shelved, Disk, Stop, IsOf, IsIn, IsInSome, IsShelf, Continues, LeavesOnly, OthersStay, Written}
 use Rattle.world.specs.Writes.{OneRange, WritesOnly, LeavesBut, MayLeaveBut}
+use Rattle.world.specs.Ran.{Only}
 use Rattle.world.proofs.Moments.{then_run, weaker, still_of}
-use Rattle.boot_region.specs.Members.{IsMember, OnMembers}
+use Rattle.world.proofs.Writes.{writes_more}
+use Rattle.boot_region.specs.Members.{IsMember, IsDrive, IsOneOf, OnMembers, OnSlot}
 use Rattle.boot_region.specs.Regions.{CountsStay}
 use Rattle.boot_region.proofs.ShownLemmas.{closed_shows, gates_stay, bodies_same, other_same, opened, body_low, body_is, shows_written}
 use Rattle.boot_region.proofs.Stored.{rises_between}
 use Rattle.shelf_init.specs.First.{all_drives, first_record}
-use Rattle.shelf_init.specs.Blank.{IsBlank, IsClean, IsShut, IsEmptied, HasNoCommand, HidesOnly, OnLogGates}
+use Rattle.shelf_init.specs.Blank.{IsBlank, IsClean, IsShut, IsEmptied, HasNoCommand, HidesOnly, IsNvram, OnAllOpen, OnBootOrLog, OnLogGates}
 use Rattle.shelf_init.specs.Counted.{NoneFailed, OneFailed, TellsFailed}
 use Rattle.shelf_init.specs.Made.{IsNoneOrEmpty, IsMade}
 use Rattle.shelf_init.proofs.FirstLemmas.{first_is_lawful, is_named}
@@ -208,6 +210,9 @@ pub nvrams_apart : (m n : ℕ) → m ≢ n → nvram m ≢ nvram n
 unfolding nvram_number
 nvrams_apart m n ne e = ne (ap nvram_number e)
 
+pub only_nvram : (n : ℕ) (d : Device) → Only (nvram n) d → IsNvram d
+only_nvram n d is = subst IsNvram (sym is) tt
+
 -- as many bytes as there are gates
 pub on_log_gates : (n size : ℕ) → size ≡ LOG_SLOTS → (d : Device) (i : ℕ) → OneRange (nvram n) 0 size d i → OnLogGates d i
 on_log_gates n size all d i w = subst (λ (x : Device). OnLogGates x i) (sym w.0) (omega (arith, w.1.1, all))
@@ -250,9 +255,34 @@ pub moments_of : (a b c : Shelved) → Continues a b → LeavesOnly b c (λ stop
 moments_of a b c on moments = weaker (λ stop left. subst (λ (g : Geometry). IsNoneOrEmpty g stop.image) (same_geometry a b on) left) moments
 
 -- what was written where, in other words
+pub on_there : {flags all : List Bool} {at place n size : ℕ} → flags ≡ all → at ≡ place → n ≡ size → (d : Device) (i : ℕ) → OnMembers flags at n d i → OnMembers all place size d i
+on_there {flags} {all} {at} {place} {n} {size} f p s d i w =
+    subst (λ (l : List Bool). OnMembers l place size d i) f (subst (λ (x : ℕ). OnMembers flags x size d i) p (subst (λ (x : ℕ). OnMembers flags at x d i) s w))
+
 pub wrote_there : {flags all : List Bool} {at place n size : ℕ} {a b : Shelved} → flags ≡ all → at ≡ place → n ≡ size → WritesOnly (OnMembers flags at n) a b → WritesOnly (OnMembers all place size) a b
-wrote_there {flags} {all} {at} {place} {n} {size} {a} {b} f p s w =
-    subst (λ (l : List Bool). WritesOnly (OnMembers l place size) a b) f (subst (λ (x : ℕ). WritesOnly (OnMembers flags x size) a b) p (subst (λ (x : ℕ). WritesOnly (OnMembers flags at x) a b) s w))
+wrote_there f p s w = writes_more (on_there f p s) w
+
+-- the drives that were chosen are drives
+pub one_drive : (members : List Bool) (d : Device) → IsOneOf members d → IsDrive d
+one_drive members (dev.Drive k) is = tt
+one_drive members (dev.Nv n) is = is
+
+-- what each phase writes is of the boot region, or the gates of the log
+pub open_in_boot : (bytes : List ℕ) (d : Device) (i : ℕ) → OnAllOpen bytes d i → OnBootOrLog d i
+open_in_boot bytes (dev.Drive k) i (inl w) = omega (arith, w.1)
+open_in_boot bytes (dev.Drive k) i (inr w) = omega (arith, w.1)
+open_in_boot bytes (dev.Nv n) i (inl w) = absurd w
+open_in_boot bytes (dev.Nv n) i (inr w) = absurd w
+
+pub gates_in_log : (d : Device) (i : ℕ) → OnLogGates d i → OnBootOrLog d i
+gates_in_log (dev.Drive k) i w = absurd w
+gates_in_log (dev.Nv n) i w = w
+
+pub slot_in_boot : (members : List Bool) (d : Device) (i : ℕ) → OnSlot members B d i → OnBootOrLog d i
+slot_in_boot members (dev.Drive k) i (inl w) = omega (arith, w.1)
+slot_in_boot members (dev.Drive k) i (inr w) = omega (arith, w.1)
+slot_in_boot members (dev.Nv n) i (inl w) = absurd w
+slot_in_boot members (dev.Nv n) i (inr w) = absurd w
 
 pub written_there : (a b : Shelved) {flags all : List Bool} {at place : ℕ} {from : List ℕ} → flags ≡ all → at ≡ place
     → ((i : ℕ) → IsMember flags i → Written at from (a.disk (drive i)).bytes (b.disk (drive i)).bytes) → (i : ℕ) → IsMember all i → Written place from (a.disk (drive i)).bytes (b.disk (drive i)).bytes

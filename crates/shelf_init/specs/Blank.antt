@@ -5,7 +5,7 @@ use Rattle.pur_base.specs.declared.device.Device.TheVariants.{Drive, Nv}
 use Rattle.pur_base.specs.declared.limits.TheConstants.{NVRAM_DEVICES, SECTOR_BYTES}
 use Rattle.pur_base.specs.Devices.{Geometry, View, Image, drive, nvram}
 use Rattle.pur_base.specs.Gates.{is_open}
-use Rattle.boot_codec.specs.Region.{BootSlot, IsEffective, gate_place, shown_by}
+use Rattle.boot_codec.specs.Region.{BootSlot, A, B, IsEffective, gate_place, shown_by}
 use Rattle.boot_region.specs.declared.regions.TheConstants.{REGION_BYTES}
 use Rattle.log_codec.specs.declared.limits.TheConstants.{LOG_SLOTS}
 use Rattle.world.specs.Losing.{geometry_of}
@@ -71,7 +71,21 @@ abbrev pub OnOpen : List ℕ → BootSlot → Device → ℕ → Type 0
 OnOpen bytes slot (Drive d) i = (is_open (REGION_BYTES * d.0 + gate_place slot) bytes ≡ true) × IsIn (record { start = gate_place slot; size = SECTOR_BYTES }) i
 OnOpen bytes slot (Nv n) i = ⊥
 
+-- those of both slots
+abbrev pub OnAllOpen : List ℕ → Device → ℕ → Type 0
+OnAllOpen bytes device i = OnOpen bytes A device i ⊎ OnOpen bytes B device i
+
+-- the device is an NVRAM device
+abbrev pub IsNvram : Device → Type 0
+IsNvram (Drive d) = ⊥
+IsNvram (Nv n) = Unit {0}
+
 -- the gates of the log
 abbrev pub OnLogGates : Device → ℕ → Type 0
 OnLogGates (Drive d) i = ⊥
 OnLogGates (Nv n) i = i < LOG_SLOTS
+
+-- the boot region of a drive, and those
+abbrev pub OnBootOrLog : Device → ℕ → Type 0
+OnBootOrLog (Drive d) i = i < REGION_BYTES
+OnBootOrLog (Nv n) i = i < LOG_SLOTS

@@ -2,9 +2,9 @@
 ghost use Rattle.std.specs.Prelude.{◌≡◌, ℕ, ◌+◌, ◌*◌, ◌%◌, ◌<◌, ◌≤◌, length, OnOk};
 ghost use Rattle.pur_base.specs.Devices.{drive};
 ghost use Rattle.pur_base.specs.declared.limits.TheConstants.{SECTOR_BYTES, UNIT_BYTES};
-ghost use Rattle.world.specs.Shelf.{Continues, Written};
-ghost use Rattle.world.specs.Writes.{WritesOnly};
-ghost use Rattle.boot_region.specs.Members.{IsMember, OnMembers};
+ghost use Rattle.world.specs.Shelf.{Written};
+ghost use Rattle.world.specs.Ran.{Ran};
+ghost use Rattle.boot_region.specs.Members.{IsMember, IsOneOf, OnMembers};
 ghost use Rattle.shelf_init.specs.Blank.{IsClean};
 ghost use Rattle.shelf_init.specs.Counted.{TellsFailed};
 
@@ -22,12 +22,10 @@ pub fn write_chosen<S: Shelf>(
     requires chosen { (i : ℕ) → IsMember chosen.now i → i < (S.shelf shelf.old).drives }
     requires fits { at + length from.now ≤ UNIT_BYTES * (S.shelf shelf.old).units }
     requires aligned { (at % SECTOR_BYTES ≡ 0) × (length from.now % SECTOR_BYTES ≡ 0) }
-    ensures continues { Continues (S.shelf shelf.old) (S.shelf shelf.new) }
+    ensures ran { Ran S.shelf S.shelf_rest (IsOneOf chosen.now) (OnMembers chosen.now at (length from.now)) shelf.old shelf.new }
     ensures written { (S.shelf shelf.old).honest → OnOk result ((i : ℕ) → IsMember chosen.now i → Written at from.now ((S.shelf shelf.old).disk (drive i)).bytes ((S.shelf shelf.new).disk (drive i)).bytes) }
     ensures clean { (S.shelf shelf.old).honest → OnOk result (IsClean (S.shelf shelf.old) → IsClean (S.shelf shelf.new)) }
-    ensures writes { (S.shelf shelf.old).honest → WritesOnly (OnMembers chosen.now at (length from.now)) (S.shelf shelf.old) (S.shelf shelf.new) }
     ensures counts { TellsFailed result (S.shelf shelf.old) (S.shelf shelf.new) }
-    ensures rest { S.shelf_rest shelf.old shelf.new }
 {
     for drive in 0..DRIVE_FLAGS {
         if !chosen[drive] {

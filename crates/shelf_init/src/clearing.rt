@@ -1,8 +1,7 @@
 // The logs of the NVRAM devices are emptied.
-ghost use Rattle.std.specs.Prelude.{◌≡◌, OnOk};
-ghost use Rattle.world.specs.Shelf.{Continues};
-ghost use Rattle.world.specs.Writes.{WritesOnly};
-ghost use Rattle.shelf_init.specs.Blank.{IsClean, HasNoCommand, OnLogGates};
+ghost use Rattle.std.specs.Prelude.{OnOk};
+ghost use Rattle.world.specs.Ran.{Ran};
+ghost use Rattle.shelf_init.specs.Blank.{IsClean, IsNvram, HasNoCommand, OnLogGates};
 ghost use Rattle.shelf_init.specs.Counted.{TellsFailed};
 
 use log_codec::LOG_SLOTS;
@@ -11,12 +10,10 @@ use world::{Failed, Shelf, write_synced};
 
 /// Closes the gates of the log on both NVRAM devices, and syncs. The first call that fails ends it.
 pub fn clear_nvram<S: Shelf>(shelf: &mut S) -> Result<(), Failed>
-    ensures continues { Continues (S.shelf shelf.old) (S.shelf shelf.new) }
+    ensures ran { Ran S.shelf S.shelf_rest IsNvram OnLogGates shelf.old shelf.new }
     ensures cleared { (S.shelf shelf.old).honest → OnOk result (HasNoCommand (S.shelf shelf.new)) }
     ensures clean { (S.shelf shelf.old).honest → OnOk result (IsClean (S.shelf shelf.old) → IsClean (S.shelf shelf.new)) }
-    ensures writes { (S.shelf shelf.old).honest → WritesOnly OnLogGates (S.shelf shelf.old) (S.shelf shelf.new) }
     ensures counts { TellsFailed result (S.shelf shelf.old) (S.shelf shelf.new) }
-    ensures rest { S.shelf_rest shelf.old shelf.new }
 {
     let closed = [0; LOG_SLOTS];
     for device in 0..NVRAM_DEVICES {

@@ -3,11 +3,11 @@ ghost use Rattle.std.specs.Prelude.{◌≡◌, ℕ, ◌+◌, ◌*◌, ◌<◌, l
 ghost use Rattle.pur_base.specs.Gates.{is_open};
 ghost use Rattle.boot_codec.specs.Region.{BootSlot, gate_place};
 ghost use Rattle.boot_region.specs.declared.regions.TheConstants.{REGION_BYTES};
-ghost use Rattle.boot_region.specs.Members.{IsMember};
+ghost use Rattle.boot_region.specs.Members.{IsDrive, IsMember};
 ghost use Rattle.boot_region.specs.Slots.{slot_in};
-ghost use Rattle.world.specs.Shelf.{Continues, LeavesOnly};
-ghost use Rattle.world.specs.Writes.{WritesOnly};
-ghost use Rattle.shelf_init.specs.Blank.{IsClean, IsShut, IsReadIn, GatesAreRead, HidesOnly, OnOpen};
+ghost use Rattle.world.specs.Shelf.{LeavesOnly};
+ghost use Rattle.world.specs.Ran.{Ran};
+ghost use Rattle.shelf_init.specs.Blank.{IsClean, IsShut, IsReadIn, GatesAreRead, HidesOnly, OnAllOpen, OnOpen};
 ghost use Rattle.shelf_init.specs.Counted.{TellsFailed};
 
 use crate::calls::write_chosen;
@@ -31,12 +31,10 @@ fn open_in(regions: &Regions, slot: Slot) -> [bool; DRIVE_FLAGS]
 /// Closes the gates of a slot that were read as open.
 fn close_slot<S: Shelf>(shelf: &mut S, regions: &Regions, slot: Slot) -> Result<(), Failed>
     requires { length regions.now.answered.items ≡ (S.shelf shelf.old).drives }
-    ensures continues { Continues (S.shelf shelf.old) (S.shelf shelf.new) }
+    ensures ran { Ran S.shelf S.shelf_rest IsDrive (OnOpen regions.now.bytes.items (slot_in slot)) shelf.old shelf.new }
     ensures shut { (S.shelf shelf.old).honest → OnOk result (IsReadIn (S.shelf shelf.old) regions.now.bytes.items (slot_in slot) → IsShut (S.shelf shelf.new) (slot_in slot)) }
     ensures clean { (S.shelf shelf.old).honest → OnOk result (IsClean (S.shelf shelf.old) → IsClean (S.shelf shelf.new)) }
-    ensures writes { (S.shelf shelf.old).honest → WritesOnly (OnOpen regions.now.bytes.items (slot_in slot)) (S.shelf shelf.old) (S.shelf shelf.new) }
     ensures counts { TellsFailed result (S.shelf shelf.old) (S.shelf shelf.new) }
-    ensures rest { S.shelf_rest shelf.old shelf.new }
 {
     let closed = gate_sector(false);
     write_chosen(
@@ -50,13 +48,12 @@ fn close_slot<S: Shelf>(shelf: &mut S, regions: &Regions, slot: Slot) -> Result<
 /// Closes the gates that were read as open, in both slots. At every moment the drives show what they showed, or less.
 pub fn close_all_gates<S: Shelf>(shelf: &mut S, regions: &Regions) -> Result<(), Failed>
     requires { length regions.now.answered.items ≡ (S.shelf shelf.old).drives }
-    ensures continues { Continues (S.shelf shelf.old) (S.shelf shelf.new) }
+    ensures ran { Ran S.shelf S.shelf_rest IsDrive (OnAllOpen regions.now.bytes.items) shelf.old shelf.new }
     ensures shut { (S.shelf shelf.old).honest → GatesAreRead (S.shelf shelf.old) regions.now.bytes.items → OnOk result ((slot : BootSlot) → IsShut (S.shelf shelf.new) slot) }
     ensures clean { (S.shelf shelf.old).honest → OnOk result (IsClean (S.shelf shelf.old) → IsClean (S.shelf shelf.new)) }
     ensures any_moment { (S.shelf shelf.old).honest → GatesAreRead (S.shelf shelf.old) regions.now.bytes.items → IsClean (S.shelf shelf.old)
         → LeavesOnly (S.shelf shelf.old) (S.shelf shelf.new) (λ stop. HidesOnly (S.shelf shelf.old) stop.image) }
     ensures counts { TellsFailed result (S.shelf shelf.old) (S.shelf shelf.new) }
-    ensures rest { S.shelf_rest shelf.old shelf.new }
 {
     close_slot(shelf, regions, Slot::A)?;
     close_slot(shelf, regions, Slot::B)

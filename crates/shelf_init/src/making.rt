@@ -2,14 +2,16 @@
 ghost use Rattle.std.specs.Prelude.{◌≡◌, ℕ, ◌<◌, length, slice_index_or, true, false, OnOk};
 ghost use Rattle.boot_codec.specs.declared.limits.TheConstants.{RECORD_BYTES};
 ghost use Rattle.boot_codec.specs.Spelling.{spelling};
+ghost use Rattle.boot_region.specs.Members.{IsDrive};
 ghost use Rattle.boot_region.specs.Regions.{seen, GivesNone};
 ghost use Rattle.pur_base.specs.Devices.{Geometry};
 ghost use Rattle.world.specs.Losing.{geometry_of};
-ghost use Rattle.world.specs.Shelf.{Continues, LeavesOnly};
+ghost use Rattle.world.specs.Shelf.{LeavesOnly};
 ghost use Rattle.world.specs.Writes.{WritesOnly};
+ghost use Rattle.world.specs.Ran.{Ran};
 ghost use Rattle.shelf_init.specs.declared.making.InitFault.TheVariants as faults;
 ghost use Rattle.shelf_init.specs.Answers.{AreSame, IsCounted, IsJudged, IsUntouched};
-ghost use Rattle.shelf_init.specs.Blank.{ShowsBody, GivesBody, IsBlank, IsClean, GatesAreRead, HasSilent};
+ghost use Rattle.shelf_init.specs.Blank.{ShowsBody, GivesBody, IsBlank, IsClean, GatesAreRead, HasSilent, OnBootOrLog};
 ghost use Rattle.shelf_init.specs.Counted.{TellsFailed};
 ghost use Rattle.shelf_init.specs.First.{first_record};
 ghost use Rattle.shelf_init.specs.Made.{IsNoneOrEmpty, IsMade};
@@ -78,7 +80,7 @@ fn gives_body(regions: &Regions) -> bool
 fn make<S: Shelf>(shelf: &mut S, regions: &Regions, body: &[u8]) -> Result<(), Failed>
     requires drives { length regions.now.answered.items ≡ (S.shelf shelf.old).drives }
     requires size { length body.now ≡ RECORD_BYTES }
-    ensures continues { Continues (S.shelf shelf.old) (S.shelf shelf.new) }
+    ensures ran { Ran S.shelf S.shelf_rest (λ d. Unit {0}) OnBootOrLog shelf.old shelf.new }
     ensures any_moment { (S.shelf shelf.old).honest → IsClean (S.shelf shelf.old) → IsBlank (S.shelf shelf.old) → GatesAreRead (S.shelf shelf.old) regions.now.bytes.items
         → body.now ≡ spelling (first_record (geometry_of (S.shelf shelf.old)))
         → LeavesOnly (S.shelf shelf.old) (S.shelf shelf.new) (λ stop. IsNoneOrEmpty (geometry_of (S.shelf shelf.old)) stop.image) }
@@ -86,7 +88,6 @@ fn make<S: Shelf>(shelf: &mut S, regions: &Regions, body: &[u8]) -> Result<(), F
         → body.now ≡ spelling (first_record (geometry_of (S.shelf shelf.old)))
         → OnOk result (IsMade (S.shelf shelf.new)) }
     ensures counts { TellsFailed result (S.shelf shelf.old) (S.shelf shelf.new) }
-    ensures rest { S.shelf_rest shelf.old shelf.new }
 {
     close_all_gates(shelf, regions)?;
     clear_nvram(shelf)?;
@@ -96,14 +97,12 @@ fn make<S: Shelf>(shelf: &mut S, regions: &Regions, body: &[u8]) -> Result<(), F
 /// Reads the boot units of each drive, and tells whether they give no body.
 fn look<S: Shelf>(shelf: &mut S, regions: &mut Regions) -> Result<(), InitFault>
     requires { length regions.old.answered.items ≡ (S.shelf shelf.old).drives }
-    ensures continues { Continues (S.shelf shelf.old) (S.shelf shelf.new) }
-    ensures rest { S.shelf_rest shelf.old shelf.new }
+    ensures ran { Ran S.shelf S.shelf_rest IsDrive (λ d i. ⊥) shelf.old shelf.new }
     ensures drives { length regions.new.answered.items ≡ (S.shelf shelf.new).drives }
     ensures device { IsCounted result (S.shelf shelf.old) (S.shelf shelf.new) }
     ensures memory { IsUntouched result (S.shelf shelf.old) (S.shelf shelf.new) }
     ensures not_blank { (S.shelf shelf.old).honest → IsJudged result (S.shelf shelf.old) (S.shelf shelf.new) }
     ensures same { (S.shelf shelf.old).honest → AreSame (S.shelf shelf.old) (S.shelf shelf.new) }
-    ensures writes { (S.shelf shelf.old).honest → WritesOnly (λ d i. ⊥) (S.shelf shelf.old) (S.shelf shelf.new) }
     ensures gates { (S.shelf shelf.old).honest → OnOk result (GatesAreRead (S.shelf shelf.new) regions.new.bytes.items) }
 {
     read_regions(shelf, regions);
@@ -120,8 +119,7 @@ fn look<S: Shelf>(shelf: &mut S, regions: &mut Regions) -> Result<(), InitFault>
 fn make_on<S: Shelf>(shelf: &mut S, regions: &mut Regions, body: &[u8]) -> Result<(), InitFault>
     requires drives { length regions.old.answered.items ≡ (S.shelf shelf.old).drives }
     requires size { length body.now ≡ RECORD_BYTES }
-    ensures continues { Continues (S.shelf shelf.old) (S.shelf shelf.new) }
-    ensures rest { S.shelf_rest shelf.old shelf.new }
+    ensures ran { Ran S.shelf S.shelf_rest (λ d. Unit {0}) OnBootOrLog shelf.old shelf.new }
     ensures device { IsCounted result (S.shelf shelf.old) (S.shelf shelf.new) }
     ensures memory { IsUntouched result (S.shelf shelf.old) (S.shelf shelf.new) }
     ensures not_blank { (S.shelf shelf.old).honest → IsJudged result (S.shelf shelf.old) (S.shelf shelf.new) }
@@ -138,8 +136,7 @@ fn make_on<S: Shelf>(shelf: &mut S, regions: &mut Regions, body: &[u8]) -> Resul
 /// Makes a new, empty array on the devices of a shelf: the gates that are open are closed, the logs are emptied, and the first record is stored on all drives.
 /// Where a body is in force, nothing is written. Any call that fails ends it.
 pub fn init<S: Shelf>(alloc: Global, shelf: &mut S) -> Result<(), InitFault>
-    ensures continues { Continues (S.shelf shelf.old) (S.shelf shelf.new) }
-    ensures rest { S.shelf_rest shelf.old shelf.new }
+    ensures ran { Ran S.shelf S.shelf_rest (λ d. Unit {0}) OnBootOrLog shelf.old shelf.new }
     ensures device { IsCounted result (S.shelf shelf.old) (S.shelf shelf.new) }
     ensures memory { IsUntouched result (S.shelf shelf.old) (S.shelf shelf.new) }
     ensures not_blank { (S.shelf shelf.old).honest → IsJudged result (S.shelf shelf.old) (S.shelf shelf.new) }

@@ -8,7 +8,7 @@ use Rattle.pur_base.specs.declared.device.Device.TheVariants.{Drive, Nv}
 use Rattle.boot_codec.specs.declared.record.BootRecord.{BootRecord}
 use Rattle.boot_codec.specs.Region.{BootSlot}
 use Rattle.world.specs.Shelf.{Shelved}
-use Rattle.boot_region.specs.Members.{IsMember, OnClosed}
+use Rattle.boot_region.specs.Members.{IsMember, IsOneOf, OnClosed}
 use Rattle.boot_region.specs.Storing.{IsLoaded, IsFound, IsInForceOn, TellsFailed}
 use Rattle.boot_region.proofs.ShownLemmas.{member_below}
 use Rattle.takeover.proofs.Members.{front_member, of_front}
@@ -16,6 +16,10 @@ use Rattle.takeover.proofs.Members.{front_member, of_front}
 pub front_closed : (n : ℕ) (flags : List Bool) (shelf : Shelved) (at : ℕ) (d : Device) (i : ℕ) → OnClosed (take n flags) shelf at d i → OnClosed flags shelf at d i
 front_closed n flags shelf at (Drive d) i w = (of_front n flags d.0 w.0, w.1, w.2)
 front_closed n flags shelf at (Nv v) i w = w
+
+pub front_one : (n : ℕ) (flags : List Bool) (d : Device) → IsOneOf (take n flags) d → IsOneOf flags d
+front_one n flags (Drive d) is = of_front n flags d.0 is
+front_one n flags (Nv v) is = is
 
 pub front_loaded : (n : ℕ) {shelf : Shelved} {flags : List Bool} {missing : Conditions} {slot : BootSlot} {boot : BootRecord} {arrays : List Array}
     → IsLoaded shelf flags missing slot boot arrays → IsLoaded shelf (take n flags) missing slot boot arrays

@@ -15,6 +15,7 @@ mod Showing
 mod GivenFrom
 mod SeenIn
 mod Fronts
+mod Running
 mod Opened
 mod Generations
 mod Chains

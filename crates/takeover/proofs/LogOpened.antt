@@ -25,7 +25,6 @@ use Rattle.world.specs.Counts.{Rises}
 use Rattle.world.specs.Losing.{geometry_of, has_failed, has_risen}
 use Rattle.world.specs.Shelf.{Shelved, Stop, Disk, IsShelf, Continues, MayStop, MayLeave, LeavesOnly}
 use Rattle.world.specs.Writes.{LeavesBut, WritesOnly}
-use Rattle.world.proofs.Writes.{writes_then, writes_more}
 use Rattle.world.proofs.Moments.{continues_trans, then_run, weaker}
 use Rattle.boot_region.specs.declared.loading.Loaded.{Loaded}
 use Rattle.boot_region.specs.Slots.{slot_in}
@@ -342,18 +341,12 @@ was_read old mid x missing arrays ps base nvrams flushed log count was now is is
 
 -- ---- faults
 
-nothing_on : (named : List Bool) (d : Device) (i : ℕ) → OnNothing d i → OnMembers named d i
+pub nothing_on : (named : List Bool) (d : Device) (i : ℕ) → OnNothing d i → OnMembers named d i
 nothing_on named d i w = absurd w
 
-fewer_on : (named members : List Bool) → IsFewer named members → (d : Device) (i : ℕ) → OnMembers members d i → OnMembers named d i
+pub fewer_on : (named members : List Bool) → IsFewer named members → (d : Device) (i : ℕ) → OnMembers members d i → OnMembers named d i
 fewer_on named members fewer (Drive d) i w = w
 fewer_on named members fewer (Nv n) i w = fewer n.0 w
-
-pub reads_only : {old new : Shelved} (named : List Bool) → WritesOnly OnNothing old new → WritesOnly (OnMembers named) old new
-reads_only named wrote = writes_more (nothing_on named) wrote
-
-pub settles_only : {old mid new : Shelved} (named members : List Bool) → IsFewer named members → Continues old mid → WritesOnly OnNothing old mid → WritesOnly (OnMembers members) mid new → WritesOnly (OnMembers named) old new
-settles_only named members fewer on wrote writes = writes_then on (reads_only named wrote) (writes_more (fewer_on named members fewer) writes)
 
 pub read_fault_is : (old mid : Shelved) (named : List Bool) (flushed : ℕ) (fault : ReadFault) → AllFailed fault old mid named → IsLogFault (log_fault_of fault) old mid named flushed
 read_fault_is old mid named flushed read_fault.NoMemory all = tt

@@ -18,9 +18,8 @@ use Rattle.checkpoint_spec.specs.Whole.{AreLayered}
 use Rattle.array_memory.specs.Kept.{Kept, HasSamePatches}
 use Rattle.array_state.specs.Room.{HasRoomFor}
 use Rattle.world.specs.Losing.{has_risen}
-use Rattle.world.specs.Shelf.{Continues, Disk, IsCountedBy, LeavesOnly, Shelved}
+use Rattle.world.specs.Shelf.{Continues, Disk, Shelved}
 use Rattle.world.specs.Writes.{ChangesOnly, WritesOnly}
-use Rattle.world.proofs.Moments.{then_run, weaker}
 use Rattle.boot_region.proofs.Phases.{risen_on_way}
 use Rattle.boot_region.proofs.Stored.{rises_between}
 use Rattle.nvram_log.specs.declared.log.NvLog.{NvLog}
@@ -38,18 +37,6 @@ use Rattle.takeover.specs.Replay.{HasUnserved, IsReplayed, IsReplayFault, log_fa
 use Rattle.takeover.specs.Replayed.{HasReplayed, IsReplayedBy, IsReplayedFrom, ShowedUnserved}
 use Rattle.takeover.proofs.Chains.{log_moves, replayed_stands}
 use Rattle.takeover.proofs.Failing.{sound_since}
-
--- ---- counts
-
--- while nothing is written, and then while other bytes are
-pub counted_reading : {W : Device → ℕ → Type 0} {old mid : Shelved} → WritesOnly W old mid → LeavesOnly old mid (IsCountedBy old)
-counted_reading {W} {old} {mid} wrote = weaker (λ stop left. left.counts) wrote.any_moment
-
-pub counted_settling : {V W : Device → ℕ → Type 0} {old mid new : Shelved} → Continues old mid → WritesOnly V old mid → WritesOnly W mid new → LeavesOnly old new (IsCountedBy old)
-counted_settling {V} {W} {old} {mid} {new} on wrote writes = then_run on (counted_reading wrote) (weaker (λ stop left. record {
-  faults = λ d. omega (arith, on.faults d, left.counts.faults d);
-  write_faults = λ d. omega (arith, on.write_faults d, left.counts.write_faults d);
-}) writes.any_moment)
 
 -- ---- what was shown
 

@@ -1,6 +1,5 @@
 -- The opening as a whole, from what each of its calls says.
 use Rattle.std.proofs.Common.{◌≡◌, ◌⊎◌, inl, inr, ℕ, ◌+◌, ◌-◌, ◌^◌, ◌<◌, ◌≤◌, Bool, List, [], Some, None, refl, sym, ◌∙◌, ap, subst, arith, Err}
-use Rattle.pur_base.specs.declared.device.Device.{Device}
 use Rattle.pur_base.specs.declared.reply.Status.TheVariants as status
 use Rattle.pur_base.specs.Commands.{Command, after_all}
 use Rattle.pur_base.specs.Devices.{Geometry, Conditions, IsBearable, View, drive, nvram}
@@ -22,7 +21,6 @@ use Rattle.world.specs.Losing.{geometry_of, has_failed}
 use Rattle.world.specs.Shelf.{Shelved, Stop, Disk, MayStop, MayLeave, IsShelf, IsSame, Continues, IsCountedBy, LeavesOnly}
 use Rattle.world.specs.Writes.{WritesOnly}
 use Rattle.world.proofs.Moments.{then_run, weaker, continues_trans}
-use Rattle.world.proofs.Writes.{counted_then, counts_grow}
 use Rattle.boot_region.specs.declared.loading.Loaded.{Loaded}
 use Rattle.boot_region.specs.Loading.{IsLawfulLoad}
 use Rattle.boot_region.specs.Members.{IsMember, DroppedFailed, LostWrites}
@@ -59,13 +57,6 @@ use Rattle.takeover.proofs.Stops.{given_at, nothing_owed, unstored_by}
 use Rattle.takeover.proofs.Storing.{stored_at}
 use Rattle.takeover.proofs.Twice.{borne_or_not, twice_since}
 use Rattle.takeover.proofs.WhatFound as found_by
-
--- a stop counts no fewer failed calls than there were at an earlier moment
-pub counted_on : {a b c : Shelved} → Continues a b → LeavesOnly a b (IsCountedBy a) → LeavesOnly b c (IsCountedBy b) → LeavesOnly a c (IsCountedBy a)
-counted_on on first next = then_run on first (weaker (λ stop counted. counted_then (counts_grow on) counted) next)
-
-pub counted_by_writes : {a b : Shelved} {W : Device → ℕ → Type 0} → WritesOnly W a b → LeavesOnly a b (IsCountedBy a)
-counted_by_writes writes = weaker (λ stop left. left.counts) writes.any_moment
 
 -- what is clean after both calls
 pub clean_on : (a b n : Shelved) (missing : Conditions) → Continues a b → Continues b n → AreClean n (failed_since b n (failed_since a b missing)) → AreClean n (failed_since a n missing)

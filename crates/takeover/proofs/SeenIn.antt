@@ -14,9 +14,8 @@ use Rattle.boot_codec.specs.Spelling.{spelling}
 use Rattle.world.specs.Counts.{Rises}
 use Rattle.world.specs.Losing.{has_risen}
 use Rattle.array_spec.specs.Laws.{DiffersOnlyIn}
-use Rattle.world.specs.Shelf.{Shelved, IsIn, IsSame, IsCountedBy, Continues, LeavesOnly}
+use Rattle.world.specs.Shelf.{Shelved, IsIn, IsSame, Continues}
 use Rattle.world.specs.Writes.{WritesOnly}
-use Rattle.world.proofs.Moments.{then_run, weaker}
 use Rattle.boot_region.specs.declared.loading.Loaded.{Loaded}
 use Rattle.boot_region.specs.declared.loading.LoadFault.{LoadFault}
 use Rattle.boot_region.specs.declared.loading.LoadFault.TheVariants as faults
@@ -42,11 +41,6 @@ seen_not_loaded old mid on faults.NoArray by = seen_fault old mid by.bytes by.an
 seen_not_loaded old mid on (faults.BadRecord b) by = seen_fault old mid by.bytes by.answered by.all by.read on (faults.BadRecord b) by.answer
 seen_not_loaded old mid on faults.Spent by = seen_fault old mid by.bytes by.answered by.all by.read on faults.Spent by.answer
 seen_not_loaded old mid on (faults.TooFew drives) by = seen_fault old mid by.bytes by.answered by.all by.read on (faults.TooFew drives) by.answer
-
--- counts at a stop in either call
-pub counted_through : (old mid new : Shelved) {V W : Device → ℕ → Type 0} → Continues old mid → WritesOnly V old mid → WritesOnly W mid new → LeavesOnly old new (IsCountedBy old)
-counted_through old mid new on reading writes = then_run on (weaker (λ stop left. left.counts) reading.any_moment)
-    (weaker (λ stop left. record { faults = λ d. omega (arith, on.faults d, left.counts.faults d); write_faults = λ d. omega (arith, on.write_faults d, left.counts.write_faults d) }) writes.any_moment)
 
 module _ (old mid : Shelved) (missing : Conditions) (arrays : List Array) (enters : Enters old missing arrays) (same : (d : Device) → IsSame (old.disk d) (mid.disk d)) where
   -- what was only read is clean still

@@ -1,14 +1,16 @@
 -- The record that was found, and settled on the drives that hold it.
-use Rattle.std.specs.Prelude.{◌≡◌, ℕ, ◌<◌, ◌-◌, ◌^◌, List, true, Result, Ok, Err, ⊤}
+use Rattle.std.specs.Prelude.{◌≡◌, ◌⊎◌, ℕ, ◌<◌, ◌-◌, ◌^◌, List, true, Result, Ok, Err, ⊤}
 use Rattle.pur_base.specs.declared.device.Device.{Device}
+use Rattle.pur_base.specs.declared.device.Device.TheVariants.{Drive, Nv}
+use Rattle.pur_base.specs.declared.limits.TheConstants.{SECTOR_BYTES}
 use Rattle.pur_base.specs.Devices.{Conditions, Sound, LeftOut, drive}
 use Rattle.pur_base.specs.Plain.{Array}
-use Rattle.boot_codec.specs.Region.{other_slot, body_in, names}
+use Rattle.boot_codec.specs.Region.{A, B, other_slot, body_in, gate_place, names}
 use Rattle.boot_codec.specs.Spelling.{spelling}
 use Rattle.array_spec.specs.Laws.{IsNamedByNone}
 use Rattle.array_spec.specs.Meaning.{IsInForce}
 use Rattle.world.specs.Losing.{geometry_of}
-use Rattle.world.specs.Shelf.{Shelved, Stop, MayStop}
+use Rattle.world.specs.Shelf.{Shelved, Stop, MayStop, IsIn}
 use Rattle.boot_region.specs.declared.loading.Loaded.{Loaded}
 use Rattle.boot_region.specs.Members.{IsMember}
 use Rattle.boot_region.specs.Slots.{slot_in}
@@ -16,6 +18,11 @@ use Rattle.boot_region.specs.Storing.{StandsNow, IsInForceOn}
 use Rattle.session_spec.specs.Entering.{AreRead}
 use Rattle.takeover.specs.declared.faults.OpenFault.{OpenFault}
 use Rattle.takeover.specs.declared.faults.OpenFault.TheVariants as open_fault
+
+-- the gates' sectors of both slots, on each drive
+abbrev pub OnGates : Device → ℕ → Type 0
+OnGates (Drive d) i = IsIn (record { start = gate_place A; size = SECTOR_BYTES }) i ⊎ IsIn (record { start = gate_place B; size = SECTOR_BYTES }) i
+OnGates (Nv n) i = ⊥
 
 -- the record is in force on the drives that were found, which are some of those that it names, and the devices stand for the arrays
 pub record IsFoundOn (shelf : Shelved) (x : Loaded) (missing : Conditions) (arrays : List Array) : Type 0 where

@@ -1,11 +1,12 @@
 -- What an opening found and did, whatever failed, or why the array wasn't opened.
-use Rattle.std.specs.Prelude.{◌≡◌, ◌<◌, ◌+◌, ◌-◌, ◌^◌, true, List, [], length, Contains, Result, Ok, Err, Option, Some, IfSome, All}
+use Rattle.std.specs.Prelude.{◌≡◌, ◌<◌, ◌+◌, ◌-◌, ◌^◌, ℕ, true, List, [], length, Contains, Result, Ok, Err, Option, Some, IfSome, All}
 use Rattle.std.specs.List.{AllByRecursion}
 use Rattle.pur_base.specs.Commands.{Command, after_all}
 use Rattle.pur_base.specs.Devices.{Conditions, Sound, IsBearable, IsOn}
 use Rattle.pur_base.specs.Grammar.{is_in_force}
 use Rattle.pur_base.specs.Plain as plain
 use Rattle.pur_base.specs.declared.device.Device.{Device}
+use Rattle.pur_base.specs.declared.device.Device.TheVariants.{Drive, Nv}
 use Rattle.pur_base.specs.declared.facts.AnyFact.{AnyFact}
 use Rattle.pur_base.specs.declared.reply.Status.{Status}
 use Rattle.pur_base.specs.declared.reply.Status.TheVariants as status
@@ -17,6 +18,7 @@ use Rattle.array_spec.specs.Sound.{AreSound}
 use Rattle.array_spec.specs.Stored.{PatchesStand, all_facts, in_patches}
 use Rattle.world.specs.Losing.{geometry_of, has_failed}
 use Rattle.world.specs.Shelf.{Shelved, LeavesOnly}
+use Rattle.boot_region.specs.declared.regions.TheConstants.{REGION_BYTES}
 use Rattle.register.specs.Registers.{named_sound}
 use Rattle.register.specs.Standing.{Content, array_of}
 use Rattle.memory_spec.specs.Tables.{facts, patches}
@@ -29,6 +31,11 @@ use Rattle.array_state.specs.Drives.{SegmentsHold}
 use Rattle.array_state.specs.Ready.{IsReady}
 use Rattle.takeover.specs.declared.faults.OpenFault.{OpenFault}
 use Rattle.takeover.specs.declared.faults.OpenFault.TheVariants as open_fault
+
+-- the boot region of a drive, or an NVRAM device
+abbrev pub OffSegments : Device → ℕ → Type 0
+OffSegments (Drive d) i = i < REGION_BYTES
+OffSegments (Nv n) i = Unit {0}
 
 -- how a session ends that doesn't begin
 abbrev pub status_of : OpenFault → Status

@@ -1,7 +1,7 @@
 // The boot record is found and settled.
 ghost use Rattle.std.specs.Prelude.{◌≡◌, ◌⊎◌, ◌<◌, ◌≤◌, ◌+◌, ℕ, List, [], IfOk, Some, None, true};
 ghost use Rattle.pur_base.specs.declared.device.Device.{Device};
-ghost use Rattle.pur_base.specs.Devices.{Conditions, IsBearable, IsWithin, drive, nvram};
+ghost use Rattle.pur_base.specs.Devices.{Conditions, IsBearable, IsWithin, drive};
 ghost use Rattle.pur_base.specs.Gates.{is_open};
 ghost use Rattle.pur_base.specs.Plain.{Array};
 ghost use Rattle.boot_codec.specs.Record.{set_count};
@@ -10,14 +10,14 @@ ghost use Rattle.boot_codec.specs.Spelling.{spelling};
 ghost use Rattle.array_spec.specs.Standing.{Stands};
 ghost use Rattle.world.specs.Counts.{Rises};
 ghost use Rattle.world.specs.Losing.{geometry_of};
-ghost use Rattle.world.specs.Shelf.{Continues, IsCountedBy, IsSame, LeavesOnly};
-ghost use Rattle.world.specs.Writes.{WritesOnly};
+ghost use Rattle.world.specs.Shelf.{LeavesOnly};
+ghost use Rattle.world.specs.Ran.{Ran};
 ghost use Rattle.boot_region.specs.Loading.{IsLawfulLoad};
-ghost use Rattle.boot_region.specs.Members.{IsMember, OnClosed};
+ghost use Rattle.boot_region.specs.Members.{IsDrive, IsMember, IsOneOf, OnClosed};
 ghost use Rattle.boot_region.specs.Slots.{slot_in};
 ghost use Rattle.boot_region.specs.Storing.{IsFound, IsInForceOn, IsLoaded, TellsFailed};
 ghost use Rattle.session_spec.specs.Entering.{Enters, StandsStill, failed_since};
-ghost use Rattle.takeover.specs.Found.{IsFoundBy};
+ghost use Rattle.takeover.specs.Found.{IsFoundBy, OnGates};
 ghost use Rattle.takeover.specs.Opened.{AreClean};
 ghost use Rattle.takeover.specs.Seen.{IsSeenBy};
 
@@ -40,14 +40,11 @@ fn count_set(flags: &[bool; DRIVE_FLAGS]) -> usize
 
 /// Settles the record that was loaded on the drives that hold it. A drive that fails is dropped.
 fn settle_loaded<S: Shelf>(shelf: &mut S, loaded: &mut Loaded)
-    ensures continues { Continues (S.shelf shelf.old) (S.shelf shelf.new) }
+    ensures ran { Ran S.shelf S.shelf_rest (IsOneOf loaded.old.drives) (OnClosed loaded.old.drives (S.shelf shelf.old) (gate_place (slot_in loaded.old.slot))) shelf.old shelf.new }
     ensures record { (loaded.new.record ≡ loaded.old.record) × (loaded.new.slot ≡ loaded.old.slot) }
     ensures fewer { (i : ℕ) → IsMember loaded.new.drives i → IsMember loaded.old.drives i }
     ensures dropped { (i : ℕ) → i < (S.shelf shelf.old).drives → IsMember loaded.old.drives i
         → IsMember loaded.new.drives i ⊎ Rises ((S.shelf shelf.old).disk (drive i)).faults ((S.shelf shelf.new).disk (drive i)).faults }
-    ensures writes { (S.shelf shelf.old).honest → WritesOnly (OnClosed loaded.old.drives (S.shelf shelf.old) (gate_place (slot_in loaded.old.slot))) (S.shelf shelf.old) (S.shelf shelf.new) }
-    ensures rest { S.shelf_rest shelf.old shelf.new }
-    ensures nvrams { (n : ℕ) → (S.shelf shelf.new).disk (nvram n) ≡ (S.shelf shelf.old).disk (nvram n) }
     // The gates of those that are left are open.
     ensures opened { (S.shelf shelf.old).honest → (i : ℕ) → i < (S.shelf shelf.old).drives → IsMember loaded.new.drives i
         → is_open (gate_place (slot_in loaded.old.slot)) ((S.shelf shelf.new).disk (drive i)).bytes ≡ true }
@@ -73,14 +70,11 @@ fn settle_loaded<S: Shelf>(shelf: &mut S, loaded: &mut Loaded)
 
 /// Finds the record in force and settles it: it is in force then on the drives that are left, one by one.
 pub fn find_record<S: Shelf>(alloc: Global, shelf: &mut S) -> Result<Loaded, OpenFault>
-    ensures continues { Continues (S.shelf shelf.old) (S.shelf shelf.new) }
-    ensures rest { S.shelf_rest shelf.old shelf.new }
+    ensures ran { Ran S.shelf S.shelf_rest IsDrive OnGates shelf.old shelf.new }
     ensures lawful { IfOk result (IsLawfulLoad (geometry_of (S.shelf shelf.new))) }
     // The drives that are left show the record, whatever is missing, and at most two of the shelf's aren't among them.
     ensures shown { (S.shelf shelf.old).honest → IfOk result (λ x. (i : ℕ) → IsMember x.drives i → shown_by (slot_in x.slot) ((S.shelf shelf.new).disk (drive i)).bytes ≡ Some (spelling x.record)) }
     ensures enough { IfOk result (λ x. (S.shelf shelf.new).drives ≤ set_count x.drives + 2) }
-    ensures moments { (S.shelf shelf.old).honest → LeavesOnly (S.shelf shelf.old) (S.shelf shelf.new) (IsCountedBy (S.shelf shelf.old)) }
-    ensures nvrams { (S.shelf shelf.old).honest → (n : ℕ) → IsSame ((S.shelf shelf.old).disk (nvram n)) ((S.shelf shelf.new).disk (nvram n)) }
     // What the drives showed gives the record, or why there is none.
     ensures seen { (S.shelf shelf.old).honest → IsSeenBy (S.shelf shelf.old) (S.shelf shelf.new) result }
     // At every moment the devices stand for the arrays for which they stood, and nothing was stored.

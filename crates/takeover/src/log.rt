@@ -2,17 +2,17 @@
 ghost use Rattle.std.specs.Prelude.{◌≡◌, ℕ, ◌<◌, ◌≤◌, List, [], None, length, IfOk, IfErr};
 ghost use Rattle.pur_base.specs.Commands.{Command};
 ghost use Rattle.pur_base.specs.declared.device.Device.{Device};
-ghost use Rattle.pur_base.specs.Devices.{Conditions, IsBearable, drive, nvram};
+ghost use Rattle.pur_base.specs.Devices.{Conditions, IsBearable, nvram};
 ghost use Rattle.pur_base.specs.Plain.{Array};
 ghost use Rattle.pur_base.specs.declared.facts.AnyFact.{AnyFact};
 ghost use Rattle.pur_base.specs.declared.limits.TheConstants.{REQUEST_SECTORS};
 ghost use Rattle.world.specs.Losing.{geometry_of};
-ghost use Rattle.world.specs.Shelf.{Continues, IsCountedBy, LeavesOnly};
-ghost use Rattle.world.specs.Writes.{WritesOnly};
+ghost use Rattle.world.specs.Shelf.{LeavesOnly};
+ghost use Rattle.world.specs.Ran.{Ran};
 ghost use Rattle.checkpoint_spec.specs.Whole.{AreLayered};
 ghost use Rattle.boot_region.specs.declared.loading.Loaded.{Loaded};
 ghost use Rattle.nvram_log.specs.Held.{Keeps, shown_by};
-ghost use Rattle.nvram_log.specs.Members.{IsFewer, IsMember, IsSome, OnMembers};
+ghost use Rattle.nvram_log.specs.Members.{IsFewer, IsMember, IsNvram, IsSome, OnMembers};
 ghost use Rattle.nvram_log.specs.Read.{AllFailed, DroppedCounted, IsReadFrom, OnNothing};
 ghost use Rattle.nvram_log.specs.Settling.{AreAsSeen};
 ghost use Rattle.session_spec.specs.Entering.{StandsStill, failed_since};
@@ -113,10 +113,7 @@ fn read_synced<S: Shelf>(
     nvrams: [bool; DEVICES],
     flushed: u64,
 ) -> Result<NvLog, ReadFault>
-    ensures continues { Continues (S.shelf shelf.old) (S.shelf shelf.new) }
-    ensures writes { (S.shelf shelf.old).honest → WritesOnly OnNothing (S.shelf shelf.old) (S.shelf shelf.new) }
-    ensures rest { S.shelf_rest shelf.old shelf.new }
-    ensures drives { (i : ℕ) → (S.shelf shelf.new).disk (drive i) ≡ (S.shelf shelf.old).disk (drive i) }
+    ensures ran { Ran S.shelf S.shelf_rest IsNvram OnNothing shelf.old shelf.new }
     ensures flushed { IfOk result (λ log. log.flushed ≡ flushed) }
     ensures members { IfOk result (λ log. IsFewer nvrams log.members × IsSome log.members) }
     ensures counted { IfOk result (λ log. DroppedCounted (S.shelf shelf.old) (S.shelf shelf.new) nvrams log.members) }
@@ -139,17 +136,12 @@ pub fn open_log<S: Shelf>(
     flushed: u64,
     memory: Memory,
 ) -> Result<OpenedLog, LogFault>
-    ensures continues { Continues (S.shelf shelf.old) (S.shelf shelf.new) }
-    ensures rest { S.shelf_rest shelf.old shelf.new }
-    ensures writes { (S.shelf shelf.old).honest → WritesOnly (OnMembers nvrams) (S.shelf shelf.old) (S.shelf shelf.new) }
-    ensures drives { (i : ℕ) → (S.shelf shelf.new).disk (drive i) ≡ (S.shelf shelf.old).disk (drive i) }
+    ensures ran { Ran S.shelf S.shelf_rest IsNvram (OnMembers nvrams) shelf.old shelf.new }
     ensures flushed { IfOk result (λ o. o.log.flushed ≡ flushed) }
     ensures members { IfOk result (λ o. IsFewer nvrams o.log.members × IsSome o.log.members) }
     // Memory has done the commands that are left of the log.
     ensures done { IfOk result (HasReplayed memory) }
     ensures err { IfErr result (λ fault. IsLogFault fault (S.shelf shelf.old) (S.shelf shelf.new) nvrams flushed) }
-    // A stop at any moment counts no fewer failed calls than there were.
-    ensures moments { (S.shelf shelf.old).honest → LeavesOnly (S.shelf shelf.old) (S.shelf shelf.new) (IsCountedBy (S.shelf shelf.old)) }
     // The log is what the devices showed, from each array that memory read as, or one showed a command that isn't served.
     ensures replayed { (S.shelf shelf.old).honest → IsReplayedBy (S.shelf shelf.old) (S.shelf shelf.new) nvrams flushed memory result }
     // At every moment the devices stand for the arrays for which they stood, and nothing was stored.

@@ -1,9 +1,9 @@
 // The array is recovered from its devices.
 ghost use Rattle.std.specs.Prelude.{◌≡◌, IfOk};
 ghost use Rattle.world.specs.Losing.{geometry_of};
-ghost use Rattle.world.specs.Shelf.{Continues, IsCountedBy, LeavesOnly};
+ghost use Rattle.world.specs.Ran.{Ran};
 ghost use Rattle.array_state.specs.Ready.{IsArrayOf};
-ghost use Rattle.takeover.specs.Opened.{IsOpenedBy};
+ghost use Rattle.takeover.specs.Opened.{IsOpenedBy, OffSegments};
 
 use crate::{OpenFault, find_array, open_log};
 use array_state::Array;
@@ -15,14 +15,11 @@ use world::Shelf;
 /// memory and settled, and a record of the next generation is stored that names the devices that are left. At every moment the devices stand for the
 /// arrays for which they stood, and then for the one that memory reads as.
 pub fn recover<S: Shelf>(alloc: Global, shelf: &mut S) -> Result<Array, OpenFault>
-    ensures continues { Continues (S.shelf shelf.old) (S.shelf shelf.new) }
-    ensures rest { S.shelf_rest shelf.old shelf.new }
+    ensures ran { Ran S.shelf S.shelf_rest (λ d. Unit {0}) OffSegments shelf.old shelf.new }
     // The record is one of the shelf's, the log follows on what it has flushed, and memory is sound, with room for a whole log.
     ensures is_of { IfOk result (λ a. IsArrayOf (geometry_of (S.shelf shelf.new)) a) }
     // The record names the drives on which it is in force, and the NVRAM devices of the log.
     ensures named { IfOk result (λ a. (a.register.record.members.drives ≡ a.register.drives) × (a.register.record.members.nvrams ≡ a.log.members)) }
-    // A stop at any moment counts no fewer failed calls than there were.
-    ensures moments { (S.shelf shelf.old).honest → LeavesOnly (S.shelf shelf.old) (S.shelf shelf.new) (IsCountedBy (S.shelf shelf.old)) }
     // What was found and done, or why the array isn't opened. For arrays for which the devices stood, they do so at every moment.
     ensures opened { (S.shelf shelf.old).honest → IsOpenedBy (S.shelf shelf.old) (S.shelf shelf.new) result }
 {

@@ -1,7 +1,7 @@
 // The tables that the record names are loaded, and memory is made of them.
 ghost use Rattle.std.specs.Prelude.{◌≡◌, ◌<◌, ◌≤◌, ◌+◌, ℕ, List, not, IfOk, IfErr, Some, None};
 ghost use Rattle.pur_base.specs.declared.device.Device.{Device};
-ghost use Rattle.pur_base.specs.Devices.{Conditions, IsBearable, View, drive, nvram};
+ghost use Rattle.pur_base.specs.Devices.{Conditions, IsBearable, View, drive};
 ghost use Rattle.pur_base.specs.Plain.{Array};
 ghost use Rattle.boot_codec.specs.Record.{set_count};
 ghost use Rattle.boot_codec.specs.Region.{IsRecordOf, shown_by};
@@ -9,16 +9,16 @@ ghost use Rattle.boot_codec.specs.Spelling.{spelling};
 ghost use Rattle.array_spec.specs.Stored.{PatchesStand};
 ghost use Rattle.memory_spec.specs.Tables.{patches};
 ghost use Rattle.world.specs.Losing.{geometry_of};
-ghost use Rattle.world.specs.Shelf.{Continues, IsCountedBy, IsSame, LeavesOnly};
-ghost use Rattle.world.specs.Writes.{WritesOnly};
+ghost use Rattle.world.specs.Shelf.{IsSame, LeavesOnly};
+ghost use Rattle.world.specs.Ran.{Ran};
 ghost use Rattle.segment_io.specs.Lost.{NoByte, is_in};
 ghost use Rattle.table_loading.specs.Faults.{IsTablesFault};
 ghost use Rattle.table_loading.specs.Loading.{ShowsDrives, StripesStandOfAll};
 ghost use Rattle.boot_region.specs.Loading.{IsLawfulLoad};
-ghost use Rattle.boot_region.specs.Members.{IsMember};
+ghost use Rattle.boot_region.specs.Members.{IsDrive, IsMember};
 ghost use Rattle.boot_region.specs.Slots.{slot_in};
 ghost use Rattle.session_spec.specs.Entering.{Enters, StandsStill, failed_since};
-ghost use Rattle.takeover.specs.Found.{IsFoundOn};
+ghost use Rattle.takeover.specs.Found.{IsFoundOn, OnGates};
 ghost use Rattle.takeover.specs.Opened.{AreClean};
 ghost use Rattle.takeover.specs.Seen.{AreTablesSeenBy};
 ghost use Rattle.takeover.specs.Tables.{HasTables, IsMemoryOf};
@@ -58,11 +58,8 @@ fn load_memory<S: Shelf>(
     missing: &[bool],
 ) -> Result<Memory, TablesFault>
     requires lawful { IsRecordOf (geometry_of (S.shelf shelf.old)) boot.now }
-    ensures continues { Continues (S.shelf shelf.old) (S.shelf shelf.new) }
-    ensures rest { S.shelf_rest shelf.old shelf.new }
-    ensures nvrams { (n : ℕ) → (S.shelf shelf.new).disk (nvram n) ≡ (S.shelf shelf.old).disk (nvram n) }
+    ensures ran { Ran S.shelf S.shelf_rest IsDrive NoByte shelf.old shelf.new }
     ensures same { (S.shelf shelf.old).honest → (device : Device) → IsSame ((S.shelf shelf.old).disk device) ((S.shelf shelf.new).disk device) }
-    ensures writes { (S.shelf shelf.old).honest → WritesOnly NoByte (S.shelf shelf.old) (S.shelf shelf.new) }
     ensures memory { IfOk result (IsMemoryOf (geometry_of (S.shelf shelf.new)) boot.now) }
     ensures stand { (S.shelf shelf.old).honest → IfOk result (λ k. (view : View) → ShowsDrives (S.shelf shelf.old) missing.now view → StripesStandOfAll view boot.now → PatchesStand view boot.now (patches k.memory.tables)) }
     ensures fault { IfErr result (λ e. IsTablesFault (S.shelf shelf.old) (S.shelf shelf.new) boot.now missing.now e) }
@@ -82,15 +79,12 @@ fn load_memory<S: Shelf>(
 
 /// Finds the record in force and settles it, and makes memory of the tables that it names.
 pub fn find_array<S: Shelf>(alloc: Global, shelf: &mut S) -> Result<FoundArray, OpenFault>
-    ensures continues { Continues (S.shelf shelf.old) (S.shelf shelf.new) }
-    ensures rest { S.shelf_rest shelf.old shelf.new }
+    ensures ran { Ran S.shelf S.shelf_rest IsDrive OnGates shelf.old shelf.new }
     ensures lawful { IfOk result (λ f. IsLawfulLoad (geometry_of (S.shelf shelf.new)) f.loaded) }
     ensures memory { IfOk result (λ f. IsMemoryOf (geometry_of (S.shelf shelf.new)) f.loaded.record f.memory) }
     // The drives that are left show the record, whatever is missing, and at most two of the shelf's aren't among them.
     ensures shown { (S.shelf shelf.old).honest → IfOk result (λ f. (i : ℕ) → IsMember f.loaded.drives i → shown_by (slot_in f.loaded.slot) ((S.shelf shelf.new).disk (drive i)).bytes ≡ Some (spelling f.loaded.record)) }
     ensures enough { IfOk result (λ f. (S.shelf shelf.new).drives ≤ set_count f.loaded.drives + 2) }
-    ensures moments { (S.shelf shelf.old).honest → LeavesOnly (S.shelf shelf.old) (S.shelf shelf.new) (IsCountedBy (S.shelf shelf.old)) }
-    ensures nvrams { (S.shelf shelf.old).honest → (n : ℕ) → IsSame ((S.shelf shelf.old).disk (nvram n)) ((S.shelf shelf.new).disk (nvram n)) }
     // What the drives showed gives the record and its tables, or why there are none.
     ensures seen { (S.shelf shelf.old).honest → AreTablesSeenBy (S.shelf shelf.old) (S.shelf shelf.new) result }
     // At every moment the devices stand for the arrays for which they stood, and nothing was stored.

@@ -12,6 +12,7 @@ use Rattle.nvram_log.specs.Slots.{IsLog}
 use Rattle.register.specs.Registers.{IsRegisterOf, drives_of, next_slot}
 use Rattle.register.specs.Standing.{Content, GivesOldOrNext, IsFirm, IsOpen, MayStore, StandsInLog}
 use Rattle.register.proofs.FlagLemmas.{same_flags, other_flags}
+use Rattle.register.proofs.Moments.{stands_at, gives_at}
 use Rattle.array_state.specs.declared.array.Array.{Array}
 use Rattle.array_core.specs.declared.performing.PerformFault.{PerformFault}
 use Rattle.array_core.specs.declared.performing.PerformFault.TheVariants.{Device}
@@ -27,10 +28,10 @@ use Rattle.array_core.proofs.Segments.{AreKept, behind_boot, drives_left, hold_f
 use Rattle.array_core.proofs.commit.commit.Goals as goal
 
 pub returns-in_err-store-clause-moments : goal.returns-in_err-store-clause-moments
-returns-in_err-store-clause-moments g c h = counted_on c.append.ensures.ran.on.continues (c.append.ensures.ran.on.writes h) (c.store.ensures.writes (c.append.ensures.ran.on.continues.honest h))
+returns-in_err-store-clause-moments g c h = counted_on c.append.ensures.ran.on.continues (c.append.ensures.ran.on.writes h) (c.store.ensures.ran.on.writes (c.append.ensures.ran.on.continues.honest h))
 
 pub returns-clause-moments : goal.returns-clause-moments
-returns-clause-moments g c h = counted_on c.append.ensures.ran.on.continues (c.append.ensures.ran.on.writes h) (c.store.ensures.writes (c.append.ensures.ran.on.continues.honest h))
+returns-clause-moments g c h = counted_on c.append.ensures.ran.on.continues (c.append.ensures.ran.on.writes h) (c.store.ensures.ran.on.writes (c.append.ensures.ran.on.continues.honest h))
 
 pub returns-in_err-append-clause-any_moment : goal.returns-in_err-append-clause-any_moment
 returns-in_err-append-clause-any_moment g c h held o holds keeps accepted in_force =
@@ -74,13 +75,13 @@ returns-then-eq-clause-held g c h held o holds keeps accepted in_force =
     (still_open a m r log.members now held cmd p held_then same, c.in_ok-append.ensures.holds h held.log keeps holds)
 
 pub returns-in_err-store-clause-continues : goal.returns-in_err-store-clause-continues
-returns-in_err-store-clause-continues g c = continues_trans c.append.ensures.ran.on.continues c.store.ensures.continues
+returns-in_err-store-clause-continues g c = continues_trans c.append.ensures.ran.on.continues c.store.ensures.ran.on.continues
 
 pub returns-clause-continues : goal.returns-clause-continues
-returns-clause-continues g c = continues_trans c.append.ensures.ran.on.continues c.store.ensures.continues
+returns-clause-continues g c = continues_trans c.append.ensures.ran.on.continues c.store.ensures.ran.on.continues
 
 pub returns-clause-rest : goal.returns-clause-rest
-returns-clause-rest g c = g.met.S.Shelf.shelf_rest_stays.transitive _ _ _ c.append.ensures.ran.rest c.store.ensures.rest
+returns-clause-rest g c = g.met.S.Shelf.shelf_rest_stays.transitive _ _ _ c.append.ensures.ran.rest c.store.ensures.ran.rest
 
 pub returns-in_err-store-clause-lost : goal.returns-in_err-store-clause-lost
 returns-in_err-store-clause-lost g c =
@@ -110,11 +111,11 @@ returns-in_err-store-clause-any_moment g c h held o holds keeps accepted in_forc
     let held_then : HoldsOn m now r.record.flushed (held.log ++ cmd ∷ []) = subst (λ (f : ℕ). HoldsOn m now f (held.log ++ cmd ∷ [])) (x.flushed ∙ c.requires.is_of.flushed) (c.in_ok-append.ensures.holds h held.log keeps holds) in
     let storing : (missing : Conditions) (k : Content) (others : List plain.Array) → MayStore m r now missing k others → LeavesOnly m n (StandsBut m (drives_of r) missing (next_slot r.record) r.record others) =
     subst (λ (l : List Bool). (missing : Conditions) (k : Content) (others : List plain.Array) → MayStore m r l missing k others → LeavesOnly m n (StandsBut m (drives_of r) missing (next_slot r.record) r.record others))
-    c.members-members.ensures (c.store.ensures.any_moment (x.ran.on.continues.honest h) room) in
+    c.members-members.ensures (stands_at (c.store.ensures.moments (x.ran.on.continues.honest h) room)) in
     let giving : (missing : Conditions) (k : Content) (others : List plain.Array) → MayStore m r now missing k others → LeavesOnly m n (GivesOldOrNext m r now missing) =
     subst (λ (l : List Bool). (missing : Conditions) (k : Content) (others : List plain.Array) → MayStore m r l missing k others → LeavesOnly m n (GivesOldOrNext m r l missing))
-    c.members-members.ensures (c.store.ensures.gives (x.ran.on.continues.honest h) room) in
-    all_moments a m r log.members now held cmd p held_then n (off_nvrams (drives_of r)) (c.store.ensures.writes (x.ran.on.continues.honest h)) storing giving
+    c.members-members.ensures (gives_at (c.store.ensures.moments (x.ran.on.continues.honest h) room)) in
+    all_moments a m r log.members now held cmd p held_then n (off_nvrams (drives_of r)) (c.store.ensures.ran.on.writes (x.ran.on.continues.honest h)) storing giving
 
 pub returns-clause-any_moment : goal.returns-clause-any_moment
 returns-clause-any_moment g c h held o holds keeps accepted in_force =
@@ -132,11 +133,11 @@ returns-clause-any_moment g c h held o holds keeps accepted in_force =
     let held_then : HoldsOn m now r.record.flushed (held.log ++ cmd ∷ []) = subst (λ (f : ℕ). HoldsOn m now f (held.log ++ cmd ∷ [])) (x.flushed ∙ c.requires.is_of.flushed) (c.in_ok-append.ensures.holds h held.log keeps holds) in
     let storing : (missing : Conditions) (k : Content) (others : List plain.Array) → MayStore m r now missing k others → LeavesOnly m n (StandsBut m (drives_of r) missing (next_slot r.record) r.record others) =
     subst (λ (l : List Bool). (missing : Conditions) (k : Content) (others : List plain.Array) → MayStore m r l missing k others → LeavesOnly m n (StandsBut m (drives_of r) missing (next_slot r.record) r.record others))
-    c.members-members.ensures (c.store.ensures.any_moment (x.ran.on.continues.honest h) room) in
+    c.members-members.ensures (stands_at (c.store.ensures.moments (x.ran.on.continues.honest h) room)) in
     let giving : (missing : Conditions) (k : Content) (others : List plain.Array) → MayStore m r now missing k others → LeavesOnly m n (GivesOldOrNext m r now missing) =
     subst (λ (l : List Bool). (missing : Conditions) (k : Content) (others : List plain.Array) → MayStore m r l missing k others → LeavesOnly m n (GivesOldOrNext m r l missing))
-    c.members-members.ensures (c.store.ensures.gives (x.ran.on.continues.honest h) room) in
-    all_moments a m r log.members now held cmd p held_then n (off_nvrams (drives_of r)) (c.store.ensures.writes (x.ran.on.continues.honest h)) storing giving
+    c.members-members.ensures (gives_at (c.store.ensures.moments (x.ran.on.continues.honest h) room)) in
+    all_moments a m r log.members now held cmd p held_then n (off_nvrams (drives_of r)) (c.store.ensures.ran.on.writes (x.ran.on.continues.honest h)) storing giving
 
 pub returns-clause-held : goal.returns-clause-held
 returns-clause-held g c h held o holds keeps accepted in_force =
@@ -155,7 +156,7 @@ returns-clause-held g c h held o holds keeps accepted in_force =
     let in_log = logged_then a m r log.members now held cmd p held_then in
     let stored : IsOpen n c.store.new.self c.members-members.result (logged held cmd) =
     c.in_ok-store.ensures.stored (x.ran.on.continues.honest h) room (logged held cmd) (subst (λ (l : List Bool). StandsInLog m r l (logged held cmd)) (sym c.members-members.ensures) in_log) in
-    let same : (k : ℕ) → n.disk (nvram k) ≡ m.disk (nvram k) = λ k. c.store.ensures.others (nvram k) (λ z. z) in
+    let same : (k : ℕ) → n.disk (nvram k) ≡ m.disk (nvram k) = λ k. c.store.ensures.ran.on.others (nvram k) (λ z. z) in
     let still = c.in_ok-append.ensures.holds h held.log keeps holds in (
       subst (λ (l : List Bool). IsOpen n c.store.new.self l (logged held cmd)) c.members-members.ensures stored,
       record {
@@ -176,7 +177,7 @@ returns-clause-record g c =
     let two_now : length now ≡ 2 = search rules in
     let other : now ≡ log.members → ⊥ =
     λ e. other_flags c.members-members.result c.members-before.result c.if-eq.ensures (c.members-members.ensures ∙ e ∙ sym c.members-before.ensures) in
-    rises_little a m n log.members now c.args.array.now.register c.store.new.self two two_now other x.fewer x.dropped (λ k. c.store.ensures.others (nvram k) (λ none. none))
+    rises_little a m n log.members now c.args.array.now.register c.store.new.self two two_now other x.fewer x.dropped (λ k. c.store.ensures.ran.on.others (nvram k) (λ none. none))
     c.requires.is_of.of_shelf c.store.ensures.later c.in_ok-store.ensures.generation.0 c.in_ok-store.ensures.enough c.in_ok-store.ensures.stores
 
 pub returns-clause-dropped : goal.returns-clause-dropped
@@ -188,7 +189,7 @@ returns-clause-dropped g c =
     let now : Array = record { memory = was.memory; log = c.append.new.self; register = c.store.new.self } in
     let x = c.append.ensures in
     let two : length was.log.members ≡ 2 = search rules in (
-      drops_failed a m n was now two (λ i. x.ran.on.others (drive i) (λ none. none)) (λ k. c.store.ensures.others (nvram k) (λ none. none)) x.dropped c.store.ensures.dropped,
+      drops_failed a m n was now two (λ i. x.ran.on.others (drive i) (λ none. none)) (λ k. c.store.ensures.ran.on.others (nvram k) (λ none. none)) x.dropped c.store.ensures.dropped,
       none_joins (geometry_of a) was now c.members-members.result c.requires.is_of.of_shelf c.store.ensures.later c.store.ensures.fewer x.fewer c.members-members.ensures c.in_ok-store.ensures.members,
     )
 
@@ -210,7 +211,7 @@ returns-clause-segments g c h contents hold =
     let tables = facts c.args.array.now.memory.memory.tables in
     let of_shelf = c.requires.is_of.of_shelf in
     let fewer = fewer_drives was now c.store.ensures.later c.store.ensures.fewer in
-    let kept : AreKept a n now = behind_boot a m n was now (λ i. c.append.ensures.ran.on.others (drive i) (λ none. none)) (c.store.ensures.writes (c.append.ensures.ran.on.continues.honest h)) in
+    let kept : AreKept a n now = behind_boot a m n was now (λ i. c.append.ensures.ran.on.others (drive i) (λ none. none)) (c.store.ensures.ran.on.writes (c.append.ensures.ran.on.continues.honest h)) in
     let flags = drives_left (geometry_of a) was now of_shelf c.store.ensures.later (c.in_ok-store.ensures.members.0) c.store.ensures.is_of.lawful.lawful.members.drive_flags
     c.store.ensures.is_of.lawful.lawful.members.within c.in_ok-store.ensures.enough in
     hold_kept (geometry_of a) a n now kept contents tables places
@@ -225,7 +226,7 @@ returns-in_err-append-clause-lost g c =
     subst (λ (t : Result (Unit {0}) PerformFault). IfErr t (λ e. (e ≡ Device) × IsLost a m c.args.array.now)) (sym q.1) (q.2, lost)
 
 pub returns-in_err-store-clause-rest : goal.returns-in_err-store-clause-rest
-returns-in_err-store-clause-rest g c = g.met.S.Shelf.shelf_rest_stays.transitive _ _ _ c.append.ensures.ran.rest c.store.ensures.rest
+returns-in_err-store-clause-rest g c = g.met.S.Shelf.shelf_rest_stays.transitive _ _ _ c.append.ensures.ran.rest c.store.ensures.ran.rest
 
 pub returns-in_err-append-clause-outlasts : goal.returns-in_err-append-clause-outlasts
 returns-in_err-append-clause-outlasts g c h held o holds keeps accepted in_force =

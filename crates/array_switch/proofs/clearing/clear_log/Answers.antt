@@ -9,6 +9,7 @@ use Rattle.nvram_log.specs.Held.{HoldsOn}
 use Rattle.register.specs.Registers.{drives_of}
 use Rattle.register.specs.Standing.{IsOpen, StandsInLog}
 use Rattle.register.proofs.FlagLemmas.{same_flags}
+use Rattle.register.proofs.Moments.{stands_at, gives_at}
 use Rattle.array_core.specs.declared.performing.PerformFault.{PerformFault}
 use Rattle.array_core.specs.declared.performing.PerformFault.TheVariants.{Device}
 use Rattle.array_switch.specs.Switching.{IsTooMuch}
@@ -53,12 +54,12 @@ returns-then-eq-clause-held g c h commands next o empty keeps holds =
 pub returns-in_err-store-clause-writes : goal.returns-in_err-store-clause-writes
 returns-in_err-store-clause-writes g c h =
     let x = c.clear.ensures in
-    writes_then x.ran.on.continues (writes_more (λ d i w. inr w) (x.ran.on.writes h)) (writes_more (λ d i w. inl w) (c.store.ensures.writes (x.ran.on.continues.honest h)))
+    writes_then x.ran.on.continues (writes_more (λ d i w. inr w) (x.ran.on.writes h)) (writes_more (λ d i w. inl w) (c.store.ensures.ran.on.writes (x.ran.on.continues.honest h)))
 
 pub returns-clause-writes : goal.returns-clause-writes
 returns-clause-writes g c h =
     let x = c.clear.ensures in
-    writes_then x.ran.on.continues (writes_more (λ d i w. inr w) (x.ran.on.writes h)) (writes_more (λ d i w. inl w) (c.store.ensures.writes (x.ran.on.continues.honest h)))
+    writes_then x.ran.on.continues (writes_more (λ d i w. inr w) (x.ran.on.writes h)) (writes_more (λ d i w. inl w) (c.store.ensures.ran.on.writes (x.ran.on.continues.honest h)))
 
 pub returns-in_err-store-clause-lost : goal.returns-in_err-store-clause-lost
 returns-in_err-store-clause-lost g c =
@@ -89,7 +90,7 @@ returns-in_err-store-clause-any_moment g c h commands next o empty keeps holds =
     let room : c.store.new.self.record.generation < 2 ^ 48 - 8 = omega (arith, c.store.ensures.few, c.requires.not_spent) in
     let p = clearing a m r log now commands next (g.met.S.Shelf.is_shelf c.args.shelf.now) (g.met.S.Shelf.is_shelf c.clear.new.shelf) h x.ran.on.continues o empty (λ i. x.ran.on.others (drive i) (λ none. none)) x.fewer x.dropped (x.none_later h commands keeps holds) (x.ran.on.writes h) c.requires.flushed keeps in
     let held_then : HoldsOn m now r.record.flushed [] = subst (λ (f : ℕ). HoldsOn m now f []) (c.in_ok-clear.ensures.ok.0 ∙ sym c.requires.flushed) (c.in_ok-clear.ensures.holds h commands keeps holds) in
-    all_moments a m n r log.members now c.members-members.result next p held_then c.members-members.ensures (c.store.ensures.writes (x.ran.on.continues.honest h)) (c.store.ensures.any_moment (x.ran.on.continues.honest h) room) (c.store.ensures.gives (x.ran.on.continues.honest h) room)
+    all_moments a m n r log.members now c.members-members.result next p held_then c.members-members.ensures (c.store.ensures.ran.on.writes (x.ran.on.continues.honest h)) (stands_at (c.store.ensures.moments (x.ran.on.continues.honest h) room)) (gives_at (c.store.ensures.moments (x.ran.on.continues.honest h) room))
 
 pub returns-clause-any_moment : goal.returns-clause-any_moment
 returns-clause-any_moment g c h commands next o empty keeps holds =
@@ -103,7 +104,7 @@ returns-clause-any_moment g c h commands next o empty keeps holds =
     let room : c.store.new.self.record.generation < 2 ^ 48 - 8 = omega (arith, c.store.ensures.few, c.requires.not_spent) in
     let p = clearing a m r log now commands next (g.met.S.Shelf.is_shelf c.args.shelf.now) (g.met.S.Shelf.is_shelf c.clear.new.shelf) h x.ran.on.continues o empty (λ i. x.ran.on.others (drive i) (λ none. none)) x.fewer x.dropped (x.none_later h commands keeps holds) (x.ran.on.writes h) c.requires.flushed keeps in
     let held_then : HoldsOn m now r.record.flushed [] = subst (λ (f : ℕ). HoldsOn m now f []) (c.in_ok-clear.ensures.ok.0 ∙ sym c.requires.flushed) (c.in_ok-clear.ensures.holds h commands keeps holds) in
-    all_moments a m n r log.members now c.members-members.result next p held_then c.members-members.ensures (c.store.ensures.writes (x.ran.on.continues.honest h)) (c.store.ensures.any_moment (x.ran.on.continues.honest h) room) (c.store.ensures.gives (x.ran.on.continues.honest h) room)
+    all_moments a m n r log.members now c.members-members.result next p held_then c.members-members.ensures (c.store.ensures.ran.on.writes (x.ran.on.continues.honest h)) (stands_at (c.store.ensures.moments (x.ran.on.continues.honest h) room)) (gives_at (c.store.ensures.moments (x.ran.on.continues.honest h) room))
 
 pub returns-clause-held : goal.returns-clause-held
 returns-clause-held g c h commands next o empty keeps holds =
@@ -121,5 +122,5 @@ returns-clause-held g c h commands next o empty keeps holds =
     let stored : IsOpen n c.store.new.self c.members-members.result next =
     c.in_ok-store.ensures.stored (x.ran.on.continues.honest h) room next (subst (λ (l : List Bool). StandsInLog m r l next) (sym c.members-members.ensures) (logged_left a m r log.members now next p held_then)) in (
       subst (λ (l : List Bool). IsOpen n c.store.new.self l next) c.members-members.ensures stored,
-      still_holds m n now c.clear.new.self.flushed [] (λ k. c.store.ensures.others (nvram k) (λ z. z)) holds_now,
+      still_holds m n now c.clear.new.self.flushed [] (λ k. c.store.ensures.ran.on.others (nvram k) (λ z. z)) holds_now,
     )

@@ -6,6 +6,7 @@ use Rattle.register.specs.declared.state.Register.{Register}
 use Rattle.register.specs.Registers.{drives_of}
 use Rattle.register.specs.Standing.{IsOpen, array_of}
 use Rattle.register.proofs.Stores.{fewer_cut, on_more}
+use Rattle.register.proofs.Moments.{stands_at, gives_at}
 use Rattle.open_array.proofs.Kept.{free_writes_keep_open, free_writes_leave}
 use Rattle.array_core.specs.Performing.{IsKeptAt}
 use Rattle.array_switch.proofs.Free.{all_synced, kept_then, left_then, may_leave}
@@ -38,7 +39,7 @@ pub returns-clause-writes : goal.returns-clause-writes
 returns-clause-writes g c h =
     let r = c.args.register.now in
     let now = c.lose.new.self in
-    writes_more (λ d i w. on_more (drives_of r) (drives_of now) (fewer_cut r now (ap (λ (b : BootRecord). b.slots) c.lose.ensures.record) (λ k m. ((c.lose.ensures.left k).0 m).0)) d i w) (c.store.ensures.writes h)
+    writes_more (λ d i w. on_more (drives_of r) (drives_of now) (fewer_cut r now (ap (λ (b : BootRecord). b.slots) c.lose.ensures.record) (λ k m. ((c.lose.ensures.left k).0 m).0)) d i w) (c.store.ensures.ran.on.writes h)
 
 low : (g : given.Over) (c : goal.After-store g) → c.store.new.self.record.generation < 2 ^ 48 - 8
 low g c = let e : c.lose.new.self.record.generation ≡ c.args.register.now.record.generation = ap (λ (b : BootRecord). b.generation) c.lose.ensures.record in omega (arith, e, c.store.ensures.few, c.requires.not_spent)
@@ -58,4 +59,4 @@ returns-clause-any_moment g c h start held o in_force w =
     store_moments s a r now c.args.nvrams c.args.nvrams held held (array_of held ∷ [])
     (may_leave s a (g.met.S.Shelf.is_shelf start) (g.met.S.Shelf.is_shelf c.args.shelf.now) (w.free.continues.honest_before h) r now c.args.lost.now c.args.nvrams held o w c.lose.ensures.record
     (λ i m. (c.lose.ensures.left i).0 m) (λ i m. (c.lose.ensures.left i).1 m) in_force (drives_of now))
-    b (c.store.ensures.writes h) (c.store.ensures.any_moment h (low g c)) (c.store.ensures.gives h (low g c))
+    b (c.store.ensures.ran.on.writes h) (stands_at (c.store.ensures.moments h (low g c))) (gives_at (c.store.ensures.moments h (low g c)))

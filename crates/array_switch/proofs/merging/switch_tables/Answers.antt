@@ -33,7 +33,7 @@ returns-in_err-leave_lost-clause-fault g c =
 -- ---- no record of the tables could be stored
 
 pub returns-in_err-store_tables-clause-continues : goal.returns-in_err-store_tables-clause-continues
-returns-in_err-store_tables-clause-continues g c = continues_trans c.leave_lost.ensures.continues c.store_tables.ensures.continues
+returns-in_err-store_tables-clause-continues g c = continues_trans c.leave_lost.ensures.continues c.store_tables.ensures.ran.on.continues
 
 pub returns-in_err-store_tables-clause-writes : goal.returns-in_err-store_tables-clause-writes
 returns-in_err-store_tables-clause-writes g c h =
@@ -41,7 +41,7 @@ returns-in_err-store_tables-clause-writes g c h =
     let b = g.S.Shelf.shelf c.leave_lost.new.shelf in
     let e = g.S.Shelf.shelf c.store_tables.new.shelf in
     let x = c.leave_lost.ensures in
-    both_write a b e x.continues c.args.register.now c.leave_lost.new.register x.later (λ k m. (x.fewer k m).0) (x.writes h) (c.store_tables.ensures.writes (x.continues.honest h))
+    both_write a b e x.continues c.args.register.now c.leave_lost.new.register x.later (λ k m. (x.fewer k m).0) (x.writes h) (c.store_tables.ensures.ran.on.writes (x.continues.honest h))
 
 pub returns-in_err-store_tables-clause-fewer : goal.returns-in_err-store_tables-clause-fewer
 returns-in_err-store_tables-clause-fewer g c i m = c.leave_lost.ensures.fewer i (c.store_tables.ensures.fewer i m)
@@ -57,7 +57,7 @@ returns-in_err-store_tables-clause-dropped g c start on are d m =
     let r2 = c.store_tables.new.self in
     let x = c.leave_lost.ensures in
     drives_failed s e r0 r2 c.args.log.now.members
-    (both_dropped s a b e on x.continues c.store_tables.ensures.continues r0 r1 r2 c.args.lost.now are x.dropped c.store_tables.ensures.dropped) d m
+    (both_dropped s a b e on x.continues c.store_tables.ensures.ran.on.continues r0 r1 r2 c.args.lost.now are x.dropped c.store_tables.ensures.dropped) d m
 
 pub returns-in_err-store_tables-clause-fault : goal.returns-in_err-store_tables-clause-fault
 returns-in_err-store_tables-clause-fault g c =
@@ -73,7 +73,7 @@ returns-in_err-store_tables-clause-fault g c =
     let low : r2.record.generation + 1 < 2 ^ 48 = omega (arith, x.few, y.few, c.requires.not_spent) in
     err_is c.from_residual-in_err-store_tables.result _ q.0 q.1 (
       q.2,
-      λ start on are. inr (none_stored (g.S.Shelf.shelf start) a b e on x.continues y.continues r0 r1 r2 c.args.lost.now c.args.tables are x.dropped y.dropped x.later c.in_err-store_tables.ensures.kept low
+      λ start on are. inr (none_stored (g.S.Shelf.shelf start) a b e on x.continues y.ran.on.continues r0 r1 r2 c.args.lost.now c.args.tables are x.dropped y.dropped x.later c.in_err-store_tables.ensures.kept low
           c.in_err-store_tables.field-0.0 c.in_err-store_tables.ensures.fault),
     )
 
@@ -96,12 +96,12 @@ returns-in_err-store_tables-clause-any_moment g c h start held next was w hold =
     let ob = open_b s a b r0 r1 log c.args.lost.now c.args.tables held next p in
     let pl = plan s a b r0 r1 log c.args.lost.now c.args.tables held next p in
     then_run x.continues (x.any_moment h start held o was.in_force w)
-    (tables_run s a b r0 r1 log c.args.lost.now c.args.tables held next p e (y.writes hb) (y.any_moment hb low held next ob pl) (y.gives hb low held next ob pl))
+    (tables_run s a b r0 r1 log c.args.lost.now c.args.tables held next p e (y.ran.on.writes hb) (y.any_moment hb low held next ob pl) (y.gives hb low held next ob pl))
 
 -- ---- it was stored
 
 pub returns-clause-continues : goal.returns-clause-continues
-returns-clause-continues g c = continues_trans c.leave_lost.ensures.continues c.store_tables.ensures.continues
+returns-clause-continues g c = continues_trans c.leave_lost.ensures.continues c.store_tables.ensures.ran.on.continues
 
 pub returns-clause-writes : goal.returns-clause-writes
 returns-clause-writes g c h =
@@ -109,7 +109,7 @@ returns-clause-writes g c h =
     let b = g.S.Shelf.shelf c.leave_lost.new.shelf in
     let e = g.S.Shelf.shelf c.store_tables.new.shelf in
     let x = c.leave_lost.ensures in
-    both_write a b e x.continues c.args.register.now c.leave_lost.new.register x.later (λ k m. (x.fewer k m).0) (x.writes h) (c.store_tables.ensures.writes (x.continues.honest h))
+    both_write a b e x.continues c.args.register.now c.leave_lost.new.register x.later (λ k m. (x.fewer k m).0) (x.writes h) (c.store_tables.ensures.ran.on.writes (x.continues.honest h))
 
 pub returns-clause-fewer : goal.returns-clause-fewer
 returns-clause-fewer g c i m = c.leave_lost.ensures.fewer i (c.store_tables.ensures.fewer i m)
@@ -125,7 +125,7 @@ returns-clause-dropped g c start on are d m =
     let r2 = c.store_tables.new.self in
     let x = c.leave_lost.ensures in
     drives_failed s e r0 r2 c.args.log.now.members
-    (both_dropped s a b e on x.continues c.store_tables.ensures.continues r0 r1 r2 c.args.lost.now are x.dropped c.store_tables.ensures.dropped) d m
+    (both_dropped s a b e on x.continues c.store_tables.ensures.ran.on.continues r0 r1 r2 c.args.lost.now are x.dropped c.store_tables.ensures.dropped) d m
 
 pub returns-clause-joins : goal.returns-clause-joins
 returns-clause-joins g c =
@@ -158,7 +158,7 @@ returns-clause-any_moment g c h start held next was w hold =
     let ob = open_b s a b r0 r1 log c.args.lost.now c.args.tables held next p in
     let pl = plan s a b r0 r1 log c.args.lost.now c.args.tables held next p in
     then_run x.continues (x.any_moment h start held o was.in_force w)
-    (tables_run s a b r0 r1 log c.args.lost.now c.args.tables held next p e (y.writes hb) (y.any_moment hb low held next ob pl) (y.gives hb low held next ob pl))
+    (tables_run s a b r0 r1 log c.args.lost.now c.args.tables held next p e (y.ran.on.writes hb) (y.any_moment hb low held next ob pl) (y.gives hb low held next ob pl))
 
 pub returns-clause-done : goal.returns-clause-done
 returns-clause-done g c h start held next was w hold =
@@ -179,9 +179,9 @@ returns-clause-done g c h start held next was w hold =
     hold.stand (inr (record { flushed = c.requires.kept; log = hold.log; base = hold.base })) x.later x.fewer x.dropped x.others (x.writes h) (c.in_ok-leave_lost.ensures.held h start held o w) in
     let ob = open_b s a b r0 r1 log c.args.lost.now c.args.tables held next p in
     let pl = plan s a b r0 r1 log c.args.lost.now c.args.tables held next p in
-    let same : (k : ℕ) → e.disk (nvram k) ≡ b.disk (nvram k) = λ k. y.others (nvram k) (λ v. v) in
+    let same : (k : ℕ) → e.disk (nvram k) ≡ b.disk (nvram k) = λ k. y.ran.on.others (nvram k) (λ v. v) in
     let oe = c.in_ok-store_tables.ensures.held hb low held next ob pl in
     let stored = c.in_ok-store_tables.ensures.stored in (
-      open_c s a b r0 r1 log c.args.lost.now c.args.tables held next p e y.continues r2 stored y.fewer y.dropped same oe,
-      subst (λ (l : List Command). HoldsOn e log.members log.flushed l) (sym hold.log) (holds_c s a b r0 r1 log c.args.lost.now c.args.tables held next p e y.continues r2 stored y.fewer y.dropped same oe),
+      open_c s a b r0 r1 log c.args.lost.now c.args.tables held next p e y.ran.on.continues r2 stored y.fewer y.dropped same oe,
+      subst (λ (l : List Command). HoldsOn e log.members log.flushed l) (sym hold.log) (holds_c s a b r0 r1 log c.args.lost.now c.args.tables held next p e y.ran.on.continues r2 stored y.fewer y.dropped same oe),
     )

@@ -1,15 +1,15 @@
 use Rattle.std.proofs.Common.{◌≢◌, ◌<◌, ℕ, length, arith, sym, refl, ap, ◌∙◌, below_more, get_or-set_other, get_or-set_same, subst}
 use Rattle.std.specs.Prelude.{◌%◌}
 use Rattle.pur_base.specs.Devices.{drive}
-use Rattle.pur_base.specs.declared.device.Device.{Device}
 use Rattle.pur_base.specs.declared.limits.TheConstants.{SECTOR_BYTES}
 use Rattle.pur_base.proofs.Devices.{drives_apart}
+use Rattle.world.specs.Ran.{Ran}
 use Rattle.world.specs.Shelf.{LeavesOnly}
-use Rattle.world.specs.Writes.{WritesOnly, LeavesBut}
-use Rattle.world.proofs.Moments.{continues_trans, weaker}
+use Rattle.world.specs.Writes.{LeavesBut}
+use Rattle.world.proofs.Moments.{weaker}
 use Rattle.boot_region.specs.Members.{IsMember, IsOneOf, OnNotShut, Closed}
 use Rattle.boot_region.specs.Slots.{slot_in}
-use Rattle.boot_region.proofs.GateCalls.{closing_next_writes, closing_next_moments, closed_of}
+use Rattle.boot_region.proofs.GateCalls.{closing_next, closing_next_moments, closed_of}
 use Rattle.boot_region.proofs.Phases.{closes_gates}
 use Rattle.boot_region.proofs.ShownLemmas.{gate_low, gate_aligned}
 use Rattle.boot_region.proofs.gates.close_gates.Goals as goal
@@ -18,7 +18,7 @@ use Rattle.boot_region.proofs.gates.close_gates.Goals.{then-members-drive, else-
 pub close_gate-answer-requires : goal.close_gate-answer-requires
 close_gate-answer-requires g c =
     record {
-      is_there = omega (arith, c.requires, c.loop-drive.invariant.continues.drives);
+      is_there = omega (arith, c.requires, c.loop-drive.invariant.ran.on.continues.drives);
       fits = omega (arith, c.gate-at.ensures, gate_low (slot_in c.args.slot), (g.met.S.Shelf.is_shelf c.loop-drive.shelf).units.0);
       aligned = (ap (λ (n : ℕ). n % SECTOR_BYTES) c.gate-at.ensures ∙ gate_aligned (slot_in c.args.slot), refl);
     }
@@ -33,25 +33,20 @@ loop-drive-preserved g c =
           let member : IsMember c.args.members.now slot = sym (inv.same_ahead slot (omega arith)) ∙ w.if-members-drive.true in
           let same = inv.disk_ahead slot (omega arith) in
           rw (w.shelf-is, w.members-is) (record {
-            continues = continues_trans inv.continues x.ensures.continues;
-            rest = g.met.S.Shelf.shelf_rest_stays.transitive _ _ _ inv.rest x.ensures.rest;
-            writes = λ h. closing_next_writes c.args.members.now c.gate-at.result slot _ _ _ member same inv.continues x.ensures.continues (inv.writes h) (x.ensures.writes (inv.continues.honest h));
-            moments = λ h. closing_next_moments c.args.members.now c.gate-at.result slot _ _ _ member same inv.continues x.ensures.continues (inv.writes h) (inv.moments h) (x.ensures.any_moment (inv.continues.honest h));
+            ran = closing_next c.args.members.now c.gate-at.result slot member same g.met.S.Shelf.shelf_rest_stays inv.ran x.ensures.ran;
+            moments = λ h. closing_next_moments c.args.members.now c.gate-at.result slot _ _ _ member same inv.ran.on.continues x.ensures.ran.on.continues (inv.ran.on.writes h) (inv.moments h) (x.ensures.any_moment (inv.ran.on.continues.honest h));
             passed = below_more _ _
-                (λ d lt. let ne : d ≢ slot = omega arith in rw (get_or-set_other, x.ensures.others (drive d) (drives_apart d slot ne)) (inv.passed d lt))
+                (λ d lt. let ne : d ≢ slot = omega arith in rw (get_or-set_other, x.ensures.ran.on.others (drive d) (drives_apart d slot ne)) (inv.passed d lt))
                 (let lt : slot < length c.loop-drive.members = omega arith in
                 rw (get_or-set_same, w.is_ok.ensures.value, ← same)
-                (closed_of x.result _ _ c.gate-at.result _ _ member (λ h. x.ensures.closed (inv.continues.honest h)) (λ h. x.ensures.clean (inv.continues.honest h)) x.ensures.counts));
-            others = λ device none. x.ensures.others device (λ e. none (subst (λ (y : Device). IsOneOf c.args.members.now y) (sym e) member)) ∙ inv.others device none;
+                (closed_of x.result _ _ c.gate-at.result _ _ member (λ h. x.ensures.closed (inv.ran.on.continues.honest h)) (λ h. x.ensures.clean (inv.ran.on.continues.honest h)) x.ensures.counts));
             same_ahead = λ d le. let ne : d ≢ slot = omega arith in rw get_or-set_other (inv.same_ahead d (omega arith));
-            disk_ahead = λ d le. x.ensures.others (drive d) (drives_apart d slot (omega arith)) ∙ inv.disk_ahead d (omega arith);
+            disk_ahead = λ d le. x.ensures.ran.on.others (drive d) (drives_apart d slot (omega arith)) ∙ inv.disk_ahead d (omega arith);
           })
       | else-members-drive w ↦
           let shut : IsMember c.args.members.now slot → ⊥ = λ m. absurd (cc (inv.same_ahead slot (omega arith), w.if-members-drive.false, m)) in
           rw (w.shelf-is, w.members-is) (record {
-            continues = inv.continues;
-            rest = inv.rest;
-            writes = inv.writes;
+            ran = inv.ran;
             moments = inv.moments;
             passed = below_more _ _ inv.passed (record {
               before = λ is. absurd (cc (is, w.if-members-drive.false));
@@ -59,7 +54,6 @@ loop-drive-preserved g c =
               clean = λ h is. absurd (cc (is, w.if-members-drive.false));
               dropped = λ was. absurd (shut was);
             });
-            others = inv.others;
             same_ahead = λ d le. inv.same_ahead d (omega arith);
             disk_ahead = λ d le. inv.disk_ahead d (omega arith);
           })
@@ -71,11 +65,10 @@ returns-clause-outcome g c d lt =
     let t = g.S.Shelf.shelf c.loop-drive.shelf in
     subst (λ (a : ℕ). Closed s.honest (IsMember c.args.members.now d) (IsMember c.loop-drive.members d) a (s.disk (drive d)) (t.disk (drive d))) c.gate-at.ensures (c.loop-drive.invariant.passed d (omega (arith, lt)))
 
-pub returns-clause-writes : goal.returns-clause-writes
-returns-clause-writes g c h =
-    let s = g.S.Shelf.shelf c.args.shelf.now in
+pub returns-clause-ran : goal.returns-clause-ran
+returns-clause-ran g c =
     let t = g.S.Shelf.shelf c.loop-drive.shelf in
-    subst (λ (a : ℕ). WritesOnly (OnNotShut c.args.members.now s (λ d. (t.disk d).faults) a) s t) c.gate-at.ensures (c.loop-drive.invariant.writes h)
+    subst (λ (a : ℕ). Ran g.S.Shelf.shelf g.S.Shelf.shelf_rest (IsOneOf c.args.members.now) (OnNotShut c.args.members.now (g.S.Shelf.shelf c.args.shelf.now) (λ d. (t.disk d).faults) a) c.args.shelf.now c.loop-drive.shelf) c.gate-at.ensures c.loop-drive.invariant.ran
 
 pub returns-clause-moments : goal.returns-clause-moments
 returns-clause-moments g c h =

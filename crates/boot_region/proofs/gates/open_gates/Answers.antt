@@ -4,8 +4,8 @@ use Rattle.pur_base.specs.Devices.{drive}
 use Rattle.pur_base.specs.declared.limits.TheConstants.{SECTOR_BYTES}
 use Rattle.boot_codec.specs.Region.{gate_place, shown_by}
 use Rattle.world.specs.Shelf.{Written}
-use Rattle.world.specs.Writes.{WritesOnly}
 use Rattle.world.proofs.Moments.{weaker}
+use Rattle.world.proofs.Ran.{ran_more}
 use Rattle.boot_region.specs.Members.{OnMembers}
 use Rattle.boot_region.specs.Slots.{slot_in}
 use Rattle.boot_region.proofs.Phases.{opens_gates}
@@ -19,13 +19,11 @@ pub write_members-requires-clause-aligned : goal.write_members-requires-clause-a
 write_members-requires-clause-aligned g c =
     (ap (λ (n : ℕ). n % SECTOR_BYTES) c.gate.ensures ∙ gate_aligned (slot_in c.args.slot), ap (λ (l : List ℕ). length l % SECTOR_BYTES) c.as_bytes.ensures.bytes ∙ ap (λ (n : ℕ). n % SECTOR_BYTES) c.as_bytes.ensures.len)
 
-pub returns-clause-writes : goal.returns-clause-writes
-returns-clause-writes g c h =
-    let s = g.S.Shelf.shelf c.args.shelf.now in
-    let t = g.S.Shelf.shelf c.write_members.new.shelf in
+pub returns-clause-ran : goal.returns-clause-ran
+returns-clause-ran g c =
     let size : length c.as_bytes.result.now ≡ SECTOR_BYTES = ap length c.as_bytes.ensures.bytes ∙ c.as_bytes.ensures.len in
-    subst (λ (n : ℕ). WritesOnly (OnMembers c.args.members.now (gate_place (slot_in c.args.slot)) n) s t) size
-    (subst (λ (a : ℕ). WritesOnly (OnMembers c.args.members.now a (length c.as_bytes.result.now)) s t) c.gate.ensures (c.write_members.ensures.writes h))
+    ran_more (λ d is. is) (λ d i w. subst (λ (n : ℕ). OnMembers c.args.members.now (gate_place (slot_in c.args.slot)) n d i) size
+        (subst (λ (a : ℕ). OnMembers c.args.members.now a (length c.as_bytes.result.now) d i) c.gate.ensures w)) c.write_members.ensures.ran
 
 pub returns-clause-fewer : goal.returns-clause-fewer
 returns-clause-fewer g c i is =
@@ -43,7 +41,7 @@ returns-clause-clean g c h i is =
 pub returns-clause-any_moment : goal.returns-clause-any_moment
 returns-clause-any_moment g c h missing body clean closed written =
     weaker (λ stop left. opens_gates c.args.members.now (g.S.Shelf.shelf c.args.shelf.now) stop missing (slot_in c.args.slot) body (g.met.S.Shelf.is_shelf c.args.shelf.now) h left clean closed written)
-    (returns-clause-writes g c h).any_moment
+    ((returns-clause-ran g c).on.writes h).any_moment
 
 pub returns-clause-shown : goal.returns-clause-shown
 returns-clause-shown g c h i is =

@@ -3,8 +3,8 @@ use Rattle.std.specs.Prelude.{◌%◌}
 use Rattle.pur_base.specs.Devices.{drive}
 use Rattle.pur_base.specs.declared.limits.TheConstants.{SECTOR_BYTES}
 use Rattle.boot_codec.specs.Region.{body_place}
-use Rattle.world.specs.Writes.{WritesOnly}
 use Rattle.world.proofs.Moments.{weaker}
+use Rattle.world.proofs.Ran.{ran_more}
 use Rattle.boot_region.specs.Members.{IsMember, OnMembers, Outcome}
 use Rattle.boot_region.specs.Slots.{slot_in}
 use Rattle.boot_region.proofs.Phases.{writes_bodies}
@@ -23,14 +23,12 @@ returns-clause-outcome g c d lt =
     let t = g.S.Shelf.shelf c.write_members.new.shelf in
     subst (λ (a : ℕ). Outcome s.honest (IsMember c.args.members.now d) (IsMember c.write_members.new.members d) a c.args.body.now (s.disk (drive d)) (t.disk (drive d))) c.body.ensures (c.write_members.ensures.outcome d lt)
 
-pub returns-clause-writes : goal.returns-clause-writes
-returns-clause-writes g c h =
-    let s = g.S.Shelf.shelf c.args.shelf.now in
-    let t = g.S.Shelf.shelf c.write_members.new.shelf in
-    subst (λ (n : ℕ). WritesOnly (OnMembers c.args.members.now (body_place (slot_in c.args.slot)) n) s t) c.requires.size
-    (subst (λ (a : ℕ). WritesOnly (OnMembers c.args.members.now a (length c.args.body.now)) s t) c.body.ensures (c.write_members.ensures.writes h))
+pub returns-clause-ran : goal.returns-clause-ran
+returns-clause-ran g c =
+    ran_more (λ d is. is) (λ d i w. subst (λ (n : ℕ). OnMembers c.args.members.now (body_place (slot_in c.args.slot)) n d i) c.requires.size
+        (subst (λ (a : ℕ). OnMembers c.args.members.now a (length c.args.body.now) d i) c.body.ensures w)) c.write_members.ensures.ran
 
 pub returns-clause-any_moment : goal.returns-clause-any_moment
 returns-clause-any_moment g c h missing clean closed =
     weaker (λ stop left. writes_bodies c.args.members.now (g.S.Shelf.shelf c.args.shelf.now) stop missing (slot_in c.args.slot) (g.met.S.Shelf.is_shelf c.args.shelf.now) h left clean closed)
-    (returns-clause-writes g c h).any_moment
+    ((returns-clause-ran g c).on.writes h).any_moment

@@ -1,11 +1,9 @@
-use Rattle.std.proofs.Common.{◌≢◌, ◌<◌, length, arith, sym, ◌∙◌, below_more, get_or-set_other, get_or-set_same, subst}
-use Rattle.world.proofs.Moments.{continues_trans}
-use Rattle.world.proofs.Writes.{writes_then, writes_more}
+use Rattle.std.proofs.Common.{◌≢◌, ◌<◌, length, arith, sym, ◌∙◌, below_more, get_or-set_other, get_or-set_same}
+use Rattle.world.proofs.Ran.{ran_then, ran_more}
 use Rattle.pur_base.proofs.Devices.{drives_apart}
 use Rattle.pur_base.specs.Devices.{drive}
-use Rattle.pur_base.specs.declared.device.Device.{Device}
-use Rattle.boot_region.specs.Members.{IsMember, IsOneOf}
-use Rattle.boot_region.proofs.OnEach.{range_on_members, outcome_of}
+use Rattle.boot_region.specs.Members.{IsMember}
+use Rattle.boot_region.proofs.OnEach.{only_member, range_on_members, outcome_of}
 use Rattle.boot_region.proofs.members.write_members.Goals as goal
 use Rattle.boot_region.proofs.members.write_members.Goals.{then-members-slot, else-members-slot}
 
@@ -18,31 +16,25 @@ loop-slot-preserved g c =
           let x = w.write_synced-answer in
           let member : IsMember c.args.members.now slot = sym (inv.same_ahead slot (omega arith)) ∙ w.if-members-slot.true in
           rw (w.shelf-is, w.members-is) (record {
-            continues = continues_trans inv.continues x.ensures.continues;
-            rest = g.met.S.Shelf.shelf_rest_stays.transitive _ _ _ inv.rest x.ensures.rest;
-            writes = λ h. writes_then inv.continues (inv.writes h) (writes_more (range_on_members c.args.members.now slot c.args.at (length c.args.from.now) member) (x.ensures.writes (inv.continues.honest h)));
+            ran = ran_then g.met.S.Shelf.shelf_rest_stays inv.ran (ran_more (only_member c.args.members.now slot member) (range_on_members c.args.members.now slot c.args.at (length c.args.from.now) member) x.ensures.ran);
             passed = below_more _ _
-                (λ d lt. let ne : d ≢ slot = omega arith in rw (get_or-set_other, x.ensures.others (drive d) (drives_apart d slot ne)) (inv.passed d lt))
+                (λ d lt. let ne : d ≢ slot = omega arith in rw (get_or-set_other, x.ensures.ran.on.others (drive d) (drives_apart d slot ne)) (inv.passed d lt))
                 (let lt : slot < length c.loop-slot.members = omega arith in
                 rw (get_or-set_same, w.is_ok.ensures.value, ← inv.disk_ahead slot (omega arith))
-                (outcome_of x.result _ _ c.args.at c.args.from.now _ _ member (λ h. x.ensures.written (inv.continues.honest h)) (λ h. x.ensures.clean (inv.continues.honest h)) x.ensures.counts));
-            others = λ device none. x.ensures.others device (λ e. none (subst (λ (y : Device). IsOneOf c.args.members.now y) (sym e) member)) ∙ inv.others device none;
+                (outcome_of x.result _ _ c.args.at c.args.from.now _ _ member (λ h. x.ensures.written (inv.ran.on.continues.honest h)) (λ h. x.ensures.clean (inv.ran.on.continues.honest h)) x.ensures.counts));
             same_ahead = λ d le. let ne : d ≢ slot = omega arith in rw get_or-set_other (inv.same_ahead d (omega arith));
-            disk_ahead = λ d le. x.ensures.others (drive d) (drives_apart d slot (omega arith)) ∙ inv.disk_ahead d (omega arith);
+            disk_ahead = λ d le. x.ensures.ran.on.others (drive d) (drives_apart d slot (omega arith)) ∙ inv.disk_ahead d (omega arith);
           })
       | else-members-slot w ↦
           let shut : IsMember c.args.members.now slot → ⊥ = λ m. absurd (cc (inv.same_ahead slot (omega arith), w.if-members-slot.false, m)) in
           rw (w.shelf-is, w.members-is) (record {
-            continues = inv.continues;
-            rest = inv.rest;
-            writes = inv.writes;
+            ran = inv.ran;
             passed = below_more _ _ inv.passed (record {
               before = λ is. absurd (cc (is, w.if-members-slot.false));
               written = λ h is. absurd (cc (is, w.if-members-slot.false));
               clean = λ h is. absurd (cc (is, w.if-members-slot.false));
               dropped = λ was. absurd (shut was);
             });
-            others = inv.others;
             same_ahead = λ d le. inv.same_ahead d (omega arith);
             disk_ahead = λ d le. inv.disk_ahead d (omega arith);
           })

@@ -1,8 +1,7 @@
 use Rattle.std.proofs.Common.{◌≡◌, ℕ, ◌<◌, ◌≤◌, length, slice_index_or, false}
-use Rattle.world.specs.Shelf.{Continues}
-use Rattle.world.specs.Writes.{WritesOnly}
+use Rattle.world.specs.Ran.{Ran}
 use Rattle.pur_base.specs.Devices.{drive}
-use Rattle.boot_region.specs.Members.{IsMember, NonMembersStay, OnMembers, Outcome}
+use Rattle.boot_region.specs.Members.{IsMember, IsOneOf, OnMembers, Outcome}
 use Rattle.boot_region.proofs.members.write_members.Given as goal
 
 abbrev pub invariant-loop-slot : goal.invariant-loop-slot
@@ -10,11 +9,8 @@ invariant-loop-slot g l =
     let a = g.S.Shelf.shelf l.initial.shelf in
     let b = g.S.Shelf.shelf l.shelf in
     record {
-      continues : Continues a b;
-      rest : g.S.Shelf.shelf_rest l.initial.shelf l.shelf;
-      writes : a.honest → WritesOnly (OnMembers l.initial.members l.at (length l.from)) a b;
+      ran : Ran g.S.Shelf.shelf g.S.Shelf.shelf_rest (IsOneOf l.initial.members) (OnMembers l.initial.members l.at (length l.from)) l.initial.shelf l.shelf;
       passed : (d : ℕ) → d < l.slot → Outcome a.honest (IsMember l.initial.members d) (IsMember l.members d) l.at l.from (a.disk (drive d)) (b.disk (drive d));
-      others : NonMembersStay l.initial.members a b;
       same_ahead : (d : ℕ) → l.slot ≤ d → slice_index_or l.members d false ≡ slice_index_or l.initial.members d false;
       disk_ahead : (d : ℕ) → l.slot ≤ d → b.disk (drive d) ≡ a.disk (drive d);
     }

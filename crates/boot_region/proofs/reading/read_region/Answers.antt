@@ -1,7 +1,7 @@
-use Rattle.std.proofs.Common.{rules, ◌≡◌, ◌*◌, length, arith, get_or-set_other, false}
-use Rattle.world.proofs.Writes.{read_writes}
+use Rattle.std.proofs.Common.{rules, ◌≡◌, ◌*◌, length, arith, get_or-set_other, false, refl}
 use Rattle.pur_base.specs.Devices.{drive}
 use Rattle.boot_region.specs.declared.regions.TheConstants.{REGION_BYTES}
+use Rattle.boot_region.proofs.GateCalls.{ran_read}
 use Rattle.boot_region.proofs.ReadingLemmas.{others_are_kept, is_read, lent_size, counts_of}
 use Rattle.boot_region.proofs.reading.read_region.Goals as goal
 
@@ -21,9 +21,9 @@ returns-clause-kept g c i other =
     others_are_kept c.args.regions.now.bytes.items c.deref_mut.result.now c.read-answer.new.into c.args.regions.now.answered.items _ _ _ c.args.index i c.is_ok.result
     c.deref_mut.ensures.value held (omega arith) (omega arith) (omega (arith, whole, c.requires.drive_in)) part other
 
-pub returns-clause-writes : goal.returns-clause-writes
-returns-clause-writes g c honest =
-    read_writes _ (drive c.args.index) (g.met.S.Shelf.is_shelf c.args.shelf.now) c.read-answer.ensures.time c.read-answer.ensures.others (c.read-answer.ensures.device honest)
+pub returns-clause-ran : goal.returns-clause-ran
+returns-clause-ran g c =
+    ran_read (drive c.args.index) refl (g.met.S.Shelf.is_shelf c.args.shelf.now) c.read-answer.ensures.time c.read-answer.ensures.others c.read-answer.ensures.rest c.read-answer.ensures.device
 
 pub returns-clause-counts : goal.returns-clause-counts
 returns-clause-counts g c =

@@ -1,10 +1,9 @@
 use Rattle.std.proofs.Common.{rules, ◌≡◌, length, arith, ◌∙◌, below_more, slice_index_or, false}
-use Rattle.pur_base.specs.Devices.{drive, nvram}
+use Rattle.pur_base.specs.Devices.{drive}
 use Rattle.pur_base.proofs.Devices.{drives_apart}
-use Rattle.world.proofs.Moments.{continues_trans}
-use Rattle.world.proofs.Writes.{writes_then}
+use Rattle.world.proofs.Ran.{ran_then, ran_more}
 use Rattle.boot_region.specs.Regions.{IsRead, AnswerCounts}
-use Rattle.boot_region.proofs.ReadingLemmas.{stays_read, first_read, counts_stay, first_counts, nvram_apart}
+use Rattle.boot_region.proofs.ReadingLemmas.{stays_read, first_read, counts_stay, first_counts, only_drive}
 use Rattle.boot_region.proofs.reading.read_regions.Goals as goal
 
 pub loop-drive-preserved : goal.loop-drive-preserved
@@ -16,23 +15,20 @@ loop-drive-preserved g c =
     let b = g.S.Shelf.shelf c.loop-drive.shelf in
     let n = g.S.Shelf.shelf x.new.shelf in
     record {
-      continues = continues_trans inv.continues x.ensures.continues;
-      rest = g.met.S.Shelf.shelf_rest_stays.transitive _ _ _ inv.rest x.ensures.rest;
+      ran = ran_then g.met.S.Shelf.shelf_rest_stays inv.ran (ran_more (only_drive slot) (λ d i w. w) x.ensures.ran);
       drives = x.ensures.drives ∙ inv.drives;
       same = λ h device.
           let was = inv.same h device in
-          let is = x.ensures.same (inv.continues.honest h) device in
+          let is = x.ensures.same (inv.ran.on.continues.honest h) device in
           record { bytes = is.bytes ∙ was.bytes; dirty = is.dirty ∙ was.dirty };
       passed = λ h. below_more (λ i. IsRead a n x.new.regions.bytes.items x.new.regions.answered.items i) slot
           (λ i lt. stays_read a b n c.loop-drive.regions.bytes.items x.new.regions.bytes.items c.loop-drive.regions.answered.items x.new.regions.answered.items i
-          (inv.passed h i lt) (x.ensures.kept i (omega (arith, lt))) (x.ensures.others (drive i) (drives_apart i slot (omega (arith, lt)))))
-          (first_read a b n x.new.regions.bytes.items x.new.regions.answered.items slot (x.ensures.read (inv.continues.honest h)) (inv.ahead slot (omega arith)));
-      writes = λ h. writes_then inv.continues (inv.writes h) (x.ensures.writes (inv.continues.honest h));
+          (inv.passed h i lt) (x.ensures.kept i (omega (arith, lt))) (x.ensures.ran.on.others (drive i) (drives_apart i slot (omega (arith, lt)))))
+          (first_read a b n x.new.regions.bytes.items x.new.regions.answered.items slot (x.ensures.read (inv.ran.on.continues.honest h)) (inv.ahead slot (omega arith)));
       counts = below_more (λ i. AnswerCounts (slice_index_or x.new.regions.answered.items i false) (a.disk (drive i)) (n.disk (drive i))) slot
-          (λ i lt. counts_stay _ _ (a.disk (drive i)) (b.disk (drive i)) (n.disk (drive i)) (inv.counts i lt) (x.ensures.answers_kept i (omega (arith, lt))) (x.ensures.others (drive i) (drives_apart i slot (omega (arith, lt)))))
+          (λ i lt. counts_stay _ _ (a.disk (drive i)) (b.disk (drive i)) (n.disk (drive i)) (inv.counts i lt) (x.ensures.answers_kept i (omega (arith, lt))) (x.ensures.ran.on.others (drive i) (drives_apart i slot (omega (arith, lt)))))
           (first_counts _ (a.disk (drive slot)) (b.disk (drive slot)) (n.disk (drive slot)) x.ensures.counts (inv.ahead slot (omega arith)));
-      nvram = λ k. x.ensures.others (nvram k) (nvram_apart k slot) ∙ inv.nvram k;
-      ahead = λ i le. x.ensures.others (drive i) (drives_apart i slot (omega (arith, le))) ∙ inv.ahead i (omega (arith, le));
+      ahead = λ i le. x.ensures.ran.on.others (drive i) (drives_apart i slot (omega (arith, le))) ∙ inv.ahead i (omega (arith, le));
     }
 
 pub returns-clause-read : goal.returns-clause-read

@@ -1,8 +1,7 @@
 use Rattle.std.proofs.Common.{◌≡◌, ℕ, ◌<◌, ◌≤◌, slice_index_or, false}
 use Rattle.pur_base.specs.Devices.{drive}
-use Rattle.world.specs.Shelf.{Continues}
-use Rattle.world.specs.Writes.{WritesOnly}
-use Rattle.boot_region.specs.Members.{IsMember, NonMembersStay, OnClosed, Opened}
+use Rattle.world.specs.Ran.{Ran}
+use Rattle.boot_region.specs.Members.{IsMember, IsOneOf, OnClosed, Opened}
 use Rattle.boot_region.proofs.settling.settle.Given as goal
 
 abbrev pub invariant-loop-drive : goal.invariant-loop-drive
@@ -10,11 +9,8 @@ invariant-loop-drive g l =
     let a = g.S.Shelf.shelf l.initial.shelf in
     let b = g.S.Shelf.shelf l.shelf in
     record {
-      continues : Continues a b;
-      rest : g.S.Shelf.shelf_rest l.initial.shelf l.shelf;
-      writes : a.honest → WritesOnly (OnClosed l.initial.members a l.at) a b;
+      ran : Ran g.S.Shelf.shelf g.S.Shelf.shelf_rest (IsOneOf l.initial.members) (OnClosed l.initial.members a l.at) l.initial.shelf l.shelf;
       passed : (d : ℕ) → d < l.drive → Opened a.honest (IsMember l.initial.members d) (IsMember l.members d) l.at (a.disk (drive d)) (b.disk (drive d));
-      others : NonMembersStay l.initial.members a b;
       same_ahead : (d : ℕ) → l.drive ≤ d → slice_index_or l.members d false ≡ slice_index_or l.initial.members d false;
       disk_ahead : (d : ℕ) → l.drive ≤ d → b.disk (drive d) ≡ a.disk (drive d);
     }

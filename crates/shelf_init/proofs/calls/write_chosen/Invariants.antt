@@ -1,8 +1,8 @@
 use Rattle.std.proofs.Common.{◌≡◌, ℕ, ◌<◌, ◌≤◌, length}
-use Rattle.world.specs.Shelf.{Continues, Written}
-use Rattle.world.specs.Writes.{WritesOnly}
+use Rattle.world.specs.Shelf.{Written}
+use Rattle.world.specs.Ran.{Ran}
 use Rattle.pur_base.specs.Devices.{drive}
-use Rattle.boot_region.specs.Members.{IsMember, OnMembers}
+use Rattle.boot_region.specs.Members.{IsMember, IsOneOf, OnMembers}
 use Rattle.shelf_init.specs.Blank.{IsClean}
 use Rattle.shelf_init.specs.Counted.{NoneFailed}
 use Rattle.shelf_init.proofs.calls.write_chosen.Given as goal
@@ -12,9 +12,7 @@ invariant-loop-drive g l =
     let a = g.S.Shelf.shelf l.initial.shelf in
     let b = g.S.Shelf.shelf l.shelf in
     record {
-      continues : Continues a b;
-      rest : g.S.Shelf.shelf_rest l.initial.shelf l.shelf;
-      writes : a.honest → WritesOnly (OnMembers l.chosen l.at (length l.from)) a b;
+      ran : Ran g.S.Shelf.shelf g.S.Shelf.shelf_rest (IsOneOf l.chosen) (OnMembers l.chosen l.at (length l.from)) l.initial.shelf l.shelf;
       written : a.honest → (i : ℕ) → i < l.drive → IsMember l.chosen i → Written l.at l.from (a.disk (drive i)).bytes (b.disk (drive i)).bytes;
       clean : a.honest → IsClean a → IsClean b;
       counts : NoneFailed a b;

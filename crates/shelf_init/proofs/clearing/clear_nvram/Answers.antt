@@ -1,18 +1,16 @@
 use Rattle.std.proofs.Common.{◌≡◌, ℕ, refl, arith, sym, ap, ◌∙◌, subst, false, inl, inr}
 use Rattle.std.proofs.lemmas.Bool.{cases_eq}
-use Rattle.world.proofs.Moments.{continues_trans}
-use Rattle.world.proofs.Writes.{writes_then, writes_more}
+use Rattle.world.proofs.Ran.{ran_then, ran_more}
 use Rattle.world.specs.Shelf.{Disk}
 use Rattle.pur_base.specs.Devices.{nvram}
 use Rattle.pur_base.specs.Gates.{is_open}
-use Rattle.shelf_init.proofs.CallLemmas.{one_ok, one_clean, none_then, nvrams_apart, on_log_gates}
+use Rattle.shelf_init.proofs.CallLemmas.{one_ok, one_clean, none_then, nvrams_apart, only_nvram, on_log_gates}
 use Rattle.shelf_init.proofs.CloseLemmas.{log_gate}
 use Rattle.shelf_init.proofs.clearing.clear_nvram.Goals as goal
 
-pub returns-in_err-write_synced-clause-writes : goal.returns-in_err-write_synced-clause-writes
-returns-in_err-write_synced-clause-writes g c h =
-    let inv = c.loop-device.invariant in
-    writes_then inv.continues (inv.writes h) (writes_more (on_log_gates c.loop-device.device _ refl) (c.write_synced.ensures.writes (inv.continues.honest h)))
+pub returns-in_err-write_synced-clause-ran : goal.returns-in_err-write_synced-clause-ran
+returns-in_err-write_synced-clause-ran g c =
+    ran_then g.met.S.Shelf.shelf_rest_stays c.loop-device.invariant.ran (ran_more (only_nvram c.loop-device.device) (on_log_gates c.loop-device.device _ refl) c.write_synced.ensures.ran)
 
 pub loop-device-preserved : goal.loop-device-preserved
 loop-device-preserved g c =
@@ -24,13 +22,11 @@ loop-device-preserved g c =
     let x = c.write_synced.ensures in
     let y = c.in_ok-write_synced.ensures in
     record {
-      continues = continues_trans inv.continues x.continues;
-      rest = g.met.S.Shelf.shelf_rest_stays.transitive _ _ _ inv.rest x.rest;
-      writes = λ h. writes_then inv.continues (inv.writes h) (writes_more (on_log_gates at _ refl) (x.writes (inv.continues.honest h)));
+      ran = ran_then g.met.S.Shelf.shelf_rest_stays inv.ran (ran_more (only_nvram at) (on_log_gates at _ refl) x.ran);
       cleared = λ h m i lt below. elim (cases_eq m at) [
-        | inl here ↦ subst (λ (k : ℕ). is_open i (n.disk (nvram k)).bytes ≡ false) (sym here) (log_gate _ (b.disk (nvram at)).bytes (n.disk (nvram at)).bytes i refl (y.written (inv.continues.honest h)) below)
-        | inr ne ↦ ap (λ (d : Disk). is_open i d.bytes) (x.others (nvram m) (nvrams_apart m at ne)) ∙ inv.cleared h m i (omega (arith, lt, ne)) below
+        | inl here ↦ subst (λ (k : ℕ). is_open i (n.disk (nvram k)).bytes ≡ false) (sym here) (log_gate _ (b.disk (nvram at)).bytes (n.disk (nvram at)).bytes i refl (y.written (inv.ran.on.continues.honest h)) below)
+        | inr ne ↦ ap (λ (d : Disk). is_open i d.bytes) (x.ran.on.others (nvram m) (nvrams_apart m at ne)) ∙ inv.cleared h m i (omega (arith, lt, ne)) below
       ];
-      clean = λ h was. one_clean b n (nvram at) x.others (y.clean (inv.continues.honest h)) (inv.clean h was);
-      counts = none_then a b n inv.continues inv.counts (one_ok b n (nvram at) x.others (record { faults = y.counts.faults; write_faults = y.counts.write_faults }));
+      clean = λ h was. one_clean b n (nvram at) x.ran.on.others (y.clean (inv.ran.on.continues.honest h)) (inv.clean h was);
+      counts = none_then a b n inv.ran.on.continues inv.counts (one_ok b n (nvram at) x.ran.on.others (record { faults = y.counts.faults; write_faults = y.counts.write_faults }));
     }

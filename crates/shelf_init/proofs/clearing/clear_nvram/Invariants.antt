@@ -1,10 +1,9 @@
 use Rattle.std.proofs.Common.{◌≡◌, ℕ, ◌<◌, false}
-use Rattle.world.specs.Shelf.{Continues}
-use Rattle.world.specs.Writes.{WritesOnly}
+use Rattle.world.specs.Ran.{Ran}
 use Rattle.pur_base.specs.Devices.{nvram}
 use Rattle.pur_base.specs.Gates.{is_open}
 use Rattle.log_codec.specs.declared.limits.TheConstants.{LOG_SLOTS}
-use Rattle.shelf_init.specs.Blank.{IsClean, OnLogGates}
+use Rattle.shelf_init.specs.Blank.{IsClean, IsNvram, OnLogGates}
 use Rattle.shelf_init.specs.Counted.{NoneFailed}
 use Rattle.shelf_init.proofs.clearing.clear_nvram.Given as goal
 
@@ -13,9 +12,7 @@ invariant-loop-device g l =
     let a = g.S.Shelf.shelf l.initial.shelf in
     let b = g.S.Shelf.shelf l.shelf in
     record {
-      continues : Continues a b;
-      rest : g.S.Shelf.shelf_rest l.initial.shelf l.shelf;
-      writes : a.honest → WritesOnly OnLogGates a b;
+      ran : Ran g.S.Shelf.shelf g.S.Shelf.shelf_rest IsNvram OnLogGates l.initial.shelf l.shelf;
       cleared : a.honest → (n i : ℕ) → n < l.device → i < LOG_SLOTS → is_open i (b.disk (nvram n)).bytes ≡ false;
       clean : a.honest → IsClean a → IsClean b;
       counts : NoneFailed a b;

@@ -1,12 +1,13 @@
-use Rattle.std.proofs.Common.{◌≡◌, ℕ, List, length, ap, ◌∙◌, subst, arith}
+use Rattle.std.proofs.Common.{◌≡◌, ℕ, List, length, refl, ap, ◌∙◌, arith}
 use Rattle.std.specs.Prelude.{◌%◌}
 use Rattle.pur_base.specs.declared.limits.TheConstants.{SECTOR_BYTES}
 use Rattle.boot_codec.specs.Region.{gate_place}
 use Rattle.world.specs.Writes.{WritesOnly}
-use Rattle.world.proofs.Writes.{writes_more}
+use Rattle.world.proofs.Ran.{ran_more}
 use Rattle.boot_region.specs.Members.{OnMembers}
 use Rattle.boot_region.specs.Slots.{slot_in}
 use Rattle.boot_region.proofs.ShownLemmas.{gate_low, gate_aligned}
+use Rattle.shelf_init.proofs.CallLemmas.{on_there, one_drive, wrote_there}
 use Rattle.shelf_init.proofs.CloseLemmas.{chosen_open, if_shut}
 use Rattle.shelf_init.proofs.closing.close_slot.Goals as goal
 
@@ -20,21 +21,18 @@ pub write_chosen-requires-clause-aligned : goal.write_chosen-requires-clause-ali
 write_chosen-requires-clause-aligned g c =
     (ap (λ (n : ℕ). n % SECTOR_BYTES) c.gate.ensures ∙ gate_aligned (slot_in c.args.slot), ap (λ (l : List ℕ). length l % SECTOR_BYTES) c.as_bytes.ensures.bytes ∙ ap (λ (n : ℕ). n % SECTOR_BYTES) c.as_bytes.ensures.len)
 
-pub returns-clause-writes : goal.returns-clause-writes
-returns-clause-writes g c h =
-    let s = g.S.Shelf.shelf c.args.shelf.now in
-    let t = g.S.Shelf.shelf c.write_chosen.new.shelf in
+pub returns-clause-ran : goal.returns-clause-ran
+returns-clause-ran g c =
     let size : length c.as_bytes.result.now ≡ SECTOR_BYTES = ap length c.as_bytes.ensures.bytes ∙ c.as_bytes.ensures.len in
-    writes_more (chosen_open c.args.regions.now.bytes.items c.open_in.result (slot_in c.args.slot) (length c.args.regions.now.answered.items) c.open_in.ensures.within c.open_in.ensures.value)
-    (subst (λ (n : ℕ). WritesOnly (OnMembers c.open_in.result (gate_place (slot_in c.args.slot)) n) s t) size
-    (subst (λ (a : ℕ). WritesOnly (OnMembers c.open_in.result a (length c.as_bytes.result.now)) s t) c.gate.ensures (c.write_chosen.ensures.writes h)))
+    ran_more (one_drive c.open_in.result)
+    (λ d k w. chosen_open c.args.regions.now.bytes.items c.open_in.result (slot_in c.args.slot) (length c.args.regions.now.answered.items) c.open_in.ensures.within c.open_in.ensures.value d k (on_there refl c.gate.ensures size d k w))
+    c.write_chosen.ensures.ran
 
 pub returns-clause-shut : goal.returns-clause-shut
 returns-clause-shut g c h =
     let s = g.S.Shelf.shelf c.args.shelf.now in
     let t = g.S.Shelf.shelf c.write_chosen.new.shelf in
     let size : length c.as_bytes.result.now ≡ SECTOR_BYTES = ap length c.as_bytes.ensures.bytes ∙ c.as_bytes.ensures.len in
-    let w : WritesOnly (OnMembers c.open_in.result (gate_place (slot_in c.args.slot)) SECTOR_BYTES) s t = subst (λ (n : ℕ). WritesOnly (OnMembers c.open_in.result (gate_place (slot_in c.args.slot)) n) s t) size
-    (subst (λ (a : ℕ). WritesOnly (OnMembers c.open_in.result a (length c.as_bytes.result.now)) s t) c.gate.ensures (c.write_chosen.ensures.writes h)) in
+    let w : WritesOnly (OnMembers c.open_in.result (gate_place (slot_in c.args.slot)) SECTOR_BYTES) s t = wrote_there refl c.gate.ensures size (c.write_chosen.ensures.ran.on.writes h) in
     if_shut c.args.regions.now.bytes.items c.open_in.result (slot_in c.args.slot) (length c.args.regions.now.answered.items) c.open_in.ensures.within c.open_in.ensures.value
-    c.write_chosen.result s t c.as_bytes.result.now c.gate.result c.requires c.write_chosen.ensures.continues (c.as_bytes.ensures.bytes ∙ c.gate_sector-closed.ensures) w c.gate.ensures (c.write_chosen.ensures.written h)
+    c.write_chosen.result s t c.as_bytes.result.now c.gate.result c.requires c.write_chosen.ensures.ran.on.continues (c.as_bytes.ensures.bytes ∙ c.gate_sector-closed.ensures) w c.gate.ensures (c.write_chosen.ensures.written h)

@@ -1,16 +1,13 @@
 use Rattle.std.proofs.Common.{refl}
 use Rattle.std.proofs.lemmas.Result.{err_from_is_err_and}
-use Rattle.world.proofs.Moments.{continues_refl}
+use Rattle.world.proofs.Ran.{ran_none}
 use Rattle.world.proofs.Writes.{nothing_written}
 use Rattle.shelf_init.proofs.CallLemmas.{none_failed, spelled_for}
 use Rattle.shelf_init.proofs.InitLemmas.{at_start}
 use Rattle.shelf_init.proofs.making.init.Goals as goal
 
-pub returns-in_err-regions-clause-continues : goal.returns-in_err-regions-clause-continues
-returns-in_err-regions-clause-continues g c = continues_refl (g.S.Shelf.shelf c.args.shelf.now)
-
-pub returns-in_err-regions-clause-rest : goal.returns-in_err-regions-clause-rest
-returns-in_err-regions-clause-rest g c = g.met.S.Shelf.shelf_rest_stays.reflexive c.args.shelf.now
+pub returns-in_err-regions-clause-ran : goal.returns-in_err-regions-clause-ran
+returns-in_err-regions-clause-ran g c = ran_none g.met.S.Shelf.shelf_rest_stays c.args.shelf.now (g.met.S.Shelf.is_shelf c.args.shelf.now)
 
 pub returns-in_err-regions-clause-device : goal.returns-in_err-regions-clause-device
 returns-in_err-regions-clause-device g c = let r = err_from_is_err_and c.from_residual.result c.from_residual.ensures.1 in rw (r.1, r.2) (none_failed (g.S.Shelf.shelf c.args.shelf.now))
@@ -30,11 +27,8 @@ returns-in_err-regions-clause-made g c h clean = let r = err_from_is_err_and c.f
 pub returns-in_err-regions-clause-any_moment : goal.returns-in_err-regions-clause-any_moment
 returns-in_err-regions-clause-any_moment g c h clean blank = at_start (g.S.Shelf.shelf c.args.shelf.now) (g.met.S.Shelf.is_shelf c.args.shelf.now) clean blank
 
-pub returns-in_err-body-clause-continues : goal.returns-in_err-body-clause-continues
-returns-in_err-body-clause-continues g c = continues_refl (g.S.Shelf.shelf c.args.shelf.now)
-
-pub returns-in_err-body-clause-rest : goal.returns-in_err-body-clause-rest
-returns-in_err-body-clause-rest g c = g.met.S.Shelf.shelf_rest_stays.reflexive c.args.shelf.now
+pub returns-in_err-body-clause-ran : goal.returns-in_err-body-clause-ran
+returns-in_err-body-clause-ran g c = ran_none g.met.S.Shelf.shelf_rest_stays c.args.shelf.now (g.met.S.Shelf.is_shelf c.args.shelf.now)
 
 pub returns-in_err-body-clause-device : goal.returns-in_err-body-clause-device
 returns-in_err-body-clause-device g c = let r = err_from_is_err_and c.from_residual-in_err-body.result c.from_residual-in_err-body.ensures.1 in rw (r.1, r.2) (none_failed (g.S.Shelf.shelf c.args.shelf.now))
@@ -54,11 +48,8 @@ returns-in_err-body-clause-made g c h clean = let r = err_from_is_err_and c.from
 pub returns-in_err-body-clause-any_moment : goal.returns-in_err-body-clause-any_moment
 returns-in_err-body-clause-any_moment g c h clean blank = at_start (g.S.Shelf.shelf c.args.shelf.now) (g.met.S.Shelf.is_shelf c.args.shelf.now) clean blank
 
-pub returns-clause-continues : goal.returns-clause-continues
-returns-clause-continues g c = c.make_on.ensures.continues
-
-pub returns-clause-rest : goal.returns-clause-rest
-returns-clause-rest g c = c.make_on.ensures.rest
+pub returns-clause-ran : goal.returns-clause-ran
+returns-clause-ran g c = c.make_on.ensures.ran
 
 pub returns-clause-device : goal.returns-clause-device
 returns-clause-device g c = c.make_on.ensures.device

@@ -1,23 +1,19 @@
 use Rattle.std.proofs.Common.{rules, ◌≡◌, length, take, arith}
 use Rattle.std.proofs.lemmas.List.{length-take}
-use Rattle.pur_base.specs.Devices.{nvram}
 use Rattle.boot_codec.specs.Region.{gate_place, other_slot}
-use Rattle.world.proofs.Writes.{writes_more}
+use Rattle.world.proofs.Ran.{ran_more}
 use Rattle.boot_region.specs.Slots.{slot_in}
 use Rattle.takeover.proofs.Cleaned.{stays_clean}
-use Rattle.takeover.proofs.Fronts.{front_closed, front_loaded, front_found, front_tells, whole_force}
+use Rattle.takeover.proofs.Fronts.{front_closed, front_one, front_loaded, front_found, front_tells, whole_force}
 use Rattle.takeover.proofs.finding.settle_loaded.Goals as goal
 
-pub returns-clause-writes : goal.returns-clause-writes
-returns-clause-writes g c h = writes_more (front_closed c.drives-slots.result c.args.loaded.now.drives (g.S.Shelf.shelf c.args.shelf.now) _) (c.settle.ensures.writes h)
-
-pub returns-clause-nvrams : goal.returns-clause-nvrams
-returns-clause-nvrams g c n = c.settle.ensures.others (nvram n) (λ w. w)
+pub returns-clause-ran : goal.returns-clause-ran
+returns-clause-ran g c = ran_more (front_one c.drives-slots.result c.args.loaded.now.drives) (front_closed c.drives-slots.result c.args.loaded.now.drives (g.S.Shelf.shelf c.args.shelf.now) _) c.settle.ensures.ran
 
 pub returns-clause-clean : goal.returns-clause-clean
 returns-clause-clean g c h d clean =
     stays_clean (g.S.Shelf.shelf c.args.shelf.now) (g.S.Shelf.shelf c.settle.new.shelf) (take c.drives-slots.result c.args.loaded.now.drives) c.settle.new.members (gate_place (slot_in c.args.loaded.now.slot))
-    h c.settle.ensures.outcome c.settle.ensures.others d clean
+    h c.settle.ensures.outcome c.settle.ensures.ran.on.others d clean
 
 pub returns-clause-any_moment : goal.returns-clause-any_moment
 returns-clause-any_moment g c h missing arrays loaded = c.settle.ensures.any_moment h missing c.args.loaded.now.record arrays (front_loaded c.drives-slots.result loaded)

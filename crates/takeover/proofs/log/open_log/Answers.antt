@@ -2,35 +2,36 @@ use Rattle.std.proofs.Common.{◌≡◌, rules, List, Bool, Err, length, sym, su
 use Rattle.std.proofs.lemmas.Result.{err_from_is_err_and}
 use Rattle.boot_region.proofs.LoadingLemmas.{if_err}
 use Rattle.pur_base.specs.Devices.{drive, nvram}
-use Rattle.world.proofs.Moments.{continues_trans}
+use Rattle.world.proofs.Ran.{ran_then, ran_more}
 use Rattle.nvram_log.specs.Read.{AllFailed}
 use Rattle.takeover.specs.declared.log.LogFault.{LogFault}
 use Rattle.session_spec.specs.Entering.{failed_since}
 use Rattle.takeover.specs.LogOpen.{IsLogFault, IsLogOpenBy}
-use Rattle.takeover.proofs.LogOpened.{while_read, not_read, not_replayed, was_read, while_opening, not_lost, opened, agree, bears_mid, reads_only, settles_only, read_fault_is, replay_fault_is, both_lost}
+use Rattle.takeover.proofs.LogOpened.{while_read, not_read, not_replayed, was_read, while_opening, not_lost, opened, agree, bears_mid, nothing_on, fewer_on, read_fault_is, replay_fault_is, both_lost}
 use Rattle.takeover.specs.Replayed.{IsReplayedBy}
 use Rattle.takeover.proofs.LogReplayed as showed
+use Rattle.takeover.proofs.Running.{nvram_of}
 use Rattle.takeover.proofs.log.open_log.Goals as goal
 
 pub returns-in_err-log-clause-any_moment : goal.returns-in_err-log-clause-any_moment
 returns-in_err-log-clause-any_moment g c h x missing arrays ps base same_nvrams same_flushed found has =
-    while_read (g.S.Shelf.shelf c.args.shelf.now) (g.S.Shelf.shelf c.read_synced.new.shelf) x missing arrays (c.read_synced.ensures.writes h) found
+    while_read (g.S.Shelf.shelf c.args.shelf.now) (g.S.Shelf.shelf c.read_synced.new.shelf) x missing arrays (c.read_synced.ensures.ran.on.writes h) found
 
 pub returns-in_err-log-clause-opened : goal.returns-in_err-log-clause-opened
 returns-in_err-log-clause-opened g c h x missing arrays ps base same_nvrams same_flushed found has borne =
     let a = g.S.Shelf.shelf c.args.shelf.now in
     let m = g.S.Shelf.shelf c.read_synced.new.shelf in
-    let on = c.read_synced.ensures.continues in
+    let on = c.read_synced.ensures.ran.on.continues in
     let p = err_from_is_err_and c.from_residual.result c.from_residual.ensures.1 in
     let e = c.in_err-log.field-0.0 in
     let all : AllFailed e a m x.record.members.nvrams = subst (λ (l : List Bool). AllFailed e a m l) (sym same_nvrams) c.in_err-log.ensures.err in
-    let fault = not_read a m x missing arrays ps base (g.met.S.Shelf.is_shelf c.args.shelf.now) (g.met.S.Shelf.is_shelf c.read_synced.new.shelf) (on.honest h) (c.read_synced.ensures.writes h) c.read_synced.ensures.drives found has.hold borne e all in
+    let fault = not_read a m x missing arrays ps base (g.met.S.Shelf.is_shelf c.args.shelf.now) (g.met.S.Shelf.is_shelf c.read_synced.new.shelf) (on.honest h) (c.read_synced.ensures.ran.on.writes h) (λ i. c.read_synced.ensures.ran.on.others (drive i) (λ none. none)) found has.hold borne e all in
     let named : IsLogOpenBy m x (failed_since a m missing) arrays ps base (Err p.0) = subst (λ (f : LogFault). IsLogOpenBy m x (failed_since a m missing) arrays ps base (Err f)) (sym p.2) fault in
     subst (λ r. IsLogOpenBy m x (failed_since a m missing) arrays ps base r) (sym p.1) named
 
 pub returns-in_err-made-clause-any_moment : goal.returns-in_err-made-clause-any_moment
 returns-in_err-made-clause-any_moment g c h x missing arrays ps base same_nvrams same_flushed found has =
-    while_read (g.S.Shelf.shelf c.args.shelf.now) (g.S.Shelf.shelf c.read_synced.new.shelf) x missing arrays (c.read_synced.ensures.writes h) found
+    while_read (g.S.Shelf.shelf c.args.shelf.now) (g.S.Shelf.shelf c.read_synced.new.shelf) x missing arrays (c.read_synced.ensures.ran.on.writes h) found
 
 pub returns-in_err-made-clause-opened : goal.returns-in_err-made-clause-opened
 returns-in_err-made-clause-opened g c h x missing arrays ps base same_nvrams same_flushed found has borne =
@@ -48,9 +49,9 @@ returns-in_err-settle-clause-any_moment g c h x missing arrays ps base same_nvra
     let n = g.S.Shelf.shelf c.settle.new.shelf in
     let log = c.in_ok-log.log in
     let made = c.in_ok-made.made in
-    let on = c.read_synced.ensures.continues in
-    let r = was_read a m x missing arrays ps base c.args.nvrams c.args.flushed log made.count c.args.memory made.memory (g.met.S.Shelf.is_shelf c.args.shelf.now) (g.met.S.Shelf.is_shelf c.read_synced.new.shelf) h on (c.read_synced.ensures.writes h)
-    c.read_synced.ensures.drives same_nvrams same_flushed found has c.in_ok-log.ensures.members.0 c.in_ok-log.ensures.counted (c.in_ok-log.ensures.clean h) c.in_ok-log.ensures.flushed c.in_ok-log.ensures.log (c.in_ok-log.ensures.seen h)
+    let on = c.read_synced.ensures.ran.on.continues in
+    let r = was_read a m x missing arrays ps base c.args.nvrams c.args.flushed log made.count c.args.memory made.memory (g.met.S.Shelf.is_shelf c.args.shelf.now) (g.met.S.Shelf.is_shelf c.read_synced.new.shelf) h on (c.read_synced.ensures.ran.on.writes h)
+    (λ i. c.read_synced.ensures.ran.on.others (drive i) (λ none. none)) same_nvrams same_flushed found has c.in_ok-log.ensures.members.0 c.in_ok-log.ensures.counted (c.in_ok-log.ensures.clean h) c.in_ok-log.ensures.flushed c.in_ok-log.ensures.log (c.in_ok-log.ensures.seen h)
     c.in_ok-made.ensures.within c.in_ok-made.ensures.ok in
     while_opening a m n x missing arrays ps base log made.count r c.settle.ensures.ran.on.continues (c.settle.ensures.ran.on.writes (on.honest h)) (c.settle.ensures.any_moment (on.honest h))
 
@@ -61,9 +62,9 @@ returns-in_err-settle-clause-opened g c h x missing arrays ps base same_nvrams s
     let n = g.S.Shelf.shelf c.settle.new.shelf in
     let log = c.in_ok-log.log in
     let made = c.in_ok-made.made in
-    let on = c.read_synced.ensures.continues in
-    let r = was_read a m x missing arrays ps base c.args.nvrams c.args.flushed log made.count c.args.memory made.memory (g.met.S.Shelf.is_shelf c.args.shelf.now) (g.met.S.Shelf.is_shelf c.read_synced.new.shelf) h on (c.read_synced.ensures.writes h)
-    c.read_synced.ensures.drives same_nvrams same_flushed found has c.in_ok-log.ensures.members.0 c.in_ok-log.ensures.counted (c.in_ok-log.ensures.clean h) c.in_ok-log.ensures.flushed c.in_ok-log.ensures.log (c.in_ok-log.ensures.seen h)
+    let on = c.read_synced.ensures.ran.on.continues in
+    let r = was_read a m x missing arrays ps base c.args.nvrams c.args.flushed log made.count c.args.memory made.memory (g.met.S.Shelf.is_shelf c.args.shelf.now) (g.met.S.Shelf.is_shelf c.read_synced.new.shelf) h on (c.read_synced.ensures.ran.on.writes h)
+    (λ i. c.read_synced.ensures.ran.on.others (drive i) (λ none. none)) same_nvrams same_flushed found has c.in_ok-log.ensures.members.0 c.in_ok-log.ensures.counted (c.in_ok-log.ensures.clean h) c.in_ok-log.ensures.flushed c.in_ok-log.ensures.log (c.in_ok-log.ensures.seen h)
     c.in_ok-made.ensures.within c.in_ok-made.ensures.ok in
     absurd (not_lost a m n x missing arrays ps base log made.count r c.settle.ensures.ran.on.continues (c.settle.ensures.ran.on.writes (on.honest h)) (c.settle.ensures.any_moment (on.honest h)) (g.met.S.Shelf.is_shelf c.settle.new.shelf)
     (λ i. c.settle.ensures.ran.on.others (drive i) (λ none. none)) c.settle.new.self.members c.settle.ensures.fewer c.settle.ensures.counted borne c.in_err-settle.ensures.err.1)
@@ -75,9 +76,9 @@ returns-clause-any_moment g c h x missing arrays ps base same_nvrams same_flushe
     let n = g.S.Shelf.shelf c.settle.new.shelf in
     let log = c.in_ok-log.log in
     let made = c.in_ok-made.made in
-    let on = c.read_synced.ensures.continues in
-    let r = was_read a m x missing arrays ps base c.args.nvrams c.args.flushed log made.count c.args.memory made.memory (g.met.S.Shelf.is_shelf c.args.shelf.now) (g.met.S.Shelf.is_shelf c.read_synced.new.shelf) h on (c.read_synced.ensures.writes h)
-    c.read_synced.ensures.drives same_nvrams same_flushed found has c.in_ok-log.ensures.members.0 c.in_ok-log.ensures.counted (c.in_ok-log.ensures.clean h) c.in_ok-log.ensures.flushed c.in_ok-log.ensures.log (c.in_ok-log.ensures.seen h)
+    let on = c.read_synced.ensures.ran.on.continues in
+    let r = was_read a m x missing arrays ps base c.args.nvrams c.args.flushed log made.count c.args.memory made.memory (g.met.S.Shelf.is_shelf c.args.shelf.now) (g.met.S.Shelf.is_shelf c.read_synced.new.shelf) h on (c.read_synced.ensures.ran.on.writes h)
+    (λ i. c.read_synced.ensures.ran.on.others (drive i) (λ none. none)) same_nvrams same_flushed found has c.in_ok-log.ensures.members.0 c.in_ok-log.ensures.counted (c.in_ok-log.ensures.clean h) c.in_ok-log.ensures.flushed c.in_ok-log.ensures.log (c.in_ok-log.ensures.seen h)
     c.in_ok-made.ensures.within c.in_ok-made.ensures.ok in
     while_opening a m n x missing arrays ps base log made.count r c.settle.ensures.ran.on.continues (c.settle.ensures.ran.on.writes (on.honest h)) (c.settle.ensures.any_moment (on.honest h))
 
@@ -88,9 +89,9 @@ returns-clause-opened g c h x missing arrays ps base same_nvrams same_flushed fo
     let n = g.S.Shelf.shelf c.settle.new.shelf in
     let log = c.in_ok-log.log in
     let made = c.in_ok-made.made in
-    let on = c.read_synced.ensures.continues in
-    let r = was_read a m x missing arrays ps base c.args.nvrams c.args.flushed log made.count c.args.memory made.memory (g.met.S.Shelf.is_shelf c.args.shelf.now) (g.met.S.Shelf.is_shelf c.read_synced.new.shelf) h on (c.read_synced.ensures.writes h)
-    c.read_synced.ensures.drives same_nvrams same_flushed found has c.in_ok-log.ensures.members.0 c.in_ok-log.ensures.counted (c.in_ok-log.ensures.clean h) c.in_ok-log.ensures.flushed c.in_ok-log.ensures.log (c.in_ok-log.ensures.seen h)
+    let on = c.read_synced.ensures.ran.on.continues in
+    let r = was_read a m x missing arrays ps base c.args.nvrams c.args.flushed log made.count c.args.memory made.memory (g.met.S.Shelf.is_shelf c.args.shelf.now) (g.met.S.Shelf.is_shelf c.read_synced.new.shelf) h on (c.read_synced.ensures.ran.on.writes h)
+    (λ i. c.read_synced.ensures.ran.on.others (drive i) (λ none. none)) same_nvrams same_flushed found has c.in_ok-log.ensures.members.0 c.in_ok-log.ensures.counted (c.in_ok-log.ensures.clean h) c.in_ok-log.ensures.flushed c.in_ok-log.ensures.log (c.in_ok-log.ensures.seen h)
     c.in_ok-made.ensures.within c.in_ok-made.ensures.ok in
     let writes = c.settle.ensures.ran.on.writes (on.honest h) in
     let moments = c.settle.ensures.any_moment (on.honest h) in
@@ -101,27 +102,23 @@ returns-clause-opened g c h x missing arrays ps base same_nvrams same_flushed fo
     (c.in_ok-settle.ensures.keeps r.read.commands r.read.keeps)
     (c.in_ok-settle.ensures.holds (on.honest h) r.read.commands r.read.keeps r.seen (agree a m n x missing arrays ps base log made.count r bears))
 
-pub returns-in_err-settle-clause-continues : goal.returns-in_err-settle-clause-continues
-returns-in_err-settle-clause-continues g c = continues_trans c.read_synced.ensures.continues c.settle.ensures.ran.on.continues
+pub returns-in_err-log-clause-ran : goal.returns-in_err-log-clause-ran
+returns-in_err-log-clause-ran g c = ran_more (λ d is. is) (nothing_on c.args.nvrams) c.read_synced.ensures.ran
 
-pub returns-clause-continues : goal.returns-clause-continues
-returns-clause-continues g c = continues_trans c.read_synced.ensures.continues c.settle.ensures.ran.on.continues
+pub returns-in_err-made-clause-ran : goal.returns-in_err-made-clause-ran
+returns-in_err-made-clause-ran g c = ran_more (λ d is. is) (nothing_on c.args.nvrams) c.read_synced.ensures.ran
 
-pub returns-in_err-log-clause-writes : goal.returns-in_err-log-clause-writes
-returns-in_err-log-clause-writes g c h = reads_only c.args.nvrams (c.read_synced.ensures.writes h)
+pub returns-in_err-settle-clause-ran : goal.returns-in_err-settle-clause-ran
+returns-in_err-settle-clause-ran g c =
+    let members = c.in_ok-log.log.members in
+    ran_then g.met.S.Shelf.shelf_rest_stays (ran_more (λ d is. is) (nothing_on c.args.nvrams) c.read_synced.ensures.ran)
+    (ran_more (nvram_of members) (fewer_on c.args.nvrams members c.in_ok-log.ensures.members.0) c.settle.ensures.ran)
 
-pub returns-in_err-made-clause-writes : goal.returns-in_err-made-clause-writes
-returns-in_err-made-clause-writes g c h = reads_only c.args.nvrams (c.read_synced.ensures.writes h)
-
-pub returns-in_err-settle-clause-writes : goal.returns-in_err-settle-clause-writes
-returns-in_err-settle-clause-writes g c h =
-    let on = c.read_synced.ensures.continues in
-    settles_only c.args.nvrams c.in_ok-log.log.members c.in_ok-log.ensures.members.0 on (c.read_synced.ensures.writes h) (c.settle.ensures.ran.on.writes (on.honest h))
-
-pub returns-clause-writes : goal.returns-clause-writes
-returns-clause-writes g c h =
-    let on = c.read_synced.ensures.continues in
-    settles_only c.args.nvrams c.in_ok-log.log.members c.in_ok-log.ensures.members.0 on (c.read_synced.ensures.writes h) (c.settle.ensures.ran.on.writes (on.honest h))
+pub returns-clause-ran : goal.returns-clause-ran
+returns-clause-ran g c =
+    let members = c.in_ok-log.log.members in
+    ran_then g.met.S.Shelf.shelf_rest_stays (ran_more (λ d is. is) (nothing_on c.args.nvrams) c.read_synced.ensures.ran)
+    (ran_more (nvram_of members) (fewer_on c.args.nvrams members c.in_ok-log.ensures.members.0) c.settle.ensures.ran)
 
 pub returns-in_err-log-clause-err : goal.returns-in_err-log-clause-err
 returns-in_err-log-clause-err g c =
@@ -143,23 +140,7 @@ returns-in_err-settle-clause-err g c =
     let m = g.S.Shelf.shelf c.read_synced.new.shelf in
     let n = g.S.Shelf.shelf c.settle.new.shelf in
     if_err c.from_residual-in_err-settle.result _ _ c.from_residual-in_err-settle.ensures.1 (λ f is. subst (λ (k : LogFault). IsLogFault k a n c.args.nvrams c.args.flushed) (sym is)
-    (both_lost a m n c.args.nvrams c.in_ok-log.log.members c.settle.new.self.members c.read_synced.ensures.continues c.settle.ensures.ran.on.continues c.in_ok-log.ensures.counted c.settle.ensures.counted c.in_err-settle.ensures.err.1))
-
-pub returns-in_err-log-clause-moments : goal.returns-in_err-log-clause-moments
-returns-in_err-log-clause-moments g c h = showed.counted_reading (c.read_synced.ensures.writes h)
-
-pub returns-in_err-made-clause-moments : goal.returns-in_err-made-clause-moments
-returns-in_err-made-clause-moments g c h = showed.counted_reading (c.read_synced.ensures.writes h)
-
-pub returns-in_err-settle-clause-moments : goal.returns-in_err-settle-clause-moments
-returns-in_err-settle-clause-moments g c h =
-    let on = c.read_synced.ensures.continues in
-    showed.counted_settling on (c.read_synced.ensures.writes h) (c.settle.ensures.ran.on.writes (on.honest h))
-
-pub returns-clause-moments : goal.returns-clause-moments
-returns-clause-moments g c h =
-    let on = c.read_synced.ensures.continues in
-    showed.counted_settling on (c.read_synced.ensures.writes h) (c.settle.ensures.ran.on.writes (on.honest h))
+    (both_lost a m n c.args.nvrams c.in_ok-log.log.members c.settle.new.self.members c.read_synced.ensures.ran.on.continues c.settle.ensures.ran.on.continues c.in_ok-log.ensures.counted c.settle.ensures.counted c.in_err-settle.ensures.err.1))
 
 pub returns-in_err-log-clause-replayed : goal.returns-in_err-log-clause-replayed
 returns-in_err-log-clause-replayed g c h =
@@ -177,7 +158,7 @@ returns-in_err-made-clause-replayed g c h =
     let log = c.in_ok-log.log in
     let p = err_from_is_err_and c.from_residual-in_err-made.result c.from_residual-in_err-made.ensures.1 in
     let fault : IsReplayedBy a m c.args.nvrams c.args.flushed c.args.memory (Err p.0) = subst (λ (f : LogFault). IsReplayedBy a m c.args.nvrams c.args.flushed c.args.memory (Err f)) (sym p.2)
-    (showed.not_replayed a m m c.args.nvrams c.args.flushed h c.read_synced.ensures.continues (c.read_synced.ensures.writes h) log c.in_ok-log.ensures.flushed c.in_ok-log.ensures.members.0 c.in_ok-log.ensures.counted c.in_ok-log.ensures.log
+    (showed.not_replayed a m m c.args.nvrams c.args.flushed h c.read_synced.ensures.ran.on.continues (c.read_synced.ensures.ran.on.writes h) log c.in_ok-log.ensures.flushed c.in_ok-log.ensures.members.0 c.in_ok-log.ensures.counted c.in_ok-log.ensures.log
     c.args.memory c.in_err-made.field-0.0 c.in_err-made.ensures.err) in
     subst (λ r. IsReplayedBy a m c.args.nvrams c.args.flushed c.args.memory r) (sym p.1) fault
 
@@ -197,7 +178,7 @@ returns-clause-replayed g c h =
     let log = c.in_ok-log.log in
     let made = c.in_ok-made.made in
     let read = c.in_ok-log.ensures.log in
-    showed.replayed_from a m n c.args.nvrams c.args.flushed h c.read_synced.ensures.continues (c.read_synced.ensures.writes h) log c.in_ok-log.ensures.flushed c.in_ok-log.ensures.members.0 c.in_ok-log.ensures.counted read
+    showed.replayed_from a m n c.args.nvrams c.args.flushed h c.read_synced.ensures.ran.on.continues (c.read_synced.ensures.ran.on.writes h) log c.in_ok-log.ensures.flushed c.in_ok-log.ensures.members.0 c.in_ok-log.ensures.counted read
     made.count c.args.memory made.memory c.in_ok-made.ensures.within c.in_ok-made.ensures.ok (record { log = c.settle.new.self; memory = made.memory }) c.settle.ensures.ran.on.continues c.settle.ensures.fewer c.settle.ensures.counted
     (c.in_ok-settle.ensures.keeps read.commands read.keeps)
 
@@ -209,14 +190,14 @@ returns-in_err-made-clause-clean g c h missing clean = showed.clean_read (g.S.Sh
 
 pub returns-in_err-settle-clause-clean : goal.returns-in_err-settle-clause-clean
 returns-in_err-settle-clause-clean g c h missing clean =
-    let on = c.read_synced.ensures.continues in
+    let on = c.read_synced.ensures.ran.on.continues in
     let two : length c.args.nvrams ≡ 2 = search rules in
     showed.clean_settled (g.S.Shelf.shelf c.args.shelf.now) (g.S.Shelf.shelf c.read_synced.new.shelf) (g.S.Shelf.shelf c.settle.new.shelf) missing c.args.nvrams c.in_ok-log.log.members c.settle.new.self.members on clean
     (c.read_synced.ensures.still_clean h) two c.in_ok-log.ensures.members.0 c.settle.ensures.counted (λ i. c.settle.ensures.ran.on.others (drive i) (λ none. none)) (λ k out. c.settle.ensures.ran.on.others (nvram k) out) (c.settle.ensures.clean (on.honest h))
 
 pub returns-clause-clean : goal.returns-clause-clean
 returns-clause-clean g c h missing clean =
-    let on = c.read_synced.ensures.continues in
+    let on = c.read_synced.ensures.ran.on.continues in
     let two : length c.args.nvrams ≡ 2 = search rules in
     showed.clean_settled (g.S.Shelf.shelf c.args.shelf.now) (g.S.Shelf.shelf c.read_synced.new.shelf) (g.S.Shelf.shelf c.settle.new.shelf) missing c.args.nvrams c.in_ok-log.log.members c.settle.new.self.members on clean
     (c.read_synced.ensures.still_clean h) two c.in_ok-log.ensures.members.0 c.settle.ensures.counted (λ i. c.settle.ensures.ran.on.others (drive i) (λ none. none)) (λ k out. c.settle.ensures.ran.on.others (nvram k) out) (c.settle.ensures.clean (on.honest h))
@@ -231,9 +212,3 @@ returns-clause-done g c =
     let read = c.in_ok-log.ensures.log in
     showed.has_replayed c.args.memory made.memory c.in_ok-log.log made.count read.commands (record { log = c.settle.new.self; memory = made.memory }) (c.in_ok-made.ensures.ok read.commands read.keeps) (λ i. made.memory) c.in_ok-made.ensures.layered
     (c.in_ok-settle.ensures.keeps read.commands read.keeps) c.in_ok-settle.ensures.ok.0
-
-pub returns-in_err-settle-clause-rest : goal.returns-in_err-settle-clause-rest
-returns-in_err-settle-clause-rest g c = g.met.S.Shelf.shelf_rest_stays.transitive _ _ _ c.read_synced.ensures.rest c.settle.ensures.ran.rest
-
-pub returns-clause-rest : goal.returns-clause-rest
-returns-clause-rest g c = g.met.S.Shelf.shelf_rest_stays.transitive _ _ _ c.read_synced.ensures.rest c.settle.ensures.ran.rest

@@ -2,8 +2,13 @@ use Rattle.std.proofs.Common.{◌∙◌}
 use Rattle.nvram_log.specs.declared.log.NvLog.{NvLog}
 use Rattle.nvram_log.specs.Held.{shown_by}
 use Rattle.nvram_log.specs.Read.{IsReadFrom}
+use Rattle.world.proofs.Ran.{ran_then, ran_more}
+use Rattle.takeover.proofs.Running.{nvram_of}
 use Rattle.takeover.proofs.Answered.{ok_more, read_more}
 use Rattle.takeover.proofs.log.read_synced.Goals as goal
+
+pub returns-clause-ran : goal.returns-clause-ran
+returns-clause-ran g c = ran_then g.met.S.Shelf.shelf_rest_stays (ran_more (nvram_of c.args.nvrams) (λ d i w. w) c.sync_members.ensures.ran) c.read.ensures.ran
 
 pub returns-clause-log : goal.returns-clause-log
 returns-clause-log g c =

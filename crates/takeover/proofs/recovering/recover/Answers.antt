@@ -16,14 +16,16 @@ use Rattle.nvram_log.specs.Members.{IsFewer, IsSome}
 use Rattle.world.specs.Losing.{geometry_of}
 use Rattle.world.specs.Shelf.{Disk, LeavesOnly}
 use Rattle.world.proofs.Moments.{continues_trans}
+use Rattle.world.proofs.Ran.{ran_then, ran_more, runs_moments}
 use Rattle.boot_region.specs.Loading.{IsLawfulLoad}
 use Rattle.boot_region.specs.Members.{IsMember}
 use Rattle.boot_region.specs.Slots.{slot_in}
 use Rattle.register.specs.declared.state.Register.{Register}
 use Rattle.register.specs.declared.next.StoreFault.{StoreFault}
 use Rattle.register.specs.Faults.{IsFaultOf}
-use Rattle.register.specs.Registers.{IsLaterRecord, IsRegisterOf}
+use Rattle.register.specs.Registers.{IsLaterRecord, IsRegisterOf, drives_of}
 use Rattle.register.specs.Standing.{GivesOldOrNext, IsOpen, MayStore, StandsBack, StandsInLog, StillGiven}
+use Rattle.register.proofs.Moments.{stands_at, gives_at, back_at}
 use Rattle.session_spec.specs.Entering.{Enters, StandsStill, failed_since}
 use Rattle.takeover.specs.declared.faults.OpenFault.{OpenFault}
 use Rattle.takeover.specs.declared.faults.OpenFault.TheVariants as open_fault
@@ -45,8 +47,30 @@ use Rattle.takeover.proofs.Loading.{same_geometry}
 use Rattle.takeover.proofs.Moments.{log_opened, recovered}
 use Rattle.takeover.proofs.Opening as opening
 use Rattle.takeover.proofs.RecoveredLemmas.{content, in_log}
+use Rattle.takeover.proofs.Running.{gates_off, log_off, nvrams_still, slots_off}
 use Rattle.takeover.proofs.Stops.{unstored}
 use Rattle.takeover.proofs.recovering.recover.Goals as goal
+
+pub returns-in_err-found-clause-ran : goal.returns-in_err-found-clause-ran
+returns-in_err-found-clause-ran g c = ran_more (λ d is. tt) gates_off c.find_array.ensures.ran
+
+pub returns-in_err-register-clause-ran : goal.returns-in_err-register-clause-ran
+returns-in_err-register-clause-ran g c = ran_more (λ d is. tt) gates_off c.find_array.ensures.ran
+
+pub returns-in_err-opened-clause-ran : goal.returns-in_err-opened-clause-ran
+returns-in_err-opened-clause-ran g c = ran_then g.met.S.Shelf.shelf_rest_stays (ran_more (λ d is. tt) gates_off c.find_array.ensures.ran) (ran_more (λ d is. tt) (log_off c.in_ok-found.found.loaded.record.members.nvrams) c.open_log.ensures.ran)
+
+pub returns-in_err-store-clause-ran : goal.returns-in_err-store-clause-ran
+returns-in_err-store-clause-ran g c =
+    let stays = g.met.S.Shelf.shelf_rest_stays in
+    ran_then stays (ran_then stays (ran_more (λ d is. tt) gates_off c.find_array.ensures.ran) (ran_more (λ d is. tt) (log_off c.in_ok-found.found.loaded.record.members.nvrams) c.open_log.ensures.ran))
+    (ran_more (λ d is. tt) (slots_off (drives_of c.in_ok-register.register)) c.store.ensures.ran)
+
+pub returns-clause-ran : goal.returns-clause-ran
+returns-clause-ran g c =
+    let stays = g.met.S.Shelf.shelf_rest_stays in
+    ran_then stays (ran_then stays (ran_more (λ d is. tt) gates_off c.find_array.ensures.ran) (ran_more (λ d is. tt) (log_off c.in_ok-found.found.loaded.record.members.nvrams) c.open_log.ensures.ran))
+    (ran_more (λ d is. tt) (slots_off (drives_of c.in_ok-register.register)) c.store.ensures.ran)
 
 pub returns-in_err-found-clause-opened : goal.returns-in_err-found-clause-opened
 returns-in_err-found-clause-opened g c h =
@@ -77,7 +101,7 @@ returns-in_err-opened-clause-opened g c h =
     let f = c.in_ok-found.found in
     let x = f.loaded in
     let ps : List (List AnyFact) = patches f.memory.memory.tables in
-    let h_b = c.find_array.ensures.continues.honest h in
+    let h_b = c.find_array.ensures.ran.on.continues.honest h in
     let p = err_from_is_err_and c.from_residual-in_err-opened.result c.from_residual-in_err-opened.ensures.1 in
     let fault = c.in_err-opened.field-0.0 in
     let e : OpenFault = fault_of_log fault in
@@ -96,42 +120,13 @@ returns-in_err-opened-clause-opened g c h =
     c.open_log.ensures.any_moment h_b x (failed_since a b missing) arrays ps there.1 refl refl there.0 there.2 in
     let each : (missing : Conditions) (arrays : List Array) → Enters a missing arrays → LeavesOnly a n (StandsStill a None missing arrays) =
     λ missing arrays enters.
-    unstored a b missing arrays c.find_array.ensures.continues (g.met.S.Shelf.is_shelf c.find_array.new.shelf) h_b (c.find_array.ensures.any_moment h missing arrays enters) n (c.open_log.ensures.moments h_b)
+    unstored a b missing arrays c.find_array.ensures.ran.on.continues (g.met.S.Shelf.is_shelf c.find_array.new.shelf) h_b (c.find_array.ensures.any_moment h missing arrays enters) n (runs_moments c.open_log.ensures.ran.on h_b)
     (next missing arrays enters) in
     let is : IsShut a n e =
-    opening.shut a n (g.met.S.Shelf.is_shelf c.args.shelf.now) h e (opening.unread a b x c.find_array.ensures.continues seen.seen lawful (c.find_array.ensures.nvrams h) n c.open_log.ensures.continues f.memory fault err replayed) each
-    (λ missing arrays enters. opening.clean_on a b n missing c.find_array.ensures.continues c.open_log.ensures.continues (c.open_log.ensures.clean h_b (failed_since a b missing) (c.find_array.ensures.clean h missing arrays enters))) in
+    opening.shut a n (g.met.S.Shelf.is_shelf c.args.shelf.now) h e (opening.unread a b x c.find_array.ensures.ran.on.continues seen.seen lawful (nvrams_still c.find_array.ensures.ran.on) n c.open_log.ensures.ran.on.continues f.memory fault err replayed) each
+    (λ missing arrays enters. opening.clean_on a b n missing c.find_array.ensures.ran.on.continues c.open_log.ensures.ran.on.continues (c.open_log.ensures.clean h_b (failed_since a b missing) (c.find_array.ensures.clean h missing arrays enters))) in
     let named : IsShut a n p.0 = subst (λ (k : OpenFault). IsShut a n k) (sym p.2) is in
     subst (λ r. IsOpenedBy a n r) (sym p.1) named
-
-pub returns-in_err-opened-clause-continues : goal.returns-in_err-opened-clause-continues
-returns-in_err-opened-clause-continues g c = continues_trans c.find_array.ensures.continues c.open_log.ensures.continues
-
-pub returns-in_err-store-clause-continues : goal.returns-in_err-store-clause-continues
-returns-in_err-store-clause-continues g c = continues_trans (continues_trans c.find_array.ensures.continues c.open_log.ensures.continues) c.store.ensures.continues
-
-pub returns-in_err-store-clause-rest : goal.returns-in_err-store-clause-rest
-returns-in_err-store-clause-rest g c = g.met.S.Shelf.shelf_rest_stays.transitive _ _ _ (g.met.S.Shelf.shelf_rest_stays.transitive _ _ _ c.find_array.ensures.rest c.open_log.ensures.rest) c.store.ensures.rest
-
-pub returns-in_err-store-clause-moments : goal.returns-in_err-store-clause-moments
-returns-in_err-store-clause-moments g c h =
-    let h_b = c.find_array.ensures.continues.honest h in
-    let h_n = c.open_log.ensures.continues.honest h_b in
-    opening.counted_on (continues_trans c.find_array.ensures.continues c.open_log.ensures.continues)
-    (opening.counted_on c.find_array.ensures.continues (c.find_array.ensures.moments h) (c.open_log.ensures.moments h_b)) (opening.counted_by_writes (c.store.ensures.writes h_n))
-
-pub returns-clause-continues : goal.returns-clause-continues
-returns-clause-continues g c = continues_trans (continues_trans c.find_array.ensures.continues c.open_log.ensures.continues) c.store.ensures.continues
-
-pub returns-clause-rest : goal.returns-clause-rest
-returns-clause-rest g c = g.met.S.Shelf.shelf_rest_stays.transitive _ _ _ (g.met.S.Shelf.shelf_rest_stays.transitive _ _ _ c.find_array.ensures.rest c.open_log.ensures.rest) c.store.ensures.rest
-
-pub returns-clause-moments : goal.returns-clause-moments
-returns-clause-moments g c h =
-    let h_b = c.find_array.ensures.continues.honest h in
-    let h_n = c.open_log.ensures.continues.honest h_b in
-    opening.counted_on (continues_trans c.find_array.ensures.continues c.open_log.ensures.continues)
-    (opening.counted_on c.find_array.ensures.continues (c.find_array.ensures.moments h) (c.open_log.ensures.moments h_b)) (opening.counted_by_writes (c.store.ensures.writes h_n))
 
 pub returns-in_err-store-clause-opened : goal.returns-in_err-store-clause-opened
 returns-in_err-store-clause-opened g c h =
@@ -148,9 +143,9 @@ returns-in_err-store-clause-opened g c h =
     let is_a = g.met.S.Shelf.is_shelf c.args.shelf.now in
     let is_b = g.met.S.Shelf.is_shelf c.find_array.new.shelf in
     let is_n = g.met.S.Shelf.is_shelf c.open_log.new.shelf in
-    let on = c.find_array.ensures.continues in
-    let after = c.open_log.ensures.continues in
-    let last = c.store.ensures.continues in
+    let on = c.find_array.ensures.ran.on.continues in
+    let after = c.open_log.ensures.ran.on.continues in
+    let last = c.store.ensures.ran.on.continues in
     let h_b = on.honest h in
     let h_n = after.honest h_b in
     let seen : AreTablesSeen a b f = subst (λ (r : Result FoundArray OpenFault). AreTablesSeenBy a b r) c.in_ok-found.was (c.find_array.ensures.seen h) in
@@ -163,7 +158,7 @@ returns-in_err-store-clause-opened g c h =
       named = λ i m. subst (λ (r : BootRecord). IsMember r.members.drives i) (sym made.0) (lawful.named i (subst (λ (l : List _). IsMember l i) made.1 m));
     } in
     let shown : (i : ℕ) → IsMember x.drives i → shown_by (slot_in x.slot) (n.disk (drive i)).bytes ≡ Some (spelling x.record) =
-    λ i m. ap (λ (k : Disk). shown_by (slot_in x.slot) k.bytes) (c.open_log.ensures.drives i)
+    λ i m. ap (λ (k : Disk). shown_by (slot_in x.slot) k.bytes) (c.open_log.ensures.ran.on.others (drive i) (λ none. none))
     ∙ (subst (λ (r : Result FoundArray OpenFault). IfOk r (λ y. (j : ℕ) → IsMember y.loaded.drives j → shown_by (slot_in y.loaded.slot) (b.disk (drive j)).bytes ≡ Some (spelling y.loaded.record))) c.in_ok-found.was (c.find_array.ensures.shown h)) i m in
     let found_then : (missing : Conditions) (arrays : List Array) → Enters a missing arrays → IsBearable (geometry_of a) (failed_since a b missing)
     → IsFoundOn b x (failed_since a b missing) arrays × (base : Array) × HasTables b x f.memory ps base =
@@ -179,20 +174,20 @@ returns-in_err-store-clause-opened g c h =
     let there = log_opened a b n missing arrays x f.memory ps on after (found_then missing arrays enters) c.open_log.result
     (λ base is has bears_then. c.open_log.ensures.opened h_b x (failed_since a b missing) arrays ps base refl refl is has bears_then) bears in
     (there.0, there.1, subst (λ (r : Result OpenedLog LogFault). IsLogOpenBy n x (failed_since a n missing) arrays ps there.0 r) c.in_ok-opened.was there.2) in
-    let each : (missing : Conditions) (arrays : List Array) → Enters a missing arrays → LeavesOnly a s (StandsStill a (Some (opening.found a b x on seen.seen lawful (c.find_array.ensures.nvrams h) n after s f.memory o was now last is_a is_b is_n h replayed is_of made.0 made.1 c.store.ensures.dropped c.store.ensures.later c.store.ensures.few shown)) missing arrays) =
+    let each : (missing : Conditions) (arrays : List Array) → Enters a missing arrays → LeavesOnly a s (StandsStill a (Some (opening.found a b x on seen.seen lawful (nvrams_still c.find_array.ensures.ran.on) n after s f.memory o was now last is_a is_b is_n h replayed is_of made.0 made.1 c.store.ensures.dropped c.store.ensures.later c.store.ensures.few shown)) missing arrays) =
     λ missing arrays enters.
-    opening.each_moment a b x on seen.seen lawful (c.find_array.ensures.nvrams h) n after s f.memory o was now last is_a is_b is_n h replayed is_of made.0 made.1 c.store.ensures.dropped c.store.ensures.later c.store.ensures.few shown
-    missing arrays (c.find_array.ensures.any_moment h missing arrays enters) (seen.seen.given missing arrays enters) ps (opens missing arrays enters) (c.open_log.ensures.moments h_b)
-    (next missing arrays enters) c.open_log.ensures.drives (c.open_log.ensures.writes h_b) (c.store.ensures.writes h_n)
-    (λ room held may. c.store.ensures.any_moment h_n room (failed_since a n missing) held arrays (subst (λ (l : List Bool). MayStore n was l (failed_since a n missing) held arrays) (sym c.members.ensures) may))
+    opening.each_moment a b x on seen.seen lawful (nvrams_still c.find_array.ensures.ran.on) n after s f.memory o was now last is_a is_b is_n h replayed is_of made.0 made.1 c.store.ensures.dropped c.store.ensures.later c.store.ensures.few shown
+    missing arrays (c.find_array.ensures.any_moment h missing arrays enters) (seen.seen.given missing arrays enters) ps (opens missing arrays enters) (runs_moments c.open_log.ensures.ran.on h_b)
+    (next missing arrays enters) (λ i. c.open_log.ensures.ran.on.others (drive i) (λ none. none)) (c.open_log.ensures.ran.on.writes h_b) (c.store.ensures.ran.on.writes h_n)
+    (λ room held may. stands_at (c.store.ensures.moments h_n room) (failed_since a n missing) held arrays (subst (λ (l : List Bool). MayStore n was l (failed_since a n missing) held arrays) (sym c.members.ensures) may))
     (λ room held may. subst (λ (l : List Bool). LeavesOnly n s (GivesOldOrNext n was l (failed_since a n missing))) c.members.ensures
-    (c.store.ensures.gives h_n room (failed_since a n missing) held arrays (subst (λ (l : List Bool). MayStore n was l (failed_since a n missing) held arrays) (sym c.members.ensures) may)))
+    (gives_at (c.store.ensures.moments h_n room) (failed_since a n missing) held arrays (subst (λ (l : List Bool). MayStore n was l (failed_since a n missing) held arrays) (sym c.members.ensures) may)))
     (λ room held logged own. subst (λ (l : List Bool). LeavesOnly n s (λ stop. StillGiven n was l held stop ⊎ StandsBack n was l held stop)) c.members.ensures
-    (c.store.ensures.back h_n room held (subst (λ (l : List Bool). StandsInLog n was l held) (sym c.members.ensures) logged) own)) in
+    (back_at (c.store.ensures.moments h_n room) held (subst (λ (l : List Bool). StandsInLog n was l held) (sym c.members.ensures) logged) own)) in
     let p = err_from_is_err_and c.from_residual-in_err-store.result c.from_residual-in_err-store.ensures.1 in
     let e = c.in_err-store.field-0.0 in
     let fault : IsFaultOf now e = subst (λ (r : Result (Unit {0}) StoreFault). IfErr r (λ k. IsFaultOf now k)) c.in_err-store.was c.store.ensures.fault in
-    let is : IsShut a s (fault_of_store e) = opening.unstored a b x on seen.seen lawful (c.find_array.ensures.nvrams h) n after s f.memory o was now last is_a is_b is_n h replayed is_of made.0 made.1 c.store.ensures.dropped c.store.ensures.later c.store.ensures.few shown each e fault in
+    let is : IsShut a s (fault_of_store e) = opening.unstored a b x on seen.seen lawful (nvrams_still c.find_array.ensures.ran.on) n after s f.memory o was now last is_a is_b is_n h replayed is_of made.0 made.1 c.store.ensures.dropped c.store.ensures.later c.store.ensures.few shown each e fault in
     let named : IsShut a s p.0 = subst (λ (k : OpenFault). IsShut a s k) (sym p.2) is in
     subst (λ r. IsOpenedBy a s r) (sym p.1) named
 
@@ -211,9 +206,9 @@ returns-clause-opened g c h =
     let is_a = g.met.S.Shelf.is_shelf c.args.shelf.now in
     let is_b = g.met.S.Shelf.is_shelf c.find_array.new.shelf in
     let is_n = g.met.S.Shelf.is_shelf c.open_log.new.shelf in
-    let on = c.find_array.ensures.continues in
-    let after = c.open_log.ensures.continues in
-    let last = c.store.ensures.continues in
+    let on = c.find_array.ensures.ran.on.continues in
+    let after = c.open_log.ensures.ran.on.continues in
+    let last = c.store.ensures.ran.on.continues in
     let h_b = on.honest h in
     let h_n = after.honest h_b in
     let seen : AreTablesSeen a b f = subst (λ (r : Result FoundArray OpenFault). AreTablesSeenBy a b r) c.in_ok-found.was (c.find_array.ensures.seen h) in
@@ -226,7 +221,7 @@ returns-clause-opened g c h =
       named = λ i m. subst (λ (r : BootRecord). IsMember r.members.drives i) (sym made.0) (lawful.named i (subst (λ (l : List _). IsMember l i) made.1 m));
     } in
     let shown : (i : ℕ) → IsMember x.drives i → shown_by (slot_in x.slot) (n.disk (drive i)).bytes ≡ Some (spelling x.record) =
-    λ i m. ap (λ (k : Disk). shown_by (slot_in x.slot) k.bytes) (c.open_log.ensures.drives i)
+    λ i m. ap (λ (k : Disk). shown_by (slot_in x.slot) k.bytes) (c.open_log.ensures.ran.on.others (drive i) (λ none. none))
     ∙ (subst (λ (r : Result FoundArray OpenFault). IfOk r (λ y. (j : ℕ) → IsMember y.loaded.drives j → shown_by (slot_in y.loaded.slot) (b.disk (drive j)).bytes ≡ Some (spelling y.loaded.record))) c.in_ok-found.was (c.find_array.ensures.shown h)) i m in
     let found_then : (missing : Conditions) (arrays : List Array) → Enters a missing arrays → IsBearable (geometry_of a) (failed_since a b missing)
     → IsFoundOn b x (failed_since a b missing) arrays × (base : Array) × HasTables b x f.memory ps base =
@@ -242,16 +237,16 @@ returns-clause-opened g c h =
     let there = log_opened a b n missing arrays x f.memory ps on after (found_then missing arrays enters) c.open_log.result
     (λ base is has bears_then. c.open_log.ensures.opened h_b x (failed_since a b missing) arrays ps base refl refl is has bears_then) bears in
     (there.0, there.1, subst (λ (r : Result OpenedLog LogFault). IsLogOpenBy n x (failed_since a n missing) arrays ps there.0 r) c.in_ok-opened.was there.2) in
-    let each : (missing : Conditions) (arrays : List Array) → Enters a missing arrays → LeavesOnly a s (StandsStill a (Some (opening.found a b x on seen.seen lawful (c.find_array.ensures.nvrams h) n after s f.memory o was now last is_a is_b is_n h replayed is_of made.0 made.1 c.store.ensures.dropped c.store.ensures.later c.store.ensures.few shown)) missing arrays) =
+    let each : (missing : Conditions) (arrays : List Array) → Enters a missing arrays → LeavesOnly a s (StandsStill a (Some (opening.found a b x on seen.seen lawful (nvrams_still c.find_array.ensures.ran.on) n after s f.memory o was now last is_a is_b is_n h replayed is_of made.0 made.1 c.store.ensures.dropped c.store.ensures.later c.store.ensures.few shown)) missing arrays) =
     λ missing arrays enters.
-    opening.each_moment a b x on seen.seen lawful (c.find_array.ensures.nvrams h) n after s f.memory o was now last is_a is_b is_n h replayed is_of made.0 made.1 c.store.ensures.dropped c.store.ensures.later c.store.ensures.few shown
-    missing arrays (c.find_array.ensures.any_moment h missing arrays enters) (seen.seen.given missing arrays enters) ps (opens missing arrays enters) (c.open_log.ensures.moments h_b)
-    (next missing arrays enters) c.open_log.ensures.drives (c.open_log.ensures.writes h_b) (c.store.ensures.writes h_n)
-    (λ room held may. c.store.ensures.any_moment h_n room (failed_since a n missing) held arrays (subst (λ (l : List Bool). MayStore n was l (failed_since a n missing) held arrays) (sym c.members.ensures) may))
+    opening.each_moment a b x on seen.seen lawful (nvrams_still c.find_array.ensures.ran.on) n after s f.memory o was now last is_a is_b is_n h replayed is_of made.0 made.1 c.store.ensures.dropped c.store.ensures.later c.store.ensures.few shown
+    missing arrays (c.find_array.ensures.any_moment h missing arrays enters) (seen.seen.given missing arrays enters) ps (opens missing arrays enters) (runs_moments c.open_log.ensures.ran.on h_b)
+    (next missing arrays enters) (λ i. c.open_log.ensures.ran.on.others (drive i) (λ none. none)) (c.open_log.ensures.ran.on.writes h_b) (c.store.ensures.ran.on.writes h_n)
+    (λ room held may. stands_at (c.store.ensures.moments h_n room) (failed_since a n missing) held arrays (subst (λ (l : List Bool). MayStore n was l (failed_since a n missing) held arrays) (sym c.members.ensures) may))
     (λ room held may. subst (λ (l : List Bool). LeavesOnly n s (GivesOldOrNext n was l (failed_since a n missing))) c.members.ensures
-    (c.store.ensures.gives h_n room (failed_since a n missing) held arrays (subst (λ (l : List Bool). MayStore n was l (failed_since a n missing) held arrays) (sym c.members.ensures) may)))
+    (gives_at (c.store.ensures.moments h_n room) (failed_since a n missing) held arrays (subst (λ (l : List Bool). MayStore n was l (failed_since a n missing) held arrays) (sym c.members.ensures) may)))
     (λ room held logged own. subst (λ (l : List Bool). LeavesOnly n s (λ stop. StillGiven n was l held stop ⊎ StandsBack n was l held stop)) c.members.ensures
-    (c.store.ensures.back h_n room held (subst (λ (l : List Bool). StandsInLog n was l held) (sym c.members.ensures) logged) own)) in
+    (back_at (c.store.ensures.moments h_n room) held (subst (λ (l : List Bool). StandsInLog n was l held) (sym c.members.ensures) logged) own)) in
     let is_s = g.met.S.Shelf.is_shelf c.store.new.shelf in
     let h_s = last.honest h_n in
     let memory : IsMemoryOf (geometry_of b) x.record f.memory = subst (λ (r : Result FoundArray OpenFault). IfOk r (λ y. IsMemoryOf (geometry_of b) y.loaded.record y.memory)) c.in_ok-found.was c.find_array.ensures.memory in
@@ -263,7 +258,7 @@ returns-clause-opened g c h =
     subst (λ (r : Result (Unit {0}) StoreFault). OnOk r ((now.record.members.drives ≡ now.drives) × (now.record.members.nvrams ≡ c.members.result))) c.in_ok-store.was c.store.ensures.members in
     let enough : now.record.slots ≤ set_count now.drives + 2 = subst (λ (r : Result (Unit {0}) StoreFault). OnOk r (now.record.slots ≤ set_count now.drives + 2)) c.in_ok-store.was c.store.ensures.enough in
     let later : IsLaterRecord x.record now.record = subst (λ (r : BootRecord). IsLaterRecord r now.record) made.0 c.store.ensures.later in
-    let found = opening.found a b x on seen.seen lawful (c.find_array.ensures.nvrams h) n after s f.memory o was now last is_a is_b is_n h replayed is_of made.0 made.1 c.store.ensures.dropped c.store.ensures.later c.store.ensures.few shown in
+    let found = opening.found a b x on seen.seen lawful (nvrams_still c.find_array.ensures.ran.on) n after s f.memory o was now last is_a is_b is_n h replayed is_of made.0 made.1 c.store.ensures.dropped c.store.ensures.later c.store.ensures.few shown in
     let is_recovered : (missing : Conditions) (arrays : List Array) → Enters a missing arrays → IsBearable (geometry_of a) (failed_since a s missing)
     → IsRecovered a s found (array_with o now) done.log (failed_since a s missing) arrays =
     λ missing arrays enters bears.
@@ -273,7 +268,7 @@ returns-clause-opened g c h =
     let is = there.2 in
     let logged : StandsInLog n was c.members.result (content ps base is.commands) =
     subst (λ (l : List Bool). StandsInLog n was l (content ps base is.commands)) (sym c.members.ensures) (in_log n x (failed_since a n missing) arrays ps base o was is is_of made.0 made.1) in
-    let room = opening.enough_room a b x on seen.seen lawful (c.find_array.ensures.nvrams h) n after s f.memory o was now last is_a is_b is_n h replayed is_of made.0 made.1 c.store.ensures.dropped c.store.ensures.later c.store.ensures.few shown is.found.room in
+    let room = opening.enough_room a b x on seen.seen lawful (nvrams_still c.find_array.ensures.ran.on) n after s f.memory o was now last is_a is_b is_n h replayed is_of made.0 made.1 c.store.ensures.dropped c.store.ensures.later c.store.ensures.few shown is.found.room in
     let stored : IsOpen s now c.members.result (content ps base is.commands) =
     subst (λ (r : Result (Unit {0}) StoreFault). OnOk r (IsOpen s now c.members.result (content ps base is.commands))) c.in_ok-store.was (c.store.ensures.stored h_n room (content ps base is.commands) logged) in
     let is_open : IsOpen s now o.log.members (content ps base is.commands) = subst (λ (l : List Bool). IsOpen s now l (content ps base is.commands)) c.members.ensures stored in
@@ -282,16 +277,16 @@ returns-clause-opened g c h =
     let reads = base_held.memory_reads (geometry_of b) x.record f.memory o memory done s is_s h_s now later enough base is.commands is_open in
     let hold = base_held.hold (geometry_of b) x.record f.memory o memory done s is_s h_s now later enough base is.commands is_open in
     let held : IsHeldBy a s found (array_with o now) base = record {
-      holds = base_held.base_shown a b x on seen.seen (opening.lawful a b x on seen.seen lawful (c.find_array.ensures.nvrams h) n after) lawful.named enough_found is_b h_b ps base there.1.hold found.view
+      holds = base_held.base_shown a b x on seen.seen (opening.lawful a b x on seen.seen lawful (nvrams_still c.find_array.ensures.ran.on) n after) lawful.named enough_found is_b h_b ps base there.1.hold found.view
           (λ i. found.shown (drive i)) (λ i. refl);
       contents = contents;
       reads = base_held.tables_read (geometry_of b) x.record f.memory o memory done s is_s h_s now later enough base is.commands is_open;
       hold = hold;
     } in
-    recovered a n s missing arrays x o was on_n last ps base is is_of made.0 made.1 bears now c.store.ensures.dropped c.store.ensures.later is_open (λ k. c.store.ensures.others (nvram k) (λ z. z))
+    recovered a n s missing arrays x o was on_n last ps base is is_of made.0 made.1 bears now c.store.ensures.dropped c.store.ensures.later is_open (λ k. c.store.ensures.ran.on.others (nvram k) (λ z. z))
     found done.log same_log held (sym (patches_are (geometry_of b) x.record f.memory o memory done)) contents
     (subst (λ (l : List Command). ReadsAs contents o.memory.memory (after_all base l)) (sym same_log) reads) hold in
-    opening.opened a b x on seen.seen lawful (c.find_array.ensures.nvrams h) n after s f.memory o was now last is_a is_b is_n h replayed is_of made.0 made.1 c.store.ensures.dropped c.store.ensures.later c.store.ensures.few shown each memory done seen.no_other
+    opening.opened a b x on seen.seen lawful (nvrams_still c.find_array.ensures.ran.on) n after s f.memory o was now last is_a is_b is_n h replayed is_of made.0 made.1 c.store.ensures.dropped c.store.ensures.later c.store.ensures.few shown each memory done seen.no_other
     generation.0 (members.0, members.1 ∙ c.members.ensures) is_recovered
 
 pub returns-clause-named : goal.returns-clause-named
@@ -312,7 +307,7 @@ returns-clause-is_of g c =
     let now = c.store.new.self in
     let made : (was.record ≡ x.record) × (was.drives ≡ x.drives) = subst (λ (r : Result Register NoMemory). IfOk r (λ y. (y.record ≡ x.record) × (y.drives ≡ x.drives))) c.in_ok-register.was c.new.ensures in
     let memory_b : IsMemoryOf (geometry_of b) x.record f.memory = subst (λ (r : Result FoundArray OpenFault). IfOk r (λ y. IsMemoryOf (geometry_of b) y.loaded.record y.memory)) c.in_ok-found.was c.find_array.ensures.memory in
-    let memory : IsMemoryOf (geometry_of s) x.record f.memory = subst (λ (k : Geometry). IsMemoryOf k x.record f.memory) (same_geometry c.open_log.ensures.continues ∙ same_geometry c.store.ensures.continues) memory_b in
+    let memory : IsMemoryOf (geometry_of s) x.record f.memory = subst (λ (k : Geometry). IsMemoryOf k x.record f.memory) (same_geometry c.open_log.ensures.ran.on.continues ∙ same_geometry c.store.ensures.ran.on.continues) memory_b in
     let done : HasReplayed f.memory o = subst (λ (r : Result OpenedLog LogFault). IfOk r (HasReplayed f.memory)) c.in_ok-opened.was c.open_log.ensures.done in
     let flushed : o.log.flushed ≡ x.record.flushed = subst (λ (r : Result OpenedLog LogFault). IfOk r (λ y. y.log.flushed ≡ x.record.flushed)) c.in_ok-opened.was c.open_log.ensures.flushed in
     let left : IsFewer x.record.members.nvrams o.log.members × IsSome o.log.members =

@@ -1,9 +1,9 @@
 use Rattle.std.proofs.Common.{rules, inl, inr, subst, ◌-◌, ◌^◌, arith, ◌≡◌, ◌+◌, ◌<◌, ◌≤◌, length, sym, ◌∙◌, ap}
 use Rattle.boot_codec.specs.declared.record.BootRecord.{BootRecord}
 use Rattle.boot_codec.specs.Record.{set_count}
-use Rattle.world.proofs.Moments.{continues_trans, then_run, weaker}
-use Rattle.world.proofs.Writes.{writes_then, writes_more}
-use Rattle.boot_region.proofs.Stored.{stay_then}
+use Rattle.world.proofs.Moments.{then_run, weaker}
+use Rattle.world.proofs.Ran.{ran_then, ran_more}
+use Rattle.boot_region.proofs.Stored.{on_fewer}
 use Rattle.register.specs.Registers.{drives_of}
 use Rattle.register.specs.Standing.{IsFirm, IsNextOf, MayStore}
 use Rattle.register.proofs.FlagLemmas.{same_flags, other_flags}
@@ -12,7 +12,7 @@ use Rattle.register.proofs.Again.{both}
 use Rattle.register.proofs.Back.{is_next_of}
 use Rattle.register.proofs.Turns.{in_store_later}
 use Rattle.register.proofs.Outlasts.{left, next_round, later_again}
-use Rattle.register.proofs.Stores.{cut_length, at_most_slots, fewer_cut, on_more, fewer_left, on_ok, on_err}
+use Rattle.register.proofs.Stores.{cut_length, at_most_slots, fewer_cut, on_more, fewer_left, if_err, midway_then, on_ok, on_err}
 use Rattle.register.proofs.state.Register.+store.Given as given
 use Rattle.register.proofs.state.Register.+store.Goals as goal
 
@@ -55,22 +55,21 @@ store-requires g t c κs within =
     (ap (λ (b : BootRecord). b.members.drives) c.in_ok-store_next.ensures.next) (other_flags c.store_next.new.self.drives c.store_next.new.self.record.members.drives c.if-eq.ensures) in
     search rules
 
-pub returns-clause-continues : goal.returns-clause-continues
-returns-clause-continues g t c = continues_trans c.in_ok-store_next.ensures.continues c.store.ensures.continues
+pub returns-clause-ran : goal.returns-clause-ran
+returns-clause-ran g t c =
+    let m0 = drives_of c.args.self.now in
+    let m1 = drives_of c.store_next.new.self in
+    let fewer = fewer_cut c.args.self.now c.store_next.new.self (ap (λ (b : BootRecord). b.slots) c.in_ok-store_next.ensures.next) c.in_ok-store_next.ensures.fewer in
+    ran_then g.met.S.Shelf.shelf_rest_stays c.in_ok-store_next.ensures.ran (ran_more (on_fewer m0 m1 fewer) (on_more m0 m1 fewer) c.store.ensures.ran)
 
-pub returns-clause-others : goal.returns-clause-others
-returns-clause-others g t c =
-    stay_then (g.S.Shelf.shelf c.args.shelf.now) (g.S.Shelf.shelf c.store_next.new.shelf) (g.S.Shelf.shelf c.store.new.shelf) (drives_of c.args.self.now) (drives_of c.store_next.new.self)
-    (fewer_cut c.args.self.now c.store_next.new.self (ap (λ (b : BootRecord). b.slots) c.in_ok-store_next.ensures.next) c.in_ok-store_next.ensures.fewer)
-    c.in_ok-store_next.ensures.others c.store.ensures.others
-
-pub returns-clause-writes : goal.returns-clause-writes
-returns-clause-writes g t c h =
-    let ab = c.in_ok-store_next.ensures.continues in
-    writes_then ab (c.in_ok-store_next.ensures.writes h)
-    (writes_more (λ d i w. on_more (drives_of c.args.self.now) (drives_of c.store_next.new.self)
-    (fewer_cut c.args.self.now c.store_next.new.self (ap (λ (b : BootRecord). b.slots) c.in_ok-store_next.ensures.next) c.in_ok-store_next.ensures.fewer) d i w)
-    (c.store.ensures.writes (ab.honest h)))
+pub returns-clause-logged_still : goal.returns-clause-logged_still
+returns-clause-logged_still g t c h =
+    let first = c.in_ok-store_next.ensures.logged h in
+    let generation : c.store_next.new.self.record.generation ≡ c.args.self.now.record.generation + 1 = ap (λ (b : BootRecord). b.generation) c.in_ok-store_next.ensures.next in
+    if_err c.store.result (λ e. λ x. elim x [
+      | inl stays ↦ inl (λ held logged. let l = first held logged in stays held (record { is_of = record { lawful = l.is_of.lawful; named = l.is_of.named }; tables = l.tables; bodies = l.bodies; holds = l.holds; accepted = l.accepted }))
+      | inr midway ↦ inr (midway_then c.args.self.now c.store_next.new.self c.store.new.self e (omega (arith, generation)) midway)
+    ]) (c.store.ensures.logged_still (c.in_ok-store_next.ensures.ran.on.continues.honest h))
 
 pub returns-clause-stores : goal.returns-clause-stores
 returns-clause-stores g t c =
@@ -131,7 +130,7 @@ returns-clause-moments g t c h low =
     let b = g.S.Shelf.shelf c.store_next.new.shelf in
     let was = c.args.self.now in
     let now = c.store_next.new.self in
-    let ab = c.in_ok-store_next.ensures.continues in
+    let ab = c.in_ok-store_next.ensures.ran.on.continues in
     let hb = ab.honest h in
     let first = c.in_ok-store_next.ensures.moments h (room g t c low) in
     let next : IsNextOf was c.args.nvrams now.record = subst (λ (x : BootRecord). IsNextOf was c.args.nvrams x) (sym c.in_ok-store_next.ensures.next) (is_next_of was c.args.nvrams) in
@@ -160,34 +159,7 @@ returns-clause-moments g t c h low =
       | inl before ↦ inl before
       | inr n ↦ inr (record { later = record { generation = n.later.generation; rest = n.later.rest }; generation = n.generation; nvrams_are = n.nvrams_are; drives = n.drives })
     ]))
-    (both (c.store.ensures.writes hb).any_moment (c.store.ensures.moments hb low)))
-
-pub returns-clause-any_moment : goal.returns-clause-any_moment
-returns-clause-any_moment g t c h low missing held arrays may = weaker (λ stop x. x.stands missing held arrays may) (returns-clause-moments g t c h low)
-
-pub returns-clause-gives : goal.returns-clause-gives
-returns-clause-gives g t c h low missing held arrays may = weaker (λ stop x. x.gives missing held arrays may) (returns-clause-moments g t c h low)
-
-pub returns-clause-back : goal.returns-clause-back
-returns-clause-back g t c h low held logged shows = weaker (λ stop x. x.back held logged shows) (returns-clause-moments g t c h low)
-
-pub returns-then-eq-clause-any_moment : goal.returns-then-eq-clause-any_moment
-returns-then-eq-clause-any_moment g t c h low missing held arrays may = weaker (λ stop x. x.stands missing held arrays may) (c.in_ok-store_next.ensures.moments h low)
-
-pub returns-then-eq-clause-gives : goal.returns-then-eq-clause-gives
-returns-then-eq-clause-gives g t c h low missing held arrays may = weaker (λ stop x. x.gives missing held arrays may) (c.in_ok-store_next.ensures.moments h low)
-
-pub returns-then-eq-clause-back : goal.returns-then-eq-clause-back
-returns-then-eq-clause-back g t c h low held logged shows = weaker (λ stop x. x.back held logged shows) (c.in_ok-store_next.ensures.moments h low)
-
-pub returns-in_err-store_next-clause-any_moment : goal.returns-in_err-store_next-clause-any_moment
-returns-in_err-store_next-clause-any_moment g t c h low missing held arrays may = weaker (λ stop x. x.stands missing held arrays may) (c.in_err-store_next.ensures.moments h low)
-
-pub returns-in_err-store_next-clause-gives : goal.returns-in_err-store_next-clause-gives
-returns-in_err-store_next-clause-gives g t c h low missing held arrays may = weaker (λ stop x. x.gives missing held arrays may) (c.in_err-store_next.ensures.moments h low)
-
-pub returns-in_err-store_next-clause-back : goal.returns-in_err-store_next-clause-back
-returns-in_err-store_next-clause-back g t c h low held logged shows = weaker (λ stop x. x.back held logged shows) (c.in_err-store_next.ensures.moments h low)
+    (both (c.store.ensures.ran.on.writes hb).any_moment (c.store.ensures.moments hb low)))
 
 pub returns-clause-outlasts : goal.returns-clause-outlasts
 returns-clause-outlasts g t c h low missing held arrays may firm =
@@ -195,7 +167,7 @@ returns-clause-outlasts g t c h low missing held arrays may firm =
     let b = g.S.Shelf.shelf c.store_next.new.shelf in
     let was = c.args.self.now in
     let now = c.store_next.new.self in
-    let ab = c.in_ok-store_next.ensures.continues in
+    let ab = c.in_ok-store_next.ensures.ran.on.continues in
     let before : MayStore a was c.args.nvrams missing held arrays = record {
       logged = record { is_of = record { lawful = may.logged.is_of.lawful; named = may.logged.is_of.named }; tables = may.logged.tables; bodies = may.logged.bodies; holds = may.logged.holds; accepted = may.logged.accepted };
       in_force = may.in_force;

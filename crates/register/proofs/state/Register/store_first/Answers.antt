@@ -4,7 +4,7 @@ use Rattle.boot_codec.specs.Record.{IsBootRecord}
 use Rattle.boot_codec.specs.Spelling.{spelling}
 use Rattle.array_spec.proofs.Standings.{given_with_fewer}
 use Rattle.world.proofs.Moments.{started}
-use Rattle.world.proofs.Writes.{writes_more}
+use Rattle.world.proofs.Ran.{ran_none, runs_more}
 use Rattle.boot_region.specs.Members.{IsMember}
 use Rattle.register.specs.Registers.{drives_of, named_sound, next_slot, next_record}
 use Rattle.register.specs.Standing.{array_of}
@@ -23,6 +23,9 @@ use Rattle.register.proofs.state.Register.store_first.Given as given
 use Rattle.register.proofs.state.Register.store_first.Goals as goal
 
 -- nothing was written
+pub returns-in_err-advance_to-clause-ran : goal.returns-in_err-advance_to-clause-ran
+returns-in_err-advance_to-clause-ran g c = ran_none g.met.S.Shelf.shelf_rest_stays c.args.shelf.now (g.met.S.Shelf.is_shelf c.args.shelf.now)
+
 pub returns-in_err-advance_to-clause-any_moment : goal.returns-in_err-advance_to-clause-any_moment
 returns-in_err-advance_to-clause-any_moment g c h low held next o plan =
     let a = g.S.Shelf.shelf c.args.shelf.now in
@@ -46,9 +49,8 @@ the_puts g c =
     (record {
       fewer = c.put.ensures.fewer;
       dropped = c.put.ensures.dropped;
-      others = c.put.ensures.others;
       shown = λ is h. from_ok c.put.result (c.put.ensures.shown h) is;
-      writes = c.put.ensures.writes;
+      runs = c.put.ensures.ran.on;
       moments = c.put.ensures.moments;
       again = c.put.ensures.again;
       stored_on = λ is h. from_ok c.put.result (c.put.ensures.stored_on h) is;
@@ -68,21 +70,18 @@ beyond g c i le m =
 
 pub returns-clause-fewer : goal.returns-clause-fewer
 returns-clause-fewer g c =
-    fewer_all (g.S.Shelf.shelf c.args.shelf.now) (g.S.Shelf.shelf c.put.new.shelf) c.put.ensures.continues c.args.self.now c.put.new.self (made g c)
+    fewer_all (g.S.Shelf.shelf c.args.shelf.now) (g.S.Shelf.shelf c.put.new.shelf) c.put.ensures.ran.on.continues c.args.self.now c.put.new.self (made g c)
     c.requires.is_of (lawful g c) refl refl (λ i m. m) (kept g c) (beyond g c) (the_puts g c).fewer
 
 pub returns-clause-dropped : goal.returns-clause-dropped
 returns-clause-dropped g c = (the_puts g c).dropped
 
-pub returns-clause-others : goal.returns-clause-others
-returns-clause-others g c = (the_puts g c).others
-
-pub returns-clause-writes : goal.returns-clause-writes
-returns-clause-writes g c h = writes_more (λ d i w. on_slots (drives_of c.args.self.now) (next_slot c.args.self.now.record) d i w) ((the_puts g c).writes h)
+pub returns-clause-ran : goal.returns-clause-ran
+returns-clause-ran g c = record { on = runs_more (λ d is. is) (on_slots (drives_of c.args.self.now) (next_slot c.args.self.now.record)) (the_puts g c).runs; rest = c.put.ensures.ran.rest }
 
 pub returns-clause-is_of : goal.returns-clause-is_of
 returns-clause-is_of g c =
-    is_of_next (g.S.Shelf.shelf c.args.shelf.now) (g.S.Shelf.shelf c.put.new.shelf) c.put.ensures.continues c.args.self.now c.put.new.self (made g c)
+    is_of_next (g.S.Shelf.shelf c.args.shelf.now) (g.S.Shelf.shelf c.put.new.shelf) c.put.ensures.ran.on.continues c.args.self.now c.put.new.self (made g c)
     c.requires.is_of (lawful g c) refl refl (λ i m. m) (kept g c) (beyond g c) (the_puts g c).fewer
 
 pub returns-clause-flags : goal.returns-clause-flags
@@ -94,34 +93,34 @@ room g c low = subst (λ (b : BootRecord). b.generation < 2 ^ 48 - 8) (kept g c)
 pub returns-clause-any_moment : goal.returns-clause-any_moment
 returns-clause-any_moment g c h low held next o plan =
     moments_now (g.S.Shelf.shelf c.args.shelf.now) (g.met.S.Shelf.is_shelf c.args.shelf.now) h c.args.self.now c.args.tables c.requires.is_of c.requires.nvrams (lawful g c) c.requires.lawful held next o plan
-    (g.S.Shelf.shelf c.put.new.shelf) c.put.ensures.continues c.put.new.self (kept g c) (beyond g c) (the_puts g c) (room g c low)
+    (g.S.Shelf.shelf c.put.new.shelf) c.put.ensures.ran.on.continues c.put.new.self (kept g c) (beyond g c) (the_puts g c) (room g c low)
 
 pub returns-clause-gives : goal.returns-clause-gives
 returns-clause-gives g c h low held next o plan =
     gives_now (g.S.Shelf.shelf c.args.shelf.now) (g.met.S.Shelf.is_shelf c.args.shelf.now) h c.args.self.now c.args.tables c.requires.is_of c.requires.nvrams (lawful g c) c.requires.lawful held next o plan
-    (g.S.Shelf.shelf c.put.new.shelf) c.put.ensures.continues c.put.new.self (kept g c) (beyond g c) (the_puts g c) (room g c low)
+    (g.S.Shelf.shelf c.put.new.shelf) c.put.ensures.ran.on.continues c.put.new.self (kept g c) (beyond g c) (the_puts g c) (room g c low)
 
 pub returns-clause-logged : goal.returns-clause-logged
 returns-clause-logged g c h held next o plan = when_ok c.put.result (λ is. logged_now (g.S.Shelf.shelf c.args.shelf.now) (g.met.S.Shelf.is_shelf c.args.shelf.now) h c.args.self.now c.args.tables c.requires.is_of c.requires.nvrams (lawful g c) c.requires.lawful held next o plan
-    (g.S.Shelf.shelf c.put.new.shelf) c.put.ensures.continues c.put.new.self (kept g c) (beyond g c) (the_puts g c) is)
+    (g.S.Shelf.shelf c.put.new.shelf) c.put.ensures.ran.on.continues c.put.new.self (kept g c) (beyond g c) (the_puts g c) is)
 
 pub returns-clause-again : goal.returns-clause-again
 returns-clause-again g c h low held next o plan = when_ok c.put.result (λ is later account.
     again_now (g.S.Shelf.shelf c.args.shelf.now) (g.met.S.Shelf.is_shelf c.args.shelf.now) h c.args.self.now c.args.tables c.requires.is_of c.requires.nvrams (lawful g c) c.requires.lawful held next o plan
-    (g.S.Shelf.shelf c.put.new.shelf) c.put.ensures.continues c.put.new.self (kept g c) (beyond g c) (the_puts g c) (room g c low) is later account)
+    (g.S.Shelf.shelf c.put.new.shelf) c.put.ensures.ran.on.continues c.put.new.self (kept g c) (beyond g c) (the_puts g c) (room g c low) is later account)
 
 pub returns-clause-firmly : goal.returns-clause-firmly
 returns-clause-firmly g c h low held next o plan =
     let flags : length c.args.self.now.drives ≡ 24 = search rules in
     when_ok c.put.result (λ is.
     firmly_now (g.S.Shelf.shelf c.args.shelf.now) (g.met.S.Shelf.is_shelf c.args.shelf.now) h c.args.self.now c.args.tables c.requires.is_of c.requires.nvrams (lawful g c) c.requires.lawful held next o plan
-    (g.S.Shelf.shelf c.put.new.shelf) c.put.ensures.continues c.put.new.self (kept g c) (beyond g c) (the_puts g c) (room g c low) is flags)
+    (g.S.Shelf.shelf c.put.new.shelf) c.put.ensures.ran.on.continues c.put.new.self (kept g c) (beyond g c) (the_puts g c) (room g c low) is flags)
 
 pub returns-clause-outlasts : goal.returns-clause-outlasts
 returns-clause-outlasts g c h low held next o plan =
     let flags : length c.args.self.now.drives ≡ 24 = search rules in
     outlasts_now (g.S.Shelf.shelf c.args.shelf.now) (g.met.S.Shelf.is_shelf c.args.shelf.now) h c.args.self.now c.args.tables c.requires.is_of c.requires.nvrams (lawful g c) c.requires.lawful held next o plan
-    (g.S.Shelf.shelf c.put.new.shelf) c.put.ensures.continues c.put.new.self (kept g c) (beyond g c) (the_puts g c) (room g c low) flags
+    (g.S.Shelf.shelf c.put.new.shelf) c.put.ensures.ran.on.continues c.put.new.self (kept g c) (beyond g c) (the_puts g c) (room g c low) flags
 
 pub returns-in_err-advance_to-clause-outlasts : goal.returns-in_err-advance_to-clause-outlasts
 returns-in_err-advance_to-clause-outlasts g c h low held next o plan =
@@ -132,4 +131,4 @@ returns-in_err-advance_to-clause-outlasts g c h low held next o plan =
 pub returns-clause-older : goal.returns-clause-older
 returns-clause-older g c h held next o plan = for_ok c.put.result (
     older_now (g.S.Shelf.shelf c.args.shelf.now) (g.met.S.Shelf.is_shelf c.args.shelf.now) h c.args.self.now c.args.tables c.requires.is_of c.requires.nvrams (lawful g c) c.requires.lawful held next o plan
-    (g.S.Shelf.shelf c.put.new.shelf) c.put.ensures.continues c.put.new.self (kept g c) (beyond g c) (the_puts g c))
+    (g.S.Shelf.shelf c.put.new.shelf) c.put.ensures.ran.on.continues c.put.new.self (kept g c) (beyond g c) (the_puts g c))

@@ -1,16 +1,18 @@
-use Rattle.std.proofs.Common.{rules, refl, inl, inr, arith, ◌≡◌, ◌+◌, ◌-◌, ◌^◌, ◌<◌, ◌≤◌, ℕ, List, Bool, length, ◌∙◌, ap, subst}
+use Rattle.std.proofs.Common.{rules, refl, inl, inr, arith, ◌≡◌, ◌+◌, ◌-◌, ◌^◌, ◌<◌, ◌≤◌, ℕ, List, Bool, length, ◌∙◌, ap, sym, subst}
 use Rattle.boot_codec.specs.declared.record.BootRecord.{BootRecord}
 use Rattle.boot_codec.specs.Record.{IsBootRecord}
 use Rattle.boot_codec.specs.Spelling.{spelling}
 use Rattle.world.proofs.Moments.{started}
+use Rattle.world.proofs.Ran.{ran_none, runs_more}
 use Rattle.boot_region.specs.Members.{IsMember}
+use Rattle.register.specs.declared.state.Register.{Register}
 use Rattle.register.specs.Registers.{drives_of, next_slot, next_record}
-use Rattle.register.proofs.Rounds.{Puts, puts_next, fewer_all, writes_slots, is_of_next, logged_next, older_next, shown_next, moments_next, again_next, firmly_next, outlasts_next}
+use Rattle.register.proofs.Rounds.{Puts, puts_next, on_slots, fewer_all, is_of_next, logged_next, older_next, shown_next, moments_next, again_next, firmly_next, outlasts_next}
 use Rattle.array_spec.proofs.Standings.{given_with_fewer}
-use Rattle.register.specs.Standing.{IsInStoreOf}
+use Rattle.register.specs.Standing.{IsInStoreOf, StandsInLog}
 use Rattle.register.proofs.Follows.{stands_before}
 use Rattle.register.proofs.Numbers.{next_other}
-use Rattle.register.proofs.Stores.{from_ok, when_ok, on_err}
+use Rattle.register.proofs.Stores.{ended_midway, for_err, from_ok, when_ok, on_err}
 use Rattle.boot_region.specs.Storing.{StandsAgain}
 use Rattle.boot_region.proofs.Composing.{as_it_is}
 use Rattle.std.specs.Prelude.{IsOk}
@@ -18,6 +20,9 @@ use Rattle.register.proofs.state.Register.store_next.Given as given
 use Rattle.register.proofs.state.Register.store_next.Goals as goal
 
 -- nothing was written
+pub returns-in_err-advance-clause-ran : goal.returns-in_err-advance-clause-ran
+returns-in_err-advance-clause-ran g c = ran_none g.met.S.Shelf.shelf_rest_stays c.args.shelf.now (g.met.S.Shelf.is_shelf c.args.shelf.now)
+
 pub returns-in_err-advance-clause-moments : goal.returns-in_err-advance-clause-moments
 returns-in_err-advance-clause-moments g c h low =
     let a = g.S.Shelf.shelf c.args.shelf.now in
@@ -36,9 +41,8 @@ the_puts g c =
     (record {
       fewer = c.put.ensures.fewer;
       dropped = c.put.ensures.dropped;
-      others = c.put.ensures.others;
       shown = λ is h. from_ok c.put.result (c.put.ensures.shown h) is;
-      writes = c.put.ensures.writes;
+      runs = c.put.ensures.ran.on;
       moments = c.put.ensures.moments;
       again = c.put.ensures.again;
       stored_on = λ is h. from_ok c.put.result (c.put.ensures.stored_on h) is;
@@ -58,38 +62,42 @@ beyond g c i le m =
 
 pub returns-clause-fewer : goal.returns-clause-fewer
 returns-clause-fewer g c =
-    fewer_all (g.S.Shelf.shelf c.args.shelf.now) (g.S.Shelf.shelf c.put.new.shelf) c.put.ensures.continues c.args.self.now c.put.new.self (next_record c.args.self.now.record c.args.self.now.drives c.args.nvrams)
+    fewer_all (g.S.Shelf.shelf c.args.shelf.now) (g.S.Shelf.shelf c.put.new.shelf) c.put.ensures.ran.on.continues c.args.self.now c.put.new.self (next_record c.args.self.now.record c.args.self.now.drives c.args.nvrams)
     c.requires.is_of (lawful g c) refl refl (λ i m. m) (kept g c) (beyond g c) (the_puts g c).fewer
 
 pub returns-clause-dropped : goal.returns-clause-dropped
 returns-clause-dropped g c = (the_puts g c).dropped
 
-pub returns-clause-others : goal.returns-clause-others
-returns-clause-others g c = (the_puts g c).others
-
-pub returns-clause-writes : goal.returns-clause-writes
-returns-clause-writes g c =
-    writes_slots (g.S.Shelf.shelf c.args.shelf.now) (g.S.Shelf.shelf c.put.new.shelf) (g.met.S.Shelf.is_shelf c.args.shelf.now) c.put.ensures.continues c.args.self.now c.put.new.self c.args.nvrams
-    c.requires.is_of c.requires.nvrams (lawful g c) (kept g c) (beyond g c) (the_puts g c)
+pub returns-clause-ran : goal.returns-clause-ran
+returns-clause-ran g c = record { on = runs_more (λ d is. is) (on_slots (drives_of c.args.self.now) (next_slot c.args.self.now.record)) (the_puts g c).runs; rest = c.put.ensures.ran.rest }
 
 pub returns-clause-is_of : goal.returns-clause-is_of
 returns-clause-is_of g c =
-    is_of_next (g.S.Shelf.shelf c.args.shelf.now) (g.S.Shelf.shelf c.put.new.shelf) c.put.ensures.continues c.args.self.now c.put.new.self (next_record c.args.self.now.record c.args.self.now.drives c.args.nvrams)
+    is_of_next (g.S.Shelf.shelf c.args.shelf.now) (g.S.Shelf.shelf c.put.new.shelf) c.put.ensures.ran.on.continues c.args.self.now c.put.new.self (next_record c.args.self.now.record c.args.self.now.drives c.args.nvrams)
     c.requires.is_of (lawful g c) refl refl (λ i m. m) (kept g c) (beyond g c) (the_puts g c).fewer
 
 pub returns-clause-logged : goal.returns-clause-logged
 returns-clause-logged g c h = when_ok c.put.result (λ is held logged.
-    logged_next (g.S.Shelf.shelf c.args.shelf.now) (g.S.Shelf.shelf c.put.new.shelf) (g.met.S.Shelf.is_shelf c.args.shelf.now) c.put.ensures.continues c.args.self.now c.put.new.self c.args.nvrams
+    logged_next (g.S.Shelf.shelf c.args.shelf.now) (g.S.Shelf.shelf c.put.new.shelf) (g.met.S.Shelf.is_shelf c.args.shelf.now) c.put.ensures.ran.on.continues c.args.self.now c.put.new.self c.args.nvrams
     c.requires.is_of c.requires.nvrams (lawful g c) (kept g c) (beyond g c) (the_puts g c) h held logged is)
+
+pub returns-in_err-advance-clause-logged_still : goal.returns-in_err-advance-clause-logged_still
+returns-in_err-advance-clause-logged_still g c h =
+    for_err c.from_residual.result (λ e. inl (λ held logged. subst (λ (r : Register). StandsInLog (g.S.Shelf.shelf c.args.shelf.now) r c.args.nvrams held) (sym c.in_err-advance.ensures.err) logged))
+
+pub returns-clause-logged_still : goal.returns-clause-logged_still
+returns-clause-logged_still g c h =
+    let later : c.args.self.now.record.generation < c.put.new.self.record.generation = let e : c.put.new.self.record.generation ≡ c.args.self.now.record.generation + 1 = ap (λ (b : BootRecord). b.generation) (kept g c) in omega (arith, e) in
+    ended_midway _ c.args.self.now c.put.new.self c.put.result later c.put.ensures.too_few c.put.ensures.fault
 
 pub returns-clause-shown : goal.returns-clause-shown
 returns-clause-shown g c h = when_ok c.put.result (λ is.
-    shown_next (g.S.Shelf.shelf c.args.shelf.now) (g.S.Shelf.shelf c.put.new.shelf) (g.met.S.Shelf.is_shelf c.args.shelf.now) c.put.ensures.continues c.args.self.now c.put.new.self c.args.nvrams
+    shown_next (g.S.Shelf.shelf c.args.shelf.now) (g.S.Shelf.shelf c.put.new.shelf) (g.met.S.Shelf.is_shelf c.args.shelf.now) c.put.ensures.ran.on.continues c.args.self.now c.put.new.self c.args.nvrams
     c.requires.is_of c.requires.nvrams (lawful g c) (kept g c) (beyond g c) (the_puts g c) is h)
 
 pub returns-clause-older : goal.returns-clause-older
 returns-clause-older g c h = when_ok c.put.result (λ is held logged.
-    older_next (g.S.Shelf.shelf c.args.shelf.now) (g.S.Shelf.shelf c.put.new.shelf) (g.met.S.Shelf.is_shelf c.args.shelf.now) c.put.ensures.continues c.args.self.now c.put.new.self c.args.nvrams
+    older_next (g.S.Shelf.shelf c.args.shelf.now) (g.S.Shelf.shelf c.put.new.shelf) (g.met.S.Shelf.is_shelf c.args.shelf.now) c.put.ensures.ran.on.continues c.args.self.now c.put.new.self c.args.nvrams
     c.requires.is_of c.requires.nvrams (lawful g c) (kept g c) (beyond g c) (the_puts g c) h held logged is)
 
 room : (g : given.Over) (c : goal.After-put g) → c.put.new.self.record.generation < 2 ^ 48 - 8 → c.args.self.now.record.generation + 1 < 2 ^ 48 - 8
@@ -97,25 +105,25 @@ room g c low = subst (λ (b : BootRecord). b.generation < 2 ^ 48 - 8) (kept g c)
 
 pub returns-clause-moments : goal.returns-clause-moments
 returns-clause-moments g c h low =
-    moments_next (g.S.Shelf.shelf c.args.shelf.now) (g.S.Shelf.shelf c.put.new.shelf) (g.met.S.Shelf.is_shelf c.args.shelf.now) c.put.ensures.continues c.args.self.now c.put.new.self c.args.nvrams
+    moments_next (g.S.Shelf.shelf c.args.shelf.now) (g.S.Shelf.shelf c.put.new.shelf) (g.met.S.Shelf.is_shelf c.args.shelf.now) c.put.ensures.ran.on.continues c.args.self.now c.put.new.self c.args.nvrams
     c.requires.is_of c.requires.nvrams (lawful g c) (kept g c) (beyond g c) (the_puts g c) h (room g c low)
 
 pub returns-clause-again : goal.returns-clause-again
 returns-clause-again g c h low = when_ok c.put.result (λ is missing held arrays may.
-    again_next (g.S.Shelf.shelf c.args.shelf.now) (g.S.Shelf.shelf c.put.new.shelf) (g.met.S.Shelf.is_shelf c.args.shelf.now) c.put.ensures.continues c.args.self.now c.put.new.self c.args.nvrams
+    again_next (g.S.Shelf.shelf c.args.shelf.now) (g.S.Shelf.shelf c.put.new.shelf) (g.met.S.Shelf.is_shelf c.args.shelf.now) c.put.ensures.ran.on.continues c.args.self.now c.put.new.self c.args.nvrams
     c.requires.is_of c.requires.nvrams (lawful g c) (kept g c) (beyond g c) (the_puts g c) h (room g c low) missing held arrays may is)
 
 pub returns-clause-firmly : goal.returns-clause-firmly
 returns-clause-firmly g c h low =
     let flags : length c.args.self.now.drives ≡ 24 = search rules in
     when_ok c.put.result (λ is missing held arrays may firm.
-    firmly_next (g.S.Shelf.shelf c.args.shelf.now) (g.S.Shelf.shelf c.put.new.shelf) (g.met.S.Shelf.is_shelf c.args.shelf.now) c.put.ensures.continues c.args.self.now c.put.new.self c.args.nvrams
+    firmly_next (g.S.Shelf.shelf c.args.shelf.now) (g.S.Shelf.shelf c.put.new.shelf) (g.met.S.Shelf.is_shelf c.args.shelf.now) c.put.ensures.ran.on.continues c.args.self.now c.put.new.self c.args.nvrams
     c.requires.is_of c.requires.nvrams (lawful g c) (kept g c) (beyond g c) (the_puts g c) h (room g c low) missing held arrays may is flags firm)
 
 pub returns-clause-outlasts : goal.returns-clause-outlasts
 returns-clause-outlasts g c h low missing held arrays may firm =
     let flags : length c.args.self.now.drives ≡ 24 = search rules in
-    outlasts_next (g.S.Shelf.shelf c.args.shelf.now) (g.S.Shelf.shelf c.put.new.shelf) (g.met.S.Shelf.is_shelf c.args.shelf.now) c.put.ensures.continues c.args.self.now c.put.new.self c.args.nvrams
+    outlasts_next (g.S.Shelf.shelf c.args.shelf.now) (g.S.Shelf.shelf c.put.new.shelf) (g.met.S.Shelf.is_shelf c.args.shelf.now) c.put.ensures.ran.on.continues c.args.self.now c.put.new.self c.args.nvrams
     c.requires.is_of c.requires.nvrams (lawful g c) (kept g c) (beyond g c) (the_puts g c) h (room g c low) missing held arrays may flags firm
 
 pub returns-in_err-advance-clause-outlasts : goal.returns-in_err-advance-clause-outlasts

@@ -1,9 +1,9 @@
 use Rattle.std.proofs.Common.{rules, List, ◌∷◌, [], inl, inr, arith, ◌≡◌, ◌+◌, ◌-◌, ◌^◌, ◌<◌, ◌≤◌, length, sym, ◌∙◌, ap, subst}
 use Rattle.boot_codec.specs.declared.record.BootRecord.{BootRecord}
 use Rattle.boot_codec.specs.Record.{set_count}
-use Rattle.world.proofs.Moments.{continues_trans, then_run, weaker}
-use Rattle.world.proofs.Writes.{writes_then, writes_more}
-use Rattle.boot_region.proofs.Stored.{stay_then}
+use Rattle.world.proofs.Moments.{then_run, weaker}
+use Rattle.world.proofs.Ran.{ran_then, ran_more}
+use Rattle.boot_region.proofs.Stored.{on_fewer}
 use Rattle.pur_base.specs.Plain.{Array}
 use Rattle.register.specs.Registers.{drives_of, named_sound}
 use Rattle.register.specs.Standing.{array_of}
@@ -15,9 +15,6 @@ use Rattle.register.proofs.Outlasts.{left, next_round, later_again}
 use Rattle.register.proofs.Stores.{cut_length, members_sound, at_most_slots, fewer_cut, on_more, fewer_left}
 use Rattle.register.proofs.Tabling.{is_next_with, later_gives, later_round}
 use Rattle.register.proofs.state.Register.store_tables.Goals as goal
-
-pub returns-clause-continues : goal.returns-clause-continues
-returns-clause-continues g c = continues_trans c.in_ok-store_first.ensures.continues c.store.ensures.continues
 
 pub returns-then-eq-clause-members : goal.returns-then-eq-clause-members
 returns-then-eq-clause-members g c =
@@ -31,19 +28,12 @@ returns-then-eq-clause-enough g c =
     let count : set_count c.store_first.new.self.drives ≡ set_count c.args.self.now.drives = ap set_count (same ∙ ap (λ (b : BootRecord). b.members.drives) c.in_ok-store_first.ensures.next) in
     omega (arith, slots, count, c.in_ok-store_first.ensures.enough)
 
-pub returns-clause-others : goal.returns-clause-others
-returns-clause-others g c =
-    stay_then (g.S.Shelf.shelf c.args.shelf.now) (g.S.Shelf.shelf c.store_first.new.shelf) (g.S.Shelf.shelf c.store.new.shelf) (drives_of c.args.self.now) (drives_of c.store_first.new.self)
-    (fewer_cut c.args.self.now c.store_first.new.self (ap (λ (b : BootRecord). b.slots) c.in_ok-store_first.ensures.next) c.in_ok-store_first.ensures.fewer)
-    c.in_ok-store_first.ensures.others c.store.ensures.others
-
-pub returns-clause-writes : goal.returns-clause-writes
-returns-clause-writes g c h =
-    let ab = c.in_ok-store_first.ensures.continues in
-    writes_then ab (c.in_ok-store_first.ensures.writes h)
-    (writes_more (λ d i w. on_more (drives_of c.args.self.now) (drives_of c.store_first.new.self)
-    (fewer_cut c.args.self.now c.store_first.new.self (ap (λ (b : BootRecord). b.slots) c.in_ok-store_first.ensures.next) c.in_ok-store_first.ensures.fewer) d i w)
-    (c.store.ensures.writes (ab.honest h)))
+pub returns-clause-ran : goal.returns-clause-ran
+returns-clause-ran g c =
+    let m0 = drives_of c.args.self.now in
+    let m1 = drives_of c.store_first.new.self in
+    let fewer = fewer_cut c.args.self.now c.store_first.new.self (ap (λ (b : BootRecord). b.slots) c.in_ok-store_first.ensures.next) c.in_ok-store_first.ensures.fewer in
+    ran_then g.met.S.Shelf.shelf_rest_stays c.in_ok-store_first.ensures.ran (ran_more (on_fewer m0 m1 fewer) (on_more m0 m1 fewer) c.store.ensures.ran)
 
 pub returns-clause-few : goal.returns-clause-few
 returns-clause-few g c =
@@ -77,7 +67,7 @@ returns-clause-any_moment g c h low held next o plan =
     let b = g.S.Shelf.shelf c.store_first.new.shelf in
     let was = c.args.self.now in
     let now = c.store_first.new.self in
-    let ab = c.in_ok-store_first.ensures.continues in
+    let ab = c.in_ok-store_first.ensures.ran.on.continues in
     let hb = ab.honest h in
     let room : now.record.generation < 2 ^ 48 - 8 = omega (arith, c.store.ensures.later.generation, low) in
     then_run ab (c.in_ok-store_first.ensures.any_moment h room held next o plan) (weaker (λ stop x.
@@ -93,7 +83,7 @@ returns-clause-any_moment g c h low held next o plan =
       left_out = m.left_out;
       unnamed = m.unnamed;
     })))
-    (both (c.store.ensures.writes hb).any_moment (c.store.ensures.moments hb low)))
+    (both (c.store.ensures.ran.on.writes hb).any_moment (c.store.ensures.moments hb low)))
 
 pub returns-clause-gives : goal.returns-clause-gives
 returns-clause-gives g c h low held next o plan =
@@ -101,7 +91,7 @@ returns-clause-gives g c h low held next o plan =
     let b = g.S.Shelf.shelf c.store_first.new.shelf in
     let was = c.args.self.now in
     let now = c.store_first.new.self in
-    let ab = c.in_ok-store_first.ensures.continues in
+    let ab = c.in_ok-store_first.ensures.ran.on.continues in
     let hb = ab.honest h in
     let room : now.record.generation < 2 ^ 48 - 8 = omega (arith, c.store.ensures.later.generation, low) in
     let first = c.in_ok-store_first.ensures.gives h room held next o plan in
@@ -122,7 +112,7 @@ returns-clause-gives g c h low held next o plan =
       | inl before ↦ inl before
       | inr n ↦ inr (record { later = record { generation = n.later.generation; rest = n.later.rest }; generation = n.generation; nvrams_are = n.nvrams_are; drives = n.drives })
     ]))
-    (both (c.store.ensures.writes hb).any_moment (c.store.ensures.moments hb low)))
+    (both (c.store.ensures.ran.on.writes hb).any_moment (c.store.ensures.moments hb low)))
 
 pub returns-clause-outlasts : goal.returns-clause-outlasts
 returns-clause-outlasts g c h low held next o plan =
@@ -131,7 +121,7 @@ returns-clause-outlasts g c h low held next o plan =
     let was = c.args.self.now in
     let now = c.store_first.new.self in
     let nvrams = c.args.self.now.record.members.nvrams in
-    let ab = c.in_ok-store_first.ensures.continues in
+    let ab = c.in_ok-store_first.ensures.ran.on.continues in
     let room : now.record.generation < 2 ^ 48 - 8 = omega (arith, c.store.ensures.later.generation, low) in
     let flags : length now.drives ≡ 24 = search rules in
     let fewer = fewer_cut was now (ap (λ (r : BootRecord). r.slots) c.in_ok-store_first.ensures.next) c.in_ok-store_first.ensures.fewer in
