@@ -20,9 +20,9 @@ use Rattle.register.proofs.FlagLemmas.{in_cut}
 use Rattle.register.proofs.Stores.{fewer_cut}
 use Rattle.memory_spec.specs.Memory.{Contents}
 use Rattle.checkpoint_spec.specs.Contents.{AreAmong}
-use Rattle.array_state.specs.Drives.{SegmentsHold, drives_view}
+use Rattle.array_core.specs.Drives.{SegmentsHold, drives_view}
 use Rattle.array_core.proofs.Segments.{AreKept, few_bad, hold_kept, off_slots}
-use Rattle.array_switch.specs.Switching.{OnSlotsAndLog}
+use Rattle.array_core.specs.Switching.{OnSlotsAndLog}
 use Rattle.array_checkpoint.specs.Made.{HoldOnLeft}
 
 -- the drives of a record show themselves

@@ -22,10 +22,10 @@ use Rattle.register.specs.Registers.{IsLaterRecord, IsRegisterOf}
 use Rattle.register.specs.Tables.{with_tables}
 use Rattle.record_tables.specs.Laws.{with_patches}
 use Rattle.record_tables.proofs.Lawful.{next_patches_are_lawful}
-use Rattle.array_state.specs.declared.array.Array.{Array}
-use Rattle.array_state.specs.Ready.{IsArrayOf, is_spent}
-use Rattle.array_state.specs.Room.{HasRoomFor}
-use Rattle.array_state.proofs.Applied.{room_again, segments_sound}
+use Rattle.array_core.specs.declared.array.Array.{Array}
+use Rattle.array_core.specs.Ready.{IsArrayOf, is_spent}
+use Rattle.array_core.specs.Room.{HasRoomFor}
+use Rattle.array_core.proofs.Applied.{room_again, segments_sound}
 use Rattle.array_checkpoint.specs.declared.preparing.Prepared.{Prepared}
 use Rattle.array_checkpoint.specs.Prepared.{IsPreparedFor}
 use Rattle.array_checkpoint.specs.Made.{HasFlushed}

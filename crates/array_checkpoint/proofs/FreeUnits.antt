@@ -25,13 +25,13 @@ use Rattle.world.specs.Shelf.{Shelved}
 use Rattle.register.specs.declared.state.Register.{Register}
 use Rattle.register.specs.Standing.{Content}
 use Rattle.register.proofs.FlagLemmas.{cut_in}
-use Rattle.open_array.specs.Free.{OnFree}
+use Rattle.array_core.specs.Free.{OnFree}
 use Rattle.segment_io.specs.Places.{place_of, OnUnits}
 use Rattle.data_io.specs.Placing.{places_in}
 use Rattle.record_tables.specs.Patches.{added_patches, segments_of}
 use Rattle.checkpoint_io.specs.Storing.{OnCheckpoint, OthersStayOfCheckpoint}
 use Rattle.record_tables.specs.Units.{AreNewUnits}
-use Rattle.array_switch.proofs.Keeping.{both_not}
+use Rattle.array_core.proofs.Keeping.{both_not}
 use Rattle.array_checkpoint.proofs.Stays.{SparesUsed}
 use Rattle.array_checkpoint.proofs.UnitLists.{in_at, in_get}
 use Rattle.array_checkpoint.proofs.Units.{data_among}

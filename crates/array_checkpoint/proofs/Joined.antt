@@ -12,13 +12,13 @@ use Rattle.register.specs.Standing.{Content, array_of}
 use Rattle.memory_spec.specs.Memory.{Contents, ReadsAs}
 use Rattle.memory_spec.specs.Tables.{facts}
 use Rattle.array_memory.specs.Kept.{Kept}
-use Rattle.array_state.specs.declared.array.Array.{Array}
-use Rattle.array_state.specs.Drives.{SegmentsHold}
-use Rattle.array_state.specs.Ready.{IsReady, is_spent}
+use Rattle.array_core.specs.declared.array.Array.{Array}
+use Rattle.array_core.specs.Drives.{SegmentsHold}
+use Rattle.array_core.specs.Ready.{IsReady, is_spent}
 use Rattle.array_core.specs.Holding as core
 use Rattle.array_core.specs.Performing.{IsKeptAt, IsLost}
-use Rattle.array_switch.specs.Switching.{DropsFailed, IsHolder, IsTooMuch, NoneJoins, WasOpen}
-use Rattle.array_switch.proofs.Free.{free_writes_go_on}
+use Rattle.array_core.specs.Switching.{DropsFailed, IsHolder, IsTooMuch, NoneJoins, WasOpen}
+use Rattle.array_core.proofs.FreeWrites.{free_writes_go_on}
 use Rattle.array_checkpoint.specs.Prepared.{IsLike}
 use Rattle.array_checkpoint.specs.Made.{HasFlushed}
 use Rattle.array_checkpoint.proofs.Like.{like_is, roomed, roomed_reads}

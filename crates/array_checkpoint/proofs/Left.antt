@@ -19,11 +19,11 @@ use Rattle.checkpoint_spec.specs.Contents.{AreAmong, ContentsStand}
 use Rattle.segment_io.specs.Lost.{is_in}
 use Rattle.segment_io.specs.Stripes.{bytes_of}
 use Rattle.data_io.specs.Standing.{DataStands}
-use Rattle.array_state.specs.declared.array.Array.{Array}
-use Rattle.array_state.specs.Drives.{SegmentsHold}
-use Rattle.array_state.specs.Ready.{IsArrayOf}
+use Rattle.array_core.specs.declared.array.Array.{Array}
+use Rattle.array_core.specs.Drives.{SegmentsHold}
+use Rattle.array_core.specs.Ready.{IsArrayOf}
 use Rattle.array_core.proofs.Losses.{same_geometry}
-use Rattle.array_switch.proofs.Keeping.{unnamed}
+use Rattle.array_core.proofs.Keeping.{unnamed}
 use Rattle.checkpoint_io.specs.Storing.{OnCheckpoint}
 use Rattle.array_checkpoint.specs.declared.preparing.Prepared.{Prepared}
 use Rattle.array_checkpoint.specs.Prepared.{IsPreparedFor}

@@ -8,8 +8,8 @@ use Rattle.memory_spec.specs.Memory.{Contents, ReadsAs}
 use Rattle.array_memory.specs.Kept.{Kept}
 use Rattle.array_memory.specs.Plan.{with_patch_rooms}
 use Rattle.array_memory.proofs.SoundLemmas.{sound_as}
-use Rattle.array_state.specs.declared.array.Array.{Array}
-use Rattle.array_state.specs.Ready.{IsArrayOf, IsReady}
+use Rattle.array_core.specs.declared.array.Array.{Array}
+use Rattle.array_core.specs.Ready.{IsArrayOf, IsReady}
 use Rattle.array_checkpoint.specs.Prepared.{IsLike}
 
 -- the array with room for patches as there

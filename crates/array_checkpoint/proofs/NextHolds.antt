@@ -32,12 +32,12 @@ use Rattle.record_tables.specs.Laws.{new_facts}
 use Rattle.record_tables.specs.Patches.{added_patches}
 use Rattle.record_tables.proofs.Lists.{all_weaker}
 use Rattle.segment_io.specs.Stripes.{bytes_of}
-use Rattle.open_array.specs.Free.{WritesFree}
-use Rattle.open_array.proofs.Kept.{free_writes_leave}
-use Rattle.array_state.specs.declared.array.Array.{Array}
-use Rattle.array_state.specs.Ready.{IsArrayOf, IsReady}
+use Rattle.array_core.specs.Free.{WritesFree}
+use Rattle.array_core.proofs.Kept.{free_writes_leave}
+use Rattle.array_core.specs.declared.array.Array.{Array}
+use Rattle.array_core.specs.Ready.{IsArrayOf, IsReady}
 use Rattle.array_core.proofs.Losses.{same_geometry}
-use Rattle.array_switch.specs.Switching.{HoldNext}
+use Rattle.array_core.specs.Switching.{HoldNext}
 use Rattle.array_checkpoint.specs.declared.preparing.Prepared.{Prepared}
 use Rattle.array_checkpoint.specs.Prepared.{IsPreparedFor}
 use Rattle.array_checkpoint.specs.Made.{contents_after, held_after}

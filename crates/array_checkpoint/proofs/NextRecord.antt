@@ -19,8 +19,8 @@ use Rattle.record_tables.specs.Laws.{with_patches}
 use Rattle.record_tables.specs.Patches.{added_patches, by_tag}
 use Rattle.record_tables.proofs.Named.{next_patches_are_named}
 use Rattle.record_tables.proofs.Sound.{next_segments_are_sound}
-use Rattle.array_state.specs.declared.array.Array.{Array}
-use Rattle.array_state.specs.Ready.{IsArrayOf}
+use Rattle.array_core.specs.declared.array.Array.{Array}
+use Rattle.array_core.specs.Ready.{IsArrayOf}
 use Rattle.array_checkpoint.specs.declared.preparing.Prepared.{Prepared}
 use Rattle.array_checkpoint.specs.Prepared.{IsPreparedFor}
 use Rattle.array_checkpoint.proofs.ElidedSegments.{new_then, sound_then}

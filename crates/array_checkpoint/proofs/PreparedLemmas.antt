@@ -42,8 +42,8 @@ use Rattle.record_tables.specs.Laws.{HaveFacts}
 use Rattle.record_tables.specs.Patches.{added_patches, by_tag, segments_for, segments_of, FitRecord}
 use Rattle.record_tables.specs.Units.{AreNewUnits}
 use Rattle.record_tables.proofs.Room.{some_groups}
-use Rattle.array_state.specs.declared.array.Array.{Array}
-use Rattle.array_state.specs.Ready.{is_spent, IsArrayOf}
+use Rattle.array_core.specs.declared.array.Array.{Array}
+use Rattle.array_core.specs.Ready.{is_spent, IsArrayOf}
 use Rattle.array_checkpoint.specs.Room.{HasGroups}
 use Rattle.array_checkpoint.proofs.Rooms.{patches_show}
 use Rattle.array_checkpoint.specs.declared.preparing.Prepared.{Prepared}

@@ -34,7 +34,7 @@ use Rattle.register.proofs.FlagLemmas.{in_cut}
 use Rattle.memory_spec.specs.Memory.{Contents}
 use Rattle.checkpoint_spec.specs.Contents.{AreAmong, ContentsStand}
 use Rattle.session_spec.specs.Entering.{read_now}
-use Rattle.array_state.specs.Drives.{drives_view}
+use Rattle.array_core.specs.Drives.{drives_view}
 
 -- ---- what segments hold
 

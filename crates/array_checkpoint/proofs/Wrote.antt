@@ -21,13 +21,13 @@ use Rattle.data_io.specs.Standing.{DataStands}
 use Rattle.data_io.specs.Storing.{ShowsMostOf, StaysClean}
 use Rattle.checkpoint_io.specs.Storing.{OnCheckpoint, OthersStayOfCheckpoint}
 use Rattle.checkpoint_io.specs.Standing.{FactsStand}
-use Rattle.open_array.specs.Free.{OnFree, WritesFree}
-use Rattle.open_array.proofs.Standing.{member_clean}
-use Rattle.array_state.specs.declared.array.Array.{Array}
-use Rattle.array_state.specs.Ready.{IsArrayOf, IsReady}
+use Rattle.array_core.specs.Free.{OnFree, WritesFree}
+use Rattle.array_core.proofs.Standing.{member_clean}
+use Rattle.array_core.specs.declared.array.Array.{Array}
+use Rattle.array_core.specs.Ready.{IsArrayOf, IsReady}
 use Rattle.array_core.specs.Performing.{IsKeptAt}
-use Rattle.array_switch.specs.Switching.{AreLost, WroteFree}
-use Rattle.array_switch.proofs.Free.{free_writes_go_on}
+use Rattle.array_core.specs.Switching.{AreLost, WroteFree}
+use Rattle.array_core.proofs.FreeWrites.{free_writes_go_on}
 use Rattle.array_checkpoint.specs.declared.preparing.Prepared.{Prepared}
 use Rattle.array_checkpoint.specs.Prepared.{IsPreparedFor}
 use Rattle.array_checkpoint.proofs.FreeUnits.{nvrams_stay, only_free}

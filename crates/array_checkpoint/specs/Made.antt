@@ -20,8 +20,8 @@ use Rattle.array_memory.specs.declared.limits.TheConstants.{ELIDED_SEGMENTS}
 use Rattle.array_memory.specs.declared.plan.Plan.{Plan}
 use Rattle.array_memory.specs.Eliding.{AreLowestUnused}
 use Rattle.array_memory.specs.Plan.{after_plan, next_past}
-use Rattle.array_state.specs.declared.array.Array.{Array}
-use Rattle.array_state.specs.Drives.{SegmentsHold}
+use Rattle.array_core.specs.declared.array.Array.{Array}
+use Rattle.array_core.specs.Drives.{SegmentsHold}
 use Rattle.array_core.specs.Going.{by_faults}
 use Rattle.array_core.specs.Goes.{Halts}
 use Rattle.array_checkpoint.specs.declared.making.CheckpointFault.{CheckpointFault}

@@ -8,7 +8,7 @@ use Rattle.array_memory.specs.Plan.{next_past, units_of, with_patch_rooms, AreCo
 use Rattle.record_tables.specs.Patches.{added_patches, by_tag, segments_of, FitRecord}
 use Rattle.record_tables.specs.Units.{AreNewUnits}
 use Rattle.record_tables.specs.Laws.{HaveFacts}
-use Rattle.array_state.specs.declared.array.Array.{Array}
+use Rattle.array_core.specs.declared.array.Array.{Array}
 use Rattle.array_checkpoint.specs.declared.preparing.Prepared.{Prepared}
 use Rattle.array_checkpoint.specs.declared.limits.TheConstants.{DATA_SEGMENTS, NEW_PATCHES}
 

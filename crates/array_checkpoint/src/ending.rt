@@ -9,20 +9,20 @@ ghost use Rattle.register.specs.Registers.{named_sound};
 ghost use Rattle.register.specs.Standing.{Content, array_of};
 ghost use Rattle.memory_spec.specs.Memory.{Contents, ReadsAs};
 ghost use Rattle.memory_spec.specs.Tables.{facts};
-ghost use Rattle.array_state.specs.Drives.{SegmentsHold};
-ghost use Rattle.array_state.specs.Ready.{IsArrayOf, IsReady, is_spent};
+ghost use Rattle.array_core.specs.Drives.{SegmentsHold};
+ghost use Rattle.array_core.specs.Ready.{IsArrayOf, IsReady, is_spent};
 ghost use Rattle.array_core.specs.Losing.{lost_since};
 ghost use Rattle.array_core.specs.Performing.{IsKeptAt};
 ghost use Rattle.array_core.specs.declared.performing.PerformFault.TheVariants.{Device};
-ghost use Rattle.array_switch.specs.Switching.{AreLost, DropsFailed, HoldNext, IsTooMuch, NoneJoins, WasOpen, WroteFree};
+ghost use Rattle.array_core.specs.Switching.{AreLost, DropsFailed, HoldNext, IsTooMuch, NoneJoins, WasOpen, WroteFree};
 ghost use Rattle.array_checkpoint.specs.declared.limits.TheConstants.{SEGMENTS_END};
 ghost use Rattle.array_checkpoint.specs.Prepared.{IsPreparedFor};
 ghost use Rattle.array_checkpoint.specs.Made.{contents_after, facts_after, held_after, HasFlushed, HoldOnLeft};
 
 use crate::preparing::Prepared;
 use array_core::PerformFault;
-use array_state::Array;
-use array_switch::switch;
+use array_core::Array;
+use array_core::switch;
 use pur_base::Lost;
 use world::Shelf;
 

@@ -16,12 +16,12 @@ ghost use Rattle.array_memory.specs.Eliding.{eliding_by};
 ghost use Rattle.array_memory.specs.Plan.{next_past, units_of, with_patch_rooms, AreLeftFor, IsPlanOf};
 ghost use Rattle.record_tables.specs.Units.{IsMapAfter};
 ghost use Rattle.array_checkpoint.specs.declared.limits.TheConstants.{CHECKPOINT_GROUPS, DATA_SEGMENTS};
-ghost use Rattle.array_state.specs.Ready.{IsArrayOf, is_spent};
+ghost use Rattle.array_core.specs.Ready.{IsArrayOf, is_spent};
 ghost use Rattle.array_checkpoint.specs.Prepared.{IsLike, IsPreparedFor};
 ghost use Rattle.array_checkpoint.specs.Room.{HasGroups};
 
 use array_memory::{Memory, Plan};
-use array_state::Array;
+use array_core::Array;
 use boot_codec::Patches;
 use checkpoint_plan::segments_for;
 use free_space::map_of;

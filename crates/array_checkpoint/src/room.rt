@@ -4,11 +4,11 @@ ghost use Rattle.pur_base.specs.Devices.{Geometry};
 ghost use Rattle.boot_codec.specs.Record.{patch_segments};
 ghost use Rattle.boot_codec.specs.declared.limits.TheConstants.{PATCH_SEGMENTS};
 ghost use Rattle.memory_spec.specs.Numbers.{are_used_up, is_used_up};
-ghost use Rattle.array_state.specs.Ready.{IsArrayOf, is_spent};
+ghost use Rattle.array_core.specs.Ready.{IsArrayOf, is_spent};
 ghost use Rattle.array_checkpoint.specs.Room.{IsFlushRoomFault, IsRoomFault, IsRoomFaultOf, IsRoomOf, MayAdd, MayFlush, MayTake};
 
 use crate::limits::{CHECKPOINT_GROUPS, SEGMENTS_END};
-use array_state::Array;
+use array_core::Array;
 use boot_codec::{NUMBER_LIMIT, NextNumbers, Patches};
 use free_space::groups_left;
 use session_spec::{ADDING_GROUPS, LIMITED_SEGMENTS};

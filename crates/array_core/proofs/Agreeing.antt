@@ -17,6 +17,7 @@ use Rattle.session_spec.specs.Entering.{IsStanding}
 use Rattle.session_spec.proofs.Conditions.{borne_on, still_sound, left_out_once}
 use Rattle.array_core.specs.Holding.{AgreesWith}
 use Rattle.array_core.proofs.Losses.{sound_since}
+use Rattle.array_core.proofs.Standing.{are_sound}
 
 -- ---- conditions in which no more is sound, and nothing more left out
 
@@ -165,15 +166,11 @@ module _ (shelf : Geometry) (image : Image) (first now : Conditions) (sound : (d
 
 -- ---- conditions that agree with the record
 
-pub named_is : (b : Bool) → b ≡ true → (if b then Sound else LeftOut) ≡ Sound
-named_is true e = refl
-named_is false e = absurd (cc e)
-
 pub unnamed_is : (b : Bool) → b ≡ false → (if b then Sound else LeftOut) ≡ LeftOut
 unnamed_is true e = absurd (cc e)
 unnamed_is false e = refl
 
-lost_out : (b : Bool) (c : Condition) → c ≡ LeftOut → missing_if b c ≡ LeftOut
+pub lost_out : (b : Bool) (c : Condition) → c ≡ LeftOut → missing_if b c ≡ LeftOut
 lost_out b Sound e = absurd (cc e)
 lost_out b Missing e = absurd (cc e)
 lost_out b LeftOut e = refl
@@ -182,7 +179,7 @@ module _ (boot : BootRecord) (now : Conditions) (agrees : AgreesWith boot now) (
   named_sounds : (d : Device) → losing failed now d ≡ Sound → losing failed (named_sound boot) d ≡ Sound
   named_sounds d e =
       let was = sound_since (failed d) (now d) e in
-      still_sound (named_sound boot d) (failed d) (named_is (names boot d) (agrees.sound d was.0)) was.1
+      still_sound (named_sound boot d) (failed d) (are_sound (names boot d) (agrees.sound d was.0)) was.1
 
   named_outs : (d : Device) → losing failed now d ≡ LeftOut → losing failed (named_sound boot) d ≡ LeftOut
   named_outs d e = lost_out (failed d) (named_sound boot d) (unnamed_is (names boot d) (agrees.left_out d (left_out_once (failed d) (now d) e)))

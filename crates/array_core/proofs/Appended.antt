@@ -36,20 +36,20 @@ use Rattle.register.specs.declared.state.Register.{Register}
 use Rattle.register.specs.Registers.{OnSlots, drives_of, own_slot, next_slot, named_sound}
 use Rattle.register.specs.Standing.{Content, StandsInLog, MayStore, IsOpen, IsNextOf, GivesOldOrNext}
 use Rattle.register.proofs.Shows.{holds_shows}
-use Rattle.open_array.specs.Logging.{LeadTo, StandsWhateverFails, WritesLog}
-use Rattle.open_array.proofs.Between as between
-use Rattle.open_array.proofs.Logged.{log_writes_stand, log_writes_keep, log_writes_leave}
-use Rattle.open_array.proofs.Standing.{is_named, is_left, member_clean, member_sound}
+use Rattle.array_core.specs.Logging.{LeadTo, StandsWhateverFails, WritesLog}
+use Rattle.array_core.proofs.Between as between
+use Rattle.array_core.proofs.Logged.{log_writes_stand, log_writes_keep, log_writes_leave}
+use Rattle.array_core.proofs.Standing.{is_named, is_left, member_clean, member_sound}
 use Rattle.session_spec.specs.Entering.{IsStanding}
-use Rattle.array_state.specs.Ready.{logged}
+use Rattle.array_core.specs.Ready.{logged}
 use Rattle.array_core.specs.Losing.{lost_since, lost_by}
 use Rattle.array_core.specs.Performing.{IsKeptAt, without_or_with}
 use Rattle.array_core.proofs.Agreeing.{agreed_standing, named_bears}
 use Rattle.array_core.proofs.Commands.{is_of_all}
 use Rattle.array_core.proofs.Losses.{same_geometry, sound_since, left_out_since, by_stop, fewer_borne, bearable_or_not}
-
-nothing_else : {W : ℕ → Type 0} {disk : Disk} {bytes : List ℕ} → ((i : ℕ) → W i → ⊥) → MayLeaveBut W disk bytes → MayLeave disk bytes
-nothing_else none h = record { size = h.size; is_byte = h.is_byte; clean = λ i out. h.same i out (none i) }
+use Rattle.array_core.proofs.Logged.{nothing_else}
+use Rattle.array_core.proofs.Keeping.{kept}
+use Rattle.register.proofs.Again.{both}
 
 -- what a stop leaves of NVRAM devices, with the drives as they are
 abbrev nvrams_at : Shelved → Stop → Image
@@ -66,20 +66,6 @@ off_nvrams members k i (inl (inl x)) = x
 off_nvrams members k i (inl (inr x)) = x
 off_nvrams members k i (inr (inl x)) = x
 off_nvrams members k i (inr (inr x)) = x
-
--- two things at once are true of each stop
-both_leave : {a b : Shelved} {P Q : Stop → Type 0} → LeavesOnly a b P → LeavesOnly a b Q → LeavesOnly a b (λ stop. P stop × Q stop)
-both_leave p q = record {
-  quiet = p.quiet;
-  each = λ stop left. ((p.each stop left).0, ((p.each stop left).1, (q.each stop left).1));
-  before = λ t stop le left. elim (p.before t stop le left) [
-    | inl was ↦ inl was
-    | inr x ↦ elim (q.before t stop le left) [
-      | inl was ↦ inl was
-      | inr y ↦ inr (x.0, (x.1, y.1))
-    ]
-  ];
-}
 
 -- the record has flushed as much, and names no device that the other one doesn't name
 pub record IsAlike (boot other : BootRecord) : Type 0 where
@@ -126,12 +112,6 @@ module _ (a : Shelved) (r : Register) (members : List Bool) (held : Content) (mo
 -- at a stop a session can go on in the conditions of the record
 abbrev KeptNamed : Shelved → BootRecord → List Array → Stop → Type 0
 KeptNamed a boot arrays stop = IsBearable (geometry_of a) (lost_by a stop (named_sound boot)) → IsStanding (geometry_of a) stop.image (lost_by a stop (named_sound boot)) arrays
-
--- and so in all that agree with it
-kept : (a : Shelved) (boot : BootRecord) (arrays : List Array) (stop : Stop) → ((d : Device) → IsBytes (stop.image d)) → KeptNamed a boot arrays stop → IsKeptAt a boot arrays stop
-kept a boot arrays stop bytes here now agrees borne =
-    let failed : Device → Bool = λ d. has_risen (a.disk d).write_faults (stop.write_faults d) in
-    agreed_standing boot now agrees failed (geometry_of a) stop.image bytes arrays borne (here (named_bears boot now agrees failed (geometry_of a) borne))
 
 -- an NVRAM device holds the log
 pub some_member : {a : Shelved} (r : Register) (members : List Bool) {held : Content} → IsOpen a r members held → nv.IsSome members
@@ -222,7 +202,7 @@ module _ (a m : Shelved) (r : Register) (members now : List Bool) (held : Conten
       arrays (stands later within bears)
 
   pub append_moments : LeavesOnly a m (IsKeptAt a r.record arrays)
-  append_moments = weaker (λ stop all. kept a r.record arrays stop (λ d. (all.1.1.bytes d).is_byte) (while_appending stop (all.0, all.1.0, all.1.1))) (both_leave p.left (both_leave stand p.writes.any_moment))
+  append_moments = weaker (λ stop all. kept a r.record arrays stop (λ d. (all.1.1.bytes d).is_byte) (while_appending stop (all.0, all.1.0, all.1.1))) (both p.left (both stand p.writes.any_moment))
 
   -- ---- afterwards
 
@@ -355,7 +335,7 @@ module _ (a m : Shelved) (r : Register) (members now : List Bool) (held : Conten
         (giving : (missing : Conditions) (held : Content) (others : List Array) → MayStore m r now missing held others → LeavesOnly m n (GivesOldOrNext m r now missing)) where
       store_moments : LeavesOnly m n (IsKeptAt a r.record arrays)
       store_moments = elim (bearable_or_not (geometry_of a) (lost_since a m (named_sound r.record))) [
-        | inl bears ↦ weaker (λ stop both. kept a r.record arrays stop (λ d. (both.1.bytes d).is_byte) (while_storing bears off stop both)) (both_leave (both_leave (storing lost (logged held c) arrays (may_store bears)) (giving lost (logged held c) arrays (may_store bears))) writes.any_moment)
+        | inl bears ↦ weaker (λ stop both. kept a r.record arrays stop (λ d. (both.1.bytes d).is_byte) (while_storing bears off stop both)) (both (both (storing lost (logged held c) arrays (may_store bears)) (giving lost (logged held c) arrays (may_store bears))) writes.any_moment)
         | inr not ↦ weaker (λ stop left now agrees borne.
             let named = named_bears r.record now agrees (λ d. has_risen (a.disk d).write_faults (stop.write_faults d)) (geometry_of a) borne in
             absurd (not (fewer_borne (geometry_of a) lost (lost_by a stop (named_sound r.record)) (by_stop a m stop (named_sound r.record) left.counts) named))) writes.any_moment

@@ -21,7 +21,7 @@ use Rattle.register.specs.declared.state.Register.{Register}
 use Rattle.register.specs.Registers.{IsRegisterOf, IsLaterRecord, drives_of}
 use Rattle.register.proofs.FlagLemmas.{few_set, fewer_count, in_cut, cut_in}
 use Rattle.session_spec.specs.Faring.{MayRise}
-use Rattle.array_state.specs.declared.array.Array.{Array}
+use Rattle.array_core.specs.declared.array.Array.{Array}
 use Rattle.array_core.specs.Holding.{IsHolder, DropsFailed, NoneJoins}
 
 -- ---- counts of failed calls at each moment

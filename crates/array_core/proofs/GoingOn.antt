@@ -10,7 +10,7 @@ use Rattle.world.proofs.Moments.{continues_trans, then_run, weaker}
 use Rattle.register.proofs.Again.{both}
 use Rattle.memory_spec.specs.Memory.{Contents, ReadsAs}
 use Rattle.session_spec.specs.Entering.{IsStanding}
-use Rattle.array_state.specs.declared.array.Array.{Array}
+use Rattle.array_core.specs.declared.array.Array.{Array}
 use Rattle.array_core.specs.Holding.{IsHolder}
 use Rattle.array_core.specs.Losing.{lost_by, lost_since}
 use Rattle.array_core.proofs.Losses.{lost_twice, lost_twice_by, same_geometry, sound_since}

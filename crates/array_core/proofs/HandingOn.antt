@@ -9,8 +9,8 @@ use Rattle.world.specs.Losing.{has_risen}
 use Rattle.world.specs.Shelf.{Shelved, Continues}
 use Rattle.boot_region.proofs.Stored.{rises_between}
 use Rattle.register.specs.Standing.{Content}
-use Rattle.array_state.specs.declared.array.Array.{Array}
-use Rattle.array_state.specs.Ready.{IsReady}
+use Rattle.array_core.specs.declared.array.Array.{Array}
+use Rattle.array_core.specs.Ready.{IsReady}
 use Rattle.array_core.specs.Holding.{IsHolder}
 use Rattle.array_core.specs.Losing.{lost_since}
 use Rattle.array_core.proofs.Losses.{sound_since, left_out_since}

@@ -1,3 +1,10 @@
+pub mod Before
+pub mod Standing
+pub mod Reopened
+pub mod Kept
+pub mod Between
+pub mod Logged
+pub mod Applied
 pub mod Losses
 pub mod Commands
 pub mod Agreeing
@@ -11,3 +18,14 @@ pub mod OnWay
 pub mod HandingOn
 pub mod GoingOn
 pub mod Steps
+pub mod Keeping
+pub mod Alone
+pub mod FreeWrites
+pub mod Storing
+pub mod LostOnWay
+pub mod Tables
+pub mod Cleared
+pub mod Moved
+pub mod Stages
+pub mod Whole
+pub mod Holders

@@ -22,7 +22,7 @@ use Rattle.register.specs.declared.next.StoreFault.TheVariants.{Spent, TooFew}
 use Rattle.register.specs.Faults.{IsFaultOf}
 use Rattle.register.specs.Registers.{IsRegisterOf, IsLaterRecord, drives_of}
 use Rattle.register.proofs.FlagLemmas.{fewer_count, in_cut}
-use Rattle.array_state.specs.declared.array.Array.{Array}
+use Rattle.array_core.specs.declared.array.Array.{Array}
 use Rattle.array_core.specs.Holding.{IsHolder}
 use Rattle.array_core.specs.Losing.{lost_since}
 use Rattle.array_core.specs.Performing.{IsLost, LostLog, LostDrives}

@@ -22,8 +22,8 @@ use Rattle.register.specs.declared.state.Register.{Register}
 use Rattle.register.specs.Registers.{named_sound}
 use Rattle.register.specs.Standing.{Content, IsFirm, MayStore}
 use Rattle.register.proofs.Stores.{members_sound}
-use Rattle.open_array.proofs.Standing.{is_left}
-use Rattle.array_state.specs.Ready.{logged}
+use Rattle.array_core.proofs.Standing.{is_left}
+use Rattle.array_core.specs.Ready.{logged}
 use Rattle.array_core.specs.Performing.{StandsOnceBack, without_or_with}
 use Rattle.array_core.proofs.Appended as appended
 use Rattle.array_core.proofs.Appended.{IsAppending}

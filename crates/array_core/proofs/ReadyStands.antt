@@ -18,14 +18,15 @@ use Rattle.nvram_log.specs.Members as nv
 use Rattle.register.specs.declared.state.Register.{Register}
 use Rattle.register.specs.Registers.{drives_of, named_sound}
 use Rattle.register.specs.Standing.{Content, IsOpen, array_of}
-use Rattle.open_array.proofs.Standing.{is_named, is_left}
+use Rattle.array_core.proofs.Standing.{is_named, is_left}
 use Rattle.register.proofs.FlagLemmas.{in_cut, cut_in, none_past}
 use Rattle.session_spec.specs.Entering.{IsStanding, LeftOutAreNamedByNone, AreRead}
-use Rattle.array_state.specs.declared.array.Array.{Array}
-use Rattle.array_state.specs.Ready.{IsReady}
+use Rattle.array_core.specs.declared.array.Array.{Array}
+use Rattle.array_core.specs.Ready.{IsReady}
 use Rattle.array_core.specs.Holding.{IsHolder, DropsFailed, NoneJoins, AgreesWith}
 use Rattle.array_core.specs.Losing.{lost_since}
-use Rattle.array_core.proofs.Agreeing.{standing_in, named_is, unnamed_is}
+use Rattle.array_core.proofs.Agreeing.{standing_in, unnamed_is}
+use Rattle.array_core.proofs.Standing.{are_sound}
 use Rattle.array_core.proofs.Commands.{is_of_all}
 use Rattle.array_core.proofs.Losses.{sound_since, left_out_since}
 
@@ -95,11 +96,11 @@ module _ (shelf : Shelved) (a : Array) (held : Content) (ready : IsReady shelf a
   -- so in all conditions that agree with the record
   pub ready_stands_in : (now : Conditions) → AgreesWith r.record now → IsBearable (geometry_of shelf) now → (stop : Stop) → MayStop shelf stop → IsStanding (geometry_of shelf) stop.image now (array_of held ∷ [])
   ready_stands_in now agrees bears stop may =
-      standing_in (geometry_of shelf) stop.image (named_sound r.record) now (λ d e. named_is (names r.record d) (agrees.sound d e)) (λ d e. unnamed_is (names r.record d) (agrees.left_out d e)) bears
+      standing_in (geometry_of shelf) stop.image (named_sound r.record) now (λ d e. are_sound (names r.record d) (agrees.sound d e)) (λ d e. unnamed_is (names r.record d) (agrees.left_out d e)) bears
       (λ d. (may.device d).is_byte) (array_of held ∷ []) (ready_stands stop may)
 
   pub agreed_is_clean : (now : Conditions) → AgreesWith r.record now → (d : Device) → now d ≡ Sound → (shelf.disk d).dirty ≡ []
-  agreed_is_clean now agrees d s = ready_is_clean d (named_is (names r.record d) (agrees.sound d s))
+  agreed_is_clean now agrees d s = ready_is_clean d (are_sound (names r.record d) (agrees.sound d s))
 
 -- the record's own conditions agree with it
 pub agrees_named : (boot : BootRecord) → AgreesWith boot (named_sound boot)

@@ -25,7 +25,7 @@ use Rattle.boot_region.specs.Members.{IsMember}
 use Rattle.register.specs.declared.state.Register.{Register}
 use Rattle.register.specs.Registers.{IsLaterRecord, IsRegisterOf, OnSlots, drives_of}
 use Rattle.register.proofs.FlagLemmas.{cut_in, fewer_count, none_past}
-use Rattle.array_state.specs.Drives.{SegmentsHold, drives_view}
+use Rattle.array_core.specs.Drives.{SegmentsHold, drives_view}
 
 -- ---- views
 

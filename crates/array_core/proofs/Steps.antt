@@ -11,8 +11,8 @@ use Rattle.world.specs.Losing.{geometry_of}
 use Rattle.world.specs.Shelf.{Shelved, LeavesOnly}
 use Rattle.world.proofs.Moments.{weaker}
 use Rattle.register.specs.Standing.{Content, array_of}
-use Rattle.array_state.specs.declared.array.Array.{Array}
-use Rattle.array_state.specs.Ready.{IsArrayOf, IsReady, logged}
+use Rattle.array_core.specs.declared.array.Array.{Array}
+use Rattle.array_core.specs.Ready.{IsArrayOf, IsReady, logged}
 use Rattle.array_core.specs.Holding.{AgreesWith, DropsFailed, IsHolder, NoneJoins}
 use Rattle.array_core.specs.Performing.{IsKeptAt, IsLost, without_or_with}
 use Rattle.array_core.specs.Going.{AgreesFor, by_faults, Calls, HandsOn, IsOnWay}

@@ -10,7 +10,7 @@ use Rattle.world.specs.Shelf.{Shelved}
 use Rattle.boot_region.specs.Members.{IsMember}
 use Rattle.nvram_log.specs.Members as nv
 use Rattle.register.specs.Registers.{drives_of}
-use Rattle.array_state.specs.declared.array.Array.{Array}
+use Rattle.array_core.specs.declared.array.Array.{Array}
 
 -- a device holds the array: a drive on which the record is in force, or an NVRAM device with the log
 abbrev pub IsHolder : Array → Device → Type 0

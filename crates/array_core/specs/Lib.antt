@@ -1,5 +1,13 @@
+pub mod Free
+pub mod Logging
+pub mod Laws
+pub mod Drives
+pub mod Room
+pub mod Ready
 pub mod Losing
 pub mod Holding
 pub mod Performing
 pub mod Going
 pub mod Goes
+pub mod Meanwhile
+pub mod Switching

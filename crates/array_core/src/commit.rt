@@ -14,14 +14,14 @@ ghost use Rattle.register.specs.Standing.{Content, IsOpen};
 ghost use Rattle.memory_spec.specs.Memory.{Contents};
 ghost use Rattle.memory_spec.specs.Tables.{facts};
 ghost use Rattle.session_spec.specs.Faring.{MayRise};
-ghost use Rattle.array_state.specs.Drives.{SegmentsHold};
-ghost use Rattle.array_state.specs.Ready.{IsArrayOf, logged};
+ghost use Rattle.array_core.specs.Drives.{SegmentsHold};
+ghost use Rattle.array_core.specs.Ready.{IsArrayOf, logged};
 ghost use Rattle.array_core.specs.declared.performing.PerformFault.TheVariants.{Device};
 ghost use Rattle.array_core.specs.Holding.{DropsFailed, NoneJoins};
 ghost use Rattle.array_core.specs.Performing.{IsLost, IsKeptAt, StandsOnceBack, without_or_with};
 
 use crate::PerformFault;
-use array_state::Array;
+use crate::Array;
 use nvram_log::Record;
 use pur_base::{Request, Sector};
 use world::Shelf;

@@ -16,14 +16,14 @@ ghost use Rattle.array_memory.specs.Asked.{staged_by, AreLeft, HasRoomLeft, IsAl
 ghost use Rattle.array_memory.specs.Kept.{HasSamePatches};
 ghost use Rattle.array_memory.specs.Lawful.{IsLawful};
 ghost use Rattle.checkpoint_spec.specs.Whole.{AreLayered};
-ghost use Rattle.array_state.specs.Ready.{IsArrayOf, IsReady};
+ghost use Rattle.array_core.specs.Ready.{IsArrayOf, IsReady};
 ghost use Rattle.array_core.specs.Going.{by_faults};
 ghost use Rattle.array_core.specs.Goes.{Goes, Halts};
 ghost use Rattle.array_core.specs.Performing.{HasLogged, HasNumbers, StandsOnceBack, without_or_with};
 
 use crate::commit::commit;
 use array_memory::Memory;
-use array_state::Array;
+use crate::Array;
 use nvram_log::BothLost;
 use pur_base::{Request, Sector};
 use register::StoreFault;

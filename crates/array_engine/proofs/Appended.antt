@@ -6,8 +6,8 @@ use Rattle.boot_codec.specs.declared.record.BootRecord.{BootRecord}
 use Rattle.world.specs.Shelf.{Continues, Shelved}
 use Rattle.world.specs.Losing.{geometry_of}
 use Rattle.session_spec.specs.Faring.{MayRise}
-use Rattle.array_state.specs.declared.array.Array.{Array}
-use Rattle.array_state.specs.Ready.{IsArrayOf}
+use Rattle.array_core.specs.declared.array.Array.{Array}
+use Rattle.array_core.specs.Ready.{IsArrayOf}
 use Rattle.array_core.specs.Going.{by_faults}
 use Rattle.array_core.specs.Goes.{Goes}
 use Rattle.array_core.specs.Performing.{HasLogged}

@@ -19,9 +19,9 @@ use Rattle.register.specs.Registers.{named_sound}
 use Rattle.register.specs.Standing.{Content, array_of}
 use Rattle.memory_spec.specs.Tables.{facts, patches}
 use Rattle.session_spec.specs.Faring.{Point, Answers, IsFailed, IsRefused}
-use Rattle.array_state.specs.declared.array.Array.{Array}
-use Rattle.array_state.specs.Drives.{SegmentsHold}
-use Rattle.array_state.specs.Ready.{IsReady}
+use Rattle.array_core.specs.declared.array.Array.{Array}
+use Rattle.array_core.specs.Drives.{SegmentsHold}
+use Rattle.array_core.specs.Ready.{IsReady}
 use Rattle.array_core.specs.Holding.{IsHolder}
 use Rattle.array_core.specs.Going.{by_faults, AgreesFor, GoesOnAt, IsOnWay}
 use Rattle.array_core.specs.Goes.{Goes, GoesOnMeanwhile, Halts, ReadsOn}

@@ -10,8 +10,8 @@ use Rattle.memory_spec.specs.Tables.{patches}
 use Rattle.checkpoint_spec.proofs.Patches.{patches_are_all, patches_read}
 use Rattle.checkpoint_spec.proofs.Records.{record_is_sound}
 use Rattle.session_spec.specs.Faring.{Point, IsCheckpointed}
-use Rattle.array_state.specs.declared.array.Array.{Array}
-use Rattle.array_state.specs.Ready.{IsArrayOf}
+use Rattle.array_core.specs.declared.array.Array.{Array}
+use Rattle.array_core.specs.Ready.{IsArrayOf}
 use Rattle.array_checkpoint.specs.Made.{HasFlushed}
 use Rattle.array_engine.specs.Engines.{StandsAt}
 use Rattle.array_engine.proofs.Cleared.{cleared_tables}

@@ -3,9 +3,9 @@ use Rattle.std.proofs.Common.{◌≡◌, ℕ, ◌≤◌, List, [], ◌∷◌, le
 use Rattle.pur_base.specs.Devices.{Geometry}
 use Rattle.checkpoint_spec.specs.Whole.{IsWhole}
 use Rattle.array_memory.specs.Kept.{Kept}
-use Rattle.array_state.specs.declared.array.Array.{Array}
-use Rattle.array_state.specs.Ready.{IsArrayOf}
-use Rattle.array_state.specs.Room.{HasRoomFor}
+use Rattle.array_core.specs.declared.array.Array.{Array}
+use Rattle.array_core.specs.Ready.{IsArrayOf}
+use Rattle.array_core.specs.Room.{HasRoomFor}
 
 none_left : {A : Type 0} (xs : List A) → length xs ≤ 0 → xs ≡ []
 none_left [] few = refl

@@ -23,8 +23,8 @@ use Rattle.memory_spec.specs.Tables.{patches}
 use Rattle.session_spec.specs.Faring as faring
 use Rattle.session_spec.specs.Faring.{Point, Answers, AnswersRequest, AnswersAccepted, IsAppended as IsAppendedAt, IsAppendedBehind, IsDone, IsRefused, MayRise, Where}
 use Rattle.session_spec.specs.declared.limits.TheConstants.{ADDING_GROUPS, LIMITED_SEGMENTS}
-use Rattle.array_state.specs.declared.array.Array.{Array}
-use Rattle.array_state.proofs.Applied.{same_patches}
+use Rattle.array_core.specs.declared.array.Array.{Array}
+use Rattle.array_core.proofs.Applied.{same_patches}
 use Rattle.array_core.specs.Going.{by_faults}
 use Rattle.array_core.specs.Goes.{Goes}
 use Rattle.array_checkpoint.specs.Prepared.{IsLike}

@@ -22,9 +22,9 @@ use Rattle.target_io.specs.Targets.{IfRefused, IfLost}
 use Rattle.target_io.specs.declared.fault.ReadFault.{ReadFault}
 use Rattle.target_io.specs.declared.fault.ReadFault.TheVariants as read
 use Rattle.session_spec.specs.Faring.{Point}
-use Rattle.array_state.specs.declared.array.Array.{Array}
-use Rattle.array_state.specs.Drives.{drives_view}
-use Rattle.array_state.specs.Ready.{IsArrayOf}
+use Rattle.array_core.specs.declared.array.Array.{Array}
+use Rattle.array_core.specs.Drives.{drives_view}
+use Rattle.array_core.specs.Ready.{IsArrayOf}
 use Rattle.array_checkpoint.specs.Prepared.{IsLike}
 use Rattle.pyramid_jobs.specs.declared.fault.MergeFault.{MergeFault}
 use Rattle.pyramid_jobs.specs.declared.fault.MergeFault.TheVariants as merge

@@ -3,7 +3,7 @@ use Rattle.std.proofs.Common.{◌≡◌, ℕ, false, List, [], ◌∷◌, Result
 use Rattle.pur_base.specs.Commands.{Command}
 use Rattle.pur_base.specs.declared.request.Table.{Table}
 use Rattle.world.specs.Shelf.{Shelved, IsShelf}
-use Rattle.array_state.specs.declared.array.Array.{Array}
+use Rattle.array_core.specs.declared.array.Array.{Array}
 use Rattle.array_core.specs.Going.{by_faults}
 use Rattle.array_core.specs.Goes.{Goes, GoesOnMeanwhile, Halts}
 use Rattle.array_core.proofs.GoingOn.{halts_for_more}

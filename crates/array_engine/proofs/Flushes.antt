@@ -14,7 +14,7 @@ use Rattle.world.specs.Losing.{geometry_of}
 use Rattle.memory_spec.specs.Tables.{patches}
 use Rattle.session_spec.specs.Faring.{Point, Answers, AnswersRequest, IsFlushed, IsFlushing, IsRefused}
 use Rattle.session_spec.specs.declared.limits.TheConstants.{CHECKPOINT_GROUPS, SEGMENTS_END}
-use Rattle.array_state.specs.Ready.{IsArrayOf}
+use Rattle.array_core.specs.Ready.{IsArrayOf}
 use Rattle.array_core.specs.Going.{by_faults}
 use Rattle.array_core.specs.Goes.{Goes}
 use Rattle.array_core.proofs.Losses.{same_geometry}

@@ -15,18 +15,18 @@ use Rattle.segment_io.specs.Lost.{NoByte}
 use Rattle.register.specs.declared.state.Register.{Register}
 use Rattle.register.specs.Registers.{drives_of}
 use Rattle.register.specs.Standing.{Content, array_of}
-use Rattle.open_array.specs.Free.{WritesFree, OnFree}
-use Rattle.open_array.proofs.Kept.{free_writes_keep_open}
-use Rattle.open_array.proofs.Standing.{member_clean}
+use Rattle.array_core.specs.Free.{WritesFree, OnFree}
+use Rattle.array_core.proofs.Kept.{free_writes_keep_open}
+use Rattle.array_core.proofs.Standing.{member_clean}
 use Rattle.segment_io.proofs.InTurn.{nothing}
 use Rattle.nvram_log.specs.Held.{HoldsOn}
 use Rattle.nvram_log.specs.Slots.{IsLog}
 use Rattle.memory_spec.specs.Memory.{Contents}
 use Rattle.memory_spec.specs.Tables.{facts}
 use Rattle.checkpoint_spec.specs.Contents.{ContentsStand}
-use Rattle.array_state.specs.declared.array.Array.{Array}
-use Rattle.array_state.specs.Drives.{SegmentsHold, drives_view}
-use Rattle.array_state.specs.Ready.{IsReady}
+use Rattle.array_core.specs.declared.array.Array.{Array}
+use Rattle.array_core.specs.Drives.{SegmentsHold, drives_view}
+use Rattle.array_core.specs.Ready.{IsReady}
 use Rattle.array_core.specs.Going.{by_faults, GoesOnAt, IsOnWay}
 use Rattle.array_core.specs.Goes.{GoesOnMeanwhile, Holds}
 use Rattle.array_core.specs.Losing.{lost_by}

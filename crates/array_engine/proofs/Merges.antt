@@ -25,8 +25,8 @@ use Rattle.merge_plan.specs.Merging.{merged_patches}
 use Rattle.session_spec.specs.Faring as faring
 use Rattle.session_spec.specs.Faring.{Point, Answers, AnswersRequest, IsMergeDone, IsMerging, IsRefused, WithPair}
 use Rattle.session_spec.specs.declared.limits.TheConstants.{MERGE_GROUPS}
-use Rattle.array_state.specs.declared.array.Array.{Array}
-use Rattle.array_state.specs.Ready.{IsArrayOf, is_spent}
+use Rattle.array_core.specs.declared.array.Array.{Array}
+use Rattle.array_core.specs.Ready.{IsArrayOf, is_spent}
 use Rattle.array_core.specs.Going.{by_faults}
 use Rattle.array_core.specs.Goes.{Goes}
 use Rattle.array_core.proofs.Losses.{same_geometry}

@@ -8,8 +8,8 @@ use Rattle.pur_base.specs.Devices.{Geometry}
 use Rattle.pur_base.specs.Visible.{segment, segments}
 use Rattle.world.specs.Shelf.{Shelved}
 use Rattle.session_spec.specs.Faring.{Point, data_segments_at, numbers_at}
-use Rattle.array_state.specs.declared.array.Array.{Array}
-use Rattle.array_state.specs.Ready.{IsArrayOf}
+use Rattle.array_core.specs.declared.array.Array.{Array}
+use Rattle.array_core.specs.Ready.{IsArrayOf}
 use Rattle.array_checkpoint.proofs.Rooms.{patches_show}
 use Rattle.array_engine.specs.Engines.{StandsAt}
 use Rattle.array_engine.specs.Status.{numbers_of, segments_of}

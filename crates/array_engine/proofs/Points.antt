@@ -21,9 +21,9 @@ use Rattle.memory_spec.specs.Memory.{Contents, ReadsAs}
 use Rattle.memory_spec.specs.Tables.{facts, patches}
 use Rattle.session_spec.specs.Faring as faring
 use Rattle.session_spec.specs.Faring.{Point, Answers, AnswersRequest, IsAsBefore, IsRefused, LosesThree, numbers_at}
-use Rattle.array_state.specs.declared.array.Array.{Array}
-use Rattle.array_state.specs.Drives.{SegmentsHold}
-use Rattle.array_state.specs.Ready.{IsReady}
+use Rattle.array_core.specs.declared.array.Array.{Array}
+use Rattle.array_core.specs.Drives.{SegmentsHold}
+use Rattle.array_core.specs.Ready.{IsReady}
 use Rattle.array_checkpoint.specs.Prepared.{IsLike}
 use Rattle.array_checkpoint.proofs.Like.{like_is, like_is_ready, roomed_reads}
 use Rattle.array_core.proofs.Losses.{sound_since, left_out_since}

@@ -10,8 +10,8 @@ use Rattle.boot_codec.specs.declared.record.BootRecord.{BootRecord}
 use Rattle.world.specs.Shelf.{Shelved}
 use Rattle.session_spec.specs.Faring as faring
 use Rattle.session_spec.specs.Faring.{Point, IsRefused, Where, WithRoom, has_segments}
-use Rattle.array_state.specs.declared.array.Array.{Array}
-use Rattle.array_state.specs.Ready.{is_spent}
+use Rattle.array_core.specs.declared.array.Array.{Array}
+use Rattle.array_core.specs.Ready.{is_spent}
 use Rattle.array_checkpoint.specs.Room.{HasGroups, IsRoomFaultOf, MayAdd, MayTake}
 use Rattle.array_checkpoint.specs.declared.room.RoomFault.{RoomFault}
 use Rattle.array_checkpoint.specs.declared.room.RoomFault.TheVariants as lacks

@@ -26,9 +26,9 @@ use Rattle.memory_spec.proofs.AllTables.{all_segments}
 use Rattle.memory_spec.proofs.Lists.{each_by_recursion}
 use Rattle.session_spec.specs.Faring as faring
 use Rattle.session_spec.specs.Faring.{Point, IsGone}
-use Rattle.array_state.specs.declared.array.Array.{Array}
-use Rattle.array_state.specs.Drives.{drives_view}
-use Rattle.array_state.specs.Ready.{IsArrayOf}
+use Rattle.array_core.specs.declared.array.Array.{Array}
+use Rattle.array_core.specs.Drives.{drives_view}
+use Rattle.array_core.specs.Ready.{IsArrayOf}
 use Rattle.target_io.specs.Reading.{AreReadable, ShowsDrives, IsLost, LosesThree}
 use Rattle.array_core.specs.Holding.{IsHolder}
 use Rattle.array_engine.specs.Appending.{failed_in}

@@ -16,9 +16,9 @@ use Rattle.memory_spec.specs.Memory.{Contents, ReadsAs}
 use Rattle.memory_spec.specs.Tables.{facts, patches}
 use Rattle.session_spec.specs.Entering.{IsStanding}
 use Rattle.session_spec.specs.Faring.{Point, Answers}
-use Rattle.array_state.specs.declared.array.Array.{Array}
-use Rattle.array_state.specs.Drives.{SegmentsHold}
-use Rattle.array_state.specs.Ready.{IsArrayOf, IsReady}
+use Rattle.array_core.specs.declared.array.Array.{Array}
+use Rattle.array_core.specs.Drives.{SegmentsHold}
+use Rattle.array_core.specs.Ready.{IsArrayOf, IsReady}
 use Rattle.array_core.specs.Holding.{IsHolder}
 use Rattle.array_core.specs.Losing.{lost_by}
 use Rattle.array_checkpoint.specs.Room.{IsRoomOf, MayAdd}

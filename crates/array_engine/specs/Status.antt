@@ -8,7 +8,7 @@ use Rattle.log_codec.specs.declared.limits.TheConstants.{LOG_SLOTS}
 use Rattle.memory_spec.specs.Tables.{facts}
 use Rattle.session_spec.specs.Faring.{set_flags}
 use Rattle.session_spec.specs.declared.limits.TheConstants.{CONTROLLER}
-use Rattle.array_state.specs.declared.array.Array.{Array}
+use Rattle.array_core.specs.declared.array.Array.{Array}
 
 -- the data segments that its tables show
 abbrev pub segments_of : Array → List SegmentFact

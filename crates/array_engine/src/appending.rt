@@ -11,7 +11,7 @@ ghost use Rattle.register.specs.Standing.{Content, array_of};
 ghost use Rattle.volume_ops.specs.OfArray.{OfArray};
 ghost use Rattle.array_memory.specs.Asked.{IsAllowed};
 ghost use Rattle.array_memory.specs.Lawful.{IsLawful};
-ghost use Rattle.array_state.specs.Ready.{IsArrayOf, IsReady};
+ghost use Rattle.array_core.specs.Ready.{IsArrayOf, IsReady};
 ghost use Rattle.array_core.specs.Going.{by_faults};
 ghost use Rattle.array_core.specs.Goes.{Goes, Halts};
 ghost use Rattle.array_core.specs.Performing.{HasLogged, HasNumbers};
@@ -24,7 +24,7 @@ ghost use Rattle.array_engine.specs.declared.appending.AppendFault.TheVariants.{
 
 use array_checkpoint::{CheckpointFault, Room, RoomFault, check_room, checkpoint};
 use array_core::{PerformFault, perform};
-use array_state::Array;
+use array_core::Array;
 use pur_base::{Request, Sector};
 use std::alloc::Global;
 use world::Shelf;

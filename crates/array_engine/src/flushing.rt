@@ -2,7 +2,7 @@
 ghost use Rattle.std.specs.Prelude.{◌≡◌, false, [], OnOk, IfErr};
 ghost use Rattle.world.specs.Losing.{geometry_of};
 ghost use Rattle.world.specs.Shelf.{Continues, LeavesOnly, IsCountedBy};
-ghost use Rattle.array_state.specs.Ready.{IsArrayOf};
+ghost use Rattle.array_core.specs.Ready.{IsArrayOf};
 ghost use Rattle.array_core.specs.Going.{by_faults};
 ghost use Rattle.array_core.specs.Goes.{Goes, GoesOnMeanwhile};
 ghost use Rattle.array_checkpoint.specs.Made.{HasFlushed};
@@ -13,7 +13,7 @@ ghost use Rattle.array_engine.specs.Replying.{ends_lost};
 
 use crate::appending::AppendFault;
 use array_checkpoint::{Room, check_checkpoint, checkpoint};
-use array_state::Array;
+use array_core::Array;
 use std::alloc::Global;
 use world::Shelf;
 

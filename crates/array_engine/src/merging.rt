@@ -2,7 +2,7 @@
 ghost use Rattle.std.specs.Prelude.{◌≡◌, false, [], OnOk, IfErr};
 ghost use Rattle.world.specs.Losing.{geometry_of};
 ghost use Rattle.world.specs.Shelf.{Continues, LeavesOnly, IsCountedBy};
-ghost use Rattle.array_state.specs.Ready.{IsArrayOf};
+ghost use Rattle.array_core.specs.Ready.{IsArrayOf};
 ghost use Rattle.array_core.specs.Going.{by_faults};
 ghost use Rattle.array_core.specs.Goes.{Goes, GoesOnMeanwhile};
 ghost use Rattle.array_checkpoint.specs.Room.{IsRoomOf};
@@ -11,7 +11,7 @@ ghost use Rattle.pyramid_jobs.specs.Made.{HasMerged, IsFaultOf};
 ghost use Rattle.array_engine.specs.Replying.{merge_ends_lost};
 
 use array_checkpoint::Room;
-use array_state::Array;
+use array_core::Array;
 use pur_base::Table;
 use pyramid_jobs::{MergeFault, merge};
 use std::alloc::Global;

@@ -4,12 +4,12 @@ ghost use Rattle.std.specs.List.{AllByRecursion, sum_by};
 ghost use Rattle.pur_base.specs.Devices.{Geometry};
 ghost use Rattle.session_spec.specs.Faring.{set_flags};
 ghost use Rattle.volume_ops.specs.OfArray.{OfArray};
-ghost use Rattle.array_state.specs.Ready.{IsArrayOf};
+ghost use Rattle.array_core.specs.Ready.{IsArrayOf};
 ghost use Rattle.array_checkpoint.specs.Room.{IsRoomOf};
 ghost use Rattle.array_engine.specs.Status.{numbers_of};
 
 use array_checkpoint::Room;
-use array_state::Array;
+use array_core::Array;
 use pur_base::SegmentFact;
 use session_spec::CONTROLLER;
 use volume_ops::len;

@@ -11,13 +11,13 @@ use Rattle.boot_region.specs.Members.{IsMember}
 use Rattle.nvram_log.specs.Members as nv
 use Rattle.register.specs.Registers.{IsRegisterOf, named_sound}
 use Rattle.register.proofs.FlagLemmas.{in_cut, cut_in, none_past}
-use Rattle.open_array.proofs.Standing.{is_named, is_left}
+use Rattle.array_core.proofs.Standing.{is_named, is_left}
 use Rattle.memory_spec.specs.Memory.{Contents, ReadsAs}
 use Rattle.memory_spec.specs.Tables.{facts, patches}
 use Rattle.session_spec.specs.Entering.{read_now}
 use Rattle.session_spec.specs.Faring.{Point}
-use Rattle.array_state.specs.declared.array.Array.{Array}
-use Rattle.array_state.specs.Drives.{SegmentsHold}
+use Rattle.array_core.specs.declared.array.Array.{Array}
+use Rattle.array_core.specs.Drives.{SegmentsHold}
 use Rattle.array_core.specs.Holding.{IsHolder}
 use Rattle.array_engine.specs.declared.engine.Engine.{Engine}
 use Rattle.array_session.specs.Sessions.{BeginsAt}

@@ -20,8 +20,8 @@ use Rattle.session_spec.specs.Entering.{Enters, IsStanding, read_now, failed_sin
 use Rattle.session_spec.specs.Ends.{IsOutput, is_source, is_sink}
 use Rattle.session_spec.specs.Faring.{Point}
 use Rattle.session_spec.specs.Headline.{Unopened, Served, Serving, Outlasts, Opening, Keeps, IsInOpening, IsOpenedBearably, Replied, StandsOn}
-use Rattle.array_state.specs.declared.array.Array.{Array}
-use Rattle.array_state.specs.Drives.{SegmentsHold}
+use Rattle.array_core.specs.declared.array.Array.{Array}
+use Rattle.array_core.specs.Drives.{SegmentsHold}
 use Rattle.array_core.proofs.Losses.{bearable_or_not}
 use Rattle.takeover.specs.declared.faults.OpenFault.{OpenFault}
 use Rattle.takeover.specs.declared.faults.OpenFault.TheVariants as open_fault

@@ -15,7 +15,7 @@ use Rattle.session_spec.specs.Faring.{Point, Answers, now_missing}
 use Rattle.session_spec.specs.Headline.{StandsAmong, IsAfter, IsLeftAfter}
 use Rattle.session_spec.proofs.Conditions.{still_sound}
 use Rattle.register.specs.Standing.{Content, array_of}
-use Rattle.array_state.specs.Ready.{IsReady}
+use Rattle.array_core.specs.Ready.{IsReady}
 use Rattle.array_core.proofs.Losses.{sound_since, left_out_since}
 use Rattle.array_engine.specs.declared.engine.Engine.{Engine}
 use Rattle.array_engine.specs.Appending.{failed_in, lost_in}

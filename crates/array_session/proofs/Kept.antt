@@ -12,7 +12,7 @@ use Rattle.register.specs.Standing.{Content, array_of}
 use Rattle.session_spec.specs.Entering.{IsStanding}
 use Rattle.session_spec.specs.Faring.{Point, now_missing}
 use Rattle.session_spec.specs.Headline.{StandsAmong, IsAfter, IsNext}
-use Rattle.array_state.specs.Ready.{IsReady}
+use Rattle.array_core.specs.Ready.{IsReady}
 use Rattle.array_core.proofs.Losses.{sound_since, left_out_since}
 use Rattle.array_core.proofs.ReadyStands.{ready_stands}
 use Rattle.array_engine.specs.declared.engine.Engine.{Engine}

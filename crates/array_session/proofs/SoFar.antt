@@ -17,7 +17,7 @@ use Rattle.session_spec.specs.Ends.{is_cut}
 use Rattle.session_spec.specs.Faring.{Point, Answers, now_missing}
 use Rattle.session_spec.specs.Headline.{StandsAmong, IsAfter, IsLeftAfter}
 use Rattle.session_spec.proofs.Conditions.{borne_before, loses}
-use Rattle.array_state.specs.Ready.{IsReady}
+use Rattle.array_core.specs.Ready.{IsReady}
 use Rattle.array_core.proofs.Losses.{same_geometry, bearable_or_not}
 use Rattle.array_engine.specs.declared.engine.Engine.{Engine}
 use Rattle.array_engine.specs.declared.said.Said.{Said}

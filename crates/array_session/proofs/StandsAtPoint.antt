@@ -14,7 +14,7 @@ use Rattle.session_spec.specs.Entering.{IsStanding}
 use Rattle.session_spec.specs.Faring.{Point, now_missing}
 use Rattle.session_spec.proofs.Conditions.{borne_on}
 use Rattle.array_core.specs.Losing.{lost_by}
-use Rattle.array_state.specs.Ready.{IsReady}
+use Rattle.array_core.specs.Ready.{IsReady}
 use Rattle.array_core.proofs.Losses.{sound_since, left_out_since}
 use Rattle.array_engine.specs.declared.engine.Engine.{Engine}
 use Rattle.array_engine.specs.Engines.{IsAt}

@@ -5,9 +5,9 @@ use Rattle.world.specs.Shelf.{Shelved, Stop, Disk, MayStop}
 use Rattle.register.specs.Standing.{Content}
 use Rattle.memory_spec.specs.Memory.{Contents}
 use Rattle.memory_spec.specs.Tables.{facts}
-use Rattle.array_state.specs.declared.array.Array.{Array}
-use Rattle.array_state.specs.Drives.{SegmentsHold}
-use Rattle.array_state.specs.Ready.{IsReady}
+use Rattle.array_core.specs.declared.array.Array.{Array}
+use Rattle.array_core.specs.Drives.{SegmentsHold}
+use Rattle.array_core.specs.Ready.{IsReady}
 
 module _ (was now : Shelved) (a : Array) (held : Content) where
   -- what was, with the devices as they are

@@ -12,7 +12,7 @@ use Rattle.session_spec.specs.Entering.{read_now}
 use Rattle.session_spec.specs.Faring.{Point, IsReached, Fares, IsBorne, now_missing}
 use Rattle.session_spec.specs.Ends.{Ends, IsOutput}
 use Rattle.session_spec.specs.Headline.{Replied, StandsAmong, IsAfter, IsLeftAfter, in_hand}
-use Rattle.array_state.specs.Ready.{IsReady}
+use Rattle.array_core.specs.Ready.{IsReady}
 use Rattle.array_engine.specs.declared.engine.Engine.{Engine}
 use Rattle.array_engine.specs.Engines.{IsAt}
 

@@ -31,9 +31,9 @@ use Rattle.array_memory.proofs.PlanLemmas.{reads_roomed}
 use Rattle.array_memory.proofs.SoundLemmas.{sound_as}
 use Rattle.register.specs.Registers.{IsLaterRecord, IsRegisterOf}
 use Rattle.register.specs.Tables.{with_tables}
-use Rattle.array_state.specs.declared.array.Array.{Array}
-use Rattle.array_state.specs.Ready.{IsArrayOf}
-use Rattle.array_state.specs.Room.{HasRoomFor}
+use Rattle.array_core.specs.declared.array.Array.{Array}
+use Rattle.array_core.specs.Ready.{IsArrayOf}
+use Rattle.array_core.specs.Room.{HasRoomFor}
 use Rattle.std.specs.List.{AllZip}
 use Rattle.pyramid_jobs.specs.declared.preparing.Prepared.{Prepared}
 use Rattle.pyramid_jobs.specs.Made.{HasMerged}

@@ -27,9 +27,9 @@ use Rattle.record_tables.proofs.JoinedLawful.{joined_are_lawful}
 use Rattle.record_tables.proofs.JoinedNamed.{joined_are_named, merged_is_named}
 use Rattle.record_tables.proofs.JoinedSound.{joined_segments_are_sound}
 use Rattle.record_tables.proofs.Lists.{all_weaker}
-use Rattle.array_state.specs.declared.array.Array.{Array}
-use Rattle.array_state.specs.Ready.{IsArrayOf}
-use Rattle.array_state.proofs.Applied.{segments_sound}
+use Rattle.array_core.specs.declared.array.Array.{Array}
+use Rattle.array_core.specs.Ready.{IsArrayOf}
+use Rattle.array_core.proofs.Applied.{segments_sound}
 use Rattle.array_checkpoint.proofs.Next.{same_segment}
 use Rattle.array_checkpoint.proofs.PreparedLemmas.{same_shelf}
 use Rattle.pyramid_jobs.specs.declared.preparing.Prepared.{Prepared}

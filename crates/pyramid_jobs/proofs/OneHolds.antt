@@ -28,13 +28,13 @@ use Rattle.merge_plan.specs.Merging.{merged_facts, merged_patches, tables_with}
 use Rattle.merge_spec.proofs.Holding.{merged_patches_hold}
 use Rattle.record_tables.proofs.JoinedNamed.{zip_joined}
 use Rattle.segment_io.specs.Stripes.{bytes_of}
-use Rattle.open_array.specs.Free.{WritesFree}
-use Rattle.open_array.proofs.Kept.{free_writes_leave}
-use Rattle.array_state.specs.declared.array.Array.{Array}
-use Rattle.array_state.specs.Ready.{IsArrayOf, IsReady}
+use Rattle.array_core.specs.Free.{WritesFree}
+use Rattle.array_core.proofs.Kept.{free_writes_leave}
+use Rattle.array_core.specs.declared.array.Array.{Array}
+use Rattle.array_core.specs.Ready.{IsArrayOf, IsReady}
 use Rattle.array_core.proofs.Losses.{same_geometry}
-use Rattle.array_switch.specs.Switching.{HoldMerged}
-use Rattle.array_switch.proofs.Stages.{later_itself}
+use Rattle.array_core.specs.Switching.{HoldMerged}
+use Rattle.array_core.proofs.Stages.{later_itself}
 use Rattle.session_spec.specs.Entering.{read_now}
 use Rattle.array_checkpoint.proofs.Left.{AreLeft, among_record, enough_before, not_lost, own_size}
 use Rattle.array_checkpoint.proofs.ShownUnits.{shows_most}

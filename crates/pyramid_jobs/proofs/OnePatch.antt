@@ -35,8 +35,8 @@ use Rattle.record_tables.proofs.Added.{new_some, segments_long, segments_places,
 use Rattle.record_tables.proofs.Lawful.{new_lawful}
 use Rattle.record_tables.proofs.Lists.{all_weaker}
 use Rattle.record_tables.proofs.Neighbours.{few_segments}
-use Rattle.array_state.specs.declared.array.Array.{Array}
-use Rattle.array_state.specs.Ready.{IsArrayOf}
+use Rattle.array_core.specs.declared.array.Array.{Array}
+use Rattle.array_core.specs.Ready.{IsArrayOf}
 use Rattle.array_checkpoint.proofs.FreeUnits.{IsFreeByte, free_byte}
 use Rattle.array_checkpoint.proofs.Left.{own_size}
 use Rattle.array_checkpoint.proofs.PatchUnits.{part_in, patch_places}

@@ -9,12 +9,12 @@ use Rattle.world.proofs.Writes.{writes_more}
 use Rattle.register.specs.Standing.{Content, array_of}
 use Rattle.memory_spec.specs.Memory.{Contents}
 use Rattle.memory_spec.specs.Tables.{facts}
-use Rattle.open_array.specs.Free.{WritesFree}
-use Rattle.array_state.specs.declared.array.Array.{Array}
-use Rattle.array_state.specs.Drives.{SegmentsHold}
-use Rattle.array_state.specs.Ready.{IsArrayOf, IsReady}
+use Rattle.array_core.specs.Free.{WritesFree}
+use Rattle.array_core.specs.declared.array.Array.{Array}
+use Rattle.array_core.specs.Drives.{SegmentsHold}
+use Rattle.array_core.specs.Ready.{IsArrayOf, IsReady}
 use Rattle.array_core.specs.Performing.{IsKeptAt}
-use Rattle.array_switch.proofs.Free.{free_writes_go_on}
+use Rattle.array_core.proofs.FreeWrites.{free_writes_go_on}
 use Rattle.array_checkpoint.specs.Made.{HoldOnLeft}
 use Rattle.array_checkpoint.proofs.FreeUnits.{on_free, spares_used_by}
 use Rattle.array_checkpoint.proofs.Left.{still_held}

@@ -21,8 +21,8 @@ use Rattle.record_tables.specs.Patches.{segments_for}
 use Rattle.record_tables.proofs.JoinedNamed.{joined_are_named}
 use Rattle.record_tables.proofs.Neighbours.{few_segments}
 use Rattle.record_tables.proofs.Pairs.{pairs_are_named}
-use Rattle.array_state.specs.declared.array.Array.{Array}
-use Rattle.array_state.specs.Ready.{IsArrayOf}
+use Rattle.array_core.specs.declared.array.Array.{Array}
+use Rattle.array_core.specs.Ready.{IsArrayOf}
 use Rattle.array_checkpoint.proofs.PreparedLemmas.{are_low, has_groups}
 use Rattle.pyramid_jobs.specs.Checked.{MayMerge}
 

@@ -3,8 +3,8 @@ use Rattle.std.specs.Prelude.{◌≡◌, ℕ, ◌+◌, ◌<◌, ◌≤◌, true,
 use Rattle.pur_base.specs.declared.request.Table.{Table}
 use Rattle.checkpoint_spec.specs.Merging.{has_pair, pair_segments}
 use Rattle.session_spec.specs.declared.limits.TheConstants.{MERGE_GROUPS}
-use Rattle.array_state.specs.declared.array.Array.{Array}
-use Rattle.array_state.specs.Ready.{is_spent}
+use Rattle.array_core.specs.declared.array.Array.{Array}
+use Rattle.array_core.specs.Ready.{is_spent}
 use Rattle.array_checkpoint.specs.Room.{HasGroups}
 use Rattle.pyramid_jobs.specs.declared.fault.MergeFault.{MergeFault}
 use Rattle.pyramid_jobs.specs.declared.fault.MergeFault.TheVariants as fault

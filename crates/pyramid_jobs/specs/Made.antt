@@ -12,7 +12,7 @@ use Rattle.checkpoint_spec.specs.Merging.{AreJoined, HaveShrunk, pair_segments, 
 use Rattle.merge_plan.specs.declared.merged.Merged.{Merged}
 use Rattle.merge_plan.specs.Merging.{memory_with, merged_patches, table_of, IsMergedOf}
 use Rattle.array_memory.specs.Plan.{with_patch_rooms}
-use Rattle.array_state.specs.declared.array.Array.{Array}
+use Rattle.array_core.specs.declared.array.Array.{Array}
 use Rattle.array_core.specs.Going.{by_faults}
 use Rattle.array_core.specs.Goes.{Halts}
 use Rattle.pyramid_jobs.specs.declared.fault.MergeFault.{MergeFault}

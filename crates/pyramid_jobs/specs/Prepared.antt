@@ -13,7 +13,7 @@ use Rattle.merge_plan.specs.Merging.{merged_facts, table_of, tables_with, IsMerg
 use Rattle.record_tables.specs.Joined.{HasMergedFacts}
 use Rattle.record_tables.specs.Patches.{new_patch, segments_for}
 use Rattle.record_tables.specs.Units.{AreNewUnits}
-use Rattle.array_state.specs.declared.array.Array.{Array}
+use Rattle.array_core.specs.declared.array.Array.{Array}
 use Rattle.pyramid_jobs.specs.declared.preparing.Prepared.{Prepared}
 
 -- The one patch is made of the table's at that index and behind it. Its segments stand on free units, and the record's tables name it in the place of the two, by ids that are given next.

@@ -2,13 +2,13 @@
 ghost use Rattle.std.specs.Prelude.{◌≡◌, IfOk, IfErr};
 ghost use Rattle.pur_base.specs.Devices.{Geometry};
 ghost use Rattle.checkpoint_spec.specs.Merging.{pair_segments, place_in};
-ghost use Rattle.array_state.specs.Ready.{IsArrayOf};
+ghost use Rattle.array_core.specs.Ready.{IsArrayOf};
 ghost use Rattle.array_checkpoint.specs.Room.{IsRoomOf};
 ghost use Rattle.pyramid_jobs.specs.Checked.{IsCheckFault, MayMerge};
 
 use crate::fault::MergeFault;
 use array_checkpoint::{Room, is_spent};
-use array_state::Array;
+use array_core::Array;
 use pur_base::Table;
 use record_tables::{Pair, pair_of};
 use session_spec::MERGE_GROUPS;

@@ -8,20 +8,20 @@ ghost use Rattle.register.specs.Registers.{named_sound};
 ghost use Rattle.register.specs.Standing.{Content, array_of};
 ghost use Rattle.memory_spec.specs.Memory.{Contents, ReadsAs};
 ghost use Rattle.memory_spec.specs.Tables.{facts};
-ghost use Rattle.array_state.specs.Drives.{SegmentsHold};
-ghost use Rattle.array_state.specs.Ready.{IsArrayOf, IsReady, is_spent};
+ghost use Rattle.array_core.specs.Drives.{SegmentsHold};
+ghost use Rattle.array_core.specs.Ready.{IsArrayOf, IsReady, is_spent};
 ghost use Rattle.array_core.specs.Losing.{lost_since};
 ghost use Rattle.array_core.specs.Performing.{IsKeptAt};
 ghost use Rattle.array_core.specs.declared.performing.PerformFault.TheVariants.{Device};
-ghost use Rattle.array_switch.specs.Switching.{AreLost, DropsFailed, HoldMerged, IsTooMuch, NoneJoins, WasOpen, WroteFree};
+ghost use Rattle.array_core.specs.Switching.{AreLost, DropsFailed, HoldMerged, IsTooMuch, NoneJoins, WasOpen, WroteFree};
 ghost use Rattle.array_checkpoint.specs.Made.{HoldOnLeft};
 ghost use Rattle.pyramid_jobs.specs.Made.{HasMerged};
 ghost use Rattle.pyramid_jobs.specs.Prepared.{held_after, IsPreparedFor};
 
 use crate::preparing::Prepared;
 use array_core::PerformFault;
-use array_state::Array;
-use array_switch::switch_tables;
+use array_core::Array;
+use array_core::switch_tables;
 use pur_base::{Lost, Table};
 use world::Shelf;
 

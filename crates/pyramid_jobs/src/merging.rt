@@ -2,7 +2,7 @@
 ghost use Rattle.std.specs.Prelude.{◌≡◌, [], OnOk, OnErr, IfErr};
 ghost use Rattle.world.specs.Losing.{geometry_of};
 ghost use Rattle.world.specs.Shelf.{Continues, LeavesOnly, IsCountedBy};
-ghost use Rattle.array_state.specs.Ready.{IsArrayOf};
+ghost use Rattle.array_core.specs.Ready.{IsArrayOf};
 ghost use Rattle.array_core.specs.Going.{by_faults};
 ghost use Rattle.array_core.specs.Goes.{Goes};
 ghost use Rattle.array_checkpoint.specs.Room.{IsRoomOf};
@@ -15,7 +15,7 @@ use crate::fault::MergeFault;
 use crate::preparing::prepare;
 use crate::writing::write_prepared;
 use array_checkpoint::Room;
-use array_state::Array;
+use array_core::Array;
 use pur_base::Table;
 use std::alloc::Global;
 use world::Shelf;

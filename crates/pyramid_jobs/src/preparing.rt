@@ -2,11 +2,11 @@
 ghost use Rattle.std.specs.Prelude.{◌≡◌, IfOk};
 ghost use Rattle.pur_base.specs.Devices.{Geometry};
 ghost use Rattle.checkpoint_spec.specs.Merging.{place_in};
-ghost use Rattle.array_state.specs.Ready.{IsArrayOf};
+ghost use Rattle.array_core.specs.Ready.{IsArrayOf};
 ghost use Rattle.pyramid_jobs.specs.Checked.{MayMerge};
 ghost use Rattle.pyramid_jobs.specs.Prepared.{IsPreparedFor};
 
-use array_state::Array;
+use array_core::Array;
 use boot_codec::{NextNumbers, Patches};
 use free_space::map_of;
 use merge_plan::Merged;

@@ -20,8 +20,8 @@ use Rattle.array_memory.specs.Asked.{command_of, staged_by, HasRoomLeft}
 use Rattle.array_memory.specs.Kept.{Kept, IsKept, HasNoLessRoom, HasSamePatches, with_rooms}
 use Rattle.array_memory.specs.Lawful.{IsLawful}
 use Rattle.volume_ops.specs.OfArray.{IsOfMemory}
-use Rattle.array_state.specs.Room.{HasRoomFor}
-use Rattle.array_state.proofs.Applied.{room_for_next, same_segments}
+use Rattle.array_core.specs.Room.{HasRoomFor}
+use Rattle.array_core.proofs.Applied.{room_for_next, same_segments}
 use Rattle.nvram_log.specs.declared.log.NvLog.{NvLog}
 use Rattle.nvram_log.specs.Held.{Keeps}
 use Rattle.takeover.specs.declared.log.LogFault.{LogFault}

@@ -20,9 +20,9 @@ use Rattle.memory_spec.specs.Tables.{facts, patches}
 use Rattle.checkpoint_spec.specs.Whole.{IsNamed}
 use Rattle.checkpoint_plan.specs.Planned.{AreStored}
 use Rattle.array_memory.specs.Kept.{Kept}
-use Rattle.array_state.specs.Ready.{IsArrayOf}
-use Rattle.array_state.specs.declared.array.Array.{Array}
-use Rattle.array_state.proofs.Applied.{HasSameSegmentIds, all_give_none, same_patches, segments_sound}
+use Rattle.array_core.specs.Ready.{IsArrayOf}
+use Rattle.array_core.specs.declared.array.Array.{Array}
+use Rattle.array_core.proofs.Applied.{HasSameSegmentIds, all_give_none, same_patches, segments_sound}
 use Rattle.register.specs.declared.state.Register.{Register}
 use Rattle.register.specs.Registers.{IsLaterRecord, IsRegisterOf}
 use Rattle.takeover.specs.Replayed.{HasReplayed}

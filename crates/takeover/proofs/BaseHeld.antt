@@ -25,7 +25,7 @@ use Rattle.boot_region.specs.declared.loading.Loaded.{Loaded}
 use Rattle.boot_region.specs.Members.{IsMember}
 use Rattle.boot_region.specs.Slots.{slot_in}
 use Rattle.array_memory.specs.Kept.{Kept}
-use Rattle.array_state.specs.Drives.{SegmentsHold, drives_view}
+use Rattle.array_core.specs.Drives.{SegmentsHold, drives_view}
 use Rattle.register.specs.declared.state.Register.{Register}
 use Rattle.register.specs.Registers.{IsLaterRecord, IsRegisterOf, drives_of, own_slot}
 use Rattle.register.specs.Standing.{IsOpen}

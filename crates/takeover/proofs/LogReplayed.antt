@@ -16,7 +16,7 @@ use Rattle.memory_spec.specs.Memory.{Contents, ReadsAs}
 use Rattle.memory_spec.specs.Tables.{facts}
 use Rattle.checkpoint_spec.specs.Whole.{AreLayered}
 use Rattle.array_memory.specs.Kept.{Kept, HasSamePatches}
-use Rattle.array_state.specs.Room.{HasRoomFor}
+use Rattle.array_core.specs.Room.{HasRoomFor}
 use Rattle.world.specs.Losing.{has_risen}
 use Rattle.world.specs.Shelf.{Continues, Disk, Shelved}
 use Rattle.world.specs.Writes.{ChangesOnly, WritesOnly}

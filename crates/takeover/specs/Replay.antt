@@ -10,7 +10,7 @@ use Rattle.memory_spec.specs.Memory.{Contents, ReadsAs}
 use Rattle.memory_spec.specs.Numbers.{next_after, next_after_all}
 use Rattle.memory_spec.specs.Tables.{facts}
 use Rattle.array_memory.specs.Kept.{Kept, HasSamePatches}
-use Rattle.array_state.specs.Room.{HasRoomFor}
+use Rattle.array_core.specs.Room.{HasRoomFor}
 use Rattle.nvram_log.specs.declared.log.NvLog.{NvLog}
 use Rattle.nvram_log.specs.declared.read.ReadFault.{ReadFault}
 use Rattle.nvram_log.specs.declared.read.ReadFault.TheVariants as read_fault

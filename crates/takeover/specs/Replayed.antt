@@ -16,7 +16,7 @@ use Rattle.nvram_log.specs.Held.{Keeps, shown_by}
 use Rattle.nvram_log.specs.Members.{IsFewer, IsMember}
 use Rattle.nvram_log.specs.Read.{DroppedCounted}
 use Rattle.array_memory.specs.Kept.{Kept, HasSamePatches}
-use Rattle.array_state.specs.Room.{HasRoomFor}
+use Rattle.array_core.specs.Room.{HasRoomFor}
 use Rattle.takeover.specs.declared.log.OpenedLog.{OpenedLog}
 use Rattle.takeover.specs.declared.log.LogFault.{LogFault}
 use Rattle.takeover.specs.declared.log.LogFault.TheVariants as log_fault

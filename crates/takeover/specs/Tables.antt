@@ -19,7 +19,7 @@ use Rattle.world.specs.Shelf.{Shelved, Stop, MayStop}
 use Rattle.boot_region.specs.declared.loading.Loaded.{Loaded}
 use Rattle.boot_region.specs.Slots.{slot_in}
 use Rattle.array_memory.specs.Kept.{Kept}
-use Rattle.array_state.specs.Room.{HasRoomFor}
+use Rattle.array_core.specs.Room.{HasRoomFor}
 
 -- the record's tables hold these facts and this base, whatever a stop leaves
 abbrev pub HoldTables : Shelved → Loaded → List (List AnyFact) → Array → Type 0

@@ -2,11 +2,11 @@
 ghost use Rattle.std.specs.Prelude.{◌≡◌, IfOk};
 ghost use Rattle.world.specs.Losing.{geometry_of};
 ghost use Rattle.world.specs.Ran.{Ran};
-ghost use Rattle.array_state.specs.Ready.{IsArrayOf};
+ghost use Rattle.array_core.specs.Ready.{IsArrayOf};
 ghost use Rattle.takeover.specs.Opened.{IsOpenedBy, OffSegments};
 
 use crate::{OpenFault, find_array, open_log};
-use array_state::Array;
+use array_core::Array;
 use register::Register;
 use std::alloc::Global;
 use world::Shelf;

@@ -7,11 +7,11 @@ use Rattle.register.specs.Standing.{array_of}
 use Rattle.memory_spec.specs.Tables.{facts}
 use Rattle.array_memory.proofs.PlanLemmas.{facts_same, patches_same}
 use Rattle.array_memory.specs.Plan.{after_plan}
-use Rattle.array_state.specs.declared.array.Array.{Array}
-use Rattle.array_state.specs.Ready.{IsArrayOf}
+use Rattle.array_core.specs.declared.array.Array.{Array}
+use Rattle.array_core.specs.Ready.{IsArrayOf}
 use Rattle.array_core.proofs.Losses.{same_geometry}
 use Rattle.array_core.proofs.Segments.{drives_left}
-use Rattle.array_switch.proofs.Stages.{later_itself}
+use Rattle.array_core.proofs.Stages.{later_itself}
 use Rattle.array_checkpoint.proofs.After.{reads_then}
 use Rattle.array_checkpoint.proofs.Flushed.{has_flushed, is_array, next_is_lawful}
 use Rattle.array_checkpoint.specs.Made.{contents_after, held_after, HoldOnLeft}

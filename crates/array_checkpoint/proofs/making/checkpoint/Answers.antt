@@ -9,12 +9,12 @@ use Rattle.register.specs.declared.state.Register.{Register}
 use Rattle.register.specs.Standing.{Content, array_of}
 use Rattle.array_memory.specs.Kept.{Kept}
 use Rattle.array_memory.specs.Plan.{with_patch_rooms}
-use Rattle.array_state.specs.Ready.{IsArrayOf, IsReady}
+use Rattle.array_core.specs.Ready.{IsArrayOf, IsReady}
 use Rattle.array_core.specs.Going.{Calls}
 use Rattle.array_core.specs.Performing.{IsKeptAt}
 use Rattle.array_core.proofs.Losses.{same_geometry}
 use Rattle.array_core.proofs.Steps.{hands, lost_halts, same_meanwhile}
-use Rattle.array_switch.proofs.Stages.{err_is}
+use Rattle.array_core.proofs.Stages.{err_is}
 use Rattle.array_checkpoint.specs.declared.making.CheckpointFault.{CheckpointFault}
 use Rattle.array_checkpoint.specs.Prepared.{IsLike}
 use Rattle.array_checkpoint.specs.Made.{contents_after, held_after, IsFaultOf}

@@ -13,11 +13,11 @@ use Rattle.register.specs.Registers.{IsRegisterOf, drives_of, next_slot}
 use Rattle.register.specs.Standing.{Content, GivesOldOrNext, IsFirm, IsOpen, MayStore, StandsInLog}
 use Rattle.register.proofs.FlagLemmas.{same_flags, other_flags}
 use Rattle.register.proofs.Moments.{stands_at, gives_at}
-use Rattle.array_state.specs.declared.array.Array.{Array}
+use Rattle.array_core.specs.declared.array.Array.{Array}
 use Rattle.array_core.specs.declared.performing.PerformFault.{PerformFault}
 use Rattle.array_core.specs.declared.performing.PerformFault.TheVariants.{Device}
 use Rattle.memory_spec.specs.Tables.{facts}
-use Rattle.array_state.specs.Ready.{logged}
+use Rattle.array_core.specs.Ready.{logged}
 use Rattle.array_core.specs.Performing.{IsLost}
 use Rattle.array_core.proofs.Losses.{same_geometry}
 use Rattle.array_core.proofs.Lost.{lost_drives, lost_log}

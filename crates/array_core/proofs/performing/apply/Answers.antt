@@ -1,5 +1,5 @@
 use Rattle.array_memory.proofs.AllowedLemmas.{accepted}
-use Rattle.array_state.proofs.Applied.{same_segments}
+use Rattle.array_core.proofs.Applied.{same_segments}
 use Rattle.array_core.proofs.performing.apply.Goals as goal
 
 pub returns-clause-reads : goal.returns-clause-reads

@@ -20,12 +20,12 @@ use Rattle.checkpoint_spec.specs.Whole.{IsNamed}
 use Rattle.checkpoint_plan.specs.Planned.{AreStored}
 use Rattle.array_memory.specs.Kept.{HasSamePatches, Kept}
 use Rattle.array_memory.proofs.AllowedLemmas.{accepted}
-use Rattle.array_state.specs.Ready.{IsReady, logged}
-use Rattle.array_state.specs.Room.{HasRoomFor}
+use Rattle.array_core.specs.Ready.{IsReady, logged}
+use Rattle.array_core.specs.Room.{HasRoomFor}
 use Rattle.array_core.specs.declared.performing.PerformFault.{PerformFault}
 use Rattle.array_core.specs.Going.{by_faults}
 use Rattle.array_core.specs.Goes.{Halts}
-use Rattle.array_state.proofs.Applied.{gives_none, room_for_next, segments_sound, same_patches}
+use Rattle.array_core.proofs.Applied.{gives_none, room_for_next, segments_sound, same_patches}
 use Rattle.array_core.proofs.Commands.{accept_last, after_last, all_and_last}
 use Rattle.array_core.proofs.Losses.{same_geometry}
 use Rattle.array_core.proofs.Steps.{command_meanwhile, hands, lost_halts}

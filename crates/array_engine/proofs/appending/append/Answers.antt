@@ -6,7 +6,7 @@ use Rattle.world.specs.Losing.{geometry_of}
 use Rattle.world.specs.Shelf.{Shelved}
 use Rattle.world.proofs.Moments.{continues_trans}
 use Rattle.register.specs.Standing.{array_of}
-use Rattle.array_state.specs.Ready.{IsArrayOf}
+use Rattle.array_core.specs.Ready.{IsArrayOf}
 use Rattle.array_core.specs.Going.{by_faults, Calls}
 use Rattle.array_core.proofs.GoingOn.{calls_then, goes_and_halts, goes_then, meanwhile}
 use Rattle.array_checkpoint.specs.Prepared.{IsLike}

@@ -2,7 +2,7 @@ use Rattle.std.proofs.Common.{◌≡◌, false, [], Result, Err, IfErr, refl, sy
 use Rattle.std.proofs.lemmas.Result.{err_from_is_err_and}
 use Rattle.world.specs.Losing.{geometry_of}
 use Rattle.world.specs.Shelf.{Shelved}
-use Rattle.array_state.specs.Ready.{IsArrayOf}
+use Rattle.array_core.specs.Ready.{IsArrayOf}
 use Rattle.array_checkpoint.specs.Prepared.{IsLike}
 use Rattle.array_checkpoint.specs.Room.{IsRoomOf}
 use Rattle.array_checkpoint.proofs.Like.{like_is_of}

@@ -5,11 +5,11 @@ use Rattle.world.specs.Losing.{geometry_of}
 use Rattle.world.proofs.Writes.{writes_more}
 use Rattle.register.specs.Standing.{array_of}
 use Rattle.memory_spec.specs.Tables.{facts}
-use Rattle.array_state.specs.declared.array.Array.{Array}
-use Rattle.array_state.specs.Ready.{IsArrayOf}
+use Rattle.array_core.specs.declared.array.Array.{Array}
+use Rattle.array_core.specs.Ready.{IsArrayOf}
 use Rattle.array_core.proofs.Losses.{same_geometry}
 use Rattle.array_core.proofs.Segments.{drives_left}
-use Rattle.array_switch.proofs.Stages.{later_itself}
+use Rattle.array_core.proofs.Stages.{later_itself}
 use Rattle.array_checkpoint.specs.Made.{HoldOnLeft}
 use Rattle.array_checkpoint.proofs.Behind.{fewer_left, hold_left}
 use Rattle.array_checkpoint.proofs.PreparedLemmas.{are_low}

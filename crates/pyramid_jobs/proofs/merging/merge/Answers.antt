@@ -2,11 +2,11 @@ use Rattle.std.proofs.Common.{◌≡◌, [], sym, subst}
 use Rattle.std.proofs.lemmas.Result.{err_from_is_err_and}
 use Rattle.pur_base.specs.Devices.{Geometry}
 use Rattle.world.proofs.Moments.{continues_trans, then_run}
-use Rattle.array_state.specs.Ready.{IsArrayOf}
+use Rattle.array_core.specs.Ready.{IsArrayOf}
 use Rattle.array_core.specs.Going.{Calls}
 use Rattle.array_core.proofs.Losses.{same_geometry}
 use Rattle.array_core.proofs.Steps.{hands, lost_halts, same_meanwhile}
-use Rattle.array_switch.proofs.Stages.{err_is}
+use Rattle.array_core.proofs.Stages.{err_is}
 use Rattle.array_checkpoint.proofs.Like.{like_itself}
 use Rattle.array_checkpoint.proofs.Joined.{counted_now, counted_since, drops, err_on, joins, was_open}
 use Rattle.pyramid_jobs.specs.declared.fault.MergeFault.{MergeFault}

@@ -4,7 +4,7 @@ use Rattle.pur_base.specs.Devices.{Geometry}
 use Rattle.pur_base.specs.Grammar.{Asked}
 use Rattle.pur_base.specs.declared.request.Request.TheVariants as request
 use Rattle.world.proofs.Moments.{weaker}
-use Rattle.array_state.specs.Ready.{IsArrayOf}
+use Rattle.array_core.specs.Ready.{IsArrayOf}
 use Rattle.array_core.proofs.Losses.{same_geometry}
 use Rattle.array_engine.specs.declared.engine.Engine.{Engine}
 use Rattle.array_engine.specs.declared.said.Said.{Said}

@@ -1,0 +1,233 @@
+-- What a command that memory has done leaves of what is known of the array.
+use Rattle.std.proofs.Common.{◌≡◌, ◌≢◌, ℕ, ◌+◌, ◌^◌, ◌≤◌, ◌<◌, List, [], ◌∷◌, length, replicate, refl, sym, ap, ◌∙◌, subst, arith, length-append}
+use Rattle.std.specs.Prelude.{Option, Some, None, AllPairs, Contains, filter_map, map, ◌++◌}
+use Rattle.std.specs.List.{AllByRecursion}
+use Rattle.std.proofs.lemmas.List.{length-replicate}
+use Rattle.pur_base.specs.Commands.{Command}
+use Rattle.pur_base.specs.Devices.{Geometry}
+use Rattle.pur_base.specs.Facts.{Facts, segment_key, never}
+use Rattle.pur_base.specs.Grammar.{data_count}
+use Rattle.pur_base.specs.Keys.{key_of}
+use Rattle.pur_base.specs.Sectors.{filled}
+use Rattle.pur_base.specs.Visible.{segment, ids_below, is_elided}
+use Rattle.pur_base.specs.Says.{says}
+use Rattle.pur_base.specs.declared.request.Table.TheVariants as table
+use Rattle.pur_base.proofs.SaysLemmas.{says_is}
+use Rattle.pur_base.specs.declared.facts.AnyFact.TheVariants as any
+use Rattle.pur_base.specs.declared.facts.AddressFact.{AddressFact}
+use Rattle.pur_base.specs.declared.facts.ObjectFact.{ObjectFact}
+use Rattle.pur_base.specs.declared.facts.SegmentFact.{SegmentFact}
+use Rattle.pur_base.specs.declared.request.Request.{Request}
+use Rattle.pur_base.specs.declared.request.Request.TheVariants as request
+use Rattle.boot_codec.specs.declared.record.BootRecord.{BootRecord}
+use Rattle.boot_codec.specs.declared.record.NextNumbers.{NextNumbers}
+use Rattle.array_spec.specs.Sound.{AreSegmentsSound, AreApart, named_segments, used_places}
+use Rattle.register.specs.Registers.{IsLaterRecord}
+use Rattle.memory_spec.specs.Numbers.{put, next_after, next_after_all}
+use Rattle.memory_spec.specs.Tables.{Tables, facts, patches}
+use Rattle.memory_spec.proofs.Lists.{each_by_recursion, of_each}
+use Rattle.array_memory.specs.Asked.{HasRoomLeft, IsAllowed, IsPrepared, added, staged_by, staged_count}
+use Rattle.array_memory.specs.Kept.{Kept, IsKept, HasSamePatches}
+use Rattle.array_memory.specs.Lawful.{IsLawful}
+use Rattle.array_memory.specs.Plan.{HasRoomAgain}
+use Rattle.array_core.specs.Room.{HasCapacity, HasRoomFor}
+
+-- ---- room
+
+-- what a request takes at most
+pub record IsSmall (r : Request) : Type 0 where
+  pub objects : added r ≤ 1
+  pub addresses : put r ≤ 64
+  pub staged : staged_count r ≤ 64
+
+small : (r : Request) → IsLawful r → IsSmall r
+small (request.Create n size) l = record { objects = omega arith; addresses = omega arith; staged = omega arith }
+small (request.Write n lba count) l = record { objects = omega arith; addresses = l; staged = l }
+small (request.Fill n lba count byte) l = record { objects = omega arith; addresses = l; staged = l }
+small (request.Zero n lba count) l = record { objects = omega arith; addresses = l; staged = omega arith }
+small (request.Read name lba count) l = absurd l
+small (request.Snapshot name new) l = absurd l
+small (request.Clone name new) l = absurd l
+small (request.Copy name lba other to count) l = absurd l
+small (request.Destroy name) l = absurd l
+small request.List l = absurd l
+small request.Status l = absurd l
+small request.Checkpoint l = absurd l
+small (request.Merge table index) l = absurd l
+small (request.Flatten name) l = absurd l
+small (request.Clean segment) l = absurd l
+small request.Reclaim l = absurd l
+small (request.Evict drive) l = absurd l
+small (request.Admit drive) l = absurd l
+small (request.Rebuild drive) l = absurd l
+small request.Takeover l = absurd l
+
+staged_long : (r : Request) (sectors : List (List ℕ)) → IsLawful r → length sectors ≡ data_count r → length (staged_by r sectors) ≤ 64
+staged_long (request.Create n size) sectors l e = omega arith
+staged_long (request.Write n lba count) sectors l e = omega (arith, e, l)
+staged_long (request.Fill n lba count byte) sectors l e = let long : length (replicate count (filled byte)) ≡ count = length-replicate count (filled byte) in omega (arith, long, l)
+staged_long (request.Zero n lba count) sectors l e = omega arith
+staged_long (request.Read name lba count) sectors l e = absurd l
+staged_long (request.Snapshot name new) sectors l e = absurd l
+staged_long (request.Clone name new) sectors l e = absurd l
+staged_long (request.Copy name lba other to count) sectors l e = absurd l
+staged_long (request.Destroy name) sectors l e = absurd l
+staged_long request.List sectors l e = absurd l
+staged_long request.Status sectors l e = absurd l
+staged_long request.Checkpoint sectors l e = absurd l
+staged_long (request.Merge table index) sectors l e = absurd l
+staged_long (request.Flatten name) sectors l e = absurd l
+staged_long (request.Clean segment) sectors l e = absurd l
+staged_long request.Reclaim sectors l e = absurd l
+staged_long (request.Evict drive) sectors l e = absurd l
+staged_long (request.Admit drive) sectors l e = absurd l
+staged_long (request.Rebuild drive) sectors l e = absurd l
+staged_long request.Takeover sectors l e = absurd l
+
+pub room_for_next : (was now : Kept) (logged later : ℕ) (r : Request) (sectors : List (List ℕ)) → HasRoomFor was logged → later ≡ logged + 1 → IsLawful r → length sectors ≡ data_count r
+    → HasRoomLeft was now r → now.memory.staged ≡ was.memory.staged ++ staged_by r sectors → HasRoomFor now later
+room_for_next was now logged later r sectors room count lawful written left staged =
+    let s = small r lawful in
+    let more : length now.memory.staged ≡ length was.memory.staged + length (staged_by r sectors) = ap (λ (l : List (List ℕ)). length l) staged ∙ length-append was.memory.staged (staged_by r sectors) in
+    record {
+      objects = omega (arith, room.objects, left.objects, s.objects, count);
+      addresses = omega (arith, room.addresses, left.addresses, s.addresses, count);
+      staged = omega (arith, room.staged, left.staged, s.staged, count);
+      indices = omega (arith, room.indices, more, staged_long r sectors lawful written, count);
+      unflushed_objects = omega (arith, room.unflushed_objects, left.unflushed_objects, s.objects, count);
+      unflushed_addresses = omega (arith, room.unflushed_addresses, left.unflushed_addresses, s.addresses, count);
+      no_mediums = left.mediums ∙ room.no_mediums;
+      no_segments = left.segments ∙ room.no_segments;
+      no_elisions = left.elisions ∙ room.no_elisions;
+      capacity = record {
+        objects = omega (arith, room.capacity.objects, left.object_capacity);
+        names = omega (arith, room.capacity.names, left.name_capacity);
+        addresses = omega (arith, room.capacity.addresses, left.address_capacity);
+        staged = omega (arith, room.capacity.staged, left.staged_capacity);
+      };
+    }
+
+-- where a slot of the log is free there is room for a command that the visible objects allow
+pub is_prepared : (k : Kept) (logged : ℕ) (r : Request) → HasRoomFor k logged → logged < 64 → IsLawful r → IsAllowed k.objects r → IsPrepared k r
+is_prepared k logged r room free lawful allowed =
+    let s = small r lawful in
+    record {
+      objects = omega (arith, room.objects, s.objects, free);
+      names = names r allowed;
+      addresses = omega (arith, room.addresses, s.addresses, free);
+      staged = omega (arith, room.staged, s.staged, free);
+      indices = omega (arith, room.indices, s.staged, free);
+    }
+  where
+    -- more objects may be named than there are
+    names : (r : Request) → IsAllowed k.objects r → added r ≤ k.name_room
+    names (request.Create n size) a = let all = room.capacity.names in let few = a.few in omega (arith, all, few)
+    names (request.Write n lba count) a = omega arith
+    names (request.Fill n lba count byte) a = omega arith
+    names (request.Zero n lba count) a = omega arith
+    names r a = absurd a
+
+-- a checkpoint makes room again of what was taken up
+pub capacity_again : (was now : Kept) → HasCapacity was → HasRoomAgain was now → now.objects ≡ was.objects → HasCapacity now
+capacity_again was now had again same = record {
+  objects = (let a = had.objects in let b = again.objects in omega (arith, a, b));
+  names = (let a = had.names in let b = again.names in omega (arith, a, b, ap (λ (l : List ObjectFact). length l) same));
+  addresses = (let a = had.addresses in let b = again.addresses in omega (arith, a, b));
+  staged = (let a = had.staged in let b = again.staged in omega (arith, a, b));
+}
+
+-- what a checkpoint makes of the room
+pub room_again : (was now : Kept) (logged : ℕ) → HasRoomFor was logged → HasRoomAgain was now → now.objects ≡ was.objects → now.memory.staged ≡ []
+    → now.memory.tables.objects.unflushed ≡ [] → now.memory.tables.mediums.unflushed ≡ [] → now.memory.tables.addresses.unflushed ≡ [] → now.memory.tables.segments.unflushed ≡ [] → now.memory.tables.elisions.unflushed ≡ []
+    → HasRoomFor now 0
+room_again was now logged room again same staged objects mediums addresses segments elisions =
+    let all = capacity_again was now room.capacity again same in
+    let none_staged : length now.memory.staged ≡ 0 = ap (λ (l : List (List ℕ)). length l) staged in
+    let none_objects : length now.memory.tables.objects.unflushed ≡ 0 = ap (λ (l : List ObjectFact). length l) objects in
+    let none_addresses : length now.memory.tables.addresses.unflushed ≡ 0 = ap (λ (l : List AddressFact). length l) addresses in
+    record {
+      objects = (let a = all.objects in omega (arith, a, none_objects));
+      addresses = (let a = all.addresses in omega (arith, a, none_addresses));
+      staged = (let a = all.staged in omega (arith, a, none_staged));
+      indices = omega (arith, none_staged);
+      unflushed_objects = omega (arith, none_objects);
+      unflushed_addresses = omega (arith, none_addresses);
+      no_mediums = mediums;
+      no_segments = segments;
+      no_elisions = elisions;
+      capacity = all;
+    }
+
+-- ---- ids of segments
+
+-- none was given
+pub record HasSameSegmentIds (was now : NextNumbers) : Type 0 where
+  pub segment : now.segment ≡ was.segment
+  pub patch_segment : now.patch_segment ≡ was.patch_segment
+
+-- not by a command
+one_gives_none : (n : NextNumbers) (r : Request) → HasSameSegmentIds n (next_after n r)
+one_gives_none n (request.Create name size) = record { segment = refl; patch_segment = refl }
+one_gives_none n r = record { segment = refl; patch_segment = refl }
+
+pub gives_none : (was mid now : NextNumbers) (r : Request) → mid ≡ was → now ≡ next_after mid r → HasSameSegmentIds was now
+gives_none was mid now r same next =
+    let one = one_gives_none mid r in
+    record {
+      segment = ap (λ (n : NextNumbers). n.segment) next ∙ one.segment ∙ ap (λ (n : NextNumbers). n.segment) same;
+      patch_segment = ap (λ (n : NextNumbers). n.patch_segment) next ∙ one.patch_segment ∙ ap (λ (n : NextNumbers). n.patch_segment) same;
+    }
+
+-- nor by all commands of a log
+pub all_give_none : (commands : List Command) (n : NextNumbers) → HasSameSegmentIds n (next_after_all n commands)
+all_give_none [] n = record { segment = refl; patch_segment = refl }
+all_give_none (c ∷ commands) n =
+    let one = one_gives_none n c.request in
+    let all = all_give_none commands (next_after n c.request) in
+    record { segment = all.segment ∙ one.segment; patch_segment = all.patch_segment ∙ one.patch_segment }
+
+-- ---- segments
+
+-- what is said of a segment, where the same ones are visible
+same_said : (was now : Kept) → IsKept was → IsKept now → now.segments ≡ was.segments → (id : ℕ) (d : SegmentFact) → segment (facts was.memory.tables) id ≡ Some d → segment (facts now.memory.tables) id ≡ Some d
+same_said was now kept kept_now same id d e =
+    let is = says_is segment_key (λ g. g.seq.0) never (λ g. Contains (facts was.memory.tables).segments g) (facts was.memory.tables).segments (is_elided (facts was.memory.tables).elisions table.Segment) (key_of id 0) d
+    (each_by_recursion (λ g. Contains (facts was.memory.tables).segments g) (facts was.memory.tables).segments (λ g c. c)) e in
+    let low : d.segment.0 < was.memory.next.segment = of_each (λ (f : SegmentFact). f.segment.0 < was.memory.next.segment) (facts was.memory.tables).segments d kept.ids.segments is.0 in
+    let next = kept.next.segment.1 in
+    let key : segment_key d < 2 ^ 128 = omega (arith, low, next) in
+    let there : Contains was.segments d = kept.segments.all d key
+    (subst (λ k. says segment_key (λ g. g.seq.0) never (facts was.memory.tables).segments (is_elided (facts was.memory.tables).elisions table.Segment) k ≡ Some d) (sym is.1) e) in
+    subst (λ k. says segment_key (λ g. g.seq.0) never (facts now.memory.tables).segments (is_elided (facts now.memory.tables).elisions table.Segment) k ≡ Some d) is.1
+    (kept_now.segments.said d (subst (λ l. Contains l d) (sym same) there))
+
+alike : {A : Type 0} (a b : Option A) → ((d : A) → a ≡ Some d → b ≡ Some d) → ((d : A) → b ≡ Some d → a ≡ Some d) → b ≡ a
+alike (Some d) b to from = to d refl
+alike None (Some d) to from = absurd (cc (from d refl))
+alike None None to from = refl
+
+pub same_segments : (was now : Kept) → IsKept was → IsKept now → now.segments ≡ was.segments → (id : ℕ) → segment (facts now.memory.tables) id ≡ segment (facts was.memory.tables) id
+same_segments was now kept kept_now same id =
+    alike (segment (facts was.memory.tables) id) (segment (facts now.memory.tables) id) (same_said was now kept kept_now same id) (same_said now was kept_now kept (sym same) id)
+
+-- segments are sound by a later record of the same patches, where the same ones are visible
+pub segments_sound : (shelf : Geometry) (boot later : BootRecord) (was now : Facts) → IsLaterRecord boot later → ((id : ℕ) → segment now id ≡ segment was id) → AreSegmentsSound shelf boot was → AreSegmentsSound shelf later now
+segments_sound shelf boot later was now is same sound = record {
+  places = λ id d e. sound.places id d (sym (same id) ∙ e);
+  patch_ids = subst (λ (b : BootRecord). AllByRecursion (λ s. s.id < b.next.patch_segment) (named_segments b)) (sym is.rest) sound.patch_ids;
+  distinct = subst (λ (b : BootRecord). AllPairs (λ s t. s.id ≢ t.id) (named_segments b)) (sym is.rest) sound.distinct;
+  apart =
+      let said : (λ (id : ℕ). segment now id) ≡ (λ (id : ℕ). segment was id) = λ k id. same id k in
+      subst (λ (b : BootRecord). AllPairs AreApart (used_places b now)) (sym is.rest)
+      (subst (λ (f : ℕ → Option SegmentFact). AllPairs AreApart (map (λ s. s.places) (named_segments boot) ++ map (λ d. d.places) (filter_map f (ids_below boot.next.segment)))) (sym said) sound.apart);
+}
+
+-- ---- patches
+
+pub same_patches : (was now : Tables) → HasSamePatches was now → patches now ≡ patches was
+same_patches was now h = λ k.
+    map (map any.Object) (h.objects k)
+    ++ (map (map any.Medium) (h.mediums k)
+    ++ (map (map any.Address) (h.addresses k)
+    ++ (map (map any.Segment) (h.segments k)
+    ++ map (map any.Elision) (h.elisions k))))

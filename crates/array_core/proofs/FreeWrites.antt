@@ -1,0 +1,209 @@
+-- Free units of an open array were written: what a stop in these writes leaves, and what its drives show after them.
+use Rattle.std.proofs.Common.{◌≡◌, inl, inr, ℕ, ◌+◌, ◌/◌, ◌≤◌, ◌<◌, List, [], ◌∷◌, refl, sym, ◌∙◌, ap, subst, arith, Bool, true, false}
+use Rattle.std.specs.Prelude.{slice_index}
+use Rattle.pur_base.specs.Commands.{Command}
+use Rattle.pur_base.specs.Devices.{Geometry, Conditions, Sound, LeftOut, IsBearable, IsWithin, drive, nvram}
+use Rattle.pur_base.specs.declared.device.Device.{Device}
+use Rattle.pur_base.specs.Grammar.{is_in_force}
+use Rattle.boot_codec.specs.declared.record.BootRecord.{BootRecord}
+use Rattle.boot_codec.specs.Spelling.{spelling}
+use Rattle.boot_codec.specs.Region.{BootSlot, A, B, body_in, body_place, gate_place, generation_in, names, other_slot, shown_by, Yields}
+use Rattle.log_codec.specs.Log.{ShowsIn}
+use Rattle.array_spec.specs.Standing.{MayBeGiven}
+use Rattle.array_spec.proofs.Quiet.{bytes_same}
+use Rattle.array_spec.proofs.Standings.{more_may_go_missing}
+use Rattle.world.specs.Losing.{geometry_of, has_risen}
+use Rattle.world.specs.Shelf.{Shelved, Disk, Stop, IsShelf, IsInSome, MayLeave, MayStop}
+use Rattle.world.specs.declared.shelf.Span.{Span}
+use Rattle.world.specs.Writes.{LeavesBut, MayLeaveBut}
+use Rattle.world.proofs.Moments.{weaker}
+use Rattle.world.proofs.Writes.{may_leave_but, counted_then}
+use Rattle.boot_region.specs.Members.{IsMember}
+use Rattle.boot_region.specs.Storing.{IsOlder}
+use Rattle.boot_region.proofs.Accounts.{losing_within}
+use Rattle.boot_region.proofs.Phases.{risen_on_way}
+use Rattle.boot_region.proofs.ShownLemmas.{as_read, member_below}
+use Rattle.nvram_log.specs.Members as nv
+use Rattle.register.specs.declared.state.Register.{Register}
+use Rattle.register.specs.Registers.{OnSlots, drives_of, named_sound, next_slot}
+use Rattle.register.specs.Standing.{Content, IsOpen, MayStore, array_of}
+use Rattle.register.proofs.FlagLemmas.{in_cut, cut_in}
+use Rattle.register.proofs.Stores.{fewer_cut}
+use Rattle.array_core.specs.Free.{OnFree, WritesFree, AreSynced, IsKnownOf}
+use Rattle.array_core.proofs.Kept.{free_writes_may_store}
+use Rattle.array_core.proofs.Standing.{is_named, is_left, member_clean, member_sound, still}
+use Rattle.array_core.specs.Losing.{lost_since, lost_by}
+use Rattle.array_core.specs.Performing.{IsKeptAt}
+use Rattle.array_core.proofs.Commands.{is_of_all}
+use Rattle.array_core.proofs.Losses.{same_geometry, sound_since, left_out_since}
+use Rattle.array_core.specs.Meanwhile.{AreInForce, FreeWritesGoOn}
+use Rattle.array_core.specs.Switching.{WroteFree}
+use Rattle.array_core.proofs.Alone.{alone_in}
+use Rattle.array_core.proofs.Storing as storing
+use Rattle.array_core.proofs.Keeping.{IsReadable, KeptNamed, both_not, goes_on, kept}
+use Rattle.array_core.proofs.Logged.{nothing_else}
+use Rattle.array_core.proofs.Kept.{not_free}
+
+body_low : (slot : BootSlot) → body_place slot + 65536 ≤ 196608
+body_low A = omega arith
+body_low B = omega arith
+
+gate_low : (slot : BootSlot) → gate_place slot < 196608
+gate_low A = omega arith
+gate_low B = omega arith
+
+-- a store of a record writes on no NVRAM device
+pub off_slots : (members : List Bool) (n i : ℕ) → OnSlots members (nvram n) i → ⊥
+off_slots members n i (inl (inl x)) = x
+off_slots members n i (inl (inr x)) = x
+off_slots members n i (inr (inl x)) = x
+off_slots members n i (inr (inr x)) = x
+
+-- the NVRAM devices that the record names are two, and hold the log
+pub log_member : {shelf : Shelved} (r : Register) (members : List Bool) {held : Content} → IsOpen shelf r members held → (n : ℕ) → names r.record (nvram n) ≡ true → (n < 2) × nv.IsMember members n
+log_member r members o n e = (omega (arith, member_below r.record.members.nvrams n e, o.logged.is_of.lawful.lawful.members.nvram_flags), subst (λ (l : List Bool). nv.IsMember l n) o.nvrams_are e)
+
+module _ (old : Shelved) (is : IsShelf old) (h : old.honest) (r : Register) (members : List Bool) (held : Content) (o : IsOpen old r members held) where
+  -- a stop while they are written
+  module _ (stop : Stop) (left : LeavesBut (OnFree r held) old stop) where
+    boot_same : (i : ℕ) → IsMember (drives_of r) i → (at : ℕ) → at < 196608 → slice_index (stop.image (drive i)) at ≡ slice_index (old.disk (drive i)).bytes at
+    boot_same i m at low = (left.bytes (drive i)).same at (λ dirty. subst (λ (l : List Span). IsInSome l at) (member_clean old is h r members held o i m) dirty) (not_free r held i at low)
+
+    shown_is : (i : ℕ) → IsMember (drives_of r) i → (slot : BootSlot) → shown_by slot (stop.image (drive i)) ≡ shown_by slot (old.disk (drive i)).bytes
+    shown_is i m slot =
+        let gate : slice_index (stop.image (drive i)) (gate_place slot) ≡ slice_index (old.disk (drive i)).bytes (gate_place slot) = boot_same i m (gate_place slot) (gate_low slot) in
+        let body : body_in slot (stop.image (drive i)) ≡ body_in slot (old.disk (drive i)).bytes =
+        bytes_same (stop.image (drive i)) (old.disk (drive i)).bytes (body_place slot) 65536 (left.bytes (drive i)).size (λ at low high. boot_same i m at (let k = body_low slot in omega (arith, high, k))) in
+        rw gate (rw body refl)
+
+    pub alone_then : (later : Conditions) → IsWithin (named_sound r.record) later → (slot : BootSlot) (boot : BootRecord) → MayBeGiven (geometry_of old) stop.image later slot boot → boot ≡ r.record
+    alone_then later within slot boot g = (alone_in old is r members held o stop.image later within shown_is slot boot g).1
+
+    -- the log shows its own commands alone
+    module _ (in_force : AreInForce held) where
+      read : (n i : ℕ) (c : Command) → names r.record (nvram n) ≡ true → ShowsIn (stop.image (nvram n)) r.record.flushed i c → is_in_force c.request ≡ true
+      read n i c e shows =
+          let at = log_member r members o n e in
+          let bytes : stop.image (nvram n) ≡ (old.disk (nvram n)).bytes = as_read (old.disk (nvram n)) (stop.image (nvram n)) (o.logged.holds.clean n at.0 at.1) (nothing_else (λ k w. w) (left.bytes (nvram n))) in
+          is_of_all (λ (x : Command). is_in_force x.request ≡ true) held.log in_force i c
+          ((o.logged.holds.log n at.0 at.1).between.no_other i c (subst (λ (b : List ℕ). ShowsIn b r.record.flushed i c) bytes shows))
+
+      itself : IsReadable r.record stop.image r.record
+      itself = record { fewer = λ d e. e; read = read }
+
+      kept_named : KeptNamed old r.record (array_of held ∷ []) stop
+      kept_named borne =
+          let failed : Device → Bool = λ d. has_risen (old.disk d).write_faults (stop.write_faults d) in
+          let within : IsWithin (named_sound r.record) (lost_by old stop (named_sound r.record)) = losing_within failed (named_sound r.record) in
+          goes_on (geometry_of old) r.record stop.image failed (array_of held ∷ [])
+          (λ slot boot g. subst (λ (b : BootRecord). IsReadable r.record stop.image b) (sym (alone_then (lost_by old stop (named_sound r.record)) within slot boot g)) itself)
+          (more_may_go_missing (geometry_of old) stop.image (named_sound r.record) (lost_by old stop (named_sound r.record)) (array_of held ∷ []) within borne (still old is h r members held o stop left))
+
+      pub kept_then : IsKeptAt old r.record (array_of held ∷ []) stop
+      kept_then = kept old r.record (array_of held ∷ []) stop (λ d. (left.bytes d).is_byte) kept_named
+
+  -- once they were written
+  module _ (new : Shelved) (w : WritesFree r held old new) where
+    -- what a stop leaves then
+    pub left_then : (stop : Stop) → MayStop new stop → LeavesBut (OnFree r held) old stop
+    left_then stop may = record { bytes = λ d. may_leave_but (w.writes.device d) (may.device d); counts = counted_then w.writes.counts may.counts }
+
+    same_body : (slot : BootSlot) (i : ℕ) → body_in slot (new.disk (drive i)).bytes ≡ body_in slot (old.disk (drive i)).bytes
+    same_body slot i = bytes_same (new.disk (drive i)).bytes (old.disk (drive i)).bytes (body_place slot) 65536 (w.writes.device (drive i)).size
+        (λ at low high. (w.writes.device (drive i)).bytes at (not_free r held i at (let k = body_low slot in omega (arith, high, k))))
+
+    module _ (now : Register) (same : now.record ≡ r.record) (fewer : (i : ℕ) → IsMember now.drives i → IsMember r.drives i) where
+      among : (i : ℕ) → IsMember (drives_of now) i → IsMember (drives_of r) i
+      among i m = fewer_cut r now (ap (λ (b : BootRecord). b.slots) same) fewer i m
+
+      pub older_then : (i : ℕ) → IsMember (drives_of now) i → IsOlder new (next_slot now.record) (spelling now.record) i
+      older_then i m = subst (λ (b : BootRecord). IsOlder new (next_slot b) (spelling b) i) (sym same)
+          (subst (λ (b : List ℕ). Yields (other_slot (next_slot r.record)) (generation_in b) (generation_in (spelling r.record))) (sym (same_body (next_slot r.record) i))
+          (o.older i (among i m) (member_sound old is h r members held o i (among i m))))
+
+pub free_writes_go_on : (start now : Shelved) → IsShelf start → FreeWritesGoOn start now
+free_writes_go_on start now is h r members held o in_force w = weaker (λ stop left. kept_then start is h r members held o stop left in_force) w.writes.any_moment
+
+-- ---- drives were lost meanwhile
+
+module _ (start m : Shelved) (is : IsShelf start) (is_m : IsShelf m) (h : start.honest) (was now : Register) (lost members : List Bool) (held : Content) (o : IsOpen start was members held) (w : WroteFree start m was lost held)
+    (same : now.record ≡ was.record) (fewer : (i : ℕ) → IsMember now.drives i → IsMember was.drives i × ¬ (IsMember lost i)) (left : (i : ℕ) → IsMember was.drives i × ¬ (IsMember lost i) → IsMember now.drives i) where
+  cut : (i : ℕ) → IsMember (drives_of now) i → IsMember (drives_of was) i
+  cut i x = fewer_cut was now (ap (λ (b : BootRecord). b.slots) same) (λ k y. (fewer k y).0) i x
+
+  synced : AreSynced m now
+  synced i x = elim (w.synced i (cut i x)) [
+    | inl is ↦ absurd ((fewer i (in_cut now.drives now.record.slots i x)).1 is)
+    | inr clean ↦ clean
+  ]
+
+  lost_within : IsWithin (named_sound was.record) (lost_since start m (named_sound was.record))
+  lost_within = losing_within (λ d. has_risen (start.disk d).write_faults (m.disk d).write_faults) (named_sound was.record)
+
+  sound_named : (d : Device) → lost_since start m (named_sound was.record) d ≡ Sound → names was.record d ≡ true
+  sound_named d s = is_named (names was.record d) (sound_since (has_risen (start.disk d).write_faults (m.disk d).write_faults) (named_sound was.record d) s).0
+
+  out_unnamed : (d : Device) → lost_since start m (named_sound was.record) d ≡ LeftOut → names was.record d ≡ false
+  out_unnamed d out = is_left (names was.record d) (left_out_since (has_risen (start.disk d).write_faults (m.disk d).write_faults) (named_sound was.record d) out)
+
+  -- a drive that isn't missing isn't lost
+  sound_left : (i : ℕ) → i < start.drives → lost_since start m (named_sound was.record) (drive i) ≡ Sound → IsMember (drives_of now) i
+  sound_left i lt s =
+      let x = sound_since (has_risen (start.disk (drive i)).write_faults (m.disk (drive i)).write_faults) (named_sound was.record (drive i)) s in
+      let mem : IsMember (drives_of was) i = o.in_force.sound i lt x.0 in
+      let slots : now.record.slots ≡ was.record.slots = ap (λ (b : BootRecord). b.slots) same in
+      cut_in now.drives now.record.slots i (omega (arith, lt, slots, o.logged.is_of.lawful.slots))
+      (left i (
+        in_cut was.drives was.record.slots i mem,
+        λ is. risen_on_way (start.disk (drive i)).write_faults (start.disk (drive i)).write_faults (m.disk (drive i)).write_faults (m.disk (drive i)).write_faults
+            (omega arith) (w.cause i mem is).write_faults (omega arith) x.1,
+      ))
+
+  known : IsBearable (geometry_of start) (lost_since start m (named_sound was.record)) → IsKnownOf m now members (lost_since start m (named_sound was.record))
+  known bears = record {
+    bearable = subst (λ (g : Geometry). IsBearable g (lost_since start m (named_sound was.record))) (same_geometry w.free.continues) bears;
+    drives = λ i lt s. sound_left i (omega (arith, lt, w.free.continues.drives)) s;
+    logs = λ n lt s. subst (λ (l : List Bool). nv.IsMember l n) o.nvrams_are (sound_named (nvram n) s);
+    no_log = λ n out mem. both_not (names was.record (nvram n)) (subst (λ (l : List Bool). nv.IsMember l n) (sym o.nvrams_are) mem) (out_unnamed (nvram n) out);
+    no_drive = λ i out. subst (λ (b : BootRecord). names b (drive i) ≡ false) (sym same) (out_unnamed (drive i) out);
+  }
+
+  pub may_store_left : IsBearable (geometry_of start) (lost_since start m (named_sound was.record)) → MayStore m now members (lost_since start m (named_sound was.record)) held (array_of held ∷ [])
+  may_store_left bears = free_writes_may_store start m is is_m h was now members held (lost_since start m (named_sound was.record)) o w.free synced same (λ i x. (fewer i x).0) (known bears)
+
+  pub alone_left : (stop : Stop) (slot : BootSlot) (boot : BootRecord) → MayStop m stop → MayBeGiven (geometry_of m) stop.image (lost_since start m (named_sound was.record)) slot boot → boot ≡ was.record
+  alone_left stop slot boot may g = alone_then start is h was members held o stop (left_then start is h was members held o m w.free stop may) (lost_since start m (named_sound was.record)) lost_within slot boot
+      (subst (λ (k : Geometry). MayBeGiven k stop.image (lost_since start m (named_sound was.record)) slot boot) (sym (same_geometry w.free.continues)) g)
+
+  pub older_left : (i : ℕ) → IsMember (drives_of now) i → IsOlder m (next_slot now.record) (spelling now.record) i
+  older_left i x = older_then start is h was members held o m w.free now same (λ k y. (fewer k y).0) i x
+
+  -- the log is as it was
+  read_left : AreInForce held → (members2 : List Bool) (stop : Stop) → LeavesBut (OnSlots members2) m stop → (n i : ℕ) (c : Command) → names was.record (nvram n) ≡ true
+      → ShowsIn (stop.image (nvram n)) was.record.flushed i c → is_in_force c.request ≡ true
+  read_left in_force members2 stop but n i c e shows =
+      let at = log_member was members o n e in
+      let clean : (m.disk (nvram n)).dirty ≡ [] = subst (λ (d : Disk). d.dirty ≡ []) (sym (w.free.nvrams n)) (o.logged.holds.clean n at.0 at.1) in
+      let bytes : stop.image (nvram n) ≡ (start.disk (nvram n)).bytes = as_read (m.disk (nvram n)) (stop.image (nvram n)) clean (nothing_else (off_slots members2 n) (but.bytes (nvram n))) ∙ ap (λ (d : Disk). d.bytes) (w.free.nvrams n) in
+      is_of_all (λ (x : Command). is_in_force x.request ≡ true) held.log in_force i c
+      ((o.logged.holds.log n at.0 at.1).between.no_other i c (subst (λ (b : List ℕ). ShowsIn b was.record.flushed i c) bytes shows))
+
+  pub may_leave : AreInForce held → (members2 : List Bool) → storing.MayLeave start m was now members members held held (array_of held ∷ []) (OnSlots members2)
+  may_leave in_force members2 = record {
+    on = w.free.continues;
+    was_open = o;
+    same = same;
+    fewer = λ i x. (fewer i x).0;
+    fewer_logs = λ n x. x;
+    older = older_left;
+    may = may_store_left;
+    alone = λ bears stop slot boot may g. alone_left stop slot boot may g;
+    read = read_left in_force members2;
+  }
+
+-- none of the record's drives is lost
+pub all_synced : (start m : Shelved) (was now : Register) (lost : List Bool) (held : Content) → WroteFree start m was lost held → now ≡ was → ((i : ℕ) → IsMember now.drives i → IsMember was.drives i × ¬ (IsMember lost i)) → AreSynced m was
+all_synced start m was now lost held w same fewer i x = elim (w.synced i x) [
+  | inl is ↦ absurd ((fewer i (subst (λ (r : Register). IsMember r.drives i) (sym same) (in_cut was.drives was.record.slots i x))).1 is)
+  | inr clean ↦ clean
+]

@@ -1,0 +1,71 @@
+-- Counts of failed writes over more than one run, and what is lost with them.
+use Rattle.std.proofs.Common.{◌≡◌, inl, inr, ℕ, ◌+◌, ◌^◌, ◌≤◌, ◌<◌, List, subst, arith, Bool}
+use Rattle.std.proofs.lemmas.Bool.{cases_lt}
+use Rattle.pur_base.specs.Devices.{Conditions, Sound, IsBearable, drive, nvram}
+use Rattle.boot_codec.specs.Record.{set_count}
+use Rattle.boot_codec.specs.Region.{names}
+use Rattle.array_spec.proofs.UnflushedRead.{one_left}
+use Rattle.world.specs.Counts.{Rises}
+use Rattle.world.specs.Losing.{geometry_of, has_risen}
+use Rattle.world.specs.Shelf.{Shelved, Continues}
+use Rattle.world.proofs.Moments.{continues_refl}
+use Rattle.boot_region.specs.Members.{DroppedFailed, LostWrites}
+use Rattle.boot_region.proofs.Phases.{risen_on_way}
+use Rattle.nvram_log.specs.Members as nv
+use Rattle.register.specs.declared.next.StoreFault.{StoreFault}
+use Rattle.register.specs.declared.next.StoreFault.TheVariants.{Spent, TooFew}
+use Rattle.register.specs.declared.state.Register.{Register}
+use Rattle.register.specs.Faults.{IsFaultOf}
+use Rattle.register.specs.Registers.{drives_of, named_sound}
+use Rattle.register.specs.Standing.{Content, IsOpen}
+use Rattle.register.proofs.FlagLemmas.{fewer_count, in_cut}
+use Rattle.array_core.proofs.Standing.{is_named}
+use Rattle.array_core.specs.Losing.{lost_since}
+use Rattle.array_core.specs.Performing.{LostDrives, LostLog}
+use Rattle.array_core.proofs.Losses.{sound_since}
+use Rattle.array_core.proofs.Lost.{few_lack}
+use Rattle.array_core.specs.Switching.{IsTooMuch}
+
+-- ---- counts
+
+pub rises_on : (a b c d : ℕ) → a ≤ b → Rises b c → c ≤ d → Rises a d
+rises_on a b c d le (inl lt) ge = inl (omega (arith, le, lt, ge))
+rises_on a b c d le (inr (top, same)) ge = elim (cases_lt a d) [
+  | inl lt ↦ inl lt
+  | inr back ↦ inr (omega (arith, le, top, same, ge, back), omega (arith, le, top, same, ge, back))
+]
+
+pub rises_since : (a b c d : Shelved) → Continues a b → Continues c d → (i : ℕ) → LostWrites (b.disk (drive i)) (c.disk (drive i)) → LostWrites (a.disk (drive i)) (d.disk (drive i))
+rises_since a b c d first last i lost = record {
+  faults = rises_on (a.disk (drive i)).faults (b.disk (drive i)).faults (c.disk (drive i)).faults (d.disk (drive i)).faults (first.faults (drive i)) lost.faults (last.faults (drive i));
+  write_faults = rises_on (a.disk (drive i)).write_faults (b.disk (drive i)).write_faults (c.disk (drive i)).write_faults (d.disk (drive i)).write_faults (first.write_faults (drive i)) lost.write_faults (last.write_faults (drive i));
+}
+
+-- ---- drives
+
+pub dropped_then : (a b c : Shelved) → Continues a b → Continues b c → (was mid now : List Bool) → DroppedFailed a b was mid → DroppedFailed b c mid now → DroppedFailed a c was now
+dropped_then a b c ab bc was mid now first next i m = elim (first i m) [
+  | inr lost ↦ inr (rises_since a a b c (continues_refl a) bc i lost)
+  | inl is ↦ elim (next i is) [
+    | inl left ↦ inl left
+    | inr lost ↦ inr (rises_since a b c c ab (continues_refl c) i lost)
+  ]
+]
+
+-- ---- too much
+
+-- where no record was stored, more than two drives aren't left
+pub drives_lost : (start now : Shelved) (was r : Register) → r.record.slots ≡ was.record.slots → DroppedFailed start now (drives_of was) (drives_of r) → r.record.generation + 1 < 2 ^ 48
+    → (e : StoreFault) → IsFaultOf r e → LostDrives start now was
+drives_lost start now was r slots dropped low (TooFew left) fault = record {
+  left = drives_of r;
+  dropped = dropped;
+  too_few =
+      let fewer : set_count (drives_of r) ≤ set_count r.drives = fewer_count (drives_of r) r.drives (λ i mem. in_cut r.drives r.record.slots i mem) in
+      omega (arith, slots, fewer, fault.1);
+}
+drives_lost start now was r slots dropped low Spent fault = absurd (omega (arith, low, fault.1))
+
+pub log_lost_since : (a b c : Shelved) → Continues a b → (members : List Bool) → LostLog b c members → LostLog a c members
+log_lost_since a b c ab members lost n lt m =
+    rises_on (a.disk (nvram n)).write_faults (b.disk (nvram n)).write_faults (c.disk (nvram n)).write_faults (c.disk (nvram n)).write_faults (ab.write_faults (nvram n)) (lost n lt m) (omega arith)

@@ -1,0 +1,119 @@
+-- What one stage of the end of a checkpoint or a merge leaves for the next one.
+use Rattle.std.proofs.Common.{◌≡◌, ◌⊎◌, inl, inr, ℕ, ◌+◌, ◌≤◌, List, [], ◌∷◌, length, refl, sym, ◌∙◌, ap, subst, arith, Bool, true, false, Result, Ok, Err, OnOk, IfErr}
+use Rattle.pur_base.specs.declared.device.Device.{Device}
+use Rattle.pur_base.specs.declared.device.Device.TheVariants.{Drive, Nv}
+use Rattle.pur_base.specs.Devices.{Geometry, drive, nvram}
+use Rattle.boot_codec.specs.declared.record.BootRecord.{BootRecord}
+use Rattle.boot_codec.specs.Record.{IsBootRecord, set_count}
+use Rattle.boot_codec.specs.Region.{names}
+use Rattle.array_spec.proofs.Votes.{counted}
+use Rattle.stored_spec.specs.Held.{DataHolds}
+use Rattle.world.specs.Counts.{Rises}
+use Rattle.world.specs.Losing.{geometry_of}
+use Rattle.world.specs.Shelf.{Shelved, IsShelf, Continues}
+use Rattle.world.specs.Writes.{WritesOnly}
+use Rattle.world.proofs.Moments.{continues_refl}
+use Rattle.boot_region.specs.Members.{IsMember, DroppedFailed, LostWrites}
+use Rattle.nvram_log.specs.Held.{HoldsOn}
+use Rattle.nvram_log.specs.Members as nv
+use Rattle.register.specs.declared.state.Register.{Register}
+use Rattle.register.specs.declared.tables.Tables.{Tables}
+use Rattle.register.specs.Registers.{IsLaterRecord, IsRegisterOf, OnSlots, drives_of}
+use Rattle.register.specs.Standing.{Content, IsOpen}
+use Rattle.register.specs.Tables.{IsPlanOf, KeepsArray, with_tables}
+use Rattle.register.proofs.FlagLemmas.{in_cut}
+use Rattle.register.proofs.Rounds.{cut_drives}
+use Rattle.array_core.proofs.Kept.{plans_stand}
+use Rattle.array_core.proofs.Standing.{member_clean}
+use Rattle.array_core.proofs.Losses.{same_geometry}
+use Rattle.array_core.specs.Switching.{AreLost}
+use Rattle.array_core.proofs.Keeping.{CameAfter}
+use Rattle.array_core.proofs.LostOnWay.{rises_since}
+use Rattle.array_core.proofs.Moved.{data_moves, only_boot}
+
+-- ---- results
+
+-- what follows where the result is Ok, in which what is said of Ok holds
+pub ok_if : {T E Q : Type 0} (r : Result T E) → (((P : Type 0) → OnOk r P → P) → Q) → OnOk r Q
+ok_if (Ok t) f = f (λ P p. p)
+ok_if (Err e) f = tt
+
+-- what is said of an error says this too
+pub err_if : {T E : Type 0} {P Q : E → Type 0} (r : Result T E) → ((e : E) → P e → Q e) → IfErr r P → IfErr r Q
+err_if (Ok t) f p = tt
+err_if (Err e) f p = f e p
+
+pub err_is : {T E : Type 0} (r : Result T E) (P : E → Type 0) (e : E) → r ≡ Err e → P e → IfErr r P
+err_is r P e is p = subst (λ x. IfErr x P) (sym is) p
+
+-- ---- records
+
+pub later_itself : (boot : BootRecord) → IsLaterRecord boot boot
+later_itself boot = record { generation = omega arith; rest = refl }
+
+some_set : (flags : List Bool) → length flags ≡ 2 → 1 ≤ set_count flags → nv.IsSome flags
+some_set (true ∷ b ∷ []) two one = inl refl
+some_set (false ∷ true ∷ []) two one = inr refl
+some_set (false ∷ false ∷ []) two one = absurd (omega (arith, one, counted (λ (b : Bool). b) false (false ∷ []), counted (λ (b : Bool). b) false []))
+some_set [] two one = absurd (omega (arith, two))
+some_set (a ∷ []) two one = absurd (omega (arith, two))
+some_set (a ∷ b ∷ c ∷ rest) two one = absurd (omega (arith, two))
+
+-- a lawful record names an NVRAM device
+pub some_named : (boot : BootRecord) → IsBootRecord boot → nv.IsSome boot.members.nvrams
+some_named boot is = some_set boot.members.nvrams is.members.nvram_flags is.members.nvrams
+
+-- ---- who is left
+
+-- a drive is lost, or left, or it lost a write meanwhile
+abbrev pub AreLeft : Shelved → Shelved → Register → Register → List Bool → Type 0
+AreLeft a b was now lost = (i : ℕ) → IsMember (drives_of was) i → IsMember lost i ⊎ (IsMember (drives_of now) i ⊎ LostWrites (a.disk (drive i)) (b.disk (drive i)))
+
+-- drives that were lost before, or in the store
+pub left_dropped : (start a b : Shelved) → Continues start a → Continues a b → (was now : Register) (lost : List Bool) → AreLost start a was lost → AreLeft a b was now lost → DroppedFailed start b (drives_of was) (drives_of now)
+left_dropped start a b first next was now lost are dropped i m = elim (dropped i m) [
+  | inl is ↦ inr (rises_since start start a b (continues_refl start) next i (are i m is))
+  | inr x ↦ elim x [
+    | inl is ↦ inl is
+    | inr rose ↦ inr (rises_since start a b b first (continues_refl b) i rose)
+  ]
+]
+
+-- the record of an array that is open later, on fewer drives and with the same log devices
+pub came_after : (start now : Shelved) (was r : Register) (members : List Bool) (held next : Content) → IsOpen start was members held → IsOpen now r members next
+    → ((i : ℕ) → IsMember r.drives i → IsMember was.drives i) → DroppedFailed start now (drives_of was) (drives_of r) → CameAfter start now was.record r.record
+came_after start now was r members held next o p fewer dropped = record { fewer = λ d e. named d e; dropped = λ d e. left d e }
+  where
+    named : (d : Device) → names r.record d ≡ true → names was.record d ≡ true
+    named (Drive d) e = o.logged.is_of.named d.0 (fewer d.0 (subst (λ (l : List Bool). IsMember l d.0) p.drives e))
+    named (Nv n) e = subst (λ (l : List Bool). nv.IsMember l n.0) (p.nvrams_are ∙ sym o.nvrams_are) e
+
+    left : (d : Device) → names was.record d ≡ true → (names r.record d ≡ true) ⊎ Rises (start.disk d).write_faults (now.disk d).write_faults
+    left (Drive d) e = elim (dropped d.0 (cut_drives (geometry_of start) was o.logged.is_of d.0 (subst (λ (l : List Bool). IsMember l d.0) o.drives e))) [
+      | inl is ↦ inl (p.logged.is_of.named d.0 (in_cut r.drives r.record.slots d.0 is))
+      | inr rose ↦ inr rose.write_faults
+    ]
+    left (Nv n) e = inl (subst (λ (l : List Bool). nv.IsMember l n.0) (o.nvrams_are ∙ sym p.nvrams_are) e)
+
+-- ---- the tables
+
+-- the tables stand on whichever drives aren't lost
+abbrev pub StandUnlost : Shelved → Register → List Bool → Tables → Content → Type 0
+StandUnlost now r lost tables next = (left : List Bool) → ((i : ℕ) → IsMember left i → IsMember (drives_of r) i × ¬ (IsMember lost i))
+    → DataHolds (geometry_of now) left (λ d. (now.disk d).bytes) (with_tables r.record tables) next.patches next.base
+
+-- what they keep by a record they keep by a later one
+keeps_later : (was r : Register) (tables : Tables) (held next : Content) → r.record.flushed ≡ was.record.flushed → KeepsArray was tables held next → KeepsArray r tables held next
+keeps_later was r tables held next same (inl all) = inl (record { flushed = all.flushed ∙ ap (λ (f : ℕ). f + length held.log) (sym same); log = all.log; base = all.base })
+keeps_later was r tables held next same (inr none) = inr (record { flushed = none.flushed ∙ sym same; log = none.log; base = none.base })
+
+-- tables that were written stand for the record to be stored, once one was stored without the drives that were lost
+pub plan_at : (a b : Shelved) (is : IsShelf b) (h : b.honest) (on : Continues a b) (was r : Register) (members lost : List Bool) (tables : Tables) (held next : Content) → IsRegisterOf (geometry_of a) was → IsBootRecord (with_tables was.record tables)
+    → IsLaterRecord was.record r.record → ((i : ℕ) → IsMember (drives_of r) i → IsMember (drives_of was) i × ¬ (IsMember lost i)) → StandUnlost a was lost tables next → KeepsArray was tables held next → IsOpen b r members held
+    → ((n : ℕ) → b.disk (nvram n) ≡ a.disk (nvram n)) → WritesOnly (OnSlots (drives_of was)) a b → HoldsOn b r.record.members.nvrams r.record.flushed held.log → IsPlanOf b r tables held next
+plan_at a b is h on was r members lost tables held next is_of lawful later among stand keeps o same writes logged =
+    plans_stand b r tables held next (λ i m. member_clean b is h r members held o i m) logged (keeps_later was r tables held next (ap (λ (x : BootRecord). x.flushed) later.rest) keeps)
+    (subst (λ (g : Geometry). DataHolds g (drives_of r) (λ d. (b.disk d).bytes) (with_tables r.record tables) next.patches next.base) (same_geometry on)
+    (data_moves (geometry_of a) (drives_of r) (drives_of r) (λ d. (a.disk d).bytes) (λ d. (b.disk d).bytes) (with_tables was.record tables) (with_tables r.record tables) next.patches next.base
+    (record { lawful = lawful; slots = is_of.lawful.slots; units = is_of.lawful.units }) (ap (λ (x : BootRecord). with_tables x tables) later.rest) (λ i m. m) (only_boot a b (drives_of was) same writes)
+    (stand (drives_of r) among)))

@@ -1,0 +1,156 @@
+-- The stages of the end of a checkpoint or a merge, one after another.
+use Rattle.std.proofs.Common.{◌≡◌, ◌⊎◌, inl, inr, ℕ, ◌+◌, ◌^◌, ◌<◌, List, [], ◌∷◌, sym, ◌∙◌, ap, subst, Bool}
+use Rattle.pur_base.specs.Devices.{nvram}
+use Rattle.pur_base.specs.declared.device.Device.{Device}
+use Rattle.pur_base.specs.Plain.{Array}
+use Rattle.boot_codec.specs.declared.record.BootRecord.{BootRecord}
+use Rattle.boot_codec.specs.Record.{IsBootRecord}
+use Rattle.world.specs.Losing.{geometry_of}
+use Rattle.world.specs.Shelf.{Shelved, IsShelf, Continues, LeavesOnly}
+use Rattle.world.specs.Writes.{WritesOnly}
+use Rattle.world.proofs.Moments.{continues_trans}
+use Rattle.world.proofs.Writes.{writes_then, writes_more}
+use Rattle.boot_region.specs.Members.{IsMember, DroppedFailed}
+use Rattle.nvram_log.specs.declared.log.NvLog.{NvLog}
+use Rattle.nvram_log.specs.Held.{HoldsOn}
+use Rattle.register.specs.declared.next.StoreFault.{StoreFault}
+use Rattle.register.specs.declared.state.Register.{Register}
+use Rattle.register.specs.declared.tables.Tables.{Tables}
+use Rattle.register.specs.Faults.{IsFaultOf}
+use Rattle.register.specs.Giving.{GivesOldOrTables}
+use Rattle.register.specs.Registers.{IsLaterRecord, IsRegisterOf, OnSlots, drives_of}
+use Rattle.register.specs.Standing.{Content, IsOpen, array_of}
+use Rattle.register.specs.Tables.{IsPlanOf, KeepsArray, StandsAsBefore, with_tables}
+use Rattle.register.proofs.FlagLemmas.{in_cut}
+use Rattle.register.proofs.Stores.{fewer_cut}
+use Rattle.register.proofs.Tabling.{same_array}
+use Rattle.array_core.specs.Performing.{IsKeptAt, LostDrives}
+use Rattle.array_core.specs.Switching.{AreLost, WasOpen, WroteFree}
+use Rattle.array_core.proofs.FreeWrites.{off_slots}
+use Rattle.array_core.proofs.Holders.{slots_of_more}
+use Rattle.array_core.proofs.Keeping.{CameAfter, run_since}
+use Rattle.array_core.proofs.LostOnWay.{dropped_then, drives_lost}
+use Rattle.array_core.proofs.Stages.{AreLeft, StandUnlost, came_after, left_dropped, plan_at}
+use Rattle.array_core.proofs.Tables.{still_holds, tables_moments}
+
+-- ---- a record without the drives that were lost, then one of the tables
+
+pub both_write : (a b c : Shelved) → Continues a b → (r0 r1 : Register) → IsLaterRecord r0.record r1.record → ((i : ℕ) → IsMember r1.drives i → IsMember r0.drives i)
+    → WritesOnly (OnSlots (drives_of r0)) a b → WritesOnly (OnSlots (drives_of r1)) b c → WritesOnly (OnSlots (drives_of r0)) a c
+both_write a b c on r0 r1 later fewer first next = writes_then on first (writes_more (slots_of_more r0 r1 (ap (λ (x : BootRecord). x.slots) later.rest) fewer) next)
+
+pub both_dropped : (s a b c : Shelved) → Continues s a → Continues a b → Continues b c → (r0 r1 r2 : Register) (lost : List Bool) → AreLost s a r0 lost → AreLeft a b r0 r1 lost → DroppedFailed b c (drives_of r1) (drives_of r2)
+    → DroppedFailed s c (drives_of r0) (drives_of r2)
+both_dropped s a b c since on next r0 r1 r2 lost are left dropped = dropped_then s b c (continues_trans since on) next (drives_of r0) (drives_of r1) (drives_of r2) (left_dropped s a b since on r0 r1 lost are left) dropped
+
+-- the first could not be stored
+pub none_left : (s a b : Shelved) → Continues s a → Continues a b → (r0 r1 : Register) (lost : List Bool) → AreLost s a r0 lost → AreLeft a b r0 r1 lost → IsLaterRecord r0.record r1.record → r1.record.generation + 1 < 2 ^ 48
+    → (e : StoreFault) → IsFaultOf r1 e → LostDrives s b r0
+none_left s a b since on r0 r1 lost are left later low e fault = drives_lost s b r0 r1 (ap (λ (x : BootRecord). x.slots) later.rest) (left_dropped s a b since on r0 r1 lost are left) low e fault
+
+-- the second could not
+pub none_stored : (s a b c : Shelved) → Continues s a → Continues a b → Continues b c → (r0 r1 r2 : Register) (lost : List Bool) (tables : Tables) → AreLost s a r0 lost → AreLeft a b r0 r1 lost → DroppedFailed b c (drives_of r1) (drives_of r2)
+    → IsLaterRecord r0.record r1.record → ((r2.record ≡ r1.record) × (r2.drives ≡ r1.drives)) ⊎ IsLaterRecord (with_tables r1.record tables) r2.record → r2.record.generation + 1 < 2 ^ 48
+    → (e : StoreFault) → IsFaultOf r2 e → LostDrives s c r0
+none_stored s a b c since on next r0 r1 r2 lost tables are left dropped later kept low e fault =
+    drives_lost s c r0 r2 (slots kept ∙ ap (λ (x : BootRecord). x.slots) later.rest) (both_dropped s a b c since on next r0 r1 r2 lost are left dropped) low e fault
+  where
+    slots : ((r2.record ≡ r1.record) × (r2.drives ≡ r1.drives)) ⊎ IsLaterRecord (with_tables r1.record tables) r2.record → r2.record.slots ≡ r1.record.slots
+    slots (inl same) = ap (λ (x : BootRecord). x.slots) same.0
+    slots (inr stored) = ap (λ (x : BootRecord). x.slots) stored.rest
+
+-- ---- what they leave
+
+-- drives that were lost were left: from a to b, since the start
+pub record HasLeft (s a b : Shelved) (was r : Register) (log : NvLog) (lost : List Bool) (tables : Tables) (held next : Content) : Type 0 where
+  pub is : IsShelf b
+  pub honest : a.honest
+  pub on : Continues a b
+  pub is_of : IsRegisterOf (geometry_of a) was
+  pub lawful : IsBootRecord (with_tables was.record tables)
+  pub was_open : WasOpen s was log held
+  pub wrote : WroteFree s a was lost held
+  pub stand : StandUnlost a was lost tables next
+  pub keeps : KeepsArray was tables held next
+  pub later : IsLaterRecord was.record r.record
+  pub fewer : (i : ℕ) → IsMember r.drives i → IsMember was.drives i × ¬ (IsMember lost i)
+  pub left : AreLeft a b was r lost
+  pub same : (n : ℕ) → b.disk (nvram n) ≡ a.disk (nvram n)
+  pub writes : WritesOnly (OnSlots (drives_of was)) a b
+  pub is_open : IsOpen b r log.members held
+
+pub has_left : (s a b : Shelved) → IsShelf b → a.honest → Continues a b → (was r : Register) (log : NvLog) (members lost : List Bool) (tables : Tables) (held next : Content) → members ≡ log.members
+    → IsRegisterOf (geometry_of a) was → IsBootRecord (with_tables was.record tables) → WasOpen s was log held → WroteFree s a was lost held → StandUnlost a was lost tables next → KeepsArray was tables held next
+    → IsLaterRecord was.record r.record → ((i : ℕ) → IsMember r.drives i → IsMember was.drives i × ¬ (IsMember lost i)) → AreLeft a b was r lost → ((n : ℕ) → b.disk (nvram n) ≡ a.disk (nvram n)) → WritesOnly (OnSlots (drives_of was)) a b
+    → IsOpen b r members held → HasLeft s a b was r log lost tables held next
+has_left s a b is h on was r log members lost tables held next its is_of lawful was_open wrote stand keeps later fewer left same writes o = record {
+  is = is;
+  honest = h;
+  on = on;
+  is_of = is_of;
+  lawful = lawful;
+  was_open = was_open;
+  wrote = wrote;
+  stand = stand;
+  keeps = keeps;
+  later = later;
+  fewer = fewer;
+  left = left;
+  same = same;
+  writes = writes;
+  is_open = subst (λ (l : List Bool). IsOpen b r l held) its o;
+}
+
+module _ (s a b : Shelved) (was r : Register) (log : NvLog) (lost : List Bool) (tables : Tables) (held next : Content) (p : HasLeft s a b was r log lost tables held next) where
+  pub since_b : Continues s b
+  since_b = continues_trans p.wrote.free.continues p.on
+
+  same_b : (n : ℕ) → b.disk (nvram n) ≡ s.disk (nvram n)
+  same_b n = p.same n ∙ p.wrote.free.nvrams n
+
+  pub open_b : IsOpen b r r.record.members.nvrams held
+  open_b = subst (λ (l : List Bool). IsOpen b r l held) (sym p.is_open.nvrams_are) p.is_open
+
+  among : (i : ℕ) → IsMember (drives_of r) i → IsMember (drives_of was) i × ¬ (IsMember lost i)
+  among i m = (fewer_cut was r (ap (λ (x : BootRecord). x.slots) p.later.rest) (λ k y. (p.fewer k y).0) i m, (p.fewer i (in_cut r.drives r.record.slots i m)).1)
+
+  -- they show the log by the record, and the gates behind it are closed
+  holds_b : HoldsOn b r.record.members.nvrams r.record.flushed held.log
+  holds_b =
+      let shown = p.is_open.logged.holds in
+      let there = still_holds s b log.members log.flushed held.log same_b p.was_open.held_log in
+      subst (λ (l : List Bool). HoldsOn b l r.record.flushed held.log) (sym p.is_open.nvrams_are) (record {
+        log = λ n lt m. record { room = (shown.log n lt m).room; between = (shown.log n lt m).between; shut = (there.log n lt m).shut };
+        clean = shown.clean;
+      })
+
+  pub plan : IsPlanOf b r tables held next
+  plan = plan_at a b p.is (p.on.honest p.honest) p.on was r log.members lost tables held next p.is_of p.lawful p.later among p.stand p.keeps p.is_open p.same p.writes holds_b
+
+  dropped_b : DroppedFailed s b (drives_of was) (drives_of r)
+  dropped_b = left_dropped s a b p.wrote.free.continues p.on was r lost p.wrote.cause p.left
+
+  after_b : CameAfter s b was.record r.record
+  after_b = came_after s b was r log.members held held p.was_open.is_open p.is_open (λ i m. (p.fewer i m).0) dropped_b
+
+  -- while a record of the tables is stored
+  pub tables_run : (c : Shelved) → WritesOnly (OnSlots (drives_of r)) b c → LeavesOnly b c (StandsAsBefore b r held) → LeavesOnly b c (GivesOldOrTables b r tables) → LeavesOnly b c (IsKeptAt s was.record (array_of held ∷ []))
+  tables_run c writes stands gives = run_since s b c since_b was.record r.record after_b (array_of held ∷ []) writes
+      (tables_moments b c p.is (p.on.honest p.honest) r tables held next open_b p.was_open.in_force plan (OnSlots (drives_of r)) (off_slots (drives_of r)) writes stands gives)
+
+  -- once it was stored
+  module _ (c : Shelved) (on : Continues b c) (now : Register) (later : IsLaterRecord (with_tables r.record tables) now.record) (fewer : (i : ℕ) → IsMember now.drives i → IsMember r.drives i)
+      (dropped : DroppedFailed b c (drives_of r) (drives_of now)) (same : (n : ℕ) → c.disk (nvram n) ≡ b.disk (nvram n)) (o : IsOpen c now r.record.members.nvrams next) where
+    pub open_c : IsOpen c now log.members next
+    open_c = subst (λ (l : List Bool). IsOpen c now l next) p.is_open.nvrams_are o
+
+    pub holds_c : HoldsOn c log.members log.flushed held.log
+    holds_c = still_holds s c log.members log.flushed held.log (λ n. same n ∙ same_b n) p.was_open.held_log
+
+    after_c : CameAfter s c was.record now.record
+    after_c = came_after s c was now log.members held next p.was_open.is_open open_c (λ i m. (p.fewer i (fewer i m)).0) (dropped_then s b c since_b on (drives_of was) (drives_of r) (drives_of now) dropped_b dropped)
+
+    -- while the log is cleared
+    pub clear_run : (d : Shelved) {W : Device → ℕ → Type 0} → WritesOnly W c d → LeavesOnly c d (IsKeptAt c now.record (array_of next ∷ [])) → LeavesOnly c d (IsKeptAt s was.record (array_of held ∷ []))
+    clear_run d {W} writes at = run_since s c d (continues_trans since_b on) was.record now.record after_c (array_of held ∷ []) writes
+        (subst (λ (x : Array). LeavesOnly c d (IsKeptAt c now.record (x ∷ []))) (same_array was tables held next p.keeps) at)

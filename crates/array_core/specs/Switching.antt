@@ -1,0 +1,81 @@
+-- The end of a checkpoint or a merge: what its writes left, and which devices hold the array then.
+use Rattle.std.specs.Prelude.{◌≡◌, ◌⊎◌, ℕ, Bool, true, List, []}
+use Rattle.pur_base.specs.declared.device.Device.{Device}
+use Rattle.pur_base.specs.declared.device.Device.TheVariants.{Drive, Nv}
+use Rattle.pur_base.specs.Devices.{drive}
+use Rattle.boot_codec.specs.Region.{names}
+use Rattle.stored_spec.specs.Held.{DataHolds}
+use Rattle.world.specs.Counts.{Rises}
+use Rattle.world.specs.Losing.{geometry_of}
+use Rattle.world.specs.Shelf.{Shelved}
+use Rattle.boot_region.specs.Members.{IsMember, LostWrites}
+use Rattle.nvram_log.specs.declared.log.NvLog.{NvLog}
+use Rattle.nvram_log.specs.Held.{HoldsOn, Keeps}
+use Rattle.nvram_log.specs.Members as nv
+use Rattle.register.specs.declared.state.Register.{Register}
+use Rattle.register.specs.declared.tables.Tables.{Tables}
+use Rattle.register.specs.Registers.{OnSlots, drives_of}
+use Rattle.register.specs.Standing.{Content, IsOpen, array_of}
+use Rattle.register.specs.Tables.{with_tables}
+use Rattle.array_core.specs.Free.{WritesFree}
+use Rattle.array_core.specs.Performing.{LostDrives, LostLog}
+use Rattle.array_core.specs.Meanwhile.{AreInForce}
+
+-- ---- before
+
+-- the array was open then, with the log that memory keeps, of forms in force alone
+pub record WasOpen (start : Shelved) (r : Register) (log : NvLog) (held : Content) : Type 0 where
+  pub is_open : IsOpen start r log.members held
+  pub held_log : HoldsOn start log.members log.flushed held.log
+  pub keeps : Keeps log held.log
+  pub in_force : AreInForce held
+
+-- each drive of the record that is called lost lost a write
+abbrev pub AreLost : Shelved → Shelved → Register → List Bool → Type 0
+AreLost start now r lost = (i : ℕ) → IsMember (drives_of r) i → IsMember lost i → LostWrites (start.disk (drive i)) (now.disk (drive i))
+
+-- since the start only units were written that the tables leave free; drives that lost a write are called lost, and nothing is dirty on the others
+pub record WroteFree (start now : Shelved) (r : Register) (lost : List Bool) (held : Content) : Type 0 where
+  pub free : WritesFree r held start now
+  pub cause : AreLost start now r lost
+  pub synced : (i : ℕ) → IsMember (drives_of r) i → IsMember lost i ⊎ ((now.disk (drive i)).dirty ≡ [])
+
+-- on the drives that aren't lost stand the next tables, and they hold the array
+pub record HoldNext (now : Shelved) (r : Register) (lost : List Bool) (tables : Tables) (held next : Content) : Type 0 where
+  pub stand : (left : List Bool) → ((i : ℕ) → IsMember left i → IsMember (drives_of r) i × ¬ (IsMember lost i))
+      → DataHolds (geometry_of now) left (λ d. (now.disk d).bytes) (with_tables r.record tables) next.patches next.base
+  pub base : next.base ≡ array_of held
+  pub log : next.log ≡ []
+
+-- on the drives that aren't lost stand the next tables, and they hold the same base, from which the same log goes on
+pub record HoldMerged (now : Shelved) (r : Register) (lost : List Bool) (tables : Tables) (held next : Content) : Type 0 where
+  pub stand : (left : List Bool) → ((i : ℕ) → IsMember left i → IsMember (drives_of r) i × ¬ (IsMember lost i))
+      → DataHolds (geometry_of now) left (λ d. (now.disk d).bytes) (with_tables r.record tables) next.patches next.base
+  pub base : next.base ≡ held.base
+  pub log : next.log ≡ held.log
+
+-- ---- what is written, and what is lost
+
+-- both boot slots on the drives of the record, and the log on its devices
+abbrev pub OnSlotsAndLog : Register → List Bool → Device → ℕ → Type 0
+OnSlotsAndLog r members d i = OnSlots (drives_of r) d i ⊎ nv.OnMembers members d i
+
+-- all devices of the log lost a write, or so many drives that more than two of the shelf aren't left
+abbrev pub IsTooMuch : Shelved → Shelved → Register → List Bool → Type 0
+IsTooMuch start now r members = LostLog start now members ⊎ LostDrives start now r
+
+-- ---- who holds the array
+
+-- a device holds it: a drive on which the record is in force, or an NVRAM device with the log
+abbrev pub IsHolder : Register → List Bool → Device → Type 0
+IsHolder r members (Drive d) = IsMember (drives_of r) d.0
+IsHolder r members (Nv n) = nv.IsMember members n.0
+
+-- a holder is one still, or a write or a sync on it failed
+abbrev pub DropsFailed : Shelved → Shelved → Register → List Bool → Register → List Bool → Type 0
+DropsFailed start now r members r2 members2 = (d : Device) → IsHolder r members d → IsHolder r2 members2 d ⊎ Rises (start.disk d).write_faults (now.disk d).write_faults
+
+-- none joins the holders, and the record names no device that it didn't name, and that was no holder
+pub record NoneJoins (r : Register) (members : List Bool) (r2 : Register) (members2 : List Bool) : Type 0 where
+  pub holders : (d : Device) → IsHolder r2 members2 d → IsHolder r members d
+  pub named : (d : Device) → names r2.record d ≡ true → (names r.record d ≡ true) ⊎ IsHolder r members d

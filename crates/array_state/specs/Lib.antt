@@ -1,3 +1,0 @@
-pub mod Drives
-pub mod Room
-pub mod Ready

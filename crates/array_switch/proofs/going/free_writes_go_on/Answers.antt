@@ -1,5 +1,0 @@
-use Rattle.array_switch.proofs.Free.{free_writes_go_on}
-use Rattle.array_switch.proofs.going.free_writes_go_on.Goals as goal
-
-pub returns : goal.returns
-returns g c = free_writes_go_on (g.S.Shelf.shelf c.args._start.now) (g.S.Shelf.shelf c.args._now.now) (g.met.S.Shelf.is_shelf _)

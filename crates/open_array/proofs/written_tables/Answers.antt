@@ -1,5 +1,0 @@
-use Rattle.open_array.proofs.Kept.{plans_stand}
-use Rattle.open_array.proofs.written_tables.Goals as goal
-
-pub returns : goal.returns
-returns g c = plans_stand (g.S.Shelf.shelf c.args._shelf.now)
