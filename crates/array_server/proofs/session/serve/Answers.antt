@@ -2,6 +2,7 @@ use Rattle.std.proofs.Common.{◌≡◌, inl, inr, ℕ, List, sym, subst, Bool, 
 use Rattle.pur_base.specs.declared.reply.Status.{Status}
 use Rattle.world.specs.Losing.{geometry_of}
 use Rattle.world.proofs.Moments.{continues_trans}
+use Rattle.world.proofs.Ran.{runs_moments}
 use Rattle.request_codec.proofs.CallLemmas.{both}
 use Rattle.session_spec.specs.Ends.{RisesIf, is_source, is_sink}
 use Rattle.session_spec.specs.Headline.{Unopened, Served}
@@ -22,7 +23,7 @@ pub returns-in_default-new-2-clause-survives : goal.returns-in_default-new-2-cla
 returns-in_default-new-2-clause-survives g c = λ h hs hk. may_want_memory (g.W.Shelf.shelf c.args.world.now) (g.W.Source.source c.args.world.now) (g.W.Sink.sink c.args.world.now) (g.met.W.Shelf.is_shelf c.args.world.now)
 
 pub returns-in-Ok-recover-clause-continues : goal.returns-in-Ok-recover-clause-continues
-returns-in-Ok-recover-clause-continues g c = continues_trans c.in-Ok-recover.ensures.continues c.answer_all.ensures.continues
+returns-in-Ok-recover-clause-continues g c = continues_trans c.in-Ok-recover.ensures.ran.on.continues c.answer_all.ensures.continues
 
 pub returns-in-Ok-recover-clause-status : goal.returns-in-Ok-recover-clause-status
 returns-in-Ok-recover-clause-status g c = serves c.answer_all.result c.answer_all.ensures.status
@@ -30,23 +31,23 @@ returns-in-Ok-recover-clause-status g c = serves c.answer_all.result c.answer_al
 pub returns-in-Ok-recover-clause-source : goal.returns-in-Ok-recover-clause-source
 returns-in-Ok-recover-clause-source g c =
     let source = g.W.Source.source in
-    let from = g.met.W.World.shelf_keeps_source c.args.world.now c.recover.new.shelf c.in-Ok-recover.ensures.rest in
+    let from = g.met.W.World.shelf_keeps_source c.args.world.now c.recover.new.shelf c.in-Ok-recover.ensures.ran.rest in
     subst (λ (n : ℕ). RisesIf (is_source c.answer_all.result) n (source c.answer_all.new.world).faults) from.faults c.answer_all.ensures.source
 
 pub returns-in-Ok-recover-clause-sink : goal.returns-in-Ok-recover-clause-sink
 returns-in-Ok-recover-clause-sink g c =
     let sink = g.W.Sink.sink in
-    let to = g.met.W.World.shelf_keeps_sink c.args.world.now c.recover.new.shelf c.in-Ok-recover.ensures.rest in
+    let to = g.met.W.World.shelf_keeps_sink c.args.world.now c.recover.new.shelf c.in-Ok-recover.ensures.ran.rest in
     subst (λ (n : ℕ). RisesIf (is_sink c.answer_all.result) n (sink c.answer_all.new.world).faults) to.faults c.answer_all.ensures.sink
 
 pub returns-in-Ok-recover-clause-honest_source : goal.returns-in-Ok-recover-clause-honest_source
 returns-in-Ok-recover-clause-honest_source g c =
-    let from = g.met.W.World.shelf_keeps_source c.args.world.now c.recover.new.shelf c.in-Ok-recover.ensures.rest in
+    let from = g.met.W.World.shelf_keeps_source c.args.world.now c.recover.new.shelf c.in-Ok-recover.ensures.ran.rest in
     both (from.honest, from.honest_before) c.answer_all.ensures.honest_source
 
 pub returns-in-Ok-recover-clause-honest_sink : goal.returns-in-Ok-recover-clause-honest_sink
 returns-in-Ok-recover-clause-honest_sink g c =
-    let to = g.met.W.World.shelf_keeps_sink c.args.world.now c.recover.new.shelf c.in-Ok-recover.ensures.rest in
+    let to = g.met.W.World.shelf_keeps_sink c.args.world.now c.recover.new.shelf c.in-Ok-recover.ensures.ran.rest in
     both (to.honest, to.honest_before) c.answer_all.ensures.honest_sink
 
 pub answer_all-requires-clause-is_of : goal.answer_all-requires-clause-is_of
@@ -66,8 +67,8 @@ returns-in-Ok-recover-clause-survives g c = λ h hs hk.
     let a = c.in-Ok-recover.array in
     let ended = c.answer_all.result in
     let opening = c.in-Ok-recover.ensures in
-    let from = g.met.W.World.shelf_keeps_source old mid opening.rest in
-    let to = g.met.W.World.shelf_keeps_sink old mid opening.rest in
+    let from = g.met.W.World.shelf_keeps_source old mid opening.ran.rest in
+    let to = g.met.W.World.shelf_keeps_sink old mid opening.ran.rest in
     let o = opening.opened h in
     let e = c.new-in-Ok-recover.result in
     let is : e ≡ engine_of e a = λ k. record e { array = c.new-in-Ok-recover.ensures.array k; halted = c.new-in-Ok-recover.ensures.awake k } in
@@ -76,9 +77,9 @@ returns-in-Ok-recover-clause-survives g c = λ h hs hk.
       sink_counts = subst (λ (n : ℕ). RisesIf (is_sink ended) n (sink new).faults) to.faults c.answer_all.ensures.sink;
       session = λ unlapsed.
           inr (subst (λ (l : List ℕ). Served (shelf old) (shelf new) l (source new).bytes ended) from.bytes
-          (served (shelf old) (shelf mid) (shelf new) a e (source mid).bytes (source new).bytes ended opening.continues o (reads_some (shelf old) (shelf mid) a o) opening.is_of.of_shelf opening.named opening.continues.later (opening.moments h)
+          (served (shelf old) (shelf mid) (shelf new) a e (source mid).bytes (source new).bytes ended opening.ran.on.continues o (reads_some (shelf old) (shelf mid) a o) opening.is_of.of_shelf opening.named opening.ran.on.continues.later (runs_moments opening.ran.on h)
           (λ told first begins. subst (λ (x : Engine). IsServedFrom told (shelf mid) (shelf new) x (source mid).bytes (source new).bytes ended first) is
-          (c.answer_all.ensures.served (opening.continues.honest h) (from.honest hs) (to.honest hk) unlapsed told first (subst (λ (x : Engine). BeginsAt told (shelf mid) x first) (sym is) begins)))));
+          (c.answer_all.ensures.served (opening.ran.on.continues.honest h) (from.honest hs) (to.honest hk) unlapsed told first (subst (λ (x : Engine). BeginsAt told (shelf mid) x first) (sym is) begins)))));
     }
 
 pub returns-clause-survives : goal.returns-clause-survives
@@ -90,8 +91,8 @@ returns-clause-survives g c = λ h hs hk.
     let mid = c.recover.new.shelf in
     let fault = c.in-Err.fault in
     let opening = c.in-Err.ensures in
-    let from = g.met.W.World.shelf_keeps_source old mid opening.rest in
-    let to = g.met.W.World.shelf_keeps_sink old mid opening.rest in
+    let from = g.met.W.World.shelf_keeps_source old mid opening.ran.rest in
+    let to = g.met.W.World.shelf_keeps_sink old mid opening.ran.rest in
     let counts = no_stream fault in
     let ended = c.status_for.result in
     record {
@@ -99,5 +100,5 @@ returns-clause-survives g c = λ h hs hk.
       sink_counts = subst (λ (b : Bool). RisesIf b (sink old).faults (sink mid).faults) (sym (subst (λ (s : Status). is_sink s ≡ false) (sym c.status_for.ensures) counts.1)) to.faults;
       session = λ unlapsed. inl (subst (λ (l : List ℕ). Unopened (shelf old) (shelf mid) (source old).bytes l ended) (sym from.bytes)
           (subst (λ (s : Status). Unopened (shelf old) (shelf mid) (source old).bytes (source old).bytes s) (sym c.status_for.ensures)
-          (unopened (shelf old) (shelf mid) fault (source old).bytes (g.met.W.Shelf.is_shelf mid) opening.continues (opening.moments h) (opening.opened h))));
+          (unopened (shelf old) (shelf mid) fault (source old).bytes (g.met.W.Shelf.is_shelf mid) opening.ran.on.continues (runs_moments opening.ran.on h) (opening.opened h))));
     }
