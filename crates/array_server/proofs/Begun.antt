@@ -20,7 +20,7 @@ use Rattle.array_core.specs.declared.array.Array.{Array}
 use Rattle.array_core.specs.Drives.{SegmentsHold}
 use Rattle.array_core.specs.Holding.{IsHolder}
 use Rattle.array_engine.specs.declared.engine.Engine.{Engine}
-use Rattle.array_session.specs.Sessions.{BeginsAt}
+use Rattle.array_server.specs.Sessions.{BeginsAt}
 
 -- an engine over the array that was opened, and where the replies begin
 abbrev pub engine_of : Engine → Array → Engine

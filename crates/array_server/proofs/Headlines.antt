@@ -27,7 +27,7 @@ use Rattle.takeover.specs.declared.faults.OpenFault.{OpenFault}
 use Rattle.takeover.specs.declared.faults.OpenFault.TheVariants as open_fault
 use Rattle.takeover.specs.Opened.{IsOpened, IsShut, IsRecovered, status_of}
 use Rattle.array_engine.specs.declared.engine.Engine.{Engine}
-use Rattle.array_session.specs.Sessions.{BeginsAt, IsHeldAt, IsServedFrom, IsSessionEnd}
+use Rattle.array_server.specs.Sessions.{BeginsAt, IsHeldAt, IsServedFrom, IsSessionEnd}
 use Rattle.array_server.specs.Serving.{IsServeStatus}
 use Rattle.array_server.proofs.Begun.{NamesHolders, begins, engine_of, first_of}
 

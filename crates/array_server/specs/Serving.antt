@@ -1,7 +1,7 @@
 -- How a session ends.
 use Rattle.pur_base.specs.declared.reply.Status.{Status}
 use Rattle.pur_base.specs.declared.reply.Status.TheVariants as status
-use Rattle.array_session.specs.Sessions.{IsSessionEnd}
+use Rattle.array_server.specs.Sessions.{IsSessionEnd}
 
 -- the ways in which `serve` ends
 abbrev pub IsServeStatus : Status → Type 0

@@ -7,7 +7,7 @@ ghost use Rattle.session_spec.specs.Headline.{Survives};
 ghost use Rattle.array_server.specs.Serving.{IsServeStatus};
 
 use array_engine::{Engine, ReadBuffers};
-use array_session::answer_all;
+use crate::answering::answer_all;
 use pur_base::Status;
 use request_codec::{Reader, ReplyWriter};
 use std::alloc::Global;

@@ -8,7 +8,7 @@ use Rattle.session_spec.specs.Ends.{RisesIf, is_source, is_sink}
 use Rattle.session_spec.specs.Headline.{Unopened, Served}
 use Rattle.session_spec.proofs.Resumed.{may_want_memory}
 use Rattle.array_engine.specs.declared.engine.Engine.{Engine}
-use Rattle.array_session.specs.Sessions.{BeginsAt, IsServedFrom}
+use Rattle.array_server.specs.Sessions.{BeginsAt, IsServedFrom}
 use Rattle.array_server.proofs.Begun.{engine_of}
 use Rattle.array_server.proofs.Headlines.{served, serves, unopened, no_stream, reads_some}
 use Rattle.array_server.proofs.session.serve.Goals as goal

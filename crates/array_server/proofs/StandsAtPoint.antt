@@ -19,7 +19,7 @@ use Rattle.array_core.proofs.Losses.{sound_since, left_out_since}
 use Rattle.array_engine.specs.declared.engine.Engine.{Engine}
 use Rattle.array_engine.specs.Engines.{IsAt}
 use Rattle.array_core.proofs.ReadyStands.{ready_names}
-use Rattle.array_session.proofs.Lessened.{Turned, standing}
+use Rattle.array_server.proofs.Lessened.{Turned, standing}
 
 -- ---- one device
 

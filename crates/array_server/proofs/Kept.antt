@@ -18,7 +18,7 @@ use Rattle.array_core.proofs.ReadyStands.{ready_stands}
 use Rattle.array_engine.specs.declared.engine.Engine.{Engine}
 use Rattle.array_engine.specs.Engines.{IsAt, MayBeDone, IsKeptBy}
 use Rattle.array_engine.proofs.Rooms.{may_add_at}
-use Rattle.array_session.proofs.StandsAtPoint.{borne_at_point, stands_at_point, stands_as, sound_is_named}
+use Rattle.array_server.proofs.StandsAtPoint.{borne_at_point, stands_at_point, stands_as, sound_is_named}
 
 -- ---- the next item
 

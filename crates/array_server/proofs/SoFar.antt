@@ -23,14 +23,14 @@ use Rattle.array_engine.specs.declared.engine.Engine.{Engine}
 use Rattle.array_engine.specs.declared.said.Said.{Said}
 use Rattle.array_engine.specs.Appending.{failed_in, lost_in}
 use Rattle.array_engine.specs.Engines.{IsAt, IsAnsweredAt, IsKeptBy, point_after}
-use Rattle.array_session.specs.Sessions.{IsServedFrom, BeginsAt, IsHeldAt}
-use Rattle.array_session.proofs.Came.{stays_awake}
-use Rattle.array_session.proofs.Kept.{kept_stands, ready_stands_on}
-use Rattle.array_session.proofs.InHand.{in_hand_stands, in_hand_left}
-use Rattle.array_session.proofs.StillReady.{ready_still, segments_still}
-use Rattle.array_session.proofs.Along.{Along}
-use Rattle.array_session.proofs.Answered.{goes_more, risen_more}
-use Rattle.array_session.proofs.Steps.{HoldsNow, Broken, begun, taken, called, given, broken}
+use Rattle.array_server.specs.Sessions.{IsServedFrom, BeginsAt, IsHeldAt}
+use Rattle.array_server.proofs.Came.{stays_awake}
+use Rattle.array_server.proofs.Kept.{kept_stands, ready_stands_on}
+use Rattle.array_server.proofs.InHand.{in_hand_stands, in_hand_left}
+use Rattle.array_server.proofs.StillReady.{ready_still, segments_still}
+use Rattle.array_server.proofs.Along.{Along}
+use Rattle.array_server.proofs.Answered.{goes_more, risen_more}
+use Rattle.array_server.proofs.Steps.{HoldsNow, Broken, begun, taken, called, given, broken}
 
 -- nothing is asked of the devices
 abbrev pub Nothing : Point → List Item → Stop → Type 0

@@ -12,7 +12,7 @@ use Rattle.session_spec.specs.Faring.{Point, IsReached, Fares}
 use Rattle.session_spec.specs.Ends.{IsPartOfNext}
 use Rattle.session_spec.specs.Headline.{Replied}
 use Rattle.session_spec.specs.Reaching.{NoMore}
-use Rattle.array_session.proofs.Going.{IsUpTo, later_than, up_to_before, fares_later, fares_on, replied_on}
+use Rattle.array_server.proofs.Going.{IsUpTo, later_than, up_to_before, fares_later, fares_on, replied_on}
 
 -- At a stop these replies were whole, and R is so of it.
 pub record HasReplied (told : Bool) (start now : Shelved) (first : Point) (items : List Item) (R : Point → List Item → Stop → Type 0) (stop : Stop) : Type 0 where

@@ -17,9 +17,9 @@ use Rattle.session_spec.specs.Faring.{Point}
 use Rattle.session_spec.specs.Headline.{in_hand}
 use Rattle.array_core.proofs.Losses.{same_geometry}
 use Rattle.array_engine.specs.declared.engine.Engine.{Engine}
-use Rattle.array_session.specs.Sessions.{IsServedFrom, end_of}
-use Rattle.array_session.proofs.InHand.{left_after}
-use Rattle.array_session.proofs.SoFar.{SoFar, borne_at}
+use Rattle.array_server.specs.Sessions.{IsServedFrom, end_of}
+use Rattle.array_server.proofs.InHand.{left_after}
+use Rattle.array_server.proofs.SoFar.{SoFar, borne_at}
 
 module _ (told : Bool) (start new : Shelved) (e0 e : Engine) (input unread left : List ℕ) (first : Point) (cut : Bool) (s : SoFar told start new e0 e input unread first cut) (begins : first.stop ≡ read_now start) where
   ended : (how : Status) → IsOutput how told (geometry_of start) s.last (read_now new) (drop (length s.replies) (requests input)) start.output new.output s.replies → Ends how s.last.halted input s.replies left

@@ -10,12 +10,12 @@ use Rattle.request_codec.specs.Items.{item_read}
 use Rattle.request_codec.proofs.CallLemmas.{both}
 use Rattle.array_engine.specs.Engines.{IsOf}
 use Rattle.array_core.proofs.Losses.{same_geometry}
-use Rattle.array_session.proofs.SoFar.{SoFar}
-use Rattle.array_session.specs.Sessions.{IsServedFrom, end_of}
-use Rattle.array_session.proofs.SoFar.{begun_so_far, taken_so_far, answered, sank}
-use Rattle.array_session.proofs.Ends.{stopped_source, stopped_limit, stopped_done, stopped_cut}
-use Rattle.array_session.proofs.ItemsRead.{reads_item, uncut, is_answered, same_then, cut_is_no_limit, end_is_no_limit}
-use Rattle.array_session.proofs.session.answer_all.Goals as goal
+use Rattle.array_server.proofs.SoFar.{SoFar}
+use Rattle.array_server.specs.Sessions.{IsServedFrom, end_of}
+use Rattle.array_server.proofs.SoFar.{begun_so_far, taken_so_far, answered, sank}
+use Rattle.array_server.proofs.Ends.{stopped_source, stopped_limit, stopped_done, stopped_cut}
+use Rattle.array_server.proofs.ItemsRead.{reads_item, uncut, is_answered, same_then, cut_is_no_limit, end_is_no_limit}
+use Rattle.array_server.proofs.answering.answer_all.Goals as goal
 
 -- no sink failed at the end of the input
 well_given : (halted : Bool) (before now : ℕ) → now ≡ before → RisesIf (is_sink (end_of halted)) before now

@@ -16,9 +16,9 @@ use Rattle.session_spec.specs.Faring.{Point, IsReached, Fares, Serves, Answers}
 use Rattle.session_spec.specs.Ends.{IsPartOfNext}
 use Rattle.session_spec.specs.Entering.{read_now}
 use Rattle.session_spec.proofs.Reached.{output_is_bounded, output_counts}
-use Rattle.array_session.proofs.Going.{IsUpTo, fares_more, rest_more}
-use Rattle.array_session.proofs.Along.{Along, HasReplied, Adds, up_to_then, reached_on, run_on, moments_on, told_part, told_same, count_of}
-use Rattle.array_session.proofs.Answered.{answers_more, risen_more}
+use Rattle.array_server.proofs.Going.{IsUpTo, fares_more, rest_more}
+use Rattle.array_server.proofs.Along.{Along, HasReplied, Adds, up_to_then, reached_on, run_on, moments_on, told_part, told_same, count_of}
+use Rattle.array_server.proofs.Answered.{answers_more, risen_more}
 
 -- it is so of each stop that leaves what a stop now may leave of the devices
 abbrev pub HoldsNow : Shelved → (Stop → Type 0) → Type 0

@@ -5,9 +5,9 @@ use Rattle.world.specs.Shelf.{Continues}
 use Rattle.request_codec.specs.Ahead.{Tells, budget}
 use Rattle.session_spec.specs.Faring.{Point}
 use Rattle.array_engine.specs.Engines.{IsOf}
-use Rattle.array_session.specs.Sessions.{BeginsAt}
-use Rattle.array_session.proofs.SoFar.{SoFar}
-use Rattle.array_session.proofs.session.answer_all.Given as goal
+use Rattle.array_server.specs.Sessions.{BeginsAt}
+use Rattle.array_server.proofs.SoFar.{SoFar}
+use Rattle.array_server.proofs.answering.answer_all.Given as goal
 
 abbrev pub invariant-items : goal.invariant-items
 invariant-items g l =

@@ -5,7 +5,7 @@ ghost use Rattle.world.specs.Shelf.{Continues};
 ghost use Rattle.session_spec.specs.Ends.{RisesIf, is_source, is_sink};
 ghost use Rattle.session_spec.specs.Faring.{Point};
 ghost use Rattle.array_engine.specs.Engines.{IsOf};
-ghost use Rattle.array_session.specs.Sessions.{BeginsAt, IsServedFrom, IsSessionEnd, end_of};
+ghost use Rattle.array_server.specs.Sessions.{BeginsAt, IsServedFrom, IsSessionEnd, end_of};
 
 use array_engine::Engine;
 use pur_base::Status;
@@ -23,7 +23,7 @@ fn ended(halted: bool) -> Status
 /// Answers every item that the reader reads, each before the next is taken, and tells why it stopped: `Done` at the end of the input, or `Halted` where
 /// a logged request was answered `no device` by then, `Cut` where the input ends inside a write's data, `InputLimit` where 2^40 bytes were taken and
 /// another came, and `Source` or `Sink` at once where a call of the source or the sink failed.
-pub fn answer_all<W: World>(
+pub(crate) fn answer_all<W: World>(
     alloc: Global,
     reader: &mut Reader,
     writer: &mut ReplyWriter,

@@ -21,9 +21,9 @@ use Rattle.array_engine.specs.declared.engine.Engine.{Engine}
 use Rattle.array_engine.specs.Appending.{failed_in, lost_in}
 use Rattle.array_engine.specs.Engines.{IsAt, point_after}
 use Rattle.array_core.proofs.ReadyStands.{ready_is_clean}
-use Rattle.array_session.proofs.StandsAtPoint.{sound_is_named}
-use Rattle.array_session.proofs.Kept.{stands_in, only_one}
-use Rattle.array_session.proofs.Came.{answered_after}
+use Rattle.array_server.proofs.StandsAtPoint.{sound_is_named}
+use Rattle.array_server.proofs.Kept.{stands_in, only_one}
+use Rattle.array_server.proofs.Came.{answered_after}
 
 named_then : (b : Bool) → b ≡ true → (if b then Sound else LeftOut) ≡ Sound
 named_then true e = refl
