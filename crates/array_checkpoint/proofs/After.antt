@@ -9,11 +9,11 @@ use Rattle.memory_spec.specs.Memory.{Contents, IsSound, Memory, ReadsAs}
 use Rattle.checkpoint_spec.specs.Eliding.{IsEliding}
 use Rattle.checkpoint_spec.proofs.Checkpointed.{checkpoint_reads}
 use Rattle.memory_spec.specs.Tables.{facts}
-use Rattle.checkpoint_plan.specs.Eliding.{AreElisionsOf, IsElidedBy}
-use Rattle.checkpoint_plan.specs.Places.{flagged_from}
-use Rattle.checkpoint_plan.proofs.ElidedLemmas.{segments_elided}
-use Rattle.checkpoint_plan.specs.Planned.{extended, sectors_at, AreStored, IsPlanned}
-use Rattle.checkpoint_plan.proofs.Planned.{elided_is_checkpointed, planned_elided, planned_sound, still_stored}
+use Rattle.table_plan.specs.Eliding.{AreElisionsOf, IsElidedBy}
+use Rattle.table_plan.specs.Places.{flagged_from}
+use Rattle.table_plan.proofs.ElidedLemmas.{segments_elided}
+use Rattle.table_plan.specs.Planned.{extended, sectors_at, AreStored, IsPlanned}
+use Rattle.table_plan.proofs.Planned.{elided_is_checkpointed, planned_elided, planned_sound, still_stored}
 use Rattle.array_memory.specs.declared.plan.Plan.{Plan}
 use Rattle.array_memory.specs.Eliding.{eliding_by}
 use Rattle.array_memory.specs.Plan.{after_plan, units_of, IsPlanFor, IsSameMemory}

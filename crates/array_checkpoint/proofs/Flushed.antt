@@ -13,8 +13,8 @@ use Rattle.array_spec.specs.Sound.{AreSegmentsSound}
 use Rattle.memory_spec.specs.Tables.{facts, patches}
 use Rattle.checkpoint_spec.specs.Whole.{IsNamed}
 use Rattle.checkpoint_spec.specs.Checkpoint.{IsRecordOfMemory}
-use Rattle.checkpoint_plan.specs.Eliding.{IsElidedBy}
-use Rattle.checkpoint_plan.proofs.ElidedLemmas.{as_many}
+use Rattle.table_plan.specs.Eliding.{IsElidedBy}
+use Rattle.table_plan.proofs.ElidedLemmas.{as_many}
 use Rattle.array_memory.specs.Plan.{after_plan, next_past, IsSameMemory, HasRoomAgain}
 use Rattle.array_memory.proofs.PlanLemmas.{facts_same, patches_same}
 use Rattle.nvram_log.specs.Members.{IsSome}

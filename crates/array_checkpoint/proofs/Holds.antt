@@ -24,7 +24,7 @@ use Rattle.memory_spec.specs.Tables.{facts, patches}
 use Rattle.checkpoint_spec.specs.Contents.{ContentsStand}
 use Rattle.checkpoint_spec.specs.Whole.{IsNamed}
 use Rattle.checkpoint_spec.proofs.Placing.{old_segment_id}
-use Rattle.checkpoint_plan.specs.Planned.{extended, sectors_at}
+use Rattle.table_plan.specs.Planned.{extended, sectors_at}
 use Rattle.data_io.specs.Placing.{AreFilled, segment_in}
 use Rattle.data_io.specs.Standing.{DataStands}
 use Rattle.array_memory.specs.declared.plan.Plan.{Plan}

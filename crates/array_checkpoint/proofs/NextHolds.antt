@@ -22,8 +22,8 @@ use Rattle.checkpoint_spec.specs.Checkpoint.{IsCheckpointed, IsRecordOfMemory}
 use Rattle.checkpoint_spec.specs.Contents.{AreAmong, ContentsStand, WrittenOn}
 use Rattle.checkpoint_spec.proofs.Checkpointed.{checkpoint_data_holds}
 use Rattle.checkpoint_spec.proofs.Patches.{patches_are_all}
-use Rattle.checkpoint_plan.specs.Planned.{extended, sectors_at}
-use Rattle.checkpoint_plan.proofs.Planned.{elided_is_checkpointed}
+use Rattle.table_plan.specs.Planned.{extended, sectors_at}
+use Rattle.table_plan.proofs.Planned.{elided_is_checkpointed}
 use Rattle.pyramid.specs.Layers.{patch_facts}
 use Rattle.array_memory.specs.Eliding.{eliding_by}
 use Rattle.array_memory.specs.Plan.{after_plan, units_of}

@@ -25,7 +25,7 @@ use Rattle.memory_spec.proofs.Lists.{each_by_recursion, of_each}
 use Rattle.checkpoint_spec.specs.Whole.{IsNamed}
 use Rattle.array_memory.specs.declared.plan.Counts.{Counts}
 use Rattle.array_memory.specs.declared.plan.Plan.{Plan}
-use Rattle.checkpoint_plan.specs.Patches.{ArePatchFacts}
+use Rattle.table_plan.specs.Patches.{ArePatchFacts}
 use Rattle.array_memory.specs.Lasting.{AreLawfulPatches}
 use Rattle.array_memory.specs.Plan.{AreCounts, units_of}
 use Rattle.world.specs.Losing.{geometry_of}

@@ -21,10 +21,10 @@ use Rattle.free_space.specs.Map.{shelf_of, AreDataSegments, IsMapOf}
 use Rattle.free_space.specs.Laws.{AreUnitsToTake}
 use Rattle.free_space.proofs.LawLemmas.{groups_of_the_tables}
 use Rattle.checkpoint_spec.specs.Eliding.{IsEliding}
-use Rattle.checkpoint_plan.specs.Eliding.{IsElidedBy}
-use Rattle.checkpoint_plan.specs.Places.{flagged_from}
-use Rattle.checkpoint_plan.proofs.ElidedLemmas.{as_many}
-use Rattle.checkpoint_plan.proofs.PlacesLemmas.{few_flagged}
+use Rattle.table_plan.specs.Eliding.{IsElidedBy}
+use Rattle.table_plan.specs.Places.{flagged_from}
+use Rattle.table_plan.proofs.ElidedLemmas.{as_many}
+use Rattle.table_plan.proofs.PlacesLemmas.{few_flagged}
 use Rattle.memory_spec.specs.Memory.{Memory}
 use Rattle.memory_spec.proofs.Lists.{of_each}
 use Rattle.memory_spec.specs.Numbers.{are_used_up, is_used_up}

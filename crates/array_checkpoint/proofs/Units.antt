@@ -15,9 +15,9 @@ use Rattle.free_space.specs.Map.{shelf_of}
 use Rattle.free_space.specs.Laws.{AreUnitsToTake}
 use Rattle.memory_spec.specs.Memory.{Memory}
 use Rattle.memory_spec.proofs.Lists.{of_each, in_map}
-use Rattle.checkpoint_plan.specs.Places.{flagged_from}
-use Rattle.checkpoint_plan.specs.Segments.{segments_from}
-use Rattle.checkpoint_plan.proofs.SegmentsLemmas.{is_new_segment}
+use Rattle.table_plan.specs.Places.{flagged_from}
+use Rattle.table_plan.specs.Segments.{segments_from}
+use Rattle.table_plan.proofs.SegmentsLemmas.{is_new_segment}
 use Rattle.array_memory.specs.declared.plan.Plan.{Plan}
 use Rattle.array_memory.specs.Plan.{units_of, IsPlanFor}
 use Rattle.world.specs.Losing.{geometry_of}

@@ -15,7 +15,7 @@ use Rattle.register.specs.Standing.{Content, array_of}
 use Rattle.memory_spec.specs.Memory.{Contents, Memory, ReadsAs}
 use Rattle.memory_spec.specs.Tables.{facts, patches}
 use Rattle.checkpoint_spec.specs.Contents.{AreAmong, ContentsStand}
-use Rattle.checkpoint_plan.specs.Planned.{extended, sectors_at}
+use Rattle.table_plan.specs.Planned.{extended, sectors_at}
 use Rattle.array_memory.specs.declared.limits.TheConstants.{ELIDED_SEGMENTS}
 use Rattle.array_memory.specs.declared.plan.Plan.{Plan}
 use Rattle.array_memory.specs.Eliding.{AreLowestUnused}

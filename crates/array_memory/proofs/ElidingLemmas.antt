@@ -21,8 +21,8 @@ use Rattle.memory_spec.proofs.AllTables.{all_elisions}
 use Rattle.checkpoint_spec.specs.Eliding.{IsEliding}
 use Rattle.checkpoint_spec.specs.Whole.{AreLayered}
 use Rattle.checkpoint_spec.proofs.Eliding.{eliding_sound}
-use Rattle.checkpoint_plan.specs.Eliding.{AreElisionsOf, IsElidedBy}
-use Rattle.checkpoint_plan.proofs.ElidedLemmas.{addresses_same, is_eliding, mediums_same, objects_same, elisions_alike, segments_elided}
+use Rattle.table_plan.specs.Eliding.{AreElisionsOf, IsElidedBy}
+use Rattle.table_plan.proofs.ElidedLemmas.{addresses_same, is_eliding, mediums_same, objects_same, elisions_alike, segments_elided}
 use Rattle.array_memory.specs.declared.plan.Eliding.{Eliding}
 use Rattle.array_memory.specs.declared.plan.Placing.{Placing}
 use Rattle.array_memory.specs.Eliding.{eliding_by, IsElidingOf}

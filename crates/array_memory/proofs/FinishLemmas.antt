@@ -22,11 +22,11 @@ use Rattle.memory_spec.specs.Tables.{facts}
 use Rattle.memory_spec.proofs.AllTables.{all_segments}
 use Rattle.memory_spec.proofs.Created.{not_elided}
 use Rattle.memory_spec.proofs.Lists.{of_each}
-use Rattle.checkpoint_plan.specs.Planned.{IsPlanned}
-use Rattle.checkpoint_plan.specs.Segments.{segments_from}
-use Rattle.checkpoint_plan.proofs.ElidedLemmas.{objects_same, segments_elided}
-use Rattle.checkpoint_plan.proofs.SegmentsLemmas.{is_new_segment}
-use Rattle.checkpoint_plan.proofs.Planned.{planned_sound, planned_elided}
+use Rattle.table_plan.specs.Planned.{IsPlanned}
+use Rattle.table_plan.specs.Segments.{segments_from}
+use Rattle.table_plan.proofs.ElidedLemmas.{objects_same, segments_elided}
+use Rattle.table_plan.proofs.SegmentsLemmas.{is_new_segment}
+use Rattle.table_plan.proofs.Planned.{planned_sound, planned_elided}
 use Rattle.array_memory.specs.Eliding.{eliding_by, IsElidingOf}
 use Rattle.array_memory.specs.Kept.{Kept, IsKept}
 use Rattle.array_memory.specs.declared.plan.Plan.{Plan}

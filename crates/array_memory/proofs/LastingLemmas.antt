@@ -18,10 +18,10 @@ use Rattle.memory_spec.specs.Memory.{Memory, FitsTarget, FitsInMemory, IsSound}
 use Rattle.memory_spec.specs.Tables.{facts}
 use Rattle.memory_spec.proofs.AllTables.{all_objects, all_mediums, all_addresses, all_segments, all_elisions}
 use Rattle.memory_spec.proofs.Lists.{each_by_recursion, of_map}
-use Rattle.checkpoint_plan.specs.Places.{flagged_from}
-use Rattle.checkpoint_plan.proofs.Planned.{planned_sound}
+use Rattle.table_plan.specs.Places.{flagged_from}
+use Rattle.table_plan.proofs.Planned.{planned_sound}
 use Rattle.array_memory.specs.declared.plan.Plan.{Plan}
-use Rattle.checkpoint_plan.specs.Patches.{ArePatchFacts}
+use Rattle.table_plan.specs.Patches.{ArePatchFacts}
 use Rattle.array_memory.specs.Lasting.{AreLawfulPatches, AreNoMore}
 use Rattle.array_memory.specs.Plan.{after_plan, flushed_with, units_of, IsPlanFor}
 use Rattle.array_memory.proofs.CountLemmas.{flushed_fewer}

@@ -30,12 +30,12 @@ use Rattle.checkpoint_spec.specs.Eliding.{IsEliding}
 use Rattle.checkpoint_spec.specs.Flushing.{IsTableFlushed}
 use Rattle.checkpoint_spec.specs.Placing.{repointed}
 use Rattle.checkpoint_spec.specs.Whole.{AreLayered}
-use Rattle.checkpoint_plan.specs.Places.{has_place, has_places, place_of, places_from, place_in}
-use Rattle.checkpoint_plan.specs.Planned.{AreStored, IsPlanned}
-use Rattle.checkpoint_plan.specs.Segments.{segments_from}
-use Rattle.checkpoint_plan.proofs.PlacesLemmas.{is_flagged}
-use Rattle.checkpoint_plan.proofs.Planned.{named_by}
-use Rattle.checkpoint_plan.proofs.SegmentsLemmas.{IsNewSegment, is_new_segment}
+use Rattle.table_plan.specs.Places.{has_place, has_places, place_of, places_from, place_in}
+use Rattle.table_plan.specs.Planned.{AreStored, IsPlanned}
+use Rattle.table_plan.specs.Segments.{segments_from}
+use Rattle.table_plan.proofs.PlacesLemmas.{is_flagged}
+use Rattle.table_plan.proofs.Planned.{named_by}
+use Rattle.table_plan.proofs.SegmentsLemmas.{IsNewSegment, is_new_segment}
 use Rattle.array_memory.specs.declared.plan.Eliding.{Eliding}
 use Rattle.array_memory.specs.declared.plan.Placing.{Placing}
 use Rattle.array_memory.specs.declared.plan.Plan.{Plan}

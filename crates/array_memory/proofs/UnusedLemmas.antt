@@ -12,7 +12,7 @@ use Rattle.pyramid.proofs.ContainsLemmas.{filtered, of_filter}
 use Rattle.pyramid.proofs.ShownLemmas.{passes_filter}
 use Rattle.memory_spec.specs.Tables.{facts}
 use Rattle.memory_spec.proofs.Lists.{in_map, of_map}
-use Rattle.checkpoint_plan.specs.Eliding.{IsUnused}
+use Rattle.table_plan.specs.Eliding.{IsUnused}
 use Rattle.array_memory.specs.declared.limits.TheConstants.{ELIDED_SEGMENTS}
 use Rattle.array_memory.specs.Eliding.{AreLowestUnused}
 use Rattle.array_memory.specs.Kept.{Kept, IsKept}

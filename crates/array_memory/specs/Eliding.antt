@@ -7,7 +7,7 @@ use Rattle.pur_base.specs.declared.request.Table.TheVariants as table
 use Rattle.elision.specs.Ranges.{ranges_of}
 use Rattle.memory_spec.specs.Memory.{Memory}
 use Rattle.memory_spec.specs.Tables.{facts as all_facts}
-use Rattle.checkpoint_plan.specs.Eliding.{IsUnused, AreElisionsOf, IsElidedBy, eliding}
+use Rattle.table_plan.specs.Eliding.{IsUnused, AreElisionsOf, IsElidedBy, eliding}
 use Rattle.array_memory.specs.declared.limits.TheConstants.{ELIDED_SEGMENTS}
 use Rattle.array_memory.specs.declared.plan.Eliding.{Eliding}
 use Rattle.array_memory.specs.Kept.{Kept}

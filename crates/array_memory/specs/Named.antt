@@ -5,7 +5,7 @@ use Rattle.pur_base.specs.Facts.{Facts}
 use Rattle.pur_base.specs.Visible.{address}
 use Rattle.pur_base.specs.declared.facts.Target.{Target}
 use Rattle.pur_base.specs.declared.facts.AddressFact.{AddressFact}
-use Rattle.checkpoint_plan.specs.Unused.{stands_in}
+use Rattle.table_plan.specs.Unused.{stands_in}
 
 -- whether what an address says stands in the segment, if it says anything
 abbrev pub is_said_in : ℕ → Option Target → Bool

@@ -17,9 +17,9 @@ use Rattle.memory_spec.specs.Tables.{Tables}
 use Rattle.checkpoint_spec.specs.Eliding.{IsEliding}
 use Rattle.checkpoint_spec.specs.Whole.{AreLayered}
 use Rattle.checkpoint_spec.specs.Placing.{repointed}
-use Rattle.checkpoint_plan.specs.Places.{flagged_from, is_named, place_in, places_from}
-use Rattle.checkpoint_plan.specs.Planned.{AreStored}
-use Rattle.checkpoint_plan.specs.Segments.{segments_from}
+use Rattle.table_plan.specs.Places.{flagged_from, is_named, place_in, places_from}
+use Rattle.table_plan.specs.Planned.{AreStored}
+use Rattle.table_plan.specs.Segments.{segments_from}
 use Rattle.array_memory.specs.declared.plan.Placing.{Placing}
 use Rattle.array_memory.specs.declared.plan.Plan.{Plan}
 use Rattle.array_memory.specs.declared.plan.Counts.{Counts}

@@ -10,7 +10,7 @@ use crate::limits::ELIDED_SEGMENTS;
 use crate::loading::are_apart;
 use crate::memory::Memory;
 use crate::plan::Eliding;
-use checkpoint_plan::{Witness, copied, elide_segments, unfound};
+use table_plan::{Witness, copied, elide_segments, unfound};
 use pur_base::{ElisionFact, NoMemory, Table};
 use pyramid::{Patch, Pyramid};
 use std::alloc::Global;

@@ -2,7 +2,7 @@ ghost use Rattle.std.specs.Prelude.{◌≡◌, ◌≤◌, ◌+◌, ◌++◌, fil
 ghost use Rattle.pur_base.specs.Visible.{is_within};
 ghost use Rattle.elision.specs.Ranges.{ranges_of};
 ghost use Rattle.pyramid.specs.Layers.{patch_facts};
-ghost use Rattle.checkpoint_plan.specs.Planned.{IsPlanned};
+ghost use Rattle.table_plan.specs.Planned.{IsPlanned};
 ghost use Rattle.array_memory.specs.Eliding.{eliding_by};
 ghost use Rattle.array_memory.specs.Plan.{after_plan, units_of, HasRoomAgain, IsPlanOf, IsSameMemory};
 

@@ -10,7 +10,7 @@ ghost use Rattle.array_memory.specs.Kept.{IsKept};
 use crate::limits::{STAGED_SECTORS, UNFLUSHED_OBJECTS};
 use address_table::{AddressTable, UNFLUSHED_ADDRESSES};
 use boot_codec::NextNumbers;
-use checkpoint_plan::Witness;
+use table_plan::Witness;
 use elision::Elided;
 use medium_table::MediumTable;
 use object_table::ObjectTable;

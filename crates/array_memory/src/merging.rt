@@ -2,11 +2,11 @@
 ghost use Rattle.std.specs.Prelude.{◌≡◌, ◌+◌, ◌<◌, IfOk};
 ghost use Rattle.fact_codec.specs.declared.limits.TheConstants.{NUMBER_LIMIT};
 ghost use Rattle.memory_spec.specs.Memory.{IsSound};
-ghost use Rattle.merge_plan.specs.Merging.{memory_with, patch_count, table_of, IsMergedOf};
+ghost use Rattle.table_plan.specs.Merging.{memory_with, patch_count, table_of, IsMergedOf};
 ghost use Rattle.array_memory.specs.Plan.{with_patch_rooms, HasNoLessPatchRoom};
 
 use crate::memory::Memory;
-use merge_plan::Merged;
+use table_plan::Merged;
 use pur_base::{NoMemory, Table};
 use std::alloc::Global;
 

@@ -5,7 +5,7 @@ ghost use Rattle.memory_spec.specs.Memory.{Memory};
 ghost use Rattle.array_memory.specs.Plan.{AreCounts, IsPlanFor};
 
 use boot_codec::NextNumbers;
-use checkpoint_plan::Witness;
+use table_plan::Witness;
 use elision::Elided;
 use pur_base::{AddressFact, ElisionFact, Fact, MediumFact, ObjectFact, SegmentFact};
 use pyramid::Patch;

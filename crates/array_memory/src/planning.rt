@@ -4,9 +4,9 @@ ghost use Rattle.pur_base.specs.Facts.{segment_key};
 ghost use Rattle.pur_base.specs.Plain.{Array};
 ghost use Rattle.pur_base.specs.Says.{Ascends};
 ghost use Rattle.pyramid.specs.Layers.{AreDistinct, facts_of, patch_facts};
-ghost use Rattle.checkpoint_plan.specs.Segments.{segments_from};
+ghost use Rattle.table_plan.specs.Segments.{segments_from};
 ghost use Rattle.memory_spec.specs.Memory.{Contents, IsSound, ReadsAs};
-ghost use Rattle.checkpoint_plan.specs.Planned.{AreStored, IsPlanned};
+ghost use Rattle.table_plan.specs.Planned.{AreStored, IsPlanned};
 ghost use Rattle.checkpoint_spec.specs.Whole.{AreLayered};
 ghost use Rattle.array_memory.specs.Eliding.{eliding_by, IsElidingOf};
 ghost use Rattle.array_memory.specs.Plan.{after_plan, next_past, placed_addresses, units_of, with_patch_rooms, AreLeftFor, AreNewPatches, AreUnits, HasNoLessPatchRoom, HasRoomForPatches, IsPlacingOf, IsPlanFor, IsPlanOf};
@@ -15,7 +15,7 @@ use crate::limits::STAGED_SECTORS;
 use crate::memory::Memory;
 use crate::plan::{Eliding, Placing, Plan, facts_of};
 use boot_codec::NextNumbers;
-use checkpoint_plan::{Witness, flagged, flags, new_segments, places, repointed_facts};
+use table_plan::{Witness, flagged, flags, new_segments, places, repointed_facts};
 use pur_base::{
     AddressFact, ElisionFact, MediumFact, NoMemory, ObjectFact, Places, SEGMENT_SECTORS,
     SegmentFact,

@@ -1,6 +1,6 @@
 ghost use Rattle.std.specs.Prelude.{◌≡◌, length};
 
-use checkpoint_plan::{
+use table_plan::{
     Witness, copied, elide_segments, flagged, flags, new_segments, new_witnesses, place_of, places,
     segments_for, unfound, with_found,
 };

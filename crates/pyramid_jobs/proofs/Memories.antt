@@ -19,12 +19,12 @@ use Rattle.checkpoint_spec.specs.Whole.{AreLayered}
 use Rattle.checkpoint_spec.proofs.Merged.{merge_shrinks, one_merge_is_merge}
 use Rattle.checkpoint_spec.proofs.Patches.{in_patches_are, patches_are_flushed}
 use Rattle.checkpoint_spec.proofs.Shrinking.{shrinking_reads, shrunk_sound}
-use Rattle.checkpoint_plan.specs.Planned.{AreStored}
-use Rattle.merge_plan.specs.declared.merged.Merged.{Merged}
-use Rattle.merge_plan.specs.declared.merged.Merged.TheVariants as merged
-use Rattle.merge_plan.specs.Merging.{memory_with, table_of, tables_with, IsMergedOf}
-use Rattle.merge_plan.proofs.MergeLemmas.{is_merge}
-use Rattle.merge_plan.proofs.PatchFacts.{stored_is_fact}
+use Rattle.table_plan.specs.Planned.{AreStored}
+use Rattle.table_plan.specs.declared.merged.Merged.{Merged}
+use Rattle.table_plan.specs.declared.merged.Merged.TheVariants as merged
+use Rattle.table_plan.specs.Merging.{memory_with, table_of, tables_with, IsMergedOf}
+use Rattle.table_plan.proofs.MergeLemmas.{is_merge}
+use Rattle.table_plan.proofs.PatchFacts.{stored_is_fact}
 use Rattle.merge_spec.proofs.Shrunk.{merged_patches_shrink}
 
 -- ---- beside the patches of the table

@@ -23,8 +23,8 @@ use Rattle.memory_spec.specs.Tables.{Tables, facts, patches}
 use Rattle.checkpoint_spec.specs.Contents.{ContentsStand}
 use Rattle.checkpoint_spec.specs.Merging.{AreJoined, HaveShrunk, place_in}
 use Rattle.checkpoint_spec.specs.Whole.{AreLayered, IsNamed}
-use Rattle.checkpoint_plan.specs.Planned.{AreStored}
-use Rattle.merge_plan.specs.Merging.{memory_with, merged_patches, tables_with}
+use Rattle.table_plan.specs.Planned.{AreStored}
+use Rattle.table_plan.specs.Merging.{memory_with, merged_patches, tables_with}
 use Rattle.array_memory.specs.Kept.{Kept}
 use Rattle.array_memory.specs.Plan.{with_patch_rooms}
 use Rattle.array_memory.proofs.PlanLemmas.{reads_roomed}

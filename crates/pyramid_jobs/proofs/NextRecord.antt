@@ -18,7 +18,7 @@ use Rattle.memory_spec.specs.Memory.{Memory}
 use Rattle.memory_spec.specs.Tables.{Tables, facts, patches}
 use Rattle.checkpoint_spec.specs.Merging.{AreJoined, pair_segments, place_in}
 use Rattle.checkpoint_spec.specs.Whole.{IsNamed}
-use Rattle.merge_plan.specs.Merging.{merged_facts, merged_patches, tables_with, table_of}
+use Rattle.table_plan.specs.Merging.{merged_facts, merged_patches, tables_with, table_of}
 use Rattle.merge_spec.proofs.Sound.{merged_patches_are_sound}
 use Rattle.register.specs.Registers.{IsLaterRecord}
 use Rattle.register.specs.Tables.{with_tables}

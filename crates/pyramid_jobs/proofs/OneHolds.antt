@@ -22,9 +22,9 @@ use Rattle.memory_spec.specs.Memory.{Memory}
 use Rattle.memory_spec.specs.Tables.{patches}
 use Rattle.checkpoint_spec.specs.Contents.{AreAmong}
 use Rattle.checkpoint_spec.specs.Whole.{IsNamed}
-use Rattle.merge_plan.specs.declared.merged.Merged.{Merged}
-use Rattle.merge_plan.specs.declared.merged.Merged.TheVariants as merged
-use Rattle.merge_plan.specs.Merging.{merged_facts, merged_patches, tables_with}
+use Rattle.table_plan.specs.declared.merged.Merged.{Merged}
+use Rattle.table_plan.specs.declared.merged.Merged.TheVariants as merged
+use Rattle.table_plan.specs.Merging.{merged_facts, merged_patches, tables_with}
 use Rattle.merge_spec.proofs.Holding.{merged_patches_hold}
 use Rattle.record_tables.proofs.JoinedNamed.{zip_joined}
 use Rattle.segment_io.specs.Stripes.{bytes_of}

@@ -24,9 +24,9 @@ use Rattle.world.specs.Shelf.{Shelved}
 use Rattle.memory_spec.specs.Memory.{Memory}
 use Rattle.memory_spec.specs.Tables.{facts}
 use Rattle.memory_spec.proofs.Lists.{of_each}
-use Rattle.checkpoint_plan.specs.Patches.{ArePatchFacts}
-use Rattle.merge_plan.specs.Merging.{merged_facts}
-use Rattle.merge_plan.proofs.MergeLemmas.{are_patch_facts}
+use Rattle.table_plan.specs.Patches.{ArePatchFacts}
+use Rattle.table_plan.specs.Merging.{merged_facts}
+use Rattle.table_plan.proofs.MergeLemmas.{are_patch_facts}
 use Rattle.patch_io.specs.Storing.{AreApart}
 use Rattle.patch_io.specs.Tables.{AreInOrder}
 use Rattle.record_tables.specs.Patches.{new_patch}

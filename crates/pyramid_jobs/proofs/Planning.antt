@@ -14,9 +14,9 @@ use Rattle.memory_spec.specs.Tables.{facts, patches}
 use Rattle.memory_spec.proofs.Lists.{zip_long}
 use Rattle.checkpoint_spec.specs.Merging.{AreJoined, pair_segments, place_in}
 use Rattle.checkpoint_spec.specs.Whole.{IsNamed}
-use Rattle.merge_plan.specs.declared.merged.Merged.{Merged}
-use Rattle.merge_plan.specs.Merging.{merged_facts, pair_facts, patch_count, table_of, IsMergedOf}
-use Rattle.merge_plan.proofs.MergeLemmas.{no_more_facts}
+use Rattle.table_plan.specs.declared.merged.Merged.{Merged}
+use Rattle.table_plan.specs.Merging.{merged_facts, pair_facts, patch_count, table_of, IsMergedOf}
+use Rattle.table_plan.proofs.MergeLemmas.{no_more_facts}
 use Rattle.record_tables.specs.Patches.{segments_for}
 use Rattle.record_tables.proofs.JoinedNamed.{joined_are_named}
 use Rattle.record_tables.proofs.Neighbours.{few_segments}

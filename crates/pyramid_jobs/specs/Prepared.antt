@@ -8,8 +8,8 @@ use Rattle.register.specs.Standing.{Content}
 use Rattle.memory_spec.specs.Tables.{facts, patches}
 use Rattle.memory_spec.specs.Memory.{Memory}
 use Rattle.checkpoint_spec.specs.Merging.{AreJoined, has_pair, pair_segments, place_in}
-use Rattle.merge_plan.specs.declared.merged.Merged.{Merged}
-use Rattle.merge_plan.specs.Merging.{merged_facts, table_of, tables_with, IsMergedOf}
+use Rattle.table_plan.specs.declared.merged.Merged.{Merged}
+use Rattle.table_plan.specs.Merging.{merged_facts, table_of, tables_with, IsMergedOf}
 use Rattle.record_tables.specs.Joined.{HasMergedFacts}
 use Rattle.record_tables.specs.Patches.{new_patch, segments_for}
 use Rattle.record_tables.specs.Units.{AreNewUnits}

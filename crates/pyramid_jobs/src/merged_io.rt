@@ -8,11 +8,11 @@ ghost use Rattle.segment_io.specs.Lost.{LosesOnly};
 ghost use Rattle.patch_io.specs.Faults.{OthersStayOfPatch};
 ghost use Rattle.patch_io.specs.Headed.{MayBeHeaded};
 ghost use Rattle.patch_io.specs.Storing.{MayBeStored, OnPatch, StaysClean};
-ghost use Rattle.merge_plan.specs.Merging.{merged_facts};
+ghost use Rattle.table_plan.specs.Merging.{merged_facts};
 ghost use Rattle.pyramid_jobs.specs.Written.{FactsStand, OnOne, OneMayBeWritten, OneStands, OthersStayOfOne};
 
 use boot_codec::{Patch, Patches};
-use merge_plan::{Merged, facts_of};
+use table_plan::{Merged, facts_of};
 use parity72::{DATA_SHARDS, SHARD_BYTES};
 use patch_io::write_patch;
 use pur_base::{Lost, NoMemory};

@@ -14,9 +14,9 @@ use Rattle.memory_spec.specs.Tables.{Tables, patches}
 use Rattle.memory_spec.proofs.Lists.{zip_long}
 use Rattle.checkpoint_spec.specs.Merging.{AreJoined, place_in}
 use Rattle.checkpoint_spec.specs.Whole.{IsNamed}
-use Rattle.merge_plan.specs.declared.merged.Merged.{Merged}
-use Rattle.merge_plan.specs.declared.merged.Merged.TheVariants as merged
-use Rattle.merge_plan.specs.Merging.{merged_patches, patch_count, table_of, tables_with, IsMergedOf}
+use Rattle.table_plan.specs.declared.merged.Merged.{Merged}
+use Rattle.table_plan.specs.declared.merged.Merged.TheVariants as merged
+use Rattle.table_plan.specs.Merging.{merged_patches, patch_count, table_of, tables_with, IsMergedOf}
 use Rattle.record_tables.specs.Patches.{new_patch}
 use Rattle.record_tables.specs.Joined.{JoinedAreNamed, MergedIsNamed}
 use Rattle.record_tables.proofs.Lists.{zip_join, zip_parts}

@@ -19,7 +19,7 @@ use Rattle.memory_spec.specs.Tables.{Tables, patches}
 use Rattle.memory_spec.proofs.Lists.{of_each, zip_long}
 use Rattle.checkpoint_spec.specs.Merging.{has_pair, pair_segments}
 use Rattle.checkpoint_spec.specs.Whole.{IsNamed}
-use Rattle.merge_plan.specs.Merging.{pair_facts, patch_count}
+use Rattle.table_plan.specs.Merging.{pair_facts, patch_count}
 use Rattle.record_tables.specs.Patches.{segments_for, of_tag}
 use Rattle.record_tables.specs.Joined.{PairsAreNamed}
 use Rattle.record_tables.proofs.Lists.{all_append, all_front, all_back, all_weaker, zip_split, zip_at}

@@ -27,8 +27,8 @@ use Rattle.memory_spec.proofs.Created.{not_elided}
 use Rattle.memory_spec.proofs.Lists.{same_some, each_by_recursion, of_each}
 use Rattle.checkpoint_spec.specs.Flushing.{IsTableFlushed}
 use Rattle.checkpoint_spec.proofs.Flushed.{flushed_within, flushed_says, grows_all}
-use Rattle.checkpoint_plan.specs.Segments.{segments_from}
-use Rattle.checkpoint_plan.proofs.SegmentsLemmas.{IsNewSegment, is_new_segment}
+use Rattle.table_plan.specs.Segments.{segments_from}
+use Rattle.table_plan.proofs.SegmentsLemmas.{IsNewSegment, is_new_segment}
 use Rattle.array_memory.specs.declared.plan.Plan.{Plan}
 use Rattle.array_memory.specs.Plan.{after_plan, units_of, IsPlanFor}
 

@@ -17,8 +17,8 @@ use Rattle.memory_spec.specs.Memory.{Memory}
 use Rattle.memory_spec.specs.Tables.{patches}
 use Rattle.checkpoint_spec.specs.Merging.{AreJoined, has_pair, pair_segments, place_in}
 use Rattle.checkpoint_spec.specs.Whole.{IsNamed}
-use Rattle.merge_plan.specs.declared.merged.Merged.{Merged}
-use Rattle.merge_plan.specs.Merging.{merged_facts, merged_patches, pair_facts, patch_count, table_of, tables_with, IsMergedOf}
+use Rattle.table_plan.specs.declared.merged.Merged.{Merged}
+use Rattle.table_plan.specs.Merging.{merged_facts, merged_patches, pair_facts, patch_count, table_of, tables_with, IsMergedOf}
 use Rattle.record_tables.specs.Laws.{with_patches}
 use Rattle.record_tables.specs.Patches.{new_patch, segments_for}
 use Rattle.record_tables.specs.Units.{AreNewUnits}

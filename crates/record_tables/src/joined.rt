@@ -10,7 +10,7 @@ ghost use Rattle.record_tables.specs.Patches.{new_patch};
 use crate::laws::has_facts;
 use crate::patches::{NextPatches, push_new};
 use boot_codec::Patches;
-use merge_plan::Merged;
+use table_plan::Merged;
 use pur_base::{NoMemory, Places, Table};
 use std::alloc::Global;
 

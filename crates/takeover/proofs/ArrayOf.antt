@@ -18,7 +18,7 @@ use Rattle.memory_spec.specs.Memory.{Contents, IsSound}
 use Rattle.memory_spec.specs.Numbers.{next_after_all}
 use Rattle.memory_spec.specs.Tables.{facts, patches}
 use Rattle.checkpoint_spec.specs.Whole.{IsNamed}
-use Rattle.checkpoint_plan.specs.Planned.{AreStored}
+use Rattle.table_plan.specs.Planned.{AreStored}
 use Rattle.array_memory.specs.Kept.{Kept}
 use Rattle.array_core.specs.Ready.{IsArrayOf}
 use Rattle.array_core.specs.declared.array.Array.{Array}

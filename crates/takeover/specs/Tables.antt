@@ -13,7 +13,7 @@ use Rattle.pyramid.specs.Layers.{facts_of}
 use Rattle.memory_spec.specs.Memory.{Contents, FactsRead, ReadsAs}
 use Rattle.memory_spec.specs.Tables.{facts, patches}
 use Rattle.checkpoint_spec.specs.Whole.{IsNamed}
-use Rattle.checkpoint_plan.specs.Planned.{AreStored}
+use Rattle.table_plan.specs.Planned.{AreStored}
 use Rattle.world.specs.Losing.{geometry_of}
 use Rattle.world.specs.Shelf.{Shelved, Stop, MayStop}
 use Rattle.boot_region.specs.declared.loading.Loaded.{Loaded}

@@ -2,8 +2,8 @@ use Rattle.std.proofs.Common.{◌≡◌, ℕ, ◌≤◌, List, [], length, sym, 
 use Rattle.std.specs.Int.{div_ceil}
 use Rattle.pur_base.specs.declared.place.Place.{Place}
 use Rattle.memory_spec.specs.Tables.{facts}
-use Rattle.checkpoint_plan.specs.Eliding.{IsElidedBy}
-use Rattle.checkpoint_plan.proofs.ElidedLemmas.{as_many}
+use Rattle.table_plan.specs.Eliding.{IsElidedBy}
+use Rattle.table_plan.proofs.ElidedLemmas.{as_many}
 use Rattle.array_memory.specs.declared.plan.Eliding.{Eliding}
 use Rattle.array_memory.specs.Eliding.{eliding_by}
 use Rattle.array_memory.specs.Plan.{next_past, AreUnits}

@@ -4,7 +4,7 @@ use Rattle.std.proofs.lemmas.Option.{same_Some, slice_get_read}
 use Rattle.std.proofs.lemmas.Result.{on_ok_weaker}
 use Rattle.boot_codec.specs.declared.patch.Patch.{Patch}
 use Rattle.world.proofs.Writes.{writes_more}
-use Rattle.merge_plan.specs.Merging.{merged_facts}
+use Rattle.table_plan.specs.Merging.{merged_facts}
 use Rattle.pyramid_jobs.specs.Written.{FactsStand}
 use Rattle.pyramid_jobs.proofs.merged_io.write_merged.Goals as goal
 

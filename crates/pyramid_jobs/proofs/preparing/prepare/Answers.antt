@@ -7,7 +7,7 @@ use Rattle.boot_codec.specs.declared.record.BootRecord.{BootRecord}
 use Rattle.free_space.specs.Map.{IsMapOf}
 use Rattle.memory_spec.specs.Tables.{facts}
 use Rattle.checkpoint_spec.specs.Merging.{AreJoined, pair_segments, place_in}
-use Rattle.merge_plan.specs.Merging.{merged_facts}
+use Rattle.table_plan.specs.Merging.{merged_facts}
 use Rattle.record_tables.specs.Patches.{new_patch, segments_for}
 use Rattle.array_checkpoint.proofs.PreparedLemmas.{map_of_facts}
 use Rattle.pyramid_jobs.proofs.Planning.{enough_groups, few_in_pair, few_needed, first_low, place_there, two_there}

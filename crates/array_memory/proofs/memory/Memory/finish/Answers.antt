@@ -7,7 +7,7 @@ use Rattle.pyramid.specs.Layers.{Layers, AreDistinct, facts_in, patch_facts, pat
 use Rattle.pyramid.proofs.ContainsLemmas.{of_filter}
 use Rattle.segment_table.specs.Segments.{AreVisible, number}
 use Rattle.memory_spec.specs.Memory.{Memory}
-use Rattle.checkpoint_plan.specs.Planned.{IsPlanned}
+use Rattle.table_plan.specs.Planned.{IsPlanned}
 use Rattle.array_memory.specs.Eliding.{eliding_by, IsElidingOf}
 use Rattle.array_memory.specs.Kept.{Kept, kept_of}
 use Rattle.array_memory.specs.Plan.{after_plan, units_of, IsPlanFor, IsSameMemory}

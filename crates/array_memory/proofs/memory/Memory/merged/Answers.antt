@@ -4,7 +4,7 @@ use Rattle.pur_base.specs.declared.request.Table.{Table}
 use Rattle.pur_base.specs.declared.request.Table.TheVariants as table
 use Rattle.elision.specs.Ranges.{ranges_of}
 use Rattle.memory_spec.specs.Tables.{facts}
-use Rattle.merge_plan.specs.Merging.{patch_count}
+use Rattle.table_plan.specs.Merging.{patch_count}
 use Rattle.array_memory.proofs.Seen.{seen}
 use Rattle.array_memory.proofs.MergingLemmas.{elided_test}
 use Rattle.array_memory.proofs.memory.Memory.merged.Goals as goal

@@ -6,9 +6,9 @@ use Rattle.object_table.specs.Objects.{Objects}
 use Rattle.segment_table.specs.Segments.{Segments}
 use Rattle.checkpoint_spec.specs.Merging.{IsMergedAt}
 use Rattle.checkpoint_spec.specs.Whole.{AreLayered}
-use Rattle.merge_plan.specs.declared.merged.Merged.{Merged}
-use Rattle.merge_plan.specs.declared.merged.Merged.TheVariants as merged
-use Rattle.merge_plan.specs.Merging.{IsMergedOf}
+use Rattle.table_plan.specs.declared.merged.Merged.{Merged}
+use Rattle.table_plan.specs.declared.merged.Merged.TheVariants as merged
+use Rattle.table_plan.specs.Merging.{IsMergedOf}
 use Rattle.array_memory.specs.declared.memory.Memory.TheInside.{Inside}
 use Rattle.array_memory.specs.Kept.{Kept, IsKept}
 use Rattle.array_memory.proofs.Seen.{seen}

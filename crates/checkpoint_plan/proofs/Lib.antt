@@ -1,6 +1,0 @@
-pub mod PlacesLemmas
-pub mod SegmentsLemmas
-pub mod Planned
-pub mod ElidedLemmas
-pub mod RangesOf
-pub mod WitnessLemmas

@@ -1,9 +1,0 @@
-use Rattle.std.proofs.Common.{◌≡◌, ◌<◌, ℕ, false, length, get_or, take}
-use Rattle.checkpoint_plan.specs.Places.{is_named}
-use Rattle.checkpoint_plan.proofs.placing.flags.Given as goal
-
-abbrev pub invariant-loop-fact : goal.invariant-loop-fact
-invariant-loop-fact l = record {
-  len : length l.flags.items ≡ l.staged;
-  each : (i : ℕ) → i < l.staged → get_or l.flags.items i false ≡ is_named (take l.fact-index l.facts) i;
-}

@@ -1,9 +1,0 @@
-use Rattle.std.proofs.Common.{◌≡◌, ◌≤◌, ◌++◌, drop}
-use Rattle.checkpoint_plan.specs.Places.{places_from}
-use Rattle.checkpoint_plan.proofs.placing.places.Given as goal
-
-abbrev pub invariant-loop-flag : goal.invariant-loop-flag
-invariant-loop-flag l = record {
-  few : l.placed ≤ l.flag-index;
-  told : l.out.items ++ places_from l.first l.placed (drop l.flag-index l.flags) ≡ places_from l.first 0 l.flags;
-}

@@ -1,6 +1,0 @@
-pub mod Patches
-pub mod Places
-pub mod Segments
-pub mod Unused
-pub mod Eliding
-pub mod Planned

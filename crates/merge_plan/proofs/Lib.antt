@@ -1,3 +1,0 @@
-pub mod PatchFacts
-pub mod CountLemmas
-pub mod MergeLemmas

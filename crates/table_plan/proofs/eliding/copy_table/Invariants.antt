@@ -1,0 +1,11 @@
+use Rattle.std.proofs.Common.{◌≡◌, ◌≢◌, ◌⊎◌, ◌↔◌, ℕ, take, IsTrue}
+use Rattle.pur_base.specs.Visible.{is_within}
+use Rattle.pur_base.specs.declared.request.Table.{Table}
+use Rattle.elision.specs.Ranges.{ranges_of}
+use Rattle.table_plan.proofs.eliding.copy_table.Given as goal
+
+abbrev pub invariant-loop-range : goal.invariant-loop-range
+invariant-loop-range l = record {
+  ids : (id : ℕ) → IsTrue (is_within (ranges_of l.to l.table) id) ↔ (IsTrue (is_within (ranges_of l.initial.to l.table) id) ⊎ IsTrue (is_within (take l.range-index (ranges_of l.from l.table)) id));
+  others : (t : Table) → t ≢ l.table → ranges_of l.to t ≡ ranges_of l.initial.to t;
+}

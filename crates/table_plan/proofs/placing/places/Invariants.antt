@@ -1,0 +1,9 @@
+use Rattle.std.proofs.Common.{◌≡◌, ◌≤◌, ◌++◌, drop}
+use Rattle.table_plan.specs.Places.{places_from}
+use Rattle.table_plan.proofs.placing.places.Given as goal
+
+abbrev pub invariant-loop-flag : goal.invariant-loop-flag
+invariant-loop-flag l = record {
+  few : l.placed ≤ l.flag-index;
+  told : l.out.items ++ places_from l.first l.placed (drop l.flag-index l.flags) ≡ places_from l.first 0 l.flags;
+}
