@@ -1,13 +1,12 @@
 -- What holds behind a checkpoint of an array whose memory got room for it first.
-use Rattle.std.proofs.Common.{◌≡◌, inl, inr, [], ◌∷◌, true, refl, sym, ap, subst}
+use Rattle.std.proofs.Common.{◌≡◌, [], ◌∷◌, refl, sym, ap, subst}
 use Rattle.std.specs.Prelude.{Err, OnErr, Result}
 use Rattle.pur_base.specs.Plain as plain
-use Rattle.pur_base.specs.declared.device.Device.{Device}
-use Rattle.pur_base.specs.declared.device.Device.TheVariants.{Drive, Nv}
 use Rattle.world.specs.Shelf.{Continues, IsCountedBy, IsShelf, LeavesOnly, Shelved}
 use Rattle.world.proofs.Moments.{continues_refl, started, then_run, weaker}
 use Rattle.world.proofs.Writes.{counted_then, counts_grow, nothing_written}
-use Rattle.boot_codec.specs.Region.{names}
+use Rattle.nvram_log.specs.declared.log.NvLog.{NvLog}
+use Rattle.register.specs.declared.state.Register.{Register}
 use Rattle.register.specs.Standing.{Content, array_of}
 use Rattle.memory_spec.specs.Memory.{Contents, ReadsAs}
 use Rattle.memory_spec.specs.Tables.{facts}
@@ -15,9 +14,10 @@ use Rattle.array_memory.specs.Kept.{Kept}
 use Rattle.array_core.specs.declared.array.Array.{Array}
 use Rattle.array_core.specs.Drives.{SegmentsHold}
 use Rattle.array_core.specs.Ready.{IsReady, is_spent}
-use Rattle.array_core.specs.Holding as core
+use Rattle.array_core.specs.Holding.{DropsFailed, DropsFailedBy, NoneJoins, NoneJoinsBy}
 use Rattle.array_core.specs.Performing.{IsKeptAt, IsLost}
-use Rattle.array_core.specs.Switching.{DropsFailed, IsHolder, IsTooMuch, NoneJoins, WasOpen}
+use Rattle.array_core.specs.Performing.{IsLostBy}
+use Rattle.array_core.specs.Switching.{WasOpen}
 use Rattle.array_core.proofs.FreeWrites.{free_writes_go_on}
 use Rattle.array_checkpoint.specs.Prepared.{IsLike}
 use Rattle.array_checkpoint.specs.Made.{HasFlushed}
@@ -69,41 +69,14 @@ module _ (was mid : Array) (like : IsLike was mid) where
   flushed_since now h = flushed_roomed mid.memory now (subst (λ (a : Array). HasFlushed a now) same h)
 
   -- who holds it
-  holds_core : (a : Array) (d : Device) → IsHolder a.register a.log.members d → core.IsHolder a d
-  holds_core a (Drive d) m = m
-  holds_core a (Nv n) m = m
+  pub drops : (start new : Shelved) (now : Array) → DropsFailedBy start new mid.register mid.log.members now.register now.log.members → DropsFailed start new was now
+  drops start new now dropped = subst (λ (l : NvLog). DropsFailedBy start new was.register l.members now.register now.log.members) like.log
+      (subst (λ (r : Register). DropsFailedBy start new r mid.log.members now.register now.log.members) like.register dropped)
 
-  core_holds : (a : Array) (d : Device) → core.IsHolder a d → IsHolder a.register a.log.members d
-  core_holds a (Drive d) m = m
-  core_holds a (Nv n) m = m
+  pub joins : (now : Array) → NoneJoinsBy mid.register mid.log.members now.register now.log.members → NoneJoins was now
+  joins now none = subst (λ (l : NvLog). NoneJoinsBy was.register l.members now.register now.log.members) like.log (subst (λ (r : Register). NoneJoinsBy r mid.log.members now.register now.log.members) like.register none)
 
-  held_by_both : (d : Device) → core.IsHolder was d → IsHolder mid.register mid.log.members d
-  held_by_both d m = core_holds mid d (subst (λ (a : Array). core.IsHolder a d) (sym same) (roomed_holder d m))
-    where
-      roomed_holder : (d : Device) → core.IsHolder was d → core.IsHolder (roomed was mid.memory) d
-      roomed_holder (Drive d) m = m
-      roomed_holder (Nv n) m = m
-
-  held_by_was : (d : Device) → IsHolder mid.register mid.log.members d → core.IsHolder was d
-  held_by_was d m = roomed_holder d (subst (λ (a : Array). core.IsHolder a d) same (holds_core mid d m))
-    where
-      roomed_holder : (d : Device) → core.IsHolder (roomed was mid.memory) d → core.IsHolder was d
-      roomed_holder (Drive d) m = m
-      roomed_holder (Nv n) m = m
-
-  pub drops : (start new : Shelved) (now : Array) → DropsFailed start new mid.register mid.log.members now.register now.log.members → core.DropsFailed start new was now
-  drops start new now dropped d m = elim (dropped d (held_by_both d m)) [ inl is ↦ inl (holds_core now d is) | inr rose ↦ inr rose ]
-
-  pub joins : (now : Array) → NoneJoins mid.register mid.log.members now.register now.log.members → core.NoneJoins was now
-  joins now none = record {
-    holders = λ d m. held_by_was d (none.holders d (core_holds now d m));
-    named = λ d e. elim (none.named d e) [
-      | inl named ↦ inl (subst (λ (a : Array). names a.register.record d ≡ true) same named)
-      | inr m ↦ inr (held_by_was d m)
-    ];
-  }
-
-  pub too_much : (start new : Shelved) → IsTooMuch start new mid.register mid.log.members → IsLost start new was
+  pub too_much : (start new : Shelved) → IsLostBy start new mid.register mid.log.members → IsLost start new was
   too_much start new lost = subst (λ (a : Array). IsLost start new a) same lost
 
 -- ---- where nothing was written

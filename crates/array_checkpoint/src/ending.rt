@@ -14,7 +14,9 @@ ghost use Rattle.array_core.specs.Ready.{IsArrayOf, IsReady, is_spent};
 ghost use Rattle.array_core.specs.Losing.{lost_since};
 ghost use Rattle.array_core.specs.Performing.{IsKeptAt};
 ghost use Rattle.array_core.specs.declared.performing.PerformFault.TheVariants.{Device};
-ghost use Rattle.array_core.specs.Switching.{AreLost, DropsFailed, HoldNext, IsTooMuch, NoneJoins, WasOpen, WroteFree};
+ghost use Rattle.array_core.specs.Holding.{DropsFailedBy, NoneJoinsBy};
+ghost use Rattle.array_core.specs.Performing.{IsLostBy};
+ghost use Rattle.array_core.specs.Switching.{AreLost, HoldNext, WasOpen, WroteFree};
 ghost use Rattle.array_checkpoint.specs.declared.limits.TheConstants.{SEGMENTS_END};
 ghost use Rattle.array_checkpoint.specs.Prepared.{IsPreparedFor};
 ghost use Rattle.array_checkpoint.specs.Made.{contents_after, facts_after, held_after, HasFlushed, HoldOnLeft};
@@ -46,10 +48,10 @@ pub(crate) fn take_over<S: Shelf>(
     ensures objects { array.new.memory.objects ≡ array.old.memory.objects }
     ensures unfinished { OnErr result (array.new.memory ≡ array.old.memory) }
     ensures fault { IfErr result (λ e. (e ≡ Device) × ((start : S) → Continues (S.shelf start) (S.shelf shelf.old) → AreLost (S.shelf start) (S.shelf shelf.old) array.old.register lost.now.drives
-        → IsTooMuch (S.shelf start) (S.shelf shelf.new) array.old.register array.old.log.members)) }
+        → IsLostBy (S.shelf start) (S.shelf shelf.new) array.old.register array.old.log.members)) }
     ensures dropped { (start : S) → Continues (S.shelf start) (S.shelf shelf.old) → AreLost (S.shelf start) (S.shelf shelf.old) array.old.register lost.now.drives
-        → DropsFailed (S.shelf start) (S.shelf shelf.new) array.old.register array.old.log.members array.new.register array.new.log.members }
-    ensures joins { OnOk result (NoneJoins array.old.register array.old.log.members array.new.register array.new.log.members) }
+        → DropsFailedBy (S.shelf start) (S.shelf shelf.new) array.old.register array.old.log.members array.new.register array.new.log.members }
+    ensures joins { OnOk result (NoneJoinsBy array.old.register array.old.log.members array.new.register array.new.log.members) }
     // Memory reads as the same array, with the placed sectors in the new segments.
     ensures reads { OnOk result ((contents : Contents) (a : plain.Array) → ReadsAs contents array.old.memory.memory a
         → ReadsAs (contents_after array.old.memory.memory prepared.plan contents) array.new.memory.memory a) }

@@ -11,7 +11,9 @@ use Rattle.nvram_log.specs.Members as nv
 use Rattle.register.specs.declared.state.Register.{Register}
 use Rattle.register.specs.Registers.{IsRegisterOf, OnSlots, drives_of}
 use Rattle.register.proofs.Stores.{fewer_cut, on_more}
-use Rattle.array_core.specs.Switching.{DropsFailed, IsHolder, IsTooMuch, NoneJoins, OnSlotsAndLog}
+use Rattle.array_core.specs.Holding.{DropsFailedBy, IsHolderBy, NoneJoinsBy}
+use Rattle.array_core.specs.Performing.{IsLostBy}
+use Rattle.array_core.specs.Switching.{OnSlotsAndLog}
 use Rattle.array_core.proofs.LostOnWay.{dropped_then, log_lost_since, rises_on}
 
 -- what is written on fewer drives
@@ -24,12 +26,12 @@ all_of_more was now members slots fewer d i (inr w) = inr w
 
 -- ---- who is dropped
 
-pub drives_failed : (start new : Shelved) (was now : Register) (members : List Bool) → DroppedFailed start new (drives_of was) (drives_of now) → DropsFailed start new was members now members
+pub drives_failed : (start new : Shelved) (was now : Register) (members : List Bool) → DroppedFailed start new (drives_of was) (drives_of now) → DropsFailedBy start new was members now members
 drives_failed start new was now members dropped (Drive d) m = elim (dropped d.0 m) [ inl is ↦ inl is | inr rose ↦ inr rose.write_faults ]
 drives_failed start new was now members dropped (Nv n) m = inl m
 
 pub all_failed : (start mid new : Shelved) → Continues start mid → (was now : Register) (members left : List Bool) → length members ≡ 2 → DroppedFailed start new (drives_of was) (drives_of now) → nv.DroppedFailed mid new members left
-    → DropsFailed start new was members now left
+    → DropsFailedBy start new was members now left
 all_failed start mid new on was now members left two dropped logs (Drive d) m = elim (dropped d.0 m) [ inl is ↦ inl is | inr rose ↦ inr rose.write_faults ]
 all_failed start mid new on was now members left two dropped logs (Nv n) m = elim (logs n.0 (omega (arith, two, member_below members n.0 m)) m) [
   | inl is ↦ inl is
@@ -38,7 +40,7 @@ all_failed start mid new on was now members left two dropped logs (Nv n) m = eli
 
 -- what is too much since a later moment is so since the start
 pub too_much_since : (start mid new : Shelved) → Continues start mid → Continues mid new → (was now : Register) (members : List Bool) → now.record.slots ≡ was.record.slots → DroppedFailed start mid (drives_of was) (drives_of now)
-    → IsTooMuch mid new now members → IsTooMuch start new was members
+    → IsLostBy mid new now members → IsLostBy start new was members
 too_much_since start mid new on next was now members slots dropped (inl log) = inl (log_lost_since start mid new on members log)
 too_much_since start mid new on next was now members slots dropped (inr drives) = inr (record {
   left = drives.left;
@@ -49,35 +51,35 @@ too_much_since start mid new on next was now members slots dropped (inr drives) 
 -- ---- who joins
 
 -- by the same log devices
-pub named_left : (was now : Register) (nvrams members : List Bool) → nvrams ≡ members → ((d : Device) → names now.record d ≡ true → (names was.record d ≡ true) ⊎ IsHolder was nvrams d)
-    → (d : Device) → names now.record d ≡ true → (names was.record d ≡ true) ⊎ IsHolder was members d
-named_left was now nvrams members same named = subst (λ (l : List Bool). (d : Device) → names now.record d ≡ true → (names was.record d ≡ true) ⊎ IsHolder was l d) same named
+pub named_left : (was now : Register) (nvrams members : List Bool) → nvrams ≡ members → ((d : Device) → names now.record d ≡ true → (names was.record d ≡ true) ⊎ IsHolderBy was nvrams d)
+    → (d : Device) → names now.record d ≡ true → (names was.record d ≡ true) ⊎ IsHolderBy was members d
+named_left was now nvrams members same named = subst (λ (l : List Bool). (d : Device) → names now.record d ≡ true → (names was.record d ≡ true) ⊎ IsHolderBy was l d) same named
 
 -- once the tables were stored, by a record that names the log devices of the one before
 pub none_joins_tables : (shelf : Geometry) (r0 r1 r2 : Register) (members : List Bool) → IsRegisterOf shelf r0 → ((i : ℕ) → IsMember r1.drives i → IsMember r0.drives i) → ((i : ℕ) → IsMember r2.drives i → IsMember r1.drives i)
-    → r2.record.slots ≡ r0.record.slots → ((d : Device) → names r1.record d ≡ true → (names r0.record d ≡ true) ⊎ IsHolder r0 members d)
-    → (r2.record.members.drives ≡ r2.drives) × (r2.record.members.nvrams ≡ r1.record.members.nvrams) → NoneJoins r0 members r2 members
+    → r2.record.slots ≡ r0.record.slots → ((d : Device) → names r1.record d ≡ true → (names r0.record d ≡ true) ⊎ IsHolderBy r0 members d)
+    → (r2.record.members.drives ≡ r2.drives) × (r2.record.members.nvrams ≡ r1.record.members.nvrams) → NoneJoinsBy r0 members r2 members
 none_joins_tables shelf r0 r1 r2 members is fewer1 fewer2 slots2 named1 are2 = record { holders = λ d m. held d m; named = λ d e. named2 d e }
   where
-    held : (d : Device) → IsHolder r2 members d → IsHolder r0 members d
+    held : (d : Device) → IsHolderBy r2 members d → IsHolderBy r0 members d
     held (Drive d) m = fewer_cut r0 r2 slots2 (λ i x. fewer1 i (fewer2 i x)) d.0 m
     held (Nv n) m = m
 
-    named2 : (d : Device) → names r2.record d ≡ true → (names r0.record d ≡ true) ⊎ IsHolder r0 members d
+    named2 : (d : Device) → names r2.record d ≡ true → (names r0.record d ≡ true) ⊎ IsHolderBy r0 members d
     named2 (Drive d) e = inl (is.named d.0 (fewer1 d.0 (fewer2 d.0 (subst (λ (l : List Bool). IsMember l d.0) are2.0 e))))
     named2 (Nv n) e = named1 (Nv n) (subst (λ (l : List Bool). nv.IsMember l n.0) are2.1 e)
 
 -- and the log was cleared
 pub none_joins : (shelf : Geometry) (r0 r1 r2 r3 : Register) (members left : List Bool) → IsRegisterOf shelf r0 → ((i : ℕ) → IsMember r1.drives i → IsMember r0.drives i) → ((i : ℕ) → IsMember r2.drives i → IsMember r1.drives i)
     → ((i : ℕ) → IsMember r3.drives i → IsMember r2.drives i) → r2.record.slots ≡ r0.record.slots → r3.record.slots ≡ r0.record.slots → nv.IsFewer members left
-    → ((d : Device) → names r1.record d ≡ true → (names r0.record d ≡ true) ⊎ IsHolder r0 members d)
+    → ((d : Device) → names r1.record d ≡ true → (names r0.record d ≡ true) ⊎ IsHolderBy r0 members d)
     → (r2.record.members.drives ≡ r2.drives) × (r2.record.members.nvrams ≡ r1.record.members.nvrams)
-    → ((d : Device) → names r3.record d ≡ true → (names r2.record d ≡ true) ⊎ IsHolder r2 members d) → NoneJoins r0 members r3 left
+    → ((d : Device) → names r3.record d ≡ true → (names r2.record d ≡ true) ⊎ IsHolderBy r2 members d) → NoneJoinsBy r0 members r3 left
 none_joins shelf r0 r1 r2 r3 members left is fewer1 fewer2 fewer3 slots2 slots3 fewer_logs named1 are2 named3 = record { holders = λ d m. held d m; named = λ d e. elim (named3 d e) [ inl x ↦ stored.named d x | inr m ↦ inr (stored.holders d m) ] }
   where
-    held : (d : Device) → IsHolder r3 left d → IsHolder r0 members d
+    held : (d : Device) → IsHolderBy r3 left d → IsHolderBy r0 members d
     held (Drive d) m = fewer_cut r0 r3 slots3 (λ i x. fewer1 i (fewer2 i (fewer3 i x))) d.0 m
     held (Nv n) m = fewer_logs n.0 m
 
-    stored : NoneJoins r0 members r2 members
+    stored : NoneJoinsBy r0 members r2 members
     stored = none_joins_tables shelf r0 r1 r2 members is fewer1 fewer2 slots2 named1 are2

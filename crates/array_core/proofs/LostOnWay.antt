@@ -24,7 +24,7 @@ use Rattle.array_core.specs.Losing.{lost_since}
 use Rattle.array_core.specs.Performing.{LostDrives, LostLog}
 use Rattle.array_core.proofs.Losses.{sound_since}
 use Rattle.array_core.proofs.Lost.{few_lack}
-use Rattle.array_core.specs.Switching.{IsTooMuch}
+use Rattle.array_core.specs.Performing.{IsLostBy}
 
 -- ---- counts
 

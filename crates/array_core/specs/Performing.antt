@@ -49,9 +49,12 @@ pub record LostDrives (old new : Shelved) (r : Register) : Type 0 where
   pub dropped : DroppedFailed old new (drives_of r) left
   pub too_few : set_count left + 2 < r.record.slots
 
--- more devices failed than are borne
+-- more devices failed than are borne: all devices of the log lost a write, or so many drives that more than two of the shelf aren't left
+abbrev pub IsLostBy : Shelved → Shelved → Register → List Bool → Type 0
+IsLostBy old new r members = LostLog old new members ⊎ LostDrives old new r
+
 abbrev pub IsLost : Shelved → Shelved → Array → Type 0
-IsLost old new a = LostLog old new a.log.members ⊎ LostDrives old new a.register
+IsLost old new a = IsLostBy old new a.register a.log.members
 
 -- One more command is logged, and its number given. The patches are as they were. A record is stored only where a device lost a write, and so three more at most, since two drives of the shelf at most may be missing then.
 pub record HasLogged (old new : Shelved) (a b : Array) (request : Request) : Type 0 where

@@ -1,11 +1,8 @@
--- The end of a checkpoint or a merge: what its writes left, and which devices hold the array then.
-use Rattle.std.specs.Prelude.{◌≡◌, ◌⊎◌, ℕ, Bool, true, List, []}
+-- The end of a checkpoint or a merge: what its writes left, what stands then, and what is too much.
+use Rattle.std.specs.Prelude.{◌≡◌, ◌⊎◌, ℕ, Bool, List, []}
 use Rattle.pur_base.specs.declared.device.Device.{Device}
-use Rattle.pur_base.specs.declared.device.Device.TheVariants.{Drive, Nv}
 use Rattle.pur_base.specs.Devices.{drive}
-use Rattle.boot_codec.specs.Region.{names}
 use Rattle.stored_spec.specs.Held.{DataHolds}
-use Rattle.world.specs.Counts.{Rises}
 use Rattle.world.specs.Losing.{geometry_of}
 use Rattle.world.specs.Shelf.{Shelved}
 use Rattle.boot_region.specs.Members.{IsMember, LostWrites}
@@ -18,7 +15,6 @@ use Rattle.register.specs.Registers.{OnSlots, drives_of}
 use Rattle.register.specs.Standing.{Content, IsOpen, array_of}
 use Rattle.register.specs.Tables.{with_tables}
 use Rattle.array_core.specs.Free.{WritesFree}
-use Rattle.array_core.specs.Performing.{LostDrives, LostLog}
 use Rattle.array_core.specs.Meanwhile.{AreInForce}
 
 -- ---- before
@@ -59,23 +55,3 @@ pub record HoldMerged (now : Shelved) (r : Register) (lost : List Bool) (tables 
 -- both boot slots on the drives of the record, and the log on its devices
 abbrev pub OnSlotsAndLog : Register → List Bool → Device → ℕ → Type 0
 OnSlotsAndLog r members d i = OnSlots (drives_of r) d i ⊎ nv.OnMembers members d i
-
--- all devices of the log lost a write, or so many drives that more than two of the shelf aren't left
-abbrev pub IsTooMuch : Shelved → Shelved → Register → List Bool → Type 0
-IsTooMuch start now r members = LostLog start now members ⊎ LostDrives start now r
-
--- ---- who holds the array
-
--- a device holds it: a drive on which the record is in force, or an NVRAM device with the log
-abbrev pub IsHolder : Register → List Bool → Device → Type 0
-IsHolder r members (Drive d) = IsMember (drives_of r) d.0
-IsHolder r members (Nv n) = nv.IsMember members n.0
-
--- a holder is one still, or a write or a sync on it failed
-abbrev pub DropsFailed : Shelved → Shelved → Register → List Bool → Register → List Bool → Type 0
-DropsFailed start now r members r2 members2 = (d : Device) → IsHolder r members d → IsHolder r2 members2 d ⊎ Rises (start.disk d).write_faults (now.disk d).write_faults
-
--- none joins the holders, and the record names no device that it didn't name, and that was no holder
-pub record NoneJoins (r : Register) (members : List Bool) (r2 : Register) (members2 : List Bool) : Type 0 where
-  pub holders : (d : Device) → IsHolder r2 members2 d → IsHolder r members d
-  pub named : (d : Device) → names r2.record d ≡ true → (names r.record d ≡ true) ⊎ IsHolder r members d

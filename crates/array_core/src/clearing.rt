@@ -14,7 +14,9 @@ ghost use Rattle.register.specs.Registers.{IsLaterRecord, IsRegisterOf, drives_o
 ghost use Rattle.register.specs.Standing.{Content, IsOpen, array_of};
 ghost use Rattle.array_core.specs.declared.performing.PerformFault.TheVariants.{Device as DeviceFault};
 ghost use Rattle.array_core.specs.Performing.{IsKeptAt};
-ghost use Rattle.array_core.specs.Switching.{IsHolder, IsTooMuch, OnSlotsAndLog};
+ghost use Rattle.array_core.specs.Holding.{IsHolderBy};
+ghost use Rattle.array_core.specs.Performing.{IsLostBy};
+ghost use Rattle.array_core.specs.Switching.{OnSlotsAndLog};
 
 use crate::PerformFault;
 use nvram_log::NvLog;
@@ -40,12 +42,12 @@ pub(crate) fn clear_log<S: Shelf>(
     ensures dropped { DroppedFailed (S.shelf shelf.old) (S.shelf shelf.new) (drives_of register.old) (drives_of register.new) }
     ensures dropped_logs { nv.DroppedFailed (S.shelf shelf.old) (S.shelf shelf.new) log.old.members log.new.members }
     ensures writes { (S.shelf shelf.old).honest → WritesOnly (OnSlotsAndLog register.old log.old.members) (S.shelf shelf.old) (S.shelf shelf.new) }
-    ensures named { OnOk result ((d : Device) → names register.new.record d ≡ true → (names register.old.record d ≡ true) ⊎ IsHolder register.old log.old.members d) }
+    ensures named { OnOk result ((d : Device) → names register.new.record d ≡ true → (names register.old.record d ≡ true) ⊎ IsHolderBy register.old log.old.members d) }
     ensures drives { OnOk result (register.old.record.members.drives ≡ register.old.drives → register.new.record.members.drives ≡ register.new.drives) }
     ensures enough { OnOk result (register.old.record.slots ≤ set_count register.old.drives + 2 → register.new.record.slots ≤ set_count register.new.drives + 2) }
     ensures flushed { OnOk result (log.new.flushed ≡ register.new.record.flushed) }
     ensures cleared { OnOk result ((log.new.count ≡ 0) × nv.IsSome log.new.members × Keeps log.new []) }
-    ensures lost { IfErr result (λ e. (e ≡ DeviceFault) × IsTooMuch (S.shelf shelf.old) (S.shelf shelf.new) register.old log.old.members) }
+    ensures lost { IfErr result (λ e. (e ≡ DeviceFault) × IsLostBy (S.shelf shelf.old) (S.shelf shelf.new) register.old log.old.members) }
     // Then the array is open with an empty log, on the devices that are left.
     ensures held { (S.shelf shelf.old).honest → OnOk result ((commands : List Command) (next : Content) → IsOpen (S.shelf shelf.old) register.old log.old.members next → next.log ≡ []
         → Keeps log.old commands → HoldsOn (S.shelf shelf.old) log.old.members log.old.flushed commands

@@ -13,7 +13,8 @@ ghost use Rattle.register.specs.Registers.{IsLaterRecord, IsRegisterOf, OnSlots,
 ghost use Rattle.register.specs.Standing.{Content, IsOpen, array_of};
 ghost use Rattle.array_core.specs.Performing.{IsKeptAt};
 ghost use Rattle.array_core.specs.Meanwhile.{AreInForce};
-ghost use Rattle.array_core.specs.Switching.{IsHolder, WroteFree};
+ghost use Rattle.array_core.specs.Holding.{IsHolderBy};
+ghost use Rattle.array_core.specs.Switching.{WroteFree};
 
 use boot_codec::{DRIVE_FLAGS, NVRAM_FLAGS};
 use register::{Register, StoreFault};
@@ -38,7 +39,7 @@ pub(crate) fn leave_lost<S: Shelf>(
     ensures dropped { (i : ℕ) → IsMember (drives_of register.old) i → IsMember lost.now i ⊎ (IsMember (drives_of register.new) i ⊎ LostWrites ((S.shelf shelf.old).disk (drive i)) ((S.shelf shelf.new).disk (drive i))) }
     ensures others { (n : ℕ) → (S.shelf shelf.new).disk (nvram n) ≡ (S.shelf shelf.old).disk (nvram n) }
     ensures writes { (S.shelf shelf.old).honest → WritesOnly (OnSlots (drives_of register.old)) (S.shelf shelf.old) (S.shelf shelf.new) }
-    ensures named { OnOk result ((d : Device) → names register.new.record d ≡ true → (names register.old.record d ≡ true) ⊎ IsHolder register.old nvrams d) }
+    ensures named { OnOk result ((d : Device) → names register.new.record d ≡ true → (names register.old.record d ≡ true) ⊎ IsHolderBy register.old nvrams d) }
     ensures fault { IfErr result (λ e. IsFaultOf register.new e) }
     // Then the array is open as it was, on the drives that are left.
     ensures held { (S.shelf shelf.old).honest → OnOk result ((start : S) (held : Content) → IsOpen (S.shelf start) register.old nvrams held → WroteFree (S.shelf start) (S.shelf shelf.old) register.old lost.now held

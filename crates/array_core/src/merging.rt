@@ -14,7 +14,9 @@ ghost use Rattle.register.specs.Tables.{with_tables};
 ghost use Rattle.array_core.specs.Losing.{lost_since};
 ghost use Rattle.array_core.specs.Performing.{IsKeptAt};
 ghost use Rattle.array_core.specs.declared.performing.PerformFault.TheVariants.{Device};
-ghost use Rattle.array_core.specs.Switching.{AreLost, DropsFailed, HoldMerged, IsTooMuch, NoneJoins, WasOpen, WroteFree};
+ghost use Rattle.array_core.specs.Holding.{DropsFailedBy, NoneJoinsBy};
+ghost use Rattle.array_core.specs.Performing.{IsLostBy};
+ghost use Rattle.array_core.specs.Switching.{AreLost, HoldMerged, WasOpen, WroteFree};
 
 use crate::leaving::leave_lost;
 use crate::PerformFault;
@@ -52,10 +54,10 @@ pub fn switch_tables<S: Shelf>(
     ensures drives { OnOk result (register.new.record.members.drives ≡ register.new.drives) }
     ensures enough { OnOk result (register.new.record.slots ≤ set_count register.new.drives + 2) }
     ensures dropped { (start : S) → Continues (S.shelf start) (S.shelf shelf.old) → AreLost (S.shelf start) (S.shelf shelf.old) register.old lost.now
-        → DropsFailed (S.shelf start) (S.shelf shelf.new) register.old log.now.members register.new log.now.members }
-    ensures joins { OnOk result (NoneJoins register.old log.now.members register.new log.now.members) }
+        → DropsFailedBy (S.shelf start) (S.shelf shelf.new) register.old log.now.members register.new log.now.members }
+    ensures joins { OnOk result (NoneJoinsBy register.old log.now.members register.new log.now.members) }
     ensures fault { IfErr result (λ e. (e ≡ Device) × ((start : S) → Continues (S.shelf start) (S.shelf shelf.old) → AreLost (S.shelf start) (S.shelf shelf.old) register.old lost.now
-        → IsTooMuch (S.shelf start) (S.shelf shelf.new) register.old log.now.members)) }
+        → IsLostBy (S.shelf start) (S.shelf shelf.new) register.old log.now.members)) }
     // Then the array is open with these tables, and its log is as it was.
     ensures done { (S.shelf shelf.old).honest → OnOk result ((start : S) (held next : Content) → WasOpen (S.shelf start) register.old log.now held → WroteFree (S.shelf start) (S.shelf shelf.old) register.old lost.now held
         → HoldMerged (S.shelf shelf.old) register.old lost.now tables held next

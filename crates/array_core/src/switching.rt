@@ -14,7 +14,9 @@ ghost use Rattle.register.specs.Tables.{with_tables};
 ghost use Rattle.array_core.specs.Losing.{lost_since};
 ghost use Rattle.array_core.specs.Performing.{IsKeptAt};
 ghost use Rattle.array_core.specs.declared.performing.PerformFault.TheVariants.{Device};
-ghost use Rattle.array_core.specs.Switching.{AreLost, DropsFailed, HoldNext, IsTooMuch, NoneJoins, OnSlotsAndLog, WasOpen, WroteFree};
+ghost use Rattle.array_core.specs.Holding.{DropsFailedBy, NoneJoinsBy};
+ghost use Rattle.array_core.specs.Performing.{IsLostBy};
+ghost use Rattle.array_core.specs.Switching.{AreLost, HoldNext, OnSlotsAndLog, WasOpen, WroteFree};
 
 use crate::clearing::clear_log;
 use crate::leaving::leave_lost;
@@ -57,10 +59,10 @@ pub fn switch<S: Shelf>(
     ensures flushed { OnOk result (log.new.flushed ≡ register.new.record.flushed) }
     ensures cleared { OnOk result ((log.new.count ≡ 0) × IsSome log.new.members × Keeps log.new []) }
     ensures dropped { (start : S) → Continues (S.shelf start) (S.shelf shelf.old) → AreLost (S.shelf start) (S.shelf shelf.old) register.old lost.now
-        → DropsFailed (S.shelf start) (S.shelf shelf.new) register.old log.old.members register.new log.new.members }
-    ensures joins { OnOk result (NoneJoins register.old log.old.members register.new log.new.members) }
+        → DropsFailedBy (S.shelf start) (S.shelf shelf.new) register.old log.old.members register.new log.new.members }
+    ensures joins { OnOk result (NoneJoinsBy register.old log.old.members register.new log.new.members) }
     ensures fault { IfErr result (λ e. (e ≡ Device) × ((start : S) → Continues (S.shelf start) (S.shelf shelf.old) → AreLost (S.shelf start) (S.shelf shelf.old) register.old lost.now
-        → IsTooMuch (S.shelf start) (S.shelf shelf.new) register.old log.old.members)) }
+        → IsLostBy (S.shelf start) (S.shelf shelf.new) register.old log.old.members)) }
     // Then the array is open with these tables, and the log is empty.
     ensures done { (S.shelf shelf.old).honest → OnOk result ((start : S) (held next : Content) → WasOpen (S.shelf start) register.old log.old held → WroteFree (S.shelf start) (S.shelf shelf.old) register.old lost.now held
         → HoldNext (S.shelf shelf.old) register.old lost.now tables held next

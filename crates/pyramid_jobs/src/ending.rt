@@ -13,7 +13,9 @@ ghost use Rattle.array_core.specs.Ready.{IsArrayOf, IsReady, is_spent};
 ghost use Rattle.array_core.specs.Losing.{lost_since};
 ghost use Rattle.array_core.specs.Performing.{IsKeptAt};
 ghost use Rattle.array_core.specs.declared.performing.PerformFault.TheVariants.{Device};
-ghost use Rattle.array_core.specs.Switching.{AreLost, DropsFailed, HoldMerged, IsTooMuch, NoneJoins, WasOpen, WroteFree};
+ghost use Rattle.array_core.specs.Holding.{DropsFailedBy, NoneJoinsBy};
+ghost use Rattle.array_core.specs.Performing.{IsLostBy};
+ghost use Rattle.array_core.specs.Switching.{AreLost, HoldMerged, WasOpen, WroteFree};
 ghost use Rattle.array_checkpoint.specs.Made.{HoldOnLeft};
 ghost use Rattle.pyramid_jobs.specs.Made.{HasMerged};
 ghost use Rattle.pyramid_jobs.specs.Prepared.{held_after, IsPreparedFor};
@@ -45,10 +47,10 @@ pub(crate) fn take_over<S: Shelf>(
     ensures merged { OnOk result (HasMerged (geometry_of (S.shelf shelf.old)) table index array.old array.new) }
     ensures unfinished { OnErr result (array.new.memory ≡ array.old.memory) }
     ensures fault { IfErr result (λ e. (e ≡ Device) × ((start : S) → Continues (S.shelf start) (S.shelf shelf.old) → AreLost (S.shelf start) (S.shelf shelf.old) array.old.register lost.now.drives
-        → IsTooMuch (S.shelf start) (S.shelf shelf.new) array.old.register array.old.log.members)) }
+        → IsLostBy (S.shelf start) (S.shelf shelf.new) array.old.register array.old.log.members)) }
     ensures dropped { (start : S) → Continues (S.shelf start) (S.shelf shelf.old) → AreLost (S.shelf start) (S.shelf shelf.old) array.old.register lost.now.drives
-        → DropsFailed (S.shelf start) (S.shelf shelf.new) array.old.register array.old.log.members array.new.register array.new.log.members }
-    ensures joins { OnOk result (NoneJoins array.old.register array.old.log.members array.new.register array.new.log.members) }
+        → DropsFailedBy (S.shelf start) (S.shelf shelf.new) array.old.register array.old.log.members array.new.register array.new.log.members }
+    ensures joins { OnOk result (NoneJoinsBy array.old.register array.old.log.members array.new.register array.new.log.members) }
     // Memory reads as the same array.
     ensures reads { OnOk result ((contents : Contents) (a : plain.Array) → ReadsAs contents array.old.memory.memory a → ReadsAs contents array.new.memory.memory a) }
     ensures segments { (S.shelf shelf.old).honest → OnOk result ((contents : Contents) → HoldOnLeft (S.shelf shelf.old) array.old.register lost.now.drives contents (facts array.old.memory.memory.tables)

@@ -12,7 +12,7 @@ use Rattle.register.proofs.FlagLemmas.{same_flags}
 use Rattle.register.proofs.Moments.{stands_at, gives_at}
 use Rattle.array_core.specs.declared.performing.PerformFault.{PerformFault}
 use Rattle.array_core.specs.declared.performing.PerformFault.TheVariants.{Device}
-use Rattle.array_core.specs.Switching.{IsTooMuch}
+use Rattle.array_core.specs.Performing.{IsLostBy}
 use Rattle.array_core.proofs.Cleared.{all_moments, clear_moments, clearing, logged_left, still_open}
 use Rattle.array_core.proofs.LostOnWay.{drives_lost, rises_since}
 use Rattle.array_core.proofs.Tables.{still_holds}
@@ -74,9 +74,9 @@ returns-in_err-store-clause-lost g c =
       | inr rose ↦ inr (rises_since a m n n c.clear.ensures.ran.on.continues (continues_refl n) i rose)
     ] in
     let low : now.record.generation + 1 < 2 ^ 48 = omega (arith, c.store.ensures.few, c.requires.not_spent) in
-    let lost : IsTooMuch a n r c.args.log.now.members =
+    let lost : IsLostBy a n r c.args.log.now.members =
     inr (drives_lost a n r now (ap (λ (b : BootRecord). b.slots) c.store.ensures.later.rest) dropped low c.in_err-store.field-0.0 c.in_err-store.ensures.fault) in
-    subst (λ (t : Result (Unit {0}) PerformFault). IfErr t (λ e. (e ≡ Device) × IsTooMuch a n r c.args.log.now.members)) (sym q.1) (q.2, lost)
+    subst (λ (t : Result (Unit {0}) PerformFault). IfErr t (λ e. (e ≡ Device) × IsLostBy a n r c.args.log.now.members)) (sym q.1) (q.2, lost)
 
 pub returns-in_err-store-clause-any_moment : goal.returns-in_err-store-clause-any_moment
 returns-in_err-store-clause-any_moment g c h commands next o empty keeps holds =

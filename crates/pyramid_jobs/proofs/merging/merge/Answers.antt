@@ -7,8 +7,7 @@ use Rattle.array_core.specs.Going.{Calls}
 use Rattle.array_core.proofs.Losses.{same_geometry}
 use Rattle.array_core.proofs.Steps.{hands, lost_halts, same_meanwhile}
 use Rattle.array_core.proofs.Stages.{err_is}
-use Rattle.array_checkpoint.proofs.Like.{like_itself}
-use Rattle.array_checkpoint.proofs.Joined.{counted_now, counted_since, drops, err_on, joins, was_open}
+use Rattle.array_checkpoint.proofs.Joined.{counted_now, counted_since, err_on, was_open}
 use Rattle.pyramid_jobs.specs.declared.fault.MergeFault.{MergeFault}
 use Rattle.pyramid_jobs.specs.Made.{IsFaultOf}
 use Rattle.pyramid_jobs.specs.Prepared.{held_after}
@@ -43,7 +42,7 @@ returns-clause-goes g c =
     record {
       ran = record { continues = continues_trans on c.take_over.ensures.continues; counted = λ h. counted_since on (c.write_prepared.ensures.moments h) (c.take_over.ensures.moments (on.honest h)) };
       is_of = x.is_of;
-      hands_on = hands a n was now (drops was was (like_itself was) a n now (c.take_over.ensures.dropped c.args.shelf.now on w.lost)) (joins was was (like_itself was) now x.joins);
+      hands_on = hands a n was now (c.take_over.ensures.dropped c.args.shelf.now on w.lost) x.joins;
       accepted = λ contents z r. tt;
       reads = λ contents z r. record { more = contents; reads = x.reads contents z r; hold = λ h hold. x.segments (on.honest h) contents (w.contents h contents hold) };
       holds = λ h z holds.
