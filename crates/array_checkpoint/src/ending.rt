@@ -22,9 +22,7 @@ ghost use Rattle.array_checkpoint.specs.Prepared.{IsPreparedFor};
 ghost use Rattle.array_checkpoint.specs.Made.{contents_after, facts_after, held_after, HasFlushed, HoldOnLeft};
 
 use crate::preparing::Prepared;
-use array_core::PerformFault;
-use array_core::Array;
-use array_core::switch;
+use array_core::{Array, PerformFault, switch};
 use pur_base::Lost;
 use world::Shelf;
 

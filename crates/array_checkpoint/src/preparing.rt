@@ -20,15 +20,15 @@ ghost use Rattle.array_core.specs.Ready.{IsArrayOf, is_spent};
 ghost use Rattle.array_checkpoint.specs.Prepared.{IsLike, IsPreparedFor};
 ghost use Rattle.array_checkpoint.specs.Room.{HasGroups};
 
-use array_memory::{Memory, Plan};
 use array_core::Array;
+use array_memory::{Memory, Plan};
 use boot_codec::Patches;
-use table_plan::segments_for;
 use free_space::map_of;
 use pur_base::NoMemory;
 use record_tables::{next_patches, patches_have_facts, segments_of, take_units};
 use register::Tables;
 use std::alloc::Global;
+use table_plan::segments_for;
 use unit_map::UnitMap;
 
 /// What a checkpoint writes and stores.

@@ -13,8 +13,7 @@ ghost use Rattle.array_checkpoint.specs.Prepared.{IsPreparedFor};
 ghost use Rattle.array_checkpoint.specs.Made.{contents_after, facts_after, held_after, HoldOnLeft};
 
 use crate::preparing::Prepared;
-use array_core::Array;
-use array_core::free_writes_go_on;
+use array_core::{Array, free_writes_go_on};
 use boot_codec::DRIVE_FLAGS;
 use checkpoint_io::write_checkpoint;
 use pur_base::{Lost, NoMemory};

@@ -20,8 +20,7 @@ ghost use Rattle.array_core.specs.declared.performing.PerformFault.TheVariants.{
 ghost use Rattle.array_core.specs.Holding.{DropsFailed, NoneJoins};
 ghost use Rattle.array_core.specs.Performing.{IsLost, IsKeptAt, StandsOnceBack, without_or_with};
 
-use crate::PerformFault;
-use crate::Array;
+use crate::{Array, PerformFault};
 use nvram_log::Record;
 use pur_base::{Request, Sector};
 use world::Shelf;

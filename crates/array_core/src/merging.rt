@@ -18,8 +18,8 @@ ghost use Rattle.array_core.specs.Holding.{DropsFailedBy, NoneJoinsBy};
 ghost use Rattle.array_core.specs.Performing.{IsLostBy};
 ghost use Rattle.array_core.specs.Switching.{AreLost, HoldMerged, WasOpen, WroteFree};
 
-use crate::leaving::leave_lost;
 use crate::PerformFault;
+use crate::leaving::leave_lost;
 use boot_codec::DRIVE_FLAGS;
 use nvram_log::NvLog;
 use register::{Register, Tables};

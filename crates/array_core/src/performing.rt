@@ -21,9 +21,9 @@ ghost use Rattle.array_core.specs.Going.{by_faults};
 ghost use Rattle.array_core.specs.Goes.{Goes, Halts};
 ghost use Rattle.array_core.specs.Performing.{HasLogged, HasNumbers, StandsOnceBack, without_or_with};
 
+use crate::Array;
 use crate::commit::commit;
 use array_memory::Memory;
-use crate::Array;
 use nvram_log::BothLost;
 use pur_base::{Request, Sector};
 use register::StoreFault;

@@ -18,9 +18,9 @@ ghost use Rattle.array_core.specs.Holding.{DropsFailedBy, NoneJoinsBy};
 ghost use Rattle.array_core.specs.Performing.{IsLostBy};
 ghost use Rattle.array_core.specs.Switching.{AreLost, HoldNext, OnSlotsAndLog, WasOpen, WroteFree};
 
+use crate::PerformFault;
 use crate::clearing::clear_log;
 use crate::leaving::leave_lost;
-use crate::PerformFault;
 use boot_codec::DRIVE_FLAGS;
 use nvram_log::NvLog;
 use register::{Register, Tables};

@@ -23,8 +23,7 @@ ghost use Rattle.array_engine.specs.Replying.{ends_lost};
 ghost use Rattle.array_engine.specs.declared.appending.AppendFault.TheVariants.{Device};
 
 use array_checkpoint::{CheckpointFault, Room, RoomFault, check_room, checkpoint};
-use array_core::{PerformFault, perform};
-use array_core::Array;
+use array_core::{Array, PerformFault, perform};
 use pur_base::{Request, Sector};
 use std::alloc::Global;
 use world::Shelf;

@@ -10,10 +10,10 @@ use crate::limits::ELIDED_SEGMENTS;
 use crate::loading::are_apart;
 use crate::memory::Memory;
 use crate::plan::Eliding;
-use table_plan::{Witness, copied, elide_segments, unfound};
 use pur_base::{ElisionFact, NoMemory, Table};
 use pyramid::{Patch, Pyramid};
 use std::alloc::Global;
+use table_plan::{Witness, copied, elide_segments, unfound};
 
 /// Takes facts into a table of which nothing is flushed.
 fn insert_each(facts: &[ElisionFact], table: &mut Pyramid<ElisionFact>) -> Result<(), NoMemory>

@@ -10,7 +10,6 @@ ghost use Rattle.array_memory.specs.Kept.{IsKept};
 use crate::limits::{STAGED_SECTORS, UNFLUSHED_OBJECTS};
 use address_table::{AddressTable, UNFLUSHED_ADDRESSES};
 use boot_codec::NextNumbers;
-use table_plan::Witness;
 use elision::Elided;
 use medium_table::MediumTable;
 use object_table::ObjectTable;
@@ -19,6 +18,7 @@ use pyramid::Pyramid;
 use segment_table::SegmentTable;
 use std::alloc::Global;
 use std::marker::Model;
+use table_plan::Witness;
 
 /// The numbers that an array without facts gives next.
 const FIRST: NextNumbers = NextNumbers {

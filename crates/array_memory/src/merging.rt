@@ -6,9 +6,9 @@ ghost use Rattle.table_plan.specs.Merging.{memory_with, patch_count, table_of, I
 ghost use Rattle.array_memory.specs.Plan.{with_patch_rooms, HasNoLessPatchRoom};
 
 use crate::memory::Memory;
-use table_plan::Merged;
 use pur_base::{NoMemory, Table};
 use std::alloc::Global;
+use table_plan::Merged;
 
 impl Memory {
     /// How many patches a table has.

@@ -5,10 +5,10 @@ ghost use Rattle.memory_spec.specs.Memory.{Memory};
 ghost use Rattle.array_memory.specs.Plan.{AreCounts, IsPlanFor};
 
 use boot_codec::NextNumbers;
-use table_plan::Witness;
 use elision::Elided;
 use pur_base::{AddressFact, ElisionFact, Fact, MediumFact, ObjectFact, SegmentFact};
 use pyramid::Patch;
+use table_plan::Witness;
 
 /// Which staged sectors a checkpoint places: those that a newest unflushed address names.
 #[derive(Drop)]

@@ -15,13 +15,13 @@ use crate::limits::STAGED_SECTORS;
 use crate::memory::Memory;
 use crate::plan::{Eliding, Placing, Plan, facts_of};
 use boot_codec::NextNumbers;
-use table_plan::{Witness, flagged, flags, new_segments, places, repointed_facts};
 use pur_base::{
     AddressFact, ElisionFact, MediumFact, NoMemory, ObjectFact, Places, SEGMENT_SECTORS,
     SegmentFact,
 };
 use pyramid::Patch;
 use std::alloc::Global;
+use table_plan::{Witness, flagged, flags, new_segments, places, repointed_facts};
 
 /// The new patch of each table, if there is one.
 #[derive(Drop)]

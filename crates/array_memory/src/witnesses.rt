@@ -7,11 +7,9 @@ ghost use Rattle.array_memory.specs.Named.{is_named, names, names_at, unnamed};
 
 use crate::memory::Memory;
 use crate::plan::Eliding;
-use table_plan::{
-    Witness, new_witnesses, place_in, place_of, stands_in, with_found, witness_of,
-};
 use pur_base::{AddressFact, NoMemory, Table};
 use std::alloc::Global;
+use table_plan::{Witness, new_witnesses, place_in, place_of, stands_in, with_found, witness_of};
 
 impl Memory {
     /// Whether the witness's address names a sector of the segment.

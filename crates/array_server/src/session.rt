@@ -6,8 +6,8 @@ ghost use Rattle.session_spec.specs.Ends.{RisesIf, is_source, is_sink};
 ghost use Rattle.session_spec.specs.Headline.{Survives};
 ghost use Rattle.array_server.specs.Serving.{IsServeStatus};
 
-use array_engine::{Engine, ReadBuffers};
 use crate::answering::answer_all;
+use array_engine::{Engine, ReadBuffers};
 use pur_base::Status;
 use request_codec::{Reader, ReplyWriter};
 use std::alloc::Global;

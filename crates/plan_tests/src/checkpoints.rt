@@ -1,9 +1,5 @@
 ghost use Rattle.std.specs.Prelude.{◌≡◌, length};
 
-use table_plan::{
-    Witness, copied, elide_segments, flagged, flags, new_segments, new_witnesses, place_of, places,
-    segments_for, unfound, with_found,
-};
 use elision::Elided;
 use pur_base::{
     AddressFact, ElisionFact, Location, MediumId, NoMemory, Place, SEGMENT_SHARDS, SegmentFact,
@@ -11,6 +7,10 @@ use pur_base::{
 };
 use std::alloc::Global;
 use std::process::Abort;
+use table_plan::{
+    Witness, copied, elide_segments, flagged, flags, new_segments, new_witnesses, place_of, places,
+    segments_for, unfound, with_found,
+};
 
 fn fact(sector: u32, segment: u64, index: u16) -> AddressFact {
     AddressFact {

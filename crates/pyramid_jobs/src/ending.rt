@@ -21,9 +21,7 @@ ghost use Rattle.pyramid_jobs.specs.Made.{HasMerged};
 ghost use Rattle.pyramid_jobs.specs.Prepared.{held_after, IsPreparedFor};
 
 use crate::preparing::Prepared;
-use array_core::PerformFault;
-use array_core::Array;
-use array_core::switch_tables;
+use array_core::{Array, PerformFault, switch_tables};
 use pur_base::{Lost, Table};
 use world::Shelf;
 

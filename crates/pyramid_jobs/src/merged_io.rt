@@ -12,13 +12,13 @@ ghost use Rattle.table_plan.specs.Merging.{merged_facts};
 ghost use Rattle.pyramid_jobs.specs.Written.{FactsStand, OnOne, OneMayBeWritten, OneStands, OthersStayOfOne};
 
 use boot_codec::{Patch, Patches};
-use table_plan::{Merged, facts_of};
 use parity72::{DATA_SHARDS, SHARD_BYTES};
 use patch_io::write_patch;
 use pur_base::{Lost, NoMemory};
 use segment_codec::STRIPES;
 use segment_io::{RUN_ROOM, StripeData};
 use std::alloc::Global;
+use table_plan::{Merged, facts_of};
 use world::Shelf;
 
 // Room for the stripes of a segment.

@@ -9,11 +9,11 @@ ghost use Rattle.pyramid_jobs.specs.Prepared.{IsPreparedFor};
 use array_core::Array;
 use boot_codec::{NextNumbers, Patches};
 use free_space::map_of;
-use table_plan::Merged;
 use pur_base::{NoMemory, Table};
 use record_tables::{Pair, joined_patches, merged_has_facts, segments_for, take_units};
 use register::Tables;
 use std::alloc::Global;
+use table_plan::Merged;
 
 /// What a merge writes and stores.
 #[derive(Drop)]

@@ -10,9 +10,9 @@ ghost use Rattle.record_tables.specs.Patches.{new_patch};
 use crate::laws::has_facts;
 use crate::patches::{NextPatches, push_new};
 use boot_codec::Patches;
-use table_plan::Merged;
 use pur_base::{NoMemory, Places, Table};
 use std::alloc::Global;
+use table_plan::Merged;
 
 /// A table's patch of an index and the next one, as a record names them.
 #[derive(Clone, Copy, Debug, PartialEq, Eq)]

@@ -29,8 +29,12 @@ returns-clause-ran g c =
     let size : length c.as_bytes.result.now ≡ SECTOR_BYTES = omega (arith, c.as_bytes.ensures.len, ap length c.as_bytes.ensures.bytes) in
     ran_behind_read c.args.device c.args.at size (g.met.S.Shelf.is_shelf c.args.shelf.now) g.met.S.Shelf.shelf_rest_stays c.read-answer.ensures.time c.read-answer.ensures.others c.read-answer.ensures.rest c.read-answer.ensures.device
     c.write_synced.ensures.ran
-    (λ h k i w. (w.0, w.1, not_shut_on c.args.at _ _ _ _ (c.write_synced.ensures.ran.on.continues.faults c.args.device)
-    (not_shut c.read-answer.result c.args.at SECTOR_BYTES c.read-answer.new.into _ _ c.read-answer.ensures.counts (omega arith) h c.read-answer.ensures.bytes opens)))
+    (λ h k i w. (
+      w.0,
+      w.1,
+      not_shut_on c.args.at _ _ _ _ (c.write_synced.ensures.ran.on.continues.faults c.args.device)
+          (not_shut c.read-answer.result c.args.at SECTOR_BYTES c.read-answer.new.into _ _ c.read-answer.ensures.counts (omega arith) h c.read-answer.ensures.bytes opens),
+    ))
 
 pub returns-clause-any_moment : goal.returns-clause-any_moment
 returns-clause-any_moment g c h =

@@ -23,7 +23,7 @@ pub returns-clause-ran : goal.returns-clause-ran
 returns-clause-ran g c =
     let size : length c.as_bytes.result.now ≡ SECTOR_BYTES = ap length c.as_bytes.ensures.bytes ∙ c.as_bytes.ensures.len in
     ran_more (λ d is. is) (λ d i w. subst (λ (n : ℕ). OnMembers c.args.members.now (gate_place (slot_in c.args.slot)) n d i) size
-        (subst (λ (a : ℕ). OnMembers c.args.members.now a (length c.as_bytes.result.now) d i) c.gate.ensures w)) c.write_members.ensures.ran
+    (subst (λ (a : ℕ). OnMembers c.args.members.now a (length c.as_bytes.result.now) d i) c.gate.ensures w)) c.write_members.ensures.ran
 
 pub returns-clause-fewer : goal.returns-clause-fewer
 returns-clause-fewer g c i is =

@@ -26,7 +26,7 @@ returns-clause-outcome g c d lt =
 pub returns-clause-ran : goal.returns-clause-ran
 returns-clause-ran g c =
     ran_more (λ d is. is) (λ d i w. subst (λ (n : ℕ). OnMembers c.args.members.now (body_place (slot_in c.args.slot)) n d i) c.requires.size
-        (subst (λ (a : ℕ). OnMembers c.args.members.now a (length c.args.body.now) d i) c.body.ensures w)) c.write_members.ensures.ran
+    (subst (λ (a : ℕ). OnMembers c.args.members.now a (length c.args.body.now) d i) c.body.ensures w)) c.write_members.ensures.ran
 
 pub returns-clause-any_moment : goal.returns-clause-any_moment
 returns-clause-any_moment g c h missing clean closed =
