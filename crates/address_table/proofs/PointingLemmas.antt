@@ -15,15 +15,7 @@ use Rattle.pyramid.proofs.DistinctLemmas.{Differ, differ_layers, differ_same}
 use Rattle.pyramid.proofs.NewestLemmas.{newest_found}
 use Rattle.address_table.specs.Addresses.{number, stands_in, is_current, is_pointing, IsVisible}
 use Rattle.address_table.proofs.AddressLemmas.{visible_newest}
-
--- what a filter keeps passes
-passes : {X : Type 0} (p : X → Bool) (xs : List X) (f : X) → Contains (filter p xs) f → p f ≡ true
-passes p [] f c = absurd (omega (arith, c.1))
-passes {X} p (x ∷ xs) f c = one (p x) refl (λ d. passes p xs f d) c
-  where
-    one : (b : Bool) → p x ≡ b → (Contains (filter p xs) f → p f ≡ true) → Contains (if b then x ∷ filter p xs else filter p xs) f → p f ≡ true
-    one true e inner d = elim (either x f (filter p xs) d) [ inl same ↦ ap p same ∙ e | inr more ↦ inner more ]
-    one false e inner d = inner d
+use Rattle.pyramid.proofs.ShownLemmas.{passes_filter}
 
 -- what is visible is one of the facts, of that key
 pub visible_is : (facts : List AddressFact) (elided : ℕ → Bool) (k : ℕ) (g : AddressFact) → says address_key number never facts elided k ≡ Some g → Contains facts g × (address_key g ≡ k)
@@ -65,7 +57,7 @@ pointing ps us elided segment h f = (forth, back)
 
     forth : Contains (filter (is_pointing (facts_of ps ++ us) elided segment) (facts_of ps ++ us)) f → IsVisible (facts_of ps ++ us) elided f × IsTrue (stands_in segment f.target)
     forth c =
-        let p = both (stands_in segment f.target) (is_current (facts_of ps ++ us) elided f) (passes (is_pointing (facts_of ps ++ us) elided segment) (facts_of ps ++ us) f c) in (
+        let p = both (stands_in segment f.target) (is_current (facts_of ps ++ us) elided f) (passes_filter (is_pointing (facts_of ps ++ us) elided segment) (facts_of ps ++ us) f c) in (
           current_visible (facts_of ps ++ us) elided f (differ_layers address_key number ps us h.ascend h.ordered h.rises) (of_filter (is_pointing (facts_of ps ++ us) elided segment) (facts_of ps ++ us) f c) p.1,
           p.0,
         )

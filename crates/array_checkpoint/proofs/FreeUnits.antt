@@ -17,7 +17,7 @@ use Rattle.free_space.specs.Laws.{AreUnitsToTake}
 use Rattle.free_space.specs.Map.{is_member}
 use Rattle.memory_spec.specs.Tables.{facts}
 use Rattle.memory_spec.specs.Memory.{Memory}
-use Rattle.memory_spec.proofs.Lists.{of_each}
+use Rattle.memory_spec.proofs.Lists.{of_each, contains_at}
 use Rattle.array_memory.specs.declared.plan.Counts.{Counts}
 use Rattle.array_memory.specs.declared.plan.Plan.{Plan}
 use Rattle.array_memory.specs.Plan.{units_of}
@@ -33,7 +33,7 @@ use Rattle.checkpoint_io.specs.Storing.{OnCheckpoint, OthersStayOfCheckpoint}
 use Rattle.record_tables.specs.Units.{AreNewUnits}
 use Rattle.array_core.proofs.Keeping.{both_not}
 use Rattle.array_checkpoint.proofs.Stays.{SparesUsed}
-use Rattle.array_checkpoint.proofs.UnitLists.{in_at, in_get}
+use Rattle.array_checkpoint.proofs.UnitLists.{in_at}
 use Rattle.array_checkpoint.proofs.Units.{data_among}
 use Rattle.array_checkpoint.proofs.PatchUnits.{part_among}
 
@@ -97,7 +97,7 @@ module _ (boot : BootRecord) (m : Memory) (p : Plan) (counts : Counts) (first : 
       (of_each (AreUnitsToTake boot (facts m.tables)) (units_of p ++ units) (places_in p.segments.items number) new.each (data_among p units number less)) device i on
   only_free_bytes device i (inr (index, q, at, (part, less, on))) =
       free_byte boot (facts m.tables) (places_of_part q part)
-      (of_each (AreUnitsToTake boot (facts m.tables)) (units_of p ++ units) (places_of_part q part) new.each (part_among p counts first units long q part (in_get (added_patches counts first units) index q at) less)) device i on
+      (of_each (AreUnitsToTake boot (facts m.tables)) (units_of p ++ units) (places_of_part q part) new.each (part_among p counts first units long q part (contains_at (added_patches counts first units) index q at) less)) device i on
 
   -- no unit that a segment uses is written
   pub spares_used : SparesUsed boot (facts m.tables) (OnCheckpoint p.segments.items (added_patches counts first units))

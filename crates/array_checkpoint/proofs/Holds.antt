@@ -11,7 +11,7 @@ use Rattle.pur_base.specs.Keys.{key_of}
 use Rattle.pur_base.specs.Visible.{is_elided}
 use Rattle.pur_base.specs.declared.request.Table.TheVariants as table
 use Rattle.pur_base.proofs.SaysLemmas.{says_is}
-use Rattle.memory_spec.proofs.Lists.{each_by_recursion, same_some}
+use Rattle.memory_spec.proofs.Lists.{each_by_recursion}
 use Rattle.pur_base.specs.Visible.{segment}
 use Rattle.pur_base.specs.declared.facts.AnyFact.{AnyFact}
 use Rattle.pur_base.specs.declared.facts.SegmentFact.{SegmentFact}
@@ -34,6 +34,7 @@ use Rattle.record_tables.specs.Laws.{HaveFacts, new_facts}
 use Rattle.record_tables.specs.Patches.{added_patches, by_tag}
 use Rattle.record_tables.proofs.Named.{added_are_named, added_patches_zip}
 use Rattle.record_tables.proofs.Visible.{old_or_new}
+use Rattle.array_spec.proofs.Mediums.{same_some}
 
 -- ---- lists
 

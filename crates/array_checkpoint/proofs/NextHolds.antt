@@ -36,7 +36,6 @@ use Rattle.array_core.specs.Free.{WritesFree}
 use Rattle.array_core.proofs.Kept.{free_writes_leave}
 use Rattle.array_core.specs.declared.array.Array.{Array}
 use Rattle.array_core.specs.Ready.{IsArrayOf, IsReady}
-use Rattle.array_core.proofs.Losses.{same_geometry}
 use Rattle.array_core.specs.Switching.{HoldNext}
 use Rattle.array_checkpoint.specs.declared.preparing.Prepared.{Prepared}
 use Rattle.array_checkpoint.specs.Prepared.{IsPreparedFor}
@@ -48,9 +47,10 @@ use Rattle.array_checkpoint.proofs.Next.{same_segment}
 use Rattle.array_checkpoint.proofs.NextRecord.{record_of_memory, tables_are}
 use Rattle.array_checkpoint.proofs.ShownUnits.{shows_patch}
 use Rattle.array_checkpoint.proofs.Stays.{tables_hold}
-use Rattle.array_checkpoint.proofs.UnitLists.{in_get}
 use Rattle.array_checkpoint.proofs.Units.{new_segment}
 use Rattle.array_checkpoint.proofs.Wrote.{Wrote}
+use Rattle.memory_spec.proofs.Lists.{contains_at}
+use Rattle.register.proofs.Rounds.{same_shelf}
 
 -- the plan is a checkpoint of memory
 pub checkpointed : (x : Array) (q : Prepared) → IsPreparedFor x q → (shelf : Shelved) (held : Content) (ready : IsReady shelf x held) → IsCheckpointed ready.contents (contents_after x.memory.memory q.plan ready.contents) x.memory.memory (after_plan x.memory.memory q.plan)
@@ -79,7 +79,7 @@ module _ (a b : Shelved) (is : IsShelf a) (is_b : IsShelf b) (honest : a.honest)
         w.facts_stand i p fs (subst (λ (ps : List Patch). slice_get ps i ≡ Some p) (sym h.added) at) to members
         (shows_patch (geometry_of a) (bytes_of b) left lost members among (not_lost x.register (bytes_of b) lost left fewer)
         (enough_then a b x q of h on lost w left fewer members among enough) x.register.record x.memory.memory q.plan h.units (own_size a x of) h.free
-        h.counts x.memory.memory.next.patch_segment h.wanted p (in_get (added_patches h.counts x.memory.memory.next.patch_segment h.units) i p at))
+        h.counts x.memory.memory.next.patch_segment h.wanted p (contains_at (added_patches h.counts x.memory.memory.next.patch_segment h.units) i p at))
 
     patches_then : PatchesStand members (with_tables x.register.record q.tables) (patches (after_plan x.memory.memory q.plan).tables)
     patches_then =
@@ -110,7 +110,7 @@ module _ (a b : Shelved) (is : IsShelf a) (is_b : IsShelf b) (honest : a.honest)
   next_stands =
       checkpoint_data_holds (geometry_of b) left (bytes_of b) (with_tables x.register.record q.tables) ready.contents (contents_after x.memory.memory q.plan ready.contents)
       x.memory.memory (after_plan x.memory.memory q.plan) (array_of held) ready.reads (checkpointed x q h a held ready)
-      (subst (λ (g : Geometry). IsRecordOfMemory g (with_tables x.register.record q.tables) (after_plan x.memory.memory q.plan)) (same_geometry on) (record_of_memory (geometry_of a) x q of h)) written_on
+      (subst (λ (g : Geometry). IsRecordOfMemory g (with_tables x.register.record q.tables) (after_plan x.memory.memory q.plan)) (same_shelf on) (record_of_memory (geometry_of a) x q of h)) written_on
 
 -- so the next tables hold the array, with nothing in the log
 pub holds_next : (a b : Shelved) → IsShelf a → IsShelf b → a.honest → (x : Array) (q : Prepared) → IsArrayOf (geometry_of a) x → IsPreparedFor x q → Continues a b → (lost : List Bool)

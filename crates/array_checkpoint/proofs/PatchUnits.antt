@@ -21,7 +21,7 @@ use Rattle.free_space.specs.Laws.{AreUnitsToTake}
 use Rattle.pyramid.specs.Layers.{patch_facts, patches_of}
 use Rattle.memory_spec.specs.Tables.{facts}
 use Rattle.memory_spec.specs.Memory.{Memory}
-use Rattle.memory_spec.proofs.Lists.{each_by_recursion, of_each}
+use Rattle.memory_spec.proofs.Lists.{each_by_recursion, of_each, contains_at}
 use Rattle.checkpoint_spec.specs.Whole.{IsNamed}
 use Rattle.array_memory.specs.declared.plan.Counts.{Counts}
 use Rattle.array_memory.specs.declared.plan.Plan.{Plan}
@@ -37,10 +37,11 @@ use Rattle.record_tables.specs.Laws.{HaveFacts, new_facts, with_patches}
 use Rattle.record_tables.specs.Patches.{added_patches, by_tag, counts_of, segments_of, FitRecord}
 use Rattle.record_tables.specs.Units.{AreNewUnits}
 use Rattle.record_tables.proofs.Lawful.{added_by_tag, next_patches_are_lawful, next_woven}
-use Rattle.record_tables.proofs.Lists.{all_append, all_back, all_weaker, pairs_across, pairs_back}
+use Rattle.record_tables.proofs.Lists.{all_weaker, pairs_across, pairs_back}
 use Rattle.record_tables.proofs.Named.{added_are_named, added_take_the_units}
-use Rattle.array_checkpoint.proofs.UnitLists.{flat_in, flat_long, flat_own, flat_two, in_at, in_get, pairs_two, woven_second, zip_with}
+use Rattle.array_checkpoint.proofs.UnitLists.{flat_in, flat_long, flat_own, flat_two, in_at, pairs_two, woven_second, zip_with}
 use Rattle.array_checkpoint.proofs.Units.{StandApart, data_in, new_apart, stand_back}
+use Rattle.array_spec.proofs.Used.{all_append, all_append_right}
 
 -- ---- the units of patches
 
@@ -73,7 +74,7 @@ added_are_lawful slots units counts first places fit long lawful ids few =
 
 -- units that the next record may name
 pub lawful_places : (boot : BootRecord) (m : Memory) (p : Plan) (units : List (List Place)) → AreNewUnits boot (facts m.tables) (units_of p ++ units) → AllByRecursion (sound.ArePlaces (shelf_of boot)) units
-lawful_places boot m p units new = all_weaker (AreUnitsToTake boot (facts m.tables)) (sound.ArePlaces (shelf_of boot)) (λ u t. t.lawful) units (all_back (AreUnitsToTake boot (facts m.tables)) (units_of p) units new.each)
+lawful_places boot m p units new = all_weaker (AreUnitsToTake boot (facts m.tables)) (sound.ArePlaces (shelf_of boot)) (λ u t. t.lawful) units (all_append_right (AreUnitsToTake boot (facts m.tables)) (units_of p) units new.each)
 
 -- the facts of a patch are lawful, and their keys ascend
 abbrev AreLawfulFacts : List AnyFact → Type 0
@@ -113,7 +114,7 @@ module _ (shelf : Shelved) (boot : BootRecord) (m : Memory) (p : Plan) (counts :
 
   data_apart : (i : ℕ) (q : Patch) → slice_get Added i ≡ Some q → LieApartOf p.segments.items q
   data_apart i q at number part j k l less low few slots =
-      pairs_across StandApart (units_of p) (flat_map patch_places Added) all_apart _ _ (data_in p number l) (flat_in patch_places Added q (places_of_part q part) (in_get Added i q at) (part_in q part less)) j k low few slots
+      pairs_across StandApart (units_of p) (flat_map patch_places Added) all_apart _ _ (data_in p number l) (flat_in patch_places Added q (places_of_part q part) (contains_at Added i q at) (part_in q part less)) j k low few slots
 
   module _ (size : geometry_of shelf ≡ shelf_of boot) (fit : FitRecord counts) (ids : first + length units < NUMBER_LIMIT) (few : length units ≤ PATCH_SEGMENTS) where
     headed : AllByRecursion (MayBeHeaded shelf) Added

@@ -17,8 +17,8 @@ use Rattle.array_spec.specs.Base.{BaseStands}
 use Rattle.array_spec.specs.Meaning.{TablesStand}
 use Rattle.array_spec.specs.Sound.{ArePlaces}
 use Rattle.array_spec.specs.Stored.{all_facts}
-use Rattle.array_spec.proofs.Fewer.{places_keep}
-use Rattle.array_spec.proofs.Quiet.{bytes_same}
+use Rattle.array_spec.proofs.Fewer.{places_keep, places_count}
+use Rattle.array_spec.proofs.Quiet.{bytes_same, in_unit}
 use Rattle.array_spec.proofs.Moves.{Keeps, SameUnit, same_units_keep}
 use Rattle.array_spec.proofs.Used.{data_is_used}
 use Rattle.array_spec.proofs.Votes.{counted}
@@ -35,6 +35,7 @@ use Rattle.memory_spec.specs.Memory.{Contents}
 use Rattle.checkpoint_spec.specs.Contents.{AreAmong, ContentsStand}
 use Rattle.session_spec.specs.Entering.{read_now}
 use Rattle.array_core.specs.Drives.{drives_view}
+use Rattle.stored_spec.proofs.Next.{counted_alike}
 
 -- ---- what segments hold
 
@@ -47,12 +48,6 @@ as_many : (o : Option (List ℕ)) (old : List ℕ) → is_none (shown_then o old
 unfolding shown_then
 as_many None old = refl
 as_many (Some bytes) old = refl
-
-counted_alike : (p q : ℕ → Bool) (a n : ℕ) → ((i : ℕ) → p i ≡ q i) → count_by p (range_with_len a n) ≡ count_by q (range_with_len a n)
-counted_alike p q a n same = ap (λ (f : ℕ → Bool). count_by f (range_with_len a n)) (λ i x. same x i)
-
-in_unit : (at unit n : ℕ) → n < 16 → 65536 * unit + 4096 * n ≤ at → at < 65536 * unit + 4096 * n + 4096 → at / 65536 ≡ unit
-in_unit at unit n below from_there to_there = omega (arith, below, from_there, to_there)
 
 -- no byte of a unit that a segment uses is written
 abbrev pub SparesUsed : BootRecord → Facts → (Device → ℕ → Type 0) → Type 0
@@ -125,35 +120,6 @@ tables_hold mid r nvrams held is honest stands members among enough =
     ]) enough
 
 -- ---- few drives are missing
-
--- a number in a range and those above it count at most as the range
-split_count : (f : ℕ → Bool) (a n b m : ℕ) → a ≤ b → b < a + n → b + 1 + m ≡ a + n → cond (f b) 1 0 + count_by f (range_with_len (b + 1) m) ≤ count_by f (range_with_len a n)
-split_count f a zero b m low high is = absurd (omega (arith, low, high))
-split_count f a (suc n) b m low high is =
-    rw (counted f a (range_with_len (a + 1) n))
-    (elim (cases_eq a b) [
-      | inl e ↦
-          let k : m ≡ n = omega (arith, e, is) in
-          subst (λ x. cond (f x) 1 0 + count_by f (range_with_len (x + 1) m) ≤ cond (f a) 1 0 + count_by f (range_with_len (a + 1) n)) e
-          (subst (λ x. cond (f a) 1 0 + count_by f (range_with_len (a + 1) x) ≤ cond (f a) 1 0 + count_by f (range_with_len (a + 1) n)) (sym k) (omega arith))
-      | inr other ↦
-          let rest : cond (f b) 1 0 + count_by f (range_with_len (b + 1) m) ≤ count_by f (range_with_len (a + 1) n) =
-          split_count f (a + 1) n b m (omega (arith, low, other)) (omega (arith, high)) (omega (arith, is)) in
-          omega (arith, rest)
-    ])
-
--- places on ascending slots count at most as the slots do
-places_count : (slots units : ℕ) (f : ℕ → Bool) (ps : List Place) (a n : ℕ) → a + n ≡ slots → AscendFrom slots units a ps
-    → count_by (λ p. f p.slot) ps ≤ count_by f (range_with_len a n)
-places_count slots units f [] a n is ascend = omega arith
-places_count slots units f (p ∷ ps) a n is ascend =
-    let h : p.slot < slots = ascend.1.slot in
-    let m : p.slot + 1 + (a + n - (p.slot + 1)) ≡ a + n = omega (arith, h, is) in
-    let one : cond (f p.slot) 1 0 + count_by f (range_with_len (p.slot + 1) (a + n - (p.slot + 1))) ≤ count_by f (range_with_len a n) =
-    split_count f a n p.slot (a + n - (p.slot + 1)) ascend.0 (omega (arith, h, is)) m in
-    let rest : count_by (λ x. f x.slot) ps ≤ count_by f (range_with_len (p.slot + 1) (a + n - (p.slot + 1))) =
-    places_count slots units f ps (p.slot + 1) (a + n - (p.slot + 1)) (m ∙ is) ascend.2 in
-    rw (counted (λ x. f x.slot) p ps) (omega (arith, one, rest))
 
 -- at most two of nine units are on drives that are missing, where no more are of the shelf
 pub few_missing : (shelf : Geometry) (members : View) (places : List Place) → ArePlaces shelf places → AreEnough shelf members → count_by (λ place. is_none (members (drive place.slot))) places ≤ 2

@@ -8,15 +8,13 @@ use Rattle.std.proofs.lemmas.Option.{same_Some, slice_get_within, get_or_from_sl
 use Rattle.pyramid.proofs.ContainsLemmas.{either, nowhere}
 use Rattle.record_tables.proofs.Lists.{pairs_across, pairs_back, pairs_front}
 use Rattle.record_tables.proofs.Woven.{Woven}
+use Rattle.memory_spec.proofs.Lists.{contains_at}
 
 -- ---- elements
 
 -- what stands at a place of a list is in it
 pub in_at : {X : Type 0} (xs : List X) (i : ℕ) (d : X) → i < length xs → Contains xs (get_or xs i d)
 in_at xs i d l = (i, l, get_or_default xs i (get_or xs i d) d l)
-
-pub in_get : {X : Type 0} (xs : List X) (i : ℕ) (x : X) → slice_get xs i ≡ Some x → Contains xs x
-in_get xs i x e = (i, slice_get_within xs i x e, get_or_from_slice_get xs i x x e)
 
 module _ {A B : Type 0} (f : A → List B) where
   pub flat_in : (xs : List A) (x : A) (b : B) → Contains xs x → Contains (f x) b → Contains (flat_map f xs) b
@@ -52,9 +50,9 @@ module _ {X : Type 0} (R : X → X → Type 0) (back : (x y : X) → R x y → R
   flat_two f [] i j x y a b h other at to c e = absurd (cc)
   flat_two f (z ∷ xs) zero zero x y a b h other at to c e = absurd (other refl)
   flat_two f (z ∷ xs) zero (suc j) x y a b h other at to c e =
-      pairs_across R (f z) (flat_map f xs) h a b (subst (λ w. Contains (f w) a) (sym (same_Some z x at)) c) (flat_in f xs y b (in_get xs j y to) e)
+      pairs_across R (f z) (flat_map f xs) h a b (subst (λ w. Contains (f w) a) (sym (same_Some z x at)) c) (flat_in f xs y b (contains_at xs j y to) e)
   flat_two f (z ∷ xs) (suc i) zero x y a b h other at to c e =
-      back b a (pairs_across R (f z) (flat_map f xs) h b a (subst (λ w. Contains (f w) b) (sym (same_Some z y to)) e) (flat_in f xs x a (in_get xs i x at) c))
+      back b a (pairs_across R (f z) (flat_map f xs) h b a (subst (λ w. Contains (f w) b) (sym (same_Some z y to)) e) (flat_in f xs x a (contains_at xs i x at) c))
   flat_two f (z ∷ xs) (suc i) (suc j) x y a b h other at to c e =
       flat_two f xs i j x y a b (pairs_back R (f z) (flat_map f xs) h) (λ same. other (ap suc same)) at to c e
 

@@ -23,14 +23,8 @@ use Rattle.boot_region.proofs.ShownLemmas.{shown_body}
 use Rattle.register.specs.declared.state.Register.{Register}
 use Rattle.register.specs.Registers.{drives_of, own_slot, next_slot, named_sound}
 use Rattle.register.specs.Standing.{Content, IsOpen}
-use Rattle.register.proofs.Resting.{yields_or}
-
-count_none : (p : ℕ → Bool) (a n : ℕ) → ((i : ℕ) → a ≤ i → i < a + n → p i ≡ false) → count_by p (range_with_len a n) ≡ 0
-count_none p a zero all = refl
-count_none p a (suc n) all =
-    let first : p a ≡ false = all a (omega arith) (omega arith) in
-    let rest : count_by p (range_with_len (a + 1) n) ≡ 0 = count_none p (a + 1) n (λ i low lt. all i (omega (arith, low)) (omega (arith, lt))) in
-    rw (counted p a (range_with_len (a + 1) n)) (rw first (omega (arith, rest)))
+use Rattle.boot_region.proofs.StillGiven.{yields_or}
+use Rattle.boot_region.proofs.Stored.{count_none}
 
 module _ (shelf : Shelved) (is : IsShelf shelf) (r : Register) (nvrams : List Bool) (content : Content) (o : IsOpen shelf r nvrams content) (image : Image) (later : Conditions) (within : IsWithin (named_sound r.record) later)
     (shown_is : (i : ℕ) → IsMember (drives_of r) i → (slot : BootSlot) → shown_by slot (image (drive i)) ≡ shown_by slot (shelf.disk (drive i)).bytes) where

@@ -39,17 +39,20 @@ use Rattle.register.proofs.Shows.{holds_shows}
 use Rattle.array_core.specs.Logging.{LeadTo, StandsWhateverFails, WritesLog}
 use Rattle.array_core.proofs.Between as between
 use Rattle.array_core.proofs.Logged.{log_writes_stand, log_writes_keep, log_writes_leave}
-use Rattle.array_core.proofs.Standing.{is_named, is_left, member_clean, member_sound}
+use Rattle.array_core.proofs.Standing.{member_clean, member_sound}
 use Rattle.session_spec.specs.Entering.{IsStanding}
 use Rattle.array_core.specs.Ready.{logged}
 use Rattle.array_core.specs.Losing.{lost_since, lost_by}
 use Rattle.array_core.specs.Performing.{IsKeptAt, without_or_with}
 use Rattle.array_core.proofs.Agreeing.{agreed_standing, named_bears}
 use Rattle.array_core.proofs.Commands.{is_of_all}
-use Rattle.array_core.proofs.Losses.{same_geometry, sound_since, left_out_since, by_stop, fewer_borne, bearable_or_not}
+use Rattle.array_core.proofs.Losses.{sound_since, by_stop, fewer_borne, bearable_or_not}
 use Rattle.array_core.proofs.Logged.{nothing_else}
 use Rattle.array_core.proofs.Keeping.{kept}
-use Rattle.register.proofs.Again.{both}
+use Rattle.nvram_log.proofs.SettledEach.{both_leave}
+use Rattle.register.proofs.Opened.{is_left, is_named}
+use Rattle.register.proofs.Rounds.{same_shelf}
+use Rattle.session_spec.proofs.Conditions.{left_out_once}
 
 -- what a stop leaves of NVRAM devices, with the drives as they are
 abbrev nvrams_at : Shelved → Stop → Image
@@ -104,7 +107,7 @@ module _ (a : Shelved) (r : Register) (members : List Bool) (held : Content) (mo
     can_go_on arrays stands = record {
       stands = stands;
       left_out = λ d out slot boot g.
-          let not : names r.record d ≡ false = is_left (names r.record d) (left_out_since (failed d) (named_sound r.record d) out) in
+          let not : names r.record d ≡ false = is_left (names r.record d) (left_out_once (failed d) (named_sound r.record d) out) in
           unnamed (names boot d) (λ e. both_not (names r.record d) ((given slot boot g).fewer d e) not);
       read = λ slot boot g n i c e shows. shown_in_force boot (given slot boot g) n i c e shows;
     }
@@ -202,7 +205,7 @@ module _ (a m : Shelved) (r : Register) (members now : List Bool) (held : Conten
       arrays (stands later within bears)
 
   pub append_moments : LeavesOnly a m (IsKeptAt a r.record arrays)
-  append_moments = weaker (λ stop all. kept a r.record arrays stop (λ d. (all.1.1.bytes d).is_byte) (while_appending stop (all.0, all.1.0, all.1.1))) (both p.left (both stand p.writes.any_moment))
+  append_moments = weaker (λ stop all. kept a r.record arrays stop (λ d. (all.1.1.bytes d).is_byte) (while_appending stop (all.0, all.1.0, all.1.1))) (both_leave p.left (both_leave stand p.writes.any_moment))
 
   -- ---- afterwards
 
@@ -222,16 +225,16 @@ module _ (a m : Shelved) (r : Register) (members now : List Bool) (held : Conten
         drive_is i mem = drive_left i mem (stop.image (drive i)) (subst (λ (d : Disk). MayLeave d (stop.image (drive i))) (p.same i) (may.device (drive i)))
 
         given_then : MayBeGiven (geometry_of m) stop.image later (own_slot r.record) r.record
-        given_then = subst (λ (g : Geometry). MayBeGiven g stop.image later (own_slot r.record) r.record) (same_geometry p.on)
+        given_then = subst (λ (g : Geometry). MayBeGiven g stop.image later (own_slot r.record) r.record) (same_shelf p.on)
             (between.given a p.is p.honest r members held p.was_open stop.image later within bears drive_is)
 
         alone_then : (slot2 : BootSlot) (boot2 : BootRecord) → MayBeGiven (geometry_of m) stop.image later slot2 boot2 → (slot2 ≡ own_slot r.record) × (boot2 ≡ r.record)
         alone_then slot2 boot2 g =
             between.alone a p.is p.honest r members held p.was_open stop.image later within bears drive_is slot2 boot2
-            (subst (λ (k : Geometry). MayBeGiven k stop.image later slot2 boot2) (sym (same_geometry p.on)) g)
+            (subst (λ (k : Geometry). MayBeGiven k stop.image later slot2 boot2) (sym (same_shelf p.on)) g)
 
         pub stands_then : Stands (geometry_of m) stop.image later arrays
-        stands_then = subst (λ (g : Geometry). Stands g stop.image later arrays) (same_geometry p.on)
+        stands_then = subst (λ (g : Geometry). Stands g stop.image later arrays) (same_shelf p.on)
             ((stand.each stop (p.is_mid.counts_now a.moment stop p.on.later may)).1 later within bears)
 
       pub in_force : IsInForceOn m (drives_of r) later (next_slot r.record) r.record
@@ -272,7 +275,7 @@ module _ (a m : Shelved) (r : Register) (members now : List Bool) (held : Conten
 
       left_out_not : (n : ℕ) → lost_since a m (named_sound r.record) (nvram n) ≡ LeftOut → ¬ (nv.IsMember now n)
       left_out_not n out mem =
-          let was = left_out_since (has_risen (a.disk (nvram n)).write_faults (m.disk (nvram n)).write_faults) (named_sound r.record (nvram n)) out in
+          let was = left_out_once (has_risen (a.disk (nvram n)).write_faults (m.disk (nvram n)).write_faults) (named_sound r.record (nvram n)) out in
           let named : names r.record (nvram n) ≡ true = subst (λ (l : List Bool). nv.IsMember l n) (sym p.was_open.nvrams_are) (p.fewer n mem) in
           absurd (cc (named, is_left (names r.record (nvram n)) was))
 
@@ -284,7 +287,7 @@ module _ (a m : Shelved) (r : Register) (members now : List Bool) (held : Conten
         one_of = second;
         sound = still_member;
         left_out = left_out_not;
-        unnamed = λ i out. is_left (names r.record (drive i)) (left_out_since (has_risen (a.disk (drive i)).write_faults (m.disk (drive i)).write_faults) (named_sound r.record (drive i)) out);
+        unnamed = λ i out. is_left (names r.record (drive i)) (left_out_once (has_risen (a.disk (drive i)).write_faults (m.disk (drive i)).write_faults) (named_sound r.record (drive i)) out);
       }
 
       next_alike : (boot : BootRecord) → IsNextOf r now boot → IsAlike r.record boot
@@ -316,26 +319,26 @@ module _ (a m : Shelved) (r : Register) (members now : List Bool) (held : Conten
             let later = lost_by a stop (named_sound r.record) in
             let account : AccountsFor m (drives_of r) lost (next_slot r.record) (spelling r.record) stop.faults stop.write_faults later = record {
               within = by_stop a m stop (named_sound r.record) both.1.counts;
-              bearable = subst (λ (g : Geometry). IsBearable g later) (same_geometry p.on) borne;
+              bearable = subst (λ (g : Geometry). IsBearable g later) (same_shelf p.on) borne;
               writes = λ i mem s.
                   let none = (sound_since (has_risen (a.disk (drive i)).write_faults (stop.write_faults (drive i))) (named_sound r.record (drive i)) s).1 in
                   inr (subst (λ (d : Disk). has_risen d.write_faults (stop.write_faults (drive i)) ≡ false) (sym (p.same i)) none);
               reads = λ i mem s. inl (older i mem);
             } in
             can_go_on a r members held most p.was_open p.in_force stop.image failed (λ n i d lt mem x. (still_between stop both.1 n lt mem).no_other i d x)
-            (λ slot boot g. elim (both.0.1 later account slot boot (subst (λ (k : Geometry). MayBeGiven k stop.image later slot boot) (same_geometry p.on) g)) [
+            (λ slot boot g. elim (both.0.1 later account slot boot (subst (λ (k : Geometry). MayBeGiven k stop.image later slot boot) (same_shelf p.on) g)) [
               | inl was ↦ same_alike r.record boot (alone_then lost lost_within bears was.start was.may slot boot was.given).1
               | inr next ↦ next_alike boot next
             ])
             arrays
-            (subst (λ (g : Geometry). Stands g stop.image later arrays) (sym (same_geometry p.on)) (both.0.0 later account))
+            (subst (λ (g : Geometry). Stands g stop.image later arrays) (sym (same_shelf p.on)) (both.0.0 later account))
 
     module _ (n : Shelved) {W : Device → ℕ → Type 0} (off : (k i : ℕ) → W (nvram k) i → ⊥) (writes : WritesOnly W m n)
         (storing : (missing : Conditions) (held : Content) (others : List Array) → MayStore m r now missing held others → LeavesOnly m n (StandsBut m (drives_of r) missing (next_slot r.record) r.record others))
         (giving : (missing : Conditions) (held : Content) (others : List Array) → MayStore m r now missing held others → LeavesOnly m n (GivesOldOrNext m r now missing)) where
       store_moments : LeavesOnly m n (IsKeptAt a r.record arrays)
       store_moments = elim (bearable_or_not (geometry_of a) (lost_since a m (named_sound r.record))) [
-        | inl bears ↦ weaker (λ stop both. kept a r.record arrays stop (λ d. (both.1.bytes d).is_byte) (while_storing bears off stop both)) (both (both (storing lost (logged held c) arrays (may_store bears)) (giving lost (logged held c) arrays (may_store bears))) writes.any_moment)
+        | inl bears ↦ weaker (λ stop both. kept a r.record arrays stop (λ d. (both.1.bytes d).is_byte) (while_storing bears off stop both)) (both_leave (both_leave (storing lost (logged held c) arrays (may_store bears)) (giving lost (logged held c) arrays (may_store bears))) writes.any_moment)
         | inr not ↦ weaker (λ stop left now agrees borne.
             let named = named_bears r.record now agrees (λ d. has_risen (a.disk d).write_faults (stop.write_faults d)) (geometry_of a) borne in
             absurd (not (fewer_borne (geometry_of a) lost (lost_by a stop (named_sound r.record)) (by_stop a m stop (named_sound r.record) left.counts) named))) writes.any_moment

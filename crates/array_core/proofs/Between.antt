@@ -31,12 +31,11 @@ use Rattle.nvram_log.specs.Slots.{IsBetween}
 use Rattle.register.specs.declared.state.Register.{Register}
 use Rattle.register.specs.Registers.{drives_of, own_slot, next_slot, named_sound}
 use Rattle.register.specs.Standing.{Content, IsOpen}
-use Rattle.register.proofs.Follows.{left_before}
-use Rattle.register.proofs.Resting.{yields_or}
 use Rattle.array_core.specs.Logging.{LeadTo}
-use Rattle.array_core.proofs.Standing.{is_named, is_left}
 use Rattle.array_core.proofs.Reopened.{not_spent, nvram_named}
 use Rattle.array_core.proofs.Alone.{alone_in, held}
+use Rattle.array_spec.proofs.UnflushedRead.{was_left_out}
+use Rattle.register.proofs.Opened.{is_left, is_named}
 
 module _ (shelf : Shelved) (is : IsShelf shelf) (h : shelf.honest) (r : Register) (nvrams : List Bool) (content : Content) (o : IsOpen shelf r nvrams content) (image : Image) (later : Conditions)
     (within : IsWithin (named_sound r.record) later) (bears : IsBearable (geometry_of shelf) later)
@@ -70,7 +69,7 @@ module _ (shelf : Shelved) (is : IsShelf shelf) (h : shelf.honest) (r : Register
 
   -- and one that was left out is none of the record's
   pub not_named : (n : ℕ) → later (nvram n) ≡ LeftOut → names r.record (nvram n) ≡ false
-  not_named n out = is_left (names r.record (nvram n)) (left_before (named_sound r.record (nvram n)) (later (nvram n)) (within (nvram n)) out)
+  not_named n out = is_left (names r.record (nvram n)) (was_left_out (named_sound r.record (nvram n)) (later (nvram n)) (within (nvram n)) out)
 
   -- the devices show a log between these
   module _ (least most : List Command) (arrays : List Array) (to : LeadTo r content.base least most arrays)
@@ -93,7 +92,7 @@ module _ (shelf : Shelved) (is : IsShelf shelf) (h : shelf.honest) (r : Register
     }
 
     none_left_out : NamesNoneLeftOut later r.record
-    none_left_out d out = is_left (names r.record d) (left_before (named_sound r.record d) (later d) (within d) out)
+    none_left_out d out = is_left (names r.record d) (was_left_out (named_sound r.record d) (later d) (within d) out)
 
     pub stands : Stands (geometry_of shelf) image later arrays
     stands = held_stands (geometry_of shelf) image later (own_slot r.record) r.record arrays is.drives.0 bears to.some o.logged.is_of.lawful holds

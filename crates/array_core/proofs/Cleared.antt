@@ -30,19 +30,22 @@ use Rattle.nvram_log.specs.Members as nv
 use Rattle.register.specs.declared.state.Register.{Register}
 use Rattle.register.specs.Registers.{OnSlots, drives_of, own_slot, next_slot, named_sound}
 use Rattle.register.specs.Standing.{Content, GivesOldOrNext, StandsInLog, MayStore, IsOpen, array_of}
-use Rattle.register.proofs.Again.{both}
 use Rattle.register.proofs.Shows.{holds_shows}
 use Rattle.array_core.specs.Logging.{LeadTo, StandsWhateverFails, WritesLog}
 use Rattle.array_core.proofs.Between as between
 use Rattle.array_core.proofs.Logged.{log_writes_stand, log_writes_keep, log_writes_leave}
-use Rattle.array_core.proofs.Standing.{is_named, is_left, member_clean, member_sound}
+use Rattle.array_core.proofs.Standing.{member_clean, member_sound}
 use Rattle.array_core.specs.Losing.{lost_since, lost_by}
 use Rattle.array_core.specs.Performing.{IsKeptAt}
-use Rattle.array_core.proofs.Losses.{same_geometry, sound_since, left_out_since}
+use Rattle.array_core.proofs.Losses.{sound_since}
 use Rattle.array_core.proofs.FreeWrites.{log_member, off_slots}
 use Rattle.array_core.proofs.Logged.{nothing_else}
 use Rattle.array_core.proofs.Keeping.{IsReadable, KeptNamed, both_not, goes_on, kept}
 use Rattle.array_core.proofs.Storing as storing
+use Rattle.nvram_log.proofs.SettledEach.{both_leave}
+use Rattle.register.proofs.Opened.{is_left, is_named}
+use Rattle.register.proofs.Rounds.{same_shelf}
+use Rattle.session_spec.proofs.Conditions.{left_out_once}
 
 -- what a stop leaves of NVRAM devices, with the drives as they are
 abbrev nvrams_at : Shelved → Stop → Image
@@ -115,7 +118,7 @@ module _ (a m : Shelved) (r : Register) (members now : List Bool) (held : Conten
       (stands later within borne)
 
   pub clear_moments : LeavesOnly a m (IsKeptAt a r.record (array_of held ∷ []))
-  clear_moments = weaker (λ stop x. kept a r.record arrays stop (λ d. (x.1.1.bytes d).is_byte) (while_clearing stop x.0 x.1.0 x.1.1)) (both p.left (both stand p.writes.any_moment))
+  clear_moments = weaker (λ stop x. kept a r.record arrays stop (λ d. (x.1.1.bytes d).is_byte) (while_clearing stop x.0 x.1.0 x.1.1)) (both_leave p.left (both_leave stand p.writes.any_moment))
 
   -- ---- afterwards
 
@@ -148,16 +151,16 @@ module _ (a m : Shelved) (r : Register) (members now : List Bool) (held : Conten
         drive_is i mem = drive_left i mem (stop.image (drive i)) (subst (λ (d : Disk). MayLeave d (stop.image (drive i))) (p.same i) (may.device (drive i)))
 
         given_then : MayBeGiven (geometry_of m) stop.image (lost_since a m (named_sound r.record)) (own_slot r.record) r.record
-        given_then = subst (λ (g : Geometry). MayBeGiven g stop.image (lost_since a m (named_sound r.record)) (own_slot r.record) r.record) (same_geometry p.on)
+        given_then = subst (λ (g : Geometry). MayBeGiven g stop.image (lost_since a m (named_sound r.record)) (own_slot r.record) r.record) (same_shelf p.on)
             (between.given a p.is p.honest r members held p.was_open stop.image (lost_since a m (named_sound r.record)) lost_within bears drive_is)
 
         alone_then : (slot2 : BootSlot) (boot2 : BootRecord) → MayBeGiven (geometry_of m) stop.image (lost_since a m (named_sound r.record)) slot2 boot2 → boot2 ≡ r.record
         alone_then slot2 boot2 g =
             (between.alone a p.is p.honest r members held p.was_open stop.image (lost_since a m (named_sound r.record)) lost_within bears drive_is slot2 boot2
-            (subst (λ (k : Geometry). MayBeGiven k stop.image (lost_since a m (named_sound r.record)) slot2 boot2) (sym (same_geometry p.on)) g)).1
+            (subst (λ (k : Geometry). MayBeGiven k stop.image (lost_since a m (named_sound r.record)) slot2 boot2) (sym (same_shelf p.on)) g)).1
 
         stands_then : Stands (geometry_of m) stop.image (lost_since a m (named_sound r.record)) arrays
-        stands_then = subst (λ (g : Geometry). Stands g stop.image (lost_since a m (named_sound r.record)) arrays) (same_geometry p.on)
+        stands_then = subst (λ (g : Geometry). Stands g stop.image (lost_since a m (named_sound r.record)) arrays) (same_shelf p.on)
             ((stand.each stop (p.is_mid.counts_now a.moment stop p.on.later may)).1 (lost_since a m (named_sound r.record)) lost_within bears)
 
       in_force : IsInForceOn m (drives_of r) (lost_since a m (named_sound r.record)) (next_slot r.record) r.record
@@ -184,7 +187,7 @@ module _ (a m : Shelved) (r : Register) (members now : List Bool) (held : Conten
       left_out_not : (n : ℕ) → lost_since a m (named_sound r.record) (nvram n) ≡ LeftOut → ¬ (nv.IsMember now n)
       left_out_not n out mem =
           let named : names r.record (nvram n) ≡ true = subst (λ (l : List Bool). nv.IsMember l n) (sym p.was_open.nvrams_are) (p.fewer n mem) in
-          both_not (names r.record (nvram n)) named (is_left (names r.record (nvram n)) (left_out_since (has_risen (a.disk (nvram n)).write_faults (m.disk (nvram n)).write_faults) (named_sound r.record (nvram n)) out))
+          both_not (names r.record (nvram n)) named (is_left (names r.record (nvram n)) (left_out_once (has_risen (a.disk (nvram n)).write_faults (m.disk (nvram n)).write_faults) (named_sound r.record (nvram n)) out))
 
       may_store : MayStore m r now (lost_since a m (named_sound r.record)) held arrays
       may_store = record {
@@ -194,7 +197,7 @@ module _ (a m : Shelved) (r : Register) (members now : List Bool) (held : Conten
         one_of = (0, omega arith, refl);
         sound = still_member;
         left_out = left_out_not;
-        unnamed = λ i out. is_left (names r.record (drive i)) (left_out_since (has_risen (a.disk (drive i)).write_faults (m.disk (drive i)).write_faults) (named_sound r.record (drive i)) out);
+        unnamed = λ i out. is_left (names r.record (drive i)) (left_out_once (has_risen (a.disk (drive i)).write_faults (m.disk (drive i)).write_faults) (named_sound r.record (drive i)) out);
       }
 
     -- a stop while the record is stored

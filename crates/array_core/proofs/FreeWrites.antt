@@ -31,11 +31,11 @@ use Rattle.register.proofs.FlagLemmas.{in_cut, cut_in}
 use Rattle.register.proofs.Stores.{fewer_cut}
 use Rattle.array_core.specs.Free.{OnFree, WritesFree, AreSynced, IsKnownOf}
 use Rattle.array_core.proofs.Kept.{free_writes_may_store}
-use Rattle.array_core.proofs.Standing.{is_named, is_left, member_clean, member_sound, still}
+use Rattle.array_core.proofs.Standing.{member_clean, member_sound, still}
 use Rattle.array_core.specs.Losing.{lost_since, lost_by}
 use Rattle.array_core.specs.Performing.{IsKeptAt}
 use Rattle.array_core.proofs.Commands.{is_of_all}
-use Rattle.array_core.proofs.Losses.{same_geometry, sound_since, left_out_since}
+use Rattle.array_core.proofs.Losses.{sound_since}
 use Rattle.array_core.specs.Meanwhile.{AreInForce, FreeWritesGoOn}
 use Rattle.array_core.specs.Switching.{WroteFree}
 use Rattle.array_core.proofs.Alone.{alone_in}
@@ -43,6 +43,9 @@ use Rattle.array_core.proofs.Storing as storing
 use Rattle.array_core.proofs.Keeping.{IsReadable, KeptNamed, both_not, goes_on, kept}
 use Rattle.array_core.proofs.Logged.{nothing_else}
 use Rattle.array_core.proofs.Kept.{not_free}
+use Rattle.register.proofs.Opened.{is_left, is_named}
+use Rattle.register.proofs.Rounds.{same_shelf}
+use Rattle.session_spec.proofs.Conditions.{left_out_once}
 
 body_low : (slot : BootSlot) → body_place slot + 65536 ≤ 196608
 body_low A = omega arith
@@ -144,7 +147,7 @@ module _ (start m : Shelved) (is : IsShelf start) (is_m : IsShelf m) (h : start.
   sound_named d s = is_named (names was.record d) (sound_since (has_risen (start.disk d).write_faults (m.disk d).write_faults) (named_sound was.record d) s).0
 
   out_unnamed : (d : Device) → lost_since start m (named_sound was.record) d ≡ LeftOut → names was.record d ≡ false
-  out_unnamed d out = is_left (names was.record d) (left_out_since (has_risen (start.disk d).write_faults (m.disk d).write_faults) (named_sound was.record d) out)
+  out_unnamed d out = is_left (names was.record d) (left_out_once (has_risen (start.disk d).write_faults (m.disk d).write_faults) (named_sound was.record d) out)
 
   -- a drive that isn't missing isn't lost
   sound_left : (i : ℕ) → i < start.drives → lost_since start m (named_sound was.record) (drive i) ≡ Sound → IsMember (drives_of now) i
@@ -161,7 +164,7 @@ module _ (start m : Shelved) (is : IsShelf start) (is_m : IsShelf m) (h : start.
 
   known : IsBearable (geometry_of start) (lost_since start m (named_sound was.record)) → IsKnownOf m now members (lost_since start m (named_sound was.record))
   known bears = record {
-    bearable = subst (λ (g : Geometry). IsBearable g (lost_since start m (named_sound was.record))) (same_geometry w.free.continues) bears;
+    bearable = subst (λ (g : Geometry). IsBearable g (lost_since start m (named_sound was.record))) (same_shelf w.free.continues) bears;
     drives = λ i lt s. sound_left i (omega (arith, lt, w.free.continues.drives)) s;
     logs = λ n lt s. subst (λ (l : List Bool). nv.IsMember l n) o.nvrams_are (sound_named (nvram n) s);
     no_log = λ n out mem. both_not (names was.record (nvram n)) (subst (λ (l : List Bool). nv.IsMember l n) (sym o.nvrams_are) mem) (out_unnamed (nvram n) out);
@@ -173,7 +176,7 @@ module _ (start m : Shelved) (is : IsShelf start) (is_m : IsShelf m) (h : start.
 
   pub alone_left : (stop : Stop) (slot : BootSlot) (boot : BootRecord) → MayStop m stop → MayBeGiven (geometry_of m) stop.image (lost_since start m (named_sound was.record)) slot boot → boot ≡ was.record
   alone_left stop slot boot may g = alone_then start is h was members held o stop (left_then start is h was members held o m w.free stop may) (lost_since start m (named_sound was.record)) lost_within slot boot
-      (subst (λ (k : Geometry). MayBeGiven k stop.image (lost_since start m (named_sound was.record)) slot boot) (sym (same_geometry w.free.continues)) g)
+      (subst (λ (k : Geometry). MayBeGiven k stop.image (lost_since start m (named_sound was.record)) slot boot) (sym (same_shelf w.free.continues)) g)
 
   pub older_left : (i : ℕ) → IsMember (drives_of now) i → IsOlder m (next_slot now.record) (spelling now.record) i
   older_left i x = older_then start is h was members held o m w.free now same (λ k y. (fewer k y).0) i x

@@ -7,18 +7,19 @@ use Rattle.pur_base.specs.Commands.{Command, after_all}
 use Rattle.world.specs.Losing.{geometry_of, has_risen}
 use Rattle.world.specs.Shelf.{Shelved, Stop, IsCountedBy, Continues, LeavesOnly}
 use Rattle.world.proofs.Moments.{continues_trans, then_run, weaker}
-use Rattle.register.proofs.Again.{both}
 use Rattle.memory_spec.specs.Memory.{Contents, ReadsAs}
 use Rattle.session_spec.specs.Entering.{IsStanding}
 use Rattle.array_core.specs.declared.array.Array.{Array}
 use Rattle.array_core.specs.Holding.{IsHolder}
 use Rattle.array_core.specs.Losing.{lost_by, lost_since}
-use Rattle.array_core.proofs.Losses.{lost_twice, lost_twice_by, same_geometry, sound_since}
+use Rattle.array_core.proofs.Losses.{lost_twice, lost_twice_by, sound_since}
 use Rattle.array_core.specs.Going.{Calls, Causes, GoesOnAt}
 use Rattle.array_core.specs.Goes.{Goes, GoesOnMeanwhile, Halts, Holds, ReadsOn}
 use Rattle.array_core.proofs.OnWay.{accepted_more, after_more, on_first, on_second}
 use Rattle.array_core.proofs.HandingOn.{agrees_then, hands_on_then}
 use Rattle.array_core.proofs.Lost.{not_risen}
+use Rattle.nvram_log.proofs.SettledEach.{both_leave}
+use Rattle.register.proofs.Rounds.{same_shelf}
 
 -- ---- the frame
 
@@ -53,7 +54,7 @@ module _ (why : Causes) (old mid new : Shelved) (a b : Array) (cs ds : List Comm
     at_second : (stop : Stop) → IsCountedBy mid stop → GoesOnAt why mid b.register.record (after_all x cs) ds stop → GoesOnAt why old a.register.record x (cs ++ ds) stop
     at_second stop counts at now agrees borne =
         let same : lost_by mid stop (lost_since old mid now) ≡ lost_by old stop now = lost_twice_by now on counts in
-        let shelf : geometry_of old ≡ geometry_of mid = same_geometry on in
+        let shelf : geometry_of old ≡ geometry_of mid = same_shelf on in
         let here = at (lost_since old mid now) (agrees_then why old mid a b holds.held there.held holds.ready there.ready first.hands_on now agrees)
         (subst (λ (c : Conditions). IsBearable (geometry_of mid) c) (sym same) (subst (λ (g : Geometry). IsBearable g (lost_by old stop now)) shelf borne)) in
         record {
@@ -65,7 +66,7 @@ module _ (why : Causes) (old mid new : Shelved) (a b : Array) (cs ds : List Comm
 
     moments : Calls mid new → GoesOnMeanwhile why mid new b ds → LeavesOnly old new (GoesOnAt why old a.register.record x (cs ++ ds))
     moments ran next = then_run on (weaker at_first (first.any_moment h x holds))
-        (weaker (λ stop both_are. at_second stop both_are.1 both_are.0) (both (next (on.honest h) (after_all x cs) there) (ran.counted (on.honest h))))
+        (weaker (λ stop both_are. at_second stop both_are.1 both_are.0) (both_leave (next (on.honest h) (after_all x cs) there) (ran.counted (on.honest h))))
 
   pub meanwhile : Calls mid new → GoesOnMeanwhile why mid new b ds → GoesOnMeanwhile why old new a (cs ++ ds)
   meanwhile ran next h x holds = moments h x holds ran next
@@ -117,7 +118,7 @@ module _ (why : Causes) (old mid new : Shelved) (a b : Array) (cs ds : List Comm
     ran = calls_then first.ran next.ran;
     unborne = λ now holders bears. next.unborne (lost_since old mid now) (still_holds now holders)
         (subst (λ (x : Conditions). IsBearable (geometry_of mid) x) (sym (lost_twice now first.ran.continues next.ran.continues))
-        (subst (λ (g : Geometry). IsBearable g (lost_since old new now)) (same_geometry first.ran.continues) bears));
+        (subst (λ (g : Geometry). IsBearable g (lost_since old new now)) (same_shelf first.ran.continues) bears));
     any_moment = meanwhile why old mid new a b cs ds first next.ran next.any_moment;
   }
 

@@ -13,10 +13,11 @@ use Rattle.array_core.specs.declared.array.Array.{Array}
 use Rattle.array_core.specs.Ready.{IsReady}
 use Rattle.array_core.specs.Holding.{IsHolder}
 use Rattle.array_core.specs.Losing.{lost_since}
-use Rattle.array_core.proofs.Losses.{sound_since, left_out_since}
+use Rattle.array_core.proofs.Losses.{sound_since}
 use Rattle.array_core.proofs.Lost.{not_risen}
 use Rattle.array_core.proofs.ReadyStands.{ready_holds, ready_names}
 use Rattle.array_core.specs.Going.{AgreesFor, Causes, HandsOn}
+use Rattle.session_spec.proofs.Conditions.{left_out_once}
 
 pub unless : (b : Bool) → (b ≡ true → ⊥) → b ≡ false
 unless true refuse = absurd (refuse refl)
@@ -79,6 +80,6 @@ module _ (why : Causes) (old mid : Shelved) (a b : Array) (held next : Content) 
         let was = agrees.sound d before.0 in
         (still_named d (hands.leaves d (ready_holds old a held ready d was.0)) before.1 was.1, was.1);
     left_out = λ d e.
-        let was = agrees.left_out d (left_out_since (has_risen (old.disk d).write_faults (mid.disk d).write_faults) (now d) e) in
+        let was = agrees.left_out d (left_out_once (has_risen (old.disk d).write_faults (mid.disk d).write_faults) (now d) e) in
         (unless (names b.register.record d) (λ is. was_unnamed d (hands.named d is) was.0 was.1), was.1);
   }

@@ -17,15 +17,18 @@ use Rattle.world.specs.Writes.{WritesOnly}
 use Rattle.world.proofs.Moments.{weaker}
 use Rattle.boot_region.proofs.Phases.{risen_on_way}
 use Rattle.register.specs.Registers.{named_sound}
-use Rattle.register.proofs.Again.{both, not_risen_since}
-use Rattle.array_core.proofs.Standing.{are_sound, is_named, is_left}
+use Rattle.register.proofs.Again.{not_risen_since}
+use Rattle.array_core.proofs.Standing.{are_sound}
 use Rattle.session_spec.specs.Entering.{IsStanding}
 use Rattle.session_spec.proofs.Conditions.{borne_on, still_sound, left_out_once}
 use Rattle.array_core.specs.Holding.{AgreesWith}
 use Rattle.array_core.specs.Losing.{lost_by}
 use Rattle.array_core.specs.Performing.{IsKeptAt}
 use Rattle.array_core.proofs.Agreeing.{lost_out, unnamed_is, named_bears, agreed_standing, standing_in}
-use Rattle.array_core.proofs.Losses.{same_geometry, sound_since, left_out_since}
+use Rattle.array_core.proofs.Losses.{sound_since}
+use Rattle.nvram_log.proofs.SettledEach.{both_leave}
+use Rattle.register.proofs.Opened.{is_left, is_named}
+use Rattle.register.proofs.Rounds.{same_shelf}
 
 -- ---- what is named
 
@@ -46,7 +49,7 @@ pub goes_on : (shelf : Geometry) (was : BootRecord) (image : Image) (failed : De
     → Stands shelf image (losing failed (named_sound was)) arrays → IsStanding shelf image (losing failed (named_sound was)) arrays
 goes_on shelf was image failed arrays given stands = record {
   stands = stands;
-  left_out = λ d out slot boot g. unnamed (names boot d) (λ e. both_not (names was d) ((given slot boot g).fewer d e) (is_left (names was d) (left_out_since (failed d) (named_sound was d) out)));
+  left_out = λ d out slot boot g. unnamed (names boot d) (λ e. both_not (names was d) ((given slot boot g).fewer d e) (is_left (names was d) (left_out_once (failed d) (named_sound was d) out)));
   read = λ slot boot g n i c e shows. (given slot boot g).read n i c e shows;
 }
 
@@ -103,8 +106,8 @@ module _ (start mid : Shelved) (on : Continues start mid) (was boot : BootRecord
 
   since : ((d : Device) → IsBytes (stop.image d)) → (arrays : List Array) → IsKeptAt mid boot arrays stop → IsStanding (geometry_of start) stop.image (lost_by start stop now) arrays
   since bytes arrays at = standing_in (geometry_of start) stop.image (lost_by mid stop (named_sound boot)) (lost_by start stop now) sounds outs borne bytes arrays
-      (subst (λ (g : Geometry). IsStanding g stop.image (lost_by mid stop (named_sound boot)) arrays) (sym (same_geometry on))
-      (at (named_sound boot) (agrees_itself boot) (subst (λ (g : Geometry). IsBearable g (lost_by mid stop (named_sound boot))) (same_geometry on) bears)))
+      (subst (λ (g : Geometry). IsStanding g stop.image (lost_by mid stop (named_sound boot)) arrays) (sym (same_shelf on))
+      (at (named_sound boot) (agrees_itself boot) (subst (λ (g : Geometry). IsBearable g (lost_by mid stop (named_sound boot))) (same_shelf on) bears)))
 
 pub kept_since : (start mid : Shelved) → Continues start mid → (was boot : BootRecord) → CameAfter start mid was boot → (arrays : List Array) (stop : Stop) → IsCountedBy mid stop → ((d : Device) → IsBytes (stop.image d))
     → IsKeptAt mid boot arrays stop → IsKeptAt start was arrays stop
@@ -114,4 +117,4 @@ kept_since start mid on was boot after arrays stop counts bytes at now agrees bo
 pub run_since : (start mid new : Shelved) → Continues start mid → (was boot : BootRecord) → CameAfter start mid was boot → (arrays : List Array) {W : Device → ℕ → Type 0} → WritesOnly W mid new
     → LeavesOnly mid new (IsKeptAt mid boot arrays) → LeavesOnly mid new (IsKeptAt start was arrays)
 run_since start mid new on was boot after arrays {W} writes all =
-    weaker (λ stop x. kept_since start mid on was boot after arrays stop x.1.counts (λ d. (x.1.bytes d).is_byte) x.0) (both all writes.any_moment)
+    weaker (λ stop x. kept_since start mid on was boot after arrays stop x.1.counts (λ d. (x.1.bytes d).is_byte) x.0) (both_leave all writes.any_moment)

@@ -26,8 +26,9 @@ use Rattle.register.proofs.FlagLemmas.{in_cut, cut_in, not_below}
 use Rattle.array_core.specs.Free.{OnFree, WritesFree, AreSynced, IsKnownOf}
 use Rattle.array_core.specs.Laws.{FreeWritesKeep, FreeWritesLeave, FreeWritesMayStore, PlansStand}
 use Rattle.array_core.proofs.Before.{at_before, before_stops, differs}
-use Rattle.array_core.proofs.Reopened.{not_spent, same_shelf, some, still_open}
+use Rattle.array_core.proofs.Reopened.{not_spent, some, still_open}
 use Rattle.array_core.proofs.Standing.{member_sound, member_clean}
+use Rattle.register.proofs.Rounds.{same_shelf}
 
 -- ---- boot units stay
 

@@ -23,12 +23,13 @@ use Rattle.nvram_log.specs.Members as nv
 use Rattle.register.specs.declared.state.Register.{Register}
 use Rattle.register.specs.Registers.{drives_of, next_slot, own_slot}
 use Rattle.register.specs.Standing.{Content, IsOpen, ShowsOn, StandsInLog}
-use Rattle.register.proofs.Again.{both}
 use Rattle.array_core.specs.Logging.{LeadTo, StandsWhateverFails, WritesLog}
 use Rattle.array_core.specs.Laws.{LogWritesStand, LogWritesKeep, LogWritesLeave}
 use Rattle.array_core.proofs.Between.{stands}
-use Rattle.array_core.proofs.Reopened.{same_shelf, still_open}
+use Rattle.array_core.proofs.Reopened.{still_open}
 use Rattle.array_core.proofs.Standing.{member_clean, member_sound}
+use Rattle.nvram_log.proofs.SettledEach.{both_leave}
+use Rattle.register.proofs.Rounds.{same_shelf}
 
 pub nothing_else : {W : ℕ → Type 0} {disk : Disk} {bytes : List ℕ} → ((i : ℕ) → W i → ⊥) → MayLeaveBut W disk bytes → MayLeave disk bytes
 nothing_else {W} {disk} {bytes} none h = record { size = h.size; is_byte = h.is_byte; clean = λ i out. h.same i out (none i) }
@@ -104,7 +105,7 @@ module _ (old : Shelved) (is : IsShelf old) (h : old.honest) (r : Register) (nvr
 
 pub log_writes_stand : (old new : Shelved) → IsShelf old → LogWritesStand old new
 log_writes_stand old new is h r nvrams held least most arrays o to w =
-    weaker (λ stop at. stands_then old is h r nvrams held o least most arrays to stop at) (both w.between w.writes.any_moment)
+    weaker (λ stop at. stands_then old is h r nvrams held o least most arrays to stop at) (both_leave w.between w.writes.any_moment)
 
 pub log_writes_keep : (old new : Shelved) → IsShelf old → IsShelf new → LogWritesKeep old new
 log_writes_keep old new is is_new h r nvrams held least most log o w shows accepted = is_open old is h r nvrams held o new is_new least most w log shows accepted

@@ -29,7 +29,7 @@ use Rattle.array_core.specs.Performing.{IsLost, LostLog, LostDrives}
 use Rattle.array_core.proofs.Losses.{sound_since}
 
 -- of so many drives each is one of the bad ones, or has a flag
-enough : (bad : ℕ → Bool) (flags : List Bool) (a n : ℕ) → ((i : ℕ) → i < n → (bad (a + i) ≡ true) ⊎ IsMember flags i) → n ≤ count_by bad (range_with_len a n) + count_by (λ b. b) flags
+pub enough : (bad : ℕ → Bool) (flags : List Bool) (a n : ℕ) → ((i : ℕ) → i < n → (bad (a + i) ≡ true) ⊎ IsMember flags i) → n ≤ count_by bad (range_with_len a n) + count_by (λ b. b) flags
 enough bad flags a zero each = omega arith
 enough bad [] a (suc n) each =
     let rest = enough bad [] (a + 1) n (λ i lt. elim (each (suc i) (omega (arith, lt))) [ inl is ↦ inl (subst (λ (k : ℕ). bad k ≡ true) (shifted i) is) | inr m ↦ absurd (cc m) ]) in

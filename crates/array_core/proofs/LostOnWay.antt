@@ -19,7 +19,6 @@ use Rattle.register.specs.Faults.{IsFaultOf}
 use Rattle.register.specs.Registers.{drives_of, named_sound}
 use Rattle.register.specs.Standing.{Content, IsOpen}
 use Rattle.register.proofs.FlagLemmas.{fewer_count, in_cut}
-use Rattle.array_core.proofs.Standing.{is_named}
 use Rattle.array_core.specs.Losing.{lost_since}
 use Rattle.array_core.specs.Performing.{LostDrives, LostLog}
 use Rattle.array_core.proofs.Losses.{sound_since}

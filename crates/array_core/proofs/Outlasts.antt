@@ -22,12 +22,12 @@ use Rattle.register.specs.declared.state.Register.{Register}
 use Rattle.register.specs.Registers.{named_sound}
 use Rattle.register.specs.Standing.{Content, IsFirm, MayStore}
 use Rattle.register.proofs.Stores.{members_sound}
-use Rattle.array_core.proofs.Standing.{is_left}
 use Rattle.array_core.specs.Ready.{logged}
 use Rattle.array_core.specs.Performing.{StandsOnceBack, without_or_with}
 use Rattle.array_core.proofs.Appended as appended
 use Rattle.array_core.proofs.Appended.{IsAppending}
-use Rattle.array_core.proofs.Losses.{same_geometry}
+use Rattle.register.proofs.Opened.{is_left}
+use Rattle.register.proofs.Rounds.{same_shelf}
 
 -- of NVRAM devices the others than these are missing
 abbrev logs_lost : Conditions → List Bool → Conditions
@@ -110,7 +110,7 @@ module _ (a m : Shelved) (r : Register) (members now : List Bool) (held : Conten
 
     firm : IsFirm m r left
     firm = record {
-      bearable = subst (λ g. IsBearable g left) (same_geometry p.on) bears;
+      bearable = subst (λ g. IsBearable g left) (same_shelf p.on) bears;
       sound = λ i mem. members_sound r p.was_open.logged.is_of i mem;
       older = λ i mem s. appended.older a m r members now held c p holds i mem;
     }
@@ -120,5 +120,5 @@ module _ (a m : Shelved) (r : Register) (members now : List Bool) (held : Conten
     store_again n storing = then_run p.on append_again (weaker (λ stop x. record {
       later = x.later;
       within = within_twice (named_sound r.record) left x.later (logs_within (named_sound r.record) now) x.within;
-      stands = subst (λ g. Stands g stop.image x.later arrays) (sym (same_geometry p.on)) x.stands;
+      stands = subst (λ g. Stands g stop.image x.later arrays) (sym (same_shelf p.on)) x.stands;
     }) (storing left (logged held c) arrays may_store firm))

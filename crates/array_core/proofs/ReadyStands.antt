@@ -18,7 +18,6 @@ use Rattle.nvram_log.specs.Members as nv
 use Rattle.register.specs.declared.state.Register.{Register}
 use Rattle.register.specs.Registers.{drives_of, named_sound}
 use Rattle.register.specs.Standing.{Content, IsOpen, array_of}
-use Rattle.array_core.proofs.Standing.{is_named, is_left}
 use Rattle.register.proofs.FlagLemmas.{in_cut, cut_in, none_past}
 use Rattle.session_spec.specs.Entering.{IsStanding, LeftOutAreNamedByNone, AreRead}
 use Rattle.array_core.specs.declared.array.Array.{Array}
@@ -28,7 +27,9 @@ use Rattle.array_core.specs.Losing.{lost_since}
 use Rattle.array_core.proofs.Agreeing.{standing_in, unnamed_is}
 use Rattle.array_core.proofs.Standing.{are_sound}
 use Rattle.array_core.proofs.Commands.{is_of_all}
-use Rattle.array_core.proofs.Losses.{sound_since, left_out_since}
+use Rattle.array_core.proofs.Losses.{sound_since}
+use Rattle.register.proofs.Opened.{is_left, is_named}
+use Rattle.session_spec.proofs.Conditions.{left_out_once}
 
 module _ (shelf : Shelved) (a : Array) (held : Content) (ready : IsReady shelf a held) where
   abbrev r : Register
@@ -125,5 +126,5 @@ agrees_after old new was now held more ready ready_now drops none conditions agr
 
     still_unnamed : (d : Device) → lost_since old new conditions d ≡ LeftOut → names now.register.record d ≡ false
     still_unnamed d e =
-        let before = left_out_since (has_risen (old.disk d).write_faults (new.disk d).write_faults) (conditions d) e in
+        let before = left_out_once (has_risen (old.disk d).write_faults (new.disk d).write_faults) (conditions d) e in
         unnamed (names now.register.record d) (names was.register.record d) (named_before old was held ready now none d) (agrees.left_out d before)

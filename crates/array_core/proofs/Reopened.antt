@@ -21,14 +21,8 @@ use Rattle.register.specs.Registers.{drives_of, named_sound, next_slot, own_slot
 use Rattle.register.specs.Standing.{Content, IsOpen, StandsInLog, array_of}
 use Rattle.register.proofs.Follows.{shows_itself}
 use Rattle.register.proofs.Resting.{in_force, stands, alone}
-use Rattle.array_core.proofs.Standing.{is_named, is_left}
-
--- the shelf has the same size
-pub same_shelf : {old new : Shelved} → Continues old new → geometry_of old ≡ geometry_of new
-same_shelf {old} {new} on =
-    let e : old.drives ≡ new.drives = sym on.drives in
-    let f : old.units ≡ new.units = sym on.units in
-    λ k. record { slots = e k; units = f k }
+use Rattle.register.proofs.Opened.{is_left, is_named}
+use Rattle.register.proofs.Rounds.{same_shelf}
 
 -- ---- the NVRAM devices that are named
 

@@ -22,14 +22,14 @@ use Rattle.register.specs.Registers.{IsLaterRecord, IsRegisterOf, OnSlots, drive
 use Rattle.register.specs.Standing.{Content, IsOpen}
 use Rattle.register.specs.Tables.{IsPlanOf, KeepsArray, with_tables}
 use Rattle.register.proofs.FlagLemmas.{in_cut}
-use Rattle.register.proofs.Rounds.{cut_drives}
+use Rattle.register.proofs.Rounds.{cut_drives, same_shelf}
 use Rattle.array_core.proofs.Kept.{plans_stand}
 use Rattle.array_core.proofs.Standing.{member_clean}
-use Rattle.array_core.proofs.Losses.{same_geometry}
 use Rattle.array_core.specs.Switching.{AreLost}
 use Rattle.array_core.proofs.Keeping.{CameAfter}
 use Rattle.array_core.proofs.LostOnWay.{rises_since}
-use Rattle.array_core.proofs.Moved.{data_moves, only_boot}
+use Rattle.stored_spec.proofs.Next.{data_moves}
+use Rattle.array_core.proofs.Moved.{only_boot}
 
 -- ---- results
 
@@ -37,11 +37,6 @@ use Rattle.array_core.proofs.Moved.{data_moves, only_boot}
 pub ok_if : {T E Q : Type 0} (r : Result T E) → (((P : Type 0) → OnOk r P → P) → Q) → OnOk r Q
 ok_if (Ok t) f = f (λ P p. p)
 ok_if (Err e) f = tt
-
--- what is said of an error says this too
-pub err_if : {T E : Type 0} {P Q : E → Type 0} (r : Result T E) → ((e : E) → P e → Q e) → IfErr r P → IfErr r Q
-err_if (Ok t) f p = tt
-err_if (Err e) f p = f e p
 
 pub err_is : {T E : Type 0} (r : Result T E) (P : E → Type 0) (e : E) → r ≡ Err e → P e → IfErr r P
 err_is r P e is p = subst (λ x. IfErr x P) (sym is) p
@@ -113,7 +108,7 @@ pub plan_at : (a b : Shelved) (is : IsShelf b) (h : b.honest) (on : Continues a 
     → ((n : ℕ) → b.disk (nvram n) ≡ a.disk (nvram n)) → WritesOnly (OnSlots (drives_of was)) a b → HoldsOn b r.record.members.nvrams r.record.flushed held.log → IsPlanOf b r tables held next
 plan_at a b is h on was r members lost tables held next is_of lawful later among stand keeps o same writes logged =
     plans_stand b r tables held next (λ i m. member_clean b is h r members held o i m) logged (keeps_later was r tables held next (ap (λ (x : BootRecord). x.flushed) later.rest) keeps)
-    (subst (λ (g : Geometry). DataHolds g (drives_of r) (λ d. (b.disk d).bytes) (with_tables r.record tables) next.patches next.base) (same_geometry on)
+    (subst (λ (g : Geometry). DataHolds g (drives_of r) (λ d. (b.disk d).bytes) (with_tables r.record tables) next.patches next.base) (same_shelf on)
     (data_moves (geometry_of a) (drives_of r) (drives_of r) (λ d. (a.disk d).bytes) (λ d. (b.disk d).bytes) (with_tables was.record tables) (with_tables r.record tables) next.patches next.base
     (record { lawful = lawful; slots = is_of.lawful.slots; units = is_of.lawful.units }) (ap (λ (x : BootRecord). with_tables x tables) later.rest) (λ i m. m) (only_boot a b (drives_of was) same writes)
     (stand (drives_of r) among)))

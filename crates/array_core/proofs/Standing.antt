@@ -27,14 +27,7 @@ use Rattle.register.proofs.FlagLemmas.{in_cut}
 use Rattle.array_core.specs.Free.{OnFree}
 use Rattle.array_core.specs.Laws.{FreeWritesStand}
 use Rattle.array_core.proofs.Before.{at_before, before_stops, as_before, differs}
-
-pub is_named : (b : Bool) → (if b then Sound else LeftOut) ≡ Sound → b ≡ true
-is_named true e = refl
-is_named false e = absurd (cc e)
-
-pub is_left : (b : Bool) → (if b then Sound else LeftOut) ≡ LeftOut → b ≡ false
-is_left true e = absurd (cc e)
-is_left false e = refl
+use Rattle.register.proofs.Opened.{is_left, is_named}
 
 pub are_sound : (b : Bool) → b ≡ true → (if b then Sound else LeftOut) ≡ Sound
 are_sound true e = refl

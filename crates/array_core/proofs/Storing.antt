@@ -21,12 +21,14 @@ use Rattle.nvram_log.specs.Members as nv
 use Rattle.register.specs.declared.state.Register.{Register}
 use Rattle.register.specs.Registers.{drives_of, named_sound, next_slot}
 use Rattle.register.specs.Standing.{Content, GivesOldOrNext, IsNextOf, IsOpen, MayStore}
-use Rattle.register.proofs.Again.{both, not_risen_since}
+use Rattle.register.proofs.Again.{not_risen_since}
 use Rattle.array_core.specs.Losing.{lost_since, lost_by}
 use Rattle.array_core.specs.Performing.{IsKeptAt}
 use Rattle.array_core.proofs.Agreeing.{named_bears}
-use Rattle.array_core.proofs.Losses.{bearable_or_not, by_stop, fewer_borne, same_geometry, sound_since}
+use Rattle.array_core.proofs.Losses.{bearable_or_not, by_stop, fewer_borne, sound_since}
 use Rattle.array_core.proofs.Keeping.{IsReadable, KeptNamed, goes_on, kept}
+use Rattle.nvram_log.proofs.SettledEach.{both_leave}
+use Rattle.register.proofs.Rounds.{same_shelf}
 
 -- An array that was open at the start, of which a record may be stored in the conditions of now, without devices that lost writes since; what may be given now is its record, and the log is read.
 pub record MayLeave (start m : Shelved) (was r : Register) (members nvrams : List Bool) (held content : Content) (arrays : List Array) (W : Device → ℕ → Type 0) : Type 0 where
@@ -55,14 +57,14 @@ module _ (start m : Shelved) (was r : Register) (members nvrams : List Bool) (he
     account : AccountsFor m (drives_of r) (lost_since start m (named_sound was.record)) (next_slot r.record) (spelling r.record) stop.faults stop.write_faults (lost_by start stop (named_sound was.record))
     account = record {
       within = by_stop start m stop (named_sound was.record) left.counts;
-      bearable = subst (λ (g : Geometry). IsBearable g (lost_by start stop (named_sound was.record))) (same_geometry l.on) borne;
+      bearable = subst (λ (g : Geometry). IsBearable g (lost_by start stop (named_sound was.record))) (same_shelf l.on) borne;
       writes = λ i mem s. inr (not_risen_since (start.disk (drive i)).write_faults (m.disk (drive i)).write_faults (stop.write_faults (drive i)) (l.on.write_faults (drive i)) (left.counts.write_faults (drive i))
           (sound_since (has_risen (start.disk (drive i)).write_faults (stop.write_faults (drive i))) (named_sound was.record (drive i)) s).1);
       reads = λ i mem s. inl (l.older i mem);
     }
 
     readable : (slot : BootSlot) (boot : BootRecord) → MayBeGiven (geometry_of start) stop.image (lost_by start stop (named_sound was.record)) slot boot → IsReadable was.record stop.image boot
-    readable slot boot g = elim (gives (lost_by start stop (named_sound was.record)) account slot boot (subst (λ (k : Geometry). MayBeGiven k stop.image (lost_by start stop (named_sound was.record)) slot boot) (same_geometry l.on) g)) [
+    readable slot boot g = elim (gives (lost_by start stop (named_sound was.record)) account slot boot (subst (λ (k : Geometry). MayBeGiven k stop.image (lost_by start stop (named_sound was.record)) slot boot) (same_shelf l.on) g)) [
       | inl given ↦ subst (λ (b : BootRecord). IsReadable was.record stop.image b) (sym (l.alone bears given.start slot boot given.may given.given)) (record { fewer = λ d e. e; read = l.read stop left })
       | inr next ↦ record {
         fewer = next_names boot next;
@@ -71,7 +73,7 @@ module _ (start m : Shelved) (was r : Register) (members nvrams : List Bool) (he
     ]
 
     stands_then : Stands (geometry_of start) stop.image (lost_by start stop (named_sound was.record)) arrays
-    stands_then = subst (λ (g : Geometry). Stands g stop.image (lost_by start stop (named_sound was.record)) arrays) (sym (same_geometry l.on)) (stands (lost_by start stop (named_sound was.record)) account)
+    stands_then = subst (λ (g : Geometry). Stands g stop.image (lost_by start stop (named_sound was.record)) arrays) (sym (same_shelf l.on)) (stands (lost_by start stop (named_sound was.record)) account)
 
   kept_in_store : (stop : Stop) → LeavesBut W m stop → IsBearable (geometry_of start) (lost_since start m (named_sound was.record))
       → StandsBut m (drives_of r) (lost_since start m (named_sound was.record)) (next_slot r.record) r.record arrays stop → GivesOldOrNext m r nvrams (lost_since start m (named_sound was.record)) stop → KeptNamed start was.record arrays stop
@@ -90,6 +92,6 @@ module _ (start m : Shelved) (was r : Register) (members nvrams : List Bool) (he
       → LeavesOnly m new (IsKeptAt start was.record arrays)
   store_moments new writes storing giving = elim (bearable_or_not (geometry_of start) (lost_since start m (named_sound was.record))) [
     | inl bears ↦ weaker (λ stop x. kept start was.record arrays stop (λ d. (x.1.bytes d).is_byte) (kept_in_store stop x.1 bears x.0.0 x.0.1))
-        (both (both (storing (lost_since start m (named_sound was.record)) content arrays (l.may bears)) (giving (lost_since start m (named_sound was.record)) content arrays (l.may bears))) writes.any_moment)
+        (both_leave (both_leave (storing (lost_since start m (named_sound was.record)) content arrays (l.may bears)) (giving (lost_since start m (named_sound was.record)) content arrays (l.may bears))) writes.any_moment)
     | inr not ↦ weaker (λ stop left. not_borne stop left not) writes.any_moment
   ]

@@ -26,7 +26,6 @@ use Rattle.register.specs.Giving.{GivesOldOrTables, IsNextWith}
 use Rattle.register.specs.Registers.{drives_of, named_sound, next_slot}
 use Rattle.register.specs.Standing.{Content, IsOpen, array_of}
 use Rattle.register.specs.Tables.{IsPlanOf, StandsAsBefore}
-use Rattle.register.proofs.Again.{both}
 use Rattle.register.proofs.Tabling.{shows_no_more}
 use Rattle.array_core.proofs.Standing.{member_sound}
 use Rattle.array_core.specs.Losing.{lost_by}
@@ -37,6 +36,7 @@ use Rattle.array_core.specs.Meanwhile.{AreInForce}
 use Rattle.array_core.proofs.FreeWrites.{log_member}
 use Rattle.array_core.proofs.Logged.{nothing_else}
 use Rattle.array_core.proofs.Keeping.{IsReadable, KeptNamed, goes_on, kept}
+use Rattle.nvram_log.proofs.SettledEach.{both_leave}
 
 -- what the NVRAM devices hold, where they stay as they were
 pub still_holds : (a b : Shelved) (members : List Bool) (flushed : ℕ) (log : List Command) → ((n : ℕ) → b.disk (nvram n) ≡ a.disk (nvram n)) → HoldsOn a members flushed log → HoldsOn b members flushed log
@@ -98,4 +98,4 @@ module _ (b c : Shelved) (is : IsShelf b) (h : b.honest) (r : Register) (tables 
         (stands (lost_by b stop (named_sound r.record)) (account stands gives borne))
 
   pub tables_moments : WritesOnly W b c → LeavesOnly b c (StandsAsBefore b r held) → LeavesOnly b c (GivesOldOrTables b r tables) → LeavesOnly b c (IsKeptAt b r.record (array_of held ∷ []))
-  tables_moments writes stands gives = weaker (λ stop x. kept b r.record (array_of held ∷ []) stop (λ d. (x.1.bytes d).is_byte) (kept_in_store stop x.1 x.0.0 x.0.1)) (both (both stands gives) writes.any_moment)
+  tables_moments writes stands gives = weaker (λ stop x. kept b r.record (array_of held ∷ []) stop (λ d. (x.1.bytes d).is_byte) (kept_in_store stop x.1 x.0.0 x.0.1)) (both_leave (both_leave stands gives) writes.any_moment)

@@ -11,13 +11,14 @@ use Rattle.array_core.specs.Ready.{IsArrayOf}
 use Rattle.array_core.specs.Going.{by_faults}
 use Rattle.array_core.specs.Goes.{Goes}
 use Rattle.array_core.specs.Performing.{HasLogged}
-use Rattle.array_core.proofs.Losses.{risen_more, same_geometry}
+use Rattle.array_core.proofs.Losses.{risen_more}
 use Rattle.array_checkpoint.specs.declared.room.Room.{Room}
 use Rattle.array_checkpoint.specs.Made.{HasFlushed}
 use Rattle.array_checkpoint.specs.Prepared.{IsLike}
 use Rattle.array_checkpoint.specs.Room.{IsRoomOf, MayAdd}
 use Rattle.array_checkpoint.proofs.Like.{like_is}
 use Rattle.array_engine.specs.Appending.{IsAppended, IsFull, lost_in}
+use Rattle.register.proofs.Rounds.{same_shelf}
 
 -- an array that differs in room in memory alone leaves the same room
 pub like_room : (a b : Array) (r : Room) → IsLike a b → IsRoomOf a r → IsRoomOf b r
@@ -38,7 +39,7 @@ module _ (old new : Shelved) (a b : Array) (c : Command) (room : MayAdd a) where
     behind full goes flushed logged = record {
       room = room;
       mid = m;
-      cleared = inr (full, subst (λ (g : Geometry). IsArrayOf g m) (sym (same_geometry on)) goes.is_of, flushed);
+      cleared = inr (full, subst (λ (g : Geometry). IsArrayOf g m) (sym (same_shelf on)) goes.is_of, flushed);
       before = λ contents x reads. let now = goes.reads contents x reads in (now.more, now.reads);
       logged = record { count = logged.count; next = logged.next; patches = logged.patches; boot = rise_since m.register.record b.register.record logged.boot };
     }

@@ -26,7 +26,7 @@ use Rattle.array_core.specs.Holding.{IsHolder}
 use Rattle.array_core.specs.Going.{by_faults, AgreesFor, GoesOnAt, IsOnWay}
 use Rattle.array_core.specs.Goes.{Goes, GoesOnMeanwhile, Halts, ReadsOn}
 use Rattle.array_core.proofs.HandingOn.{unless}
-use Rattle.array_core.proofs.Losses.{sound_since, left_out_since}
+use Rattle.array_core.proofs.Losses.{sound_since}
 use Rattle.array_core.proofs.Lost.{not_risen}
 use Rattle.array_core.proofs.ReadyStands.{agrees_named}
 use Rattle.array_checkpoint.specs.Prepared.{IsLike}
@@ -38,6 +38,7 @@ use Rattle.array_engine.specs.Saying.{Says}
 use Rattle.array_engine.specs.Appending.{failed_in, lost_in}
 use Rattle.array_engine.specs.Engines.{IsAnsweredAt, IsAt, IsKeptBy, MayBeDone, StandsAt, point_after}
 use Rattle.array_engine.proofs.Points.{KeepsReady, KeepsSegments, answered_refused}
+use Rattle.session_spec.proofs.Conditions.{left_out_once}
 
 -- ---- it goes on
 
@@ -82,7 +83,7 @@ module _ (told : Bool) (old new : Shelved) (e f : Engine) (commands : List Comma
           let was = sound_since (lost_in old new d) (from.conditions d) h in
           still d (goes.hands_on.leaves d (s.holders d was.0)) was.1;
       left_out = λ d l.
-          let was = s.left_out d (left_out_since (lost_in old new d) (from.conditions d) l) in
+          let was = s.left_out d (left_out_once (lost_in old new d) (from.conditions d) l) in
           (unless (names f.array.register.record d) (λ is. unnamed d (goes.hands_on.named d is) was), λ holds. held_not d (goes.hands_on.holders d holds) was.1);
     };
   }

@@ -17,7 +17,6 @@ use Rattle.session_spec.specs.declared.limits.TheConstants.{CHECKPOINT_GROUPS, S
 use Rattle.array_core.specs.Ready.{IsArrayOf}
 use Rattle.array_core.specs.Going.{by_faults}
 use Rattle.array_core.specs.Goes.{Goes}
-use Rattle.array_core.proofs.Losses.{same_geometry}
 use Rattle.array_checkpoint.specs.Made.{HasFlushed}
 use Rattle.array_checkpoint.specs.Prepared.{IsLike}
 use Rattle.array_checkpoint.specs.Room.{MayFlush}
@@ -33,6 +32,7 @@ use Rattle.array_engine.specs.Replying.{said_of, ends_lost}
 use Rattle.array_engine.proofs.AtPoint.{goes_answered, halts_answered, stays_answered}
 use Rattle.array_engine.proofs.Behind.{between, checkpointed}
 use Rattle.array_engine.proofs.Rooms.{with_room, without_room}
+use Rattle.register.proofs.Rounds.{same_shelf}
 
 -- What a checkpoint that is asked for makes of the engine, which wasn't halted.
 module _ (told : Bool) (old new : Shelved) (e f : Engine) (sectors : List (List ℕ)) (stays : Type 0) (from : Point) (honest : told ≡ true → old.honest)
@@ -55,7 +55,7 @@ module _ (told : Bool) (old new : Shelved) (e f : Engine) (sectors : List (List 
         record {
           reply = refl;
           mid = between from f.array;
-          made = checkpointed stood f.array (subst (λ (g : Geometry). IsArrayOf g f.array) (sym (same_geometry goes.ran.continues)) goes.is_of) made.1 on.more on.reads;
+          made = checkpointed stood f.array (subst (λ (g : Geometry). IsArrayOf g f.array) (sym (same_shelf goes.ran.continues)) goes.is_of) made.1 on.more on.reads;
           stays = record {
             array = refl;
             logged = cond-false f.halted from.logged f.array.log.count halted ∙ made.1.none;

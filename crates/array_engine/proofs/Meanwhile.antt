@@ -30,11 +30,12 @@ use Rattle.array_core.specs.Ready.{IsReady}
 use Rattle.array_core.specs.Going.{by_faults, GoesOnAt, IsOnWay}
 use Rattle.array_core.specs.Goes.{GoesOnMeanwhile, Holds}
 use Rattle.array_core.specs.Losing.{lost_by}
-use Rattle.array_core.proofs.Losses.{left_out_since, sound_since}
+use Rattle.array_core.proofs.Losses.{sound_since}
 use Rattle.array_core.proofs.ReadyStands.{ready_stands_in}
 use Rattle.array_engine.specs.Engines.{IsKeptBy}
 use Rattle.array_engine.proofs.AtPoint.{kept_same}
 use Rattle.array_engine.proofs.Points.{KeepsReady, KeepsSegments}
+use Rattle.session_spec.proofs.Conditions.{left_out_once}
 
 -- ---- a read
 
@@ -115,7 +116,7 @@ module _ (old : Shelved) (a : Array) (x : plain.Array) (commands : List Command)
     each = λ y has. only_one x (array_of holds.held) y commands holds.is has;
     standing = ready_stands_in old a holds.held holds.ready (lost_by old stop now) (record {
       sound = λ d e. (agrees.sound d (sound_since (has_risen (old.disk d).write_faults (stop.write_faults d)) (now d) e).0).0;
-      left_out = λ d e. (agrees.left_out d (left_out_since (has_risen (old.disk d).write_faults (stop.write_faults d)) (now d) e)).0;
+      left_out = λ d e. (agrees.left_out d (left_out_once (has_risen (old.disk d).write_faults (stop.write_faults d)) (now d) e)).0;
     }) borne as_now may_now;
   }
 

@@ -29,7 +29,6 @@ use Rattle.array_core.specs.declared.array.Array.{Array}
 use Rattle.array_core.specs.Ready.{IsArrayOf, is_spent}
 use Rattle.array_core.specs.Going.{by_faults}
 use Rattle.array_core.specs.Goes.{Goes}
-use Rattle.array_core.proofs.Losses.{same_geometry}
 use Rattle.array_memory.specs.Kept.{Kept}
 use Rattle.array_checkpoint.specs.Prepared.{IsLike}
 use Rattle.pyramid_jobs.specs.Checked.{IsCheckFault, MayMerge}
@@ -44,6 +43,7 @@ use Rattle.array_engine.specs.Replying.{merge_ends_lost, said_of_merge}
 use Rattle.array_engine.proofs.AtPoint.{goes_answered, halts_answered, stays_answered}
 use Rattle.array_engine.proofs.Points.{like_itself}
 use Rattle.array_engine.proofs.Rooms.{groups_same, spent_same, where_not, where_so}
+use Rattle.register.proofs.Rounds.{same_shelf}
 
 -- ---- the pair
 
@@ -124,7 +124,7 @@ module _ (told : Bool) (old new : Shelved) (e f : Engine) (t : Table) (i : ℕ) 
     done_at stop = record {
       reply = refl;
       mid = merged_point from f.array;
-      made = merged_point_at stood t i f.array (subst (λ (g : Geometry). IsArrayOf g f.array) (sym (same_geometry goes.ran.continues)) goes.is_of) made.1;
+      made = merged_point_at stood t i f.array (subst (λ (g : Geometry). IsArrayOf g f.array) (sym (same_shelf goes.ran.continues)) goes.is_of) made.1;
       stays = record {
         array = refl;
         logged = cond-false f.halted from.logged f.array.log.count halted ∙ ap (λ l. l.count) made.1.log ∙ sym stood.logged;

@@ -26,13 +26,14 @@ use Rattle.array_core.specs.Drives.{SegmentsHold}
 use Rattle.array_core.specs.Ready.{IsReady}
 use Rattle.array_checkpoint.specs.Prepared.{IsLike}
 use Rattle.array_checkpoint.proofs.Like.{like_is, like_is_ready, roomed_reads}
-use Rattle.array_core.proofs.Losses.{sound_since, left_out_since}
+use Rattle.array_core.proofs.Losses.{sound_since}
 use Rattle.array_engine.specs.declared.engine.Engine.{Engine}
 use Rattle.array_engine.specs.declared.said.Said.{Said}
 use Rattle.array_engine.specs.declared.said.Said.TheVariants as said
 use Rattle.array_engine.specs.Saying.{Says}
 use Rattle.array_engine.specs.Appending.{failed_in, lost_in}
 use Rattle.array_engine.specs.Engines.{IsAt, StandsAt, IsAnsweredAt, point_after}
+use Rattle.session_spec.proofs.Conditions.{left_out_once}
 
 -- ---- nothing changes
 
@@ -76,7 +77,7 @@ stands_on told old new a lost from to keeps before conditions s = record {
   reads = subst (λ (x : plain.Array). ReadsAs s.contents a.memory.memory x) (sym before.array) s.reads;
   hold = λ t. keeps t s.contents (s.hold t);
   holders = λ d e. s.holders d (sound_since (lost d) (from.conditions d) (sym (conditions d) ∙ e)).0;
-  left_out = λ d e. s.left_out d (left_out_since (lost d) (from.conditions d) (sym (conditions d) ∙ e));
+  left_out = λ d e. s.left_out d (left_out_once (lost d) (from.conditions d) (sym (conditions d) ∙ e));
 }
 
 -- The engine has the same array, but for room, and is halted as it was.

@@ -18,7 +18,7 @@ use Rattle.array_memory.specs.Asked.{staged_count, HasRoomLeft, HasSpan}
 use Rattle.array_memory.specs.Kept.{Kept}
 use Rattle.array_memory.specs.Put.{IsPut, HasRoomFor}
 use Rattle.array_memory.specs.Runs.{AreIndices}
-use Rattle.array_memory.proofs.RunLemmas.{run_long}
+use Rattle.memory_spec.proofs.Putting.{run_long}
 
 -- what holds at an Ok holds where there was no error
 pub at_ok : {T E : Type 0} (r : Result T E) (P : Type 0) → is_err r ≡ false → OnOk r P → P

@@ -16,14 +16,11 @@ use Rattle.memory_spec.specs.Adding.{address_facts}
 use Rattle.memory_spec.specs.Memory.{Contents, TargetReads}
 use Rattle.memory_spec.proofs.Run.{fact}
 use Rattle.array_memory.specs.Runs.{target_of, targets_from}
+use Rattle.memory_spec.proofs.Putting.{run_long}
 
 pub targets_long : (staged : Option ℕ) (i n : ℕ) → length (targets_from staged i n) ≡ n
 targets_long staged i zero = refl
 targets_long staged i (suc n) = ap suc (targets_long staged (i + 1) n)
-
-pub run_long : (medium sector number : ℕ) (ts : List Target) → length (address_facts medium sector number ts) ≡ length ts
-run_long medium sector number [] = refl
-run_long medium sector number (t ∷ ts) = ap suc (run_long medium (sector + 1) (number + 1) ts)
 
 fact_is : (medium x y n k : ℕ) (t u : Target) → x ≡ y → t ≡ u → n ≡ k → fact medium x t n ≡ fact medium y u k
 fact_is medium x y n k t u e f g = ap (λ z. fact medium z t n) e ∙ ap (λ z. fact medium y z n) f ∙ ap (λ z. fact medium y u z) g

@@ -18,14 +18,6 @@ use Rattle.session_spec.specs.Faring.{Point, Answers, AnswersRequest, AnswersAcc
 use Rattle.session_spec.specs.declared.limits.TheConstants.{ADDING_GROUPS, CHECKPOINT_GROUPS, MERGE_GROUPS, SEGMENTS_END}
 use Rattle.session_spec.proofs.Conditions.{borne_before}
 
-pub risen_more : (a b c : ℕ) → b ≤ c → has_risen a b ≡ true → has_risen a c ≡ true
-risen_more a b c le is = elim (cases_lt a c) [
-  | inl lt ↦ or_left (nat_lt a c) (nat_le (2 ^ 64 - 1) a) (lt-ltb a c lt)
-  | inr ge ↦
-      let isn't : nat_lt a b ≡ false = le-ltb a b (omega (arith, ge, le)) in
-      or_right (nat_lt a c) (nat_le (2 ^ 64 - 1) a) (subst (λ (x : Bool). (x || nat_le (2 ^ 64 - 1) a) ≡ true) isn't is)
-]
-
 pub goes_more : (c : Condition) (p q : Bool) → (p ≡ true → q ≡ true) → MayBecome (missing_if p c) (missing_if q c)
 goes_more Sound true true f = refl
 goes_more Sound true false f = absurd (cc (f refl))

@@ -11,7 +11,6 @@ use Rattle.boot_region.specs.Members.{IsMember}
 use Rattle.nvram_log.specs.Members as nv
 use Rattle.register.specs.Registers.{IsRegisterOf, named_sound}
 use Rattle.register.proofs.FlagLemmas.{in_cut, cut_in, none_past}
-use Rattle.array_core.proofs.Standing.{is_named, is_left}
 use Rattle.memory_spec.specs.Memory.{Contents, ReadsAs}
 use Rattle.memory_spec.specs.Tables.{facts, patches}
 use Rattle.session_spec.specs.Entering.{read_now}
@@ -21,6 +20,7 @@ use Rattle.array_core.specs.Drives.{SegmentsHold}
 use Rattle.array_core.specs.Holding.{IsHolder}
 use Rattle.array_engine.specs.declared.engine.Engine.{Engine}
 use Rattle.array_server.specs.Sessions.{BeginsAt}
+use Rattle.register.proofs.Opened.{is_left, is_named}
 
 -- an engine over the array that was opened, and where the replies begin
 abbrev pub engine_of : Engine → Array → Engine

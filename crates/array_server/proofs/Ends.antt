@@ -15,11 +15,11 @@ use Rattle.session_spec.specs.Entering.{read_now}
 use Rattle.session_spec.specs.Ends.{Ends, IsAnswered, IsOutput, is_cut, ends_in_write}
 use Rattle.session_spec.specs.Faring.{Point}
 use Rattle.session_spec.specs.Headline.{in_hand}
-use Rattle.array_core.proofs.Losses.{same_geometry}
 use Rattle.array_engine.specs.declared.engine.Engine.{Engine}
 use Rattle.array_server.specs.Sessions.{IsServedFrom, end_of}
 use Rattle.array_server.proofs.InHand.{left_after}
 use Rattle.array_server.proofs.SoFar.{SoFar, borne_at}
+use Rattle.register.proofs.Rounds.{same_shelf}
 
 module _ (told : Bool) (start new : Shelved) (e0 e : Engine) (input unread left : List ℕ) (first : Point) (cut : Bool) (s : SoFar told start new e0 e input unread first cut) (begins : first.stop ≡ read_now start) where
   ended : (how : Status) → IsOutput how told (geometry_of start) s.last (read_now new) (drop (length s.replies) (requests input)) start.output new.output s.replies → Ends how s.last.halted input s.replies left
@@ -35,7 +35,7 @@ module _ (told : Bool) (start new : Shelved) (e0 e : Engine) (input unread left 
     stands = λ held. leaves_weaker (λ stop tells. (tells.at, λ borne bears. tells.holds bears)) (s.standing held).moments;
     at_end = λ held borne bears.
         let ready = s.ready held (borne_at (geometry_of start) s.last (read_now new) bears) in
-        left_after told (geometry_of start) new new (sym (same_geometry s.run.continues)) e s.last s.at ready.1 ready.0.0 ready.0.1 ready.0.2 (in_hand how (drop (length s.replies) (requests input))) bears;
+        left_after told (geometry_of start) new new (sym (same_shelf s.run.continues)) e s.last s.at ready.1 ready.0.0 ready.0.1 ready.0.2 (in_hand how (drop (length s.replies) (requests input))) bears;
   }
 
   all_given : new.output ≡ start.output ++ texts s.replies

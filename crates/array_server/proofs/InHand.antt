@@ -13,10 +13,10 @@ use Rattle.boot_region.proofs.Phases.{not_risen_before}
 use Rattle.session_spec.specs.Entering.{IsLeft, read_now}
 use Rattle.session_spec.specs.Faring.{Point, Answers, now_missing}
 use Rattle.session_spec.specs.Headline.{StandsAmong, IsAfter, IsLeftAfter}
-use Rattle.session_spec.proofs.Conditions.{still_sound}
+use Rattle.session_spec.proofs.Conditions.{still_sound, left_out_once}
 use Rattle.register.specs.Standing.{Content, array_of}
 use Rattle.array_core.specs.Ready.{IsReady}
-use Rattle.array_core.proofs.Losses.{sound_since, left_out_since}
+use Rattle.array_core.proofs.Losses.{sound_since}
 use Rattle.array_engine.specs.declared.engine.Engine.{Engine}
 use Rattle.array_engine.specs.Appending.{failed_in, lost_in}
 use Rattle.array_engine.specs.Engines.{IsAt, point_after}
@@ -24,13 +24,8 @@ use Rattle.array_core.proofs.ReadyStands.{ready_is_clean}
 use Rattle.array_server.proofs.StandsAtPoint.{sound_is_named}
 use Rattle.array_server.proofs.Kept.{stands_in, only_one}
 use Rattle.array_server.proofs.Came.{answered_after}
-
-named_then : (b : Bool) → b ≡ true → (if b then Sound else LeftOut) ≡ Sound
-named_then true e = refl
-named_then false e = absurd (cc e)
-
-left_out_still : (b : Bool) (c : Condition) → c ≡ LeftOut → missing_if b c ≡ LeftOut
-left_out_still b c e = rw e refl
+use Rattle.array_core.proofs.Agreeing.{lost_out}
+use Rattle.array_core.proofs.Standing.{are_sound}
 
 -- ---- at the end
 
@@ -40,7 +35,7 @@ module _ (told : Bool) (there new : Shelved) (e : Engine) (p : Point) (held : Co
       → IsBearable (geometry_of new) c → IsLeft new c (p.array ∷ [])
   left_in c sound left_out bears = record {
     standing = λ stop may. stands_in told there new e p held ready at awake is_held stop may.device c sound left_out bears;
-    clean = λ d s. ready_is_clean new e.array held ready d (named_then (names e.array.register.record d) (sound_is_named told there new e p held ready at awake d (sound d s)));
+    clean = λ d s. ready_is_clean new e.array held ready d (are_sound (names e.array.register.record d) (sound_is_named told there new e p held ready at awake d (sound d s)));
   }
 
 -- where the last reply was whole
@@ -50,7 +45,7 @@ left_after told shelf there new is e p at awake held ready is_held rest bears = 
   arrays = p.array ∷ [];
   each = λ array has. inl (only_one p.array array has);
   left = left_in told there new e p held ready at awake is_held (now_missing p (read_now new)) (λ d s. (sound_since (has_risen (p.stop.write_faults d) (new.disk d).write_faults) (p.conditions d) s).0)
-      (λ d out. left_out_since (has_risen (p.stop.write_faults d) (new.disk d).write_faults) (p.conditions d) out) (subst (λ (g : Geometry). IsBearable g (now_missing p (read_now new))) (sym is) bears);
+      (λ d out. left_out_once (has_risen (p.stop.write_faults d) (new.disk d).write_faults) (p.conditions d) out) (subst (λ (g : Geometry). IsBearable g (now_missing p (read_now new))) (sym is) bears);
 }
 
 -- ---- the reply is given
@@ -72,7 +67,7 @@ module _ (told : Bool) (shelf : Geometry) (mid after now : Shelved) (is : geomet
 
     out_on : (d : Device) → now_missing from stop d ≡ LeftOut → to.conditions d ≡ LeftOut
     out_on d out =
-        left_out_still (has_risen (mid.disk d).write_faults (after.disk d).write_faults) (from.conditions d) (left_out_since (has_risen (from.stop.write_faults d) (stop.write_faults d)) (from.conditions d) out)
+        lost_out (has_risen (mid.disk d).write_faults (after.disk d).write_faults) (from.conditions d) (left_out_once (has_risen (from.stop.write_faults d) (stop.write_faults d)) (from.conditions d) out)
 
   module _ (item : Item) (more : List Item) (reply : Answer) (answers : Answers told shelf (failed_in mid after) (lost_in mid after) from item reply to) where
     after_it : (array : plain.Array) → Contains (to.array ∷ []) array → IsAfter from (item ∷ more) array

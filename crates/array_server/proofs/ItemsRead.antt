@@ -31,10 +31,6 @@ is_answered reads.Cut e l h = tt
 is_answered reads.Limit e l h = absurd (l refl)
 is_answered reads.End e l h = absurd (e refl)
 
--- one call that leaves a stream after another
-pub same_then : {a b c : Streamed} → SameStream a b → SameStream b c → SameStream a c
-same_then {a} {b} {c} f g = record { honest = λ h. g.honest (f.honest h); honest_before = λ h. f.honest_before (g.honest_before h); bytes = g.bytes ∙ f.bytes; faults = g.faults ∙ f.faults }
-
 -- a cut write is none that was stopped by the limit
 pub cut_is_no_limit : reads.Cut ≡ reads.Limit → ⊥
 cut_is_no_limit e = cc

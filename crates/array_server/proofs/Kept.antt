@@ -13,12 +13,13 @@ use Rattle.session_spec.specs.Entering.{IsStanding}
 use Rattle.session_spec.specs.Faring.{Point, now_missing}
 use Rattle.session_spec.specs.Headline.{StandsAmong, IsAfter, IsNext}
 use Rattle.array_core.specs.Ready.{IsReady}
-use Rattle.array_core.proofs.Losses.{sound_since, left_out_since}
+use Rattle.array_core.proofs.Losses.{sound_since}
 use Rattle.array_core.proofs.ReadyStands.{ready_stands}
 use Rattle.array_engine.specs.declared.engine.Engine.{Engine}
 use Rattle.array_engine.specs.Engines.{IsAt, MayBeDone, IsKeptBy}
 use Rattle.array_engine.proofs.Rooms.{may_add_at}
 use Rattle.array_server.proofs.StandsAtPoint.{borne_at_point, stands_at_point, stands_as, sound_is_named}
+use Rattle.session_spec.proofs.Conditions.{left_out_once}
 
 -- ---- the next item
 
@@ -86,5 +87,5 @@ module _ (told : Bool) (shelf : Geometry) (there now : Shelved) (is : geometry_o
         arrays = p.array ∷ [];
         each = λ array has. inl (only_one p.array array has);
         standing = stands_in told there now e p held ready at awake is_held stop device (now_missing p stop) (λ d s. (sound_since (has_risen (p.stop.write_faults d) (stop.write_faults d)) (p.conditions d) s).0)
-            (λ d out. left_out_since (has_risen (p.stop.write_faults d) (stop.write_faults d)) (p.conditions d) out) bears;
+            (λ d out. left_out_once (has_risen (p.stop.write_faults d) (stop.write_faults d)) (p.conditions d) out) bears;
       }

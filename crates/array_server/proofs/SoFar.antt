@@ -18,7 +18,7 @@ use Rattle.session_spec.specs.Faring.{Point, Answers, now_missing}
 use Rattle.session_spec.specs.Headline.{StandsAmong, IsAfter, IsLeftAfter}
 use Rattle.session_spec.proofs.Conditions.{borne_before, loses}
 use Rattle.array_core.specs.Ready.{IsReady}
-use Rattle.array_core.proofs.Losses.{same_geometry, bearable_or_not}
+use Rattle.array_core.proofs.Losses.{bearable_or_not}
 use Rattle.array_engine.specs.declared.engine.Engine.{Engine}
 use Rattle.array_engine.specs.declared.said.Said.{Said}
 use Rattle.array_engine.specs.Appending.{failed_in, lost_in}
@@ -29,8 +29,11 @@ use Rattle.array_server.proofs.Kept.{kept_stands, ready_stands_on}
 use Rattle.array_server.proofs.InHand.{in_hand_stands, in_hand_left}
 use Rattle.array_server.proofs.StillReady.{ready_still, segments_still}
 use Rattle.array_server.proofs.Along.{Along}
-use Rattle.array_server.proofs.Answered.{goes_more, risen_more}
+use Rattle.array_server.proofs.Answered.{goes_more}
 use Rattle.array_server.proofs.Steps.{HoldsNow, Broken, begun, taken, called, given, broken}
+use Rattle.nvram_log.proofs.SettledEach.{both_leave}
+use Rattle.register.proofs.Rounds.{same_shelf}
+use Rattle.takeover.proofs.WhatFound.{rose_before}
 
 -- nothing is asked of the devices
 abbrev pub Nothing : Point → List Item → Stop → Type 0
@@ -117,7 +120,7 @@ taken_so_far told start now mid e0 e input unread first cut s takes unlapsed =
       last = s.last;
       run = run;
       standing = λ held. taken told start now mid first s.last (requests input) (StandsFor (geometry_of start)) s.replies (s.standing held) takes unlapsed
-          (stands_now told start now now e s.last (drop (length s.replies) (requests input)) (same_geometry s.run.continues) s.at (s.ready held));
+          (stands_now told start now now e s.last (drop (length s.replies) (requests input)) (same_shelf s.run.continues) s.at (s.ready held));
       items = s.items;
       count = s.count;
       cuts = s.cuts;
@@ -146,20 +149,6 @@ any_more (x ∷ xs) item b e f = first (is_cut x) (list_any is_cut xs) (list_any
     first true d g e h = absurd cc
     first false d g e h = h e
 
--- two things are true of each stop
-both_leave : {a b : Shelved} {P Q : Stop → Type 0} → LeavesOnly a b P → LeavesOnly a b Q → LeavesOnly a b (λ stop. P stop × Q stop)
-both_leave {a} {b} {P} {Q} p q = record {
-  quiet = p.quiet;
-  each = λ stop left. let x = p.each stop left in (x.0, (x.1, (q.each stop left).1));
-  before = λ t stop le left. elim (p.before t stop le left) [
-    | inl was ↦ inl was
-    | inr x ↦ elim (q.before t stop le left) [
-      | inl was ↦ inl was
-      | inr y ↦ inr (x.0, (x.1, y.1))
-    ]
-  ];
-}
-
 -- The engine has answered an item, and its reply isn't given yet: mid and between are the devices before and after.
 module _ (told : Bool) (start mid between : Shelved) (e0 e e' : Engine) (input unread unread' : List ℕ) (first : Point) (item : Item) (said : Said) (s : SoFar told start mid e0 e input unread first false)
     (some : 0 < length unread) (is : first_item unread ≡ (item, unread')) (on : Continues mid between) (calls : LeavesOnly mid between (IsCountedBy mid)) (tells : mid.honest)
@@ -178,7 +167,7 @@ module _ (told : Bool) (start mid between : Shelved) (e0 e e' : Engine) (input u
   to stop = point_after e' x.array (lost_in mid between) stop s.last
 
   same_mid : shelf ≡ geometry_of mid
-  same_mid = same_geometry s.run.continues
+  same_mid = same_shelf s.run.continues
 
   next : requests unread ≡ item ∷ requests unread'
   next = requests-step unread item unread' some is
@@ -228,11 +217,11 @@ module _ (told : Bool) (start mid between : Shelved) (e0 e e' : Engine) (input u
   lost_before : (stop : Stop) → IsCountedBy between stop → IsBearable shelf (now_missing s.last stop) → IsBearable shelf (losing (lost_in mid between) s.last.conditions)
   lost_before stop counts bears = borne_before shelf (losing (lost_in mid between) s.last.conditions) (now_missing s.last stop)
       (λ d. goes_more (s.last.conditions d) (lost_in mid between d) (has_lost_writes s.last.stop stop d)
-      (λ lost. risen_more (s.last.stop.write_faults d) (between.disk d).write_faults (stop.write_faults d) (counts.write_faults d)
+      (λ lost. rose_before (s.last.stop.write_faults d) (between.disk d).write_faults (stop.write_faults d) (counts.write_faults d)
       (subst (λ (n : ℕ). has_risen n (between.disk d).write_faults ≡ true) (sym (s.same d)) lost))) bears
 
   same_between : shelf ≡ geometry_of between
-  same_between = same_geometry (continues_trans s.run.continues on)
+  same_between = same_shelf (continues_trans s.run.continues on)
 
   -- while the reply is given
   pub in_hand : IsHeldAt start e0 first → HoldsNow between (StandsFor shelf s.last (item ∷ requests unread'))
@@ -281,7 +270,7 @@ module _ (told : Bool) (start mid between : Shelved) (e0 e e' : Engine) (input u
           broken told start between after first s.last new items (requests unread') item (StandsFor shelf) s.replies q (standing_called held) gives unlapsed_then rest x.whole answers_now (in_hand held) part missing gave spelled lacks
 
       same_after : shelf ≡ geometry_of after
-      same_after = same_geometry (continues_trans (continues_trans s.run.continues on) gives.continues)
+      same_after = same_shelf (continues_trans (continues_trans s.run.continues on) gives.continues)
 
       left_in_hand : IsHeldAt start e0 first → IsBearable shelf (now_missing s.last (read_now after)) → IsLeftAfter after s.last (item ∷ requests unread')
       unfolding counted_then

@@ -12,10 +12,10 @@ use Rattle.register.specs.Registers.{named_sound}
 use Rattle.register.specs.Standing.{Content}
 use Rattle.session_spec.specs.Entering.{IsStanding}
 use Rattle.session_spec.specs.Faring.{Point, now_missing}
-use Rattle.session_spec.proofs.Conditions.{borne_on}
+use Rattle.session_spec.proofs.Conditions.{borne_on, left_out_once}
 use Rattle.array_core.specs.Losing.{lost_by}
 use Rattle.array_core.specs.Ready.{IsReady}
-use Rattle.array_core.proofs.Losses.{sound_since, left_out_since}
+use Rattle.array_core.proofs.Losses.{sound_since}
 use Rattle.array_engine.specs.declared.engine.Engine.{Engine}
 use Rattle.array_engine.specs.Engines.{IsAt}
 use Rattle.array_core.proofs.ReadyStands.{ready_names}
@@ -77,7 +77,7 @@ module _ (told : Bool) (there old : Shelved) (e : Engine) (p : Point) (held : Co
         (sound_is_named d was.0, subst (λ (n : ℕ). has_risen n (stop.write_faults d) ≡ false) (same d) was.1)
 
     out_then : (d : Device) → now_missing p stop d ≡ LeftOut → names e.array.register.record d ≡ false
-    out_then d out = ((at.stands awake).left_out d (left_out_since (has_risen (p.stop.write_faults d) (stop.write_faults d)) (p.conditions d) out)).0
+    out_then d out = ((at.stands awake).left_out d (left_out_once (has_risen (p.stop.write_faults d) (stop.write_faults d)) (p.conditions d) out)).0
 
     pub borne_at_point : IsBearable (geometry_of old) (now_missing p stop) → IsBearable (geometry_of old) (lost_by old stop (named_sound e.array.register.record))
     borne_at_point bears = borne_by (geometry_of old) stop.image e.array.register.record (λ d. has_risen (old.disk d).write_faults (stop.write_faults d)) (now_missing p stop) sound_then out_then bears

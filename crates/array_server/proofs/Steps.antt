@@ -18,7 +18,8 @@ use Rattle.session_spec.specs.Entering.{read_now}
 use Rattle.session_spec.proofs.Reached.{output_is_bounded, output_counts}
 use Rattle.array_server.proofs.Going.{IsUpTo, fares_more, rest_more}
 use Rattle.array_server.proofs.Along.{Along, HasReplied, Adds, up_to_then, reached_on, run_on, moments_on, told_part, told_same, count_of}
-use Rattle.array_server.proofs.Answered.{answers_more, risen_more}
+use Rattle.array_server.proofs.Answered.{answers_more}
+use Rattle.takeover.proofs.WhatFound.{rose_before}
 
 -- it is so of each stop that leaves what a stop now may leave of the devices
 abbrev pub HoldsNow : Shelved → (Stop → Type 0) → Type 0
@@ -183,8 +184,8 @@ module _ (told : Bool) (start a b : Shelved) (first last new : Point) (items mor
     reply = q;
     to = new;
     answers = answers_more told (geometry_of start) (has_failed last.stop (read_now b)) (has_failed last.stop stop) (has_lost_writes last.stop (read_now b)) (has_lost_writes last.stop stop)
-        (λ d is. risen_more (last.stop.faults d) (b.disk d).faults (stop.faults d) (omega (arith, same_faults d, counts.faults d)) is)
-        (λ d is. risen_more (last.stop.write_faults d) (b.disk d).write_faults (stop.write_faults d) (omega (arith, same_counts d, counts.write_faults d)) is) last item q new answers;
+        (λ d is. rose_before (last.stop.faults d) (b.disk d).faults (stop.faults d) (omega (arith, same_faults d, counts.faults d)) is)
+        (λ d is. rose_before (last.stop.write_faults d) (b.disk d).write_faults (stop.write_faults d) (omega (arith, same_counts d, counts.write_faults d)) is) last item q new answers;
     missing = missing;
     spelled = spelled;
     some = some;

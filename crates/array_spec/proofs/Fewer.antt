@@ -18,7 +18,7 @@ use Rattle.array_spec.specs.Laws.{FewerHold}
 use Rattle.array_spec.specs.Sound.{ArePlaces}
 
 -- a number in a range and those above it count at most as the range
-split_count : (f : ℕ → Bool) (a n b m : ℕ) → a ≤ b → b < a + n → b + 1 + m ≡ a + n → cond (f b) 1 0 + count_by f (range_with_len (b + 1) m) ≤ count_by f (range_with_len a n)
+pub split_count : (f : ℕ → Bool) (a n b m : ℕ) → a ≤ b → b < a + n → b + 1 + m ≡ a + n → cond (f b) 1 0 + count_by f (range_with_len (b + 1) m) ≤ count_by f (range_with_len a n)
 split_count f a zero b m low high is = absurd (omega (arith, low, high))
 split_count f a (suc n) b m low high is =
     rw (counted f a (range_with_len (a + 1) n))
@@ -34,7 +34,7 @@ split_count f a (suc n) b m low high is =
     ])
 
 -- places on ascending slots count at most as the slots do
-places_count : (slots units : ℕ) (f : ℕ → Bool) (ps : List Place) (a n : ℕ) → a + n ≡ slots → AscendFrom slots units a ps
+pub places_count : (slots units : ℕ) (f : ℕ → Bool) (ps : List Place) (a n : ℕ) → a + n ≡ slots → AscendFrom slots units a ps
     → count_by (λ p. f p.slot) ps ≤ count_by f (range_with_len a n)
 places_count slots units f [] a n is ascend = omega arith
 places_count slots units f (p ∷ ps) a n is ascend =

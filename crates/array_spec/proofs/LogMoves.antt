@@ -9,7 +9,7 @@ use Rattle.array_spec.specs.Standing.{LeadsInto}
 pub shows_move : (m n : View) → ((j : ℕ) → m (nvram j) ≡ n (nvram j)) → (which flushed i : ℕ) (c : Command) → Shows m which flushed i c → Shows n which flushed i c
 shows_move m n same which flushed i c s = record { slot = s.slot; bytes = s.bytes; shown = sym (same which) ∙ s.shown; gate = s.gate; spelled = s.spelled }
 
-slot_moves : (m n : View) → ((j : ℕ) → m (nvram j) ≡ n (nvram j)) → (flushed i : ℕ) (c : Command) → IsInSlot m flushed i c → IsInSlot n flushed i c
+pub slot_moves : (m n : View) → ((j : ℕ) → m (nvram j) ≡ n (nvram j)) → (flushed i : ℕ) (c : Command) → IsInSlot m flushed i c → IsInSlot n flushed i c
 slot_moves m n same flushed i c (inl s) = inl (shows_move m n same 0 flushed i c s)
 slot_moves m n same flushed i c (inr (nobody, s)) = inr (λ d t. nobody d (shows_move n m (λ j. sym (same j)) 0 flushed i d t), shows_move m n same 1 flushed i c s)
 

@@ -24,13 +24,11 @@ use Rattle.array_spec.proofs.OneLog.{one_log}
 use Rattle.array_spec.proofs.LogMoves.{log_moves, leads_move}
 use Rattle.array_spec.proofs.LogKept.{least_is_front, log_kept}
 use Rattle.array_spec.proofs.Held.{nvram_keeps}
-
-same_bytes : (a b : List ℕ) (o : Option (List ℕ)) → o ≡ Some a → o ≡ Some b → a ≡ b
-same_bytes a b o e f = cc
+use Rattle.array_spec.proofs.Mediums.{same_some}
 
 shown_in : (m : View) (n flushed i : ℕ) (c : Command) (bytes : List ℕ) → m (nvram n) ≡ Some bytes → Shows m n flushed i c → ShowsIn bytes flushed i c
 shown_in m n flushed i c bytes is s =
-    subst (λ (b : List ℕ). ShowsIn b flushed i c) (same_bytes s.bytes bytes (m (nvram n)) s.shown is) (record { slot = s.slot; gate = s.gate; spelled = s.spelled })
+    subst (λ (b : List ℕ). ShowsIn b flushed i c) (same_some (m (nvram n)) s.shown is) (record { slot = s.slot; gate = s.gate; spelled = s.spelled })
 
 in_shown : (m : View) (n flushed i : ℕ) (c : Command) (bytes : List ℕ) → m (nvram n) ≡ Some bytes → ShowsIn bytes flushed i c → Shows m n flushed i c
 in_shown m n flushed i c bytes is s = record { slot = s.slot; bytes = bytes; shown = is; gate = s.gate; spelled = s.spelled }
@@ -40,7 +38,7 @@ own_bytes : (k : Condition) (bytes other : List ℕ) (o : Option (List ℕ)) (i 
 own_bytes Sound bytes other o i kept shown is gate = shown
 own_bytes Missing bytes other o i kept (inl e) is gate = e
 own_bytes Missing bytes other o i kept (inr (inl e)) is gate =
-    absurd (no_gate i (length bytes) (subst (λ (b : List ℕ). IsTrue (is_open i b)) (same_bytes other (zeros (length bytes)) o is e) gate))
+    absurd (no_gate i (length bytes) (subst (λ (b : List ℕ). IsTrue (is_open i b)) (same_some o is e) gate))
 own_bytes Missing bytes other o i kept (inr (inr e)) is gate = absurd (cc (is, e))
 own_bytes LeftOut bytes other o i kept shown is gate = absurd (kept refl)
 

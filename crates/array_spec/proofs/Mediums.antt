@@ -8,10 +8,10 @@ use Rattle.pur_base.specs.declared.facts.Target.{Target}
 use Rattle.array_spec.specs.Laws.{ReadsOne}
 use Rattle.array_spec.specs.Sound.{AreMediumsSound}
 
-same_some : {X : Type 0} {a b : X} (o : Option X) → o ≡ Some a → o ≡ Some b → a ≡ b
+pub same_some : {X : Type 0} {a b : X} (o : Option X) → o ≡ Some a → o ≡ Some b → a ≡ b
 same_some o e f = cc
 
-not_both : {X : Type 0} {a : X} (o : Option X) → o ≡ Some a → o ≡ None → ⊥
+pub not_both : {X : Type 0} {a : X} (o : Option X) → o ≡ Some a → o ≡ None → ⊥
 not_both o e f = cc
 
 one : (facts : Facts) → AreMediumsSound facts → {medium sector : ℕ} {s t : Target} → Reads facts medium sector s → Reads facts medium sector t → s ≡ t

@@ -6,15 +6,13 @@ use Rattle.pur_base.specs.Plain.{Array}
 use Rattle.pur_base.specs.Commands.{Command, after}
 use Rattle.log_codec.specs.Log.{Shows, Spells, slot_at, IsInSlot, LogFrom}
 use Rattle.log_codec.proofs.OneHead.{one_command}
-
-same_some : (a b : List ℕ) (o : Option (List ℕ)) → o ≡ Some a → o ≡ Some b → a ≡ b
-same_some a b o e f = cc
+use Rattle.array_spec.proofs.Mediums.{same_some}
 
 -- a device shows one command in a slot
 pub one_shown : (view : View) (device flushed i : ℕ) (c d : Command) → Shows view device flushed i c → Shows view device flushed i d → c ≡ d
 one_shown view device flushed i c d s t =
     one_command (slot_at i s.bytes) (flushed + 1 + i) c d s.spelled
-    (subst (λ (b : List ℕ). Spells (slot_at i b) (flushed + 1 + i) d) (same_some t.bytes s.bytes (view (nvram device)) t.shown s.shown) t.spelled)
+    (subst (λ (b : List ℕ). Spells (slot_at i b) (flushed + 1 + i) d) (same_some (view (nvram device)) t.shown s.shown) t.spelled)
 
 pub one_in_slot : (view : View) (flushed i : ℕ) (c d : Command) → IsInSlot view flushed i c → IsInSlot view flushed i d → c ≡ d
 one_in_slot view flushed i c d (inl s) (inl t) = one_shown view 0 flushed i c d s t

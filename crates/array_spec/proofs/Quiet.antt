@@ -94,7 +94,7 @@ same_body_in old new body slot same o n (inr (e, f)) =
       | inr t ↦ inl (rw e (rw f (rw same (rw t refl))))
     ]
 
-in_unit : (at unit n : ℕ) → n < 16 → 65536 * unit + 4096 * n ≤ at → at < 65536 * unit + 4096 * n + 4096 → at / 65536 ≡ unit
+pub in_unit : (at unit n : ℕ) → n < 16 → 65536 * unit + 4096 * n ≤ at → at < 65536 * unit + 4096 * n + 4096 → at / 65536 ≡ unit
 in_unit at unit n below from_there to_there = omega (arith, below, from_there, to_there)
 
 -- a record is read the same where its body, the NVRAM and the units that it uses are the same

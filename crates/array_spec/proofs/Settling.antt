@@ -85,7 +85,7 @@ one_yields : (slot : BootSlot) (m n : ℕ) → (Yields (other_slot slot) m n →
 one_yields A m n h = elim (cases_lt m n) [ inl k ↦ absurd (h k) | inr k ↦ k ]
 one_yields B m n h = elim (cases_lt n m) [ inl k ↦ k | inr k ↦ absurd (h k) ]
 
-decided_or_not : (vs : List (Option (List ℕ))) (body : List ℕ) → IsDecided vs body ⊎ (IsDecided vs body → ⊥)
+pub decided_or_not : (vs : List (Option (List ℕ))) (body : List ℕ) → IsDecided vs body ⊎ (IsDecided vs body → ⊥)
 decided_or_not vs body = elim (cases_lt (length vs) (2 * count_by (is_vote body) vs)) [ inl h ↦ inl h | inr h ↦ inr (λ k. omega (arith, h, k)) ]
 
 stays : (c : Condition) (o n : Option (List ℕ)) → c ≡ Sound → was c o n ≡ o

@@ -59,11 +59,11 @@ any_append_right : {X : Type 0} (t : X → Bool) (xs ys : List X) → list_any t
 any_append_right t [] ys e = e
 any_append_right t (x ∷ xs) ys e = any_right (t x) (list_any t (xs ++ ys)) (any_append_right t xs ys e)
 
-all_append_left : {X : Type 0} (P : X → Type 0) (xs ys : List X) → AllByRecursion P (xs ++ ys) → AllByRecursion P xs
+pub all_append_left : {X : Type 0} (P : X → Type 0) (xs ys : List X) → AllByRecursion P (xs ++ ys) → AllByRecursion P xs
 all_append_left P [] ys h = tt
 all_append_left P (x ∷ xs) ys h = (h.0, all_append_left P xs ys h.1)
 
-all_append_right : {X : Type 0} (P : X → Type 0) (xs ys : List X) → AllByRecursion P (xs ++ ys) → AllByRecursion P ys
+pub all_append_right : {X : Type 0} (P : X → Type 0) (xs ys : List X) → AllByRecursion P (xs ++ ys) → AllByRecursion P ys
 all_append_right P [] ys h = h
 all_append_right P (x ∷ xs) ys h = all_append_right P xs ys h.1
 
@@ -127,7 +127,7 @@ among_all_data slot unit (ps ∷ pss) all e = elim (or_cases (list_any (is_place
   | inr h ↦ among_all_data slot unit pss all.1 h
 ]
 
-all_append : {X : Type 0} (P : X → Type 0) (xs ys : List X) → AllByRecursion P xs → AllByRecursion P ys → AllByRecursion P (xs ++ ys)
+pub all_append : {X : Type 0} (P : X → Type 0) (xs ys : List X) → AllByRecursion P xs → AllByRecursion P ys → AllByRecursion P (xs ++ ys)
 all_append P [] ys h k = k
 all_append P (x ∷ xs) ys h k = (h.0, all_append P xs ys h.1 k)
 
@@ -139,7 +139,7 @@ segments_are_data : (slots units : ℕ) (ss : List PatchSegment) → AllByRecurs
 segments_are_data slots units [] h = tt
 segments_are_data slots units (s ∷ ss) h = (places_are_data slots units 0 s.places h.0.places, segments_are_data slots units ss h.1)
 
-patches_are_lawful : (slots units : ℕ) (ps : List Patch) → AllByRecursion (IsPatch slots units) ps → AllByRecursion (IsSegment slots units) (flat_map (λ p. p.segments) ps)
+pub patches_are_lawful : (slots units : ℕ) (ps : List Patch) → AllByRecursion (IsPatch slots units) ps → AllByRecursion (IsSegment slots units) (flat_map (λ p. p.segments) ps)
 patches_are_lawful slots units [] h = tt
 patches_are_lawful slots units (p ∷ ps) h = all_append (IsSegment slots units) p.segments (flat_map (λ q. q.segments) ps) h.0.segments (patches_are_lawful slots units ps h.1)
 

@@ -21,7 +21,7 @@ sound_is Sound e = refl
 sound_is Missing e = absurd (cc e)
 sound_is LeftOut e = absurd (cc e)
 
-yields_or : (s : BootSlot) (a b : ℕ) → Yields s a b ⊎ (Yields s a b → ⊥)
+pub yields_or : (s : BootSlot) (a b : ℕ) → Yields s a b ⊎ (Yields s a b → ⊥)
 yields_or A a b = elim (cases_lt b a) [ inl lt ↦ inr (λ le. omega (arith, lt, le)) | inr ge ↦ inl ge ]
 yields_or B a b = elim (cases_lt a b) [ inl lt ↦ inl lt | inr ge ↦ inr (λ lt. omega (arith, lt, ge)) ]
 

@@ -39,7 +39,7 @@ rises_between a b c d ab (inr full) cd = elim (cases_lt a d) [
   | inr ge ↦ inr (omega (arith, full.0, full.1, ab, cd, ge), omega (arith, full.0, full.1, ab, cd, ge))
 ]
 
-count_none : (p : ℕ → Bool) (a n : ℕ) → ((i : ℕ) → a ≤ i → i < a + n → p i ≡ false) → count_by p (range_with_len a n) ≡ 0
+pub count_none : (p : ℕ → Bool) (a n : ℕ) → ((i : ℕ) → a ≤ i → i < a + n → p i ≡ false) → count_by p (range_with_len a n) ≡ 0
 count_none p a zero all = refl
 count_none p a (suc n) all =
     let first : p a ≡ false = all a (omega arith) (omega arith) in

@@ -86,7 +86,7 @@ pub patches_are_flushed : PatchesAreFlushed
 patches_are_flushed t = ap by_table (in_patches_are t) ∙ by_table_all (flushed t)
 
 -- a table without unflushed facts
-whole_table : {F : Type 0} (l : Layers F) → l.unflushed ≡ [] → facts_of l.patches ≡ facts_in l
+pub whole_table : {F : Type 0} (l : Layers F) → l.unflushed ≡ [] → facts_of l.patches ≡ facts_in l
 whole_table l e = sym (ap (λ u. facts_of l.patches ++ u) e ∙ append-nil (facts_of l.patches))
 
 pub flushed_are_all : (m : Memory) → IsWhole m → flushed m.tables ≡ facts m.tables

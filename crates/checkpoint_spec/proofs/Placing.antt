@@ -24,7 +24,7 @@ use Rattle.pyramid.proofs.KeyLemmas.{id_of_key}
 use Rattle.memory_spec.specs.Tables.{facts, all_of}
 use Rattle.memory_spec.specs.Memory.{Memory, Contents, PlaceReads, TargetReads, FactsRead, FitsTarget, FitsInMemory, IsThere, AreNumbered, IsSound}
 use Rattle.memory_spec.specs.Adding.{AreMoved}
-use Rattle.memory_spec.proofs.Lists.{same_some, each_by_recursion, of_each}
+use Rattle.memory_spec.proofs.Lists.{each_by_recursion, of_each}
 use Rattle.memory_spec.proofs.Objects.{same_objects}
 use Rattle.memory_spec.proofs.AllTables.{all_objects, all_mediums, all_addresses, all_segments, all_elisions, of_all}
 use Rattle.memory_spec.proofs.Keeping.{object_kept, range_kept, objects_sound, mediums_sound}
@@ -34,6 +34,7 @@ use Rattle.memory_spec.proofs.Putting.{address_numbers}
 use Rattle.memory_spec.proofs.Created.{not_elided}
 use Rattle.checkpoint_spec.specs.Placing.{placed_target, repointed, IsPlacedAt, IsPlacing, PlacingReads}
 use Rattle.checkpoint_spec.proofs.Repointed.{address_placed, visible_stays}
+use Rattle.array_spec.proofs.Mediums.{same_some}
 
 place_of : (contents : Contents) (n index : ℕ) (body : List ℕ) → 1 ≤ n → body ≡ contents n index → PlaceReads contents [] n index body
 place_of contents zero index body l e = absurd (omega (arith, l))

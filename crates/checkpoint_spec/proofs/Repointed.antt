@@ -11,9 +11,9 @@ use Rattle.pur_base.specs.declared.facts.AddressFact.{AddressFact}
 use Rattle.pyramid.specs.Layers.{AreDistinct, newest_of}
 use Rattle.pyramid.proofs.NewestLemmas.{newest_found}
 use Rattle.pyramid.proofs.SetLemmas.{newest_over}
-use Rattle.memory_spec.proofs.Lists.{same_some, not_both}
 use Rattle.memory_spec.proofs.Adding.{no_newest}
 use Rattle.checkpoint_spec.specs.Placing.{placed_target, repointed, AreRepointed}
+use Rattle.array_spec.proofs.Mediums.{not_both, same_some}
 
 -- the newest fact of a key
 abbrev pub Newest : ℕ → List AddressFact → Option AddressFact

@@ -25,20 +25,13 @@ use Rattle.free_space.specs.Map.{IsMapWith, IsMapOf, AreDataSegments, shelf_of, 
 use Rattle.free_space.specs.Marking.{CanMark, SetsMembers, data_units, patches_units}
 use Rattle.free_space.proofs.Units.{units_in, can_segments, marked_all, ascending_places, same_used, fresh_map, members_set}
 use Rattle.free_space.proofs.Loops.{can_split}
+use Rattle.array_spec.proofs.Used.{all_append, patches_are_lawful}
 
 -- ---- places on ascending slots
-
-all_append : {X : Type 0} (P : X → Type 0) (xs ys : List X) → AllByRecursion P xs → AllByRecursion P ys → AllByRecursion P (xs ++ ys)
-all_append P [] ys h k = k
-all_append P (x ∷ xs) ys h k = (h.0, all_append P xs ys h.1 k)
 
 segments_ascend : (slots units : ℕ) (ss : List PatchSegment) → AllByRecursion (IsSegment slots units) ss → AllByRecursion (AscendFrom slots units 0) (map (λ s. s.places) ss)
 segments_ascend slots units [] h = tt
 segments_ascend slots units (s ∷ ss) h = (h.0.places, segments_ascend slots units ss h.1)
-
-patches_lawful : (slots units : ℕ) (ps : List Patch) → AllByRecursion (IsPatch slots units) ps → AllByRecursion (IsSegment slots units) (flat_map (λ p. p.segments) ps)
-patches_lawful slots units [] h = tt
-patches_lawful slots units (p ∷ ps) h = all_append (IsSegment slots units) p.segments (flat_map (λ q. q.segments) ps) h.0.segments (patches_lawful slots units ps h.1)
 
 given_ascend : (shelf : Geometry) (get : ℕ → Option SegmentFact) → ((id : ℕ) (d : SegmentFact) → get id ≡ Some d → ArePlaces shelf d.places) → (a n : ℕ)
     → AllByRecursion (AscendFrom shelf.slots shelf.units 0) (map (λ d. d.places) (filter_map get (range_with_len a n)))
@@ -53,7 +46,7 @@ given_ascend shelf get h a (suc n) = one (get a) refl (given_ascend shelf get h 
 used_ascend : (boot : BootRecord) (facts : Facts) → IsBootRecord boot → AreSegmentsSound (shelf_of boot) boot facts → AllByRecursion (AscendFrom boot.slots boot.units 0) (used_places boot facts)
 used_ascend boot facts lawful sound =
     all_append (AscendFrom boot.slots boot.units 0) (map (λ s. s.places) (named_segments boot)) (map (λ d. d.places) (segments facts boot.next.segment))
-    (segments_ascend boot.slots boot.units (named_segments boot) (patches_lawful boot.slots boot.units boot.patches lawful.patches.each))
+    (segments_ascend boot.slots boot.units (named_segments boot) (patches_are_lawful boot.slots boot.units boot.patches lawful.patches.each))
     (given_ascend (shelf_of boot) (segment facts) sound.places 0 boot.next.segment)
 
 -- ---- the units in one list

@@ -13,7 +13,8 @@ use Rattle.pur_base.specs.declared.facts.AnyFact.TheVariants as any
 use Rattle.pur_base.proofs.SaysLemmas.{says_is}
 use Rattle.fact_codec.specs.Fact.{IsFact}
 use Rattle.pyramid.proofs.ContainsLemmas.{here as first_of, there, either, nowhere}
-use Rattle.memory_spec.proofs.Lists.{not_both, same_some, each_by_recursion}
+use Rattle.memory_spec.proofs.Lists.{each_by_recursion}
+use Rattle.array_spec.proofs.Mediums.{not_both, same_some}
 
 -- two numbers below 2^64 in one key
 same_parts : (a b c d : ℕ) → b < 2 ^ 64 → d < 2 ^ 64 → key_of a b ≡ key_of c d → (a ≡ c) × (b ≡ d)

@@ -14,7 +14,8 @@ use Rattle.fact_codec.specs.Fact.{IsFact}
 use Rattle.array_spec.specs.Stored.{PatchStands, in_patches}
 use Rattle.pyramid.proofs.ContainsLemmas.{nowhere}
 use Rattle.pyramid.proofs.LayerLemmas.{all_contained}
-use Rattle.memory_spec.proofs.Lists.{same_some, of_filter_map}
+use Rattle.memory_spec.proofs.Lists.{of_filter_map}
+use Rattle.array_spec.proofs.Mediums.{same_some}
 
 -- ---- of each table
 

@@ -19,12 +19,13 @@ use Rattle.array_spec.specs.Sound.{AreAddressesSound}
 use Rattle.array_spec.specs.Stored.{in_patches, all_facts}
 use Rattle.array_spec.proofs.OneSector.{one_sector}
 use Rattle.memory_spec.specs.Memory.{Contents, TargetReads, EntryReads, FactsRead}
-use Rattle.memory_spec.proofs.Lists.{same_some, zip_weaker}
+use Rattle.memory_spec.proofs.Lists.{zip_weaker}
 use Rattle.checkpoint_spec.specs.Contents.{ContentsStand}
 use Rattle.checkpoint_spec.proofs.Standing.{said}
 use Rattle.loaded_spec.specs.Laws.{StoredTablesRead}
 use Rattle.loaded_spec.proofs.Lawful.{patches_lawful, segment_lawful}
 use Rattle.loaded_spec.proofs.Sound.{segment_id, place_reads}
+use Rattle.array_spec.proofs.Mediums.{same_some}
 
 -- ---- what the segments hold
 

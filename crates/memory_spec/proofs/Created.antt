@@ -38,7 +38,7 @@ use Rattle.memory_spec.specs.Tables.{facts, all_of}
 use Rattle.memory_spec.specs.Memory.{Memory, Contents, EntryReads, FactsRead, FitsInMemory, IsThere, AreAddressesThere, IsSound, ReadsAs}
 use Rattle.memory_spec.specs.Adding.{AreNew, IsCreated, HasCreated}
 use Rattle.memory_spec.specs.Laws.{IsNextVolume, CreatingReads}
-use Rattle.memory_spec.proofs.Lists.{same_some, not_both, each_by_recursion, of_each, zip_long}
+use Rattle.memory_spec.proofs.Lists.{each_by_recursion, of_each, zip_long}
 use Rattle.memory_spec.proofs.Objects.{object_is}
 use Rattle.memory_spec.proofs.AllTables.{all_objects, all_mediums, all_addresses, all_segments, all_elisions, of_all, numbered_more}
 use Rattle.memory_spec.proofs.Keeping.{range_kept, address_kept, segment_kept, range_is, address_is, none_since, some_since}
@@ -46,6 +46,7 @@ use Rattle.memory_spec.proofs.Adding.{only_newest, no_newest, newest_kept, newes
 use Rattle.memory_spec.proofs.Moved.{over_before}
 use Rattle.memory_spec.proofs.Creating.{objects_more, create_reads}
 use Rattle.memory_spec.proofs.Putting.{object_fits}
+use Rattle.array_spec.proofs.Mediums.{not_both, same_some}
 
 -- ---- ids that aren't given yet
 

@@ -13,12 +13,12 @@ use Rattle.pur_base.specs.declared.facts.Target.{Target}
 use Rattle.pur_base.specs.declared.facts.Target.TheVariants.{Stored, Zero}
 use Rattle.pur_base.specs.declared.facts.ObjectFact.{ObjectFact}
 use Rattle.array_spec.specs.Sound.{AreMediumsSound}
-use Rattle.array_spec.proofs.Mediums.{reads_one}
+use Rattle.array_spec.proofs.Mediums.{reads_one, same_some}
 use Rattle.pyramid.proofs.ContainsLemmas.{here, there, either, nowhere}
 use Rattle.memory_spec.specs.Tables.{facts}
 use Rattle.memory_spec.specs.Memory.{Memory, Contents, PlaceReads, TargetReads, SectorReads, EntryReads, ReadsAs}
 use Rattle.memory_spec.specs.Reading.{EntriesRead, SectorsRead, ReadsAsOne}
-use Rattle.memory_spec.proofs.Lists.{same_some, pairs_of, zip_long}
+use Rattle.memory_spec.proofs.Lists.{pairs_of, zip_long}
 
 -- ---- one sector for each place
 

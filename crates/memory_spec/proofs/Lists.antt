@@ -7,12 +7,7 @@ use Rattle.std.proofs.lemmas.Option.{slice_get_past, slice_get_within, get_or_fr
 use Rattle.std.proofs.lemmas.List.Elements.{All-contains, All-from_recursion, recursion_from_All}
 use Rattle.pyramid.proofs.ContainsLemmas.{here, there, either, nowhere}
 use Rattle.pyramid.proofs.LayerLemmas.{all_contained}
-
-pub not_both : {X : Type 0} {a : X} (o : Option X) → o ≡ Some a → o ≡ None → ⊥
-not_both o e f = cc
-
-pub same_some : {X : Type 0} {a b : X} (o : Option X) → o ≡ Some a → o ≡ Some b → a ≡ b
-same_some o e f = cc
+use Rattle.array_spec.proofs.Mediums.{not_both, same_some}
 
 -- ---- each element
 

@@ -75,7 +75,7 @@ within_size m s = record {
     ends r (inl h) = omega (arith, h.0, h.2)
     ends r (inr h) = h.target_end
 
-run_long : (medium sector number : ℕ) (ts : List Target) → length (address_facts medium sector number ts) ≡ length ts
+pub run_long : (medium sector number : ℕ) (ts : List Target) → length (address_facts medium sector number ts) ≡ length ts
 run_long medium sector number [] = refl
 run_long medium sector number (t ∷ ts) = ap suc (run_long medium (sector + 1) (number + 1) ts)
 

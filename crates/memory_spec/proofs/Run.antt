@@ -15,9 +15,9 @@ use Rattle.pyramid.specs.Layers.{AreDistinct, newest_of}
 use Rattle.pyramid.proofs.ContainsLemmas.{here, there, either, nowhere}
 use Rattle.pyramid.proofs.KeyLemmas.{id_of_key}
 use Rattle.memory_spec.specs.Adding.{address_facts, overlaid}
-use Rattle.memory_spec.proofs.Lists.{not_both, same_some}
 use Rattle.memory_spec.proofs.Adding.{only_newest, no_newest, newest_kept, newest_given}
 use Rattle.memory_spec.proofs.Overlay.{overlaid_out, overlaid_in}
+use Rattle.array_spec.proofs.Mediums.{not_both, same_some}
 
 abbrev pub fact : ℕ → ℕ → Target → ℕ → AddressFact
 fact medium sector t number = record { medium = record { 0 = medium }; sector = sector; target = t; seq = record { 0 = number } }

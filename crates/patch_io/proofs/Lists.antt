@@ -52,11 +52,6 @@ pub all_from : {X : Type 0} (P : X → Type 0) (xs : List X) → ((k : ℕ) (x :
 all_from P [] each = tt
 all_from P (a ∷ xs) each = (each 0 a refl, all_from P xs (λ k x at. each (suc k) x at))
 
--- what holds of all of two lists holds of them as one
-pub all_both : {X : Type 0} (P : X → Type 0) (xs ys : List X) → AllByRecursion P xs → AllByRecursion P ys → AllByRecursion P (xs ++ ys)
-all_both P [] ys first second = second
-all_both P (a ∷ xs) ys first second = (first.0, all_both P xs ys first.1 second)
-
 -- of one more too
 pub all_pushed : {X : Type 0} (P : X → Type 0) (xs : List X) (y : X) → AllByRecursion P xs → P y → AllByRecursion P (xs ++ y ∷ [])
 all_pushed P [] y all is = (is, tt)
@@ -80,8 +75,3 @@ pub whole_of : {X : Type 0} (xs ys rest : List X) → ys ≡ xs ++ rest → leng
 whole_of xs ys rest is sizes =
     let none : rest ≡ [] = nil_from_length rest (omega (arith, sizes, ap length is, length-append xs rest)) in
     is ∙ ap (λ l. xs ++ l) none ∙ append-nil xs
-
--- what holds of two lists holds of the first
-pub all_front : {X : Type 0} (P : X → Type 0) (xs ys : List X) → AllByRecursion P (xs ++ ys) → AllByRecursion P xs
-all_front P [] ys all = tt
-all_front P (a ∷ xs) ys all = (all.0, all_front P xs ys all.1)

@@ -27,7 +27,8 @@ use Rattle.patch_io.specs.Standing.{StandsAt, StandIn, ReadsPart, AreFactsOf, Sh
 use Rattle.patch_io.specs.Faults.{IsPartFault, IsFaultOf, OthersStayOfPatch}
 use Rattle.patch_io.specs.declared.fault.PatchFault.{PatchFault}
 use Rattle.patch_io.specs.declared.fault.PatchFault.TheVariants.{Bad, Lost, Memory}
-use Rattle.patch_io.proofs.Lists.{get_either, get_taken, get_behind, all_at, all_both, all_front}
+use Rattle.patch_io.proofs.Lists.{get_either, get_taken, get_behind, all_at}
+use Rattle.array_spec.proofs.Used.{all_append, all_append_left}
 
 -- ---- places of a lawful patch
 
@@ -93,7 +94,7 @@ module _ (view : View) (p : Patch) (part j : ℕ) (f : AnyFact) (lt : j < 6720) 
 -- the first of some facts that are in order are so
 pub in_order_front : (tag : ℕ) (xs ys : List AnyFact) → AreInOrder tag (xs ++ ys) → AreInOrder tag xs
 in_order_front tag xs ys order = record {
-  table = all_front (λ (f : AnyFact). table_tag f ≡ tag) xs ys order.table;
+  table = all_append_left (λ (f : AnyFact). table_tag f ≡ tag) xs ys order.table;
   ascending = λ i j d less lt.
       let bound : j < length (xs ++ ys) = omega (arith, lt, length-append xs ys) in
       let pair : any_key (get_or (xs ++ ys) i d) < any_key (get_or (xs ++ ys) j d) = order.ascending i j d less bound in
@@ -152,7 +153,7 @@ module _ (a b : Shelved) (p : Patch) (missing : List Bool) (part count : ℕ) (g
   pub loads_more : (new : List AnyFact) → ReadsPart b (places_of_part p part) missing p.tag count got new → Loads a p missing new
   loads_more new reads = record {
     in_order = reads.in_order;
-    each = subst (AllByRecursion IsFact) (sym reads.behind) (all_both IsFact got reads.added loads.each reads.each);
+    each = subst (AllByRecursion IsFact) (sym reads.behind) (all_append IsFact got reads.added loads.each reads.each);
     stand = λ h view shows stripes k f at. elim (get_either got reads.added k f (sym (ap (λ (l : List AnyFact). slice_get l k) reads.behind) ∙ at)) [
       | inl early ↦ loads.stand h view shows stripes k f early
       | inr (j, is, here) ↦

@@ -20,9 +20,10 @@ use Rattle.segment_io.specs.Places.{OnUnits}
 use Rattle.segment_io.specs.Stripes.{bytes_of}
 use Rattle.patch_io.specs.Filling.{HoldsPart}
 use Rattle.patch_io.specs.Storing.{facts_of_part, AreApart, OnPatch, IsOpenOf, AreOpenOf}
-use Rattle.patch_io.proofs.Lists.{get_pushed, all_front}
+use Rattle.patch_io.proofs.Lists.{get_pushed}
 use Rattle.patch_io.proofs.Parts.{places_are}
 use Rattle.patch_io.proofs.Apart.{AreDisjoint, stripe_kept, part_kept}
+use Rattle.array_spec.proofs.Used.{all_append_left, all_append_right}
 
 -- the facts of a slice are those of the part
 pub part_facts : {F : Type 0} (any : F → AnyFact) (xs : List F) (part start end : ℕ) → start ≡ 6720 * part → end ≡ min (start + 6720) (length xs) → start ≤ length xs → map any (take (end - start) (drop start xs)) ≡ facts_of_part (map any xs) part
@@ -36,14 +37,10 @@ part_facts any xs part start end from to within =
     sizes : end - start ≡ min 6720 (length (drop start (map any xs)))
     sizes = omega (arith, length-drop start (map any xs), length-map xs any, to, within)
 
-all_behind : {X : Type 0} (P : X → Type 0) (xs ys : List X) → AllByRecursion P (xs ++ ys) → AllByRecursion P ys
-all_behind P [] ys all = all
-all_behind P (x ∷ xs) ys all = all_behind P xs ys all.1
-
 pub part_lawful : (facts : List AnyFact) (part : ℕ) → AllByRecursion IsLawful facts → AllByRecursion IsLawful (facts_of_part facts part)
 part_lawful facts part all =
-    let behind : AllByRecursion IsLawful (drop (6720 * part) facts) = all_behind IsLawful (take (6720 * part) facts) (drop (6720 * part) facts) (subst (AllByRecursion IsLawful) (sym (take-append-drop (6720 * part) facts)) all) in
-    all_front IsLawful (facts_of_part facts part) (drop 6720 (drop (6720 * part) facts)) (subst (AllByRecursion IsLawful) (sym (take-append-drop 6720 (drop (6720 * part) facts))) behind)
+    let behind : AllByRecursion IsLawful (drop (6720 * part) facts) = all_append_right IsLawful (take (6720 * part) facts) (drop (6720 * part) facts) (subst (AllByRecursion IsLawful) (sym (take-append-drop (6720 * part) facts)) all) in
+    all_append_left IsLawful (facts_of_part facts part) (drop 6720 (drop (6720 * part) facts)) (subst (AllByRecursion IsLawful) (sym (take-append-drop 6720 (drop (6720 * part) facts))) behind)
 
 pub part_fits : (facts : List AnyFact) (part : ℕ) → length (facts_of_part facts part) ≤ 6720
 part_fits facts part = omega (arith, length-take 6720 (drop (6720 * part) facts))

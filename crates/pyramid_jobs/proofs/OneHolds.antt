@@ -32,7 +32,6 @@ use Rattle.array_core.specs.Free.{WritesFree}
 use Rattle.array_core.proofs.Kept.{free_writes_leave}
 use Rattle.array_core.specs.declared.array.Array.{Array}
 use Rattle.array_core.specs.Ready.{IsArrayOf, IsReady}
-use Rattle.array_core.proofs.Losses.{same_geometry}
 use Rattle.array_core.specs.Switching.{HoldMerged}
 use Rattle.array_core.proofs.Stages.{later_itself}
 use Rattle.session_spec.specs.Entering.{read_now}
@@ -45,6 +44,7 @@ use Rattle.pyramid_jobs.specs.Written.{IsOne, OneStands}
 use Rattle.pyramid_jobs.proofs.Memories.{says_with}
 use Rattle.pyramid_jobs.proofs.NextRecord.{added_named, joined_facts, sound_by}
 use Rattle.pyramid_jobs.proofs.OnePatch.{taken}
+use Rattle.register.proofs.Rounds.{same_shelf}
 
 -- ---- lists of none or one
 
@@ -81,7 +81,7 @@ module _ (a b : Shelved) (is : IsShelf a) (is_b : IsShelf b) (honest : a.honest)
 
   -- the shelf is as large as it was
   of_b : IsArrayOf (geometry_of b) x
-  of_b = subst (λ (s : Geometry). IsArrayOf s x) (same_geometry on) of
+  of_b = subst (λ (s : Geometry). IsArrayOf s x) (same_shelf on) of
 
   -- ---- on drives that are left
 

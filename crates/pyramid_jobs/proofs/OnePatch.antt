@@ -23,7 +23,7 @@ use Rattle.world.specs.Losing.{geometry_of}
 use Rattle.world.specs.Shelf.{Shelved}
 use Rattle.memory_spec.specs.Memory.{Memory}
 use Rattle.memory_spec.specs.Tables.{facts}
-use Rattle.memory_spec.proofs.Lists.{of_each}
+use Rattle.memory_spec.proofs.Lists.{of_each, contains_at}
 use Rattle.table_plan.specs.Patches.{ArePatchFacts}
 use Rattle.table_plan.specs.Merging.{merged_facts}
 use Rattle.table_plan.proofs.MergeLemmas.{are_patch_facts}
@@ -40,7 +40,7 @@ use Rattle.array_core.specs.Ready.{IsArrayOf}
 use Rattle.array_checkpoint.proofs.FreeUnits.{IsFreeByte, free_byte}
 use Rattle.array_checkpoint.proofs.Left.{own_size}
 use Rattle.array_checkpoint.proofs.PatchUnits.{part_in, patch_places}
-use Rattle.array_checkpoint.proofs.UnitLists.{in_get, pairs_two}
+use Rattle.array_checkpoint.proofs.UnitLists.{pairs_two}
 use Rattle.array_checkpoint.proofs.Units.{StandApart, new_apart, stand_back}
 use Rattle.pyramid_jobs.specs.declared.preparing.Prepared.{Prepared}
 use Rattle.pyramid_jobs.specs.Prepared.{IsPreparedFor}
@@ -124,7 +124,7 @@ module _ (a : Shelved) (x : Array) (t : Table) (i : ℕ) (q : Prepared) (of : Is
 
   lawful : (p : Patch) → IsOne q.added p → IsPatch a.drives a.units p
   lawful p at =
-      subst (λ (g : Geometry). IsPatch g.slots g.units p) (sym (own_size a x of)) (of_each (IsPatch boot.slots boot.units) Added p added_lawful (in_get Added 0 p (in_added p at)))
+      subst (λ (g : Geometry). IsPatch g.slots g.units p) (sym (own_size a x of)) (of_each (IsPatch boot.slots boot.units) Added p added_lawful (contains_at Added 0 p (in_added p at)))
 
   facts_are : ArePatchFacts (tag_of t) (merged_facts q.merged)
   facts_are = subst (λ (u : Table). ArePatchFacts (tag_of u) (merged_facts q.merged)) h.table (are_patch_facts m i q.merged of.sound of.stored h.merged)

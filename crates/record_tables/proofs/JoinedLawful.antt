@@ -12,11 +12,11 @@ use Rattle.array_spec.specs.Sound.{ArePlaces}
 use Rattle.checkpoint_spec.specs.Merging.{AreJoined, has_pair, pair_segments, place_in}
 use Rattle.record_tables.specs.Patches.{segments_for, new_patch}
 use Rattle.record_tables.specs.Joined.{JoinedAreLawful}
-use Rattle.record_tables.proofs.Lists.{all_append, all_front, all_back}
 use Rattle.record_tables.proofs.Tags.{HaveTag, lower, behind_tag}
 use Rattle.record_tables.proofs.Added.{new_each}
 use Rattle.record_tables.proofs.Lawful.{new_lawful, new_room, fewer}
 use Rattle.record_tables.proofs.Neighbours.{ArePair, joined_pair, two_segments}
+use Rattle.array_spec.proofs.Used.{all_append, all_append_left, all_append_right}
 
 -- ---- tags
 
@@ -46,7 +46,7 @@ module _ (slots units : ℕ) (was all : List Patch) (t : Table) (i count first :
   were = subst (λ l. AllByRecursion (IsPatch slots units) l) j.was_is lawful.each
 
   others : AllByRecursion (IsPatch slots units) (j.older ∷ j.newer ∷ j.back)
-  others = all_back (IsPatch slots units) j.front (j.older ∷ j.newer ∷ j.back) were
+  others = all_append_right (IsPatch slots units) j.front (j.older ∷ j.newer ∷ j.back) were
 
   -- the tag of the two is a table's
   tag : tag_of t ≤ 5
@@ -55,7 +55,7 @@ module _ (slots units : ℕ) (was all : List Patch) (t : Table) (i count first :
   all_lawful : AllByRecursion (IsPatch slots units) all
   all_lawful =
       subst (λ l. AllByRecursion (IsPatch slots units) l) (sym j.now_is)
-      (all_append (IsPatch slots units) j.front (New ++ j.back) (all_front (IsPatch slots units) j.front (j.older ∷ j.newer ∷ j.back) were)
+      (all_append (IsPatch slots units) j.front (New ++ j.back) (all_append_left (IsPatch slots units) j.front (j.older ∷ j.newer ∷ j.back) were)
       (all_append (IsPatch slots units) New j.back (new_lawful slots units (tag_of t) count first places tag spelled (sym room) each (omega (arith, ids))) others.1.1))
 
   by_tag : ByTagFrom 1 all

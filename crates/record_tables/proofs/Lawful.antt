@@ -10,10 +10,11 @@ use Rattle.boot_codec.specs.Record.{IsSegment, IsPatch, ByTagFrom, patch_segment
 use Rattle.array_spec.specs.Sound.{ArePlaces}
 use Rattle.record_tables.specs.Patches.{segments_for, counts_of, segments_from, new_patch, added_from, added_patches, by_tag}
 use Rattle.record_tables.specs.Laws.{NextPatchesAreLawful}
-use Rattle.record_tables.proofs.Lists.{all_append, all_front, all_back, all_weaker}
+use Rattle.record_tables.proofs.Lists.{all_weaker}
 use Rattle.record_tables.proofs.Woven.{Woven, woven_all, woven_sum}
 use Rattle.record_tables.proofs.Tags.{HaveTagsBelow, woven_in_order, ordered}
 use Rattle.record_tables.proofs.Added.{new_some, new_each, segments_long, patch_segments_are, taken_long, left_long, added_segments}
+use Rattle.array_spec.proofs.Used.{all_append, all_append_left, all_append_right}
 
 -- ---- tags
 
@@ -78,8 +79,8 @@ added_lawful slots units tag (n ∷ counts) id places t few e h l =
     let sum : sum_by segments_for (n ∷ counts) ≡ k + sum_by segments_for counts = sum_by-cons segments_for n counts in
     let whole = subst (λ u. AllByRecursion (ArePlaces (record { slots = slots; units = units })) u) (sym (take-append-drop k places)) h in
     all_append (IsPatch slots units) (new_patch tag n id (take k places)) (added_from (tag + 1) counts (id + k) (drop k places))
-    (new_lawful slots units tag n id (take k places) (omega (arith, t)) few.0 long (all_front (ArePlaces (record { slots = slots; units = units })) (take k places) (drop k places) whole) (omega (arith, l, long, e, sum)))
-    (added_lawful slots units (tag + 1) counts (id + k) (drop k places) (omega (arith, t)) few.1 left (all_back (ArePlaces (record { slots = slots; units = units })) (take k places) (drop k places) whole)
+    (new_lawful slots units tag n id (take k places) (omega (arith, t)) few.0 long (all_append_left (ArePlaces (record { slots = slots; units = units })) (take k places) (drop k places) whole) (omega (arith, l, long, e, sum)))
+    (added_lawful slots units (tag + 1) counts (id + k) (drop k places) (omega (arith, t)) few.1 left (all_append_right (ArePlaces (record { slots = slots; units = units })) (take k places) (drop k places) whole)
     (omega (arith, l, left, e, sum)))
 
 -- ---- how many

@@ -16,18 +16,6 @@ contains_without xs ys zs x c = elim (Contains-append_cases xs zs x c) [
 
 -- ---- each element
 
-pub all_append : {X : Type 0} (P : X → Type 0) (xs ys : List X) → AllByRecursion P xs → AllByRecursion P ys → AllByRecursion P (xs ++ ys)
-all_append P [] ys h k = k
-all_append P (x ∷ xs) ys h k = (h.0, all_append P xs ys h.1 k)
-
-pub all_front : {X : Type 0} (P : X → Type 0) (xs ys : List X) → AllByRecursion P (xs ++ ys) → AllByRecursion P xs
-all_front P [] ys h = tt
-all_front P (x ∷ xs) ys h = (h.0, all_front P xs ys h.1)
-
-pub all_back : {X : Type 0} (P : X → Type 0) (xs ys : List X) → AllByRecursion P (xs ++ ys) → AllByRecursion P ys
-all_back P [] ys h = h
-all_back P (x ∷ xs) ys h = all_back P xs ys h.1
-
 pub all_weaker : {X : Type 0} (P Q : X → Type 0) → ((x : X) → P x → Q x) → (xs : List X) → AllByRecursion P xs → AllByRecursion Q xs
 all_weaker P Q w [] h = tt
 all_weaker P Q w (x ∷ xs) h = (w x h.0, all_weaker P Q w xs h.1)

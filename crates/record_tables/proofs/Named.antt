@@ -17,9 +17,10 @@ use Rattle.array_memory.specs.declared.plan.Plan.{Plan}
 use Rattle.array_memory.specs.Plan.{after_plan, AreCounts}
 use Rattle.record_tables.specs.Patches.{counts_of, new_patch, added_patches, by_tag}
 use Rattle.record_tables.specs.Laws.{HasFacts, HaveFacts, new_facts, AddedAreNamed, AddedTakeTheUnits, NextPatchesAreNamed}
-use Rattle.record_tables.proofs.Lists.{all_append, all_front, all_back, all_weaker, zip_join, zip_split, zip_weaker, zip_both}
+use Rattle.record_tables.proofs.Lists.{all_weaker, zip_join, zip_split, zip_weaker, zip_both}
 use Rattle.record_tables.proofs.Tags.{HaveTag, HaveTagsFrom, in_order, first_table}
 use Rattle.record_tables.proofs.Added.{new_some, added_filled, added_places}
+use Rattle.array_spec.proofs.Used.{all_append, all_append_left, all_append_right}
 
 -- ---- the new patches
 
@@ -98,8 +99,8 @@ module _ (part : Table → List (List AnyFact)) (all : List Table → List (List
   tags_from_on tag least (t ∷ ts) ps l some n h =
       let w = zip_split IsNamed ps (part t) (all ts) (subst (λ fss. AllZip IsNamed ps fss) (next t ts) n) in
       let filled : AreFilled (w.front ++ w.rest) = subst (λ l. AreFilled l) w.whole some in
-      let mine = tags_are tag w.front (part t) (all_front (λ p. 1 ≤ p.facts) w.front w.rest filled) w.first (own tag t h.0 h.1) in
-      let others = tags_from_on (tag + 1) least ts w.rest (omega (arith, l)) (all_back (λ p. 1 ≤ p.facts) w.front w.rest filled) w.second h.2 in
+      let mine = tags_are tag w.front (part t) (all_append_left (λ p. 1 ≤ p.facts) w.front w.rest filled) w.first (own tag t h.0 h.1) in
+      let others = tags_from_on (tag + 1) least ts w.rest (omega (arith, l)) (all_append_right (λ p. 1 ≤ p.facts) w.front w.rest filled) w.second h.2 in
       subst (λ l. HaveTagsFrom least l) (sym w.whole) (all_append (λ p. least ≤ p.tag) w.front w.rest (all_weaker (λ p. p.tag ≡ tag) (λ p. least ≤ p.tag) (λ p e. omega (arith, e, l)) w.front mine) others)
 
 -- what holds of old patches and new ones, each beside its facts, holds of them table by table
@@ -118,10 +119,10 @@ module _ (R : Patch → List AnyFact → Type 0) where
       let w = zip_split Both new t.1 (news ts) m in
       let old_filled : AreFilled (v.front ++ v.rest) = subst (λ l. AreFilled l) v.whole some in
       let new_filled : AreFilled (w.front ++ w.rest) = subst (λ l. AreFilled l) w.whole more in
-      let old_front = all_front (λ p. 1 ≤ p.facts) v.front v.rest old_filled in
-      let old_back = all_back (λ p. 1 ≤ p.facts) v.front v.rest old_filled in
-      let new_front = all_front (λ p. 1 ≤ p.facts) w.front w.rest new_filled in
-      let new_back = all_back (λ p. 1 ≤ p.facts) w.front w.rest new_filled in
+      let old_front = all_append_left (λ p. 1 ≤ p.facts) v.front v.rest old_filled in
+      let old_back = all_append_right (λ p. 1 ≤ p.facts) v.front v.rest old_filled in
+      let new_front = all_append_left (λ p. 1 ≤ p.facts) w.front w.rest new_filled in
+      let new_back = all_append_right (λ p. 1 ≤ p.facts) w.front w.rest new_filled in
       let shape : in_order tag (suc (length ts)) (v.front ++ v.rest) (w.front ++ w.rest) ≡ (v.front ++ w.front) ++ in_order (tag + 1) (length ts) v.rest w.rest =
       first_table tag (length ts) v.front v.rest w.front w.rest
       (tags_are tag v.front t.0 old_front (names v.front t.0 v.first) h.0)

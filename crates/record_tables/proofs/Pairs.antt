@@ -22,9 +22,10 @@ use Rattle.checkpoint_spec.specs.Whole.{IsNamed}
 use Rattle.table_plan.specs.Merging.{pair_facts, patch_count}
 use Rattle.record_tables.specs.Patches.{segments_for, of_tag}
 use Rattle.record_tables.specs.Joined.{PairsAreNamed}
-use Rattle.record_tables.proofs.Lists.{all_append, all_front, all_back, all_weaker, zip_split, zip_at}
+use Rattle.record_tables.proofs.Lists.{all_weaker, zip_split, zip_at}
 use Rattle.record_tables.proofs.Named.{AreFilled, tags_pass, all_pass}
 use Rattle.record_tables.proofs.Neighbours.{IsParting, own_is, no_patch, two_left, two_segments, few_segments}
+use Rattle.array_spec.proofs.Used.{all_append, all_append_left, all_append_right}
 
 -- ---- segments for facts
 
@@ -152,16 +153,16 @@ named_parts slots units m t was lawful named =
     let v = zip_split IsNamed was (before m t) (own m t ++ behind m t) (subst (λ l. AllZip IsNamed was l) (patches_are m t) named) in
     let w = zip_split IsNamed v.rest (own m t) (behind m t) v.second in
     let some : AreFilled (v.front ++ v.rest) = subst (λ l. AreFilled l) v.whole (all_weaker (IsPatch slots units) (λ q. 1 ≤ q.facts) (λ q l. l.facts.0) was lawful.each) in
-    let others : AreFilled (w.front ++ w.rest) = subst (λ l. AreFilled l) w.whole (all_back (λ q. 1 ≤ q.facts) v.front v.rest some) in
+    let others : AreFilled (w.front ++ w.rest) = subst (λ l. AreFilled l) w.whole (all_append_right (λ q. 1 ≤ q.facts) v.front v.rest some) in
     record {
       parts = record {
         lower = v.front;
         own = w.front;
         higher = w.rest;
         whole = v.whole ∙ ap (λ l. v.front ++ l) w.whole;
-        below = tags_pass (λ k. k < tag_of t) v.front (before m t) (all_front (λ q. 1 ≤ q.facts) v.front v.rest some) v.first (before_lower m t);
-        same = tags_pass (λ k. k ≡ tag_of t) w.front (own m t) (all_front (λ q. 1 ≤ q.facts) w.front w.rest others) w.first (own_same m t);
-        above = tags_pass (λ k. tag_of t + 1 ≤ k) w.rest (behind m t) (all_back (λ q. 1 ≤ q.facts) w.front w.rest others) w.second (behind_higher m t);
+        below = tags_pass (λ k. k < tag_of t) v.front (before m t) (all_append_left (λ q. 1 ≤ q.facts) v.front v.rest some) v.first (before_lower m t);
+        same = tags_pass (λ k. k ≡ tag_of t) w.front (own m t) (all_append_left (λ q. 1 ≤ q.facts) w.front w.rest others) w.first (own_same m t);
+        above = tags_pass (λ k. tag_of t + 1 ≤ k) w.rest (behind m t) (all_append_right (λ q. 1 ≤ q.facts) w.front w.rest others) w.second (behind_higher m t);
       };
       lower = v.first;
       mine = w.first;
@@ -214,7 +215,7 @@ module _ (slots units : ℕ) (was : List Patch) (m : Tables) (t : Table) (i : �
   named_at at l =
       let p = get_or v.parts.own at no_patch in
       let each = subst (λ ps. AllByRecursion (IsPatch slots units) ps) v.parts.whole lawful.each in
-      let mine = all_front (IsPatch slots units) v.parts.own v.parts.higher (all_back (IsPatch slots units) v.parts.lower (v.parts.own ++ v.parts.higher) each) in
+      let mine = all_append_left (IsPatch slots units) v.parts.own v.parts.higher (all_append_right (IsPatch slots units) v.parts.lower (v.parts.own ++ v.parts.higher) each) in
       let is = of_each (IsPatch slots units) v.parts.own p mine (Contains-get_or v.parts.own at no_patch l) in
       is.room ∙ ap segments_for (zip_at IsNamed v.parts.own (own m t) at no_patch [] v.mine l).count
 

@@ -6,8 +6,9 @@ use Rattle.std.proofs.lemmas.List.Elements.{filter-append}
 use Rattle.boot_codec.specs.declared.patch.Patch.{Patch}
 use Rattle.boot_codec.specs.Record.{ByTagFrom}
 use Rattle.record_tables.specs.Patches.{of_tag}
-use Rattle.record_tables.proofs.Lists.{all_append, all_back, all_weaker}
+use Rattle.record_tables.proofs.Lists.{all_weaker}
 use Rattle.record_tables.proofs.Woven.{Woven, woven_append, woven_joined}
+use Rattle.array_spec.proofs.Used.{all_append, all_append_right}
 
 -- of one table
 abbrev pub HaveTag : ℕ → List Patch → Type 0
@@ -120,7 +121,7 @@ parted least (p ∷ ps) h = elim (cases_lt least p.tag) [
 ]
 
 back_of : (P : Patch → Type 0) (ps a r : List Patch) → ps ≡ a ++ r → AllByRecursion P ps → AllByRecursion P r
-back_of P ps a r e h = all_back P a r (subst (λ l. AllByRecursion P l) e h)
+back_of P ps a r e h = all_append_right P a r (subst (λ l. AllByRecursion P l) e h)
 
 no_tables : (least : ℕ) (ps : List Patch) → ByTagFrom least ps → HaveTagsBelow least ps → ps ≡ []
 no_tables least [] h k = refl

@@ -20,8 +20,9 @@ use Rattle.free_space.proofs.LawLemmas.{taken_units_are_free, taken_units_are_us
 use Rattle.free_space.proofs.Units.{same_used}
 use Rattle.memory_spec.proofs.Lists.{each_by_recursion}
 use Rattle.record_tables.specs.Units.{all_units, AreNewUnits, IsMapAfter, NoneIsTaken}
-use Rattle.record_tables.proofs.Lists.{all_append, no_pairs, cons_pairs, pairs_append}
+use Rattle.record_tables.proofs.Lists.{no_pairs, cons_pairs, pairs_append}
 use Rattle.record_tables.proofs.Room.{HasRoom, room_left, one_lower, none_lower}
+use Rattle.array_spec.proofs.Used.{all_append}
 
 -- ---- units that aren't among others
 

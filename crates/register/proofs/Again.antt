@@ -16,7 +16,8 @@ use Rattle.boot_region.specs.Storing.{AccountsFor, IsOlder}
 use Rattle.boot_region.proofs.Phases.{not_risen_before}
 use Rattle.register.specs.declared.state.Register.{Register}
 use Rattle.register.specs.Standing.{IsNextOf}
-use Rattle.register.proofs.Resting.{yields_or}
+use Rattle.boot_region.proofs.StillGiven.{yields_or}
+use Rattle.nvram_log.proofs.SettledEach.{both_leave}
 
 -- ---- conditions
 
@@ -49,12 +50,12 @@ later_too (inr n) Sound l (inr e) keeps = e
 later_too (inr n) Missing l h keeps = h
 later_too (inr n) LeftOut l h keeps = h
 
-missing_still : (a b : Condition) → MayBecome a b → is_missing a ≡ true → is_missing b ≡ true
+pub missing_still : (a b : Condition) → MayBecome a b → is_missing a ≡ true → is_missing b ≡ true
 missing_still Sound b h e = absurd (cc e)
 missing_still Missing b h e = rw h refl
 missing_still LeftOut b h e = rw h refl
 
-count_le : (p q : ℕ → Bool) (xs : List ℕ) → ((i : ℕ) → p i ≡ true → q i ≡ true) → count_by p xs ≤ count_by q xs
+pub count_le : (p q : ℕ → Bool) (xs : List ℕ) → ((i : ℕ) → p i ≡ true → q i ≡ true) → count_by p xs ≤ count_by q xs
 count_le p q [] all = omega arith
 count_le p q (x ∷ xs) all =
     let rest = count_le p q xs all in
@@ -76,7 +77,7 @@ fewer_bearable shelf missing more within bears = record {
       omega (arith, le, bears.nvrams);
 }
 
-bearable_or : (shelf : Geometry) (missing : Conditions) → IsBearable shelf missing ⊎ (IsBearable shelf missing → ⊥)
+pub bearable_or : (shelf : Geometry) (missing : Conditions) → IsBearable shelf missing ⊎ (IsBearable shelf missing → ⊥)
 bearable_or shelf missing = elim (cases_lt 2 (missing_drives shelf missing)) [
   | inl many ↦ inr (λ b. omega (arith, many, b.drives))
   | inr few ↦ elim (cases_lt 1 (missing_nvrams missing)) [
@@ -101,16 +102,6 @@ not_risen_since a b c ab bc none =
 
     at_most : c ≤ a → a ≡ b
     at_most le = omega (arith, le, ab, bc)
-
-pub both : {a b : Shelved} {P Q : Stop → Type 0} → LeavesOnly a b P → LeavesOnly a b Q → LeavesOnly a b (λ stop. P stop × Q stop)
-both {a} {b} {P} {Q} p q = record {
-  quiet = p.quiet;
-  each = λ stop left. ((p.each stop left).0, ((p.each stop left).1, (q.each stop left).1));
-  before = λ t stop le left. elim (p.before t stop le left) [
-    | inl was ↦ inl was
-    | inr x ↦ elim (q.before t stop le left) [ inl was ↦ inl was | inr y ↦ inr (x.0, (x.1, y.1)) ]
-  ];
-}
 
 -- at that moment a drive lost no write, and what a failed read of it might let be shown loses: it need not be missing then
 abbrev MayStay : Shelved → Shelved → List Bool → BootSlot → List ℕ → ℕ → Type 0

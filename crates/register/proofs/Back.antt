@@ -22,7 +22,7 @@ use Rattle.log_codec.specs.Log.{ShowsIn, Shows as ShowsOn, IsInSlot, LogFrom}
 use Rattle.array_spec.specs.Meaning.{IsInForce, AllHold}
 use Rattle.array_spec.specs.Standing.{Stands, MayBeGiven, MayAppear, IsViewOf, IsReadInto, IsReadBy, LeadsInto}
 use Rattle.array_spec.specs.Unflushed.{LogLies}
-use Rattle.array_spec.proofs.Settling.{this_or_other, twice_other}
+use Rattle.array_spec.proofs.Settling.{this_or_other, twice_other, decided_or_not}
 use Rattle.array_spec.proofs.Spelled.{spells_one}
 use Rattle.array_spec.proofs.Standings.{sound_shows}
 use Rattle.array_spec.proofs.UnflushedRead.{one_left}
@@ -87,9 +87,6 @@ only_decided shelf image missing more view slot body other eleven shows a d = el
           | inl none ↦ subst (λ (o : Option (List ℕ)). is_vote other o ≡ false) (sym (is ∙ none)) refl
           | inr one ↦ subst (λ (o : Option (List ℕ)). is_vote other o ≡ false) (sym (is ∙ one)) differs
         ]
-
-decided_or : (vs : List (Option (List ℕ))) (body : List ℕ) → IsDecided vs body ⊎ (IsDecided vs body → ⊥)
-decided_or vs body = elim (cases_lt (length vs) (2 * count_by (is_vote body) vs)) [ inl lt ↦ inl lt | inr ge ↦ inr (λ d. omega (arith, d, ge)) ]
 
 -- ---- NVRAM devices
 
@@ -185,7 +182,7 @@ module _ (old : Shelved) (is : IsShelf old) (r : Register) (nvrams : List Bool) 
       lower_yields (next_slot r.record) (generation_in (spelling r.record)) (generation_in (spelling next)) (omega (arith, a, b))
 
   gives : (more : Conditions) (view : View) → MayAppear shelf stop.image back more view → Effective shelf view
-  gives more view a = elim (decided_or (votes shelf view (next_slot r.record)) (spelling next)) [
+  gives more view a = elim (decided_or_not (votes shelf view (next_slot r.record)) (spelling next)) [
     | inl d ↦ record {
       slot = next_slot r.record;
       boot = next;

@@ -33,12 +33,7 @@ use Rattle.register.specs.Registers.{next_record}
 use Rattle.register.specs.Standing.{Content, ShowsOn, array_of}
 use Rattle.register.proofs.Splice.{at_splice, splice_stops, splice_bodies, splice_boot, only_boot_twice}
 use Rattle.register.proofs.Numbers.{generation_spelled, next_other, yields_le, slots_differ}
-
-pub left_before : (a b : Condition) → MayBecome a b → b ≡ LeftOut → a ≡ LeftOut
-left_before Sound b (inl h) e = absurd (cc (h, e))
-left_before Sound b (inr h) e = absurd (cc (h, e))
-left_before Missing b h e = absurd (cc (h, e))
-left_before LeftOut b h e = refl
+use Rattle.array_spec.proofs.UnflushedRead.{was_left_out}
 
 -- a device may show itself
 pub shows_itself : (c : Condition) (bytes : List ℕ) → ((i : ℕ) → Rattle.std.specs.Prelude.slice_index bytes i < 256) → MayShowAs c bytes (Some bytes)
@@ -73,7 +68,7 @@ module _ (shelf : Shelved) (is : IsShelf shelf) (boot : BootRecord) (members dri
 
     unnamed : (n : ℕ) → later (nvram n) ≡ LeftOut → slice_index_or nvrams n false ≡ false
     unnamed n out = elim (cases_Bool (slice_index_or nvrams n false)) [
-      | inl m ↦ absurd (left_out n (left_before (missing (nvram n)) (later (nvram n)) (within (nvram n)) out) m)
+      | inl m ↦ absurd (left_out n (was_left_out (missing (nvram n)) (later (nvram n)) (within (nvram n)) out) m)
       | inr not ↦ not
     ]
 
@@ -96,7 +91,7 @@ module _ (shelf : Shelved) (is : IsShelf shelf) (boot : BootRecord) (members dri
 
     none_left_out : NamesNoneLeftOut later (next_record boot drives nvrams)
     none_left_out (dev.Drive d) out = elim (cases_Bool (slice_index_or drives d.0 false)) [
-      | inl m ↦ absurd (cc ((bodies d.0 m).0, no_drive d.0 (left_before (missing (dev.Drive d)) (later (dev.Drive d)) (within (dev.Drive d)) out)))
+      | inl m ↦ absurd (cc ((bodies d.0 m).0, no_drive d.0 (was_left_out (missing (dev.Drive d)) (later (dev.Drive d)) (within (dev.Drive d)) out)))
       | inr not ↦ not
     ]
     none_left_out (dev.Nv n) out = unnamed n.0 out

@@ -80,11 +80,11 @@ in_only a = (0, omega arith, refl)
 
 -- ---- what the record names
 
-is_named : (b : Bool) → (if b then Sound else LeftOut) ≡ Sound → b ≡ true
+pub is_named : (b : Bool) → (if b then Sound else LeftOut) ≡ Sound → b ≡ true
 is_named true e = refl
 is_named false e = absurd (cc e)
 
-is_left : (b : Bool) → (if b then Sound else LeftOut) ≡ LeftOut → b ≡ false
+pub is_left : (b : Bool) → (if b then Sound else LeftOut) ≡ LeftOut → b ≡ false
 is_left true e = absurd (cc e)
 is_left false e = refl
 

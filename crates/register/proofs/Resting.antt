@@ -28,28 +28,15 @@ use Rattle.world.specs.Shelf.{Shelved, Stop, MayStop, IsShelf}
 use Rattle.world.specs.Losing.{geometry_of}
 use Rattle.boot_region.specs.Members.{IsMember}
 use Rattle.boot_region.specs.Storing.{Shows, IsOlder, IsInForceOn}
-use Rattle.boot_region.proofs.Composing.{as_it_is, is_sound_is}
+use Rattle.boot_region.proofs.Composing.{as_it_is, is_sound_is, votes_not}
 use Rattle.boot_region.proofs.ShownLemmas.{as_read, shown_body}
 use Rattle.nvram_log.specs.Members as nv
 use Rattle.register.specs.declared.state.Register.{Register}
 use Rattle.register.specs.Registers.{drives_of, next_slot}
 use Rattle.register.specs.Standing.{Content, StandsInLog, MayStore, array_of}
 use Rattle.register.proofs.FlagLemmas.{in_cut}
-
-votes_not : (o : Option (List ℕ)) (other : List ℕ) → ((x : List ℕ) → o ≡ Some x → bytes_eq x other ≡ false) → is_vote other o ≡ false
-votes_not None other all = refl
-votes_not (Some x) other all = all x refl
-
-count_none : (p : ℕ → Bool) (a n : ℕ) → ((i : ℕ) → a ≤ i → i < a + n → p i ≡ false) → count_by p (range_with_len a n) ≡ 0
-count_none p a zero all = refl
-count_none p a (suc n) all =
-    let first : p a ≡ false = all a (omega arith) (omega arith) in
-    let rest : count_by p (range_with_len (a + 1) n) ≡ 0 = count_none p (a + 1) n (λ i low lt. all i (omega (arith, low)) (omega (arith, lt))) in
-    rw (counted p a (range_with_len (a + 1) n)) (rw first (omega (arith, rest)))
-
-pub yields_or : (s : BootSlot) (a b : ℕ) → Yields s a b ⊎ (Yields s a b → ⊥)
-yields_or A a b = elim (cases_lt b a) [ inl lt ↦ inr (λ le. omega (arith, lt, le)) | inr ge ↦ inl ge ]
-yields_or B a b = elim (cases_lt a b) [ inl lt ↦ inl lt | inr ge ↦ inr (λ lt. omega (arith, lt, ge)) ]
+use Rattle.boot_region.proofs.StillGiven.{yields_or}
+use Rattle.boot_region.proofs.Stored.{count_none}
 
 module _ (shelf : Shelved) (is : IsShelf shelf) (r : Register) (nvrams : List Bool) (held : Content) (arrays : List Array) (one_of : Contains arrays (array_of held))
     (logged : StandsInLog shelf r nvrams held) (nvrams_are : r.record.members.nvrams ≡ nvrams) (not_spent : r.record.generation < 2 ^ 48 - 8) (some : nv.IsSome nvrams)

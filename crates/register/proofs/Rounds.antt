@@ -29,13 +29,14 @@ use Rattle.nvram_log.specs.Members as nv
 use Rattle.register.specs.declared.state.Register.{Register}
 use Rattle.register.specs.Registers.{IsRegisterOf, OnSlots, drives_of, own_slot, next_slot, next_record}
 use Rattle.register.specs.Standing.{Content, IsShown, ShowsOn, IsNextOf, GivesOldOrNext, IsInStoreOf, StillGiven, StandsInLog, IsFirm, MayStore, MayStoreAgain, MayStoreFirmly}
-use Rattle.register.proofs.Again.{both}
 use Rattle.register.proofs.FlagLemmas.{fewer_mask, in_cut, cut_in, none_past}
 use Rattle.register.proofs.Numbers.{generation_spelled, next_other, lower_yields}
 use Rattle.register.proofs.Back.{is_next_of, stands_back}
-use Rattle.register.proofs.Follows.{may_follow, left_before}
+use Rattle.register.proofs.Follows.{may_follow}
 use Rattle.register.proofs.Stores.{cut_length}
 use Rattle.register.proofs.Splice.{in_boot, at_splice, splice_stops, splice_bodies, splice_boot}
+use Rattle.array_spec.proofs.UnflushedRead.{was_left_out}
+use Rattle.nvram_log.proofs.SettledEach.{both_leave}
 
 -- ---- the next record is lawful
 
@@ -269,9 +270,9 @@ module _ {ok : Type 0} (old new : Shelved) (is_old : IsShelf old) (on : Continue
       stands = s.stands;
       one_of = may.one_of;
       sound = λ n lt e. may.sound n lt (sound_before (missing (nvram n)) (later (nvram n)) (within (nvram n)) e);
-      left_out = λ n e m. may.left_out n (left_before (missing (nvram n)) (later (nvram n)) (within (nvram n)) e) m;
+      left_out = λ n e m. may.left_out n (was_left_out (missing (nvram n)) (later (nvram n)) (within (nvram n)) e) m;
       unnamed = λ i e. subst (λ (b : BootRecord). names b (drive i) ≡ false) (sym kept) (elim (cases_Bool (slice_index_or was.drives i false)) [
-        | inl m ↦ absurd (cc (is_of.named i m, may.unnamed i (left_before (missing (drive i)) (later (drive i)) (within (drive i)) e)))
+        | inl m ↦ absurd (cc (is_of.named i m, may.unnamed i (was_left_out (missing (drive i)) (later (drive i)) (within (drive i)) e)))
         | inr not ↦ not
       ]);
     }
@@ -324,4 +325,4 @@ module _ {ok : Type 0} (old new : Shelved) (is_old : IsShelf old) (on : Continue
     }
 
     pub moments_next : LeavesOnly old new (IsInStoreOf old was nvrams)
-    moments_next = weaker (λ stop x. in_store_next stop x.0 x.1) (both (puts.moments h) (puts.runs.writes h).any_moment)
+    moments_next = weaker (λ stop x. in_store_next stop x.0 x.1) (both_leave (puts.moments h) (puts.runs.writes h).any_moment)

@@ -40,11 +40,12 @@ use Rattle.register.specs.Giving.{GivesOldOrTables, IsNextWith}
 use Rattle.register.specs.Tables.{FlushesAll, FlushesNone, IsPlanOf, KeepsArray, MayGoOn, StandsAsBefore, with_tables}
 use Rattle.register.proofs.Again.{meanwhile, accounts, bearable_then, accounts_since}
 use Rattle.register.proofs.FlagLemmas.{in_cut}
-use Rattle.register.proofs.Follows.{left_before}
 use Rattle.register.proofs.Numbers.{generation_spelled, lower_yields, next_other}
 use Rattle.register.proofs.Rounds.{Puts, other_body, cut_drives, is_of_next, same_shelf, long, same_behind, log_then}
 use Rattle.register.proofs.Stores.{cut_length, members_sound}
 use Rattle.register.proofs.Splice.{at_splice, splice_stops, splice_boot}
+use Rattle.array_spec.proofs.UnflushedRead.{was_left_out}
+use Rattle.register.proofs.Opened.{is_left, is_named}
 
 -- a device that holds a log shows none behind it
 pub shows_no_more : (bytes : List ℕ) (flushed i : ℕ) (log : List Command) (c : Command) → IsLog bytes flushed log → ShowsIn bytes (flushed + length log) i c → ⊥
@@ -89,14 +90,6 @@ next_with_after was mid tables first fewer b next = record {
   drives = λ i m. fewer i (next.drives i m);
 }
 
-is_named : (b : Bool) → (if b then Sound else LeftOut) ≡ Sound → b ≡ true
-is_named true e = refl
-is_named false e = absurd (cc e)
-
-is_left : (b : Bool) → (if b then Sound else LeftOut) ≡ LeftOut → b ≡ false
-is_left true e = absurd (cc e)
-is_left false e = refl
-
 module _ (old : Shelved) (is_old : IsShelf old) (h : old.honest) (was : Register) (tables : Tables) (is_of : IsRegisterOf (geometry_of old) was) (some : nv.IsSome was.record.members.nvrams)
     (lawful : IsBootRecord (next_record (with_tables was.record tables) was.drives was.record.members.nvrams)) (tabled : IsBootRecord (with_tables was.record tables))
     (held next : Content) (o : IsOpen old was was.record.members.nvrams held) (plan : IsPlanOf old was tables held next) where
@@ -134,10 +127,10 @@ module _ (old : Shelved) (is_old : IsShelf old) (h : old.honest) (was : Register
 
     left_now : NamesNoneLeftOut later boot
     left_now (dev.Drive d) out = elim (cases_Bool (slice_index_or was.drives d.0 false)) [
-      | inl m ↦ absurd (cc (is_of.named d.0 m, is_left (names was.record (dev.Drive d)) (left_before (named_sound was.record (dev.Drive d)) (later (dev.Drive d)) (within (dev.Drive d)) out)))
+      | inl m ↦ absurd (cc (is_of.named d.0 m, is_left (names was.record (dev.Drive d)) (was_left_out (named_sound was.record (dev.Drive d)) (later (dev.Drive d)) (within (dev.Drive d)) out)))
       | inr not ↦ not
     ]
-    left_now (dev.Nv n) out = is_left (names was.record (dev.Nv n)) (left_before (named_sound was.record (dev.Nv n)) (later (dev.Nv n)) (within (dev.Nv n)) out)
+    left_now (dev.Nv n) out = is_left (names was.record (dev.Nv n)) (was_left_out (named_sound was.record (dev.Nv n)) (later (dev.Nv n)) (within (dev.Nv n)) out)
 
     tables_now : TablesHold (geometry_of old) stop.image slot boot next.patches next.base
     tables_now = data_is_held (geometry_of old) (drives_of was) start.image stop.image slot (with_tables was.record tables) boot next.patches next.base tabled_of refl (λ i m. cut i m) only (plan.stand start may)
@@ -321,9 +314,9 @@ module _ (old : Shelved) (is_old : IsShelf old) (h : old.honest) (was : Register
         stands = s.stands;
         one_of = (0, omega arith, sym (same_array was tables held next plan.keeps));
         sound = λ n lt e. named_before (nvram n) later within e;
-        left_out = λ n e m. absurd (cc (m, is_left (names was.record (nvram n)) (left_before (named_sound was.record (nvram n)) (later (nvram n)) (within (nvram n)) e)));
+        left_out = λ n e m. absurd (cc (m, is_left (names was.record (nvram n)) (was_left_out (named_sound was.record (nvram n)) (later (nvram n)) (within (nvram n)) e)));
         unnamed = λ i e. subst (λ (b : BootRecord). names b (drive i) ≡ false) (sym kept) (elim (cases_Bool (slice_index_or was.drives i false)) [
-          | inl m ↦ absurd (cc (is_of.named i m, is_left (names was.record (drive i)) (left_before (named_sound was.record (drive i)) (later (drive i)) (within (drive i)) e)))
+          | inl m ↦ absurd (cc (is_of.named i m, is_left (names was.record (drive i)) (was_left_out (named_sound was.record (drive i)) (later (drive i)) (within (drive i)) e)))
           | inr not ↦ not
         ]);
       }

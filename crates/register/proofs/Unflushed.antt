@@ -15,15 +15,12 @@ use Rattle.register.specs.declared.state.Register.{Register}
 use Rattle.register.specs.Registers.{own_slot, named_sound}
 use Rattle.register.specs.Standing.{Content, IsOpen}
 use Rattle.register.proofs.Follows.{shows_itself}
+use Rattle.register.proofs.Opened.{is_left}
 
 none_paired : {X Y : Type 0} (P : X → Y → Type 0) (xs : List X) (ys : List Y) → ys ≡ [] → AllZip P xs ys → xs ≡ []
 none_paired P [] ys e z = refl
 none_paired P (x ∷ xs) [] e z = absurd z
 none_paired P (x ∷ xs) (y ∷ ys) e z = absurd (cc e)
-
-is_left : (b : Bool) → (if b then Sound else LeftOut) ≡ LeftOut → b ≡ false
-is_left true e = absurd (cc e)
-is_left false e = refl
 
 pub unflushed_record : (shelf : Shelved) (r : Register) (nvrams : List Bool) (held : Content) → IsOpen shelf r nvrams held → held.patches ≡ [] → (stop : Stop) → MayStop shelf stop → r.record.patches ≡ []
 unflushed_record shelf r nvrams held o nothing stop may =

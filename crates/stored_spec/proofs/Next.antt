@@ -1,6 +1,6 @@
 -- The tables of a record hold by a later one of the same tables, and whatever is written in units that they leave free.
 use Rattle.std.proofs.Common.{◌≡◌, ◌⊎◌, inl, inr, ℕ, zero, suc, [], ◌∷◌, ◌+◌, ◌*◌, ◌/◌, ◌<◌, ◌≤◌, List, length, refl, sym, ap, subst, ◌∙◌, arith, Bool, true, false}
-use Rattle.std.specs.Prelude.{Option, Some, None, is_none, slice_index, option_map, count_by, filter_map}
+use Rattle.std.specs.Prelude.{Option, Some, None, is_none, slice_index, slice_index_or, option_map, count_by, filter_map}
 use Rattle.std.specs.List.{range_with_len, AllZip}
 use Rattle.pur_base.specs.Bytes.{bytes_at}
 use Rattle.pur_base.specs.Devices.{Geometry, Image, View, drive}
@@ -21,9 +21,9 @@ use Rattle.array_spec.specs.Sound.{AreSound, AreSegmentsSound}
 use Rattle.array_spec.specs.Meaning.{TablesStand, HoldsBase}
 use Rattle.array_spec.specs.Stored.{PatchStands, all_facts}
 use Rattle.array_spec.proofs.Moves.{SameUnit, Keeps, same_units_keep, tables_kept, base_moves, patches_keep}
-use Rattle.array_spec.proofs.Quiet.{bytes_same}
+use Rattle.array_spec.proofs.Quiet.{bytes_same, in_unit}
 use Rattle.array_spec.proofs.Used.{patches_are_used, data_is_used, used_is_data}
-use Rattle.stored_spec.specs.Held.{AreSomeOf, AreEnough, TablesHold}
+use Rattle.stored_spec.specs.Held.{AreSomeOf, AreEnough, DataHolds, TablesHold}
 use Rattle.stored_spec.specs.Laws.{NextHolds, DataIsHeld, ShowedBefore, FreeWritesKeep}
 
 -- ---- what the drives of a view showed before
@@ -44,11 +44,8 @@ unfolding in_its_place
 as_many None old = refl
 as_many (Some bytes) old = refl
 
-counted_alike : (p q : ℕ → Bool) (a n : ℕ) → ((i : ℕ) → p i ≡ q i) → count_by p (range_with_len a n) ≡ count_by q (range_with_len a n)
+pub counted_alike : (p q : ℕ → Bool) (a n : ℕ) → ((i : ℕ) → p i ≡ q i) → count_by p (range_with_len a n) ≡ count_by q (range_with_len a n)
 counted_alike p q a n same = ap (λ (f : ℕ → Bool). count_by f (range_with_len a n)) (λ i x. same x i)
-
-in_unit : (at unit n : ℕ) → n < 16 → 65536 * unit + 4096 * n ≤ at → at < 65536 * unit + 4096 * n + 4096 → at / 65536 ≡ unit
-in_unit at unit n below from_there to_there = omega (arith, below, from_there, to_there)
 
 -- a unit is the same where the bytes of its drive are
 same_unit : (old new : List ℕ) (v w : View) (p : Place) → length old ≡ length new → Matches old new (v (drive p.slot)) (w (drive p.slot))
@@ -172,6 +169,21 @@ data_is_held shelf drives old new slot2 boot next patches base lawful same on on
       (λ sound p used at e. kept_units shelf old new boot patches lawful only sound p used at e) in
       subst (λ (b : BootRecord). TablesStand shelf members b patches × BaseStands members (all_facts patches) b.next.object base) (sym same) (by_next shelf boot next patches members m.0, m.1);
 }
+
+-- by a later record of the same tables, on fewer drives, once only boot units have changed
+pub data_moves : (shelf : Geometry) (drives fewer : List Bool) (old new : Image) (boot next : BootRecord) (patches : List (List AnyFact)) (base : Array)
+    → IsRecordOf shelf boot → next ≡ record boot { generation = next.generation; members = next.members }
+    → ((i : ℕ) → slice_index_or fewer i false ≡ true → slice_index_or drives i false ≡ true) → DiffersOnlyIn (λ i unit. unit < 3) old new
+    → DataHolds shelf drives old boot patches base → DataHolds shelf fewer new next patches base
+data_moves shelf drives fewer old new boot next patches base lawful same on only data_holds members some enough =
+    let shown : (i : ℕ) → (members (drive i) ≡ None) ⊎ (members (drive i) ≡ Some (new (drive i))) = λ i. elim (some i) [ inl none ↦ inl none | inr is ↦ inr is.1 ] in
+    let m = held_now shelf old new members shown boot patches base (λ i. sym (only.size i))
+    (data_holds (before shelf old new members shown) (λ i. elim (some i) [
+      | inl none ↦ inl (none_before shelf old new members shown i none)
+      | inr is ↦ inr (on i is.0, some_before shelf old new members shown i is.1)
+    ]) (enough_before shelf old new members shown enough))
+    (λ sound p used at e. kept_units shelf old new boot patches lawful only sound p used at e) in
+    subst (λ (b : BootRecord). TablesStand shelf members b patches × BaseStands members (all_facts patches) b.next.object base) (sym same) (by_next shelf boot next patches members m.0, m.1)
 
 -- ---- writes in free units
 

@@ -23,11 +23,11 @@ use Rattle.world.specs.Losing.{geometry_of}
 use Rattle.world.specs.Shelf.{Shelved}
 use Rattle.patch_io.specs.Standing.{AreFactsOf, StripesStandOf}
 use Rattle.patch_io.specs.Tables.{HaveKey}
-use Rattle.patch_io.proofs.Lists.{all_both, all_front}
 use Rattle.table_loading.specs.Loading.{IsLoaded, ShowsDrives, StripesStandOfAll, of_tag}
 use Rattle.table_loading.proofs.Tags.{five_tables}
 use Rattle.table_loading.proofs.Zips.{zip_append, zip_weaker, zip_second, all_of_both, all_behind, all_mapped}
 use Rattle.table_loading.proofs.Reading.{shows_patch}
+use Rattle.array_spec.proofs.Used.{all_append, all_append_left}
 
 -- decoded facts are a patch of their table
 pub is_patch : {F : Type 0} (any : F → AnyFact) (key : F → ℕ) → HaveKey any key → (p : Patch) (facts : List F) → 1 ≤ p.facts → AreFactsOf p (map any facts) → layers.IsPatch key facts
@@ -45,7 +45,7 @@ is_patch {F} any key same p facts some are = record {
 
 lawful_of : {F : Type 0} (any : F → AnyFact) (patches : List (List F)) → AllByRecursion (AllByRecursion IsFact) (map (map any) patches) → AllByRecursion (λ f. IsFact (any f)) (facts_of patches)
 lawful_of any [] all = tt
-lawful_of any (facts ∷ rest) all = all_both (λ f. IsFact (any f)) facts (facts_of rest) (all_mapped any IsFact facts all.0) (lawful_of any rest all.1)
+lawful_of any (facts ∷ rest) all = all_append (λ f. IsFact (any f)) facts (facts_of rest) (all_mapped any IsFact facts all.0) (lawful_of any rest all.1)
 
 -- the facts of one of the tables
 of_table : {F : Type 0} (any : F → AnyFact) (patches : List (List F)) → AllByRecursion (AllByRecursion IsFact) (map (map any) patches) → All (λ f. IsFact (any f)) (facts_of patches)
@@ -67,10 +67,10 @@ module _ (a : Shelved) (missing : List Bool) (boot : BootRecord) (t : LoadedTabl
       let behind_mediums = all_behind P mediums (addresses ++ (segments ++ elisions)) behind_objects in
       let behind_addresses = all_behind P addresses (segments ++ elisions) behind_mediums in
       record {
-        objects = of_table any.Object t.objects.items (all_front P objects (mediums ++ (addresses ++ (segments ++ elisions))) each);
-        mediums = of_table any.Medium t.mediums.items (all_front P mediums (addresses ++ (segments ++ elisions)) behind_objects);
-        addresses = of_table any.Address t.addresses.items (all_front P addresses (segments ++ elisions) behind_mediums);
-        segments = of_table any.Segment t.segments.items (all_front P segments elisions behind_addresses);
+        objects = of_table any.Object t.objects.items (all_append_left P objects (mediums ++ (addresses ++ (segments ++ elisions))) each);
+        mediums = of_table any.Medium t.mediums.items (all_append_left P mediums (addresses ++ (segments ++ elisions)) behind_objects);
+        addresses = of_table any.Address t.addresses.items (all_append_left P addresses (segments ++ elisions) behind_mediums);
+        segments = of_table any.Segment t.segments.items (all_append_left P segments elisions behind_addresses);
         elisions = of_table any.Elision t.elisions.items (all_behind P segments elisions behind_addresses);
       }
 

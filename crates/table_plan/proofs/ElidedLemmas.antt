@@ -27,7 +27,7 @@ use Rattle.memory_spec.proofs.AllTables.{all_elisions, all_segments}
 use Rattle.memory_spec.proofs.Created.{not_elided}
 use Rattle.memory_spec.proofs.Lists.{each_by_recursion}
 use Rattle.checkpoint_spec.specs.Eliding.{AreNewElisions, IsEliding}
-use Rattle.checkpoint_spec.proofs.Elided.{as_before, says_where}
+use Rattle.checkpoint_spec.proofs.Elided.{as_before, says_where, object_tag}
 use Rattle.checkpoint_spec.proofs.Placing.{old_segment_id}
 use Rattle.table_plan.specs.Eliding.{IsUnused, IsElisionOf, AreElisionsOf, IsElidedBy, UnusedMayBeElided, eliding}
 
@@ -235,13 +235,6 @@ address_tag table.Medium e = absurd (omega (arith, e))
 address_tag table.Address e = refl
 address_tag table.Segment e = absurd (omega (arith, e))
 address_tag table.Elision e = absurd (omega (arith, e))
-
-object_tag : (a : Table) → tag_of a ≡ tag_of table.Object → a ≡ table.Object
-object_tag table.Object e = refl
-object_tag table.Medium e = absurd (omega (arith, e))
-object_tag table.Address e = absurd (omega (arith, e))
-object_tag table.Segment e = absurd (omega (arith, e))
-object_tag table.Elision e = absurd (omega (arith, e))
 
 module _ (m : Memory) (ids : List ℕ) (added : List ElisionFact) (h : AreElisionsOf (IsElidedBy (facts m.tables)) m.next.sequence ids added) where
   abbrev Old : List ElisionFact

@@ -21,7 +21,7 @@ use Rattle.pyramid.specs.Layers.{facts_of, patch_facts, patches_of}
 use Rattle.pyramid.proofs.ContainsLemmas.{nowhere}
 use Rattle.memory_spec.specs.Tables.{facts}
 use Rattle.memory_spec.specs.Memory.{Memory, Contents, FitsTarget, FitsInMemory, IsSound}
-use Rattle.memory_spec.proofs.Lists.{same_some, in_map, of_map}
+use Rattle.memory_spec.proofs.Lists.{in_map, of_map}
 use Rattle.memory_spec.proofs.AllTables.{all_addresses}
 use Rattle.memory_spec.proofs.Putting.{address_numbers}
 use Rattle.checkpoint_spec.specs.Eliding.{IsEliding}
@@ -38,6 +38,7 @@ use Rattle.table_plan.specs.Eliding.{eliding}
 use Rattle.table_plan.specs.Planned.{sectors_at, extended, AreStored, IsPlanned, ElidedIsCheckpointed, PlannedIsCheckpointed}
 use Rattle.table_plan.proofs.PlacesLemmas.{is_flagged, placed_contents, older_contents}
 use Rattle.table_plan.proofs.SegmentsLemmas.{is_new_segment, holds_rank, rooms}
+use Rattle.array_spec.proofs.Mediums.{same_some}
 
 -- ---- a fact that names a staged sector is found
 

@@ -37,9 +37,10 @@ use Rattle.takeover.specs.Tables.{HoldTables, IsMemoryOf}
 use Rattle.takeover.specs.declared.log.OpenedLog.{OpenedLog}
 use Rattle.takeover.proofs.ArrayOf.{patches_are, segments_are}
 use Rattle.takeover.proofs.Enough.{enough_shown, some_shown}
-use Rattle.takeover.proofs.Loading.{may_read, same_geometry}
+use Rattle.takeover.proofs.Loading.{may_read}
 use Rattle.takeover.proofs.RecoveredLemmas.{content}
 use Rattle.takeover.proofs.TablesHeld.{named_shows}
+use Rattle.register.proofs.Rounds.{same_shelf}
 
 -- ---- as it was shown
 
@@ -60,7 +61,7 @@ module _ (a b : Shelved) (x : Loaded) (on : Continues a b) (seen : IsSeenIn a b 
   held_then : TablesHold (geometry_of a) (read_now a).image slot x.record ps base
   held_then = next_holds (geometry_of a) (read_now b).image (read_now a).image slot slot x.record x.record ps base lawful refl
       (λ i is body. (is, seen.bodies slot i ∙ body)) only_boot
-      (subst (λ (g : Geometry). TablesHold g (read_now b).image slot x.record ps base) (sym (same_geometry on)) (hold (read_now b) (may_read b is_b h_b)))
+      (subst (λ (g : Geometry). TablesHold g (read_now b).image slot x.record ps base) (sym (same_shelf on)) (hold (read_now b) (may_read b is_b h_b)))
 
   past : (i : ℕ) → a.drives ≤ i → IsMember x.drives i → ⊥
   past i le m = none_past x.record.members.drives x.record.slots i lawful.lawful.members.within (omega (arith, le, lawful.slots)) (named i m)

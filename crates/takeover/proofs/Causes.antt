@@ -20,9 +20,9 @@ use Rattle.session_spec.specs.Entering.{Enters, Found, ComesOut, IsTakenOver, On
 use Rattle.session_spec.specs.Headline.{HasNoArray, HasTooFew, IsUnopenedBy}
 use Rattle.session_spec.proofs.Conditions.{loses, borne_on}
 use Rattle.session_spec.proofs.Taken.{takeover_bears}
-use Rattle.takeover.proofs.Failing.{sound_since}
 use Rattle.takeover.proofs.Loading.{may_read}
 use Rattle.takeover.proofs.Views.{is_view}
+use Rattle.array_core.proofs.Losses.{sound_since}
 
 -- what becomes of a device: it is sound, or left out, or a call on it failed
 pub outcome : Bool → Option (List ℕ) → Condition

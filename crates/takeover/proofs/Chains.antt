@@ -14,6 +14,7 @@ use Rattle.nvram_log.specs.Held.{Keeps}
 use Rattle.nvram_log.proofs.Lists.{get_front}
 use Rattle.stored_spec.proofs.Unique.{same_lists}
 use Rattle.takeover.specs.Replay.{IsRun}
+use Rattle.array_spec.proofs.LogMoves.{slot_moves}
 
 pub log_from : (view : View) (flushed i : ℕ) (a : Array) (cs : List Command) → ((k : ℕ) (c : Command) → slice_get cs k ≡ Some c → IsInSlot view flushed (i + k) c) → AllAccepted a cs
     → ((c : Command) → IsInSlot view flushed (i + length cs) c → ¬ (Accepts (after_all a cs) c)) → LogFrom view flushed i a cs
@@ -65,17 +66,6 @@ agrees m flushed agree (suc (suc n)) p i c d low low2 s t = absurd (omega (arith
 agrees m flushed agree n (suc (suc p)) i c d low low2 s t = absurd (omega (arith, low2))
 
 -- ---- the log depends on what the NVRAM devices show alone
-
-pub shows_move : (m n : View) → ((j : ℕ) → m (nvram j) ≡ n (nvram j)) → (which flushed i : ℕ) (c : Command) → Shows m which flushed i c → Shows n which flushed i c
-shows_move m n same which flushed i c s = record { slot = s.slot; bytes = s.bytes; shown = sym (same which) ∙ s.shown; gate = s.gate; spelled = s.spelled }
-
-slot_moves : (m n : View) → ((j : ℕ) → m (nvram j) ≡ n (nvram j)) → (flushed i : ℕ) (c : Command) → IsInSlot m flushed i c → IsInSlot n flushed i c
-slot_moves m n same flushed i c (inl s) = inl (shows_move m n same 0 flushed i c s)
-slot_moves m n same flushed i c (inr (nobody, s)) = inr (λ d t. nobody d (shows_move n m (λ j. sym (same j)) 0 flushed i d t), shows_move m n same 1 flushed i c s)
-
-pub log_moves : (m n : View) → ((j : ℕ) → m (nvram j) ≡ n (nvram j)) → (flushed i : ℕ) (array : Array) (cs : List Command) → LogFrom m flushed i array cs → LogFrom n flushed i array cs
-log_moves m n same flushed i array [] s = λ c t. s c (slot_moves n m (λ j. sym (same j)) flushed i c t)
-log_moves m n same flushed i array (c ∷ cs) s = (slot_moves m n same flushed i c s.0, s.1, log_moves m n same flushed (suc i) _ cs s.2)
 
 -- memory keeps one log
 pub kept_one : (log : NvLog) (cs ds : List Command) → Keeps log cs → Keeps log ds → cs ≡ ds

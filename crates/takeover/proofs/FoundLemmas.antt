@@ -36,8 +36,12 @@ use Rattle.session_spec.specs.Entering.{Enters, AreRead, StandsStill, read_now, 
 use Rattle.session_spec.proofs.Resumed.{nothing_done}
 use Rattle.takeover.specs.Found.{IsFoundOn}
 use Rattle.takeover.proofs.Counts.{goes_on}
-use Rattle.takeover.proofs.Failing.{fewer_borne, by_stop, since_later, since_mid, sound_since, left_out_since}
-use Rattle.takeover.proofs.Loading.{as_they_read, may_read, at_time, may_at_time, same_leaves, same_geometry, clean_now, stands_now, member_here, in_force_here}
+use Rattle.takeover.proofs.Failing.{by_stop, since_later}
+use Rattle.takeover.proofs.Loading.{as_they_read, may_read, at_time, may_at_time, same_leaves, clean_now, stands_now, member_here, in_force_here}
+use Rattle.array_core.proofs.Losses.{fewer_borne, sound_since}
+use Rattle.register.proofs.Again.{not_risen_since}
+use Rattle.register.proofs.Rounds.{same_shelf}
+use Rattle.session_spec.proofs.Conditions.{left_out_once}
 
 -- what may be given at a stop when nothing was done, as reads give it
 given_at_entry : (old : Shelved) (missing : Conditions) (arrays : List Array) → Enters old missing arrays → (stop : Stop) → MayStop old stop
@@ -88,7 +92,7 @@ module _ (old mid : Shelved) (missing : Conditions) (arrays : List Array) (x : L
   may_now = may_read mid is_mid h_mid
 
   same_shelf : geometry_of old ≡ geometry_of mid
-  same_shelf = same_geometry on
+  same_shelf = same_shelf on
 
   module _ (bears : IsBearable (geometry_of old) now) where
     pub tells : TellsHolding mid x.drives now
@@ -165,7 +169,7 @@ module _ (old mid : Shelved) (missing : Conditions) (arrays : List Array) (x : L
             record {
               stands = more_may_go_missing (geometry_of old) stop.image now later arrays more bears_then (subst (λ (g : Geometry). Stands g stop.image now arrays) (sym same_shelf) (stands_at bears stop left));
               left_out = λ d out. subst (λ (g : Geometry). IsNamedByNone g stop.image later d) (sym same_shelf)
-                  (left_out_at bears stop left later more d (left_out_since (has_risen (old.disk d).faults (stop.faults d)) (missing d) out));
+                  (left_out_at bears stop left later more d (left_out_once (has_risen (old.disk d).faults (stop.faults d)) (missing d) out));
               read = subst (λ (g : Geometry). AreRead g stop.image later) (sym same_shelf) (read_at bears stop left later more);
             };
         stored = λ t boot g.
@@ -188,16 +192,16 @@ module _ (old mid : Shelved) (missing : Conditions) (arrays : List Array) (x : L
     was_sound d sound = sound_since (has_risen (old.disk d).faults (new.disk d).faults) (missing d) (sound_before (failed_since old new missing d) (later d) (since d) sound)
 
     was_out : (d : Device) → later d ≡ LeftOut → missing d ≡ LeftOut
-    was_out d out = left_out_since (has_risen (old.disk d).faults (new.disk d).faults) (missing d) (was_left_out (failed_since old new missing d) (later d) (since d) out)
+    was_out d out = left_out_once (has_risen (old.disk d).faults (new.disk d).faults) (missing d) (was_left_out (failed_since old new missing d) (later d) (since d) out)
 
     bears_mid : IsBearable (geometry_of old) now
     bears_mid = fewer_borne (geometry_of old) now later more_later bears_new
 
     same_mid : geometry_of mid ≡ geometry_of new
-    same_mid = same_geometry on_new
+    same_mid = same_shelf on_new
 
     not_since : (i : ℕ) → later (drive i) ≡ Sound → has_risen (mid.disk (drive i)).faults (new.disk (drive i)).faults ≡ false
-    not_since i sound = since_mid (old.disk (drive i)).faults (mid.disk (drive i)).faults (new.disk (drive i)).faults (on.faults (drive i)) (on_new.faults (drive i))
+    not_since i sound = not_risen_since (old.disk (drive i)).faults (mid.disk (drive i)).faults (new.disk (drive i)).faults (on.faults (drive i)) (on_new.faults (drive i))
         (was_sound (drive i) sound).1
 
     pub tells_failed : TellsFailed mid x.drives now (λ d. (new.disk d).faults) later

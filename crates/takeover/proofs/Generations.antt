@@ -21,6 +21,7 @@ use Rattle.array_spec.proofs.Settling.{this_or_other, twice_other}
 use Rattle.array_spec.proofs.Spelled.{spells_one}
 use Rattle.array_spec.proofs.Votes.{one_is_decided}
 use Rattle.boot_region.proofs.Composing.{all_decide}
+use Rattle.register.proofs.Numbers.{generation_spelled}
 
 -- the text shows these bytes in that place
 abbrev StandsAt : ℕ → List ℕ → List ℕ → Type 0
@@ -30,24 +31,6 @@ at_seam : (a b : List ℕ) → StandsAt (length a) b (a ++ b)
 at_seam a b =
     let both : length (a ++ b) ≡ length a + length b = length-append a b in
     (omega (arith, both), ap (take (length b)) (drop-append_seam a b) ∙ take_all (length b) b (omega arith))
-
-then_more : (at : ℕ) (part bytes more : List ℕ) → StandsAt at part bytes → StandsAt at part (bytes ++ more)
-then_more at part bytes more h =
-    let both : length (bytes ++ more) ≡ length bytes + length more = length-append bytes more in
-    let left : length (drop at bytes) ≡ length bytes - at = length-drop at bytes in (
-      omega (arith, both, h.0),
-      ap (take (length part)) (drop-append-le at bytes more (omega (arith, h.0))) ∙ take-append-le (length part) (drop at bytes) more (omega (arith, left, h.0)) ∙ h.1,
-    )
-
-generation_spelled : (r : BootRecord) → IsBootRecord r → generation_in (spelling r) ≡ r.generation
-unfolding header_bytes record_bytes
-generation_spelled r is =
-    let small : r.generation < 2 ^ 64 = omega (arith, is.generation.1) in
-    let stands : StandsAt (length (opening_bytes r.slots r.units)) (to_be_bytes w64 r.generation) (spelling r) =
-    then_more _ _ _ _ (then_more _ _ _ _ (then_more _ _ _ _ (then_more _ _ _ _ (then_more _ _ _ _ (then_more _ _ _ _ (at_seam (opening_bytes r.slots r.units) (to_be_bytes w64 r.generation))))))) in
-    let place : bytes_at 16 8 (spelling r) ≡ to_be_bytes w64 r.generation =
-    subst (λ (n : ℕ). take 8 (drop n (spelling r)) ≡ to_be_bytes w64 r.generation) (length-opening_bytes r.slots r.units) stands.1 in
-    ap (from_be_bytes w64) place ∙ from_be_bytes-to_be_bytes_8 r.generation small
 
 yields_le : (slot : BootSlot) (a b : ℕ) → Yields slot a b → a ≤ b
 yields_le A a b h = h

@@ -26,7 +26,7 @@ use Rattle.boot_region.proofs.Composing.{as_it_is, is_sound_is}
 use Rattle.boot_region.proofs.ShownLemmas.{bodies_same, other_same, closed_shows}
 use Rattle.session_spec.specs.Entering.{Enters, OnlyFailedAreSilent, read_now, failed_by}
 use Rattle.takeover.specs.Seen.{IsGivenFrom}
-use Rattle.takeover.proofs.Failing.{sound_since}
+use Rattle.array_core.proofs.Losses.{sound_since}
 
 -- where each vote for a body is one still, it has no fewer
 more_votes : (body : List ℕ) (f g : ℕ → Option (List ℕ)) (a n : ℕ) → ((i : ℕ) → is_vote body (f i) ≡ true → is_vote body (g i) ≡ true)

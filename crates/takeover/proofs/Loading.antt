@@ -27,7 +27,7 @@ use Rattle.boot_region.proofs.FoundLemmas.{same_body, same_shown, same_over}
 use Rattle.boot_region.proofs.Phases.{risen_on_way}
 use Rattle.boot_region.proofs.ShownLemmas.{as_read}
 use Rattle.session_spec.specs.Entering.{Enters, failed_since}
-use Rattle.takeover.proofs.Failing.{sound_since}
+use Rattle.array_core.proofs.Losses.{sound_since}
 
 -- the devices as a read gives them
 abbrev pub as_they_read : Shelved → Stop
@@ -53,10 +53,6 @@ pub same_leaves : (old new : Disk) (bytes : List ℕ) → IsSame old new → May
 same_leaves old new bytes same may = subst (λ (l : List Span). MayLeave (record { bytes = old.bytes; dirty = l; faults = old.faults; write_faults = old.write_faults }) bytes) same.dirty
     (subst (λ (l : List ℕ). MayLeave (record { bytes = l; dirty = new.dirty; faults = old.faults; write_faults = old.write_faults }) bytes) same.bytes
     (record { size = may.size; is_byte = may.is_byte; clean = may.clean }))
-
--- geometry
-pub same_geometry : {old new : Shelved} → Continues old new → geometry_of old ≡ geometry_of new
-same_geometry {old} {new} on = ap (λ (n : ℕ). record { slots = n; units = old.units }) (sym on.drives) ∙ ap (λ (n : ℕ). record { slots = new.drives; units = n }) (sym on.units)
 
 module _ (old new : Shelved) (missing : Conditions) (arrays : List Array) (enters : Enters old missing arrays) (on : Continues old new)
     (same : (d : Device) → IsSame (old.disk d) (new.disk d)) (bears : IsBearable (geometry_of old) (failed_since old new missing)) where

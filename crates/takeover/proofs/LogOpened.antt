@@ -48,24 +48,13 @@ use Rattle.takeover.specs.LogOpen.{IsLogOpen, IsLogOpenBy, IsLogFault, ShowsUnse
 use Rattle.takeover.specs.Replay.{HasUnserved, IsReplayed, IsReplayFault, IsRun, log_fault_of}
 use Rattle.takeover.specs.Tables.{HasTables, HoldTables}
 use Rattle.takeover.proofs.Counts.{goes_on}
-use Rattle.takeover.proofs.Failing.{sound_since, fewer_borne, by_stop, since_later}
-use Rattle.takeover.proofs.Loading.{same_geometry}
-use Rattle.takeover.proofs.LogSettling.{bearable_or_not, nothing_else, not_risen, stays, given_moves, answers, is_one, agree_here, standing_settling}
+use Rattle.takeover.proofs.Failing.{by_stop, since_later}
+use Rattle.takeover.proofs.LogSettling.{not_risen, stays, given_moves, answers, is_one, agree_here, standing_settling}
 use Rattle.takeover.proofs.NothingStored.{given_over, standing_with_fewer}
-
--- two things at once are true of each stop
-both_leave : {a b : Shelved} {P Q : Stop → Type 0} → LeavesOnly a b P → LeavesOnly a b Q → LeavesOnly a b (λ stop. P stop × Q stop)
-both_leave p q = record {
-  quiet = p.quiet;
-  each = λ stop left. ((p.each stop left).0, ((p.each stop left).1, (q.each stop left).1));
-  before = λ t stop le left. elim (p.before t stop le left) [
-    | inl was ↦ inl was
-    | inr x ↦ elim (q.before t stop le left) [
-      | inl was ↦ inl was
-      | inr y ↦ inr (x.0, (x.1, y.1))
-    ]
-  ];
-}
+use Rattle.array_core.proofs.Logged.{nothing_else}
+use Rattle.array_core.proofs.Losses.{bearable_or_not, fewer_borne, sound_since}
+use Rattle.nvram_log.proofs.SettledEach.{both_leave}
+use Rattle.register.proofs.Rounds.{same_shelf}
 
 -- an image at the time of the shelf
 abbrev at_once : Shelved → Image → Stop
@@ -241,7 +230,7 @@ module _ (old mid new : Shelved) (x : Loaded) (missing : Conditions) (arrays : L
           (λ s. not_risen (old.disk (drive i)).faults (new.disk (drive i)).faults (ap (λ (d : Disk). d.faults) (same_all i)) (r.found.counted (drive i) s))
 
       same_shelf : geometry_of old ≡ geometry_of new
-      same_shelf = same_geometry all_on
+      same_shelf = same_shelf all_on
 
       module _ (start : Stop) (may : MayStop new start) where
         -- what might have been left of the NVRAM devices before

@@ -35,8 +35,9 @@ use Rattle.takeover.specs.declared.log.OpenedLog.{OpenedLog}
 use Rattle.takeover.specs.Opened.{AreClean}
 use Rattle.takeover.specs.Replay.{HasUnserved, IsReplayed, IsReplayFault, log_fault_of}
 use Rattle.takeover.specs.Replayed.{HasReplayed, IsReplayedBy, IsReplayedFrom, ShowedUnserved}
-use Rattle.takeover.proofs.Chains.{log_moves, replayed_stands}
-use Rattle.takeover.proofs.Failing.{sound_since}
+use Rattle.takeover.proofs.Chains.{replayed_stands}
+use Rattle.array_core.proofs.Losses.{sound_since}
+use Rattle.array_spec.proofs.LogMoves.{log_moves}
 
 -- ---- what was shown
 

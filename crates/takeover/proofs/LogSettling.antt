@@ -44,10 +44,13 @@ use Rattle.session_spec.specs.Entering.{IsStanding, failed_since}
 use Rattle.takeover.specs.Found.{IsFoundOn}
 use Rattle.takeover.specs.Replay.{IsRun}
 use Rattle.takeover.specs.Tables.{HoldTables}
-use Rattle.takeover.proofs.Chains.{replayed_stands, of_front, agrees, shows_move, log_moves}
-use Rattle.takeover.proofs.Failing.{sound_since, left_out_since}
+use Rattle.takeover.proofs.Chains.{replayed_stands, of_front, agrees}
 use Rattle.takeover.proofs.Generations.{this_or_later}
 use Rattle.takeover.proofs.NothingStored.{left_out_settled, read_settled}
+use Rattle.array_core.proofs.Logged.{nothing_else}
+use Rattle.array_core.proofs.Losses.{sound_since}
+use Rattle.array_spec.proofs.LogMoves.{shows_move, log_moves}
+use Rattle.session_spec.proofs.Conditions.{left_out_once}
 
 -- ---- conditions
 
@@ -65,15 +68,6 @@ pub stays : (c : Condition) (b : Bool) → (c ≡ Sound → b ≡ false) → mis
 stays Sound b h = ap (λ (x : Bool). if x then Missing else Sound) (h refl)
 stays Missing b h = refl
 stays LeftOut b h = refl
-
-pub bearable_or_not : (shelf : Geometry) (c : Conditions) → IsBearable shelf c ⊎ (IsBearable shelf c → ⊥)
-bearable_or_not shelf c = elim (cases_lt 2 (missing_drives shelf c)) [
-  | inl more ↦ inr (λ b. absurd (omega (arith, more, b.drives)))
-  | inr few ↦ elim (cases_lt 1 (missing_nvrams c)) [
-    | inl more ↦ inr (λ b. absurd (omega (arith, more, b.nvrams)))
-    | inr few2 ↦ inl (record { drives = few; nvrams = few2 })
-  ]
-]
 
 -- ---- what devices show
 
@@ -105,9 +99,6 @@ same_if false p q h = refl
 is_named : (b : Bool) (o : Option (List ℕ)) → IsSome (if b then o else None) → b ≡ true
 is_named true o some = refl
 is_named false o some = cc
-
-pub nothing_else : {W : ℕ → Type 0} {disk : Disk} {bytes : List ℕ} → ((i : ℕ) → W i → ⊥) → MayLeaveBut W disk bytes → MayLeave disk bytes
-nothing_else none h = record { size = h.size; is_byte = h.is_byte; clean = λ i out. h.same i out (none i) }
 
 one_leaves : (b : Bool) (disk : Disk) (bytes : List ℕ) → ((i : ℕ) → slice_index disk.bytes i < 256) → (b ≡ false → MayLeave disk bytes) → MayLeave disk (if b then disk.bytes else bytes)
 one_leaves true disk bytes are h = record { size = refl; is_byte = are; clean = λ i out. refl }
@@ -175,7 +166,7 @@ module _ (old mid : Shelved) (x : Loaded) (missing : Conditions) (arrays : List 
   was_sound d e = sound_since (has_risen (old.disk d).faults (mid.disk d).faults) (missing d) e
 
   was_left_out : (d : Device) → now d ≡ LeftOut → missing d ≡ LeftOut
-  was_left_out d e = left_out_since (has_risen (old.disk d).faults (mid.disk d).faults) (missing d) e
+  was_left_out d e = left_out_once (has_risen (old.disk d).faults (mid.disk d).faults) (missing d) e
 
   within_now : IsWithin missing now
   within_now = losing_within (λ d. has_risen (old.disk d).faults (mid.disk d).faults) missing

@@ -32,10 +32,11 @@ use Rattle.takeover.specs.LogOpen.{IsLogOpen, IsLogOpenBy}
 use Rattle.takeover.specs.Opened.{IsHeldBy, IsRecovered}
 use Rattle.takeover.specs.Tables.{HasTables}
 use Rattle.takeover.proofs.ArrayOf.{array_with}
-use Rattle.takeover.proofs.Failing.{fewer_borne, since_later}
-use Rattle.takeover.proofs.Loading.{same_geometry}
+use Rattle.takeover.proofs.Failing.{since_later}
 use Rattle.takeover.proofs.RecoveredLemmas.{content, left_or_lost, still_left}
 use Rattle.takeover.proofs.Twice.{twice_since}
+use Rattle.array_core.proofs.Losses.{fewer_borne}
+use Rattle.register.proofs.Rounds.{same_shelf}
 
 -- the record is found with its tables, and then the log is opened
 module _ (old mid new : Shelved) (missing : Conditions) (arrays : List plain.Array) (x : Loaded) (first : Kept) (ps : List (List AnyFact)) (on : Continues old mid) (after : Continues mid new)
@@ -53,7 +54,7 @@ module _ (old mid new : Shelved) (missing : Conditions) (arrays : List plain.Arr
         there.1,
         there.2,
         subst (λ (c : Conditions). IsLogOpenBy new x c arrays ps there.1 result) same_conditions
-            (opens there.1 there.0 there.2 (subst (λ (g : Geometry). IsBearable g (failed_since mid new (failed_since old mid missing))) (same_geometry on)
+            (opens there.1 there.0 there.2 (subst (λ (g : Geometry). IsBearable g (failed_since mid new (failed_since old mid missing))) (same_shelf on)
             (subst (λ (c : Conditions). IsBearable (geometry_of old) c) (sym same_conditions) bears))),
       )
 

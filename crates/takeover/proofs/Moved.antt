@@ -16,7 +16,7 @@ use Rattle.array_spec.specs.Laws.{DiffersOnlyIn}
 use Rattle.array_spec.specs.Stored.{PatchStands, PatchesStand, places_of_part, pages_in_part}
 use Rattle.array_spec.proofs.Fewer.{patches_on}
 use Rattle.array_spec.proofs.Moves.{SameUnit, SameUnits, Keeps, same_units_keep}
-use Rattle.array_spec.proofs.Quiet.{bytes_same}
+use Rattle.array_spec.proofs.Quiet.{bytes_same, in_unit}
 
 module _ (old new : View) where
   sector_moves : (places : List Place) (index : ℕ) (sector : List ℕ) → Keeps old new places → SectorStands old places index sector → SectorStands new places index sector
@@ -49,9 +49,6 @@ module _ (old new : View) where
   patches_move (p ∷ ps) (f ∷ fs) same s = (patch_moves p f same.0 s.0, patches_move ps fs same.1 s.1)
 
 -- ---- where only boot units differ
-
-in_unit : (at unit n : ℕ) → n < 16 → 65536 * unit + 4096 * n ≤ at → at < 65536 * unit + 4096 * n + 4096 → at / 65536 ≡ unit
-in_unit at unit n below from_there to_there = omega (arith, below, from_there, to_there)
 
 -- in each view a drive shows nothing, or what the image of that view has
 abbrev pub ShowAlike : Image → Image → View → View → Type 0

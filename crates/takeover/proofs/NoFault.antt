@@ -23,7 +23,7 @@ use Rattle.boot_region.specs.Loading.{IsFaultOf, IsBadBody, IsSpent, TooFewHold}
 use Rattle.boot_region.proofs.Accounts.{losing_within}
 use Rattle.session_spec.specs.Entering.{Enters, failed_since}
 use Rattle.takeover.proofs.Loading.{at_time, may_at_time, same_leaves, view_appears, given_here, here_decided, seen_effective, view, member_here}
-use Rattle.takeover.proofs.Members.{enough}
+use Rattle.array_core.proofs.Lost.{enough}
 
 -- at most two drives don't have such a flag
 pub few_lack : (slots : ℕ) (missing : Conditions) (flags : List Bool) (shelf_units : ℕ) → IsBearable (record { slots = slots; units = shelf_units }) missing

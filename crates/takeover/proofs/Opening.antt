@@ -49,14 +49,16 @@ use Rattle.takeover.specs.Replayed.{HasReplayed, IsReplayedBy, IsReplayedFrom}
 use Rattle.takeover.specs.Seen.{AreTablesSeenBy, IsGivenFrom, IsSeenIn}
 use Rattle.takeover.specs.Tables.{HasTables, IsMemoryOf}
 use Rattle.takeover.proofs.Causes.{cause}
-use Rattle.takeover.proofs.Loading.{same_geometry, may_read}
+use Rattle.takeover.proofs.Loading.{may_read}
 use Rattle.takeover.proofs.ArrayOf.{array_with, facts_lawful, patches_are, tables_sound}
 use Rattle.takeover.proofs.Chains.{kept_one}
 use Rattle.takeover.proofs.RecoveredLemmas.{content, in_log, left_or_lost, may_store}
 use Rattle.takeover.proofs.Stops.{given_at, nothing_owed, unstored_by}
 use Rattle.takeover.proofs.Storing.{stored_at}
-use Rattle.takeover.proofs.Twice.{borne_or_not, twice_since}
+use Rattle.takeover.proofs.Twice.{twice_since}
 use Rattle.takeover.proofs.WhatFound as found_by
+use Rattle.register.proofs.Again.{bearable_or}
+use Rattle.register.proofs.Rounds.{same_shelf}
 
 -- what is clean after both calls
 pub clean_on : (a b n : Shelved) (missing : Conditions) → Continues a b → Continues b n → AreClean n (failed_since b n (failed_since a b missing)) → AreClean n (failed_since a n missing)
@@ -93,7 +95,7 @@ unfound a b open_fault.Spent by = by
 module _ (a b : Shelved) (x : Loaded) (on : Continues a b) (seen : IsSeenIn a b x) (lawful_b : IsLawfulLoad (geometry_of b) x) (same : (k : ℕ) → IsSame (a.disk (nvram k)) (b.disk (nvram k)))
     (n : Shelved) (after : Continues b n) where
   pub lawful : IsRecordOf (geometry_of a) x.record
-  lawful = subst (λ (g : Geometry). IsRecordOf g x.record) (sym (same_geometry on)) lawful_b.lawful
+  lawful = subst (λ (g : Geometry). IsRecordOf g x.record) (sym (same_shelf on)) lawful_b.lawful
 
   -- and the log wasn't opened
   pub unread : (first : Kept) (fault : LogFault) → IsLogFault fault b n x.record.members.nvrams x.record.flushed → IsReplayedBy b n x.record.members.nvrams x.record.flushed first (Err fault) → IsUnopenedBy (status_of (fault_of_log fault)) a n
@@ -176,7 +178,7 @@ module _ (a b : Shelved) (x : Loaded) (on : Continues a b) (seen : IsSeenIn a b 
       pub each_moment : LeavesOnly a s (StandsStill a (Some found) missing arrays)
       each_moment = then_run on_n
           (unstored_by a b missing arrays on is_b h_b first_still n counts next x seen.view given found refl (found_by.silent_before a b x on seen lawful same n first o after replayed) x.record.members.nvrams log_writes)
-          (elim (borne_or_not (geometry_of a) (failed_since a n missing)) [
+          (elim (bearable_or (geometry_of a) (failed_since a n missing)) [
             | inl bears ↦ let there = is_open bears in storing there.0 there.2
             | inr many ↦ weaker (λ stop kept. nothing_owed a n missing on_n stop kept.counts many (Some found) arrays) writes.any_moment
           ])
@@ -207,7 +209,7 @@ module _ (a b : Shelved) (x : Loaded) (on : Continues a b) (seen : IsSeenIn a b 
           found = found;
           not_spent = lawful_b.room;
           no_other = λ there stand. no_other (found_by.members a b x on seen lawful same n first o after replayed) (λ i. refl) there stand ∙ sym (patches_are (geometry_of b) x.record first o memory done);
-          tables_sound = subst (λ (g : Geometry). AreSound g x.record (patches o.memory.memory.tables)) (sym (same_geometry on)) (tables_sound (geometry_of b) x.record first o memory done);
+          tables_sound = subst (λ (g : Geometry). AreSound g x.record (patches o.memory.memory.tables)) (sym (same_shelf on)) (tables_sound (geometry_of b) x.record first o memory done);
           lawful = facts_lawful (geometry_of b) x.record first o memory done;
           log = done.log;
           in_force = done.in_force;

@@ -25,7 +25,7 @@ use Rattle.register.proofs.FlagLemmas.{in_cut, cut_in}
 use Rattle.session_spec.specs.Entering.{failed_since}
 use Rattle.takeover.specs.LogOpen.{IsLogOpen}
 use Rattle.takeover.specs.declared.log.OpenedLog.{OpenedLog}
-use Rattle.takeover.proofs.Failing.{sound_since}
+use Rattle.array_core.proofs.Losses.{sound_since}
 
 -- the record that was found is in force on the drives of the shelf
 cut_force : (n : ℕ) (flags : List Bool) (shelf : Shelved) (missing : Conditions) (slot : BootSlot) (boot : BootRecord) → shelf.drives ≤ n → IsInForceOn shelf flags missing slot boot → IsInForceOn shelf (take n flags) missing slot boot

@@ -30,9 +30,10 @@ use Rattle.session_spec.specs.Headline.{HasTooFew}
 use Rattle.takeover.specs.Faults.{fault_of}
 use Rattle.takeover.specs.Opened.{AreClean}
 use Rattle.takeover.specs.Seen.{IsSeenIn, IsSeenBy}
-use Rattle.takeover.proofs.Failing.{sound_since}
 use Rattle.takeover.proofs.GivenFrom.{given_from}
-use Rattle.takeover.proofs.Showing.{below, stands_on, showing, shown, nvrams, silent, gives, member_showed, other_hid, too_few, seen_fault, rose_then}
+use Rattle.takeover.proofs.Showing.{below, stands_on, showing, shown, nvrams, silent, gives, member_showed, other_hid, too_few, seen_fault}
+use Rattle.array_core.proofs.Losses.{sound_since}
+use Rattle.takeover.proofs.WhatFound.{rose}
 
 -- a loading that failed
 pub seen_not_loaded : (old mid : Shelved) → Continues mid mid → (e : LoadFault) → IsLoadOf old mid (Err e) → IsSeenBy old mid (Err (fault_of e))
@@ -62,7 +63,7 @@ module _ (old mid new : Shelved) (x : Loaded) (on : Continues old mid) (after : 
   left_or_failed : (i : ℕ) → i < old.drives → IsMember x.drives i → IsMember left i ⊎ (has_risen (old.disk (drive i)).faults (new.disk (drive i)).faults ≡ true)
   left_or_failed i lt m = elim (dropped i (omega (arith, lt, on.drives)) m) [
     | inl is ↦ inl is
-    | inr rose ↦ inr (rose_then (old.disk (drive i)).faults (mid.disk (drive i)).faults (new.disk (drive i)).faults (new.disk (drive i)).faults (on.faults (drive i)) rose (omega arith))
+    | inr rose ↦ inr (rose (old.disk (drive i)).faults (mid.disk (drive i)).faults (new.disk (drive i)).faults (new.disk (drive i)).faults (on.faults (drive i)) rose (omega arith))
   ]
 
   -- too few are left

@@ -32,12 +32,9 @@ use Rattle.session_spec.specs.Entering.{OnlyFailedAreSilent, read_now}
 use Rattle.session_spec.specs.Headline.{HasNoArray, HasTooFew, IsUnread}
 use Rattle.takeover.specs.Faults.{fault_of}
 use Rattle.takeover.specs.Seen.{IsSeenBy}
-use Rattle.takeover.proofs.Failing.{sound_since}
 use Rattle.takeover.proofs.NoFault.{few_lack}
-
--- a count that rose on the way
-pub rose_then : (a b c d : ℕ) → a ≤ b → Rises b c → c ≤ d → has_risen a d ≡ true
-rose_then a b c d ab rose cd = elim (cases_Bool (has_risen a d)) [ inl is ↦ is | inr not ↦ absurd (risen_on_way a b c d ab rose cd not) ]
+use Rattle.array_core.proofs.Losses.{sound_since}
+use Rattle.takeover.proofs.WhatFound.{rose}
 
 -- a drive of the shelf shows its bytes where it answered, and each other device shows them
 abbrev pick : Bool → Bool → List ℕ → Option (List ℕ)
@@ -125,7 +122,7 @@ module _ (old mid : Shelved) (bytes : List ℕ) (answered : List Bool) (all : le
 
   pub silent : (new : Shelved) → Continues mid new → OnlyFailedAreSilent (has_failed (read_now old) (read_now new)) view
   silent new on d none =
-      rose_then (old.disk d).faults (old.disk d).faults (mid.disk d).faults (new.disk d).faults (omega arith) (failed_if_silent d none) (on.faults d)
+      rose (old.disk d).faults (old.disk d).faults (mid.disk d).faults (new.disk d).faults (omega arith) (failed_if_silent d none) (on.faults d)
 
   -- ---- what it gives
 

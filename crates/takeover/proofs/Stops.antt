@@ -18,10 +18,13 @@ use Rattle.nvram_log.specs.Members.{OnMembers}
 use Rattle.nvram_log.proofs.SettledEach.{both_leave}
 use Rattle.session_spec.specs.Entering.{Found, IsStanding, StandsStill, OnlyFailedAreSilent, read_now, failed_by, failed_since}
 use Rattle.takeover.specs.Seen.{IsGivenFrom}
-use Rattle.takeover.proofs.Failing.{by_stop, fewer_borne}
-use Rattle.takeover.proofs.Loading.{may_read, same_geometry}
+use Rattle.takeover.proofs.Failing.{by_stop}
+use Rattle.takeover.proofs.Loading.{may_read}
 use Rattle.takeover.proofs.NothingStored.{given_over}
-use Rattle.takeover.proofs.Twice.{borne_or_not, twice_by}
+use Rattle.takeover.proofs.Twice.{twice_by}
+use Rattle.array_core.proofs.Losses.{fewer_borne}
+use Rattle.register.proofs.Again.{bearable_or}
+use Rattle.register.proofs.Rounds.{same_shelf}
 
 -- records are of drives: what NVRAM devices show is nothing to them
 pub given_on_drives : (shelf : Geometry) (from to : Image) (missing : Conditions) (slot : BootSlot) (boot : BootRecord) → ((i : ℕ) → from (drive i) ≡ to (drive i)) → MayBeGiven shelf from missing slot boot → MayBeGiven shelf to missing slot boot
@@ -39,16 +42,16 @@ module _ (a b : Shelved) (missing : Conditions) (on : Continues a b) (stop : Sto
   same = twice_by a b stop missing on counted
 
   pub bears_from_b : IsBearable (geometry_of a) from_a → IsBearable (geometry_of b) from_b
-  bears_from_b bears = subst (λ (g : Geometry). IsBearable g from_b) (same_geometry on) (subst (λ (c : Conditions). IsBearable (geometry_of a) c) (sym same) bears)
+  bears_from_b bears = subst (λ (g : Geometry). IsBearable g from_b) (same_shelf on) (subst (λ (c : Conditions). IsBearable (geometry_of a) c) (sym same) bears)
 
   pub standing_from_a : (arrays : List Array) → IsStanding (geometry_of b) stop.image from_b arrays → IsStanding (geometry_of a) stop.image from_a arrays
-  standing_from_a arrays s = subst (λ (c : Conditions). IsStanding (geometry_of a) stop.image c arrays) same (subst (λ (g : Geometry). IsStanding g stop.image from_b arrays) (sym (same_geometry on)) s)
+  standing_from_a arrays s = subst (λ (c : Conditions). IsStanding (geometry_of a) stop.image c arrays) same (subst (λ (g : Geometry). IsStanding g stop.image from_b arrays) (sym (same_shelf on)) s)
 
   pub given_from_b : (slot : BootSlot) (boot : BootRecord) → MayBeGiven (geometry_of a) stop.image from_a slot boot → MayBeGiven (geometry_of b) stop.image from_b slot boot
-  given_from_b slot boot g = subst (λ (s : Geometry). MayBeGiven s stop.image from_b slot boot) (same_geometry on) (subst (λ (c : Conditions). MayBeGiven (geometry_of a) stop.image c slot boot) (sym same) g)
+  given_from_b slot boot g = subst (λ (s : Geometry). MayBeGiven s stop.image from_b slot boot) (same_shelf on) (subst (λ (c : Conditions). MayBeGiven (geometry_of a) stop.image c slot boot) (sym same) g)
 
   pub given_from_a : (slot : BootSlot) (boot : BootRecord) → MayBeGiven (geometry_of b) stop.image from_b slot boot → MayBeGiven (geometry_of a) stop.image from_a slot boot
-  given_from_a slot boot g = subst (λ (c : Conditions). MayBeGiven (geometry_of a) stop.image c slot boot) same (subst (λ (s : Geometry). MayBeGiven s stop.image from_b slot boot) (sym (same_geometry on)) g)
+  given_from_a slot boot g = subst (λ (c : Conditions). MayBeGiven (geometry_of a) stop.image c slot boot) same (subst (λ (s : Geometry). MayBeGiven s stop.image from_b slot boot) (sym (same_shelf on)) g)
 
   -- nothing is owed once more is missing than is borne
   module _ (many : IsBearable (geometry_of a) (failed_since a b missing) → ⊥) where
@@ -99,14 +102,14 @@ module _ (a b : Shelved) (missing : Conditions) (arrays : List Array) (on : Cont
   still_unstored : (stop : Stop) → IsCountedBy b stop → StandsStill b None (failed_since a b missing) arrays stop → StandsStill a None missing arrays stop
   still_unstored stop counted s = record {
     standing = λ bears. standing_from_a a b missing on stop counted arrays (s.standing (bears_from_b a b missing on stop counted bears));
-    stored = λ slot boot g. at_b.stored slot boot (subst (λ (k : Geometry). MayBeGiven k (read_now b).image (failed_since a b missing) slot boot) (sym (same_geometry on)) (s.stored slot boot (given_from_b a b missing on stop counted slot boot g)));
+    stored = λ slot boot g. at_b.stored slot boot (subst (λ (k : Geometry). MayBeGiven k (read_now b).image (failed_since a b missing) slot boot) (sym (same_shelf on)) (s.stored slot boot (given_from_b a b missing on stop counted slot boot g)));
   }
 
   module _ (n : Shelved) (counts : LeavesOnly b n (IsCountedBy b))
       (next : IsBearable (geometry_of a) (failed_since a b missing) → LeavesOnly b n (StandsStill b None (failed_since a b missing) arrays)) where
     -- since the record was found
     unstored_since : LeavesOnly b n (StandsStill a None missing arrays)
-    unstored_since = elim (borne_or_not (geometry_of a) (failed_since a b missing)) [
+    unstored_since = elim (bearable_or (geometry_of a) (failed_since a b missing)) [
       | inl bears ↦ weaker (λ stop both. still_unstored stop both.0 both.1) (both_leave counts (next bears))
       | inr many ↦ weaker (λ stop counted. nothing_owed a b missing on stop counted many None arrays) counts
     ]

@@ -33,13 +33,15 @@ use Rattle.register.proofs.FlagLemmas.{cut_in}
 use Rattle.session_spec.specs.Entering.{ComesBack, Found, IsStanding, LeftOutAreNamedByNone, OnlyFailedAreSilent, StandsStill, read_now, failed_by, failed_since}
 use Rattle.takeover.specs.declared.log.OpenedLog.{OpenedLog}
 use Rattle.takeover.specs.LogOpen.{IsLogOpen}
-use Rattle.takeover.proofs.Failing.{left_out_since, since_mid}
-use Rattle.takeover.proofs.Loading.{may_read, same_geometry}
+use Rattle.takeover.proofs.Loading.{may_read}
 use Rattle.takeover.proofs.NothingStored.{in_force_at}
 use Rattle.takeover.proofs.RecoveredLemmas.{content}
 use Rattle.takeover.proofs.Stops.{given_on_drives, bears_from_b, standing_from_a, given_from_a}
 use Rattle.takeover.proofs.Twice.{twice_by}
 use Rattle.takeover.proofs.WhatFound.{not_named, rose_before}
+use Rattle.register.proofs.Again.{not_risen_since}
+use Rattle.register.proofs.Rounds.{same_shelf}
+use Rattle.session_spec.proofs.Conditions.{left_out_once}
 
 -- the NVRAM devices show what they might have shown when the store began, and each record that may be given is read
 module _ (n : Shelved) (x : Loaded) (now : Conditions) (arrays : List Array) (ps : List (List AnyFact)) (base : Array) (o : OpenedLog) (was : Register) (is_n : IsShelf n) (h_n : n.honest)
@@ -140,7 +142,7 @@ module _ (n : Shelved) (x : Loaded) (now : Conditions) (arrays : List Array) (ps
       where
         left_out : LeftOutAreNamedByNone shelf stop.image later
         left_out d out slot boot g =
-            let was_out : now d ≡ LeftOut = left_out_since (has_risen (n.disk d).faults (stop.faults d)) (now d) out in
+            let was_out : now d ≡ LeftOut = left_out_once (has_risen (n.disk d).faults (stop.faults d)) (now d) out in
             elim (gives slot boot g) [
               | inl before ↦ opened.found.left_out before.start before.may d was_out slot boot before.given
               | inr next ↦ out_unnamed d was_out boot next
@@ -260,7 +262,7 @@ module _ (a n : Shelved) (x : Loaded) (missing : Conditions) (arrays : List Arra
           → (start : Stop) → MayStop n start → MayBeGiven (geometry_of n) start.image later (own_slot was.record) was.record
       given_in gives start may =
           subst (λ (r : BootRecord). MayBeGiven (geometry_of n) start.image later (own_slot r) r) (sym record_is)
-          (subst (λ (g : Geometry). MayBeGiven g start.image later (own_slot x.record) x.record) (same_geometry on)
+          (subst (λ (g : Geometry). MayBeGiven g start.image later (own_slot x.record) x.record) (same_shelf on)
           (subst (λ (c : Conditions). MayBeGiven (geometry_of a) start.image c (own_slot x.record) x.record) (sym (twice_by a n stop missing on left.counts)) (gives start may)))
 
       fails : Device → Bool
@@ -279,7 +281,7 @@ module _ (a n : Shelved) (x : Loaded) (missing : Conditions) (arrays : List Arra
             let three = back_sound (names x.record (drive i)) (fails (drive i)) (members_view found.view found.effective (drive i)) sound in
             let member : IsMember x.drives i = drive_left fails by_then i (omega (arith, lt, on.drives)) three.1 three.0 in (
               cut_in was.drives was.record.slots i (omega (arith, lt, slots)) (subst (λ (l : List Bool). IsMember l i) (sym drives_are) member),
-              since_mid (a.disk (drive i)).faults (n.disk (drive i)).faults (stop.faults (drive i)) (on.faults (drive i)) (left.counts.faults (drive i)) three.0,
+              not_risen_since (a.disk (drive i)).faults (n.disk (drive i)).faults (stop.faults (drive i)) (on.faults (drive i)) (left.counts.faults (drive i)) three.0,
             );
         on_nvram = λ k lt sound.
             let three = back_sound (names x.record (nvram k)) (fails (nvram k)) (members_view found.view found.effective (nvram k)) sound in
@@ -312,7 +314,7 @@ module _ (a n : Shelved) (x : Loaded) (missing : Conditions) (arrays : List Arra
 
       is_back : StandsBack n was o.log.members (content ps base opened.commands) stop → IsBearable (geometry_of a) after → IsStanding (geometry_of a) stop.image after arrays
       is_back stood borne =
-          let e : geometry_of a ≡ geometry_of n = same_geometry on in
+          let e : geometry_of a ≡ geometry_of n = same_shelf on in
           let both = stood.each (failed_since a n missing) arrays may_store after (of_members (subst (λ (g : Geometry). IsBearable g after) e borne)) in
           subst (λ (g : Geometry). IsStanding g stop.image after arrays) (sym e)
           (standing_back n x (failed_since a n missing) arrays ps base o was is_n h_n opened record_is drives_are stop left after both.1

@@ -34,26 +34,10 @@ use Rattle.session_spec.specs.Headline.{HasNoArray, HasTooFew}
 use Rattle.takeover.specs.declared.faults.OpenFault.{OpenFault}
 use Rattle.takeover.specs.Faults.{IsFaultOfTables}
 use Rattle.takeover.specs.Seen.{AreTablesSeenBy, IsSeenIn}
-use Rattle.takeover.proofs.Loading.{same_geometry}
-use Rattle.takeover.proofs.Showing.{rose_then}
 use Rattle.takeover.proofs.TablesRead.{shows, stand_now, view}
-use Rattle.takeover.proofs.WhatFound.{rose_before}
-
--- a number in a range and those above it count at most as the range
-split_count : (f : ℕ → Bool) (a n b m : ℕ) → a ≤ b → b < a + n → b + 1 + m ≡ a + n → cond (f b) 1 0 + count_by f (range_with_len (b + 1) m) ≤ count_by f (range_with_len a n)
-split_count f a zero b m low high is = absurd (omega (arith, low, high))
-split_count f a (suc n) b m low high is =
-    rw (counted f a (range_with_len (a + 1) n))
-    (elim (cases_eq a b) [
-      | inl e ↦
-          let k : m ≡ n = omega (arith, e, is) in
-          subst (λ x. cond (f x) 1 0 + count_by f (range_with_len (x + 1) m) ≤ cond (f a) 1 0 + count_by f (range_with_len (a + 1) n)) e
-          (subst (λ x. cond (f a) 1 0 + count_by f (range_with_len (a + 1) x) ≤ cond (f a) 1 0 + count_by f (range_with_len (a + 1) n)) (sym k) (omega arith))
-      | inr other ↦
-          let rest : cond (f b) 1 0 + count_by f (range_with_len (b + 1) m) ≤ count_by f (range_with_len (a + 1) n) =
-          split_count f (a + 1) n b m (omega (arith, low, other)) (omega (arith, high)) (omega (arith, is)) in
-          omega (arith, rest)
-    ])
+use Rattle.takeover.proofs.WhatFound.{rose_before, rose}
+use Rattle.array_spec.proofs.Fewer.{split_count}
+use Rattle.register.proofs.Rounds.{same_shelf}
 
 -- three of them
 three_counted : (f : ℕ → Bool) (n i j k : ℕ) → i < j → j < k → k < n → f i ≡ true → f j ≡ true → f k ≡ true → 3 ≤ count_by f (range_with_len 0 n)
@@ -98,7 +82,7 @@ module _ (a b t : Shelved) (x : Loaded) (on : Continues a b) (after : Continues 
         (subst (λ (s : BootSlot). PatchesStand (of_members s e.boot seen.view) e.boot ps) one.0 stand) in
         none (view a b x lawful seen missing others few members (λ i. refl)) ps (shows a b x lawful seen missing others few members (λ i. refl))
         (stand_now a b x lawful seen missing others few members (λ i. refl) ps here)
-        (subst (λ (g : Geometry). AreSound g x.record ps) (same_geometry on) (subst (λ (r : BootRecord). AreSound (geometry_of a) r ps) boots sound))));
+        (subst (λ (g : Geometry). AreSound g x.record ps) (same_shelf on) (subst (λ (r : BootRecord). AreSound (geometry_of a) r ps) boots sound))));
   }
 
   -- ---- a patch is lost
@@ -119,7 +103,7 @@ module _ (a b t : Shelved) (x : Loaded) (on : Continues a b) (after : Continues 
           | inr (inl none) ↦ inr none
           | inr (inr up) ↦ inl (rose_before (a.disk (drive at)).faults (b.disk (drive at)).faults (t.disk (drive at)).faults (after.faults (drive at)) up)
         ]
-        | inr rises ↦ inl (rose_then (a.disk (drive at)).faults (lost.faults (drive at)) (t.disk (drive at)).faults (t.disk (drive at)).faults (omega (arith, on.faults (drive at), lost.since (drive at))) rises (omega arith))
+        | inr rises ↦ inl (rose (a.disk (drive at)).faults (lost.faults (drive at)) (t.disk (drive at)).faults (t.disk (drive at)).faults (omega (arith, on.faults (drive at), lost.since (drive at))) rises (omega arith))
       ])
     where
       at : ℕ
@@ -155,6 +139,6 @@ module _ (a b t : Shelved) (x : Loaded) (on : Continues a b) (after : Continues 
   fault_seen (tables.Lost lost) e is named =
       let p = is.0 in
       let patch : IsPatch b.drives b.units p = All-contains (IsPatch b.drives b.units) x.record.patches p
-      (All-from_recursion (IsPatch b.drives b.units) x.record.patches (lawful_patches b x.record (subst (λ (g : Geometry). IsRecordOf g x.record) (same_geometry on) lawful)).each) is.1 in
+      (All-from_recursion (IsPatch b.drives b.units) x.record.patches (lawful_patches b x.record (subst (λ (g : Geometry). IsRecordOf g x.record) (same_shelf on) lawful)).each) is.1 in
       subst (λ (f : OpenFault). AreTablesSeenBy a t (Err f)) (sym named.1) (too_few p is.2.0 lost.drives is.2.2 (places_of b p is.2.0 patch is.2.1))
   fault_seen (tables.Memory m) e is named = subst (λ (f : OpenFault). AreTablesSeenBy a t (Err f)) (sym named) tt

@@ -37,18 +37,19 @@ use Rattle.takeover.specs.Opened.{AreClean}
 use Rattle.takeover.specs.Seen.{AreTablesSeen, IsSeenIn}
 use Rattle.takeover.specs.Tables.{HasTables, IsMemoryOf}
 use Rattle.takeover.proofs.Failing.{since_later}
-use Rattle.takeover.proofs.Loading.{at_time, may_at_time, same_leaves, same_geometry}
-use Rattle.takeover.proofs.LogSettling.{nothing_else}
+use Rattle.takeover.proofs.Loading.{at_time, may_at_time, same_leaves}
 use Rattle.takeover.proofs.Moved.{patches_alike}
 use Rattle.takeover.proofs.Stops.{given_at}
 use Rattle.takeover.proofs.TablesHeld.{held_base, held_here, held_patches, hold_tables, named_shows, patches_stand_here}
 use Rattle.takeover.proofs.WhatFound.{rose_before}
+use Rattle.array_core.proofs.Logged.{nothing_else}
+use Rattle.register.proofs.Rounds.{same_shelf}
 
 -- devices that were only read stand as they stood
 module _ (b t : Shelved) (x : Loaded) (later : Conditions) (arrays : List Array) (after : Continues b t) (same : (d : Device) → IsSame (b.disk d) (t.disk d)) (found : IsFoundOn b x later arrays)
     (counted : (d : Device) → later d ≡ Sound → (t.disk d).faults < 2 ^ 64 - 1) where
   same_shelf : geometry_of b ≡ geometry_of t
-  same_shelf = same_geometry after
+  same_shelf = same_shelf after
 
   before : (start : Stop) → MayStop t start → MayStop b (at_time b start.image)
   before start may = may_at_time b start.image (λ d. same_leaves (b.disk d) (t.disk d) (start.image d) (same d) (may.device d))

@@ -7,7 +7,7 @@ use Rattle.world.specs.Shelf.{Shelved, Stop, Continues, IsCountedBy}
 use Rattle.world.specs.Losing.{has_risen, missing_if}
 use Rattle.boot_region.proofs.Phases.{not_risen_before, risen_on_way}
 use Rattle.session_spec.specs.Entering.{failed_since, failed_by}
-use Rattle.takeover.proofs.Failing.{since_mid}
+use Rattle.register.proofs.Again.{not_risen_since}
 
 -- a count rose in all where it rose in one of the two
 rose_in_one : (a b c : ℕ) → a ≤ b → b ≤ c → has_risen a b ≡ false → has_risen b c ≡ false → has_risen a c ≡ false
@@ -45,7 +45,7 @@ twice_by old mid stop missing on counts = λ k d. each d k
         let a = (old.disk d).faults in
         let b = (mid.disk d).faults in
         let c = stop.faults d in
-        twice_at (missing d) (has_risen a b) (has_risen b c) (has_risen a c) (not_risen_before a b c (counts.faults d)) (since_mid a b c (on.faults d) (counts.faults d)) (rose_in_one a b c (on.faults d) (counts.faults d))
+        twice_at (missing d) (has_risen a b) (has_risen b c) (has_risen a c) (not_risen_before a b c (counts.faults d)) (not_risen_since a b c (on.faults d) (counts.faults d)) (rose_in_one a b c (on.faults d) (counts.faults d))
 
 -- until now
 pub twice_since : (old mid new : Shelved) (missing : Conditions) → Continues old mid → Continues mid new → failed_since mid new (failed_since old mid missing) ≡ failed_since old new missing
@@ -56,14 +56,4 @@ twice_since old mid new missing on after = λ k d. each d k
         let a = (old.disk d).faults in
         let b = (mid.disk d).faults in
         let c = (new.disk d).faults in
-        twice_at (missing d) (has_risen a b) (has_risen b c) (has_risen a c) (not_risen_before a b c (after.faults d)) (since_mid a b c (on.faults d) (after.faults d)) (rose_in_one a b c (on.faults d) (after.faults d))
-
--- a set is borne or it isn't
-pub borne_or_not : (shelf : Geometry) (missing : Conditions) → IsBearable shelf missing ⊎ (IsBearable shelf missing → ⊥)
-borne_or_not shelf missing = elim (cases_lt 2 (missing_drives shelf missing)) [
-  | inl many ↦ inr (λ b. omega (arith, many, b.drives))
-  | inr few ↦ elim (cases_lt 1 (missing_nvrams missing)) [
-    | inl many ↦ inr (λ b. omega (arith, many, b.nvrams))
-    | inr fewer ↦ inl (record { drives = few; nvrams = fewer })
-  ]
-]
+        twice_at (missing d) (has_risen a b) (has_risen b c) (has_risen a c) (not_risen_before a b c (after.faults d)) (not_risen_since a b c (on.faults d) (after.faults d)) (rose_in_one a b c (on.faults d) (after.faults d))

@@ -34,9 +34,9 @@ use Rattle.session_spec.specs.Headline.{HasNoArray, HasTooFew}
 use Rattle.takeover.specs.declared.log.OpenedLog.{OpenedLog}
 use Rattle.takeover.specs.Replayed.{IsReplayedFrom, ShowedUnserved}
 use Rattle.takeover.specs.Seen.{IsSeenIn}
-use Rattle.takeover.proofs.Chains.{log_moves}
-use Rattle.takeover.proofs.Failing.{sound_since}
 use Rattle.takeover.proofs.NoFault.{few_lack}
+use Rattle.array_core.proofs.Losses.{sound_since}
+use Rattle.array_spec.proofs.LogMoves.{log_moves}
 
 -- a count that rose on the way rose in all
 pub rose : (a b c d : ℕ) → a ≤ b → Rises b c → c ≤ d → has_risen a d ≡ true

@@ -9,7 +9,6 @@ use Rattle.array_memory.proofs.PlanLemmas.{facts_same, patches_same}
 use Rattle.array_memory.specs.Plan.{after_plan}
 use Rattle.array_core.specs.declared.array.Array.{Array}
 use Rattle.array_core.specs.Ready.{IsArrayOf}
-use Rattle.array_core.proofs.Losses.{same_geometry}
 use Rattle.array_core.proofs.Segments.{drives_left}
 use Rattle.array_core.proofs.Stages.{later_itself}
 use Rattle.array_checkpoint.proofs.After.{reads_then}
@@ -17,6 +16,7 @@ use Rattle.array_checkpoint.proofs.Flushed.{has_flushed, is_array, next_is_lawfu
 use Rattle.array_checkpoint.specs.Made.{contents_after, held_after, HoldOnLeft}
 use Rattle.array_checkpoint.proofs.Behind.{fewer_left, hold_left}
 use Rattle.array_checkpoint.proofs.ending.take_over.Goals as goal
+use Rattle.register.proofs.Rounds.{same_shelf}
 
 pub switch-requires-clause-lawful : goal.switch-requires-clause-lawful
 switch-requires-clause-lawful g c =
@@ -33,7 +33,7 @@ returns-clause-is_of g c =
     let now : Array = record { memory = c.finish.new.self; log = c.switch.new.log; register = c.switch.new.register } in
     let x = c.switch.ensures in
     let y = c.in_ok-switch.ensures in
-    let is : IsArrayOf (geometry_of n) was = subst (λ (s : Geometry). IsArrayOf s was) (same_geometry x.continues) c.requires.is_of in
+    let is : IsArrayOf (geometry_of n) was = subst (λ (s : Geometry). IsArrayOf s was) (same_shelf x.continues) c.requires.is_of in
     is_array (geometry_of n) was c.args.prepared is c.requires.prepared c.requires.few now y.record c.finish.ensures.memory x.of_shelf y.flushed y.cleared.1 y.cleared.0 c.finish.ensures.room c.finish.ensures.objects
 
 pub returns-clause-flushed : goal.returns-clause-flushed
@@ -57,7 +57,7 @@ returns-clause-segments g c h contents hold =
     let x = c.switch.ensures in
     let y = c.in_ok-switch.ensures in
     let now : Array = record { memory = c.finish.new.self; log = c.switch.new.log; register = r } in
-    let is : IsArrayOf (geometry_of a) now = subst (λ (s : Geometry). IsArrayOf s now) (sym (same_geometry x.continues)) (returns-clause-is_of g c) in
+    let is : IsArrayOf (geometry_of a) now = subst (λ (s : Geometry). IsArrayOf s now) (sym (same_shelf x.continues)) (returns-clause-is_of g c) in
     let members = x.of_shelf.lawful.lawful.members in
     let left = drives_left (geometry_of n) r r x.of_shelf (later_itself r.record) y.drives members.drive_flags members.within y.enough in
     let slots : n.drives ≡ a.drives = x.continues.drives in

@@ -12,7 +12,6 @@ use Rattle.array_memory.specs.Plan.{with_patch_rooms}
 use Rattle.array_core.specs.Ready.{IsArrayOf, IsReady}
 use Rattle.array_core.specs.Going.{Calls}
 use Rattle.array_core.specs.Performing.{IsKeptAt}
-use Rattle.array_core.proofs.Losses.{same_geometry}
 use Rattle.array_core.proofs.Steps.{hands, lost_halts, same_meanwhile}
 use Rattle.array_core.proofs.Stages.{err_is}
 use Rattle.array_checkpoint.specs.declared.making.CheckpointFault.{CheckpointFault}
@@ -21,6 +20,7 @@ use Rattle.array_checkpoint.specs.Made.{contents_after, held_after, IsFaultOf}
 use Rattle.array_checkpoint.proofs.Like.{like_is_of, like_is_ready}
 use Rattle.array_checkpoint.proofs.Joined.{counted_now, counted_since, drops, err_on, flushed_since, hold_roomed, joins, reads_roomed, same_objects, same_spent, too_much, was_open}
 use Rattle.array_checkpoint.proofs.making.checkpoint.Goals as goal
+use Rattle.register.proofs.Rounds.{same_shelf}
 
 pub write_prepared-requires-clause-is_of : goal.write_prepared-requires-clause-is_of
 write_prepared-requires-clause-is_of g c = like_is_of (geometry_of (g.S.Shelf.shelf c.args.shelf.now)) c.args.array.now c.prepare.new.array c.prepare.ensures.like c.requires.is_of
@@ -28,7 +28,7 @@ write_prepared-requires-clause-is_of g c = like_is_of (geometry_of (g.S.Shelf.sh
 pub take_over-requires-clause-is_of : goal.take_over-requires-clause-is_of
 take_over-requires-clause-is_of g c =
     let mid = c.prepare.new.array in
-    subst (λ (s : Geometry). IsArrayOf s mid) (same_geometry c.write_prepared.ensures.continues)
+    subst (λ (s : Geometry). IsArrayOf s mid) (same_shelf c.write_prepared.ensures.continues)
     (like_is_of (geometry_of (g.S.Shelf.shelf c.args.shelf.now)) c.args.array.now mid c.prepare.ensures.like c.requires.is_of)
 
 pub take_over-requires-clause-unspent : goal.take_over-requires-clause-unspent

@@ -19,13 +19,13 @@ use Rattle.array_core.specs.declared.performing.PerformFault.TheVariants.{Device
 use Rattle.memory_spec.specs.Tables.{facts}
 use Rattle.array_core.specs.Ready.{logged}
 use Rattle.array_core.specs.Performing.{IsLost}
-use Rattle.array_core.proofs.Losses.{same_geometry}
 use Rattle.array_core.proofs.Lost.{lost_drives, lost_log}
 use Rattle.array_core.proofs.Dropped.{counted_on, drops_failed, fewer_drives, none_joins, rises_little}
 use Rattle.array_core.proofs.Appended.{appending, append_moments, off_nvrams, still_open, logged_then, all_moments}
 use Rattle.array_core.proofs.Outlasts.{append_again, store_again}
 use Rattle.array_core.proofs.Segments.{AreKept, behind_boot, drives_left, hold_fewer, hold_kept, unwritten}
 use Rattle.array_core.proofs.commit.commit.Goals as goal
+use Rattle.register.proofs.Rounds.{same_shelf}
 
 pub returns-in_err-store-clause-moments : goal.returns-in_err-store-clause-moments
 returns-in_err-store-clause-moments g c h = counted_on c.append.ensures.ran.on.continues (c.append.ensures.ran.on.writes h) (c.store.ensures.ran.on.writes (c.append.ensures.ran.on.continues.honest h))
@@ -90,7 +90,7 @@ returns-in_err-store-clause-lost g c =
     let n = g.S.Shelf.shelf c.store.new.shelf in
     let r = c.args.array.now.register in
     let q = err_from_is_err_and c.from_residual-in_err-store.result c.from_residual-in_err-store.ensures.1 in
-    let is : IsRegisterOf (geometry_of m) r = subst (λ (k : Geometry). IsRegisterOf k r) (same_geometry c.append.ensures.ran.on.continues) c.requires.is_of.of_shelf in
+    let is : IsRegisterOf (geometry_of m) r = subst (λ (k : Geometry). IsRegisterOf k r) (same_shelf c.append.ensures.ran.on.continues) c.requires.is_of.of_shelf in
     let lost : IsLost a n c.args.array.now =
     inr (lost_drives a m n r c.store.new.self (λ i. c.append.ensures.ran.on.others (drive i) (λ none. none)) is c.requires.not_spent c.store.ensures.dropped c.store.ensures.later c.in_err-store.ensures.lost c.in_err-store.field-0.0 c.in_err-store.ensures.fault) in
     subst (λ (t : Result (Unit {0}) PerformFault). IfErr t (λ e. (e ≡ Device) × IsLost a n c.args.array.now)) (sym q.1) (q.2, lost)

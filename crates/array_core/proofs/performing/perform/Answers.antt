@@ -27,9 +27,9 @@ use Rattle.array_core.specs.Going.{by_faults}
 use Rattle.array_core.specs.Goes.{Halts}
 use Rattle.array_core.proofs.Applied.{gives_none, room_for_next, segments_sound, same_patches}
 use Rattle.array_core.proofs.Commands.{accept_last, after_last, all_and_last}
-use Rattle.array_core.proofs.Losses.{same_geometry}
 use Rattle.array_core.proofs.Steps.{command_meanwhile, hands, lost_halts}
 use Rattle.array_core.proofs.performing.perform.Goals as goal
+use Rattle.register.proofs.Rounds.{same_shelf}
 
 -- what is said of segments, by memory as it was before the call
 same_segments_since : (was mid now : Kept) → mid ≡ was → ((id : ℕ) → segment (facts now.memory.tables) id ≡ segment (facts mid.memory.tables) id) → (id : ℕ) → segment (facts now.memory.tables) id ≡ segment (facts was.memory.tables) id
@@ -84,7 +84,7 @@ returns-clause-goes g c =
         stored = subst (λ (ps : List (List AddressFact)). AreStored (facts_of ps)) (sym addresses) stored;
         named = subst (λ (ps : List (List AnyFact)). AllZip IsNamed now.register.record.patches ps) (sym patches_are)
             (subst (λ (b : BootRecord). AllZip IsNamed b.patches (patches was.memory.memory.tables)) (sym x.later.rest) of.named);
-        segments = subst (λ (s : Geometry). AreSegmentsSound s now.register.record (facts c.apply.new.memory.memory.tables)) (same_geometry x.continues)
+        segments = subst (λ (s : Geometry). AreSegmentsSound s now.register.record (facts c.apply.new.memory.memory.tables)) (same_shelf x.continues)
             (segments_sound (geometry_of old) was.register.record now.register.record (facts was.memory.memory.tables) (facts c.apply.new.memory.memory.tables) x.later same of.segments);
         room = room_for_next now.memory c.apply.new.memory was.log.count now.log.count c.args.request.now c.args.sectors.now (subst (λ (k : Kept). HasRoomFor k was.log.count) (sym c.commit.ensures.memory) of.room)
             x.count c.requires.lawful c.requires.written y.room y.staged;

@@ -8,9 +8,10 @@ use Rattle.register.specs.Registers.{drives_of}
 use Rattle.register.specs.Standing.{IsOpen}
 use Rattle.array_core.proofs.Holders.{all_failed, all_of_more, drives_failed, named_left, none_joins, too_much_since}
 use Rattle.array_core.proofs.LostOnWay.{dropped_then}
-use Rattle.array_core.proofs.Stages.{err_if, err_is, ok_if, some_named}
+use Rattle.array_core.proofs.Stages.{err_is, ok_if, some_named}
 use Rattle.array_core.proofs.Whole.{both_dropped, both_write, none_left, none_stored, has_left, open_b, plan, tables_run, open_c, holds_c, clear_run}
 use Rattle.array_core.proofs.switching.switch.Goals as goal
+use Rattle.register.proofs.Stores.{if_err}
 
 pub store_tables-requires-clause-nvrams : goal.store_tables-requires-clause-nvrams
 store_tables-requires-clause-nvrams g c = some_named c.leave_lost.new.register.record c.leave_lost.ensures.is_of.lawful.lawful
@@ -156,7 +157,7 @@ returns-clause-joins g c = ok_if c.clear_log.result (λ get.
     (named_left r0 r1 c.members.result members c.members.ensures c.in_ok-leave_lost.ensures.named) c.in_ok-store_tables.ensures.members (get _ c.clear_log.ensures.named))
 
 pub returns-clause-fault : goal.returns-clause-fault
-returns-clause-fault g c = err_if c.clear_log.result (λ k lost. (
+returns-clause-fault g c = if_err c.clear_log.result (λ k lost. (
   lost.0,
   λ start on are.
       let s = g.S.Shelf.shelf start in

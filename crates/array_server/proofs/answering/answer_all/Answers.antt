@@ -9,13 +9,14 @@ use Rattle.session_spec.specs.Ends.{RisesIf, is_sink}
 use Rattle.request_codec.specs.Items.{item_read}
 use Rattle.request_codec.proofs.CallLemmas.{both}
 use Rattle.array_engine.specs.Engines.{IsOf}
-use Rattle.array_core.proofs.Losses.{same_geometry}
 use Rattle.array_server.proofs.SoFar.{SoFar}
 use Rattle.array_server.specs.Sessions.{IsServedFrom, end_of}
 use Rattle.array_server.proofs.SoFar.{begun_so_far, taken_so_far, answered, sank}
 use Rattle.array_server.proofs.Ends.{stopped_source, stopped_limit, stopped_done, stopped_cut}
-use Rattle.array_server.proofs.ItemsRead.{reads_item, uncut, is_answered, same_then, cut_is_no_limit, end_is_no_limit}
+use Rattle.array_server.proofs.ItemsRead.{reads_item, uncut, is_answered, cut_is_no_limit, end_is_no_limit}
 use Rattle.array_server.proofs.answering.answer_all.Goals as goal
+use Rattle.register.proofs.Rounds.{same_shelf}
+use Rattle.world.proofs.Rests.{stream_then}
 
 -- no sink failed at the end of the input
 well_given : (halted : Bool) (before now : ℕ) → now ≡ before → RisesIf (is_sink (end_of halted)) before now
@@ -111,7 +112,7 @@ pub respond-said-requires : goal.respond-said-requires
 respond-said-requires g c =
     let takes = g.met.W.World.take_keeps_shelf c.items.world c.next.new.source c.in-Ok.ensures.rest in
     record {
-      is_of = subst (λ (k : Geometry). IsOf k c.items.engine) (same_geometry takes.continues) c.items.invariant.is_of;
+      is_of = subst (λ (k : Geometry). IsOf k c.items.engine) (same_shelf takes.continues) c.items.invariant.is_of;
       item = is_answered c.in-Ok.item c.in_default-item.not-End c.in_default-item.not-Limit c.in-Ok.ensures.served;
       written = rw c.sectors.ensures c.in-Ok.ensures.data;
       spelled = c.in-Ok.ensures.spelled;
@@ -127,8 +128,8 @@ returns-in-Err g c =
     let x = c.respond-said.ensures in
     let takes = world.take_keeps_shelf c.items.world c.next.new.source c.in-Ok.ensures.rest in
     let gives = world.give_keeps_shelf c.respond-said.new.shelf c.give.new.sink c.in-Err.ensures.rest in
-    let kept = same_then (world.shelf_keeps_source c.next.new.source c.respond-said.new.shelf x.rest) (world.give_keeps_source c.respond-said.new.shelf c.give.new.sink c.in-Err.ensures.rest) in
-    let stays = same_then (world.take_keeps_sink c.items.world c.next.new.source c.in-Ok.ensures.rest) (world.shelf_keeps_sink c.next.new.source c.respond-said.new.shelf x.rest) in
+    let kept = stream_then (world.shelf_keeps_source c.next.new.source c.respond-said.new.shelf x.rest) (world.give_keeps_source c.respond-said.new.shelf c.give.new.sink c.in-Err.ensures.rest) in
+    let stays = stream_then (world.take_keeps_sink c.items.world c.next.new.source c.in-Ok.ensures.rest) (world.shelf_keeps_sink c.next.new.source c.respond-said.new.shelf x.rest) in
     let ab = continues_trans inv.continues takes.continues in
     let ac = continues_trans ab x.continues in
     record {
@@ -165,8 +166,8 @@ returns-in-Cut g c =
     let x = c.respond-said.ensures in
     let takes = world.take_keeps_shelf c.items.world c.next.new.source c.in-Ok.ensures.rest in
     let gives = world.give_keeps_shelf c.respond-said.new.shelf c.give.new.sink c.in-Ok-give.ensures.rest in
-    let kept = same_then (world.shelf_keeps_source c.next.new.source c.respond-said.new.shelf x.rest) (world.give_keeps_source c.respond-said.new.shelf c.give.new.sink c.in-Ok-give.ensures.rest) in
-    let stays = same_then (world.take_keeps_sink c.items.world c.next.new.source c.in-Ok.ensures.rest) (world.shelf_keeps_sink c.next.new.source c.respond-said.new.shelf x.rest) in
+    let kept = stream_then (world.shelf_keeps_source c.next.new.source c.respond-said.new.shelf x.rest) (world.give_keeps_source c.respond-said.new.shelf c.give.new.sink c.in-Ok-give.ensures.rest) in
+    let stays = stream_then (world.take_keeps_sink c.items.world c.next.new.source c.in-Ok.ensures.rest) (world.shelf_keeps_sink c.next.new.source c.respond-said.new.shelf x.rest) in
     let ab = continues_trans inv.continues takes.continues in
     let ac = continues_trans ab x.continues in
     record {
@@ -207,12 +208,12 @@ items-preserved g c =
     let x = c.respond-said.ensures in
     let takes = world.take_keeps_shelf c.items.world c.next.new.source c.in-Ok.ensures.rest in
     let gives = world.give_keeps_shelf c.respond-said.new.shelf c.give.new.sink c.in-Ok-give.ensures.rest in
-    let kept = same_then (world.shelf_keeps_source c.next.new.source c.respond-said.new.shelf x.rest) (world.give_keeps_source c.respond-said.new.shelf c.give.new.sink c.in-Ok-give.ensures.rest) in
-    let stays = same_then (world.take_keeps_sink c.items.world c.next.new.source c.in-Ok.ensures.rest) (world.shelf_keeps_sink c.next.new.source c.respond-said.new.shelf x.rest) in
+    let kept = stream_then (world.shelf_keeps_source c.next.new.source c.respond-said.new.shelf x.rest) (world.give_keeps_source c.respond-said.new.shelf c.give.new.sink c.in-Ok-give.ensures.rest) in
+    let stays = stream_then (world.take_keeps_sink c.items.world c.next.new.source c.in-Ok.ensures.rest) (world.shelf_keeps_sink c.next.new.source c.respond-said.new.shelf x.rest) in
     let ab = continues_trans inv.continues takes.continues in
     let ac = continues_trans ab x.continues in
     record {
-      is_of = subst (λ (k : Geometry). IsOf k c.respond-said.new.self) (same_geometry gives.continues) x.is_of;
+      is_of = subst (λ (k : Geometry). IsOf k c.respond-said.new.self) (same_shelf gives.continues) x.is_of;
       continues = continues_trans ac gives.continues;
       tells = λ h.
           let read = c.in-Ok.ensures.told (inv.tells h) in

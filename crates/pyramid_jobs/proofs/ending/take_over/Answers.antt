@@ -7,7 +7,6 @@ use Rattle.register.specs.Standing.{array_of}
 use Rattle.memory_spec.specs.Tables.{facts}
 use Rattle.array_core.specs.declared.array.Array.{Array}
 use Rattle.array_core.specs.Ready.{IsArrayOf}
-use Rattle.array_core.proofs.Losses.{same_geometry}
 use Rattle.array_core.proofs.Segments.{drives_left}
 use Rattle.array_core.proofs.Stages.{later_itself}
 use Rattle.array_checkpoint.specs.Made.{HoldOnLeft}
@@ -17,6 +16,7 @@ use Rattle.pyramid_jobs.specs.Prepared.{held_after}
 use Rattle.pyramid_jobs.proofs.Merged.{contents_then, has_merged, ids_left, is_array, patches_then, reads_then}
 use Rattle.pyramid_jobs.proofs.NextRecord.{next_is_lawful}
 use Rattle.pyramid_jobs.proofs.ending.take_over.Goals as goal
+use Rattle.register.proofs.Rounds.{same_shelf}
 
 pub switch_tables-requires-clause-lawful : goal.switch_tables-requires-clause-lawful
 switch_tables-requires-clause-lawful g c =
@@ -38,7 +38,7 @@ returns-clause-is_of g c =
     let x = c.switch_tables.ensures in
     let y = c.in_ok-switch_tables.ensures in
     let l = c.layered.ensures in
-    let is : IsArrayOf (geometry_of n) was = subst (λ (s : Geometry). IsArrayOf s was) (same_geometry x.continues) c.requires.is_of in
+    let is : IsArrayOf (geometry_of n) was = subst (λ (s : Geometry). IsArrayOf s was) (same_shelf x.continues) c.requires.is_of in
     is_array (geometry_of n) was c.args.table c.args.index c.args.prepared is c.requires.prepared now y.record refl c.put_merged.ensures.memory x.of_shelf
     (record { objects = l.objects; mediums = l.mediums; addresses = l.addresses; segments = l.segments; elisions = l.elisions })
 
@@ -64,7 +64,7 @@ returns-clause-segments g c h contents hold =
     let y = c.in_ok-switch_tables.ensures in
     let now : Array = record { memory = c.put_merged.new.self; log = was.log; register = r } in
     let fs = facts now.memory.memory.tables in
-    let is : IsArrayOf (geometry_of a) now = subst (λ (s : Geometry). IsArrayOf s now) (sym (same_geometry x.continues)) (returns-clause-is_of g c) in
+    let is : IsArrayOf (geometry_of a) now = subst (λ (s : Geometry). IsArrayOf s now) (sym (same_shelf x.continues)) (returns-clause-is_of g c) in
     let members = x.of_shelf.lawful.lawful.members in
     let left = drives_left (geometry_of n) r r x.of_shelf (later_itself r.record) y.drives members.drive_flags members.within y.enough in
     let slots : n.drives ≡ a.drives = x.continues.drives in

@@ -4,7 +4,6 @@ use Rattle.pur_base.specs.Devices.{Geometry}
 use Rattle.world.proofs.Moments.{continues_trans, then_run}
 use Rattle.array_core.specs.Ready.{IsArrayOf}
 use Rattle.array_core.specs.Going.{Calls}
-use Rattle.array_core.proofs.Losses.{same_geometry}
 use Rattle.array_core.proofs.Steps.{hands, lost_halts, same_meanwhile}
 use Rattle.array_core.proofs.Stages.{err_is}
 use Rattle.array_checkpoint.proofs.Joined.{counted_now, counted_since, err_on, was_open}
@@ -12,9 +11,10 @@ use Rattle.pyramid_jobs.specs.declared.fault.MergeFault.{MergeFault}
 use Rattle.pyramid_jobs.specs.Made.{IsFaultOf}
 use Rattle.pyramid_jobs.specs.Prepared.{held_after}
 use Rattle.pyramid_jobs.proofs.merging.merge.Goals as goal
+use Rattle.register.proofs.Rounds.{same_shelf}
 
 pub take_over-requires-clause-is_of : goal.take_over-requires-clause-is_of
-take_over-requires-clause-is_of g c = subst (λ (s : Geometry). IsArrayOf s c.args.array.now) (same_geometry c.write_prepared.ensures.continues) c.requires.is_of
+take_over-requires-clause-is_of g c = subst (λ (s : Geometry). IsArrayOf s c.args.array.now) (same_shelf c.write_prepared.ensures.continues) c.requires.is_of
 
 -- ---- once it is made
 

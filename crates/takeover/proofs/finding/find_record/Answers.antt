@@ -18,12 +18,12 @@ use Rattle.session_spec.specs.Entering.{failed_since}
 use Rattle.takeover.specs.Found.{IsFoundBy, IsFoundOn}
 use Rattle.takeover.specs.Seen.{IsSeenBy}
 use Rattle.takeover.proofs.FoundLemmas.{while_reading, through_moments, both, below_slots, found_on, lacking}
-use Rattle.takeover.proofs.Failing.{fewer_borne}
-use Rattle.takeover.proofs.Loading.{same_geometry}
 use Rattle.takeover.proofs.Opened.{not_loaded}
 use Rattle.takeover.proofs.Running.{drive_of, on_gates}
 use Rattle.takeover.proofs.SeenIn.{clean_read, clean_settled, shown_in, seen_in, seen_not_loaded, seen_too_few}
 use Rattle.takeover.proofs.finding.find_record.Goals as goal
+use Rattle.array_core.proofs.Losses.{fewer_borne}
+use Rattle.register.proofs.Rounds.{same_shelf}
 
 pub returns-in_err-loaded-clause-any_moment : goal.returns-in_err-loaded-clause-any_moment
 returns-in_err-loaded-clause-any_moment g c h missing arrays enters =
@@ -183,7 +183,7 @@ returns-clause-lawful g c =
     let is : IsLawfulLoad (geometry_of (g.S.Shelf.shelf c.load.new.shelf)) c.in_ok-loaded.loaded = subst (λ (r : Result Loaded LoadFault). IfOk r (IsLawfulLoad (geometry_of (g.S.Shelf.shelf c.load.new.shelf)))) c.in_ok-loaded.was c.load.ensures.lawful in
     record {
       lawful = subst (λ (b : BootRecord). IsRecordOf (geometry_of (g.S.Shelf.shelf c.settle_loaded.new.shelf)) b) (sym c.settle_loaded.ensures.record.0)
-          (subst (λ (s : Geometry). IsRecordOf s c.in_ok-loaded.loaded.record) (same_geometry c.settle_loaded.ensures.ran.on.continues) is.lawful);
+          (subst (λ (s : Geometry). IsRecordOf s c.in_ok-loaded.loaded.record) (same_shelf c.settle_loaded.ensures.ran.on.continues) is.lawful);
       room = subst (λ (b : BootRecord). b.generation < 2 ^ 48 - 8) (sym c.settle_loaded.ensures.record.0) is.room;
       named = λ i m. subst (λ (b : BootRecord). IsMember b.members.drives i) (sym c.settle_loaded.ensures.record.0) (is.named i (c.settle_loaded.ensures.fewer i m));
     }

@@ -42,14 +42,15 @@ use Rattle.takeover.specs.Tables.{HasTables, IsMemoryOf}
 use Rattle.takeover.proofs.ArrayOf.{array_of_shelf, array_with, patches_are}
 use Rattle.takeover.proofs.BaseHeld as base_held
 use Rattle.takeover.proofs.Chains.{kept_one}
-use Rattle.takeover.proofs.Failing.{fewer_borne, since_later}
-use Rattle.takeover.proofs.Loading.{same_geometry}
+use Rattle.takeover.proofs.Failing.{since_later}
 use Rattle.takeover.proofs.Moments.{log_opened, recovered}
 use Rattle.takeover.proofs.Opening as opening
 use Rattle.takeover.proofs.RecoveredLemmas.{content, in_log}
 use Rattle.takeover.proofs.Running.{gates_off, log_off, nvrams_still, slots_off}
 use Rattle.takeover.proofs.Stops.{unstored}
 use Rattle.takeover.proofs.recovering.recover.Goals as goal
+use Rattle.array_core.proofs.Losses.{fewer_borne}
+use Rattle.register.proofs.Rounds.{same_shelf}
 
 pub returns-in_err-found-clause-ran : goal.returns-in_err-found-clause-ran
 returns-in_err-found-clause-ran g c = ran_more (λ d is. tt) gates_off c.find_array.ensures.ran
@@ -154,7 +155,7 @@ returns-in_err-store-clause-opened g c h =
     subst (λ (r : Result OpenedLog LogFault). IsReplayedBy b n x.record.members.nvrams x.record.flushed f.memory r) c.in_ok-opened.was (c.open_log.ensures.replayed h_b) in
     let made : (was.record ≡ x.record) × (was.drives ≡ x.drives) = subst (λ (r : Result Register NoMemory). IfOk r (λ y. (y.record ≡ x.record) × (y.drives ≡ x.drives))) c.in_ok-register.was c.new.ensures in
     let is_of : IsRegisterOf (geometry_of n) was = record {
-      lawful = subst (λ (r : BootRecord). IsRecordOf (geometry_of n) r) (sym made.0) (subst (λ (k : Geometry). IsRecordOf k x.record) (same_geometry after) lawful.lawful);
+      lawful = subst (λ (r : BootRecord). IsRecordOf (geometry_of n) r) (sym made.0) (subst (λ (k : Geometry). IsRecordOf k x.record) (same_shelf after) lawful.lawful);
       named = λ i m. subst (λ (r : BootRecord). IsMember r.members.drives i) (sym made.0) (lawful.named i (subst (λ (l : List _). IsMember l i) made.1 m));
     } in
     let shown : (i : ℕ) → IsMember x.drives i → shown_by (slot_in x.slot) (n.disk (drive i)).bytes ≡ Some (spelling x.record) =
@@ -217,7 +218,7 @@ returns-clause-opened g c h =
     subst (λ (r : Result OpenedLog LogFault). IsReplayedBy b n x.record.members.nvrams x.record.flushed f.memory r) c.in_ok-opened.was (c.open_log.ensures.replayed h_b) in
     let made : (was.record ≡ x.record) × (was.drives ≡ x.drives) = subst (λ (r : Result Register NoMemory). IfOk r (λ y. (y.record ≡ x.record) × (y.drives ≡ x.drives))) c.in_ok-register.was c.new.ensures in
     let is_of : IsRegisterOf (geometry_of n) was = record {
-      lawful = subst (λ (r : BootRecord). IsRecordOf (geometry_of n) r) (sym made.0) (subst (λ (k : Geometry). IsRecordOf k x.record) (same_geometry after) lawful.lawful);
+      lawful = subst (λ (r : BootRecord). IsRecordOf (geometry_of n) r) (sym made.0) (subst (λ (k : Geometry). IsRecordOf k x.record) (same_shelf after) lawful.lawful);
       named = λ i m. subst (λ (r : BootRecord). IsMember r.members.drives i) (sym made.0) (lawful.named i (subst (λ (l : List _). IsMember l i) made.1 m));
     } in
     let shown : (i : ℕ) → IsMember x.drives i → shown_by (slot_in x.slot) (n.disk (drive i)).bytes ≡ Some (spelling x.record) =
@@ -307,7 +308,7 @@ returns-clause-is_of g c =
     let now = c.store.new.self in
     let made : (was.record ≡ x.record) × (was.drives ≡ x.drives) = subst (λ (r : Result Register NoMemory). IfOk r (λ y. (y.record ≡ x.record) × (y.drives ≡ x.drives))) c.in_ok-register.was c.new.ensures in
     let memory_b : IsMemoryOf (geometry_of b) x.record f.memory = subst (λ (r : Result FoundArray OpenFault). IfOk r (λ y. IsMemoryOf (geometry_of b) y.loaded.record y.memory)) c.in_ok-found.was c.find_array.ensures.memory in
-    let memory : IsMemoryOf (geometry_of s) x.record f.memory = subst (λ (k : Geometry). IsMemoryOf k x.record f.memory) (same_geometry c.open_log.ensures.ran.on.continues ∙ same_geometry c.store.ensures.ran.on.continues) memory_b in
+    let memory : IsMemoryOf (geometry_of s) x.record f.memory = subst (λ (k : Geometry). IsMemoryOf k x.record f.memory) (same_shelf c.open_log.ensures.ran.on.continues ∙ same_shelf c.store.ensures.ran.on.continues) memory_b in
     let done : HasReplayed f.memory o = subst (λ (r : Result OpenedLog LogFault). IfOk r (HasReplayed f.memory)) c.in_ok-opened.was c.open_log.ensures.done in
     let flushed : o.log.flushed ≡ x.record.flushed = subst (λ (r : Result OpenedLog LogFault). IfOk r (λ y. y.log.flushed ≡ x.record.flushed)) c.in_ok-opened.was c.open_log.ensures.flushed in
     let left : IsFewer x.record.members.nvrams o.log.members × IsSome o.log.members =

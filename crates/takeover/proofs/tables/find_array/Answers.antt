@@ -11,13 +11,14 @@ use Rattle.session_spec.specs.Entering.{failed_since}
 use Rattle.takeover.specs.Found.{IsFoundOn}
 use Rattle.takeover.specs.Seen.{IsSeenIn}
 use Rattle.takeover.proofs.Counts.{goes_on}
-use Rattle.takeover.proofs.Failing.{since_later, sound_since}
-use Rattle.takeover.proofs.Loading.{same_geometry}
+use Rattle.takeover.proofs.Failing.{since_later}
 use Rattle.takeover.proofs.LogOpened.{while_read}
 use Rattle.takeover.proofs.Stops.{unstored}
 use Rattle.takeover.proofs.TablesLost.{fault_seen}
 use Rattle.takeover.proofs.TablesRead.{clean_then, found_read, has_tables, silent_read, tables_seen}
 use Rattle.takeover.proofs.tables.find_array.Goals as goal
+use Rattle.array_core.proofs.Losses.{sound_since}
+use Rattle.register.proofs.Rounds.{same_shelf}
 
 pub returns-in-Ok-clause-ran : goal.returns-in-Ok-clause-ran
 returns-in-Ok-clause-ran g c = ran_then g.met.S.Shelf.shelf_rest_stays c.find_record.ensures.ran (ran_more (λ d is. is) (λ d i none. absurd none) c.load_memory.ensures.ran)
@@ -35,7 +36,7 @@ returns-in-Ok-clause-seen g c h =
     let after = c.load_memory.ensures.ran.on.continues in
     let h_b = on.honest h in
     let is_b = g.met.S.Shelf.is_shelf c.find_record.new.shelf in
-    let lawful : IsRecordOf (geometry_of a) x.record = subst (λ (s : Geometry). IsRecordOf s x.record) (sym (same_geometry on)) c.in_ok-loaded.ensures.lawful.lawful in
+    let lawful : IsRecordOf (geometry_of a) x.record = subst (λ (s : Geometry). IsRecordOf s x.record) (sym (same_shelf on)) c.in_ok-loaded.ensures.lawful.lawful in
     tables_seen a b t x c.in-Ok.memory on after is_b h_b (c.load_memory.ensures.same h_b) (c.load_memory.ensures.ran.on.writes h_b) (c.in_ok-loaded.ensures.seen h) lawful c.others_than-missing.result c.others_than-missing.ensures
     (omega (arith, is_b.drives.1)) (c.in-Ok.ensures.stand h_b)
 
@@ -84,7 +85,7 @@ returns-in-Err-clause-seen g c h =
     let h_b = on.honest h in
     let is_b = g.met.S.Shelf.is_shelf c.find_record.new.shelf in
     let same : (d : Device) → IsSame (b.disk d) (t.disk d) = c.load_memory.ensures.same h_b in
-    let lawful : IsRecordOf (geometry_of a) x.record = subst (λ (s : Geometry). IsRecordOf s x.record) (sym (same_geometry on)) c.in_ok-loaded.ensures.lawful.lawful in
+    let lawful : IsRecordOf (geometry_of a) x.record = subst (λ (s : Geometry). IsRecordOf s x.record) (sym (same_shelf on)) c.in_ok-loaded.ensures.lawful.lawful in
     let seen : IsSeenIn a b x = c.in_ok-loaded.ensures.seen h in
     fault_seen a b t x on after h_b lawful same seen (silent_read a b t x on after is_b h_b same (c.load_memory.ensures.ran.on.writes h_b) seen) c.others_than-missing.result c.others_than-missing.ensures (omega (arith, is_b.drives.1))
     c.in-Err.fault c.fault_of_tables.result c.in-Err.ensures.fault c.fault_of_tables.ensures

@@ -5,7 +5,6 @@ use Rattle.pur_base.specs.Grammar.{Asked}
 use Rattle.pur_base.specs.declared.request.Request.TheVariants as request
 use Rattle.world.proofs.Moments.{weaker}
 use Rattle.array_core.specs.Ready.{IsArrayOf}
-use Rattle.array_core.proofs.Losses.{same_geometry}
 use Rattle.array_engine.specs.declared.engine.Engine.{Engine}
 use Rattle.array_engine.specs.declared.said.Said.{Said}
 use Rattle.array_engine.specs.Saying.{HasSectors}
@@ -15,9 +14,10 @@ use Rattle.array_engine.proofs.Meanwhile.{OnlyReads, kept_read}
 use Rattle.array_engine.proofs.Points.{like_itself}
 use Rattle.array_engine.proofs.Spans.{AreMissing, readable}
 use Rattle.array_engine.proofs.engine.Engine.read.Goals as goal
+use Rattle.register.proofs.Rounds.{same_shelf}
 
 pub returns-clause-is_of : goal.returns-clause-is_of
-returns-clause-is_of g c = λ awake. (subst (λ (k : Geometry). IsArrayOf k c.args.self.now.array) (same_geometry c.read-done.ensures.continues) c.requires.is_of, c.requires.room)
+returns-clause-is_of g c = λ awake. (subst (λ (k : Geometry). IsArrayOf k c.args.self.now.array) (same_shelf c.read-done.ensures.continues) c.requires.is_of, c.requires.room)
 
 pub returns-clause-moments : goal.returns-clause-moments
 returns-clause-moments g c = λ honest. weaker (λ stop left. left.counts) (c.read-done.ensures.writes honest).any_moment

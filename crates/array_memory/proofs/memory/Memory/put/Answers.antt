@@ -10,10 +10,11 @@ use Rattle.pyramid.proofs.LayerLemmas.{below_at}
 use Rattle.memory_spec.specs.Adding.{address_facts}
 use Rattle.array_memory.specs.Runs.{targets_from}
 use Rattle.array_memory.proofs.CountLemmas.{no_fewer_facts, no_more_facts}
-use Rattle.array_memory.proofs.RunLemmas.{run_ascends, run_long, targets_long}
+use Rattle.array_memory.proofs.RunLemmas.{run_ascends, targets_long}
 use Rattle.array_memory.proofs.KeptLemmas.{run_newest, put_kept}
 use Rattle.array_memory.proofs.PutLemmas.{at_ok, taken_behind}
 use Rattle.array_memory.proofs.memory.Memory.put.Goals as goal
+use Rattle.memory_spec.proofs.Putting.{run_long}
 
 pub put_run-requires-clause-ascends : goal.put_run-requires-clause-ascends
 put_run-requires-clause-ascends c = rw c.write_run.ensures (run_ascends c.args.medium.0 c.args.first c.self.inside.next.sequence _)

@@ -8,13 +8,13 @@ use Rattle.register.specs.Registers.{drives_of}
 use Rattle.register.specs.Standing.{IsFirm, IsNextOf, MayStore}
 use Rattle.register.proofs.FlagLemmas.{same_flags, other_flags}
 use Rattle.register.proofs.Opened.{is_open}
-use Rattle.register.proofs.Again.{both}
 use Rattle.register.proofs.Back.{is_next_of}
 use Rattle.register.proofs.Turns.{in_store_later}
 use Rattle.register.proofs.Outlasts.{left, next_round, later_again}
 use Rattle.register.proofs.Stores.{cut_length, at_most_slots, fewer_cut, on_more, fewer_left, if_err, midway_then, on_ok, on_err}
 use Rattle.register.proofs.state.Register.+store.Given as given
 use Rattle.register.proofs.state.Register.+store.Goals as goal
+use Rattle.nvram_log.proofs.SettledEach.{both_leave}
 
 pub returns-then-eq-clause-members : goal.returns-then-eq-clause-members
 returns-then-eq-clause-members g t c =
@@ -159,7 +159,7 @@ returns-clause-moments g t c h low =
       | inl before ↦ inl before
       | inr n ↦ inr (record { later = record { generation = n.later.generation; rest = n.later.rest }; generation = n.generation; nvrams_are = n.nvrams_are; drives = n.drives })
     ]))
-    (both (c.store.ensures.ran.on.writes hb).any_moment (c.store.ensures.moments hb low)))
+    (both_leave (c.store.ensures.ran.on.writes hb).any_moment (c.store.ensures.moments hb low)))
 
 pub returns-clause-outlasts : goal.returns-clause-outlasts
 returns-clause-outlasts g t c h low missing held arrays may firm =

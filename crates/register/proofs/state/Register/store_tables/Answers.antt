@@ -8,13 +8,13 @@ use Rattle.pur_base.specs.Plain.{Array}
 use Rattle.register.specs.Registers.{drives_of, named_sound}
 use Rattle.register.specs.Standing.{array_of}
 use Rattle.register.specs.Giving.{IsNextWith}
-use Rattle.register.proofs.Again.{both}
 use Rattle.register.proofs.FlagLemmas.{same_flags, other_flags}
 use Rattle.register.proofs.Opened.{is_open}
 use Rattle.register.proofs.Outlasts.{left, next_round, later_again}
 use Rattle.register.proofs.Stores.{cut_length, members_sound, at_most_slots, fewer_cut, on_more, fewer_left}
 use Rattle.register.proofs.Tabling.{is_next_with, later_gives, later_round}
 use Rattle.register.proofs.state.Register.store_tables.Goals as goal
+use Rattle.nvram_log.proofs.SettledEach.{both_leave}
 
 pub returns-then-eq-clause-members : goal.returns-then-eq-clause-members
 returns-then-eq-clause-members g c =
@@ -83,7 +83,7 @@ returns-clause-any_moment g c h low held next o plan =
       left_out = m.left_out;
       unnamed = m.unnamed;
     })))
-    (both (c.store.ensures.ran.on.writes hb).any_moment (c.store.ensures.moments hb low)))
+    (both_leave (c.store.ensures.ran.on.writes hb).any_moment (c.store.ensures.moments hb low)))
 
 pub returns-clause-gives : goal.returns-clause-gives
 returns-clause-gives g c h low held next o plan =
@@ -112,7 +112,7 @@ returns-clause-gives g c h low held next o plan =
       | inl before ↦ inl before
       | inr n ↦ inr (record { later = record { generation = n.later.generation; rest = n.later.rest }; generation = n.generation; nvrams_are = n.nvrams_are; drives = n.drives })
     ]))
-    (both (c.store.ensures.ran.on.writes hb).any_moment (c.store.ensures.moments hb low)))
+    (both_leave (c.store.ensures.ran.on.writes hb).any_moment (c.store.ensures.moments hb low)))
 
 pub returns-clause-outlasts : goal.returns-clause-outlasts
 returns-clause-outlasts g c h low held next o plan =
