@@ -1,5 +1,5 @@
 -- Once a prepared checkpoint was written its tables hold the array, on the drives that aren't lost.
-use Rattle.std.proofs.Common.{◌≡◌, ℕ, ◌≤◌, ◌∙◌, List, refl, sym, ap, subst, Bool, Some}
+use Rattle.std.proofs.Common.{◌≡◌, inl, ℕ, ◌≤◌, ◌∙◌, List, arith, refl, sym, ap, subst, Bool, Some}
 use Rattle.std.specs.Prelude.{slice_get}
 use Rattle.std.specs.List.{AllZip}
 use Rattle.pur_base.specs.Devices.{Geometry, View}
@@ -36,7 +36,7 @@ use Rattle.array_core.specs.Free.{WritesFree}
 use Rattle.array_core.proofs.Kept.{free_writes_leave}
 use Rattle.array_core.specs.declared.array.Array.{Array}
 use Rattle.array_core.specs.Ready.{IsArrayOf, IsReady}
-use Rattle.array_core.specs.Switching.{HoldNext}
+use Rattle.array_core.specs.Switching.{HoldTables}
 use Rattle.array_checkpoint.specs.declared.preparing.Prepared.{Prepared}
 use Rattle.array_checkpoint.specs.Prepared.{IsPreparedFor}
 use Rattle.array_checkpoint.specs.Made.{contents_after, held_after}
@@ -115,9 +115,8 @@ module _ (a b : Shelved) (is : IsShelf a) (is_b : IsShelf b) (honest : a.honest)
 -- so the next tables hold the array, with nothing in the log
 pub holds_next : (a b : Shelved) → IsShelf a → IsShelf b → a.honest → (x : Array) (q : Prepared) → IsArrayOf (geometry_of a) x → IsPreparedFor x q → Continues a b → (lost : List Bool)
     → Wrote a b q.plan q.added x.memory.memory.staged lost → (held : Content) → IsReady a x held → WritesFree x.register held a b
-    → HoldNext b x.register lost q.tables held (held_after x.memory.memory q.plan held)
+    → HoldTables b x.register lost q.tables held (held_after x.memory.memory q.plan held)
 holds_next a b is is_b honest x q of h on lost w held ready free = record {
   stand = λ left fewer. next_stands a b is is_b honest x q of h on lost w held ready free left fewer;
-  base = refl;
-  log = refl;
+  keeps = inl (record { flushed = omega (arith, h.flushed, ready.keeps.count); log = refl; base = refl });
 }

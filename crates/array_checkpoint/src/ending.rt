@@ -4,8 +4,8 @@ ghost use Rattle.boot_codec.specs.Record.{patch_segments};
 ghost use Rattle.pur_base.specs.Devices.{IsBearable};
 ghost use Rattle.pur_base.specs.Plain as plain;
 ghost use Rattle.world.specs.Losing.{geometry_of};
-ghost use Rattle.world.specs.Shelf.{Continues, LeavesOnly, IsCountedBy};
-ghost use Rattle.register.specs.Registers.{named_sound};
+ghost use Rattle.world.specs.Ran.{Ran};
+ghost use Rattle.world.specs.Shelf.{Continues, LeavesOnly};
 ghost use Rattle.register.specs.Standing.{Content, array_of};
 ghost use Rattle.memory_spec.specs.Memory.{Contents, ReadsAs};
 ghost use Rattle.memory_spec.specs.Tables.{facts};
@@ -16,7 +16,7 @@ ghost use Rattle.array_core.specs.Performing.{IsKeptAt};
 ghost use Rattle.array_core.specs.declared.performing.PerformFault.TheVariants.{Device};
 ghost use Rattle.array_core.specs.Holding.{DropsFailedBy, NoneJoinsBy};
 ghost use Rattle.array_core.specs.Performing.{IsLostBy};
-ghost use Rattle.array_core.specs.Switching.{AreLost, HoldNext, WasOpen, WroteFree};
+ghost use Rattle.array_core.specs.Switching.{AreLost, HoldTables, OnSlotsAndLog, WasOpen, WroteFree};
 ghost use Rattle.array_checkpoint.specs.declared.limits.TheConstants.{SEGMENTS_END};
 ghost use Rattle.array_checkpoint.specs.Prepared.{IsPreparedFor};
 ghost use Rattle.array_checkpoint.specs.Made.{contents_after, facts_after, held_after, HasFlushed, HoldOnLeft};
@@ -38,9 +38,7 @@ pub(crate) fn take_over<S: Shelf>(
     requires prepared { IsPreparedFor array.old prepared }
     requires unspent { is_spent array.old ≡ false }
     requires few { patch_segments array.old.register.record.patches < SEGMENTS_END }
-    ensures continues { Continues (S.shelf shelf.old) (S.shelf shelf.new) }
-    ensures rest { S.shelf_rest shelf.old shelf.new }
-    ensures moments { (S.shelf shelf.old).honest → LeavesOnly (S.shelf shelf.old) (S.shelf shelf.new) (IsCountedBy (S.shelf shelf.old)) }
+    ensures ran { Ran S.shelf S.shelf_rest (λ d. Unit {0}) (OnSlotsAndLog array.old.register array.old.log.members) shelf.old shelf.new }
     ensures is_of { OnOk result (IsArrayOf (geometry_of (S.shelf shelf.new)) array.new) }
     ensures flushed { OnOk result (HasFlushed array.old array.new) }
     ensures objects { array.new.memory.objects ≡ array.old.memory.objects }
@@ -58,14 +56,14 @@ pub(crate) fn take_over<S: Shelf>(
     // Where the devices held the array, and hold it by the new tables, they do so by these alone.
     ensures done { (S.shelf shelf.old).honest → OnOk result ((start : S) (held : Content) → WasOpen (S.shelf start) array.old.register array.old.log held
         → WroteFree (S.shelf start) (S.shelf shelf.old) array.old.register lost.now.drives held
-        → HoldNext (S.shelf shelf.old) array.old.register lost.now.drives prepared.tables held (held_after array.old.memory.memory prepared.plan held)
+        → HoldTables (S.shelf shelf.old) array.old.register lost.now.drives prepared.tables held (held_after array.old.memory.memory prepared.plan held)
         → (contents : Contents) → ReadsAs contents array.old.memory.memory (array_of held)
         → HoldOnLeft (S.shelf shelf.old) array.old.register lost.now.drives (contents_after array.old.memory.memory prepared.plan contents) (facts_after array.old.memory.memory prepared.plan)
         → IsReady (S.shelf shelf.new) array.new (held_after array.old.memory.memory prepared.plan held)) }
     // At every moment a session can go on with the array.
     ensures any_moment { (S.shelf shelf.old).honest → (start : S) (held : Content) → WasOpen (S.shelf start) array.old.register array.old.log held
         → WroteFree (S.shelf start) (S.shelf shelf.old) array.old.register lost.now.drives held
-        → HoldNext (S.shelf shelf.old) array.old.register lost.now.drives prepared.tables held (held_after array.old.memory.memory prepared.plan held)
+        → HoldTables (S.shelf shelf.old) array.old.register lost.now.drives prepared.tables held (held_after array.old.memory.memory prepared.plan held)
         → LeavesOnly (S.shelf shelf.old) (S.shelf shelf.new) (IsKeptAt (S.shelf start) array.old.register.record (array_of held ∷ [])) }
 {
     let Prepared { plan, tables, .. } = prepared;

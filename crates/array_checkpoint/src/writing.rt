@@ -8,7 +8,7 @@ ghost use Rattle.memory_spec.specs.Tables.{facts};
 ghost use Rattle.array_core.specs.Drives.{SegmentsHold};
 ghost use Rattle.array_core.specs.Ready.{IsArrayOf, IsReady};
 ghost use Rattle.array_core.specs.Performing.{IsKeptAt};
-ghost use Rattle.array_core.specs.Switching.{AreLost, HoldNext, WroteFree};
+ghost use Rattle.array_core.specs.Switching.{AreLost, HoldTables, WroteFree};
 ghost use Rattle.array_checkpoint.specs.Prepared.{IsPreparedFor};
 ghost use Rattle.array_checkpoint.specs.Made.{contents_after, facts_after, held_after, HoldOnLeft};
 
@@ -38,7 +38,7 @@ pub(crate) fn write_prepared<S: Shelf>(
         → WroteFree (S.shelf shelf.old) (S.shelf shelf.new) array.now.register lost.drives held) }
     // On the drives that aren't lost the tables that are stored next hold the same array.
     ensures hold { (S.shelf shelf.old).honest → IfOk result (λ lost. (held : Content) → IsReady (S.shelf shelf.old) array.now held
-        → HoldNext (S.shelf shelf.new) array.now.register lost.drives prepared.now.tables held (held_after array.now.memory.memory prepared.now.plan held)) }
+        → HoldTables (S.shelf shelf.new) array.now.register lost.drives prepared.now.tables held (held_after array.now.memory.memory prepared.now.plan held)) }
     ensures contents { (S.shelf shelf.old).honest → IfOk result (λ lost. (contents : Contents) → SegmentsHold contents (S.shelf shelf.old) array.now.register (facts array.now.memory.memory.tables)
         → HoldOnLeft (S.shelf shelf.new) array.now.register lost.drives (contents_after array.now.memory.memory prepared.now.plan contents) (facts_after array.now.memory.memory prepared.now.plan)) }
     // At every moment a session can go on with the array.

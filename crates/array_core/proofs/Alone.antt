@@ -1,5 +1,5 @@
 -- Of an open array the record alone may be given by an image in which its drives show in their boot slots what they did.
-use Rattle.std.proofs.Common.{◌≡◌, ◌⊎◌, inl, inr, ℕ, zero, suc, ◌+◌, ◌*◌, ◌≤◌, ◌<◌, List, refl, sym, ◌∙◌, subst, arith, Bool, false}
+use Rattle.std.proofs.Common.{◌≡◌, ◌⊎◌, inl, inr, ℕ, ◌+◌, ◌*◌, ◌≤◌, ◌<◌, List, refl, sym, ◌∙◌, subst, arith, Bool, false}
 use Rattle.std.specs.Prelude.{Some, count_by}
 use Rattle.std.specs.List.{range_with_len}
 use Rattle.std.specs.Str.{bytes_eq}
@@ -12,7 +12,7 @@ use Rattle.boot_codec.specs.Spelling.{spelling}
 use Rattle.boot_codec.specs.Region.{BootSlot, other_slot, body_in, shown_by, generation_in, Yields}
 use Rattle.array_spec.specs.Standing.{MayBeGiven}
 use Rattle.array_spec.specs.Laws.{IsHeld, is_sound_vote}
-use Rattle.array_spec.proofs.Votes.{counted, one_is_effective, held_is_given, sound_before}
+use Rattle.array_spec.proofs.Votes.{one_is_effective, held_is_given, sound_before}
 use Rattle.array_spec.proofs.Settling.{twice_other}
 use Rattle.array_spec.proofs.Spelled.{spells_one}
 use Rattle.world.specs.Shelf.{Shelved, IsShelf}

@@ -4,7 +4,6 @@ use Rattle.std.specs.Prelude.{Some, Contains, slice_get, slice_index}
 use Rattle.std.specs.List.{AllByRecursion}
 use Rattle.std.proofs.lemmas.Bool.{cases_lt}
 use Rattle.std.proofs.lemmas.List.{take_all, take_at}
-use Rattle.pur_base.specs.Bytes.{IsBytes}
 use Rattle.pur_base.specs.declared.device.Device.{Device}
 use Rattle.pur_base.specs.declared.device.Device.TheVariants.{Drive, Nv}
 use Rattle.pur_base.specs.Devices.{Geometry, Image, Conditions, Sound, LeftOut, IsBearable, IsWithin, drive, nvram}
@@ -21,7 +20,7 @@ use Rattle.array_spec.proofs.UnflushedRead.{one_left}
 use Rattle.array_spec.proofs.Votes.{sound_before}
 use Rattle.world.specs.Losing.{geometry_of, has_risen, losing}
 use Rattle.world.specs.Shelf.{Shelved, Stop, Disk, IsShelf, Continues, MayStop, MayLeave, LeavesOnly}
-use Rattle.world.specs.Writes.{MayLeaveBut, LeavesBut, WritesOnly}
+use Rattle.world.specs.Writes.{LeavesBut, WritesOnly}
 use Rattle.world.proofs.Moments.{then_run, weaker}
 use Rattle.boot_region.specs.Members.{IsMember}
 use Rattle.boot_region.specs.Storing.{IsInForceOn, IsOlder, StandsBut, AccountsFor}
@@ -44,7 +43,7 @@ use Rattle.session_spec.specs.Entering.{IsStanding}
 use Rattle.array_core.specs.Ready.{logged}
 use Rattle.array_core.specs.Losing.{lost_since, lost_by}
 use Rattle.array_core.specs.Performing.{IsKeptAt, without_or_with}
-use Rattle.array_core.proofs.Agreeing.{agreed_standing, named_bears}
+use Rattle.array_core.proofs.Agreeing.{named_bears}
 use Rattle.array_core.proofs.Commands.{is_of_all}
 use Rattle.array_core.proofs.Losses.{sound_since, by_stop, fewer_borne, bearable_or_not}
 use Rattle.array_core.proofs.Logged.{nothing_else}

@@ -1,35 +1,29 @@
 -- An open array: what an image in which the drives are as they were stands for, by what the NVRAM devices show, whatever more is missing.
-use Rattle.std.proofs.Common.{◌≡◌, ◌⊎◌, inl, inr, ℕ, zero, suc, ◌+◌, ◌*◌, ◌≤◌, ◌<◌, List, refl, sym, ◌∙◌, ap, subst, arith, Bool, false}
-use Rattle.std.specs.Prelude.{Some, None, Option, count_by}
-use Rattle.std.specs.List.{range_with_len}
-use Rattle.std.specs.Str.{bytes_eq}
-use Rattle.std.specs.Cmp.Lexicographic.{same_text}
-use Rattle.std.proofs.lemmas.Bool.{cases_Bool}
-use Rattle.pur_base.specs.Devices.{Image, Conditions, Sound, LeftOut, IsBearable, IsWithin, is_sound, drive, nvram}
+use Rattle.std.proofs.Common.{◌≡◌, ℕ, ◌<◌, List, refl, ap, Bool, false}
+use Rattle.std.specs.Prelude.{Some}
+use Rattle.pur_base.specs.Devices.{Image, Conditions, Sound, LeftOut, IsBearable, IsWithin, drive, nvram}
 use Rattle.pur_base.specs.declared.device.Device.{Device}
 use Rattle.pur_base.specs.Plain.{Array}
 use Rattle.pur_base.specs.Commands.{Command}
 use Rattle.boot_codec.specs.declared.record.BootRecord.{BootRecord}
 use Rattle.boot_codec.specs.Spelling.{spelling}
-use Rattle.boot_codec.specs.Region.{BootSlot, other_slot, body_in, shown_by, generation_in, names, is_vote, Yields}
+use Rattle.boot_codec.specs.Region.{BootSlot, shown_by, names}
 use Rattle.array_spec.specs.Standing.{Stands, MayBeGiven, MayAppear}
-use Rattle.array_spec.specs.Laws.{IsHeld, is_sound_vote}
+use Rattle.array_spec.specs.Laws.{IsHeld}
 use Rattle.array_spec.specs.Unflushed.{LogLies, NamesSound}
-use Rattle.array_spec.proofs.Votes.{counted, one_is_effective, held_is_given, sound_before}
+use Rattle.array_spec.proofs.Votes.{held_is_given, sound_before}
 use Rattle.array_spec.proofs.Held.{held_stands}
-use Rattle.array_spec.proofs.Settling.{twice_other}
-use Rattle.array_spec.proofs.Spelled.{spells_one}
 use Rattle.stored_spec.specs.Held.{TablesHold, NamesNoneLeftOut}
 use Rattle.stored_spec.proofs.Reading.{record_is_read}
 use Rattle.world.specs.Shelf.{Shelved, IsShelf}
 use Rattle.world.specs.Losing.{geometry_of}
 use Rattle.boot_region.specs.Members.{IsMember}
-use Rattle.boot_region.proofs.Composing.{as_it_is, is_sound_is}
+use Rattle.boot_region.proofs.Composing.{as_it_is}
 use Rattle.boot_region.proofs.ShownLemmas.{shown_body}
 use Rattle.nvram_log.specs.Members as nv
 use Rattle.nvram_log.specs.Slots.{IsBetween}
 use Rattle.register.specs.declared.state.Register.{Register}
-use Rattle.register.specs.Registers.{drives_of, own_slot, next_slot, named_sound}
+use Rattle.register.specs.Registers.{drives_of, own_slot, named_sound}
 use Rattle.register.specs.Standing.{Content, IsOpen}
 use Rattle.array_core.specs.Logging.{LeadTo}
 use Rattle.array_core.proofs.Reopened.{not_spent, nvram_named}

@@ -22,7 +22,7 @@ use Rattle.register.specs.Registers.{IsRegisterOf, IsLaterRecord, drives_of}
 use Rattle.register.proofs.FlagLemmas.{few_set, fewer_count, in_cut, cut_in}
 use Rattle.session_spec.specs.Faring.{MayRise}
 use Rattle.array_core.specs.declared.array.Array.{Array}
-use Rattle.array_core.specs.Holding.{IsHolder, DropsFailed, NoneJoins}
+use Rattle.array_core.specs.Holding.{IsHolder, DropsFailedBy, NoneJoins}
 
 -- ---- counts of failed calls at each moment
 
@@ -75,16 +75,16 @@ one_unset before now two two_now other fewer = of before now two two_now other f
     of (a ∷ b ∷ []) (c ∷ []) two two_now other fewer = absurd (omega (arith, two_now))
     of (a ∷ b ∷ []) (c ∷ d ∷ e ∷ rest) two two_now other fewer = absurd (omega (arith, two_now))
 
--- a command is appended from old to mid, and a record may be stored from mid to new
-module _ (old mid new : Shelved) (was now : Array) (two : length was.log.members ≡ 2)
+-- the log is written from old to mid, and a record may be stored from mid to new
+module _ (old mid new : Shelved) (was now : Register) (members left : List Bool) (two : length members ≡ 2)
     (same : (i : ℕ) → mid.disk (drive i) ≡ old.disk (drive i)) (kept : (n : ℕ) → new.disk (nvram n) ≡ mid.disk (nvram n))
-    (dropped : nv.DroppedFailed old mid was.log.members now.log.members) (drives : DroppedFailed mid new (drives_of was.register) (drives_of now.register)) where
-  pub drops_failed : DropsFailed old new was now
+    (dropped : nv.DroppedFailed old mid members left) (drives : DroppedFailed mid new (drives_of was) (drives_of now)) where
+  pub drops_failed : DropsFailedBy old new was members now left
   drops_failed (Drive d) h = elim (drives d.0 h) [
     | inl is ↦ inl is
     | inr rose ↦ inr (subst (λ (k : Disk). Rises k.write_faults (new.disk (Drive d)).write_faults) (same d.0) rose.write_faults)
   ]
-  drops_failed (Nv n) h = elim (dropped n.0 (omega (arith, two, member_below was.log.members n.0 h)) h) [
+  drops_failed (Nv n) h = elim (dropped n.0 (omega (arith, two, member_below members n.0 h)) h) [
     | inl is ↦ inl is
     | inr rose ↦ inr (subst (λ (k : Disk). Rises (old.disk (Nv n)).write_faults k.write_faults) (sym (kept n.0)) rose)
   ]

@@ -1,5 +1,5 @@
 -- Free units of an open array were written: what a stop in these writes leaves, and what its drives show after them.
-use Rattle.std.proofs.Common.{◌≡◌, inl, inr, ℕ, ◌+◌, ◌/◌, ◌≤◌, ◌<◌, List, [], ◌∷◌, refl, sym, ◌∙◌, ap, subst, arith, Bool, true, false}
+use Rattle.std.proofs.Common.{◌≡◌, inl, inr, ℕ, ◌+◌, ◌≤◌, ◌<◌, List, [], ◌∷◌, refl, sym, ◌∙◌, ap, subst, arith, Bool, true, false}
 use Rattle.std.specs.Prelude.{slice_index}
 use Rattle.pur_base.specs.Commands.{Command}
 use Rattle.pur_base.specs.Devices.{Geometry, Conditions, Sound, LeftOut, IsBearable, IsWithin, drive, nvram}
@@ -13,9 +13,9 @@ use Rattle.array_spec.specs.Standing.{MayBeGiven}
 use Rattle.array_spec.proofs.Quiet.{bytes_same}
 use Rattle.array_spec.proofs.Standings.{more_may_go_missing}
 use Rattle.world.specs.Losing.{geometry_of, has_risen}
-use Rattle.world.specs.Shelf.{Shelved, Disk, Stop, IsShelf, IsInSome, MayLeave, MayStop}
+use Rattle.world.specs.Shelf.{Shelved, Disk, Stop, IsShelf, IsInSome, MayStop}
 use Rattle.world.specs.declared.shelf.Span.{Span}
-use Rattle.world.specs.Writes.{LeavesBut, MayLeaveBut}
+use Rattle.world.specs.Writes.{LeavesBut}
 use Rattle.world.proofs.Moments.{weaker}
 use Rattle.world.proofs.Writes.{may_leave_but, counted_then}
 use Rattle.boot_region.specs.Members.{IsMember}

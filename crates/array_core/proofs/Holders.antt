@@ -1,12 +1,11 @@
--- Who holds the array after the end of a checkpoint or a merge.
-use Rattle.std.proofs.Common.{◌≡◌, ◌⊎◌, inl, inr, ℕ, List, length, subst, arith, Bool, true}
+-- Who holds the array once other tables are those of its record.
+use Rattle.std.proofs.Common.{◌≡◌, ◌⊎◌, inl, inr, ℕ, List, subst, arith, Bool, true}
 use Rattle.pur_base.specs.declared.device.Device.{Device}
 use Rattle.pur_base.specs.declared.device.Device.TheVariants.{Drive, Nv}
 use Rattle.pur_base.specs.Devices.{Geometry}
 use Rattle.boot_codec.specs.Region.{names}
 use Rattle.world.specs.Shelf.{Shelved, Continues}
-use Rattle.boot_region.specs.Members.{IsMember, DroppedFailed}
-use Rattle.boot_region.proofs.ShownLemmas.{member_below}
+use Rattle.boot_region.specs.Members.{IsMember, IsOneOf, IsDrive, DroppedFailed}
 use Rattle.nvram_log.specs.Members as nv
 use Rattle.register.specs.declared.state.Register.{Register}
 use Rattle.register.specs.Registers.{IsRegisterOf, OnSlots, drives_of}
@@ -15,6 +14,11 @@ use Rattle.array_core.specs.Holding.{DropsFailedBy, IsHolderBy, NoneJoinsBy}
 use Rattle.array_core.specs.Performing.{IsLostBy}
 use Rattle.array_core.specs.Switching.{OnSlotsAndLog}
 use Rattle.array_core.proofs.LostOnWay.{dropped_then, log_lost_since, rises_on}
+
+-- a member is a drive
+pub is_drive : (members : List Bool) (d : Device) → IsOneOf members d → IsDrive d
+is_drive members (Drive i) is = tt
+is_drive members (Nv n) is = absurd is
 
 -- what is written on fewer drives
 pub slots_of_more : (was now : Register) → now.record.slots ≡ was.record.slots → ((i : ℕ) → IsMember now.drives i → IsMember was.drives i) → (d : Device) (i : ℕ) → OnSlots (drives_of now) d i → OnSlots (drives_of was) d i
@@ -30,12 +34,14 @@ pub drives_failed : (start new : Shelved) (was now : Register) (members : List B
 drives_failed start new was now members dropped (Drive d) m = elim (dropped d.0 m) [ inl is ↦ inl is | inr rose ↦ inr rose.write_faults ]
 drives_failed start new was now members dropped (Nv n) m = inl m
 
-pub all_failed : (start mid new : Shelved) → Continues start mid → (was now : Register) (members left : List Bool) → length members ≡ 2 → DroppedFailed start new (drives_of was) (drives_of now) → nv.DroppedFailed mid new members left
-    → DropsFailedBy start new was members now left
-all_failed start mid new on was now members left two dropped logs (Drive d) m = elim (dropped d.0 m) [ inl is ↦ inl is | inr rose ↦ inr rose.write_faults ]
-all_failed start mid new on was now members left two dropped logs (Nv n) m = elim (logs n.0 (omega (arith, two, member_below members n.0 m)) m) [
-  | inl is ↦ inl is
-  | inr rose ↦ inr (rises_on (start.disk (Nv n)).write_faults (mid.disk (Nv n)).write_faults (new.disk (Nv n)).write_faults (new.disk (Nv n)).write_faults (on.write_faults (Nv n)) rose (omega arith))
+-- one after another
+pub drops_then : (start mid new : Shelved) → Continues start mid → Continues mid new → (r0 r1 r2 : Register) (m0 m1 m2 : List Bool) → DropsFailedBy start mid r0 m0 r1 m1 → DropsFailedBy mid new r1 m1 r2 m2 → DropsFailedBy start new r0 m0 r2 m2
+drops_then start mid new on next r0 r1 r2 m0 m1 m2 first then d h = elim (first d h) [
+  | inl is ↦ elim (then d is) [
+    | inl stays ↦ inl stays
+    | inr rose ↦ inr (rises_on (start.disk d).write_faults (mid.disk d).write_faults (new.disk d).write_faults (new.disk d).write_faults (on.write_faults d) rose (omega arith))
+  ]
+  | inr rose ↦ inr (rises_on (start.disk d).write_faults (start.disk d).write_faults (mid.disk d).write_faults (new.disk d).write_faults (omega arith) rose (next.write_faults d))
 ]
 
 -- what is too much since a later moment is so since the start
@@ -70,16 +76,13 @@ none_joins_tables shelf r0 r1 r2 members is fewer1 fewer2 slots2 named1 are2 = r
     named2 (Nv n) e = named1 (Nv n) (subst (λ (l : List Bool). nv.IsMember l n.0) are2.1 e)
 
 -- and the log was cleared
-pub none_joins : (shelf : Geometry) (r0 r1 r2 r3 : Register) (members left : List Bool) → IsRegisterOf shelf r0 → ((i : ℕ) → IsMember r1.drives i → IsMember r0.drives i) → ((i : ℕ) → IsMember r2.drives i → IsMember r1.drives i)
-    → ((i : ℕ) → IsMember r3.drives i → IsMember r2.drives i) → r2.record.slots ≡ r0.record.slots → r3.record.slots ≡ r0.record.slots → nv.IsFewer members left
-    → ((d : Device) → names r1.record d ≡ true → (names r0.record d ≡ true) ⊎ IsHolderBy r0 members d)
-    → (r2.record.members.drives ≡ r2.drives) × (r2.record.members.nvrams ≡ r1.record.members.nvrams)
+pub none_joins : (r0 r2 r3 : Register) (members left : List Bool) → NoneJoinsBy r0 members r2 members → ((i : ℕ) → IsMember r3.drives i → IsMember r2.drives i) → r3.record.slots ≡ r2.record.slots → nv.IsFewer members left
     → ((d : Device) → names r3.record d ≡ true → (names r2.record d ≡ true) ⊎ IsHolderBy r2 members d) → NoneJoinsBy r0 members r3 left
-none_joins shelf r0 r1 r2 r3 members left is fewer1 fewer2 fewer3 slots2 slots3 fewer_logs named1 are2 named3 = record { holders = λ d m. held d m; named = λ d e. elim (named3 d e) [ inl x ↦ stored.named d x | inr m ↦ inr (stored.holders d m) ] }
+none_joins r0 r2 r3 members left stored fewer slots fewer_logs named = record {
+  holders = λ d m. stored.holders d (held d m);
+  named = λ d e. elim (named d e) [ inl x ↦ stored.named d x | inr m ↦ inr (stored.holders d m) ];
+}
   where
-    held : (d : Device) → IsHolderBy r3 left d → IsHolderBy r0 members d
-    held (Drive d) m = fewer_cut r0 r3 slots3 (λ i x. fewer1 i (fewer2 i (fewer3 i x))) d.0 m
+    held : (d : Device) → IsHolderBy r3 left d → IsHolderBy r2 members d
+    held (Drive d) m = fewer_cut r2 r3 slots fewer d.0 m
     held (Nv n) m = fewer_logs n.0 m
-
-    stored : NoneJoinsBy r0 members r2 members
-    stored = none_joins_tables shelf r0 r1 r2 members is fewer1 fewer2 slots2 named1 are2

@@ -11,7 +11,7 @@ use Rattle.boot_codec.specs.Region.{BootSlot, names}
 use Rattle.log_codec.specs.Log.{ShowsIn}
 use Rattle.array_spec.specs.Standing.{Stands, MayBeGiven}
 use Rattle.world.specs.Counts.{Rises}
-use Rattle.world.specs.Losing.{geometry_of, has_risen, losing, missing_if}
+use Rattle.world.specs.Losing.{geometry_of, has_risen, losing}
 use Rattle.world.specs.Shelf.{Shelved, Stop, Continues, IsCountedBy, LeavesOnly}
 use Rattle.world.specs.Writes.{WritesOnly}
 use Rattle.world.proofs.Moments.{weaker}

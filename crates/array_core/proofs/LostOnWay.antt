@@ -1,29 +1,19 @@
 -- Counts of failed writes over more than one run, and what is lost with them.
-use Rattle.std.proofs.Common.{◌≡◌, inl, inr, ℕ, ◌+◌, ◌^◌, ◌≤◌, ◌<◌, List, subst, arith, Bool}
+use Rattle.std.proofs.Common.{◌≡◌, inl, inr, ℕ, ◌+◌, ◌^◌, ◌≤◌, ◌<◌, List, arith, Bool}
 use Rattle.std.proofs.lemmas.Bool.{cases_lt}
-use Rattle.pur_base.specs.Devices.{Conditions, Sound, IsBearable, drive, nvram}
+use Rattle.pur_base.specs.Devices.{drive, nvram}
 use Rattle.boot_codec.specs.Record.{set_count}
-use Rattle.boot_codec.specs.Region.{names}
-use Rattle.array_spec.proofs.UnflushedRead.{one_left}
 use Rattle.world.specs.Counts.{Rises}
-use Rattle.world.specs.Losing.{geometry_of, has_risen}
 use Rattle.world.specs.Shelf.{Shelved, Continues}
 use Rattle.world.proofs.Moments.{continues_refl}
 use Rattle.boot_region.specs.Members.{DroppedFailed, LostWrites}
-use Rattle.boot_region.proofs.Phases.{risen_on_way}
-use Rattle.nvram_log.specs.Members as nv
 use Rattle.register.specs.declared.next.StoreFault.{StoreFault}
 use Rattle.register.specs.declared.next.StoreFault.TheVariants.{Spent, TooFew}
 use Rattle.register.specs.declared.state.Register.{Register}
 use Rattle.register.specs.Faults.{IsFaultOf}
-use Rattle.register.specs.Registers.{drives_of, named_sound}
-use Rattle.register.specs.Standing.{Content, IsOpen}
+use Rattle.register.specs.Registers.{drives_of}
 use Rattle.register.proofs.FlagLemmas.{fewer_count, in_cut}
-use Rattle.array_core.specs.Losing.{lost_since}
 use Rattle.array_core.specs.Performing.{LostDrives, LostLog}
-use Rattle.array_core.proofs.Losses.{sound_since}
-use Rattle.array_core.proofs.Lost.{few_lack}
-use Rattle.array_core.specs.Performing.{IsLostBy}
 
 -- ---- counts
 

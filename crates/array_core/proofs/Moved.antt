@@ -1,5 +1,5 @@
 -- A store of a record changes boot units alone.
-use Rattle.std.proofs.Common.{◌⊎◌, inl, inr, ◌≡◌, ℕ, ◌<◌, ◌/◌, List, ap, arith, Bool}
+use Rattle.std.proofs.Common.{inl, inr, ◌≡◌, ℕ, ◌<◌, ◌/◌, List, ap, arith, Bool}
 use Rattle.std.proofs.lemmas.Bool.{cases_lt}
 use Rattle.pur_base.specs.Devices.{drive, nvram}
 use Rattle.boot_codec.specs.Region.{A, B}

@@ -1,15 +1,12 @@
 -- The stages of the end of a checkpoint or a merge, one after another.
-use Rattle.std.proofs.Common.{◌≡◌, ◌⊎◌, inl, inr, ℕ, ◌+◌, ◌^◌, ◌<◌, List, [], ◌∷◌, sym, ◌∙◌, ap, subst, Bool}
+use Rattle.std.proofs.Common.{◌≡◌, ◌⊎◌, inl, inr, ℕ, ◌+◌, ◌^◌, ◌<◌, List, [], ◌∷◌, length, refl, sym, ◌∙◌, ap, subst, Bool, arith}
 use Rattle.pur_base.specs.Devices.{nvram}
-use Rattle.pur_base.specs.declared.device.Device.{Device}
-use Rattle.pur_base.specs.Plain.{Array}
 use Rattle.boot_codec.specs.declared.record.BootRecord.{BootRecord}
 use Rattle.boot_codec.specs.Record.{IsBootRecord}
 use Rattle.world.specs.Losing.{geometry_of}
 use Rattle.world.specs.Shelf.{Shelved, IsShelf, Continues, LeavesOnly}
 use Rattle.world.specs.Writes.{WritesOnly}
 use Rattle.world.proofs.Moments.{continues_trans}
-use Rattle.world.proofs.Writes.{writes_then, writes_more}
 use Rattle.boot_region.specs.Members.{IsMember, DroppedFailed}
 use Rattle.nvram_log.specs.declared.log.NvLog.{NvLog}
 use Rattle.nvram_log.specs.Held.{HoldsOn}
@@ -23,21 +20,15 @@ use Rattle.register.specs.Standing.{Content, IsOpen, array_of}
 use Rattle.register.specs.Tables.{IsPlanOf, KeepsArray, StandsAsBefore, with_tables}
 use Rattle.register.proofs.FlagLemmas.{in_cut}
 use Rattle.register.proofs.Stores.{fewer_cut}
-use Rattle.register.proofs.Tabling.{same_array}
 use Rattle.array_core.specs.Performing.{IsKeptAt, LostDrives}
 use Rattle.array_core.specs.Switching.{AreLost, WasOpen, WroteFree}
 use Rattle.array_core.proofs.FreeWrites.{off_slots}
-use Rattle.array_core.proofs.Holders.{slots_of_more}
 use Rattle.array_core.proofs.Keeping.{CameAfter, run_since}
 use Rattle.array_core.proofs.LostOnWay.{dropped_then, drives_lost}
 use Rattle.array_core.proofs.Stages.{AreLeft, StandUnlost, came_after, left_dropped, plan_at}
 use Rattle.array_core.proofs.Tables.{still_holds, tables_moments}
 
 -- ---- a record without the drives that were lost, then one of the tables
-
-pub both_write : (a b c : Shelved) → Continues a b → (r0 r1 : Register) → IsLaterRecord r0.record r1.record → ((i : ℕ) → IsMember r1.drives i → IsMember r0.drives i)
-    → WritesOnly (OnSlots (drives_of r0)) a b → WritesOnly (OnSlots (drives_of r1)) b c → WritesOnly (OnSlots (drives_of r0)) a c
-both_write a b c on r0 r1 later fewer first next = writes_then on first (writes_more (slots_of_more r0 r1 (ap (λ (x : BootRecord). x.slots) later.rest) fewer) next)
 
 pub both_dropped : (s a b c : Shelved) → Continues s a → Continues a b → Continues b c → (r0 r1 r2 : Register) (lost : List Bool) → AreLost s a r0 lost → AreLeft a b r0 r1 lost → DroppedFailed b c (drives_of r1) (drives_of r2)
     → DroppedFailed s c (drives_of r0) (drives_of r2)
@@ -139,18 +130,18 @@ module _ (s a b : Shelved) (was r : Register) (log : NvLog) (lost : List Bool) (
       (tables_moments b c p.is (p.on.honest p.honest) r tables held next open_b p.was_open.in_force plan (OnSlots (drives_of r)) (off_slots (drives_of r)) writes stands gives)
 
   -- once it was stored
-  module _ (c : Shelved) (on : Continues b c) (now : Register) (later : IsLaterRecord (with_tables r.record tables) now.record) (fewer : (i : ℕ) → IsMember now.drives i → IsMember r.drives i)
-      (dropped : DroppedFailed b c (drives_of r) (drives_of now)) (same : (n : ℕ) → c.disk (nvram n) ≡ b.disk (nvram n)) (o : IsOpen c now r.record.members.nvrams next) where
-    pub open_c : IsOpen c now log.members next
-    open_c = subst (λ (l : List Bool). IsOpen c now l next) p.is_open.nvrams_are o
+  pub open_c : (c : Shelved) (now : Register) → IsOpen c now r.record.members.nvrams next → IsOpen c now log.members next
+  open_c c now o = subst (λ (l : List Bool). IsOpen c now l next) p.is_open.nvrams_are o
 
-    pub holds_c : HoldsOn c log.members log.flushed held.log
-    holds_c = still_holds s c log.members log.flushed held.log (λ n. same n ∙ same_b n) p.was_open.held_log
+  pub holds_c : (c : Shelved) → ((n : ℕ) → c.disk (nvram n) ≡ b.disk (nvram n)) → HoldsOn c log.members log.flushed held.log
+  holds_c c same = still_holds s c log.members log.flushed held.log (λ n. same n ∙ same_b n) p.was_open.held_log
 
-    after_c : CameAfter s c was.record now.record
-    after_c = came_after s c was now log.members held next p.was_open.is_open open_c (λ i m. (p.fewer i (fewer i m)).0) (dropped_then s b c since_b on (drives_of was) (drives_of r) (drives_of now) dropped_b dropped)
+-- ---- tables that hold the commands of the log
 
-    -- while the log is cleared
-    pub clear_run : (d : Shelved) {W : Device → ℕ → Type 0} → WritesOnly W c d → LeavesOnly c d (IsKeptAt c now.record (array_of next ∷ [])) → LeavesOnly c d (IsKeptAt s was.record (array_of held ∷ []))
-    clear_run d {W} writes at = run_since s c d (continues_trans since_b on) was.record now.record after_c (array_of held ∷ []) writes
-        (subst (λ (x : Array). LeavesOnly c d (IsKeptAt c now.record (x ∷ []))) (same_array was tables held next p.keeps) at)
+none_left_over : {X : Type 0} (xs : List X) → length xs ≡ 0 → xs ≡ []
+none_left_over [] none = refl
+none_left_over (x ∷ xs) none = absurd (omega (arith, none))
+
+pub log_is_done : (r : Register) (tables : Tables) (held next : Content) → KeepsArray r tables held next → tables.flushed ≡ r.record.flushed + length held.log → next.log ≡ []
+log_is_done r tables held next (inl all) flushed = all.log
+log_is_done r tables held next (inr none) flushed = none.log ∙ none_left_over held.log (omega (arith, none.flushed, flushed))

@@ -12,8 +12,8 @@ use Rattle.nvram_log.specs.Members as nv
 use Rattle.register.specs.declared.state.Register.{Register}
 use Rattle.register.specs.declared.tables.Tables.{Tables}
 use Rattle.register.specs.Registers.{OnSlots, drives_of}
-use Rattle.register.specs.Standing.{Content, IsOpen, array_of}
-use Rattle.register.specs.Tables.{with_tables}
+use Rattle.register.specs.Standing.{Content, IsOpen}
+use Rattle.register.specs.Tables.{with_tables, KeepsArray}
 use Rattle.array_core.specs.Free.{WritesFree}
 use Rattle.array_core.specs.Meanwhile.{AreInForce}
 
@@ -36,19 +36,11 @@ pub record WroteFree (start now : Shelved) (r : Register) (lost : List Bool) (he
   pub cause : AreLost start now r lost
   pub synced : (i : ℕ) → IsMember (drives_of r) i → IsMember lost i ⊎ ((now.disk (drive i)).dirty ≡ [])
 
--- on the drives that aren't lost stand the next tables, and they hold the array
-pub record HoldNext (now : Shelved) (r : Register) (lost : List Bool) (tables : Tables) (held next : Content) : Type 0 where
+-- on the drives that aren't lost stand the next tables, and they keep the array
+pub record HoldTables (now : Shelved) (r : Register) (lost : List Bool) (tables : Tables) (held next : Content) : Type 0 where
   pub stand : (left : List Bool) → ((i : ℕ) → IsMember left i → IsMember (drives_of r) i × ¬ (IsMember lost i))
       → DataHolds (geometry_of now) left (λ d. (now.disk d).bytes) (with_tables r.record tables) next.patches next.base
-  pub base : next.base ≡ array_of held
-  pub log : next.log ≡ []
-
--- on the drives that aren't lost stand the next tables, and they hold the same base, from which the same log goes on
-pub record HoldMerged (now : Shelved) (r : Register) (lost : List Bool) (tables : Tables) (held next : Content) : Type 0 where
-  pub stand : (left : List Bool) → ((i : ℕ) → IsMember left i → IsMember (drives_of r) i × ¬ (IsMember lost i))
-      → DataHolds (geometry_of now) left (λ d. (now.disk d).bytes) (with_tables r.record tables) next.patches next.base
-  pub base : next.base ≡ held.base
-  pub log : next.log ≡ held.log
+  pub keeps : KeepsArray r tables held next
 
 -- ---- what is written, and what is lost
 

@@ -5,16 +5,16 @@ ghost use Rattle.pur_base.specs.declared.device.Device.{Device};
 ghost use Rattle.boot_codec.specs.Record.{set_count};
 ghost use Rattle.boot_codec.specs.Region.{names};
 ghost use Rattle.world.specs.Losing.{geometry_of};
-ghost use Rattle.world.specs.Shelf.{Continues, LeavesOnly};
-ghost use Rattle.world.specs.Writes.{WritesOnly};
-ghost use Rattle.boot_region.specs.Members.{IsMember, DroppedFailed};
+ghost use Rattle.world.specs.Shelf.{LeavesOnly};
+ghost use Rattle.world.specs.Ran.{Ran};
+ghost use Rattle.boot_region.specs.Members.{IsMember};
 ghost use Rattle.nvram_log.specs.Held.{HoldsOn, Keeps};
 ghost use Rattle.nvram_log.specs.Members as nv;
-ghost use Rattle.register.specs.Registers.{IsLaterRecord, IsRegisterOf, drives_of};
+ghost use Rattle.register.specs.Registers.{IsLaterRecord, IsRegisterOf};
 ghost use Rattle.register.specs.Standing.{Content, IsOpen, array_of};
 ghost use Rattle.array_core.specs.declared.performing.PerformFault.TheVariants.{Device as DeviceFault};
 ghost use Rattle.array_core.specs.Performing.{IsKeptAt};
-ghost use Rattle.array_core.specs.Holding.{IsHolderBy};
+ghost use Rattle.array_core.specs.Holding.{DropsFailedBy, IsHolderBy};
 ghost use Rattle.array_core.specs.Performing.{IsLostBy};
 ghost use Rattle.array_core.specs.Switching.{OnSlotsAndLog};
 
@@ -32,16 +32,13 @@ pub(crate) fn clear_log<S: Shelf>(
     requires is_of { IsRegisterOf (geometry_of (S.shelf shelf.old)) register.old }
     requires flushed { register.old.record.flushed ≡ log.old.flushed + log.old.count }
     requires not_spent { register.old.record.generation < 2 ^ 48 - 16 }
-    ensures continues { Continues (S.shelf shelf.old) (S.shelf shelf.new) }
-    ensures rest { S.shelf_rest shelf.old shelf.new }
+    ensures ran { Ran S.shelf S.shelf_rest (λ d. Unit {0}) (OnSlotsAndLog register.old log.old.members) shelf.old shelf.new }
     ensures is_of { IsRegisterOf (geometry_of (S.shelf shelf.new)) register.new }
     ensures later { IsLaterRecord register.old.record register.new.record }
     ensures few { register.new.record.generation ≤ register.old.record.generation + 3 }
     ensures fewer { (i : ℕ) → IsMember register.new.drives i → IsMember register.old.drives i }
     ensures fewer_logs { nv.IsFewer log.old.members log.new.members }
-    ensures dropped { DroppedFailed (S.shelf shelf.old) (S.shelf shelf.new) (drives_of register.old) (drives_of register.new) }
-    ensures dropped_logs { nv.DroppedFailed (S.shelf shelf.old) (S.shelf shelf.new) log.old.members log.new.members }
-    ensures writes { (S.shelf shelf.old).honest → WritesOnly (OnSlotsAndLog register.old log.old.members) (S.shelf shelf.old) (S.shelf shelf.new) }
+    ensures dropped { DropsFailedBy (S.shelf shelf.old) (S.shelf shelf.new) register.old log.old.members register.new log.new.members }
     ensures named { OnOk result ((d : Device) → names register.new.record d ≡ true → (names register.old.record d ≡ true) ⊎ IsHolderBy register.old log.old.members d) }
     ensures drives { OnOk result (register.old.record.members.drives ≡ register.old.drives → register.new.record.members.drives ≡ register.new.drives) }
     ensures enough { OnOk result (register.old.record.slots ≤ set_count register.old.drives + 2 → register.new.record.slots ≤ set_count register.new.drives + 2) }

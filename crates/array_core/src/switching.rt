@@ -3,8 +3,8 @@ ghost use Rattle.std.specs.Prelude.{◌≡◌, ◌⊎◌, ◌<◌, ◌≤◌, �
 ghost use Rattle.pur_base.specs.Devices.{IsBearable};
 ghost use Rattle.boot_codec.specs.Record.{IsBootRecord, set_count};
 ghost use Rattle.world.specs.Losing.{geometry_of};
-ghost use Rattle.world.specs.Shelf.{Continues, LeavesOnly, IsCountedBy};
-ghost use Rattle.world.specs.Writes.{WritesOnly};
+ghost use Rattle.world.specs.Shelf.{Continues, LeavesOnly};
+ghost use Rattle.world.specs.Ran.{Ran};
 ghost use Rattle.boot_region.specs.Members.{IsMember};
 ghost use Rattle.nvram_log.specs.Held.{HoldsOn, Keeps};
 ghost use Rattle.nvram_log.specs.Members.{IsFewer, IsSome};
@@ -16,18 +16,17 @@ ghost use Rattle.array_core.specs.Performing.{IsKeptAt};
 ghost use Rattle.array_core.specs.declared.performing.PerformFault.TheVariants.{Device};
 ghost use Rattle.array_core.specs.Holding.{DropsFailedBy, NoneJoinsBy};
 ghost use Rattle.array_core.specs.Performing.{IsLostBy};
-ghost use Rattle.array_core.specs.Switching.{AreLost, HoldNext, OnSlotsAndLog, WasOpen, WroteFree};
+ghost use Rattle.array_core.specs.Switching.{AreLost, HoldTables, OnSlotsAndLog, WasOpen, WroteFree};
 
 use crate::PerformFault;
 use crate::clearing::clear_log;
-use crate::leaving::leave_lost;
+use crate::merging::switch_tables;
 use boot_codec::DRIVE_FLAGS;
 use nvram_log::NvLog;
 use register::{Register, Tables};
 use world::Shelf;
 
-/// Ends a checkpoint that wrote these tables into free units, where the drives of the set lost writes: stores a record without these drives, where there are any, then one of the tables,
-/// and clears the log, whose commands they hold. Where a device fails meanwhile a record without it is stored. `Device` is the one fault: more devices failed than are borne.
+/// Makes these tables, which hold the commands of the log, those of the array as `switch_tables` does, and clears the log. Where a device fails meanwhile a record without it is stored. `Device` is the one fault: more devices failed than are borne.
 pub fn switch<S: Shelf>(
     register: &mut Register,
     log: &mut NvLog,
@@ -41,11 +40,8 @@ pub fn switch<S: Shelf>(
     requires lawful { IsBootRecord (with_tables register.old.record tables) }
     requires counted { tables.flushed ≡ register.old.record.flushed + log.old.count }
     requires not_spent { register.old.record.generation < 2 ^ 48 - 2 ^ 24 }
-    ensures continues { Continues (S.shelf shelf.old) (S.shelf shelf.new) }
-    ensures rest { S.shelf_rest shelf.old shelf.new }
+    ensures ran { Ran S.shelf S.shelf_rest (λ d. Unit {0}) (OnSlotsAndLog register.old log.old.members) shelf.old shelf.new }
     ensures of_shelf { IsRegisterOf (geometry_of (S.shelf shelf.new)) register.new }
-    ensures writes { (S.shelf shelf.old).honest → WritesOnly (OnSlotsAndLog register.old log.old.members) (S.shelf shelf.old) (S.shelf shelf.new) }
-    ensures moments { (S.shelf shelf.old).honest → LeavesOnly (S.shelf shelf.old) (S.shelf shelf.new) (IsCountedBy (S.shelf shelf.old)) }
     // It is a record of these tables then, and before of those that were.
     ensures record { OnOk result (IsLaterRecord (with_tables register.old.record tables) register.new.record) }
     ensures kept { IsLaterRecord register.old.record register.new.record ⊎ IsLaterRecord (with_tables register.old.record tables) register.new.record }
@@ -65,14 +61,13 @@ pub fn switch<S: Shelf>(
         → IsLostBy (S.shelf start) (S.shelf shelf.new) register.old log.old.members)) }
     // Then the array is open with these tables, and the log is empty.
     ensures done { (S.shelf shelf.old).honest → OnOk result ((start : S) (held next : Content) → WasOpen (S.shelf start) register.old log.old held → WroteFree (S.shelf start) (S.shelf shelf.old) register.old lost.now held
-        → HoldNext (S.shelf shelf.old) register.old lost.now tables held next
+        → HoldTables (S.shelf shelf.old) register.old lost.now tables held next
         → IsOpen (S.shelf shelf.new) register.new log.new.members next × HoldsOn (S.shelf shelf.new) log.new.members log.new.flushed []) }
     // At every moment a session can go on with the array.
     ensures any_moment { (S.shelf shelf.old).honest → (start : S) (held next : Content) → WasOpen (S.shelf start) register.old log.old held → WroteFree (S.shelf start) (S.shelf shelf.old) register.old lost.now held
-        → HoldNext (S.shelf shelf.old) register.old lost.now tables held next
+        → HoldTables (S.shelf shelf.old) register.old lost.now tables held next
         → LeavesOnly (S.shelf shelf.old) (S.shelf shelf.new) (IsKeptAt (S.shelf start) register.old.record (array_of held ∷ [])) }
 {
-    leave_lost(register, log.members(), lost, shelf)?;
-    register.store_tables(tables, shelf)?;
+    switch_tables(register, log, tables, lost, shelf)?;
     clear_log(register, log, shelf)
 }

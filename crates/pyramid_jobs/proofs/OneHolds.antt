@@ -1,5 +1,5 @@
 -- Once the one patch was written the next tables hold the same base, on the drives that aren't lost.
-use Rattle.std.proofs.Common.{ℕ, List, [], ◌∷◌, map, refl, sym, ap, subst, Bool, Option, Some, None}
+use Rattle.std.proofs.Common.{inr, ℕ, List, [], ◌∷◌, map, refl, sym, ap, subst, Bool, Option, Some, None}
 use Rattle.std.specs.List.{AllZip}
 use Rattle.pur_base.specs.Devices.{Geometry, View}
 use Rattle.pur_base.specs.declared.request.Table.{Table}
@@ -32,7 +32,7 @@ use Rattle.array_core.specs.Free.{WritesFree}
 use Rattle.array_core.proofs.Kept.{free_writes_leave}
 use Rattle.array_core.specs.declared.array.Array.{Array}
 use Rattle.array_core.specs.Ready.{IsArrayOf, IsReady}
-use Rattle.array_core.specs.Switching.{HoldMerged}
+use Rattle.array_core.specs.Switching.{HoldTables}
 use Rattle.array_core.proofs.Stages.{later_itself}
 use Rattle.session_spec.specs.Entering.{read_now}
 use Rattle.array_checkpoint.proofs.Left.{AreLeft, among_record, enough_before, not_lost, own_size}
@@ -113,9 +113,8 @@ module _ (a b : Shelved) (is : IsShelf a) (is_b : IsShelf b) (honest : a.honest)
 
 pub holds_merged : (a b : Shelved) → IsShelf a → IsShelf b → a.honest → (x : Array) (t : Table) (i : ℕ) (q : Prepared) → IsArrayOf (geometry_of a) x → IsPreparedFor x t i q → Continues a b → (lost : List Bool)
     → OneStands b q.added lost (merged_facts q.merged) → (held : Content) → IsReady a x held → WritesFree x.register held a b
-    → HoldMerged b x.register lost q.tables held (held_after x.memory.memory i q.merged held)
+    → HoldTables b x.register lost q.tables held (held_after x.memory.memory i q.merged held)
 holds_merged a b is is_b honest x t i q of h on lost stands held ready free = record {
   stand = λ left fewer members among enough. holds a b is is_b honest x t i q of h on lost stands held ready free left fewer members among enough;
-  base = refl;
-  log = refl;
+  keeps = inr (record { flushed = h.flushed; log = refl; base = refl });
 }

@@ -3,8 +3,10 @@ ghost use Rattle.std.specs.Prelude.{◌≡◌, ◌<◌, ◌-◌, [], ◌∷◌, 
 ghost use Rattle.pur_base.specs.Devices.{IsBearable};
 ghost use Rattle.pur_base.specs.Plain as plain;
 ghost use Rattle.world.specs.Losing.{geometry_of};
-ghost use Rattle.world.specs.Shelf.{Continues, LeavesOnly, IsCountedBy};
-ghost use Rattle.register.specs.Registers.{named_sound};
+ghost use Rattle.world.specs.Ran.{Ran};
+ghost use Rattle.world.specs.Shelf.{Continues, LeavesOnly};
+ghost use Rattle.boot_region.specs.Members.{IsDrive};
+ghost use Rattle.register.specs.Registers.{OnSlots, drives_of};
 ghost use Rattle.register.specs.Standing.{Content, array_of};
 ghost use Rattle.memory_spec.specs.Memory.{Contents, ReadsAs};
 ghost use Rattle.memory_spec.specs.Tables.{facts};
@@ -15,7 +17,7 @@ ghost use Rattle.array_core.specs.Performing.{IsKeptAt};
 ghost use Rattle.array_core.specs.declared.performing.PerformFault.TheVariants.{Device};
 ghost use Rattle.array_core.specs.Holding.{DropsFailedBy, NoneJoinsBy};
 ghost use Rattle.array_core.specs.Performing.{IsLostBy};
-ghost use Rattle.array_core.specs.Switching.{AreLost, HoldMerged, WasOpen, WroteFree};
+ghost use Rattle.array_core.specs.Switching.{AreLost, HoldTables, WasOpen, WroteFree};
 ghost use Rattle.array_checkpoint.specs.Made.{HoldOnLeft};
 ghost use Rattle.pyramid_jobs.specs.Made.{HasMerged};
 ghost use Rattle.pyramid_jobs.specs.Prepared.{held_after, IsPreparedFor};
@@ -38,9 +40,7 @@ pub(crate) fn take_over<S: Shelf>(
     requires is_of { IsArrayOf (geometry_of (S.shelf shelf.old)) array.old }
     requires prepared { IsPreparedFor array.old table index prepared }
     requires unspent { is_spent array.old ≡ false }
-    ensures continues { Continues (S.shelf shelf.old) (S.shelf shelf.new) }
-    ensures rest { S.shelf_rest shelf.old shelf.new }
-    ensures moments { (S.shelf shelf.old).honest → LeavesOnly (S.shelf shelf.old) (S.shelf shelf.new) (IsCountedBy (S.shelf shelf.old)) }
+    ensures ran { Ran S.shelf S.shelf_rest IsDrive (OnSlots (drives_of array.old.register)) shelf.old shelf.new }
     ensures is_of { OnOk result (IsArrayOf (geometry_of (S.shelf shelf.new)) array.new) }
     ensures merged { OnOk result (HasMerged (geometry_of (S.shelf shelf.old)) table index array.old array.new) }
     ensures unfinished { OnErr result (array.new.memory ≡ array.old.memory) }
@@ -56,14 +56,14 @@ pub(crate) fn take_over<S: Shelf>(
     // Where the devices held the array, and hold it by the new tables, they do so by these alone.
     ensures done { (S.shelf shelf.old).honest → OnOk result ((start : S) (held : Content) → WasOpen (S.shelf start) array.old.register array.old.log held
         → WroteFree (S.shelf start) (S.shelf shelf.old) array.old.register lost.now.drives held
-        → HoldMerged (S.shelf shelf.old) array.old.register lost.now.drives prepared.tables held (held_after array.old.memory.memory index prepared.merged held)
+        → HoldTables (S.shelf shelf.old) array.old.register lost.now.drives prepared.tables held (held_after array.old.memory.memory index prepared.merged held)
         → (contents : Contents) → ReadsAs contents array.old.memory.memory (array_of held)
         → HoldOnLeft (S.shelf shelf.old) array.old.register lost.now.drives contents (facts array.old.memory.memory.tables)
         → IsReady (S.shelf shelf.new) array.new (held_after array.old.memory.memory index prepared.merged held)) }
     // At every moment a session can go on with the array.
     ensures any_moment { (S.shelf shelf.old).honest → (start : S) (held : Content) → WasOpen (S.shelf start) array.old.register array.old.log held
         → WroteFree (S.shelf start) (S.shelf shelf.old) array.old.register lost.now.drives held
-        → HoldMerged (S.shelf shelf.old) array.old.register lost.now.drives prepared.tables held (held_after array.old.memory.memory index prepared.merged held)
+        → HoldTables (S.shelf shelf.old) array.old.register lost.now.drives prepared.tables held (held_after array.old.memory.memory index prepared.merged held)
         → LeavesOnly (S.shelf shelf.old) (S.shelf shelf.new) (IsKeptAt (S.shelf start) array.old.register.record (array_of held ∷ [])) }
 {
     let Prepared {

@@ -9,7 +9,7 @@ ghost use Rattle.memory_spec.specs.Tables.{facts};
 ghost use Rattle.array_core.specs.Drives.{SegmentsHold};
 ghost use Rattle.array_core.specs.Ready.{IsArrayOf, IsReady};
 ghost use Rattle.array_core.specs.Performing.{IsKeptAt};
-ghost use Rattle.array_core.specs.Switching.{AreLost, HoldMerged, WroteFree};
+ghost use Rattle.array_core.specs.Switching.{AreLost, HoldTables, WroteFree};
 ghost use Rattle.array_checkpoint.specs.Made.{HoldOnLeft};
 ghost use Rattle.pyramid_jobs.specs.Prepared.{held_after, IsPreparedFor};
 
@@ -39,7 +39,7 @@ pub(crate) fn write_prepared<S: Shelf>(
         → WroteFree (S.shelf shelf.old) (S.shelf shelf.new) array.now.register lost.drives held) }
     // On the drives that aren't lost the tables that are stored next hold the same base.
     ensures hold { (S.shelf shelf.old).honest → IfOk result (λ lost. (t : Table) (i : ℕ) (held : Content) → IsPreparedFor array.now t i prepared.now → IsReady (S.shelf shelf.old) array.now held
-        → HoldMerged (S.shelf shelf.new) array.now.register lost.drives prepared.now.tables held (held_after array.now.memory.memory i prepared.now.merged held)) }
+        → HoldTables (S.shelf shelf.new) array.now.register lost.drives prepared.now.tables held (held_after array.now.memory.memory i prepared.now.merged held)) }
     // What data segments held they hold.
     ensures contents { (S.shelf shelf.old).honest → IfOk result (λ lost. (contents : Contents) → SegmentsHold contents (S.shelf shelf.old) array.now.register (facts array.now.memory.memory.tables)
         → HoldOnLeft (S.shelf shelf.new) array.now.register lost.drives contents (facts array.now.memory.memory.tables)) }

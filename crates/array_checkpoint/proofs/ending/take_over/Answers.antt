@@ -33,7 +33,7 @@ returns-clause-is_of g c =
     let now : Array = record { memory = c.finish.new.self; log = c.switch.new.log; register = c.switch.new.register } in
     let x = c.switch.ensures in
     let y = c.in_ok-switch.ensures in
-    let is : IsArrayOf (geometry_of n) was = subst (λ (s : Geometry). IsArrayOf s was) (same_shelf x.continues) c.requires.is_of in
+    let is : IsArrayOf (geometry_of n) was = subst (λ (s : Geometry). IsArrayOf s was) (same_shelf x.ran.on.continues) c.requires.is_of in
     is_array (geometry_of n) was c.args.prepared is c.requires.prepared c.requires.few now y.record c.finish.ensures.memory x.of_shelf y.flushed y.cleared.1 y.cleared.0 c.finish.ensures.room c.finish.ensures.objects
 
 pub returns-clause-flushed : goal.returns-clause-flushed
@@ -57,13 +57,13 @@ returns-clause-segments g c h contents hold =
     let x = c.switch.ensures in
     let y = c.in_ok-switch.ensures in
     let now : Array = record { memory = c.finish.new.self; log = c.switch.new.log; register = r } in
-    let is : IsArrayOf (geometry_of a) now = subst (λ (s : Geometry). IsArrayOf s now) (sym (same_shelf x.continues)) (returns-clause-is_of g c) in
+    let is : IsArrayOf (geometry_of a) now = subst (λ (s : Geometry). IsArrayOf s now) (sym (same_shelf x.ran.on.continues)) (returns-clause-is_of g c) in
     let members = x.of_shelf.lawful.lawful.members in
     let left = drives_left (geometry_of n) r r x.of_shelf (later_itself r.record) y.drives members.drive_flags members.within y.enough in
-    let slots : n.drives ≡ a.drives = x.continues.drives in
+    let slots : n.drives ≡ a.drives = x.ran.on.continues.drives in
     let hold_now : HoldOnLeft a was.register c.args.lost.now.drives contents (facts c.finish.new.self.memory.tables) =
     subst (λ (f : Facts). HoldOnLeft a was.register c.args.lost.now.drives contents f) (sym (facts_same (after_plan was.memory.memory c.args.prepared.plan) c.finish.new.self.memory c.finish.ensures.memory)) hold in
-    hold_left a n was.register r was.log.members c.args.lost.now.drives contents (facts c.finish.new.self.memory.tables) (x.writes h)
+    hold_left a n was.register r was.log.members c.args.lost.now.drives contents (facts c.finish.new.self.memory.tables) (x.ran.on.writes h)
     (left.0 ∙ slots) (let enough = left.1 in omega (arith, enough, slots))
     (fewer_left was.register r c.args.lost.now.drives (ap (λ (b : BootRecord). b.slots) y.record.rest) x.fewer)
     is.segments.places hold_now

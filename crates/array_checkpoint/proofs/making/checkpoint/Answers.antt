@@ -4,6 +4,7 @@ use Rattle.pur_base.specs.Devices.{Geometry}
 use Rattle.boot_codec.specs.Record.{patch_segments}
 use Rattle.world.specs.Losing.{geometry_of}
 use Rattle.world.proofs.Moments.{continues_trans, then_run}
+use Rattle.world.proofs.Ran.{runs_moments}
 use Rattle.world.specs.Shelf.{LeavesOnly}
 use Rattle.register.specs.declared.state.Register.{Register}
 use Rattle.register.specs.Standing.{Content, array_of}
@@ -40,10 +41,10 @@ take_over-requires-clause-few g c = subst (λ (r : Register). patch_segments r.r
 -- ---- once it is made
 
 pub returns-clause-continues : goal.returns-clause-continues
-returns-clause-continues g c = continues_trans c.write_prepared.ensures.continues c.take_over.ensures.continues
+returns-clause-continues g c = continues_trans c.write_prepared.ensures.continues c.take_over.ensures.ran.on.continues
 
 pub returns-clause-rest : goal.returns-clause-rest
-returns-clause-rest g c = g.met.S.Shelf.shelf_rest_stays.transitive _ _ _ c.write_prepared.ensures.rest c.take_over.ensures.rest
+returns-clause-rest g c = g.met.S.Shelf.shelf_rest_stays.transitive _ _ _ c.write_prepared.ensures.rest c.take_over.ensures.ran.rest
 
 pub returns-clause-flushed : goal.returns-clause-flushed
 returns-clause-flushed g c = flushed_since c.args.array.now c.prepare.new.array c.prepare.ensures.like c.take_over.new.array c.in_ok-take_over.ensures.flushed
@@ -54,7 +55,7 @@ returns-clause-objects g c = c.take_over.ensures.objects ∙ same_objects c.args
 pub returns-clause-moments : goal.returns-clause-moments
 returns-clause-moments g c h =
     let on = c.write_prepared.ensures.continues in
-    counted_since on (c.write_prepared.ensures.moments h) (c.take_over.ensures.moments (on.honest h))
+    counted_since on (c.write_prepared.ensures.moments h) (runs_moments c.take_over.ensures.ran.on (on.honest h))
 
 pub returns-clause-goes : goal.returns-clause-goes
 returns-clause-goes g c =
@@ -70,7 +71,7 @@ returns-clause-goes g c =
     let x = c.in_ok-take_over.ensures in
     let roomed : (held : Content) → IsReady a was held → IsReady a mid held = λ held ready. like_is_ready a was mid held like ready in
     record {
-      ran = record { continues = continues_trans on c.take_over.ensures.continues; counted = λ h. counted_since on (c.write_prepared.ensures.moments h) (c.take_over.ensures.moments (on.honest h)) };
+      ran = record { continues = continues_trans on c.take_over.ensures.ran.on.continues; counted = λ h. counted_since on (c.write_prepared.ensures.moments h) (runs_moments c.take_over.ensures.ran.on (on.honest h)) };
       is_of = x.is_of;
       hands_on = hands a n was now (drops was mid like a n now (c.take_over.ensures.dropped c.args.shelf.now on w.lost)) (joins was mid like now x.joins);
       accepted = λ contents z r. tt;
@@ -98,15 +99,15 @@ returns-clause-goes g c =
 -- ---- where the tables could not be taken over
 
 pub returns-in_err-take_over-clause-continues : goal.returns-in_err-take_over-clause-continues
-returns-in_err-take_over-clause-continues g c = continues_trans c.write_prepared.ensures.continues c.take_over.ensures.continues
+returns-in_err-take_over-clause-continues g c = continues_trans c.write_prepared.ensures.continues c.take_over.ensures.ran.on.continues
 
 pub returns-in_err-take_over-clause-rest : goal.returns-in_err-take_over-clause-rest
-returns-in_err-take_over-clause-rest g c = g.met.S.Shelf.shelf_rest_stays.transitive _ _ _ c.write_prepared.ensures.rest c.take_over.ensures.rest
+returns-in_err-take_over-clause-rest g c = g.met.S.Shelf.shelf_rest_stays.transitive _ _ _ c.write_prepared.ensures.rest c.take_over.ensures.ran.rest
 
 pub returns-in_err-take_over-clause-moments : goal.returns-in_err-take_over-clause-moments
 returns-in_err-take_over-clause-moments g c h =
     let on = c.write_prepared.ensures.continues in
-    counted_since on (c.write_prepared.ensures.moments h) (c.take_over.ensures.moments (on.honest h))
+    counted_since on (c.write_prepared.ensures.moments h) (runs_moments c.take_over.ensures.ran.on (on.honest h))
 
 pub returns-in_err-take_over-clause-objects : goal.returns-in_err-take_over-clause-objects
 returns-in_err-take_over-clause-objects g c = c.take_over.ensures.objects ∙ same_objects c.args.array.now c.prepare.new.array c.prepare.ensures.like
@@ -125,7 +126,7 @@ returns-in_err-take_over-clause-fault g c =
     let ready = like_is_ready a was mid held like is_ready in
     subst (λ (r : Register). LeavesOnly a n (IsKeptAt a r.record (array_of held ∷ []))) like.register
     (then_run on (c.write_prepared.ensures.any_moment h held ready) (c.take_over.ensures.any_moment (on.honest h) c.args.shelf.now held (was_open a mid held ready) (w.free h held ready) (w.hold h held ready)))) in
-    let ran : Calls a n = record { continues = continues_trans on c.take_over.ensures.continues; counted = λ h. counted_since on (c.write_prepared.ensures.moments h) (c.take_over.ensures.moments (on.honest h)) } in
+    let ran : Calls a n = record { continues = continues_trans on c.take_over.ensures.ran.on.continues; counted = λ h. counted_since on (c.write_prepared.ensures.moments h) (runs_moments c.take_over.ensures.ran.on (on.honest h)) } in
     err_is c.from_residual-in_err-take_over.result _ q.0 q.1 (subst (λ (e : CheckpointFault). IsFaultOf a n was (IsLike was c.take_over.new.array × (c.take_over.new.shelf ≡ c.args.shelf.now)) e) (sym q.2)
     (lost_halts a n was [] ran c.requires.is_of (too_much was mid like a n (c.in_err-take_over.ensures.fault.1 c.args.shelf.now on w.lost)) moments))
 

@@ -1,9 +1,9 @@
-use Rattle.std.proofs.Common.{◌≡◌, ◌∙◌, inl, inr, ℕ, ◌+◌, ◌-◌, ◌^◌, ◌<◌, [], List, Bool, Result, IfErr, arith, sym, ap, subst}
+use Rattle.std.proofs.Common.{rules, ◌≡◌, ◌∙◌, inl, inr, ℕ, ◌+◌, ◌-◌, ◌^◌, ◌<◌, [], List, Bool, Result, IfErr, arith, length, refl, sym, ap, subst}
 use Rattle.std.proofs.lemmas.Result.{err_from_is_err_and}
 use Rattle.pur_base.specs.Devices.{drive, nvram}
 use Rattle.boot_codec.specs.declared.record.BootRecord.{BootRecord}
 use Rattle.world.proofs.Moments.{continues_refl}
-use Rattle.world.proofs.Writes.{writes_then, writes_more}
+use Rattle.world.proofs.Ran.{ran_more, ran_then}
 use Rattle.boot_region.specs.Members.{DroppedFailed}
 use Rattle.nvram_log.specs.Held.{HoldsOn}
 use Rattle.register.specs.Registers.{drives_of}
@@ -14,6 +14,7 @@ use Rattle.array_core.specs.declared.performing.PerformFault.{PerformFault}
 use Rattle.array_core.specs.declared.performing.PerformFault.TheVariants.{Device}
 use Rattle.array_core.specs.Performing.{IsLostBy}
 use Rattle.array_core.proofs.Cleared.{all_moments, clear_moments, clearing, logged_left, still_open}
+use Rattle.array_core.proofs.Dropped.{drops_failed}
 use Rattle.array_core.proofs.LostOnWay.{drives_lost, rises_since}
 use Rattle.array_core.proofs.Tables.{still_holds}
 use Rattle.array_core.proofs.clearing.clear_log.Goals as goal
@@ -51,15 +52,51 @@ returns-then-eq-clause-held g c h commands next o empty keeps holds =
     let same : now ≡ log.members = sym c.members-members.ensures ∙ same_flags c.members-members.result c.members-before.result c.if-eq.ensures ∙ c.members-before.ensures in
     (still_open a m r log.members now next p held_then same, c.in_ok-clear.ensures.holds h commands keeps holds)
 
-pub returns-in_err-store-clause-writes : goal.returns-in_err-store-clause-writes
-returns-in_err-store-clause-writes g c h =
-    let x = c.clear.ensures in
-    writes_then x.ran.on.continues (writes_more (λ d i w. inr w) (x.ran.on.writes h)) (writes_more (λ d i w. inl w) (c.store.ensures.ran.on.writes (x.ran.on.continues.honest h)))
+pub returns-in_err-clear-clause-ran : goal.returns-in_err-clear-clause-ran
+returns-in_err-clear-clause-ran g c = ran_more (λ d is. tt) (λ d i w. inr w) c.clear.ensures.ran
 
-pub returns-clause-writes : goal.returns-clause-writes
-returns-clause-writes g c h =
+pub returns-then-eq-clause-ran : goal.returns-then-eq-clause-ran
+returns-then-eq-clause-ran g c = ran_more (λ d is. tt) (λ d i w. inr w) c.clear.ensures.ran
+
+pub returns-in_err-store-clause-ran : goal.returns-in_err-store-clause-ran
+returns-in_err-store-clause-ran g c =
+    ran_then g.met.S.Shelf.shelf_rest_stays (ran_more (λ d is. tt) (λ d i w. inr w) c.clear.ensures.ran) (ran_more (λ d is. tt) (λ d i w. inl w) c.store.ensures.ran)
+
+pub returns-clause-ran : goal.returns-clause-ran
+returns-clause-ran g c =
+    ran_then g.met.S.Shelf.shelf_rest_stays (ran_more (λ d is. tt) (λ d i w. inr w) c.clear.ensures.ran) (ran_more (λ d is. tt) (λ d i w. inl w) c.store.ensures.ran)
+
+pub returns-in_err-clear-clause-dropped : goal.returns-in_err-clear-clause-dropped
+returns-in_err-clear-clause-dropped g c =
+    let m = g.S.Shelf.shelf c.clear.new.shelf in
+    let r = c.args.register.now in
     let x = c.clear.ensures in
-    writes_then x.ran.on.continues (writes_more (λ d i w. inr w) (x.ran.on.writes h)) (writes_more (λ d i w. inl w) (c.store.ensures.ran.on.writes (x.ran.on.continues.honest h)))
+    let two : length c.args.log.now.members ≡ 2 = search rules in
+    drops_failed (g.S.Shelf.shelf c.args.shelf.now) m m r r c.args.log.now.members c.clear.new.self.members two (λ i. x.ran.on.others (drive i) (λ none. none)) (λ k. refl) x.dropped (λ i is. inl is)
+
+pub returns-then-eq-clause-dropped : goal.returns-then-eq-clause-dropped
+returns-then-eq-clause-dropped g c =
+    let m = g.S.Shelf.shelf c.clear.new.shelf in
+    let r = c.args.register.now in
+    let x = c.clear.ensures in
+    let two : length c.args.log.now.members ≡ 2 = search rules in
+    drops_failed (g.S.Shelf.shelf c.args.shelf.now) m m r r c.args.log.now.members c.clear.new.self.members two (λ i. x.ran.on.others (drive i) (λ none. none)) (λ k. refl) x.dropped (λ i is. inl is)
+
+pub returns-in_err-store-clause-dropped : goal.returns-in_err-store-clause-dropped
+returns-in_err-store-clause-dropped g c =
+    let x = c.clear.ensures in
+    let y = c.store.ensures in
+    let two : length c.args.log.now.members ≡ 2 = search rules in
+    drops_failed (g.S.Shelf.shelf c.args.shelf.now) (g.S.Shelf.shelf c.clear.new.shelf) (g.S.Shelf.shelf c.store.new.shelf) c.args.register.now c.store.new.self c.args.log.now.members c.clear.new.self.members two
+    (λ i. x.ran.on.others (drive i) (λ none. none)) (λ k. y.ran.on.others (nvram k) (λ none. none)) x.dropped y.dropped
+
+pub returns-clause-dropped : goal.returns-clause-dropped
+returns-clause-dropped g c =
+    let x = c.clear.ensures in
+    let y = c.store.ensures in
+    let two : length c.args.log.now.members ≡ 2 = search rules in
+    drops_failed (g.S.Shelf.shelf c.args.shelf.now) (g.S.Shelf.shelf c.clear.new.shelf) (g.S.Shelf.shelf c.store.new.shelf) c.args.register.now c.store.new.self c.args.log.now.members c.clear.new.self.members two
+    (λ i. x.ran.on.others (drive i) (λ none. none)) (λ k. y.ran.on.others (nvram k) (λ none. none)) x.dropped y.dropped
 
 pub returns-in_err-store-clause-lost : goal.returns-in_err-store-clause-lost
 returns-in_err-store-clause-lost g c =

@@ -189,7 +189,7 @@ returns-clause-dropped g c =
     let now : Array = record { memory = was.memory; log = c.append.new.self; register = c.store.new.self } in
     let x = c.append.ensures in
     let two : length was.log.members ≡ 2 = search rules in (
-      drops_failed a m n was now two (λ i. x.ran.on.others (drive i) (λ none. none)) (λ k. c.store.ensures.ran.on.others (nvram k) (λ none. none)) x.dropped c.store.ensures.dropped,
+      drops_failed a m n was.register now.register was.log.members now.log.members two (λ i. x.ran.on.others (drive i) (λ none. none)) (λ k. c.store.ensures.ran.on.others (nvram k) (λ none. none)) x.dropped c.store.ensures.dropped,
       none_joins (geometry_of a) was now c.members-members.result c.requires.is_of.of_shelf c.store.ensures.later c.store.ensures.fewer x.fewer c.members-members.ensures c.in_ok-store.ensures.members,
     )
 

@@ -1,12 +1,12 @@
 use Rattle.std.proofs.Common.{◌≡◌, ◌-◌, ◌^◌, ◌<◌, [], ◌∷◌, arith, sym, ap, subst}
 use Rattle.boot_codec.specs.declared.record.BootRecord.{BootRecord}
 use Rattle.world.proofs.Moments.{started}
-use Rattle.world.proofs.Writes.{writes_more}
+use Rattle.world.proofs.Ran.{ran_more, ran_none}
 use Rattle.register.specs.declared.state.Register.{Register}
 use Rattle.register.specs.Registers.{drives_of}
 use Rattle.register.specs.Standing.{IsOpen, array_of}
-use Rattle.register.proofs.Stores.{fewer_cut, on_more}
 use Rattle.register.proofs.Moments.{stands_at, gives_at}
+use Rattle.array_core.proofs.Holders.{is_drive, slots_of_more}
 use Rattle.array_core.proofs.Kept.{free_writes_keep_open, free_writes_leave}
 use Rattle.array_core.specs.Performing.{IsKeptAt}
 use Rattle.array_core.proofs.FreeWrites.{all_synced, kept_then, left_then, may_leave}
@@ -35,11 +35,14 @@ returns-then-not-lose-clause-any_moment g c h start held o in_force w =
     started a (IsKeptAt s r.record (array_of held ∷ [])) (g.met.S.Shelf.is_shelf c.args.shelf.now)
     (λ stop may. kept_then s is hs r c.args.nvrams held o stop (left_then s is hs r c.args.nvrams held o a w.free stop may) in_force)
 
-pub returns-clause-writes : goal.returns-clause-writes
-returns-clause-writes g c h =
+pub returns-then-not-lose-clause-ran : goal.returns-then-not-lose-clause-ran
+returns-then-not-lose-clause-ran g c = ran_none g.met.S.Shelf.shelf_rest_stays c.args.shelf.now (g.met.S.Shelf.is_shelf c.args.shelf.now)
+
+pub returns-clause-ran : goal.returns-clause-ran
+returns-clause-ran g c =
     let r = c.args.register.now in
     let now = c.lose.new.self in
-    writes_more (λ d i w. on_more (drives_of r) (drives_of now) (fewer_cut r now (ap (λ (b : BootRecord). b.slots) c.lose.ensures.record) (λ k m. ((c.lose.ensures.left k).0 m).0)) d i w) (c.store.ensures.ran.on.writes h)
+    ran_more (is_drive (drives_of now)) (slots_of_more r now (ap (λ (b : BootRecord). b.slots) c.lose.ensures.record) (λ k m. ((c.lose.ensures.left k).0 m).0)) c.store.ensures.ran
 
 low : (g : given.Over) (c : goal.After-store g) → c.store.new.self.record.generation < 2 ^ 48 - 8
 low g c = let e : c.lose.new.self.record.generation ≡ c.args.register.now.record.generation = ap (λ (b : BootRecord). b.generation) c.lose.ensures.record in omega (arith, e, c.store.ensures.few, c.requires.not_spent)

@@ -7,6 +7,7 @@ use Rattle.register.specs.Standing.{array_of}
 use Rattle.memory_spec.specs.Tables.{facts}
 use Rattle.array_core.specs.declared.array.Array.{Array}
 use Rattle.array_core.specs.Ready.{IsArrayOf}
+use Rattle.array_core.proofs.Holders.{drives_failed}
 use Rattle.array_core.proofs.Segments.{drives_left}
 use Rattle.array_core.proofs.Stages.{later_itself}
 use Rattle.array_checkpoint.specs.Made.{HoldOnLeft}
@@ -28,6 +29,16 @@ switch_tables-requires-clause-not_spent g c = (are_low c.args.array.now c.requir
 pub put_merged-requires-clause-left : goal.put_merged-requires-clause-left
 put_merged-requires-clause-left g c = ids_left (geometry_of (g.S.Shelf.shelf c.args.shelf.now)) c.args.array.now c.args.table c.args.index c.args.prepared c.requires.is_of c.requires.prepared
 
+pub returns-in_err-switch_tables-clause-dropped : goal.returns-in_err-switch_tables-clause-dropped
+returns-in_err-switch_tables-clause-dropped g c start on are =
+    let was = c.args.array.now in
+    drives_failed (g.S.Shelf.shelf start) (g.S.Shelf.shelf c.switch_tables.new.shelf) was.register c.switch_tables.new.register was.log.members (c.switch_tables.ensures.dropped start on are)
+
+pub returns-clause-dropped : goal.returns-clause-dropped
+returns-clause-dropped g c start on are =
+    let was = c.args.array.now in
+    drives_failed (g.S.Shelf.shelf start) (g.S.Shelf.shelf c.switch_tables.new.shelf) was.register c.switch_tables.new.register was.log.members (c.switch_tables.ensures.dropped start on are)
+
 -- ---- once memory has the patch
 
 pub returns-clause-is_of : goal.returns-clause-is_of
@@ -38,7 +49,7 @@ returns-clause-is_of g c =
     let x = c.switch_tables.ensures in
     let y = c.in_ok-switch_tables.ensures in
     let l = c.layered.ensures in
-    let is : IsArrayOf (geometry_of n) was = subst (λ (s : Geometry). IsArrayOf s was) (same_shelf x.continues) c.requires.is_of in
+    let is : IsArrayOf (geometry_of n) was = subst (λ (s : Geometry). IsArrayOf s was) (same_shelf x.ran.on.continues) c.requires.is_of in
     is_array (geometry_of n) was c.args.table c.args.index c.args.prepared is c.requires.prepared now y.record refl c.put_merged.ensures.memory x.of_shelf
     (record { objects = l.objects; mediums = l.mediums; addresses = l.addresses; segments = l.segments; elisions = l.elisions })
 
@@ -64,13 +75,13 @@ returns-clause-segments g c h contents hold =
     let y = c.in_ok-switch_tables.ensures in
     let now : Array = record { memory = c.put_merged.new.self; log = was.log; register = r } in
     let fs = facts now.memory.memory.tables in
-    let is : IsArrayOf (geometry_of a) now = subst (λ (s : Geometry). IsArrayOf s now) (sym (same_shelf x.continues)) (returns-clause-is_of g c) in
+    let is : IsArrayOf (geometry_of a) now = subst (λ (s : Geometry). IsArrayOf s now) (sym (same_shelf x.ran.on.continues)) (returns-clause-is_of g c) in
     let members = x.of_shelf.lawful.lawful.members in
     let left = drives_left (geometry_of n) r r x.of_shelf (later_itself r.record) y.drives members.drive_flags members.within y.enough in
-    let slots : n.drives ≡ a.drives = x.continues.drives in
+    let slots : n.drives ≡ a.drives = x.ran.on.continues.drives in
     let hold_now : HoldOnLeft a was.register lost contents fs = λ drives fewer members among enough.
     contents_then (geometry_of a) was c.args.table c.args.index c.args.prepared c.requires.is_of c.requires.prepared now.memory c.put_merged.ensures.memory contents members (hold drives fewer members among enough) in
-    hold_left a n was.register r was.log.members lost contents fs (writes_more (λ d k w. inl w) (x.writes h))
+    hold_left a n was.register r was.log.members lost contents fs (writes_more (λ d k w. inl w) (x.ran.on.writes h))
     (left.0 ∙ slots) (let enough = left.1 in omega (arith, enough, slots))
     (fewer_left was.register r lost (ap (λ (b : BootRecord). b.slots) y.record.rest) x.fewer)
     is.segments.places hold_now

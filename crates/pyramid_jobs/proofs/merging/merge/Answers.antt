@@ -2,6 +2,7 @@ use Rattle.std.proofs.Common.{◌≡◌, [], sym, subst}
 use Rattle.std.proofs.lemmas.Result.{err_from_is_err_and}
 use Rattle.pur_base.specs.Devices.{Geometry}
 use Rattle.world.proofs.Moments.{continues_trans, then_run}
+use Rattle.world.proofs.Ran.{runs_moments}
 use Rattle.array_core.specs.Ready.{IsArrayOf}
 use Rattle.array_core.specs.Going.{Calls}
 use Rattle.array_core.proofs.Steps.{hands, lost_halts, same_meanwhile}
@@ -19,15 +20,15 @@ take_over-requires-clause-is_of g c = subst (λ (s : Geometry). IsArrayOf s c.ar
 -- ---- once it is made
 
 pub returns-clause-continues : goal.returns-clause-continues
-returns-clause-continues g c = continues_trans c.write_prepared.ensures.continues c.take_over.ensures.continues
+returns-clause-continues g c = continues_trans c.write_prepared.ensures.continues c.take_over.ensures.ran.on.continues
 
 pub returns-clause-rest : goal.returns-clause-rest
-returns-clause-rest g c = g.met.S.Shelf.shelf_rest_stays.transitive _ _ _ c.write_prepared.ensures.rest c.take_over.ensures.rest
+returns-clause-rest g c = g.met.S.Shelf.shelf_rest_stays.transitive _ _ _ c.write_prepared.ensures.rest c.take_over.ensures.ran.rest
 
 pub returns-clause-moments : goal.returns-clause-moments
 returns-clause-moments g c h =
     let on = c.write_prepared.ensures.continues in
-    counted_since on (c.write_prepared.ensures.moments h) (c.take_over.ensures.moments (on.honest h))
+    counted_since on (c.write_prepared.ensures.moments h) (runs_moments c.take_over.ensures.ran.on (on.honest h))
 
 pub returns-clause-goes : goal.returns-clause-goes
 returns-clause-goes g c =
@@ -40,7 +41,7 @@ returns-clause-goes g c =
     let w = c.in_ok-lost.ensures in
     let x = c.in_ok-take_over.ensures in
     record {
-      ran = record { continues = continues_trans on c.take_over.ensures.continues; counted = λ h. counted_since on (c.write_prepared.ensures.moments h) (c.take_over.ensures.moments (on.honest h)) };
+      ran = record { continues = continues_trans on c.take_over.ensures.ran.on.continues; counted = λ h. counted_since on (c.write_prepared.ensures.moments h) (runs_moments c.take_over.ensures.ran.on (on.honest h)) };
       is_of = x.is_of;
       hands_on = hands a n was now (c.take_over.ensures.dropped c.args.shelf.now on w.lost) x.joins;
       accepted = λ contents z r. tt;
@@ -60,15 +61,15 @@ returns-clause-goes g c =
 -- ---- where the tables could not be taken over
 
 pub returns-in_err-take_over-clause-continues : goal.returns-in_err-take_over-clause-continues
-returns-in_err-take_over-clause-continues g c = continues_trans c.write_prepared.ensures.continues c.take_over.ensures.continues
+returns-in_err-take_over-clause-continues g c = continues_trans c.write_prepared.ensures.continues c.take_over.ensures.ran.on.continues
 
 pub returns-in_err-take_over-clause-rest : goal.returns-in_err-take_over-clause-rest
-returns-in_err-take_over-clause-rest g c = g.met.S.Shelf.shelf_rest_stays.transitive _ _ _ c.write_prepared.ensures.rest c.take_over.ensures.rest
+returns-in_err-take_over-clause-rest g c = g.met.S.Shelf.shelf_rest_stays.transitive _ _ _ c.write_prepared.ensures.rest c.take_over.ensures.ran.rest
 
 pub returns-in_err-take_over-clause-moments : goal.returns-in_err-take_over-clause-moments
 returns-in_err-take_over-clause-moments g c h =
     let on = c.write_prepared.ensures.continues in
-    counted_since on (c.write_prepared.ensures.moments h) (c.take_over.ensures.moments (on.honest h))
+    counted_since on (c.write_prepared.ensures.moments h) (runs_moments c.take_over.ensures.ran.on (on.honest h))
 
 pub returns-in_err-take_over-clause-fault : goal.returns-in_err-take_over-clause-fault
 returns-in_err-take_over-clause-fault g c =
@@ -78,7 +79,7 @@ returns-in_err-take_over-clause-fault g c =
     let on = c.write_prepared.ensures.continues in
     let w = c.in_ok-lost.ensures in
     let q = err_from_is_err_and c.from_residual-in_err-take_over.result c.from_residual-in_err-take_over.ensures.1 in
-    let ran : Calls a n = record { continues = continues_trans on c.take_over.ensures.continues; counted = λ h. counted_since on (c.write_prepared.ensures.moments h) (c.take_over.ensures.moments (on.honest h)) } in
+    let ran : Calls a n = record { continues = continues_trans on c.take_over.ensures.ran.on.continues; counted = λ h. counted_since on (c.write_prepared.ensures.moments h) (runs_moments c.take_over.ensures.ran.on (on.honest h)) } in
     let moments = same_meanwhile a n was (λ h held ready. then_run on (c.write_prepared.ensures.any_moment h held ready)
     (c.take_over.ensures.any_moment (on.honest h) c.args.shelf.now held (was_open a was held ready) (w.free h held ready) (w.hold h c.args.table c.args.index held c.in_ok-prepared.ensures ready))) in
     err_is c.from_residual-in_err-take_over.result _ q.0 q.1
