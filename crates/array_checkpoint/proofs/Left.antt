@@ -36,7 +36,7 @@ use Rattle.array_checkpoint.proofs.ShownUnits.{shows_data}
 use Rattle.array_checkpoint.proofs.Stays.{SparesUsed, contents_stay}
 use Rattle.array_checkpoint.proofs.Units.{may_be_placed, new_segment}
 use Rattle.array_checkpoint.proofs.Wrote.{Wrote}
-use Rattle.register.proofs.Rounds.{same_shelf}
+use Rattle.register.proofs.Rounds.{same_shelf as shelf_stays}
 
 -- drives of the record that aren't lost
 abbrev pub AreLeft : Register → List Bool → List Bool → Type 0
@@ -60,7 +60,7 @@ own_size shelf x of = sym (same_shelf (geometry_of shelf) x of)
 module _ (a b : Shelved) (x : Array) (of : IsArrayOf (geometry_of a) x) (on : Continues a b) (lost left : List Bool) (fewer : AreLeft x.register lost left)
     (members : View) (among : AreAmong left (bytes_of b) members) (enough : AreEnough (geometry_of b) members) where
   pub enough_before : AreEnough (geometry_of a) members
-  enough_before = subst (λ g. AreEnough g members) (sym (same_shelf on)) enough
+  enough_before = subst (λ g. AreEnough g members) (sym (shelf_stays on)) enough
 
   -- what segments held stands still, where no unit was written that one uses
   pub still_held : (W : Device → ℕ → Type 0) → WritesOnly W a b → SparesUsed x.register.record (facts x.memory.memory.tables) W

@@ -40,7 +40,7 @@ use Rattle.takeover.proofs.Failing.{by_stop, since_later}
 use Rattle.takeover.proofs.Loading.{as_they_read, may_read, at_time, may_at_time, same_leaves, clean_now, stands_now, member_here, in_force_here}
 use Rattle.array_core.proofs.Losses.{fewer_borne, sound_since}
 use Rattle.register.proofs.Again.{not_risen_since}
-use Rattle.register.proofs.Rounds.{same_shelf}
+use Rattle.register.proofs.Rounds.{same_shelf as shelf_stays}
 use Rattle.session_spec.proofs.Conditions.{left_out_once}
 
 -- what may be given at a stop when nothing was done, as reads give it
@@ -92,7 +92,7 @@ module _ (old mid : Shelved) (missing : Conditions) (arrays : List Array) (x : L
   may_now = may_read mid is_mid h_mid
 
   same_shelf : geometry_of old ≡ geometry_of mid
-  same_shelf = same_shelf on
+  same_shelf = shelf_stays on
 
   module _ (bears : IsBearable (geometry_of old) now) where
     pub tells : TellsHolding mid x.drives now
@@ -198,7 +198,7 @@ module _ (old mid : Shelved) (missing : Conditions) (arrays : List Array) (x : L
     bears_mid = fewer_borne (geometry_of old) now later more_later bears_new
 
     same_mid : geometry_of mid ≡ geometry_of new
-    same_mid = same_shelf on_new
+    same_mid = shelf_stays on_new
 
     not_since : (i : ℕ) → later (drive i) ≡ Sound → has_risen (mid.disk (drive i)).faults (new.disk (drive i)).faults ≡ false
     not_since i sound = not_risen_since (old.disk (drive i)).faults (mid.disk (drive i)).faults (new.disk (drive i)).faults (on.faults (drive i)) (on_new.faults (drive i))

@@ -32,7 +32,7 @@ mod RecoveredLemmas
 mod BaseHeld
 mod Moments
 mod Causes
-mod WhatFound
+pub mod WhatFound
 mod Stops
 mod Storing
 mod Opening

@@ -54,7 +54,7 @@ use Rattle.takeover.proofs.NothingStored.{given_over, standing_with_fewer}
 use Rattle.array_core.proofs.Logged.{nothing_else}
 use Rattle.array_core.proofs.Losses.{bearable_or_not, fewer_borne, sound_since}
 use Rattle.nvram_log.proofs.SettledEach.{both_leave}
-use Rattle.register.proofs.Rounds.{same_shelf}
+use Rattle.register.proofs.Rounds.{same_shelf as shelf_stays}
 
 -- an image at the time of the shelf
 abbrev at_once : Shelved → Image → Stop
@@ -230,7 +230,7 @@ module _ (old mid new : Shelved) (x : Loaded) (missing : Conditions) (arrays : L
           (λ s. not_risen (old.disk (drive i)).faults (new.disk (drive i)).faults (ap (λ (d : Disk). d.faults) (same_all i)) (r.found.counted (drive i) s))
 
       same_shelf : geometry_of old ≡ geometry_of new
-      same_shelf = same_shelf all_on
+      same_shelf = shelf_stays all_on
 
       module _ (start : Stop) (may : MayStop new start) where
         -- what might have been left of the NVRAM devices before

@@ -63,7 +63,7 @@ module _ (old mid new : Shelved) (x : Loaded) (on : Continues old mid) (after : 
   left_or_failed : (i : ℕ) → i < old.drives → IsMember x.drives i → IsMember left i ⊎ (has_risen (old.disk (drive i)).faults (new.disk (drive i)).faults ≡ true)
   left_or_failed i lt m = elim (dropped i (omega (arith, lt, on.drives)) m) [
     | inl is ↦ inl is
-    | inr rose ↦ inr (rose (old.disk (drive i)).faults (mid.disk (drive i)).faults (new.disk (drive i)).faults (new.disk (drive i)).faults (on.faults (drive i)) rose (omega arith))
+    | inr failed ↦ inr (rose (old.disk (drive i)).faults (mid.disk (drive i)).faults (new.disk (drive i)).faults (new.disk (drive i)).faults (on.faults (drive i)) failed (omega arith))
   ]
 
   -- too few are left

@@ -43,13 +43,13 @@ use Rattle.takeover.proofs.Stops.{given_at}
 use Rattle.takeover.proofs.TablesHeld.{held_base, held_here, held_patches, hold_tables, named_shows, patches_stand_here}
 use Rattle.takeover.proofs.WhatFound.{rose_before}
 use Rattle.array_core.proofs.Logged.{nothing_else}
-use Rattle.register.proofs.Rounds.{same_shelf}
+use Rattle.register.proofs.Rounds.{same_shelf as shelf_stays}
 
 -- devices that were only read stand as they stood
 module _ (b t : Shelved) (x : Loaded) (later : Conditions) (arrays : List Array) (after : Continues b t) (same : (d : Device) → IsSame (b.disk d) (t.disk d)) (found : IsFoundOn b x later arrays)
     (counted : (d : Device) → later d ≡ Sound → (t.disk d).faults < 2 ^ 64 - 1) where
   same_shelf : geometry_of b ≡ geometry_of t
-  same_shelf = same_shelf after
+  same_shelf = shelf_stays after
 
   before : (start : Stop) → MayStop t start → MayStop b (at_time b start.image)
   before start may = may_at_time b start.image (λ d. same_leaves (b.disk d) (t.disk d) (start.image d) (same d) (may.device d))
