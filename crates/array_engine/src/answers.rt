@@ -1,10 +1,10 @@
 // Replies are given.
-ghost use Rattle.std.specs.Prelude.{◌≡◌, ◌<◌, ◌↔◌, ◌++◌, [], length, take, drop, OnErr};
+ghost use Rattle.std.specs.Prelude.{◌≡◌, ◌<◌, ◌++◌, [], length, take, drop, OnErr};
 ghost use Rattle.pur_base.specs.Plain.{Array};
 ghost use Rattle.pur_base.specs.Replies.{Answer, Line, Sectors, Entries, refused, line_text, sectors_text, entries_text, text};
 ghost use Rattle.pur_base.specs.declared.reply.Reply.TheVariants.{Numbers};
-ghost use Rattle.world.specs.Counts.{Counts};
 ghost use Rattle.memory_spec.specs.Memory.{Contents, ReadsAs};
+ghost use Rattle.request_codec.specs.Calls.{Went};
 ghost use Rattle.request_codec.specs.Writing.{Gave, Goes, Extends};
 ghost use Rattle.array_engine.specs.Saying.{HasSectors, Says};
 
@@ -26,9 +26,7 @@ pub fn give<K: Sink>(
     requires { writer.old ≡ [] }
     ensures gave { (K.sink sink.old).honest → Gave result (K.sink sink.old).bytes (K.sink sink.new).bytes (line_text reply.now ++ sectors_text sectors.now) }
     ensures emptied { writer.new ≡ [] }
-    ensures honest { (K.sink sink.old).honest ↔ (K.sink sink.new).honest }
-    ensures counts { Counts result (K.sink sink.old).faults (K.sink sink.new).faults }
-    ensures rest { K.sink_rest sink.old sink.new }
+    ensures went { Went K.sink K.sink_rest result sink.old sink.new }
 {
     writer.write_reply(reply, sectors, sink)?;
     writer.flush(sink)
@@ -42,9 +40,7 @@ fn give_sectors<K: Sink>(
     requires { writer.old ≡ [] }
     ensures gave { (K.sink sink.old).honest → Gave result (K.sink sink.old).bytes (K.sink sink.new).bytes (text (Sectors sectors.now)) }
     ensures emptied { writer.new ≡ [] }
-    ensures honest { (K.sink sink.old).honest ↔ (K.sink sink.new).honest }
-    ensures counts { Counts result (K.sink sink.old).faults (K.sink sink.new).faults }
-    ensures rest { K.sink_rest sink.old sink.new }
+    ensures went { Went K.sink K.sink_rest result sink.old sink.new }
 {
     let count = sectors.len() as u64;
     give(writer, &Reply::Data { count }, sectors, sink)
@@ -61,9 +57,7 @@ fn write_entry_at<K: Sink>(
         → Goes result (K.sink sink.old).bytes writer.old (entries_text (take 1 (drop index array))) (K.sink sink.new).bytes writer.new }
     ensures emptied { OnErr result (writer.new ≡ []) }
     ensures extends { (K.sink sink.old).honest → Extends (K.sink sink.old).bytes (K.sink sink.new).bytes }
-    ensures honest { (K.sink sink.old).honest ↔ (K.sink sink.new).honest }
-    ensures counts { Counts result (K.sink sink.old).faults (K.sink sink.new).faults }
-    ensures rest { K.sink_rest sink.old sink.new }
+    ensures went { Went K.sink K.sink_rest result sink.old sink.new }
 {
     match entry(memory, index) {
         Some(object) => writer.write_entry(&object.name, object.snapshot, object.sectors, sink),
@@ -80,9 +74,7 @@ fn write_entries<K: Sink>(
         → Goes result (K.sink sink.old).bytes writer.old (entries_text array) (K.sink sink.new).bytes writer.new }
     ensures emptied { OnErr result (writer.new ≡ []) }
     ensures extends { (K.sink sink.old).honest → Extends (K.sink sink.old).bytes (K.sink sink.new).bytes }
-    ensures honest { (K.sink sink.old).honest ↔ (K.sink sink.new).honest }
-    ensures counts { Counts result (K.sink sink.old).faults (K.sink sink.new).faults }
-    ensures rest { K.sink_rest sink.old sink.new }
+    ensures went { Went K.sink K.sink_rest result sink.old sink.new }
 {
     for index in 0..len(memory) {
         write_entry_at(writer, memory, index, sink)?;
@@ -99,9 +91,7 @@ fn write_names<K: Sink>(
         → Goes result (K.sink sink.old).bytes writer.old (text (Entries array)) (K.sink sink.new).bytes writer.new }
     ensures emptied { OnErr result (writer.new ≡ []) }
     ensures extends { (K.sink sink.old).honest → Extends (K.sink sink.old).bytes (K.sink sink.new).bytes }
-    ensures honest { (K.sink sink.old).honest ↔ (K.sink sink.new).honest }
-    ensures counts { Counts result (K.sink sink.old).faults (K.sink sink.new).faults }
-    ensures rest { K.sink_rest sink.old sink.new }
+    ensures went { Went K.sink K.sink_rest result sink.old sink.new }
 {
     let count = len(memory) as u64;
     writer.write_reply(&Reply::Names { count }, &[], sink)?;
@@ -117,9 +107,7 @@ fn give_names<K: Sink>(
     ensures gave { (K.sink sink.old).honest → (contents : Contents) (array : Array) → ReadsAs contents memory.now.memory array
         → Gave result (K.sink sink.old).bytes (K.sink sink.new).bytes (text (Entries array)) }
     ensures emptied { writer.new ≡ [] }
-    ensures honest { (K.sink sink.old).honest ↔ (K.sink sink.new).honest }
-    ensures counts { Counts result (K.sink sink.old).faults (K.sink sink.new).faults }
-    ensures rest { K.sink_rest sink.old sink.new }
+    ensures went { Went K.sink K.sink_rest result sink.old sink.new }
 {
     write_names(writer, memory, sink)?;
     writer.flush(sink)
@@ -133,9 +121,7 @@ fn give_numbers<K: Sink>(
     requires { writer.old ≡ [] }
     ensures gave { (K.sink sink.old).honest → Gave result (K.sink sink.old).bytes (K.sink sink.new).bytes (text (Line (Numbers numbers.now))) }
     ensures emptied { writer.new ≡ [] }
-    ensures honest { (K.sink sink.old).honest ↔ (K.sink sink.new).honest }
-    ensures counts { Counts result (K.sink sink.old).faults (K.sink sink.new).faults }
-    ensures rest { K.sink_rest sink.old sink.new }
+    ensures went { Went K.sink K.sink_rest result sink.old sink.new }
 {
     give(writer, &Reply::Numbers { numbers: *numbers }, &[], sink)
 }
@@ -144,9 +130,7 @@ fn refuse<K: Sink>(writer: &mut ReplyWriter, why: Refusal, sink: &mut K) -> Resu
     requires { writer.old ≡ [] }
     ensures gave { (K.sink sink.old).honest → Gave result (K.sink sink.old).bytes (K.sink sink.new).bytes (text (refused why)) }
     ensures emptied { writer.new ≡ [] }
-    ensures honest { (K.sink sink.old).honest ↔ (K.sink sink.new).honest }
-    ensures counts { Counts result (K.sink sink.old).faults (K.sink sink.new).faults }
-    ensures rest { K.sink_rest sink.old sink.new }
+    ensures went { Went K.sink K.sink_rest result sink.old sink.new }
 {
     give(writer, &Reply::Refused { why }, &[], sink)
 }
@@ -164,9 +148,7 @@ impl Engine {
         ensures gave { (K.sink sink.old).honest → (answer : Answer) → Says self.now.array.memory.memory self.now.buffers.sectors.items said.now answer
             → Gave result (K.sink sink.old).bytes (K.sink sink.new).bytes (text answer) }
         ensures emptied { writer.new ≡ [] }
-        ensures honest { (K.sink sink.old).honest ↔ (K.sink sink.new).honest }
-        ensures counts { Counts result (K.sink sink.old).faults (K.sink sink.new).faults }
-        ensures rest { K.sink_rest sink.old sink.new }
+        ensures went { Went K.sink K.sink_rest result sink.old sink.new }
     {
         match said {
             Said::Done => give(writer, &Reply::Done, &[], sink),

@@ -1,5 +1,7 @@
 -- Calls of a source or a sink, one after another.
-use Rattle.std.proofs.Common.{◌≡◌, ◌↔◌, ◌∙◌, refl, sym}
+use Rattle.std.proofs.Common.{◌≡◌, ◌↔◌, ◌∙◌, refl, sym, subst, Result, Ok, Err}
+use Rattle.world.specs.declared.streams.Failed.{Failed}
+use Rattle.world.specs.Counts.{Counts}
 use Rattle.world.specs.Streams.{Streamed, IsPreorder}
 use Rattle.request_codec.specs.Ahead.{Ahead, Tells}
 use Rattle.request_codec.specs.Calls.{Went}
@@ -7,13 +9,30 @@ use Rattle.request_codec.specs.Calls.{Went}
 pub both : {A B C : Type 0} → A ↔ B → B ↔ C → A ↔ C
 both f g = (λ a. g.0 (f.0 a), λ c. f.1 (g.1 c))
 
-pub went-none : {X : Type 0} (meaning : X → Streamed) (Rest : X → X → Type 0) → IsPreorder Rest → (a : X) → Went meaning Rest a a
-went-none meaning Rest p a = record { honest = (λ h. h, λ h. h); faults = refl; rest = p.reflexive a }
+-- before the first call
+pub went-none : {X : Type 0} {meaning : X → Streamed} {same_rest : X → X → Type 0} {T : Type 0} {said : T} → IsPreorder same_rest → (a : X) → Went meaning same_rest (Ok said) a a
+went-none p a = record { honest = (λ h. h, λ h. h); counts = refl; rest = p.reflexive a }
+
+-- the last call behind calls that succeeded
+pub went-then : {X : Type 0} {meaning : X → Streamed} {same_rest : X → X → Type 0} {S T : Type 0} {said : S} {answer : Result T Failed} {a b c : X} → IsPreorder same_rest
+    → Went meaning same_rest (Ok said) a b → Went meaning same_rest answer b c → Went meaning same_rest answer a c
+went-then {meaning = meaning} {answer = answer} {a = a} {b = b} {c = c} p first last = record {
+  honest = both first.honest last.honest;
+  counts = subst (λ n. Counts answer n (meaning c).faults) first.counts last.counts;
+  rest = p.transitive a b c first.rest last.rest;
+}
+
+-- what the calls say is another thing, and so is a failure
+pub went-well : {X : Type 0} {meaning : X → Streamed} {same_rest : X → X → Type 0} {S T : Type 0} {said : S} {says : T} {a b : X} → Went meaning same_rest (Ok said) a b → Went meaning same_rest (Ok says) a b
+went-well w = record { honest = w.honest; counts = w.counts; rest = w.rest }
+
+pub went-failed : {X : Type 0} {meaning : X → Streamed} {same_rest : X → X → Type 0} {S T : Type 0} {e f : Failed} {a b : X} → Went meaning same_rest {T = S} (Err e) a b → Went meaning same_rest {T = T} (Err f) a b
+went-failed w = record { honest = w.honest; counts = w.counts; rest = w.rest }
 
 -- a call more that succeeded
-pub went-on : {X : Type 0} {meaning : X → Streamed} {Rest : X → X → Type 0} → IsPreorder Rest → {a b c : X} → Went meaning Rest a b
-    → (meaning b).honest ↔ (meaning c).honest → (meaning c).faults ≡ (meaning b).faults → Rest b c → Went meaning Rest a c
-went-on {meaning = m} {Rest = R} p {a} {b} {c} w h f r = record { honest = both w.honest h; faults = f ∙ w.faults; rest = p.transitive a b c w.rest r }
+pub went-on : {X : Type 0} {meaning : X → Streamed} {same_rest : X → X → Type 0} {S T U : Type 0} {said : S} {says : T} {so : U} {a b c : X} → IsPreorder same_rest
+    → Went meaning same_rest (Ok said) a b → Went meaning same_rest (Ok says) b c → Went meaning same_rest (Ok so) a c
+went-on p first last = went-well (went-then p first last)
 
 -- what is consumed leaves what the source tells
 pub tells-same : {a b : Ahead} {s : Streamed} → b.ended ≡ a.ended → Tells a s → Tells b s

@@ -35,6 +35,12 @@ abbrev pub HasData : Item → List (List ℕ) → Type 0
 HasData (item.Request r) sectors = length sectors ≡ data_count r
 HasData _ sectors = Unit {0}
 
+-- a request is one that can be answered
+pub record IsComplete (item : Item) (sectors : List (List ℕ)) : Type 0 where
+  pub served : IsServed item
+  pub spelled : IsSpelled item
+  pub has_data : HasData item sectors
+
 -- the item of the grammar that was read
 abbrev pub item_read : Item → List (List ℕ) → grammar.Item
 item_read (item.Request r) sectors = Asked r sectors

@@ -3,6 +3,7 @@ pub mod Reading
 pub mod Words
 pub mod Lines
 pub mod Calls
+pub mod Asking
 pub mod Data
 pub mod Reader
 pub mod Spelled

@@ -1,14 +1,14 @@
 // The data of a request, sector by sector.
-ghost use Rattle.std.specs.Prelude.{◌≡◌, ◌↔◌, ◌+◌, ◌*◌, ◌<◌, ◌≤◌, ◌++◌, [], ◌∷◌, true, false, length, take, vec_len, vec_capacity, IfOk, OnOk, OnErr};
+ghost use Rattle.std.specs.Prelude.{◌≡◌, ◌+◌, ◌*◌, ◌<◌, ◌≤◌, ◌++◌, length, take, vec_len, vec_capacity, IfOk, OnOk, OnErr};
 ghost use Rattle.arrayvec.specs.ArrayVec.{array_vec_len};
-ghost use Rattle.world.specs.Counts.{Counts};
 ghost use Rattle.request_codec.specs.Ahead.{Tells, budget};
 ghost use Rattle.request_codec.specs.Reading.{Totals, Unfinished};
+ghost use Rattle.request_codec.specs.Asking.{Asks, Stops};
 ghost use Rattle.request_codec.specs.Data.{AddsSector, ReadsData};
 
 use crate::input::{Input, Refill};
 use arrayvec::ArrayVec;
-use pur_base::{INPUT_BYTES, REQUEST_SECTORS, SECTOR_BYTES, Sector};
+use pur_base::{REQUEST_SECTORS, SECTOR_BYTES, Sector};
 use world::{Failed, Source};
 
 /// What ended the reading of data.
@@ -63,17 +63,10 @@ fn read_split_sector<S: Source>(
     ensures total { IfOk result (λ found. Tells input.old (S.source source.old) →
         Totals (found ≡ DataEnd.Limit) input.old.taken input.new.taken (length (S.source source.old).bytes) (length (S.source source.new).bytes)) }
     ensures budget { OnOk result (budget input.new ≤ budget input.old) }
-    ensures cut { IfOk result (λ found. found ≡ DataEnd.Cut → input.new.ended ≡ true) }
-    ensures limit { IfOk result (λ found. found ≡ DataEnd.Limit → input.new.pending ≡ []) }
-    ensures limited { input.old.taken ≤ INPUT_BYTES → input.new.taken ≤ INPUT_BYTES }
-    ensures latched { input.old.ended ≡ true → (source.new ≡ source.old) × (input.new.ended ≡ true) }
+    ensures stops { IfOk result (λ found. Stops (found ≡ DataEnd.Cut) (found ≡ DataEnd.Limit) input.new) }
     ensures failed { OnErr result (Tells input.old (S.source source.old) → Tells input.new (S.source source.new)
         × Unfinished (input.old.pending ++ (S.source source.old).bytes) (S.source source.new).bytes (λ rest. length rest < SECTOR_BYTES)) }
-    ensures dropped { OnErr result (input.new.pending ≡ []) }
-    ensures asked { OnErr result (input.old.ended ≡ false) }
-    ensures honest { (S.source source.old).honest ↔ (S.source source.new).honest }
-    ensures counts { Counts result (S.source source.old).faults (S.source source.new).faults }
-    ensures rest { S.source_rest source.old source.new }
+    ensures asks { Asks S.source S.source_rest result input.old input.new source.old source.new }
 {
     let mut body: ArrayVec<u8, SECTOR_BYTES> = ArrayVec::new();
     'pieces: while body.len() < SECTOR_BYTES {
@@ -105,17 +98,10 @@ fn read_sector<S: Source>(
     ensures total { IfOk result (λ found. Tells input.old (S.source source.old) →
         Totals (found ≡ DataEnd.Limit) input.old.taken input.new.taken (length (S.source source.old).bytes) (length (S.source source.new).bytes)) }
     ensures budget { OnOk result (budget input.new ≤ budget input.old) }
-    ensures cut { IfOk result (λ found. found ≡ DataEnd.Cut → input.new.ended ≡ true) }
-    ensures limit { IfOk result (λ found. found ≡ DataEnd.Limit → input.new.pending ≡ []) }
-    ensures limited { input.old.taken ≤ INPUT_BYTES → input.new.taken ≤ INPUT_BYTES }
-    ensures latched { input.old.ended ≡ true → (source.new ≡ source.old) × (input.new.ended ≡ true) }
+    ensures stops { IfOk result (λ found. Stops (found ≡ DataEnd.Cut) (found ≡ DataEnd.Limit) input.new) }
     ensures failed { OnErr result (Tells input.old (S.source source.old) → Tells input.new (S.source source.new)
         × Unfinished (input.old.pending ++ (S.source source.old).bytes) (S.source source.new).bytes (λ rest. length rest < SECTOR_BYTES)) }
-    ensures dropped { OnErr result (input.new.pending ≡ []) }
-    ensures asked { OnErr result (input.old.ended ≡ false) }
-    ensures honest { (S.source source.old).honest ↔ (S.source source.new).honest }
-    ensures counts { Counts result (S.source source.old).faults (S.source source.new).faults }
-    ensures rest { S.source_rest source.old source.new }
+    ensures asks { Asks S.source S.source_rest result input.old input.new source.old source.new }
 {
     let pending = input.pending();
     if SECTOR_BYTES <= pending.len() {
@@ -142,17 +128,10 @@ pub fn read_data<S: Source>(
     ensures total { IfOk result (λ found. Tells input.old (S.source source.old) →
         Totals (found ≡ DataEnd.Limit) input.old.taken input.new.taken (length (S.source source.old).bytes) (length (S.source source.new).bytes)) }
     ensures budget { OnOk result (budget input.new ≤ budget input.old) }
-    ensures cut { IfOk result (λ found. found ≡ DataEnd.Cut → input.new.ended ≡ true) }
-    ensures limit { IfOk result (λ found. found ≡ DataEnd.Limit → input.new.pending ≡ []) }
-    ensures limited { input.old.taken ≤ INPUT_BYTES → input.new.taken ≤ INPUT_BYTES }
-    ensures latched { input.old.ended ≡ true → (source.new ≡ source.old) × (input.new.ended ≡ true) }
+    ensures stops { IfOk result (λ found. Stops (found ≡ DataEnd.Cut) (found ≡ DataEnd.Limit) input.new) }
     ensures failed { OnErr result (Tells input.old (S.source source.old) → Tells input.new (S.source source.new)
         × Unfinished (input.old.pending ++ (S.source source.old).bytes) (S.source source.new).bytes (λ rest. length rest < SECTOR_BYTES * count)) }
-    ensures dropped { OnErr result (input.new.pending ≡ []) }
-    ensures asked { OnErr result (input.old.ended ≡ false) }
-    ensures honest { (S.source source.old).honest ↔ (S.source source.new).honest }
-    ensures counts { Counts result (S.source source.old).faults (S.source source.new).faults }
-    ensures rest { S.source_rest source.old source.new }
+    ensures asks { Asks S.source S.source_rest result input.old input.new source.old source.new }
 {
     sectors.clear();
     for _ in 0..count {

@@ -1,8 +1,9 @@
 // The bytes of a source, taken a buffer at a time.
-ghost use Rattle.std.specs.Prelude.{◌≡◌, ◌↔◌, ◌+◌, ◌-◌, ◌<◌, ◌≤◌, ◌++◌, ◌∷◌, ℕ, [], true, false, length, drop, take, IfOk, OnErr};
-ghost use Rattle.world.specs.Counts.{Counts};
+ghost use Rattle.std.specs.Prelude.{◌≡◌, ◌+◌, ◌-◌, ◌<◌, ◌≤◌, ◌++◌, ◌∷◌, ℕ, [], true, false, length, drop, take, IfOk, OnErr};
 ghost use Rattle.request_codec.specs.Ahead.{Tells, budget};
 ghost use Rattle.request_codec.specs.Reading.{Refills, Totals};
+ghost use Rattle.request_codec.specs.Calls.{Went};
+ghost use Rattle.request_codec.specs.Asking.{Asks};
 
 use crate::buffer::{BUFFER_BYTES, zeros};
 use pur_base::{INPUT_BYTES, NoMemory};
@@ -47,9 +48,7 @@ fn take_into<S: Source>(into: &mut [u8], room: usize, source: &mut S) -> Result<
     ensures told { (S.source source.old).honest → IfOk result (λ n. take n into.new ++ (S.source source.new).bytes ≡ (S.source source.old).bytes) }
     ensures end { (S.source source.old).honest → IfOk result (λ n. n ≡ 0 → ((S.source source.old).bytes ≡ []) × ((S.source source.new).bytes ≡ [])) }
     ensures failed { (S.source source.old).honest → OnErr result ((S.source source.new).bytes ≡ (S.source source.old).bytes) }
-    ensures honest { (S.source source.old).honest ↔ (S.source source.new).honest }
-    ensures counts { Counts result (S.source source.old).faults (S.source source.new).faults }
-    ensures rest { S.source_rest source.old source.new }
+    ensures went { Went S.source S.source_rest result source.old source.new }
 {
     source.take(&mut into[..room])
 }
@@ -59,9 +58,7 @@ fn has_more<S: Source>(source: &mut S) -> Result<bool, Failed>
     ensures more { (S.source source.old).honest → IfOk result (λ more. more ≡ true → (byte : ℕ) × ((S.source source.old).bytes ≡ byte ∷ (S.source source.new).bytes)) }
     ensures none { (S.source source.old).honest → IfOk result (λ more. more ≡ false → ((S.source source.old).bytes ≡ []) × ((S.source source.new).bytes ≡ [])) }
     ensures failed { (S.source source.old).honest → OnErr result ((S.source source.new).bytes ≡ (S.source source.old).bytes) }
-    ensures honest { (S.source source.old).honest ↔ (S.source source.new).honest }
-    ensures counts { Counts result (S.source source.old).faults (S.source source.new).faults }
-    ensures rest { S.source_rest source.old source.new }
+    ensures went { Went S.source S.source_rest result source.old source.new }
 {
     let mut probe = [0; 1];
     let count = take_into(&mut probe, 1, source)?;
@@ -109,15 +106,9 @@ impl Input {
         ensures bytes { IfOk result (λ found. found ≡ Refill.Bytes → (0 < length self.new.pending) × (budget self.new ≡ budget self.old)) }
         ensures end { IfOk result (λ found. found ≡ Refill.End → (self.new.ended ≡ true) × (self.new.pending ≡ []) × (budget self.new ≡ budget self.old)) }
         ensures limit { IfOk result (λ found. found ≡ Refill.Limit → (self.new ≡ self.old) × (self.new.pending ≡ [])) }
-        ensures limited { self.old.taken ≤ INPUT_BYTES → self.new.taken ≤ INPUT_BYTES }
-        ensures latched { self.old.ended ≡ true → (source.new ≡ source.old) × (self.new.ended ≡ true) }
         ensures failed { OnErr result (Tells self.old (S.source source.old) →
             Tells self.new (S.source source.new) × (self.old.pending ≡ []) × ((S.source source.new).bytes ≡ (S.source source.old).bytes)) }
-        ensures dropped { OnErr result (self.new.pending ≡ []) }
-        ensures asked { OnErr result (self.old.ended ≡ false) }
-        ensures honest { (S.source source.old).honest ↔ (S.source source.new).honest }
-        ensures counts { Counts result (S.source source.old).faults (S.source source.new).faults }
-        ensures rest { S.source_rest source.old source.new }
+        ensures asks { Asks S.source S.source_rest result self.old self.new source.old source.new }
     {
         if !self.pending().is_empty() {
             return Ok(Refill::Bytes);
@@ -136,14 +127,9 @@ impl Input {
         ensures end { IfOk result (λ found. found ≡ Refill.End → (self.new.ended ≡ true) × (self.new.pending ≡ []) × (budget self.new ≡ budget self.old)) }
         ensures limit { IfOk result (λ found. found ≡ Refill.Limit → self.new ≡ self.old) }
         ensures limited { self.new.taken ≤ INPUT_BYTES }
-        ensures latched { self.old.ended ≡ true → (source.new ≡ source.old) × (self.new.ended ≡ true) }
         ensures failed { OnErr result (Tells self.old (S.source source.old) →
             Tells self.new (S.source source.new) × ((S.source source.new).bytes ≡ (S.source source.old).bytes)) }
-        ensures dropped { OnErr result (self.new.pending ≡ []) }
-        ensures asked { OnErr result (self.old.ended ≡ false) }
-        ensures honest { (S.source source.old).honest ↔ (S.source source.new).honest }
-        ensures counts { Counts result (S.source source.old).faults (S.source source.new).faults }
-        ensures rest { S.source_rest source.old source.new }
+        ensures asks { Asks S.source S.source_rest result self.old self.new source.old source.new }
     {
         if self.ended {
             return Ok(Refill::End);

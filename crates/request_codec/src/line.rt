@@ -2,9 +2,9 @@
 ghost use Rattle.std.specs.Prelude.{◌≡◌, ◌↔◌, ◌+◌, ◌<◌, ◌≤◌, ◌++◌, ℕ, List, [], true, false, length, IfOk, OnErr, IfSome, IsTrue};
 ghost use Rattle.std.specs.List.{position_or_len, list_any};
 ghost use Rattle.pur_base.specs.Grammar.{line_request, data_count, is_in_force, is_line_end};
-ghost use Rattle.world.specs.Counts.{Counts};
 ghost use Rattle.request_codec.specs.Ahead.{Tells, budget};
 ghost use Rattle.request_codec.specs.Reading.{Totals, Unfinished};
+ghost use Rattle.request_codec.specs.Asking.{Asks, Stops};
 ghost use Rattle.request_codec.specs.Lines.{Holds, ReadsLine};
 ghost use Rattle.request_codec.specs.Spelled.{IsSpelledRequest};
 
@@ -12,7 +12,7 @@ use crate::input::{Input, Refill};
 use crate::parse::request_from;
 use crate::search::place_of;
 use arrayvec::ArrayVec;
-use pur_base::{INPUT_BYTES, LINE_BYTES, REQUEST_SECTORS, Request};
+use pur_base::{LINE_BYTES, REQUEST_SECTORS, Request};
 use world::{Failed, Source};
 
 /// A line that is read: its bytes, or that they are too many.
@@ -80,19 +80,12 @@ pub fn read_line<S: Source>(
     ensures total { IfOk result (λ found. Tells input.old (S.source source.old) →
         Totals (found ≡ LineEnd.Limit) input.old.taken input.new.taken (length (S.source source.old).bytes) (length (S.source source.new).bytes)) }
     ensures progress { IfOk result (λ found. found ≡ LineEnd.Line → budget input.new < budget input.old) }
-    ensures end { IfOk result (λ found. found ≡ LineEnd.End → input.new.ended ≡ true) }
     ensures last { IfOk result (λ found. found ≡ LineEnd.Line → Tells input.old (S.source source.old) →
         list_any is_line_end (input.old.pending ++ (S.source source.old).bytes) ≡ false → input.new.ended ≡ true) }
-    ensures limit { IfOk result (λ found. found ≡ LineEnd.Limit → input.new.pending ≡ []) }
-    ensures limited { input.old.taken ≤ INPUT_BYTES → input.new.taken ≤ INPUT_BYTES }
-    ensures latched { input.old.ended ≡ true → (source.new ≡ source.old) × (input.new.ended ≡ true) }
+    ensures stops { IfOk result (λ found. Stops (found ≡ LineEnd.End) (found ≡ LineEnd.Limit) input.new) }
     ensures failed { OnErr result (Tells input.old (S.source source.old) → Tells input.new (S.source source.new)
         × Unfinished (input.old.pending ++ (S.source source.old).bytes) (S.source source.new).bytes (λ rest. position_or_len is_line_end rest ≡ length rest)) }
-    ensures dropped { OnErr result (input.new.pending ≡ []) }
-    ensures asked { OnErr result (input.old.ended ≡ false) }
-    ensures honest { (S.source source.old).honest ↔ (S.source source.new).honest }
-    ensures counts { Counts result (S.source source.old).faults (S.source source.new).faults }
-    ensures rest { S.source_rest source.old source.new }
+    ensures asks { Asks S.source S.source_rest result input.old input.new source.old source.new }
 {
     'pieces: loop {
         match input.ready(source)? {

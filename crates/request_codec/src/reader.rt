@@ -1,16 +1,16 @@
 // The reader of requests.
-ghost use Rattle.std.specs.Prelude.{◌≡◌, ◌↔◌, ◌≤◌, ◌⊎◌, ◌++◌, [], true, false, length, IfOk, OnErr};
+ghost use Rattle.std.specs.Prelude.{◌≡◌, ◌⊎◌, ◌++◌, [], true, false, length, IfOk, OnErr};
 ghost use Rattle.std.specs.List.{list_any};
 ghost use Rattle.pur_base.specs.Grammar.{is_line_end, is_whole};
-ghost use Rattle.world.specs.Counts.{Counts};
 ghost use Rattle.request_codec.specs.Ahead.{Tells, budget};
 ghost use Rattle.request_codec.specs.Reading.{Totals, Unfinished};
-ghost use Rattle.request_codec.specs.Items.{Reads, IsServed, IsSpelled, HasData, TakesSome};
+ghost use Rattle.request_codec.specs.Asking.{Asks, Stops};
+ghost use Rattle.request_codec.specs.Items.{Reads, IsComplete, TakesSome};
 
 use crate::data::{DataEnd, read_data};
 use crate::input::Input;
 use crate::line::{Line, LineEnd, read_line};
-use pur_base::{INPUT_BYTES, NoMemory, REQUEST_SECTORS, Request, Sector};
+use pur_base::{NoMemory, REQUEST_SECTORS, Request, Sector};
 use std::alloc::Global;
 use std::marker::Model;
 use world::{Failed, Source};
@@ -73,29 +73,14 @@ impl Reader {
             × Reads item self.new.sectors (self.old.ahead.pending ++ (S.source source.old).bytes) (self.new.ahead.pending ++ (S.source source.new).bytes)) }
         ensures total { IfOk result (λ item. Tells self.old.ahead (S.source source.old) →
             Totals (item ≡ Item.Limit) self.old.ahead.taken self.new.ahead.taken (length (S.source source.old).bytes) (length (S.source source.new).bytes)) }
-        ensures served { IfOk result IsServed }
-        ensures spelled { IfOk result IsSpelled }
-        ensures data { IfOk result (λ item. HasData item self.new.sectors) }
+        ensures complete { IfOk result (λ item. IsComplete item self.new.sectors) }
         ensures progress { IfOk result (λ item. TakesSome item (budget self.old.ahead) (budget self.new.ahead)) }
-        ensures limit { IfOk result (λ item. item ≡ Item.Limit → self.new.ahead.pending ≡ []) }
-        ensures limited { self.old.ahead.taken ≤ INPUT_BYTES → self.new.ahead.taken ≤ INPUT_BYTES }
-
-        // Once the input has ended, the source isn't asked again.
-        ensures latched { self.old.ahead.ended ≡ true → source.new ≡ source.old }
-        ensures stays_ended { self.old.ahead.ended ≡ true → self.new.ahead.ended ≡ true }
-        ensures end { IfOk result (λ item. item ≡ Item.End → self.new.ahead.ended ≡ true) }
+        ensures stops { IfOk result (λ item. Stops ((item ≡ Item.End) ⊎ (item ≡ Item.Cut)) (item ≡ Item.Limit) self.new.ahead) }
         ensures last { IfOk result (λ item. Tells self.old.ahead (S.source source.old) →
             list_any is_line_end (self.old.ahead.pending ++ (S.source source.old).bytes) ≡ false → (item ≡ Item.Limit) ⊎ (self.new.ahead.ended ≡ true)) }
-        ensures cut { IfOk result (λ item. item ≡ Item.Cut → self.new.ahead.ended ≡ true) }
-
         ensures failed { OnErr result (Tells self.old.ahead (S.source source.old) → Tells self.new.ahead (S.source source.new)
             × Unfinished (self.old.ahead.pending ++ (S.source source.old).bytes) (S.source source.new).bytes (λ rest. is_whole rest ≡ false)) }
-        ensures dropped { OnErr result (self.new.ahead.pending ≡ []) }
-        ensures asked { OnErr result (self.old.ahead.ended ≡ false) }
-
-        ensures honest { (S.source source.old).honest ↔ (S.source source.new).honest }
-        ensures counts { Counts result (S.source source.old).faults (S.source source.new).faults }
-        ensures rest { S.source_rest source.old source.new }
+        ensures asks { Asks S.source S.source_rest result self.old.ahead self.new.ahead source.old source.new }
     {
         let mut line = Line::new();
         match read_line(&mut self.input, &mut line, source)? {

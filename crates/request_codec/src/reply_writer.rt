@@ -1,7 +1,7 @@
 // The writer of replies.
-ghost use Rattle.std.specs.Prelude.{◌≡◌, ◌↔◌, ◌+◌, ◌-◌, ◌≤◌, ◌++◌, [], length, IsOk, IfOk, OnErr};
+ghost use Rattle.std.specs.Prelude.{◌≡◌, ◌+◌, ◌-◌, ◌≤◌, ◌++◌, [], length, IsOk, IfOk, OnErr};
 ghost use Rattle.pur_base.specs.Replies.{line_text, entry_text, sectors_text};
-ghost use Rattle.world.specs.Counts.{Counts};
+ghost use Rattle.request_codec.specs.Calls.{Went};
 ghost use Rattle.request_codec.specs.Writing.{Gave, Goes, Extends};
 ghost use Rattle.request_codec.specs.declared.buffer.TheConstants.{BUFFER_BYTES};
 
@@ -34,9 +34,7 @@ impl Model for ReplyWriter {
 /// Gives all the bytes, in as few calls as the sink allows.
 fn give_all<K: Sink>(bytes: &[u8], sink: &mut K) -> Result<(), Failed>
     ensures gave { (K.sink sink.old).honest → Gave result (K.sink sink.old).bytes (K.sink sink.new).bytes bytes.now }
-    ensures honest { (K.sink sink.old).honest ↔ (K.sink sink.new).honest }
-    ensures counts { Counts result (K.sink sink.old).faults (K.sink sink.new).faults }
-    ensures rest { K.sink_rest sink.old sink.new }
+    ensures went { Went K.sink K.sink_rest result sink.old sink.new }
 {
     let mut given = 0;
     'pieces: while given < bytes.len() {
@@ -77,9 +75,7 @@ impl ReplyWriter {
         ensures gave { (K.sink sink.old).honest → Goes result (K.sink sink.old).bytes self.old [] (K.sink sink.new).bytes self.new }
         ensures emptied { self.new ≡ [] }
         ensures extends { (K.sink sink.old).honest → Extends (K.sink sink.old).bytes (K.sink sink.new).bytes }
-        ensures honest { (K.sink sink.old).honest ↔ (K.sink sink.new).honest }
-        ensures counts { Counts result (K.sink sink.old).faults (K.sink sink.new).faults }
-        ensures rest { K.sink_rest sink.old sink.new }
+        ensures went { Went K.sink K.sink_rest result sink.old sink.new }
     {
         let count = self.len;
         self.len = 0;
@@ -93,9 +89,7 @@ impl ReplyWriter {
         ensures gathered { length self.old + length text.now ≤ BUFFER_BYTES → IsOk result × (self.new ≡ self.old ++ text.now) × (sink.new ≡ sink.old) }
         ensures emptied { OnErr result (self.new ≡ []) }
         ensures extends { (K.sink sink.old).honest → Extends (K.sink sink.old).bytes (K.sink sink.new).bytes }
-        ensures honest { (K.sink sink.old).honest ↔ (K.sink sink.new).honest }
-        ensures counts { Counts result (K.sink sink.old).faults (K.sink sink.new).faults }
-        ensures rest { K.sink_rest sink.old sink.new }
+        ensures went { Went K.sink K.sink_rest result sink.old sink.new }
     {
         let room = self.room();
         if text.len() <= room {
@@ -113,9 +107,7 @@ impl ReplyWriter {
         ensures gathered { length self.old + length (sectors_text sectors.now) ≤ BUFFER_BYTES → IsOk result × (self.new ≡ self.old ++ (sectors_text sectors.now)) × (sink.new ≡ sink.old) }
         ensures emptied { OnErr result (self.new ≡ []) }
         ensures extends { (K.sink sink.old).honest → Extends (K.sink sink.old).bytes (K.sink sink.new).bytes }
-        ensures honest { (K.sink sink.old).honest ↔ (K.sink sink.new).honest }
-        ensures counts { Counts result (K.sink sink.old).faults (K.sink sink.new).faults }
-        ensures rest { K.sink_rest sink.old sink.new }
+        ensures went { Went K.sink K.sink_rest result sink.old sink.new }
     {
         for sector in sectors {
             self.put(sector.as_bytes(), sink)?;
@@ -135,9 +127,7 @@ impl ReplyWriter {
         ensures gathered { length self.old + length (line_text reply.now ++ sectors_text sectors.now) ≤ BUFFER_BYTES → IsOk result × (self.new ≡ self.old ++ (line_text reply.now ++ sectors_text sectors.now)) × (sink.new ≡ sink.old) }
         ensures emptied { OnErr result (self.new ≡ []) }
         ensures extends { (K.sink sink.old).honest → Extends (K.sink sink.old).bytes (K.sink sink.new).bytes }
-        ensures honest { (K.sink sink.old).honest ↔ (K.sink sink.new).honest }
-        ensures counts { Counts result (K.sink sink.old).faults (K.sink sink.new).faults }
-        ensures rest { K.sink_rest sink.old sink.new }
+        ensures went { Went K.sink K.sink_rest result sink.old sink.new }
     {
         let mut line: Line = ArrayVec::new();
         push_reply(&mut line, reply);
@@ -158,9 +148,7 @@ impl ReplyWriter {
         ensures gathered { length self.old + length (entry_text name.now snapshot sectors) ≤ BUFFER_BYTES → IsOk result × (self.new ≡ self.old ++ (entry_text name.now snapshot sectors)) × (sink.new ≡ sink.old) }
         ensures emptied { OnErr result (self.new ≡ []) }
         ensures extends { (K.sink sink.old).honest → Extends (K.sink sink.old).bytes (K.sink sink.new).bytes }
-        ensures honest { (K.sink sink.old).honest ↔ (K.sink sink.new).honest }
-        ensures counts { Counts result (K.sink sink.old).faults (K.sink sink.new).faults }
-        ensures rest { K.sink_rest sink.old sink.new }
+        ensures went { Went K.sink K.sink_rest result sink.old sink.new }
     {
         let mut line: Line = ArrayVec::new();
         push_entry(&mut line, name, snapshot, sectors);

@@ -11,4 +11,4 @@ returns-in_err-write_names-clause-gave g c =
 pub returns-clause-gave : goal.returns-clause-gave
 returns-clause-gave g c = λ h contents array reads.
     let went = c.in_ok-write_names.ensures.gave h contents array reads in
-    gave-flushed c.flush.result _ _ _ _ _ _ (rw c.requires at went) (c.in_ok-write_names.ensures.extends h) (c.flush.ensures.gave (c.in_ok-write_names.ensures.honest.0 h)) c.flush.ensures.emptied
+    gave-flushed c.flush.result _ _ _ _ _ _ (rw c.requires at went) (c.in_ok-write_names.ensures.extends h) (c.flush.ensures.gave (c.in_ok-write_names.ensures.went.honest.0 h)) c.flush.ensures.emptied

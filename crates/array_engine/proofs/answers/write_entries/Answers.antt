@@ -24,5 +24,5 @@ loop-index-preserved g c =
           entry-went (sink c.args.sink.now).bytes c.args.writer.now (sink c.loop-index.sink).bytes c.loop-index.writer (sink c.write_entry_at.new.sink).bytes c.write_entry_at.new.writer array c.loop-index.index (inv.gave h contents array reads)
           (one.gave (inv.went.honest.0 h) contents array reads lt);
       extends = λ h. extends-on _ _ _ (inv.extends h) (one.extends (inv.went.honest.0 h));
-      went = went-on {meaning = g.K.Sink.sink} {Rest = g.K.Sink.sink_rest} g.met.K.Sink.sink_rest_stays inv.went one.honest one.counts one.rest;
+      went = went-on g.met.K.Sink.sink_rest_stays inv.went one.went;
     }

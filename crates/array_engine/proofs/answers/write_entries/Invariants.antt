@@ -2,7 +2,7 @@ use Rattle.std.proofs.Common.{◌≡◌, ◌++◌, take}
 use Rattle.pur_base.specs.Plain.{Array}
 use Rattle.pur_base.specs.Replies.{entries_text}
 use Rattle.memory_spec.specs.Memory.{Contents, ReadsAs}
-use Rattle.request_codec.specs.Calls.{Went}
+use Rattle.request_codec.specs.Calls.{Went, well}
 use Rattle.request_codec.specs.Writing.{Extends}
 use Rattle.array_engine.proofs.answers.write_entries.Given as goal
 
@@ -12,5 +12,5 @@ invariant-loop-index g l =
     record {
       gave : (sink l.fn.sink).honest → (contents : Contents) (array : Array) → ReadsAs contents l.memory.memory array → (sink l.sink).bytes ++ l.writer ≡ (sink l.fn.sink).bytes ++ l.fn.writer ++ entries_text (take l.index array);
       extends : (sink l.fn.sink).honest → Extends (sink l.fn.sink).bytes (sink l.sink).bytes;
-      went : Went sink g.K.Sink.sink_rest l.fn.sink l.sink;
+      went : Went sink g.K.Sink.sink_rest well l.fn.sink l.sink;
     }

@@ -10,4 +10,4 @@ returns-in_err-write_reply-clause-gave g c =
 pub returns-clause-gave : goal.returns-clause-gave
 returns-clause-gave g c = λ h contents array reads.
     names-then c.write_entries.result _ _ _ _ _ _ array (rw (c.len-count.ensures.array contents array reads) at c.in_ok-write_reply.ensures.gave h) (c.in_ok-write_reply.ensures.extends h)
-    (c.write_entries.ensures.gave (c.in_ok-write_reply.ensures.honest.0 h) contents array reads)
+    (c.write_entries.ensures.gave (c.in_ok-write_reply.ensures.went.honest.0 h) contents array reads)

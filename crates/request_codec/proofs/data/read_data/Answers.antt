@@ -1,6 +1,6 @@
 use Rattle.std.proofs.Common.{ℕ, ◌+◌, ap, ◌∙◌, arith}
 use Rattle.std.proofs.lemmas.Result.{err_from_is_err_and}
-use Rattle.request_codec.proofs.CallLemmas.{went-on}
+use Rattle.request_codec.proofs.Asking.{asks-then, asks-on, asks-failed}
 use Rattle.request_codec.proofs.DataLemmas.{data-more}
 use Rattle.request_codec.proofs.FailedLemmas.{sectors-failed, sectors-overrun}
 use Rattle.request_codec.proofs.data.read_data.Goals as goal
@@ -19,12 +19,7 @@ loop-preserved g c =
           (read.0, more.long, read.1.3 ∙ more.items, more.rest);
       spent = omega (arith, inv.spent, c.in_ok-read_sector.ensures.budget);
       total = λ t. ((rw c.in-Whole.is at c.in_ok-read_sector.ensures.total) (inv.told t).0).same (λ e. cc) ∙ inv.total t;
-      limited = λ h. c.in_ok-read_sector.ensures.limited (inv.limited h);
-      latched = λ e.
-          let was = inv.latched e in
-          let is = c.in_ok-read_sector.ensures.latched was.1 in
-          (is.0 ∙ was.0, is.1);
-      went = went-on g.met.S.Source.source_rest_stays inv.went c.in_ok-read_sector.ensures.honest c.in_ok-read_sector.ensures.counts c.in_ok-read_sector.ensures.rest;
+      asks = asks-on g.met.S.Source.source_rest_stays inv.asks c.in_ok-read_sector.ensures.asks;
     }
 
 pub returns-in_err-read_sector-clause-failed : goal.returns-in_err-read_sector-clause-failed
@@ -34,14 +29,15 @@ returns-in_err-read_sector-clause-failed g c =
     let part = c.in_err-read_sector.ensures.failed told.0 in
     (part.0, sectors-failed _ _ part.1.rest _ c.loop.counter c.args.count c.loop-test.true told.1 told.3 part.1.split part.1.part))
 
-pub returns-in_err-read_sector-clause-rest : goal.returns-in_err-read_sector-clause-rest
-returns-in_err-read_sector-clause-rest g c = g.met.S.Source.source_rest_stays.transitive _ _ _ c.loop.invariant.went.rest c.in_err-read_sector.ensures.rest
+pub returns-in_err-read_sector-clause-asks : goal.returns-in_err-read_sector-clause-asks
+returns-in_err-read_sector-clause-asks g c =
+    let p = err_from_is_err_and c.from_residual.result c.from_residual.ensures.1 in rw p.1 (asks-failed (asks-then g.met.S.Source.source_rest_stays c.loop.invariant.asks c.in_err-read_sector.ensures.asks))
 
-pub returns-in-Cut-clause-rest : goal.returns-in-Cut-clause-rest
-returns-in-Cut-clause-rest g c = g.met.S.Source.source_rest_stays.transitive _ _ _ c.loop.invariant.went.rest c.in_ok-read_sector.ensures.rest
+pub returns-in-Cut-clause-asks : goal.returns-in-Cut-clause-asks
+returns-in-Cut-clause-asks g c = asks-on g.met.S.Source.source_rest_stays c.loop.invariant.asks c.in_ok-read_sector.ensures.asks
 
-pub returns-in-Limit-clause-rest : goal.returns-in-Limit-clause-rest
-returns-in-Limit-clause-rest g c = g.met.S.Source.source_rest_stays.transitive _ _ _ c.loop.invariant.went.rest c.in_ok-read_sector.ensures.rest
+pub returns-in-Limit-clause-asks : goal.returns-in-Limit-clause-asks
+returns-in-Limit-clause-asks g c = asks-on g.met.S.Source.source_rest_stays c.loop.invariant.asks c.in_ok-read_sector.ensures.asks
 
 pub returns-in-Limit-clause-told : goal.returns-in-Limit-clause-told
 returns-in-Limit-clause-told g c = λ t.

@@ -1,6 +1,7 @@
 use Rattle.std.proofs.Common.{length, ap, ◌∙◌, arith}
 use Rattle.std.proofs.lemmas.List.{length-drop}
-use Rattle.request_codec.proofs.CallLemmas.{went-on, tells-same}
+use Rattle.request_codec.proofs.Asking.{asks-then, asks-consumed}
+use Rattle.request_codec.proofs.CallLemmas.{tells-same}
 use Rattle.request_codec.proofs.DataLemmas.{more-of-sector, sector-room}
 use Rattle.request_codec.proofs.data.read_split_sector.Goals as goal
 
@@ -19,10 +20,5 @@ pieces-preserved g c =
           );
       spent = rw taken (omega (arith, bytes.1, c.pieces.invariant.spent, ap length c.consume.ensures.pending, length-drop c.min-count.result c.ready.new.self.pending));
       total = λ t. rw taken (((rw c.in-Bytes.is at c.in_ok-ready.ensures.total) (c.pieces.invariant.told t).0).same (λ e. cc) ∙ c.pieces.invariant.total t);
-      limited = λ h. rw taken (c.in_ok-ready.ensures.limited (c.pieces.invariant.limited h));
-      latched = λ e.
-          let was = c.pieces.invariant.latched e in
-          let is = c.in_ok-ready.ensures.latched was.1 in
-          (is.0 ∙ was.0, c.consume.ensures.ended ∙ is.1);
-      went = went-on g.met.S.Source.source_rest_stays c.pieces.invariant.went c.in_ok-ready.ensures.honest c.in_ok-ready.ensures.counts c.in_ok-ready.ensures.rest;
+      asks = asks-consumed taken c.consume.ensures.ended (asks-then g.met.S.Source.source_rest_stays c.pieces.invariant.asks c.in_ok-ready.ensures.asks);
     }

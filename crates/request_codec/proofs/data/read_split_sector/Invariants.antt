@@ -1,7 +1,8 @@
-use Rattle.std.proofs.Common.{◌≡◌, ◌+◌, ◌-◌, ◌≤◌, ◌++◌, true, length}
-use Rattle.pur_base.specs.declared.limits.TheConstants.{INPUT_BYTES, SECTOR_BYTES}
+use Rattle.std.proofs.Common.{◌≡◌, ◌+◌, ◌-◌, ◌≤◌, ◌++◌, length}
+use Rattle.pur_base.specs.declared.limits.TheConstants.{SECTOR_BYTES}
 use Rattle.request_codec.specs.Ahead.{Tells, budget}
-use Rattle.request_codec.specs.Calls.{Went}
+use Rattle.request_codec.specs.Calls.{well}
+use Rattle.request_codec.specs.Asking.{Asks}
 use Rattle.request_codec.proofs.data.read_split_sector.Given as goal
 
 abbrev pub invariant-pieces : goal.invariant-pieces
@@ -13,9 +14,7 @@ invariant-pieces g l =
           × (l.fn.input.pending ++ (source l.fn.source).bytes ≡ l.body.items ++ (l.input.pending ++ (source l.source).bytes));
       spent : budget l.input ≤ budget l.fn.input;
       total : Tells l.fn.input (source l.fn.source) → l.input.taken + length (source l.source).bytes ≡ l.fn.input.taken + length (source l.fn.source).bytes;
-      limited : l.fn.input.taken ≤ INPUT_BYTES → l.input.taken ≤ INPUT_BYTES;
-      latched : l.fn.input.ended ≡ true → (l.source ≡ l.fn.source) × (l.input.ended ≡ true);
-      went : Went source g.S.Source.source_rest l.fn.source l.source;
+      asks : Asks source g.S.Source.source_rest well l.fn.input l.input l.fn.source l.source;
     }
 
 abbrev pub decreases-pieces : goal.decreases-pieces

@@ -5,7 +5,8 @@ use Rattle.request_codec.proofs.FailedLemmas.{has-end}
 use Rattle.pur_base.specs.declared.limits.TheConstants.{INPUT_BYTES}
 use Rattle.pur_base.proofs.LineLemmas.{open-append, whole-line, more-of-line, spent}
 use Rattle.request_codec.specs.Lines.{Holds}
-use Rattle.request_codec.proofs.CallLemmas.{went-on, tells-same}
+use Rattle.request_codec.proofs.Asking.{asks-then, asks-consumed}
+use Rattle.request_codec.proofs.CallLemmas.{tells-same}
 use Rattle.request_codec.proofs.line.read_line.Goals as goal
 
 pub returns-in-Some-clause-told : goal.returns-in-Some-clause-told
@@ -42,12 +43,7 @@ pieces-preserved g c =
         ),
       );
       total = λ t. rw taken (((rw c.in-Bytes.is at c.in_ok-ready.ensures.total) (inv.3 t).0).same (λ e. cc) ∙ c.pieces.invariant.total t);
-      limited = λ h. rw taken (c.in_ok-ready.ensures.limited (c.pieces.invariant.limited h));
-      latched = λ e.
-          let was = c.pieces.invariant.latched e in
-          let is = c.in_ok-ready.ensures.latched was.1 in
-          (is.0 ∙ was.0, c.consume-in-None.ensures.ended ∙ is.1);
-      went = went-on g.met.S.Source.source_rest_stays c.pieces.invariant.went c.in_ok-ready.ensures.honest c.in_ok-ready.ensures.counts c.in_ok-ready.ensures.rest;
+      asks = asks-consumed taken c.consume-in-None.ensures.ended (asks-then g.met.S.Source.source_rest_stays c.pieces.invariant.asks c.in_ok-ready.ensures.asks);
     }
 
 pub returns-in-Some-clause-last : goal.returns-in-Some-clause-last

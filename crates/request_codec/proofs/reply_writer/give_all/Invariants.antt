@@ -1,5 +1,5 @@
 use Rattle.std.proofs.Common.{◌≡◌, ◌≤◌, ◌-◌, ◌++◌, length, take}
-use Rattle.request_codec.specs.Calls.{Went}
+use Rattle.request_codec.specs.Calls.{Went, well}
 use Rattle.request_codec.proofs.reply_writer.give_all.Given as goal
 
 abbrev pub invariant-pieces : goal.invariant-pieces
@@ -8,7 +8,7 @@ invariant-pieces g l =
     record {
       within : l.given ≤ length l.bytes;
       gave : (sink l.fn.sink).honest → (sink l.sink).bytes ≡ (sink l.fn.sink).bytes ++ take l.given l.bytes;
-      went : Went sink g.K.Sink.sink_rest l.fn.sink l.sink;
+      went : Went sink g.K.Sink.sink_rest well l.fn.sink l.sink;
     }
 
 abbrev pub decreases-pieces : goal.decreases-pieces

@@ -1,5 +1,6 @@
 use Rattle.std.proofs.Common.{◌++◌, sym, ◌∙◌}
 use Rattle.std.proofs.lemmas.Result.{err_from_is_err_and}
+use Rattle.request_codec.proofs.Asking.{asks-then, asks-on, asks-failed}
 use Rattle.request_codec.proofs.ItemLemmas.{item-cut}
 use Rattle.request_codec.proofs.FailedLemmas.{line-failed, line-overrun, data-failed, data-overrun}
 use Rattle.request_codec.proofs.reader.Reader.next.Goals as goal
@@ -36,3 +37,16 @@ returns-in-Limit-2-clause-told g c = rw (← c.self.view_is) (λ t.
     let read = rw (c.in-Limit-2.is, c.data_sectors-count.ensures) at c.in_ok-read_data.ensures.told line.0 in
     let is = sym (c.request.ensures.request _ line.1.1) ∙ c.in-Some.is in
     (read.0, data-overrun (c.self.inside.input.pending ++ (g.S.Source.source c.args.source.now).bytes) _ _ read.1.0 read.1.1 c.in-Some.request line.1.2 is read.1.2 read.1.3))
+
+pub returns-in_err-read_data-clause-asks : goal.returns-in_err-read_data-clause-asks
+returns-in_err-read_data-clause-asks g c = rw (← c.self.view_is) (
+    let p = err_from_is_err_and c.from_residual-in_err-read_data.result c.from_residual-in_err-read_data.ensures.1 in rw p.1 (asks-failed (asks-then g.met.S.Source.source_rest_stays c.in_ok-read_line.ensures.asks c.in_err-read_data.ensures.asks)))
+
+pub returns-in-Cut-clause-asks : goal.returns-in-Cut-clause-asks
+returns-in-Cut-clause-asks g c = rw (← c.self.view_is) (asks-on g.met.S.Source.source_rest_stays c.in_ok-read_line.ensures.asks c.in_ok-read_data.ensures.asks)
+
+pub returns-in-Limit-2-clause-asks : goal.returns-in-Limit-2-clause-asks
+returns-in-Limit-2-clause-asks g c = rw (← c.self.view_is) (asks-on g.met.S.Source.source_rest_stays c.in_ok-read_line.ensures.asks c.in_ok-read_data.ensures.asks)
+
+pub returns-clause-asks : goal.returns-clause-asks
+returns-clause-asks g c = rw (← c.self.view_is) (asks-on g.met.S.Source.source_rest_stays c.in_ok-read_line.ensures.asks c.in_ok-read_data.ensures.asks)

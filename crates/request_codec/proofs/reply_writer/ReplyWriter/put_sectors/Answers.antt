@@ -24,7 +24,7 @@ loop-sector-preserved g c =
             put.2 ∙ was.1,
           );
       extends = λ h. extends-on _ _ _ (inv.extends h) (c.in_ok-put.ensures.extends (inv.went.honest.0 h));
-      went = went-on g.met.K.Sink.sink_rest_stays inv.went c.in_ok-put.ensures.honest c.in_ok-put.ensures.counts c.in_ok-put.ensures.rest;
+      went = went-on g.met.K.Sink.sink_rest_stays inv.went c.in_ok-put.ensures.went;
     }
 
 pub returns-in_err-put-clause-gathered : goal.returns-in_err-put-clause-gathered

@@ -1,7 +1,7 @@
 use Rattle.std.proofs.Common.{◌+◌, ◌≤◌, length, ◌≡◌, ◌++◌, take}
 use Rattle.pur_base.specs.Replies.{sectors_text}
 use Rattle.request_codec.specs.declared.buffer.TheConstants.{BUFFER_BYTES}
-use Rattle.request_codec.specs.Calls.{Went}
+use Rattle.request_codec.specs.Calls.{Went, well}
 use Rattle.request_codec.specs.Writing.{Extends}
 use Rattle.request_codec.proofs.reply_writer.ReplyWriter.put_sectors.Given as goal
 
@@ -12,5 +12,5 @@ invariant-loop-sector g l =
       gave : (sink l.fn.sink).honest → (sink l.sink).bytes ++ l.self ≡ (sink l.fn.sink).bytes ++ l.fn.self ++ sectors_text (take l.sector-index l.sectors);
       gathered : length l.fn.self + length (sectors_text l.sectors) ≤ BUFFER_BYTES → (l.self ≡ l.fn.self ++ sectors_text (take l.sector-index l.sectors)) × (l.sink ≡ l.fn.sink);
       extends : (sink l.fn.sink).honest → Extends (sink l.fn.sink).bytes (sink l.sink).bytes;
-      went : Went sink g.K.Sink.sink_rest l.fn.sink l.sink;
+      went : Went sink g.K.Sink.sink_rest well l.fn.sink l.sink;
     }

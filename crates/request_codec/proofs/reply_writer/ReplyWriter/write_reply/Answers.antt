@@ -11,4 +11,4 @@ returns-in_err-put-clause-gave g c =
 pub returns-clause-gave : goal.returns-clause-gave
 returns-clause-gave g c = λ h.
     let line = rw (c.as_slice.ensures.value, c.push_reply.ensures) at c.in_ok-put.ensures.gave h in
-    goes-then c.put_sectors.result _ _ (line_text c.args.reply.now) _ _ _ _ _ line (c.in_ok-put.ensures.extends h) (c.put_sectors.ensures.gave (c.in_ok-put.ensures.honest.0 h))
+    goes-then c.put_sectors.result _ _ (line_text c.args.reply.now) _ _ _ _ _ line (c.in_ok-put.ensures.extends h) (c.put_sectors.ensures.gave (c.in_ok-put.ensures.went.honest.0 h))
