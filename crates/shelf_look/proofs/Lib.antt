@@ -1,0 +1,7 @@
+pub mod Causing
+pub mod Counting
+pub mod Lifting
+pub mod Logs
+pub mod Making
+pub mod Records
+pub mod Running

@@ -1,0 +1,7 @@
+pub mod Causes
+pub mod Tables
+pub mod Log
+pub mod Opening
+pub mod Numbers
+pub mod Found
+pub mod Looking

@@ -1,0 +1,57 @@
+// The tables of a record are read, and memory is made of them.
+ghost use Rattle.std.specs.Prelude.{◌≡◌, ℕ, IfOk, IfErr};
+ghost use Rattle.pur_base.specs.declared.device.Device.{Device};
+ghost use Rattle.pur_base.specs.Devices.{nvram};
+ghost use Rattle.boot_codec.specs.Region.{IsRecordOf};
+ghost use Rattle.world.specs.Losing.{geometry_of};
+ghost use Rattle.world.specs.Ran.{Ran};
+ghost use Rattle.world.specs.Shelf.{IsSame};
+ghost use Rattle.nvram_log.specs.Read.{OnNothing};
+ghost use Rattle.shelf_look.specs.Opening.{IsAny};
+ghost use Rattle.shelf_look.specs.Tables.{AreOthers, AreTablesOn, IsMemoryOf, IsTablesCause};
+
+use array_memory::Memory;
+use boot_codec::{BootRecord, DRIVE_FLAGS};
+use std::alloc::Global;
+use table_loading::{TablesFault, load_tables};
+use world::Shelf;
+
+/// The drives that aren't among these.
+fn others_than(drives: &[bool; DRIVE_FLAGS]) -> [bool; DRIVE_FLAGS]
+    ensures { AreOthers drives.now result }
+{
+    let mut others = [false; DRIVE_FLAGS];
+    for slot in 0..DRIVE_FLAGS {
+        others[slot] = !drives[slot];
+    }
+    others
+}
+
+/// Memory of the tables that the record names, read from the drives that hold it.
+pub fn read_tables<S: Shelf>(
+    alloc: Global,
+    shelf: &mut S,
+    boot: &BootRecord,
+    drives: &[bool; DRIVE_FLAGS],
+) -> Result<Memory, TablesFault>
+    requires lawful { IsRecordOf (geometry_of (S.shelf shelf.old)) boot.now }
+    ensures ran { Ran S.shelf S.shelf_rest IsAny OnNothing shelf.old shelf.new }
+    ensures nvrams { (n : ℕ) → (S.shelf shelf.new).disk (nvram n) ≡ (S.shelf shelf.old).disk (nvram n) }
+    ensures same { (S.shelf shelf.old).honest → (device : Device) → IsSame ((S.shelf shelf.old).disk device) ((S.shelf shelf.new).disk device) }
+    ensures memory { IfOk result (IsMemoryOf (geometry_of (S.shelf shelf.old)) boot.now) }
+    ensures tables { (S.shelf shelf.old).honest → IfOk result (AreTablesOn (S.shelf shelf.old) drives.now boot.now) }
+    ensures fault { (S.shelf shelf.old).honest → IfErr result (IsTablesCause (S.shelf shelf.old) (S.shelf shelf.new) drives.now boot.now) }
+{
+    let missing = others_than(drives);
+    let tables = load_tables(alloc, shelf, boot, &missing)?;
+    let memory = Memory::from_tables(
+        alloc,
+        boot,
+        tables.objects,
+        tables.mediums,
+        tables.addresses,
+        tables.segments,
+        tables.elisions,
+    )?;
+    Ok(memory)
+}
