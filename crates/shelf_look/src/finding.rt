@@ -12,7 +12,7 @@ ghost use Rattle.shelf_look.specs.Log.{AreServed, AreWaiting, HasUnserved};
 ghost use Rattle.shelf_look.specs.declared.cause.Cause.TheVariants as causes;
 
 use crate::Cause;
-use crate::tables::read_tables;
+use crate::tables::{ShownFacts, read_tables};
 use crate::waiting::{Waiting, waiting_in};
 use array_memory::Memory;
 use boot_region::{Loaded, Regions};
@@ -25,6 +25,7 @@ use world::Shelf;
 pub struct Opening {
     pub loaded: Loaded,
     pub memory: Memory,
+    pub shown: ShownFacts,
     pub log: NvLog,
     pub waiting: Waiting,
 }
@@ -55,7 +56,7 @@ pub fn find<S: Shelf>(
     ensures cause { (S.shelf shelf.old).honest → IfErr result (IsCauseOf (S.shelf shelf.old) (S.shelf shelf.new) regions.now.bytes.items regions.now.answered.items) }
 {
     let loaded = regions.load(alloc, shelf.units())?;
-    let memory = read_tables(alloc, shelf, &loaded.record, &loaded.drives)?;
+    let tables = read_tables(alloc, shelf, &loaded.record, &loaded.drives)?;
     let log = NvLog::read(
         alloc,
         shelf,
@@ -65,7 +66,8 @@ pub fn find<S: Shelf>(
     let waiting = served_in(&log)?;
     Ok(Opening {
         loaded,
-        memory,
+        memory: tables.memory,
+        shown: tables.shown,
         log,
         waiting,
     })

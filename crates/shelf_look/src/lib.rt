@@ -3,20 +3,28 @@
 #![tactic(auto)]
 
 mod cause;
+mod counts;
 mod drives;
 mod finding;
 mod found;
 mod looking;
 mod numbers;
+mod objects;
 mod record;
+mod shown;
 mod tables;
+mod units;
 mod waiting;
 
 pub use cause::Cause;
+pub use counts::TableCounts;
 pub use drives::DriveState;
 pub use finding::Opening;
 pub use found::Found;
 pub use looking::{Looked, look};
 pub use numbers::Numbers;
+pub use objects::{ObjectSeen, SegmentSeen};
 pub use record::RecordSeen;
+pub use tables::ShownFacts;
+pub use units::{Unit, Units};
 pub use waiting::Waiting;

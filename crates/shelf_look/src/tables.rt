@@ -10,11 +10,42 @@ ghost use Rattle.nvram_log.specs.Read.{OnNothing};
 ghost use Rattle.shelf_look.specs.Opening.{IsAny};
 ghost use Rattle.shelf_look.specs.Tables.{AreOthers, AreTablesOn, IsMemoryOf, IsTablesCause};
 
+use crate::shown::{ranges_in, shown_in};
 use array_memory::Memory;
 use boot_codec::{BootRecord, DRIVE_FLAGS};
+use pur_base::{AddressFact, NoMemory, Table};
 use std::alloc::Global;
 use table_loading::{TablesFault, load_tables};
+use table_soundness::LoadedTables;
 use world::Shelf;
+
+/// The tables of a record in memory.
+#[derive(Drop)]
+pub struct Tables {
+    pub memory: Memory,
+    pub shown: ShownFacts,
+}
+
+/// What the tables of addresses and of mediums show.
+#[derive(Drop)]
+pub struct ShownFacts {
+    /// The visible addresses, in no order.
+    pub addresses: Vec<AddressFact>,
+    /// How many facts of mediums are visible.
+    pub mediums: usize,
+}
+
+/// What the tables of addresses and of mediums show.
+fn shown_facts(alloc: Global, tables: &LoadedTables) -> Result<ShownFacts, NoMemory> {
+    let no_addresses = ranges_in(alloc, &tables.elisions, Table::Address)?;
+    let addresses = shown_in(alloc, &tables.addresses, &no_addresses)?;
+    let no_mediums = ranges_in(alloc, &tables.elisions, Table::Medium)?;
+    let mediums = shown_in(alloc, &tables.mediums, &no_mediums)?;
+    Ok(ShownFacts {
+        addresses,
+        mediums: mediums.len(),
+    })
+}
 
 /// The drives that aren't among these.
 fn others_than(drives: &[bool; DRIVE_FLAGS]) -> [bool; DRIVE_FLAGS]
@@ -27,23 +58,24 @@ fn others_than(drives: &[bool; DRIVE_FLAGS]) -> [bool; DRIVE_FLAGS]
     others
 }
 
-/// Memory of the tables that the record names, read from the drives that hold it.
+/// The tables that the record names, read from the drives that hold it.
 pub fn read_tables<S: Shelf>(
     alloc: Global,
     shelf: &mut S,
     boot: &BootRecord,
     drives: &[bool; DRIVE_FLAGS],
-) -> Result<Memory, TablesFault>
+) -> Result<Tables, TablesFault>
     requires lawful { IsRecordOf (geometry_of (S.shelf shelf.old)) boot.now }
     ensures ran { Ran S.shelf S.shelf_rest IsAny OnNothing shelf.old shelf.new }
     ensures nvrams { (n : ℕ) → (S.shelf shelf.new).disk (nvram n) ≡ (S.shelf shelf.old).disk (nvram n) }
     ensures same { (S.shelf shelf.old).honest → (device : Device) → IsSame ((S.shelf shelf.old).disk device) ((S.shelf shelf.new).disk device) }
-    ensures memory { IfOk result (IsMemoryOf (geometry_of (S.shelf shelf.old)) boot.now) }
-    ensures tables { (S.shelf shelf.old).honest → IfOk result (AreTablesOn (S.shelf shelf.old) drives.now boot.now) }
+    ensures memory { IfOk result (λ t. IsMemoryOf (geometry_of (S.shelf shelf.old)) boot.now t.memory) }
+    ensures tables { (S.shelf shelf.old).honest → IfOk result (λ t. AreTablesOn (S.shelf shelf.old) drives.now boot.now t.memory) }
     ensures fault { (S.shelf shelf.old).honest → IfErr result (IsTablesCause (S.shelf shelf.old) (S.shelf shelf.new) drives.now boot.now) }
 {
     let missing = others_than(drives);
     let tables = load_tables(alloc, shelf, boot, &missing)?;
+    let shown = shown_facts(alloc, &tables)?;
     let memory = Memory::from_tables(
         alloc,
         boot,
@@ -53,5 +85,5 @@ pub fn read_tables<S: Shelf>(
         tables.segments,
         tables.elisions,
     )?;
-    Ok(memory)
+    Ok(Tables { memory, shown })
 }

@@ -19,15 +19,15 @@ read_tables-requires g c =
     let a = g.S.Shelf.shelf c.args.shelf.now in
     record { lawful = (c.in_ok-loaded.ensures.ok (geometry_of a) (sym c.requires.drives) (sym c.units.ensures)).held.lawful }
 
-pub returns-in_err-memory-clause-cause : goal.returns-in_err-memory-clause-cause
-returns-in_err-memory-clause-cause g c honest =
+pub returns-in_err-tables-clause-cause : goal.returns-in_err-tables-clause-cause
+returns-in_err-tables-clause-cause g c honest =
     let a = g.S.Shelf.shelf c.args.shelf.now in
     let n = g.S.Shelf.shelf c.read_tables.new.shelf in
     let r = c.args.regions.now in
     let given = c.in_ok-loaded.ensures.ok (geometry_of a) (sym c.requires.drives) (sym c.units.ensures) in
-    if_err c.from_residual-in_err-memory.result _ _ c.from_residual-in_err-memory.ensures.1 (λ e is.
+    if_err c.from_residual-in_err-tables.result _ _ c.from_residual-in_err-tables.ensures.1 (λ e is.
     subst (λ (x : Cause). IsCauseOf a n r.bytes.items r.answered.items x) (sym is)
-    (cause_of_those a n r.bytes.items r.answered.items c.in_ok-loaded.loaded given c.in_err-memory.field-0.0 (c.in_err-memory.ensures.fault honest)))
+    (cause_of_those a n r.bytes.items r.answered.items c.in_ok-loaded.loaded given c.in_err-tables.field-0.0 (c.in_err-tables.ensures.fault honest)))
 
 pub returns-in_err-log-clause-ran : goal.returns-in_err-log-clause-ran
 returns-in_err-log-clause-ran g c = ran_then g.met.S.Shelf.shelf_rest_stays c.read_tables.ensures.ran (ran_more (λ d on. tt) (λ d i w. w) c.read.ensures.ran)
@@ -74,7 +74,7 @@ returns-clause-opening g c =
     let given = c.in_ok-loaded.ensures.ok (geometry_of a) (sym c.requires.drives) (sym c.units.ensures) in
     record {
       lawful = given.held.lawful;
-      memory = c.in_ok-memory.ensures.memory;
+      memory = c.in_ok-tables.ensures.memory;
       waiting = λ commands keeps. (c.in_ok-waiting.ensures.ok commands keeps).1;
     }
 
@@ -85,7 +85,7 @@ returns-clause-found g c honest =
     let n = g.S.Shelf.shelf c.read.new.shelf in
     record {
       given = c.in_ok-loaded.ensures.ok (geometry_of a) (sym c.requires.drives) (sym c.units.ensures);
-      tables = c.in_ok-memory.ensures.tables honest;
+      tables = c.in_ok-tables.ensures.tables honest;
       log = log_of a mid n c.in_ok-loaded.loaded.record c.in_ok-log.log c.read_tables.ensures.ran.on.continues.honest c.read_tables.ensures.nvrams c.in_ok-log.ensures.flushed
           c.in_ok-log.ensures.members.0 c.in_ok-log.ensures.members.1 c.in_ok-log.ensures.dropped c.in_ok-log.ensures.log;
       served = λ commands keeps. (c.in_ok-waiting.ensures.ok commands keeps).0;
