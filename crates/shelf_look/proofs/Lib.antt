@@ -3,5 +3,6 @@ pub mod Counting
 pub mod Lifting
 pub mod Logs
 pub mod Making
+pub mod Ranging
 pub mod Records
 pub mod Running

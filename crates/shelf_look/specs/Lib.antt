@@ -1,4 +1,5 @@
 pub mod Causes
+pub mod Shown
 pub mod Tables
 pub mod Log
 pub mod Opening

@@ -8,15 +8,20 @@ ghost use Rattle.world.specs.Ran.{Ran};
 ghost use Rattle.world.specs.Shelf.{IsSame};
 ghost use Rattle.nvram_log.specs.Read.{OnNothing};
 ghost use Rattle.shelf_look.specs.Opening.{IsAny};
+ghost use Rattle.pyramid.specs.Layers.{facts_of};
+ghost use Rattle.table_soundness.specs.Elided.{AreElidedBy};
+ghost use Rattle.table_soundness.specs.Faults.{AreLawful, facts_in};
+ghost use Rattle.shelf_look.specs.Shown.{AreShownBy};
 ghost use Rattle.shelf_look.specs.Tables.{AreOthers, AreTablesOn, IsMemoryOf, IsTablesCause};
 
-use crate::shown::{ranges_in, shown_in};
+use crate::shown::shown;
 use array_memory::Memory;
 use boot_codec::{BootRecord, DRIVE_FLAGS};
-use pur_base::{AddressFact, NoMemory, Table};
+use elision::Elided;
+use pur_base::{AddressFact, MediumFact, NoMemory, Table};
 use std::alloc::Global;
 use table_loading::{TablesFault, load_tables};
-use table_soundness::LoadedTables;
+use table_soundness::{LoadedTables, elided_by};
 use world::Shelf;
 
 /// The tables of a record in memory.
@@ -26,25 +31,32 @@ pub struct Tables {
     pub shown: ShownFacts,
 }
 
-/// What the tables of addresses and of mediums show.
+/// What the tables of addresses and of mediums show, each by ascending key.
 #[derive(Drop)]
 pub struct ShownFacts {
-    /// The visible addresses, in no order.
     pub addresses: Vec<AddressFact>,
-    /// How many facts of mediums are visible.
-    pub mediums: usize,
+    pub mediums: Vec<MediumFact>,
 }
 
-/// What the tables of addresses and of mediums show.
-fn shown_facts(alloc: Global, tables: &LoadedTables) -> Result<ShownFacts, NoMemory> {
-    let no_addresses = ranges_in(alloc, &tables.elisions, Table::Address)?;
-    let addresses = shown_in(alloc, &tables.addresses, &no_addresses)?;
-    let no_mediums = ranges_in(alloc, &tables.elisions, Table::Medium)?;
-    let mediums = shown_in(alloc, &tables.mediums, &no_mediums)?;
-    Ok(ShownFacts {
-        addresses,
-        mediums: mediums.len(),
-    })
+/// What the tables of mediums and of addresses show, of which that is elided.
+fn shown_by(alloc: Global, tables: &LoadedTables, elided: &Elided) -> Result<ShownFacts, NoMemory>
+    requires { AreElidedBy (facts_of tables.now.elisions.items) elided.now }
+    ensures { IfOk result (AreShownBy (facts_in tables.now)) }
+{
+    let no_mediums = elided.ranges(Table::Medium);
+    let mediums = shown(alloc, &tables.mediums, no_mediums)?;
+    let no_addresses = elided.ranges(Table::Address);
+    let addresses = shown(alloc, &tables.addresses, no_addresses)?;
+    Ok(ShownFacts { addresses, mediums })
+}
+
+/// What the tables of mediums and of addresses show.
+fn shown_facts(alloc: Global, tables: &LoadedTables) -> Result<ShownFacts, NoMemory>
+    requires { AreLawful tables.now }
+    ensures { IfOk result (AreShownBy (facts_in tables.now)) }
+{
+    let elided = elided_by(alloc, &tables.elisions)?;
+    shown_by(alloc, tables, &elided)
 }
 
 /// The drives that aren't among these.
