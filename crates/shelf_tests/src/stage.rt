@@ -79,11 +79,11 @@ pub fn close_gate(world: &mut MemWorld, device: u8, slot: u8) -> Result<(), Fail
     Ok(())
 }
 
-/// Whether each call of the record is a read of a device, and there is one.
+/// Whether each call of the record is a read of a device, whether or not it failed, and there is one.
 fn has_only_read(world: &MemWorld) -> bool {
     for call in world.calls() {
         match call {
-            Call::On(_, What::Read) => {},
+            Call::On(_, What::Read | What::FailedRead(_)) => {},
             _ => return false,
         }
     }
