@@ -1,5 +1,5 @@
 -- What was read gives an array, or there is none for that cause.
-use Rattle.std.proofs.Common.{◌≡◌, ◌∙◌, inl, inr, ℕ, ◌<◌, ◌≤◌, Bool, true, false, not, List, sym, ap, subst, arith, Result, Ok, Err, IsErrAnd}
+use Rattle.std.proofs.Common.{◌≡◌, ◌∙◌, inl, inr, ℕ, ◌≤◌, Bool, not, List, ap, subst, arith, Result, Ok, Err, IsErrAnd}
 use Rattle.std.specs.Prelude.{IfErr}
 use Rattle.std.proofs.lemmas.Bool.{cases_Bool}
 use Rattle.pur_base.specs.Devices.{View, nvram}
@@ -16,7 +16,7 @@ use Rattle.nvram_log.specs.declared.log.NvLog.{NvLog}
 use Rattle.nvram_log.specs.declared.read.ReadFault.{ReadFault}
 use Rattle.nvram_log.specs.declared.read.ReadFault.TheVariants as read_fault
 use Rattle.nvram_log.specs.Held.{shown_by}
-use Rattle.nvram_log.specs.Members.{IsFewer, IsMember, IsSome}
+use Rattle.nvram_log.specs.Members.{IsFewer, IsSome}
 use Rattle.nvram_log.specs.Read.{AllFailed, DroppedCounted, IsReadFrom}
 use Rattle.table_loading.specs.declared.fault.TablesFault.{TablesFault}
 use Rattle.table_loading.specs.declared.fault.TablesFault.TheVariants as tables

@@ -1,5 +1,5 @@
 -- What was told since a moment at which the devices were as before is told since before.
-use Rattle.std.proofs.Common.{◌≡◌, ◌∙◌, inl, inr, ℕ, ◌+◌, ◌-◌, ◌^◌, ◌<◌, ◌≤◌, Bool, List, sym, ap, subst, arith, Result, Ok, Err}
+use Rattle.std.proofs.Common.{◌≡◌, ◌∙◌, inl, inr, ℕ, ◌-◌, ◌^◌, ◌≤◌, Bool, List, sym, ap, subst, arith, Result, Ok, Err}
 use Rattle.std.specs.Prelude.{Some, IfOk, IfErr}
 use Rattle.pur_base.specs.declared.device.Device.{Device}
 use Rattle.pur_base.specs.Devices.{Geometry, View, drive, nvram}
@@ -20,7 +20,6 @@ use Rattle.shelf_look.specs.declared.cause.Cause.{Cause}
 use Rattle.shelf_look.specs.declared.cause.Cause.TheVariants as cause
 use Rattle.shelf_look.specs.declared.finding.Opening.{Opening}
 use Rattle.shelf_look.specs.declared.found.Found.{Found}
-use Rattle.shelf_look.specs.Found.{IsFoundOf}
 use Rattle.shelf_look.specs.Log.{IsLogOf}
 use Rattle.shelf_look.specs.Looking.{IsOutcome, IsTold}
 use Rattle.shelf_look.specs.Opening.{IsCauseOf, IsOpeningOf}
@@ -63,15 +62,26 @@ module _ (a b n : Shelved) (on : Continues a b) (same : (d : Device) → IsSame 
     λ view ps shown stand sound. is.1 view ps (shows drives view shown) stand (subst (λ (g : Geometry). AreSound g boot ps) (sym size) sound),
   )
   tables_too drives boot (tables.Lost lost) is =
-      let since = is.2.2.2 in
-      (is.0, is.1, (is.2.0, is.2.1, (is.2.2.0, is.2.2.1, record {
-        faults = since.faults;
-        since = λ d. omega (arith, on.faults d, since.since d);
-        three = since.three;
-        no_other = since.no_other;
-        cause = since.cause;
-        reported = since.reported;
-      })))
+      let since = is.2.2.2 in (
+        is.0,
+        is.1,
+        (
+          is.2.0,
+          is.2.1,
+          (
+            is.2.2.0,
+            is.2.2.1,
+            record {
+              faults = since.faults;
+              since = λ d. omega (arith, on.faults d, since.since d);
+              three = since.three;
+              no_other = since.no_other;
+              cause = since.cause;
+              reported = since.reported;
+            },
+          ),
+        ),
+      )
   tables_too drives boot (tables.Memory m) is = tt
 
   given_too : (bytes : List ℕ) (answered : List Bool) (x : Loaded) → IsGiven (geometry_of b) bytes answered x → IsGiven (geometry_of a) bytes answered x

@@ -1,7 +1,6 @@
 -- Memory that was made of tables.
 use Rattle.std.proofs.Common.{◌≡◌, ◌∙◌, ◌++◌, List, map, sym, ap, subst, ℕ}
 use Rattle.pur_base.specs.Devices.{Geometry}
-use Rattle.pur_base.specs.Facts.{Facts}
 use Rattle.pur_base.specs.Visible.{segments}
 use Rattle.pur_base.specs.declared.facts.AnyFact.{AnyFact}
 use Rattle.pur_base.specs.declared.facts.AnyFact.TheVariants as any

@@ -1,10 +1,8 @@
 -- An elision that was decoded is a range of ids.
-use Rattle.std.proofs.Common.{◌≡◌, ◌≤◌, ℕ, ap, arith}
+use Rattle.std.proofs.Common.{ℕ, ap, arith}
 use Rattle.pur_base.specs.Tags.{tag_of}
 use Rattle.pur_base.specs.declared.facts.ElisionFact.{ElisionFact}
 use Rattle.pur_base.specs.declared.facts.AnyFact.TheVariants as any
-use Rattle.pur_base.specs.declared.request.Table.{Table}
-use Rattle.pur_base.specs.declared.request.Table.TheVariants as table
 use Rattle.fact_codec.specs.Fact.{IsFact}
 use Rattle.table_soundness.specs.Elided.{IsRange}
 

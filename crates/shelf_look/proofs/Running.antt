@@ -1,5 +1,4 @@
 -- Devices that are only read.
-use Rattle.pur_base.specs.declared.device.Device.{Device}
 use Rattle.world.specs.Ran.{Ran}
 use Rattle.world.specs.Shelf.{Shelved, Continues}
 use Rattle.world.specs.Writes.{WritesOnly}

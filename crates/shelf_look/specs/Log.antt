@@ -8,7 +8,7 @@ use Rattle.pur_base.specs.declared.request.Request.TheVariants as request
 use Rattle.boot_codec.specs.declared.record.BootRecord.{BootRecord}
 use Rattle.world.specs.Shelf.{Shelved}
 use Rattle.nvram_log.specs.declared.log.NvLog.{NvLog}
-use Rattle.nvram_log.specs.Held.{Keeps, shown_by}
+use Rattle.nvram_log.specs.Held.{shown_by}
 use Rattle.nvram_log.specs.Members.{IsFewer, IsSome}
 use Rattle.nvram_log.specs.Read.{DroppedCounted, IsReadFrom}
 use Rattle.shelf_look.specs.declared.waiting.Waiting.{Waiting}

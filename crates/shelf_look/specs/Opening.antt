@@ -1,5 +1,5 @@
 -- What an opening would find on the devices, and why it would find no array.
-use Rattle.std.specs.Prelude.{◌≡◌, ℕ, ◌<◌, Bool, List, Result, Err, ⊤}
+use Rattle.std.specs.Prelude.{ℕ, ◌<◌, Bool, List, ⊤}
 use Rattle.pur_base.specs.Commands.{Command}
 use Rattle.pur_base.specs.Devices.{Geometry, nvram}
 use Rattle.pur_base.specs.declared.device.Device.{Device}
@@ -8,7 +8,6 @@ use Rattle.world.specs.Counts.{Rises}
 use Rattle.world.specs.Losing.{geometry_of}
 use Rattle.world.specs.Shelf.{Shelved}
 use Rattle.boot_region.specs.declared.loading.Loaded.{Loaded}
-use Rattle.boot_region.specs.declared.loading.LoadFault.{LoadFault}
 use Rattle.boot_region.specs.Loading.{IsFaultOf, IsGiven}
 use Rattle.nvram_log.specs.declared.log.NvLog.{NvLog}
 use Rattle.nvram_log.specs.Held.{Keeps}

@@ -1,8 +1,6 @@
 -- What the tables of addresses and of mediums show.
-use Rattle.std.specs.Prelude.{IsTrue, ◌↔◌, ℕ, List}
 use Rattle.pur_base.specs.Facts.{Facts, address_key, medium_key, is_empty_range, never}
 use Rattle.pur_base.specs.Visible.{is_elided}
-use Rattle.pur_base.specs.declared.request.Table.{Table}
 use Rattle.pur_base.specs.declared.request.Table.TheVariants as table
 use Rattle.pyramid.specs.Shown.{IsShown}
 use Rattle.shelf_look.specs.declared.tables.ShownFacts.{ShownFacts}

@@ -43,11 +43,7 @@ fn served_in(log: &NvLog) -> Result<Waiting, Cause>
 }
 
 /// Finds what an opening would find, where so much was read of the boot regions, or why it would end.
-pub fn find<S: Shelf>(
-    alloc: Global,
-    shelf: &mut S,
-    regions: &Regions,
-) -> Result<Opening, Cause>
+pub fn find<S: Shelf>(alloc: Global, shelf: &mut S, regions: &Regions) -> Result<Opening, Cause>
     requires drives { length regions.now.answered.items ≡ (S.shelf shelf.old).drives }
     ensures same { (S.shelf shelf.old).honest → (d : Device) → IsSame ((S.shelf shelf.old).disk d) ((S.shelf shelf.new).disk d) }
     ensures ran { Ran S.shelf S.shelf_rest IsAny OnNothing shelf.old shelf.new }

@@ -6,9 +6,7 @@ ghost use Rattle.shelf_look.specs.Found.{IsFoundOf};
 
 use crate::counts::{TableCounts, counts_of};
 use crate::numbers::{Numbers, numbers_of};
-use crate::objects::{
-    ObjectSeen, SegmentSeen, count_named, count_stored, objects_in, segments_in,
-};
+use crate::objects::{ObjectSeen, SegmentSeen, count_named, count_stored, objects_in, segments_in};
 use crate::units::{Units, units_of};
 use crate::{Opening, Waiting};
 use boot_codec::NVRAM_FLAGS;

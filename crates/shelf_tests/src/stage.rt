@@ -93,7 +93,14 @@ fn has_only_read(world: &MemWorld) -> bool {
 /// What is told of the shelf. It is an error where it made a call that is no read.
 pub fn viewed(alloc: Global, world: &mut MemWorld, json: bool) -> Result<Told, Fail> {
     world.forget();
-    let told = view(alloc, world, Asked { json, objects: true })?;
+    let told = view(
+        alloc,
+        world,
+        Asked {
+            json,
+            objects: true,
+        },
+    )?;
     if !has_only_read(world) {
         return Err(Fail::new("it made another call than a read"));
     }

@@ -1,14 +1,17 @@
 //! The program of one who looks: what the shelf in the current folder shows, in words, as a picture and as JSON, and what an opening would make of it.
-//! `view` of `shelf_words` makes no write and no sync, whatever the shelf does; `main` lends it the files of the shelf and prints what it tells.
+//! `view_only` passes no write and no sync on to the shelf, whatever it does; `main` lends it the files of the shelf and prints what it tells.
 #![tactic(auto)]
 
 mod asked;
 mod ending;
+mod only;
 
 use crate::asked::asked_by;
 use crate::ending::{IN_USE, NO_SHELF, WORDS, code_of, text_of};
+use crate::only::view_only;
 use pur_base::Status;
-use shelf_words::{Asked, Told, view};
+use shelf_reads::ReadOnly;
+use shelf_words::{Asked, Told};
 use std::process::ExitCode;
 use std::{env, io};
 use world_file::{Files, NoShelf};
@@ -50,10 +53,13 @@ fn tell(rt: &HostRuntime, told: &Told) -> ExitCode {
 /// Looks at the shelf of the current folder.
 fn run(rt: &HostRuntime, asked: Asked) -> ExitCode {
     match Files::open(rt) {
-        Ok(mut files) => match view(rt.alloc(), &mut files, asked) {
-            Ok(told) => tell(rt, &told),
-            Err(_) => end(rt, Status::Memory),
-        },
+        Ok(files) => {
+            let mut only = ReadOnly::new(files);
+            match view_only(rt.alloc(), &mut only, asked) {
+                Ok(told) => tell(rt, &told),
+                Err(_) => end(rt, Status::Memory),
+            }
+        }
         Err(NoShelf::Memory) => end(rt, Status::Memory),
         Err(NoShelf::BadText) => leave(rt, NO_SHELF, "no shelf"),
         Err(NoShelf::InUse) => leave(rt, IN_USE, "in use"),

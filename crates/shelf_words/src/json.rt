@@ -3,11 +3,14 @@ use crate::page::name_text;
 use crate::picture::{bar_of, free_in};
 use crate::words::{TABLES, cause_text, kind_text, slot_text};
 use pur_base::NoMemory;
-use serde_json::{Value, json};
+use serde_json::{Map, Value, put};
 use shelf_look::{
-    DriveState, Found, Looked, ObjectSeen, RecordSeen, SegmentSeen, TableCounts,
+    Cause, DriveState, Found, Looked, Numbers, ObjectSeen, RecordSeen, SegmentSeen, TableCounts,
+    Unit, Waiting,
 };
 use std::alloc::{AllocError, Global};
+
+type Members = Map<String, Value>;
 
 fn state_word(state: DriveState) -> &'static str {
     match state {
@@ -18,109 +21,229 @@ fn state_word(state: DriveState) -> &'static str {
     }
 }
 
-fn flags(alloc: Global, flags: &[bool]) -> Result<Value, AllocError> {
+fn put_text(map: &mut Members, alloc: Global, key: &str, text: &str) -> Result<(), AllocError> {
+    let value = Value::try_from_str(alloc, text)?;
+    put(map, alloc, key, value)
+}
+
+fn put_number(map: &mut Members, alloc: Global, key: &str, number: u64) -> Result<(), AllocError> {
+    put(map, alloc, key, Value::from(number))
+}
+
+fn put_flags(
+    map: &mut Members,
+    alloc: Global,
+    key: &str,
+    flags: &[bool],
+) -> Result<(), AllocError> {
     let mut all = Vec::new(alloc);
     for flag in flags {
         all.push(Value::Bool(*flag))?;
     }
-    Ok(Value::Array(all))
+    put(map, alloc, key, Value::Array(all))
+}
+
+fn put_record(map: &mut Members, alloc: Global, record: &RecordSeen) -> Result<(), AllocError> {
+    put_number(map, alloc, "generation", record.generation)?;
+    put_text(map, alloc, "slot", slot_text(record.slot))?;
+    put_flags(map, alloc, "drives", &record.members.drives)?;
+    put_flags(map, alloc, "nvrams", &record.members.nvrams)?;
+    put_flags(map, alloc, "holding", &record.holding)
 }
 
 fn record_value(alloc: Global, record: &Option<RecordSeen>) -> Result<Value, AllocError> {
-    let Some(record) = record else {
-        return Ok(Value::Null);
-    };
-    let drives = flags(alloc, &record.members.drives)?;
-    let nvrams = flags(alloc, &record.members.nvrams)?;
-    let holding = flags(alloc, &record.holding)?;
-    json!(in alloc; {"generation": record.generation, "slot": slot_text(record.slot), "drives": drives, "nvrams": nvrams, "holding": holding})
+    match record {
+        Some(record) => {
+            let mut map = Map::new(alloc);
+            put_record(&mut map, alloc, record)?;
+            Ok(Value::Object(map))
+        }
+        None => Ok(Value::Null),
+    }
 }
 
-fn drives_value(alloc: Global, looked: &Looked) -> Result<Value, AllocError> {
+fn put_drives(map: &mut Members, alloc: Global, looked: &Looked) -> Result<(), AllocError> {
     let mut all = Vec::new(alloc);
     for slot in 0..usize::from(looked.slots) {
         if let Some(state) = looked.drives.get(slot) {
-            all.push(json!(in alloc; state_word(*state))?)?;
+            let value = Value::try_from_str(alloc, state_word(*state))?;
+            all.push(value)?;
         }
     }
-    Ok(Value::Array(all))
+    put(map, alloc, "drives", Value::Array(all))
 }
 
-fn numbers_value(alloc: Global, found: &Found) -> Result<Value, AllocError> {
-    let n = &found.numbers;
-    json!(in alloc; {"generation": n.generation, "drives": n.drives, "holding": n.holding, "nvrams": n.nvrams, "answering": n.answering, "groups": n.groups, "segments": n.segments, "placed": n.placed, "patch_segments": n.patch_segments, "free_slots": n.free_slots})
+fn put_numbers(map: &mut Members, alloc: Global, n: &Numbers) -> Result<(), AllocError> {
+    put_number(map, alloc, "generation", n.generation)?;
+    put_number(map, alloc, "drives", n.drives as u64)?;
+    put_number(map, alloc, "holding", n.holding as u64)?;
+    put_number(map, alloc, "nvrams", n.nvrams as u64)?;
+    put_number(map, alloc, "answering", n.answering as u64)?;
+    put_number(map, alloc, "groups", u64::from(n.groups))?;
+    put_number(map, alloc, "segments", n.segments as u64)?;
+    put_number(map, alloc, "placed", n.placed)?;
+    put_number(map, alloc, "patch_segments", n.patch_segments as u64)?;
+    put_number(map, alloc, "free_slots", n.free_slots as u64)
 }
 
-fn units_value(alloc: Global, looked: &Looked, found: &Found) -> Result<Value, AllocError> {
+fn put_waiting(map: &mut Members, alloc: Global, w: &Waiting) -> Result<(), AllocError> {
+    put_number(map, alloc, "creates", w.creates as u64)?;
+    put_number(map, alloc, "writes", w.writes as u64)?;
+    put_number(map, alloc, "fills", w.fills as u64)
+}
+
+fn drive_units(alloc: Global, units: &[Unit]) -> Result<Value, AllocError> {
+    let mut map = Map::new(alloc);
+    put_number(&mut map, alloc, "free", free_in(units) as u64)?;
+    let Ok(bar) = bar_of(alloc, units) else {
+        return Err(AllocError);
+    };
+    put(&mut map, alloc, "bar", Value::String(bar))?;
+    Ok(Value::Object(map))
+}
+
+fn put_units(map: &mut Members, alloc: Global, slots: u8, found: &Found) -> Result<(), AllocError> {
     let mut all = Vec::new(alloc);
-    for slot in 0..looked.slots {
-        let units = found.units.of_drive(slot);
-        let bar = match bar_of(alloc, units) {
-            Ok(bar) => bar,
-            Err(_) => return Err(AllocError),
-        };
-        all.push(json!(in alloc; {"free": free_in(units), "bar": bar})?)?;
+    for slot in 0..slots {
+        let units = drive_units(alloc, found.units.of_drive(slot))?;
+        all.push(units)?;
     }
-    Ok(Value::Array(all))
+    put(map, alloc, "units", Value::Array(all))
 }
 
-fn tables_value(alloc: Global, tables: &[TableCounts; 5]) -> Result<Value, AllocError> {
+fn put_counts(map: &mut Members, alloc: Global, t: &TableCounts) -> Result<(), AllocError> {
+    put_number(map, alloc, "patches", t.patches as u64)?;
+    put_number(map, alloc, "segments", t.segments as u64)?;
+    put_number(map, alloc, "facts", t.facts)?;
+    put_number(map, alloc, "visible", t.visible as u64)
+}
+
+fn table_value(alloc: Global, table: &str, counts: &TableCounts) -> Result<Value, AllocError> {
+    let mut map = Map::new(alloc);
+    put_text(&mut map, alloc, "table", table)?;
+    put_counts(&mut map, alloc, counts)?;
+    Ok(Value::Object(map))
+}
+
+fn put_tables(
+    map: &mut Members,
+    alloc: Global,
+    tables: &[TableCounts; 5],
+) -> Result<(), AllocError> {
     let mut all = Vec::new(alloc);
     for i in 0..5 {
-        let t = &tables[i];
-        all.push(json!(in alloc; {"table": TABLES[i], "patches": t.patches, "segments": t.segments, "facts": t.facts, "visible": t.visible})?)?;
+        let table = table_value(alloc, TABLES[i], &tables[i])?;
+        all.push(table)?;
     }
-    Ok(Value::Array(all))
+    put(map, alloc, "tables", Value::Array(all))
 }
 
-fn segments_value(alloc: Global, segments: &[SegmentSeen]) -> Result<Value, AllocError> {
+fn put_segment(map: &mut Members, alloc: Global, seen: &SegmentSeen) -> Result<(), AllocError> {
+    put_number(map, alloc, "segment", seen.segment.segment.0)?;
+    put_number(map, alloc, "placed", u64::from(seen.segment.placed))?;
+    put_number(map, alloc, "named", u64::from(seen.named))
+}
+
+fn segment_value(alloc: Global, seen: &SegmentSeen) -> Result<Value, AllocError> {
+    let mut map = Map::new(alloc);
+    put_segment(&mut map, alloc, seen)?;
+    Ok(Value::Object(map))
+}
+
+fn put_segments(
+    map: &mut Members,
+    alloc: Global,
+    segments: &[SegmentSeen],
+) -> Result<(), AllocError> {
     let mut all = Vec::new(alloc);
     for seen in segments {
-        all.push(json!(in alloc; {"segment": seen.segment.segment.0, "placed": seen.segment.placed, "named": seen.named})?)?;
+        let segment = segment_value(alloc, seen)?;
+        all.push(segment)?;
     }
-    Ok(Value::Array(all))
+    put(map, alloc, "segments", Value::Array(all))
 }
 
-fn objects_value(alloc: Global, objects: &[ObjectSeen]) -> Result<Value, AllocError> {
+fn put_object(map: &mut Members, alloc: Global, seen: &ObjectSeen) -> Result<(), AllocError> {
+    put_text(map, alloc, "name", name_text(&seen.object.name))?;
+    put_text(map, alloc, "kind", kind_text(seen.object.kind))?;
+    put_number(map, alloc, "sectors", u64::from(seen.object.sectors))?;
+    put_number(map, alloc, "stored", u64::from(seen.stored))
+}
+
+fn object_value(alloc: Global, seen: &ObjectSeen) -> Result<Value, AllocError> {
+    let mut map = Map::new(alloc);
+    put_object(&mut map, alloc, seen)?;
+    Ok(Value::Object(map))
+}
+
+fn put_objects(map: &mut Members, alloc: Global, objects: &[ObjectSeen]) -> Result<(), AllocError> {
     let mut all = Vec::new(alloc);
     for seen in objects {
-        let object = &seen.object;
-        all.push(json!(in alloc; {"name": name_text(&object.name), "kind": kind_text(object.kind), "sectors": object.sectors, "stored": seen.stored})?)?;
+        let object = object_value(alloc, seen)?;
+        all.push(object)?;
     }
-    Ok(Value::Array(all))
+    put(map, alloc, "objects", Value::Array(all))
 }
 
-fn found_value(alloc: Global, looked: &Looked, found: &Found) -> Result<Value, AllocError> {
-    let numbers = numbers_value(alloc, found)?;
-    let nvrams = flags(alloc, &found.nvrams)?;
-    let w = &found.waiting;
-    let waiting = json!(in alloc; {"creates": w.creates, "writes": w.writes, "fills": w.fills})?;
-    let tables = tables_value(alloc, &found.tables)?;
-    let segments = segments_value(alloc, &found.segments)?;
-    let objects = objects_value(alloc, &found.objects)?;
-    let units = units_value(alloc, looked, found)?;
-    json!(in alloc; {"numbers": numbers, "nvrams": nvrams, "waiting": waiting, "tables": tables, "segments": segments, "objects": objects, "units": units})
+fn numbers_value(alloc: Global, numbers: &Numbers) -> Result<Value, AllocError> {
+    let mut map = Map::new(alloc);
+    put_numbers(&mut map, alloc, numbers)?;
+    Ok(Value::Object(map))
 }
 
-fn value_of(alloc: Global, looked: &Looked) -> Result<Value, AllocError> {
-    let record = record_value(alloc, &looked.record)?;
-    let drives = drives_value(alloc, looked)?;
-    let (cause, found) = match &looked.found {
-        Ok(found) => (Value::Null, found_value(alloc, looked, found)?),
-        Err(cause) => {
-            let Ok(why) = cause_text(alloc, cause) else {
-                return Err(AllocError);
-            };
-            (Value::String(why), Value::Null)
+fn waiting_value(alloc: Global, waiting: &Waiting) -> Result<Value, AllocError> {
+    let mut map = Map::new(alloc);
+    put_waiting(&mut map, alloc, waiting)?;
+    Ok(Value::Object(map))
+}
+
+fn put_found(map: &mut Members, alloc: Global, slots: u8, found: &Found) -> Result<(), AllocError> {
+    put(map, alloc, "numbers", numbers_value(alloc, &found.numbers)?)?;
+    put_flags(map, alloc, "nvrams", &found.nvrams)?;
+    put(map, alloc, "waiting", waiting_value(alloc, &found.waiting)?)?;
+    put_tables(map, alloc, &found.tables)?;
+    put_segments(map, alloc, &found.segments)?;
+    put_objects(map, alloc, &found.objects)?;
+    put_units(map, alloc, slots, found)
+}
+
+fn found_value(alloc: Global, slots: u8, found: &Found) -> Result<Value, AllocError> {
+    let mut map = Map::new(alloc);
+    put_found(&mut map, alloc, slots, found)?;
+    Ok(Value::Object(map))
+}
+
+fn put_outcome(
+    map: &mut Members,
+    alloc: Global,
+    slots: u8,
+    outcome: &Result<Found, Cause>,
+) -> Result<(), AllocError> {
+    match outcome {
+        Ok(found) => {
+            put(map, alloc, "cause", Value::Null)?;
+            put(map, alloc, "found", found_value(alloc, slots, found)?)
         }
-    };
-    json!(in alloc; {"slots": looked.slots, "units": looked.units, "record": record, "drives": drives, "cause": cause, "found": found})
+        Err(cause) => {
+            put_text(map, alloc, "cause", cause_text(cause))?;
+            put(map, alloc, "found", Value::Null)
+        }
+    }
+}
+
+fn put_look(map: &mut Members, alloc: Global, looked: &Looked) -> Result<(), AllocError> {
+    put_number(map, alloc, "slots", u64::from(looked.slots))?;
+    put_number(map, alloc, "units", u64::from(looked.units))?;
+    put(map, alloc, "record", record_value(alloc, &looked.record)?)?;
+    put_drives(map, alloc, looked)?;
+    put_outcome(map, alloc, looked.slots, &looked.found)
 }
 
 /// A look as one JSON object, on a line.
 pub fn json_of(alloc: Global, looked: &Looked) -> Result<String, NoMemory> {
-    let value = value_of(alloc, looked)?;
-    let mut text = value.to_string(alloc)?;
+    let mut map = Map::new(alloc);
+    put_look(&mut map, alloc, looked)?;
+    let mut text = Value::Object(map).to_string(alloc)?;
     text.push('\n')?;
     Ok(text)
 }

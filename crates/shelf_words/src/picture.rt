@@ -41,11 +41,7 @@ pub fn free_in(units: &[Unit]) -> usize {
 /// The letter of what most of the units are; of as many of two kinds, that of the first of boot region, data, patches and free.
 fn letter_of(units: &[Unit]) -> char {
     let tally = tally_of(units);
-    let most = tally
-        .boot
-        .max(tally.data)
-        .max(tally.patch)
-        .max(tally.free);
+    let most = tally.boot.max(tally.data).max(tally.patch).max(tally.free);
     if tally.boot == most {
         'B'
     } else if tally.data == most {

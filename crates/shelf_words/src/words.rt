@@ -41,51 +41,42 @@ pub fn slot_text(slot: Slot) -> &'static str {
     }
 }
 
-pub fn table_text(table: Table) -> &'static str {
-    match table {
-        Table::Object => "object",
-        Table::Medium => "medium",
-        Table::Address => "address",
-        Table::Segment => "segment",
-        Table::Elision => "elision",
+/// Why tables can't be read.
+fn tables_text(fault: &TablesFault) -> &'static str {
+    match fault {
+        TablesFault::BadPatch(table) => match table {
+            Table::Object => "a patch of the table object is damaged",
+            Table::Medium => "a patch of the table medium is damaged",
+            Table::Address => "a patch of the table address is damaged",
+            Table::Segment => "a patch of the table segment is damaged",
+            Table::Elision => "a patch of the table elision is damaged",
+        },
+        TablesFault::Unsound(_) => "the tables contradict each other",
+        TablesFault::Lost(_) => "three of the nine drives of a segment of the tables don't answer",
+        TablesFault::Memory(_) => "memory",
+    }
+}
+
+/// Why the record can't be used.
+fn record_text(fault: &LoadFault) -> &'static str {
+    match fault {
+        LoadFault::NoArray => "no record is shown by more than half of the drives",
+        LoadFault::BadRecord(_) => "the record in force is no record of this shelf",
+        LoadFault::Spent => "the generation of the record leaves no room for later ones",
+        LoadFault::TooFew(_) => "more than two drives don't hold the record",
+        LoadFault::Memory(_) => "memory",
     }
 }
 
 /// Why an array can't be opened.
-pub fn cause_text(alloc: Global, cause: &Cause) -> Result<String, NoMemory> {
-    Ok(match cause {
-        Cause::Memory(_) => format!(in alloc; "memory")?,
-        Cause::Record(LoadFault::NoArray) => {
-            format!(in alloc; "no record is shown by more than half of the drives")?
-        },
-        Cause::Record(LoadFault::BadRecord(bad)) => {
-            format!(in alloc; "the record in force is no record of this shelf, from byte {} on", bad.place)?
-        },
-        Cause::Record(LoadFault::Spent) => {
-            format!(in alloc; "the generation of the record leaves no room for later ones")?
-        },
-        Cause::Record(LoadFault::TooFew(drives)) => {
-            let count = set_count(drives);
-            format!(in alloc; "{count} drive{} hold the record, and too few do", plural(count))?
-        },
-        Cause::Record(LoadFault::Memory(_)) => format!(in alloc; "memory")?,
-        Cause::Tables(TablesFault::BadPatch(table)) => {
-            format!(in alloc; "a patch of the table {} is damaged", table_text(*table))?
-        },
-        Cause::Tables(TablesFault::Unsound(table)) => {
-            format!(in alloc; "the table {} contradicts itself or another one", table_text(*table))?
-        },
-        Cause::Tables(TablesFault::Lost(_)) => {
-            format!(in alloc; "three of the nine drives of a segment of the tables don't answer")?
-        },
-        Cause::Tables(TablesFault::Memory(_)) => format!(in alloc; "memory")?,
-        Cause::BothLost => {
-            format!(in alloc; "no NVRAM device that the record names answers")?
-        },
-        Cause::Unserved => {
-            format!(in alloc; "the log has a command that this program doesn't serve")?
-        },
-    })
+pub fn cause_text(cause: &Cause) -> &'static str {
+    match cause {
+        Cause::Memory(_) => "memory",
+        Cause::Record(fault) => record_text(fault),
+        Cause::Tables(fault) => tables_text(fault),
+        Cause::BothLost => "no NVRAM device that the record names answers",
+        Cause::Unserved => "the log has a command that this program doesn't serve",
+    }
 }
 
 /// The sentence that is wanted first: what more may be lost, or why the array can't be opened.
@@ -97,11 +88,14 @@ fn put_verdict(page: &mut Page, looked: &Looked) -> Result<(), NoMemory> {
             let missing = slots.saturating_sub(found.numbers.holding);
             let drives = 2usize.saturating_sub(missing);
             let nvrams = found.numbers.answering.saturating_sub(1);
-            page.line(&format!(in alloc; "the array can be opened: {drives} more drive{} and {nvrams} more NVRAM device{} may be lost", plural(drives), plural(nvrams))?)
+            page.line(&format!(in alloc;
+                "the array can be opened: {drives} more drive{} and {nvrams} more NVRAM device{} may be lost",
+                plural(drives),
+                plural(nvrams)
+            )?)
         }
         Err(cause) => {
-            let why = cause_text(alloc, cause)?;
-            page.line(&format!(in alloc; "the array can't be opened: {why}")?)
+            page.line(&format!(in alloc; "the array can't be opened: {}", cause_text(cause))?)
         }
     }
 }
@@ -113,7 +107,11 @@ fn put_record(page: &mut Page, record: &Option<RecordSeen>) -> Result<(), NoMemo
         Some(record) => {
             let holding = set_count(&record.holding);
             let drives = set_count(&record.members.drives);
-            page.line(&format!(in alloc; "record: generation {}, slot {}, on {holding} of the {drives} drives that it names", record.generation, slot_text(record.slot))?)
+            page.line(&format!(in alloc;
+                "record: generation {}, slot {}, on {holding} of the {drives} drives that it names",
+                record.generation,
+                slot_text(record.slot)
+            )?)
         }
         None => page.line("record: none"),
     }
@@ -155,7 +153,10 @@ fn put_nvrams(page: &mut Page, record: &RecordSeen, found: &Found) -> Result<(),
 fn put_log(page: &mut Page, found: &Found) -> Result<(), NoMemory> {
     let alloc = page.alloc;
     let waiting = &found.waiting;
-    page.line(&format!(in alloc; "log: {} create, {} write, {} fill; {} free slots", waiting.creates, waiting.writes, waiting.fills, found.numbers.free_slots)?)
+    page.line(&format!(in alloc;
+        "log: {} create, {} write, {} fill; {} free slots",
+        waiting.creates, waiting.writes, waiting.fills, found.numbers.free_slots
+    )?)
 }
 
 /// The units of each drive, and the room for segments.
@@ -167,7 +168,10 @@ fn put_picture(page: &mut Page, looked: &Looked, found: &Found) -> Result<(), No
         let bar = bar_of(alloc, units)?;
         page.line(&format!(in alloc; "drive {slot:02} [{bar}] {} free", free_in(units))?)?;
     }
-    page.line(&format!(in alloc; "room: {} more segments; below {ADDING_GROUPS} commands get `no space`, below {CHECKPOINT_GROUPS} checkpoints do", found.numbers.groups)?)
+    page.line(&format!(in alloc;
+        "room: {} more segments; below {ADDING_GROUPS} commands get `no space`, below {CHECKPOINT_GROUPS} checkpoints do",
+        found.numbers.groups
+    )?)
 }
 
 /// A line for each table.
@@ -175,7 +179,10 @@ fn put_tables(page: &mut Page, tables: &[TableCounts; 5]) -> Result<(), NoMemory
     let alloc = page.alloc;
     for i in 0..5 {
         let table = &tables[i];
-        page.line(&format!(in alloc; "table {}: {} patches in {} segments, {} facts, {} visible", TABLES[i], table.patches, table.segments, table.facts, table.visible)?)?;
+        page.line(&format!(in alloc;
+            "table {}: {} patches in {} segments, {} facts, {} visible",
+            TABLES[i], table.patches, table.segments, table.facts, table.visible
+        )?)?;
     }
     Ok(())
 }
@@ -204,8 +211,20 @@ pub fn named_in(segments: &[SegmentSeen]) -> u64 {
 fn put_segments(page: &mut Page, found: &Found) -> Result<(), NoMemory> {
     let alloc = page.alloc;
     let all = &found.segments;
-    page.line(&format!(in alloc; "data segments: {}, {} sectors placed, {} named still", found.numbers.segments, found.numbers.placed, named_in(all))?)?;
-    page.line(&format!(in alloc; "of 840 sectors are named: none in {}, 1 to 210 in {}, to 420 in {}, to 630 in {}, to 840 in {}", count_between(all, 0, 0), count_between(all, 1, 210), count_between(all, 211, 420), count_between(all, 421, 630), count_between(all, 631, 840))?)
+    page.line(&format!(in alloc;
+        "data segments: {}, {} sectors placed, {} named still",
+        found.numbers.segments,
+        found.numbers.placed,
+        named_in(all)
+    )?)?;
+    page.line(&format!(in alloc;
+        "of 840 sectors are named: none in {}, 1 to 210 in {}, to 420 in {}, to 630 in {}, to 840 in {}",
+        count_between(all, 0, 0),
+        count_between(all, 1, 210),
+        count_between(all, 211, 420),
+        count_between(all, 421, 630),
+        count_between(all, 631, 840)
+    )?)
 }
 
 pub fn kind_text(kind: ObjectKind) -> &'static str {
@@ -220,7 +239,13 @@ fn put_objects(page: &mut Page, objects: &[ObjectSeen]) -> Result<(), NoMemory> 
     let alloc = page.alloc;
     for seen in objects {
         let object = &seen.object;
-        page.line(&format!(in alloc; "{} {} {}, {} stored", kind_text(object.kind), name_text(&object.name), object.sectors, seen.stored)?)?;
+        page.line(&format!(in alloc;
+            "{} {} {}, {} stored",
+            kind_text(object.kind),
+            name_text(&object.name),
+            object.sectors,
+            seen.stored
+        )?)?;
     }
     Ok(())
 }

@@ -1,4 +1,4 @@
-use Rattle.std.proofs.Common.{◌≡◌, ◌∙◌, sym, subst}
+use Rattle.std.proofs.Common.{◌∙◌, sym, subst}
 use Rattle.world.specs.Losing.{geometry_of}
 use Rattle.world.proofs.Ran.{ran_more, ran_then}
 use Rattle.shelf_look.specs.declared.cause.Cause.{Cause}

@@ -1,4 +1,4 @@
-use Rattle.std.proofs.Common.{◌≡◌, ◌∙◌, sym, subst, Bool, List}
+use Rattle.std.proofs.Common.{◌∙◌, sym, subst, Bool, List}
 use Rattle.world.specs.Losing.{geometry_of}
 use Rattle.world.proofs.Ran.{ran_then}
 use Rattle.shelf_look.specs.Looking.{AreStates}

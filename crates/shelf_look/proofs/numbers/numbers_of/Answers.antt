@@ -1,4 +1,4 @@
-use Rattle.std.proofs.Common.{◌≡◌, ◌∙◌, sym, ap, arith, refl, List, length}
+use Rattle.std.proofs.Common.{◌∙◌, sym, ap, arith, refl, List, length}
 use Rattle.std.specs.List.{sum_by}
 use Rattle.pur_base.specs.declared.facts.SegmentFact.{SegmentFact}
 use Rattle.array_spec.specs.Stored.{all_facts}

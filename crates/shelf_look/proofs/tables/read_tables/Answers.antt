@@ -1,4 +1,4 @@
-use Rattle.std.proofs.Common.{◌≡◌, sym, subst, List}
+use Rattle.std.proofs.Common.{sym, subst, List}
 use Rattle.pur_base.specs.Devices.{Geometry}
 use Rattle.pur_base.specs.declared.facts.AnyFact.{AnyFact}
 use Rattle.array_spec.specs.Sound.{AreSound}

@@ -1,7 +1,7 @@
-use Rattle.std.proofs.Common.{◌≡◌, Bool, true, false, ℕ, subst, sym, refl, arith, rules}
+use Rattle.std.proofs.Common.{◌≡◌, false, subst, sym, arith}
 use Rattle.pur_base.specs.Grammar.{is_in_force}
 use Rattle.pur_base.specs.declared.request.Request.{Request}
-use Rattle.shelf_look.proofs.Logs.{command_at, one_more, waits_more, all_wait, none_wait}
+use Rattle.shelf_look.proofs.Logs.{command_at, one_more, waits_more}
 use Rattle.shelf_look.proofs.waiting.waiting_in.Goals as goal
 
 pub returns-in_default-clause-none : goal.returns-in_default-clause-none

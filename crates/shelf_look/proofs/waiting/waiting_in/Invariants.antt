@@ -1,4 +1,4 @@
-use Rattle.std.proofs.Common.{◌≤◌, ◌≡◌, ℕ, List, length, take}
+use Rattle.std.proofs.Common.{◌≤◌, List, take}
 use Rattle.pur_base.specs.Commands.{Command}
 use Rattle.nvram_log.specs.Held.{Keeps}
 use Rattle.shelf_look.specs.Log.{AreServed, AreWaiting}
