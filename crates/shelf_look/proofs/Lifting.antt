@@ -1,6 +1,7 @@
 -- What was told since a moment at which the devices were as before is told since before.
 use Rattle.std.proofs.Common.{◌≡◌, ◌∙◌, inl, inr, ℕ, ◌-◌, ◌^◌, ◌≤◌, Bool, List, sym, ap, subst, arith, Result, Ok, Err}
 use Rattle.std.specs.Prelude.{Some, IfOk, IfErr}
+use Rattle.std.proofs.lemmas.Bool.{cases_lt}
 use Rattle.pur_base.specs.declared.device.Device.{Device}
 use Rattle.pur_base.specs.Devices.{Geometry, View, drive, nvram}
 use Rattle.boot_codec.specs.declared.record.BootRecord.{BootRecord}
@@ -24,22 +25,32 @@ use Rattle.shelf_look.specs.Log.{IsLogOf}
 use Rattle.shelf_look.specs.Looking.{IsOutcome, IsTold}
 use Rattle.shelf_look.specs.Opening.{IsCauseOf, IsOpeningOf}
 use Rattle.shelf_look.specs.Tables.{AreTablesOn, IsMemoryOf, IsTablesCause, ShowsThose}
-use Rattle.shelf_look.proofs.Causing.{log_of}
 
 pub same_geometry : {old new : Shelved} → Continues old new → geometry_of new ≡ geometry_of old
 same_geometry {old} {new} on = ap (λ (n : ℕ). record { slots = n; units = new.units }) on.drives ∙ ap (λ (n : ℕ). record { slots = old.drives; units = n }) on.units
+
+pub same_then : {a b c : Disk} → IsSame a b → IsSame b c → IsSame a c
+same_then first next = record { bytes = next.bytes ∙ first.bytes; dirty = next.dirty ∙ first.dirty }
 
 -- a count that rose has risen since, whatever failed later
 pub rises_later : (a b c : ℕ) → Rises a b → b ≤ c → c ≤ 2 ^ 64 - 1 → Rises a c
 rises_later a b c (inl lt) le top = inl (omega (arith, lt, le))
 rises_later a b c (inr (at, is)) le top = inr (at, omega (arith, at, is, le, top))
 
+-- and before
+pub rises_before : (a b c : ℕ) → a ≤ b → Rises b c → Rises a c
+rises_before a b c le (inl lt) = inl (omega (arith, lt, le))
+rises_before a b c le (inr (at, is)) = elim (cases_lt a b) [
+  | inl lt ↦ inl (omega (arith, lt, is))
+  | inr past ↦ inr (omega (arith, at, le, past), omega (arith, is, le, past))
+]
+
 -- what the boot region of a drive gave
 pub read_later : (old mid new : Shelved) (bytes : List ℕ) (answered : List Bool) (i : ℕ) → Continues mid new → IsShelf new → IsRead old mid bytes answered i → IsRead old new bytes answered i
 read_later old mid new bytes answered i on is (inl shows) = inl shows
 read_later old mid new bytes answered i on is (inr (none, up)) = inr (none, rises_later _ _ _ up (on.faults (drive i)) (is.faults (drive i)))
 
-module _ (a b n : Shelved) (on : Continues a b) (same : (d : Device) → IsSame (a.disk d) (b.disk d)) (stay : (k : ℕ) → b.disk (nvram k) ≡ a.disk (nvram k)) where
+module _ (a b n : Shelved) (on : Continues a b) (same : (d : Device) → IsSame (a.disk d) (b.disk d)) where
   size : geometry_of b ≡ geometry_of a
   size = same_geometry on
 
@@ -53,7 +64,16 @@ module _ (a b n : Shelved) (on : Continues a b) (same : (d : Device) → IsSame 
   }
 
   log_on : (boot : BootRecord) (log : NvLog) → IsLogOf b n boot log → IsLogOf a n boot log
-  log_on boot log l = log_of a b n boot log on.honest stay l.flushed l.named l.some l.dropped l.read
+  log_on boot log l = record {
+    flushed = l.flushed;
+    named = l.named;
+    some = l.some;
+    dropped = λ k lt m. elim (l.dropped k lt m) [
+      | inl is ↦ inl is
+      | inr up ↦ inr (rises_before (a.disk (nvram k)).faults (b.disk (nvram k)).faults (n.disk (nvram k)).faults (on.faults (nvram k)) up)
+    ];
+    read = record { commands = l.read.commands; keeps = l.read.keeps; shown = λ h. l.read.shown (on.honest h); ends = λ h. l.read.ends (on.honest h) };
+  }
 
   tables_too : (drives : List Bool) (boot : BootRecord) (fault : TablesFault) → IsTablesCause b n drives boot fault → IsTablesCause a n drives boot fault
   tables_too drives boot (tables.BadPatch t) is = (is.0, λ view ps shown stand. is.1 view ps (shows drives view shown) stand)
@@ -94,7 +114,7 @@ module _ (a b n : Shelved) (on : Continues a b) (same : (d : Device) → IsSame 
   cause_too bytes answered cause.BothLost is = record {
     loaded = is.loaded;
     given = given_too bytes answered is.loaded is.given;
-    failed = λ k lt m. subst (λ (d : Disk). Rises d.faults (n.disk (nvram k)).faults) (stay k) (is.failed k lt m);
+    failed = λ k lt m. rises_before (a.disk (nvram k)).faults (b.disk (nvram k)).faults (n.disk (nvram k)).faults (on.faults (nvram k)) (is.failed k lt m);
   }
   cause_too bytes answered cause.Unserved is = record {
     loaded = is.loaded;

@@ -29,6 +29,7 @@ pub record IsSeenIn (shelf : Geometry) (bytes : List ℕ) (answered : List Bool)
   pub boot : BootRecord
   pub held : IsHeld shelf bytes answered (slot_in r.slot) boot r.holding
   pub generation : r.generation ≡ boot.generation
+  pub flushed : r.flushed ≡ boot.flushed
   pub members : r.members ≡ boot.members
 
 -- so it is, or they give no record, or one that isn't lawful

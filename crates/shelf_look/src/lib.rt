@@ -12,6 +12,7 @@ mod numbers;
 mod objects;
 mod record;
 mod shown;
+mod sides;
 mod tables;
 mod units;
 mod waiting;

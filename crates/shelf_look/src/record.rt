@@ -13,6 +13,8 @@ use std::alloc::Global;
 pub struct RecordSeen {
     pub generation: u64,
     pub slot: Slot,
+    /// The number of the last command that its tables hold.
+    pub flushed: u64,
     /// The devices that it names.
     pub members: Members,
     /// The drives that it names and on which it stands.
@@ -36,6 +38,7 @@ pub fn record_seen(
         Ok(record) => Ok(Some(RecordSeen {
             generation: record.generation,
             slot,
+            flushed: record.flushed,
             members: record.members,
             holding: regions.holding(&record.members.drives, slot, body),
         })),

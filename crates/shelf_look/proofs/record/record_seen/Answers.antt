@@ -15,6 +15,7 @@ returns-in-Ok c shelf drives units =
       held = held_by shelf c.args.regions.now.bytes.items c.args.regions.now.answered.items (slot_in c.in-Some.slot) c.in-Some.body.now c.in-Ok.record c.holding.result
           c.in-Ok.ensures.lawful (omega (arith, c.in-Ok.ensures.shelf.0, slots, drives)) (c.in-Ok.ensures.shelf.1 ∙ sym units) (c.in-Some.ensures.some shelf drives) c.in-Ok.ensures.spelled c.holding.ensures;
       generation = refl;
+      flushed = refl;
       members = refl;
     }
 
