@@ -1,0 +1,47 @@
+-- Segments are counted, and the visible data segments are those that the patches show.
+use Rattle.std.proofs.Common.{◌≡◌, ◌∙◌, ℕ, ◌+◌, ◌<◌, ◌≤◌, List, [], ◌∷◌, ◌++◌, length, drop, sym, ap, get_or, Option, Some, None, arith}
+use Rattle.std.specs.Prelude.{filter_map}
+use Rattle.std.specs.List.{cons_option, range_with_len}
+use Rattle.std.proofs.lemmas.List.{append-nil}
+use Rattle.std.proofs.lemmas.List.FromFn.{length-range_with_len}
+use Rattle.std.proofs.lemmas.List.Sums.{sum_by-drop_more}
+use Rattle.pur_base.specs.Facts.{Facts}
+use Rattle.pur_base.specs.Visible.{segment, segments}
+use Rattle.pur_base.specs.declared.facts.ElisionFact.{ElisionFact}
+use Rattle.pur_base.specs.declared.facts.SegmentFact.{SegmentFact}
+use Rattle.boot_codec.specs.declared.patch.Patch.{Patch}
+use Rattle.boot_codec.specs.Record.{patch_segments}
+use Rattle.array_spec.specs.Stored.{all_facts}
+use Rattle.pyramid.specs.Layers.{Layers, facts_in, facts_of}
+use Rattle.memory_spec.specs.Tables.{Tables, facts, flushed, patches}
+use Rattle.checkpoint_spec.proofs.Patches.{patches_are_flushed}
+
+-- one patch more
+pub next_patch : (ps : List Patch) (n : ℕ) (d : Patch) → n < length ps → patch_segments (drop n ps) ≡ length (get_or ps n d).segments + patch_segments (drop (n + 1) ps)
+next_patch ps n d lt = sum_by-drop_more (λ (p : Patch). length p.segments) ps n d lt
+
+-- a list of some of these is no longer
+some_more : {B : Type 0} (o : Option B) (ys : List B) (n : ℕ) → length ys ≤ n → length (cons_option o ys) ≤ n + 1
+some_more None ys n le = omega (arith, le)
+some_more (Some y) ys n le = omega (arith, le)
+
+few_some : {A B : Type 0} (f : A → Option B) (xs : List A) → length (filter_map f xs) ≤ length xs
+few_some f [] = omega arith
+few_some f (x ∷ xs) = let more = some_more (f x) (filter_map f xs) (length xs) (few_some f xs) in omega (arith, more)
+
+-- so there are no more visible segments than ids
+pub few_segments : (f : Facts) (next : ℕ) → length (segments f next) ≤ next
+few_segments f next = omega (arith, few_some (segment f) (range_with_len 0 next), length-range_with_len 0 next)
+
+-- the visible segments, by the two tables that tell of them
+abbrev seen_in : ℕ → List SegmentFact → List ElisionFact → List SegmentFact
+seen_in n ss es = segments (record { objects = []; mediums = []; addresses = []; segments = ss; elisions = es }) n
+
+all_in : {F : Type 0} (l : Layers F) → l.unflushed ≡ [] → facts_of l.patches ≡ facts_in l
+all_in l none = sym (ap (λ u. facts_of l.patches ++ u) none ∙ append-nil (facts_of l.patches))
+
+-- where no segment and no elision is unflushed
+pub patches_show : (t : Tables) (n : ℕ) → t.segments.unflushed ≡ [] → t.elisions.unflushed ≡ [] → segments (all_facts (patches t)) n ≡ segments (facts t) n
+patches_show t n no_segments no_elisions =
+    let same : segments (flushed t) n ≡ segments (facts t) n = λ k. seen_in n (all_in t.segments no_segments k) (all_in t.elisions no_elisions k) in
+    ap (λ (f : Facts). segments f n) (patches_are_flushed t) ∙ same

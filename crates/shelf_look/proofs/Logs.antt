@@ -1,0 +1,84 @@
+-- The commands of a log are counted, one after another.
+use Rattle.std.proofs.Common.{◌≡◌, inl, inr, ◌∙◌, ◌≤◌, ℕ, zero, suc, ◌+◌, ◌<◌, List, [], ◌∷◌, length, take, get_or, refl, sym, ap, subst, arith, Bool, true, false, cond}
+use Rattle.std.specs.Prelude.{Some, slice_get, count_by}
+use Rattle.std.proofs.lemmas.Option.{slice_get_cases}
+use Rattle.std.proofs.lemmas.Bool.{cases_Bool}
+use Rattle.std.proofs.lemmas.List.Sums.{count_by_more_no, count_by_more_yes}
+use Rattle.pur_base.specs.Commands.{Command}
+use Rattle.pur_base.specs.Grammar.{is_in_force}
+use Rattle.pur_base.specs.declared.request.Request.{Request}
+use Rattle.nvram_log.specs.declared.log.NvLog.{NvLog}
+use Rattle.nvram_log.specs.Held.{Keeps}
+use Rattle.shelf_look.specs.declared.waiting.Waiting.{Waiting}
+use Rattle.shelf_look.specs.Log.{AreServed, AreWaiting, CountsOne, is_create, is_fill, is_write}
+
+-- the command of a slot of the log
+pub command_at : (log : NvLog) (commands : List Command) (i : ℕ) → Keeps log commands → i < log.count → (c : Command) × (slice_get commands i ≡ Some c)
+command_at log commands i keeps lt = elim (slice_get_cases commands i).1 [
+  | inl some ↦ (some.0, some.2)
+  | inr past ↦ absurd (omega (arith, past.0, lt, keeps.count))
+]
+
+get_at : (cs : List Command) (i : ℕ) (c d : Command) → slice_get cs i ≡ Some c → get_or cs i d ≡ c
+get_at [] i c d at = absurd (cc at)
+get_at (x ∷ xs) zero c d at = cc at
+get_at (x ∷ xs) (suc i) c d at = get_at xs i c d at
+
+below : (cs : List Command) (i : ℕ) (c : Command) → slice_get cs i ≡ Some c → i < length cs
+below [] i c at = absurd (cc at)
+below (x ∷ xs) zero c at = omega arith
+below (x ∷ xs) (suc i) c at = omega (arith, below xs i c at)
+
+count_more : (p : Command → Bool) (cs : List Command) (i : ℕ) (c : Command) → slice_get cs i ≡ Some c → count_by p (take (i + 1) cs) ≡ count_by p (take i cs) + cond (p c) 1 0
+count_more p cs i c at = elim (cases_Bool (p c)) [
+  | inl is ↦
+      let one : cond (p c) 1 0 ≡ 1 = ap {B = ℕ} (λ (b : Bool). cond b 1 0) is in
+      omega (arith, one, count_by_more_yes p cs i c (below cs i c at) (ap p (get_at cs i c c at) ∙ is))
+  | inr isnt ↦
+      let none : cond (p c) 1 0 ≡ 0 = ap {B = ℕ} (λ (b : Bool). cond b 1 0) isnt in
+      omega (arith, none, count_by_more_no p cs i c (below cs i c at) (ap p (get_at cs i c c at) ∙ isnt))
+]
+
+served_more : (cs : List Command) (i : ℕ) (c : Command) → slice_get cs i ≡ Some c → AreServed (take i cs) → is_in_force c.request ≡ true → AreServed (take (suc i) cs)
+served_more [] i c at all fine = absurd (cc at)
+served_more (d ∷ ds) zero c at all fine = let same : c ≡ d = cc at in (subst (λ (x : Command). is_in_force x.request ≡ true) same fine, tt)
+served_more (d ∷ ds) (suc i) c at all fine = (all.0, served_more ds i c at all.1 fine)
+
+-- one more was counted
+pub waits_more : (cs : List Command) (i : ℕ) (c : Command) (r : Request) (was now : Waiting) → slice_get cs i ≡ Some c → r ≡ c.request → is_in_force r ≡ true → CountsOne was r now
+    → AreServed (take i cs) × AreWaiting (take i cs) was → AreServed (take (i + 1) cs) × AreWaiting (take (i + 1) cs) now
+waits_more cs i c r was now at is fine one done = (
+  subst (λ (n : ℕ). AreServed (take n cs)) next (served_more cs i c at done.0 (subst (λ (x : Request). is_in_force x ≡ true) is fine)),
+  record {
+    creates = counted is_create now.creates was.creates one.creates done.1.creates;
+    writes = counted is_write now.writes was.writes one.writes done.1.writes;
+    fills = counted is_fill now.fills was.fills one.fills done.1.fills;
+  },
+)
+  where
+    next : suc i ≡ i + 1
+    next = omega arith
+
+    counted : (p : Request → Bool) (n m : ℕ) → n ≡ m + cond (p r) 1 0 → m ≡ count_by (λ (d : Command). p d.request) (take i cs) → n ≡ count_by (λ (d : Command). p d.request) (take (i + 1) cs)
+    counted p n m more before =
+        more ∙ ap (λ (k : ℕ). k + cond (p r) 1 0) before ∙ ap (λ (x : Request). count_by (λ (d : Command). p d.request) (take i cs) + cond (p x) 1 0) is
+        ∙ sym (count_more (λ (d : Command). p d.request) cs i c at)
+
+-- all of them
+pub all_wait : (cs : List Command) (i : ℕ) (w : Waiting) → length cs ≡ i → AreServed (take i cs) × AreWaiting (take i cs) w → AreServed cs × AreWaiting cs w
+all_wait cs i w e done = subst (λ (xs : List Command). AreServed xs × AreWaiting xs w) (whole cs i e) done
+  where
+    whole : (xs : List Command) (n : ℕ) → length xs ≡ n → take n xs ≡ xs
+    whole [] zero e = refl
+    whole [] (suc n) e = refl
+    whole (x ∷ xs) zero e = absurd (omega (arith, e))
+    whole (x ∷ xs) (suc n) e = ap (λ (l : List Command). x ∷ l) (whole xs n (omega (arith, e)))
+
+-- none yet
+pub none_wait : (cs : List Command) (w : Waiting) → w.creates ≡ 0 → w.writes ≡ 0 → w.fills ≡ 0 → AreServed (take 0 cs) × AreWaiting (take 0 cs) w
+none_wait cs w c r f = (tt, record { creates = c; writes = r; fills = f })
+
+-- a count that goes up by one at most is within the next place
+pub one_more : (b : Bool) (was now i : ℕ) → now ≡ was + cond b 1 0 → was ≤ i → now ≤ i + 1
+one_more true was now i e le = omega (arith, e, le)
+one_more false was now i e le = omega (arith, e, le)

@@ -1,0 +1,61 @@
+-- Memory that was made of tables.
+use Rattle.std.proofs.Common.{◌≡◌, ◌∙◌, ◌++◌, List, map, sym, ap, subst, ℕ}
+use Rattle.pur_base.specs.Devices.{Geometry}
+use Rattle.pur_base.specs.Visible.{segments}
+use Rattle.pur_base.specs.declared.facts.AnyFact.{AnyFact}
+use Rattle.pur_base.specs.declared.facts.AnyFact.TheVariants as any
+use Rattle.pur_base.specs.declared.facts.SegmentFact.{SegmentFact}
+use Rattle.boot_codec.specs.declared.record.BootRecord.{BootRecord}
+use Rattle.boot_codec.specs.Region.{IsRecordOf}
+use Rattle.array_spec.specs.Sound.{AreSound, AreSegmentsSound}
+use Rattle.array_spec.specs.Stored.{all_facts}
+use Rattle.memory_spec.specs.Tables.{facts, patches}
+use Rattle.table_soundness.specs.declared.tables.LoadedTables.{LoadedTables}
+use Rattle.table_soundness.specs.Faults.{patches_in}
+use Rattle.free_space.specs.Map.{AreDataSegments, shelf_of}
+use Rattle.array_memory.specs.Kept.{Kept}
+use Rattle.array_memory.specs.Loaded.{IsLoaded}
+use Rattle.shelf_look.specs.Tables.{IsMemoryOf}
+use Rattle.shelf_look.proofs.Counting.{patches_show}
+
+module _ (shelf : Geometry) (boot : BootRecord) (t : LoadedTables) (k : Kept) (sound : AreSound shelf boot (patches_in t)) (loaded : IsLoaded boot t k.memory) where
+  pub patches_are : patches k.memory.tables ≡ patches_in t
+  patches_are = λ i.
+      map (map any.Object) (loaded.objects.patches i)
+      ++ (map (map any.Medium) (loaded.mediums.patches i)
+      ++ (map (map any.Address) (loaded.addresses.patches i)
+      ++ (map (map any.Segment) (loaded.segments.patches i)
+      ++ map (map any.Elision) (loaded.elisions.patches i))))
+
+  pub memory_of : IsMemoryOf shelf boot k
+  memory_of = record {
+    tables_sound = subst (λ (ps : List (List AnyFact)). AreSound shelf boot ps) (sym patches_are) sound;
+    whole = record {
+      staged = loaded.staged;
+      objects = loaded.objects.unflushed;
+      mediums = loaded.mediums.unflushed;
+      addresses = loaded.addresses.unflushed;
+      segments = loaded.segments.unflushed;
+      elisions = loaded.elisions.unflushed;
+    };
+    next = loaded.next;
+  }
+
+-- its visible segments are those that the record's patches show
+module _ (shelf : Geometry) (boot : BootRecord) (k : Kept) (lawful : IsRecordOf shelf boot) (is : IsMemoryOf shelf boot k) where
+  same_shelf : shelf_of boot ≡ shelf
+  same_shelf = λ i. record { slots = lawful.slots i; units = lawful.units i }
+
+  next_segment : boot.next.segment ≡ k.memory.next.segment
+  next_segment = sym (ap (λ n. n.segment) is.next)
+
+  pub shown_by_patches : segments (all_facts (patches k.memory.tables)) boot.next.segment ≡ segments (facts k.memory.tables) k.memory.next.segment
+  shown_by_patches =
+      patches_show k.memory.tables boot.next.segment is.whole.segments is.whole.elisions ∙ ap (λ (n : ℕ). segments (facts k.memory.tables) n) next_segment
+
+  pub data_segments : (ds : List SegmentFact) → segments (facts k.memory.tables) k.memory.next.segment ≡ ds → AreDataSegments boot ds
+  data_segments ds said = record {
+    tables = all_facts (patches k.memory.tables);
+    visible = shown_by_patches ∙ said;
+    sound = subst (λ (s : Geometry). AreSegmentsSound s boot (all_facts (patches k.memory.tables))) (sym same_shelf) is.tables_sound.segments;
+  }

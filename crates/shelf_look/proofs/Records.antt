@@ -1,0 +1,24 @@
+-- The record that the regions give.
+use Rattle.std.proofs.Common.{◌≡◌, ◌∙◌, ℕ, Bool, List, sym, ap, subst}
+use Rattle.pur_base.specs.Devices.{Geometry}
+use Rattle.boot_codec.specs.declared.bad_record.BadRecord.{BadRecord}
+use Rattle.boot_codec.specs.declared.bad_record.ReadError.{ReadError}
+use Rattle.boot_codec.specs.declared.bad_record.ReadError.TheVariants as errors
+use Rattle.boot_codec.specs.Reading.{Fails, read_record}
+use Rattle.boot_codec.specs.Region.{BootSlot, IsEffective}
+use Rattle.boot_region.specs.Loading.{IsBadBody}
+use Rattle.boot_region.specs.Regions.{seen}
+
+-- a body in force that can't be read
+pub bad_body : (shelf : Geometry) (bytes : List ℕ) (answered : List Bool) (slot : BootSlot) (body : List ℕ) (slots units : ℕ) (e : ReadError) (b : BadRecord) → e ≡ errors.Bad b
+    → slots ≡ shelf.slots → units ≡ shelf.units → IsEffective shelf (seen bytes answered) slot body → Fails e (read_record slots units body)
+    → (fault : BadRecord) × IsBadBody shelf bytes answered fault
+bad_body shelf bytes answered slot body slots units e b is same_slots same_units effective fails = (
+  b,
+  record {
+    slot = slot;
+    body = body;
+    effective = effective;
+    exact = sym (ap (λ n. read_record n units body) same_slots ∙ ap (λ n. read_record shelf.slots n body) same_units) ∙ subst (λ (f : ReadError). Fails f (read_record slots units body)) is fails;
+  },
+)

@@ -1,0 +1,92 @@
+use Rattle.std.proofs.Common.{◌∙◌, sym, subst}
+use Rattle.world.specs.Losing.{geometry_of}
+use Rattle.world.proofs.Ran.{ran_more, ran_then}
+use Rattle.shelf_look.specs.declared.cause.Cause.{Cause}
+use Rattle.shelf_look.specs.Opening.{IsCauseOf}
+use Rattle.shelf_look.proofs.Causing.{cause_of_those, if_err, log_cause, log_of, record_cause}
+use Rattle.shelf_look.proofs.finding.find.Goals as goal
+
+pub returns-in_err-loaded-clause-cause : goal.returns-in_err-loaded-clause-cause
+returns-in_err-loaded-clause-cause g c honest =
+    let a = g.S.Shelf.shelf c.args.shelf.now in
+    let r = c.args.regions.now in
+    if_err c.from_residual.result _ _ c.from_residual.ensures.1 (λ e is.
+    subst (λ (x : Cause). IsCauseOf a a r.bytes.items r.answered.items x) (sym is)
+    (record_cause a a r.bytes.items r.answered.items c.in_err-loaded.field-0.0 (c.in_err-loaded.ensures.err (geometry_of a) (sym c.requires.drives) (sym c.units.ensures))))
+
+pub read_tables-requires : goal.read_tables-requires
+read_tables-requires g c =
+    let a = g.S.Shelf.shelf c.args.shelf.now in
+    record { lawful = (c.in_ok-loaded.ensures.ok (geometry_of a) (sym c.requires.drives) (sym c.units.ensures)).held.lawful }
+
+pub returns-in_err-tables-clause-cause : goal.returns-in_err-tables-clause-cause
+returns-in_err-tables-clause-cause g c honest =
+    let a = g.S.Shelf.shelf c.args.shelf.now in
+    let n = g.S.Shelf.shelf c.read_tables.new.shelf in
+    let r = c.args.regions.now in
+    let given = c.in_ok-loaded.ensures.ok (geometry_of a) (sym c.requires.drives) (sym c.units.ensures) in
+    if_err c.from_residual-in_err-tables.result _ _ c.from_residual-in_err-tables.ensures.1 (λ e is.
+    subst (λ (x : Cause). IsCauseOf a n r.bytes.items r.answered.items x) (sym is)
+    (cause_of_those a n r.bytes.items r.answered.items c.in_ok-loaded.loaded given c.in_err-tables.field-0.0 (c.in_err-tables.ensures.fault honest)))
+
+pub returns-in_err-log-clause-ran : goal.returns-in_err-log-clause-ran
+returns-in_err-log-clause-ran g c = ran_then g.met.S.Shelf.shelf_rest_stays c.read_tables.ensures.ran (ran_more (λ d on. tt) (λ d i w. w) c.read.ensures.ran)
+
+pub returns-in_err-log-clause-cause : goal.returns-in_err-log-clause-cause
+returns-in_err-log-clause-cause g c honest =
+    let a = g.S.Shelf.shelf c.args.shelf.now in
+    let mid = g.S.Shelf.shelf c.read_tables.new.shelf in
+    let n = g.S.Shelf.shelf c.read.new.shelf in
+    let r = c.args.regions.now in
+    let given = c.in_ok-loaded.ensures.ok (geometry_of a) (sym c.requires.drives) (sym c.units.ensures) in
+    if_err c.from_residual-in_err-log.result _ _ c.from_residual-in_err-log.ensures.1 (λ e is.
+    subst (λ (x : Cause). IsCauseOf a n r.bytes.items r.answered.items x) (sym is)
+    (log_cause a mid n r.bytes.items r.answered.items c.in_ok-loaded.loaded given c.read_tables.ensures.nvrams c.in_err-log.field-0.0 c.in_err-log.ensures.err))
+
+pub returns-in_err-waiting-clause-ran : goal.returns-in_err-waiting-clause-ran
+returns-in_err-waiting-clause-ran g c = ran_then g.met.S.Shelf.shelf_rest_stays c.read_tables.ensures.ran (ran_more (λ d on. tt) (λ d i w. w) c.read.ensures.ran)
+
+pub returns-in_err-waiting-clause-cause : goal.returns-in_err-waiting-clause-cause
+returns-in_err-waiting-clause-cause g c honest =
+    let a = g.S.Shelf.shelf c.args.shelf.now in
+    let mid = g.S.Shelf.shelf c.read_tables.new.shelf in
+    let n = g.S.Shelf.shelf c.read.new.shelf in
+    let r = c.args.regions.now in
+    let x = c.in_ok-loaded.loaded in
+    let log = c.in_ok-log.log in
+    let given = c.in_ok-loaded.ensures.ok (geometry_of a) (sym c.requires.drives) (sym c.units.ensures) in
+    if_err c.from_residual-in_err-waiting.result _ _ c.from_residual-in_err-waiting.ensures.1 (λ e is.
+    subst (λ (x : Cause). IsCauseOf a n r.bytes.items r.answered.items x) (sym (is ∙ c.in_err-waiting.ensures.err.0))
+    (record {
+      loaded = x;
+      given = given;
+      log = log;
+      is = log_of a mid n x.record log c.read_tables.ensures.ran.on.continues.honest c.read_tables.ensures.nvrams c.in_ok-log.ensures.flushed c.in_ok-log.ensures.members.0 c.in_ok-log.ensures.members.1 c.in_ok-log.ensures.dropped c.in_ok-log.ensures.log;
+      unserved = c.in_err-waiting.ensures.err.1;
+    }))
+
+pub returns-clause-ran : goal.returns-clause-ran
+returns-clause-ran g c = ran_then g.met.S.Shelf.shelf_rest_stays c.read_tables.ensures.ran (ran_more (λ d on. tt) (λ d i w. w) c.read.ensures.ran)
+
+pub returns-clause-opening : goal.returns-clause-opening
+returns-clause-opening g c =
+    let a = g.S.Shelf.shelf c.args.shelf.now in
+    let given = c.in_ok-loaded.ensures.ok (geometry_of a) (sym c.requires.drives) (sym c.units.ensures) in
+    record {
+      lawful = given.held.lawful;
+      memory = c.in_ok-tables.ensures.memory;
+      waiting = λ commands keeps. (c.in_ok-waiting.ensures.ok commands keeps).1;
+    }
+
+pub returns-clause-found : goal.returns-clause-found
+returns-clause-found g c honest =
+    let a = g.S.Shelf.shelf c.args.shelf.now in
+    let mid = g.S.Shelf.shelf c.read_tables.new.shelf in
+    let n = g.S.Shelf.shelf c.read.new.shelf in
+    record {
+      given = c.in_ok-loaded.ensures.ok (geometry_of a) (sym c.requires.drives) (sym c.units.ensures);
+      tables = c.in_ok-tables.ensures.tables honest;
+      log = log_of a mid n c.in_ok-loaded.loaded.record c.in_ok-log.log c.read_tables.ensures.ran.on.continues.honest c.read_tables.ensures.nvrams c.in_ok-log.ensures.flushed
+          c.in_ok-log.ensures.members.0 c.in_ok-log.ensures.members.1 c.in_ok-log.ensures.dropped c.in_ok-log.ensures.log;
+      served = λ commands keeps. (c.in_ok-waiting.ensures.ok commands keeps).0;
+    }

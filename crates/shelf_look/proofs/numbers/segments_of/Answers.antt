@@ -1,0 +1,22 @@
+use Rattle.std.proofs.Common.{◌<◌, List, length, ap, arith}
+use Rattle.std.proofs.lemmas.List.{at_drop_all}
+use Rattle.boot_codec.specs.declared.patch.PatchSegment.{PatchSegment}
+use Rattle.boot_codec.specs.declared.patch.Patch.{Patch}
+use Rattle.boot_codec.specs.Record.{patch_segments}
+use Rattle.shelf_look.proofs.Counting.{next_patch}
+use Rattle.shelf_look.proofs.numbers.segments_of.Goals as goal
+
+pub loop-index-preserved : goal.loop-index-preserved
+loop-index-preserved c =
+    let ps = c.args.patches.now in
+    let patch = c.at-patch.result in
+    let lt : c.loop-index.index < length ps = omega (arith, c.loop-index-test.true, c.len-index-end.ensures) in
+    let more = next_patch ps c.loop-index.index patch lt in
+    let same = ap (λ (p : Patch). length p.segments) c.at-patch.ensures in
+    let long = ap (λ (ss : List PatchSegment). length ss) c.as_slice.ensures in
+    omega (arith, more, same, long, c.loop-index.invariant)
+
+pub returns : goal.returns
+returns c =
+    let none = at_drop_all patch_segments c.args.patches.now c.loop-index.index (omega (arith, c.loop-index-test.false, c.len-index-end.ensures)) in
+    omega (arith, none, c.loop-index.invariant)

@@ -1,0 +1,6 @@
+use Rattle.std.proofs.Common.{◌≡◌, ◌+◌, drop}
+use Rattle.boot_codec.specs.Record.{patch_segments}
+use Rattle.shelf_look.proofs.numbers.segments_of.Given as goal
+
+abbrev pub invariant-loop-index : goal.invariant-loop-index
+invariant-loop-index l = l.count + patch_segments (drop l.index l.patches) ≡ patch_segments l.patches

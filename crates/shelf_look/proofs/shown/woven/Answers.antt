@@ -1,0 +1,11 @@
+use Rattle.std.proofs.Common.{arith}
+use Rattle.std.proofs.lemmas.Grind.{common_steps}
+use Rattle.table_soundness.proofs.NewestLemmas.{woven_nil}
+use Rattle.shelf_look.proofs.shown.woven.Goals.{then-loop-i-test+else-j-newer, else-loop-i-test}
+use Rattle.shelf_look.proofs.shown.woven.Goals as goal
+
+pub returns : goal.returns
+returns g c = elim c.loop-i-test.branch [
+  | then-loop-i-test+else-j-newer w ↦ grind (arith, common_steps, woven_nil)
+  | else-loop-i-test w ↦ grind (arith, common_steps)
+]

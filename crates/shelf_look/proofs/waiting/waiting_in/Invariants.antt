@@ -1,0 +1,13 @@
+use Rattle.std.proofs.Common.{◌≤◌, List, take}
+use Rattle.pur_base.specs.Commands.{Command}
+use Rattle.nvram_log.specs.Held.{Keeps}
+use Rattle.shelf_look.specs.Log.{AreServed, AreWaiting}
+use Rattle.shelf_look.proofs.waiting.waiting_in.Given as goal
+
+abbrev pub invariant-loop-i : goal.invariant-loop-i
+invariant-loop-i l = record {
+  creates : l.waiting.creates ≤ l.i;
+  writes : l.waiting.writes ≤ l.i;
+  fills : l.waiting.fills ≤ l.i;
+  done : (commands : List Command) → Keeps l.log commands → AreServed (take l.i commands) × AreWaiting (take l.i commands) l.waiting;
+}

@@ -1,0 +1,65 @@
+-- The log that the NVRAM devices show, and the commands that wait in it.
+use Rattle.std.specs.Prelude.{◌≡◌, ℕ, ◌+◌, ◌<◌, ◌^◌, Bool, true, false, cond, List, Some, slice_get, count_by}
+use Rattle.std.specs.List.{AllByRecursion}
+use Rattle.pur_base.specs.Commands.{Command}
+use Rattle.pur_base.specs.Grammar.{is_in_force}
+use Rattle.pur_base.specs.declared.request.Request.{Request}
+use Rattle.pur_base.specs.declared.request.Request.TheVariants as request
+use Rattle.boot_codec.specs.declared.record.BootRecord.{BootRecord}
+use Rattle.world.specs.Shelf.{Shelved}
+use Rattle.nvram_log.specs.declared.log.NvLog.{NvLog}
+use Rattle.nvram_log.specs.Held.{shown_by}
+use Rattle.nvram_log.specs.Members.{IsFewer, IsSome}
+use Rattle.nvram_log.specs.Read.{DroppedCounted, IsReadFrom}
+use Rattle.shelf_look.specs.declared.waiting.Waiting.{Waiting}
+
+-- The log behind the commands that the record's tables hold, as the NVRAM devices show it that the record names. Each of them is a member, or a call on it failed.
+pub record IsLogOf (old new : Shelved) (boot : BootRecord) (log : NvLog) : Type 0 where
+  pub flushed : log.flushed ≡ boot.flushed
+  pub named : IsFewer boot.members.nvrams log.members
+  pub some : IsSome log.members
+  pub dropped : DroppedCounted old new boot.members.nvrams log.members
+  pub read : IsReadFrom old.honest (shown_by new log.members) log
+
+-- each command is of a form in force
+abbrev pub AreServed : List Command → Type 0
+AreServed commands = AllByRecursion (λ c. is_in_force c.request ≡ true) commands
+
+-- one of them is not
+pub record HasUnserved (commands : List Command) : Type 0 where
+  pub place : ℕ
+  pub command : Command
+  pub there : slice_get commands place ≡ Some command
+  pub unserved : is_in_force command.request ≡ false
+
+-- ---- by kind
+
+abbrev pub is_create : Request → Bool
+is_create (request.Create name sectors) = true
+is_create _ = false
+
+abbrev pub is_write : Request → Bool
+is_write (request.Write name lba count) = true
+is_write _ = false
+
+abbrev pub is_fill : Request → Bool
+is_fill (request.Fill name lba count byte) = true
+is_fill _ = false
+
+-- a number of each kind that may be counted on
+pub record AreFew (w : Waiting) : Type 0 where
+  pub creates : w.creates < 2 ^ 63
+  pub writes : w.writes < 2 ^ 63
+  pub fills : w.fills < 2 ^ 63
+
+-- one more of its kind
+pub record CountsOne (was : Waiting) (r : Request) (now : Waiting) : Type 0 where
+  pub creates : now.creates ≡ was.creates + cond (is_create r) 1 0
+  pub writes : now.writes ≡ was.writes + cond (is_write r) 1 0
+  pub fills : now.fills ≡ was.fills + cond (is_fill r) 1 0
+
+-- so many commands wait, of each kind
+pub record AreWaiting (commands : List Command) (w : Waiting) : Type 0 where
+  pub creates : w.creates ≡ count_by (λ c. is_create c.request) commands
+  pub writes : w.writes ≡ count_by (λ c. is_write c.request) commands
+  pub fills : w.fills ≡ count_by (λ c. is_fill c.request) commands

@@ -1,0 +1,34 @@
+-- The numbers of an array that can be opened, by the definitions that a status of it has.
+use Rattle.std.specs.Prelude.{◌≡◌, ℕ, ◌-◌, List, length}
+use Rattle.std.specs.List.{sum_by}
+use Rattle.pur_base.specs.Visible.{segments}
+use Rattle.pur_base.specs.declared.facts.SegmentFact.{SegmentFact}
+use Rattle.boot_codec.specs.Record.{patch_segments}
+use Rattle.log_codec.specs.declared.limits.TheConstants.{LOG_SLOTS}
+use Rattle.array_spec.specs.Counts.{IsGroups, free_of_members}
+use Rattle.array_spec.specs.Stored.{all_facts}
+use Rattle.memory_spec.specs.Tables.{facts, patches}
+use Rattle.session_spec.specs.Faring.{set_flags}
+use Rattle.shelf_look.specs.declared.finding.Opening.{Opening}
+use Rattle.shelf_look.specs.declared.numbers.Numbers.{Numbers}
+
+-- the data segments that the tables show
+abbrev pub segments_of : Opening → List SegmentFact
+segments_of o = segments (facts o.memory.memory.tables) o.memory.memory.next.segment
+
+-- for so many more segments there are free units on the drives that the record names
+abbrev pub HasGroups : Opening → ℕ → Type 0
+HasGroups o groups = IsGroups (free_of_members o.loaded.record (all_facts (patches o.memory.memory.tables))) groups
+
+-- The record's generation, devices and patches, the room that it leaves, the data segments, and the free slots of the log.
+pub record AreNumbersOf (o : Opening) (n : Numbers) : Type 0 where
+  pub generation : n.generation ≡ o.loaded.record.generation
+  pub drives : n.drives ≡ set_flags o.loaded.record.members.drives
+  pub holding : n.holding ≡ set_flags o.loaded.drives
+  pub nvrams : n.nvrams ≡ set_flags o.loaded.record.members.nvrams
+  pub answering : n.answering ≡ set_flags o.log.members
+  pub groups : HasGroups o n.groups
+  pub segments : n.segments ≡ length (segments_of o)
+  pub placed : n.placed ≡ sum_by (λ d. d.placed) (segments_of o)
+  pub patch_segments : n.patch_segments ≡ patch_segments o.loaded.record.patches
+  pub free_slots : n.free_slots ≡ LOG_SLOTS - o.log.count

@@ -1,0 +1,65 @@
+-- What an opening would find on the devices, and why it would find no array.
+use Rattle.std.specs.Prelude.{ℕ, ◌<◌, Bool, List, ⊤}
+use Rattle.pur_base.specs.Commands.{Command}
+use Rattle.pur_base.specs.Devices.{Geometry, nvram}
+use Rattle.pur_base.specs.declared.device.Device.{Device}
+use Rattle.boot_codec.specs.Region.{IsRecordOf}
+use Rattle.world.specs.Counts.{Rises}
+use Rattle.world.specs.Losing.{geometry_of}
+use Rattle.world.specs.Shelf.{Shelved}
+use Rattle.boot_region.specs.declared.loading.Loaded.{Loaded}
+use Rattle.boot_region.specs.Loading.{IsFaultOf, IsGiven}
+use Rattle.nvram_log.specs.declared.log.NvLog.{NvLog}
+use Rattle.nvram_log.specs.Held.{Keeps}
+use Rattle.nvram_log.specs.Members.{IsMember}
+use Rattle.table_loading.specs.declared.fault.TablesFault.{TablesFault}
+use Rattle.shelf_look.specs.declared.cause.Cause.{Cause}
+use Rattle.shelf_look.specs.declared.cause.Cause.TheVariants as cause
+use Rattle.shelf_look.specs.declared.finding.Opening.{Opening}
+use Rattle.shelf_look.specs.Log.{AreServed, AreWaiting, HasUnserved, IsLogOf}
+use Rattle.shelf_look.specs.Tables.{AreTablesOn, IsMemoryOf, IsTablesCause}
+
+-- any device
+abbrev pub IsAny : Device → Type 0
+IsAny d = Unit {0}
+
+-- What was found fits together: the record is one of the shelf's, memory has its tables, and the log's commands were counted.
+pub record IsOpeningIn (shelf : Geometry) (o : Opening) : Type 0 where
+  pub lawful : IsRecordOf shelf o.loaded.record
+  pub memory : IsMemoryOf shelf o.loaded.record o.memory
+  pub waiting : (commands : List Command) → Keeps o.log commands → AreWaiting commands o.waiting
+
+-- What these boot regions, the drives and the NVRAM devices give: the record in force, its tables, and the log, each command of which is of a form in force.
+pub record IsOpeningOf (old new : Shelved) (bytes : List ℕ) (answered : List Bool) (o : Opening) : Type 0 where
+  pub given : IsGiven (geometry_of old) bytes answered o.loaded
+  pub tables : AreTablesOn old o.loaded.drives o.loaded.record o.memory
+  pub log : IsLogOf old new o.loaded.record o.log
+  pub served : (commands : List Command) → Keeps o.log commands → AreServed commands
+
+-- the tables of the record in force aren't read from the drives that hold it, or aren't sound
+pub record HasNoTables (old new : Shelved) (bytes : List ℕ) (answered : List Bool) (fault : TablesFault) : Type 0 where
+  pub loaded : Loaded
+  pub given : IsGiven (geometry_of old) bytes answered loaded
+  pub cause : IsTablesCause old new loaded.drives loaded.record fault
+
+-- on each NVRAM device that the record in force names a call failed
+pub record HasNoLog (old new : Shelved) (bytes : List ℕ) (answered : List Bool) : Type 0 where
+  pub loaded : Loaded
+  pub given : IsGiven (geometry_of old) bytes answered loaded
+  pub failed : (n : ℕ) → n < 2 → IsMember loaded.record.members.nvrams n → Rises (old.disk (nvram n)).faults (new.disk (nvram n)).faults
+
+-- its log has a command of a form that isn't served
+pub record HasUnservedLog (old new : Shelved) (bytes : List ℕ) (answered : List Bool) : Type 0 where
+  pub loaded : Loaded
+  pub given : IsGiven (geometry_of old) bytes answered loaded
+  pub log : NvLog
+  pub is : IsLogOf old new loaded.record log
+  pub unserved : (commands : List Command) → Keeps log commands → HasUnserved commands
+
+-- why these boot regions, the drives and the NVRAM devices give no array
+abbrev pub IsCauseOf : Shelved → Shelved → List ℕ → List Bool → Cause → Type 0
+IsCauseOf old new bytes answered (cause.Memory m) = ⊤
+IsCauseOf old new bytes answered (cause.Record fault) = IsFaultOf (geometry_of old) bytes answered fault
+IsCauseOf old new bytes answered (cause.Tables fault) = HasNoTables old new bytes answered fault
+IsCauseOf old new bytes answered cause.BothLost = HasNoLog old new bytes answered
+IsCauseOf old new bytes answered cause.Unserved = HasUnservedLog old new bytes answered

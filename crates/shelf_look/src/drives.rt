@@ -1,0 +1,77 @@
+// What each drive showed.
+ghost use Rattle.std.specs.Prelude.{◌≡◌, ◌<◌, ◌≤◌, length};
+ghost use Rattle.shelf_look.specs.Looking.{AreStates, is_held_by, is_named_by, state_at, state_of};
+
+use crate::record::RecordSeen;
+use boot_codec::DRIVE_FLAGS;
+
+/// What a drive showed of the record in force.
+#[derive(Clone, Copy, Debug, PartialEq, Eq)]
+pub enum DriveState {
+    /// The record names it, and it holds the record.
+    Holding,
+    /// The record names it, and it shows another one or none.
+    Other,
+    /// The record doesn't name it.
+    LeftOut,
+    /// It didn't answer: it is absent, or has another length, or a call on it failed.
+    Silent,
+}
+
+/// What a drive showed that the record names or doesn't, that holds it or doesn't, and that answered or didn't.
+fn state_of(is_named: bool, is_holding: bool, has_answered: bool) -> DriveState
+    ensures { result ≡ state_of is_named is_holding has_answered }
+{
+    if !has_answered {
+        DriveState::Silent
+    } else if !is_named {
+        DriveState::LeftOut
+    } else if is_holding {
+        DriveState::Holding
+    } else {
+        DriveState::Other
+    }
+}
+
+/// Whether the record names a drive. Where there is none, each shows another one or none.
+fn is_named(seen: &Option<RecordSeen>, slot: usize) -> bool
+    requires { slot < DRIVE_FLAGS }
+    ensures { result ≡ is_named_by seen.now slot }
+{
+    match seen {
+        Some(record) => record.members.drives[slot],
+        None => true,
+    }
+}
+
+/// Whether a drive holds the record.
+fn is_held(seen: &Option<RecordSeen>, slot: usize) -> bool
+    requires { slot < DRIVE_FLAGS }
+    ensures { result ≡ is_held_by seen.now slot }
+{
+    match seen {
+        Some(record) => record.holding[slot],
+        None => false,
+    }
+}
+
+/// What the drive of a slot showed.
+#[tactic(auto, unfolding(crate::specs::Looking::state_at))]
+fn state_at(seen: &Option<RecordSeen>, answered: &[bool], slot: usize) -> DriveState
+    requires { (slot < DRIVE_FLAGS) × (slot < length answered.now) }
+    ensures { result ≡ state_at seen.now answered.now slot }
+{
+    state_of(is_named(seen, slot), is_held(seen, slot), answered[slot])
+}
+
+/// What each drive showed, where these answered.
+pub fn states_of(seen: &Option<RecordSeen>, answered: &[bool]) -> [DriveState; DRIVE_FLAGS]
+    requires { length answered.now ≤ DRIVE_FLAGS }
+    ensures { AreStates seen.now answered.now result }
+{
+    let mut states = [DriveState::Silent; DRIVE_FLAGS];
+    for slot in 0..answered.len() {
+        states[slot] = state_at(seen, answered, slot);
+    }
+    states
+}

@@ -1,0 +1,70 @@
+// What an opening would find.
+ghost use Rattle.std.specs.Prelude.{◌≡◌, ℕ, List, length, IfOk, IfErr};
+ghost use Rattle.pur_base.specs.Commands.{Command};
+ghost use Rattle.pur_base.specs.declared.device.Device.{Device};
+ghost use Rattle.world.specs.Ran.{Ran};
+ghost use Rattle.world.specs.Losing.{geometry_of};
+ghost use Rattle.world.specs.Shelf.{IsSame};
+ghost use Rattle.nvram_log.specs.Held.{Keeps};
+ghost use Rattle.nvram_log.specs.Read.{OnNothing};
+ghost use Rattle.shelf_look.specs.Opening.{IsAny, IsCauseOf, IsOpeningOf, IsOpeningIn};
+ghost use Rattle.shelf_look.specs.Log.{AreServed, AreWaiting, HasUnserved};
+ghost use Rattle.shelf_look.specs.declared.cause.Cause.TheVariants as causes;
+
+use crate::Cause;
+use crate::tables::{ShownFacts, read_tables};
+use crate::waiting::{Waiting, waiting_in};
+use array_memory::Memory;
+use boot_region::{Loaded, Regions};
+use nvram_log::NvLog;
+use std::alloc::Global;
+use world::Shelf;
+
+/// What an opening would find: the record in force, the drives that hold it, memory of the tables that it names, and the log.
+#[derive(Drop)]
+pub struct Opening {
+    pub loaded: Loaded,
+    pub memory: Memory,
+    pub shown: ShownFacts,
+    pub log: NvLog,
+    pub waiting: Waiting,
+}
+
+/// What the log has that waits.
+fn served_in(log: &NvLog) -> Result<Waiting, Cause>
+    requires kept { (commands : List Command) × Keeps log.now commands }
+    ensures ok { IfOk result (λ w. (commands : List Command) → Keeps log.now commands → AreServed commands × AreWaiting commands w) }
+    ensures err { IfErr result (λ c. (c ≡ causes.Unserved) × ((commands : List Command) → Keeps log.now commands → HasUnserved commands)) }
+{
+    match waiting_in(log) {
+        Some(waiting) => Ok(waiting),
+        None => Err(Cause::Unserved),
+    }
+}
+
+/// Finds what an opening would find, where so much was read of the boot regions, or why it would end.
+pub fn find<S: Shelf>(alloc: Global, shelf: &mut S, regions: &Regions) -> Result<Opening, Cause>
+    requires drives { length regions.now.answered.items ≡ (S.shelf shelf.old).drives }
+    ensures same { (S.shelf shelf.old).honest → (d : Device) → IsSame ((S.shelf shelf.old).disk d) ((S.shelf shelf.new).disk d) }
+    ensures ran { Ran S.shelf S.shelf_rest IsAny OnNothing shelf.old shelf.new }
+    ensures opening { IfOk result (IsOpeningIn (geometry_of (S.shelf shelf.old))) }
+    ensures found { (S.shelf shelf.old).honest → IfOk result (IsOpeningOf (S.shelf shelf.old) (S.shelf shelf.new) regions.now.bytes.items regions.now.answered.items) }
+    ensures cause { (S.shelf shelf.old).honest → IfErr result (IsCauseOf (S.shelf shelf.old) (S.shelf shelf.new) regions.now.bytes.items regions.now.answered.items) }
+{
+    let loaded = regions.load(alloc, shelf.units())?;
+    let tables = read_tables(alloc, shelf, &loaded.record, &loaded.drives)?;
+    let log = NvLog::read(
+        alloc,
+        shelf,
+        loaded.record.members.nvrams,
+        loaded.record.flushed,
+    )?;
+    let waiting = served_in(&log)?;
+    Ok(Opening {
+        loaded,
+        memory: tables.memory,
+        shown: tables.shown,
+        log,
+        waiting,
+    })
+}

@@ -1,0 +1,48 @@
+// The record in force, as the drives show it.
+ghost use Rattle.std.specs.Prelude.{◌≡◌, ◌≤◌, length, IfOk};
+ghost use Rattle.pur_base.specs.Devices.{Geometry};
+ghost use Rattle.shelf_look.specs.Looking.{IsRecordSeen};
+
+use boot_codec::{DRIVE_FLAGS, Members, ReadError, read_record};
+use boot_region::{Regions, Slot};
+use pur_base::NoMemory;
+use std::alloc::Global;
+
+/// The record that more than half of all drives show: whether or not the array can be opened.
+#[derive(Clone, Copy, Debug, PartialEq, Eq, Drop)]
+pub struct RecordSeen {
+    pub generation: u64,
+    pub slot: Slot,
+    /// The number of the last command that its tables hold.
+    pub flushed: u64,
+    /// The devices that it names.
+    pub members: Members,
+    /// The drives that it names and on which it stands.
+    pub holding: [bool; DRIVE_FLAGS],
+}
+
+/// The record that the regions give, if it is a lawful one of a shelf with so many units a drive.
+pub fn record_seen(
+    alloc: Global,
+    regions: &Regions,
+    units: u16,
+) -> Result<Option<RecordSeen>, NoMemory>
+    ensures { IfOk result (λ r. (shelf : Geometry) → shelf.slots ≡ length regions.now.answered.items → shelf.units ≡ units
+        → IsRecordSeen shelf regions.now.bytes.items regions.now.answered.items r) }
+{
+    let Some((slot, body)) = regions.effective() else {
+        return Ok(None);
+    };
+    let slots = regions.answered.len() as u8;
+    match read_record(alloc, body, slots, units) {
+        Ok(record) => Ok(Some(RecordSeen {
+            generation: record.generation,
+            slot,
+            flushed: record.flushed,
+            members: record.members,
+            holding: regions.holding(&record.members.drives, slot, body),
+        })),
+        Err(ReadError::Bad(_)) => Ok(None),
+        Err(ReadError::Memory(none)) => Err(none),
+    }
+}

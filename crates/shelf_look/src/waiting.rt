@@ -1,0 +1,71 @@
+// The commands that wait in the log.
+ghost use Rattle.std.specs.Prelude.{◌≡◌, ℕ, List, IfSome, IfNone};
+ghost use Rattle.pur_base.specs.Commands.{Command};
+ghost use Rattle.nvram_log.specs.Held.{Keeps};
+ghost use Rattle.shelf_look.specs.Log.{AreFew, AreServed, AreWaiting, CountsOne, HasUnserved, is_create, is_fill, is_write};
+
+use nvram_log::NvLog;
+use pur_base::Request;
+
+/// How many commands of each kind the log has.
+#[derive(Clone, Copy, Debug, PartialEq, Eq, Drop)]
+pub struct Waiting {
+    pub creates: usize,
+    pub writes: usize,
+    pub fills: usize,
+}
+
+fn is_create(request: &Request) -> bool
+    ensures { result ≡ is_create request.now }
+{
+    matches!(request, Request::Create { .. })
+}
+
+fn is_write(request: &Request) -> bool
+    ensures { result ≡ is_write request.now }
+{
+    matches!(request, Request::Write { .. })
+}
+
+fn is_fill(request: &Request) -> bool
+    ensures { result ≡ is_fill request.now }
+{
+    matches!(request, Request::Fill { .. })
+}
+
+impl Waiting {
+    /// These, and one more.
+    fn and(&self, request: &Request) -> Waiting
+        requires { AreFew self.now }
+        ensures { CountsOne self.now request.now result }
+    {
+        Waiting {
+            creates: self.creates + usize::from(is_create(request)),
+            writes: self.writes + usize::from(is_write(request)),
+            fills: self.fills + usize::from(is_fill(request)),
+        }
+    }
+}
+
+/// How many commands of each kind wait, or `None` where one is of a form that isn't served yet.
+pub fn waiting_in(log: &NvLog) -> Option<Waiting>
+    requires kept { (commands : List Command) × Keeps log.now commands }
+    ensures some { IfSome result (λ w. (commands : List Command) → Keeps log.now commands → AreServed commands × AreWaiting commands w) }
+    ensures none { IfNone result ((commands : List Command) → Keeps log.now commands → HasUnserved commands) }
+{
+    let mut waiting = Waiting {
+        creates: 0,
+        writes: 0,
+        fills: 0,
+    };
+    for i in 0..log.count() {
+        let Ok(logged) = log.record_at(i) else {
+            return None;
+        };
+        if !logged.head.command.is_in_force() {
+            return None;
+        }
+        waiting = waiting.and(&logged.head.command);
+    }
+    Some(waiting)
+}

@@ -1,0 +1,17 @@
+-- How the program ends.
+use Rattle.std.specs.Prelude.{ℕ}
+use Rattle.pur_base.specs.declared.reply.Status.{Status}
+use Rattle.pur_base.specs.declared.reply.Status.TheVariants as status
+
+-- the number that a status ends the program with
+abbrev pub exit_code : Status → ℕ
+exit_code status.Done = 0
+exit_code status.Words = 1
+exit_code status.NoArray = 2
+exit_code status.Halted = 3
+exit_code status.Source = 4
+exit_code status.Sink = 5
+exit_code status.Memory = 6
+exit_code status.Cut = 7
+exit_code status.InputLimit = 8
+exit_code status.NotBlank = 9

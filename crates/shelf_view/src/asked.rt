@@ -1,0 +1,33 @@
+// What the command line asks for.
+use clap::{Arg, ArgAction, Command, Error};
+use shelf_words::Asked;
+use std::alloc::Global;
+
+/// A flag of that name.
+fn flag<'a>(alloc: Global, name: &'a str, help: &'a str) -> Arg<'a> {
+    Arg::new(alloc, name)
+        .long(name)
+        .help(help)
+        .action(ArgAction::SetTrue)
+}
+
+/// The command line.
+fn command<'a>(alloc: Global) -> Result<Command<'a>, Error> {
+    let json = flag(alloc, "json", "Tell all of it as one JSON object");
+    let objects = flag(alloc, "objects", "Tell each volume and snapshot too");
+    let command = Command::new(alloc, "shelf_view")
+        .version("1")
+        .about("Shows what the shelf in the current folder holds, and writes nothing")
+        .arg(json)?
+        .arg(objects)?;
+    Ok(command)
+}
+
+/// What these words ask for, the program's name in front of them.
+pub fn asked_by<'a>(alloc: Global, words: &'a [String]) -> Result<Asked, Error> {
+    let matches = command(alloc)?.try_get_matches_from(words)?;
+    Ok(Asked {
+        json: matches.get_flag("json"),
+        objects: matches.get_flag("objects"),
+    })
+}

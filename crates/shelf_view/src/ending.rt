@@ -1,0 +1,42 @@
+ghost use Rattle.std.specs.Prelude.{◌≡◌};
+ghost use Rattle.shelf_view.specs.Endings.{exit_code};
+
+use pur_base::Status;
+
+/// The exit status of a faulty command line.
+pub const WORDS: u8 = 1;
+
+/// The exit status where the current folder has no shelf.
+pub const NO_SHELF: u8 = 10;
+
+/// The exit status where another program has the shelf open.
+pub const IN_USE: u8 = 11;
+
+/// The exit status of the program, as that of a session that would end so.
+pub fn code_of(status: Status) -> u8
+    ensures { result ≡ exit_code status }
+{
+    match status {
+        Status::Done => 0,
+        Status::Words => 1,
+        Status::NoArray => 2,
+        Status::Halted => 3,
+        Status::Source => 4,
+        Status::Sink => 5,
+        Status::Memory => 6,
+        Status::Cut => 7,
+        Status::InputLimit => 8,
+        Status::NotBlank => 9,
+    }
+}
+
+/// What the program says on standard error when it ends so.
+pub fn text_of(status: Status) -> &'static str {
+    match status {
+        Status::NoArray => "no array",
+        Status::Halted => "halted",
+        Status::Sink => "sink",
+        Status::Memory => "memory",
+        _ => "words",
+    }
+}

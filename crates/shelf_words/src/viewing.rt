@@ -1,0 +1,54 @@
+// A view of a shelf.
+ghost use Rattle.std.specs.Prelude.{IfOk};
+ghost use Rattle.pur_base.specs.declared.device.Device.{Device};
+ghost use Rattle.world.specs.Ran.{Ran};
+ghost use Rattle.world.specs.Shelf.{IsSame};
+ghost use Rattle.nvram_log.specs.Read.{OnNothing};
+ghost use Rattle.shelf_look.specs.Opening.{IsAny};
+ghost use Rattle.shelf_words.specs.Viewing.{IsTold};
+
+use crate::json::json_of;
+use crate::words::words_of;
+use pur_base::{NoMemory, Status};
+use shelf_look::{Looked, look};
+use std::alloc::Global;
+use world::Shelf;
+
+/// What is to be told.
+#[derive(Clone, Copy, Debug, PartialEq, Eq)]
+pub struct Asked {
+    /// As one JSON object.
+    pub json: bool,
+    /// Each object too.
+    pub objects: bool,
+}
+
+/// What is told of a shelf, and the status with which an opening would end.
+#[derive(Drop)]
+pub struct Told {
+    pub text: String,
+    pub status: Status,
+}
+
+/// What is told of a look.
+fn text_of(alloc: Global, looked: &Looked, asked: Asked) -> Result<String, NoMemory> {
+    if asked.json {
+        json_of(alloc, looked)
+    } else {
+        words_of(alloc, looked, asked.objects)
+    }
+}
+
+/// Looks at a shelf and tells what it shows. It makes no write and no sync, whatever fails, and fails itself for want of memory alone.
+pub fn view<S: Shelf>(alloc: Global, shelf: &mut S, asked: Asked) -> Result<Told, NoMemory>
+    // No byte changes or gets dirty on any device, and a stop at any moment leaves each as it was.
+    ensures same { (S.shelf shelf.old).honest → (d : Device) → IsSame ((S.shelf shelf.old).disk d) ((S.shelf shelf.new).disk d) }
+    ensures ran { Ran S.shelf S.shelf_rest IsAny OnNothing shelf.old shelf.new }
+    // The status is that of an opening of what the devices show.
+    ensures told { (S.shelf shelf.old).honest → IfOk result (IsTold (S.shelf shelf.old) (S.shelf shelf.new)) }
+{
+    let looked = look(alloc, shelf)?;
+    let status = looked.status();
+    let text = text_of(alloc, &looked, asked)?;
+    Ok(Told { text, status })
+}
