@@ -1,7 +1,6 @@
 -- Nothing and reads behind reads are reads alone.
-use Rattle.std.proofs.Common.{◌≡◌, ◌∙◌, refl}
-use Rattle.pur_base.specs.declared.device.Device.{Device}
-use Rattle.world.specs.Shelf.{Shelved, IsShelf, IsSame}
+use Rattle.std.proofs.Common.{◌∙◌, refl}
+use Rattle.world.specs.Shelf.{Shelved, IsShelf}
 use Rattle.world.specs.Streams.{IsPreorder}
 use Rattle.world.proofs.Moments.{continues_refl, continues_trans}
 use Rattle.world.proofs.Writes.{nothing_written, writes_then}

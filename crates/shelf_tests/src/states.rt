@@ -43,7 +43,7 @@ fn a_new_array(rt: HostRuntime) -> Result<(), Fail> {
         )
     );
     assert!(rt; has(&told, "drive 10: holds the record"));
-    assert!(rt; has(&told, "nvram 1: answers"));
+    assert!(rt; has(&told, "nvram 1: answers, shows 0 commands"));
     assert!(rt; has(&told, "log: 0 create, 0 write, 0 fill; 64 free slots"));
     assert!(rt;
         has(
@@ -188,6 +188,8 @@ fn devices_of_the_log_that_differ(rt: HostRuntime) -> Result<(), Fail> {
     close_gate(&mut world, 0, 1)?;
     let told = viewed(alloc, &mut world, false)?;
     assert!(rt; has(&told, "log: 1 create, 0 write, 1 fill; 62 free slots"));
+    assert!(rt; has(&told, "nvram 0: answers, shows 1 command"));
+    assert!(rt; has(&told, "nvram 1: answers, shows 2 commands"));
     close_gate(&mut world, 1, 1)?;
     let shorter = viewed(alloc, &mut world, false)?;
     assert!(rt; has(&shorter, "log: 1 create, 0 write, 0 fill; 63 free slots"));

@@ -231,11 +231,24 @@ fn put_outcome(
     }
 }
 
+fn put_logs(map: &mut Members, alloc: Global, logs: &[Option<usize>]) -> Result<(), AllocError> {
+    let mut all = Vec::new(alloc);
+    for log in logs {
+        let value = match log {
+            Some(count) => Value::from(*count),
+            None => Value::Null,
+        };
+        all.push(value)?;
+    }
+    put(map, alloc, "logs", Value::Array(all))
+}
+
 fn put_look(map: &mut Members, alloc: Global, looked: &Looked) -> Result<(), AllocError> {
     put_number(map, alloc, "slots", u64::from(looked.slots))?;
     put_number(map, alloc, "units", u64::from(looked.units))?;
     put(map, alloc, "record", record_value(alloc, &looked.record)?)?;
     put_drives(map, alloc, looked)?;
+    put_logs(map, alloc, &looked.logs)?;
     put_outcome(map, alloc, looked.slots, &looked.found)
 }
 

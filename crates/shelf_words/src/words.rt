@@ -128,23 +128,24 @@ fn put_drives(page: &mut Page, looked: &Looked) -> Result<(), NoMemory> {
     Ok(())
 }
 
-/// What an NVRAM device shows, which the record names or doesn't.
-pub fn nvram_text(is_named: bool, answers: bool) -> &'static str {
-    if !is_named {
-        "is left out"
-    } else if answers {
-        "answers"
-    } else {
-        "doesn't answer"
-    }
-}
-
-/// A line for each NVRAM device, where the log was read.
-fn put_nvrams(page: &mut Page, record: &RecordSeen, found: &Found) -> Result<(), NoMemory> {
+/// A line for each NVRAM device: how many commands it shows in front of the first slot in which it shows none.
+fn put_nvrams(page: &mut Page, looked: &Looked, record: &RecordSeen) -> Result<(), NoMemory> {
     let alloc = page.alloc;
     for i in 0..2 {
-        let text = nvram_text(record.members.nvrams[i], found.nvrams[i]);
-        page.line(&format!(in alloc; "nvram {i}: {text}")?)?;
+        match looked.logs[i] {
+            Some(count) => page.line(&format!(in alloc;
+                "nvram {i}: answers, shows {count} command{}",
+                plural(count)
+            )?)?,
+            None => {
+                let text = if record.members.nvrams[i] {
+                    "doesn't answer"
+                } else {
+                    "is left out"
+                };
+                page.line(&format!(in alloc; "nvram {i}: {text}")?)?;
+            }
+        }
     }
     Ok(())
 }
@@ -274,10 +275,10 @@ pub fn words_of(alloc: Global, looked: &Looked, objects: bool) -> Result<String,
     page.line(&format!(in alloc; "shelf: {} drives of {} units", looked.slots, looked.units)?)?;
     put_record(&mut page, &looked.record)?;
     put_drives(&mut page, looked)?;
+    if let Some(record) = &looked.record {
+        put_nvrams(&mut page, looked, record)?;
+    }
     if let Ok(found) = &looked.found {
-        if let Some(record) = &looked.record {
-            put_nvrams(&mut page, record, found)?;
-        }
         put_found(&mut page, looked, found, objects)?;
     }
     Ok(page.text)
