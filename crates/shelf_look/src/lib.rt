@@ -11,7 +11,6 @@ mod looking;
 mod numbers;
 mod objects;
 mod record;
-mod shown;
 mod sides;
 mod tables;
 mod units;

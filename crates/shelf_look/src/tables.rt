@@ -14,14 +14,13 @@ ghost use Rattle.table_soundness.specs.Faults.{AreLawful, facts_in};
 ghost use Rattle.shelf_look.specs.Shown.{AreShownBy};
 ghost use Rattle.shelf_look.specs.Tables.{AreOthers, AreTablesOn, IsMemoryOf, IsTablesCause};
 
-use crate::shown::shown;
 use array_memory::Memory;
 use boot_codec::{BootRecord, DRIVE_FLAGS};
 use elision::Elided;
 use pur_base::{AddressFact, MediumFact, NoMemory, Table};
 use std::alloc::Global;
 use table_loading::{TablesFault, load_tables};
-use table_soundness::{LoadedTables, elided_by};
+use table_soundness::{LoadedTables, elided_by, facts_shown};
 use world::Shelf;
 
 /// The tables of a record in memory.
@@ -44,9 +43,9 @@ fn shown_by(alloc: Global, tables: &LoadedTables, elided: &Elided) -> Result<Sho
     ensures { IfOk result (AreShownBy (facts_in tables.now)) }
 {
     let no_mediums = elided.ranges(Table::Medium);
-    let mediums = shown(alloc, &tables.mediums, no_mediums)?;
+    let mediums = facts_shown(alloc, &tables.mediums, no_mediums)?;
     let no_addresses = elided.ranges(Table::Address);
-    let addresses = shown(alloc, &tables.addresses, no_addresses)?;
+    let addresses = facts_shown(alloc, &tables.addresses, no_addresses)?;
     Ok(ShownFacts { addresses, mediums })
 }
 

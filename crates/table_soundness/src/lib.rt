@@ -30,4 +30,5 @@ pub use elided::elided_by;
 pub use fault::SoundFault;
 pub use judge::check;
 pub use laws::laws_of_soundness;
+pub use shown::shown as facts_shown;
 pub use tables::LoadedTables;

@@ -1,26 +1,25 @@
 use Rattle.std.proofs.Common.{◌∙◌, sym, subst, Bool, List}
 use Rattle.world.specs.Losing.{geometry_of}
 use Rattle.world.proofs.Moments.{continues_trans}
-use Rattle.world.proofs.Ran.{ran_then}
+use Rattle.world.proofs.Ran.{ran_more, ran_then}
 use Rattle.shelf_look.specs.Looking.{AreStates}
 use Rattle.shelf_look.proofs.Lifting.{outcome, read_later, same_then}
-use Rattle.shelf_look.proofs.Running.{ran_reading}
 use Rattle.shelf_look.proofs.looking.look.Goals as goal
 
 pub returns-in_err-logs-clause-ran : goal.returns-in_err-logs-clause-ran
 returns-in_err-logs-clause-ran g c =
-    ran_then g.met.S.Shelf.shelf_rest_stays (ran_reading c.read_regions.ensures.continues c.read_regions.ensures.writes c.read_regions.ensures.rest) c.read_sides.ensures.ran
+    ran_then g.met.S.Shelf.shelf_rest_stays (ran_more (λ d is. tt) (λ d i w. w) c.read_regions.ensures.ran) c.read_sides.ensures.ran
 
 pub returns-in_err-found-clause-ran : goal.returns-in_err-found-clause-ran
 returns-in_err-found-clause-ran g c =
     ran_then g.met.S.Shelf.shelf_rest_stays
-    (ran_then g.met.S.Shelf.shelf_rest_stays (ran_reading c.read_regions.ensures.continues c.read_regions.ensures.writes c.read_regions.ensures.rest) c.read_sides.ensures.ran)
+    (ran_then g.met.S.Shelf.shelf_rest_stays (ran_more (λ d is. tt) (λ d i w. w) c.read_regions.ensures.ran) c.read_sides.ensures.ran)
     c.find-opening.ensures.ran
 
 pub returns-clause-ran : goal.returns-clause-ran
 returns-clause-ran g c =
     ran_then g.met.S.Shelf.shelf_rest_stays
-    (ran_then g.met.S.Shelf.shelf_rest_stays (ran_reading c.read_regions.ensures.continues c.read_regions.ensures.writes c.read_regions.ensures.rest) c.read_sides.ensures.ran)
+    (ran_then g.met.S.Shelf.shelf_rest_stays (ran_more (λ d is. tt) (λ d i w. w) c.read_regions.ensures.ran) c.read_sides.ensures.ran)
     c.find-opening.ensures.ran
 
 pub returns-clause-look : goal.returns-clause-look
@@ -30,7 +29,7 @@ returns-clause-look g c honest =
     let s = g.S.Shelf.shelf c.read_sides.new.shelf in
     let n = g.S.Shelf.shelf c.find-opening.new.shelf in
     let r = c.read_regions.new.regions in
-    let first = c.read_regions.ensures.continues in
+    let first = c.read_regions.ensures.ran.on.continues in
     let then = c.read_sides.ensures.ran.on.continues in
     let on = continues_trans first then in
     let all = c.read_regions.ensures.drives ∙ first.drives in

@@ -1,5 +1,0 @@
-use Rattle.std.proofs.Common.{length}
-use Rattle.shelf_look.proofs.shown.+newest_of_each.Given as goal
-
-abbrev pub decreases-newest_of_each : goal.decreases-newest_of_each
-decreases-newest_of_each g l = length l.patches.now
