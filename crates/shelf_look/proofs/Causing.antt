@@ -27,11 +27,6 @@ use Rattle.shelf_look.specs.Log.{IsLogOf}
 use Rattle.shelf_look.specs.Opening.{IsCauseOf}
 use Rattle.shelf_look.specs.Tables.{AreOthers, IsTablesCause, ShowsThose}
 
--- what holds of each error of that kind holds of the one that was returned
-pub if_err : {T E : Type 0} (r : Result T E) (P Q : E → Type 0) → IsErrAnd r Q → ((e : E) → Q e → P e) → IfErr r P
-if_err (Ok x) P Q is all = tt
-if_err (Err e) P Q is all = all e is
-
 -- ---- the record
 
 pub record_cause : (a n : Shelved) (bytes : List ℕ) (answered : List Bool) (fault : LoadFault) → IsFaultOf (geometry_of a) bytes answered fault → IsCauseOf a n bytes answered (cause_of fault)

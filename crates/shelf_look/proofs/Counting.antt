@@ -14,7 +14,7 @@ use Rattle.boot_codec.specs.Record.{patch_segments}
 use Rattle.array_spec.specs.Stored.{all_facts}
 use Rattle.pyramid.specs.Layers.{Layers, facts_in, facts_of}
 use Rattle.memory_spec.specs.Tables.{Tables, facts, flushed, patches}
-use Rattle.checkpoint_spec.proofs.Patches.{patches_are_flushed}
+use Rattle.checkpoint_spec.proofs.Patches.{patches_are_flushed, whole_table}
 
 -- one patch more
 pub next_patch : (ps : List Patch) (n : ℕ) (d : Patch) → n < length ps → patch_segments (drop n ps) ≡ length (get_or ps n d).segments + patch_segments (drop (n + 1) ps)
@@ -37,11 +37,8 @@ few_segments f next = omega (arith, few_some (segment f) (range_with_len 0 next)
 abbrev seen_in : ℕ → List SegmentFact → List ElisionFact → List SegmentFact
 seen_in n ss es = segments (record { objects = []; mediums = []; addresses = []; segments = ss; elisions = es }) n
 
-all_in : {F : Type 0} (l : Layers F) → l.unflushed ≡ [] → facts_of l.patches ≡ facts_in l
-all_in l none = sym (ap (λ u. facts_of l.patches ++ u) none ∙ append-nil (facts_of l.patches))
-
 -- where no segment and no elision is unflushed
 pub patches_show : (t : Tables) (n : ℕ) → t.segments.unflushed ≡ [] → t.elisions.unflushed ≡ [] → segments (all_facts (patches t)) n ≡ segments (facts t) n
 patches_show t n no_segments no_elisions =
-    let same : segments (flushed t) n ≡ segments (facts t) n = λ k. seen_in n (all_in t.segments no_segments k) (all_in t.elisions no_elisions k) in
+    let same : segments (flushed t) n ≡ segments (facts t) n = λ k. seen_in n (whole_table t.segments no_segments k) (whole_table t.elisions no_elisions k) in
     ap (λ (f : Facts). segments f n) (patches_are_flushed t) ∙ same

@@ -5,4 +5,3 @@ pub mod Logs
 pub mod Making
 pub mod Ranging
 pub mod Records
-pub mod Running

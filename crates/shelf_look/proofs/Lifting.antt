@@ -25,17 +25,13 @@ use Rattle.shelf_look.specs.Log.{IsLogOf}
 use Rattle.shelf_look.specs.Looking.{IsOutcome, IsTold}
 use Rattle.shelf_look.specs.Opening.{IsCauseOf, IsOpeningOf}
 use Rattle.shelf_look.specs.Tables.{AreTablesOn, IsMemoryOf, IsTablesCause, ShowsThose}
+use Rattle.segment_io.proofs.Losing.{rises_first}
 
 pub same_geometry : {old new : Shelved} → Continues old new → geometry_of new ≡ geometry_of old
 same_geometry {old} {new} on = ap (λ (n : ℕ). record { slots = n; units = new.units }) on.drives ∙ ap (λ (n : ℕ). record { slots = old.drives; units = n }) on.units
 
 pub same_then : {a b c : Disk} → IsSame a b → IsSame b c → IsSame a c
 same_then first next = record { bytes = next.bytes ∙ first.bytes; dirty = next.dirty ∙ first.dirty }
-
--- a count that rose has risen since, whatever failed later
-pub rises_later : (a b c : ℕ) → Rises a b → b ≤ c → c ≤ 2 ^ 64 - 1 → Rises a c
-rises_later a b c (inl lt) le top = inl (omega (arith, lt, le))
-rises_later a b c (inr (at, is)) le top = inr (at, omega (arith, at, is, le, top))
 
 -- and before
 pub rises_before : (a b c : ℕ) → a ≤ b → Rises b c → Rises a c
@@ -48,7 +44,7 @@ rises_before a b c le (inr (at, is)) = elim (cases_lt a b) [
 -- what the boot region of a drive gave
 pub read_later : (old mid new : Shelved) (bytes : List ℕ) (answered : List Bool) (i : ℕ) → Continues mid new → IsShelf new → IsRead old mid bytes answered i → IsRead old new bytes answered i
 read_later old mid new bytes answered i on is (inl shows) = inl shows
-read_later old mid new bytes answered i on is (inr (none, up)) = inr (none, rises_later _ _ _ up (on.faults (drive i)) (is.faults (drive i)))
+read_later old mid new bytes answered i on is (inr (none, up)) = inr (none, rises_first _ _ _ up (on.faults (drive i)) (is.faults (drive i)))
 
 module _ (a b n : Shelved) (on : Continues a b) (same : (d : Device) → IsSame (a.disk d) (b.disk d)) where
   size : geometry_of b ≡ geometry_of a

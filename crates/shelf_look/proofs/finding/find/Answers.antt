@@ -3,8 +3,9 @@ use Rattle.world.specs.Losing.{geometry_of}
 use Rattle.world.proofs.Ran.{ran_more, ran_then}
 use Rattle.shelf_look.specs.declared.cause.Cause.{Cause}
 use Rattle.shelf_look.specs.Opening.{IsCauseOf}
-use Rattle.shelf_look.proofs.Causing.{cause_of_those, if_err, log_cause, log_of, record_cause}
+use Rattle.shelf_look.proofs.Causing.{cause_of_those, log_cause, log_of, record_cause}
 use Rattle.shelf_look.proofs.finding.find.Goals as goal
+use Rattle.boot_region.proofs.LoadingLemmas.{if_err}
 
 pub returns-in_err-loaded-clause-cause : goal.returns-in_err-loaded-clause-cause
 returns-in_err-loaded-clause-cause g c honest =

@@ -7,10 +7,11 @@ use Rattle.world.specs.Losing.{geometry_of}
 use Rattle.table_loading.specs.declared.fault.TablesFault.{TablesFault}
 use Rattle.table_soundness.specs.Faults.{patches_in}
 use Rattle.shelf_look.specs.Tables.{IsTablesCause}
-use Rattle.shelf_look.proofs.Causing.{if_err, shows_drives, tables_cause}
+use Rattle.shelf_look.proofs.Causing.{shows_drives, tables_cause}
 use Rattle.shelf_look.proofs.Lifting.{same_geometry}
 use Rattle.shelf_look.proofs.Making.{memory_of, patches_are}
 use Rattle.shelf_look.proofs.tables.read_tables.Goals as goal
+use Rattle.boot_region.proofs.LoadingLemmas.{if_err}
 
 pub returns-in_err-tables-clause-fault : goal.returns-in_err-tables-clause-fault
 returns-in_err-tables-clause-fault g c honest =
