@@ -1,14 +1,12 @@
 -- What stands on the drives of an open array, once units that its tables leave free were written.
-use Rattle.std.proofs.Common.{◌≡◌, ◌⊎◌, inl, inr, ℕ, zero, suc, ◌+◌, ◌-◌, ◌*◌, ◌/◌, ◌≤◌, ◌<◌, List, [], ◌∷◌, refl, sym, ◌∙◌, ap, subst, arith, Bool, true, false, cond}
+use Rattle.std.proofs.Common.{◌≡◌, ◌⊎◌, inl, inr, ℕ, ◌+◌, ◌*◌, ◌/◌, ◌≤◌, ◌<◌, List, refl, sym, ap, arith, Bool, true, false}
 use Rattle.std.specs.Prelude.{Option, Some, None, count_by, is_none, slice_index_or}
-use Rattle.std.specs.List.{AllByRecursion, range_with_len}
-use Rattle.std.proofs.lemmas.Bool.{cases_eq}
+use Rattle.std.specs.List.{AllByRecursion}
 use Rattle.pur_base.specs.declared.device.Device.TheVariants.{Drive, Nv}
 use Rattle.pur_base.specs.Devices.{Geometry, View, drive}
 use Rattle.pur_base.specs.Visible.{segment}
 use Rattle.pur_base.specs.declared.place.Place.{Place}
 use Rattle.pur_base.specs.declared.facts.SegmentFact.{SegmentFact}
-use Rattle.boot_codec.specs.Record.{AscendFrom}
 use Rattle.boot_codec.specs.declared.record.BootRecord.{BootRecord}
 use Rattle.pur_base.specs.Facts.{Facts}
 use Rattle.pur_base.specs.declared.device.Device.{Device}
@@ -21,7 +19,6 @@ use Rattle.array_spec.proofs.Fewer.{places_keep, places_count}
 use Rattle.array_spec.proofs.Quiet.{bytes_same, in_unit}
 use Rattle.array_spec.proofs.Moves.{Keeps, SameUnit, same_units_keep}
 use Rattle.array_spec.proofs.Used.{data_is_used}
-use Rattle.array_spec.proofs.Votes.{counted}
 use Rattle.stored_spec.specs.Held.{AreEnough}
 use Rattle.world.specs.Losing.{geometry_of}
 use Rattle.world.specs.Shelf.{IsShelf, MayStop, Shelved}

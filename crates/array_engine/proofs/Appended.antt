@@ -1,10 +1,9 @@
 -- A logged request is done at once, or behind a checkpoint, and room stays known.
-use Rattle.std.proofs.Common.{◌≡◌, inl, inr, [], refl, sym, subst}
+use Rattle.std.proofs.Common.{inl, inr, [], refl, sym, subst}
 use Rattle.pur_base.specs.Commands.{Command}
 use Rattle.pur_base.specs.Devices.{Geometry}
 use Rattle.boot_codec.specs.declared.record.BootRecord.{BootRecord}
 use Rattle.world.specs.Shelf.{Continues, Shelved}
-use Rattle.world.specs.Losing.{geometry_of}
 use Rattle.session_spec.specs.Faring.{MayRise}
 use Rattle.array_core.specs.declared.array.Array.{Array}
 use Rattle.array_core.specs.Ready.{IsArrayOf}

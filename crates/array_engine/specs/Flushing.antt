@@ -1,5 +1,5 @@
 -- What becomes of an array where a checkpoint is asked for, and why it isn't made.
-use Rattle.std.specs.Prelude.{◌≡◌, []}
+use Rattle.std.specs.Prelude.{[]}
 use Rattle.world.specs.Shelf.{Shelved}
 use Rattle.array_core.specs.declared.array.Array.{Array}
 use Rattle.array_core.specs.Going.{by_faults}

@@ -1,13 +1,13 @@
 -- While the reply to an item is given, and at the end of a session: what the devices stand for.
-use Rattle.std.proofs.Common.{◌≡◌, inl, ℕ, ◌≤◌, List, [], ◌∷◌, refl, sym, subst, arith, Bool, true, false}
-use Rattle.std.specs.Prelude.{Contains, if◌then◌else◌}
+use Rattle.std.proofs.Common.{◌≡◌, inl, ℕ, ◌≤◌, List, [], ◌∷◌, sym, subst, arith, Bool, false}
+use Rattle.std.specs.Prelude.{Contains}
 use Rattle.pur_base.specs.declared.device.Device.{Device}
-use Rattle.pur_base.specs.Devices.{Geometry, Condition, Conditions, Sound, LeftOut, IsBearable}
+use Rattle.pur_base.specs.Devices.{Geometry, Conditions, Sound, LeftOut, IsBearable}
 use Rattle.pur_base.specs.Plain as plain
 use Rattle.pur_base.specs.Grammar.{Item}
 use Rattle.pur_base.specs.Replies.{Answer}
 use Rattle.boot_codec.specs.Region.{names}
-use Rattle.world.specs.Losing.{geometry_of, has_risen, missing_if}
+use Rattle.world.specs.Losing.{geometry_of, has_risen}
 use Rattle.world.specs.Shelf.{Shelved, Stop, MayLeave, IsCountedBy}
 use Rattle.boot_region.proofs.Phases.{not_risen_before}
 use Rattle.session_spec.specs.Entering.{IsLeft, read_now}

@@ -1,8 +1,7 @@
 -- What the reader gave, as an item of the grammar.
-use Rattle.std.proofs.Common.{◌≡◌, ℕ, ◌<◌, false, List, length, refl, ◌∙◌}
+use Rattle.std.proofs.Common.{◌≡◌, ℕ, ◌<◌, false, List, length, refl}
 use Rattle.pur_base.specs.Grammar.{first_item}
 use Rattle.session_spec.specs.Ends.{is_cut}
-use Rattle.world.specs.Streams.{Streamed, SameStream}
 use Rattle.request_codec.specs.Items.{Reads, IsServed, item_read}
 use Rattle.request_codec.specs.declared.reader.Item as read
 use Rattle.request_codec.specs.declared.reader.Item.TheVariants as reads

@@ -3,7 +3,7 @@ use Rattle.std.proofs.Common.{◌≡◌, inl, inr, ℕ, zero, suc, ◌+◌, ◌<
 use Rattle.std.specs.Prelude.{Some, slice_get}
 use Rattle.std.proofs.lemmas.Option.{slice_get_within, slice_get_cases}
 use Rattle.pur_base.specs.Commands.{Command, Accepts, AllAccepted, after, after_all}
-use Rattle.pur_base.specs.Devices.{View, nvram}
+use Rattle.pur_base.specs.Devices.{View}
 use Rattle.pur_base.specs.Plain.{Array}
 use Rattle.log_codec.specs.Log.{Shows, IsInSlot, LogFrom, LogStands, DevicesAgree}
 use Rattle.log_codec.proofs.OneHead.{one_command}
@@ -14,7 +14,6 @@ use Rattle.nvram_log.specs.Held.{Keeps}
 use Rattle.nvram_log.proofs.Lists.{get_front}
 use Rattle.stored_spec.proofs.Unique.{same_lists}
 use Rattle.takeover.specs.Replay.{IsRun}
-use Rattle.array_spec.proofs.LogMoves.{slot_moves}
 
 pub log_from : (view : View) (flushed i : ℕ) (a : Array) (cs : List Command) → ((k : ℕ) (c : Command) → slice_get cs k ≡ Some c → IsInSlot view flushed (i + k) c) → AllAccepted a cs
     → ((c : Command) → IsInSlot view flushed (i + length cs) c → ¬ (Accepts (after_all a cs) c)) → LogFrom view flushed i a cs

@@ -1,12 +1,10 @@
 -- Devices that go missing as their calls fail.
-use Rattle.std.proofs.Common.{◌≡◌, inl, inr, ℕ, ◌-◌, ◌^◌, ◌<◌, ◌≤◌, Bool, true, false, refl, sym, subst, arith}
-use Rattle.std.specs.Prelude.{nat_lt, nat_le, ◌||◌}
-use Rattle.std.proofs.lemmas.Bool.{cases_Bool, ltb-true, leb-true, leb-false}
+use Rattle.std.proofs.Common.{◌≡◌, Bool, false}
 use Rattle.pur_base.specs.declared.device.Device.{Device}
-use Rattle.pur_base.specs.Devices.{Geometry, Condition, Conditions, Sound, Missing, LeftOut, is_missing, MayBecome, IsWithin, IsBearable, slots_of, nvrams, drive, nvram}
+use Rattle.pur_base.specs.Devices.{Conditions, IsWithin}
 use Rattle.world.specs.Shelf.{Shelved, Stop, Continues, IsCountedBy}
-use Rattle.world.specs.Losing.{has_risen, missing_if, losing}
-use Rattle.boot_region.proofs.Phases.{not_risen_before, risen_on_way}
+use Rattle.world.specs.Losing.{has_risen, losing}
+use Rattle.boot_region.proofs.Phases.{not_risen_before}
 use Rattle.session_spec.specs.Entering.{failed_since, failed_by}
 use Rattle.array_core.proofs.Losses.{more_fail}
 

@@ -1,20 +1,15 @@
 -- While a record is shown by each drive that isn't missing, what else may be given is of a later generation.
-use Rattle.std.proofs.Common.{◌≡◌, ◌⊎◌, inl, inr, ℕ, ◌+◌, ◌-◌, ◌^◌, ◌<◌, ◌≤◌, List, ◌++◌, length, take, drop, sym, ◌∙◌, ap, subst, arith}
+use Rattle.std.proofs.Common.{◌≡◌, ◌⊎◌, inl, inr, ℕ, ◌+◌, ◌<◌, ◌≤◌, List, ◌++◌, length, take, drop, sym, ◌∙◌, ap, subst, arith}
 use Rattle.std.specs.Prelude.{Some}
-use Rattle.std.specs.Int.{w64, to_be_bytes, from_be_bytes}
 use Rattle.std.proofs.lemmas.Bool.{cases_lt}
-use Rattle.std.proofs.lemmas.Nat.{from_be_bytes-to_be_bytes_8}
-use Rattle.std.proofs.lemmas.List.{drop-append-le, take-append-le, length-append, length-drop, take_all}
+use Rattle.std.proofs.lemmas.List.{length-append, take_all}
 use Rattle.std.proofs.Math.Seq.{drop-append_seam}
-use Rattle.pur_base.specs.Bytes.{bytes_at}
 use Rattle.pur_base.specs.declared.limits.TheConstants.{SLOTS_MIN}
 use Rattle.pur_base.specs.Devices.{Geometry, Image, View, Conditions, Sound, drive}
 use Rattle.pur_base.specs.Plain.{Array}
 use Rattle.boot_codec.specs.declared.record.BootRecord.{BootRecord}
-use Rattle.boot_codec.specs.Record.{IsBootRecord}
-use Rattle.boot_codec.specs.Spelling.{spelling, opening_bytes, header_bytes, record_bytes}
+use Rattle.boot_codec.specs.Spelling.{spelling}
 use Rattle.boot_codec.specs.Region.{BootSlot, A, B, IsRecordOf, IsDecided, votes, other_slot, shown_by, slot_of, generation_in, Yields}
-use Rattle.boot_codec.proofs.SpellingLemmas.{length-opening_bytes}
 use Rattle.array_spec.specs.Meaning.{IsInForce}
 use Rattle.array_spec.specs.Standing.{Stands, MayBeGiven, IsViewOf}
 use Rattle.array_spec.proofs.Settling.{this_or_other, twice_other}

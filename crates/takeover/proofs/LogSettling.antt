@@ -1,5 +1,5 @@
 -- The log that was read from devices that stand for arrays: it leads to one of them, and settling it changes nothing that they stand for.
-use Rattle.std.proofs.Common.{◌≡◌, ◌⊎◌, inl, inr, ⊎_elim, ℕ, ◌-◌, ◌^◌, ◌<◌, ◌≤◌, ◌||◌, List, [], length, take, refl, sym, ◌∙◌, ap, subst, arith, Bool, true, false}
+use Rattle.std.proofs.Common.{◌≡◌, inl, inr, ⊎_elim, ℕ, ◌-◌, ◌^◌, ◌<◌, ◌≤◌, ◌||◌, List, [], length, take, refl, sym, ◌∙◌, ap, subst, arith, Bool, true, false}
 use Rattle.std.specs.Prelude.{Option, Some, None, IsSome, Contains, if◌then◌else◌, slice_get, slice_index, slice_index_or, nat_lt, nat_le}
 use Rattle.std.specs.List.{AllByRecursion}
 use Rattle.std.proofs.Math.Seq.{take-length}
@@ -7,7 +7,7 @@ use Rattle.std.proofs.lemmas.Bool.{cases_lt, cases_Bool, or_cases, ltb-true, leb
 use Rattle.std.proofs.lemmas.List.{get_or_past, length-take}
 use Rattle.std.proofs.lemmas.Option.{slice_get_cases}
 use Rattle.pur_base.specs.Commands.{Command, after_all}
-use Rattle.pur_base.specs.Devices.{Geometry, Image, View, Condition, Conditions, Sound, Missing, LeftOut, MayShow, MayShowAs, IsBearable, IsWithin, MayBecome, is_sound, missing_drives, missing_nvrams, drive, nvram}
+use Rattle.pur_base.specs.Devices.{Geometry, Image, View, Condition, Conditions, Sound, Missing, LeftOut, MayShow, MayShowAs, IsBearable, IsWithin, MayBecome, is_sound, drive, nvram}
 use Rattle.pur_base.specs.Plain.{Array}
 use Rattle.pur_base.specs.Grammar.{is_in_force}
 use Rattle.pur_base.specs.declared.facts.AnyFact.{AnyFact}
@@ -29,7 +29,7 @@ use Rattle.stored_spec.proofs.Reading.{read_holds}
 use Rattle.stored_spec.proofs.Unique.{one_base}
 use Rattle.world.specs.Losing.{geometry_of, has_risen, missing_if}
 use Rattle.world.specs.Shelf.{Shelved, Stop, Disk, IsShelf, MayStop, MayLeave}
-use Rattle.world.specs.Writes.{MayLeaveBut, LeavesBut, WritesOnly}
+use Rattle.world.specs.Writes.{LeavesBut, WritesOnly}
 use Rattle.boot_region.specs.declared.loading.Loaded.{Loaded}
 use Rattle.boot_region.specs.Slots.{slot_in}
 use Rattle.boot_region.proofs.Accounts.{losing_within}

@@ -1,5 +1,5 @@
 -- What the drives showed, as a view of the devices, and the record that it gives.
-use Rattle.std.proofs.Common.{◌≡◌, ◌⊎◌, inl, inr, ℕ, ◌+◌, ◌*◌, ◌-◌, ◌^◌, ◌<◌, ◌≤◌, ◌&&◌, Bool, true, false, if◌then◌else◌, List, length, Option, Some, None, option_and_then, slice_index_or, refl, sym, ◌∙◌, ap, subst, arith, Result, Ok, Err}
+use Rattle.std.proofs.Common.{◌≡◌, ◌⊎◌, inl, inr, ℕ, ◌+◌, ◌*◌, ◌-◌, ◌^◌, ◌<◌, ◌&&◌, Bool, true, false, if◌then◌else◌, List, length, Option, Some, None, option_and_then, slice_index_or, refl, sym, ◌∙◌, ap, subst, arith, Result, Ok, Err}
 use Rattle.std.specs.Prelude.{nat_lt, is_some, bytes_eq}
 use Rattle.std.proofs.lemmas.Bool.{cases_Bool, cases_lt, ltb-true, lt-ltb}
 use Rattle.std.proofs.lemmas.List.{get_or_past}
@@ -27,7 +27,6 @@ use Rattle.boot_region.specs.Members.{IsMember}
 use Rattle.boot_region.specs.Regions.{region_at, seen, is_holding, is_body_in, IsRead}
 use Rattle.boot_region.specs.Loading.{IsHeld, IsFaultOf, IsBadBody, IsSpent}
 use Rattle.boot_region.proofs.FoundLemmas.{same_body, same_shown, same_over}
-use Rattle.boot_region.proofs.Phases.{risen_on_way}
 use Rattle.session_spec.specs.Entering.{OnlyFailedAreSilent, read_now}
 use Rattle.session_spec.specs.Headline.{HasNoArray, HasTooFew, IsUnread}
 use Rattle.takeover.specs.Faults.{fault_of}

@@ -1,8 +1,7 @@
 -- Why the tables of the record that was found weren't read.
-use Rattle.std.proofs.Common.{◌≡◌, ◌⊎◌, inl, inr, ℕ, zero, suc, ◌+◌, ◌-◌, ◌<◌, ◌≤◌, Bool, true, false, not, List, refl, sym, ◌∙◌, ap, subst, arith, Err, cond}
+use Rattle.std.proofs.Common.{◌≡◌, ◌⊎◌, inl, inr, ℕ, ◌+◌, ◌-◌, ◌<◌, ◌≤◌, Bool, true, false, not, List, refl, sym, ◌∙◌, ap, subst, arith, Err, cond}
 use Rattle.std.specs.Prelude.{Option, Some, None, count_by, is_some, if◌then◌else◌}
 use Rattle.std.specs.List.{range_with_len}
-use Rattle.std.proofs.lemmas.Bool.{cases_eq}
 use Rattle.std.proofs.lemmas.List.Elements.{All-contains, All-from_recursion}
 use Rattle.pur_base.specs.Devices.{Geometry, View, Conditions, Sound, Missing, is_missing, drive}
 use Rattle.pur_base.specs.declared.device.Device.{Device}
@@ -15,7 +14,7 @@ use Rattle.array_spec.specs.Losses.{not_holding}
 use Rattle.array_spec.specs.Sound.{AreSound}
 use Rattle.array_spec.specs.Stored.{PatchesStand, places_of_part}
 use Rattle.array_spec.proofs.Spelled.{spells_one}
-use Rattle.array_spec.proofs.Votes.{counted, one_is_effective}
+use Rattle.array_spec.proofs.Votes.{one_is_effective}
 use Rattle.world.specs.Losing.{geometry_of, has_failed, losing, missing_if}
 use Rattle.world.specs.Shelf.{Shelved, IsSame, Continues}
 use Rattle.segment_io.specs.Lost.{is_in}

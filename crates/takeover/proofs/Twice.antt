@@ -1,8 +1,8 @@
 -- Devices that fail in one call and then in the next.
-use Rattle.std.proofs.Common.{◌≡◌, ◌⊎◌, inl, inr, ℕ, ◌<◌, ◌≤◌, Bool, true, false, refl, sym, subst, arith}
+use Rattle.std.proofs.Common.{◌≡◌, inl, inr, ℕ, ◌<◌, ◌≤◌, Bool, true, false, refl, sym, subst, arith}
 use Rattle.std.proofs.lemmas.Bool.{cases_Bool, cases_lt}
 use Rattle.pur_base.specs.declared.device.Device.{Device}
-use Rattle.pur_base.specs.Devices.{Geometry, Condition, Conditions, Sound, Missing, LeftOut, IsBearable, missing_drives, missing_nvrams}
+use Rattle.pur_base.specs.Devices.{Condition, Conditions, Sound, Missing, LeftOut}
 use Rattle.world.specs.Shelf.{Shelved, Stop, Continues, IsCountedBy}
 use Rattle.world.specs.Losing.{has_risen, missing_if}
 use Rattle.boot_region.proofs.Phases.{not_risen_before, risen_on_way}
