@@ -7,10 +7,10 @@ ghost use Rattle.boot_codec.specs.Region.{names};
 ghost use Rattle.world.specs.Losing.{geometry_of};
 ghost use Rattle.world.specs.Shelf.{LeavesOnly};
 ghost use Rattle.world.specs.Ran.{Ran};
-ghost use Rattle.boot_region.specs.Members.{IsMember};
+ghost use Rattle.boot_region.specs.Members.{IsMember, DroppedFailed};
 ghost use Rattle.nvram_log.specs.Held.{HoldsOn, Keeps};
 ghost use Rattle.nvram_log.specs.Members as nv;
-ghost use Rattle.register.specs.Registers.{IsLaterRecord, IsRegisterOf};
+ghost use Rattle.register.specs.Registers.{IsLaterRecord, IsRegisterOf, drives_of};
 ghost use Rattle.register.specs.Standing.{Content, IsOpen, array_of};
 ghost use Rattle.array_core.specs.declared.performing.PerformFault.TheVariants.{Device as DeviceFault};
 ghost use Rattle.array_core.specs.Performing.{IsKeptAt};
@@ -38,7 +38,8 @@ pub(crate) fn clear_log<S: Shelf>(
     ensures few { register.new.record.generation ≤ register.old.record.generation + 3 }
     ensures fewer { (i : ℕ) → IsMember register.new.drives i → IsMember register.old.drives i }
     ensures fewer_logs { nv.IsFewer log.old.members log.new.members }
-    ensures dropped { DropsFailedBy (S.shelf shelf.old) (S.shelf shelf.new) register.old log.old.members register.new log.new.members }
+    ensures dropped { DroppedFailed (S.shelf shelf.old) (S.shelf shelf.new) (drives_of register.old) (drives_of register.new) }
+    ensures holders { DropsFailedBy (S.shelf shelf.old) (S.shelf shelf.new) register.old log.old.members register.new log.new.members }
     ensures named { OnOk result ((d : Device) → names register.new.record d ≡ true → (names register.old.record d ≡ true) ⊎ IsHolderBy register.old log.old.members d) }
     ensures drives { OnOk result (register.old.record.members.drives ≡ register.old.drives → register.new.record.members.drives ≡ register.new.drives) }
     ensures enough { OnOk result (register.old.record.slots ≤ set_count register.old.drives + 2 → register.new.record.slots ≤ set_count register.new.drives + 2) }

@@ -66,32 +66,32 @@ pub returns-clause-ran : goal.returns-clause-ran
 returns-clause-ran g c =
     ran_then g.met.S.Shelf.shelf_rest_stays (ran_more (λ d is. tt) (λ d i w. inr w) c.clear.ensures.ran) (ran_more (λ d is. tt) (λ d i w. inl w) c.store.ensures.ran)
 
-pub returns-in_err-clear-clause-dropped : goal.returns-in_err-clear-clause-dropped
-returns-in_err-clear-clause-dropped g c =
+pub returns-in_err-clear-clause-holders : goal.returns-in_err-clear-clause-holders
+returns-in_err-clear-clause-holders g c =
     let m = g.S.Shelf.shelf c.clear.new.shelf in
     let r = c.args.register.now in
     let x = c.clear.ensures in
     let two : length c.args.log.now.members ≡ 2 = search rules in
     drops_failed (g.S.Shelf.shelf c.args.shelf.now) m m r r c.args.log.now.members c.clear.new.self.members two (λ i. x.ran.on.others (drive i) (λ none. none)) (λ k. refl) x.dropped (λ i is. inl is)
 
-pub returns-then-eq-clause-dropped : goal.returns-then-eq-clause-dropped
-returns-then-eq-clause-dropped g c =
+pub returns-then-eq-clause-holders : goal.returns-then-eq-clause-holders
+returns-then-eq-clause-holders g c =
     let m = g.S.Shelf.shelf c.clear.new.shelf in
     let r = c.args.register.now in
     let x = c.clear.ensures in
     let two : length c.args.log.now.members ≡ 2 = search rules in
     drops_failed (g.S.Shelf.shelf c.args.shelf.now) m m r r c.args.log.now.members c.clear.new.self.members two (λ i. x.ran.on.others (drive i) (λ none. none)) (λ k. refl) x.dropped (λ i is. inl is)
 
-pub returns-in_err-store-clause-dropped : goal.returns-in_err-store-clause-dropped
-returns-in_err-store-clause-dropped g c =
+pub returns-in_err-store-clause-holders : goal.returns-in_err-store-clause-holders
+returns-in_err-store-clause-holders g c =
     let x = c.clear.ensures in
     let y = c.store.ensures in
     let two : length c.args.log.now.members ≡ 2 = search rules in
     drops_failed (g.S.Shelf.shelf c.args.shelf.now) (g.S.Shelf.shelf c.clear.new.shelf) (g.S.Shelf.shelf c.store.new.shelf) c.args.register.now c.store.new.self c.args.log.now.members c.clear.new.self.members two
     (λ i. x.ran.on.others (drive i) (λ none. none)) (λ k. y.ran.on.others (nvram k) (λ none. none)) x.dropped y.dropped
 
-pub returns-clause-dropped : goal.returns-clause-dropped
-returns-clause-dropped g c =
+pub returns-clause-holders : goal.returns-clause-holders
+returns-clause-holders g c =
     let x = c.clear.ensures in
     let y = c.store.ensures in
     let two : length c.args.log.now.members ≡ 2 = search rules in

@@ -56,7 +56,7 @@ returns-clause-dropped g c start on are =
     let x = c.switch_tables.ensures in
     let z = c.clear_log.ensures in
     drops_then s e (g.S.Shelf.shelf c.clear_log.new.shelf) (continues_trans on x.ran.on.continues) z.ran.on.continues r0 r2 c.clear_log.new.register members members c.clear_log.new.log.members
-    (drives_failed s e r0 r2 members (x.dropped start on are)) z.dropped
+    (drives_failed s e r0 r2 members (x.dropped start on are)) z.holders
 
 pub returns-clause-joins : goal.returns-clause-joins
 returns-clause-joins g c = ok_if c.clear_log.result (λ get.
