@@ -3,12 +3,11 @@
 #![tactic(auto)]
 
 mod command;
-mod ending;
 #[cfg(test)]
 mod tests;
 
 use crate::command::array_main;
-use crate::ending::{IN_USE, NO_SHELF, code_of, text_of};
+use program_endings::{IN_USE, NO_SHELF, code_of, text_of};
 use pur_base::Status;
 use std::process::ExitCode;
 use std::{env, io};

@@ -3,12 +3,11 @@
 #![tactic(auto)]
 
 mod asked;
-mod ending;
 mod only;
 
 use crate::asked::asked_by;
-use crate::ending::{IN_USE, NO_SHELF, WORDS, code_of, text_of};
 use crate::only::view_only;
+use program_endings::{IN_USE, NO_SHELF, code_of, text_of};
 use pur_base::Status;
 use shelf_reads::ReadOnly;
 use shelf_words::{Asked, Told};
@@ -76,7 +75,7 @@ fn main(rt: HostRuntime) -> ExitCode {
         Err(error) => {
             let _ = error.print(&rt);
             if error.use_stderr() {
-                ExitCode::from(WORDS)
+                ExitCode::from(code_of(Status::Words))
             } else {
                 ExitCode::SUCCESS
             }

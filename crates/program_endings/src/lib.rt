@@ -1,5 +1,9 @@
+//! How the programs end: the exit status and the text on standard error of each status of a session, and the statuses of their own.
+//! Each status has one number and one text.
+#![tactic(auto)]
+
 ghost use Rattle.std.specs.Prelude.{◌≡◌};
-ghost use Rattle.array_cli.specs.Endings.{exit_code, exit_text};
+ghost use Rattle.program_endings.specs.Endings.{exit_code, exit_text};
 
 use pur_base::Status;
 
