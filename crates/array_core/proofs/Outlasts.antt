@@ -64,7 +64,7 @@ module _ (a m : Shelved) (r : Register) (members now : List Bool) (held : Conten
   arrays = without_or_with held c
 
   -- while the command is appended
-  pub append_again : LeavesOnly a m (StandsOnceBack a r.record arrays)
+  pub append_again : LeavesOnly a m (StandsOnceBack a (named_sound r.record) arrays)
   append_again = weaker (λ stop stands. record {
     later = named_sound r.record;
     within = as_it_is (named_sound r.record);
@@ -116,7 +116,7 @@ module _ (a m : Shelved) (r : Register) (members now : List Bool) (held : Conten
     }
 
     pub store_again : (n : Shelved) → ((missing : Conditions) (k : Content) (others : List Array) → MayStore m r now missing k others → IsFirm m r missing → LeavesOnly m n (StandsAgain m missing others))
-        → LeavesOnly a n (StandsOnceBack a r.record arrays)
+        → LeavesOnly a n (StandsOnceBack a (named_sound r.record) arrays)
     store_again n storing = then_run p.on append_again (weaker (λ stop x. record {
       later = x.later;
       within = within_twice (named_sound r.record) left x.later (logs_within (named_sound r.record) now) x.within;

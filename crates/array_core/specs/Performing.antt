@@ -13,7 +13,7 @@ use Rattle.world.specs.Shelf.{Shelved, Stop}
 use Rattle.boot_region.specs.Members.{DroppedFailed}
 use Rattle.nvram_log.specs.Members.{IsMember}
 use Rattle.register.specs.declared.state.Register.{Register}
-use Rattle.register.specs.Registers.{drives_of, named_sound}
+use Rattle.register.specs.Registers.{drives_of}
 use Rattle.register.specs.Standing.{Content, array_of}
 use Rattle.memory_spec.specs.Numbers.{next_after}
 use Rattle.session_spec.specs.Entering.{IsStanding}
@@ -33,10 +33,10 @@ without_or_with held c = array_of held ∷ array_of (logged held c) ∷ []
 abbrev pub IsKeptAt : Shelved → BootRecord → List plain.Array → Stop → Type 0
 IsKeptAt old boot arrays stop = (now : Conditions) → AgreesWith boot now → IsBearable (geometry_of old) (lost_by old stop now) → IsStanding (geometry_of old) stop.image (lost_by old stop now) arrays
 
--- At a stop, whatever has failed by then: once the devices answer again with what they hold, these stand for the arrays where no more of those that the record names are taken for missing than is borne.
-pub record StandsOnceBack (old : Shelved) (boot : BootRecord) (arrays : List plain.Array) (stop : Stop) : Type 0 where
+-- At a stop, whatever has failed by then: once the devices answer again with what they hold, these stand for the arrays where no more of those that weren't missing are taken for it than is borne.
+pub record StandsOnceBack (old : Shelved) (missing : Conditions) (arrays : List plain.Array) (stop : Stop) : Type 0 where
   pub later : Conditions
-  pub within : IsWithin (named_sound boot) later
+  pub within : IsWithin missing later
   pub stands : Stands (geometry_of old) stop.image later arrays
 
 -- each device that held the log lost a write

@@ -9,7 +9,7 @@ ghost use Rattle.world.specs.Losing.{geometry_of, has_risen};
 ghost use Rattle.world.specs.Shelf.{Continues, LeavesOnly, IsCountedBy};
 ghost use Rattle.nvram_log.specs.Held.{HoldsOn, Keeps};
 ghost use Rattle.nvram_log.specs.Members.{IsSome};
-ghost use Rattle.register.specs.Registers.{IsLaterRecord, IsRegisterOf};
+ghost use Rattle.register.specs.Registers.{IsLaterRecord, IsRegisterOf, named_sound};
 ghost use Rattle.register.specs.Standing.{Content, IsOpen};
 ghost use Rattle.memory_spec.specs.Memory.{Contents};
 ghost use Rattle.memory_spec.specs.Tables.{facts};
@@ -66,7 +66,7 @@ pub(crate) fn commit<S: Shelf>(
     ensures outlasts { (S.shelf shelf.old).honest → (held : Content) → IsOpen (S.shelf shelf.old) array.old.register array.old.log.members held → HoldsOn (S.shelf shelf.old) array.old.log.members array.old.log.flushed held.log → Keeps array.old.log held.log
         → AllAccepted held.base (held.log ++ record { request = request.now; sectors = sectors.now } ∷ [])
         → AllByRecursion (λ c. is_in_force c.request ≡ true) (held.log ++ record { request = request.now; sectors = sectors.now } ∷ [])
-        → LeavesOnly (S.shelf shelf.old) (S.shelf shelf.new) (StandsOnceBack (S.shelf shelf.old) array.old.register.record (without_or_with held (record { request = request.now; sectors = sectors.now }))) }
+        → LeavesOnly (S.shelf shelf.old) (S.shelf shelf.new) (StandsOnceBack (S.shelf shelf.old) (named_sound array.old.register.record) (without_or_with held (record { request = request.now; sectors = sectors.now }))) }
 {
     let before = array.log.members();
     array.log.append(&[Record { request, sectors }], shelf)?;

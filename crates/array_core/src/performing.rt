@@ -8,6 +8,7 @@ ghost use Rattle.log_codec.specs.Head.{IsCommand};
 ghost use Rattle.log_codec.specs.declared.limits.TheConstants.{LOG_SLOTS};
 ghost use Rattle.world.specs.Losing.{geometry_of};
 ghost use Rattle.world.specs.Shelf.{Continues, LeavesOnly, IsCountedBy};
+ghost use Rattle.register.specs.Registers.{named_sound};
 ghost use Rattle.register.specs.Standing.{Content};
 ghost use Rattle.memory_spec.specs.Memory.{Contents, IsSound, ReadsAs};
 ghost use Rattle.memory_spec.specs.Numbers.{next_after};
@@ -104,7 +105,7 @@ pub fn perform<S: Shelf>(
     ensures logged { OnOk result (HasLogged (S.shelf shelf.old) (S.shelf shelf.new) array.old array.new request.now) }
     // Whatever fails, more than is borne too: at every moment the devices stand for these arrays once they answer again with what they hold.
     ensures outlasts { (S.shelf shelf.old).honest → (held : Content) → IsReady (S.shelf shelf.old) array.old held
-        → LeavesOnly (S.shelf shelf.old) (S.shelf shelf.new) (StandsOnceBack (S.shelf shelf.old) array.old.register.record (without_or_with held (record { request = request.now; sectors = sectors.now }))) }
+        → LeavesOnly (S.shelf shelf.old) (S.shelf shelf.new) (StandsOnceBack (S.shelf shelf.old) (named_sound array.old.register.record) (without_or_with held (record { request = request.now; sectors = sectors.now }))) }
 {
     array.memory.kept();
     commit(array, request, sectors, shelf)?;
