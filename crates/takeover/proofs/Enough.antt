@@ -27,7 +27,7 @@ at_most p a zero = omega arith
 at_most p a (suc n) = omega (arith, at_most p (a + 1) n, counted p a (range_with_len (a + 1) n), bit (p a))
 
 -- of so many drives those that are so have no flag
-unflagged : (p : ℕ → Bool) (flags : List Bool) (a n : ℕ) → ((i : ℕ) → i < n → IsMember flags i → p (a + i) ≡ false) → ((i : ℕ) → n ≤ i → IsMember flags i → ⊥)
+pub unflagged : (p : ℕ → Bool) (flags : List Bool) (a n : ℕ) → ((i : ℕ) → i < n → IsMember flags i → p (a + i) ≡ false) → ((i : ℕ) → n ≤ i → IsMember flags i → ⊥)
     → count_by p (range_with_len a n) + set_count flags ≤ n
 unflagged p [] a n fine past = omega (arith, at_most p a n)
 unflagged p (true ∷ fs) a zero fine past = absurd (past 0 (omega arith) refl)

@@ -2,14 +2,12 @@
 use Rattle.std.proofs.Common.{◌≡◌, ℕ, ◌+◌, ◌<◌, ◌≤◌, ◌-◌, ◌^◌, Bool, true, false, List, refl, sym, ◌∙◌, ap, subst, arith, Ok}
 use Rattle.std.specs.Prelude.{◌&&◌, slice_index_or, Some, None}
 use Rattle.pur_base.specs.Plain.{Array}
-use Rattle.pur_base.specs.Devices.{Geometry, Conditions, Sound, LeftOut, IsBearable, IsWithin, drive, nvram}
+use Rattle.pur_base.specs.Devices.{Geometry, Conditions, Sound, LeftOut, IsBearable, IsWithin, drive}
 use Rattle.pur_base.specs.declared.device.Device.{Device}
-use Rattle.pur_base.specs.declared.limits.TheConstants.{SECTOR_BYTES}
 use Rattle.boot_codec.specs.declared.record.BootRecord.{BootRecord}
 use Rattle.boot_codec.specs.Region.{BootSlot, other_slot, gate_place, body_in, names}
 use Rattle.boot_codec.specs.Record.{set_count}
 use Rattle.boot_codec.specs.Spelling.{spelling}
-use Rattle.log_codec.specs.Log.{ShowsIn}
 use Rattle.array_spec.specs.Laws.{IsNamedByNone}
 use Rattle.array_spec.specs.Meaning.{IsInForce}
 use Rattle.array_spec.specs.Standing.{Stands, MayBeGiven}
@@ -27,16 +25,14 @@ use Rattle.boot_region.specs.Regions.{is_holding}
 use Rattle.boot_region.specs.Loading.{IsLoadBy, TellsHolding, MayBeSettled}
 use Rattle.boot_region.specs.Storing.{StandsNow, IsLoaded, IsFound, IsInForceOn, TellsFailed}
 use Rattle.boot_region.proofs.Accounts.{losing_within}
-use Rattle.boot_region.proofs.Began.{began, on_nvram}
 use Rattle.boot_region.proofs.FoundLemmas.{body_stands, drive_below}
-use Rattle.boot_region.proofs.Settled.{stands_while_settling, no_more_given, settling_began, leaves_members}
 use Rattle.boot_region.proofs.ShownLemmas.{as_read, bodies_same}
 use Rattle.takeover.proofs.NoFault.{few_lack}
 use Rattle.session_spec.specs.Entering.{Enters, AreRead, StandsStill, read_now, failed_since, failed_by}
 use Rattle.session_spec.proofs.Resumed.{nothing_done}
 use Rattle.takeover.specs.Found.{IsFoundOn}
-use Rattle.takeover.proofs.Counts.{goes_on}
 use Rattle.takeover.proofs.Failing.{by_stop, since_later}
+use Rattle.takeover.proofs.SettlingStops as settling
 use Rattle.takeover.proofs.Loading.{as_they_read, may_read, at_time, may_at_time, same_leaves, clean_now, stands_now, member_here, in_force_here}
 use Rattle.array_core.proofs.Losses.{fewer_borne, sound_since}
 use Rattle.register.proofs.Again.{not_risen_since}
@@ -124,40 +120,26 @@ module _ (old mid : Shelved) (missing : Conditions) (arrays : List Array) (x : L
     pub below_slots : (i : ℕ) → IsMember x.drives i → i < mid.drives
     below_slots i m = omega (arith, drive_below old mid x now is_old is_mid h h_mid on.drives on.units same by tells i m, on.drives)
 
+    within_now : IsWithin missing now
+    within_now = losing_within (λ d. has_risen (old.disk d).faults (mid.disk d).faults) missing
+
     -- at a stop of the settling
     module _ (stop : Stop) (left : LeavesBut (OnClosed x.drives mid (gate_place slot)) mid stop) where
       pub stands_at : Stands (geometry_of mid) stop.image now arrays
-      stands_at = stands_while_settling x.drives mid stop slot x.record now arrays is_mid h_mid left both.0
-
-      abbrev start : Stop
-      start = began x.drives mid (gate_place slot) SECTOR_BYTES stop
-
-      begins : MayStop old (at_time old start.image)
-      begins =
-          let b = settling_began x.drives mid stop slot x.record now arrays is_mid h_mid left both.0 in
-          may_at_time old start.image (λ d. may_before d (start.image d) (b.device d))
-
-      -- what may be given then might have been given when it began
-      given_then : (more : Conditions) → IsWithin now more → (t : BootSlot) (boot : BootRecord) → MayBeGiven (geometry_of mid) stop.image more t boot → MayBeGiven (geometry_of old) start.image missing t boot
-      given_then more within t boot g =
-          let g_now = given_with_fewer {shelf = geometry_of mid} {image = stop.image} {missing = now} {more = more} {slot = t} {boot = boot} within g in
-          let before = no_more_given x.drives mid stop slot x.record now arrays is_mid h_mid left both.0 t boot g_now in
-          let g_old = given_with_fewer {shelf = geometry_of mid} {image = start.image} {missing = missing} {more = now} {slot = t} {boot = boot} (losing_within (λ d. has_risen (old.disk d).faults (mid.disk d).faults) missing) before in
-          subst (λ (s : Geometry). MayBeGiven s start.image missing t boot) (sym same_shelf) g_old
+      stands_at = settling.stands_at old mid missing now arrays x enters on is_mid h_mid same within_now both.0 stop left
 
       pub left_out_at : (more : Conditions) → IsWithin now more → (d : Device) → missing d ≡ LeftOut → IsNamedByNone (geometry_of mid) stop.image more d
-      left_out_at more within d out t boot g = enters.left_out (at_time old start.image) begins d out t boot (given_then more within t boot g)
-
-      same_nvram : (n : ℕ) → start.image (nvram n) ≡ stop.image (nvram n)
-      same_nvram n = on_nvram x.drives mid (gate_place slot) SECTOR_BYTES stop (leaves_members x.drives mid (gate_place slot) stop left) n
+      left_out_at = settling.left_out_at old mid missing now arrays x enters on is_mid h_mid same within_now both.0 stop left
 
       pub read_at : (more : Conditions) → IsWithin now more → AreRead (geometry_of mid) stop.image more
-      read_at more within = λ t boot g n i command named s. enters.read (at_time old start.image) begins t boot (given_then more within t boot g) n i command named
-          (subst (λ (l : List ℕ). ShowsIn l boot.flushed i command) (sym (same_nvram n)) s)
+      read_at = settling.read_at old mid missing now arrays x enters on is_mid h_mid same within_now both.0 stop left
 
       -- and so at the entry
       pub unstored_at : (more : Conditions) → IsWithin now more → (t : BootSlot) (boot : BootRecord) → MayBeGiven (geometry_of mid) stop.image more t boot → MayBeGiven (geometry_of old) (read_now old).image missing t boot
-      unstored_at more within t boot g = given_at_entry old missing arrays enters (at_time old start.image) begins t boot (given_then more within t boot g)
+      unstored_at more within t boot g =
+          let start = settling.start old mid missing now arrays x enters on is_mid h_mid same within_now both.0 stop left in
+          given_at_entry old missing arrays enters (at_time old start.image) (settling.begins old mid missing now arrays x enters on is_mid h_mid same within_now both.0 stop left) t boot
+          (settling.given_then old mid missing now arrays x enters on is_mid h_mid same within_now both.0 stop left more within t boot g)
 
   pub still_settling : (stop : Stop) → LeavesBut (OnClosed x.drives mid (gate_place slot)) mid stop → StandsStill old None missing arrays stop
   still_settling stop left =
@@ -227,7 +209,6 @@ module _ (old mid : Shelved) (missing : Conditions) (arrays : List Array) (x : L
       left_out = λ stop may d out. subst (λ (g : Geometry). IsNamedByNone g stop.image later d) same_mid
           (left_out_at bears_mid stop (left_by stop may) later more_later d (was_out d out));
       read = λ stop may. subst (λ (g : Geometry). AreRead g stop.image later) same_mid (read_at bears_mid stop (left_by stop may) later more_later);
-      counted = λ d sound. goes_on (old.disk d).faults (new.disk d).faults (was_sound d sound).1;
     }
       where
         first_true : (a b : Bool) → (a && b) ≡ true → a ≡ true

@@ -10,6 +10,7 @@ mod Counts
 mod Cleaned
 mod Loading
 mod NoFault
+mod SettlingStops
 mod FoundLemmas
 mod Showing
 mod GivenFrom
@@ -27,6 +28,10 @@ mod LogOpened
 mod LogReplayed
 mod Twice
 mod Enough
+mod Majority
+mod FirmlyFound
+mod FirmlyRead
+mod Outlasted
 mod ArrayOf
 mod RecoveredLemmas
 mod BaseHeld

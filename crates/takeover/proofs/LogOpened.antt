@@ -1,9 +1,11 @@
 -- The log is read, applied and settled: what a stop leaves at each moment, and what is known in the end.
-use Rattle.std.proofs.Common.{◌≡◌, inl, inr, ℕ, zero, suc, ◌<◌, ◌≤◌, List, [], length, take, refl, sym, ◌∙◌, ap, subst, arith, Bool, true, false, Err}
-use Rattle.std.specs.Prelude.{Option, Some, None, Contains, slice_get, slice_index_or}
+use Rattle.std.proofs.Common.{◌≡◌, ◌⊎◌, inl, inr, ℕ, zero, suc, ◌+◌, ◌<◌, ◌≤◌, cond, List, [], length, take, refl, sym, ◌∙◌, ap, subst, arith, Bool, true, false, Err}
+use Rattle.std.specs.Prelude.{Option, Some, None, Contains, slice_get, slice_index_or, if◌then◌else◌}
+use Rattle.std.proofs.lemmas.Bool.{cases_lt, cases_Bool}
+use Rattle.std.proofs.lemmas.List.{get_or_past}
 use Rattle.std.specs.List.{AllByRecursion}
 use Rattle.pur_base.specs.Commands.{Command, after_all}
-use Rattle.pur_base.specs.Devices.{Geometry, Image, Conditions, Sound, LeftOut, IsBearable, drive, nvram}
+use Rattle.pur_base.specs.Devices.{Geometry, Image, Condition, Conditions, Sound, Missing, LeftOut, IsBearable, IsWithin, is_missing, drive, nvram}
 use Rattle.pur_base.specs.Plain.{Array}
 use Rattle.pur_base.specs.Grammar.{is_in_force}
 use Rattle.pur_base.specs.declared.facts.AnyFact.{AnyFact}
@@ -15,6 +17,7 @@ use Rattle.log_codec.specs.Log.{Shows, ShowsIn, IsInSlot}
 use Rattle.array_spec.specs.Laws.{IsNamedByNone}
 use Rattle.array_spec.specs.Standing.{Stands, MayBeGiven}
 use Rattle.array_spec.proofs.Settling.{twice_other}
+use Rattle.array_spec.proofs.Standings.{within_twice}
 use Rattle.array_spec.proofs.LogBetween.{shower}
 use Rattle.array_spec.proofs.UnflushedRead.{one_left, kept_is}
 use Rattle.array_spec.proofs.Votes.{sound_before}
@@ -29,9 +32,10 @@ use Rattle.world.proofs.Moments.{continues_trans, then_run, weaker}
 use Rattle.boot_region.specs.declared.loading.Loaded.{Loaded}
 use Rattle.boot_region.specs.Slots.{slot_in}
 use Rattle.boot_region.proofs.Accounts.{losing_within}
+use Rattle.boot_region.proofs.Composing.{as_it_is}
 use Rattle.boot_region.proofs.Phases.{risen_on_way}
 use Rattle.boot_region.proofs.ShownLemmas.{as_read}
-use Rattle.boot_region.proofs.Stored.{rises_between}
+use Rattle.boot_region.proofs.Stored.{lost, lost_within, never_sound, rises_between}
 use Rattle.nvram_log.specs.declared.log.NvLog.{NvLog}
 use Rattle.nvram_log.specs.declared.read.ReadFault.{ReadFault}
 use Rattle.nvram_log.specs.declared.read.ReadFault.TheVariants as read_fault
@@ -43,11 +47,12 @@ use Rattle.takeover.specs.declared.log.LogFault.{LogFault}
 use Rattle.takeover.specs.declared.log.LogFault.TheVariants as log_fault
 use Rattle.takeover.specs.declared.log.OpenedLog.{OpenedLog}
 use Rattle.session_spec.specs.Entering.{AreRead, IsStanding, IsUnstored, StandsStill, failed_by, failed_since, read_now}
-use Rattle.takeover.specs.Found.{IsFoundOn}
-use Rattle.takeover.specs.LogOpen.{IsLogOpen, IsLogOpenBy, IsLogFault, ShowsUnserved}
+use Rattle.takeover.specs.Found.{AreCounted, IsFoundOn}
+use Rattle.takeover.specs.LogOpen.{AreLeft, IsLogOpen, IsLogOpenBy, IsLogFault, ShowsUnserved}
+use Rattle.array_core.specs.Performing.{StandsOnceBack}
+use Rattle.takeover.specs.Outlasting.{AreSoundLogs}
 use Rattle.takeover.specs.Replay.{HasUnserved, IsReplayed, IsReplayFault, IsRun, log_fault_of}
 use Rattle.takeover.specs.Tables.{HasTables, HoldTables}
-use Rattle.takeover.proofs.Counts.{goes_on}
 use Rattle.takeover.proofs.Failing.{by_stop, since_later}
 use Rattle.takeover.proofs.LogSettling.{not_risen, stays, given_moves, answers, is_one, agree_here, standing_settling}
 use Rattle.takeover.proofs.NothingStored.{given_over, standing_with_fewer}
@@ -86,6 +91,105 @@ while_read old mid x missing arrays wrote found = weaker (λ stop left.
       stored = unstored old x missing arrays found stop (λ i. each (drive i));
     }) wrote.any_moment
 
+-- ---- conditions
+
+-- an NVRAM device that the record names is one of the two
+pub log_below : (old : Shelved) (x : Loaded) (missing : Conditions) (arrays : List Array) → IsFoundOn old x missing arrays → (n : ℕ) → names x.record (nvram n) ≡ true → n < 2
+log_below old x missing arrays found n named = elim (cases_lt n 2) [
+  | inl lt ↦ lt
+  | inr past ↦ absurd (cc (named, get_or_past x.record.members.nvrams n false (omega (arith, past, found.in_force.lawful.lawful.members.nvram_flags))))
+]
+
+-- of NVRAM devices those are missing on which a call failed; drives are as they were
+abbrev logs_failed : Shelved → Shelved → Conditions → Conditions
+logs_failed old mid missing (Drive d) = missing (Drive d)
+logs_failed old mid missing (Nv n) = failed_since old mid missing (Nv n)
+
+-- so those that are left are the sound ones, where each other one failed
+tells_left : (old mid : Shelved) (x : Loaded) (missing : Conditions) (arrays : List Array) → IsFoundOn old x missing arrays → (members : List Bool) → DroppedCounted old mid x.record.members.nvrams members
+    → AreLeft x missing members (logs_failed old mid missing)
+tells_left old mid x missing arrays found members dropped = record {
+  within = within;
+  drives = λ i. refl;
+  sound = λ n named sound. elim (dropped n (log_below old x missing arrays found n named) named) [
+    | inl m ↦ m
+    | inr rose ↦ absurd (risen_on_way (old.disk (nvram n)).faults (old.disk (nvram n)).faults (mid.disk (nvram n)).faults (mid.disk (nvram n)).faults (omega arith) rose (omega arith)
+        (sound_since (has_risen (old.disk (nvram n)).faults (mid.disk (nvram n)).faults) (missing (nvram n)) sound).1)
+  ];
+}
+  where
+    within : IsWithin missing (logs_failed old mid missing)
+    within (Drive d) = as_it_is missing (Drive d)
+    within (Nv n) = losing_within (λ d. has_risen (old.disk d).faults (mid.disk d).faults) missing (Nv n)
+
+-- where drives failed too no less is missing
+fewer_failed : (old mid : Shelved) (missing : Conditions) → IsWithin (logs_failed old mid missing) (failed_since old mid missing)
+fewer_failed old mid missing (Drive d) = losing_within (λ k. has_risen (old.disk k).faults (mid.disk k).faults) missing (Drive d)
+fewer_failed old mid missing (Nv n) = as_it_is (failed_since old mid missing) (Nv n)
+
+logs_bear : (old mid : Shelved) (missing : Conditions) → IsBearable (geometry_of old) (failed_since old mid missing) → IsBearable (geometry_of old) (logs_failed old mid missing)
+logs_bear old mid missing bears = fewer_borne (geometry_of old) (logs_failed old mid missing) (failed_since old mid missing) (fewer_failed old mid missing) bears
+
+-- of devices dropped in either of two steps
+dropped_twice : (old mid new : Shelved) (was left now : List Bool) → Continues old mid → Continues mid new → DroppedCounted old mid was left → DroppedCounted mid new left now → DroppedCounted old new was now
+dropped_twice old mid new was left now on next first last n lt m = elim (first n lt m) [
+  | inr rose ↦ inr (rises_between (old.disk (nvram n)).faults (old.disk (nvram n)).faults (mid.disk (nvram n)).faults (new.disk (nvram n)).faults (omega arith) rose (next.faults (nvram n)))
+  | inl is ↦ elim (last n lt is) [
+    | inl still ↦ inl still
+    | inr rose ↦ inr (rises_between (old.disk (nvram n)).faults (mid.disk (nvram n)).faults (new.disk (nvram n)).faults (new.disk (nvram n)).faults (on.faults (nvram n)) rose (omega arith))
+  ]
+]
+
+-- of NVRAM devices those that aren't left are missing
+abbrev pub logs_lost : Conditions → List Bool → Conditions
+logs_lost missing members (Drive d) = missing (Drive d)
+logs_lost missing members (Nv n) = if slice_index_or members n.0 false then missing (Nv n) else lost (missing (Nv n))
+
+pub logs_sound : (missing : Conditions) (members : List Bool) (n : ℕ) → logs_lost missing members (nvram n) ≡ Sound → IsMember members n
+logs_sound missing members n sound = elim (cases_Bool (slice_index_or members n false)) [
+  | inl is ↦ is
+  | inr not ↦ absurd (never_sound (missing (nvram n)) (subst (λ (t : Bool). cond t (missing (nvram n)) (lost (missing (nvram n))) ≡ Sound) not sound))
+]
+
+pub logs_left : (x : Loaded) (missing : Conditions) (members : List Bool) → AreLeft x missing members (logs_lost missing members)
+logs_left x missing members = record { within = within; drives = λ i. refl; sound = λ n named sound. logs_sound missing members n sound }
+  where
+    within : IsWithin missing (logs_lost missing members)
+    within (Drive d) = as_it_is missing (Drive d)
+    within (Nv n) = elim (cases_Bool (slice_index_or members n.0 false)) [
+      | inl is ↦ rw is (as_it_is missing (Nv n))
+      | inr not ↦ rw not (lost_within (missing (Nv n)))
+    ]
+
+-- where one of the two is sound that is borne
+one_missing : (c d : Condition) → (c ≡ Sound) ⊎ (d ≡ Sound) → 0 + cond (is_missing c) 1 0 + cond (is_missing d) 1 0 ≤ 1
+one_missing Sound Sound is = omega arith
+one_missing Sound Missing is = omega arith
+one_missing Sound LeftOut is = omega arith
+one_missing Missing Sound is = omega arith
+one_missing LeftOut Sound is = omega arith
+one_missing Missing Missing is = absurd (elim is [ inl e ↦ cc e | inr e ↦ cc e ])
+one_missing Missing LeftOut is = absurd (elim is [ inl e ↦ cc e | inr e ↦ cc e ])
+one_missing LeftOut Missing is = absurd (elim is [ inl e ↦ cc e | inr e ↦ cc e ])
+one_missing LeftOut LeftOut is = absurd (elim is [ inl e ↦ cc e | inr e ↦ cc e ])
+
+-- where the NVRAM devices that the record names were sound, and one of them is left, that is borne
+pub logs_borne : (old : Shelved) (x : Loaded) (missing : Conditions) (arrays : List Array) → IsShelf old → old.honest → IsFoundOn old x missing arrays → AreSoundLogs x.record missing → (members : List Bool)
+    → IsFewer x.record.members.nvrams members → IsSome members → IsBearable (geometry_of old) (logs_lost missing members)
+logs_borne old x missing arrays is h found sound members fewer some = record {
+  drives = (found.stands (at_once old (λ d. (old.disk d).bytes)) (may_at_once old (λ d. (old.disk d).bytes) (as_read_leaves old is h))).bearable.drives;
+  nvrams = one_missing (logs_lost missing members (nvram 0)) (logs_lost missing members (nvram 1)) (elim some [ inl m ↦ inl (left 0 m) | inr m ↦ inr (left 1 m) ]);
+}
+  where
+    left : (n : ℕ) → IsMember members n → logs_lost missing members (nvram n) ≡ Sound
+    left n m = rw m (sound n (fewer n m))
+
+-- while nothing is written
+pub back_while_read : (old mid : Shelved) (x : Loaded) (missing : Conditions) (arrays : List Array) → WritesOnly OnNothing old mid → IsFoundOn old x missing arrays → LeavesOnly old mid (StandsOnceBack old missing arrays)
+back_while_read old mid x missing arrays wrote found = weaker (λ stop left.
+    let each : (d : Device) → MayLeave (old.disk d) (stop.image d) = λ d. nothing_else (λ i w. w) (left.bytes d) in
+    record { later = missing; within = as_it_is missing; stands = found.stands (at_once old stop.image) (may_at_once old stop.image each) }) wrote.any_moment
+
 -- one NVRAM device isn't missing
 one_sound : (shelf : Geometry) (c : Conditions) → IsBearable shelf c → (n : ℕ) × (n < 2) × (c (nvram n) ≡ Sound)
 one_sound shelf c bears = elim (one_left (c (nvram 0)) (c (nvram 1)) bears.nvrams) [
@@ -100,7 +204,8 @@ pub not_read : (old mid : Shelved) (x : Loaded) (missing : Conditions) (arrays :
 not_read old mid x missing arrays ps base is is_mid h wrote same found hold bears read_fault.NoMemory all = tt
 not_read old mid x missing arrays ps base is is_mid h wrote same found hold bears read_fault.BothLost all =
     let one = one_sound (geometry_of old) (failed_since old mid missing) bears in
-    absurd (cc (answers old mid x missing arrays is wrote same found [] (λ n m. absurd (cc m)) (λ n lt m. inr (all n lt m)) (λ n lt m. absurd (cc m)) bears ps base hold
+    let none : AreLeft x missing [] (logs_failed old mid missing) = tells_left old mid x missing arrays found [] (λ n lt m. inr (all n lt m)) in
+    absurd (cc (answers old mid x missing arrays is wrote same found [] (λ n m. absurd (cc m)) (λ n lt m. absurd (cc m)) (logs_failed old mid missing) none (logs_bear old mid missing bears) ps base hold
     (λ d. (mid.disk d).bytes) (as_read_leaves mid is_mid h) one.0 one.1 one.2))
 
 pub not_replayed : (new : Shelved) (x : Loaded) (missing : Conditions) (arrays : List Array) (ps : List (List AnyFact)) (base : Array) (log : NvLog) (fault : LogFault) → IsReplayFault fault log → IsLogOpenBy new x missing arrays ps base (Err fault)
@@ -148,18 +253,26 @@ module _ (old mid new : Shelved) (x : Loaded) (missing : Conditions) (arrays : L
   ends few n c lt s = r.read.ends r.honest (omega (arith, few, r.read.keeps.count)) n c lt
       (subst (λ (k : ℕ). Shows (shown_of mid log.members) n log.flushed k c) r.read.keeps.count (subst (λ (f : ℕ). Shows (shown_of mid log.members) n f (length commands) c) (sym r.flushed) s))
 
-  module _ (bears : IsBearable (geometry_of old) (failed_since old mid missing)) where
-    answered : (n : ℕ) → n < 2 → failed_since old mid missing (nvram n) ≡ Sound → IsMember log.members n
-    answered n lt s = answers old mid x missing arrays r.is r.wrote r.same_drives r.found log.members r.fewer r.dropped r.clean bears ps base r.hold (λ d. (mid.disk d).bytes) (as_read_leaves mid r.is_mid (r.on.honest r.honest)) n lt s
+  -- in conditions in which the devices that answered are left
+  module _ (now : Conditions) (are_left : AreLeft x missing log.members now) (bears : IsBearable (geometry_of old) now) where
+    answered : (n : ℕ) → n < 2 → now (nvram n) ≡ Sound → IsMember log.members n
+    answered n lt s = answers old mid x missing arrays r.is r.wrote r.same_drives r.found log.members r.fewer r.clean now are_left bears ps base r.hold (λ d. (mid.disk d).bytes) (as_read_leaves mid r.is_mid (r.on.honest r.honest)) n lt s
 
-    pub one_of : Contains arrays (after_all base front)
-    one_of = is_one old mid x missing arrays r.is r.wrote r.same_drives r.found log.members r.fewer r.dropped r.clean bears ps base r.hold (λ d. (mid.disk d).bytes) (as_read_leaves mid r.is_mid (r.on.honest r.honest))
+    one_of : Contains arrays (after_all base front)
+    one_of = is_one old mid x missing arrays r.is r.wrote r.same_drives r.found log.members r.fewer r.clean now are_left bears ps base r.hold (λ d. (mid.disk d).bytes) (as_read_leaves mid r.is_mid (r.on.honest r.honest))
         commands count le (r.run commands r.read.keeps) placed ends
 
-    pub agree : Agree mid log.members log.flushed front
-    agree n i c lt m short t =
-        agree_here old mid x missing arrays r.is r.wrote r.same_drives r.found log.members r.fewer r.dropped r.clean bears ps base r.hold (λ d. (mid.disk d).bytes) (as_read_leaves mid r.is_mid (r.on.honest r.honest))
+    pub agree_in : Agree mid log.members log.flushed front
+    agree_in n i c lt m short t =
+        agree_here old mid x missing arrays r.is r.wrote r.same_drives r.found log.members r.fewer r.clean now are_left bears ps base r.hold (λ d. (mid.disk d).bytes) (as_read_leaves mid r.is_mid (r.on.honest r.honest))
         commands count le (r.run commands r.read.keeps) placed ends n i c m short (subst (λ (f : ℕ). ShowsIn (mid.disk (nvram n)).bytes f i c) r.flushed t)
+
+  -- so are those that tell on which NVRAM devices calls failed
+  tells_mid : AreLeft x missing log.members (logs_failed old mid missing)
+  tells_mid = tells_left old mid x missing arrays r.found log.members r.dropped
+
+  pub agree : IsBearable (geometry_of old) (failed_since old mid missing) → Agree mid log.members log.flushed front
+  agree bears = agree_in (logs_failed old mid missing) tells_mid (logs_bear old mid missing bears)
 
   -- ---- it is settled
 
@@ -168,16 +281,25 @@ module _ (old mid new : Shelved) (x : Loaded) (missing : Conditions) (arrays : L
     drives_left : (stop : Stop) → LeavesBut (OnMembers log.members) mid stop → (i : ℕ) → MayLeave (old.disk (drive i)) (stop.image (drive i))
     drives_left stop left i = subst (λ (k : Disk). MayLeave k (stop.image (drive i))) (r.same_drives i) (nothing_else (λ n w. w) (left.bytes (drive i)))
 
+    -- at a moment of it
+    standing_then : (now : Conditions) → AreLeft x missing log.members now → IsBearable (geometry_of old) now → (stop : Stop) → LeavesBut (OnMembers log.members) mid stop → SettleBy mid log.members log.flushed front stop
+        → (later : Conditions) → IsWithin now later → IsBearable (geometry_of old) later → IsStanding (geometry_of old) stop.image later arrays
+    standing_then now are_left bears stop left by later within borne =
+        standing_settling old mid x missing arrays r.is r.wrote r.same_drives r.found log.members r.fewer r.clean now are_left bears ps base r.hold
+        commands count le (r.run commands r.read.keeps) placed ends (r.in_force commands r.read.keeps) r.is_mid (r.on.honest r.honest) stop left (subst (λ (f : ℕ). SettleBy mid log.members f front stop) r.flushed by) later within borne
+
+    settle_moments : (now : Conditions) → AreLeft x missing log.members now → IsBearable (geometry_of old) now → LeavesOnly mid new (λ stop. SettleBy mid log.members log.flushed front stop × LeavesBut (OnMembers log.members) mid stop)
+    settle_moments now are_left bears = both_leave (settling commands r.read.keeps r.seen (agree_in now are_left bears)) writes.any_moment
+
     while_settling : LeavesOnly mid new (StandsStill old None missing arrays)
     while_settling = elim (bearable_or_not (geometry_of old) (failed_since old mid missing)) [
       | inl bears ↦ weaker (λ stop both. record {
         standing = λ borne.
-            standing_settling old mid x missing arrays r.is r.wrote r.same_drives r.found log.members r.fewer r.dropped r.clean bears ps base r.hold
-            commands count le (r.run commands r.read.keeps) placed ends (r.in_force commands r.read.keeps) r.is_mid (r.on.honest r.honest) stop both.1 (subst (λ (f : ℕ). SettleBy mid log.members f front stop) r.flushed both.0)
-            (failed_by old stop missing) (by_stop old mid stop missing both.1.counts) borne;
+            standing_then (logs_failed old mid missing) tells_mid (logs_bear old mid missing bears) stop both.1 both.0 (failed_by old stop missing)
+            (within_twice (logs_failed old mid missing) (failed_since old mid missing) (failed_by old stop missing) (fewer_failed old mid missing) (by_stop old mid stop missing both.1.counts)) borne;
         stored = unstored old x missing arrays r.found stop (drives_left stop both.1);
       })
-          (both_leave (settling commands r.read.keeps r.seen (agree bears)) writes.any_moment)
+          (settle_moments (logs_failed old mid missing) tells_mid (logs_bear old mid missing bears))
       | inr not ↦ weaker (λ stop left. record {
         standing = λ borne. absurd (not (fewer_borne (geometry_of old) (failed_since old mid missing) (failed_by old stop missing) (by_stop old mid stop missing left.counts) borne));
         stored = unstored old x missing arrays r.found stop (drives_left stop left);
@@ -187,32 +309,37 @@ module _ (old mid new : Shelved) (x : Loaded) (missing : Conditions) (arrays : L
     pub while_opening : LeavesOnly old new (StandsStill old None missing arrays)
     while_opening = then_run r.on (while_read old mid x missing arrays r.wrote r.found) while_settling
 
+    -- whatever has failed: those devices aren't missing that answered
+    pub back_while_opening : AreSoundLogs x.record missing → IsSome log.members → LeavesOnly old new (StandsOnceBack old missing arrays)
+    back_while_opening sound some =
+        let now = logs_lost missing log.members in
+        let left = logs_left x missing log.members in
+        let bears = logs_borne old x missing arrays r.is r.honest r.found sound log.members r.fewer some in
+        then_run r.on (back_while_read old mid x missing arrays r.wrote r.found)
+        (weaker (λ stop both. record { later = now; within = left.within; stands = (standing_then now left bears stop both.1 both.0 now (as_it_is now) bears).stands }) (settle_moments now left bears))
+
     -- ---- afterwards
 
     module _ (is_new : IsShelf new) (drives : (i : ℕ) → new.disk (drive i) ≡ mid.disk (drive i)) (now_members : List Bool) (now_fewer : IsFewer log.members now_members)
-        (now_dropped : DroppedCounted mid new log.members now_members) (borne : IsBearable (geometry_of old) (failed_since old new missing)) where
-      abbrev later : Conditions
-      later = failed_since old new missing
-
+        (later : Conditions) (are_left : AreLeft x missing now_members later) (borne : IsBearable (geometry_of old) later) where
       all_on : Continues old new
       all_on = continues_trans r.on next
 
-      pub bears_mid : IsBearable (geometry_of old) (failed_since old mid missing)
-      bears_mid = fewer_borne (geometry_of old) (failed_since old mid missing) later (since_later old mid new missing next) borne
+      -- so they were before
+      left_mid : AreLeft x missing log.members later
+      left_mid = record { within = are_left.within; drives = are_left.drives; sound = λ n named s. now_fewer n (are_left.sound n named s) }
 
-      was_sound : (d : Device) → later d ≡ Sound → (missing d ≡ Sound) × (has_risen (old.disk d).faults (new.disk d).faults ≡ false)
-      was_sound d e = sound_since (has_risen (old.disk d).faults (new.disk d).faults) (missing d) e
+      pub agree_later : Agree mid log.members log.flushed front
+      agree_later = agree_in later left_mid borne
+
+      was_sound : (d : Device) → later d ≡ Sound → missing d ≡ Sound
+      was_sound d e = sound_before (missing d) (later d) (are_left.within d) e
 
       pub still_sound : (n : ℕ) → n < 2 → later (nvram n) ≡ Sound → IsMember now_members n
-      still_sound n lt s =
-          let before : failed_since old mid missing (nvram n) ≡ Sound = sound_before (failed_since old mid missing (nvram n)) (later (nvram n)) (since_later old mid new missing next (nvram n)) s in
-          elim (now_dropped n lt (answered bears_mid n lt before)) [
-            | inl m ↦ m
-            | inr rose ↦ absurd (risen_on_way (old.disk (nvram n)).faults (mid.disk (nvram n)).faults (new.disk (nvram n)).faults (new.disk (nvram n)).faults (r.on.faults (nvram n)) rose (omega arith) (was_sound (nvram n) s).1)
-          ]
+      still_sound n lt s = are_left.sound n (r.fewer n (answered later left_mid borne n lt s)) s
 
-      pub not_lost : (IsSome now_members → ⊥) → ⊥
-      not_lost lost =
+      pub one_is_left : (IsSome now_members → ⊥) → ⊥
+      one_is_left lost =
           let one = one_sound (geometry_of old) later borne in
           some_of one.0 one.1 (still_sound one.0 one.1 one.2)
         where
@@ -224,10 +351,6 @@ module _ (old mid new : Shelved) (x : Loaded) (missing : Conditions) (arrays : L
       -- the drives are as they were
       same_all : (i : ℕ) → new.disk (drive i) ≡ old.disk (drive i)
       same_all i = drives i ∙ r.same_drives i
-
-      same_drive : (i : ℕ) → later (drive i) ≡ missing (drive i)
-      same_drive i = stays (missing (drive i)) (has_risen (old.disk (drive i)).faults (new.disk (drive i)).faults)
-          (λ s. not_risen (old.disk (drive i)).faults (new.disk (drive i)).faults (ap (λ (d : Disk). d.faults) (same_all i)) (r.found.counted (drive i) s))
 
       same_shelf : geometry_of old ≡ geometry_of new
       same_shelf = shelf_stays all_on
@@ -246,20 +369,21 @@ module _ (old mid new : Shelved) (x : Loaded) (missing : Conditions) (arrays : L
         stop_before = may_at_once old image_before left_then
 
         standing_here : IsStanding (geometry_of old) start.image later arrays
-        standing_here = (while_opening.each (at_once new start.image)
-            (is_new.counts_now old.moment (at_once new start.image) all_on.later (may_at_once new start.image may.device))).1.standing borne
+        standing_here =
+            let there = ((settle_moments later left_mid borne).each (at_once new start.image) (is_new.counts_now mid.moment (at_once new start.image) next.later (may_at_once new start.image may.device))).1 in
+            standing_then later left_mid borne (at_once new start.image) there.1 there.0 later (as_it_is later) borne
 
         given_here : MayBeGiven (geometry_of old) start.image later (slot_in x.slot) x.record
-        given_here = given_moves (geometry_of old) image_before start.image missing later (slot_in x.slot) x.record (λ i. refl) same_drive borne
+        given_here = given_moves (geometry_of old) image_before start.image missing later (slot_in x.slot) x.record (λ i. refl) are_left.drives borne
             (subst (λ (t : BootSlot). MayBeGiven (geometry_of old) image_before missing t x.record) (twice_other (slot_in x.slot)) (r.found.in_force.given (at_once old image_before) stop_before))
 
-      pub found_still : IsFoundOn new x later arrays
+      found_still : IsFoundOn new x later arrays
       found_still = record {
         in_force = record {
           lawful = subst (λ (g : Geometry). IsRecordOf g x.record) same_shelf r.found.in_force.lawful;
-          sound = λ i lt s. r.found.in_force.sound i (omega (arith, lt, all_on.drives)) (was_sound (drive i) s).0;
-          clean = λ i m s. subst (λ (d : Disk). d.dirty ≡ []) (sym (same_all i)) (r.found.in_force.clean i m (was_sound (drive i) s).0);
-          shown = λ i m s. subst (λ (d : Disk). shown_by (other_slot (other_slot (slot_in x.slot))) d.bytes ≡ Some (spelling x.record)) (sym (same_all i)) (r.found.in_force.shown i m (was_sound (drive i) s).0);
+          sound = λ i lt s. r.found.in_force.sound i (omega (arith, lt, all_on.drives)) (was_sound (drive i) s);
+          clean = λ i m s. subst (λ (d : Disk). d.dirty ≡ []) (sym (same_all i)) (r.found.in_force.clean i m (was_sound (drive i) s));
+          shown = λ i m s. subst (λ (d : Disk). shown_by (other_slot (other_slot (slot_in x.slot))) d.bytes ≡ Some (spelling x.record)) (sym (same_all i)) (r.found.in_force.shown i m (was_sound (drive i) s));
           given = λ start may. subst (λ (g : Geometry). MayBeGiven g start.image later (other_slot (other_slot (slot_in x.slot))) x.record) same_shelf
               (subst (λ (t : BootSlot). MayBeGiven (geometry_of old) start.image later t x.record) (sym (twice_other (slot_in x.slot))) (given_here start may));
         };
@@ -268,7 +392,6 @@ module _ (old mid new : Shelved) (x : Loaded) (missing : Conditions) (arrays : L
         bodies = λ i m. subst (λ (d : Disk). body_in (slot_in x.slot) d.bytes ≡ spelling x.record) (sym (same_all i)) (r.found.bodies i m);
         room = r.found.room;
         stands = λ stop may. subst (λ (g : Geometry). Stands g stop.image later arrays) same_shelf (standing_here stop may).stands;
-        counted = λ d s. goes_on (old.disk d).faults (new.disk d).faults (was_sound d s).1;
         left_out = λ start may d out. subst (λ (g : Geometry). IsNamedByNone g start.image later d) same_shelf ((standing_here start may).left_out d out);
         read = λ start may. subst (λ (g : Geometry). AreRead g start.image later) same_shelf (standing_here start may).read;
       }
@@ -278,9 +401,9 @@ module _ (old mid new : Shelved) (x : Loaded) (missing : Conditions) (arrays : L
       hold_still start may = subst (λ (g : Geometry). TablesHold g start.image (slot_in x.slot) x.record ps base) same_shelf
           (same_drives_hold (geometry_of old) (image_before start may) start.image (slot_in x.slot) x.record ps base (λ i. refl) (r.hold (at_once old (image_before start may)) (stop_before start may)))
 
-      pub opened : (o : OpenedLog) → o.log.members ≡ now_members → IsSome o.log.members → o.log.flushed ≡ log.flushed → Keeps o.log front
+      pub opened_on : (o : OpenedLog) → o.log.members ≡ now_members → IsSome o.log.members → o.log.flushed ≡ log.flushed → Keeps o.log front
           → HoldsOn new o.log.members o.log.flushed front → IsLogOpen new x later arrays ps base o
-      opened o same some flushed keeps holds = record {
+      opened_on o same some flushed keeps holds = record {
         found = found_still;
         hold = hold_still;
         commands = front;
@@ -288,7 +411,7 @@ module _ (old mid new : Shelved) (x : Loaded) (missing : Conditions) (arrays : L
         in_force = r.in_force commands r.read.keeps;
         flushed = flushed ∙ r.flushed;
         accepted = (r.run commands r.read.keeps).accepted;
-        one_of = one_of bears_mid;
+        one_of = one_of later left_mid borne;
         holds = subst (λ (f : ℕ). HoldsOn new o.log.members f front) (flushed ∙ r.flushed) holds;
         some = some;
         fewer = λ n m. r.fewer n (now_fewer n (subst (λ (l : List Bool). IsMember l n) same m));
@@ -301,6 +424,31 @@ module _ (old mid new : Shelved) (x : Loaded) (missing : Conditions) (arrays : L
               let image : Image = λ d. (new.disk d).bytes in
               let may = may_at_once new image (as_read_leaves new is_new (all_on.honest r.honest)) in
               absurd (cc (named, (standing_here (at_once new image) may).left_out (nvram n) out (slot_in x.slot) x.record (given_here (at_once new image) may)))
+
+    -- where what failed is borne
+    module _ (is_new : IsShelf new) (drives : (i : ℕ) → new.disk (drive i) ≡ mid.disk (drive i)) (now_members : List Bool) (now_fewer : IsFewer log.members now_members)
+        (now_dropped : DroppedCounted mid new log.members now_members) (borne : IsBearable (geometry_of old) (failed_since old new missing)) where
+      tells_new : AreLeft x missing now_members (logs_failed old new missing)
+      tells_new = tells_left old new x missing arrays r.found now_members (dropped_twice old mid new x.record.members.nvrams log.members now_members r.on next r.dropped now_dropped)
+
+      pub bears_mid : IsBearable (geometry_of old) (failed_since old mid missing)
+      bears_mid = fewer_borne (geometry_of old) (failed_since old mid missing) (failed_since old new missing) (since_later old mid new missing next) borne
+
+      pub not_lost : (IsSome now_members → ⊥) → ⊥
+      not_lost = one_is_left is_new drives now_members now_fewer (logs_failed old new missing) tells_new (logs_bear old new missing borne)
+
+      -- no drive was called, and of each that isn't missing the count goes on
+      failed_new : AreCounted old missing → AreLeft x missing now_members (failed_since old new missing)
+      failed_new counted = record {
+        within = losing_within (λ d. has_risen (old.disk d).faults (new.disk d).faults) missing;
+        drives = λ i. stays (missing (drive i)) (has_risen (old.disk (drive i)).faults (new.disk (drive i)).faults)
+            (λ s. not_risen (old.disk (drive i)).faults (new.disk (drive i)).faults (ap (λ (d : Disk). d.faults) (drives i ∙ r.same_drives i)) (counted (drive i) s));
+        sound = λ n named sound. tells_new.sound n named sound;
+      }
+
+      pub opened : AreCounted old missing → (o : OpenedLog) → o.log.members ≡ now_members → IsSome o.log.members → o.log.flushed ≡ log.flushed → Keeps o.log front
+          → HoldsOn new o.log.members o.log.flushed front → IsLogOpen new x (failed_since old new missing) arrays ps base o
+      opened counted = opened_on is_new drives now_members now_fewer (failed_since old new missing) (failed_new counted) borne
 
 -- what the calls say of a log that was read
 pub was_read : (old mid : Shelved) (x : Loaded) (missing : Conditions) (arrays : List Array) (ps : List (List AnyFact)) (base : Array) (nvrams : List Bool) (flushed : ℕ) (log : NvLog) (count : ℕ) (was now : Kept)

@@ -24,7 +24,8 @@ use Rattle.array_spec.proofs.LogSettled.{settling_keeps}
 use Rattle.array_spec.proofs.OneLog.{one_log}
 use Rattle.array_spec.proofs.Settling.{twice_other}
 use Rattle.array_spec.proofs.Standings.{more_may_go_missing, within_twice}
-use Rattle.array_spec.proofs.UnflushedRead.{kept_some}
+use Rattle.array_spec.proofs.UnflushedRead.{kept_some, was_left_out}
+use Rattle.array_spec.proofs.Votes.{sound_before}
 use Rattle.stored_spec.proofs.Reading.{read_holds}
 use Rattle.stored_spec.proofs.Unique.{one_base}
 use Rattle.world.specs.Losing.{geometry_of, has_risen, missing_if}
@@ -32,25 +33,22 @@ use Rattle.world.specs.Shelf.{Shelved, Stop, Disk, IsShelf, MayStop, MayLeave}
 use Rattle.world.specs.Writes.{LeavesBut, WritesOnly}
 use Rattle.boot_region.specs.declared.loading.Loaded.{Loaded}
 use Rattle.boot_region.specs.Slots.{slot_in}
-use Rattle.boot_region.proofs.Accounts.{losing_within}
 use Rattle.boot_region.proofs.Composing.{as_it_is, is_sound_is}
-use Rattle.boot_region.proofs.Phases.{risen_on_way}
 use Rattle.boot_region.proofs.ShownLemmas.{as_read}
 use Rattle.nvram_log.specs.Held.{shown_by as shown_of}
 use Rattle.nvram_log.specs.Members.{IsMember, IsFewer, OnMembers}
-use Rattle.nvram_log.specs.Read.{OnNothing, DroppedCounted}
+use Rattle.nvram_log.specs.Read.{OnNothing}
 use Rattle.nvram_log.specs.Settling.{SettlesBy, SettleBy}
-use Rattle.session_spec.specs.Entering.{IsStanding, failed_since}
+use Rattle.session_spec.specs.Entering.{IsStanding}
 use Rattle.takeover.specs.Found.{IsFoundOn}
+use Rattle.takeover.specs.LogOpen.{AreLeft}
 use Rattle.takeover.specs.Replay.{IsRun}
 use Rattle.takeover.specs.Tables.{HoldTables}
 use Rattle.takeover.proofs.Chains.{replayed_stands, of_front, agrees}
 use Rattle.takeover.proofs.Generations.{this_or_later}
 use Rattle.takeover.proofs.NothingStored.{left_out_settled, read_settled}
 use Rattle.array_core.proofs.Logged.{nothing_else}
-use Rattle.array_core.proofs.Losses.{sound_since}
 use Rattle.array_spec.proofs.LogMoves.{shows_move, log_moves}
-use Rattle.session_spec.proofs.Conditions.{left_out_once}
 
 -- ---- conditions
 
@@ -138,14 +136,10 @@ module _ (shelf : Geometry) (old new : Image) (missing later : Conditions) (slot
 
 module _ (old mid : Shelved) (x : Loaded) (missing : Conditions) (arrays : List Array) (is : IsShelf old) (wrote : WritesOnly OnNothing old mid)
     (same_drives : (i : ℕ) → mid.disk (drive i) ≡ old.disk (drive i)) (found : IsFoundOn old x missing arrays)
-    (members : List Bool) (fewer : IsFewer x.record.members.nvrams members) (dropped : DroppedCounted old mid x.record.members.nvrams members)
-    (clean : (n : ℕ) → n < 2 → IsMember members n → (mid.disk (nvram n)).dirty ≡ []) (bears : IsBearable (geometry_of old) (failed_since old mid missing))
-    (ps : List (List AnyFact)) (base : Array) (hold : HoldTables old x ps base) where
+    (members : List Bool) (fewer : IsFewer x.record.members.nvrams members) (clean : (n : ℕ) → n < 2 → IsMember members n → (mid.disk (nvram n)).dirty ≡ [])
+    (now : Conditions) (are_left : AreLeft x missing members now) (bears : IsBearable (geometry_of old) now) (ps : List (List AnyFact)) (base : Array) (hold : HoldTables old x ps base) where
   abbrev shelf : Geometry
   shelf = geometry_of old
-
-  abbrev now : Conditions
-  now = failed_since old mid missing
 
   abbrev slot : BootSlot
   slot = slot_in x.slot
@@ -153,34 +147,17 @@ module _ (old mid : Shelved) (x : Loaded) (missing : Conditions) (arrays : List 
   abbrev boot : BootRecord
   boot = x.record
 
-  rose : Device → Bool
-  rose d = has_risen (old.disk d).faults (mid.disk d).faults
-
   named_below : (n : ℕ) → names boot (nvram n) ≡ true → n < 2
   named_below n e = elim (cases_lt n 2) [
     | inl lt ↦ lt
     | inr past ↦ absurd (cc (e, get_or_past boot.members.nvrams n false (omega (arith, past, found.in_force.lawful.lawful.members.nvram_flags))))
   ]
 
-  was_sound : (d : Device) → now d ≡ Sound → (missing d ≡ Sound) × (has_risen (old.disk d).faults (mid.disk d).faults ≡ false)
-  was_sound d e = sound_since (has_risen (old.disk d).faults (mid.disk d).faults) (missing d) e
+  was_sound : (d : Device) → now d ≡ Sound → missing d ≡ Sound
+  was_sound d e = sound_before (missing d) (now d) (are_left.within d) e
 
-  was_left_out : (d : Device) → now d ≡ LeftOut → missing d ≡ LeftOut
-  was_left_out d e = left_out_once (has_risen (old.disk d).faults (mid.disk d).faults) (missing d) e
-
-  within_now : IsWithin missing now
-  within_now = losing_within (λ d. has_risen (old.disk d).faults (mid.disk d).faults) missing
-
-  same_drive : (i : ℕ) → now (drive i) ≡ missing (drive i)
-  same_drive i = stays (missing (drive i)) (has_risen (old.disk (drive i)).faults (mid.disk (drive i)).faults)
-      (λ s. not_risen (old.disk (drive i)).faults (mid.disk (drive i)).faults (ap (λ (d : Disk). d.faults) (same_drives i)) (found.counted (drive i) s))
-
-  -- a device that is named and isn't missing is a member
-  still_member : (n : ℕ) → names boot (nvram n) ≡ true → now (nvram n) ≡ Sound → IsMember members n
-  still_member n named sound = elim (dropped n (named_below n named) named) [
-    | inl m ↦ m
-    | inr r ↦ absurd (risen_on_way (old.disk (nvram n)).faults (old.disk (nvram n)).faults (mid.disk (nvram n)).faults (mid.disk (nvram n)).faults (omega arith) r (omega arith) (was_sound (nvram n) sound).1)
-  ]
+  left_out_before : (d : Device) → now d ≡ LeftOut → missing d ≡ LeftOut
+  left_out_before d e = was_left_out (missing d) (now d) (are_left.within d) e
 
   module _ (image : Image) (leaves : (d : Device) → MayLeave (mid.disk d) (image d)) where
     pub left_before : (d : Device) → MayLeave (old.disk d) (image d)
@@ -197,17 +174,17 @@ module _ (old mid : Shelved) (x : Loaded) (missing : Conditions) (arrays : List 
     may = record { device = left_before; counts = record { faults = λ d. omega arith; write_faults = λ d. omega arith }; output = refl; taken = refl }
 
     pub stands : Stands shelf image now arrays
-    stands = more_may_go_missing shelf image missing now arrays within_now bears (found.stands start may)
+    stands = more_may_go_missing shelf image missing now arrays are_left.within bears (found.stands start may)
 
     given_then : MayBeGiven shelf image missing slot boot
     given_then = subst (λ (t : BootSlot). MayBeGiven shelf image missing t boot) (twice_other slot) (found.in_force.given start may)
 
     pub given : MayBeGiven shelf image now slot boot
-    given = given_moves shelf image image missing now slot boot (λ i. refl) same_drive bears given_then
+    given = given_moves shelf image image missing now slot boot (λ i. refl) are_left.drives bears given_then
 
     shows : (i : ℕ) → i < old.drives → now (drive i) ≡ Sound → shown_by slot (image (drive i)) ≡ Some (spelling boot)
     shows i lt sound =
-        let was = (was_sound (drive i) sound).0 in
+        let was = was_sound (drive i) sound in
         let m = found.in_force.sound i lt was in
         ap (shown_by slot) (as_read (old.disk (drive i)) (image (drive i)) (found.in_force.clean i m was) (left_before (drive i)))
         ∙ subst (λ (t : BootSlot). shown_by t (old.disk (drive i)).bytes ≡ Some (spelling boot)) (twice_other slot) (found.in_force.shown i m was)
@@ -219,7 +196,7 @@ module _ (old mid : Shelved) (x : Loaded) (missing : Conditions) (arrays : List 
 
     not_member : (n : ℕ) → now (nvram n) ≡ LeftOut → slice_index_or members n false ≡ false
     not_member n out = elim (cases_Bool (slice_index_or members n false)) [
-      | inl m ↦ absurd (cc (fewer n m, found.left_out start may (nvram n) (was_left_out (nvram n) out) slot boot given_then))
+      | inl m ↦ absurd (cc (fewer n m, found.left_out start may (nvram n) (left_out_before (nvram n) out) slot boot given_then))
       | inr isn't ↦ isn't
     ]
 
@@ -242,17 +219,17 @@ module _ (old mid : Shelved) (x : Loaded) (missing : Conditions) (arrays : List 
         (read_holds shelf image missing now slot boot ps base (λ i out. found.left_out start may (drive i) out slot boot given_then) (hold start may) view (wider is_view) reading.all_hold)
       where
         wider : IsViewOf shelf image now now view → IsViewOf shelf image missing now view
-        wider v = record { within = within_now; bearable = v.bearable; shown = v.shown }
+        wider v = record { within = are_left.within; bearable = v.bearable; shown = v.shown }
 
     -- each device that isn't missing is a member
     pub answers : (n : ℕ) → n < 2 → now (nvram n) ≡ Sound → IsMember members n
-    answers n lt sound = still_member n (is_named (names boot (nvram n)) (view (nvram n)) (reading.all_hold (nvram n) lt sound)) sound
+    answers n lt sound = are_left.sound n (is_named (names boot (nvram n)) (view (nvram n)) (reading.all_hold (nvram n) lt sound)) sound
 
     fewer_missing : (slot2 : BootSlot) (boot2 : BootRecord) → MayBeGiven shelf image now slot2 boot2 → MayBeGiven shelf image missing slot2 boot2
     fewer_missing slot2 boot2 g = record {
       more = g.more;
       view = g.view;
-      appears = record { within = within_twice missing now g.more within_now g.appears.within; bearable = g.appears.bearable; shown = g.appears.shown };
+      appears = record { within = within_twice missing now g.more are_left.within g.appears.within; bearable = g.appears.bearable; shown = g.appears.shown };
       lawful = g.lawful;
       effective = g.effective;
     }
@@ -263,12 +240,12 @@ module _ (old mid : Shelved) (x : Loaded) (missing : Conditions) (arrays : List 
       no_earlier = λ slot2 boot2 g2. this_or_later shelf image now arrays slot boot is.drives.0 found.in_force.lawful found.in_its_slot shows stands view is_view slot2 boot2 g2;
       sound = answers;
       named = λ n m. fewer n m;
-      left_out = λ n out slot2 boot2 g2. found.left_out start may (nvram n) (was_left_out (nvram n) out) slot2 boot2 (fewer_missing slot2 boot2 g2);
+      left_out = λ n out slot2 boot2 g2. found.left_out start may (nvram n) (left_out_before (nvram n) out) slot2 boot2 (fewer_missing slot2 boot2 g2);
     }
 
     alike : (j : ℕ) → answering members image (nvram j) ≡ of_members slot boot view (nvram j)
     alike j = shows_alike (names boot (nvram j)) (is_sound (now (nvram j))) (slice_index_or members j false) (Some (image (nvram j))) (fewer j)
-        (λ named sound. still_member j named (is_sound_is (now (nvram j)) sound))
+        (λ named sound. are_left.sound j named (is_sound_is (now (nvram j)) sound))
 
     as_shown : (j : ℕ) → shown_of mid members (nvram j) ≡ answering members image (nvram j)
     as_shown j = same_if (slice_index_or members j false) (mid.disk (nvram j)).bytes (image (nvram j))
@@ -315,7 +292,7 @@ module _ (old mid : Shelved) (x : Loaded) (missing : Conditions) (arrays : List 
       (placed : (i : ℕ) (c : Command) → slice_get commands i ≡ Some c → IsInSlot (shown_of mid members) x.record.flushed i c)
       (ends : length commands < 64 → (n : ℕ) (c : Command) → n < 2 → ¬ (Shows (shown_of mid members) n x.record.flushed (length commands) c))
       (in_force : AllByRecursion (λ c. is_in_force c.request ≡ true) (take count commands)) (is_mid : IsShelf mid) (honest : mid.honest) (stop : Stop) (left : LeavesBut (OnMembers members) mid stop) (by : SettleBy mid members x.record.flushed (take count commands) stop)
-      (later : Conditions) (within : IsWithin (failed_since old mid missing) later) (bears_later : IsBearable (geometry_of old) later) where
+      (later : Conditions) (within : IsWithin now later) (bears_later : IsBearable (geometry_of old) later) where
     abbrev settled : List Command
     settled = take count commands
 
@@ -363,7 +340,7 @@ module _ (old mid : Shelved) (x : Loaded) (missing : Conditions) (arrays : List 
         (log_stands was_there were_left commands count le run placed ends) settles_log
 
     within_all : IsWithin missing later
-    within_all = within_twice missing (failed_since old mid missing) later within_now within
+    within_all = within_twice missing now later are_left.within within
 
     pub standing_settling : IsStanding shelf stop.image later arrays
     standing_settling = record {

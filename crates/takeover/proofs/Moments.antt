@@ -33,6 +33,7 @@ use Rattle.takeover.specs.Opened.{IsHeldBy, IsRecovered}
 use Rattle.takeover.specs.Tables.{HasTables}
 use Rattle.takeover.proofs.ArrayOf.{array_with}
 use Rattle.takeover.proofs.Failing.{since_later}
+use Rattle.takeover.proofs.Outlasted.{enters_firmly}
 use Rattle.takeover.proofs.RecoveredLemmas.{content, left_or_lost, still_left}
 use Rattle.takeover.proofs.Twice.{twice_since}
 use Rattle.array_core.proofs.Losses.{fewer_borne}
@@ -107,4 +108,5 @@ module _ (old mid new : Shelved) (missing : Conditions) (arrays : List plain.Arr
       log_is = log_is;
       base_held = base_held;
       sound = sound;
+      firm = enters_firmly new now o.log.members (content ps base is_open.commands) is_opened;
     }

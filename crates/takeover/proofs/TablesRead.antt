@@ -1,9 +1,9 @@
 -- The tables of the record that was found were read: what is known then, and why they weren't.
-use Rattle.std.proofs.Common.{◌≡◌, ◌⊎◌, inl, inr, ℕ, ◌-◌, ◌^◌, ◌<◌, ◌≤◌, Bool, true, false, not, List, [], length, refl, sym, ◌∙◌, ap, subst, arith}
+use Rattle.std.proofs.Common.{◌≡◌, ◌⊎◌, inl, inr, ℕ, ◌<◌, ◌≤◌, Bool, true, false, not, List, [], length, refl, sym, ◌∙◌, ap, subst, arith}
 use Rattle.std.specs.Prelude.{Option, Some, None, slice_index, option_and_then, if◌then◌else◌}
 use Rattle.std.specs.Str.{bytes_eq}
 use Rattle.std.proofs.lemmas.Bool.{cases_Bool}
-use Rattle.pur_base.specs.Devices.{Geometry, View, Conditions, Sound, drive, nvram}
+use Rattle.pur_base.specs.Devices.{Geometry, View, Conditions, drive, nvram}
 use Rattle.pur_base.specs.declared.device.Device.{Device}
 use Rattle.pur_base.specs.declared.device.Device.TheVariants.{Drive, Nv}
 use Rattle.pur_base.specs.Plain.{Array}
@@ -46,8 +46,7 @@ use Rattle.array_core.proofs.Logged.{nothing_else}
 use Rattle.register.proofs.Rounds.{same_shelf as shelf_stays}
 
 -- devices that were only read stand as they stood
-module _ (b t : Shelved) (x : Loaded) (later : Conditions) (arrays : List Array) (after : Continues b t) (same : (d : Device) → IsSame (b.disk d) (t.disk d)) (found : IsFoundOn b x later arrays)
-    (counted : (d : Device) → later d ≡ Sound → (t.disk d).faults < 2 ^ 64 - 1) where
+module _ (b t : Shelved) (x : Loaded) (later : Conditions) (arrays : List Array) (after : Continues b t) (same : (d : Device) → IsSame (b.disk d) (t.disk d)) (found : IsFoundOn b x later arrays) where
   same_shelf : geometry_of b ≡ geometry_of t
   same_shelf = shelf_stays after
 
@@ -71,7 +70,6 @@ module _ (b t : Shelved) (x : Loaded) (later : Conditions) (arrays : List Array)
     bodies = λ i m. ap (body_in (slot_in x.slot)) (same (drive i)).bytes ∙ found.bodies i m;
     room = found.room;
     stands = λ start may. subst (λ (g : Geometry). Stands g start.image later arrays) same_shelf (found.stands (at_time b start.image) (before start may));
-    counted = counted;
     left_out = λ start may d out. subst (λ (g : Geometry). IsNamedByNone g start.image later d) same_shelf (found.left_out (at_time b start.image) (before start may) d out);
     read = λ start may. subst (λ (g : Geometry). AreRead g start.image later) same_shelf (found.read (at_time b start.image) (before start may));
   }

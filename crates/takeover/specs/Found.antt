@@ -32,8 +32,6 @@ pub record IsFoundOn (shelf : Shelved) (x : Loaded) (missing : Conditions) (arra
   pub bodies : (i : ℕ) → IsMember x.drives i → body_in (slot_in x.slot) (shelf.disk (drive i)).bytes ≡ spelling x.record
   pub room : x.record.generation < 2 ^ 48 - 16
   pub stands : StandsNow shelf missing arrays
-  -- of a device that isn't missing the count of faults goes on
-  pub counted : (d : Device) → missing d ≡ Sound → (shelf.disk d).faults < 2 ^ 64 - 1
   pub left_out : (start : Stop) → MayStop shelf start → (d : Device) → missing d ≡ LeftOut → IsNamedByNone (geometry_of shelf) start.image missing d
   pub read : (start : Stop) → MayStop shelf start → AreRead (geometry_of shelf) start.image missing
 
@@ -42,3 +40,7 @@ abbrev pub IsFoundBy : Shelved → Conditions → List Array → Result Loaded O
 IsFoundBy new missing arrays (Ok x) = IsFoundOn new x missing arrays
 IsFoundBy new missing arrays (Err (open_fault.Memory m)) = ⊤
 IsFoundBy new missing arrays (Err e) = ⊥
+
+-- of a device that isn't missing the count of faults goes on
+abbrev pub AreCounted : Shelved → Conditions → Type 0
+AreCounted shelf missing = (d : Device) → missing d ≡ Sound → (shelf.disk d).faults < 2 ^ 64 - 1

@@ -4,5 +4,6 @@ pub mod Tables
 pub mod LogOpen
 pub mod Replay
 pub mod Seen
+pub mod Outlasting
 pub mod Replayed
 pub mod Opened

@@ -2,12 +2,14 @@
 use Rattle.std.specs.Prelude.{◌≡◌, ℕ, ◌<◌, Bool, true, false, List, Contains, Result, Ok, Err, ⊤}
 use Rattle.std.specs.List.{AllByRecursion}
 use Rattle.pur_base.specs.Commands.{Command, AllAccepted, after_all}
-use Rattle.pur_base.specs.Devices.{Conditions, Sound, LeftOut, nvram}
+use Rattle.pur_base.specs.Devices.{Conditions, Sound, LeftOut, IsBearable, IsWithin, drive, nvram}
 use Rattle.pur_base.specs.Grammar.{is_in_force}
 use Rattle.pur_base.specs.Plain.{Array}
 use Rattle.pur_base.specs.declared.facts.AnyFact.{AnyFact}
+use Rattle.boot_codec.specs.Region.{names}
 use Rattle.log_codec.specs.Log.{ShowsIn}
 use Rattle.world.specs.Counts.{Rises}
+use Rattle.world.specs.Losing.{geometry_of}
 use Rattle.world.specs.Shelf.{Shelved}
 use Rattle.boot_region.specs.declared.loading.Loaded.{Loaded}
 use Rattle.nvram_log.specs.Held.{HoldsOn, Keeps}
@@ -33,6 +35,16 @@ pub record IsLogOpen (shelf : Shelved) (x : Loaded) (missing : Conditions) (arra
   pub fewer : IsFewer x.record.members.nvrams o.log.members
   pub sound : (n : ℕ) → n < 2 → missing (nvram n) ≡ Sound → IsMember o.log.members n
   pub left_out : (n : ℕ) → missing (nvram n) ≡ LeftOut → ¬ (IsMember o.log.members n)
+
+-- Later conditions in which no NVRAM device is sound that the record names and that isn't left; drives are as they were.
+pub record AreLeft (x : Loaded) (missing : Conditions) (members : List Bool) (later : Conditions) : Type 0 where
+  pub within : IsWithin missing later
+  pub drives : (i : ℕ) → later (drive i) ≡ missing (drive i)
+  pub sound : (n : ℕ) → names x.record (nvram n) ≡ true → later (nvram n) ≡ Sound → IsMember members n
+
+-- in all such conditions that are borne the log was opened
+abbrev pub IsLogOpenOn : Shelved → Loaded → Conditions → List Array → List (List AnyFact) → Array → OpenedLog → Type 0
+IsLogOpenOn new x missing arrays ps base o = (later : Conditions) → AreLeft x missing o.log.members later → IsBearable (geometry_of new) later → IsLogOpen new x later arrays ps base o
 
 -- an NVRAM device shows a command of a form that isn't served
 pub record ShowsUnserved (shelf : Shelved) (flushed : ℕ) : Type 0 where

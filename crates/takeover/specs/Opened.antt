@@ -19,7 +19,7 @@ use Rattle.array_spec.specs.Stored.{PatchesStand, all_facts, in_patches}
 use Rattle.world.specs.Losing.{geometry_of, has_failed}
 use Rattle.world.specs.Shelf.{Shelved, LeavesOnly}
 use Rattle.boot_region.specs.declared.regions.TheConstants.{REGION_BYTES}
-use Rattle.register.specs.Registers.{named_sound}
+use Rattle.register.specs.Registers.{named_sound, next_slot}
 use Rattle.register.specs.Standing.{Content, array_of}
 use Rattle.memory_spec.specs.Tables.{facts, patches}
 use Rattle.memory_spec.specs.Memory.{Contents, FactsRead, ReadsAs}
@@ -29,6 +29,7 @@ use Rattle.session_spec.specs.Headline.{IsUnopenedBy}
 use Rattle.array_core.specs.declared.array.Array.{Array}
 use Rattle.array_core.specs.Drives.{SegmentsHold}
 use Rattle.array_core.specs.Ready.{IsReady}
+use Rattle.takeover.specs.Outlasting.{EntersFirmly}
 use Rattle.takeover.specs.declared.faults.OpenFault.{OpenFault}
 use Rattle.takeover.specs.declared.faults.OpenFault.TheVariants as open_fault
 
@@ -63,6 +64,8 @@ pub record IsRecovered (old new : Shelved) (found : Found (geometry_of old) (rea
   pub log_is : held.log ≡ log
   pub base_held : IsHeldBy old new found a held.base
   pub sound : (d : Device) → IsOn (geometry_of new) d → missing d ≡ Sound → names a.register.record d ≡ true
+  -- so it's as an opening asks for that is to outlast failures
+  pub firm : EntersFirmly new (named_sound a.register.record) (next_slot a.register.record) a.register.record
 
 -- The tables and the log that were found make the array, and a later record was stored that names the devices that are left.
 -- For arrays for which the devices stood: they still do at every moment, and then for that in memory, one of them.

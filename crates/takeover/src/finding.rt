@@ -5,7 +5,8 @@ ghost use Rattle.pur_base.specs.Devices.{Conditions, IsBearable, IsWithin, drive
 ghost use Rattle.pur_base.specs.Gates.{is_open};
 ghost use Rattle.pur_base.specs.Plain.{Array};
 ghost use Rattle.boot_codec.specs.Record.{set_count};
-ghost use Rattle.boot_codec.specs.Region.{gate_place, other_slot, shown_by};
+ghost use Rattle.boot_codec.specs.declared.record.BootRecord.{BootRecord};
+ghost use Rattle.boot_codec.specs.Region.{BootSlot, gate_place, other_slot, shown_by};
 ghost use Rattle.boot_codec.specs.Spelling.{spelling};
 ghost use Rattle.array_spec.specs.Standing.{Stands};
 ghost use Rattle.world.specs.Counts.{Rises};
@@ -15,10 +16,11 @@ ghost use Rattle.world.specs.Ran.{Ran};
 ghost use Rattle.boot_region.specs.Loading.{IsLawfulLoad};
 ghost use Rattle.boot_region.specs.Members.{IsDrive, IsMember, IsOneOf, OnClosed};
 ghost use Rattle.boot_region.specs.Slots.{slot_in};
-ghost use Rattle.boot_region.specs.Storing.{IsFound, IsInForceOn, IsLoaded, TellsFailed};
+ghost use Rattle.boot_region.specs.Storing.{IsFound, IsInForceOn, IsLoaded, StandsAgain, TellsFailed};
 ghost use Rattle.session_spec.specs.Entering.{Enters, StandsStill, failed_since};
 ghost use Rattle.takeover.specs.Found.{IsFoundBy, OnGates};
 ghost use Rattle.takeover.specs.Opened.{AreClean};
+ghost use Rattle.takeover.specs.Outlasting.{EntersFirmly, IsFoundFirmly};
 ghost use Rattle.takeover.specs.Seen.{IsSeenBy};
 
 use crate::OpenFault;
@@ -48,6 +50,9 @@ fn settle_loaded<S: Shelf>(shelf: &mut S, loaded: &mut Loaded)
     // The gates of those that are left are open.
     ensures opened { (S.shelf shelf.old).honest → (i : ℕ) → i < (S.shelf shelf.old).drives → IsMember loaded.new.drives i
         → is_open (gate_place (slot_in loaded.old.slot)) ((S.shelf shelf.new).disk (drive i)).bytes ≡ true }
+    // On those that are left what was clean is clean still.
+    ensures still_clean { (S.shelf shelf.old).honest → (i : ℕ) → i < (S.shelf shelf.old).drives → IsMember loaded.new.drives i
+        → ((S.shelf shelf.old).disk (drive i)).dirty ≡ [] → ((S.shelf shelf.new).disk (drive i)).dirty ≡ [] }
     // What was clean is clean still, or a call on it failed.
     ensures clean { (S.shelf shelf.old).honest → (d : Device) → ((S.shelf shelf.old).disk d).dirty ≡ []
         → (((S.shelf shelf.new).disk d).dirty ≡ []) ⊎ Rises ((S.shelf shelf.old).disk d).faults ((S.shelf shelf.new).disk d).faults }
@@ -87,6 +92,12 @@ pub fn find_record<S: Shelf>(alloc: Global, shelf: &mut S) -> Result<Loaded, Ope
     ensures found { (S.shelf shelf.old).honest → (missing : Conditions) (arrays : List Array) → Enters (S.shelf shelf.old) missing arrays
         → (later : Conditions) → IsWithin (failed_since (S.shelf shelf.old) (S.shelf shelf.new) missing) later → IsBearable (geometry_of (S.shelf shelf.old)) later
         → IsFoundBy (S.shelf shelf.new) later arrays result }
+    // Whatever fails, where no store was unfinished at the entry: at every moment the devices stand for the arrays once they answer again with what
+    // they hold, and the record was found on drives that were sound.
+    ensures again { (S.shelf shelf.old).honest → (missing : Conditions) (next : BootSlot) (boot : BootRecord) (arrays : List Array) → Enters (S.shelf shelf.old) missing arrays
+        → EntersFirmly (S.shelf shelf.old) missing next boot → LeavesOnly (S.shelf shelf.old) (S.shelf shelf.new) (StandsAgain (S.shelf shelf.old) missing arrays) }
+    ensures firmly { (S.shelf shelf.old).honest → IfOk result (λ x. (missing : Conditions) (next : BootSlot) (boot : BootRecord) (arrays : List Array) → Enters (S.shelf shelf.old) missing arrays
+        → EntersFirmly (S.shelf shelf.old) missing next boot → IsFoundFirmly (S.shelf shelf.new) x missing arrays) }
 {
     let mut loaded = load(alloc, shelf)?;
     settle_loaded(shelf, &mut loaded);

@@ -16,9 +16,11 @@ ghost use Rattle.nvram_log.specs.Members.{IsFewer, IsMember, IsNvram, IsSome, On
 ghost use Rattle.nvram_log.specs.Read.{AllFailed, DroppedCounted, IsReadFrom, OnNothing};
 ghost use Rattle.nvram_log.specs.Settling.{AreAsSeen};
 ghost use Rattle.session_spec.specs.Entering.{StandsStill, failed_since};
-ghost use Rattle.takeover.specs.Found.{IsFoundOn};
-ghost use Rattle.takeover.specs.LogOpen.{IsLogFault, IsLogOpenBy};
+ghost use Rattle.takeover.specs.Found.{AreCounted, IsFoundOn};
+ghost use Rattle.takeover.specs.LogOpen.{IsLogFault, IsLogOpenBy, IsLogOpenOn};
 ghost use Rattle.takeover.specs.Opened.{AreClean};
+ghost use Rattle.array_core.specs.Performing.{StandsOnceBack};
+ghost use Rattle.takeover.specs.Outlasting.{AreSoundLogs};
 ghost use Rattle.takeover.specs.Replay.{IsReplayed, IsReplayFault, log_fault_of};
 ghost use Rattle.takeover.specs.Replayed.{HasReplayed, IsReplayedBy};
 ghost use Rattle.takeover.specs.Tables.{HasTables};
@@ -148,13 +150,20 @@ pub fn open_log<S: Shelf>(
     ensures any_moment { (S.shelf shelf.old).honest → (x : Loaded) (missing : Conditions) (arrays : List Array) (patches : List (List AnyFact)) (base : Array) → x.record.members.nvrams ≡ nvrams → x.record.flushed ≡ flushed
         → IsFoundOn (S.shelf shelf.old) x missing arrays → HasTables (S.shelf shelf.old) x memory patches base
         → LeavesOnly (S.shelf shelf.old) (S.shelf shelf.new) (StandsStill (S.shelf shelf.old) None missing arrays) }
+    // Whatever has failed, where none of those NVRAM devices was missing: they do so once the devices answer again with what they hold.
+    ensures once_back { (S.shelf shelf.old).honest → (x : Loaded) (missing : Conditions) (arrays : List Array) (patches : List (List AnyFact)) (base : Array) → x.record.members.nvrams ≡ nvrams → x.record.flushed ≡ flushed
+        → IsFoundOn (S.shelf shelf.old) x missing arrays → HasTables (S.shelf shelf.old) x memory patches base → AreSoundLogs x.record missing
+        → LeavesOnly (S.shelf shelf.old) (S.shelf shelf.new) (StandsOnceBack (S.shelf shelf.old) missing arrays) }
     // Where nothing was dirty on devices that aren't missing, nothing is, whatever the result.
     ensures clean { (S.shelf shelf.old).honest → (missing : Conditions) → AreClean (S.shelf shelf.old) missing → AreClean (S.shelf shelf.new) (failed_since (S.shelf shelf.old) (S.shelf shelf.new) missing) }
     // Where no more is missing than is borne it is opened.
     ensures opened { (S.shelf shelf.old).honest → (x : Loaded) (missing : Conditions) (arrays : List Array) (patches : List (List AnyFact)) (base : Array) → x.record.members.nvrams ≡ nvrams → x.record.flushed ≡ flushed
-        → IsFoundOn (S.shelf shelf.old) x missing arrays → HasTables (S.shelf shelf.old) x memory patches base
+        → IsFoundOn (S.shelf shelf.old) x missing arrays → HasTables (S.shelf shelf.old) x memory patches base → AreCounted (S.shelf shelf.old) missing
         → IsBearable (geometry_of (S.shelf shelf.old)) (failed_since (S.shelf shelf.old) (S.shelf shelf.new) missing)
         → IsLogOpenBy (S.shelf shelf.new) x (failed_since (S.shelf shelf.old) (S.shelf shelf.new) missing) arrays patches base result }
+    // Once it is, it is so in all borne conditions in which no NVRAM device is sound that isn't left.
+    ensures opened_on { (S.shelf shelf.old).honest → IfOk result (λ o. (x : Loaded) (missing : Conditions) (arrays : List Array) (patches : List (List AnyFact)) (base : Array) → x.record.members.nvrams ≡ nvrams → x.record.flushed ≡ flushed
+        → IsFoundOn (S.shelf shelf.old) x missing arrays → HasTables (S.shelf shelf.old) x memory patches base → IsLogOpenOn (S.shelf shelf.new) x missing arrays patches base o) }
 {
     let mut log = read_synced(alloc, shelf, nvrams, flushed)?;
     let made = replay_log(alloc, &log, memory)?;

@@ -4,6 +4,7 @@ ghost use Rattle.world.specs.Losing.{geometry_of};
 ghost use Rattle.world.specs.Ran.{Ran};
 ghost use Rattle.array_core.specs.Ready.{IsArrayOf};
 ghost use Rattle.takeover.specs.Opened.{IsOpenedBy, OffSegments};
+ghost use Rattle.takeover.specs.Outlasting.{OutlastsFailures};
 
 use crate::{OpenFault, find_array, open_log};
 use array_core::Array;
@@ -22,6 +23,9 @@ pub fn recover<S: Shelf>(alloc: Global, shelf: &mut S) -> Result<Array, OpenFaul
     ensures named { IfOk result (λ a. (a.register.record.members.drives ≡ a.register.drives) × (a.register.record.members.nvrams ≡ a.log.members)) }
     // What was found and done, or why the array isn't opened. For arrays for which the devices stood, they do so at every moment.
     ensures opened { (S.shelf shelf.old).honest → IsOpenedBy (S.shelf shelf.old) (S.shelf shelf.new) result }
+    // Whatever fails, more than is borne too, where no store was unfinished at the entry: at every moment the devices stand for the arrays once they
+    // answer again with what they hold.
+    ensures outlasts { (S.shelf shelf.old).honest → OutlastsFailures (S.shelf shelf.old) (S.shelf shelf.new) }
 {
     let found = find_array(alloc, shelf)?;
     let loaded = found.loaded;

@@ -3,8 +3,9 @@ ghost use Rattle.std.specs.Prelude.{◌≡◌, ◌<◌, ◌≤◌, ◌+◌, ℕ,
 ghost use Rattle.pur_base.specs.declared.device.Device.{Device};
 ghost use Rattle.pur_base.specs.Devices.{Conditions, IsBearable, View, drive};
 ghost use Rattle.pur_base.specs.Plain.{Array};
+ghost use Rattle.boot_codec.specs.declared.record.BootRecord.{BootRecord};
 ghost use Rattle.boot_codec.specs.Record.{set_count};
-ghost use Rattle.boot_codec.specs.Region.{IsRecordOf, shown_by};
+ghost use Rattle.boot_codec.specs.Region.{BootSlot, IsRecordOf, shown_by};
 ghost use Rattle.boot_codec.specs.Spelling.{spelling};
 ghost use Rattle.array_spec.specs.Stored.{PatchesStand};
 ghost use Rattle.memory_spec.specs.Tables.{patches};
@@ -17,9 +18,11 @@ ghost use Rattle.table_loading.specs.Loading.{ShowsDrives, StripesStandOfAll};
 ghost use Rattle.boot_region.specs.Loading.{IsLawfulLoad};
 ghost use Rattle.boot_region.specs.Members.{IsDrive, IsMember};
 ghost use Rattle.boot_region.specs.Slots.{slot_in};
+ghost use Rattle.boot_region.specs.Storing.{StandsAgain};
 ghost use Rattle.session_spec.specs.Entering.{Enters, StandsStill, failed_since};
 ghost use Rattle.takeover.specs.Found.{IsFoundOn, OnGates};
 ghost use Rattle.takeover.specs.Opened.{AreClean};
+ghost use Rattle.takeover.specs.Outlasting.{EntersFirmly, IsFoundFirmly};
 ghost use Rattle.takeover.specs.Seen.{AreTablesSeenBy};
 ghost use Rattle.takeover.specs.Tables.{HasTables, IsMemoryOf};
 
@@ -98,6 +101,15 @@ pub fn find_array<S: Shelf>(alloc: Global, shelf: &mut S) -> Result<FoundArray, 
         → IsBearable (geometry_of (S.shelf shelf.old)) (failed_since (S.shelf shelf.old) (S.shelf shelf.new) missing)
         → IfOk result (λ f. IsFoundOn (S.shelf shelf.new) f.loaded (failed_since (S.shelf shelf.old) (S.shelf shelf.new) missing) arrays
         × (base : Array) × HasTables (S.shelf shelf.new) f.loaded f.memory (patches f.memory.memory.tables) base) }
+    // Whatever fails, where no store was unfinished at the entry: at every moment the devices stand for the arrays once they answer again with what
+    // they hold, and the record was found on drives that were sound.
+    ensures again { (S.shelf shelf.old).honest → (missing : Conditions) (next : BootSlot) (boot : BootRecord) (arrays : List Array) → Enters (S.shelf shelf.old) missing arrays
+        → EntersFirmly (S.shelf shelf.old) missing next boot → LeavesOnly (S.shelf shelf.old) (S.shelf shelf.new) (StandsAgain (S.shelf shelf.old) missing arrays) }
+    ensures firmly { (S.shelf shelf.old).honest → IfOk result (λ f. (missing : Conditions) (next : BootSlot) (boot : BootRecord) (arrays : List Array) → Enters (S.shelf shelf.old) missing arrays
+        → EntersFirmly (S.shelf shelf.old) missing next boot → IsFoundFirmly (S.shelf shelf.new) f.loaded missing arrays) }
+    // In all conditions in which the record was found its tables were.
+    ensures tables { (S.shelf shelf.old).honest → IfOk result (λ f. (missing : Conditions) (arrays : List Array) → IsFoundOn (S.shelf shelf.new) f.loaded missing arrays
+        → (base : Array) × HasTables (S.shelf shelf.new) f.loaded f.memory (patches f.memory.memory.tables) base) }
 {
     let loaded = find_record(alloc, shelf)?;
     let missing = others_than(&loaded.drives);

@@ -17,10 +17,11 @@ use Rattle.takeover.specs.declared.faults.OpenFault.{OpenFault}
 use Rattle.session_spec.specs.Entering.{failed_since}
 use Rattle.takeover.specs.Found.{IsFoundBy, IsFoundOn}
 use Rattle.takeover.specs.Seen.{IsSeenBy}
+use Rattle.takeover.proofs.FirmlyFound.{again_while_reading, again_found, settled_firmly}
 use Rattle.takeover.proofs.FoundLemmas.{while_reading, through_moments, both, below_slots, found_on, lacking}
 use Rattle.takeover.proofs.Opened.{not_loaded}
 use Rattle.takeover.proofs.Running.{drive_of, on_gates}
-use Rattle.takeover.proofs.SeenIn.{clean_read, clean_settled, shown_in, seen_in, seen_not_loaded, seen_too_few}
+use Rattle.takeover.proofs.SeenIn.{clean_read, clean_settled, shown_in, shown_on, seen_in, seen_not_loaded, seen_too_few}
 use Rattle.takeover.proofs.finding.find_record.Goals as goal
 use Rattle.array_core.proofs.Losses.{fewer_borne}
 use Rattle.register.proofs.Rounds.{same_shelf}
@@ -187,3 +188,46 @@ returns-clause-lawful g c =
       room = subst (λ (b : BootRecord). b.generation < 2 ^ 48 - 8) (sym c.settle_loaded.ensures.record.0) is.room;
       named = λ i m. subst (λ (b : BootRecord). IsMember b.members.drives i) (sym c.settle_loaded.ensures.record.0) (is.named i (c.settle_loaded.ensures.fewer i m));
     }
+
+pub returns-in_err-loaded-clause-again : goal.returns-in_err-loaded-clause-again
+returns-in_err-loaded-clause-again g c h missing next boot arrays enters entry =
+    again_while_reading (g.S.Shelf.shelf c.args.shelf.now) missing arrays enters (g.S.Shelf.shelf c.load.new.shelf) (c.load.ensures.ran.on.writes h)
+
+pub returns-then-count_set-drives-clause-again : goal.returns-then-count_set-drives-clause-again
+returns-then-count_set-drives-clause-again g c h missing next boot arrays enters entry =
+    let a = g.S.Shelf.shelf c.args.shelf.now in
+    let b = g.S.Shelf.shelf c.load.new.shelf in
+    let n = g.S.Shelf.shelf c.settle_loaded.new.shelf in
+    let x = c.in_ok-loaded.loaded in
+    let by : IsLoadBy a b (Ok x) = subst (λ r. IsLoadOf a b r) c.in_ok-loaded.was (c.load.ensures.loads h) in
+    let may : MayBeSettled b x = subst (λ (r : Result Loaded LoadFault). IfOk r (λ y. MayBeSettled b y)) c.in_ok-loaded.was (c.load.ensures.found h) in
+    again_found a b missing arrays x enters c.load.ensures.ran.on.continues (g.met.S.Shelf.is_shelf c.args.shelf.now) (g.met.S.Shelf.is_shelf c.load.new.shelf) h (c.load.ensures.same h) by may next boot entry
+    n (c.load.ensures.ran.on.writes h) (c.settle_loaded.ensures.ran.on.writes (c.load.ensures.ran.on.continues.honest h))
+
+pub returns-clause-again : goal.returns-clause-again
+returns-clause-again g c h missing next boot arrays enters entry =
+    let a = g.S.Shelf.shelf c.args.shelf.now in
+    let b = g.S.Shelf.shelf c.load.new.shelf in
+    let n = g.S.Shelf.shelf c.settle_loaded.new.shelf in
+    let x = c.in_ok-loaded.loaded in
+    let by : IsLoadBy a b (Ok x) = subst (λ r. IsLoadOf a b r) c.in_ok-loaded.was (c.load.ensures.loads h) in
+    let may : MayBeSettled b x = subst (λ (r : Result Loaded LoadFault). IfOk r (λ y. MayBeSettled b y)) c.in_ok-loaded.was (c.load.ensures.found h) in
+    again_found a b missing arrays x enters c.load.ensures.ran.on.continues (g.met.S.Shelf.is_shelf c.args.shelf.now) (g.met.S.Shelf.is_shelf c.load.new.shelf) h (c.load.ensures.same h) by may next boot entry
+    n (c.load.ensures.ran.on.writes h) (c.settle_loaded.ensures.ran.on.writes (c.load.ensures.ran.on.continues.honest h))
+
+pub returns-clause-firmly : goal.returns-clause-firmly
+returns-clause-firmly g c h missing next boot arrays enters entry =
+    let a = g.S.Shelf.shelf c.args.shelf.now in
+    let b = g.S.Shelf.shelf c.load.new.shelf in
+    let n = g.S.Shelf.shelf c.settle_loaded.new.shelf in
+    let x = c.in_ok-loaded.loaded in
+    let on = c.load.ensures.ran.on.continues in
+    let h_b = on.honest h in
+    let by : IsLoadBy a b (Ok x) = subst (λ r. IsLoadOf a b r) c.in_ok-loaded.was (c.load.ensures.loads h) in
+    let may : MayBeSettled b x = subst (λ (r : Result Loaded LoadFault). IfOk r (λ y. MayBeSettled b y)) c.in_ok-loaded.was (c.load.ensures.found h) in
+    let fewer : (i : ℕ) → IsMember c.settle_loaded.new.loaded.drives i → IsMember x.drives i = c.settle_loaded.ensures.fewer in
+    let shows = shown_on a b n x on c.settle_loaded.ensures.ran.on.continues (c.load.ensures.same h) by (c.load.ensures.ran.on.writes h) (c.settle_loaded.ensures.ran.on.writes h_b)
+    c.settle_loaded.new.loaded.drives c.settle_loaded.ensures.dropped (c.settle_loaded.ensures.opened h_b) fewer in
+    settled_firmly a b missing arrays x enters on (g.met.S.Shelf.is_shelf c.args.shelf.now) (g.met.S.Shelf.is_shelf c.load.new.shelf) h (c.load.ensures.same h) by may next boot entry
+    n c.settle_loaded.new.loaded.drives c.settle_loaded.ensures.ran.on.continues (g.met.S.Shelf.is_shelf c.settle_loaded.new.shelf) fewer (c.settle_loaded.ensures.ran.on.writes h_b) shows (c.settle_loaded.ensures.still_clean h_b)
+    c.settle_loaded.new.loaded.record c.settle_loaded.new.loaded.slot c.settle_loaded.ensures.record.0 c.settle_loaded.ensures.record.1

@@ -1,13 +1,15 @@
-use Rattle.std.proofs.Common.{◌≡◌, rules, List, Bool, Err, length, sym, subst}
+use Rattle.std.proofs.Common.{◌≡◌, ◌∙◌, rules, List, Bool, Err, length, sym, subst}
 use Rattle.std.proofs.lemmas.Result.{err_from_is_err_and}
 use Rattle.boot_region.proofs.LoadingLemmas.{if_err}
-use Rattle.pur_base.specs.Devices.{drive, nvram}
+use Rattle.pur_base.specs.Devices.{Geometry, IsBearable, drive, nvram}
+use Rattle.world.specs.Losing.{geometry_of}
+use Rattle.register.proofs.Rounds.{same_shelf}
 use Rattle.world.proofs.Ran.{ran_then, ran_more}
 use Rattle.nvram_log.specs.Read.{AllFailed}
 use Rattle.takeover.specs.declared.log.LogFault.{LogFault}
 use Rattle.session_spec.specs.Entering.{failed_since}
 use Rattle.takeover.specs.LogOpen.{IsLogFault, IsLogOpenBy}
-use Rattle.takeover.proofs.LogOpened.{while_read, not_read, not_replayed, was_read, while_opening, not_lost, opened, agree, bears_mid, nothing_on, fewer_on, read_fault_is, replay_fault_is, both_lost}
+use Rattle.takeover.proofs.LogOpened.{while_read, back_while_read, back_while_opening, not_read, not_replayed, was_read, while_opening, not_lost, opened, opened_on, agree, agree_later, bears_mid, nothing_on, fewer_on, read_fault_is, replay_fault_is, both_lost}
 use Rattle.takeover.specs.Replayed.{IsReplayedBy}
 use Rattle.takeover.proofs.LogReplayed as showed
 use Rattle.takeover.proofs.Running.{nvram_of}
@@ -18,7 +20,7 @@ returns-in_err-log-clause-any_moment g c h x missing arrays ps base same_nvrams 
     while_read (g.S.Shelf.shelf c.args.shelf.now) (g.S.Shelf.shelf c.read_synced.new.shelf) x missing arrays (c.read_synced.ensures.ran.on.writes h) found
 
 pub returns-in_err-log-clause-opened : goal.returns-in_err-log-clause-opened
-returns-in_err-log-clause-opened g c h x missing arrays ps base same_nvrams same_flushed found has borne =
+returns-in_err-log-clause-opened g c h x missing arrays ps base same_nvrams same_flushed found has low borne =
     let a = g.S.Shelf.shelf c.args.shelf.now in
     let m = g.S.Shelf.shelf c.read_synced.new.shelf in
     let on = c.read_synced.ensures.ran.on.continues in
@@ -34,7 +36,7 @@ returns-in_err-made-clause-any_moment g c h x missing arrays ps base same_nvrams
     while_read (g.S.Shelf.shelf c.args.shelf.now) (g.S.Shelf.shelf c.read_synced.new.shelf) x missing arrays (c.read_synced.ensures.ran.on.writes h) found
 
 pub returns-in_err-made-clause-opened : goal.returns-in_err-made-clause-opened
-returns-in_err-made-clause-opened g c h x missing arrays ps base same_nvrams same_flushed found has borne =
+returns-in_err-made-clause-opened g c h x missing arrays ps base same_nvrams same_flushed found has low borne =
     let a = g.S.Shelf.shelf c.args.shelf.now in
     let m = g.S.Shelf.shelf c.read_synced.new.shelf in
     let p = err_from_is_err_and c.from_residual-in_err-made.result c.from_residual-in_err-made.ensures.1 in
@@ -56,7 +58,7 @@ returns-in_err-settle-clause-any_moment g c h x missing arrays ps base same_nvra
     while_opening a m n x missing arrays ps base log made.count r c.settle.ensures.ran.on.continues (c.settle.ensures.ran.on.writes (on.honest h)) (c.settle.ensures.any_moment (on.honest h))
 
 pub returns-in_err-settle-clause-opened : goal.returns-in_err-settle-clause-opened
-returns-in_err-settle-clause-opened g c h x missing arrays ps base same_nvrams same_flushed found has borne =
+returns-in_err-settle-clause-opened g c h x missing arrays ps base same_nvrams same_flushed found has low borne =
     let a = g.S.Shelf.shelf c.args.shelf.now in
     let m = g.S.Shelf.shelf c.read_synced.new.shelf in
     let n = g.S.Shelf.shelf c.settle.new.shelf in
@@ -83,7 +85,7 @@ returns-clause-any_moment g c h x missing arrays ps base same_nvrams same_flushe
     while_opening a m n x missing arrays ps base log made.count r c.settle.ensures.ran.on.continues (c.settle.ensures.ran.on.writes (on.honest h)) (c.settle.ensures.any_moment (on.honest h))
 
 pub returns-clause-opened : goal.returns-clause-opened
-returns-clause-opened g c h x missing arrays ps base same_nvrams same_flushed found has borne =
+returns-clause-opened g c h x missing arrays ps base same_nvrams same_flushed found has low borne =
     let a = g.S.Shelf.shelf c.args.shelf.now in
     let m = g.S.Shelf.shelf c.read_synced.new.shelf in
     let n = g.S.Shelf.shelf c.settle.new.shelf in
@@ -98,7 +100,7 @@ returns-clause-opened g c h x missing arrays ps base same_nvrams same_flushed fo
     let is_new = g.met.S.Shelf.is_shelf c.settle.new.shelf in
     let bears = bears_mid a m n x missing arrays ps base log made.count r c.settle.ensures.ran.on.continues writes moments is_new (λ i. c.settle.ensures.ran.on.others (drive i) (λ none. none)) c.settle.new.self.members c.settle.ensures.fewer c.settle.ensures.counted borne in
     opened a m n x missing arrays ps base log made.count r c.settle.ensures.ran.on.continues writes moments is_new
-    (λ i. c.settle.ensures.ran.on.others (drive i) (λ none. none)) c.settle.new.self.members c.settle.ensures.fewer c.settle.ensures.counted borne (record { log = c.settle.new.self; memory = made.memory }) (λ i. c.settle.new.self.members) c.in_ok-settle.ensures.ok.1 c.settle.ensures.flushed
+    (λ i. c.settle.ensures.ran.on.others (drive i) (λ none. none)) c.settle.new.self.members c.settle.ensures.fewer c.settle.ensures.counted borne low (record { log = c.settle.new.self; memory = made.memory }) (λ i. c.settle.new.self.members) c.in_ok-settle.ensures.ok.1 c.settle.ensures.flushed
     (c.in_ok-settle.ensures.keeps r.read.commands r.read.keeps)
     (c.in_ok-settle.ensures.holds (on.honest h) r.read.commands r.read.keeps r.seen (agree a m n x missing arrays ps base log made.count r bears))
 
@@ -212,3 +214,59 @@ returns-clause-done g c =
     let read = c.in_ok-log.ensures.log in
     showed.has_replayed c.args.memory made.memory c.in_ok-log.log made.count read.commands (record { log = c.settle.new.self; memory = made.memory }) (c.in_ok-made.ensures.ok read.commands read.keeps) (λ i. made.memory) c.in_ok-made.ensures.layered
     (c.in_ok-settle.ensures.keeps read.commands read.keeps) c.in_ok-settle.ensures.ok.0
+
+pub returns-in_err-log-clause-once_back : goal.returns-in_err-log-clause-once_back
+returns-in_err-log-clause-once_back g c h x missing arrays ps base same_nvrams same_flushed found has logs =
+    back_while_read (g.S.Shelf.shelf c.args.shelf.now) (g.S.Shelf.shelf c.read_synced.new.shelf) x missing arrays (c.read_synced.ensures.ran.on.writes h) found
+
+pub returns-in_err-made-clause-once_back : goal.returns-in_err-made-clause-once_back
+returns-in_err-made-clause-once_back g c h x missing arrays ps base same_nvrams same_flushed found has logs =
+    back_while_read (g.S.Shelf.shelf c.args.shelf.now) (g.S.Shelf.shelf c.read_synced.new.shelf) x missing arrays (c.read_synced.ensures.ran.on.writes h) found
+
+pub returns-in_err-settle-clause-once_back : goal.returns-in_err-settle-clause-once_back
+returns-in_err-settle-clause-once_back g c h x missing arrays ps base same_nvrams same_flushed found has logs =
+    let a = g.S.Shelf.shelf c.args.shelf.now in
+    let m = g.S.Shelf.shelf c.read_synced.new.shelf in
+    let n = g.S.Shelf.shelf c.settle.new.shelf in
+    let log = c.in_ok-log.log in
+    let made = c.in_ok-made.made in
+    let on = c.read_synced.ensures.ran.on.continues in
+    let r = was_read a m x missing arrays ps base c.args.nvrams c.args.flushed log made.count c.args.memory made.memory (g.met.S.Shelf.is_shelf c.args.shelf.now) (g.met.S.Shelf.is_shelf c.read_synced.new.shelf) h on (c.read_synced.ensures.ran.on.writes h)
+    (λ i. c.read_synced.ensures.ran.on.others (drive i) (λ none. none)) same_nvrams same_flushed found has c.in_ok-log.ensures.members.0 c.in_ok-log.ensures.counted (c.in_ok-log.ensures.clean h) c.in_ok-log.ensures.flushed c.in_ok-log.ensures.log (c.in_ok-log.ensures.seen h)
+    c.in_ok-made.ensures.within c.in_ok-made.ensures.ok in
+    back_while_opening a m n x missing arrays ps base log made.count r c.settle.ensures.ran.on.continues (c.settle.ensures.ran.on.writes (on.honest h)) (c.settle.ensures.any_moment (on.honest h)) logs c.in_ok-log.ensures.members.1
+
+pub returns-clause-once_back : goal.returns-clause-once_back
+returns-clause-once_back g c h x missing arrays ps base same_nvrams same_flushed found has logs =
+    let a = g.S.Shelf.shelf c.args.shelf.now in
+    let m = g.S.Shelf.shelf c.read_synced.new.shelf in
+    let n = g.S.Shelf.shelf c.settle.new.shelf in
+    let log = c.in_ok-log.log in
+    let made = c.in_ok-made.made in
+    let on = c.read_synced.ensures.ran.on.continues in
+    let r = was_read a m x missing arrays ps base c.args.nvrams c.args.flushed log made.count c.args.memory made.memory (g.met.S.Shelf.is_shelf c.args.shelf.now) (g.met.S.Shelf.is_shelf c.read_synced.new.shelf) h on (c.read_synced.ensures.ran.on.writes h)
+    (λ i. c.read_synced.ensures.ran.on.others (drive i) (λ none. none)) same_nvrams same_flushed found has c.in_ok-log.ensures.members.0 c.in_ok-log.ensures.counted (c.in_ok-log.ensures.clean h) c.in_ok-log.ensures.flushed c.in_ok-log.ensures.log (c.in_ok-log.ensures.seen h)
+    c.in_ok-made.ensures.within c.in_ok-made.ensures.ok in
+    back_while_opening a m n x missing arrays ps base log made.count r c.settle.ensures.ran.on.continues (c.settle.ensures.ran.on.writes (on.honest h)) (c.settle.ensures.any_moment (on.honest h)) logs c.in_ok-log.ensures.members.1
+
+pub returns-clause-opened_on : goal.returns-clause-opened_on
+returns-clause-opened_on g c h x missing arrays ps base same_nvrams same_flushed found has later left borne =
+    let a = g.S.Shelf.shelf c.args.shelf.now in
+    let m = g.S.Shelf.shelf c.read_synced.new.shelf in
+    let n = g.S.Shelf.shelf c.settle.new.shelf in
+    let log = c.in_ok-log.log in
+    let made = c.in_ok-made.made in
+    let on = c.read_synced.ensures.ran.on.continues in
+    let r = was_read a m x missing arrays ps base c.args.nvrams c.args.flushed log made.count c.args.memory made.memory (g.met.S.Shelf.is_shelf c.args.shelf.now) (g.met.S.Shelf.is_shelf c.read_synced.new.shelf) h on (c.read_synced.ensures.ran.on.writes h)
+    (λ i. c.read_synced.ensures.ran.on.others (drive i) (λ none. none)) same_nvrams same_flushed found has c.in_ok-log.ensures.members.0 c.in_ok-log.ensures.counted (c.in_ok-log.ensures.clean h) c.in_ok-log.ensures.flushed c.in_ok-log.ensures.log (c.in_ok-log.ensures.seen h)
+    c.in_ok-made.ensures.within c.in_ok-made.ensures.ok in
+    let writes = c.settle.ensures.ran.on.writes (on.honest h) in
+    let moments = c.settle.ensures.any_moment (on.honest h) in
+    let is_new = g.met.S.Shelf.is_shelf c.settle.new.shelf in
+    let next = c.settle.ensures.ran.on.continues in
+    let borne_a : IsBearable (geometry_of a) later = subst (λ (k : Geometry). IsBearable k later) (sym (same_shelf on ∙ same_shelf next)) borne in
+    let agree_then = agree_later a m n x missing arrays ps base log made.count r next writes moments is_new (λ i. c.settle.ensures.ran.on.others (drive i) (λ none. none)) c.settle.new.self.members c.settle.ensures.fewer later left borne_a in
+    opened_on a m n x missing arrays ps base log made.count r next writes moments is_new (λ i. c.settle.ensures.ran.on.others (drive i) (λ none. none)) c.settle.new.self.members c.settle.ensures.fewer later left borne_a
+    (record { log = c.settle.new.self; memory = made.memory }) (λ i. c.settle.new.self.members) c.in_ok-settle.ensures.ok.1 c.settle.ensures.flushed
+    (c.in_ok-settle.ensures.keeps r.read.commands r.read.keeps)
+    (c.in_ok-settle.ensures.holds (on.honest h) r.read.commands r.read.keeps r.seen agree_then)

@@ -1,4 +1,4 @@
-use Rattle.std.proofs.Common.{◌≡◌, ◌⊎◌, ◌<◌, ◌≤◌, ◌+◌, ◌^◌, ℕ, List, refl, sym, subst, ap, ◌∙◌, Bool, Result, Err}
+use Rattle.std.proofs.Common.{◌≡◌, ◌⊎◌, ◌<◌, ◌≤◌, ◌+◌, ◌-◌, ◌^◌, ℕ, List, refl, sym, subst, ap, ◌∙◌, Bool, Result, Err}
 use Rattle.std.specs.Prelude.{IfOk, IfErr, OnOk, None, Some}
 use Rattle.std.proofs.lemmas.Result.{err_from_is_err_and}
 use Rattle.pur_base.specs.declared.facts.AnyFact.{AnyFact}
@@ -8,23 +8,25 @@ use Rattle.pur_base.specs.Devices.{Geometry, Conditions, IsBearable, drive, nvra
 use Rattle.pur_base.specs.Plain.{Array}
 use Rattle.boot_codec.specs.declared.record.BootRecord.{BootRecord}
 use Rattle.boot_codec.specs.Record.{set_count}
-use Rattle.boot_codec.specs.Region.{IsRecordOf, shown_by}
+use Rattle.boot_codec.specs.Region.{BootSlot, IsRecordOf, shown_by}
 use Rattle.boot_codec.specs.Spelling.{spelling}
 use Rattle.memory_spec.specs.Memory.{ReadsAs}
 use Rattle.memory_spec.specs.Tables.{patches}
 use Rattle.nvram_log.specs.Members.{IsFewer, IsSome}
-use Rattle.world.specs.Losing.{geometry_of}
+use Rattle.world.specs.Losing.{geometry_of, has_risen}
 use Rattle.world.specs.Shelf.{Disk, LeavesOnly}
-use Rattle.world.proofs.Moments.{continues_trans}
+use Rattle.world.proofs.Moments.{continues_trans, then_run, weaker}
 use Rattle.world.proofs.Ran.{ran_then, ran_more, runs_moments}
+use Rattle.boot_region.specs.declared.loading.Loaded.{Loaded}
 use Rattle.boot_region.specs.Loading.{IsLawfulLoad}
 use Rattle.boot_region.specs.Members.{IsMember}
 use Rattle.boot_region.specs.Slots.{slot_in}
+use Rattle.boot_region.specs.Storing.{StandsAgain}
 use Rattle.register.specs.declared.state.Register.{Register}
 use Rattle.register.specs.declared.next.StoreFault.{StoreFault}
 use Rattle.register.specs.Faults.{IsFaultOf}
 use Rattle.register.specs.Registers.{IsLaterRecord, IsRegisterOf, drives_of}
-use Rattle.register.specs.Standing.{GivesOldOrNext, IsOpen, MayStore, StandsBack, StandsInLog, StillGiven}
+use Rattle.register.specs.Standing.{Content, GivesOldOrNext, IsFirm, IsOpen, MayStore, StandsBack, StandsInLog, StillGiven}
 use Rattle.register.proofs.Moments.{stands_at, gives_at, back_at}
 use Rattle.session_spec.specs.Entering.{Enters, StandsStill, failed_since}
 use Rattle.takeover.specs.declared.faults.OpenFault.{OpenFault}
@@ -34,22 +36,26 @@ use Rattle.takeover.specs.declared.log.LogFault.{LogFault}
 use Rattle.takeover.specs.declared.tables.FoundArray.{FoundArray}
 use Rattle.takeover.specs.Faults.{fault_of_log, fault_of_store}
 use Rattle.takeover.specs.Found.{IsFoundOn}
-use Rattle.takeover.specs.LogOpen.{IsLogFault, IsLogOpen, IsLogOpenBy}
+use Rattle.takeover.specs.LogOpen.{IsLogFault, IsLogOpen, IsLogOpenBy, IsLogOpenOn}
 use Rattle.takeover.specs.Opened.{IsHeldBy, IsOpenedBy, IsRecovered, IsShut}
+use Rattle.array_core.specs.Performing.{StandsOnceBack}
+use Rattle.takeover.specs.Outlasting.{AreSoundLogs, EntersFirmly, IsFoundFirmly}
 use Rattle.takeover.specs.Replayed.{HasReplayed, IsReplayedBy, IsReplayedFrom}
 use Rattle.takeover.specs.Seen.{AreTablesSeen, AreTablesSeenBy}
 use Rattle.takeover.specs.Tables.{HasTables, IsMemoryOf}
 use Rattle.takeover.proofs.ArrayOf.{array_of_shelf, array_with, patches_are}
 use Rattle.takeover.proofs.BaseHeld as base_held
 use Rattle.takeover.proofs.Chains.{kept_one}
+use Rattle.takeover.proofs.Counts.{goes_on}
 use Rattle.takeover.proofs.Failing.{since_later}
 use Rattle.takeover.proofs.Moments.{log_opened, recovered}
 use Rattle.takeover.proofs.Opening as opening
+use Rattle.takeover.proofs.Outlasted as lasting
 use Rattle.takeover.proofs.RecoveredLemmas.{content, in_log}
 use Rattle.takeover.proofs.Running.{gates_off, log_off, nvrams_still, slots_off}
 use Rattle.takeover.proofs.Stops.{unstored}
 use Rattle.takeover.proofs.recovering.recover.Goals as goal
-use Rattle.array_core.proofs.Losses.{fewer_borne}
+use Rattle.array_core.proofs.Losses.{fewer_borne, sound_since}
 use Rattle.register.proofs.Rounds.{same_shelf}
 
 pub returns-in_err-found-clause-ran : goal.returns-in_err-found-clause-ran
@@ -173,7 +179,7 @@ returns-in_err-store-clause-opened g c h =
     → (base : Array) × HasTables b x f.memory ps base × IsLogOpen n x (failed_since a n missing) arrays ps base o =
     λ missing arrays enters bears.
     let there = log_opened a b n missing arrays x f.memory ps on after (found_then missing arrays enters) c.open_log.result
-    (λ base is has bears_then. c.open_log.ensures.opened h_b x (failed_since a b missing) arrays ps base refl refl is has bears_then) bears in
+    (λ base is has bears_then. c.open_log.ensures.opened h_b x (failed_since a b missing) arrays ps base refl refl is has (λ d sound. goes_on (a.disk d).faults (b.disk d).faults (sound_since (has_risen (a.disk d).faults (b.disk d).faults) (missing d) sound).1) bears_then) bears in
     (there.0, there.1, subst (λ (r : Result OpenedLog LogFault). IsLogOpenBy n x (failed_since a n missing) arrays ps there.0 r) c.in_ok-opened.was there.2) in
     let each : (missing : Conditions) (arrays : List Array) → Enters a missing arrays → LeavesOnly a s (StandsStill a (Some (opening.found a b x on seen.seen lawful (nvrams_still c.find_array.ensures.ran.on) n after s f.memory o was now last is_a is_b is_n h replayed is_of made.0 made.1 c.store.ensures.dropped c.store.ensures.later c.store.ensures.few shown)) missing arrays) =
     λ missing arrays enters.
@@ -236,7 +242,7 @@ returns-clause-opened g c h =
     → (base : Array) × HasTables b x f.memory ps base × IsLogOpen n x (failed_since a n missing) arrays ps base o =
     λ missing arrays enters bears.
     let there = log_opened a b n missing arrays x f.memory ps on after (found_then missing arrays enters) c.open_log.result
-    (λ base is has bears_then. c.open_log.ensures.opened h_b x (failed_since a b missing) arrays ps base refl refl is has bears_then) bears in
+    (λ base is has bears_then. c.open_log.ensures.opened h_b x (failed_since a b missing) arrays ps base refl refl is has (λ d sound. goes_on (a.disk d).faults (b.disk d).faults (sound_since (has_risen (a.disk d).faults (b.disk d).faults) (missing d) sound).1) bears_then) bears in
     (there.0, there.1, subst (λ (r : Result OpenedLog LogFault). IsLogOpenBy n x (failed_since a n missing) arrays ps there.0 r) c.in_ok-opened.was there.2) in
     let each : (missing : Conditions) (arrays : List Array) → Enters a missing arrays → LeavesOnly a s (StandsStill a (Some (opening.found a b x on seen.seen lawful (nvrams_still c.find_array.ensures.ran.on) n after s f.memory o was now last is_a is_b is_n h replayed is_of made.0 made.1 c.store.ensures.dropped c.store.ensures.later c.store.ensures.few shown)) missing arrays) =
     λ missing arrays enters.
@@ -314,3 +320,132 @@ returns-clause-is_of g c =
     let left : IsFewer x.record.members.nvrams o.log.members × IsSome o.log.members =
     subst (λ (r : Result OpenedLog LogFault). IfOk r (λ y. IsFewer x.record.members.nvrams y.log.members × IsSome y.log.members)) c.in_ok-opened.was c.open_log.ensures.members in
     array_of_shelf (geometry_of s) x.record f.memory o memory done now c.store.ensures.is_of (subst (λ (r : BootRecord). IsLaterRecord r now.record) made.0 c.store.ensures.later) flushed left.1
+
+pub returns-in_err-found-clause-outlasts : goal.returns-in_err-found-clause-outlasts
+returns-in_err-found-clause-outlasts g c h missing next boot arrays enters entry =
+    weaker (λ stop again. lasting.back_again (g.S.Shelf.shelf c.args.shelf.now) missing arrays stop again) (c.find_array.ensures.again h missing next boot arrays enters entry)
+
+pub returns-in_err-register-clause-outlasts : goal.returns-in_err-register-clause-outlasts
+returns-in_err-register-clause-outlasts g c h missing next boot arrays enters entry =
+    weaker (λ stop again. lasting.back_again (g.S.Shelf.shelf c.args.shelf.now) missing arrays stop again) (c.find_array.ensures.again h missing next boot arrays enters entry)
+
+pub returns-in_err-opened-clause-outlasts : goal.returns-in_err-opened-clause-outlasts
+returns-in_err-opened-clause-outlasts g c h missing next boot arrays enters entry =
+    let a = g.S.Shelf.shelf c.args.shelf.now in
+    let b = g.S.Shelf.shelf c.find_array.new.shelf in
+    let n = g.S.Shelf.shelf c.open_log.new.shelf in
+    let f = c.in_ok-found.found in
+    let x = f.loaded in
+    let ps : List (List AnyFact) = patches f.memory.memory.tables in
+    let on = c.find_array.ensures.ran.on.continues in
+    let h_b = on.honest h in
+    let firm : IsFoundFirmly b x missing arrays =
+    subst (λ (r : Result FoundArray OpenFault). IfOk r (λ y. (m : Conditions) (t : BootSlot) (k : BootRecord) (l : List Array) → Enters a m l → EntersFirmly a m t k → IsFoundFirmly b y.loaded m l))
+    c.in_ok-found.was (c.find_array.ensures.firmly h) missing next boot arrays enters entry in
+    let enough : b.drives ≤ set_count x.drives + 2 = subst (λ (r : Result FoundArray OpenFault). IfOk r (λ y. b.drives ≤ set_count y.loaded.drives + 2)) c.in_ok-found.was c.find_array.ensures.enough in
+    let tables : (during : Conditions) → IsFoundOn b x during arrays → (base : Array) × HasTables b x f.memory ps base =
+    λ during is. subst (λ (r : Result FoundArray OpenFault). IfOk r (λ y. (m : Conditions) (l : List Array) → IsFoundOn b y.loaded m l → (base : Array) × HasTables b y.loaded y.memory (patches y.memory.memory.tables) base))
+    c.in_ok-found.was (c.find_array.ensures.tables h) during arrays is in
+    let opens : (during : Conditions) → IsFoundOn b x during arrays → AreSoundLogs x.record during → LeavesOnly b n (StandsOnceBack b during arrays) =
+    λ during is logs. let has = tables during is in c.open_log.ensures.once_back h_b x during arrays ps has.0 refl refl is has.1 logs in
+    let first = weaker (λ stop again. lasting.back_again a missing arrays stop again) (c.find_array.ensures.again h missing next boot arrays enters entry) in
+    let opening = lasting.while_opening a b missing arrays x on (g.met.S.Shelf.is_shelf c.find_array.new.shelf) h_b enters.bearable enough firm n opens in
+    then_run on first opening
+
+pub returns-in_err-store-clause-outlasts : goal.returns-in_err-store-clause-outlasts
+returns-in_err-store-clause-outlasts g c h missing next boot arrays enters entry =
+    let a = g.S.Shelf.shelf c.args.shelf.now in
+    let b = g.S.Shelf.shelf c.find_array.new.shelf in
+    let n = g.S.Shelf.shelf c.open_log.new.shelf in
+    let f = c.in_ok-found.found in
+    let x = f.loaded in
+    let ps : List (List AnyFact) = patches f.memory.memory.tables in
+    let on = c.find_array.ensures.ran.on.continues in
+    let h_b = on.honest h in
+    let firm : IsFoundFirmly b x missing arrays =
+    subst (λ (r : Result FoundArray OpenFault). IfOk r (λ y. (m : Conditions) (t : BootSlot) (k : BootRecord) (l : List Array) → Enters a m l → EntersFirmly a m t k → IsFoundFirmly b y.loaded m l))
+    c.in_ok-found.was (c.find_array.ensures.firmly h) missing next boot arrays enters entry in
+    let enough : b.drives ≤ set_count x.drives + 2 = subst (λ (r : Result FoundArray OpenFault). IfOk r (λ y. b.drives ≤ set_count y.loaded.drives + 2)) c.in_ok-found.was c.find_array.ensures.enough in
+    let tables : (during : Conditions) → IsFoundOn b x during arrays → (base : Array) × HasTables b x f.memory ps base =
+    λ during is. subst (λ (r : Result FoundArray OpenFault). IfOk r (λ y. (m : Conditions) (l : List Array) → IsFoundOn b y.loaded m l → (base : Array) × HasTables b y.loaded y.memory (patches y.memory.memory.tables) base))
+    c.in_ok-found.was (c.find_array.ensures.tables h) during arrays is in
+    let opens : (during : Conditions) → IsFoundOn b x during arrays → AreSoundLogs x.record during → LeavesOnly b n (StandsOnceBack b during arrays) =
+    λ during is logs. let has = tables during is in c.open_log.ensures.once_back h_b x during arrays ps has.0 refl refl is has.1 logs in
+    let first = weaker (λ stop again. lasting.back_again a missing arrays stop again) (c.find_array.ensures.again h missing next boot arrays enters entry) in
+    let opening = lasting.while_opening a b missing arrays x on (g.met.S.Shelf.is_shelf c.find_array.new.shelf) h_b enters.bearable enough firm n opens in
+    let s = g.S.Shelf.shelf c.store.new.shelf in
+    let o = c.in_ok-opened.opened in
+    let was = c.in_ok-register.register in
+    let now = c.store.new.self in
+    let after = c.open_log.ensures.ran.on.continues in
+    let h_n = after.honest h_b in
+    let lawful : IsLawfulLoad (geometry_of b) x = subst (λ (r : Result FoundArray OpenFault). IfOk r (λ y. IsLawfulLoad (geometry_of b) y.loaded)) c.in_ok-found.was c.find_array.ensures.lawful in
+    let made : (was.record ≡ x.record) × (was.drives ≡ x.drives) = subst (λ (r : Result Register NoMemory). IfOk r (λ y. (y.record ≡ x.record) × (y.drives ≡ x.drives))) c.in_ok-register.was c.new.ensures in
+    let is_of : IsRegisterOf (geometry_of n) was = record {
+      lawful = subst (λ (r : BootRecord). IsRecordOf (geometry_of n) r) (sym made.0) (subst (λ (k : Geometry). IsRecordOf k x.record) (same_shelf after) lawful.lawful);
+      named = λ i m. subst (λ (r : BootRecord). IsMember r.members.drives i) (sym made.0) (lawful.named i (subst (λ (l : List _). IsMember l i) made.1 m));
+    } in
+    let opened : (during : Conditions) → IsFoundOn b x during arrays → (qs : List (List AnyFact)) × (base : Array) × IsLogOpenOn n x during arrays qs base o =
+    λ during is. let has = tables during is in (
+      ps,
+      has.0,
+      (subst (λ (r : Result OpenedLog LogFault). IfOk r (λ y. (z : Loaded) (m : Conditions) (l : List Array) (qs : List (List AnyFact)) (k : Array) → z.record.members.nvrams ≡ x.record.members.nvrams → z.record.flushed ≡ x.record.flushed
+          → IsFoundOn b z m l → HasTables b z f.memory qs k → IsLogOpenOn n z m l qs k y)) c.in_ok-opened.was (c.open_log.ensures.opened_on h_b)) x during arrays ps has.0 refl refl is has.1,
+    ) in
+    let left : IsFewer x.record.members.nvrams o.log.members × IsSome o.log.members =
+    subst (λ (r : Result OpenedLog LogFault). IfOk r (λ y. IsFewer x.record.members.nvrams y.log.members × IsSome y.log.members)) c.in_ok-opened.was c.open_log.ensures.members in
+    let stores : x.record.generation < 2 ^ 48 - 16 → (during : Conditions) (held : Content) → MayStore n was o.log.members during held arrays → IsFirm n was during → LeavesOnly n s (StandsAgain n during arrays) =
+    λ room during held may is_firm. c.store.ensures.outlasts h_n (lasting.room_left x.record was.record now.record made.0 c.store.ensures.few room) during held arrays
+    (subst (λ (l : List Bool). MayStore n was l during held arrays) (sym c.members.ensures) may) is_firm in
+    let storing = lasting.while_storing a b missing arrays x on (g.met.S.Shelf.is_shelf c.find_array.new.shelf) h_b enters.bearable enough firm n s after (g.met.S.Shelf.is_shelf c.open_log.new.shelf) h_n (λ i. c.open_log.ensures.ran.on.others (drive i) (λ none. none))
+    o was opened left.0 left.1 is_of made.0 made.1 stores in
+    then_run on first (then_run after opening storing)
+
+pub returns-clause-outlasts : goal.returns-clause-outlasts
+returns-clause-outlasts g c h missing next boot arrays enters entry =
+    let a = g.S.Shelf.shelf c.args.shelf.now in
+    let b = g.S.Shelf.shelf c.find_array.new.shelf in
+    let n = g.S.Shelf.shelf c.open_log.new.shelf in
+    let f = c.in_ok-found.found in
+    let x = f.loaded in
+    let ps : List (List AnyFact) = patches f.memory.memory.tables in
+    let on = c.find_array.ensures.ran.on.continues in
+    let h_b = on.honest h in
+    let firm : IsFoundFirmly b x missing arrays =
+    subst (λ (r : Result FoundArray OpenFault). IfOk r (λ y. (m : Conditions) (t : BootSlot) (k : BootRecord) (l : List Array) → Enters a m l → EntersFirmly a m t k → IsFoundFirmly b y.loaded m l))
+    c.in_ok-found.was (c.find_array.ensures.firmly h) missing next boot arrays enters entry in
+    let enough : b.drives ≤ set_count x.drives + 2 = subst (λ (r : Result FoundArray OpenFault). IfOk r (λ y. b.drives ≤ set_count y.loaded.drives + 2)) c.in_ok-found.was c.find_array.ensures.enough in
+    let tables : (during : Conditions) → IsFoundOn b x during arrays → (base : Array) × HasTables b x f.memory ps base =
+    λ during is. subst (λ (r : Result FoundArray OpenFault). IfOk r (λ y. (m : Conditions) (l : List Array) → IsFoundOn b y.loaded m l → (base : Array) × HasTables b y.loaded y.memory (patches y.memory.memory.tables) base))
+    c.in_ok-found.was (c.find_array.ensures.tables h) during arrays is in
+    let opens : (during : Conditions) → IsFoundOn b x during arrays → AreSoundLogs x.record during → LeavesOnly b n (StandsOnceBack b during arrays) =
+    λ during is logs. let has = tables during is in c.open_log.ensures.once_back h_b x during arrays ps has.0 refl refl is has.1 logs in
+    let first = weaker (λ stop again. lasting.back_again a missing arrays stop again) (c.find_array.ensures.again h missing next boot arrays enters entry) in
+    let opening = lasting.while_opening a b missing arrays x on (g.met.S.Shelf.is_shelf c.find_array.new.shelf) h_b enters.bearable enough firm n opens in
+    let s = g.S.Shelf.shelf c.store.new.shelf in
+    let o = c.in_ok-opened.opened in
+    let was = c.in_ok-register.register in
+    let now = c.store.new.self in
+    let after = c.open_log.ensures.ran.on.continues in
+    let h_n = after.honest h_b in
+    let lawful : IsLawfulLoad (geometry_of b) x = subst (λ (r : Result FoundArray OpenFault). IfOk r (λ y. IsLawfulLoad (geometry_of b) y.loaded)) c.in_ok-found.was c.find_array.ensures.lawful in
+    let made : (was.record ≡ x.record) × (was.drives ≡ x.drives) = subst (λ (r : Result Register NoMemory). IfOk r (λ y. (y.record ≡ x.record) × (y.drives ≡ x.drives))) c.in_ok-register.was c.new.ensures in
+    let is_of : IsRegisterOf (geometry_of n) was = record {
+      lawful = subst (λ (r : BootRecord). IsRecordOf (geometry_of n) r) (sym made.0) (subst (λ (k : Geometry). IsRecordOf k x.record) (same_shelf after) lawful.lawful);
+      named = λ i m. subst (λ (r : BootRecord). IsMember r.members.drives i) (sym made.0) (lawful.named i (subst (λ (l : List _). IsMember l i) made.1 m));
+    } in
+    let opened : (during : Conditions) → IsFoundOn b x during arrays → (qs : List (List AnyFact)) × (base : Array) × IsLogOpenOn n x during arrays qs base o =
+    λ during is. let has = tables during is in (
+      ps,
+      has.0,
+      (subst (λ (r : Result OpenedLog LogFault). IfOk r (λ y. (z : Loaded) (m : Conditions) (l : List Array) (qs : List (List AnyFact)) (k : Array) → z.record.members.nvrams ≡ x.record.members.nvrams → z.record.flushed ≡ x.record.flushed
+          → IsFoundOn b z m l → HasTables b z f.memory qs k → IsLogOpenOn n z m l qs k y)) c.in_ok-opened.was (c.open_log.ensures.opened_on h_b)) x during arrays ps has.0 refl refl is has.1,
+    ) in
+    let left : IsFewer x.record.members.nvrams o.log.members × IsSome o.log.members =
+    subst (λ (r : Result OpenedLog LogFault). IfOk r (λ y. IsFewer x.record.members.nvrams y.log.members × IsSome y.log.members)) c.in_ok-opened.was c.open_log.ensures.members in
+    let stores : x.record.generation < 2 ^ 48 - 16 → (during : Conditions) (held : Content) → MayStore n was o.log.members during held arrays → IsFirm n was during → LeavesOnly n s (StandsAgain n during arrays) =
+    λ room during held may is_firm. c.store.ensures.outlasts h_n (lasting.room_left x.record was.record now.record made.0 c.store.ensures.few room) during held arrays
+    (subst (λ (l : List Bool). MayStore n was l during held arrays) (sym c.members.ensures) may) is_firm in
+    let storing = lasting.while_storing a b missing arrays x on (g.met.S.Shelf.is_shelf c.find_array.new.shelf) h_b enters.bearable enough firm n s after (g.met.S.Shelf.is_shelf c.open_log.new.shelf) h_n (λ i. c.open_log.ensures.ran.on.others (drive i) (λ none. none))
+    o was opened left.0 left.1 is_of made.0 made.1 stores in
+    then_run on first (then_run after opening storing)

@@ -1,0 +1,59 @@
+-- A stop while the record that was loaded is settled, in conditions in which it was loaded.
+use Rattle.std.proofs.Common.{◌≡◌, ℕ, List, sym, subst}
+use Rattle.pur_base.specs.Plain.{Array}
+use Rattle.pur_base.specs.Devices.{Geometry, Conditions, LeftOut, IsWithin, nvram}
+use Rattle.pur_base.specs.declared.device.Device.{Device}
+use Rattle.pur_base.specs.declared.limits.TheConstants.{SECTOR_BYTES}
+use Rattle.boot_codec.specs.declared.record.BootRecord.{BootRecord}
+use Rattle.boot_codec.specs.Region.{BootSlot, gate_place}
+use Rattle.log_codec.specs.Log.{ShowsIn}
+use Rattle.array_spec.specs.Laws.{IsNamedByNone}
+use Rattle.array_spec.specs.Standing.{Stands, MayBeGiven}
+use Rattle.array_spec.proofs.Standings.{given_with_fewer}
+use Rattle.world.specs.Losing.{geometry_of}
+use Rattle.world.specs.Shelf.{Shelved, Stop, IsShelf, IsSame, Continues, MayStop}
+use Rattle.world.specs.Writes.{LeavesBut}
+use Rattle.boot_region.specs.declared.loading.Loaded.{Loaded}
+use Rattle.boot_region.specs.Members.{OnClosed}
+use Rattle.boot_region.specs.Slots.{slot_in}
+use Rattle.boot_region.specs.Storing.{IsLoaded}
+use Rattle.boot_region.proofs.Began.{began, on_nvram}
+use Rattle.boot_region.proofs.Settled.{stands_while_settling, no_more_given, settling_began, leaves_members}
+use Rattle.session_spec.specs.Entering.{Enters, AreRead}
+use Rattle.takeover.proofs.Loading.{at_time, may_at_time, same_leaves}
+use Rattle.register.proofs.Rounds.{same_shelf}
+
+module _ (old mid : Shelved) (missing now : Conditions) (arrays : List Array) (x : Loaded) (enters : Enters old missing arrays) (on : Continues old mid) (is_mid : IsShelf mid) (h_mid : mid.honest)
+    (same : (d : Device) → IsSame (old.disk d) (mid.disk d)) (more_now : IsWithin missing now) (loaded : IsLoaded mid x.drives now (slot_in x.slot) x.record arrays)
+    (stop : Stop) (left : LeavesBut (OnClosed x.drives mid (gate_place (slot_in x.slot))) mid stop) where
+  abbrev slot : BootSlot
+  slot = slot_in x.slot
+
+  pub stands_at : Stands (geometry_of mid) stop.image now arrays
+  stands_at = stands_while_settling x.drives mid stop slot x.record now arrays is_mid h_mid left loaded
+
+  abbrev pub start : Stop
+  start = began x.drives mid (gate_place slot) SECTOR_BYTES stop
+
+  pub begins : MayStop old (at_time old start.image)
+  begins =
+      let b = settling_began x.drives mid stop slot x.record now arrays is_mid h_mid left loaded in
+      may_at_time old start.image (λ d. same_leaves (old.disk d) (mid.disk d) (start.image d) (same d) (b.device d))
+
+  -- what may be given then might have been given when it began
+  pub given_then : (more : Conditions) → IsWithin now more → (t : BootSlot) (boot : BootRecord) → MayBeGiven (geometry_of mid) stop.image more t boot → MayBeGiven (geometry_of old) start.image missing t boot
+  given_then more within t boot g =
+      let g_now = given_with_fewer {shelf = geometry_of mid} {image = stop.image} {missing = now} {more = more} {slot = t} {boot = boot} within g in
+      let before = no_more_given x.drives mid stop slot x.record now arrays is_mid h_mid left loaded t boot g_now in
+      let g_old = given_with_fewer {shelf = geometry_of mid} {image = start.image} {missing = missing} {more = now} {slot = t} {boot = boot} more_now before in
+      subst (λ (s : Geometry). MayBeGiven s start.image missing t boot) (sym (same_shelf on)) g_old
+
+  pub left_out_at : (more : Conditions) → IsWithin now more → (d : Device) → missing d ≡ LeftOut → IsNamedByNone (geometry_of mid) stop.image more d
+  left_out_at more within d out t boot g = enters.left_out (at_time old start.image) begins d out t boot (given_then more within t boot g)
+
+  same_nvram : (n : ℕ) → start.image (nvram n) ≡ stop.image (nvram n)
+  same_nvram n = on_nvram x.drives mid (gate_place slot) SECTOR_BYTES stop (leaves_members x.drives mid (gate_place slot) stop left) n
+
+  pub read_at : (more : Conditions) → IsWithin now more → AreRead (geometry_of mid) stop.image more
+  read_at more within = λ t boot g n i command named s. enters.read (at_time old start.image) begins t boot (given_then more within t boot g) n i command named
+      (subst (λ (l : List ℕ). ShowsIn l boot.flushed i command) (sym (same_nvram n)) s)
