@@ -10,3 +10,5 @@ mod making;
 mod records;
 #[cfg(test)]
 mod registers;
+#[cfg(test)]
+mod stage;

@@ -1,12 +1,13 @@
-use boot_codec::is_open_gate;
+// The making of an array.
+
+use crate::stage::{
+    DRIVES, HEADER, Missing, fail, forget, is_open, read_sector, small_world, stopped, writes_of,
+};
 use pur_base::{Device, DriveId, NvId, SECTOR_BYTES};
 use shelf_init::{InitFault, init};
 use std::alloc::Global;
-use std::test::Fail;
-use world::{Failed, Shelf, write_synced};
-use world_mem::{Call, Choice, MemWorld, What};
-
-const DRIVES: u8 = 11;
+use world::{Shelf, write_synced};
+use world_mem::MemWorld;
 
 /// Where the sectors of the gates stand, and the first sector of slot B's body.
 const GATE_A: u16 = 0;
@@ -15,25 +16,6 @@ const GATE_B: u16 = 1;
 
 const BODY_B: u16 = 256;
 
-/// Each dirty byte is a one: a torn gate is open.
-#[derive(Drop)]
-struct Ones;
-
-impl Choice for Ones {
-    fn byte(&mut self) -> u8 {
-        1
-    }
-}
-
-/// The header of the record of a new shelf of 11 drives of 64 units. Made by hand from docs/FORMAT.md.
-const HEADER: [u8; 88] = [
-    b'P', b'U', b'R', b'A', b'R', b'R', b'A', b'Y', 0, 0, 0, 1, 0, 11, 0, 64, // 11 slots, 64 units
-    0, 0, 0, 0, 0, 0, 0, 1, 0, 0, 7, 255, 3, 0, 0, 0, // generation 1, all members
-    0, 0, 0, 0, 0, 0, 0, 1, 0, 0, 0, 0, 0, 0, 0, 1, 0, 0, 0, 0, 0, 0, 0, 1, // the next numbers
-    0, 0, 0, 0, 0, 0, 0, 1, 0, 0, 0, 0, 0, 0, 0, 1, //
-    0, 0, 0, 0, 0, 0, 0, 0, 0, 0, 0, 0, 0, 0, 0, 88, // no patches
-];
-
 /// The header, and zeros behind it.
 fn first_sector() -> [u8; SECTOR_BYTES] {
     let mut sector = [0; SECTOR_BYTES];
@@ -41,97 +23,87 @@ fn first_sector() -> [u8; SECTOR_BYTES] {
     sector
 }
 
-fn small_world(alloc: Global) -> Result<MemWorld, Fail> {
-    Ok(MemWorld::new(alloc, DRIVES, 64, Vec::new(alloc))?)
+/// Why no array is made, or `None` where one is.
+fn making_fault(alloc: Global, world: &mut MemWorld) -> Option<InitFault> {
+    init(alloc, world).err()
 }
 
-fn read_sector<S: Shelf>(
-    shelf: &mut S,
-    drive: u8,
-    sector: u16,
-) -> Result<[u8; SECTOR_BYTES], Failed> {
-    let mut bytes = [0; SECTOR_BYTES];
-    if drive >= shelf.drives() || shelf.units() < 64 || sector >= 384 {
-        return Err(Failed);
+/// Whether a drive shows the first record in slot B, and none in slot A.
+fn shows_first(world: &mut MemWorld, drive: u8) -> Result<bool, Missing> {
+    if is_open(world, drive, GATE_A)? || !is_open(world, drive, GATE_B)? {
+        return Ok(false);
     }
-    shelf.read(
-        Device::Drive(DriveId(drive)),
-        u64::from(sector) * SECTOR_BYTES as u64,
-        &mut bytes,
-    )?;
-    Ok(bytes)
+    Ok(read_sector(world, drive, BODY_B)? == first_sector())
 }
 
-fn is_open<S: Shelf>(shelf: &mut S, drive: u8, gate: u16) -> Result<bool, Failed> {
-    let sector = read_sector(shelf, drive, gate)?;
-    Ok(is_open_gate(&sector))
-}
-
-fn writes_of(world: &MemWorld) -> usize {
-    let mut count = 0usize;
-    for call in world.calls() {
-        if let Call::On(_, What::Write(_, _)) = call {
-            count = count.wrapping_add(1);
+/// Whether each drive does.
+fn all_show_first(world: &mut MemWorld) -> Result<bool, Missing> {
+    for drive in 0..DRIVES {
+        if !shows_first(world, drive)? {
+            return Ok(false);
         }
     }
-    count
+    Ok(true)
 }
 
 #[test]
-fn blank_devices_hold_the_first_record_then(rt: HostRuntime) -> Result<(), Fail> {
-    let alloc = rt.alloc();
-    let mut world = small_world(alloc)?;
-    assert_eq!(rt; init(alloc, &mut world), Ok(()));
+fn blank_devices_hold_the_first_record_then(rt: HostRuntime) -> Result<(), Missing> {
+    let mut world = small_world(rt.alloc())?;
+    assert!(rt; making_fault(rt.alloc(), &mut world).is_none());
     // No gate was open: the two NVRAM devices, and a body and a gate on each drive.
-    assert_eq!(rt; writes_of(&world), 24);
-    let mut stopped = world.stopped(alloc, &mut Ones)?;
-    for drive in 0..DRIVES {
-        assert!(rt; !is_open(&mut stopped, drive, GATE_A)?);
-        assert!(rt; is_open(&mut stopped, drive, GATE_B)?);
-        assert_eq!(rt; read_sector(&mut stopped, drive, BODY_B)?, first_sector());
-    }
+    assert!(rt; writes_of(&world) == 24);
+    let mut stopped = stopped(rt.alloc(), &world)?;
+    assert!(rt; all_show_first(&mut stopped)?);
     Ok(())
 }
 
 #[test]
-fn an_array_is_made_once(rt: HostRuntime) -> Result<(), Fail> {
-    let alloc = rt.alloc();
-    let mut world = small_world(alloc)?;
-    assert_eq!(rt; init(alloc, &mut world), Ok(()));
-    world.forget();
-    assert_eq!(rt; init(alloc, &mut world), Err(InitFault::NotBlank));
-    assert_eq!(rt; writes_of(&world), 0);
+fn an_array_is_made_once(rt: HostRuntime) -> Result<(), Missing> {
+    let mut world = small_world(rt.alloc())?;
+    assert!(rt; making_fault(rt.alloc(), &mut world).is_none());
+    forget(&mut world);
+    assert!(rt; making_fault(rt.alloc(), &mut world) == Some(InitFault::NotBlank));
+    assert!(rt; writes_of(&world) == 0);
     Ok(())
 }
 
 #[test]
-fn a_call_that_fails_ends_it(rt: HostRuntime) -> Result<(), Fail> {
-    let alloc = rt.alloc();
-    let mut world = small_world(alloc)?;
-    world.fail(Device::Drive(DriveId(3)), 1)?;
-    assert_eq!(rt; init(alloc, &mut world), Err(InitFault::Device));
-    assert_eq!(rt; writes_of(&world), 0);
+fn a_call_that_fails_ends_it(rt: HostRuntime) -> Result<(), Missing> {
+    let mut world = small_world(rt.alloc())?;
+    fail(&mut world, 3, 1)?;
+    assert!(rt; making_fault(rt.alloc(), &mut world) == Some(InitFault::Device));
+    assert!(rt; writes_of(&world) == 0);
     // Behind the read: the write of the body.
-    world.fail(Device::Drive(DriveId(4)), 2)?;
-    assert_eq!(rt; init(alloc, &mut world), Err(InitFault::Device));
+    fail(&mut world, 4, 2)?;
+    assert!(rt; making_fault(rt.alloc(), &mut world) == Some(InitFault::Device));
     assert!(rt; !is_open(&mut world, 0, GATE_B)?);
     Ok(())
 }
 
-#[test]
-fn gates_that_were_open_are_closed(rt: HostRuntime) -> Result<(), Fail> {
-    let alloc = rt.alloc();
-    let mut world = small_world(alloc)?;
+/// Opens the gate of slot A on drive 2, and one of the log.
+fn open_two(world: &mut MemWorld) -> Result<(), Missing> {
     if world.drives() < DRIVES || world.units() < 64 {
-        return Err(Fail::new("drives"));
+        return Err(Missing);
     }
-    write_synced(&mut world, Device::Drive(DriveId(2)), 0, &[1; SECTOR_BYTES])?;
-    write_synced(&mut world, Device::Nv(NvId(1)), 5, &[1])?;
-    assert!(rt; is_open(&mut world, 2, GATE_A)?);
-    assert_eq!(rt; init(alloc, &mut world), Ok(()));
-    assert!(rt; !is_open(&mut world, 2, GATE_A)?);
+    write_synced(world, Device::Drive(DriveId(2)), 0, &[1; SECTOR_BYTES])?;
+    write_synced(world, Device::Nv(NvId(1)), 5, &[1])?;
+    Ok(())
+}
+
+/// The gate of the log.
+fn gate_of_log(world: &mut MemWorld) -> Result<u8, Missing> {
     let mut gate = [1];
     world.read(Device::Nv(NvId(1)), 5, &mut gate)?;
-    assert_eq!(rt; gate, [0]);
+    Ok(gate[0])
+}
+
+#[test]
+fn gates_that_were_open_are_closed(rt: HostRuntime) -> Result<(), Missing> {
+    let mut world = small_world(rt.alloc())?;
+    open_two(&mut world)?;
+    assert!(rt; is_open(&mut world, 2, GATE_A)?);
+    assert!(rt; making_fault(rt.alloc(), &mut world).is_none());
+    assert!(rt; !is_open(&mut world, 2, GATE_A)?);
+    assert!(rt; gate_of_log(&mut world)? == 0);
     Ok(())
 }

@@ -1,191 +1,184 @@
+// The register, over the boot region and the log.
 ghost use Rattle.std.specs.Prelude.{IfOk};
 ghost use Rattle.world.specs.Losing.{geometry_of};
 ghost use Rattle.boot_codec.specs.Record.{IsBootRecord};
 ghost use Rattle.register.specs.Registers.{IsRegisterOf};
 ghost use Rattle.register.specs.Tables.{with_tables};
 
-use boot_codec::{DRIVE_FLAGS, RECORD_BYTES, is_open_gate, read_record};
-use pur_base::{Device, DriveId, SECTOR_BYTES};
+use crate::stage::{
+    Missing, all_but, body_at, body_of, fail, is_open, pull, read_sector, small_world,
+};
+use boot_codec::{DRIVE_FLAGS, Members, read_record};
 use register::{Register, StoreFault, Tables};
 use std::alloc::Global;
-use std::test::Fail;
-use world::{Failed, Shelf};
+use world::Shelf;
 use world_mem::MemWorld;
 
-/// The header of the record of a new shelf of 11 drives of 64 units. Made by hand from docs/FORMAT.md.
-const HEADER: [u8; 88] = [
-    b'P', b'U', b'R', b'A', b'R', b'R', b'A', b'Y', 0, 0, 0, 1, 0, 11, 0, 64, // 11 slots, 64 units
-    0, 0, 0, 0, 0, 0, 0, 1, 0, 0, 7, 255, 3, 0, 0, 0, // generation 1, all members
-    0, 0, 0, 0, 0, 0, 0, 1, 0, 0, 0, 0, 0, 0, 0, 1, 0, 0, 0, 0, 0, 0, 0, 1, // the next numbers
-    0, 0, 0, 0, 0, 0, 0, 1, 0, 0, 0, 0, 0, 0, 0, 1, //
-    0, 0, 0, 0, 0, 0, 0, 0, 0, 0, 0, 0, 0, 0, 0, 88, // no patches
-];
+/// The first sectors of the bodies of slots A and B.
+const BODY_A: u16 = 128;
 
-fn small_world(alloc: Global) -> Result<MemWorld, Fail> {
-    Ok(MemWorld::new(alloc, 11, 64, Vec::new(alloc))?)
-}
+const BODY_B: u16 = 256;
 
-/// A register that holds the record of a new shelf, on all drives.
-fn register_of<S: Shelf>(alloc: Global, shelf: &S) -> Result<Register, Fail>
+const FIRST: [u8; 8] = [0, 0, 0, 0, 0, 0, 0, 1];
+
+/// A register that holds the record of a new shelf at this generation, on all drives.
+fn register_at<S: Shelf>(
+    alloc: Global,
+    shelf: &S,
+    generation: &[u8; 8],
+) -> Result<Register, Missing>
     ensures { IfOk result (λ r. IsRegisterOf (geometry_of (S.shelf shelf.now)) r) }
 {
-    register_at(alloc, shelf, &[0, 0, 0, 0, 0, 0, 0, 1])
-}
-
-/// The same at this generation.
-fn register_at<S: Shelf>(alloc: Global, shelf: &S, generation: &[u8; 8]) -> Result<Register, Fail>
-    ensures { IfOk result (λ r. IsRegisterOf (geometry_of (S.shelf shelf.now)) r) }
-{
-    let mut body = [0; RECORD_BYTES];
-    body[..88].copy_from_slice(&HEADER);
-    body[16..24].copy_from_slice(generation);
-    match read_record(alloc, &body, shelf.drives(), shelf.units()) {
+    match read_record(alloc, &body_at(generation), shelf.drives(), shelf.units()) {
         Ok(record) => {
             let drives = record.members.drives;
             Ok(Register::new(alloc, record, drives)?)
         }
-        Err(_) => Err(Fail::new("record")),
+        Err(_) => Err(Missing),
     }
 }
 
 /// Tables without a patch, for which seven logged commands count as flushed.
-fn seven_flushed<S: Shelf>(alloc: Global, shelf: &S, register: &Register) -> Result<Tables, Fail>
+fn seven_flushed<S: Shelf>(alloc: Global, shelf: &S, register: &Register) -> Result<Tables, Missing>
     requires { IsRegisterOf (geometry_of (S.shelf shelf.now)) register.now }
     ensures { IfOk result (λ t. IsBootRecord (with_tables register.now.record t)) }
 {
-    let mut body = [0; RECORD_BYTES];
-    body[..88].copy_from_slice(&HEADER);
-    body[79] = 7;
-    match read_record(alloc, &body, shelf.drives(), shelf.units()) {
+    match read_record(alloc, &body_of(1, 7), shelf.drives(), shelf.units()) {
         Ok(record) => Ok(Tables {
             patches: record.patches,
             next: record.next,
             flushed: record.flushed,
         }),
-        Err(_) => Err(Fail::new("record")),
+        Err(_) => Err(Missing),
     }
 }
 
-fn read_sector<S: Shelf>(
-    shelf: &mut S,
-    drive: u8,
-    sector: u16,
-) -> Result<[u8; SECTOR_BYTES], Failed> {
-    let mut bytes = [0; SECTOR_BYTES];
-    if drive >= shelf.drives() || shelf.units() < 64 || sector >= 384 {
-        return Err(Failed);
+/// What a store answered, and what the register holds behind it.
+#[derive(Drop)]
+struct Stored {
+    fault: Option<StoreFault>,
+    generation: u64,
+    flushed: u64,
+    members: Members,
+    drives: [bool; DRIVE_FLAGS],
+}
+
+fn behind(register: &Register, answer: Result<(), StoreFault>) -> Stored {
+    let record = register.record();
+    Stored {
+        fault: answer.err(),
+        generation: record.generation,
+        flushed: record.flushed,
+        members: record.members,
+        drives: *register.drives(),
     }
-    shelf.read(
-        Device::Drive(DriveId(drive)),
-        u64::from(sector) * SECTOR_BYTES as u64,
-        &mut bytes,
-    )?;
-    Ok(bytes)
+}
+
+/// Stores the record behind that of a new shelf, which names the first NVRAM device, and maybe the second one.
+fn store_next(alloc: Global, world: &mut MemWorld, second: bool) -> Result<Stored, Missing> {
+    let mut register = register_at(alloc, world, &FIRST)?;
+    let answer = register.store([true, second], world);
+    Ok(behind(&register, answer))
 }
 
 /// Whether the gate of slot A is open on a drive, and that of slot B.
-fn gates<S: Shelf>(shelf: &mut S, drive: u8) -> Result<(bool, bool), Failed> {
-    let a = read_sector(shelf, drive, 0)?;
-    let b = read_sector(shelf, drive, 1)?;
-    Ok((is_open_gate(&a), is_open_gate(&b)))
+fn gates(world: &mut MemWorld, drive: u8) -> Result<(bool, bool), Missing> {
+    Ok((is_open(world, drive, 0)?, is_open(world, drive, 1)?))
 }
 
-/// All drives of the shelf but these.
-fn all_but(missing: &[usize]) -> [bool; DRIVE_FLAGS] {
-    let mut left = [false; DRIVE_FLAGS];
-    for drive in 0..11 {
-        left[drive] = true;
-    }
-    for drive in missing {
-        if *drive < DRIVE_FLAGS {
-            left[*drive] = false;
-        }
-    }
-    left
+/// Whether a body says this of the generation and the members.
+fn says(
+    world: &mut MemWorld,
+    drive: u8,
+    sector: u16,
+    expected: &[u8; 16],
+) -> Result<bool, Missing> {
+    let body = read_sector(world, drive, sector)?;
+    Ok(body[16..32] == expected[..])
 }
 
 #[test]
-fn the_next_record_is_stored(rt: HostRuntime) -> Result<(), Fail> {
-    let alloc = rt.alloc();
-    let mut world = small_world(alloc)?;
-    let mut register = register_of(alloc, &world)?;
-    let answer = register.store([true, false], &mut world);
-    assert_eq!(rt; answer, Ok(()));
-    assert_eq!(rt; register.record().generation, 2);
-    assert_eq!(rt; register.record().members.nvrams, [true, false]);
-    assert_eq!(rt; *register.drives(), all_but(&[]));
-    assert_eq!(rt; gates(&mut world, 10)?, (true, false));
-    let body = read_sector(&mut world, 10, 128)?;
+fn the_next_record_is_stored(rt: HostRuntime) -> Result<(), Missing> {
+    let mut world = small_world(rt.alloc())?;
+    let stored = store_next(rt.alloc(), &mut world, false)?;
+    assert!(rt; stored.fault.is_none());
+    assert!(rt; stored.generation == 2);
+    assert!(rt; stored.members.nvrams == [true, false]);
+    assert!(rt; stored.drives == all_but(&[]));
+    assert!(rt; gates(&mut world, 10)? == (true, false));
     let members = [0, 0, 0, 0, 0, 0, 0, 2, 0, 0, 7, 255, 1, 0, 0, 0];
-    let shown = &body[16..32];
-    assert!(rt; shown == members.as_slice());
+    assert!(rt; says(&mut world, 10, BODY_A, &members)?);
     Ok(())
 }
 
 #[test]
-fn a_drive_that_fails_is_named_no_longer(rt: HostRuntime) -> Result<(), Fail> {
-    let alloc = rt.alloc();
-    let mut world = small_world(alloc)?;
+fn a_drive_that_fails_is_named_no_longer(rt: HostRuntime) -> Result<(), Missing> {
+    let mut world = small_world(rt.alloc())?;
     // The write of a body fails, behind the read of the gate.
-    world.fail(Device::Drive(DriveId(3)), 2)?;
-    world.pull(Device::Drive(DriveId(8)));
-    let mut register = register_of(alloc, &world)?;
-    let answer = register.store([true, true], &mut world);
-    assert_eq!(rt; answer, Ok(()));
-    assert_eq!(rt; register.record().generation, 3);
-    assert_eq!(rt; register.record().members.drives, all_but(&[3, 8]));
-    assert_eq!(rt; *register.drives(), all_but(&[3, 8]));
+    fail(&mut world, 3, 2)?;
+    pull(&mut world, 8)?;
+    let stored = store_next(rt.alloc(), &mut world, true)?;
+    assert!(rt; stored.fault.is_none());
+    assert!(rt; stored.generation == 3);
+    assert!(rt; stored.members.drives == all_but(&[3, 8]));
+    assert!(rt; stored.drives == all_but(&[3, 8]));
     // The record before stands in the other slot still.
-    assert_eq!(rt; gates(&mut world, 0)?, (true, true));
-    let body = read_sector(&mut world, 0, 256)?;
+    assert!(rt; gates(&mut world, 0)? == (true, true));
     let members = [0, 0, 0, 0, 0, 0, 0, 3, 0, 0, 6, 247, 3, 0, 0, 0];
-    let shown = &body[16..32];
-    assert!(rt; shown == members.as_slice());
+    assert!(rt; says(&mut world, 0, BODY_B, &members)?);
     Ok(())
 }
 
 #[test]
-fn eight_of_eleven_are_too_few(rt: HostRuntime) -> Result<(), Fail> {
-    let alloc = rt.alloc();
-    let mut world = small_world(alloc)?;
+fn eight_of_eleven_are_too_few(rt: HostRuntime) -> Result<(), Missing> {
+    let mut world = small_world(rt.alloc())?;
     for drive in [1, 5, 9] {
-        world.pull(Device::Drive(DriveId(drive)));
+        pull(&mut world, drive)?;
     }
-    let mut register = register_of(alloc, &world)?;
-    let answer = register.store([true, true], &mut world);
-    assert_eq!(rt; answer, Err(StoreFault::TooFew(all_but(&[1, 5, 9]))));
-    assert_eq!(rt; register.record().generation, 2);
-    assert_eq!(rt; register.record().members.drives, all_but(&[]));
+    let stored = store_next(rt.alloc(), &mut world, true)?;
+    assert!(rt; stored.fault == Some(StoreFault::TooFew(all_but(&[1, 5, 9]))));
+    assert!(rt; stored.generation == 2);
+    assert!(rt; stored.members.drives == all_but(&[]));
     Ok(())
 }
 
-#[test]
-fn the_last_generation_is_stored(rt: HostRuntime) -> Result<(), Fail> {
-    let alloc = rt.alloc();
-    let mut world = small_world(alloc)?;
-    let mut register = register_at(alloc, &world, &[0, 0, 255, 255, 255, 255, 255, 254])?;
-    let answer = register.store([true, true], &mut world);
-    assert_eq!(rt; answer, Ok(()));
-    let answer = register.store([true, true], &mut world);
-    assert_eq!(rt; answer, Err(StoreFault::Spent));
-    assert_eq!(rt; register.record().generation, 281474976710655);
-    Ok(())
+/// Stores the record of the last generation, and then asks for one more.
+fn store_last_two(alloc: Global, world: &mut MemWorld) -> Result<(Stored, Stored), Missing> {
+    let mut register = register_at(alloc, world, &[0, 0, 255, 255, 255, 255, 255, 254])?;
+    let answer = register.store([true, true], world);
+    let last = behind(&register, answer);
+    let answer = register.store([true, true], world);
+    Ok((last, behind(&register, answer)))
 }
 
 #[test]
-fn a_record_with_other_tables_is_stored(rt: HostRuntime) -> Result<(), Fail> {
-    let alloc = rt.alloc();
-    let mut world = small_world(alloc)?;
+fn the_last_generation_is_stored(rt: HostRuntime) -> Result<(), Missing> {
+    let mut world = small_world(rt.alloc())?;
+    let (last, more) = store_last_two(rt.alloc(), &mut world)?;
+    assert!(rt; last.fault.is_none());
+    assert!(rt; more.fault == Some(StoreFault::Spent));
+    assert!(rt; more.generation == 281474976710655);
+    Ok(())
+}
+
+/// Stores the record of a new shelf with other tables.
+fn store_tables(alloc: Global, world: &mut MemWorld) -> Result<Stored, Missing> {
+    let mut register = register_at(alloc, world, &FIRST)?;
+    let tables = seven_flushed(alloc, world, &register)?;
+    let answer = register.store_tables(tables, world);
+    Ok(behind(&register, answer))
+}
+
+#[test]
+fn a_record_with_other_tables_is_stored(rt: HostRuntime) -> Result<(), Missing> {
+    let mut world = small_world(rt.alloc())?;
     // The write of a body fails, behind the read of the gate.
-    world.fail(Device::Drive(DriveId(3)), 2)?;
-    let mut register = register_of(alloc, &world)?;
-    let tables = seven_flushed(alloc, &world, &register)?;
-    let answer = register.store_tables(tables, &mut world);
-    assert_eq!(rt; answer, Ok(()));
-    assert_eq!(rt; register.record().flushed, 7);
-    assert_eq!(rt; register.record().generation, 3);
-    assert_eq!(rt; *register.drives(), all_but(&[3]));
-    let body = read_sector(&mut world, 0, 256)?;
-    assert_eq!(rt; body[79], 7);
+    fail(&mut world, 3, 2)?;
+    let stored = store_tables(rt.alloc(), &mut world)?;
+    assert!(rt; stored.fault.is_none());
+    assert!(rt; stored.flushed == 7);
+    assert!(rt; stored.generation == 3);
+    assert!(rt; stored.drives == all_but(&[3]));
+    assert!(rt; read_sector(&mut world, 0, BODY_B)?[79] == 7);
     Ok(())
 }

@@ -1,6 +1,6 @@
 use Rattle.std.proofs.Common.{sym, ◌∙◌}
 use Rattle.device_tests.proofs.OneRecord.{one_record}
-use Rattle.device_tests.proofs.logs.appended.Goals as goal
+use Rattle.device_tests.proofs.logs.append.Goals as goal
 
 pub append-requires-clause-lawful : goal.append-requires-clause-lawful
 append-requires-clause-lawful c j r at = one_record _ r j (record {

@@ -1,0 +1,143 @@
+// A shelf of eleven drives in memory: what goes wrong on it, and what it shows.
+// No function here has a clause: what calls one learns nothing of it, and so has nothing to carry through its proof.
+
+use boot_codec::{DRIVE_FLAGS, RECORD_BYTES, is_open_gate};
+use pur_base::{Device, DriveId, NoMemory, SECTOR_BYTES};
+use std::alloc::Global;
+use world::{Failed, Shelf};
+use world_mem::{Call, Choice, MemWorld, What};
+
+pub(crate) const DRIVES: u8 = 11;
+
+/// What a test rests on isn't there: memory, a device that answers, or a place of the shelf.
+#[derive(Clone, Copy, Debug)]
+pub(crate) struct Missing;
+
+impl From<NoMemory> for Missing {
+    fn from(_error: NoMemory) -> Missing {
+        Missing
+    }
+}
+
+impl From<Failed> for Missing {
+    fn from(_error: Failed) -> Missing {
+        Missing
+    }
+}
+
+/// Each dirty byte is a one: a torn gate is open.
+#[derive(Drop)]
+struct Ones;
+
+impl Choice for Ones {
+    fn byte(&mut self) -> u8 {
+        1
+    }
+}
+
+/// The header of the record of a new shelf of 11 drives of 64 units. Made by hand from docs/FORMAT.md.
+pub(crate) const HEADER: [u8; 88] = [
+    b'P', b'U', b'R', b'A', b'R', b'R', b'A', b'Y', 0, 0, 0, 1, 0, 11, 0, 64, // 11 slots, 64 units
+    0, 0, 0, 0, 0, 0, 0, 1, 0, 0, 7, 255, 3, 0, 0, 0, // generation 1, all members
+    0, 0, 0, 0, 0, 0, 0, 1, 0, 0, 0, 0, 0, 0, 0, 1, 0, 0, 0, 0, 0, 0, 0, 1, // the next numbers
+    0, 0, 0, 0, 0, 0, 0, 1, 0, 0, 0, 0, 0, 0, 0, 1, //
+    0, 0, 0, 0, 0, 0, 0, 0, 0, 0, 0, 0, 0, 0, 0, 88, // no patches
+];
+
+/// The body of such a record at this generation.
+pub(crate) fn body_at(generation: &[u8; 8]) -> [u8; RECORD_BYTES] {
+    let mut body = [0; RECORD_BYTES];
+    body[..88].copy_from_slice(&HEADER);
+    body[16..24].copy_from_slice(generation);
+    body
+}
+
+/// The body of such a record, of this generation, by which so many commands are flushed.
+pub(crate) fn body_of(generation: u8, flushed: u8) -> [u8; RECORD_BYTES] {
+    let mut body = body_at(&[0, 0, 0, 0, 0, 0, 0, generation]);
+    body[79] = flushed;
+    body
+}
+
+pub(crate) fn small_world(alloc: Global) -> Result<MemWorld, Missing> {
+    Ok(MemWorld::new(alloc, DRIVES, 64, Vec::new(alloc))?)
+}
+
+pub(crate) fn pull(world: &mut MemWorld, drive: u8) -> Result<(), Missing> {
+    if drive >= world.drives() {
+        return Err(Missing);
+    }
+    world.pull(Device::Drive(DriveId(drive)));
+    Ok(())
+}
+
+/// Lets the nth next call on a drive fail, counted from 1.
+pub(crate) fn fail(world: &mut MemWorld, drive: u8, nth: u64) -> Result<(), Missing> {
+    if drive >= world.drives() || nth == 0 {
+        return Err(Missing);
+    }
+    world.fail(Device::Drive(DriveId(drive)), nth)?;
+    Ok(())
+}
+
+/// Forgets the calls so far.
+pub(crate) fn forget(world: &mut MemWorld) {
+    world.forget();
+}
+
+/// How many calls there were.
+pub(crate) fn calls_of(world: &MemWorld) -> usize {
+    world.calls().len()
+}
+
+/// How many of them were writes.
+pub(crate) fn writes_of(world: &MemWorld) -> usize {
+    let mut count = 0usize;
+    for call in world.calls() {
+        if let Call::On(_, What::Write(_, _)) = call {
+            count = count.wrapping_add(1);
+        }
+    }
+    count
+}
+
+/// What a stop leaves, if each dirty byte is a one.
+pub(crate) fn stopped(alloc: Global, world: &MemWorld) -> Result<MemWorld, Missing> {
+    Ok(world.stopped(alloc, &mut Ones)?)
+}
+
+pub(crate) fn read_sector(
+    world: &mut MemWorld,
+    drive: u8,
+    sector: u16,
+) -> Result<[u8; SECTOR_BYTES], Missing> {
+    let mut bytes = [0; SECTOR_BYTES];
+    if drive >= world.drives() || world.units() < 64 || sector >= 384 {
+        return Err(Missing);
+    }
+    let at = u64::from(sector) * SECTOR_BYTES as u64;
+    world.read(Device::Drive(DriveId(drive)), at, &mut bytes)?;
+    Ok(bytes)
+}
+
+/// Whether the gate in this sector of a drive is open.
+pub(crate) fn is_open(world: &mut MemWorld, drive: u8, gate: u16) -> Result<bool, Missing> {
+    Ok(is_open_gate(&read_sector(world, drive, gate)?))
+}
+
+/// All drives of the shelf but these.
+pub(crate) fn all_but(missing: &[usize]) -> [bool; DRIVE_FLAGS] {
+    let mut left = [false; DRIVE_FLAGS];
+    left[..11].fill(true);
+    for drive in missing {
+        if *drive < DRIVE_FLAGS {
+            left[*drive] = false;
+        }
+    }
+    left
+}
+
+/// Whether the flags are those of all drives of the shelf but these.
+pub(crate) fn are_all_but(flags: &[bool; 11], missing: &[usize]) -> bool {
+    flags[..] == all_but(missing)[..11]
+}
