@@ -9,4 +9,6 @@ mod patches;
 #[cfg(test)]
 mod segments;
 #[cfg(test)]
+mod stage;
+#[cfg(test)]
 mod tables;

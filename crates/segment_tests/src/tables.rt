@@ -1,46 +1,19 @@
 ghost use Rattle.std.specs.Prelude.{◌≡◌, IfOk};
 ghost use Rattle.boot_codec.specs.Record.{IsBootRecord};
 
+use crate::stage::{MORE_PLACES, Missing, PLACES, pull, pull_all, set_of, small_world};
 use boot_codec::{BootRecord, RECORD_BYTES, read_record};
 use fact_codec::{FACT_BYTES, NUMBER_LIMIT, write_fact};
 use parity72::SHARD_BYTES;
 use pur_base::{
-    AddressFact, AnyFact, Device, DriveId, ElisionFact, Lost, MediumId, Place, Places, SegmentId,
-    Seq, Table, Target,
+    AddressFact, AnyFact, ElisionFact, Lost, MediumId, Places, SegmentId, Seq, Table, Target,
 };
 use segment_codec::SegmentKind;
 use segment_io::{Open, are_places};
 use std::alloc::Global;
-use std::test::Fail;
 use table_loading::{TablesFault, load_tables};
 use world::Shelf;
 use world_mem::MemWorld;
-
-/// The first segment stands on slots 0 to 8.
-const PLACES: Places = [
-    Place { slot: 0, unit: 3 },
-    Place { slot: 1, unit: 4 },
-    Place { slot: 2, unit: 5 },
-    Place { slot: 3, unit: 3 },
-    Place { slot: 4, unit: 63 },
-    Place { slot: 5, unit: 3 },
-    Place { slot: 6, unit: 9 },
-    Place { slot: 7, unit: 3 },
-    Place { slot: 8, unit: 3 },
-];
-
-/// The second one stands on slots 0 and 3 to 10.
-const MORE_PLACES: Places = [
-    Place { slot: 0, unit: 7 },
-    Place { slot: 3, unit: 7 },
-    Place { slot: 4, unit: 7 },
-    Place { slot: 5, unit: 7 },
-    Place { slot: 6, unit: 7 },
-    Place { slot: 7, unit: 7 },
-    Place { slot: 8, unit: 7 },
-    Place { slot: 9, unit: 7 },
-    Place { slot: 10, unit: 7 },
-];
 
 /// The front of a record of two patches. Made by hand from docs/FORMAT.md.
 const RECORD: [u8; 172] = [
@@ -68,7 +41,7 @@ const SEQUENCE_AT: usize = 71;
 const TAG_AT: usize = 88;
 
 /// The record with that tag at its first patch, and that next sequence number.
-fn record(alloc: Global, tag: u8, sequence: u8) -> Result<BootRecord, Fail>
+fn record(alloc: Global, tag: u8, sequence: u8) -> Result<BootRecord, Missing>
     ensures { IfOk result (λ boot. IsBootRecord boot) }
 {
     let mut bytes = vec![in alloc; 0u8; RECORD_BYTES]?;
@@ -77,54 +50,65 @@ fn record(alloc: Global, tag: u8, sequence: u8) -> Result<BootRecord, Fail>
     bytes[TAG_AT] = tag;
     match read_record(alloc, &bytes, 11, 64) {
         Ok(boot) => Ok(boot),
-        Err(_) => Err(Fail::new("record")),
+        Err(_) => Err(Missing),
     }
 }
 
 /// Writes a fact as the first one of a segment.
-fn write_first(world: &mut MemWorld, places: Places, text: &[u8; FACT_BYTES]) -> Result<(), Fail> {
+fn write_first(
+    world: &mut MemWorld,
+    places: Places,
+    text: &[u8; FACT_BYTES],
+) -> Result<(), Missing> {
     let mut stripe = [[0; SHARD_BYTES]; 7];
     stripe[0][..FACT_BYTES].copy_from_slice(text);
     let mut open = Open::new(SegmentId(1), SegmentKind::Patch, places);
     if open.stripes() >= 15 || !are_places(world, open.places()) {
-        return Err(Fail::new("places"));
+        return Err(Missing);
     }
     open.append_stripe(&stripe, world);
     Ok(())
 }
 
-/// A shelf with a sector of medium 7 that reads as zeros, and an object that is elided, by facts of these numbers.
-fn world_of_two(alloc: Global, address: u64, elision: u64) -> Result<MemWorld, Fail> {
-    if address == 0 || address >= NUMBER_LIMIT || elision == 0 || elision >= NUMBER_LIMIT {
-        return Err(Fail::new("no such number"));
+/// An address of medium 7 that reads as zeros, by a fact of this number.
+fn address_text(seq: u64) -> Result<[u8; FACT_BYTES], Missing> {
+    if seq == 0 || seq >= NUMBER_LIMIT {
+        return Err(Missing);
     }
-    let mut world = MemWorld::new(alloc, 11, 64, Vec::new(alloc))?;
-    let address = write_fact(&AnyFact::Address(AddressFact {
+    Ok(write_fact(&AnyFact::Address(AddressFact {
         medium: MediumId(7),
         sector: 0,
         target: Target::Zero,
-        seq: Seq(address),
-    }));
-    write_first(&mut world, PLACES, &address)?;
-    let elision = write_fact(&AnyFact::Elision(ElisionFact {
+        seq: Seq(seq),
+    })))
+}
+
+/// An object that is elided, by a fact of this number.
+fn elision_text(seq: u64) -> Result<[u8; FACT_BYTES], Missing> {
+    if seq == 0 || seq >= NUMBER_LIMIT {
+        return Err(Missing);
+    }
+    Ok(write_fact(&AnyFact::Elision(ElisionFact {
         first: 1,
         table: Table::Object,
         last: 1,
-        seq: Seq(elision),
-    }));
-    write_first(&mut world, MORE_PLACES, &elision)?;
+        seq: Seq(seq),
+    })))
+}
+
+/// A shelf with such an address and such an elision.
+fn world_of_two(alloc: Global, address: u64, elision: u64) -> Result<MemWorld, Missing> {
+    let mut world = small_world(alloc)?;
+    write_first(&mut world, PLACES, &address_text(address)?)?;
+    write_first(&mut world, MORE_PLACES, &elision_text(elision)?)?;
     Ok(world)
 }
 
-fn set_of(drives: &[u8]) -> [bool; 24] {
-    let mut set = [false; 24];
-    for drive in drives {
-        if (*drive as usize) < set.len() {
-            set[*drive as usize] = true;
-        }
-    }
-    set
-}
+/// How many patches each table has.
+type Counts = [usize; 5];
+
+/// One patch of addresses, and one of elisions.
+const BOTH: Counts = [0, 0, 1, 0, 1];
 
 /// How many patches each table has, or why they weren't loaded.
 fn load(
@@ -132,11 +116,11 @@ fn load(
     world: &mut MemWorld,
     boot: &BootRecord,
     missing: &[bool],
-) -> Result<Result<[usize; 5], TablesFault>, Fail>
+) -> Result<Result<Counts, TablesFault>, Missing>
     requires { IsBootRecord boot.now }
 {
     if boot.slots != world.drives() || boot.units != world.units() {
-        return Err(Fail::new("shelf"));
+        return Err(Missing);
     }
     match load_tables(alloc, world, boot, missing) {
         Ok(tables) => Ok(Ok([
@@ -150,69 +134,69 @@ fn load(
     }
 }
 
+/// What is loaded by the record with that tag at its first patch, and that next sequence number.
+fn load_by(
+    alloc: Global,
+    world: &mut MemWorld,
+    (tag, sequence): (u8, u8),
+    missing: &[bool],
+) -> Result<Result<Counts, TablesFault>, Missing> {
+    let boot = record(alloc, tag, sequence)?;
+    load(alloc, world, &boot, missing)
+}
+
 #[test]
-fn two_tables_are_read(rt: HostRuntime) -> Result<(), Fail> {
-    let alloc = rt.alloc();
-    let boot = record(alloc, 3, 3)?;
-    let mut world = world_of_two(alloc, 1, 2)?;
-    assert_eq!(rt; load(alloc, &mut world, &boot, &[])?, Ok([0, 0, 1, 0, 1]));
-    world.pull(Device::Drive(DriveId(0)));
-    world.pull(Device::Drive(DriveId(7)));
-    assert_eq!(rt;
-        load(alloc, &mut world, &boot, &set_of(&[0, 7]))?,
-        Ok([0, 0, 1, 0, 1])
-    );
+fn two_tables_are_read(rt: HostRuntime) -> Result<(), Missing> {
+    let mut world = world_of_two(rt.alloc(), 1, 2)?;
+    assert!(rt; load_by(rt.alloc(), &mut world, (3, 3), &[])? == Ok(BOTH));
+    pull_all(&mut world, &[0, 7])?;
+    let missing = set_of(&[0, 7]);
+    assert!(rt; load_by(rt.alloc(), &mut world, (3, 3), &missing)? == Ok(BOTH));
     // Of the first patch two drives are left out, of the second three.
-    world.pull(Device::Drive(DriveId(10)));
-    let lost = Lost {
-        drives: set_of(&[0, 7, 10]),
-    };
-    assert_eq!(rt;
-        load(alloc, &mut world, &boot, &set_of(&[0, 7]))?,
-        Err(TablesFault::Lost(lost))
-    );
+    pull(&mut world, 10)?;
+    let drives = set_of(&[0, 7, 10]);
+    let lost = TablesFault::Lost(Lost { drives });
+    assert!(rt; load_by(rt.alloc(), &mut world, (3, 3), &missing)? == Err(lost));
     Ok(())
 }
 
 #[test]
-fn faults_name_their_table(rt: HostRuntime) -> Result<(), Fail> {
-    let alloc = rt.alloc();
-    let mut world = world_of_two(alloc, 1, 2)?;
+fn faults_name_their_table(rt: HostRuntime) -> Result<(), Missing> {
+    let mut world = world_of_two(rt.alloc(), 1, 2)?;
     // An address stands where the record names an object.
-    let other = record(alloc, 1, 3)?;
-    assert_eq!(rt;
-        load(alloc, &mut world, &other, &[])?,
-        Err(TablesFault::BadPatch(Table::Object))
-    );
+    let bad = TablesFault::BadPatch(Table::Object);
+    assert!(rt; load_by(rt.alloc(), &mut world, (1, 3), &[])? == Err(bad));
     // The number of the elision is the next one.
-    let behind = record(alloc, 3, 2)?;
-    assert_eq!(rt;
-        load(alloc, &mut world, &behind, &[])?,
-        Err(TablesFault::Unsound(Table::Elision))
-    );
+    let unsound = TablesFault::Unsound(Table::Elision);
+    assert!(rt; load_by(rt.alloc(), &mut world, (3, 2), &[])? == Err(unsound));
     Ok(())
 }
 
+/// Whether facts of these numbers, before which the next is 10, are loaded, or refused for this table.
+fn is_told(
+    alloc: Global,
+    address: u64,
+    elision: u64,
+    fault: Option<Table>,
+) -> Result<bool, Missing> {
+    let mut world = world_of_two(alloc, address, elision)?;
+    let wanted = match fault {
+        Some(table) => Err(TablesFault::Unsound(table)),
+        None => Ok(BOTH),
+    };
+    Ok(load_by(alloc, &mut world, (3, 10), &[])? == wanted)
+}
+
 #[test]
-fn the_first_table_with_a_number_that_fails_is_named(rt: HostRuntime) -> Result<(), Fail> {
-    let alloc = rt.alloc();
-    let boot = record(alloc, 3, 10)?;
+fn the_first_table_with_a_number_that_fails_is_named(rt: HostRuntime) -> Result<(), Missing> {
     for (address, elision, fault) in [
         (8, 9, None),
         (9, 9, Some(Table::Elision)),
         (10, 9, Some(Table::Address)),
         (9, 10, Some(Table::Elision)),
     ] {
-        let mut world = world_of_two(alloc, address, elision)?;
-        let wanted = match fault {
-            Some(table) => Err(TablesFault::Unsound(table)),
-            None => Ok([0, 0, 1, 0, 1]),
-        };
-        assert_eq!(rt;
-            load(alloc, &mut world, &boot, &[])?,
-            wanted,
-            "{address} and {elision}"
-        );
+        let is_told = is_told(rt.alloc(), address, elision, fault)?;
+        assert!(rt; is_told, "{address} and {elision}");
     }
     Ok(())
 }
