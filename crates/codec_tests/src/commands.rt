@@ -145,7 +145,7 @@ fn reads(rt: &impl Abort, sector: &Sector, number: u64) {
     let read = read_head(sector);
     assert!(rt; read.is_ok());
     if let Ok(head) = read {
-        assert_eq!(rt; head.number, number);
+        assert!(rt; head.number == number);
         writes(rt, &head, sector);
     }
 }

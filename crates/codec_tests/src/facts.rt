@@ -340,6 +340,6 @@ fn a_patch_ascends(rt: HostRuntime) {
         ("another table", &ZERO, &RANGE, false),
     ];
     for (what, earlier, later, may) in pairs {
-        assert_eq!(rt; ascends(earlier, later), Ok(may), "{what}");
+        assert!(rt; ascends(earlier, later) == Ok(may), "{what}");
     }
 }

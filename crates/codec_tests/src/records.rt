@@ -2,12 +2,11 @@ ghost use Rattle.std.specs.Prelude.{◌≡◌, length, IfOk};
 ghost use Rattle.boot_codec.specs.Record.{IsBootRecord};
 
 use boot_codec::{
-    BadRecord, BootRecord, DRIVE_FLAGS, FORMAT, HEADER_BYTES, Members, NVRAM_FLAGS, NextNumbers,
-    Patch, PatchSegment, Patches, RECORD_BYTES, ReadError, read_record, write_record,
+    BootRecord, DRIVE_FLAGS, HEADER_BYTES, Members, NVRAM_FLAGS, NextNumbers, Patch, PatchSegment,
+    Patches, RECORD_BYTES, ReadError, read_record, write_record,
 };
-use pur_base::Place;
+use pur_base::{NoMemory, Place};
 use std::alloc::{AllocError, Global};
-use std::process::Abort;
 use std::test::*;
 
 /// The record of a new shelf of 11 drives of 64 units.
@@ -151,6 +150,22 @@ const PATCHES_BY_HAND: [u8; 127] = [
     0, 0, 3, 1, 0, 63, 2, 0, 5, 3, 0, 6, 4, 0, 7, 5, 0, 8, 6, 0, 9, 8, 0, 10, 10, 0, 11,
 ];
 
+/// The segment that it has three times.
+const SEGMENT_BY_HAND: PatchSegment = PatchSegment {
+    id: 258,
+    places: [
+        Place { slot: 0, unit: 3 },
+        Place { slot: 1, unit: 63 },
+        Place { slot: 2, unit: 5 },
+        Place { slot: 3, unit: 6 },
+        Place { slot: 4, unit: 7 },
+        Place { slot: 5, unit: 8 },
+        Place { slot: 6, unit: 9 },
+        Place { slot: 8, unit: 10 },
+        Place { slot: 10, unit: 11 },
+    ],
+};
+
 /// The bytes of that record.
 fn bytes_of_patches(alloc: Global) -> [u8; RECORD_BYTES] {
     let mut bytes = bytes_of_new(alloc);
@@ -158,86 +173,30 @@ fn bytes_of_patches(alloc: Global) -> [u8; RECORD_BYTES] {
     bytes
 }
 
-/// Bytes of that record, what is put there, and the fault that docs/FORMAT.md gives then.
-const FAULTS: [(usize, u8, BadRecord); 12] = [
+/// A byte of that record and what is put there, and the place and the byte of the fault that docs/FORMAT.md gives then.
+const FAULTS: [((usize, u8), (usize, u8)); 12] = [
     // a third patch that has no tag
-    (
-        81,
-        3,
-        BadRecord {
-            place: 207,
-            byte: 0,
-        },
-    ),
+    ((81, 3), (207, 0)),
     // a length one too great
-    (87, 208, BadRecord { place: 84, byte: 0 }),
+    ((87, 208), (84, 0)),
     // a patch of no table, and of a sixth
-    (88, 0, BadRecord { place: 88, byte: 0 }),
-    (88, 6, BadRecord { place: 88, byte: 6 }),
+    ((88, 0), (88, 0)),
+    ((88, 6), (88, 6)),
     // a fact more than one segment holds
-    (92, 65, BadRecord { place: 93, byte: 0 }),
+    ((92, 65), (93, 0)),
     // the slot of the second place on the first one's slot
-    (
-        103,
-        1,
-        BadRecord {
-            place: 106,
-            byte: 1,
-        },
-    ),
+    ((103, 1), (106, 1)),
     // the second unit past the last, and the last in the boot region
-    (
-        108,
-        64,
-        BadRecord {
-            place: 107,
-            byte: 0,
-        },
-    ),
-    (
-        129,
-        2,
-        BadRecord {
-            place: 128,
-            byte: 0,
-        },
-    ),
+    ((108, 64), (107, 0)),
+    ((129, 2), (128, 0)),
     // the slot of the last place past the slots
-    (
-        127,
-        11,
-        BadRecord {
-            place: 127,
-            byte: 11,
-        },
-    ),
+    ((127, 11), (127, 11)),
     // a tag below the one before it
-    (
-        130,
-        0,
-        BadRecord {
-            place: 130,
-            byte: 0,
-        },
-    ),
+    ((130, 0), (130, 0)),
     // a segment too few
-    (
-        136,
-        1,
-        BadRecord {
-            place: 135,
-            byte: 0,
-        },
-    ),
+    ((136, 1), (135, 0)),
     // the first byte of the padding
-    (
-        207,
-        1,
-        BadRecord {
-            place: 207,
-            byte: 1,
-        },
-    ),
+    ((207, 1), (207, 1)),
 ];
 
 /// The first bytes of a new record.
@@ -250,51 +209,93 @@ const OPENING: [u8; 29] = [
 fn a_new_record(rt: HostRuntime) -> Result<(), Fail> {
     let bytes = bytes_of_new(rt.alloc());
     assert!(rt; bytes.starts_with(&OPENING));
-    assert_eq!(rt; &bytes[84..88], &[0, 0, 0, 88][..]);
+    assert!(rt; bytes[84..88] == [0, 0, 0, 88][..]);
     let read = read(rt.alloc(), &bytes)?;
     assert!(rt; is_spelled(&read, &bytes));
     Ok(())
 }
 
-/// The bytes with this one raised have the fault of its row, or spell another record.
-fn is_raised(rt: &impl Abort, alloc: Global, bytes: &[u8; RECORD_BYTES], index: usize) {
-    let expected = raised(index);
+/// Whether the bytes with one raised have this fault, or spell another record.
+fn has_fault(
+    alloc: Global,
+    bytes: &[u8; RECORD_BYTES],
+    expected: Option<(usize, u8)>,
+) -> Result<bool, NoMemory> {
     match read_record(alloc, bytes, 11, 64) {
-        Ok(other) => {
-            assert_eq!(rt; None, expected, "byte {index}");
-            assert!(rt; is_spelled(&other, bytes), "byte {index}");
-        }
-        Err(ReadError::Bad(bad)) => {
-            assert_eq!(rt; Some((bad.place, bad.byte)), expected, "byte {index}");
-        }
-        Err(ReadError::Memory(_)) => assert!(rt; false, "memory"),
+        Ok(other) => Ok(expected.is_none() && is_spelled(&other, bytes)),
+        Err(ReadError::Bad(bad)) => Ok(expected == Some((bad.place, bad.byte))),
+        Err(ReadError::Memory(error)) => Err(error),
     }
+}
+
+/// Whether the bytes have this fault once one of them is another.
+fn has_fault_with(
+    alloc: Global,
+    bytes: &mut [u8; RECORD_BYTES],
+    (index, byte): (usize, u8),
+    expected: Option<(usize, u8)>,
+) -> Result<bool, NoMemory> {
+    if index >= RECORD_BYTES {
+        return Ok(false);
+    }
+    let was = bytes[index];
+    bytes[index] = byte;
+    let has_fault = has_fault(alloc, bytes, expected);
+    bytes[index] = was;
+    has_fault
 }
 
 #[test]
-fn one_byte_raised(rt: HostRuntime) {
+fn one_byte_raised(rt: HostRuntime) -> Result<(), Fail> {
     let mut bytes = bytes_of_new(rt.alloc());
     for index in 0..HEADER_BYTES {
-        let was = bytes[index];
-        bytes[index] = was.wrapping_add(1);
-        is_raised(&rt, rt.alloc(), &bytes, index);
-        bytes[index] = was;
+        let byte = bytes[index].wrapping_add(1);
+        let has_fault = has_fault_with(rt.alloc(), &mut bytes, (index, byte), raised(index))?;
+        assert!(rt; has_fault, "byte {index}");
     }
+    Ok(())
 }
 
-/// The two patches of the record by hand.
-fn are_by_hand(rt: &impl Abort, first: &Patch<'_>, second: &Patch<'_>) {
-    assert_eq!(rt; (first.tag, first.facts), (1, 6720));
-    assert_eq!(rt; (second.tag, second.facts), (5, 6721));
+/// Whether a patch has this tag and so many facts, in so many segments, each of which is the one by hand.
+fn is_by_hand(patch: &Patch<'_>, tag: u8, facts: u32, segments: usize) -> bool {
+    let found = patch.segments.as_slice();
+    if found.len() != segments {
+        return false;
+    }
+    patch.tag == tag && patch.facts == facts && are_segments_by_hand(found)
 }
 
-/// Their segments: one of the first patch, and the same one twice of the second.
-fn are_segments_by_hand(rt: &impl Abort, first: &[PatchSegment], second: &[PatchSegment]) {
-    assert_eq!(rt; first.len(), 1);
-    let only = first[0];
-    assert_eq!(rt; only.id, 258);
-    assert_eq!(rt; only.places[8], Place { slot: 10, unit: 11 });
-    assert_eq!(rt; second, &[only, only][..]);
+/// Whether each segment is the one that stands in the record by hand three times.
+fn are_segments_by_hand(segments: &[PatchSegment]) -> bool {
+    for segment in segments {
+        if *segment != SEGMENT_BY_HAND {
+            return false;
+        }
+    }
+    true
+}
+
+/// The patches of the record by hand: one of objects in one segment, and one of elisions in two.
+fn is_first(patch: &Patch<'_>) -> bool {
+    is_by_hand(patch, 1, 6720, 1)
+}
+
+fn is_second(patch: &Patch<'_>) -> bool {
+    is_by_hand(patch, 5, 6721, 2)
+}
+
+/// Whether the patches are those by hand, in their order or turned round.
+fn are_by_hand(patches: &Patches, turned: bool) -> bool {
+    if patches.len() != 2 {
+        return false;
+    }
+    let first = patches.at(0);
+    let second = patches.at(1);
+    if turned {
+        is_second(&first) && is_first(&second)
+    } else {
+        is_first(&first) && is_second(&second)
+    }
 }
 
 #[test]
@@ -302,11 +303,7 @@ fn two_patches(rt: HostRuntime) -> Result<(), Fail> {
     let bytes = bytes_of_patches(rt.alloc());
     let read = read(rt.alloc(), &bytes)?;
     assert!(rt; is_spelled(&read, &bytes));
-    assert_eq!(rt; read.patches.len(), 2);
-    let first = read.patches.at(0);
-    let second = read.patches.at(1);
-    are_by_hand(&rt, &first, &second);
-    are_segments_by_hand(&rt, first.segments.as_slice(), second.segments.as_slice());
+    assert!(rt; are_by_hand(&read.patches, false));
     Ok(())
 }
 
@@ -320,48 +317,40 @@ fn turned(alloc: Global, patches: &Patches) -> Result<Patches, AllocError>
     Ok(turned)
 }
 
-/// A patch has the segments of the other.
-fn have_same_segments(rt: &impl Abort, patch: &Patch<'_>, other: &Patch<'_>) {
-    assert_eq!(rt; patch.segments.as_slice(), other.segments.as_slice());
+/// Whether two patches turned round stand so.
+fn are_turned(alloc: Global, patches: &Patches) -> Result<bool, AllocError> {
+    if patches.len() != 2 {
+        return Ok(false);
+    }
+    Ok(are_by_hand(&turned(alloc, patches)?, true))
 }
 
 #[test]
 fn patches_in_turn(rt: HostRuntime) -> Result<(), Fail> {
     let bytes = bytes_of_patches(rt.alloc());
     let read = read(rt.alloc(), &bytes)?;
-    assert_eq!(rt; read.patches.len(), 2);
-    let turned = turned(rt.alloc(), &read.patches)?;
-    assert_eq!(rt; turned.len(), 2);
-    let first = turned.at(0);
-    let second = turned.at(1);
-    are_by_hand(&rt, &second, &first);
-    have_same_segments(&rt, &first, &read.patches.at(1));
-    have_same_segments(&rt, &second, &read.patches.at(0));
+    assert!(rt; are_turned(rt.alloc(), &read.patches)?);
     Ok(())
 }
 
 #[test]
-fn one_byte_of_patches_changed(rt: HostRuntime) {
+fn one_byte_of_patches_changed(rt: HostRuntime) -> Result<(), Fail> {
     let mut bytes = bytes_of_patches(rt.alloc());
-    for (index, byte, bad) in &FAULTS {
-        let index = *index;
-        assert!(rt; index < RECORD_BYTES);
-        let was = bytes[index];
-        bytes[index] = *byte;
-        let error = read_record(rt.alloc(), &bytes, 11, 64).err();
-        assert_eq!(rt; error, Some(ReadError::Bad(*bad)), "byte {index}");
-        bytes[index] = was;
+    for (change, fault) in &FAULTS {
+        let has_fault = has_fault_with(rt.alloc(), &mut bytes, *change, Some(*fault))?;
+        assert!(rt; has_fault, "byte {}", change.0);
     }
+    Ok(())
 }
 
 #[test]
-fn padding_that_is_not_zero(rt: HostRuntime) {
+fn padding_that_is_not_zero(rt: HostRuntime) -> Result<(), Fail> {
     let mut bytes = bytes_of_new(rt.alloc());
+    // Of two faults the first one is told.
     bytes[RECORD_BYTES - 1] = 9;
     for place in [HEADER_BYTES, 4096, RECORD_BYTES - 1] {
-        bytes[place] = 5;
-        let error = read_record(rt.alloc(), &bytes, 11, 64).err();
-        assert_eq!(rt; error, Some(ReadError::Bad(BadRecord { place, byte: 5 })));
-        bytes[place] = 0;
+        let has_fault = has_fault_with(rt.alloc(), &mut bytes, (place, 5), Some((place, 5)))?;
+        assert!(rt; has_fault, "at {place}");
     }
+    Ok(())
 }
