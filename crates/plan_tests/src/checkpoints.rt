@@ -29,8 +29,8 @@ fn are_flagged(rt: &impl Abort, alloc: Global, flags: &[bool]) -> Result<(), NoM
     requires { length flags.now ≡ 4 }
 {
     let order = flagged(alloc, flags)?;
-    assert_eq!(rt; order.len(), 2);
-    assert_eq!(rt; order[1], 2);
+    assert!(rt; order.len() == 2);
+    assert!(rt; order[1] == 2);
     Ok(())
 }
 
@@ -39,8 +39,8 @@ fn are_placed(rt: &impl Abort, alloc: Global, flags: &[bool]) -> Result<(), NoMe
     requires { length flags.now ≡ 4 }
 {
     let places = places(alloc, flags, 7)?;
-    assert_eq!(rt; places.len(), 4);
-    assert_eq!(rt; places[1].is_none(), true);
+    assert!(rt; places.len() == 4);
+    assert!(rt; places[1].is_none());
     Ok(())
 }
 
@@ -54,17 +54,17 @@ fn sectors_that_facts_name_are_placed_in_order_of_staging(rt: HostRuntime) -> Re
 
 /// The first of two segments is full, and the second has one sector and the next id and number.
 fn is_first_full(rt: &impl Abort, segments: &[SegmentFact]) {
-    assert_eq!(rt; segments.len(), 2);
-    assert_eq!(rt; segments[0].placed, 840);
-    assert_eq!(rt; segments[1].placed, 1);
-    assert_eq!(rt; segments[1].segment.0, 6);
-    assert_eq!(rt; segments[1].seq.0, 21);
+    assert!(rt; segments.len() == 2);
+    assert!(rt; segments[0].placed == 840);
+    assert!(rt; segments[1].placed == 1);
+    assert!(rt; segments[1].segment.0 == 6);
+    assert!(rt; segments[1].seq.0 == 21);
 }
 
 #[test]
 fn all_segments_but_the_last_are_full(rt: HostRuntime) -> Result<(), NoMemory> {
     let units = [Place { slot: 1, unit: 3 }; SEGMENT_SHARDS];
-    assert_eq!(rt; segments_for(841), 2);
+    assert!(rt; segments_for(841) == 2);
     let segments = new_segments(rt.alloc(), 5, 20, 841, &[units, units])?;
     is_first_full(&rt, &segments);
     Ok(())
@@ -74,9 +74,9 @@ fn all_segments_but_the_last_are_full(rt: HostRuntime) -> Result<(), NoMemory> {
 fn an_id_stands_among_others_or_doesnt(rt: HostRuntime) {
     let ids = [5, 7, 8];
     for (id, place) in [(5, Some(0)), (8, Some(2)), (4, None), (6, None), (9, None)] {
-        assert_eq!(rt; place_of(&ids, id), place, "id {id}");
+        assert!(rt; place_of(&ids, id) == place, "id {id}");
     }
-    assert_eq!(rt; place_of(&[], 9), None);
+    assert!(rt; place_of(&[], 9).is_none());
 }
 
 /// The last address of the second of three new segments.
@@ -95,7 +95,7 @@ fn leave_two(rt: &impl Abort, alloc: Global, found: &[Option<Witness>]) -> Resul
     requires { length found.now ≡ 3 }
 {
     let ids = unfound(alloc, &[5, 6, 7], found)?;
-    assert_eq!(rt; *ids.as_slice(), *[5, 7].as_slice());
+    assert!(rt; *ids.as_slice() == *[5, 7].as_slice());
     Ok(())
 }
 
@@ -106,7 +106,7 @@ fn join_the_other(
     found: &[Option<Witness>],
 ) -> Result<(), NoMemory> {
     let all = with_found(alloc, &[OTHER], found)?;
-    assert_eq!(rt; *all.as_slice(), *[OTHER, WITNESS].as_slice());
+    assert!(rt; *all.as_slice() == *[OTHER, WITNESS].as_slice());
     Ok(())
 }
 
@@ -114,28 +114,25 @@ fn join_the_other(
 fn witnesses_are_the_last_addresses_of_new_segments(rt: HostRuntime) -> Result<(), NoMemory> {
     let facts = [fact(0, 6, 2), fact(1, 4, 1), fact(2, 6, 0), fact(3, 8, 0)];
     let found = new_witnesses(rt.alloc(), 5, 3, &facts)?;
-    assert_eq!(rt; *found.as_slice(), *[None, Some(WITNESS), None].as_slice());
+    assert!(rt; *found.as_slice() == *[None, Some(WITNESS), None].as_slice());
     leave_two(&rt, rt.alloc(), &found)?;
     join_the_other(&rt, rt.alloc(), &found)
 }
 
 /// What is elided after each of four segments.
 fn are_joined(rt: &impl Abort, facts: &[ElisionFact]) {
-    assert_eq!(rt; facts.len(), 4);
+    assert!(rt; facts.len() == 4);
     for (i, first, last) in [(0, 1, 3), (1, 5, 5), (2, 5, 6), (3, 5, 9)] {
-        assert_eq!(rt; facts[i].first, first);
-        assert_eq!(rt; facts[i].last, last);
+        assert!(rt; facts[i].first == first);
+        assert!(rt; facts[i].last == last);
     }
-    assert_eq!(rt; facts[3].seq.0, 43);
+    assert!(rt; facts[3].seq.0 == 43);
 }
 
 /// The four segments are elided beside what was, and other tables are as before.
 fn are_all_elided(rt: &impl Abort, elided: &Elided) {
-    assert_eq!(rt;
-        *elided.ranges(Table::Segment),
-        *[(1, 3), (5, 9)].as_slice()
-    );
-    assert_eq!(rt; elided.is_elided(Table::Medium, 4), true);
+    assert!(rt; *elided.ranges(Table::Segment) == *[(1, 3), (5, 9)].as_slice());
+    assert!(rt; elided.is_elided(Table::Medium, 4));
 }
 
 fn elide_four(rt: &impl Abort, alloc: Global, elided: &mut Elided) -> Result<(), NoMemory> {
@@ -157,7 +154,7 @@ fn elide_beside_some(rt: &impl Abort, alloc: Global, old: &mut Elided) -> Result
     old.elide_range(Table::Segment, 8, 9)?;
     old.elide(Table::Medium, 4)?;
     elide_in_a_copy(rt, alloc, old)?;
-    assert_eq!(rt; old.is_elided(Table::Segment, 3), false);
+    assert!(rt; !old.is_elided(Table::Segment, 3));
     Ok(())
 }
 

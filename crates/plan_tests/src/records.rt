@@ -82,22 +82,25 @@ fn five_patches(alloc: Global) -> Result<Patches, NoMemory>
 
 /// The tags of the patches, and how many facts each has.
 fn stand(rt: &impl Abort, patches: &Patches, expected: &[(u8, u32)]) {
-    assert_eq!(rt; patches.len(), expected.len());
+    assert!(rt; patches.len() == expected.len());
     for index in 0..expected.len() {
         let patch = patches.at(index);
-        assert_eq!(rt; (patch.tag, patch.facts), expected[index], "patch {index}");
+        assert!(rt;
+            (patch.tag, patch.facts) == expected[index],
+            "patch {index}"
+        );
     }
 }
 
 /// A patch has two segments, of which this is the second.
 fn ends_with(rt: &impl Abort, patch: &Patch<'_>, second: &PatchSegment) {
     let segments = patch.segments.as_slice();
-    assert_eq!(rt; segments.len(), 2);
-    assert_eq!(rt; segments[1], *second);
+    assert!(rt; segments.len() == 2);
+    assert!(rt; segments[1] == *second);
 }
 
 fn next(rt: &impl Abort, alloc: Global) -> Result<NextPatches, NoMemory> {
-    assert_eq!(rt; segments_of(&COUNTS), 4);
+    assert!(rt; segments_of(&COUNTS) == 4);
     let was = old_patches(alloc)?;
     let units = [places(4), places(5), places(6), places(7)];
     next_patches(alloc, &was, &COUNTS, 20, &units)
@@ -106,8 +109,8 @@ fn next(rt: &impl Abort, alloc: Global) -> Result<NextPatches, NoMemory> {
 #[test]
 fn new_patches_stand_behind_the_old_ones_of_their_tables(rt: HostRuntime) -> Result<(), NoMemory> {
     let next = next(&rt, rt.alloc())?;
-    assert_eq!(rt; next.added.len(), 3);
-    assert_eq!(rt; next.all.len(), 6);
+    assert!(rt; next.added.len() == 3);
+    assert!(rt; next.all.len() == 6);
     stand(
         &rt,
         &next.all,
@@ -144,9 +147,8 @@ fn are_paired(rt: &impl Abort, patches: &Patches)
     requires { patch_segments patches.now ≤ PATCH_SEGMENTS }
 {
     for (table, index, pair) in &PAIRS {
-        assert_eq!(rt;
-            pair_of(patches, *table, *index),
-            *pair,
+        assert!(rt;
+            pair_of(patches, *table, *index) == *pair,
             "{table:?} {index}"
         );
     }
@@ -158,8 +160,8 @@ fn joins(rt: &impl Abort, alloc: Global, was: &Patches) -> Result<(), NoMemory>
 {
     let units = [places(9), places(10)];
     let next = joined_patches(alloc, was, 2, Table::Address, 6725, 20, &units)?;
-    assert_eq!(rt; next.added.len(), 1);
-    assert_eq!(rt; next.all.len(), 4);
+    assert!(rt; next.added.len() == 1);
+    assert!(rt; next.all.len() == 4);
     stand(rt, &next.all, &[(2, 5), (3, 6), (3, 6725), (5, 8)]);
     ends_with(rt, &next.all.at(2), &segment(21, 10));
     Ok(())
@@ -170,16 +172,16 @@ fn joins_to_none(rt: &impl Abort, alloc: Global, was: &Patches) -> Result<(), No
     requires { length was.now ≡ 5 }
 {
     let without = joined_patches(alloc, was, 1, Table::Address, 0, 20, &[])?;
-    assert_eq!(rt; without.added.len(), 0);
-    assert_eq!(rt; without.all.len(), 3);
-    assert_eq!(rt; without.all.at(1).facts, 7);
+    assert!(rt; without.added.len() == 0);
+    assert!(rt; without.all.len() == 3);
+    assert!(rt; without.all.at(1).facts == 7);
     Ok(())
 }
 
 #[test]
 fn one_patch_stands_in_the_place_of_two(rt: HostRuntime) -> Result<(), NoMemory> {
     let was = five_patches(rt.alloc())?;
-    assert_eq!(rt; was.len(), 5);
+    assert!(rt; was.len() == 5);
     are_paired(&rt, &was);
     joins(&rt, rt.alloc(), &was)?;
     joins_to_none(&rt, rt.alloc(), &was)

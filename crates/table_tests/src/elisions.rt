@@ -14,13 +14,13 @@ fn of_ids(alloc: Global, ids: &[u64]) -> Result<Elided, NoMemory> {
 
 /// The elided mediums are those of these ranges.
 fn has_ranges(rt: &impl Abort, elided: &Elided, ranges: &[(u64, u64)]) {
-    assert_eq!(rt; *elided.ranges(Table::Medium), *ranges);
+    assert!(rt; *elided.ranges(Table::Medium) == *ranges);
 }
 
 /// Whether each of these mediums is elided.
 fn answers(rt: &impl Abort, elided: &Elided, answers: &[(u64, bool)]) {
     for (id, answer) in answers {
-        assert_eq!(rt; elided.is_elided(Table::Medium, *id), *answer, "id {id}");
+        assert!(rt; elided.is_elided(Table::Medium, *id) == *answer, "id {id}");
     }
 }
 
@@ -28,7 +28,7 @@ fn answers(rt: &impl Abort, elided: &Elided, answers: &[(u64, bool)]) {
 fn ids_that_touch_are_one_range(rt: HostRuntime) -> Result<(), NoMemory> {
     let elided = of_ids(rt.alloc(), &[3, 7, 5, 4, 9])?;
     has_ranges(&rt, &elided, &[(3, 5), (7, 7), (9, 9)]);
-    assert_eq!(rt; elided.ranges(Table::Elision).is_empty(), true);
+    assert!(rt; elided.ranges(Table::Elision).is_empty());
     Ok(())
 }
 
@@ -47,9 +47,9 @@ fn ranges_that_touch_are_one(rt: HostRuntime) -> Result<(), NoMemory> {
 
 /// The ids 20 to 30 of addresses are elided, and of no other table.
 fn are_addresses_alone(rt: &impl Abort, elided: &Elided) {
-    assert_eq!(rt; elided.is_elided(Table::Address, 25), true);
-    assert_eq!(rt; elided.is_elided(Table::Address, 31), false);
-    assert_eq!(rt; elided.is_elided(Table::Object, 25), false);
+    assert!(rt; elided.is_elided(Table::Address, 25));
+    assert!(rt; !elided.is_elided(Table::Address, 31));
+    assert!(rt; !elided.is_elided(Table::Object, 25));
 }
 
 #[test]

@@ -1,8 +1,7 @@
 ghost use Rattle.std.specs.Prelude.{◌≡◌, ⊤, slice_get};
 
 use dedup_index::{Fnv, Hint, Index, hash};
-use pur_base::{Location, Lost, ReadBack, Sector, SegmentId};
-use std::test::*;
+use pur_base::{Location, Lost, NoMemory, ReadBack, Sector, SegmentId};
 
 /// Every sector has the hint 0.
 struct Zero;
@@ -49,60 +48,95 @@ fn place(segment: u64, index: u16) -> Location {
     Location { segment, index }
 }
 
-#[test]
-fn equal_hints_are_told_apart_by_the_bytes(rt: HostRuntime) -> Result<(), Fail> {
-    let mut index: Index<Zero> = Index::new(rt.alloc())?;
-    let mut buffer = Sector::default();
-    let sectors = Vec::new(rt.alloc());
-    let mut from = Sectors { sectors };
-    for n in 0..64u8 {
-        let sector = Sector::filled(n);
-        assert_eq!(rt; index.find(&sector, &mut buffer, &mut from), None);
-        index.note(&sector, place(1, n as u16))?;
-        from.sectors.push(sector)?;
+/// Where a sector full of that byte is found.
+fn found<H: Hint>(index: &mut Index<H>, byte: u8, from: &mut Sectors) -> Option<Location> {
+    index.find(&Sector::filled(byte), &mut Sector::default(), from)
+}
+
+/// The same by a hint that is known already.
+fn found_by<H: Hint>(
+    index: &mut Index<H>,
+    hint: u64,
+    byte: u8,
+    from: &mut Sectors,
+) -> Option<Location> {
+    index.find_by(hint, &Sector::filled(byte), &mut Sector::default(), from)
+}
+
+/// Notes a sector that wasn't found before.
+fn note_new(index: &mut Index<Zero>, byte: u8, from: &mut Sectors) -> Result<bool, NoMemory> {
+    if found(index, byte, from).is_some() {
+        return Ok(false);
     }
-    assert_eq!(rt; index.len(), 1);
-    let last = Sector::filled(63);
-    let found = index.find(&last, &mut buffer, &mut from);
-    assert_eq!(rt; found, Some(place(1, 63)));
-    let first = Sector::filled(0);
-    assert_eq!(rt; index.find(&first, &mut buffer, &mut from), None);
-    index.forget(SegmentId(1));
-    assert_eq!(rt; index.find(&last, &mut buffer, &mut from), None);
-    assert_eq!(rt; index.is_empty(), true);
-    Ok(())
+    let sector = Sector::filled(byte);
+    index.note(&sector, place(1, byte as u16))?;
+    from.sectors.push(sector)?;
+    Ok(true)
+}
+
+/// Notes 64 sectors, and tells whether none of them was found before.
+fn note_all(index: &mut Index<Zero>, from: &mut Sectors) -> Result<bool, NoMemory> {
+    for byte in 0..64u8 {
+        if !note_new(index, byte, from)? {
+            return Ok(false);
+        }
+    }
+    Ok(true)
+}
+
+fn forget<H: Hint>(index: &mut Index<H>, segment: u64) {
+    index.forget(SegmentId(segment));
 }
 
 #[test]
-fn sectors_that_are_lost_or_forgotten_are_not_found(rt: HostRuntime) -> Result<(), Fail> {
-    let mut index: Index<Fnv> = Index::new(rt.alloc())?;
-    let mut buffer = Sector::default();
-    let sectors = Vec::from_elem(rt.alloc(), Sector::filled(7), 2)?;
+fn equal_hints_are_told_apart_by_the_bytes(rt: HostRuntime) -> Result<(), NoMemory> {
+    let mut index: Index<Zero> = Index::new(rt.alloc())?;
+    let sectors = Vec::new(rt.alloc());
     let mut from = Sectors { sectors };
+    assert!(rt; note_all(&mut index, &mut from)?);
+    assert!(rt; index.len() == 1);
+    assert!(rt; found(&mut index, 63, &mut from) == Some(place(1, 63)));
+    assert!(rt; found(&mut index, 0, &mut from).is_none());
+    forget(&mut index, 1);
+    assert!(rt; found(&mut index, 63, &mut from).is_none());
+    assert!(rt; index.is_empty());
+    Ok(())
+}
+
+/// The hints of sectors full of 7 and of 8, where the first one stands and the second one is lost.
+fn note_two(index: &mut Index<Fnv>) -> Result<(u64, u64), NoMemory> {
     let sector = Sector::filled(7);
     let other = Sector::filled(8);
     let [hint, absent, ..] = Fnv::of_four([&sector, &other, &sector, &other]);
     index.note_by(hint, place(1, 1))?;
     index.note_by(absent, place(2, 2))?;
-    let found = index.find_by(hint, &sector, &mut buffer, &mut from);
-    assert_eq!(rt; found, Some(place(1, 1)));
-    let lost = index.find_by(absent, &other, &mut buffer, &mut from);
-    assert_eq!(rt; lost, None);
-    index.forget(SegmentId(2));
-    let kept = index.find(&sector, &mut buffer, &mut from);
-    assert_eq!(rt; kept, Some(place(1, 1)));
-    assert_eq!(rt; index.len(), 1);
-    Ok(())
+    Ok((hint, absent))
 }
 
 #[test]
+fn sectors_that_are_lost_or_forgotten_are_not_found(rt: HostRuntime) -> Result<(), NoMemory> {
+    let mut index: Index<Fnv> = Index::new(rt.alloc())?;
+    let sectors = Vec::from_elem(rt.alloc(), Sector::filled(7), 2)?;
+    let mut from = Sectors { sectors };
+    let (hint, absent) = note_two(&mut index)?;
+    assert!(rt; found_by(&mut index, hint, 7, &mut from) == Some(place(1, 1)));
+    assert!(rt; found_by(&mut index, absent, 8, &mut from).is_none());
+    forget(&mut index, 2);
+    assert!(rt; found(&mut index, 7, &mut from) == Some(place(1, 1)));
+    assert!(rt; index.len() == 1);
+    Ok(())
+}
+
+/// Texts and their hashes, as they were published.
+const HASHES: [(&str, u64); 3] = [
+    ("", 0xcbf29ce484222325),
+    ("a", 0xaf63dc4c8601ec8c),
+    ("foobar", 0x85944171f73967e8),
+];
+
+#[test]
 fn published_texts_are_hashed(rt: HostRuntime) {
-    let hashes: [(&[u8], u64); 3] = [
-        (b"", 0xcbf29ce484222325),
-        (b"a", 0xaf63dc4c8601ec8c),
-        (b"foobar", 0x85944171f73967e8),
-    ];
-    for (text, want) in hashes {
-        assert_eq!(rt; hash(text), want, "{text:?}");
+    for (text, want) in HASHES {
+        assert!(rt; hash(text.as_bytes()) == want, "{text}");
     }
 }

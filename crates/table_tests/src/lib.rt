@@ -1,4 +1,4 @@
-//! Tests of the tables in memory, of the index of hints, of the plain array and of the units that are free: each call once on its happy path.
+//! Tests of the tables in memory, of the map of units, of the index of hints and of the plain array: each call once on its happy path.
 #![tactic(auto)]
 
 #[cfg(test)]
@@ -15,8 +15,6 @@ mod objects;
 mod plain;
 #[cfg(test)]
 mod pyramids;
-#[cfg(test)]
-mod room;
 #[cfg(test)]
 mod segments;
 #[cfg(test)]

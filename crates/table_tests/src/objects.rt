@@ -50,15 +50,15 @@ fn table_of_one(alloc: Global) -> Result<ObjectTable, NoMemory>
 
 /// The volume is the only object.
 fn has_the_volume(rt: &impl Abort, table: &ObjectTable) {
-    assert_eq!(rt; table.len(), 1);
-    assert_eq!(rt; table.get(&name_a()).is_some(), true);
+    assert!(rt; table.len() == 1);
+    assert!(rt; table.get(&name_a()).is_some());
 }
 
 /// The volume reads as this medium, by the second of two facts.
 fn has_medium(rt: &impl Abort, table: &ObjectTable, expected: MediumId) {
     let medium = table.at(0).map(|object| object.medium);
-    assert_eq!(rt; medium, Some(expected));
-    assert_eq!(rt; table.facts().unflushed().len(), 2);
+    assert!(rt; medium == Some(expected));
+    assert!(rt; table.facts().unflushed().len() == 2);
 }
 
 #[test]
@@ -66,7 +66,7 @@ fn an_object_is_found_until_it_is_removed(rt: HostRuntime) -> Result<(), NoMemor
     let mut table = table_of_one(rt.alloc())?;
     has_the_volume(&rt, &table);
     table.remove(ObjectId(3));
-    assert_eq!(rt; table.get(&name_a()).is_none(), true);
+    assert!(rt; table.get(&name_a()).is_none());
     Ok(())
 }
 

@@ -36,10 +36,10 @@ fn says_the_range(
     alloc: Global,
     table: &Pyramid<MediumFact>,
 ) -> Result<(), NoMemory> {
-    assert_eq!(rt; table.newest(KEY, &[]), Some(range()));
-    assert_eq!(rt; table.newest(KEY + 1, &[]), None);
+    assert!(rt; table.newest(KEY, &[]) == Some(range()));
+    assert!(rt; table.newest(KEY + 1, &[]).is_none());
     let found = table.range(alloc, KEY, KEY, &[])?;
-    assert_eq!(rt; *found.as_slice(), *[range()].as_slice());
+    assert!(rt; *found.as_slice() == *[range()].as_slice());
     Ok(())
 }
 
@@ -48,7 +48,7 @@ fn a_fact_is_said_before_a_flush(rt: HostRuntime) -> Result<(), NoMemory> {
     let mut table = table_of_one(rt.alloc())?;
     says_the_range(&rt, rt.alloc(), &table)?;
     table.take_back(Seq(10));
-    assert_eq!(rt; table.unflushed().is_empty(), true);
+    assert!(rt; table.unflushed().is_empty());
     Ok(())
 }
 
@@ -62,9 +62,9 @@ fn flush(table: &mut Pyramid<MediumFact>, alloc: Global) -> Result<(), NoMemory>
 fn a_fact_is_said_after_a_flush(rt: HostRuntime) -> Result<(), NoMemory> {
     let mut table = table_of_one(rt.alloc())?;
     flush(&mut table, rt.alloc())?;
-    assert_eq!(rt; table.patches().len(), 1);
-    assert_eq!(rt; table.unflushed().is_empty(), true);
-    assert_eq!(rt; table.newest(KEY, &[]), Some(range()));
+    assert!(rt; table.patches().len() == 1);
+    assert!(rt; table.unflushed().is_empty());
+    assert!(rt; table.newest(KEY, &[]) == Some(range()));
     Ok(())
 }
 
@@ -114,10 +114,10 @@ fn merge_both(table: &mut Pyramid<MediumFact>, alloc: Global) -> Result<(), NoMe
 #[test]
 fn a_merge_leaves_the_newer_fact(rt: HostRuntime) -> Result<(), NoMemory> {
     let mut table = two_patches(rt.alloc())?;
-    assert_eq!(rt; table.patches().len(), 2);
+    assert!(rt; table.patches().len() == 2);
     merge_both(&mut table, rt.alloc())?;
-    assert_eq!(rt; table.patches().len(), 1);
-    assert_eq!(rt; *table.patches()[0].facts(), *[longer()].as_slice());
+    assert!(rt; table.patches().len() == 1);
+    assert!(rt; *table.patches()[0].facts() == *[longer()].as_slice());
     Ok(())
 }
 
@@ -134,9 +134,9 @@ fn rewrite(table: &mut Pyramid<MediumFact>, alloc: Global) -> Result<(), NoMemor
 fn a_rewriting_leaves_no_elided_fact(rt: HostRuntime) -> Result<(), NoMemory> {
     let mut table = Pyramid::new(rt.alloc(), 1)?;
     flush_one(&mut table, rt.alloc(), range())?;
-    assert_eq!(rt; table.patches().len(), 1);
+    assert!(rt; table.patches().len() == 1);
     rewrite(&mut table, rt.alloc())?;
-    assert_eq!(rt; table.patches().len(), 0);
+    assert!(rt; table.patches().len() == 0);
     Ok(())
 }
 
@@ -172,9 +172,9 @@ fn said_of_two(
 #[test]
 fn patches_are_loaded_where_numbers_rise(rt: HostRuntime) -> Result<(), NoMemory> {
     let said = said_of_two(rt.alloc(), range(), longer())?;
-    assert_eq!(rt; said, Ok(Some(longer())));
+    assert!(rt; said == Ok(Some(longer())));
     let refused = said_of_two(rt.alloc(), longer(), range())?;
-    assert_eq!(rt; refused, Err(LoadFault::NotRising));
+    assert!(rt; refused == Err(LoadFault::NotRising));
     Ok(())
 }
 
@@ -183,6 +183,6 @@ fn room_is_reserved(rt: HostRuntime) -> Result<(), NoMemory> {
     let mut table = Pyramid::new(rt.alloc(), 0)?;
     table.reserve(2)?;
     table.insert_run(&[range()])?;
-    assert_eq!(rt; table.unflushed().len(), 1);
+    assert!(rt; table.unflushed().len() == 1);
     Ok(())
 }

@@ -39,19 +39,19 @@ fn flush(table: &mut SegmentTable, alloc: Global) -> Result<(), NoMemory> {
 
 /// The segment is visible, and no other.
 fn has_the_segment(rt: &impl Abort, table: &SegmentTable) {
-    assert_eq!(rt; table.all().len(), 1);
-    assert_eq!(rt; table.places(SegmentId(3)), Some(segment().places));
-    assert_eq!(rt; table.nth(0).is_some(), true);
+    assert!(rt; table.all().len() == 1);
+    assert!(rt; table.places(SegmentId(3)) == Some(segment().places));
+    assert!(rt; table.nth(0).is_some());
 }
 
 #[test]
 fn a_segment_is_found_until_its_id_is_elided(rt: HostRuntime) -> Result<(), NoMemory> {
     let mut table = table_of_one(rt.alloc())?;
     flush(&mut table, rt.alloc())?;
-    assert_eq!(rt; table.facts().patches().len(), 1);
+    assert!(rt; table.facts().patches().len() == 1);
     has_the_segment(&rt, &table);
     table.remove_elided(&[(1, 3)]);
-    assert_eq!(rt; table.places(SegmentId(3)), None);
+    assert!(rt; table.places(SegmentId(3)).is_none());
     Ok(())
 }
 
@@ -61,9 +61,9 @@ fn a_segment_is_taken_back(rt: HostRuntime) -> Result<(), NoMemory> {
     table.reserve_facts(1)?;
     table.add(segment())?;
     table.take_back(Seq(11));
-    assert_eq!(rt; table.all().len(), 1);
+    assert!(rt; table.all().len() == 1);
     table.take_back(Seq(10));
-    assert_eq!(rt; table.all().len(), 0);
-    assert_eq!(rt; table.facts().unflushed().len(), 0);
+    assert!(rt; table.all().len() == 0);
+    assert!(rt; table.facts().unflushed().len() == 0);
     Ok(())
 }

@@ -39,21 +39,21 @@ fn places_of(places: [(u8, u16); SEGMENT_SHARDS]) -> Places {
 
 /// The groups that are taken first, one by one.
 fn takes_in_order(rt: &impl Abort, map: &mut UnitMap) {
-    assert_eq!(rt; map.groups(), 74);
+    assert!(rt; map.groups() == 74);
     let first = map.take();
-    assert_eq!(rt; first, Some(places_of(FIRST)));
-    assert_eq!(rt; map.groups(), 73);
-    assert_eq!(rt; map.take(), Some(places_of(SECOND)));
+    assert!(rt; first == Some(places_of(FIRST)));
+    assert!(rt; map.groups() == 73);
+    assert!(rt; map.take() == Some(places_of(SECOND)));
 }
 
 #[test]
 fn takes_and_gives_back(rt: HostRuntime) -> Result<(), NoMemory> {
     let mut map = UnitMap::new(rt.alloc(), 11, 64)?;
-    assert_eq!(rt; map.free(10), 61);
+    assert!(rt; map.free(10) == 61);
     takes_in_order(&rt, &mut map);
     map.take();
     map.take();
-    assert_eq!(rt; map.groups(), 70);
+    assert!(rt; map.groups() == 70);
     Ok(())
 }
 
@@ -63,8 +63,8 @@ fn gives_back_what_it_took(rt: HostRuntime) -> Result<(), NoMemory> {
     if let Some(places) = map.take() {
         map.give_back(&places);
     }
-    assert_eq!(rt; map.groups(), 74);
-    assert_eq!(rt; map.take(), Some(places_of(FIRST)));
+    assert!(rt; map.groups() == 74);
+    assert!(rt; map.take() == Some(places_of(FIRST)));
     Ok(())
 }
 
@@ -74,20 +74,20 @@ fn loses_members(rt: &impl Abort, map: &mut UnitMap)
     ensures { length map.new ≡ 11 }
 {
     map.set_member(0, false);
-    assert_eq!(rt; map.groups(), 67);
+    assert!(rt; map.groups() == 67);
     map.set_member(10, false);
-    assert_eq!(rt; map.groups(), 61);
+    assert!(rt; map.groups() == 61);
     map.set_member(9, false);
-    assert_eq!(rt; map.groups(), 0);
+    assert!(rt; map.groups() == 0);
 }
 
 #[test]
 fn takes_of_members_alone(rt: HostRuntime) -> Result<(), NoMemory> {
     let mut map = UnitMap::new(rt.alloc(), 11, 64)?;
     loses_members(&rt, &mut map);
-    assert_eq!(rt; map.take(), None);
+    assert!(rt; map.take().is_none());
     map.set_member(0, true);
-    assert_eq!(rt; map.take(), Some(places_of(FIRST)));
+    assert!(rt; map.take() == Some(places_of(FIRST)));
     Ok(())
 }
 
@@ -98,8 +98,8 @@ fn marks_a_unit_used(rt: HostRuntime) -> Result<(), NoMemory> {
     if map.is_free(&place) {
         map.mark_used(&place);
     }
-    assert_eq!(rt; map.is_free(&place), false);
-    assert_eq!(rt; map.free(4), 60);
-    assert_eq!(rt; map.groups(), 74);
+    assert!(rt; !map.is_free(&place));
+    assert!(rt; map.free(4) == 60);
+    assert!(rt; map.groups() == 74);
     Ok(())
 }

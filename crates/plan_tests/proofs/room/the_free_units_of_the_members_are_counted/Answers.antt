@@ -7,9 +7,9 @@ use Rattle.pur_base.specs.declared.facts.SegmentFact.{SegmentFact}
 use Rattle.pur_base.proofs.SaysLemmas.{says_is}
 use Rattle.boot_codec.specs.declared.record.BootRecord.{BootRecord}
 use Rattle.array_spec.specs.Sound.{ArePlaces, named_segments, used_places}
-use Rattle.table_tests.specs.declared.room.TheConstants.{SEGMENT}
+use Rattle.plan_tests.specs.declared.room.TheConstants.{SEGMENT}
 use Rattle.free_space.specs.Map.{shelf_of, AreDataSegments}
-use Rattle.table_tests.proofs.room.the_free_units_of_the_members_are_counted.Goals as goal
+use Rattle.plan_tests.proofs.room.the_free_units_of_the_members_are_counted.Goals as goal
 
 -- tables of these data segments alone
 abbrev tables_of : List SegmentFact → Facts
