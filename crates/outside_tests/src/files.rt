@@ -3,7 +3,7 @@ use pur_base::{Device, DriveId, NVRAM_BYTES, NvId, UNIT_BYTES};
 use std::fs::{File, OpenFile};
 use std::test::Fail;
 use std::{fs, io};
-use world::{Failed, Shelf};
+use world::Shelf;
 use world_file::{Files, NoShelf};
 
 const DRIVE_BYTES: u64 = 64 * UNIT_BYTES as u64;
@@ -35,9 +35,9 @@ fn remove_shelf(rt: &HostRuntime) -> io::Result<()> {
 }
 
 // What a write, a sync and a read of the last sector answer, and the counts after them.
-fn try_drive(files: &mut Files, drive: u8) -> ([bool; 3], u64, u64) {
+fn try_drive(files: &mut Files, drive: u8) -> ([bool; 3], (u64, u64)) {
     if drive >= files.drives() || files.units() < 64 {
-        return ([false; 3], 0, 0);
+        return ([false; 3], (0, 0));
     }
     let device = Device::Drive(DriveId(drive));
     let at = DRIVE_BYTES - 512;
@@ -46,11 +46,8 @@ fn try_drive(files: &mut Files, drive: u8) -> ([bool; 3], u64, u64) {
     let mut sector = [0; 512];
     let read = files.read(device, at, &mut sector);
     let same = read.is_ok() && sector == [7; 512];
-    (
-        [wrote.is_ok(), synced.is_ok(), same],
-        files.faults(device),
-        files.write_faults(device),
-    )
+    let counts = (files.faults(device), files.write_faults(device));
+    ([wrote.is_ok(), synced.is_ok(), same], counts)
 }
 
 /// Texts, and how many drives and units they tell where they tell a shape.
@@ -88,25 +85,44 @@ fn shape_of(rt: &HostRuntime, text: &str) -> Result<Option<(u8, u16)>, Fail> {
     }
 }
 
+/// Whether the shelf tells its shape, and no other program may open it at once.
+fn is_opened_once(rt: &HostRuntime, files: &Files) -> bool {
+    let again = Files::open(rt).err();
+    (files.drives(), files.units()) == (11, 64) && again == Some(NoShelf::InUse)
+}
+
+/// What calls on drives answer: why one fails, the drive, whether its write, its sync and its read succeed, and the counts of its failed calls.
+const ANSWERS: [(&str, u8, bool, (u64, u64)); 4] = [
+    ("sound", 0, true, (0, 0)),
+    ("short", 1, false, (3, 2)),
+    ("long", 2, false, (3, 2)),
+    ("absent", 3, false, (3, 2)),
+];
+
+/// Whether the NVRAM device that is absent fails, and the other serves.
+fn one_nvram_serves(files: &mut Files) -> bool {
+    files.sync(Device::Nv(NvId(0))).is_err() && files.sync(Device::Nv(NvId(1))).is_ok()
+}
+
 // All in one test, since the folder has one name.
 #[test]
 fn a_shelf_is_opened_once_at_a_time_by_texts_of_the_form_and_files_absent_or_of_another_length_fail(
     rt: HostRuntime,
 ) -> Result<(), Fail> {
-    assert_eq!(rt; Files::open(&rt).err(), Some(NoShelf::BadText));
+    assert!(rt; Files::open(&rt).err() == Some(NoShelf::BadText));
     make_shelf(&rt)?;
     let mut files = Files::open(&rt)?;
-    assert_eq!(rt; (files.drives(), files.units()), (11, 64));
-    assert_eq!(rt; Files::open(&rt).err(), Some(NoShelf::InUse));
-    assert_eq!(rt; try_drive(&mut files, 0), ([true; 3], 0, 0), "sound");
-    assert_eq!(rt; try_drive(&mut files, 1), ([false; 3], 3, 2), "short");
-    assert_eq!(rt; try_drive(&mut files, 2), ([false; 3], 3, 2), "long");
-    assert_eq!(rt; try_drive(&mut files, 3), ([false; 3], 3, 2), "absent");
-    assert_eq!(rt; files.sync(Device::Nv(NvId(0))), Err(Failed));
-    assert_eq!(rt; files.sync(Device::Nv(NvId(1))), Ok(()));
+    assert!(rt; is_opened_once(&rt, &files));
+    for (what, drive, serves, counts) in ANSWERS {
+        assert!(rt;
+            try_drive(&mut files, drive) == ([serves; 3], counts),
+            "{what}"
+        );
+    }
+    assert!(rt; one_nvram_serves(&mut files));
     drop(files);
     for (text, want) in SHAPES {
-        assert_eq!(rt; shape_of(&rt, text)?, want, "at {text}");
+        assert!(rt; shape_of(&rt, text)? == want, "at {text}");
     }
     remove_shelf(&rt)?;
     Ok(())

@@ -87,37 +87,64 @@ fn next_letter(reader: &mut Reader, source: &mut Pieces) -> Result<char, Failed>
     })
 }
 
+/// What is read, by its letters.
+const LETTERS: [char; 10] = ['c', 'w', 'f', 's', 's', 's', 's', 's', 'r', 'l'];
+
+/// Whether the next items are these.
+fn reads_letters(reader: &mut Reader, source: &mut Pieces) -> Result<bool, Failed> {
+    for want in LETTERS {
+        if next_letter(reader, source)? != want {
+            return Ok(false);
+        }
+    }
+    Ok(true)
+}
+
+/// Whether the end comes then, for which nothing more is asked.
+fn reads_end(reader: &mut Reader, source: &mut Pieces) -> Result<bool, Failed> {
+    let asked = source.asked;
+    Ok(next_letter(reader, source)? == '.' && source.asked == asked)
+}
+
+/// Whether the items are read of an input that comes in pieces of this size.
+fn reads_all(alloc: Global, input: &[u8], piece: usize) -> Result<bool, Fail> {
+    let mut reader = Reader::new(alloc)?;
+    let mut source = Pieces {
+        bytes: input,
+        piece,
+        asked: 0,
+    };
+    Ok(reads_letters(&mut reader, &mut source)? && reads_end(&mut reader, &mut source)?)
+}
+
 #[test]
 fn items_are_the_same_at_every_piece_size(rt: HostRuntime) -> Result<(), Fail> {
     let input = session(rt.alloc())?;
     for piece in 1..8 {
-        let mut reader = Reader::new(rt.alloc())?;
-        let mut source = Pieces {
-            bytes: &input,
-            piece,
-            asked: 0,
-        };
-        for want in ['c', 'w', 'f', 's', 's', 's', 's', 's', 'r', 'l'] {
-            let got = next_letter(&mut reader, &mut source)?;
-            assert_eq!(rt; got, want, "at pieces of {piece}");
-        }
-        let asked = source.asked;
-        let got = next_letter(&mut reader, &mut source)?;
-        assert_eq!(rt; got, '.');
-        assert_eq!(rt; source.asked, asked, "asked after the end");
+        assert!(rt;
+            reads_all(rt.alloc(), &input, piece)?,
+            "at pieces of {piece}"
+        );
     }
     Ok(())
+}
+
+/// Writes 64 sectors that were read, and tells how many gives that took, and how many a flush takes then.
+fn gives_of(writer: &mut ReplyWriter, sectors: &[Sector]) -> Result<(u64, Counter), Failed> {
+    let mut sink = Counter { gives: 0, bytes: 0 };
+    writer.write_reply(&Reply::Data { count: 64 }, sectors, &mut sink)?;
+    let before = sink.gives;
+    writer.flush(&mut sink)?;
+    Ok((before, sink))
 }
 
 #[test]
 fn a_reply_of_64_sectors_is_one_give(rt: HostRuntime) -> Result<(), Fail> {
     let sectors = vec![in rt.alloc(); Sector::filled(7); REQUEST_SECTORS]?;
-    let mut sink = Counter { gives: 0, bytes: 0 };
     let mut writer = ReplyWriter::new(rt.alloc())?;
-    writer.write_reply(&Reply::Data { count: 64 }, &sectors, &mut sink)?;
-    assert_eq!(rt; sink.gives, 0);
-    writer.flush(&mut sink)?;
-    assert_eq!(rt; sink.gives, 1);
-    assert_eq!(rt; sink.bytes, 32_776);
+    let (before, sink) = gives_of(&mut writer, &sectors)?;
+    assert!(rt; before == 0);
+    assert!(rt; sink.gives == 1);
+    assert!(rt; sink.bytes == 32_776);
     Ok(())
 }
