@@ -3,6 +3,8 @@ pub mod Shown
 pub mod Tables
 pub mod Log
 pub mod Opening
+pub mod Slots
+pub mod Sides
 pub mod Numbers
 pub mod Found
 pub mod Looking

@@ -21,6 +21,7 @@ use Rattle.shelf_look.specs.declared.record.RecordSeen.{RecordSeen}
 use Rattle.shelf_look.specs.Causes.{status_of}
 use Rattle.shelf_look.specs.Found.{IsFoundOf}
 use Rattle.shelf_look.specs.Opening.{IsCauseOf, IsOpeningOf}
+use Rattle.shelf_look.specs.Sides.{AreSides}
 
 -- ---- the record
 
@@ -79,7 +80,7 @@ IsOutcome old new bytes answered (Ok f) = (o : Opening) × IsOpeningOf old new b
 IsOutcome old new bytes answered (Err (cause.Memory m)) = ⊥
 IsOutcome old new bytes answered (Err c) = IsCauseOf old new bytes answered c
 
--- What the shelf shows, and what an opening would find: each drive answered with its boot region, or a call on it failed.
+-- What the shelf shows, and what an opening would find: each drive answered with its boot region, or a call on it failed, and each NVRAM device with its slots of the log.
 pub record IsLook (old new : Shelved) (x : Looked) : Type 0 where
   pub slots : x.slots ≡ old.drives
   pub units : x.units ≡ old.units
@@ -89,6 +90,7 @@ pub record IsLook (old new : Shelved) (x : Looked) : Type 0 where
   pub read : (i : ℕ) → i < old.drives → IsRead old new bytes answered i
   pub record_seen : IsRecordSeen (geometry_of old) bytes answered x.record
   pub drives : AreStates x.record answered x.drives
+  pub logs : AreSides old new x.record x.logs
   pub outcome : IsOutcome old new bytes answered x.found
 
 -- with that an opening ends, or begins to serve

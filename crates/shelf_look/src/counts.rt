@@ -6,7 +6,7 @@ use boot_codec::Patches;
 const TABLES: usize = 5;
 
 /// How many patches a table has, segments of theirs, facts in them, and facts that are visible.
-#[derive(Clone, Copy, Debug, PartialEq, Eq, Drop)]
+#[derive(Clone, Copy, Drop)]
 pub struct TableCounts {
     pub patches: usize,
     pub segments: usize,

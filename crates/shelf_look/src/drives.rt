@@ -6,7 +6,7 @@ use crate::record::RecordSeen;
 use boot_codec::DRIVE_FLAGS;
 
 /// What a drive showed of the record in force.
-#[derive(Clone, Copy, Debug, PartialEq, Eq)]
+#[derive(Clone, Copy)]
 pub enum DriveState {
     /// The record names it, and it holds the record.
     Holding,

@@ -13,6 +13,7 @@ use crate::finding::find;
 use crate::found::{Found, found_of};
 use crate::record::{RecordSeen, record_seen};
 use crate::sides::read_sides;
+use crate::slots::SlotsSeen;
 use crate::{Cause, Opening};
 use boot_codec::{DRIVE_FLAGS, NVRAM_FLAGS};
 use boot_region::{Regions, read_regions};
@@ -30,8 +31,8 @@ pub struct Looked {
     pub record: Option<RecordSeen>,
     /// What each drive shows of it.
     pub drives: [DriveState; DRIVE_FLAGS],
-    /// How many commands of the log each NVRAM device shows that it names, in front of the first slot in which the device shows none.
-    pub logs: [Option<usize>; NVRAM_FLAGS],
+    /// In which slots of the log each NVRAM device shows commands, if the record names it and no read of these slots failed.
+    pub logs: [Option<SlotsSeen>; NVRAM_FLAGS],
     /// What an opening would find, or why it would find no array.
     pub found: Result<Found, Cause>,
 }
@@ -74,7 +75,7 @@ pub fn look<S: Shelf>(alloc: Global, shelf: &mut S) -> Result<Looked, NoMemory>
     let mut regions = Regions::new(alloc, slots)?;
     read_regions(shelf, &mut regions);
     let record = record_seen(alloc, &regions, units)?;
-    let logs = read_sides(alloc, shelf, &record)?;
+    let logs = read_sides(shelf, &record);
     let drives = states_of(&record, &regions.answered);
     let opening = find(alloc, shelf, &regions);
     let found = told(alloc, opening)?;

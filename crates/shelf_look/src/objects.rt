@@ -13,7 +13,7 @@ pub struct ObjectSeen {
 }
 
 /// A data segment, and how many of its sectors a visible address names.
-#[derive(Clone, Copy, Debug, PartialEq, Eq, Drop)]
+#[derive(Clone, Copy, Drop)]
 pub struct SegmentSeen {
     pub segment: SegmentFact,
     pub named: u32,

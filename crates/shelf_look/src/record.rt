@@ -9,7 +9,7 @@ use pur_base::NoMemory;
 use std::alloc::Global;
 
 /// The record that more than half of all drives show: whether or not the array can be opened.
-#[derive(Clone, Copy, Debug, PartialEq, Eq, Drop)]
+#[derive(Clone, Copy, Drop)]
 pub struct RecordSeen {
     pub generation: u64,
     pub slot: Slot,

@@ -1,7 +1,8 @@
 // Shelves in memory, sessions over them, and views of them.
 use array_server::{init, serve};
+use boot_codec::DRIVE_FLAGS;
 use pur_base::{Device, DriveId, NvId, Status};
-use shelf_words::{Asked, Told, view};
+use shelf_words::{Asked, Drives, Told, view};
 use std::alloc::Global;
 use std::test::Fail;
 use world::{Shelf, write_synced};
@@ -90,17 +91,14 @@ fn has_only_read(world: &MemWorld) -> bool {
     !world.calls().is_empty()
 }
 
-/// What is told of the shelf. It is an error where it made a call that is no read.
-pub fn viewed(alloc: Global, world: &mut MemWorld, json: bool) -> Result<Told, Fail> {
+/// What is told of the shelf where these drives are there. It is an error where it made a call that is no read.
+fn viewed(alloc: Global, world: &mut MemWorld, there: &Drives, json: bool) -> Result<Told, Fail> {
     world.forget();
-    let told = view(
-        alloc,
-        world,
-        Asked {
-            json,
-            objects: true,
-        },
-    )?;
+    let asked = Asked {
+        json,
+        objects: true,
+    };
+    let told = view(alloc, world, there, asked)?;
     if !has_only_read(world) {
         return Err(Fail::new("it made another call than a read"));
     }
@@ -108,8 +106,8 @@ pub fn viewed(alloc: Global, world: &mut MemWorld, json: bool) -> Result<Told, F
 }
 
 /// Whether one of its lines is this.
-pub fn has(told: &Told, line: &str) -> bool {
-    for other in told.text.lines() {
+fn has_line(text: &str, line: &str) -> bool {
+    for other in text.lines() {
         if other == line {
             return true;
         }
@@ -117,7 +115,72 @@ pub fn has(told: &Told, line: &str) -> bool {
     false
 }
 
-/// Whether a session ends as was told.
-pub fn ends_so(alloc: Global, world: &mut MemWorld, told: &Told) -> Result<bool, Fail> {
-    Ok(session(alloc, world, b"")? == told.status)
+/// An error where a text doesn't have each of these lines.
+fn has_lines(text: &str, lines: &[&str]) -> Result<(), Fail> {
+    for line in lines {
+        if !has_line(text, *line) {
+            return Err(Fail::new(format_args!("it doesn't tell: {line}")));
+        }
+    }
+    Ok(())
+}
+
+/// An error where a text doesn't have each of these parts.
+fn has_parts(text: &str, parts: &[&str]) -> Result<(), Fail> {
+    for part in parts {
+        if !text.contains(*part) {
+            return Err(Fail::new(format_args!("it doesn't tell: {part}")));
+        }
+    }
+    Ok(())
+}
+
+/// An error where the status is another one.
+fn is_status(status: Status, wanted: Status) -> Result<(), Fail> {
+    if status == wanted {
+        Ok(())
+    } else {
+        Err(Fail::new("another status"))
+    }
+}
+
+/// An error where a view of the shelf, of which these drives are there, tells another status, or not each of these lines.
+pub fn shows_where(
+    alloc: Global,
+    world: &mut MemWorld,
+    there: &Drives,
+    status: Status,
+    lines: &[&str],
+) -> Result<(), Fail> {
+    let told = viewed(alloc, world, there, false)?;
+    is_status(told.status, status)?;
+    has_lines(&told.text, lines)
+}
+
+/// The same where all drives are there.
+pub fn shows(
+    alloc: Global,
+    world: &mut MemWorld,
+    status: Status,
+    lines: &[&str],
+) -> Result<(), Fail> {
+    shows_where(alloc, world, &[true; DRIVE_FLAGS], status, lines)
+}
+
+/// An error where a view as JSON tells another status than `Done`, or not each of these parts.
+pub fn shows_json(
+    alloc: Global,
+    world: &mut MemWorld,
+    there: &Drives,
+    parts: &[&str],
+) -> Result<(), Fail> {
+    let told = viewed(alloc, world, there, true)?;
+    is_status(told.status, Status::Done)?;
+    has_parts(&told.text, parts)
+}
+
+/// An error where a session ends in another way.
+pub fn ends(alloc: Global, world: &mut MemWorld, status: Status) -> Result<(), Fail> {
+    let end = session(alloc, world, b"")?;
+    is_status(end, status)
 }

@@ -3,12 +3,14 @@
 #![tactic(auto)]
 
 mod asked;
+mod drives;
 mod only;
 
 use crate::asked::asked_by;
+use crate::drives::drives_there;
 use crate::only::view_only;
 use program_endings::{IN_USE, NO_SHELF, code_of, text_of};
-use pur_base::Status;
+use pur_base::{NoMemory, Status};
 use shelf_reads::ReadOnly;
 use shelf_words::{Asked, Told};
 use std::process::ExitCode;
@@ -49,16 +51,20 @@ fn tell(rt: &HostRuntime, told: &Told) -> ExitCode {
     }
 }
 
+/// What these files show, of which reads alone are passed on.
+fn told_of(rt: &HostRuntime, files: Files, asked: Asked) -> Result<Told, NoMemory> {
+    let there = drives_there(rt, &files)?;
+    let mut only = ReadOnly::new(files);
+    view_only(rt.alloc(), &mut only, &there, asked)
+}
+
 /// Looks at the shelf of the current folder.
 fn run(rt: &HostRuntime, asked: Asked) -> ExitCode {
     match Files::open(rt) {
-        Ok(files) => {
-            let mut only = ReadOnly::new(files);
-            match view_only(rt.alloc(), &mut only, asked) {
-                Ok(told) => tell(rt, &told),
-                Err(_) => end(rt, Status::Memory),
-            }
-        }
+        Ok(files) => match told_of(rt, files, asked) {
+            Ok(told) => tell(rt, &told),
+            Err(_) => end(rt, Status::Memory),
+        },
         Err(NoShelf::Memory) => end(rt, Status::Memory),
         Err(NoShelf::BadText) => leave(rt, NO_SHELF, "no shelf"),
         Err(NoShelf::InUse) => leave(rt, IN_USE, "in use"),

@@ -3,7 +3,7 @@ ghost use Rattle.shelf_reads.specs.Reads.{AreOnlyRead};
 
 use pur_base::NoMemory;
 use shelf_reads::ReadOnly;
-use shelf_words::{Asked, Told, view};
+use shelf_words::{Asked, Drives, Told, view};
 use std::alloc::Global;
 use world::Shelf;
 
@@ -11,9 +11,10 @@ use world::Shelf;
 pub fn view_only<S: Shelf>(
     alloc: Global,
     shelf: &mut ReadOnly<S>,
+    there: &Drives,
     asked: Asked,
 ) -> Result<Told, NoMemory>
     ensures { AreOnlyRead (S.shelf shelf.old.inner) (S.shelf shelf.new.inner) }
 {
-    view(alloc, shelf, asked)
+    view(alloc, shelf, there, asked)
 }

@@ -1,7 +1,10 @@
 // A look as one JSON object.
 use crate::page::name_text;
 use crate::picture::{bar_of, free_in};
+use crate::slots::{Logs, SlotRange, front_of, ranges_of};
+use crate::viewing::Drives;
 use crate::words::{TABLES, cause_text, kind_text, slot_text};
+use boot_codec::DRIVE_FLAGS;
 use pur_base::NoMemory;
 use serde_json::{Map, Value, put};
 use shelf_look::{
@@ -12,12 +15,12 @@ use std::alloc::{AllocError, Global};
 
 type Members = Map<String, Value>;
 
-fn state_word(state: DriveState) -> &'static str {
+fn state_word(state: DriveState, is_there: bool) -> &'static str {
     match state {
         DriveState::Holding => "holding",
         DriveState::Other => "other",
         DriveState::LeftOut => "left out",
-        DriveState::Silent => "silent",
+        DriveState::Silent => if is_there { "failed" } else { "absent" },
     }
 }
 
@@ -28,6 +31,25 @@ fn put_text(map: &mut Members, alloc: Global, key: &str, text: &str) -> Result<(
 
 fn put_number(map: &mut Members, alloc: Global, key: &str, number: u64) -> Result<(), AllocError> {
     put(map, alloc, key, Value::from(number))
+}
+
+/// Adds numbers under their names.
+fn put_numbers(
+    map: &mut Members,
+    alloc: Global,
+    numbers: &[(&str, u64)],
+) -> Result<(), AllocError> {
+    for (key, number) in numbers {
+        put_number(map, alloc, *key, *number)?;
+    }
+    Ok(())
+}
+
+/// An object of numbers.
+fn numbers_object(alloc: Global, numbers: &[(&str, u64)]) -> Result<Value, AllocError> {
+    let mut map = Map::new(alloc);
+    put_numbers(&mut map, alloc, numbers)?;
+    Ok(Value::Object(map))
 }
 
 fn put_flags(
@@ -62,34 +84,44 @@ fn record_value(alloc: Global, record: &Option<RecordSeen>) -> Result<Value, All
     }
 }
 
-fn put_drives(map: &mut Members, alloc: Global, looked: &Looked) -> Result<(), AllocError> {
+fn drive_words(alloc: Global, looked: &Looked, there: &Drives) -> Result<Vec<Value>, AllocError> {
     let mut all = Vec::new(alloc);
-    for slot in 0..usize::from(looked.slots) {
-        if let Some(state) = looked.drives.get(slot) {
-            let value = Value::try_from_str(alloc, state_word(*state))?;
-            all.push(value)?;
-        }
+    let count = usize::from(looked.slots).min(DRIVE_FLAGS);
+    for slot in 0..count {
+        let word = state_word(looked.drives[slot], there[slot]);
+        let value = Value::try_from_str(alloc, word)?;
+        all.push(value)?;
     }
-    put(map, alloc, "drives", Value::Array(all))
+    Ok(all)
 }
 
-fn put_numbers(map: &mut Members, alloc: Global, n: &Numbers) -> Result<(), AllocError> {
-    put_number(map, alloc, "generation", n.generation)?;
-    put_number(map, alloc, "drives", n.drives as u64)?;
-    put_number(map, alloc, "holding", n.holding as u64)?;
-    put_number(map, alloc, "nvrams", n.nvrams as u64)?;
-    put_number(map, alloc, "answering", n.answering as u64)?;
-    put_number(map, alloc, "groups", u64::from(n.groups))?;
-    put_number(map, alloc, "segments", n.segments as u64)?;
-    put_number(map, alloc, "placed", n.placed)?;
-    put_number(map, alloc, "patch_segments", n.patch_segments as u64)?;
-    put_number(map, alloc, "free_slots", n.free_slots as u64)
+fn numbers_value(alloc: Global, n: &Numbers) -> Result<Value, AllocError> {
+    numbers_object(
+        alloc,
+        &[
+            ("generation", n.generation),
+            ("drives", n.drives as u64),
+            ("holding", n.holding as u64),
+            ("nvrams", n.nvrams as u64),
+            ("answering", n.answering as u64),
+            ("groups", u64::from(n.groups)),
+            ("segments", n.segments as u64),
+            ("placed", n.placed),
+            ("patch_segments", n.patch_segments as u64),
+            ("free_slots", n.free_slots as u64),
+        ],
+    )
 }
 
-fn put_waiting(map: &mut Members, alloc: Global, w: &Waiting) -> Result<(), AllocError> {
-    put_number(map, alloc, "creates", w.creates as u64)?;
-    put_number(map, alloc, "writes", w.writes as u64)?;
-    put_number(map, alloc, "fills", w.fills as u64)
+fn waiting_value(alloc: Global, w: &Waiting) -> Result<Value, AllocError> {
+    numbers_object(
+        alloc,
+        &[
+            ("creates", w.creates as u64),
+            ("writes", w.writes as u64),
+            ("fills", w.fills as u64),
+        ],
+    )
 }
 
 fn drive_units(alloc: Global, units: &[Unit]) -> Result<Value, AllocError> {
@@ -111,17 +143,16 @@ fn put_units(map: &mut Members, alloc: Global, slots: u8, found: &Found) -> Resu
     put(map, alloc, "units", Value::Array(all))
 }
 
-fn put_counts(map: &mut Members, alloc: Global, t: &TableCounts) -> Result<(), AllocError> {
-    put_number(map, alloc, "patches", t.patches as u64)?;
-    put_number(map, alloc, "segments", t.segments as u64)?;
-    put_number(map, alloc, "facts", t.facts)?;
-    put_number(map, alloc, "visible", t.visible as u64)
-}
-
-fn table_value(alloc: Global, table: &str, counts: &TableCounts) -> Result<Value, AllocError> {
+fn table_value(alloc: Global, table: &str, t: &TableCounts) -> Result<Value, AllocError> {
+    let numbers = [
+        ("patches", t.patches as u64),
+        ("segments", t.segments as u64),
+        ("facts", t.facts),
+        ("visible", t.visible as u64),
+    ];
     let mut map = Map::new(alloc);
     put_text(&mut map, alloc, "table", table)?;
-    put_counts(&mut map, alloc, counts)?;
+    put_numbers(&mut map, alloc, &numbers)?;
     Ok(Value::Object(map))
 }
 
@@ -138,16 +169,15 @@ fn put_tables(
     put(map, alloc, "tables", Value::Array(all))
 }
 
-fn put_segment(map: &mut Members, alloc: Global, seen: &SegmentSeen) -> Result<(), AllocError> {
-    put_number(map, alloc, "segment", seen.segment.segment.0)?;
-    put_number(map, alloc, "placed", u64::from(seen.segment.placed))?;
-    put_number(map, alloc, "named", u64::from(seen.named))
-}
-
 fn segment_value(alloc: Global, seen: &SegmentSeen) -> Result<Value, AllocError> {
-    let mut map = Map::new(alloc);
-    put_segment(&mut map, alloc, seen)?;
-    Ok(Value::Object(map))
+    numbers_object(
+        alloc,
+        &[
+            ("segment", seen.segment.segment.0),
+            ("placed", u64::from(seen.segment.placed)),
+            ("named", u64::from(seen.named)),
+        ],
+    )
 }
 
 fn put_segments(
@@ -185,18 +215,6 @@ fn put_objects(map: &mut Members, alloc: Global, objects: &[ObjectSeen]) -> Resu
     put(map, alloc, "objects", Value::Array(all))
 }
 
-fn numbers_value(alloc: Global, numbers: &Numbers) -> Result<Value, AllocError> {
-    let mut map = Map::new(alloc);
-    put_numbers(&mut map, alloc, numbers)?;
-    Ok(Value::Object(map))
-}
-
-fn waiting_value(alloc: Global, waiting: &Waiting) -> Result<Value, AllocError> {
-    let mut map = Map::new(alloc);
-    put_waiting(&mut map, alloc, waiting)?;
-    Ok(Value::Object(map))
-}
-
 fn put_found(map: &mut Members, alloc: Global, slots: u8, found: &Found) -> Result<(), AllocError> {
     put(map, alloc, "numbers", numbers_value(alloc, &found.numbers)?)?;
     put_flags(map, alloc, "nvrams", &found.nvrams)?;
@@ -213,29 +231,31 @@ fn found_value(alloc: Global, slots: u8, found: &Found) -> Result<Value, AllocEr
     Ok(Value::Object(map))
 }
 
+/// What an opening would find, or why it would find no array.
 fn put_outcome(
     map: &mut Members,
     alloc: Global,
     slots: u8,
     outcome: &Result<Found, Cause>,
 ) -> Result<(), AllocError> {
-    match outcome {
-        Ok(found) => {
-            put(map, alloc, "cause", Value::Null)?;
-            put(map, alloc, "found", found_value(alloc, slots, found)?)
-        }
-        Err(cause) => {
-            put_text(map, alloc, "cause", cause_text(cause))?;
-            put(map, alloc, "found", Value::Null)
-        }
-    }
+    let cause = match outcome {
+        Ok(_) => Value::Null,
+        Err(cause) => Value::try_from_str(alloc, cause_text(cause))?,
+    };
+    put(map, alloc, "cause", cause)?;
+    let found = match outcome {
+        Ok(found) => found_value(alloc, slots, found)?,
+        Err(_) => Value::Null,
+    };
+    put(map, alloc, "found", found)
 }
 
-fn put_logs(map: &mut Members, alloc: Global, logs: &[Option<usize>]) -> Result<(), AllocError> {
+/// How many commands each NVRAM device shows in front of the first slot in which it shows none.
+fn put_logs(map: &mut Members, alloc: Global, logs: &Logs) -> Result<(), AllocError> {
     let mut all = Vec::new(alloc);
     for log in logs {
         let value = match log {
-            Some(count) => Value::from(*count),
+            Some(slots) => Value::from(front_of(slots)),
             None => Value::Null,
         };
         all.push(value)?;
@@ -243,19 +263,56 @@ fn put_logs(map: &mut Members, alloc: Global, logs: &[Option<usize>]) -> Result<
     put(map, alloc, "logs", Value::Array(all))
 }
 
-fn put_look(map: &mut Members, alloc: Global, looked: &Looked) -> Result<(), AllocError> {
+fn range_value(alloc: Global, range: &SlotRange) -> Result<Value, AllocError> {
+    let numbers = [("first", range.first as u64), ("last", range.last as u64)];
+    let mut map = Map::new(alloc);
+    put_numbers(&mut map, alloc, &numbers)?;
+    put_flags(&mut map, alloc, "nvrams", &range.on)?;
+    Ok(Value::Object(map))
+}
+
+fn range_values(alloc: Global, ranges: &[SlotRange]) -> Result<Vec<Value>, AllocError> {
+    let mut all = Vec::new(alloc);
+    for range in ranges {
+        let value = range_value(alloc, range)?;
+        all.push(value)?;
+    }
+    Ok(all)
+}
+
+/// The slots in which commands of the log stand, and on which devices.
+fn put_slots(map: &mut Members, alloc: Global, logs: &Logs) -> Result<(), AllocError> {
+    let Ok(ranges) = ranges_of(alloc, logs) else {
+        return Err(AllocError);
+    };
+    let all = range_values(alloc, &ranges)?;
+    put(map, alloc, "log_slots", Value::Array(all))
+}
+
+fn put_look(
+    map: &mut Members,
+    alloc: Global,
+    looked: &Looked,
+    there: &Drives,
+) -> Result<(), AllocError> {
     put_number(map, alloc, "slots", u64::from(looked.slots))?;
     put_number(map, alloc, "units", u64::from(looked.units))?;
     put(map, alloc, "record", record_value(alloc, &looked.record)?)?;
-    put_drives(map, alloc, looked)?;
+    put(
+        map,
+        alloc,
+        "drives",
+        Value::Array(drive_words(alloc, looked, there)?),
+    )?;
     put_logs(map, alloc, &looked.logs)?;
+    put_slots(map, alloc, &looked.logs)?;
     put_outcome(map, alloc, looked.slots, &looked.found)
 }
 
 /// A look as one JSON object, on a line.
-pub fn json_of(alloc: Global, looked: &Looked) -> Result<String, NoMemory> {
+pub fn json_of(alloc: Global, looked: &Looked, there: &Drives) -> Result<String, NoMemory> {
     let mut map = Map::new(alloc);
-    put_look(&mut map, alloc, looked)?;
+    put_look(&mut map, alloc, looked, there)?;
     let mut text = Value::Object(map).to_string(alloc)?;
     text.push('\n')?;
     Ok(text)

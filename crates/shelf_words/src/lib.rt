@@ -5,7 +5,8 @@
 mod json;
 mod page;
 mod picture;
+mod slots;
 mod viewing;
 mod words;
 
-pub use viewing::{Asked, Told, view};
+pub use viewing::{Asked, Drives, Told, view};

@@ -9,13 +9,14 @@ ghost use Rattle.shelf_words.specs.Viewing.{IsTold};
 
 use crate::json::json_of;
 use crate::words::words_of;
+use boot_codec::DRIVE_FLAGS;
 use pur_base::{NoMemory, Status};
 use shelf_look::{Looked, look};
 use std::alloc::Global;
 use world::Shelf;
 
 /// What is to be told.
-#[derive(Clone, Copy, Debug, PartialEq, Eq)]
+#[derive(Clone, Copy)]
 pub struct Asked {
     /// As one JSON object.
     pub json: bool,
@@ -30,17 +31,31 @@ pub struct Told {
     pub status: Status,
 }
 
+/// A flag for each drive.
+pub type Drives = [bool; DRIVE_FLAGS];
+
 /// What is told of a look.
-fn text_of(alloc: Global, looked: &Looked, asked: Asked) -> Result<String, NoMemory> {
+fn text_of(
+    alloc: Global,
+    looked: &Looked,
+    there: &Drives,
+    asked: Asked,
+) -> Result<String, NoMemory> {
     if asked.json {
-        json_of(alloc, looked)
+        json_of(alloc, looked, there)
     } else {
-        words_of(alloc, looked, asked.objects)
+        words_of(alloc, looked, there, asked.objects)
     }
 }
 
 /// Looks at a shelf and tells what it shows. It makes no write and no sync, whatever fails, and fails itself for want of memory alone.
-pub fn view<S: Shelf>(alloc: Global, shelf: &mut S, asked: Asked) -> Result<Told, NoMemory>
+/// Of a drive that doesn't answer it tells by `there`, what the caller knows of it, whether it is absent or failed.
+pub fn view<S: Shelf>(
+    alloc: Global,
+    shelf: &mut S,
+    there: &Drives,
+    asked: Asked,
+) -> Result<Told, NoMemory>
     // No byte changes or gets dirty on any device, and a stop at any moment leaves each as it was.
     ensures same { (S.shelf shelf.old).honest → (d : Device) → IsSame ((S.shelf shelf.old).disk d) ((S.shelf shelf.new).disk d) }
     ensures ran { Ran S.shelf S.shelf_rest IsAny OnNothing shelf.old shelf.new }
@@ -49,6 +64,6 @@ pub fn view<S: Shelf>(alloc: Global, shelf: &mut S, asked: Asked) -> Result<Told
 {
     let looked = look(alloc, shelf)?;
     let status = looked.status();
-    let text = text_of(alloc, &looked, asked)?;
+    let text = text_of(alloc, &looked, there, asked)?;
     Ok(Told { text, status })
 }

@@ -1,11 +1,15 @@
 // A look in words.
 use crate::page::{Page, name_text, plural};
 use crate::picture::{bar_of, free_in};
+use crate::slots::{SlotRange, front_of, ranges_of};
+use crate::viewing::Drives;
+use boot_codec::{DRIVE_FLAGS, NVRAM_FLAGS};
 use boot_region::{LoadFault, Slot};
 use pur_base::{NoMemory, ObjectKind, Table};
 use session_spec::{ADDING_GROUPS, CHECKPOINT_GROUPS};
 use shelf_look::{
-    Cause, DriveState, Found, Looked, ObjectSeen, RecordSeen, SegmentSeen, TableCounts,
+    Cause, DriveState, Found, Looked, ObjectSeen, RecordSeen, SegmentSeen, SlotsSeen, TableCounts,
+    Unit,
 };
 use std::alloc::Global;
 use table_loading::TablesFault;
@@ -14,8 +18,8 @@ use table_loading::TablesFault;
 pub const TABLES: [&str; 5] = ["object", "medium", "address", "segment", "elision"];
 
 /// How many flags are set.
-fn set_count(flags: &[bool]) -> usize {
-    let mut count = 0usize;
+fn set_count(flags: &[bool]) -> u64 {
+    let mut count = 0u64;
     for flag in flags {
         if *flag {
             count = count.saturating_add(1);
@@ -24,13 +28,17 @@ fn set_count(flags: &[bool]) -> usize {
     count
 }
 
-/// What a drive shows.
-pub fn state_text(state: DriveState) -> &'static str {
+/// What a drive shows, or that it shows nothing where it is there or isn't.
+fn state_text(state: DriveState, is_there: bool) -> &'static str {
     match state {
         DriveState::Holding => "holds the record",
         DriveState::Other => "shows another record, or none",
         DriveState::LeftOut => "is left out",
-        DriveState::Silent => "doesn't answer",
+        DriveState::Silent => if is_there {
+            "a read of it failed"
+        } else {
+            "is absent, or of another length"
+        },
     }
 }
 
@@ -79,118 +87,186 @@ pub fn cause_text(cause: &Cause) -> &'static str {
     }
 }
 
+/// What more may be lost.
+fn put_bearable(page: &mut Page, slots: u8, found: &Found) -> Result<(), NoMemory> {
+    let missing = usize::from(slots).saturating_sub(found.numbers.holding);
+    let drives = 2usize.saturating_sub(missing);
+    let nvrams = found.numbers.answering.saturating_sub(1);
+    let numbers = [("the array can be opened: ", drives as u64)];
+    let more = [(" and ", nvrams as u64)];
+    page.put_numbers(&numbers)?;
+    page.put(" more drive")?;
+    page.put(plural(drives))?;
+    page.put_numbers(&more)?;
+    page.put(" more NVRAM device")?;
+    page.put(plural(nvrams))?;
+    page.line(" may be lost")
+}
+
 /// The sentence that is wanted first: what more may be lost, or why the array can't be opened.
 fn put_verdict(page: &mut Page, looked: &Looked) -> Result<(), NoMemory> {
-    let alloc = page.alloc;
     match &looked.found {
-        Ok(found) => {
-            let slots = usize::from(looked.slots);
-            let missing = slots.saturating_sub(found.numbers.holding);
-            let drives = 2usize.saturating_sub(missing);
-            let nvrams = found.numbers.answering.saturating_sub(1);
-            page.line(&format!(in alloc;
-                "the array can be opened: {drives} more drive{} and {nvrams} more NVRAM device{} may be lost",
-                plural(drives),
-                plural(nvrams)
-            )?)
-        }
+        Ok(found) => put_bearable(page, looked.slots, found),
         Err(cause) => {
-            page.line(&format!(in alloc; "the array can't be opened: {}", cause_text(cause))?)
+            page.put("the array can't be opened: ")?;
+            page.line(cause_text(cause))
         }
     }
 }
 
 /// The record in force.
 fn put_record(page: &mut Page, record: &Option<RecordSeen>) -> Result<(), NoMemory> {
-    let alloc = page.alloc;
-    match record {
-        Some(record) => {
-            let holding = set_count(&record.holding);
-            let drives = set_count(&record.members.drives);
-            page.line(&format!(in alloc;
-                "record: generation {}, slot {}, on {holding} of the {drives} drives that it names",
-                record.generation,
-                slot_text(record.slot)
-            )?)
-        }
-        None => page.line("record: none"),
-    }
+    let Some(record) = record else {
+        return page.line("record: none");
+    };
+    page.put_numbers(&[("record: generation ", record.generation)])?;
+    page.put(", slot ")?;
+    page.put(slot_text(record.slot))?;
+    let numbers = [
+        (", on ", set_count(&record.holding)),
+        (" of the ", set_count(&record.members.drives)),
+    ];
+    page.numbers(&numbers, " drives that it names")
 }
 
 /// A line for each drive.
-fn put_drives(page: &mut Page, looked: &Looked) -> Result<(), NoMemory> {
+fn put_drives(page: &mut Page, looked: &Looked, there: &Drives) -> Result<(), NoMemory> {
     let alloc = page.alloc;
-    for slot in 0..usize::from(looked.slots) {
-        if let Some(state) = looked.drives.get(slot) {
-            page.line(&format!(in alloc; "drive {slot:02}: {}", state_text(*state))?)?;
-        }
+    let count = usize::from(looked.slots).min(DRIVE_FLAGS);
+    for slot in 0..count {
+        let text = state_text(looked.drives[slot], there[slot]);
+        page.add(format!(in alloc; "drive {slot:02}: {text}"))?;
     }
     Ok(())
 }
 
-/// A line for each NVRAM device: how many commands it shows in front of the first slot in which it shows none.
-fn put_nvrams(page: &mut Page, looked: &Looked, record: &RecordSeen) -> Result<(), NoMemory> {
-    let alloc = page.alloc;
-    for i in 0..2 {
-        match looked.logs[i] {
-            Some(count) => page.line(&format!(in alloc;
-                "nvram {i}: answers, shows {count} command{}",
-                plural(count)
-            )?)?,
-            None => {
-                let text = if record.members.nvrams[i] {
-                    "doesn't answer"
-                } else {
-                    "is left out"
-                };
-                page.line(&format!(in alloc; "nvram {i}: {text}")?)?;
-            }
+/// What an NVRAM device shows: how many commands in front of the first slot in which it shows none.
+fn put_nvram(
+    page: &mut Page,
+    device: usize,
+    slots: &Option<SlotsSeen>,
+    is_named: bool,
+) -> Result<(), NoMemory> {
+    page.put_numbers(&[("nvram ", device as u64)])?;
+    match slots {
+        Some(seen) => {
+            let count = front_of(seen);
+            page.put_numbers(&[(": answers, shows ", count as u64)])?;
+            page.put(" command")?;
+            page.line(plural(count))
         }
+        None => page.line(if is_named {
+            ": doesn't answer"
+        } else {
+            ": is left out"
+        }),
     }
-    Ok(())
+}
+
+/// The devices that show some slots.
+fn devices_text(on: [bool; NVRAM_FLAGS]) -> &'static str {
+    match on {
+        [true, true] => " on both",
+        [true, false] => " on nvram 0 alone",
+        _ => " on nvram 1 alone",
+    }
+}
+
+/// A range of slots.
+fn put_range(page: &mut Page, range: &SlotRange) -> Result<(), NoMemory> {
+    page.put_numbers(&[(" ", range.first as u64)])?;
+    if range.first != range.last {
+        page.put_numbers(&[(" to ", range.last as u64)])?;
+    }
+    page.put(devices_text(range.on))
+}
+
+/// The slots in which commands of the log stand, and on which devices.
+fn put_slots(page: &mut Page, ranges: &[SlotRange]) -> Result<(), NoMemory> {
+    if ranges.is_empty() {
+        return page.line("log slots: none");
+    }
+    page.put("log slots:")?;
+    for i in 0..ranges.len() {
+        if i > 0 {
+            page.put(",")?;
+        }
+        put_range(page, &ranges[i])?;
+    }
+    page.line("")
+}
+
+/// The NVRAM devices, and what they show slot by slot.
+fn put_nvrams(page: &mut Page, looked: &Looked, record: &RecordSeen) -> Result<(), NoMemory> {
+    let named = record.members.nvrams;
+    for device in 0..NVRAM_FLAGS {
+        put_nvram(page, device, &looked.logs[device], named[device])?;
+    }
+    let ranges = ranges_of(page.alloc, &looked.logs)?;
+    put_slots(page, &ranges)
 }
 
 /// How many commands wait.
 fn put_log(page: &mut Page, found: &Found) -> Result<(), NoMemory> {
-    let alloc = page.alloc;
     let waiting = &found.waiting;
-    page.line(&format!(in alloc;
-        "log: {} create, {} write, {} fill; {} free slots",
-        waiting.creates, waiting.writes, waiting.fills, found.numbers.free_slots
-    )?)
+    let numbers = [
+        ("log: ", waiting.creates as u64),
+        (" create, ", waiting.writes as u64),
+        (" write, ", waiting.fills as u64),
+        (" fill; ", found.numbers.free_slots as u64),
+    ];
+    page.numbers(&numbers, " free slots")
+}
+
+/// The units of a drive.
+fn put_bar(page: &mut Page, slot: u8, units: &[Unit]) -> Result<(), NoMemory> {
+    let alloc = page.alloc;
+    let bar = bar_of(alloc, units)?;
+    let free = free_in(units);
+    page.add(format!(in alloc; "drive {slot:02} [{bar}] {free} free"))
 }
 
 /// The units of each drive, and the room for segments.
 fn put_picture(page: &mut Page, looked: &Looked, found: &Found) -> Result<(), NoMemory> {
-    let alloc = page.alloc;
     page.line("units: B boot region, d data, p patches, . free")?;
     for slot in 0..looked.slots {
-        let units = found.units.of_drive(slot);
-        let bar = bar_of(alloc, units)?;
-        page.line(&format!(in alloc; "drive {slot:02} [{bar}] {} free", free_in(units))?)?;
+        put_bar(page, slot, found.units.of_drive(slot))?;
     }
-    page.line(&format!(in alloc;
-        "room: {} more segments; below {ADDING_GROUPS} commands get `no space`, below {CHECKPOINT_GROUPS} checkpoints do",
-        found.numbers.groups
-    )?)
+    let numbers = [
+        ("room: ", u64::from(found.numbers.groups)),
+        (" more segments; below ", u64::from(ADDING_GROUPS)),
+        (
+            " commands get `no space`, below ",
+            u64::from(CHECKPOINT_GROUPS),
+        ),
+    ];
+    page.numbers(&numbers, " checkpoints do")
+}
+
+/// How much a table has.
+fn put_counts(page: &mut Page, table: &TableCounts) -> Result<(), NoMemory> {
+    let numbers = [
+        (": ", table.patches as u64),
+        (" patches in ", table.segments as u64),
+        (" segments, ", table.facts),
+        (" facts, ", table.visible as u64),
+    ];
+    page.numbers(&numbers, " visible")
 }
 
 /// A line for each table.
 fn put_tables(page: &mut Page, tables: &[TableCounts; 5]) -> Result<(), NoMemory> {
-    let alloc = page.alloc;
     for i in 0..5 {
-        let table = &tables[i];
-        page.line(&format!(in alloc;
-            "table {}: {} patches in {} segments, {} facts, {} visible",
-            TABLES[i], table.patches, table.segments, table.facts, table.visible
-        )?)?;
+        page.put("table ")?;
+        page.put(TABLES[i])?;
+        put_counts(page, &tables[i])?;
     }
     Ok(())
 }
 
 /// How many of the segments have from so many sectors named up to so many.
-fn count_between(segments: &[SegmentSeen], from: u32, to: u32) -> usize {
-    let mut count = 0usize;
+fn count_between(segments: &[SegmentSeen], from: u32, to: u32) -> u64 {
+    let mut count = 0u64;
     for segment in segments {
         if from <= segment.named && segment.named <= to {
             count = count.saturating_add(1);
@@ -208,24 +284,29 @@ pub fn named_in(segments: &[SegmentSeen]) -> u64 {
     count
 }
 
-/// The data segments, by how much of them is named still.
+/// How many data segments there are, and of how many sectors.
 fn put_segments(page: &mut Page, found: &Found) -> Result<(), NoMemory> {
-    let alloc = page.alloc;
-    let all = &found.segments;
-    page.line(&format!(in alloc;
-        "data segments: {}, {} sectors placed, {} named still",
-        found.numbers.segments,
-        found.numbers.placed,
-        named_in(all)
-    )?)?;
-    page.line(&format!(in alloc;
-        "of 840 sectors are named: none in {}, 1 to 210 in {}, to 420 in {}, to 630 in {}, to 840 in {}",
-        count_between(all, 0, 0),
-        count_between(all, 1, 210),
-        count_between(all, 211, 420),
-        count_between(all, 421, 630),
-        count_between(all, 631, 840)
-    )?)
+    let numbers = [
+        ("data segments: ", found.numbers.segments as u64),
+        (", ", found.numbers.placed),
+        (" sectors placed, ", named_in(&found.segments)),
+    ];
+    page.numbers(&numbers, " named still")
+}
+
+/// How many data segments there are by how much of them is named still.
+fn put_named(page: &mut Page, all: &[SegmentSeen]) -> Result<(), NoMemory> {
+    let numbers = [
+        (
+            "of 840 sectors are named: none in ",
+            count_between(all, 0, 0),
+        ),
+        (", 1 to 210 in ", count_between(all, 1, 210)),
+        (", to 420 in ", count_between(all, 211, 420)),
+        (", to 630 in ", count_between(all, 421, 630)),
+        (", to 840 in ", count_between(all, 631, 840)),
+    ];
+    page.numbers(&numbers, "")
 }
 
 pub fn kind_text(kind: ObjectKind) -> &'static str {
@@ -237,16 +318,16 @@ pub fn kind_text(kind: ObjectKind) -> &'static str {
 
 /// A line for each object.
 fn put_objects(page: &mut Page, objects: &[ObjectSeen]) -> Result<(), NoMemory> {
-    let alloc = page.alloc;
     for seen in objects {
         let object = &seen.object;
-        page.line(&format!(in alloc;
-            "{} {} {}, {} stored",
-            kind_text(object.kind),
-            name_text(&object.name),
-            object.sectors,
-            seen.stored
-        )?)?;
+        page.put(kind_text(object.kind))?;
+        page.put(" ")?;
+        page.put(name_text(&object.name))?;
+        let numbers = [
+            (" ", u64::from(object.sectors)),
+            (", ", u64::from(seen.stored)),
+        ];
+        page.numbers(&numbers, " stored")?;
     }
     Ok(())
 }
@@ -262,24 +343,45 @@ fn put_found(
     put_picture(page, looked, found)?;
     put_tables(page, &found.tables)?;
     put_segments(page, found)?;
+    put_named(page, &found.segments)?;
     if objects {
         put_objects(page, &found.objects)?;
     }
     Ok(())
 }
 
-/// A look in words.
-pub fn words_of(alloc: Global, looked: &Looked, objects: bool) -> Result<String, NoMemory> {
-    let mut page = Page::new(alloc);
-    put_verdict(&mut page, looked)?;
-    page.line(&format!(in alloc; "shelf: {} drives of {} units", looked.slots, looked.units)?)?;
-    put_record(&mut page, &looked.record)?;
-    put_drives(&mut page, looked)?;
+/// What is told of every shelf, and of an array that can be opened.
+fn put_look(
+    page: &mut Page,
+    looked: &Looked,
+    there: &Drives,
+    objects: bool,
+) -> Result<(), NoMemory> {
+    put_verdict(page, looked)?;
+    let numbers = [
+        ("shelf: ", u64::from(looked.slots)),
+        (" drives of ", u64::from(looked.units)),
+    ];
+    page.numbers(&numbers, " units")?;
+    put_record(page, &looked.record)?;
+    put_drives(page, looked, there)?;
     if let Some(record) = &looked.record {
-        put_nvrams(&mut page, looked, record)?;
+        put_nvrams(page, looked, record)?;
     }
-    if let Ok(found) = &looked.found {
-        put_found(&mut page, looked, found, objects)?;
+    match &looked.found {
+        Ok(found) => put_found(page, looked, found, objects),
+        Err(_) => Ok(()),
     }
+}
+
+/// A look in words.
+pub fn words_of(
+    alloc: Global,
+    looked: &Looked,
+    there: &Drives,
+    objects: bool,
+) -> Result<String, NoMemory> {
+    let mut page = Page::new(alloc);
+    put_look(&mut page, looked, there, objects)?;
     Ok(page.text)
 }

@@ -2,35 +2,33 @@ use Rattle.std.proofs.Common.{◌∙◌, sym, subst, Bool, List}
 use Rattle.world.specs.Losing.{geometry_of}
 use Rattle.world.proofs.Moments.{continues_trans}
 use Rattle.world.proofs.Ran.{ran_more, ran_then}
+use Rattle.pur_base.specs.Devices.{nvram}
 use Rattle.shelf_look.specs.Looking.{AreStates}
+use Rattle.shelf_look.proofs.Beside.{sides_since}
 use Rattle.shelf_look.proofs.Lifting.{outcome, read_later, same_then}
 use Rattle.shelf_look.proofs.looking.look.Goals as goal
-
-pub returns-in_err-logs-clause-ran : goal.returns-in_err-logs-clause-ran
-returns-in_err-logs-clause-ran g c =
-    ran_then g.met.S.Shelf.shelf_rest_stays (ran_more (λ d is. tt) (λ d i w. w) c.read_regions.ensures.ran) c.read_sides.ensures.ran
 
 pub returns-in_err-found-clause-ran : goal.returns-in_err-found-clause-ran
 returns-in_err-found-clause-ran g c =
     ran_then g.met.S.Shelf.shelf_rest_stays
-    (ran_then g.met.S.Shelf.shelf_rest_stays (ran_more (λ d is. tt) (λ d i w. w) c.read_regions.ensures.ran) c.read_sides.ensures.ran)
+    (ran_then g.met.S.Shelf.shelf_rest_stays (ran_more (λ d is. tt) (λ d i w. w) c.read_regions.ensures.ran) (ran_more (λ d is. tt) (λ d i w. w) c.read_sides-logs.ensures.ran))
     c.find-opening.ensures.ran
 
 pub returns-clause-ran : goal.returns-clause-ran
 returns-clause-ran g c =
     ran_then g.met.S.Shelf.shelf_rest_stays
-    (ran_then g.met.S.Shelf.shelf_rest_stays (ran_more (λ d is. tt) (λ d i w. w) c.read_regions.ensures.ran) c.read_sides.ensures.ran)
+    (ran_then g.met.S.Shelf.shelf_rest_stays (ran_more (λ d is. tt) (λ d i w. w) c.read_regions.ensures.ran) (ran_more (λ d is. tt) (λ d i w. w) c.read_sides-logs.ensures.ran))
     c.find-opening.ensures.ran
 
 pub returns-clause-look : goal.returns-clause-look
 returns-clause-look g c honest =
     let a = g.S.Shelf.shelf c.args.shelf.now in
     let b = g.S.Shelf.shelf c.read_regions.new.shelf in
-    let s = g.S.Shelf.shelf c.read_sides.new.shelf in
+    let s = g.S.Shelf.shelf c.read_sides-logs.new.shelf in
     let n = g.S.Shelf.shelf c.find-opening.new.shelf in
     let r = c.read_regions.new.regions in
     let first = c.read_regions.ensures.ran.on.continues in
-    let then = c.read_sides.ensures.ran.on.continues in
+    let then = c.read_sides-logs.ensures.ran.on.continues in
     let on = continues_trans first then in
     let all = c.read_regions.ensures.drives ∙ first.drives in
     record {
@@ -42,6 +40,8 @@ returns-clause-look g c honest =
       read = λ i lt. read_later a b n r.bytes.items r.answered.items i (continues_trans then c.find-opening.ensures.ran.on.continues) (g.met.S.Shelf.is_shelf c.find-opening.new.shelf) (c.read_regions.ensures.read honest i lt);
       record_seen = c.in_ok-record.ensures (geometry_of a) (sym all) (sym c.units-units.ensures);
       drives = subst (λ (l : List Bool). AreStates c.in_ok-record.record l c.states_of-drives.result) c.deref.ensures.value c.states_of-drives.ensures;
-      outcome = outcome a s n on (λ d. same_then (c.read_regions.ensures.same honest d) (c.read_sides.ensures.same (first.honest honest) d)) r.bytes.items r.answered.items c.find-opening.result c.in_ok-found.found c.in_ok-found.ensures
+      logs = sides_since a b s n c.in_ok-record.record c.read_sides-logs.result (λ k. c.read_regions.ensures.ran.on.others (nvram k) (λ is. is)) c.find-opening.ensures.ran.on.continues (g.met.S.Shelf.is_shelf c.find-opening.new.shelf)
+          (c.read_sides-logs.ensures.sides (first.honest honest));
+      outcome = outcome a s n on (λ d. same_then (c.read_regions.ensures.same honest d) (c.read_sides-logs.ensures.same (first.honest honest) d)) r.bytes.items r.answered.items c.find-opening.result c.in_ok-found.found c.in_ok-found.ensures
           (c.find-opening.ensures.found (on.honest honest)) (c.find-opening.ensures.cause (on.honest honest));
     }
