@@ -1,5 +1,5 @@
 -- What is told of both NVRAM devices, by what is told of each.
-use Rattle.std.proofs.Common.{◌≡◌, ◌≢◌, inl, inr, ℕ, zero, suc, ◌<◌, ◌≤◌, ◌-◌, ◌^◌, Bool, List, [], ◌∷◌, slice_index_or, false, Option, Some, None, ap, subst, sym, refl, arith}
+use Rattle.std.proofs.Common.{◌≡◌, ◌≢◌, inl, inr, ℕ, zero, suc, ◌≤◌, ◌-◌, ◌^◌, Bool, List, [], ◌∷◌, slice_index_or, false, Option, Some, None, ap, subst, sym, arith}
 use Rattle.pur_base.specs.declared.device.Device.{Device}
 use Rattle.pur_base.specs.declared.device.Device.TheVariants.{Drive, Nv}
 use Rattle.pur_base.specs.Devices.{nvram}

@@ -1,6 +1,5 @@
 -- What was read gives an array, or there is none for that cause.
-use Rattle.std.proofs.Common.{◌≡◌, ◌∙◌, inl, inr, ℕ, ◌≤◌, Bool, not, List, ap, subst, arith, Result, Ok, Err, IsErrAnd}
-use Rattle.std.specs.Prelude.{IfErr}
+use Rattle.std.proofs.Common.{◌≡◌, ◌∙◌, inl, inr, ℕ, ◌≤◌, Bool, not, List, ap, subst, arith}
 use Rattle.std.proofs.lemmas.Bool.{cases_Bool}
 use Rattle.pur_base.specs.Devices.{View, nvram}
 use Rattle.boot_codec.specs.declared.record.BootRecord.{BootRecord}

@@ -1,8 +1,7 @@
 -- Segments are counted, and the visible data segments are those that the patches show.
-use Rattle.std.proofs.Common.{◌≡◌, ◌∙◌, ℕ, ◌+◌, ◌<◌, ◌≤◌, List, [], ◌∷◌, ◌++◌, length, drop, sym, ap, get_or, Option, Some, None, arith}
+use Rattle.std.proofs.Common.{◌≡◌, ◌∙◌, ℕ, ◌+◌, ◌<◌, ◌≤◌, List, [], ◌∷◌, length, drop, ap, get_or, Option, Some, None, arith}
 use Rattle.std.specs.Prelude.{filter_map}
 use Rattle.std.specs.List.{cons_option, range_with_len}
-use Rattle.std.proofs.lemmas.List.{append-nil}
 use Rattle.std.proofs.lemmas.List.FromFn.{length-range_with_len}
 use Rattle.std.proofs.lemmas.List.Sums.{sum_by-drop_more}
 use Rattle.pur_base.specs.Facts.{Facts}
@@ -12,7 +11,6 @@ use Rattle.pur_base.specs.declared.facts.SegmentFact.{SegmentFact}
 use Rattle.boot_codec.specs.declared.patch.Patch.{Patch}
 use Rattle.boot_codec.specs.Record.{patch_segments}
 use Rattle.array_spec.specs.Stored.{all_facts}
-use Rattle.pyramid.specs.Layers.{Layers, facts_in, facts_of}
 use Rattle.memory_spec.specs.Tables.{Tables, facts, flushed, patches}
 use Rattle.checkpoint_spec.proofs.Patches.{patches_are_flushed, whole_table}
 

@@ -1,5 +1,5 @@
 -- What a slot shows, by the head with which it begins.
-use Rattle.std.proofs.Common.{◌≡◌, ◌∙◌, ℕ, ◌+◌, ◌*◌, ◌-◌, ◌<◌, Bool, true, false, List, take, drop, ap, subst, sym, refl, arith, inl, inr, length}
+use Rattle.std.proofs.Common.{◌≡◌, ◌∙◌, ℕ, ◌+◌, ◌*◌, ◌-◌, ◌<◌, Bool, true, false, List, take, drop, ap, subst, sym, refl, arith, inl, inr}
 use Rattle.std.specs.Prelude.{IsTrue, slice_index, slice_range}
 use Rattle.std.proofs.lemmas.Bool.{eq-eqb}
 use Rattle.std.proofs.lemmas.List.{get_or-take, take-take}

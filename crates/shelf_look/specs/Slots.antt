@@ -1,5 +1,5 @@
 -- What an NVRAM device shows in the slots of the log.
-use Rattle.std.specs.Prelude.{◌≡◌, ℕ, ◌<◌, Bool, true, false, List, slice_index_or}
+use Rattle.std.specs.Prelude.{ℕ, ◌<◌, Bool, true, false, List, slice_index_or}
 use Rattle.pur_base.specs.Commands.{Command}
 use Rattle.log_codec.specs.declared.limits.TheConstants.{LOG_SLOTS}
 use Rattle.log_codec.specs.Log.{ShowsIn}

@@ -98,11 +98,7 @@ fn slots_under<S: Shelf>(
 }
 
 /// In which slots a device shows commands behind what is flushed. Its gates are read, and the first sectors of the slots whose gates are open.
-pub fn read_slots<S: Shelf>(
-    shelf: &mut S,
-    device: NvId,
-    flushed: u64,
-) -> Result<SlotsSeen, Failed>
+pub fn read_slots<S: Shelf>(shelf: &mut S, device: NvId, flushed: u64) -> Result<SlotsSeen, Failed>
     requires { device.0 < NVRAM_DEVICES }
     ensures same { (S.shelf shelf.old).honest → (d : Device) → IsSame ((S.shelf shelf.old).disk d) ((S.shelf shelf.new).disk d) }
     ensures ran { Ran S.shelf S.shelf_rest (Only (nvram device.0)) OnNothing shelf.old shelf.new }

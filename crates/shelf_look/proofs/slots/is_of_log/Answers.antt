@@ -1,4 +1,4 @@
-use Rattle.std.proofs.Common.{◌≡◌, ◌∙◌, ℕ, ap, sym, arith}
+use Rattle.std.proofs.Common.{sym, arith}
 use Rattle.std.proofs.lemmas.Bool.{eqb-true, eqb-false, ltb-true}
 use Rattle.log_codec.specs.declared.head.Head.{Head}
 use Rattle.shelf_look.proofs.Heads.{number_shown, shown_by_head, shown_if}

@@ -1,4 +1,4 @@
-use Rattle.std.proofs.Common.{◌≡◌, ◌∙◌, List, ℕ, ap, refl, subst, sym}
+use Rattle.std.proofs.Common.{◌∙◌, List, ℕ, ap, refl, subst, sym}
 use Rattle.std.specs.Prelude.{IfOk, slice_range}
 use Rattle.pur_base.specs.Devices.{nvram}
 use Rattle.world.proofs.Ran.{ran_then}

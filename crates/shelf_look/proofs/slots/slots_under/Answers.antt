@@ -1,4 +1,4 @@
-use Rattle.std.proofs.Common.{◌≡◌, ◌∙◌, ◌<◌, length-set, ℕ, List, length, slice_index_or, slice_set, get_or-set_same, get_or-set_other, sym, subst, refl, arith, below_more, false}
+use Rattle.std.proofs.Common.{◌∙◌, ◌<◌, length-set, ℕ, List, slice_index_or, slice_set, get_or-set_same, get_or-set_other, sym, subst, refl, arith, below_more, false}
 use Rattle.pur_base.specs.Devices.{nvram}
 use Rattle.world.proofs.Ran.{ran_none, ran_then}
 use Rattle.segment_io.proofs.Gathers.{same_then}
