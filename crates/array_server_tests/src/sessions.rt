@@ -1,10 +1,11 @@
 // What one session wrote the next one reads, and how sessions end.
 use crate::parts::Part::{Sector, Text, Times};
-use crate::parts::{ends, gives};
-use crate::stage::{blank_world, new_world, pull_drive};
-use array_server::{init, serve};
+use crate::parts::{Part, ends, gives};
+use crate::stage::{blank_world, made, new_world, pull_drive, served};
 use pur_base::{Device, DriveId, NvId, Status};
+use std::alloc::Global;
 use std::test::Fail;
+use world_mem::MemWorld;
 
 #[test]
 fn what_one_session_wrote_the_next_one_reads(rt: HostRuntime) -> Result<(), Fail> {
@@ -78,17 +79,22 @@ fn blank_devices_have_no_array(rt: HostRuntime) -> Result<(), Fail> {
     Ok(())
 }
 
+/// Whether this was given so far.
+fn has_given(world: &MemWorld, output: &[u8]) -> bool {
+    world.output() == output
+}
+
 #[test]
 fn one_array_is_made(rt: HostRuntime) -> Result<(), Fail> {
     let alloc = rt.alloc();
     let mut world = blank_world(alloc)?;
-    assert_eq!(rt; serve(alloc, &mut world), Status::NoArray);
-    assert_eq!(rt; world.output(), b"".as_slice());
-    assert_eq!(rt; init(alloc, &mut world), Status::Done);
-    assert_eq!(rt; world.output(), b"ok\n".as_slice());
-    assert_eq!(rt; init(alloc, &mut world), Status::NotBlank);
-    assert_eq!(rt; serve(alloc, &mut world), Status::Done);
-    assert_eq!(rt; world.output(), b"ok\n".as_slice());
+    assert!(rt; served(alloc, &mut world) == Status::NoArray);
+    assert!(rt; has_given(&world, b""));
+    assert!(rt; made(alloc, &mut world) == Status::Done);
+    assert!(rt; has_given(&world, b"ok\n"));
+    assert!(rt; made(alloc, &mut world) == Status::NotBlank);
+    assert!(rt; served(alloc, &mut world) == Status::Done);
+    assert!(rt; has_given(&world, b"ok\n"));
     Ok(())
 }
 
@@ -139,25 +145,30 @@ fn a_write_that_is_cut_is_answered(rt: HostRuntime) -> Result<(), Fail> {
     Ok(())
 }
 
+/// Whether the session over a new array ends so and gives this, in pieces of eleven bytes of which a take fails, or a give.
+fn ends_in_pieces(
+    alloc: Global,
+    world: &mut MemWorld,
+    status: Status,
+    output: Part,
+) -> Result<bool, Fail> {
+    world.set_piece(11);
+    match status {
+        Status::Source => world.fail_take(2)?,
+        _ => world.fail_give(3)?,
+    }
+    let input = [Text(b"create a 8\nfill a 0 1 1\nlist\n")];
+    ends(alloc, world, &input, status, &[output])
+}
+
 #[test]
 fn a_source_or_a_sink_that_fails_ends_a_session(rt: HostRuntime) -> Result<(), Fail> {
-    let alloc = rt.alloc();
-    let input = [Text(b"create a 8\nfill a 0 1 1\nlist\n")];
-    let mut world = new_world(alloc)?;
-    world.set_piece(11);
-    world.fail_take(2)?;
-    assert!(rt; ends(alloc, &mut world, &input, Status::Source, &[Text(b"ok\n")])?);
-    let mut world = new_world(alloc)?;
-    world.set_piece(11);
-    world.fail_give(3)?;
-    assert!(rt;
-        ends(
-            alloc,
-            &mut world,
-            &input,
-            Status::Sink,
-            &[Text(b"ok\nok\n")]
-        )?
-    );
+    for (status, output) in [
+        (Status::Source, Text(b"ok\n")),
+        (Status::Sink, Text(b"ok\nok\n")),
+    ] {
+        let mut world = new_world(rt.alloc())?;
+        assert!(rt; ends_in_pieces(rt.alloc(), &mut world, status, output)?);
+    }
     Ok(())
 }

@@ -49,8 +49,8 @@ fn a_generation_can_leave_too_little_room(rt: HostRuntime) -> Result<(), Fail> {
     let alloc = rt.alloc();
     // The opening stores one more.
     let below = given_at(alloc, 0xFFFF_FEFF_FFFD)?;
-    assert_eq!(rt; below.as_slice(), b"ok\nnames 1\na volume 1\n".as_slice());
+    assert!(rt; below.as_slice() == b"ok\nnames 1\na volume 1\n".as_slice());
     let spent = given_at(alloc, 0xFFFF_FEFF_FFFF)?;
-    assert_eq!(rt; spent.as_slice(), b"no spent\nnames 0\n".as_slice());
+    assert!(rt; spent.as_slice() == b"no spent\nnames 0\n".as_slice());
     Ok(())
 }

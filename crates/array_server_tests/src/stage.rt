@@ -3,7 +3,7 @@ use array_server::{init, serve};
 use pur_base::{Device, DriveId, NvId, SECTOR_BYTES, Status};
 use std::alloc::Global;
 use std::test::Fail;
-use world::{Shelf, write_synced};
+use world::{Shelf, World, write_synced};
 use world_mem::{Call, Fused, MemWorld, What};
 
 pub const DRIVES: u8 = 11;
@@ -16,7 +16,7 @@ pub fn blank_world(alloc: Global) -> Result<MemWorld, Fail> {
 /// A world on which an array was made.
 pub fn new_world(alloc: Global) -> Result<MemWorld, Fail> {
     let mut world = blank_world(alloc)?;
-    match init(alloc, &mut world) {
+    match made(alloc, &mut world) {
         Status::Done => {}
         _ => return Err(Fail::new("init")),
     }
@@ -53,6 +53,16 @@ fn given_since(alloc: Global, world: &MemWorld, before: usize) -> Result<Vec<u8>
     Ok(Vec::from_slice(alloc, given)?)
 }
 
+/// How a session ends. What is proved of one stays here, and a test asks what it sees.
+pub fn served<W: World>(alloc: Global, world: &mut W) -> Status {
+    serve(alloc, world)
+}
+
+/// How the making of an array ends.
+pub fn made(alloc: Global, world: &mut MemWorld) -> Status {
+    init(alloc, world)
+}
+
 /// How a session with this input ends, and what it gives.
 pub fn session(
     alloc: Global,
@@ -61,7 +71,7 @@ pub fn session(
 ) -> Result<(Status, Vec<u8>), Fail> {
     let before = world.output().len();
     world.feed(input)?;
-    let status = serve(alloc, world);
+    let status = served(alloc, world);
     Ok((status, given_since(alloc, world, before)?))
 }
 
@@ -88,7 +98,7 @@ pub fn cut_off(alloc: Global, mut world: MemWorld, input: &[u8], calls: u64) -> 
     world.forget();
     world.feed(input)?;
     let mut fused = Fused::new(world, calls);
-    serve(alloc, &mut fused);
+    served(alloc, &mut fused);
     let is_cut = fused.blown();
     let world = fused.into_inner();
     let given = given_since(alloc, &world, before)?;

@@ -66,29 +66,20 @@ fn wrong_in_last_fill(
 
 #[test]
 fn the_last_fill_is_stopped_in_its_slots(rt: HostRuntime) -> Result<(), Fail> {
-    assert_eq!(rt;
-        wrong_in_last_fill(rt.alloc(), 1, 0, &[62, 62, 62, 62, 62])?,
-        None
-    );
+    assert!(rt; wrong_in_last_fill(rt.alloc(), 1, 0, &[62, 62, 62, 62, 62])?.is_none());
     Ok(())
 }
 
 #[test]
 fn the_last_fill_is_stopped_in_its_gates(rt: HostRuntime) -> Result<(), Fail> {
     // A gate that is written may count, though it isn't synced. With the last call it is answered.
-    assert_eq!(rt;
-        wrong_in_last_fill(rt.alloc(), 1, 5, &[63, 63, 63, 63])?,
-        None
-    );
+    assert!(rt; wrong_in_last_fill(rt.alloc(), 1, 5, &[63, 63, 63, 63])?.is_none());
     Ok(())
 }
 
 #[test]
 fn the_last_fill_is_stopped_in_gates_that_stay_closed(rt: HostRuntime) -> Result<(), Fail> {
-    assert_eq!(rt;
-        wrong_in_last_fill(rt.alloc(), 0, 5, &[62, 63, 63, 63])?,
-        None
-    );
+    assert!(rt; wrong_in_last_fill(rt.alloc(), 0, 5, &[62, 63, 63, 63])?.is_none());
     Ok(())
 }
 
@@ -110,31 +101,31 @@ fn wrong_in_openings(alloc: Global, from: u64) -> Result<Option<u64>, Fail> {
 
 #[test]
 fn openings_stopped_behind_0_calls_and_more(rt: HostRuntime) -> Result<(), Fail> {
-    assert_eq!(rt; wrong_in_openings(rt.alloc(), 0)?, None);
+    assert!(rt; wrong_in_openings(rt.alloc(), 0)?.is_none());
     Ok(())
 }
 
 #[test]
 fn openings_stopped_behind_21_calls_and_more(rt: HostRuntime) -> Result<(), Fail> {
-    assert_eq!(rt; wrong_in_openings(rt.alloc(), 21)?, None);
+    assert!(rt; wrong_in_openings(rt.alloc(), 21)?.is_none());
     Ok(())
 }
 
 #[test]
 fn openings_stopped_behind_42_calls_and_more(rt: HostRuntime) -> Result<(), Fail> {
-    assert_eq!(rt; wrong_in_openings(rt.alloc(), 42)?, None);
+    assert!(rt; wrong_in_openings(rt.alloc(), 42)?.is_none());
     Ok(())
 }
 
 #[test]
 fn openings_stopped_behind_63_calls_and_more(rt: HostRuntime) -> Result<(), Fail> {
-    assert_eq!(rt; wrong_in_openings(rt.alloc(), 63)?, None);
+    assert!(rt; wrong_in_openings(rt.alloc(), 63)?.is_none());
     Ok(())
 }
 
 #[test]
 fn openings_stopped_behind_84_calls_and_more(rt: HostRuntime) -> Result<(), Fail> {
-    assert_eq!(rt; wrong_in_openings(rt.alloc(), 84)?, None);
+    assert!(rt; wrong_in_openings(rt.alloc(), 84)?.is_none());
     Ok(())
 }
 
@@ -159,7 +150,7 @@ fn wrong_behind_openings(alloc: Global, from: u64, count: u8) -> Result<Option<u
 fn two_drives_are_lost_behind_an_opening_that_closed_some_gates(
     rt: HostRuntime,
 ) -> Result<(), Fail> {
-    assert_eq!(rt; wrong_behind_openings(rt.alloc(), FINDING, 17)?, None);
+    assert!(rt; wrong_behind_openings(rt.alloc(), FINDING, 17)?.is_none());
     Ok(())
 }
 
@@ -168,6 +159,6 @@ fn two_drives_are_lost_behind_an_opening_that_closed_more_gates(
     rt: HostRuntime,
 ) -> Result<(), Fail> {
     // The last one is stopped where all gates are closed.
-    assert_eq!(rt; wrong_behind_openings(rt.alloc(), FINDING + 17, 17)?, None);
+    assert!(rt; wrong_behind_openings(rt.alloc(), FINDING + 17, 17)?.is_none());
     Ok(())
 }
