@@ -1,11 +1,13 @@
 -- One of several devices in memory is changed.
-use Rattle.std.proofs.Common.{◌≡◌, ◌≢◌, inl, inr, ℕ, zero, suc, ◌<◌, List, [], ◌∷◌, length, map, get_or, slice_set, refl, sym, ◌∙◌, ap, subst, arith}
-use Rattle.std.proofs.lemmas.List.{get_or-set_same, get_or-set_other, get_or-map, map-set, set-set, set-get_or, length-map}
+use Rattle.std.proofs.Common.{◌≡◌, ◌≢◌, inl, inr, ℕ, zero, suc, ◌<◌, List, [], ◌∷◌, length, map, get_or, slice_set, refl, sym, ◌∙◌, ap, subst, arith, ◌⊎◌, Bool, true, Result, OnErr}
+use Rattle.std.proofs.lemmas.List.{length-set, get_or-set_same, get_or-set_other, get_or-map, map-set, set-set, set-get_or, length-map}
 use Rattle.std.proofs.lemmas.Bool.{cases_eq}
 use Rattle.pur_base.specs.declared.device.Device.{Device}
+use Rattle.world.specs.declared.streams.Failed.{Failed}
 use Rattle.world.specs.Shelf.{Disk}
 use Rattle.world_mem.specs.declared.record.Call.{Call}
 use Rattle.world_mem.specs.declared.part.Part.{Part}
+use Rattle.world_mem.specs.Called.{WasCalled, WasCalledIn}
 use Rattle.world_mem.specs.Parts.{disk_of, disks_of, disk_at, nothing, undo_what, Logged, LoggedIn, OnlyCounted, AllCounted, bytes_at, will_fail, will_fail_at, Plan, plan_of, plans_of, plan_at, sound, fails, made_on, made_at}
 
 pub same_counted : (d : Disk) → OnlyCounted d d
@@ -39,11 +41,11 @@ module _ (parts : List Part) (k : ℕ) (old new : Part) (inside : k < length par
     | inr ne ↦ ap (λ (d : Disk). length d.bytes) (others j ne)
   ]
 
-  pub plans : plan_of new ≡ plan_of old → (j : ℕ) → plan_at (plans_of (slice_set parts k new)) j ≡ plan_at (plans_of parts) j
+  plans : plan_of new ≡ plan_of old → (j : ℕ) → plan_at (plans_of (slice_set parts k new)) j ≡ plan_at (plans_of parts) j
   plans same j = ap (λ (l : List Plan). get_or l j sound)
       (map-set plan_of parts k new ∙ ap (λ (p : Plan). slice_set (map plan_of parts) k p) (same ∙ ap plan_of is ∙ sym (get_or-map plan_of parts k old sound inside)) ∙ set-get_or (map plan_of parts) k sound)
 
-  pub logged : (device : Device) (lapsed : Type 0) (calls after_calls : List Call) → Logged device lapsed (disk_of old) (disk_of new) calls after_calls → LoggedIn device k lapsed (disks_of parts) (disks_of (slice_set parts k new)) calls after_calls
+  logged : (device : Device) (lapsed : Type 0) (calls after_calls : List Call) → Logged device lapsed (disk_of old) (disk_of new) calls after_calls → LoggedIn device k lapsed (disks_of parts) (disks_of (slice_set parts k new)) calls after_calls
   logged device lapsed calls after_calls (inl one) =
       inl (
         one.0,
@@ -73,7 +75,7 @@ module _ {X : Type 0} (f : Part → X) (none : X) (parts : List Part) (k : ℕ) 
   same_by new same = map-set f parts k new ∙ ap (λ (x : X). slice_set (map f parts) k x) (same ∙ sym before_by) ∙ set-get_or (map f parts) k none
 
 module _ (parts : List Part) (k : ℕ) (old : Part) (inside : k < length parts) (is : old ≡ get_or parts k old) where
-  pub will_fail_there : will_fail_at parts k ≡ will_fail old
+  will_fail_there : will_fail_at parts k ≡ will_fail old
   will_fail_there = λ i. fails (before_by plan_of sound parts k old inside is i) (before_by made_on 0 parts k old inside is i)
 
   pub plan_there : plan_at (plans_of parts) k ≡ plan_of old
@@ -90,3 +92,17 @@ module _ (parts : List Part) (k : ℕ) (old : Part) (inside : k < length parts) 
 
   pub same_disks : (new : Part) → disk_of new ≡ disk_of old → disks_of (slice_set parts k new) ≡ disks_of parts
   same_disks new same = same_by disk_of nothing parts k old inside is new same
+
+  -- a call on that one
+  pub called : {new : Part} {device : Device} {answer : Result (Unit {0}) Failed} {was_starved starved : Bool} {calls after_calls : List Call} →
+      WasCalled device answer was_starved starved calls after_calls old new → WasCalledIn device k answer was_starved starved calls after_calls parts (slice_set parts k new)
+  called {new} {device} {answer} {was_starved} {starved} {calls} {after_calls} h = record {
+    only = subst (λ (b : Bool). OnErr answer ((b ≡ true) ⊎ (starved ≡ true))) (sym will_fail_there) h.only;
+    told = λ is. h.told (sym will_fail_there ∙ is);
+    others = others parts k old new inside is;
+    plans = plans parts k old new inside is h.recorded.plan;
+    stays = h.recorded.stays;
+    len = length-set parts k new;
+    size = size parts k old new inside is h.size;
+    logged = logged parts k old new inside is device (starved ≡ true) calls after_calls h.recorded.logged;
+  }

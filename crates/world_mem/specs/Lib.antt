@@ -1,3 +1,4 @@
+pub mod Called
 pub mod Fuse
 pub mod FuseLaws
 pub mod Laws

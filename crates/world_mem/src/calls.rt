@@ -1,8 +1,9 @@
 // The three calls on one device in memory, each of them recorded.
-ghost use Rattle.std.specs.Prelude.{◌≡◌, ◌⊎◌, ◌+◌, ◌≤◌, [], ◌∷◌, ◌++◌, length, slice_range, true, IsErr, IsTrue, OnOk, OnErr};
+ghost use Rattle.std.specs.Prelude.{◌≡◌, ◌⊎◌, ◌+◌, ◌≤◌, [], ◌∷◌, ◌++◌, length, slice_range, true, IsTrue, OnOk};
 ghost use Rattle.world.specs.Shelf.{WasWritten, WasSynced, IsSame, ReadCounts, WriteCounts};
 ghost use Rattle.world.specs.Counts.{Rises};
-ghost use Rattle.world_mem.specs.Parts.{disk_of, plan_of, Logged, will_fail};
+ghost use Rattle.world_mem.specs.Called.{HasFailed, WasCalled};
+ghost use Rattle.world_mem.specs.Parts.{disk_of};
 
 use crate::part::Part;
 use crate::record::{Call, What};
@@ -24,12 +25,7 @@ pub(crate) fn write_part(
     requires { at + length from.now ≤ length part.old.bytes.items }
     ensures device { WasWritten result (starved.new ≡ true) at from.now (disk_of part.old) (disk_of part.new) }
     ensures counts { WriteCounts result (disk_of part.old) (disk_of part.new) }
-    ensures only { OnErr result ((will_fail part.old ≡ true) ⊎ (starved.new ≡ true)) }
-    ensures told { will_fail part.old ≡ true → IsErr result }
-    ensures plan { plan_of part.new ≡ plan_of part.old }
-    ensures stays { starved.old ≡ true → starved.new ≡ true }
-    ensures size { length part.new.bytes.items ≡ length part.old.bytes.items }
-    ensures logged { Logged device (starved.new ≡ true) (disk_of part.old) (disk_of part.new) calls.old.items calls.new.items }
+    ensures called { WasCalled device result starved.old starved.new calls.old.items calls.new.items part.old part.new }
 {
     if part.is_failing() {
         fail_write(part, calls, starved, device, at, from.len());
@@ -62,13 +58,9 @@ fn fail_write(
     size: usize,
 )
     requires { at + size ≤ length part.old.bytes.items }
-    ensures bytes { part.new.bytes.items ≡ part.old.bytes.items }
     ensures dirty { (part.new.dirty.items ≡ part.old.dirty.items ++ record { start = at; size = size } ∷ []) ⊎ ((starved.new ≡ true) × (part.new.dirty.items ≡ part.old.dirty.items)) }
-    ensures rises { Rises part.old.faults part.new.faults }
     ensures write_rises { Rises part.old.write_faults part.new.write_faults }
-    ensures plan { plan_of part.new ≡ plan_of part.old }
-    ensures stays { starved.old ≡ true → starved.new ≡ true }
-    ensures logged { Logged device (starved.new ≡ true) (disk_of part.old) (disk_of part.new) calls.old.items calls.new.items }
+    ensures failed { HasFailed device starved.old starved.new calls.old.items calls.new.items part.old part.new }
 {
     let before = part.counts();
     part.count_write();
@@ -92,12 +84,7 @@ pub(crate) fn sync_part(
 ) -> Result<(), Failed>
     ensures device { WasSynced result (disk_of part.old) (disk_of part.new) }
     ensures counts { WriteCounts result (disk_of part.old) (disk_of part.new) }
-    ensures only { OnErr result ((will_fail part.old ≡ true) ⊎ (starved.new ≡ true)) }
-    ensures told { will_fail part.old ≡ true → IsErr result }
-    ensures plan { plan_of part.new ≡ plan_of part.old }
-    ensures stays { starved.old ≡ true → starved.new ≡ true }
-    ensures size { length part.new.bytes.items ≡ length part.old.bytes.items }
-    ensures logged { Logged device (starved.new ≡ true) (disk_of part.old) (disk_of part.new) calls.old.items calls.new.items }
+    ensures called { WasCalled device result starved.old starved.new calls.old.items calls.new.items part.old part.new }
 {
     if part.is_failing() {
         fail_sync(part, calls, starved, device);
@@ -116,13 +103,9 @@ pub(crate) fn sync_part(
 }
 
 fn fail_sync(part: &mut Part, calls: &mut Vec<Call>, starved: &mut bool, device: Device)
-    ensures bytes { part.new.bytes.items ≡ part.old.bytes.items }
     ensures dirty { part.new.dirty.items ≡ part.old.dirty.items }
-    ensures rises { Rises part.old.faults part.new.faults }
     ensures write_rises { Rises part.old.write_faults part.new.write_faults }
-    ensures plan { plan_of part.new ≡ plan_of part.old }
-    ensures stays { starved.old ≡ true → starved.new ≡ true }
-    ensures logged { Logged device (starved.new ≡ true) (disk_of part.old) (disk_of part.new) calls.old.items calls.new.items }
+    ensures failed { HasFailed device starved.old starved.new calls.old.items calls.new.items part.old part.new }
 {
     let before = part.counts();
     part.count_write();
@@ -145,12 +128,7 @@ pub(crate) fn read_part(
     ensures bytes { OnOk result (into.new ≡ slice_range part.old.bytes.items at (at + length into.old)) }
     ensures device { IsSame (disk_of part.old) (disk_of part.new) }
     ensures counts { ReadCounts result (disk_of part.old) (disk_of part.new) }
-    ensures only { OnErr result ((will_fail part.old ≡ true) ⊎ (starved.new ≡ true)) }
-    ensures told { will_fail part.old ≡ true → IsErr result }
-    ensures plan { plan_of part.new ≡ plan_of part.old }
-    ensures stays { starved.old ≡ true → starved.new ≡ true }
-    ensures size { length part.new.bytes.items ≡ length part.old.bytes.items }
-    ensures logged { Logged device (starved.new ≡ true) (disk_of part.old) (disk_of part.new) calls.old.items calls.new.items }
+    ensures called { WasCalled device result starved.old starved.new calls.old.items calls.new.items part.old part.new }
 {
     if part.is_failing() {
         fail_read(part, calls, starved, device);
@@ -170,13 +148,9 @@ pub(crate) fn read_part(
 }
 
 fn fail_read(part: &mut Part, calls: &mut Vec<Call>, starved: &mut bool, device: Device)
-    ensures bytes { part.new.bytes.items ≡ part.old.bytes.items }
     ensures dirty { part.new.dirty.items ≡ part.old.dirty.items }
-    ensures rises { Rises part.old.faults part.new.faults }
     ensures write_stays { part.new.write_faults ≡ part.old.write_faults }
-    ensures plan { plan_of part.new ≡ plan_of part.old }
-    ensures stays { starved.old ≡ true → starved.new ≡ true }
-    ensures logged { Logged device (starved.new ≡ true) (disk_of part.old) (disk_of part.new) calls.old.items calls.new.items }
+    ensures failed { HasFailed device starved.old starved.new calls.old.items calls.new.items part.old part.new }
 {
     let before = part.counts();
     part.count_read();

@@ -11,9 +11,9 @@ returns-in-Drive-clause-time c =
     let x = c.read_in in
     let new = record old { now = record old.now { drives = disks_of x.new.parts.items }; calls = x.new.calls.items; starved = x.new.starved } in
     let d = c.in-Drive.d in
-    elapses old new (record { drives = same_length _ _ x.ensures.len; units = refl; output = refl; taken = refl; starved = x.ensures.stays })
-    (read_rises_on old new (Drive d) x.result x.ensures.counts (drive_others old new d x.ensures.others refl))
-    (on_drive old new d x.ensures.logged refl refl refl)
+    elapses old new (record { drives = same_length _ _ x.ensures.called.len; units = refl; output = refl; taken = refl; starved = x.ensures.called.stays })
+    (read_rises_on old new (Drive d) x.result x.ensures.counts (drive_others old new d x.ensures.called.others refl))
+    (on_drive old new d x.ensures.called.logged refl refl refl)
 
 pub returns-in-Nv-clause-time : goal.returns-in-Nv-clause-time
 returns-in-Nv-clause-time c =
@@ -21,6 +21,6 @@ returns-in-Nv-clause-time c =
     let x = c.read_in-in-Nv in
     let new = record old { now = record old.now { nvram = disks_of x.new.parts.items }; calls = x.new.calls.items; starved = x.new.starved } in
     let n = c.in-Nv.n in
-    elapses old new (record { drives = refl; units = refl; output = refl; taken = refl; starved = x.ensures.stays })
-    (read_rises_on old new (Nv n) x.result x.ensures.counts (nv_others old new n x.ensures.others refl))
-    (on_nv old new n x.ensures.logged refl refl refl)
+    elapses old new (record { drives = refl; units = refl; output = refl; taken = refl; starved = x.ensures.called.stays })
+    (read_rises_on old new (Nv n) x.result x.ensures.counts (nv_others old new n x.ensures.called.others refl))
+    (on_nv old new n x.ensures.called.logged refl refl refl)
