@@ -1,5 +1,5 @@
 -- A device call, in the past of the world.
-use Rattle.std.proofs.Common.{true, ◌≡◌, ◌≢◌, ◌⊎◌, inl, inr, ⊎_elim, ℕ, zero, suc, ◌-◌, ◌≤◌, ◌+◌, List, [], ◌∷◌, ◌++◌, length, take, drop, reverse, refl, sym, ◌∙◌, ap, subst, arith, length-append, Result, Ok, Err}
+use Rattle.std.proofs.Common.{Bool, true, ◌≡◌, ◌⊎◌, inl, inr, ⊎_elim, ℕ, zero, suc, ◌-◌, ◌≤◌, ◌+◌, List, [], ◌∷◌, ◌++◌, length, take, drop, reverse, refl, sym, ◌∙◌, ap, subst, arith, length-append, Result, Ok, Err}
 use Rattle.std.proofs.lemmas.List.{reverse-append, append-nil, length-map}
 use Rattle.pur_base.specs.declared.device.Device.{Device}
 use Rattle.pur_base.specs.declared.device.Device.TheVariants.{Drive, Nv}
@@ -15,6 +15,7 @@ use Rattle.world_mem.specs.declared.record.Call.TheVariants.{On, Give, Take}
 use Rattle.world_mem.specs.declared.record.What.{What}
 use Rattle.world_mem.specs.declared.record.What.TheVariants.{Read, Write, Sync, FailedRead, FailedWrite, FailedSync}
 use Rattle.world_mem.specs.declared.part.Part.{Part}
+use Rattle.world_mem.specs.Called.{WasCalledIn}
 use Rattle.world_mem.specs.Parts.{disks_of, disk_at, nothing, undo_what, changed, OnlyCounted, AllCounted, LoggedIn}
 use Rattle.world_mem.specs.Past.{Snap, StopAt, Left, View, shelved_of, undo, disk_in}
 use Rattle.world_mem.specs.Laws.{from_snap}
@@ -110,23 +111,23 @@ fewer (suc n) a b (call ∷ calls) h stop (inr was) = inr (fewer n (undo call a)
 abbrev pub Steps : View → View → Type 0
 Steps old new = ((call : Call) × (new.calls ≡ old.calls ++ call ∷ []) × (undo call new.now ≡ old.now)) ⊎ ((new.starved ≡ true) × (new.calls ≡ old.calls) × IsCounted old.now new.now)
 
--- counts of failed calls don't fall
-pub record CountsRise (old new : View) : Type 0 where
-  pub faults : (d : Device) → (disk_in old.now d).faults ≤ (disk_in new.now d).faults
-  pub write_faults : (d : Device) → (disk_in old.now d).write_faults ≤ (disk_in new.now d).write_faults
+-- a device's counts of failed calls don't fall
+pub record CountsRise (old new : Disk) : Type 0 where
+  pub faults : old.faults ≤ new.faults
+  pub write_faults : old.write_faults ≤ new.write_faults
 
-pub same_length : (a b : List Part) → length b ≡ length a → length (disks_of b) ≡ length (disks_of a)
+same_length : (a b : List Part) → length b ≡ length a → length (disks_of b) ≡ length (disks_of a)
 same_length a b h = simp length-map h
 
 -- what a device call leaves as it is
-pub record Stays (old new : View) : Type 0 where
+record Stays (old new : View) : Type 0 where
   pub drives : length new.now.drives ≡ length old.now.drives
   pub units : new.units ≡ old.units
   pub output : new.now.output ≡ old.now.output
   pub taken : new.now.taken ≡ old.now.taken
   pub starved : old.starved ≡ true → new.starved ≡ true
 
-pub elapses : (old new : View) → Stays old new → CountsRise old new → Steps old new → Elapses (shelved_of old) (shelved_of new)
+elapses : (old new : View) → Stays old new → ((d : Device) → CountsRise (disk_in old.now d) (disk_in new.now d)) → Steps old new → Elapses (shelved_of old) (shelved_of new)
 elapses old new stays rise (inl one) = record {
   continues = record {
     drives = stays.drives;
@@ -137,8 +138,8 @@ elapses old new stays rise (inl one) = record {
     output = ([], stays.output ∙ sym (append-nil old.now.output));
     taken = omega (arith, stays.taken);
     later = omega (arith, ap (length {A = Call}) one.1, length-append old.calls (one.0 ∷ []));
-    faults = rise.faults;
-    write_faults = rise.write_faults;
+    faults = λ d. (rise d).faults;
+    write_faults = λ d. (rise d).write_faults;
     keeps = λ whole t stop le left. subst (λ (cs : List Call). Since cs new.now t stop) (sym one.1) (more old.calls one.0 old.now new.now t le one.2 stop (inr left));
   };
   quiet = record { output = stays.output; taken = stays.taken };
@@ -155,55 +156,68 @@ elapses old new stays rise (inr gap) = record {
     output = ([], stays.output ∙ sym (append-nil old.now.output));
     taken = omega (arith, stays.taken);
     later = omega (arith, ap (length {A = Call}) gap.1);
-    faults = rise.faults;
-    write_faults = rise.write_faults;
+    faults = λ d. (rise d).faults;
+    write_faults = λ d. (rise d).write_faults;
     keeps = λ whole t stop le left. absurd (whole gap.0);
   };
   quiet = record { output = stays.output; taken = stays.taken };
   nothing_else = λ t stop le left. inl (fewer (length old.calls - t) old.now new.now (reverse old.calls) gap.2 stop (subst (λ (cs : List Call). Since cs new.now t stop) gap.1 left));
 }
 
--- a call on one drive
-pub on_drive : (old new : View) (d : DriveId) → LoggedIn (Drive d) d.0 (new.starved ≡ true) old.now.drives new.now.drives old.calls new.calls → new.now.nvram ≡ old.now.nvram → new.now.output ≡ old.now.output → new.now.taken ≡ old.now.taken → Steps old new
-on_drive old new d (inl one) nvram output taken = inl (On (Drive d) one.0, one.1, λ i. record { drives = one.2 i; nvram = nvram i; output = output i; taken = taken i })
-on_drive old new d (inr gap) nvram output taken = inr (gap.0, gap.1, record { drives = gap.2; nvram = subst (λ (l : List Disk). AllCounted old.now.nvram l) (sym nvram) (all_same old.now.nvram); output = output; taken = taken })
-
-pub on_nv : (old new : View) (n : NvId) → LoggedIn (Nv n) n.0 (new.starved ≡ true) old.now.nvram new.now.nvram old.calls new.calls → new.now.drives ≡ old.now.drives → new.now.output ≡ old.now.output → new.now.taken ≡ old.now.taken → Steps old new
-on_nv old new n (inl one) drives output taken = inl (On (Nv n) one.0, one.1, λ i. record { drives = drives i; nvram = one.2 i; output = output i; taken = taken i })
-on_nv old new n (inr gap) drives output taken = inr (gap.0, gap.1, record { drives = subst (λ (l : List Disk). AllCounted old.now.drives l) (sym drives) (all_same old.now.drives); nvram = gap.2; output = output; taken = taken })
-
 no_less : (answer : Result (Unit {0}) Failed) (a b : ℕ) → Counts answer a b → a ≤ b
 no_less (Ok x) a b h = omega arith
 no_less (Err x) a b h = ⊎_elim (λ lt. let k : a ≤ b = omega arith in k) (λ end. let e = end.1 in let k : a ≤ b = omega arith in k) h
 
-pub rises_on : (old new : View) (device : Device) (answer : Result (Unit {0}) Failed) → WriteCounts answer (disk_in old.now device) (disk_in new.now device) → OthersStay device (shelved_of old) (shelved_of new) → CountsRise old new
-rises_on old new device answer counts others = record {
-  faults = λ d. elim (same_device d device) [
-    | inl e ↦ subst (λ (x : Device). (disk_in old.now x).faults ≤ (disk_in new.now x).faults) (sym e) (no_less answer _ _ counts.faults)
-    | inr ne ↦ omega (arith, ap (λ (x : Disk). x.faults) (others d ne))
-  ];
-  write_faults = λ d. elim (same_device d device) [
-    | inl e ↦ subst (λ (x : Device). (disk_in old.now x).write_faults ≤ (disk_in new.now x).write_faults) (sym e) (no_less answer _ _ counts.write_faults)
-    | inr ne ↦ omega (arith, ap (λ (x : Disk). x.write_faults) (others d ne))
-  ];
-}
+pub counts_of_read : (answer : Result (Unit {0}) Failed) (old new : Disk) → ReadCounts answer old new → CountsRise old new
+counts_of_read answer old new counts = record { faults = no_less answer _ _ counts.faults; write_faults = let k = counts.write_faults in omega arith }
 
-pub read_rises_on : (old new : View) (device : Device) (answer : Result (Unit {0}) Failed) → ReadCounts answer (disk_in old.now device) (disk_in new.now device) → OthersStay device (shelved_of old) (shelved_of new) → CountsRise old new
-read_rises_on old new device answer counts others = record {
-  faults = λ d. elim (same_device d device) [
-    | inl e ↦ subst (λ (x : Device). (disk_in old.now x).faults ≤ (disk_in new.now x).faults) (sym e) (no_less answer _ _ counts.faults)
-    | inr ne ↦ omega (arith, ap (λ (x : Disk). x.faults) (others d ne))
-  ];
-  write_faults = λ d. elim (same_device d device) [
-    | inl e ↦ subst (λ (x : Device). (disk_in old.now x).write_faults ≤ (disk_in new.now x).write_faults) (sym e) (let k = counts.write_faults in omega arith)
-    | inr ne ↦ omega (arith, ap (λ (x : Disk). x.write_faults) (others d ne))
-  ];
-}
+pub counts_of_write : (answer : Result (Unit {0}) Failed) (old new : Disk) → WriteCounts answer old new → CountsRise old new
+counts_of_write answer old new counts = record { faults = no_less answer _ _ counts.faults; write_faults = no_less answer _ _ counts.write_faults }
 
-pub drive_others : (old new : View) (d : DriveId) → ((j : ℕ) → j ≢ d.0 → disk_at new.now.drives j ≡ disk_at old.now.drives j) → new.now.nvram ≡ old.now.nvram → OthersStay (Drive d) (shelved_of old) (shelved_of new)
-drive_others old new d others nvram (Drive e) ne = others e.0 (λ is. ne (λ i. Drive (record { 0 = is i })))
-drive_others old new d others nvram (Nv n) ne = ap (λ (l : List Disk). disk_at l n.0) nvram
+rise_on : (old new : View) (device : Device) → CountsRise (disk_in old.now device) (disk_in new.now device) → OthersStay device (shelved_of old) (shelved_of new) → (d : Device) → CountsRise (disk_in old.now d) (disk_in new.now d)
+rise_on old new device rise others d = elim (same_device d device) [
+  | inl e ↦ subst (λ (x : Device). CountsRise (disk_in old.now x) (disk_in new.now x)) (sym e) rise
+  | inr ne ↦ record { faults = omega (arith, ap (λ (x : Disk). x.faults) (others d ne)); write_faults = omega (arith, ap (λ (x : Disk). x.write_faults) (others d ne)) }
+]
 
-pub nv_others : (old new : View) (n : NvId) → ((j : ℕ) → j ≢ n.0 → disk_at new.now.nvram j ≡ disk_at old.now.nvram j) → new.now.drives ≡ old.now.drives → OthersStay (Nv n) (shelved_of old) (shelved_of new)
-nv_others old new n others drives (Drive e) ne = ap (λ (l : List Disk). disk_at l e.0) drives
-nv_others old new n others drives (Nv m) ne = others m.0 (λ is. ne (λ i. Nv (record { 0 = is i })))
+-- that view with these devices, and this record of calls
+abbrev pub with_drives : View → List Part → List Call → Bool → View
+with_drives v parts calls starved = record { now = record v.now { drives = disks_of parts }; units = v.units; calls = calls; starved = starved }
+
+abbrev pub with_nvram : View → List Part → List Call → Bool → View
+with_nvram v parts calls starved = record { now = record v.now { nvram = disks_of parts }; units = v.units; calls = calls; starved = starved }
+
+module _ (v : View) {answer : Result (Unit {0}) Failed} {was_starved starved : Bool} {calls after_calls : List Call} {parts after : List Part} where
+  -- a call on one drive
+  module _ (d : DriveId) (called : WasCalledIn (Drive d) d.0 answer was_starved starved calls after_calls parts after) where
+    drive_steps : LoggedIn (Drive d) d.0 (starved ≡ true) (disks_of parts) (disks_of after) calls after_calls → Steps (with_drives v parts calls was_starved) (with_drives v after after_calls starved)
+    drive_steps (inl one) = inl (On (Drive d) one.0, one.1, λ i. record v.now { drives = one.2 i })
+    drive_steps (inr gap) = inr (gap.0, gap.1, record { drives = gap.2; nvram = all_same v.now.nvram; output = refl; taken = refl })
+
+    other_drives : OthersStay (Drive d) (shelved_of (with_drives v parts calls was_starved)) (shelved_of (with_drives v after after_calls starved))
+    other_drives (Drive e) ne = called.others e.0 (λ is. ne (λ i. Drive (record { 0 = is i })))
+    other_drives (Nv n) ne = refl
+
+    pub drive_elapses : CountsRise (disk_at (disks_of parts) d.0) (disk_at (disks_of after) d.0) → Elapses (shelved_of (with_drives v parts calls was_starved)) (shelved_of (with_drives v after after_calls starved))
+    drive_elapses rise =
+        let old = with_drives v parts calls was_starved in
+        let new = with_drives v after after_calls starved in
+        elapses old new (record { drives = same_length _ _ called.len; units = refl; output = refl; taken = refl; starved = called.stays })
+        (rise_on old new (Drive d) rise other_drives) (drive_steps called.logged)
+
+  -- a call on one NVRAM device
+  module _ (n : NvId) (called : WasCalledIn (Nv n) n.0 answer was_starved starved calls after_calls parts after) where
+    nv_steps : LoggedIn (Nv n) n.0 (starved ≡ true) (disks_of parts) (disks_of after) calls after_calls → Steps (with_nvram v parts calls was_starved) (with_nvram v after after_calls starved)
+    nv_steps (inl one) = inl (On (Nv n) one.0, one.1, λ i. record v.now { nvram = one.2 i })
+    nv_steps (inr gap) = inr (gap.0, gap.1, record { drives = all_same v.now.drives; nvram = gap.2; output = refl; taken = refl })
+
+    other_nvram : OthersStay (Nv n) (shelved_of (with_nvram v parts calls was_starved)) (shelved_of (with_nvram v after after_calls starved))
+    other_nvram (Drive d) ne = refl
+    other_nvram (Nv m) ne = called.others m.0 (λ is. ne (λ i. Nv (record { 0 = is i })))
+
+    pub nv_elapses : CountsRise (disk_at (disks_of parts) n.0) (disk_at (disks_of after) n.0) → Elapses (shelved_of (with_nvram v parts calls was_starved)) (shelved_of (with_nvram v after after_calls starved))
+    nv_elapses rise =
+        let old = with_nvram v parts calls was_starved in
+        let new = with_nvram v after after_calls starved in
+        elapses old new (record { drives = refl; units = refl; output = refl; taken = refl; starved = called.stays })
+        (rise_on old new (Nv n) rise other_nvram) (nv_steps called.logged)
