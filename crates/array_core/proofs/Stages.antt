@@ -1,12 +1,11 @@
 -- What one stage of the end of a checkpoint or a merge leaves for the next one.
-use Rattle.std.proofs.Common.{◌≡◌, ◌⊎◌, inl, inr, ℕ, ◌+◌, ◌≤◌, List, [], ◌∷◌, length, refl, sym, ◌∙◌, ap, subst, arith, Bool, true, false, Result, Ok, Err, OnOk, IfErr}
+use Rattle.std.proofs.Common.{◌≡◌, ◌⊎◌, inl, inr, ℕ, ◌+◌, List, length, refl, sym, ◌∙◌, ap, subst, arith, Bool, true, Result, Ok, Err, OnOk, IfErr}
 use Rattle.pur_base.specs.declared.device.Device.{Device}
 use Rattle.pur_base.specs.declared.device.Device.TheVariants.{Drive, Nv}
 use Rattle.pur_base.specs.Devices.{Geometry, drive, nvram}
 use Rattle.boot_codec.specs.declared.record.BootRecord.{BootRecord}
-use Rattle.boot_codec.specs.Record.{IsBootRecord, set_count}
+use Rattle.boot_codec.specs.Record.{IsBootRecord}
 use Rattle.boot_codec.specs.Region.{names}
-use Rattle.array_spec.proofs.Votes.{counted}
 use Rattle.stored_spec.specs.Held.{DataHolds}
 use Rattle.world.specs.Counts.{Rises}
 use Rattle.world.specs.Losing.{geometry_of}
@@ -45,18 +44,6 @@ err_is r P e is p = subst (λ x. IfErr x P) (sym is) p
 
 pub later_itself : (boot : BootRecord) → IsLaterRecord boot boot
 later_itself boot = record { generation = omega arith; rest = refl }
-
-some_set : (flags : List Bool) → length flags ≡ 2 → 1 ≤ set_count flags → nv.IsSome flags
-some_set (true ∷ b ∷ []) two one = inl refl
-some_set (false ∷ true ∷ []) two one = inr refl
-some_set (false ∷ false ∷ []) two one = absurd (omega (arith, one, counted (λ (b : Bool). b) false (false ∷ []), counted (λ (b : Bool). b) false []))
-some_set [] two one = absurd (omega (arith, two))
-some_set (a ∷ []) two one = absurd (omega (arith, two))
-some_set (a ∷ b ∷ c ∷ rest) two one = absurd (omega (arith, two))
-
--- a lawful record names an NVRAM device
-pub some_named : (boot : BootRecord) → IsBootRecord boot → nv.IsSome boot.members.nvrams
-some_named boot is = some_set boot.members.nvrams is.members.nvram_flags is.members.nvrams
 
 -- ---- who is left
 

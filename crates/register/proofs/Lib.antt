@@ -15,3 +15,4 @@ pub mod Tabling
 pub mod Left
 pub mod Moments
 pub mod Outlasts
+pub mod Made

@@ -28,6 +28,7 @@ use Rattle.boot_region.proofs.ShownLemmas.{shown_body}
 use Rattle.nvram_log.specs.Members as nv
 use Rattle.register.specs.declared.state.Register.{Register}
 use Rattle.register.specs.Registers.{IsRegisterOf, OnSlots, drives_of, own_slot, next_slot, next_record}
+use Rattle.register.specs.Storing.{AreShown}
 use Rattle.register.specs.Standing.{Content, IsShown, ShowsOn, IsNextOf, GivesOldOrNext, IsInStoreOf, StillGiven, StandsInLog, IsFirm, MayStore, MayStoreAgain, MayStoreFirmly}
 use Rattle.register.proofs.FlagLemmas.{fewer_mask, in_cut, cut_in, none_past}
 use Rattle.register.proofs.Numbers.{generation_spelled, next_other, lower_yields}
@@ -45,6 +46,18 @@ some_set [] i m = absurd (cc m)
 some_set (true ∷ xs) i m = omega (arith, counted (λ b. b) true xs)
 some_set (false ∷ xs) zero m = absurd (cc m)
 some_set (false ∷ xs) (suc i) m = omega (arith, some_set xs i m, counted (λ b. b) false xs)
+
+one_set : (flags : List Bool) → length flags ≡ 2 → 1 ≤ set_count flags → nv.IsSome flags
+one_set (true ∷ b ∷ []) two one = inl refl
+one_set (false ∷ true ∷ []) two one = inr refl
+one_set (false ∷ false ∷ []) two one = absurd (omega (arith, one, counted (λ (b : Bool). b) false (false ∷ []), counted (λ (b : Bool). b) false []))
+one_set [] two one = absurd (omega (arith, two))
+one_set (a ∷ []) two one = absurd (omega (arith, two))
+one_set (a ∷ b ∷ c ∷ rest) two one = absurd (omega (arith, two))
+
+-- a lawful record names an NVRAM device
+pub some_named : (boot : BootRecord) → IsBootRecord boot → nv.IsSome boot.members.nvrams
+some_named boot is = one_set boot.members.nvrams is.members.nvram_flags is.members.nvrams
 
 pub next_lawful : (boot : BootRecord) (drives nvrams : List Bool) → IsBootRecord boot → length drives ≡ 24 → length nvrams ≡ 2 → ((i : ℕ) → IsMember drives i → IsMember boot.members.drives i)
     → boot.slots ≤ set_count drives + 2 → nv.IsSome nvrams → boot.generation + 1 < 2 ^ 48 → IsBootRecord (next_record boot drives nvrams)
@@ -106,27 +119,11 @@ puts_next {ok} old new was mid now boot slots goes record_is drives_are body_is 
     (subst (λ (t : BootSlot). Puts ok old new now (drives_of was) t mid.body.items) slot
     (subst (λ (l : List Bool). Puts ok old new now l (own_slot mid.record) mid.body.items) cut puts))
 
--- a register of a record that names the drives that are left
-module _ (old new : Shelved) (on : Continues old new) (was now : Register) (boot : BootRecord) (is_of : IsRegisterOf (geometry_of old) was) (lawful : IsBootRecord boot) (slots : boot.slots ≡ was.record.slots) (units : boot.units ≡ was.record.units)
-    (names_left : (i : ℕ) → IsMember was.drives i → IsMember boot.members.drives i) (kept : now.record ≡ boot) (beyond : (i : ℕ) → was.record.slots ≤ i → IsMember now.drives i → IsMember was.drives i)
-    (fewer : (i : ℕ) → IsMember (drives_of now) i → IsMember (drives_of was) i) where
-  pub fewer_all : (i : ℕ) → IsMember now.drives i → IsMember was.drives i
-  fewer_all i m = elim (cases_lt i was.record.slots) [
-    | inr ge ↦ beyond i ge m
-    | inl lt ↦
-        let same : was.record.slots ≡ now.record.slots = sym (ap (λ (b : BootRecord). b.slots) kept ∙ slots) in
-        in_cut was.drives was.record.slots i (fewer i (cut_in now.drives now.record.slots i (omega (arith, lt, same)) m))
-  ]
-
-  pub is_of_next : IsRegisterOf (geometry_of new) now
-  is_of_next = record {
-    lawful = record {
-      lawful = subst (λ (b : BootRecord). IsBootRecord b) (sym kept) lawful;
-      slots = ap (λ (b : BootRecord). b.slots) kept ∙ slots ∙ is_of.lawful.slots ∙ sym on.drives;
-      units = ap (λ (b : BootRecord). b.units) kept ∙ units ∙ is_of.lawful.units ∙ sym on.units;
-    };
-    named = λ i m. subst (λ (b : BootRecord). IsMember b.members.drives i) (sym kept) (names_left i (fewer_all i m));
-  }
+-- then each of the drives shows the record
+pub shown_put : {ok : Type 0} {old new : Shelved} {now : Register} {members : List Bool} {slot : BootSlot} (boot : BootRecord) → own_slot boot ≡ slot → now.record ≡ boot → Puts ok old new now members slot (spelling boot)
+    → ok → old.honest → AreShown new now
+shown_put {ok} {old} {new} {now} {members} {slot} boot goes kept puts stood h i m = subst (λ (b : BootRecord). Shows new (own_slot b) (spelling b) i) (sym kept)
+    (subst (λ (t : BootSlot). Shows new t (spelling boot) i) (sym goes) (puts.shown stood h i m))
 
 -- of the shelf's drives all that are left are in the slots of its record
 pub cut_drives : (shelf : Geometry) (r : Register) → IsRegisterOf shelf r → (i : ℕ) → IsMember r.drives i → IsMember (drives_of r) i
@@ -169,11 +166,8 @@ module _ {ok : Type 0} (old new : Shelved) (h : old.honest) (now : Register) (me
 
 module _ {ok : Type 0} (old new : Shelved) (is_old : IsShelf old) (on : Continues old new) (was now : Register) (nvrams : List Bool) (is_of : IsRegisterOf (geometry_of old) was) (some : nv.IsSome nvrams)
     (lawful : IsBootRecord (next_record was.record was.drives nvrams)) (kept : now.record ≡ next_record was.record was.drives nvrams)
-    (beyond : (i : ℕ) → was.record.slots ≤ i → IsMember now.drives i → IsMember was.drives i)
+    (its_register : IsRegisterOf (geometry_of new) now)
     (puts : Puts ok old new now (drives_of was) (next_slot was.record) (spelling (next_record was.record was.drives nvrams))) where
-  its_register : IsRegisterOf (geometry_of new) now
-  its_register = is_of_next old new on was now (next_record was.record was.drives nvrams) is_of lawful refl refl (λ i m. m) kept beyond puts.fewer
-
   cut : (i : ℕ) → IsMember was.drives i → IsMember (drives_of was) i
   cut i m = cut_drives (geometry_of old) was is_of i m
 
@@ -236,10 +230,6 @@ module _ {ok : Type 0} (old new : Shelved) (is_old : IsShelf old) (on : Continue
         (subst (λ (t : BootSlot). IsOlder new (other_slot t) (spelling (next_record was.record was.drives nvrams)) i) (sym own_is)
         (subst (λ (t : BootSlot). Yields (other_slot t) (generation_in (body_in t (new.disk (drive i)).bytes)) (generation_in (spelling (next_record was.record was.drives nvrams)))) (sym (twice_other (own_slot was.record)))
         (subst (λ (l : List ℕ). Yields (next_slot was.record) (generation_in l) (generation_in (spelling (next_record was.record was.drives nvrams)))) (sym (older_body i m)) (newer (next_slot was.record)))))
-
-  pub shown_next : ok → old.honest → (i : ℕ) → IsMember (drives_of now) i → Shows new (own_slot now.record) (spelling now.record) i
-  shown_next stood h i m = subst (λ (b : BootRecord). Shows new (own_slot b) (spelling b) i) (sym kept)
-      (subst (λ (t : BootSlot). Shows new t (spelling (next_record was.record was.drives nvrams)) i) (sym (next_other was.record.generation)) (puts.shown stood h i m))
 
   module _ (h : old.honest) (not_spent : was.record.generation + 1 < 2 ^ 48 - 8) (missing : Conditions) (held : Content) (arrays : List Array) (may : MayStore old was nvrams missing held arrays) where
     among : (i : ℕ) → IsMember (drives_of was) i → IsMember was.drives i

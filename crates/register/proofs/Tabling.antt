@@ -1,12 +1,12 @@
 -- A record with other tables is stored: at every moment the devices stand for the array of the log, and after it the record is in force.
 use Rattle.std.proofs.Common.{◌≡◌, ◌⊎◌, inl, inr, ℕ, ◌+◌, ◌-◌, ◌^◌, ◌≤◌, ◌<◌, List, [], ◌∷◌, length, take, refl, sym, ◌∙◌, ap, subst, arith, Bool, true, false}
-use Rattle.std.specs.Prelude.{Some, Contains, IsTrue, slice_get, slice_index, slice_index_or, if◌then◌else◌}
+use Rattle.std.specs.Prelude.{Some, Contains, IsTrue, slice_get, slice_index, slice_index_or}
 use Rattle.std.proofs.lemmas.Bool.{cases_Bool, cases_lt}
 use Rattle.std.proofs.lemmas.List.{take_all, append-nil}
 use Rattle.std.proofs.lemmas.Option.{slice_get-get_or}
 use Rattle.pur_base.specs.declared.device.Device.{Device}
 use Rattle.pur_base.specs.declared.device.Device.TheVariants as dev
-use Rattle.pur_base.specs.Devices.{Geometry, Conditions, Sound, LeftOut, IsBearable, IsWithin, IsOn, drive, nvram}
+use Rattle.pur_base.specs.Devices.{Geometry, Conditions, Sound, IsBearable, IsWithin, IsOn, drive, nvram}
 use Rattle.pur_base.specs.Plain.{Array}
 use Rattle.pur_base.specs.Commands.{Command, AllAccepted, after_all}
 use Rattle.pur_base.specs.Gates.{is_open}
@@ -27,7 +27,7 @@ use Rattle.world.specs.Shelf.{Shelved, Disk, Stop, IsShelf, IsInSome, MayLeave, 
 use Rattle.world.specs.Losing.{geometry_of}
 use Rattle.world.proofs.Moments.{weaker}
 use Rattle.boot_region.specs.Members.{IsMember}
-use Rattle.boot_region.specs.Storing.{Shows, OnlyBoot, IsOlder, IsFirmOn, IsInForceOn, IsStored, MayFollow, StandsAgain, StandsBut, WasGiven, AccountsFor}
+use Rattle.boot_region.specs.Storing.{OnlyBoot, IsOlder, IsFirmOn, IsInForceOn, IsStored, MayFollow, StandsAgain, StandsBut, WasGiven, AccountsFor}
 use Rattle.boot_region.proofs.ShownLemmas.{as_read, shown_body}
 use Rattle.nvram_log.specs.Members as nv
 use Rattle.nvram_log.specs.Slots.{IsLog}
@@ -41,7 +41,7 @@ use Rattle.register.specs.Tables.{FlushesAll, FlushesNone, IsPlanOf, KeepsArray,
 use Rattle.register.proofs.Again.{meanwhile, accounts, bearable_then, accounts_since}
 use Rattle.register.proofs.FlagLemmas.{in_cut}
 use Rattle.register.proofs.Numbers.{generation_spelled, lower_yields, next_other}
-use Rattle.register.proofs.Rounds.{Puts, other_body, cut_drives, is_of_next, same_shelf, long, same_behind, log_then}
+use Rattle.register.proofs.Rounds.{Puts, other_body, cut_drives, same_shelf, long, same_behind, log_then}
 use Rattle.register.proofs.Stores.{cut_length, members_sound}
 use Rattle.register.proofs.Splice.{at_splice, splice_stops, splice_boot}
 use Rattle.array_spec.proofs.UnflushedRead.{was_left_out}
@@ -204,10 +204,7 @@ module _ (old : Shelved) (is_old : IsShelf old) (h : old.honest) (was : Register
   -- ---- once it was stored
 
   module _ {ok : Type 0} (new : Shelved) (on : Continues old new) (now : Register) (kept : now.record ≡ boot)
-      (beyond : (i : ℕ) → was.record.slots ≤ i → IsMember now.drives i → IsMember was.drives i) (puts : Puts ok old new now (drives_of was) slot (spelling boot)) where
-    its_register : IsRegisterOf (geometry_of new) now
-    its_register = is_of_next old new on was now boot is_of lawful refl refl (λ i m. m) kept beyond puts.fewer
-
+      (its_register : IsRegisterOf (geometry_of new) now) (puts : Puts ok old new now (drives_of was) slot (spelling boot)) where
     nvram_same : (n : ℕ) → new.disk (nvram n) ≡ old.disk (nvram n)
     nvram_same n = puts.runs.others (nvram n) (λ x. x)
 
@@ -290,10 +287,6 @@ module _ (old : Shelved) (is_old : IsShelf old) (h : old.honest) (was : Register
         (subst (λ (t : BootSlot). IsOlder new (other_slot t) (spelling boot) i) (sym (next_other was.record.generation))
         (subst (λ (t : BootSlot). Yields (other_slot t) (generation_in (body_in t (new.disk (drive i)).bytes)) (generation_in (spelling boot))) (sym (twice_other own))
         (subst (λ (l : List ℕ). Yields slot (generation_in l) (generation_in (spelling boot))) (sym (older_body i m)) (newer slot))))
-
-    pub shown_now : ok → (i : ℕ) → IsMember (drives_of now) i → Shows new (own_slot now.record) (spelling now.record) i
-    shown_now stood i m = subst (λ (b : BootRecord). Shows new (own_slot b) (spelling b) i) (sym kept)
-        (subst (λ (t : BootSlot). Shows new t (spelling boot) i) (sym (next_other was.record.generation)) (puts.shown stood h i m))
 
     module _ (low : was.record.generation + 1 < 2 ^ 48 - 8) where
       pub moments_now : LeavesOnly old new (StandsBut old (drives_of was) (named_sound was.record) slot was.record (array_of held ∷ []))

@@ -3,3 +3,4 @@ pub mod Standing
 pub mod Tables
 pub mod Faults
 pub mod Giving
+pub mod Storing

@@ -1,12 +1,12 @@
 // A record with other tables is stored.
-ghost use Rattle.std.specs.Prelude.{◌≡◌, ◌⊎◌, ◌<◌, ◌≤◌, ◌+◌, ◌-◌, ◌^◌, ℕ, OnOk, OnErr, IfErr, length, ◌∷◌, []};
+ghost use Rattle.std.specs.Prelude.{◌≡◌, ◌<◌, ◌≤◌, ◌+◌, ◌-◌, ◌^◌, ℕ, OnOk, OnErr, IfErr, ◌∷◌, []};
 ghost use Rattle.boot_codec.specs.Record.{IsBootRecord, set_count};
 ghost use Rattle.boot_codec.specs.Spelling.{spelling};
 ghost use Rattle.world.specs.Losing.{geometry_of};
 ghost use Rattle.world.specs.Shelf.{LeavesOnly};
 ghost use Rattle.world.specs.Ran.{Ran};
-ghost use Rattle.boot_region.specs.Members.{IsMember, IsOneOf, DroppedFailed};
-ghost use Rattle.boot_region.specs.Storing.{AreEnough, IsOlder, Shows, StandsAgain};
+ghost use Rattle.boot_region.specs.Members.{IsMember, IsOneOf};
+ghost use Rattle.boot_region.specs.Storing.{StandsAgain};
 ghost use Rattle.nvram_log.specs.Members.{IsSome};
 
 use crate::{Register, StoreFault};
@@ -23,10 +23,11 @@ pub struct Tables {
 
 impl Register {
     ghost use Rattle.register.specs.Faults.{IsFaultOf};
-    ghost use Rattle.register.specs.Registers.{IsRegisterOf, IsLaterRecord, OnSlots, drives_of, named_sound, next_record, next_slot, own_slot};
-    ghost use Rattle.register.specs.Standing.{Content, IsOpen, MayStoreFirmly, StandsInLog, array_of};
+    ghost use Rattle.register.specs.Registers.{IsRegisterOf, OnSlots, drives_of, named_sound, next_record};
+    ghost use Rattle.register.specs.Storing.{DropsOnlyFailed, HasStored, HasStoredOnce, MayStoreOnWith};
+    ghost use Rattle.register.specs.Standing.{Content, IsOpen, array_of};
     ghost use Rattle.register.specs.Giving.{GivesOldOrTables};
-    ghost use Rattle.register.specs.Tables.{IsPlanOf, MayGoOn, StandsAsBefore, with_tables};
+    ghost use Rattle.register.specs.Tables.{IsPlanOf, StandsAsBefore, with_tables};
 
     /// Makes and spells the next record with these tables. An error leaves all as it was.
     fn advance_to(&mut self, tables: Tables) -> Result<(), StoreFault>
@@ -54,32 +55,15 @@ impl Register {
     fn store_first<S: Shelf>(&mut self, tables: Tables, shelf: &mut S) -> Result<(), StoreFault>
         requires is_of { IsRegisterOf (geometry_of (S.shelf shelf.old)) self.old }
         requires lawful { IsBootRecord (with_tables self.old.record tables) }
-        requires nvrams { IsSome self.old.record.members.nvrams }
         ensures ran { Ran S.shelf S.shelf_rest (IsOneOf (drives_of self.old)) (OnSlots (drives_of self.old)) shelf.old shelf.new }
-        ensures fewer { (i : ℕ) → IsMember self.new.drives i → IsMember self.old.drives i }
-        ensures dropped { DroppedFailed (S.shelf shelf.old) (S.shelf shelf.new) (drives_of self.old) (drives_of self.new) }
-        ensures is_of { IsRegisterOf (geometry_of (S.shelf shelf.new)) self.new }
-        ensures flags { length self.new.drives ≡ length self.old.drives }
-        ensures next { OnOk result (self.new.record ≡ next_record (with_tables self.old.record tables) self.old.drives self.old.record.members.nvrams) }
-        ensures enough { OnOk result (self.old.record.slots ≤ set_count self.old.drives + 2) }
-        ensures left { OnOk result (AreEnough (drives_of self.new)) }
-        ensures kept { OnErr result (((self.new.record ≡ self.old.record) × (self.new.drives ≡ self.old.drives)) ⊎ (self.new.record ≡ next_record (with_tables self.old.record tables) self.old.drives self.old.record.members.nvrams)) }
-        ensures fault { IfErr result (λ e. IsFaultOf self.new e) }
+        ensures left { DropsOnlyFailed (S.shelf shelf.old) (S.shelf shelf.new) self.old self.new }
+        ensures made { HasStoredOnce result (with_tables self.old.record tables) self.old.record.members.nvrams self.old self.new }
         ensures any_moment { (S.shelf shelf.old).honest → self.new.record.generation < 2 ^ 48 - 8 → (held next : Content) → IsOpen (S.shelf shelf.old) self.old self.old.record.members.nvrams held
             → IsPlanOf (S.shelf shelf.old) self.old tables held next → LeavesOnly (S.shelf shelf.old) (S.shelf shelf.new) (StandsAsBefore (S.shelf shelf.old) self.old held) }
         ensures gives { (S.shelf shelf.old).honest → self.new.record.generation < 2 ^ 48 - 8 → (held next : Content) → IsOpen (S.shelf shelf.old) self.old self.old.record.members.nvrams held
             → IsPlanOf (S.shelf shelf.old) self.old tables held next → LeavesOnly (S.shelf shelf.old) (S.shelf shelf.new) (GivesOldOrTables (S.shelf shelf.old) self.old tables) }
-        ensures logged { (S.shelf shelf.old).honest → (held next : Content) → IsOpen (S.shelf shelf.old) self.old self.old.record.members.nvrams held
-            → IsPlanOf (S.shelf shelf.old) self.old tables held next → OnOk result (StandsInLog (S.shelf shelf.new) self.new self.old.record.members.nvrams next) }
-        ensures shown { (S.shelf shelf.old).honest → OnOk result ((i : ℕ) → IsMember (drives_of self.new) i → Shows (S.shelf shelf.new) (own_slot self.new.record) (spelling self.new.record) i) }
-        ensures older { (S.shelf shelf.old).honest → (held next : Content) → IsOpen (S.shelf shelf.old) self.old self.old.record.members.nvrams held
-            → IsPlanOf (S.shelf shelf.old) self.old tables held next → OnOk result ((i : ℕ) → IsMember (drives_of self.new) i → IsOlder (S.shelf shelf.new) (next_slot self.new.record) (spelling self.new.record) i) }
         // Then it may be stored again.
-        ensures again { (S.shelf shelf.old).honest → self.new.record.generation < 2 ^ 48 - 8 → (held next : Content) → IsOpen (S.shelf shelf.old) self.old self.old.record.members.nvrams held
-            → IsPlanOf (S.shelf shelf.old) self.old tables held next → OnOk result (MayGoOn (S.shelf shelf.old) (S.shelf shelf.new) self.old self.new held next) }
-        ensures firmly { (S.shelf shelf.old).honest → self.new.record.generation < 2 ^ 48 - 8 → (held next : Content) → IsOpen (S.shelf shelf.old) self.old self.old.record.members.nvrams held
-            → IsPlanOf (S.shelf shelf.old) self.old tables held next
-            → OnOk result (MayStoreFirmly (S.shelf shelf.old) (S.shelf shelf.new) self.new self.old.record.members.nvrams (named_sound self.old.record) next (array_of held ∷ [])) }
+        ensures again { (S.shelf shelf.old).honest → OnOk result (MayStoreOnWith (S.shelf shelf.old) (S.shelf shelf.new) self.old self.new tables) }
         ensures outlasts { (S.shelf shelf.old).honest → self.new.record.generation < 2 ^ 48 - 8 → (held next : Content) → IsOpen (S.shelf shelf.old) self.old self.old.record.members.nvrams held
             → IsPlanOf (S.shelf shelf.old) self.old tables held next
             → LeavesOnly (S.shelf shelf.old) (S.shelf shelf.new) (StandsAgain (S.shelf shelf.old) (named_sound self.old.record) (array_of held ∷ [])) }
@@ -100,19 +84,9 @@ impl Register {
     ) -> Result<(), StoreFault>
         requires is_of { IsRegisterOf (geometry_of (S.shelf shelf.old)) self.old }
         requires lawful { IsBootRecord (with_tables self.old.record tables) }
-        requires nvrams { IsSome self.old.record.members.nvrams }
         ensures ran { Ran S.shelf S.shelf_rest (IsOneOf (drives_of self.old)) (OnSlots (drives_of self.old)) shelf.old shelf.new }
-        ensures fewer { (i : ℕ) → IsMember self.new.drives i → IsMember self.old.drives i }
-        ensures dropped { DroppedFailed (S.shelf shelf.old) (S.shelf shelf.new) (drives_of self.old) (drives_of self.new) }
-        ensures is_of { IsRegisterOf (geometry_of (S.shelf shelf.new)) self.new }
-        // It is a record of these tables, but for an error before the first one was made.
-        ensures stored { OnOk result (IsLaterRecord (with_tables self.old.record tables) self.new.record) }
-        ensures kept { OnErr result (((self.new.record ≡ self.old.record) × (self.new.drives ≡ self.old.drives)) ⊎ IsLaterRecord (with_tables self.old.record tables) self.new.record) }
-        ensures generation { OnOk result ((self.old.record.generation < self.new.record.generation) × (self.new.record.generation < 2 ^ 48)) }
-        ensures few { self.new.record.generation ≤ self.old.record.generation + 3 }
-        ensures members { OnOk result ((self.new.record.members.drives ≡ self.new.drives) × (self.new.record.members.nvrams ≡ self.old.record.members.nvrams)) }
-        ensures enough { OnOk result (self.new.record.slots ≤ set_count self.new.drives + 2) }
-        ensures fault { IfErr result (λ e. IsFaultOf self.new e) }
+        ensures left { DropsOnlyFailed (S.shelf shelf.old) (S.shelf shelf.new) self.old self.new }
+        ensures made { HasStored result (with_tables self.old.record tables) self.old.record.members.nvrams self.old self.new }
         // At every moment the devices stand for the array for which they stood.
         ensures any_moment { (S.shelf shelf.old).honest → self.new.record.generation < 2 ^ 48 - 8 → (held next : Content) → IsOpen (S.shelf shelf.old) self.old self.old.record.members.nvrams held
             → IsPlanOf (S.shelf shelf.old) self.old tables held next

@@ -10,6 +10,7 @@ use Rattle.register.specs.Registers.{drives_of}
 use Rattle.register.specs.Standing.{IsOpen, StandsInLog}
 use Rattle.register.proofs.FlagLemmas.{same_flags}
 use Rattle.register.proofs.Moments.{stands_at, gives_at}
+use Rattle.register.proofs.Made.{store_later}
 use Rattle.array_core.specs.declared.performing.PerformFault.{PerformFault}
 use Rattle.array_core.specs.declared.performing.PerformFault.TheVariants.{Device}
 use Rattle.array_core.specs.Performing.{IsLostBy}
@@ -88,7 +89,7 @@ returns-in_err-store-clause-holders g c =
     let y = c.store.ensures in
     let two : length c.args.log.now.members ≡ 2 = search rules in
     drops_failed (g.S.Shelf.shelf c.args.shelf.now) (g.S.Shelf.shelf c.clear.new.shelf) (g.S.Shelf.shelf c.store.new.shelf) c.args.register.now c.store.new.self c.args.log.now.members c.clear.new.self.members two
-    (λ i. x.ran.on.others (drive i) (λ none. none)) (λ k. y.ran.on.others (nvram k) (λ none. none)) x.dropped y.dropped
+    (λ i. x.ran.on.others (drive i) (λ none. none)) (λ k. y.ran.on.others (nvram k) (λ none. none)) x.dropped y.left.dropped
 
 pub returns-clause-holders : goal.returns-clause-holders
 returns-clause-holders g c =
@@ -96,7 +97,7 @@ returns-clause-holders g c =
     let y = c.store.ensures in
     let two : length c.args.log.now.members ≡ 2 = search rules in
     drops_failed (g.S.Shelf.shelf c.args.shelf.now) (g.S.Shelf.shelf c.clear.new.shelf) (g.S.Shelf.shelf c.store.new.shelf) c.args.register.now c.store.new.self c.args.log.now.members c.clear.new.self.members two
-    (λ i. x.ran.on.others (drive i) (λ none. none)) (λ k. y.ran.on.others (nvram k) (λ none. none)) x.dropped y.dropped
+    (λ i. x.ran.on.others (drive i) (λ none. none)) (λ k. y.ran.on.others (nvram k) (λ none. none)) x.dropped y.left.dropped
 
 pub returns-in_err-store-clause-lost : goal.returns-in_err-store-clause-lost
 returns-in_err-store-clause-lost g c =
@@ -106,13 +107,13 @@ returns-in_err-store-clause-lost g c =
     let r = c.args.register.now in
     let now = c.store.new.self in
     let q = err_from_is_err_and c.from_residual-in_err-store.result c.from_residual-in_err-store.ensures.1 in
-    let dropped : DroppedFailed a n (drives_of r) (drives_of now) = λ i mem. elim (c.store.ensures.dropped i mem) [
+    let dropped : DroppedFailed a n (drives_of r) (drives_of now) = λ i mem. elim (c.store.ensures.left.dropped i mem) [
       | inl is ↦ inl is
       | inr rose ↦ inr (rises_since a m n n c.clear.ensures.ran.on.continues (continues_refl n) i rose)
     ] in
-    let low : now.record.generation + 1 < 2 ^ 48 = omega (arith, c.store.ensures.few, c.requires.not_spent) in
+    let low : now.record.generation + 1 < 2 ^ 48 = omega (arith, c.store.ensures.made.few, c.requires.not_spent) in
     let lost : IsLostBy a n r c.args.log.now.members =
-    inr (drives_lost a n r now (ap (λ (b : BootRecord). b.slots) c.store.ensures.later.rest) dropped low c.in_err-store.field-0.0 c.in_err-store.ensures.fault) in
+    inr (drives_lost a n r now (ap (λ (b : BootRecord). b.slots) (store_later c.store.ensures.made).rest) dropped low c.in_err-store.field-0.0 c.in_err-store.ensures.made.fault) in
     subst (λ (t : Result (Unit {0}) PerformFault). IfErr t (λ e. (e ≡ Device) × IsLostBy a n r c.args.log.now.members)) (sym q.1) (q.2, lost)
 
 pub returns-in_err-store-clause-any_moment : goal.returns-in_err-store-clause-any_moment
@@ -124,7 +125,7 @@ returns-in_err-store-clause-any_moment g c h commands next o empty keeps holds =
     let log = c.args.log.now in
     let now = c.clear.new.self.members in
     let x = c.clear.ensures in
-    let room : c.store.new.self.record.generation < 2 ^ 48 - 8 = omega (arith, c.store.ensures.few, c.requires.not_spent) in
+    let room : c.store.new.self.record.generation < 2 ^ 48 - 8 = omega (arith, c.store.ensures.made.few, c.requires.not_spent) in
     let p = clearing a m r log now commands next (g.met.S.Shelf.is_shelf c.args.shelf.now) (g.met.S.Shelf.is_shelf c.clear.new.shelf) h x.ran.on.continues o empty (λ i. x.ran.on.others (drive i) (λ none. none)) x.fewer x.dropped (x.none_later h commands keeps holds) (x.ran.on.writes h) c.requires.flushed keeps in
     let held_then : HoldsOn m now r.record.flushed [] = subst (λ (f : ℕ). HoldsOn m now f []) (c.in_ok-clear.ensures.ok.0 ∙ sym c.requires.flushed) (c.in_ok-clear.ensures.holds h commands keeps holds) in
     all_moments a m n r log.members now c.members-members.result next p held_then c.members-members.ensures (c.store.ensures.ran.on.writes (x.ran.on.continues.honest h)) (stands_at (c.store.ensures.moments (x.ran.on.continues.honest h) room)) (gives_at (c.store.ensures.moments (x.ran.on.continues.honest h) room))
@@ -138,7 +139,7 @@ returns-clause-any_moment g c h commands next o empty keeps holds =
     let log = c.args.log.now in
     let now = c.clear.new.self.members in
     let x = c.clear.ensures in
-    let room : c.store.new.self.record.generation < 2 ^ 48 - 8 = omega (arith, c.store.ensures.few, c.requires.not_spent) in
+    let room : c.store.new.self.record.generation < 2 ^ 48 - 8 = omega (arith, c.store.ensures.made.few, c.requires.not_spent) in
     let p = clearing a m r log now commands next (g.met.S.Shelf.is_shelf c.args.shelf.now) (g.met.S.Shelf.is_shelf c.clear.new.shelf) h x.ran.on.continues o empty (λ i. x.ran.on.others (drive i) (λ none. none)) x.fewer x.dropped (x.none_later h commands keeps holds) (x.ran.on.writes h) c.requires.flushed keeps in
     let held_then : HoldsOn m now r.record.flushed [] = subst (λ (f : ℕ). HoldsOn m now f []) (c.in_ok-clear.ensures.ok.0 ∙ sym c.requires.flushed) (c.in_ok-clear.ensures.holds h commands keeps holds) in
     all_moments a m n r log.members now c.members-members.result next p held_then c.members-members.ensures (c.store.ensures.ran.on.writes (x.ran.on.continues.honest h)) (stands_at (c.store.ensures.moments (x.ran.on.continues.honest h) room)) (gives_at (c.store.ensures.moments (x.ran.on.continues.honest h) room))
@@ -152,7 +153,7 @@ returns-clause-held g c h commands next o empty keeps holds =
     let log = c.args.log.now in
     let now = c.clear.new.self.members in
     let x = c.clear.ensures in
-    let room : c.store.new.self.record.generation < 2 ^ 48 - 8 = omega (arith, c.store.ensures.few, c.requires.not_spent) in
+    let room : c.store.new.self.record.generation < 2 ^ 48 - 8 = omega (arith, c.store.ensures.made.few, c.requires.not_spent) in
     let p = clearing a m r log now commands next (g.met.S.Shelf.is_shelf c.args.shelf.now) (g.met.S.Shelf.is_shelf c.clear.new.shelf) h x.ran.on.continues o empty (λ i. x.ran.on.others (drive i) (λ none. none)) x.fewer x.dropped (x.none_later h commands keeps holds) (x.ran.on.writes h) c.requires.flushed keeps in
     let holds_now = c.in_ok-clear.ensures.holds h commands keeps holds in
     let held_then : HoldsOn m now r.record.flushed [] = subst (λ (f : ℕ). HoldsOn m now f []) (c.in_ok-clear.ensures.ok.0 ∙ sym c.requires.flushed) holds_now in

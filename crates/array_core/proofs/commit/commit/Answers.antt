@@ -26,6 +26,7 @@ use Rattle.array_core.proofs.Outlasts.{append_again, store_again}
 use Rattle.array_core.proofs.Segments.{AreKept, behind_boot, drives_left, hold_fewer, hold_kept, unwritten}
 use Rattle.array_core.proofs.commit.commit.Goals as goal
 use Rattle.register.proofs.Rounds.{same_shelf}
+use Rattle.register.proofs.Made.{store_later}
 
 pub returns-in_err-store-clause-moments : goal.returns-in_err-store-clause-moments
 returns-in_err-store-clause-moments g c h = counted_on c.append.ensures.ran.on.continues (c.append.ensures.ran.on.writes h) (c.store.ensures.ran.on.writes (c.append.ensures.ran.on.continues.honest h))
@@ -92,7 +93,7 @@ returns-in_err-store-clause-lost g c =
     let q = err_from_is_err_and c.from_residual-in_err-store.result c.from_residual-in_err-store.ensures.1 in
     let is : IsRegisterOf (geometry_of m) r = subst (λ (k : Geometry). IsRegisterOf k r) (same_shelf c.append.ensures.ran.on.continues) c.requires.is_of.of_shelf in
     let lost : IsLost a n c.args.array.now =
-    inr (lost_drives a m n r c.store.new.self (λ i. c.append.ensures.ran.on.others (drive i) (λ none. none)) is c.requires.not_spent c.store.ensures.dropped c.store.ensures.later c.in_err-store.ensures.lost c.in_err-store.field-0.0 c.in_err-store.ensures.fault) in
+    inr (lost_drives a m n r c.store.new.self (λ i. c.append.ensures.ran.on.others (drive i) (λ none. none)) is c.requires.not_spent c.store.ensures.left.dropped (store_later c.store.ensures.made) c.in_err-store.ensures.made.lost c.in_err-store.field-0.0 c.in_err-store.ensures.made.fault) in
     subst (λ (t : Result (Unit {0}) PerformFault). IfErr t (λ e. (e ≡ Device) × IsLost a n c.args.array.now)) (sym q.1) (q.2, lost)
 
 pub returns-in_err-store-clause-any_moment : goal.returns-in_err-store-clause-any_moment
@@ -105,7 +106,7 @@ returns-in_err-store-clause-any_moment g c h held o holds keeps accepted in_forc
     let now = c.append.new.self.members in
     let cmd : Command = record { request = c.args.request.now; sectors = c.args.sectors.now } in
     let x = c.append.ensures in
-    let room : c.store.new.self.record.generation < 2 ^ 48 - 8 = omega (arith, c.store.ensures.few, c.requires.not_spent) in
+    let room : c.store.new.self.record.generation < 2 ^ 48 - 8 = omega (arith, c.store.ensures.made.few, c.requires.not_spent) in
     let p = appending a m r log now held cmd (g.met.S.Shelf.is_shelf c.args.shelf.now) (g.met.S.Shelf.is_shelf c.append.new.shelf) h x.ran.on.continues o keeps c.requires.room c.requires.is_of.flushed accepted
     (λ i. x.ran.on.others (drive i) (λ none. none)) x.fewer x.dropped (x.any_moment h held.log keeps holds) (x.ran.on.writes h) (x.spelled 0 _ refl) in_force in
     let held_then : HoldsOn m now r.record.flushed (held.log ++ cmd ∷ []) = subst (λ (f : ℕ). HoldsOn m now f (held.log ++ cmd ∷ [])) (x.flushed ∙ c.requires.is_of.flushed) (c.in_ok-append.ensures.holds h held.log keeps holds) in
@@ -127,7 +128,7 @@ returns-clause-any_moment g c h held o holds keeps accepted in_force =
     let now = c.append.new.self.members in
     let cmd : Command = record { request = c.args.request.now; sectors = c.args.sectors.now } in
     let x = c.append.ensures in
-    let room : c.store.new.self.record.generation < 2 ^ 48 - 8 = omega (arith, c.store.ensures.few, c.requires.not_spent) in
+    let room : c.store.new.self.record.generation < 2 ^ 48 - 8 = omega (arith, c.store.ensures.made.few, c.requires.not_spent) in
     let p = appending a m r log now held cmd (g.met.S.Shelf.is_shelf c.args.shelf.now) (g.met.S.Shelf.is_shelf c.append.new.shelf) h x.ran.on.continues o keeps c.requires.room c.requires.is_of.flushed accepted
     (λ i. x.ran.on.others (drive i) (λ none. none)) x.fewer x.dropped (x.any_moment h held.log keeps holds) (x.ran.on.writes h) (x.spelled 0 _ refl) in_force in
     let held_then : HoldsOn m now r.record.flushed (held.log ++ cmd ∷ []) = subst (λ (f : ℕ). HoldsOn m now f (held.log ++ cmd ∷ [])) (x.flushed ∙ c.requires.is_of.flushed) (c.in_ok-append.ensures.holds h held.log keeps holds) in
@@ -149,7 +150,7 @@ returns-clause-held g c h held o holds keeps accepted in_force =
     let now = c.append.new.self.members in
     let cmd : Command = record { request = c.args.request.now; sectors = c.args.sectors.now } in
     let x = c.append.ensures in
-    let room : c.store.new.self.record.generation < 2 ^ 48 - 8 = omega (arith, c.store.ensures.few, c.requires.not_spent) in
+    let room : c.store.new.self.record.generation < 2 ^ 48 - 8 = omega (arith, c.store.ensures.made.few, c.requires.not_spent) in
     let p = appending a m r log now held cmd (g.met.S.Shelf.is_shelf c.args.shelf.now) (g.met.S.Shelf.is_shelf c.append.new.shelf) h x.ran.on.continues o keeps c.requires.room c.requires.is_of.flushed accepted
     (λ i. x.ran.on.others (drive i) (λ none. none)) x.fewer x.dropped (x.any_moment h held.log keeps holds) (x.ran.on.writes h) (x.spelled 0 _ refl) in_force in
     let held_then : HoldsOn m now r.record.flushed (held.log ++ cmd ∷ []) = subst (λ (f : ℕ). HoldsOn m now f (held.log ++ cmd ∷ [])) (x.flushed ∙ c.requires.is_of.flushed) (c.in_ok-append.ensures.holds h held.log keeps holds) in
@@ -178,7 +179,7 @@ returns-clause-record g c =
     let other : now ≡ log.members → ⊥ =
     λ e. other_flags c.members-members.result c.members-before.result c.if-eq.ensures (c.members-members.ensures ∙ e ∙ sym c.members-before.ensures) in
     rises_little a m n log.members now c.args.array.now.register c.store.new.self two two_now other x.fewer x.dropped (λ k. c.store.ensures.ran.on.others (nvram k) (λ none. none))
-    c.requires.is_of.of_shelf c.store.ensures.later c.in_ok-store.ensures.generation.0 c.in_ok-store.ensures.enough c.in_ok-store.ensures.stores
+    c.requires.is_of.of_shelf (store_later c.store.ensures.made) c.in_ok-store.ensures.made.generation.0 c.in_ok-store.ensures.made.enough c.in_ok-store.ensures.made.stores
 
 pub returns-clause-dropped : goal.returns-clause-dropped
 returns-clause-dropped g c =
@@ -189,8 +190,8 @@ returns-clause-dropped g c =
     let now : Array = record { memory = was.memory; log = c.append.new.self; register = c.store.new.self } in
     let x = c.append.ensures in
     let two : length was.log.members ≡ 2 = search rules in (
-      drops_failed a m n was.register now.register was.log.members now.log.members two (λ i. x.ran.on.others (drive i) (λ none. none)) (λ k. c.store.ensures.ran.on.others (nvram k) (λ none. none)) x.dropped c.store.ensures.dropped,
-      none_joins (geometry_of a) was now c.members-members.result c.requires.is_of.of_shelf c.store.ensures.later c.store.ensures.fewer x.fewer c.members-members.ensures c.in_ok-store.ensures.members,
+      drops_failed a m n was.register now.register was.log.members now.log.members two (λ i. x.ran.on.others (drive i) (λ none. none)) (λ k. c.store.ensures.ran.on.others (nvram k) (λ none. none)) x.dropped c.store.ensures.left.dropped,
+      none_joins (geometry_of a) was now c.members-members.result c.requires.is_of.of_shelf (store_later c.store.ensures.made) c.store.ensures.left.fewer x.fewer c.members-members.ensures c.in_ok-store.ensures.made.members,
     )
 
 pub returns-then-eq-clause-segments : goal.returns-then-eq-clause-segments
@@ -210,10 +211,10 @@ returns-clause-segments g c h contents hold =
     let places = c.requires.is_of.segments.places in
     let tables = facts c.args.array.now.memory.memory.tables in
     let of_shelf = c.requires.is_of.of_shelf in
-    let fewer = fewer_drives was now c.store.ensures.later c.store.ensures.fewer in
+    let fewer = fewer_drives was now (store_later c.store.ensures.made) c.store.ensures.left.fewer in
     let kept : AreKept a n now = behind_boot a m n was now (λ i. c.append.ensures.ran.on.others (drive i) (λ none. none)) (c.store.ensures.ran.on.writes (c.append.ensures.ran.on.continues.honest h)) in
-    let flags = drives_left (geometry_of a) was now of_shelf c.store.ensures.later (c.in_ok-store.ensures.members.0) c.store.ensures.is_of.lawful.lawful.members.drive_flags
-    c.store.ensures.is_of.lawful.lawful.members.within c.in_ok-store.ensures.enough in
+    let flags = drives_left (geometry_of a) was now of_shelf (store_later c.store.ensures.made) (c.in_ok-store.ensures.made.members.0) c.store.ensures.left.is_of.lawful.lawful.members.drive_flags
+    c.store.ensures.left.is_of.lawful.lawful.members.within c.in_ok-store.ensures.made.enough in
     hold_kept (geometry_of a) a n now kept contents tables places
     (hold_fewer (geometry_of a) a was now fewer flags.0 flags.1 contents tables places hold)
 
@@ -266,7 +267,7 @@ returns-in_err-store-clause-outlasts g c h held o holds keeps accepted in_force 
     let p = appending a m r log now held cmd (g.met.S.Shelf.is_shelf c.args.shelf.now) (g.met.S.Shelf.is_shelf c.append.new.shelf) h x.ran.on.continues o keeps c.requires.room c.requires.is_of.flushed accepted
     (λ i. x.ran.on.others (drive i) (λ none. none)) x.fewer x.dropped (x.any_moment h held.log keeps holds) (x.ran.on.writes h) (x.spelled 0 _ refl) in_force in
     let n = g.S.Shelf.shelf c.store.new.shelf in
-    let room : c.store.new.self.record.generation < 2 ^ 48 - 8 = omega (arith, c.store.ensures.few, c.requires.not_spent) in
+    let room : c.store.new.self.record.generation < 2 ^ 48 - 8 = omega (arith, c.store.ensures.made.few, c.requires.not_spent) in
     let held_then : HoldsOn m now r.record.flushed (held.log ++ cmd ∷ []) = subst (λ (f : ℕ). HoldsOn m now f (held.log ++ cmd ∷ [])) (x.flushed ∙ c.requires.is_of.flushed) (c.in_ok-append.ensures.holds h held.log keeps holds) in
     let storing : (missing : Conditions) (k : Content) (others : List plain.Array) → MayStore m r now missing k others → IsFirm m r missing → LeavesOnly m n (StandsAgain m missing others) =
     subst (λ (l : List Bool). (missing : Conditions) (k : Content) (others : List plain.Array) → MayStore m r l missing k others → IsFirm m r missing → LeavesOnly m n (StandsAgain m missing others))
@@ -285,7 +286,7 @@ returns-clause-outlasts g c h held o holds keeps accepted in_force =
     let p = appending a m r log now held cmd (g.met.S.Shelf.is_shelf c.args.shelf.now) (g.met.S.Shelf.is_shelf c.append.new.shelf) h x.ran.on.continues o keeps c.requires.room c.requires.is_of.flushed accepted
     (λ i. x.ran.on.others (drive i) (λ none. none)) x.fewer x.dropped (x.any_moment h held.log keeps holds) (x.ran.on.writes h) (x.spelled 0 _ refl) in_force in
     let n = g.S.Shelf.shelf c.store.new.shelf in
-    let room : c.store.new.self.record.generation < 2 ^ 48 - 8 = omega (arith, c.store.ensures.few, c.requires.not_spent) in
+    let room : c.store.new.self.record.generation < 2 ^ 48 - 8 = omega (arith, c.store.ensures.made.few, c.requires.not_spent) in
     let held_then : HoldsOn m now r.record.flushed (held.log ++ cmd ∷ []) = subst (λ (f : ℕ). HoldsOn m now f (held.log ++ cmd ∷ [])) (x.flushed ∙ c.requires.is_of.flushed) (c.in_ok-append.ensures.holds h held.log keeps holds) in
     let storing : (missing : Conditions) (k : Content) (others : List plain.Array) → MayStore m r now missing k others → IsFirm m r missing → LeavesOnly m n (StandsAgain m missing others) =
     subst (λ (l : List Bool). (missing : Conditions) (k : Content) (others : List plain.Array) → MayStore m r l missing k others → IsFirm m r missing → LeavesOnly m n (StandsAgain m missing others))

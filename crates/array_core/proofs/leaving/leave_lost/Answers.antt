@@ -45,7 +45,7 @@ returns-clause-ran g c =
     ran_more (is_drive (drives_of now)) (slots_of_more r now (ap (λ (b : BootRecord). b.slots) c.lose.ensures.record) (λ k m. ((c.lose.ensures.left k).0 m).0)) c.store.ensures.ran
 
 low : (g : given.Over) (c : goal.After-store g) → c.store.new.self.record.generation < 2 ^ 48 - 8
-low g c = let e : c.lose.new.self.record.generation ≡ c.args.register.now.record.generation = ap (λ (b : BootRecord). b.generation) c.lose.ensures.record in omega (arith, e, c.store.ensures.few, c.requires.not_spent)
+low g c = let e : c.lose.new.self.record.generation ≡ c.args.register.now.record.generation = ap (λ (b : BootRecord). b.generation) c.lose.ensures.record in omega (arith, e, c.store.ensures.made.few, c.requires.not_spent)
 
 pub returns-clause-held : goal.returns-clause-held
 returns-clause-held g c h = ok_if c.store.result (λ get start held o w. get _ (c.store.ensures.stored h (low g c) held

@@ -7,12 +7,9 @@ use Rattle.world.proofs.Ran.{ran_more, ran_then}
 use Rattle.register.specs.Registers.{drives_of}
 use Rattle.register.specs.Standing.{IsOpen}
 use Rattle.array_core.proofs.Holders.{is_drive, named_left, none_joins_tables, slots_of_more}
-use Rattle.array_core.proofs.Stages.{err_is, left_dropped, some_named}
+use Rattle.array_core.proofs.Stages.{err_is, left_dropped}
 use Rattle.array_core.proofs.Whole.{both_dropped, none_left, none_stored, has_left, open_b, plan, tables_run, open_c, holds_c}
 use Rattle.array_core.proofs.merging.switch_tables.Goals as goal
-
-pub store_tables-requires-clause-nvrams : goal.store_tables-requires-clause-nvrams
-store_tables-requires-clause-nvrams g c = some_named c.leave_lost.new.register.record c.leave_lost.ensures.is_of.lawful.lawful
 
 -- ---- no record could be stored without the drives that were lost
 
@@ -45,13 +42,13 @@ returns-in_err-store_tables-clause-ran g c =
     ran_then g.met.S.Shelf.shelf_rest_stays x.ran (ran_more (is_drive (drives_of r1)) (slots_of_more r0 r1 (ap (λ (k : BootRecord). k.slots) x.later.rest) (λ k m. (x.fewer k m).0)) c.store_tables.ensures.ran)
 
 pub returns-in_err-store_tables-clause-fewer : goal.returns-in_err-store_tables-clause-fewer
-returns-in_err-store_tables-clause-fewer g c i m = c.leave_lost.ensures.fewer i (c.store_tables.ensures.fewer i m)
+returns-in_err-store_tables-clause-fewer g c i m = c.leave_lost.ensures.fewer i (c.store_tables.ensures.left.fewer i m)
 
 pub returns-in_err-store_tables-clause-dropped : goal.returns-in_err-store_tables-clause-dropped
 returns-in_err-store_tables-clause-dropped g c start on are =
     let x = c.leave_lost.ensures in
     both_dropped (g.S.Shelf.shelf start) (g.S.Shelf.shelf c.args.shelf.now) (g.S.Shelf.shelf c.leave_lost.new.shelf) (g.S.Shelf.shelf c.store_tables.new.shelf) on x.ran.on.continues c.store_tables.ensures.ran.on.continues
-    c.args.register.now c.leave_lost.new.register c.store_tables.new.self c.args.lost.now are x.dropped c.store_tables.ensures.dropped
+    c.args.register.now c.leave_lost.new.register c.store_tables.new.self c.args.lost.now are x.dropped c.store_tables.ensures.left.dropped
 
 pub returns-in_err-store_tables-clause-fault : goal.returns-in_err-store_tables-clause-fault
 returns-in_err-store_tables-clause-fault g c =
@@ -64,11 +61,11 @@ returns-in_err-store_tables-clause-fault g c =
     let x = c.leave_lost.ensures in
     let y = c.store_tables.ensures in
     let q = err_from_is_err_and c.from_residual-in_err-store_tables.result c.from_residual-in_err-store_tables.ensures.1 in
-    let low : r2.record.generation + 1 < 2 ^ 48 = omega (arith, x.few, y.few, c.requires.not_spent) in
+    let low : r2.record.generation + 1 < 2 ^ 48 = omega (arith, x.few, y.made.few, c.requires.not_spent) in
     err_is c.from_residual-in_err-store_tables.result _ q.0 q.1 (
       q.2,
-      λ start on are. inr (none_stored (g.S.Shelf.shelf start) a b e on x.ran.on.continues y.ran.on.continues r0 r1 r2 c.args.lost.now c.args.tables are x.dropped y.dropped x.later c.in_err-store_tables.ensures.kept low
-          c.in_err-store_tables.field-0.0 c.in_err-store_tables.ensures.fault),
+      λ start on are. inr (none_stored (g.S.Shelf.shelf start) a b e on x.ran.on.continues y.ran.on.continues r0 r1 r2 c.args.lost.now c.args.tables are x.dropped y.left.dropped x.later c.in_err-store_tables.ensures.made.kept low
+          c.in_err-store_tables.field-0.0 c.in_err-store_tables.ensures.made.fault),
     )
 
 pub returns-in_err-store_tables-clause-any_moment : goal.returns-in_err-store_tables-clause-any_moment
@@ -83,7 +80,7 @@ returns-in_err-store_tables-clause-any_moment g c h start held next was w hold =
     let x = c.leave_lost.ensures in
     let y = c.store_tables.ensures in
     let hb = x.ran.on.continues.honest h in
-    let low : c.store_tables.new.self.record.generation < 2 ^ 48 - 8 = omega (arith, x.few, y.few, c.requires.not_spent) in
+    let low : c.store_tables.new.self.record.generation < 2 ^ 48 - 8 = omega (arith, x.few, y.made.few, c.requires.not_spent) in
     let o : IsOpen s r0 c.members.result held = subst (λ (l : List Bool). IsOpen s r0 l held) (sym c.members.ensures) was.is_open in
     let p = has_left s a b (g.met.S.Shelf.is_shelf c.leave_lost.new.shelf) h x.ran.on.continues r0 r1 log c.members.result c.args.lost.now c.args.tables held next c.members.ensures c.requires.is_of c.requires.lawful was w
     hold.stand hold.keeps x.later x.fewer x.dropped (λ n. x.ran.on.others (nvram n) (λ v. v)) (x.ran.on.writes h) (c.in_ok-leave_lost.ensures.held h start held o w) in
@@ -102,13 +99,13 @@ returns-clause-ran g c =
     ran_then g.met.S.Shelf.shelf_rest_stays x.ran (ran_more (is_drive (drives_of r1)) (slots_of_more r0 r1 (ap (λ (k : BootRecord). k.slots) x.later.rest) (λ k m. (x.fewer k m).0)) c.store_tables.ensures.ran)
 
 pub returns-clause-fewer : goal.returns-clause-fewer
-returns-clause-fewer g c i m = c.leave_lost.ensures.fewer i (c.store_tables.ensures.fewer i m)
+returns-clause-fewer g c i m = c.leave_lost.ensures.fewer i (c.store_tables.ensures.left.fewer i m)
 
 pub returns-clause-dropped : goal.returns-clause-dropped
 returns-clause-dropped g c start on are =
     let x = c.leave_lost.ensures in
     both_dropped (g.S.Shelf.shelf start) (g.S.Shelf.shelf c.args.shelf.now) (g.S.Shelf.shelf c.leave_lost.new.shelf) (g.S.Shelf.shelf c.store_tables.new.shelf) on x.ran.on.continues c.store_tables.ensures.ran.on.continues
-    c.args.register.now c.leave_lost.new.register c.store_tables.new.self c.args.lost.now are x.dropped c.store_tables.ensures.dropped
+    c.args.register.now c.leave_lost.new.register c.store_tables.new.self c.args.lost.now are x.dropped c.store_tables.ensures.left.dropped
 
 pub returns-clause-joins : goal.returns-clause-joins
 returns-clause-joins g c =
@@ -118,9 +115,9 @@ returns-clause-joins g c =
     let members = c.args.log.now.members in
     let x = c.leave_lost.ensures in
     let first : r1.record.slots ≡ r0.record.slots = ap (λ (k : BootRecord). k.slots) x.later.rest in
-    let slots : r2.record.slots ≡ r0.record.slots = ap (λ (k : BootRecord). k.slots) c.in_ok-store_tables.ensures.stored.rest ∙ first in
-    none_joins_tables _ r0 r1 r2 members c.requires.is_of (λ k m. (x.fewer k m).0) c.store_tables.ensures.fewer slots
-    (named_left r0 r1 c.members.result members c.members.ensures c.in_ok-leave_lost.ensures.named) c.in_ok-store_tables.ensures.members
+    let slots : r2.record.slots ≡ r0.record.slots = ap (λ (k : BootRecord). k.slots) c.in_ok-store_tables.ensures.made.stored.rest ∙ first in
+    none_joins_tables _ r0 r1 r2 members c.requires.is_of (λ k m. (x.fewer k m).0) c.store_tables.ensures.left.fewer slots
+    (named_left r0 r1 c.members.result members c.members.ensures c.in_ok-leave_lost.ensures.named) c.in_ok-store_tables.ensures.made.members
 
 pub returns-clause-any_moment : goal.returns-clause-any_moment
 returns-clause-any_moment g c h start held next was w hold =
@@ -134,7 +131,7 @@ returns-clause-any_moment g c h start held next was w hold =
     let x = c.leave_lost.ensures in
     let y = c.store_tables.ensures in
     let hb = x.ran.on.continues.honest h in
-    let low : c.store_tables.new.self.record.generation < 2 ^ 48 - 8 = omega (arith, x.few, y.few, c.requires.not_spent) in
+    let low : c.store_tables.new.self.record.generation < 2 ^ 48 - 8 = omega (arith, x.few, y.made.few, c.requires.not_spent) in
     let o : IsOpen s r0 c.members.result held = subst (λ (l : List Bool). IsOpen s r0 l held) (sym c.members.ensures) was.is_open in
     let p = has_left s a b (g.met.S.Shelf.is_shelf c.leave_lost.new.shelf) h x.ran.on.continues r0 r1 log c.members.result c.args.lost.now c.args.tables held next c.members.ensures c.requires.is_of c.requires.lawful was w
     hold.stand hold.keeps x.later x.fewer x.dropped (λ n. x.ran.on.others (nvram n) (λ v. v)) (x.ran.on.writes h) (c.in_ok-leave_lost.ensures.held h start held o w) in
@@ -156,7 +153,7 @@ returns-clause-done g c h start held next was w hold =
     let x = c.leave_lost.ensures in
     let y = c.store_tables.ensures in
     let hb = x.ran.on.continues.honest h in
-    let low : c.store_tables.new.self.record.generation < 2 ^ 48 - 8 = omega (arith, x.few, y.few, c.requires.not_spent) in
+    let low : c.store_tables.new.self.record.generation < 2 ^ 48 - 8 = omega (arith, x.few, y.made.few, c.requires.not_spent) in
     let o : IsOpen s r0 c.members.result held = subst (λ (l : List Bool). IsOpen s r0 l held) (sym c.members.ensures) was.is_open in
     let p = has_left s a b (g.met.S.Shelf.is_shelf c.leave_lost.new.shelf) h x.ran.on.continues r0 r1 log c.members.result c.args.lost.now c.args.tables held next c.members.ensures c.requires.is_of c.requires.lawful was w
     hold.stand hold.keeps x.later x.fewer x.dropped (λ n. x.ran.on.others (nvram n) (λ v. v)) (x.ran.on.writes h) (c.in_ok-leave_lost.ensures.held h start held o w) in

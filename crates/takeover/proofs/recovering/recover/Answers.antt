@@ -57,6 +57,7 @@ use Rattle.takeover.proofs.Stops.{unstored}
 use Rattle.takeover.proofs.recovering.recover.Goals as goal
 use Rattle.array_core.proofs.Losses.{fewer_borne, sound_since}
 use Rattle.register.proofs.Rounds.{same_shelf}
+use Rattle.register.proofs.Made.{store_later}
 
 pub returns-in_err-found-clause-ran : goal.returns-in_err-found-clause-ran
 returns-in_err-found-clause-ran g c = ran_more (λ d is. tt) gates_off c.find_array.ensures.ran
@@ -181,9 +182,9 @@ returns-in_err-store-clause-opened g c h =
     let there = log_opened a b n missing arrays x f.memory ps on after (found_then missing arrays enters) c.open_log.result
     (λ base is has bears_then. c.open_log.ensures.opened h_b x (failed_since a b missing) arrays ps base refl refl is has (λ d sound. goes_on (a.disk d).faults (b.disk d).faults (sound_since (has_risen (a.disk d).faults (b.disk d).faults) (missing d) sound).1) bears_then) bears in
     (there.0, there.1, subst (λ (r : Result OpenedLog LogFault). IsLogOpenBy n x (failed_since a n missing) arrays ps there.0 r) c.in_ok-opened.was there.2) in
-    let each : (missing : Conditions) (arrays : List Array) → Enters a missing arrays → LeavesOnly a s (StandsStill a (Some (opening.found a b x on seen.seen lawful (nvrams_still c.find_array.ensures.ran.on) n after s f.memory o was now last is_a is_b is_n h replayed is_of made.0 made.1 c.store.ensures.dropped c.store.ensures.later c.store.ensures.few shown)) missing arrays) =
+    let each : (missing : Conditions) (arrays : List Array) → Enters a missing arrays → LeavesOnly a s (StandsStill a (Some (opening.found a b x on seen.seen lawful (nvrams_still c.find_array.ensures.ran.on) n after s f.memory o was now last is_a is_b is_n h replayed is_of made.0 made.1 c.store.ensures.left.dropped (store_later c.store.ensures.made) c.store.ensures.made.few shown)) missing arrays) =
     λ missing arrays enters.
-    opening.each_moment a b x on seen.seen lawful (nvrams_still c.find_array.ensures.ran.on) n after s f.memory o was now last is_a is_b is_n h replayed is_of made.0 made.1 c.store.ensures.dropped c.store.ensures.later c.store.ensures.few shown
+    opening.each_moment a b x on seen.seen lawful (nvrams_still c.find_array.ensures.ran.on) n after s f.memory o was now last is_a is_b is_n h replayed is_of made.0 made.1 c.store.ensures.left.dropped (store_later c.store.ensures.made) c.store.ensures.made.few shown
     missing arrays (c.find_array.ensures.any_moment h missing arrays enters) (seen.seen.given missing arrays enters) ps (opens missing arrays enters) (runs_moments c.open_log.ensures.ran.on h_b)
     (next missing arrays enters) (λ i. c.open_log.ensures.ran.on.others (drive i) (λ none. none)) (c.open_log.ensures.ran.on.writes h_b) (c.store.ensures.ran.on.writes h_n)
     (λ room held may. stands_at (c.store.ensures.moments h_n room) (failed_since a n missing) held arrays (subst (λ (l : List Bool). MayStore n was l (failed_since a n missing) held arrays) (sym c.members.ensures) may))
@@ -193,8 +194,8 @@ returns-in_err-store-clause-opened g c h =
     (back_at (c.store.ensures.moments h_n room) held (subst (λ (l : List Bool). StandsInLog n was l held) (sym c.members.ensures) logged) own)) in
     let p = err_from_is_err_and c.from_residual-in_err-store.result c.from_residual-in_err-store.ensures.1 in
     let e = c.in_err-store.field-0.0 in
-    let fault : IsFaultOf now e = subst (λ (r : Result (Unit {0}) StoreFault). IfErr r (λ k. IsFaultOf now k)) c.in_err-store.was c.store.ensures.fault in
-    let is : IsShut a s (fault_of_store e) = opening.unstored a b x on seen.seen lawful (nvrams_still c.find_array.ensures.ran.on) n after s f.memory o was now last is_a is_b is_n h replayed is_of made.0 made.1 c.store.ensures.dropped c.store.ensures.later c.store.ensures.few shown each e fault in
+    let fault : IsFaultOf now e = subst (λ (r : Result (Unit {0}) StoreFault). IfErr r (λ k. IsFaultOf now k)) c.in_err-store.was c.store.ensures.made.fault in
+    let is : IsShut a s (fault_of_store e) = opening.unstored a b x on seen.seen lawful (nvrams_still c.find_array.ensures.ran.on) n after s f.memory o was now last is_a is_b is_n h replayed is_of made.0 made.1 c.store.ensures.left.dropped (store_later c.store.ensures.made) c.store.ensures.made.few shown each e fault in
     let named : IsShut a s p.0 = subst (λ (k : OpenFault). IsShut a s k) (sym p.2) is in
     subst (λ r. IsOpenedBy a s r) (sym p.1) named
 
@@ -244,9 +245,9 @@ returns-clause-opened g c h =
     let there = log_opened a b n missing arrays x f.memory ps on after (found_then missing arrays enters) c.open_log.result
     (λ base is has bears_then. c.open_log.ensures.opened h_b x (failed_since a b missing) arrays ps base refl refl is has (λ d sound. goes_on (a.disk d).faults (b.disk d).faults (sound_since (has_risen (a.disk d).faults (b.disk d).faults) (missing d) sound).1) bears_then) bears in
     (there.0, there.1, subst (λ (r : Result OpenedLog LogFault). IsLogOpenBy n x (failed_since a n missing) arrays ps there.0 r) c.in_ok-opened.was there.2) in
-    let each : (missing : Conditions) (arrays : List Array) → Enters a missing arrays → LeavesOnly a s (StandsStill a (Some (opening.found a b x on seen.seen lawful (nvrams_still c.find_array.ensures.ran.on) n after s f.memory o was now last is_a is_b is_n h replayed is_of made.0 made.1 c.store.ensures.dropped c.store.ensures.later c.store.ensures.few shown)) missing arrays) =
+    let each : (missing : Conditions) (arrays : List Array) → Enters a missing arrays → LeavesOnly a s (StandsStill a (Some (opening.found a b x on seen.seen lawful (nvrams_still c.find_array.ensures.ran.on) n after s f.memory o was now last is_a is_b is_n h replayed is_of made.0 made.1 c.store.ensures.left.dropped (store_later c.store.ensures.made) c.store.ensures.made.few shown)) missing arrays) =
     λ missing arrays enters.
-    opening.each_moment a b x on seen.seen lawful (nvrams_still c.find_array.ensures.ran.on) n after s f.memory o was now last is_a is_b is_n h replayed is_of made.0 made.1 c.store.ensures.dropped c.store.ensures.later c.store.ensures.few shown
+    opening.each_moment a b x on seen.seen lawful (nvrams_still c.find_array.ensures.ran.on) n after s f.memory o was now last is_a is_b is_n h replayed is_of made.0 made.1 c.store.ensures.left.dropped (store_later c.store.ensures.made) c.store.ensures.made.few shown
     missing arrays (c.find_array.ensures.any_moment h missing arrays enters) (seen.seen.given missing arrays enters) ps (opens missing arrays enters) (runs_moments c.open_log.ensures.ran.on h_b)
     (next missing arrays enters) (λ i. c.open_log.ensures.ran.on.others (drive i) (λ none. none)) (c.open_log.ensures.ran.on.writes h_b) (c.store.ensures.ran.on.writes h_n)
     (λ room held may. stands_at (c.store.ensures.moments h_n room) (failed_since a n missing) held arrays (subst (λ (l : List Bool). MayStore n was l (failed_since a n missing) held arrays) (sym c.members.ensures) may))
@@ -260,12 +261,12 @@ returns-clause-opened g c h =
     let enough_found : b.drives ≤ set_count x.drives + 2 = subst (λ (r : Result FoundArray OpenFault). IfOk r (λ y. b.drives ≤ set_count y.loaded.drives + 2)) c.in_ok-found.was c.find_array.ensures.enough in
     let done : HasReplayed f.memory o = subst (λ (r : Result OpenedLog LogFault). IfOk r (HasReplayed f.memory)) c.in_ok-opened.was c.open_log.ensures.done in
     let generation : (was.record.generation < now.record.generation) × (now.record.generation < 2 ^ 48) =
-    subst (λ (r : Result (Unit {0}) StoreFault). OnOk r ((was.record.generation < now.record.generation) × (now.record.generation < 2 ^ 48))) c.in_ok-store.was c.store.ensures.generation in
+    subst (λ (r : Result (Unit {0}) StoreFault). OnOk r ((was.record.generation < now.record.generation) × (now.record.generation < 2 ^ 48))) c.in_ok-store.was c.store.ensures.made.generation in
     let members : (now.record.members.drives ≡ now.drives) × (now.record.members.nvrams ≡ c.members.result) =
-    subst (λ (r : Result (Unit {0}) StoreFault). OnOk r ((now.record.members.drives ≡ now.drives) × (now.record.members.nvrams ≡ c.members.result))) c.in_ok-store.was c.store.ensures.members in
-    let enough : now.record.slots ≤ set_count now.drives + 2 = subst (λ (r : Result (Unit {0}) StoreFault). OnOk r (now.record.slots ≤ set_count now.drives + 2)) c.in_ok-store.was c.store.ensures.enough in
-    let later : IsLaterRecord x.record now.record = subst (λ (r : BootRecord). IsLaterRecord r now.record) made.0 c.store.ensures.later in
-    let found = opening.found a b x on seen.seen lawful (nvrams_still c.find_array.ensures.ran.on) n after s f.memory o was now last is_a is_b is_n h replayed is_of made.0 made.1 c.store.ensures.dropped c.store.ensures.later c.store.ensures.few shown in
+    subst (λ (r : Result (Unit {0}) StoreFault). OnOk r ((now.record.members.drives ≡ now.drives) × (now.record.members.nvrams ≡ c.members.result))) c.in_ok-store.was c.store.ensures.made.members in
+    let enough : now.record.slots ≤ set_count now.drives + 2 = subst (λ (r : Result (Unit {0}) StoreFault). OnOk r (now.record.slots ≤ set_count now.drives + 2)) c.in_ok-store.was c.store.ensures.made.enough in
+    let later : IsLaterRecord x.record now.record = subst (λ (r : BootRecord). IsLaterRecord r now.record) made.0 (store_later c.store.ensures.made) in
+    let found = opening.found a b x on seen.seen lawful (nvrams_still c.find_array.ensures.ran.on) n after s f.memory o was now last is_a is_b is_n h replayed is_of made.0 made.1 c.store.ensures.left.dropped (store_later c.store.ensures.made) c.store.ensures.made.few shown in
     let is_recovered : (missing : Conditions) (arrays : List Array) → Enters a missing arrays → IsBearable (geometry_of a) (failed_since a s missing)
     → IsRecovered a s found (array_with o now) done.log (failed_since a s missing) arrays =
     λ missing arrays enters bears.
@@ -275,7 +276,7 @@ returns-clause-opened g c h =
     let is = there.2 in
     let logged : StandsInLog n was c.members.result (content ps base is.commands) =
     subst (λ (l : List Bool). StandsInLog n was l (content ps base is.commands)) (sym c.members.ensures) (in_log n x (failed_since a n missing) arrays ps base o was is is_of made.0 made.1) in
-    let room = opening.enough_room a b x on seen.seen lawful (nvrams_still c.find_array.ensures.ran.on) n after s f.memory o was now last is_a is_b is_n h replayed is_of made.0 made.1 c.store.ensures.dropped c.store.ensures.later c.store.ensures.few shown is.found.room in
+    let room = opening.enough_room a b x on seen.seen lawful (nvrams_still c.find_array.ensures.ran.on) n after s f.memory o was now last is_a is_b is_n h replayed is_of made.0 made.1 c.store.ensures.left.dropped (store_later c.store.ensures.made) c.store.ensures.made.few shown is.found.room in
     let stored : IsOpen s now c.members.result (content ps base is.commands) =
     subst (λ (r : Result (Unit {0}) StoreFault). OnOk r (IsOpen s now c.members.result (content ps base is.commands))) c.in_ok-store.was (c.store.ensures.stored h_n room (content ps base is.commands) logged) in
     let is_open : IsOpen s now o.log.members (content ps base is.commands) = subst (λ (l : List Bool). IsOpen s now l (content ps base is.commands)) c.members.ensures stored in
@@ -290,17 +291,17 @@ returns-clause-opened g c h =
       reads = base_held.tables_read (geometry_of b) x.record f.memory o memory done s is_s h_s now later enough base is.commands is_open;
       hold = hold;
     } in
-    recovered a n s missing arrays x o was on_n last ps base is is_of made.0 made.1 bears now c.store.ensures.dropped c.store.ensures.later is_open (λ k. c.store.ensures.ran.on.others (nvram k) (λ z. z))
+    recovered a n s missing arrays x o was on_n last ps base is is_of made.0 made.1 bears now c.store.ensures.left.dropped (store_later c.store.ensures.made) is_open (λ k. c.store.ensures.ran.on.others (nvram k) (λ z. z))
     found done.log same_log held (sym (patches_are (geometry_of b) x.record f.memory o memory done)) contents
     (subst (λ (l : List Command). ReadsAs contents o.memory.memory (after_all base l)) (sym same_log) reads) hold in
-    opening.opened a b x on seen.seen lawful (nvrams_still c.find_array.ensures.ran.on) n after s f.memory o was now last is_a is_b is_n h replayed is_of made.0 made.1 c.store.ensures.dropped c.store.ensures.later c.store.ensures.few shown each memory done seen.no_other
+    opening.opened a b x on seen.seen lawful (nvrams_still c.find_array.ensures.ran.on) n after s f.memory o was now last is_a is_b is_n h replayed is_of made.0 made.1 c.store.ensures.left.dropped (store_later c.store.ensures.made) c.store.ensures.made.few shown each memory done seen.no_other
     generation.0 (members.0, members.1 ∙ c.members.ensures) is_recovered
 
 pub returns-clause-named : goal.returns-clause-named
 returns-clause-named g c =
     let now = c.store.new.self in
     let members : (now.record.members.drives ≡ now.drives) × (now.record.members.nvrams ≡ c.members.result) =
-    subst (λ (r : Result (Unit {0}) StoreFault). OnOk r ((now.record.members.drives ≡ now.drives) × (now.record.members.nvrams ≡ c.members.result))) c.in_ok-store.was c.store.ensures.members in
+    subst (λ (r : Result (Unit {0}) StoreFault). OnOk r ((now.record.members.drives ≡ now.drives) × (now.record.members.nvrams ≡ c.members.result))) c.in_ok-store.was c.store.ensures.made.members in
     (members.0, members.1 ∙ c.members.ensures)
 
 pub returns-clause-is_of : goal.returns-clause-is_of
@@ -319,7 +320,7 @@ returns-clause-is_of g c =
     let flushed : o.log.flushed ≡ x.record.flushed = subst (λ (r : Result OpenedLog LogFault). IfOk r (λ y. y.log.flushed ≡ x.record.flushed)) c.in_ok-opened.was c.open_log.ensures.flushed in
     let left : IsFewer x.record.members.nvrams o.log.members × IsSome o.log.members =
     subst (λ (r : Result OpenedLog LogFault). IfOk r (λ y. IsFewer x.record.members.nvrams y.log.members × IsSome y.log.members)) c.in_ok-opened.was c.open_log.ensures.members in
-    array_of_shelf (geometry_of s) x.record f.memory o memory done now c.store.ensures.is_of (subst (λ (r : BootRecord). IsLaterRecord r now.record) made.0 c.store.ensures.later) flushed left.1
+    array_of_shelf (geometry_of s) x.record f.memory o memory done now c.store.ensures.left.is_of (subst (λ (r : BootRecord). IsLaterRecord r now.record) made.0 (store_later c.store.ensures.made)) flushed left.1
 
 pub returns-in_err-found-clause-outlasts : goal.returns-in_err-found-clause-outlasts
 returns-in_err-found-clause-outlasts g c h missing next boot arrays enters entry =
@@ -395,7 +396,7 @@ returns-in_err-store-clause-outlasts g c h missing next boot arrays enters entry
     let left : IsFewer x.record.members.nvrams o.log.members × IsSome o.log.members =
     subst (λ (r : Result OpenedLog LogFault). IfOk r (λ y. IsFewer x.record.members.nvrams y.log.members × IsSome y.log.members)) c.in_ok-opened.was c.open_log.ensures.members in
     let stores : x.record.generation < 2 ^ 48 - 16 → (during : Conditions) (held : Content) → MayStore n was o.log.members during held arrays → IsFirm n was during → LeavesOnly n s (StandsAgain n during arrays) =
-    λ room during held may is_firm. c.store.ensures.outlasts h_n (lasting.room_left x.record was.record now.record made.0 c.store.ensures.few room) during held arrays
+    λ room during held may is_firm. c.store.ensures.outlasts h_n (lasting.room_left x.record was.record now.record made.0 c.store.ensures.made.few room) during held arrays
     (subst (λ (l : List Bool). MayStore n was l during held arrays) (sym c.members.ensures) may) is_firm in
     let storing = lasting.while_storing a b missing arrays x on (g.met.S.Shelf.is_shelf c.find_array.new.shelf) h_b enters.bearable enough firm n s after (g.met.S.Shelf.is_shelf c.open_log.new.shelf) h_n (λ i. c.open_log.ensures.ran.on.others (drive i) (λ none. none))
     o was opened left.0 left.1 is_of made.0 made.1 stores in
@@ -444,7 +445,7 @@ returns-clause-outlasts g c h missing next boot arrays enters entry =
     let left : IsFewer x.record.members.nvrams o.log.members × IsSome o.log.members =
     subst (λ (r : Result OpenedLog LogFault). IfOk r (λ y. IsFewer x.record.members.nvrams y.log.members × IsSome y.log.members)) c.in_ok-opened.was c.open_log.ensures.members in
     let stores : x.record.generation < 2 ^ 48 - 16 → (during : Conditions) (held : Content) → MayStore n was o.log.members during held arrays → IsFirm n was during → LeavesOnly n s (StandsAgain n during arrays) =
-    λ room during held may is_firm. c.store.ensures.outlasts h_n (lasting.room_left x.record was.record now.record made.0 c.store.ensures.few room) during held arrays
+    λ room during held may is_firm. c.store.ensures.outlasts h_n (lasting.room_left x.record was.record now.record made.0 c.store.ensures.made.few room) during held arrays
     (subst (λ (l : List Bool). MayStore n was l during held arrays) (sym c.members.ensures) may) is_firm in
     let storing = lasting.while_storing a b missing arrays x on (g.met.S.Shelf.is_shelf c.find_array.new.shelf) h_b enters.bearable enough firm n s after (g.met.S.Shelf.is_shelf c.open_log.new.shelf) h_n (λ i. c.open_log.ensures.ran.on.others (drive i) (λ none. none))
     o was opened left.0 left.1 is_of made.0 made.1 stores in

@@ -1,21 +1,22 @@
-use Rattle.std.proofs.Common.{rules, refl, inl, inr, arith, ◌≡◌, ◌+◌, ◌-◌, ◌^◌, ◌<◌, ◌≤◌, ℕ, List, Bool, length, ◌∙◌, ap, sym, subst}
+use Rattle.std.proofs.Common.{rules, refl, inl, arith, ◌≡◌, ◌+◌, ◌-◌, ◌^◌, ◌<◌, length, ◌∙◌, ap, sym, subst}
 use Rattle.boot_codec.specs.declared.record.BootRecord.{BootRecord}
 use Rattle.boot_codec.specs.Record.{IsBootRecord}
 use Rattle.boot_codec.specs.Spelling.{spelling}
 use Rattle.world.proofs.Moments.{started}
 use Rattle.world.proofs.Ran.{ran_none, runs_more}
-use Rattle.boot_region.specs.Members.{IsMember}
 use Rattle.register.specs.declared.state.Register.{Register}
 use Rattle.register.specs.Registers.{drives_of, next_slot, next_record}
-use Rattle.register.proofs.Rounds.{Puts, puts_next, on_slots, fewer_all, is_of_next, logged_next, older_next, shown_next, moments_next, again_next, firmly_next, outlasts_next}
+use Rattle.register.proofs.Made.{drops_none, drops_from, none_made, made_once, stays_logged}
+use Rattle.register.proofs.Rounds.{Puts, puts_next, on_slots, logged_next, older_next, shown_put, moments_next, again_next, firmly_next, outlasts_next}
 use Rattle.array_spec.proofs.Standings.{given_with_fewer}
 use Rattle.register.specs.Standing.{IsInStoreOf, StandsInLog}
 use Rattle.register.proofs.Follows.{stands_before}
 use Rattle.register.proofs.Numbers.{next_other}
-use Rattle.register.proofs.Stores.{ended_midway, for_err, from_ok, when_ok, on_err}
+use Rattle.register.proofs.Stores.{ended_midway, fewer_cut, from_ok, when_ok}
 use Rattle.boot_region.specs.Storing.{StandsAgain}
 use Rattle.boot_region.proofs.Composing.{as_it_is}
-use Rattle.std.specs.Prelude.{IsOk}
+use Rattle.std.specs.Prelude.{IsOk, IsErr, IfErr}
+use Rattle.register.specs.Faults.{IsFaultOf}
 use Rattle.register.proofs.state.Register.store_next.Given as given
 use Rattle.register.proofs.state.Register.store_next.Goals as goal
 
@@ -39,8 +40,8 @@ the_puts g c =
     puts_next (g.S.Shelf.shelf c.args.shelf.now) (g.S.Shelf.shelf c.put.new.shelf) c.args.self.now c.advance.new.self c.put.new.self (next_record c.args.self.now.record c.args.self.now.drives c.args.nvrams) refl (next_other c.args.self.now.record.generation)
     c.in_ok-advance.ensures.ok c.in_ok-advance.ensures.drives c.in_ok-advance.ensures.body
     (record {
-      fewer = c.put.ensures.fewer;
-      dropped = c.put.ensures.dropped;
+      fewer = fewer_cut c.advance.new.self c.put.new.self (ap (λ (b : BootRecord). b.slots) c.put.ensures.made.kept) c.put.ensures.left.fewer;
+      dropped = c.put.ensures.left.dropped;
       shown = λ is h. from_ok c.put.result (c.put.ensures.shown h) is;
       runs = c.put.ensures.ran.on;
       moments = c.put.ensures.moments;
@@ -53,52 +54,10 @@ lawful : (g : given.Over) (c : goal.After-put g) → IsBootRecord (next_record c
 lawful g c = subst (λ (b : BootRecord). IsBootRecord b) c.in_ok-advance.ensures.ok c.in_ok-advance.ensures.lawful
 
 kept : (g : given.Over) (c : goal.After-put g) → c.put.new.self.record ≡ next_record c.args.self.now.record c.args.self.now.drives c.args.nvrams
-kept g c = c.put.ensures.kept ∙ c.in_ok-advance.ensures.ok
-
-beyond : (g : given.Over) (c : goal.After-put g) → (i : ℕ) → c.args.self.now.record.slots ≤ i → IsMember c.put.new.self.drives i → IsMember c.args.self.now.drives i
-beyond g c i le m =
-    let slots : c.advance.new.self.record.slots ≡ c.args.self.now.record.slots = ap (λ (b : BootRecord). b.slots) c.in_ok-advance.ensures.ok in
-    subst (λ (l : List Bool). IsMember l i) c.in_ok-advance.ensures.drives (c.put.ensures.beyond i (omega (arith, le, slots)) m)
-
-pub returns-clause-fewer : goal.returns-clause-fewer
-returns-clause-fewer g c =
-    fewer_all (g.S.Shelf.shelf c.args.shelf.now) (g.S.Shelf.shelf c.put.new.shelf) c.put.ensures.ran.on.continues c.args.self.now c.put.new.self (next_record c.args.self.now.record c.args.self.now.drives c.args.nvrams)
-    c.requires.is_of (lawful g c) refl refl (λ i m. m) (kept g c) (beyond g c) (the_puts g c).fewer
-
-pub returns-clause-dropped : goal.returns-clause-dropped
-returns-clause-dropped g c = (the_puts g c).dropped
+kept g c = c.put.ensures.made.kept ∙ c.in_ok-advance.ensures.ok
 
 pub returns-clause-ran : goal.returns-clause-ran
 returns-clause-ran g c = record { on = runs_more (λ d is. is) (on_slots (drives_of c.args.self.now) (next_slot c.args.self.now.record)) (the_puts g c).runs; rest = c.put.ensures.ran.rest }
-
-pub returns-clause-is_of : goal.returns-clause-is_of
-returns-clause-is_of g c =
-    is_of_next (g.S.Shelf.shelf c.args.shelf.now) (g.S.Shelf.shelf c.put.new.shelf) c.put.ensures.ran.on.continues c.args.self.now c.put.new.self (next_record c.args.self.now.record c.args.self.now.drives c.args.nvrams)
-    c.requires.is_of (lawful g c) refl refl (λ i m. m) (kept g c) (beyond g c) (the_puts g c).fewer
-
-pub returns-clause-logged : goal.returns-clause-logged
-returns-clause-logged g c h = when_ok c.put.result (λ is held logged.
-    logged_next (g.S.Shelf.shelf c.args.shelf.now) (g.S.Shelf.shelf c.put.new.shelf) (g.met.S.Shelf.is_shelf c.args.shelf.now) c.put.ensures.ran.on.continues c.args.self.now c.put.new.self c.args.nvrams
-    c.requires.is_of c.requires.nvrams (lawful g c) (kept g c) (beyond g c) (the_puts g c) h held logged is)
-
-pub returns-in_err-advance-clause-logged_still : goal.returns-in_err-advance-clause-logged_still
-returns-in_err-advance-clause-logged_still g c h =
-    for_err c.from_residual.result (λ e. inl (λ held logged. subst (λ (r : Register). StandsInLog (g.S.Shelf.shelf c.args.shelf.now) r c.args.nvrams held) (sym c.in_err-advance.ensures.err) logged))
-
-pub returns-clause-logged_still : goal.returns-clause-logged_still
-returns-clause-logged_still g c h =
-    let later : c.args.self.now.record.generation < c.put.new.self.record.generation = let e : c.put.new.self.record.generation ≡ c.args.self.now.record.generation + 1 = ap (λ (b : BootRecord). b.generation) (kept g c) in omega (arith, e) in
-    ended_midway _ c.args.self.now c.put.new.self c.put.result later c.put.ensures.too_few c.put.ensures.fault
-
-pub returns-clause-shown : goal.returns-clause-shown
-returns-clause-shown g c h = when_ok c.put.result (λ is.
-    shown_next (g.S.Shelf.shelf c.args.shelf.now) (g.S.Shelf.shelf c.put.new.shelf) (g.met.S.Shelf.is_shelf c.args.shelf.now) c.put.ensures.ran.on.continues c.args.self.now c.put.new.self c.args.nvrams
-    c.requires.is_of c.requires.nvrams (lawful g c) (kept g c) (beyond g c) (the_puts g c) is h)
-
-pub returns-clause-older : goal.returns-clause-older
-returns-clause-older g c h = when_ok c.put.result (λ is held logged.
-    older_next (g.S.Shelf.shelf c.args.shelf.now) (g.S.Shelf.shelf c.put.new.shelf) (g.met.S.Shelf.is_shelf c.args.shelf.now) c.put.ensures.ran.on.continues c.args.self.now c.put.new.self c.args.nvrams
-    c.requires.is_of c.requires.nvrams (lawful g c) (kept g c) (beyond g c) (the_puts g c) h held logged is)
 
 room : (g : given.Over) (c : goal.After-put g) → c.put.new.self.record.generation < 2 ^ 48 - 8 → c.args.self.now.record.generation + 1 < 2 ^ 48 - 8
 room g c low = subst (λ (b : BootRecord). b.generation < 2 ^ 48 - 8) (kept g c) low
@@ -106,25 +65,13 @@ room g c low = subst (λ (b : BootRecord). b.generation < 2 ^ 48 - 8) (kept g c)
 pub returns-clause-moments : goal.returns-clause-moments
 returns-clause-moments g c h low =
     moments_next (g.S.Shelf.shelf c.args.shelf.now) (g.S.Shelf.shelf c.put.new.shelf) (g.met.S.Shelf.is_shelf c.args.shelf.now) c.put.ensures.ran.on.continues c.args.self.now c.put.new.self c.args.nvrams
-    c.requires.is_of c.requires.nvrams (lawful g c) (kept g c) (beyond g c) (the_puts g c) h (room g c low)
-
-pub returns-clause-again : goal.returns-clause-again
-returns-clause-again g c h low = when_ok c.put.result (λ is missing held arrays may.
-    again_next (g.S.Shelf.shelf c.args.shelf.now) (g.S.Shelf.shelf c.put.new.shelf) (g.met.S.Shelf.is_shelf c.args.shelf.now) c.put.ensures.ran.on.continues c.args.self.now c.put.new.self c.args.nvrams
-    c.requires.is_of c.requires.nvrams (lawful g c) (kept g c) (beyond g c) (the_puts g c) h (room g c low) missing held arrays may is)
-
-pub returns-clause-firmly : goal.returns-clause-firmly
-returns-clause-firmly g c h low =
-    let flags : length c.args.self.now.drives ≡ 24 = search rules in
-    when_ok c.put.result (λ is missing held arrays may firm.
-    firmly_next (g.S.Shelf.shelf c.args.shelf.now) (g.S.Shelf.shelf c.put.new.shelf) (g.met.S.Shelf.is_shelf c.args.shelf.now) c.put.ensures.ran.on.continues c.args.self.now c.put.new.self c.args.nvrams
-    c.requires.is_of c.requires.nvrams (lawful g c) (kept g c) (beyond g c) (the_puts g c) h (room g c low) missing held arrays may is flags firm)
+    c.requires.is_of c.requires.nvrams (lawful g c) (kept g c) c.put.ensures.left.is_of (the_puts g c) h (room g c low)
 
 pub returns-clause-outlasts : goal.returns-clause-outlasts
 returns-clause-outlasts g c h low missing held arrays may firm =
     let flags : length c.args.self.now.drives ≡ 24 = search rules in
     outlasts_next (g.S.Shelf.shelf c.args.shelf.now) (g.S.Shelf.shelf c.put.new.shelf) (g.met.S.Shelf.is_shelf c.args.shelf.now) c.put.ensures.ran.on.continues c.args.self.now c.put.new.self c.args.nvrams
-    c.requires.is_of c.requires.nvrams (lawful g c) (kept g c) (beyond g c) (the_puts g c) h (room g c low) missing held arrays may flags firm
+    c.requires.is_of c.requires.nvrams (lawful g c) (kept g c) c.put.ensures.left.is_of (the_puts g c) h (room g c low) missing held arrays may flags firm
 
 pub returns-in_err-advance-clause-outlasts : goal.returns-in_err-advance-clause-outlasts
 returns-in_err-advance-clause-outlasts g c h low missing held arrays may firm =
@@ -132,10 +79,44 @@ returns-in_err-advance-clause-outlasts g c h low missing held arrays may firm =
     started a (StandsAgain a missing arrays) (g.met.S.Shelf.is_shelf c.args.shelf.now)
     (λ stop m. record { later = missing; within = as_it_is missing; logs = λ n. refl; stands = may.stands stop m })
 
-pub returns-clause-flags : goal.returns-clause-flags
-returns-clause-flags g c = c.put.ensures.flags ∙ ap length c.in_ok-advance.ensures.drives
+pub returns-in_err-advance-clause-left : goal.returns-in_err-advance-clause-left
+returns-in_err-advance-clause-left g c = drops_none c.in_err-advance.ensures.err c.requires.is_of
 
-pub returns-clause-kept : goal.returns-clause-kept
-returns-clause-kept g c =
-    let slots : c.put.new.self.record.slots ≡ c.args.self.now.record.slots = ap (λ (b : BootRecord). b.slots) (kept g c) in
-    on_err c.put.result (λ few. inr (kept g c, c.in_ok-advance.ensures.enough, omega (arith, few, slots, c.in_ok-advance.ensures.enough))) c.put.ensures.too_few
+pub returns-clause-left : goal.returns-clause-left
+returns-clause-left g c = drops_from c.args.self.now c.advance.new.self c.put.new.self c.in_ok-advance.ensures.drives (ap (λ (b : BootRecord). b.slots) c.in_ok-advance.ensures.ok) c.put.ensures.left
+
+pub returns-in_err-advance-clause-made : goal.returns-in_err-advance-clause-made
+returns-in_err-advance-clause-made g c =
+    let fails : IsErr c.from_residual.result = search rules in
+    let fault : IfErr c.from_residual.result (λ e. IsFaultOf c.args.self.now e) = search rules in
+    none_made c.from_residual.result c.args.self.now.record c.args.nvrams c.args.self.now c.advance.new.self fails c.in_err-advance.ensures.err fault
+
+pub returns-clause-made : goal.returns-clause-made
+returns-clause-made g c = made_once c.put.result c.args.self.now.record c.args.nvrams c.args.self.now c.advance.new.self c.put.new.self refl c.in_ok-advance.ensures.ok c.in_ok-advance.ensures.enough c.put.ensures.made
+
+pub returns-in_err-advance-clause-logged : goal.returns-in_err-advance-clause-logged
+returns-in_err-advance-clause-logged g c h =
+    stays_logged c.from_residual.result (λ held logged. subst (λ (r : Register). StandsInLog (g.S.Shelf.shelf c.args.shelf.now) r c.args.nvrams held) (sym c.in_err-advance.ensures.err) logged)
+
+pub returns-clause-logged : goal.returns-clause-logged
+returns-clause-logged g c h =
+    let generation : c.put.new.self.record.generation ≡ c.args.self.now.record.generation + 1 = ap (λ (b : BootRecord). b.generation) (kept g c) in
+    record {
+      ok = when_ok c.put.result (λ is held logged.
+          logged_next (g.S.Shelf.shelf c.args.shelf.now) (g.S.Shelf.shelf c.put.new.shelf) (g.met.S.Shelf.is_shelf c.args.shelf.now) c.put.ensures.ran.on.continues c.args.self.now c.put.new.self c.args.nvrams
+          c.requires.is_of c.requires.nvrams (lawful g c) (kept g c) c.put.ensures.left.is_of (the_puts g c) h held logged is);
+      err = ended_midway _ c.args.self.now c.put.new.self c.put.result (omega (arith, generation)) c.put.ensures.made.too_few c.put.ensures.made.fault;
+    }
+
+pub returns-clause-again : goal.returns-clause-again
+returns-clause-again g c h =
+    let flags : length c.args.self.now.drives ≡ 24 = search rules in
+    when_ok c.put.result (λ is. record {
+      shown = shown_put (next_record c.args.self.now.record c.args.self.now.drives c.args.nvrams) (next_other c.args.self.now.record.generation) (kept g c) (the_puts g c) is h;
+      older = λ held logged. older_next (g.S.Shelf.shelf c.args.shelf.now) (g.S.Shelf.shelf c.put.new.shelf) (g.met.S.Shelf.is_shelf c.args.shelf.now) c.put.ensures.ran.on.continues c.args.self.now c.put.new.self c.args.nvrams
+          c.requires.is_of c.requires.nvrams (lawful g c) (kept g c) c.put.ensures.left.is_of (the_puts g c) h held logged is;
+      again = λ low missing held arrays may. again_next (g.S.Shelf.shelf c.args.shelf.now) (g.S.Shelf.shelf c.put.new.shelf) (g.met.S.Shelf.is_shelf c.args.shelf.now) c.put.ensures.ran.on.continues c.args.self.now c.put.new.self c.args.nvrams
+          c.requires.is_of c.requires.nvrams (lawful g c) (kept g c) c.put.ensures.left.is_of (the_puts g c) h (room g c low) missing held arrays may is;
+      firmly = λ low missing held arrays may firm. firmly_next (g.S.Shelf.shelf c.args.shelf.now) (g.S.Shelf.shelf c.put.new.shelf) (g.met.S.Shelf.is_shelf c.args.shelf.now) c.put.ensures.ran.on.continues c.args.self.now c.put.new.self c.args.nvrams
+          c.requires.is_of c.requires.nvrams (lawful g c) (kept g c) c.put.ensures.left.is_of (the_puts g c) h (room g c low) missing held arrays may is flags firm;
+    })

@@ -1,0 +1,217 @@
+-- Which drives a store leaves, and which record it made, round after round.
+use Rattle.std.proofs.Common.{◌≡◌, inl, inr, ℕ, ◌+◌, ◌^◌, ◌<◌, ◌≤◌, List, ◌++◌, Bool, drop, length, take, refl, sym, ◌∙◌, ap, subst, arith, Result, Ok, Err}
+use Rattle.std.specs.Prelude.{IsErr, IfErr}
+use Rattle.std.proofs.lemmas.List.{length-append, length-drop}
+use Rattle.std.proofs.Math.Nat.{ℕ_set}
+use Rattle.boot_codec.specs.declared.limits.TheConstants.{RECORD_BYTES}
+use Rattle.boot_codec.specs.declared.record.BootRecord.{BootRecord}
+use Rattle.boot_codec.specs.Record.{set_count}
+use Rattle.boot_codec.specs.Region.{IsRecordOf}
+use Rattle.pur_base.specs.Devices.{Geometry}
+use Rattle.world.specs.Losing.{geometry_of}
+use Rattle.world.specs.Shelf.{Shelved, Continues}
+use Rattle.boot_region.specs.Members.{IsMember, DroppedFailed}
+use Rattle.boot_region.proofs.Stored.{dropped_then, for_ok}
+use Rattle.register.specs.declared.next.StoreFault.{StoreFault}
+use Rattle.register.specs.declared.state.Register.{Register}
+use Rattle.register.specs.Faults.{IsFaultOf}
+use Rattle.register.specs.Registers.{IsLaterRecord, IsRegisterOf, drives_of, next_record}
+use Rattle.register.specs.Standing.{StaysLogged}
+use Rattle.register.specs.Storing.{DropsOnlyFailed, HasPut, HasStored, HasStoredOnce, LeavesLogged}
+use Rattle.register.proofs.FlagLemmas.{in_cut, put_back}
+use Rattle.register.proofs.Rounds.{cut_left, same_shelf}
+use Rattle.register.proofs.Stores.{at_most_slots, fewer_left, for_err, if_err, midway_then, on_err, on_ok}
+
+-- what is known of the room of its body is the same in each register
+pub same_but_room : (r : Register) (room : length r.body.items ≡ RECORD_BYTES) → r ≡ record r { room = room }
+same_but_room r room = λ k. record r { room = ℕ_set (length r.body.items) RECORD_BYTES r.room room k }
+
+-- ---- the drives that are left
+
+-- where no record was made
+pub drops_none : {shelf : Shelved} {was now : Register} → now ≡ was → IsRegisterOf (geometry_of shelf) was → DropsOnlyFailed shelf shelf was now
+drops_none {shelf} {was} {now} same is_of =
+    subst (λ (r : Register). DropsOnlyFailed shelf shelf was r) (sym same) (record { fewer = λ i m. m; dropped = λ i m. inl m; flags = refl; is_of = is_of })
+
+-- of those of the shelf these are left, and all other flags are as they were
+pub drops_put : {old new : Shelved} {was now : Register} (members : List Bool) → Continues old new → IsRegisterOf (geometry_of old) was → now.record ≡ was.record → now.drives ≡ members ++ drop was.record.slots was.drives
+    → length members ≡ was.record.slots → length was.drives ≡ 24 → ((i : ℕ) → IsMember members i → IsMember (drives_of was) i) → DroppedFailed old new (drives_of was) members → DropsOnlyFailed old new was now
+drops_put {old} {new} {was} {now} members on is_of kept drives all flags among dropped =
+    let few = is_of.lawful.lawful.slots.1 in
+    let rest = length-drop was.record.slots was.drives in
+    let both = length-append members (drop was.record.slots was.drives) in
+    let cut : drives_of now ≡ members = ap (λ (b : BootRecord). take b.slots now.drives) kept ∙ ap (take was.record.slots) drives ∙ put_back was.record.slots members (drop was.record.slots was.drives) all in
+    let fewer : (i : ℕ) → IsMember now.drives i → IsMember was.drives i =
+    λ i m. in_cut was.drives was.record.slots i (among i (cut_left is_of members i all (subst (λ (l : List Bool). IsMember l i) drives m))) in
+    record {
+      fewer = fewer;
+      dropped = subst (λ (l : List Bool). DroppedFailed old new (drives_of was) l) (sym cut) dropped;
+      flags = ap length drives ∙ omega (arith, few, rest, both, all, flags);
+      is_of = record {
+        lawful = subst (λ (b : BootRecord). IsRecordOf (geometry_of new) b) (sym kept) (subst (λ (k : Geometry). IsRecordOf k was.record) (same_shelf on) is_of.lawful);
+        named = λ i m. subst (λ (b : BootRecord). IsMember b.members.drives i) (sym kept) (is_of.named i (fewer i m));
+      };
+    }
+
+-- by the register before, that had the same drives
+pub drops_from : {old new : Shelved} (was mid now : Register) → mid.drives ≡ was.drives → mid.record.slots ≡ was.record.slots → DropsOnlyFailed old new mid now → DropsOnlyFailed old new was now
+drops_from {old} {new} was mid now drives slots left =
+    let cut : drives_of mid ≡ drives_of was = ap (λ (n : ℕ). take n mid.drives) slots ∙ ap (take was.record.slots) drives in
+    record {
+      fewer = λ i m. subst (λ (l : List Bool). IsMember l i) drives (left.fewer i m);
+      dropped = subst (λ (l : List Bool). DroppedFailed old new l (drives_of now)) cut left.dropped;
+      flags = left.flags ∙ ap length drives;
+      is_of = left.is_of;
+    }
+
+-- one after another
+pub drops_then : {a b c : Shelved} (r0 r1 r2 : Register) → Continues a b → Continues b c → DropsOnlyFailed a b r0 r1 → DropsOnlyFailed b c r1 r2 → DropsOnlyFailed a c r0 r2
+drops_then {a} {b} {c} r0 r1 r2 ab bc first next = record {
+  fewer = λ i m. first.fewer i (next.fewer i m);
+  dropped = dropped_then a b c (drives_of r0) (drives_of r1) (drives_of r2) ab bc first.dropped next.dropped;
+  flags = next.flags ∙ first.flags;
+  is_of = next.is_of;
+}
+
+-- ---- the record of one round
+
+-- none could be made
+pub none_made : (r : Result (Unit {0}) StoreFault) (base : BootRecord) (nvrams : List Bool) (was now : Register) → IsErr r → now ≡ was → IfErr r (λ e. IsFaultOf was e) → HasStoredOnce r base nvrams was now
+none_made (Ok x) base nvrams was now is same fault = absurd (cc is)
+none_made (Err e) base nvrams was now is same fault =
+    subst (λ (n : Register). HasStoredOnce (Err e) base nvrams was n) (sym same) (record { next = tt; enough = tt; left = tt; kept = inl (refl, refl); fault = fault })
+
+-- it was put on the drives
+pub made_once : (r : Result (Unit {0}) StoreFault) (base : BootRecord) (nvrams : List Bool) (was mid now : Register) → base.slots ≡ was.record.slots → mid.record ≡ next_record base was.drives nvrams
+    → was.record.slots ≤ set_count was.drives + 2 → HasPut r mid now → HasStoredOnce r base nvrams was now
+made_once r base nvrams was mid now slots is enough put =
+    let kept : now.record ≡ next_record base was.drives nvrams = put.kept ∙ is in
+    let size : now.record.slots ≡ was.record.slots = ap (λ (b : BootRecord). b.slots) kept ∙ slots in
+    record {
+      next = for_ok r kept;
+      enough = for_ok r enough;
+      left = put.enough;
+      kept = on_err r (λ few. inr (kept, enough, omega (arith, few, size, enough))) put.too_few;
+      fault = put.fault;
+    }
+
+-- ---- the record of a store
+
+later_by : (r : Result (Unit {0}) StoreFault) (nvrams : List Bool) (was now : Register) → HasStored r was.record nvrams was now → IsLaterRecord was.record now.record
+later_by (Ok x) nvrams was now made = made.stored
+later_by (Err e) nvrams was now made = elim made.kept [
+  | inl same ↦ subst (λ (b : BootRecord). IsLaterRecord was.record b) (sym same.0) (record { generation = omega arith; rest = refl })
+  | inr later ↦ later
+]
+
+-- with no other tables it is a later one, whatever is answered
+pub store_later : {r : Result (Unit {0}) StoreFault} {nvrams : List Bool} {was now : Register} → HasStored r was.record nvrams was now → IsLaterRecord was.record now.record
+store_later {r} {nvrams} {was} {now} made = later_by r nvrams was now made
+
+module _ (base : BootRecord) (nvrams : List Bool) (was : Register) (numbered : base.generation ≡ was.record.generation) (slots : base.slots ≡ was.record.slots) where
+  module _ (mid : Register) (is : mid.record ≡ next_record base was.drives nvrams) where
+    generation : mid.record.generation ≡ was.record.generation + 1
+    generation = let e : mid.record.generation ≡ base.generation + 1 = ap (λ (b : BootRecord). b.generation) is in omega (arith, e, numbered)
+
+    size : mid.record.slots ≡ was.record.slots
+    size = ap (λ (b : BootRecord). b.slots) is ∙ slots
+
+    later_base : IsLaterRecord base mid.record
+    later_base = subst (λ (b : BootRecord). IsLaterRecord base b) (sym is) (record { generation = omega arith; rest = refl })
+
+  -- the first round failed
+  pub first_failed : (e : StoreFault) (now : Register) → HasStoredOnce (Err e) base nvrams was now → HasStored (Err e) base nvrams was now
+  first_failed e now once = record {
+    stored = tt;
+    kept = elim once.kept [ inl same ↦ inl same | inr made ↦ inr (later_base now made.0) ];
+    generation = tt;
+    few = elim once.kept [
+      | inl same ↦ let g : now.record.generation ≡ was.record.generation = ap (λ (b : BootRecord). b.generation) same.0 in omega (arith, g)
+      | inr made ↦ let g = generation now made.0 in omega (arith, g)
+    ];
+    rounds = elim once.kept [
+      | inl same ↦ inl (ap (λ (b : BootRecord). b.generation) same.0)
+      | inr made ↦ let g = generation now made.0 in inr (omega (arith, g, made.1))
+    ];
+    members = tt;
+    enough = tt;
+    stores = tt;
+    lost = elim once.kept [
+      | inl same ↦
+          let g : now.record.generation ≡ was.record.generation = ap (λ (b : BootRecord). b.generation) same.0 in
+          let n : set_count now.drives ≡ set_count was.drives = ap set_count same.1 in
+          omega (arith, g, n)
+      | inr made ↦ let g = generation now made.0 in omega (arith, g, made.2)
+    ];
+    fault = once.fault;
+  }
+
+  -- after the first round it is on all drives that it names
+  pub first_is_on_all : (u v : Unit {0}) (now : Register) → HasStoredOnce (Ok u) base nvrams was now → now.drives ≡ now.record.members.drives → now.record.generation < 2 ^ 48 → HasStored (Ok v) base nvrams was now
+  first_is_on_all u v now once same low =
+      let g = generation now once.next in
+      let s = size now once.next in
+      let n : set_count now.drives ≡ set_count was.drives = ap set_count (same ∙ ap (λ (b : BootRecord). b.members.drives) once.next) in
+      record {
+        stored = later_base now once.next;
+        kept = tt;
+        generation = (omega (arith, g), low);
+        few = omega (arith, g);
+        rounds = inr (omega (arith, g, once.enough));
+        members = (sym same, ap (λ (b : BootRecord). b.members.nvrams) once.next);
+        enough = omega (arith, s, n, once.enough);
+        stores = omega (arith, g, n);
+        lost = tt;
+        fault = tt;
+      }
+
+  module _ {a b : Shelved} (mid : Register) (u : Unit {0}) (once : HasStoredOnce (Ok u) base nvrams was mid) (left : DropsOnlyFailed a b was mid)
+      (differs : mid.drives ≡ mid.record.members.drives → ⊥) where
+    -- a drive was lost
+    pub smaller : set_count mid.drives < set_count was.drives
+    smaller = fewer_left was.drives mid.drives mid.record.members.drives left.flags left.fewer (ap (λ (b : BootRecord). b.members.drives) once.next) differs
+
+    -- and the next ones went on from it
+    pub then_stored : {shelf : Geometry} → IsRegisterOf shelf was → (r : Result (Unit {0}) StoreFault) (now : Register) → HasStored r mid.record nvrams mid now → HasStored r base nvrams was now
+    then_stored {shelf} is_of r now made =
+        let g = generation mid once.next in
+        let s = size mid once.next in
+        let less = smaller in
+        let most = at_most_slots was is_of in
+        let next : IsLaterRecord (next_record base was.drives nvrams) now.record = subst (λ (x : BootRecord). IsLaterRecord x now.record) once.next (store_later made) in
+        let later : IsLaterRecord base now.record = record { generation = let le = next.generation in omega (arith, le); rest = next.rest } in
+        record {
+          stored = for_ok r later;
+          kept = on_err r (λ _. inr later) made.kept;
+          generation = on_ok r (λ both. (omega (arith, g, both.0), both.1)) made.generation;
+          few = elim made.rounds [
+            | inl same ↦ omega (arith, g, same)
+            | inr le ↦ omega (arith, g, le, s, less, most)
+          ];
+          rounds = elim made.rounds [
+            | inl same ↦ inr (omega (arith, g, same, once.enough))
+            | inr le ↦ inr (omega (arith, g, le, s, less))
+          ];
+          members = made.members;
+          enough = made.enough;
+          stores = on_ok r (λ le. omega (arith, le, less, g)) made.stores;
+          lost = on_err r (λ le. omega (arith, le, less, g)) made.lost;
+          fault = made.fault;
+        }
+
+-- ---- the log
+
+-- where its bytes stand in any case
+pub stays_logged : (r : Result (Unit {0}) StoreFault) {old new : Shelved} {was now : Register} {nvrams : List Bool} → StaysLogged old new was now nvrams → LeavesLogged r old new was now nvrams
+stays_logged r {old} {new} {was} {now} {nvrams} stays = record { ok = for_ok r stays; err = for_err r (λ e. inl stays) }
+
+-- and where the next rounds go on from there
+pub then_logged : (r : Result (Unit {0}) StoreFault) {a b c : Shelved} {nvrams : List Bool} (was mid now : Register) → was.record.generation ≤ mid.record.generation → StaysLogged a b was mid nvrams
+    → LeavesLogged r b c mid now nvrams → LeavesLogged r a c was now nvrams
+then_logged r {a} {b} {c} {nvrams} was mid now le first next = record {
+  ok = on_ok r (λ stays held logged. stays held (first held logged)) next.ok;
+  err = if_err r (λ e x. elim x [
+    | inl stays ↦ inl (λ held logged. stays held (first held logged))
+    | inr midway ↦ inr (midway_then was mid now e le midway)
+  ]) next.err;
+}
