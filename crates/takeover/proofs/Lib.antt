@@ -30,6 +30,7 @@ mod Twice
 mod Enough
 mod Majority
 mod FirmlyFound
+mod Settled
 mod FirmlyRead
 mod Outlasted
 mod ArrayOf

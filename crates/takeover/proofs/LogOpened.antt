@@ -1,5 +1,5 @@
 -- The log is read, applied and settled: what a stop leaves at each moment, and what is known in the end.
-use Rattle.std.proofs.Common.{◌≡◌, ◌⊎◌, inl, inr, ℕ, zero, suc, ◌+◌, ◌<◌, ◌≤◌, cond, List, [], length, take, refl, sym, ◌∙◌, ap, subst, arith, Bool, true, false, Err}
+use Rattle.std.proofs.Common.{◌≡◌, ◌⊎◌, inl, inr, ℕ, zero, suc, ◌+◌, ◌<◌, ◌≤◌, cond, List, [], length, take, refl, sym, ◌∙◌, ap, subst, arith, Bool, true, false, Ok, Err}
 use Rattle.std.specs.Prelude.{Option, Some, None, Contains, slice_get, slice_index_or, if◌then◌else◌}
 use Rattle.std.proofs.lemmas.Bool.{cases_lt, cases_Bool}
 use Rattle.std.proofs.lemmas.List.{get_or_past}
@@ -52,6 +52,7 @@ use Rattle.takeover.specs.LogOpen.{AreLeft, IsLogOpen, IsLogOpenBy, IsLogFault, 
 use Rattle.array_core.specs.Performing.{StandsOnceBack}
 use Rattle.takeover.specs.Outlasting.{AreSoundLogs}
 use Rattle.takeover.specs.Replay.{HasUnserved, IsReplayed, IsReplayFault, IsRun, log_fault_of}
+use Rattle.takeover.specs.Steps.{OpensLog}
 use Rattle.takeover.specs.Tables.{HasTables, HoldTables}
 use Rattle.takeover.proofs.Failing.{by_stop, since_later}
 use Rattle.takeover.proofs.LogSettling.{not_risen, stays, given_moves, answers, is_one, agree_here, standing_settling}
@@ -212,6 +213,16 @@ pub not_replayed : (new : Shelved) (x : Loaded) (missing : Conditions) (arrays :
 not_replayed new x missing arrays ps base log (log_fault.Memory m) is = tt
 not_replayed new x missing arrays ps base log log_fault.BothLost is = is
 not_replayed new x missing arrays ps base log log_fault.Unserved is = tt
+
+-- what is known where it was only read
+pub not_opened : (old mid : Shelved) (x : Loaded) (missing : Conditions) (arrays : List Array) (ps : List (List AnyFact)) (base : Array) (fault : LogFault) → WritesOnly OnNothing old mid → IsFoundOn old x missing arrays
+    → (IsBearable (geometry_of old) (failed_since old mid missing) → IsLogOpenBy mid x (failed_since old mid missing) arrays ps base (Err fault)) → OpensLog old mid x missing arrays ps base (Err fault)
+not_opened old mid x missing arrays ps base fault wrote found why = record {
+  any_moment = while_read old mid x missing arrays wrote found;
+  once_back = λ logs. back_while_read old mid x missing arrays wrote found;
+  opened = λ counted borne. why borne;
+  opened_on = tt;
+}
 
 -- the log was read from the devices, and its first commands were done in memory that reads as the base of the tables
 pub record WasRead (old mid : Shelved) (x : Loaded) (missing : Conditions) (arrays : List Array) (ps : List (List AnyFact)) (base : Array) (log : NvLog) (count : ℕ) : Type 0 where
@@ -449,6 +460,30 @@ module _ (old mid new : Shelved) (x : Loaded) (missing : Conditions) (arrays : L
       pub opened : AreCounted old missing → (o : OpenedLog) → o.log.members ≡ now_members → IsSome o.log.members → o.log.flushed ≡ log.flushed → Keeps o.log front
           → HoldsOn new o.log.members o.log.flushed front → IsLogOpen new x (failed_since old new missing) arrays ps base o
       opened counted = opened_on is_new drives now_members now_fewer (failed_since old new missing) (failed_new counted) borne
+
+    -- what is known once it was settled, or could not be
+    module _ (some : IsSome log.members) (is_new : IsShelf new) (drives : (i : ℕ) → new.disk (drive i) ≡ mid.disk (drive i)) (now_members : List Bool) (now_fewer : IsFewer log.members now_members)
+        (now_dropped : DroppedCounted mid new log.members now_members) where
+      pub not_settled : (IsSome now_members → ⊥) → (fault : LogFault) → OpensLog old new x missing arrays ps base (Err fault)
+      not_settled lost fault = record {
+        any_moment = while_opening;
+        once_back = λ logs. back_while_opening logs some;
+        opened = λ counted borne. absurd (not_lost is_new drives now_members now_fewer now_dropped borne lost);
+        opened_on = tt;
+      }
+
+      pub settled : (o : OpenedLog) → o.log.members ≡ now_members → IsSome o.log.members → o.log.flushed ≡ log.flushed → Keeps o.log front
+          → (Agree mid log.members log.flushed front → HoldsOn new o.log.members o.log.flushed front) → OpensLog old new x missing arrays ps base (Ok o)
+      settled o same some_left flushed keeps holds = record {
+        any_moment = while_opening;
+        once_back = λ logs. back_while_opening logs some;
+        opened = λ counted borne.
+            opened is_new drives now_members now_fewer now_dropped borne counted o same some_left flushed keeps (holds (agree (bears_mid is_new drives now_members now_fewer now_dropped borne)));
+        opened_on = λ later left borne.
+            let are_left = subst (λ (l : List Bool). AreLeft x missing l later) same left in
+            let borne_old = subst (λ (g : Geometry). IsBearable g later) (sym (shelf_stays (continues_trans r.on next))) borne in
+            opened_on is_new drives now_members now_fewer later are_left borne_old o same some_left flushed keeps (holds (agree_later is_new drives now_members now_fewer later are_left borne_old));
+      }
 
 -- what the calls say of a log that was read
 pub was_read : (old mid : Shelved) (x : Loaded) (missing : Conditions) (arrays : List Array) (ps : List (List AnyFact)) (base : Array) (nvrams : List Bool) (flushed : ℕ) (log : NvLog) (count : ℕ) (was now : Kept)

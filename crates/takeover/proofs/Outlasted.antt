@@ -1,5 +1,5 @@
 -- An opening in which more fails than is borne, one call after another: at every moment the devices stand for the arrays once they answer again.
-use Rattle.std.proofs.Common.{◌≡◌, ℕ, ◌+◌, ◌<◌, ◌≤◌, ◌-◌, ◌^◌, List, sym, ◌∙◌, ap, subst, arith, Bool, length}
+use Rattle.std.proofs.Common.{◌≡◌, ℕ, ◌+◌, ◌<◌, ◌≤◌, ◌-◌, ◌^◌, List, sym, ◌∙◌, ap, subst, arith, Bool, length, Result}
 use Rattle.std.specs.Prelude.{if◌then◌else◌}
 use Rattle.pur_base.specs.Plain.{Array}
 use Rattle.pur_base.specs.Devices.{Geometry, Conditions, Sound, LeftOut, IsBearable, IsWithin, drive}
@@ -12,7 +12,8 @@ use Rattle.array_spec.specs.Standing.{Stands}
 use Rattle.array_spec.proofs.Standings.{within_twice}
 use Rattle.world.specs.Losing.{geometry_of}
 use Rattle.world.specs.Shelf.{Shelved, Disk, Stop, IsShelf, Continues, LeavesOnly}
-use Rattle.world.proofs.Moments.{weaker}
+use Rattle.memory_spec.specs.Tables.{patches}
+use Rattle.world.proofs.Moments.{then_run, weaker}
 use Rattle.boot_region.specs.declared.loading.Loaded.{Loaded}
 use Rattle.boot_region.specs.Members.{IsMember}
 use Rattle.boot_region.specs.Slots.{slot_in}
@@ -29,8 +30,12 @@ use Rattle.session_spec.specs.Entering.{read_now}
 use Rattle.takeover.specs.Found.{IsFoundOn}
 use Rattle.takeover.specs.LogOpen.{AreLeft, IsLogOpen, IsLogOpenOn}
 use Rattle.array_core.specs.Performing.{StandsOnceBack}
-use Rattle.takeover.specs.Outlasting.{AreSoundLogs, EntersFirmly, IsFoundFirmly}
+use Rattle.takeover.specs.Outlasting.{AreSoundLogs, EntersFirmly, IsFoundFirmly, OutlastsFailures}
+use Rattle.takeover.specs.Steps.{AreTablesFound, IsRecordFound, OpensLog, StandsWhileFinding}
+use Rattle.takeover.specs.Tables.{HasTables}
+use Rattle.takeover.specs.declared.log.LogFault.{LogFault}
 use Rattle.takeover.specs.declared.log.OpenedLog.{OpenedLog}
+use Rattle.takeover.specs.declared.tables.FoundArray.{FoundArray}
 use Rattle.takeover.proofs.FirmlyFound.{others_borne}
 use Rattle.takeover.proofs.Loading.{may_read}
 use Rattle.takeover.proofs.LogOpened.{logs_borne, logs_left, logs_lost}
@@ -106,6 +111,16 @@ module _ (a b : Shelved) (missing : Conditions) (arrays : List Array) (x : Loade
       within = within_twice missing last again.later within_last again.within;
       stands = subst (λ (g : Geometry). Stands g stop.image again.later arrays) (sym (same_shelf on ∙ same_shelf after)) again.stands;
     }) stored
+
+-- what finding the array and opening its log say
+pub opening_outlasts : (a b n : Shelved) → Continues a b → IsShelf b → b.honest → a.honest → (f : FoundArray) → StandsWhileFinding a b → IsRecordFound a b f.loaded → AreTablesFound a b f
+    → (result : Result OpenedLog LogFault)
+    → ((missing : Conditions) (arrays : List Array) (ps : List (List AnyFact)) (base : Array) → IsFoundOn b f.loaded missing arrays → HasTables b f.loaded f.memory ps base → OpensLog b n f.loaded missing arrays ps base result)
+    → OutlastsFailures a n
+opening_outlasts a b n on is_b h_b h f stands found there result opens missing next boot arrays enters entry =
+    then_run on (weaker (λ stop again. back_again a missing arrays stop again) (stands.again missing next boot arrays enters entry))
+    (while_opening a b missing arrays f.loaded on is_b h_b enters.bearable found.enough (found.firmly h missing next boot arrays enters entry) n
+    (λ during is logs. let has = there.tables during arrays is in (opens during arrays (patches f.memory.memory.tables) has.0 is has.1).once_back logs))
 
 -- ---- afterwards
 

@@ -6,7 +6,6 @@ use Rattle.pur_base.specs.declared.limits.TheConstants.{BOOT_UNITS, SECTOR_BYTES
 use Rattle.pur_base.specs.declared.device.Device.{Device}
 use Rattle.pur_base.specs.Gates.{is_open}
 use Rattle.pur_base.specs.Devices.{Conditions, drive, nvram}
-use Rattle.pur_base.specs.Plain.{Array}
 use Rattle.boot_codec.specs.declared.record.BootRecord.{BootRecord}
 use Rattle.boot_codec.specs.Record.{set_count}
 use Rattle.boot_codec.specs.Region.{BootSlot, gate_place, body_in, shown_by}
@@ -25,7 +24,7 @@ use Rattle.boot_region.specs.Members.{IsMember, OnClosed}
 use Rattle.boot_region.specs.Slots.{slot_in}
 use Rattle.boot_region.proofs.Phases.{risen_on_way}
 use Rattle.boot_region.proofs.ShownLemmas.{bodies_same, gate_low, open_shows}
-use Rattle.session_spec.specs.Entering.{Enters, failed_since, read_now}
+use Rattle.session_spec.specs.Entering.{failed_since, read_now}
 use Rattle.session_spec.specs.Headline.{HasTooFew}
 use Rattle.takeover.specs.Faults.{fault_of}
 use Rattle.takeover.specs.Opened.{AreClean}
@@ -43,19 +42,15 @@ seen_not_loaded old mid on (faults.BadRecord b) by = seen_fault old mid by.bytes
 seen_not_loaded old mid on faults.Spent by = seen_fault old mid by.bytes by.answered by.all by.read on faults.Spent by.answer
 seen_not_loaded old mid on (faults.TooFew drives) by = seen_fault old mid by.bytes by.answered by.all by.read on (faults.TooFew drives) by.answer
 
-module _ (old mid : Shelved) (missing : Conditions) (arrays : List Array) (enters : Enters old missing arrays) (same : (d : Device) → IsSame (old.disk d) (mid.disk d)) where
-  -- what was only read is clean still
-  pub clean_read : AreClean mid (failed_since old mid missing)
-  clean_read d sound = (same d).dirty ∙ enters.clean d (sound_since (has_risen (old.disk d).faults (mid.disk d).faults) (missing d) sound).0
-
-  -- and so after the settling
-  pub clean_settled : (new : Shelved) → Continues old mid → ((d : Device) → (mid.disk d).dirty ≡ [] → ((new.disk d).dirty ≡ []) ⊎ Rises (mid.disk d).faults (new.disk d).faults) → AreClean new (failed_since old new missing)
-  clean_settled new on stays d sound =
-      let both = sound_since (has_risen (old.disk d).faults (new.disk d).faults) (missing d) sound in
-      elim (stays d ((same d).dirty ∙ enters.clean d both.0)) [
-        | inl is ↦ is
-        | inr rose ↦ absurd (risen_on_way (old.disk d).faults (mid.disk d).faults (new.disk d).faults (new.disk d).faults (on.faults d) rose (omega arith) both.1)
-      ]
+-- what was clean when it was read is clean still after the settling
+pub clean_settled : (old mid new : Shelved) (missing : Conditions) → AreClean old missing → ((d : Device) → IsSame (old.disk d) (mid.disk d)) → Continues old mid
+    → ((d : Device) → (mid.disk d).dirty ≡ [] → ((new.disk d).dirty ≡ []) ⊎ Rises (mid.disk d).faults (new.disk d).faults) → AreClean new (failed_since old new missing)
+clean_settled old mid new missing clean same on stays d sound =
+    let both = sound_since (has_risen (old.disk d).faults (new.disk d).faults) (missing d) sound in
+    elim (stays d ((same d).dirty ∙ clean d both.0)) [
+      | inl is ↦ is
+      | inr rose ↦ absurd (risen_on_way (old.disk d).faults (mid.disk d).faults (new.disk d).faults (new.disk d).faults (on.faults d) rose (omega arith) both.1)
+    ]
 
 module _ (old mid new : Shelved) (x : Loaded) (on : Continues old mid) (after : Continues mid new) (same : (d : Device) → IsSame (old.disk d) (mid.disk d)) (by : IsLoadBy old mid (Ok x))
     (reading : WritesOnly (λ d i. ⊥) old mid) (writes : WritesOnly (OnClosed x.drives mid (gate_place (slot_in x.slot))) mid new)

@@ -7,3 +7,4 @@ pub mod Seen
 pub mod Outlasting
 pub mod Replayed
 pub mod Opened
+pub mod Steps

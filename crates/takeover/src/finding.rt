@@ -1,27 +1,23 @@
 // The boot record is found and settled.
-ghost use Rattle.std.specs.Prelude.{◌≡◌, ◌⊎◌, ◌<◌, ◌≤◌, ◌+◌, ℕ, List, [], IfOk, Some, None, true};
+ghost use Rattle.std.specs.Prelude.{◌≡◌, ◌⊎◌, ◌<◌, ◌≤◌, ℕ, List, [], IfOk, true};
 ghost use Rattle.pur_base.specs.declared.device.Device.{Device};
 ghost use Rattle.pur_base.specs.Devices.{Conditions, IsBearable, IsWithin, drive};
 ghost use Rattle.pur_base.specs.Gates.{is_open};
 ghost use Rattle.pur_base.specs.Plain.{Array};
 ghost use Rattle.boot_codec.specs.Record.{set_count};
-ghost use Rattle.boot_codec.specs.declared.record.BootRecord.{BootRecord};
-ghost use Rattle.boot_codec.specs.Region.{BootSlot, gate_place, other_slot, shown_by};
-ghost use Rattle.boot_codec.specs.Spelling.{spelling};
+ghost use Rattle.boot_codec.specs.Region.{gate_place, other_slot};
 ghost use Rattle.array_spec.specs.Standing.{Stands};
 ghost use Rattle.world.specs.Counts.{Rises};
 ghost use Rattle.world.specs.Losing.{geometry_of};
 ghost use Rattle.world.specs.Shelf.{LeavesOnly};
 ghost use Rattle.world.specs.Ran.{Ran};
-ghost use Rattle.boot_region.specs.Loading.{IsLawfulLoad};
 ghost use Rattle.boot_region.specs.Members.{IsDrive, IsMember, IsOneOf, OnClosed};
 ghost use Rattle.boot_region.specs.Slots.{slot_in};
-ghost use Rattle.boot_region.specs.Storing.{IsFound, IsInForceOn, IsLoaded, StandsAgain, TellsFailed};
-ghost use Rattle.session_spec.specs.Entering.{Enters, StandsStill, failed_since};
+ghost use Rattle.boot_region.specs.Storing.{IsFound, IsInForceOn, IsLoaded, TellsFailed};
+ghost use Rattle.session_spec.specs.Entering.{Enters, failed_since};
 ghost use Rattle.takeover.specs.Found.{IsFoundBy, OnGates};
-ghost use Rattle.takeover.specs.Opened.{AreClean};
-ghost use Rattle.takeover.specs.Outlasting.{EntersFirmly, IsFoundFirmly};
 ghost use Rattle.takeover.specs.Seen.{IsSeenBy};
+ghost use Rattle.takeover.specs.Steps.{IsRecordFound, StandsWhileFinding};
 
 use crate::OpenFault;
 use boot_codec::DRIVE_FLAGS;
@@ -76,28 +72,15 @@ fn settle_loaded<S: Shelf>(shelf: &mut S, loaded: &mut Loaded)
 /// Finds the record in force and settles it: it is in force then on the drives that are left, one by one.
 pub fn find_record<S: Shelf>(alloc: Global, shelf: &mut S) -> Result<Loaded, OpenFault>
     ensures ran { Ran S.shelf S.shelf_rest IsDrive OnGates shelf.old shelf.new }
-    ensures lawful { IfOk result (IsLawfulLoad (geometry_of (S.shelf shelf.new))) }
-    // The drives that are left show the record, whatever is missing, and at most two of the shelf's aren't among them.
-    ensures shown { (S.shelf shelf.old).honest → IfOk result (λ x. (i : ℕ) → IsMember x.drives i → shown_by (slot_in x.slot) ((S.shelf shelf.new).disk (drive i)).bytes ≡ Some (spelling x.record)) }
-    ensures enough { IfOk result (λ x. (S.shelf shelf.new).drives ≤ set_count x.drives + 2) }
+    ensures loaded { IfOk result (IsRecordFound (S.shelf shelf.old) (S.shelf shelf.new)) }
     // What the drives showed gives the record, or why there is none.
     ensures seen { (S.shelf shelf.old).honest → IsSeenBy (S.shelf shelf.old) (S.shelf shelf.new) result }
-    // At every moment the devices stand for the arrays for which they stood, and nothing was stored.
-    ensures any_moment { (S.shelf shelf.old).honest → (missing : Conditions) (arrays : List Array) → Enters (S.shelf shelf.old) missing arrays
-        → LeavesOnly (S.shelf shelf.old) (S.shelf shelf.new) (StandsStill (S.shelf shelf.old) None missing arrays) }
-    // At its end nothing is dirty on devices that aren't missing.
-    ensures clean { (S.shelf shelf.old).honest → (missing : Conditions) (arrays : List Array) → Enters (S.shelf shelf.old) missing arrays
-        → AreClean (S.shelf shelf.new) (failed_since (S.shelf shelf.old) (S.shelf shelf.new) missing) }
+    // At every moment the devices stand for the arrays for which they stood.
+    ensures stands { (S.shelf shelf.old).honest → StandsWhileFinding (S.shelf shelf.old) (S.shelf shelf.new) }
     // Where no more is missing than is borne it is found, also where more has gone missing since.
     ensures found { (S.shelf shelf.old).honest → (missing : Conditions) (arrays : List Array) → Enters (S.shelf shelf.old) missing arrays
         → (later : Conditions) → IsWithin (failed_since (S.shelf shelf.old) (S.shelf shelf.new) missing) later → IsBearable (geometry_of (S.shelf shelf.old)) later
         → IsFoundBy (S.shelf shelf.new) later arrays result }
-    // Whatever fails, where no store was unfinished at the entry: at every moment the devices stand for the arrays once they answer again with what
-    // they hold, and the record was found on drives that were sound.
-    ensures again { (S.shelf shelf.old).honest → (missing : Conditions) (next : BootSlot) (boot : BootRecord) (arrays : List Array) → Enters (S.shelf shelf.old) missing arrays
-        → EntersFirmly (S.shelf shelf.old) missing next boot → LeavesOnly (S.shelf shelf.old) (S.shelf shelf.new) (StandsAgain (S.shelf shelf.old) missing arrays) }
-    ensures firmly { (S.shelf shelf.old).honest → IfOk result (λ x. (missing : Conditions) (next : BootSlot) (boot : BootRecord) (arrays : List Array) → Enters (S.shelf shelf.old) missing arrays
-        → EntersFirmly (S.shelf shelf.old) missing next boot → IsFoundFirmly (S.shelf shelf.new) x missing arrays) }
 {
     let mut loaded = load(alloc, shelf)?;
     settle_loaded(shelf, &mut loaded);

@@ -1,13 +1,11 @@
 // The log is opened.
-ghost use Rattle.std.specs.Prelude.{◌≡◌, ℕ, ◌<◌, ◌≤◌, List, [], None, length, IfOk, IfErr};
+ghost use Rattle.std.specs.Prelude.{◌≡◌, ℕ, ◌<◌, ◌≤◌, List, [], length, IfOk, IfErr};
 ghost use Rattle.pur_base.specs.Commands.{Command};
 ghost use Rattle.pur_base.specs.declared.device.Device.{Device};
-ghost use Rattle.pur_base.specs.Devices.{Conditions, IsBearable, nvram};
+ghost use Rattle.pur_base.specs.Devices.{Conditions, nvram};
 ghost use Rattle.pur_base.specs.Plain.{Array};
 ghost use Rattle.pur_base.specs.declared.facts.AnyFact.{AnyFact};
 ghost use Rattle.pur_base.specs.declared.limits.TheConstants.{REQUEST_SECTORS};
-ghost use Rattle.world.specs.Losing.{geometry_of};
-ghost use Rattle.world.specs.Shelf.{LeavesOnly};
 ghost use Rattle.world.specs.Ran.{Ran};
 ghost use Rattle.checkpoint_spec.specs.Whole.{AreLayered};
 ghost use Rattle.boot_region.specs.declared.loading.Loaded.{Loaded};
@@ -15,14 +13,11 @@ ghost use Rattle.nvram_log.specs.Held.{Keeps, shown_by};
 ghost use Rattle.nvram_log.specs.Members.{IsFewer, IsMember, IsNvram, IsSome, OnMembers};
 ghost use Rattle.nvram_log.specs.Read.{AllFailed, DroppedCounted, IsReadFrom, OnNothing};
 ghost use Rattle.nvram_log.specs.Settling.{AreAsSeen};
-ghost use Rattle.session_spec.specs.Entering.{StandsStill, failed_since};
-ghost use Rattle.takeover.specs.Found.{AreCounted, IsFoundOn};
-ghost use Rattle.takeover.specs.LogOpen.{IsLogFault, IsLogOpenBy, IsLogOpenOn};
-ghost use Rattle.takeover.specs.Opened.{AreClean};
-ghost use Rattle.array_core.specs.Performing.{StandsOnceBack};
-ghost use Rattle.takeover.specs.Outlasting.{AreSoundLogs};
+ghost use Rattle.takeover.specs.Found.{IsFoundOn};
+ghost use Rattle.takeover.specs.LogOpen.{IsLogFault};
 ghost use Rattle.takeover.specs.Replay.{IsReplayed, IsReplayFault, log_fault_of};
-ghost use Rattle.takeover.specs.Replayed.{HasReplayed, IsReplayedBy};
+ghost use Rattle.takeover.specs.Replayed.{IsReplayedBy};
+ghost use Rattle.takeover.specs.Steps.{IsLogLeft, OpensLog, StaysClean};
 ghost use Rattle.takeover.specs.Tables.{HasTables};
 ghost use Rattle.takeover.specs.declared.log.LogFault.TheVariants as faults;
 
@@ -139,31 +134,15 @@ pub fn open_log<S: Shelf>(
     memory: Memory,
 ) -> Result<OpenedLog, LogFault>
     ensures ran { Ran S.shelf S.shelf_rest IsNvram (OnMembers nvrams) shelf.old shelf.new }
-    ensures flushed { IfOk result (λ o. o.log.flushed ≡ flushed) }
-    ensures members { IfOk result (λ o. IsFewer nvrams o.log.members × IsSome o.log.members) }
     // Memory has done the commands that are left of the log.
-    ensures done { IfOk result (HasReplayed memory) }
+    ensures left { IfOk result (IsLogLeft nvrams flushed memory) }
     ensures err { IfErr result (λ fault. IsLogFault fault (S.shelf shelf.old) (S.shelf shelf.new) nvrams flushed) }
     // The log is what the devices showed, from each array that memory read as, or one showed a command that isn't served.
     ensures replayed { (S.shelf shelf.old).honest → IsReplayedBy (S.shelf shelf.old) (S.shelf shelf.new) nvrams flushed memory result }
-    // At every moment the devices stand for the arrays for which they stood, and nothing was stored.
-    ensures any_moment { (S.shelf shelf.old).honest → (x : Loaded) (missing : Conditions) (arrays : List Array) (patches : List (List AnyFact)) (base : Array) → x.record.members.nvrams ≡ nvrams → x.record.flushed ≡ flushed
-        → IsFoundOn (S.shelf shelf.old) x missing arrays → HasTables (S.shelf shelf.old) x memory patches base
-        → LeavesOnly (S.shelf shelf.old) (S.shelf shelf.new) (StandsStill (S.shelf shelf.old) None missing arrays) }
-    // Whatever has failed, where none of those NVRAM devices was missing: they do so once the devices answer again with what they hold.
-    ensures once_back { (S.shelf shelf.old).honest → (x : Loaded) (missing : Conditions) (arrays : List Array) (patches : List (List AnyFact)) (base : Array) → x.record.members.nvrams ≡ nvrams → x.record.flushed ≡ flushed
-        → IsFoundOn (S.shelf shelf.old) x missing arrays → HasTables (S.shelf shelf.old) x memory patches base → AreSoundLogs x.record missing
-        → LeavesOnly (S.shelf shelf.old) (S.shelf shelf.new) (StandsOnceBack (S.shelf shelf.old) missing arrays) }
-    // Where nothing was dirty on devices that aren't missing, nothing is, whatever the result.
-    ensures clean { (S.shelf shelf.old).honest → (missing : Conditions) → AreClean (S.shelf shelf.old) missing → AreClean (S.shelf shelf.new) (failed_since (S.shelf shelf.old) (S.shelf shelf.new) missing) }
-    // Where no more is missing than is borne it is opened.
-    ensures opened { (S.shelf shelf.old).honest → (x : Loaded) (missing : Conditions) (arrays : List Array) (patches : List (List AnyFact)) (base : Array) → x.record.members.nvrams ≡ nvrams → x.record.flushed ≡ flushed
-        → IsFoundOn (S.shelf shelf.old) x missing arrays → HasTables (S.shelf shelf.old) x memory patches base → AreCounted (S.shelf shelf.old) missing
-        → IsBearable (geometry_of (S.shelf shelf.old)) (failed_since (S.shelf shelf.old) (S.shelf shelf.new) missing)
-        → IsLogOpenBy (S.shelf shelf.new) x (failed_since (S.shelf shelf.old) (S.shelf shelf.new) missing) arrays patches base result }
-    // Once it is, it is so in all borne conditions in which no NVRAM device is sound that isn't left.
-    ensures opened_on { (S.shelf shelf.old).honest → IfOk result (λ o. (x : Loaded) (missing : Conditions) (arrays : List Array) (patches : List (List AnyFact)) (base : Array) → x.record.members.nvrams ≡ nvrams → x.record.flushed ≡ flushed
-        → IsFoundOn (S.shelf shelf.old) x missing arrays → HasTables (S.shelf shelf.old) x memory patches base → IsLogOpenOn (S.shelf shelf.new) x missing arrays patches base o) }
+    ensures clean { (S.shelf shelf.old).honest → StaysClean (S.shelf shelf.old) (S.shelf shelf.new) }
+    // At every moment the devices stand for the arrays for which they stood, and the log is opened for these.
+    ensures opens { (S.shelf shelf.old).honest → (x : Loaded) (missing : Conditions) (arrays : List Array) (patches : List (List AnyFact)) (base : Array) → x.record.members.nvrams ≡ nvrams → x.record.flushed ≡ flushed
+        → IsFoundOn (S.shelf shelf.old) x missing arrays → HasTables (S.shelf shelf.old) x memory patches base → OpensLog (S.shelf shelf.old) (S.shelf shelf.new) x missing arrays patches base result }
 {
     let mut log = read_synced(alloc, shelf, nvrams, flushed)?;
     let made = replay_log(alloc, &log, memory)?;

@@ -8,16 +8,14 @@ use Rattle.pur_base.specs.Devices.{Geometry, Conditions, IsBearable, drive, nvra
 use Rattle.pur_base.specs.Plain.{Array}
 use Rattle.boot_codec.specs.declared.record.BootRecord.{BootRecord}
 use Rattle.boot_codec.specs.Record.{set_count}
-use Rattle.boot_codec.specs.Region.{BootSlot, IsRecordOf, shown_by}
+use Rattle.boot_codec.specs.Region.{IsRecordOf, shown_by}
 use Rattle.boot_codec.specs.Spelling.{spelling}
 use Rattle.memory_spec.specs.Memory.{ReadsAs}
 use Rattle.memory_spec.specs.Tables.{patches}
-use Rattle.nvram_log.specs.Members.{IsFewer, IsSome}
 use Rattle.world.specs.Losing.{geometry_of, has_risen}
 use Rattle.world.specs.Shelf.{Disk, LeavesOnly}
 use Rattle.world.proofs.Moments.{continues_trans, then_run, weaker}
 use Rattle.world.proofs.Ran.{ran_then, ran_more, runs_moments}
-use Rattle.boot_region.specs.declared.loading.Loaded.{Loaded}
 use Rattle.boot_region.specs.Loading.{IsLawfulLoad}
 use Rattle.boot_region.specs.Members.{IsMember}
 use Rattle.boot_region.specs.Slots.{slot_in}
@@ -38,10 +36,10 @@ use Rattle.takeover.specs.Faults.{fault_of_log, fault_of_store}
 use Rattle.takeover.specs.Found.{IsFoundOn}
 use Rattle.takeover.specs.LogOpen.{IsLogFault, IsLogOpen, IsLogOpenBy, IsLogOpenOn}
 use Rattle.takeover.specs.Opened.{IsHeldBy, IsOpenedBy, IsRecovered, IsShut}
-use Rattle.array_core.specs.Performing.{StandsOnceBack}
-use Rattle.takeover.specs.Outlasting.{AreSoundLogs, EntersFirmly, IsFoundFirmly}
+use Rattle.takeover.specs.Outlasting.{IsFoundFirmly, OutlastsFailures}
 use Rattle.takeover.specs.Replayed.{HasReplayed, IsReplayedBy, IsReplayedFrom}
 use Rattle.takeover.specs.Seen.{AreTablesSeen, AreTablesSeenBy}
+use Rattle.takeover.specs.Steps.{IsLogLeft}
 use Rattle.takeover.specs.Tables.{HasTables, IsMemoryOf}
 use Rattle.takeover.proofs.ArrayOf.{array_of_shelf, array_with, patches_are}
 use Rattle.takeover.proofs.BaseHeld as base_held
@@ -54,7 +52,9 @@ use Rattle.takeover.proofs.Outlasted as lasting
 use Rattle.takeover.proofs.RecoveredLemmas.{content, in_log}
 use Rattle.takeover.proofs.Running.{gates_off, log_off, nvrams_still, slots_off}
 use Rattle.takeover.proofs.Stops.{unstored}
+use Rattle.takeover.proofs.recovering.recover.Given as given
 use Rattle.takeover.proofs.recovering.recover.Goals as goal
+use Rattle.takeover.proofs.recovering.recover.Goals.{After-store}
 use Rattle.array_core.proofs.Losses.{fewer_borne, sound_since}
 use Rattle.register.proofs.Rounds.{same_shelf}
 use Rattle.register.proofs.Made.{store_later}
@@ -87,7 +87,7 @@ returns-in_err-found-clause-opened g c h =
     let p = err_from_is_err_and c.from_residual.result c.from_residual.ensures.1 in
     let e = c.in_err-found.field-0.0 in
     let seen : AreTablesSeenBy a b (Err e) = subst (λ (r : Result FoundArray OpenFault). AreTablesSeenBy a b r) c.in_err-found.was (c.find_array.ensures.seen h) in
-    let is : IsShut a b e = opening.shut a b (g.met.S.Shelf.is_shelf c.args.shelf.now) h e (opening.unfound a b e seen) (c.find_array.ensures.any_moment h) (c.find_array.ensures.clean h) in
+    let is : IsShut a b e = opening.shut a b (g.met.S.Shelf.is_shelf c.args.shelf.now) h e (opening.unfound a b e seen) (c.find_array.ensures.stands h).any_moment (λ missing arrays enters. (c.find_array.ensures.stands h).clean missing enters.clean) in
     let named : IsShut a b p.0 = subst (λ (f : OpenFault). IsShut a b f) (sym p.2) is in
     subst (λ r. IsOpenedBy a b r) (sym p.1) named
 
@@ -97,7 +97,7 @@ returns-in_err-register-clause-opened g c h =
     let b = g.S.Shelf.shelf c.find_array.new.shelf in
     let p = err_from_is_err_and c.from_residual-in_err-register.result c.from_residual-in_err-register.ensures.1 in
     let e : OpenFault = open_fault.Memory c.in_err-register.field-0.0 in
-    let is : IsShut a b e = opening.shut a b (g.met.S.Shelf.is_shelf c.args.shelf.now) h e tt (c.find_array.ensures.any_moment h) (c.find_array.ensures.clean h) in
+    let is : IsShut a b e = opening.shut a b (g.met.S.Shelf.is_shelf c.args.shelf.now) h e tt (c.find_array.ensures.stands h).any_moment (λ missing arrays enters. (c.find_array.ensures.stands h).clean missing enters.clean) in
     let named : IsShut a b p.0 = subst (λ (f : OpenFault). IsShut a b f) (sym p.2) is in
     subst (λ r. IsOpenedBy a b r) (sym p.1) named
 
@@ -114,25 +114,28 @@ returns-in_err-opened-clause-opened g c h =
     let fault = c.in_err-opened.field-0.0 in
     let e : OpenFault = fault_of_log fault in
     let seen : AreTablesSeen a b f = subst (λ (r : Result FoundArray OpenFault). AreTablesSeenBy a b r) c.in_ok-found.was (c.find_array.ensures.seen h) in
-    let lawful : IsLawfulLoad (geometry_of b) x = subst (λ (r : Result FoundArray OpenFault). IfOk r (λ y. IsLawfulLoad (geometry_of b) y.loaded)) c.in_ok-found.was c.find_array.ensures.lawful in
+    let lawful : IsLawfulLoad (geometry_of b) x = c.in_ok-found.ensures.loaded.lawful in
     let err : IsLogFault fault b n x.record.members.nvrams x.record.flushed = subst (λ (r : Result OpenedLog LogFault). IfErr r (λ k. IsLogFault k b n x.record.members.nvrams x.record.flushed)) c.in_err-opened.was c.open_log.ensures.err in
     let replayed : IsReplayedBy b n x.record.members.nvrams x.record.flushed f.memory (Err fault) =
     subst (λ (r : Result OpenedLog LogFault). IsReplayedBy b n x.record.members.nvrams x.record.flushed f.memory r) c.in_err-opened.was (c.open_log.ensures.replayed h_b) in
     let found_then : (missing : Conditions) (arrays : List Array) → Enters a missing arrays → IsBearable (geometry_of a) (failed_since a b missing)
     → IsFoundOn b x (failed_since a b missing) arrays × (base : Array) × HasTables b x f.memory ps base =
-    λ missing arrays enters bears. subst (λ (r : Result FoundArray OpenFault). IfOk r (λ y. IsFoundOn b y.loaded (failed_since a b missing) arrays × (base : Array) × HasTables b y.loaded y.memory (patches y.memory.memory.tables) base))
-    c.in_ok-found.was (c.find_array.ensures.found h missing arrays enters bears) in
+    λ missing arrays enters bears.
+    let there = c.in_ok-found.ensures.found h in
+    let is = there.found missing arrays enters bears in
+    let has = there.tables (failed_since a b missing) arrays is in
+    (is, has.0, has.1) in
     let next : (missing : Conditions) (arrays : List Array) → Enters a missing arrays → IsBearable (geometry_of a) (failed_since a b missing) → LeavesOnly b n (StandsStill b None (failed_since a b missing) arrays) =
     λ missing arrays enters bears.
     let there = found_then missing arrays enters bears in
-    c.open_log.ensures.any_moment h_b x (failed_since a b missing) arrays ps there.1 refl refl there.0 there.2 in
+    (c.open_log.ensures.opens h_b x (failed_since a b missing) arrays ps there.1 refl refl there.0 there.2).any_moment in
     let each : (missing : Conditions) (arrays : List Array) → Enters a missing arrays → LeavesOnly a n (StandsStill a None missing arrays) =
     λ missing arrays enters.
-    unstored a b missing arrays c.find_array.ensures.ran.on.continues (g.met.S.Shelf.is_shelf c.find_array.new.shelf) h_b (c.find_array.ensures.any_moment h missing arrays enters) n (runs_moments c.open_log.ensures.ran.on h_b)
+    unstored a b missing arrays c.find_array.ensures.ran.on.continues (g.met.S.Shelf.is_shelf c.find_array.new.shelf) h_b ((c.find_array.ensures.stands h).any_moment missing arrays enters) n (runs_moments c.open_log.ensures.ran.on h_b)
     (next missing arrays enters) in
     let is : IsShut a n e =
     opening.shut a n (g.met.S.Shelf.is_shelf c.args.shelf.now) h e (opening.unread a b x c.find_array.ensures.ran.on.continues seen.seen lawful (nvrams_still c.find_array.ensures.ran.on) n c.open_log.ensures.ran.on.continues f.memory fault err replayed) each
-    (λ missing arrays enters. opening.clean_on a b n missing c.find_array.ensures.ran.on.continues c.open_log.ensures.ran.on.continues (c.open_log.ensures.clean h_b (failed_since a b missing) (c.find_array.ensures.clean h missing arrays enters))) in
+    (λ missing arrays enters. opening.clean_on a b n missing c.find_array.ensures.ran.on.continues c.open_log.ensures.ran.on.continues (c.open_log.ensures.clean h_b (failed_since a b missing) ((c.find_array.ensures.stands h).clean missing enters.clean))) in
     let named : IsShut a n p.0 = subst (λ (k : OpenFault). IsShut a n k) (sym p.2) is in
     subst (λ r. IsOpenedBy a n r) (sym p.1) named
 
@@ -157,7 +160,7 @@ returns-in_err-store-clause-opened g c h =
     let h_b = on.honest h in
     let h_n = after.honest h_b in
     let seen : AreTablesSeen a b f = subst (λ (r : Result FoundArray OpenFault). AreTablesSeenBy a b r) c.in_ok-found.was (c.find_array.ensures.seen h) in
-    let lawful : IsLawfulLoad (geometry_of b) x = subst (λ (r : Result FoundArray OpenFault). IfOk r (λ y. IsLawfulLoad (geometry_of b) y.loaded)) c.in_ok-found.was c.find_array.ensures.lawful in
+    let lawful : IsLawfulLoad (geometry_of b) x = c.in_ok-found.ensures.loaded.lawful in
     let replayed : IsReplayedFrom b n x.record.members.nvrams x.record.flushed f.memory o =
     subst (λ (r : Result OpenedLog LogFault). IsReplayedBy b n x.record.members.nvrams x.record.flushed f.memory r) c.in_ok-opened.was (c.open_log.ensures.replayed h_b) in
     let made : (was.record ≡ x.record) × (was.drives ≡ x.drives) = subst (λ (r : Result Register NoMemory). IfOk r (λ y. (y.record ≡ x.record) × (y.drives ≡ x.drives))) c.in_ok-register.was c.new.ensures in
@@ -167,25 +170,28 @@ returns-in_err-store-clause-opened g c h =
     } in
     let shown : (i : ℕ) → IsMember x.drives i → shown_by (slot_in x.slot) (n.disk (drive i)).bytes ≡ Some (spelling x.record) =
     λ i m. ap (λ (k : Disk). shown_by (slot_in x.slot) k.bytes) (c.open_log.ensures.ran.on.others (drive i) (λ none. none))
-    ∙ (subst (λ (r : Result FoundArray OpenFault). IfOk r (λ y. (j : ℕ) → IsMember y.loaded.drives j → shown_by (slot_in y.loaded.slot) (b.disk (drive j)).bytes ≡ Some (spelling y.loaded.record))) c.in_ok-found.was (c.find_array.ensures.shown h)) i m in
+    ∙ c.in_ok-found.ensures.loaded.shown h i m in
     let found_then : (missing : Conditions) (arrays : List Array) → Enters a missing arrays → IsBearable (geometry_of a) (failed_since a b missing)
     → IsFoundOn b x (failed_since a b missing) arrays × (base : Array) × HasTables b x f.memory ps base =
-    λ missing arrays enters bears. subst (λ (r : Result FoundArray OpenFault). IfOk r (λ y. IsFoundOn b y.loaded (failed_since a b missing) arrays × (base : Array) × HasTables b y.loaded y.memory (patches y.memory.memory.tables) base))
-    c.in_ok-found.was (c.find_array.ensures.found h missing arrays enters bears) in
+    λ missing arrays enters bears.
+    let there = c.in_ok-found.ensures.found h in
+    let is = there.found missing arrays enters bears in
+    let has = there.tables (failed_since a b missing) arrays is in
+    (is, has.0, has.1) in
     let next : (missing : Conditions) (arrays : List Array) → Enters a missing arrays → IsBearable (geometry_of a) (failed_since a b missing) → LeavesOnly b n (StandsStill b None (failed_since a b missing) arrays) =
     λ missing arrays enters bears.
     let there = found_then missing arrays enters bears in
-    c.open_log.ensures.any_moment h_b x (failed_since a b missing) arrays ps there.1 refl refl there.0 there.2 in
+    (c.open_log.ensures.opens h_b x (failed_since a b missing) arrays ps there.1 refl refl there.0 there.2).any_moment in
     let opens : (missing : Conditions) (arrays : List Array) → Enters a missing arrays → IsBearable (geometry_of a) (failed_since a n missing)
     → (base : Array) × HasTables b x f.memory ps base × IsLogOpen n x (failed_since a n missing) arrays ps base o =
     λ missing arrays enters bears.
     let there = log_opened a b n missing arrays x f.memory ps on after (found_then missing arrays enters) c.open_log.result
-    (λ base is has bears_then. c.open_log.ensures.opened h_b x (failed_since a b missing) arrays ps base refl refl is has (λ d sound. goes_on (a.disk d).faults (b.disk d).faults (sound_since (has_risen (a.disk d).faults (b.disk d).faults) (missing d) sound).1) bears_then) bears in
+    (λ base is has bears_then. (c.open_log.ensures.opens h_b x (failed_since a b missing) arrays ps base refl refl is has).opened (λ d sound. goes_on (a.disk d).faults (b.disk d).faults (sound_since (has_risen (a.disk d).faults (b.disk d).faults) (missing d) sound).1) bears_then) bears in
     (there.0, there.1, subst (λ (r : Result OpenedLog LogFault). IsLogOpenBy n x (failed_since a n missing) arrays ps there.0 r) c.in_ok-opened.was there.2) in
     let each : (missing : Conditions) (arrays : List Array) → Enters a missing arrays → LeavesOnly a s (StandsStill a (Some (opening.found a b x on seen.seen lawful (nvrams_still c.find_array.ensures.ran.on) n after s f.memory o was now last is_a is_b is_n h replayed is_of made.0 made.1 c.store.ensures.left.dropped (store_later c.store.ensures.made) c.store.ensures.made.few shown)) missing arrays) =
     λ missing arrays enters.
     opening.each_moment a b x on seen.seen lawful (nvrams_still c.find_array.ensures.ran.on) n after s f.memory o was now last is_a is_b is_n h replayed is_of made.0 made.1 c.store.ensures.left.dropped (store_later c.store.ensures.made) c.store.ensures.made.few shown
-    missing arrays (c.find_array.ensures.any_moment h missing arrays enters) (seen.seen.given missing arrays enters) ps (opens missing arrays enters) (runs_moments c.open_log.ensures.ran.on h_b)
+    missing arrays ((c.find_array.ensures.stands h).any_moment missing arrays enters) (seen.seen.given missing arrays enters) ps (opens missing arrays enters) (runs_moments c.open_log.ensures.ran.on h_b)
     (next missing arrays enters) (λ i. c.open_log.ensures.ran.on.others (drive i) (λ none. none)) (c.open_log.ensures.ran.on.writes h_b) (c.store.ensures.ran.on.writes h_n)
     (λ room held may. stands_at (c.store.ensures.moments h_n room) (failed_since a n missing) held arrays (subst (λ (l : List Bool). MayStore n was l (failed_since a n missing) held arrays) (sym c.members.ensures) may))
     (λ room held may. subst (λ (l : List Bool). LeavesOnly n s (GivesOldOrNext n was l (failed_since a n missing))) c.members.ensures
@@ -220,7 +226,7 @@ returns-clause-opened g c h =
     let h_b = on.honest h in
     let h_n = after.honest h_b in
     let seen : AreTablesSeen a b f = subst (λ (r : Result FoundArray OpenFault). AreTablesSeenBy a b r) c.in_ok-found.was (c.find_array.ensures.seen h) in
-    let lawful : IsLawfulLoad (geometry_of b) x = subst (λ (r : Result FoundArray OpenFault). IfOk r (λ y. IsLawfulLoad (geometry_of b) y.loaded)) c.in_ok-found.was c.find_array.ensures.lawful in
+    let lawful : IsLawfulLoad (geometry_of b) x = c.in_ok-found.ensures.loaded.lawful in
     let replayed : IsReplayedFrom b n x.record.members.nvrams x.record.flushed f.memory o =
     subst (λ (r : Result OpenedLog LogFault). IsReplayedBy b n x.record.members.nvrams x.record.flushed f.memory r) c.in_ok-opened.was (c.open_log.ensures.replayed h_b) in
     let made : (was.record ≡ x.record) × (was.drives ≡ x.drives) = subst (λ (r : Result Register NoMemory). IfOk r (λ y. (y.record ≡ x.record) × (y.drives ≡ x.drives))) c.in_ok-register.was c.new.ensures in
@@ -230,25 +236,28 @@ returns-clause-opened g c h =
     } in
     let shown : (i : ℕ) → IsMember x.drives i → shown_by (slot_in x.slot) (n.disk (drive i)).bytes ≡ Some (spelling x.record) =
     λ i m. ap (λ (k : Disk). shown_by (slot_in x.slot) k.bytes) (c.open_log.ensures.ran.on.others (drive i) (λ none. none))
-    ∙ (subst (λ (r : Result FoundArray OpenFault). IfOk r (λ y. (j : ℕ) → IsMember y.loaded.drives j → shown_by (slot_in y.loaded.slot) (b.disk (drive j)).bytes ≡ Some (spelling y.loaded.record))) c.in_ok-found.was (c.find_array.ensures.shown h)) i m in
+    ∙ c.in_ok-found.ensures.loaded.shown h i m in
     let found_then : (missing : Conditions) (arrays : List Array) → Enters a missing arrays → IsBearable (geometry_of a) (failed_since a b missing)
     → IsFoundOn b x (failed_since a b missing) arrays × (base : Array) × HasTables b x f.memory ps base =
-    λ missing arrays enters bears. subst (λ (r : Result FoundArray OpenFault). IfOk r (λ y. IsFoundOn b y.loaded (failed_since a b missing) arrays × (base : Array) × HasTables b y.loaded y.memory (patches y.memory.memory.tables) base))
-    c.in_ok-found.was (c.find_array.ensures.found h missing arrays enters bears) in
+    λ missing arrays enters bears.
+    let there = c.in_ok-found.ensures.found h in
+    let is = there.found missing arrays enters bears in
+    let has = there.tables (failed_since a b missing) arrays is in
+    (is, has.0, has.1) in
     let next : (missing : Conditions) (arrays : List Array) → Enters a missing arrays → IsBearable (geometry_of a) (failed_since a b missing) → LeavesOnly b n (StandsStill b None (failed_since a b missing) arrays) =
     λ missing arrays enters bears.
     let there = found_then missing arrays enters bears in
-    c.open_log.ensures.any_moment h_b x (failed_since a b missing) arrays ps there.1 refl refl there.0 there.2 in
+    (c.open_log.ensures.opens h_b x (failed_since a b missing) arrays ps there.1 refl refl there.0 there.2).any_moment in
     let opens : (missing : Conditions) (arrays : List Array) → Enters a missing arrays → IsBearable (geometry_of a) (failed_since a n missing)
     → (base : Array) × HasTables b x f.memory ps base × IsLogOpen n x (failed_since a n missing) arrays ps base o =
     λ missing arrays enters bears.
     let there = log_opened a b n missing arrays x f.memory ps on after (found_then missing arrays enters) c.open_log.result
-    (λ base is has bears_then. c.open_log.ensures.opened h_b x (failed_since a b missing) arrays ps base refl refl is has (λ d sound. goes_on (a.disk d).faults (b.disk d).faults (sound_since (has_risen (a.disk d).faults (b.disk d).faults) (missing d) sound).1) bears_then) bears in
+    (λ base is has bears_then. (c.open_log.ensures.opens h_b x (failed_since a b missing) arrays ps base refl refl is has).opened (λ d sound. goes_on (a.disk d).faults (b.disk d).faults (sound_since (has_risen (a.disk d).faults (b.disk d).faults) (missing d) sound).1) bears_then) bears in
     (there.0, there.1, subst (λ (r : Result OpenedLog LogFault). IsLogOpenBy n x (failed_since a n missing) arrays ps there.0 r) c.in_ok-opened.was there.2) in
     let each : (missing : Conditions) (arrays : List Array) → Enters a missing arrays → LeavesOnly a s (StandsStill a (Some (opening.found a b x on seen.seen lawful (nvrams_still c.find_array.ensures.ran.on) n after s f.memory o was now last is_a is_b is_n h replayed is_of made.0 made.1 c.store.ensures.left.dropped (store_later c.store.ensures.made) c.store.ensures.made.few shown)) missing arrays) =
     λ missing arrays enters.
     opening.each_moment a b x on seen.seen lawful (nvrams_still c.find_array.ensures.ran.on) n after s f.memory o was now last is_a is_b is_n h replayed is_of made.0 made.1 c.store.ensures.left.dropped (store_later c.store.ensures.made) c.store.ensures.made.few shown
-    missing arrays (c.find_array.ensures.any_moment h missing arrays enters) (seen.seen.given missing arrays enters) ps (opens missing arrays enters) (runs_moments c.open_log.ensures.ran.on h_b)
+    missing arrays ((c.find_array.ensures.stands h).any_moment missing arrays enters) (seen.seen.given missing arrays enters) ps (opens missing arrays enters) (runs_moments c.open_log.ensures.ran.on h_b)
     (next missing arrays enters) (λ i. c.open_log.ensures.ran.on.others (drive i) (λ none. none)) (c.open_log.ensures.ran.on.writes h_b) (c.store.ensures.ran.on.writes h_n)
     (λ room held may. stands_at (c.store.ensures.moments h_n room) (failed_since a n missing) held arrays (subst (λ (l : List Bool). MayStore n was l (failed_since a n missing) held arrays) (sym c.members.ensures) may))
     (λ room held may. subst (λ (l : List Bool). LeavesOnly n s (GivesOldOrNext n was l (failed_since a n missing))) c.members.ensures
@@ -258,8 +267,8 @@ returns-clause-opened g c h =
     let is_s = g.met.S.Shelf.is_shelf c.store.new.shelf in
     let h_s = last.honest h_n in
     let memory : IsMemoryOf (geometry_of b) x.record f.memory = subst (λ (r : Result FoundArray OpenFault). IfOk r (λ y. IsMemoryOf (geometry_of b) y.loaded.record y.memory)) c.in_ok-found.was c.find_array.ensures.memory in
-    let enough_found : b.drives ≤ set_count x.drives + 2 = subst (λ (r : Result FoundArray OpenFault). IfOk r (λ y. b.drives ≤ set_count y.loaded.drives + 2)) c.in_ok-found.was c.find_array.ensures.enough in
-    let done : HasReplayed f.memory o = subst (λ (r : Result OpenedLog LogFault). IfOk r (HasReplayed f.memory)) c.in_ok-opened.was c.open_log.ensures.done in
+    let enough_found : b.drives ≤ set_count x.drives + 2 = c.in_ok-found.ensures.loaded.enough in
+    let done : HasReplayed f.memory o = c.in_ok-opened.ensures.left.done in
     let generation : (was.record.generation < now.record.generation) × (now.record.generation < 2 ^ 48) =
     subst (λ (r : Result (Unit {0}) StoreFault). OnOk r ((was.record.generation < now.record.generation) × (now.record.generation < 2 ^ 48))) c.in_ok-store.was c.store.ensures.made.generation in
     let members : (now.record.members.drives ≡ now.drives) × (now.record.members.nvrams ≡ c.members.result) =
@@ -316,137 +325,69 @@ returns-clause-is_of g c =
     let made : (was.record ≡ x.record) × (was.drives ≡ x.drives) = subst (λ (r : Result Register NoMemory). IfOk r (λ y. (y.record ≡ x.record) × (y.drives ≡ x.drives))) c.in_ok-register.was c.new.ensures in
     let memory_b : IsMemoryOf (geometry_of b) x.record f.memory = subst (λ (r : Result FoundArray OpenFault). IfOk r (λ y. IsMemoryOf (geometry_of b) y.loaded.record y.memory)) c.in_ok-found.was c.find_array.ensures.memory in
     let memory : IsMemoryOf (geometry_of s) x.record f.memory = subst (λ (k : Geometry). IsMemoryOf k x.record f.memory) (same_shelf c.open_log.ensures.ran.on.continues ∙ same_shelf c.store.ensures.ran.on.continues) memory_b in
-    let done : HasReplayed f.memory o = subst (λ (r : Result OpenedLog LogFault). IfOk r (HasReplayed f.memory)) c.in_ok-opened.was c.open_log.ensures.done in
-    let flushed : o.log.flushed ≡ x.record.flushed = subst (λ (r : Result OpenedLog LogFault). IfOk r (λ y. y.log.flushed ≡ x.record.flushed)) c.in_ok-opened.was c.open_log.ensures.flushed in
-    let left : IsFewer x.record.members.nvrams o.log.members × IsSome o.log.members =
-    subst (λ (r : Result OpenedLog LogFault). IfOk r (λ y. IsFewer x.record.members.nvrams y.log.members × IsSome y.log.members)) c.in_ok-opened.was c.open_log.ensures.members in
-    array_of_shelf (geometry_of s) x.record f.memory o memory done now c.store.ensures.left.is_of (subst (λ (r : BootRecord). IsLaterRecord r now.record) made.0 (store_later c.store.ensures.made)) flushed left.1
+    let done : HasReplayed f.memory o = c.in_ok-opened.ensures.left.done in
+    let left : IsLogLeft x.record.members.nvrams x.record.flushed f.memory o = c.in_ok-opened.ensures.left in
+    array_of_shelf (geometry_of s) x.record f.memory o memory done now c.store.ensures.left.is_of (subst (λ (r : BootRecord). IsLaterRecord r now.record) made.0 (store_later c.store.ensures.made)) left.follows left.some
 
 pub returns-in_err-found-clause-outlasts : goal.returns-in_err-found-clause-outlasts
 returns-in_err-found-clause-outlasts g c h missing next boot arrays enters entry =
-    weaker (λ stop again. lasting.back_again (g.S.Shelf.shelf c.args.shelf.now) missing arrays stop again) (c.find_array.ensures.again h missing next boot arrays enters entry)
+    weaker (λ stop again. lasting.back_again (g.S.Shelf.shelf c.args.shelf.now) missing arrays stop again) ((c.find_array.ensures.stands h).again missing next boot arrays enters entry)
 
 pub returns-in_err-register-clause-outlasts : goal.returns-in_err-register-clause-outlasts
 returns-in_err-register-clause-outlasts g c h missing next boot arrays enters entry =
-    weaker (λ stop again. lasting.back_again (g.S.Shelf.shelf c.args.shelf.now) missing arrays stop again) (c.find_array.ensures.again h missing next boot arrays enters entry)
+    weaker (λ stop again. lasting.back_again (g.S.Shelf.shelf c.args.shelf.now) missing arrays stop again) ((c.find_array.ensures.stands h).again missing next boot arrays enters entry)
 
 pub returns-in_err-opened-clause-outlasts : goal.returns-in_err-opened-clause-outlasts
-returns-in_err-opened-clause-outlasts g c h missing next boot arrays enters entry =
+returns-in_err-opened-clause-outlasts g c h =
+    let a = g.S.Shelf.shelf c.args.shelf.now in
+    let b = g.S.Shelf.shelf c.find_array.new.shelf in
+    let n = g.S.Shelf.shelf c.open_log.new.shelf in
+    let on = c.find_array.ensures.ran.on.continues in
+    lasting.opening_outlasts a b n on (g.met.S.Shelf.is_shelf c.find_array.new.shelf) (on.honest h) h c.in_ok-found.found (c.find_array.ensures.stands h) c.in_ok-found.ensures.loaded (c.in_ok-found.ensures.found h) c.open_log.result
+    (λ during standing ps base. c.open_log.ensures.opens (on.honest h) c.in_ok-found.found.loaded during standing ps base refl refl)
+
+-- the record was stored, or not
+outlasts : (g : given.Over) (c : After-store g) → (g.S.Shelf.shelf c.args.shelf.now).honest → OutlastsFailures (g.S.Shelf.shelf c.args.shelf.now) (g.S.Shelf.shelf c.store.new.shelf)
+outlasts g c h missing next boot arrays enters entry =
     let a = g.S.Shelf.shelf c.args.shelf.now in
     let b = g.S.Shelf.shelf c.find_array.new.shelf in
     let n = g.S.Shelf.shelf c.open_log.new.shelf in
     let f = c.in_ok-found.found in
     let x = f.loaded in
-    let ps : List (List AnyFact) = patches f.memory.memory.tables in
     let on = c.find_array.ensures.ran.on.continues in
     let h_b = on.honest h in
-    let firm : IsFoundFirmly b x missing arrays =
-    subst (λ (r : Result FoundArray OpenFault). IfOk r (λ y. (m : Conditions) (t : BootSlot) (k : BootRecord) (l : List Array) → Enters a m l → EntersFirmly a m t k → IsFoundFirmly b y.loaded m l))
-    c.in_ok-found.was (c.find_array.ensures.firmly h) missing next boot arrays enters entry in
-    let enough : b.drives ≤ set_count x.drives + 2 = subst (λ (r : Result FoundArray OpenFault). IfOk r (λ y. b.drives ≤ set_count y.loaded.drives + 2)) c.in_ok-found.was c.find_array.ensures.enough in
-    let tables : (during : Conditions) → IsFoundOn b x during arrays → (base : Array) × HasTables b x f.memory ps base =
-    λ during is. subst (λ (r : Result FoundArray OpenFault). IfOk r (λ y. (m : Conditions) (l : List Array) → IsFoundOn b y.loaded m l → (base : Array) × HasTables b y.loaded y.memory (patches y.memory.memory.tables) base))
-    c.in_ok-found.was (c.find_array.ensures.tables h) during arrays is in
-    let opens : (during : Conditions) → IsFoundOn b x during arrays → AreSoundLogs x.record during → LeavesOnly b n (StandsOnceBack b during arrays) =
-    λ during is logs. let has = tables during is in c.open_log.ensures.once_back h_b x during arrays ps has.0 refl refl is has.1 logs in
-    let first = weaker (λ stop again. lasting.back_again a missing arrays stop again) (c.find_array.ensures.again h missing next boot arrays enters entry) in
-    let opening = lasting.while_opening a b missing arrays x on (g.met.S.Shelf.is_shelf c.find_array.new.shelf) h_b enters.bearable enough firm n opens in
-    then_run on first opening
+    let firm : IsFoundFirmly b x missing arrays = c.in_ok-found.ensures.loaded.firmly h missing next boot arrays enters entry in
+    let enough : b.drives ≤ set_count x.drives + 2 = c.in_ok-found.ensures.loaded.enough in
+    let opening =
+    lasting.opening_outlasts a b n on (g.met.S.Shelf.is_shelf c.find_array.new.shelf) h_b h f (c.find_array.ensures.stands h) c.in_ok-found.ensures.loaded (c.in_ok-found.ensures.found h) c.open_log.result
+    (λ during standing ps base. c.open_log.ensures.opens h_b x during standing ps base refl refl) in
+    let s = g.S.Shelf.shelf c.store.new.shelf in
+    let o = c.in_ok-opened.opened in
+    let was = c.in_ok-register.register in
+    let now = c.store.new.self in
+    let after = c.open_log.ensures.ran.on.continues in
+    let h_n = after.honest h_b in
+    let lawful : IsLawfulLoad (geometry_of b) x = c.in_ok-found.ensures.loaded.lawful in
+    let made : (was.record ≡ x.record) × (was.drives ≡ x.drives) = subst (λ (r : Result Register NoMemory). IfOk r (λ y. (y.record ≡ x.record) × (y.drives ≡ x.drives))) c.in_ok-register.was c.new.ensures in
+    let is_of : IsRegisterOf (geometry_of n) was = record {
+      lawful = subst (λ (r : BootRecord). IsRecordOf (geometry_of n) r) (sym made.0) (subst (λ (k : Geometry). IsRecordOf k x.record) (same_shelf after) lawful.lawful);
+      named = λ i m. subst (λ (r : BootRecord). IsMember r.members.drives i) (sym made.0) (lawful.named i (subst (λ (l : List _). IsMember l i) made.1 m));
+    } in
+    let opened : (during : Conditions) → IsFoundOn b x during arrays → (qs : List (List AnyFact)) × (base : Array) × IsLogOpenOn n x during arrays qs base o =
+    λ during is.
+    let ps = patches f.memory.memory.tables in
+    let has = (c.in_ok-found.ensures.found h).tables during arrays is in
+    (ps, has.0, (c.in_ok-opened.ensures.opens h_b x during arrays ps has.0 refl refl is has.1).opened_on) in
+    let left : IsLogLeft x.record.members.nvrams x.record.flushed f.memory o = c.in_ok-opened.ensures.left in
+    let stores : x.record.generation < 2 ^ 48 - 16 → (during : Conditions) (held : Content) → MayStore n was o.log.members during held arrays → IsFirm n was during → LeavesOnly n s (StandsAgain n during arrays) =
+    λ room during held may is_firm. c.store.ensures.outlasts h_n (lasting.room_left x.record was.record now.record made.0 c.store.ensures.made.few room) during held arrays
+    (subst (λ (l : List Bool). MayStore n was l during held arrays) (sym c.members.ensures) may) is_firm in
+    let storing = lasting.while_storing a b missing arrays x on (g.met.S.Shelf.is_shelf c.find_array.new.shelf) h_b enters.bearable enough firm n s after (g.met.S.Shelf.is_shelf c.open_log.new.shelf) h_n (λ i. c.open_log.ensures.ran.on.others (drive i) (λ none. none))
+    o was opened left.fewer left.some is_of made.0 made.1 stores in
+    then_run (continues_trans on after) (opening missing next boot arrays enters entry) storing
 
 pub returns-in_err-store-clause-outlasts : goal.returns-in_err-store-clause-outlasts
-returns-in_err-store-clause-outlasts g c h missing next boot arrays enters entry =
-    let a = g.S.Shelf.shelf c.args.shelf.now in
-    let b = g.S.Shelf.shelf c.find_array.new.shelf in
-    let n = g.S.Shelf.shelf c.open_log.new.shelf in
-    let f = c.in_ok-found.found in
-    let x = f.loaded in
-    let ps : List (List AnyFact) = patches f.memory.memory.tables in
-    let on = c.find_array.ensures.ran.on.continues in
-    let h_b = on.honest h in
-    let firm : IsFoundFirmly b x missing arrays =
-    subst (λ (r : Result FoundArray OpenFault). IfOk r (λ y. (m : Conditions) (t : BootSlot) (k : BootRecord) (l : List Array) → Enters a m l → EntersFirmly a m t k → IsFoundFirmly b y.loaded m l))
-    c.in_ok-found.was (c.find_array.ensures.firmly h) missing next boot arrays enters entry in
-    let enough : b.drives ≤ set_count x.drives + 2 = subst (λ (r : Result FoundArray OpenFault). IfOk r (λ y. b.drives ≤ set_count y.loaded.drives + 2)) c.in_ok-found.was c.find_array.ensures.enough in
-    let tables : (during : Conditions) → IsFoundOn b x during arrays → (base : Array) × HasTables b x f.memory ps base =
-    λ during is. subst (λ (r : Result FoundArray OpenFault). IfOk r (λ y. (m : Conditions) (l : List Array) → IsFoundOn b y.loaded m l → (base : Array) × HasTables b y.loaded y.memory (patches y.memory.memory.tables) base))
-    c.in_ok-found.was (c.find_array.ensures.tables h) during arrays is in
-    let opens : (during : Conditions) → IsFoundOn b x during arrays → AreSoundLogs x.record during → LeavesOnly b n (StandsOnceBack b during arrays) =
-    λ during is logs. let has = tables during is in c.open_log.ensures.once_back h_b x during arrays ps has.0 refl refl is has.1 logs in
-    let first = weaker (λ stop again. lasting.back_again a missing arrays stop again) (c.find_array.ensures.again h missing next boot arrays enters entry) in
-    let opening = lasting.while_opening a b missing arrays x on (g.met.S.Shelf.is_shelf c.find_array.new.shelf) h_b enters.bearable enough firm n opens in
-    let s = g.S.Shelf.shelf c.store.new.shelf in
-    let o = c.in_ok-opened.opened in
-    let was = c.in_ok-register.register in
-    let now = c.store.new.self in
-    let after = c.open_log.ensures.ran.on.continues in
-    let h_n = after.honest h_b in
-    let lawful : IsLawfulLoad (geometry_of b) x = subst (λ (r : Result FoundArray OpenFault). IfOk r (λ y. IsLawfulLoad (geometry_of b) y.loaded)) c.in_ok-found.was c.find_array.ensures.lawful in
-    let made : (was.record ≡ x.record) × (was.drives ≡ x.drives) = subst (λ (r : Result Register NoMemory). IfOk r (λ y. (y.record ≡ x.record) × (y.drives ≡ x.drives))) c.in_ok-register.was c.new.ensures in
-    let is_of : IsRegisterOf (geometry_of n) was = record {
-      lawful = subst (λ (r : BootRecord). IsRecordOf (geometry_of n) r) (sym made.0) (subst (λ (k : Geometry). IsRecordOf k x.record) (same_shelf after) lawful.lawful);
-      named = λ i m. subst (λ (r : BootRecord). IsMember r.members.drives i) (sym made.0) (lawful.named i (subst (λ (l : List _). IsMember l i) made.1 m));
-    } in
-    let opened : (during : Conditions) → IsFoundOn b x during arrays → (qs : List (List AnyFact)) × (base : Array) × IsLogOpenOn n x during arrays qs base o =
-    λ during is. let has = tables during is in (
-      ps,
-      has.0,
-      (subst (λ (r : Result OpenedLog LogFault). IfOk r (λ y. (z : Loaded) (m : Conditions) (l : List Array) (qs : List (List AnyFact)) (k : Array) → z.record.members.nvrams ≡ x.record.members.nvrams → z.record.flushed ≡ x.record.flushed
-          → IsFoundOn b z m l → HasTables b z f.memory qs k → IsLogOpenOn n z m l qs k y)) c.in_ok-opened.was (c.open_log.ensures.opened_on h_b)) x during arrays ps has.0 refl refl is has.1,
-    ) in
-    let left : IsFewer x.record.members.nvrams o.log.members × IsSome o.log.members =
-    subst (λ (r : Result OpenedLog LogFault). IfOk r (λ y. IsFewer x.record.members.nvrams y.log.members × IsSome y.log.members)) c.in_ok-opened.was c.open_log.ensures.members in
-    let stores : x.record.generation < 2 ^ 48 - 16 → (during : Conditions) (held : Content) → MayStore n was o.log.members during held arrays → IsFirm n was during → LeavesOnly n s (StandsAgain n during arrays) =
-    λ room during held may is_firm. c.store.ensures.outlasts h_n (lasting.room_left x.record was.record now.record made.0 c.store.ensures.made.few room) during held arrays
-    (subst (λ (l : List Bool). MayStore n was l during held arrays) (sym c.members.ensures) may) is_firm in
-    let storing = lasting.while_storing a b missing arrays x on (g.met.S.Shelf.is_shelf c.find_array.new.shelf) h_b enters.bearable enough firm n s after (g.met.S.Shelf.is_shelf c.open_log.new.shelf) h_n (λ i. c.open_log.ensures.ran.on.others (drive i) (λ none. none))
-    o was opened left.0 left.1 is_of made.0 made.1 stores in
-    then_run on first (then_run after opening storing)
+returns-in_err-store-clause-outlasts g c = outlasts g (goal.at.returns-in_err-store-clause-outlasts g c).After-store
 
 pub returns-clause-outlasts : goal.returns-clause-outlasts
-returns-clause-outlasts g c h missing next boot arrays enters entry =
-    let a = g.S.Shelf.shelf c.args.shelf.now in
-    let b = g.S.Shelf.shelf c.find_array.new.shelf in
-    let n = g.S.Shelf.shelf c.open_log.new.shelf in
-    let f = c.in_ok-found.found in
-    let x = f.loaded in
-    let ps : List (List AnyFact) = patches f.memory.memory.tables in
-    let on = c.find_array.ensures.ran.on.continues in
-    let h_b = on.honest h in
-    let firm : IsFoundFirmly b x missing arrays =
-    subst (λ (r : Result FoundArray OpenFault). IfOk r (λ y. (m : Conditions) (t : BootSlot) (k : BootRecord) (l : List Array) → Enters a m l → EntersFirmly a m t k → IsFoundFirmly b y.loaded m l))
-    c.in_ok-found.was (c.find_array.ensures.firmly h) missing next boot arrays enters entry in
-    let enough : b.drives ≤ set_count x.drives + 2 = subst (λ (r : Result FoundArray OpenFault). IfOk r (λ y. b.drives ≤ set_count y.loaded.drives + 2)) c.in_ok-found.was c.find_array.ensures.enough in
-    let tables : (during : Conditions) → IsFoundOn b x during arrays → (base : Array) × HasTables b x f.memory ps base =
-    λ during is. subst (λ (r : Result FoundArray OpenFault). IfOk r (λ y. (m : Conditions) (l : List Array) → IsFoundOn b y.loaded m l → (base : Array) × HasTables b y.loaded y.memory (patches y.memory.memory.tables) base))
-    c.in_ok-found.was (c.find_array.ensures.tables h) during arrays is in
-    let opens : (during : Conditions) → IsFoundOn b x during arrays → AreSoundLogs x.record during → LeavesOnly b n (StandsOnceBack b during arrays) =
-    λ during is logs. let has = tables during is in c.open_log.ensures.once_back h_b x during arrays ps has.0 refl refl is has.1 logs in
-    let first = weaker (λ stop again. lasting.back_again a missing arrays stop again) (c.find_array.ensures.again h missing next boot arrays enters entry) in
-    let opening = lasting.while_opening a b missing arrays x on (g.met.S.Shelf.is_shelf c.find_array.new.shelf) h_b enters.bearable enough firm n opens in
-    let s = g.S.Shelf.shelf c.store.new.shelf in
-    let o = c.in_ok-opened.opened in
-    let was = c.in_ok-register.register in
-    let now = c.store.new.self in
-    let after = c.open_log.ensures.ran.on.continues in
-    let h_n = after.honest h_b in
-    let lawful : IsLawfulLoad (geometry_of b) x = subst (λ (r : Result FoundArray OpenFault). IfOk r (λ y. IsLawfulLoad (geometry_of b) y.loaded)) c.in_ok-found.was c.find_array.ensures.lawful in
-    let made : (was.record ≡ x.record) × (was.drives ≡ x.drives) = subst (λ (r : Result Register NoMemory). IfOk r (λ y. (y.record ≡ x.record) × (y.drives ≡ x.drives))) c.in_ok-register.was c.new.ensures in
-    let is_of : IsRegisterOf (geometry_of n) was = record {
-      lawful = subst (λ (r : BootRecord). IsRecordOf (geometry_of n) r) (sym made.0) (subst (λ (k : Geometry). IsRecordOf k x.record) (same_shelf after) lawful.lawful);
-      named = λ i m. subst (λ (r : BootRecord). IsMember r.members.drives i) (sym made.0) (lawful.named i (subst (λ (l : List _). IsMember l i) made.1 m));
-    } in
-    let opened : (during : Conditions) → IsFoundOn b x during arrays → (qs : List (List AnyFact)) × (base : Array) × IsLogOpenOn n x during arrays qs base o =
-    λ during is. let has = tables during is in (
-      ps,
-      has.0,
-      (subst (λ (r : Result OpenedLog LogFault). IfOk r (λ y. (z : Loaded) (m : Conditions) (l : List Array) (qs : List (List AnyFact)) (k : Array) → z.record.members.nvrams ≡ x.record.members.nvrams → z.record.flushed ≡ x.record.flushed
-          → IsFoundOn b z m l → HasTables b z f.memory qs k → IsLogOpenOn n z m l qs k y)) c.in_ok-opened.was (c.open_log.ensures.opened_on h_b)) x during arrays ps has.0 refl refl is has.1,
-    ) in
-    let left : IsFewer x.record.members.nvrams o.log.members × IsSome o.log.members =
-    subst (λ (r : Result OpenedLog LogFault). IfOk r (λ y. IsFewer x.record.members.nvrams y.log.members × IsSome y.log.members)) c.in_ok-opened.was c.open_log.ensures.members in
-    let stores : x.record.generation < 2 ^ 48 - 16 → (during : Conditions) (held : Content) → MayStore n was o.log.members during held arrays → IsFirm n was during → LeavesOnly n s (StandsAgain n during arrays) =
-    λ room during held may is_firm. c.store.ensures.outlasts h_n (lasting.room_left x.record was.record now.record made.0 c.store.ensures.made.few room) during held arrays
-    (subst (λ (l : List Bool). MayStore n was l during held arrays) (sym c.members.ensures) may) is_firm in
-    let storing = lasting.while_storing a b missing arrays x on (g.met.S.Shelf.is_shelf c.find_array.new.shelf) h_b enters.bearable enough firm n s after (g.met.S.Shelf.is_shelf c.open_log.new.shelf) h_n (λ i. c.open_log.ensures.ran.on.others (drive i) (λ none. none))
-    o was opened left.0 left.1 is_of made.0 made.1 stores in
-    then_run on first (then_run after opening storing)
+returns-clause-outlasts g c = outlasts g (goal.at.returns-clause-outlasts g c).After-store
