@@ -1,5 +1,5 @@
 // The device calls of logged requests over files, in C: for each request of its input (a line, behind a write's line its data) it makes the calls that the
-// program makes for it, in the same order, those of checkpoints among them, and answers `ok`. Which they are a file says, as `array_calls trace` prints it:
+// program makes for it, in the same order, those of checkpoints among them, and answers `ok`. Which they are a file says, as `array_histories trace` prints it:
 // a letter (write, sync or read), the device (a drive or an NVRAM device, and its number), the place and the size; a line `reply` ends a request's calls.
 // A command is written to the log as it came; checkpoints write other bytes than the program's, as many, and compute nothing.
 // Usage: loop TRACE. It checks nothing, and opens nothing but that file and those of ./shelf.

@@ -1,17 +1,26 @@
 //! Random histories of sessions over devices in memory: stops at any call on a device, devices that fail, are pulled and come back, or come back blank,
-//! and takeovers that are stopped again. Nothing that was acknowledged may be lost. Its two words are a seed and how many histories there are.
+//! and takeovers that are stopped again. Nothing that was acknowledged may be lost. Its words are a seed and how many histories there are.
+//!
+//! With a third word, `calls`, it first counts the calls on devices that a new array, an opening and each kind of request make, and prints a row for each,
+//! which `bench/calls` shows beside those that docs/ARCHITECTURE.md derives. With the word `trace` and a number it prints each call of so many writes of 64
+//! sectors and nothing else, which `bench/writes` makes once more in C.
 #![tactic(auto)]
 
+mod counting;
 mod counts;
 mod devices;
 mod history;
+mod measured;
 mod model;
 mod random;
 mod request;
 mod scenes;
 mod text;
+mod tracing;
 
 use crate::history::{History, Told, Trouble};
+use crate::measured::print_calls;
+use crate::tracing::print_trace;
 use std::alloc::Global;
 use std::process::ExitCode;
 use std::{env, io};
@@ -26,19 +35,40 @@ struct Plan {
     count: u64,
 }
 
-fn planned(rt: &HostRuntime) -> io::Result<Option<Plan>> {
+/// What the words ask for.
+#[derive(Clone, Copy)]
+enum Asked {
+    Histories(Plan),
+    /// The calls on devices, and then histories.
+    CallsAndHistories(Plan),
+    /// Each call of so many writes.
+    Trace(u16),
+}
+
+/// Reads a seed, how many histories there are, and the word behind them, if there is one.
+fn planned(seed: &str, count: &str, word: Option<&str>) -> Option<Asked> {
+    let (Ok(seed), Ok(count)) = (seed.parse::<u64>(), count.parse::<u64>()) else {
+        return None;
+    };
+    let plan = Plan { seed, count };
+    match word {
+        None => Some(Asked::Histories(plan)),
+        Some("calls") => Some(Asked::CallsAndHistories(plan)),
+        Some(_) => None,
+    }
+}
+
+fn asked_by_words(rt: &HostRuntime) -> io::Result<Option<Asked>> {
     let mut words = env::args(rt)?;
     words.next();
-    let Some(seed) = words.next() else {
+    let (Some(first), Some(second)) = (words.next(), words.next()) else {
         return Ok(None);
     };
-    let Some(count) = words.next() else {
-        return Ok(None);
-    };
-    match (seed.parse::<u64>(), count.parse::<u64>()) {
-        (Ok(seed), Ok(count)) => Ok(Some(Plan { seed, count })),
-        _ => Ok(None),
+    let third = words.next();
+    if first.as_str() == "trace" {
+        return Ok(second.parse::<u16>().ok().map(Asked::Trace));
     }
+    Ok(planned(first.as_str(), second.as_str(), third.as_deref()))
 }
 
 /// Why a plan isn't carried out: which history, and the session in it.
@@ -122,8 +152,16 @@ fn run(rt: &HostRuntime, plan: Plan) -> io::Result<ExitCode> {
 }
 
 fn main(rt: HostRuntime) -> io::Result<ExitCode> {
-    match planned(&rt)? {
-        Some(plan) => run(&rt, plan),
+    match asked_by_words(&rt)? {
+        Some(Asked::Histories(plan)) => run(&rt, plan),
+        Some(Asked::CallsAndHistories(plan)) => {
+            print_calls(&rt)?;
+            run(&rt, plan)
+        }
+        Some(Asked::Trace(count)) => {
+            print_trace(&rt, count)?;
+            Ok(ExitCode::from(0))
+        }
         None => {
             println!(rt; "two numbers are wanted: a seed, and how many histories")?;
             Ok(ExitCode::from(3))

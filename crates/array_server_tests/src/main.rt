@@ -1,5 +1,6 @@
 //! Tests of sessions over a world in memory: what one session wrote the next one reads, which status each end has, and transcripts.
 //! Sessions are stopped at each call or lose devices, make checkpoints and merges, or find tables on the drives, and the next one reads what it should.
+//! A view of shelves in all states tells what it should, with the status that `serve` has then, and makes reads alone.
 //! It is a program, which does nothing but for its tests: no crate stands on it.
 #![tactic(auto)]
 
@@ -27,5 +28,9 @@ mod stopping;
 mod tables;
 #[cfg(test)]
 mod transcripts;
+#[cfg(test)]
+mod viewing;
+#[cfg(test)]
+mod views;
 
 fn main(_rt: HostRuntime) {}

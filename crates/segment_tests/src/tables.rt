@@ -123,12 +123,12 @@ fn load(
         return Err(Missing);
     }
     match load_tables(alloc, world, boot, missing) {
-        Ok(tables) => Ok(Ok([
-            tables.objects.len(),
-            tables.mediums.len(),
-            tables.addresses.len(),
-            tables.segments.len(),
-            tables.elisions.len(),
+        Ok(loaded) => Ok(Ok([
+            loaded.tables.objects.len(),
+            loaded.tables.mediums.len(),
+            loaded.tables.addresses.len(),
+            loaded.tables.segments.len(),
+            loaded.tables.elisions.len(),
         ])),
         Err(fault) => Ok(Err(fault)),
     }

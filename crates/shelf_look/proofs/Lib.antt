@@ -5,5 +5,5 @@ pub mod Heads
 pub mod Lifting
 pub mod Logs
 pub mod Making
-pub mod Ranging
+pub mod Reading
 pub mod Records

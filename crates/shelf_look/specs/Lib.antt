@@ -1,5 +1,4 @@
 pub mod Causes
-pub mod Shown
 pub mod Tables
 pub mod Log
 pub mod Opening
@@ -8,3 +7,6 @@ pub mod Sides
 pub mod Numbers
 pub mod Found
 pub mod Looking
+pub mod Reads
+pub mod ReadsLaws
+pub mod Viewing

@@ -47,8 +47,8 @@ fn named_by(patches: &Patches) -> [TableCounts; TABLES] {
 pub fn counts_of(opening: &Opening) -> [TableCounts; TABLES] {
     let mut counts = named_by(&opening.loaded.record.patches);
     counts[0].visible = opening.memory.len();
-    counts[1].visible = opening.shown.mediums.len();
-    counts[2].visible = opening.shown.addresses.len();
+    counts[1].visible = opening.visible.mediums.len();
+    counts[2].visible = opening.visible.addresses.len();
     counts[3].visible = opening.memory.segments().len();
     counts[4].visible = counts[4].facts as usize;
     counts

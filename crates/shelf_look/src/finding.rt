@@ -12,12 +12,13 @@ ghost use Rattle.shelf_look.specs.Log.{AreServed, AreWaiting, HasUnserved};
 ghost use Rattle.shelf_look.specs.declared.cause.Cause.TheVariants as causes;
 
 use crate::Cause;
-use crate::tables::{ShownFacts, read_tables};
+use crate::tables::read_tables;
 use crate::waiting::{Waiting, waiting_in};
 use array_memory::Memory;
 use boot_region::{Loaded, Regions};
 use nvram_log::NvLog;
 use std::alloc::Global;
+use table_soundness::Visible;
 use world::Shelf;
 
 /// What an opening would find: the record in force, the drives that hold it, memory of the tables that it names, and the log.
@@ -25,7 +26,7 @@ use world::Shelf;
 pub struct Opening {
     pub loaded: Loaded,
     pub memory: Memory,
-    pub shown: ShownFacts,
+    pub visible: Visible,
     pub log: NvLog,
     pub waiting: Waiting,
 }
@@ -63,7 +64,7 @@ pub fn find<S: Shelf>(alloc: Global, shelf: &mut S, regions: &Regions) -> Result
     Ok(Opening {
         loaded,
         memory: tables.memory,
-        shown: tables.shown,
+        visible: tables.visible,
         log,
         waiting,
     })

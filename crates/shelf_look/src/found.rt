@@ -34,14 +34,14 @@ pub struct Found {
 /// The objects of an opening, and how many of their sectors the tables say.
 fn objects_of(alloc: Global, opening: &Opening) -> Result<Vec<ObjectSeen>, NoMemory> {
     let mut objects = objects_in(alloc, &opening.memory)?;
-    count_stored(&mut objects, &opening.shown.addresses);
+    count_stored(&mut objects, &opening.visible.addresses);
     Ok(objects)
 }
 
 /// Its data segments, and how many of their sectors a visible address names.
 fn segments_of(alloc: Global, opening: &Opening) -> Result<Vec<SegmentSeen>, NoMemory> {
     let mut segments = segments_in(alloc, &opening.memory)?;
-    count_named(&mut segments, &opening.shown.addresses);
+    count_named(&mut segments, &opening.visible.addresses);
     Ok(segments)
 }
 

@@ -8,54 +8,20 @@ ghost use Rattle.world.specs.Ran.{Ran};
 ghost use Rattle.world.specs.Shelf.{IsSame};
 ghost use Rattle.nvram_log.specs.Read.{OnNothing};
 ghost use Rattle.shelf_look.specs.Opening.{IsAny};
-ghost use Rattle.pyramid.specs.Layers.{facts_of};
-ghost use Rattle.table_soundness.specs.Elided.{AreElidedBy};
-ghost use Rattle.table_soundness.specs.Faults.{AreLawful, facts_in};
-ghost use Rattle.shelf_look.specs.Shown.{AreShownBy};
 ghost use Rattle.shelf_look.specs.Tables.{AreOthers, AreTablesOn, IsMemoryOf, IsTablesCause};
 
 use array_memory::Memory;
 use boot_codec::{BootRecord, DRIVE_FLAGS};
-use elision::Elided;
-use pur_base::{AddressFact, MediumFact, NoMemory, Table};
 use std::alloc::Global;
 use table_loading::{TablesFault, load_tables};
-use table_soundness::{LoadedTables, elided_by, facts_shown};
+use table_soundness::Visible;
 use world::Shelf;
 
-/// The tables of a record in memory.
+/// The tables of a record in memory, and what is visible of them.
 #[derive(Drop)]
 pub struct Tables {
     pub memory: Memory,
-    pub shown: ShownFacts,
-}
-
-/// What the tables of addresses and of mediums show, each by ascending key.
-#[derive(Drop)]
-pub struct ShownFacts {
-    pub addresses: Vec<AddressFact>,
-    pub mediums: Vec<MediumFact>,
-}
-
-/// What the tables of mediums and of addresses show, of which that is elided.
-fn shown_by(alloc: Global, tables: &LoadedTables, elided: &Elided) -> Result<ShownFacts, NoMemory>
-    requires { AreElidedBy (facts_of tables.now.elisions.items) elided.now }
-    ensures { IfOk result (AreShownBy (facts_in tables.now)) }
-{
-    let no_mediums = elided.ranges(Table::Medium);
-    let mediums = facts_shown(alloc, &tables.mediums, no_mediums)?;
-    let no_addresses = elided.ranges(Table::Address);
-    let addresses = facts_shown(alloc, &tables.addresses, no_addresses)?;
-    Ok(ShownFacts { addresses, mediums })
-}
-
-/// What the tables of mediums and of addresses show.
-fn shown_facts(alloc: Global, tables: &LoadedTables) -> Result<ShownFacts, NoMemory>
-    requires { AreLawful tables.now }
-    ensures { IfOk result (AreShownBy (facts_in tables.now)) }
-{
-    let elided = elided_by(alloc, &tables.elisions)?;
-    shown_by(alloc, tables, &elided)
+    pub visible: Visible,
 }
 
 /// The drives that aren't among these.
@@ -85,8 +51,8 @@ pub fn read_tables<S: Shelf>(
     ensures fault { (S.shelf shelf.old).honest → IfErr result (IsTablesCause (S.shelf shelf.old) (S.shelf shelf.new) drives.now boot.now) }
 {
     let missing = others_than(drives);
-    let tables = load_tables(alloc, shelf, boot, &missing)?;
-    let shown = shown_facts(alloc, &tables)?;
+    let loaded = load_tables(alloc, shelf, boot, &missing)?;
+    let tables = loaded.tables;
     let memory = Memory::from_tables(
         alloc,
         boot,
@@ -96,5 +62,8 @@ pub fn read_tables<S: Shelf>(
         tables.segments,
         tables.elisions,
     )?;
-    Ok(Tables { memory, shown })
+    Ok(Tables {
+        memory,
+        visible: loaded.visible,
+    })
 }

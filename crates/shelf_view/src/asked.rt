@@ -1,6 +1,6 @@
 // What the command line asks for.
 use clap::{Arg, ArgAction, Command, Error};
-use shelf_words::Asked;
+use shelf_look::Asked;
 use std::alloc::Global;
 
 /// A flag of that name.

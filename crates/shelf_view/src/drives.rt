@@ -1,6 +1,6 @@
 // Which drives are there.
 use pur_base::{NoMemory, SLOTS_MAX, UNIT_BYTES};
-use shelf_words::Drives;
+use shelf_look::Drives;
 use std::fs;
 use world::Shelf;
 use world_file::Files;

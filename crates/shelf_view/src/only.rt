@@ -1,9 +1,8 @@
 // A view of a shelf of which reads alone are passed on.
-ghost use Rattle.shelf_reads.specs.Reads.{AreOnlyRead};
+ghost use Rattle.shelf_look.specs.Reads.{AreOnlyRead};
 
 use pur_base::NoMemory;
-use shelf_reads::ReadOnly;
-use shelf_words::{Asked, Drives, Told, view};
+use shelf_look::{Asked, Drives, ReadOnly, Told, view};
 use std::alloc::Global;
 use world::Shelf;
 

@@ -8,4 +8,4 @@ mod patches;
 mod tables;
 
 pub use fault::TablesFault;
-pub use loading::load_tables;
+pub use loading::{SoundTables, load_tables};

@@ -6,7 +6,7 @@ ghost use Rattle.pur_base.specs.declared.limits.TheConstants.{SECTOR_BYTES, SEGM
 ghost use Rattle.boot_codec.specs.Region.{IsRecordOf};
 ghost use Rattle.array_spec.specs.Sound.{AreSound};
 ghost use Rattle.array_spec.specs.Stored.{PatchesStand};
-ghost use Rattle.table_soundness.specs.Faults.{patches_in, AreLawful, AreNamed};
+ghost use Rattle.table_soundness.specs.Faults.{facts_in, patches_in, AreLawful, AreNamed, AreVisible};
 ghost use Rattle.world.specs.Losing.{geometry_of};
 ghost use Rattle.world.specs.Shelf.{Continues, IsSame};
 ghost use Rattle.world.specs.Writes.{WritesOnly};
@@ -19,8 +19,15 @@ use crate::tables::read_tables;
 use boot_codec::BootRecord;
 use pur_base::{NoMemory, SECTOR_BYTES, SEGMENT_SECTORS};
 use std::alloc::Global;
-use table_soundness::{LoadedTables, check};
+use table_soundness::{LoadedTables, Visible, check};
 use world::Shelf;
+
+/// The tables of a record, which are sound, and what is visible of them.
+#[derive(Drop)]
+pub struct SoundTables {
+    pub tables: LoadedTables,
+    pub visible: Visible,
+}
 
 // Room for the sectors of a segment.
 fn sector_room(alloc: Global) -> Result<Vec<u8>, NoMemory>
@@ -29,14 +36,14 @@ fn sector_room(alloc: Global) -> Result<Vec<u8>, NoMemory>
     Ok(vec![in alloc; 0; SECTOR_BYTES * SEGMENT_SECTORS as usize]?)
 }
 
-/// Loads the patches that a record names, by table, oldest first, and judges them. The set of the missing drives is given by slot.
+/// Loads the patches that a record names, by table, oldest first, judges them, and gives what is visible of them too. The set of the missing drives is given by slot.
 /// Nothing is written. A drive whose read failed is asked again for the next segment only, and each failed call is counted.
 pub fn load_tables<S: Shelf>(
     alloc: Global,
     shelf: &mut S,
     boot: &BootRecord,
     missing: &[bool],
-) -> Result<LoadedTables, TablesFault>
+) -> Result<SoundTables, TablesFault>
     requires lawful { IsRecordOf (geometry_of (S.shelf shelf.old)) boot.now }
     ensures continues { Continues (S.shelf shelf.old) (S.shelf shelf.new) }
     ensures rest { S.shelf_rest shelf.old shelf.new }
@@ -44,14 +51,15 @@ pub fn load_tables<S: Shelf>(
     ensures same { (S.shelf shelf.old).honest → (device : Device) → IsSame ((S.shelf shelf.old).disk device) ((S.shelf shelf.new).disk device) }
     ensures writes { (S.shelf shelf.old).honest → WritesOnly NoByte (S.shelf shelf.old) (S.shelf shelf.new) }
     // What stands as the patches in each view that shows the drives that aren't missing.
-    ensures stand { (S.shelf shelf.old).honest → IfOk result (λ tables. (view : View) → ShowsDrives (S.shelf shelf.old) missing.now view → StripesStandOfAll view boot.now → PatchesStand view boot.now (patches_in tables)) }
-    ensures sound { IfOk result (λ tables. AreSound (geometry_of (S.shelf shelf.new)) boot.now (patches_in tables)) }
-    ensures lawful_facts { IfOk result AreLawful }
-    ensures named { IfOk result (AreNamed boot.now) }
+    ensures stand { (S.shelf shelf.old).honest → IfOk result (λ t. (view : View) → ShowsDrives (S.shelf shelf.old) missing.now view → StripesStandOfAll view boot.now → PatchesStand view boot.now (patches_in t.tables)) }
+    ensures sound { IfOk result (λ t. AreSound (geometry_of (S.shelf shelf.new)) boot.now (patches_in t.tables)) }
+    ensures lawful_facts { IfOk result (λ t. AreLawful t.tables) }
+    ensures named { IfOk result (λ t. AreNamed boot.now t.tables) }
+    ensures visible { IfOk result (λ t. AreVisible (facts_in t.tables) t.visible) }
     ensures fault { IfErr result (λ e. IsTablesFault (S.shelf shelf.old) (S.shelf shelf.new) boot.now missing.now e) }
 {
     let mut sectors = sector_room(alloc)?;
     let tables = read_tables(alloc, shelf, &boot.patches, missing, &mut sectors)?;
-    check(alloc, boot.slots, boot.units, boot, &tables)?;
-    Ok(tables)
+    let visible = check(alloc, boot.slots, boot.units, boot, &tables)?;
+    Ok(SoundTables { tables, visible })
 }

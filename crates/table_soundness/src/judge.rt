@@ -2,13 +2,14 @@ ghost use Rattle.std.specs.Prelude.{◌≡◌, IfOk, OnOk, IfNone, IfSome};
 ghost use Rattle.pur_base.specs.declared.request.Table.{Table};
 ghost use Rattle.array_spec.specs.Sound.{AreSound};
 ghost use Rattle.boot_codec.specs.Record.{IsBootRecord};
-ghost use Rattle.table_soundness.specs.Faults.{patches_in, AreLawful, AreNamed, AreNumbersOf, IsFault, IsFirst};
+ghost use Rattle.table_soundness.specs.Faults.{facts_in, patches_in, AreLawful, AreNamed, AreNumbersOf, AreVisible, IsFault, IsFirst};
 
 use crate::fault::SoundFault;
 use crate::first::first_false;
 use crate::numbers::are_numbers_sound;
-use crate::own::own_fault;
+use crate::own::judge_own;
 use crate::tables::LoadedTables;
+use crate::visible::Visible;
 use boot_codec::BootRecord;
 use pur_base::{NoMemory, Table};
 use std::alloc::Global;
@@ -31,7 +32,7 @@ pub fn number_fault(
     Ok(first_false(objects, mediums, addresses, segments, elisions))
 }
 
-/// Whether the tables are sound. It takes memory for lists of numbers and their marks alone.
+/// Judges the tables, and gives what is visible of them where they are sound. It takes memory for that, and for lists of numbers and their marks.
 /// Want of memory aside, it answers `Unsound` with the first table that fails: each table by itself, then the sequence numbers.
 pub fn check(
     alloc: Global,
@@ -39,20 +40,21 @@ pub fn check(
     units: u16,
     boot: &BootRecord,
     tables: &LoadedTables,
-) -> Result<(), SoundFault>
+) -> Result<Visible, SoundFault>
     requires boot { IsBootRecord boot.now }
     requires facts { AreLawful tables.now }
     requires named { AreNamed boot.now tables.now }
     ensures sound { OnOk result (AreSound (record { slots = slots; units = units }) boot.now (patches_in tables.now)) }
+    ensures visible { IfOk result (AreVisible (facts_in tables.now)) }
     ensures fault { (t : Table) → result ≡ Err (SoundFault.Unsound t) → IsFault (record { slots = slots; units = units }) boot.now tables.now t }
 {
-    let own = own_fault(alloc, slots, units, boot, tables)?;
-    if let Some(table) = own {
+    let own = judge_own(alloc, slots, units, boot, tables)?;
+    if let Some(table) = own.fault {
         return Err(SoundFault::Unsound(table));
     }
     let numbers = number_fault(alloc, boot.next.sequence, tables)?;
     match numbers {
         Some(table) => Err(SoundFault::Unsound(table)),
-        None => Ok(()),
+        None => Ok(own.visible),
     }
 }

@@ -1,5 +1,5 @@
 //! Whether the tables that a boot record names are sound, as they were loaded.
-//! What isn't sound is named by the first table that fails, in the order in which the tables are judged.
+//! What isn't sound is named by the first table that fails, in the order in which the tables are judged, and of sound ones is given what is visible.
 #![tactic(auto)]
 
 mod addresses;
@@ -30,5 +30,5 @@ pub use elided::elided_by;
 pub use fault::SoundFault;
 pub use judge::check;
 pub use laws::laws_of_soundness;
-pub use shown::shown as facts_shown;
 pub use tables::LoadedTables;
+pub use visible::Visible;

@@ -122,20 +122,29 @@ fn first_unsound(
     Ok(first_false(objects, mediums, addresses, segments, elisions))
 }
 
-/// The first table that isn't sound by itself.
-pub fn own_fault(
+/// What is found where each table is judged by itself: the first one that isn't sound, and what is visible of all.
+#[derive(Drop)]
+pub struct Judged {
+    pub fault: Option<Table>,
+    pub visible: Visible,
+}
+
+/// Judges each table by itself.
+pub fn judge_own(
     alloc: Global,
     slots: u8,
     units: u16,
     boot: &BootRecord,
     tables: &LoadedTables,
-) -> Result<Option<Table>, NoMemory>
+) -> Result<Judged, NoMemory>
     requires boot { IsBootRecord boot.now }
     requires facts { AreLawful tables.now }
-    ensures none { IfOk result (λ o. IfNone o ((t : Table) → IsTableSound (record { slots = slots; units = units }) boot.now (facts_in tables.now) t)) }
-    ensures some { IfOk result (λ o. IfSome o (IsFirst (IsTableSound (record { slots = slots; units = units }) boot.now (facts_in tables.now)))) }
+    ensures none { IfOk result (λ j. IfNone j.fault ((t : Table) → IsTableSound (record { slots = slots; units = units }) boot.now (facts_in tables.now) t)) }
+    ensures some { IfOk result (λ j. IfSome j.fault (IsFirst (IsTableSound (record { slots = slots; units = units }) boot.now (facts_in tables.now)))) }
+    ensures visible { IfOk result (λ j. AreVisible (facts_in tables.now) j.visible) }
 {
     let elided = elided_by(alloc, &tables.elisions)?;
     let visible = visible_in(alloc, tables, &elided)?;
-    first_unsound(alloc, slots, units, boot, tables, &elided, &visible)
+    let fault = first_unsound(alloc, slots, units, boot, tables, &elided, &visible)?;
+    Ok(Judged { fault, visible })
 }

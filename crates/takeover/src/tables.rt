@@ -58,7 +58,10 @@ fn load_memory<S: Shelf>(
     ensures stand { (S.shelf shelf.old).honest → IfOk result (λ k. (view : View) → ShowsDrives (S.shelf shelf.old) missing.now view → StripesStandOfAll view boot.now → PatchesStand view boot.now (patches k.memory.tables)) }
     ensures fault { IfErr result (λ e. IsTablesFault (S.shelf shelf.old) (S.shelf shelf.new) boot.now missing.now e) }
 {
-    let tables = load_tables(alloc, shelf, boot, missing)?;
+    let loaded = load_tables(alloc, shelf, boot, missing)?;
+    // Memory makes its own.
+    drop(loaded.visible);
+    let tables = loaded.tables;
     let memory = Memory::from_tables(
         alloc,
         boot,

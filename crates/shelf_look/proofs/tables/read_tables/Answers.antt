@@ -13,25 +13,25 @@ use Rattle.shelf_look.proofs.Making.{memory_of, patches_are}
 use Rattle.shelf_look.proofs.tables.read_tables.Goals as goal
 use Rattle.boot_region.proofs.LoadingLemmas.{if_err}
 
-pub returns-in_err-tables-clause-fault : goal.returns-in_err-tables-clause-fault
-returns-in_err-tables-clause-fault g c honest =
+pub returns-in_err-loaded-clause-fault : goal.returns-in_err-loaded-clause-fault
+returns-in_err-loaded-clause-fault g c honest =
     let a = g.S.Shelf.shelf c.args.shelf.now in
     let n = g.S.Shelf.shelf c.load_tables.new.shelf in
     if_err c.from_residual.result _ _ c.from_residual.ensures.1 (λ e is.
     subst (λ (f : TablesFault). IsTablesCause a n c.args.drives.now c.args.boot.now f) (sym is)
     (tables_cause a n c.args.boot.now c.args.drives.now c.others_than-missing.result (g.met.S.Shelf.is_shelf c.args.shelf.now).drives.1 c.others_than-missing.ensures honest
-    c.in_err-tables.field-0.0 c.in_err-tables.ensures.fault))
+    c.in_err-loaded.field-0.0 c.in_err-loaded.ensures.fault))
 
 pub returns-clause-tables : goal.returns-clause-tables
 returns-clause-tables g c honest =
     let a = g.S.Shelf.shelf c.args.shelf.now in
-    let t = c.in_ok-tables.tables in
+    let t = c.in_ok-loaded.loaded.tables in
     let k = c.in_ok-memory.memory in
-    let sound = subst (λ (s : Geometry). AreSound s c.args.boot.now (patches_in t)) (same_geometry c.load_tables.ensures.continues) c.in_ok-tables.ensures.sound in
+    let sound = subst (λ (s : Geometry). AreSound s c.args.boot.now (patches_in t)) (same_geometry c.load_tables.ensures.continues) c.in_ok-loaded.ensures.sound in
     record {
       memory = memory_of (geometry_of a) c.args.boot.now t k sound c.in_ok-memory.ensures.loaded;
       stand = λ view shows stripes. subst (λ (ps : List (List AnyFact)). PatchesStand view c.args.boot.now ps)
           (sym (patches_are (geometry_of a) c.args.boot.now t k sound c.in_ok-memory.ensures.loaded))
-          (c.in_ok-tables.ensures.stand honest view
+          (c.in_ok-loaded.ensures.stand honest view
           (shows_drives a c.args.drives.now c.others_than-missing.result view (g.met.S.Shelf.is_shelf c.args.shelf.now).drives.1 c.others_than-missing.ensures shows) stripes);
     }

@@ -24,15 +24,15 @@ returns-in_err-tables-clause-fault g c =
     let lawful = lawful_patches a c.args.boot.now c.requires.lawful in
     rw (r.1, r.2) (read_fault a (g.S.Shelf.shelf c.read_tables.new.shelf) c.args.boot.now c.args.missing.now lawful.each _ c.in_err-tables.ensures.fault)
 
-pub returns-in_err-check-clause-fault : goal.returns-in_err-check-clause-fault
-returns-in_err-check-clause-fault g c =
-    let r = err_from_is_err_and c.from_residual-in_err-check.result c.from_residual-in_err-check.ensures.1 in
+pub returns-in_err-visible-clause-fault : goal.returns-in_err-visible-clause-fault
+returns-in_err-visible-clause-fault g c =
+    let r = err_from_is_err_and c.from_residual-in_err-visible.result c.from_residual-in_err-visible.ensures.1 in
     let a = g.S.Shelf.shelf c.args.shelf.now in
     let boot = c.args.boot.now in
     let tables = c.in_ok-tables.tables in
     let lawful = lawful_patches a boot c.requires.lawful in
-    rw (r.1, r.2) (check_fault a (g.S.Shelf.shelf c.read_tables.new.shelf) boot c.args.missing.now lawful.each tables c.in_ok-tables.ensures.loaded c.in_err-check.field-0.0
-    (λ x is. subst (λ (s : Geometry). IsFault s boot tables x) (same_geometry (geometry_of a) boot c.requires.lawful) (c.check.ensures.fault x (c.in_err-check.was ∙ ap Err is))))
+    rw (r.1, r.2) (check_fault a (g.S.Shelf.shelf c.read_tables.new.shelf) boot c.args.missing.now lawful.each tables c.in_ok-tables.ensures.loaded c.in_err-visible.field-0.0
+    (λ x is. subst (λ (s : Geometry). IsFault s boot tables x) (same_geometry (geometry_of a) boot c.requires.lawful) (c.check.ensures.fault x (c.in_err-visible.was ∙ ap Err is))))
 
 pub returns-clause-stand : goal.returns-clause-stand
 returns-clause-stand g c h view shows stripes =

@@ -3,13 +3,14 @@ use crate::counting::{DeviceCalls, part};
 use array_server::{init, serve};
 use pur_base::{Device, NoMemory, NvId};
 use std::alloc::Global;
+use std::io;
 use world_mem::MemWorld;
 
 /// The calls of something.
 #[derive(Drop)]
-pub struct Line {
-    pub name: &'static str,
-    pub calls: DeviceCalls,
+struct Line {
+    name: &'static str,
+    calls: DeviceCalls,
 }
 
 fn line_of(name: &'static str, world: &MemWorld, at: u64) -> Line {
@@ -58,7 +59,7 @@ fn checkpoints(alloc: Global) -> Result<Vec<u8>, NoMemory> {
 /// How often an NVRAM device is called by an opening.
 const OPENING: u64 = 3;
 
-pub fn lines(alloc: Global) -> Result<Vec<Line>, NoMemory> {
+fn lines(alloc: Global) -> Result<Vec<Line>, NoMemory> {
     let mut lines = Vec::new(alloc);
     let mut world = MemWorld::new(alloc, 11, 64, Vec::new(alloc))?;
     init(alloc, &mut world);
@@ -79,4 +80,30 @@ pub fn lines(alloc: Global) -> Result<Vec<Line>, NoMemory> {
     session(alloc, &mut world, b"fill a 1 1 2\n")?;
     lines.push(line_of("fill, where an NVRAM device fails", &world, 1))?;
     Ok(lines)
+}
+
+fn print(rt: &HostRuntime, line: &Line) -> io::Result<()> {
+    let nvram = line.calls.nvram;
+    let drives = line.calls.drives;
+    println!(rt;
+        "| {} | {} | {} | {} | {} | {} | {} |",
+        line.name, nvram.writes, nvram.syncs, nvram.reads, drives.writes, drives.syncs, drives.reads
+    )
+}
+
+fn print_all(rt: &HostRuntime, lines: &[Line]) -> io::Result<()> {
+    println!(rt; "| | NVRAM writes | syncs | reads | drive writes | syncs | reads |")?;
+    println!(rt; "|---|---|---|---|---|---|---|")?;
+    for line in lines {
+        print(rt, line)?;
+    }
+    Ok(())
+}
+
+/// Prints how many calls a new array, an opening and each kind of request make.
+pub fn print_calls(rt: &HostRuntime) -> io::Result<()> {
+    match lines(rt.alloc()) {
+        Ok(lines) => print_all(rt, &lines),
+        Err(NoMemory) => println!(rt; "no memory"),
+    }
 }

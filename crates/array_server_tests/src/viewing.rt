@@ -1,57 +1,12 @@
-// Shelves in memory, sessions over them, and views of them.
-use array_server::{init, serve};
+// Views of shelves over a world in memory, and what they tell.
+use crate::stage::session;
 use boot_codec::DRIVE_FLAGS;
 use pur_base::{Device, DriveId, NvId, Status};
-use shelf_words::{Asked, Drives, Told, view};
+use shelf_look::{Asked, Drives, Told, view};
 use std::alloc::Global;
 use std::test::Fail;
 use world::{Shelf, write_synced};
-use world_mem::{Call, Fused, MemWorld, What};
-
-/// Blank devices.
-pub fn blank_world(alloc: Global) -> Result<MemWorld, Fail> {
-    Ok(MemWorld::new(alloc, 11, 64, Vec::new(alloc))?)
-}
-
-/// A world on which an array was made.
-pub fn new_world(alloc: Global) -> Result<MemWorld, Fail> {
-    let mut world = blank_world(alloc)?;
-    match init(alloc, &mut world) {
-        Status::Done => Ok(world),
-        _ => Err(Fail::new("init")),
-    }
-}
-
-/// How a session with this input ends.
-pub fn session(alloc: Global, world: &mut MemWorld, input: &[u8]) -> Result<Status, Fail> {
-    world.feed(input)?;
-    Ok(serve(alloc, world))
-}
-
-/// What is left of a session with this input that is cut off behind so many device calls.
-pub fn cut_off(
-    alloc: Global,
-    mut world: MemWorld,
-    input: &[u8],
-    calls: u64,
-) -> Result<MemWorld, Fail> {
-    world.forget();
-    world.feed(input)?;
-    let mut fused = Fused::new(world, calls);
-    serve(alloc, &mut fused);
-    if !fused.blown() {
-        return Err(Fail::new("it wasn't cut off"));
-    }
-    Ok(fused.into_inner())
-}
-
-pub fn pull(world: &mut MemWorld, drive: u8) -> Result<(), Fail> {
-    if drive >= world.drives() {
-        return Err(Fail::new("no such drive"));
-    }
-    world.pull(Device::Drive(DriveId(drive)));
-    Ok(())
-}
+use world_mem::{Call, MemWorld, What};
 
 pub fn put_back(world: &mut MemWorld, drive: u8) -> Result<(), Fail> {
     if drive >= world.drives() {
@@ -181,6 +136,6 @@ pub fn shows_json(
 
 /// An error where a session ends in another way.
 pub fn ends(alloc: Global, world: &mut MemWorld, status: Status) -> Result<(), Fail> {
-    let end = session(alloc, world, b"")?;
+    let (end, _) = session(alloc, world, b"")?;
     is_status(end, status)
 }

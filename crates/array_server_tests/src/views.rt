@@ -1,8 +1,6 @@
-// Arrays in all states.
-use crate::stage::{
-    blank_world, close_gate, cut_off, ends, new_world, overwrite, pull, put_back, session, shows,
-    shows_json, shows_where,
-};
+// What a view tells of arrays in all states, that the status is that with which `serve` ends then, and that all its calls are reads.
+use crate::stage::{blank_world, cut_off, new_world, pull_drive, session};
+use crate::viewing::{close_gate, ends, overwrite, put_back, shows, shows_json, shows_where};
 use boot_codec::DRIVE_FLAGS;
 use pur_base::Status;
 use std::test::Fail;
@@ -74,8 +72,8 @@ fn commands_wait_and_are_brought_to_the_drives(rt: HostRuntime) -> Result<(), Fa
 fn drives_that_are_gone_and_left_out(rt: HostRuntime) -> Result<(), Fail> {
     let alloc = rt.alloc();
     let mut world = new_world(alloc)?;
-    pull(&mut world, 3)?;
-    pull(&mut world, 7)?;
+    pull_drive(&mut world, 3)?;
+    pull_drive(&mut world, 7)?;
     let mut there = [true; DRIVE_FLAGS];
     there[7] = false;
     let gone = [
@@ -95,7 +93,7 @@ fn drives_that_are_gone_and_left_out(rt: HostRuntime) -> Result<(), Fail> {
         "drive 07: a read of it failed",
     ];
     shows(alloc, &mut world, Status::Done, &out)?;
-    pull(&mut world, 0)?;
+    pull_drive(&mut world, 0)?;
     let cause = ["the array can't be opened: more than two drives don't hold the record"];
     shows(alloc, &mut world, Status::Halted, &cause)?;
     ends(alloc, &mut world, Status::Halted)
@@ -120,10 +118,14 @@ fn a_stopped_checkpoint(rt: HostRuntime) -> Result<(), Fail> {
     let alloc = rt.alloc();
     let mut world = new_world(alloc)?;
     session(alloc, &mut world, TWO)?;
-    let mut left = cut_off(alloc, world, b"checkpoint\n", 160)?;
+    let left = cut_off(alloc, world, b"checkpoint\n", 160)?;
+    if !left.is_cut {
+        return Err(Fail::new("it wasn't cut off"));
+    }
+    let mut world = left.world;
     let lines = ["log: 1 create, 0 write, 1 fill; 62 free slots"];
-    shows(alloc, &mut left, Status::Done, &lines)?;
-    ends(alloc, &mut left, Status::Done)
+    shows(alloc, &mut world, Status::Done, &lines)?;
+    ends(alloc, &mut world, Status::Done)
 }
 
 #[test]

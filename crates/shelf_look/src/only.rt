@@ -43,8 +43,8 @@ impl<S: Shelf> ReadOnly<S> {
 
 impl<S: Shelf> Shelf for ReadOnly<S> {
     ghost use Rattle.world.specs.Untold.{untold, untold_shelf};
-    ghost use Rattle.shelf_reads.specs.Reads.{IsOnlyRead};
-    ghost use Rattle.shelf_reads.specs.ReadsLaws.{only_read_stays};
+    ghost use Rattle.shelf_look.specs.Reads.{IsOnlyRead};
+    ghost use Rattle.shelf_look.specs.ReadsLaws.{only_read_stays};
 
     ghost shelf = { λ r. untold r.drives r.units r.tallies };
 

@@ -3,7 +3,7 @@ use Rattle.std.specs.Prelude.{◌≡◌}
 use Rattle.world.specs.Shelf.{Shelved}
 use Rattle.shelf_look.specs.declared.looking.Looked.{Looked}
 use Rattle.shelf_look.specs.Looking.{IsLook, end_of}
-use Rattle.shelf_words.specs.declared.viewing.Told.{Told}
+use Rattle.shelf_look.specs.declared.viewing.Told.{Told}
 
 -- the status is that with which an opening of what the devices show would end, where no call fails
 pub record IsTold (old new : Shelved) (t : Told) : Type 0 where

@@ -5,7 +5,7 @@ use Rattle.pur_base.specs.declared.device.Device.{Device}
 use Rattle.world.specs.declared.streams.Failed.{Failed}
 use Rattle.world.specs.Shelf.{Shelved, Disk, Elapses, IsSame, IsShelf, OthersStay, ReadCounts}
 use Rattle.world.proofs.Writes.{read_writes}
-use Rattle.shelf_reads.specs.Reads.{AreOnlyRead, NoByte}
+use Rattle.shelf_look.specs.Reads.{AreOnlyRead, NoByte}
 
 pub one_read : {answer : Result (Unit {0}) Failed} (a b : Shelved) (device : Device) → IsShelf a → Elapses a b → OthersStay device a b → (a.honest → IsSame (a.disk device) (b.disk device))
     → ReadCounts answer (a.disk device) (b.disk device) → AreOnlyRead a b

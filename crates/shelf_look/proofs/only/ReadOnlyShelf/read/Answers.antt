@@ -1,5 +1,5 @@
-use Rattle.shelf_reads.proofs.Reading.{one_read}
-use Rattle.shelf_reads.proofs.only.ReadOnlyShelf.read.Goals as goal
+use Rattle.shelf_look.proofs.Reading.{one_read}
+use Rattle.shelf_look.proofs.only.ReadOnlyShelf.read.Goals as goal
 
 pub returns-in-Err-clause-rest : goal.returns-in-Err-clause-rest
 returns-in-Err-clause-rest g c = record {

@@ -1,6 +1,6 @@
 use Rattle.pyramid.specs.Layers.{facts_of}
 use Rattle.table_soundness.proofs.FaultLemmas.{elided_ranges}
-use Rattle.table_soundness.proofs.own.own_fault.Goals as goal
+use Rattle.table_soundness.proofs.own.judge_own.Goals as goal
 
 pub elided_by-requires : goal.elided_by-requires
 elided_by-requires c = rw c.deref.ensures.value (elided_ranges (facts_of c.args.tables.now.elisions.items) c.requires.facts.elisions)

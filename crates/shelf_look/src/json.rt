@@ -1,16 +1,16 @@
 // A look as one JSON object.
 use crate::page::name_text;
 use crate::picture::{bar_of, free_in};
-use crate::slots::{Logs, SlotRange, front_of, ranges_of};
+use crate::slot_ranges::{Logs, SlotRange, front_of, ranges_of};
 use crate::viewing::Drives;
 use crate::words::{TABLES, cause_text, kind_text, slot_text};
-use boot_codec::DRIVE_FLAGS;
-use pur_base::NoMemory;
-use serde_json::{Map, Value, put};
-use shelf_look::{
+use crate::{
     Cause, DriveState, Found, Looked, Numbers, ObjectSeen, RecordSeen, SegmentSeen, TableCounts,
     Unit, Waiting,
 };
+use boot_codec::DRIVE_FLAGS;
+use pur_base::NoMemory;
+use serde_json::{Map, Value, put};
 use std::alloc::{AllocError, Global};
 
 type Members = Map<String, Value>;

@@ -1,6 +1,6 @@
 // The units of a drive as a bar.
+use crate::Unit;
 use pur_base::NoMemory;
-use shelf_look::Unit;
 use std::alloc::Global;
 
 /// The most letters of a bar.

@@ -5,13 +5,13 @@ ghost use Rattle.world.specs.Ran.{Ran};
 ghost use Rattle.world.specs.Shelf.{IsSame};
 ghost use Rattle.nvram_log.specs.Read.{OnNothing};
 ghost use Rattle.shelf_look.specs.Opening.{IsAny};
-ghost use Rattle.shelf_words.specs.Viewing.{IsTold};
+ghost use Rattle.shelf_look.specs.Viewing.{IsTold};
 
 use crate::json::json_of;
 use crate::words::words_of;
+use crate::{Looked, look};
 use boot_codec::DRIVE_FLAGS;
 use pur_base::{NoMemory, Status};
-use shelf_look::{Looked, look};
 use std::alloc::Global;
 use world::Shelf;
 

@@ -1,16 +1,16 @@
 // A look in words.
 use crate::page::{Page, name_text, plural};
 use crate::picture::{bar_of, free_in};
-use crate::slots::{SlotRange, front_of, ranges_of};
+use crate::slot_ranges::{SlotRange, front_of, ranges_of};
 use crate::viewing::Drives;
+use crate::{
+    Cause, DriveState, Found, Looked, ObjectSeen, RecordSeen, SegmentSeen, SlotsSeen, TableCounts,
+    Unit,
+};
 use boot_codec::{DRIVE_FLAGS, NVRAM_FLAGS};
 use boot_region::{LoadFault, Slot};
 use pur_base::{NoMemory, ObjectKind, Table};
 use session_spec::{ADDING_GROUPS, CHECKPOINT_GROUPS};
-use shelf_look::{
-    Cause, DriveState, Found, Looked, ObjectSeen, RecordSeen, SegmentSeen, SlotsSeen, TableCounts,
-    Unit,
-};
 use std::alloc::Global;
 use table_loading::TablesFault;
 

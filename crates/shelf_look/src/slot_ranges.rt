@@ -1,8 +1,8 @@
 // The slots of the log, as both NVRAM devices show them.
+use crate::SlotsSeen;
 use boot_codec::NVRAM_FLAGS;
 use log_codec::LOG_SLOTS;
 use pur_base::NoMemory;
-use shelf_look::SlotsSeen;
 use std::alloc::Global;
 
 /// What each NVRAM device shows, where it was read.
