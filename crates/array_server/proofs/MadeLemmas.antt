@@ -1,5 +1,6 @@
 -- What is said of an array that was made.
-use Rattle.std.proofs.Common.{◌≡◌, ℕ, List, [], ◌∷◌, ◌++◌, ◌≤◌, Err, refl, sym, ap, subst, ◌∙◌}
+use Rattle.std.proofs.Common.{◌≡◌, inl, inr, ℕ, List, [], ◌∷◌, ◌++◌, ◌≤◌, Err, refl, sym, ap, subst, ◌∙◌}
+use Rattle.pur_base.specs.declared.device.Device.{Device}
 use Rattle.std.proofs.lemmas.List.{append-nil}
 use Rattle.pur_base.specs.declared.reply.Reply.TheVariants as reply
 use Rattle.pur_base.specs.declared.reply.Status.{Status}
@@ -9,15 +10,14 @@ use Rattle.request_codec.specs.Writing.{Gave}
 use Rattle.pur_base.specs.Devices.{Geometry, IsBearable}
 use Rattle.array_spec.specs.Standing.{Stands}
 use Rattle.world.specs.Losing.{geometry_of}
-use Rattle.world.specs.Shelf.{Shelved, Disk, Stop, MayStop, MayLeave, OutputOnly}
+use Rattle.world.specs.Shelf.{Shelved, Disk, Stop, MayStop, MayLeave, OutputOnly, Continues, IsSame, IsShelf, LeavesOnly}
+use Rattle.world.specs.Writes.{LeavesBut, WritesOnly}
 use Rattle.world.specs.Streams.{Streamed, SameStream}
-use Rattle.boot_region.specs.Regions.{CountsStay}
 use Rattle.session_spec.specs.Ends.{RisesIf, is_sink}
-use Rattle.session_spec.specs.Entering.{LeftOutAreNamedByNone, AreRead, HasRoom}
-use Rattle.session_spec.specs.Making.{none_missing, AreClean, IsMade, Makes, MakesBy, ShowsBody}
-use Rattle.shelf_init.specs.Blank.{GivesBody, IsBlank}
-use Rattle.shelf_init.specs.Counted.{NoneFailed}
-use Rattle.array_server.specs.Made.{IsCountedEnd, IsJudgedEnd, IsMadeOutput, IsMadeEnd, IsInitStatus}
+use Rattle.session_spec.specs.Entering.{LeftOutAreNamedByNone, AreRead, HasRoom, IsStanding}
+use Rattle.session_spec.specs.Making.{none_missing, AreClean, GivesBody, IsBlank, IsInMaking, IsMade, IsNoneOrEmpty, Makes, MakesBy, NoneFailed}
+use Rattle.shelf_init.specs.Laws.{StayBlank}
+use Rattle.array_server.specs.Made.{InitsOn, IsCountedEnd, IsInitEnd, IsJudgedEnd, IsMadeOutput, IsMadeEnd, IsInitStatus}
 
 pub said : (before after : List ℕ) → after ≡ before ++ (line_text reply.Done ++ sectors_text []) → IsMadeOutput status.Done before after
 said before after e = e ∙ ap (λ (x : List ℕ). before ++ x) (append-nil (line_text reply.Done))
@@ -36,7 +36,7 @@ made-counts status.Done old new is none = none
 made-counts status.Sink old new is none = none
 made-counts _ old new is none = absurd is
 
-pub made-judged : (s : Status) (old new : Shelved) → IsMadeEnd s → ¬ (ShowsBody old) → IsJudgedEnd s old new
+pub made-judged : (s : Status) (old new : Shelved) → IsMadeEnd s → IsBlank old → IsJudgedEnd s old new
 made-judged status.Done old new is none = none
 made-judged status.Sink old new is none = none
 made-judged _ old new is none = absurd is
@@ -53,19 +53,51 @@ stays-on ab bc = record {
   faults = bc.faults ∙ ab.faults;
 }
 
--- ---- a record is in force, in the words of sessions
+-- ---- at a stop
 
-pub blank-shows-none : (s : Shelved) → IsBlank s → ¬ (ShowsBody s)
-blank-shows-none s blank shows = blank (record { slot = shows.slot; body = shows.body; effective = shows.effective })
+-- where no byte may be written each device holds what it held
+kept-at : (old : Shelved) (stop : Stop) → LeavesBut (λ d i. ⊥) old stop → (d : Device) → MayLeave (old.disk d) (stop.image d)
+kept-at old stop left d = let may = left.bytes d in record { size = may.size; is_byte = may.is_byte; clean = λ i clean. may.same i clean (λ none. none) }
 
-pub gives-shows : (s : Shelved) → GivesBody s → ShowsBody s
-gives-shows s gives = record { slot = gives.slot; body = gives.body; effective = gives.effective }
+-- before any call
+pub before-making : (s : Shelved) → IsShelf s → StayBlank s → AreClean s → (stop : Stop) → s.left_since s.moment stop → IsInMaking s stop
+before-making s is stay clean stop left =
+    let may = is.only_now stop left in
+    record {
+      untaken = may.taken;
+      kept = λ gives d. may.device d;
+      blank = λ none. stay clean none stop may;
+      told = inl may.output;
+    }
+
+-- while the devices are called nothing is given
+pub while-making : {W : Device → ℕ → Type 0} (old mid : Shelved) → WritesOnly W old mid → (GivesBody old → WritesOnly (λ d i. ⊥) old mid)
+    → (IsBlank old → LeavesOnly old mid (λ stop. IsNoneOrEmpty (geometry_of old) stop.image)) → (stop : Stop) → mid.left_since old.moment stop → IsInMaking old stop
+while-making old mid writes kept blank stop left =
+    let quiet = (writes.any_moment.each stop left).0 in
+    record {
+      untaken = quiet.taken;
+      kept = λ gives. kept-at old stop ((kept gives).any_moment.each stop left).1;
+      blank = λ none. ((blank none).each stop left).1;
+      told = inl quiet.output;
+    }
+
+-- nothing was made
+pub unmade : {W : Device → ℕ → Type 0} (s : Status) (old mid : Shelved) → (IsMadeEnd s → ⊥) → IsJudgedEnd s old mid → WritesOnly W old mid → (GivesBody old → WritesOnly (λ d i. ⊥) old mid)
+    → (AreClean old → IsBlank old → LeavesOnly old mid (λ stop. IsNoneOrEmpty (geometry_of old) stop.image)) → InitsOn s old mid
+unmade s old mid none judged writes kept blank = record { judged = judged; made = λ clean is. absurd (none is); each = λ clean. while-making old mid writes kept (blank clean) }
+
+pub same-disk : {was now : Disk} → now ≡ was → IsSame was now
+same-disk e = record { bytes = ap (λ (x : Disk). x.bytes) e; dirty = ap (λ (x : Disk). x.dirty) e }
+
+geometry-then : (a b : Shelved) → Continues a b → geometry_of b ≡ geometry_of a
+geometry-then a b on = ap (λ (n : ℕ). record { slots = n; units = b.units }) on.drives ∙ ap (λ (n : ℕ). record { slots = a.drives; units = n }) on.units
 
 -- ---- an array that was made stays so while output is given
 
 module _ (a b : Shelved) (only : OutputOnly a b) where
   geometry-on : geometry_of b ≡ geometry_of a
-  geometry-on = ap (λ (n : ℕ). record { slots = n; units = b.units }) only.continues.drives ∙ ap (λ (n : ℕ). record { slots = a.drives; units = n }) only.continues.units
+  geometry-on = geometry-then a b only.continues
 
   -- what may be left now might have been left before, with the output and the input of then
   stop-on : (stop : Stop) → MayStop b stop → MayStop a (record stop { output = a.output; taken = a.taken })
@@ -84,31 +116,52 @@ module _ (a b : Shelved) (only : OutputOnly a b) where
 
   pub made-on : IsMade a → IsMade b
   made-on m = record {
-    bearable = subst (λ (g : Geometry). IsBearable g none_missing) (sym geometry-on) m.bearable;
-    stands = λ stop may. subst (λ (g : Geometry). Stands g stop.image none_missing ([] ∷ [])) (sym geometry-on) (m.stands (before-it stop) (stop-on stop may));
-    clean = λ d sound. ap (λ (x : Disk). x.dirty) (only.disk d) ∙ m.clean d sound;
-    left_out = λ stop may. subst (λ (g : Geometry). LeftOutAreNamedByNone g stop.image none_missing) (sym geometry-on) (m.left_out (before-it stop) (stop-on stop may));
-    read = λ stop may. subst (λ (g : Geometry). AreRead g stop.image none_missing) (sym geometry-on) (m.read (before-it stop) (stop-on stop may));
-    room = λ stop may. subst (λ (g : Geometry). HasRoom g stop.image none_missing) (sym geometry-on) (m.room (before-it stop) (stop-on stop may));
+    enters = record {
+      bearable = subst (λ (g : Geometry). IsBearable g none_missing) (sym geometry-on) m.enters.bearable;
+      stands = λ stop may. subst (λ (g : Geometry). Stands g stop.image none_missing ([] ∷ [])) (sym geometry-on) (m.enters.stands (before-it stop) (stop-on stop may));
+      clean = λ d sound. ap (λ (x : Disk). x.dirty) (only.disk d) ∙ m.enters.clean d sound;
+      left_out = λ stop may. subst (λ (g : Geometry). LeftOutAreNamedByNone g stop.image none_missing) (sym geometry-on) (m.enters.left_out (before-it stop) (stop-on stop may));
+      read = λ stop may. subst (λ (g : Geometry). AreRead g stop.image none_missing) (sym geometry-on) (m.enters.read (before-it stop) (stop-on stop may));
+      room = λ stop may. subst (λ (g : Geometry). HasRoom g stop.image none_missing) (sym geometry-on) (m.enters.room (before-it stop) (stop-on stop may));
+    };
+    first = λ stop may. subst (λ (g : Geometry). IsNoneOrEmpty g stop.image) (sym geometry-on) (m.first (before-it stop) (stop-on stop may));
   }
 
+  -- once the reply is begun the array stands
+  pub told-at : (old : Shelved) → Continues old a → (a.taken ≡ old.taken) → IsBlank old → IsMade a → ((stop : Stop) → a.left_since old.moment stop → IsInMaking old stop)
+      → (stop : Stop) → b.left_since old.moment stop → IsInMaking old stop
+  told-at old on untaken blank made before stop left = elim (only.nothing_else old.moment stop on.later left) [
+    | inl was ↦ before stop was
+    | inr giving ↦
+        let may : MayStop a (before-it stop) = record { device = giving.device; counts = record { faults = giving.counts.faults; write_faults = giving.counts.write_faults }; output = refl; taken = refl } in
+        let same : geometry_of a ≡ geometry_of old = geometry-then old a on in
+        let standing : IsStanding (geometry_of a) stop.image none_missing ([] ∷ []) = record { stands = made.enters.stands (before-it stop) may; left_out = made.enters.left_out (before-it stop) may; read = made.enters.read (before-it stop) may } in
+        record {
+          untaken = giving.taken ∙ untaken;
+          kept = λ gives. absurd (blank gives);
+          blank = λ none. subst (λ (g : Geometry). IsNoneOrEmpty g stop.image) same (made.first (before-it stop) may);
+          told = inr (blank, subst (λ (g : Geometry). IsStanding g stop.image none_missing ([] ∷ [])) same standing);
+        }
+  ]
+
   pub none-failed-on : (old : Shelved) → NoneFailed old a → NoneFailed old b
-  none-failed-on old none d is = subst (λ (x : Disk). CountsStay (old.disk d) x) (sym (only.disk d)) (none d is)
+  none-failed-on old none d is = subst (λ (x : Disk). (x.faults ≡ (old.disk d).faults) × (x.write_faults ≡ (old.disk d).write_faults)) (sym (only.disk d)) (none d is)
 
 -- ---- the whole
 
 makes-by : (s : Status) (old new : Shelved) → IsInitStatus s → IsCountedEnd s old new → IsJudgedEnd s old new → (IsMadeEnd s → IsMade new) → IsMadeOutput s old.output new.output → MakesBy s old new
-makes-by status.Done old new is none blank made gave = (λ d there. (none d there).faults, blank, made tt, gave)
-makes-by status.NotBlank old new is none (body, same) made gave = (λ d there. (none d there).faults, body, same, gave)
-makes-by status.Halted old new is one judged made gave = (record { device = one.device; is_there = one.is_there; rose = one.rose }, gave)
-makes-by status.Memory old new is none same made gave = (λ d there. (none d there).faults, same, gave)
-makes-by status.Sink old new is none blank made gave = (λ d there. (none d there).faults, blank, made tt, gave.0, gave.1, gave.2, gave.3, gave.4)
+makes-by status.Done old new is none blank made gave = (none, blank, made tt, gave)
+makes-by status.NotBlank old new is none (body, same) made gave = (none, body, same, gave)
+makes-by status.Halted old new is one judged made gave = (one, gave)
+makes-by status.Memory old new is none same made gave = (none, same, gave)
+makes-by status.Sink old new is none blank made gave = (none, blank, made tt, gave.0, gave.1, gave.2, gave.3, gave.4)
 makes-by _ old new is none judged made gave = absurd is
 
-pub makes : (s : Status) (old new : Shelved) (sink given : Streamed) → RisesIf (is_sink s) sink.faults given.faults → IsInitStatus s → IsCountedEnd s old new → IsJudgedEnd s old new
-    → (AreClean old → IsMadeEnd s → IsMade new) → (old.output ≡ sink.bytes) → (new.output ≡ given.bytes) → IsMadeOutput s sink.bytes given.bytes → Makes old new sink given s
-makes s old new sink given counts is counted judged made before after gave = record {
+pub makes : (s : Status) (old new : Shelved) (sink given : Streamed) → RisesIf (is_sink s) sink.faults given.faults → IsInitEnd s old new → InitsOn s old new
+    → (old.output ≡ sink.bytes) → (new.output ≡ given.bytes) → IsMadeOutput s sink.bytes given.bytes → Makes old new sink given s
+makes s old new sink given counts ended on before after gave = record {
   sink_counts = counts;
-  made = λ clean. makes-by s old new is counted judged (made clean)
+  made = λ clean. makes-by s old new ended.is_end ended.counted on.judged (on.made clean)
       (subst (λ (x : List ℕ). IsMadeOutput s x new.output) (sym before) (subst (λ (x : List ℕ). IsMadeOutput s sink.bytes x) (sym after) gave));
+  each = on.each;
 }

@@ -25,6 +25,7 @@ use Rattle.array_engine.specs.Appending.{failed_in, lost_in}
 use Rattle.array_engine.specs.Engines.{IsAt, IsAnsweredAt, IsKeptBy, point_after}
 use Rattle.array_server.specs.Sessions.{IsServedFrom, BeginsAt, IsHeldAt}
 use Rattle.array_server.proofs.Came.{stays_awake}
+use Rattle.array_server.proofs.ItemsRead.{Behind, item-behind}
 use Rattle.array_server.proofs.Kept.{kept_stands, ready_stands_on}
 use Rattle.array_server.proofs.InHand.{in_hand_stands, in_hand_left}
 use Rattle.array_server.proofs.StillReady.{ready_still, segments_still}
@@ -54,6 +55,8 @@ pub record SoFar (told : Bool) (start now : Shelved) (e0 e : Engine) (input unre
   pub last : Point
   pub run : Along told start now first (requests input) Nothing replies last
   pub standing : IsHeldAt start e0 first → Along told start now first (requests input) (StandsFor (geometry_of start)) replies last
+  pub taken : List ℕ
+  pub whole : input ≡ taken ++ unread
   pub items : requests input ≡ front ++ requests unread
   pub count : length replies ≡ length front
   pub cuts : list_any is_cut front ≡ cut
@@ -97,6 +100,8 @@ pub begun_so_far : (told : Bool) (start : Shelved) (e0 : Engine) (input : List �
 begun_so_far told start e0 input first is honest b = record {
   replies = [];
   front = [];
+  taken = [];
+  whole = refl;
   last = first;
   run = begun told start first (requests input) Nothing is honest b.stop (λ stop device counts. tt);
   standing = λ held. begun told start first (requests input) (StandsFor (geometry_of start)) is honest b.stop (stands_now told start start start e0 first (requests input) refl b.at (λ bears. (held, b.awake)));
@@ -117,6 +122,8 @@ taken_so_far told start now mid e0 e input unread first cut s takes unlapsed =
     record {
       replies = s.replies;
       front = s.front;
+      taken = s.taken;
+      whole = s.whole;
       last = s.last;
       run = run;
       standing = λ held. taken told start now mid first s.last (requests input) (StandsFor (geometry_of start)) s.replies (s.standing held) takes unlapsed
@@ -175,6 +182,13 @@ module _ (told : Bool) (start mid between : Shelved) (e0 e e' : Engine) (input u
   pub rest : drop (length s.replies) items ≡ item ∷ requests unread'
   unfolding next
   rest = ap (λ (l : List Item). drop (length s.replies) l) s.items ∙ drop_at s.front (requests unread) (length s.replies) (sym s.count) ∙ next
+
+  -- the bytes of the item
+  own : Behind unread unread'
+  own = item-behind unread unread' item is
+
+  whole_more : input ≡ (s.taken ++ own.0) ++ unread'
+  whole_more = s.whole ∙ ap (λ (l : List ℕ). s.taken ++ l) own.1 ∙ sym (append_assoc s.taken own.0 unread')
 
   pub items_more : items ≡ (s.front ++ item ∷ []) ++ requests unread'
   items_more = s.items ∙ ap (λ (l : List Item). s.front ++ l) next ∙ sym (append_assoc s.front (item ∷ []) (requests unread'))
@@ -306,6 +320,8 @@ module _ (told : Bool) (start mid between : Shelved) (e0 e e' : Engine) (input u
       answered cut cuts = record {
         replies = s.replies ++ q ∷ [];
         front = s.front ++ item ∷ [];
+        taken = s.taken ++ own.0;
+        whole = whole_more;
         last = new;
         run = run_given;
         standing = λ held. given told start between after first s.last new items (requests unread') item (StandsFor shelf) s.replies q (standing_called held) gives unlapsed_then rest x.whole answers_now (in_hand held)

@@ -1,12 +1,12 @@
 -- What the making of a new array answers and leaves.
 use Rattle.std.specs.Prelude.{◌≡◌, ℕ, ◌<◌, List, ◌++◌, length, ⊤}
+use Rattle.pur_base.specs.declared.device.Device.{Device}
 use Rattle.pur_base.specs.declared.reply.Reply.TheVariants as reply
 use Rattle.pur_base.specs.declared.reply.Status.{Status}
 use Rattle.pur_base.specs.declared.reply.Status.TheVariants as status
 use Rattle.pur_base.specs.Replies.{line_text}
-use Rattle.world.specs.Shelf.{Shelved}
-use Rattle.session_spec.specs.Making.{AreSame, ShowsBody}
-use Rattle.shelf_init.specs.Counted.{NoneFailed, OneFailed}
+use Rattle.world.specs.Shelf.{Shelved, Stop}
+use Rattle.session_spec.specs.Making.{AreClean, AreSame, GivesBody, IsBlank, IsInMaking, IsMade, NoneFailed, OneFailed}
 
 -- the ways in which the making ends that was done
 abbrev pub IsMadeEnd : Status → Type 0
@@ -36,7 +36,19 @@ IsMadeOutput _ before after = after ≡ before
 
 -- no record was in force where it was made, and where one is the devices stay as they were
 abbrev pub IsJudgedEnd : Status → Shelved → Shelved → Type 0
-IsJudgedEnd status.NotBlank old new = ShowsBody old × AreSame old new
+IsJudgedEnd status.NotBlank old new = GivesBody old × AreSame old new
 IsJudgedEnd status.Memory old new = AreSame old new
 IsJudgedEnd status.Halted old new = ⊤
-IsJudgedEnd _ old new = ¬ (ShowsBody old)
+IsJudgedEnd _ old new = IsBlank old
+
+-- how it ends, and what that tells of calls: without memory none was made
+pub record IsInitEnd (ended : Status) (old new : Shelved) : Type 0 where
+  pub is_end : IsInitStatus ended
+  pub counted : IsCountedEnd ended old new
+  pub memory : ended ≡ status.Memory → (d : Device) → new.disk d ≡ old.disk d
+
+-- What it does to honest devices: what stands there at its end and, where nothing was dirty, at each stop.
+pub record InitsOn (ended : Status) (old new : Shelved) : Type 0 where
+  pub judged : IsJudgedEnd ended old new
+  pub made : AreClean old → IsMadeEnd ended → IsMade new
+  pub each : AreClean old → (stop : Stop) → new.left_since old.moment stop → IsInMaking old stop

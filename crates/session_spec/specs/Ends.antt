@@ -32,8 +32,10 @@ pub record IsAnswered (input : List ℕ) (qs : List Answer) (left : List ℕ) : 
 
 -- The input is answered up to what was taken behind the last whole item, which holds no whole one, and to what is behind that.
 pub record IsAnsweredUpTo (input : List ℕ) (qs : List Answer) (behind : List ℕ) : Type 0 where
-  pub front : List Item
+  pub taken : List ℕ
   pub rest : List ℕ
+  pub whole : input ≡ taken ++ (rest ++ behind)
+  pub front : List Item
   pub items : requests input ≡ front ++ requests (rest ++ behind)
   pub count : length qs ≡ length front
   pub part : is_whole rest ≡ false

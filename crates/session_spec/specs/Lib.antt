@@ -1,3 +1,4 @@
+pub mod First
 pub mod Entering
 pub mod Faring
 pub mod Reaching

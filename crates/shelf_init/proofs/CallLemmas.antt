@@ -24,10 +24,11 @@ use Rattle.boot_region.specs.Members.{IsMember, IsDrive, IsOneOf, OnMembers, OnS
 use Rattle.boot_region.specs.Regions.{CountsStay}
 use Rattle.boot_region.proofs.ShownLemmas.{closed_shows, gates_stay, bodies_same, other_same, opened, body_low, body_is, shows_written}
 use Rattle.boot_region.proofs.Stored.{rises_between}
-use Rattle.shelf_init.specs.First.{all_drives, first_record}
-use Rattle.shelf_init.specs.Blank.{IsBlank, IsClean, IsShut, IsEmptied, HasNoCommand, HidesOnly, IsNvram, OnAllOpen, OnBootOrLog, OnLogGates}
-use Rattle.shelf_init.specs.Counted.{NoneFailed, OneFailed, TellsFailed}
-use Rattle.shelf_init.specs.Made.{IsNoneOrEmpty, IsMade}
+use Rattle.session_spec.specs.First.{all_drives, first_record}
+use Rattle.shelf_init.specs.Blank.{IsShut, IsEmptied, HasNoCommand, HidesOnly, IsNvram, OnAllOpen, OnBootOrLog, OnLogGates}
+use Rattle.session_spec.specs.Making.{IsBlank, AreClean, NoneFailed, OneFailed, IsNoneOrEmpty}
+use Rattle.shelf_init.specs.Counted.{TellsFailed}
+use Rattle.shelf_init.specs.Made.{HasFirst}
 use Rattle.shelf_init.proofs.FirstLemmas.{first_is_lawful, is_named}
 use Rattle.shelf_init.proofs.ViewLemmas.{hidden_gives_none, shut_gives_none, opening_gives_first}
 use Rattle.shelf_init.proofs.MadeLemmas.{is_made}
@@ -35,13 +36,13 @@ use Rattle.shelf_init.proofs.MadeLemmas.{is_made}
 -- ---- counts
 
 pub none_failed : (s : Shelved) → NoneFailed s s
-none_failed s = λ d on. record { faults = refl; write_faults = refl }
+none_failed s = λ d on. (refl, refl)
 
 pub none_then : (a b c : Shelved) → Continues a b → NoneFailed a b → NoneFailed b c → NoneFailed a c
 none_then a b c ab first next = λ d on.
     let x = first d on in
     let y = next d (still_of ab d on) in
-    record { faults = y.faults ∙ x.faults; write_faults = y.write_faults ∙ x.write_faults }
+    (y.0 ∙ x.0, y.1 ∙ x.1)
 
 -- a device of the one shelf is one of the other
 before_of : (a b : Shelved) → Continues a b → (d : Device) → IsOf b d → IsOf a d
@@ -71,11 +72,11 @@ tells_then a b c (Err x) ab none tells = failed_later a b c ab tells
 -- one call on one device
 pub one_ok : (a b : Shelved) (device : Device) → OthersStay device a b → CountsStay (a.disk device) (b.disk device) → NoneFailed a b
 one_ok a b device others here d on = elim (same_device d device) [
-  | inl e ↦ subst (λ (x : Device). CountsStay (a.disk x) (b.disk x)) (sym e) here
-  | inr ne ↦ let same : b.disk d ≡ a.disk d = others d ne in record { faults = ap (λ (x : Disk). x.faults) same; write_faults = ap (λ (x : Disk). x.write_faults) same }
+  | inl e ↦ subst (λ (x : Device). ((b.disk x).faults ≡ (a.disk x).faults) × ((b.disk x).write_faults ≡ (a.disk x).write_faults)) (sym e) (here.faults, here.write_faults)
+  | inr ne ↦ let same : b.disk d ≡ a.disk d = others d ne in (ap (λ (x : Disk). x.faults) same, ap (λ (x : Disk). x.write_faults) same)
 ]
 
-pub one_clean : (a b : Shelved) (device : Device) → OthersStay device a b → (b.disk device).dirty ≡ [] → IsClean a → IsClean b
+pub one_clean : (a b : Shelved) (device : Device) → OthersStay device a b → (b.disk device).dirty ≡ [] → AreClean a → AreClean b
 one_clean a b device others here clean d = elim (same_device d device) [
   | inl e ↦ subst (λ (x : Device). (b.disk x).dirty ≡ []) (sym e) here
   | inr ne ↦ ap (λ (x : Disk). x.dirty) (others d ne) ∙ clean d
@@ -116,7 +117,7 @@ module _ (a b c : Shelved) (is_a : IsShelf a) (is_b : IsShelf b) (h : a.honest) 
       (gate_still t (a.disk (drive i)).bytes (stop.image (drive i)) may.size
       (body_out i (a.disk (drive i)).bytes (stop.image (drive i)) (left_clean (a.disk (drive i)) (stop.image (drive i)) (empty.clean (drive i)) may)) ∙ empty.shut t i lt))
 
-  module _ (body : List ℕ) (spells : body ≡ spelling (first_record (geometry_of a))) (size : length body ≡ RECORD_BYTES) (clean_b : IsClean b)
+  module _ (body : List ℕ) (spells : body ≡ spelling (first_record (geometry_of a))) (size : length body ≡ RECORD_BYTES) (clean_b : AreClean b)
       (written : (i : ℕ) → IsMember (all_drives a.drives) i → Written (body_place B) body (a.disk (drive i)).bytes (b.disk (drive i)).bytes) where
     lawful : IsRecordOf (geometry_of a) (first_record (geometry_of a))
     lawful = first_is_lawful (geometry_of a) is_a.drives is_a.units
@@ -163,7 +164,7 @@ module _ (a b c : Shelved) (is_a : IsShelf a) (is_b : IsShelf b) (h : a.honest) 
             ap (λ (x : ℕ). x == 1) (left_clean (b.disk (nvram n)) (stop.image (nvram n)) (clean_b (nvram n)) (left.bytes (nvram n)) i (λ w. w) ∙ nvram_b n i) ∙ empty.no_command n i lt below
 
     -- once they are open
-    module _ (is_c : IsShelf c) (bc : Continues b c) (clean_c : IsClean c) (w2 : WritesOnly (OnMembers (all_drives a.drives) (gate_place B) SECTOR_BYTES) b c)
+    module _ (is_c : IsShelf c) (bc : Continues b c) (clean_c : AreClean c) (w2 : WritesOnly (OnMembers (all_drives a.drives) (gate_place B) SECTOR_BYTES) b c)
         (from : List ℕ) (opens : from ≡ gate_bytes true) (gates : (i : ℕ) → IsMember (all_drives a.drives) i → Written (gate_place B) from (b.disk (drive i)).bytes (c.disk (drive i)).bytes) where
       same_c : geometry_of a ≡ geometry_of c
       same_c = sym (same_geometry b c bc ∙ same_geometry a b ab)
@@ -182,18 +183,18 @@ module _ (a b c : Shelved) (is_a : IsShelf a) (is_b : IsShelf b) (h : a.honest) 
       no_command_c : HasNoCommand c
       no_command_c n i lt below = ap (λ (x : ℕ). x == 1) ((w2.device (nvram n)).bytes i (λ none. none) ∙ nvram_b n i) ∙ empty.no_command n i lt below
 
-      pub stored : IsMade c
+      pub stored : HasFirst c
       stored = is_made c is_c clean_c shows shut_c no_command_c
 
 -- ---- the logs are emptied
 
-module _ (a b c : Shelved) (ab : Continues a b) (clean : IsClean b) (shut : (slot : BootSlot) → IsShut b slot) (w : WritesOnly OnLogGates b c) where
+module _ (a b c : Shelved) (ab : Continues a b) (clean : AreClean b) (shut : (slot : BootSlot) → IsShut b slot) (w : WritesOnly OnLogGates b c) where
   pub while_clearing : (stop : Stop) → LeavesBut OnLogGates b stop → IsNoneOrEmpty (geometry_of a) stop.image
   while_clearing stop left = shut_gives_none (geometry_of a) stop.image (λ t i lt.
       closed_shows t (stop.image (drive i))
       (ap (λ (x : ℕ). x == 1) (left_clean (b.disk (drive i)) (stop.image (drive i)) (clean (drive i)) (left.bytes (drive i)) (gate_place t) (λ none. none)) ∙ shut t i (omega (arith, lt, ab.drives))))
 
-  pub emptied : Continues b c → IsClean c → HasNoCommand c → IsEmptied c
+  pub emptied : Continues b c → AreClean c → HasNoCommand c → IsEmptied c
   emptied bc clean_c none = record {
     clean = clean_c;
     shut = λ t i lt. ap (λ (x : ℕ). x == 1) ((w.device (drive i)).bytes (gate_place t) (λ none. none)) ∙ shut t i (omega (arith, lt, bc.drives));
@@ -224,17 +225,17 @@ module _ (a b c : Shelved) (is_a : IsShelf a) (is_b : IsShelf b) (h : a.honest) 
   pub storing_first : LeavesOnly a b (λ stop. IsNoneOrEmpty (geometry_of a) stop.image)
   storing_first = weaker (while_writing a b b is_a is_b h ab empty w1) w1.any_moment
 
-  pub storing_both : (body : List ℕ) → body ≡ spelling (first_record (geometry_of a)) → length body ≡ RECORD_BYTES → IsClean b
+  pub storing_both : (body : List ℕ) → body ≡ spelling (first_record (geometry_of a)) → length body ≡ RECORD_BYTES → AreClean b
       → ((i : ℕ) → IsMember (all_drives a.drives) i → Written (body_place B) body (a.disk (drive i)).bytes (b.disk (drive i)).bytes)
       → WritesOnly (OnMembers (all_drives a.drives) (gate_place B) SECTOR_BYTES) b c → LeavesOnly a c (λ stop. IsNoneOrEmpty (geometry_of a) stop.image)
   storing_both body spells size clean_b written w2 =
       then_run ab storing_first (weaker (while_opening a b b is_a is_b h ab empty w1 body spells size clean_b written) w2.any_moment)
 
-  pub if_stored : (answer : Result (Unit {0}) Failed) (body : List ℕ) → body ≡ spelling (first_record (geometry_of a)) → length body ≡ RECORD_BYTES → IsClean b
+  pub if_stored : (answer : Result (Unit {0}) Failed) (body : List ℕ) → body ≡ spelling (first_record (geometry_of a)) → length body ≡ RECORD_BYTES → AreClean b
       → ((i : ℕ) → IsMember (all_drives a.drives) i → Written (body_place B) body (a.disk (drive i)).bytes (b.disk (drive i)).bytes)
-      → IsShelf c → Continues b c → WritesOnly (OnMembers (all_drives a.drives) (gate_place B) SECTOR_BYTES) b c → OnOk answer (IsClean b → IsClean c)
+      → IsShelf c → Continues b c → WritesOnly (OnMembers (all_drives a.drives) (gate_place B) SECTOR_BYTES) b c → OnOk answer (AreClean b → AreClean c)
       → (from : List ℕ) → from ≡ gate_bytes true → OnOk answer ((i : ℕ) → IsMember (all_drives a.drives) i → Written (gate_place B) from (b.disk (drive i)).bytes (c.disk (drive i)).bytes)
-      → OnOk answer (IsMade c)
+      → OnOk answer (HasFirst c)
   if_stored (Ok x) body spells size clean_b written is_c bc w2 clean from opens gates =
       stored a b c is_a is_b h ab empty w1 body spells size clean_b written is_c bc (clean clean_b) w2 from opens gates
   if_stored (Err x) body spells size clean_b written is_c bc w2 clean from opens gates = tt
@@ -243,7 +244,7 @@ module _ (a b c : Shelved) (ab : Continues a b) (bc : Continues b c) (blank : Is
   pub making_first : LeavesOnly a b (λ stop. IsNoneOrEmpty (geometry_of a) stop.image)
   making_first = weaker (λ stop hides. hidden_gives_none a stop.image blank hides) closing
 
-  pub making_two : IsClean b → ((slot : BootSlot) → IsShut b slot) → WritesOnly OnLogGates b c → LeavesOnly a c (λ stop. IsNoneOrEmpty (geometry_of a) stop.image)
+  pub making_two : AreClean b → ((slot : BootSlot) → IsShut b slot) → WritesOnly OnLogGates b c → LeavesOnly a c (λ stop. IsNoneOrEmpty (geometry_of a) stop.image)
   making_two clean shut w = then_run ab making_first (weaker (while_clearing a b c ab clean shut w) w.any_moment)
 
 -- the record's bytes, for the shelf as it is by then

@@ -21,7 +21,8 @@ use Rattle.world.proofs.Moments.{then_run, weaker}
 use Rattle.boot_region.specs.declared.regions.TheConstants.{REGION_BYTES}
 use Rattle.boot_region.specs.Members.{IsMember, OnMembers}
 use Rattle.boot_region.proofs.ShownLemmas.{closed_shows, bodies_same, other_same, gate_closes, gate_size, closed_begins}
-use Rattle.shelf_init.specs.Blank.{IsClean, IsShut, IsReadIn, GatesAreRead, HidesOnly, OnOpen}
+use Rattle.shelf_init.specs.Blank.{IsShut, IsReadIn, GatesAreRead, HidesOnly, OnOpen}
+use Rattle.session_spec.specs.Making.{AreClean}
 use Rattle.shelf_init.proofs.CallLemmas.{left_clean}
 
 -- of a drive, a write in the gate of a slot that was open at most hides the body behind it
@@ -66,7 +67,7 @@ module _ (a b c : Shelved) (bytes : List ℕ) (ab : Continues a b) (read : Gates
       let changes = w1.device (drive i) in
       hides_one A t (is_open (REGION_BYTES * i + gate_place A) bytes) (a.disk (drive i)).bytes (b.disk (drive i)).bytes changes.size (sym (read A i lt)) changes.bytes
 
-  second_hides : IsClean b → (stop : Stop) → LeavesBut (OnOpen bytes B) b stop → HidesOnly a stop.image
+  second_hides : AreClean b → (stop : Stop) → LeavesBut (OnOpen bytes B) b stop → HidesOnly a stop.image
   second_hides clean_b stop left t i lt =
       let may = left.bytes (drive i) in
       elim (hides_one B t (is_open (REGION_BYTES * i + gate_place B) bytes) (b.disk (drive i)).bytes (stop.image (drive i)) may.size (sym (read_b i (omega (arith, lt, ab.drives))))
@@ -79,13 +80,13 @@ module _ (a b c : Shelved) (bytes : List ℕ) (ab : Continues a b) (read : Gates
   all_shut bc first second A i lt = ap (λ (x : ℕ). x == 1) ((w2.device (drive i)).bytes (gate_place A) (λ w. omega (arith, w.1.0))) ∙ first i (omega (arith, lt, bc.drives))
   all_shut bc first second B i lt = second i lt
 
-pub while_closing_first : (a b : Shelved) (bytes : List ℕ) → IsClean a → GatesAreRead a bytes → WritesOnly (OnOpen bytes A) a b → LeavesOnly a b (λ stop. HidesOnly a stop.image)
+pub while_closing_first : (a b : Shelved) (bytes : List ℕ) → AreClean a → GatesAreRead a bytes → WritesOnly (OnOpen bytes A) a b → LeavesOnly a b (λ stop. HidesOnly a stop.image)
 while_closing_first a b bytes clean_a read w = weaker (λ stop left. λ t i lt.
     let may = left.bytes (drive i) in
     hides_one A t (is_open (REGION_BYTES * i + gate_place A) bytes) (a.disk (drive i)).bytes (stop.image (drive i)) may.size (sym (read A i lt))
     (left_clean (a.disk (drive i)) (stop.image (drive i)) (clean_a (drive i)) may)) w.any_moment
 
-pub while_closing : (a b c : Shelved) (bytes : List ℕ) (ab : Continues a b) → IsClean a → GatesAreRead a bytes → WritesOnly (OnOpen bytes A) a b → WritesOnly (OnOpen bytes B) b c → IsClean b
+pub while_closing : (a b c : Shelved) (bytes : List ℕ) (ab : Continues a b) → AreClean a → GatesAreRead a bytes → WritesOnly (OnOpen bytes A) a b → WritesOnly (OnOpen bytes B) b c → AreClean b
     → LeavesOnly a c (λ stop. HidesOnly a stop.image)
 while_closing a b c bytes ab clean_a read w1 w2 clean_b = then_run ab (while_closing_first a b bytes clean_a read w1) (weaker (second_hides a b c bytes ab read w1 w2 clean_b) w2.any_moment)
 

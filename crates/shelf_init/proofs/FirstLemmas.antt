@@ -11,7 +11,7 @@ use Rattle.boot_codec.specs.Region.{B, IsRecordOf}
 use Rattle.array_spec.specs.Meaning.{IsInForce}
 use Rattle.array_spec.proofs.Votes.{counted}
 use Rattle.boot_region.specs.Members.{IsMember}
-use Rattle.shelf_init.specs.First.{all_drives, first_record}
+use Rattle.session_spec.specs.First.{all_drives, first_record}
 
 mask_none : (m : ℕ) → mask (replicate m false) ≡ 0
 mask_none zero = refl

@@ -9,16 +9,15 @@ use Rattle.pur_base.specs.declared.device.Device.{Device}
 use Rattle.pur_base.specs.declared.device.Device.TheVariants as dev
 use Rattle.boot_codec.specs.Region.{BootSlot, A, B, other_slot, IsDecided, gate_place, votes, shown_by}
 use Rattle.world.specs.Losing.{geometry_of}
-use Rattle.world.specs.Shelf.{Shelved, Disk, Stop, IsSame, IsShelf, Continues, LeavesOnly}
+use Rattle.world.specs.Shelf.{Shelved, Disk, Stop, MayStop, IsSame, IsShelf, Continues, LeavesOnly}
 use Rattle.world.specs.Writes.{WritesOnly, LeavesBut}
 use Rattle.world.proofs.Moments.{started, weaker}
 use Rattle.boot_region.specs.declared.regions.TheConstants.{REGION_BYTES}
-use Rattle.boot_region.specs.Regions.{region_at, seen, GivesNone, IsRead, AnswerCounts}
+use Rattle.boot_region.specs.Regions.{region_at, seen, GivesNone, IsRead, AnswerCounts, CountsStay}
 use Rattle.boot_region.proofs.FoundLemmas.{same_open, same_shown, same_over}
 use Rattle.boot_region.proofs.ShownLemmas.{as_read}
-use Rattle.shelf_init.specs.Blank.{ShowsBody, GivesBody, IsBlank, IsClean, GatesAreRead, HasSilent, view_now}
-use Rattle.shelf_init.specs.Counted.{NoneFailed, OneFailed}
-use Rattle.shelf_init.specs.Made.{IsNoneOrEmpty}
+use Rattle.shelf_init.specs.Blank.{GatesAreRead, HasSilent}
+use Rattle.session_spec.specs.Making.{ShowsBody, GivesBody, IsBlank, AreClean, view_now, NoneFailed, OneFailed, IsNoneOrEmpty}
 use Rattle.shelf_init.proofs.CallLemmas.{left_clean, same_geometry}
 use Rattle.shelf_init.proofs.ViewLemmas.{hidden_gives_none}
 
@@ -74,10 +73,12 @@ module _ (old new : Shelved) (bytes : List ℕ) (answered : List Bool) (all : (i
 
   pub none_failed_in_reading : ((i : ℕ) → i < old.drives → AnswerCounts (slice_index_or answered i false) (old.disk (drive i)) (new.disk (drive i)))
       → ((n : ℕ) → new.disk (nvram n) ≡ old.disk (nvram n)) → NoneFailed old new
-  none_failed_in_reading counts others (dev.Drive d) on = subst (λ (b : Bool). AnswerCounts b (old.disk (drive d.0)) (new.disk (drive d.0))) (all d.0 on) (counts d.0 on)
+  none_failed_in_reading counts others (dev.Drive d) on =
+      let stay : CountsStay (old.disk (drive d.0)) (new.disk (drive d.0)) = subst (λ (b : Bool). AnswerCounts b (old.disk (drive d.0)) (new.disk (drive d.0))) (all d.0 on) (counts d.0 on) in
+      (stay.faults, stay.write_faults)
   none_failed_in_reading counts others (dev.Nv n) on =
       let same : new.disk (nvram n.0) ≡ old.disk (nvram n.0) = others n.0 in
-      record { faults = ap (λ (x : Disk). x.faults) same; write_faults = ap (λ (x : Disk). x.write_faults) same }
+      (ap (λ (x : Disk). x.faults) same, ap (λ (x : Disk). x.write_faults) same)
 
 -- a drive that didn't answer has failed
 pub one_failed : (old new : Shelved) (answered : List Bool) → HasSilent answered → length answered ≡ old.drives
@@ -99,21 +100,25 @@ module _ (old new : Shelved) (on : Continues old new) (same : (d : Device) → I
   pub still_blank : IsBlank old → IsBlank new
   still_blank blank s = blank (subst (λ (v : View). ShowsBody (geometry_of old) v) same_view (subst (λ (g : Geometry). ShowsBody g (view_now new)) (same_geometry old new on) s))
 
-  pub still_clean : IsClean old → IsClean new
+  pub still_clean : AreClean old → AreClean new
   still_clean clean d = (same d).dirty ∙ clean d
 
 -- a stop leaves what the devices hold
-unwritten : (s : Shelved) → IsClean s → (stop : Stop) → LeavesBut (λ d i. ⊥) s stop → (d : Device) → stop.image d ≡ (s.disk d).bytes
+unwritten : (s : Shelved) → AreClean s → (stop : Stop) → LeavesBut (λ d i. ⊥) s stop → (d : Device) → stop.image d ≡ (s.disk d).bytes
 unwritten s clean stop left d =
     let may = left.bytes d in
     ext_get_or 0 (stop.image d) (s.disk d).bytes may.size (λ k lt. left_clean (s.disk d) (stop.image d) (clean d) may k (λ none. none))
 
-pub while_reading : (old new : Shelved) → IsClean old → IsBlank old → WritesOnly (λ d i. ⊥) old new → LeavesOnly old new (λ stop. IsNoneOrEmpty (geometry_of old) stop.image)
+pub while_reading : (old new : Shelved) → AreClean old → IsBlank old → WritesOnly (λ d i. ⊥) old new → LeavesOnly old new (λ stop. IsNoneOrEmpty (geometry_of old) stop.image)
 while_reading old new clean blank w = weaker (λ stop left. hidden_gives_none old stop.image blank (λ t i lt. inr (ap (shown_by t) (unwritten old clean stop left (drive i))))) w.any_moment
 
-pub at_start : (s : Shelved) → IsShelf s → IsClean s → IsBlank s → LeavesOnly s s (λ stop. IsNoneOrEmpty (geometry_of s) stop.image)
-at_start s is clean blank = started s (λ stop. IsNoneOrEmpty (geometry_of s) stop.image) is
-    (λ stop may. hidden_gives_none s stop.image blank (λ t i lt. inr (ap (shown_by t) (as_read (s.disk (drive i)) (stop.image (drive i)) (clean (drive i)) (may.device (drive i))))))
+-- nor does a stop change that before any call
+pub now_blank : (s : Shelved) → AreClean s → IsBlank s → (stop : Stop) → MayStop s stop → IsNoneOrEmpty (geometry_of s) stop.image
+now_blank s clean blank stop may =
+    hidden_gives_none s stop.image blank (λ t i lt. inr (ap (shown_by t) (as_read (s.disk (drive i)) (stop.image (drive i)) (clean (drive i)) (may.device (drive i)))))
+
+pub at_start : (s : Shelved) → IsShelf s → AreClean s → IsBlank s → LeavesOnly s s (λ stop. IsNoneOrEmpty (geometry_of s) stop.image)
+at_start s is clean blank = started s (λ stop. IsNoneOrEmpty (geometry_of s) stop.image) is (now_blank s clean blank)
 
 -- each drive has answered, in other words
 pub all_of : (xs answered : List Bool) (drives : ℕ) → xs ≡ answered → length answered ≡ drives → ((i : ℕ) → i < length xs → slice_index_or xs i false ≡ true) → (i : ℕ) → i < drives → slice_index_or answered i false ≡ true

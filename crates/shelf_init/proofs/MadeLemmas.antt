@@ -19,11 +19,12 @@ use Rattle.session_spec.specs.Entering.{AreRead, HasRoom}
 use Rattle.world.specs.Losing.{geometry_of}
 use Rattle.world.specs.Shelf.{Shelved, Stop, MayStop, IsShelf}
 use Rattle.boot_region.proofs.ShownLemmas.{as_read, closed_shows, shown_body}
-use Rattle.shelf_init.specs.First.{first_record}
-use Rattle.shelf_init.specs.Blank.{IsClean, IsShut, HasNoCommand}
-use Rattle.shelf_init.specs.Made.{all_sound, IsMade}
+use Rattle.session_spec.specs.First.{first_record}
+use Rattle.shelf_init.specs.Blank.{IsShut, HasNoCommand}
+use Rattle.session_spec.specs.Making.{AreClean, none_missing}
+use Rattle.shelf_init.specs.Made.{HasFirst}
 use Rattle.shelf_init.proofs.FirstLemmas.{first_is_lawful, is_named, named_below}
-use Rattle.shelf_init.proofs.ViewLemmas.{IsOpening, first_is_read}
+use Rattle.shelf_init.proofs.ViewLemmas.{IsOpening, first_is_read, opening_gives_first}
 
 count_zero : (p : ℕ → Bool) (a n : ℕ) → ((i : ℕ) → i < a + n → p i ≡ false) → count_by p (range_with_len a n) ≡ 0
 count_zero p a zero all = refl
@@ -33,10 +34,10 @@ count_zero p a (suc n) all =
     rw (counted p a (range_with_len (a + 1) n)) (rw first (omega (arith, rest)))
 
 -- no device is missing
-sound_is_bearable : (shelf : Geometry) → IsBearable shelf all_sound
+sound_is_bearable : (shelf : Geometry) → IsBearable shelf none_missing
 sound_is_bearable shelf = record {
-  drives = let none : count_by (λ (i : ℕ). is_missing (all_sound (drive i))) (range_with_len 0 shelf.slots) ≡ 0 = count_zero (λ (i : ℕ). is_missing (all_sound (drive i))) 0 shelf.slots (λ i lt. refl) in omega (arith, none);
-  nvrams = let none : count_by (λ (i : ℕ). is_missing (all_sound (nvram i))) (range_with_len 0 2) ≡ 0 = count_zero (λ (i : ℕ). is_missing (all_sound (nvram i))) 0 2 (λ i lt. refl) in omega (arith, none);
+  drives = let none : count_by (λ (i : ℕ). is_missing (none_missing (drive i))) (range_with_len 0 shelf.slots) ≡ 0 = count_zero (λ (i : ℕ). is_missing (none_missing (drive i))) 0 shelf.slots (λ i lt. refl) in omega (arith, none);
+  nvrams = let none : count_by (λ (i : ℕ). is_missing (none_missing (nvram i))) (range_with_len 0 2) ≡ 0 = count_zero (λ (i : ℕ). is_missing (none_missing (nvram i))) 0 2 (λ i lt. refl) in omega (arith, none);
 }
 
 -- only two NVRAM devices are named
@@ -45,12 +46,12 @@ nvram_below zero named = omega arith
 nvram_below (suc zero) named = omega arith
 nvram_below (suc (suc n)) named = absurd (cc named)
 
-module _ (s : Shelved) (is : IsShelf s) (clean : IsClean s) (shows : (i : ℕ) → i < s.drives → shown_by B (s.disk (drive i)).bytes ≡ Some (spelling (first_record (geometry_of s))))
+module _ (s : Shelved) (is : IsShelf s) (clean : AreClean s) (shows : (i : ℕ) → i < s.drives → shown_by B (s.disk (drive i)).bytes ≡ Some (spelling (first_record (geometry_of s))))
     (shut : IsShut s A) (no_command : HasNoCommand s) where
   lawful : IsRecordOf (geometry_of s) (first_record (geometry_of s))
   lawful = first_is_lawful (geometry_of s) is.drives is.units
 
-  bearable : IsBearable (geometry_of s) all_sound
+  bearable : IsBearable (geometry_of s) none_missing
   bearable = sound_is_bearable (geometry_of s)
 
   module _ (start : Stop) (may : MayStop s start) where
@@ -71,31 +72,31 @@ module _ (s : Shelved) (is : IsShelf s) (clean : IsClean s) (shows : (i : ℕ) �
       no_command = λ n i lt below. ap (λ (bytes : List ℕ). is_open i bytes) (as_now (nvram n)) ∙ no_command n i lt below;
     }
 
-    held : IsHeld (geometry_of s) start.image all_sound B (spelling (first_record (geometry_of s)))
+    held : IsHeld (geometry_of s) start.image none_missing B (spelling (first_record (geometry_of s)))
     held = record {
       shown = λ i lt sound. shown_at i lt;
       few = λ other.
-          let none : count_by (is_sound_vote start.image all_sound A other) (range_with_len 0 s.drives) ≡ 0 =
-          count_zero (is_sound_vote start.image all_sound A other) 0 s.drives (λ i lt. ap (is_vote other) (none_at i (omega (arith, lt)))) in
+          let none : count_by (is_sound_vote start.image none_missing A other) (range_with_len 0 s.drives) ≡ 0 =
+          count_zero (is_sound_vote start.image none_missing A other) 0 s.drives (λ i lt. ap (is_vote other) (none_at i (omega (arith, lt)))) in
           inr (omega (arith, none, is.drives.0));
     }
 
-    appears : MayAppear (geometry_of s) start.image all_sound all_sound (λ d. Some (start.image d))
+    appears : MayAppear (geometry_of s) start.image none_missing none_missing (λ d. Some (start.image d))
     appears = record { within = λ d. inl refl; bearable = bearable; shown = λ d sound. refl }
 
-    given : MayBeGiven (geometry_of s) start.image all_sound B (first_record (geometry_of s))
+    given : MayBeGiven (geometry_of s) start.image none_missing B (first_record (geometry_of s))
     given = record {
-      more = all_sound;
+      more = none_missing;
       view = λ d. Some (start.image d);
       appears = appears;
       lawful = lawful;
-      effective = held_is_given (geometry_of s) start.image all_sound all_sound (λ d. Some (start.image d)) B (spelling (first_record (geometry_of s))) is.drives.0 held appears;
+      effective = held_is_given (geometry_of s) start.image none_missing none_missing (λ d. Some (start.image d)) B (spelling (first_record (geometry_of s))) is.drives.0 held appears;
     }
 
     -- no other record may be given
-    alone : (slot : BootSlot) (boot : BootRecord) → MayBeGiven (geometry_of s) start.image all_sound slot boot → boot ≡ first_record (geometry_of s)
+    alone : (slot : BootSlot) (boot : BootRecord) → MayBeGiven (geometry_of s) start.image none_missing slot boot → boot ≡ first_record (geometry_of s)
     alone slot boot g =
-        let first = held_is_given (geometry_of s) start.image all_sound g.more g.view B (spelling (first_record (geometry_of s))) is.drives.0 held g.appears in
+        let first = held_is_given (geometry_of s) start.image none_missing g.more g.view B (spelling (first_record (geometry_of s))) is.drives.0 held g.appears in
         let same = one_is_effective (geometry_of s) g.view slot B _ _ g.effective first in
         spells_one (geometry_of s) boot (first_record (geometry_of s)) g.lawful lawful same.1
 
@@ -105,24 +106,27 @@ module _ (s : Shelved) (is : IsShelf s) (clean : IsClean s) (shows : (i : ℕ) �
         let closed : is_open i (start.image (nvram n)) ≡ false = ap (λ (bytes : List ℕ). is_open i bytes) (as_now (nvram n)) ∙ no_command n i lt shown.slot in
         absurd (cc (closed, shown.gate))
 
-    is_read : AreRead (geometry_of s) start.image all_sound
+    is_read : AreRead (geometry_of s) start.image none_missing
     is_read slot boot g n i c named shown =
         let is = alone slot boot g in
         absurd (shows_none n i c (nvram_below n (subst (λ (b : BootRecord). names b (nvram n) ≡ true) is named)) (subst (λ (b : BootRecord). ShowsIn (start.image (nvram n)) b.flushed i c) is shown))
 
-    has_room : HasRoom (geometry_of s) start.image all_sound
+    has_room : HasRoom (geometry_of s) start.image none_missing
     has_room slot boot g = subst (λ (b : BootRecord). b.generation < 2 ^ 48 - 16) (sym (alone slot boot g)) (omega arith)
 
-  pub is_made : IsMade s
+  pub is_made : HasFirst s
   is_made = record {
-    enters = record {
-      bearable = bearable;
-      stands = λ start may. held_stands (geometry_of s) start.image all_sound B (first_record (geometry_of s)) ([] ∷ []) is.drives.0 bearable (λ e. absurd (cc e)) lawful (held start may)
-          (first_is_read (geometry_of s) start.image lawful (opening start may));
-      clean = λ d sound. clean d;
-      left_out = λ start may d out. absurd (cc out);
-      read = is_read;
-      room = has_room;
+    made = record {
+      enters = record {
+        bearable = bearable;
+        stands = λ start may. held_stands (geometry_of s) start.image none_missing B (first_record (geometry_of s)) ([] ∷ []) is.drives.0 bearable (λ e. absurd (cc e)) lawful (held start may)
+            (first_is_read (geometry_of s) start.image lawful (opening start may));
+        clean = λ d sound. clean d;
+        left_out = λ start may d out. absurd (cc out);
+        read = is_read;
+        room = has_room;
+      };
+      first = λ start may. opening_gives_first (geometry_of s) start.image lawful (opening start may);
     };
     in_force = record {
       lawful = lawful;

@@ -20,9 +20,9 @@ use Rattle.array_spec.specs.Unflushed.{LogLies}
 use Rattle.array_spec.proofs.UnflushedRead.{unflushed_is_read}
 use Rattle.world.specs.Losing.{geometry_of}
 use Rattle.world.specs.Shelf.{Shelved}
-use Rattle.shelf_init.specs.First.{first_record}
-use Rattle.shelf_init.specs.Blank.{IsBlank, HidesOnly, view_now}
-use Rattle.shelf_init.specs.Made.{all_sound, NoneLeftOut, IsNoneOrEmpty}
+use Rattle.session_spec.specs.First.{first_record}
+use Rattle.shelf_init.specs.Blank.{HidesOnly}
+use Rattle.session_spec.specs.Making.{IsBlank, view_now, none_missing, NoneLeftOut, IsNoneOrEmpty}
 use Rattle.shelf_init.proofs.FirstLemmas.{first_in_force, is_named}
 use Rattle.shelf_init.proofs.VoteLemmas.{view_shows, decided_of_fewer, not_decided, none_is_decided}
 
@@ -64,7 +64,7 @@ no_gate : (b : Bool) → b ≡ false → IsTrue b → ⊥
 no_gate b shut is = cc (subst (λ (x : Bool). IsTrue x) shut is)
 
 -- no log lies there
-no_log : (shelf : Geometry) (image : Image) → IsOpening shelf image → LogLies image all_sound (first_record shelf) [] []
+no_log : (shelf : Geometry) (image : Image) → IsOpening shelf image → LogLies image none_missing (first_record shelf) [] []
 no_log shelf image o = record {
   front = ([], refl);
   room = omega arith;
@@ -89,13 +89,13 @@ nothing_taken zero = (0, omega arith, refl)
 nothing_taken (suc n) = (0, omega arith, refl)
 
 -- so the record is read into the array of nothing
-pub first_is_read : (shelf : Geometry) (image : Image) → IsRecordOf shelf (first_record shelf) → IsOpening shelf image → IsReadInto shelf image all_sound B (first_record shelf) ([] ∷ [])
+pub first_is_read : (shelf : Geometry) (image : Image) → IsRecordOf shelf (first_record shelf) → IsOpening shelf image → IsReadInto shelf image none_missing B (first_record shelf) ([] ∷ [])
 first_is_read shelf image lawful o =
-    (unflushed_is_read shelf image all_sound B (first_record shelf) [] [] ([] ∷ []) lawful refl (first_in_force shelf)
+    (unflushed_is_read shelf image none_missing B (first_record shelf) [] [] ([] ∷ []) lawful refl (first_in_force shelf)
     (record { named = λ d on sound. all_named shelf d on; written = λ i lt sound. o.written i lt }) tt (no_log shelf image o) (λ n low high. nothing_taken n)).0
 
 -- devices go missing with no mark
-pub within_sound : (more : Conditions) → NoneLeftOut more → IsWithin all_sound more
+pub within_sound : (more : Conditions) → NoneLeftOut more → IsWithin none_missing more
 within_sound more named d = becomes (more d) (named d)
   where
     becomes : (c : Condition) → c ≢ LeftOut → MayBecome Sound c

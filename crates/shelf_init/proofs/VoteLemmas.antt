@@ -12,7 +12,7 @@ use Rattle.boot_codec.specs.Region.{BootSlot, A, B, IsDecided, IsEffective, Yiel
 use Rattle.array_spec.proofs.Votes.{counted, one_is_decided}
 use Rattle.boot_region.specs.Regions.{IsUndecided}
 use Rattle.boot_region.proofs.ShownLemmas.{closed_shows}
-use Rattle.shelf_init.specs.Made.{NoneLeftOut}
+use Rattle.session_spec.specs.Making.{NoneLeftOut}
 
 -- who shows nothing, or what another shows, gives a body no more votes
 pub fewer_votes : (f g : ℕ → Option (List ℕ)) (body : List ℕ) (a n : ℕ) → ((i : ℕ) → i < a + n → (f i ≡ None) ⊎ (f i ≡ g i))

@@ -1,11 +1,10 @@
 -- What each answer of the making tells.
 use Rattle.std.specs.Prelude.{◌≡◌, Result, Ok, Err, ⊤}
 use Rattle.pur_base.specs.declared.device.Device.{Device}
-use Rattle.world.specs.Shelf.{Shelved, IsSame}
+use Rattle.world.specs.Shelf.{Shelved}
 use Rattle.shelf_init.specs.declared.making.InitFault.{InitFault}
 use Rattle.shelf_init.specs.declared.making.InitFault.TheVariants as fault
-use Rattle.shelf_init.specs.Blank.{GivesBody, IsBlank}
-use Rattle.shelf_init.specs.Counted.{NoneFailed, OneFailed}
+use Rattle.session_spec.specs.Making.{AreSame, GivesBody, IsBlank, NoneFailed, OneFailed}
 
 -- a device fault is told exactly where a call failed
 abbrev pub IsCounted : Result (Unit {0}) InitFault → Shelved → Shelved → Type 0
@@ -13,10 +12,6 @@ IsCounted (Ok _) old new = NoneFailed old new
 IsCounted (Err (fault.Memory m)) old new = NoneFailed old new
 IsCounted (Err fault.Device) old new = OneFailed old new
 IsCounted (Err fault.NotBlank) old new = NoneFailed old new
-
--- each device holds what it held
-abbrev pub AreSame : Shelved → Shelved → Type 0
-AreSame old new = (d : Device) → IsSame (old.disk d) (new.disk d)
 
 -- a record is in force, or none is
 abbrev pub IsJudged : Result (Unit {0}) InitFault → Shelved → Shelved → Type 0

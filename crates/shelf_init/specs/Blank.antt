@@ -1,43 +1,22 @@
 -- Devices on which no record is in force.
-use Rattle.std.specs.Prelude.{◌≡◌, ◌⊎◌, ◌<◌, ◌+◌, ◌*◌, ℕ, List, [], Bool, true, false, length, slice_index_or, Some, None}
+use Rattle.std.specs.Prelude.{◌≡◌, ◌⊎◌, ◌<◌, ◌+◌, ◌*◌, ℕ, List, [], Bool, true, false, length, slice_index_or, None}
 use Rattle.pur_base.specs.declared.device.Device.{Device}
 use Rattle.pur_base.specs.declared.device.Device.TheVariants.{Drive, Nv}
 use Rattle.pur_base.specs.declared.limits.TheConstants.{NVRAM_DEVICES, SECTOR_BYTES}
-use Rattle.pur_base.specs.Devices.{Geometry, View, Image, drive, nvram}
+use Rattle.pur_base.specs.Devices.{Image, drive, nvram}
 use Rattle.pur_base.specs.Gates.{is_open}
-use Rattle.boot_codec.specs.Region.{BootSlot, A, B, IsEffective, gate_place, shown_by}
+use Rattle.boot_codec.specs.Region.{BootSlot, A, B, gate_place, shown_by}
 use Rattle.boot_region.specs.declared.regions.TheConstants.{REGION_BYTES}
 use Rattle.log_codec.specs.declared.limits.TheConstants.{LOG_SLOTS}
 use Rattle.world.specs.Losing.{geometry_of}
 use Rattle.world.specs.Shelf.{Shelved, IsIn}
-
--- each device shows what stands on it
-abbrev pub view_now : Shelved → View
-view_now shelf = λ d. Some (shelf.disk d).bytes
-
--- the view gives a body
-pub record ShowsBody (shelf : Geometry) (view : View) : Type 0 where
-  pub slot : BootSlot
-  pub body : List ℕ
-  pub effective : IsEffective shelf view slot body
-
--- a body is in force, that of a lawful record or not
-abbrev pub GivesBody : Shelved → Type 0
-GivesBody shelf = ShowsBody (geometry_of shelf) (view_now shelf)
-
--- no body is
-abbrev pub IsBlank : Shelved → Type 0
-IsBlank shelf = GivesBody shelf → ⊥
+use Rattle.session_spec.specs.Making.{AreClean}
 
 -- a drive didn't answer
 pub record HasSilent (answered : List Bool) : Type 0 where
   pub index : ℕ
   pub within : index < length answered
   pub silent : slice_index_or answered index false ≡ false
-
--- nothing is dirty on any device
-abbrev pub IsClean : Shelved → Type 0
-IsClean shelf = (d : Device) → (shelf.disk d).dirty ≡ []
 
 -- the boot units that were read tell each gate of a slot
 abbrev pub IsReadIn : Shelved → List ℕ → BootSlot → Type 0
@@ -62,7 +41,7 @@ HidesOnly shelf image = (slot : BootSlot) (i : ℕ) → i < shelf.drives
 
 -- all gates are closed, and that lasts
 pub record IsEmptied (shelf : Shelved) : Type 0 where
-  pub clean : IsClean shelf
+  pub clean : AreClean shelf
   pub shut : (slot : BootSlot) → IsShut shelf slot
   pub no_command : HasNoCommand shelf
 

@@ -1,5 +1,5 @@
 pub mod Blank
 pub mod Counted
-pub mod First
 pub mod Made
+pub mod Laws
 pub mod Answers

@@ -5,7 +5,7 @@ ghost use Rattle.pur_base.specs.declared.limits.TheConstants.{SECTOR_BYTES, UNIT
 ghost use Rattle.world.specs.Shelf.{Written};
 ghost use Rattle.world.specs.Ran.{Ran};
 ghost use Rattle.boot_region.specs.Members.{IsMember, IsOneOf, OnMembers};
-ghost use Rattle.shelf_init.specs.Blank.{IsClean};
+ghost use Rattle.session_spec.specs.Making.{AreClean};
 ghost use Rattle.shelf_init.specs.Counted.{TellsFailed};
 
 use boot_codec::DRIVE_FLAGS;
@@ -24,7 +24,7 @@ pub fn write_chosen<S: Shelf>(
     requires aligned { (at % SECTOR_BYTES ≡ 0) × (length from.now % SECTOR_BYTES ≡ 0) }
     ensures ran { Ran S.shelf S.shelf_rest (IsOneOf chosen.now) (OnMembers chosen.now at (length from.now)) shelf.old shelf.new }
     ensures written { (S.shelf shelf.old).honest → OnOk result ((i : ℕ) → IsMember chosen.now i → Written at from.now ((S.shelf shelf.old).disk (drive i)).bytes ((S.shelf shelf.new).disk (drive i)).bytes) }
-    ensures clean { (S.shelf shelf.old).honest → OnOk result (IsClean (S.shelf shelf.old) → IsClean (S.shelf shelf.new)) }
+    ensures clean { (S.shelf shelf.old).honest → OnOk result (AreClean (S.shelf shelf.old) → AreClean (S.shelf shelf.new)) }
     ensures counts { TellsFailed result (S.shelf shelf.old) (S.shelf shelf.new) }
 {
     for drive in 0..DRIVE_FLAGS {

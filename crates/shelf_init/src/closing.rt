@@ -7,7 +7,8 @@ ghost use Rattle.boot_region.specs.Members.{IsDrive, IsMember};
 ghost use Rattle.boot_region.specs.Slots.{slot_in};
 ghost use Rattle.world.specs.Shelf.{LeavesOnly};
 ghost use Rattle.world.specs.Ran.{Ran};
-ghost use Rattle.shelf_init.specs.Blank.{IsClean, IsShut, IsReadIn, GatesAreRead, HidesOnly, OnAllOpen, OnOpen};
+ghost use Rattle.shelf_init.specs.Blank.{IsShut, IsReadIn, GatesAreRead, HidesOnly, OnAllOpen, OnOpen};
+ghost use Rattle.session_spec.specs.Making.{AreClean};
 ghost use Rattle.shelf_init.specs.Counted.{TellsFailed};
 
 use crate::calls::write_chosen;
@@ -33,7 +34,7 @@ fn close_slot<S: Shelf>(shelf: &mut S, regions: &Regions, slot: Slot) -> Result<
     requires { length regions.now.answered.items ≡ (S.shelf shelf.old).drives }
     ensures ran { Ran S.shelf S.shelf_rest IsDrive (OnOpen regions.now.bytes.items (slot_in slot)) shelf.old shelf.new }
     ensures shut { (S.shelf shelf.old).honest → OnOk result (IsReadIn (S.shelf shelf.old) regions.now.bytes.items (slot_in slot) → IsShut (S.shelf shelf.new) (slot_in slot)) }
-    ensures clean { (S.shelf shelf.old).honest → OnOk result (IsClean (S.shelf shelf.old) → IsClean (S.shelf shelf.new)) }
+    ensures clean { (S.shelf shelf.old).honest → OnOk result (AreClean (S.shelf shelf.old) → AreClean (S.shelf shelf.new)) }
     ensures counts { TellsFailed result (S.shelf shelf.old) (S.shelf shelf.new) }
 {
     let closed = gate_sector(false);
@@ -50,8 +51,8 @@ pub fn close_all_gates<S: Shelf>(shelf: &mut S, regions: &Regions) -> Result<(),
     requires { length regions.now.answered.items ≡ (S.shelf shelf.old).drives }
     ensures ran { Ran S.shelf S.shelf_rest IsDrive (OnAllOpen regions.now.bytes.items) shelf.old shelf.new }
     ensures shut { (S.shelf shelf.old).honest → GatesAreRead (S.shelf shelf.old) regions.now.bytes.items → OnOk result ((slot : BootSlot) → IsShut (S.shelf shelf.new) slot) }
-    ensures clean { (S.shelf shelf.old).honest → OnOk result (IsClean (S.shelf shelf.old) → IsClean (S.shelf shelf.new)) }
-    ensures any_moment { (S.shelf shelf.old).honest → GatesAreRead (S.shelf shelf.old) regions.now.bytes.items → IsClean (S.shelf shelf.old)
+    ensures clean { (S.shelf shelf.old).honest → OnOk result (AreClean (S.shelf shelf.old) → AreClean (S.shelf shelf.new)) }
+    ensures any_moment { (S.shelf shelf.old).honest → GatesAreRead (S.shelf shelf.old) regions.now.bytes.items → AreClean (S.shelf shelf.old)
         → LeavesOnly (S.shelf shelf.old) (S.shelf shelf.new) (λ stop. HidesOnly (S.shelf shelf.old) stop.image) }
     ensures counts { TellsFailed result (S.shelf shelf.old) (S.shelf shelf.new) }
 {

@@ -5,8 +5,10 @@
 mod calls;
 mod clearing;
 mod closing;
+mod laws;
 mod making;
 mod record;
 mod storing;
 
+pub use laws::blank_stay_blank;
 pub use making::{InitFault, init};

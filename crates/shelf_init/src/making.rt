@@ -10,11 +10,12 @@ ghost use Rattle.world.specs.Shelf.{LeavesOnly};
 ghost use Rattle.world.specs.Writes.{WritesOnly};
 ghost use Rattle.world.specs.Ran.{Ran};
 ghost use Rattle.shelf_init.specs.declared.making.InitFault.TheVariants as faults;
-ghost use Rattle.shelf_init.specs.Answers.{AreSame, IsCounted, IsJudged, IsUntouched};
-ghost use Rattle.shelf_init.specs.Blank.{ShowsBody, GivesBody, IsBlank, IsClean, GatesAreRead, HasSilent, OnBootOrLog};
+ghost use Rattle.shelf_init.specs.Answers.{IsCounted, IsJudged, IsUntouched};
+ghost use Rattle.session_spec.specs.Making.{AreSame, ShowsBody, GivesBody, IsBlank, AreClean, IsNoneOrEmpty};
+ghost use Rattle.shelf_init.specs.Blank.{GatesAreRead, HasSilent, OnBootOrLog};
 ghost use Rattle.shelf_init.specs.Counted.{TellsFailed};
-ghost use Rattle.shelf_init.specs.First.{first_record};
-ghost use Rattle.shelf_init.specs.Made.{IsNoneOrEmpty, IsMade};
+ghost use Rattle.session_spec.specs.First.{first_record};
+ghost use Rattle.shelf_init.specs.Made.{HasFirst};
 
 use crate::clearing::clear_nvram;
 use crate::closing::close_all_gates;
@@ -81,12 +82,12 @@ fn make<S: Shelf>(shelf: &mut S, regions: &Regions, body: &[u8]) -> Result<(), F
     requires drives { length regions.now.answered.items ≡ (S.shelf shelf.old).drives }
     requires size { length body.now ≡ RECORD_BYTES }
     ensures ran { Ran S.shelf S.shelf_rest (λ d. Unit {0}) OnBootOrLog shelf.old shelf.new }
-    ensures any_moment { (S.shelf shelf.old).honest → IsClean (S.shelf shelf.old) → IsBlank (S.shelf shelf.old) → GatesAreRead (S.shelf shelf.old) regions.now.bytes.items
+    ensures any_moment { (S.shelf shelf.old).honest → AreClean (S.shelf shelf.old) → IsBlank (S.shelf shelf.old) → GatesAreRead (S.shelf shelf.old) regions.now.bytes.items
         → body.now ≡ spelling (first_record (geometry_of (S.shelf shelf.old)))
         → LeavesOnly (S.shelf shelf.old) (S.shelf shelf.new) (λ stop. IsNoneOrEmpty (geometry_of (S.shelf shelf.old)) stop.image) }
-    ensures made { (S.shelf shelf.old).honest → IsClean (S.shelf shelf.old) → GatesAreRead (S.shelf shelf.old) regions.now.bytes.items
+    ensures made { (S.shelf shelf.old).honest → AreClean (S.shelf shelf.old) → GatesAreRead (S.shelf shelf.old) regions.now.bytes.items
         → body.now ≡ spelling (first_record (geometry_of (S.shelf shelf.old)))
-        → OnOk result (IsMade (S.shelf shelf.new)) }
+        → OnOk result (HasFirst (S.shelf shelf.new)) }
     ensures counts { TellsFailed result (S.shelf shelf.old) (S.shelf shelf.new) }
 {
     close_all_gates(shelf, regions)?;
@@ -124,8 +125,8 @@ fn make_on<S: Shelf>(shelf: &mut S, regions: &mut Regions, body: &[u8]) -> Resul
     ensures memory { IsUntouched result (S.shelf shelf.old) (S.shelf shelf.new) }
     ensures not_blank { (S.shelf shelf.old).honest → IsJudged result (S.shelf shelf.old) (S.shelf shelf.new) }
     ensures kept { (S.shelf shelf.old).honest → GivesBody (S.shelf shelf.old) → WritesOnly (λ d i. ⊥) (S.shelf shelf.old) (S.shelf shelf.new) }
-    ensures made { (S.shelf shelf.old).honest → IsClean (S.shelf shelf.old) → body.now ≡ spelling (first_record (geometry_of (S.shelf shelf.old))) → OnOk result (IsMade (S.shelf shelf.new)) }
-    ensures any_moment { (S.shelf shelf.old).honest → IsClean (S.shelf shelf.old) → IsBlank (S.shelf shelf.old) → body.now ≡ spelling (first_record (geometry_of (S.shelf shelf.old)))
+    ensures made { (S.shelf shelf.old).honest → AreClean (S.shelf shelf.old) → body.now ≡ spelling (first_record (geometry_of (S.shelf shelf.old))) → OnOk result (HasFirst (S.shelf shelf.new)) }
+    ensures any_moment { (S.shelf shelf.old).honest → AreClean (S.shelf shelf.old) → IsBlank (S.shelf shelf.old) → body.now ≡ spelling (first_record (geometry_of (S.shelf shelf.old)))
         → LeavesOnly (S.shelf shelf.old) (S.shelf shelf.new) (λ stop. IsNoneOrEmpty (geometry_of (S.shelf shelf.old)) stop.image) }
 {
     look(shelf, regions)?;
@@ -142,9 +143,9 @@ pub fn init<S: Shelf>(alloc: Global, shelf: &mut S) -> Result<(), InitFault>
     ensures not_blank { (S.shelf shelf.old).honest → IsJudged result (S.shelf shelf.old) (S.shelf shelf.new) }
     // Nothing is written where a body is in force.
     ensures kept { (S.shelf shelf.old).honest → GivesBody (S.shelf shelf.old) → WritesOnly (λ d i. ⊥) (S.shelf shelf.old) (S.shelf shelf.new) }
-    ensures made { (S.shelf shelf.old).honest → IsClean (S.shelf shelf.old) → OnOk result (IsMade (S.shelf shelf.new)) }
+    ensures made { (S.shelf shelf.old).honest → AreClean (S.shelf shelf.old) → OnOk result (HasFirst (S.shelf shelf.new)) }
     // At every moment the devices give no record, or the first one.
-    ensures any_moment { (S.shelf shelf.old).honest → IsClean (S.shelf shelf.old) → IsBlank (S.shelf shelf.old)
+    ensures any_moment { (S.shelf shelf.old).honest → AreClean (S.shelf shelf.old) → IsBlank (S.shelf shelf.old)
         → LeavesOnly (S.shelf shelf.old) (S.shelf shelf.new) (λ stop. IsNoneOrEmpty (geometry_of (S.shelf shelf.old)) stop.image) }
 {
     let mut regions = Regions::new(alloc, shelf.drives())?;

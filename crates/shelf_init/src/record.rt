@@ -3,7 +3,7 @@ ghost use Rattle.std.specs.Prelude.{◌≡◌, ◌≤◌, IfOk, length};
 ghost use Rattle.boot_codec.specs.declared.limits.TheConstants.{RECORD_BYTES};
 ghost use Rattle.pur_base.specs.declared.limits.TheConstants.{SLOTS_MIN, SLOTS_MAX, UNITS_MIN, UNITS_MAX};
 ghost use Rattle.boot_codec.specs.Spelling.{spelling};
-ghost use Rattle.shelf_init.specs.First.{all_drives, first_record};
+ghost use Rattle.session_spec.specs.First.{all_drives, first_record};
 
 use boot_codec::{
     BootRecord, DRIVE_FLAGS, Members, NVRAM_FLAGS, NextNumbers, Patches, RECORD_BYTES, write_record,

@@ -9,8 +9,9 @@ ghost use Rattle.world.specs.Ran.{Ran};
 ghost use Rattle.boot_region.specs.Members.{IsDrive, OnSlot};
 ghost use Rattle.shelf_init.specs.Blank.{IsEmptied};
 ghost use Rattle.shelf_init.specs.Counted.{TellsFailed};
-ghost use Rattle.shelf_init.specs.First.{all_drives, first_record};
-ghost use Rattle.shelf_init.specs.Made.{IsNoneOrEmpty, IsMade};
+ghost use Rattle.session_spec.specs.First.{all_drives, first_record};
+ghost use Rattle.shelf_init.specs.Made.{HasFirst};
+ghost use Rattle.session_spec.specs.Making.{IsNoneOrEmpty};
 
 use crate::calls::write_chosen;
 use crate::record::all_drives;
@@ -25,7 +26,7 @@ pub fn store_first<S: Shelf>(shelf: &mut S, body: &[u8]) -> Result<(), Failed>
     ensures any_moment { (S.shelf shelf.old).honest → IsEmptied (S.shelf shelf.old) → body.now ≡ spelling (first_record (geometry_of (S.shelf shelf.old)))
         → LeavesOnly (S.shelf shelf.old) (S.shelf shelf.new) (λ stop. IsNoneOrEmpty (geometry_of (S.shelf shelf.old)) stop.image) }
     ensures made { (S.shelf shelf.old).honest → IsEmptied (S.shelf shelf.old) → body.now ≡ spelling (first_record (geometry_of (S.shelf shelf.old)))
-        → OnOk result (IsMade (S.shelf shelf.new)) }
+        → OnOk result (HasFirst (S.shelf shelf.new)) }
     ensures counts { TellsFailed result (S.shelf shelf.old) (S.shelf shelf.new) }
 {
     let drives = all_drives(shelf.drives());

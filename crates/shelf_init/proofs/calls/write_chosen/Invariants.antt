@@ -3,8 +3,7 @@ use Rattle.world.specs.Shelf.{Written}
 use Rattle.world.specs.Ran.{Ran}
 use Rattle.pur_base.specs.Devices.{drive}
 use Rattle.boot_region.specs.Members.{IsMember, IsOneOf, OnMembers}
-use Rattle.shelf_init.specs.Blank.{IsClean}
-use Rattle.shelf_init.specs.Counted.{NoneFailed}
+use Rattle.session_spec.specs.Making.{AreClean, NoneFailed}
 use Rattle.shelf_init.proofs.calls.write_chosen.Given as goal
 
 abbrev pub invariant-loop-drive : goal.invariant-loop-drive
@@ -14,7 +13,7 @@ invariant-loop-drive g l =
     record {
       ran : Ran g.S.Shelf.shelf g.S.Shelf.shelf_rest (IsOneOf l.chosen) (OnMembers l.chosen l.at (length l.from)) l.initial.shelf l.shelf;
       written : a.honest → (i : ℕ) → i < l.drive → IsMember l.chosen i → Written l.at l.from (a.disk (drive i)).bytes (b.disk (drive i)).bytes;
-      clean : a.honest → IsClean a → IsClean b;
+      clean : a.honest → AreClean a → AreClean b;
       counts : NoneFailed a b;
       ahead : (i : ℕ) → l.drive ≤ i → b.disk (drive i) ≡ a.disk (drive i);
     }

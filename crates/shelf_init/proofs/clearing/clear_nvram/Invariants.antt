@@ -3,8 +3,8 @@ use Rattle.world.specs.Ran.{Ran}
 use Rattle.pur_base.specs.Devices.{nvram}
 use Rattle.pur_base.specs.Gates.{is_open}
 use Rattle.log_codec.specs.declared.limits.TheConstants.{LOG_SLOTS}
-use Rattle.shelf_init.specs.Blank.{IsClean, IsNvram, OnLogGates}
-use Rattle.shelf_init.specs.Counted.{NoneFailed}
+use Rattle.shelf_init.specs.Blank.{IsNvram, OnLogGates}
+use Rattle.session_spec.specs.Making.{AreClean, NoneFailed}
 use Rattle.shelf_init.proofs.clearing.clear_nvram.Given as goal
 
 abbrev pub invariant-loop-device : goal.invariant-loop-device
@@ -14,6 +14,6 @@ invariant-loop-device g l =
     record {
       ran : Ran g.S.Shelf.shelf g.S.Shelf.shelf_rest IsNvram OnLogGates l.initial.shelf l.shelf;
       cleared : a.honest → (n i : ℕ) → n < l.device → i < LOG_SLOTS → is_open i (b.disk (nvram n)).bytes ≡ false;
-      clean : a.honest → IsClean a → IsClean b;
+      clean : a.honest → AreClean a → AreClean b;
       counts : NoneFailed a b;
     }

@@ -7,7 +7,7 @@ use Rattle.world.specs.Shelf.{Written}
 use Rattle.world.proofs.Ran.{ran_then, ran_more}
 use Rattle.boot_region.specs.Members.{IsMember}
 use Rattle.boot_region.proofs.ShownLemmas.{gate_low, gate_aligned, body_low, body_aligned}
-use Rattle.shelf_init.specs.First.{all_drives}
+use Rattle.session_spec.specs.First.{all_drives}
 use Rattle.shelf_init.proofs.FirstLemmas.{named_below}
 use Rattle.shelf_init.proofs.CallLemmas.{storing_first, storing_both, if_stored, tells_then, one_drive, on_there, wrote_there, written_there}
 use Rattle.shelf_init.proofs.storing.store_first.Goals as goal
