@@ -45,7 +45,7 @@ one_at view p k f g a b =
 one_patch : (view : View) (p : Patch) (fs gs : List AnyFact) → PatchStands view p fs → PatchStands view p gs → fs ≡ gs
 one_patch view p fs gs a b = same_lists fs gs (a.count ∙ sym b.count) (λ k f g x y. one_at view p k f g (a.each k f x) (b.each k g y))
 
-all_patches : (view : View) (ps : List Patch) (fss gss : List (List AnyFact)) → AllZip (PatchStands view) ps fss → AllZip (PatchStands view) ps gss → fss ≡ gss
+pub all_patches : (view : View) (ps : List Patch) (fss gss : List (List AnyFact)) → AllZip (PatchStands view) ps fss → AllZip (PatchStands view) ps gss → fss ≡ gss
 all_patches view [] [] [] a b = refl
 all_patches view [] [] (g ∷ gss) a b = absurd b
 all_patches view [] (f ∷ fss) gss a b = absurd a

@@ -28,7 +28,7 @@ use Rattle.table_loading.specs.Faults.{fault_in, fault_of, IsPatchFault, IsFault
 use Rattle.table_loading.specs.declared.fault.TablesFault.{TablesFault}
 use Rattle.table_loading.specs.declared.fault.TablesFault.TheVariants.{BadPatch, Unsound, Lost, Memory}
 use Rattle.table_loading.proofs.Zips.{zip_first}
-use Rattle.table_loading.proofs.OnePatch.{one_of_each}
+use Rattle.stored_spec.proofs.Unique.{all_patches}
 use Rattle.table_loading.proofs.Reading.{shows_patch}
 use Rattle.table_loading.proofs.Loaded.{are_named, all_stand}
 
@@ -68,7 +68,7 @@ module _ (a b : Shelved) (boot : BootRecord) (missing : List Bool) (lawful : All
     fault = is x refl;
     none = λ h view patches shows stand sound.
         let stripes = zip_first (PatchStands view) (StripesStandOf view) (λ p facts stands. stands.stripes) boot.patches patches stand in
-        let same : patches ≡ patches_in t = one_of_each view boot.patches patches (patches_in t) stand (all_stand a missing boot t loaded lawful h view shows stripes) in
+        let same : patches ≡ patches_in t = all_patches view boot.patches patches (patches_in t) stand (all_stand a missing boot t loaded lawful h view shows stripes) in
         not_at_fault boot t (are_named a missing boot t loaded a.drives a.units lawful) (geometry_of a) x (is x refl) (subst (AreSound (geometry_of a) boot) same sound);
   }
   check_fault t loaded (sound_fault.Memory m) is = tt

@@ -22,7 +22,7 @@ use Rattle.memory_spec.specs.Tables.{patches}
 use Rattle.patch_io.specs.Standing.{StripesStandOf}
 use Rattle.segment_io.specs.Lost.{is_in}
 use Rattle.table_loading.specs.Loading.{ShowsDrives, StripesStandOfAll}
-use Rattle.table_loading.proofs.OnePatch.{one_of_each}
+use Rattle.stored_spec.proofs.Unique.{all_patches}
 use Rattle.table_loading.proofs.Zips.{zip_first}
 use Rattle.loaded_spec.proofs.Stored.{stored_tables_read}
 use Rattle.boot_region.specs.declared.loading.Loaded.{Loaded}
@@ -176,7 +176,7 @@ module _ (a b : Shelved) (x : Loaded) (lawful : IsRecordOf (geometry_of a) x.rec
     pub no_other_than : (loaded : List (List AnyFact)) → ((v : View) → ShowsDrives b missing v → StripesStandOfAll v x.record → PatchesStand v x.record loaded) → (there : List (List AnyFact)) → PatchesStand members x.record there → there ≡ loaded
     no_other_than loaded stand there stands =
         let now = stand_now there stands in
-        one_of_each view x.record.patches there loaded now (stand view shows (zip_first (PatchStands view) (StripesStandOf view) (λ p facts is. is.stripes) x.record.patches there now))
+        all_patches view x.record.patches there loaded now (stand view shows (zip_first (PatchStands view) (StripesStandOf view) (λ p facts is. is.stripes) x.record.patches there now))
 
 -- what was seen, of the record and of its tables
 pub tables_seen : (a b t : Shelved) (x : Loaded) (k : Kept) (on : Continues a b) (after : Continues b t) (is_b : IsShelf b) (h_b : b.honest) (same : (d : Device) → IsSame (b.disk d) (t.disk d)) (wrote : WritesOnly OnNothing b t)
@@ -214,7 +214,7 @@ module _ (b t : Shelved) (x : Loaded) (k : Kept) (later : Conditions) (arrays : 
   same_patches : held_patches t x later arrays is_t h_t found ≡ patches k.memory.tables
   same_patches =
       let here = patches_stand_here t x later arrays is_t h_t found in
-      one_of_each full x.record.patches (held_patches t x later arrays is_t h_t found) (patches k.memory.tables) here
+      all_patches full x.record.patches (held_patches t x later arrays is_t h_t found) (patches k.memory.tables) here
       (stand full full_shows (zip_first (PatchStands full) (StripesStandOf full) (λ p facts is. is.stripes) x.record.patches (held_patches t x later arrays is_t h_t found) here))
 
   pub has_tables : (base : Array) × HasTables t x k (patches k.memory.tables) base
