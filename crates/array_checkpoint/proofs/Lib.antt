@@ -15,6 +15,5 @@ pub mod NextRecord
 pub mod NextHolds
 pub mod After
 pub mod Flushed
-pub mod Behind
 pub mod Joined
 pub mod ElidedSegments

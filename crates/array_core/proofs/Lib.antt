@@ -29,3 +29,5 @@ pub mod Moved
 pub mod Stages
 pub mod Whole
 pub mod Holders
+pub mod Behind
+pub mod Changes

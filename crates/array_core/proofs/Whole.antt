@@ -6,8 +6,9 @@ use Rattle.boot_codec.specs.Record.{IsBootRecord}
 use Rattle.world.specs.Losing.{geometry_of}
 use Rattle.world.specs.Shelf.{Shelved, IsShelf, Continues, LeavesOnly}
 use Rattle.world.specs.Writes.{WritesOnly}
+use Rattle.world.specs.Ran.{Runs}
 use Rattle.world.proofs.Moments.{continues_trans}
-use Rattle.boot_region.specs.Members.{IsMember, DroppedFailed}
+use Rattle.boot_region.specs.Members.{IsDrive, IsMember, DroppedFailed}
 use Rattle.nvram_log.specs.declared.log.NvLog.{NvLog}
 use Rattle.nvram_log.specs.Held.{HoldsOn}
 use Rattle.register.specs.declared.next.StoreFault.{StoreFault}
@@ -21,11 +22,12 @@ use Rattle.register.specs.Tables.{IsPlanOf, KeepsArray, StandsAsBefore, with_tab
 use Rattle.register.proofs.FlagLemmas.{in_cut}
 use Rattle.register.proofs.Stores.{fewer_cut}
 use Rattle.array_core.specs.Performing.{IsKeptAt, LostDrives}
-use Rattle.array_core.specs.Switching.{AreLost, WasOpen, WroteFree}
+use Rattle.array_core.specs.Changing.{IsOpenOn}
+use Rattle.array_core.specs.Switching.{AreLost, MaySwitch}
 use Rattle.array_core.proofs.FreeWrites.{off_slots}
 use Rattle.array_core.proofs.Keeping.{CameAfter, run_since}
 use Rattle.array_core.proofs.LostOnWay.{dropped_then, drives_lost}
-use Rattle.array_core.proofs.Stages.{AreLeft, StandUnlost, came_after, left_dropped, plan_at}
+use Rattle.array_core.proofs.Stages.{AreLeft, came_after, left_dropped, plan_at}
 use Rattle.array_core.proofs.Tables.{still_holds, tables_moments}
 
 -- ---- a record without the drives that were lost, then one of the tables
@@ -56,48 +58,21 @@ none_stored s a b c since on next r0 r1 r2 lost tables are left dropped later ke
 pub record HasLeft (s a b : Shelved) (was r : Register) (log : NvLog) (lost : List Bool) (tables : Tables) (held next : Content) : Type 0 where
   pub is : IsShelf b
   pub honest : a.honest
-  pub on : Continues a b
+  pub runs : Runs IsDrive (OnSlots (drives_of was)) a b
   pub is_of : IsRegisterOf (geometry_of a) was
   pub lawful : IsBootRecord (with_tables was.record tables)
-  pub was_open : WasOpen s was log held
-  pub wrote : WroteFree s a was lost held
-  pub stand : StandUnlost a was lost tables next
-  pub keeps : KeepsArray was tables held next
+  pub may : MaySwitch s a was log lost tables held next
   pub later : IsLaterRecord was.record r.record
   pub fewer : (i : ℕ) → IsMember r.drives i → IsMember was.drives i × ¬ (IsMember lost i)
   pub left : AreLeft a b was r lost
-  pub same : (n : ℕ) → b.disk (nvram n) ≡ a.disk (nvram n)
-  pub writes : WritesOnly (OnSlots (drives_of was)) a b
   pub is_open : IsOpen b r log.members held
 
-pub has_left : (s a b : Shelved) → IsShelf b → a.honest → Continues a b → (was r : Register) (log : NvLog) (members lost : List Bool) (tables : Tables) (held next : Content) → members ≡ log.members
-    → IsRegisterOf (geometry_of a) was → IsBootRecord (with_tables was.record tables) → WasOpen s was log held → WroteFree s a was lost held → StandUnlost a was lost tables next → KeepsArray was tables held next
-    → IsLaterRecord was.record r.record → ((i : ℕ) → IsMember r.drives i → IsMember was.drives i × ¬ (IsMember lost i)) → AreLeft a b was r lost → ((n : ℕ) → b.disk (nvram n) ≡ a.disk (nvram n)) → WritesOnly (OnSlots (drives_of was)) a b
-    → IsOpen b r members held → HasLeft s a b was r log lost tables held next
-has_left s a b is h on was r log members lost tables held next its is_of lawful was_open wrote stand keeps later fewer left same writes o = record {
-  is = is;
-  honest = h;
-  on = on;
-  is_of = is_of;
-  lawful = lawful;
-  was_open = was_open;
-  wrote = wrote;
-  stand = stand;
-  keeps = keeps;
-  later = later;
-  fewer = fewer;
-  left = left;
-  same = same;
-  writes = writes;
-  is_open = subst (λ (l : List Bool). IsOpen b r l held) its o;
-}
-
 module _ (s a b : Shelved) (was r : Register) (log : NvLog) (lost : List Bool) (tables : Tables) (held next : Content) (p : HasLeft s a b was r log lost tables held next) where
-  pub since_b : Continues s b
-  since_b = continues_trans p.wrote.free.continues p.on
+  same_a : (n : ℕ) → b.disk (nvram n) ≡ a.disk (nvram n)
+  same_a n = p.runs.others (nvram n) (λ v. v)
 
   same_b : (n : ℕ) → b.disk (nvram n) ≡ s.disk (nvram n)
-  same_b n = p.same n ∙ p.wrote.free.nvrams n
+  same_b n = same_a n ∙ p.may.wrote.free.nvrams n
 
   pub open_b : IsOpen b r r.record.members.nvrams held
   open_b = subst (λ (l : List Bool). IsOpen b r l held) (sym p.is_open.nvrams_are) p.is_open
@@ -109,32 +84,32 @@ module _ (s a b : Shelved) (was r : Register) (log : NvLog) (lost : List Bool) (
   holds_b : HoldsOn b r.record.members.nvrams r.record.flushed held.log
   holds_b =
       let shown = p.is_open.logged.holds in
-      let there = still_holds s b log.members log.flushed held.log same_b p.was_open.held_log in
+      let there = still_holds s b log.members log.flushed held.log same_b p.may.was.held_log in
       subst (λ (l : List Bool). HoldsOn b l r.record.flushed held.log) (sym p.is_open.nvrams_are) (record {
         log = λ n lt m. record { room = (shown.log n lt m).room; between = (shown.log n lt m).between; shut = (there.log n lt m).shut };
         clean = shown.clean;
       })
 
   pub plan : IsPlanOf b r tables held next
-  plan = plan_at a b p.is (p.on.honest p.honest) p.on was r log.members lost tables held next p.is_of p.lawful p.later among p.stand p.keeps p.is_open p.same p.writes holds_b
+  plan = plan_at a b p.is (p.runs.continues.honest p.honest) p.runs.continues was r log.members lost tables held next p.is_of p.lawful p.later among p.may.hold.stand p.may.hold.keeps p.is_open same_a (p.runs.writes p.honest) holds_b
 
   dropped_b : DroppedFailed s b (drives_of was) (drives_of r)
-  dropped_b = left_dropped s a b p.wrote.free.continues p.on was r lost p.wrote.cause p.left
+  dropped_b = left_dropped s a b p.may.wrote.free.continues p.runs.continues was r lost p.may.wrote.cause p.left
 
   after_b : CameAfter s b was.record r.record
-  after_b = came_after s b was r log.members held held p.was_open.is_open p.is_open (λ i m. (p.fewer i m).0) dropped_b
+  after_b = came_after s b was r log.members held held p.may.was.is_open p.is_open (λ i m. (p.fewer i m).0) dropped_b
 
   -- while a record of the tables is stored
   pub tables_run : (c : Shelved) → WritesOnly (OnSlots (drives_of r)) b c → LeavesOnly b c (StandsAsBefore b r held) → LeavesOnly b c (GivesOldOrTables b r tables) → LeavesOnly b c (IsKeptAt s was.record (array_of held ∷ []))
-  tables_run c writes stands gives = run_since s b c since_b was.record r.record after_b (array_of held ∷ []) writes
-      (tables_moments b c p.is (p.on.honest p.honest) r tables held next open_b p.was_open.in_force plan (OnSlots (drives_of r)) (off_slots (drives_of r)) writes stands gives)
+  tables_run c writes stands gives = run_since s b c (continues_trans p.may.wrote.free.continues p.runs.continues) was.record r.record after_b (array_of held ∷ []) writes
+      (tables_moments b c p.is (p.runs.continues.honest p.honest) r tables held next open_b p.may.was.in_force plan (OnSlots (drives_of r)) (off_slots (drives_of r)) writes stands gives)
 
   -- once it was stored
-  pub open_c : (c : Shelved) (now : Register) → IsOpen c now r.record.members.nvrams next → IsOpen c now log.members next
-  open_c c now o = subst (λ (l : List Bool). IsOpen c now l next) p.is_open.nvrams_are o
-
-  pub holds_c : (c : Shelved) → ((n : ℕ) → c.disk (nvram n) ≡ b.disk (nvram n)) → HoldsOn c log.members log.flushed held.log
-  holds_c c same = still_holds s c log.members log.flushed held.log (λ n. same n ∙ same_b n) p.was_open.held_log
+  pub open_then : (c : Shelved) (now : Register) → ((n : ℕ) → c.disk (nvram n) ≡ b.disk (nvram n)) → IsOpen c now r.record.members.nvrams next → IsOpenOn c now log next held.log
+  open_then c now same o = record {
+    is_open = subst (λ (l : List Bool). IsOpen c now l next) p.is_open.nvrams_are o;
+    held_log = still_holds s c log.members log.flushed held.log (λ n. same n ∙ same_b n) p.may.was.held_log;
+  }
 
 -- ---- tables that hold the commands of the log
 

@@ -9,5 +9,7 @@ pub mod Holding
 pub mod Performing
 pub mod Going
 pub mod Goes
+pub mod Changing
+pub mod Committing
 pub mod Meanwhile
 pub mod Switching

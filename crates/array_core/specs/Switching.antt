@@ -1,8 +1,14 @@
--- The end of a checkpoint or a merge: what its writes left, what stands then, and what is too much.
-use Rattle.std.specs.Prelude.{◌≡◌, ◌⊎◌, ℕ, Bool, List, []}
+-- The end of a checkpoint or a merge: what its writes left, and what its tables are once they are stored.
+use Rattle.std.specs.Prelude.{◌≡◌, ◌⊎◌, ◌+◌, ◌<◌, ◌≤◌, ℕ, Bool, List, [], Some, Result, OnOk}
+use Rattle.pur_base.specs.Commands.{Command}
 use Rattle.pur_base.specs.declared.device.Device.{Device}
-use Rattle.pur_base.specs.Devices.{drive}
-use Rattle.stored_spec.specs.Held.{DataHolds}
+use Rattle.pur_base.specs.Devices.{View, drive}
+use Rattle.pur_base.specs.Facts.{Facts}
+use Rattle.pur_base.specs.Visible.{segment}
+use Rattle.pur_base.specs.declared.facts.SegmentFact.{SegmentFact}
+use Rattle.boot_codec.specs.Record.{set_count}
+use Rattle.array_spec.specs.Sound.{ArePlaces}
+use Rattle.stored_spec.specs.Held.{AreEnough, DataHolds}
 use Rattle.world.specs.Losing.{geometry_of}
 use Rattle.world.specs.Shelf.{Shelved}
 use Rattle.boot_region.specs.Members.{IsMember, LostWrites}
@@ -11,10 +17,15 @@ use Rattle.nvram_log.specs.Held.{HoldsOn, Keeps}
 use Rattle.nvram_log.specs.Members as nv
 use Rattle.register.specs.declared.state.Register.{Register}
 use Rattle.register.specs.declared.tables.Tables.{Tables}
-use Rattle.register.specs.Registers.{OnSlots, drives_of}
+use Rattle.register.specs.Registers.{IsLaterRecord, OnSlots, drives_of}
 use Rattle.register.specs.Standing.{Content, IsOpen}
 use Rattle.register.specs.Tables.{with_tables, KeepsArray}
+use Rattle.memory_spec.specs.Memory.{Contents}
+use Rattle.checkpoint_spec.specs.Contents.{AreAmong, ContentsStand}
+use Rattle.array_core.specs.Changing.{IsOpenOn}
+use Rattle.array_core.specs.Drives.{SegmentsHold}
 use Rattle.array_core.specs.Free.{WritesFree}
+use Rattle.array_core.specs.Holding.{NoneJoinsBy}
 use Rattle.array_core.specs.Meanwhile.{AreInForce}
 
 -- ---- before
@@ -42,7 +53,48 @@ pub record HoldTables (now : Shelved) (r : Register) (lost : List Bool) (tables 
       → DataHolds (geometry_of now) left (λ d. (now.disk d).bytes) (with_tables r.record tables) next.patches next.base
   pub keeps : KeepsArray r tables held next
 
--- ---- what is written, and what is lost
+-- since the start free units alone were written, and the next tables stand there
+pub record MaySwitch (start now : Shelved) (r : Register) (log : NvLog) (lost : List Bool) (tables : Tables) (held next : Content) : Type 0 where
+  pub was : WasOpen start r log held
+  pub wrote : WroteFree start now r lost held
+  pub hold : HoldTables now r lost tables held next
+
+-- the array is open by tables that hold the commands of the log
+pub record MayClear (shelf : Shelved) (r : Register) (log : NvLog) (held : Content) (commands : List Command) : Type 0 where
+  pub is_open : IsOpenOn shelf r log held commands
+  pub keeps : Keeps log commands
+  pub empty : held.log ≡ []
+
+-- ---- after it
+
+-- the contents stand on drives of the record that aren't lost, where at most two of the shelf are missing
+abbrev pub HoldOnLeft : Shelved → Register → List Bool → Contents → Facts → Type 0
+HoldOnLeft now r lost contents fs = (left : List Bool) → ((i : ℕ) → IsMember left i → IsMember (drives_of r) i × ¬ (IsMember lost i))
+    → (members : View) → AreAmong left (λ d. (now.disk d).bytes) members → AreEnough (geometry_of now) members → ContentsStand contents members fs
+
+-- The record is one of these tables, of a later generation, on the drives that it names, which are enough, and no device has joined. What stood on all drives that aren't lost stands on its drives.
+pub record HasTables (old new : Shelved) (lost : List Bool) (tables : Tables) (was now : Register) (members left : List Bool) : Type 0 where
+  pub later : IsLaterRecord (with_tables was.record tables) now.record
+  pub rises : was.record.generation < now.record.generation
+  pub drives : now.record.members.drives ≡ now.drives
+  pub enough : now.record.slots ≤ set_count now.drives + 2
+  pub joins : NoneJoinsBy was members now left
+  pub segments : old.honest → (contents : Contents) (fs : Facts) → ((id : ℕ) (d : SegmentFact) → segment fs id ≡ Some d → ArePlaces (geometry_of old) d.places)
+      → HoldOnLeft old was lost contents fs → SegmentsHold contents new now fs
+
+-- The record is a later one of the tables that were, or of these; after Ok it is one of these.
+pub record ChangesTables {T E : Type 0} (result : Result T E) (old new : Shelved) (lost : List Bool) (tables : Tables) (was now : Register) (members left : List Bool) : Type 0 where
+  pub kept : IsLaterRecord was.record now.record ⊎ IsLaterRecord (with_tables was.record tables) now.record
+  pub changed : OnOk result (HasTables old new lost tables was now members left)
+
+-- the log is empty, and goes on from what the record has flushed
+pub record IsCleared (r : Register) (log : NvLog) : Type 0 where
+  pub flushed : log.flushed ≡ r.record.flushed
+  pub none : log.count ≡ 0
+  pub some : nv.IsSome log.members
+  pub keeps : Keeps log []
+
+-- ---- what is written
 
 -- both boot slots on the drives of the record, and the log on its devices
 abbrev pub OnSlotsAndLog : Register → List Bool → Device → ℕ → Type 0

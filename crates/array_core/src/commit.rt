@@ -1,24 +1,18 @@
 // A command is logged, and where a device failed meanwhile a record without it is stored.
-ghost use Rattle.std.specs.Prelude.{true, ◌≡◌, ◌<◌, ◌+◌, ◌-◌, ◌^◌, ◌++◌, ◌∷◌, [], List, length, OnOk, IfErr};
-ghost use Rattle.std.specs.List.{AllByRecursion};
-ghost use Rattle.pur_base.specs.Commands.{Command, AllAccepted};
-ghost use Rattle.pur_base.specs.Grammar.{data_count, is_in_force};
+ghost use Rattle.std.specs.Prelude.{◌≡◌, ◌<◌, ◌-◌, ◌^◌, ◌++◌, ◌∷◌, [], length, OnOk};
+ghost use Rattle.pur_base.specs.Grammar.{data_count};
 ghost use Rattle.log_codec.specs.Head.{IsCommand};
 ghost use Rattle.log_codec.specs.declared.limits.TheConstants.{LOG_SLOTS};
-ghost use Rattle.world.specs.Losing.{geometry_of, has_risen};
-ghost use Rattle.world.specs.Shelf.{Continues, LeavesOnly, IsCountedBy};
-ghost use Rattle.nvram_log.specs.Held.{HoldsOn, Keeps};
-ghost use Rattle.nvram_log.specs.Members.{IsSome};
-ghost use Rattle.register.specs.Registers.{IsLaterRecord, IsRegisterOf, named_sound};
-ghost use Rattle.register.specs.Standing.{Content, IsOpen};
-ghost use Rattle.memory_spec.specs.Memory.{Contents};
-ghost use Rattle.memory_spec.specs.Tables.{facts};
-ghost use Rattle.session_spec.specs.Faring.{MayRise};
-ghost use Rattle.array_core.specs.Drives.{SegmentsHold};
+ghost use Rattle.world.specs.Losing.{geometry_of};
+ghost use Rattle.world.specs.Shelf.{LeavesOnly};
+ghost use Rattle.world.specs.Ran.{Ran};
+ghost use Rattle.register.specs.Registers.{named_sound};
+ghost use Rattle.register.specs.Standing.{Content};
+ghost use Rattle.array_core.specs.Changing.{OnlyFaults, StaysOpen};
+ghost use Rattle.array_core.specs.Committing.{HasAppended, MayLog, StaysUnapplied};
 ghost use Rattle.array_core.specs.Ready.{IsArrayOf, logged};
-ghost use Rattle.array_core.specs.declared.performing.PerformFault.TheVariants.{Device};
-ghost use Rattle.array_core.specs.Holding.{DropsFailed, NoneJoins};
-ghost use Rattle.array_core.specs.Performing.{IsLost, IsKeptAt, StandsOnceBack, without_or_with};
+ghost use Rattle.array_core.specs.Performing.{StandsOnceBack, without_or_with};
+ghost use Rattle.array_core.specs.Switching.{OnSlotsAndLog};
 
 use crate::{Array, PerformFault};
 use nvram_log::Record;
@@ -37,35 +31,15 @@ pub(crate) fn commit<S: Shelf>(
     requires room { array.old.log.count < LOG_SLOTS }
     requires command { IsCommand request.now }
     requires written { length sectors.now ≡ data_count request.now }
-    ensures continues { Continues (S.shelf shelf.old) (S.shelf shelf.new) }
-    ensures rest { S.shelf_rest shelf.old shelf.new }
-    ensures memory { array.new.memory ≡ array.old.memory }
-    ensures of_shelf { IsRegisterOf (geometry_of (S.shelf shelf.new)) array.new.register }
-    ensures flushed { array.new.log.flushed ≡ array.new.register.record.flushed }
-    ensures some { OnOk result (IsSome array.new.log.members) }
-    ensures lost { IfErr result (λ e. (e ≡ Device) × IsLost (S.shelf shelf.old) (S.shelf shelf.new) array.old) }
-    ensures moments { (S.shelf shelf.old).honest → LeavesOnly (S.shelf shelf.old) (S.shelf shelf.new) (IsCountedBy (S.shelf shelf.old)) }
-    ensures count { OnOk result (array.new.log.count ≡ array.old.log.count + 1) }
-    ensures record { OnOk result (MayRise (λ d. has_risen ((S.shelf shelf.old).disk d).write_faults ((S.shelf shelf.new).disk d).write_faults) array.old.register.record array.new.register.record) }
-    // What the tables say is as it was, whatever the result.
-    ensures later { IsLaterRecord array.old.register.record array.new.register.record }
-    // What segments hold stands on the drives that are left, which are enough then.
-    ensures segments { (S.shelf shelf.old).honest → OnOk result ((contents : Contents) → SegmentsHold contents (S.shelf shelf.old) array.old.register (facts array.old.memory.memory.tables)
-        → SegmentsHold contents (S.shelf shelf.new) array.new.register (facts array.old.memory.memory.tables)) }
-    ensures dropped { OnOk result (DropsFailed (S.shelf shelf.old) (S.shelf shelf.new) array.old array.new × NoneJoins array.old array.new) }
-    ensures keeps { OnOk result ((commands : List Command) → Keeps array.old.log commands → Keeps array.new.log (commands ++ record { request = request.now; sectors = sectors.now } ∷ [])) }
-    ensures held { (S.shelf shelf.old).honest → OnOk result ((held : Content) → IsOpen (S.shelf shelf.old) array.old.register array.old.log.members held → HoldsOn (S.shelf shelf.old) array.old.log.members array.old.log.flushed held.log → Keeps array.old.log held.log
-        → AllAccepted held.base (held.log ++ record { request = request.now; sectors = sectors.now } ∷ [])
-        → AllByRecursion (λ c. is_in_force c.request ≡ true) (held.log ++ record { request = request.now; sectors = sectors.now } ∷ [])
-        → IsOpen (S.shelf shelf.new) array.new.register array.new.log.members (logged held (record { request = request.now; sectors = sectors.now }))
-        × HoldsOn (S.shelf shelf.new) array.new.log.members array.new.log.flushed (held.log ++ record { request = request.now; sectors = sectors.now } ∷ [])) }
-    ensures any_moment { (S.shelf shelf.old).honest → (held : Content) → IsOpen (S.shelf shelf.old) array.old.register array.old.log.members held → HoldsOn (S.shelf shelf.old) array.old.log.members array.old.log.flushed held.log → Keeps array.old.log held.log
-        → AllAccepted held.base (held.log ++ record { request = request.now; sectors = sectors.now } ∷ [])
-        → AllByRecursion (λ c. is_in_force c.request ≡ true) (held.log ++ record { request = request.now; sectors = sectors.now } ∷ [])
-        → LeavesOnly (S.shelf shelf.old) (S.shelf shelf.new) (IsKeptAt (S.shelf shelf.old) array.old.register.record (without_or_with held (record { request = request.now; sectors = sectors.now }))) }
-    ensures outlasts { (S.shelf shelf.old).honest → (held : Content) → IsOpen (S.shelf shelf.old) array.old.register array.old.log.members held → HoldsOn (S.shelf shelf.old) array.old.log.members array.old.log.flushed held.log → Keeps array.old.log held.log
-        → AllAccepted held.base (held.log ++ record { request = request.now; sectors = sectors.now } ∷ [])
-        → AllByRecursion (λ c. is_in_force c.request ≡ true) (held.log ++ record { request = request.now; sectors = sectors.now } ∷ [])
+    ensures ran { Ran S.shelf S.shelf_rest (λ d. Unit {0}) (OnSlotsAndLog array.old.register array.old.log.members) shelf.old shelf.new }
+    ensures unapplied { StaysUnapplied (geometry_of (S.shelf shelf.new)) array.old array.new }
+    ensures appended { OnOk result (HasAppended (S.shelf shelf.old) (S.shelf shelf.new) array.old array.new (record { request = request.now; sectors = sectors.now })) }
+    ensures faults { OnlyFaults result (S.shelf shelf.old) (S.shelf shelf.new) array.old.register array.new.register array.old.log.members array.new.log.members }
+    // Then the array is open with the command in its log. At every moment a session can go on without it or with it.
+    ensures stays { (S.shelf shelf.old).honest → (held : Content) → MayLog (S.shelf shelf.old) array.old held (record { request = request.now; sectors = sectors.now })
+        → StaysOpen result (S.shelf shelf.old) (S.shelf shelf.old) (S.shelf shelf.new) array.old.register.record (without_or_with held (record { request = request.now; sectors = sectors.now }))
+        array.new.register array.new.log (logged held (record { request = request.now; sectors = sectors.now })) (held.log ++ record { request = request.now; sectors = sectors.now } ∷ []) }
+    ensures outlasts { (S.shelf shelf.old).honest → (held : Content) → MayLog (S.shelf shelf.old) array.old held (record { request = request.now; sectors = sectors.now })
         → LeavesOnly (S.shelf shelf.old) (S.shelf shelf.new) (StandsOnceBack (S.shelf shelf.old) (named_sound array.old.register.record) (without_or_with held (record { request = request.now; sectors = sectors.now }))) }
 {
     let before = array.log.members();

@@ -1,294 +1,246 @@
-use Rattle.std.proofs.Common.{rules, ◌≡◌, ◌∙◌, sym, subst, refl, inl, inr, ℕ, ◌-◌, ◌^◌, ◌<◌, ◌++◌, ◌∷◌, [], List, length, Bool, Result, IfErr, arith}
-use Rattle.std.proofs.lemmas.Result.{err_from_is_err_and}
+use Rattle.std.proofs.Common.{rules, ◌≡◌, ◌∙◌, sym, subst, ap, refl, inl, inr, ℕ, ◌+◌, ◌-◌, ◌^◌, ◌<◌, ◌++◌, ◌∷◌, [], List, length, Bool, Ok, arith}
 use Rattle.pur_base.specs.Commands.{Command}
-use Rattle.pur_base.specs.Devices.{Conditions, Geometry, drive, nvram}
+use Rattle.pur_base.specs.Devices.{Conditions, drive, nvram}
 use Rattle.pur_base.specs.Plain as plain
+use Rattle.boot_codec.specs.declared.record.BootRecord.{BootRecord}
 use Rattle.world.specs.Losing.{geometry_of}
-use Rattle.world.specs.Shelf.{Disk, LeavesOnly}
-use Rattle.world.proofs.Moments.{continues_trans}
+use Rattle.world.specs.Shelf.{LeavesOnly}
+use Rattle.world.proofs.Ran.{ran_more, ran_then}
 use Rattle.boot_region.specs.Storing.{StandsAgain, StandsBut}
 use Rattle.nvram_log.specs.Held.{HoldsOn}
-use Rattle.nvram_log.specs.Slots.{IsLog}
-use Rattle.register.specs.Registers.{IsRegisterOf, drives_of, next_slot}
+use Rattle.register.specs.Registers.{drives_of, named_sound, next_slot}
 use Rattle.register.specs.Standing.{Content, GivesOldOrNext, IsFirm, IsOpen, MayStore, StandsInLog}
 use Rattle.register.proofs.FlagLemmas.{same_flags, other_flags}
 use Rattle.register.proofs.Moments.{stands_at, gives_at}
+use Rattle.register.proofs.Made.{store_later}
 use Rattle.array_core.specs.declared.array.Array.{Array}
-use Rattle.array_core.specs.declared.performing.PerformFault.{PerformFault}
-use Rattle.array_core.specs.declared.performing.PerformFault.TheVariants.{Device}
 use Rattle.memory_spec.specs.Tables.{facts}
+use Rattle.array_core.specs.Committing.{MayLog}
 use Rattle.array_core.specs.Ready.{logged}
-use Rattle.array_core.specs.Performing.{IsLost}
-use Rattle.array_core.proofs.Lost.{lost_drives, lost_log}
-use Rattle.array_core.proofs.Dropped.{counted_on, drops_failed, fewer_drives, none_joins, rises_little}
-use Rattle.array_core.proofs.Appended.{appending, append_moments, off_nvrams, still_open, logged_then, all_moments}
+use Rattle.array_core.specs.Performing.{IsKeptAt, StandsOnceBack, without_or_with}
+use Rattle.array_core.proofs.Changes.{only_faults, when_err}
+use Rattle.array_core.proofs.Lost.{lost_log}
+use Rattle.array_core.proofs.LostOnWay.{drives_lost}
+use Rattle.array_core.proofs.Dropped.{fewer_drives, none_joins, rises_little}
+use Rattle.array_core.proofs.Appended.{IsAppending, appending, append_moments, off_nvrams, still_open, logged_then, all_moments}
 use Rattle.array_core.proofs.Outlasts.{append_again, store_again}
 use Rattle.array_core.proofs.Segments.{AreKept, behind_boot, drives_left, hold_fewer, hold_kept, unwritten}
+use Rattle.array_core.proofs.Tables.{still_holds}
+use Rattle.array_core.proofs.commit.commit.Given as given
 use Rattle.array_core.proofs.commit.commit.Goals as goal
-use Rattle.register.proofs.Rounds.{same_shelf}
-use Rattle.register.proofs.Made.{store_later}
+use Rattle.array_core.proofs.commit.commit.Goals.{After-append, After-store}
 
-pub returns-in_err-store-clause-moments : goal.returns-in_err-store-clause-moments
-returns-in_err-store-clause-moments g c h = counted_on c.append.ensures.ran.on.continues (c.append.ensures.ran.on.writes h) (c.store.ensures.ran.on.writes (c.append.ensures.ran.on.continues.honest h))
+abbrev command : (g : given.Over) → After-append g → Command
+command g c = record { request = c.args.request.now; sectors = c.args.sectors.now }
 
-pub returns-clause-moments : goal.returns-clause-moments
-returns-clause-moments g c h = counted_on c.append.ensures.ran.on.continues (c.append.ensures.ran.on.writes h) (c.store.ensures.ran.on.writes (c.append.ensures.ran.on.continues.honest h))
+-- the command is appended
+appended : (g : given.Over) (c : After-append g) → (g.S.Shelf.shelf c.args.shelf.now).honest → (held : Content) → MayLog (g.S.Shelf.shelf c.args.shelf.now) c.args.array.now held (command g c)
+    → IsAppending (g.S.Shelf.shelf c.args.shelf.now) (g.S.Shelf.shelf c.append.new.shelf) c.args.array.now.register c.args.array.now.log.members c.append.new.self.members held (command g c)
+appended g c h held may =
+    let x = c.append.ensures in
+    appending (g.S.Shelf.shelf c.args.shelf.now) (g.S.Shelf.shelf c.append.new.shelf) c.args.array.now.register c.args.array.now.log c.append.new.self.members held (command g c) (g.met.S.Shelf.is_shelf c.args.shelf.now) (g.met.S.Shelf.is_shelf c.append.new.shelf) h
+    x.ran.on.continues may.is_open.is_open may.keeps c.requires.room c.requires.is_of.flushed may.accepted (λ i. x.ran.on.others (drive i) (λ none. none)) x.fewer x.dropped (x.any_moment h held.log may.keeps may.is_open.held_log) (x.ran.on.writes h) (x.spelled 0 _ refl) may.in_force
 
-pub returns-in_err-append-clause-any_moment : goal.returns-in_err-append-clause-any_moment
-returns-in_err-append-clause-any_moment g c h held o holds keeps accepted in_force =
+moments : (g : given.Over) (c : After-append g) → (g.S.Shelf.shelf c.args.shelf.now).honest → (held : Content) → MayLog (g.S.Shelf.shelf c.args.shelf.now) c.args.array.now held (command g c)
+    → LeavesOnly (g.S.Shelf.shelf c.args.shelf.now) (g.S.Shelf.shelf c.append.new.shelf) (IsKeptAt (g.S.Shelf.shelf c.args.shelf.now) c.args.array.now.register.record (without_or_with held (command g c)))
+moments g c h held may =
+    append_moments (g.S.Shelf.shelf c.args.shelf.now) (g.S.Shelf.shelf c.append.new.shelf) c.args.array.now.register c.args.array.now.log.members c.append.new.self.members held (command g c) (appended g c h held may)
+
+outlasts : (g : given.Over) (c : After-append g) → (g.S.Shelf.shelf c.args.shelf.now).honest → (held : Content) → MayLog (g.S.Shelf.shelf c.args.shelf.now) c.args.array.now held (command g c)
+    → LeavesOnly (g.S.Shelf.shelf c.args.shelf.now) (g.S.Shelf.shelf c.append.new.shelf) (StandsOnceBack (g.S.Shelf.shelf c.args.shelf.now) (named_sound c.args.array.now.register.record) (without_or_with held (command g c)))
+outlasts g c h held may =
+    append_again (g.S.Shelf.shelf c.args.shelf.now) (g.S.Shelf.shelf c.append.new.shelf) c.args.array.now.register c.args.array.now.log.members c.append.new.self.members held (command g c) (appended g c h held may)
+
+-- ---- it is on no device
+
+pub returns-in_err-append-clause-ran : goal.returns-in_err-append-clause-ran
+returns-in_err-append-clause-ran g c = ran_more (λ d is. tt) (λ d i w. inr w) c.append.ensures.ran
+
+pub returns-in_err-append-clause-faults : goal.returns-in_err-append-clause-faults
+returns-in_err-append-clause-faults g c =
     let a = g.S.Shelf.shelf c.args.shelf.now in
+    let m = g.S.Shelf.shelf c.append.new.shelf in
+    let r = c.args.array.now.register in
+    let x = c.append.ensures in
+    only_faults a m m r r c.args.array.now.log.members c.append.new.self.members (search rules) (λ i. x.ran.on.others (drive i) (λ none. none)) (λ k. refl) x.dropped (λ i is. inl is) c.from_residual.result
+    (λ dropped. when_err c.from_residual.result (inl (lost_log a m c.args.array.now.log.members c.append.new.self.members x.dropped c.in_err-append.ensures.err.1)))
+
+pub returns-in_err-append-clause-stays : goal.returns-in_err-append-clause-stays
+returns-in_err-append-clause-stays g c h held may = record { opens = search rules; any_moment = moments g (goal.at.returns-in_err-append-clause-stays g c).After-append h held may }
+
+pub returns-in_err-append-clause-outlasts : goal.returns-in_err-append-clause-outlasts
+returns-in_err-append-clause-outlasts g c = outlasts g (goal.at.returns-in_err-append-clause-outlasts g c).After-append
+
+-- ---- no device failed
+
+pub returns-then-eq-clause-ran : goal.returns-then-eq-clause-ran
+returns-then-eq-clause-ran g c = ran_more (λ d is. tt) (λ d i w. inr w) c.append.ensures.ran
+
+pub returns-then-eq-clause-appended : goal.returns-then-eq-clause-appended
+returns-then-eq-clause-appended g c =
+    let a = g.S.Shelf.shelf c.args.shelf.now in
+    let m = g.S.Shelf.shelf c.append.new.shelf in
+    let was = c.args.array.now in
+    record {
+      some = search rules;
+      count = search rules;
+      keeps = search rules;
+      boot = search rules;
+      joins = record { holders = search rules; named = λ d e. inl e };
+      segments = λ h contents hold. hold_kept (geometry_of a) a m was.register (unwritten a m was.register (λ i. c.append.ensures.ran.on.others (drive i) (λ none. none))) contents (facts was.memory.memory.tables) c.requires.is_of.segments.places hold;
+    }
+
+pub returns-then-eq-clause-faults : goal.returns-then-eq-clause-faults
+returns-then-eq-clause-faults g c =
+    let m = g.S.Shelf.shelf c.append.new.shelf in
+    let r = c.args.array.now.register in
+    let x = c.append.ensures in
+    only_faults (g.S.Shelf.shelf c.args.shelf.now) m m r r c.args.array.now.log.members c.append.new.self.members (search rules) (λ i. x.ran.on.others (drive i) (λ none. none)) (λ k. refl) x.dropped (λ i is. inl is) (Ok tt) (λ dropped. tt)
+
+pub returns-then-eq-clause-stays : goal.returns-then-eq-clause-stays
+returns-then-eq-clause-stays g c h held may =
     let m = g.S.Shelf.shelf c.append.new.shelf in
     let r = c.args.array.now.register in
     let log = c.args.array.now.log in
     let now = c.append.new.self.members in
-    let cmd : Command = record { request = c.args.request.now; sectors = c.args.sectors.now } in
     let x = c.append.ensures in
-    let p = appending a m r log now held cmd (g.met.S.Shelf.is_shelf c.args.shelf.now) (g.met.S.Shelf.is_shelf c.append.new.shelf) h x.ran.on.continues o keeps c.requires.room c.requires.is_of.flushed accepted
-    (λ i. x.ran.on.others (drive i) (λ none. none)) x.fewer x.dropped (x.any_moment h held.log keeps holds) (x.ran.on.writes h) (x.spelled 0 _ refl) in_force in
-    append_moments a m r log.members now held cmd p
-
-pub returns-then-eq-clause-any_moment : goal.returns-then-eq-clause-any_moment
-returns-then-eq-clause-any_moment g c h held o holds keeps accepted in_force =
-    let a = g.S.Shelf.shelf c.args.shelf.now in
-    let m = g.S.Shelf.shelf c.append.new.shelf in
-    let r = c.args.array.now.register in
-    let log = c.args.array.now.log in
-    let now = c.append.new.self.members in
-    let cmd : Command = record { request = c.args.request.now; sectors = c.args.sectors.now } in
-    let x = c.append.ensures in
-    let p = appending a m r log now held cmd (g.met.S.Shelf.is_shelf c.args.shelf.now) (g.met.S.Shelf.is_shelf c.append.new.shelf) h x.ran.on.continues o keeps c.requires.room c.requires.is_of.flushed accepted
-    (λ i. x.ran.on.others (drive i) (λ none. none)) x.fewer x.dropped (x.any_moment h held.log keeps holds) (x.ran.on.writes h) (x.spelled 0 _ refl) in_force in
-    append_moments a m r log.members now held cmd p
-
-pub returns-then-eq-clause-held : goal.returns-then-eq-clause-held
-returns-then-eq-clause-held g c h held o holds keeps accepted in_force =
-    let a = g.S.Shelf.shelf c.args.shelf.now in
-    let m = g.S.Shelf.shelf c.append.new.shelf in
-    let r = c.args.array.now.register in
-    let log = c.args.array.now.log in
-    let now = c.append.new.self.members in
-    let cmd : Command = record { request = c.args.request.now; sectors = c.args.sectors.now } in
-    let x = c.append.ensures in
-    let p = appending a m r log now held cmd (g.met.S.Shelf.is_shelf c.args.shelf.now) (g.met.S.Shelf.is_shelf c.append.new.shelf) h x.ran.on.continues o keeps c.requires.room c.requires.is_of.flushed accepted
-    (λ i. x.ran.on.others (drive i) (λ none. none)) x.fewer x.dropped (x.any_moment h held.log keeps holds) (x.ran.on.writes h) (x.spelled 0 _ refl) in_force in
-    let held_then : HoldsOn m now r.record.flushed (held.log ++ cmd ∷ []) = subst (λ (f : ℕ). HoldsOn m now f (held.log ++ cmd ∷ [])) (x.flushed ∙ c.requires.is_of.flushed) (c.in_ok-append.ensures.holds h held.log keeps holds) in
+    let k = (goal.at.returns-then-eq-clause-stays g c).After-append in
+    let holds = c.in_ok-append.ensures.holds h held.log may.keeps may.is_open.held_log in
+    let holds_then : HoldsOn m now r.record.flushed (held.log ++ command g k ∷ []) = subst (λ (f : ℕ). HoldsOn m now f (held.log ++ command g k ∷ [])) (x.flushed ∙ c.requires.is_of.flushed) holds in
     let same : log.members ≡ now = sym c.members-before.ensures ∙ sym (same_flags c.members-members.result c.members-before.result c.if-eq.ensures) ∙ c.members-members.ensures in
-    (still_open a m r log.members now held cmd p held_then same, c.in_ok-append.ensures.holds h held.log keeps holds)
+    record {
+      opens = record { is_open = still_open (g.S.Shelf.shelf c.args.shelf.now) m r log.members now held (command g k) (appended g k h held may) holds_then same; held_log = holds };
+      any_moment = moments g k h held may;
+    }
 
-pub returns-in_err-store-clause-continues : goal.returns-in_err-store-clause-continues
-returns-in_err-store-clause-continues g c = continues_trans c.append.ensures.ran.on.continues c.store.ensures.ran.on.continues
+pub returns-then-eq-clause-outlasts : goal.returns-then-eq-clause-outlasts
+returns-then-eq-clause-outlasts g c = outlasts g (goal.at.returns-then-eq-clause-outlasts g c).After-append
 
-pub returns-clause-continues : goal.returns-clause-continues
-returns-clause-continues g c = continues_trans c.append.ensures.ran.on.continues c.store.ensures.ran.on.continues
+-- ---- a record was stored without one of them, or could not be
 
-pub returns-clause-rest : goal.returns-clause-rest
-returns-clause-rest g c = g.met.S.Shelf.shelf_rest_stays.transitive _ _ _ c.append.ensures.ran.rest c.store.ensures.ran.rest
+room : (g : given.Over) (c : After-store g) → c.store.new.self.record.generation < 2 ^ 48 - 8
+room g c = omega (arith, c.store.ensures.made.few, c.requires.not_spent)
 
-pub returns-in_err-store-clause-lost : goal.returns-in_err-store-clause-lost
-returns-in_err-store-clause-lost g c =
-    let a = g.S.Shelf.shelf c.args.shelf.now in
+abbrev command_then : (g : given.Over) → After-store g → Command
+command_then g c = record { request = c.args.request.now; sectors = c.args.sectors.now }
+
+holds_then : (g : given.Over) (c : After-store g) → (g.S.Shelf.shelf c.args.shelf.now).honest → (held : Content) → MayLog (g.S.Shelf.shelf c.args.shelf.now) c.args.array.now held (command_then g c)
+    → HoldsOn (g.S.Shelf.shelf c.append.new.shelf) c.append.new.self.members c.args.array.now.register.record.flushed (held.log ++ command_then g c ∷ [])
+holds_then g c h held may =
+    subst (λ (f : ℕ). HoldsOn (g.S.Shelf.shelf c.append.new.shelf) c.append.new.self.members f (held.log ++ command_then g c ∷ [])) (c.append.ensures.flushed ∙ c.requires.is_of.flushed)
+    (c.in_ok-append.ensures.holds h held.log may.keeps may.is_open.held_log)
+
+store_moments : (g : given.Over) (c : After-store g) → (g.S.Shelf.shelf c.args.shelf.now).honest → (held : Content) → MayLog (g.S.Shelf.shelf c.args.shelf.now) c.args.array.now held (command_then g c)
+    → IsAppending (g.S.Shelf.shelf c.args.shelf.now) (g.S.Shelf.shelf c.append.new.shelf) c.args.array.now.register c.args.array.now.log.members c.append.new.self.members held (command_then g c)
+    → LeavesOnly (g.S.Shelf.shelf c.args.shelf.now) (g.S.Shelf.shelf c.store.new.shelf) (IsKeptAt (g.S.Shelf.shelf c.args.shelf.now) c.args.array.now.register.record (without_or_with held (command_then g c)))
+store_moments g c h held may p =
     let m = g.S.Shelf.shelf c.append.new.shelf in
     let n = g.S.Shelf.shelf c.store.new.shelf in
     let r = c.args.array.now.register in
-    let q = err_from_is_err_and c.from_residual-in_err-store.result c.from_residual-in_err-store.ensures.1 in
-    let is : IsRegisterOf (geometry_of m) r = subst (λ (k : Geometry). IsRegisterOf k r) (same_shelf c.append.ensures.ran.on.continues) c.requires.is_of.of_shelf in
-    let lost : IsLost a n c.args.array.now =
-    inr (lost_drives a m n r c.store.new.self (λ i. c.append.ensures.ran.on.others (drive i) (λ none. none)) is c.requires.not_spent c.store.ensures.left.dropped (store_later c.store.ensures.made) c.in_err-store.ensures.made.lost c.in_err-store.field-0.0 c.in_err-store.ensures.made.fault) in
-    subst (λ (t : Result (Unit {0}) PerformFault). IfErr t (λ e. (e ≡ Device) × IsLost a n c.args.array.now)) (sym q.1) (q.2, lost)
+    let now = c.append.new.self.members in
+    let hm = c.append.ensures.ran.on.continues.honest h in
+    all_moments (g.S.Shelf.shelf c.args.shelf.now) m r c.args.array.now.log.members now held (command_then g c) p (holds_then g c h held may) n (off_nvrams (drives_of r)) (c.store.ensures.ran.on.writes hm)
+    (subst (λ (l : List Bool). (missing : Conditions) (k : Content) (others : List plain.Array) → MayStore m r l missing k others → LeavesOnly m n (StandsBut m (drives_of r) missing (next_slot r.record) r.record others))
+    c.members-members.ensures (stands_at (c.store.ensures.moments hm (room g c))))
+    (subst (λ (l : List Bool). (missing : Conditions) (k : Content) (others : List plain.Array) → MayStore m r l missing k others → LeavesOnly m n (GivesOldOrNext m r l missing))
+    c.members-members.ensures (gives_at (c.store.ensures.moments hm (room g c))))
 
-pub returns-in_err-store-clause-any_moment : goal.returns-in_err-store-clause-any_moment
-returns-in_err-store-clause-any_moment g c h held o holds keeps accepted in_force =
-    let a = g.S.Shelf.shelf c.args.shelf.now in
+store_outlasts : (g : given.Over) (c : After-store g) → (g.S.Shelf.shelf c.args.shelf.now).honest → (held : Content) → MayLog (g.S.Shelf.shelf c.args.shelf.now) c.args.array.now held (command_then g c)
+    → IsAppending (g.S.Shelf.shelf c.args.shelf.now) (g.S.Shelf.shelf c.append.new.shelf) c.args.array.now.register c.args.array.now.log.members c.append.new.self.members held (command_then g c)
+    → LeavesOnly (g.S.Shelf.shelf c.args.shelf.now) (g.S.Shelf.shelf c.store.new.shelf) (StandsOnceBack (g.S.Shelf.shelf c.args.shelf.now) (named_sound c.args.array.now.register.record) (without_or_with held (command_then g c)))
+store_outlasts g c h held may p =
     let m = g.S.Shelf.shelf c.append.new.shelf in
     let n = g.S.Shelf.shelf c.store.new.shelf in
     let r = c.args.array.now.register in
-    let log = c.args.array.now.log in
-    let now = c.append.new.self.members in
-    let cmd : Command = record { request = c.args.request.now; sectors = c.args.sectors.now } in
-    let x = c.append.ensures in
-    let room : c.store.new.self.record.generation < 2 ^ 48 - 8 = omega (arith, c.store.ensures.made.few, c.requires.not_spent) in
-    let p = appending a m r log now held cmd (g.met.S.Shelf.is_shelf c.args.shelf.now) (g.met.S.Shelf.is_shelf c.append.new.shelf) h x.ran.on.continues o keeps c.requires.room c.requires.is_of.flushed accepted
-    (λ i. x.ran.on.others (drive i) (λ none. none)) x.fewer x.dropped (x.any_moment h held.log keeps holds) (x.ran.on.writes h) (x.spelled 0 _ refl) in_force in
-    let held_then : HoldsOn m now r.record.flushed (held.log ++ cmd ∷ []) = subst (λ (f : ℕ). HoldsOn m now f (held.log ++ cmd ∷ [])) (x.flushed ∙ c.requires.is_of.flushed) (c.in_ok-append.ensures.holds h held.log keeps holds) in
-    let storing : (missing : Conditions) (k : Content) (others : List plain.Array) → MayStore m r now missing k others → LeavesOnly m n (StandsBut m (drives_of r) missing (next_slot r.record) r.record others) =
-    subst (λ (l : List Bool). (missing : Conditions) (k : Content) (others : List plain.Array) → MayStore m r l missing k others → LeavesOnly m n (StandsBut m (drives_of r) missing (next_slot r.record) r.record others))
-    c.members-members.ensures (stands_at (c.store.ensures.moments (x.ran.on.continues.honest h) room)) in
-    let giving : (missing : Conditions) (k : Content) (others : List plain.Array) → MayStore m r now missing k others → LeavesOnly m n (GivesOldOrNext m r now missing) =
-    subst (λ (l : List Bool). (missing : Conditions) (k : Content) (others : List plain.Array) → MayStore m r l missing k others → LeavesOnly m n (GivesOldOrNext m r l missing))
-    c.members-members.ensures (gives_at (c.store.ensures.moments (x.ran.on.continues.honest h) room)) in
-    all_moments a m r log.members now held cmd p held_then n (off_nvrams (drives_of r)) (c.store.ensures.ran.on.writes (x.ran.on.continues.honest h)) storing giving
+    store_again (g.S.Shelf.shelf c.args.shelf.now) m r c.args.array.now.log.members c.append.new.self.members held (command_then g c) p (holds_then g c h held may) c.in_ok-append.ensures.ok.1 n
+    (subst (λ (l : List Bool). (missing : Conditions) (k : Content) (others : List plain.Array) → MayStore m r l missing k others → IsFirm m r missing → LeavesOnly m n (StandsAgain m missing others))
+    c.members-members.ensures (c.store.ensures.outlasts (c.append.ensures.ran.on.continues.honest h) (room g c)))
 
-pub returns-clause-any_moment : goal.returns-clause-any_moment
-returns-clause-any_moment g c h held o holds keeps accepted in_force =
+pub returns-in_err-store-clause-ran : goal.returns-in_err-store-clause-ran
+returns-in_err-store-clause-ran g c =
+    ran_then g.met.S.Shelf.shelf_rest_stays (ran_more (λ d is. tt) (λ d i w. inr w) c.append.ensures.ran) (ran_more (λ d is. tt) (λ d i w. inl w) c.store.ensures.ran)
+
+pub returns-in_err-store-clause-faults : goal.returns-in_err-store-clause-faults
+returns-in_err-store-clause-faults g c =
     let a = g.S.Shelf.shelf c.args.shelf.now in
-    let m = g.S.Shelf.shelf c.append.new.shelf in
     let n = g.S.Shelf.shelf c.store.new.shelf in
     let r = c.args.array.now.register in
-    let log = c.args.array.now.log in
-    let now = c.append.new.self.members in
-    let cmd : Command = record { request = c.args.request.now; sectors = c.args.sectors.now } in
+    let now = c.store.new.self in
     let x = c.append.ensures in
-    let room : c.store.new.self.record.generation < 2 ^ 48 - 8 = omega (arith, c.store.ensures.made.few, c.requires.not_spent) in
-    let p = appending a m r log now held cmd (g.met.S.Shelf.is_shelf c.args.shelf.now) (g.met.S.Shelf.is_shelf c.append.new.shelf) h x.ran.on.continues o keeps c.requires.room c.requires.is_of.flushed accepted
-    (λ i. x.ran.on.others (drive i) (λ none. none)) x.fewer x.dropped (x.any_moment h held.log keeps holds) (x.ran.on.writes h) (x.spelled 0 _ refl) in_force in
-    let held_then : HoldsOn m now r.record.flushed (held.log ++ cmd ∷ []) = subst (λ (f : ℕ). HoldsOn m now f (held.log ++ cmd ∷ [])) (x.flushed ∙ c.requires.is_of.flushed) (c.in_ok-append.ensures.holds h held.log keeps holds) in
-    let storing : (missing : Conditions) (k : Content) (others : List plain.Array) → MayStore m r now missing k others → LeavesOnly m n (StandsBut m (drives_of r) missing (next_slot r.record) r.record others) =
-    subst (λ (l : List Bool). (missing : Conditions) (k : Content) (others : List plain.Array) → MayStore m r l missing k others → LeavesOnly m n (StandsBut m (drives_of r) missing (next_slot r.record) r.record others))
-    c.members-members.ensures (stands_at (c.store.ensures.moments (x.ran.on.continues.honest h) room)) in
-    let giving : (missing : Conditions) (k : Content) (others : List plain.Array) → MayStore m r now missing k others → LeavesOnly m n (GivesOldOrNext m r now missing) =
-    subst (λ (l : List Bool). (missing : Conditions) (k : Content) (others : List plain.Array) → MayStore m r l missing k others → LeavesOnly m n (GivesOldOrNext m r l missing))
-    c.members-members.ensures (gives_at (c.store.ensures.moments (x.ran.on.continues.honest h) room)) in
-    all_moments a m r log.members now held cmd p held_then n (off_nvrams (drives_of r)) (c.store.ensures.ran.on.writes (x.ran.on.continues.honest h)) storing giving
+    let y = c.store.ensures in
+    let low : now.record.generation + 1 < 2 ^ 48 = omega (arith, y.made.few, c.requires.not_spent) in
+    only_faults a (g.S.Shelf.shelf c.append.new.shelf) n r now c.args.array.now.log.members c.append.new.self.members (search rules) (λ i. x.ran.on.others (drive i) (λ none. none)) (λ k. y.ran.on.others (nvram k) (λ none. none)) x.dropped y.left.dropped
+    c.from_residual-in_err-store.result (λ dropped. when_err c.from_residual-in_err-store.result
+    (inr (drives_lost a n r now (ap (λ (b : BootRecord). b.slots) (store_later y.made).rest) dropped low c.in_err-store.field-0.0 c.in_err-store.ensures.made.fault)))
 
-pub returns-clause-held : goal.returns-clause-held
-returns-clause-held g c h held o holds keeps accepted in_force =
-    let a = g.S.Shelf.shelf c.args.shelf.now in
-    let m = g.S.Shelf.shelf c.append.new.shelf in
-    let n = g.S.Shelf.shelf c.store.new.shelf in
-    let r = c.args.array.now.register in
-    let log = c.args.array.now.log in
-    let now = c.append.new.self.members in
-    let cmd : Command = record { request = c.args.request.now; sectors = c.args.sectors.now } in
-    let x = c.append.ensures in
-    let room : c.store.new.self.record.generation < 2 ^ 48 - 8 = omega (arith, c.store.ensures.made.few, c.requires.not_spent) in
-    let p = appending a m r log now held cmd (g.met.S.Shelf.is_shelf c.args.shelf.now) (g.met.S.Shelf.is_shelf c.append.new.shelf) h x.ran.on.continues o keeps c.requires.room c.requires.is_of.flushed accepted
-    (λ i. x.ran.on.others (drive i) (λ none. none)) x.fewer x.dropped (x.any_moment h held.log keeps holds) (x.ran.on.writes h) (x.spelled 0 _ refl) in_force in
-    let held_then : HoldsOn m now r.record.flushed (held.log ++ cmd ∷ []) = subst (λ (f : ℕ). HoldsOn m now f (held.log ++ cmd ∷ [])) (x.flushed ∙ c.requires.is_of.flushed) (c.in_ok-append.ensures.holds h held.log keeps holds) in
-    let in_log = logged_then a m r log.members now held cmd p held_then in
-    let stored : IsOpen n c.store.new.self c.members-members.result (logged held cmd) =
-    c.in_ok-store.ensures.stored (x.ran.on.continues.honest h) room (logged held cmd) (subst (λ (l : List Bool). StandsInLog m r l (logged held cmd)) (sym c.members-members.ensures) in_log) in
-    let same : (k : ℕ) → n.disk (nvram k) ≡ m.disk (nvram k) = λ k. c.store.ensures.ran.on.others (nvram k) (λ z. z) in
-    let still = c.in_ok-append.ensures.holds h held.log keeps holds in (
-      subst (λ (l : List Bool). IsOpen n c.store.new.self l (logged held cmd)) c.members-members.ensures stored,
-      record {
-        log = λ k lt member. subst (λ (d : Disk). IsLog d.bytes c.append.new.self.flushed (held.log ++ cmd ∷ [])) (sym (same k)) (still.log k lt member);
-        clean = λ k lt member. subst (λ (d : Disk). d.dirty ≡ []) (sym (same k)) (still.clean k lt member);
-      },
-    )
+pub returns-in_err-store-clause-stays : goal.returns-in_err-store-clause-stays
+returns-in_err-store-clause-stays g c h held may =
+    let k = goal.at.returns-in_err-store-clause-stays g c in
+    record { opens = search rules; any_moment = store_moments g k.After-store h held may (appended g k.After-append h held may) }
 
-pub returns-clause-record : goal.returns-clause-record
-returns-clause-record g c =
-    let a = g.S.Shelf.shelf c.args.shelf.now in
-    let m = g.S.Shelf.shelf c.append.new.shelf in
-    let n = g.S.Shelf.shelf c.store.new.shelf in
-    let log = c.args.array.now.log in
-    let now = c.append.new.self.members in
-    let x = c.append.ensures in
-    let two : length log.members ≡ 2 = search rules in
-    let two_now : length now ≡ 2 = search rules in
-    let other : now ≡ log.members → ⊥ =
-    λ e. other_flags c.members-members.result c.members-before.result c.if-eq.ensures (c.members-members.ensures ∙ e ∙ sym c.members-before.ensures) in
-    rises_little a m n log.members now c.args.array.now.register c.store.new.self two two_now other x.fewer x.dropped (λ k. c.store.ensures.ran.on.others (nvram k) (λ none. none))
-    c.requires.is_of.of_shelf (store_later c.store.ensures.made) c.in_ok-store.ensures.made.generation.0 c.in_ok-store.ensures.made.enough c.in_ok-store.ensures.made.stores
+pub returns-in_err-store-clause-outlasts : goal.returns-in_err-store-clause-outlasts
+returns-in_err-store-clause-outlasts g c h held may = let k = goal.at.returns-in_err-store-clause-outlasts g c in store_outlasts g k.After-store h held may (appended g k.After-append h held may)
 
-pub returns-clause-dropped : goal.returns-clause-dropped
-returns-clause-dropped g c =
+pub returns-clause-ran : goal.returns-clause-ran
+returns-clause-ran g c =
+    ran_then g.met.S.Shelf.shelf_rest_stays (ran_more (λ d is. tt) (λ d i w. inr w) c.append.ensures.ran) (ran_more (λ d is. tt) (λ d i w. inl w) c.store.ensures.ran)
+
+pub returns-clause-appended : goal.returns-clause-appended
+returns-clause-appended g c =
     let a = g.S.Shelf.shelf c.args.shelf.now in
     let m = g.S.Shelf.shelf c.append.new.shelf in
     let n = g.S.Shelf.shelf c.store.new.shelf in
     let was = c.args.array.now in
     let now : Array = record { memory = was.memory; log = c.append.new.self; register = c.store.new.self } in
-    let x = c.append.ensures in
-    let two : length was.log.members ≡ 2 = search rules in (
-      drops_failed a m n was.register now.register was.log.members now.log.members two (λ i. x.ran.on.others (drive i) (λ none. none)) (λ k. c.store.ensures.ran.on.others (nvram k) (λ none. none)) x.dropped c.store.ensures.left.dropped,
-      none_joins (geometry_of a) was now c.members-members.result c.requires.is_of.of_shelf (store_later c.store.ensures.made) c.store.ensures.left.fewer x.fewer c.members-members.ensures c.in_ok-store.ensures.made.members,
-    )
-
-pub returns-then-eq-clause-segments : goal.returns-then-eq-clause-segments
-returns-then-eq-clause-segments g c h contents hold =
-    let a = g.S.Shelf.shelf c.args.shelf.now in
-    let m = g.S.Shelf.shelf c.append.new.shelf in
-    let was = c.args.array.now.register in
-    hold_kept (geometry_of a) a m was (unwritten a m was (λ i. c.append.ensures.ran.on.others (drive i) (λ none. none))) contents (facts c.args.array.now.memory.memory.tables) c.requires.is_of.segments.places hold
-
-pub returns-clause-segments : goal.returns-clause-segments
-returns-clause-segments g c h contents hold =
-    let a = g.S.Shelf.shelf c.args.shelf.now in
-    let m = g.S.Shelf.shelf c.append.new.shelf in
-    let n = g.S.Shelf.shelf c.store.new.shelf in
-    let was = c.args.array.now.register in
-    let now = c.store.new.self in
-    let places = c.requires.is_of.segments.places in
-    let tables = facts c.args.array.now.memory.memory.tables in
     let of_shelf = c.requires.is_of.of_shelf in
-    let fewer = fewer_drives was now (store_later c.store.ensures.made) c.store.ensures.left.fewer in
-    let kept : AreKept a n now = behind_boot a m n was now (λ i. c.append.ensures.ran.on.others (drive i) (λ none. none)) (c.store.ensures.ran.on.writes (c.append.ensures.ran.on.continues.honest h)) in
-    let flags = drives_left (geometry_of a) was now of_shelf (store_later c.store.ensures.made) (c.in_ok-store.ensures.made.members.0) c.store.ensures.left.is_of.lawful.lawful.members.drive_flags
-    c.store.ensures.left.is_of.lawful.lawful.members.within c.in_ok-store.ensures.made.enough in
-    hold_kept (geometry_of a) a n now kept contents tables places
-    (hold_fewer (geometry_of a) a was now fewer flags.0 flags.1 contents tables places hold)
-
-pub returns-in_err-append-clause-lost : goal.returns-in_err-append-clause-lost
-returns-in_err-append-clause-lost g c =
-    let a = g.S.Shelf.shelf c.args.shelf.now in
-    let m = g.S.Shelf.shelf c.append.new.shelf in
-    let q = err_from_is_err_and c.from_residual.result c.from_residual.ensures.1 in
-    let lost : IsLost a m c.args.array.now = inl (lost_log a m c.args.array.now.log.members c.append.new.self.members c.append.ensures.dropped c.in_err-append.ensures.err.1) in
-    subst (λ (t : Result (Unit {0}) PerformFault). IfErr t (λ e. (e ≡ Device) × IsLost a m c.args.array.now)) (sym q.1) (q.2, lost)
-
-pub returns-in_err-store-clause-rest : goal.returns-in_err-store-clause-rest
-returns-in_err-store-clause-rest g c = g.met.S.Shelf.shelf_rest_stays.transitive _ _ _ c.append.ensures.ran.rest c.store.ensures.ran.rest
-
-pub returns-in_err-append-clause-outlasts : goal.returns-in_err-append-clause-outlasts
-returns-in_err-append-clause-outlasts g c h held o holds keeps accepted in_force =
-    let a = g.S.Shelf.shelf c.args.shelf.now in
-    let m = g.S.Shelf.shelf c.append.new.shelf in
-    let r = c.args.array.now.register in
-    let log = c.args.array.now.log in
-    let now = c.append.new.self.members in
-    let cmd : Command = record { request = c.args.request.now; sectors = c.args.sectors.now } in
+    let places = c.requires.is_of.segments.places in
+    let tables = facts was.memory.memory.tables in
     let x = c.append.ensures in
-    let p = appending a m r log now held cmd (g.met.S.Shelf.is_shelf c.args.shelf.now) (g.met.S.Shelf.is_shelf c.append.new.shelf) h x.ran.on.continues o keeps c.requires.room c.requires.is_of.flushed accepted
-    (λ i. x.ran.on.others (drive i) (λ none. none)) x.fewer x.dropped (x.any_moment h held.log keeps holds) (x.ran.on.writes h) (x.spelled 0 _ refl) in_force in
-    append_again a m r log.members now held cmd p
+    let y = c.in_ok-store.ensures in
+    let later = store_later c.store.ensures.made in
+    let two : length was.log.members ≡ 2 = search rules in
+    let two_now : length now.log.members ≡ 2 = search rules in
+    let other : now.log.members ≡ was.log.members → ⊥ = λ e. other_flags c.members-members.result c.members-before.result c.if-eq.ensures (c.members-members.ensures ∙ e ∙ sym c.members-before.ensures) in
+    record {
+      some = search rules;
+      count = search rules;
+      keeps = search rules;
+      boot = rises_little a m n was.log.members now.log.members was.register now.register two two_now other x.fewer x.dropped (λ k. c.store.ensures.ran.on.others (nvram k) (λ none. none)) of_shelf later y.made.generation.0 y.made.enough y.made.stores;
+      joins = none_joins (geometry_of a) was now c.members-members.result of_shelf later y.left.fewer x.fewer c.members-members.ensures y.made.members;
+      segments = λ h contents hold.
+          let kept : AreKept a n now.register = behind_boot a m n was.register now.register (λ i. x.ran.on.others (drive i) (λ none. none)) (c.store.ensures.ran.on.writes (x.ran.on.continues.honest h)) in
+          let flags = y.left.is_of.lawful.lawful.members in
+          let left = drives_left (geometry_of a) was.register now.register of_shelf later y.made.members.0 flags.drive_flags flags.within y.made.enough in
+          hold_kept (geometry_of a) a n now.register kept contents tables places
+          (hold_fewer (geometry_of a) a was.register now.register (fewer_drives was.register now.register later y.left.fewer) left.0 left.1 contents tables places hold);
+    }
 
-pub returns-then-eq-clause-outlasts : goal.returns-then-eq-clause-outlasts
-returns-then-eq-clause-outlasts g c h held o holds keeps accepted in_force =
-    let a = g.S.Shelf.shelf c.args.shelf.now in
-    let m = g.S.Shelf.shelf c.append.new.shelf in
-    let r = c.args.array.now.register in
-    let log = c.args.array.now.log in
-    let now = c.append.new.self.members in
-    let cmd : Command = record { request = c.args.request.now; sectors = c.args.sectors.now } in
+pub returns-clause-faults : goal.returns-clause-faults
+returns-clause-faults g c =
     let x = c.append.ensures in
-    let p = appending a m r log now held cmd (g.met.S.Shelf.is_shelf c.args.shelf.now) (g.met.S.Shelf.is_shelf c.append.new.shelf) h x.ran.on.continues o keeps c.requires.room c.requires.is_of.flushed accepted
-    (λ i. x.ran.on.others (drive i) (λ none. none)) x.fewer x.dropped (x.any_moment h held.log keeps holds) (x.ran.on.writes h) (x.spelled 0 _ refl) in_force in
-    append_again a m r log.members now held cmd p
+    let y = c.store.ensures in
+    only_faults (g.S.Shelf.shelf c.args.shelf.now) (g.S.Shelf.shelf c.append.new.shelf) (g.S.Shelf.shelf c.store.new.shelf) c.args.array.now.register c.store.new.self c.args.array.now.log.members c.append.new.self.members (search rules)
+    (λ i. x.ran.on.others (drive i) (λ none. none)) (λ k. y.ran.on.others (nvram k) (λ none. none)) x.dropped y.left.dropped (Ok tt) (λ dropped. tt)
 
-pub returns-in_err-store-clause-outlasts : goal.returns-in_err-store-clause-outlasts
-returns-in_err-store-clause-outlasts g c h held o holds keeps accepted in_force =
-    let a = g.S.Shelf.shelf c.args.shelf.now in
+pub returns-clause-stays : goal.returns-clause-stays
+returns-clause-stays g c h held may =
     let m = g.S.Shelf.shelf c.append.new.shelf in
-    let r = c.args.array.now.register in
-    let log = c.args.array.now.log in
-    let now = c.append.new.self.members in
-    let cmd : Command = record { request = c.args.request.now; sectors = c.args.sectors.now } in
-    let x = c.append.ensures in
-    let p = appending a m r log now held cmd (g.met.S.Shelf.is_shelf c.args.shelf.now) (g.met.S.Shelf.is_shelf c.append.new.shelf) h x.ran.on.continues o keeps c.requires.room c.requires.is_of.flushed accepted
-    (λ i. x.ran.on.others (drive i) (λ none. none)) x.fewer x.dropped (x.any_moment h held.log keeps holds) (x.ran.on.writes h) (x.spelled 0 _ refl) in_force in
     let n = g.S.Shelf.shelf c.store.new.shelf in
-    let room : c.store.new.self.record.generation < 2 ^ 48 - 8 = omega (arith, c.store.ensures.made.few, c.requires.not_spent) in
-    let held_then : HoldsOn m now r.record.flushed (held.log ++ cmd ∷ []) = subst (λ (f : ℕ). HoldsOn m now f (held.log ++ cmd ∷ [])) (x.flushed ∙ c.requires.is_of.flushed) (c.in_ok-append.ensures.holds h held.log keeps holds) in
-    let storing : (missing : Conditions) (k : Content) (others : List plain.Array) → MayStore m r now missing k others → IsFirm m r missing → LeavesOnly m n (StandsAgain m missing others) =
-    subst (λ (l : List Bool). (missing : Conditions) (k : Content) (others : List plain.Array) → MayStore m r l missing k others → IsFirm m r missing → LeavesOnly m n (StandsAgain m missing others))
-    c.members-members.ensures (c.store.ensures.outlasts (x.ran.on.continues.honest h) room) in
-    store_again a m r log.members now held cmd p held_then c.in_ok-append.ensures.ok.1 n storing
+    let r = c.args.array.now.register in
+    let now = c.append.new.self.members in
+    let k = (goal.at.returns-clause-stays g c).After-store in
+    let cmd = command_then g k in
+    let p = appended g (goal.at.returns-clause-stays g c).After-append h held may in
+    let in_log = logged_then (g.S.Shelf.shelf c.args.shelf.now) m r c.args.array.now.log.members now held cmd p (holds_then g k h held may) in
+    let stored : IsOpen n c.store.new.self c.members-members.result (logged held cmd) =
+    c.in_ok-store.ensures.stored (c.append.ensures.ran.on.continues.honest h) (room g k) (logged held cmd) (subst (λ (l : List Bool). StandsInLog m r l (logged held cmd)) (sym c.members-members.ensures) in_log) in
+    record {
+      opens = record {
+        is_open = subst (λ (l : List Bool). IsOpen n c.store.new.self l (logged held cmd)) c.members-members.ensures stored;
+        held_log = still_holds m n now c.append.new.self.flushed (held.log ++ cmd ∷ []) (λ k. c.store.ensures.ran.on.others (nvram k) (λ z. z)) (c.in_ok-append.ensures.holds h held.log may.keeps may.is_open.held_log);
+      };
+      any_moment = store_moments g k h held may p;
+    }
 
 pub returns-clause-outlasts : goal.returns-clause-outlasts
-returns-clause-outlasts g c h held o holds keeps accepted in_force =
-    let a = g.S.Shelf.shelf c.args.shelf.now in
-    let m = g.S.Shelf.shelf c.append.new.shelf in
-    let r = c.args.array.now.register in
-    let log = c.args.array.now.log in
-    let now = c.append.new.self.members in
-    let cmd : Command = record { request = c.args.request.now; sectors = c.args.sectors.now } in
-    let x = c.append.ensures in
-    let p = appending a m r log now held cmd (g.met.S.Shelf.is_shelf c.args.shelf.now) (g.met.S.Shelf.is_shelf c.append.new.shelf) h x.ran.on.continues o keeps c.requires.room c.requires.is_of.flushed accepted
-    (λ i. x.ran.on.others (drive i) (λ none. none)) x.fewer x.dropped (x.any_moment h held.log keeps holds) (x.ran.on.writes h) (x.spelled 0 _ refl) in_force in
-    let n = g.S.Shelf.shelf c.store.new.shelf in
-    let room : c.store.new.self.record.generation < 2 ^ 48 - 8 = omega (arith, c.store.ensures.made.few, c.requires.not_spent) in
-    let held_then : HoldsOn m now r.record.flushed (held.log ++ cmd ∷ []) = subst (λ (f : ℕ). HoldsOn m now f (held.log ++ cmd ∷ [])) (x.flushed ∙ c.requires.is_of.flushed) (c.in_ok-append.ensures.holds h held.log keeps holds) in
-    let storing : (missing : Conditions) (k : Content) (others : List plain.Array) → MayStore m r now missing k others → IsFirm m r missing → LeavesOnly m n (StandsAgain m missing others) =
-    subst (λ (l : List Bool). (missing : Conditions) (k : Content) (others : List plain.Array) → MayStore m r l missing k others → IsFirm m r missing → LeavesOnly m n (StandsAgain m missing others))
-    c.members-members.ensures (c.store.ensures.outlasts (x.ran.on.continues.honest h) room) in
-    store_again a m r log.members now held cmd p held_then c.in_ok-append.ensures.ok.1 n storing
+returns-clause-outlasts g c h held may = let k = goal.at.returns-clause-outlasts g c in store_outlasts g k.After-store h held may (appended g k.After-append h held may)

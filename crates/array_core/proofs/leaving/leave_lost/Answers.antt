@@ -1,4 +1,4 @@
-use Rattle.std.proofs.Common.{◌≡◌, ◌-◌, ◌^◌, ◌<◌, [], ◌∷◌, arith, sym, ap, subst}
+use Rattle.std.proofs.Common.{rules, ◌≡◌, ◌-◌, ◌^◌, ◌<◌, [], ◌∷◌, arith, sym, ap, subst}
 use Rattle.boot_codec.specs.declared.record.BootRecord.{BootRecord}
 use Rattle.world.proofs.Moments.{started}
 use Rattle.world.proofs.Ran.{ran_more, ran_none}
@@ -43,6 +43,15 @@ returns-clause-ran g c =
     let r = c.args.register.now in
     let now = c.lose.new.self in
     ran_more (is_drive (drives_of now)) (slots_of_more r now (ap (λ (b : BootRecord). b.slots) c.lose.ensures.record) (λ k m. ((c.lose.ensures.left k).0 m).0)) c.store.ensures.ran
+
+pub returns-then-not-lose-clause-left : goal.returns-then-not-lose-clause-left
+returns-then-not-lose-clause-left g c = record { of_shelf = search rules; few = search rules; fewer = λ i m. (c.lose.ensures.left i).0 m; fewer_logs = λ n m. m }
+
+pub returns-clause-left : goal.returns-clause-left
+returns-clause-left g c =
+    let e : c.lose.new.self.record.generation ≡ c.args.register.now.record.generation = ap (λ (b : BootRecord). b.generation) c.lose.ensures.record in
+    let y = c.store.ensures in
+    record { of_shelf = y.left.is_of; few = omega (arith, e, y.made.few); fewer = λ i m. (c.lose.ensures.left i).0 (y.left.fewer i m); fewer_logs = λ n m. m }
 
 low : (g : given.Over) (c : goal.After-store g) → c.store.new.self.record.generation < 2 ^ 48 - 8
 low g c = let e : c.lose.new.self.record.generation ≡ c.args.register.now.record.generation = ap (λ (b : BootRecord). b.generation) c.lose.ensures.record in omega (arith, e, c.store.ensures.made.few, c.requires.not_spent)

@@ -1,9 +1,10 @@
--- What segments hold on the drives that are left behind a checkpoint.
-use Rattle.std.proofs.Common.{◌≡◌, inl, inr, ℕ, ◌+◌, ◌≤◌, List, length, refl, sym, subst, arith, Bool, false}
+-- What segments hold on the drives that are left, once other tables were stored.
+use Rattle.std.proofs.Common.{◌≡◌, inl, inr, ℕ, ◌+◌, ◌≤◌, List, length, refl, sym, ◌∙◌, subst, arith, Bool, false}
 use Rattle.std.specs.Prelude.{Some, is_none, count_by, slice_index_or}
 use Rattle.std.specs.List.{range_with_len}
 use Rattle.std.proofs.lemmas.Bool.{cases_Bool}
 use Rattle.pur_base.specs.Devices.{Geometry, slots_of, drive}
+use Rattle.pur_base.specs.declared.device.Device.{Device}
 use Rattle.pur_base.specs.Facts.{Facts}
 use Rattle.pur_base.specs.Visible.{segment}
 use Rattle.pur_base.specs.declared.facts.SegmentFact.{SegmentFact}
@@ -12,7 +13,7 @@ use Rattle.array_spec.specs.Sound.{ArePlaces}
 use Rattle.stored_spec.specs.Held.{AreEnough}
 use Rattle.world.specs.Losing.{geometry_of}
 use Rattle.world.specs.Shelf.{Shelved}
-use Rattle.world.specs.Writes.{WritesOnly}
+use Rattle.world.specs.Ran.{Runs}
 use Rattle.boot_region.specs.Members.{IsMember}
 use Rattle.register.specs.declared.state.Register.{Register}
 use Rattle.register.specs.Registers.{drives_of}
@@ -20,10 +21,11 @@ use Rattle.register.proofs.FlagLemmas.{in_cut}
 use Rattle.register.proofs.Stores.{fewer_cut}
 use Rattle.memory_spec.specs.Memory.{Contents}
 use Rattle.checkpoint_spec.specs.Contents.{AreAmong}
+use Rattle.array_core.specs.Changing.{LeavesFewer}
 use Rattle.array_core.specs.Drives.{SegmentsHold, drives_view}
-use Rattle.array_core.proofs.Segments.{AreKept, few_bad, hold_kept, off_slots}
-use Rattle.array_core.specs.Switching.{OnSlotsAndLog}
-use Rattle.array_checkpoint.specs.Made.{HoldOnLeft}
+use Rattle.array_core.proofs.Segments.{AreKept, drives_left, few_bad, hold_kept, off_slots}
+use Rattle.array_core.proofs.Stages.{later_itself}
+use Rattle.array_core.specs.Switching.{HoldOnLeft, OnSlotsAndLog}
 
 -- the drives of a record show themselves
 view_among : (shelf : Shelved) (r : Register) → AreAmong (drives_of r) (λ d. (shelf.disk d).bytes) (drives_view shelf r)
@@ -45,26 +47,25 @@ view_enough size shelf r slots enough =
         let e : 0 + i ≡ i = omega arith in
         subst (λ (k : ℕ). is_none (drives_view shelf r (drive k)) ≡ false) (sym e) (rw m refl)
 
--- the drives of a later record are of those that were, and not lost
-pub fewer_left : (was now : Register) (lost : List Bool) → now.record.slots ≡ was.record.slots → ((i : ℕ) → IsMember now.drives i → IsMember was.drives i × ¬ (IsMember lost i))
-    → (i : ℕ) → IsMember (drives_of now) i → IsMember (drives_of was) i × ¬ (IsMember lost i)
-fewer_left was now lost slots fewer i m = (fewer_cut was now slots (λ k y. (fewer k y).0) i m, (fewer i (in_cut now.drives now.record.slots i m)).1)
-
 -- both boot slots lie in front of all data units, and the log is on other devices
 off_data : (r : Register) (members : List Bool) (k i : ℕ) → 196608 ≤ i → OnSlotsAndLog r members (drive k) i → ⊥
 off_data r members k i past (inl on) = off_slots (drives_of r) k i past on
 off_data r members k i past (inr none) = none
 
 -- What stands on all drives that aren't lost, or all but two of the shelf, stands on those of a later record, once it was stored and the log cleared.
-pub hold_left : (old new : Shelved) (was now : Register) (members lost : List Bool) (contents : Contents) (fs : Facts)
-    → WritesOnly (OnSlotsAndLog was members) old new → length (drives_of now) ≡ (geometry_of old).slots → (geometry_of old).slots ≤ set_count (drives_of now) + 2
-    → ((i : ℕ) → IsMember (drives_of now) i → IsMember (drives_of was) i × ¬ (IsMember lost i))
-    → ((id : ℕ) (d : SegmentFact) → segment fs id ≡ Some d → ArePlaces (geometry_of old) d.places)
-    → HoldOnLeft old was lost contents fs → SegmentsHold contents new now fs
-hold_left old new was now members lost contents fs writes slots enough fewer places hold =
+pub segments_left : (old new : Shelved) (was now : Register) (members left lost : List Bool) {D : Device → Type 0} {most : ℕ} → Runs D (OnSlotsAndLog was members) old new → LeavesFewer (geometry_of new) lost most was now members left
+    → now.record.slots ≡ was.record.slots → now.record.members.drives ≡ now.drives → now.record.slots ≤ set_count now.drives + 2 → old.honest → (contents : Contents) (fs : Facts)
+    → ((id : ℕ) (d : SegmentFact) → segment fs id ≡ Some d → ArePlaces (geometry_of old) d.places) → HoldOnLeft old was lost contents fs → SegmentsHold contents new now fs
+segments_left old new was now members left lost {D} {most} run x slots drives enough h contents fs places hold =
+    let writes = run.writes h in
     let kept : AreKept old new now = record {
       size = λ i m. (writes.device (drive i)).size;
       bytes = λ i at m past. (writes.device (drive i)).bytes at (off_data was members i at past);
     } in
+    let flags = x.of_shelf.lawful.lawful.members in
+    let on_shelf = drives_left (geometry_of new) now now x.of_shelf (later_itself now.record) drives flags.drive_flags flags.within enough in
+    let same : new.drives ≡ old.drives = run.continues.drives in
+    let is_left : (i : ℕ) → IsMember (drives_of now) i → IsMember (drives_of was) i × ¬ (IsMember lost i) =
+    λ i m. (fewer_cut was now slots (λ k y. (x.fewer k y).0) i m, (x.fewer i (in_cut now.drives now.record.slots i m)).1) in
     hold_kept (geometry_of old) old new now kept contents fs places
-    (hold (drives_of now) fewer (drives_view old now) (view_among old now) (view_enough (geometry_of old) old now slots enough))
+    (hold (drives_of now) is_left (drives_view old now) (view_among old now) (view_enough (geometry_of old) old now (on_shelf.0 ∙ same) (let all = on_shelf.1 in omega (arith, all, same))))

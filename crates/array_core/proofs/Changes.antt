@@ -1,0 +1,116 @@
+-- What a change of the log and a store leave, and one change after another.
+use Rattle.std.proofs.Common.{◌≡◌, ◌⊎◌, inl, inr, ℕ, ◌+◌, ◌≤◌, List, [], length, sym, ◌∙◌, ap, subst, arith, Bool, Result, Ok, Err, OnOk, OnErr}
+use Rattle.pur_base.specs.Devices.{Geometry, drive, nvram}
+use Rattle.pur_base.specs.Facts.{Facts}
+use Rattle.pur_base.specs.Visible.{segment}
+use Rattle.pur_base.specs.declared.facts.SegmentFact.{SegmentFact}
+use Rattle.boot_codec.specs.declared.record.BootRecord.{BootRecord}
+use Rattle.boot_codec.specs.Record.{set_count}
+use Rattle.array_spec.specs.Sound.{ArePlaces}
+use Rattle.std.specs.Prelude.{Some}
+use Rattle.world.specs.Losing.{geometry_of}
+use Rattle.world.specs.Shelf.{Shelved, Continues}
+use Rattle.boot_region.specs.Members.{IsMember, DroppedFailed, LostWrites}
+use Rattle.nvram_log.specs.Members as nv
+use Rattle.register.specs.declared.state.Register.{Register}
+use Rattle.register.specs.declared.tables.Tables.{Tables}
+use Rattle.register.specs.Registers.{IsLaterRecord, drives_of}
+use Rattle.register.specs.Storing.{DropsOnlyFailed, IsUnstored}
+use Rattle.register.specs.Tables.{with_tables}
+use Rattle.register.proofs.Stores.{on_err}
+use Rattle.memory_spec.specs.Memory.{Contents}
+use Rattle.array_core.specs.Changing.{KeepsTables, LeavesFewer, OnlyFaults}
+use Rattle.array_core.specs.Drives.{SegmentsHold}
+use Rattle.array_core.specs.Performing.{IsLostBy}
+use Rattle.array_core.specs.Switching.{HasTables, HoldOnLeft}
+use Rattle.array_core.proofs.Dropped.{drops_failed}
+use Rattle.array_core.proofs.Holders.{drops_then, none_joins, too_much_since}
+use Rattle.array_core.proofs.LostOnWay.{dropped_then}
+use Rattle.array_core.proofs.Stages.{ok_if}
+
+-- ---- results
+
+pub when_err : {T E P : Type 0} (r : Result T E) → P → OnErr r P
+when_err (Ok x) p = tt
+when_err (Err e) p = p
+
+-- ---- records
+
+pub later_then : {a b c : BootRecord} → IsLaterRecord a b → IsLaterRecord b c → IsLaterRecord a c
+later_then {a} {b} {c} first next = record {
+  generation = omega (arith, first.generation, next.generation);
+  rest = next.rest ∙ ap (λ (x : BootRecord). record x { generation = c.generation; members = c.members }) first.rest;
+}
+
+-- with other tables behind it
+pub later_tables : {a b c : BootRecord} (tables : Tables) → IsLaterRecord a b → IsLaterRecord (with_tables b tables) c → IsLaterRecord (with_tables a tables) c
+later_tables {a} {b} {c} tables first next = record {
+  generation = omega (arith, first.generation, next.generation);
+  rest = next.rest ∙ ap (λ (x : BootRecord). record (with_tables x tables) { generation = c.generation; members = c.members }) first.rest;
+}
+
+pub kept_tables : {a : BootRecord} (r1 r2 : Register) (tables : Tables) → IsLaterRecord a r1.record → IsUnstored r1 r2 ⊎ IsLaterRecord (with_tables r1.record tables) r2.record
+    → IsLaterRecord a r2.record ⊎ IsLaterRecord (with_tables a tables) r2.record
+kept_tables {a} r1 r2 tables first (inl same) = inl (subst (λ (b : BootRecord). IsLaterRecord a b) (sym same.0) first)
+kept_tables r1 r2 tables first (inr stored) = inr (later_tables tables first stored)
+
+pub kept_then : {a b c d : BootRecord} → IsLaterRecord a c ⊎ IsLaterRecord b c → IsLaterRecord c d → IsLaterRecord a d ⊎ IsLaterRecord b d
+kept_then (inl was) next = inl (later_then was next)
+kept_then (inr is) next = inr (later_then is next)
+
+-- ---- which devices are left
+
+pub fewer_then : {size size2 : Geometry} {lost more : List Bool} {m n : ℕ} {r0 r1 r2 : Register} {m0 m1 m2 : List Bool} → LeavesFewer size lost m r0 r1 m0 m1 → LeavesFewer size2 more n r1 r2 m1 m2 → LeavesFewer size2 lost (m + n) r0 r2 m0 m2
+fewer_then first next = record {
+  of_shelf = next.of_shelf;
+  few = omega (arith, first.few, next.few);
+  fewer = λ i m. first.fewer i (next.fewer i m).0;
+  fewer_logs = λ n m. first.fewer_logs n (next.fewer_logs n m);
+}
+
+-- a record is stored behind that, with the log as it is
+pub tables_fewer : {size : Geometry} {lost : List Bool} {old new : Shelved} {r0 r1 r2 : Register} {m0 m1 members : List Bool} → LeavesFewer size lost 3 r0 r1 m0 m1 → DropsOnlyFailed old new r1 r2 → r2.record.generation ≤ r1.record.generation + 3
+    → LeavesFewer (geometry_of new) lost 6 r0 r2 members members
+tables_fewer first left few = record {
+  of_shelf = left.is_of;
+  few = omega (arith, first.few, few);
+  fewer = λ i m. first.fewer i (left.fewer i m);
+  fewer_logs = λ n m. m;
+}
+
+-- ---- a call on the log's devices, then a store, or none
+
+pub only_faults : (a m n : Shelved) (r now : Register) (members left : List Bool) → length members ≡ 2 → ((i : ℕ) → m.disk (drive i) ≡ a.disk (drive i)) → ((k : ℕ) → n.disk (nvram k) ≡ m.disk (nvram k))
+    → nv.DroppedFailed a m members left → DroppedFailed m n (drives_of r) (drives_of now) → {T E : Type 0} (result : Result T E) → (DroppedFailed a n (drives_of r) (drives_of now) → OnErr result (IsLostBy a n r members))
+    → OnlyFaults result a n r now members left
+only_faults a m n r now members left two drives nvrams logs dropped result lost = record { holders = drops_failed a m n r now members left two drives nvrams logs dropped; drives = since_a; lost = lost since_a }
+  where
+    since_a : DroppedFailed a n (drives_of r) (drives_of now)
+    since_a i mem = subst (λ d. IsMember (drives_of now) i ⊎ LostWrites d (n.disk (drive i))) (drives i) (dropped i mem)
+
+-- one change after another, where the first leaves the log as it is
+pub faults_then : (start mid new : Shelved) → Continues start mid → Continues mid new → (r0 r1 r2 : Register) (members left : List Bool) → r1.record.slots ≡ r0.record.slots → {T E T2 E2 : Type 0} (first : Result T E) (result : Result T2 E2)
+    → OnlyFaults first start mid r0 r1 members members → OnlyFaults result mid new r1 r2 members left → OnlyFaults result start new r0 r2 members left
+faults_then start mid new on next r0 r1 r2 members left slots first result was now = record {
+  holders = drops_then start mid new on next r0 r1 r2 members members left was.holders now.holders;
+  drives = dropped_then start mid new on next (drives_of r0) (drives_of r1) (drives_of r2) was.drives now.drives;
+  lost = on_err result (λ too_much. too_much_since start mid new on next r0 r1 members slots was.drives too_much) now.lost;
+}
+
+-- the log is cleared behind other tables
+pub changed_then : {old mid : Shelved} {lost : List Bool} {tables : Tables} (new : Shelved) (r0 r1 r2 : Register) (members left : List Bool) → HasTables old mid lost tables r0 r1 members members → LeavesFewer (geometry_of new) [] 3 r1 r2 members left
+    → {T E : Type 0} (result : Result T E) → KeepsTables result r1 r2 members
+    → ((drives : r2.record.members.drives ≡ r2.drives) (enough : r2.record.slots ≤ set_count r2.drives + 2) → old.honest → (contents : Contents) (fs : Facts)
+    → ((id : ℕ) (d : SegmentFact) → segment fs id ≡ Some d → ArePlaces (geometry_of old) d.places) → HoldOnLeft old r0 lost contents fs → SegmentsHold contents new r2 fs)
+    → OnOk result (HasTables old new lost tables r0 r2 members left)
+changed_then new r0 r1 r2 members left x fewer result y segments = ok_if result (λ get.
+    let drives = get _ y.drives x.drives in
+    let enough = get _ y.enough x.enough in
+    record {
+      later = later_then x.later y.later;
+      rises = omega (arith, x.rises, y.later.generation);
+      drives = drives;
+      enough = enough;
+      joins = none_joins r0 r1 r2 members left x.joins (λ i m. (fewer.fewer i m).0) (ap (λ (k : BootRecord). k.slots) y.later.rest) fewer.fewer_logs (get _ y.named);
+      segments = segments drives enough;
+    })
