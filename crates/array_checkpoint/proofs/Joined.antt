@@ -1,32 +1,24 @@
 -- What holds behind a checkpoint of an array whose memory got room for it first.
-use Rattle.std.proofs.Common.{◌≡◌, [], ◌∷◌, refl, sym, ap, subst}
+use Rattle.std.proofs.Common.{◌≡◌, sym, ap, subst}
 use Rattle.std.specs.Prelude.{Err, OnErr, Result}
 use Rattle.pur_base.specs.Plain as plain
 use Rattle.world.specs.Shelf.{Continues, IsCountedBy, IsShelf, LeavesOnly, Shelved}
-use Rattle.world.proofs.Moments.{continues_refl, started, then_run, weaker}
-use Rattle.world.proofs.Writes.{counted_then, counts_grow, nothing_written}
+use Rattle.world.proofs.Moments.{started, then_run, weaker}
+use Rattle.world.proofs.Writes.{counted_then, counts_grow}
 use Rattle.nvram_log.specs.declared.log.NvLog.{NvLog}
 use Rattle.register.specs.declared.state.Register.{Register}
-use Rattle.register.specs.Standing.{Content, array_of}
 use Rattle.memory_spec.specs.Memory.{Contents, ReadsAs}
 use Rattle.memory_spec.specs.Tables.{facts}
 use Rattle.array_memory.specs.Kept.{Kept}
 use Rattle.array_core.specs.declared.array.Array.{Array}
 use Rattle.array_core.specs.Drives.{SegmentsHold}
-use Rattle.array_core.specs.Ready.{IsReady, is_spent}
+use Rattle.array_core.specs.Ready.{is_spent}
 use Rattle.array_core.specs.Holding.{DropsFailed, DropsFailedBy, NoneJoins, NoneJoinsBy}
-use Rattle.array_core.specs.Performing.{IsKeptAt, IsLost}
+use Rattle.array_core.specs.Performing.{IsLost}
 use Rattle.array_core.specs.Performing.{IsLostBy}
-use Rattle.array_core.specs.Switching.{WasOpen}
-use Rattle.array_core.proofs.FreeWrites.{free_writes_go_on}
 use Rattle.array_checkpoint.specs.Prepared.{IsLike}
 use Rattle.array_checkpoint.specs.Made.{HasFlushed}
 use Rattle.array_checkpoint.proofs.Like.{like_is, roomed, roomed_reads}
-
--- ---- what was open
-
-pub was_open : (shelf : Shelved) (a : Array) (held : Content) → IsReady shelf a held → WasOpen shelf a.register a.log held
-was_open shelf a held ready = record { is_open = ready.is_open; held_log = ready.held_log; keeps = ready.keeps; in_force = ready.in_force }
 
 -- ---- the array with room is the same
 
@@ -84,14 +76,6 @@ module _ (was mid : Array) (like : IsLike was mid) where
 module _ (shelf : Shelved) (is : IsShelf shelf) where
   pub counted_now : LeavesOnly shelf shelf (IsCountedBy shelf)
   counted_now = started shelf (IsCountedBy shelf) is (λ stop may. may.counts)
-
-  -- a session can go on
-  pub goes_on : shelf.honest → (a : Array) (held : Content) → IsReady shelf a held → LeavesOnly shelf shelf (IsKeptAt shelf a.register.record (array_of held ∷ []))
-  goes_on honest a held ready = free_writes_go_on shelf shelf is honest a.register a.log.members held ready.is_open ready.in_force (record {
-    continues = continues_refl shelf;
-    writes = nothing_written shelf is;
-    nvrams = λ n. refl;
-  })
 
 -- what was counted since a later moment was counted since an earlier one
 pub counted_since : {a b c : Shelved} → Continues a b → LeavesOnly a b (IsCountedBy a) → LeavesOnly b c (IsCountedBy b) → LeavesOnly a c (IsCountedBy a)

@@ -26,7 +26,8 @@ use Rattle.array_core.proofs.Keeping.{unnamed}
 use Rattle.checkpoint_io.specs.Storing.{OnCheckpoint}
 use Rattle.array_checkpoint.specs.declared.preparing.Prepared.{Prepared}
 use Rattle.array_checkpoint.specs.Prepared.{IsPreparedFor}
-use Rattle.array_checkpoint.specs.Made.{contents_after, facts_after, HoldOnLeft}
+use Rattle.array_checkpoint.specs.Made.{contents_after, facts_after}
+use Rattle.array_core.specs.Switching.{HoldOnLeft}
 use Rattle.array_memory.specs.Eliding.{eliding_by}
 use Rattle.array_checkpoint.proofs.ElidedSegments.{contents_then}
 use Rattle.array_checkpoint.proofs.FreeUnits.{spares_used}

@@ -16,9 +16,6 @@ use Rattle.array_checkpoint.specs.Prepared.{IsLike}
 abbrev pub roomed : Array → Kept → Array
 roomed a k = record a { memory = with_patch_rooms a.memory k }
 
-pub like_itself : (a : Array) → IsLike a a
-like_itself a = record { register = refl; log = refl; memory = refl }
-
 pub like_is : (was now : Array) → IsLike was now → now ≡ roomed was now.memory
 like_is was now is = λ k. record { register = is.register k; log = is.log k; memory = is.memory k }
 

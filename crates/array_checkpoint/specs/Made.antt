@@ -1,27 +1,18 @@
 -- What a checkpoint makes of an array, and of its devices.
-use Rattle.std.specs.Prelude.{◌≡◌, ℕ, ◌+◌, ◌<◌, ◌≤◌, Bool, List, [], length, None, Contains}
+use Rattle.std.specs.Prelude.{◌≡◌, ℕ, ◌+◌, ◌<◌, ◌≤◌, List, [], length, None, Contains}
 use Rattle.pur_base.specs.Facts.{Facts}
-use Rattle.pur_base.specs.Plain as plain
 use Rattle.pur_base.specs.Visible.{segment}
 use Rattle.boot_codec.specs.Record.{patch_segments}
-use Rattle.world.specs.Losing.{geometry_of}
 use Rattle.world.specs.Shelf.{Shelved}
-use Rattle.boot_region.specs.Members.{IsMember}
-use Rattle.stored_spec.specs.Held.{AreEnough}
-use Rattle.pur_base.specs.Devices.{View}
-use Rattle.register.specs.declared.state.Register.{Register}
-use Rattle.register.specs.Registers.{drives_of}
 use Rattle.register.specs.Standing.{Content, array_of}
-use Rattle.memory_spec.specs.Memory.{Contents, Memory, ReadsAs}
+use Rattle.memory_spec.specs.Memory.{Contents, Memory}
 use Rattle.memory_spec.specs.Tables.{facts, patches}
-use Rattle.checkpoint_spec.specs.Contents.{AreAmong, ContentsStand}
 use Rattle.table_plan.specs.Planned.{extended, sectors_at}
 use Rattle.array_memory.specs.declared.limits.TheConstants.{ELIDED_SEGMENTS}
 use Rattle.array_memory.specs.declared.plan.Plan.{Plan}
 use Rattle.array_memory.specs.Eliding.{AreLowestUnused}
 use Rattle.array_memory.specs.Plan.{after_plan, next_past}
 use Rattle.array_core.specs.declared.array.Array.{Array}
-use Rattle.array_core.specs.Drives.{SegmentsHold}
 use Rattle.array_core.specs.Going.{by_faults}
 use Rattle.array_core.specs.Goes.{Halts}
 use Rattle.array_checkpoint.specs.declared.making.CheckpointFault.{CheckpointFault}
@@ -41,11 +32,6 @@ held_after m p held = record { patches = patches (after_plan m p).tables; base =
 -- what segments hold then: the staged sectors that the plan places stand in the new ones
 abbrev pub contents_after : Memory → Plan → Contents → Contents
 contents_after m p contents = extended contents m.next.segment (sectors_at p.placing.order.items m.staged)
-
--- the contents stand on drives of the record that aren't lost, where at most two of the shelf are missing
-abbrev pub HoldOnLeft : Shelved → Register → List Bool → Contents → Facts → Type 0
-HoldOnLeft now r lost contents fs = (left : List Bool) → ((i : ℕ) → IsMember left i → IsMember (drives_of r) i × ¬ (IsMember lost i))
-    → (members : View) → AreAmong left (λ d. (now.disk d).bytes) members → AreEnough (geometry_of now) members → ContentsStand contents members fs
 
 -- ---- what becomes of the array
 
@@ -73,12 +59,6 @@ pub record HasFlushed (was now : Array) : Type 0 where
   pub few_new : new_segments ≤ NEW_PATCHES
   pub next : now.memory.memory.next ≡ record (next_past (record was.memory.memory.next { sequence = was.memory.memory.next.sequence + length elided }) data_segments) { patch_segment = was.memory.memory.next.patch_segment + new_segments }
   pub patch_segments_are : patch_segments now.register.record.patches ≡ patch_segments was.register.record.patches + new_segments
-
--- Memory reads as the same array, for sectors in segments that the drives hold where they held those of before.
-abbrev pub StillReads : Shelved → Shelved → Array → Array → Type 0
-StillReads old new was now = (contents : Contents) (array : plain.Array) → ReadsAs contents was.memory.memory array
-    → (more : Contents) × ReadsAs more now.memory.memory array
-    × (old.honest → SegmentsHold contents old was.register (facts was.memory.memory.tables) → SegmentsHold more new now.register (facts now.memory.memory.tables))
 
 -- why a checkpoint wasn't made: for want of memory, and then all stays as it was, or since more devices failed than are borne, and then the array is to halt
 abbrev pub IsFaultOf : Shelved → Shelved → Array → Type 0 → CheckpointFault → Type 0

@@ -1,25 +1,17 @@
 // What was written is made the array's.
-ghost use Rattle.std.specs.Prelude.{◌≡◌, ◌<◌, [], ◌∷◌, false, OnOk, OnErr, IfErr};
+ghost use Rattle.std.specs.Prelude.{◌≡◌, ◌<◌, false, OnOk, OnErr};
 ghost use Rattle.boot_codec.specs.Record.{patch_segments};
-ghost use Rattle.pur_base.specs.Devices.{IsBearable};
-ghost use Rattle.pur_base.specs.Plain as plain;
 ghost use Rattle.world.specs.Losing.{geometry_of};
 ghost use Rattle.world.specs.Ran.{Ran};
-ghost use Rattle.world.specs.Shelf.{Continues, LeavesOnly};
-ghost use Rattle.register.specs.Standing.{Content, array_of};
-ghost use Rattle.memory_spec.specs.Memory.{Contents, ReadsAs};
-ghost use Rattle.memory_spec.specs.Tables.{facts};
-ghost use Rattle.array_core.specs.Drives.{SegmentsHold};
-ghost use Rattle.array_core.specs.Ready.{IsArrayOf, IsReady, is_spent};
-ghost use Rattle.array_core.specs.Losing.{lost_since};
-ghost use Rattle.array_core.specs.Performing.{IsKeptAt};
-ghost use Rattle.array_core.specs.declared.performing.PerformFault.TheVariants.{Device};
-ghost use Rattle.array_core.specs.Holding.{DropsFailedBy, NoneJoinsBy};
-ghost use Rattle.array_core.specs.Performing.{IsLostBy};
-ghost use Rattle.array_core.specs.Switching.{AreLost, HoldTables, OnSlotsAndLog, WasOpen, WroteFree};
+ghost use Rattle.world.specs.Shelf.{Continues};
+ghost use Rattle.register.specs.Standing.{Content};
+ghost use Rattle.array_core.specs.Changing.{OnlyFaults};
+ghost use Rattle.array_core.specs.Ready.{IsArrayOf, is_spent};
+ghost use Rattle.array_core.specs.Switching.{AreLost, MaySwitch, OnSlotsAndLog};
+ghost use Rattle.array_core.specs.Taking.{StaysReady, TakesOver};
 ghost use Rattle.array_checkpoint.specs.declared.limits.TheConstants.{SEGMENTS_END};
 ghost use Rattle.array_checkpoint.specs.Prepared.{IsPreparedFor};
-ghost use Rattle.array_checkpoint.specs.Made.{contents_after, facts_after, held_after, HasFlushed, HoldOnLeft};
+ghost use Rattle.array_checkpoint.specs.Made.{contents_after, facts_after, held_after, HasFlushed};
 
 use crate::preparing::Prepared;
 use array_core::{Array, PerformFault, switch};
@@ -39,32 +31,16 @@ pub(crate) fn take_over<S: Shelf>(
     requires unspent { is_spent array.old ≡ false }
     requires few { patch_segments array.old.register.record.patches < SEGMENTS_END }
     ensures ran { Ran S.shelf S.shelf_rest (λ d. Unit {0}) (OnSlotsAndLog array.old.register array.old.log.members) shelf.old shelf.new }
-    ensures is_of { OnOk result (IsArrayOf (geometry_of (S.shelf shelf.new)) array.new) }
+    ensures taken { OnOk result (TakesOver (S.shelf shelf.old) (S.shelf shelf.new) lost.now.drives (facts_after array.old.memory.memory prepared.plan) (contents_after array.old.memory.memory prepared.plan) array.old array.new) }
     ensures flushed { OnOk result (HasFlushed array.old array.new) }
     ensures objects { array.new.memory.objects ≡ array.old.memory.objects }
     ensures unfinished { OnErr result (array.new.memory ≡ array.old.memory) }
-    ensures fault { IfErr result (λ e. (e ≡ Device) × ((start : S) → Continues (S.shelf start) (S.shelf shelf.old) → AreLost (S.shelf start) (S.shelf shelf.old) array.old.register lost.now.drives
-        → IsLostBy (S.shelf start) (S.shelf shelf.new) array.old.register array.old.log.members)) }
-    ensures dropped { (start : S) → Continues (S.shelf start) (S.shelf shelf.old) → AreLost (S.shelf start) (S.shelf shelf.old) array.old.register lost.now.drives
-        → DropsFailedBy (S.shelf start) (S.shelf shelf.new) array.old.register array.old.log.members array.new.register array.new.log.members }
-    ensures joins { OnOk result (NoneJoinsBy array.old.register array.old.log.members array.new.register array.new.log.members) }
-    // Memory reads as the same array, with the placed sectors in the new segments.
-    ensures reads { OnOk result ((contents : Contents) (a : plain.Array) → ReadsAs contents array.old.memory.memory a
-        → ReadsAs (contents_after array.old.memory.memory prepared.plan contents) array.new.memory.memory a) }
-    ensures segments { (S.shelf shelf.old).honest → OnOk result ((contents : Contents) → HoldOnLeft (S.shelf shelf.old) array.old.register lost.now.drives contents (facts_after array.old.memory.memory prepared.plan)
-        → SegmentsHold contents (S.shelf shelf.new) array.new.register (facts array.new.memory.memory.tables)) }
-    // Where the devices held the array, and hold it by the new tables, they do so by these alone.
-    ensures done { (S.shelf shelf.old).honest → OnOk result ((start : S) (held : Content) → WasOpen (S.shelf start) array.old.register array.old.log held
-        → WroteFree (S.shelf start) (S.shelf shelf.old) array.old.register lost.now.drives held
-        → HoldTables (S.shelf shelf.old) array.old.register lost.now.drives prepared.tables held (held_after array.old.memory.memory prepared.plan held)
-        → (contents : Contents) → ReadsAs contents array.old.memory.memory (array_of held)
-        → HoldOnLeft (S.shelf shelf.old) array.old.register lost.now.drives (contents_after array.old.memory.memory prepared.plan contents) (facts_after array.old.memory.memory prepared.plan)
-        → IsReady (S.shelf shelf.new) array.new (held_after array.old.memory.memory prepared.plan held)) }
-    // At every moment a session can go on with the array.
-    ensures any_moment { (S.shelf shelf.old).honest → (start : S) (held : Content) → WasOpen (S.shelf start) array.old.register array.old.log held
-        → WroteFree (S.shelf start) (S.shelf shelf.old) array.old.register lost.now.drives held
-        → HoldTables (S.shelf shelf.old) array.old.register lost.now.drives prepared.tables held (held_after array.old.memory.memory prepared.plan held)
-        → LeavesOnly (S.shelf shelf.old) (S.shelf shelf.new) (IsKeptAt (S.shelf start) array.old.register.record (array_of held ∷ [])) }
+    ensures faults { (start : S) → Continues (S.shelf start) (S.shelf shelf.old) → AreLost (S.shelf start) (S.shelf shelf.old) array.old.register lost.now.drives
+        → OnlyFaults result (S.shelf start) (S.shelf shelf.new) array.old.register array.new.register array.old.log.members array.new.log.members }
+    // Where the devices held the array, and hold it by the new tables, they do so by these alone. At every moment a session can go on with the array.
+    ensures stays { (S.shelf shelf.old).honest → (start : S) (held : Content)
+        → MaySwitch (S.shelf start) (S.shelf shelf.old) array.old.register array.old.log lost.now.drives prepared.tables held (held_after array.old.memory.memory prepared.plan held)
+        → StaysReady result (S.shelf start) (S.shelf shelf.old) (S.shelf shelf.new) lost.now.drives (facts_after array.old.memory.memory prepared.plan) (contents_after array.old.memory.memory prepared.plan) array.old array.new held (held_after array.old.memory.memory prepared.plan held) }
 {
     let Prepared { plan, tables, .. } = prepared;
     switch(

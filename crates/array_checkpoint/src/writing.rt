@@ -8,9 +8,9 @@ ghost use Rattle.memory_spec.specs.Tables.{facts};
 ghost use Rattle.array_core.specs.Drives.{SegmentsHold};
 ghost use Rattle.array_core.specs.Ready.{IsArrayOf, IsReady};
 ghost use Rattle.array_core.specs.Performing.{IsKeptAt};
-ghost use Rattle.array_core.specs.Switching.{AreLost, HoldTables, WroteFree};
+ghost use Rattle.array_core.specs.Switching.{AreLost, HoldOnLeft, HoldTables, WroteFree};
 ghost use Rattle.array_checkpoint.specs.Prepared.{IsPreparedFor};
-ghost use Rattle.array_checkpoint.specs.Made.{contents_after, facts_after, held_after, HoldOnLeft};
+ghost use Rattle.array_checkpoint.specs.Made.{contents_after, facts_after, held_after};
 
 use crate::preparing::Prepared;
 use array_core::{Array, free_writes_go_on};

@@ -26,7 +26,7 @@ use Rattle.register.specs.Registers.{IsLaterRecord}
 use Rattle.memory_spec.specs.Numbers.{put, next_after, next_after_all}
 use Rattle.memory_spec.specs.Tables.{Tables, facts, patches}
 use Rattle.memory_spec.proofs.Lists.{each_by_recursion, of_each}
-use Rattle.array_memory.specs.Asked.{HasRoomLeft, IsAllowed, IsPrepared, added, staged_by, staged_count}
+use Rattle.array_memory.specs.Asked.{HasRoomLeft, added, staged_by, staged_count}
 use Rattle.array_memory.specs.Kept.{Kept, IsKept, HasSamePatches}
 use Rattle.array_memory.specs.Lawful.{IsLawful}
 use Rattle.array_memory.specs.Plan.{HasRoomAgain}
@@ -106,26 +106,6 @@ room_for_next was now logged later r sectors room count lawful written left stag
         staged = omega (arith, room.capacity.staged, left.staged_capacity);
       };
     }
-
--- where a slot of the log is free there is room for a command that the visible objects allow
-pub is_prepared : (k : Kept) (logged : ℕ) (r : Request) → HasRoomFor k logged → logged < 64 → IsLawful r → IsAllowed k.objects r → IsPrepared k r
-is_prepared k logged r room free lawful allowed =
-    let s = small r lawful in
-    record {
-      objects = omega (arith, room.objects, s.objects, free);
-      names = names r allowed;
-      addresses = omega (arith, room.addresses, s.addresses, free);
-      staged = omega (arith, room.staged, s.staged, free);
-      indices = omega (arith, room.indices, s.staged, free);
-    }
-  where
-    -- more objects may be named than there are
-    names : (r : Request) → IsAllowed k.objects r → added r ≤ k.name_room
-    names (request.Create n size) a = let all = room.capacity.names in let few = a.few in omega (arith, all, few)
-    names (request.Write n lba count) a = omega arith
-    names (request.Fill n lba count byte) a = omega arith
-    names (request.Zero n lba count) a = omega arith
-    names r a = absurd a
 
 -- a checkpoint makes room again of what was taken up
 pub capacity_again : (was now : Kept) → HasCapacity was → HasRoomAgain was now → now.objects ≡ was.objects → HasCapacity now

@@ -15,14 +15,17 @@ use Rattle.nvram_log.specs.Members as nv
 use Rattle.register.specs.declared.state.Register.{Register}
 use Rattle.register.specs.declared.tables.Tables.{Tables}
 use Rattle.register.specs.Registers.{IsLaterRecord, drives_of}
+use Rattle.register.specs.Standing.{Content}
 use Rattle.register.specs.Storing.{DropsOnlyFailed, IsUnstored}
 use Rattle.register.specs.Tables.{with_tables}
 use Rattle.register.proofs.Stores.{on_err}
 use Rattle.memory_spec.specs.Memory.{Contents}
+use Rattle.array_core.specs.declared.array.Array.{Array}
 use Rattle.array_core.specs.Changing.{KeepsTables, LeavesFewer, OnlyFaults}
 use Rattle.array_core.specs.Drives.{SegmentsHold}
 use Rattle.array_core.specs.Performing.{IsLostBy}
-use Rattle.array_core.specs.Switching.{HasTables, HoldOnLeft}
+use Rattle.array_core.specs.Ready.{IsReady}
+use Rattle.array_core.specs.Switching.{HasTables, HoldOnLeft, HoldTables, MaySwitch, WroteFree}
 use Rattle.array_core.proofs.Dropped.{drops_failed}
 use Rattle.array_core.proofs.Holders.{drops_then, none_joins, too_much_since}
 use Rattle.array_core.proofs.LostOnWay.{dropped_then}
@@ -58,6 +61,12 @@ pub kept_then : {a b c d : BootRecord} → IsLaterRecord a c ⊎ IsLaterRecord b
 kept_then (inl was) next = inl (later_then was next)
 kept_then (inr is) next = inr (later_then is next)
 
+-- ---- before it
+
+pub may_switch : (start : Shelved) (a : Array) (held : Content) {now : Shelved} {lost : List Bool} {tables : Tables} {next : Content} → IsReady start a held → WroteFree start now a.register lost held → HoldTables now a.register lost tables held next
+    → MaySwitch start now a.register a.log lost tables held next
+may_switch start a held ready wrote hold = record { was = record { is_open = ready.is_open; held_log = ready.held_log; keeps = ready.keeps; in_force = ready.in_force }; wrote = wrote; hold = hold }
+
 -- ---- which devices are left
 
 pub fewer_then : {size size2 : Geometry} {lost more : List Bool} {m n : ℕ} {r0 r1 r2 : Register} {m0 m1 m2 : List Bool} → LeavesFewer size lost m r0 r1 m0 m1 → LeavesFewer size2 more n r1 r2 m1 m2 → LeavesFewer size2 lost (m + n) r0 r2 m0 m2
@@ -87,6 +96,10 @@ only_faults a m n r now members left two drives nvrams logs dropped result lost 
   where
     since_a : DroppedFailed a n (drives_of r) (drives_of now)
     since_a i mem = subst (λ d. IsMember (drives_of now) i ⊎ LostWrites d (n.disk (drive i))) (drives i) (dropped i mem)
+
+-- an error is handed on
+pub faults_on : {T E T2 E2 : Type 0} {e : E} {old new : Shelved} {was now : Register} {members left : List Bool} (result : Result T2 E2) → OnlyFaults {T = T} (Err e) old new was now members left → OnlyFaults result old new was now members left
+faults_on result x = record { holders = x.holders; drives = x.drives; lost = when_err result x.lost }
 
 -- one change after another, where the first leaves the log as it is
 pub faults_then : (start mid new : Shelved) → Continues start mid → Continues mid new → (r0 r1 r2 : Register) (members left : List Bool) → r1.record.slots ≡ r0.record.slots → {T E T2 E2 : Type 0} (first : Result T E) (result : Result T2 E2)

@@ -10,9 +10,9 @@ use Rattle.boot_codec.specs.Record.{set_count}
 use Rattle.boot_codec.specs.Region.{names}
 use Rattle.world.specs.Counts.{Rises}
 use Rattle.world.specs.Losing.{has_risen}
-use Rattle.world.specs.Shelf.{Shelved, Stop, Disk, IsShelf, IsCountedBy, Continues, LeavesOnly}
+use Rattle.world.specs.Shelf.{Shelved, Disk, IsCountedBy, LeavesOnly}
 use Rattle.world.specs.Writes.{WritesOnly}
-use Rattle.world.proofs.Moments.{started, then_run, weaker}
+use Rattle.world.proofs.Moments.{weaker}
 use Rattle.boot_region.specs.Members.{IsMember, DroppedFailed}
 use Rattle.boot_region.proofs.Phases.{risen_on_way}
 use Rattle.boot_region.proofs.ShownLemmas.{member_below}
@@ -28,18 +28,6 @@ use Rattle.array_core.specs.Holding.{IsHolder, DropsFailedBy, NoneJoins}
 
 pub counted_so_far : {a b : Shelved} {W : Device → ℕ → Type 0} → WritesOnly W a b → LeavesOnly a b (IsCountedBy a)
 counted_so_far writes = weaker (λ stop left. left.counts) writes.any_moment
-
-counted_before : {a b : Shelved} → Continues a b → (stop : Stop) → IsCountedBy b stop → IsCountedBy a stop
-counted_before {a} {b} on stop counts = record {
-  faults = λ d. omega (arith, on.faults d, counts.faults d);
-  write_faults = λ d. omega (arith, on.write_faults d, counts.write_faults d);
-}
-
-pub counted_on : {a b c : Shelved} {W V : Device → ℕ → Type 0} → Continues a b → WritesOnly W a b → WritesOnly V b c → LeavesOnly a c (IsCountedBy a)
-counted_on {a} {b} {c} on first next = then_run on (counted_so_far first) (weaker (counted_before on) (counted_so_far next))
-
-pub counted_at_first : (a : Shelved) → IsShelf a → LeavesOnly a a (IsCountedBy a)
-counted_at_first a is = started a (IsCountedBy a) is (λ stop may. may.counts)
 
 -- ---- who is dropped
 
@@ -90,16 +78,6 @@ module _ (old mid new : Shelved) (was now : Register) (members left : List Bool)
   ]
 
 -- ---- who joins
-
-pub none_joins_unstored : (was now : Array) → now.register ≡ was.register → nv.IsFewer was.log.members now.log.members → NoneJoins was now
-none_joins_unstored was now same fewer = record {
-  holders = λ d h. of d h;
-  named = λ d e. inl (subst (λ (r : Register). names r.record d ≡ true) same e);
-}
-  where
-    of : (d : Device) → IsHolder now d → IsHolder was d
-    of (Drive d) h = subst (λ (r : Register). IsMember (drives_of r) d.0) same h
-    of (Nv n) h = fewer n.0 h
 
 pub fewer_drives : (was now : Register) → IsLaterRecord was.record now.record → ((i : ℕ) → IsMember now.drives i → IsMember was.drives i) → (i : ℕ) → IsMember (drives_of now) i → IsMember (drives_of was) i
 fewer_drives was now later fewer i m =

@@ -1,27 +1,20 @@
 -- More devices are lost than are borne.
-use Rattle.std.proofs.Common.{◌≡◌, ◌⊎◌, inl, inr, ℕ, zero, suc, ◌+◌, ◌-◌, ◌^◌, ◌≤◌, ◌<◌, List, [], ◌∷◌, length, ap, subst, arith, Bool, true, false, cond, Result, Ok, Err, OnOk, IfErr}
+use Rattle.std.proofs.Common.{◌≡◌, ◌⊎◌, inl, inr, ℕ, zero, suc, ◌+◌, ◌≤◌, ◌<◌, List, [], ◌∷◌, subst, arith, Bool, true, false, cond}
 use Rattle.std.specs.Prelude.{count_by}
 use Rattle.std.specs.List.{range_with_len}
 use Rattle.std.proofs.lemmas.Bool.{cases_Bool}
-use Rattle.std.proofs.lemmas.List.Sums.{count_by-le-length}
 use Rattle.pur_base.specs.declared.device.Device.{Device}
 use Rattle.pur_base.specs.Devices.{Geometry, Conditions, Sound, is_missing, IsBearable, drive, nvram}
-use Rattle.boot_codec.specs.declared.record.BootRecord.{BootRecord}
 use Rattle.boot_codec.specs.Record.{set_count}
 use Rattle.array_spec.proofs.UnflushedRead.{one_left}
 use Rattle.array_spec.proofs.Votes.{counted, not_missing}
 use Rattle.world.specs.Counts.{Rises}
-use Rattle.world.specs.Shelf.{Shelved, Disk}
+use Rattle.world.specs.Shelf.{Shelved}
 use Rattle.world.specs.Losing.{geometry_of, has_risen}
-use Rattle.boot_region.specs.Members.{IsMember, DroppedFailed, LostWrites}
+use Rattle.boot_region.specs.Members.{IsMember}
 use Rattle.boot_region.proofs.Phases.{risen_on_way}
 use Rattle.nvram_log.specs.Members as nv
-use Rattle.register.specs.declared.state.Register.{Register}
-use Rattle.register.specs.declared.next.StoreFault.{StoreFault}
-use Rattle.register.specs.declared.next.StoreFault.TheVariants.{Spent, TooFew}
-use Rattle.register.specs.Faults.{IsFaultOf}
-use Rattle.register.specs.Registers.{IsRegisterOf, IsLaterRecord, drives_of}
-use Rattle.register.proofs.FlagLemmas.{fewer_count, in_cut}
+use Rattle.register.specs.Registers.{IsRegisterOf}
 use Rattle.array_core.specs.declared.array.Array.{Array}
 use Rattle.array_core.specs.Holding.{IsHolder}
 use Rattle.array_core.specs.Losing.{lost_since}
@@ -111,33 +104,3 @@ pub lost_log : (old new : Shelved) (was now : List Bool) → nv.DroppedFailed ol
 lost_log old new was now dropped none zero lt mem = elim (dropped 0 lt mem) [ inl is ↦ absurd (none (inl is)) | inr rose ↦ rose ]
 lost_log old new was now dropped none (suc zero) lt mem = elim (dropped 1 lt mem) [ inl is ↦ absurd (none (inr is)) | inr rose ↦ rose ]
 lost_log old new was now dropped none (suc (suc n)) lt mem = absurd (omega (arith, lt))
-
--- where no record was stored, more than two drives aren't left
-pub lost_drives : (old mid new : Shelved) (was now : Register) → ((i : ℕ) → mid.disk (drive i) ≡ old.disk (drive i)) → IsRegisterOf (geometry_of mid) was → was.record.generation < 2 ^ 48 - 2 ^ 23
-    → DroppedFailed mid new (drives_of was) (drives_of now) → IsLaterRecord was.record now.record → now.record.generation + set_count now.drives ≤ was.record.generation + set_count was.drives
-    → (e : StoreFault) → IsFaultOf now e → LostDrives old new was
-lost_drives old mid new was now same is room dropped later lost (TooFew left) fault = record {
-  left = drives_of now;
-  dropped = λ i mem. elim (dropped i mem) [
-    | inl is ↦ inl is
-    | inr rose ↦ inr (subst (λ (d : Disk). LostWrites d (new.disk (drive i))) (same i) rose)
-  ];
-  too_few =
-      let slots : now.record.slots ≡ was.record.slots = ap (λ (b : BootRecord). b.slots) later.rest in
-      let fewer : set_count (drives_of now) ≤ set_count now.drives = fewer_count (drives_of now) now.drives (λ i mem. in_cut now.drives now.record.slots i mem) in
-      omega (arith, slots, fewer, fault.1);
-}
-lost_drives old mid new was now same is room dropped later lost Spent fault =
-    let fewer : set_count was.drives ≤ set_count was.record.members.drives = fewer_count was.drives was.record.members.drives is.named in
-    let most : set_count was.record.members.drives ≤ length was.record.members.drives = count_by-le-length (λ (b : Bool). b) was.record.members.drives in
-    absurd (omega (arith, fewer, most, is.lawful.lawful.members.drive_flags, fault.1, lost, room))
-
--- what an error says
-pub on_err : {T E : Type 0} (r : Result T E) {P Q : E → Type 0} → ((e : E) → P e → Q e) → IfErr r P → IfErr r Q
-on_err (Ok x) f p = tt
-on_err (Err e) f p = f e p
-
--- three clauses on Ok
-pub on_all_ok : {T E A B C D : Type 0} (r : Result T E) → OnOk r A → OnOk r B → OnOk r C → (A → B → C → D) → OnOk r D
-on_all_ok (Ok x) a b c f = f a b c
-on_all_ok (Err e) a b c f = tt

@@ -1,18 +1,17 @@
 -- What is known of an array that is ready.
-use Rattle.std.proofs.Common.{refl, ◌≡◌, inl, inr, ℕ, ◌<◌, List, [], ◌∷◌, sym, subst, arith, Bool, true, false}
+use Rattle.std.proofs.Common.{◌≡◌, inl, inr, ℕ, ◌<◌, List, [], ◌∷◌, sym, subst, arith, Bool, true, false}
 use Rattle.std.proofs.lemmas.Bool.{cases_lt}
 use Rattle.pur_base.specs.declared.device.Device.{Device}
 use Rattle.pur_base.specs.declared.device.Device.TheVariants.{Drive, Nv}
-use Rattle.pur_base.specs.Devices.{Sound, IsBearable, drive, nvram, Conditions, LeftOut}
+use Rattle.pur_base.specs.Devices.{Sound, IsBearable, drive, nvram, Conditions}
 use Rattle.pur_base.specs.Grammar.{is_in_force}
 use Rattle.pur_base.specs.Commands.{Command}
 use Rattle.boot_codec.specs.declared.record.BootRecord.{BootRecord}
 use Rattle.boot_codec.specs.Region.{names}
 use Rattle.log_codec.specs.Log.{ShowsIn}
-use Rattle.world.specs.Losing.{geometry_of, has_risen}
+use Rattle.world.specs.Losing.{geometry_of}
 use Rattle.world.specs.Shelf.{Shelved, Stop, MayStop}
 use Rattle.boot_region.specs.Members.{IsMember}
-use Rattle.boot_region.proofs.Phases.{risen_on_way}
 use Rattle.boot_region.proofs.ShownLemmas.{as_read, member_below}
 use Rattle.nvram_log.specs.Members as nv
 use Rattle.register.specs.declared.state.Register.{Register}
@@ -22,14 +21,11 @@ use Rattle.register.proofs.FlagLemmas.{in_cut, cut_in, none_past}
 use Rattle.session_spec.specs.Entering.{IsStanding, LeftOutAreNamedByNone, AreRead}
 use Rattle.array_core.specs.declared.array.Array.{Array}
 use Rattle.array_core.specs.Ready.{IsReady}
-use Rattle.array_core.specs.Holding.{IsHolder, DropsFailed, NoneJoins, AgreesWith}
-use Rattle.array_core.specs.Losing.{lost_since}
+use Rattle.array_core.specs.Holding.{IsHolder, NoneJoins, AgreesWith}
 use Rattle.array_core.proofs.Agreeing.{standing_in, unnamed_is}
 use Rattle.array_core.proofs.Standing.{are_sound}
 use Rattle.array_core.proofs.Commands.{is_of_all}
-use Rattle.array_core.proofs.Losses.{sound_since}
 use Rattle.register.proofs.Opened.{is_left, is_named}
-use Rattle.session_spec.proofs.Conditions.{left_out_once}
 
 module _ (shelf : Shelved) (a : Array) (held : Content) (ready : IsReady shelf a held) where
   abbrev r : Register
@@ -100,31 +96,6 @@ module _ (shelf : Shelved) (a : Array) (held : Content) (ready : IsReady shelf a
       standing_in (geometry_of shelf) stop.image (named_sound r.record) now (λ d e. are_sound (names r.record d) (agrees.sound d e)) (λ d e. unnamed_is (names r.record d) (agrees.left_out d e)) bears
       (λ d. (may.device d).is_byte) (array_of held ∷ []) (ready_stands stop may)
 
-  pub agreed_is_clean : (now : Conditions) → AgreesWith r.record now → (d : Device) → now d ≡ Sound → (shelf.disk d).dirty ≡ []
-  agreed_is_clean now agrees d s = ready_is_clean d (are_sound (names r.record d) (agrees.sound d s))
-
 -- the record's own conditions agree with it
 pub agrees_named : (boot : BootRecord) → AgreesWith boot (named_sound boot)
 agrees_named boot = record { sound = λ d e. is_named (names boot d) e; left_out = λ d e. is_left (names boot d) e }
-
--- and after a command they agree with the record then, where devices that lost a write went missing
-pub agrees_after : (old new : Shelved) (was now : Array) (held more : Content) → IsReady old was held → IsReady new now more → DropsFailed old new was now → NoneJoins was now
-    → (conditions : Conditions) → AgreesWith was.register.record conditions → AgreesWith now.register.record (lost_since old new conditions)
-agrees_after old new was now held more ready ready_now drops none conditions agrees = record { sound = λ d e. still_named d e; left_out = λ d e. still_unnamed d e }
-  where
-    still_named : (d : Device) → lost_since old new conditions d ≡ Sound → names now.register.record d ≡ true
-    still_named d e =
-        let before = sound_since (has_risen (old.disk d).write_faults (new.disk d).write_faults) (conditions d) e in
-        elim (drops d (ready_holds old was held ready d (agrees.sound d before.0))) [
-          | inl h ↦ ready_names new now more ready_now d h
-          | inr rose ↦ absurd (risen_on_way (old.disk d).write_faults (old.disk d).write_faults (new.disk d).write_faults (new.disk d).write_faults (omega arith) rose (omega arith) before.1)
-        ]
-
-    unnamed : (b c : Bool) → (b ≡ true → c ≡ true) → c ≡ false → b ≡ false
-    unnamed true c to e = absurd (cc (to refl, e))
-    unnamed false c to e = refl
-
-    still_unnamed : (d : Device) → lost_since old new conditions d ≡ LeftOut → names now.register.record d ≡ false
-    still_unnamed d e =
-        let before = left_out_once (has_risen (old.disk d).write_faults (new.disk d).write_faults) (conditions d) e in
-        unnamed (names now.register.record d) (names was.register.record d) (named_before old was held ready now none d) (agrees.left_out d before)

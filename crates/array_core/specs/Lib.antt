@@ -13,3 +13,4 @@ pub mod Changing
 pub mod Committing
 pub mod Meanwhile
 pub mod Switching
+pub mod Taking

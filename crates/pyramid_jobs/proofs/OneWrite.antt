@@ -15,7 +15,7 @@ use Rattle.array_core.specs.Drives.{SegmentsHold}
 use Rattle.array_core.specs.Ready.{IsArrayOf, IsReady}
 use Rattle.array_core.specs.Performing.{IsKeptAt}
 use Rattle.array_core.proofs.FreeWrites.{free_writes_go_on}
-use Rattle.array_checkpoint.specs.Made.{HoldOnLeft}
+use Rattle.array_core.specs.Switching.{HoldOnLeft}
 use Rattle.array_checkpoint.proofs.FreeUnits.{on_free, spares_used_by}
 use Rattle.array_checkpoint.proofs.Left.{still_held}
 use Rattle.array_checkpoint.proofs.Stays.{SparesUsed}

@@ -9,8 +9,7 @@ ghost use Rattle.memory_spec.specs.Tables.{facts};
 ghost use Rattle.array_core.specs.Drives.{SegmentsHold};
 ghost use Rattle.array_core.specs.Ready.{IsArrayOf, IsReady};
 ghost use Rattle.array_core.specs.Performing.{IsKeptAt};
-ghost use Rattle.array_core.specs.Switching.{AreLost, HoldTables, WroteFree};
-ghost use Rattle.array_checkpoint.specs.Made.{HoldOnLeft};
+ghost use Rattle.array_core.specs.Switching.{AreLost, HoldOnLeft, HoldTables, WroteFree};
 ghost use Rattle.pyramid_jobs.specs.Prepared.{held_after, IsPreparedFor};
 
 use crate::merged_io::write_merged;

@@ -19,7 +19,8 @@ use Rattle.array_checkpoint.specs.declared.making.CheckpointFault.{CheckpointFau
 use Rattle.array_checkpoint.specs.Prepared.{IsLike}
 use Rattle.array_checkpoint.specs.Made.{contents_after, held_after, IsFaultOf}
 use Rattle.array_checkpoint.proofs.Like.{like_is_of, like_is_ready}
-use Rattle.array_checkpoint.proofs.Joined.{counted_now, counted_since, drops, err_on, flushed_since, hold_roomed, joins, reads_roomed, same_objects, same_spent, too_much, was_open}
+use Rattle.array_checkpoint.proofs.Joined.{counted_now, counted_since, drops, err_on, flushed_since, hold_roomed, joins, reads_roomed, same_objects, same_spent, too_much}
+use Rattle.array_core.proofs.Changes.{may_switch}
 use Rattle.array_checkpoint.proofs.making.checkpoint.Goals as goal
 use Rattle.register.proofs.Rounds.{same_shelf}
 
@@ -72,28 +73,28 @@ returns-clause-goes g c =
     let roomed : (held : Content) → IsReady a was held → IsReady a mid held = λ held ready. like_is_ready a was mid held like ready in
     record {
       ran = record { continues = continues_trans on c.take_over.ensures.ran.on.continues; counted = λ h. counted_since on (c.write_prepared.ensures.moments h) (runs_moments c.take_over.ensures.ran.on (on.honest h)) };
-      is_of = x.is_of;
-      hands_on = hands a n was now (drops was mid like a n now (c.take_over.ensures.dropped c.args.shelf.now on w.lost)) (joins was mid like now x.joins);
+      is_of = x.taken.is_of;
+      hands_on = hands a n was now (drops was mid like a n now (c.take_over.ensures.faults c.args.shelf.now on w.lost).holders) (joins was mid like now x.taken.joins);
       accepted = λ contents z r. tt;
       reads = λ contents z r.
           let more = contents_after mid.memory.memory plan contents in
           record {
             more = more;
-            reads = x.reads contents z (reads_roomed was mid like contents z r);
-            hold = λ h hold. x.segments (on.honest h) more (w.contents h contents (hold_roomed was mid like a contents hold));
+            reads = x.taken.reads contents z (reads_roomed was mid like contents z r);
+            hold = λ h hold. x.taken.segments (on.honest h) more (w.contents h contents (hold_roomed was mid like a contents hold));
           };
       holds = λ h z holds.
           let held = holds.held in
           let ready = roomed held holds.ready in
           record {
             held = held_after mid.memory.memory plan held;
-            ready = x.done (on.honest h) c.args.shelf.now held (was_open a mid held ready) (w.free h held ready) (w.hold h held ready) ready.contents ready.reads (w.contents h ready.contents ready.hold);
+            ready = (x.stays (on.honest h) c.args.shelf.now held (may_switch a mid held ready (w.free h held ready) (w.hold h held ready))).ready ready.contents ready.reads (w.contents h ready.contents ready.hold);
             is = holds.is;
           };
       any_moment = same_meanwhile a n was (λ h held is_ready.
           let ready = roomed held is_ready in
           subst (λ (r : Register). LeavesOnly a n (IsKeptAt a r.record (array_of held ∷ []))) like.register
-          (then_run on (c.write_prepared.ensures.any_moment h held ready) (c.take_over.ensures.any_moment (on.honest h) c.args.shelf.now held (was_open a mid held ready) (w.free h held ready) (w.hold h held ready))));
+          (then_run on (c.write_prepared.ensures.any_moment h held ready) (c.take_over.ensures.stays (on.honest h) c.args.shelf.now held (may_switch a mid held ready (w.free h held ready) (w.hold h held ready))).any_moment));
     }
 
 -- ---- where the tables could not be taken over
@@ -125,10 +126,10 @@ returns-in_err-take_over-clause-fault g c =
     let moments = same_meanwhile a n was (λ h held is_ready.
     let ready = like_is_ready a was mid held like is_ready in
     subst (λ (r : Register). LeavesOnly a n (IsKeptAt a r.record (array_of held ∷ []))) like.register
-    (then_run on (c.write_prepared.ensures.any_moment h held ready) (c.take_over.ensures.any_moment (on.honest h) c.args.shelf.now held (was_open a mid held ready) (w.free h held ready) (w.hold h held ready)))) in
+    (then_run on (c.write_prepared.ensures.any_moment h held ready) (c.take_over.ensures.stays (on.honest h) c.args.shelf.now held (may_switch a mid held ready (w.free h held ready) (w.hold h held ready))).any_moment)) in
     let ran : Calls a n = record { continues = continues_trans on c.take_over.ensures.ran.on.continues; counted = λ h. counted_since on (c.write_prepared.ensures.moments h) (runs_moments c.take_over.ensures.ran.on (on.honest h)) } in
     err_is c.from_residual-in_err-take_over.result _ q.0 q.1 (subst (λ (e : CheckpointFault). IsFaultOf a n was (IsLike was c.take_over.new.array × (c.take_over.new.shelf ≡ c.args.shelf.now)) e) (sym q.2)
-    (lost_halts a n was [] ran c.requires.is_of (too_much was mid like a n (c.in_err-take_over.ensures.fault.1 c.args.shelf.now on w.lost)) moments))
+    (lost_halts a n was [] ran c.requires.is_of (too_much was mid like a n (c.in_err-take_over.ensures.faults c.args.shelf.now on w.lost).lost) moments))
 
 pub returns-in_err-take_over-clause-kept : goal.returns-in_err-take_over-clause-kept
 returns-in_err-take_over-clause-kept g c =

@@ -8,7 +8,7 @@ use Rattle.register.specs.Standing.{array_of}
 use Rattle.register.proofs.Tabling.{same_array}
 use Rattle.array_core.specs.Performing.{IsKeptAt}
 use Rattle.array_core.proofs.Behind.{segments_left}
-use Rattle.array_core.proofs.Changes.{changed_then, faults_then, fewer_then, kept_then, when_err}
+use Rattle.array_core.proofs.Changes.{changed_then, faults_on, faults_then, fewer_then, kept_then}
 use Rattle.array_core.proofs.Holders.{all_of_more}
 use Rattle.array_core.proofs.Keeping.{run_since}
 use Rattle.array_core.proofs.Stages.{came_after}
@@ -22,9 +22,7 @@ pub returns-in_err-switch_tables-clause-ran : goal.returns-in_err-switch_tables-
 returns-in_err-switch_tables-clause-ran g c = ran_more (λ d is. tt) (λ d i w. inl w) c.switch_tables.ensures.ran
 
 pub returns-in_err-switch_tables-clause-faults : goal.returns-in_err-switch_tables-clause-faults
-returns-in_err-switch_tables-clause-faults g c start on are =
-    let x = c.switch_tables.ensures.faults start on are in
-    record { holders = x.holders; drives = x.drives; lost = when_err c.from_residual.result (c.in_err-switch_tables.ensures.faults start on are).lost }
+returns-in_err-switch_tables-clause-faults g c start on are = faults_on c.from_residual.result (c.in_err-switch_tables.ensures.faults start on are)
 
 pub returns-in_err-switch_tables-clause-stays : goal.returns-in_err-switch_tables-clause-stays
 returns-in_err-switch_tables-clause-stays g c h start held next may = record { opens = search rules; any_moment = (c.switch_tables.ensures.stays h start held next may).any_moment }

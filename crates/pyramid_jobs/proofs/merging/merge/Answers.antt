@@ -7,7 +7,8 @@ use Rattle.array_core.specs.Ready.{IsArrayOf}
 use Rattle.array_core.specs.Going.{Calls}
 use Rattle.array_core.proofs.Steps.{hands, lost_halts, same_meanwhile}
 use Rattle.array_core.proofs.Stages.{err_is}
-use Rattle.array_checkpoint.proofs.Joined.{counted_now, counted_since, err_on, was_open}
+use Rattle.array_checkpoint.proofs.Joined.{counted_now, counted_since, err_on}
+use Rattle.array_core.proofs.Changes.{may_switch}
 use Rattle.pyramid_jobs.specs.declared.fault.MergeFault.{MergeFault}
 use Rattle.pyramid_jobs.specs.Made.{IsFaultOf}
 use Rattle.pyramid_jobs.specs.Prepared.{held_after}
@@ -42,20 +43,20 @@ returns-clause-goes g c =
     let x = c.in_ok-take_over.ensures in
     record {
       ran = record { continues = continues_trans on c.take_over.ensures.ran.on.continues; counted = λ h. counted_since on (c.write_prepared.ensures.moments h) (runs_moments c.take_over.ensures.ran.on (on.honest h)) };
-      is_of = x.is_of;
-      hands_on = hands a n was now (c.take_over.ensures.dropped c.args.shelf.now on w.lost) x.joins;
+      is_of = x.taken.is_of;
+      hands_on = hands a n was now (c.take_over.ensures.faults c.args.shelf.now on w.lost).holders x.taken.joins;
       accepted = λ contents z r. tt;
-      reads = λ contents z r. record { more = contents; reads = x.reads contents z r; hold = λ h hold. x.segments (on.honest h) contents (w.contents h contents hold) };
+      reads = λ contents z r. record { more = contents; reads = x.taken.reads contents z r; hold = λ h hold. x.taken.segments (on.honest h) contents (w.contents h contents hold) };
       holds = λ h z holds.
           let held = holds.held in
           let ready = holds.ready in
           record {
             held = held_after was.memory.memory c.args.index merged held;
-            ready = x.done (on.honest h) c.args.shelf.now held (was_open a was held ready) (w.free h held ready) (w.hold h c.args.table c.args.index held c.in_ok-prepared.ensures ready) ready.contents ready.reads (w.contents h ready.contents ready.hold);
+            ready = (x.stays (on.honest h) c.args.shelf.now held (may_switch a was held ready (w.free h held ready) (w.hold h c.args.table c.args.index held c.in_ok-prepared.ensures ready))).ready ready.contents ready.reads (w.contents h ready.contents ready.hold);
             is = holds.is;
           };
       any_moment = same_meanwhile a n was (λ h held ready. then_run on (c.write_prepared.ensures.any_moment h held ready)
-          (c.take_over.ensures.any_moment (on.honest h) c.args.shelf.now held (was_open a was held ready) (w.free h held ready) (w.hold h c.args.table c.args.index held c.in_ok-prepared.ensures ready)));
+          (c.take_over.ensures.stays (on.honest h) c.args.shelf.now held (may_switch a was held ready (w.free h held ready) (w.hold h c.args.table c.args.index held c.in_ok-prepared.ensures ready))).any_moment);
     }
 
 -- ---- where the tables could not be taken over
@@ -81,10 +82,10 @@ returns-in_err-take_over-clause-fault g c =
     let q = err_from_is_err_and c.from_residual-in_err-take_over.result c.from_residual-in_err-take_over.ensures.1 in
     let ran : Calls a n = record { continues = continues_trans on c.take_over.ensures.ran.on.continues; counted = λ h. counted_since on (c.write_prepared.ensures.moments h) (runs_moments c.take_over.ensures.ran.on (on.honest h)) } in
     let moments = same_meanwhile a n was (λ h held ready. then_run on (c.write_prepared.ensures.any_moment h held ready)
-    (c.take_over.ensures.any_moment (on.honest h) c.args.shelf.now held (was_open a was held ready) (w.free h held ready) (w.hold h c.args.table c.args.index held c.in_ok-prepared.ensures ready))) in
+    (c.take_over.ensures.stays (on.honest h) c.args.shelf.now held (may_switch a was held ready (w.free h held ready) (w.hold h c.args.table c.args.index held c.in_ok-prepared.ensures ready))).any_moment) in
     err_is c.from_residual-in_err-take_over.result _ q.0 q.1
     (subst (λ (e : MergeFault). IsFaultOf c.args.table c.args.index a n was ((c.take_over.new.array ≡ was) × (c.take_over.new.shelf ≡ c.args.shelf.now)) e) (sym q.2)
-    (c.in_ok-pair.ensures.may, lost_halts a n was [] ran c.requires.is_of (c.in_err-take_over.ensures.fault.1 c.args.shelf.now on w.lost) moments))
+    (c.in_ok-pair.ensures.may, lost_halts a n was [] ran c.requires.is_of (c.in_err-take_over.ensures.faults c.args.shelf.now on w.lost).lost moments))
 
 pub returns-in_err-take_over-clause-kept : goal.returns-in_err-take_over-clause-kept
 returns-in_err-take_over-clause-kept g c =
