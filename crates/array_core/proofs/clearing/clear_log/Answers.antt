@@ -28,11 +28,6 @@ cleared g c h held commands may =
     clearing (g.S.Shelf.shelf c.args.shelf.now) (g.S.Shelf.shelf c.clear.new.shelf) c.args.register.now c.args.log.now c.clear.new.self.members commands held (g.met.S.Shelf.is_shelf c.args.shelf.now) (g.met.S.Shelf.is_shelf c.clear.new.shelf) h
     x.ran.on.continues may.is_open.is_open may.empty (λ i. x.ran.on.others (drive i) (λ none. none)) x.fewer x.dropped (x.none_later h commands may.keeps may.is_open.held_log) (x.ran.on.writes h) c.requires.flushed may.keeps
 
-moments : (g : given.Over) (c : After-clear g) → (g.S.Shelf.shelf c.args.shelf.now).honest → (held : Content) (commands : List Command) → MayClear (g.S.Shelf.shelf c.args.shelf.now) c.args.register.now c.args.log.now held commands
-    → LeavesOnly (g.S.Shelf.shelf c.args.shelf.now) (g.S.Shelf.shelf c.clear.new.shelf) (IsKeptAt (g.S.Shelf.shelf c.args.shelf.now) c.args.register.now.record (array_of held ∷ []))
-moments g c h held commands may =
-    clear_moments (g.S.Shelf.shelf c.args.shelf.now) (g.S.Shelf.shelf c.clear.new.shelf) c.args.register.now c.args.log.now.members c.clear.new.self.members held (cleared g c h held commands may)
-
 -- ---- no device of it is left
 
 pub returns-in_err-clear-clause-ran : goal.returns-in_err-clear-clause-ran
@@ -51,7 +46,10 @@ returns-in_err-clear-clause-faults g c =
     (λ dropped. when_err c.from_residual.result (inl (lost_log a m c.args.log.now.members c.clear.new.self.members x.dropped c.in_err-clear.ensures.err.2)))
 
 pub returns-in_err-clear-clause-stays : goal.returns-in_err-clear-clause-stays
-returns-in_err-clear-clause-stays g c h held commands may = record { opens = search rules; any_moment = moments g (goal.at.returns-in_err-clear-clause-stays g c).After-clear h held commands may }
+returns-in_err-clear-clause-stays g c h held commands may = record {
+  opens = search rules;
+  any_moment = clear_moments (g.S.Shelf.shelf c.args.shelf.now) (g.S.Shelf.shelf c.clear.new.shelf) c.args.register.now c.args.log.now.members c.clear.new.self.members held (cleared g (goal.at.returns-in_err-clear-clause-stays g c).After-clear h held commands may);
+}
 
 -- ---- no device of it failed
 
@@ -74,13 +72,13 @@ returns-then-eq-clause-stays g c h held commands may =
     let r = c.args.register.now in
     let log = c.args.log.now in
     let now = c.clear.new.self.members in
-    let k = (goal.at.returns-then-eq-clause-stays g c).After-clear in
+    let p = cleared g (goal.at.returns-then-eq-clause-stays g c).After-clear h held commands may in
     let holds = c.in_ok-clear.ensures.holds h commands may.keeps may.is_open.held_log in
     let holds_then : HoldsOn m now r.record.flushed [] = subst (λ (f : ℕ). HoldsOn m now f []) (c.in_ok-clear.ensures.ok.0 ∙ sym c.requires.flushed) holds in
     let same : now ≡ log.members = sym c.members-members.ensures ∙ same_flags c.members-members.result c.members-before.result c.if-eq.ensures ∙ c.members-before.ensures in
     record {
-      opens = record { is_open = still_open (g.S.Shelf.shelf c.args.shelf.now) m r log.members now held (cleared g k h held commands may) holds_then same; held_log = holds };
-      any_moment = moments g k h held commands may;
+      opens = record { is_open = still_open (g.S.Shelf.shelf c.args.shelf.now) m r log.members now held p holds_then same; held_log = holds };
+      any_moment = clear_moments (g.S.Shelf.shelf c.args.shelf.now) m r log.members now held p;
     }
 
 -- ---- a record was stored without one of them, or could not be

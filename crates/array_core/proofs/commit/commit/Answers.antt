@@ -41,16 +41,6 @@ appended g c h held may =
     appending (g.S.Shelf.shelf c.args.shelf.now) (g.S.Shelf.shelf c.append.new.shelf) c.args.array.now.register c.args.array.now.log c.append.new.self.members held (command g c) (g.met.S.Shelf.is_shelf c.args.shelf.now) (g.met.S.Shelf.is_shelf c.append.new.shelf) h
     x.ran.on.continues may.is_open.is_open may.keeps c.requires.room c.requires.is_of.flushed may.accepted (λ i. x.ran.on.others (drive i) (λ none. none)) x.fewer x.dropped (x.any_moment h held.log may.keeps may.is_open.held_log) (x.ran.on.writes h) (x.spelled 0 _ refl) may.in_force
 
-moments : (g : given.Over) (c : After-append g) → (g.S.Shelf.shelf c.args.shelf.now).honest → (held : Content) → MayLog (g.S.Shelf.shelf c.args.shelf.now) c.args.array.now held (command g c)
-    → LeavesOnly (g.S.Shelf.shelf c.args.shelf.now) (g.S.Shelf.shelf c.append.new.shelf) (IsKeptAt (g.S.Shelf.shelf c.args.shelf.now) c.args.array.now.register.record (without_or_with held (command g c)))
-moments g c h held may =
-    append_moments (g.S.Shelf.shelf c.args.shelf.now) (g.S.Shelf.shelf c.append.new.shelf) c.args.array.now.register c.args.array.now.log.members c.append.new.self.members held (command g c) (appended g c h held may)
-
-outlasts : (g : given.Over) (c : After-append g) → (g.S.Shelf.shelf c.args.shelf.now).honest → (held : Content) → MayLog (g.S.Shelf.shelf c.args.shelf.now) c.args.array.now held (command g c)
-    → LeavesOnly (g.S.Shelf.shelf c.args.shelf.now) (g.S.Shelf.shelf c.append.new.shelf) (StandsOnceBack (g.S.Shelf.shelf c.args.shelf.now) (named_sound c.args.array.now.register.record) (without_or_with held (command g c)))
-outlasts g c h held may =
-    append_again (g.S.Shelf.shelf c.args.shelf.now) (g.S.Shelf.shelf c.append.new.shelf) c.args.array.now.register c.args.array.now.log.members c.append.new.self.members held (command g c) (appended g c h held may)
-
 -- ---- it is on no device
 
 pub returns-in_err-append-clause-ran : goal.returns-in_err-append-clause-ran
@@ -66,10 +56,12 @@ returns-in_err-append-clause-faults g c =
     (λ dropped. when_err c.from_residual.result (inl (lost_log a m c.args.array.now.log.members c.append.new.self.members x.dropped c.in_err-append.ensures.err.1)))
 
 pub returns-in_err-append-clause-stays : goal.returns-in_err-append-clause-stays
-returns-in_err-append-clause-stays g c h held may = record { opens = search rules; any_moment = moments g (goal.at.returns-in_err-append-clause-stays g c).After-append h held may }
+returns-in_err-append-clause-stays g c h held may =
+    let k = (goal.at.returns-in_err-append-clause-stays g c).After-append in
+    record { opens = search rules; any_moment = append_moments (g.S.Shelf.shelf c.args.shelf.now) (g.S.Shelf.shelf c.append.new.shelf) c.args.array.now.register c.args.array.now.log.members c.append.new.self.members held (command g k) (appended g k h held may) }
 
 pub returns-in_err-append-clause-outlasts : goal.returns-in_err-append-clause-outlasts
-returns-in_err-append-clause-outlasts g c = outlasts g (goal.at.returns-in_err-append-clause-outlasts g c).After-append
+returns-in_err-append-clause-outlasts g c h held may = let k = (goal.at.returns-in_err-append-clause-outlasts g c).After-append in append_again (g.S.Shelf.shelf c.args.shelf.now) (g.S.Shelf.shelf c.append.new.shelf) c.args.array.now.register c.args.array.now.log.members c.append.new.self.members held (command g k) (appended g k h held may)
 
 -- ---- no device failed
 
@@ -107,14 +99,15 @@ returns-then-eq-clause-stays g c h held may =
     let k = (goal.at.returns-then-eq-clause-stays g c).After-append in
     let holds = c.in_ok-append.ensures.holds h held.log may.keeps may.is_open.held_log in
     let holds_then : HoldsOn m now r.record.flushed (held.log ++ command g k ∷ []) = subst (λ (f : ℕ). HoldsOn m now f (held.log ++ command g k ∷ [])) (x.flushed ∙ c.requires.is_of.flushed) holds in
+    let p = appended g k h held may in
     let same : log.members ≡ now = sym c.members-before.ensures ∙ sym (same_flags c.members-members.result c.members-before.result c.if-eq.ensures) ∙ c.members-members.ensures in
     record {
-      opens = record { is_open = still_open (g.S.Shelf.shelf c.args.shelf.now) m r log.members now held (command g k) (appended g k h held may) holds_then same; held_log = holds };
-      any_moment = moments g k h held may;
+      opens = record { is_open = still_open (g.S.Shelf.shelf c.args.shelf.now) m r log.members now held (command g k) p holds_then same; held_log = holds };
+      any_moment = append_moments (g.S.Shelf.shelf c.args.shelf.now) m r log.members now held (command g k) p;
     }
 
 pub returns-then-eq-clause-outlasts : goal.returns-then-eq-clause-outlasts
-returns-then-eq-clause-outlasts g c = outlasts g (goal.at.returns-then-eq-clause-outlasts g c).After-append
+returns-then-eq-clause-outlasts g c h held may = let k = (goal.at.returns-then-eq-clause-outlasts g c).After-append in append_again (g.S.Shelf.shelf c.args.shelf.now) (g.S.Shelf.shelf c.append.new.shelf) c.args.array.now.register c.args.array.now.log.members c.append.new.self.members held (command g k) (appended g k h held may)
 
 -- ---- a record was stored without one of them, or could not be
 

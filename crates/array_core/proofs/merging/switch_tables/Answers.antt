@@ -57,9 +57,6 @@ returns-in_err-leave_lost-clause-stays g c h start held next may = record {
 left : (g : given.Over) (c : After-store_tables g) → LeavesFewer (geometry_of (g.S.Shelf.shelf c.store_tables.new.shelf)) c.args.lost.now 6 c.args.register.now c.store_tables.new.self c.args.log.now.members c.args.log.now.members
 left g c = tables_fewer c.leave_lost.ensures.left c.store_tables.ensures.left c.store_tables.ensures.made.few
 
-slots_of : (g : given.Over) (c : After-store_tables g) → c.leave_lost.new.register.record.slots ≡ c.args.register.now.record.slots
-slots_of g c = ap (λ (k : BootRecord). k.slots) c.leave_lost.ensures.record.later.rest
-
 -- drives that were lost were left
 has_left : (g : given.Over) (c : After-store_tables g) → (g.S.Shelf.shelf c.args.shelf.now).honest → (start : g.row.S.Denot) (held next : Content)
     → MaySwitch (g.S.Shelf.shelf start) (g.S.Shelf.shelf c.args.shelf.now) c.args.register.now c.args.log.now c.args.lost.now c.args.tables held next
