@@ -124,6 +124,7 @@ module _ (a b n : Shelved) (on : Continues a b) (same : (d : Device) → IsSame 
   opening_too bytes answered o is = record {
     given = given_too bytes answered o.loaded is.given;
     tables = tables_on o.loaded.drives o.loaded.record o.memory is.tables;
+    visible = is.visible;
     log = log_on o.loaded.record o.log is.log;
     served = is.served;
   }

@@ -1,6 +1,7 @@
 -- Memory that was made of tables.
 use Rattle.std.proofs.Common.{◌≡◌, ◌∙◌, ◌++◌, List, map, sym, ap, subst, ℕ}
 use Rattle.pur_base.specs.Devices.{Geometry}
+use Rattle.pur_base.specs.Facts.{Facts}
 use Rattle.pur_base.specs.Visible.{segments}
 use Rattle.pur_base.specs.declared.facts.AnyFact.{AnyFact}
 use Rattle.pur_base.specs.declared.facts.AnyFact.TheVariants as any
@@ -9,9 +10,11 @@ use Rattle.boot_codec.specs.declared.record.BootRecord.{BootRecord}
 use Rattle.boot_codec.specs.Region.{IsRecordOf}
 use Rattle.array_spec.specs.Sound.{AreSound, AreSegmentsSound}
 use Rattle.array_spec.specs.Stored.{all_facts}
-use Rattle.memory_spec.specs.Tables.{facts, patches}
+use Rattle.memory_spec.specs.Tables.{facts, flushed, patches}
+use Rattle.pyramid.specs.Layers.{facts_of}
 use Rattle.table_soundness.specs.declared.tables.LoadedTables.{LoadedTables}
-use Rattle.table_soundness.specs.Faults.{patches_in}
+use Rattle.table_soundness.specs.declared.visible.Visible.{Visible}
+use Rattle.table_soundness.specs.Faults.{AreVisible, facts_in, patches_in}
 use Rattle.free_space.specs.Map.{AreDataSegments, shelf_of}
 use Rattle.array_memory.specs.Kept.{Kept}
 use Rattle.array_memory.specs.Loaded.{IsLoaded}
@@ -26,6 +29,18 @@ module _ (shelf : Geometry) (boot : BootRecord) (t : LoadedTables) (k : Kept) (s
       ++ (map (map any.Address) (loaded.addresses.patches i)
       ++ (map (map any.Segment) (loaded.segments.patches i)
       ++ map (map any.Elision) (loaded.elisions.patches i))))
+
+  -- what was loaded is what its patches have
+  pub visible_of : (v : Visible) → AreVisible (facts_in t) v → AreVisible (flushed k.memory.tables) v
+  visible_of v = subst (λ (f : Facts). AreVisible f v) (sym flushed_are) where
+    flushed_are : flushed k.memory.tables ≡ facts_in t
+    flushed_are = λ i. record {
+      objects = facts_of (loaded.objects.patches i);
+      mediums = facts_of (loaded.mediums.patches i);
+      addresses = facts_of (loaded.addresses.patches i);
+      segments = facts_of (loaded.segments.patches i);
+      elisions = facts_of (loaded.elisions.patches i);
+    }
 
   pub memory_of : IsMemoryOf shelf boot k
   memory_of = record {

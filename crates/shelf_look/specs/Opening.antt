@@ -9,10 +9,12 @@ use Rattle.world.specs.Losing.{geometry_of}
 use Rattle.world.specs.Shelf.{Shelved}
 use Rattle.boot_region.specs.declared.loading.Loaded.{Loaded}
 use Rattle.boot_region.specs.Loading.{IsFaultOf, IsGiven}
+use Rattle.memory_spec.specs.Tables.{flushed}
 use Rattle.nvram_log.specs.declared.log.NvLog.{NvLog}
 use Rattle.nvram_log.specs.Held.{Keeps}
 use Rattle.nvram_log.specs.Members.{IsMember}
 use Rattle.table_loading.specs.declared.fault.TablesFault.{TablesFault}
+use Rattle.table_soundness.specs.Faults.{AreVisible}
 use Rattle.shelf_look.specs.declared.cause.Cause.{Cause}
 use Rattle.shelf_look.specs.declared.cause.Cause.TheVariants as cause
 use Rattle.shelf_look.specs.declared.finding.Opening.{Opening}
@@ -29,10 +31,11 @@ pub record IsOpeningIn (shelf : Geometry) (o : Opening) : Type 0 where
   pub memory : IsMemoryOf shelf o.loaded.record o.memory
   pub waiting : (commands : List Command) → Keeps o.log commands → AreWaiting commands o.waiting
 
--- What these boot regions, the drives and the NVRAM devices give: the record in force, its tables, and the log, each command of which is of a form in force.
+-- What these boot regions, the drives and the NVRAM devices give: the record in force, its tables, what is visible of them, and the log, each command of which is of a form in force.
 pub record IsOpeningOf (old new : Shelved) (bytes : List ℕ) (answered : List Bool) (o : Opening) : Type 0 where
   pub given : IsGiven (geometry_of old) bytes answered o.loaded
   pub tables : AreTablesOn old o.loaded.drives o.loaded.record o.memory
+  pub visible : AreVisible (flushed o.memory.memory.tables) o.visible
   pub log : IsLogOf old new o.loaded.record o.log
   pub served : (commands : List Command) → Keeps o.log commands → AreServed commands
 

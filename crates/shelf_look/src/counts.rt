@@ -1,4 +1,7 @@
 // How much each table has.
+ghost use Rattle.std.specs.Prelude.{◌≡◌};
+ghost use Rattle.shelf_look.specs.Found.{AreCountsOf};
+
 use crate::Opening;
 use boot_codec::Patches;
 
@@ -22,6 +25,13 @@ const NONE: TableCounts = TableCounts {
 };
 
 impl TableCounts {
+    /// With so many visible facts.
+    fn showing(self, visible: usize) -> TableCounts
+        ensures { result.visible ≡ visible }
+    {
+        TableCounts { visible, ..self }
+    }
+
     /// With a patch of so many facts in so many segments more.
     fn add(&mut self, facts: u32, segments: usize) {
         self.patches = self.patches.saturating_add(1);
@@ -44,12 +54,15 @@ fn named_by(patches: &Patches) -> [TableCounts; TABLES] {
 }
 
 /// How much each table has: objects, mediums, addresses, segments and elisions. Each elision counts as visible.
-pub fn counts_of(opening: &Opening) -> [TableCounts; TABLES] {
-    let mut counts = named_by(&opening.loaded.record.patches);
-    counts[0].visible = opening.memory.len();
-    counts[1].visible = opening.visible.mediums.len();
-    counts[2].visible = opening.visible.addresses.len();
-    counts[3].visible = opening.memory.segments().len();
-    counts[4].visible = counts[4].facts as usize;
-    counts
+pub fn counts_of(opening: &Opening) -> [TableCounts; TABLES]
+    ensures { AreCountsOf opening.now result }
+{
+    let named = named_by(&opening.loaded.record.patches);
+    [
+        named[0].showing(opening.memory.len()),
+        named[1].showing(opening.visible.mediums.len()),
+        named[2].showing(opening.visible.addresses.len()),
+        named[3].showing(opening.memory.segments().len()),
+        named[4].showing(named[4].facts as usize),
+    ]
 }

@@ -6,7 +6,9 @@ ghost use Rattle.boot_codec.specs.Region.{IsRecordOf};
 ghost use Rattle.world.specs.Losing.{geometry_of};
 ghost use Rattle.world.specs.Ran.{Ran};
 ghost use Rattle.world.specs.Shelf.{IsSame};
+ghost use Rattle.memory_spec.specs.Tables.{flushed};
 ghost use Rattle.nvram_log.specs.Read.{OnNothing};
+ghost use Rattle.table_soundness.specs.Faults.{AreVisible};
 ghost use Rattle.shelf_look.specs.Opening.{IsAny};
 ghost use Rattle.shelf_look.specs.Tables.{AreOthers, AreTablesOn, IsMemoryOf, IsTablesCause};
 
@@ -48,6 +50,7 @@ pub fn read_tables<S: Shelf>(
     ensures same { (S.shelf shelf.old).honest → (device : Device) → IsSame ((S.shelf shelf.old).disk device) ((S.shelf shelf.new).disk device) }
     ensures memory { IfOk result (λ t. IsMemoryOf (geometry_of (S.shelf shelf.old)) boot.now t.memory) }
     ensures tables { (S.shelf shelf.old).honest → IfOk result (λ t. AreTablesOn (S.shelf shelf.old) drives.now boot.now t.memory) }
+    ensures visible { IfOk result (λ t. AreVisible (flushed t.memory.memory.tables) t.visible) }
     ensures fault { (S.shelf shelf.old).honest → IfErr result (IsTablesCause (S.shelf shelf.old) (S.shelf shelf.new) drives.now boot.now) }
 {
     let missing = others_than(drives);

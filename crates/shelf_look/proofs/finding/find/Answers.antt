@@ -87,6 +87,7 @@ returns-clause-found g c honest =
     record {
       given = c.in_ok-loaded.ensures.ok (geometry_of a) (sym c.requires.drives) (sym c.units.ensures);
       tables = c.in_ok-tables.ensures.tables honest;
+      visible = c.in_ok-tables.ensures.visible;
       log = log_of a mid n c.in_ok-loaded.loaded.record c.in_ok-log.log c.read_tables.ensures.ran.on.continues.honest c.read_tables.ensures.nvrams c.in_ok-log.ensures.flushed
           c.in_ok-log.ensures.members.0 c.in_ok-log.ensures.members.1 c.in_ok-log.ensures.dropped c.in_ok-log.ensures.log;
       served = λ commands keeps. (c.in_ok-waiting.ensures.ok commands keeps).0;

@@ -9,7 +9,7 @@ use Rattle.table_soundness.specs.Faults.{patches_in}
 use Rattle.shelf_look.specs.Tables.{IsTablesCause}
 use Rattle.shelf_look.proofs.Causing.{shows_drives, tables_cause}
 use Rattle.shelf_look.proofs.Lifting.{same_geometry}
-use Rattle.shelf_look.proofs.Making.{memory_of, patches_are}
+use Rattle.shelf_look.proofs.Making.{memory_of, patches_are, visible_of}
 use Rattle.shelf_look.proofs.tables.read_tables.Goals as goal
 use Rattle.boot_region.proofs.LoadingLemmas.{if_err}
 
@@ -21,6 +21,12 @@ returns-in_err-loaded-clause-fault g c honest =
     subst (λ (f : TablesFault). IsTablesCause a n c.args.drives.now c.args.boot.now f) (sym is)
     (tables_cause a n c.args.boot.now c.args.drives.now c.others_than-missing.result (g.met.S.Shelf.is_shelf c.args.shelf.now).drives.1 c.others_than-missing.ensures honest
     c.in_err-loaded.field-0.0 c.in_err-loaded.ensures.fault))
+
+pub returns-clause-visible : goal.returns-clause-visible
+returns-clause-visible g c =
+    let a = g.S.Shelf.shelf c.args.shelf.now in
+    let sound = subst (λ (s : Geometry). AreSound s c.args.boot.now (patches_in c.in_ok-loaded.loaded.tables)) (same_geometry c.load_tables.ensures.continues) c.in_ok-loaded.ensures.sound in
+    visible_of (geometry_of a) c.args.boot.now c.in_ok-loaded.loaded.tables c.in_ok-memory.memory sound c.in_ok-memory.ensures.loaded c.in_ok-loaded.loaded.visible c.in_ok-loaded.ensures.visible
 
 pub returns-clause-tables : goal.returns-clause-tables
 returns-clause-tables g c honest =
