@@ -1,8 +1,7 @@
 // Views of shelves over a world in memory, and what they tell.
 use crate::stage::session;
-use boot_codec::DRIVE_FLAGS;
 use pur_base::{Device, DriveId, NvId, Status};
-use shelf_look::{Asked, Drives, Told, view};
+use shelf_look::{Asked, There, Told, view};
 use std::alloc::Global;
 use std::test::Fail;
 use world::{Shelf, write_synced};
@@ -14,6 +13,16 @@ pub fn put_back(world: &mut MemWorld, drive: u8) -> Result<(), Fail> {
     }
     world.put_back(Device::Drive(DriveId(drive)));
     Ok(())
+}
+
+/// Takes the first NVRAM device away.
+pub fn pull_first(world: &mut MemWorld) {
+    world.pull(Device::Nv(NvId(0)));
+}
+
+/// Puts it back.
+pub fn put_first_back(world: &mut MemWorld) {
+    world.put_back(Device::Nv(NvId(0)));
 }
 
 /// Makes a sector of a drive of this byte alone.
@@ -46,8 +55,8 @@ fn has_only_read(world: &MemWorld) -> bool {
     !world.calls().is_empty()
 }
 
-/// What is told of the shelf where these drives are there. It is an error where it made a call that is no read.
-fn viewed(alloc: Global, world: &mut MemWorld, there: &Drives, json: bool) -> Result<Told, Fail> {
+/// What is told of the shelf where these devices are there. It is an error where it made a call that is no read.
+fn viewed(alloc: Global, world: &mut MemWorld, there: &There, json: bool) -> Result<Told, Fail> {
     world.forget();
     let asked = Asked {
         json,
@@ -99,11 +108,11 @@ fn is_status(status: Status, wanted: Status) -> Result<(), Fail> {
     }
 }
 
-/// An error where a view of the shelf, of which these drives are there, tells another status, or not each of these lines.
+/// An error where a view of the shelf, of which these devices are there, tells another status, or not each of these lines.
 pub fn shows_where(
     alloc: Global,
     world: &mut MemWorld,
-    there: &Drives,
+    there: &There,
     status: Status,
     lines: &[&str],
 ) -> Result<(), Fail> {
@@ -112,21 +121,21 @@ pub fn shows_where(
     has_lines(&told.text, lines)
 }
 
-/// The same where all drives are there.
+/// The same where all devices are there.
 pub fn shows(
     alloc: Global,
     world: &mut MemWorld,
     status: Status,
     lines: &[&str],
 ) -> Result<(), Fail> {
-    shows_where(alloc, world, &[true; DRIVE_FLAGS], status, lines)
+    shows_where(alloc, world, &There::ALL, status, lines)
 }
 
 /// An error where a view as JSON tells another status than `Done`, or not each of these parts.
 pub fn shows_json(
     alloc: Global,
     world: &mut MemWorld,
-    there: &Drives,
+    there: &There,
     parts: &[&str],
 ) -> Result<(), Fail> {
     let told = viewed(alloc, world, there, true)?;

@@ -1,8 +1,11 @@
 // What a view tells of arrays in all states, that the status is that with which `serve` ends then, and that all its calls are reads.
 use crate::stage::{blank_world, cut_off, new_world, pull_drive, session};
-use crate::viewing::{close_gate, ends, overwrite, put_back, shows, shows_json, shows_where};
-use boot_codec::DRIVE_FLAGS;
+use crate::viewing::{
+    close_gate, ends, overwrite, pull_first, put_back, put_first_back, shows, shows_json,
+    shows_where,
+};
 use pur_base::Status;
+use shelf_look::There;
 use std::test::Fail;
 
 /// Two commands of a volume.
@@ -29,7 +32,7 @@ fn a_new_array(rt: HostRuntime) -> Result<(), Fail> {
         "shelf: 11 drives of 64 units",
         "record: generation 1, slot B, on 11 of the 11 drives that it names",
         "drive 10: holds the record",
-        "nvram 1: answers, shows 0 commands",
+        "nvram 1: holds the log, 0 commands",
         "log slots: none",
         "log: 0 create, 0 write, 0 fill; 64 free slots",
         "drive 00 [BBB.............................................................] 61 free",
@@ -65,7 +68,7 @@ fn commands_wait_and_are_brought_to_the_drives(rt: HostRuntime) -> Result<(), Fa
         "\"segments\":[{\"named\":6,\"placed\":8,\"segment\":1},{\"named\":2,\"placed\":2,\"segment\":2}]",
         "\"log_slots\":[{\"first\":0,\"last\":0,\"nvrams\":[true,true]}]",
     ];
-    shows_json(alloc, &mut world, &[true; DRIVE_FLAGS], &parts)
+    shows_json(alloc, &mut world, &There::ALL, &parts)
 }
 
 #[test]
@@ -74,8 +77,8 @@ fn drives_that_are_gone_and_left_out(rt: HostRuntime) -> Result<(), Fail> {
     let mut world = new_world(alloc)?;
     pull_drive(&mut world, 3)?;
     pull_drive(&mut world, 7)?;
-    let mut there = [true; DRIVE_FLAGS];
-    there[7] = false;
+    let mut there = There::ALL;
+    there.drives[7] = false;
     let gone = [
         "the array can be opened: 0 more drives and 1 more NVRAM device may be lost",
         "record: generation 1, slot B, on 9 of the 11 drives that it names",
@@ -136,14 +139,38 @@ fn devices_of_the_log_that_differ(rt: HostRuntime) -> Result<(), Fail> {
     close_gate(&mut world, 0, 1)?;
     let lines = [
         "log: 1 create, 0 write, 1 fill; 62 free slots",
-        "nvram 0: answers, shows 1 command",
-        "nvram 1: answers, shows 2 commands",
+        "nvram 0: shows another log, 1 command",
+        "nvram 1: holds the log, 2 commands",
         "log slots: 0 on both, 1 on nvram 1 alone",
     ];
     shows(alloc, &mut world, Status::Done, &lines)?;
     close_gate(&mut world, 1, 1)?;
     let left = ["log: 1 create, 0 write, 0 fill; 63 free slots"];
     shows(alloc, &mut world, Status::Done, &left)
+}
+
+#[test]
+fn devices_of_the_log_that_are_gone_and_left_out(rt: HostRuntime) -> Result<(), Fail> {
+    let alloc = rt.alloc();
+    let mut world = new_world(alloc)?;
+    session(alloc, &mut world, TWO)?;
+    pull_first(&mut world);
+    let failed = [
+        "nvram 0: a read of it failed",
+        "nvram 1: holds the log, 2 commands",
+        "log slots: 0 to 1 on nvram 1 alone",
+    ];
+    shows(alloc, &mut world, Status::Done, &failed)?;
+    let mut there = There::ALL;
+    there.nvrams[0] = false;
+    let gone = ["nvram 0: is absent, or of another length"];
+    shows_where(alloc, &mut world, &there, Status::Done, &gone)?;
+    let words = ["\"logs\":[null,2],\"nvrams\":[\"absent\",\"holding\"],"];
+    shows_json(alloc, &mut world, &there, &words)?;
+    session(alloc, &mut world, b"")?;
+    put_first_back(&mut world);
+    let out = ["nvram 0: is left out", "nvram 1: holds the log, 2 commands"];
+    shows(alloc, &mut world, Status::Done, &out)
 }
 
 #[test]

@@ -36,7 +36,7 @@ pub struct Numbers {
 }
 
 /// How many of the flags are set.
-fn set_flags(flags: &[bool]) -> usize
+pub fn set_flags(flags: &[bool]) -> usize
     ensures { result ≡ set_flags flags.now }
 {
     flags.iter().filter(|flag| **flag).count()

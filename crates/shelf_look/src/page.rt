@@ -1,67 +1,65 @@
-// Lines of text.
+// A text that grows.
 use pur_base::{Name, NoMemory};
-use std::alloc::{AllocError, Global};
+use std::alloc::Global;
 
-/// Lines, one behind another.
+/// A text that grows. That memory ran out is told at its end.
 #[derive(Drop)]
 pub struct Page {
-    pub alloc: Global,
-    pub text: String,
+    text: String,
+    has_failed: bool,
 }
 
 impl Page {
     pub fn new(alloc: Global) -> Page {
         Page {
-            alloc,
             text: String::new(alloc),
+            has_failed: false,
         }
     }
 
     /// Adds a part of a line.
-    pub fn put(&mut self, part: &str) -> Result<(), NoMemory> {
-        self.text.push_str(part)?;
-        Ok(())
-    }
-
-    /// Adds a part that was made for it.
-    pub fn put_made(&mut self, part: Result<String, AllocError>) -> Result<(), NoMemory> {
-        self.put(&part?)
-    }
-
-    /// Adds a line, or ends one.
-    pub fn line(&mut self, line: &str) -> Result<(), NoMemory> {
-        self.put(line)?;
-        self.put("\n")
-    }
-
-    /// Adds numbers, each behind its words.
-    pub fn put_numbers(&mut self, numbers: &[(&str, u64)]) -> Result<(), NoMemory> {
-        let alloc = self.alloc;
-        for (words, number) in numbers {
-            self.put(*words)?;
-            self.put_made(format!(in alloc; "{number}"))?;
+    pub fn put(&mut self, part: &str) {
+        if self.text.push_str(part).is_err() {
+            self.has_failed = true;
         }
-        Ok(())
     }
 
-    /// Adds a line of numbers, each behind its words, and these words behind them.
-    pub fn numbers(&mut self, numbers: &[(&str, u64)], end: &str) -> Result<(), NoMemory> {
-        self.put_numbers(numbers)?;
-        self.line(end)
+    /// Adds a number.
+    pub fn put_number(&mut self, number: u64) {
+        if write!(self.text, "{number}").is_err() {
+            self.has_failed = true;
+        }
     }
 
-    /// Adds a line that was made for it.
-    pub fn add(&mut self, line: Result<String, AllocError>) -> Result<(), NoMemory> {
-        self.line(&line?)
+    /// Adds numbers, each behind its words, and these words behind them.
+    pub fn put_row(&mut self, numbers: &[(&str, u64)], end: &str) {
+        for (words, number) in numbers {
+            self.put(*words);
+            self.put_number(*number);
+        }
+        self.put(end);
+    }
+
+    /// Adds texts one behind another.
+    pub fn put_all(&mut self, parts: &[&str]) {
+        for part in parts {
+            self.put(*part);
+        }
+    }
+
+    /// All of it.
+    pub fn end(self) -> Result<String, NoMemory> {
+        let Page { text, has_failed } = self;
+        if has_failed { Err(NoMemory) } else { Ok(text) }
     }
 }
 
-/// The text of a name.
+/// The text of a name, none of whose letters JSON writes in another way.
 pub fn name_text(name: &Name) -> &str {
     std::str::from_utf8(name.as_bytes()).unwrap_or("?")
 }
 
-/// "s" behind a word, but for one thing.
-pub fn plural(count: usize) -> &'static str {
-    if count == 1 { "" } else { "s" }
+/// What stands in front of an item of a list: a comma, but at the first one.
+pub fn comma(index: usize) -> &'static str {
+    if index == 0 { "" } else { "," }
 }

@@ -4,7 +4,7 @@ use pur_base::{BOOT_UNITS, NoMemory, Places, SegmentFact};
 use std::alloc::Global;
 
 /// What stands in a unit of a drive.
-#[derive(Clone, Copy)]
+#[derive(Clone, Copy, PartialEq, Eq)]
 pub enum Unit {
     Boot,
     Data,

@@ -10,7 +10,7 @@ ghost use Rattle.shelf_look.specs.Viewing.{IsTold};
 use crate::json::json_of;
 use crate::words::words_of;
 use crate::{Looked, look};
-use boot_codec::DRIVE_FLAGS;
+use boot_codec::{DRIVE_FLAGS, NVRAM_FLAGS};
 use pur_base::{NoMemory, Status};
 use std::alloc::Global;
 use world::Shelf;
@@ -31,14 +31,26 @@ pub struct Told {
     pub status: Status,
 }
 
-/// A flag for each drive.
-pub type Drives = [bool; DRIVE_FLAGS];
+/// Which devices are there with the length that they are to have, as far as the caller knows.
+#[derive(Clone, Copy)]
+pub struct There {
+    pub drives: [bool; DRIVE_FLAGS],
+    pub nvrams: [bool; NVRAM_FLAGS],
+}
+
+impl There {
+    /// All of them.
+    pub const ALL: There = There {
+        drives: [true; DRIVE_FLAGS],
+        nvrams: [true; NVRAM_FLAGS],
+    };
+}
 
 /// What is told of a look.
 fn text_of(
     alloc: Global,
     looked: &Looked,
-    there: &Drives,
+    there: &There,
     asked: Asked,
 ) -> Result<String, NoMemory> {
     if asked.json {
@@ -49,11 +61,11 @@ fn text_of(
 }
 
 /// Looks at a shelf and tells what it shows. It makes no write and no sync, whatever fails, and fails itself for want of memory alone.
-/// Of a drive that doesn't answer it tells by `there`, what the caller knows of it, whether it is absent or failed.
+/// Of a device that doesn't answer it tells by `there` whether it is absent or failed.
 pub fn view<S: Shelf>(
     alloc: Global,
     shelf: &mut S,
-    there: &Drives,
+    there: &There,
     asked: Asked,
 ) -> Result<Told, NoMemory>
     // No byte changes or gets dirty on any device, and a stop at any moment leaves each as it was.

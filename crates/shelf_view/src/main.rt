@@ -3,12 +3,13 @@
 #![tactic(auto)]
 
 mod asked;
-mod drives;
 mod only;
+mod there;
 
 use crate::asked::asked_by;
-use crate::drives::drives_there;
 use crate::only::view_only;
+use crate::there::devices_there;
+use clap::Error;
 use program_endings::{IN_USE, NO_SHELF, code_of, text_of};
 use pur_base::{NoMemory, Status};
 use shelf_look::{Asked, ReadOnly, Told};
@@ -50,11 +51,16 @@ fn tell(rt: &HostRuntime, told: &Told) -> ExitCode {
     }
 }
 
-/// What these files show, of which reads alone are passed on.
+/// What a shelf shows of which reads alone are passed on.
+fn told_by(rt: &HostRuntime, only: &mut ReadOnly<Files>, asked: Asked) -> Result<Told, NoMemory> {
+    let there = devices_there(rt, only.inner())?;
+    view_only(rt.alloc(), only, &there, asked)
+}
+
+/// What these files show.
 fn told_of(rt: &HostRuntime, files: Files, asked: Asked) -> Result<Told, NoMemory> {
-    let there = drives_there(rt, &files)?;
     let mut only = ReadOnly::new(files);
-    view_only(rt.alloc(), &mut only, &there, asked)
+    told_by(rt, &mut only, asked)
 }
 
 /// Looks at the shelf of the current folder.
@@ -70,20 +76,27 @@ fn run(rt: &HostRuntime, asked: Asked) -> ExitCode {
     }
 }
 
+/// Prints why the words aren't served: they ask for help, or are faulty.
+fn refuse(rt: &HostRuntime, error: &Error) -> ExitCode {
+    let _ = error.print(rt);
+    if error.use_stderr() {
+        ExitCode::from(code_of(Status::Words))
+    } else {
+        ExitCode::SUCCESS
+    }
+}
+
+/// Does what the words ask for.
+fn answer(rt: &HostRuntime, words: &[String]) -> ExitCode {
+    match asked_by(rt.alloc(), words) {
+        Ok(asked) => run(rt, asked),
+        Err(error) => refuse(rt, &error),
+    }
+}
+
 fn main(rt: HostRuntime) -> ExitCode {
-    let words = match words_of(&rt) {
-        Ok(words) => words,
-        Err(status) => return end(&rt, status),
-    };
-    match asked_by(rt.alloc(), &words) {
-        Ok(asked) => run(&rt, asked),
-        Err(error) => {
-            let _ = error.print(&rt);
-            if error.use_stderr() {
-                ExitCode::from(code_of(Status::Words))
-            } else {
-                ExitCode::SUCCESS
-            }
-        }
+    match words_of(&rt) {
+        Ok(words) => answer(&rt, &words),
+        Err(status) => end(&rt, status),
     }
 }

@@ -2,7 +2,7 @@
 ghost use Rattle.shelf_look.specs.Reads.{AreOnlyRead};
 
 use pur_base::NoMemory;
-use shelf_look::{Asked, Drives, ReadOnly, Told, view};
+use shelf_look::{Asked, ReadOnly, There, Told, view};
 use std::alloc::Global;
 use world::Shelf;
 
@@ -10,7 +10,7 @@ use world::Shelf;
 pub fn view_only<S: Shelf>(
     alloc: Global,
     shelf: &mut ReadOnly<S>,
-    there: &Drives,
+    there: &There,
     asked: Asked,
 ) -> Result<Told, NoMemory>
     ensures { AreOnlyRead (S.shelf shelf.old.inner) (S.shelf shelf.new.inner) }
