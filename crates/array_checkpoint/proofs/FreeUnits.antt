@@ -27,9 +27,11 @@ use Rattle.register.specs.Standing.{Content}
 use Rattle.register.proofs.FlagLemmas.{cut_in}
 use Rattle.array_core.specs.Free.{OnFree}
 use Rattle.segment_io.specs.Places.{place_of, OnUnits}
-use Rattle.data_io.specs.Placing.{places_in}
+use Rattle.pur_base.specs.declared.facts.SegmentFact.{SegmentFact}
+use Rattle.boot_codec.specs.declared.patch.Patch.{Patch}
+use Rattle.segment_writer.specs.DataPlacing.{places_in}
 use Rattle.record_tables.specs.Patches.{added_patches, segments_of}
-use Rattle.checkpoint_io.specs.Storing.{OnCheckpoint, OthersStayOfCheckpoint}
+use Rattle.segment_writer.specs.CheckpointStoring.{IsOnCheckpoint, OnCheckpoint}
 use Rattle.record_tables.specs.Units.{AreNewUnits}
 use Rattle.array_core.proofs.Keeping.{both_not}
 use Rattle.array_checkpoint.proofs.Stays.{SparesUsed}
@@ -111,6 +113,8 @@ pub only_free : (r : Register) (held : Content) (m : Memory) (p : Plan) (counts 
 only_free r held m p counts first units all free long new device i w = on_free r held (facts m.tables) all free device i (only_free_bytes r.record m p counts first units long new device i w)
 
 -- no NVRAM device is called
-pub nvrams_stay : (p : Plan) (counts : Counts) (first : ℕ) (units : List (List Place)) (old new : Shelved) → OthersStayOfCheckpoint p.segments.items (added_patches counts first units) old new
-    → (n : ℕ) → new.disk (nvram n) ≡ old.disk (nvram n)
-nvrams_stay p counts first units old new stay n = stay (nvram n) (λ number shard l less e. cc) (λ index part shard q at l less e. cc)
+pub nvrams_stay : (segments : List SegmentFact) (ps : List Patch) (old new : Shelved) → ((device : Device) → (IsOnCheckpoint segments ps device → ⊥) → new.disk device ≡ old.disk device) → (n : ℕ) → new.disk (nvram n) ≡ old.disk (nvram n)
+nvrams_stay segments ps old new stay n = stay (nvram n) (λ on. elim on [
+  | inl h ↦ let e = h.4 in cc
+  | inr h ↦ let e = h.3.4 in cc
+])

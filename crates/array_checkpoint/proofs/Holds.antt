@@ -8,11 +8,10 @@ use Rattle.std.proofs.lemmas.Option.{slice_get_within, slice_get-get_or}
 use Rattle.pur_base.specs.Devices.{View}
 use Rattle.pur_base.specs.Facts.{segment_key, never}
 use Rattle.pur_base.specs.Keys.{key_of}
-use Rattle.pur_base.specs.Visible.{is_elided}
+use Rattle.pur_base.specs.Visible.{is_elided, segment}
 use Rattle.pur_base.specs.declared.request.Table.TheVariants as table
 use Rattle.pur_base.proofs.SaysLemmas.{says_is}
 use Rattle.memory_spec.proofs.Lists.{each_by_recursion}
-use Rattle.pur_base.specs.Visible.{segment}
 use Rattle.pur_base.specs.declared.facts.AnyFact.{AnyFact}
 use Rattle.pur_base.specs.declared.facts.SegmentFact.{SegmentFact}
 use Rattle.pur_base.specs.declared.place.Place.{Place}
@@ -25,8 +24,8 @@ use Rattle.checkpoint_spec.specs.Contents.{ContentsStand}
 use Rattle.checkpoint_spec.specs.Whole.{IsNamed}
 use Rattle.checkpoint_spec.proofs.Placing.{old_segment_id}
 use Rattle.table_plan.specs.Planned.{extended, sectors_at}
-use Rattle.data_io.specs.Placing.{AreFilled, segment_in}
-use Rattle.data_io.specs.Standing.{DataStands}
+use Rattle.segment_writer.specs.DataPlacing.{AreFilled, segment_in}
+use Rattle.segment_writer.specs.DataStanding.{DataStands}
 use Rattle.array_memory.specs.declared.plan.Plan.{Plan}
 use Rattle.array_memory.specs.declared.plan.Counts.{Counts}
 use Rattle.array_memory.specs.Plan.{AreCounts, IsPlanFor, after_plan}

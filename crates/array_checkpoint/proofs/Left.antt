@@ -18,12 +18,12 @@ use Rattle.memory_spec.specs.Tables.{facts}
 use Rattle.checkpoint_spec.specs.Contents.{AreAmong, ContentsStand}
 use Rattle.segment_io.specs.Lost.{is_in}
 use Rattle.segment_io.specs.Stripes.{bytes_of}
-use Rattle.data_io.specs.Standing.{DataStands}
+use Rattle.segment_writer.specs.DataStanding.{DataStands}
 use Rattle.array_core.specs.declared.array.Array.{Array}
 use Rattle.array_core.specs.Drives.{SegmentsHold}
 use Rattle.array_core.specs.Ready.{IsArrayOf}
 use Rattle.array_core.proofs.Keeping.{unnamed}
-use Rattle.checkpoint_io.specs.Storing.{OnCheckpoint}
+use Rattle.segment_writer.specs.CheckpointStoring.{OnCheckpoint}
 use Rattle.array_checkpoint.specs.declared.preparing.Prepared.{Prepared}
 use Rattle.array_checkpoint.specs.Prepared.{IsPreparedFor}
 use Rattle.array_checkpoint.specs.Made.{contents_after, facts_after}

@@ -30,9 +30,9 @@ use Rattle.array_memory.specs.Lasting.{AreLawfulPatches}
 use Rattle.array_memory.specs.Plan.{AreCounts, units_of}
 use Rattle.world.specs.Losing.{geometry_of}
 use Rattle.world.specs.Shelf.{Shelved}
-use Rattle.patch_io.specs.Headed.{MayBeHeaded}
-use Rattle.patch_io.specs.Storing as patch
-use Rattle.checkpoint_io.specs.Storing.{AreAllApart, LieApartOf, MayBeStoredWith}
+use Rattle.segment_writer.specs.PatchStoring.{MayBeHeaded}
+use Rattle.segment_writer.specs.PatchStoring as patch
+use Rattle.segment_writer.specs.CheckpointStoring.{AreAllApart, LieApartOf, MayBeStoredWith}
 use Rattle.record_tables.specs.Laws.{HaveFacts, new_facts, with_patches}
 use Rattle.record_tables.specs.Patches.{added_patches, by_tag, counts_of, segments_of, FitRecord}
 use Rattle.record_tables.specs.Units.{AreNewUnits}

@@ -20,9 +20,9 @@ use Rattle.array_memory.specs.Plan.{units_of}
 use Rattle.segment_io.specs.Lost.{is_in}
 use Rattle.segment_io.specs.Places.{place_of}
 use Rattle.segment_io.specs.Views.{ShowsMost}
-use Rattle.patch_io.specs.Storing as patch
-use Rattle.data_io.specs.Placing.{places_in}
-use Rattle.data_io.specs.Storing as placed
+use Rattle.segment_writer.specs.PatchStoring as patch
+use Rattle.segment_writer.specs.DataPlacing.{places_in}
+use Rattle.segment_writer.specs.DataStoring as placed
 use Rattle.record_tables.specs.Patches.{added_patches, segments_of}
 use Rattle.record_tables.specs.Units.{AreNewUnits}
 use Rattle.array_checkpoint.proofs.Stays.{few_missing}

@@ -24,7 +24,7 @@ use Rattle.world.specs.Losing.{geometry_of}
 use Rattle.world.specs.Shelf.{Shelved}
 use Rattle.segment_io.specs.Places.{ArePlaces, place_of}
 use Rattle.patch_io.proofs.Parts.{segment_places}
-use Rattle.data_io.specs.Placing.{AreApart, AreFilled, AreIndicesOf, HavePlaces, MayBePlaced, places_in, segment_in}
+use Rattle.segment_writer.specs.DataPlacing.{AreApart, AreFilled, AreIndicesOf, HavePlaces, MayBePlaced, places_in, segment_in}
 use Rattle.record_tables.specs.Units.{AreNewUnits}
 use Rattle.record_tables.proofs.Lists.{pairs_front}
 use Rattle.array_checkpoint.proofs.UnitLists.{in_at, pairs_of_map, pairs_two}

@@ -17,10 +17,11 @@ use Rattle.array_memory.specs.declared.plan.Plan.{Plan}
 use Rattle.record_tables.specs.Laws.{new_facts}
 use Rattle.segment_io.specs.Lost.{is_in, LosesOnly}
 use Rattle.segment_io.specs.Stripes.{bytes_of}
-use Rattle.data_io.specs.Standing.{DataStands}
-use Rattle.data_io.specs.Storing.{ShowsMostOf, StaysClean}
-use Rattle.checkpoint_io.specs.Storing.{OnCheckpoint, OthersStayOfCheckpoint}
-use Rattle.checkpoint_io.specs.Standing.{FactsStand}
+use Rattle.segment_writer.specs.DataStanding.{DataStands}
+use Rattle.segment_writer.specs.DataStoring.{ShowsMostOf}
+use Rattle.segment_writer.specs.Layout.{StaysClean}
+use Rattle.segment_writer.specs.CheckpointStoring.{IsOnCheckpoint, OnCheckpoint}
+use Rattle.segment_writer.specs.CheckpointStanding.{FactsStand}
 use Rattle.array_core.specs.Free.{OnFree, WritesFree}
 use Rattle.array_core.proofs.Standing.{member_clean}
 use Rattle.array_core.specs.declared.array.Array.{Array}
@@ -66,7 +67,7 @@ wrote_units a b x held ready free is honest lost are clean = record {
 }
 
 module _ (a b : Shelved) (x : Array) (q : Prepared) (of : IsArrayOf (geometry_of a) x) (h : IsPreparedFor x q) (on : Continues a b)
-    (writes : WritesOnly (OnCheckpoint q.plan.segments.items q.added) a b) (others : OthersStayOfCheckpoint q.plan.segments.items q.added a b)
+    (writes : WritesOnly (OnCheckpoint q.plan.segments.items q.added) a b) (others : (device : Device) → (IsOnCheckpoint q.plan.segments.items q.added device → ⊥) → b.disk device ≡ a.disk device)
     (held : Content) (ready : IsReady a x held) where
   free : (d : Device) (i : ℕ) → OnCheckpoint q.plan.segments.items q.added d i → OnFree x.register held d i
   free d i w = only_free x.register held x.memory.memory q.plan h.counts x.memory.memory.next.patch_segment h.units ready.is_open.drives (free_of_patches a x held of ready) h.wanted h.free d i
@@ -76,7 +77,7 @@ module _ (a b : Shelved) (x : Array) (q : Prepared) (of : IsArrayOf (geometry_of
   writes_free = record {
     continues = on;
     writes = writes_more free writes;
-    nvrams = nvrams_stay q.plan h.counts x.memory.memory.next.patch_segment h.units a b (subst (λ ps. OthersStayOfCheckpoint q.plan.segments.items ps a b) h.added others);
+    nvrams = nvrams_stay q.plan.segments.items q.added a b others;
   }
 
   -- meanwhile a session can go on

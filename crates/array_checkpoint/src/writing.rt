@@ -15,8 +15,8 @@ ghost use Rattle.array_checkpoint.specs.Made.{contents_after, facts_after, held_
 use crate::preparing::Prepared;
 use array_core::{Array, free_writes_go_on};
 use boot_codec::DRIVE_FLAGS;
-use checkpoint_io::write_checkpoint;
 use pur_base::{Lost, NoMemory};
+use segment_writer::write_checkpoint;
 use std::alloc::Global;
 use world::Shelf;
 

@@ -2,12 +2,3 @@ pub mod Lists
 pub mod Spelling
 pub mod Segments
 pub mod Parts
-pub mod Filled
-pub mod Appended
-pub mod Written
-pub mod Apart
-pub mod Storing
-pub mod Shown
-pub mod Headers
-pub mod Stands
-pub mod InTurn

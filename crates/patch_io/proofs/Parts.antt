@@ -27,7 +27,7 @@ use Rattle.patch_io.specs.Standing.{StandsAt, StandIn, ReadsPart, AreFactsOf, Sh
 use Rattle.patch_io.specs.Faults.{IsPartFault, IsFaultOf, OthersStayOfPatch}
 use Rattle.patch_io.specs.declared.fault.PatchFault.{PatchFault}
 use Rattle.patch_io.specs.declared.fault.PatchFault.TheVariants.{Bad, Lost, Memory}
-use Rattle.patch_io.proofs.Lists.{get_either, get_taken, get_behind, all_at}
+use Rattle.patch_io.proofs.Lists.{get_either, get_taken, get_behind, all_at, some_at}
 use Rattle.array_spec.proofs.Used.{all_append, all_append_left}
 
 -- ---- places of a lawful patch
@@ -64,6 +64,16 @@ places_are p part s at = places_in p.segments part s at
 
 pub part_places : (shelf : Shelved) (p : Patch) (part : ℕ) (s : PatchSegment) → IsPatch shelf.drives shelf.units p → slice_get p.segments part ≡ Some s → ArePlaces shelf s.places
 part_places shelf p part s is at = segment_places shelf s (all_at (IsSegment shelf.drives shelf.units) p.segments part s is.segments at)
+
+-- the units of a part are units of the shelf
+pub places_of : (shelf : Shelved) (p : Patch) (part : ℕ) → IsPatch shelf.drives shelf.units p → part < length p.segments → ArePlaces shelf (places_of_part p part)
+places_of shelf p part lawful within =
+    let s = some_at p.segments part within in
+    subst (ArePlaces shelf) (sym (places_are p part s.0 s.1)) (part_places shelf p part s.0 lawful s.1)
+
+-- the slot of a unit of the patch
+pub slot_below : (a : Shelved) (p : Patch) (part shard slot : ℕ) → IsPatch a.drives a.units p → part < length p.segments → shard < 9 → slot ≡ (place_of (places_of_part p part) shard).slot → slot < a.drives
+slot_below a p part shard slot lawful within lt is = let place = (places_of a p part lawful within).each shard lt in omega (arith, is, place.slot)
 
 -- ---- facts of a segment as facts of the patch
 

@@ -27,7 +27,7 @@ use Rattle.memory_spec.proofs.Lists.{of_each, contains_at}
 use Rattle.table_plan.specs.Patches.{ArePatchFacts}
 use Rattle.table_plan.specs.Merging.{merged_facts}
 use Rattle.table_plan.proofs.MergeLemmas.{are_patch_facts}
-use Rattle.patch_io.specs.Storing.{AreApart}
+use Rattle.segment_writer.specs.PatchStoring.{AreApart}
 use Rattle.patch_io.specs.Tables.{AreInOrder}
 use Rattle.record_tables.specs.Patches.{new_patch}
 use Rattle.record_tables.specs.Units.{AreNewUnits}

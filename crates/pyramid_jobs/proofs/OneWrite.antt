@@ -1,6 +1,7 @@
 -- What the write of the one patch leaves: only free units were written, and at every moment a session can go on.
-use Rattle.std.proofs.Common.{ℕ, List, [], ◌∷◌, Bool}
+use Rattle.std.proofs.Common.{◌≡◌, ℕ, List, [], ◌∷◌, Bool}
 use Rattle.pur_base.specs.Devices.{nvram}
+use Rattle.pur_base.specs.declared.device.Device.{Device}
 use Rattle.pur_base.specs.declared.request.Table.{Table}
 use Rattle.world.specs.Losing.{geometry_of}
 use Rattle.world.specs.Shelf.{Shelved, Continues, IsShelf, LeavesOnly}
@@ -22,7 +23,7 @@ use Rattle.array_checkpoint.proofs.Stays.{SparesUsed}
 use Rattle.array_checkpoint.proofs.Wrote.{free_of_patches}
 use Rattle.pyramid_jobs.specs.declared.preparing.Prepared.{Prepared}
 use Rattle.pyramid_jobs.specs.Prepared.{IsPreparedFor}
-use Rattle.pyramid_jobs.specs.Written.{OnOne, OthersStayOfOne}
+use Rattle.pyramid_jobs.specs.Written.{IsOnOne, OnOne}
 use Rattle.pyramid_jobs.proofs.OnePatch.{free_bytes}
 
 module _ (a b : Shelved) (x : Array) (t : Table) (i : ℕ) (q : Prepared) (of : IsArrayOf (geometry_of a) x) (h : IsPreparedFor x t i q) (on : Continues a b) (writes : WritesOnly (OnOne q.added) a b) where
@@ -33,12 +34,12 @@ module _ (a b : Shelved) (x : Array) (t : Table) (i : ℕ) (q : Prepared) (of : 
   pub still_on_left : (lost : List Bool) (contents : Contents) → SegmentsHold contents a x.register (facts x.memory.memory.tables) → HoldOnLeft b x.register lost contents (facts x.memory.memory.tables)
   still_on_left lost contents hold left fewer members among enough = still_held a b x of on lost left fewer members among enough (OnOne q.added) writes spares contents hold
 
-  module _ (others : OthersStayOfOne q.added a b) (held : Content) (ready : IsReady a x held) where
+  module _ (others : (device : Device) → (IsOnOne q.added device → ⊥) → b.disk device ≡ a.disk device) (held : Content) (ready : IsReady a x held) where
     pub writes_free : WritesFree x.register held a b
     writes_free = record {
       continues = on;
       writes = writes_more (λ d k w. on_free x.register held (facts x.memory.memory.tables) ready.is_open.drives (free_of_patches a x held of ready) d k (free_bytes a x t i q of h d k w)) writes;
-      nvrams = λ n. others (nvram n) (λ p part shard at l less e. cc);
+      nvrams = λ n. others (nvram n) (λ on. let e = on.2.4 in cc);
     }
 
     -- meanwhile a session can go on

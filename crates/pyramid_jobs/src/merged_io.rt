@@ -1,39 +1,22 @@
 // The one patch of a merge is written.
-ghost use Rattle.std.specs.Prelude.{◌≡◌, ◌+◌, ◌*◌, ◌≤◌, length, IfOk, OnOk, OnErr};
+ghost use Rattle.std.specs.Prelude.{◌≡◌, ◌+◌, ◌*◌, ◌≤◌, length, OnOk, OnErr};
 ghost use Rattle.segment_codec.specs.declared.position.TheConstants.{STRIPES};
-ghost use Rattle.world.specs.Shelf.{Continues};
-ghost use Rattle.world.specs.Writes.{WritesOnly};
+ghost use Rattle.world.specs.Ran.{Ran};
 ghost use Rattle.segment_io.specs.declared.open.TheConstants.{RUN_ROOM};
 ghost use Rattle.segment_io.specs.Lost.{LosesOnly};
-ghost use Rattle.patch_io.specs.Faults.{OthersStayOfPatch};
-ghost use Rattle.patch_io.specs.Headed.{MayBeHeaded};
-ghost use Rattle.patch_io.specs.Storing.{MayBeStored, OnPatch, StaysClean};
+ghost use Rattle.segment_writer.specs.PatchStoring.{MayBeHeaded, MayBeStored, IsOnPatch, OnPatch};
+ghost use Rattle.segment_writer.specs.Layout.{StaysClean};
 ghost use Rattle.table_plan.specs.Merging.{merged_facts};
-ghost use Rattle.pyramid_jobs.specs.Written.{FactsStand, OnOne, OneMayBeWritten, OneStands, OthersStayOfOne};
+ghost use Rattle.pyramid_jobs.specs.Written.{FactsStand, OnOne, OneMayBeWritten, OneStands, IsOnOne};
 
 use boot_codec::{Patch, Patches};
-use parity72::{DATA_SHARDS, SHARD_BYTES};
-use patch_io::write_patch;
+use parity72::SHARD_BYTES;
 use pur_base::{Lost, NoMemory};
-use segment_codec::STRIPES;
-use segment_io::{RUN_ROOM, StripeData};
+use segment_io::StripeData;
+use segment_writer::{stripe_room, unit_room, write_patch};
 use std::alloc::Global;
 use table_plan::{Merged, facts_of};
 use world::Shelf;
-
-// Room for the stripes of a segment.
-fn stripe_room(alloc: Global) -> Result<Vec<StripeData>, NoMemory>
-    ensures { IfOk result (λ stripes. STRIPES ≤ length stripes.items) }
-{
-    Ok(vec![in alloc; [[0; SHARD_BYTES]; DATA_SHARDS]; STRIPES as usize]?)
-}
-
-// Room for the write units that are written with one call.
-fn unit_room(alloc: Global) -> Result<Vec<[u8; SHARD_BYTES]>, NoMemory>
-    ensures { IfOk result (λ room. RUN_ROOM * STRIPES ≤ length room.items) }
-{
-    Ok(vec![in alloc; [0; SHARD_BYTES]; RUN_ROOM * STRIPES as usize]?)
-}
 
 // Writes the facts to the segments of the patch, whatever their table.
 fn write_facts<S: Shelf>(
@@ -50,14 +33,11 @@ fn write_facts<S: Shelf>(
     requires headed { MayBeHeaded (S.shelf shelf.old) patch.now }
     requires stripes { STRIPES ≤ length stripes.old }
     requires room { RUN_ROOM * STRIPES ≤ length room.old }
-    ensures continues { Continues (S.shelf shelf.old) (S.shelf shelf.new) }
+    ensures ran { Ran S.shelf S.shelf_rest (IsOnPatch patch.now) (OnPatch patch.now 0 (STRIPES + 1)) shelf.old shelf.new }
     ensures lost { LosesOnly (S.shelf shelf.old) (S.shelf shelf.new) lost.old.drives lost.new.drives }
     ensures stand { (S.shelf shelf.old).honest → OnOk result (FactsStand (S.shelf shelf.new) patch.now lost.new.drives (merged_facts merged.now)) }
     ensures clean { (S.shelf shelf.old).honest → OnOk result (StaysClean lost.new.drives (S.shelf shelf.old) (S.shelf shelf.new)) }
     ensures err { OnErr result ((shelf.new ≡ shelf.old) × (lost.new ≡ lost.old)) }
-    ensures writes { (S.shelf shelf.old).honest → WritesOnly (OnPatch patch.now 0 (STRIPES + 1)) (S.shelf shelf.old) (S.shelf shelf.new) }
-    ensures others { OthersStayOfPatch patch.now (S.shelf shelf.old) (S.shelf shelf.new) }
-    ensures rest { S.shelf_rest shelf.old shelf.new }
 {
     match merged {
         Merged::Object(one) => write_patch(
@@ -123,14 +103,11 @@ pub(crate) fn write_merged<S: Shelf>(
     lost: &mut Lost,
 ) -> Result<(), NoMemory>
     requires { OneMayBeWritten (S.shelf shelf.old) added.now (merged_facts merged.now) }
-    ensures continues { Continues (S.shelf shelf.old) (S.shelf shelf.new) }
+    ensures ran { Ran S.shelf S.shelf_rest (IsOnOne added.now) (OnOne added.now) shelf.old shelf.new }
     ensures lost { LosesOnly (S.shelf shelf.old) (S.shelf shelf.new) lost.old.drives lost.new.drives }
     ensures stand { (S.shelf shelf.old).honest → OnOk result (OneStands (S.shelf shelf.new) added.now lost.new.drives (merged_facts merged.now)) }
     ensures clean { (S.shelf shelf.old).honest → OnOk result (StaysClean lost.new.drives (S.shelf shelf.old) (S.shelf shelf.new)) }
     ensures err { OnErr result ((shelf.new ≡ shelf.old) × (lost.new ≡ lost.old)) }
-    ensures writes { (S.shelf shelf.old).honest → WritesOnly (OnOne added.now) (S.shelf shelf.old) (S.shelf shelf.new) }
-    ensures others { OthersStayOfOne added.now (S.shelf shelf.old) (S.shelf shelf.new) }
-    ensures rest { S.shelf_rest shelf.old shelf.new }
 {
     if added.len() == 0 {
         return Ok(());

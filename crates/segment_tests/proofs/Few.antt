@@ -6,7 +6,7 @@ use Rattle.pur_base.specs.declared.facts.SegmentFact.{SegmentFact}
 use Rattle.pur_base.specs.declared.place.Place.{Place}
 use Rattle.world.specs.Shelf.{Shelved}
 use Rattle.segment_io.specs.Places.{ArePlaces}
-use Rattle.data_io.specs.Placing.{AreIndicesOf, AreApart, MayBePlaced}
+use Rattle.segment_writer.specs.DataPlacing.{AreIndicesOf, AreApart, MayBePlaced}
 
 of_one : (P : ℕ → Type 0) → P 0 → (n : ℕ) → n < 1 → P n
 of_one P first zero lt = first

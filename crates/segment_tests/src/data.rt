@@ -1,14 +1,14 @@
 ghost use Rattle.std.specs.Prelude.{◌≡◌, ◌≢◌, ◌↔◌, IsTrue, All};
-ghost use Rattle.data_io.specs.Placing.{AreIndicesOf, MayBePlaced};
+ghost use Rattle.segment_writer.specs.DataPlacing.{AreIndicesOf, MayBePlaced};
 
 use crate::stage::{
     MORE_PLACES, Missing, PLACES, fail_next, forget, pull, pull_all, sector_at, set_of, small_world,
 };
-use data_io::write_data;
 use parity72::{SHARD_BYTES, SHARDS};
 use pur_base::{Lost, NoMemory, Place, Places, SECTOR_BYTES, Sector, SegmentFact, SegmentId, Seq};
 use segment_codec::{Header, SegmentKind, read_header};
 use segment_io::{are_places, read_sector, read_sectors};
+use segment_writer::write_data;
 use std::alloc::Global;
 use world::Shelf;
 use world_mem::{Call, MemWorld, What};

@@ -8,13 +8,14 @@ use crate::stage::{
 use boot_codec::{Patch, PatchSegment, Segments};
 use fact_codec::{FACT_BYTES, write_fact};
 use parity72::{SHARD_BYTES, SHARDS};
-use patch_io::{PatchFault, load_patch, write_patch};
+use patch_io::{PatchFault, load_patch};
 use pur_base::{
     AddressFact, AnyFact, Device, DriveId, Lost, MediumId, Place, Places, SECTOR_BYTES, SegmentId,
     Seq, Target,
 };
 use segment_codec::SegmentKind;
 use segment_io::{Open, StripeData, are_places};
+use segment_writer::write_patch;
 use std::alloc::Global;
 use world::Shelf;
 use world_mem::MemWorld;

@@ -17,7 +17,7 @@ use Rattle.segment_io.specs.Places.{drive_of, place_of}
 use Rattle.segment_io.proofs.Gathers.{same_then}
 use Rattle.patch_io.specs.Faults.{OthersStayOfPatch}
 use Rattle.patch_io.specs.Standing.{ShowsPatch}
-use Rattle.patch_io.proofs.Stands.{slot_below}
+use Rattle.patch_io.proofs.Parts.{slot_below}
 use Rattle.table_loading.specs.Loading.{IsLoaded, OnlyReads, ShowsDrives}
 use Rattle.table_loading.specs.Faults.{IsFaultIn, IsLostIn}
 use Rattle.table_loading.specs.declared.fault.TablesFault.{TablesFault}

@@ -20,7 +20,7 @@ use Rattle.world.specs.Shelf.{Shelved, IsSame, Continues}
 use Rattle.segment_io.specs.Lost.{is_in}
 use Rattle.segment_io.specs.Places.{ArePlaces, place_of, drive_of}
 use Rattle.patch_io.specs.Faults.{AreLostSince}
-use Rattle.patch_io.proofs.Headers.{places_of}
+use Rattle.patch_io.proofs.Parts.{places_of}
 use Rattle.table_loading.specs.declared.fault.TablesFault.{TablesFault}
 use Rattle.table_loading.specs.declared.fault.TablesFault.TheVariants as tables
 use Rattle.table_loading.specs.Faults.{IsTablesFault}

@@ -1,9 +1,9 @@
 use Rattle.std.proofs.Common.{ℕ, List, sym, subst, arith}
 use Rattle.boot_codec.specs.declared.patch.Patch.{Patch}
 use Rattle.world.specs.Losing.{geometry_of}
-use Rattle.data_io.specs.Placing.{MayBePlaced}
-use Rattle.data_io.proofs.Stands.{fresh_none}
-use Rattle.checkpoint_io.specs.Storing.{MayBeStoredWith}
+use Rattle.segment_writer.specs.DataPlacing.{MayBePlaced}
+use Rattle.segment_writer.proofs.Synced.{fresh_none}
+use Rattle.segment_writer.specs.CheckpointStoring.{MayBeStoredWith}
 use Rattle.memory_spec.specs.Tables.{facts}
 use Rattle.array_memory.specs.Eliding.{eliding_by}
 use Rattle.array_memory.proofs.LastingLemmas.{lawful_patches}
@@ -39,23 +39,23 @@ write_checkpoint-requires-clause-stored g c =
 -- ---- no memory
 
 pub returns-in_err-write_checkpoint-clause-moments : goal.returns-in_err-write_checkpoint-clause-moments
-returns-in_err-write_checkpoint-clause-moments g c h = counted_so_far (c.write_checkpoint.ensures.writes h)
+returns-in_err-write_checkpoint-clause-moments g c h = counted_so_far (c.write_checkpoint.ensures.ran.on.writes h)
 
 pub returns-in_err-write_checkpoint-clause-any_moment : goal.returns-in_err-write_checkpoint-clause-any_moment
 returns-in_err-write_checkpoint-clause-any_moment g c h held ready =
     let y = c.write_checkpoint.ensures in
-    goes_on (g.S.Shelf.shelf c.args.shelf.now) (g.S.Shelf.shelf c.write_checkpoint.new.shelf) c.args.array.now c.args.prepared.now c.requires.is_of c.requires.prepared y.continues (y.writes h) y.others held ready
+    goes_on (g.S.Shelf.shelf c.args.shelf.now) (g.S.Shelf.shelf c.write_checkpoint.new.shelf) c.args.array.now c.args.prepared.now c.requires.is_of c.requires.prepared y.ran.on.continues (y.ran.on.writes h) y.ran.on.others held ready
     (g.met.S.Shelf.is_shelf c.args.shelf.now) h
 
 -- ---- all was written
 
 pub returns-clause-moments : goal.returns-clause-moments
-returns-clause-moments g c h = counted_so_far (c.write_checkpoint.ensures.writes h)
+returns-clause-moments g c h = counted_so_far (c.write_checkpoint.ensures.ran.on.writes h)
 
 pub returns-clause-any_moment : goal.returns-clause-any_moment
 returns-clause-any_moment g c h held ready =
     let y = c.write_checkpoint.ensures in
-    goes_on (g.S.Shelf.shelf c.args.shelf.now) (g.S.Shelf.shelf c.write_checkpoint.new.shelf) c.args.array.now c.args.prepared.now c.requires.is_of c.requires.prepared y.continues (y.writes h) y.others held ready
+    goes_on (g.S.Shelf.shelf c.args.shelf.now) (g.S.Shelf.shelf c.write_checkpoint.new.shelf) c.args.array.now c.args.prepared.now c.requires.is_of c.requires.prepared y.ran.on.continues (y.ran.on.writes h) y.ran.on.others held ready
     (g.met.S.Shelf.is_shelf c.args.shelf.now) h
 
 pub returns-clause-lost : goal.returns-clause-lost
@@ -65,7 +65,7 @@ returns-clause-lost g c =
 pub returns-clause-free : goal.returns-clause-free
 returns-clause-free g c h held ready =
     let y = c.write_checkpoint.ensures in
-    wrote_free (g.S.Shelf.shelf c.args.shelf.now) (g.S.Shelf.shelf c.write_checkpoint.new.shelf) c.args.array.now c.args.prepared.now c.requires.is_of c.requires.prepared y.continues (y.writes h) y.others held ready
+    wrote_free (g.S.Shelf.shelf c.args.shelf.now) (g.S.Shelf.shelf c.write_checkpoint.new.shelf) c.args.array.now c.args.prepared.now c.requires.is_of c.requires.prepared y.ran.on.continues (y.ran.on.writes h) y.ran.on.others held ready
     (g.met.S.Shelf.is_shelf c.args.shelf.now) h c.write_checkpoint.new.lost.drives (returns-clause-lost g c) (c.in_ok-write_checkpoint.ensures.clean h)
 
 pub returns-clause-hold : goal.returns-clause-hold
@@ -77,9 +77,9 @@ returns-clause-hold g c h held ready =
     let y = c.write_checkpoint.ensures in
     let w : Wrote a b q.plan q.added x.memory.memory.staged c.write_checkpoint.new.lost.drives =
     subst (λ (staged : List (List ℕ)). Wrote a b q.plan q.added staged c.write_checkpoint.new.lost.drives) c.all_staged.ensures
-    (record { sectors = c.in_ok-write_checkpoint.ensures.data h; facts_stand = c.in_ok-write_checkpoint.ensures.facts h; writes = y.writes h }) in
-    holds_next a b (g.met.S.Shelf.is_shelf c.args.shelf.now) (g.met.S.Shelf.is_shelf c.write_checkpoint.new.shelf) h x q c.requires.is_of c.requires.prepared y.continues c.write_checkpoint.new.lost.drives w held ready
-    (writes_free a b x q c.requires.is_of c.requires.prepared y.continues (y.writes h) y.others held ready)
+    (record { sectors = c.in_ok-write_checkpoint.ensures.data h; facts_stand = c.in_ok-write_checkpoint.ensures.facts h; writes = y.ran.on.writes h }) in
+    holds_next a b (g.met.S.Shelf.is_shelf c.args.shelf.now) (g.met.S.Shelf.is_shelf c.write_checkpoint.new.shelf) h x q c.requires.is_of c.requires.prepared y.ran.on.continues c.write_checkpoint.new.lost.drives w held ready
+    (writes_free a b x q c.requires.is_of c.requires.prepared y.ran.on.continues (y.ran.on.writes h) y.ran.on.others held ready)
 
 pub returns-clause-contents : goal.returns-clause-contents
 returns-clause-contents g c h contents hold =
@@ -90,5 +90,5 @@ returns-clause-contents g c h contents hold =
     let y = c.write_checkpoint.ensures in
     let w : Wrote a b q.plan q.added x.memory.memory.staged c.write_checkpoint.new.lost.drives =
     subst (λ (staged : List (List ℕ)). Wrote a b q.plan q.added staged c.write_checkpoint.new.lost.drives) c.all_staged.ensures
-    (record { sectors = c.in_ok-write_checkpoint.ensures.data h; facts_stand = c.in_ok-write_checkpoint.ensures.facts h; writes = y.writes h }) in
-    holds_on_left a b x q c.requires.is_of c.requires.prepared y.continues c.write_checkpoint.new.lost.drives w contents hold
+    (record { sectors = c.in_ok-write_checkpoint.ensures.data h; facts_stand = c.in_ok-write_checkpoint.ensures.facts h; writes = y.ran.on.writes h }) in
+    holds_on_left a b x q c.requires.is_of c.requires.prepared y.ran.on.continues c.write_checkpoint.new.lost.drives w contents hold

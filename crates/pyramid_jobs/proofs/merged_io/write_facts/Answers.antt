@@ -2,7 +2,7 @@ use Rattle.std.proofs.Common.{List, map, OnOk, sym, subst, ap, ◌∙◌}
 use Rattle.pur_base.specs.declared.facts.AnyFact.{AnyFact}
 use Rattle.pur_base.specs.declared.facts.AnyFact.TheVariants as any
 use Rattle.table_plan.specs.Merging.{merged_facts}
-use Rattle.patch_io.specs.Storing.{MayBeStored}
+use Rattle.segment_writer.specs.PatchStoring.{MayBeStored}
 use Rattle.pyramid_jobs.specs.Written.{FactsStand}
 use Rattle.pyramid_jobs.proofs.merged_io.write_facts.Goals as goal
 

@@ -3,7 +3,7 @@ use Rattle.std.specs.Prelude.{Some, slice_get}
 use Rattle.std.proofs.lemmas.Option.{same_Some, slice_get_read}
 use Rattle.std.proofs.lemmas.Result.{on_ok_weaker}
 use Rattle.boot_codec.specs.declared.patch.Patch.{Patch}
-use Rattle.world.proofs.Writes.{writes_more}
+use Rattle.world.proofs.Ran.{ran_more}
 use Rattle.table_plan.specs.Merging.{merged_facts}
 use Rattle.pyramid_jobs.specs.Written.{FactsStand}
 use Rattle.pyramid_jobs.proofs.merged_io.write_merged.Goals as goal
@@ -17,9 +17,9 @@ returns-clause-stand g c h =
     (λ stand p is. subst (λ (o : Patch). FactsStand (g.S.Shelf.shelf c.write_facts.new.shelf) o c.write_facts.new.lost.drives (merged_facts c.args.merged.now)) (same_Some r p (sym at ∙ is)) stand)
     (c.write_facts.ensures.stand h)
 
-pub returns-clause-writes : goal.returns-clause-writes
-returns-clause-writes g c h =
+pub returns-clause-ran : goal.returns-clause-ran
+returns-clause-ran g c =
     let ps = c.args.added.now in
     let r = c.at-patch.result in
     let at : slice_get ps 0 ≡ Some r = slice_get_read ps (length ps) 0 r refl (omega arith) c.at-patch.ensures in
-    writes_more (λ d i on. (r, at, on)) (c.write_facts.ensures.writes h)
+    ran_more (λ d on. (r, at, on)) (λ d i on. (r, at, on)) c.write_facts.ensures.ran

@@ -1,4 +1,4 @@
-use Rattle.patch_io.proofs.Stands.{fresh_none}
+use Rattle.segment_writer.proofs.Synced.{fresh_none}
 use Rattle.array_checkpoint.proofs.Wrote.{all_lost, wrote_units}
 use Rattle.pyramid_jobs.proofs.OnePatch.{may_be_written}
 use Rattle.pyramid_jobs.proofs.OneWrite.{goes_on, still_on_left, writes_free}
@@ -16,7 +16,7 @@ pub returns-in_err-write_merged-clause-any_moment : goal.returns-in_err-write_me
 returns-in_err-write_merged-clause-any_moment g c honest held ready =
     let h = c.requires.prepared in
     let y = c.write_merged.ensures in
-    goes_on (g.S.Shelf.shelf c.args.shelf.now) (g.S.Shelf.shelf c.write_merged.new.shelf) c.args.array.now h.0 h.1 c.args.prepared.now c.requires.is_of h.2 y.continues (y.writes honest) y.others held ready
+    goes_on (g.S.Shelf.shelf c.args.shelf.now) (g.S.Shelf.shelf c.write_merged.new.shelf) c.args.array.now h.0 h.1 c.args.prepared.now c.requires.is_of h.2 y.ran.on.continues (y.ran.on.writes honest) y.ran.on.others held ready
     (g.met.S.Shelf.is_shelf c.args.shelf.now) honest
 
 -- ---- all was written
@@ -25,7 +25,7 @@ pub returns-clause-any_moment : goal.returns-clause-any_moment
 returns-clause-any_moment g c honest held ready =
     let h = c.requires.prepared in
     let y = c.write_merged.ensures in
-    goes_on (g.S.Shelf.shelf c.args.shelf.now) (g.S.Shelf.shelf c.write_merged.new.shelf) c.args.array.now h.0 h.1 c.args.prepared.now c.requires.is_of h.2 y.continues (y.writes honest) y.others held ready
+    goes_on (g.S.Shelf.shelf c.args.shelf.now) (g.S.Shelf.shelf c.write_merged.new.shelf) c.args.array.now h.0 h.1 c.args.prepared.now c.requires.is_of h.2 y.ran.on.continues (y.ran.on.writes honest) y.ran.on.others held ready
     (g.met.S.Shelf.is_shelf c.args.shelf.now) honest
 
 pub returns-clause-lost : goal.returns-clause-lost
@@ -39,7 +39,7 @@ returns-clause-free g c honest held ready =
     let x = c.args.array.now in
     let h = c.requires.prepared in
     let y = c.write_merged.ensures in
-    wrote_units a b x held ready (writes_free a b x h.0 h.1 c.args.prepared.now c.requires.is_of h.2 y.continues (y.writes honest) y.others held ready) (g.met.S.Shelf.is_shelf c.args.shelf.now) honest
+    wrote_units a b x held ready (writes_free a b x h.0 h.1 c.args.prepared.now c.requires.is_of h.2 y.ran.on.continues (y.ran.on.writes honest) y.ran.on.others held ready) (g.met.S.Shelf.is_shelf c.args.shelf.now) honest
     c.write_merged.new.lost.drives (returns-clause-lost g c) (c.in_ok-write_merged.ensures.clean honest)
 
 pub returns-clause-hold : goal.returns-clause-hold
@@ -49,11 +49,11 @@ returns-clause-hold g c honest t i held h ready =
     let x = c.args.array.now in
     let q = c.args.prepared.now in
     let y = c.write_merged.ensures in
-    holds_merged a b (g.met.S.Shelf.is_shelf c.args.shelf.now) (g.met.S.Shelf.is_shelf c.write_merged.new.shelf) honest x t i q c.requires.is_of h y.continues c.write_merged.new.lost.drives (c.in_ok-write_merged.ensures.stand honest)
-    held ready (writes_free a b x t i q c.requires.is_of h y.continues (y.writes honest) y.others held ready)
+    holds_merged a b (g.met.S.Shelf.is_shelf c.args.shelf.now) (g.met.S.Shelf.is_shelf c.write_merged.new.shelf) honest x t i q c.requires.is_of h y.ran.on.continues c.write_merged.new.lost.drives (c.in_ok-write_merged.ensures.stand honest)
+    held ready (writes_free a b x t i q c.requires.is_of h y.ran.on.continues (y.ran.on.writes honest) y.ran.on.others held ready)
 
 pub returns-clause-contents : goal.returns-clause-contents
 returns-clause-contents g c honest contents hold =
     let h = c.requires.prepared in
     let y = c.write_merged.ensures in
-    still_on_left (g.S.Shelf.shelf c.args.shelf.now) (g.S.Shelf.shelf c.write_merged.new.shelf) c.args.array.now h.0 h.1 c.args.prepared.now c.requires.is_of h.2 y.continues (y.writes honest) c.write_merged.new.lost.drives contents hold
+    still_on_left (g.S.Shelf.shelf c.args.shelf.now) (g.S.Shelf.shelf c.write_merged.new.shelf) c.args.array.now h.0 h.1 c.args.prepared.now c.requires.is_of h.2 y.ran.on.continues (y.ran.on.writes honest) c.write_merged.new.lost.drives contents hold

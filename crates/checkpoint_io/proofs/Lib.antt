@@ -1,9 +1,0 @@
-pub mod Gets
-pub mod Tags
-pub mod Apart
-pub mod Stored
-pub mod Appended
-pub mod Headers
-pub mod DriveSets
-pub mod InTurn
-pub mod Written

@@ -1,9 +1,0 @@
-use Rattle.std.proofs.Common.{◌≡◌, ℕ, ◌<◌, ◌≤◌, ◌||◌}
-use Rattle.segment_io.specs.Lost.{is_in}
-use Rattle.checkpoint_io.proofs.drives.join.Given as goal
-
-abbrev pub invariant-loop-slot : goal.invariant-loop-slot
-invariant-loop-slot l = record {
-  passed : (k : ℕ) → k < l.slot → is_in l.drives k ≡ (is_in l.fn.drives k || is_in l.more k);
-  ahead : (k : ℕ) → l.slot ≤ k → is_in l.drives k ≡ is_in l.fn.drives k;
-}

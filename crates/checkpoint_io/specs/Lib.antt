@@ -1,3 +1,0 @@
-pub mod Planned
-pub mod Storing
-pub mod Standing

@@ -1,5 +1,0 @@
-pub mod Placing
-pub mod Filling
-pub mod Storing
-pub mod Headed
-pub mod Standing

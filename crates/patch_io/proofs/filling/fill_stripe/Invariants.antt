@@ -1,6 +1,0 @@
-use Rattle.std.proofs.Common.{ℕ, ◌+◌, ◌*◌, ◌<◌, map}
-use Rattle.patch_io.specs.Filling.{text_in, IsTextOf}
-use Rattle.patch_io.proofs.filling.fill_stripe.Given as goal
-
-abbrev pub invariant-loop-place : goal.invariant-loop-place
-invariant-loop-place g l = (k : ℕ) → k < l.place → IsTextOf (map g.F.TableFact.any l.facts) (448 * l.number + k) (text_in l.stripe k)

@@ -1,7 +1,0 @@
-use Rattle.std.proofs.Common.{map, arith}
-use Rattle.patch_io.proofs.Filled.{stripes_more}
-use Rattle.patch_io.proofs.filling.fill_stripes.Goals as goal
-
-pub loop-number-preserved : goal.loop-number-preserved
-loop-number-preserved g c =
-    stripes_more (map g.F.TableFact.any c.args.facts.now) c.loop-number.number c.loop-number.stripes c.fill_stripe.new.stripe (omega arith) c.loop-number.invariant c.fill_stripe.ensures

@@ -1,7 +1,0 @@
-use Rattle.std.proofs.Common.{ℕ, ◌<◌, map}
-use Rattle.segment_io.specs.Stripes.{stripe_in}
-use Rattle.patch_io.specs.Filling.{HoldsFacts}
-use Rattle.patch_io.proofs.filling.fill_stripes.Given as goal
-
-abbrev pub invariant-loop-number : goal.invariant-loop-number
-invariant-loop-number g l = (k : ℕ) → k < l.number → HoldsFacts (map g.F.TableFact.any l.facts) k (stripe_in l.stripes k)

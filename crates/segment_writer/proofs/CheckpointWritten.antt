@@ -1,0 +1,77 @@
+-- Patches that are written whole, and a checkpoint.
+use Rattle.std.proofs.Common.{◌≡◌, inl, inr, ℕ, Bool, List, sym, subst}
+use Rattle.std.specs.Prelude.{Some, slice_get}
+use Rattle.pur_base.specs.Devices.{View}
+use Rattle.pur_base.specs.declared.facts.AnyFact.{AnyFact}
+use Rattle.pur_base.specs.declared.facts.SegmentFact.{SegmentFact}
+use Rattle.boot_codec.specs.declared.patch.Patch.{Patch}
+use Rattle.world.specs.Shelf.{Shelved, Stop, LeavesOnly}
+use Rattle.world.specs.Writes.{WritesOnly}
+use Rattle.world.specs.Ran.{Ran}
+use Rattle.world.specs.Streams.{IsPreorder}
+use Rattle.world.proofs.Ran.{ran_then, ran_more}
+use Rattle.segment_io.specs.Lost.{LosesOnly}
+use Rattle.segment_io.specs.Stripes.{bytes_of}
+use Rattle.segment_io.proofs.Losing.{not_before}
+use Rattle.segment_writer.specs.PatchStoring.{MayBeStored, HoldsPatch, MayBeHeaded}
+use Rattle.segment_writer.proofs.PatchShown.{patch_shown}
+use Rattle.segment_writer.specs.DataPlacing.{MayBePlaced}
+use Rattle.segment_writer.specs.DataStoring.{HoldsData, IsOnData, OnData, ShowsMostOf as ShowsMostOfData, layout_of_data}
+use Rattle.segment_writer.specs.Layout.{StaysClean, HoldAllHeaders}
+use Rattle.segment_writer.specs.DataStanding.{DataStands}
+use Rattle.segment_writer.proofs.DataShown.{data_shown}
+use Rattle.array_memory.specs.declared.plan.Plan.{Plan}
+use Rattle.segment_writer.specs.CheckpointPlanned.{new_facts, facts_of_tag}
+use Rattle.segment_writer.specs.CheckpointStoring.{MayBeStoredWith, LieApartOf, HoldPatches, IsOnPatches, OnPatches, IsOnCheckpoint, OnCheckpoint}
+use Rattle.segment_writer.specs.CheckpointStanding.{FactsStand}
+use Rattle.segment_writer.proofs.Gets.{zip_both}
+use Rattle.segment_writer.proofs.CheckpointTags.{facts_by_tag}
+use Rattle.segment_writer.proofs.CheckpointApart.{data_off, headers_off, off_patches}
+
+-- ---- data, and then patches
+
+-- the sectors stand after the patches are written
+pub data_stands : (a b e : Shelved) (plan : Plan) (ps : List Patch) (was now : List Bool) (staged : List (List ℕ)) (view : View)
+    → MayBePlaced a plan.segments.items staged plan.placing.order.items → MayBeStoredWith a plan ps → LosesOnly b e was now → WritesOnly (OnPatches ps 0 16) b e
+    → HoldsData (bytes_of b) plan.segments.items was staged plan.placing.order.items → ShowsMostOfData (bytes_of e) plan.segments.items now view → DataStands view plan.segments.items staged plan.placing.order.items
+data_stands a b e plan ps was now staged view placed stored loses writes holds shows =
+    let segments = plan.segments.items in
+    let order = plan.placing.order.items in
+    data_shown (bytes_of e) segments now staged order view (λ number within. (placed.places number within).nine) placed.filled
+    (data_off (OnPatches ps 0 16) b e was now loses writes segments staged order (λ number within. off_patches segments ps number stored.apart_of_data within) holds) shows
+
+-- and so do their headers
+pub data_headers_stand : (b e : Shelved) (segments : List SegmentFact) (ps : List Patch) (was now : List Bool) (generation : ℕ) → ((i : ℕ) (p : Patch) → slice_get ps i ≡ Some p → LieApartOf segments p) → LosesOnly b e was now → WritesOnly (OnPatches ps 0 16) b e
+    → HoldAllHeaders (bytes_of b) (layout_of_data segments generation) was → HoldAllHeaders (bytes_of e) (layout_of_data segments generation) now
+data_headers_stand b e segments ps was now generation apart loses writes holds =
+    headers_off (OnPatches ps 0 16) b e was now loses writes (layout_of_data segments generation) (λ number within. off_patches segments ps number apart within) holds
+
+-- the facts of each patch stand
+pub facts_stand : (a e : Shelved) (plan : Plan) (ps : List Patch) (lost : List Bool) → MayBeStoredWith a plan ps → HoldPatches (bytes_of e) plan ps lost → FactsStand (bytes_of e) ps lost (new_facts plan)
+facts_stand a e plan ps lost stored holds i p facts at there view shows =
+    let may = zip_both (λ q all. MayBeStored a q all × MayBeHeaded a q) ps (new_facts plan) i p facts stored.each at there in
+    let same : facts ≡ facts_of_tag plan p.tag = facts_by_tag a plan p facts may.0 i there in
+    patch_shown (bytes_of e) a.drives a.units p lost facts view may.0.lawful may.0.count (subst (λ (l : List AnyFact). HoldsPatch (bytes_of e) p lost l) (sym same) (holds i p at)) shows may.0.in_order
+
+-- what was clean is clean again
+pub clean_then : (a b e : Shelved) (was now : List Bool) → LosesOnly b e was now → StaysClean was a b → StaysClean now b e → StaysClean now a e
+clean_then a b e was now loses first second slot none before = second slot none (first slot (not_before b e was now slot loses none) before)
+
+-- a run on the data, and one on the patches
+pub on_checkpoint : {X : Type 0} {shelf : X → Shelved} {same_rest : X → X → Type 0} {a b e : X} (segments : List SegmentFact) (ps : List Patch) → IsPreorder same_rest → Ran shelf same_rest (IsOnData segments) (OnData segments 0 16) a b
+    → Ran shelf same_rest (IsOnPatches ps) (OnPatches ps 0 16) b e → Ran shelf same_rest (IsOnCheckpoint segments ps) (OnCheckpoint segments ps) a e
+on_checkpoint segments ps stays first second = ran_then stays (ran_more (λ d on. inl on) (λ d i on. inl on) first) (ran_more (λ d on. inr on) (λ d i on. inr on) second)
+
+-- what is left at each moment of a run is both
+pub both_leave : {a b : Shelved} {P Q R : Stop → Type 0} → ((stop : Stop) → P stop → Q stop → R stop) → LeavesOnly a b P → LeavesOnly a b Q → LeavesOnly a b R
+both_leave to first second = record {
+  quiet = first.quiet;
+  each = λ stop left. ((first.each stop left).0, to stop (first.each stop left).1 (second.each stop left).1);
+  before = λ t stop le left. elim (first.before t stop le left) [
+    | inl old ↦ inl old
+    | inr p ↦ elim (second.before t stop le left) [
+      | inl old ↦ inl old
+      | inr q ↦ inr (p.0, to stop p.1 q.1)
+    ]
+  ];
+}

@@ -1,0 +1,87 @@
+-- The headers of segments come after their stripes.
+use Rattle.std.proofs.Common.{◌≡◌, ◌⊎◌, inl, inr, ⊎_elim, ℕ, ◌+◌, ◌*◌, ◌<◌, ◌≤◌, Bool, true, false, List, [], sym, subst, ◌∙◌, ap, arith}
+use Rattle.std.proofs.lemmas.Bool.{cases_eq, cases_lt, cases_Bool}
+use Rattle.pur_base.specs.declared.place.Place.{Place}
+use Rattle.world.specs.declared.shelf.Span.{Span}
+use Rattle.world.specs.Shelf.{Shelved, IsShelf, Stop, Continues, LeavesOnly, IsIn, IsInSome}
+use Rattle.world.specs.Writes.{WritesOnly, LeavesBut}
+use Rattle.world.proofs.Moments.{then_run, weaker, started}
+use Rattle.segment_io.specs.Headers.{AreSynced, CleanStay}
+use Rattle.segment_io.specs.Lost.{is_in}
+use Rattle.segment_io.specs.Places.{ArePlaces, place_of, drive_of, write_unit_at}
+use Rattle.segment_io.specs.Stripes.{bytes_of, HoldsStripe}
+use Rattle.segment_io.proofs.Parts.{same_at}
+use Rattle.segment_writer.specs.Layout.{Layout, units_of, MayBeHeaded, HaveStripes, HoldAll, OnSome, ComesInTurn, AreDrivesOfAll}
+use Rattle.segment_writer.proofs.Apart.{slot_of, units_apart}
+use Rattle.segment_writer.proofs.Headers.{all_kept}
+
+-- shards of a segment on one drive are one
+one_shard : (shelf : Shelved) (places : List Place) (j k : ℕ) → ArePlaces shelf places → j < 9 → k < 9 → (place_of places j).slot ≡ (place_of places k).slot → j ≡ k
+one_shard shelf places j k are j_lt k_lt same = elim (cases_lt j k) [
+  | inl less ↦ absurd (let x = are.ascending j k less k_lt in omega (arith, x, same))
+  | inr above ↦ elim (cases_lt k j) [
+    | inl more ↦ absurd (let x = are.ascending k j more j_lt in omega (arith, x, same))
+    | inr below ↦ omega (arith, above, below)
+  ]
+]
+
+module _ (a : Shelved) (l : Layout) (headed : MayBeHeaded a l) where
+  -- a byte of one write unit of them is no byte of others
+  pub outside : (number shard m n count i : ℕ) → number < l.count → shard < 9 → m < 16 → n + count ≤ 16 → ((m + 1 ≤ n) ⊎ (n + count ≤ m))
+      → write_unit_at (place_of (units_of l number) shard) m ≤ i → i < write_unit_at (place_of (units_of l number) shard) m + 4096 → OnSome l.count (units_of l) n count (drive_of (units_of l number) shard) i → ⊥
+  outside number shard m n count i within lt low fits other from to (number2, within2, (shard2, lt2, (same, range))) = elim (cases_eq number number2) [
+    | inr ne ↦ units_apart (place_of (units_of l number) shard).unit (place_of (units_of l number2) shard2).unit m n count i (headed.apart number number2 shard shard2 ne within within2 lt lt2 (ap slot_of same)) low fits from to range.0 range.1
+    | inl e ↦
+        let slots = subst (λ (k : ℕ). (place_of (units_of l number) shard).slot ≡ (place_of (units_of l k) shard2).slot) (sym e) (ap slot_of same) in
+        let here = subst (λ (k : ℕ). IsIn (record { start = write_unit_at (place_of (units_of l k) shard2) n; size = 4096 * count }) i) (sym e) range in
+        let one = one_shard a (units_of l number) shard shard2 (headed.places number within) lt lt2 slots in
+        let there = subst (λ (k : ℕ). IsIn (record { start = write_unit_at (place_of (units_of l number) k) n; size = 4096 * count }) i) (sym one) here in
+        ⊎_elim (λ before. omega (arith, before, there.0, to)) (λ behind. omega (arith, behind, there.1, from)) other
+  ]
+
+  -- while stripes are written and synced no header is there
+  pub no_header : (stop : Stop) → LeavesBut (OnSome l.count (units_of l) 1 15) a stop → (number shard : ℕ) → number < l.count → shard < 9 → CleanStay a (units_of l number) shard 0 1 stop
+  no_header stop leaves number shard within lt i (from, to) clean =
+      (leaves.bytes (drive_of (units_of l number) shard)).same i clean (outside number shard 0 1 15 i within lt (omega arith) (omega arith) (inl (omega arith)) from (omega (arith, to)))
+
+  -- while headers are written and synced all stands
+  pub all_there : (m : Shelved) (drives lost : List Bool) (stripes : ℕ → ℕ) (Holds : ℕ → ℕ → List (List ℕ) → Type 0) (some : HaveStripes l stripes) (stop : Stop) → AreDrivesOfAll l.count (units_of l) drives → AreSynced m drives lost → LeavesBut (OnSome l.count (units_of l) 0 1) m stop → HoldAll (bytes_of m) l lost stripes Holds → HoldAll stop.image l lost stripes Holds
+  all_there m drives lost stripes Holds some stop has synced leaves holds = all_kept (bytes_of m) stop.image l lost lost stripes Holds some stay holds
+    where
+      stay : (number stripe : ℕ) (shards : List (List ℕ)) → number < l.count → stripe < 15 → HoldsStripe (bytes_of m) (units_of l number) lost stripe shards → HoldsStripe stop.image (units_of l number) lost stripe shards
+      stay number stripe shards within low stands = record {
+        codeword = stands.codeword;
+        units = λ shard lt none.
+            let d = drive_of (units_of l number) shard in
+            let clean : (m.disk d).dirty ≡ [] = synced (place_of (units_of l number) shard).slot (has.each number shard within lt) none in
+            let at = write_unit_at (place_of (units_of l number) shard) (stripe + 1) in
+            same_at (stop.image d) (m.disk d).bytes at 4096 (leaves.bytes d).size
+            (λ i from to. (leaves.bytes d).same i (λ is. subst (λ (l : List Span). IsInSome l i) clean is) (outside number shard (stripe + 1) 0 1 i within lt (omega (arith, low)) (omega arith) (inr (omega arith)) from to))
+            ∙ stands.units shard lt none;
+      }
+
+-- so headers come last
+pub in_turn : (a m e : Shelved) (l : Layout) (drives lost : List Bool) (stripes : ℕ → ℕ) (Holds : ℕ → ℕ → List (List ℕ) → Type 0) (some : HaveStripes l stripes) → MayBeHeaded a l → AreDrivesOfAll l.count (units_of l) drives → AreSynced m drives lost → HoldAll (bytes_of m) l lost stripes Holds → Continues a m → WritesOnly (OnSome l.count (units_of l) 1 15) a m → WritesOnly (OnSome l.count (units_of l) 0 1) m e
+    → LeavesOnly a e (ComesInTurn a l lost stripes Holds)
+in_turn a m e l drives lost stripes Holds some headed has synced holds continues first second =
+    then_run continues
+    (weaker (λ stop leaves. inl (no_header a l headed stop leaves)) first.any_moment)
+    (weaker (λ stop leaves. inr (all_there a l headed m drives lost stripes Holds some stop has synced leaves holds)) second.any_moment)
+
+-- all stands but for more lost drives
+pub more_lost : (a : Shelved) (l : Layout) (was now : List Bool) (stripes : ℕ → ℕ) (Holds : ℕ → ℕ → List (List ℕ) → Type 0) (some : HaveStripes l stripes) (stop : Stop) → ((slot : ℕ) → is_in was slot ≡ true → is_in now slot ≡ true) → ComesInTurn a l was stripes Holds stop → ComesInTurn a l now stripes Holds stop
+more_lost a l was now stripes Holds some stop stays (inl none) = inl none
+more_lost a l was now stripes Holds some stop stays (inr holds) = inr (all_kept stop.image stop.image l was now stripes Holds some (λ k stripe shards lt low stands. record {
+  codeword = stands.codeword;
+  units = λ shard shard_lt none. stands.units shard shard_lt (before (place_of (units_of l k) shard).slot none);
+}) holds)
+  where
+    before : (slot : ℕ) → is_in now slot ≡ false → is_in was slot ≡ false
+    before slot none = elim (cases_Bool (is_in was slot)) [
+      | inl is ↦ absurd (let e = stays slot is in cc)
+      | inr not ↦ not
+    ]
+
+-- nothing was written
+pub untouched : (a : Shelved) (l : Layout) (lost : List Bool) (stripes : ℕ → ℕ) (Holds : ℕ → ℕ → List (List ℕ) → Type 0) → IsShelf a → LeavesOnly a a (ComesInTurn a l lost stripes Holds)
+untouched a l lost stripes Holds is = started a (ComesInTurn a l lost stripes Holds) is (λ stop may. inl (λ number shard within lt i range clean. (may.device (drive_of (units_of l number) shard)).clean i clean))

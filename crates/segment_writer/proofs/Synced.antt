@@ -1,0 +1,78 @@
+-- Segments that are written whole.
+use Rattle.std.proofs.Common.{◌≡◌, inl, inr, ℕ, ◌+◌, ◌<◌, ◌≤◌, Bool, true, false, List, replicate, ◌∙◌, ap, arith, below_more}
+use Rattle.std.proofs.lemmas.List.{get_or-replicate, get_or_past, length-replicate}
+use Rattle.std.proofs.lemmas.Bool.{cases_lt, cases_Bool}
+use Rattle.pur_base.specs.Devices.{drive}
+use Rattle.pur_base.specs.declared.device.Device.{Device}
+use Rattle.pur_base.specs.declared.place.Place.{Place}
+use Rattle.world.specs.Ran.{Ran}
+use Rattle.world.specs.Shelf.{Shelved, Disk, Stop, MayStop}
+use Rattle.world.proofs.Ran.{ran_more}
+use Rattle.segment_io.specs.Headers.{AreSynced}
+use Rattle.segment_io.specs.Lost.{is_in, LosesOnly, NoByte, IsOnSlot, OthersStayBut}
+use Rattle.segment_io.specs.Places.{ArePlaces, place_of}
+use Rattle.segment_io.specs.Stripes.{bytes_of}
+use Rattle.segment_io.proofs.InTurn.{same_units, same_stripe}
+use Rattle.segment_io.proofs.Views.{holds_at_stop}
+use Rattle.segment_writer.specs.Layout.{Layout, units_of, HaveStripes, HoldAll, HoldAllHeaders, IsOnSome, OnSome, AreDrivesOfAll, StaysClean, HasWritten}
+use Rattle.segment_writer.proofs.Apart.{slot_of}
+use Rattle.segment_writer.proofs.Headers.{all_kept}
+
+-- one more segment's drives
+pub each_more : (units : ℕ → List Place) (number : ℕ) (was now : List Bool) → ((slot : ℕ) → is_in was slot ≡ true → is_in now slot ≡ true) → ((shard : ℕ) → shard < 9 → is_in now (place_of (units number) shard).slot ≡ true)
+    → ((k shard : ℕ) → k < number → shard < 9 → is_in was (place_of (units k) shard).slot ≡ true) → (k shard : ℕ) → k < number + 1 → shard < 9 → is_in now (place_of (units k) shard).slot ≡ true
+each_more units number was now stays here before k shard lt shard_lt =
+    below_more (λ j. is_in now (place_of (units j) shard).slot ≡ true) number (λ j less. stays (place_of (units j) shard).slot (before j shard less shard_lt)) (here shard shard_lt) k lt
+
+-- no drive is in a fresh set
+pub fresh_none : (n slot : ℕ) (P : Type 0) → is_in (replicate n false) slot ≡ true → P
+fresh_none n slot P is = elim (cases_lt slot n) [
+  | inl lt ↦ absurd (let e : is_in (replicate n false) slot ≡ false = get_or-replicate n slot false false lt in cc)
+  | inr ge ↦ absurd (let e : is_in (replicate n false) slot ≡ false = get_or_past (replicate n false) slot false (omega (arith, ge, length-replicate n false)) in cc)
+]
+
+-- the slot of a unit is one of the shelf
+pub slot_below : (a : Shelved) (l : Layout) (drives : List Bool) (slot : ℕ) → ((number : ℕ) → number < l.count → ArePlaces a (units_of l number)) → AreDrivesOfAll l.count (units_of l) drives → is_in drives slot ≡ true → slot < a.drives
+slot_below a l drives slot places of is =
+    let h = of.no_other slot is in
+    let place = (places h.0 h.2).each h.1 h.3 in
+    omega (arith, h.4, place.slot)
+
+-- what all hold stays where the drives are synced
+pub synced_kept : (a b : Shelved) (l : Layout) (was now : List Bool) (stripes : ℕ → ℕ) (Holds : ℕ → ℕ → List (List ℕ) → Type 0) → HaveStripes l stripes → LosesOnly a b was now → ((device : Device) → (b.disk device).bytes ≡ (a.disk device).bytes)
+    → HoldAll (bytes_of a) l was stripes Holds → HoldAll (bytes_of b) l now stripes Holds
+synced_kept a b l was now stripes Holds some loses same holds =
+    all_kept (bytes_of a) (bytes_of b) l was now stripes Holds some (λ k stripe shards lt low. same_stripe a b (units_of l k) was now stripe shards loses same) holds
+
+-- and so do the headers
+pub headers_kept : (a b : Shelved) (l : Layout) (was now : List Bool) → LosesOnly a b was now → ((device : Device) → (b.disk device).bytes ≡ (a.disk device).bytes) → HoldAllHeaders (bytes_of a) l was → HoldAllHeaders (bytes_of b) l now
+headers_kept a b l was now loses same holds number within = same_units a b (units_of l number) was now 0 _ loses same (holds number within)
+
+-- what was written stands after a stop
+pub holds_after : (e : Shelved) (l : Layout) (lost : List Bool) (stripes : ℕ → ℕ) (Holds : ℕ → ℕ → List (List ℕ) → Type 0) (stop : Stop) → HaveStripes l stripes → HasWritten e l lost stripes Holds → MayStop e stop → HoldAll stop.image l lost stripes Holds
+holds_after e l lost stripes Holds stop some written may =
+    all_kept (bytes_of e) stop.image l lost lost stripes Holds some (λ k stripe shards lt low stands. holds_at_stop e (units_of l k) lost stripe shards stop may (λ shard shard_lt none. written.synced k shard lt shard_lt none) stands) written.holds
+
+-- ---- runs
+
+-- some write units are some of all of them
+pub on_all : {X : Type 0} {shelf : X → Shelved} {same_rest : X → X → Type 0} {a b : X} (l : Layout) (n many : ℕ) → n + many ≤ 16 → Ran shelf same_rest (IsOnSome l.count (units_of l)) (OnSome l.count (units_of l) n many) a b
+    → Ran shelf same_rest (IsOnSome l.count (units_of l)) (OnSome l.count (units_of l) 0 16) a b
+on_all l n many fits ran = ran_more (λ d on. on) (λ d i (number, within, (shard, lt, (same, range))). (number, within, (shard, lt, (same, (omega (arith, range.0), omega (arith, range.1, fits)))))) ran
+
+-- a sync of the drives is a run on them that writes nothing
+pub synced_on : {X : Type 0} {shelf : X → Shelved} {same_rest : X → X → Type 0} {a b : X} (l : Layout) (n many : ℕ) (drives : List Bool) → AreDrivesOfAll l.count (units_of l) drives → Ran shelf same_rest (IsOnSlot drives) NoByte a b
+    → Ran shelf same_rest (IsOnSome l.count (units_of l)) (OnSome l.count (units_of l) n many) a b
+synced_on l n many drives of ran =
+    ran_more (λ d on. let h = of.no_other on.0 on.1 in (h.0, h.1, h.2, h.3, on.2 ∙ ap drive h.4)) (λ d i none. absurd none) ran
+
+-- a drive that isn't of the set stays where the segments are written
+pub others_but : (a b : Shelved) (l : Layout) (drives : List Bool) → AreDrivesOfAll l.count (units_of l) drives → ((device : Device) → (IsOnSome l.count (units_of l) device → ⊥) → b.disk device ≡ a.disk device) → OthersStayBut drives a b
+others_but a b l drives of others device none = others device (λ on. none ((place_of (units_of l on.0) on.1).slot, of.each on.0 on.1 on.2 on.3, on.4))
+
+-- a drive of the set was synced, and any other stays
+pub clean_again : (a e : Shelved) (drives lost : List Bool) → OthersStayBut drives a e → AreSynced e drives lost → StaysClean lost a e
+clean_again a e drives lost others synced slot none was = elim (cases_Bool (is_in drives slot)) [
+  | inl is ↦ synced slot is none
+  | inr out ↦ ap (λ (d : Disk). d.dirty) (others (drive slot) (λ on. let is = on.1 in let e : slot ≡ on.0 = ap slot_of on.2 in absurd (cc))) ∙ was
+]

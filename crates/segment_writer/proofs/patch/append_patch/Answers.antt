@@ -1,0 +1,16 @@
+use Rattle.std.proofs.Common.{map}
+use Rattle.segment_writer.proofs.PatchLayout.{may_be_headed, may_be_spelled, has_its_segments, have_stripes}
+use Rattle.segment_writer.proofs.patch.append_patch.Goals as goal
+
+pub append_all-requires-clause-may_fill : goal.append_all-requires-clause-may_fill
+append_all-requires-clause-may_fill g c =
+    let a = g.S.Shelf.shelf c.args.shelf.now in
+    (has_its_segments a c.args.patch.now c.requires.headed, may_be_spelled a c.args.patch.now (map g.F.TableFact.any c.args.facts.now) c.requires.stored)
+
+pub append_all-requires-clause-headed : goal.append_all-requires-clause-headed
+append_all-requires-clause-headed g c = may_be_headed (g.S.Shelf.shelf c.args.shelf.now) c.args.patch.now 0 c.requires.headed
+
+pub append_all-requires-clause-have_stripes : goal.append_all-requires-clause-have_stripes
+append_all-requires-clause-have_stripes g c =
+    let facts = map g.F.TableFact.any c.args.facts.now in
+    have_stripes c.args.patch.now 0 facts (may_be_spelled (g.S.Shelf.shelf c.args.shelf.now) c.args.patch.now facts c.requires.stored)

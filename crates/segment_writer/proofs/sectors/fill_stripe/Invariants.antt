@@ -1,0 +1,6 @@
+use Rattle.std.proofs.Common.{ℕ, ◌+◌, ◌*◌, ◌<◌}
+use Rattle.segment_writer.specs.DataFilling.{sector_of_stripe, IsSectorOf}
+use Rattle.segment_writer.proofs.sectors.fill_stripe.Given as goal
+
+abbrev pub invariant-loop-place : goal.invariant-loop-place
+invariant-loop-place l = (k : ℕ) → k < l.place → IsSectorOf l.staged l.order (56 * l.number + k) (sector_of_stripe l.stripe k)

@@ -1,0 +1,7 @@
+use Rattle.std.proofs.Common.{ℕ, ◌<◌}
+use Rattle.segment_io.specs.Stripes.{stripe_in}
+use Rattle.segment_writer.specs.DataFilling.{HoldsSectors}
+use Rattle.segment_writer.proofs.sectors.fill_stripes.Given as goal
+
+abbrev pub invariant-loop-number : goal.invariant-loop-number
+invariant-loop-number l = (k : ℕ) → k < l.number → HoldsSectors l.staged l.order k (stripe_in l.stripes k)

@@ -1,0 +1,10 @@
+pub mod Layout
+pub mod DataPlacing
+pub mod DataFilling
+pub mod DataStoring
+pub mod DataStanding
+pub mod PatchFilling
+pub mod PatchStoring
+pub mod CheckpointPlanned
+pub mod CheckpointStoring
+pub mod CheckpointStanding
