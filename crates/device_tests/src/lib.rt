@@ -1,7 +1,11 @@
-//! Tests of what stands on the devices of their own, over a world in memory: the boot region, the log, the register over both, and the making of an array.
-//! Calls fail, stops come in the middle of a store, and what is shown, read back and settled then is seen.
+//! Tests of the worlds in memory and over files, of the reader and the writer, and over a world in memory of what stands on devices of their own:
+//! the boot region, the log, the register over both, and the making of an array. Calls fail, stops come in the middle, and what is left then is seen.
 #![tactic(auto)]
 
+#[cfg(test)]
+mod clients;
+#[cfg(test)]
+mod files;
 #[cfg(test)]
 mod logs;
 #[cfg(test)]
@@ -11,4 +15,8 @@ mod records;
 #[cfg(test)]
 mod registers;
 #[cfg(test)]
+mod requests;
+#[cfg(test)]
 mod stage;
+#[cfg(test)]
+mod worlds;

@@ -5,6 +5,7 @@ use log_codec::{Head, SLOT_BYTES, SLOTS_START, is_command, write_head};
 use nvram_log::{NvLog, Record, sync_members};
 use pur_base::{Device, Name, NvId, Request, SECTOR_BYTES, Sector};
 use std::alloc::Global;
+use std::process::Abort;
 use world::Shelf;
 use world_mem::{Choice, MemWorld};
 
@@ -160,16 +161,14 @@ fn append(log: &mut NvLog, byte: u8, world: &mut MemWorld) -> Result<(), Missing
     Ok(())
 }
 
-/// A log that was empty, behind a fill with this byte.
-fn appended(alloc: Global, byte: u8, world: &mut MemWorld) -> Result<NvLog, Missing> {
-    let mut log = log_on(alloc, world, 0)?;
+/// Appends a fill with this byte to a log that is empty.
+fn append_first(log: &mut NvLog, byte: u8, world: &mut MemWorld) -> Result<(), Missing> {
     if log.count() != 0 {
         return Err(Missing);
     }
-    settle(&mut log, 0, world)?;
+    settle(log, 0, world)?;
     forget(world);
-    append(&mut log, byte, world)?;
-    Ok(log)
+    append(log, byte, world)
 }
 
 /// The byte of the one fill of the log that is read, or `None` where that is empty or has more.
@@ -194,16 +193,27 @@ fn count_on(alloc: Global, world: &mut MemWorld, flushed: u64) -> Result<usize, 
     Ok(log_on(alloc, world, flushed)?.count())
 }
 
+/// What was appended to the log is read until the log is cleared.
+fn appends_and_clears(
+    rt: &impl Abort,
+    alloc: Global,
+    log: &mut NvLog,
+    world: &mut MemWorld,
+) -> Result<(), Missing> {
+    append_first(log, 7, world)?;
+    // Two writes and two syncs on each device.
+    assert!(rt; calls_of(world) == 8);
+    assert!(rt; only_byte(alloc, world, 0)? == Some(7));
+    assert!(rt; clear(log, world)? == 1);
+    assert!(rt; count_on(alloc, world, 1)? == 0);
+    Ok(())
+}
+
 #[test]
 fn what_was_appended_is_read_until_it_is_cleared(rt: HostRuntime) -> Result<(), Missing> {
     let mut world = small_world(rt.alloc())?;
-    let mut log = appended(rt.alloc(), 7, &mut world)?;
-    // Two writes and two syncs on each device.
-    assert!(rt; calls_of(&world) == 8);
-    assert!(rt; only_byte(rt.alloc(), &mut world, 0)? == Some(7));
-    assert!(rt; clear(&mut log, &mut world)? == 1);
-    assert!(rt; count_on(rt.alloc(), &mut world, 1)? == 0);
-    Ok(())
+    let mut log = log_on(rt.alloc(), &mut world, 0)?;
+    appends_and_clears(&rt, rt.alloc(), &mut log, &mut world)
 }
 
 const TORN: u8 = 0xEE;

@@ -1,9 +1,10 @@
 // The making of an array.
 
 use crate::stage::{
-    DRIVES, HEADER, Missing, fail, forget, is_open, read_sector, small_world, stopped, writes_of,
+    DRIVES, HEADER, Missing, fail, forget, is_open, read_sector, small_world, stopped, write_drive,
+    writes_of,
 };
-use pur_base::{Device, DriveId, NvId, SECTOR_BYTES};
+use pur_base::{Device, NvId, SECTOR_BYTES};
 use shelf_init::{InitFault, init};
 use std::alloc::Global;
 use world::{Shelf, write_synced};
@@ -82,10 +83,7 @@ fn a_call_that_fails_ends_it(rt: HostRuntime) -> Result<(), Missing> {
 
 /// Opens the gate of slot A on drive 2, and one of the log.
 fn open_two(world: &mut MemWorld) -> Result<(), Missing> {
-    if world.drives() < DRIVES || world.units() < 64 {
-        return Err(Missing);
-    }
-    write_synced(world, Device::Drive(DriveId(2)), 0, &[1; SECTOR_BYTES])?;
+    write_drive(world, 2, 0, &[1; SECTOR_BYTES])?;
     write_synced(world, Device::Nv(NvId(1)), 5, &[1])?;
     Ok(())
 }

@@ -2,7 +2,7 @@
 
 use crate::stage::{
     DRIVES, Missing, all_but, are_all_but, body_at, body_of, fail, forget, is_open, pull,
-    read_sector, small_world, stopped, writes_of,
+    read_sector, small_world, stopped, write_drive, writes_of,
 };
 use boot_codec::{BadRecord, DRIVE_FLAGS, RECORD_BYTES};
 use boot_region::{
@@ -11,7 +11,7 @@ use boot_region::{
 };
 use pur_base::{Device, DriveId, SECTOR_BYTES};
 use std::alloc::Global;
-use world::{Shelf, write_synced};
+use world::Shelf;
 use world_mem::{Fused, MemWorld};
 
 /// The bytes of slot A's records, and of slot B's.
@@ -134,15 +134,20 @@ fn members_that_fail_are_dropped(rt: HostRuntime) -> Result<(), Missing> {
     Ok(())
 }
 
+/// Closes the gate of a slot on these drives.
+fn close(world: &mut MemWorld, members: &mut [bool; 11], slot: Slot) -> Result<(), Missing> {
+    if world.drives() != DRIVES || world.units() < 64 {
+        return Err(Missing);
+    }
+    close_gates(world, members, slot);
+    Ok(())
+}
+
 /// Closes the gate of slot A on drive 6.
 fn close_one(world: &mut MemWorld) -> Result<(), Missing> {
     let mut shut = [false; 11];
     shut[6] = true;
-    if world.drives() != DRIVES || world.units() < 64 {
-        return Err(Missing);
-    }
-    close_gates(world, &mut shut, Slot::A);
-    Ok(())
+    close(world, &mut shut, Slot::A)
 }
 
 /// Settles slot A on all drives, and tells which are left.
@@ -155,16 +160,26 @@ fn settled(world: &mut MemWorld) -> Result<[bool; 11], Missing> {
     Ok(members)
 }
 
+/// Stores a record in slot A, one of whose gates is closed then.
+fn store_with_one_closed(world: &mut MemWorld) -> Result<(), Missing> {
+    store_in(world, Slot::A, NEW)?;
+    close_one(world)
+}
+
+/// Whether settling leaves all drives but one that is pulled, with one write.
+fn settles(world: &mut MemWorld) -> Result<bool, Missing> {
+    forget(world);
+    pull(world, 8)?;
+    let left = settled(world)?;
+    Ok(are_all_but(&left, &[8]) && writes_of(world) == 1)
+}
+
 #[test]
 fn settling_opens_what_is_closed(rt: HostRuntime) -> Result<(), Missing> {
     let mut world = small_world(rt.alloc())?;
-    store_in(&mut world, Slot::A, NEW)?;
-    close_one(&mut world)?;
+    store_with_one_closed(&mut world)?;
     assert!(rt; !gate_is_open(&mut world, 6, Slot::A)?);
-    forget(&mut world);
-    pull(&mut world, 8)?;
-    assert!(rt; are_all_but(&settled(&mut world)?, &[8]));
-    assert!(rt; writes_of(&world) == 1);
+    assert!(rt; settles(&mut world)?);
     assert!(rt; gate_is_open(&mut world, 6, Slot::A)?);
     Ok(())
 }
@@ -190,10 +205,12 @@ fn all_show_old_or_new(world: &mut MemWorld) -> Result<bool, Missing> {
 /// What a stop leaves of a world that is cut off after so many calls of a store in slot B.
 fn cut_off(alloc: Global, world: MemWorld, calls: u64) -> Result<MemWorld, Missing> {
     let mut fused = Fused::new(world, calls);
-    if is_stored(&mut fused, &mut [true; 11], Slot::B, &[NEW; RECORD_BYTES])? {
-        return Err(Missing);
+    let answer = is_stored(&mut fused, &mut [true; 11], Slot::B, &[NEW; RECORD_BYTES]);
+    let world = fused.into_inner();
+    match answer {
+        Ok(false) => stopped(alloc, &world),
+        _ => Err(Missing),
     }
-    stopped(alloc, &fused.into_inner())
 }
 
 /// Whether, cut off after so many calls of a store in slot B, each drive shows the record in slot A still, and in slot B the new one or none.
@@ -204,21 +221,14 @@ fn keeps_old(alloc: Global, calls: u64) -> Result<bool, Missing> {
     all_show_old_or_new(&mut stopped)
 }
 
-#[test]
-fn a_stop_in_the_bodies_shows_the_old_record(rt: HostRuntime) -> Result<(), Missing> {
-    assert!(rt; keeps_old(rt.alloc(), 20)?);
-    Ok(())
-}
+/// After so many calls the store is in the bodies, before the gates, and in them.
+const CUTS: [u64; 3] = [20, 33, 40];
 
 #[test]
-fn a_stop_before_the_gates_shows_the_old_record(rt: HostRuntime) -> Result<(), Missing> {
-    assert!(rt; keeps_old(rt.alloc(), 33)?);
-    Ok(())
-}
-
-#[test]
-fn a_stop_in_the_gates_shows_the_old_record_or_the_new(rt: HostRuntime) -> Result<(), Missing> {
-    assert!(rt; keeps_old(rt.alloc(), 40)?);
+fn a_stop_in_a_store_shows_the_old_record_or_the_new(rt: HostRuntime) -> Result<(), Missing> {
+    for calls in &CUTS {
+        assert!(rt; keeps_old(rt.alloc(), *calls)?, "after {calls} calls");
+    }
     Ok(())
 }
 
@@ -240,16 +250,30 @@ fn is_in_force(alloc: Global, world: &mut MemWorld, slot: Slot, byte: u8) -> Res
     Ok(in_force(alloc, world)? == Some((slot, byte)))
 }
 
-/// Shows the new record in slot B of these drives alone, however few they are.
-fn show_new(world: &mut MemWorld, members: [bool; 11]) -> Result<(), Missing> {
-    let mut members = members;
+/// Writes the new record to slot B of these drives.
+fn write_new(world: &mut MemWorld, members: &mut [bool; 11]) -> Result<(), Missing> {
     if world.drives() != DRIVES || world.units() < 64 {
         return Err(Missing);
     }
-    close_gates(world, &mut members, Slot::B);
-    write_bodies(world, &mut members, Slot::B, &[NEW; RECORD_BYTES]);
-    open_gates(world, &mut members, Slot::B);
+    write_bodies(world, members, Slot::B, &[NEW; RECORD_BYTES]);
     Ok(())
+}
+
+/// Opens the gate of slot B on these drives.
+fn open(world: &mut MemWorld, members: &mut [bool; 11]) -> Result<(), Missing> {
+    if world.drives() != DRIVES || world.units() < 64 {
+        return Err(Missing);
+    }
+    open_gates(world, members, Slot::B);
+    Ok(())
+}
+
+/// Shows the new record in slot B of these drives alone, however few they are.
+fn show_new(world: &mut MemWorld, members: [bool; 11]) -> Result<(), Missing> {
+    let mut members = members;
+    close(world, &mut members, Slot::B)?;
+    write_new(world, &mut members)?;
+    open(world, &mut members)
 }
 
 /// Whether five drives which show the higher generation don't decide, and six do.
@@ -415,15 +439,10 @@ fn bring_back(world: &mut MemWorld) {
 
 /// Puts this byte all over what a store in slot B left unsynced on a drive.
 fn tear_drive(world: &mut MemWorld, drive: u8, failing: Failing, byte: u8) -> Result<(), Missing> {
-    if drive >= world.drives() || world.units() < 64 {
-        return Err(Missing);
-    }
-    let device = Device::Drive(DriveId(drive));
     match failing.first {
-        4 | 5 => write_synced(world, device, Slot::B.body(), &[byte; RECORD_BYTES])?,
-        _ => write_synced(world, device, Slot::B.gate(), &[byte; SECTOR_BYTES])?,
+        4 | 5 => write_drive(world, drive, Slot::B.body(), &[byte; RECORD_BYTES]),
+        _ => write_drive(world, drive, Slot::B.gate(), &[byte; SECTOR_BYTES]),
     }
-    Ok(())
 }
 
 /// What the drives hold that failed.
@@ -523,26 +542,21 @@ fn wrong_in_stores(
     wrong_in(alloc, &mut small_world(alloc)?, fails_on, torn)
 }
 
-#[test]
-fn three_drives_and_more_fail_at_a_call_of_a_store(rt: HostRuntime) -> Result<(), Missing> {
-    assert!(rt; wrong_in_stores(rt.alloc(), false, None)?.is_none());
-    Ok(())
-}
+/// What fails and what is left, whether the calls fail from one on, and what each byte is then of a write that failed.
+const FAILURES: [(&str, bool, Option<u8>); 4] = [
+    ("a call", false, None),
+    ("all from a call on", true, None),
+    ("all, which leave ones", true, Some(1)),
+    ("all, which leave zeros", true, Some(0)),
+];
 
 #[test]
-fn three_drives_and_more_fail_from_a_call_of_a_store_on(rt: HostRuntime) -> Result<(), Missing> {
-    assert!(rt; wrong_in_stores(rt.alloc(), true, None)?.is_none());
-    Ok(())
-}
-
-#[test]
-fn three_drives_and_more_fail_in_a_store_and_leave_ones(rt: HostRuntime) -> Result<(), Missing> {
-    assert!(rt; wrong_in_stores(rt.alloc(), true, Some(1))?.is_none());
-    Ok(())
-}
-
-#[test]
-fn three_drives_and_more_fail_in_a_store_and_leave_zeros(rt: HostRuntime) -> Result<(), Missing> {
-    assert!(rt; wrong_in_stores(rt.alloc(), true, Some(0))?.is_none());
+fn three_drives_and_more_fail_in_a_store(rt: HostRuntime) -> Result<(), Missing> {
+    for (what, fails_on, torn) in &FAILURES {
+        assert!(rt;
+            wrong_in_stores(rt.alloc(), *fails_on, *torn)?.is_none(),
+            "{what}"
+        );
+    }
     Ok(())
 }

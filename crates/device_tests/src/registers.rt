@@ -6,9 +6,9 @@ ghost use Rattle.register.specs.Registers.{IsRegisterOf};
 ghost use Rattle.register.specs.Tables.{with_tables};
 
 use crate::stage::{
-    Missing, all_but, body_at, body_of, fail, is_open, pull, read_sector, small_world,
+    Missing, all_but, body_at, fail, is_open, pull, pull_all, read_sector, small_world,
 };
-use boot_codec::{DRIVE_FLAGS, Members, read_record};
+use boot_codec::{DRIVE_FLAGS, Members, NextNumbers, Patches, read_record};
 use register::{Register, StoreFault, Tables};
 use std::alloc::Global;
 use world::Shelf;
@@ -39,22 +39,25 @@ fn register_at<S: Shelf>(
 }
 
 /// Tables without a patch, for which seven logged commands count as flushed.
-fn seven_flushed<S: Shelf>(alloc: Global, shelf: &S, register: &Register) -> Result<Tables, Missing>
-    requires { IsRegisterOf (geometry_of (S.shelf shelf.now)) register.now }
-    ensures { IfOk result (λ t. IsBootRecord (with_tables register.now.record t)) }
+fn seven_flushed<S: Shelf>(alloc: Global, _shelf: &S, register: &Register) -> Tables
+    requires { IsRegisterOf (geometry_of (S.shelf _shelf.now)) register.now }
+    ensures { IsBootRecord (with_tables register.now.record result) }
 {
-    match read_record(alloc, &body_of(1, 7), shelf.drives(), shelf.units()) {
-        Ok(record) => Ok(Tables {
-            patches: record.patches,
-            next: record.next,
-            flushed: record.flushed,
-        }),
-        Err(_) => Err(Missing),
+    Tables {
+        patches: Patches::new(alloc),
+        next: NextNumbers {
+            object: 1,
+            medium: 1,
+            segment: 1,
+            patch_segment: 1,
+            sequence: 1,
+        },
+        flushed: 7,
     }
 }
 
 /// What a store answered, and what the register holds behind it.
-#[derive(Drop)]
+#[derive(Clone, Copy)]
 struct Stored {
     fault: Option<StoreFault>,
     generation: u64,
@@ -132,9 +135,7 @@ fn a_drive_that_fails_is_named_no_longer(rt: HostRuntime) -> Result<(), Missing>
 #[test]
 fn eight_of_eleven_are_too_few(rt: HostRuntime) -> Result<(), Missing> {
     let mut world = small_world(rt.alloc())?;
-    for drive in [1, 5, 9] {
-        pull(&mut world, drive)?;
-    }
+    pull_all(&mut world, &[1, 5, 9])?;
     let stored = store_next(rt.alloc(), &mut world, true)?;
     assert!(rt; stored.fault == Some(StoreFault::TooFew(all_but(&[1, 5, 9]))));
     assert!(rt; stored.generation == 2);
@@ -164,7 +165,7 @@ fn the_last_generation_is_stored(rt: HostRuntime) -> Result<(), Missing> {
 /// Stores the record of a new shelf with other tables.
 fn store_tables(alloc: Global, world: &mut MemWorld) -> Result<Stored, Missing> {
     let mut register = register_at(alloc, world, &FIRST)?;
-    let tables = seven_flushed(alloc, world, &register)?;
+    let tables = seven_flushed(alloc, world, &register);
     let answer = register.store_tables(tables, world);
     Ok(behind(&register, answer))
 }

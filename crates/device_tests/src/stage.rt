@@ -3,8 +3,8 @@
 
 use boot_codec::{DRIVE_FLAGS, RECORD_BYTES, is_open_gate};
 use pur_base::{Device, DriveId, NoMemory, SECTOR_BYTES};
-use std::alloc::Global;
-use world::{Failed, Shelf};
+use std::alloc::{AllocError, Global};
+use world::{Failed, Shelf, write_synced};
 use world_mem::{Call, Choice, MemWorld, What};
 
 pub(crate) const DRIVES: u8 = 11;
@@ -15,6 +15,12 @@ pub(crate) struct Missing;
 
 impl From<NoMemory> for Missing {
     fn from(_error: NoMemory) -> Missing {
+        Missing
+    }
+}
+
+impl From<AllocError> for Missing {
+    fn from(_error: AllocError) -> Missing {
         Missing
     }
 }
@@ -68,6 +74,33 @@ pub(crate) fn pull(world: &mut MemWorld, drive: u8) -> Result<(), Missing> {
         return Err(Missing);
     }
     world.pull(Device::Drive(DriveId(drive)));
+    Ok(())
+}
+
+pub(crate) fn pull_all(world: &mut MemWorld, drives: &[u8]) -> Result<(), Missing> {
+    for drive in drives {
+        pull(world, *drive)?;
+    }
+    Ok(())
+}
+
+/// Writes these bytes to a drive at that place, and syncs it.
+pub(crate) fn write_drive(
+    world: &mut MemWorld,
+    drive: u8,
+    at: u64,
+    bytes: &[u8],
+) -> Result<(), Missing> {
+    if drive >= world.drives() || world.units() < 64 {
+        return Err(Missing);
+    }
+    if at > 1_000_000 || bytes.len() > RECORD_BYTES {
+        return Err(Missing);
+    }
+    if at % SECTOR_BYTES as u64 != 0 || bytes.len() % SECTOR_BYTES != 0 {
+        return Err(Missing);
+    }
+    write_synced(world, Device::Drive(DriveId(drive)), at, bytes)?;
     Ok(())
 }
 

@@ -1,0 +1,10 @@
+use Rattle.std.proofs.Common.{[]}
+use Rattle.pur_base.specs.Facts.{object_key, never}
+use Rattle.pur_base.specs.Visible.{is_within}
+use Rattle.pyramid.proofs.ShownLemmas.{shown_nothing}
+use Rattle.object_table.specs.Objects.{number}
+use Rattle.lower_tests.proofs.objects.empty_table.Goals as goal
+
+pub returns-clause-visible : goal.returns-clause-visible
+returns-clause-visible c =
+    shown_nothing object_key number never (is_within []) c.in_ok-table.table.visible (rw (c.in_ok-table.ensures.facts, c.in_ok-facts.ensures.0, c.in_ok-facts.ensures.1) at c.in_ok-table.ensures.visible)

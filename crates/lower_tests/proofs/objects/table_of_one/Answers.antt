@@ -1,0 +1,17 @@
+use Rattle.std.proofs.Common.{◌≡◌, ◌<◌, [], ap, ◌∙◌, arith, inl, inr}
+use Rattle.pur_base.specs.declared.facts.ObjectFact.{ObjectFact}
+use Rattle.pyramid.specs.Layers.{facts_in}
+use Rattle.pyramid.proofs.ContainsLemmas.{nowhere}
+use Rattle.pyramid.proofs.LayerLemmas.{all_contained}
+use Rattle.object_table.specs.Objects.{Objects}
+use Rattle.lower_tests.proofs.objects.table_of_one.Goals as goal
+
+pub returns-clause-numbers : goal.returns-clause-numbers
+returns-clause-numbers c =
+    let same = ap (λ (t : Objects). t.facts) c.reserve.ensures.rest in
+    let patches : c.add.new.self.facts.patches ≡ [] = c.in_ok-add.ensures.patches ∙ ap (λ l. l.patches) same ∙ c.in_ok-table.ensures.facts.0 in
+    let unflushed : c.reserve.new.self.facts.unflushed ≡ [] = ap (λ l. l.unflushed) same ∙ c.in_ok-table.ensures.facts.1 in
+    all_contained (λ (f : ObjectFact). f.seq.0 < 11) (facts_in c.add.new.self.facts) (λ f h. elim ((c.in_ok-add.ensures.facts f).0 (rw patches at h)) [
+      | inl old ↦ absurd (nowhere f (rw unflushed at old))
+      | inr is ↦ let at = ap (λ (g : ObjectFact). g.seq.0) is in omega (arith, at, c.volume.ensures.seq)
+    ])
