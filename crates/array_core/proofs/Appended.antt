@@ -22,11 +22,12 @@ use Rattle.world.specs.Losing.{geometry_of, has_risen, losing}
 use Rattle.world.specs.Shelf.{Shelved, Stop, Disk, IsShelf, Continues, MayStop, MayLeave, LeavesOnly}
 use Rattle.world.specs.Writes.{LeavesBut, WritesOnly}
 use Rattle.world.proofs.Moments.{then_run, weaker}
+use Rattle.world.proofs.Stopped.{as_read}
 use Rattle.boot_region.specs.Members.{IsMember}
 use Rattle.boot_region.specs.Storing.{IsInForceOn, IsOlder, StandsBut, AccountsFor}
 use Rattle.boot_region.proofs.Accounts.{losing_within}
 use Rattle.boot_region.proofs.Phases.{risen_on_way}
-use Rattle.boot_region.proofs.ShownLemmas.{as_read, member_below}
+use Rattle.boot_region.proofs.ShownLemmas.{member_below}
 use Rattle.nvram_log.specs.declared.log.NvLog.{NvLog}
 use Rattle.nvram_log.specs.Held.{HoldsOn, Keeps, LeavesBetween}
 use Rattle.nvram_log.specs.Members as nv

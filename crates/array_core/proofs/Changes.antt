@@ -98,11 +98,11 @@ only_faults a m n r now members left two drives nvrams logs dropped result lost 
     since_a i mem = subst (λ d. IsMember (drives_of now) i ⊎ LostWrites d (n.disk (drive i))) (drives i) (dropped i mem)
 
 -- an error is handed on
-pub faults_on : {T E T2 E2 : Type 0} {e : E} {old new : Shelved} {was now : Register} {members left : List Bool} (result : Result T2 E2) → OnlyFaults {T = T} (Err e) old new was now members left → OnlyFaults result old new was now members left
+pub faults_on : {T E U F : Type 0} {e : E} {old new : Shelved} {was now : Register} {members left : List Bool} (result : Result U F) → OnlyFaults {T = T} (Err e) old new was now members left → OnlyFaults result old new was now members left
 faults_on result x = record { holders = x.holders; drives = x.drives; lost = when_err result x.lost }
 
 -- one change after another, where the first leaves the log as it is
-pub faults_then : (start mid new : Shelved) → Continues start mid → Continues mid new → (r0 r1 r2 : Register) (members left : List Bool) → r1.record.slots ≡ r0.record.slots → {T E T2 E2 : Type 0} (first : Result T E) (result : Result T2 E2)
+pub faults_then : (start mid new : Shelved) → Continues start mid → Continues mid new → (r0 r1 r2 : Register) (members left : List Bool) → r1.record.slots ≡ r0.record.slots → {T E U F : Type 0} (first : Result T E) (result : Result U F)
     → OnlyFaults first start mid r0 r1 members members → OnlyFaults result mid new r1 r2 members left → OnlyFaults result start new r0 r2 members left
 faults_then start mid new on next r0 r1 r2 members left slots first result was now = record {
   holders = drops_then start mid new on next r0 r1 r2 members members left was.holders now.holders;

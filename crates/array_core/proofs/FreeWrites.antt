@@ -18,11 +18,12 @@ use Rattle.world.specs.declared.shelf.Span.{Span}
 use Rattle.world.specs.Writes.{LeavesBut}
 use Rattle.world.proofs.Moments.{weaker}
 use Rattle.world.proofs.Writes.{may_leave_but, counted_then}
+use Rattle.world.proofs.Stopped.{as_read}
 use Rattle.boot_region.specs.Members.{IsMember}
 use Rattle.boot_region.specs.Storing.{IsOlder}
 use Rattle.boot_region.proofs.Accounts.{losing_within}
 use Rattle.boot_region.proofs.Phases.{risen_on_way}
-use Rattle.boot_region.proofs.ShownLemmas.{as_read, member_below}
+use Rattle.boot_region.proofs.ShownLemmas.{member_below}
 use Rattle.nvram_log.specs.Members as nv
 use Rattle.register.specs.declared.state.Register.{Register}
 use Rattle.register.specs.Registers.{OnSlots, drives_of, named_sound, next_slot}

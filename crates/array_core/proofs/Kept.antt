@@ -15,8 +15,8 @@ use Rattle.world.specs.Shelf.{Shelved, Disk, Stop, MayStop, IsShelf}
 use Rattle.world.specs.Losing.{geometry_of}
 use Rattle.world.specs.Writes.{MayLeaveBut}
 use Rattle.world.proofs.Writes.{may_leave_but}
+use Rattle.world.proofs.Stopped.{as_read}
 use Rattle.boot_region.specs.Members.{IsMember}
-use Rattle.boot_region.proofs.ShownLemmas.{as_read}
 use Rattle.boot_region.specs.Storing.{Shows, IsOlder}
 use Rattle.register.specs.declared.state.Register.{Register}
 use Rattle.register.specs.Registers.{IsRegisterOf, drives_of, next_slot, own_slot}

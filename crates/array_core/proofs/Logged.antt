@@ -15,9 +15,9 @@ use Rattle.world.specs.Shelf.{Shelved, Disk, Stop, MayLeave, MayStop, IsShelf}
 use Rattle.world.specs.Losing.{geometry_of}
 use Rattle.world.specs.Writes.{LeavesBut, MayLeaveBut}
 use Rattle.world.proofs.Moments.{weaker}
+use Rattle.world.proofs.Stopped.{as_read}
 use Rattle.boot_region.specs.Members.{IsMember}
 use Rattle.boot_region.specs.Storing.{Shows, IsOlder}
-use Rattle.boot_region.proofs.ShownLemmas.{as_read}
 use Rattle.nvram_log.specs.Held.{LeavesBetween}
 use Rattle.nvram_log.specs.Members as nv
 use Rattle.register.specs.declared.state.Register.{Register}

@@ -14,9 +14,9 @@ use Rattle.world.specs.Losing.{geometry_of, has_risen}
 use Rattle.world.specs.Shelf.{Shelved, Disk, Stop, IsShelf, LeavesOnly}
 use Rattle.world.specs.Writes.{LeavesBut, WritesOnly}
 use Rattle.world.proofs.Moments.{weaker}
+use Rattle.world.proofs.Stopped.{as_read}
 use Rattle.boot_region.specs.Storing.{AccountsFor}
 use Rattle.boot_region.proofs.Accounts.{losing_within}
-use Rattle.boot_region.proofs.ShownLemmas.{as_read}
 use Rattle.nvram_log.specs.Held.{HoldsOn}
 use Rattle.nvram_log.specs.Members as nv
 use Rattle.nvram_log.specs.Slots.{IsLog}

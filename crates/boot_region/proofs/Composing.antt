@@ -21,10 +21,11 @@ use Rattle.array_spec.proofs.Settling.{opening_gives, opening_still_gives, closi
 use Rattle.array_spec.proofs.Spelled.{spells_one}
 use Rattle.world.specs.Shelf.{Shelved, Stop, MayStop, IsShelf}
 use Rattle.world.specs.Losing.{geometry_of, has_risen, IsLater}
+use Rattle.world.proofs.Stopped.{as_read}
 use Rattle.boot_region.specs.Storing.{SoundAreMembers, OnSound, OnlyBoot, IsOlder, AreOlder, Closes, Writes, Opens, IsInForceOn, MayFollow, StandsNow, AccountsFor}
 use Rattle.boot_region.proofs.Phases.{not_risen_before}
 use Rattle.boot_region.proofs.StillGiven.{closing_keeps}
-use Rattle.boot_region.proofs.ShownLemmas.{as_read, shown_body}
+use Rattle.boot_region.proofs.ShownLemmas.{shown_body}
 
 pub votes_not : (o : Option (List ℕ)) (other : List ℕ) → ((x : List ℕ) → o ≡ Some x → bytes_eq x other ≡ false) → is_vote other o ≡ false
 votes_not None other all = refl

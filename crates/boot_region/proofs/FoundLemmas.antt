@@ -3,7 +3,7 @@ use Rattle.std.proofs.Common.{◌≡◌, inl, inr, ℕ, zero, suc, ◌+◌, ◌-
 use Rattle.std.specs.List.{range_with_len}
 use Rattle.std.specs.Prelude.{◌==◌}
 use Rattle.std.proofs.lemmas.Bool.{cases_lt, cases_Bool}
-use Rattle.std.proofs.lemmas.List.{drop-take, get_or-take, get_or_past, ext_get_or}
+use Rattle.std.proofs.lemmas.List.{drop-take, get_or-take, get_or_past}
 use Rattle.pur_base.specs.Bytes.{bytes_at}
 use Rattle.pur_base.specs.Gates.{is_open}
 use Rattle.pur_base.specs.Plain.{Array}
@@ -14,8 +14,8 @@ use Rattle.boot_codec.specs.Region.{BootSlot, A, B, other_slot, IsRecordOf, IsEf
 use Rattle.boot_codec.specs.Spelling.{spelling}
 use Rattle.array_spec.specs.Standing.{MayBeGiven}
 use Rattle.world.specs.Losing.{geometry_of}
-use Rattle.world.specs.Shelf.{Shelved, Stop, Disk, IsShelf, IsInSome, IsSame, Continues, MayStop}
-use Rattle.world.specs.declared.shelf.Span.{Span}
+use Rattle.world.specs.Shelf.{Shelved, Stop, IsShelf, IsSame, Continues, MayStop}
+use Rattle.world.proofs.Stopped.{as_read}
 use Rattle.boot_region.specs.declared.loading.Loaded.{Loaded}
 use Rattle.boot_region.specs.declared.loading.LoadFault.{LoadFault}
 use Rattle.boot_region.specs.Members.{IsMember}
@@ -130,13 +130,8 @@ module _ (old new : Shelved) (x : Loaded) (missing : Conditions) (shelf_old : Is
     unfolding view
     view_unsound d not_sound = ap (λ (b : Bool). if b then Some (start.image d) else unsound d) not_sound
 
-    no_dirt : (disk : Disk) → disk.dirty ≡ [] → (i : ℕ) → IsInSome disk.dirty i → ⊥
-    no_dirt disk clean i is = subst (λ (l : List Span). IsInSome l i) clean is
-
     clean_image : (i : ℕ) → IsMember x.drives i → missing (drive i) ≡ Sound → start.image (drive i) ≡ (new.disk (drive i)).bytes
-    clean_image i member sound =
-        let leaves = may.device (drive i) in
-        ext_get_or 0 (start.image (drive i)) (new.disk (drive i)).bytes leaves.size (λ k lt. leaves.clean k (no_dirt (new.disk (drive i)) (tells.clean i member sound) k))
+    clean_image i member sound = as_read (new.disk (drive i)) (start.image (drive i)) (tells.clean i member sound) (may.device (drive i))
 
     is_sound_of : (c : Condition) → is_sound c ≡ true → c ≡ Sound
     is_sound_of Sound e = refl

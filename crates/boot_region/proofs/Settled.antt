@@ -23,13 +23,14 @@ use Rattle.world.specs.Counts.{Rises}
 use Rattle.world.specs.Losing.{geometry_of}
 use Rattle.world.specs.Shelf.{Shelved, Stop, MayStop, Continues, Disk, IsShelf, IsIn, IsInSome}
 use Rattle.world.specs.Writes.{LeavesBut, WritesOnly}
+use Rattle.world.proofs.Stopped.{as_read}
 use Rattle.boot_region.specs.Members.{IsMember, OnMembers, OnClosed, OneClosed, Opened}
 use Rattle.boot_region.specs.Storing.{GivesNoMore, SoundAreMembers, IsFound, IsInForceOn, IsLoaded, IsSeen, TellsFailed}
 use Rattle.boot_region.proofs.Began.{began, began_at, as_left, as_read_then, may_begin, differs}
 use Rattle.boot_region.proofs.Composing.{as_it_is, all_decide, is_sound_is}
 use Rattle.boot_region.proofs.StillGiven.{opening_keeps}
 use Rattle.boot_region.proofs.Phases.{risen_on_way, same_bodies, same_others, gates_low}
-use Rattle.boot_region.proofs.ShownLemmas.{opened, bodies_same, open_shows, member_below, as_read}
+use Rattle.boot_region.proofs.ShownLemmas.{opened, bodies_same, open_shows, member_below}
 
 pub leaves_members : (members : List Bool) (shelf : Shelved) (at : ℕ) (stop : Stop) → LeavesBut (OnClosed members shelf at) shelf stop → LeavesBut (OnMembers members at SECTOR_BYTES) shelf stop
 leaves_members members shelf at stop left = record {

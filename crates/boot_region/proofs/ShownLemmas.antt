@@ -2,7 +2,7 @@
 use Rattle.std.proofs.Common.{◌≡◌, ◌⊎◌, inl, inr, ℕ, ◌+◌, ◌*◌, ◌%◌, ◌≤◌, ◌<◌, List, [], length, take, drop, slice_index, get_or, refl, sym, ◌∙◌, ap, subst, arith, Bool, true, false, cond}
 use Rattle.std.specs.Prelude.{slice_index_or, slice_range, Some, None, IfSome, ◌==◌}
 use Rattle.std.proofs.lemmas.Bool.{cases_Bool, cases_lt, eqb-true}
-use Rattle.std.proofs.lemmas.List.{ext_get_or, get_or_past, length-take, length-drop, get_or-take, get_or-drop}
+use Rattle.std.proofs.lemmas.List.{get_or_past, length-take, length-drop, get_or-take, get_or-drop}
 use Rattle.std.proofs.lemmas.List.Edits.{get_or-between}
 use Rattle.std.proofs.lemmas.Grind.{same_number_lists}
 use Rattle.pur_base.specs.declared.limits.TheConstants.{SECTOR_BYTES, UNIT_BYTES, BOOT_UNITS}
@@ -12,8 +12,7 @@ use Rattle.boot_codec.specs.declared.limits.TheConstants.{RECORD_BYTES}
 use Rattle.boot_codec.specs.Gate.{gate_bytes}
 use Rattle.boot_codec.specs.Region.{BootSlot, A, B, other_slot, gate_place, body_place, body_in, shown_by}
 use Rattle.array_spec.proofs.Quiet.{bytes_same}
-use Rattle.world.specs.declared.shelf.Span.{Span}
-use Rattle.world.specs.Shelf.{Disk, MayLeave, IsIn, IsInSome, Written}
+use Rattle.world.specs.Shelf.{IsIn, Written}
 use Rattle.boot_region.specs.Members.{IsMember}
 
 gates_apart : (slot : BootSlot) → IsIn (record { start = gate_place slot; size = SECTOR_BYTES }) (gate_place (other_slot slot)) → ⊥
@@ -154,10 +153,6 @@ body_is at body old new size fits w = same_number_lists (take RECORD_BYTES (drop
         get_or-take RECORD_BYTES (drop at new) k 0 low ∙ get_or-drop at new k 0
         ∙ sym (get_or-between new at (at + length body) k 0 (omega (arith, low, size)))
         ∙ ap (λ (l : List ℕ). get_or l k 0) w.within
-
--- what a stop leaves of a device with no dirty range
-pub as_read : (disk : Disk) (bytes : List ℕ) → disk.dirty ≡ [] → MayLeave disk bytes → bytes ≡ disk.bytes
-as_read disk bytes none may = ext_get_or 0 bytes disk.bytes may.size (λ i lt. may.clean i (λ is. subst (λ (l : List Span). IsInSome l i) none is))
 
 -- a member is one of the list
 pub member_below : (members : List Bool) (i : ℕ) → IsMember members i → i < length members

@@ -2,12 +2,16 @@
 use Rattle.std.proofs.Common.{◌≡◌, ℕ, ◌*◌, ◌^◌, ◌<◌, List, [], ◌∷◌, ◌++◌, length, take, drop, refl, ap, sym, ◌∙◌, append_assoc, arith}
 use Rattle.std.specs.List.{AllByRecursion}
 use Rattle.std.specs.Int.{w16, w32, w64, from_be_bytes}
-use Rattle.std.proofs.lemmas.List.{take_at, drop_at, length-append}
+use Rattle.std.proofs.lemmas.List.{take_at, drop_at, length-append, length-replicate}
 use Rattle.std.proofs.lemmas.List.Concat.{flat_map-cons}
 use Rattle.std.proofs.lemmas.Nat.{from_be_bytes-to_be_bytes_2, from_be_bytes-to_be_bytes_4, from_be_bytes-to_be_bytes_8}
-use Rattle.pur_base.specs.Bytes.{u8, u16, u32, u64}
+use Rattle.pur_base.specs.Bytes.{u8, u16, u32, u64, zeros}
 use Rattle.pur_base.specs.declared.place.Place.{Place}
 use Rattle.byte_fields.specs.Places.{place_bytes, places_bytes, FitsBytes}
+
+-- zeros of some count are as many as they are
+pub zeros_are : (xs : List ℕ) (n : ℕ) → xs ≡ zeros n → xs ≡ zeros (length xs)
+zeros_are xs n e = e ∙ ap zeros (sym (ap length e ∙ length-replicate {A = ℕ} n 0))
 
 -- fronts of one length
 pub same_front : (a b r s : List ℕ) → length a ≡ length b → a ++ r ≡ b ++ s → (a ≡ b) × (r ≡ s)

@@ -14,10 +14,6 @@ use Rattle.fact_codec.specs.Heads.{head_bytes, head_of}
 use Rattle.fact_codec.specs.Values.{put_bytes}
 use Rattle.fact_codec.proofs.HeadLemmas.{spelled}
 
--- zeros are as many as they are
-pub zeros_are : (xs : List ℕ) (n : ℕ) → xs ≡ zeros n → xs ≡ zeros (length xs)
-zeros_are xs n e = e ∙ ap zeros (sym (ap length e ∙ length-replicate n 0))
-
 -- a name isn't longer than its room
 pub name_fits : (name : List ℕ) → is_name name ≡ true → length name ≤ NAME_BYTES
 name_fits name h = grind (arith, common_steps)

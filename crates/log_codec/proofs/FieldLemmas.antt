@@ -12,7 +12,7 @@ use Rattle.log_codec.specs.declared.parts.Parts.{Parts}
 use Rattle.log_codec.specs.Head.{kind_code, first_name, second_name, fill_byte, sector_count, first_lba, second_lba, head_fields, head_bytes, IsName, IsCommand, IsHead, Decodes}
 use Rattle.log_codec.specs.Fields.{AreFields, IsText, IsFrame, AreIn}
 use Rattle.log_codec.specs.Parts.{ArePartsOf}
-use Rattle.byte_fields.proofs.SpellingLemmas.{same_front, same_u8, same_u32, same_u64}
+use Rattle.byte_fields.proofs.SpellingLemmas.{same_front, same_u8, same_u32, same_u64, zeros_are}
 
 -- ---- what a command's parts fit
 
@@ -41,10 +41,6 @@ fits _ is = absurd is
 
 pub length-padded : (n : List ℕ) → length n ≤ 24 → length (padded NAME_BYTES n) ≡ 24
 length-padded n within = omega (arith, length-append n (zeros (24 - length n)), length-replicate {A = ℕ} (24 - length n) 0)
-
--- zeros are as many as they are
-zeros_are : (xs : List ℕ) (n : ℕ) → xs ≡ zeros n → xs ≡ zeros (length xs)
-zeros_are xs n e = e ∙ ap zeros (sym (ap length e ∙ length-replicate {A = ℕ} n 0))
 
 text_is : (len : ℕ) (field n : List ℕ) → length n ≤ 24 → len ≡ length n → field ≡ padded NAME_BYTES n → IsText len field
 text_is len field n within len_is is =

@@ -12,12 +12,12 @@ use Rattle.log_codec.specs.Log.{Spells, slot_at, ShowsIn}
 use Rattle.log_codec.proofs.OneHead.{one_command, same_heads}
 use Rattle.world.specs.Shelf.{Shelved, Stop, IsShelf, IsIn}
 use Rattle.world.specs.Writes.{LeavesBut}
+use Rattle.world.proofs.Stopped.{none_dirty}
 use Rattle.nvram_log.specs.Members.{IsMember, OnRange}
 use Rattle.nvram_log.specs.Slots.{IsBetween, IsLog}
 use Rattle.nvram_log.specs.Held.{HoldsOn, LeavesBetween}
 use Rattle.nvram_log.proofs.Lists.{some_at}
 use Rattle.nvram_log.proofs.Showing.{AreImages, same_slot, same_gate, closed_shows}
-use Rattle.nvram_log.proofs.Storing.{none_dirty}
 
 -- a slot spells one number
 pub one_number : (bytes : List ℕ) (m n : ℕ) (c d : Command) → Spells bytes m c → Spells bytes n d → m ≡ n

@@ -14,13 +14,13 @@ use Rattle.log_codec.proofs.OneHead.{one_command}
 use Rattle.world.specs.declared.streams.Failed.{Failed}
 use Rattle.world.specs.Shelf.{Disk, MayLeave}
 use Rattle.world.specs.Writes.{MayLeaveBut, ChangesOnly}
+use Rattle.world.proofs.Stopped.{none_dirty}
 use Rattle.nvram_log.specs.declared.seen.SeenSlots.{SeenSlots}
 use Rattle.nvram_log.specs.Slots.{IsLog}
 use Rattle.nvram_log.specs.Members.{IsFlagged}
 use Rattle.nvram_log.specs.Settling.{OnDevice, OnGates, OnSlots, GatesAre, SlotsAre, IsToSettle, SettlesBy}
 use Rattle.nvram_log.proofs.Closing.{one_number}
 use Rattle.nvram_log.proofs.Lists.{some_at}
-use Rattle.nvram_log.proofs.Storing.{none_dirty}
 use Rattle.nvram_log.proofs.Showing.{AreImages, same_gate, same_slot, shows_too, closed_shows}
 
 -- the bytes with the flagged ones as they were

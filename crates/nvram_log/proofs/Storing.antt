@@ -9,10 +9,10 @@ use Rattle.pur_base.specs.Devices.{nvram}
 use Rattle.pur_base.specs.declared.device.Device.{Device}
 use Rattle.pur_base.specs.declared.device.Device.TheVariants.{Drive, Nv}
 use Rattle.log_codec.specs.Log.{Spells, slot_at}
-use Rattle.world.specs.declared.shelf.Span.{Span}
 use Rattle.world.specs.Counts.{Rises}
-use Rattle.world.specs.Shelf.{Shelved, Stop, Disk, IsShelf, IsIn, IsInSome, Written}
+use Rattle.world.specs.Shelf.{Shelved, Stop, Disk, IsShelf, IsIn, Written}
 use Rattle.world.specs.Writes.{WritesOnly, LeavesBut, MayLeaveBut, ChangesOnly}
+use Rattle.world.proofs.Stopped.{none_dirty}
 use Rattle.nvram_log.specs.declared.record.Record.{Record}
 use Rattle.nvram_log.specs.Members.{IsMember, IsOnMember, IsFewer, OnMembers, OnRange, Outcome}
 use Rattle.nvram_log.specs.Records.{commands_of, command_of, slot_place, OnSlotsFrom, StandFrom, SpellFrom}
@@ -21,10 +21,6 @@ use Rattle.nvram_log.specs.Held.{HoldsOn, LeavesBetween}
 use Rattle.nvram_log.proofs.Lists.{get_left, brought}
 use Rattle.nvram_log.proofs.Along.{spells_along}
 use Rattle.nvram_log.proofs.Showing.{AreImages, unwritten, opening, opened}
-
--- no byte of a clean disk is dirty
-pub none_dirty : (disk : Disk) → disk.dirty ≡ [] → (i : ℕ) → IsInSome disk.dirty i → ⊥
-none_dirty disk clean i is = subst (λ (l : List Span). IsInSome l i) clean is
 
 -- there are two devices
 pub member_below : (members : List Bool) (n : ℕ) → length members ≡ 2 → IsMember members n → n < 2

@@ -4,7 +4,7 @@ use Rattle.std.specs.Prelude.{Option, Some, None, Contains, slice_get, slice_ind
 use Rattle.std.specs.List.{range_with_len}
 use Rattle.std.specs.Str.{bytes_eq}
 use Rattle.std.specs.Cmp.Lexicographic.{same_text}
-use Rattle.std.proofs.lemmas.Bool.{cases_Bool, cases_lt}
+use Rattle.std.proofs.lemmas.Bool.{cases_Bool}
 use Rattle.std.proofs.lemmas.List.{take_all, append-nil, get_or_past}
 use Rattle.std.proofs.lemmas.List.FromFn.{length-map-range_with_len}
 use Rattle.std.proofs.lemmas.Slice.Eq.{bytes_eq-Decides}
@@ -35,9 +35,10 @@ use Rattle.world.specs.Shelf.{Shelved, Stop, IsShelf, MayLeave}
 use Rattle.world.specs.Writes.{LeavesBut}
 use Rattle.boot_region.specs.Members.{IsMember, OnSlot}
 use Rattle.world.specs.Losing.{geometry_of}
+use Rattle.world.proofs.Stopped.{as_read}
 use Rattle.boot_region.specs.Storing.{IsOpening}
 use Rattle.boot_region.proofs.Composing.{all_decide, as_it_is}
-use Rattle.boot_region.proofs.ShownLemmas.{as_read, shown_body}
+use Rattle.boot_region.proofs.ShownLemmas.{shown_body}
 use Rattle.nvram_log.specs.Members as nv
 use Rattle.register.specs.declared.state.Register.{Register}
 use Rattle.register.specs.Registers.{drives_of, own_slot, next_slot, next_record}

@@ -5,7 +5,7 @@ use Rattle.std.proofs.lemmas.Bool.{cases_Bool, cases_lt}
 use Rattle.std.proofs.lemmas.List.{take_all, append-nil}
 use Rattle.pur_base.specs.declared.device.Device.{Device}
 use Rattle.pur_base.specs.declared.device.Device.TheVariants as dev
-use Rattle.pur_base.specs.Devices.{View, Condition, Conditions, Sound, Missing, LeftOut, MayBecome, MayShowAs, IsBearable, IsWithin, IsOn, drive, nvram}
+use Rattle.pur_base.specs.Devices.{View, Condition, Conditions, Sound, Missing, LeftOut, MayShowAs, IsBearable, IsWithin, IsOn, drive, nvram}
 use Rattle.pur_base.specs.Plain.{Array}
 use Rattle.pur_base.specs.Commands.{Command, AllAccepted, after_all}
 use Rattle.boot_codec.specs.declared.record.BootRecord.{BootRecord}
@@ -24,10 +24,10 @@ use Rattle.array_spec.proofs.Settling.{this_or_other, twice_other}
 use Rattle.array_spec.proofs.Spelled.{spells_one}
 use Rattle.world.specs.Shelf.{Shelved, Stop, MayStop, IsShelf}
 use Rattle.world.specs.Losing.{geometry_of}
+use Rattle.world.proofs.Stopped.{as_read}
 use Rattle.boot_region.specs.Members.{IsMember}
 use Rattle.boot_region.specs.Storing.{StandsNow, OnlyBoot, IsInForceOn, MayFollow}
 use Rattle.boot_region.proofs.Composing.{all_decide, as_it_is}
-use Rattle.boot_region.proofs.ShownLemmas.{as_read}
 use Rattle.nvram_log.specs.Members as nv
 use Rattle.register.specs.Registers.{next_record}
 use Rattle.register.specs.Standing.{Content, ShowsOn, array_of}

@@ -1,10 +1,10 @@
 -- A record that stands on each drive that is sound, over an older one: it alone is in force, and the devices stand for the array of the log.
-use Rattle.std.proofs.Common.{◌≡◌, ◌≢◌, ◌⊎◌, inl, inr, ℕ, zero, suc, ◌+◌, ◌*◌, ◌-◌, ◌^◌, ◌≤◌, ◌<◌, List, [], length, take, refl, sym, ◌∙◌, ap, subst, arith, Bool, true, false}
-use Rattle.std.specs.Prelude.{Some, None, Option, Contains, count_by}
+use Rattle.std.proofs.Common.{◌≡◌, ◌≢◌, ◌⊎◌, inl, inr, ℕ, ◌+◌, ◌*◌, ◌-◌, ◌^◌, ◌≤◌, ◌<◌, List, [], length, take, refl, sym, ◌∙◌, ap, subst, arith, Bool, true, false}
+use Rattle.std.specs.Prelude.{Some, Contains, count_by}
 use Rattle.std.specs.List.{range_with_len}
 use Rattle.std.specs.Str.{bytes_eq}
 use Rattle.std.specs.Cmp.Lexicographic.{same_text}
-use Rattle.std.proofs.lemmas.Bool.{cases_Bool, cases_lt}
+use Rattle.std.proofs.lemmas.Bool.{cases_Bool}
 use Rattle.std.proofs.lemmas.List.{take_all, append-nil}
 use Rattle.pur_base.specs.Devices.{Conditions, Sound, LeftOut, IsBearable, IsOn, is_sound, drive, nvram}
 use Rattle.pur_base.specs.declared.device.Device.{Device}
@@ -13,23 +13,24 @@ use Rattle.pur_base.specs.Plain.{Array}
 use Rattle.pur_base.specs.Commands.{Command, after_all}
 use Rattle.boot_codec.specs.declared.record.BootRecord.{BootRecord}
 use Rattle.boot_codec.specs.Spelling.{spelling}
-use Rattle.boot_codec.specs.Region.{BootSlot, A, B, other_slot, body_in, shown_by, slot_of, generation_in, names, is_vote, Yields}
+use Rattle.boot_codec.specs.Region.{BootSlot, A, other_slot, body_in, shown_by, slot_of, generation_in, names, Yields}
 use Rattle.log_codec.specs.Log.{ShowsIn}
 use Rattle.array_spec.specs.Standing.{Stands, MayBeGiven, MayAppear, IsReadInto}
 use Rattle.array_spec.specs.Laws.{IsHeld, is_sound_vote}
 use Rattle.array_spec.specs.Unflushed.{LogLies, NamesSound}
 use Rattle.stored_spec.specs.Held.{NamesNoneLeftOut}
 use Rattle.stored_spec.proofs.Reading.{record_is_read}
-use Rattle.array_spec.proofs.Votes.{counted, one_is_effective, held_is_given}
+use Rattle.array_spec.proofs.Votes.{one_is_effective, held_is_given}
 use Rattle.array_spec.proofs.Held.{held_stands}
 use Rattle.array_spec.proofs.Settling.{twice_other}
 use Rattle.array_spec.proofs.Spelled.{spells_one}
 use Rattle.world.specs.Shelf.{Shelved, Stop, MayStop, IsShelf}
 use Rattle.world.specs.Losing.{geometry_of}
+use Rattle.world.proofs.Stopped.{as_read}
 use Rattle.boot_region.specs.Members.{IsMember}
 use Rattle.boot_region.specs.Storing.{Shows, IsOlder, IsInForceOn}
 use Rattle.boot_region.proofs.Composing.{as_it_is, is_sound_is, votes_not}
-use Rattle.boot_region.proofs.ShownLemmas.{as_read, shown_body}
+use Rattle.boot_region.proofs.ShownLemmas.{shown_body}
 use Rattle.nvram_log.specs.Members as nv
 use Rattle.register.specs.declared.state.Register.{Register}
 use Rattle.register.specs.Registers.{drives_of, next_slot}

@@ -26,9 +26,10 @@ use Rattle.stored_spec.proofs.Next.{data_is_held}
 use Rattle.world.specs.Shelf.{Shelved, Disk, Stop, IsShelf, IsInSome, MayLeave, MayStop, IsCountedBy, Continues, LeavesOnly}
 use Rattle.world.specs.Losing.{geometry_of}
 use Rattle.world.proofs.Moments.{weaker}
+use Rattle.world.proofs.Stopped.{as_read}
 use Rattle.boot_region.specs.Members.{IsMember}
 use Rattle.boot_region.specs.Storing.{OnlyBoot, IsOlder, IsFirmOn, IsInForceOn, IsStored, MayFollow, StandsAgain, StandsBut, WasGiven, AccountsFor}
-use Rattle.boot_region.proofs.ShownLemmas.{as_read, shown_body}
+use Rattle.boot_region.proofs.ShownLemmas.{shown_body}
 use Rattle.nvram_log.specs.Members as nv
 use Rattle.nvram_log.specs.Slots.{IsLog}
 use Rattle.nvram_log.proofs.Closing.{one_number}

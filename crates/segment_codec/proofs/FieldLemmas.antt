@@ -1,7 +1,6 @@
 -- The fields that stand in a sector, and the header that the sector spells.
 use Rattle.std.proofs.Common.{◌≡◌, ℕ, ◌-◌, ◌^◌, ◌<◌, List, ◌++◌, length, refl, ap, sym, ◌∙◌, arith}
 use Rattle.std.specs.Prelude.{codes}
-use Rattle.std.proofs.lemmas.List.{length-replicate}
 use Rattle.pur_base.specs.Bytes.{u8, u16, u32, u64, zeros}
 use Rattle.pur_base.specs.declared.limits.TheConstants.{SECTOR_BYTES}
 use Rattle.segment_codec.specs.declared.kind.SegmentKind.{SegmentKind}
@@ -11,7 +10,7 @@ use Rattle.segment_codec.specs.declared.fields.Fields.{Fields}
 use Rattle.byte_fields.specs.Places.{places_bytes}
 use Rattle.segment_codec.specs.Header.{kind_code, header_fields, header_bytes, IsHeader, IsLawful, Decodes}
 use Rattle.segment_codec.specs.Fields.{AreFields, IsFrame}
-use Rattle.byte_fields.proofs.SpellingLemmas.{same_front, same_u8, same_u16, same_u32, same_u64, same_places, length-places_bytes}
+use Rattle.byte_fields.proofs.SpellingLemmas.{same_front, same_u8, same_u16, same_u32, same_u64, same_places, length-places_bytes, zeros_are}
 
 -- the zeros behind a header's fields
 abbrev behind : Header → List ℕ
@@ -42,10 +41,6 @@ spelled h = refl
 
 length-header_fields : (h : Header) → length h.places ≡ 9 → SECTOR_BYTES - length (header_fields h) ≡ 445
 length-header_fields h nine = omega (arith, length-places_bytes h.places)
-
--- zeros are as many as they are
-zeros_are : (xs : List ℕ) (n : ℕ) → xs ≡ zeros n → xs ≡ zeros (length xs)
-zeros_are xs n e = e ∙ ap zeros (sym (ap length e ∙ length-replicate n 0))
 
 placed_fits : (h : Header) → IsHeader h → h.placed < 2 ^ 16
 placed_fits h fits = omega (arith, fits.lawful.placed.1)

@@ -2,15 +2,14 @@
 use Rattle.std.proofs.Common.{◌≡◌, ◌⊎◌, inl, inr, ℕ, zero, suc, ◌+◌, ◌<◌, Bool, false, cond, List, [], ◌∷◌, length, map, refl, sym, ◌∙◌, ap, subst, arith}
 use Rattle.std.specs.Prelude.{Option, Some, None, IfSome, is_some, is_none, count_by, option_map}
 use Rattle.std.specs.List.{AllZip}
-use Rattle.std.proofs.lemmas.List.{ext_get_or}
 use Rattle.std.proofs.lemmas.List.Sums.{sum_by-cons}
 use Rattle.pur_base.specs.Bytes.{bytes_at}
 use Rattle.pur_base.specs.Devices.{Image, View, drive}
 use Rattle.pur_base.specs.declared.place.Place.{Place}
 use Rattle.parity72.specs.Parity.{shard_of}
 use Rattle.segment_codec.specs.Stripes.{write_unit, StripeStands}
-use Rattle.world.specs.declared.shelf.Span.{Span}
-use Rattle.world.specs.Shelf.{Shelved, Disk, Stop, MayStop, MayLeave, IsInSome}
+use Rattle.world.specs.Shelf.{Shelved, Stop, MayStop}
+use Rattle.world.proofs.Stopped.{as_read}
 use Rattle.segment_io.specs.Lost.{is_in}
 use Rattle.segment_io.specs.Places.{place_of, drive_of, write_unit_at}
 use Rattle.segment_io.specs.Stripes.{bytes_of, HoldsStripe}
@@ -58,16 +57,12 @@ stripe_shown image places lost view stripe shards nine there holds shows = recor
     one : (k : ℕ) → k < 9 → IfSome (write_unit (stripe + 1) (place_of places k) view) (λ bytes. bytes ≡ shard_of shards k)
     one k lt = here (view (drive_of places k)) k lt (shows.each k lt)
 
--- a stop leaves a clean device as it is
-pub clean_stays : (disk : Disk) (bytes : List ℕ) → disk.dirty ≡ [] → MayLeave disk bytes → bytes ≡ disk.bytes
-clean_stays disk bytes clean may = ext_get_or 0 bytes disk.bytes may.size (λ i lt. may.clean i (λ is. subst (λ (l : List Span). IsInSome l i) clean is))
-
 -- so what stands on clean drives stands at a stop
 pub holds_at_stop : (shelf : Shelved) (places : List Place) (lost : List Bool) (stripe : ℕ) (shards : List (List ℕ)) (stop : Stop) → MayStop shelf stop
     → ((shard : ℕ) → shard < 9 → is_in lost (place_of places shard).slot ≡ false → (shelf.disk (drive_of places shard)).dirty ≡ [])
     → HoldsStripe (bytes_of shelf) places lost stripe shards → HoldsStripe stop.image places lost stripe shards
 holds_at_stop shelf places lost stripe shards stop may clean holds = record {
   codeword = holds.codeword;
-  units = λ k lt none. ap (bytes_at (write_unit_at (place_of places k) (stripe + 1)) 4096) (clean_stays (shelf.disk (drive_of places k)) (stop.image (drive_of places k)) (clean k lt none) (may.device (drive_of places k)))
+  units = λ k lt none. ap (bytes_at (write_unit_at (place_of places k) (stripe + 1)) 4096) (as_read (shelf.disk (drive_of places k)) (stop.image (drive_of places k)) (clean k lt none) (may.device (drive_of places k)))
       ∙ holds.units k lt none;
 }

@@ -1,17 +1,16 @@
 -- What one session leaves is what the next one asks for.
 use Rattle.std.proofs.Common.{◌≡◌, ◌⊎◌, inl, inr, ℕ, List, [], length, refl, sym, ◌∙◌, ap, subst, Bool, true, false}
 use Rattle.std.specs.Prelude.{◌≤◌, Option, Some, None, IsTrue, count_by}
-use Rattle.std.proofs.lemmas.List.{ext_get_or}
 use Rattle.pur_base.specs.declared.device.Device.{Device}
 use Rattle.pur_base.specs.Bytes.{zeros}
 use Rattle.pur_base.specs.Gates.{is_open}
 use Rattle.pur_base.specs.Devices.{Geometry, Image, Condition, Conditions, Sound, Missing, LeftOut, MayBecome, MayShowAs, IsWithin, IsBearable, is_missing, slots_of, nvrams, drive, nvram}
 use Rattle.pur_base.specs.Plain.{Array}
-use Rattle.world.specs.declared.shelf.Span.{Span}
 use Rattle.world.specs.Streams.{Streamed}
 use Rattle.world.proofs.Moments.{quiet_refl, quiet_now}
-use Rattle.world.specs.Shelf.{IsShelf, Shelved, Stop, MayStop, MayLeave, Disk, IsInSome}
+use Rattle.world.specs.Shelf.{IsShelf, Shelved, Stop, MayStop}
 use Rattle.world.specs.Losing.{losing, geometry_of, has_failed}
+use Rattle.world.proofs.Stopped.{as_read}
 use Rattle.boot_codec.specs.declared.record.BootRecord.{BootRecord}
 use Rattle.boot_codec.specs.Region.{BootSlot}
 use Rattle.log_codec.specs.Log.{ShowsIn}
@@ -210,10 +209,6 @@ pub goes_on_at_once : (shelf : Shelved) → GoesOnAtOnce shelf
 goes_on_at_once shelf now arrays s bearable room = enters shelf now arrays (geometry_of shelf) refl bearable s.clean s.standing room
 
 -- ---- nothing done
-
--- what a stop leaves of a device with no dirty range
-as_read : (disk : Disk) (bytes : List ℕ) → disk.dirty ≡ [] → MayLeave disk bytes → bytes ≡ disk.bytes
-as_read disk bytes none may = ext_get_or 0 bytes disk.bytes may.size (λ i lt. may.clean i (λ is. subst (λ (l : List Span). IsInSome l i) none is))
 
 given_with_fewer : {shelf : Geometry} {image : Image} {missing more : Conditions} {slot : BootSlot} {boot : BootRecord} → IsWithin missing more → MayBeGiven shelf image more slot boot → MayBeGiven shelf image missing slot boot
 given_with_fewer {missing = missing} {more = more} w g = record {

@@ -13,13 +13,13 @@ use Rattle.boot_codec.specs.Region.{BootSlot, A, B, IsRecordOf, gate_place, body
 use Rattle.boot_codec.specs.Spelling.{spelling}
 use Rattle.log_codec.specs.declared.limits.TheConstants.{LOG_SLOTS}
 use Rattle.world.specs.declared.streams.Failed.{Failed}
-use Rattle.world.specs.declared.shelf.Span.{Span}
 use Rattle.world.specs.Losing.{geometry_of}
-use Rattle.world.specs.Shelf.{Shelved, Disk, Stop, IsOf, IsIn, IsInSome, IsShelf, Continues, LeavesOnly, OthersStay, Written}
+use Rattle.world.specs.Shelf.{Shelved, Disk, Stop, IsOf, IsIn, IsShelf, Continues, LeavesOnly, OthersStay, Written}
 use Rattle.world.specs.Writes.{OneRange, WritesOnly, LeavesBut, MayLeaveBut}
 use Rattle.world.specs.Ran.{Only}
 use Rattle.world.proofs.Moments.{then_run, weaker, still_of}
 use Rattle.world.proofs.Writes.{writes_more}
+use Rattle.world.proofs.Stopped.{none_dirty}
 use Rattle.boot_region.specs.Members.{IsMember, IsDrive, IsOneOf, OnMembers, OnSlot}
 use Rattle.boot_region.specs.Regions.{CountsStay}
 use Rattle.boot_region.proofs.ShownLemmas.{closed_shows, gates_stay, bodies_same, other_same, opened, body_low, body_is, shows_written}
@@ -84,12 +84,9 @@ one_clean a b device others here clean d = elim (same_device d device) [
 
 -- ---- stops
 
-no_dirt : (disk : Disk) → disk.dirty ≡ [] → (i : ℕ) → IsInSome disk.dirty i → ⊥
-no_dirt disk clean i is = subst (λ (l : List Span). IsInSome l i) clean is
-
 -- outside of what is written, a stop leaves what a clean device holds
 pub left_clean : {W : ℕ → Type 0} (disk : Disk) (bytes : List ℕ) → disk.dirty ≡ [] → MayLeaveBut W disk bytes → (k : ℕ) → (W k → ⊥) → slice_index bytes k ≡ slice_index disk.bytes k
-left_clean {W} disk bytes clean may k out = may.same k (no_dirt disk clean k) out
+left_clean {W} disk bytes clean may k out = may.same k (none_dirty disk clean k) out
 
 pub same_geometry : (a b : Shelved) → Continues a b → geometry_of b ≡ geometry_of a
 same_geometry a b on =

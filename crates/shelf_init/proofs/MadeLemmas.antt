@@ -18,7 +18,8 @@ use Rattle.array_spec.proofs.Votes.{counted, held_is_given, one_is_effective}
 use Rattle.session_spec.specs.Entering.{AreRead, HasRoom}
 use Rattle.world.specs.Losing.{geometry_of}
 use Rattle.world.specs.Shelf.{Shelved, Stop, MayStop, IsShelf}
-use Rattle.boot_region.proofs.ShownLemmas.{as_read, closed_shows, shown_body}
+use Rattle.world.proofs.Stopped.{as_read}
+use Rattle.boot_region.proofs.ShownLemmas.{closed_shows, shown_body}
 use Rattle.session_spec.specs.First.{first_record}
 use Rattle.shelf_init.specs.Blank.{IsShut, HasNoCommand}
 use Rattle.session_spec.specs.Making.{AreClean, none_missing}

@@ -23,6 +23,7 @@ use Rattle.world.specs.Losing.{geometry_of}
 use Rattle.world.specs.Shelf.{Shelved, Stop, IsShelf, IsSame, Continues, MayStop, LeavesOnly}
 use Rattle.world.specs.Writes.{LeavesBut, WritesOnly}
 use Rattle.world.proofs.Moments.{then_run, weaker}
+use Rattle.world.proofs.Stopped.{as_read}
 use Rattle.boot_region.specs.declared.loading.Loaded.{Loaded}
 use Rattle.boot_region.specs.declared.slot.Slot.{Slot}
 use Rattle.boot_region.specs.Loading.{IsLoadBy, MayBeSettled, TellsHolding}
@@ -31,7 +32,7 @@ use Rattle.boot_region.specs.Regions.{is_holding}
 use Rattle.boot_region.specs.Slots.{slot_in}
 use Rattle.boot_region.specs.Storing.{IsLoaded, StandsAgain, StandsNow}
 use Rattle.boot_region.proofs.Composing.{all_decide, as_it_is, none_decided, votes_not}
-use Rattle.boot_region.proofs.ShownLemmas.{as_read, bodies_same, shown_body}
+use Rattle.boot_region.proofs.ShownLemmas.{bodies_same, shown_body}
 use Rattle.boot_region.proofs.StillGiven.{yields_or}
 use Rattle.boot_region.proofs.Stored.{lost, lost_within, never_sound, others_lost, others_not_sound, others_within}
 use Rattle.register.proofs.Follows.{shows_itself}

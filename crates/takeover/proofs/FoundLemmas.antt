@@ -18,6 +18,7 @@ use Rattle.world.specs.Losing.{geometry_of, has_risen}
 use Rattle.world.specs.Shelf.{Shelved, Stop, IsShelf, IsSame, Continues, MayStop, MayLeave, LeavesOnly}
 use Rattle.world.specs.Writes.{LeavesBut, WritesOnly}
 use Rattle.world.proofs.Moments.{then_run, weaker}
+use Rattle.world.proofs.Stopped.{as_read}
 use Rattle.boot_region.specs.declared.loading.Loaded.{Loaded}
 use Rattle.boot_region.specs.Members.{IsMember, OnClosed}
 use Rattle.boot_region.specs.Slots.{slot_in}
@@ -26,7 +27,7 @@ use Rattle.boot_region.specs.Loading.{IsLoadBy, TellsHolding, MayBeSettled}
 use Rattle.boot_region.specs.Storing.{StandsNow, IsLoaded, IsFound, IsInForceOn, TellsFailed}
 use Rattle.boot_region.proofs.Accounts.{losing_within}
 use Rattle.boot_region.proofs.FoundLemmas.{body_stands, drive_below}
-use Rattle.boot_region.proofs.ShownLemmas.{as_read, bodies_same}
+use Rattle.boot_region.proofs.ShownLemmas.{bodies_same}
 use Rattle.takeover.proofs.NoFault.{few_lack}
 use Rattle.session_spec.specs.Entering.{Enters, AreRead, StandsStill, read_now, failed_since, failed_by}
 use Rattle.session_spec.proofs.Resumed.{nothing_done}

@@ -18,6 +18,7 @@ use Rattle.array_spec.proofs.Standings.{more_may_go_missing}
 use Rattle.world.specs.Losing.{geometry_of, has_risen}
 use Rattle.world.specs.Shelf.{Shelved, Stop, Disk, IsShelf, IsSame, Continues, MayStop, MayLeave}
 use Rattle.world.specs.declared.shelf.Span.{Span}
+use Rattle.world.proofs.Stopped.{as_read}
 use Rattle.boot_region.specs.Members.{IsMember}
 use Rattle.boot_region.specs.Regions.{region_at, seen, is_holding, is_body_in, IsRead}
 use Rattle.boot_region.specs.Loading.{IsHeld}
@@ -25,7 +26,6 @@ use Rattle.boot_region.proofs.Accounts.{losing_within}
 use Rattle.boot_region.proofs.Composing.{as_it_is, is_sound_is}
 use Rattle.boot_region.proofs.FoundLemmas.{same_body, same_shown, same_over}
 use Rattle.boot_region.proofs.Phases.{risen_on_way}
-use Rattle.boot_region.proofs.ShownLemmas.{as_read}
 use Rattle.session_spec.specs.Entering.{Enters, failed_since}
 use Rattle.array_core.proofs.Losses.{sound_since}
 

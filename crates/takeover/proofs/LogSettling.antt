@@ -31,10 +31,10 @@ use Rattle.stored_spec.proofs.Unique.{one_base}
 use Rattle.world.specs.Losing.{geometry_of, has_risen, missing_if}
 use Rattle.world.specs.Shelf.{Shelved, Stop, Disk, IsShelf, MayStop, MayLeave}
 use Rattle.world.specs.Writes.{LeavesBut, WritesOnly}
+use Rattle.world.proofs.Stopped.{as_read}
 use Rattle.boot_region.specs.declared.loading.Loaded.{Loaded}
 use Rattle.boot_region.specs.Slots.{slot_in}
 use Rattle.boot_region.proofs.Composing.{as_it_is, is_sound_is}
-use Rattle.boot_region.proofs.ShownLemmas.{as_read}
 use Rattle.nvram_log.specs.Held.{shown_by as shown_of}
 use Rattle.nvram_log.specs.Members.{IsMember, IsFewer, OnMembers}
 use Rattle.nvram_log.specs.Read.{OnNothing}

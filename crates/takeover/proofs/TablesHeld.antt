@@ -25,10 +25,10 @@ use Rattle.stored_spec.proofs.Members.{enough_hold}
 use Rattle.stored_spec.proofs.Unique.{one_base, one_patches}
 use Rattle.world.specs.Losing.{geometry_of}
 use Rattle.world.specs.Shelf.{Shelved, Stop, IsShelf, MayStop}
+use Rattle.world.proofs.Stopped.{as_read}
 use Rattle.boot_region.specs.declared.loading.Loaded.{Loaded}
 use Rattle.boot_region.specs.Slots.{slot_in}
 use Rattle.boot_region.proofs.Composing.{as_it_is, is_sound_is}
-use Rattle.boot_region.proofs.ShownLemmas.{as_read}
 use Rattle.register.proofs.Follows.{shows_itself}
 use Rattle.session_spec.specs.Entering.{read_now}
 use Rattle.takeover.specs.Found.{IsFoundOn}

@@ -1,15 +1,11 @@
 -- What a stop leaves of two writes, the second behind the first.
-use Rattle.std.proofs.Common.{◌≡◌, ◌⊎◌, inl, inr, ℕ, ◌+◌, ◌≤◌, List, [], length, ◌∙◌, subst, arith}
+use Rattle.std.proofs.Common.{◌≡◌, ◌⊎◌, inl, inr, ℕ, ◌+◌, ◌≤◌, List, [], length, ◌∙◌, arith}
 use Rattle.pur_base.specs.declared.device.Device.{Device}
-use Rattle.world.specs.declared.shelf.Span.{Span}
-use Rattle.world.specs.Shelf.{Shelved, Stop, Disk, IsInSome, Written}
+use Rattle.world.specs.Shelf.{Shelved, Stop, Written}
 use Rattle.world.specs.Writes.{OneRange, LeavesBut}
 use Rattle.world.proofs.Bytes.{same_part}
+use Rattle.world.proofs.Stopped.{none_dirty}
 use Rattle.world_clients.specs.Turns.{IsInTurn}
-
--- no byte of a clean disk is dirty
-none_dirty : (disk : Disk) → disk.dirty ≡ [] → (i : ℕ) → IsInSome disk.dirty i → ⊥
-none_dirty disk clean i is = subst (λ (l : List Span). IsInSome l i) clean is
 
 pub first_turn : (s : Shelved) (device : Device) (at : ℕ) (first : List ℕ) (then n : ℕ) → ((at + length first ≤ then) ⊎ (then + n ≤ at)) → (s.disk device).dirty ≡ []
     → (stop : Stop) → LeavesBut (OneRange device at (length first)) s stop → IsInTurn s device at first then n stop
