@@ -54,12 +54,7 @@ impl Page {
     }
 }
 
-/// The text of a name, none of whose letters JSON writes in another way.
+/// The text of a name.
 pub fn name_text(name: &Name) -> &str {
     std::str::from_utf8(name.as_bytes()).unwrap_or("?")
-}
-
-/// What stands in front of an item of a list: a comma, but at the first one.
-pub fn comma(index: usize) -> &'static str {
-    if index == 0 { "" } else { "," }
 }
