@@ -32,6 +32,7 @@ use Rattle.array_memory.specs.Kept.{Kept, IsKept}
 use Rattle.array_memory.specs.declared.plan.Plan.{Plan}
 use Rattle.array_memory.specs.Plan.{IsPlanFor}
 use Rattle.array_memory.proofs.PlanLemmas.{new_id}
+use Rattle.array_memory.proofs.SoundLemmas.{sound_ranges}
 
 -- ---- segments
 
@@ -120,4 +121,5 @@ module _ (k n : Kept) (p : Plan) (newest : List AddressFact) (flags : List Bool)
     next = sound.next;
     ids = sound.ids;
     numbers = sound.numbers;
+    ranges = sound_ranges n.memory sound;
   }

@@ -82,6 +82,7 @@ staged_kept o m a s e el st st2 r r2 n h = record {
   next = h.next;
   ids = h.ids;
   numbers = record { below = h.numbers.below; distinct = h.numbers.distinct };
+  ranges = h.ranges;
 }
 
 module _ (o : Objects) (m : Layers MediumFact) (a a2 : Layers AddressFact) (s : Segments) (e : Layers ElisionFact) (el : ElidedRanges) (st : List (List ℕ)) (r : ℕ) (n n2 : NextNumbers)
@@ -128,6 +129,7 @@ module _ (o : Objects) (m : Layers MediumFact) (a a2 : Layers AddressFact) (s : 
         (λ x w. rw w.2 (run_numbers w.0 w.1))
         (λ x y v w same. v.2 ∙ ap any.Address (run_distinct medium first n.sequence ts v.0 w.0 v.1 w.1 (sym (ap any_number v.2) ∙ same ∙ ap any_number w.2)) ∙ sym w.2)
         h.numbers;
+    ranges = h.ranges;
   }
 
   -- addresses with the next numbers were added
@@ -195,4 +197,5 @@ module _ (o o2 : Objects) (m : Layers MediumFact) (a : Layers AddressFact) (s : 
         (λ y is. rw is (omega (arith, number_is_next), omega (arith, number_is_next)))
         (λ y z p q same. p ∙ sym q)
         h.numbers;
+    ranges = h.ranges;
   }

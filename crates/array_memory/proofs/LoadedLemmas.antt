@@ -1,7 +1,7 @@
 -- Memory of tables that were loaded is sound, and what is kept beside them is what they say.
 use Rattle.std.proofs.Common.{◌≡◌, ◌≢◌, ℕ, ◌<◌, ◌≤◌, List, [], ◌++◌, map, sym, ap, subst, ◌∙◌, inl, inr, Some, All, Contains, append-nil}
 use Rattle.std.specs.Prelude.{IsTrue, Result, Ok, Err, IfOk}
-use Rattle.std.proofs.lemmas.List.Elements.{All-contains, recursion_from_All, Contains-append_left}
+use Rattle.std.proofs.lemmas.List.Elements.{All-contains, recursion_from_All}
 use Rattle.pur_base.specs.Devices.{Geometry}
 use Rattle.pur_base.specs.Facts.{Facts, any_number, object_key, medium_key, address_key, segment_key, elision_key, never}
 use Rattle.pur_base.specs.Plain.{Array}
@@ -26,24 +26,22 @@ use Rattle.elision.specs.Ranges.{ElidedRanges, ranges_of, AreApart}
 use Rattle.pyramid.specs.Layers.{Layers, facts_in, facts_of, Rises}
 use Rattle.pyramid.specs.Shown.{IsShown}
 use Rattle.pyramid.proofs.ContainsLemmas.{nowhere}
-use Rattle.pyramid.proofs.LayerLemmas.{all_contained}
 use Rattle.object_table.specs.Objects.{Objects}
 use Rattle.segment_table.specs.Segments.{Segments}
 use Rattle.array_spec.specs.Sound.{AreSound, AreIdsBelow, AreObjectsSound, AreMediumsSound, AreAddressesSound, AreElisionsSound}
 use Rattle.array_spec.specs.Stored.{all_facts, in_patches}
 use Rattle.memory_spec.specs.Memory.{Memory, Contents, FactsRead, FitsTarget, FitsInMemory, AreAddressesThere, AreNumbered, IsSound, ReadsAs}
 use Rattle.memory_spec.specs.Tables.{facts, patches, all_of}
-use Rattle.memory_spec.proofs.AllTables.{all_elisions, of_all}
+use Rattle.memory_spec.proofs.AllTables.{of_all}
 use Rattle.memory_spec.proofs.Lists.{of_each, pairs_of}
 use Rattle.memory_spec.proofs.Objects.{object_is, in_objects}
 use Rattle.table_soundness.specs.Elided.{AreElidedBy, IsRange}
 use Rattle.table_soundness.specs.Faults.{facts_in as facts_loaded, patches_in, AreLawful, AreNamed}
 use Rattle.table_soundness.specs.declared.tables.LoadedTables.{LoadedTables}
-use Rattle.table_soundness.proofs.FaultLemmas.{elided_ranges}
 use Rattle.table_soundness.proofs.SoundLemmas.{all_joined, same_facts, parts_from_sequences}
 use Rattle.array_memory.specs.Kept.{kept_of, IsKept}
 use Rattle.array_memory.specs.Loaded.{memory_of, with_room_of, HasOnly, IsLoaded, AreInSegments}
-use Rattle.array_memory.proofs.SoundLemmas.{plain, sound_as}
+use Rattle.array_memory.proofs.SoundLemmas.{plain, ranges_of_patches, sound_as, sound_ranges}
 
 -- what holds of a result holds of it with less
 pub if_ok : {T E : Type 0} (r : Result T E) (P Q : T → Type 0) → ((x : T) → P x → Q x) → IfOk r P → IfOk r Q
@@ -188,6 +186,7 @@ module _ (el : ElidedRanges) (e : Layers ElisionFact) (flushed : e.unflushed ≡
     next = is.next;
     ids = is.ids;
     numbers = is.numbers;
+    ranges = sound_ranges (kept_of o d a s e el st r n).memory is;
   }
 
   -- objects that sound facts say have names of their own
@@ -207,11 +206,10 @@ module _ (el : ElidedRanges) (e : Layers ElisionFact) (flushed : e.unflushed ≡
           in_objects (facts (memory_of o d a s e n).tables) n.object z.object.0 z said
           (of_each (λ (f : ObjectFact). (f.object.0 < n.object) × (f.medium.0 < n.medium)) (facts_in o) z is.ids.objects found.0).0
 
--- elisions of sound memory elide ranges
-pub sound_ranges : (o : Layers ObjectFact) (d : Layers MediumFact) (a : Layers AddressFact) (s : Layers SegmentFact) (e : Layers ElisionFact) (n : NextNumbers) → IsSound (memory_of o d a s e n) → e.unflushed ≡ []
+-- so elisions of the patches are of ranges
+pub loaded_ranges : (o : Layers ObjectFact) (d : Layers MediumFact) (a : Layers AddressFact) (s : Layers SegmentFact) (e : Layers ElisionFact) (n : NextNumbers) → IsSound (memory_of o d a s e n)
     → All IsRange (facts_of e.patches)
-sound_ranges o d a s e n is flushed = elided_ranges (facts_of e.patches) (all_contained (λ f. IsFact (any.Elision f)) (facts_of e.patches) (λ f c.
-    is.fit (any.Elision f) (all_elisions (facts (memory_of o d a s e n).tables) f (Contains-append_left (facts_of e.patches) e.unflushed f c))))
+loaded_ranges o d a s e n is = ranges_of_patches e (sound_ranges (memory_of o d a s e n) is)
 
 -- ---- what loading asks
 

@@ -12,9 +12,8 @@ use Rattle.boot_codec.specs.Record.{AreNext}
 use Rattle.fact_codec.specs.declared.limits.TheConstants.{NUMBER_LIMIT}
 use Rattle.elision.specs.Ranges.{ElidedRanges, ranges_of}
 use Rattle.pyramid.specs.Shown.{IsShown}
-use Rattle.pyramid.proofs.KeyLemmas.{within_elided}
 use Rattle.array_spec.specs.Sound.{next_id, AreIdsBelow}
-use Rattle.memory_spec.specs.Tables.{facts}
+use Rattle.memory_spec.specs.Tables.{facts, flushed}
 use Rattle.memory_spec.specs.Memory.{Memory, IsSound}
 use Rattle.memory_spec.proofs.Lists.{each_by_recursion, of_each}
 use Rattle.checkpoint_spec.specs.Flushing.{IsShrunk}
@@ -23,15 +22,17 @@ use Rattle.checkpoint_spec.specs.Whole.{AreLayered}
 use Rattle.checkpoint_spec.proofs.Merged.{merge_shrinks, one_merge_is_merge}
 use Rattle.checkpoint_spec.proofs.Shrinking.{shrunk_sound}
 use Rattle.array_memory.specs.Kept.{Kept, IsKept}
+use Rattle.array_memory.proofs.SoundLemmas.{sound_ranges}
 
 -- ---- what is merged
 
--- the ranges of a table elide what its elisions do
-pub elided_test : (k : Kept) (t u : Table) (ranges : List (ℕ × ℕ)) → IsKept k → ranges ≡ ranges_of k.elided t → t ≡ u → u ≢ table.Elision → is_within ranges ≡ is_elided (facts k.memory.tables).elisions u
-elided_test k t u ranges h is same ne = λ i id. all id i
+-- the ranges of a table elide what its stored elisions do
+pub elided_test : (k : Kept) (e : ElidedRanges) (t u : Table) (ranges : List (ℕ × ℕ)) → ((x : Table) → x ≢ table.Elision → (id : ℕ) → is_elided (flushed k.memory.tables).elisions x id ≡ is_within (ranges_of e x) id)
+    → ranges ≡ ranges_of e t → t ≡ u → u ≢ table.Elision → is_within ranges ≡ is_elided (flushed k.memory.tables).elisions u
+elided_test k e t u ranges by is same ne = λ i id. all id i
   where
-    all : (id : ℕ) → is_within ranges id ≡ is_elided (facts k.memory.tables).elisions u id
-    all id = ap (λ rs. is_within rs id) (is ∙ ap (λ x. ranges_of k.elided x) same) ∙ sym (within_elided (facts k.memory.tables).elisions u (ranges_of k.elided u) id (h.elided u ne))
+    all : (id : ℕ) → is_within ranges id ≡ is_elided (flushed k.memory.tables).elisions u id
+    all id = ap (λ rs. is_within rs id) (is ∙ ap (λ x. ranges_of e x) same) ∙ sym (by u ne id)
 
 -- ---- what stays kept
 
@@ -111,4 +112,5 @@ module _ (k n : Kept) (t : Table) (i count : ℕ) (h : IsKept k) (s : IsSound k.
       below = λ f c. subst (λ (m : NextNumbers). any_number f < m.sequence) (sym next) (sound.numbers.below f c);
       distinct = sound.numbers.distinct;
     };
+    ranges = sound_ranges Put sound;
   }

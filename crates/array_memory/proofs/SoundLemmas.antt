@@ -1,10 +1,19 @@
 -- Of what memory being sound depends.
-use Rattle.std.proofs.Common.{◌≡◌, ℕ, List, [], refl, sym, subst}
+use Rattle.std.proofs.Common.{◌≡◌, ℕ, List, [], refl, sym, subst, All}
+use Rattle.std.proofs.lemmas.List.Elements.{All-contains, Contains-append_left}
 use Rattle.pur_base.specs.Facts.{Facts}
 use Rattle.pur_base.specs.Plain.{Array}
+use Rattle.pur_base.specs.declared.facts.ElisionFact.{ElisionFact}
+use Rattle.pur_base.specs.declared.facts.AnyFact.TheVariants as any
 use Rattle.boot_codec.specs.declared.record.NextNumbers.{NextNumbers}
+use Rattle.fact_codec.specs.Fact.{IsFact}
+use Rattle.pyramid.specs.Layers.{Layers, facts_in, facts_of}
+use Rattle.pyramid.proofs.LayerLemmas.{all_contained}
 use Rattle.memory_spec.specs.Memory.{Memory, Contents, IsSound, ReadsAs}
 use Rattle.memory_spec.specs.Tables.{facts}
+use Rattle.memory_spec.proofs.AllTables.{all_elisions}
+use Rattle.table_soundness.specs.Elided.{IsRange}
+use Rattle.table_soundness.proofs.FaultLemmas.{elided_ranges}
 use Rattle.array_memory.specs.Kept.{Kept, with_rooms}
 
 -- the memory of these facts, of which none is flushed
@@ -58,3 +67,11 @@ sound_as m n f st ne s =
 pub reads_with_rooms : (was now : Kept) → now ≡ with_rooms was now → (contents : Contents) (array : Array) → ReadsAs contents was.memory array → ReadsAs contents now.memory array
 reads_with_rooms was now rest contents array r =
     subst (λ (k : Kept). ReadsAs contents k.memory array) (sym rest) (record { sound = sound_as was.memory (with_rooms was now).memory refl refl refl r.sound; reads = r.reads })
+
+-- its elisions are of ranges
+pub sound_ranges : (m : Memory) → IsSound m → All IsRange (facts m.tables).elisions
+sound_ranges m s = elided_ranges (facts m.tables).elisions (all_contained (λ f. IsFact (any.Elision f)) (facts m.tables).elisions (λ f c. s.fit (any.Elision f) (all_elisions (facts m.tables) f c)))
+
+-- and so are those of patches
+pub ranges_of_patches : (e : Layers ElisionFact) → All IsRange (facts_in e) → All IsRange (facts_of e.patches)
+ranges_of_patches e h = all_contained IsRange (facts_of e.patches) (λ f c. All-contains IsRange (facts_in e) f h (Contains-append_left (facts_of e.patches) e.unflushed f c))

@@ -1,5 +1,5 @@
 -- What the calls of an array's memory see of it.
-use Rattle.std.specs.Prelude.{◌≢◌, ◌≡◌, ◌≤◌, ℕ, List}
+use Rattle.std.specs.Prelude.{◌≢◌, ◌≡◌, ◌≤◌, ℕ, List, All}
 use Rattle.pur_base.specs.Facts.{object_key, segment_key, never}
 use Rattle.pur_base.specs.Visible.{is_elided, AreElidedRanges}
 use Rattle.pur_base.specs.declared.request.Table.{Table}
@@ -16,6 +16,7 @@ use Rattle.pyramid.specs.Layers.{Layers}
 use Rattle.pyramid.specs.Shown.{IsShown}
 use Rattle.object_table.specs.Objects.{Objects}
 use Rattle.segment_table.specs.Segments.{Segments}
+use Rattle.table_soundness.specs.Elided.{IsRange}
 use Rattle.array_spec.specs.Sound.{AreIdsBelow}
 use Rattle.memory_spec.specs.Tables.{Tables, facts}
 use Rattle.memory_spec.specs.Memory.{Memory, AreNumbered}
@@ -50,7 +51,7 @@ kept_of o m a s e elided staged room next = record {
   staged_room = room;
 }
 
--- What is kept beside the tables is what their facts say. Ids and numbers of all facts are below the next ones.
+-- What is kept beside the tables is what their facts say. Ids and numbers of all facts are below the next ones, and each elision is of a range.
 pub record IsKept (k : Kept) : Type 0 where
   pub objects : IsShown object_key (λ f. f.seq.0) never (facts k.memory.tables).objects (is_elided (facts k.memory.tables).elisions table.Object) k.objects
   pub segments : IsShown segment_key (λ f. f.seq.0) never (facts k.memory.tables).segments (is_elided (facts k.memory.tables).elisions table.Segment) k.segments
@@ -58,6 +59,7 @@ pub record IsKept (k : Kept) : Type 0 where
   pub next : AreNext k.memory.next
   pub ids : AreIdsBelow k.memory.next (facts k.memory.tables)
   pub numbers : AreNumbered k.memory
+  pub ranges : All IsRange (facts k.memory.tables).elisions
 
 -- no patch of a table was added or taken away
 pub record HasSamePatches (was now : Tables) : Type 0 where

@@ -1,11 +1,13 @@
 -- A merge leaves out facts alone, and says the same.
 use Rattle.std.proofs.Common.{◌≡◌, ℕ, suc, ◌+◌, ◌<◌, Bool, true, false, List, [], ◌∷◌, ◌++◌, length, take, drop, get_or, refl, sym, ap, ◌∙◌, arith, inl, inr, subst, Option, option_map, Contains, IsTrue, ◌==◌}
+use Rattle.std.proofs.lemmas.Bool.{or_left}
 use Rattle.std.proofs.lemmas.List.Elements.{Contains-append_left, Contains-append_right, Contains-append_cases}
+use Rattle.std.proofs.lemmas.List.Folds.{list_any-append}
 use Rattle.pur_base.specs.Facts.{object_key, medium_key, address_key, segment_key, elision_key, never, is_empty_range, apart, is_narrower}
 use Rattle.pur_base.specs.FactLaws.{narrower_is_transitive}
 use Rattle.pur_base.specs.Keys.{key_of, id_of}
 use Rattle.pur_base.specs.Says.{says}
-use Rattle.pur_base.specs.Visible.{is_elided}
+use Rattle.pur_base.specs.Visible.{elides, is_elided}
 use Rattle.pur_base.specs.declared.request.Table.{Table}
 use Rattle.pur_base.specs.declared.request.Table.TheVariants as table
 use Rattle.pur_base.specs.declared.facts.AddressFact.{AddressFact}
@@ -14,11 +16,11 @@ use Rattle.pyramid.specs.Layers.{Layers, IsLayered, IsApart, AreCovered, Grow, s
 use Rattle.pyramid.proofs.CoverLemmas.{cover_replaced, cover_rewritten}
 use Rattle.pyramid.proofs.ElisionLemmas.{same_ids}
 use Rattle.pyramid.proofs.PlaceLemmas.{replaced, facts_patches, facts_replaced, facts_split, says_merged, says_rewritten}
-use Rattle.memory_spec.specs.Tables.{facts}
-use Rattle.memory_spec.specs.Memory.{Memory, IsSound}
+use Rattle.memory_spec.specs.Tables.{Tables, facts, flushed}
+use Rattle.memory_spec.specs.Memory.{Memory}
 use Rattle.checkpoint_spec.specs.Whole.{AreLayered}
 use Rattle.checkpoint_spec.specs.Flushing.{AreOf}
-use Rattle.checkpoint_spec.specs.Merging.{IsTableMerged, IsTableRewritten, IsCompacted, IsMerge, MergeShrinks, IsMergedAt, OneMergeIsMerge}
+use Rattle.checkpoint_spec.specs.Merging.{HaveShrunk, IsTableMerged, IsTableRewritten, IsCompacted, IsMerge, MergeShrinks, OneMergeIsMerge}
 use Rattle.checkpoint_spec.proofs.Elided.{says_where}
 use Rattle.checkpoint_spec.proofs.Flushed.{grows_all}
 
@@ -77,15 +79,17 @@ module _ {F : Type 0} (key number : F → ℕ) (empty : F → Bool) (within : F 
 
   -- ---- they say the same
 
+  -- wherever at least the ids are elided by which it left out facts
   pub compacted_says : IsLayered key number was.patches was.unflushed → IsApart within → IsCompacted key number empty within elided was now
-      → (after : ℕ → Bool) → ((id : ℕ) → after id ≡ elided id) → (k : ℕ) → says key number empty (facts_in now) after k ≡ says key number empty (facts_in was) elided k
-  compacted_says layered none h after same k = says_where key number empty (facts_in now) elided after k (same (id_of k)) ∙ elim h [
-    | inl e ↦ ap (λ l. says key number empty l elided k) e
+      → (before after : ℕ → Bool) → ((id : ℕ) → IsTrue (elided id) → IsTrue (before id)) → ((id : ℕ) → after id ≡ before id)
+      → (k : ℕ) → says key number empty (facts_in now) after k ≡ says key number empty (facts_in was) before k
+  compacted_says layered none h before after wider same k = says_where key number empty (facts_in now) before after k (same (id_of k)) ∙ elim h [
+    | inl e ↦ ap (λ l. says key number empty l before k) e
     | inr other ↦ elim other [
-      | inl m ↦ subst (λ l. says key number empty l elided k ≡ says key number empty (facts_in was) elided k) (merged_are m)
-          (says_merged key number empty within elided was.patches m.at m.patch was.unflushed m.there layered.rises m.made none elided (λ id e. e) k)
-      | inr w ↦ subst (λ l. says key number empty l elided k ≡ says key number empty (facts_in was) elided k) (rewritten_are w)
-          (says_rewritten key number empty within elided was.patches w.patch was.unflushed w.only layered.rises w.made none elided (λ id e. e) k)
+      | inl m ↦ subst (λ l. says key number empty l before k ≡ says key number empty (facts_in was) before k) (merged_are m)
+          (says_merged key number empty within elided was.patches m.at m.patch was.unflushed m.there layered.rises m.made none before wider k)
+      | inr w ↦ subst (λ l. says key number empty l before k ≡ says key number empty (facts_in was) before k) (rewritten_are w)
+          (says_rewritten key number empty within elided was.patches w.patch was.unflushed w.only layered.rises w.made none before wider k)
     ]
   ]
 
@@ -110,34 +114,58 @@ elisions_covered was now grow h = elim h [
 none_lies : {F : Type 0} → IsApart {F = F} apart
 none_lies f g e = cc
 
-module _ (was now : Memory) (s : IsSound was) (l : AreLayered was.tables) (h : IsMerge was now) where
+-- what elisions of patches elide is elided
+stored_elide : (t : Tables) (x : Table) (id : ℕ) → IsTrue (is_elided (flushed t).elisions x id) → IsTrue (is_elided (facts t).elisions x id)
+stored_elide t x id e =
+    let old = facts_of t.elisions.patches in
+    list_any-append (elides x id) old t.elisions.unflushed ∙ or_left (is_elided old x id) (is_elided t.elisions.unflushed x id) e
+
+module _ (was now : Memory) (l : AreLayered was.tables) (h : IsMerge was now) (grow : Grow elision_key (λ f. f.seq.0) is_narrower (facts was.tables).elisions) where
   same_elided : (t : Table) (id : ℕ) → is_elided (facts now.tables).elisions t id ≡ is_elided (facts was.tables).elisions t id
-  same_elided t id = same_ids (facts was.tables).elisions (facts now.tables).elisions
-      (elisions_covered was.tables.elisions now.tables.elisions (grows_all (facts was.tables).elisions s.elisions) h.elisions)
+  same_elided t id = same_ids (facts was.tables).elisions (facts now.tables).elisions (elisions_covered was.tables.elisions now.tables.elisions grow h.elisions)
       (compacted_within elision_key (λ f. f.seq.0) never is_narrower (λ id. false) was.tables.elisions now.tables.elisions h.elisions) t id
 
+  -- of memory that need not be sound, if newer elisions of a key are wider
+  pub facts_shrink : HaveShrunk (facts was.tables) (facts now.tables)
+  facts_shrink =
+      let test : Table → ℕ → Bool = λ t. is_elided (flushed was.tables).elisions t in
+      let before : Table → ℕ → Bool = λ t. is_elided (facts was.tables).elisions t in
+      let after : Table → ℕ → Bool = λ t. is_elided (facts now.tables).elisions t in
+      record {
+        objects = compacted_within object_key (λ f. f.seq.0) never apart (test table.Object) was.tables.objects now.tables.objects h.objects;
+        mediums = compacted_within medium_key (λ f. f.seq.0) is_empty_range apart (test table.Medium) was.tables.mediums now.tables.mediums h.mediums;
+        addresses = compacted_within address_key (λ f. f.seq.0) never apart (test table.Address) was.tables.addresses now.tables.addresses h.addresses;
+        segments = compacted_within segment_key (λ f. f.seq.0) never apart (test table.Segment) was.tables.segments now.tables.segments h.segments;
+        elisions = compacted_within elision_key (λ f. f.seq.0) never is_narrower (λ id. false) was.tables.elisions now.tables.elisions h.elisions;
+        same = record {
+          objects = λ id. compacted_says object_key (λ f. f.seq.0) never apart (test table.Object) was.tables.objects now.tables.objects l.objects none_lies h.objects
+              (before table.Object) (after table.Object) (stored_elide was.tables table.Object) (same_elided table.Object) (key_of id 0);
+          ranges = λ m start. compacted_says medium_key (λ f. f.seq.0) is_empty_range apart (test table.Medium) was.tables.mediums now.tables.mediums l.mediums none_lies h.mediums
+              (before table.Medium) (after table.Medium) (stored_elide was.tables table.Medium) (same_elided table.Medium) (key_of m start);
+          addresses = λ m x. ap (λ o. option_map (λ (f : AddressFact). f.target) o)
+              (compacted_says address_key (λ f. f.seq.0) never apart (test table.Address) was.tables.addresses now.tables.addresses l.addresses none_lies h.addresses
+              (before table.Address) (after table.Address) (stored_elide was.tables table.Address) (same_elided table.Address) (key_of m x));
+        };
+        same_segments = λ id. compacted_says segment_key (λ f. f.seq.0) never apart (test table.Segment) was.tables.segments now.tables.segments l.segments none_lies h.segments
+            (before table.Segment) (after table.Segment) (stored_elide was.tables table.Segment) (same_elided table.Segment) (key_of id 0);
+        same_elided = same_elided;
+      }
+
 pub merge_shrinks : MergeShrinks
-merge_shrinks was now s l h = record {
-  objects = compacted_within object_key (λ f. f.seq.0) never apart (is_elided (facts was.tables).elisions table.Object) was.tables.objects now.tables.objects h.objects;
-  mediums = compacted_within medium_key (λ f. f.seq.0) is_empty_range apart (is_elided (facts was.tables).elisions table.Medium) was.tables.mediums now.tables.mediums h.mediums;
-  addresses = compacted_within address_key (λ f. f.seq.0) never apart (is_elided (facts was.tables).elisions table.Address) was.tables.addresses now.tables.addresses h.addresses;
-  segments = compacted_within segment_key (λ f. f.seq.0) never apart (is_elided (facts was.tables).elisions table.Segment) was.tables.segments now.tables.segments h.segments;
-  elisions = compacted_within elision_key (λ f. f.seq.0) never is_narrower (λ id. false) was.tables.elisions now.tables.elisions h.elisions;
-  same = record {
-    objects = λ id. compacted_says object_key (λ f. f.seq.0) never apart (is_elided (facts was.tables).elisions table.Object) was.tables.objects now.tables.objects l.objects none_lies h.objects
-        (is_elided (facts now.tables).elisions table.Object) (same_elided was now s l h table.Object) (key_of id 0);
-    ranges = λ m start. compacted_says medium_key (λ f. f.seq.0) is_empty_range apart (is_elided (facts was.tables).elisions table.Medium) was.tables.mediums now.tables.mediums l.mediums none_lies h.mediums
-        (is_elided (facts now.tables).elisions table.Medium) (same_elided was now s l h table.Medium) (key_of m start);
-    addresses = λ m x. ap (λ o. option_map (λ (f : AddressFact). f.target) o)
-        (compacted_says address_key (λ f. f.seq.0) never apart (is_elided (facts was.tables).elisions table.Address) was.tables.addresses now.tables.addresses l.addresses none_lies h.addresses
-        (is_elided (facts now.tables).elisions table.Address) (same_elided was now s l h table.Address) (key_of m x));
-  };
-  same_segments = λ id. compacted_says segment_key (λ f. f.seq.0) never apart (is_elided (facts was.tables).elisions table.Segment) was.tables.segments now.tables.segments l.segments none_lies h.segments
-      (is_elided (facts now.tables).elisions table.Segment) (same_elided was now s l h table.Segment) (key_of id 0);
-  same_elided = same_elided was now s l h;
-  staged = h.staged;
-  next = h.next;
-}
+merge_shrinks was now s l h =
+    let shrunk = facts_shrink was now l h (grows_all (facts was.tables).elisions s.elisions) in
+    record {
+      objects = shrunk.objects;
+      mediums = shrunk.mediums;
+      addresses = shrunk.addresses;
+      segments = shrunk.segments;
+      elisions = shrunk.elisions;
+      same = shrunk.same;
+      same_segments = shrunk.same_segments;
+      same_elided = shrunk.same_elided;
+      staged = h.staged;
+      next = h.next;
+    }
 
 -- ---- one merge
 

@@ -8,7 +8,7 @@ use Rattle.pur_base.specs.declared.request.Table.TheVariants as table
 use Rattle.boot_codec.specs.Record.{patch_segments}
 use Rattle.boot_codec.specs.declared.patch.Patch.{Patch}
 use Rattle.pyramid.specs.Layers.{Layers, IsMerged, facts_in, patch_at, patch_facts, patches_of}
-use Rattle.memory_spec.specs.Tables.{facts}
+use Rattle.memory_spec.specs.Tables.{flushed}
 use Rattle.memory_spec.specs.Memory.{Memory, IsSound}
 use Rattle.checkpoint_spec.specs.Whole.{AreLayered}
 use Rattle.memory_spec.specs.Adding.{SayTheSame}
@@ -36,12 +36,12 @@ module _ {F : Type 0} (key number : F → ℕ) (empty : F → Bool) (within : F 
   abbrev pub IsCompacted : Layers F → Layers F → Type 0
   IsCompacted was now = (facts_in now ≡ facts_in was) ⊎ (IsTableMerged was now ⊎ IsTableRewritten was now)
 
--- some of the tables were merged: elided facts are left out, but elisions are of no elided table
+-- Some of the tables were merged: facts are left out that elisions of patches elide, and none that others do, which stand in the log alone. Elisions are of no elided table.
 pub record IsMerge (was now : Memory) : Type 0 where
-  pub objects : IsCompacted object_key (λ f. f.seq.0) never apart (is_elided (facts was.tables).elisions table.Object) was.tables.objects now.tables.objects
-  pub mediums : IsCompacted medium_key (λ f. f.seq.0) is_empty_range apart (is_elided (facts was.tables).elisions table.Medium) was.tables.mediums now.tables.mediums
-  pub addresses : IsCompacted address_key (λ f. f.seq.0) never apart (is_elided (facts was.tables).elisions table.Address) was.tables.addresses now.tables.addresses
-  pub segments : IsCompacted segment_key (λ f. f.seq.0) never apart (is_elided (facts was.tables).elisions table.Segment) was.tables.segments now.tables.segments
+  pub objects : IsCompacted object_key (λ f. f.seq.0) never apart (is_elided (flushed was.tables).elisions table.Object) was.tables.objects now.tables.objects
+  pub mediums : IsCompacted medium_key (λ f. f.seq.0) is_empty_range apart (is_elided (flushed was.tables).elisions table.Medium) was.tables.mediums now.tables.mediums
+  pub addresses : IsCompacted address_key (λ f. f.seq.0) never apart (is_elided (flushed was.tables).elisions table.Address) was.tables.addresses now.tables.addresses
+  pub segments : IsCompacted segment_key (λ f. f.seq.0) never apart (is_elided (flushed was.tables).elisions table.Segment) was.tables.segments now.tables.segments
   pub elisions : IsCompacted elision_key (λ f. f.seq.0) never is_narrower (λ id. false) was.tables.elisions now.tables.elisions
   pub staged : now.staged ≡ was.staged
   pub next : now.next ≡ was.next
@@ -55,16 +55,16 @@ MergeShrinks = (was now : Memory) → IsSound was → AreLayered was.tables → 
 -- The patches of a table at that index and behind it stand as one. Nothing else has changed but room for patches of that table.
 abbrev pub IsMergedAt : Table → ℕ → Memory → Memory → Type 0
 IsMergedAt table.Object i was now =
-    (m : IsTableMerged object_key (λ f. f.seq.0) never apart (is_elided (facts was.tables).elisions table.Object) was.tables.objects now.tables.objects) × (m.at ≡ i)
+    (m : IsTableMerged object_key (λ f. f.seq.0) never apart (is_elided (flushed was.tables).elisions table.Object) was.tables.objects now.tables.objects) × (m.at ≡ i)
     × (now ≡ record was { tables = record was.tables { objects = now.tables.objects } })
 IsMergedAt table.Medium i was now =
-    (m : IsTableMerged medium_key (λ f. f.seq.0) is_empty_range apart (is_elided (facts was.tables).elisions table.Medium) was.tables.mediums now.tables.mediums) × (m.at ≡ i)
+    (m : IsTableMerged medium_key (λ f. f.seq.0) is_empty_range apart (is_elided (flushed was.tables).elisions table.Medium) was.tables.mediums now.tables.mediums) × (m.at ≡ i)
     × (now ≡ record was { tables = record was.tables { mediums = now.tables.mediums } })
 IsMergedAt table.Address i was now =
-    (m : IsTableMerged address_key (λ f. f.seq.0) never apart (is_elided (facts was.tables).elisions table.Address) was.tables.addresses now.tables.addresses) × (m.at ≡ i)
+    (m : IsTableMerged address_key (λ f. f.seq.0) never apart (is_elided (flushed was.tables).elisions table.Address) was.tables.addresses now.tables.addresses) × (m.at ≡ i)
     × (now ≡ record was { tables = record was.tables { addresses = now.tables.addresses } })
 IsMergedAt table.Segment i was now =
-    (m : IsTableMerged segment_key (λ f. f.seq.0) never apart (is_elided (facts was.tables).elisions table.Segment) was.tables.segments now.tables.segments) × (m.at ≡ i)
+    (m : IsTableMerged segment_key (λ f. f.seq.0) never apart (is_elided (flushed was.tables).elisions table.Segment) was.tables.segments now.tables.segments) × (m.at ≡ i)
     × (now ≡ record was { tables = record was.tables { segments = now.tables.segments } })
 IsMergedAt table.Elision i was now =
     (m : IsTableMerged elision_key (λ f. f.seq.0) never is_narrower (λ id. false) was.tables.elisions now.tables.elisions) × (m.at ≡ i)

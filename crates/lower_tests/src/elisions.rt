@@ -1,7 +1,9 @@
 use elision::Elided;
-use pur_base::{NoMemory, Table};
+use pur_base::{ElisionFact, NoMemory, Seq, Table};
+use pyramid::Pyramid;
 use std::alloc::Global;
 use std::process::Abort;
+use table_plan::stored_ids;
 
 /// Elides these ids of mediums, each by itself.
 fn elide_all(elided: &mut Elided, ids: &[u64]) -> Result<(), NoMemory> {
@@ -59,5 +61,28 @@ fn each_table_has_ranges_of_its_own(rt: HostRuntime) -> Result<(), NoMemory> {
     let mut elided = Elided::new(rt.alloc());
     elide_range(&mut elided, Table::Address, 20, 30)?;
     are_addresses_alone(&rt, &elided);
+    Ok(())
+}
+
+/// The ids that stored elisions elide, where none is stored and that of an object is unflushed, or not even that.
+fn none_stored(alloc: Global, unflushed: bool) -> Result<Option<Elided>, NoMemory> {
+    let mut elisions = Pyramid::new(alloc, 1)?;
+    if unflushed {
+        elisions.insert(ElisionFact {
+            first: 9,
+            table: Table::Object,
+            last: 9,
+            seq: Seq(3),
+        })?;
+    }
+    stored_ids(alloc, &elisions)
+}
+
+#[test]
+fn an_unflushed_elision_is_not_stored(rt: HostRuntime) -> Result<(), NoMemory> {
+    let all = none_stored(rt.alloc(), false)?;
+    assert!(rt; all.is_none());
+    let stored = none_stored(rt.alloc(), true)?;
+    assert!(rt; stored.is_some_and(|ids| !ids.is_elided(Table::Object, 9)));
     Ok(())
 }

@@ -1,16 +1,15 @@
 -- Memory of the patches alone: with nothing unflushed, and nothing staged.
-use Rattle.std.proofs.Common.{◌≡◌, ℕ, ◌+◌, Bool, false, [], ◌++◌, refl, sym, ap, ◌∙◌, ◌==◌, arith, subst}
+use Rattle.std.proofs.Common.{◌≡◌, ℕ, Bool, false, [], refl, sym, ap, arith, subst}
 use Rattle.pur_base.specs.Facts.{object_key, medium_key, address_key, segment_key, elision_key, never, is_empty_range, apart, is_narrower}
 use Rattle.pur_base.specs.Visible.{is_elided}
 use Rattle.pur_base.specs.declared.request.Table.{Table}
 use Rattle.pur_base.specs.declared.request.Table.TheVariants as table
-use Rattle.pur_base.specs.declared.facts.ElisionFact.{ElisionFact}
 use Rattle.boot_codec.specs.declared.record.NextNumbers.{NextNumbers}
 use Rattle.array_spec.specs.Stored.{all_facts}
-use Rattle.pyramid.specs.Layers.{Layers, IsLayered, IsMerged, facts_of, facts_in, patch_at, patch_facts}
+use Rattle.pyramid.specs.Layers.{Layers, IsLayered}
 use Rattle.pyramid.proofs.LayerLemmas.{rises_alone}
 use Rattle.pyramid.proofs.PlaceLemmas.{replaced, merge_layered}
-use Rattle.memory_spec.specs.Tables.{Tables, facts, patches}
+use Rattle.memory_spec.specs.Tables.{Tables, facts, flushed, patches}
 use Rattle.memory_spec.specs.Memory.{Memory}
 use Rattle.checkpoint_spec.specs.Whole.{IsWhole, AreLayered}
 use Rattle.checkpoint_spec.specs.Merging.{IsTableMerged, IsMergedAt}
@@ -63,7 +62,7 @@ patched_layered t next l = record {
 -- and a merge of one table leaves the others
 pub still_layered : (t : Table) (i : ℕ) (was now : Memory) → IsMergedAt t i was now → AreLayered was.tables → AreLayered now.tables
 still_layered table.Object i was now h l = subst (λ (m : Memory). AreLayered m.tables) (sym h.2) (record {
-  objects = merged_layered object_key (λ f. f.seq.0) never apart (is_elided (facts was.tables).elisions table.Object) was.tables.objects now.tables.objects h.0 l.objects;
+  objects = merged_layered object_key (λ f. f.seq.0) never apart (is_elided (flushed was.tables).elisions table.Object) was.tables.objects now.tables.objects h.0 l.objects;
   mediums = l.mediums;
   addresses = l.addresses;
   segments = l.segments;
@@ -71,7 +70,7 @@ still_layered table.Object i was now h l = subst (λ (m : Memory). AreLayered m.
 })
 still_layered table.Medium i was now h l = subst (λ (m : Memory). AreLayered m.tables) (sym h.2) (record {
   objects = l.objects;
-  mediums = merged_layered medium_key (λ f. f.seq.0) is_empty_range apart (is_elided (facts was.tables).elisions table.Medium) was.tables.mediums now.tables.mediums h.0 l.mediums;
+  mediums = merged_layered medium_key (λ f. f.seq.0) is_empty_range apart (is_elided (flushed was.tables).elisions table.Medium) was.tables.mediums now.tables.mediums h.0 l.mediums;
   addresses = l.addresses;
   segments = l.segments;
   elisions = l.elisions;
@@ -79,7 +78,7 @@ still_layered table.Medium i was now h l = subst (λ (m : Memory). AreLayered m.
 still_layered table.Address i was now h l = subst (λ (m : Memory). AreLayered m.tables) (sym h.2) (record {
   objects = l.objects;
   mediums = l.mediums;
-  addresses = merged_layered address_key (λ f. f.seq.0) never apart (is_elided (facts was.tables).elisions table.Address) was.tables.addresses now.tables.addresses h.0 l.addresses;
+  addresses = merged_layered address_key (λ f. f.seq.0) never apart (is_elided (flushed was.tables).elisions table.Address) was.tables.addresses now.tables.addresses h.0 l.addresses;
   segments = l.segments;
   elisions = l.elisions;
 })
@@ -87,7 +86,7 @@ still_layered table.Segment i was now h l = subst (λ (m : Memory). AreLayered m
   objects = l.objects;
   mediums = l.mediums;
   addresses = l.addresses;
-  segments = merged_layered segment_key (λ f. f.seq.0) never apart (is_elided (facts was.tables).elisions table.Segment) was.tables.segments now.tables.segments h.0 l.segments;
+  segments = merged_layered segment_key (λ f. f.seq.0) never apart (is_elided (flushed was.tables).elisions table.Segment) was.tables.segments now.tables.segments h.0 l.segments;
   elisions = l.elisions;
 })
 still_layered table.Elision i was now h l = subst (λ (m : Memory). AreLayered m.tables) (sym h.2) (record {
@@ -98,46 +97,18 @@ still_layered table.Elision i was now h l = subst (λ (m : Memory). AreLayered m
   elisions = merged_layered elision_key (λ f. f.seq.0) never is_narrower (λ id. false) was.tables.elisions now.tables.elisions h.0 l.elisions;
 })
 
--- ---- where no elision is unflushed, a merge is one of the patches alone
+-- ---- a merge is one of the patches alone
 
--- the elisions are those of the patches
-pub as_flushed : (e : Layers ElisionFact) → e.unflushed ≡ [] → facts_in e ≡ facts_in (alone e)
-as_flushed e flushed = ap (λ u. facts_of e.patches ++ u) flushed
+module _ {F : Type 0} (key number : F → ℕ) (empty : F → Bool) (within : F → F → Bool) (elided : ℕ → Bool) where
+  -- of a table,
+  merged_alone : (was now : Layers F) → IsTableMerged key number empty within elided was now → IsTableMerged key number empty within elided (alone was) (alone now)
+  merged_alone was now h = record { at = h.at; patch = h.patch; there = h.there; made = h.made; patches = h.patches; unflushed = refl }
 
-module _ {F : Type 0} (key number : F → ℕ) (empty : F → Bool) (within : F → F → Bool) where
-  -- what the table's patches are merged to, by a test that elides the same
-  merged_alone : (elided as_elided : ℕ → Bool) (was now : Layers F) → elided ≡ as_elided → IsTableMerged key number empty within elided was now → IsTableMerged key number empty within as_elided (alone was) (alone now)
-  merged_alone elided as_elided was now same h = record {
-    at = h.at;
-    patch = h.patch;
-    there = h.there;
-    made = subst (λ test. IsMerged key number empty within (h.at == 0) test (patch_at was h.at) (patch_at was (h.at + 1)) (patch_facts h.patch)) same h.made;
-    patches = h.patches;
-    unflushed = refl;
-  }
-
--- and so for each table
-pub merged_patched : (t : Table) (i : ℕ) (was now : Memory) (next : NextNumbers) → was.tables.elisions.unflushed ≡ [] → IsMergedAt t i was now → IsMergedAt t i (patched was.tables next) (patched now.tables next)
+-- and so of each
+pub merged_patched : (t : Table) (i : ℕ) (was now : Memory) (next : NextNumbers) → IsMergedAt t i was now → IsMergedAt t i (patched was.tables next) (patched now.tables next)
 unfolding merged_alone
-merged_patched table.Object i was now next flushed h =
-    let same = ap (λ l. is_elided l table.Object) (as_flushed was.tables.elisions flushed) in
-    (merged_alone object_key (λ f. f.seq.0) never apart _ _ was.tables.objects now.tables.objects same h.0, h.1, ap (λ (m : Memory). patched m.tables next) h.2)
-merged_patched table.Medium i was now next flushed h =
-    let same = ap (λ l. is_elided l table.Medium) (as_flushed was.tables.elisions flushed) in
-    (merged_alone medium_key (λ f. f.seq.0) is_empty_range apart _ _ was.tables.mediums now.tables.mediums same h.0, h.1, ap (λ (m : Memory). patched m.tables next) h.2)
-merged_patched table.Address i was now next flushed h =
-    let same = ap (λ l. is_elided l table.Address) (as_flushed was.tables.elisions flushed) in
-    (merged_alone address_key (λ f. f.seq.0) never apart _ _ was.tables.addresses now.tables.addresses same h.0, h.1, ap (λ (m : Memory). patched m.tables next) h.2)
-merged_patched table.Segment i was now next flushed h =
-    let same = ap (λ l. is_elided l table.Segment) (as_flushed was.tables.elisions flushed) in
-    (merged_alone segment_key (λ f. f.seq.0) never apart _ _ was.tables.segments now.tables.segments same h.0, h.1, ap (λ (m : Memory). patched m.tables next) h.2)
-merged_patched table.Elision i was now next flushed h =
-    (merged_alone elision_key (λ f. f.seq.0) never is_narrower _ _ was.tables.elisions now.tables.elisions refl h.0, h.1, ap (λ (m : Memory). patched m.tables next) h.2)
-
--- nor is any unflushed after it
-pub still_flushed : (t : Table) (i : ℕ) (was now : Memory) → IsMergedAt t i was now → was.tables.elisions.unflushed ≡ [] → now.tables.elisions.unflushed ≡ []
-still_flushed table.Object i was now h e = ap (λ (m : Memory). m.tables.elisions.unflushed) h.2 ∙ e
-still_flushed table.Medium i was now h e = ap (λ (m : Memory). m.tables.elisions.unflushed) h.2 ∙ e
-still_flushed table.Address i was now h e = ap (λ (m : Memory). m.tables.elisions.unflushed) h.2 ∙ e
-still_flushed table.Segment i was now h e = ap (λ (m : Memory). m.tables.elisions.unflushed) h.2 ∙ e
-still_flushed table.Elision i was now h e = h.0.unflushed ∙ e
+merged_patched table.Object i was now next h = (merged_alone object_key (λ f. f.seq.0) never apart _ was.tables.objects now.tables.objects h.0, h.1, ap (λ (m : Memory). patched m.tables next) h.2)
+merged_patched table.Medium i was now next h = (merged_alone medium_key (λ f. f.seq.0) is_empty_range apart _ was.tables.mediums now.tables.mediums h.0, h.1, ap (λ (m : Memory). patched m.tables next) h.2)
+merged_patched table.Address i was now next h = (merged_alone address_key (λ f. f.seq.0) never apart _ was.tables.addresses now.tables.addresses h.0, h.1, ap (λ (m : Memory). patched m.tables next) h.2)
+merged_patched table.Segment i was now next h = (merged_alone segment_key (λ f. f.seq.0) never apart _ was.tables.segments now.tables.segments h.0, h.1, ap (λ (m : Memory). patched m.tables next) h.2)
+merged_patched table.Elision i was now next h = (merged_alone elision_key (λ f. f.seq.0) never is_narrower _ was.tables.elisions now.tables.elisions h.0, h.1, ap (λ (m : Memory). patched m.tables next) h.2)

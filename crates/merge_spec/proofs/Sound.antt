@@ -87,11 +87,11 @@ module _ (shelf : Geometry) (boot : BootRecord) (t : Tables) (sound : AreSound s
 -- ---- and once two of them were merged
 
 pub merged_patches_are_sound : MergedPatchesAreSound
-merged_patches_are_sound shelf boot next t i was now layered flushed h sound lawful next_next same named segments =
+merged_patches_are_sound shelf boot next t i was now layered h sound lawful next_next same named segments =
     let memory : Memory = patched was.tables next.next in
     let merged : Memory = patched now.tables next.next in
     let is : IsSound memory = subst (λ n. IsSound (patched was.tables n)) (sym same) (loaded_sound shelf boot was.tables sound lawful next.next.patch_segment (subst AreNext same next_next)) in
-    let merge : IsMerge memory merged = one_merge_is_merge t i memory merged (merged_patched t i was now next.next flushed h) in
+    let merge : IsMerge memory merged = one_merge_is_merge t i memory merged (merged_patched t i was now next.next h) in
     record_is_sound shelf next merged (shrunk_sound memory merged is (merge_shrinks memory merged is (patched_layered was.tables next.next layered) merge))
     (patched_whole now.tables next.next) (patched_layered now.tables next.next (still_layered t i was now h layered))
     (subst (λ f. AreSegmentsSound shelf next f) (patched_facts now.tables next.next) segments) refl named

@@ -1,5 +1,5 @@
 -- What a merge makes of the tables that a record names, whatever is logged and staged beside them.
-use Rattle.std.specs.Prelude.{◌≡◌, ℕ, List, [], All}
+use Rattle.std.specs.Prelude.{◌≡◌, ℕ, List, All}
 use Rattle.std.specs.List.{AllZip}
 use Rattle.pur_base.specs.Devices.{Geometry, View}
 use Rattle.pur_base.specs.Plain.{Array}
@@ -17,15 +17,15 @@ use Rattle.memory_spec.specs.Tables.{patches}
 use Rattle.checkpoint_spec.specs.Merging.{HaveShrunk, IsMergedAt}
 use Rattle.checkpoint_spec.specs.Whole.{AreLayered, IsNamed}
 
--- The patches of sound memory in which no elision is unflushed only lose facts by a merge, and say the same.
+-- The patches of sound memory only lose facts by a merge, and say the same, whatever elisions are unflushed beside them.
 abbrev pub MergedPatchesShrink : Type 0
-MergedPatchesShrink = (t : Table) (i : ℕ) (was now : Memory) → IsSound was → AreLayered was.tables → was.tables.elisions.unflushed ≡ []
+MergedPatchesShrink = (t : Table) (i : ℕ) (was now : Memory) → IsSound was → AreLayered was.tables
     → IsMergedAt t i was now → HaveShrunk (all_facts (patches was.tables)) (all_facts (patches now.tables))
 
 -- Where they were sound by their record, they are by one that names them and gives the same numbers next, but for ids of segments of patches.
 abbrev pub MergedPatchesAreSound : Type 0
 MergedPatchesAreSound = (shelf : Geometry) (boot next : BootRecord) (t : Table) (i : ℕ) (was now : Memory)
-    → AreLayered was.tables → was.tables.elisions.unflushed ≡ [] → IsMergedAt t i was now
+    → AreLayered was.tables → IsMergedAt t i was now
     → AreSound shelf boot (patches was.tables) → All IsFact (in_patches (patches was.tables))
     → AreNext next.next → next.next ≡ record boot.next { patch_segment = next.next.patch_segment }
     → AllZip IsNamed next.patches (patches now.tables) → AreSegmentsSound shelf next (all_facts (patches now.tables))

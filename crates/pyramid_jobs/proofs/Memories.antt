@@ -1,5 +1,5 @@
 -- What is known of an array's memory in which two patches of a table stand as one.
-use Rattle.std.proofs.Common.{◌≡◌, ℕ, ◌+◌, ◌<◌, [], length, refl, sym, ap, arith, subst, All, Contains}
+use Rattle.std.proofs.Common.{◌≡◌, ℕ, ◌+◌, ◌<◌, length, refl, sym, ap, arith, subst, All, Contains}
 use Rattle.std.proofs.lemmas.List.Elements.{Contains-append_left}
 use Rattle.pur_base.specs.Facts.{Facts}
 use Rattle.pur_base.specs.Plain.{Array}
@@ -107,11 +107,11 @@ module _ (m : Memory) (i : ℕ) (p : Merged) (sound : IsSound m) (layered : AreL
   reads_with count left contents array r = record { sound = sound_with count left; reads = (shrinking_reads contents m Put array r shrunk).reads }
 
   -- the facts of patches say the same
-  pub says_with : m.tables.elisions.unflushed ≡ [] → HaveShrunk (all_facts (patches m.tables)) (all_facts (patches (tables_with m.tables i p)))
-  says_with flushed = merged_patches_shrink (table_of p) i m Put sound layered flushed is_merged
+  pub says_with : HaveShrunk (all_facts (patches m.tables)) (all_facts (patches (tables_with m.tables i p)))
+  says_with = merged_patches_shrink (table_of p) i m Put sound layered is_merged
 
   -- and none of them names a staged sector
-  pub stored_with : m.tables.elisions.unflushed ≡ [] → AreStored (facts_of m.tables.addresses.patches) → AreStored (facts_of (tables_with m.tables i p).addresses.patches)
-  stored_with flushed stored f at c e =
+  pub stored_with : AreStored (facts_of m.tables.addresses.patches) → AreStored (facts_of (tables_with m.tables i p).addresses.patches)
+  stored_with stored f at c e =
       stored f at (subst (λ l. Contains l f) (ap (λ (fs : Facts). fs.addresses) (patches_are_flushed m.tables))
-      ((says_with flushed).addresses f (subst (λ l. Contains l f) (sym (ap (λ (fs : Facts). fs.addresses) (patches_are_flushed (tables_with m.tables i p)))) c))) e
+      (says_with.addresses f (subst (λ l. Contains l f) (sym (ap (λ (fs : Facts). fs.addresses) (patches_are_flushed (tables_with m.tables i p)))) c))) e

@@ -87,7 +87,7 @@ module _ (shelf : Geometry) (was : Array) (t : Table) (i : ℕ) (p : Prepared) (
     stored_then : AreStored (facts_of k.memory.tables.addresses.patches)
     stored_then =
         subst (λ (ps : List (List AddressFact)). AreStored (facts_of ps)) (sym (ap (λ (x : Kept). x.memory.tables.addresses.patches) same))
-        (stored_with M i p.merged is.sound is.layered prep.merged is.room.no_elisions is.stored)
+        (stored_with M i p.merged is.sound is.layered prep.merged is.stored)
 
     -- and has the same room
     with_room : HasRoomFor (with_patch_rooms With k) was.log.count
@@ -177,6 +177,6 @@ module _ (shelf : Geometry) (was : Array) (t : Table) (i : ℕ) (p : Prepared) (
               let counted = (lawful_patches shelf was t i p is prep).1 in
               let own : patch_segments now.register.record.patches ≡ patch_segments p.tables.patches = ap (λ (l : List Patch). patch_segments l) ps in
               omega (arith, counted, own, many);
-          says = subst (λ (l : List (List AnyFact)). HaveShrunk (all_facts (patches M.tables)) (all_facts l)) (sym fss) (says_with M i p.merged is.sound is.layered prep.merged is.room.no_elisions);
+          says = subst (λ (l : List (List AnyFact)). HaveShrunk (all_facts (patches M.tables)) (all_facts l)) (sym fss) (says_with M i p.merged is.sound is.layered prep.merged);
           sound = λ s. subst (λ (l : List (List AnyFact)). AreSound shelf now.register.record l) (sym fss) (sound_by shelf was t i p is prep now.register.record later s);
         }

@@ -148,7 +148,7 @@ module _ (shelf : Geometry) (x : Array) (t : Table) (i : ℕ) (q : Prepared) (of
     -- where the patches were sound by the record, they are by that one
     pub sound_by : AreSound shelf Boot (patches M.tables) → AreSound shelf next (patches Then)
     sound_by sound =
-        merged_patches_are_sound shelf Boot next (table_of q.merged) i M (Put M i q.merged of.sound of.layered h.merged) of.layered of.room.no_elisions
+        merged_patches_are_sound shelf Boot next (table_of q.merged) i M (Put M i q.merged of.sound of.layered h.merged) of.layered
         (is_merged M i q.merged of.sound of.layered h.merged) sound (facts_lawful M of.sound of.stored)
         (subst (λ (n : NextNumbers). AreNext n) (sym (ap (λ (b : BootRecord). b.next) later.rest)) next_lawful)
         (numbers_are ∙ ap (λ (n : ℕ). record Boot.next { patch_segment = n }) (sym (ap (λ (n : NextNumbers). n.patch_segment) numbers_are)))

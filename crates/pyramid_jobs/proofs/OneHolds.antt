@@ -108,7 +108,7 @@ module _ (a b : Shelved) (is : IsShelf a) (is_b : IsShelf b) (honest : a.honest)
     -- so the next tables hold the same base
     pub holds : TablesStand (geometry_of b) members next now × BaseStands members (all_facts now) next.next.object held.base
     holds =
-        merged_patches_hold (geometry_of b) members boot next (patches m.tables) now held.base old.0 old.1 (says_with m i q.merged of.sound of.layered h.merged of.room.no_elisions) (ap (λ (n : NextNumbers). n.object) h.next)
+        merged_patches_hold (geometry_of b) members boot next (patches m.tables) now held.base old.0 old.1 (says_with m i q.merged of.sound of.layered h.merged) (ap (λ (n : NextNumbers). n.object) h.next)
         (sound_by (geometry_of b) x t i q of_b h next (later_itself next) old.0.sound) new
 
 pub holds_merged : (a b : Shelved) → IsShelf a → IsShelf b → a.honest → (x : Array) (t : Table) (i : ℕ) (q : Prepared) → IsArrayOf (geometry_of a) x → IsPreparedFor x t i q → Continues a b → (lost : List Bool)

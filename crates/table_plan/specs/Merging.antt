@@ -8,7 +8,7 @@ use Rattle.pur_base.specs.declared.facts.AnyFact.{AnyFact}
 use Rattle.pur_base.specs.declared.facts.AnyFact.TheVariants as any
 use Rattle.pyramid.specs.Layers.{Layers, IsMerged, patch_at, patch_facts, patches_of}
 use Rattle.memory_spec.specs.Memory.{Memory}
-use Rattle.memory_spec.specs.Tables.{Tables, facts}
+use Rattle.memory_spec.specs.Tables.{Tables, flushed}
 use Rattle.table_plan.specs.declared.merged.Merged.{Merged}
 use Rattle.table_plan.specs.declared.merged.Merged.TheVariants as merged
 
@@ -56,16 +56,16 @@ pair_facts t table.Address i = length (patch_at t.addresses i) + length (patch_a
 pair_facts t table.Segment i = length (patch_at t.segments i) + length (patch_at t.segments (i + 1))
 pair_facts t table.Elision i = length (patch_at t.elisions i) + length (patch_at t.elisions (i + 1))
 
--- It is made of the table's patches at that index and behind it. Elided facts are left out, but elisions are of no elided table.
+-- It is made of the table's patches at that index and behind it. Facts are left out that elisions of patches elide, but elisions are of no elided table.
 abbrev pub IsMergedOf : Memory → ℕ → Merged → Type 0
 IsMergedOf m i (merged.Object patch) = (i + 1 < length m.tables.objects.patches)
-    × IsMerged object_key (λ f. f.seq.0) never apart (i == 0) (is_elided (facts m.tables).elisions table.Object) (patch_at m.tables.objects i) (patch_at m.tables.objects (i + 1)) (patch_facts patch)
+    × IsMerged object_key (λ f. f.seq.0) never apart (i == 0) (is_elided (flushed m.tables).elisions table.Object) (patch_at m.tables.objects i) (patch_at m.tables.objects (i + 1)) (patch_facts patch)
 IsMergedOf m i (merged.Medium patch) = (i + 1 < length m.tables.mediums.patches)
-    × IsMerged medium_key (λ f. f.seq.0) is_empty_range apart (i == 0) (is_elided (facts m.tables).elisions table.Medium) (patch_at m.tables.mediums i) (patch_at m.tables.mediums (i + 1)) (patch_facts patch)
+    × IsMerged medium_key (λ f. f.seq.0) is_empty_range apart (i == 0) (is_elided (flushed m.tables).elisions table.Medium) (patch_at m.tables.mediums i) (patch_at m.tables.mediums (i + 1)) (patch_facts patch)
 IsMergedOf m i (merged.Address patch) = (i + 1 < length m.tables.addresses.patches)
-    × IsMerged address_key (λ f. f.seq.0) never apart (i == 0) (is_elided (facts m.tables).elisions table.Address) (patch_at m.tables.addresses i) (patch_at m.tables.addresses (i + 1)) (patch_facts patch)
+    × IsMerged address_key (λ f. f.seq.0) never apart (i == 0) (is_elided (flushed m.tables).elisions table.Address) (patch_at m.tables.addresses i) (patch_at m.tables.addresses (i + 1)) (patch_facts patch)
 IsMergedOf m i (merged.Segment patch) = (i + 1 < length m.tables.segments.patches)
-    × IsMerged segment_key (λ f. f.seq.0) never apart (i == 0) (is_elided (facts m.tables).elisions table.Segment) (patch_at m.tables.segments i) (patch_at m.tables.segments (i + 1)) (patch_facts patch)
+    × IsMerged segment_key (λ f. f.seq.0) never apart (i == 0) (is_elided (flushed m.tables).elisions table.Segment) (patch_at m.tables.segments i) (patch_at m.tables.segments (i + 1)) (patch_facts patch)
 IsMergedOf m i (merged.Elision patch) = (i + 1 < length m.tables.elisions.patches)
     × IsMerged elision_key (λ f. f.seq.0) never is_narrower (i == 0) (λ id. false) (patch_at m.tables.elisions i) (patch_at m.tables.elisions (i + 1)) (patch_facts patch)
 

@@ -1,10 +1,10 @@
 use Rattle.std.proofs.Common.{refl}
 use Rattle.array_memory.specs.Loaded.{memory_of}
-use Rattle.array_memory.proofs.LoadedLemmas.{kept_of_sound, own_names, roomed, sound_ranges, sound_with_room}
+use Rattle.array_memory.proofs.LoadedLemmas.{kept_of_sound, loaded_ranges, own_names, roomed, sound_with_room}
 use Rattle.array_memory.proofs.loading.of_facts.Goals as goal
 
 pub elided_and_staged-requires-clause-ranges : goal.elided_and_staged-requires-clause-ranges
-elided_and_staged-requires-clause-ranges c = sound_ranges c.args.objects c.args.mediums c.args.addresses c.args.segments c.args.elisions c.args.next c.requires.sound c.requires.flushed
+elided_and_staged-requires-clause-ranges c = loaded_ranges c.args.objects c.args.mediums c.args.addresses c.args.segments c.args.elisions c.args.next c.requires.sound
 
 pub seen_tables-requires : goal.seen_tables-requires
 seen_tables-requires c =
