@@ -4,9 +4,9 @@
 set -euo pipefail
 count=${1:-1000}
 top=$(cd "$(dirname "$0")/../.." && pwd)
-(cd "$top/crates/files_bench" && rt run > /dev/null)
-program=$top/crates/files_bench/out/files_bench
-place=$(mktemp -d "${BENCH_FOLDER:-$top/crates/files_bench/out}/bench.XXXXXX")
+(cd "$top/crates/storage_bench" && rt run > /dev/null)
+program=$top/crates/storage_bench/out/storage_bench
+place=$(mktemp -d "${BENCH_FOLDER:-$top/crates/storage_bench/out}/bench.XXXXXX")
 trap 'rm -rf "$place"' EXIT
 cc -O2 -o "$place/loop" "$top/bench/files/loop.c"
 cd "$place"
@@ -21,15 +21,15 @@ milliseconds() {
 }
 
 # The requests lie ready, so that no pipe and no other process is timed.
-for letter in s l; do
+for letter in p q; do
     head -c "$count" /dev/zero | tr '\0' "$letter" > "$letter"
 done
 
 pieces() {
-    "$program" < "$1"
+    "$program" shelf < "$1"
 }
 
-for size in 4096:s 65536:l; do
+for size in 4096:p 65536:q; do
     bytes=${size%:*}
     letter=${size#*:}
     in_c=0

@@ -1,4 +1,4 @@
-//! The same runs and ranges as `crates/table_bench`, in Rust: by a `BTreeMap`, and by sorted vectors.
+//! The same runs and ranges as `crates/storage_bench`, in Rust: by a `BTreeMap`, and by sorted vectors.
 use std::collections::BTreeMap;
 use std::hint::black_box;
 use std::time::{Duration, Instant};

@@ -1,7 +1,0 @@
-use Rattle.table_bench.proofs.RunLemmas.{flush_below}
-use Rattle.table_bench.proofs.flush.Goals as goal
-
-pub returns : goal.returns
-returns c =
-    rw (c.put_flushed.ensures.patches, c.put_flushed.ensures.unflushed, c.in_ok-patch.ensures.patches)
-    (flush_below c.args.table.now.patches c.args.table.now.unflushed c.in_ok-patch.patch c.args.next c.in_ok-patch.ensures.patch.source c.requires)

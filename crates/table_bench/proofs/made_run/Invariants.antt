@@ -1,5 +1,0 @@
-use Rattle.table_bench.proofs.RunLemmas.{IsRun}
-use Rattle.table_bench.proofs.made_run.Given as goal
-
-abbrev pub invariant-loop-i : goal.invariant-loop-i
-invariant-loop-i l = IsRun l.fn.start.medium l.fn.start.sector l.fn.first l.i l.run.items
