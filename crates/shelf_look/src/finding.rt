@@ -1,10 +1,11 @@
 // What an opening would find.
-ghost use Rattle.std.specs.Prelude.{◌≡◌, ℕ, List, length, IfOk, IfErr};
+ghost use Rattle.std.specs.Prelude.{◌≡◌, ℕ, Bool, List, IfOk, IfErr};
 ghost use Rattle.pur_base.specs.Commands.{Command};
 ghost use Rattle.pur_base.specs.declared.device.Device.{Device};
 ghost use Rattle.world.specs.Ran.{Ran};
 ghost use Rattle.world.specs.Losing.{geometry_of};
 ghost use Rattle.world.specs.Shelf.{IsSame};
+ghost use Rattle.boot_region.specs.Loading.{IsAnswerOf, IsLawfulLoad};
 ghost use Rattle.nvram_log.specs.Held.{Keeps};
 ghost use Rattle.nvram_log.specs.Read.{OnNothing};
 ghost use Rattle.shelf_look.specs.Opening.{IsAny, IsCauseOf, IsOpeningOf, IsOpeningIn};
@@ -15,7 +16,7 @@ use crate::Cause;
 use crate::tables::read_tables;
 use crate::waiting::{Waiting, waiting_in};
 use array_memory::Memory;
-use boot_region::{Loaded, Regions};
+use boot_region::{LoadFault, Loaded};
 use nvram_log::NvLog;
 use std::alloc::Global;
 use table_soundness::Visible;
@@ -43,16 +44,23 @@ fn served_in(log: &NvLog) -> Result<Waiting, Cause>
     }
 }
 
-/// Finds what an opening would find, where so much was read of the boot regions, or why it would end.
-pub fn find<S: Shelf>(alloc: Global, shelf: &mut S, regions: &Regions) -> Result<Opening, Cause>
-    requires drives { length regions.now.answered.items ≡ (S.shelf shelf.old).drives }
+/// Finds what an opening would find, where this was loaded, or why it would end.
+pub fn find<S: Shelf>(
+    alloc: Global,
+    shelf: &mut S,
+    loaded: Result<Loaded, LoadFault>,
+) -> Result<Opening, Cause>
+    requires { IfOk loaded (IsLawfulLoad (geometry_of (S.shelf shelf.old))) }
     ensures same { (S.shelf shelf.old).honest → (d : Device) → IsSame ((S.shelf shelf.old).disk d) ((S.shelf shelf.new).disk d) }
     ensures ran { Ran S.shelf S.shelf_rest IsAny OnNothing shelf.old shelf.new }
     ensures opening { IfOk result (IsOpeningIn (geometry_of (S.shelf shelf.old))) }
-    ensures found { (S.shelf shelf.old).honest → IfOk result (IsOpeningOf (S.shelf shelf.old) (S.shelf shelf.new) regions.now.bytes.items regions.now.answered.items) }
-    ensures cause { (S.shelf shelf.old).honest → IfErr result (IsCauseOf (S.shelf shelf.old) (S.shelf shelf.new) regions.now.bytes.items regions.now.answered.items) }
+    // Of whatever boot regions it was loaded.
+    ensures found { (S.shelf shelf.old).honest → (bytes : List ℕ) (answered : List Bool) → IsAnswerOf (geometry_of (S.shelf shelf.old)) bytes answered loaded
+        → IfOk result (IsOpeningOf (S.shelf shelf.old) (S.shelf shelf.new) bytes answered) }
+    ensures cause { (S.shelf shelf.old).honest → (bytes : List ℕ) (answered : List Bool) → IsAnswerOf (geometry_of (S.shelf shelf.old)) bytes answered loaded
+        → IfErr result (IsCauseOf (S.shelf shelf.old) (S.shelf shelf.new) bytes answered) }
 {
-    let loaded = regions.load(alloc, shelf.units())?;
+    let loaded = loaded?;
     let tables = read_tables(alloc, shelf, &loaded.record, &loaded.drives)?;
     let log = NvLog::read(
         alloc,

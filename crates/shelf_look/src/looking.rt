@@ -74,10 +74,13 @@ pub fn look<S: Shelf>(alloc: Global, shelf: &mut S) -> Result<Looked, NoMemory>
     let units = shelf.units();
     let mut regions = Regions::new(alloc, slots)?;
     read_regions(shelf, &mut regions);
-    let record = record_seen(alloc, &regions, units)?;
+    let loaded = regions.load(alloc, units);
+    let record = record_seen(alloc, &regions, units, &loaded)?;
     let logs = read_sides(shelf, &record);
     let drives = states_of(&record, &regions.answered);
-    let opening = find(alloc, shelf, &regions);
+    // An opening has given their room back too when it reads the tables.
+    drop(regions);
+    let opening = find(alloc, shelf, loaded);
     let found = told(alloc, opening)?;
     Ok(Looked {
         slots,

@@ -8,56 +8,50 @@ use Rattle.shelf_look.proofs.finding.find.Goals as goal
 use Rattle.boot_region.proofs.LoadingLemmas.{if_err}
 
 pub returns-in_err-loaded-clause-cause : goal.returns-in_err-loaded-clause-cause
-returns-in_err-loaded-clause-cause g c honest =
+returns-in_err-loaded-clause-cause g c honest bytes answered answer =
     let a = g.S.Shelf.shelf c.args.shelf.now in
-    let r = c.args.regions.now in
     if_err c.from_residual.result _ _ c.from_residual.ensures.1 (λ e is.
-    subst (λ (x : Cause). IsCauseOf a a r.bytes.items r.answered.items x) (sym is)
-    (record_cause a a r.bytes.items r.answered.items c.in_err-loaded.field-0.0 (c.in_err-loaded.ensures.err (geometry_of a) (sym c.requires.drives) (sym c.units.ensures))))
+    subst (λ (x : Cause). IsCauseOf a a bytes answered x) (sym is)
+    (record_cause a a bytes answered c.in_err-loaded.field-0.0 (rw c.in_err-loaded.was at answer)))
 
 pub read_tables-requires : goal.read_tables-requires
-read_tables-requires g c =
-    let a = g.S.Shelf.shelf c.args.shelf.now in
-    record { lawful = (c.in_ok-loaded.ensures.ok (geometry_of a) (sym c.requires.drives) (sym c.units.ensures)).held.lawful }
+read_tables-requires g c = record { lawful = (rw c.in_ok-loaded.was at c.requires).lawful }
 
 pub returns-in_err-tables-clause-cause : goal.returns-in_err-tables-clause-cause
-returns-in_err-tables-clause-cause g c honest =
+returns-in_err-tables-clause-cause g c honest bytes answered answer =
     let a = g.S.Shelf.shelf c.args.shelf.now in
     let n = g.S.Shelf.shelf c.read_tables.new.shelf in
-    let r = c.args.regions.now in
-    let given = c.in_ok-loaded.ensures.ok (geometry_of a) (sym c.requires.drives) (sym c.units.ensures) in
+    let given = rw c.in_ok-loaded.was at answer in
     if_err c.from_residual-in_err-tables.result _ _ c.from_residual-in_err-tables.ensures.1 (λ e is.
-    subst (λ (x : Cause). IsCauseOf a n r.bytes.items r.answered.items x) (sym is)
-    (cause_of_those a n r.bytes.items r.answered.items c.in_ok-loaded.loaded given c.in_err-tables.field-0.0 (c.in_err-tables.ensures.fault honest)))
+    subst (λ (x : Cause). IsCauseOf a n bytes answered x) (sym is)
+    (cause_of_those a n bytes answered c.in_ok-loaded.loaded given c.in_err-tables.field-0.0 (c.in_err-tables.ensures.fault honest)))
 
 pub returns-in_err-log-clause-ran : goal.returns-in_err-log-clause-ran
 returns-in_err-log-clause-ran g c = ran_then g.met.S.Shelf.shelf_rest_stays c.read_tables.ensures.ran (ran_more (λ d on. tt) (λ d i w. w) c.read.ensures.ran)
 
 pub returns-in_err-log-clause-cause : goal.returns-in_err-log-clause-cause
-returns-in_err-log-clause-cause g c honest =
+returns-in_err-log-clause-cause g c honest bytes answered answer =
     let a = g.S.Shelf.shelf c.args.shelf.now in
     let mid = g.S.Shelf.shelf c.read_tables.new.shelf in
     let n = g.S.Shelf.shelf c.read.new.shelf in
-    let r = c.args.regions.now in
-    let given = c.in_ok-loaded.ensures.ok (geometry_of a) (sym c.requires.drives) (sym c.units.ensures) in
+    let given = rw c.in_ok-loaded.was at answer in
     if_err c.from_residual-in_err-log.result _ _ c.from_residual-in_err-log.ensures.1 (λ e is.
-    subst (λ (x : Cause). IsCauseOf a n r.bytes.items r.answered.items x) (sym is)
-    (log_cause a mid n r.bytes.items r.answered.items c.in_ok-loaded.loaded given c.read_tables.ensures.nvrams c.in_err-log.field-0.0 c.in_err-log.ensures.err))
+    subst (λ (x : Cause). IsCauseOf a n bytes answered x) (sym is)
+    (log_cause a mid n bytes answered c.in_ok-loaded.loaded given c.read_tables.ensures.nvrams c.in_err-log.field-0.0 c.in_err-log.ensures.err))
 
 pub returns-in_err-waiting-clause-ran : goal.returns-in_err-waiting-clause-ran
 returns-in_err-waiting-clause-ran g c = ran_then g.met.S.Shelf.shelf_rest_stays c.read_tables.ensures.ran (ran_more (λ d on. tt) (λ d i w. w) c.read.ensures.ran)
 
 pub returns-in_err-waiting-clause-cause : goal.returns-in_err-waiting-clause-cause
-returns-in_err-waiting-clause-cause g c honest =
+returns-in_err-waiting-clause-cause g c honest bytes answered answer =
     let a = g.S.Shelf.shelf c.args.shelf.now in
     let mid = g.S.Shelf.shelf c.read_tables.new.shelf in
     let n = g.S.Shelf.shelf c.read.new.shelf in
-    let r = c.args.regions.now in
     let x = c.in_ok-loaded.loaded in
     let log = c.in_ok-log.log in
-    let given = c.in_ok-loaded.ensures.ok (geometry_of a) (sym c.requires.drives) (sym c.units.ensures) in
+    let given = rw c.in_ok-loaded.was at answer in
     if_err c.from_residual-in_err-waiting.result _ _ c.from_residual-in_err-waiting.ensures.1 (λ e is.
-    subst (λ (x : Cause). IsCauseOf a n r.bytes.items r.answered.items x) (sym (is ∙ c.in_err-waiting.ensures.err.0))
+    subst (λ (x : Cause). IsCauseOf a n bytes answered x) (sym (is ∙ c.in_err-waiting.ensures.err.0))
     (record {
       loaded = x;
       given = given;
@@ -70,22 +64,19 @@ pub returns-clause-ran : goal.returns-clause-ran
 returns-clause-ran g c = ran_then g.met.S.Shelf.shelf_rest_stays c.read_tables.ensures.ran (ran_more (λ d on. tt) (λ d i w. w) c.read.ensures.ran)
 
 pub returns-clause-opening : goal.returns-clause-opening
-returns-clause-opening g c =
-    let a = g.S.Shelf.shelf c.args.shelf.now in
-    let given = c.in_ok-loaded.ensures.ok (geometry_of a) (sym c.requires.drives) (sym c.units.ensures) in
-    record {
-      lawful = given.held.lawful;
-      memory = c.in_ok-tables.ensures.memory;
-      waiting = λ commands keeps. (c.in_ok-waiting.ensures.ok commands keeps).1;
-    }
+returns-clause-opening g c = record {
+  lawful = (rw c.in_ok-loaded.was at c.requires).lawful;
+  memory = c.in_ok-tables.ensures.memory;
+  waiting = λ commands keeps. (c.in_ok-waiting.ensures.ok commands keeps).1;
+}
 
 pub returns-clause-found : goal.returns-clause-found
-returns-clause-found g c honest =
+returns-clause-found g c honest bytes answered answer =
     let a = g.S.Shelf.shelf c.args.shelf.now in
     let mid = g.S.Shelf.shelf c.read_tables.new.shelf in
     let n = g.S.Shelf.shelf c.read.new.shelf in
     record {
-      given = c.in_ok-loaded.ensures.ok (geometry_of a) (sym c.requires.drives) (sym c.units.ensures);
+      given = rw c.in_ok-loaded.was at answer;
       tables = c.in_ok-tables.ensures.tables honest;
       visible = c.in_ok-tables.ensures.visible;
       log = log_of a mid n c.in_ok-loaded.loaded.record c.in_ok-log.log c.read_tables.ensures.ran.on.continues.honest c.read_tables.ensures.nvrams c.in_ok-log.ensures.flushed

@@ -1,12 +1,27 @@
-use Rattle.std.proofs.Common.{◌∙◌, sym, subst, Bool, List}
+use Rattle.std.proofs.Common.{◌∙◌, refl, sym, subst, Bool, List}
 use Rattle.world.specs.Losing.{geometry_of}
 use Rattle.world.proofs.Moments.{continues_trans}
 use Rattle.world.proofs.Ran.{ran_more, ran_then}
 use Rattle.pur_base.specs.Devices.{nvram}
 use Rattle.shelf_look.specs.Looking.{AreStates}
+use Rattle.boot_region.proofs.LoadingLemmas.{answer_of, lawful_load}
 use Rattle.shelf_look.proofs.Beside.{sides_since}
 use Rattle.shelf_look.proofs.Lifting.{outcome, read_later, same_then}
 use Rattle.shelf_look.proofs.looking.look.Goals as goal
+
+pub record_seen-requires : goal.record_seen-requires
+record_seen-requires g c shelf drives units =
+    let r = c.read_regions.new.regions in
+    answer_of shelf r.bytes.items r.answered.items c.units-units.result c.load-loaded.result c.load-loaded.ensures.ok c.load-loaded.ensures.err drives units
+
+pub find-opening-requires : goal.find-opening-requires
+find-opening-requires g c =
+    let s = geometry_of (g.S.Shelf.shelf c.read_sides-logs.new.shelf) in
+    let r = c.read_regions.new.regions in
+    let on = continues_trans c.read_regions.ensures.ran.on.continues c.read_sides-logs.ensures.ran.on.continues in
+    lawful_load s s r.bytes.items r.answered.items c.load-loaded.result refl
+    (answer_of s r.bytes.items r.answered.items c.units-units.result c.load-loaded.result c.load-loaded.ensures.ok c.load-loaded.ensures.err
+    (on.drives ∙ sym (c.read_regions.ensures.drives ∙ c.read_regions.ensures.ran.on.continues.drives)) (on.units ∙ sym c.units-units.ensures))
 
 pub returns-in_err-found-clause-ran : goal.returns-in_err-found-clause-ran
 returns-in_err-found-clause-ran g c =
@@ -31,6 +46,7 @@ returns-clause-look g c honest =
     let then = c.read_sides-logs.ensures.ran.on.continues in
     let on = continues_trans first then in
     let all = c.read_regions.ensures.drives ∙ first.drives in
+    let answer = answer_of (geometry_of s) r.bytes.items r.answered.items c.units-units.result c.load-loaded.result c.load-loaded.ensures.ok c.load-loaded.ensures.err (on.drives ∙ sym all) (on.units ∙ sym c.units-units.ensures) in
     record {
       slots = c.drives-slots.ensures;
       units = c.units-units.ensures;
@@ -43,5 +59,5 @@ returns-clause-look g c honest =
       logs = sides_since a b s n c.in_ok-record.record c.read_sides-logs.result (λ k. c.read_regions.ensures.ran.on.others (nvram k) (λ is. is)) c.find-opening.ensures.ran.on.continues (g.met.S.Shelf.is_shelf c.find-opening.new.shelf)
           (c.read_sides-logs.ensures.sides (first.honest honest));
       outcome = outcome a s n on (λ d. same_then (c.read_regions.ensures.same honest d) (c.read_sides-logs.ensures.same (first.honest honest) d)) r.bytes.items r.answered.items c.find-opening.result c.in_ok-found.found c.in_ok-found.ensures
-          (c.find-opening.ensures.found (on.honest honest)) (c.find-opening.ensures.cause (on.honest honest));
+          (c.find-opening.ensures.found (on.honest honest) r.bytes.items r.answered.items answer) (c.find-opening.ensures.cause (on.honest honest) r.bytes.items r.answered.items answer);
     }
