@@ -36,6 +36,7 @@ use Rattle.array_engine.specs.Engines.{IsAt, IsAnsweredAt}
 use Rattle.array_engine.specs.Replying.{said_of, said_of_merge, said_of_read}
 use Rattle.array_engine.proofs.Points.{was_read, was_lost}
 use Rattle.array_engine.proofs.Meanwhile.{OnlyReads, read_keeps, read_keeps_segments}
+use Rattle.array_engine.proofs.Numbers.{segment_same}
 use Rattle.array_engine.proofs.Spans.{AreMissing, shows, loses_three}
 
 -- ---- a read
@@ -45,7 +46,7 @@ pub record WasRead (old new : Shelved) (a : Array) (name : List ℕ) (lba count 
   pub refused : IfErr ended (λ f. IfRefused f (λ why. OfArray a.memory.memory (λ array. first_cause (read_causes array name lba count) ≡ Some why)))
   pub given : old.honest → OnOk ended ((contents : Contents) (array : plain.Array) (view : View) → ReadsAs contents a.memory.memory array → ShowsDrives old missing view → ContentsStand contents view (facts a.memory.memory.tables)
       → sectors ≡ span lba count (sectors_of array name))
-  pub lost : IfErr ended (λ f. IfLost f (LosesThree old new missing))
+  pub lost : IfErr ended (λ f. IfLost f (LosesThree old new (facts a.memory.memory.tables) missing))
 
 module _ (told : Bool) (old new : Shelved) (e f : Engine) (like : IsLike e.array f.array) (halts : f.halted ≡ e.halted) (reads : OnlyReads old new) (is_old : IsShelf old) (is_new : IsShelf new) (honest : told ≡ true → old.honest)
     (from : Point) (at : IsAt told old e from) (awake : e.halted ≡ false) (name : List ℕ) (lba count : ℕ) (few : count ≤ REQUEST_SECTORS) (missing : List Bool) (is_of : IsArrayOf (geometry_of old) e.array) (are : AreMissing e.array.register missing)
@@ -63,7 +64,7 @@ module _ (told : Bool) (old new : Shelved) (e f : Engine) (like : IsLike e.array
       (λ t. ap Sectors (w.given (honest t) (at.stands awake).contents from.array (drives_view old e.array.register) (at.stands awake).reads (shows old e.array.register missing is_of.of_shelf are) ((at.stands awake).hold t)))
   read_answered (Err (read.Refused why)) w = absurd (cc (none, w.refused (at.stands awake).contents from.array (at.stands awake).reads))
   read_answered (Err read.Lost) w = was_lost told old new e f like halts (read_keeps_segments told old new reads honest f.array) from at (read_keeps old new reads is_old is_new f.array) awake name lba count asked none
-      (loses_three old e.array.register missing is_of.of_shelf are new from e.array refl (at.stands awake).holders w.lost)
+      (loses_three old e.array.register missing is_of.of_shelf are new from e.array refl (segment_same (geometry_of old) is_of (at.stands awake)) (at.stands awake).holders w.lost)
 
 -- the sectors are there
 pub read_there : (sectors : List (List ℕ)) (count : ℕ) → length sectors ≡ REQUEST_SECTORS → count ≤ REQUEST_SECTORS → (ended : Result Unit ReadFault) → HasSectors sectors (said_of_read count ended)

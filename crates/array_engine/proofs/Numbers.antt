@@ -1,12 +1,18 @@
 -- The numbers of a status, at a point at which the array stands.
-use Rattle.std.proofs.Common.{◌≡◌, ℕ, ◌+◌, ◌≤◌, Bool, List, [], ◌∷◌, length, Option, Some, None, refl, arith}
+use Rattle.std.proofs.Common.{◌≡◌, ℕ, ◌+◌, ◌≤◌, Bool, List, [], ◌∷◌, length, Option, Some, None, refl, ap, ◌∙◌, arith}
 use Rattle.std.specs.Prelude.{filter_map}
 use Rattle.std.specs.List.{cons_option, range_with_len}
 use Rattle.std.proofs.lemmas.List.FromFn.{length-range_with_len}
 use Rattle.pur_base.specs.Facts.{Facts}
 use Rattle.pur_base.specs.Devices.{Geometry}
 use Rattle.pur_base.specs.Visible.{segment, segments}
+use Rattle.pur_base.specs.declared.facts.AnyFact.{AnyFact}
+use Rattle.pur_base.specs.declared.facts.ElisionFact.{ElisionFact}
+use Rattle.pur_base.specs.declared.facts.SegmentFact.{SegmentFact}
 use Rattle.world.specs.Shelf.{Shelved}
+use Rattle.array_spec.specs.Stored.{all_facts}
+use Rattle.memory_spec.specs.Tables.{facts, flushed}
+use Rattle.checkpoint_spec.proofs.Patches.{patches_are_flushed, whole_table}
 use Rattle.session_spec.specs.Faring.{Point, data_segments_at, numbers_at}
 use Rattle.array_core.specs.declared.array.Array.{Array}
 use Rattle.array_core.specs.Ready.{IsArrayOf}
@@ -27,7 +33,20 @@ few_some f (x ∷ xs) = let more = some_more (f x) (filter_map f xs) (length xs)
 pub few_segments : (f : Facts) (next : ℕ) → length (segments f next) ≤ next
 few_segments f next = omega (arith, few_some (segment f) (range_with_len 0 next), length-range_with_len 0 next)
 
--- the record's patches show the same segments as memory
+-- ---- the segments that the record's patches show
+
+-- the segment of an id, by the two tables that tell of it
+abbrev seen_in : ℕ → List SegmentFact → List ElisionFact → Option SegmentFact
+seen_in id ss es = segment (record { objects = []; mediums = []; addresses = []; segments = ss; elisions = es }) id
+
+-- the record's patches show the same one as memory
+pub segment_same : {told : Bool} {shelf : Shelved} {a : Array} {p : Point} (size : Geometry) → IsArrayOf size a → StandsAt told shelf a p → (id : ℕ) → segment (all_facts p.patches) id ≡ segment (facts a.memory.memory.tables) id
+segment_same {told} {shelf} {a} {p} size is s id =
+    let t = a.memory.memory.tables in
+    let same : segment (flushed t) id ≡ segment (facts t) id = λ k. seen_in id (whole_table t.segments is.room.no_segments k) (whole_table t.elisions is.room.no_elisions k) in
+    ap (λ (ps : List (List AnyFact)). segment (all_facts ps) id) s.patches ∙ ap (λ (f : Facts). segment f id) (patches_are_flushed t) ∙ same
+
+-- and the same ones in all
 shown_same : {told : Bool} {shelf : Shelved} {a : Array} {p : Point} (size : Geometry) → IsArrayOf size a → StandsAt told shelf a p → data_segments_at p ≡ segments_of a
 shown_same {told} {shelf} {a} {p} size is s =
     rw (s.patches, s.next) (patches_show a.memory.memory.tables a.memory.memory.next.segment is.room.no_segments is.room.no_elisions)

@@ -1,5 +1,5 @@
 -- Sectors of the array's segments: where they may be read, what is shown of them, and why they can't be had.
-use Rattle.std.proofs.Common.{◌≡◌, inl, inr, ℕ, ◌<◌, ◌≤◌, List, Some, refl, subst, arith, Bool, true, false, not}
+use Rattle.std.proofs.Common.{◌≡◌, inl, inr, ℕ, ◌<◌, ◌≤◌, List, Some, refl, ◌∙◌, subst, arith, Bool, true, false, not}
 use Rattle.std.specs.Prelude.{Contains}
 use Rattle.std.proofs.lemmas.Bool.{cases_Bool}
 use Rattle.pur_base.specs.declared.device.Device.{Device}
@@ -12,6 +12,7 @@ use Rattle.pur_base.specs.Keys.{key_of}
 use Rattle.pur_base.specs.Visible.{is_elided, segment}
 use Rattle.pur_base.proofs.SaysLemmas.{says_is}
 use Rattle.boot_codec.specs.declared.patch.PatchSegment.{PatchSegment}
+use Rattle.array_spec.specs.Stored.{all_facts}
 use Rattle.boot_region.specs.Members.{IsMember}
 use Rattle.world.specs.Counts.{Rises}
 use Rattle.world.specs.Losing.{geometry_of, has_risen}
@@ -73,7 +74,7 @@ module _ (shelf : Shelved) (r : Register) (missing : List Bool) (is : IsRegister
 
   -- ---- why they can't be had
 
-  module _ (new : Shelved) (from : Point) (a : Array) (same : a.register ≡ r) (holders : (d : Device) → from.conditions d ≡ Sound → IsHolder a d) where
+  module _ (new : Shelved) (from : Point) (a : Array) (same : a.register ≡ r) (shown : (id : ℕ) → segment (all_facts from.patches) id ≡ segment (facts a.memory.memory.tables) id) (holders : (d : Device) → from.conditions d ≡ Sound → IsHolder a d) where
     rises : (i : ℕ) → Rises (shelf.disk (drive i)).faults (new.disk (drive i)).faults → failed_in shelf new (drive i) ≡ true
     rises i rose = elim (cases_Bool (has_risen (shelf.disk (drive i)).faults (new.disk (drive i)).faults)) [
       | inl risen ↦ risen
@@ -85,11 +86,15 @@ module _ (shelf : Shelved) (r : Register) (missing : List Bool) (is : IsRegister
         (in_cut r.drives r.record.slots i (subst (λ (x : Register). IsMember (drives_of x) i) same (holders (drive i) sound))))
     gone i lt (inr rose) = inr (rises i rose)
 
-    pub loses_three : LosesThree shelf new missing → faring.LosesThree (geometry_of shelf) (failed_in shelf new) from
+    pub loses_three : LosesThree shelf new (facts a.memory.memory.tables) missing → faring.LosesThree (geometry_of shelf) (failed_in shelf new) from
     loses_three l = record {
+      id = l.id;
+      which = l.which;
+      there = shown l.id ∙ l.there;
       first = l.first;
       second = l.second;
       third = l.third;
+      hold = l.hold;
       in_order = l.in_order;
-      are = (gone l.first (omega (arith, l.in_order.0, l.in_order.1, l.in_order.2)) l.are.0, gone l.second (omega (arith, l.in_order.1, l.in_order.2)) l.are.1, gone l.third l.in_order.2 l.are.2);
+      are = (gone l.first.slot (omega (arith, l.in_order.0, l.in_order.1, l.in_order.2)) l.are.0, gone l.second.slot (omega (arith, l.in_order.1, l.in_order.2)) l.are.1, gone l.third.slot l.in_order.2 l.are.2);
     }

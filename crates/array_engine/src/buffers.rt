@@ -54,7 +54,7 @@ fn read_first<S: Shelf>(
     ensures refused { IfErr result (λ fault. IfRefused fault (λ why. OfArray memory.now.memory (λ array. first_cause (read_causes array name.now lba count) ≡ Some why))) }
     ensures sectors { (S.shelf shelf.old).honest → OnOk result ((contents : Contents) (array : Array) (view : View) → ReadsAs contents memory.now.memory array
         → ShowsDrives (S.shelf shelf.old) missing.now view → ContentsStand contents view (facts memory.now.memory.tables) → take count sectors.new ≡ span lba count (sectors_of array name.now)) }
-    ensures lost { IfErr result (λ fault. IfLost fault (LosesThree (S.shelf shelf.old) (S.shelf shelf.new) missing.now)) }
+    ensures lost { IfErr result (λ fault. IfLost fault (LosesThree (S.shelf shelf.old) (S.shelf shelf.new) (facts memory.now.memory.tables) missing.now)) }
 {
     let out = &mut sectors[..count as usize];
     read_span(memory, name, lba, missing, room, out, shelf)
@@ -111,7 +111,7 @@ impl ReadBuffers {
         ensures refused { IfErr result (λ fault. IfRefused fault (λ why. OfArray memory.now.memory (λ array. first_cause (read_causes array name.now lba count) ≡ Some why))) }
         ensures sectors { (S.shelf shelf.old).honest → OnOk result ((contents : Contents) (array : Array) (view : View) → ReadsAs contents memory.now.memory array
             → ShowsDrives (S.shelf shelf.old) missing.now view → ContentsStand contents view (facts memory.now.memory.tables) → take count self.new.sectors.items ≡ span lba count (sectors_of array name.now)) }
-        ensures lost { IfErr result (λ fault. IfLost fault (LosesThree (S.shelf shelf.old) (S.shelf shelf.new) missing.now)) }
+        ensures lost { IfErr result (λ fault. IfLost fault (LosesThree (S.shelf shelf.old) (S.shelf shelf.new) (facts memory.now.memory.tables) missing.now)) }
     {
         let result = read_first(
             memory,

@@ -60,11 +60,15 @@ module _ (told : Bool) (shelf : Geometry) (failed others lost more : Device → 
   lost_more : IsLost shelf failed from q to → IsLost shelf others from q to
   lost_more h = record {
     three = record {
+      id = h.three.id;
+      which = h.three.which;
+      there = h.three.there;
       first = h.three.first;
       second = h.three.second;
       third = h.three.third;
+      hold = h.three.hold;
       in_order = h.three.in_order;
-      are = (gone_more h.three.first h.three.are.0, gone_more h.three.second h.three.are.1, gone_more h.three.third h.three.are.2);
+      are = (gone_more h.three.first.slot h.three.are.0, gone_more h.three.second.slot h.three.are.1, gone_more h.three.third.slot h.three.are.2);
     };
     refused_so = h.refused_so;
   }

@@ -14,6 +14,7 @@ use Rattle.pur_base.specs.Grammar.{Item, Asked, Syntax, Cut}
 use Rattle.pur_base.specs.Replies.{Answer, Line, Sectors, refused, given, text}
 use Rattle.pur_base.specs.Visible.{segment, segments}
 use Rattle.pur_base.specs.declared.facts.SegmentFact.{SegmentFact}
+use Rattle.pur_base.specs.declared.place.Place.{Place}
 use Rattle.world.specs.Shelf.{Stop}
 use Rattle.pur_base.specs.declared.limits.TheConstants.{SECTOR_BYTES}
 use Rattle.pur_base.specs.declared.facts.AnyFact.{AnyFact}
@@ -99,13 +100,17 @@ pub record IsRead (told : Bool) (from : Point) (n : List ℕ) (lba count : ℕ) 
   pub stays : IsAsBefore from to
   pub halted : to.halted ≡ from.halted
 
--- three drives of the shelf are each missing, or failed a call meanwhile: a sector that was read can't be had
+-- Three drives that hold units of one segment, which the record's patches show, are each missing, or failed a call meanwhile: too little is left of its stripes.
 pub record LosesThree (shelf : Geometry) (failed : Device → Bool) (from : Point) : Type 0 where
-  pub first : ℕ
-  pub second : ℕ
-  pub third : ℕ
-  pub in_order : (first < second) × (second < third) × (third < shelf.slots)
-  pub are : IsGone failed from first × IsGone failed from second × IsGone failed from third
+  pub id : ℕ
+  pub which : SegmentFact
+  pub there : segment (all_facts from.patches) id ≡ Some which
+  pub first : Place
+  pub second : Place
+  pub third : Place
+  pub hold : Contains which.places first × Contains which.places second × Contains which.places third
+  pub in_order : (first.slot < second.slot) × (second.slot < third.slot) × (third.slot < shelf.slots)
+  pub are : IsGone failed from first.slot × IsGone failed from second.slot × IsGone failed from third.slot
 
 -- then `no device` is answered to the read, and nothing changes
 pub record IsLost (shelf : Geometry) (failed : Device → Bool) (from : Point) (q : Answer) (to : Point) : Type 0 where

@@ -46,8 +46,8 @@ run_read a fs missing contents view id index count which places out readable the
     (sector_stands view fs contents id index j which places stand there (omega (arith, low, placed)) given)
 
 -- and where that fails, drives are lost
-pub run_lost : (a b : Shelved) (fs : Facts) (missing drives : List Bool) (id : ℕ) (places : List Place) → AreReadable a fs → HasPlaces fs id places → AreLost a b places (is_missing_in missing places) drives → AreDrivesLost a b missing drives
-run_lost a b fs missing drives id places readable given lost = lost_places a b places missing drives (places_are a fs id places readable given) lost
+pub run_lost : (a b : Shelved) (fs : Facts) (missing drives : List Bool) (id : ℕ) (places : List Place) → AreReadable a fs → HasPlaces fs id places → AreLost a b places (is_missing_in missing places) drives → AreDrivesLost a b fs missing drives
+run_lost a b fs missing drives id places readable given lost = lost_places a b fs id given.0 given.1 places given.2 missing drives (places_are a fs id places readable given) lost
 
 -- ---- the targets of such sectors
 

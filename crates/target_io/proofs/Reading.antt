@@ -1,9 +1,12 @@
 -- One read after another.
-use Rattle.std.proofs.Common.{◌≡◌, ◌≢◌, inl, inr, ⊎_elim, ℕ, Bool, List, true, refl, sym, ◌∙◌, ap, subst, arith}
-use Rattle.std.specs.Prelude.{Some}
+use Rattle.std.proofs.Common.{◌≡◌, ◌≢◌, inl, inr, ⊎_elim, ℕ, ◌<◌, Bool, List, true, refl, sym, ◌∙◌, ap, subst, arith}
+use Rattle.std.specs.Prelude.{Some, Contains}
+use Rattle.std.proofs.lemmas.List.Elements.{Contains-get_or}
 use Rattle.pur_base.specs.declared.place.Place.{Place}
 use Rattle.pur_base.specs.Devices.{View, drive, nvram}
 use Rattle.pur_base.specs.Facts.{Facts}
+use Rattle.pur_base.specs.Visible.{segment}
+use Rattle.pur_base.specs.declared.facts.SegmentFact.{SegmentFact}
 use Rattle.world.specs.Shelf.{Shelved, IsShelf, Continues, IsSame}
 use Rattle.world.specs.Writes.{WritesOnly}
 use Rattle.world.proofs.Moments.{continues_refl, continues_trans}
@@ -56,16 +59,20 @@ still_shows {a} {b} missing view h reads shows slot low present = shows slot (om
 -- ---- what is lost
 
 -- what is lost in the second of two calls is lost in both
-pub lost_since : (a b c : Shelved) (missing drives : List Bool) → Continues a b → AreDrivesLost b c missing drives → AreDrivesLost a c missing drives
-lost_since a b c missing drives on lost =
+pub lost_since : (a b c : Shelved) (fs : Facts) (missing drives : List Bool) → Continues a b → AreDrivesLost b c fs missing drives → AreDrivesLost a c fs missing drives
+lost_since a b c fs missing drives on lost =
     let t = lost.three in
     record {
       three = record {
+        id = t.id;
+        which = t.which;
+        there = t.there;
         first = t.first;
         second = t.second;
         third = t.third;
+        hold = t.hold;
         in_order = (t.in_order.0, t.in_order.1, omega (arith, t.in_order.2, on.drives));
-        are = (since t.first t.are.0, since t.second t.are.1, since t.third t.are.2);
+        are = (since t.first.slot t.are.0, since t.second.slot t.are.1, since t.third.slot t.are.2);
       };
       named = lost.named;
       each = λ slot is. since slot (lost.each slot is);
@@ -74,15 +81,20 @@ lost_since a b c missing drives on lost =
     since : (slot : ℕ) → IsLost b c missing slot → IsLost a c missing slot
     since slot is = ⊎_elim (λ was. inl was) (λ rose. inr (rises_then (a.disk (drive slot)).faults (b.disk (drive slot)).faults (c.disk (drive slot)).faults (on.faults (drive slot)) rose)) is
 
--- drives of a segment
-pub lost_places : (a b : Shelved) (places : List Place) (missing drives : List Bool) → ArePlaces a places → AreLost a b places (is_missing_in missing places) drives → AreDrivesLost a b missing drives
-lost_places a b places missing drives are lost =
+-- drives of a visible segment
+pub lost_places : (a b : Shelved) (fs : Facts) (id : ℕ) (which : SegmentFact) → segment fs id ≡ Some which → (places : List Place) → which.places ≡ places → (missing drives : List Bool) → ArePlaces a places
+    → AreLost a b places (is_missing_in missing places) drives → AreDrivesLost a b fs missing drives
+lost_places a b fs id which there places same missing drives are lost =
     let three = lost.three in
     record {
       three = record {
-        first = (place_of places three.first).slot;
-        second = (place_of places three.second).slot;
-        third = (place_of places three.third).slot;
+        id = id;
+        which = which;
+        there = there;
+        first = place_of places three.first;
+        second = place_of places three.second;
+        third = place_of places three.third;
+        hold = (holds three.first (omega (arith, three.in_order)), holds three.second (omega (arith, three.in_order)), holds three.third three.in_order.2);
         in_order = (
           are.ascending three.first three.second three.in_order.0 (omega (arith, three.in_order)),
           are.ascending three.second three.third three.in_order.1 three.in_order.2,
@@ -97,3 +109,6 @@ lost_places a b places missing drives are lost =
       named = three.are;
       each = λ slot is. let at = lost.no_other slot is in subst (IsLost a b missing) (sym at.2) (lost.cause at.0 at.1 (subst (λ (s : ℕ). is_in drives s ≡ true) at.2 is));
     }
+  where
+    holds : (shard : ℕ) → shard < 9 → Contains which.places (place_of places shard)
+    holds shard within = subst (λ (units : List Place). Contains units (place_of places shard)) (sym same) (Contains-get_or places shard (record { slot = 0; unit = 0 }) (omega (arith, within, are.nine)))

@@ -1,8 +1,9 @@
 -- What reading does to a shelf, and what it finds there.
-use Rattle.std.specs.Prelude.{◌≡◌, ◌⊎◌, ℕ, ◌<◌, ◌≤◌, true, false, Bool, List, Some}
+use Rattle.std.specs.Prelude.{◌≡◌, ◌⊎◌, ℕ, ◌<◌, ◌≤◌, true, false, Bool, List, Some, Contains}
 use Rattle.pur_base.specs.declared.device.Device.{Device}
 use Rattle.pur_base.specs.declared.facts.SegmentFact.{SegmentFact}
 use Rattle.pur_base.specs.declared.limits.TheConstants.{SEGMENT_SECTORS}
+use Rattle.pur_base.specs.declared.place.Place.{Place}
 use Rattle.pur_base.specs.Devices.{View, drive, nvram}
 use Rattle.pur_base.specs.Facts.{Facts}
 use Rattle.pur_base.specs.Visible.{segment}
@@ -32,16 +33,20 @@ pub record ReadsOnly (old new : Shelved) : Type 0 where
 abbrev pub IsLost : Shelved → Shelved → List Bool → ℕ → Type 0
 IsLost old new missing slot = (is_in missing slot ≡ true) ⊎ Rises (old.disk (drive slot)).faults (new.disk (drive slot)).faults
 
--- three drives are each missing or failed
-pub record LosesThree (old new : Shelved) (missing : List Bool) : Type 0 where
-  pub first : ℕ
-  pub second : ℕ
-  pub third : ℕ
-  pub in_order : (first < second) × (second < third) × (third < old.drives)
-  pub are : IsLost old new missing first × IsLost old new missing second × IsLost old new missing third
+-- three drives that hold units of one visible segment are each missing or failed: too little is left of its stripes
+pub record LosesThree (old new : Shelved) (facts : Facts) (missing : List Bool) : Type 0 where
+  pub id : ℕ
+  pub which : SegmentFact
+  pub there : segment facts id ≡ Some which
+  pub first : Place
+  pub second : Place
+  pub third : Place
+  pub hold : Contains which.places first × Contains which.places second × Contains which.places third
+  pub in_order : (first.slot < second.slot) × (second.slot < third.slot) × (third.slot < old.drives)
+  pub are : IsLost old new missing first.slot × IsLost old new missing second.slot × IsLost old new missing third.slot
 
--- these drives are lost, three of them or more
-pub record AreDrivesLost (old new : Shelved) (missing drives : List Bool) : Type 0 where
-  pub three : LosesThree old new missing
-  pub named : (is_in drives three.first ≡ true) × (is_in drives three.second ≡ true) × (is_in drives three.third ≡ true)
+-- these drives are lost, three of a segment's or more
+pub record AreDrivesLost (old new : Shelved) (facts : Facts) (missing drives : List Bool) : Type 0 where
+  pub three : LosesThree old new facts missing
+  pub named : (is_in drives three.first.slot ≡ true) × (is_in drives three.second.slot ≡ true) × (is_in drives three.third.slot ≡ true)
   pub each : (slot : ℕ) → is_in drives slot ≡ true → IsLost old new missing slot

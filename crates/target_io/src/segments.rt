@@ -15,7 +15,7 @@ use pur_base::{Location, Lost, Sector};
 use world::Shelf;
 
 /// Reads as many sectors as there are places, from that location on in its segment.
-/// `Lost` names drives that are each missing or failed in this call, three at least.
+/// `Lost` names drives that are each missing or failed in this call, three of the segment's at least.
 pub fn read_segment<S: Shelf>(
     memory: &Memory,
     at: Location,
@@ -31,7 +31,7 @@ pub fn read_segment<S: Shelf>(
     ensures rest { S.shelf_rest shelf.old shelf.new }
     ensures sectors { (S.shelf shelf.old).honest → OnOk result ((contents : Contents) (view : View) → ShowsDrives (S.shelf shelf.old) missing.now view → ContentsStand contents view (facts memory.now.memory.tables)
         → (j : ℕ) → j < length out.old → slice_index_or out.new j [] ≡ contents at.segment.0 (at.index + j)) }
-    ensures lost { IfErr result (λ lost. AreDrivesLost (S.shelf shelf.old) (S.shelf shelf.new) missing.now lost.drives) }
+    ensures lost { IfErr result (λ lost. AreDrivesLost (S.shelf shelf.old) (S.shelf shelf.new) (facts memory.now.memory.tables) missing.now lost.drives) }
 {
     let Some(places) = memory.places(at.segment) else {
         unreachable!()

@@ -53,7 +53,8 @@ pub fn read_span<S: Shelf>(
         → ShowsDrives (S.shelf shelf.old) missing.now view → ContentsStand contents view (facts memory.now.memory.tables) → out.new ≡ span lba (length out.old) (sectors_of array name.now)) }
     // `Lost` comes only of a read that the plain array accepts.
     ensures accepted_where_lost { IfErr result (λ fault. IfLost fault (OfArray memory.now.memory (λ array. first_cause (read_causes array name.now lba (length out.old)) ≡ None))) }
-    ensures lost { IfErr result (λ fault. IfLost fault (LosesThree (S.shelf shelf.old) (S.shelf shelf.new) missing.now)) }
+    // Of a segment three drives are each missing or failed.
+    ensures lost { IfErr result (λ fault. IfLost fault (LosesThree (S.shelf shelf.old) (S.shelf shelf.new) (facts memory.now.memory.tables) missing.now)) }
 {
     let mut targets = [Target::Zero; REQUEST_SECTORS];
     let targets = &mut targets[..out.len()];

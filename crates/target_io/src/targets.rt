@@ -36,7 +36,7 @@ fn read_next<S: Shelf>(
     ensures some { IfOk result (λ count. (1 ≤ count) × (count ≤ length targets.now)) }
     ensures sectors { (S.shelf shelf.old).honest → IfOk result (λ count. (contents : Contents) (view : View) → ShowsDrives (S.shelf shelf.old) missing.now view → ContentsStand contents view (facts memory.now.memory.tables)
         → AreSectorsOf contents memory.now.memory.staged targets.now count out.new) }
-    ensures lost { IfErr result (λ lost. AreDrivesLost (S.shelf shelf.old) (S.shelf shelf.new) missing.now lost.drives) }
+    ensures lost { IfErr result (λ lost. AreDrivesLost (S.shelf shelf.old) (S.shelf shelf.new) (facts memory.now.memory.tables) missing.now lost.drives) }
 {
     let first = &mut out[0];
     let Some(at) = fetch(memory, targets[0], first) else {
@@ -48,7 +48,7 @@ fn read_next<S: Shelf>(
     Ok(count)
 }
 
-/// Reads the sectors of all targets. `Lost` names drives that are each missing or failed in this call, three at least.
+/// Reads the sectors of all targets. `Lost` names drives that are each missing or failed in this call, three of one segment's at least.
 pub fn read_targets<S: Shelf>(
     memory: &Memory,
     targets: &[Target],
@@ -65,7 +65,7 @@ pub fn read_targets<S: Shelf>(
     ensures rest { S.shelf_rest shelf.old shelf.new }
     ensures sectors { (S.shelf shelf.old).honest → OnOk result ((contents : Contents) (view : View) → ShowsDrives (S.shelf shelf.old) missing.now view → ContentsStand contents view (facts memory.now.memory.tables)
         → AreSectorsOf contents memory.now.memory.staged targets.now (length targets.now) out.new) }
-    ensures lost { IfErr result (λ lost. AreDrivesLost (S.shelf shelf.old) (S.shelf shelf.new) missing.now lost.drives) }
+    ensures lost { IfErr result (λ lost. AreDrivesLost (S.shelf shelf.old) (S.shelf shelf.new) (facts memory.now.memory.tables) missing.now lost.drives) }
 {
     let mut done = 0;
     while done < targets.len() {

@@ -15,7 +15,7 @@ returns-in_err-count-clause-reads g c = reads_then c.loop-done.invariant.reads c
 pub returns-in_err-count-clause-lost : goal.returns-in_err-count-clause-lost
 returns-in_err-count-clause-lost g c =
     let r = err_from_is_err_and c.from_residual.result c.from_residual.ensures.1 in
-    rw (r.1, r.2) (lost_since (g.S.Shelf.shelf c.args.shelf.now) (g.S.Shelf.shelf c.loop-done.shelf) (g.S.Shelf.shelf c.read_next.new.shelf) c.args.missing.now _ c.loop-done.invariant.reads.continues c.in_err-count.ensures.lost)
+    rw (r.1, r.2) (lost_since (g.S.Shelf.shelf c.args.shelf.now) (g.S.Shelf.shelf c.loop-done.shelf) (g.S.Shelf.shelf c.read_next.new.shelf) (facts c.args.memory.now.memory.tables) c.args.missing.now _ c.loop-done.invariant.reads.continues c.in_err-count.ensures.lost)
 
 pub loop-done-preserved : goal.loop-done-preserved
 loop-done-preserved g c =
