@@ -18,6 +18,8 @@ use Rattle.array_server.proofs.Going.{IsUpTo, later_than, up_to_before, fares_la
 pub record HasReplied (told : Bool) (start now : Shelved) (first : Point) (items : List Item) (R : Point → List Item → Stop → Type 0) (stop : Stop) : Type 0 where
   pub at : Replied told (geometry_of start) (now.left_since start.moment) first items stop
   pub up_to : IsUpTo now at.point.stop
+  -- no less had failed by then than at the start
+  pub later : IsLater first.stop stop
   pub holds : R at.point (drop (length at.replies) items) stop
 
 -- These replies were given, and no more.
@@ -54,21 +56,23 @@ module _ (told : Bool) (start a b : Shelved) (first last : Point) (items : List 
   back : (point : Stop) → IsUpTo a point → (stop : Stop) → b.left_since start.moment stop → a.left_since start.moment stop ⊎ IsLater point stop
   back point up stop left = ⊎_elim (λ was. inl was) (λ now. inr (later_than up (counted stop now))) (adds start.moment stop so.continues.later left)
 
+  pub first_up_to : IsUpTo a first.stop
+  first_up_to = up_to_before (fares_later told (a.left_since start.moment) (geometry_of start) first last items replies so.run) so.up_to
+
   pub run_on : Fares told (geometry_of start) (b.left_since start.moment) first items replies last
   run_on = fares_on told (geometry_of start) (a.left_since start.moment) (b.left_since start.moment) grows first last items replies (back last.stop so.up_to) so.run
 
   pub reached_on : IsReached (b.left_since start.moment) first
-  reached_on =
-      let first_up_to = up_to_before (fares_later told (a.left_since start.moment) (geometry_of start) first last items replies so.run) so.up_to in
-      record {
-        may = grows first.stop so.reached.may;
-        first = λ stop left long. ⊎_elim (λ was. so.reached.first stop was long) (λ later. later) (back first.stop first_up_to stop left);
-      }
+  reached_on = record {
+    may = grows first.stop so.reached.may;
+    first = λ stop left long. ⊎_elim (λ was. so.reached.first stop was long) (λ later. later) (back first.stop first_up_to stop left);
+  }
 
   told_on : (stop : Stop) → HasReplied told start a first items R stop → HasReplied told start b first items R stop
   told_on stop was = record {
     at = replied_on told (geometry_of start) (a.left_since start.moment) (b.left_since start.moment) grows first items stop was.at (back was.at.point.stop was.up_to);
     up_to = up_to_then on was.up_to;
+    later = was.later;
     holds = was.holds;
   }
 
@@ -81,9 +85,9 @@ module _ (told : Bool) (start a b : Shelved) (first last : Point) (items : List 
   }
 
   -- a stop that leaves the same replies, and a part of the next
-  pub told_part : (stop : Stop) (part : List ℕ) → after_reply part ≡ None → (part ≡ []) ⊎ IsPartOfNext told (geometry_of start) last stop (drop (length replies) items) part → stop.output ≡ a.output ++ part
+  pub told_part : (stop : Stop) (part : List ℕ) → Q stop → after_reply part ≡ None → (part ≡ []) ⊎ IsPartOfNext told (geometry_of start) last stop (drop (length replies) items) part → stop.output ≡ a.output ++ part
       → R last (drop (length replies) items) stop → HasReplied told start b first items R stop
-  told_part stop part none is_part output holds =
+  told_part stop part now none is_part output holds =
       let whole : stop.output ≡ first.stop.output ++ texts replies ++ part = output ∙ ap (λ (l : List ℕ). l ++ part) so.output in
       record {
         at = record {
@@ -96,8 +100,9 @@ module _ (told : Bool) (start a b : Shelved) (first last : Point) (items : List 
           count = count_of first.stop.output stop.output replies part so.whole none whole;
         };
         up_to = up_to_then on so.up_to;
+        later = later_than first_up_to (counted stop now);
         holds = holds;
       }
 
-  pub told_same : (stop : Stop) → stop.output ≡ a.output → R last (drop (length replies) items) stop → HasReplied told start b first items R stop
-  told_same stop output holds = told_part stop [] refl (inl refl) (output ∙ sym (append-nil a.output)) holds
+  pub told_same : (stop : Stop) → Q stop → stop.output ≡ a.output → R last (drop (length replies) items) stop → HasReplied told start b first items R stop
+  told_same stop now output holds = told_part stop [] now refl (inl refl) (output ∙ sym (append-nil a.output)) holds

@@ -31,8 +31,8 @@ module _ (told : Bool) (start new : Shelved) (e0 e : Engine) (input unread left 
     run = s.run.run;
     output = output;
     ends = ends;
-    replied = leaves_weaker (λ stop tells. tells.at) s.run.moments;
-    stands = λ held. leaves_weaker (λ stop tells. (tells.at, λ borne bears. tells.holds bears)) (s.standing held).moments;
+    replied = leaves_weaker (λ stop tells. (tells.later, tells.at)) s.run.moments;
+    stands = λ held. leaves_weaker (λ stop tells. (tells.later, tells.at, λ borne bears. tells.holds bears)) (s.standing held).moments;
     at_end = λ held borne bears.
         let ready = s.ready held (borne_at (geometry_of start) s.last (read_now new) bears) in
         left_after told (geometry_of start) new new (sym (same_shelf s.run.continues)) e s.last s.at ready.1 ready.0.0 ready.0.1 ready.0.2 (in_hand how (drop (length s.replies) (requests input))) bears;

@@ -9,7 +9,7 @@ use Rattle.pur_base.specs.Plain as plain
 use Rattle.pur_base.specs.Grammar.{requests}
 use Rattle.array_spec.specs.Meaning.{HoldsBase, members_view}
 use Rattle.array_spec.specs.Stored.{all_facts}
-use Rattle.world.specs.Losing.{geometry_of}
+use Rattle.world.specs.Losing.{geometry_of, IsLater}
 use Rattle.world.specs.Shelf.{Shelved, Stop, IsShelf, MayStop, Continues, LeavesOnly, IsCountedBy, IsQuietBy}
 use Rattle.register.specs.Registers.{IsRegisterOf}
 use Rattle.register.specs.Standing.{array_of}
@@ -28,7 +28,7 @@ use Rattle.takeover.specs.declared.faults.OpenFault.TheVariants as open_fault
 use Rattle.takeover.specs.Opened.{IsOpened, IsShut, IsRecovered, status_of}
 use Rattle.array_engine.specs.declared.engine.Engine.{Engine}
 use Rattle.array_server.specs.Sessions.{BeginsAt, IsHeldAt, IsServedFrom, IsSessionEnd}
-use Rattle.array_server.specs.Serving.{IsServeStatus}
+use Rattle.array_server.specs.Serving.{IsNeverOpened, IsServeStatus}
 use Rattle.array_server.proofs.Begun.{NamesHolders, begins, engine_of, first_of}
 
 -- ---- not opened
@@ -57,6 +57,12 @@ serves status.Memory h = tt
 serves status.Cut h = h
 serves status.InputLimit h = h
 serves status.NotBlank h = h
+
+-- which was opened
+pub was_opened : (s : Status) → IsSessionEnd s → ¬ (IsNeverOpened s)
+was_opened status.NoArray h none = absurd h
+was_opened status.Memory h none = absurd h
+was_opened _ h none = absurd none
 
 module _ (old new : Shelved) (e : OpenFault) (input : List ℕ) (is : IsShelf new) (on : Continues old new) (moments : LeavesOnly old new (IsCountedBy old)) (shut : IsShut old new e) where
   -- a stop now, with the counts as they are
@@ -156,12 +162,15 @@ module _ (old mid new : Shelved) (a : Array) (e : Engine) (input left : List ℕ
             few = o.few;
           };
           taken_over = o.taken_over;
+          missing = refl;
+          none_joins = o.none_joins;
+          enough = o.enough;
           reached = s.reached;
           quiet = record { output = moments.quiet.output; taken = moments.quiet.taken };
           at = refl;
           awake = refl;
         };
-        replied = s.replied.each;
+        replied = λ stop left. (s.replied.each stop left).1;
         replies = s.replies;
         last = s.last;
         run = s.run;
@@ -204,7 +213,7 @@ module _ (old mid new : Shelved) (a : Array) (e : Engine) (input left : List ℕ
         one_of = subst (λ (x : plain.Array). Contains arrays x) (sym is_held) it.one_of
 
         abbrev keeps : Keeps old new input left ended opening missing arrays
-        keeps = record { s = told_serving; one_of = one_of; serving = (told_from.stands held_at).each; at_end = told_from.at_end held_at }
+        keeps = record { s = told_serving; one_of = one_of; serving = λ stop left. let there = (told_from.stands held_at).each stop left in (there.1, there.2); at_end = told_from.at_end held_at }
 
       -- whether what failed is borne was decided
       abbrev Decided : Type 0
@@ -215,11 +224,11 @@ module _ (old mid new : Shelved) (a : Array) (e : Engine) (input left : List ℕ
       keeps_by (inr none) borne = absurd (none borne)
 
       each_by : (d : Decided) (stop : Stop) → new.left_since old.moment stop → IsInOpening old opening missing arrays stop
-          ⊎ ((borne : IsOpenedBearably old opening missing) → (at : Replied true (geometry_of old) (new.left_since opening.moment) (keeps_by d borne).s.first (requests input) stop)
-          × StandsOn (geometry_of old) (new.left_since opening.moment) (keeps_by d borne).s.first (requests input) stop at)
-      each_by (inl bears) stop since = ⊎_elim (λ was. inl (in_opening stop was)) (λ on. inr (λ borne. on))
+          ⊎ (IsLater opening.stop stop × ((borne : IsOpenedBearably old opening missing) → (at : Replied true (geometry_of old) (new.left_since opening.moment) (keeps_by d borne).s.first (requests input) stop)
+          × StandsOn true (geometry_of old) (new.left_since opening.moment) (keeps_by d borne).s.first (requests input) stop at))
+      each_by (inl bears) stop since = ⊎_elim (λ was. inl (in_opening stop was)) (λ on. inr (on.0, λ borne. (on.1, on.2)))
           (((told_from (o.recovered missing arrays enters bears)).stands (held_at (o.recovered missing arrays enters bears))).before old.moment stop later since)
-      each_by (inr none) stop since = ⊎_elim (λ was. inl (in_opening stop was)) (λ at. inr (λ borne. absurd (none borne))) (untold_from.replied.before old.moment stop later since)
+      each_by (inr none) stop since = ⊎_elim (λ was. inl (in_opening stop was)) (λ at. inr (at.0, λ borne. absurd (none borne))) (untold_from.replied.before old.moment stop later since)
 
       outlasts : Outlasts old new input left ended opening missing arrays
       outlasts =
@@ -231,7 +240,7 @@ module _ (old mid new : Shelved) (a : Array) (e : Engine) (input left : List ℕ
     served_here = record {
       opening = opening;
       serving = untold;
-      stops = λ stop since. ⊎_elim (λ was. inl (quiet_by stop was)) (λ at. inr at) (untold_from.replied.before old.moment stop later since);
+      stops = λ stop since. ⊎_elim (λ was. inl (quiet_by stop was)) (λ at. inr at.1) (untold_from.replied.before old.moment stop later since);
       outlasts = outlasts;
     }
 

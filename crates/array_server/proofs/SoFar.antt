@@ -302,8 +302,8 @@ module _ (told : Bool) (start mid between : Shelved) (e0 e e' : Engine) (input u
         run = told_part.run;
         output = (told_part.part, told_part.is_part, told_part.output ∙ ap (λ (there : Stop). there.output ++ texts s.replies ++ told_part.part) begins);
         ends = omega (arith, s.count, ap (λ (l : List Item). length l) items_more, length-append (s.front ++ item ∷ []) (requests unread'), length-append s.front (item ∷ []));
-        replied = leaves_weaker (λ stop tells. tells.at) told_part.moments;
-        stands = λ held. leaves_weaker (λ stop tells. (tells.at, λ borne bears. tells.holds bears)) (standing_part held).moments;
+        replied = leaves_weaker (λ stop tells. (tells.later, tells.at)) told_part.moments;
+        stands = λ held. leaves_weaker (λ stop tells. (tells.later, tells.at, λ borne bears. tells.holds bears)) (standing_part held).moments;
         at_end = λ held borne bears. subst (λ (l : List Item). IsLeftAfter after s.last l) (sym rest) (left_in_hand held bears);
       }
 

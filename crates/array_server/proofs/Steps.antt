@@ -16,8 +16,8 @@ use Rattle.session_spec.specs.Faring.{Point, IsReached, Fares, Serves, Answers}
 use Rattle.session_spec.specs.Ends.{IsPartOfNext}
 use Rattle.session_spec.specs.Entering.{read_now}
 use Rattle.session_spec.proofs.Reached.{output_is_bounded, output_counts}
-use Rattle.array_server.proofs.Going.{IsUpTo, fares_more, rest_more}
-use Rattle.array_server.proofs.Along.{Along, HasReplied, Adds, up_to_then, reached_on, run_on, moments_on, told_part, told_same, count_of}
+use Rattle.array_server.proofs.Going.{IsUpTo, fares_more, later_than, rest_more}
+use Rattle.array_server.proofs.Along.{Along, HasReplied, Adds, up_to_then, first_up_to, reached_on, run_on, moments_on, told_part, told_same, count_of}
 use Rattle.array_server.proofs.Answered.{answers_more}
 use Rattle.takeover.proofs.WhatFound.{rose_before}
 
@@ -69,6 +69,7 @@ begun told start first items R is honest at holds =
               count = count_of first.stop.output stop.output [] [] tt refl output;
             };
             up_to = up_to;
+            later = later_than up_to may.counts;
             holds = holds stop may.device may.counts;
           });
     }
@@ -91,7 +92,7 @@ taken told start a b first last items R replies so takes unlapsed holds =
       up_to = up_to_then on so.up_to;
       bounded = (output_is_bounded a b start.moment so.continues.later so.bounded).2 takes;
       moments = moments_on told start a b first last items R replies (MayStopTaking a b) so on unlapsed adds counted
-          (λ stop now. told_same told start a b first last items R replies (MayStopTaking a b) so on unlapsed adds counted stop now.output (holds stop now.device now.counts));
+          (λ stop now. told_same told start a b first last items R replies (MayStopTaking a b) so on unlapsed adds counted stop now now.output (holds stop now.device now.counts));
     }
 
 -- ---- devices are called
@@ -115,7 +116,7 @@ called told start a b first last items R replies so on unlapsed calls =
         | inr now ↦ omega (arith, ap (λ (l : List ℕ). length l) now.0.output, ap (λ (l : List ℕ). length l) calls.quiet.output)
       ];
       moments = moments_on told start a b first last items R replies Q so on unlapsed adds counted
-          (λ stop now. told_same told start a b first last items R replies Q so on unlapsed adds counted stop now.0.output now.1.1);
+          (λ stop now. told_same told start a b first last items R replies Q so on unlapsed adds counted stop now now.0.output now.1.1);
     }
 
 -- ---- a reply is given
@@ -193,7 +194,7 @@ module _ (told : Bool) (start a b : Shelved) (first last new : Point) (items mor
 
   told_cut : (stop : Stop) (part missing : List ℕ) → MayStopGiving a b stop → stop.output ≡ a.output ++ part → text q ≡ part ++ missing → 0 < length missing → HasReplied told start b first items R stop
   told_cut stop part missing now output spelled some =
-      told_part told start a b first last items R replies (MayStopGiving a b) so gives.continues unlapsed adds counted stop part (cut-is-none q part missing is_answer spelled some)
+      told_part told start a b first last items R replies (MayStopGiving a b) so gives.continues unlapsed adds counted stop part now (cut-is-none q part missing is_answer spelled some)
       (inr (is_next stop part missing now.counts spelled some)) output (subst (λ (l : List Item). R last l stop) (sym rest) (in_hand stop now.device now.counts))
 
   -- where some of it is missing
@@ -270,6 +271,7 @@ module _ (told : Bool) (start a b : Shelved) (first last new : Point) (items mor
             count = count_of first.stop.output stop.output (replies ++ q ∷ []) [] (all_more replies q so.whole is_answer) refl output;
           };
           up_to = up_to_new;
+          later = later_than (first_up_to told start a b first last items R replies (MayStopGiving a b) so gives.continues unlapsed adds counted) now.counts;
           holds = subst (λ (l : List Item). R new l stop) (sym (rest_more items more item replies q rest)) (next stop now.device now.counts);
         }
 

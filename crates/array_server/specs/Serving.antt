@@ -8,3 +8,9 @@ abbrev pub IsServeStatus : Status → Type 0
 IsServeStatus status.Memory = Unit {0}
 IsServeStatus status.NoArray = Unit {0}
 IsServeStatus s = IsSessionEnd s
+
+-- the ways in which it ends that no session has which was opened
+abbrev pub IsNeverOpened : Status → Type 0
+IsNeverOpened status.Memory = Unit {0}
+IsNeverOpened status.NoArray = Unit {0}
+IsNeverOpened _ = ⊥

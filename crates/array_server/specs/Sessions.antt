@@ -5,13 +5,13 @@ use Rattle.pur_base.specs.declared.reply.Status.TheVariants as status
 use Rattle.pur_base.specs.Devices.{Geometry, IsBearable}
 use Rattle.pur_base.specs.Grammar.{Item, requests}
 use Rattle.pur_base.specs.Replies.{Answer}
-use Rattle.world.specs.Losing.{geometry_of}
+use Rattle.world.specs.Losing.{geometry_of, IsLater}
 use Rattle.world.specs.Shelf.{Shelved, Stop, Leaves}
 use Rattle.register.specs.Standing.{Content, array_of}
 use Rattle.session_spec.specs.Entering.{read_now}
 use Rattle.session_spec.specs.Faring.{Point, IsReached, Fares, IsBorne, now_missing}
 use Rattle.session_spec.specs.Ends.{Ends, IsOutput}
-use Rattle.session_spec.specs.Headline.{Replied, StandsAmong, IsAfter, IsLeftAfter, in_hand}
+use Rattle.session_spec.specs.Headline.{Replied, StandsOn, IsLeftAfter, in_hand}
 use Rattle.array_core.specs.Ready.{IsReady}
 use Rattle.array_engine.specs.declared.engine.Engine.{Engine}
 use Rattle.array_engine.specs.Engines.{IsAt}
@@ -41,12 +41,7 @@ pub record BeginsAt (told : Bool) (start : Shelved) (e : Engine) (first : Point)
 abbrev pub IsHeldAt : Shelved → Engine → Point → Type 0
 IsHeldAt start e first = (held : Content) × IsReady start e.array held × (first.array ≡ array_of held)
 
--- at a stop they stand for the array of the replies that were whole by then, or of one item more
-abbrev pub StandsOn : (told : Bool) (shelf : Geometry) (left : Stop → Type 0) (first : Point) (items : List Item) (stop : Stop) → Replied told shelf left first items stop → Type 0
-StandsOn told shelf left first items stop at = IsBorne told shelf left first items at.replies at.point at.run → IsBearable shelf (now_missing at.point stop)
-    → StandsAmong shelf stop.image (now_missing at.point stop) (IsAfter at.point (drop (length at.replies) items))
-
--- The replies and how the session ended, and at each stop those that were whole. Where the devices held the array at the beginning, they stand for what the replies tell at each stop and at the end.
+-- The replies and how the session ended, and at each stop those that were whole, by which no less had failed than at the beginning. Where the devices held the array at the beginning, they stand for what the replies tell at each stop and at the end.
 pub record IsServedFrom (told : Bool) (start new : Shelved) (e : Engine) (input left : List ℕ) (ended : Status) (first : Point) : Type 0 where
   pub reached : IsReached (new.left_since start.moment) first
   pub replies : List Answer
@@ -54,8 +49,8 @@ pub record IsServedFrom (told : Bool) (start new : Shelved) (e : Engine) (input 
   pub run : Fares told (geometry_of start) (new.left_since start.moment) first (requests input) replies last
   pub output : IsOutput ended told (geometry_of start) last (read_now new) (drop (length replies) (requests input)) start.output new.output replies
   pub ends : Ends ended last.halted input replies left
-  pub replied : Leaves start new (Replied told (geometry_of start) (new.left_since start.moment) first (requests input))
-  pub stands : IsHeldAt start e first → Leaves start new (λ stop.
-      (at : Replied told (geometry_of start) (new.left_since start.moment) first (requests input) stop) × StandsOn told (geometry_of start) (new.left_since start.moment) first (requests input) stop at)
+  pub replied : Leaves start new (λ stop. IsLater first.stop stop × Replied told (geometry_of start) (new.left_since start.moment) first (requests input) stop)
+  pub stands : IsHeldAt start e first → Leaves start new (λ stop. IsLater first.stop stop
+      × (at : Replied told (geometry_of start) (new.left_since start.moment) first (requests input) stop) × StandsOn told (geometry_of start) (new.left_since start.moment) first (requests input) stop at)
   pub at_end : IsHeldAt start e first → IsBorne told (geometry_of start) (new.left_since start.moment) first (requests input) replies last run
       → IsBearable (geometry_of start) (now_missing last (read_now new)) → IsLeftAfter new last (in_hand ended (drop (length replies) (requests input)))

@@ -1,10 +1,11 @@
 // A session: the array is opened, and requests from a source are answered on a sink.
 ghost use Rattle.std.specs.Prelude.{◌≡◌, ◌↔◌};
 ghost use Rattle.world.specs.Shelf.{Continues};
+ghost use Rattle.world.specs.Streams.{SameStream};
 ghost use Rattle.takeover.specs.Opened.{status_of};
 ghost use Rattle.session_spec.specs.Ends.{RisesIf, is_source, is_sink};
 ghost use Rattle.session_spec.specs.Headline.{Survives};
-ghost use Rattle.array_server.specs.Serving.{IsServeStatus};
+ghost use Rattle.array_server.specs.Serving.{IsNeverOpened, IsServeStatus};
 
 use crate::answering::answer_all;
 use array_engine::{Engine, ReadBuffers};
@@ -35,7 +36,9 @@ pub fn serve<W: World>(alloc: Global, world: &mut W) -> Status
     // What it does to the arrays for which the devices stand, whatever fails and wherever it's stopped.
     ensures survives { (W.shelf world.old).honest → (W.source world.old).honest → (W.sink world.old).honest
         → Survives (W.shelf world.old) (W.shelf world.new) (W.source world.old) (W.source world.new) (W.sink world.old) (W.sink world.new) result }
+    // Whatever the devices tell: how it ends, and that where it isn't opened for want of memory, or for no array, nothing is taken or given.
     ensures status { IsServeStatus result }
+    ensures untouched { IsNeverOpened result → SameStream (W.source world.old) (W.source world.new) × SameStream (W.sink world.old) (W.sink world.new) }
     ensures source { RisesIf (is_source result) (W.source world.old).faults (W.source world.new).faults }
     ensures sink { RisesIf (is_sink result) (W.sink world.old).faults (W.sink world.new).faults }
     ensures honest_source { (W.source world.old).honest ↔ (W.source world.new).honest }

@@ -17,7 +17,7 @@ from_opening old next o missing arrays stop h = record {
 }
 
 from_reply : (old new next : Shelved) (input left : List ℕ) (ended : Status) (o : Opening old) (missing : Conditions) (arrays : List Array) (stop : Stop) (k : Keeps old new input left ended o missing arrays)
-    (at : Replied true (geometry_of old) (new.left_since o.moment) k.s.first (requests input) stop) → StandsOn (geometry_of old) (new.left_since o.moment) k.s.first (requests input) stop at → GoesOnFrom old new next input left ended o stop
+    (at : Replied true (geometry_of old) (new.left_since o.moment) k.s.first (requests input) stop) → StandsOn true (geometry_of old) (new.left_since o.moment) k.s.first (requests input) stop at → GoesOnFrom old new next input left ended o stop
 from_reply old new next input left ended o missing arrays stop k at stands = record {
   s = k.s;
   at = at;
@@ -35,7 +35,7 @@ served_follows old new next input left ended s missing arrays e stop since =
     let lasts = s.outlasts missing arrays e in
     elim (lasts.each stop since) [
       | inl h ↦ inl (from_opening old next s.opening missing arrays stop h)
-      | inr after ↦ inr (λ borne. from_reply old new next input left ended s.opening missing arrays stop (lasts.keeps borne) (after borne).0 (after borne).1)
+      | inr after ↦ inr (after.0, λ borne. from_reply old new next input left ended s.opening missing arrays stop (lasts.keeps borne) (after.1 borne).0 (after.1 borne).1)
     ]
 
 pub unopened_follows : (old new next : Shelved) → UnopenedFollows old new next

@@ -7,7 +7,7 @@ use Rattle.pur_base.specs.Plain.{Array}
 use Rattle.pur_base.specs.Grammar.{Item, requests}
 use Rattle.pur_base.specs.Replies.{Answer}
 use Rattle.world.specs.Shelf.{Shelved, Stop, MayStop, IsQuietBy}
-use Rattle.world.specs.Losing.{geometry_of, has_lost_writes, losing}
+use Rattle.world.specs.Losing.{geometry_of, has_lost_writes, losing, IsLater}
 use Rattle.array_spec.specs.Laws.{MayBeMarked}
 use Rattle.array_spec.specs.After.{After}
 use Rattle.array_spec.specs.Runs.{Runs}
@@ -16,7 +16,7 @@ use Rattle.pur_base.specs.declared.reply.Status.{Status}
 use Rattle.pur_base.specs.declared.reply.Status.TheVariants as status
 use Rattle.world.specs.Streams.{Streamed}
 use Rattle.session_spec.specs.Headline.{Survives, Serving, Opening, Replied, IsAfter, IsOpenedBearably, Served, Unopened}
-use Rattle.session_spec.specs.Entering.{IsStanding, IsLeft, Enters, Found, IsTakenOver, StandsStill, HasRoom, failed_by}
+use Rattle.session_spec.specs.Entering.{IsStanding, IsLeft, Enters, Found, IsTakenOver, StandsStill, HasRoom, failed_by, failed_since}
 use Rattle.session_spec.specs.Faring.{Point, Fares, IsBorne, now_missing}
 
 -- ---- one session after another
@@ -76,7 +76,7 @@ pub record GoesOnFrom (old new next : Shelved) (input left : List ℕ) (ended : 
 abbrev pub ServedFollows : Shelved → Shelved → Shelved → Type 0
 ServedFollows old new next = (input left : List ℕ) (ended : Status) (s : Served old new input left ended)
     → (missing : Conditions) (arrays : List Array) → Enters old missing arrays → (stop : Stop) → new.left_since old.moment stop
-    → GoesOnFromOpening old next missing arrays stop ⊎ (IsOpenedBearably old s.opening missing → GoesOnFrom old new next input left ended s.opening stop)
+    → GoesOnFromOpening old next missing arrays stop ⊎ (IsLater s.opening.stop stop × (IsOpenedBearably old s.opening missing → GoesOnFrom old new next input left ended s.opening stop))
 
 -- One that wasn't opened was stopped, and the next one finds the same arrays.
 abbrev pub UnopenedFollows : Shelved → Shelved → Shelved → Type 0
@@ -127,6 +127,15 @@ WasBorne left = (told : Bool) (shelf : Geometry) (from to : Point) (items : List
 abbrev pub HaltsHaveCauses : (Stop → Type 0) → Type 0
 HaltsHaveCauses left = (told : Bool) (shelf : Geometry) (from to : Point) (items : List Item) (qs : List Answer) → Fares told shelf left from items qs to
     → from.halted ≡ false → to.halted ≡ true → ¬ (IsBearable shelf to.conditions)
+
+-- So a session that was opened ends halted only where more was missing at its last reply than can be borne.
+abbrev pub HaltedEndsHaveCauses : Shelved → Shelved → Type 0
+HaltedEndsHaveCauses old new = (told : Bool) (input left : List ℕ) (o : Opening old) (s : Serving told old new input left status.Halted o) → ¬ (IsBearable (geometry_of old) s.last.conditions)
+
+-- And one over arrays that wasn't opened, where what failed in it is borne, wanted memory.
+abbrev pub UnopenedEndsHaveCauses : Shelved → Shelved → Type 0
+UnopenedEndsHaveCauses old new = (input left : List ℕ) (ended : Status) → Unopened old new input left ended
+    → (missing : Conditions) (arrays : List Array) → Enters old missing arrays → IsBearable (geometry_of old) (failed_since old new missing) → ended ≡ status.Memory
 
 -- A takeover that is done forgets none: each device that was sound, and of which no call failed in it, is sound.
 abbrev pub TakeoverKeeps : Type 0

@@ -1,19 +1,19 @@
 -- What a session does to the array that the devices stand for, whatever fails, and wherever it is stopped.
-use Rattle.std.specs.Prelude.{◌≡◌, ◌⊎◌, ◌<◌, ◌+◌, ◌-◌, ◌^◌, ℕ, Bool, true, false, List, [], ◌++◌, length, drop, Contains, Option, Some, None, IfSome, ⊤}
+use Rattle.std.specs.Prelude.{◌≡◌, ◌⊎◌, ◌<◌, ◌+◌, ◌-◌, ◌^◌, ℕ, Bool, true, false, List, [], ◌++◌, length, drop, Contains, Option, Some, None, IfSome, ⊤, if◌then◌else◌}
 use Rattle.std.specs.List.{AllByRecursion}
 use Rattle.pur_base.specs.declared.device.Device.{Device}
 use Rattle.pur_base.specs.declared.reply.Status.{Status}
 use Rattle.pur_base.specs.declared.reply.Status.TheVariants as status
-use Rattle.pur_base.specs.Devices.{Geometry, Image, View, Conditions, IsBearable}
+use Rattle.pur_base.specs.Devices.{Geometry, Image, View, Conditions, Sound, LeftOut, IsBearable}
 use Rattle.pur_base.specs.Plain.{Array}
 use Rattle.pur_base.specs.Grammar.{Item, requests, is_in_force}
 use Rattle.pur_base.specs.Commands.{Command, after_all}
 use Rattle.pur_base.specs.Replies.{Answer, texts}
 use Rattle.world.specs.Shelf.{Shelved, Stop, IsQuiet, IsQuietBy}
 use Rattle.world.specs.Streams.{Streamed}
-use Rattle.world.specs.Losing.{geometry_of, has_failed, losing}
+use Rattle.world.specs.Losing.{geometry_of, has_failed, losing, IsLater}
 use Rattle.boot_codec.specs.declared.record.BootRecord.{BootRecord}
-use Rattle.boot_codec.specs.Region.{Effective}
+use Rattle.boot_codec.specs.Region.{Effective, names}
 use Rattle.log_codec.specs.Log.{Shows, LogStands}
 use Rattle.pur_base.specs.declared.facts.AnyFact.{AnyFact}
 use Rattle.array_spec.specs.Meaning.{HoldsBase, members_view}
@@ -110,6 +110,10 @@ pub record Opening (old : Shelved) : Type 0 where
 pub record Opens (told : Bool) (old : Shelved) (left : Stop → Type 0) (o : Opening old) (first : Point) : Type 0 where
   pub holds : HoldsLog told (geometry_of old) (members_view o.found.view o.found.effective) o.found.effective.boot first
   pub taken_over : IsTakenOver (geometry_of old) (read_now old).image o.found (has_failed (read_now old) first.stop) first.conditions
+  -- Missing are the devices that its record doesn't name. Those that it names were named by the record that was found, and they are enough.
+  pub missing : first.conditions ≡ (λ d. if names first.boot d then Sound else LeftOut)
+  pub none_joins : (d : Device) → names first.boot d ≡ true → names o.found.effective.boot d ≡ true
+  pub enough : IsBearable (geometry_of old) first.conditions
   pub reached : IsReached left first
   pub quiet : IsQuietBy old first.stop
   pub at : first.stop ≡ o.stop
@@ -142,8 +146,8 @@ abbrev pub IsAfter : Point → List Item → Array → Type 0
 IsAfter point rest array = (array ≡ point.array) ⊎ IsNext point rest array
 
 -- At a stop after the opening the devices stand for the array of the replies that were whole by then, or of one item more.
-abbrev pub StandsOn : (shelf : Geometry) (left : Stop → Type 0) (first : Point) (items : List Item) (stop : Stop) → Replied true shelf left first items stop → Type 0
-StandsOn shelf left first items stop at = IsBorne true shelf left first items at.replies at.point at.run → IsBearable shelf (now_missing at.point stop)
+abbrev pub StandsOn : (told : Bool) (shelf : Geometry) (left : Stop → Type 0) (first : Point) (items : List Item) (stop : Stop) → Replied told shelf left first items stop → Type 0
+StandsOn told shelf left first items stop at = IsBorne told shelf left first items at.replies at.point at.run → IsBearable shelf (now_missing at.point stop)
     → StandsAmong shelf stop.image (now_missing at.point stop) (IsAfter at.point (drop (length at.replies) items))
 
 -- What a session answers that was opened. It asks nothing of the devices; only where what their segments hold is told are the sectors that are read the array's.
@@ -177,7 +181,7 @@ pub record Keeps (old new : Shelved) (input left : List ℕ) (ended : Status) (o
   pub s : Serving true old new input left ended o
   pub one_of : Contains arrays s.first.array
   pub serving : (stop : Stop) → new.left_since o.moment stop
-      → (at : Replied true (geometry_of old) (new.left_since o.moment) s.first (requests input) stop) × StandsOn (geometry_of old) (new.left_since o.moment) s.first (requests input) stop at
+      → (at : Replied true (geometry_of old) (new.left_since o.moment) s.first (requests input) stop) × StandsOn true (geometry_of old) (new.left_since o.moment) s.first (requests input) stop at
   pub at_end : IsBorne true (geometry_of old) (new.left_since o.moment) s.first (requests input) s.replies s.last s.run
       → IsBearable (geometry_of old) (now_missing s.last (read_now new)) → IsLeftAfter new s.last (in_hand ended (drop (length s.replies) (requests input)))
 
@@ -187,11 +191,12 @@ pub record IsInOpening (old : Shelved) (o : Opening old) (missing : Conditions) 
   pub stands : StandsStill old (Some o.found) missing arrays stop
 
 -- At each stop since the entry, which was in the opening, or at which so many replies were whole. After the opening none is lost that was acknowledged.
+-- What failed later takes back nothing: a stop by which a call hadn't failed that had by the end of the opening was in it.
 pub record Outlasts (old new : Shelved) (input left : List ℕ) (ended : Status) (o : Opening old) (missing : Conditions) (arrays : List Array) : Type 0 where
   pub keeps : IsOpenedBearably old o missing → Keeps old new input left ended o missing arrays
   pub each : (stop : Stop) → new.left_since old.moment stop → IsInOpening old o missing arrays stop
-      ⊎ ((borne : IsOpenedBearably old o missing) → (at : Replied true (geometry_of old) (new.left_since o.moment) (keeps borne).s.first (requests input) stop)
-      × StandsOn (geometry_of old) (new.left_since o.moment) (keeps borne).s.first (requests input) stop at)
+      ⊎ (IsLater o.stop stop × ((borne : IsOpenedBearably old o missing) → (at : Replied true (geometry_of old) (new.left_since o.moment) (keeps borne).s.first (requests input) stop)
+      × StandsOn true (geometry_of old) (new.left_since o.moment) (keeps borne).s.first (requests input) stop at))
 
 -- what a session answers, and what it does to the arrays
 pub record Served (old new : Shelved) (input left : List ℕ) (ended : Status) : Type 0 where

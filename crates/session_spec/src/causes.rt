@@ -1,6 +1,6 @@
 // Claims and their causes.
 ghost use Rattle.std.specs.Prelude.{ℕ};
-ghost use Rattle.session_spec.specs.Chain.{FaresRun, LeavesAfter, ClaimsHaveCauses, NoneComesBack, WasBorne, HaltsHaveCauses, TakeoverKeeps, TakeoverBears};
+ghost use Rattle.session_spec.specs.Chain.{FaresRun, LeavesAfter, ClaimsHaveCauses, NoneComesBack, WasBorne, HaltsHaveCauses, HaltedEndsHaveCauses, UnopenedEndsHaveCauses, TakeoverKeeps, TakeoverBears};
 
 use world::Shelf;
 
@@ -16,6 +16,12 @@ pub fn claims_have_causes<S: Shelf>(_shelf: &S)
     ensures none { (since : ℕ) → NoneComesBack ((S.shelf _shelf.now).left_since since) }
     ensures borne { (since : ℕ) → WasBorne ((S.shelf _shelf.now).left_since since) }
     ensures halts { (since : ℕ) → HaltsHaveCauses ((S.shelf _shelf.now).left_since since) }
+{}
+
+/// A session ends halted only where more is missing than can be borne, and where what failed in its opening is borne it stays unopened for want of memory alone.
+pub fn ends_have_causes<S: Shelf>(_old: &S, _new: &S)
+    ensures halted { HaltedEndsHaveCauses (S.shelf _old.now) (S.shelf _new.now) }
+    ensures unopened { UnopenedEndsHaveCauses (S.shelf _old.now) (S.shelf _new.now) }
 {}
 
 /// A takeover that is done forgets no device that was sound, and what could be borne in it can be borne after it.

@@ -7,7 +7,7 @@ mod chaining;
 mod limits;
 mod reaching;
 
-pub use causes::{claims_have_causes, replies_are_lawful, takeovers_keep};
+pub use causes::{claims_have_causes, ends_have_causes, replies_are_lawful, takeovers_keep};
 pub use chaining::{
     memory_may_be_wanted, nothing_is_lost_untouched, sessions_chain, sessions_follow,
 };

@@ -1,18 +1,24 @@
 -- Drives that have a flag and are shown are enough.
-use Rattle.std.proofs.Common.{◌≡◌, ◌⊎◌, inl, inr, ℕ, zero, suc, ◌+◌, ◌<◌, ◌≤◌, Bool, true, false, List, [], ◌∷◌, refl, sym, subst, arith, cond}
-use Rattle.std.specs.Prelude.{Option, Some, None, IsSome, is_none, count_by}
+use Rattle.std.proofs.Common.{◌≡◌, ◌⊎◌, inl, inr, ℕ, zero, suc, ◌+◌, ◌<◌, ◌≤◌, Bool, true, false, List, [], ◌∷◌, refl, sym, ap, subst, arith, cond}
+use Rattle.std.specs.Prelude.{Option, Some, None, IsSome, is_none, count_by, if◌then◌else◌}
 use Rattle.std.specs.List.{range_with_len}
 use Rattle.std.specs.Str.{bytes_eq}
 use Rattle.std.proofs.lemmas.Bool.{cases_Bool}
+use Rattle.std.proofs.lemmas.List.{get_or_past}
 use Rattle.std.proofs.lemmas.Slice.Eq.{bytes_eq-Decides}
-use Rattle.pur_base.specs.Devices.{Geometry, Image, View, drive}
+use Rattle.pur_base.specs.declared.device.Device.{Device}
+use Rattle.pur_base.specs.declared.device.Device.TheVariants.{Drive, Nv}
+use Rattle.pur_base.specs.Devices.{Geometry, Image, View, Sound, LeftOut, IsBearable, is_missing, drive, nvram}
 use Rattle.boot_codec.specs.declared.record.BootRecord.{BootRecord}
 use Rattle.boot_codec.specs.Record.{set_count}
-use Rattle.boot_codec.specs.Region.{BootSlot, body_in, names, of_members}
+use Rattle.boot_codec.specs.Region.{BootSlot, IsRecordOf, body_in, names, of_members}
 use Rattle.boot_codec.specs.Spelling.{spelling}
 use Rattle.array_spec.proofs.Votes.{counted}
 use Rattle.stored_spec.specs.Held.{AreSomeOf, AreEnough}
 use Rattle.boot_region.specs.Members.{IsMember}
+use Rattle.nvram_log.specs.Members as nv
+use Rattle.register.specs.Registers.{named_sound}
+use Rattle.register.proofs.FlagLemmas.{none_past}
 
 bit : (b : Bool) → cond b 1 0 ≤ 1
 bit true = omega arith
@@ -71,3 +77,26 @@ some_shown slot boot image view shown i = elim (cases_Bool (names boot (drive i)
     ]
   ]
 ]
+
+-- ---- the devices that a record names
+
+-- they are enough, where it names as many drives as that
+pub named_enough : (shelf : Geometry) (boot : BootRecord) → IsRecordOf shelf boot → boot.slots ≤ set_count boot.members.drives + 2 → IsBearable shelf (named_sound boot)
+named_enough shelf boot lawful enough = record {
+  drives =
+      let few = unflagged (λ i. is_missing (named_sound boot (drive i))) boot.members.drives 0 shelf.slots
+      (λ i lt m. let e : 0 + i ≡ i = omega arith in subst (λ (k : ℕ). is_missing (named_sound boot (drive k)) ≡ false) (sym e) (ap (λ (b : Bool). is_missing (if b then Sound else LeftOut)) m))
+      (λ i le m. none_past boot.members.drives boot.slots i lawful.lawful.members.within (omega (arith, le, lawful.slots)) m) in
+      omega (arith, few, enough, lawful.slots);
+  nvrams =
+      let few = unflagged (λ i. is_missing (named_sound boot (nvram i))) boot.members.nvrams 0 2
+      (λ i lt m. let e : 0 + i ≡ i = omega arith in subst (λ (k : ℕ). is_missing (named_sound boot (nvram k)) ≡ false) (sym e) (ap (λ (b : Bool). is_missing (if b then Sound else LeftOut)) m))
+      (λ i le m. absurd (cc (m, get_or_past boot.members.nvrams i false (omega (arith, le, lawful.lawful.members.nvram_flags))))) in
+      omega (arith, few, lawful.lawful.members.nvrams);
+}
+
+-- it names no device that another one didn't, where it names fewer drives and NVRAM devices
+pub names_fewer : (was now : BootRecord) → ((i : ℕ) → IsMember now.members.drives i → IsMember was.members.drives i) → nv.IsFewer was.members.nvrams now.members.nvrams
+    → (d : Device) → names now d ≡ true → names was d ≡ true
+names_fewer was now drives nvrams (Drive d) e = drives d.0 e
+names_fewer was now drives nvrams (Nv n) e = nvrams n.0 e

@@ -1,13 +1,14 @@
 -- The opening as a whole, from what each of its calls says.
-use Rattle.std.proofs.Common.{◌≡◌, ◌⊎◌, inl, inr, ℕ, ◌+◌, ◌-◌, ◌^◌, ◌<◌, ◌≤◌, Bool, List, [], Some, None, refl, sym, ◌∙◌, ap, subst, arith, Err}
+use Rattle.std.proofs.Common.{◌≡◌, ◌⊎◌, inl, inr, ℕ, ◌+◌, ◌-◌, ◌^◌, ◌<◌, ◌≤◌, Bool, true, List, [], Some, None, refl, sym, ◌∙◌, ap, subst, arith, Err}
 use Rattle.pur_base.specs.declared.reply.Status.TheVariants as status
 use Rattle.pur_base.specs.Commands.{Command, after_all}
 use Rattle.pur_base.specs.Devices.{Geometry, Conditions, IsBearable, View, drive, nvram}
 use Rattle.pur_base.specs.Plain as plain
+use Rattle.pur_base.specs.declared.device.Device.{Device}
 use Rattle.pur_base.specs.declared.facts.AnyFact.{AnyFact}
 use Rattle.boot_codec.specs.declared.record.BootRecord.{BootRecord}
 use Rattle.boot_codec.specs.declared.record.NextNumbers.{NextNumbers}
-use Rattle.boot_codec.specs.Region.{BootSlot, IsRecordOf, of_members, shown_by}
+use Rattle.boot_codec.specs.Region.{BootSlot, IsRecordOf, names, of_members, shown_by}
 use Rattle.boot_codec.specs.Spelling.{spelling}
 use Rattle.log_codec.specs.Log.{LogStands}
 use Rattle.array_spec.specs.Sound.{AreSound}
@@ -32,7 +33,7 @@ use Rattle.register.specs.declared.state.Register.{Register}
 use Rattle.register.specs.declared.next.StoreFault.{StoreFault}
 use Rattle.register.specs.declared.next.StoreFault.TheVariants.{Spent, TooFew}
 use Rattle.register.specs.Faults.{IsFaultOf}
-use Rattle.register.specs.Registers.{IsLaterRecord, IsRegisterOf, OnSlots, drives_of, next_slot, own_slot}
+use Rattle.register.specs.Registers.{IsLaterRecord, IsRegisterOf, OnSlots, drives_of, named_sound, next_slot, own_slot}
 use Rattle.register.specs.Standing.{AllShow, Content, GivesOldOrNext, MayStore, StandsBack, StandsInLog, StillGiven}
 use Rattle.register.proofs.FlagLemmas.{in_cut}
 use Rattle.session_spec.specs.Entering.{Enters, Found, OnlyFailedAreSilent, StandsStill, read_now, failed_by, failed_since}
@@ -204,8 +205,9 @@ module _ (a b : Shelved) (x : Loaded) (on : Continues a b) (seen : IsSeenIn a b 
         pub opened : (was.record.generation < now.record.generation) → (now.record.members.drives ≡ now.drives) × (now.record.members.nvrams ≡ o.log.members)
             → ((missing : Conditions) (arrays : List plain.Array) → Enters a missing arrays → IsBearable (geometry_of a) (failed_since a s missing)
             → IsRecovered a s found (array_with o now) done.log (failed_since a s missing) arrays)
+            → ((d : Device) → names now.record d ≡ true → names x.record d ≡ true) → IsBearable (geometry_of a) (named_sound now.record)
             → IsOpened a s (array_with o now)
-        opened generation members recovered = record {
+        opened generation members recovered none_joins enough = record {
           found = found;
           not_spent = lawful_b.room;
           no_other = λ there stand. no_other (found_by.members a b x on seen lawful same n first o after replayed) (λ i. refl) there stand ∙ sym (patches_are (geometry_of b) x.record first o memory done);
@@ -218,6 +220,8 @@ module _ (a b : Shelved) (x : Loaded) (on : Continues a b) (seen : IsSeenIn a b 
           next = done.next ∙ ap (λ (k : NextNumbers). next_after_all k done.log) memory.next;
           boot_is = subst (λ (r : BootRecord). now.record ≡ record r { generation = now.record.generation; members = now.record.members }) record_is later.rest;
           taken_over = found_by.taken_over a b x on seen lawful same n first o after replayed s now last left members.0 members.1;
+          none_joins = none_joins;
+          enough = enough;
           later = omega (arith, generation, ap (λ (b : BootRecord). b.generation) record_is);
           few = omega (arith, few, ap (λ (b : BootRecord). b.generation) record_is);
           each = each;

@@ -85,6 +85,9 @@ pub record IsOpened (old new : Shelved) (a : Array) : Type 0 where
   pub next : a.memory.memory.next ≡ next_after_all found.effective.boot.next log
   pub boot_is : a.register.record ≡ record found.effective.boot { generation = a.register.record.generation; members = a.register.record.members }
   pub taken_over : IsTakenOver (geometry_of old) (read_now old).image found (has_failed (read_now old) (read_now new)) (named_sound a.register.record)
+  -- the devices that its record names are enough, and were named by the record that was found
+  pub none_joins : (d : Device) → names a.register.record d ≡ true → names found.effective.boot d ≡ true
+  pub enough : IsBearable (geometry_of old) (named_sound a.register.record)
   pub later : found.effective.boot.generation < a.register.record.generation
   pub few : a.register.record.generation < found.effective.boot.generation + 4
   pub each : (missing : Conditions) (arrays : List plain.Array) → Enters old missing arrays → LeavesOnly old new (StandsStill old (Some found) missing arrays)

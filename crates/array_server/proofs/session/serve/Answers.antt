@@ -3,6 +3,7 @@ use Rattle.pur_base.specs.declared.reply.Status.{Status}
 use Rattle.world.specs.Losing.{geometry_of}
 use Rattle.world.proofs.Moments.{continues_trans}
 use Rattle.world.proofs.Ran.{runs_moments}
+use Rattle.world.proofs.Rests.{same_stream}
 use Rattle.request_codec.proofs.CallLemmas.{both}
 use Rattle.session_spec.specs.Ends.{RisesIf, is_source, is_sink}
 use Rattle.session_spec.specs.Headline.{Unopened, Served}
@@ -10,7 +11,7 @@ use Rattle.session_spec.proofs.Resumed.{may_want_memory}
 use Rattle.array_engine.specs.declared.engine.Engine.{Engine}
 use Rattle.array_server.specs.Sessions.{BeginsAt, IsServedFrom}
 use Rattle.array_server.proofs.Begun.{engine_of}
-use Rattle.array_server.proofs.Headlines.{served, serves, unopened, no_stream, reads_some}
+use Rattle.array_server.proofs.Headlines.{served, serves, unopened, no_stream, reads_some, was_opened}
 use Rattle.array_server.proofs.session.serve.Goals as goal
 
 pub returns-in_default-clause-survives : goal.returns-in_default-clause-survives
@@ -21,6 +22,21 @@ returns-in_default-new-clause-survives g c = λ h hs hk. may_want_memory (g.W.Sh
 
 pub returns-in_default-new-2-clause-survives : goal.returns-in_default-new-2-clause-survives
 returns-in_default-new-2-clause-survives g c = λ h hs hk. may_want_memory (g.W.Shelf.shelf c.args.world.now) (g.W.Source.source c.args.world.now) (g.W.Sink.sink c.args.world.now) (g.met.W.Shelf.is_shelf c.args.world.now)
+
+pub returns-in_default-clause-untouched : goal.returns-in_default-clause-untouched
+returns-in_default-clause-untouched g c none = (same_stream (g.W.Source.source c.args.world.now), same_stream (g.W.Sink.sink c.args.world.now))
+
+pub returns-in_default-new-clause-untouched : goal.returns-in_default-new-clause-untouched
+returns-in_default-new-clause-untouched g c none = (same_stream (g.W.Source.source c.args.world.now), same_stream (g.W.Sink.sink c.args.world.now))
+
+pub returns-in_default-new-2-clause-untouched : goal.returns-in_default-new-2-clause-untouched
+returns-in_default-new-2-clause-untouched g c none = (same_stream (g.W.Source.source c.args.world.now), same_stream (g.W.Sink.sink c.args.world.now))
+
+pub returns-in-Ok-recover-clause-untouched : goal.returns-in-Ok-recover-clause-untouched
+returns-in-Ok-recover-clause-untouched g c none = absurd (was_opened c.answer_all.result c.answer_all.ensures.status none)
+
+pub returns-clause-untouched : goal.returns-clause-untouched
+returns-clause-untouched g c none = (g.met.W.World.shelf_keeps_source c.args.world.now c.recover.new.shelf c.in-Err.ensures.ran.rest, g.met.W.World.shelf_keeps_sink c.args.world.now c.recover.new.shelf c.in-Err.ensures.ran.rest)
 
 pub returns-in-Ok-recover-clause-continues : goal.returns-in-Ok-recover-clause-continues
 returns-in-Ok-recover-clause-continues g c = continues_trans c.in-Ok-recover.ensures.ran.on.continues c.answer_all.ensures.continues

@@ -20,10 +20,11 @@ use Rattle.boot_region.specs.Loading.{IsLawfulLoad}
 use Rattle.boot_region.specs.Members.{IsMember}
 use Rattle.boot_region.specs.Slots.{slot_in}
 use Rattle.boot_region.specs.Storing.{StandsAgain}
+use Rattle.nvram_log.specs.Members as nv
 use Rattle.register.specs.declared.state.Register.{Register}
 use Rattle.register.specs.declared.next.StoreFault.{StoreFault}
 use Rattle.register.specs.Faults.{IsFaultOf}
-use Rattle.register.specs.Registers.{IsLaterRecord, IsRegisterOf, drives_of}
+use Rattle.register.specs.Registers.{IsLaterRecord, IsRegisterOf, drives_of, named_sound}
 use Rattle.register.specs.Standing.{Content, GivesOldOrNext, IsFirm, IsOpen, MayStore, StandsBack, StandsInLog, StillGiven}
 use Rattle.register.proofs.Moments.{stands_at, gives_at, back_at}
 use Rattle.session_spec.specs.Entering.{Enters, StandsStill, failed_since}
@@ -45,6 +46,7 @@ use Rattle.takeover.proofs.ArrayOf.{array_of_shelf, array_with, patches_are}
 use Rattle.takeover.proofs.BaseHeld as base_held
 use Rattle.takeover.proofs.Chains.{kept_one}
 use Rattle.takeover.proofs.Counts.{goes_on}
+use Rattle.takeover.proofs.Enough.{named_enough, names_fewer}
 use Rattle.takeover.proofs.Failing.{since_later}
 use Rattle.takeover.proofs.Moments.{log_opened, recovered}
 use Rattle.takeover.proofs.Opening as opening
@@ -275,6 +277,7 @@ returns-clause-opened g c h =
     subst (λ (r : Result (Unit {0}) StoreFault). OnOk r ((now.record.members.drives ≡ now.drives) × (now.record.members.nvrams ≡ c.members.result))) c.in_ok-store.was c.store.ensures.made.members in
     let enough : now.record.slots ≤ set_count now.drives + 2 = subst (λ (r : Result (Unit {0}) StoreFault). OnOk r (now.record.slots ≤ set_count now.drives + 2)) c.in_ok-store.was c.store.ensures.made.enough in
     let later : IsLaterRecord x.record now.record = subst (λ (r : BootRecord). IsLaterRecord r now.record) made.0 (store_later c.store.ensures.made) in
+    let left : IsLogLeft x.record.members.nvrams x.record.flushed f.memory o = c.in_ok-opened.ensures.left in
     let found = opening.found a b x on seen.seen lawful (nvrams_still c.find_array.ensures.ran.on) n after s f.memory o was now last is_a is_b is_n h replayed is_of made.0 made.1 c.store.ensures.left.dropped (store_later c.store.ensures.made) c.store.ensures.made.few shown in
     let is_recovered : (missing : Conditions) (arrays : List Array) → Enters a missing arrays → IsBearable (geometry_of a) (failed_since a s missing)
     → IsRecovered a s found (array_with o now) done.log (failed_since a s missing) arrays =
@@ -305,6 +308,11 @@ returns-clause-opened g c h =
     (subst (λ (l : List Command). ReadsAs contents o.memory.memory (after_all base l)) (sym same_log) reads) hold in
     opening.opened a b x on seen.seen lawful (nvrams_still c.find_array.ensures.ran.on) n after s f.memory o was now last is_a is_b is_n h replayed is_of made.0 made.1 c.store.ensures.left.dropped (store_later c.store.ensures.made) c.store.ensures.made.few shown each memory done seen.no_other
     generation.0 (members.0, members.1 ∙ c.members.ensures) is_recovered
+    (names_fewer x.record now.record
+    (λ i m. lawful.named i (subst (λ (l : List Bool). IsMember l i) made.1 (c.store.ensures.left.fewer i (subst (λ (l : List Bool). IsMember l i) members.0 m))))
+    (λ k m. left.fewer k (subst (λ (l : List Bool). nv.IsMember l k) (members.1 ∙ c.members.ensures) m)))
+    (subst (λ (k : Geometry). IsBearable k (named_sound now.record)) (sym (same_shelf on ∙ same_shelf after ∙ same_shelf last))
+    (named_enough (geometry_of s) now.record c.store.ensures.left.is_of.lawful (subst (λ (l : List Bool). now.record.slots ≤ set_count l + 2) (sym members.0) enough)))
 
 pub returns-clause-named : goal.returns-clause-named
 returns-clause-named g c =
