@@ -1,9 +1,11 @@
 ghost use Rattle.std.specs.Prelude.{◌≡◌, ◌↔◌, ◌∷◌, [], true, false, map, string_bytes};
 ghost use Rattle.array_cli.specs.Commands.{AreCommand, IsInit, IsServe};
-ghost use Rattle.array_server.specs.Made.{IsCountedEnd};
+ghost use Rattle.array_server.specs.Made.{IsInitEnd};
+ghost use Rattle.array_server.specs.Serving.{IsNeverOpened, IsServeStatus};
 ghost use Rattle.session_spec.specs.Ends.{RisesIf, is_source, is_sink};
 ghost use Rattle.session_spec.specs.Headline.{Survives};
 ghost use Rattle.session_spec.specs.Making.{Makes};
+ghost use Rattle.world.specs.Streams.{SameStream};
 
 use array_server::{init, serve};
 use pur_base::Status;
@@ -33,7 +35,14 @@ pub fn array_main<W: World>(alloc: Global, words: &[String], world: &mut W) -> S
     // `init`: the array of nothing is made on blank devices, and told, or it says why not.
     ensures makes { IsInit (map string_bytes words.now) → (W.shelf world.old).honest → (W.sink world.old).honest
         → Makes (W.shelf world.old) (W.shelf world.new) (W.sink world.old) (W.sink world.new) result }
-    ensures counted { IsInit (map string_bytes words.now) → IsCountedEnd result (W.shelf world.old) (W.shelf world.new) }
+
+    // Whatever the outside tells: in which ways each ends; `init` halts exactly where a call on a device failed, and takes nothing; and where `serve` isn't
+    // opened for want of memory, or for no array, it takes nothing and gives nothing.
+    ensures made { IsInit (map string_bytes words.now) → IsInitEnd result (W.shelf world.old) (W.shelf world.new) }
+    ensures untaken { IsInit (map string_bytes words.now) → SameStream (W.source world.old) (W.source world.new) }
+    ensures served { IsServe (map string_bytes words.now) → IsServeStatus result }
+    ensures unopened { IsServe (map string_bytes words.now) → IsNeverOpened result
+        → SameStream (W.source world.old) (W.source world.new) × SameStream (W.sink world.old) (W.sink world.new) }
 
     // A source or a sink that failed ends it, whatever the devices tell.
     ensures source { RisesIf (is_source result) (W.source world.old).faults (W.source world.new).faults }
