@@ -6,8 +6,8 @@ use Rattle.pur_base.specs.declared.request.Table.TheVariants as table
 use Rattle.pur_base.specs.declared.facts.AddressFact.{AddressFact}
 use Rattle.pyramid.specs.Layers.{facts_of, patch_facts}
 use Rattle.memory_spec.specs.Memory.{Contents, IsSound, Memory, ReadsAs}
-use Rattle.checkpoint_spec.specs.Eliding.{IsEliding}
-use Rattle.checkpoint_spec.proofs.Checkpointed.{checkpoint_reads}
+use Rattle.memory_spec.specs.Eliding.{IsEliding}
+use Rattle.memory_spec.proofs.Checkpointed.{checkpoint_reads}
 use Rattle.memory_spec.specs.Tables.{facts}
 use Rattle.table_plan.specs.Eliding.{AreElisionsOf, IsElidedBy}
 use Rattle.table_plan.specs.Places.{flagged_from}

@@ -19,9 +19,9 @@ use Rattle.pyramid.proofs.LayerLemmas.{all_contained}
 use Rattle.memory_spec.specs.Memory.{Contents, Memory}
 use Rattle.memory_spec.specs.Tables.{facts}
 use Rattle.memory_spec.proofs.Lists.{in_filter_map, in_map, of_filter_map, of_map}
-use Rattle.checkpoint_spec.specs.Contents.{ContentsStand}
-use Rattle.checkpoint_spec.specs.Eliding.{IsEliding}
-use Rattle.checkpoint_spec.proofs.Elided.{not_before, said_before}
+use Rattle.memory_spec.specs.Contents.{ContentsStand}
+use Rattle.memory_spec.specs.Eliding.{IsEliding}
+use Rattle.memory_spec.proofs.Elided.{not_before, said_before}
 use Rattle.array_memory.specs.declared.plan.Eliding.{Eliding}
 use Rattle.array_memory.specs.Eliding.{eliding_by}
 use Rattle.record_tables.specs.Units.{AreNewUnits}

@@ -11,8 +11,8 @@ use Rattle.boot_codec.specs.declared.record.BootRecord.{BootRecord}
 use Rattle.boot_codec.specs.declared.record.NextNumbers.{NextNumbers}
 use Rattle.array_spec.specs.Sound.{AreSegmentsSound}
 use Rattle.memory_spec.specs.Tables.{facts, patches}
-use Rattle.checkpoint_spec.specs.Whole.{IsNamed}
-use Rattle.checkpoint_spec.specs.Checkpoint.{IsRecordOfMemory}
+use Rattle.memory_spec.specs.Whole.{IsNamed}
+use Rattle.memory_spec.specs.Checkpoint.{IsRecordOfMemory}
 use Rattle.table_plan.specs.Eliding.{IsElidedBy}
 use Rattle.table_plan.proofs.ElidedLemmas.{as_many}
 use Rattle.array_memory.specs.Plan.{after_plan, next_past, IsSameMemory, HasRoomAgain}

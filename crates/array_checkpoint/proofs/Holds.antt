@@ -20,9 +20,9 @@ use Rattle.segment_codec.specs.Stripes.{SectorStands, StripesStand}
 use Rattle.array_spec.specs.Stored.{PatchStands}
 use Rattle.memory_spec.specs.Memory.{Contents, Memory}
 use Rattle.memory_spec.specs.Tables.{facts, patches}
-use Rattle.checkpoint_spec.specs.Contents.{ContentsStand}
-use Rattle.checkpoint_spec.specs.Whole.{IsNamed}
-use Rattle.checkpoint_spec.proofs.Placing.{old_segment_id}
+use Rattle.memory_spec.specs.Contents.{ContentsStand}
+use Rattle.memory_spec.specs.Whole.{IsNamed}
+use Rattle.memory_spec.proofs.Placing.{old_segment_id}
 use Rattle.table_plan.specs.Planned.{extended, sectors_at}
 use Rattle.segment_writer.specs.DataPlacing.{AreFilled, segment_in}
 use Rattle.segment_writer.specs.DataStanding.{DataStands}

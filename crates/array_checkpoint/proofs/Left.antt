@@ -5,7 +5,7 @@ use Rattle.std.specs.List.{AllByRecursion}
 use Rattle.pur_base.specs.Devices.{Image, View, drive}
 use Rattle.pur_base.specs.declared.device.Device.{Device}
 use Rattle.pur_base.specs.declared.facts.SegmentFact.{SegmentFact}
-use Rattle.stored_spec.specs.Held.{AreEnough}
+use Rattle.array_spec.specs.Held.{AreEnough}
 use Rattle.free_space.specs.Map.{shelf_of}
 use Rattle.world.specs.Shelf.{Shelved, Continues}
 use Rattle.world.specs.Losing.{geometry_of}
@@ -15,7 +15,7 @@ use Rattle.register.specs.declared.state.Register.{Register}
 use Rattle.register.specs.Registers.{drives_of}
 use Rattle.memory_spec.specs.Memory.{Contents}
 use Rattle.memory_spec.specs.Tables.{facts}
-use Rattle.checkpoint_spec.specs.Contents.{AreAmong, ContentsStand}
+use Rattle.memory_spec.specs.Contents.{AreAmong, ContentsStand}
 use Rattle.segment_io.specs.Lost.{is_in}
 use Rattle.segment_io.specs.Stripes.{bytes_of}
 use Rattle.segment_writer.specs.DataStanding.{DataStands}

@@ -12,16 +12,16 @@ use Rattle.boot_codec.specs.declared.patch.Patch.{Patch}
 use Rattle.segment_codec.specs.Stripes.{StripesStand}
 use Rattle.array_spec.specs.Meaning.{TablesStand}
 use Rattle.array_spec.specs.Stored.{PatchesStand, PatchStands, all_facts}
-use Rattle.stored_spec.specs.Held.{AreEnough, DataHolds}
+use Rattle.array_spec.specs.Held.{AreEnough, DataHolds}
 use Rattle.world.specs.Shelf.{Shelved, Continues, IsShelf}
 use Rattle.world.specs.Losing.{geometry_of}
 use Rattle.register.specs.Standing.{Content, array_of}
 use Rattle.register.specs.Tables.{with_tables}
 use Rattle.memory_spec.specs.Tables.{facts, patches}
-use Rattle.checkpoint_spec.specs.Checkpoint.{IsCheckpointed, IsRecordOfMemory}
-use Rattle.checkpoint_spec.specs.Contents.{AreAmong, ContentsStand, WrittenOn}
-use Rattle.checkpoint_spec.proofs.Checkpointed.{checkpoint_data_holds}
-use Rattle.checkpoint_spec.proofs.Patches.{patches_are_all}
+use Rattle.memory_spec.specs.Checkpoint.{IsCheckpointed, IsRecordOfMemory}
+use Rattle.memory_spec.specs.Contents.{AreAmong, ContentsStand, WrittenOn}
+use Rattle.memory_spec.proofs.Checkpointed.{checkpoint_data_holds}
+use Rattle.memory_spec.proofs.Patches.{patches_are_all}
 use Rattle.table_plan.specs.Planned.{extended, sectors_at}
 use Rattle.table_plan.proofs.Planned.{elided_is_checkpointed}
 use Rattle.pyramid.specs.Layers.{patch_facts}

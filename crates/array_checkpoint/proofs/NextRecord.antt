@@ -11,8 +11,8 @@ use Rattle.free_space.specs.Map.{shelf_of}
 use Rattle.register.specs.Tables.{with_tables}
 use Rattle.memory_spec.specs.Memory.{Memory}
 use Rattle.memory_spec.specs.Tables.{facts, patches}
-use Rattle.checkpoint_spec.specs.Checkpoint.{IsRecordOfMemory}
-use Rattle.checkpoint_spec.specs.Whole.{IsNamed}
+use Rattle.memory_spec.specs.Checkpoint.{IsRecordOfMemory}
+use Rattle.memory_spec.specs.Whole.{IsNamed}
 use Rattle.array_memory.specs.Eliding.{eliding_by}
 use Rattle.array_memory.specs.Plan.{after_plan, units_of}
 use Rattle.record_tables.specs.Laws.{with_patches}

@@ -20,7 +20,7 @@ use Rattle.unit_map.specs.Map.{IsGroups}
 use Rattle.free_space.specs.Map.{shelf_of, AreDataSegments, IsMapOf}
 use Rattle.free_space.specs.Laws.{AreUnitsToTake}
 use Rattle.free_space.proofs.LawLemmas.{groups_of_the_tables}
-use Rattle.checkpoint_spec.specs.Eliding.{IsEliding}
+use Rattle.memory_spec.specs.Eliding.{IsEliding}
 use Rattle.table_plan.specs.Eliding.{IsElidedBy}
 use Rattle.table_plan.specs.Places.{flagged_from}
 use Rattle.table_plan.proofs.ElidedLemmas.{as_many}

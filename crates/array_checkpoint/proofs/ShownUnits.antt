@@ -7,13 +7,13 @@ use Rattle.boot_codec.specs.declared.patch.Patch.{Patch}
 use Rattle.boot_codec.specs.declared.record.BootRecord.{BootRecord}
 use Rattle.array_spec.specs.Sound.{ArePlaces}
 use Rattle.array_spec.specs.Stored.{places_of_part}
-use Rattle.stored_spec.specs.Held.{AreEnough}
+use Rattle.array_spec.specs.Held.{AreEnough}
 use Rattle.free_space.specs.Laws.{AreUnitsToTake}
 use Rattle.free_space.specs.Map.{shelf_of}
 use Rattle.memory_spec.specs.Tables.{facts}
 use Rattle.memory_spec.specs.Memory.{Memory}
 use Rattle.memory_spec.proofs.Lists.{of_each}
-use Rattle.checkpoint_spec.specs.Contents.{AreAmong}
+use Rattle.memory_spec.specs.Contents.{AreAmong}
 use Rattle.array_memory.specs.declared.plan.Counts.{Counts}
 use Rattle.array_memory.specs.declared.plan.Plan.{Plan}
 use Rattle.array_memory.specs.Plan.{units_of}

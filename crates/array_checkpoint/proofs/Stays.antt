@@ -19,7 +19,7 @@ use Rattle.array_spec.proofs.Fewer.{places_keep, places_count}
 use Rattle.array_spec.proofs.Quiet.{bytes_same, in_unit}
 use Rattle.array_spec.proofs.Moves.{Keeps, SameUnit, same_units_keep}
 use Rattle.array_spec.proofs.Used.{data_is_used}
-use Rattle.stored_spec.specs.Held.{AreEnough}
+use Rattle.array_spec.specs.Held.{AreEnough}
 use Rattle.world.specs.Losing.{geometry_of}
 use Rattle.world.specs.Shelf.{IsShelf, MayStop, Shelved}
 use Rattle.world.specs.Writes.{WritesOnly}
@@ -29,10 +29,10 @@ use Rattle.register.specs.Registers.{drives_of}
 use Rattle.register.specs.Standing.{Content, StandsInLog}
 use Rattle.register.proofs.FlagLemmas.{in_cut}
 use Rattle.memory_spec.specs.Memory.{Contents}
-use Rattle.checkpoint_spec.specs.Contents.{AreAmong, ContentsStand}
+use Rattle.memory_spec.specs.Contents.{AreAmong, ContentsStand}
 use Rattle.session_spec.specs.Entering.{read_now}
 use Rattle.array_core.specs.Drives.{drives_view}
-use Rattle.stored_spec.proofs.Next.{counted_alike}
+use Rattle.array_spec.proofs.Next.{counted_alike}
 
 -- ---- what segments hold
 

@@ -10,7 +10,7 @@ use Rattle.pur_base.specs.Visible.{segment}
 use Rattle.pur_base.specs.declared.facts.SegmentFact.{SegmentFact}
 use Rattle.boot_codec.specs.Record.{set_count}
 use Rattle.array_spec.specs.Sound.{ArePlaces}
-use Rattle.stored_spec.specs.Held.{AreEnough}
+use Rattle.array_spec.specs.Held.{AreEnough}
 use Rattle.world.specs.Losing.{geometry_of}
 use Rattle.world.specs.Shelf.{Shelved}
 use Rattle.world.specs.Ran.{Runs}
@@ -20,7 +20,7 @@ use Rattle.register.specs.Registers.{drives_of}
 use Rattle.register.proofs.FlagLemmas.{in_cut}
 use Rattle.register.proofs.Stores.{fewer_cut}
 use Rattle.memory_spec.specs.Memory.{Contents}
-use Rattle.checkpoint_spec.specs.Contents.{AreAmong}
+use Rattle.memory_spec.specs.Contents.{AreAmong}
 use Rattle.array_core.specs.Changing.{LeavesFewer}
 use Rattle.array_core.specs.Drives.{SegmentsHold, drives_view}
 use Rattle.array_core.proofs.Segments.{AreKept, drives_left, few_bad, hold_kept, off_slots}

@@ -13,8 +13,8 @@ use Rattle.array_spec.specs.Laws.{IsHeld}
 use Rattle.array_spec.specs.Unflushed.{LogLies, NamesSound}
 use Rattle.array_spec.proofs.Votes.{held_is_given, sound_before}
 use Rattle.array_spec.proofs.Held.{held_stands}
-use Rattle.stored_spec.specs.Held.{TablesHold, NamesNoneLeftOut}
-use Rattle.stored_spec.proofs.Reading.{record_is_read}
+use Rattle.array_spec.specs.Held.{TablesHold, NamesNoneLeftOut}
+use Rattle.array_spec.proofs.Reading.{record_is_read}
 use Rattle.world.specs.Shelf.{Shelved, IsShelf}
 use Rattle.world.specs.Losing.{geometry_of}
 use Rattle.boot_region.specs.Members.{IsMember}

@@ -9,8 +9,8 @@ use Rattle.boot_codec.specs.Spelling.{spelling}
 use Rattle.boot_codec.specs.Region.{BootSlot, A, B, IsRecordOf, body_in, body_place, gate_place, shown_by, generation_in, other_slot, Yields}
 use Rattle.array_spec.proofs.Quiet.{bytes_same}
 use Rattle.array_spec.proofs.Settling.{twice_other}
-use Rattle.stored_spec.specs.Held.{TablesHold}
-use Rattle.stored_spec.proofs.Next.{free_writes_keep}
+use Rattle.array_spec.specs.Held.{TablesHold}
+use Rattle.array_spec.proofs.Next.{free_writes_keep}
 use Rattle.world.specs.Shelf.{Shelved, Disk, Stop, MayStop, IsShelf}
 use Rattle.world.specs.Losing.{geometry_of}
 use Rattle.world.specs.Writes.{MayLeaveBut}

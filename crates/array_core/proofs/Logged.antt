@@ -9,8 +9,8 @@ use Rattle.pur_base.specs.Plain.{Array}
 use Rattle.boot_codec.specs.Spelling.{spelling}
 use Rattle.boot_codec.specs.Region.{BootSlot, IsRecordOf, body_in, generation_in, other_slot, shown_by, Yields}
 use Rattle.array_spec.proofs.Settling.{twice_other}
-use Rattle.stored_spec.specs.Held.{TablesHold}
-use Rattle.stored_spec.proofs.Next.{same_drives_hold}
+use Rattle.array_spec.specs.Held.{TablesHold}
+use Rattle.array_spec.proofs.Next.{same_drives_hold}
 use Rattle.world.specs.Shelf.{Shelved, Disk, Stop, MayLeave, MayStop, IsShelf}
 use Rattle.world.specs.Losing.{geometry_of}
 use Rattle.world.specs.Writes.{LeavesBut, MayLeaveBut}

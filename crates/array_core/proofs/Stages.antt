@@ -6,7 +6,7 @@ use Rattle.pur_base.specs.Devices.{Geometry, drive, nvram}
 use Rattle.boot_codec.specs.declared.record.BootRecord.{BootRecord}
 use Rattle.boot_codec.specs.Record.{IsBootRecord}
 use Rattle.boot_codec.specs.Region.{names}
-use Rattle.stored_spec.specs.Held.{DataHolds}
+use Rattle.array_spec.specs.Held.{DataHolds}
 use Rattle.world.specs.Counts.{Rises}
 use Rattle.world.specs.Losing.{geometry_of}
 use Rattle.world.specs.Shelf.{Shelved, IsShelf, Continues}
@@ -27,7 +27,7 @@ use Rattle.array_core.proofs.Standing.{member_clean}
 use Rattle.array_core.specs.Switching.{AreLost}
 use Rattle.array_core.proofs.Keeping.{CameAfter}
 use Rattle.array_core.proofs.LostOnWay.{rises_since}
-use Rattle.stored_spec.proofs.Next.{data_moves}
+use Rattle.array_spec.proofs.Next.{data_moves}
 use Rattle.array_core.proofs.Moved.{only_boot}
 
 -- ---- results

@@ -12,8 +12,8 @@ use Rattle.array_spec.specs.Stored.{all_facts}
 use Rattle.array_spec.specs.Unflushed.{NamesSound}
 use Rattle.array_spec.proofs.Quiet.{quiet_writes}
 use Rattle.array_spec.proofs.Standings.{more_may_go_missing}
-use Rattle.stored_spec.specs.Held.{NamesNoneLeftOut}
-use Rattle.stored_spec.proofs.Free.{free_is_unused}
+use Rattle.array_spec.specs.Held.{NamesNoneLeftOut}
+use Rattle.array_spec.proofs.Free.{free_is_unused}
 use Rattle.world.specs.Shelf.{Shelved, Stop, IsShelf, IsOf}
 use Rattle.world.specs.Losing.{geometry_of}
 use Rattle.world.specs.Writes.{LeavesBut}

@@ -5,7 +5,7 @@ use Rattle.pur_base.specs.Facts.{Facts}
 use Rattle.pur_base.specs.declared.device.Device.TheVariants.{Drive, Nv}
 use Rattle.world.specs.Shelf.{Shelved}
 use Rattle.memory_spec.specs.Memory.{Contents}
-use Rattle.checkpoint_spec.specs.Contents.{ContentsStand}
+use Rattle.memory_spec.specs.Contents.{ContentsStand}
 use Rattle.register.specs.declared.state.Register.{Register}
 use Rattle.register.specs.Registers.{drives_of}
 

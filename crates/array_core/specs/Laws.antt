@@ -3,7 +3,7 @@ use Rattle.std.specs.Prelude.{◌≡◌, ℕ, Bool, List, [], ◌∷◌}
 use Rattle.pur_base.specs.Commands.{Command, AllAccepted}
 use Rattle.pur_base.specs.Devices.{Conditions}
 use Rattle.pur_base.specs.Plain.{Array}
-use Rattle.stored_spec.specs.Held.{DataHolds}
+use Rattle.array_spec.specs.Held.{DataHolds}
 use Rattle.world.specs.Losing.{geometry_of}
 use Rattle.world.specs.Shelf.{Shelved, LeavesOnly}
 use Rattle.boot_region.specs.Members.{IsMember}

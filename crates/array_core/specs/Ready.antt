@@ -13,7 +13,7 @@ use Rattle.register.specs.Standing.{Content, IsOpen, array_of}
 use Rattle.memory_spec.specs.Tables.{facts, patches}
 use Rattle.memory_spec.specs.Memory.{Contents, IsSound, ReadsAs}
 use Rattle.memory_spec.specs.Numbers.{are_used_up, is_used_up}
-use Rattle.checkpoint_spec.specs.Whole.{AreLayered, IsNamed}
+use Rattle.memory_spec.specs.Whole.{AreLayered, IsNamed}
 use Rattle.table_plan.specs.Planned.{AreStored}
 use Rattle.pyramid.specs.Layers.{facts_of}
 use Rattle.array_core.specs.declared.array.Array.{Array}

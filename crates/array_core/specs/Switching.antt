@@ -8,7 +8,7 @@ use Rattle.pur_base.specs.Visible.{segment}
 use Rattle.pur_base.specs.declared.facts.SegmentFact.{SegmentFact}
 use Rattle.boot_codec.specs.Record.{set_count}
 use Rattle.array_spec.specs.Sound.{ArePlaces}
-use Rattle.stored_spec.specs.Held.{AreEnough, DataHolds}
+use Rattle.array_spec.specs.Held.{AreEnough, DataHolds}
 use Rattle.world.specs.Losing.{geometry_of}
 use Rattle.world.specs.Shelf.{Shelved}
 use Rattle.boot_region.specs.Members.{IsMember, LostWrites}
@@ -21,7 +21,7 @@ use Rattle.register.specs.Registers.{IsLaterRecord, OnSlots, drives_of}
 use Rattle.register.specs.Standing.{Content, IsOpen}
 use Rattle.register.specs.Tables.{with_tables, KeepsArray}
 use Rattle.memory_spec.specs.Memory.{Contents}
-use Rattle.checkpoint_spec.specs.Contents.{AreAmong, ContentsStand}
+use Rattle.memory_spec.specs.Contents.{AreAmong, ContentsStand}
 use Rattle.array_core.specs.Changing.{IsOpenOn}
 use Rattle.array_core.specs.Drives.{SegmentsHold}
 use Rattle.array_core.specs.Free.{WritesFree}

@@ -16,7 +16,7 @@ ghost use Rattle.memory_spec.specs.Tables.{facts};
 ghost use Rattle.array_memory.specs.Asked.{staged_by, AreLeft, HasRoomLeft, IsAllowed, IsPrepared};
 ghost use Rattle.array_memory.specs.Kept.{HasSamePatches};
 ghost use Rattle.array_memory.specs.Lawful.{IsLawful};
-ghost use Rattle.checkpoint_spec.specs.Whole.{AreLayered};
+ghost use Rattle.memory_spec.specs.Whole.{AreLayered};
 ghost use Rattle.array_core.specs.Ready.{IsArrayOf, IsReady};
 ghost use Rattle.array_core.specs.Going.{by_faults};
 ghost use Rattle.array_core.specs.Goes.{Goes, Halts};

@@ -1,7 +1,7 @@
 -- Memory behind a checkpoint: nothing is beside its patches.
 use Rattle.std.proofs.Common.{◌≡◌, ℕ, ◌≤◌, List, [], ◌∷◌, length, refl, subst, arith}
 use Rattle.pur_base.specs.Devices.{Geometry}
-use Rattle.checkpoint_spec.specs.Whole.{IsWhole}
+use Rattle.memory_spec.specs.Whole.{IsWhole}
 use Rattle.array_memory.specs.Kept.{Kept}
 use Rattle.array_core.specs.declared.array.Array.{Array}
 use Rattle.array_core.specs.Ready.{IsArrayOf}

@@ -13,7 +13,7 @@ use Rattle.pur_base.specs.declared.limits.TheConstants.{REQUEST_SECTORS, SECTOR_
 use Rattle.pur_base.specs.declared.request.Request.TheVariants as request
 use Rattle.world.specs.Losing.{geometry_of}
 use Rattle.world.specs.Shelf.{Shelved, IsShelf}
-use Rattle.checkpoint_spec.specs.Contents.{ContentsStand}
+use Rattle.memory_spec.specs.Contents.{ContentsStand}
 use Rattle.memory_spec.specs.Memory.{Memory, Contents, ReadsAs}
 use Rattle.memory_spec.specs.Tables.{facts}
 use Rattle.volume_ops.specs.OfArray.{OfArray}

@@ -23,7 +23,7 @@ use Rattle.nvram_log.specs.Held.{HoldsOn}
 use Rattle.nvram_log.specs.Slots.{IsLog}
 use Rattle.memory_spec.specs.Memory.{Contents}
 use Rattle.memory_spec.specs.Tables.{facts}
-use Rattle.checkpoint_spec.specs.Contents.{ContentsStand}
+use Rattle.memory_spec.specs.Contents.{ContentsStand}
 use Rattle.array_core.specs.declared.array.Array.{Array}
 use Rattle.array_core.specs.Drives.{SegmentsHold, drives_view}
 use Rattle.array_core.specs.Ready.{IsReady}

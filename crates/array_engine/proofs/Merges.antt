@@ -20,7 +20,7 @@ use Rattle.array_spec.specs.Stored.{all_facts}
 use Rattle.world.specs.Shelf.{Shelved, Stop}
 use Rattle.world.specs.Losing.{geometry_of}
 use Rattle.memory_spec.specs.Tables.{patches}
-use Rattle.checkpoint_spec.specs.Merging.{AreJoined, HaveShrunk, has_pair, pair_segments, place_in}
+use Rattle.memory_spec.specs.Merging.{AreJoined, HaveShrunk, has_pair, pair_segments, place_in}
 use Rattle.table_plan.specs.Merging.{merged_patches}
 use Rattle.session_spec.specs.Faring as faring
 use Rattle.session_spec.specs.Faring.{Point, Answers, AnswersRequest, IsMergeDone, IsMerging, IsRefused, WithPair}

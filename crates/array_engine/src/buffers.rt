@@ -11,7 +11,7 @@ ghost use Rattle.world.specs.Writes.{WritesOnly};
 ghost use Rattle.segment_io.specs.Lost.{NoByte};
 ghost use Rattle.memory_spec.specs.Memory.{Contents, IsSound, ReadsAs};
 ghost use Rattle.memory_spec.specs.Tables.{facts};
-ghost use Rattle.checkpoint_spec.specs.Contents.{ContentsStand};
+ghost use Rattle.memory_spec.specs.Contents.{ContentsStand};
 ghost use Rattle.volume_ops.specs.OfArray.{OfArray};
 ghost use Rattle.target_io.specs.Reading.{AreReadable, ShowsDrives, LosesThree};
 ghost use Rattle.target_io.specs.Targets.{IfRefused, IfLost};

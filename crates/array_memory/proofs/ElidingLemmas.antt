@@ -18,9 +18,9 @@ use Rattle.pyramid.proofs.SetLemmas.{same_newest}
 use Rattle.memory_spec.specs.Memory.{Memory, IsSound}
 use Rattle.memory_spec.specs.Tables.{facts}
 use Rattle.memory_spec.proofs.AllTables.{all_elisions}
-use Rattle.checkpoint_spec.specs.Eliding.{IsEliding}
-use Rattle.checkpoint_spec.specs.Whole.{AreLayered}
-use Rattle.checkpoint_spec.proofs.Eliding.{eliding_sound}
+use Rattle.memory_spec.specs.Eliding.{IsEliding}
+use Rattle.memory_spec.specs.Whole.{AreLayered}
+use Rattle.memory_spec.proofs.Eliding.{eliding_sound}
 use Rattle.table_plan.specs.Eliding.{AreElisionsOf, IsElidedBy}
 use Rattle.table_plan.proofs.ElidedLemmas.{addresses_same, is_eliding, mediums_same, objects_same, elisions_alike, segments_elided}
 use Rattle.array_memory.specs.declared.plan.Eliding.{Eliding}

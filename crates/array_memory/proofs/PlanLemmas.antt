@@ -26,10 +26,10 @@ use Rattle.memory_spec.specs.Memory.{Memory, Contents, FitsTarget, FitsInMemory,
 use Rattle.memory_spec.specs.Tables.{facts, patches}
 use Rattle.memory_spec.proofs.AllTables.{all_addresses, all_segments}
 use Rattle.memory_spec.proofs.Lists.{of_map}
-use Rattle.checkpoint_spec.specs.Eliding.{IsEliding}
-use Rattle.checkpoint_spec.specs.Flushing.{IsTableFlushed}
-use Rattle.checkpoint_spec.specs.Placing.{repointed}
-use Rattle.checkpoint_spec.specs.Whole.{AreLayered}
+use Rattle.memory_spec.specs.Eliding.{IsEliding}
+use Rattle.memory_spec.specs.Flushing.{IsTableFlushed}
+use Rattle.memory_spec.specs.Placing.{repointed}
+use Rattle.memory_spec.specs.Whole.{AreLayered}
 use Rattle.table_plan.specs.Places.{has_place, has_places, place_of, places_from, place_in}
 use Rattle.table_plan.specs.Planned.{AreStored, IsPlanned}
 use Rattle.table_plan.specs.Segments.{segments_from}

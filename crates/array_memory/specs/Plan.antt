@@ -14,9 +14,9 @@ use Rattle.fact_codec.specs.declared.limits.TheConstants.{NUMBER_LIMIT}
 use Rattle.pyramid.specs.Layers.{Layers, AreBelow, IsFlushed, facts_of, patch_facts, patches_of}
 use Rattle.memory_spec.specs.Memory.{Memory, IsSound}
 use Rattle.memory_spec.specs.Tables.{Tables}
-use Rattle.checkpoint_spec.specs.Eliding.{IsEliding}
-use Rattle.checkpoint_spec.specs.Whole.{AreLayered}
-use Rattle.checkpoint_spec.specs.Placing.{repointed}
+use Rattle.memory_spec.specs.Eliding.{IsEliding}
+use Rattle.memory_spec.specs.Whole.{AreLayered}
+use Rattle.memory_spec.specs.Placing.{repointed}
 use Rattle.table_plan.specs.Places.{flagged_from, is_named, place_in, places_from}
 use Rattle.table_plan.specs.Planned.{AreStored}
 use Rattle.table_plan.specs.Segments.{segments_from}

@@ -7,7 +7,7 @@ ghost use Rattle.pyramid.specs.Layers.{AreDistinct, facts_of, patch_facts};
 ghost use Rattle.table_plan.specs.Segments.{segments_from};
 ghost use Rattle.memory_spec.specs.Memory.{Contents, IsSound, ReadsAs};
 ghost use Rattle.table_plan.specs.Planned.{AreStored, IsPlanned};
-ghost use Rattle.checkpoint_spec.specs.Whole.{AreLayered};
+ghost use Rattle.memory_spec.specs.Whole.{AreLayered};
 ghost use Rattle.array_memory.specs.Eliding.{eliding_by, IsElidingOf};
 ghost use Rattle.array_memory.specs.Plan.{after_plan, next_past, placed_addresses, units_of, with_patch_rooms, AreLeftFor, AreNewPatches, AreUnits, HasNoLessPatchRoom, HasRoomForPatches, IsPlacingOf, IsPlanFor, IsPlanOf};
 

@@ -11,7 +11,7 @@ use Rattle.pur_base.specs.Plain.{refusal}
 use Rattle.pur_base.specs.Grammar.{Item, Asked, Syntax, Cut}
 use Rattle.pur_base.specs.Replies.{Answer}
 use Rattle.world.specs.Losing.{missing_if, losing}
-use Rattle.checkpoint_spec.specs.Merging.{has_pair, pair_segments}
+use Rattle.memory_spec.specs.Merging.{has_pair, pair_segments}
 use Rattle.session_spec.specs.Faring as faring
 use Rattle.session_spec.specs.Faring.{Point, Answers, AnswersRequest, AnswersAccepted, IsAppended, IsAppendedBehind, IsDone, IsFailed, IsGone, IsLost, IsFlushing, IsMerging, Where, has_segments, is_full, is_limited, is_spent}
 use Rattle.session_spec.specs.declared.limits.TheConstants.{ADDING_GROUPS, CHECKPOINT_GROUPS, MERGE_GROUPS, SEGMENTS_END}

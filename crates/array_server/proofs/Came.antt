@@ -14,7 +14,7 @@ use Rattle.pur_base.specs.Grammar.{Item, Asked, Syntax, Cut}
 use Rattle.pur_base.specs.Commands.{IsLogged}
 use Rattle.pur_base.specs.Replies.{Answer, after_unless}
 use Rattle.world.specs.Losing.{losing}
-use Rattle.checkpoint_spec.specs.Merging.{has_pair, pair_segments}
+use Rattle.memory_spec.specs.Merging.{has_pair, pair_segments}
 use Rattle.session_spec.specs.Faring as faring
 use Rattle.session_spec.specs.Faring.{Point, Answers, AnswersRequest, AnswersAccepted, HasGroups, IsCheckpointed, IsRefused, IsDone, IsFailed, IsFlushing, IsMerging, MayAdd, Where, WithPair, WithRoom, has_segments, is_full, is_limited, is_spent}
 use Rattle.session_spec.specs.declared.limits.TheConstants.{ADDING_GROUPS, CHECKPOINT_GROUPS, LIMITED_SEGMENTS, MERGE_GROUPS, SEGMENTS_END}

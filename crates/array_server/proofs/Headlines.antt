@@ -15,7 +15,7 @@ use Rattle.register.specs.Registers.{IsRegisterOf}
 use Rattle.register.specs.Standing.{array_of}
 use Rattle.memory_spec.specs.Memory.{Contents, FactsRead}
 use Rattle.memory_spec.specs.Tables.{facts, patches}
-use Rattle.loaded_spec.proofs.Sound.{sound_tables_read}
+use Rattle.memory_spec.proofs.Sound.{sound_tables_read}
 use Rattle.session_spec.specs.Entering.{Enters, IsStanding, read_now, failed_since}
 use Rattle.session_spec.specs.Ends.{IsOutput, is_source, is_sink}
 use Rattle.session_spec.specs.Faring.{Point}

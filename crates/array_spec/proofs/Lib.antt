@@ -22,3 +22,9 @@ pub mod Used
 pub mod LogMoves
 pub mod LogSettled
 mod LogKept
+pub mod Unique
+pub mod Members
+pub mod Reading
+pub mod Next
+pub mod Free
+pub mod Follow

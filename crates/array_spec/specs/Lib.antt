@@ -14,3 +14,5 @@ pub mod Laws
 pub mod Examples
 pub mod Unflushed
 pub mod LogSettling
+pub mod Held
+pub mod StoredLaws

@@ -4,6 +4,7 @@
 
 mod replies;
 mod standing;
+mod stored;
 mod uniqueness;
 mod views;
 mod writes;
@@ -12,6 +13,9 @@ pub use replies::{counts_replies, small_examples, worked_rows};
 pub use standing::{
     a_held_record_stands, an_unflushed_array_is_read, each_view_means, marks_are_free,
     marks_may_clear, missing_devices_may_turn_blank, more_may_go_missing,
+};
+pub use stored::{
+    a_checkpoint_follows, a_merge_follows, a_stored_record_is_read, free_writes, one_array_is_held,
 };
 pub use uniqueness::{
     one_command_is_spelled, one_fact_is_spelled, one_log_stands, one_sector_stands,

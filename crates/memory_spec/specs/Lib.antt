@@ -5,3 +5,12 @@ pub mod Adding
 pub mod Laws
 pub mod Reading
 pub mod Examples
+pub mod Contents
+pub mod Whole
+pub mod Flushing
+pub mod Placing
+pub mod Eliding
+pub mod Checkpoint
+pub mod Merging
+pub mod LoadedLaws
+pub mod MergedLaws

@@ -1,11 +1,22 @@
-//! The tables of an array in memory, the plain array that they read as, and what commands make of them.
+//! The tables of an array in memory, the plain array that they read as, what commands, checkpoints and merges make of them, and what stored ones read as once they are loaded.
 //! There is no code: each public function here promises, as its contract, a law of these definitions.
 #![tactic(auto)]
+
+mod checkpoints;
+mod loaded;
+mod merged;
 
 ghost use Rattle.memory_spec.specs.Adding.{OverwriteReads, CreateReads, SameReads, MovedReads};
 ghost use Rattle.memory_spec.specs.Examples.{TwoVolumesRead};
 ghost use Rattle.memory_spec.specs.Laws.{VolumesOwn, PuttingReads, CreatingReads};
 ghost use Rattle.memory_spec.specs.Reading.{EntriesRead, SectorsRead, ReadsAsOne};
+
+pub use checkpoints::{
+    checkpoints_hold, eliding_keeps_memory, flushes_keep_memory, patches_are_memory,
+    placing_keeps_memory, what_was_written_stands,
+};
+pub use loaded::{held_tables_read, sound_tables_read};
+pub use merged::{merged_patches_are_sound, merged_patches_hold};
 
 /// What facts say decides what they read as.
 pub fn laws_of_readings()

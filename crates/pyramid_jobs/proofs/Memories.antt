@@ -13,19 +13,19 @@ use Rattle.pyramid.proofs.LayerLemmas.{all_contained}
 use Rattle.memory_spec.specs.Memory.{Contents, IsSound, Memory, ReadsAs}
 use Rattle.memory_spec.specs.Tables.{Tables, all_of, facts, flushed, patches}
 use Rattle.memory_spec.proofs.AllTables.{all_addresses, all_elisions, all_mediums, all_objects, all_segments, of_all}
-use Rattle.checkpoint_spec.specs.Flushing.{IsShrunk}
-use Rattle.checkpoint_spec.specs.Merging.{HaveShrunk, IsMergedAt}
-use Rattle.checkpoint_spec.specs.Whole.{AreLayered}
-use Rattle.checkpoint_spec.proofs.Merged.{merge_shrinks, one_merge_is_merge}
-use Rattle.checkpoint_spec.proofs.Patches.{in_patches_are, patches_are_flushed}
-use Rattle.checkpoint_spec.proofs.Shrinking.{shrinking_reads, shrunk_sound}
+use Rattle.memory_spec.specs.Flushing.{IsShrunk}
+use Rattle.memory_spec.specs.Merging.{HaveShrunk, IsMergedAt}
+use Rattle.memory_spec.specs.Whole.{AreLayered}
+use Rattle.memory_spec.proofs.Merged.{merge_shrinks, one_merge_is_merge}
+use Rattle.memory_spec.proofs.Patches.{in_patches_are, patches_are_flushed}
+use Rattle.memory_spec.proofs.Shrinking.{shrinking_reads, shrunk_sound}
 use Rattle.table_plan.specs.Planned.{AreStored}
 use Rattle.table_plan.specs.declared.merged.Merged.{Merged}
 use Rattle.table_plan.specs.declared.merged.Merged.TheVariants as merged
 use Rattle.table_plan.specs.Merging.{memory_with, table_of, tables_with, IsMergedOf}
 use Rattle.table_plan.proofs.MergeLemmas.{is_merge}
 use Rattle.table_plan.proofs.PatchFacts.{stored_is_fact}
-use Rattle.merge_spec.proofs.Shrunk.{merged_patches_shrink}
+use Rattle.memory_spec.proofs.Shrunk.{merged_patches_shrink}
 
 -- ---- beside the patches of the table
 

@@ -20,9 +20,9 @@ use Rattle.nvram_log.specs.Members.{IsSome}
 use Rattle.pyramid.specs.Layers.{facts_of}
 use Rattle.memory_spec.specs.Memory.{Contents, IsSound, Memory, ReadsAs}
 use Rattle.memory_spec.specs.Tables.{Tables, facts, patches}
-use Rattle.checkpoint_spec.specs.Contents.{ContentsStand}
-use Rattle.checkpoint_spec.specs.Merging.{AreJoined, HaveShrunk, place_in}
-use Rattle.checkpoint_spec.specs.Whole.{AreLayered, IsNamed}
+use Rattle.memory_spec.specs.Contents.{ContentsStand}
+use Rattle.memory_spec.specs.Merging.{AreJoined, HaveShrunk, place_in}
+use Rattle.memory_spec.specs.Whole.{AreLayered, IsNamed}
 use Rattle.table_plan.specs.Planned.{AreStored}
 use Rattle.table_plan.specs.Merging.{memory_with, merged_patches, tables_with}
 use Rattle.array_memory.specs.Kept.{Kept}

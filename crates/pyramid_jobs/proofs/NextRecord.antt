@@ -16,10 +16,10 @@ use Rattle.free_space.specs.Laws.{AreUnitsToTake}
 use Rattle.free_space.specs.Map.{shelf_of}
 use Rattle.memory_spec.specs.Memory.{Memory}
 use Rattle.memory_spec.specs.Tables.{Tables, facts, patches}
-use Rattle.checkpoint_spec.specs.Merging.{AreJoined, pair_segments, place_in}
-use Rattle.checkpoint_spec.specs.Whole.{IsNamed}
+use Rattle.memory_spec.specs.Merging.{AreJoined, pair_segments, place_in}
+use Rattle.memory_spec.specs.Whole.{IsNamed}
 use Rattle.table_plan.specs.Merging.{merged_facts, merged_patches, tables_with, table_of}
-use Rattle.merge_spec.proofs.Sound.{merged_patches_are_sound}
+use Rattle.memory_spec.proofs.MergedSound.{merged_patches_are_sound}
 use Rattle.register.specs.Registers.{IsLaterRecord}
 use Rattle.register.specs.Tables.{with_tables}
 use Rattle.record_tables.specs.Patches.{new_patch}

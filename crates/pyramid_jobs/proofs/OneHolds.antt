@@ -12,7 +12,7 @@ use Rattle.array_spec.specs.Base.{BaseStands}
 use Rattle.array_spec.specs.Meaning.{TablesStand}
 use Rattle.array_spec.specs.Sound.{ArePlaces}
 use Rattle.array_spec.specs.Stored.{PatchStands, PatchesStand, all_facts, places_of_part}
-use Rattle.stored_spec.specs.Held.{AreEnough}
+use Rattle.array_spec.specs.Held.{AreEnough}
 use Rattle.world.specs.Losing.{geometry_of}
 use Rattle.world.specs.Shelf.{Shelved, Continues, IsShelf}
 use Rattle.register.specs.Standing.{Content}
@@ -20,12 +20,12 @@ use Rattle.register.specs.Tables.{with_tables}
 use Rattle.pyramid.specs.Layers.{patch_facts, patches_of}
 use Rattle.memory_spec.specs.Memory.{Memory}
 use Rattle.memory_spec.specs.Tables.{patches}
-use Rattle.checkpoint_spec.specs.Contents.{AreAmong}
-use Rattle.checkpoint_spec.specs.Whole.{IsNamed}
+use Rattle.memory_spec.specs.Contents.{AreAmong}
+use Rattle.memory_spec.specs.Whole.{IsNamed}
 use Rattle.table_plan.specs.declared.merged.Merged.{Merged}
 use Rattle.table_plan.specs.declared.merged.Merged.TheVariants as merged
 use Rattle.table_plan.specs.Merging.{merged_facts, merged_patches, tables_with}
-use Rattle.merge_spec.proofs.Holding.{merged_patches_hold}
+use Rattle.memory_spec.proofs.Holding.{merged_patches_hold}
 use Rattle.record_tables.proofs.JoinedNamed.{zip_joined}
 use Rattle.segment_io.specs.Stripes.{bytes_of}
 use Rattle.array_core.specs.Free.{WritesFree}

@@ -12,8 +12,8 @@ use Rattle.free_space.specs.Map.{IsMapOf}
 use Rattle.memory_spec.specs.Memory.{Memory}
 use Rattle.memory_spec.specs.Tables.{facts, patches}
 use Rattle.memory_spec.proofs.Lists.{zip_long}
-use Rattle.checkpoint_spec.specs.Merging.{AreJoined, pair_segments, place_in}
-use Rattle.checkpoint_spec.specs.Whole.{IsNamed}
+use Rattle.memory_spec.specs.Merging.{AreJoined, pair_segments, place_in}
+use Rattle.memory_spec.specs.Whole.{IsNamed}
 use Rattle.table_plan.specs.declared.merged.Merged.{Merged}
 use Rattle.table_plan.specs.Merging.{merged_facts, pair_facts, patch_count, table_of, IsMergedOf}
 use Rattle.table_plan.proofs.MergeLemmas.{no_more_facts}

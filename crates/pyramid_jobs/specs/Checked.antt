@@ -1,7 +1,7 @@
 -- When two patches of a table may be merged, and why they aren't.
 use Rattle.std.specs.Prelude.{◌≡◌, ℕ, ◌+◌, ◌<◌, ◌≤◌, true, false}
 use Rattle.pur_base.specs.declared.request.Table.{Table}
-use Rattle.checkpoint_spec.specs.Merging.{has_pair, pair_segments}
+use Rattle.memory_spec.specs.Merging.{has_pair, pair_segments}
 use Rattle.session_spec.specs.declared.limits.TheConstants.{MERGE_GROUPS}
 use Rattle.array_core.specs.declared.array.Array.{Array}
 use Rattle.array_core.specs.Ready.{is_spent}

@@ -8,7 +8,7 @@ use Rattle.array_spec.specs.Sound.{AreSound}
 use Rattle.array_spec.specs.Stored.{all_facts}
 use Rattle.world.specs.Shelf.{Shelved}
 use Rattle.memory_spec.specs.Tables.{patches}
-use Rattle.checkpoint_spec.specs.Merging.{AreJoined, HaveShrunk, pair_segments, place_in}
+use Rattle.memory_spec.specs.Merging.{AreJoined, HaveShrunk, pair_segments, place_in}
 use Rattle.table_plan.specs.declared.merged.Merged.{Merged}
 use Rattle.table_plan.specs.Merging.{memory_with, merged_patches, table_of, IsMergedOf}
 use Rattle.array_memory.specs.Plan.{with_patch_rooms}

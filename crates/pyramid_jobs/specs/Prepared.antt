@@ -7,7 +7,7 @@ use Rattle.boot_codec.specs.declared.limits.TheConstants.{NUMBER_LIMIT}
 use Rattle.register.specs.Standing.{Content}
 use Rattle.memory_spec.specs.Tables.{facts, patches}
 use Rattle.memory_spec.specs.Memory.{Memory}
-use Rattle.checkpoint_spec.specs.Merging.{AreJoined, has_pair, pair_segments, place_in}
+use Rattle.memory_spec.specs.Merging.{AreJoined, has_pair, pair_segments, place_in}
 use Rattle.table_plan.specs.declared.merged.Merged.{Merged}
 use Rattle.table_plan.specs.Merging.{merged_facts, table_of, tables_with, IsMergedOf}
 use Rattle.record_tables.specs.Joined.{HasMergedFacts}

@@ -1,7 +1,7 @@
 // Whether two patches may be merged.
 ghost use Rattle.std.specs.Prelude.{◌≡◌, IfOk, IfErr};
 ghost use Rattle.pur_base.specs.Devices.{Geometry};
-ghost use Rattle.checkpoint_spec.specs.Merging.{pair_segments, place_in};
+ghost use Rattle.memory_spec.specs.Merging.{pair_segments, place_in};
 ghost use Rattle.array_core.specs.Ready.{IsArrayOf};
 ghost use Rattle.array_checkpoint.specs.Room.{IsRoomOf};
 ghost use Rattle.pyramid_jobs.specs.Checked.{IsCheckFault, MayMerge};

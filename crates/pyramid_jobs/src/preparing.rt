@@ -1,7 +1,7 @@
 // All that a merge writes is planned, and all memory taken, before anything is written.
 ghost use Rattle.std.specs.Prelude.{◌≡◌, IfOk};
 ghost use Rattle.pur_base.specs.Devices.{Geometry};
-ghost use Rattle.checkpoint_spec.specs.Merging.{place_in};
+ghost use Rattle.memory_spec.specs.Merging.{place_in};
 ghost use Rattle.array_core.specs.Ready.{IsArrayOf};
 ghost use Rattle.pyramid_jobs.specs.Checked.{MayMerge};
 ghost use Rattle.pyramid_jobs.specs.Prepared.{IsPreparedFor};

@@ -9,7 +9,7 @@ use Rattle.pur_base.specs.Tags.{tag_of}
 use Rattle.pur_base.specs.declared.request.Table.{Table}
 use Rattle.boot_codec.specs.declared.patch.Patch.{Patch}
 use Rattle.boot_codec.specs.Record.{patch_segments}
-use Rattle.checkpoint_spec.specs.Merging.{pair_segments}
+use Rattle.memory_spec.specs.Merging.{pair_segments}
 use Rattle.record_tables.specs.Patches.{of_tag}
 use Rattle.record_tables.proofs.Neighbours.{few_segments}
 

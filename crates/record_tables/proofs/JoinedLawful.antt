@@ -9,7 +9,7 @@ use Rattle.boot_codec.specs.declared.limits.TheConstants.{NUMBER_LIMIT}
 use Rattle.boot_codec.specs.declared.patch.Patch.{Patch}
 use Rattle.boot_codec.specs.Record.{IsPatch, ByTagFrom, ArePatches, patch_segments}
 use Rattle.array_spec.specs.Sound.{ArePlaces}
-use Rattle.checkpoint_spec.specs.Merging.{AreJoined, has_pair, pair_segments, place_in}
+use Rattle.memory_spec.specs.Merging.{AreJoined, has_pair, pair_segments, place_in}
 use Rattle.record_tables.specs.Patches.{segments_for, new_patch}
 use Rattle.record_tables.specs.Joined.{JoinedAreLawful}
 use Rattle.record_tables.proofs.Tags.{HaveTag, lower, behind_tag}

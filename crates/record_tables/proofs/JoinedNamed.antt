@@ -12,8 +12,8 @@ use Rattle.pyramid.specs.Layers.{patch_facts, patches_of}
 use Rattle.memory_spec.specs.Memory.{Memory}
 use Rattle.memory_spec.specs.Tables.{Tables, patches}
 use Rattle.memory_spec.proofs.Lists.{zip_long}
-use Rattle.checkpoint_spec.specs.Merging.{AreJoined, place_in}
-use Rattle.checkpoint_spec.specs.Whole.{IsNamed}
+use Rattle.memory_spec.specs.Merging.{AreJoined, place_in}
+use Rattle.memory_spec.specs.Whole.{IsNamed}
 use Rattle.table_plan.specs.declared.merged.Merged.{Merged}
 use Rattle.table_plan.specs.declared.merged.Merged.TheVariants as merged
 use Rattle.table_plan.specs.Merging.{merged_patches, patch_count, table_of, tables_with, IsMergedOf}

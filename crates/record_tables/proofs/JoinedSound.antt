@@ -17,7 +17,7 @@ use Rattle.array_spec.specs.Sound.{AreApart, AreSegmentsSound, named_segments, u
 use Rattle.free_space.specs.Map.{shelf_of}
 use Rattle.free_space.specs.Laws.{AreUnitsToTake}
 use Rattle.memory_spec.proofs.Lists.{each_by_recursion, of_each}
-use Rattle.checkpoint_spec.specs.Merging.{AreJoined, place_in}
+use Rattle.memory_spec.specs.Merging.{AreJoined, place_in}
 use Rattle.record_tables.specs.Patches.{segments_for, segments_from, new_patch}
 use Rattle.record_tables.specs.Units.{AreNewUnits}
 use Rattle.record_tables.specs.Laws.{with_patches}

@@ -11,7 +11,7 @@ use Rattle.boot_codec.specs.Record.{IsPatch}
 use Rattle.pyramid.specs.Layers.{patch_facts, patches_of}
 use Rattle.memory_spec.specs.Tables.{patches}
 use Rattle.memory_spec.specs.Memory.{Memory}
-use Rattle.checkpoint_spec.specs.Whole.{IsNamed}
+use Rattle.memory_spec.specs.Whole.{IsNamed}
 use Rattle.array_memory.specs.declared.plan.Counts.{Counts}
 use Rattle.array_memory.specs.declared.plan.Plan.{Plan}
 use Rattle.array_memory.specs.Plan.{after_plan, AreCounts}

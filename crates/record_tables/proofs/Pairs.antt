@@ -17,8 +17,8 @@ use Rattle.boot_codec.specs.declared.patch.Patch.{Patch}
 use Rattle.boot_codec.specs.Record.{IsPatch, ArePatches, patch_segments}
 use Rattle.memory_spec.specs.Tables.{Tables, patches}
 use Rattle.memory_spec.proofs.Lists.{of_each, zip_long}
-use Rattle.checkpoint_spec.specs.Merging.{has_pair, pair_segments}
-use Rattle.checkpoint_spec.specs.Whole.{IsNamed}
+use Rattle.memory_spec.specs.Merging.{has_pair, pair_segments}
+use Rattle.memory_spec.specs.Whole.{IsNamed}
 use Rattle.table_plan.specs.Merging.{pair_facts, patch_count}
 use Rattle.record_tables.specs.Patches.{segments_for, of_tag}
 use Rattle.record_tables.specs.Joined.{PairsAreNamed}

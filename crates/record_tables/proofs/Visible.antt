@@ -25,8 +25,8 @@ use Rattle.memory_spec.specs.Memory.{Memory}
 use Rattle.memory_spec.proofs.Adding.{only_newest, no_newest}
 use Rattle.memory_spec.proofs.Created.{not_elided}
 use Rattle.memory_spec.proofs.Lists.{each_by_recursion, of_each}
-use Rattle.checkpoint_spec.specs.Flushing.{IsTableFlushed}
-use Rattle.checkpoint_spec.proofs.Flushed.{flushed_within, flushed_says, grows_all}
+use Rattle.memory_spec.specs.Flushing.{IsTableFlushed}
+use Rattle.memory_spec.proofs.Flushed.{flushed_within, flushed_says, grows_all}
 use Rattle.table_plan.specs.Segments.{segments_from}
 use Rattle.table_plan.proofs.SegmentsLemmas.{IsNewSegment, is_new_segment}
 use Rattle.array_memory.specs.declared.plan.Plan.{Plan}

@@ -15,8 +15,8 @@ use Rattle.array_spec.specs.Sound.{ArePlaces, AreSegmentsSound}
 use Rattle.free_space.specs.Map.{shelf_of}
 use Rattle.memory_spec.specs.Memory.{Memory}
 use Rattle.memory_spec.specs.Tables.{patches}
-use Rattle.checkpoint_spec.specs.Merging.{AreJoined, has_pair, pair_segments, place_in}
-use Rattle.checkpoint_spec.specs.Whole.{IsNamed}
+use Rattle.memory_spec.specs.Merging.{AreJoined, has_pair, pair_segments, place_in}
+use Rattle.memory_spec.specs.Whole.{IsNamed}
 use Rattle.table_plan.specs.declared.merged.Merged.{Merged}
 use Rattle.table_plan.specs.Merging.{merged_facts, merged_patches, pair_facts, patch_count, table_of, tables_with, IsMergedOf}
 use Rattle.record_tables.specs.Laws.{with_patches}

@@ -14,7 +14,7 @@ use Rattle.free_space.specs.Map.{shelf_of}
 use Rattle.pyramid.specs.Layers.{patches_of}
 use Rattle.memory_spec.specs.Tables.{facts, patches}
 use Rattle.memory_spec.specs.Memory.{Memory}
-use Rattle.checkpoint_spec.specs.Whole.{IsNamed}
+use Rattle.memory_spec.specs.Whole.{IsNamed}
 use Rattle.array_memory.specs.declared.plan.Counts.{Counts}
 use Rattle.array_memory.specs.declared.plan.Plan.{Plan}
 use Rattle.array_memory.specs.Plan.{after_plan, units_of, AreCounts, IsPlanFor}

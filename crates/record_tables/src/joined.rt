@@ -3,7 +3,7 @@ ghost use Rattle.std.specs.Prelude.{◌≡◌, ◌+◌, ◌-◌, ◌^◌, ◌<�
 ghost use Rattle.pur_base.specs.Tags.{tag_of};
 ghost use Rattle.boot_codec.specs.Record.{patch_segments};
 ghost use Rattle.boot_codec.specs.declared.limits.TheConstants.{PATCH_SEGMENTS};
-ghost use Rattle.checkpoint_spec.specs.Merging.{AreJoined, has_pair, pair_segments, place_in};
+ghost use Rattle.memory_spec.specs.Merging.{AreJoined, has_pair, pair_segments, place_in};
 ghost use Rattle.record_tables.specs.Joined.{HasMergedFacts, JoinedAreLawful, JoinedAreNamed, JoinedSegmentsAreSound, MergedIsNamed, PairsAreNamed};
 ghost use Rattle.record_tables.specs.Patches.{new_patch};
 

@@ -26,10 +26,10 @@ use Rattle.array_spec.proofs.Settling.{this_or_other, twice_other, decided_or_no
 use Rattle.array_spec.proofs.Spelled.{spells_one}
 use Rattle.array_spec.proofs.Standings.{sound_shows}
 use Rattle.array_spec.proofs.UnflushedRead.{one_left}
-use Rattle.stored_spec.specs.Held.{TablesHold, NamesNoneLeftOut}
-use Rattle.stored_spec.proofs.Next.{next_holds}
-use Rattle.stored_spec.proofs.Reading.{record_is_read, read_holds}
-use Rattle.stored_spec.proofs.Unique.{one_base}
+use Rattle.array_spec.specs.Held.{TablesHold, NamesNoneLeftOut}
+use Rattle.array_spec.proofs.Next.{next_holds}
+use Rattle.array_spec.proofs.Reading.{record_is_read, read_holds}
+use Rattle.array_spec.proofs.Unique.{one_base}
 use Rattle.array_spec.proofs.Votes.{most_votes, not_missing, one_is_decided, sound_before}
 use Rattle.world.specs.Shelf.{Shelved, Stop, IsShelf, MayLeave}
 use Rattle.world.specs.Writes.{LeavesBut}

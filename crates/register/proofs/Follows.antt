@@ -14,10 +14,10 @@ use Rattle.boot_codec.specs.Region.{BootSlot, IsRecordOf, IsDecided, votes, othe
 use Rattle.log_codec.specs.Log.{ShowsIn}
 use Rattle.array_spec.specs.Standing.{Stands, MayBeGiven, IsViewOf, IsReadInto, FollowsOn, HasNoLog}
 use Rattle.array_spec.specs.Unflushed.{LogLies}
-use Rattle.stored_spec.specs.Held.{TablesHold, NamesNoneLeftOut}
-use Rattle.stored_spec.proofs.Next.{next_holds}
-use Rattle.stored_spec.proofs.Reading.{record_is_read, read_holds}
-use Rattle.stored_spec.proofs.Unique.{one_base}
+use Rattle.array_spec.specs.Held.{TablesHold, NamesNoneLeftOut}
+use Rattle.array_spec.proofs.Next.{next_holds}
+use Rattle.array_spec.proofs.Reading.{record_is_read, read_holds}
+use Rattle.array_spec.proofs.Unique.{one_base}
 use Rattle.array_spec.proofs.Votes.{one_is_decided, sound_before}
 use Rattle.array_spec.proofs.Standings.{within_twice, more_may_go_missing}
 use Rattle.array_spec.proofs.Settling.{this_or_other, twice_other}

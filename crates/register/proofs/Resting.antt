@@ -18,8 +18,8 @@ use Rattle.log_codec.specs.Log.{ShowsIn}
 use Rattle.array_spec.specs.Standing.{Stands, MayBeGiven, MayAppear, IsReadInto}
 use Rattle.array_spec.specs.Laws.{IsHeld, is_sound_vote}
 use Rattle.array_spec.specs.Unflushed.{LogLies, NamesSound}
-use Rattle.stored_spec.specs.Held.{NamesNoneLeftOut}
-use Rattle.stored_spec.proofs.Reading.{record_is_read}
+use Rattle.array_spec.specs.Held.{NamesNoneLeftOut}
+use Rattle.array_spec.proofs.Reading.{record_is_read}
 use Rattle.array_spec.proofs.Votes.{one_is_effective, held_is_given}
 use Rattle.array_spec.proofs.Held.{held_stands}
 use Rattle.array_spec.proofs.Settling.{twice_other}

@@ -12,8 +12,8 @@ use Rattle.boot_codec.specs.Record.{IsBootRecord, set_count}
 use Rattle.boot_codec.specs.Spelling.{spelling}
 use Rattle.boot_codec.specs.Region.{BootSlot, A, B, IsRecordOf, names, other_slot, body_in, body_place, generation_in, Yields}
 use Rattle.array_spec.specs.Standing.{MayBeGiven}
-use Rattle.stored_spec.specs.Held.{TablesHold}
-use Rattle.stored_spec.proofs.Next.{next_holds}
+use Rattle.array_spec.specs.Held.{TablesHold}
+use Rattle.array_spec.proofs.Next.{next_holds}
 use Rattle.array_spec.proofs.Quiet.{bytes_same}
 use Rattle.array_spec.proofs.Votes.{counted, sound_before}
 use Rattle.array_spec.proofs.Settling.{twice_other}

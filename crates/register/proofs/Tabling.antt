@@ -19,10 +19,10 @@ use Rattle.array_spec.specs.Standing.{Stands, MayBeGiven, IsReadInto, FollowsOn}
 use Rattle.array_spec.specs.Unflushed.{LogLies, NamesSound}
 use Rattle.array_spec.proofs.Votes.{sound_before}
 use Rattle.array_spec.proofs.Settling.{twice_other}
-use Rattle.stored_spec.specs.Held.{TablesHold, NamesNoneLeftOut}
-use Rattle.stored_spec.specs.Laws.{ShowsNone}
-use Rattle.stored_spec.proofs.Follow.{checkpoint_follows, merge_follows}
-use Rattle.stored_spec.proofs.Next.{data_is_held}
+use Rattle.array_spec.specs.Held.{TablesHold, NamesNoneLeftOut}
+use Rattle.array_spec.specs.StoredLaws.{ShowsNone}
+use Rattle.array_spec.proofs.Follow.{checkpoint_follows, merge_follows}
+use Rattle.array_spec.proofs.Next.{data_is_held}
 use Rattle.world.specs.Shelf.{Shelved, Disk, Stop, IsShelf, IsInSome, MayLeave, MayStop, IsCountedBy, Continues, LeavesOnly}
 use Rattle.world.specs.Losing.{geometry_of}
 use Rattle.world.proofs.Moments.{weaker}

@@ -7,7 +7,7 @@ use Rattle.boot_codec.specs.Region.{BootSlot, names, of_members}
 use Rattle.array_spec.specs.Standing.{MayBeGiven, IsViewOf}
 use Rattle.array_spec.specs.Stored.{PatchStands}
 use Rattle.array_spec.proofs.Settling.{twice_other}
-use Rattle.stored_spec.proofs.Members.{enough_hold, some_shown}
+use Rattle.array_spec.proofs.Members.{enough_hold, some_shown}
 use Rattle.world.specs.Shelf.{Shelved, Stop, MayStop, IsShelf}
 use Rattle.world.specs.Losing.{geometry_of}
 use Rattle.boot_region.proofs.Composing.{as_it_is}

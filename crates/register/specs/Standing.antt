@@ -8,7 +8,7 @@ use Rattle.boot_codec.specs.declared.record.BootRecord.{BootRecord}
 use Rattle.boot_codec.specs.Region.{BootSlot, body_in, names, shown_by}
 use Rattle.boot_codec.specs.Spelling.{spelling}
 use Rattle.array_spec.specs.Standing.{MayBeGiven, Stands}
-use Rattle.stored_spec.specs.Held.{TablesHold}
+use Rattle.array_spec.specs.Held.{TablesHold}
 use Rattle.world.specs.Shelf.{Shelved, Stop, MayStop}
 use Rattle.world.specs.Losing.{geometry_of, has_risen}
 use Rattle.boot_region.specs.Members.{IsMember}

@@ -28,8 +28,8 @@ use Rattle.array_spec.specs.Sound.{AreSound}
 use Rattle.array_spec.specs.Stored.{all_facts}
 use Rattle.memory_spec.specs.Memory.{Contents, FactsRead}
 use Rattle.memory_spec.specs.Numbers.{are_used_up, is_used_up, next_after}
-use Rattle.checkpoint_spec.specs.Merging.{AreJoined, HaveShrunk, has_pair, pair_segments, place_in}
-use Rattle.checkpoint_spec.specs.Whole.{IsNamed}
+use Rattle.memory_spec.specs.Merging.{AreJoined, HaveShrunk, has_pair, pair_segments, place_in}
+use Rattle.memory_spec.specs.Whole.{IsNamed}
 use Rattle.log_codec.specs.declared.limits.TheConstants.{LOG_SLOTS}
 use Rattle.session_spec.specs.declared.limits.TheConstants.{ADDING_GROUPS, CHECKPOINT_GROUPS, CONTROLLER, DATA_SEGMENTS, ELIDED_SEGMENTS, LIMITED_SEGMENTS, MERGE_GROUPS, NEW_PATCHES, SEGMENTS_END}
 

@@ -8,7 +8,7 @@ use Rattle.boot_codec.specs.declared.record.BootRecord.{BootRecord}
 use Rattle.array_spec.specs.Sound.{AreSound}
 use Rattle.array_spec.specs.Stored.{PatchesStand}
 use Rattle.memory_spec.specs.Tables.{patches}
-use Rattle.checkpoint_spec.specs.Whole.{IsWhole}
+use Rattle.memory_spec.specs.Whole.{IsWhole}
 use Rattle.world.specs.Losing.{geometry_of}
 use Rattle.world.specs.Shelf.{Shelved}
 use Rattle.segment_io.specs.Lost.{is_in}

@@ -26,9 +26,9 @@ use Rattle.memory_spec.specs.Tables.{facts}
 use Rattle.memory_spec.proofs.AllTables.{all_elisions, all_segments}
 use Rattle.memory_spec.proofs.Created.{not_elided}
 use Rattle.memory_spec.proofs.Lists.{each_by_recursion}
-use Rattle.checkpoint_spec.specs.Eliding.{AreNewElisions, IsEliding}
-use Rattle.checkpoint_spec.proofs.Elided.{as_before, says_where, object_tag}
-use Rattle.checkpoint_spec.proofs.Placing.{old_segment_id}
+use Rattle.memory_spec.specs.Eliding.{AreNewElisions, IsEliding}
+use Rattle.memory_spec.proofs.Elided.{as_before, says_where, object_tag}
+use Rattle.memory_spec.proofs.Placing.{old_segment_id}
 use Rattle.table_plan.specs.Eliding.{IsUnused, IsElisionOf, AreElisionsOf, IsElidedBy, UnusedMayBeElided, eliding}
 
 -- ---- elided ids

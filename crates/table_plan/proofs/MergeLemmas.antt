@@ -14,7 +14,7 @@ use Rattle.memory_spec.specs.Tables.{facts}
 use Rattle.memory_spec.proofs.AllTables.{all_objects, all_mediums, all_addresses, all_segments, all_elisions}
 use Rattle.table_plan.specs.Patches.{ArePatchFacts}
 use Rattle.table_plan.specs.Planned.{AreStored}
-use Rattle.checkpoint_spec.specs.Merging.{IsMergedAt}
+use Rattle.memory_spec.specs.Merging.{IsMergedAt}
 use Rattle.table_plan.specs.declared.merged.Merged.{Merged}
 use Rattle.table_plan.specs.declared.merged.Merged.TheVariants as merged
 use Rattle.table_plan.specs.Merging.{merged_facts, pair_facts, table_of, tables_with, IsMergedOf}

@@ -24,14 +24,14 @@ use Rattle.memory_spec.specs.Memory.{Memory, Contents, FitsTarget, FitsInMemory,
 use Rattle.memory_spec.proofs.Lists.{in_map, of_map}
 use Rattle.memory_spec.proofs.AllTables.{all_addresses}
 use Rattle.memory_spec.proofs.Putting.{address_numbers}
-use Rattle.checkpoint_spec.specs.Eliding.{IsEliding}
-use Rattle.checkpoint_spec.specs.Flushing.{IsFlush, IsShrunk}
-use Rattle.checkpoint_spec.specs.Placing.{placed_target, repointed, AreRepointed, IsPlacedAt, AreNewSegments, IsPlacing}
-use Rattle.checkpoint_spec.specs.Checkpoint.{IsCheckpointed}
-use Rattle.checkpoint_spec.proofs.Eliding.{eliding_reads}
-use Rattle.checkpoint_spec.proofs.Flushed.{flush_shrinks}
-use Rattle.checkpoint_spec.proofs.Shrinking.{shrunk_sound}
-use Rattle.checkpoint_spec.proofs.Placing.{placing_sound, staged_target, other_target, which_place, old_segment_id}
+use Rattle.memory_spec.specs.Eliding.{IsEliding}
+use Rattle.memory_spec.specs.Flushing.{IsFlush, IsShrunk}
+use Rattle.memory_spec.specs.Placing.{placed_target, repointed, AreRepointed, IsPlacedAt, AreNewSegments, IsPlacing}
+use Rattle.memory_spec.specs.Checkpoint.{IsCheckpointed}
+use Rattle.memory_spec.proofs.Eliding.{eliding_reads}
+use Rattle.memory_spec.proofs.Flushed.{flush_shrinks}
+use Rattle.memory_spec.proofs.Shrinking.{shrunk_sound}
+use Rattle.memory_spec.proofs.Placing.{placing_sound, staged_target, other_target, which_place, old_segment_id}
 use Rattle.table_plan.specs.Places.{is_staged_at, is_named, flagged_from, place_of, places_from, place_or_any, place_in}
 use Rattle.table_plan.specs.Segments.{segments_from}
 use Rattle.table_plan.specs.Eliding.{eliding}

@@ -10,7 +10,7 @@ use Rattle.pur_base.specs.declared.facts.ElisionFact.{ElisionFact}
 use Rattle.fact_codec.specs.declared.limits.TheConstants.{NUMBER_LIMIT}
 use Rattle.memory_spec.specs.Tables.{facts}
 use Rattle.memory_spec.specs.Memory.{Memory, IsSound}
-use Rattle.checkpoint_spec.specs.Eliding.{IsEliding}
+use Rattle.memory_spec.specs.Eliding.{IsEliding}
 
 -- ---- which segments
 

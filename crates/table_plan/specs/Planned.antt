@@ -14,11 +14,11 @@ use Rattle.byte_fields.specs.Places.{FitsBytes}
 use Rattle.fact_codec.specs.declared.limits.TheConstants.{NUMBER_LIMIT}
 use Rattle.pyramid.specs.Layers.{IsFlushed, facts_of}
 use Rattle.memory_spec.specs.Memory.{Memory, Contents, ReadsAs}
-use Rattle.checkpoint_spec.specs.Whole.{AreLayered}
-use Rattle.checkpoint_spec.specs.Flushing.{IsTableFlushed}
-use Rattle.checkpoint_spec.specs.Placing.{repointed}
-use Rattle.checkpoint_spec.specs.Eliding.{IsEliding}
-use Rattle.checkpoint_spec.specs.Checkpoint.{IsCheckpointed}
+use Rattle.memory_spec.specs.Whole.{AreLayered}
+use Rattle.memory_spec.specs.Flushing.{IsTableFlushed}
+use Rattle.memory_spec.specs.Placing.{repointed}
+use Rattle.memory_spec.specs.Eliding.{IsEliding}
+use Rattle.memory_spec.specs.Checkpoint.{IsCheckpointed}
 use Rattle.table_plan.specs.Places.{is_named, flagged_from, places_from, place_in}
 use Rattle.table_plan.specs.Segments.{segments_from}
 use Rattle.table_plan.specs.Eliding.{eliding}

@@ -5,7 +5,7 @@ ghost use Rattle.pyramid.specs.Layers.{facts_of};
 ghost use Rattle.memory_spec.specs.Memory.{IsSound, Memory};
 ghost use Rattle.table_plan.specs.Patches.{ArePatchFacts};
 ghost use Rattle.table_plan.specs.Planned.{AreStored, ElidedIsCheckpointed, PlannedIsCheckpointed};
-ghost use Rattle.checkpoint_spec.specs.Merging.{IsMergedAt};
+ghost use Rattle.memory_spec.specs.Merging.{IsMergedAt};
 ghost use Rattle.table_plan.specs.declared.merged.Merged.{Merged};
 ghost use Rattle.table_plan.specs.Merging.{merged_facts, pair_facts, table_of, tables_with, IsMergedOf};
 ghost use Rattle.table_plan.specs.Eliding.{UnusedMayBeElided};

@@ -1,6 +1,6 @@
 ghost use Rattle.std.specs.Prelude.{◌≡◌, ℕ, ◌+◌, ◌<◌, ◌≤◌, ◌^◌, ◌||◌, false, length, map, IfOk, All, slice_index_or};
 ghost use Rattle.table_plan.specs.Places.{flagged_from, has_places, is_named, is_staged_at, place_of, places_from, place_in};
-ghost use Rattle.checkpoint_spec.specs.Placing.{repointed};
+ghost use Rattle.memory_spec.specs.Placing.{repointed};
 
 use pur_base::{AddressFact, Location, NoMemory, SEGMENT_SECTORS, SegmentId, Target};
 use std::alloc::Global;

@@ -12,13 +12,13 @@ use Rattle.boot_codec.specs.Region.{BootSlot, IsRecordOf, names, of_members}
 use Rattle.array_spec.specs.Laws.{DiffersOnlyIn}
 use Rattle.array_spec.specs.Meaning.{HoldsBase}
 use Rattle.array_spec.specs.Stored.{all_facts}
-use Rattle.stored_spec.specs.Held.{AreSomeOf, AreEnough, TablesHold}
-use Rattle.stored_spec.proofs.Next.{next_holds}
+use Rattle.array_spec.specs.Held.{AreSomeOf, AreEnough, TablesHold}
+use Rattle.array_spec.proofs.Next.{next_holds}
 use Rattle.memory_spec.specs.Memory.{Contents, FactsRead, ReadsAs}
 use Rattle.memory_spec.specs.Tables.{facts, patches}
-use Rattle.checkpoint_spec.specs.Contents.{ContentsStand}
-use Rattle.loaded_spec.specs.Laws.{showing}
-use Rattle.loaded_spec.proofs.Held.{held_tables_read}
+use Rattle.memory_spec.specs.Contents.{ContentsStand}
+use Rattle.memory_spec.specs.LoadedLaws.{showing}
+use Rattle.memory_spec.proofs.Held.{held_tables_read}
 use Rattle.world.specs.Losing.{geometry_of}
 use Rattle.world.specs.Shelf.{Shelved, IsShelf, Continues}
 use Rattle.boot_region.specs.declared.loading.Loaded.{Loaded}

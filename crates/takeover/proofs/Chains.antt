@@ -12,7 +12,7 @@ use Rattle.array_spec.proofs.OneLog.{one_shown, one_in_slot}
 use Rattle.nvram_log.specs.declared.log.NvLog.{NvLog}
 use Rattle.nvram_log.specs.Held.{Keeps}
 use Rattle.nvram_log.proofs.Lists.{get_front}
-use Rattle.stored_spec.proofs.Unique.{same_lists}
+use Rattle.array_spec.proofs.Unique.{same_lists}
 use Rattle.takeover.specs.Replay.{IsRun}
 
 pub log_from : (view : View) (flushed i : ℕ) (a : Array) (cs : List Command) → ((k : ℕ) (c : Command) → slice_get cs k ≡ Some c → IsInSlot view flushed (i + k) c) → AllAccepted a cs

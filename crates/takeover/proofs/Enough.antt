@@ -14,7 +14,7 @@ use Rattle.boot_codec.specs.Record.{set_count}
 use Rattle.boot_codec.specs.Region.{BootSlot, IsRecordOf, body_in, names, of_members}
 use Rattle.boot_codec.specs.Spelling.{spelling}
 use Rattle.array_spec.proofs.Votes.{counted}
-use Rattle.stored_spec.specs.Held.{AreSomeOf, AreEnough}
+use Rattle.array_spec.specs.Held.{AreSomeOf, AreEnough}
 use Rattle.boot_region.specs.Members.{IsMember}
 use Rattle.nvram_log.specs.Members as nv
 use Rattle.register.specs.Registers.{named_sound}

@@ -21,8 +21,8 @@ use Rattle.array_spec.proofs.Standings.{within_twice}
 use Rattle.array_spec.proofs.LogBetween.{shower}
 use Rattle.array_spec.proofs.UnflushedRead.{one_left, kept_is}
 use Rattle.array_spec.proofs.Votes.{sound_before}
-use Rattle.stored_spec.specs.Held.{TablesHold}
-use Rattle.stored_spec.proofs.Next.{same_drives_hold}
+use Rattle.array_spec.specs.Held.{TablesHold}
+use Rattle.array_spec.proofs.Next.{same_drives_hold}
 use Rattle.array_memory.specs.Kept.{Kept}
 use Rattle.world.specs.Counts.{Rises}
 use Rattle.world.specs.Losing.{geometry_of, has_failed, has_risen}

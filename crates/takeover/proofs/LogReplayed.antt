@@ -14,7 +14,7 @@ use Rattle.array_spec.proofs.LogBetween.{shower}
 use Rattle.array_spec.proofs.UnflushedRead.{kept_is}
 use Rattle.memory_spec.specs.Memory.{Contents, ReadsAs}
 use Rattle.memory_spec.specs.Tables.{facts}
-use Rattle.checkpoint_spec.specs.Whole.{AreLayered}
+use Rattle.memory_spec.specs.Whole.{AreLayered}
 use Rattle.array_memory.specs.Kept.{Kept, HasSamePatches}
 use Rattle.array_core.specs.Room.{HasRoomFor}
 use Rattle.world.specs.Losing.{has_risen}

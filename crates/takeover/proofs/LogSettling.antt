@@ -26,8 +26,8 @@ use Rattle.array_spec.proofs.Settling.{twice_other}
 use Rattle.array_spec.proofs.Standings.{more_may_go_missing, within_twice}
 use Rattle.array_spec.proofs.UnflushedRead.{kept_some, was_left_out}
 use Rattle.array_spec.proofs.Votes.{sound_before}
-use Rattle.stored_spec.proofs.Reading.{read_holds}
-use Rattle.stored_spec.proofs.Unique.{one_base}
+use Rattle.array_spec.proofs.Reading.{read_holds}
+use Rattle.array_spec.proofs.Unique.{one_base}
 use Rattle.world.specs.Losing.{geometry_of, has_risen, missing_if}
 use Rattle.world.specs.Shelf.{Shelved, Stop, Disk, IsShelf, MayStop, MayLeave}
 use Rattle.world.specs.Writes.{LeavesBut, WritesOnly}

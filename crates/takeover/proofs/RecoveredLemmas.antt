@@ -8,7 +8,7 @@ use Rattle.pur_base.specs.declared.device.Device.{Device}
 use Rattle.boot_codec.specs.declared.record.BootRecord.{BootRecord}
 use Rattle.boot_codec.specs.Region.{BootSlot, other_slot, body_in, names}
 use Rattle.boot_codec.specs.Spelling.{spelling}
-use Rattle.stored_spec.specs.Held.{TablesHold}
+use Rattle.array_spec.specs.Held.{TablesHold}
 use Rattle.world.specs.Losing.{geometry_of, has_risen}
 use Rattle.world.specs.Shelf.{Shelved, Stop, MayStop, Continues}
 use Rattle.boot_region.specs.declared.loading.Loaded.{Loaded}

@@ -20,9 +20,9 @@ use Rattle.array_spec.specs.Stored.{PatchesStand, all_facts}
 use Rattle.array_spec.proofs.Fewer.{patches_keep, patches_on, places_keep}
 use Rattle.array_spec.proofs.Moves.{Keeps, base_moves, tables_kept}
 use Rattle.array_spec.proofs.Settling.{twice_other}
-use Rattle.stored_spec.specs.Held.{AreSomeOf, AreEnough, TablesHold}
-use Rattle.stored_spec.proofs.Members.{enough_hold}
-use Rattle.stored_spec.proofs.Unique.{one_base, one_patches}
+use Rattle.array_spec.specs.Held.{AreSomeOf, AreEnough, TablesHold}
+use Rattle.array_spec.proofs.Members.{enough_hold}
+use Rattle.array_spec.proofs.Unique.{one_base, one_patches}
 use Rattle.world.specs.Losing.{geometry_of}
 use Rattle.world.specs.Shelf.{Shelved, Stop, IsShelf, MayStop}
 use Rattle.world.proofs.Stopped.{as_read}

@@ -18,12 +18,12 @@ use Rattle.memory_spec.specs.Memory.{Contents, FactsRead, ReadsAs}
 use Rattle.memory_spec.specs.Tables.{all_of, facts, flushed, patches}
 use Rattle.memory_spec.proofs.AllTables.{of_all}
 use Rattle.memory_spec.proofs.Lists.{each_by_recursion, zip_weaker}
-use Rattle.checkpoint_spec.specs.Whole.{IsNamed, IsWhole}
-use Rattle.checkpoint_spec.proofs.Patches.{in_patches_are, patches_are_all}
+use Rattle.memory_spec.specs.Whole.{IsNamed, IsWhole}
+use Rattle.memory_spec.proofs.Patches.{in_patches_are, patches_are_all}
 use Rattle.table_soundness.specs.declared.tables.LoadedTables.{LoadedTables}
 use Rattle.table_soundness.specs.Faults as judged
 use Rattle.table_soundness.specs.Faults.{patches_in, AreLawful, AreNamed}
-use Rattle.loaded_spec.proofs.Sound.{sound_tables_read}
+use Rattle.memory_spec.proofs.Sound.{sound_tables_read}
 use Rattle.array_memory.specs.Kept.{Kept}
 use Rattle.array_memory.specs.Loaded.{AreInSegments, HasLogRoom, IsLoaded}
 use Rattle.takeover.specs.Tables.{IsMemoryOf}

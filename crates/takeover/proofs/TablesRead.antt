@@ -22,9 +22,9 @@ use Rattle.memory_spec.specs.Tables.{patches}
 use Rattle.patch_io.specs.Standing.{StripesStandOf}
 use Rattle.segment_io.specs.Lost.{is_in}
 use Rattle.table_loading.specs.Loading.{ShowsDrives, StripesStandOfAll}
-use Rattle.stored_spec.proofs.Unique.{all_patches}
+use Rattle.array_spec.proofs.Unique.{all_patches}
 use Rattle.table_loading.proofs.Zips.{zip_first}
-use Rattle.loaded_spec.proofs.Stored.{stored_tables_read}
+use Rattle.memory_spec.proofs.Stored.{stored_tables_read}
 use Rattle.boot_region.specs.declared.loading.Loaded.{Loaded}
 use Rattle.boot_region.specs.Members.{IsMember}
 use Rattle.boot_region.specs.Slots.{slot_in}

@@ -10,7 +10,7 @@ use Rattle.log_codec.specs.Log.{ShowsIn, LogStands}
 use Rattle.memory_spec.specs.Memory.{Contents, ReadsAs}
 use Rattle.memory_spec.specs.Numbers.{next_after_all}
 use Rattle.memory_spec.specs.Tables.{facts}
-use Rattle.checkpoint_spec.specs.Whole.{AreLayered}
+use Rattle.memory_spec.specs.Whole.{AreLayered}
 use Rattle.world.specs.Shelf.{Shelved}
 use Rattle.nvram_log.specs.Held.{Keeps, shown_by}
 use Rattle.nvram_log.specs.Members.{IsFewer, IsMember}

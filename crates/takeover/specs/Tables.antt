@@ -8,11 +8,11 @@ use Rattle.boot_codec.specs.declared.record.BootRecord.{BootRecord}
 use Rattle.fact_codec.specs.Fact.{IsFact}
 use Rattle.array_spec.specs.Sound.{AreSound}
 use Rattle.array_spec.specs.Stored.{all_facts, in_patches}
-use Rattle.stored_spec.specs.Held.{TablesHold}
+use Rattle.array_spec.specs.Held.{TablesHold}
 use Rattle.pyramid.specs.Layers.{facts_of}
 use Rattle.memory_spec.specs.Memory.{Contents, FactsRead, ReadsAs}
 use Rattle.memory_spec.specs.Tables.{facts, patches}
-use Rattle.checkpoint_spec.specs.Whole.{IsNamed}
+use Rattle.memory_spec.specs.Whole.{IsNamed}
 use Rattle.table_plan.specs.Planned.{AreStored}
 use Rattle.world.specs.Losing.{geometry_of}
 use Rattle.world.specs.Shelf.{Shelved, Stop, MayStop}

@@ -7,7 +7,7 @@ ghost use Rattle.pur_base.specs.Plain.{Array};
 ghost use Rattle.pur_base.specs.declared.facts.AnyFact.{AnyFact};
 ghost use Rattle.pur_base.specs.declared.limits.TheConstants.{REQUEST_SECTORS};
 ghost use Rattle.world.specs.Ran.{Ran};
-ghost use Rattle.checkpoint_spec.specs.Whole.{AreLayered};
+ghost use Rattle.memory_spec.specs.Whole.{AreLayered};
 ghost use Rattle.boot_region.specs.declared.loading.Loaded.{Loaded};
 ghost use Rattle.nvram_log.specs.Held.{Keeps, shown_by};
 ghost use Rattle.nvram_log.specs.Members.{IsFewer, IsMember, IsNvram, IsSome, OnMembers};

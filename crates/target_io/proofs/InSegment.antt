@@ -15,7 +15,7 @@ use Rattle.world.specs.Shelf.{Shelved}
 use Rattle.segment_io.specs.Places.{ArePlaces, place_of}
 use Rattle.segment_io.specs.Reads.{AreLost, ShowsPresent, is_missing_in}
 use Rattle.memory_spec.specs.Memory.{Contents, PlaceReads, TargetReads}
-use Rattle.checkpoint_spec.specs.Contents.{ContentsStand}
+use Rattle.memory_spec.specs.Contents.{ContentsStand}
 use Rattle.target_io.specs.Reading.{AreReadable, ShowsDrives, AreDrivesLost}
 use Rattle.target_io.specs.Targets.{AreSectorsOf, target_behind}
 use Rattle.target_io.proofs.Reading.{lost_places}

@@ -4,7 +4,7 @@ ghost use Rattle.pur_base.specs.declared.limits.TheConstants.{REQUEST_SECTORS};
 ghost use Rattle.pur_base.specs.Devices.{View};
 ghost use Rattle.memory_spec.specs.Memory.{Contents};
 ghost use Rattle.memory_spec.specs.Tables.{facts};
-ghost use Rattle.checkpoint_spec.specs.Contents.{ContentsStand};
+ghost use Rattle.memory_spec.specs.Contents.{ContentsStand};
 ghost use Rattle.volume_ops.specs.Targets.{Stands};
 ghost use Rattle.target_io.specs.Reading.{AreReadable, ShowsDrives, ReadsOnly, AreDrivesLost};
 ghost use Rattle.target_io.specs.Targets.{AreSectorsOf};

@@ -16,7 +16,7 @@ use Rattle.pyramid.specs.Layers.{facts_of}
 use Rattle.memory_spec.specs.Memory.{Contents, IsSound, ReadsAs}
 use Rattle.memory_spec.specs.Numbers.{next_after}
 use Rattle.memory_spec.specs.Tables.{facts, patches}
-use Rattle.checkpoint_spec.specs.Whole.{IsNamed}
+use Rattle.memory_spec.specs.Whole.{IsNamed}
 use Rattle.table_plan.specs.Planned.{AreStored}
 use Rattle.array_memory.specs.Kept.{HasSamePatches, Kept}
 use Rattle.array_memory.proofs.AllowedLemmas.{accepted}

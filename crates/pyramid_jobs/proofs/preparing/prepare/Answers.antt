@@ -6,7 +6,7 @@ use Rattle.pur_base.specs.declared.place.Place.{Place}
 use Rattle.boot_codec.specs.declared.record.BootRecord.{BootRecord}
 use Rattle.free_space.specs.Map.{IsMapOf}
 use Rattle.memory_spec.specs.Tables.{facts}
-use Rattle.checkpoint_spec.specs.Merging.{AreJoined, pair_segments, place_in}
+use Rattle.memory_spec.specs.Merging.{AreJoined, pair_segments, place_in}
 use Rattle.table_plan.specs.Merging.{merged_facts}
 use Rattle.record_tables.specs.Patches.{new_patch, segments_for}
 use Rattle.array_checkpoint.proofs.PreparedLemmas.{map_of_facts}

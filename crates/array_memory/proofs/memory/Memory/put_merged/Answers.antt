@@ -4,8 +4,8 @@ use Rattle.pur_base.specs.declared.request.Table.TheVariants as table
 use Rattle.boot_codec.specs.declared.record.NextNumbers.{NextNumbers}
 use Rattle.object_table.specs.Objects.{Objects}
 use Rattle.segment_table.specs.Segments.{Segments}
-use Rattle.checkpoint_spec.specs.Merging.{IsMergedAt}
-use Rattle.checkpoint_spec.specs.Whole.{AreLayered}
+use Rattle.memory_spec.specs.Merging.{IsMergedAt}
+use Rattle.memory_spec.specs.Whole.{AreLayered}
 use Rattle.table_plan.specs.declared.merged.Merged.{Merged}
 use Rattle.table_plan.specs.declared.merged.Merged.TheVariants as merged
 use Rattle.table_plan.specs.Merging.{IsMergedOf}

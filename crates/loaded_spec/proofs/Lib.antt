@@ -1,5 +1,0 @@
-pub mod Lawful
-pub mod Descent
-pub mod Sound
-pub mod Stored
-pub mod Held

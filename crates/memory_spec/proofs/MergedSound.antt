@@ -1,0 +1,97 @@
+-- Patches that are sound by their record are sound memory, and so are they once two of them were merged.
+use Rattle.std.proofs.Common.{◌≢◌, ℕ, ◌<◌, refl, sym, ap, ◌∙◌, inl, inr, subst, All, Contains}
+use Rattle.std.proofs.lemmas.List.Elements.{All-contains}
+use Rattle.pur_base.specs.Devices.{Geometry}
+use Rattle.pur_base.specs.Facts.{Facts, any_number}
+use Rattle.pur_base.specs.declared.facts.Target.{Target}
+use Rattle.pur_base.specs.declared.facts.Target.TheVariants.{Stored, Zero}
+use Rattle.pur_base.specs.declared.facts.AnyFact.{AnyFact}
+use Rattle.pur_base.specs.declared.facts.AnyFact.TheVariants as any
+use Rattle.boot_codec.specs.declared.record.BootRecord.{BootRecord}
+use Rattle.boot_codec.specs.Record.{AreNext}
+use Rattle.fact_codec.specs.Fact.{IsFact, IsTarget}
+use Rattle.array_spec.specs.Sound.{AreSound, AreIdsBelow, AreObjectsSound, AreMediumsSound, AreAddressesSound, AreSegmentsSound, AreElisionsSound}
+use Rattle.array_spec.specs.Stored.{in_patches}
+use Rattle.pyramid.proofs.ContainsLemmas.{nowhere}
+use Rattle.memory_spec.specs.Tables.{Tables, facts, patches, all_of}
+use Rattle.memory_spec.specs.Memory.{Memory, FitsTarget, FitsInMemory, AreAddressesThere, AreNumbered, IsSound}
+use Rattle.memory_spec.proofs.Lists.{of_each, pairs_of}
+use Rattle.memory_spec.specs.Merging.{IsMerge}
+use Rattle.memory_spec.proofs.Merged.{merge_shrinks, one_merge_is_merge}
+use Rattle.memory_spec.proofs.Patches.{in_patches_are, flushed_are_all}
+use Rattle.memory_spec.proofs.Records.{record_is_sound}
+use Rattle.memory_spec.proofs.Shrinking.{shrunk_sound}
+use Rattle.memory_spec.specs.MergedLaws.{MergedPatchesAreSound}
+use Rattle.memory_spec.proofs.Patched.{patched, patched_whole, patched_facts, patched_layered, still_layered, merged_patched}
+
+-- ---- a fact of a patch is one that memory may hold, also with nothing staged
+
+-- where a sector stands,
+target_fits : (target : Target) → IsTarget target → FitsTarget 0 target
+target_fits (Stored at) h = inr (h.0.0, h.0.1, h.1)
+target_fits Zero h = tt
+
+-- and the fact
+fact_fits : (f : AnyFact) → IsFact f → FitsInMemory 0 f
+fact_fits (any.Object f) h = h
+fact_fits (any.Medium f) h = h
+fact_fits (any.Address f) h = (h.lawful.id, h.lawful.number, h.lawful.statement.0, target_fits f.target h.lawful.statement.1)
+fact_fits (any.Segment f) h = h
+fact_fits (any.Elision f) h = h
+
+-- ---- patches that are sound by their record
+
+module _ (shelf : Geometry) (boot : BootRecord) (t : Tables) (sound : AreSound shelf boot (patches t)) (lawful : All IsFact (in_patches (patches t))) (id : ℕ)
+    (next : AreNext (record boot.next { patch_segment = id })) where
+  -- with any next id of a segment of patches, of which memory says no more
+  abbrev Loaded : Memory
+  Loaded = patched t (record boot.next { patch_segment = id })
+
+  -- its facts are those of the patches
+  in_loaded : (f : AnyFact) → Contains (all_of (facts Loaded.tables)) f → Contains (in_patches (patches t)) f
+  in_loaded f c = subst (λ l. Contains l f) (sym (in_patches_are t ∙ ap all_of (flushed_are_all Loaded (patched_whole t Loaded.next)))) c
+
+  -- no fact speaks of a segment of patches
+  ids_below : (f : Facts) → AreIdsBelow boot.next f → AreIdsBelow Loaded.next f
+  ids_below f h = record { objects = h.objects; mediums = h.mediums; addresses = h.addresses; segments = h.segments; elisions = h.elisions }
+
+  -- nothing is staged, so each stored sector stands in a segment
+  there : AreAddressesThere Loaded
+  there =
+      let a = subst AreAddressesSound (patched_facts t Loaded.next) sound.addresses in
+      record { there = λ medium sector at e. inr (a.there medium sector at e); within = a.within }
+
+  -- no two facts have one number
+  numbered : AreNumbered Loaded
+  numbered = record {
+    below = λ f c. of_each (λ x. any_number x < boot.next.sequence) (in_patches (patches t)) f sound.sequences.below (in_loaded f c);
+    distinct = λ f g c d e. elim (pairs_of (λ x y. any_number x ≢ any_number y) (in_patches (patches t)) f g sound.sequences.distinct (in_loaded f c) (in_loaded g d)) [
+      | inl one ↦ one
+      | inr either ↦ elim either [ inl differ ↦ absurd (differ e) | inr differ ↦ absurd (differ (sym e)) ]
+    ];
+  }
+
+  loaded_sound : IsSound Loaded
+  loaded_sound = record {
+    next = next;
+    fit = λ f c. fact_fits f (All-contains IsFact (in_patches (patches t)) f lawful (in_loaded f c));
+    sectors = λ sector c. absurd (nowhere sector c);
+    ids = ids_below (facts Loaded.tables) (subst (λ f. AreIdsBelow boot.next f) (patched_facts t Loaded.next) sound.ids);
+    objects = subst (λ f. AreObjectsSound f boot.next.object) (patched_facts t Loaded.next) sound.objects;
+    mediums = subst AreMediumsSound (patched_facts t Loaded.next) sound.mediums;
+    addresses = there;
+    elisions = subst (λ (f : Facts). AreElisionsSound f.elisions) (patched_facts t Loaded.next) sound.elisions;
+    numbers = numbered;
+  }
+
+-- ---- and once two of them were merged
+
+pub merged_patches_are_sound : MergedPatchesAreSound
+merged_patches_are_sound shelf boot next t i was now layered h sound lawful next_next same named segments =
+    let memory : Memory = patched was.tables next.next in
+    let merged : Memory = patched now.tables next.next in
+    let is : IsSound memory = subst (λ n. IsSound (patched was.tables n)) (sym same) (loaded_sound shelf boot was.tables sound lawful next.next.patch_segment (subst AreNext same next_next)) in
+    let merge : IsMerge memory merged = one_merge_is_merge t i memory merged (merged_patched t i was now next.next h) in
+    record_is_sound shelf next merged (shrunk_sound memory merged is (merge_shrinks memory merged is (patched_layered was.tables next.next layered) merge))
+    (patched_whole now.tables next.next) (patched_layered now.tables next.next (still_layered t i was now h layered))
+    (subst (λ f. AreSegmentsSound shelf next f) (patched_facts now.tables next.next) segments) refl named

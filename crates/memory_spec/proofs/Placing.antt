@@ -1,0 +1,334 @@
+-- Memory stays sound, and reads the same, when staged sectors are placed.
+use Rattle.std.proofs.Common.{◌≡◌, ◌⊎◌, ℕ, zero, suc, ◌<◌, ◌≤◌, true, List, [], length, refl, sym, ap, ◌∙◌, arith, inl, inr, subst, Option, Some, None, option_map, option_and_then, is_some, slice_get, if◌then◌else◌, Contains, eq-eqb, ne_eqb}
+use Rattle.pur_base.specs.Facts.{any_number, segment_key, never}
+use Rattle.pur_base.specs.Keys.{key_of, id_of}
+use Rattle.pur_base.specs.Says.{unless_empty}
+use Rattle.pur_base.specs.Visible.{address, segment, is_elided}
+use Rattle.pur_base.specs.declared.request.Table.{Table}
+use Rattle.pur_base.specs.declared.request.Table.TheVariants as table
+use Rattle.pur_base.specs.declared.place.Location.{Location}
+use Rattle.pur_base.specs.declared.facts.Target.{Target}
+use Rattle.pur_base.specs.declared.facts.Target.TheVariants.{Stored, Zero}
+use Rattle.pur_base.specs.declared.facts.ObjectFact.{ObjectFact}
+use Rattle.pur_base.specs.declared.facts.MediumFact.{MediumFact}
+use Rattle.pur_base.specs.declared.facts.AddressFact.{AddressFact}
+use Rattle.pur_base.specs.declared.facts.SegmentFact.{SegmentFact}
+use Rattle.pur_base.specs.declared.facts.ElisionFact.{ElisionFact}
+use Rattle.pur_base.specs.declared.facts.AnyFact.{AnyFact}
+use Rattle.pur_base.specs.declared.facts.AnyFact.TheVariants as any
+use Rattle.pur_base.proofs.SaysLemmas.{says_is}
+use Rattle.array_spec.specs.Sound.{AreIdsBelow, AreObjectsSound, AreElisionsSound, next_id}
+use Rattle.pyramid.specs.Layers.{AreDistinct, newest_of}
+use Rattle.pyramid.proofs.ContainsLemmas.{nowhere}
+use Rattle.pyramid.proofs.KeyLemmas.{id_of_key}
+use Rattle.memory_spec.specs.Tables.{facts, all_of}
+use Rattle.memory_spec.specs.Memory.{Memory, Contents, PlaceReads, TargetReads, FactsRead, FitsTarget, FitsInMemory, IsThere, AreNumbered, IsSound}
+use Rattle.memory_spec.specs.Adding.{AreMoved}
+use Rattle.memory_spec.proofs.Lists.{each_by_recursion, of_each}
+use Rattle.memory_spec.proofs.Objects.{same_objects}
+use Rattle.memory_spec.proofs.AllTables.{all_objects, all_mediums, all_addresses, all_segments, all_elisions, of_all}
+use Rattle.memory_spec.proofs.Keeping.{object_kept, range_kept, objects_sound, mediums_sound}
+use Rattle.memory_spec.proofs.Adding.{only_newest, no_newest, newest_kept, newest_given}
+use Rattle.memory_spec.proofs.Moved.{moved_reads}
+use Rattle.memory_spec.proofs.Putting.{address_numbers}
+use Rattle.memory_spec.proofs.Created.{not_elided}
+use Rattle.memory_spec.specs.Placing.{placed_target, repointed, IsPlacedAt, IsPlacing, PlacingReads}
+use Rattle.memory_spec.proofs.Repointed.{address_placed, visible_stays}
+use Rattle.array_spec.proofs.Mediums.{same_some}
+
+place_of : (contents : Contents) (n index : ℕ) (body : List ℕ) → 1 ≤ n → body ≡ contents n index → PlaceReads contents [] n index body
+place_of contents zero index body l e = absurd (omega (arith, l))
+place_of contents (suc n) index body l e = e
+
+of_place : (contents : Contents) (staged : List (List ℕ)) (n index : ℕ) (body : List ℕ) → 1 ≤ n → PlaceReads contents staged n index body → body ≡ contents n index
+of_place contents staged zero index body l e = absurd (omega (arith, l))
+of_place contents staged (suc n) index body l e = e
+
+pub staged_target : (place : ℕ → Location) (at : Location) → at.segment.0 ≡ 0 → placed_target place (Stored at) ≡ Stored (place at.index)
+staged_target place at e = ap (λ b. if b then Stored (place at.index) else Stored at) (eq-eqb at.segment.0 0 e)
+
+pub other_target : (place : ℕ → Location) (at : Location) → 1 ≤ at.segment.0 → placed_target place (Stored at) ≡ Stored at
+other_target place at l = ap (λ b. if b then Stored (place at.index) else Stored at) (ne_eqb at.segment.0 0 (λ e. omega (arith, e, l)))
+
+-- staged, or in a segment
+pub which_place : (n : ℕ) → (n ≡ 0) ⊎ (1 ≤ n)
+which_place zero = inl refl
+which_place (suc n) = inr (omega arith)
+
+same_location : (a b : Location) → Stored a ≡ Stored b → a ≡ b
+same_location a b e = cc
+
+-- the id of a visible segment was given
+pub old_segment_id : (m : Memory) → IsSound m → (id : ℕ) (d : SegmentFact) → segment (facts m.tables) id ≡ Some d → id < m.next.segment
+old_segment_id m s id d e =
+    let is = says_is segment_key (λ f. f.seq.0) never (λ f. Contains (facts m.tables).segments f) (facts m.tables).segments (is_elided (facts m.tables).elisions table.Segment) (key_of id 0) d
+    (each_by_recursion (λ f. Contains (facts m.tables).segments f) (facts m.tables).segments (λ f c. c)) e in
+    let low = of_each (λ (f : SegmentFact). f.segment.0 < m.next.segment) (facts m.tables).segments d s.ids.segments is.0 in
+    let key : key_of d.segment.0 0 ≡ key_of id 0 = is.1 in
+    omega (arith, low, key)
+
+module _ (contents contents2 : Contents) (was now : Memory) (place : ℕ → Location) (added : List SegmentFact) (s : IsSound was) (h : IsPlacing contents contents2 was now place added) where
+  placed : (m x : ℕ) → address (facts now.tables) m x ≡ option_map (placed_target place) (address (facts was.tables) m x)
+  placed = address_placed place (facts was.tables) (facts now.tables) h.addresses (address_numbers was s) h.elisions
+
+  -- ---- segments
+
+  segment_ids : (d : SegmentFact) → Contains (facts was.tables).segments d → d.segment.0 < was.next.segment
+  segment_ids d c = of_each (λ (f : SegmentFact). f.segment.0 < was.next.segment) (facts was.tables).segments d s.ids.segments c
+
+  same_segment : (d e : SegmentFact) → any.Segment d ≡ any.Segment e → d ≡ e
+  same_segment d e i = cc
+
+  old_number : (d : SegmentFact) → Contains (facts was.tables).segments d → d.seq.0 < was.next.sequence
+  old_number d c = s.numbers.below (any.Segment d) (all_segments (facts was.tables) d c)
+
+  older : (d e : SegmentFact) → Contains (facts was.tables).segments d → Contains added e → d.seq.0 < e.seq.0
+  older d e c i = let a = old_number d c in let b = (h.new_segments.numbers e i).0 in omega (arith, a, b)
+
+  old_distinct : AreDistinct (λ (d : SegmentFact). d.seq.0) (facts was.tables).segments
+  old_distinct d e c i n = same_segment d e (s.numbers.distinct (any.Segment d) (any.Segment e) (all_segments (facts was.tables) d c) (all_segments (facts was.tables) e i) n)
+
+  new_distinct : AreDistinct (λ (d : SegmentFact). d.seq.0) added
+  new_distinct d e c i n = h.new_segments.one_number d e c i n
+
+  -- what is said of a segment, by its newest fact
+  abbrev Said : List ElisionFact → ℕ → Option SegmentFact → Option SegmentFact
+  Said elisions k o = if is_elided elisions table.Segment (id_of k) then None else option_and_then (unless_empty never) o
+
+  old_segment : (id : ℕ) (d : SegmentFact) → segment (facts was.tables) id ≡ Some d → segment (facts now.tables) id ≡ Some d
+  old_segment id d e =
+      let is = says_is segment_key (λ f. f.seq.0) never (λ f. Contains (facts was.tables).segments f) (facts was.tables).segments (is_elided (facts was.tables).elisions table.Segment) (key_of id 0) d
+      (each_by_recursion (λ f. Contains (facts was.tables).segments f) (facts was.tables).segments (λ f c. c)) e in
+      let low = segment_ids d is.0 in
+      let key : key_of d.segment.0 0 ≡ key_of id 0 = is.1 in
+      let none = no_newest segment_key (λ f. f.seq.0) added (key_of id 0) (λ f c i.
+      let own : key_of f.segment.0 0 ≡ key_of id 0 = i in
+      let high = (h.new_segments.ids f c).0 in
+      omega (arith, own, key, low, high)) in
+      ap (λ o. Said (facts now.tables).elisions (key_of id 0) o)
+      (newest_kept segment_key (λ f. f.seq.0) (facts was.tables).segments (facts now.tables).segments added h.segments older old_distinct new_distinct (key_of id 0) none)
+      ∙ ap (λ l. Said l (key_of id 0) (newest_of segment_key (λ f. f.seq.0) (key_of id 0) (facts was.tables).segments)) h.elisions ∙ e
+
+  new_segment : (d : SegmentFact) → Contains added d → segment (facts now.tables) d.segment.0 ≡ Some d
+  new_segment d c =
+      let id : id_of (key_of d.segment.0 0) ≡ d.segment.0 = id_of_key d.segment.0 0 (omega arith) in
+      let only = only_newest segment_key (λ f. f.seq.0) added (key_of d.segment.0 0) d c refl (λ f i k.
+      let key : key_of f.segment.0 0 ≡ key_of d.segment.0 0 = k in
+      h.new_segments.one_id f d i c (omega (arith, key))) in
+      ap (λ o. Said (facts now.tables).elisions (key_of d.segment.0 0) o)
+      (newest_given segment_key (λ f. f.seq.0) (facts was.tables).segments (facts now.tables).segments added h.segments older old_distinct new_distinct (key_of d.segment.0 0) d only)
+      ∙ ap (λ b. if b then None else Some d)
+      (ap (λ i. is_elided (facts now.tables).elisions table.Segment i) id ∙ ap (λ l. is_elided l table.Segment d.segment.0) h.elisions
+      ∙ not_elided was.next (facts was.tables) table.Segment d.segment.0 s.ids (h.new_segments.ids d c).0)
+
+  -- ---- targets
+
+  -- the place of a staged sector is in a segment
+  in_segment : (index : ℕ) → IsPlacedAt contents2 was.staged added index (place index) → 1 ≤ (place index).segment.0
+  in_segment index w = let own = (h.new_segments.each w.0 w.1).lawful.id.0 in let same = w.2 in omega (arith, own, same)
+
+  target_moved : (g : AddressFact) (t : Target) → Contains (facts was.tables).addresses g → Contains (facts now.tables).addresses (repointed place g) → g.target ≡ t
+      → ((at : Location) → t ≡ Stored at → IsThere was at) → (body : List ℕ) → TargetReads contents was.staged t body → TargetReads contents2 [] (placed_target place t) body
+  target_moved g (Stored at) c d e there body read = elim (which_place at.segment.0) [
+    | inl none ↦
+        let w = h.placed g at c d e none in
+        let got : slice_get was.staged at.index ≡ Some body = subst (λ n. PlaceReads contents was.staged n at.index body) none read in
+        let is : body ≡ contents2 (place at.index).segment.0 (place at.index).index = same_some (slice_get was.staged at.index) got w.4 in
+        subst (λ z. TargetReads contents2 [] z body) (sym (staged_target place at none)) (place_of contents2 (place at.index).segment.0 (place at.index).index body (in_segment at.index w) is)
+    | inr some ↦ elim (there at refl) [
+      | inl p ↦ (let none = p.0 in absurd (omega (arith, none, some)))
+      | inr w ↦
+          subst (λ z. TargetReads contents2 [] z body) (sym (other_target place at some))
+          (place_of contents2 at.segment.0 at.index body some (of_place contents was.staged at.segment.0 at.index body some read ∙ sym (h.kept at.segment.0 at.index w.0 w.1 w.2)))
+    ]
+  ]
+  target_moved g Zero c d e there body read = read
+
+  pub moved : AreMoved contents contents2 was.staged [] (facts was.tables) (facts now.tables)
+  moved = record {
+    none = λ m x e. placed m x ∙ ap (λ o. option_map (placed_target place) o) e;
+    some = λ m x t e.
+        let w = visible_stays place (facts was.tables) (facts now.tables) h.addresses m x t e in (
+          placed_target place t,
+          placed m x ∙ ap (λ o. option_map (placed_target place) o) e,
+          target_moved w.0 t w.1 w.2 w.3 (λ at is. s.addresses.there m x at (e ∙ ap (λ z. Some z) is)),
+        );
+    ranges = range_kept (facts was.tables) (facts now.tables) h.elisions h.mediums;
+    objects = object_kept (facts was.tables) (facts now.tables) h.elisions h.objects;
+  }
+
+  -- ---- soundness, part by part
+
+  target_fits : (g : AddressFact) (t : Target) → Contains (facts was.tables).addresses g → Contains (facts now.tables).addresses (repointed place g) → g.target ≡ t
+      → FitsTarget (length was.staged) t → FitsTarget 0 (placed_target place t)
+  target_fits g (Stored at) c d e fits = elim (which_place at.segment.0) [
+    | inl none ↦
+        let w = h.placed g at c d e none in
+        let own = h.new_segments.each w.0 w.1 in
+        let same = w.2 in
+        let high = own.lawful.id.1 in
+        let within = w.3 in
+        let most = own.lawful.statement.1 in
+        subst (λ z. FitsTarget 0 z) (sym (staged_target place at none)) (inr (in_segment at.index w, omega (arith, high, same), omega (arith, within, most)))
+    | inr some ↦ elim fits [
+      | inl p ↦ (let none = p.0 in absurd (omega (arith, none, some)))
+      | inr p ↦ subst (λ z. FitsTarget 0 z) (sym (other_target place at some)) (inr p)
+    ]
+  ]
+  target_fits g Zero c d e fits = tt
+
+  address_fits : (f : AddressFact) → Contains (facts now.tables).addresses f → FitsInMemory 0 (any.Address f)
+  address_fits f c =
+      let w = h.addresses.source f c in
+      let old : FitsInMemory (length was.staged) (any.Address w.0) = s.fit (any.Address w.0) (all_addresses (facts was.tables) w.0 w.1) in
+      let there : Contains (facts now.tables).addresses (repointed place w.0) = subst (λ z. Contains (facts now.tables).addresses z) w.2 c in
+      subst (λ z. FitsInMemory 0 (any.Address z)) (sym w.2) (old.0, old.1, old.2, target_fits w.0 w.0.target w.1 there refl old.3)
+
+  fit : (a : AnyFact) → Contains (all_of (facts now.tables)) a → FitsInMemory 0 a
+  fit = of_all (facts now.tables) (λ a. FitsInMemory 0 a)
+      (λ x c. s.fit (any.Object x) (all_objects (facts was.tables) x (subst (λ l. Contains l x) h.objects c)))
+      (λ x c. s.fit (any.Medium x) (all_mediums (facts was.tables) x (subst (λ l. Contains l x) h.mediums c)))
+      address_fits
+      (λ x c. elim ((h.segments x).0 c) [ inl o ↦ s.fit (any.Segment x) (all_segments (facts was.tables) x o) | inr n ↦ h.new_segments.each x n ])
+      (λ x c. s.fit (any.Elision x) (all_elisions (facts was.tables) x (subst (λ l. Contains l x) h.elisions c)))
+
+  later_next : (t : Table) → next_id was.next t ≤ next_id now.next t
+  later_next table.Object = let e = h.next.object in omega (arith, e)
+  later_next table.Medium = let e = h.next.medium in omega (arith, e)
+  later_next table.Address = let e = h.next.medium in omega (arith, e)
+  later_next table.Segment = h.next.segment
+  later_next table.Elision = omega arith
+
+  ids : AreIdsBelow now.next (facts now.tables)
+  ids = record {
+    objects = each_by_recursion (λ (f : ObjectFact). (f.object.0 < now.next.object) × (f.medium.0 < now.next.medium)) (facts now.tables).objects (λ f c.
+        let low = of_each (λ (f : ObjectFact). (f.object.0 < was.next.object) × (f.medium.0 < was.next.medium)) (facts was.tables).objects f s.ids.objects (subst (λ l. Contains l f) h.objects c) in
+        let a = low.0 in
+        let b = low.1 in
+        let e = h.next.object in
+        let m = h.next.medium in
+        (omega (arith, a, e), omega (arith, b, m)));
+    mediums = each_by_recursion (λ (f : MediumFact). f.medium.0 < now.next.medium) (facts now.tables).mediums (λ f c.
+        let low = of_each (λ (f : MediumFact). f.medium.0 < was.next.medium) (facts was.tables).mediums f s.ids.mediums (subst (λ l. Contains l f) h.mediums c) in
+        let m = h.next.medium in
+        omega (arith, low, m));
+    addresses = each_by_recursion (λ (f : AddressFact). f.medium.0 < now.next.medium) (facts now.tables).addresses (λ f c.
+        let w = h.addresses.source f c in
+        let low = of_each (λ (f : AddressFact). f.medium.0 < was.next.medium) (facts was.tables).addresses w.0 s.ids.addresses w.1 in
+        let same : f.medium.0 ≡ w.0.medium.0 = ap (λ z. z.medium.0) w.2 in
+        let m = h.next.medium in
+        omega (arith, low, same, m));
+    segments = each_by_recursion (λ (f : SegmentFact). f.segment.0 < now.next.segment) (facts now.tables).segments (λ f c. elim ((h.segments f).0 c) [
+      | inl o ↦ (let low = segment_ids f o in let m = h.next.segment in omega (arith, low, m))
+      | inr n ↦ (h.new_segments.ids f n).1
+    ]);
+    elisions = each_by_recursion (λ (f : ElisionFact). f.last < next_id now.next f.table) (facts now.tables).elisions (λ f c.
+        let low = of_each (λ (f : ElisionFact). f.last < next_id was.next f.table) (facts was.tables).elisions f s.ids.elisions (subst (λ l. Contains l f) h.elisions c) in
+        let more = later_next f.table in
+        omega (arith, low, more));
+  }
+
+  there_of : (m x : ℕ) (at : Location) (o : Option Target) → address (facts was.tables) m x ≡ o → option_map (placed_target place) o ≡ Some (Stored at) → IsThere now at
+  there_of m x at None e is = cc
+  there_of m x at (Some Zero) e is = cc
+  there_of m x at (Some (Stored a)) e is = elim (which_place a.segment.0) [
+    | inl none ↦
+        let v = visible_stays place (facts was.tables) (facts now.tables) h.addresses m x (Stored a) e in
+        let w = h.placed v.0 a v.1 v.2 v.3 none in
+        let same : place a.index ≡ at = same_location (place a.index) at (sym (staged_target place a none) ∙ same_some (Some (placed_target place (Stored a))) refl is) in
+        subst (λ z. IsThere now z) same (inr (w.0, subst (λ n. segment (facts now.tables) n ≡ Some w.0) w.2 (new_segment w.0 w.1), w.3))
+    | inr some ↦
+        let same : a ≡ at = same_location a at (sym (other_target place a some) ∙ same_some (Some (placed_target place (Stored a))) refl is) in
+        elim (s.addresses.there m x a e) [
+          | inl p ↦ (let none = p.0 in absurd (omega (arith, none, some)))
+          | inr d ↦ subst (λ z. IsThere now z) same (inr (d.0, old_segment a.segment.0 d.0 d.1, d.2))
+        ]
+  ]
+
+  some_before : (o : Option Target) → is_some (option_map (placed_target place) o) ≡ true → is_some o ≡ true
+  some_before None e = e
+  some_before (Some t) e = refl
+
+  -- ---- numbers
+
+  abbrev Repointed : AnyFact → AnyFact
+  Repointed (any.Address g) = any.Address (repointed place g)
+  Repointed (any.Object g) = any.Object g
+  Repointed (any.Medium g) = any.Medium g
+  Repointed (any.Segment g) = any.Segment g
+  Repointed (any.Elision g) = any.Elision g
+
+  same_number : (a : AnyFact) → any_number (Repointed a) ≡ any_number a
+  same_number (any.Address g) = refl
+  same_number (any.Object g) = refl
+  same_number (any.Medium g) = refl
+  same_number (any.Segment g) = refl
+  same_number (any.Elision g) = refl
+
+  abbrev From : AnyFact → Type 0
+  From a = ((b : AnyFact) × Contains (all_of (facts was.tables)) b × (a ≡ Repointed b)) ⊎ ((d : SegmentFact) × Contains added d × (a ≡ any.Segment d))
+
+  from : (a : AnyFact) → Contains (all_of (facts now.tables)) a → From a
+  from = of_all (facts now.tables) From
+      (λ x c. inl (any.Object x, all_objects (facts was.tables) x (subst (λ l. Contains l x) h.objects c), refl))
+      (λ x c. inl (any.Medium x, all_mediums (facts was.tables) x (subst (λ l. Contains l x) h.mediums c), refl))
+      (λ x c. let w = h.addresses.source x c in inl (any.Address w.0, all_addresses (facts was.tables) w.0 w.1, ap any.Address w.2))
+      (λ x c. elim ((h.segments x).0 c) [ inl o ↦ inl (any.Segment x, all_segments (facts was.tables) x o, refl) | inr n ↦ inr (x, n, refl) ])
+      (λ x c. inl (any.Elision x, all_elisions (facts was.tables) x (subst (λ l. Contains l x) h.elisions c), refl))
+
+  number_of : (a b : AnyFact) → a ≡ Repointed b → any_number a ≡ any_number b
+  number_of a b e = ap any_number e ∙ same_number b
+
+  numbers : AreNumbered now
+  numbers = record {
+    below = λ a c. elim (from a c) [
+      | inl w ↦ (let less = s.numbers.below w.0 w.1 in let same = number_of a w.0 w.2 in let more = h.next.sequence in omega (arith, less, same, more))
+      | inr w ↦ (let same = ap any_number w.2 in let between = (h.new_segments.numbers w.0 w.1).1 in omega (arith, same, between))
+    ];
+    distinct = λ a b c d e. elim (from a c) [
+      | inl v ↦ elim (from b d) [
+        | inl w ↦ v.2 ∙ ap Repointed (s.numbers.distinct v.0 w.0 v.1 w.1 (sym (number_of a v.0 v.2) ∙ e ∙ number_of b w.0 w.2)) ∙ sym w.2
+        | inr w ↦
+            let less = s.numbers.below v.0 v.1 in
+            let same = number_of a v.0 v.2 in
+            let own = ap any_number w.2 in
+            let least = (h.new_segments.numbers w.0 w.1).0 in
+            absurd (omega (arith, less, same, own, least, e))
+      ]
+      | inr v ↦ elim (from b d) [
+        | inl w ↦
+            let less = s.numbers.below w.0 w.1 in
+            let same = number_of b w.0 w.2 in
+            let own = ap any_number v.2 in
+            let least = (h.new_segments.numbers v.0 v.1).0 in
+            absurd (omega (arith, less, same, own, least, e))
+        | inr w ↦ v.2 ∙ ap any.Segment (h.new_segments.one_number v.0 w.0 v.1 w.1 (sym (ap any_number v.2) ∙ e ∙ ap any_number w.2)) ∙ sym w.2
+      ]
+    ];
+  }
+
+  pub placing_sound : IsSound now
+  placing_sound = record {
+    next = h.next.next;
+    fit = λ a c. subst (λ (l : List (List ℕ)). FitsInMemory (length l) a) (sym h.staged) (fit a c);
+    sectors = λ x c. absurd (nowhere x (subst (λ l. Contains l x) h.staged c));
+    ids = ids;
+    objects = subst (λ n. AreObjectsSound (facts now.tables) n) (sym h.next.object)
+        (objects_sound (facts was.tables) (facts now.tables) h.elisions was.next.object (same_objects (facts was.tables) (facts now.tables) moved.objects was.next.object) s.objects);
+    mediums = mediums_sound (facts was.tables) (facts now.tables) moved.objects moved.ranges s.mediums;
+    addresses = record {
+      there = λ m x at e. there_of m x at (address (facts was.tables) m x) refl (sym (placed m x) ∙ e);
+      within = λ id x y e l some. s.addresses.within id x y (sym (moved.objects id) ∙ e) l
+          (some_before (address (facts was.tables) y.medium.0 x) (ap (λ o. is_some o) (sym (placed y.medium.0 x)) ∙ some));
+    };
+    elisions = subst (λ l. AreElisionsSound l) (sym h.elisions) s.elisions;
+    numbers = numbers;
+  }
+
+pub placing_reads : PlacingReads
+placing_reads contents contents2 was now place added array r h = record {
+  sound = placing_sound contents contents2 was now place added r.sound h;
+  reads = subst (λ l. FactsRead contents2 l (facts now.tables) now.next.object array) (sym h.staged)
+      (subst (λ n. FactsRead contents2 [] (facts now.tables) n array) (sym h.next.object)
+      (moved_reads contents contents2 was.staged [] (facts was.tables) (facts now.tables) was.next.object array (moved contents contents2 was now place added r.sound h) r.reads));
+}

@@ -1,4 +1,0 @@
-pub mod Patched
-pub mod Shrunk
-pub mod Sound
-pub mod Holding

@@ -1,8 +1,0 @@
-use Rattle.stored_spec.proofs.Unique.{one_patches, one_base}
-use Rattle.stored_spec.proofs.one_array_is_held.Goals as goal
-
-pub returns-clause-patches : goal.returns-clause-patches
-returns-clause-patches c = one_patches
-
-pub returns-clause-base : goal.returns-clause-base
-returns-clause-base c = one_base
