@@ -9,7 +9,7 @@ use Rattle.pur_base.specs.Keys.{id_of, key_of}
 use Rattle.pur_base.specs.Says.{says, unless_empty}
 use Rattle.pur_base.specs.Visible.{address, is_within, AreElidedRanges}
 use Rattle.pyramid.specs.Layers.{newest_of, AreBelow}
-use Rattle.pyramid.proofs.KeyLemmas.{id_of_key, within_elided}
+use Rattle.pyramid.specs.lemmas.Keys.{id_of_key, within_elided}
 use Rattle.pyramid.proofs.WalkLemmas.{newer_over}
 use Rattle.address_table.specs.Addresses.{number, target_of, visible}
 

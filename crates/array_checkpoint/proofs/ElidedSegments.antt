@@ -14,18 +14,18 @@ use Rattle.boot_codec.specs.declared.record.BootRecord.{BootRecord}
 use Rattle.array_spec.specs.Counts.{IsFree, is_place}
 use Rattle.array_spec.specs.Sound.{AreApart, AreSegmentsSound, named_segments, used_places}
 use Rattle.free_space.specs.Laws.{AreUnitsToTake}
-use Rattle.pyramid.proofs.KeyLemmas.{id_of_key}
-use Rattle.pyramid.proofs.LayerLemmas.{all_contained}
+use Rattle.pyramid.specs.lemmas.Keys.{id_of_key}
+use Rattle.pyramid.specs.lemmas.Layers.{all_contained}
 use Rattle.memory_spec.specs.Memory.{Contents, Memory}
 use Rattle.memory_spec.specs.Tables.{facts}
-use Rattle.memory_spec.proofs.Lists.{in_filter_map, in_map, of_filter_map, of_map}
+use Rattle.memory_spec.specs.lemmas.Lists.{in_filter_map, in_map, of_filter_map, of_map}
 use Rattle.memory_spec.specs.Contents.{ContentsStand}
 use Rattle.memory_spec.specs.Eliding.{IsEliding}
-use Rattle.memory_spec.proofs.Elided.{not_before, said_before}
+use Rattle.memory_spec.specs.lemmas.Elided.{not_before, said_before}
 use Rattle.array_memory.specs.declared.plan.Eliding.{Eliding}
 use Rattle.array_memory.specs.Eliding.{eliding_by}
 use Rattle.record_tables.specs.Units.{AreNewUnits}
-use Rattle.record_tables.proofs.Lists.{all_weaker, cons_pairs, pairs_across, pairs_append, pairs_back, pairs_front, pairs_head, pairs_tail}
+use Rattle.record_tables.specs.lemmas.Lists.{all_weaker, cons_pairs, pairs_across, pairs_append, pairs_back, pairs_front, pairs_head, pairs_tail}
 use Rattle.std.proofs.lemmas.List.Elements.{Contains-append_cases, Contains-append_left, Contains-append_right}
 
 -- ---- fewer of a list

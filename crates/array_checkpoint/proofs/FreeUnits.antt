@@ -17,14 +17,14 @@ use Rattle.free_space.specs.Laws.{AreUnitsToTake}
 use Rattle.free_space.specs.Map.{is_member}
 use Rattle.memory_spec.specs.Tables.{facts}
 use Rattle.memory_spec.specs.Memory.{Memory}
-use Rattle.memory_spec.proofs.Lists.{of_each, contains_at}
+use Rattle.memory_spec.specs.lemmas.Lists.{of_each, contains_at}
 use Rattle.array_memory.specs.declared.plan.Counts.{Counts}
 use Rattle.array_memory.specs.declared.plan.Plan.{Plan}
 use Rattle.array_memory.specs.Plan.{units_of}
 use Rattle.world.specs.Shelf.{Shelved}
 use Rattle.register.specs.declared.state.Register.{Register}
 use Rattle.register.specs.Standing.{Content}
-use Rattle.register.proofs.FlagLemmas.{cut_in}
+use Rattle.register.specs.lemmas.Flags.{cut_in}
 use Rattle.array_core.specs.Free.{OnFree}
 use Rattle.segment_io.specs.Places.{place_of, OnUnits}
 use Rattle.pur_base.specs.declared.facts.SegmentFact.{SegmentFact}

@@ -10,8 +10,8 @@ use Rattle.pur_base.specs.Facts.{segment_key, never}
 use Rattle.pur_base.specs.Keys.{key_of}
 use Rattle.pur_base.specs.Visible.{is_elided, segment}
 use Rattle.pur_base.specs.declared.request.Table.TheVariants as table
-use Rattle.pur_base.proofs.SaysLemmas.{says_is}
-use Rattle.memory_spec.proofs.Lists.{each_by_recursion}
+use Rattle.pur_base.specs.lemmas.Says.{says_is}
+use Rattle.memory_spec.specs.lemmas.Lists.{each_by_recursion}
 use Rattle.pur_base.specs.declared.facts.AnyFact.{AnyFact}
 use Rattle.pur_base.specs.declared.facts.SegmentFact.{SegmentFact}
 use Rattle.pur_base.specs.declared.place.Place.{Place}
@@ -33,7 +33,7 @@ use Rattle.record_tables.specs.Laws.{HaveFacts, new_facts}
 use Rattle.record_tables.specs.Patches.{added_patches, by_tag}
 use Rattle.record_tables.proofs.Named.{added_are_named, added_patches_zip}
 use Rattle.record_tables.proofs.Visible.{old_or_new}
-use Rattle.array_spec.proofs.Mediums.{same_some}
+use Rattle.array_spec.specs.lemmas.Mediums.{same_some}
 
 -- ---- lists
 

@@ -3,8 +3,8 @@ use Rattle.std.proofs.Common.{◌≡◌, sym, ap, subst}
 use Rattle.std.specs.Prelude.{Err, OnErr, Result}
 use Rattle.pur_base.specs.Plain as plain
 use Rattle.world.specs.Shelf.{Continues, IsCountedBy, IsShelf, LeavesOnly, Shelved}
-use Rattle.world.proofs.Moments.{started, then_run, weaker}
-use Rattle.world.proofs.Writes.{counted_then, counts_grow}
+use Rattle.world.specs.lemmas.Moments.{started, then_run, weaker}
+use Rattle.world.specs.lemmas.Writes.{counted_then, counts_grow}
 use Rattle.nvram_log.specs.declared.log.NvLog.{NvLog}
 use Rattle.register.specs.declared.state.Register.{Register}
 use Rattle.memory_spec.specs.Memory.{Contents, ReadsAs}

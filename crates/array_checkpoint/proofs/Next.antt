@@ -11,7 +11,7 @@ use Rattle.array_spec.specs.Sound.{named_segments}
 use Rattle.array_spec.specs.Stored.{all_facts}
 use Rattle.pyramid.specs.Layers.{facts_in, facts_of, Layers}
 use Rattle.memory_spec.specs.Tables.{facts, patches, Tables}
-use Rattle.memory_spec.proofs.Patches.{patches_are_flushed}
+use Rattle.memory_spec.specs.lemmas.Patches.{patches_are_flushed}
 
 -- ---- the tables of memory and those of its patches
 

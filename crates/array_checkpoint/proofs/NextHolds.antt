@@ -21,7 +21,7 @@ use Rattle.memory_spec.specs.Tables.{facts, patches}
 use Rattle.memory_spec.specs.Checkpoint.{IsCheckpointed, IsRecordOfMemory}
 use Rattle.memory_spec.specs.Contents.{AreAmong, ContentsStand, WrittenOn}
 use Rattle.memory_spec.proofs.Checkpointed.{checkpoint_data_holds}
-use Rattle.memory_spec.proofs.Patches.{patches_are_all}
+use Rattle.memory_spec.specs.lemmas.Patches.{patches_are_all}
 use Rattle.table_plan.specs.Planned.{extended, sectors_at}
 use Rattle.table_plan.proofs.Planned.{elided_is_checkpointed}
 use Rattle.pyramid.specs.Layers.{patch_facts}
@@ -30,7 +30,7 @@ use Rattle.array_memory.specs.Plan.{after_plan, units_of}
 use Rattle.array_memory.proofs.PlanLemmas.{planned}
 use Rattle.record_tables.specs.Laws.{new_facts}
 use Rattle.record_tables.specs.Patches.{added_patches}
-use Rattle.record_tables.proofs.Lists.{all_weaker}
+use Rattle.record_tables.specs.lemmas.Lists.{all_weaker}
 use Rattle.segment_io.specs.Stripes.{bytes_of}
 use Rattle.array_core.specs.Free.{WritesFree}
 use Rattle.array_core.proofs.Kept.{free_writes_leave}
@@ -49,7 +49,7 @@ use Rattle.array_checkpoint.proofs.ShownUnits.{shows_patch}
 use Rattle.array_checkpoint.proofs.Stays.{tables_hold}
 use Rattle.array_checkpoint.proofs.Units.{new_segment}
 use Rattle.array_checkpoint.proofs.Wrote.{Wrote}
-use Rattle.memory_spec.proofs.Lists.{contains_at}
+use Rattle.memory_spec.specs.lemmas.Lists.{contains_at}
 use Rattle.register.proofs.Rounds.{same_shelf}
 
 -- the plan is a checkpoint of memory

@@ -21,7 +21,7 @@ use Rattle.free_space.specs.Laws.{AreUnitsToTake}
 use Rattle.pyramid.specs.Layers.{patch_facts, patches_of}
 use Rattle.memory_spec.specs.Tables.{facts}
 use Rattle.memory_spec.specs.Memory.{Memory}
-use Rattle.memory_spec.proofs.Lists.{each_by_recursion, of_each, contains_at}
+use Rattle.memory_spec.specs.lemmas.Lists.{each_by_recursion, of_each, contains_at}
 use Rattle.memory_spec.specs.Whole.{IsNamed}
 use Rattle.array_memory.specs.declared.plan.Counts.{Counts}
 use Rattle.array_memory.specs.declared.plan.Plan.{Plan}
@@ -37,11 +37,11 @@ use Rattle.record_tables.specs.Laws.{HaveFacts, new_facts, with_patches}
 use Rattle.record_tables.specs.Patches.{added_patches, by_tag, counts_of, segments_of, FitRecord}
 use Rattle.record_tables.specs.Units.{AreNewUnits}
 use Rattle.record_tables.proofs.Lawful.{added_by_tag, next_patches_are_lawful, next_woven}
-use Rattle.record_tables.proofs.Lists.{all_weaker, pairs_across, pairs_back}
+use Rattle.record_tables.specs.lemmas.Lists.{all_weaker, pairs_across, pairs_back}
 use Rattle.record_tables.proofs.Named.{added_are_named, added_take_the_units}
 use Rattle.array_checkpoint.proofs.UnitLists.{flat_in, flat_long, flat_own, flat_two, in_at, pairs_two, woven_second, zip_with}
 use Rattle.array_checkpoint.proofs.Units.{StandApart, data_in, new_apart, stand_back}
-use Rattle.array_spec.proofs.Used.{all_append, all_append_right}
+use Rattle.array_spec.specs.lemmas.Used.{all_append, all_append_right}
 
 -- ---- the units of patches
 

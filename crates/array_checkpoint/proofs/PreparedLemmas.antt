@@ -26,7 +26,7 @@ use Rattle.table_plan.specs.Places.{flagged_from}
 use Rattle.table_plan.proofs.ElidedLemmas.{as_many}
 use Rattle.table_plan.proofs.PlacesLemmas.{few_flagged}
 use Rattle.memory_spec.specs.Memory.{Memory}
-use Rattle.memory_spec.proofs.Lists.{of_each}
+use Rattle.memory_spec.specs.lemmas.Lists.{of_each}
 use Rattle.memory_spec.specs.Numbers.{are_used_up, is_used_up}
 use Rattle.memory_spec.specs.Tables.{facts, patches}
 use Rattle.array_memory.specs.Kept.{Kept}

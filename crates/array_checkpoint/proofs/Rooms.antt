@@ -9,7 +9,7 @@ use Rattle.boot_codec.specs.declared.patch.Patch.{Patch}
 use Rattle.boot_codec.specs.Record.{patch_segments}
 use Rattle.array_spec.specs.Stored.{all_facts}
 use Rattle.memory_spec.specs.Tables.{Tables, facts, flushed, patches}
-use Rattle.memory_spec.proofs.Patches.{patches_are_flushed, whole_table}
+use Rattle.memory_spec.specs.lemmas.Patches.{patches_are_flushed, whole_table}
 
 -- one patch more
 pub next_patch : (ps : List Patch) (n : ℕ) (d : Patch) → n < length ps → patch_segments (drop n ps) ≡ length (get_or ps n d).segments + patch_segments (drop (n + 1) ps)

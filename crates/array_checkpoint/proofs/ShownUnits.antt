@@ -12,7 +12,7 @@ use Rattle.free_space.specs.Laws.{AreUnitsToTake}
 use Rattle.free_space.specs.Map.{shelf_of}
 use Rattle.memory_spec.specs.Tables.{facts}
 use Rattle.memory_spec.specs.Memory.{Memory}
-use Rattle.memory_spec.proofs.Lists.{of_each}
+use Rattle.memory_spec.specs.lemmas.Lists.{of_each}
 use Rattle.memory_spec.specs.Contents.{AreAmong}
 use Rattle.array_memory.specs.declared.plan.Counts.{Counts}
 use Rattle.array_memory.specs.declared.plan.Plan.{Plan}

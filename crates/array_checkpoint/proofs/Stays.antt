@@ -15,10 +15,10 @@ use Rattle.array_spec.specs.Base.{BaseStands}
 use Rattle.array_spec.specs.Meaning.{TablesStand}
 use Rattle.array_spec.specs.Sound.{ArePlaces}
 use Rattle.array_spec.specs.Stored.{all_facts}
-use Rattle.array_spec.proofs.Fewer.{places_keep, places_count}
-use Rattle.array_spec.proofs.Quiet.{bytes_same, in_unit}
-use Rattle.array_spec.proofs.Moves.{Keeps, SameUnit, same_units_keep}
-use Rattle.array_spec.proofs.Used.{data_is_used}
+use Rattle.array_spec.specs.lemmas.Fewer.{places_keep, places_count}
+use Rattle.array_spec.specs.lemmas.Quiet.{bytes_same, in_unit}
+use Rattle.array_spec.specs.lemmas.Moves.{Keeps, SameUnit, same_units_keep}
+use Rattle.array_spec.specs.lemmas.Used.{data_is_used}
 use Rattle.array_spec.specs.Held.{AreEnough}
 use Rattle.world.specs.Losing.{geometry_of}
 use Rattle.world.specs.Shelf.{IsShelf, MayStop, Shelved}
@@ -27,12 +27,12 @@ use Rattle.boot_region.specs.Members.{IsMember}
 use Rattle.register.specs.declared.state.Register.{Register}
 use Rattle.register.specs.Registers.{drives_of}
 use Rattle.register.specs.Standing.{Content, StandsInLog}
-use Rattle.register.proofs.FlagLemmas.{in_cut}
+use Rattle.register.specs.lemmas.Flags.{in_cut}
 use Rattle.memory_spec.specs.Memory.{Contents}
 use Rattle.memory_spec.specs.Contents.{AreAmong, ContentsStand}
 use Rattle.session_spec.specs.Entering.{read_now}
 use Rattle.array_core.specs.Drives.{drives_view}
-use Rattle.array_spec.proofs.Next.{counted_alike}
+use Rattle.array_spec.specs.lemmas.Next.{counted_alike}
 
 -- ---- what segments hold
 

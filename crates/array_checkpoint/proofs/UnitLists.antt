@@ -5,10 +5,10 @@ use Rattle.std.proofs.lemmas.Bool.{cases_lt}
 use Rattle.std.proofs.lemmas.List.{get_or_default, get_or-map, length-map}
 use Rattle.std.proofs.lemmas.List.Elements.{Contains-append_left, Contains-append_right}
 use Rattle.std.proofs.lemmas.Option.{same_Some}
-use Rattle.pyramid.proofs.ContainsLemmas.{either, nowhere}
-use Rattle.record_tables.proofs.Lists.{pairs_across, pairs_back, pairs_front}
+use Rattle.pyramid.specs.lemmas.Contains.{either, nowhere}
+use Rattle.record_tables.specs.lemmas.Lists.{pairs_across, pairs_back, pairs_front}
 use Rattle.record_tables.proofs.Woven.{Woven}
-use Rattle.memory_spec.proofs.Lists.{contains_at}
+use Rattle.memory_spec.specs.lemmas.Lists.{contains_at}
 
 -- ---- elements
 

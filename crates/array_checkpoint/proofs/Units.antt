@@ -14,7 +14,7 @@ use Rattle.array_spec.specs.Sound as sound
 use Rattle.free_space.specs.Map.{shelf_of}
 use Rattle.free_space.specs.Laws.{AreUnitsToTake}
 use Rattle.memory_spec.specs.Memory.{Memory}
-use Rattle.memory_spec.proofs.Lists.{of_each, in_map}
+use Rattle.memory_spec.specs.lemmas.Lists.{of_each, in_map}
 use Rattle.table_plan.specs.Places.{flagged_from}
 use Rattle.table_plan.specs.Segments.{segments_from}
 use Rattle.table_plan.proofs.SegmentsLemmas.{is_new_segment}
@@ -26,7 +26,7 @@ use Rattle.segment_io.specs.Places.{ArePlaces, place_of}
 use Rattle.patch_io.proofs.Parts.{segment_places}
 use Rattle.segment_writer.specs.DataPlacing.{AreApart, AreFilled, AreIndicesOf, HavePlaces, MayBePlaced, places_in, segment_in}
 use Rattle.record_tables.specs.Units.{AreNewUnits}
-use Rattle.record_tables.proofs.Lists.{pairs_front}
+use Rattle.record_tables.specs.lemmas.Lists.{pairs_front}
 use Rattle.array_checkpoint.proofs.UnitLists.{in_at, pairs_of_map, pairs_two}
 
 -- ---- units that are apart

@@ -9,7 +9,7 @@ use Rattle.array_spec.specs.Stored.{all_facts}
 use Rattle.world.specs.Shelf.{Shelved, Continues, LeavesOnly, IsShelf}
 use Rattle.world.specs.Losing.{geometry_of}
 use Rattle.world.specs.Writes.{WritesOnly}
-use Rattle.world.proofs.Writes.{writes_more}
+use Rattle.world.specs.lemmas.Writes.{writes_more}
 use Rattle.register.specs.declared.state.Register.{Register}
 use Rattle.register.specs.Standing.{Content, array_of}
 use Rattle.memory_spec.specs.Tables.{facts}

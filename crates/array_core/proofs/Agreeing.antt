@@ -10,13 +10,13 @@ use Rattle.boot_codec.specs.Region.{BootSlot, names}
 use Rattle.array_spec.specs.Standing.{MayBeGiven}
 use Rattle.array_spec.specs.Laws.{AreCleared}
 use Rattle.array_spec.proofs.Cleared.{marks_may_clear}
-use Rattle.array_spec.proofs.Standings.{more_may_go_missing}
+use Rattle.array_spec.specs.lemmas.Standings.{more_may_go_missing}
 use Rattle.world.specs.Losing.{missing_if, losing}
 use Rattle.register.specs.Registers.{named_sound}
 use Rattle.session_spec.specs.Entering.{IsStanding}
-use Rattle.session_spec.proofs.Conditions.{borne_on, still_sound, left_out_once}
+use Rattle.session_spec.specs.lemmas.Conditions.{borne_on, still_sound, left_out_once}
 use Rattle.array_core.specs.Holding.{AgreesWith}
-use Rattle.array_core.proofs.Losses.{sound_since}
+use Rattle.array_core.specs.lemmas.Losses.{sound_since}
 use Rattle.array_core.proofs.Standing.{are_sound}
 
 -- ---- conditions in which no more is sound, and nothing more left out

@@ -12,14 +12,14 @@ use Rattle.boot_codec.specs.Spelling.{spelling}
 use Rattle.boot_codec.specs.Region.{BootSlot, other_slot, body_in, shown_by, generation_in, Yields}
 use Rattle.array_spec.specs.Standing.{MayBeGiven}
 use Rattle.array_spec.specs.Laws.{IsHeld, is_sound_vote}
-use Rattle.array_spec.proofs.Votes.{one_is_effective, held_is_given, sound_before}
-use Rattle.array_spec.proofs.Settling.{twice_other}
-use Rattle.array_spec.proofs.Spelled.{spells_one}
+use Rattle.array_spec.specs.lemmas.Votes.{one_is_effective, held_is_given, sound_before}
+use Rattle.array_spec.specs.lemmas.Settling.{twice_other}
+use Rattle.array_spec.specs.lemmas.Spelled.{spells_one}
 use Rattle.world.specs.Shelf.{Shelved, IsShelf}
 use Rattle.world.specs.Losing.{geometry_of}
 use Rattle.boot_region.specs.Members.{IsMember}
 use Rattle.boot_region.proofs.Composing.{is_sound_is, votes_not}
-use Rattle.boot_region.proofs.ShownLemmas.{shown_body}
+use Rattle.boot_region.specs.lemmas.Shown.{shown_body}
 use Rattle.register.specs.declared.state.Register.{Register}
 use Rattle.register.specs.Registers.{drives_of, own_slot, next_slot, named_sound}
 use Rattle.register.specs.Standing.{Content, IsOpen}

@@ -12,7 +12,7 @@ use Rattle.pur_base.specs.Sectors.{filled}
 use Rattle.pur_base.specs.Visible.{segment, ids_below, is_elided}
 use Rattle.pur_base.specs.Says.{says}
 use Rattle.pur_base.specs.declared.request.Table.TheVariants as table
-use Rattle.pur_base.proofs.SaysLemmas.{says_is}
+use Rattle.pur_base.specs.lemmas.Says.{says_is}
 use Rattle.pur_base.specs.declared.facts.AnyFact.TheVariants as any
 use Rattle.pur_base.specs.declared.facts.AddressFact.{AddressFact}
 use Rattle.pur_base.specs.declared.facts.ObjectFact.{ObjectFact}
@@ -25,7 +25,7 @@ use Rattle.array_spec.specs.Sound.{AreSegmentsSound, AreApart, named_segments, u
 use Rattle.register.specs.Registers.{IsLaterRecord}
 use Rattle.memory_spec.specs.Numbers.{put, next_after, next_after_all}
 use Rattle.memory_spec.specs.Tables.{Tables, facts, patches}
-use Rattle.memory_spec.proofs.Lists.{each_by_recursion, of_each}
+use Rattle.memory_spec.specs.lemmas.Lists.{each_by_recursion, of_each}
 use Rattle.array_memory.specs.Asked.{HasRoomLeft, added, staged_by, staged_count}
 use Rattle.array_memory.specs.Kept.{Kept, IsKept, HasSamePatches}
 use Rattle.array_memory.specs.Lawful.{IsLawful}

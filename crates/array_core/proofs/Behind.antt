@@ -17,8 +17,8 @@ use Rattle.world.specs.Ran.{Runs}
 use Rattle.boot_region.specs.Members.{IsMember}
 use Rattle.register.specs.declared.state.Register.{Register}
 use Rattle.register.specs.Registers.{drives_of}
-use Rattle.register.proofs.FlagLemmas.{in_cut}
-use Rattle.register.proofs.Stores.{fewer_cut}
+use Rattle.register.specs.lemmas.Flags.{in_cut}
+use Rattle.register.specs.lemmas.Stores.{fewer_cut}
 use Rattle.memory_spec.specs.Memory.{Contents}
 use Rattle.memory_spec.specs.Contents.{AreAmong}
 use Rattle.array_core.specs.Changing.{LeavesFewer}

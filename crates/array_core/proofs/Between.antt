@@ -11,15 +11,15 @@ use Rattle.boot_codec.specs.Region.{BootSlot, shown_by, names}
 use Rattle.array_spec.specs.Standing.{Stands, MayBeGiven, MayAppear}
 use Rattle.array_spec.specs.Laws.{IsHeld}
 use Rattle.array_spec.specs.Unflushed.{LogLies, NamesSound}
-use Rattle.array_spec.proofs.Votes.{held_is_given, sound_before}
+use Rattle.array_spec.specs.lemmas.Votes.{held_is_given, sound_before}
 use Rattle.array_spec.proofs.Held.{held_stands}
 use Rattle.array_spec.specs.Held.{TablesHold, NamesNoneLeftOut}
-use Rattle.array_spec.proofs.Reading.{record_is_read}
+use Rattle.array_spec.specs.lemmas.Reading.{record_is_read}
 use Rattle.world.specs.Shelf.{Shelved, IsShelf}
 use Rattle.world.specs.Losing.{geometry_of}
 use Rattle.boot_region.specs.Members.{IsMember}
 use Rattle.boot_region.proofs.Composing.{as_it_is}
-use Rattle.boot_region.proofs.ShownLemmas.{shown_body}
+use Rattle.boot_region.specs.lemmas.Shown.{shown_body}
 use Rattle.nvram_log.specs.Members as nv
 use Rattle.nvram_log.specs.Slots.{IsBetween}
 use Rattle.register.specs.declared.state.Register.{Register}
@@ -28,7 +28,7 @@ use Rattle.register.specs.Standing.{Content, IsOpen}
 use Rattle.array_core.specs.Logging.{LeadTo}
 use Rattle.array_core.proofs.Reopened.{not_spent, nvram_named}
 use Rattle.array_core.proofs.Alone.{alone_in, held}
-use Rattle.array_spec.proofs.UnflushedRead.{was_left_out}
+use Rattle.array_spec.specs.lemmas.UnflushedRead.{was_left_out}
 use Rattle.register.proofs.Opened.{is_left, is_named}
 
 module _ (shelf : Shelved) (is : IsShelf shelf) (h : shelf.honest) (r : Register) (nvrams : List Bool) (content : Content) (o : IsOpen shelf r nvrams content) (image : Image) (later : Conditions)

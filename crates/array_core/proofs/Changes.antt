@@ -18,7 +18,7 @@ use Rattle.register.specs.Registers.{IsLaterRecord, drives_of}
 use Rattle.register.specs.Standing.{Content}
 use Rattle.register.specs.Storing.{DropsOnlyFailed, IsUnstored}
 use Rattle.register.specs.Tables.{with_tables}
-use Rattle.register.proofs.Stores.{on_err}
+use Rattle.register.specs.lemmas.Stores.{on_err}
 use Rattle.memory_spec.specs.Memory.{Contents}
 use Rattle.array_core.specs.declared.array.Array.{Array}
 use Rattle.array_core.specs.Changing.{KeepsTables, LeavesFewer, OnlyFaults}

@@ -13,16 +13,16 @@ use Rattle.boot_codec.specs.Spelling.{spelling}
 use Rattle.boot_codec.specs.Region.{BootSlot, body_in, generation_in, names, other_slot, shown_by, Yields}
 use Rattle.log_codec.specs.Log.{ShowsIn}
 use Rattle.array_spec.specs.Standing.{Stands, MayBeGiven}
-use Rattle.array_spec.proofs.Settling.{twice_other}
-use Rattle.array_spec.proofs.Votes.{sound_before}
+use Rattle.array_spec.specs.lemmas.Settling.{twice_other}
+use Rattle.array_spec.specs.lemmas.Votes.{sound_before}
 use Rattle.world.specs.Losing.{geometry_of, has_risen}
 use Rattle.world.specs.Shelf.{Shelved, Stop, Disk, IsShelf, Continues, MayStop, MayLeave, LeavesOnly}
 use Rattle.world.specs.Writes.{LeavesBut, WritesOnly}
-use Rattle.world.proofs.Moments.{then_run, weaker}
-use Rattle.world.proofs.Stopped.{as_read}
+use Rattle.world.specs.lemmas.Moments.{then_run, weaker}
+use Rattle.world.specs.lemmas.Stopped.{as_read}
 use Rattle.boot_region.specs.Members.{IsMember}
 use Rattle.boot_region.specs.Storing.{IsInForceOn, IsOlder, StandsBut}
-use Rattle.boot_region.proofs.Accounts.{losing_within}
+use Rattle.boot_region.specs.lemmas.Accounts.{losing_within}
 use Rattle.boot_region.proofs.Phases.{risen_on_way}
 use Rattle.nvram_log.specs.declared.log.NvLog.{NvLog}
 use Rattle.nvram_log.specs.Held.{HoldsOn, Keeps, LeavesBetween}
@@ -30,14 +30,14 @@ use Rattle.nvram_log.specs.Members as nv
 use Rattle.register.specs.declared.state.Register.{Register}
 use Rattle.register.specs.Registers.{OnSlots, drives_of, own_slot, next_slot, named_sound}
 use Rattle.register.specs.Standing.{Content, GivesOldOrNext, StandsInLog, MayStore, IsOpen, array_of}
-use Rattle.register.proofs.Shows.{holds_shows}
+use Rattle.register.specs.lemmas.Shows.{holds_shows}
 use Rattle.array_core.specs.Logging.{LeadTo, StandsWhateverFails, WritesLog}
 use Rattle.array_core.proofs.Between as between
 use Rattle.array_core.proofs.Logged.{log_writes_stand, log_writes_keep, log_writes_leave}
 use Rattle.array_core.proofs.Standing.{member_clean, member_sound}
 use Rattle.array_core.specs.Losing.{lost_since, lost_by}
 use Rattle.array_core.specs.Performing.{IsKeptAt}
-use Rattle.array_core.proofs.Losses.{sound_since}
+use Rattle.array_core.specs.lemmas.Losses.{sound_since}
 use Rattle.array_core.proofs.FreeWrites.{log_member, off_slots}
 use Rattle.array_core.proofs.Logged.{nothing_else}
 use Rattle.array_core.proofs.Keeping.{IsReadable, KeptNamed, both_not, goes_on, kept}
@@ -45,7 +45,7 @@ use Rattle.array_core.proofs.Storing as storing
 use Rattle.nvram_log.proofs.SettledEach.{both_leave}
 use Rattle.register.proofs.Opened.{is_left, is_named}
 use Rattle.register.proofs.Rounds.{same_shelf}
-use Rattle.session_spec.proofs.Conditions.{left_out_once}
+use Rattle.session_spec.specs.lemmas.Conditions.{left_out_once}
 
 -- what a stop leaves of NVRAM devices, with the drives as they are
 abbrev nvrams_at : Shelved → Stop → Image

@@ -12,14 +12,14 @@ use Rattle.world.specs.Counts.{Rises}
 use Rattle.world.specs.Losing.{has_risen}
 use Rattle.world.specs.Shelf.{Shelved, Disk, IsCountedBy, LeavesOnly}
 use Rattle.world.specs.Writes.{WritesOnly}
-use Rattle.world.proofs.Moments.{weaker}
+use Rattle.world.specs.lemmas.Moments.{weaker}
 use Rattle.boot_region.specs.Members.{IsMember, DroppedFailed}
 use Rattle.boot_region.proofs.Phases.{risen_on_way}
-use Rattle.boot_region.proofs.ShownLemmas.{member_below}
+use Rattle.boot_region.specs.lemmas.Shown.{member_below}
 use Rattle.nvram_log.specs.Members as nv
 use Rattle.register.specs.declared.state.Register.{Register}
 use Rattle.register.specs.Registers.{IsRegisterOf, IsLaterRecord, drives_of}
-use Rattle.register.proofs.FlagLemmas.{few_set, fewer_count, in_cut, cut_in}
+use Rattle.register.specs.lemmas.Flags.{few_set, fewer_count, in_cut, cut_in}
 use Rattle.session_spec.specs.Faring.{MayRise}
 use Rattle.array_core.specs.declared.array.Array.{Array}
 use Rattle.array_core.specs.Holding.{IsHolder, DropsFailedBy, NoneJoins}

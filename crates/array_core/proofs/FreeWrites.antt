@@ -10,33 +10,33 @@ use Rattle.boot_codec.specs.Spelling.{spelling}
 use Rattle.boot_codec.specs.Region.{BootSlot, A, B, body_in, body_place, gate_place, generation_in, names, other_slot, shown_by, Yields}
 use Rattle.log_codec.specs.Log.{ShowsIn}
 use Rattle.array_spec.specs.Standing.{MayBeGiven}
-use Rattle.array_spec.proofs.Quiet.{bytes_same}
-use Rattle.array_spec.proofs.Standings.{more_may_go_missing}
+use Rattle.array_spec.specs.lemmas.Quiet.{bytes_same}
+use Rattle.array_spec.specs.lemmas.Standings.{more_may_go_missing}
 use Rattle.world.specs.Losing.{geometry_of, has_risen}
 use Rattle.world.specs.Shelf.{Shelved, Disk, Stop, IsShelf, IsInSome, MayStop}
 use Rattle.world.specs.declared.shelf.Span.{Span}
 use Rattle.world.specs.Writes.{LeavesBut}
-use Rattle.world.proofs.Moments.{weaker}
-use Rattle.world.proofs.Writes.{may_leave_but, counted_then}
-use Rattle.world.proofs.Stopped.{as_read}
+use Rattle.world.specs.lemmas.Moments.{weaker}
+use Rattle.world.specs.lemmas.Writes.{may_leave_but, counted_then}
+use Rattle.world.specs.lemmas.Stopped.{as_read}
 use Rattle.boot_region.specs.Members.{IsMember}
 use Rattle.boot_region.specs.Storing.{IsOlder}
-use Rattle.boot_region.proofs.Accounts.{losing_within}
+use Rattle.boot_region.specs.lemmas.Accounts.{losing_within}
 use Rattle.boot_region.proofs.Phases.{risen_on_way}
-use Rattle.boot_region.proofs.ShownLemmas.{member_below}
+use Rattle.boot_region.specs.lemmas.Shown.{member_below}
 use Rattle.nvram_log.specs.Members as nv
 use Rattle.register.specs.declared.state.Register.{Register}
 use Rattle.register.specs.Registers.{OnSlots, drives_of, named_sound, next_slot}
 use Rattle.register.specs.Standing.{Content, IsOpen, MayStore, array_of}
-use Rattle.register.proofs.FlagLemmas.{in_cut, cut_in}
-use Rattle.register.proofs.Stores.{fewer_cut}
+use Rattle.register.specs.lemmas.Flags.{in_cut, cut_in}
+use Rattle.register.specs.lemmas.Stores.{fewer_cut}
 use Rattle.array_core.specs.Free.{OnFree, WritesFree, AreSynced, IsKnownOf}
 use Rattle.array_core.proofs.Kept.{free_writes_may_store}
 use Rattle.array_core.proofs.Standing.{member_clean, member_sound, still}
 use Rattle.array_core.specs.Losing.{lost_since, lost_by}
 use Rattle.array_core.specs.Performing.{IsKeptAt}
 use Rattle.array_core.proofs.Commands.{is_of_all}
-use Rattle.array_core.proofs.Losses.{sound_since}
+use Rattle.array_core.specs.lemmas.Losses.{sound_since}
 use Rattle.array_core.specs.Meanwhile.{AreInForce, FreeWritesGoOn}
 use Rattle.array_core.specs.Switching.{WroteFree}
 use Rattle.array_core.proofs.Alone.{alone_in}
@@ -46,7 +46,7 @@ use Rattle.array_core.proofs.Logged.{nothing_else}
 use Rattle.array_core.proofs.Kept.{not_free}
 use Rattle.register.proofs.Opened.{is_left, is_named}
 use Rattle.register.proofs.Rounds.{same_shelf}
-use Rattle.session_spec.proofs.Conditions.{left_out_once}
+use Rattle.session_spec.specs.lemmas.Conditions.{left_out_once}
 
 body_low : (slot : BootSlot) → body_place slot + 65536 ≤ 196608
 body_low A = omega arith

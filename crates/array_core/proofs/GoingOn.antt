@@ -6,13 +6,13 @@ use Rattle.pur_base.specs.Plain as plain
 use Rattle.pur_base.specs.Commands.{Command, after_all}
 use Rattle.world.specs.Losing.{geometry_of, has_risen}
 use Rattle.world.specs.Shelf.{Shelved, Stop, IsCountedBy, Continues, LeavesOnly}
-use Rattle.world.proofs.Moments.{continues_trans, then_run, weaker}
+use Rattle.world.specs.lemmas.Moments.{continues_trans, then_run, weaker}
 use Rattle.memory_spec.specs.Memory.{Contents, ReadsAs}
 use Rattle.session_spec.specs.Entering.{IsStanding}
 use Rattle.array_core.specs.declared.array.Array.{Array}
 use Rattle.array_core.specs.Holding.{IsHolder}
 use Rattle.array_core.specs.Losing.{lost_by, lost_since}
-use Rattle.array_core.proofs.Losses.{lost_twice, lost_twice_by, sound_since}
+use Rattle.array_core.specs.lemmas.Losses.{lost_twice, lost_twice_by, sound_since}
 use Rattle.array_core.specs.Going.{Calls, Causes, GoesOnAt}
 use Rattle.array_core.specs.Goes.{Goes, GoesOnMeanwhile, Halts, Holds, ReadsOn}
 use Rattle.array_core.proofs.OnWay.{accepted_more, after_more, on_first, on_second}

@@ -12,11 +12,11 @@ use Rattle.array_core.specs.declared.array.Array.{Array}
 use Rattle.array_core.specs.Ready.{IsReady}
 use Rattle.array_core.specs.Holding.{IsHolder}
 use Rattle.array_core.specs.Losing.{lost_since}
-use Rattle.array_core.proofs.Losses.{sound_since}
+use Rattle.array_core.specs.lemmas.Losses.{sound_since}
 use Rattle.array_core.proofs.Lost.{not_risen}
 use Rattle.array_core.proofs.ReadyStands.{ready_holds, ready_names}
 use Rattle.array_core.specs.Going.{AgreesFor, Causes, HandsOn}
-use Rattle.session_spec.proofs.Conditions.{left_out_once}
+use Rattle.session_spec.specs.lemmas.Conditions.{left_out_once}
 
 pub unless : (b : Bool) → (b ≡ true → ⊥) → b ≡ false
 unless true refuse = absurd (refuse refl)

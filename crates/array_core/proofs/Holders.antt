@@ -9,7 +9,7 @@ use Rattle.boot_region.specs.Members.{IsMember, IsOneOf, IsDrive, DroppedFailed}
 use Rattle.nvram_log.specs.Members as nv
 use Rattle.register.specs.declared.state.Register.{Register}
 use Rattle.register.specs.Registers.{IsRegisterOf, OnSlots, drives_of}
-use Rattle.register.proofs.Stores.{fewer_cut, on_more}
+use Rattle.register.specs.lemmas.Stores.{fewer_cut, on_more}
 use Rattle.array_core.specs.Holding.{DropsFailedBy, IsHolderBy, NoneJoinsBy}
 use Rattle.array_core.specs.Performing.{IsLostBy}
 use Rattle.array_core.specs.Switching.{OnSlotsAndLog}

@@ -14,18 +14,18 @@ use Rattle.world.specs.Counts.{Rises}
 use Rattle.world.specs.Losing.{geometry_of, has_risen, losing}
 use Rattle.world.specs.Shelf.{Shelved, Stop, Continues, IsCountedBy, LeavesOnly}
 use Rattle.world.specs.Writes.{WritesOnly}
-use Rattle.world.proofs.Moments.{weaker}
+use Rattle.world.specs.lemmas.Moments.{weaker}
 use Rattle.boot_region.proofs.Phases.{risen_on_way}
 use Rattle.register.specs.Registers.{named_sound}
 use Rattle.register.proofs.Again.{not_risen_since}
 use Rattle.array_core.proofs.Standing.{are_sound}
 use Rattle.session_spec.specs.Entering.{IsStanding}
-use Rattle.session_spec.proofs.Conditions.{borne_on, still_sound, left_out_once}
+use Rattle.session_spec.specs.lemmas.Conditions.{borne_on, still_sound, left_out_once}
 use Rattle.array_core.specs.Holding.{AgreesWith}
 use Rattle.array_core.specs.Losing.{lost_by}
 use Rattle.array_core.specs.Performing.{IsKeptAt}
 use Rattle.array_core.proofs.Agreeing.{lost_out, unnamed_is, named_bears, agreed_standing, standing_in}
-use Rattle.array_core.proofs.Losses.{sound_since}
+use Rattle.array_core.specs.lemmas.Losses.{sound_since}
 use Rattle.nvram_log.proofs.SettledEach.{both_leave}
 use Rattle.register.proofs.Opened.{is_left, is_named}
 use Rattle.register.proofs.Rounds.{same_shelf}

@@ -5,7 +5,6 @@ pub mod Kept
 pub mod Between
 pub mod Logged
 pub mod Applied
-pub mod Losses
 pub mod Commands
 pub mod Agreeing
 pub mod Appended

@@ -8,14 +8,14 @@ use Rattle.pur_base.specs.declared.device.Device.TheVariants as dev
 use Rattle.pur_base.specs.Plain.{Array}
 use Rattle.boot_codec.specs.Spelling.{spelling}
 use Rattle.boot_codec.specs.Region.{BootSlot, IsRecordOf, body_in, generation_in, other_slot, shown_by, Yields}
-use Rattle.array_spec.proofs.Settling.{twice_other}
+use Rattle.array_spec.specs.lemmas.Settling.{twice_other}
 use Rattle.array_spec.specs.Held.{TablesHold}
-use Rattle.array_spec.proofs.Next.{same_drives_hold}
+use Rattle.array_spec.specs.lemmas.Next.{same_drives_hold}
 use Rattle.world.specs.Shelf.{Shelved, Disk, Stop, MayLeave, MayStop, IsShelf}
 use Rattle.world.specs.Losing.{geometry_of}
 use Rattle.world.specs.Writes.{LeavesBut, MayLeaveBut}
-use Rattle.world.proofs.Moments.{weaker}
-use Rattle.world.proofs.Stopped.{as_read}
+use Rattle.world.specs.lemmas.Moments.{weaker}
+use Rattle.world.specs.lemmas.Stopped.{as_read}
 use Rattle.boot_region.specs.Members.{IsMember}
 use Rattle.boot_region.specs.Storing.{Shows, IsOlder}
 use Rattle.nvram_log.specs.Held.{LeavesBetween}

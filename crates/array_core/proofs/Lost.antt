@@ -6,8 +6,8 @@ use Rattle.std.proofs.lemmas.Bool.{cases_Bool}
 use Rattle.pur_base.specs.declared.device.Device.{Device}
 use Rattle.pur_base.specs.Devices.{Geometry, Conditions, Sound, is_missing, IsBearable, drive, nvram}
 use Rattle.boot_codec.specs.Record.{set_count}
-use Rattle.array_spec.proofs.UnflushedRead.{one_left}
-use Rattle.array_spec.proofs.Votes.{counted, not_missing}
+use Rattle.array_spec.specs.lemmas.UnflushedRead.{one_left}
+use Rattle.array_spec.specs.lemmas.Votes.{counted, not_missing}
 use Rattle.world.specs.Counts.{Rises}
 use Rattle.world.specs.Shelf.{Shelved}
 use Rattle.world.specs.Losing.{geometry_of, has_risen}
@@ -19,7 +19,7 @@ use Rattle.array_core.specs.declared.array.Array.{Array}
 use Rattle.array_core.specs.Holding.{IsHolder}
 use Rattle.array_core.specs.Losing.{lost_since}
 use Rattle.array_core.specs.Performing.{IsLost, LostLog, LostDrives}
-use Rattle.array_core.proofs.Losses.{sound_since}
+use Rattle.array_core.specs.lemmas.Losses.{sound_since}
 
 -- of so many drives each is one of the bad ones, or has a flag
 pub enough : (bad : ℕ → Bool) (flags : List Bool) (a n : ℕ) → ((i : ℕ) → i < n → (bad (a + i) ≡ true) ⊎ IsMember flags i) → n ≤ count_by bad (range_with_len a n) + count_by (λ b. b) flags

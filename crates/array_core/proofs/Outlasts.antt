@@ -8,11 +8,11 @@ use Rattle.pur_base.specs.Commands.{Command}
 use Rattle.pur_base.specs.Plain.{Array}
 use Rattle.boot_codec.specs.Region.{names}
 use Rattle.array_spec.specs.Standing.{Stands}
-use Rattle.array_spec.proofs.Standings.{within_twice}
-use Rattle.array_spec.proofs.Votes.{counted}
+use Rattle.array_spec.specs.lemmas.Standings.{within_twice}
+use Rattle.array_spec.specs.lemmas.Votes.{counted}
 use Rattle.world.specs.Losing.{geometry_of}
 use Rattle.world.specs.Shelf.{Shelved, LeavesOnly}
-use Rattle.world.proofs.Moments.{then_run, weaker}
+use Rattle.world.specs.lemmas.Moments.{then_run, weaker}
 use Rattle.boot_region.specs.Storing.{StandsAgain}
 use Rattle.boot_region.proofs.Composing.{as_it_is}
 use Rattle.boot_region.proofs.Stored.{lost, lost_within, never_sound}
@@ -21,7 +21,7 @@ use Rattle.nvram_log.specs.Members as nv
 use Rattle.register.specs.declared.state.Register.{Register}
 use Rattle.register.specs.Registers.{named_sound}
 use Rattle.register.specs.Standing.{Content, IsFirm, MayStore}
-use Rattle.register.proofs.Stores.{members_sound}
+use Rattle.register.specs.lemmas.Stores.{members_sound}
 use Rattle.array_core.specs.Ready.{logged}
 use Rattle.array_core.specs.Performing.{StandsOnceBack, without_or_with}
 use Rattle.array_core.proofs.Appended as appended

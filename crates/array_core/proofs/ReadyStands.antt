@@ -11,14 +11,14 @@ use Rattle.boot_codec.specs.Region.{names}
 use Rattle.log_codec.specs.Log.{ShowsIn}
 use Rattle.world.specs.Losing.{geometry_of}
 use Rattle.world.specs.Shelf.{Shelved, Stop, MayStop}
-use Rattle.world.proofs.Stopped.{as_read}
+use Rattle.world.specs.lemmas.Stopped.{as_read}
 use Rattle.boot_region.specs.Members.{IsMember}
-use Rattle.boot_region.proofs.ShownLemmas.{member_below}
+use Rattle.boot_region.specs.lemmas.Shown.{member_below}
 use Rattle.nvram_log.specs.Members as nv
 use Rattle.register.specs.declared.state.Register.{Register}
 use Rattle.register.specs.Registers.{drives_of, named_sound}
 use Rattle.register.specs.Standing.{Content, IsOpen, array_of}
-use Rattle.register.proofs.FlagLemmas.{in_cut, cut_in, none_past}
+use Rattle.register.specs.lemmas.Flags.{in_cut, cut_in, none_past}
 use Rattle.session_spec.specs.Entering.{IsStanding, LeftOutAreNamedByNone, AreRead}
 use Rattle.array_core.specs.declared.array.Array.{Array}
 use Rattle.array_core.specs.Ready.{IsReady}

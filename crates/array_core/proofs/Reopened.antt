@@ -9,7 +9,7 @@ use Rattle.pur_base.specs.Plain.{Array}
 use Rattle.boot_codec.specs.declared.record.BootRecord.{BootRecord}
 use Rattle.boot_codec.specs.Spelling.{spelling}
 use Rattle.boot_codec.specs.Region.{names, other_slot}
-use Rattle.array_spec.proofs.Votes.{counted}
+use Rattle.array_spec.specs.lemmas.Votes.{counted}
 use Rattle.world.specs.Shelf.{Shelved, Stop, MayStop, IsShelf, Continues}
 use Rattle.world.specs.Losing.{geometry_of}
 use Rattle.boot_region.specs.Members.{IsMember}

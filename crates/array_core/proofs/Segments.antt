@@ -14,17 +14,17 @@ use Rattle.boot_codec.specs.declared.record.BootRecord.{BootRecord}
 use Rattle.segment_codec.specs.Position.{stripe_of}
 use Rattle.segment_codec.specs.Stripes.{SectorStands}
 use Rattle.array_spec.specs.Sound.{ArePlaces}
-use Rattle.array_spec.proofs.Fewer.{places_keep}
-use Rattle.array_spec.proofs.Moves.{Keeps, SameUnit, SameUnits, same_units_keep}
-use Rattle.array_spec.proofs.Quiet.{bytes_same}
-use Rattle.array_spec.proofs.Votes.{counted}
+use Rattle.array_spec.specs.lemmas.Fewer.{places_keep}
+use Rattle.array_spec.specs.lemmas.Moves.{Keeps, SameUnit, SameUnits, same_units_keep}
+use Rattle.array_spec.specs.lemmas.Quiet.{bytes_same}
+use Rattle.array_spec.specs.lemmas.Votes.{counted}
 use Rattle.memory_spec.specs.Memory.{Contents}
 use Rattle.world.specs.Shelf.{Shelved, Disk}
 use Rattle.world.specs.Writes.{WritesOnly}
 use Rattle.boot_region.specs.Members.{IsMember}
 use Rattle.register.specs.declared.state.Register.{Register}
 use Rattle.register.specs.Registers.{IsLaterRecord, IsRegisterOf, OnSlots, drives_of}
-use Rattle.register.proofs.FlagLemmas.{cut_in, fewer_count, none_past}
+use Rattle.register.specs.lemmas.Flags.{cut_in, fewer_count, none_past}
 use Rattle.array_core.specs.Drives.{SegmentsHold, drives_view}
 
 -- ---- views

@@ -11,7 +11,7 @@ use Rattle.world.specs.Counts.{Rises}
 use Rattle.world.specs.Losing.{geometry_of}
 use Rattle.world.specs.Shelf.{Shelved, IsShelf, Continues}
 use Rattle.world.specs.Writes.{WritesOnly}
-use Rattle.world.proofs.Moments.{continues_refl}
+use Rattle.world.specs.lemmas.Moments.{continues_refl}
 use Rattle.boot_region.specs.Members.{IsMember, DroppedFailed, LostWrites}
 use Rattle.nvram_log.specs.Held.{HoldsOn}
 use Rattle.nvram_log.specs.Members as nv
@@ -20,14 +20,14 @@ use Rattle.register.specs.declared.tables.Tables.{Tables}
 use Rattle.register.specs.Registers.{IsLaterRecord, IsRegisterOf, OnSlots, drives_of}
 use Rattle.register.specs.Standing.{Content, IsOpen}
 use Rattle.register.specs.Tables.{IsPlanOf, KeepsArray, with_tables}
-use Rattle.register.proofs.FlagLemmas.{in_cut}
+use Rattle.register.specs.lemmas.Flags.{in_cut}
 use Rattle.register.proofs.Rounds.{cut_drives, same_shelf}
 use Rattle.array_core.proofs.Kept.{plans_stand}
 use Rattle.array_core.proofs.Standing.{member_clean}
 use Rattle.array_core.specs.Switching.{AreLost}
 use Rattle.array_core.proofs.Keeping.{CameAfter}
 use Rattle.array_core.proofs.LostOnWay.{rises_since}
-use Rattle.array_spec.proofs.Next.{data_moves}
+use Rattle.array_spec.specs.lemmas.Next.{data_moves}
 use Rattle.array_core.proofs.Moved.{only_boot}
 
 -- ---- results

@@ -10,20 +10,20 @@ use Rattle.array_spec.specs.Laws.{DiffersOnlyIn, IsUnused}
 use Rattle.array_spec.specs.Standing.{Stands}
 use Rattle.array_spec.specs.Stored.{all_facts}
 use Rattle.array_spec.specs.Unflushed.{NamesSound}
-use Rattle.array_spec.proofs.Quiet.{quiet_writes}
-use Rattle.array_spec.proofs.Standings.{more_may_go_missing}
+use Rattle.array_spec.specs.lemmas.Quiet.{quiet_writes}
+use Rattle.array_spec.specs.lemmas.Standings.{more_may_go_missing}
 use Rattle.array_spec.specs.Held.{NamesNoneLeftOut}
 use Rattle.array_spec.proofs.Free.{free_is_unused}
 use Rattle.world.specs.Shelf.{Shelved, Stop, IsShelf, IsOf}
 use Rattle.world.specs.Losing.{geometry_of}
 use Rattle.world.specs.Writes.{LeavesBut}
-use Rattle.world.proofs.Moments.{weaker}
+use Rattle.world.specs.lemmas.Moments.{weaker}
 use Rattle.boot_region.specs.Members.{IsMember}
 use Rattle.register.specs.declared.state.Register.{Register}
 use Rattle.register.specs.Registers.{drives_of, named_sound, own_slot}
 use Rattle.register.specs.Standing.{Content, IsOpen, array_of}
 use Rattle.register.specs.Tables.{StandsAsBefore}
-use Rattle.register.proofs.FlagLemmas.{in_cut}
+use Rattle.register.specs.lemmas.Flags.{in_cut}
 use Rattle.array_core.specs.Free.{OnFree}
 use Rattle.array_core.specs.Laws.{FreeWritesStand}
 use Rattle.array_core.proofs.Before.{at_before, before_stops, as_before, differs}

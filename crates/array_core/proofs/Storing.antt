@@ -14,7 +14,7 @@ use Rattle.array_spec.specs.Standing.{Stands, MayBeGiven}
 use Rattle.world.specs.Losing.{geometry_of, has_risen}
 use Rattle.world.specs.Shelf.{Shelved, Stop, MayStop, Continues, LeavesOnly}
 use Rattle.world.specs.Writes.{LeavesBut, WritesOnly}
-use Rattle.world.proofs.Moments.{weaker}
+use Rattle.world.specs.lemmas.Moments.{weaker}
 use Rattle.boot_region.specs.Members.{IsMember}
 use Rattle.boot_region.specs.Storing.{AccountsFor, IsOlder, StandsBut}
 use Rattle.nvram_log.specs.Members as nv
@@ -25,7 +25,7 @@ use Rattle.register.proofs.Again.{not_risen_since}
 use Rattle.array_core.specs.Losing.{lost_since, lost_by}
 use Rattle.array_core.specs.Performing.{IsKeptAt}
 use Rattle.array_core.proofs.Agreeing.{named_bears}
-use Rattle.array_core.proofs.Losses.{bearable_or_not, by_stop, fewer_borne, sound_since}
+use Rattle.array_core.specs.lemmas.Losses.{bearable_or_not, by_stop, fewer_borne, sound_since}
 use Rattle.array_core.proofs.Keeping.{IsReadable, KeptNamed, goes_on, kept}
 use Rattle.nvram_log.proofs.SettledEach.{both_leave}
 use Rattle.register.proofs.Rounds.{same_shelf}

@@ -13,10 +13,10 @@ use Rattle.array_spec.specs.Standing.{MayBeGiven}
 use Rattle.world.specs.Losing.{geometry_of, has_risen}
 use Rattle.world.specs.Shelf.{Shelved, Disk, Stop, IsShelf, LeavesOnly}
 use Rattle.world.specs.Writes.{LeavesBut, WritesOnly}
-use Rattle.world.proofs.Moments.{weaker}
-use Rattle.world.proofs.Stopped.{as_read}
+use Rattle.world.specs.lemmas.Moments.{weaker}
+use Rattle.world.specs.lemmas.Stopped.{as_read}
 use Rattle.boot_region.specs.Storing.{AccountsFor}
-use Rattle.boot_region.proofs.Accounts.{losing_within}
+use Rattle.boot_region.specs.lemmas.Accounts.{losing_within}
 use Rattle.nvram_log.specs.Held.{HoldsOn}
 use Rattle.nvram_log.specs.Members as nv
 use Rattle.nvram_log.specs.Slots.{IsLog}
@@ -31,7 +31,7 @@ use Rattle.array_core.proofs.Standing.{member_sound}
 use Rattle.array_core.specs.Losing.{lost_by}
 use Rattle.array_core.specs.Performing.{IsKeptAt}
 use Rattle.array_core.proofs.Commands.{is_of_all}
-use Rattle.array_core.proofs.Losses.{sound_since}
+use Rattle.array_core.specs.lemmas.Losses.{sound_since}
 use Rattle.array_core.specs.Meanwhile.{AreInForce}
 use Rattle.array_core.proofs.FreeWrites.{log_member}
 use Rattle.array_core.proofs.Logged.{nothing_else}

@@ -7,7 +7,7 @@ use Rattle.world.specs.Losing.{geometry_of}
 use Rattle.world.specs.Shelf.{Shelved, IsShelf, Continues, LeavesOnly}
 use Rattle.world.specs.Writes.{WritesOnly}
 use Rattle.world.specs.Ran.{Runs}
-use Rattle.world.proofs.Moments.{continues_trans}
+use Rattle.world.specs.lemmas.Moments.{continues_trans}
 use Rattle.boot_region.specs.Members.{IsDrive, IsMember, DroppedFailed}
 use Rattle.nvram_log.specs.declared.log.NvLog.{NvLog}
 use Rattle.nvram_log.specs.Held.{HoldsOn}
@@ -19,8 +19,8 @@ use Rattle.register.specs.Giving.{GivesOldOrTables}
 use Rattle.register.specs.Registers.{IsLaterRecord, IsRegisterOf, OnSlots, drives_of}
 use Rattle.register.specs.Standing.{Content, IsOpen, array_of}
 use Rattle.register.specs.Tables.{IsPlanOf, KeepsArray, StandsAsBefore, with_tables}
-use Rattle.register.proofs.FlagLemmas.{in_cut}
-use Rattle.register.proofs.Stores.{fewer_cut}
+use Rattle.register.specs.lemmas.Flags.{in_cut}
+use Rattle.register.specs.lemmas.Stores.{fewer_cut}
 use Rattle.array_core.specs.Performing.{IsKeptAt, LostDrives}
 use Rattle.array_core.specs.Changing.{IsOpenOn}
 use Rattle.array_core.specs.Switching.{AreLost, MaySwitch}

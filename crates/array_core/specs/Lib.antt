@@ -14,3 +14,4 @@ pub mod Committing
 pub mod Meanwhile
 pub mod Switching
 pub mod Taking
+pub mod lemmas

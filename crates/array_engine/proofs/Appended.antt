@@ -10,7 +10,7 @@ use Rattle.array_core.specs.Ready.{IsArrayOf}
 use Rattle.array_core.specs.Going.{by_faults}
 use Rattle.array_core.specs.Goes.{Goes}
 use Rattle.array_core.specs.Performing.{HasLogged}
-use Rattle.array_core.proofs.Losses.{risen_more}
+use Rattle.array_core.specs.lemmas.Losses.{risen_more}
 use Rattle.array_checkpoint.specs.declared.room.Room.{Room}
 use Rattle.array_checkpoint.specs.Made.{HasFlushed}
 use Rattle.array_checkpoint.specs.Prepared.{IsLike}

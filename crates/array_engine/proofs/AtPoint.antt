@@ -14,7 +14,7 @@ use Rattle.boot_codec.specs.Region.{names}
 use Rattle.world.specs.Counts.{Rises}
 use Rattle.world.specs.Losing.{geometry_of}
 use Rattle.world.specs.Shelf.{Shelved, Stop, LeavesOnly}
-use Rattle.world.proofs.Moments.{weaker}
+use Rattle.world.specs.lemmas.Moments.{weaker}
 use Rattle.register.specs.Registers.{named_sound}
 use Rattle.register.specs.Standing.{Content, array_of}
 use Rattle.memory_spec.specs.Tables.{facts, patches}
@@ -26,7 +26,7 @@ use Rattle.array_core.specs.Holding.{IsHolder}
 use Rattle.array_core.specs.Going.{by_faults, AgreesFor, GoesOnAt, IsOnWay}
 use Rattle.array_core.specs.Goes.{Goes, GoesOnMeanwhile, Halts, ReadsOn}
 use Rattle.array_core.proofs.HandingOn.{unless}
-use Rattle.array_core.proofs.Losses.{sound_since}
+use Rattle.array_core.specs.lemmas.Losses.{sound_since}
 use Rattle.array_core.proofs.Lost.{not_risen}
 use Rattle.array_core.proofs.ReadyStands.{agrees_named}
 use Rattle.array_checkpoint.specs.Prepared.{IsLike}
@@ -38,7 +38,7 @@ use Rattle.array_engine.specs.Saying.{Says}
 use Rattle.array_engine.specs.Appending.{failed_in, lost_in}
 use Rattle.array_engine.specs.Engines.{IsAnsweredAt, IsAt, IsKeptBy, MayBeDone, StandsAt, point_after}
 use Rattle.array_engine.proofs.Points.{KeepsReady, KeepsSegments, answered_refused}
-use Rattle.session_spec.proofs.Conditions.{left_out_once}
+use Rattle.session_spec.specs.lemmas.Conditions.{left_out_once}
 
 -- ---- it goes on
 

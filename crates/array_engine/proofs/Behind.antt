@@ -7,7 +7,7 @@ use Rattle.world.specs.Shelf.{Shelved}
 use Rattle.world.specs.Losing.{geometry_of}
 use Rattle.memory_spec.specs.Memory.{Contents, ReadsAs}
 use Rattle.memory_spec.specs.Tables.{patches}
-use Rattle.memory_spec.proofs.Patches.{patches_are_all, patches_read}
+use Rattle.memory_spec.specs.lemmas.Patches.{patches_are_all, patches_read}
 use Rattle.memory_spec.proofs.Records.{record_is_sound}
 use Rattle.session_spec.specs.Faring.{Point, IsCheckpointed}
 use Rattle.array_core.specs.declared.array.Array.{Array}

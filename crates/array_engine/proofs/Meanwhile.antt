@@ -10,7 +10,7 @@ use Rattle.pur_base.specs.Plain as plain
 use Rattle.world.specs.Losing.{has_risen}
 use Rattle.world.specs.Shelf.{Shelved, Stop, Disk, IsShelf, IsSame, Continues, LeavesOnly, MayLeave, MayStop}
 use Rattle.world.specs.Writes.{WritesOnly}
-use Rattle.world.proofs.Moments.{started, weaker}
+use Rattle.world.specs.lemmas.Moments.{started, weaker}
 use Rattle.segment_io.specs.Lost.{NoByte}
 use Rattle.register.specs.declared.state.Register.{Register}
 use Rattle.register.specs.Registers.{drives_of}
@@ -30,12 +30,12 @@ use Rattle.array_core.specs.Ready.{IsReady}
 use Rattle.array_core.specs.Going.{by_faults, GoesOnAt, IsOnWay}
 use Rattle.array_core.specs.Goes.{GoesOnMeanwhile, Holds}
 use Rattle.array_core.specs.Losing.{lost_by}
-use Rattle.array_core.proofs.Losses.{sound_since}
+use Rattle.array_core.specs.lemmas.Losses.{sound_since}
 use Rattle.array_core.proofs.ReadyStands.{ready_stands_in}
 use Rattle.array_engine.specs.Engines.{IsKeptBy}
 use Rattle.array_engine.proofs.AtPoint.{kept_same}
 use Rattle.array_engine.proofs.Points.{KeepsReady, KeepsSegments}
-use Rattle.session_spec.proofs.Conditions.{left_out_once}
+use Rattle.session_spec.specs.lemmas.Conditions.{left_out_once}
 
 -- ---- a read
 

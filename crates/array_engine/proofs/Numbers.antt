@@ -12,7 +12,7 @@ use Rattle.pur_base.specs.declared.facts.SegmentFact.{SegmentFact}
 use Rattle.world.specs.Shelf.{Shelved}
 use Rattle.array_spec.specs.Stored.{all_facts}
 use Rattle.memory_spec.specs.Tables.{facts, flushed}
-use Rattle.memory_spec.proofs.Patches.{patches_are_flushed, whole_table}
+use Rattle.memory_spec.specs.lemmas.Patches.{patches_are_flushed, whole_table}
 use Rattle.session_spec.specs.Faring.{Point, data_segments_at, numbers_at}
 use Rattle.array_core.specs.declared.array.Array.{Array}
 use Rattle.array_core.specs.Ready.{IsArrayOf}

@@ -26,14 +26,14 @@ use Rattle.array_core.specs.Drives.{SegmentsHold}
 use Rattle.array_core.specs.Ready.{IsReady}
 use Rattle.array_checkpoint.specs.Prepared.{IsLike}
 use Rattle.array_checkpoint.proofs.Like.{like_is, like_is_ready, roomed_reads}
-use Rattle.array_core.proofs.Losses.{sound_since}
+use Rattle.array_core.specs.lemmas.Losses.{sound_since}
 use Rattle.array_engine.specs.declared.engine.Engine.{Engine}
 use Rattle.array_engine.specs.declared.said.Said.{Said}
 use Rattle.array_engine.specs.declared.said.Said.TheVariants as said
 use Rattle.array_engine.specs.Saying.{Says}
 use Rattle.array_engine.specs.Appending.{failed_in, lost_in}
 use Rattle.array_engine.specs.Engines.{IsAt, StandsAt, IsAnsweredAt, point_after}
-use Rattle.session_spec.proofs.Conditions.{left_out_once}
+use Rattle.session_spec.specs.lemmas.Conditions.{left_out_once}
 
 -- ---- nothing changes
 

@@ -10,7 +10,7 @@ use Rattle.pur_base.specs.Devices.{Sound, drive}
 use Rattle.pur_base.specs.Facts.{Facts, segment_key, never}
 use Rattle.pur_base.specs.Keys.{key_of}
 use Rattle.pur_base.specs.Visible.{is_elided, segment}
-use Rattle.pur_base.proofs.SaysLemmas.{says_is}
+use Rattle.pur_base.specs.lemmas.Says.{says_is}
 use Rattle.boot_codec.specs.declared.patch.PatchSegment.{PatchSegment}
 use Rattle.array_spec.specs.Stored.{all_facts}
 use Rattle.boot_region.specs.Members.{IsMember}
@@ -21,10 +21,10 @@ use Rattle.patch_io.proofs.Parts.{segment_places}
 use Rattle.segment_io.specs.Lost.{is_in}
 use Rattle.register.specs.declared.state.Register.{Register}
 use Rattle.register.specs.Registers.{IsRegisterOf, drives_of}
-use Rattle.register.proofs.FlagLemmas.{cut_in, in_cut}
+use Rattle.register.specs.lemmas.Flags.{cut_in, in_cut}
 use Rattle.memory_spec.specs.Tables.{facts}
-use Rattle.memory_spec.proofs.AllTables.{all_segments}
-use Rattle.memory_spec.proofs.Lists.{each_by_recursion}
+use Rattle.memory_spec.specs.lemmas.AllTables.{all_segments}
+use Rattle.memory_spec.specs.lemmas.Lists.{each_by_recursion}
 use Rattle.session_spec.specs.Faring as faring
 use Rattle.session_spec.specs.Faring.{Point, IsGone}
 use Rattle.array_core.specs.declared.array.Array.{Array}

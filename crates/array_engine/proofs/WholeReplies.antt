@@ -14,9 +14,9 @@ use Rattle.fact_codec.specs.Fact.{IsFact}
 use Rattle.array_spec.specs.Acked.{IsAnswer, IsEntry}
 use Rattle.memory_spec.specs.Tables.{facts}
 use Rattle.memory_spec.specs.Memory.{Memory, Contents, EntryReads, IsSound, ReadsAs}
-use Rattle.memory_spec.proofs.AllTables.{all_objects}
-use Rattle.memory_spec.proofs.Lists.{each_by_recursion}
-use Rattle.memory_spec.proofs.Objects.{object_is, of_objects}
+use Rattle.memory_spec.specs.lemmas.AllTables.{all_objects}
+use Rattle.memory_spec.specs.lemmas.Lists.{each_by_recursion}
+use Rattle.memory_spec.specs.lemmas.Objects.{object_is, of_objects}
 
 -- a visible object is one of the facts
 visible_fits : (m : Memory) → IsSound m → (x : ObjectFact) → Contains (objects (facts m.tables) m.next.object) x → IsFact (any.Object x)

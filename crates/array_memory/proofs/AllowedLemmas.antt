@@ -13,13 +13,13 @@ use Rattle.pur_base.specs.declared.request.Request.TheVariants as request
 use Rattle.pur_base.specs.declared.facts.ObjectKind.{ObjectKind}
 use Rattle.pur_base.specs.declared.facts.ObjectKind.TheVariants.{Volume, Snapshot}
 use Rattle.pur_base.specs.declared.facts.ObjectFact.{ObjectFact}
-use Rattle.pyramid.proofs.LayerLemmas.{all_contained}
+use Rattle.pyramid.specs.lemmas.Layers.{all_contained}
 use Rattle.array_spec.specs.Base.{is_snapshot as is_snapshot_kind}
 use Rattle.memory_spec.specs.Memory.{Contents, ReadsAs}
 use Rattle.memory_spec.specs.Reading.{AreEntries}
 use Rattle.memory_spec.specs.Tables.{facts}
-use Rattle.memory_spec.proofs.Entries.{entries_read}
-use Rattle.memory_spec.proofs.Objects.{of_objects}
+use Rattle.memory_spec.specs.lemmas.Entries.{entries_read}
+use Rattle.memory_spec.specs.lemmas.Objects.{of_objects}
 use Rattle.array_memory.specs.Asked.{command_of, HasSpan, IsAllowed, IsFree}
 use Rattle.array_memory.specs.Kept.{Kept, IsKept}
 use Rattle.array_memory.specs.Lawful.{IsLawful}

@@ -16,13 +16,13 @@ use Rattle.pur_base.specs.declared.request.Request.TheVariants as request
 use Rattle.pur_base.specs.declared.facts.Target.{Target}
 use Rattle.pur_base.specs.declared.facts.Target.TheVariants.{Stored}
 use Rattle.pur_base.specs.declared.facts.ObjectFact.{ObjectFact}
-use Rattle.pyramid.proofs.ContainsLemmas.{nowhere}
+use Rattle.pyramid.specs.lemmas.Contains.{nowhere}
 use Rattle.fact_codec.specs.declared.limits.TheConstants.{NUMBER_LIMIT}
 use Rattle.memory_spec.specs.Adding.{HasCreated, IsOwnMedium}
 use Rattle.memory_spec.specs.Laws.{IsNextVolume}
 use Rattle.memory_spec.specs.Memory.{Contents, TargetReads, IsSound, ReadsAs}
 use Rattle.memory_spec.specs.Tables.{facts}
-use Rattle.memory_spec.proofs.Owning.{owns, volumes_own}
+use Rattle.memory_spec.specs.lemmas.Owning.{owns, volumes_own}
 use Rattle.memory_spec.proofs.Putting.{put_sound, putting_reads}
 use Rattle.memory_spec.proofs.Created.{created_sound, creating_reads}
 use Rattle.array_memory.specs.Asked.{command_of, IsFree}

@@ -3,8 +3,8 @@ use Rattle.std.proofs.Common.{◌≡◌, ◌⊎◌, ◌↔◌, ℕ, zero, suc, �
 use Rattle.std.proofs.lemmas.List.Elements.{Contains-append_left, Contains-append_right, Contains-append_cases}
 use Rattle.pur_base.specs.Says.{Ascends}
 use Rattle.pyramid.specs.Layers.{IsBefore, IsFlushed, IsOrdered}
-use Rattle.pyramid.proofs.ContainsLemmas.{here, there, either, nowhere}
-use Rattle.pyramid.proofs.LayerLemmas.{all_contained}
+use Rattle.pyramid.specs.lemmas.Contains.{here, there, either, nowhere}
+use Rattle.pyramid.specs.lemmas.Layers.{all_contained}
 use Rattle.table_plan.proofs.CountLemmas.{no_more_than}
 
 -- ---- lists without repetition

@@ -12,12 +12,12 @@ use Rattle.pur_base.specs.declared.facts.AnyFact.TheVariants as any
 use Rattle.fact_codec.specs.declared.limits.TheConstants.{NUMBER_LIMIT}
 use Rattle.elision.specs.Ranges.{AreApart, ElidedRanges, ranges_of}
 use Rattle.pyramid.specs.Layers.{AreBelow, AreDistinct, IsFlushed, facts_of}
-use Rattle.pyramid.proofs.ContainsLemmas.{either, nowhere}
-use Rattle.pyramid.proofs.LayerLemmas.{all_below, below_at, rises_alone, rises_below}
-use Rattle.pyramid.proofs.SetLemmas.{same_newest}
+use Rattle.pyramid.specs.lemmas.Contains.{either, nowhere}
+use Rattle.pyramid.specs.lemmas.Layers.{all_below, below_at, rises_alone, rises_below}
+use Rattle.pyramid.specs.lemmas.Sets.{same_newest}
 use Rattle.memory_spec.specs.Memory.{Memory, IsSound}
 use Rattle.memory_spec.specs.Tables.{facts}
-use Rattle.memory_spec.proofs.AllTables.{all_elisions}
+use Rattle.memory_spec.specs.lemmas.AllTables.{all_elisions}
 use Rattle.memory_spec.specs.Eliding.{IsEliding}
 use Rattle.memory_spec.specs.Whole.{AreLayered}
 use Rattle.memory_spec.proofs.Eliding.{eliding_sound}

@@ -14,14 +14,14 @@ use Rattle.pur_base.specs.declared.facts.AnyFact.TheVariants as any
 use Rattle.elision.specs.Ranges.{ElidedRanges, ranges_of}
 use Rattle.pyramid.specs.Layers.{AreDistinct, facts_of, newest_of}
 use Rattle.pyramid.specs.Shown.{IsShown}
-use Rattle.pyramid.proofs.KeyLemmas.{within_elided}
-use Rattle.pyramid.proofs.LayerLemmas.{all_contained}
-use Rattle.pyramid.proofs.ShownLemmas.{said_found}
+use Rattle.pyramid.specs.lemmas.Keys.{within_elided}
+use Rattle.pyramid.specs.lemmas.Layers.{all_contained}
+use Rattle.pyramid.specs.lemmas.Shown.{said_found}
 use Rattle.memory_spec.specs.Memory.{Memory, IsSound}
 use Rattle.memory_spec.specs.Tables.{facts}
-use Rattle.memory_spec.proofs.AllTables.{all_segments}
+use Rattle.memory_spec.specs.lemmas.AllTables.{all_segments}
 use Rattle.memory_spec.proofs.Created.{not_elided}
-use Rattle.memory_spec.proofs.Lists.{of_each}
+use Rattle.memory_spec.specs.lemmas.Lists.{of_each}
 use Rattle.table_plan.specs.Planned.{IsPlanned}
 use Rattle.table_plan.specs.Segments.{segments_from}
 use Rattle.table_plan.proofs.ElidedLemmas.{objects_same, segments_elided}

@@ -15,7 +15,7 @@ use Rattle.pur_base.specs.declared.facts.AnyFact.TheVariants as any
 use Rattle.boot_codec.specs.declared.record.NextNumbers.{NextNumbers}
 use Rattle.fact_codec.specs.declared.limits.TheConstants.{NUMBER_LIMIT}
 use Rattle.pyramid.specs.Layers.{Layers, facts_in, AreDistinct, AreBelow}
-use Rattle.pyramid.proofs.LayerLemmas.{all_contained, all_below}
+use Rattle.pyramid.specs.lemmas.Layers.{all_contained, all_below}
 use Rattle.elision.specs.Ranges.{ElidedRanges}
 use Rattle.object_table.specs.Objects.{Objects, AreVisible, number}
 use Rattle.object_table.proofs.ObjectLemmas.{by_ids}
@@ -23,10 +23,10 @@ use Rattle.segment_table.specs.Segments.{Segments}
 use Rattle.array_spec.specs.Sound.{next_id}
 use Rattle.memory_spec.specs.Adding.{address_facts}
 use Rattle.memory_spec.specs.Tables.{facts, all_of}
-use Rattle.memory_spec.proofs.Lists.{each_by_recursion, of_each}
-use Rattle.memory_spec.proofs.Objects.{object_is, in_objects}
-use Rattle.memory_spec.proofs.AllTables.{all_objects, all_mediums, all_addresses, all_segments, all_elisions, of_all, numbered_more}
-use Rattle.memory_spec.proofs.Run.{of_run, run_distinct}
+use Rattle.memory_spec.specs.lemmas.Lists.{each_by_recursion, of_each}
+use Rattle.memory_spec.specs.lemmas.Objects.{object_is, in_objects}
+use Rattle.memory_spec.specs.lemmas.AllTables.{all_objects, all_mediums, all_addresses, all_segments, all_elisions, of_all, numbered_more}
+use Rattle.memory_spec.specs.lemmas.Run.{of_run, run_distinct}
 use Rattle.memory_spec.proofs.Created.{not_elided}
 use Rattle.array_memory.specs.Kept.{Kept, kept_of, IsKept}
 

@@ -12,12 +12,12 @@ use Rattle.pur_base.specs.declared.facts.AnyFact.TheVariants as any
 use Rattle.fact_codec.specs.Fact as fact
 use Rattle.fact_codec.specs.Fact.{IsFact, IsLawful, IsTarget}
 use Rattle.pyramid.specs.Layers.{Layers, facts_in, facts_of, patch_facts, patches_of}
-use Rattle.pyramid.proofs.LayerLemmas.{all_contained}
-use Rattle.pyramid.proofs.MergeLemmas.{ascends-cons, ascends-nil}
+use Rattle.pyramid.specs.lemmas.Layers.{all_contained}
+use Rattle.pyramid.specs.lemmas.Merges.{ascends-cons, ascends-nil}
 use Rattle.memory_spec.specs.Memory.{Memory, FitsTarget, FitsInMemory, IsSound}
 use Rattle.memory_spec.specs.Tables.{facts}
-use Rattle.memory_spec.proofs.AllTables.{all_objects, all_mediums, all_addresses, all_segments, all_elisions}
-use Rattle.memory_spec.proofs.Lists.{each_by_recursion, of_map}
+use Rattle.memory_spec.specs.lemmas.AllTables.{all_objects, all_mediums, all_addresses, all_segments, all_elisions}
+use Rattle.memory_spec.specs.lemmas.Lists.{each_by_recursion, of_map}
 use Rattle.table_plan.specs.Places.{flagged_from}
 use Rattle.table_plan.proofs.Planned.{planned_sound}
 use Rattle.array_memory.specs.declared.plan.Plan.{Plan}

@@ -25,16 +25,16 @@ use Rattle.fact_codec.specs.Fact.{IsFact, IsTarget}
 use Rattle.elision.specs.Ranges.{ElidedRanges, ranges_of, AreApart}
 use Rattle.pyramid.specs.Layers.{Layers, facts_in, facts_of, Rises}
 use Rattle.pyramid.specs.Shown.{IsShown}
-use Rattle.pyramid.proofs.ContainsLemmas.{nowhere}
+use Rattle.pyramid.specs.lemmas.Contains.{nowhere}
 use Rattle.object_table.specs.Objects.{Objects}
 use Rattle.segment_table.specs.Segments.{Segments}
 use Rattle.array_spec.specs.Sound.{AreSound, AreIdsBelow, AreObjectsSound, AreMediumsSound, AreAddressesSound, AreElisionsSound}
 use Rattle.array_spec.specs.Stored.{all_facts, in_patches}
 use Rattle.memory_spec.specs.Memory.{Memory, Contents, FactsRead, FitsTarget, FitsInMemory, AreAddressesThere, AreNumbered, IsSound, ReadsAs}
 use Rattle.memory_spec.specs.Tables.{facts, patches, all_of}
-use Rattle.memory_spec.proofs.AllTables.{of_all}
-use Rattle.memory_spec.proofs.Lists.{of_each, pairs_of}
-use Rattle.memory_spec.proofs.Objects.{object_is, in_objects}
+use Rattle.memory_spec.specs.lemmas.AllTables.{of_all}
+use Rattle.memory_spec.specs.lemmas.Lists.{of_each, pairs_of}
+use Rattle.memory_spec.specs.lemmas.Objects.{object_is, in_objects}
 use Rattle.table_soundness.specs.Elided.{AreElidedBy, IsRange}
 use Rattle.table_soundness.specs.Faults.{facts_in as facts_loaded, patches_in, AreLawful, AreNamed}
 use Rattle.table_soundness.specs.declared.tables.LoadedTables.{LoadedTables}

@@ -15,12 +15,12 @@ use Rattle.pyramid.specs.Shown.{IsShown}
 use Rattle.array_spec.specs.Sound.{next_id, AreIdsBelow}
 use Rattle.memory_spec.specs.Tables.{facts, flushed}
 use Rattle.memory_spec.specs.Memory.{Memory, IsSound}
-use Rattle.memory_spec.proofs.Lists.{each_by_recursion, of_each}
+use Rattle.memory_spec.specs.lemmas.Lists.{each_by_recursion, of_each}
 use Rattle.memory_spec.specs.Flushing.{IsShrunk}
 use Rattle.memory_spec.specs.Merging.{IsMergedAt}
 use Rattle.memory_spec.specs.Whole.{AreLayered}
-use Rattle.memory_spec.proofs.Merged.{merge_shrinks, one_merge_is_merge}
-use Rattle.memory_spec.proofs.Shrinking.{shrunk_sound}
+use Rattle.memory_spec.specs.lemmas.Merged.{merge_shrinks, one_merge_is_merge}
+use Rattle.memory_spec.specs.lemmas.Shrinking.{shrunk_sound}
 use Rattle.array_memory.specs.Kept.{Kept, IsKept}
 use Rattle.array_memory.proofs.SoundLemmas.{sound_ranges}
 

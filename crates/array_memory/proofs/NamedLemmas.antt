@@ -18,7 +18,7 @@ use Rattle.pur_base.specs.declared.facts.Target.{Target}
 use Rattle.pur_base.specs.declared.facts.Target.TheVariants.{Stored, Zero}
 use Rattle.pur_base.specs.declared.facts.AddressFact.{AddressFact}
 use Rattle.pur_base.specs.declared.facts.SegmentFact.{SegmentFact}
-use Rattle.pyramid.proofs.ShownLemmas.{said_found}
+use Rattle.pyramid.specs.lemmas.Shown.{said_found}
 use Rattle.table_plan.specs.Unused.{stands_in}
 use Rattle.table_plan.specs.declared.witnesses.Witness.{Witness}
 use Rattle.array_memory.specs.Named.{is_said_in, names_at, names, is_named, unnamed}

@@ -17,15 +17,15 @@ use Rattle.pur_base.specs.declared.facts.AnyFact.TheVariants as any
 use Rattle.boot_codec.specs.declared.record.NextNumbers.{NextNumbers}
 use Rattle.fact_codec.specs.declared.limits.TheConstants.{NUMBER_LIMIT}
 use Rattle.pyramid.specs.Layers.{Layers, AreBelow, IsFlushed, IsLayered, facts_of, patch_facts}
-use Rattle.pyramid.proofs.LayerLemmas.{all_contained, all_below, below_at, rises_below}
-use Rattle.pyramid.proofs.MergeLemmas.{ascends-cons, ascends-nil}
+use Rattle.pyramid.specs.lemmas.Layers.{all_contained, all_below, below_at, rises_below}
+use Rattle.pyramid.specs.lemmas.Merges.{ascends-cons, ascends-nil}
 use Rattle.pyramid.proofs.PlaceLemmas.{flush_layered, instead_layered}
-use Rattle.pyramid.proofs.ShownLemmas.{ascends_map}
+use Rattle.pyramid.specs.lemmas.Shown.{ascends_map}
 use Rattle.segment_table.proofs.AddedLemmas.{rising_with}
 use Rattle.memory_spec.specs.Memory.{Memory, Contents, FitsTarget, FitsInMemory, IsSound, ReadsAs}
 use Rattle.memory_spec.specs.Tables.{facts, patches}
-use Rattle.memory_spec.proofs.AllTables.{all_addresses, all_segments}
-use Rattle.memory_spec.proofs.Lists.{of_map}
+use Rattle.memory_spec.specs.lemmas.AllTables.{all_addresses, all_segments}
+use Rattle.memory_spec.specs.lemmas.Lists.{of_map}
 use Rattle.memory_spec.specs.Eliding.{IsEliding}
 use Rattle.memory_spec.specs.Flushing.{IsTableFlushed}
 use Rattle.memory_spec.specs.Placing.{repointed}

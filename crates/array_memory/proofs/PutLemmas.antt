@@ -13,7 +13,7 @@ use Rattle.object_table.specs.Objects.{AreNamesDistinct}
 use Rattle.memory_spec.specs.Adding.{address_facts}
 use Rattle.memory_spec.specs.Numbers.{put}
 use Rattle.memory_spec.specs.Tables.{Tables}
-use Rattle.memory_spec.proofs.Lists.{pairs_of}
+use Rattle.memory_spec.specs.lemmas.Lists.{pairs_of}
 use Rattle.array_memory.specs.Asked.{staged_count, HasRoomLeft, HasSpan}
 use Rattle.array_memory.specs.Kept.{Kept}
 use Rattle.array_memory.specs.Put.{IsPut, HasRoomFor}

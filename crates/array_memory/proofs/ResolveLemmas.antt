@@ -17,8 +17,8 @@ use Rattle.address_table.specs.Addresses.{target_of}
 use Rattle.address_table.proofs.AddressLemmas.{same_addresses}
 use Rattle.memory_spec.specs.Tables.{facts}
 use Rattle.memory_spec.specs.Memory.{IsSound}
-use Rattle.memory_spec.proofs.AllTables.{all_mediums}
-use Rattle.memory_spec.proofs.Keeping.{range_is}
+use Rattle.memory_spec.specs.lemmas.AllTables.{all_mediums}
+use Rattle.memory_spec.specs.lemmas.Keeping.{range_is}
 use Rattle.array_memory.specs.Kept.{Kept, IsKept}
 
 -- what is said isn't empty

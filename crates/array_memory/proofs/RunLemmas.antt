@@ -11,10 +11,10 @@ use Rattle.pur_base.specs.declared.place.Location.{Location}
 use Rattle.pur_base.specs.declared.facts.Target.{Target}
 use Rattle.pur_base.specs.declared.facts.Target.TheVariants.{Stored, Zero}
 use Rattle.pur_base.specs.declared.facts.AddressFact.{AddressFact}
-use Rattle.pyramid.proofs.ContainsLemmas.{either, nowhere}
+use Rattle.pyramid.specs.lemmas.Contains.{either, nowhere}
 use Rattle.memory_spec.specs.Adding.{address_facts}
 use Rattle.memory_spec.specs.Memory.{Contents, TargetReads}
-use Rattle.memory_spec.proofs.Run.{fact}
+use Rattle.memory_spec.specs.lemmas.Run.{fact}
 use Rattle.array_memory.specs.Runs.{target_of, targets_from}
 use Rattle.memory_spec.proofs.Putting.{run_long}
 

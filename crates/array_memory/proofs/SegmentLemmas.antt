@@ -7,9 +7,9 @@ use Rattle.pur_base.specs.Keys.{key_of}
 use Rattle.pur_base.specs.Visible.{segment, is_elided}
 use Rattle.pur_base.specs.declared.request.Table.TheVariants as table
 use Rattle.pur_base.specs.declared.facts.SegmentFact.{SegmentFact}
-use Rattle.pur_base.proofs.SaysLemmas.{says_is}
+use Rattle.pur_base.specs.lemmas.Says.{says_is}
 use Rattle.memory_spec.specs.Tables.{facts}
-use Rattle.memory_spec.proofs.Lists.{each_by_recursion, of_each}
+use Rattle.memory_spec.specs.lemmas.Lists.{each_by_recursion, of_each}
 use Rattle.array_memory.specs.Kept.{Kept, IsKept}
 
 -- a segment that the facts say is visible

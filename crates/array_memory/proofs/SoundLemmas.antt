@@ -8,10 +8,10 @@ use Rattle.pur_base.specs.declared.facts.AnyFact.TheVariants as any
 use Rattle.boot_codec.specs.declared.record.NextNumbers.{NextNumbers}
 use Rattle.fact_codec.specs.Fact.{IsFact}
 use Rattle.pyramid.specs.Layers.{Layers, facts_in, facts_of}
-use Rattle.pyramid.proofs.LayerLemmas.{all_contained}
+use Rattle.pyramid.specs.lemmas.Layers.{all_contained}
 use Rattle.memory_spec.specs.Memory.{Memory, Contents, IsSound, ReadsAs}
 use Rattle.memory_spec.specs.Tables.{facts}
-use Rattle.memory_spec.proofs.AllTables.{all_elisions}
+use Rattle.memory_spec.specs.lemmas.AllTables.{all_elisions}
 use Rattle.table_soundness.specs.Elided.{IsRange}
 use Rattle.table_soundness.proofs.FaultLemmas.{elided_ranges}
 use Rattle.array_memory.specs.Kept.{Kept, with_rooms}

@@ -8,10 +8,10 @@ use Rattle.pur_base.specs.Facts.{segment_key}
 use Rattle.pur_base.specs.Says.{Ascends}
 use Rattle.pur_base.specs.Visible.{segment}
 use Rattle.pur_base.specs.declared.facts.SegmentFact.{SegmentFact}
-use Rattle.pyramid.proofs.ContainsLemmas.{filtered, of_filter}
-use Rattle.pyramid.proofs.ShownLemmas.{passes_filter}
+use Rattle.pyramid.specs.lemmas.Contains.{filtered, of_filter}
+use Rattle.pyramid.specs.lemmas.Shown.{passes_filter}
 use Rattle.memory_spec.specs.Tables.{facts}
-use Rattle.memory_spec.proofs.Lists.{in_map, of_map}
+use Rattle.memory_spec.specs.lemmas.Lists.{in_map, of_map}
 use Rattle.table_plan.specs.Eliding.{IsUnused}
 use Rattle.array_memory.specs.declared.limits.TheConstants.{ELIDED_SEGMENTS}
 use Rattle.array_memory.specs.Eliding.{AreLowestUnused}

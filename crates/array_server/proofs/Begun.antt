@@ -10,7 +10,7 @@ use Rattle.world.specs.Shelf.{Shelved}
 use Rattle.boot_region.specs.Members.{IsMember}
 use Rattle.nvram_log.specs.Members as nv
 use Rattle.register.specs.Registers.{IsRegisterOf, named_sound}
-use Rattle.register.proofs.FlagLemmas.{in_cut, cut_in, none_past}
+use Rattle.register.specs.lemmas.Flags.{in_cut, cut_in, none_past}
 use Rattle.memory_spec.specs.Memory.{Contents, ReadsAs}
 use Rattle.memory_spec.specs.Tables.{facts, patches}
 use Rattle.session_spec.specs.Entering.{read_now}

@@ -9,7 +9,7 @@ use Rattle.pur_base.specs.Grammar.{Item, requests, is_whole}
 use Rattle.pur_base.specs.Replies.{texts}
 use Rattle.world.specs.Losing.{geometry_of}
 use Rattle.world.specs.Shelf.{Shelved, Stop}
-use Rattle.world.proofs.Moments.{leaves_weaker}
+use Rattle.world.specs.lemmas.Moments.{leaves_weaker}
 use Rattle.request_codec.specs.Reading.{Unfinished}
 use Rattle.session_spec.specs.Entering.{read_now}
 use Rattle.session_spec.specs.Ends.{Ends, IsAnswered, IsOutput, is_cut, ends_in_write}

@@ -22,7 +22,7 @@ use Rattle.session_spec.specs.Faring.{Point}
 use Rattle.session_spec.specs.Headline.{Unopened, Served, Serving, Outlasts, Opening, Keeps, IsInOpening, IsOpenedBearably, Replied, StandsOn}
 use Rattle.array_core.specs.declared.array.Array.{Array}
 use Rattle.array_core.specs.Drives.{SegmentsHold}
-use Rattle.array_core.proofs.Losses.{bearable_or_not}
+use Rattle.array_core.specs.lemmas.Losses.{bearable_or_not}
 use Rattle.takeover.specs.declared.faults.OpenFault.{OpenFault}
 use Rattle.takeover.specs.declared.faults.OpenFault.TheVariants as open_fault
 use Rattle.takeover.specs.Opened.{IsOpened, IsShut, IsRecovered, status_of}

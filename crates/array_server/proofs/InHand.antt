@@ -13,10 +13,10 @@ use Rattle.boot_region.proofs.Phases.{not_risen_before}
 use Rattle.session_spec.specs.Entering.{IsLeft, read_now}
 use Rattle.session_spec.specs.Faring.{Point, Answers, now_missing}
 use Rattle.session_spec.specs.Headline.{StandsAmong, IsAfter, IsLeftAfter}
-use Rattle.session_spec.proofs.Conditions.{still_sound, left_out_once}
+use Rattle.session_spec.specs.lemmas.Conditions.{still_sound, left_out_once}
 use Rattle.register.specs.Standing.{Content, array_of}
 use Rattle.array_core.specs.Ready.{IsReady}
-use Rattle.array_core.proofs.Losses.{sound_since}
+use Rattle.array_core.specs.lemmas.Losses.{sound_since}
 use Rattle.array_engine.specs.declared.engine.Engine.{Engine}
 use Rattle.array_engine.specs.Appending.{failed_in, lost_in}
 use Rattle.array_engine.specs.Engines.{IsAt, point_after}

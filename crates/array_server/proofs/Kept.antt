@@ -13,13 +13,13 @@ use Rattle.session_spec.specs.Entering.{IsStanding}
 use Rattle.session_spec.specs.Faring.{Point, now_missing}
 use Rattle.session_spec.specs.Headline.{StandsAmong, IsAfter, IsNext}
 use Rattle.array_core.specs.Ready.{IsReady}
-use Rattle.array_core.proofs.Losses.{sound_since}
+use Rattle.array_core.specs.lemmas.Losses.{sound_since}
 use Rattle.array_core.proofs.ReadyStands.{ready_stands}
 use Rattle.array_engine.specs.declared.engine.Engine.{Engine}
 use Rattle.array_engine.specs.Engines.{IsAt, MayBeDone, IsKeptBy}
 use Rattle.array_engine.proofs.Rooms.{may_add_at}
 use Rattle.array_server.proofs.StandsAtPoint.{borne_at_point, stands_at_point, stands_as, sound_is_named}
-use Rattle.session_spec.proofs.Conditions.{left_out_once}
+use Rattle.session_spec.specs.lemmas.Conditions.{left_out_once}
 
 -- ---- the next item
 

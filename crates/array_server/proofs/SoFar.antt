@@ -7,18 +7,18 @@ use Rattle.pur_base.specs.Devices.{Geometry, IsBearable}
 use Rattle.pur_base.specs.declared.reply.Status.TheVariants as status
 use Rattle.pur_base.specs.Grammar.{Item, requests, first_item}
 use Rattle.pur_base.specs.Replies.{Answer, text, texts}
-use Rattle.pur_base.proofs.ItemLemmas.{requests-step}
+use Rattle.pur_base.specs.lemmas.Items.{requests-step}
 use Rattle.world.specs.Losing.{geometry_of, has_failed, has_lost_writes, has_risen, losing}
 use Rattle.world.specs.Shelf.{Shelved, Stop, Disk, IsShelf, Continues, TakenOnly, OutputOnly, LeavesOnly, IsCountedBy}
-use Rattle.world.proofs.Moments.{continues_trans, weaker, leaves_weaker}
+use Rattle.world.specs.lemmas.Moments.{continues_trans, weaker, leaves_weaker}
 use Rattle.register.specs.Standing.{Content, array_of}
 use Rattle.session_spec.specs.Entering.{read_now}
 use Rattle.session_spec.specs.Ends.{is_cut}
 use Rattle.session_spec.specs.Faring.{Point, Answers, now_missing}
 use Rattle.session_spec.specs.Headline.{StandsAmong, IsAfter, IsLeftAfter}
-use Rattle.session_spec.proofs.Conditions.{borne_before, loses}
+use Rattle.session_spec.specs.lemmas.Conditions.{borne_before, loses}
 use Rattle.array_core.specs.Ready.{IsReady}
-use Rattle.array_core.proofs.Losses.{bearable_or_not}
+use Rattle.array_core.specs.lemmas.Losses.{bearable_or_not}
 use Rattle.array_engine.specs.declared.engine.Engine.{Engine}
 use Rattle.array_engine.specs.declared.said.Said.{Said}
 use Rattle.array_engine.specs.Appending.{failed_in, lost_in}

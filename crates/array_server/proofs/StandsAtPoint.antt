@@ -12,10 +12,10 @@ use Rattle.register.specs.Registers.{named_sound}
 use Rattle.register.specs.Standing.{Content}
 use Rattle.session_spec.specs.Entering.{IsStanding}
 use Rattle.session_spec.specs.Faring.{Point, now_missing}
-use Rattle.session_spec.proofs.Conditions.{borne_on, left_out_once}
+use Rattle.session_spec.specs.lemmas.Conditions.{borne_on, left_out_once}
 use Rattle.array_core.specs.Losing.{lost_by}
 use Rattle.array_core.specs.Ready.{IsReady}
-use Rattle.array_core.proofs.Losses.{sound_since}
+use Rattle.array_core.specs.lemmas.Losses.{sound_since}
 use Rattle.array_engine.specs.declared.engine.Engine.{Engine}
 use Rattle.array_engine.specs.Engines.{IsAt}
 use Rattle.array_core.proofs.ReadyStands.{ready_names}

@@ -11,7 +11,7 @@ use Rattle.array_spec.specs.Acked.{IsAnswer, acked}
 use Rattle.array_spec.proofs.AckedLemmas.{counts-replies, cut-is-none}
 use Rattle.world.specs.Losing.{geometry_of, has_failed, has_lost_writes, losing, IsLater}
 use Rattle.world.specs.Shelf.{Shelved, Stop, Disk, IsShelf, Continues, TakenOnly, OutputOnly, MayLeave, MayStop, MayStopTaking, MayStopGiving, LeavesOnly, Leaves, IsCountedBy, IsQuietBy}
-use Rattle.world.proofs.Moments.{continues_refl, continues_trans, leaves_start}
+use Rattle.world.specs.lemmas.Moments.{continues_refl, continues_trans, leaves_start}
 use Rattle.session_spec.specs.Faring.{Point, IsReached, Fares, Serves, Answers}
 use Rattle.session_spec.specs.Ends.{IsPartOfNext}
 use Rattle.session_spec.specs.Entering.{read_now}

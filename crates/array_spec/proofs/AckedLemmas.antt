@@ -16,7 +16,7 @@ use Rattle.pur_base.specs.Plain.{Entry}
 use Rattle.pur_base.specs.Grammar.{digits_number, is_line_end}
 use Rattle.pur_base.specs.Replies.{Answer, Line, Sectors, Entries, text, texts, line_text, sectors_text, entries_text, entry_text, numbers_text, kind_text}
 use Rattle.array_spec.specs.Acked.{acked_within, after_reply, skip_reply, skip, skip_lines, IsLine, IsEntry, IsAnswer, CountsReplies, CutIsNone}
-use Rattle.pur_base.proofs.LineLemmas.{IsOpen, open-nil, open-append, before-past, after-past, before-in, after-in}
+use Rattle.pur_base.specs.lemmas.Lines.{IsOpen, open-nil, open-append, before-past, after-past, before-in, after-in}
 
 -- ---- a line and what follows it
 

@@ -10,11 +10,11 @@ use Rattle.boot_codec.specs.Region.{BootSlot, IsRecordOf, of_members}
 use Rattle.array_spec.specs.Meaning.{HoldsBase, IsInForce}
 use Rattle.array_spec.specs.Standing.{Stands, MayBeGiven, IsReadInto, IsViewOf, FollowsOn, HasNoLog}
 use Rattle.array_spec.specs.Unflushed.{LogLies, NamesSound}
-use Rattle.array_spec.proofs.UnflushedRead.{between}
+use Rattle.array_spec.specs.lemmas.UnflushedRead.{between}
 use Rattle.array_spec.specs.Held.{TablesHold, NamesNoneLeftOut}
 use Rattle.array_spec.specs.StoredLaws.{CheckpointFollows, IsCheckpointOf, IsMergeOf, MergeFollows, ShowsNone}
-use Rattle.array_spec.proofs.Reading.{held_in, record_is_read}
-use Rattle.array_spec.proofs.Unique.{one_base}
+use Rattle.array_spec.specs.lemmas.Reading.{held_in, record_is_read}
+use Rattle.array_spec.specs.lemmas.Unique.{one_base}
 
 -- a device left out shows nothing, and the others what they have
 show_as : Condition → List ℕ → Option (List ℕ)

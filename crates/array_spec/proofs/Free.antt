@@ -9,8 +9,8 @@ use Rattle.array_spec.specs.Meaning.{TablesStand}
 use Rattle.array_spec.specs.Standing.{IsViewOf}
 use Rattle.array_spec.specs.Stored.{all_facts}
 use Rattle.array_spec.specs.StoredLaws.{FreeIsUnused}
-use Rattle.array_spec.proofs.Members.{are_enough, are_some}
-use Rattle.array_spec.proofs.Unique.{one_patches}
+use Rattle.array_spec.specs.lemmas.Members.{are_enough, are_some}
+use Rattle.array_spec.specs.lemmas.Unique.{one_patches}
 
 pub free_is_unused : FreeIsUnused
 free_is_unused shelf image missing slot boot patches base at unit sound none_left tables alone free = record {

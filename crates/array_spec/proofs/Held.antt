@@ -10,12 +10,12 @@ use Rattle.pur_base.specs.declared.place.Place.{Place}
 use Rattle.boot_codec.specs.Region.{names, BootSlot, of_members, votes, shown_by}
 use Rattle.boot_codec.specs.Spelling.{spelling}
 use Rattle.boot_codec.specs.declared.record.BootRecord.{BootRecord}
-use Rattle.array_spec.proofs.Moves.{SameUnit, holds_moves}
-use Rattle.array_spec.proofs.Quiet.{Matches, before, before_any, effective_moves}
-use Rattle.array_spec.proofs.Standings.{within_twice, sound_shows}
-use Rattle.array_spec.proofs.Used.{patches_are_used, data_is_used}
-use Rattle.array_spec.proofs.Spelled.{spells_one}
-use Rattle.array_spec.proofs.Votes.{held_is_given, one_is_effective}
+use Rattle.array_spec.specs.lemmas.Moves.{SameUnit, holds_moves}
+use Rattle.array_spec.specs.lemmas.Quiet.{Matches, before, before_any, effective_moves}
+use Rattle.array_spec.specs.lemmas.Standings.{within_twice, sound_shows}
+use Rattle.array_spec.specs.lemmas.Used.{patches_are_used, data_is_used}
+use Rattle.array_spec.specs.lemmas.Spelled.{spells_one}
+use Rattle.array_spec.specs.lemmas.Votes.{held_is_given, one_is_effective}
 use Rattle.array_spec.specs.Laws.{HeldStands, NvramKeeps, DiffersOnlyInNvram}
 use Rattle.array_spec.specs.Meaning.{AllHold}
 use Rattle.array_spec.specs.Standing.{Stands, MayAppear, IsViewOf, MayBeGiven, IsReadBy, LeadsInto}

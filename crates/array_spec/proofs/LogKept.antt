@@ -8,8 +8,8 @@ use Rattle.pur_base.specs.Devices.{View, Conditions, Sound, nvram, without_missi
 use Rattle.pur_base.specs.Plain.{Array}
 use Rattle.log_codec.specs.Log.{HasSpelling, Shows, IsInSlot, LogFrom, DevicesAgree}
 use Rattle.array_spec.specs.Standing.{LeadsInto}
-use Rattle.array_spec.proofs.OneLog.{one_shown}
-use Rattle.array_spec.proofs.LogBetween.{shower, shows_test, in_slot, shown_in_slot, Only, Lawful, log_of, slot_has, front_stands, log_front, log_least, log_shorter, take_of_take, shows_alone, alone_still, alone_fewer}
+use Rattle.array_spec.specs.lemmas.OneLog.{one_shown}
+use Rattle.array_spec.specs.lemmas.LogBetween.{shower, shows_test, in_slot, shown_in_slot, Only, Lawful, log_of, slot_has, front_stands, log_front, log_least, log_shorter, take_of_take, shows_alone, alone_still, alone_fewer}
 
 -- ---- of a log that stands
 

@@ -16,15 +16,15 @@ use Rattle.boot_codec.specs.Region.{BootSlot, IsRecordOf, names, of_members}
 use Rattle.log_codec.specs.Log.{Shows, ShowsIn, LogStands}
 use Rattle.array_spec.specs.Standing.{Stands, IsViewOf, MayBeGiven, IsReadBy, LeadsInto, HasNoLog}
 use Rattle.array_spec.specs.LogSettling.{answering, SettlesLog, MaySettle, SettlingKeeps}
-use Rattle.array_spec.proofs.Votes.{sound_before}
-use Rattle.array_spec.proofs.Standings.{within_twice, sound_shows}
-use Rattle.array_spec.proofs.Quiet.{Matches, AllMatch, before}
-use Rattle.array_spec.proofs.UnflushedRead.{kept_some, kept_is, no_gate, one_left, was_left_out}
-use Rattle.array_spec.proofs.OneLog.{one_log}
-use Rattle.array_spec.proofs.LogMoves.{log_moves, leads_move}
+use Rattle.array_spec.specs.lemmas.Votes.{sound_before}
+use Rattle.array_spec.specs.lemmas.Standings.{within_twice, sound_shows}
+use Rattle.array_spec.specs.lemmas.Quiet.{Matches, AllMatch, before}
+use Rattle.array_spec.specs.lemmas.UnflushedRead.{kept_some, kept_is, no_gate, one_left, was_left_out}
+use Rattle.array_spec.specs.lemmas.OneLog.{one_log}
+use Rattle.array_spec.specs.lemmas.LogMoves.{log_moves, leads_move}
 use Rattle.array_spec.proofs.LogKept.{least_is_front, log_kept}
 use Rattle.array_spec.proofs.Held.{nvram_keeps}
-use Rattle.array_spec.proofs.Mediums.{same_some}
+use Rattle.array_spec.specs.lemmas.Mediums.{same_some}
 
 shown_in : (m : View) (n flushed i : ℕ) (c : Command) (bytes : List ℕ) → m (nvram n) ≡ Some bytes → Shows m n flushed i c → ShowsIn bytes flushed i c
 shown_in m n flushed i c bytes is s =

@@ -8,10 +8,10 @@ use Rattle.pur_base.specs.declared.device.Device.TheVariants.{Drive, Nv}
 use Rattle.pur_base.specs.declared.place.Place.{Place}
 use Rattle.boot_codec.specs.Region.{names, BootSlot, of_members, body_in}
 use Rattle.boot_codec.specs.declared.record.BootRecord.{BootRecord}
-use Rattle.array_spec.proofs.LogMoves.{shows_move}
-use Rattle.array_spec.proofs.Quiet.{Matches, AllMatch, before, reading_moves, same_nvram}
-use Rattle.array_spec.proofs.Standings.{within_twice}
-use Rattle.array_spec.proofs.Used.{used_is_data}
+use Rattle.array_spec.specs.lemmas.LogMoves.{shows_move}
+use Rattle.array_spec.specs.lemmas.Quiet.{Matches, AllMatch, before, reading_moves, same_nvram}
+use Rattle.array_spec.specs.lemmas.Standings.{within_twice}
+use Rattle.array_spec.specs.lemmas.Used.{used_is_data}
 use Rattle.array_spec.specs.Counts.{is_used}
 use Rattle.array_spec.specs.Laws.{DiffersOnlyIn, IsOldOrNew, StoreKeeps, BootKeeps}
 use Rattle.array_spec.specs.Standing.{Stands, IsViewOf, MayBeGiven, IsReadBy, IsReadInto, FollowsOn}

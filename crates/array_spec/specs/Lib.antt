@@ -16,3 +16,4 @@ pub mod Unflushed
 pub mod LogSettling
 pub mod Held
 pub mod StoredLaws
+pub mod lemmas

@@ -15,17 +15,17 @@ use Rattle.boot_codec.specs.Spelling.{spelling}
 use Rattle.boot_codec.specs.Region.{BootSlot, A, B, Effective, IsDecided, other_slot, body_in, shown_by, votes, is_vote, Yields, generation_in}
 use Rattle.array_spec.specs.Standing.{Stands, MayBeGiven, MayAppear}
 use Rattle.array_spec.specs.Laws.{OpensGatesOf, ClosesGatesOf, DiffersOnlyIn, IsOldOrNew}
-use Rattle.array_spec.proofs.Votes.{held_votes, most_votes, not_missing, sound_before}
+use Rattle.array_spec.specs.lemmas.Votes.{held_votes, most_votes, not_missing, sound_before}
 use Rattle.array_spec.proofs.Store.{store_keeps, boot_keeps}
-use Rattle.array_spec.proofs.Settling.{opening_gives, opening_still_gives, closing_gives_no_more, closing_still_gives, this_or_other}
-use Rattle.array_spec.proofs.Spelled.{spells_one}
+use Rattle.array_spec.specs.lemmas.Settling.{opening_gives, opening_still_gives, closing_gives_no_more, closing_still_gives, this_or_other}
+use Rattle.array_spec.specs.lemmas.Spelled.{spells_one}
 use Rattle.world.specs.Shelf.{Shelved, Stop, MayStop, IsShelf}
 use Rattle.world.specs.Losing.{geometry_of, has_risen, IsLater}
-use Rattle.world.proofs.Stopped.{as_read}
+use Rattle.world.specs.lemmas.Stopped.{as_read}
 use Rattle.boot_region.specs.Storing.{SoundAreMembers, OnSound, OnlyBoot, IsOlder, AreOlder, Closes, Writes, Opens, IsInForceOn, MayFollow, StandsNow, AccountsFor}
 use Rattle.boot_region.proofs.Phases.{not_risen_before}
 use Rattle.boot_region.proofs.StillGiven.{closing_keeps}
-use Rattle.boot_region.proofs.ShownLemmas.{shown_body}
+use Rattle.boot_region.specs.lemmas.Shown.{shown_body}
 
 pub votes_not : (o : Option (List ℕ)) (other : List ℕ) → ((x : List ℕ) → o ≡ Some x → bytes_eq x other ≡ false) → is_vote other o ≡ false
 votes_not None other all = refl

@@ -13,13 +13,13 @@ use Rattle.world.specs.Shelf.{Shelved, Stop, Disk, Continues, Elapses, IsSame, I
 use Rattle.world.specs.Streams.{IsPreorder}
 use Rattle.world.specs.Writes.{OneRange, WritesOnly, LeavesBut, ChangesOnly}
 use Rattle.world.specs.Ran.{Only, Ran}
-use Rattle.world.proofs.Moments.{continues_trans, then_run, weaker}
-use Rattle.world.proofs.Ran.{runs_read}
-use Rattle.world.proofs.Writes.{but_then, counted_then, counts_grow, read_writes, writes_then, writes_more}
+use Rattle.world.specs.lemmas.Moments.{continues_trans, then_run, weaker}
+use Rattle.world.specs.lemmas.Ran.{runs_read}
+use Rattle.world.specs.lemmas.Writes.{but_then, counted_then, counts_grow, read_writes, writes_then, writes_more}
 use Rattle.boot_region.specs.Members.{IsMember, IsOneOf, OnNotShut, OneNotShut, IsNotShut, Closed, LostWrites}
 use Rattle.boot_region.proofs.OnEach.{only_member}
 use Rattle.boot_codec.specs.Gate.{gate_bytes}
-use Rattle.boot_region.proofs.ShownLemmas.{reads_open, gate_opens, gate_closes, gate_size, open_begins, closed_begins}
+use Rattle.boot_region.specs.lemmas.Shown.{reads_open, gate_opens, gate_closes, gate_size, open_begins, closed_begins}
 
 -- a count that rose has risen at a later moment
 pub rises_on : (a b c : ℕ) → Rises a b → b ≤ c → Rises a c

@@ -1,4 +1,3 @@
-pub mod Accounts
 pub mod Began
 pub mod Composing
 pub mod GateCalls
@@ -7,8 +6,6 @@ pub mod OnEach
 pub mod Phases
 pub mod Settled
 pub mod StillGiven
-pub mod ShownLemmas
 pub mod ReadingLemmas
 pub mod RegionLemmas
 pub mod Stored
-pub mod FoundLemmas

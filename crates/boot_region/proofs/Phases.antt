@@ -17,7 +17,7 @@ use Rattle.world.specs.Losing.{has_risen}
 use Rattle.boot_region.specs.Members.{IsMember, OnMembers, OnNotShut}
 use Rattle.boot_region.specs.Storing.{AreClean, AreClosed, AreWritten, IsOlder, ComesOf, Closes, Writes, Opens}
 use Rattle.boot_region.proofs.Began.{began, began_at, as_left, outside, same_size, as_read_then, may_begin, differs}
-use Rattle.boot_region.proofs.ShownLemmas.{bodies_same, other_same, opened, shows_if, open_before, other_body_same, other_shown_same, gate_same, closed_shows, gate_low, body_low}
+use Rattle.boot_region.specs.lemmas.Shown.{bodies_same, other_same, opened, shows_if, open_before, other_body_same, other_shown_same, gate_same, closed_shows, gate_low, body_low}
 
 -- a count that rose on the way has risen
 pub risen_on_way : (a b c d : ℕ) → a ≤ b → Rises b c → c ≤ d → has_risen a d ≡ false → ⊥

@@ -14,23 +14,23 @@ use Rattle.boot_codec.specs.Region.{BootSlot, IsRecordOf, IsDecided, votes, othe
 use Rattle.array_spec.specs.Standing.{Stands, MayBeGiven, MayAppear}
 use Rattle.array_spec.specs.Laws.{OpensGatesOf}
 use Rattle.array_spec.proofs.Store.{boot_keeps}
-use Rattle.array_spec.proofs.Settling.{opening_gives, opening_still_gives, twice_other}
-use Rattle.array_spec.proofs.Votes.{sound_before}
-use Rattle.array_spec.proofs.Spelled.{spells_one}
+use Rattle.array_spec.specs.lemmas.Settling.{opening_gives, opening_still_gives, twice_other}
+use Rattle.array_spec.specs.lemmas.Votes.{sound_before}
+use Rattle.array_spec.specs.lemmas.Spelled.{spells_one}
 use Rattle.world.specs.declared.streams.Failed.{Failed}
 use Rattle.world.specs.declared.shelf.Span.{Span}
 use Rattle.world.specs.Counts.{Rises}
 use Rattle.world.specs.Losing.{geometry_of}
 use Rattle.world.specs.Shelf.{Shelved, Stop, MayStop, Continues, Disk, IsShelf, IsIn, IsInSome}
 use Rattle.world.specs.Writes.{LeavesBut, WritesOnly}
-use Rattle.world.proofs.Stopped.{as_read}
+use Rattle.world.specs.lemmas.Stopped.{as_read}
 use Rattle.boot_region.specs.Members.{IsMember, OnMembers, OnClosed, OneClosed, Opened}
 use Rattle.boot_region.specs.Storing.{GivesNoMore, SoundAreMembers, IsFound, IsInForceOn, IsLoaded, IsSeen, TellsFailed}
 use Rattle.boot_region.proofs.Began.{began, began_at, as_left, as_read_then, may_begin, differs}
 use Rattle.boot_region.proofs.Composing.{as_it_is, all_decide, is_sound_is}
 use Rattle.boot_region.proofs.StillGiven.{opening_keeps}
 use Rattle.boot_region.proofs.Phases.{risen_on_way, same_bodies, same_others, gates_low}
-use Rattle.boot_region.proofs.ShownLemmas.{opened, bodies_same, open_shows, member_below}
+use Rattle.boot_region.specs.lemmas.Shown.{opened, bodies_same, open_shows, member_below}
 
 pub leaves_members : (members : List Bool) (shelf : Shelved) (at : ℕ) (stop : Stop) → LeavesBut (OnClosed members shelf at) shelf stop → LeavesBut (OnMembers members at SECTOR_BYTES) shelf stop
 leaves_members members shelf at stop left = record {

@@ -12,9 +12,9 @@ use Rattle.boot_codec.specs.Spelling.{spelling}
 use Rattle.boot_codec.specs.Region.{BootSlot, A, B, IsDecided, Yields, generation_in, other_slot, shown_by, votes, is_vote}
 use Rattle.array_spec.specs.Standing.{MayBeGiven, MayAppear}
 use Rattle.array_spec.specs.Laws.{OpensGatesOf, ClosesGatesOf}
-use Rattle.array_spec.proofs.Settling.{twice_other}
-use Rattle.array_spec.proofs.Votes.{counted, sound_before}
-use Rattle.boot_region.proofs.FoundLemmas.{same_over}
+use Rattle.array_spec.specs.lemmas.Settling.{twice_other}
+use Rattle.array_spec.specs.lemmas.Votes.{counted, sound_before}
+use Rattle.boot_region.specs.lemmas.Found.{same_over}
 
 sound_is : (c : Condition) → is_sound c ≡ true → c ≡ Sound
 sound_is Sound e = refl

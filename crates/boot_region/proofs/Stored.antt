@@ -17,19 +17,19 @@ use Rattle.boot_codec.specs.Spelling.{spelling}
 use Rattle.boot_codec.specs.Region.{BootSlot, IsRecordOf, other_slot, gate_place, body_place, body_in, shown_by, Yields, generation_in}
 use Rattle.array_spec.specs.Standing.{Stands, MayBeGiven, MayAppear}
 use Rattle.array_spec.specs.Laws.{IsHeld, is_sound_vote}
-use Rattle.array_spec.proofs.Votes.{counted, held_is_given, sound_before}
-use Rattle.array_spec.proofs.Settling.{twice_other}
+use Rattle.array_spec.specs.lemmas.Votes.{counted, held_is_given, sound_before}
+use Rattle.array_spec.specs.lemmas.Settling.{twice_other}
 use Rattle.world.specs.Counts.{Rises}
 use Rattle.world.specs.Shelf.{Shelved, Stop, MayStop, IsShelf, IsIn, Continues, Written, IsCountedBy, LeavesOnly}
 use Rattle.world.specs.Writes.{ChangesOnly, LeavesBut}
 use Rattle.world.specs.Losing.{geometry_of, IsLater}
-use Rattle.world.proofs.Moments.{continues_trans, continues_refl}
-use Rattle.world.proofs.Stopped.{as_read}
+use Rattle.world.specs.lemmas.Moments.{continues_trans, continues_refl}
+use Rattle.world.specs.lemmas.Stopped.{as_read}
 use Rattle.boot_region.specs.Members.{IsMember, IsOneOf, OnSlot, OnMembers, OnNotShut, Outcome, Closed, LostWrites, DroppedFailed}
 use Rattle.boot_region.specs.Storing.{AreClean, AreClosed, AreOlder, SoundAreMembers, ComesOf, Closes, Writes, Opens, IsInForceOn, MayFollow, AccountsFor, IsInStore, GivesNoMore, HeldStill, IsOpening, StandsBut, StandsNow, IsNewer, IsStored, IsStoredOn, IsFirmOn, AreEnough, StandsAgain}
 use Rattle.boot_region.proofs.Composing.{borne, votes_not, IsBorneOn, differs_then, still_while_closing, still_while_writing, gives_while_closing, gives_while_writing, gives_while_opening, while_closing, while_writing, while_writing_over, while_opening, as_it_is, is_sound_is}
 use Rattle.boot_region.proofs.Phases.{risen_on_way, closes_gates, writes_bodies, opens_gates}
-use Rattle.boot_region.proofs.ShownLemmas.{gate_same, member_below, body_low, body_is, bodies_same, other_same, other_body_same, other_shown_same, shown_body}
+use Rattle.boot_region.specs.lemmas.Shown.{gate_same, member_below, body_low, body_is, bodies_same, other_same, other_body_same, other_shown_same, shown_body}
 
 -- a count that rose on the way rose
 pub rises_between : (a b c d : ℕ) → a ≤ b → Rises b c → c ≤ d → Rises a d

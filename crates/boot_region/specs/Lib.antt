@@ -3,3 +3,4 @@ pub mod Members
 pub mod Regions
 pub mod Slots
 pub mod Storing
+pub mod lemmas

@@ -6,7 +6,7 @@ use Rattle.pur_base.specs.declared.facts.Target.TheVariants.{Stored, Zero}
 use Rattle.pur_base.specs.declared.facts.AnyFact.{AnyFact}
 use Rattle.pur_base.specs.declared.facts.AnyFact.TheVariants as any
 use Rattle.byte_fields.specs.Places.{places_bytes}
-use Rattle.byte_fields.proofs.SpellingLemmas.{length-places_bytes}
+use Rattle.byte_fields.specs.lemmas.Spelling.{length-places_bytes}
 use Rattle.fact_codec.specs.declared.limits.TheConstants.{FACT_BYTES, VALUE_BYTES}
 use Rattle.fact_codec.specs.Fact.{fact_bytes, value_bytes, target_bytes, IsFact}
 use Rattle.fact_codec.specs.Heads.{head_bytes, head_of}

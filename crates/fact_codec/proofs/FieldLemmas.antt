@@ -11,7 +11,7 @@ use Rattle.pur_base.specs.declared.facts.MediumFact.{MediumFact}
 use Rattle.pur_base.specs.declared.facts.SegmentFact.{SegmentFact}
 use Rattle.pur_base.specs.declared.facts.AnyFact.TheVariants as any
 use Rattle.byte_fields.specs.Places.{places_bytes, FitsBytes}
-use Rattle.byte_fields.proofs.SpellingLemmas.{same_u16, same_u64, same_places}
+use Rattle.byte_fields.specs.lemmas.Spelling.{same_u16, same_u64, same_places}
 use Rattle.fact_codec.specs.declared.limits.TheConstants.{VALUE_BYTES}
 use Rattle.fact_codec.specs.Fact.{object_code, value_bytes, IsFact}
 use Rattle.fact_codec.proofs.ValueLemmas.{name_fits, object_fills}

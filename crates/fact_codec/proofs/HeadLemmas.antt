@@ -6,7 +6,7 @@ use Rattle.pur_base.specs.declared.request.Table.{Table}
 use Rattle.pur_base.specs.declared.request.Table.TheVariants as table
 use Rattle.pur_base.specs.declared.facts.AnyFact.{AnyFact}
 use Rattle.pur_base.specs.declared.facts.AnyFact.TheVariants as any
-use Rattle.byte_fields.proofs.SpellingLemmas.{same_u8, same_u32, same_u64}
+use Rattle.byte_fields.specs.lemmas.Spelling.{same_u8, same_u32, same_u64}
 use Rattle.fact_codec.specs.declared.limits.TheConstants.{VALUE_BYTES}
 use Rattle.fact_codec.specs.declared.head.Head.{Head}
 use Rattle.fact_codec.specs.Fact.{fact_bytes, value_bytes, IsFact, Decodes}

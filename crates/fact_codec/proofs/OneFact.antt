@@ -15,7 +15,7 @@ use Rattle.pur_base.specs.declared.facts.ElisionFact.{ElisionFact}
 use Rattle.pur_base.specs.declared.facts.AnyFact.{AnyFact}
 use Rattle.pur_base.specs.declared.facts.AnyFact.TheVariants as any
 use Rattle.byte_fields.specs.Places.{places_bytes}
-use Rattle.byte_fields.proofs.SpellingLemmas.{same_front, same_u16, same_u64, same_places}
+use Rattle.byte_fields.specs.lemmas.Spelling.{same_front, same_u16, same_u64, same_places}
 use Rattle.fact_codec.specs.declared.limits.TheConstants.{VALUE_BYTES}
 use Rattle.fact_codec.specs.Fact.{value_bytes, target_bytes, target_code, FitsTarget, IsFact, Decodes}
 use Rattle.fact_codec.specs.Heads.{head_of}

@@ -25,7 +25,7 @@ use Rattle.free_space.specs.Map.{IsMapWith, IsMapOf, AreDataSegments, shelf_of, 
 use Rattle.free_space.specs.Marking.{CanMark, SetsMembers, data_units, patches_units}
 use Rattle.free_space.proofs.Units.{units_in, can_segments, marked_all, ascending_places, same_used, fresh_map, members_set}
 use Rattle.free_space.proofs.Loops.{can_split}
-use Rattle.array_spec.proofs.Used.{all_append, patches_are_lawful}
+use Rattle.array_spec.specs.lemmas.Used.{all_append, patches_are_lawful}
 
 -- ---- places on ascending slots
 

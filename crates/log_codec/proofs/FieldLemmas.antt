@@ -12,7 +12,7 @@ use Rattle.log_codec.specs.declared.parts.Parts.{Parts}
 use Rattle.log_codec.specs.Head.{kind_code, first_name, second_name, fill_byte, sector_count, first_lba, second_lba, head_fields, head_bytes, IsName, IsCommand, IsHead, Decodes}
 use Rattle.log_codec.specs.Fields.{AreFields, IsText, IsFrame, AreIn}
 use Rattle.log_codec.specs.Parts.{ArePartsOf}
-use Rattle.byte_fields.proofs.SpellingLemmas.{same_front, same_u8, same_u32, same_u64, zeros_are}
+use Rattle.byte_fields.specs.lemmas.Spelling.{same_front, same_u8, same_u32, same_u64, zeros_are}
 
 -- ---- what a command's parts fit
 

@@ -12,7 +12,7 @@ use Rattle.log_codec.specs.declared.head.Head.{Head}
 use Rattle.log_codec.specs.Head.{kind_code, first_name, second_name, fill_byte, sector_count, first_lba, second_lba, head_bytes, IsCommand, IsHead}
 use Rattle.log_codec.specs.Log.{Spells}
 use Rattle.log_codec.proofs.FieldLemmas.{fits, behind, spelled, length-padded}
-use Rattle.byte_fields.proofs.SpellingLemmas.{same_front, same_u8, same_u32, same_u64}
+use Rattle.byte_fields.specs.lemmas.Spelling.{same_front, same_u8, same_u32, same_u64}
 
 -- the parts of two commands are the same
 record SameParts (r s : Request) : Type 0 where

@@ -7,8 +7,8 @@ use Rattle.pur_base.specs.Facts.{is_empty_range, medium_key}
 use Rattle.pur_base.specs.Keys.{id_of, key_of}
 use Rattle.pur_base.specs.Says.{unless_empty}
 use Rattle.pyramid.specs.Layers.{facts_of}
-use Rattle.pyramid.proofs.ContainsLemmas.{nowhere}
-use Rattle.pyramid.proofs.LayerLemmas.{all_contained}
+use Rattle.pyramid.specs.lemmas.Contains.{nowhere}
+use Rattle.pyramid.specs.lemmas.Layers.{all_contained}
 use Rattle.std.proofs.lemmas.List.Elements.{All-contains}
 use Rattle.medium_table.specs.Ranges.{range_from, AreDisjoint}
 use Rattle.medium_table.specs.Reaching.{AreDescending}

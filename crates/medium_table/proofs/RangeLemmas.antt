@@ -13,11 +13,11 @@ use Rattle.pur_base.specs.Says.{unless_empty, has_key}
 use Rattle.pur_base.specs.Visible.{is_within, range, AreElidedRanges}
 use Rattle.pyramid.specs.Ends.{IsLastSaid}
 use Rattle.pyramid.specs.Layers.{newest_of, AreBelow}
-use Rattle.pyramid.proofs.ContainsLemmas.{either, nowhere}
+use Rattle.pyramid.specs.lemmas.Contains.{either, nowhere}
 use Rattle.pyramid.proofs.EndLemmas.{said_key}
-use Rattle.pyramid.proofs.KeyLemmas.{id_of_key, within_elided}
-use Rattle.pyramid.proofs.LayerLemmas.{all_below}
-use Rattle.pyramid.proofs.NewestLemmas.{newest_found}
+use Rattle.pyramid.specs.lemmas.Keys.{id_of_key, within_elided}
+use Rattle.pyramid.specs.lemmas.Layers.{all_below}
+use Rattle.pyramid.specs.lemmas.Newest.{newest_found}
 use Rattle.pyramid.proofs.WalkLemmas.{newer_over}
 use Rattle.medium_table.specs.Ranges.{after_cut, emptied, number, range_from, rest_of, said, AreDisjoint, IsLowest, IsRangeOver}
 

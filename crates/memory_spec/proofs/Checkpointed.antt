@@ -8,10 +8,10 @@ use Rattle.boot_codec.specs.declared.record.NextNumbers.{NextNumbers}
 use Rattle.memory_spec.specs.Whole.{IsWhole}
 use Rattle.memory_spec.specs.Checkpoint.{IsCheckpointed, CheckpointReads, CheckpointIsSound, CheckpointHolds, CheckpointDataHolds}
 use Rattle.memory_spec.proofs.Standing.{written_holds, written_data_holds}
-use Rattle.memory_spec.proofs.Patches.{patches_read}
+use Rattle.memory_spec.specs.lemmas.Patches.{patches_read}
 use Rattle.memory_spec.proofs.Records.{record_is_sound}
-use Rattle.memory_spec.proofs.Shrinking.{shrinking_reads}
-use Rattle.memory_spec.proofs.Flushed.{flush_shrinks}
+use Rattle.memory_spec.specs.lemmas.Shrinking.{shrinking_reads}
+use Rattle.memory_spec.specs.lemmas.Flushed.{flush_shrinks}
 use Rattle.memory_spec.proofs.Placing.{placing_reads}
 use Rattle.memory_spec.proofs.Eliding.{eliding_reads}
 

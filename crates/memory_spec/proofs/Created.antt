@@ -30,23 +30,23 @@ use Rattle.boot_codec.specs.Record.{AreNext}
 use Rattle.fact_codec.specs.Fact.{IsFact}
 use Rattle.array_spec.specs.Sound.{AreIdsBelow, AreObjectsSound, AreMediumsSound, AreElisionsSound, OwnsMedium, next_id}
 use Rattle.pyramid.specs.Layers.{AreDistinct, newest_of}
-use Rattle.pyramid.proofs.ContainsLemmas.{here, either, nowhere}
+use Rattle.pyramid.specs.lemmas.Contains.{here, either, nowhere}
 use Rattle.pyramid.proofs.DistinctLemmas.{one_more}
-use Rattle.pyramid.proofs.KeyLemmas.{id_of_key}
-use Rattle.pyramid.proofs.LayerLemmas.{all_contained}
+use Rattle.pyramid.specs.lemmas.Keys.{id_of_key}
+use Rattle.pyramid.specs.lemmas.Layers.{all_contained}
 use Rattle.memory_spec.specs.Tables.{facts, all_of}
 use Rattle.memory_spec.specs.Memory.{Memory, Contents, EntryReads, FactsRead, FitsInMemory, IsThere, AreAddressesThere, IsSound, ReadsAs}
 use Rattle.memory_spec.specs.Adding.{AreNew, IsCreated, HasCreated}
 use Rattle.memory_spec.specs.Laws.{IsNextVolume, CreatingReads}
-use Rattle.memory_spec.proofs.Lists.{each_by_recursion, of_each, zip_long}
-use Rattle.memory_spec.proofs.Objects.{object_is}
-use Rattle.memory_spec.proofs.AllTables.{all_objects, all_mediums, all_addresses, all_segments, all_elisions, of_all, numbered_more}
-use Rattle.memory_spec.proofs.Keeping.{range_kept, address_kept, segment_kept, range_is, address_is, none_since, some_since}
-use Rattle.memory_spec.proofs.Adding.{only_newest, no_newest, newest_kept, newest_given}
-use Rattle.memory_spec.proofs.Moved.{over_before}
+use Rattle.memory_spec.specs.lemmas.Lists.{each_by_recursion, of_each, zip_long}
+use Rattle.memory_spec.specs.lemmas.Objects.{object_is}
+use Rattle.memory_spec.specs.lemmas.AllTables.{all_objects, all_mediums, all_addresses, all_segments, all_elisions, of_all, numbered_more}
+use Rattle.memory_spec.specs.lemmas.Keeping.{range_kept, address_kept, segment_kept, range_is, address_is, none_since, some_since}
+use Rattle.memory_spec.specs.lemmas.Adding.{only_newest, no_newest, newest_kept, newest_given}
+use Rattle.memory_spec.specs.lemmas.Moved.{over_before}
 use Rattle.memory_spec.proofs.Creating.{objects_more, create_reads}
 use Rattle.memory_spec.proofs.Putting.{object_fits}
-use Rattle.array_spec.proofs.Mediums.{not_both, same_some}
+use Rattle.array_spec.specs.lemmas.Mediums.{not_both, same_some}
 
 -- ---- ids that aren't given yet
 

@@ -12,9 +12,9 @@ use Rattle.pur_base.specs.declared.facts.ObjectFact.{ObjectFact}
 use Rattle.array_spec.specs.Base.{is_snapshot}
 use Rattle.memory_spec.specs.Memory.{EntryReads}
 use Rattle.memory_spec.specs.Adding.{IsCreated, CreateReads}
-use Rattle.memory_spec.proofs.Lists.{range_more, zip_append, zip_weaker}
-use Rattle.memory_spec.proofs.Moved.{over_before, entry_same}
-use Rattle.array_spec.proofs.Mediums.{not_both}
+use Rattle.memory_spec.specs.lemmas.Lists.{range_more, zip_append, zip_weaker}
+use Rattle.memory_spec.specs.lemmas.Moved.{over_before, entry_same}
+use Rattle.array_spec.specs.lemmas.Mediums.{not_both}
 
 module _ (old new : Facts) (x : ObjectFact) (made : IsCreated old new x) where
   object_new : object new x.object.0 ≡ Some x

@@ -10,11 +10,11 @@ use Rattle.pur_base.specs.declared.facts.Target.{Target}
 use Rattle.pur_base.specs.declared.facts.Target.TheVariants.{Zero}
 use Rattle.pur_base.specs.declared.facts.MediumFact.{MediumFact}
 use Rattle.pur_base.specs.declared.facts.AnyFact.TheVariants as any
-use Rattle.pur_base.proofs.SaysLemmas.{says_is}
+use Rattle.pur_base.specs.lemmas.Says.{says_is}
 use Rattle.fact_codec.specs.Fact.{IsFact}
-use Rattle.pyramid.proofs.ContainsLemmas.{here as first_of, there, either, nowhere}
-use Rattle.memory_spec.proofs.Lists.{each_by_recursion}
-use Rattle.array_spec.proofs.Mediums.{not_both, same_some}
+use Rattle.pyramid.specs.lemmas.Contains.{here as first_of, there, either, nowhere}
+use Rattle.memory_spec.specs.lemmas.Lists.{each_by_recursion}
+use Rattle.array_spec.specs.lemmas.Mediums.{not_both, same_some}
 
 -- two numbers below 2^64 in one key
 same_parts : (a b c d : ℕ) → b < 2 ^ 64 → d < 2 ^ 64 → key_of a b ≡ key_of c d → (a ≡ c) × (b ≡ d)

@@ -23,16 +23,16 @@ use Rattle.pur_base.specs.declared.facts.AnyFact.TheVariants as any
 use Rattle.boot_codec.specs.declared.record.NextNumbers.{NextNumbers}
 use Rattle.boot_codec.specs.Record.{AreNext}
 use Rattle.array_spec.specs.Sound.{AreIdsBelow, AreObjectsSound, AreMediumsSound, OwnsMedium, next_id}
-use Rattle.pyramid.proofs.KeyLemmas.{id_of_key}
+use Rattle.pyramid.specs.lemmas.Keys.{id_of_key}
 use Rattle.memory_spec.specs.Tables.{facts, all_of}
 use Rattle.memory_spec.specs.Memory.{Memory, Contents, EntryReads, FactsRead, FitsInMemory, IsThere, IsSound}
-use Rattle.memory_spec.proofs.Lists.{each_by_recursion, of_each, zip_weaker_in}
-use Rattle.memory_spec.proofs.Objects.{same_objects}
-use Rattle.memory_spec.proofs.AllTables.{all_objects, all_mediums, all_addresses, all_segments, all_elisions, of_all, numbered_more}
-use Rattle.memory_spec.proofs.Keeping.{some_since}
+use Rattle.memory_spec.specs.lemmas.Lists.{each_by_recursion, of_each, zip_weaker_in}
+use Rattle.memory_spec.specs.lemmas.Objects.{same_objects}
+use Rattle.memory_spec.specs.lemmas.AllTables.{all_objects, all_mediums, all_addresses, all_segments, all_elisions, of_all, numbered_more}
+use Rattle.memory_spec.specs.lemmas.Keeping.{some_since}
 use Rattle.memory_spec.proofs.Putting.{within_size}
 use Rattle.memory_spec.specs.Eliding.{IsReached, of_object, of_range, IsEliding, ElidingReads}
-use Rattle.memory_spec.proofs.Elided.{not_before, as_before, same_where, object_tag, said_before, says_where}
+use Rattle.memory_spec.specs.lemmas.Elided.{not_before, as_before, same_where, object_tag, said_before, says_where}
 
 module _ (contents : Contents) (was now : Memory) (added : List ElisionFact) (array : Array) (s : IsSound was) (h : IsEliding was now added) where
   objects_elided : (id : ℕ) → is_elided (facts now.tables).elisions table.Object id ≡ is_elided (facts was.tables).elisions table.Object id

@@ -7,11 +7,11 @@ use Rattle.pur_base.specs.declared.limits.TheConstants.{SECTOR_BYTES}
 use Rattle.pur_base.specs.declared.facts.Target.{Target}
 use Rattle.pur_base.specs.declared.facts.Target.TheVariants.{Stored, Zero}
 use Rattle.array_spec.specs.Sound.{OwnsMedium, Grows, FitTogether}
-use Rattle.pyramid.proofs.ContainsLemmas.{here, there, either, nowhere}
+use Rattle.pyramid.specs.lemmas.Contains.{here, there, either, nowhere}
 use Rattle.memory_spec.specs.Memory.{Memory, IsSound}
 use Rattle.memory_spec.specs.Adding.{HasCreated, HasPut}
 use Rattle.memory_spec.specs.Examples.{volume, written, memory_of, next_of, TwoVolumesRead}
-use Rattle.memory_spec.proofs.Owning.{volumes_own}
+use Rattle.memory_spec.specs.lemmas.Owning.{volumes_own}
 use Rattle.memory_spec.proofs.Putting.{putting_reads}
 use Rattle.memory_spec.proofs.Created.{creating_reads}
 

@@ -16,8 +16,8 @@ use Rattle.segment_codec.specs.Position.{stripe_of}
 use Rattle.segment_codec.specs.Stripes.{SectorStands}
 use Rattle.array_spec.specs.Sound.{ArePlaces}
 use Rattle.array_spec.specs.Stored.{all_facts}
-use Rattle.array_spec.proofs.Fewer.{places_keep}
-use Rattle.array_spec.proofs.Moves.{Keeps}
+use Rattle.array_spec.specs.lemmas.Fewer.{places_keep}
+use Rattle.array_spec.specs.lemmas.Moves.{Keeps}
 use Rattle.array_spec.specs.Held.{AreSomeOf, AreEnough}
 use Rattle.memory_spec.specs.Memory.{Contents}
 use Rattle.memory_spec.specs.Contents.{ContentsStand}

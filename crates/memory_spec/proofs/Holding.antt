@@ -12,9 +12,9 @@ use Rattle.pur_base.specs.declared.facts.ObjectFact.{ObjectFact}
 use Rattle.array_spec.specs.Base.{TargetStands, EntryStands, BaseStands}
 use Rattle.array_spec.specs.Stored.{all_facts}
 use Rattle.memory_spec.specs.Adding.{SayTheSame}
-use Rattle.memory_spec.proofs.Lists.{zip_weaker}
-use Rattle.memory_spec.proofs.Moved.{over_kept, over_before}
-use Rattle.memory_spec.proofs.Objects.{same_objects}
+use Rattle.memory_spec.specs.lemmas.Lists.{zip_weaker}
+use Rattle.memory_spec.specs.lemmas.Moved.{over_kept, over_before}
+use Rattle.memory_spec.specs.lemmas.Objects.{same_objects}
 use Rattle.memory_spec.specs.MergedLaws.{MergedPatchesHold}
 
 module _ (members : View) (old new : Facts) (same : SayTheSame old new) (same_segments : (id : ℕ) → segment new id ≡ segment old id) where

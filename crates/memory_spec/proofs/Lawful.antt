@@ -12,10 +12,10 @@ use Rattle.pur_base.specs.declared.facts.AnyFact.TheVariants as any
 use Rattle.boot_codec.specs.declared.patch.Patch.{Patch}
 use Rattle.fact_codec.specs.Fact.{IsFact}
 use Rattle.array_spec.specs.Stored.{PatchStands, in_patches}
-use Rattle.pyramid.proofs.ContainsLemmas.{nowhere}
-use Rattle.pyramid.proofs.LayerLemmas.{all_contained}
-use Rattle.memory_spec.proofs.Lists.{of_filter_map}
-use Rattle.array_spec.proofs.Mediums.{same_some}
+use Rattle.pyramid.specs.lemmas.Contains.{nowhere}
+use Rattle.pyramid.specs.lemmas.Layers.{all_contained}
+use Rattle.memory_spec.specs.lemmas.Lists.{of_filter_map}
+use Rattle.array_spec.specs.lemmas.Mediums.{same_some}
 
 -- ---- of each table
 

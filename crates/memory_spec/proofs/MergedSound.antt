@@ -12,15 +12,15 @@ use Rattle.boot_codec.specs.Record.{AreNext}
 use Rattle.fact_codec.specs.Fact.{IsFact, IsTarget}
 use Rattle.array_spec.specs.Sound.{AreSound, AreIdsBelow, AreObjectsSound, AreMediumsSound, AreAddressesSound, AreSegmentsSound, AreElisionsSound}
 use Rattle.array_spec.specs.Stored.{in_patches}
-use Rattle.pyramid.proofs.ContainsLemmas.{nowhere}
+use Rattle.pyramid.specs.lemmas.Contains.{nowhere}
 use Rattle.memory_spec.specs.Tables.{Tables, facts, patches, all_of}
 use Rattle.memory_spec.specs.Memory.{Memory, FitsTarget, FitsInMemory, AreAddressesThere, AreNumbered, IsSound}
-use Rattle.memory_spec.proofs.Lists.{of_each, pairs_of}
+use Rattle.memory_spec.specs.lemmas.Lists.{of_each, pairs_of}
 use Rattle.memory_spec.specs.Merging.{IsMerge}
-use Rattle.memory_spec.proofs.Merged.{merge_shrinks, one_merge_is_merge}
-use Rattle.memory_spec.proofs.Patches.{in_patches_are, flushed_are_all}
+use Rattle.memory_spec.specs.lemmas.Merged.{merge_shrinks, one_merge_is_merge}
+use Rattle.memory_spec.specs.lemmas.Patches.{in_patches_are, flushed_are_all}
 use Rattle.memory_spec.proofs.Records.{record_is_sound}
-use Rattle.memory_spec.proofs.Shrinking.{shrunk_sound}
+use Rattle.memory_spec.specs.lemmas.Shrinking.{shrunk_sound}
 use Rattle.memory_spec.specs.MergedLaws.{MergedPatchesAreSound}
 use Rattle.memory_spec.proofs.Patched.{patched, patched_whole, patched_facts, patched_layered, still_layered, merged_patched}
 

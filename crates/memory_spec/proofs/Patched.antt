@@ -7,13 +7,13 @@ use Rattle.pur_base.specs.declared.request.Table.TheVariants as table
 use Rattle.boot_codec.specs.declared.record.NextNumbers.{NextNumbers}
 use Rattle.array_spec.specs.Stored.{all_facts}
 use Rattle.pyramid.specs.Layers.{Layers, IsLayered}
-use Rattle.pyramid.proofs.LayerLemmas.{rises_alone}
+use Rattle.pyramid.specs.lemmas.Layers.{rises_alone}
 use Rattle.pyramid.proofs.PlaceLemmas.{replaced, merge_layered}
 use Rattle.memory_spec.specs.Tables.{Tables, facts, flushed, patches}
 use Rattle.memory_spec.specs.Memory.{Memory}
 use Rattle.memory_spec.specs.Whole.{IsWhole, AreLayered}
 use Rattle.memory_spec.specs.Merging.{IsTableMerged, IsMergedAt}
-use Rattle.memory_spec.proofs.Patches.{patches_are_all}
+use Rattle.memory_spec.specs.lemmas.Patches.{patches_are_all}
 
 -- the table's patches
 abbrev pub alone : {F : Type 0} → Layers F → Layers F

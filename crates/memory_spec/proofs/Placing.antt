@@ -16,25 +16,25 @@ use Rattle.pur_base.specs.declared.facts.SegmentFact.{SegmentFact}
 use Rattle.pur_base.specs.declared.facts.ElisionFact.{ElisionFact}
 use Rattle.pur_base.specs.declared.facts.AnyFact.{AnyFact}
 use Rattle.pur_base.specs.declared.facts.AnyFact.TheVariants as any
-use Rattle.pur_base.proofs.SaysLemmas.{says_is}
+use Rattle.pur_base.specs.lemmas.Says.{says_is}
 use Rattle.array_spec.specs.Sound.{AreIdsBelow, AreObjectsSound, AreElisionsSound, next_id}
 use Rattle.pyramid.specs.Layers.{AreDistinct, newest_of}
-use Rattle.pyramid.proofs.ContainsLemmas.{nowhere}
-use Rattle.pyramid.proofs.KeyLemmas.{id_of_key}
+use Rattle.pyramid.specs.lemmas.Contains.{nowhere}
+use Rattle.pyramid.specs.lemmas.Keys.{id_of_key}
 use Rattle.memory_spec.specs.Tables.{facts, all_of}
 use Rattle.memory_spec.specs.Memory.{Memory, Contents, PlaceReads, TargetReads, FactsRead, FitsTarget, FitsInMemory, IsThere, AreNumbered, IsSound}
 use Rattle.memory_spec.specs.Adding.{AreMoved}
-use Rattle.memory_spec.proofs.Lists.{each_by_recursion, of_each}
-use Rattle.memory_spec.proofs.Objects.{same_objects}
-use Rattle.memory_spec.proofs.AllTables.{all_objects, all_mediums, all_addresses, all_segments, all_elisions, of_all}
-use Rattle.memory_spec.proofs.Keeping.{object_kept, range_kept, objects_sound, mediums_sound}
-use Rattle.memory_spec.proofs.Adding.{only_newest, no_newest, newest_kept, newest_given}
-use Rattle.memory_spec.proofs.Moved.{moved_reads}
+use Rattle.memory_spec.specs.lemmas.Lists.{each_by_recursion, of_each}
+use Rattle.memory_spec.specs.lemmas.Objects.{same_objects}
+use Rattle.memory_spec.specs.lemmas.AllTables.{all_objects, all_mediums, all_addresses, all_segments, all_elisions, of_all}
+use Rattle.memory_spec.specs.lemmas.Keeping.{object_kept, range_kept, objects_sound, mediums_sound}
+use Rattle.memory_spec.specs.lemmas.Adding.{only_newest, no_newest, newest_kept, newest_given}
+use Rattle.memory_spec.specs.lemmas.Moved.{moved_reads}
 use Rattle.memory_spec.proofs.Putting.{address_numbers}
 use Rattle.memory_spec.proofs.Created.{not_elided}
 use Rattle.memory_spec.specs.Placing.{placed_target, repointed, IsPlacedAt, IsPlacing, PlacingReads}
 use Rattle.memory_spec.proofs.Repointed.{address_placed, visible_stays}
-use Rattle.array_spec.proofs.Mediums.{same_some}
+use Rattle.array_spec.specs.lemmas.Mediums.{same_some}
 
 place_of : (contents : Contents) (n index : ℕ) (body : List ℕ) → 1 ≤ n → body ≡ contents n index → PlaceReads contents [] n index body
 place_of contents zero index body l e = absurd (omega (arith, l))

@@ -28,12 +28,12 @@ use Rattle.memory_spec.specs.Tables.{facts, all_of}
 use Rattle.memory_spec.specs.Memory.{Memory, Contents, PlaceReads, TargetReads, FactsRead, FitsTarget, FitsInMemory, IsThere, IsSound}
 use Rattle.memory_spec.specs.Adding.{address_facts, IsOverlaid, IsOwnMedium, AreWithinSize, HasPut}
 use Rattle.memory_spec.specs.Laws.{PuttingReads}
-use Rattle.memory_spec.proofs.Lists.{each_by_recursion, of_each, zip_left, zip_long, contains_at}
-use Rattle.memory_spec.proofs.Objects.{same_objects, object_is, of_objects, in_objects}
-use Rattle.memory_spec.proofs.AllTables.{all_objects, all_mediums, all_addresses, all_segments, all_elisions, of_all, numbered_more}
-use Rattle.memory_spec.proofs.Keeping.{object_kept, range_kept, segment_kept, objects_sound, mediums_sound, range_is, address_is, some_since}
-use Rattle.memory_spec.proofs.Run.{of_run, run_distinct, address_put, overlaid_is}
-use Rattle.memory_spec.proofs.Overlay.{overwrite_reads}
+use Rattle.memory_spec.specs.lemmas.Lists.{each_by_recursion, of_each, zip_left, zip_long, contains_at}
+use Rattle.memory_spec.specs.lemmas.Objects.{same_objects, object_is, of_objects, in_objects}
+use Rattle.memory_spec.specs.lemmas.AllTables.{all_objects, all_mediums, all_addresses, all_segments, all_elisions, of_all, numbered_more}
+use Rattle.memory_spec.specs.lemmas.Keeping.{object_kept, range_kept, segment_kept, objects_sound, mediums_sound, range_is, address_is, some_since}
+use Rattle.memory_spec.specs.lemmas.Run.{of_run, run_distinct, address_put, overlaid_is}
+use Rattle.memory_spec.specs.lemmas.Overlay.{overwrite_reads}
 
 -- ---- with more staged sectors
 

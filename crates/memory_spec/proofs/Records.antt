@@ -13,14 +13,14 @@ use Rattle.boot_codec.specs.declared.patch.Patch.{Patch}
 use Rattle.array_spec.specs.Stored.{in_patches}
 use Rattle.array_spec.specs.Sound.{AreSound, AreIdsBelow, AreObjectsSound, AreMediumsSound, AreAddressesSound, AreSegmentsSound, AreElisionsSound, AreSequencesSound, IsOlder, with_facts}
 use Rattle.pyramid.specs.Layers.{facts_of, Rises}
-use Rattle.pyramid.proofs.ContainsLemmas.{here, there, either, nowhere}
+use Rattle.pyramid.specs.lemmas.Contains.{here, there, either, nowhere}
 use Rattle.pyramid.proofs.DistinctLemmas.{Differ, differ_layers}
-use Rattle.pyramid.proofs.LayerLemmas.{all_contained, below_at}
+use Rattle.pyramid.specs.lemmas.Layers.{all_contained, below_at}
 use Rattle.memory_spec.specs.Tables.{Tables, facts, patches, all_of}
 use Rattle.memory_spec.specs.Memory.{Memory, IsSound}
-use Rattle.memory_spec.proofs.Lists.{each_by_recursion, of_each, of_map, in_map}
+use Rattle.memory_spec.specs.lemmas.Lists.{each_by_recursion, of_each, of_map, in_map}
 use Rattle.memory_spec.specs.Whole.{IsWhole, AreLayered, IsNamed, RecordIsSound}
-use Rattle.memory_spec.proofs.Patches.{in_patches_are, flushed_are_all, patches_are_all}
+use Rattle.memory_spec.specs.lemmas.Patches.{in_patches_are, flushed_are_all, patches_are_all}
 
 -- ---- pairs
 

@@ -9,11 +9,11 @@ use Rattle.pur_base.specs.declared.place.Location.{Location}
 use Rattle.pur_base.specs.declared.facts.Target.{Target}
 use Rattle.pur_base.specs.declared.facts.AddressFact.{AddressFact}
 use Rattle.pyramid.specs.Layers.{AreDistinct, newest_of}
-use Rattle.pyramid.proofs.NewestLemmas.{newest_found}
-use Rattle.pyramid.proofs.SetLemmas.{newest_over}
-use Rattle.memory_spec.proofs.Adding.{no_newest}
+use Rattle.pyramid.specs.lemmas.Newest.{newest_found}
+use Rattle.pyramid.specs.lemmas.Sets.{newest_over}
+use Rattle.memory_spec.specs.lemmas.Adding.{no_newest}
 use Rattle.memory_spec.specs.Placing.{placed_target, repointed, AreRepointed}
-use Rattle.array_spec.proofs.Mediums.{not_both, same_some}
+use Rattle.array_spec.specs.lemmas.Mediums.{not_both, same_some}
 
 -- the newest fact of a key
 abbrev pub Newest : ℕ → List AddressFact → Option AddressFact

@@ -8,8 +8,8 @@ use Rattle.pyramid.specs.Layers.{Grow, facts_of}
 use Rattle.memory_spec.specs.Tables.{facts, patches}
 use Rattle.memory_spec.specs.Memory.{Memory, IsSound}
 use Rattle.memory_spec.specs.Merging.{HaveShrunk}
-use Rattle.memory_spec.proofs.Flushed.{grows_all}
-use Rattle.memory_spec.proofs.Merged.{facts_shrink, one_merge_is_merge}
+use Rattle.memory_spec.specs.lemmas.Flushed.{grows_all}
+use Rattle.memory_spec.specs.lemmas.Merged.{facts_shrink, one_merge_is_merge}
 use Rattle.memory_spec.specs.MergedLaws.{MergedPatchesShrink}
 use Rattle.memory_spec.proofs.Patched.{patched, patched_facts, patched_layered, merged_patched}
 

@@ -15,13 +15,13 @@ use Rattle.pur_base.specs.declared.facts.ObjectFact.{ObjectFact}
 use Rattle.pur_base.specs.declared.facts.MediumFact.{MediumFact}
 use Rattle.pur_base.specs.declared.facts.SegmentFact.{SegmentFact}
 use Rattle.pur_base.specs.declared.facts.AnyFact.TheVariants as any
-use Rattle.pur_base.proofs.SaysLemmas.{says_is}
+use Rattle.pur_base.specs.lemmas.Says.{says_is}
 use Rattle.fact_codec.specs.Fact.{IsFact}
 use Rattle.array_spec.specs.Base.{is_snapshot}
 use Rattle.array_spec.specs.Sound.{AreAddressesSound}
 use Rattle.array_spec.specs.Stored.{in_patches, all_facts}
 use Rattle.memory_spec.specs.Memory.{Contents, PlaceReads, TargetReads, SectorReads, EntryReads}
-use Rattle.memory_spec.proofs.Lists.{each_by_recursion}
+use Rattle.memory_spec.specs.lemmas.Lists.{each_by_recursion}
 use Rattle.memory_spec.proofs.Standing.{said}
 use Rattle.memory_spec.specs.LoadedLaws.{SoundTablesRead}
 use Rattle.memory_spec.proofs.Descent.{reads_some}

@@ -19,7 +19,7 @@ use Rattle.array_spec.specs.Base.{TargetStands, EntryStands, BaseStands}
 use Rattle.array_spec.specs.Sound.{AreSound, AreAddressesSound}
 use Rattle.array_spec.specs.Stored.{all_facts}
 use Rattle.memory_spec.specs.Memory.{Contents, PlaceReads, TargetReads, EntryReads, FactsRead}
-use Rattle.memory_spec.proofs.Lists.{zip_weaker}
+use Rattle.memory_spec.specs.lemmas.Lists.{zip_weaker}
 use Rattle.array_spec.specs.Held.{AreSomeOf, AreEnough}
 use Rattle.memory_spec.specs.Contents.{WrittenOn, AreAmong, WrittenDataHolds, ContentsStand, BaseIsRead, WrittenHolds}
 

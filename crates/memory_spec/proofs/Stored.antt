@@ -17,15 +17,15 @@ use Rattle.segment_codec.specs.Stripes.{SectorStands, StripesStand, sector_in}
 use Rattle.array_spec.specs.Base.{TargetStands, EntryStands, BaseStands}
 use Rattle.array_spec.specs.Sound.{AreAddressesSound}
 use Rattle.array_spec.specs.Stored.{in_patches, all_facts}
-use Rattle.array_spec.proofs.OneSector.{one_sector}
+use Rattle.array_spec.specs.lemmas.OneSector.{one_sector}
 use Rattle.memory_spec.specs.Memory.{Contents, TargetReads, EntryReads, FactsRead}
-use Rattle.memory_spec.proofs.Lists.{zip_weaker}
+use Rattle.memory_spec.specs.lemmas.Lists.{zip_weaker}
 use Rattle.memory_spec.specs.Contents.{ContentsStand}
 use Rattle.memory_spec.proofs.Standing.{said}
 use Rattle.memory_spec.specs.LoadedLaws.{StoredTablesRead}
 use Rattle.memory_spec.proofs.Lawful.{patches_lawful, segment_lawful}
 use Rattle.memory_spec.proofs.Sound.{segment_id, place_reads}
-use Rattle.array_spec.proofs.Mediums.{same_some}
+use Rattle.array_spec.specs.lemmas.Mediums.{same_some}
 
 -- ---- what the segments hold
 

@@ -14,3 +14,4 @@ pub mod Checkpoint
 pub mod Merging
 pub mod LoadedLaws
 pub mod MergedLaws
+pub mod lemmas

@@ -12,7 +12,7 @@ use Rattle.log_codec.specs.Log.{Spells, slot_at, ShowsIn}
 use Rattle.log_codec.proofs.OneHead.{one_command, same_heads}
 use Rattle.world.specs.Shelf.{Shelved, Stop, IsShelf, IsIn}
 use Rattle.world.specs.Writes.{LeavesBut}
-use Rattle.world.proofs.Stopped.{none_dirty}
+use Rattle.world.specs.lemmas.Stopped.{none_dirty}
 use Rattle.nvram_log.specs.Members.{IsMember, OnRange}
 use Rattle.nvram_log.specs.Slots.{IsBetween, IsLog}
 use Rattle.nvram_log.specs.Held.{HoldsOn, LeavesBetween}

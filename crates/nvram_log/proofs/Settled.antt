@@ -14,7 +14,7 @@ use Rattle.log_codec.proofs.OneHead.{one_command}
 use Rattle.world.specs.declared.streams.Failed.{Failed}
 use Rattle.world.specs.Shelf.{Disk, MayLeave}
 use Rattle.world.specs.Writes.{MayLeaveBut, ChangesOnly}
-use Rattle.world.proofs.Stopped.{none_dirty}
+use Rattle.world.specs.lemmas.Stopped.{none_dirty}
 use Rattle.nvram_log.specs.declared.seen.SeenSlots.{SeenSlots}
 use Rattle.nvram_log.specs.Slots.{IsLog}
 use Rattle.nvram_log.specs.Members.{IsFlagged}

@@ -11,7 +11,7 @@ use Rattle.nvram_log.specs.declared.log.NvLog.{NvLog}
 use Rattle.nvram_log.specs.Held.{Keeps, slot_in}
 use Rattle.world.specs.Shelf.{Shelved, Stop, Disk, MayLeave, LeavesOnly}
 use Rattle.world.specs.Writes.{MayLeaveBut}
-use Rattle.world.proofs.Stopped.{none_dirty}
+use Rattle.world.specs.lemmas.Stopped.{none_dirty}
 use Rattle.nvram_log.specs.declared.seen.SeenSlots.{SeenSlots}
 use Rattle.nvram_log.specs.Members.{IsMember, OnMembers}
 use Rattle.nvram_log.specs.Settling.{OnDevice, SettlesBy, IsToSettle, AreToSettle, AreAsSeen, Agree}

@@ -10,7 +10,7 @@ use Rattle.log_codec.specs.declared.limits.TheConstants.{LOG_SLOTS}
 use Rattle.log_codec.specs.Log.{Spells, slot_at, ShowsIn}
 use Rattle.log_codec.proofs.OneHead.{one_command}
 use Rattle.world.specs.Shelf.{IsIn}
-use Rattle.world.proofs.Bytes.{same_part}
+use Rattle.world.specs.lemmas.Bytes.{same_part}
 use Rattle.nvram_log.specs.Slots.{IsBetween, IsLog}
 use Rattle.nvram_log.specs.Records.{slot_place}
 use Rattle.nvram_log.proofs.Staged.{at_range}

@@ -12,7 +12,7 @@ use Rattle.log_codec.specs.Log.{Spells, slot_at}
 use Rattle.world.specs.Counts.{Rises}
 use Rattle.world.specs.Shelf.{Shelved, Stop, Disk, IsShelf, IsIn, Written}
 use Rattle.world.specs.Writes.{WritesOnly, LeavesBut, MayLeaveBut, ChangesOnly}
-use Rattle.world.proofs.Stopped.{none_dirty}
+use Rattle.world.specs.lemmas.Stopped.{none_dirty}
 use Rattle.nvram_log.specs.declared.record.Record.{Record}
 use Rattle.nvram_log.specs.Members.{IsMember, IsOnMember, IsFewer, OnMembers, OnRange, Outcome}
 use Rattle.nvram_log.specs.Records.{commands_of, command_of, slot_place, OnSlotsFrom, StandFrom, SpellFrom}

@@ -2,7 +2,7 @@
 use Rattle.std.proofs.Common.{◌≡◌, ◌≢◌, inl, inr, ℕ, [], Result, Ok, Err, OnOk, refl, sym, ◌∙◌, subst}
 use Rattle.pur_base.specs.Devices.{drive, nvram}
 use Rattle.pur_base.specs.declared.device.Device.{Device}
-use Rattle.pur_base.proofs.Devices.{same_device}
+use Rattle.pur_base.specs.lemmas.Devices.{same_device}
 use Rattle.world.specs.declared.streams.Failed.{Failed}
 use Rattle.world.specs.Shelf.{Shelved, Disk, WasSynced, OthersStay}
 

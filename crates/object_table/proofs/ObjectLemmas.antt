@@ -16,12 +16,12 @@ use Rattle.pur_base.specs.Facts.{object_key, never}
 use Rattle.pur_base.specs.declared.facts.ObjectFact.{ObjectFact}
 use Rattle.pur_base.specs.declared.ids.MediumId.{MediumId}
 use Rattle.pur_base.specs.declared.ids.Seq.{Seq}
-use Rattle.pyramid.proofs.ContainsLemmas.{here, there, either, nowhere}
-use Rattle.pyramid.proofs.MergeLemmas.{ascends-head, ascends-tail, ascends_filter}
+use Rattle.pyramid.specs.lemmas.Contains.{here, there, either, nowhere}
+use Rattle.pyramid.specs.lemmas.Merges.{ascends-head, ascends-tail, ascends_filter}
 use Rattle.pur_base.specs.Keys.{id_of, key_of}
 use Rattle.pyramid.specs.Layers.{AreDistinct, facts_of}
 use Rattle.pyramid.specs.Shown.{IsShown}
-use Rattle.pyramid.proofs.ShownLemmas.{ascends_push, ascends_map, put, put_it, put_other, said_whole, said_found, listed_by_id, shown_added, shown_replaced, shown_elided, taken_of}
+use Rattle.pyramid.specs.lemmas.Shown.{ascends_push, ascends_map, put, put_it, put_other, said_whole, said_found, listed_by_id, shown_added, shown_replaced, shown_elided, taken_of}
 use Rattle.object_table.specs.Objects.{AreListed, AreNamesDistinct, objects_of, number, with_medium}
 
 abbrev pub Entry : Type 0

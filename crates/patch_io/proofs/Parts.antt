@@ -28,7 +28,7 @@ use Rattle.patch_io.specs.Faults.{IsPartFault, IsFaultOf, OthersStayOfPatch}
 use Rattle.patch_io.specs.declared.fault.PatchFault.{PatchFault}
 use Rattle.patch_io.specs.declared.fault.PatchFault.TheVariants.{Bad, Lost, Memory}
 use Rattle.patch_io.proofs.Lists.{get_either, get_taken, get_behind, all_at, some_at}
-use Rattle.array_spec.proofs.Used.{all_append, all_append_left}
+use Rattle.array_spec.specs.lemmas.Used.{all_append, all_append_left}
 
 -- ---- places of a lawful patch
 

@@ -15,3 +15,4 @@ pub mod FactLaws
 pub mod Says
 pub mod Visible
 pub mod Mediums
+pub mod lemmas

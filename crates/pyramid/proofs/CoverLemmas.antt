@@ -7,8 +7,8 @@ use Rattle.std.proofs.lemmas.List.Elements.{Contains-append_left, Contains-appen
 use Rattle.pur_base.specs.Keys.{IsTransitive, id_of}
 use Rattle.pur_base.specs.Says.{has_key}
 use Rattle.pyramid.specs.Layers.{AreCovered, Grow, HasNewer, IsFlushed, IsMerged, LiesInOne, facts_of, newest_of, patch_facts, patches_of, stays}
-use Rattle.pyramid.proofs.NewestLemmas.{newest_found}
-use Rattle.pyramid.proofs.SetLemmas.{newest_over}
+use Rattle.pyramid.specs.lemmas.Newest.{newest_found}
+use Rattle.pyramid.specs.lemmas.Sets.{newest_over}
 use Rattle.pyramid.proofs.PlaceLemmas.{replaced, facts_append, facts_patches, facts_replaced, facts_split}
 
 module _ {F : Type 0} (key number : F → ℕ) (within : F → F → Bool) where

@@ -6,11 +6,11 @@ use Rattle.std.proofs.lemmas.List.{append_assoc, get_or_default}
 use Rattle.std.proofs.lemmas.List.Elements.{All-append, Contains-append_left, Contains-append_right, Contains-append_cases}
 use Rattle.pur_base.specs.Says.{Ascends, has_key, says}
 use Rattle.pyramid.specs.Layers.{facts_of, IsOrdered, IsLayered, Rises}
-use Rattle.pyramid.proofs.ContainsLemmas.{here, there, either, nowhere}
+use Rattle.pyramid.specs.lemmas.Contains.{here, there, either, nowhere}
 use Rattle.pyramid.proofs.InsertLemmas.{pairs-cons}
-use Rattle.pyramid.proofs.LayerLemmas.{all_contained, below_at}
+use Rattle.pyramid.specs.lemmas.Layers.{all_contained, below_at}
 use Rattle.pyramid.proofs.SaysLemmas.{alike_says}
-use Rattle.pyramid.proofs.SetLemmas.{same_passing}
+use Rattle.pyramid.specs.lemmas.Sets.{same_passing}
 
 module _ {F : Type 0} (key number : F → ℕ) where
   -- they haven't one key and one number

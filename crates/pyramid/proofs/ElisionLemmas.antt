@@ -10,7 +10,7 @@ use Rattle.pur_base.specs.declared.facts.ElisionFact.{ElisionFact}
 use Rattle.pur_base.specs.declared.request.Table.{Table}
 use Rattle.pur_base.specs.declared.request.Table.TheVariants as table
 use Rattle.pyramid.specs.Layers.{AreCovered, Grow, NestAsRanges, class_of}
-use Rattle.pyramid.proofs.ContainsLemmas.{here, there}
+use Rattle.pyramid.specs.lemmas.Contains.{here, there}
 
 -- tags are below the number of classes
 tag_small : (t : Table) → tag_of t < 8

@@ -7,7 +7,7 @@ use Rattle.pur_base.specs.Keys.{id_of}
 use Rattle.pur_base.specs.Says.{has_key, says, unless_empty}
 use Rattle.pyramid.specs.Ends.{IsFirstSaid, IsLastSaid}
 use Rattle.pyramid.specs.Layers.{facts_of, newest_of, IsOrdered}
-use Rattle.pyramid.proofs.NewestLemmas.{newest_none, newest_found}
+use Rattle.pyramid.specs.lemmas.Newest.{newest_none, newest_found}
 use Rattle.pyramid.proofs.SearchLemmas.{rises}
 use Rattle.pyramid.proofs.SpanLemmas.{facts_more}
 

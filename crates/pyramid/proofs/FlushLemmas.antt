@@ -8,8 +8,8 @@ use Rattle.pur_base.specs.Says.{newer}
 use Rattle.pur_base.specs.Says.{has_key, Ascends}
 use Rattle.pyramid.specs.Layers.{newest_of, IsOrdered, IsBefore}
 use Rattle.pyramid.specs.Merging.{lasts}
-use Rattle.pyramid.proofs.NewestLemmas.{newest_found}
-use Rattle.pyramid.proofs.MergeLemmas.{ascends-cons, ascends-nil}
+use Rattle.pyramid.specs.lemmas.Newest.{newest_found}
+use Rattle.pyramid.specs.lemmas.Merges.{ascends-cons, ascends-nil}
 
 IsThat : {A : Type 0} → Option A → Type 0
 IsThat None = ⊥

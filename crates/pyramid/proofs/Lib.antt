@@ -1,12 +1,7 @@
-pub mod NewestLemmas
-pub mod MergeLemmas
 pub mod SaysLemmas
 pub mod SearchLemmas
 pub mod InsertLemmas
 pub mod FlushLemmas
-pub mod SetLemmas
-pub mod LayerLemmas
-pub mod ContainsLemmas
 pub mod ReasonLemmas
 pub mod PlaceLemmas
 pub mod WeaveLemmas
@@ -15,8 +10,6 @@ pub mod PruneLemmas
 pub mod EndLemmas
 pub mod WalkLemmas
 pub mod DistinctLemmas
-pub mod KeyLemmas
-pub mod ShownLemmas
 pub mod CoverLemmas
 pub mod ElisionLemmas
 pub mod LoadLemmas

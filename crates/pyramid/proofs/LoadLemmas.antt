@@ -7,8 +7,8 @@ use Rattle.std.proofs.lemmas.List.Elements.{All-contains, Contains-append_left, 
 use Rattle.pur_base.specs.Says.{Ascends}
 use Rattle.pyramid.specs.Layers.{facts_of, AreBelow, Rises}
 use Rattle.pyramid.specs.Loading.{IsPast}
-use Rattle.pyramid.proofs.ContainsLemmas.{either, here, nowhere}
-use Rattle.pyramid.proofs.LayerLemmas.{all_contained, below_at, all_below, rises_with}
+use Rattle.pyramid.specs.lemmas.Contains.{either, here, nowhere}
+use Rattle.pyramid.specs.lemmas.Layers.{all_contained, below_at, all_below, rises_with}
 use Rattle.pyramid.proofs.PlaceLemmas.{rises_flushed}
 use Rattle.pyramid.proofs.SpanLemmas.{below_next}
 

@@ -8,10 +8,10 @@ use Rattle.std.proofs.lemmas.List.Elements.{All-append, All-contains, All-take, 
 use Rattle.pur_base.specs.Says.{Ascends, has_key, says}
 use Rattle.pyramid.specs.Layers.{facts_of, IsBefore, patch_facts, patches_of, newest_of, AreBelow, Rises, IsLayered, IsMerged, IsFlushed, IsApart, SaysTheSame, stays}
 use Rattle.pyramid.specs.Merging.{later, merged}
-use Rattle.pyramid.proofs.NewestLemmas.{newest-append}
-use Rattle.pyramid.proofs.ContainsLemmas.{of_filter}
-use Rattle.pyramid.proofs.MergeLemmas.{ascends-nil}
-use Rattle.pyramid.proofs.LayerLemmas.{all_contained, below_at, all_below, rises_below, rises_with}
+use Rattle.pyramid.specs.lemmas.Newest.{newest-append}
+use Rattle.pyramid.specs.lemmas.Contains.{of_filter}
+use Rattle.pyramid.specs.lemmas.Merges.{ascends-nil}
+use Rattle.pyramid.specs.lemmas.Layers.{all_contained, below_at, all_below, rises_below, rises_with}
 use Rattle.pyramid.proofs.ReasonLemmas.{merged_is}
 use Rattle.pyramid.proofs.SaysLemmas.{merge_says, wider_says, alike_says}
 

@@ -7,9 +7,9 @@ use Rattle.std.proofs.lemmas.Bool.{false≢true, cases_eq, cases_lt, ne_eqb, eq-
 use Rattle.std.specs.Prelude.{if◌then◌else◌, IsTrue}
 use Rattle.pur_base.specs.Says.{Ascends}
 use Rattle.pyramid.specs.Layers.{AreAlone, IsApart, IsPruned, IsMerged, LiesInOne, NestAsRanges, class_of, newest_of}
-use Rattle.pyramid.proofs.ContainsLemmas.{there, either, nowhere}
-use Rattle.pyramid.proofs.MergeLemmas.{ascends-cons, ascends-tail, ascends-head}
-use Rattle.pyramid.proofs.LayerLemmas.{all_contained}
+use Rattle.pyramid.specs.lemmas.Contains.{there, either, nowhere}
+use Rattle.pyramid.specs.lemmas.Merges.{ascends-cons, ascends-tail, ascends-head}
+use Rattle.pyramid.specs.lemmas.Layers.{all_contained}
 use Rattle.std.proofs.lemmas.List.Elements.{All-contains, Contains-get_or}
 
 -- no fact lies in another

@@ -7,11 +7,11 @@ use Rattle.pur_base.specs.Keys.{id_of}
 use Rattle.pur_base.specs.Says.{Ascends, has_key}
 use Rattle.pyramid.specs.Layers.{IsApart, IsOrdered, IsBefore, HasNewer, AreBelow, IsFlushed, IsMerged, LiesInOne, stays, if_passes}
 use Rattle.pyramid.specs.Merging.{lasts, weave, merged}
-use Rattle.pyramid.proofs.ContainsLemmas.{here, there, either, nowhere, filtered, of_filter}
-use Rattle.pyramid.proofs.NewestLemmas.{newest-append}
-use Rattle.pyramid.proofs.MergeLemmas.{ascends_merged, ascends_filter, merged_newest, filter_newest}
+use Rattle.pyramid.specs.lemmas.Contains.{here, there, either, nowhere, filtered, of_filter}
+use Rattle.pyramid.specs.lemmas.Newest.{newest-append}
+use Rattle.pyramid.specs.lemmas.Merges.{ascends_merged, ascends_filter, merged_newest, filter_newest}
 use Rattle.pyramid.proofs.FlushLemmas.{ascends_lasts, newest_lasts}
-use Rattle.pyramid.proofs.LayerLemmas.{below_at}
+use Rattle.pyramid.specs.lemmas.Layers.{below_at}
 
 module _ {F : Type 0} (key : F → ℕ) where
   pub of_lasts : (xs : List F) (f : F) → Contains (lasts key xs) f → Contains xs f

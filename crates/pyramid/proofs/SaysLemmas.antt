@@ -8,7 +8,7 @@ use Rattle.pur_base.specs.Keys.{id_of}
 use Rattle.pur_base.specs.Says.{has_key, says, unless_empty}
 use Rattle.pyramid.specs.Layers.{newest_of, AreBelow, stays, if_passes}
 use Rattle.pyramid.specs.Merging.{later}
-use Rattle.pyramid.proofs.NewestLemmas.{newest-append, newest_found}
+use Rattle.pyramid.specs.lemmas.Newest.{newest-append, newest_found}
 
 module _ {F : Type 0} (key number : F → ℕ) (empty : F → Bool) where
   abbrev New : ℕ → List F → Option F

@@ -5,7 +5,7 @@ use Rattle.std.proofs.lemmas.Bool.{eqb-true, eq-eqb, ne_eqb, cases_order, cases_
 use Rattle.std.proofs.lemmas.List.{get_or_default}
 use Rattle.pur_base.specs.Says.{has_key}
 use Rattle.pyramid.specs.Layers.{newest_of, IsOrdered, IsBefore}
-use Rattle.pyramid.proofs.NewestLemmas.{newest_none, newest_is}
+use Rattle.pyramid.specs.lemmas.Newest.{newest_none, newest_is}
 
 module _ {F : Type 0} (key number : F → ℕ) where
   pub found_at : (k : ℕ) (xs : List F) (e : ℕ) (x : F) → IsOrdered key number xs → 0 < e → e ≤ length xs

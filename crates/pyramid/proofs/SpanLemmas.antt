@@ -10,12 +10,12 @@ use Rattle.pur_base.specs.Says.{Ascends, has_key, says, unless_empty}
 use Rattle.pur_base.specs.Visible.{is_within}
 use Rattle.pyramid.specs.Layers.{facts_of, newest_of, is_between, stays, if_passes, AreBelow, Rises, IsBefore, IsOrdered}
 use Rattle.pyramid.specs.Merging.{later, merged, lasts, IsSpan}
-use Rattle.pyramid.proofs.ContainsLemmas.{of_filter}
-use Rattle.pyramid.proofs.NewestLemmas.{newest-append, newest_found, newest_is}
-use Rattle.pyramid.proofs.MergeLemmas.{ascends_merged, ascends_filter, ascends-nil, merged_newest, filter_newest}
+use Rattle.pyramid.specs.lemmas.Contains.{of_filter}
+use Rattle.pyramid.specs.lemmas.Newest.{newest-append, newest_found, newest_is}
+use Rattle.pyramid.specs.lemmas.Merges.{ascends_merged, ascends_filter, ascends-nil, merged_newest, filter_newest}
 use Rattle.pyramid.proofs.FlushLemmas.{ascends_lasts, newest_lasts}
 use Rattle.pyramid.proofs.ReasonLemmas.{of_merged, of_lasts}
-use Rattle.pyramid.proofs.LayerLemmas.{below_at, all_below}
+use Rattle.pyramid.specs.lemmas.Layers.{below_at, all_below}
 use Rattle.pyramid.proofs.PlaceLemmas.{facts_append}
 
 module _ {X : Type 0} (p : X → Bool) where

@@ -8,8 +8,8 @@ use Rattle.std.proofs.lemmas.List.{take_more, take-append-drop, get_or-take, get
 use Rattle.pur_base.specs.Says.{has_key, Ascends}
 use Rattle.pyramid.specs.Layers.{facts_of, newest_of, IsOrdered, AreBelow, Rises}
 use Rattle.pyramid.specs.Merging.{later}
-use Rattle.pyramid.proofs.NewestLemmas.{newest-append, newest_none, newest_found, later_none}
-use Rattle.pyramid.proofs.LayerLemmas.{later_below, below-left}
+use Rattle.pyramid.specs.lemmas.Newest.{newest-append, newest_none, newest_found, later_none}
+use Rattle.pyramid.specs.lemmas.Layers.{later_below, below-left}
 use Rattle.pyramid.proofs.SearchLemmas.{rises}
 
 pub option_or-assoc : {F : Type 0} (a b c : Option F) → option_or a (option_or b c) ≡ option_or (option_or a b) c

@@ -3,3 +3,4 @@ pub mod Merging
 pub mod Ends
 pub mod Shown
 pub mod Loading
+pub mod lemmas

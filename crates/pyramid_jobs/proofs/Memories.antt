@@ -9,16 +9,16 @@ use Rattle.fact_codec.specs.Fact.{IsFact}
 use Rattle.boot_codec.specs.declared.limits.TheConstants.{NUMBER_LIMIT}
 use Rattle.array_spec.specs.Stored.{all_facts, in_patches}
 use Rattle.pyramid.specs.Layers.{facts_of}
-use Rattle.pyramid.proofs.LayerLemmas.{all_contained}
+use Rattle.pyramid.specs.lemmas.Layers.{all_contained}
 use Rattle.memory_spec.specs.Memory.{Contents, IsSound, Memory, ReadsAs}
 use Rattle.memory_spec.specs.Tables.{Tables, all_of, facts, flushed, patches}
-use Rattle.memory_spec.proofs.AllTables.{all_addresses, all_elisions, all_mediums, all_objects, all_segments, of_all}
+use Rattle.memory_spec.specs.lemmas.AllTables.{all_addresses, all_elisions, all_mediums, all_objects, all_segments, of_all}
 use Rattle.memory_spec.specs.Flushing.{IsShrunk}
 use Rattle.memory_spec.specs.Merging.{HaveShrunk, IsMergedAt}
 use Rattle.memory_spec.specs.Whole.{AreLayered}
-use Rattle.memory_spec.proofs.Merged.{merge_shrinks, one_merge_is_merge}
-use Rattle.memory_spec.proofs.Patches.{in_patches_are, patches_are_flushed}
-use Rattle.memory_spec.proofs.Shrinking.{shrinking_reads, shrunk_sound}
+use Rattle.memory_spec.specs.lemmas.Merged.{merge_shrinks, one_merge_is_merge}
+use Rattle.memory_spec.specs.lemmas.Patches.{in_patches_are, patches_are_flushed}
+use Rattle.memory_spec.specs.lemmas.Shrinking.{shrinking_reads, shrunk_sound}
 use Rattle.table_plan.specs.Planned.{AreStored}
 use Rattle.table_plan.specs.declared.merged.Merged.{Merged}
 use Rattle.table_plan.specs.declared.merged.Merged.TheVariants as merged

@@ -26,7 +26,7 @@ use Rattle.record_tables.specs.Patches.{new_patch}
 use Rattle.record_tables.proofs.JoinedLawful.{joined_are_lawful}
 use Rattle.record_tables.proofs.JoinedNamed.{joined_are_named, merged_is_named}
 use Rattle.record_tables.proofs.JoinedSound.{joined_segments_are_sound}
-use Rattle.record_tables.proofs.Lists.{all_weaker}
+use Rattle.record_tables.specs.lemmas.Lists.{all_weaker}
 use Rattle.array_core.specs.declared.array.Array.{Array}
 use Rattle.array_core.specs.Ready.{IsArrayOf}
 use Rattle.array_core.proofs.Applied.{segments_sound}

@@ -23,7 +23,7 @@ use Rattle.world.specs.Losing.{geometry_of}
 use Rattle.world.specs.Shelf.{Shelved}
 use Rattle.memory_spec.specs.Memory.{Memory}
 use Rattle.memory_spec.specs.Tables.{facts}
-use Rattle.memory_spec.proofs.Lists.{of_each, contains_at}
+use Rattle.memory_spec.specs.lemmas.Lists.{of_each, contains_at}
 use Rattle.table_plan.specs.Patches.{ArePatchFacts}
 use Rattle.table_plan.specs.Merging.{merged_facts}
 use Rattle.table_plan.proofs.MergeLemmas.{are_patch_facts}
@@ -33,7 +33,7 @@ use Rattle.record_tables.specs.Patches.{new_patch}
 use Rattle.record_tables.specs.Units.{AreNewUnits}
 use Rattle.record_tables.proofs.Added.{new_some, segments_long, segments_places, the_patch}
 use Rattle.record_tables.proofs.Lawful.{new_lawful}
-use Rattle.record_tables.proofs.Lists.{all_weaker}
+use Rattle.record_tables.specs.lemmas.Lists.{all_weaker}
 use Rattle.record_tables.proofs.Neighbours.{few_segments}
 use Rattle.array_core.specs.declared.array.Array.{Array}
 use Rattle.array_core.specs.Ready.{IsArrayOf}

@@ -6,7 +6,7 @@ use Rattle.pur_base.specs.declared.request.Table.{Table}
 use Rattle.world.specs.Losing.{geometry_of}
 use Rattle.world.specs.Shelf.{Shelved, Continues, IsShelf, LeavesOnly}
 use Rattle.world.specs.Writes.{WritesOnly}
-use Rattle.world.proofs.Writes.{writes_more}
+use Rattle.world.specs.lemmas.Writes.{writes_more}
 use Rattle.register.specs.Standing.{Content, array_of}
 use Rattle.memory_spec.specs.Memory.{Contents}
 use Rattle.memory_spec.specs.Tables.{facts}

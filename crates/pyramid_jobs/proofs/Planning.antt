@@ -11,7 +11,7 @@ use Rattle.unit_map.specs.Map.{IsGroups}
 use Rattle.free_space.specs.Map.{IsMapOf}
 use Rattle.memory_spec.specs.Memory.{Memory}
 use Rattle.memory_spec.specs.Tables.{facts, patches}
-use Rattle.memory_spec.proofs.Lists.{zip_long}
+use Rattle.memory_spec.specs.lemmas.Lists.{zip_long}
 use Rattle.memory_spec.specs.Merging.{AreJoined, pair_segments, place_in}
 use Rattle.memory_spec.specs.Whole.{IsNamed}
 use Rattle.table_plan.specs.declared.merged.Merged.{Merged}

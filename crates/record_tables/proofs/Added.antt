@@ -8,7 +8,7 @@ use Rattle.pur_base.specs.declared.place.Place.{Place}
 use Rattle.boot_codec.specs.declared.patch.PatchSegment.{PatchSegment}
 use Rattle.boot_codec.specs.declared.patch.Patch.{Patch}
 use Rattle.record_tables.specs.Patches.{segments_for, segments_from, new_patch, added_from}
-use Rattle.array_spec.proofs.Used.{all_append}
+use Rattle.array_spec.specs.lemmas.Used.{all_append}
 
 -- ---- segments
 

@@ -16,7 +16,7 @@ use Rattle.record_tables.proofs.Tags.{HaveTag, lower, behind_tag}
 use Rattle.record_tables.proofs.Added.{new_each}
 use Rattle.record_tables.proofs.Lawful.{new_lawful, new_room, fewer}
 use Rattle.record_tables.proofs.Neighbours.{ArePair, joined_pair, two_segments}
-use Rattle.array_spec.proofs.Used.{all_append, all_append_left, all_append_right}
+use Rattle.array_spec.specs.lemmas.Used.{all_append, all_append_left, all_append_right}
 
 -- ---- tags
 

@@ -11,7 +11,7 @@ use Rattle.pur_base.specs.declared.facts.AnyFact.TheVariants as any
 use Rattle.pyramid.specs.Layers.{patch_facts, patches_of}
 use Rattle.memory_spec.specs.Memory.{Memory}
 use Rattle.memory_spec.specs.Tables.{Tables, patches}
-use Rattle.memory_spec.proofs.Lists.{zip_long}
+use Rattle.memory_spec.specs.lemmas.Lists.{zip_long}
 use Rattle.memory_spec.specs.Merging.{AreJoined, place_in}
 use Rattle.memory_spec.specs.Whole.{IsNamed}
 use Rattle.table_plan.specs.declared.merged.Merged.{Merged}
@@ -19,7 +19,7 @@ use Rattle.table_plan.specs.declared.merged.Merged.TheVariants as merged
 use Rattle.table_plan.specs.Merging.{merged_patches, patch_count, table_of, tables_with, IsMergedOf}
 use Rattle.record_tables.specs.Patches.{new_patch}
 use Rattle.record_tables.specs.Joined.{JoinedAreNamed, MergedIsNamed}
-use Rattle.record_tables.proofs.Lists.{zip_join, zip_parts}
+use Rattle.record_tables.specs.lemmas.Lists.{zip_join, zip_parts}
 use Rattle.record_tables.proofs.Named.{new_named}
 use Rattle.record_tables.proofs.Neighbours.{two_of, lower_is}
 use Rattle.record_tables.proofs.Pairs.{AreNamedParts, before, behind, named_parts, patches_are}

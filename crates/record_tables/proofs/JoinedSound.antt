@@ -16,13 +16,13 @@ use Rattle.boot_codec.specs.declared.record.BootRecord.{BootRecord}
 use Rattle.array_spec.specs.Sound.{AreApart, AreSegmentsSound, named_segments, used_places}
 use Rattle.free_space.specs.Map.{shelf_of}
 use Rattle.free_space.specs.Laws.{AreUnitsToTake}
-use Rattle.memory_spec.proofs.Lists.{each_by_recursion, of_each}
+use Rattle.memory_spec.specs.lemmas.Lists.{each_by_recursion, of_each}
 use Rattle.memory_spec.specs.Merging.{AreJoined, place_in}
 use Rattle.record_tables.specs.Patches.{segments_for, segments_from, new_patch}
 use Rattle.record_tables.specs.Units.{AreNewUnits}
 use Rattle.record_tables.specs.Laws.{with_patches}
 use Rattle.record_tables.specs.Joined.{JoinedSegmentsAreSound}
-use Rattle.record_tables.proofs.Lists.{contains_without, pairs_without}
+use Rattle.record_tables.specs.lemmas.Lists.{contains_without, pairs_without}
 use Rattle.record_tables.proofs.Woven.{woven_all, woven_between, woven_pairs}
 use Rattle.record_tables.proofs.Added.{patch_segments_are, segments_places}
 use Rattle.record_tables.proofs.Visible.{same_below}

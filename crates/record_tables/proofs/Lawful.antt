@@ -10,11 +10,11 @@ use Rattle.boot_codec.specs.Record.{IsSegment, IsPatch, ByTagFrom, patch_segment
 use Rattle.array_spec.specs.Sound.{ArePlaces}
 use Rattle.record_tables.specs.Patches.{segments_for, counts_of, segments_from, new_patch, added_from, added_patches, by_tag}
 use Rattle.record_tables.specs.Laws.{NextPatchesAreLawful}
-use Rattle.record_tables.proofs.Lists.{all_weaker}
+use Rattle.record_tables.specs.lemmas.Lists.{all_weaker}
 use Rattle.record_tables.proofs.Woven.{Woven, woven_all, woven_sum}
 use Rattle.record_tables.proofs.Tags.{HaveTagsBelow, woven_in_order, ordered}
 use Rattle.record_tables.proofs.Added.{new_some, new_each, segments_long, patch_segments_are, taken_long, left_long, added_segments}
-use Rattle.array_spec.proofs.Used.{all_append, all_append_left, all_append_right}
+use Rattle.array_spec.specs.lemmas.Used.{all_append, all_append_left, all_append_right}
 
 -- ---- tags
 

@@ -1,4 +1,3 @@
-pub mod Lists
 pub mod Woven
 pub mod Tags
 pub mod Added

@@ -17,10 +17,10 @@ use Rattle.array_memory.specs.declared.plan.Plan.{Plan}
 use Rattle.array_memory.specs.Plan.{after_plan, AreCounts}
 use Rattle.record_tables.specs.Patches.{counts_of, new_patch, added_patches, by_tag}
 use Rattle.record_tables.specs.Laws.{HasFacts, HaveFacts, new_facts, AddedAreNamed, AddedTakeTheUnits, NextPatchesAreNamed}
-use Rattle.record_tables.proofs.Lists.{all_weaker, zip_join, zip_split, zip_weaker, zip_both}
+use Rattle.record_tables.specs.lemmas.Lists.{all_weaker, zip_join, zip_split, zip_weaker, zip_both}
 use Rattle.record_tables.proofs.Tags.{HaveTag, HaveTagsFrom, in_order, first_table}
 use Rattle.record_tables.proofs.Added.{new_some, added_filled, added_places}
-use Rattle.array_spec.proofs.Used.{all_append, all_append_left, all_append_right}
+use Rattle.array_spec.specs.lemmas.Used.{all_append, all_append_left, all_append_right}
 
 -- ---- the new patches
 

@@ -10,10 +10,10 @@ use Rattle.pur_base.specs.Tags.{tag_of}
 use Rattle.pur_base.specs.declared.request.Table.{Table}
 use Rattle.boot_codec.specs.declared.patch.Patch.{Patch}
 use Rattle.boot_codec.specs.Record.{ByTagFrom, patch_segments}
-use Rattle.memory_spec.proofs.Lists.{of_each}
+use Rattle.memory_spec.specs.lemmas.Lists.{of_each}
 use Rattle.memory_spec.specs.Merging.{AreJoined, has_pair, pair_segments, place_in}
 use Rattle.record_tables.specs.Patches.{of_tag}
-use Rattle.record_tables.proofs.Lists.{all_weaker}
+use Rattle.record_tables.specs.lemmas.Lists.{all_weaker}
 use Rattle.record_tables.proofs.Tags.{HaveTag, HaveTagsFrom, HaveTagsBelow, parted, tags_from, of_tag_none, of_tag_front}
 
 -- ---- two neighbours of a list

@@ -16,16 +16,16 @@ use Rattle.boot_codec.specs.declared.limits.TheConstants.{FACTS_PER_SEGMENT, PAT
 use Rattle.boot_codec.specs.declared.patch.Patch.{Patch}
 use Rattle.boot_codec.specs.Record.{IsPatch, ArePatches, patch_segments}
 use Rattle.memory_spec.specs.Tables.{Tables, patches}
-use Rattle.memory_spec.proofs.Lists.{of_each, zip_long}
+use Rattle.memory_spec.specs.lemmas.Lists.{of_each, zip_long}
 use Rattle.memory_spec.specs.Merging.{has_pair, pair_segments}
 use Rattle.memory_spec.specs.Whole.{IsNamed}
 use Rattle.table_plan.specs.Merging.{pair_facts, patch_count}
 use Rattle.record_tables.specs.Patches.{segments_for, of_tag}
 use Rattle.record_tables.specs.Joined.{PairsAreNamed}
-use Rattle.record_tables.proofs.Lists.{all_weaker, zip_split, zip_at}
+use Rattle.record_tables.specs.lemmas.Lists.{all_weaker, zip_split, zip_at}
 use Rattle.record_tables.proofs.Named.{AreFilled, tags_pass, all_pass}
 use Rattle.record_tables.proofs.Neighbours.{IsParting, own_is, no_patch, two_left, two_segments, few_segments}
-use Rattle.array_spec.proofs.Used.{all_append, all_append_left, all_append_right}
+use Rattle.array_spec.specs.lemmas.Used.{all_append, all_append_left, all_append_right}
 
 -- ---- segments for facts
 

@@ -18,14 +18,14 @@ use Rattle.free_space.specs.Map.{shelf_of}
 use Rattle.free_space.specs.Laws.{AreUnitsToTake}
 use Rattle.memory_spec.specs.Tables.{facts}
 use Rattle.memory_spec.specs.Memory.{Memory}
-use Rattle.memory_spec.proofs.Lists.{each_by_recursion, of_each, in_map}
+use Rattle.memory_spec.specs.lemmas.Lists.{each_by_recursion, of_each, in_map}
 use Rattle.array_memory.specs.declared.plan.Counts.{Counts}
 use Rattle.array_memory.specs.declared.plan.Plan.{Plan}
 use Rattle.array_memory.specs.Plan.{after_plan, units_of, IsPlanFor}
 use Rattle.record_tables.specs.Patches.{counts_of, segments_of, segments_from, added_patches, by_tag}
 use Rattle.record_tables.specs.Units.{AreNewUnits}
 use Rattle.record_tables.specs.Laws.{with_patches, NextSegmentsAreSound}
-use Rattle.record_tables.proofs.Lists.{all_weaker, no_pairs, cons_pairs, pairs_swapped}
+use Rattle.record_tables.specs.lemmas.Lists.{all_weaker, no_pairs, cons_pairs, pairs_swapped}
 use Rattle.record_tables.proofs.Woven.{Woven, woven_all, woven_append, woven_flat, woven_joined, woven_map, woven_pairs}
 use Rattle.record_tables.proofs.Added.{added_segments, segments_places}
 use Rattle.record_tables.proofs.Lawful.{next_woven}

@@ -11,18 +11,18 @@ use Rattle.pur_base.specs.declared.place.Place.{Place}
 use Rattle.boot_codec.specs.declared.record.BootRecord.{BootRecord}
 use Rattle.array_spec.specs.Counts.{is_place, is_used}
 use Rattle.array_spec.specs.Sound.{AreApart}
-use Rattle.pyramid.proofs.ContainsLemmas.{either, nowhere}
+use Rattle.pyramid.specs.lemmas.Contains.{either, nowhere}
 use Rattle.unit_map.specs.declared.drive.Drive.{Drive}
 use Rattle.unit_map.specs.Map.{with_units, IsTaken, IsGroups, LowersByOne}
 use Rattle.free_space.specs.Map.{IsMapOf, IsMapBut, is_data_unit, is_member, used_or_among}
 use Rattle.free_space.specs.Laws.{AreUnitsToTake}
 use Rattle.free_space.proofs.LawLemmas.{taken_units_are_free, taken_units_are_used}
 use Rattle.free_space.proofs.Units.{same_used}
-use Rattle.memory_spec.proofs.Lists.{each_by_recursion}
+use Rattle.memory_spec.specs.lemmas.Lists.{each_by_recursion}
 use Rattle.record_tables.specs.Units.{all_units, AreNewUnits, IsMapAfter, NoneIsTaken}
-use Rattle.record_tables.proofs.Lists.{no_pairs, cons_pairs, pairs_append}
+use Rattle.record_tables.specs.lemmas.Lists.{no_pairs, cons_pairs, pairs_append}
 use Rattle.record_tables.proofs.Room.{HasRoom, room_left, one_lower, none_lower}
-use Rattle.array_spec.proofs.Used.{all_append}
+use Rattle.array_spec.specs.lemmas.Used.{all_append}
 
 -- ---- units that aren't among others
 

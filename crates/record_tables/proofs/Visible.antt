@@ -12,26 +12,26 @@ use Rattle.pur_base.specs.declared.place.Place.{Place}
 use Rattle.pur_base.specs.declared.request.Table.{Table}
 use Rattle.pur_base.specs.declared.request.Table.TheVariants as table
 use Rattle.pur_base.specs.declared.facts.SegmentFact.{SegmentFact}
-use Rattle.pur_base.proofs.SaysLemmas.{says_is}
+use Rattle.pur_base.specs.lemmas.Says.{says_is}
 use Rattle.pyramid.specs.Layers.{Layers, facts_of, newest_of, AreCovered}
 use Rattle.pyramid.specs.Merging.{later}
-use Rattle.pyramid.proofs.ContainsLemmas.{here, there}
+use Rattle.pyramid.specs.lemmas.Contains.{here, there}
 use Rattle.pyramid.proofs.CoverLemmas.{cover_put}
 use Rattle.pyramid.proofs.ElisionLemmas.{same_ids}
-use Rattle.pyramid.proofs.KeyLemmas.{id_of_key}
-use Rattle.pyramid.proofs.NewestLemmas.{newest-append, later_none}
+use Rattle.pyramid.specs.lemmas.Keys.{id_of_key}
+use Rattle.pyramid.specs.lemmas.Newest.{newest-append, later_none}
 use Rattle.memory_spec.specs.Tables.{facts}
 use Rattle.memory_spec.specs.Memory.{Memory}
-use Rattle.memory_spec.proofs.Adding.{only_newest, no_newest}
+use Rattle.memory_spec.specs.lemmas.Adding.{only_newest, no_newest}
 use Rattle.memory_spec.proofs.Created.{not_elided}
-use Rattle.memory_spec.proofs.Lists.{each_by_recursion, of_each}
+use Rattle.memory_spec.specs.lemmas.Lists.{each_by_recursion, of_each}
 use Rattle.memory_spec.specs.Flushing.{IsTableFlushed}
-use Rattle.memory_spec.proofs.Flushed.{flushed_within, flushed_says, grows_all}
+use Rattle.memory_spec.specs.lemmas.Flushed.{flushed_within, flushed_says, grows_all}
 use Rattle.table_plan.specs.Segments.{segments_from}
 use Rattle.table_plan.proofs.SegmentsLemmas.{IsNewSegment, is_new_segment}
 use Rattle.array_memory.specs.declared.plan.Plan.{Plan}
 use Rattle.array_memory.specs.Plan.{after_plan, units_of, IsPlanFor}
-use Rattle.array_spec.proofs.Mediums.{same_some}
+use Rattle.array_spec.specs.lemmas.Mediums.{same_some}
 
 -- ---- ids, one after another
 

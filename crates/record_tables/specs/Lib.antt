@@ -2,3 +2,4 @@ pub mod Patches
 pub mod Units
 pub mod Laws
 pub mod Joined
+pub mod lemmas

@@ -22,28 +22,28 @@ use Rattle.log_codec.specs.Log.{ShowsIn, Shows as ShowsOn, IsInSlot, LogFrom}
 use Rattle.array_spec.specs.Meaning.{IsInForce, AllHold}
 use Rattle.array_spec.specs.Standing.{Stands, MayBeGiven, MayAppear, IsViewOf, IsReadInto, IsReadBy, LeadsInto}
 use Rattle.array_spec.specs.Unflushed.{LogLies}
-use Rattle.array_spec.proofs.Settling.{this_or_other, twice_other, decided_or_not}
-use Rattle.array_spec.proofs.Spelled.{spells_one}
-use Rattle.array_spec.proofs.Standings.{sound_shows}
-use Rattle.array_spec.proofs.UnflushedRead.{one_left}
+use Rattle.array_spec.specs.lemmas.Settling.{this_or_other, twice_other, decided_or_not}
+use Rattle.array_spec.specs.lemmas.Spelled.{spells_one}
+use Rattle.array_spec.specs.lemmas.Standings.{sound_shows}
+use Rattle.array_spec.specs.lemmas.UnflushedRead.{one_left}
 use Rattle.array_spec.specs.Held.{TablesHold, NamesNoneLeftOut}
-use Rattle.array_spec.proofs.Next.{next_holds}
-use Rattle.array_spec.proofs.Reading.{record_is_read, read_holds}
-use Rattle.array_spec.proofs.Unique.{one_base}
-use Rattle.array_spec.proofs.Votes.{most_votes, not_missing, one_is_decided, sound_before}
+use Rattle.array_spec.specs.lemmas.Next.{next_holds}
+use Rattle.array_spec.specs.lemmas.Reading.{record_is_read, read_holds}
+use Rattle.array_spec.specs.lemmas.Unique.{one_base}
+use Rattle.array_spec.specs.lemmas.Votes.{most_votes, not_missing, one_is_decided, sound_before}
 use Rattle.world.specs.Shelf.{Shelved, Stop, IsShelf, MayLeave}
 use Rattle.world.specs.Writes.{LeavesBut}
 use Rattle.boot_region.specs.Members.{IsMember, OnSlot}
 use Rattle.world.specs.Losing.{geometry_of}
-use Rattle.world.proofs.Stopped.{as_read}
+use Rattle.world.specs.lemmas.Stopped.{as_read}
 use Rattle.boot_region.specs.Storing.{IsOpening}
 use Rattle.boot_region.proofs.Composing.{all_decide, as_it_is}
-use Rattle.boot_region.proofs.ShownLemmas.{shown_body}
+use Rattle.boot_region.specs.lemmas.Shown.{shown_body}
 use Rattle.nvram_log.specs.Members as nv
 use Rattle.register.specs.declared.state.Register.{Register}
 use Rattle.register.specs.Registers.{drives_of, own_slot, next_slot, next_record}
 use Rattle.register.specs.Standing.{AllShow, Content, AreOfMembers, IsNextOf, MayStore}
-use Rattle.register.proofs.FlagLemmas.{in_cut}
+use Rattle.register.specs.lemmas.Flags.{in_cut}
 use Rattle.register.proofs.Follows.{shows_itself}
 use Rattle.register.proofs.Splice.{at_members, members_stop, members_bodies, others_bodies, members_boot}
 use Rattle.register.proofs.Numbers.{generation_spelled, lower_yields, next_other}

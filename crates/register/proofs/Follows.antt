@@ -15,16 +15,16 @@ use Rattle.log_codec.specs.Log.{ShowsIn}
 use Rattle.array_spec.specs.Standing.{Stands, MayBeGiven, IsViewOf, IsReadInto, FollowsOn, HasNoLog}
 use Rattle.array_spec.specs.Unflushed.{LogLies}
 use Rattle.array_spec.specs.Held.{TablesHold, NamesNoneLeftOut}
-use Rattle.array_spec.proofs.Next.{next_holds}
-use Rattle.array_spec.proofs.Reading.{record_is_read, read_holds}
-use Rattle.array_spec.proofs.Unique.{one_base}
-use Rattle.array_spec.proofs.Votes.{one_is_decided, sound_before}
-use Rattle.array_spec.proofs.Standings.{within_twice, more_may_go_missing}
-use Rattle.array_spec.proofs.Settling.{this_or_other, twice_other}
-use Rattle.array_spec.proofs.Spelled.{spells_one}
+use Rattle.array_spec.specs.lemmas.Next.{next_holds}
+use Rattle.array_spec.specs.lemmas.Reading.{record_is_read, read_holds}
+use Rattle.array_spec.specs.lemmas.Unique.{one_base}
+use Rattle.array_spec.specs.lemmas.Votes.{one_is_decided, sound_before}
+use Rattle.array_spec.specs.lemmas.Standings.{within_twice, more_may_go_missing}
+use Rattle.array_spec.specs.lemmas.Settling.{this_or_other, twice_other}
+use Rattle.array_spec.specs.lemmas.Spelled.{spells_one}
 use Rattle.world.specs.Shelf.{Shelved, Stop, MayStop, IsShelf}
 use Rattle.world.specs.Losing.{geometry_of}
-use Rattle.world.proofs.Stopped.{as_read}
+use Rattle.world.specs.lemmas.Stopped.{as_read}
 use Rattle.boot_region.specs.Members.{IsMember}
 use Rattle.boot_region.specs.Storing.{StandsNow, OnlyBoot, IsInForceOn, MayFollow}
 use Rattle.boot_region.proofs.Composing.{all_decide, as_it_is}
@@ -33,7 +33,7 @@ use Rattle.register.specs.Registers.{next_record}
 use Rattle.register.specs.Standing.{Content, ShowsOn, array_of}
 use Rattle.register.proofs.Splice.{at_splice, splice_stops, splice_bodies, splice_boot, only_boot_twice}
 use Rattle.register.proofs.Numbers.{generation_spelled, next_other, yields_le, slots_differ}
-use Rattle.array_spec.proofs.UnflushedRead.{was_left_out}
+use Rattle.array_spec.specs.lemmas.UnflushedRead.{was_left_out}
 
 -- a device may show itself
 pub shows_itself : (c : Condition) (bytes : List ℕ) → ((i : ℕ) → Rattle.std.specs.Prelude.slice_index bytes i < 256) → MayShowAs c bytes (Some bytes)

@@ -1,4 +1,3 @@
-pub mod FlagLemmas
 pub mod Numbers
 pub mod Follows
 pub mod Opened
@@ -6,13 +5,10 @@ pub mod Resting
 pub mod Again
 pub mod Back
 pub mod Rounds
-pub mod Stores
 pub mod Turns
 pub mod Splice
 pub mod Unflushed
-pub mod Shows
 pub mod Tabling
 pub mod Left
-pub mod Moments
 pub mod Outlasts
 pub mod Made

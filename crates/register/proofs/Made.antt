@@ -18,9 +18,9 @@ use Rattle.register.specs.Faults.{IsFaultOf}
 use Rattle.register.specs.Registers.{IsLaterRecord, IsRegisterOf, drives_of, next_record}
 use Rattle.register.specs.Standing.{StaysLogged}
 use Rattle.register.specs.Storing.{DropsOnlyFailed, HasPut, HasStored, HasStoredOnce, LeavesLogged}
-use Rattle.register.proofs.FlagLemmas.{in_cut, put_back}
+use Rattle.register.specs.lemmas.Flags.{in_cut, put_back}
 use Rattle.register.proofs.Rounds.{cut_left, same_shelf}
-use Rattle.register.proofs.Stores.{at_most_slots, fewer_left, for_err, if_err, midway_then, on_err, on_ok}
+use Rattle.register.specs.lemmas.Stores.{at_most_slots, fewer_left, for_err, if_err, midway_then, on_err, on_ok}
 
 -- what is known of the room of its body is the same in each register
 pub same_but_room : (r : Register) (room : length r.body.items ≡ RECORD_BYTES) → r ≡ record r { room = room }

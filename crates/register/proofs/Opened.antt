@@ -8,7 +8,7 @@ use Rattle.pur_base.specs.Plain.{Array}
 use Rattle.boot_codec.specs.Record.{set_count}
 use Rattle.boot_codec.specs.Spelling.{spelling}
 use Rattle.boot_codec.specs.Region.{slot_of, names}
-use Rattle.array_spec.proofs.Votes.{counted}
+use Rattle.array_spec.specs.lemmas.Votes.{counted}
 use Rattle.world.specs.Shelf.{Shelved, IsShelf}
 use Rattle.world.specs.Losing.{geometry_of}
 use Rattle.boot_region.specs.Members.{IsMember}
@@ -17,7 +17,7 @@ use Rattle.nvram_log.specs.Members as nv
 use Rattle.register.specs.declared.state.Register.{Register}
 use Rattle.register.specs.Registers.{drives_of, next_slot, named_sound}
 use Rattle.register.specs.Standing.{Content, StandsInLog, IsOpen, array_of}
-use Rattle.register.proofs.FlagLemmas.{none_past, cut_in}
+use Rattle.register.specs.lemmas.Flags.{none_past, cut_in}
 use Rattle.register.proofs.Resting.{in_force, stands, alone}
 
 -- ---- counts

@@ -3,7 +3,7 @@ use Rattle.std.proofs.Common.{◌≡◌, ℕ, List, length, ◌∙◌, sym, subs
 use Rattle.pur_base.specs.Devices.{Conditions, Sound, IsBearable, drive}
 use Rattle.pur_base.specs.Plain.{Array}
 use Rattle.array_spec.specs.Standing.{Stands}
-use Rattle.array_spec.proofs.Standings.{within_twice}
+use Rattle.array_spec.specs.lemmas.Standings.{within_twice}
 use Rattle.world.specs.Shelf.{Shelved, Stop, Continues}
 use Rattle.world.specs.Losing.{geometry_of}
 use Rattle.boot_region.specs.Members.{IsMember}

@@ -19,23 +19,23 @@ use Rattle.array_spec.specs.Standing.{Stands, MayBeGiven, MayAppear, IsReadInto}
 use Rattle.array_spec.specs.Laws.{IsHeld, is_sound_vote}
 use Rattle.array_spec.specs.Unflushed.{LogLies, NamesSound}
 use Rattle.array_spec.specs.Held.{NamesNoneLeftOut}
-use Rattle.array_spec.proofs.Reading.{record_is_read}
-use Rattle.array_spec.proofs.Votes.{one_is_effective, held_is_given}
+use Rattle.array_spec.specs.lemmas.Reading.{record_is_read}
+use Rattle.array_spec.specs.lemmas.Votes.{one_is_effective, held_is_given}
 use Rattle.array_spec.proofs.Held.{held_stands}
-use Rattle.array_spec.proofs.Settling.{twice_other}
-use Rattle.array_spec.proofs.Spelled.{spells_one}
+use Rattle.array_spec.specs.lemmas.Settling.{twice_other}
+use Rattle.array_spec.specs.lemmas.Spelled.{spells_one}
 use Rattle.world.specs.Shelf.{Shelved, Stop, MayStop, IsShelf}
 use Rattle.world.specs.Losing.{geometry_of}
-use Rattle.world.proofs.Stopped.{as_read}
+use Rattle.world.specs.lemmas.Stopped.{as_read}
 use Rattle.boot_region.specs.Members.{IsMember}
 use Rattle.boot_region.specs.Storing.{Shows, IsOlder, IsInForceOn}
 use Rattle.boot_region.proofs.Composing.{as_it_is, is_sound_is, votes_not}
-use Rattle.boot_region.proofs.ShownLemmas.{shown_body}
+use Rattle.boot_region.specs.lemmas.Shown.{shown_body}
 use Rattle.nvram_log.specs.Members as nv
 use Rattle.register.specs.declared.state.Register.{Register}
 use Rattle.register.specs.Registers.{drives_of, next_slot}
 use Rattle.register.specs.Standing.{Content, StandsInLog, MayStore, array_of}
-use Rattle.register.proofs.FlagLemmas.{in_cut}
+use Rattle.register.specs.lemmas.Flags.{in_cut}
 use Rattle.boot_region.proofs.StillGiven.{yields_or}
 use Rattle.boot_region.proofs.Stored.{count_none}
 

@@ -13,30 +13,30 @@ use Rattle.boot_codec.specs.Spelling.{spelling}
 use Rattle.boot_codec.specs.Region.{BootSlot, A, B, IsRecordOf, names, other_slot, body_in, body_place, generation_in, Yields}
 use Rattle.array_spec.specs.Standing.{MayBeGiven}
 use Rattle.array_spec.specs.Held.{TablesHold}
-use Rattle.array_spec.proofs.Next.{next_holds}
-use Rattle.array_spec.proofs.Quiet.{bytes_same}
-use Rattle.array_spec.proofs.Votes.{counted, sound_before}
-use Rattle.array_spec.proofs.Settling.{twice_other}
+use Rattle.array_spec.specs.lemmas.Next.{next_holds}
+use Rattle.array_spec.specs.lemmas.Quiet.{bytes_same}
+use Rattle.array_spec.specs.lemmas.Votes.{counted, sound_before}
+use Rattle.array_spec.specs.lemmas.Settling.{twice_other}
 use Rattle.world.specs.Shelf.{Shelved, Disk, Stop, IsShelf, IsInSome, MayLeave, MayStop, Continues, LeavesOnly}
 use Rattle.world.specs.Losing.{geometry_of}
 use Rattle.world.specs.Writes.{ChangesOnly, LeavesBut}
 use Rattle.world.specs.Ran.{Runs}
-use Rattle.world.proofs.Moments.{weaker}
+use Rattle.world.specs.lemmas.Moments.{weaker}
 use Rattle.boot_region.specs.Members.{IsMember, IsOneOf, DroppedFailed, OnSlot}
 use Rattle.boot_region.specs.Storing.{Shows, IsInStore, HeldStill, IsOlder, IsFirmOn, IsInForceOn, IsNewer, IsStored, IsStoredIn, IsStoredOn, MayFollow, StandsAgain, StandsBut}
-use Rattle.boot_region.proofs.ShownLemmas.{shown_body}
+use Rattle.boot_region.specs.lemmas.Shown.{shown_body}
 use Rattle.nvram_log.specs.Members as nv
 use Rattle.register.specs.declared.state.Register.{Register}
 use Rattle.register.specs.Registers.{IsRegisterOf, OnSlots, drives_of, own_slot, next_slot, next_record}
 use Rattle.register.specs.Storing.{AreShown}
 use Rattle.register.specs.Standing.{Content, IsShown, ShowsOn, IsNextOf, GivesOldOrNext, IsInStoreOf, StillGiven, StandsInLog, IsFirm, MayStore, MayStoreAgain, MayStoreFirmly}
-use Rattle.register.proofs.FlagLemmas.{fewer_mask, in_cut, cut_in, none_past}
+use Rattle.register.specs.lemmas.Flags.{fewer_mask, in_cut, cut_in, none_past}
 use Rattle.register.proofs.Numbers.{generation_spelled, next_other, lower_yields}
 use Rattle.register.proofs.Back.{is_next_of, stands_back}
 use Rattle.register.proofs.Follows.{may_follow}
-use Rattle.register.proofs.Stores.{cut_length}
+use Rattle.register.specs.lemmas.Stores.{cut_length}
 use Rattle.register.proofs.Splice.{in_boot, at_splice, splice_stops, splice_bodies, splice_boot}
-use Rattle.array_spec.proofs.UnflushedRead.{was_left_out}
+use Rattle.array_spec.specs.lemmas.UnflushedRead.{was_left_out}
 use Rattle.nvram_log.proofs.SettledEach.{both_leave}
 
 -- ---- the next record is lawful

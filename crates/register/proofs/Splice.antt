@@ -6,7 +6,7 @@ use Rattle.pur_base.specs.declared.device.Device.{Device}
 use Rattle.pur_base.specs.declared.device.Device.TheVariants as dev
 use Rattle.pur_base.specs.Devices.{Image, drive, nvram}
 use Rattle.boot_codec.specs.Region.{BootSlot, A, B, body_in}
-use Rattle.array_spec.proofs.Quiet.{bytes_same}
+use Rattle.array_spec.specs.lemmas.Quiet.{bytes_same}
 use Rattle.world.specs.Shelf.{Shelved, Disk, Stop, MayLeave, MayStop, IsInSome}
 use Rattle.world.specs.Writes.{LeavesBut}
 use Rattle.boot_region.specs.Members.{OnSlot}

@@ -17,19 +17,19 @@ use Rattle.boot_codec.specs.Region.{BootSlot, IsRecordOf, names, other_slot, bod
 use Rattle.log_codec.specs.Log.{ShowsIn}
 use Rattle.array_spec.specs.Standing.{Stands, MayBeGiven, IsReadInto, FollowsOn}
 use Rattle.array_spec.specs.Unflushed.{LogLies, NamesSound}
-use Rattle.array_spec.proofs.Votes.{sound_before}
-use Rattle.array_spec.proofs.Settling.{twice_other}
+use Rattle.array_spec.specs.lemmas.Votes.{sound_before}
+use Rattle.array_spec.specs.lemmas.Settling.{twice_other}
 use Rattle.array_spec.specs.Held.{TablesHold, NamesNoneLeftOut}
 use Rattle.array_spec.specs.StoredLaws.{ShowsNone}
 use Rattle.array_spec.proofs.Follow.{checkpoint_follows, merge_follows}
-use Rattle.array_spec.proofs.Next.{data_is_held}
+use Rattle.array_spec.specs.lemmas.Next.{data_is_held}
 use Rattle.world.specs.Shelf.{Shelved, Disk, Stop, IsShelf, IsInSome, MayLeave, MayStop, IsCountedBy, Continues, LeavesOnly}
 use Rattle.world.specs.Losing.{geometry_of}
-use Rattle.world.proofs.Moments.{weaker}
-use Rattle.world.proofs.Stopped.{as_read}
+use Rattle.world.specs.lemmas.Moments.{weaker}
+use Rattle.world.specs.lemmas.Stopped.{as_read}
 use Rattle.boot_region.specs.Members.{IsMember}
 use Rattle.boot_region.specs.Storing.{OnlyBoot, IsOlder, IsFirmOn, IsInForceOn, IsStored, MayFollow, StandsAgain, StandsBut, WasGiven, AccountsFor}
-use Rattle.boot_region.proofs.ShownLemmas.{shown_body}
+use Rattle.boot_region.specs.lemmas.Shown.{shown_body}
 use Rattle.nvram_log.specs.Members as nv
 use Rattle.nvram_log.specs.Slots.{IsLog}
 use Rattle.nvram_log.proofs.Closing.{one_number}
@@ -40,12 +40,12 @@ use Rattle.register.specs.Standing.{Content, IsShown, ShowsOn, IsNextOf, IsOpen,
 use Rattle.register.specs.Giving.{GivesOldOrTables, IsNextWith}
 use Rattle.register.specs.Tables.{FlushesAll, FlushesNone, IsPlanOf, KeepsArray, MayGoOn, StandsAsBefore, with_tables}
 use Rattle.register.proofs.Again.{meanwhile, accounts, bearable_then, accounts_since}
-use Rattle.register.proofs.FlagLemmas.{in_cut}
+use Rattle.register.specs.lemmas.Flags.{in_cut}
 use Rattle.register.proofs.Numbers.{generation_spelled, lower_yields, next_other}
 use Rattle.register.proofs.Rounds.{Puts, other_body, cut_drives, same_shelf, long, same_behind, log_then}
-use Rattle.register.proofs.Stores.{cut_length, members_sound}
+use Rattle.register.specs.lemmas.Stores.{cut_length, members_sound}
 use Rattle.register.proofs.Splice.{at_splice, splice_stops, splice_boot}
-use Rattle.array_spec.proofs.UnflushedRead.{was_left_out}
+use Rattle.array_spec.specs.lemmas.UnflushedRead.{was_left_out}
 use Rattle.register.proofs.Opened.{is_left, is_named}
 
 -- a device that holds a log shows none behind it

@@ -18,7 +18,7 @@ use Rattle.register.specs.declared.state.Register.{Register}
 use Rattle.register.specs.Registers.{drives_of, next_slot, own_slot}
 use Rattle.register.specs.Standing.{Content, StandsInLog, MayStore, MayStoreAgain, IsNextOf, GivesOldOrNext, AreOfMembers, IsInStoreOf}
 use Rattle.register.proofs.Again.{meanwhile, accounts, bearable_then, accounts_since, not_risen_since, next_after}
-use Rattle.register.proofs.FlagLemmas.{not_below}
+use Rattle.register.specs.lemmas.Flags.{not_below}
 use Rattle.register.proofs.Resting.{may_store, alone}
 
 module _ (old mid : Shelved) (is_mid : IsShelf mid) (on : Continues old mid) (was now : Register) (nvrams : List Bool) (some : nv.IsSome nvrams)

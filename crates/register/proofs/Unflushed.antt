@@ -6,8 +6,8 @@ use Rattle.pur_base.specs.Devices.{View, Sound, LeftOut, drive}
 use Rattle.boot_codec.specs.Region.{BootSlot, names, of_members}
 use Rattle.array_spec.specs.Standing.{MayBeGiven, IsViewOf}
 use Rattle.array_spec.specs.Stored.{PatchStands}
-use Rattle.array_spec.proofs.Settling.{twice_other}
-use Rattle.array_spec.proofs.Members.{enough_hold, some_shown}
+use Rattle.array_spec.specs.lemmas.Settling.{twice_other}
+use Rattle.array_spec.specs.lemmas.Members.{enough_hold, some_shown}
 use Rattle.world.specs.Shelf.{Shelved, Stop, MayStop, IsShelf}
 use Rattle.world.specs.Losing.{geometry_of}
 use Rattle.boot_region.proofs.Composing.{as_it_is}

@@ -4,3 +4,4 @@ pub mod Tables
 pub mod Faults
 pub mod Giving
 pub mod Storing
+pub mod lemmas

@@ -7,7 +7,7 @@ use Rattle.std.proofs.lemmas.List.Sums.{prefix_len-le-length}
 use Rattle.pur_base.specs.declared.request.Request.{Request}
 use Rattle.pur_base.specs.Grammar.{is_line_end, line_request, data_count, is_whole}
 use Rattle.request_codec.specs.Reading.{Unfinished, Overruns}
-use Rattle.pur_base.proofs.LineLemmas.{IsOpen, open-nil, before-past, after-past, after-open}
+use Rattle.pur_base.specs.lemmas.Lines.{IsOpen, open-nil, before-past, after-past, after-open}
 
 later : (c : Bool) (n m : ℕ) → cond (not c) (1 + n) 0 ≡ suc m → (c ≡ false) × (n ≡ m)
 later true n m e = absurd (omega (arith, e))

@@ -10,7 +10,7 @@ use Rattle.segment_codec.specs.declared.fields.Fields.{Fields}
 use Rattle.byte_fields.specs.Places.{places_bytes}
 use Rattle.segment_codec.specs.Header.{kind_code, header_fields, header_bytes, IsHeader, IsLawful, Decodes}
 use Rattle.segment_codec.specs.Fields.{AreFields, IsFrame}
-use Rattle.byte_fields.proofs.SpellingLemmas.{same_front, same_u8, same_u16, same_u32, same_u64, same_places, length-places_bytes, zeros_are}
+use Rattle.byte_fields.specs.lemmas.Spelling.{same_front, same_u8, same_u16, same_u32, same_u64, same_places, length-places_bytes, zeros_are}
 
 -- the zeros behind a header's fields
 abbrev behind : Header → List ℕ

@@ -7,13 +7,13 @@ use Rattle.pur_base.specs.declared.place.Place.{Place}
 use Rattle.world.specs.declared.shelf.Span.{Span}
 use Rattle.world.specs.Shelf.{Shelved, Stop, IsInSome, Continues, LeavesOnly}
 use Rattle.world.specs.Writes.{WritesOnly, LeavesBut}
-use Rattle.world.proofs.Moments.{continues_trans, then_run, weaker}
-use Rattle.world.proofs.Writes.{writes_more}
+use Rattle.world.specs.lemmas.Moments.{continues_trans, then_run, weaker}
+use Rattle.world.specs.lemmas.Writes.{writes_more}
 use Rattle.segment_io.specs.Lost.{is_in, LosesOnly, NoByte, IsOnSlot}
 use Rattle.segment_io.specs.Places.{ArePlaces, place_of, drive_of, write_unit_at, OnUnits, IsOnPlace}
 use Rattle.segment_io.specs.Stripes.{bytes_of, UnitsHold, HoldsStripe}
 use Rattle.segment_io.specs.Headers.{AreDrivesOf, AreSynced, HeadersComeLast}
-use Rattle.segment_io.proofs.Losing.{not_before}
+use Rattle.segment_io.specs.lemmas.Losing.{not_before}
 use Rattle.segment_io.proofs.Kept.{elsewhere}
 
 -- nothing written is little of whatever is

@@ -1,11 +1,7 @@
-pub mod Places
-pub mod Losing
 pub mod Writing
 pub mod Progress
-pub mod Parts
 pub mod Kept
 pub mod Syncing
-pub mod Sets
 pub mod Views
 pub mod InTurn
 pub mod Numbers

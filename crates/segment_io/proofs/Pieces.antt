@@ -7,7 +7,7 @@ use borrow.Rule.Slice.PartMut.{put_mid}
 use Rattle.pur_base.specs.Bytes.{bytes_at}
 use Rattle.parity72.specs.Parity.{shard_of}
 use Rattle.segment_io.specs.Runs.{data_byte, IsDataFrom}
-use Rattle.segment_io.proofs.Parts.{at_part}
+use Rattle.segment_io.specs.lemmas.Parts.{at_part}
 
 -- a place a little behind another, in the same shard
 pub same_shard : (y o : ℕ) → y % 4096 + o < 4096 → (y + o) / 4096 ≡ y / 4096

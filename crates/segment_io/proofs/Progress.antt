@@ -4,15 +4,15 @@ use Rattle.std.proofs.lemmas.Bool.{cases_order}
 use Rattle.pur_base.specs.Bytes.{bytes_at}
 use Rattle.pur_base.specs.declared.device.Device.{Device}
 use Rattle.pur_base.specs.declared.place.Place.{Place}
-use Rattle.pur_base.proofs.Devices.{drives_apart}
+use Rattle.pur_base.specs.lemmas.Devices.{drives_apart}
 use Rattle.world.specs.Shelf.{Shelved, Disk, IsShelf, OthersStay, Continues}
 use Rattle.world.specs.Writes.{OneRange, WritesOnly}
-use Rattle.world.proofs.Moments.{continues_refl, continues_trans}
-use Rattle.world.proofs.Writes.{writes_then, writes_more, nothing_written}
+use Rattle.world.specs.lemmas.Moments.{continues_refl, continues_trans}
+use Rattle.world.specs.lemmas.Writes.{writes_then, writes_more, nothing_written}
 use Rattle.segment_io.specs.Lost.{is_in, LosesOnly}
 use Rattle.segment_io.specs.Places.{ArePlaces, place_of, drive_of, write_unit_at, OnUnits, OthersStayOf}
 use Rattle.segment_io.specs.Stripes.{bytes_of, part_in}
-use Rattle.segment_io.proofs.Losing.{loses_none, loses_then, not_before}
+use Rattle.segment_io.specs.lemmas.Losing.{loses_none, loses_then, not_before}
 
 -- the drives of two shards are apart
 pub apart : (a : Shelved) (places : List Place) (first second : ℕ) → ArePlaces a places → first ≢ second → first < 9 → second < 9 → drive_of places first ≢ drive_of places second

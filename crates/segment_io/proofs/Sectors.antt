@@ -14,7 +14,7 @@ use Rattle.segment_io.specs.Places.{ArePlaces, drive_of}
 use Rattle.segment_io.specs.Stripes.{bytes_of}
 use Rattle.segment_io.specs.Reads.{is_unknown, is_missing_in, ShowsPresent}
 use Rattle.segment_io.specs.Runs.{data_byte, IsDataFrom, StandsBut}
-use Rattle.segment_io.proofs.Parts.{part_length, at_part}
+use Rattle.segment_io.specs.lemmas.Parts.{part_length, at_part}
 use Rattle.segment_io.proofs.Pieces.{put_below, put_in}
 use Rattle.segment_io.proofs.Tried.{agrees_at}
 

@@ -4,13 +4,13 @@ use Rattle.std.proofs.lemmas.Bool.{cases_lt}
 use Rattle.std.proofs.lemmas.List.{get_or_past}
 use Rattle.pur_base.specs.declared.device.Device.{Device}
 use Rattle.pur_base.specs.Devices.{drive}
-use Rattle.pur_base.proofs.Devices.{drives_apart}
+use Rattle.pur_base.specs.lemmas.Devices.{drives_apart}
 use Rattle.world.specs.Shelf.{Shelved, Disk, IsShelf, OthersStay, Continues}
 use Rattle.world.specs.Writes.{WritesOnly}
-use Rattle.world.proofs.Moments.{continues_refl, continues_trans}
-use Rattle.world.proofs.Writes.{writes_then, nothing_written}
+use Rattle.world.specs.lemmas.Moments.{continues_refl, continues_trans}
+use Rattle.world.specs.lemmas.Writes.{writes_then, nothing_written}
 use Rattle.segment_io.specs.Lost.{is_in, LosesOnly, NoByte, OthersStayBut}
-use Rattle.segment_io.proofs.Losing.{loses_none, loses_then, not_before}
+use Rattle.segment_io.specs.lemmas.Losing.{loses_none, loses_then, not_before}
 
 pub record Syncs (a b : Shelved) (drives was now : List Bool) (upto : ℕ) : Type 0 where
   pub continues : Continues a b

@@ -12,8 +12,8 @@ use Rattle.world.specs.Counts.{Rises}
 use Rattle.world.specs.Shelf.{Shelved, Disk, IsShelf, IsSame, Continues, OthersStay, WriteCounts, Elapses, WasWritten}
 use Rattle.world.specs.declared.streams.Failed.{Failed}
 use Rattle.world.specs.Writes.{OneRange, WritesOnly}
-use Rattle.world.proofs.Moments.{continues_refl, continues_trans}
-use Rattle.world.proofs.Writes.{writes_then, writes_more, nothing_written, write_writes}
+use Rattle.world.specs.lemmas.Moments.{continues_refl, continues_trans}
+use Rattle.world.specs.lemmas.Writes.{writes_then, writes_more, nothing_written, write_writes}
 use Rattle.segment_io.specs.Places.{ArePlaces, place_of, drive_of, write_unit_at, OthersStayOf}
 use Rattle.segment_io.specs.Lost.{NoByte}
 use Rattle.segment_io.proofs.InTurn.{nothing}
@@ -24,9 +24,9 @@ use Rattle.segment_codec.specs.Stripes.{StripeStands}
 use Rattle.segment_io.specs.Rebuilds.{OthersAreSame, Rebuilds, AreRebuilt, IsFaultOf, is_wanted}
 use Rattle.segment_io.specs.declared.rebuilding.RebuildFault.{RebuildFault}
 use Rattle.segment_io.specs.declared.rebuilding.RebuildFault.TheVariants.{Lost, Target}
-use Rattle.segment_io.proofs.Losing.{rises_then}
+use Rattle.segment_io.specs.lemmas.Losing.{rises_then}
 use Rattle.segment_io.proofs.Gathers.{same_then}
-use Rattle.segment_io.proofs.Parts.{part_stays}
+use Rattle.segment_io.specs.lemmas.Parts.{part_stays}
 use Rattle.segment_io.proofs.Progress.{apart}
 use Rattle.segment_io.proofs.Tried.{tried_none, tried_then, lost_in_all, agrees_at}
 

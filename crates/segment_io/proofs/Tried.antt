@@ -15,7 +15,7 @@ use Rattle.world.specs.Shelf.{Shelved, Disk, IsShelf, IsSame, Continues, OthersS
 use Rattle.segment_io.specs.Places.{ArePlaces, place_of, drive_of, write_unit_at}
 use Rattle.segment_io.specs.Stripes.{bytes_of, unit_in}
 use Rattle.segment_io.specs.Reads.{is_unknown, PartRead, Tried, IsOn, AreLost, ShowsAnswering, is_missing_in}
-use Rattle.segment_io.proofs.Losing.{rises_first, rises_then}
+use Rattle.segment_io.specs.lemmas.Losing.{rises_first, rises_then}
 use Rattle.segment_io.proofs.Progress.{apart}
 
 pub tried_none : (a : Shelved) (places : List Place) (said : ℕ → Bool) (flags : List Bool) → ((k : ℕ) → k < 9 → is_unknown flags k ≡ said k) → Tried a a places said flags

@@ -9,7 +9,7 @@ use Rattle.pur_base.specs.declared.place.Place.{Place}
 use Rattle.parity72.specs.Parity.{shard_of}
 use Rattle.segment_codec.specs.Stripes.{write_unit, StripeStands}
 use Rattle.world.specs.Shelf.{Shelved, Stop, MayStop}
-use Rattle.world.proofs.Stopped.{as_read}
+use Rattle.world.specs.lemmas.Stopped.{as_read}
 use Rattle.segment_io.specs.Lost.{is_in}
 use Rattle.segment_io.specs.Places.{place_of, drive_of, write_unit_at}
 use Rattle.segment_io.specs.Stripes.{bytes_of, HoldsStripe}

@@ -6,3 +6,4 @@ pub mod Views
 pub mod Reads
 pub mod Rebuilds
 pub mod Runs
+pub mod lemmas

@@ -8,12 +8,12 @@ use Rattle.pur_base.specs.declared.facts.SegmentFact.{SegmentFact}
 use Rattle.pyramid.specs.Layers.{AreBelow, AreDistinct, IsFlushed, facts_of, newest_of, patch_facts, patches_of}
 use Rattle.pyramid.specs.Merging.{later}
 use Rattle.pyramid.specs.Shown.{IsShown}
-use Rattle.pyramid.proofs.ContainsLemmas.{here, there}
-use Rattle.pyramid.proofs.LayerLemmas.{all_contained, all_below, below_at}
-use Rattle.pyramid.proofs.MergeLemmas.{ascends-cons, ascends-head, ascends-tail}
-use Rattle.pyramid.proofs.NewestLemmas.{newest-append}
+use Rattle.pyramid.specs.lemmas.Contains.{here, there}
+use Rattle.pyramid.specs.lemmas.Layers.{all_contained, all_below, below_at}
+use Rattle.pyramid.specs.lemmas.Merges.{ascends-cons, ascends-head, ascends-tail}
+use Rattle.pyramid.specs.lemmas.Newest.{newest-append}
 use Rattle.pyramid.proofs.PlaceLemmas.{says_flushed}
-use Rattle.pyramid.proofs.ShownLemmas.{shown_added, shown_same}
+use Rattle.pyramid.specs.lemmas.Shown.{shown_added, shown_same}
 use Rattle.segment_table.specs.Segments.{number}
 use Rattle.segment_table.proofs.SegmentLemmas.{key_id}
 

@@ -11,9 +11,9 @@ use Rattle.pur_base.specs.Facts.{segment_key, never}
 use Rattle.pur_base.specs.declared.facts.SegmentFact.{SegmentFact}
 use Rattle.pyramid.specs.Layers.{AreDistinct, facts_of}
 use Rattle.pyramid.specs.Shown.{IsShown}
-use Rattle.pyramid.proofs.ContainsLemmas.{filtered, here, of_filter, there}
-use Rattle.pyramid.proofs.MergeLemmas.{ascends_filter}
-use Rattle.pyramid.proofs.ShownLemmas.{ascends_push, said_found, listed_by_id, passes_filter, shown_added, shown_elided, taken_of}
+use Rattle.pyramid.specs.lemmas.Contains.{filtered, here, of_filter, there}
+use Rattle.pyramid.specs.lemmas.Merges.{ascends_filter}
+use Rattle.pyramid.specs.lemmas.Shown.{ascends_push, said_found, listed_by_id, passes_filter, shown_added, shown_elided, taken_of}
 use Rattle.segment_table.specs.Segments.{number, AreOwnFrom}
 
 -- a segment's key has its id

@@ -7,7 +7,7 @@ use Rattle.segment_codec.specs.declared.header.Header.{Header}
 use Rattle.world.specs.Ran.{Ran}
 use Rattle.world.specs.Shelf.{Shelved}
 use Rattle.world.specs.Writes.{WritesOnly}
-use Rattle.world.proofs.Ran.{ran_more}
+use Rattle.world.specs.lemmas.Ran.{ran_more}
 use Rattle.segment_io.specs.declared.open.Open.{Open}
 use Rattle.segment_io.specs.Lost.{is_in, LosesOnly}
 use Rattle.segment_io.specs.Places.{OnUnits, IsOnPlace}

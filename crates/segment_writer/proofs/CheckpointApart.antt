@@ -12,8 +12,8 @@ use Rattle.world.specs.Writes.{WritesOnly}
 use Rattle.segment_io.specs.Lost.{LosesOnly}
 use Rattle.segment_io.specs.Places.{place_of, drive_of, write_unit_at}
 use Rattle.segment_io.specs.Stripes.{bytes_of, unit_in, HoldsStripe}
-use Rattle.segment_io.proofs.Losing.{not_before}
-use Rattle.segment_io.proofs.Parts.{part_stays}
+use Rattle.segment_io.specs.lemmas.Losing.{not_before}
+use Rattle.segment_io.specs.lemmas.Parts.{part_stays}
 use Rattle.segment_writer.specs.PatchStoring.{HoldsPatch, OnPatch}
 use Rattle.segment_writer.proofs.Apart.{slot_of, units_apart}
 use Rattle.segment_writer.proofs.PatchLayout.{patch_kept}

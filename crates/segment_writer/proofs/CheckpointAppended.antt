@@ -10,7 +10,7 @@ use Rattle.boot_codec.specs.declared.patch.Patch.{Patch}
 use Rattle.world.specs.Shelf.{Shelved}
 use Rattle.world.specs.Ran.{Ran}
 use Rattle.world.specs.Writes.{WritesOnly}
-use Rattle.world.proofs.Ran.{ran_more}
+use Rattle.world.specs.lemmas.Ran.{ran_more}
 use Rattle.segment_io.specs.declared.open.Open.{Open}
 use Rattle.segment_io.specs.Lost.{is_in, LosesOnly}
 use Rattle.segment_io.specs.Stripes.{bytes_of}

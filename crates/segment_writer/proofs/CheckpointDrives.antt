@@ -8,7 +8,7 @@ use Rattle.array_spec.specs.Stored.{places_of_part}
 use Rattle.pur_base.specs.declared.device.Device.{Device}
 use Rattle.world.specs.Ran.{Ran}
 use Rattle.world.specs.Shelf.{Shelved}
-use Rattle.world.proofs.Ran.{ran_more}
+use Rattle.world.specs.lemmas.Ran.{ran_more}
 use Rattle.segment_writer.specs.Layout.{AreDrivesOfAll}
 use Rattle.segment_io.specs.Lost.{is_in, NoByte, IsOnSlot, OthersStayBut}
 use Rattle.segment_io.specs.Places.{place_of}

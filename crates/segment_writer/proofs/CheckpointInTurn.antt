@@ -8,12 +8,12 @@ use Rattle.array_spec.specs.Stored.{places_of_part}
 use Rattle.world.specs.declared.shelf.Span.{Span}
 use Rattle.world.specs.Shelf.{Shelved, Stop, Continues, LeavesOnly, IsInSome}
 use Rattle.world.specs.Writes.{WritesOnly, LeavesBut}
-use Rattle.world.proofs.Moments.{then_run, weaker}
+use Rattle.world.specs.lemmas.Moments.{then_run, weaker}
 use Rattle.segment_io.specs.Headers.{AreSynced}
 use Rattle.segment_io.specs.Lost.{is_in}
 use Rattle.segment_io.specs.Places.{place_of, drive_of, write_unit_at}
 use Rattle.segment_io.specs.Stripes.{bytes_of, HoldsStripe}
-use Rattle.segment_io.proofs.Parts.{same_at}
+use Rattle.segment_io.specs.lemmas.Parts.{same_at}
 use Rattle.segment_writer.specs.PatchStoring.{OnPatch, layout_of_patch}
 use Rattle.segment_writer.proofs.PatchLayout.{patch_kept, may_be_headed}
 use Rattle.segment_writer.proofs.InTurn.{outside}

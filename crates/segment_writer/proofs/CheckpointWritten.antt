@@ -9,10 +9,10 @@ use Rattle.world.specs.Shelf.{Shelved, Stop, LeavesOnly}
 use Rattle.world.specs.Writes.{WritesOnly}
 use Rattle.world.specs.Ran.{Ran}
 use Rattle.world.specs.Streams.{IsPreorder}
-use Rattle.world.proofs.Ran.{ran_then, ran_more}
+use Rattle.world.specs.lemmas.Ran.{ran_then, ran_more}
 use Rattle.segment_io.specs.Lost.{LosesOnly}
 use Rattle.segment_io.specs.Stripes.{bytes_of}
-use Rattle.segment_io.proofs.Losing.{not_before}
+use Rattle.segment_io.specs.lemmas.Losing.{not_before}
 use Rattle.segment_writer.specs.PatchStoring.{MayBeStored, HoldsPatch, MayBeHeaded}
 use Rattle.segment_writer.proofs.PatchShown.{patch_shown}
 use Rattle.segment_writer.specs.DataPlacing.{MayBePlaced}

@@ -9,8 +9,8 @@ use Rattle.segment_io.specs.declared.open.Open.{Open}
 use Rattle.segment_io.specs.Lost.{is_in, LosesOnly}
 use Rattle.segment_io.specs.Places.{place_of, OnUnits}
 use Rattle.segment_io.specs.Stripes.{bytes_of, HoldsStripe}
-use Rattle.segment_io.proofs.Losing.{not_before}
-use Rattle.segment_io.proofs.Places.{still_places}
+use Rattle.segment_io.specs.lemmas.Losing.{not_before}
+use Rattle.segment_io.specs.lemmas.Places.{still_places}
 use Rattle.segment_writer.specs.Layout.{Layout, units_of, AreApart, MayBeHeaded, HaveStripes, HoldAll, HoldsHeader, IsOpenOf, AreOpenOf}
 use Rattle.patch_io.proofs.Lists.{get_front, get_behind}
 use Rattle.segment_writer.proofs.Apart.{unit_kept, stripe_kept, segment_kept}

@@ -5,12 +5,12 @@ use Rattle.pur_base.specs.declared.place.Place.{Place}
 use Rattle.world.specs.declared.shelf.Span.{Span}
 use Rattle.world.specs.Shelf.{Shelved, IsShelf, Stop, Continues, LeavesOnly, IsIn, IsInSome}
 use Rattle.world.specs.Writes.{WritesOnly, LeavesBut}
-use Rattle.world.proofs.Moments.{then_run, weaker, started}
+use Rattle.world.specs.lemmas.Moments.{then_run, weaker, started}
 use Rattle.segment_io.specs.Headers.{AreSynced, CleanStay}
 use Rattle.segment_io.specs.Lost.{is_in}
 use Rattle.segment_io.specs.Places.{ArePlaces, place_of, drive_of, write_unit_at}
 use Rattle.segment_io.specs.Stripes.{bytes_of, HoldsStripe}
-use Rattle.segment_io.proofs.Parts.{same_at}
+use Rattle.segment_io.specs.lemmas.Parts.{same_at}
 use Rattle.segment_writer.specs.Layout.{Layout, units_of, MayBeHeaded, HaveStripes, HoldAll, OnSome, ComesInTurn, AreDrivesOfAll}
 use Rattle.segment_writer.proofs.Apart.{slot_of, units_apart}
 use Rattle.segment_writer.proofs.Headers.{all_kept}

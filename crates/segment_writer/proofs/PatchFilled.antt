@@ -12,7 +12,7 @@ use Rattle.pur_base.specs.declared.facts.AnyFact.{AnyFact}
 use Rattle.fact_codec.specs.Fact.{Decodes}
 use Rattle.parity72.specs.Parity.{shard_of}
 use Rattle.segment_io.specs.Stripes.{stripe_in}
-use Rattle.segment_io.proofs.Parts.{part_length, same_at}
+use Rattle.segment_io.specs.lemmas.Parts.{part_length, same_at}
 use Rattle.segment_io.proofs.Pieces.{put_below}
 use Rattle.patch_io.specs.Spelled.{fact_text}
 use Rattle.segment_writer.specs.PatchFilling.{text_in, IsTextOf, HoldsFacts}

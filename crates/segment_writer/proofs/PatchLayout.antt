@@ -13,7 +13,7 @@ use Rattle.segment_codec.specs.declared.header.Header.{Header}
 use Rattle.segment_codec.specs.declared.kind.SegmentKind.TheVariants as kinds
 use Rattle.fact_codec.specs.Fact.{IsLawful}
 use Rattle.array_spec.specs.Stored.{places_of_part, pages_in_part}
-use Rattle.array_spec.proofs.Used.{all_append_left, all_append_right}
+use Rattle.array_spec.specs.lemmas.Used.{all_append_left, all_append_right}
 use Rattle.world.specs.Shelf.{Shelved, Continues}
 use Rattle.segment_io.specs.declared.open.Open.{Open}
 use Rattle.segment_io.specs.Stripes.{bytes_of, HoldsStripe}

@@ -7,7 +7,7 @@ use Rattle.pur_base.specs.declared.device.Device.{Device}
 use Rattle.pur_base.specs.declared.place.Place.{Place}
 use Rattle.world.specs.Ran.{Ran}
 use Rattle.world.specs.Shelf.{Shelved, Disk, Stop, MayStop}
-use Rattle.world.proofs.Ran.{ran_more}
+use Rattle.world.specs.lemmas.Ran.{ran_more}
 use Rattle.segment_io.specs.Headers.{AreSynced}
 use Rattle.segment_io.specs.Lost.{is_in, LosesOnly, NoByte, IsOnSlot, OthersStayBut}
 use Rattle.segment_io.specs.Places.{ArePlaces, place_of}

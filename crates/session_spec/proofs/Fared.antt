@@ -15,12 +15,12 @@ use Rattle.pur_base.specs.Replies.{Answer, given, answer_unless, after_unless}
 use Rattle.world.specs.Shelf.{Stop}
 use Rattle.world.specs.Losing.{has_risen, has_failed, has_lost_writes, losing, IsLater}
 use Rattle.array_spec.specs.Runs.{Step, IsModelled, IsPhysical, IsBarred}
-use Rattle.array_spec.proofs.Standings.{within_twice}
+use Rattle.array_spec.specs.lemmas.Standings.{within_twice}
 use Rattle.session_spec.specs.Faring.{Point, Fares, Serves, Answers, AnswersRequest, AnswersAccepted, IsAppended, IsAppendedBehind, IsCheckpointed, IsDone, IsLogged, IsRefused, IsFailed, IsFlushing, IsMergeDone, IsMerging, IsFlushed, Where, WithPair, WithRoom, has_segments, is_full, is_spent}
 use Rattle.memory_spec.specs.Merging.{has_pair, pair_segments}
 use Rattle.session_spec.specs.declared.limits.TheConstants.{ADDING_GROUPS, CHECKPOINT_GROUPS, LIMITED_SEGMENTS, MERGE_GROUPS, SEGMENTS_END}
 use Rattle.session_spec.specs.Chain.{FaresRun, ClaimsHaveCauses, NoneComesBack, WasBorne, HaltsHaveCauses}
-use Rattle.session_spec.proofs.Conditions.{goes, unlost, borne_before, stays_so}
+use Rattle.session_spec.specs.lemmas.Conditions.{goes, unlost, borne_before, stays_so}
 
 -- ---- lawful replies
 

@@ -1,4 +1,3 @@
-pub mod Conditions
 pub mod Fared
 pub mod Followed
 pub mod Left

@@ -7,10 +7,10 @@ use Rattle.pur_base.specs.Gates.{is_open}
 use Rattle.pur_base.specs.Devices.{Geometry, Image, Condition, Conditions, Sound, Missing, LeftOut, MayBecome, MayShowAs, IsWithin, IsBearable, is_missing, slots_of, nvrams, drive, nvram}
 use Rattle.pur_base.specs.Plain.{Array}
 use Rattle.world.specs.Streams.{Streamed}
-use Rattle.world.proofs.Moments.{quiet_refl, quiet_now}
+use Rattle.world.specs.lemmas.Moments.{quiet_refl, quiet_now}
 use Rattle.world.specs.Shelf.{IsShelf, Shelved, Stop, MayStop}
 use Rattle.world.specs.Losing.{losing, geometry_of, has_failed}
-use Rattle.world.proofs.Stopped.{as_read}
+use Rattle.world.specs.lemmas.Stopped.{as_read}
 use Rattle.boot_codec.specs.declared.record.BootRecord.{BootRecord}
 use Rattle.boot_codec.specs.Region.{BootSlot}
 use Rattle.log_codec.specs.Log.{ShowsIn}
@@ -18,11 +18,11 @@ use Rattle.array_spec.specs.Laws.{IsNamedByNone}
 use Rattle.array_spec.specs.Standing.{Stands, MayBeGiven}
 use Rattle.array_spec.proofs.Marks.{marks_are_free}
 use Rattle.array_spec.proofs.Shown.{shown_stands}
-use Rattle.array_spec.proofs.Standings.{more_may_go_missing, within_twice}
-use Rattle.array_spec.proofs.UnflushedRead.{no_gate}
+use Rattle.array_spec.specs.lemmas.Standings.{more_may_go_missing, within_twice}
+use Rattle.array_spec.specs.lemmas.UnflushedRead.{no_gate}
 use Rattle.session_spec.specs.Entering.{IsStanding, HasRoom, AreRead, LeftOutAreNamedByNone, Enters, read_now, failed_by}
 use Rattle.session_spec.specs.Chain.{Finds, StopsChain, EndsChain, GoesOnAtOnce, NothingDone, MayWantMemory}
-use Rattle.session_spec.proofs.Conditions.{loses, left_out_once, sound_once}
+use Rattle.session_spec.specs.lemmas.Conditions.{loses, left_out_once, sound_once}
 
 -- ---- conditions before devices were marked and went missing
 

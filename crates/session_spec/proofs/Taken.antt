@@ -6,12 +6,12 @@ use Rattle.pur_base.specs.Devices.{Condition, Sound, Missing, LeftOut, MayShowAs
 use Rattle.boot_codec.specs.declared.record.BootRecord.{BootRecord}
 use Rattle.boot_codec.specs.Region.{BootSlot, of_members}
 use Rattle.array_spec.specs.Standing.{IsViewOf}
-use Rattle.array_spec.proofs.Votes.{one_is_effective}
-use Rattle.array_spec.proofs.Spelled.{spells_one}
-use Rattle.array_spec.proofs.Standings.{standing_means}
+use Rattle.array_spec.specs.lemmas.Votes.{one_is_effective}
+use Rattle.array_spec.specs.lemmas.Spelled.{spells_one}
+use Rattle.array_spec.specs.lemmas.Standings.{standing_means}
 use Rattle.world.specs.Losing.{missing_if, losing}
 use Rattle.session_spec.specs.Chain.{TakeoverKeeps, TakeoverBears}
-use Rattle.session_spec.proofs.Conditions.{goes, still_sound, borne_on}
+use Rattle.session_spec.specs.lemmas.Conditions.{goes, still_sound, borne_on}
 
 shows : (c : Condition) (failed : Bool) (bytes : List ℕ) (shown : Option (List ℕ)) → IsBytes bytes → (shown ≡ Some bytes) ⊎ (shown ≡ None) → (shown ≡ None → failed ≡ true) → MayShowAs (missing_if failed c) bytes shown
 shows Sound true bytes shown is (inl e) silent = inl e

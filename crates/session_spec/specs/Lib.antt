@@ -6,3 +6,4 @@ pub mod Ends
 pub mod Headline
 pub mod Making
 pub mod Chain
+pub mod lemmas

@@ -6,7 +6,7 @@ use Rattle.pur_base.specs.declared.device.Device.TheVariants as dev
 use Rattle.pur_base.specs.declared.limits.TheConstants.{SECTOR_BYTES, UNIT_BYTES, NVRAM_DEVICES}
 use Rattle.pur_base.specs.Devices.{Geometry, drive, nvram}
 use Rattle.pur_base.specs.Gates.{is_open}
-use Rattle.pur_base.proofs.Devices.{same_device}
+use Rattle.pur_base.specs.lemmas.Devices.{same_device}
 use Rattle.boot_codec.specs.declared.limits.TheConstants.{RECORD_BYTES}
 use Rattle.boot_codec.specs.Gate.{gate_bytes}
 use Rattle.boot_codec.specs.Region.{BootSlot, A, B, IsRecordOf, gate_place, body_place, body_in, shown_by}
@@ -17,12 +17,12 @@ use Rattle.world.specs.Losing.{geometry_of}
 use Rattle.world.specs.Shelf.{Shelved, Disk, Stop, IsOf, IsIn, IsShelf, Continues, LeavesOnly, OthersStay, Written}
 use Rattle.world.specs.Writes.{OneRange, WritesOnly, LeavesBut, MayLeaveBut}
 use Rattle.world.specs.Ran.{Only}
-use Rattle.world.proofs.Moments.{then_run, weaker, still_of}
-use Rattle.world.proofs.Writes.{writes_more}
-use Rattle.world.proofs.Stopped.{none_dirty}
+use Rattle.world.specs.lemmas.Moments.{then_run, weaker, still_of}
+use Rattle.world.specs.lemmas.Writes.{writes_more}
+use Rattle.world.specs.lemmas.Stopped.{none_dirty}
 use Rattle.boot_region.specs.Members.{IsMember, IsDrive, IsOneOf, OnMembers, OnSlot}
 use Rattle.boot_region.specs.Regions.{CountsStay}
-use Rattle.boot_region.proofs.ShownLemmas.{closed_shows, gates_stay, bodies_same, other_same, opened, body_low, body_is, shows_written}
+use Rattle.boot_region.specs.lemmas.Shown.{closed_shows, gates_stay, bodies_same, other_same, opened, body_low, body_is, shows_written}
 use Rattle.boot_region.proofs.Stored.{rises_between}
 use Rattle.session_spec.specs.First.{all_drives, first_record}
 use Rattle.shelf_init.specs.Blank.{IsShut, IsEmptied, HasNoCommand, HidesOnly, IsNvram, OnAllOpen, OnBootOrLog, OnLogGates}

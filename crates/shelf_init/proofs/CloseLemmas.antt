@@ -13,14 +13,14 @@ use Rattle.pur_base.specs.declared.device.Device.TheVariants as dev
 use Rattle.pur_base.specs.declared.limits.TheConstants.{SECTOR_BYTES}
 use Rattle.boot_codec.specs.Gate.{gate_bytes}
 use Rattle.boot_codec.specs.Region.{BootSlot, A, B, gate_place, body_in, shown_by}
-use Rattle.array_spec.proofs.Settling.{this_or_other}
+use Rattle.array_spec.specs.lemmas.Settling.{this_or_other}
 use Rattle.log_codec.specs.declared.limits.TheConstants.{LOG_SLOTS}
 use Rattle.world.specs.Shelf.{Shelved, Stop, IsIn, Continues, LeavesOnly, Written}
 use Rattle.world.specs.Writes.{WritesOnly, LeavesBut}
-use Rattle.world.proofs.Moments.{then_run, weaker}
+use Rattle.world.specs.lemmas.Moments.{then_run, weaker}
 use Rattle.boot_region.specs.declared.regions.TheConstants.{REGION_BYTES}
 use Rattle.boot_region.specs.Members.{IsMember, OnMembers}
-use Rattle.boot_region.proofs.ShownLemmas.{closed_shows, bodies_same, other_same, gate_closes, gate_size, closed_begins}
+use Rattle.boot_region.specs.lemmas.Shown.{closed_shows, bodies_same, other_same, gate_closes, gate_size, closed_begins}
 use Rattle.shelf_init.specs.Blank.{IsShut, IsReadIn, GatesAreRead, HidesOnly, OnOpen}
 use Rattle.session_spec.specs.Making.{AreClean}
 use Rattle.shelf_init.proofs.CallLemmas.{left_clean}

@@ -9,7 +9,7 @@ use Rattle.boot_codec.specs.declared.limits.TheConstants.{DRIVE_FLAGS}
 use Rattle.boot_codec.specs.Record.{mask, set_count}
 use Rattle.boot_codec.specs.Region.{B, IsRecordOf}
 use Rattle.array_spec.specs.Meaning.{IsInForce}
-use Rattle.array_spec.proofs.Votes.{counted}
+use Rattle.array_spec.specs.lemmas.Votes.{counted}
 use Rattle.boot_region.specs.Members.{IsMember}
 use Rattle.session_spec.specs.First.{all_drives, first_record}
 

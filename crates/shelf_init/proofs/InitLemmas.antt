@@ -11,11 +11,11 @@ use Rattle.boot_codec.specs.Region.{BootSlot, A, B, other_slot, IsDecided, gate_
 use Rattle.world.specs.Losing.{geometry_of}
 use Rattle.world.specs.Shelf.{Shelved, Disk, Stop, MayStop, IsSame, IsShelf, Continues, LeavesOnly}
 use Rattle.world.specs.Writes.{WritesOnly, LeavesBut}
-use Rattle.world.proofs.Moments.{started, weaker}
-use Rattle.world.proofs.Stopped.{as_read}
+use Rattle.world.specs.lemmas.Moments.{started, weaker}
+use Rattle.world.specs.lemmas.Stopped.{as_read}
 use Rattle.boot_region.specs.declared.regions.TheConstants.{REGION_BYTES}
 use Rattle.boot_region.specs.Regions.{region_at, seen, GivesNone, IsRead, AnswerCounts, CountsStay}
-use Rattle.boot_region.proofs.FoundLemmas.{same_open, same_shown, same_over}
+use Rattle.boot_region.specs.lemmas.Found.{same_open, same_shown, same_over}
 use Rattle.shelf_init.specs.Blank.{GatesAreRead, HasSilent}
 use Rattle.session_spec.specs.Making.{ShowsBody, GivesBody, IsBlank, AreClean, view_now, NoneFailed, OneFailed, IsNoneOrEmpty}
 use Rattle.shelf_init.proofs.CallLemmas.{left_clean, same_geometry}

@@ -13,13 +13,13 @@ use Rattle.boot_codec.specs.Spelling.{spelling}
 use Rattle.array_spec.specs.Laws.{IsHeld, is_sound_vote}
 use Rattle.array_spec.specs.Standing.{MayAppear, MayBeGiven}
 use Rattle.array_spec.proofs.Held.{held_stands}
-use Rattle.array_spec.proofs.Spelled.{spells_one}
-use Rattle.array_spec.proofs.Votes.{counted, held_is_given, one_is_effective}
+use Rattle.array_spec.specs.lemmas.Spelled.{spells_one}
+use Rattle.array_spec.specs.lemmas.Votes.{counted, held_is_given, one_is_effective}
 use Rattle.session_spec.specs.Entering.{AreRead, HasRoom}
 use Rattle.world.specs.Losing.{geometry_of}
 use Rattle.world.specs.Shelf.{Shelved, Stop, MayStop, IsShelf}
-use Rattle.world.proofs.Stopped.{as_read}
-use Rattle.boot_region.proofs.ShownLemmas.{closed_shows, shown_body}
+use Rattle.world.specs.lemmas.Stopped.{as_read}
+use Rattle.boot_region.specs.lemmas.Shown.{closed_shows, shown_body}
 use Rattle.session_spec.specs.First.{first_record}
 use Rattle.shelf_init.specs.Blank.{IsShut, HasNoCommand}
 use Rattle.session_spec.specs.Making.{AreClean, none_missing}

@@ -17,7 +17,7 @@ use Rattle.boot_codec.specs.Spelling.{spelling}
 use Rattle.log_codec.specs.declared.limits.TheConstants.{LOG_SLOTS}
 use Rattle.array_spec.specs.Standing.{IsReadInto}
 use Rattle.array_spec.specs.Unflushed.{LogLies}
-use Rattle.array_spec.proofs.UnflushedRead.{unflushed_is_read}
+use Rattle.array_spec.specs.lemmas.UnflushedRead.{unflushed_is_read}
 use Rattle.world.specs.Losing.{geometry_of}
 use Rattle.world.specs.Shelf.{Shelved}
 use Rattle.session_spec.specs.First.{first_record}

@@ -9,9 +9,9 @@ use Rattle.pur_base.specs.Bytes.{zeros}
 use Rattle.pur_base.specs.Gates.{is_open}
 use Rattle.pur_base.specs.Devices.{Geometry, Image, View, Condition, Conditions, Sound, Missing, LeftOut, MayShow, MayShowAs, drive}
 use Rattle.boot_codec.specs.Region.{BootSlot, A, B, IsDecided, IsEffective, Yields, generation_in, is_vote, votes, shown_by, gate_place, other_slot}
-use Rattle.array_spec.proofs.Votes.{counted, one_is_decided}
+use Rattle.array_spec.specs.lemmas.Votes.{counted, one_is_decided}
 use Rattle.boot_region.specs.Regions.{IsUndecided}
-use Rattle.boot_region.proofs.ShownLemmas.{closed_shows}
+use Rattle.boot_region.specs.lemmas.Shown.{closed_shows}
 use Rattle.session_spec.specs.Making.{NoneLeftOut}
 
 -- who shows nothing, or what another shows, gives a body no more votes

@@ -5,7 +5,7 @@ use Rattle.pur_base.specs.declared.device.Device.TheVariants.{Drive, Nv}
 use Rattle.pur_base.specs.Devices.{nvram}
 use Rattle.world.specs.Shelf.{Shelved, Disk, Continues, IsShelf}
 use Rattle.nvram_log.specs.Members.{IsNvram}
-use Rattle.segment_io.proofs.Losing.{rises_first}
+use Rattle.segment_io.specs.lemmas.Losing.{rises_first}
 use Rattle.shelf_look.specs.declared.record.RecordSeen.{RecordSeen}
 use Rattle.shelf_look.specs.declared.slots.SlotsSeen.{SlotsSeen}
 use Rattle.shelf_look.specs.Sides.{AreSides, IsSide}

@@ -7,7 +7,7 @@ use Rattle.pur_base.specs.Bytes.{IsBytesOf}
 use Rattle.pur_base.specs.Commands.{Command}
 use Rattle.pur_base.specs.Gates.{is_open}
 use Rattle.pur_base.specs.declared.device.Device.{Device}
-use Rattle.pur_base.proofs.Devices.{same_device}
+use Rattle.pur_base.specs.lemmas.Devices.{same_device}
 use Rattle.log_codec.specs.declared.head.Head.{Head}
 use Rattle.log_codec.specs.Head.{Decodes}
 use Rattle.log_codec.specs.Log.{slot_at, ShowsIn, Spells}

@@ -25,7 +25,7 @@ use Rattle.shelf_look.specs.Log.{IsLogOf}
 use Rattle.shelf_look.specs.Looking.{IsOutcome, IsTold}
 use Rattle.shelf_look.specs.Opening.{IsCauseOf, IsOpeningOf}
 use Rattle.shelf_look.specs.Tables.{AreTablesOn, IsMemoryOf, IsTablesCause, ShowsThose}
-use Rattle.segment_io.proofs.Losing.{rises_first}
+use Rattle.segment_io.specs.lemmas.Losing.{rises_first}
 
 pub same_geometry : {old new : Shelved} → Continues old new → geometry_of new ≡ geometry_of old
 same_geometry {old} {new} on = ap (λ (n : ℕ). record { slots = n; units = new.units }) on.drives ∙ ap (λ (n : ℕ). record { slots = old.drives; units = n }) on.units

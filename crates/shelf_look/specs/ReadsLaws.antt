@@ -2,8 +2,8 @@
 use Rattle.std.proofs.Common.{◌∙◌, refl}
 use Rattle.world.specs.Shelf.{Shelved, IsShelf}
 use Rattle.world.specs.Streams.{IsPreorder}
-use Rattle.world.proofs.Moments.{continues_refl, continues_trans}
-use Rattle.world.proofs.Writes.{nothing_written, writes_then}
+use Rattle.world.specs.lemmas.Moments.{continues_refl, continues_trans}
+use Rattle.world.specs.lemmas.Writes.{nothing_written, writes_then}
 use Rattle.shelf_look.specs.Reads.{AreOnlyRead, IsOnlyRead}
 
 pub none_read : (a : Shelved) → IsShelf a → AreOnlyRead a a

@@ -8,9 +8,9 @@ use Rattle.pur_base.specs.Says.{Ascends}
 use Rattle.pur_base.specs.Facts.{address_key, never}
 use Rattle.pur_base.specs.declared.facts.AddressFact.{AddressFact}
 use Rattle.pyramid.specs.Layers.{AreBelow, facts_of, patch_facts, patches_of}
-use Rattle.pyramid.proofs.LayerLemmas.{all_below, all_contained}
+use Rattle.pyramid.specs.lemmas.Layers.{all_below, all_contained}
 use Rattle.pyramid.proofs.PlaceLemmas.{facts_append, facts_patches}
-use Rattle.pyramid.proofs.ShownLemmas.{ascends_push}
+use Rattle.pyramid.specs.lemmas.Shown.{ascends_push}
 use Rattle.storage_bench.specs.Numbers.{AreAmong}
 
 -- the first facts of a run

@@ -28,7 +28,7 @@ use Rattle.table_loading.specs.Faults.{fault_in, fault_of, IsPatchFault, IsFault
 use Rattle.table_loading.specs.declared.fault.TablesFault.{TablesFault}
 use Rattle.table_loading.specs.declared.fault.TablesFault.TheVariants.{BadPatch, Unsound, Lost, Memory}
 use Rattle.table_loading.proofs.Zips.{zip_first}
-use Rattle.array_spec.proofs.Unique.{all_patches}
+use Rattle.array_spec.specs.lemmas.Unique.{all_patches}
 use Rattle.table_loading.proofs.Reading.{shows_patch}
 use Rattle.table_loading.proofs.Loaded.{are_named, all_stand}
 

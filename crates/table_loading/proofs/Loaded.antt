@@ -27,7 +27,7 @@ use Rattle.table_loading.specs.Loading.{IsLoaded, ShowsDrives, StripesStandOfAll
 use Rattle.table_loading.proofs.Tags.{five_tables}
 use Rattle.table_loading.proofs.Zips.{zip_append, zip_weaker, zip_second, all_of_both, all_behind, all_mapped}
 use Rattle.table_loading.proofs.Reading.{shows_patch}
-use Rattle.array_spec.proofs.Used.{all_append, all_append_left}
+use Rattle.array_spec.specs.lemmas.Used.{all_append, all_append_left}
 
 -- decoded facts are a patch of their table
 pub is_patch : {F : Type 0} (any : F → AnyFact) (key : F → ℕ) → HaveKey any key → (p : Patch) (facts : List F) → 1 ≤ p.facts → AreFactsOf p (map any facts) → layers.IsPatch key facts

@@ -10,8 +10,8 @@ use Rattle.boot_codec.specs.declared.patch.Patch.{Patch}
 use Rattle.array_spec.specs.Stored.{places_of_part}
 use Rattle.world.specs.Shelf.{Shelved, Continues, IsSame, IsShelf}
 use Rattle.world.specs.Writes.{WritesOnly}
-use Rattle.world.proofs.Moments.{continues_refl, continues_trans}
-use Rattle.world.proofs.Writes.{writes_then, nothing_written}
+use Rattle.world.specs.lemmas.Moments.{continues_refl, continues_trans}
+use Rattle.world.specs.lemmas.Writes.{writes_then, nothing_written}
 use Rattle.segment_io.specs.Lost.{NoByte}
 use Rattle.segment_io.specs.Places.{drive_of, place_of}
 use Rattle.segment_io.proofs.Gathers.{same_then}

@@ -15,19 +15,19 @@ use Rattle.pur_base.specs.declared.facts.AddressFact.{AddressFact}
 use Rattle.pur_base.specs.declared.facts.SegmentFact.{SegmentFact}
 use Rattle.pur_base.specs.declared.facts.ElisionFact.{ElisionFact}
 use Rattle.pur_base.specs.declared.facts.AnyFact.TheVariants as any
-use Rattle.pur_base.proofs.SaysLemmas.{says_is}
+use Rattle.pur_base.specs.lemmas.Says.{says_is}
 use Rattle.fact_codec.specs.declared.limits.TheConstants.{NUMBER_LIMIT}
 use Rattle.fact_codec.specs.Fact.{IsFact}
 use Rattle.array_spec.specs.Sound.{AreElisionsSound, FitTogether, Grows, next_id}
 use Rattle.pyramid.specs.Layers.{facts_of}
-use Rattle.pyramid.proofs.ContainsLemmas.{here, there, either, nowhere}
+use Rattle.pyramid.specs.lemmas.Contains.{here, there, either, nowhere}
 use Rattle.memory_spec.specs.Memory.{Memory, IsSound}
 use Rattle.memory_spec.specs.Tables.{facts}
-use Rattle.memory_spec.proofs.AllTables.{all_elisions, all_segments}
+use Rattle.memory_spec.specs.lemmas.AllTables.{all_elisions, all_segments}
 use Rattle.memory_spec.proofs.Created.{not_elided}
-use Rattle.memory_spec.proofs.Lists.{each_by_recursion}
+use Rattle.memory_spec.specs.lemmas.Lists.{each_by_recursion}
 use Rattle.memory_spec.specs.Eliding.{AreNewElisions, IsEliding}
-use Rattle.memory_spec.proofs.Elided.{as_before, says_where, object_tag}
+use Rattle.memory_spec.specs.lemmas.Elided.{as_before, says_where, object_tag}
 use Rattle.memory_spec.proofs.Placing.{old_segment_id}
 use Rattle.table_plan.specs.Eliding.{IsUnused, IsElisionOf, AreElisionsOf, IsElidedBy, UnusedMayBeElided, eliding}
 

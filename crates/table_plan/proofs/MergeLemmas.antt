@@ -8,10 +8,10 @@ use Rattle.pur_base.specs.Tags.{tag_of}
 use Rattle.pur_base.specs.declared.facts.AnyFact.{AnyFact}
 use Rattle.pur_base.specs.declared.facts.AnyFact.TheVariants as any
 use Rattle.pyramid.specs.Layers.{Layers, facts_in, facts_of, patch_at, patch_facts}
-use Rattle.pyramid.proofs.ContainsLemmas.{nowhere}
+use Rattle.pyramid.specs.lemmas.Contains.{nowhere}
 use Rattle.memory_spec.specs.Memory.{Memory, IsSound}
 use Rattle.memory_spec.specs.Tables.{facts}
-use Rattle.memory_spec.proofs.AllTables.{all_objects, all_mediums, all_addresses, all_segments, all_elisions}
+use Rattle.memory_spec.specs.lemmas.AllTables.{all_objects, all_mediums, all_addresses, all_segments, all_elisions}
 use Rattle.table_plan.specs.Patches.{ArePatchFacts}
 use Rattle.table_plan.specs.Planned.{AreStored}
 use Rattle.memory_spec.specs.Merging.{IsMergedAt}

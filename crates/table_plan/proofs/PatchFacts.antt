@@ -10,10 +10,10 @@ use Rattle.pur_base.specs.declared.facts.AnyFact.{AnyFact}
 use Rattle.pur_base.specs.declared.facts.AnyFact.TheVariants as any
 use Rattle.fact_codec.specs.Fact as fact
 use Rattle.fact_codec.specs.Fact.{IsFact, IsLawful, IsTarget}
-use Rattle.pyramid.proofs.LayerLemmas.{all_contained}
-use Rattle.pyramid.proofs.MergeLemmas.{ascends-cons, ascends-nil}
+use Rattle.pyramid.specs.lemmas.Layers.{all_contained}
+use Rattle.pyramid.specs.lemmas.Merges.{ascends-cons, ascends-nil}
 use Rattle.memory_spec.specs.Memory.{FitsTarget, FitsInMemory}
-use Rattle.memory_spec.proofs.Lists.{each_by_recursion, of_map}
+use Rattle.memory_spec.specs.lemmas.Lists.{each_by_recursion, of_map}
 use Rattle.table_plan.specs.Patches.{ArePatchFacts}
 
 module _ {F : Type 0} (any : F → AnyFact) (key : F → ℕ) (same : (f : F) → any_key (any f) ≡ key f) where

@@ -18,19 +18,19 @@ use Rattle.pur_base.specs.declared.facts.AnyFact.TheVariants as any
 use Rattle.boot_codec.specs.declared.record.NextNumbers.{NextNumbers}
 use Rattle.boot_codec.specs.Record.{AreNext}
 use Rattle.pyramid.specs.Layers.{facts_of, patch_facts, patches_of}
-use Rattle.pyramid.proofs.ContainsLemmas.{nowhere}
+use Rattle.pyramid.specs.lemmas.Contains.{nowhere}
 use Rattle.memory_spec.specs.Tables.{facts}
 use Rattle.memory_spec.specs.Memory.{Memory, Contents, FitsTarget, FitsInMemory, IsSound}
-use Rattle.memory_spec.proofs.Lists.{in_map, of_map}
-use Rattle.memory_spec.proofs.AllTables.{all_addresses}
+use Rattle.memory_spec.specs.lemmas.Lists.{in_map, of_map}
+use Rattle.memory_spec.specs.lemmas.AllTables.{all_addresses}
 use Rattle.memory_spec.proofs.Putting.{address_numbers}
 use Rattle.memory_spec.specs.Eliding.{IsEliding}
 use Rattle.memory_spec.specs.Flushing.{IsFlush, IsShrunk}
 use Rattle.memory_spec.specs.Placing.{placed_target, repointed, AreRepointed, IsPlacedAt, AreNewSegments, IsPlacing}
 use Rattle.memory_spec.specs.Checkpoint.{IsCheckpointed}
 use Rattle.memory_spec.proofs.Eliding.{eliding_reads}
-use Rattle.memory_spec.proofs.Flushed.{flush_shrinks}
-use Rattle.memory_spec.proofs.Shrinking.{shrunk_sound}
+use Rattle.memory_spec.specs.lemmas.Flushed.{flush_shrinks}
+use Rattle.memory_spec.specs.lemmas.Shrinking.{shrunk_sound}
 use Rattle.memory_spec.proofs.Placing.{placing_sound, staged_target, other_target, which_place, old_segment_id}
 use Rattle.table_plan.specs.Places.{is_staged_at, is_named, flagged_from, place_of, places_from, place_or_any, place_in}
 use Rattle.table_plan.specs.Segments.{segments_from}
@@ -38,7 +38,7 @@ use Rattle.table_plan.specs.Eliding.{eliding}
 use Rattle.table_plan.specs.Planned.{sectors_at, extended, AreStored, IsPlanned, ElidedIsCheckpointed, PlannedIsCheckpointed}
 use Rattle.table_plan.proofs.PlacesLemmas.{is_flagged, placed_contents, older_contents}
 use Rattle.table_plan.proofs.SegmentsLemmas.{is_new_segment, holds_rank, rooms}
-use Rattle.array_spec.proofs.Mediums.{same_some}
+use Rattle.array_spec.specs.lemmas.Mediums.{same_some}
 
 -- ---- a fact that names a staged sector is found
 

@@ -11,8 +11,8 @@ use Rattle.pur_base.specs.declared.request.Table.TheVariants as table
 use Rattle.pur_base.specs.declared.facts.ElisionFact.{ElisionFact}
 use Rattle.elision.specs.Ranges.{AreApart}
 use Rattle.elision.proofs.SearchLemmas.{starts_rise}
-use Rattle.pyramid.proofs.ContainsLemmas.{here, there}
-use Rattle.memory_spec.proofs.Lists.{pairs_of}
+use Rattle.pyramid.specs.lemmas.Contains.{here, there}
+use Rattle.memory_spec.specs.lemmas.Lists.{pairs_of}
 use Rattle.table_plan.specs.Eliding.{IsElisionOf, AreElisionsOf}
 use Rattle.table_plan.proofs.ElidedLemmas.{elisions_alike}
 

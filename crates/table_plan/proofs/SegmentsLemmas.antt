@@ -5,7 +5,7 @@ use Rattle.std.proofs.lemmas.Bool.{cases_lt}
 use Rattle.pur_base.specs.declared.limits.TheConstants.{SEGMENT_SECTORS}
 use Rattle.pur_base.specs.declared.place.Place.{Place}
 use Rattle.pur_base.specs.declared.facts.SegmentFact.{SegmentFact}
-use Rattle.pyramid.proofs.ContainsLemmas.{here, there, either, nowhere}
+use Rattle.pyramid.specs.lemmas.Contains.{here, there, either, nowhere}
 use Rattle.table_plan.specs.Segments.{segments_from}
 
 -- what a new segment is

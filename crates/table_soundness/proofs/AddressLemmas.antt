@@ -16,9 +16,9 @@ use Rattle.pur_base.specs.declared.place.Location.{Location}
 use Rattle.pur_base.specs.declared.request.Table.TheVariants as table
 use Rattle.pyramid.specs.Layers.{newest_of}
 use Rattle.pyramid.specs.Shown.{IsShown}
-use Rattle.pyramid.proofs.KeyLemmas.{id_of_key}
-use Rattle.pyramid.proofs.LayerLemmas.{all_contained}
-use Rattle.pyramid.proofs.ShownLemmas.{said_found}
+use Rattle.pyramid.specs.lemmas.Keys.{id_of_key}
+use Rattle.pyramid.specs.lemmas.Layers.{all_contained}
+use Rattle.pyramid.specs.lemmas.Shown.{said_found}
 use Rattle.pyramid.proofs.SpanLemmas.{only_one}
 use Rattle.table_soundness.specs.Addresses.{AreAddressesRight, AreAddressesListed, EndsWithin, IsSmall, IsThere}
 use Rattle.table_soundness.specs.Last.{IsLastOf}

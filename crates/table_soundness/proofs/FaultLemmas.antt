@@ -19,8 +19,8 @@ use Rattle.pur_base.specs.declared.request.Table.TheVariants as table
 use Rattle.fact_codec.specs.Fact.{IsFact}
 use Rattle.pyramid.specs.Layers.{facts_of}
 use Rattle.pyramid.specs.Shown.{IsShown}
-use Rattle.pyramid.proofs.LayerLemmas.{all_contained}
-use Rattle.pyramid.proofs.ShownLemmas.{said_found, said_whole}
+use Rattle.pyramid.specs.lemmas.Layers.{all_contained}
+use Rattle.pyramid.specs.lemmas.Shown.{said_found, said_whole}
 use Rattle.table_soundness.specs.Addresses.{IsSmall}
 use Rattle.table_soundness.specs.Elided.{IsRange}
 use Rattle.table_soundness.specs.Faults.{first_false, IsFirst}

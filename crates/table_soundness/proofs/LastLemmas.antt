@@ -3,7 +3,7 @@ use Rattle.std.proofs.Common.{◌≡◌, ◌≢◌, ℕ, ◌-◌, ◌<◌, ◌�
 use Rattle.std.proofs.lemmas.Bool.{cases_lt}
 use Rattle.pur_base.specs.Keys.{id_of}
 use Rattle.pur_base.specs.Says.{Ascends}
-use Rattle.pyramid.proofs.LayerLemmas.{ascends_ordered}
+use Rattle.pyramid.specs.lemmas.Layers.{ascends_ordered}
 use Rattle.pyramid.proofs.SearchLemmas.{rises}
 use Rattle.table_soundness.specs.Last.{IsLastOf}
 

@@ -16,10 +16,10 @@ use Rattle.pur_base.specs.declared.facts.ObjectKind.{ObjectKind}
 use Rattle.pur_base.specs.declared.facts.ObjectKind.TheVariants.{Volume, Snapshot}
 use Rattle.pur_base.specs.declared.request.Table.TheVariants as table
 use Rattle.pyramid.specs.Shown.{IsShown}
-use Rattle.pyramid.proofs.ContainsLemmas.{here, there, either, nowhere}
-use Rattle.pyramid.proofs.KeyLemmas.{id_of_key}
-use Rattle.pyramid.proofs.LayerLemmas.{all_contained}
-use Rattle.pyramid.proofs.ShownLemmas.{said_found}
+use Rattle.pyramid.specs.lemmas.Contains.{here, there, either, nowhere}
+use Rattle.pyramid.specs.lemmas.Keys.{id_of_key}
+use Rattle.pyramid.specs.lemmas.Layers.{all_contained}
+use Rattle.pyramid.specs.lemmas.Shown.{said_found}
 use Rattle.table_soundness.specs.Last.{IsLastOf}
 use Rattle.table_soundness.specs.Mediums.{AreMediumsRight, AreMediumsListed, EndsWithin, IsFrozen, IsRange, IsSmall, LeadsElsewhere, LiesBefore, volume_mediums, with_medium}
 

@@ -9,11 +9,11 @@ use Rattle.pur_base.specs.Says.{has_key, unless_empty, Ascends}
 use Rattle.pyramid.specs.Layers.{facts_of, newest_of, stays}
 use Rattle.pyramid.specs.Merging.{later}
 use Rattle.pyramid.specs.Shown.{IsShown}
-use Rattle.pyramid.proofs.ContainsLemmas.{filtered, of_filter}
-use Rattle.pyramid.proofs.MergeLemmas.{none_above, ascends-head, ascends-tail, ascends-cons, ascends-nil, ascends_filter}
-use Rattle.pyramid.proofs.NewestLemmas.{newest-append, newest-cons, newest_found}
+use Rattle.pyramid.specs.lemmas.Contains.{filtered, of_filter}
+use Rattle.pyramid.specs.lemmas.Merges.{none_above, ascends-head, ascends-tail, ascends-cons, ascends-nil, ascends_filter}
+use Rattle.pyramid.specs.lemmas.Newest.{newest-append, newest-cons, newest_found}
 use Rattle.pyramid.proofs.PlaceLemmas.{facts_append}
-use Rattle.pyramid.proofs.ShownLemmas.{passes_filter, said_whole, whole_said}
+use Rattle.pyramid.specs.lemmas.Shown.{passes_filter, said_whole, whole_said}
 use Rattle.pyramid.proofs.SpanLemmas.{only_one}
 use Rattle.table_soundness.specs.Newest.{newer_one, weave, woven, AreNewest}
 

@@ -11,7 +11,7 @@ use Rattle.boot_codec.specs.declared.record.NextNumbers.{NextNumbers}
 use Rattle.array_spec.specs.Sound.{OwnsMedium}
 use Rattle.elision.specs.Ranges.{ElidedRanges}
 use Rattle.pyramid.specs.Shown.{IsShown}
-use Rattle.pyramid.proofs.LayerLemmas.{all_contained}
+use Rattle.pyramid.specs.lemmas.Layers.{all_contained}
 use Rattle.object_table.specs.Objects.{number}
 use Rattle.object_table.proofs.ObjectLemmas.{by_ids}
 use Rattle.table_soundness.specs.Elided.{AreElidedBy}

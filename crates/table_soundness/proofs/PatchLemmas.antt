@@ -2,7 +2,7 @@
 use Rattle.std.proofs.Common.{◌≡◌, ℕ, zero, suc, ◌<◌, List, [], ◌∷◌, length, get_or, subst, arith, All, Contains}
 use Rattle.std.proofs.lemmas.List.Elements.{All-contains, Contains-append_left, Contains-append_right}
 use Rattle.pyramid.specs.Layers.{facts_of}
-use Rattle.pyramid.proofs.LayerLemmas.{all_contained}
+use Rattle.pyramid.specs.lemmas.Layers.{all_contained}
 
 module _ {F : Type 0} where
   pub contains_patch : (ps : List (List F)) (i : ℕ) (p : List F) (f : F) → i < length ps → p ≡ get_or ps i p → Contains p f → Contains (facts_of ps) f

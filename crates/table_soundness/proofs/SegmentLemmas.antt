@@ -20,8 +20,8 @@ use Rattle.boot_codec.specs.declared.patch.PatchSegment.{PatchSegment}
 use Rattle.boot_codec.specs.declared.record.BootRecord.{BootRecord}
 use Rattle.array_spec.specs.Sound.{AreApart, named_segments}
 use Rattle.pyramid.specs.Shown.{IsShown}
-use Rattle.pyramid.proofs.LayerLemmas.{all_contained}
-use Rattle.pyramid.proofs.ShownLemmas.{said_found}
+use Rattle.pyramid.specs.lemmas.Layers.{all_contained}
+use Rattle.pyramid.specs.lemmas.Shown.{said_found}
 use Rattle.segment_table.specs.Segments.{number}
 use Rattle.segment_table.proofs.SegmentLemmas.{by_ids}
 use Rattle.table_soundness.specs.Items.{AreSegmentsRight, AreSegmentsListed}

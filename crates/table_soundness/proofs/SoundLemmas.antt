@@ -21,7 +21,7 @@ use Rattle.boot_codec.specs.declared.record.BootRecord.{BootRecord}
 use Rattle.array_spec.specs.Sound.{AreIdsBelow, AreObjectsSound, AreMediumsSound, AreAddressesSound, AreSegmentsSound, AreElisionsSound, AreSequencesSound, AreSound, IsOlder, with_facts}
 use Rattle.array_spec.specs.Stored.{all_facts, in_patches}
 use Rattle.pyramid.specs.Layers.{facts_of, AreBelow, Rises}
-use Rattle.pyramid.proofs.LayerLemmas.{all_contained}
+use Rattle.pyramid.specs.lemmas.Layers.{all_contained}
 use Rattle.table_soundness.specs.Faults.{facts_in, numbers_before, numbers_of, patches_in, AreNamed, AreNumbersOf, IsFault, IsNamed, IsTableSound}
 use Rattle.table_soundness.specs.declared.tables.LoadedTables.{LoadedTables}
 use Rattle.table_soundness.proofs.PairLemmas.{all_flat, all_left, all_right, all_unmap, of_flat, pairs_cons, pairs_head, pairs_join, pairs_left, pairs_map, pairs_nil, pairs_right, pairs_tail, pairs_unmap}

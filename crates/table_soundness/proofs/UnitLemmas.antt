@@ -7,7 +7,7 @@ use Rattle.std.proofs.lemmas.List.Elements.{All-nil, All-cons, All-head, All-tai
 use Rattle.pur_base.specs.declared.place.Place.{Place}
 use Rattle.boot_codec.specs.Record.{AscendFrom}
 use Rattle.array_spec.specs.Sound.{AreApart}
-use Rattle.pyramid.proofs.LayerLemmas.{all_contained}
+use Rattle.pyramid.specs.lemmas.Layers.{all_contained}
 use Rattle.table_soundness.specs.Places.{code_of}
 use Rattle.table_soundness.proofs.PairLemmas.{all_flat, of_flat, all_unmap, pairs_nil, pairs_head, pairs_tail, pairs_cons, pairs_right, pairs_across, pairs_join}
 

@@ -13,7 +13,7 @@ use Rattle.array_spec.specs.Laws.{DiffersOnlyIn}
 use Rattle.array_spec.specs.Meaning.{HoldsBase}
 use Rattle.array_spec.specs.Stored.{all_facts}
 use Rattle.array_spec.specs.Held.{AreSomeOf, AreEnough, TablesHold}
-use Rattle.array_spec.proofs.Next.{next_holds}
+use Rattle.array_spec.specs.lemmas.Next.{next_holds}
 use Rattle.memory_spec.specs.Memory.{Contents, FactsRead, ReadsAs}
 use Rattle.memory_spec.specs.Tables.{facts, patches}
 use Rattle.memory_spec.specs.Contents.{ContentsStand}
@@ -29,7 +29,7 @@ use Rattle.array_core.specs.Drives.{SegmentsHold, drives_view}
 use Rattle.register.specs.declared.state.Register.{Register}
 use Rattle.register.specs.Registers.{IsLaterRecord, IsRegisterOf, drives_of, own_slot}
 use Rattle.register.specs.Standing.{IsOpen}
-use Rattle.register.proofs.FlagLemmas.{cut_in, in_cut, none_past}
+use Rattle.register.specs.lemmas.Flags.{cut_in, in_cut, none_past}
 use Rattle.session_spec.specs.Entering.{read_now}
 use Rattle.takeover.specs.Replayed.{HasReplayed}
 use Rattle.takeover.specs.Seen.{IsSeenIn}

@@ -13,16 +13,16 @@ use Rattle.log_codec.specs.Log.{Shows, ShowsIn}
 use Rattle.array_spec.specs.Losses.{not_holding}
 use Rattle.array_spec.specs.Meaning.{members_view}
 use Rattle.array_spec.specs.Standing.{MayAppear, MayBeGiven}
-use Rattle.array_spec.proofs.UnflushedRead.{kept_is}
+use Rattle.array_spec.specs.lemmas.UnflushedRead.{kept_is}
 use Rattle.world.specs.Losing.{geometry_of, has_failed, missing_if, losing}
 use Rattle.world.specs.Shelf.{Shelved, IsShelf, MayStop}
 use Rattle.session_spec.specs.Entering.{Enters, Found, ComesOut, IsTakenOver, OnlyFailedAreSilent, read_now, failed_since}
 use Rattle.session_spec.specs.Headline.{HasNoArray, HasTooFew, IsUnopenedBy}
-use Rattle.session_spec.proofs.Conditions.{loses, borne_on}
+use Rattle.session_spec.specs.lemmas.Conditions.{loses, borne_on}
 use Rattle.session_spec.proofs.Taken.{takeover_bears}
 use Rattle.takeover.proofs.Loading.{may_read}
 use Rattle.takeover.proofs.Views.{is_view}
-use Rattle.array_core.proofs.Losses.{sound_since}
+use Rattle.array_core.specs.lemmas.Losses.{sound_since}
 
 -- what becomes of a device: it is sound, or left out, or a call on it failed
 pub outcome : Bool → Option (List ℕ) → Condition

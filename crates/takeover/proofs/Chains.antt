@@ -7,12 +7,12 @@ use Rattle.pur_base.specs.Devices.{View}
 use Rattle.pur_base.specs.Plain.{Array}
 use Rattle.log_codec.specs.Log.{Shows, IsInSlot, LogFrom, LogStands, DevicesAgree}
 use Rattle.log_codec.proofs.OneHead.{one_command}
-use Rattle.array_spec.proofs.LogBetween.{shower}
-use Rattle.array_spec.proofs.OneLog.{one_shown, one_in_slot}
+use Rattle.array_spec.specs.lemmas.LogBetween.{shower}
+use Rattle.array_spec.specs.lemmas.OneLog.{one_shown, one_in_slot}
 use Rattle.nvram_log.specs.declared.log.NvLog.{NvLog}
 use Rattle.nvram_log.specs.Held.{Keeps}
 use Rattle.nvram_log.proofs.Lists.{get_front}
-use Rattle.array_spec.proofs.Unique.{same_lists}
+use Rattle.array_spec.specs.lemmas.Unique.{same_lists}
 use Rattle.takeover.specs.Replay.{IsRun}
 
 pub log_from : (view : View) (flushed i : ℕ) (a : Array) (cs : List Command) → ((k : ℕ) (c : Command) → slice_get cs k ≡ Some c → IsInSlot view flushed (i + k) c) → AllAccepted a cs

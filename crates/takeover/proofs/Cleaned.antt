@@ -8,7 +8,7 @@ use Rattle.pur_base.specs.Devices.{drive}
 use Rattle.world.specs.Counts.{Rises}
 use Rattle.world.specs.Shelf.{Shelved, Disk}
 use Rattle.boot_region.specs.Members.{IsMember, NonMembersStay, Opened}
-use Rattle.boot_region.proofs.ShownLemmas.{member_below}
+use Rattle.boot_region.specs.lemmas.Shown.{member_below}
 
 -- a device that was clean is so still, or a call on it failed
 pub stays_clean : (old new : Shelved) (was now : List Bool) (at : ℕ) → old.honest

@@ -13,12 +13,12 @@ use Rattle.boot_codec.specs.declared.record.BootRecord.{BootRecord}
 use Rattle.boot_codec.specs.Record.{set_count}
 use Rattle.boot_codec.specs.Region.{BootSlot, IsRecordOf, body_in, names, of_members}
 use Rattle.boot_codec.specs.Spelling.{spelling}
-use Rattle.array_spec.proofs.Votes.{counted}
+use Rattle.array_spec.specs.lemmas.Votes.{counted}
 use Rattle.array_spec.specs.Held.{AreSomeOf, AreEnough}
 use Rattle.boot_region.specs.Members.{IsMember}
 use Rattle.nvram_log.specs.Members as nv
 use Rattle.register.specs.Registers.{named_sound}
-use Rattle.register.proofs.FlagLemmas.{none_past}
+use Rattle.register.specs.lemmas.Flags.{none_past}
 
 bit : (b : Bool) → cond b 1 0 ≤ 1
 bit true = omega arith

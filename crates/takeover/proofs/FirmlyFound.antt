@@ -15,15 +15,15 @@ use Rattle.boot_codec.specs.Spelling.{spelling}
 use Rattle.array_spec.specs.Laws.{IsNamedByNone}
 use Rattle.array_spec.specs.Meaning.{IsInForce}
 use Rattle.array_spec.specs.Standing.{IsViewOf, MayAppear, MayBeGiven, Stands}
-use Rattle.array_spec.proofs.Settling.{twice_other}
-use Rattle.array_spec.proofs.Spelled.{spells_one}
-use Rattle.array_spec.proofs.Standings.{more_may_go_missing}
-use Rattle.array_spec.proofs.UnflushedRead.{was_left_out}
+use Rattle.array_spec.specs.lemmas.Settling.{twice_other}
+use Rattle.array_spec.specs.lemmas.Spelled.{spells_one}
+use Rattle.array_spec.specs.lemmas.Standings.{more_may_go_missing}
+use Rattle.array_spec.specs.lemmas.UnflushedRead.{was_left_out}
 use Rattle.world.specs.Losing.{geometry_of}
 use Rattle.world.specs.Shelf.{Shelved, Stop, IsShelf, IsSame, Continues, MayStop, LeavesOnly}
 use Rattle.world.specs.Writes.{LeavesBut, WritesOnly}
-use Rattle.world.proofs.Moments.{then_run, weaker}
-use Rattle.world.proofs.Stopped.{as_read}
+use Rattle.world.specs.lemmas.Moments.{then_run, weaker}
+use Rattle.world.specs.lemmas.Stopped.{as_read}
 use Rattle.boot_region.specs.declared.loading.Loaded.{Loaded}
 use Rattle.boot_region.specs.declared.slot.Slot.{Slot}
 use Rattle.boot_region.specs.Loading.{IsLoadBy, MayBeSettled, TellsHolding}
@@ -32,7 +32,7 @@ use Rattle.boot_region.specs.Regions.{is_holding}
 use Rattle.boot_region.specs.Slots.{slot_in}
 use Rattle.boot_region.specs.Storing.{IsLoaded, StandsAgain, StandsNow}
 use Rattle.boot_region.proofs.Composing.{all_decide, as_it_is, none_decided, votes_not}
-use Rattle.boot_region.proofs.ShownLemmas.{bodies_same, shown_body}
+use Rattle.boot_region.specs.lemmas.Shown.{bodies_same, shown_body}
 use Rattle.boot_region.proofs.StillGiven.{yields_or}
 use Rattle.boot_region.proofs.Stored.{lost, lost_within, never_sound, others_lost, others_not_sound, others_within}
 use Rattle.register.proofs.Follows.{shows_itself}

@@ -10,7 +10,7 @@ use Rattle.boot_codec.specs.Region.{BootSlot}
 use Rattle.world.specs.Shelf.{Shelved}
 use Rattle.boot_region.specs.Members.{IsMember, IsOneOf, OnClosed}
 use Rattle.boot_region.specs.Storing.{IsLoaded, IsFound, IsInForceOn, TellsFailed}
-use Rattle.boot_region.proofs.ShownLemmas.{member_below}
+use Rattle.boot_region.specs.lemmas.Shown.{member_below}
 use Rattle.takeover.proofs.Members.{front_member, of_front}
 
 pub front_closed : (n : ℕ) (flags : List Bool) (shelf : Shelved) (at : ℕ) (d : Device) (i : ℕ) → OnClosed (take n flags) shelf at d i → OnClosed flags shelf at d i

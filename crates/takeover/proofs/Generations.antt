@@ -12,9 +12,9 @@ use Rattle.boot_codec.specs.Spelling.{spelling}
 use Rattle.boot_codec.specs.Region.{BootSlot, A, B, IsRecordOf, IsDecided, votes, other_slot, shown_by, slot_of, generation_in, Yields}
 use Rattle.array_spec.specs.Meaning.{IsInForce}
 use Rattle.array_spec.specs.Standing.{Stands, MayBeGiven, IsViewOf}
-use Rattle.array_spec.proofs.Settling.{this_or_other, twice_other}
-use Rattle.array_spec.proofs.Spelled.{spells_one}
-use Rattle.array_spec.proofs.Votes.{one_is_decided}
+use Rattle.array_spec.specs.lemmas.Settling.{this_or_other, twice_other}
+use Rattle.array_spec.specs.lemmas.Spelled.{spells_one}
+use Rattle.array_spec.specs.lemmas.Votes.{one_is_decided}
 use Rattle.boot_region.proofs.Composing.{all_decide}
 use Rattle.register.proofs.Numbers.{generation_spelled}
 

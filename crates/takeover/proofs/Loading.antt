@@ -14,20 +14,20 @@ use Rattle.boot_codec.specs.Region.{BootSlot, other_slot, Effective, IsEffective
 use Rattle.boot_codec.specs.Spelling.{spelling}
 use Rattle.array_spec.specs.Meaning.{IsInForce}
 use Rattle.array_spec.specs.Standing.{Stands, MayBeGiven, MayAppear, IsViewOf, IsReadBy}
-use Rattle.array_spec.proofs.Standings.{more_may_go_missing}
+use Rattle.array_spec.specs.lemmas.Standings.{more_may_go_missing}
 use Rattle.world.specs.Losing.{geometry_of, has_risen}
 use Rattle.world.specs.Shelf.{Shelved, Stop, Disk, IsShelf, IsSame, Continues, MayStop, MayLeave}
 use Rattle.world.specs.declared.shelf.Span.{Span}
-use Rattle.world.proofs.Stopped.{as_read}
+use Rattle.world.specs.lemmas.Stopped.{as_read}
 use Rattle.boot_region.specs.Members.{IsMember}
 use Rattle.boot_region.specs.Regions.{region_at, seen, is_holding, is_body_in, IsRead}
 use Rattle.boot_region.specs.Loading.{IsHeld}
-use Rattle.boot_region.proofs.Accounts.{losing_within}
+use Rattle.boot_region.specs.lemmas.Accounts.{losing_within}
 use Rattle.boot_region.proofs.Composing.{as_it_is, is_sound_is}
-use Rattle.boot_region.proofs.FoundLemmas.{same_body, same_shown, same_over}
+use Rattle.boot_region.specs.lemmas.Found.{same_body, same_shown, same_over}
 use Rattle.boot_region.proofs.Phases.{risen_on_way}
 use Rattle.session_spec.specs.Entering.{Enters, failed_since}
-use Rattle.array_core.proofs.Losses.{sound_since}
+use Rattle.array_core.specs.lemmas.Losses.{sound_since}
 
 -- the devices as a read gives them
 abbrev pub as_they_read : Shelved → Stop

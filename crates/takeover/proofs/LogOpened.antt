@@ -16,23 +16,23 @@ use Rattle.boot_codec.specs.Region.{BootSlot, IsRecordOf, body_in, names, other_
 use Rattle.log_codec.specs.Log.{Shows, ShowsIn, IsInSlot}
 use Rattle.array_spec.specs.Laws.{IsNamedByNone}
 use Rattle.array_spec.specs.Standing.{Stands, MayBeGiven}
-use Rattle.array_spec.proofs.Settling.{twice_other}
-use Rattle.array_spec.proofs.Standings.{within_twice}
-use Rattle.array_spec.proofs.LogBetween.{shower}
-use Rattle.array_spec.proofs.UnflushedRead.{one_left, kept_is}
-use Rattle.array_spec.proofs.Votes.{sound_before}
+use Rattle.array_spec.specs.lemmas.Settling.{twice_other}
+use Rattle.array_spec.specs.lemmas.Standings.{within_twice}
+use Rattle.array_spec.specs.lemmas.LogBetween.{shower}
+use Rattle.array_spec.specs.lemmas.UnflushedRead.{one_left, kept_is}
+use Rattle.array_spec.specs.lemmas.Votes.{sound_before}
 use Rattle.array_spec.specs.Held.{TablesHold}
-use Rattle.array_spec.proofs.Next.{same_drives_hold}
+use Rattle.array_spec.specs.lemmas.Next.{same_drives_hold}
 use Rattle.array_memory.specs.Kept.{Kept}
 use Rattle.world.specs.Counts.{Rises}
 use Rattle.world.specs.Losing.{geometry_of, has_failed, has_risen}
 use Rattle.world.specs.Shelf.{Shelved, Stop, Disk, IsShelf, Continues, MayStop, MayLeave, LeavesOnly}
 use Rattle.world.specs.Writes.{LeavesBut, WritesOnly}
-use Rattle.world.proofs.Moments.{continues_trans, then_run, weaker}
-use Rattle.world.proofs.Stopped.{as_read}
+use Rattle.world.specs.lemmas.Moments.{continues_trans, then_run, weaker}
+use Rattle.world.specs.lemmas.Stopped.{as_read}
 use Rattle.boot_region.specs.declared.loading.Loaded.{Loaded}
 use Rattle.boot_region.specs.Slots.{slot_in}
-use Rattle.boot_region.proofs.Accounts.{losing_within}
+use Rattle.boot_region.specs.lemmas.Accounts.{losing_within}
 use Rattle.boot_region.proofs.Composing.{as_it_is}
 use Rattle.boot_region.proofs.Phases.{risen_on_way}
 use Rattle.boot_region.proofs.Stored.{lost, lost_within, never_sound, rises_between}
@@ -58,7 +58,7 @@ use Rattle.takeover.proofs.Failing.{by_stop, since_later}
 use Rattle.takeover.proofs.LogSettling.{not_risen, stays, given_moves, answers, is_one, agree_here, standing_settling}
 use Rattle.takeover.proofs.NothingStored.{given_over, standing_with_fewer}
 use Rattle.array_core.proofs.Logged.{nothing_else}
-use Rattle.array_core.proofs.Losses.{bearable_or_not, fewer_borne, sound_since}
+use Rattle.array_core.specs.lemmas.Losses.{bearable_or_not, fewer_borne, sound_since}
 use Rattle.nvram_log.proofs.SettledEach.{both_leave}
 use Rattle.register.proofs.Rounds.{same_shelf as shelf_stays}
 

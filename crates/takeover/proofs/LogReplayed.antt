@@ -10,8 +10,8 @@ use Rattle.pur_base.specs.Visible.{segment}
 use Rattle.pur_base.specs.declared.device.Device.{Device}
 use Rattle.pur_base.specs.declared.device.Device.TheVariants.{Drive, Nv}
 use Rattle.log_codec.specs.Log.{LogStands, Shows, ShowsIn}
-use Rattle.array_spec.proofs.LogBetween.{shower}
-use Rattle.array_spec.proofs.UnflushedRead.{kept_is}
+use Rattle.array_spec.specs.lemmas.LogBetween.{shower}
+use Rattle.array_spec.specs.lemmas.UnflushedRead.{kept_is}
 use Rattle.memory_spec.specs.Memory.{Contents, ReadsAs}
 use Rattle.memory_spec.specs.Tables.{facts}
 use Rattle.memory_spec.specs.Whole.{AreLayered}
@@ -36,8 +36,8 @@ use Rattle.takeover.specs.Opened.{AreClean}
 use Rattle.takeover.specs.Replay.{HasUnserved, IsReplayed, IsReplayFault, log_fault_of}
 use Rattle.takeover.specs.Replayed.{HasReplayed, IsReplayedBy, IsReplayedFrom, ShowedUnserved}
 use Rattle.takeover.proofs.Chains.{replayed_stands}
-use Rattle.array_core.proofs.Losses.{sound_since}
-use Rattle.array_spec.proofs.LogMoves.{log_moves}
+use Rattle.array_core.specs.lemmas.Losses.{sound_since}
+use Rattle.array_spec.specs.lemmas.LogMoves.{log_moves}
 
 -- ---- what was shown
 

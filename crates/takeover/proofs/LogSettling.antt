@@ -19,19 +19,19 @@ use Rattle.boot_codec.specs.Region.{BootSlot, shown_by, names, of_members}
 use Rattle.log_codec.specs.Log.{Shows, ShowsIn, IsInSlot, LogStands}
 use Rattle.array_spec.specs.LogSettling.{answering, SettlesLog, MaySettle}
 use Rattle.array_spec.specs.Standing.{Stands, IsViewOf, MayBeGiven, IsReadBy}
-use Rattle.array_spec.proofs.LogBetween.{shower}
+use Rattle.array_spec.specs.lemmas.LogBetween.{shower}
 use Rattle.array_spec.proofs.LogSettled.{settling_keeps}
-use Rattle.array_spec.proofs.OneLog.{one_log}
-use Rattle.array_spec.proofs.Settling.{twice_other}
-use Rattle.array_spec.proofs.Standings.{more_may_go_missing, within_twice}
-use Rattle.array_spec.proofs.UnflushedRead.{kept_some, was_left_out}
-use Rattle.array_spec.proofs.Votes.{sound_before}
-use Rattle.array_spec.proofs.Reading.{read_holds}
-use Rattle.array_spec.proofs.Unique.{one_base}
+use Rattle.array_spec.specs.lemmas.OneLog.{one_log}
+use Rattle.array_spec.specs.lemmas.Settling.{twice_other}
+use Rattle.array_spec.specs.lemmas.Standings.{more_may_go_missing, within_twice}
+use Rattle.array_spec.specs.lemmas.UnflushedRead.{kept_some, was_left_out}
+use Rattle.array_spec.specs.lemmas.Votes.{sound_before}
+use Rattle.array_spec.specs.lemmas.Reading.{read_holds}
+use Rattle.array_spec.specs.lemmas.Unique.{one_base}
 use Rattle.world.specs.Losing.{geometry_of, has_risen, missing_if}
 use Rattle.world.specs.Shelf.{Shelved, Stop, Disk, IsShelf, MayStop, MayLeave}
 use Rattle.world.specs.Writes.{LeavesBut, WritesOnly}
-use Rattle.world.proofs.Stopped.{as_read}
+use Rattle.world.specs.lemmas.Stopped.{as_read}
 use Rattle.boot_region.specs.declared.loading.Loaded.{Loaded}
 use Rattle.boot_region.specs.Slots.{slot_in}
 use Rattle.boot_region.proofs.Composing.{as_it_is, is_sound_is}
@@ -48,7 +48,7 @@ use Rattle.takeover.proofs.Chains.{replayed_stands, of_front, agrees}
 use Rattle.takeover.proofs.Generations.{this_or_later}
 use Rattle.takeover.proofs.NothingStored.{left_out_settled, read_settled}
 use Rattle.array_core.proofs.Logged.{nothing_else}
-use Rattle.array_spec.proofs.LogMoves.{shows_move, log_moves}
+use Rattle.array_spec.specs.lemmas.LogMoves.{shows_move, log_moves}
 
 -- ---- conditions
 

@@ -8,9 +8,9 @@ use Rattle.pur_base.specs.Devices.{Geometry, Image, View, Conditions, Sound, IsB
 use Rattle.pur_base.specs.declared.limits.TheConstants.{SLOTS_MIN}
 use Rattle.boot_codec.specs.Record.{set_count}
 use Rattle.boot_codec.specs.Region.{BootSlot, A, B, IsDecided, IsEffective, Yields, body_in, generation_in, is_vote, other_slot, shown_by, votes}
-use Rattle.array_spec.proofs.Votes.{counted, held_votes, most_votes, not_missing, one_is_decided}
+use Rattle.array_spec.specs.lemmas.Votes.{counted, held_votes, most_votes, not_missing, one_is_decided}
 use Rattle.boot_region.specs.Members.{IsMember}
-use Rattle.boot_region.proofs.ShownLemmas.{shown_body}
+use Rattle.boot_region.specs.lemmas.Shown.{shown_body}
 use Rattle.boot_region.proofs.Stored.{count_none}
 use Rattle.takeover.proofs.Enough.{unflagged}
 

@@ -3,7 +3,7 @@ use Rattle.std.proofs.Common.{◌≡◌, inl, inr, ℕ, zero, suc, ◌<◌, ◌�
 use Rattle.std.specs.Prelude.{count_by}
 use Rattle.std.proofs.lemmas.List.{get_or-take, get_or_past, length-take}
 use Rattle.std.proofs.lemmas.Bool.{cases_lt}
-use Rattle.array_spec.proofs.Votes.{counted}
+use Rattle.array_spec.specs.lemmas.Votes.{counted}
 use Rattle.boot_region.specs.Members.{IsMember}
 
 pub front_member : (n : ℕ) (flags : List Bool) (i : ℕ) → i < n → IsMember flags i → IsMember (take n flags) i

@@ -9,7 +9,7 @@ use Rattle.pur_base.specs.declared.device.Device.TheVariants.{Drive, Nv}
 use Rattle.pur_base.specs.declared.facts.AnyFact.{AnyFact}
 use Rattle.boot_codec.specs.declared.record.BootRecord.{BootRecord}
 use Rattle.boot_codec.specs.Region.{names}
-use Rattle.array_spec.proofs.Votes.{sound_before}
+use Rattle.array_spec.specs.lemmas.Votes.{sound_before}
 use Rattle.memory_spec.specs.Memory.{Contents, ReadsAs}
 use Rattle.memory_spec.specs.Tables.{facts, patches}
 use Rattle.world.specs.Losing.{geometry_of}
@@ -36,7 +36,7 @@ use Rattle.takeover.proofs.Failing.{since_later}
 use Rattle.takeover.proofs.Outlasted.{enters_firmly}
 use Rattle.takeover.proofs.RecoveredLemmas.{content, left_or_lost, still_left}
 use Rattle.takeover.proofs.Twice.{twice_since}
-use Rattle.array_core.proofs.Losses.{fewer_borne}
+use Rattle.array_core.specs.lemmas.Losses.{fewer_borne}
 use Rattle.register.proofs.Rounds.{same_shelf}
 
 -- the record is found with its tables, and then the log is opened

@@ -14,9 +14,9 @@ use Rattle.boot_codec.specs.declared.record.BootRecord.{BootRecord}
 use Rattle.segment_codec.specs.Stripes.{SectorStands, StripesStand}
 use Rattle.array_spec.specs.Laws.{DiffersOnlyIn}
 use Rattle.array_spec.specs.Stored.{PatchStands, PatchesStand, places_of_part, pages_in_part}
-use Rattle.array_spec.proofs.Fewer.{patches_on}
-use Rattle.array_spec.proofs.Moves.{SameUnit, SameUnits, Keeps, same_units_keep}
-use Rattle.array_spec.proofs.Quiet.{bytes_same, in_unit}
+use Rattle.array_spec.specs.lemmas.Fewer.{patches_on}
+use Rattle.array_spec.specs.lemmas.Moves.{SameUnit, SameUnits, Keeps, same_units_keep}
+use Rattle.array_spec.specs.lemmas.Quiet.{bytes_same, in_unit}
 
 module _ (old new : View) where
   sector_moves : (places : List Place) (index : ℕ) (sector : List ℕ) → Keeps old new places → SectorStands old places index sector → SectorStands new places index sector

@@ -11,8 +11,8 @@ use Rattle.boot_codec.specs.Record.{set_count}
 use Rattle.boot_codec.specs.Spelling.{spelling}
 use Rattle.boot_codec.proofs.RecordLemmas.{record_again}
 use Rattle.array_spec.specs.Standing.{MayBeGiven}
-use Rattle.array_spec.proofs.Standings.{given_with_fewer}
-use Rattle.array_spec.proofs.Votes.{one_is_effective, not_missing}
+use Rattle.array_spec.specs.lemmas.Standings.{given_with_fewer}
+use Rattle.array_spec.specs.lemmas.Votes.{one_is_effective, not_missing}
 use Rattle.world.specs.Losing.{geometry_of, has_risen}
 use Rattle.world.specs.Shelf.{Shelved, Stop, IsSame, Continues, MayStop}
 use Rattle.boot_region.specs.declared.loading.LoadFault.{LoadFault}
@@ -20,7 +20,7 @@ use Rattle.boot_region.specs.declared.loading.LoadFault.TheVariants as faults
 use Rattle.boot_region.specs.Members.{IsMember}
 use Rattle.boot_region.specs.Regions.{IsRead}
 use Rattle.boot_region.specs.Loading.{IsFaultOf, IsBadBody, IsSpent, TooFewHold}
-use Rattle.boot_region.proofs.Accounts.{losing_within}
+use Rattle.boot_region.specs.lemmas.Accounts.{losing_within}
 use Rattle.session_spec.specs.Entering.{Enters, failed_since}
 use Rattle.takeover.proofs.Loading.{at_time, may_at_time, same_leaves, view_appears, given_here, here_decided, seen_effective, view, member_here}
 use Rattle.array_core.proofs.Lost.{enough}

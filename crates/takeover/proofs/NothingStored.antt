@@ -15,10 +15,10 @@ use Rattle.boot_codec.specs.Spelling.{spelling}
 use Rattle.log_codec.specs.Log.{ShowsIn}
 use Rattle.array_spec.specs.LogSettling.{SettlesLog}
 use Rattle.array_spec.specs.Standing.{MayBeGiven}
-use Rattle.array_spec.proofs.Quiet.{effective_moves}
-use Rattle.array_spec.proofs.Standings.{given_with_fewer, more_may_go_missing, within_twice}
-use Rattle.array_spec.proofs.UnflushedRead.{was_left_out}
-use Rattle.array_spec.proofs.Votes.{sound_before}
+use Rattle.array_spec.specs.lemmas.Quiet.{effective_moves}
+use Rattle.array_spec.specs.lemmas.Standings.{given_with_fewer, more_may_go_missing, within_twice}
+use Rattle.array_spec.specs.lemmas.UnflushedRead.{was_left_out}
+use Rattle.array_spec.specs.lemmas.Votes.{sound_before}
 use Rattle.session_spec.specs.Entering.{AreRead, IsStanding, LeftOutAreNamedByNone}
 
 votes_alike : (f g : ℕ → Option (List ℕ)) (a n : ℕ) → ((k : ℕ) → a ≤ k → k < a + n → f k ≡ g k) → map f (range_with_len a n) ≡ map g (range_with_len a n)

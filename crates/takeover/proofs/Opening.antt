@@ -21,7 +21,7 @@ use Rattle.array_memory.specs.Kept.{Kept}
 use Rattle.world.specs.Losing.{geometry_of, has_failed}
 use Rattle.world.specs.Shelf.{Shelved, Stop, Disk, MayStop, MayLeave, IsShelf, IsSame, Continues, IsCountedBy, LeavesOnly}
 use Rattle.world.specs.Writes.{WritesOnly}
-use Rattle.world.proofs.Moments.{then_run, weaker, continues_trans}
+use Rattle.world.specs.lemmas.Moments.{then_run, weaker, continues_trans}
 use Rattle.boot_region.specs.declared.loading.Loaded.{Loaded}
 use Rattle.boot_region.specs.Loading.{IsLawfulLoad}
 use Rattle.boot_region.specs.Members.{IsMember, DroppedFailed, LostWrites}
@@ -35,7 +35,7 @@ use Rattle.register.specs.declared.next.StoreFault.TheVariants.{Spent, TooFew}
 use Rattle.register.specs.Faults.{IsFaultOf}
 use Rattle.register.specs.Registers.{IsLaterRecord, IsRegisterOf, OnSlots, drives_of, named_sound, next_slot, own_slot}
 use Rattle.register.specs.Standing.{AllShow, Content, GivesOldOrNext, MayStore, StandsBack, StandsInLog, StillGiven}
-use Rattle.register.proofs.FlagLemmas.{in_cut}
+use Rattle.register.specs.lemmas.Flags.{in_cut}
 use Rattle.session_spec.specs.Entering.{Enters, Found, OnlyFailedAreSilent, StandsStill, read_now, failed_by, failed_since}
 use Rattle.session_spec.specs.Headline.{IsUnopenedBy}
 use Rattle.takeover.specs.declared.faults.OpenFault.{OpenFault}

@@ -9,11 +9,11 @@ use Rattle.boot_codec.specs.Record.{set_count}
 use Rattle.boot_codec.specs.Region.{BootSlot, Yields, body_in, generation_in, other_slot}
 use Rattle.boot_codec.specs.Spelling.{spelling}
 use Rattle.array_spec.specs.Standing.{Stands}
-use Rattle.array_spec.proofs.Standings.{within_twice}
+use Rattle.array_spec.specs.lemmas.Standings.{within_twice}
 use Rattle.world.specs.Losing.{geometry_of}
 use Rattle.world.specs.Shelf.{Shelved, Disk, Stop, IsShelf, Continues, LeavesOnly}
 use Rattle.memory_spec.specs.Tables.{patches}
-use Rattle.world.proofs.Moments.{then_run, weaker}
+use Rattle.world.specs.lemmas.Moments.{then_run, weaker}
 use Rattle.boot_region.specs.declared.loading.Loaded.{Loaded}
 use Rattle.boot_region.specs.Members.{IsMember}
 use Rattle.boot_region.specs.Slots.{slot_in}
@@ -23,9 +23,9 @@ use Rattle.nvram_log.specs.Members.{IsFewer, IsSome}
 use Rattle.register.specs.declared.state.Register.{Register}
 use Rattle.register.specs.Registers.{IsRegisterOf, drives_of, named_sound, next_slot, own_slot}
 use Rattle.register.specs.Standing.{Content, IsFirm, IsOpen, MayStore}
-use Rattle.register.proofs.FlagLemmas.{in_cut}
+use Rattle.register.specs.lemmas.Flags.{in_cut}
 use Rattle.register.proofs.Rounds.{same_shelf}
-use Rattle.register.proofs.Stores.{cut_length, members_sound}
+use Rattle.register.specs.lemmas.Stores.{cut_length, members_sound}
 use Rattle.session_spec.specs.Entering.{read_now}
 use Rattle.takeover.specs.Found.{IsFoundOn}
 use Rattle.takeover.specs.LogOpen.{AreLeft, IsLogOpen, IsLogOpenOn}

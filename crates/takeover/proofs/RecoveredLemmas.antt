@@ -20,12 +20,12 @@ use Rattle.nvram_log.specs.Held.{HoldsOn}
 use Rattle.register.specs.declared.state.Register.{Register}
 use Rattle.register.specs.Registers.{IsRegisterOf, drives_of, own_slot, next_slot}
 use Rattle.register.specs.Standing.{Content, StandsInLog, MayStore}
-use Rattle.register.proofs.Shows.{holds_shows}
-use Rattle.register.proofs.FlagLemmas.{in_cut, cut_in}
+use Rattle.register.specs.lemmas.Shows.{holds_shows}
+use Rattle.register.specs.lemmas.Flags.{in_cut, cut_in}
 use Rattle.session_spec.specs.Entering.{failed_since}
 use Rattle.takeover.specs.LogOpen.{IsLogOpen}
 use Rattle.takeover.specs.declared.log.OpenedLog.{OpenedLog}
-use Rattle.array_core.proofs.Losses.{sound_since}
+use Rattle.array_core.specs.lemmas.Losses.{sound_since}
 
 -- the record that was found is in force on the drives of the shelf
 cut_force : (n : ℕ) (flags : List Bool) (shelf : Shelved) (missing : Conditions) (slot : BootSlot) (boot : BootRecord) → shelf.drives ≤ n → IsInForceOn shelf flags missing slot boot → IsInForceOn shelf (take n flags) missing slot boot

@@ -23,7 +23,7 @@ use Rattle.boot_region.specs.Loading.{IsLoadBy, IsLoadOf}
 use Rattle.boot_region.specs.Members.{IsMember, OnClosed}
 use Rattle.boot_region.specs.Slots.{slot_in}
 use Rattle.boot_region.proofs.Phases.{risen_on_way}
-use Rattle.boot_region.proofs.ShownLemmas.{bodies_same, gate_low, open_shows}
+use Rattle.boot_region.specs.lemmas.Shown.{bodies_same, gate_low, open_shows}
 use Rattle.session_spec.specs.Entering.{failed_since, read_now}
 use Rattle.session_spec.specs.Headline.{HasTooFew}
 use Rattle.takeover.specs.Faults.{fault_of}
@@ -31,7 +31,7 @@ use Rattle.takeover.specs.Opened.{AreClean}
 use Rattle.takeover.specs.Seen.{IsSeenIn, IsSeenBy}
 use Rattle.takeover.proofs.GivenFrom.{given_from}
 use Rattle.takeover.proofs.Showing.{below, stands_on, showing, shown, nvrams, silent, gives, member_showed, other_hid, too_few, seen_fault}
-use Rattle.array_core.proofs.Losses.{sound_since}
+use Rattle.array_core.specs.lemmas.Losses.{sound_since}
 use Rattle.takeover.proofs.WhatFound.{rose}
 
 -- a loading that failed

@@ -9,7 +9,7 @@ use Rattle.boot_codec.specs.Region.{BootSlot, gate_place}
 use Rattle.log_codec.specs.Log.{ShowsIn}
 use Rattle.array_spec.specs.Laws.{IsNamedByNone}
 use Rattle.array_spec.specs.Standing.{Stands, MayBeGiven}
-use Rattle.array_spec.proofs.Standings.{given_with_fewer}
+use Rattle.array_spec.specs.lemmas.Standings.{given_with_fewer}
 use Rattle.world.specs.Losing.{geometry_of}
 use Rattle.world.specs.Shelf.{Shelved, Stop, IsShelf, IsSame, Continues, MayStop}
 use Rattle.world.specs.Writes.{LeavesBut}

@@ -16,8 +16,8 @@ use Rattle.boot_codec.specs.Region.{BootSlot, Effective, IsEffective, IsDecided,
 use Rattle.boot_codec.specs.Spelling.{spelling}
 use Rattle.boot_codec.proofs.RecordLemmas.{record_again}
 use Rattle.array_spec.specs.Losses.{not_holding}
-use Rattle.array_spec.proofs.Spelled.{spells_one}
-use Rattle.array_spec.proofs.Votes.{one_is_effective}
+use Rattle.array_spec.specs.lemmas.Spelled.{spells_one}
+use Rattle.array_spec.specs.lemmas.Votes.{one_is_effective}
 use Rattle.world.specs.Counts.{Rises}
 use Rattle.world.specs.Losing.{geometry_of, has_risen, has_failed, losing}
 use Rattle.world.specs.Shelf.{Shelved, Continues}
@@ -26,13 +26,13 @@ use Rattle.boot_region.specs.declared.loading.LoadFault.TheVariants as faults
 use Rattle.boot_region.specs.Members.{IsMember}
 use Rattle.boot_region.specs.Regions.{region_at, seen, is_holding, is_body_in, IsRead}
 use Rattle.boot_region.specs.Loading.{IsHeld, IsFaultOf, IsBadBody, IsSpent}
-use Rattle.boot_region.proofs.FoundLemmas.{same_body, same_shown, same_over}
+use Rattle.boot_region.specs.lemmas.Found.{same_body, same_shown, same_over}
 use Rattle.session_spec.specs.Entering.{OnlyFailedAreSilent, read_now}
 use Rattle.session_spec.specs.Headline.{HasNoArray, HasTooFew, IsUnread}
 use Rattle.takeover.specs.Faults.{fault_of}
 use Rattle.takeover.specs.Seen.{IsSeenBy}
 use Rattle.takeover.proofs.NoFault.{few_lack}
-use Rattle.array_core.proofs.Losses.{sound_since}
+use Rattle.array_core.specs.lemmas.Losses.{sound_since}
 use Rattle.takeover.proofs.WhatFound.{rose}
 
 -- a drive of the shelf shows its bytes where it answered, and each other device shows them

@@ -10,7 +10,7 @@ use Rattle.array_spec.specs.Standing.{MayBeGiven}
 use Rattle.world.specs.Losing.{geometry_of, has_failed}
 use Rattle.world.specs.Shelf.{Shelved, Stop, IsShelf, MayStop, MayLeave, Continues, IsCountedBy, LeavesOnly}
 use Rattle.world.specs.Writes.{LeavesBut, WritesOnly}
-use Rattle.world.proofs.Moments.{then_run, weaker}
+use Rattle.world.specs.lemmas.Moments.{then_run, weaker}
 use Rattle.boot_region.specs.declared.loading.Loaded.{Loaded}
 use Rattle.boot_region.specs.Slots.{slot_in}
 use Rattle.boot_region.proofs.Composing.{as_it_is}
@@ -22,7 +22,7 @@ use Rattle.takeover.proofs.Failing.{by_stop}
 use Rattle.takeover.proofs.Loading.{may_read}
 use Rattle.takeover.proofs.NothingStored.{given_over}
 use Rattle.takeover.proofs.Twice.{twice_by}
-use Rattle.array_core.proofs.Losses.{fewer_borne}
+use Rattle.array_core.specs.lemmas.Losses.{fewer_borne}
 use Rattle.register.proofs.Again.{bearable_or}
 use Rattle.register.proofs.Rounds.{same_shelf}
 

@@ -19,17 +19,17 @@ use Rattle.array_spec.specs.Standing.{Stands, MayBeGiven}
 use Rattle.world.specs.Losing.{geometry_of, has_failed, has_risen}
 use Rattle.world.specs.Shelf.{Shelved, Stop, IsShelf, MayStop, MayLeave, Continues, IsCountedBy}
 use Rattle.world.specs.Writes.{LeavesBut}
-use Rattle.world.proofs.Stopped.{as_read}
+use Rattle.world.specs.lemmas.Stopped.{as_read}
 use Rattle.boot_region.specs.declared.loading.Loaded.{Loaded}
 use Rattle.boot_region.specs.Members.{IsMember}
 use Rattle.boot_region.specs.Slots.{slot_in}
 use Rattle.boot_region.specs.Storing.{AccountsFor, StandsBut, WasGiven}
-use Rattle.boot_region.proofs.Accounts.{failed_calls}
+use Rattle.boot_region.specs.lemmas.Accounts.{failed_calls}
 use Rattle.nvram_log.specs.Members.{IsMember as IsLogMember}
 use Rattle.register.specs.declared.state.Register.{Register}
 use Rattle.register.specs.Registers.{OnSlots, drives_of, next_slot, own_slot}
 use Rattle.register.specs.Standing.{AreOfMembers, GivesOldOrNext, IsNextOf, MayStore, StandsBack, StillGiven}
-use Rattle.register.proofs.FlagLemmas.{cut_in}
+use Rattle.register.specs.lemmas.Flags.{cut_in}
 use Rattle.session_spec.specs.Entering.{ComesBack, Found, IsStanding, LeftOutAreNamedByNone, OnlyFailedAreSilent, StandsStill, read_now, failed_by, failed_since}
 use Rattle.takeover.specs.declared.log.OpenedLog.{OpenedLog}
 use Rattle.takeover.specs.LogOpen.{IsLogOpen}
@@ -41,7 +41,7 @@ use Rattle.takeover.proofs.Twice.{twice_by}
 use Rattle.takeover.proofs.WhatFound.{not_named, rose_before}
 use Rattle.register.proofs.Again.{not_risen_since}
 use Rattle.register.proofs.Rounds.{same_shelf}
-use Rattle.session_spec.proofs.Conditions.{left_out_once}
+use Rattle.session_spec.specs.lemmas.Conditions.{left_out_once}
 
 -- the NVRAM devices show what they might have shown when the store began, and each record that may be given is read
 module _ (n : Shelved) (x : Loaded) (now : Conditions) (arrays : List Array) (ps : List (List AnyFact)) (base : Array) (o : OpenedLog) (was : Register) (is_n : IsShelf n) (h_n : n.honest)

@@ -17,15 +17,15 @@ use Rattle.array_spec.specs.Base.{BaseStands}
 use Rattle.array_spec.specs.Meaning.{HoldsBase, TablesStand, AllHold}
 use Rattle.array_spec.specs.Standing.{Stands, IsReadBy, IsViewOf, MayBeGiven}
 use Rattle.array_spec.specs.Stored.{PatchesStand, all_facts}
-use Rattle.array_spec.proofs.Fewer.{patches_keep, patches_on, places_keep}
-use Rattle.array_spec.proofs.Moves.{Keeps, base_moves, tables_kept}
-use Rattle.array_spec.proofs.Settling.{twice_other}
+use Rattle.array_spec.specs.lemmas.Fewer.{patches_keep, patches_on, places_keep}
+use Rattle.array_spec.specs.lemmas.Moves.{Keeps, base_moves, tables_kept}
+use Rattle.array_spec.specs.lemmas.Settling.{twice_other}
 use Rattle.array_spec.specs.Held.{AreSomeOf, AreEnough, TablesHold}
-use Rattle.array_spec.proofs.Members.{enough_hold}
-use Rattle.array_spec.proofs.Unique.{one_base, one_patches}
+use Rattle.array_spec.specs.lemmas.Members.{enough_hold}
+use Rattle.array_spec.specs.lemmas.Unique.{one_base, one_patches}
 use Rattle.world.specs.Losing.{geometry_of}
 use Rattle.world.specs.Shelf.{Shelved, Stop, IsShelf, MayStop}
-use Rattle.world.proofs.Stopped.{as_read}
+use Rattle.world.specs.lemmas.Stopped.{as_read}
 use Rattle.boot_region.specs.declared.loading.Loaded.{Loaded}
 use Rattle.boot_region.specs.Slots.{slot_in}
 use Rattle.boot_region.proofs.Composing.{as_it_is, is_sound_is}

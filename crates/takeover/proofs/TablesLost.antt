@@ -13,8 +13,8 @@ use Rattle.boot_codec.specs.declared.record.BootRecord.{BootRecord}
 use Rattle.array_spec.specs.Losses.{not_holding}
 use Rattle.array_spec.specs.Sound.{AreSound}
 use Rattle.array_spec.specs.Stored.{PatchesStand, places_of_part}
-use Rattle.array_spec.proofs.Spelled.{spells_one}
-use Rattle.array_spec.proofs.Votes.{one_is_effective}
+use Rattle.array_spec.specs.lemmas.Spelled.{spells_one}
+use Rattle.array_spec.specs.lemmas.Votes.{one_is_effective}
 use Rattle.world.specs.Losing.{geometry_of, has_failed, losing, missing_if}
 use Rattle.world.specs.Shelf.{Shelved, IsSame, Continues}
 use Rattle.segment_io.specs.Lost.{is_in}
@@ -35,7 +35,7 @@ use Rattle.takeover.specs.Faults.{IsFaultOfTables}
 use Rattle.takeover.specs.Seen.{AreTablesSeenBy, IsSeenIn}
 use Rattle.takeover.proofs.TablesRead.{shows, stand_now, view}
 use Rattle.takeover.proofs.WhatFound.{rose_before, rose}
-use Rattle.array_spec.proofs.Fewer.{split_count}
+use Rattle.array_spec.specs.lemmas.Fewer.{split_count}
 use Rattle.register.proofs.Rounds.{same_shelf}
 
 -- three of them

@@ -16,10 +16,10 @@ use Rattle.array_spec.specs.Stored.{all_facts, in_patches}
 use Rattle.pyramid.specs.Layers.{facts_of}
 use Rattle.memory_spec.specs.Memory.{Contents, FactsRead, ReadsAs}
 use Rattle.memory_spec.specs.Tables.{all_of, facts, flushed, patches}
-use Rattle.memory_spec.proofs.AllTables.{of_all}
-use Rattle.memory_spec.proofs.Lists.{each_by_recursion, zip_weaker}
+use Rattle.memory_spec.specs.lemmas.AllTables.{of_all}
+use Rattle.memory_spec.specs.lemmas.Lists.{each_by_recursion, zip_weaker}
 use Rattle.memory_spec.specs.Whole.{IsNamed, IsWhole}
-use Rattle.memory_spec.proofs.Patches.{in_patches_are, patches_are_all}
+use Rattle.memory_spec.specs.lemmas.Patches.{in_patches_are, patches_are_all}
 use Rattle.table_soundness.specs.declared.tables.LoadedTables.{LoadedTables}
 use Rattle.table_soundness.specs.Faults as judged
 use Rattle.table_soundness.specs.Faults.{patches_in, AreLawful, AreNamed}

@@ -13,16 +13,16 @@ use Rattle.boot_codec.specs.Spelling.{spelling}
 use Rattle.array_spec.specs.Laws.{DiffersOnlyIn, IsNamedByNone}
 use Rattle.array_spec.specs.Standing.{Stands, MayBeGiven}
 use Rattle.array_spec.specs.Stored.{PatchesStand, PatchStands, all_facts}
-use Rattle.array_spec.proofs.Votes.{sound_before}
+use Rattle.array_spec.specs.lemmas.Votes.{sound_before}
 use Rattle.world.specs.Losing.{geometry_of, has_failed}
 use Rattle.world.specs.Shelf.{Shelved, Stop, IsShelf, IsSame, Continues, MayStop}
 use Rattle.world.specs.Writes.{WritesOnly}
-use Rattle.world.proofs.Moments.{then_run, weaker}
+use Rattle.world.specs.lemmas.Moments.{then_run, weaker}
 use Rattle.memory_spec.specs.Tables.{patches}
 use Rattle.patch_io.specs.Standing.{StripesStandOf}
 use Rattle.segment_io.specs.Lost.{is_in}
 use Rattle.table_loading.specs.Loading.{ShowsDrives, StripesStandOfAll}
-use Rattle.array_spec.proofs.Unique.{all_patches}
+use Rattle.array_spec.specs.lemmas.Unique.{all_patches}
 use Rattle.table_loading.proofs.Zips.{zip_first}
 use Rattle.memory_spec.proofs.Stored.{stored_tables_read}
 use Rattle.boot_region.specs.declared.loading.Loaded.{Loaded}

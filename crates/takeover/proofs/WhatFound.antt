@@ -15,9 +15,9 @@ use Rattle.memory_spec.specs.Memory.{Contents, ReadsAs}
 use Rattle.array_memory.specs.Kept.{Kept}
 use Rattle.array_spec.specs.Losses.{not_holding}
 use Rattle.array_spec.specs.Meaning.{members_view}
-use Rattle.array_spec.proofs.Spelled.{spells_one}
-use Rattle.array_spec.proofs.UnflushedRead.{kept_some, one_left}
-use Rattle.array_spec.proofs.Votes.{one_is_effective}
+use Rattle.array_spec.specs.lemmas.Spelled.{spells_one}
+use Rattle.array_spec.specs.lemmas.UnflushedRead.{kept_some, one_left}
+use Rattle.array_spec.specs.lemmas.Votes.{one_is_effective}
 use Rattle.world.specs.Counts.{Rises}
 use Rattle.world.specs.Losing.{geometry_of, has_failed, has_risen, losing}
 use Rattle.world.specs.Shelf.{Shelved, IsSame, Continues}
@@ -35,8 +35,8 @@ use Rattle.takeover.specs.declared.log.OpenedLog.{OpenedLog}
 use Rattle.takeover.specs.Replayed.{IsReplayedFrom, ShowedUnserved}
 use Rattle.takeover.specs.Seen.{IsSeenIn}
 use Rattle.takeover.proofs.NoFault.{few_lack}
-use Rattle.array_core.proofs.Losses.{sound_since}
-use Rattle.array_spec.proofs.LogMoves.{log_moves}
+use Rattle.array_core.specs.lemmas.Losses.{sound_since}
+use Rattle.array_spec.specs.lemmas.LogMoves.{log_moves}
 
 -- a count that rose on the way rose in all
 pub rose : (a b c d : ℕ) → a ≤ b → Rises b c → c ≤ d → has_risen a d ≡ true

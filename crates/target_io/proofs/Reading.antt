@@ -9,14 +9,14 @@ use Rattle.pur_base.specs.Visible.{segment}
 use Rattle.pur_base.specs.declared.facts.SegmentFact.{SegmentFact}
 use Rattle.world.specs.Shelf.{Shelved, IsShelf, Continues, IsSame}
 use Rattle.world.specs.Writes.{WritesOnly}
-use Rattle.world.proofs.Moments.{continues_refl, continues_trans}
-use Rattle.world.proofs.Writes.{writes_then, nothing_written}
+use Rattle.world.specs.lemmas.Moments.{continues_refl, continues_trans}
+use Rattle.world.specs.lemmas.Writes.{writes_then, nothing_written}
 use Rattle.segment_io.specs.Lost.{is_in, NoByte}
 use Rattle.segment_io.specs.Places.{ArePlaces, OthersStayOf, place_of}
 use Rattle.segment_io.specs.Reads.{AreLost, is_missing_in}
 use Rattle.segment_io.proofs.Gathers.{same_then}
-use Rattle.segment_io.proofs.Losing.{rises_then}
-use Rattle.segment_io.proofs.Places.{still_places}
+use Rattle.segment_io.specs.lemmas.Losing.{rises_then}
+use Rattle.segment_io.specs.lemmas.Places.{still_places}
 use Rattle.target_io.specs.Reading.{AreReadable, ShowsDrives, ReadsOnly, IsLost, AreDrivesLost}
 
 pub reads_none : (a : Shelved) → IsShelf a → ReadsOnly a a

@@ -11,13 +11,13 @@ use Rattle.array_spec.specs.Base.{is_snapshot as is_snapshot_kind}
 use Rattle.memory_spec.specs.Tables.{facts}
 use Rattle.memory_spec.specs.Memory.{EntryReads}
 use Rattle.memory_spec.specs.Reading.{IsEntry, AreEntries}
-use Rattle.memory_spec.proofs.Lists.{zip_left}
-use Rattle.memory_spec.proofs.Entries.{entries_read}
+use Rattle.memory_spec.specs.lemmas.Lists.{zip_left}
+use Rattle.memory_spec.specs.lemmas.Entries.{entries_read}
 use Rattle.array_memory.specs.Kept.{Kept, IsKept}
 use Rattle.array_memory.proofs.KeptLemmas.{visible_are}
 use Rattle.volume_ops.specs.declared.listing.ObjectEntry.{ObjectEntry}
 use Rattle.volume_ops.specs.OfArray.{OfArray, HasObject, HasFound, line_of}
-use Rattle.array_spec.proofs.Mediums.{not_both}
+use Rattle.array_spec.specs.lemmas.Mediums.{not_both}
 
 -- the visible objects are the entries of the array
 pub entries_are : (k : Kept) → IsKept k → OfArray k.memory (AreEntries k.objects)

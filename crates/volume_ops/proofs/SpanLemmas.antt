@@ -20,13 +20,13 @@ use Rattle.pur_base.specs.declared.facts.Target.TheVariants.{Stored, Zero}
 use Rattle.pur_base.specs.declared.facts.ObjectFact.{ObjectFact}
 use Rattle.pur_base.specs.declared.facts.AddressFact.{AddressFact}
 use Rattle.pur_base.specs.declared.facts.AnyFact.TheVariants as any
-use Rattle.pur_base.proofs.SaysLemmas.{says_is}
+use Rattle.pur_base.specs.lemmas.Says.{says_is}
 use Rattle.memory_spec.specs.Tables.{facts}
 use Rattle.memory_spec.specs.Memory.{Memory, Contents, PlaceReads, TargetReads, FitsTarget, IsSound, ReadsAs}
-use Rattle.memory_spec.proofs.AllTables.{all_addresses}
-use Rattle.memory_spec.proofs.Lists.{each_by_recursion}
+use Rattle.memory_spec.specs.lemmas.AllTables.{all_addresses}
+use Rattle.memory_spec.specs.lemmas.Lists.{each_by_recursion}
 use Rattle.memory_spec.proofs.Putting.{within_size}
-use Rattle.memory_spec.proofs.Entries.{entries_read, sectors_read}
+use Rattle.memory_spec.specs.lemmas.Entries.{entries_read, sectors_read}
 use Rattle.array_memory.specs.Kept.{Kept, IsKept}
 use Rattle.array_memory.proofs.KeptLemmas.{visible_said}
 use Rattle.volume_ops.specs.Targets.{IsInSegment, Stands}

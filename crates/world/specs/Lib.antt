@@ -7,3 +7,4 @@ pub mod Tallies
 pub mod Tally
 pub mod Untold
 pub mod Writes
+pub mod lemmas

@@ -3,8 +3,8 @@ use Rattle.std.proofs.Common.{◌≡◌, ◌⊎◌, inl, inr, ℕ, ◌+◌, ◌�
 use Rattle.pur_base.specs.declared.device.Device.{Device}
 use Rattle.world.specs.Shelf.{Shelved, Stop, Written}
 use Rattle.world.specs.Writes.{OneRange, LeavesBut}
-use Rattle.world.proofs.Bytes.{same_part}
-use Rattle.world.proofs.Stopped.{none_dirty}
+use Rattle.world.specs.lemmas.Bytes.{same_part}
+use Rattle.world.specs.lemmas.Stopped.{none_dirty}
 use Rattle.world_clients.specs.Turns.{IsInTurn}
 
 pub first_turn : (s : Shelved) (device : Device) (at : ℕ) (first : List ℕ) (then n : ℕ) → ((at + length first ≤ then) ⊎ (then + n ≤ at)) → (s.disk device).dirty ≡ []

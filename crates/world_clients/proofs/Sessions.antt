@@ -6,7 +6,7 @@ use Rattle.pur_base.specs.declared.device.Device.{Device}
 use Rattle.world.specs.declared.shelf.Span.{Span}
 use Rattle.world.specs.Shelf.{Shelved, Stop, Disk, IsInSome, Continues, Leaves}
 use Rattle.world.specs.Writes.{OneRange, ChangesOnly}
-use Rattle.world.proofs.Moments.{leaves_then, leaves_weaker}
+use Rattle.world.specs.lemmas.Moments.{leaves_then, leaves_weaker}
 use Rattle.world_clients.specs.Said.{StoredWhenSaid, EachIsStoredWhenSaid, StoredByte}
 
 module _ (a b : Shelved) (device : Device) (at i : ℕ) (input left : List ℕ) (is_left : left ≡ drop i input)

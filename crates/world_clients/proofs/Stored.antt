@@ -5,8 +5,8 @@ use Rattle.pur_base.specs.declared.device.Device.{Device}
 use Rattle.world.specs.declared.shelf.Span.{Span}
 use Rattle.world.specs.Shelf.{Shelved, Stop, IsInSome, IsShelf, Continues, TakenOnly, OutputOnly, MayLeave, Written, Leaves, IsFrontOf, Disk, IsCountedBy}
 use Rattle.world.specs.Writes.{OneRange, WritesOnly, MayLeaveBut, LeavesBut}
-use Rattle.world.proofs.Moments.{leaves_then, leaves_quiet, leaves_taking, leaves_giving, continues_trans}
-use Rattle.world.proofs.Writes.{unchanged, may_leave_but}
+use Rattle.world.specs.lemmas.Moments.{leaves_then, leaves_quiet, leaves_taking, leaves_giving, continues_trans}
+use Rattle.world.specs.lemmas.Writes.{unchanged, may_leave_but}
 use Rattle.world_clients.specs.Said.{StoredWhenSaid}
 
 -- the first byte of what was taken

@@ -3,7 +3,7 @@ use Rattle.std.proofs.Common.{◌≡◌, ℕ, refl, ◌∙◌}
 use Rattle.world.specs.Shelf.{TakenOnly, OutputOnly}
 use Rattle.world.specs.Streams.{SameStream, IsPreorder}
 use Rattle.world.specs.Untold.{untold, untold_stream}
-use Rattle.world.proofs.Rests.{nothing_taken, taken_then, no_output, output_then}
+use Rattle.world.specs.lemmas.Rests.{nothing_taken, taken_then, no_output, output_then}
 use Rattle.world_file.specs.declared.files.Files.{Files}
 
 -- nothing but the shelf has changed

@@ -3,11 +3,11 @@ use Rattle.std.proofs.Common.{◌≡◌, ◌≢◌, inl, inr, ⊎_elim, Bool, tr
 use Rattle.std.proofs.lemmas.Bool.{cases_lt}
 use Rattle.pur_base.specs.declared.device.Device.{Device}
 use Rattle.pur_base.specs.declared.device.Device.TheVariants.{Drive, Nv}
-use Rattle.pur_base.proofs.Devices.{same_device}
+use Rattle.pur_base.specs.lemmas.Devices.{same_device}
 use Rattle.world.specs.declared.streams.Failed.{Failed}
 use Rattle.world.specs.Counts.{Counts, Rises, capped}
 use Rattle.world.specs.Shelf.{Disk, Shelved, Elapses, WasWritten}
-use Rattle.world.proofs.Moments.{front_refl}
+use Rattle.world.specs.lemmas.Moments.{front_refl}
 use Rattle.world_mem.specs.declared.extra.Extra.{Extra}
 use Rattle.world_mem.specs.Fuse.{Fuse, fused, fused_disk, extra_of, none, tick}
 use Rattle.world_mem.specs.FuseLaws.{from_now, capped_more}

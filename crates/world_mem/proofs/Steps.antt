@@ -5,7 +5,7 @@ use Rattle.pur_base.specs.declared.device.Device.{Device}
 use Rattle.pur_base.specs.declared.device.Device.TheVariants.{Drive, Nv}
 use Rattle.pur_base.specs.declared.device.DriveId.{DriveId}
 use Rattle.pur_base.specs.declared.device.NvId.{NvId}
-use Rattle.pur_base.proofs.Devices.{same_device}
+use Rattle.pur_base.specs.lemmas.Devices.{same_device}
 use Rattle.world.specs.declared.streams.Failed.{Failed}
 use Rattle.world.specs.declared.shelf.Span.{Span}
 use Rattle.world.specs.Counts.{Counts}

@@ -4,8 +4,8 @@ use Rattle.pur_base.specs.declared.device.Device.{Device}
 use Rattle.pur_base.specs.declared.device.Device.TheVariants.{Drive, Nv}
 use Rattle.world.specs.Shelf.{Disk, Shelved, Stop, MayLeave, MayStop, IsShelf, IsOf, size_of, Continues, Elapses, OutputOnly, TakenOnly, MayStopGiving, MayStopTaking, IsCountedBy}
 use Rattle.world.specs.Streams.{Streamed, SameStream}
-use Rattle.world.proofs.Rests.{no_output, nothing_taken}
-use Rattle.world.proofs.Moments.{front_refl}
+use Rattle.world.specs.lemmas.Rests.{no_output, nothing_taken}
+use Rattle.world.specs.lemmas.Moments.{front_refl}
 use Rattle.world_mem.specs.declared.extra.Extra.{Extra}
 use Rattle.world.specs.Counts.{capped}
 use Rattle.world_mem.specs.Fuse.{Fuse, fused, fused_disk, fused_stream, tick, StopsNow, IsWhole, SameFuse, CutOff}

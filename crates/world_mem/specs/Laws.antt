@@ -5,7 +5,7 @@ use Rattle.pur_base.specs.declared.device.Device.{Device}
 use Rattle.pur_base.specs.declared.device.Device.TheVariants.{Drive, Nv}
 use Rattle.world.specs.Shelf.{Stop, MayStop, IsShelf, IsOf, size_of}
 use Rattle.world.specs.Streams.{IsPreorder}
-use Rattle.world.proofs.Rests.{same_stream, stream_then, nothing_taken, taken_then, no_output, output_then}
+use Rattle.world.specs.lemmas.Rests.{same_stream, stream_then, nothing_taken, taken_then, no_output, output_then}
 use Rattle.world_mem.specs.declared.record.Call.{Call}
 use Rattle.world_mem.specs.declared.part.Part.{Part}
 use Rattle.world_mem.specs.declared.mem_world.MemWorld.{MemWorld}

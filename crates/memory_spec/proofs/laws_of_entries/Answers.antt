@@ -1,4 +1,4 @@
-use Rattle.memory_spec.proofs.Entries.{entries_read, sectors_read, reads_as_one}
+use Rattle.memory_spec.specs.lemmas.Entries.{entries_read, sectors_read, reads_as_one}
 use Rattle.memory_spec.proofs.laws_of_entries.Goals as goal
 
 pub returns : goal.returns

@@ -3,8 +3,8 @@ use Rattle.std.proofs.lemmas.Result.{err_from_is_err_and}
 use Rattle.pur_base.specs.Devices.{Geometry}
 use Rattle.boot_codec.specs.Record.{patch_segments}
 use Rattle.world.specs.Losing.{geometry_of}
-use Rattle.world.proofs.Moments.{continues_trans, then_run}
-use Rattle.world.proofs.Ran.{runs_moments}
+use Rattle.world.specs.lemmas.Moments.{continues_trans, then_run}
+use Rattle.world.specs.lemmas.Ran.{runs_moments}
 use Rattle.world.specs.Shelf.{LeavesOnly}
 use Rattle.register.specs.declared.state.Register.{Register}
 use Rattle.register.specs.Standing.{Content, array_of}

@@ -5,13 +5,13 @@ use Rattle.pur_base.specs.Plain as plain
 use Rattle.boot_codec.specs.declared.record.BootRecord.{BootRecord}
 use Rattle.world.specs.Losing.{geometry_of}
 use Rattle.world.specs.Shelf.{LeavesOnly}
-use Rattle.world.proofs.Ran.{ran_more, ran_then}
+use Rattle.world.specs.lemmas.Ran.{ran_more, ran_then}
 use Rattle.boot_region.specs.Storing.{StandsAgain, StandsBut}
 use Rattle.nvram_log.specs.Held.{HoldsOn}
 use Rattle.register.specs.Registers.{drives_of, named_sound, next_slot}
 use Rattle.register.specs.Standing.{Content, GivesOldOrNext, IsFirm, IsOpen, MayStore, StandsInLog}
-use Rattle.register.proofs.FlagLemmas.{same_flags, other_flags}
-use Rattle.register.proofs.Moments.{stands_at, gives_at}
+use Rattle.register.specs.lemmas.Flags.{same_flags, other_flags}
+use Rattle.register.specs.lemmas.Moments.{stands_at, gives_at}
 use Rattle.register.proofs.Made.{store_later}
 use Rattle.array_core.specs.declared.array.Array.{Array}
 use Rattle.memory_spec.specs.Tables.{facts}

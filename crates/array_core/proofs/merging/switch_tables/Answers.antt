@@ -4,8 +4,8 @@ use Rattle.boot_codec.specs.declared.record.BootRecord.{BootRecord}
 use Rattle.boot_region.specs.Members.{DroppedFailed}
 use Rattle.world.specs.Losing.{geometry_of}
 use Rattle.world.specs.Shelf.{LeavesOnly, Continues}
-use Rattle.world.proofs.Moments.{then_run}
-use Rattle.world.proofs.Ran.{ran_more, ran_then}
+use Rattle.world.specs.lemmas.Moments.{then_run}
+use Rattle.world.specs.lemmas.Ran.{ran_more, ran_then}
 use Rattle.register.specs.Registers.{drives_of}
 use Rattle.register.specs.Standing.{Content, IsOpen, array_of}
 use Rattle.array_core.specs.Changing.{LeavesFewer}

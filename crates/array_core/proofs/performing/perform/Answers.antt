@@ -10,7 +10,7 @@ use Rattle.pur_base.specs.declared.facts.AnyFact.{AnyFact}
 use Rattle.boot_codec.specs.declared.record.BootRecord.{BootRecord}
 use Rattle.array_spec.specs.Sound.{AreSegmentsSound}
 use Rattle.world.specs.Losing.{geometry_of}
-use Rattle.world.proofs.Ran.{runs_moments}
+use Rattle.world.specs.lemmas.Ran.{runs_moments}
 use Rattle.register.specs.Standing.{Content, array_of}
 use Rattle.pyramid.specs.Layers.{facts_of}
 use Rattle.memory_spec.specs.Memory.{Contents, IsSound, ReadsAs}

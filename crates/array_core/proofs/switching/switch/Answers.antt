@@ -2,8 +2,8 @@ use Rattle.std.proofs.Common.{rules, ◌≡◌, ◌∙◌, inl, arith, ap, subst
 use Rattle.pur_base.specs.Plain.{Array}
 use Rattle.boot_codec.specs.declared.record.BootRecord.{BootRecord}
 use Rattle.world.specs.Shelf.{LeavesOnly}
-use Rattle.world.proofs.Moments.{continues_trans, then_run}
-use Rattle.world.proofs.Ran.{ran_more, ran_then}
+use Rattle.world.specs.lemmas.Moments.{continues_trans, then_run}
+use Rattle.world.specs.lemmas.Ran.{ran_more, ran_then}
 use Rattle.register.specs.Standing.{array_of}
 use Rattle.register.proofs.Tabling.{same_array}
 use Rattle.array_core.specs.Performing.{IsKeptAt}

@@ -4,7 +4,7 @@ use Rattle.pur_base.specs.Commands.{Command}
 use Rattle.pur_base.specs.Grammar.{Asked}
 use Rattle.world.specs.Losing.{geometry_of}
 use Rattle.world.specs.Shelf.{Shelved}
-use Rattle.world.proofs.Moments.{continues_trans}
+use Rattle.world.specs.lemmas.Moments.{continues_trans}
 use Rattle.register.specs.Standing.{array_of}
 use Rattle.array_core.specs.Ready.{IsArrayOf}
 use Rattle.array_core.specs.Going.{by_faults, Calls}

@@ -1,9 +1,9 @@
 use Rattle.std.proofs.Common.{◌≡◌, inl, inr, ℕ, List, sym, subst, Bool, false}
 use Rattle.pur_base.specs.declared.reply.Status.{Status}
 use Rattle.world.specs.Losing.{geometry_of}
-use Rattle.world.proofs.Moments.{continues_trans}
-use Rattle.world.proofs.Ran.{runs_moments}
-use Rattle.world.proofs.Rests.{same_stream}
+use Rattle.world.specs.lemmas.Moments.{continues_trans}
+use Rattle.world.specs.lemmas.Ran.{runs_moments}
+use Rattle.world.specs.lemmas.Rests.{same_stream}
 use Rattle.request_codec.proofs.CallLemmas.{both}
 use Rattle.session_spec.specs.Ends.{RisesIf, is_source, is_sink}
 use Rattle.session_spec.specs.Headline.{Unopened, Served}

@@ -1,4 +1,4 @@
-use Rattle.array_spec.proofs.OneSector.{one_sector}
+use Rattle.array_spec.specs.lemmas.OneSector.{one_sector}
 use Rattle.array_spec.proofs.uniqueness.one_sector_stands.Goals as goal
 
 pub returns : goal.returns

@@ -2,16 +2,16 @@ use Rattle.std.proofs.Common.{◌≢◌, ◌<◌, ℕ, length, arith, sym, refl,
 use Rattle.std.specs.Prelude.{◌%◌}
 use Rattle.pur_base.specs.Devices.{drive}
 use Rattle.pur_base.specs.declared.limits.TheConstants.{SECTOR_BYTES}
-use Rattle.pur_base.proofs.Devices.{drives_apart}
+use Rattle.pur_base.specs.lemmas.Devices.{drives_apart}
 use Rattle.world.specs.Ran.{Ran}
 use Rattle.world.specs.Shelf.{LeavesOnly}
 use Rattle.world.specs.Writes.{LeavesBut}
-use Rattle.world.proofs.Moments.{weaker}
+use Rattle.world.specs.lemmas.Moments.{weaker}
 use Rattle.boot_region.specs.Members.{IsMember, IsOneOf, OnNotShut, Closed}
 use Rattle.boot_region.specs.Slots.{slot_in}
 use Rattle.boot_region.proofs.GateCalls.{closing_next, closing_next_moments, closed_of}
 use Rattle.boot_region.proofs.Phases.{closes_gates}
-use Rattle.boot_region.proofs.ShownLemmas.{gate_low, gate_aligned}
+use Rattle.boot_region.specs.lemmas.Shown.{gate_low, gate_aligned}
 use Rattle.boot_region.proofs.gates.close_gates.Goals as goal
 use Rattle.boot_region.proofs.gates.close_gates.Goals.{then-members-drive, else-members-drive}
 

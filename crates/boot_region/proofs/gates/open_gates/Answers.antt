@@ -4,13 +4,13 @@ use Rattle.pur_base.specs.Devices.{drive}
 use Rattle.pur_base.specs.declared.limits.TheConstants.{SECTOR_BYTES}
 use Rattle.boot_codec.specs.Region.{gate_place, shown_by}
 use Rattle.world.specs.Shelf.{Written}
-use Rattle.world.proofs.Moments.{weaker}
-use Rattle.world.proofs.Ran.{ran_more}
-use Rattle.world.proofs.Stopped.{as_read}
+use Rattle.world.specs.lemmas.Moments.{weaker}
+use Rattle.world.specs.lemmas.Ran.{ran_more}
+use Rattle.world.specs.lemmas.Stopped.{as_read}
 use Rattle.boot_region.specs.Members.{OnMembers}
 use Rattle.boot_region.specs.Slots.{slot_in}
 use Rattle.boot_region.proofs.Phases.{opens_gates}
-use Rattle.boot_region.proofs.ShownLemmas.{gate_low, gate_aligned, member_below, shows_written}
+use Rattle.boot_region.specs.lemmas.Shown.{gate_low, gate_aligned, member_below, shows_written}
 use Rattle.boot_region.proofs.gates.open_gates.Goals as goal
 
 pub write_members-requires-clause-fits : goal.write_members-requires-clause-fits

@@ -3,12 +3,12 @@ use Rattle.std.specs.Prelude.{◌%◌}
 use Rattle.pur_base.specs.Devices.{drive}
 use Rattle.pur_base.specs.declared.limits.TheConstants.{SECTOR_BYTES}
 use Rattle.boot_codec.specs.Region.{body_place}
-use Rattle.world.proofs.Moments.{weaker}
-use Rattle.world.proofs.Ran.{ran_more}
+use Rattle.world.specs.lemmas.Moments.{weaker}
+use Rattle.world.specs.lemmas.Ran.{ran_more}
 use Rattle.boot_region.specs.Members.{IsMember, OnMembers, Outcome}
 use Rattle.boot_region.specs.Slots.{slot_in}
 use Rattle.boot_region.proofs.Phases.{writes_bodies}
-use Rattle.boot_region.proofs.ShownLemmas.{body_low, body_aligned}
+use Rattle.boot_region.specs.lemmas.Shown.{body_low, body_aligned}
 use Rattle.boot_region.proofs.gates.write_bodies.Goals as goal
 
 pub write_members-requires-clause-fits : goal.write_members-requires-clause-fits

@@ -4,13 +4,13 @@ use Rattle.pur_base.specs.Devices.{drive}
 use Rattle.pur_base.specs.declared.limits.TheConstants.{SECTOR_BYTES}
 use Rattle.world.specs.Shelf.{Disk}
 use Rattle.world.specs.Ran.{Ran}
-use Rattle.world.proofs.Moments.{weaker}
-use Rattle.world.proofs.Ran.{ran_then, ran_more}
-use Rattle.pur_base.proofs.Devices.{drives_apart}
+use Rattle.world.specs.lemmas.Moments.{weaker}
+use Rattle.world.specs.lemmas.Ran.{ran_then, ran_more}
+use Rattle.pur_base.specs.lemmas.Devices.{drives_apart}
 use Rattle.boot_region.specs.Members.{IsMember, IsOneOf, OnClosed, Opened}
 use Rattle.boot_region.specs.Slots.{slot_in}
 use Rattle.boot_region.proofs.OnEach.{only_member}
-use Rattle.boot_region.proofs.ShownLemmas.{gate_low, gate_aligned}
+use Rattle.boot_region.specs.lemmas.Shown.{gate_low, gate_aligned}
 use Rattle.boot_region.proofs.Settled.{closed_on_members, opened_of, gives_no_more, still_given, stands_while_settling, is_settled}
 use Rattle.boot_region.proofs.settling.settle.Goals as goal
 use Rattle.boot_region.proofs.settling.settle.Goals.{then-members-drive, else-members-drive}

@@ -1,12 +1,12 @@
 use Rattle.std.proofs.Common.{rules, ◌≡◌, ℕ, List, length, ap, ◌∙◌}
 use Rattle.std.specs.Prelude.{Some}
 use Rattle.pur_base.specs.Devices.{drive}
-use Rattle.world.proofs.Moments.{continues_trans, then_run, weaker}
-use Rattle.world.proofs.Ran.{ran_then, ran_more}
+use Rattle.world.specs.lemmas.Moments.{continues_trans, then_run, weaker}
+use Rattle.world.specs.lemmas.Ran.{ran_then, ran_more}
 use Rattle.boot_region.specs.Members.{IsMember}
 use Rattle.boot_region.specs.Slots.{slot_in}
 use Rattle.boot_region.specs.Storing.{AreEnough}
-use Rattle.boot_region.proofs.ShownLemmas.{member_below}
+use Rattle.boot_region.specs.lemmas.Shown.{member_below}
 use Rattle.boot_region.proofs.Stored.{body_stands, dropped_then, on_fewer, on_gates, on_bodies, on_opened, in_store, unopened_first, unopened_second, in_third, again_first, again_second, again_third, is_stored, is_stored_on, fewer_closed, fewer_written, for_ok}
 use Rattle.boot_region.proofs.storing.store.Goals as goal
 

@@ -7,7 +7,7 @@ use Rattle.fact_codec.specs.declared.limits.TheConstants.{VALUE_BYTES}
 use Rattle.fact_codec.specs.declared.head.Head.{Head}
 use Rattle.fact_codec.specs.Fact.{value_bytes}
 use Rattle.fact_codec.proofs.FieldLemmas.{segment_is}
-use Rattle.byte_fields.proofs.SpellingLemmas.{zeros_are}
+use Rattle.byte_fields.specs.lemmas.Spelling.{zeros_are}
 use Rattle.fact_codec.proofs.ValueLemmas.{padded_is}
 use Rattle.fact_codec.proofs.values.segment_in.Goals as goal
 

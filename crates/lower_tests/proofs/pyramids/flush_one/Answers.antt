@@ -2,8 +2,8 @@ use Rattle.std.proofs.Common.{◌≡◌, ◌+◌, ◌<◌, ◌++◌, ap, arith, 
 use Rattle.std.proofs.lemmas.List.Elements.{Contains-append_cases, All-contains}
 use Rattle.pur_base.specs.declared.facts.MediumFact.{MediumFact}
 use Rattle.pyramid.specs.Layers.{facts_of}
-use Rattle.pyramid.proofs.ContainsLemmas.{nowhere}
-use Rattle.pyramid.proofs.LayerLemmas.{all_contained}
+use Rattle.pyramid.specs.lemmas.Contains.{nowhere}
+use Rattle.pyramid.specs.lemmas.Layers.{all_contained}
 use Rattle.pyramid.proofs.PlaceLemmas.{all_flushed}
 use Rattle.lower_tests.proofs.pyramids.flush_one.Goals as goal
 

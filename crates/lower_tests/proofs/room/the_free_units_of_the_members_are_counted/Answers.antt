@@ -4,7 +4,7 @@ use Rattle.pur_base.specs.Keys.{key_of}
 use Rattle.pur_base.specs.Visible.{segments, is_elided}
 use Rattle.pur_base.specs.declared.request.Table.TheVariants as table
 use Rattle.pur_base.specs.declared.facts.SegmentFact.{SegmentFact}
-use Rattle.pur_base.proofs.SaysLemmas.{says_is}
+use Rattle.pur_base.specs.lemmas.Says.{says_is}
 use Rattle.boot_codec.specs.declared.record.BootRecord.{BootRecord}
 use Rattle.array_spec.specs.Sound.{ArePlaces, named_segments, used_places}
 use Rattle.lower_tests.specs.declared.room.TheConstants.{SEGMENT}

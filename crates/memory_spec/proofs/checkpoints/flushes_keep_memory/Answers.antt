@@ -1,6 +1,6 @@
-use Rattle.memory_spec.proofs.Shrinking.{shrinking_reads}
-use Rattle.memory_spec.proofs.Flushed.{flush_shrinks}
-use Rattle.memory_spec.proofs.Merged.{merge_shrinks, one_merge_is_merge}
+use Rattle.memory_spec.specs.lemmas.Shrinking.{shrinking_reads}
+use Rattle.memory_spec.specs.lemmas.Flushed.{flush_shrinks}
+use Rattle.memory_spec.specs.lemmas.Merged.{merge_shrinks, one_merge_is_merge}
 use Rattle.memory_spec.proofs.checkpoints.flushes_keep_memory.Goals as goal
 
 pub returns : goal.returns

@@ -1,9 +1,9 @@
 use Rattle.std.proofs.Common.{rules, ◌≡◌, List, Bool, length, refl}
 use Rattle.pur_base.specs.Devices.{nvram}
-use Rattle.world.proofs.Moments.{continues_trans, then_run, weaker}
-use Rattle.world.proofs.Writes.{may_leave_but, unchanged}
-use Rattle.world.proofs.Ran.{ran_then, ran_more}
-use Rattle.world.proofs.Stopped.{none_dirty}
+use Rattle.world.specs.lemmas.Moments.{continues_trans, then_run, weaker}
+use Rattle.world.specs.lemmas.Writes.{may_leave_but, unchanged}
+use Rattle.world.specs.lemmas.Ran.{ran_then, ran_more}
+use Rattle.world.specs.lemmas.Stopped.{none_dirty}
 use Rattle.nvram_log.specs.Settling.{GatesAre, SlotsAre}
 use Rattle.nvram_log.proofs.Settled.{flags_of, where_ok, on_gates, on_slots, while_closing, while_copying, while_opening, settled}
 use Rattle.nvram_log.proofs.settle.settle_on.Goals as goal

@@ -2,7 +2,7 @@ use Rattle.std.proofs.Common.{◌≡◌, ◌≢◌, ◌+◌, ◌-◌, ◌<◌, �
 use Rattle.std.proofs.lemmas.Bool.{false≢true}
 use Rattle.std.proofs.lemmas.List.{get_or_default, length-take-le}
 use Rattle.pyramid.specs.Layers.{IsBefore}
-use Rattle.pyramid.proofs.LayerLemmas.{ascends_ordered}
+use Rattle.pyramid.specs.lemmas.Layers.{ascends_ordered}
 use Rattle.pyramid.proofs.WeaveLemmas.{move_left, move_right, woven, taken_at, front_before, not_behind}
 use Rattle.pyramid.proofs.insert.merge_back.Goals.{else-i-gt0-via-then-i-gt0+else-is_before, else-i-gt0-via-else-i-gt0}
 use Rattle.pyramid.proofs.insert.merge_back.Goals as goal

@@ -1,6 +1,6 @@
 use Rattle.std.proofs.Common.{arith}
 use Rattle.std.proofs.lemmas.Grind.{common_steps}
-use Rattle.pyramid.proofs.MergeLemmas.{merged_nil}
+use Rattle.pyramid.specs.lemmas.Merges.{merged_nil}
 use Rattle.pyramid.proofs.merge.merge_facts.Goals.{then-loop-i-test+else-j-newer, else-loop-i-test}
 use Rattle.pyramid.proofs.merge.merge_facts.Goals as goal
 

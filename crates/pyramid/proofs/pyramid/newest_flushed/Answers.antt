@@ -1,5 +1,5 @@
 use Rattle.std.proofs.Common.{◌≡◌, ◌-◌, sym, ◌∙◌, arith, [], suc, get_or}
-use Rattle.pyramid.proofs.LayerLemmas.{ascends_ordered, first_hit, none_more}
+use Rattle.pyramid.specs.lemmas.Layers.{ascends_ordered, first_hit, none_more}
 use Rattle.pyramid.proofs.pyramid.newest_flushed.Goals as goal
 
 pub newest_in-requires : goal.newest_in-requires

@@ -1,5 +1,5 @@
 use Rattle.std.proofs.Common.{◌≡◌, ◌∙◌, sym, []}
-use Rattle.pyramid.proofs.MergeLemmas.{merged_nil}
+use Rattle.pyramid.specs.lemmas.Merges.{merged_nil}
 use Rattle.pyramid.proofs.SpanLemmas.{all_stay, no_elements}
 use Rattle.pyramid.specs.Merging.{merged}
 use Rattle.pyramid.proofs.range.with_newer.Goals as goal

@@ -1,8 +1,8 @@
 use Rattle.std.proofs.Common.{◌≡◌, [], sym, subst}
 use Rattle.std.proofs.lemmas.Result.{err_from_is_err_and}
 use Rattle.pur_base.specs.Devices.{Geometry}
-use Rattle.world.proofs.Moments.{continues_trans, then_run}
-use Rattle.world.proofs.Ran.{runs_moments}
+use Rattle.world.specs.lemmas.Moments.{continues_trans, then_run}
+use Rattle.world.specs.lemmas.Ran.{runs_moments}
 use Rattle.array_core.specs.Ready.{IsArrayOf}
 use Rattle.array_core.specs.Going.{Calls}
 use Rattle.array_core.proofs.Steps.{hands, lost_halts, same_meanwhile}

@@ -3,7 +3,7 @@ use Rattle.std.proofs.lemmas.Bool.{cases_eq}
 use Rattle.std.proofs.lemmas.List.{length-set}
 use Rattle.segment_io.specs.Places.{place_of}
 use Rattle.segment_io.specs.Reads.{is_unknown}
-use Rattle.segment_io.proofs.Sets.{set_here, set_other}
+use Rattle.segment_io.specs.lemmas.Sets.{set_here, set_other}
 use Rattle.segment_io.proofs.gathering.drives_of.Goals as goal
 
 pub loop-shard-preserved : goal.loop-shard-preserved

@@ -1,8 +1,8 @@
 use Rattle.std.proofs.Common.{rules, take, drop, ◌≡◌, ◌<◌, ◌+◌, ◌*◌, ◌-◌, true, sym, ◌∙◌, ap, arith}
 use Rattle.pur_base.specs.declared.device.Device.{Device}
 use Rattle.world.specs.Ran.{Only}
-use Rattle.world.proofs.Moments.{continues_refl}
-use Rattle.world.proofs.Ran.{ran_then, ran_more}
+use Rattle.world.specs.lemmas.Moments.{continues_refl}
+use Rattle.world.specs.lemmas.Ran.{ran_then, ran_more}
 use Rattle.segment_io.specs.Places.{drive_of, IsOnPlace}
 use Rattle.std.specs.Prelude.{slice_set}
 use Rattle.std.proofs.lemmas.Result.{err_from_is_err_and}

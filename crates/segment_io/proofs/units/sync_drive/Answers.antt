@@ -1,7 +1,7 @@
 use Rattle.std.proofs.Common.{refl, arith}
 use Rattle.pur_base.specs.Devices.{drive}
-use Rattle.world.proofs.Ran.{ran_sync}
-use Rattle.segment_io.proofs.Losing.{loses_one}
+use Rattle.world.specs.lemmas.Ran.{ran_sync}
+use Rattle.segment_io.specs.lemmas.Losing.{loses_one}
 use Rattle.segment_io.proofs.units.sync_drive.Goals as goal
 
 pub returns-clause-lost : goal.returns-clause-lost

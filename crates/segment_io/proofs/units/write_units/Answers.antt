@@ -1,8 +1,8 @@
 use Rattle.std.proofs.Common.{false, length, arith, refl, sym, ◌∙◌, get_or-set_same}
 use Rattle.pur_base.specs.Devices.{drive}
-use Rattle.world.proofs.Ran.{ran_write}
+use Rattle.world.specs.lemmas.Ran.{ran_write}
 use Rattle.segment_io.specs.Places.{write_unit_at}
-use Rattle.segment_io.proofs.Losing.{loses_one}
+use Rattle.segment_io.specs.lemmas.Losing.{loses_one}
 use Rattle.segment_io.proofs.Writing.{was_written}
 use Rattle.segment_io.proofs.units.write_units.Goals as goal
 

@@ -2,12 +2,12 @@ use Rattle.std.proofs.Common.{◌≡◌, ◌<◌, ◌+◌, ◌∷◌, ◌++◌, 
 use Rattle.std.proofs.lemmas.List.{length_push}
 use Rattle.segment_codec.specs.declared.header.Header.{Header}
 use Rattle.world.specs.Ran.{Ran}
-use Rattle.world.proofs.Ran.{ran_none, ran_then}
+use Rattle.world.specs.lemmas.Ran.{ran_none, ran_then}
 use Rattle.segment_io.specs.Headers.{MayBeWritten}
 use Rattle.segment_io.specs.Places.{ArePlaces, IsOnPlace, OnUnits}
 use Rattle.segment_io.specs.Stripes.{bytes_of, HoldsStripe}
-use Rattle.segment_io.proofs.Losing.{loses_none, loses_then}
-use Rattle.segment_io.proofs.Places.{still_places}
+use Rattle.segment_io.specs.lemmas.Losing.{loses_none, loses_then}
+use Rattle.segment_io.specs.lemmas.Places.{still_places}
 use Rattle.segment_writer.specs.Layout.{units_of, HoldsHeader, IsOpenOf}
 use Rattle.segment_writer.proofs.Appends.{on_some}
 use Rattle.segment_writer.proofs.Headers.{open_last, open_front, headers_more, stripes_stay}

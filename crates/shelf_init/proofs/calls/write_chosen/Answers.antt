@@ -1,7 +1,7 @@
 use Rattle.std.proofs.Common.{◌≢◌, length, arith, sym, ◌∙◌, below_more, subst}
-use Rattle.world.proofs.Ran.{ran_then, ran_more}
+use Rattle.world.specs.lemmas.Ran.{ran_then, ran_more}
 use Rattle.world.specs.Shelf.{Disk, Written}
-use Rattle.pur_base.proofs.Devices.{drives_apart}
+use Rattle.pur_base.specs.lemmas.Devices.{drives_apart}
 use Rattle.pur_base.specs.Devices.{drive}
 use Rattle.boot_region.specs.Members.{IsMember}
 use Rattle.boot_region.proofs.OnEach.{only_member, range_on_members}

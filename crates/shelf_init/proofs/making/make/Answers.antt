@@ -1,5 +1,5 @@
-use Rattle.world.proofs.Moments.{then_run, continues_trans, continues_refl}
-use Rattle.world.proofs.Ran.{ran_then, ran_more}
+use Rattle.world.specs.lemmas.Moments.{then_run, continues_trans, continues_refl}
+use Rattle.world.specs.lemmas.Ran.{ran_then, ran_more}
 use Rattle.session_spec.specs.First.{all_drives}
 use Rattle.shelf_init.proofs.CallLemmas.{open_in_boot, gates_in_log, slot_in_boot, making_first, making_two, spells_then, moments_of, emptied, tells_then, none_then}
 use Rattle.shelf_init.proofs.making.make.Goals as goal

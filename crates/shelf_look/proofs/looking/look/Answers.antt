@@ -1,7 +1,7 @@
 use Rattle.std.proofs.Common.{◌∙◌, refl, sym, subst, Bool, List}
 use Rattle.world.specs.Losing.{geometry_of}
-use Rattle.world.proofs.Moments.{continues_trans}
-use Rattle.world.proofs.Ran.{ran_more, ran_then}
+use Rattle.world.specs.lemmas.Moments.{continues_trans}
+use Rattle.world.specs.lemmas.Ran.{ran_more, ran_then}
 use Rattle.pur_base.specs.Devices.{nvram}
 use Rattle.shelf_look.specs.Looking.{AreStates}
 use Rattle.boot_region.proofs.LoadingLemmas.{answer_of, lawful_load}

@@ -5,8 +5,8 @@ use Rattle.pur_base.specs.Plain.{Array}
 use Rattle.boot_codec.specs.declared.record.BootRecord.{BootRecord}
 use Rattle.boot_codec.specs.Region.{IsRecordOf}
 use Rattle.world.specs.Losing.{geometry_of}
-use Rattle.world.proofs.Moments.{continues_refl}
-use Rattle.world.proofs.Ran.{ran_then, ran_more}
+use Rattle.world.specs.lemmas.Moments.{continues_refl}
+use Rattle.world.specs.lemmas.Ran.{ran_then, ran_more}
 use Rattle.boot_region.specs.Loading.{IsLoadOf, IsLawfulLoad}
 use Rattle.boot_region.specs.Members.{IsMember}
 use Rattle.boot_region.specs.Slots.{slot_in}
@@ -24,7 +24,7 @@ use Rattle.takeover.proofs.Settled.{found_settled, while_loading, while_settling
 use Rattle.takeover.proofs.finding.find_record.Given as given
 use Rattle.takeover.proofs.finding.find_record.Goals as goal
 use Rattle.takeover.proofs.finding.find_record.Goals.{After-settle_loaded}
-use Rattle.array_core.proofs.Losses.{fewer_borne}
+use Rattle.array_core.specs.lemmas.Losses.{fewer_borne}
 use Rattle.register.proofs.Rounds.{same_shelf}
 
 pub returns-in_err-loaded-clause-stands : goal.returns-in_err-loaded-clause-stands

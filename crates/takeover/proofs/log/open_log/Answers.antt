@@ -4,7 +4,7 @@ use Rattle.boot_region.proofs.LoadingLemmas.{if_err}
 use Rattle.pur_base.specs.declared.facts.AnyFact.{AnyFact}
 use Rattle.pur_base.specs.Devices.{Conditions, drive, nvram}
 use Rattle.pur_base.specs.Plain.{Array}
-use Rattle.world.proofs.Ran.{ran_then, ran_more}
+use Rattle.world.specs.lemmas.Ran.{ran_then, ran_more}
 use Rattle.boot_region.specs.declared.loading.Loaded.{Loaded}
 use Rattle.nvram_log.specs.Read.{AllFailed}
 use Rattle.takeover.specs.declared.log.LogFault.{LogFault}

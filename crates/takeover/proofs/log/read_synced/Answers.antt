@@ -2,7 +2,7 @@ use Rattle.std.proofs.Common.{◌∙◌}
 use Rattle.nvram_log.specs.declared.log.NvLog.{NvLog}
 use Rattle.nvram_log.specs.Held.{shown_by}
 use Rattle.nvram_log.specs.Read.{IsReadFrom}
-use Rattle.world.proofs.Ran.{ran_then, ran_more}
+use Rattle.world.specs.lemmas.Ran.{ran_then, ran_more}
 use Rattle.takeover.proofs.Running.{nvram_of}
 use Rattle.takeover.proofs.Answered.{ok_more, read_more}
 use Rattle.takeover.proofs.log.read_synced.Goals as goal

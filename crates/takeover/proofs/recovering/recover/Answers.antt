@@ -14,8 +14,8 @@ use Rattle.memory_spec.specs.Memory.{ReadsAs}
 use Rattle.memory_spec.specs.Tables.{patches}
 use Rattle.world.specs.Losing.{geometry_of, has_risen}
 use Rattle.world.specs.Shelf.{Disk, LeavesOnly}
-use Rattle.world.proofs.Moments.{continues_trans, then_run, weaker}
-use Rattle.world.proofs.Ran.{ran_then, ran_more, runs_moments}
+use Rattle.world.specs.lemmas.Moments.{continues_trans, then_run, weaker}
+use Rattle.world.specs.lemmas.Ran.{ran_then, ran_more, runs_moments}
 use Rattle.boot_region.specs.Loading.{IsLawfulLoad}
 use Rattle.boot_region.specs.Members.{IsMember}
 use Rattle.boot_region.specs.Slots.{slot_in}
@@ -26,7 +26,7 @@ use Rattle.register.specs.declared.next.StoreFault.{StoreFault}
 use Rattle.register.specs.Faults.{IsFaultOf}
 use Rattle.register.specs.Registers.{IsLaterRecord, IsRegisterOf, drives_of, named_sound}
 use Rattle.register.specs.Standing.{Content, GivesOldOrNext, IsFirm, IsOpen, MayStore, StandsBack, StandsInLog, StillGiven}
-use Rattle.register.proofs.Moments.{stands_at, gives_at, back_at}
+use Rattle.register.specs.lemmas.Moments.{stands_at, gives_at, back_at}
 use Rattle.session_spec.specs.Entering.{Enters, StandsStill, failed_since}
 use Rattle.takeover.specs.declared.faults.OpenFault.{OpenFault}
 use Rattle.takeover.specs.declared.faults.OpenFault.TheVariants as open_fault
@@ -57,7 +57,7 @@ use Rattle.takeover.proofs.Stops.{unstored}
 use Rattle.takeover.proofs.recovering.recover.Given as given
 use Rattle.takeover.proofs.recovering.recover.Goals as goal
 use Rattle.takeover.proofs.recovering.recover.Goals.{After-store}
-use Rattle.array_core.proofs.Losses.{fewer_borne, sound_since}
+use Rattle.array_core.specs.lemmas.Losses.{fewer_borne, sound_since}
 use Rattle.register.proofs.Rounds.{same_shelf}
 use Rattle.register.proofs.Made.{store_later}
 

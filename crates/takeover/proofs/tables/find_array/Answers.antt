@@ -4,7 +4,7 @@ use Rattle.pur_base.specs.declared.device.Device.{Device}
 use Rattle.boot_codec.specs.Region.{IsRecordOf}
 use Rattle.world.specs.Losing.{geometry_of}
 use Rattle.world.specs.Shelf.{IsSame}
-use Rattle.world.proofs.Ran.{ran_then, ran_more}
+use Rattle.world.specs.lemmas.Ran.{ran_then, ran_more}
 use Rattle.boot_region.proofs.Composing.{as_it_is}
 use Rattle.session_spec.specs.Entering.{failed_since}
 use Rattle.takeover.specs.Seen.{IsSeenIn}

@@ -1,7 +1,7 @@
 use Rattle.std.proofs.Common.{refl, length}
-use Rattle.world.proofs.Writes.{write_writes, sync_writes, writes_then}
+use Rattle.world.specs.lemmas.Writes.{write_writes, sync_writes, writes_then}
 use Rattle.world.specs.Writes.{OneRange}
-use Rattle.world.proofs.Ran.{ran_write, ran_sync, ran_then}
+use Rattle.world.specs.lemmas.Ran.{ran_write, ran_sync, ran_then}
 use Rattle.world.proofs.synced.write_synced.Goals as goal
 
 pub returns-in_err-write-clause-writes : goal.returns-in_err-write-clause-writes

@@ -1,7 +1,7 @@
 use Rattle.std.proofs.Common.{◌≢◌, ◌<◌, length, arith, sym, ◌∙◌, below_more, get_or-set_other, get_or-set_same}
-use Rattle.world.proofs.Moments.{continues_trans}
-use Rattle.world.proofs.Writes.{writes_then, writes_more}
-use Rattle.pur_base.proofs.Devices.{drives_apart}
+use Rattle.world.specs.lemmas.Moments.{continues_trans}
+use Rattle.world.specs.lemmas.Writes.{writes_then, writes_more}
+use Rattle.pur_base.specs.lemmas.Devices.{drives_apart}
 use Rattle.pur_base.specs.Devices.{drive}
 use Rattle.world_clients.specs.Members.{IsMember}
 use Rattle.world_clients.proofs.OnEach.{range_on_members, outcome_of}

@@ -3,7 +3,7 @@ use Rattle.std.specs.Prelude.{take}
 use Rattle.pur_base.specs.Devices.{Geometry}
 use Rattle.pur_base.specs.Grammar.{Asked}
 use Rattle.pur_base.specs.declared.request.Request.TheVariants as request
-use Rattle.world.proofs.Moments.{weaker}
+use Rattle.world.specs.lemmas.Moments.{weaker}
 use Rattle.array_core.specs.Ready.{IsArrayOf}
 use Rattle.array_engine.specs.declared.engine.Engine.{Engine}
 use Rattle.array_engine.specs.declared.said.Said.{Said}

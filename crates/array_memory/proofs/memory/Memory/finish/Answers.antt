@@ -4,7 +4,7 @@ use Rattle.pur_base.specs.declared.request.Table.TheVariants as table
 use Rattle.pur_base.specs.declared.facts.SegmentFact.{SegmentFact}
 use Rattle.elision.specs.Ranges.{ranges_of}
 use Rattle.pyramid.specs.Layers.{Layers, AreDistinct, facts_in, patch_facts, patches_of}
-use Rattle.pyramid.proofs.ContainsLemmas.{of_filter}
+use Rattle.pyramid.specs.lemmas.Contains.{of_filter}
 use Rattle.segment_table.specs.Segments.{AreVisible, number}
 use Rattle.memory_spec.specs.Memory.{Memory}
 use Rattle.table_plan.specs.Planned.{IsPlanned}

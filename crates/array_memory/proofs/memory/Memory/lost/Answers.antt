@@ -3,7 +3,7 @@ use Rattle.std.proofs.lemmas.List.{take_all}
 use Rattle.pur_base.specs.Facts.{segment_key}
 use Rattle.pur_base.specs.Says.{Ascends}
 use Rattle.pur_base.specs.declared.facts.SegmentFact.{SegmentFact}
-use Rattle.pyramid.proofs.ContainsLemmas.{nowhere}
+use Rattle.pyramid.specs.lemmas.Contains.{nowhere}
 use Rattle.memory_spec.specs.Tables.{facts}
 use Rattle.array_memory.specs.Kept.{Kept}
 use Rattle.array_memory.specs.Named.{unnamed}

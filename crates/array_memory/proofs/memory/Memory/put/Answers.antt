@@ -6,7 +6,7 @@ use Rattle.pur_base.specs.Facts.{address_key}
 use Rattle.pur_base.specs.Says.{Ascends}
 use Rattle.pur_base.specs.declared.facts.AddressFact.{AddressFact}
 use Rattle.pyramid.specs.Layers.{facts_in, facts_of, AreBelow}
-use Rattle.pyramid.proofs.LayerLemmas.{below_at}
+use Rattle.pyramid.specs.lemmas.Layers.{below_at}
 use Rattle.memory_spec.specs.Adding.{address_facts}
 use Rattle.array_memory.specs.Runs.{targets_from}
 use Rattle.array_memory.proofs.CountLemmas.{no_fewer_facts, no_more_facts}

@@ -2,8 +2,8 @@ use Rattle.std.proofs.Common.{◌≡◌, sym, ◌∙◌}
 use Rattle.std.specs.Prelude.{Some, None}
 use Rattle.pur_base.specs.Says.{has_key}
 use Rattle.pyramid.specs.Layers.{facts_of, newest_of}
-use Rattle.pyramid.proofs.NewestLemmas.{newest-append, later_none}
-use Rattle.pyramid.proofs.LayerLemmas.{rises_below, rises_alone, later_below}
+use Rattle.pyramid.specs.lemmas.Newest.{newest-append, later_none}
+use Rattle.pyramid.specs.lemmas.Layers.{rises_below, rises_alone, later_below}
 use Rattle.pyramid.proofs.pyramid.Pyramid.newest_of_all.Goals as goal
 
 pub newest_in-requires : goal.newest_in-requires

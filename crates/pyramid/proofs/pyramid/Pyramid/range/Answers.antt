@@ -1,6 +1,6 @@
 use Rattle.pur_base.specs.Visible.{is_within}
 use Rattle.pyramid.specs.Layers.{facts_of}
-use Rattle.pyramid.proofs.LayerLemmas.{rises_alone, rises_below}
+use Rattle.pyramid.specs.lemmas.Layers.{rises_alone, rises_below}
 use Rattle.pyramid.proofs.SpanLemmas.{ranged, for_ok}
 use Rattle.pyramid.proofs.pyramid.Pyramid.range.Goals as goal
 

@@ -7,9 +7,9 @@ use Rattle.world.specs.Shelf.{LeavesOnly}
 use Rattle.register.specs.Registers.{drives_of, own_slot}
 use Rattle.boot_codec.specs.Record.{set_count}
 use Rattle.register.proofs.Made.{drops_put}
-use Rattle.register.proofs.FlagLemmas.{put_back, fewer_count}
+use Rattle.register.specs.lemmas.Flags.{put_back, fewer_count}
 use Rattle.register.proofs.Rounds.{cut_left}
-use Rattle.register.proofs.Stores.{from_ok}
+use Rattle.register.specs.lemmas.Stores.{from_ok}
 use Rattle.std.specs.Prelude.{IsOk}
 use Rattle.register.proofs.state.Register.put.Goals as goal
 

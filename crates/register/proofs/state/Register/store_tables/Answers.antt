@@ -1,14 +1,14 @@
 use Rattle.std.proofs.Common.{rules, List, ◌∷◌, [], refl, Result, Ok, Err, arith, ◌≡◌, ◌+◌, ◌-◌, ◌^◌, ◌<◌, ◌≤◌, length, sym, ◌∙◌, ap, subst}
 use Rattle.boot_codec.specs.declared.record.BootRecord.{BootRecord}
 use Rattle.boot_codec.specs.Record.{set_count}
-use Rattle.world.proofs.Moments.{then_run, weaker}
-use Rattle.world.proofs.Ran.{ran_then, ran_more}
+use Rattle.world.specs.lemmas.Moments.{then_run, weaker}
+use Rattle.world.specs.lemmas.Ran.{ran_then, ran_more}
 use Rattle.boot_region.proofs.Stored.{on_fewer}
 use Rattle.pur_base.specs.Plain.{Array}
 use Rattle.register.specs.Registers.{drives_of, named_sound}
 use Rattle.register.specs.Standing.{IsFirm, IsInStoreOf, IsOpen, MayStore, array_of}
 use Rattle.register.specs.Giving.{IsNextWith}
-use Rattle.register.proofs.FlagLemmas.{same_flags, other_flags}
+use Rattle.register.specs.lemmas.Flags.{same_flags, other_flags}
 use Rattle.register.proofs.Opened.{is_open}
 use Rattle.register.proofs.Outlasts.{left, next_round, later_again}
 use Rattle.world.specs.Shelf.{LeavesOnly}
@@ -18,7 +18,7 @@ use Rattle.register.specs.Storing.{DropsOnlyFailed, HasStored}
 use Rattle.register.specs.Tables.{with_tables}
 use Rattle.register.proofs.Made.{same_but_room, drops_then, first_failed, first_is_on_all, store_later, then_stored}
 use Rattle.register.proofs.Rounds.{some_named}
-use Rattle.register.proofs.Stores.{cut_length, members_sound, fewer_cut, on_more}
+use Rattle.register.specs.lemmas.Stores.{cut_length, members_sound, fewer_cut, on_more}
 use Rattle.register.proofs.Tabling.{is_next_with, later_gives, later_round}
 use Rattle.register.proofs.state.Register.store_tables.Given as given
 use Rattle.register.proofs.state.Register.store_tables.Goals as goal

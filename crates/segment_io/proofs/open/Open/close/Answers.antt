@@ -1,5 +1,5 @@
 use Rattle.std.proofs.Common.{refl}
-use Rattle.world.proofs.Ran.{ran_then, ran_more}
+use Rattle.world.specs.lemmas.Ran.{ran_then, ran_more}
 use Rattle.segment_io.proofs.InTurn.{same_units, same_stripe, synced_as, headers_come_last, on_drives}
 use Rattle.segment_io.proofs.Views.{stripe_shown, holds_at_stop}
 use Rattle.segment_codec.specs.Position.{stripe_of}

@@ -4,7 +4,7 @@ use Rattle.pur_base.specs.Facts.{segment_key}
 use Rattle.pur_base.specs.Visible.{is_within}
 use Rattle.pur_base.specs.declared.facts.SegmentFact.{SegmentFact}
 use Rattle.pyramid.specs.Layers.{facts_in}
-use Rattle.pyramid.proofs.MergeLemmas.{ascends_filter}
+use Rattle.pyramid.specs.lemmas.Merges.{ascends_filter}
 use Rattle.segment_table.proofs.SegmentLemmas.{shown_less}
 use Rattle.segment_table.proofs.table.SegmentTable.remove_elided.Goals as goal
 

@@ -1,0 +1,15 @@
+pub mod Lists
+pub mod AllTables
+pub mod Objects
+pub mod Keeping
+pub mod Adding
+pub mod Moved
+pub mod Owning
+pub mod Entries
+pub mod Run
+pub mod Overlay
+pub mod Patches
+pub mod Merged
+pub mod Elided
+pub mod Flushed
+pub mod Shrinking

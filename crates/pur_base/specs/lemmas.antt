@@ -1,0 +1,4 @@
+pub mod Devices
+pub mod Says
+pub mod Lines
+pub mod Items

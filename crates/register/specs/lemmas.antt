@@ -1,0 +1,4 @@
+pub mod Flags
+pub mod Moments
+pub mod Shows
+pub mod Stores

@@ -1,0 +1,4 @@
+pub mod Sets
+pub mod Parts
+pub mod Places
+pub mod Losing

@@ -1,0 +1,6 @@
+pub mod Moments
+pub mod Ran
+pub mod Writes
+pub mod Stopped
+pub mod Rests
+pub mod Bytes
