@@ -2,14 +2,8 @@
 use Rattle.std.proofs.Common.{◌≡◌, ℕ, ◌^◌, ◌<◌, Bool, true, false, List, ◌++◌, refl, sym, ap, ◌∙◌}
 use Rattle.std.specs.Prelude.{Option, Some, None, if◌then◌else◌, option_and_then}
 use Rattle.std.specs.Option.{option_or}
-use Rattle.pur_base.specs.declared.facts.AddressFact.{AddressFact}
+use Rattle.pyramid.specs.Prelude.{AddressFact, Facts, address_key, never, id_of, key_of, says, unless_empty, address, is_within, AreElidedRanges, newest_of, AreBelow, id_of_key, within_elided}
 use Rattle.pur_base.specs.declared.request.Table.TheVariants as table
-use Rattle.pur_base.specs.Facts.{Facts, address_key, never}
-use Rattle.pur_base.specs.Keys.{id_of, key_of}
-use Rattle.pur_base.specs.Says.{says, unless_empty}
-use Rattle.pur_base.specs.Visible.{address, is_within, AreElidedRanges}
-use Rattle.pyramid.specs.Layers.{newest_of, AreBelow}
-use Rattle.pyramid.specs.lemmas.Keys.{id_of_key, within_elided}
 use Rattle.pyramid.proofs.WalkLemmas.{newer_over}
 use Rattle.address_table.specs.Addresses.{number, target_of, visible}
 

@@ -5,17 +5,10 @@ use Rattle.std.specs.Option.{option_map_or}
 use Rattle.std.proofs.lemmas.Bool.{eqb-true, eq-eqb}
 use Rattle.std.proofs.lemmas.List.Elements.{Contains-get_or}
 use Rattle.std.proofs.lemmas.List.Kept.{AllPairs-filter}
-use Rattle.pur_base.specs.declared.facts.AddressFact.{AddressFact}
-use Rattle.pur_base.specs.Facts.{address_key, never}
-use Rattle.pur_base.specs.Keys.{id_of}
-use Rattle.pur_base.specs.Says.{says, has_key}
-use Rattle.pyramid.specs.Layers.{facts_of, newest_of, IsLayered}
-use Rattle.pyramid.specs.lemmas.Contains.{filtered, of_filter, either}
+use Rattle.pyramid.specs.Prelude.{AddressFact, address_key, never, id_of, says, has_key, facts_of, newest_of, IsLayered, filtered, of_filter, either, newest_found, passes_filter}
 use Rattle.pyramid.proofs.DistinctLemmas.{Differ, differ_layers, differ_same}
-use Rattle.pyramid.specs.lemmas.Newest.{newest_found}
 use Rattle.address_table.specs.Addresses.{number, stands_in, is_current, is_pointing, IsVisible}
 use Rattle.address_table.proofs.AddressLemmas.{visible_newest}
-use Rattle.pyramid.specs.lemmas.Shown.{passes_filter}
 
 -- what is visible is one of the facts, of that key
 pub visible_is : (facts : List AddressFact) (elided : ℕ → Bool) (k : ℕ) (g : AddressFact) → says address_key number never facts elided k ≡ Some g → Contains facts g × (address_key g ≡ k)

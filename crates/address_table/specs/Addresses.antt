@@ -1,12 +1,7 @@
 -- Where the sectors of mediums stand, as facts of addresses say it.
 use Rattle.std.specs.Prelude.{◌≡◌, ℕ, Bool, false, ◌==◌, ◌&&◌, List, Option, Some}
 use Rattle.std.specs.Option.{option_map, option_map_or}
-use Rattle.pur_base.specs.declared.facts.AddressFact.{AddressFact}
-use Rattle.pur_base.specs.declared.facts.Target.{Target}
-use Rattle.pur_base.specs.declared.facts.Target.TheVariants.{Stored, Zero}
-use Rattle.pur_base.specs.Facts.{address_key, never}
-use Rattle.pur_base.specs.Keys.{key_of}
-use Rattle.pur_base.specs.Says.{says}
+use Rattle.pyramid.specs.Prelude.{AddressFact, Target, Stored, Zero, address_key, never, key_of, says}
 
 -- the sequence number
 abbrev pub number : AddressFact → ℕ

@@ -1,22 +1,13 @@
 -- Memory once it is what a plan says.
 use Rattle.std.proofs.Common.{◌≡◌, ◌∙◌, ℕ, Bool, List, [], sym, inr, subst, None, Contains}
-use Rattle.pur_base.specs.Plain.{Array}
-use Rattle.pur_base.specs.Visible.{segment}
+use Rattle.session_spec.specs.Prelude.{Array, segment, AddressFact, facts_of, patch_facts, Contents, IsSound, Memory, ReadsAs, IsEliding, facts}
 use Rattle.pur_base.specs.declared.request.Table.TheVariants as table
-use Rattle.pur_base.specs.declared.facts.AddressFact.{AddressFact}
-use Rattle.pyramid.specs.Layers.{facts_of, patch_facts}
-use Rattle.memory_spec.specs.Memory.{Contents, IsSound, Memory, ReadsAs}
-use Rattle.memory_spec.specs.Eliding.{IsEliding}
 use Rattle.memory_spec.proofs.Checkpointed.{checkpoint_reads}
-use Rattle.memory_spec.specs.Tables.{facts}
-use Rattle.table_plan.specs.Eliding.{AreElisionsOf, IsElidedBy}
-use Rattle.table_plan.specs.Places.{flagged_from}
+use Rattle.table_plan.specs.Prelude.{AreElisionsOf, IsElidedBy, flagged_from, extended, sectors_at, AreStored, IsPlanned}
 use Rattle.table_plan.proofs.ElidedLemmas.{segments_elided}
-use Rattle.table_plan.specs.Planned.{extended, sectors_at, AreStored, IsPlanned}
 use Rattle.table_plan.proofs.Planned.{elided_is_checkpointed, planned_elided, planned_sound, still_stored}
 use Rattle.array_memory.specs.declared.plan.Plan.{Plan}
-use Rattle.array_memory.specs.Eliding.{eliding_by}
-use Rattle.array_memory.specs.Plan.{after_plan, units_of, IsPlanFor, IsSameMemory}
+use Rattle.array_memory.specs.Prelude.{eliding_by, after_plan, units_of, IsPlanFor, IsSameMemory}
 use Rattle.array_memory.proofs.PlanLemmas.{planned, planned_same}
 use Rattle.array_checkpoint.specs.Made.{contents_after}
 use Rattle.array_checkpoint.proofs.ElidedSegments.{gone_where}

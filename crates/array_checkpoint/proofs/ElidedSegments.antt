@@ -3,29 +3,12 @@ use Rattle.std.proofs.Common.{◌≡◌, ℕ, Bool, true, false, List, [], ◌�
 use Rattle.std.specs.List.{list_any, cons_option}
 use Rattle.std.proofs.lemmas.Bool.{both_ways, false_from_ne_true}
 use Rattle.std.proofs.lemmas.List.Folds.{list_any_at, list_any_none}
-use Rattle.pur_base.specs.Devices.{Geometry, View}
-use Rattle.pur_base.specs.Facts.{Facts, segment_key, never}
-use Rattle.pur_base.specs.Keys.{id_of, key_of}
-use Rattle.pur_base.specs.Visible.{ids_below, is_elided, segment, segments}
+use Rattle.session_spec.specs.Prelude.{Geometry, View, Facts, segment_key, never, id_of, key_of, ids_below, is_elided, segment, segments, Place, SegmentFact, BootRecord, IsFree, is_place, AreApart, AreSegmentsSound, named_segments, used_places, id_of_key, all_contained, Contents, Memory, facts, in_filter_map, in_map, of_filter_map, of_map, ContentsStand, IsEliding, not_before, said_before}
 use Rattle.pur_base.specs.declared.request.Table.TheVariants as table
-use Rattle.pur_base.specs.declared.place.Place.{Place}
-use Rattle.pur_base.specs.declared.facts.SegmentFact.{SegmentFact}
-use Rattle.boot_codec.specs.declared.record.BootRecord.{BootRecord}
-use Rattle.array_spec.specs.Counts.{IsFree, is_place}
-use Rattle.array_spec.specs.Sound.{AreApart, AreSegmentsSound, named_segments, used_places}
 use Rattle.free_space.specs.Laws.{AreUnitsToTake}
-use Rattle.pyramid.specs.lemmas.Keys.{id_of_key}
-use Rattle.pyramid.specs.lemmas.Layers.{all_contained}
-use Rattle.memory_spec.specs.Memory.{Contents, Memory}
-use Rattle.memory_spec.specs.Tables.{facts}
-use Rattle.memory_spec.specs.lemmas.Lists.{in_filter_map, in_map, of_filter_map, of_map}
-use Rattle.memory_spec.specs.Contents.{ContentsStand}
-use Rattle.memory_spec.specs.Eliding.{IsEliding}
-use Rattle.memory_spec.specs.lemmas.Elided.{not_before, said_before}
 use Rattle.array_memory.specs.declared.plan.Eliding.{Eliding}
-use Rattle.array_memory.specs.Eliding.{eliding_by}
-use Rattle.record_tables.specs.Units.{AreNewUnits}
-use Rattle.record_tables.specs.lemmas.Lists.{all_weaker, cons_pairs, pairs_across, pairs_append, pairs_back, pairs_front, pairs_head, pairs_tail}
+use Rattle.array_memory.specs.Prelude.{eliding_by}
+use Rattle.record_tables.specs.Prelude.{AreNewUnits, all_weaker, cons_pairs, pairs_across, pairs_append, pairs_back, pairs_front, pairs_head, pairs_tail}
 use Rattle.std.proofs.lemmas.List.Elements.{Contains-append_cases, Contains-append_left, Contains-append_right}
 
 -- ---- fewer of a list

@@ -1,30 +1,17 @@
 -- The array once the tables of a checkpoint are its own.
 use Rattle.std.proofs.Common.{◌≡◌, ◌∙◌, ℕ, ◌+◌, ◌≤◌, ◌<◌, List, length, sym, ap, subst, arith, false}
 use Rattle.std.specs.List.{AllZip}
-use Rattle.pur_base.specs.Devices.{Geometry}
-use Rattle.pur_base.specs.Facts.{Facts}
-use Rattle.pur_base.specs.Visible.{segment}
-use Rattle.pur_base.specs.declared.facts.AnyFact.{AnyFact}
-use Rattle.boot_codec.specs.Record.{AreNext, IsBootRecord, patch_segments}
-use Rattle.boot_codec.specs.declared.patch.Patch.{Patch}
-use Rattle.boot_codec.specs.declared.record.BootRecord.{BootRecord}
-use Rattle.boot_codec.specs.declared.record.NextNumbers.{NextNumbers}
-use Rattle.array_spec.specs.Sound.{AreSegmentsSound}
-use Rattle.memory_spec.specs.Tables.{facts, patches}
-use Rattle.memory_spec.specs.Whole.{IsNamed}
-use Rattle.memory_spec.specs.Checkpoint.{IsRecordOfMemory}
-use Rattle.table_plan.specs.Eliding.{IsElidedBy}
+use Rattle.session_spec.specs.Prelude.{Geometry, Facts, segment, AnyFact, AreNext, IsBootRecord, patch_segments, Patch, BootRecord, NextNumbers, AreSegmentsSound, facts, patches, IsNamed, IsRecordOfMemory}
+use Rattle.table_plan.specs.Prelude.{IsElidedBy}
 use Rattle.table_plan.proofs.ElidedLemmas.{as_many}
-use Rattle.array_memory.specs.Plan.{after_plan, next_past, IsSameMemory, HasRoomAgain}
+use Rattle.array_memory.specs.Prelude.{after_plan, next_past, IsSameMemory, HasRoomAgain}
 use Rattle.array_memory.proofs.PlanLemmas.{facts_same, patches_same}
-use Rattle.nvram_log.specs.Members.{IsSome}
-use Rattle.register.specs.Registers.{IsLaterRecord, IsRegisterOf}
-use Rattle.register.specs.Tables.{with_tables}
-use Rattle.record_tables.specs.Laws.{with_patches}
+use Rattle.nvram_log.specs.Prelude.{IsSome}
+use Rattle.register.specs.Prelude.{IsLaterRecord, IsRegisterOf, with_tables}
+use Rattle.record_tables.specs.Prelude.{with_patches}
 use Rattle.record_tables.proofs.Lawful.{next_patches_are_lawful}
 use Rattle.array_core.specs.declared.array.Array.{Array}
-use Rattle.array_core.specs.Ready.{IsArrayOf, is_spent}
-use Rattle.array_core.specs.Room.{HasRoomFor}
+use Rattle.array_core.specs.Prelude.{IsArrayOf, is_spent, HasRoomFor}
 use Rattle.array_core.proofs.Applied.{room_again, segments_sound}
 use Rattle.array_checkpoint.specs.declared.preparing.Prepared.{Prepared}
 use Rattle.array_checkpoint.specs.Prepared.{IsPreparedFor}

@@ -2,37 +2,18 @@
 use Rattle.std.proofs.Common.{◌≡◌, ℕ, ◌+◌, ◌*◌, ◌/◌, ◌<◌, ◌≤◌, true, false, List, [], ◌∷◌, ◌++◌, length, sym, ap, arith, inl, inr, subst, Contains}
 use Rattle.std.specs.Prelude.{Bool, slice_index_or}
 use Rattle.std.specs.List.{AllByRecursion}
-use Rattle.pur_base.specs.Devices.{drive, nvram}
-use Rattle.pur_base.specs.Facts.{Facts}
-use Rattle.pur_base.specs.declared.device.Device.{Device}
-use Rattle.pur_base.specs.declared.device.Device.TheVariants.{Drive}
-use Rattle.pur_base.specs.declared.device.DriveId.{DriveId}
-use Rattle.pur_base.specs.declared.place.Place.{Place}
-use Rattle.boot_codec.specs.Record.{AscendFrom}
-use Rattle.boot_codec.specs.declared.record.BootRecord.{BootRecord}
-use Rattle.segment_codec.specs.declared.position.TheConstants.{STRIPES}
-use Rattle.array_spec.specs.Counts.{IsFree, is_used}
-use Rattle.array_spec.specs.Stored.{all_facts, places_of_part}
+use Rattle.session_spec.specs.Prelude.{drive, nvram, Facts, Device, Drive, DriveId, Place, AscendFrom, BootRecord, STRIPES, IsFree, is_used, all_facts, places_of_part, facts, Memory, of_each, contains_at, Shelved, SegmentFact, Patch}
 use Rattle.free_space.specs.Laws.{AreUnitsToTake}
 use Rattle.free_space.specs.Map.{is_member}
-use Rattle.memory_spec.specs.Tables.{facts}
-use Rattle.memory_spec.specs.Memory.{Memory}
-use Rattle.memory_spec.specs.lemmas.Lists.{of_each, contains_at}
 use Rattle.array_memory.specs.declared.plan.Counts.{Counts}
 use Rattle.array_memory.specs.declared.plan.Plan.{Plan}
-use Rattle.array_memory.specs.Plan.{units_of}
-use Rattle.world.specs.Shelf.{Shelved}
+use Rattle.array_memory.specs.Prelude.{units_of}
 use Rattle.register.specs.declared.state.Register.{Register}
-use Rattle.register.specs.Standing.{Content}
-use Rattle.register.specs.lemmas.Flags.{cut_in}
-use Rattle.array_core.specs.Free.{OnFree}
-use Rattle.segment_io.specs.Places.{place_of, OnUnits}
-use Rattle.pur_base.specs.declared.facts.SegmentFact.{SegmentFact}
-use Rattle.boot_codec.specs.declared.patch.Patch.{Patch}
-use Rattle.segment_writer.specs.DataPlacing.{places_in}
-use Rattle.record_tables.specs.Patches.{added_patches, segments_of}
-use Rattle.segment_writer.specs.CheckpointStoring.{IsOnCheckpoint, OnCheckpoint}
-use Rattle.record_tables.specs.Units.{AreNewUnits}
+use Rattle.register.specs.Prelude.{Content, cut_in}
+use Rattle.array_core.specs.Prelude.{OnFree}
+use Rattle.segment_io.specs.Prelude.{place_of, OnUnits}
+use Rattle.segment_writer.specs.Prelude.{places_in, IsOnCheckpoint, OnCheckpoint}
+use Rattle.record_tables.specs.Prelude.{added_patches, segments_of, AreNewUnits}
 use Rattle.array_core.proofs.Keeping.{both_not}
 use Rattle.array_checkpoint.proofs.Stays.{SparesUsed}
 use Rattle.array_checkpoint.proofs.UnitLists.{in_at}

@@ -5,35 +5,17 @@ use Rattle.std.specs.List.{AllByRecursion, AllZip}
 use Rattle.std.proofs.lemmas.Bool.{cases_Bool, ltb-true, lt-ltb}
 use Rattle.std.proofs.lemmas.List.{get_or-map}
 use Rattle.std.proofs.lemmas.Option.{slice_get_within, slice_get-get_or}
-use Rattle.pur_base.specs.Devices.{View}
-use Rattle.pur_base.specs.Facts.{segment_key, never}
-use Rattle.pur_base.specs.Keys.{key_of}
-use Rattle.pur_base.specs.Visible.{is_elided, segment}
+use Rattle.session_spec.specs.Prelude.{View, segment_key, never, key_of, is_elided, segment, says_is, each_by_recursion, AnyFact, SegmentFact, Place, Patch, SectorStands, StripesStand, PatchStands, Contents, Memory, facts, patches, ContentsStand, IsNamed, same_some}
 use Rattle.pur_base.specs.declared.request.Table.TheVariants as table
-use Rattle.pur_base.specs.lemmas.Says.{says_is}
-use Rattle.memory_spec.specs.lemmas.Lists.{each_by_recursion}
-use Rattle.pur_base.specs.declared.facts.AnyFact.{AnyFact}
-use Rattle.pur_base.specs.declared.facts.SegmentFact.{SegmentFact}
-use Rattle.pur_base.specs.declared.place.Place.{Place}
-use Rattle.boot_codec.specs.declared.patch.Patch.{Patch}
-use Rattle.segment_codec.specs.Stripes.{SectorStands, StripesStand}
-use Rattle.array_spec.specs.Stored.{PatchStands}
-use Rattle.memory_spec.specs.Memory.{Contents, Memory}
-use Rattle.memory_spec.specs.Tables.{facts, patches}
-use Rattle.memory_spec.specs.Contents.{ContentsStand}
-use Rattle.memory_spec.specs.Whole.{IsNamed}
 use Rattle.memory_spec.proofs.Placing.{old_segment_id}
-use Rattle.table_plan.specs.Planned.{extended, sectors_at}
-use Rattle.segment_writer.specs.DataPlacing.{AreFilled, segment_in}
-use Rattle.segment_writer.specs.DataStanding.{DataStands}
+use Rattle.table_plan.specs.Prelude.{extended, sectors_at}
+use Rattle.segment_writer.specs.Prelude.{AreFilled, segment_in, DataStands}
 use Rattle.array_memory.specs.declared.plan.Plan.{Plan}
 use Rattle.array_memory.specs.declared.plan.Counts.{Counts}
-use Rattle.array_memory.specs.Plan.{AreCounts, IsPlanFor, after_plan}
-use Rattle.record_tables.specs.Laws.{HaveFacts, new_facts}
-use Rattle.record_tables.specs.Patches.{added_patches, by_tag}
+use Rattle.array_memory.specs.Prelude.{AreCounts, IsPlanFor, after_plan}
+use Rattle.record_tables.specs.Prelude.{HaveFacts, new_facts, added_patches, by_tag}
 use Rattle.record_tables.proofs.Named.{added_are_named, added_patches_zip}
 use Rattle.record_tables.proofs.Visible.{old_or_new}
-use Rattle.array_spec.specs.lemmas.Mediums.{same_some}
 
 -- ---- lists
 

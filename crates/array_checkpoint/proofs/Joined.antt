@@ -2,20 +2,12 @@
 use Rattle.std.proofs.Common.{◌≡◌, sym, ap, subst}
 use Rattle.std.specs.Prelude.{Err, OnErr, Result}
 use Rattle.pur_base.specs.Plain as plain
-use Rattle.world.specs.Shelf.{Continues, IsCountedBy, IsShelf, LeavesOnly, Shelved}
-use Rattle.world.specs.lemmas.Moments.{started, then_run, weaker}
-use Rattle.world.specs.lemmas.Writes.{counted_then, counts_grow}
+use Rattle.session_spec.specs.Prelude.{Continues, IsCountedBy, IsShelf, LeavesOnly, Shelved, started, then_run, weaker, counted_then, counts_grow, Contents, ReadsAs, facts}
 use Rattle.nvram_log.specs.declared.log.NvLog.{NvLog}
 use Rattle.register.specs.declared.state.Register.{Register}
-use Rattle.memory_spec.specs.Memory.{Contents, ReadsAs}
-use Rattle.memory_spec.specs.Tables.{facts}
-use Rattle.array_memory.specs.Kept.{Kept}
+use Rattle.array_memory.specs.Prelude.{Kept}
 use Rattle.array_core.specs.declared.array.Array.{Array}
-use Rattle.array_core.specs.Drives.{SegmentsHold}
-use Rattle.array_core.specs.Ready.{is_spent}
-use Rattle.array_core.specs.Holding.{DropsFailed, DropsFailedBy, NoneJoins, NoneJoinsBy}
-use Rattle.array_core.specs.Performing.{IsLost}
-use Rattle.array_core.specs.Performing.{IsLostBy}
+use Rattle.array_core.specs.Prelude.{SegmentsHold, is_spent, DropsFailed, DropsFailedBy, NoneJoins, NoneJoinsBy, IsLost, IsLostBy}
 use Rattle.array_checkpoint.specs.Prepared.{IsLike}
 use Rattle.array_checkpoint.specs.Made.{HasFlushed}
 use Rattle.array_checkpoint.proofs.Like.{like_is, roomed, roomed_reads}

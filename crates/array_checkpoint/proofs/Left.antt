@@ -2,33 +2,20 @@
 use Rattle.std.proofs.Common.{◌≡◌, inl, inr, ℕ, ◌<◌, List, sym, subst, Bool, true, false}
 use Rattle.std.specs.Prelude.{slice_index_or}
 use Rattle.std.specs.List.{AllByRecursion}
-use Rattle.pur_base.specs.Devices.{Image, View, drive}
-use Rattle.pur_base.specs.declared.device.Device.{Device}
-use Rattle.pur_base.specs.declared.facts.SegmentFact.{SegmentFact}
-use Rattle.array_spec.specs.Held.{AreEnough}
+use Rattle.session_spec.specs.Prelude.{Image, View, drive, Device, SegmentFact, AreEnough, Shelved, Continues, geometry_of, WritesOnly, Contents, facts, AreAmong, ContentsStand}
 use Rattle.free_space.specs.Map.{shelf_of}
-use Rattle.world.specs.Shelf.{Shelved, Continues}
-use Rattle.world.specs.Losing.{geometry_of}
-use Rattle.world.specs.Writes.{WritesOnly}
-use Rattle.boot_region.specs.Members.{IsMember}
+use Rattle.boot_region.specs.Prelude.{IsMember}
 use Rattle.register.specs.declared.state.Register.{Register}
-use Rattle.register.specs.Registers.{drives_of}
-use Rattle.memory_spec.specs.Memory.{Contents}
-use Rattle.memory_spec.specs.Tables.{facts}
-use Rattle.memory_spec.specs.Contents.{AreAmong, ContentsStand}
-use Rattle.segment_io.specs.Lost.{is_in}
-use Rattle.segment_io.specs.Stripes.{bytes_of}
-use Rattle.segment_writer.specs.DataStanding.{DataStands}
+use Rattle.register.specs.Prelude.{drives_of}
+use Rattle.segment_io.specs.Prelude.{is_in, bytes_of}
+use Rattle.segment_writer.specs.Prelude.{DataStands, OnCheckpoint}
 use Rattle.array_core.specs.declared.array.Array.{Array}
-use Rattle.array_core.specs.Drives.{SegmentsHold}
-use Rattle.array_core.specs.Ready.{IsArrayOf}
+use Rattle.array_core.specs.Prelude.{SegmentsHold, IsArrayOf, HoldOnLeft}
 use Rattle.array_core.proofs.Keeping.{unnamed}
-use Rattle.segment_writer.specs.CheckpointStoring.{OnCheckpoint}
 use Rattle.array_checkpoint.specs.declared.preparing.Prepared.{Prepared}
 use Rattle.array_checkpoint.specs.Prepared.{IsPreparedFor}
 use Rattle.array_checkpoint.specs.Made.{contents_after, facts_after}
-use Rattle.array_core.specs.Switching.{HoldOnLeft}
-use Rattle.array_memory.specs.Eliding.{eliding_by}
+use Rattle.array_memory.specs.Prelude.{eliding_by}
 use Rattle.array_checkpoint.proofs.ElidedSegments.{contents_then}
 use Rattle.array_checkpoint.proofs.FreeUnits.{spares_used}
 use Rattle.array_checkpoint.proofs.Holds.{contents_hold}

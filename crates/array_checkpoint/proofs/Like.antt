@@ -1,15 +1,12 @@
 -- An array that differs in room for patches alone.
 use Rattle.std.proofs.Common.{◌≡◌, refl, subst, sym}
-use Rattle.pur_base.specs.Devices.{Geometry}
+use Rattle.session_spec.specs.Prelude.{Geometry, Shelved, Contents, ReadsAs}
 use Rattle.pur_base.specs.Plain as plain
-use Rattle.world.specs.Shelf.{Shelved}
-use Rattle.register.specs.Standing.{Content}
-use Rattle.memory_spec.specs.Memory.{Contents, ReadsAs}
-use Rattle.array_memory.specs.Kept.{Kept}
-use Rattle.array_memory.specs.Plan.{with_patch_rooms}
+use Rattle.register.specs.Prelude.{Content}
+use Rattle.array_memory.specs.Prelude.{Kept, with_patch_rooms}
 use Rattle.array_memory.proofs.SoundLemmas.{sound_as}
 use Rattle.array_core.specs.declared.array.Array.{Array}
-use Rattle.array_core.specs.Ready.{IsArrayOf, IsReady}
+use Rattle.array_core.specs.Prelude.{IsArrayOf, IsReady}
 use Rattle.array_checkpoint.specs.Prepared.{IsLike}
 
 -- the array with room for patches as there

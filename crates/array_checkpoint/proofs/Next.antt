@@ -2,16 +2,7 @@
 use Rattle.std.proofs.Common.{◌≡◌, ℕ, List, [], ◌++◌, map, sym, ◌∙◌, ap, Bool}
 use Rattle.std.proofs.lemmas.List.{append-nil}
 use Rattle.std.specs.List.{list_any}
-use Rattle.pur_base.specs.Facts.{Facts}
-use Rattle.pur_base.specs.Visible.{segment, segments}
-use Rattle.pur_base.specs.declared.facts.SegmentFact.{SegmentFact}
-use Rattle.boot_codec.specs.declared.record.BootRecord.{BootRecord}
-use Rattle.array_spec.specs.Counts.{IsFree, is_place}
-use Rattle.array_spec.specs.Sound.{named_segments}
-use Rattle.array_spec.specs.Stored.{all_facts}
-use Rattle.pyramid.specs.Layers.{facts_in, facts_of, Layers}
-use Rattle.memory_spec.specs.Tables.{facts, patches, Tables}
-use Rattle.memory_spec.specs.lemmas.Patches.{patches_are_flushed}
+use Rattle.session_spec.specs.Prelude.{Facts, segment, segments, SegmentFact, BootRecord, IsFree, is_place, named_segments, all_facts, facts_in, facts_of, Layers, facts, patches, Tables, patches_are_flushed}
 
 -- ---- the tables of memory and those of its patches
 

@@ -2,41 +2,19 @@
 use Rattle.std.proofs.Common.{◌≡◌, inl, ℕ, ◌≤◌, ◌∙◌, List, arith, refl, sym, ap, subst, Bool, Some}
 use Rattle.std.specs.Prelude.{slice_get}
 use Rattle.std.specs.List.{AllZip}
-use Rattle.pur_base.specs.Devices.{Geometry, View}
-use Rattle.pur_base.specs.Facts.{Facts}
-use Rattle.pur_base.specs.Visible.{segment}
-use Rattle.pur_base.specs.declared.facts.AnyFact.{AnyFact}
-use Rattle.pur_base.specs.declared.facts.SegmentFact.{SegmentFact}
-use Rattle.boot_codec.specs.Record.{IsPatch}
-use Rattle.boot_codec.specs.declared.patch.Patch.{Patch}
-use Rattle.segment_codec.specs.Stripes.{StripesStand}
-use Rattle.array_spec.specs.Meaning.{TablesStand}
-use Rattle.array_spec.specs.Stored.{PatchesStand, PatchStands, all_facts}
-use Rattle.array_spec.specs.Held.{AreEnough, DataHolds}
-use Rattle.world.specs.Shelf.{Shelved, Continues, IsShelf}
-use Rattle.world.specs.Losing.{geometry_of}
-use Rattle.register.specs.Standing.{Content, array_of}
-use Rattle.register.specs.Tables.{with_tables}
-use Rattle.memory_spec.specs.Tables.{facts, patches}
-use Rattle.memory_spec.specs.Checkpoint.{IsCheckpointed, IsRecordOfMemory}
-use Rattle.memory_spec.specs.Contents.{AreAmong, ContentsStand, WrittenOn}
+use Rattle.session_spec.specs.Prelude.{Geometry, View, Facts, segment, AnyFact, SegmentFact, IsPatch, Patch, StripesStand, TablesStand, PatchesStand, PatchStands, all_facts, AreEnough, DataHolds, Shelved, Continues, IsShelf, geometry_of, facts, patches, IsRecordOfMemory, AreAmong, ContentsStand, WrittenOn, patches_are_all, patch_facts, contains_at}
+use Rattle.register.specs.Prelude.{Content, array_of, with_tables}
+use Rattle.memory_spec.specs.Checkpoint.{IsCheckpointed}
 use Rattle.memory_spec.proofs.Checkpointed.{checkpoint_data_holds}
-use Rattle.memory_spec.specs.lemmas.Patches.{patches_are_all}
-use Rattle.table_plan.specs.Planned.{extended, sectors_at}
+use Rattle.table_plan.specs.Prelude.{extended, sectors_at}
 use Rattle.table_plan.proofs.Planned.{elided_is_checkpointed}
-use Rattle.pyramid.specs.Layers.{patch_facts}
-use Rattle.array_memory.specs.Eliding.{eliding_by}
-use Rattle.array_memory.specs.Plan.{after_plan, units_of}
+use Rattle.array_memory.specs.Prelude.{eliding_by, after_plan, units_of}
 use Rattle.array_memory.proofs.PlanLemmas.{planned}
-use Rattle.record_tables.specs.Laws.{new_facts}
-use Rattle.record_tables.specs.Patches.{added_patches}
-use Rattle.record_tables.specs.lemmas.Lists.{all_weaker}
-use Rattle.segment_io.specs.Stripes.{bytes_of}
-use Rattle.array_core.specs.Free.{WritesFree}
+use Rattle.record_tables.specs.Prelude.{new_facts, added_patches, all_weaker}
+use Rattle.segment_io.specs.Prelude.{bytes_of}
+use Rattle.array_core.specs.Prelude.{WritesFree, IsArrayOf, IsReady, HoldTables}
 use Rattle.array_core.proofs.Kept.{free_writes_leave}
 use Rattle.array_core.specs.declared.array.Array.{Array}
-use Rattle.array_core.specs.Ready.{IsArrayOf, IsReady}
-use Rattle.array_core.specs.Switching.{HoldTables}
 use Rattle.array_checkpoint.specs.declared.preparing.Prepared.{Prepared}
 use Rattle.array_checkpoint.specs.Prepared.{IsPreparedFor}
 use Rattle.array_checkpoint.specs.Made.{contents_after, held_after}
@@ -49,7 +27,6 @@ use Rattle.array_checkpoint.proofs.ShownUnits.{shows_patch}
 use Rattle.array_checkpoint.proofs.Stays.{tables_hold}
 use Rattle.array_checkpoint.proofs.Units.{new_segment}
 use Rattle.array_checkpoint.proofs.Wrote.{Wrote}
-use Rattle.memory_spec.specs.lemmas.Lists.{contains_at}
 use Rattle.register.proofs.Rounds.{same_shelf}
 
 -- the plan is a checkpoint of memory

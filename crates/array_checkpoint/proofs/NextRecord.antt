@@ -1,26 +1,15 @@
 -- The record with the tables of a prepared checkpoint is one of memory after its plan.
 use Rattle.std.proofs.Common.{◌≡◌, ◌+◌, ◌<◌, ◌++◌, ◌∙◌, List, length, sym, ap, subst, arith}
 use Rattle.std.specs.List.{AllZip}
-use Rattle.pur_base.specs.Devices.{Geometry}
-use Rattle.boot_codec.specs.declared.limits.TheConstants.{NUMBER_LIMIT}
-use Rattle.boot_codec.specs.declared.patch.Patch.{Patch}
-use Rattle.boot_codec.specs.declared.record.BootRecord.{BootRecord}
-use Rattle.boot_codec.specs.declared.record.NextNumbers.{NextNumbers}
-use Rattle.array_spec.specs.Sound.{AreSegmentsSound}
+use Rattle.session_spec.specs.Prelude.{Geometry, NUMBER_LIMIT, Patch, BootRecord, NextNumbers, AreSegmentsSound, Memory, facts, patches, IsRecordOfMemory, IsNamed}
 use Rattle.free_space.specs.Map.{shelf_of}
-use Rattle.register.specs.Tables.{with_tables}
-use Rattle.memory_spec.specs.Memory.{Memory}
-use Rattle.memory_spec.specs.Tables.{facts, patches}
-use Rattle.memory_spec.specs.Checkpoint.{IsRecordOfMemory}
-use Rattle.memory_spec.specs.Whole.{IsNamed}
-use Rattle.array_memory.specs.Eliding.{eliding_by}
-use Rattle.array_memory.specs.Plan.{after_plan, units_of}
-use Rattle.record_tables.specs.Laws.{with_patches}
-use Rattle.record_tables.specs.Patches.{added_patches, by_tag}
+use Rattle.register.specs.Prelude.{with_tables}
+use Rattle.array_memory.specs.Prelude.{eliding_by, after_plan, units_of}
+use Rattle.record_tables.specs.Prelude.{with_patches, added_patches, by_tag}
 use Rattle.record_tables.proofs.Named.{next_patches_are_named}
 use Rattle.record_tables.proofs.Sound.{next_segments_are_sound}
 use Rattle.array_core.specs.declared.array.Array.{Array}
-use Rattle.array_core.specs.Ready.{IsArrayOf}
+use Rattle.array_core.specs.Prelude.{IsArrayOf}
 use Rattle.array_checkpoint.specs.declared.preparing.Prepared.{Prepared}
 use Rattle.array_checkpoint.specs.Prepared.{IsPreparedFor}
 use Rattle.array_checkpoint.proofs.ElidedSegments.{new_then, sound_then}

@@ -3,45 +3,22 @@ use Rattle.std.proofs.Common.{◌≡◌, ℕ, ◌+◌, ◌<◌, ◌≤◌, List,
 use Rattle.std.specs.List.{AllByRecursion, flat_map}
 use Rattle.std.proofs.lemmas.List.{length-map}
 use Rattle.std.proofs.lemmas.List.Elements.{Contains-append_right}
-use Rattle.pur_base.specs.Devices.{Geometry}
-use Rattle.pur_base.specs.Facts.{any_key}
-use Rattle.pur_base.specs.declared.place.Place.{Place}
-use Rattle.pur_base.specs.declared.facts.AnyFact.{AnyFact}
+use Rattle.session_spec.specs.Prelude.{Geometry, any_key, Place, AnyFact, NUMBER_LIMIT, PATCH_SEGMENTS, Patch, NextNumbers, BootRecord, AreNext, ByTagFrom, IsBootRecord, IsPatch, patch_segments, IsLawful, places_of_part, patch_facts, patches_of, facts, Memory, each_by_recursion, of_each, contains_at, IsNamed, geometry_of, Shelved, all_append, all_append_right}
 use Rattle.pur_base.specs.declared.facts.AnyFact.TheVariants as any
-use Rattle.boot_codec.specs.declared.limits.TheConstants.{NUMBER_LIMIT, PATCH_SEGMENTS}
-use Rattle.boot_codec.specs.declared.patch.Patch.{Patch}
-use Rattle.boot_codec.specs.declared.record.NextNumbers.{NextNumbers}
-use Rattle.boot_codec.specs.declared.record.BootRecord.{BootRecord}
-use Rattle.boot_codec.specs.Record.{AreNext, ByTagFrom, IsBootRecord, IsPatch, patch_segments}
-use Rattle.fact_codec.specs.Fact.{IsLawful}
 use Rattle.array_spec.specs.Sound as sound
-use Rattle.array_spec.specs.Stored.{places_of_part}
 use Rattle.free_space.specs.Map.{shelf_of}
 use Rattle.free_space.specs.Laws.{AreUnitsToTake}
-use Rattle.pyramid.specs.Layers.{patch_facts, patches_of}
-use Rattle.memory_spec.specs.Tables.{facts}
-use Rattle.memory_spec.specs.Memory.{Memory}
-use Rattle.memory_spec.specs.lemmas.Lists.{each_by_recursion, of_each, contains_at}
-use Rattle.memory_spec.specs.Whole.{IsNamed}
 use Rattle.array_memory.specs.declared.plan.Counts.{Counts}
 use Rattle.array_memory.specs.declared.plan.Plan.{Plan}
-use Rattle.table_plan.specs.Patches.{ArePatchFacts}
-use Rattle.array_memory.specs.Lasting.{AreLawfulPatches}
-use Rattle.array_memory.specs.Plan.{AreCounts, units_of}
-use Rattle.world.specs.Losing.{geometry_of}
-use Rattle.world.specs.Shelf.{Shelved}
-use Rattle.segment_writer.specs.PatchStoring.{MayBeHeaded}
+use Rattle.table_plan.specs.Prelude.{ArePatchFacts}
+use Rattle.array_memory.specs.Prelude.{AreLawfulPatches, AreCounts, units_of}
+use Rattle.segment_writer.specs.Prelude.{MayBeHeaded, AreAllApart, LieApartOf, MayBeStoredWith}
 use Rattle.segment_writer.specs.PatchStoring as patch
-use Rattle.segment_writer.specs.CheckpointStoring.{AreAllApart, LieApartOf, MayBeStoredWith}
-use Rattle.record_tables.specs.Laws.{HaveFacts, new_facts, with_patches}
-use Rattle.record_tables.specs.Patches.{added_patches, by_tag, counts_of, segments_of, FitRecord}
-use Rattle.record_tables.specs.Units.{AreNewUnits}
+use Rattle.record_tables.specs.Prelude.{HaveFacts, new_facts, with_patches, added_patches, by_tag, counts_of, segments_of, FitRecord, AreNewUnits, all_weaker, pairs_across, pairs_back}
 use Rattle.record_tables.proofs.Lawful.{added_by_tag, next_patches_are_lawful, next_woven}
-use Rattle.record_tables.specs.lemmas.Lists.{all_weaker, pairs_across, pairs_back}
 use Rattle.record_tables.proofs.Named.{added_are_named, added_take_the_units}
 use Rattle.array_checkpoint.proofs.UnitLists.{flat_in, flat_long, flat_own, flat_two, in_at, pairs_two, woven_second, zip_with}
 use Rattle.array_checkpoint.proofs.Units.{StandApart, data_in, new_apart, stand_back}
-use Rattle.array_spec.specs.lemmas.Used.{all_append, all_append_right}
 
 -- ---- the units of patches
 

@@ -4,46 +4,27 @@ use Rattle.std.specs.Int.{div_ceil}
 use Rattle.std.specs.List.{AllByRecursion}
 use Rattle.std.proofs.lemmas.Bool.{leb-false}
 use Rattle.std.proofs.lemmas.List.Sums.{sum_by-cons}
-use Rattle.pur_base.specs.Devices.{Geometry}
-use Rattle.pur_base.specs.Facts.{Facts}
-use Rattle.pur_base.specs.Visible.{segments}
-use Rattle.pur_base.specs.declared.place.Place.{Place}
-use Rattle.pur_base.specs.declared.facts.SegmentFact.{SegmentFact}
-use Rattle.boot_codec.specs.declared.record.BootRecord.{BootRecord}
-use Rattle.boot_codec.specs.declared.record.NextNumbers.{NextNumbers}
-use Rattle.boot_codec.specs.Record.{AscendFrom, IsBootRecord}
-use Rattle.byte_fields.specs.Places.{FitsBytes}
-use Rattle.array_spec.specs.Sound.{AreSegmentsSound}
-use Rattle.array_spec.specs.Stored.{all_facts}
+use Rattle.session_spec.specs.Prelude.{Geometry, Facts, segments, Place, SegmentFact, BootRecord, NextNumbers, AscendFrom, IsBootRecord, AreSegmentsSound, all_facts, IsEliding, Memory, of_each, are_used_up, is_used_up, facts, patches}
+use Rattle.byte_fields.specs.Prelude.{FitsBytes}
 use Rattle.unit_map.specs.declared.drive.Drive.{Drive}
-use Rattle.unit_map.specs.Map.{IsGroups}
+use Rattle.unit_map.specs.Prelude.{IsGroups}
 use Rattle.free_space.specs.Map.{shelf_of, AreDataSegments, IsMapOf}
 use Rattle.free_space.specs.Laws.{AreUnitsToTake}
 use Rattle.free_space.proofs.LawLemmas.{groups_of_the_tables}
-use Rattle.memory_spec.specs.Eliding.{IsEliding}
-use Rattle.table_plan.specs.Eliding.{IsElidedBy}
-use Rattle.table_plan.specs.Places.{flagged_from}
+use Rattle.table_plan.specs.Prelude.{IsElidedBy, flagged_from}
 use Rattle.table_plan.proofs.ElidedLemmas.{as_many}
 use Rattle.table_plan.proofs.PlacesLemmas.{few_flagged}
-use Rattle.memory_spec.specs.Memory.{Memory}
-use Rattle.memory_spec.specs.lemmas.Lists.{of_each}
-use Rattle.memory_spec.specs.Numbers.{are_used_up, is_used_up}
-use Rattle.memory_spec.specs.Tables.{facts, patches}
-use Rattle.array_memory.specs.Kept.{Kept}
+use Rattle.array_memory.specs.Prelude.{Kept, eliding_by, IsElidingOf, next_past, units_of, with_patch_rooms, AreCounts, AreLeftFor, AreUnits, HasRoomForPatches, IsPlacingOf, IsPlanFor, IsPlanOf}
 use Rattle.array_memory.specs.declared.plan.Eliding.{Eliding}
 use Rattle.array_memory.specs.declared.plan.Placing.{Placing}
 use Rattle.array_memory.specs.declared.plan.Plan.{Plan}
 use Rattle.array_memory.specs.declared.plan.Counts.{Counts}
-use Rattle.array_memory.specs.Eliding.{eliding_by, IsElidingOf}
-use Rattle.array_memory.specs.Plan.{next_past, units_of, with_patch_rooms, AreCounts, AreLeftFor, AreUnits, HasRoomForPatches, IsPlacingOf, IsPlanFor, IsPlanOf}
 use Rattle.array_memory.proofs.LastingLemmas.{no_more}
 use Rattle.array_memory.proofs.PlanLemmas.{long_map}
-use Rattle.record_tables.specs.Laws.{HaveFacts}
-use Rattle.record_tables.specs.Patches.{added_patches, by_tag, segments_for, segments_of, FitRecord}
-use Rattle.record_tables.specs.Units.{AreNewUnits}
+use Rattle.record_tables.specs.Prelude.{HaveFacts, added_patches, by_tag, segments_for, segments_of, FitRecord, AreNewUnits}
 use Rattle.record_tables.proofs.Room.{some_groups}
 use Rattle.array_core.specs.declared.array.Array.{Array}
-use Rattle.array_core.specs.Ready.{is_spent, IsArrayOf}
+use Rattle.array_core.specs.Prelude.{is_spent, IsArrayOf}
 use Rattle.array_checkpoint.specs.Room.{HasGroups}
 use Rattle.array_checkpoint.proofs.Rooms.{patches_show}
 use Rattle.array_checkpoint.specs.declared.preparing.Prepared.{Prepared}

@@ -1,15 +1,7 @@
 -- The segments of patches are counted, and the visible data segments are those that the patches show.
 use Rattle.std.proofs.Common.{◌≡◌, ◌∙◌, ℕ, ◌+◌, ◌<◌, List, [], length, drop, ap, get_or}
 use Rattle.std.proofs.lemmas.List.Sums.{sum_by-drop_more}
-use Rattle.pur_base.specs.Facts.{Facts}
-use Rattle.pur_base.specs.Visible.{segments}
-use Rattle.pur_base.specs.declared.facts.ElisionFact.{ElisionFact}
-use Rattle.pur_base.specs.declared.facts.SegmentFact.{SegmentFact}
-use Rattle.boot_codec.specs.declared.patch.Patch.{Patch}
-use Rattle.boot_codec.specs.Record.{patch_segments}
-use Rattle.array_spec.specs.Stored.{all_facts}
-use Rattle.memory_spec.specs.Tables.{Tables, facts, flushed, patches}
-use Rattle.memory_spec.specs.lemmas.Patches.{patches_are_flushed, whole_table}
+use Rattle.session_spec.specs.Prelude.{Facts, segments, ElisionFact, SegmentFact, Patch, patch_segments, all_facts, Tables, facts, flushed, patches, patches_are_flushed, whole_table}
 
 -- one patch more
 pub next_patch : (ps : List Patch) (n : ℕ) (d : Patch) → n < length ps → patch_segments (drop n ps) ≡ length (get_or ps n d).segments + patch_segments (drop (n + 1) ps)

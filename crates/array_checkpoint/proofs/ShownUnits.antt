@@ -1,30 +1,17 @@
 -- What members of a shelf show of the new segments.
 use Rattle.std.proofs.Common.{◌≡◌, ℕ, true, false, List, ◌++◌, length, sym, inl, inr, subst, Contains}
 use Rattle.std.specs.Prelude.{Bool, slice_index_or}
-use Rattle.pur_base.specs.Devices.{Geometry, Image, View}
-use Rattle.pur_base.specs.declared.place.Place.{Place}
-use Rattle.boot_codec.specs.declared.patch.Patch.{Patch}
-use Rattle.boot_codec.specs.declared.record.BootRecord.{BootRecord}
-use Rattle.array_spec.specs.Sound.{ArePlaces}
-use Rattle.array_spec.specs.Stored.{places_of_part}
-use Rattle.array_spec.specs.Held.{AreEnough}
+use Rattle.session_spec.specs.Prelude.{Geometry, Image, View, Place, Patch, BootRecord, ArePlaces, places_of_part, AreEnough, facts, Memory, of_each, AreAmong}
 use Rattle.free_space.specs.Laws.{AreUnitsToTake}
 use Rattle.free_space.specs.Map.{shelf_of}
-use Rattle.memory_spec.specs.Tables.{facts}
-use Rattle.memory_spec.specs.Memory.{Memory}
-use Rattle.memory_spec.specs.lemmas.Lists.{of_each}
-use Rattle.memory_spec.specs.Contents.{AreAmong}
 use Rattle.array_memory.specs.declared.plan.Counts.{Counts}
 use Rattle.array_memory.specs.declared.plan.Plan.{Plan}
-use Rattle.array_memory.specs.Plan.{units_of}
-use Rattle.segment_io.specs.Lost.{is_in}
-use Rattle.segment_io.specs.Places.{place_of}
-use Rattle.segment_io.specs.Views.{ShowsMost}
+use Rattle.array_memory.specs.Prelude.{units_of}
+use Rattle.segment_io.specs.Prelude.{is_in, place_of, ShowsMost}
 use Rattle.segment_writer.specs.PatchStoring as patch
-use Rattle.segment_writer.specs.DataPlacing.{places_in}
+use Rattle.segment_writer.specs.Prelude.{places_in}
 use Rattle.segment_writer.specs.DataStoring as placed
-use Rattle.record_tables.specs.Patches.{added_patches, segments_of}
-use Rattle.record_tables.specs.Units.{AreNewUnits}
+use Rattle.record_tables.specs.Prelude.{added_patches, segments_of, AreNewUnits}
 use Rattle.array_checkpoint.proofs.Stays.{few_missing}
 use Rattle.array_checkpoint.proofs.Units.{data_among}
 use Rattle.array_checkpoint.proofs.PatchUnits.{part_among}

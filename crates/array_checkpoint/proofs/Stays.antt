@@ -2,37 +2,11 @@
 use Rattle.std.proofs.Common.{◌≡◌, ◌⊎◌, inl, inr, ℕ, ◌+◌, ◌*◌, ◌/◌, ◌≤◌, ◌<◌, List, refl, sym, ap, arith, Bool, true, false}
 use Rattle.std.specs.Prelude.{Option, Some, None, count_by, is_none, slice_index_or}
 use Rattle.std.specs.List.{AllByRecursion}
-use Rattle.pur_base.specs.declared.device.Device.TheVariants.{Drive, Nv}
-use Rattle.pur_base.specs.Devices.{Geometry, View, drive}
-use Rattle.pur_base.specs.Visible.{segment}
-use Rattle.pur_base.specs.declared.place.Place.{Place}
-use Rattle.pur_base.specs.declared.facts.SegmentFact.{SegmentFact}
-use Rattle.boot_codec.specs.declared.record.BootRecord.{BootRecord}
-use Rattle.pur_base.specs.Facts.{Facts}
-use Rattle.pur_base.specs.declared.device.Device.{Device}
-use Rattle.array_spec.specs.Counts.{is_used}
-use Rattle.array_spec.specs.Base.{BaseStands}
-use Rattle.array_spec.specs.Meaning.{TablesStand}
-use Rattle.array_spec.specs.Sound.{ArePlaces}
-use Rattle.array_spec.specs.Stored.{all_facts}
-use Rattle.array_spec.specs.lemmas.Fewer.{places_keep, places_count}
-use Rattle.array_spec.specs.lemmas.Quiet.{bytes_same, in_unit}
-use Rattle.array_spec.specs.lemmas.Moves.{Keeps, SameUnit, same_units_keep}
-use Rattle.array_spec.specs.lemmas.Used.{data_is_used}
-use Rattle.array_spec.specs.Held.{AreEnough}
-use Rattle.world.specs.Losing.{geometry_of}
-use Rattle.world.specs.Shelf.{IsShelf, MayStop, Shelved}
-use Rattle.world.specs.Writes.{WritesOnly}
-use Rattle.boot_region.specs.Members.{IsMember}
+use Rattle.session_spec.specs.Prelude.{Drive, Nv, Geometry, View, drive, segment, Place, SegmentFact, BootRecord, Facts, Device, is_used, BaseStands, TablesStand, ArePlaces, all_facts, places_keep, places_count, bytes_same, in_unit, Keeps, SameUnit, same_units_keep, data_is_used, AreEnough, geometry_of, IsShelf, MayStop, Shelved, WritesOnly, Contents, AreAmong, ContentsStand, read_now, counted_alike}
+use Rattle.boot_region.specs.Prelude.{IsMember}
 use Rattle.register.specs.declared.state.Register.{Register}
-use Rattle.register.specs.Registers.{drives_of}
-use Rattle.register.specs.Standing.{Content, StandsInLog}
-use Rattle.register.specs.lemmas.Flags.{in_cut}
-use Rattle.memory_spec.specs.Memory.{Contents}
-use Rattle.memory_spec.specs.Contents.{AreAmong, ContentsStand}
-use Rattle.session_spec.specs.Entering.{read_now}
-use Rattle.array_core.specs.Drives.{drives_view}
-use Rattle.array_spec.specs.lemmas.Next.{counted_alike}
+use Rattle.register.specs.Prelude.{drives_of, Content, StandsInLog, in_cut}
+use Rattle.array_core.specs.Prelude.{drives_view}
 
 -- ---- what segments hold
 

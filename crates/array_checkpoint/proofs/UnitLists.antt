@@ -5,10 +5,9 @@ use Rattle.std.proofs.lemmas.Bool.{cases_lt}
 use Rattle.std.proofs.lemmas.List.{get_or_default, get_or-map, length-map}
 use Rattle.std.proofs.lemmas.List.Elements.{Contains-append_left, Contains-append_right}
 use Rattle.std.proofs.lemmas.Option.{same_Some}
-use Rattle.pyramid.specs.lemmas.Contains.{either, nowhere}
-use Rattle.record_tables.specs.lemmas.Lists.{pairs_across, pairs_back, pairs_front}
+use Rattle.session_spec.specs.Prelude.{either, nowhere, contains_at}
+use Rattle.record_tables.specs.Prelude.{pairs_across, pairs_back, pairs_front}
 use Rattle.record_tables.proofs.Woven.{Woven}
-use Rattle.memory_spec.specs.lemmas.Lists.{contains_at}
 
 -- ---- elements
 

@@ -3,30 +3,18 @@ use Rattle.std.proofs.Common.{◌≡◌, ◌≢◌, ℕ, zero, suc, ◌+◌, ◌
 use Rattle.std.specs.List.{AllByRecursion}
 use Rattle.std.proofs.lemmas.List.{length-map}
 use Rattle.std.proofs.lemmas.List.Elements.{All-from_recursion, Contains-append_left}
-use Rattle.pur_base.specs.Devices.{Geometry}
-use Rattle.pur_base.specs.Facts.{Facts}
-use Rattle.pur_base.specs.declared.limits.TheConstants.{SEGMENT_SECTORS, SEGMENT_SHARDS}
-use Rattle.pur_base.specs.declared.place.Place.{Place}
-use Rattle.pur_base.specs.declared.facts.SegmentFact.{SegmentFact}
-use Rattle.boot_codec.specs.declared.record.BootRecord.{BootRecord}
-use Rattle.boot_codec.specs.Record.{AscendFrom}
+use Rattle.session_spec.specs.Prelude.{Geometry, Facts, SEGMENT_SECTORS, SEGMENT_SHARDS, Place, SegmentFact, BootRecord, AscendFrom, Memory, of_each, in_map, geometry_of, Shelved}
 use Rattle.array_spec.specs.Sound as sound
 use Rattle.free_space.specs.Map.{shelf_of}
 use Rattle.free_space.specs.Laws.{AreUnitsToTake}
-use Rattle.memory_spec.specs.Memory.{Memory}
-use Rattle.memory_spec.specs.lemmas.Lists.{of_each, in_map}
-use Rattle.table_plan.specs.Places.{flagged_from}
-use Rattle.table_plan.specs.Segments.{segments_from}
+use Rattle.table_plan.specs.Prelude.{flagged_from, segments_from}
 use Rattle.table_plan.proofs.SegmentsLemmas.{is_new_segment}
 use Rattle.array_memory.specs.declared.plan.Plan.{Plan}
-use Rattle.array_memory.specs.Plan.{units_of, IsPlanFor}
-use Rattle.world.specs.Losing.{geometry_of}
-use Rattle.world.specs.Shelf.{Shelved}
-use Rattle.segment_io.specs.Places.{ArePlaces, place_of}
+use Rattle.array_memory.specs.Prelude.{units_of, IsPlanFor}
+use Rattle.segment_io.specs.Prelude.{ArePlaces, place_of}
 use Rattle.patch_io.proofs.Parts.{segment_places}
-use Rattle.segment_writer.specs.DataPlacing.{AreApart, AreFilled, AreIndicesOf, HavePlaces, MayBePlaced, places_in, segment_in}
-use Rattle.record_tables.specs.Units.{AreNewUnits}
-use Rattle.record_tables.specs.lemmas.Lists.{pairs_front}
+use Rattle.segment_writer.specs.Prelude.{AreApart, AreFilled, AreIndicesOf, HavePlaces, MayBePlaced, places_in, segment_in}
+use Rattle.record_tables.specs.Prelude.{AreNewUnits, pairs_front}
 use Rattle.array_checkpoint.proofs.UnitLists.{in_at, pairs_of_map, pairs_two}
 
 -- ---- units that are apart

@@ -1,33 +1,16 @@
 -- What the writes of a prepared checkpoint leave: only free units were written, and at every moment a session can go on.
 use Rattle.std.proofs.Common.{◌≡◌, inl, inr, ℕ, List, [], ◌∷◌, sym, subst, Bool, true}
 use Rattle.std.proofs.lemmas.Bool.{cases_Bool}
-use Rattle.pur_base.specs.Devices.{View}
-use Rattle.pur_base.specs.declared.device.Device.{Device}
-use Rattle.boot_codec.specs.declared.patch.Patch.{Patch}
-use Rattle.array_spec.specs.Counts.{IsFree}
-use Rattle.array_spec.specs.Stored.{all_facts}
-use Rattle.world.specs.Shelf.{Shelved, Continues, LeavesOnly, IsShelf}
-use Rattle.world.specs.Losing.{geometry_of}
-use Rattle.world.specs.Writes.{WritesOnly}
-use Rattle.world.specs.lemmas.Writes.{writes_more}
+use Rattle.session_spec.specs.Prelude.{View, Device, Patch, IsFree, all_facts, Shelved, Continues, LeavesOnly, IsShelf, geometry_of, WritesOnly, writes_more, facts}
 use Rattle.register.specs.declared.state.Register.{Register}
-use Rattle.register.specs.Standing.{Content, array_of}
-use Rattle.memory_spec.specs.Tables.{facts}
+use Rattle.register.specs.Prelude.{Content, array_of}
 use Rattle.array_memory.specs.declared.plan.Plan.{Plan}
-use Rattle.record_tables.specs.Laws.{new_facts}
-use Rattle.segment_io.specs.Lost.{is_in, LosesOnly}
-use Rattle.segment_io.specs.Stripes.{bytes_of}
-use Rattle.segment_writer.specs.DataStanding.{DataStands}
-use Rattle.segment_writer.specs.DataStoring.{ShowsMostOf}
-use Rattle.segment_writer.specs.Layout.{StaysClean}
-use Rattle.segment_writer.specs.CheckpointStoring.{IsOnCheckpoint, OnCheckpoint}
-use Rattle.segment_writer.specs.CheckpointStanding.{FactsStand}
-use Rattle.array_core.specs.Free.{OnFree, WritesFree}
+use Rattle.record_tables.specs.Prelude.{new_facts}
+use Rattle.segment_io.specs.Prelude.{is_in, LosesOnly, bytes_of}
+use Rattle.segment_writer.specs.Prelude.{DataStands, ShowsMostOf, StaysClean, IsOnCheckpoint, OnCheckpoint, FactsStand}
+use Rattle.array_core.specs.Prelude.{OnFree, WritesFree, IsArrayOf, IsReady, IsKeptAt, AreLost, WroteFree}
 use Rattle.array_core.proofs.Standing.{member_clean}
 use Rattle.array_core.specs.declared.array.Array.{Array}
-use Rattle.array_core.specs.Ready.{IsArrayOf, IsReady}
-use Rattle.array_core.specs.Performing.{IsKeptAt}
-use Rattle.array_core.specs.Switching.{AreLost, WroteFree}
 use Rattle.array_core.proofs.FreeWrites.{free_writes_go_on}
 use Rattle.array_checkpoint.specs.declared.preparing.Prepared.{Prepared}
 use Rattle.array_checkpoint.specs.Prepared.{IsPreparedFor}

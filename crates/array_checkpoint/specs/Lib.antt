@@ -1,3 +1,4 @@
 pub mod Prepared
 pub mod Room
 pub mod Made
+pub mod Prelude

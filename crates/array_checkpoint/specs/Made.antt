@@ -1,20 +1,13 @@
 -- What a checkpoint makes of an array, and of its devices.
 use Rattle.std.specs.Prelude.{◌≡◌, ℕ, ◌+◌, ◌<◌, ◌≤◌, List, [], length, None, Contains}
-use Rattle.pur_base.specs.Facts.{Facts}
-use Rattle.pur_base.specs.Visible.{segment}
-use Rattle.boot_codec.specs.Record.{patch_segments}
-use Rattle.world.specs.Shelf.{Shelved}
-use Rattle.register.specs.Standing.{Content, array_of}
-use Rattle.memory_spec.specs.Memory.{Contents, Memory}
-use Rattle.memory_spec.specs.Tables.{facts, patches}
-use Rattle.table_plan.specs.Planned.{extended, sectors_at}
+use Rattle.session_spec.specs.Prelude.{Facts, segment, patch_segments, Shelved, Contents, Memory, facts, patches}
+use Rattle.register.specs.Prelude.{Content, array_of}
+use Rattle.table_plan.specs.Prelude.{extended, sectors_at}
 use Rattle.array_memory.specs.declared.limits.TheConstants.{ELIDED_SEGMENTS}
 use Rattle.array_memory.specs.declared.plan.Plan.{Plan}
-use Rattle.array_memory.specs.Eliding.{AreLowestUnused}
-use Rattle.array_memory.specs.Plan.{after_plan, next_past}
+use Rattle.array_memory.specs.Prelude.{AreLowestUnused, after_plan, next_past}
 use Rattle.array_core.specs.declared.array.Array.{Array}
-use Rattle.array_core.specs.Going.{by_faults}
-use Rattle.array_core.specs.Goes.{Halts}
+use Rattle.array_core.specs.Prelude.{by_faults, Halts}
 use Rattle.array_checkpoint.specs.declared.making.CheckpointFault.{CheckpointFault}
 use Rattle.array_checkpoint.specs.declared.making.CheckpointFault.TheVariants as fault
 use Rattle.array_checkpoint.specs.declared.limits.TheConstants.{DATA_SEGMENTS, NEW_PATCHES}

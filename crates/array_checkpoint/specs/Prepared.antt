@@ -1,13 +1,9 @@
 -- What a checkpoint writes and stores, once all memory is taken for it.
 use Rattle.std.specs.Prelude.{◌≡◌, ◌+◌, ◌≤◌, ◌++◌, List, length}
-use Rattle.pur_base.specs.declared.place.Place.{Place}
-use Rattle.memory_spec.specs.Tables.{facts}
+use Rattle.session_spec.specs.Prelude.{Place, facts}
 use Rattle.array_memory.specs.declared.plan.Counts.{Counts}
-use Rattle.array_memory.specs.Eliding.{eliding_by}
-use Rattle.array_memory.specs.Plan.{next_past, units_of, with_patch_rooms, AreCounts, IsPlanOf}
-use Rattle.record_tables.specs.Patches.{added_patches, by_tag, segments_of, FitRecord}
-use Rattle.record_tables.specs.Units.{AreNewUnits}
-use Rattle.record_tables.specs.Laws.{HaveFacts}
+use Rattle.array_memory.specs.Prelude.{eliding_by, next_past, units_of, with_patch_rooms, AreCounts, IsPlanOf}
+use Rattle.record_tables.specs.Prelude.{added_patches, by_tag, segments_of, FitRecord, AreNewUnits, HaveFacts}
 use Rattle.array_core.specs.declared.array.Array.{Array}
 use Rattle.array_checkpoint.specs.declared.preparing.Prepared.{Prepared}
 use Rattle.array_checkpoint.specs.declared.limits.TheConstants.{DATA_SEGMENTS, NEW_PATCHES}

@@ -1,12 +1,9 @@
 -- What is left for more commands, beside slots of the log.
 use Rattle.std.specs.Prelude.{◌≡◌, ◌<◌, ◌≤◌, ℕ, true, false}
-use Rattle.boot_codec.specs.Record.{patch_segments}
-use Rattle.array_spec.specs.Counts.{IsGroups, free_of_members}
-use Rattle.array_spec.specs.Stored.{all_facts}
-use Rattle.memory_spec.specs.Tables.{patches}
+use Rattle.session_spec.specs.Prelude.{patch_segments, IsGroups, free_of_members, all_facts, patches}
 use Rattle.session_spec.specs.declared.limits.TheConstants.{ADDING_GROUPS, CHECKPOINT_GROUPS, LIMITED_SEGMENTS, SEGMENTS_END}
 use Rattle.array_core.specs.declared.array.Array.{Array}
-use Rattle.array_core.specs.Ready.{is_spent}
+use Rattle.array_core.specs.Prelude.{is_spent}
 use Rattle.array_checkpoint.specs.declared.room.Room.{Room}
 use Rattle.array_checkpoint.specs.declared.room.RoomFault.{RoomFault}
 use Rattle.array_checkpoint.specs.declared.room.RoomFault.TheVariants as fault

@@ -3,33 +3,12 @@ use Rattle.std.proofs.Common.{◌≡◌, ◌≢◌, ℕ, ◌+◌, ◌^◌, ◌�
 use Rattle.std.specs.Prelude.{Option, Some, None, AllPairs, Contains, filter_map, map, ◌++◌}
 use Rattle.std.specs.List.{AllByRecursion}
 use Rattle.std.proofs.lemmas.List.{length-replicate}
-use Rattle.pur_base.specs.Commands.{Command}
-use Rattle.pur_base.specs.Devices.{Geometry}
-use Rattle.pur_base.specs.Facts.{Facts, segment_key, never}
-use Rattle.pur_base.specs.Grammar.{data_count}
-use Rattle.pur_base.specs.Keys.{key_of}
-use Rattle.pur_base.specs.Sectors.{filled}
-use Rattle.pur_base.specs.Visible.{segment, ids_below, is_elided}
-use Rattle.pur_base.specs.Says.{says}
+use Rattle.session_spec.specs.Prelude.{Command, Geometry, Facts, segment_key, never, data_count, key_of, filled, segment, ids_below, is_elided, says, says_is, AddressFact, ObjectFact, SegmentFact, Request, BootRecord, NextNumbers, AreSegmentsSound, AreApart, named_segments, used_places, put, next_after, next_after_all, Tables, facts, patches, each_by_recursion, of_each}
 use Rattle.pur_base.specs.declared.request.Table.TheVariants as table
-use Rattle.pur_base.specs.lemmas.Says.{says_is}
 use Rattle.pur_base.specs.declared.facts.AnyFact.TheVariants as any
-use Rattle.pur_base.specs.declared.facts.AddressFact.{AddressFact}
-use Rattle.pur_base.specs.declared.facts.ObjectFact.{ObjectFact}
-use Rattle.pur_base.specs.declared.facts.SegmentFact.{SegmentFact}
-use Rattle.pur_base.specs.declared.request.Request.{Request}
 use Rattle.pur_base.specs.declared.request.Request.TheVariants as request
-use Rattle.boot_codec.specs.declared.record.BootRecord.{BootRecord}
-use Rattle.boot_codec.specs.declared.record.NextNumbers.{NextNumbers}
-use Rattle.array_spec.specs.Sound.{AreSegmentsSound, AreApart, named_segments, used_places}
-use Rattle.register.specs.Registers.{IsLaterRecord}
-use Rattle.memory_spec.specs.Numbers.{put, next_after, next_after_all}
-use Rattle.memory_spec.specs.Tables.{Tables, facts, patches}
-use Rattle.memory_spec.specs.lemmas.Lists.{each_by_recursion, of_each}
-use Rattle.array_memory.specs.Asked.{HasRoomLeft, added, staged_by, staged_count}
-use Rattle.array_memory.specs.Kept.{Kept, IsKept, HasSamePatches}
-use Rattle.array_memory.specs.Lawful.{IsLawful}
-use Rattle.array_memory.specs.Plan.{HasRoomAgain}
+use Rattle.register.specs.Prelude.{IsLaterRecord}
+use Rattle.array_memory.specs.Prelude.{HasRoomLeft, added, staged_by, staged_count, Kept, IsKept, HasSamePatches, IsLawful, HasRoomAgain}
 use Rattle.array_core.specs.Room.{HasCapacity, HasRoomFor}
 
 -- ---- room

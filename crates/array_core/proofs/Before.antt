@@ -2,21 +2,11 @@
 use Rattle.std.proofs.Common.{◌≡◌, ◌⊎◌, inl, inr, ℕ, ◌/◌, ◌<◌, List, [], length, refl, sym, subst, arith, Bool, false}
 use Rattle.std.specs.Prelude.{slice_index, slice_index_or, if◌then◌else◌}
 use Rattle.std.proofs.lemmas.Bool.{cases_Bool, cases_lt}
-use Rattle.pur_base.specs.declared.device.Device.{Device}
+use Rattle.session_spec.specs.Prelude.{Device, Image, drive, Facts, BootRecord, IsFree, is_used, DiffersOnlyIn, all_facts, Shelved, Stop, MayLeave, MayStop, IsInSome, Span, MayLeaveBut}
 use Rattle.pur_base.specs.declared.device.Device.TheVariants as dev
-use Rattle.pur_base.specs.Devices.{Image, drive}
-use Rattle.pur_base.specs.Facts.{Facts}
-use Rattle.boot_codec.specs.declared.record.BootRecord.{BootRecord}
-use Rattle.array_spec.specs.Counts.{IsFree, is_used}
-use Rattle.array_spec.specs.Laws.{DiffersOnlyIn}
-use Rattle.array_spec.specs.Stored.{all_facts}
-use Rattle.world.specs.Shelf.{Shelved, Stop, MayLeave, MayStop, IsInSome}
-use Rattle.world.specs.declared.shelf.Span.{Span}
-use Rattle.world.specs.Writes.{MayLeaveBut}
-use Rattle.boot_region.specs.Members.{IsMember}
+use Rattle.boot_region.specs.Prelude.{IsMember}
 use Rattle.register.specs.declared.state.Register.{Register}
-use Rattle.register.specs.Registers.{drives_of}
-use Rattle.register.specs.Standing.{Content}
+use Rattle.register.specs.Prelude.{drives_of, Content}
 use Rattle.array_core.specs.Free.{OnFree}
 
 -- a unit is free or it isn't

@@ -3,24 +3,10 @@ use Rattle.std.proofs.Common.{◌≡◌, inl, inr, ℕ, ◌+◌, ◌≤◌, List
 use Rattle.std.specs.Prelude.{Some, is_none, count_by, slice_index_or}
 use Rattle.std.specs.List.{range_with_len}
 use Rattle.std.proofs.lemmas.Bool.{cases_Bool}
-use Rattle.pur_base.specs.Devices.{Geometry, slots_of, drive}
-use Rattle.pur_base.specs.declared.device.Device.{Device}
-use Rattle.pur_base.specs.Facts.{Facts}
-use Rattle.pur_base.specs.Visible.{segment}
-use Rattle.pur_base.specs.declared.facts.SegmentFact.{SegmentFact}
-use Rattle.boot_codec.specs.Record.{set_count}
-use Rattle.array_spec.specs.Sound.{ArePlaces}
-use Rattle.array_spec.specs.Held.{AreEnough}
-use Rattle.world.specs.Losing.{geometry_of}
-use Rattle.world.specs.Shelf.{Shelved}
-use Rattle.world.specs.Ran.{Runs}
-use Rattle.boot_region.specs.Members.{IsMember}
+use Rattle.session_spec.specs.Prelude.{Geometry, slots_of, drive, Device, Facts, segment, SegmentFact, set_count, ArePlaces, AreEnough, geometry_of, Shelved, Runs, Contents, AreAmong}
+use Rattle.boot_region.specs.Prelude.{IsMember}
 use Rattle.register.specs.declared.state.Register.{Register}
-use Rattle.register.specs.Registers.{drives_of}
-use Rattle.register.specs.lemmas.Flags.{in_cut}
-use Rattle.register.specs.lemmas.Stores.{fewer_cut}
-use Rattle.memory_spec.specs.Memory.{Contents}
-use Rattle.memory_spec.specs.Contents.{AreAmong}
+use Rattle.register.specs.Prelude.{drives_of, in_cut, fewer_cut}
 use Rattle.array_core.specs.Changing.{LeavesFewer}
 use Rattle.array_core.specs.Drives.{SegmentsHold, drives_view}
 use Rattle.array_core.proofs.Segments.{AreKept, drives_left, few_bad, hold_kept, off_slots}

@@ -1,34 +1,17 @@
 -- An open array: what an image in which the drives are as they were stands for, by what the NVRAM devices show, whatever more is missing.
 use Rattle.std.proofs.Common.{◌≡◌, ℕ, ◌<◌, List, refl, ap, Bool, false}
 use Rattle.std.specs.Prelude.{Some}
-use Rattle.pur_base.specs.Devices.{Image, Conditions, Sound, LeftOut, IsBearable, IsWithin, drive, nvram}
-use Rattle.pur_base.specs.declared.device.Device.{Device}
-use Rattle.pur_base.specs.Plain.{Array}
-use Rattle.pur_base.specs.Commands.{Command}
-use Rattle.boot_codec.specs.declared.record.BootRecord.{BootRecord}
-use Rattle.boot_codec.specs.Spelling.{spelling}
-use Rattle.boot_codec.specs.Region.{BootSlot, shown_by, names}
-use Rattle.array_spec.specs.Standing.{Stands, MayBeGiven, MayAppear}
-use Rattle.array_spec.specs.Laws.{IsHeld}
-use Rattle.array_spec.specs.Unflushed.{LogLies, NamesSound}
-use Rattle.array_spec.specs.lemmas.Votes.{held_is_given, sound_before}
+use Rattle.session_spec.specs.Prelude.{Image, Conditions, Sound, LeftOut, IsBearable, IsWithin, drive, nvram, Device, Array, Command, BootRecord, spelling, BootSlot, shown_by, names, Stands, MayBeGiven, MayAppear, IsHeld, LogLies, NamesSound, held_is_given, sound_before, TablesHold, NamesNoneLeftOut, record_is_read, Shelved, IsShelf, geometry_of, was_left_out}
 use Rattle.array_spec.proofs.Held.{held_stands}
-use Rattle.array_spec.specs.Held.{TablesHold, NamesNoneLeftOut}
-use Rattle.array_spec.specs.lemmas.Reading.{record_is_read}
-use Rattle.world.specs.Shelf.{Shelved, IsShelf}
-use Rattle.world.specs.Losing.{geometry_of}
-use Rattle.boot_region.specs.Members.{IsMember}
+use Rattle.boot_region.specs.Prelude.{IsMember, shown_body}
 use Rattle.boot_region.proofs.Composing.{as_it_is}
-use Rattle.boot_region.specs.lemmas.Shown.{shown_body}
 use Rattle.nvram_log.specs.Members as nv
-use Rattle.nvram_log.specs.Slots.{IsBetween}
+use Rattle.nvram_log.specs.Prelude.{IsBetween}
 use Rattle.register.specs.declared.state.Register.{Register}
-use Rattle.register.specs.Registers.{drives_of, own_slot, named_sound}
-use Rattle.register.specs.Standing.{Content, IsOpen}
+use Rattle.register.specs.Prelude.{drives_of, own_slot, named_sound, Content, IsOpen}
 use Rattle.array_core.specs.Logging.{LeadTo}
 use Rattle.array_core.proofs.Reopened.{not_spent, nvram_named}
 use Rattle.array_core.proofs.Alone.{alone_in, held}
-use Rattle.array_spec.specs.lemmas.UnflushedRead.{was_left_out}
 use Rattle.register.proofs.Opened.{is_left, is_named}
 
 module _ (shelf : Shelved) (is : IsShelf shelf) (h : shelf.honest) (r : Register) (nvrams : List Bool) (content : Content) (o : IsOpen shelf r nvrams content) (image : Image) (later : Conditions)

@@ -1,25 +1,12 @@
 -- What a change of the log and a store leave, and one change after another.
 use Rattle.std.proofs.Common.{◌≡◌, ◌⊎◌, inl, inr, ℕ, ◌+◌, ◌≤◌, List, [], length, sym, ◌∙◌, ap, subst, arith, Bool, Result, Ok, Err, OnOk, OnErr}
-use Rattle.pur_base.specs.Devices.{Geometry, drive, nvram}
-use Rattle.pur_base.specs.Facts.{Facts}
-use Rattle.pur_base.specs.Visible.{segment}
-use Rattle.pur_base.specs.declared.facts.SegmentFact.{SegmentFact}
-use Rattle.boot_codec.specs.declared.record.BootRecord.{BootRecord}
-use Rattle.boot_codec.specs.Record.{set_count}
-use Rattle.array_spec.specs.Sound.{ArePlaces}
+use Rattle.session_spec.specs.Prelude.{Geometry, drive, nvram, Facts, segment, SegmentFact, BootRecord, set_count, ArePlaces, geometry_of, Shelved, Continues, Contents}
 use Rattle.std.specs.Prelude.{Some}
-use Rattle.world.specs.Losing.{geometry_of}
-use Rattle.world.specs.Shelf.{Shelved, Continues}
-use Rattle.boot_region.specs.Members.{IsMember, DroppedFailed, LostWrites}
+use Rattle.boot_region.specs.Prelude.{IsMember, DroppedFailed, LostWrites}
 use Rattle.nvram_log.specs.Members as nv
 use Rattle.register.specs.declared.state.Register.{Register}
 use Rattle.register.specs.declared.tables.Tables.{Tables}
-use Rattle.register.specs.Registers.{IsLaterRecord, drives_of}
-use Rattle.register.specs.Standing.{Content}
-use Rattle.register.specs.Storing.{DropsOnlyFailed, IsUnstored}
-use Rattle.register.specs.Tables.{with_tables}
-use Rattle.register.specs.lemmas.Stores.{on_err}
-use Rattle.memory_spec.specs.Memory.{Contents}
+use Rattle.register.specs.Prelude.{IsLaterRecord, drives_of, Content, DropsOnlyFailed, IsUnstored, with_tables, on_err}
 use Rattle.array_core.specs.declared.array.Array.{Array}
 use Rattle.array_core.specs.Changing.{KeepsTables, LeavesFewer, OnlyFaults}
 use Rattle.array_core.specs.Drives.{SegmentsHold}

@@ -2,9 +2,7 @@
 use Rattle.std.proofs.Common.{◌≡◌, ℕ, zero, suc, List, [], ◌∷◌, ◌++◌, refl, subst, true}
 use Rattle.std.specs.Prelude.{Some, slice_get}
 use Rattle.std.specs.List.{AllByRecursion}
-use Rattle.pur_base.specs.Grammar.{is_in_force}
-use Rattle.pur_base.specs.Plain.{Array}
-use Rattle.pur_base.specs.Commands.{Command, Accepts, AllAccepted, after, after_all}
+use Rattle.session_spec.specs.Prelude.{is_in_force, Array, Command, Accepts, AllAccepted, after, after_all}
 
 -- one more accepted command
 pub accept_last : (a : Array) (cmds : List Command) (c : Command) → AllAccepted a cmds → Accepts (after_all a cmds) c → AllAccepted a (cmds ++ c ∷ [])

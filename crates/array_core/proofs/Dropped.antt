@@ -2,25 +2,12 @@
 use Rattle.std.proofs.Common.{◌≡◌, ◌⊎◌, inl, inr, ℕ, ◌+◌, ◌<◌, ◌≤◌, List, [], ◌∷◌, length, refl, sym, ◌∙◌, ap, subst, arith, Bool, true, false}
 use Rattle.std.proofs.lemmas.Bool.{cases_Bool}
 use Rattle.std.proofs.lemmas.List.{length-take}
-use Rattle.pur_base.specs.Devices.{Geometry, drive, nvram}
-use Rattle.pur_base.specs.declared.device.Device.{Device}
-use Rattle.pur_base.specs.declared.device.Device.TheVariants.{Drive, Nv}
-use Rattle.boot_codec.specs.declared.record.BootRecord.{BootRecord}
-use Rattle.boot_codec.specs.Record.{set_count}
-use Rattle.boot_codec.specs.Region.{names}
-use Rattle.world.specs.Counts.{Rises}
-use Rattle.world.specs.Losing.{has_risen}
-use Rattle.world.specs.Shelf.{Shelved, Disk, IsCountedBy, LeavesOnly}
-use Rattle.world.specs.Writes.{WritesOnly}
-use Rattle.world.specs.lemmas.Moments.{weaker}
-use Rattle.boot_region.specs.Members.{IsMember, DroppedFailed}
+use Rattle.session_spec.specs.Prelude.{Geometry, drive, nvram, Device, Drive, Nv, BootRecord, set_count, names, Rises, has_risen, Shelved, Disk, IsCountedBy, LeavesOnly, WritesOnly, weaker, MayRise}
+use Rattle.boot_region.specs.Prelude.{IsMember, DroppedFailed, member_below}
 use Rattle.boot_region.proofs.Phases.{risen_on_way}
-use Rattle.boot_region.specs.lemmas.Shown.{member_below}
 use Rattle.nvram_log.specs.Members as nv
 use Rattle.register.specs.declared.state.Register.{Register}
-use Rattle.register.specs.Registers.{IsRegisterOf, IsLaterRecord, drives_of}
-use Rattle.register.specs.lemmas.Flags.{few_set, fewer_count, in_cut, cut_in}
-use Rattle.session_spec.specs.Faring.{MayRise}
+use Rattle.register.specs.Prelude.{IsRegisterOf, IsLaterRecord, drives_of, few_set, fewer_count, in_cut, cut_in}
 use Rattle.array_core.specs.declared.array.Array.{Array}
 use Rattle.array_core.specs.Holding.{IsHolder, DropsFailedBy, NoneJoins}
 

@@ -1,35 +1,12 @@
 -- Free units of an open array were written: what a stop in these writes leaves, and what its drives show after them.
 use Rattle.std.proofs.Common.{◌≡◌, inl, inr, ℕ, ◌+◌, ◌≤◌, ◌<◌, List, [], ◌∷◌, refl, sym, ◌∙◌, ap, subst, arith, Bool, true, false}
 use Rattle.std.specs.Prelude.{slice_index}
-use Rattle.pur_base.specs.Commands.{Command}
-use Rattle.pur_base.specs.Devices.{Geometry, Conditions, Sound, LeftOut, IsBearable, IsWithin, drive, nvram}
-use Rattle.pur_base.specs.declared.device.Device.{Device}
-use Rattle.pur_base.specs.Grammar.{is_in_force}
-use Rattle.boot_codec.specs.declared.record.BootRecord.{BootRecord}
-use Rattle.boot_codec.specs.Spelling.{spelling}
-use Rattle.boot_codec.specs.Region.{BootSlot, A, B, body_in, body_place, gate_place, generation_in, names, other_slot, shown_by, Yields}
-use Rattle.log_codec.specs.Log.{ShowsIn}
-use Rattle.array_spec.specs.Standing.{MayBeGiven}
-use Rattle.array_spec.specs.lemmas.Quiet.{bytes_same}
-use Rattle.array_spec.specs.lemmas.Standings.{more_may_go_missing}
-use Rattle.world.specs.Losing.{geometry_of, has_risen}
-use Rattle.world.specs.Shelf.{Shelved, Disk, Stop, IsShelf, IsInSome, MayStop}
-use Rattle.world.specs.declared.shelf.Span.{Span}
-use Rattle.world.specs.Writes.{LeavesBut}
-use Rattle.world.specs.lemmas.Moments.{weaker}
-use Rattle.world.specs.lemmas.Writes.{may_leave_but, counted_then}
-use Rattle.world.specs.lemmas.Stopped.{as_read}
-use Rattle.boot_region.specs.Members.{IsMember}
-use Rattle.boot_region.specs.Storing.{IsOlder}
-use Rattle.boot_region.specs.lemmas.Accounts.{losing_within}
+use Rattle.session_spec.specs.Prelude.{Command, Geometry, Conditions, Sound, LeftOut, IsBearable, IsWithin, drive, nvram, Device, is_in_force, BootRecord, spelling, BootSlot, A, B, body_in, body_place, gate_place, generation_in, names, other_slot, shown_by, Yields, ShowsIn, MayBeGiven, bytes_same, more_may_go_missing, geometry_of, has_risen, Shelved, Disk, Stop, IsShelf, IsInSome, MayStop, Span, LeavesBut, weaker, may_leave_but, counted_then, as_read, left_out_once}
+use Rattle.boot_region.specs.Prelude.{IsMember, IsOlder, losing_within, member_below}
 use Rattle.boot_region.proofs.Phases.{risen_on_way}
-use Rattle.boot_region.specs.lemmas.Shown.{member_below}
 use Rattle.nvram_log.specs.Members as nv
 use Rattle.register.specs.declared.state.Register.{Register}
-use Rattle.register.specs.Registers.{OnSlots, drives_of, named_sound, next_slot}
-use Rattle.register.specs.Standing.{Content, IsOpen, MayStore, array_of}
-use Rattle.register.specs.lemmas.Flags.{in_cut, cut_in}
-use Rattle.register.specs.lemmas.Stores.{fewer_cut}
+use Rattle.register.specs.Prelude.{OnSlots, drives_of, named_sound, next_slot, Content, IsOpen, MayStore, array_of, in_cut, cut_in, fewer_cut}
 use Rattle.array_core.specs.Free.{OnFree, WritesFree, AreSynced, IsKnownOf}
 use Rattle.array_core.proofs.Kept.{free_writes_may_store}
 use Rattle.array_core.proofs.Standing.{member_clean, member_sound, still}
@@ -46,7 +23,6 @@ use Rattle.array_core.proofs.Logged.{nothing_else}
 use Rattle.array_core.proofs.Kept.{not_free}
 use Rattle.register.proofs.Opened.{is_left, is_named}
 use Rattle.register.proofs.Rounds.{same_shelf}
-use Rattle.session_spec.specs.lemmas.Conditions.{left_out_once}
 
 body_low : (slot : BootSlot) → body_place slot + 65536 ≤ 196608
 body_low A = omega arith

@@ -1,14 +1,7 @@
 -- An array that goes on goes on from there.
 use Rattle.std.proofs.Common.{◌≡◌, inl, inr, false, List, ◌++◌, sym, subst, arith}
-use Rattle.pur_base.specs.declared.device.Device.{Device}
-use Rattle.pur_base.specs.Devices.{Conditions, Geometry, Sound, IsBearable}
+use Rattle.session_spec.specs.Prelude.{Device, Conditions, Geometry, Sound, IsBearable, Command, after_all, geometry_of, has_risen, Shelved, Stop, IsCountedBy, Continues, LeavesOnly, continues_trans, then_run, weaker, Contents, ReadsAs, IsStanding}
 use Rattle.pur_base.specs.Plain as plain
-use Rattle.pur_base.specs.Commands.{Command, after_all}
-use Rattle.world.specs.Losing.{geometry_of, has_risen}
-use Rattle.world.specs.Shelf.{Shelved, Stop, IsCountedBy, Continues, LeavesOnly}
-use Rattle.world.specs.lemmas.Moments.{continues_trans, then_run, weaker}
-use Rattle.memory_spec.specs.Memory.{Contents, ReadsAs}
-use Rattle.session_spec.specs.Entering.{IsStanding}
 use Rattle.array_core.specs.declared.array.Array.{Array}
 use Rattle.array_core.specs.Holding.{IsHolder}
 use Rattle.array_core.specs.Losing.{lost_by, lost_since}

@@ -1,13 +1,8 @@
 -- Who holds the array along a way, and which conditions agree with the record on it.
 use Rattle.std.proofs.Common.{◌≡◌, ◌⊎◌, inl, inr, Bool, true, false, refl, arith}
-use Rattle.pur_base.specs.declared.device.Device.{Device}
-use Rattle.pur_base.specs.Devices.{Conditions}
-use Rattle.boot_codec.specs.Region.{names}
-use Rattle.world.specs.Counts.{Rises}
-use Rattle.world.specs.Losing.{has_risen}
-use Rattle.world.specs.Shelf.{Shelved, Continues}
+use Rattle.session_spec.specs.Prelude.{Device, Conditions, names, Rises, has_risen, Shelved, Continues, left_out_once}
 use Rattle.boot_region.proofs.Stored.{rises_between}
-use Rattle.register.specs.Standing.{Content}
+use Rattle.register.specs.Prelude.{Content}
 use Rattle.array_core.specs.declared.array.Array.{Array}
 use Rattle.array_core.specs.Ready.{IsReady}
 use Rattle.array_core.specs.Holding.{IsHolder}
@@ -16,7 +11,6 @@ use Rattle.array_core.specs.lemmas.Losses.{sound_since}
 use Rattle.array_core.proofs.Lost.{not_risen}
 use Rattle.array_core.proofs.ReadyStands.{ready_holds, ready_names}
 use Rattle.array_core.specs.Going.{AgreesFor, Causes, HandsOn}
-use Rattle.session_spec.specs.lemmas.Conditions.{left_out_once}
 
 pub unless : (b : Bool) → (b ≡ true → ⊥) → b ≡ false
 unless true refuse = absurd (refuse refl)

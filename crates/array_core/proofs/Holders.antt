@@ -1,15 +1,10 @@
 -- Who holds the array once other tables are those of its record.
 use Rattle.std.proofs.Common.{◌≡◌, ◌⊎◌, inl, inr, ℕ, List, subst, arith, Bool, true}
-use Rattle.pur_base.specs.declared.device.Device.{Device}
-use Rattle.pur_base.specs.declared.device.Device.TheVariants.{Drive, Nv}
-use Rattle.pur_base.specs.Devices.{Geometry}
-use Rattle.boot_codec.specs.Region.{names}
-use Rattle.world.specs.Shelf.{Shelved, Continues}
-use Rattle.boot_region.specs.Members.{IsMember, IsOneOf, IsDrive, DroppedFailed}
+use Rattle.session_spec.specs.Prelude.{Device, Drive, Nv, Geometry, names, Shelved, Continues}
+use Rattle.boot_region.specs.Prelude.{IsMember, IsOneOf, IsDrive, DroppedFailed}
 use Rattle.nvram_log.specs.Members as nv
 use Rattle.register.specs.declared.state.Register.{Register}
-use Rattle.register.specs.Registers.{IsRegisterOf, OnSlots, drives_of}
-use Rattle.register.specs.lemmas.Stores.{fewer_cut, on_more}
+use Rattle.register.specs.Prelude.{IsRegisterOf, OnSlots, drives_of, fewer_cut, on_more}
 use Rattle.array_core.specs.Holding.{DropsFailedBy, IsHolderBy, NoneJoinsBy}
 use Rattle.array_core.specs.Performing.{IsLostBy}
 use Rattle.array_core.specs.Switching.{OnSlotsAndLog}

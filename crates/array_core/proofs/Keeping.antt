@@ -1,26 +1,10 @@
 -- A session can go on at a stop: in the conditions of the record, so in all that agree with it, and so counted since an earlier moment.
 use Rattle.std.proofs.Common.{◌≡◌, ◌⊎◌, inl, inr, ℕ, List, refl, sym, subst, arith, Bool, true, false}
-use Rattle.pur_base.specs.Bytes.{IsBytes}
-use Rattle.pur_base.specs.Commands.{Command}
-use Rattle.pur_base.specs.Devices.{Geometry, Image, Condition, Conditions, Sound, Missing, LeftOut, IsBearable, is_missing, nvram}
-use Rattle.pur_base.specs.declared.device.Device.{Device}
-use Rattle.pur_base.specs.Grammar.{is_in_force}
-use Rattle.pur_base.specs.Plain.{Array}
-use Rattle.boot_codec.specs.declared.record.BootRecord.{BootRecord}
-use Rattle.boot_codec.specs.Region.{BootSlot, names}
-use Rattle.log_codec.specs.Log.{ShowsIn}
-use Rattle.array_spec.specs.Standing.{Stands, MayBeGiven}
-use Rattle.world.specs.Counts.{Rises}
-use Rattle.world.specs.Losing.{geometry_of, has_risen, losing}
-use Rattle.world.specs.Shelf.{Shelved, Stop, Continues, IsCountedBy, LeavesOnly}
-use Rattle.world.specs.Writes.{WritesOnly}
-use Rattle.world.specs.lemmas.Moments.{weaker}
+use Rattle.session_spec.specs.Prelude.{IsBytes, Command, Geometry, Image, Condition, Conditions, Sound, Missing, LeftOut, IsBearable, is_missing, nvram, Device, is_in_force, Array, BootRecord, BootSlot, names, ShowsIn, Stands, MayBeGiven, Rises, geometry_of, has_risen, losing, Shelved, Stop, Continues, IsCountedBy, LeavesOnly, WritesOnly, weaker, IsStanding, borne_on, still_sound, left_out_once}
 use Rattle.boot_region.proofs.Phases.{risen_on_way}
-use Rattle.register.specs.Registers.{named_sound}
+use Rattle.register.specs.Prelude.{named_sound}
 use Rattle.register.proofs.Again.{not_risen_since}
 use Rattle.array_core.proofs.Standing.{are_sound}
-use Rattle.session_spec.specs.Entering.{IsStanding}
-use Rattle.session_spec.specs.lemmas.Conditions.{borne_on, still_sound, left_out_once}
 use Rattle.array_core.specs.Holding.{AgreesWith}
 use Rattle.array_core.specs.Losing.{lost_by}
 use Rattle.array_core.specs.Performing.{IsKeptAt}

@@ -2,27 +2,11 @@
 use Rattle.std.proofs.Common.{◌≡◌, inl, inr, ℕ, ◌+◌, ◌-◌, ◌/◌, ◌^◌, ◌≤◌, ◌<◌, List, [], ◌∷◌, refl, sym, ◌∙◌, ap, subst, arith, Bool}
 use Rattle.std.specs.Prelude.{Some, slice_index}
 use Rattle.std.proofs.lemmas.Bool.{cases_lt}
-use Rattle.pur_base.specs.Devices.{Geometry, Conditions, drive}
-use Rattle.pur_base.specs.declared.device.Device.{Device}
-use Rattle.boot_codec.specs.declared.record.BootRecord.{BootRecord}
-use Rattle.boot_codec.specs.Spelling.{spelling}
-use Rattle.boot_codec.specs.Region.{BootSlot, A, B, IsRecordOf, body_in, body_place, gate_place, shown_by, generation_in, other_slot, Yields}
-use Rattle.array_spec.specs.lemmas.Quiet.{bytes_same}
-use Rattle.array_spec.specs.lemmas.Settling.{twice_other}
-use Rattle.array_spec.specs.Held.{TablesHold}
-use Rattle.array_spec.specs.lemmas.Next.{free_writes_keep}
-use Rattle.world.specs.Shelf.{Shelved, Disk, Stop, MayStop, IsShelf}
-use Rattle.world.specs.Losing.{geometry_of}
-use Rattle.world.specs.Writes.{MayLeaveBut}
-use Rattle.world.specs.lemmas.Writes.{may_leave_but}
-use Rattle.world.specs.lemmas.Stopped.{as_read}
-use Rattle.boot_region.specs.Members.{IsMember}
-use Rattle.boot_region.specs.Storing.{Shows, IsOlder}
+use Rattle.session_spec.specs.Prelude.{Geometry, Conditions, drive, Device, BootRecord, spelling, BootSlot, A, B, IsRecordOf, body_in, body_place, gate_place, shown_by, generation_in, other_slot, Yields, bytes_same, twice_other, TablesHold, free_writes_keep, Shelved, Disk, Stop, MayStop, IsShelf, geometry_of, MayLeaveBut, may_leave_but, as_read}
+use Rattle.boot_region.specs.Prelude.{IsMember, Shows, IsOlder}
 use Rattle.register.specs.declared.state.Register.{Register}
-use Rattle.register.specs.Registers.{IsRegisterOf, drives_of, next_slot, own_slot}
+use Rattle.register.specs.Prelude.{IsRegisterOf, drives_of, next_slot, own_slot, MayStore, Content, IsOpen, IsShown, ShowsOn, StandsInLog, array_of, in_cut, cut_in, not_below}
 use Rattle.register.proofs.Resting.{may_store}
-use Rattle.register.specs.Standing.{MayStore, Content, IsOpen, IsShown, ShowsOn, StandsInLog, array_of}
-use Rattle.register.specs.lemmas.Flags.{in_cut, cut_in, not_below}
 use Rattle.array_core.specs.Free.{OnFree, WritesFree, AreSynced, IsKnownOf}
 use Rattle.array_core.specs.Laws.{FreeWritesKeep, FreeWritesLeave, FreeWritesMayStore, PlansStand}
 use Rattle.array_core.proofs.Before.{at_before, before_stops, differs}

@@ -1,28 +1,13 @@
 -- What stands while the log is written, and once it was.
 use Rattle.std.proofs.Common.{◌≡◌, ℕ, List, [], refl, sym, subst, arith, Bool}
 use Rattle.std.specs.Prelude.{Some}
-use Rattle.pur_base.specs.Commands.{Command, AllAccepted}
-use Rattle.pur_base.specs.Devices.{Geometry, Image, drive}
-use Rattle.pur_base.specs.declared.device.Device.{Device}
+use Rattle.session_spec.specs.Prelude.{Command, AllAccepted, Geometry, Image, drive, Device, Array, spelling, BootSlot, IsRecordOf, body_in, generation_in, other_slot, shown_by, Yields, twice_other, TablesHold, same_drives_hold, Shelved, Disk, Stop, MayLeave, MayStop, IsShelf, geometry_of, LeavesBut, MayLeaveBut, weaker, as_read}
 use Rattle.pur_base.specs.declared.device.Device.TheVariants as dev
-use Rattle.pur_base.specs.Plain.{Array}
-use Rattle.boot_codec.specs.Spelling.{spelling}
-use Rattle.boot_codec.specs.Region.{BootSlot, IsRecordOf, body_in, generation_in, other_slot, shown_by, Yields}
-use Rattle.array_spec.specs.lemmas.Settling.{twice_other}
-use Rattle.array_spec.specs.Held.{TablesHold}
-use Rattle.array_spec.specs.lemmas.Next.{same_drives_hold}
-use Rattle.world.specs.Shelf.{Shelved, Disk, Stop, MayLeave, MayStop, IsShelf}
-use Rattle.world.specs.Losing.{geometry_of}
-use Rattle.world.specs.Writes.{LeavesBut, MayLeaveBut}
-use Rattle.world.specs.lemmas.Moments.{weaker}
-use Rattle.world.specs.lemmas.Stopped.{as_read}
-use Rattle.boot_region.specs.Members.{IsMember}
-use Rattle.boot_region.specs.Storing.{Shows, IsOlder}
-use Rattle.nvram_log.specs.Held.{LeavesBetween}
+use Rattle.boot_region.specs.Prelude.{IsMember, Shows, IsOlder}
+use Rattle.nvram_log.specs.Prelude.{LeavesBetween}
 use Rattle.nvram_log.specs.Members as nv
 use Rattle.register.specs.declared.state.Register.{Register}
-use Rattle.register.specs.Registers.{drives_of, next_slot, own_slot}
-use Rattle.register.specs.Standing.{Content, IsOpen, ShowsOn, StandsInLog}
+use Rattle.register.specs.Prelude.{drives_of, next_slot, own_slot, Content, IsOpen, ShowsOn, StandsInLog}
 use Rattle.array_core.specs.Logging.{LeadTo, StandsWhateverFails, WritesLog}
 use Rattle.array_core.specs.Laws.{LogWritesStand, LogWritesKeep, LogWritesLeave}
 use Rattle.array_core.proofs.Between.{stands}

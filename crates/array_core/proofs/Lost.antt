@@ -3,18 +3,11 @@ use Rattle.std.proofs.Common.{◌≡◌, ◌⊎◌, inl, inr, ℕ, zero, suc, �
 use Rattle.std.specs.Prelude.{count_by}
 use Rattle.std.specs.List.{range_with_len}
 use Rattle.std.proofs.lemmas.Bool.{cases_Bool}
-use Rattle.pur_base.specs.declared.device.Device.{Device}
-use Rattle.pur_base.specs.Devices.{Geometry, Conditions, Sound, is_missing, IsBearable, drive, nvram}
-use Rattle.boot_codec.specs.Record.{set_count}
-use Rattle.array_spec.specs.lemmas.UnflushedRead.{one_left}
-use Rattle.array_spec.specs.lemmas.Votes.{counted, not_missing}
-use Rattle.world.specs.Counts.{Rises}
-use Rattle.world.specs.Shelf.{Shelved}
-use Rattle.world.specs.Losing.{geometry_of, has_risen}
-use Rattle.boot_region.specs.Members.{IsMember}
+use Rattle.session_spec.specs.Prelude.{Device, Geometry, Conditions, Sound, is_missing, IsBearable, drive, nvram, set_count, one_left, counted, not_missing, Rises, Shelved, geometry_of, has_risen}
+use Rattle.boot_region.specs.Prelude.{IsMember}
 use Rattle.boot_region.proofs.Phases.{risen_on_way}
 use Rattle.nvram_log.specs.Members as nv
-use Rattle.register.specs.Registers.{IsRegisterOf}
+use Rattle.register.specs.Prelude.{IsRegisterOf}
 use Rattle.array_core.specs.declared.array.Array.{Array}
 use Rattle.array_core.specs.Holding.{IsHolder}
 use Rattle.array_core.specs.Losing.{lost_since}

@@ -1,18 +1,12 @@
 -- Counts of failed writes over more than one run, and what is lost with them.
 use Rattle.std.proofs.Common.{◌≡◌, inl, inr, ℕ, ◌+◌, ◌^◌, ◌≤◌, ◌<◌, List, arith, Bool}
 use Rattle.std.proofs.lemmas.Bool.{cases_lt}
-use Rattle.pur_base.specs.Devices.{drive, nvram}
-use Rattle.boot_codec.specs.Record.{set_count}
-use Rattle.world.specs.Counts.{Rises}
-use Rattle.world.specs.Shelf.{Shelved, Continues}
-use Rattle.world.specs.lemmas.Moments.{continues_refl}
-use Rattle.boot_region.specs.Members.{DroppedFailed, LostWrites}
+use Rattle.session_spec.specs.Prelude.{drive, nvram, set_count, Rises, Shelved, Continues, continues_refl}
+use Rattle.boot_region.specs.Prelude.{DroppedFailed, LostWrites}
 use Rattle.register.specs.declared.next.StoreFault.{StoreFault}
 use Rattle.register.specs.declared.next.StoreFault.TheVariants.{Spent, TooFew}
 use Rattle.register.specs.declared.state.Register.{Register}
-use Rattle.register.specs.Faults.{IsFaultOf}
-use Rattle.register.specs.Registers.{drives_of}
-use Rattle.register.specs.lemmas.Flags.{fewer_count, in_cut}
+use Rattle.register.specs.Prelude.{IsFaultOf, drives_of, fewer_count, in_cut}
 use Rattle.array_core.specs.Performing.{LostDrives, LostLog}
 
 -- ---- counts

@@ -1,12 +1,8 @@
 -- A store of a record changes boot units alone.
 use Rattle.std.proofs.Common.{inl, inr, ◌≡◌, ℕ, ◌<◌, ◌/◌, List, ap, arith, Bool}
 use Rattle.std.proofs.lemmas.Bool.{cases_lt}
-use Rattle.pur_base.specs.Devices.{drive, nvram}
-use Rattle.boot_codec.specs.Region.{A, B}
-use Rattle.array_spec.specs.Laws.{DiffersOnlyIn}
-use Rattle.world.specs.Shelf.{Shelved, Disk}
-use Rattle.world.specs.Writes.{WritesOnly}
-use Rattle.register.specs.Registers.{OnSlots}
+use Rattle.session_spec.specs.Prelude.{drive, nvram, A, B, DiffersOnlyIn, Shelved, Disk, WritesOnly}
+use Rattle.register.specs.Prelude.{OnSlots}
 use Rattle.register.proofs.Splice.{in_boot}
 
 -- a store of a record writes in boot units alone

@@ -1,7 +1,6 @@
 -- Commands behind commands.
 use Rattle.std.proofs.Common.{◌≡◌, List, [], ◌∷◌, ◌++◌, refl, sym, ap, ◌∙◌, append_assoc}
-use Rattle.pur_base.specs.Plain.{Array}
-use Rattle.pur_base.specs.Commands.{Command, AllAccepted, after, after_all}
+use Rattle.session_spec.specs.Prelude.{Array, Command, AllAccepted, after, after_all}
 use Rattle.array_core.specs.Going.{IsOnWay}
 
 pub after_more : (x : Array) (cs ds : List Command) → after_all x (cs ++ ds) ≡ after_all (after_all x cs) ds

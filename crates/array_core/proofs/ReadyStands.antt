@@ -1,25 +1,11 @@
 -- What is known of an array that is ready.
 use Rattle.std.proofs.Common.{◌≡◌, inl, inr, ℕ, ◌<◌, List, [], ◌∷◌, sym, subst, arith, Bool, true, false}
 use Rattle.std.proofs.lemmas.Bool.{cases_lt}
-use Rattle.pur_base.specs.declared.device.Device.{Device}
-use Rattle.pur_base.specs.declared.device.Device.TheVariants.{Drive, Nv}
-use Rattle.pur_base.specs.Devices.{Sound, IsBearable, drive, nvram, Conditions}
-use Rattle.pur_base.specs.Grammar.{is_in_force}
-use Rattle.pur_base.specs.Commands.{Command}
-use Rattle.boot_codec.specs.declared.record.BootRecord.{BootRecord}
-use Rattle.boot_codec.specs.Region.{names}
-use Rattle.log_codec.specs.Log.{ShowsIn}
-use Rattle.world.specs.Losing.{geometry_of}
-use Rattle.world.specs.Shelf.{Shelved, Stop, MayStop}
-use Rattle.world.specs.lemmas.Stopped.{as_read}
-use Rattle.boot_region.specs.Members.{IsMember}
-use Rattle.boot_region.specs.lemmas.Shown.{member_below}
+use Rattle.session_spec.specs.Prelude.{Device, Drive, Nv, Sound, IsBearable, drive, nvram, Conditions, is_in_force, Command, BootRecord, names, ShowsIn, geometry_of, Shelved, Stop, MayStop, as_read, IsStanding, LeftOutAreNamedByNone, AreRead}
+use Rattle.boot_region.specs.Prelude.{IsMember, member_below}
 use Rattle.nvram_log.specs.Members as nv
 use Rattle.register.specs.declared.state.Register.{Register}
-use Rattle.register.specs.Registers.{drives_of, named_sound}
-use Rattle.register.specs.Standing.{Content, IsOpen, array_of}
-use Rattle.register.specs.lemmas.Flags.{in_cut, cut_in, none_past}
-use Rattle.session_spec.specs.Entering.{IsStanding, LeftOutAreNamedByNone, AreRead}
+use Rattle.register.specs.Prelude.{drives_of, named_sound, Content, IsOpen, array_of, in_cut, cut_in, none_past}
 use Rattle.array_core.specs.declared.array.Array.{Array}
 use Rattle.array_core.specs.Ready.{IsReady}
 use Rattle.array_core.specs.Holding.{IsHolder, NoneJoins, AgreesWith}

@@ -4,27 +4,10 @@ use Rattle.std.specs.Prelude.{Some, None, is_none, count_by, slice_index, slice_
 use Rattle.std.specs.List.{range_with_len}
 use Rattle.std.proofs.lemmas.Bool.{cases_Bool, cases_lt}
 use Rattle.std.proofs.lemmas.List.{length-take}
-use Rattle.pur_base.specs.Devices.{Geometry, View, slots_of, drive}
-use Rattle.pur_base.specs.Facts.{Facts}
-use Rattle.pur_base.specs.Visible.{segment}
-use Rattle.pur_base.specs.declared.facts.SegmentFact.{SegmentFact}
-use Rattle.pur_base.specs.declared.place.Place.{Place}
-use Rattle.boot_codec.specs.Record.{AscendFrom, mask, set_count}
-use Rattle.boot_codec.specs.declared.record.BootRecord.{BootRecord}
-use Rattle.segment_codec.specs.Position.{stripe_of}
-use Rattle.segment_codec.specs.Stripes.{SectorStands}
-use Rattle.array_spec.specs.Sound.{ArePlaces}
-use Rattle.array_spec.specs.lemmas.Fewer.{places_keep}
-use Rattle.array_spec.specs.lemmas.Moves.{Keeps, SameUnit, SameUnits, same_units_keep}
-use Rattle.array_spec.specs.lemmas.Quiet.{bytes_same}
-use Rattle.array_spec.specs.lemmas.Votes.{counted}
-use Rattle.memory_spec.specs.Memory.{Contents}
-use Rattle.world.specs.Shelf.{Shelved, Disk}
-use Rattle.world.specs.Writes.{WritesOnly}
-use Rattle.boot_region.specs.Members.{IsMember}
+use Rattle.session_spec.specs.Prelude.{Geometry, View, slots_of, drive, Facts, segment, SegmentFact, Place, AscendFrom, mask, set_count, BootRecord, stripe_of, SectorStands, ArePlaces, places_keep, Keeps, SameUnit, SameUnits, same_units_keep, bytes_same, counted, Contents, Shelved, Disk, WritesOnly}
+use Rattle.boot_region.specs.Prelude.{IsMember}
 use Rattle.register.specs.declared.state.Register.{Register}
-use Rattle.register.specs.Registers.{IsLaterRecord, IsRegisterOf, OnSlots, drives_of}
-use Rattle.register.specs.lemmas.Flags.{cut_in, fewer_count, none_past}
+use Rattle.register.specs.Prelude.{IsLaterRecord, IsRegisterOf, OnSlots, drives_of, cut_in, fewer_count, none_past}
 use Rattle.array_core.specs.Drives.{SegmentsHold, drives_view}
 
 -- ---- views

@@ -1,33 +1,18 @@
 -- What one stage of the end of a checkpoint or a merge leaves for the next one.
 use Rattle.std.proofs.Common.{◌≡◌, ◌⊎◌, inl, inr, ℕ, ◌+◌, List, length, refl, sym, ◌∙◌, ap, subst, arith, Bool, true, Result, Ok, Err, OnOk, IfErr}
-use Rattle.pur_base.specs.declared.device.Device.{Device}
-use Rattle.pur_base.specs.declared.device.Device.TheVariants.{Drive, Nv}
-use Rattle.pur_base.specs.Devices.{Geometry, drive, nvram}
-use Rattle.boot_codec.specs.declared.record.BootRecord.{BootRecord}
-use Rattle.boot_codec.specs.Record.{IsBootRecord}
-use Rattle.boot_codec.specs.Region.{names}
-use Rattle.array_spec.specs.Held.{DataHolds}
-use Rattle.world.specs.Counts.{Rises}
-use Rattle.world.specs.Losing.{geometry_of}
-use Rattle.world.specs.Shelf.{Shelved, IsShelf, Continues}
-use Rattle.world.specs.Writes.{WritesOnly}
-use Rattle.world.specs.lemmas.Moments.{continues_refl}
-use Rattle.boot_region.specs.Members.{IsMember, DroppedFailed, LostWrites}
-use Rattle.nvram_log.specs.Held.{HoldsOn}
+use Rattle.session_spec.specs.Prelude.{Device, Drive, Nv, Geometry, drive, nvram, BootRecord, IsBootRecord, names, DataHolds, Rises, geometry_of, Shelved, IsShelf, Continues, WritesOnly, continues_refl, data_moves}
+use Rattle.boot_region.specs.Prelude.{IsMember, DroppedFailed, LostWrites}
+use Rattle.nvram_log.specs.Prelude.{HoldsOn}
 use Rattle.nvram_log.specs.Members as nv
 use Rattle.register.specs.declared.state.Register.{Register}
 use Rattle.register.specs.declared.tables.Tables.{Tables}
-use Rattle.register.specs.Registers.{IsLaterRecord, IsRegisterOf, OnSlots, drives_of}
-use Rattle.register.specs.Standing.{Content, IsOpen}
-use Rattle.register.specs.Tables.{IsPlanOf, KeepsArray, with_tables}
-use Rattle.register.specs.lemmas.Flags.{in_cut}
+use Rattle.register.specs.Prelude.{IsLaterRecord, IsRegisterOf, OnSlots, drives_of, Content, IsOpen, IsPlanOf, KeepsArray, with_tables, in_cut}
 use Rattle.register.proofs.Rounds.{cut_drives, same_shelf}
 use Rattle.array_core.proofs.Kept.{plans_stand}
 use Rattle.array_core.proofs.Standing.{member_clean}
 use Rattle.array_core.specs.Switching.{AreLost}
 use Rattle.array_core.proofs.Keeping.{CameAfter}
 use Rattle.array_core.proofs.LostOnWay.{rises_since}
-use Rattle.array_spec.specs.lemmas.Next.{data_moves}
 use Rattle.array_core.proofs.Moved.{only_boot}
 
 -- ---- results

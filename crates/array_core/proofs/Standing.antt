@@ -1,29 +1,12 @@
 -- At every moment of writes in free units the devices stand for the array.
 use Rattle.std.proofs.Common.{◌≡◌, inl, inr, ℕ, List, [], ◌∷◌, refl, ◌∙◌, ap, Bool, true, false}
 use Rattle.std.specs.Prelude.{if◌then◌else◌}
-use Rattle.pur_base.specs.declared.device.Device.{Device}
+use Rattle.session_spec.specs.Prelude.{Device, Sound, LeftOut, IsOn, IsImage, drive, body_in, names, IsFree, DiffersOnlyIn, IsUnused, Stands, all_facts, NamesSound, quiet_writes, more_may_go_missing, NamesNoneLeftOut, Shelved, Stop, IsShelf, IsOf, geometry_of, LeavesBut, weaker}
 use Rattle.pur_base.specs.declared.device.Device.TheVariants as dev
-use Rattle.pur_base.specs.Devices.{Sound, LeftOut, IsOn, IsImage, drive}
-use Rattle.boot_codec.specs.Region.{body_in, names}
-use Rattle.array_spec.specs.Counts.{IsFree}
-use Rattle.array_spec.specs.Laws.{DiffersOnlyIn, IsUnused}
-use Rattle.array_spec.specs.Standing.{Stands}
-use Rattle.array_spec.specs.Stored.{all_facts}
-use Rattle.array_spec.specs.Unflushed.{NamesSound}
-use Rattle.array_spec.specs.lemmas.Quiet.{quiet_writes}
-use Rattle.array_spec.specs.lemmas.Standings.{more_may_go_missing}
-use Rattle.array_spec.specs.Held.{NamesNoneLeftOut}
 use Rattle.array_spec.proofs.Free.{free_is_unused}
-use Rattle.world.specs.Shelf.{Shelved, Stop, IsShelf, IsOf}
-use Rattle.world.specs.Losing.{geometry_of}
-use Rattle.world.specs.Writes.{LeavesBut}
-use Rattle.world.specs.lemmas.Moments.{weaker}
-use Rattle.boot_region.specs.Members.{IsMember}
+use Rattle.boot_region.specs.Prelude.{IsMember}
 use Rattle.register.specs.declared.state.Register.{Register}
-use Rattle.register.specs.Registers.{drives_of, named_sound, own_slot}
-use Rattle.register.specs.Standing.{Content, IsOpen, array_of}
-use Rattle.register.specs.Tables.{StandsAsBefore}
-use Rattle.register.specs.lemmas.Flags.{in_cut}
+use Rattle.register.specs.Prelude.{drives_of, named_sound, own_slot, Content, IsOpen, array_of, StandsAsBefore, in_cut}
 use Rattle.array_core.specs.Free.{OnFree}
 use Rattle.array_core.specs.Laws.{FreeWritesStand}
 use Rattle.array_core.proofs.Before.{at_before, before_stops, as_before, differs}

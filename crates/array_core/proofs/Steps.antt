@@ -1,16 +1,9 @@
 -- Conditions that agree with a record, holders and moments, as an array that goes on has them.
 use Rattle.std.proofs.Common.{◌≡◌, ◌⊎◌, inl, inr, zero, suc, List, [], ◌∷◌, true, false, refl, sym, ap, ◌∙◌, arith}
 use Rattle.std.specs.Prelude.{Contains}
-use Rattle.pur_base.specs.declared.device.Device.{Device}
-use Rattle.pur_base.specs.Devices.{Conditions}
+use Rattle.session_spec.specs.Prelude.{Device, Conditions, Command, after, BootRecord, Rises, geometry_of, Shelved, LeavesOnly, weaker}
 use Rattle.pur_base.specs.Plain as plain
-use Rattle.pur_base.specs.Commands.{Command, after}
-use Rattle.boot_codec.specs.declared.record.BootRecord.{BootRecord}
-use Rattle.world.specs.Counts.{Rises}
-use Rattle.world.specs.Losing.{geometry_of}
-use Rattle.world.specs.Shelf.{Shelved, LeavesOnly}
-use Rattle.world.specs.lemmas.Moments.{weaker}
-use Rattle.register.specs.Standing.{Content, array_of}
+use Rattle.register.specs.Prelude.{Content, array_of}
 use Rattle.array_core.specs.declared.array.Array.{Array}
 use Rattle.array_core.specs.Ready.{IsArrayOf, IsReady, logged}
 use Rattle.array_core.specs.Holding.{AgreesWith, DropsFailed, IsHolder, NoneJoins}

@@ -1,26 +1,10 @@
 -- A record is stored without devices that lost writes: at every moment a session can go on.
 use Rattle.std.proofs.Common.{◌≡◌, inl, inr, ℕ, List, sym, ◌∙◌, ap, subst, Bool, true}
-use Rattle.pur_base.specs.Commands.{Command}
-use Rattle.pur_base.specs.Devices.{Geometry, Conditions, IsBearable, drive, nvram}
-use Rattle.pur_base.specs.declared.device.Device.{Device}
-use Rattle.pur_base.specs.declared.device.Device.TheVariants.{Drive, Nv}
-use Rattle.pur_base.specs.Grammar.{is_in_force}
-use Rattle.pur_base.specs.Plain.{Array}
-use Rattle.boot_codec.specs.declared.record.BootRecord.{BootRecord}
-use Rattle.boot_codec.specs.Region.{BootSlot, names}
-use Rattle.boot_codec.specs.Spelling.{spelling}
-use Rattle.log_codec.specs.Log.{ShowsIn}
-use Rattle.array_spec.specs.Standing.{Stands, MayBeGiven}
-use Rattle.world.specs.Losing.{geometry_of, has_risen}
-use Rattle.world.specs.Shelf.{Shelved, Stop, MayStop, Continues, LeavesOnly}
-use Rattle.world.specs.Writes.{LeavesBut, WritesOnly}
-use Rattle.world.specs.lemmas.Moments.{weaker}
-use Rattle.boot_region.specs.Members.{IsMember}
-use Rattle.boot_region.specs.Storing.{AccountsFor, IsOlder, StandsBut}
+use Rattle.session_spec.specs.Prelude.{Command, Geometry, Conditions, IsBearable, drive, nvram, Device, Drive, Nv, is_in_force, Array, BootRecord, BootSlot, names, spelling, ShowsIn, Stands, MayBeGiven, geometry_of, has_risen, Shelved, Stop, MayStop, Continues, LeavesOnly, LeavesBut, WritesOnly, weaker}
+use Rattle.boot_region.specs.Prelude.{IsMember, AccountsFor, IsOlder, StandsBut}
 use Rattle.nvram_log.specs.Members as nv
 use Rattle.register.specs.declared.state.Register.{Register}
-use Rattle.register.specs.Registers.{drives_of, named_sound, next_slot}
-use Rattle.register.specs.Standing.{Content, GivesOldOrNext, IsNextOf, IsOpen, MayStore}
+use Rattle.register.specs.Prelude.{drives_of, named_sound, next_slot, Content, GivesOldOrNext, IsNextOf, IsOpen, MayStore}
 use Rattle.register.proofs.Again.{not_risen_since}
 use Rattle.array_core.specs.Losing.{lost_since, lost_by}
 use Rattle.array_core.specs.Performing.{IsKeptAt}

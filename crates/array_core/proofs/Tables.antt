@@ -1,31 +1,12 @@
 -- A record of the next tables is stored: at every moment a session can go on with the array.
 use Rattle.std.proofs.Common.{◌≡◌, inl, inr, ℕ, List, [], ◌∷◌, sym, ◌∙◌, ap, subst, Bool, true}
-use Rattle.pur_base.specs.Commands.{Command}
-use Rattle.pur_base.specs.Devices.{IsBearable, drive, nvram}
-use Rattle.pur_base.specs.declared.device.Device.{Device}
-use Rattle.pur_base.specs.declared.device.Device.TheVariants.{Drive, Nv}
-use Rattle.pur_base.specs.Grammar.{is_in_force}
-use Rattle.boot_codec.specs.declared.record.BootRecord.{BootRecord}
-use Rattle.boot_codec.specs.Region.{BootSlot, names}
-use Rattle.boot_codec.specs.Spelling.{spelling}
-use Rattle.log_codec.specs.Log.{ShowsIn}
-use Rattle.array_spec.specs.Standing.{MayBeGiven}
-use Rattle.world.specs.Losing.{geometry_of, has_risen}
-use Rattle.world.specs.Shelf.{Shelved, Disk, Stop, IsShelf, LeavesOnly}
-use Rattle.world.specs.Writes.{LeavesBut, WritesOnly}
-use Rattle.world.specs.lemmas.Moments.{weaker}
-use Rattle.world.specs.lemmas.Stopped.{as_read}
-use Rattle.boot_region.specs.Storing.{AccountsFor}
-use Rattle.boot_region.specs.lemmas.Accounts.{losing_within}
-use Rattle.nvram_log.specs.Held.{HoldsOn}
+use Rattle.session_spec.specs.Prelude.{Command, IsBearable, drive, nvram, Device, Drive, Nv, is_in_force, BootRecord, BootSlot, names, spelling, ShowsIn, MayBeGiven, geometry_of, has_risen, Shelved, Disk, Stop, IsShelf, LeavesOnly, LeavesBut, WritesOnly, weaker, as_read}
+use Rattle.boot_region.specs.Prelude.{AccountsFor, losing_within}
+use Rattle.nvram_log.specs.Prelude.{HoldsOn, IsLog}
 use Rattle.nvram_log.specs.Members as nv
-use Rattle.nvram_log.specs.Slots.{IsLog}
 use Rattle.register.specs.declared.state.Register.{Register}
 use Rattle.register.specs.declared.tables.Tables.{Tables}
-use Rattle.register.specs.Giving.{GivesOldOrTables, IsNextWith}
-use Rattle.register.specs.Registers.{drives_of, named_sound, next_slot}
-use Rattle.register.specs.Standing.{Content, IsOpen, array_of}
-use Rattle.register.specs.Tables.{IsPlanOf, StandsAsBefore}
+use Rattle.register.specs.Prelude.{GivesOldOrTables, IsNextWith, drives_of, named_sound, next_slot, Content, IsOpen, array_of, IsPlanOf, StandsAsBefore}
 use Rattle.register.proofs.Tabling.{shows_no_more}
 use Rattle.array_core.proofs.Standing.{member_sound}
 use Rattle.array_core.specs.Losing.{lost_by}

@@ -1,26 +1,13 @@
 -- The stages of the end of a checkpoint or a merge, one after another.
 use Rattle.std.proofs.Common.{◌≡◌, ◌⊎◌, inl, inr, ℕ, ◌+◌, ◌^◌, ◌<◌, List, [], ◌∷◌, length, refl, sym, ◌∙◌, ap, subst, Bool, arith}
-use Rattle.pur_base.specs.Devices.{nvram}
-use Rattle.boot_codec.specs.declared.record.BootRecord.{BootRecord}
-use Rattle.boot_codec.specs.Record.{IsBootRecord}
-use Rattle.world.specs.Losing.{geometry_of}
-use Rattle.world.specs.Shelf.{Shelved, IsShelf, Continues, LeavesOnly}
-use Rattle.world.specs.Writes.{WritesOnly}
-use Rattle.world.specs.Ran.{Runs}
-use Rattle.world.specs.lemmas.Moments.{continues_trans}
-use Rattle.boot_region.specs.Members.{IsDrive, IsMember, DroppedFailed}
+use Rattle.session_spec.specs.Prelude.{nvram, BootRecord, IsBootRecord, geometry_of, Shelved, IsShelf, Continues, LeavesOnly, WritesOnly, Runs, continues_trans}
+use Rattle.boot_region.specs.Prelude.{IsDrive, IsMember, DroppedFailed}
 use Rattle.nvram_log.specs.declared.log.NvLog.{NvLog}
-use Rattle.nvram_log.specs.Held.{HoldsOn}
+use Rattle.nvram_log.specs.Prelude.{HoldsOn}
 use Rattle.register.specs.declared.next.StoreFault.{StoreFault}
 use Rattle.register.specs.declared.state.Register.{Register}
 use Rattle.register.specs.declared.tables.Tables.{Tables}
-use Rattle.register.specs.Faults.{IsFaultOf}
-use Rattle.register.specs.Giving.{GivesOldOrTables}
-use Rattle.register.specs.Registers.{IsLaterRecord, IsRegisterOf, OnSlots, drives_of}
-use Rattle.register.specs.Standing.{Content, IsOpen, array_of}
-use Rattle.register.specs.Tables.{IsPlanOf, KeepsArray, StandsAsBefore, with_tables}
-use Rattle.register.specs.lemmas.Flags.{in_cut}
-use Rattle.register.specs.lemmas.Stores.{fewer_cut}
+use Rattle.register.specs.Prelude.{IsFaultOf, GivesOldOrTables, IsLaterRecord, IsRegisterOf, OnSlots, drives_of, Content, IsOpen, array_of, IsPlanOf, KeepsArray, StandsAsBefore, with_tables, in_cut, fewer_cut}
 use Rattle.array_core.specs.Performing.{IsKeptAt, LostDrives}
 use Rattle.array_core.specs.Changing.{IsOpenOn}
 use Rattle.array_core.specs.Switching.{AreLost, MaySwitch}

@@ -1,20 +1,13 @@
 -- What a change of the record or of the log leaves: which record and which devices, who holds the array, and what is open then.
 use Rattle.std.specs.Prelude.{◌≡◌, ◌⊎◌, ◌+◌, ◌≤◌, ℕ, Bool, true, List, Result, OnOk, OnErr}
-use Rattle.pur_base.specs.Commands.{Command}
-use Rattle.pur_base.specs.Devices.{Geometry}
+use Rattle.session_spec.specs.Prelude.{Command, Geometry, Device, BootRecord, set_count, names, Shelved, LeavesOnly}
 use Rattle.pur_base.specs.Plain as plain
-use Rattle.pur_base.specs.declared.device.Device.{Device}
-use Rattle.boot_codec.specs.declared.record.BootRecord.{BootRecord}
-use Rattle.boot_codec.specs.Record.{set_count}
-use Rattle.boot_codec.specs.Region.{names}
-use Rattle.world.specs.Shelf.{Shelved, LeavesOnly}
-use Rattle.boot_region.specs.Members.{IsMember, DroppedFailed}
+use Rattle.boot_region.specs.Prelude.{IsMember, DroppedFailed}
 use Rattle.nvram_log.specs.declared.log.NvLog.{NvLog}
-use Rattle.nvram_log.specs.Held.{HoldsOn}
+use Rattle.nvram_log.specs.Prelude.{HoldsOn}
 use Rattle.nvram_log.specs.Members as nv
 use Rattle.register.specs.declared.state.Register.{Register}
-use Rattle.register.specs.Registers.{IsLaterRecord, IsRegisterOf, drives_of}
-use Rattle.register.specs.Standing.{Content, IsOpen}
+use Rattle.register.specs.Prelude.{IsLaterRecord, IsRegisterOf, drives_of, Content, IsOpen}
 use Rattle.array_core.specs.Holding.{DropsFailedBy, IsHolderBy}
 use Rattle.array_core.specs.Performing.{IsKeptAt, IsLostBy}
 

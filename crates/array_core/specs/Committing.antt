@@ -1,18 +1,9 @@
 -- A command is logged.
 use Rattle.std.specs.Prelude.{◌≡◌, ◌+◌, ◌++◌, ◌∷◌, true, List, []}
 use Rattle.std.specs.List.{AllByRecursion}
-use Rattle.pur_base.specs.Commands.{Command, AllAccepted}
-use Rattle.pur_base.specs.Devices.{Geometry}
-use Rattle.pur_base.specs.Grammar.{is_in_force}
-use Rattle.world.specs.Losing.{has_risen}
-use Rattle.world.specs.Shelf.{Shelved}
-use Rattle.nvram_log.specs.Held.{Keeps}
-use Rattle.nvram_log.specs.Members.{IsSome}
-use Rattle.register.specs.Registers.{IsLaterRecord, IsRegisterOf}
-use Rattle.register.specs.Standing.{Content}
-use Rattle.memory_spec.specs.Memory.{Contents}
-use Rattle.memory_spec.specs.Tables.{facts}
-use Rattle.session_spec.specs.Faring.{MayRise}
+use Rattle.session_spec.specs.Prelude.{Command, AllAccepted, Geometry, is_in_force, has_risen, Shelved, Contents, facts, MayRise}
+use Rattle.nvram_log.specs.Prelude.{Keeps, IsSome}
+use Rattle.register.specs.Prelude.{IsLaterRecord, IsRegisterOf, Content}
 use Rattle.array_core.specs.declared.array.Array.{Array}
 use Rattle.array_core.specs.Changing.{IsOpenOn}
 use Rattle.array_core.specs.Drives.{SegmentsHold}

@@ -1,13 +1,8 @@
 -- What the drives of an array's record show, and what its segments hold there.
 use Rattle.std.specs.Prelude.{false, Some, None, slice_index_or, if◌then◌else◌}
-use Rattle.pur_base.specs.Devices.{View}
-use Rattle.pur_base.specs.Facts.{Facts}
-use Rattle.pur_base.specs.declared.device.Device.TheVariants.{Drive, Nv}
-use Rattle.world.specs.Shelf.{Shelved}
-use Rattle.memory_spec.specs.Memory.{Contents}
-use Rattle.memory_spec.specs.Contents.{ContentsStand}
+use Rattle.session_spec.specs.Prelude.{View, Facts, Drive, Nv, Shelved, Contents, ContentsStand}
 use Rattle.register.specs.declared.state.Register.{Register}
-use Rattle.register.specs.Registers.{drives_of}
+use Rattle.register.specs.Prelude.{drives_of}
 
 -- the drives on which the record is in force, as reads give them
 abbrev pub drives_view : Shelved → Register → View

@@ -1,20 +1,10 @@
 -- Writes in units that the tables of an open array leave free.
 use Rattle.std.specs.Prelude.{◌≡◌, ◌/◌, ◌<◌, ℕ, Bool, false, List, []}
-use Rattle.pur_base.specs.Devices.{Conditions, IsBearable, Sound, LeftOut, drive, nvram}
-use Rattle.pur_base.specs.declared.device.Device.{Device}
-use Rattle.pur_base.specs.declared.device.Device.TheVariants.{Drive, Nv}
-use Rattle.pur_base.specs.declared.limits.TheConstants.{UNIT_BYTES}
-use Rattle.boot_codec.specs.Region.{names}
-use Rattle.array_spec.specs.Counts.{IsFree}
-use Rattle.array_spec.specs.Stored.{all_facts}
-use Rattle.world.specs.Losing.{geometry_of}
-use Rattle.world.specs.Shelf.{Shelved, Continues}
-use Rattle.world.specs.Writes.{WritesOnly}
-use Rattle.boot_region.specs.Members.{IsMember}
+use Rattle.session_spec.specs.Prelude.{Conditions, IsBearable, Sound, LeftOut, drive, nvram, Device, Drive, Nv, UNIT_BYTES, names, IsFree, all_facts, geometry_of, Shelved, Continues, WritesOnly}
+use Rattle.boot_region.specs.Prelude.{IsMember}
 use Rattle.nvram_log.specs.Members as nv
 use Rattle.register.specs.declared.state.Register.{Register}
-use Rattle.register.specs.Registers.{drives_of}
-use Rattle.register.specs.Standing.{Content}
+use Rattle.register.specs.Prelude.{drives_of, Content}
 
 -- on drives on which the record is in force, the bytes of units that its tables leave free
 abbrev pub OnFree : Register → Content → Device → ℕ → Type 0

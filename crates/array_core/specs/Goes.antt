@@ -1,14 +1,8 @@
 -- An array goes on as another one, or is to halt.
 use Rattle.std.specs.Prelude.{◌≡◌, false, List}
-use Rattle.pur_base.specs.Commands.{Command, AllAccepted, after_all}
-use Rattle.pur_base.specs.declared.device.Device.{Device}
-use Rattle.pur_base.specs.Devices.{Conditions, Sound, IsBearable}
+use Rattle.session_spec.specs.Prelude.{Command, AllAccepted, after_all, Device, Conditions, Sound, IsBearable, geometry_of, Shelved, LeavesOnly, Contents, ReadsAs, facts}
 use Rattle.pur_base.specs.Plain as plain
-use Rattle.world.specs.Losing.{geometry_of}
-use Rattle.world.specs.Shelf.{Shelved, LeavesOnly}
-use Rattle.register.specs.Standing.{Content, array_of}
-use Rattle.memory_spec.specs.Memory.{Contents, ReadsAs}
-use Rattle.memory_spec.specs.Tables.{facts}
+use Rattle.register.specs.Prelude.{Content, array_of}
 use Rattle.array_core.specs.declared.array.Array.{Array}
 use Rattle.array_core.specs.Drives.{SegmentsHold}
 use Rattle.array_core.specs.Ready.{IsArrayOf, IsReady}

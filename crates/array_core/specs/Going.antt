@@ -1,15 +1,7 @@
 -- What an array that goes on passes through, and who holds it on the way.
 use Rattle.std.specs.Prelude.{◌≡◌, ◌⊎◌, Bool, true, false, List, ◌++◌}
-use Rattle.pur_base.specs.Commands.{Command, after_all}
-use Rattle.pur_base.specs.declared.device.Device.{Device}
-use Rattle.pur_base.specs.Devices.{Conditions, Sound, LeftOut, IsBearable}
+use Rattle.session_spec.specs.Prelude.{Command, after_all, Device, Conditions, Sound, LeftOut, IsBearable, BootRecord, names, Rises, geometry_of, Shelved, Stop, Continues, LeavesOnly, IsCountedBy, StandsAmong}
 use Rattle.pur_base.specs.Plain as plain
-use Rattle.boot_codec.specs.declared.record.BootRecord.{BootRecord}
-use Rattle.boot_codec.specs.Region.{names}
-use Rattle.world.specs.Counts.{Rises}
-use Rattle.world.specs.Losing.{geometry_of}
-use Rattle.world.specs.Shelf.{Shelved, Stop, Continues, LeavesOnly, IsCountedBy}
-use Rattle.session_spec.specs.Headline.{StandsAmong}
 use Rattle.array_core.specs.declared.array.Array.{Array}
 use Rattle.array_core.specs.Holding.{IsHolder}
 use Rattle.array_core.specs.Losing.{lost_by}

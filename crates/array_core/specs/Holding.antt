@@ -1,16 +1,10 @@
 -- Which devices hold the array, and how they come to hold it no more.
 use Rattle.std.specs.Prelude.{◌≡◌, ◌⊎◌, Bool, true, false, List}
-use Rattle.pur_base.specs.declared.device.Device.{Device}
-use Rattle.pur_base.specs.declared.device.Device.TheVariants.{Drive, Nv}
-use Rattle.pur_base.specs.Devices.{Conditions, Sound, LeftOut}
-use Rattle.boot_codec.specs.declared.record.BootRecord.{BootRecord}
-use Rattle.boot_codec.specs.Region.{names}
-use Rattle.world.specs.Counts.{Rises}
-use Rattle.world.specs.Shelf.{Shelved}
-use Rattle.boot_region.specs.Members.{IsMember}
+use Rattle.session_spec.specs.Prelude.{Device, Drive, Nv, Conditions, Sound, LeftOut, BootRecord, names, Rises, Shelved}
+use Rattle.boot_region.specs.Prelude.{IsMember}
 use Rattle.nvram_log.specs.Members as nv
 use Rattle.register.specs.declared.state.Register.{Register}
-use Rattle.register.specs.Registers.{drives_of}
+use Rattle.register.specs.Prelude.{drives_of}
 use Rattle.array_core.specs.declared.array.Array.{Array}
 
 -- a device holds the array of this register and of a log on these devices: a drive on which the record is in force, or an NVRAM device with the log

@@ -1,18 +1,11 @@
 -- What writes in free units, and writes of the log, leave of an array that is open.
 use Rattle.std.specs.Prelude.{◌≡◌, ℕ, Bool, List, [], ◌∷◌}
-use Rattle.pur_base.specs.Commands.{Command, AllAccepted}
-use Rattle.pur_base.specs.Devices.{Conditions}
-use Rattle.pur_base.specs.Plain.{Array}
-use Rattle.array_spec.specs.Held.{DataHolds}
-use Rattle.world.specs.Losing.{geometry_of}
-use Rattle.world.specs.Shelf.{Shelved, LeavesOnly}
-use Rattle.boot_region.specs.Members.{IsMember}
-use Rattle.nvram_log.specs.Held.{HoldsOn}
+use Rattle.session_spec.specs.Prelude.{Command, AllAccepted, Conditions, Array, DataHolds, geometry_of, Shelved, LeavesOnly}
+use Rattle.boot_region.specs.Prelude.{IsMember}
+use Rattle.nvram_log.specs.Prelude.{HoldsOn}
 use Rattle.register.specs.declared.state.Register.{Register}
 use Rattle.register.specs.declared.tables.Tables.{Tables}
-use Rattle.register.specs.Registers.{drives_of}
-use Rattle.register.specs.Standing.{Content, IsOpen, MayStore, ShowsOn, StandsInLog, array_of}
-use Rattle.register.specs.Tables.{IsPlanOf, KeepsArray, StandsAsBefore, with_tables}
+use Rattle.register.specs.Prelude.{drives_of, Content, IsOpen, MayStore, ShowsOn, StandsInLog, array_of, IsPlanOf, KeepsArray, StandsAsBefore, with_tables}
 use Rattle.array_core.specs.Free.{AreSynced, IsKnownOf, WritesFree}
 use Rattle.array_core.specs.Logging.{LeadTo, StandsWhateverFails, WritesLog}
 

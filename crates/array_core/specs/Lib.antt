@@ -15,3 +15,4 @@ pub mod Meanwhile
 pub mod Switching
 pub mod Taking
 pub mod lemmas
+pub mod Prelude

@@ -1,18 +1,9 @@
 -- Writes on the NVRAM devices of an open array.
 use Rattle.std.specs.Prelude.{◌≡◌, ◌≢◌, ℕ, ◌+◌, ◌≤◌, Bool, List, [], ◌++◌, length, take, Some, Contains, slice_get}
-use Rattle.pur_base.specs.Commands.{Command, AllAccepted, after_all}
-use Rattle.pur_base.specs.Devices.{Conditions, IsBearable, IsWithin, drive}
-use Rattle.pur_base.specs.Plain.{Array}
-use Rattle.array_spec.specs.Standing.{Stands}
-use Rattle.log_codec.specs.declared.limits.TheConstants.{LOG_SLOTS}
-use Rattle.log_codec.specs.Log.{HasSpelling}
-use Rattle.world.specs.Losing.{geometry_of}
-use Rattle.world.specs.Shelf.{Shelved, Stop, Continues, LeavesOnly}
-use Rattle.world.specs.Writes.{WritesOnly}
-use Rattle.nvram_log.specs.Held.{LeavesBetween}
-use Rattle.nvram_log.specs.Members.{OnMembers}
+use Rattle.session_spec.specs.Prelude.{Command, AllAccepted, after_all, Conditions, IsBearable, IsWithin, drive, Array, Stands, LOG_SLOTS, HasSpelling, geometry_of, Shelved, Stop, Continues, LeavesOnly, WritesOnly}
+use Rattle.nvram_log.specs.Prelude.{LeavesBetween, OnMembers}
 use Rattle.register.specs.declared.state.Register.{Register}
-use Rattle.register.specs.Registers.{named_sound}
+use Rattle.register.specs.Prelude.{named_sound}
 
 -- Only NVRAM devices that hold the log are written, no drive is called, and each of these devices shows the first log at every moment, and nothing that isn't in the second.
 pub record WritesLog (r : Register) (nvrams : List Bool) (least most : List Command) (old new : Shelved) : Type 0 where

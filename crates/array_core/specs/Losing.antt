@@ -1,7 +1,5 @@
 -- Which devices are missing, where one that lost a write is and one that only failed a read isn't.
-use Rattle.pur_base.specs.Devices.{Conditions}
-use Rattle.world.specs.Shelf.{Shelved, Stop}
-use Rattle.world.specs.Losing.{has_risen, losing}
+use Rattle.session_spec.specs.Prelude.{Conditions, Shelved, Stop, has_risen, losing}
 
 -- a device that lost a write since one moment, and by a stop since then
 abbrev pub lost_since : Shelved → Shelved → Conditions → Conditions

@@ -1,10 +1,9 @@
 -- A session can go on with one array while units are written that its tables leave free.
 use Rattle.std.specs.Prelude.{◌≡◌, Bool, true, List, [], ◌∷◌}
 use Rattle.std.specs.List.{AllByRecursion}
-use Rattle.pur_base.specs.Grammar.{is_in_force}
-use Rattle.world.specs.Shelf.{Shelved, LeavesOnly}
+use Rattle.session_spec.specs.Prelude.{is_in_force, Shelved, LeavesOnly}
 use Rattle.register.specs.declared.state.Register.{Register}
-use Rattle.register.specs.Standing.{Content, IsOpen, array_of}
+use Rattle.register.specs.Prelude.{Content, IsOpen, array_of}
 use Rattle.array_core.specs.Free.{WritesFree}
 use Rattle.array_core.specs.Performing.{IsKeptAt}
 

@@ -1,25 +1,12 @@
 -- What performing a command does to the devices.
 use Rattle.std.specs.Prelude.{◌≡◌, ◌⊎◌, ℕ, ◌+◌, ◌-◌, ◌^◌, ◌<◌, Bool, List, [], ◌∷◌}
-use Rattle.pur_base.specs.Commands.{Command}
-use Rattle.pur_base.specs.Devices.{IsBearable, IsWithin, nvram, Conditions}
+use Rattle.session_spec.specs.Prelude.{Command, IsBearable, IsWithin, nvram, Conditions, Request, BootRecord, set_count, Stands, Rises, geometry_of, has_risen, Shelved, Stop, next_after, IsStanding, MayRise}
 use Rattle.pur_base.specs.Plain as plain
-use Rattle.pur_base.specs.declared.request.Request.{Request}
-use Rattle.boot_codec.specs.declared.record.BootRecord.{BootRecord}
-use Rattle.boot_codec.specs.Record.{set_count}
-use Rattle.array_spec.specs.Standing.{Stands}
-use Rattle.world.specs.Counts.{Rises}
-use Rattle.world.specs.Losing.{geometry_of, has_risen}
-use Rattle.world.specs.Shelf.{Shelved, Stop}
-use Rattle.boot_region.specs.Members.{DroppedFailed}
-use Rattle.nvram_log.specs.Members.{IsMember}
+use Rattle.boot_region.specs.Prelude.{DroppedFailed}
+use Rattle.nvram_log.specs.Prelude.{IsMember}
 use Rattle.register.specs.declared.state.Register.{Register}
-use Rattle.register.specs.Registers.{drives_of}
-use Rattle.register.specs.Standing.{Content, array_of}
-use Rattle.memory_spec.specs.Numbers.{next_after}
-use Rattle.session_spec.specs.Entering.{IsStanding}
-use Rattle.session_spec.specs.Faring.{MayRise}
-use Rattle.array_memory.specs.Asked.{AreLeft}
-use Rattle.array_memory.specs.Kept.{HasSamePatches}
+use Rattle.register.specs.Prelude.{drives_of, Content, array_of}
+use Rattle.array_memory.specs.Prelude.{AreLeft, HasSamePatches}
 use Rattle.array_core.specs.declared.array.Array.{Array}
 use Rattle.array_core.specs.Ready.{logged}
 use Rattle.array_core.specs.Holding.{AgreesWith}

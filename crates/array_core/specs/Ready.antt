@@ -1,21 +1,10 @@
 -- The array in memory, and what the devices hold of it.
 use Rattle.std.specs.Prelude.{◌≡◌, [], ◌∷◌, ◌++◌, true, Bool, ◌||◌}
 use Rattle.std.specs.List.{AllByRecursion, AllZip}
-use Rattle.pur_base.specs.Commands.{Command}
-use Rattle.pur_base.specs.Devices.{Geometry}
-use Rattle.pur_base.specs.Grammar.{is_in_force}
-use Rattle.array_spec.specs.Sound.{AreSegmentsSound}
-use Rattle.world.specs.Shelf.{Shelved}
-use Rattle.nvram_log.specs.Held.{HoldsOn, Keeps}
-use Rattle.nvram_log.specs.Members.{IsSome}
-use Rattle.register.specs.Registers.{IsRegisterOf}
-use Rattle.register.specs.Standing.{Content, IsOpen, array_of}
-use Rattle.memory_spec.specs.Tables.{facts, patches}
-use Rattle.memory_spec.specs.Memory.{Contents, IsSound, ReadsAs}
-use Rattle.memory_spec.specs.Numbers.{are_used_up, is_used_up}
-use Rattle.memory_spec.specs.Whole.{AreLayered, IsNamed}
-use Rattle.table_plan.specs.Planned.{AreStored}
-use Rattle.pyramid.specs.Layers.{facts_of}
+use Rattle.session_spec.specs.Prelude.{Command, Geometry, is_in_force, AreSegmentsSound, Shelved, facts, patches, Contents, IsSound, ReadsAs, are_used_up, is_used_up, AreLayered, IsNamed, facts_of}
+use Rattle.nvram_log.specs.Prelude.{HoldsOn, Keeps, IsSome}
+use Rattle.register.specs.Prelude.{IsRegisterOf, Content, IsOpen, array_of}
+use Rattle.table_plan.specs.Prelude.{AreStored}
 use Rattle.array_core.specs.declared.array.Array.{Array}
 use Rattle.array_core.specs.Drives.{SegmentsHold}
 use Rattle.array_core.specs.Room.{HasRoomFor}

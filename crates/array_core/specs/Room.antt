@@ -1,8 +1,7 @@
 -- Room in memory for as many commands as the log has free slots, and what commands left unflushed.
 use Rattle.std.specs.Prelude.{◌≡◌, ℕ, ◌+◌, ◌*◌, ◌≤◌, [], length}
-use Rattle.pur_base.specs.declared.limits.TheConstants.{OBJECTS, REQUEST_SECTORS}
-use Rattle.log_codec.specs.declared.limits.TheConstants.{LOG_SLOTS}
-use Rattle.array_memory.specs.Kept.{Kept}
+use Rattle.session_spec.specs.Prelude.{OBJECTS, REQUEST_SECTORS, LOG_SLOTS}
+use Rattle.array_memory.specs.Prelude.{Kept}
 
 -- What is unflushed and staged and the room beside it are enough for a whole log: so much room there is once that is on the drives. There is room for as many names as there may be.
 pub record HasCapacity (k : Kept) : Type 0 where

@@ -1,27 +1,13 @@
 -- The end of a checkpoint or a merge: what its writes left, and what its tables are once they are stored.
 use Rattle.std.specs.Prelude.{◌≡◌, ◌⊎◌, ◌+◌, ◌<◌, ◌≤◌, ℕ, Bool, List, [], Some, Result, OnOk}
-use Rattle.pur_base.specs.Commands.{Command}
-use Rattle.pur_base.specs.declared.device.Device.{Device}
-use Rattle.pur_base.specs.Devices.{View, drive}
-use Rattle.pur_base.specs.Facts.{Facts}
-use Rattle.pur_base.specs.Visible.{segment}
-use Rattle.pur_base.specs.declared.facts.SegmentFact.{SegmentFact}
-use Rattle.boot_codec.specs.Record.{set_count}
-use Rattle.array_spec.specs.Sound.{ArePlaces}
-use Rattle.array_spec.specs.Held.{AreEnough, DataHolds}
-use Rattle.world.specs.Losing.{geometry_of}
-use Rattle.world.specs.Shelf.{Shelved}
-use Rattle.boot_region.specs.Members.{IsMember, LostWrites}
+use Rattle.session_spec.specs.Prelude.{Command, Device, View, drive, Facts, segment, SegmentFact, set_count, ArePlaces, AreEnough, DataHolds, geometry_of, Shelved, Contents, AreAmong, ContentsStand}
+use Rattle.boot_region.specs.Prelude.{IsMember, LostWrites}
 use Rattle.nvram_log.specs.declared.log.NvLog.{NvLog}
-use Rattle.nvram_log.specs.Held.{HoldsOn, Keeps}
+use Rattle.nvram_log.specs.Prelude.{HoldsOn, Keeps}
 use Rattle.nvram_log.specs.Members as nv
 use Rattle.register.specs.declared.state.Register.{Register}
 use Rattle.register.specs.declared.tables.Tables.{Tables}
-use Rattle.register.specs.Registers.{IsLaterRecord, OnSlots, drives_of}
-use Rattle.register.specs.Standing.{Content, IsOpen}
-use Rattle.register.specs.Tables.{with_tables, KeepsArray}
-use Rattle.memory_spec.specs.Memory.{Contents}
-use Rattle.memory_spec.specs.Contents.{AreAmong, ContentsStand}
+use Rattle.register.specs.Prelude.{IsLaterRecord, OnSlots, drives_of, Content, IsOpen, with_tables, KeepsArray}
 use Rattle.array_core.specs.Changing.{IsOpenOn}
 use Rattle.array_core.specs.Drives.{SegmentsHold}
 use Rattle.array_core.specs.Free.{WritesFree}

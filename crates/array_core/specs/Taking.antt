@@ -1,12 +1,8 @@
 -- Stored tables and the memory that goes with them are those of the array.
 use Rattle.std.specs.Prelude.{[], ◌∷◌, Bool, List, Result, OnOk}
-use Rattle.pur_base.specs.Facts.{Facts}
+use Rattle.session_spec.specs.Prelude.{Facts, geometry_of, Shelved, LeavesOnly, Contents, ReadsAs, facts}
 use Rattle.pur_base.specs.Plain as plain
-use Rattle.world.specs.Losing.{geometry_of}
-use Rattle.world.specs.Shelf.{Shelved, LeavesOnly}
-use Rattle.register.specs.Standing.{Content, array_of}
-use Rattle.memory_spec.specs.Memory.{Contents, ReadsAs}
-use Rattle.memory_spec.specs.Tables.{facts}
+use Rattle.register.specs.Prelude.{Content, array_of}
 use Rattle.array_core.specs.declared.array.Array.{Array}
 use Rattle.array_core.specs.Drives.{SegmentsHold}
 use Rattle.array_core.specs.Holding.{NoneJoins}

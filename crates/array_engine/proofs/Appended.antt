@@ -1,20 +1,10 @@
 -- A logged request is done at once, or behind a checkpoint, and room stays known.
 use Rattle.std.proofs.Common.{inl, inr, [], refl, sym, subst}
-use Rattle.pur_base.specs.Commands.{Command}
-use Rattle.pur_base.specs.Devices.{Geometry}
-use Rattle.boot_codec.specs.declared.record.BootRecord.{BootRecord}
-use Rattle.world.specs.Shelf.{Continues, Shelved}
-use Rattle.session_spec.specs.Faring.{MayRise}
+use Rattle.session_spec.specs.Prelude.{Command, Geometry, BootRecord, Continues, Shelved, MayRise}
 use Rattle.array_core.specs.declared.array.Array.{Array}
-use Rattle.array_core.specs.Ready.{IsArrayOf}
-use Rattle.array_core.specs.Going.{by_faults}
-use Rattle.array_core.specs.Goes.{Goes}
-use Rattle.array_core.specs.Performing.{HasLogged}
-use Rattle.array_core.specs.lemmas.Losses.{risen_more}
+use Rattle.array_core.specs.Prelude.{IsArrayOf, by_faults, Goes, HasLogged, risen_more}
 use Rattle.array_checkpoint.specs.declared.room.Room.{Room}
-use Rattle.array_checkpoint.specs.Made.{HasFlushed}
-use Rattle.array_checkpoint.specs.Prepared.{IsLike}
-use Rattle.array_checkpoint.specs.Room.{IsRoomOf, MayAdd}
+use Rattle.array_checkpoint.specs.Prelude.{HasFlushed, IsLike, IsRoomOf, MayAdd}
 use Rattle.array_checkpoint.proofs.Like.{like_is}
 use Rattle.array_engine.specs.Appending.{IsAppended, IsFull, lost_in}
 use Rattle.register.proofs.Rounds.{same_shelf}

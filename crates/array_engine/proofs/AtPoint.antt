@@ -1,36 +1,16 @@
 -- What a session needs of an array that goes on, stays or is to halt: where it stands then, and what a stop leaves.
 use Rattle.std.proofs.Common.{◌≡◌, ◌⊎◌, inl, inr, Bool, true, false, List, [], ◌∷◌, ◌++◌, None, refl, sym, ap, subst, ◌∙◌}
 use Rattle.std.proofs.lemmas.Bool.{cond-false, cond-true}
-use Rattle.pur_base.specs.declared.device.Device.{Device}
-use Rattle.pur_base.specs.Grammar.{Item, Asked}
+use Rattle.session_spec.specs.Prelude.{Device, Item, Asked, refusal, Answer, refused, Refusal, IsAnswer, Command, IsLogged, after, after_all, names, Rises, geometry_of, Shelved, Stop, LeavesOnly, weaker, facts, patches, Point, Answers, IsFailed, IsRefused, left_out_once}
 use Rattle.pur_base.specs.Plain as plain
-use Rattle.pur_base.specs.Plain.{refusal}
-use Rattle.pur_base.specs.Replies.{Answer, refused}
-use Rattle.pur_base.specs.declared.reply.Refusal.{Refusal}
 use Rattle.pur_base.specs.declared.reply.Refusal.TheVariants as refusals
-use Rattle.array_spec.specs.Acked.{IsAnswer}
-use Rattle.pur_base.specs.Commands.{Command, IsLogged, after, after_all}
-use Rattle.boot_codec.specs.Region.{names}
-use Rattle.world.specs.Counts.{Rises}
-use Rattle.world.specs.Losing.{geometry_of}
-use Rattle.world.specs.Shelf.{Shelved, Stop, LeavesOnly}
-use Rattle.world.specs.lemmas.Moments.{weaker}
-use Rattle.register.specs.Registers.{named_sound}
-use Rattle.register.specs.Standing.{Content, array_of}
-use Rattle.memory_spec.specs.Tables.{facts, patches}
-use Rattle.session_spec.specs.Faring.{Point, Answers, IsFailed, IsRefused}
+use Rattle.register.specs.Prelude.{named_sound, Content, array_of}
 use Rattle.array_core.specs.declared.array.Array.{Array}
-use Rattle.array_core.specs.Drives.{SegmentsHold}
-use Rattle.array_core.specs.Ready.{IsReady}
-use Rattle.array_core.specs.Holding.{IsHolder}
-use Rattle.array_core.specs.Going.{by_faults, AgreesFor, GoesOnAt, IsOnWay}
-use Rattle.array_core.specs.Goes.{Goes, GoesOnMeanwhile, Halts, ReadsOn}
+use Rattle.array_core.specs.Prelude.{SegmentsHold, IsReady, IsHolder, by_faults, AgreesFor, GoesOnAt, IsOnWay, Goes, GoesOnMeanwhile, Halts, ReadsOn, sound_since}
 use Rattle.array_core.proofs.HandingOn.{unless}
-use Rattle.array_core.specs.lemmas.Losses.{sound_since}
 use Rattle.array_core.proofs.Lost.{not_risen}
 use Rattle.array_core.proofs.ReadyStands.{agrees_named}
-use Rattle.array_checkpoint.specs.Prepared.{IsLike}
-use Rattle.array_checkpoint.specs.Room.{MayAdd}
+use Rattle.array_checkpoint.specs.Prelude.{IsLike, MayAdd}
 use Rattle.array_engine.specs.declared.engine.Engine.{Engine}
 use Rattle.array_engine.specs.declared.said.Said.{Said}
 use Rattle.array_engine.specs.declared.said.Said.TheVariants as said
@@ -38,7 +18,6 @@ use Rattle.array_engine.specs.Saying.{Says}
 use Rattle.array_engine.specs.Appending.{failed_in, lost_in}
 use Rattle.array_engine.specs.Engines.{IsAnsweredAt, IsAt, IsKeptBy, MayBeDone, StandsAt, point_after}
 use Rattle.array_engine.proofs.Points.{KeepsReady, KeepsSegments, answered_refused}
-use Rattle.session_spec.specs.lemmas.Conditions.{left_out_once}
 
 -- ---- it goes on
 

@@ -1,18 +1,10 @@
 -- The point behind a checkpoint, told of an array that stands at the point before it.
 use Rattle.std.proofs.Common.{◌≡◌, ◌<◌, ◌≤◌, ◌+◌, Bool, refl, sym, ap, subst, None}
-use Rattle.pur_base.specs.Facts.{Facts}
-use Rattle.pur_base.specs.Visible.{segment}
-use Rattle.boot_codec.specs.declared.record.BootRecord.{BootRecord}
-use Rattle.world.specs.Shelf.{Shelved}
-use Rattle.world.specs.Losing.{geometry_of}
-use Rattle.memory_spec.specs.Memory.{Contents, ReadsAs}
-use Rattle.memory_spec.specs.Tables.{patches}
-use Rattle.memory_spec.specs.lemmas.Patches.{patches_are_all, patches_read}
+use Rattle.session_spec.specs.Prelude.{Facts, segment, BootRecord, Shelved, geometry_of, Contents, ReadsAs, patches, patches_are_all, patches_read, Point, IsCheckpointed}
 use Rattle.memory_spec.proofs.Records.{record_is_sound}
-use Rattle.session_spec.specs.Faring.{Point, IsCheckpointed}
 use Rattle.array_core.specs.declared.array.Array.{Array}
-use Rattle.array_core.specs.Ready.{IsArrayOf}
-use Rattle.array_checkpoint.specs.Made.{HasFlushed}
+use Rattle.array_core.specs.Prelude.{IsArrayOf}
+use Rattle.array_checkpoint.specs.Prelude.{HasFlushed}
 use Rattle.array_engine.specs.Engines.{StandsAt}
 use Rattle.array_engine.proofs.Cleared.{cleared_tables}
 

@@ -1,11 +1,9 @@
 -- Memory behind a checkpoint: nothing is beside its patches.
 use Rattle.std.proofs.Common.{◌≡◌, ℕ, ◌≤◌, List, [], ◌∷◌, length, refl, subst, arith}
-use Rattle.pur_base.specs.Devices.{Geometry}
-use Rattle.memory_spec.specs.Whole.{IsWhole}
-use Rattle.array_memory.specs.Kept.{Kept}
+use Rattle.session_spec.specs.Prelude.{Geometry, IsWhole}
+use Rattle.array_memory.specs.Prelude.{Kept}
 use Rattle.array_core.specs.declared.array.Array.{Array}
-use Rattle.array_core.specs.Ready.{IsArrayOf}
-use Rattle.array_core.specs.Room.{HasRoomFor}
+use Rattle.array_core.specs.Prelude.{IsArrayOf, HasRoomFor}
 
 none_left : {A : Type 0} (xs : List A) → length xs ≤ 0 → xs ≡ []
 none_left [] few = refl

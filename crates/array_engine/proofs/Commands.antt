@@ -1,33 +1,17 @@
 -- The point behind a logged request.
 use Rattle.std.proofs.Common.{◌≡◌, inl, inr, ℕ, ◌+◌, Bool, true, false, List, [], ◌∷◌, Option, Some, None, Result, Ok, Err, OnOk, IfErr, refl, sym, ap, subst, ◌∙◌, arith}
 use Rattle.std.proofs.lemmas.Bool.{cases_lt, cond-false, le-leb, lt-leb}
-use Rattle.pur_base.specs.declared.device.Device.{Device}
-use Rattle.pur_base.specs.declared.request.Request.{Request}
+use Rattle.session_spec.specs.Prelude.{Device, Request, Refusal, Command, IsLogged, after, Geometry, Asked, is_in_force, refusal, done, Answer, Line, refused, given, after_unless, BootRecord, NextNumbers, LOG_SLOTS, Shelved, Stop, geometry_of, next_after, patches, Point, Answers, AnswersRequest, AnswersAccepted, IsAppended as IsAppendedAt, IsAppendedBehind, IsDone, IsRefused, MayRise, Where}
 use Rattle.pur_base.specs.declared.request.Request.TheVariants as request
-use Rattle.pur_base.specs.declared.reply.Refusal.{Refusal}
 use Rattle.pur_base.specs.declared.reply.Refusal.TheVariants as refusals
 use Rattle.pur_base.specs.declared.reply.Reply.TheVariants as reply
-use Rattle.pur_base.specs.Commands.{Command, IsLogged, after}
-use Rattle.pur_base.specs.Devices.{Geometry}
-use Rattle.pur_base.specs.Grammar.{Asked, is_in_force}
 use Rattle.pur_base.specs.Plain as plain
-use Rattle.pur_base.specs.Plain.{refusal, done}
-use Rattle.pur_base.specs.Replies.{Answer, Line, refused, given, after_unless}
-use Rattle.boot_codec.specs.declared.record.BootRecord.{BootRecord}
-use Rattle.boot_codec.specs.declared.record.NextNumbers.{NextNumbers}
-use Rattle.log_codec.specs.declared.limits.TheConstants.{LOG_SLOTS}
-use Rattle.world.specs.Shelf.{Shelved, Stop}
-use Rattle.world.specs.Losing.{geometry_of}
-use Rattle.memory_spec.specs.Numbers.{next_after}
-use Rattle.memory_spec.specs.Tables.{patches}
 use Rattle.session_spec.specs.Faring as faring
-use Rattle.session_spec.specs.Faring.{Point, Answers, AnswersRequest, AnswersAccepted, IsAppended as IsAppendedAt, IsAppendedBehind, IsDone, IsRefused, MayRise, Where}
 use Rattle.session_spec.specs.declared.limits.TheConstants.{ADDING_GROUPS, LIMITED_SEGMENTS}
 use Rattle.array_core.specs.declared.array.Array.{Array}
 use Rattle.array_core.proofs.Applied.{same_patches}
-use Rattle.array_core.specs.Going.{by_faults}
-use Rattle.array_core.specs.Goes.{Goes}
-use Rattle.array_checkpoint.specs.Prepared.{IsLike}
+use Rattle.array_core.specs.Prelude.{by_faults, Goes}
+use Rattle.array_checkpoint.specs.Prelude.{IsLike}
 use Rattle.array_checkpoint.specs.declared.room.RoomFault.TheVariants as lacks
 use Rattle.array_engine.specs.declared.engine.Engine.{Engine}
 use Rattle.array_engine.specs.declared.appending.AppendFault.{AppendFault}

@@ -4,28 +4,17 @@ use Rattle.std.specs.Prelude.{length, take}
 use Rattle.std.specs.List.{AllByRecursion}
 use Rattle.std.proofs.lemmas.List.{length-take}
 use Rattle.std.proofs.Math.Seq.{take-append_seam}
-use Rattle.pur_base.specs.Devices.{View}
-use Rattle.pur_base.specs.Grammar.{Asked}
+use Rattle.session_spec.specs.Prelude.{View, Asked, refusal, first_cause, read_causes, sectors_of, span, Sectors, REQUEST_SECTORS, SECTOR_BYTES, geometry_of, Shelved, IsShelf, ContentsStand, Memory, Contents, ReadsAs, facts, Point}
 use Rattle.pur_base.specs.Plain as plain
-use Rattle.pur_base.specs.Plain.{refusal, first_cause, read_causes, sectors_of, span}
-use Rattle.pur_base.specs.Replies.{Sectors}
-use Rattle.pur_base.specs.declared.limits.TheConstants.{REQUEST_SECTORS, SECTOR_BYTES}
 use Rattle.pur_base.specs.declared.request.Request.TheVariants as request
-use Rattle.world.specs.Losing.{geometry_of}
-use Rattle.world.specs.Shelf.{Shelved, IsShelf}
-use Rattle.memory_spec.specs.Contents.{ContentsStand}
-use Rattle.memory_spec.specs.Memory.{Memory, Contents, ReadsAs}
-use Rattle.memory_spec.specs.Tables.{facts}
 use Rattle.volume_ops.specs.OfArray.{OfArray}
 use Rattle.target_io.specs.Reading.{ShowsDrives, LosesThree}
 use Rattle.target_io.specs.Targets.{IfRefused, IfLost}
 use Rattle.target_io.specs.declared.fault.ReadFault.{ReadFault}
 use Rattle.target_io.specs.declared.fault.ReadFault.TheVariants as read
-use Rattle.session_spec.specs.Faring.{Point}
 use Rattle.array_core.specs.declared.array.Array.{Array}
-use Rattle.array_core.specs.Drives.{drives_view}
-use Rattle.array_core.specs.Ready.{IsArrayOf}
-use Rattle.array_checkpoint.specs.Prepared.{IsLike}
+use Rattle.array_core.specs.Prelude.{drives_view, IsArrayOf}
+use Rattle.array_checkpoint.specs.Prelude.{IsLike}
 use Rattle.pyramid_jobs.specs.declared.fault.MergeFault.{MergeFault}
 use Rattle.pyramid_jobs.specs.declared.fault.MergeFault.TheVariants as merge
 use Rattle.array_engine.specs.declared.engine.Engine.{Engine}

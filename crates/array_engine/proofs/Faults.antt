@@ -1,14 +1,11 @@
 -- Why a logged request wasn't done, or a checkpoint or a merge not made.
 use Rattle.std.proofs.Common.{◌≡◌, ℕ, false, List, [], ◌∷◌, Result, Ok, Err, OnOk, OnErr, IfErr}
-use Rattle.pur_base.specs.Commands.{Command}
-use Rattle.pur_base.specs.declared.request.Table.{Table}
-use Rattle.world.specs.Shelf.{Shelved, IsShelf}
+use Rattle.session_spec.specs.Prelude.{Command, Table, Shelved, IsShelf}
 use Rattle.array_core.specs.declared.array.Array.{Array}
-use Rattle.array_core.specs.Going.{by_faults}
-use Rattle.array_core.specs.Goes.{Goes, GoesOnMeanwhile, Halts}
+use Rattle.array_core.specs.Prelude.{by_faults, Goes, GoesOnMeanwhile, Halts}
 use Rattle.array_core.proofs.GoingOn.{halts_for_more}
 use Rattle.array_checkpoint.specs.Made as made
-use Rattle.array_checkpoint.specs.Room.{MayAdd, MayFlush}
+use Rattle.array_checkpoint.specs.Prelude.{MayAdd, MayFlush}
 use Rattle.array_checkpoint.specs.declared.making.CheckpointFault.{CheckpointFault}
 use Rattle.array_checkpoint.specs.declared.making.CheckpointFault.TheVariants.{Memory, Device}
 use Rattle.pyramid_jobs.specs.Made as merged

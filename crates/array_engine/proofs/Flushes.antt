@@ -2,24 +2,12 @@
 use Rattle.std.proofs.Common.{◌≡◌, inl, inr, ℕ, Bool, true, false, List, [], Result, Ok, Err, OnOk, IfErr, refl, sym, subst, ◌∙◌}
 use Rattle.std.proofs.lemmas.Bool.{cond-false}
 use Rattle.pur_base.specs.declared.request.Request.TheVariants as request
-use Rattle.pur_base.specs.declared.reply.Refusal.{Refusal}
+use Rattle.session_spec.specs.Prelude.{Refusal, Geometry, Asked, refusal, Answer, Line, refused, Shelved, Stop, geometry_of, patches, Point, Answers, AnswersRequest, IsFlushed, IsFlushing, IsRefused}
 use Rattle.pur_base.specs.declared.reply.Refusal.TheVariants as refusals
 use Rattle.pur_base.specs.declared.reply.Reply.TheVariants as reply
-use Rattle.pur_base.specs.Devices.{Geometry}
-use Rattle.pur_base.specs.Grammar.{Asked}
-use Rattle.pur_base.specs.Plain.{refusal}
-use Rattle.pur_base.specs.Replies.{Answer, Line, refused}
-use Rattle.world.specs.Shelf.{Shelved, Stop}
-use Rattle.world.specs.Losing.{geometry_of}
-use Rattle.memory_spec.specs.Tables.{patches}
-use Rattle.session_spec.specs.Faring.{Point, Answers, AnswersRequest, IsFlushed, IsFlushing, IsRefused}
 use Rattle.session_spec.specs.declared.limits.TheConstants.{CHECKPOINT_GROUPS, SEGMENTS_END}
-use Rattle.array_core.specs.Ready.{IsArrayOf}
-use Rattle.array_core.specs.Going.{by_faults}
-use Rattle.array_core.specs.Goes.{Goes}
-use Rattle.array_checkpoint.specs.Made.{HasFlushed}
-use Rattle.array_checkpoint.specs.Prepared.{IsLike}
-use Rattle.array_checkpoint.specs.Room.{MayFlush}
+use Rattle.array_core.specs.Prelude.{IsArrayOf, by_faults, Goes}
+use Rattle.array_checkpoint.specs.Prelude.{HasFlushed, IsLike, MayFlush}
 use Rattle.array_checkpoint.specs.declared.room.RoomFault.TheVariants as lacks
 use Rattle.array_engine.specs.declared.engine.Engine.{Engine}
 use Rattle.array_engine.specs.declared.appending.AppendFault.{AppendFault}

@@ -1,41 +1,21 @@
 -- At every moment while nothing is written a session can go on, and a read leaves what the devices hold.
 use Rattle.std.proofs.Common.{◌≡◌, ℕ, zero, suc, List, [], ◌∷◌, refl, sym, ap, subst, ◌∙◌, arith, Bool, true}
 use Rattle.std.specs.Prelude.{Contains, if◌then◌else◌, None, Some, false, slice_index_or}
-use Rattle.pur_base.specs.declared.device.Device.{Device}
-use Rattle.pur_base.specs.declared.device.Device.TheVariants.{Drive, Nv}
-use Rattle.pur_base.specs.Commands.{Command}
-use Rattle.pur_base.specs.Devices.{drive, nvram, View}
-use Rattle.pur_base.specs.Grammar.{Item}
+use Rattle.session_spec.specs.Prelude.{Device, Drive, Nv, Command, drive, nvram, View, Item, has_risen, Shelved, Stop, Disk, IsShelf, IsSame, Continues, LeavesOnly, MayLeave, MayStop, WritesOnly, started, weaker, Contents, facts, ContentsStand, left_out_once}
 use Rattle.pur_base.specs.Plain as plain
-use Rattle.world.specs.Losing.{has_risen}
-use Rattle.world.specs.Shelf.{Shelved, Stop, Disk, IsShelf, IsSame, Continues, LeavesOnly, MayLeave, MayStop}
-use Rattle.world.specs.Writes.{WritesOnly}
-use Rattle.world.specs.lemmas.Moments.{started, weaker}
-use Rattle.segment_io.specs.Lost.{NoByte}
+use Rattle.segment_io.specs.Prelude.{NoByte}
 use Rattle.register.specs.declared.state.Register.{Register}
-use Rattle.register.specs.Registers.{drives_of}
-use Rattle.register.specs.Standing.{Content, array_of}
-use Rattle.array_core.specs.Free.{WritesFree, OnFree}
+use Rattle.register.specs.Prelude.{drives_of, Content, array_of}
+use Rattle.array_core.specs.Prelude.{WritesFree, OnFree, SegmentsHold, drives_view, IsReady, by_faults, GoesOnAt, IsOnWay, GoesOnMeanwhile, Holds, lost_by, sound_since}
 use Rattle.array_core.proofs.Kept.{free_writes_keep_open}
 use Rattle.array_core.proofs.Standing.{member_clean}
 use Rattle.segment_io.proofs.InTurn.{nothing}
-use Rattle.nvram_log.specs.Held.{HoldsOn}
-use Rattle.nvram_log.specs.Slots.{IsLog}
-use Rattle.memory_spec.specs.Memory.{Contents}
-use Rattle.memory_spec.specs.Tables.{facts}
-use Rattle.memory_spec.specs.Contents.{ContentsStand}
+use Rattle.nvram_log.specs.Prelude.{HoldsOn, IsLog}
 use Rattle.array_core.specs.declared.array.Array.{Array}
-use Rattle.array_core.specs.Drives.{SegmentsHold, drives_view}
-use Rattle.array_core.specs.Ready.{IsReady}
-use Rattle.array_core.specs.Going.{by_faults, GoesOnAt, IsOnWay}
-use Rattle.array_core.specs.Goes.{GoesOnMeanwhile, Holds}
-use Rattle.array_core.specs.Losing.{lost_by}
-use Rattle.array_core.specs.lemmas.Losses.{sound_since}
 use Rattle.array_core.proofs.ReadyStands.{ready_stands_in}
 use Rattle.array_engine.specs.Engines.{IsKeptBy}
 use Rattle.array_engine.proofs.AtPoint.{kept_same}
 use Rattle.array_engine.proofs.Points.{KeepsReady, KeepsSegments}
-use Rattle.session_spec.specs.lemmas.Conditions.{left_out_once}
 
 -- ---- a read
 

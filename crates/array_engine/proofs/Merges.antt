@@ -3,34 +3,16 @@ use Rattle.std.proofs.Common.{◌≡◌, inl, inr, ℕ, ◌+◌, ◌<◌, ◌≤
 use Rattle.std.specs.Prelude.{not, nat_lt}
 use Rattle.std.proofs.lemmas.Bool.{cond-false, le-ltb, lt-ltb}
 use Rattle.pur_base.specs.declared.request.Request.TheVariants as request
-use Rattle.pur_base.specs.declared.request.Table.{Table}
-use Rattle.pur_base.specs.declared.reply.Refusal.{Refusal}
+use Rattle.session_spec.specs.Prelude.{Table, Refusal, AnyFact, Geometry, Asked, refusal, Answer, Line, refused, patch_segments, BootRecord, NextNumbers, AreSound, all_facts, Shelved, Stop, geometry_of, patches, AreJoined, HaveShrunk, has_pair, pair_segments, place_in, Point, Answers, AnswersRequest, IsMergeDone, IsMerging, IsRefused, WithPair}
 use Rattle.pur_base.specs.declared.reply.Refusal.TheVariants as refusals
 use Rattle.pur_base.specs.declared.reply.Reply.TheVariants as reply
-use Rattle.pur_base.specs.declared.facts.AnyFact.{AnyFact}
-use Rattle.pur_base.specs.Devices.{Geometry}
-use Rattle.pur_base.specs.Grammar.{Asked}
-use Rattle.pur_base.specs.Plain.{refusal}
-use Rattle.pur_base.specs.Replies.{Answer, Line, refused}
-use Rattle.boot_codec.specs.Record.{patch_segments}
-use Rattle.boot_codec.specs.declared.record.BootRecord.{BootRecord}
-use Rattle.boot_codec.specs.declared.record.NextNumbers.{NextNumbers}
-use Rattle.array_spec.specs.Sound.{AreSound}
-use Rattle.array_spec.specs.Stored.{all_facts}
-use Rattle.world.specs.Shelf.{Shelved, Stop}
-use Rattle.world.specs.Losing.{geometry_of}
-use Rattle.memory_spec.specs.Tables.{patches}
-use Rattle.memory_spec.specs.Merging.{AreJoined, HaveShrunk, has_pair, pair_segments, place_in}
-use Rattle.table_plan.specs.Merging.{merged_patches}
+use Rattle.table_plan.specs.Prelude.{merged_patches}
 use Rattle.session_spec.specs.Faring as faring
-use Rattle.session_spec.specs.Faring.{Point, Answers, AnswersRequest, IsMergeDone, IsMerging, IsRefused, WithPair}
 use Rattle.session_spec.specs.declared.limits.TheConstants.{MERGE_GROUPS}
 use Rattle.array_core.specs.declared.array.Array.{Array}
-use Rattle.array_core.specs.Ready.{IsArrayOf, is_spent}
-use Rattle.array_core.specs.Going.{by_faults}
-use Rattle.array_core.specs.Goes.{Goes}
-use Rattle.array_memory.specs.Kept.{Kept}
-use Rattle.array_checkpoint.specs.Prepared.{IsLike}
+use Rattle.array_core.specs.Prelude.{IsArrayOf, is_spent, by_faults, Goes}
+use Rattle.array_memory.specs.Prelude.{Kept}
+use Rattle.array_checkpoint.specs.Prelude.{IsLike}
 use Rattle.pyramid_jobs.specs.Checked.{IsCheckFault, MayMerge}
 use Rattle.pyramid_jobs.specs.Made.{HasMerged, IsFaultOf}
 use Rattle.pyramid_jobs.specs.declared.fault.MergeFault.{MergeFault}

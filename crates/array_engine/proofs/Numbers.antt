@@ -3,19 +3,9 @@ use Rattle.std.proofs.Common.{◌≡◌, ℕ, ◌+◌, ◌≤◌, Bool, List, []
 use Rattle.std.specs.Prelude.{filter_map}
 use Rattle.std.specs.List.{cons_option, range_with_len}
 use Rattle.std.proofs.lemmas.List.FromFn.{length-range_with_len}
-use Rattle.pur_base.specs.Facts.{Facts}
-use Rattle.pur_base.specs.Devices.{Geometry}
-use Rattle.pur_base.specs.Visible.{segment, segments}
-use Rattle.pur_base.specs.declared.facts.AnyFact.{AnyFact}
-use Rattle.pur_base.specs.declared.facts.ElisionFact.{ElisionFact}
-use Rattle.pur_base.specs.declared.facts.SegmentFact.{SegmentFact}
-use Rattle.world.specs.Shelf.{Shelved}
-use Rattle.array_spec.specs.Stored.{all_facts}
-use Rattle.memory_spec.specs.Tables.{facts, flushed}
-use Rattle.memory_spec.specs.lemmas.Patches.{patches_are_flushed, whole_table}
-use Rattle.session_spec.specs.Faring.{Point, data_segments_at, numbers_at}
+use Rattle.session_spec.specs.Prelude.{Facts, Geometry, segment, segments, AnyFact, ElisionFact, SegmentFact, Shelved, all_facts, facts, flushed, patches_are_flushed, whole_table, Point, data_segments_at, numbers_at}
 use Rattle.array_core.specs.declared.array.Array.{Array}
-use Rattle.array_core.specs.Ready.{IsArrayOf}
+use Rattle.array_core.specs.Prelude.{IsArrayOf}
 use Rattle.array_checkpoint.proofs.Rooms.{patches_show}
 use Rattle.array_engine.specs.Engines.{StandsAt}
 use Rattle.array_engine.specs.Status.{numbers_of, segments_of}

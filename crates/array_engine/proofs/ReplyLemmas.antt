@@ -4,12 +4,11 @@ use Rattle.std.specs.Prelude.{option_map, slice_get}
 use Rattle.std.proofs.lemmas.List.{append-nil}
 use Rattle.std.proofs.lemmas.Grind.{flat_map-append}
 use Rattle.std.proofs.Math.Seq.{take-add, take-length}
-use Rattle.pur_base.specs.Plain.{Entry, Array}
+use Rattle.session_spec.specs.Prelude.{Entry, Array, Entries, line_text, sectors_text, entry_text, entries_text, text}
 use Rattle.pur_base.specs.declared.reply.Reply.TheVariants as reply
-use Rattle.pur_base.specs.Replies.{Entries, line_text, sectors_text, entry_text, entries_text, text}
 use Rattle.volume_ops.specs.declared.listing.ObjectEntry.{ObjectEntry}
 use Rattle.volume_ops.specs.OfArray.{line_of}
-use Rattle.request_codec.specs.Writing.{Gave, Goes, Extends}
+use Rattle.request_codec.specs.Prelude.{Gave, Goes, Extends}
 use Rattle.request_codec.proofs.WritingLemmas.{goes-first, goes-then}
 
 -- where nothing was pending and nothing is, the text was given

@@ -1,15 +1,10 @@
 -- Requests that were read are within the bounds that memory and the log ask for.
 use Rattle.std.proofs.Common.{◌≡◌, List, true, arith}
-use Rattle.pur_base.specs.Commands.{IsLogged}
-use Rattle.pur_base.specs.Grammar.{is_in_force}
-use Rattle.pur_base.specs.declared.facts.ObjectFact.{ObjectFact}
-use Rattle.pur_base.specs.declared.request.Request.{Request}
+use Rattle.session_spec.specs.Prelude.{IsLogged, is_in_force, ObjectFact, Request, IsCommand}
 use Rattle.pur_base.specs.declared.request.Request.TheVariants as request
-use Rattle.log_codec.specs.Head.{IsCommand}
-use Rattle.array_memory.specs.Asked.{IsAllowed}
-use Rattle.array_memory.specs.Lawful.{IsLawful}
+use Rattle.array_memory.specs.Prelude.{IsAllowed, IsLawful}
 use Rattle.volume_ops.specs.OfArray.{IsOfMemory}
-use Rattle.request_codec.specs.Spelled.{IsSpelledRequest}
+use Rattle.request_codec.specs.Prelude.{IsSpelledRequest}
 
 pub is_of_memory : (r : Request) → IsLogged r → is_in_force r ≡ true → IsSpelledRequest r → IsOfMemory r
 is_of_memory (request.Create n size) logs force h = h.0

@@ -2,17 +2,12 @@
 use Rattle.std.proofs.Common.{◌≡◌, ℕ, ◌<◌, Bool, true, false, refl, ap, ◌∙◌, arith}
 use Rattle.std.specs.Prelude.{nat_lt}
 use Rattle.std.proofs.lemmas.Bool.{le-leb, lt-leb, le-ltb, lt-ltb}
-use Rattle.pur_base.specs.declared.reply.Refusal.{Refusal}
+use Rattle.session_spec.specs.Prelude.{Refusal, Answer, patch_segments, BootRecord, Shelved, Point, IsRefused, Where, WithRoom, has_segments}
 use Rattle.pur_base.specs.declared.reply.Refusal.TheVariants as refusals
-use Rattle.pur_base.specs.Replies.{Answer}
-use Rattle.boot_codec.specs.Record.{patch_segments}
-use Rattle.boot_codec.specs.declared.record.BootRecord.{BootRecord}
-use Rattle.world.specs.Shelf.{Shelved}
 use Rattle.session_spec.specs.Faring as faring
-use Rattle.session_spec.specs.Faring.{Point, IsRefused, Where, WithRoom, has_segments}
 use Rattle.array_core.specs.declared.array.Array.{Array}
-use Rattle.array_core.specs.Ready.{is_spent}
-use Rattle.array_checkpoint.specs.Room.{HasGroups, IsRoomFaultOf, MayAdd, MayTake}
+use Rattle.array_core.specs.Prelude.{is_spent}
+use Rattle.array_checkpoint.specs.Prelude.{HasGroups, IsRoomFaultOf, MayAdd, MayTake}
 use Rattle.array_checkpoint.specs.declared.room.RoomFault.{RoomFault}
 use Rattle.array_checkpoint.specs.declared.room.RoomFault.TheVariants as lacks
 use Rattle.array_engine.specs.Engines.{StandsAt}

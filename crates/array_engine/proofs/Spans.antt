@@ -2,36 +2,18 @@
 use Rattle.std.proofs.Common.{◌≡◌, inl, inr, ℕ, ◌<◌, ◌≤◌, List, Some, refl, ◌∙◌, subst, arith, Bool, true, false, not}
 use Rattle.std.specs.Prelude.{Contains}
 use Rattle.std.proofs.lemmas.Bool.{cases_Bool}
-use Rattle.pur_base.specs.declared.device.Device.{Device}
+use Rattle.session_spec.specs.Prelude.{Device, SegmentFact, Sound, drive, Facts, segment_key, never, key_of, is_elided, segment, says_is, PatchSegment, all_facts, Rises, geometry_of, has_risen, Shelved, facts, all_segments, each_by_recursion, Point, IsGone}
 use Rattle.pur_base.specs.declared.request.Table.TheVariants as table
-use Rattle.pur_base.specs.declared.facts.SegmentFact.{SegmentFact}
 use Rattle.pur_base.specs.declared.facts.AnyFact.TheVariants as any
-use Rattle.pur_base.specs.Devices.{Sound, drive}
-use Rattle.pur_base.specs.Facts.{Facts, segment_key, never}
-use Rattle.pur_base.specs.Keys.{key_of}
-use Rattle.pur_base.specs.Visible.{is_elided, segment}
-use Rattle.pur_base.specs.lemmas.Says.{says_is}
-use Rattle.boot_codec.specs.declared.patch.PatchSegment.{PatchSegment}
-use Rattle.array_spec.specs.Stored.{all_facts}
-use Rattle.boot_region.specs.Members.{IsMember}
-use Rattle.world.specs.Counts.{Rises}
-use Rattle.world.specs.Losing.{geometry_of, has_risen}
-use Rattle.world.specs.Shelf.{Shelved}
+use Rattle.boot_region.specs.Prelude.{IsMember}
 use Rattle.patch_io.proofs.Parts.{segment_places}
-use Rattle.segment_io.specs.Lost.{is_in}
+use Rattle.segment_io.specs.Prelude.{is_in}
 use Rattle.register.specs.declared.state.Register.{Register}
-use Rattle.register.specs.Registers.{IsRegisterOf, drives_of}
-use Rattle.register.specs.lemmas.Flags.{cut_in, in_cut}
-use Rattle.memory_spec.specs.Tables.{facts}
-use Rattle.memory_spec.specs.lemmas.AllTables.{all_segments}
-use Rattle.memory_spec.specs.lemmas.Lists.{each_by_recursion}
+use Rattle.register.specs.Prelude.{IsRegisterOf, drives_of, cut_in, in_cut}
 use Rattle.session_spec.specs.Faring as faring
-use Rattle.session_spec.specs.Faring.{Point, IsGone}
 use Rattle.array_core.specs.declared.array.Array.{Array}
-use Rattle.array_core.specs.Drives.{drives_view}
-use Rattle.array_core.specs.Ready.{IsArrayOf}
+use Rattle.array_core.specs.Prelude.{drives_view, IsArrayOf, IsHolder}
 use Rattle.target_io.specs.Reading.{AreReadable, ShowsDrives, IsLost, LosesThree}
-use Rattle.array_core.specs.Holding.{IsHolder}
 use Rattle.array_engine.specs.Appending.{failed_in}
 use Rattle.array_core.proofs.Lost.{not_risen}
 

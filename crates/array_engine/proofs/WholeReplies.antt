@@ -3,20 +3,8 @@ use Rattle.std.proofs.Common.{◌≡◌, ℕ, List, [], ◌∷◌, sym, subst, a
 use Rattle.std.specs.Prelude.{Contains}
 use Rattle.std.specs.List.{AllByRecursion, AllZip}
 use Rattle.std.proofs.lemmas.Slice.Zip.{AllZip-long}
-use Rattle.pur_base.specs.Plain.{Array}
-use Rattle.pur_base.specs.Facts.{Facts}
-use Rattle.pur_base.specs.Visible.{objects}
-use Rattle.pur_base.specs.Replies.{Entries}
-use Rattle.pur_base.specs.declared.facts.ObjectFact.{ObjectFact}
+use Rattle.session_spec.specs.Prelude.{Array, Facts, objects, Entries, ObjectFact, is_name, IsFact, IsAnswer, IsEntry, facts, Memory, Contents, EntryReads, IsSound, ReadsAs, all_objects, each_by_recursion, object_is, of_objects}
 use Rattle.pur_base.specs.declared.facts.AnyFact.TheVariants as any
-use Rattle.pur_base.specs.Names.{is_name}
-use Rattle.fact_codec.specs.Fact.{IsFact}
-use Rattle.array_spec.specs.Acked.{IsAnswer, IsEntry}
-use Rattle.memory_spec.specs.Tables.{facts}
-use Rattle.memory_spec.specs.Memory.{Memory, Contents, EntryReads, IsSound, ReadsAs}
-use Rattle.memory_spec.specs.lemmas.AllTables.{all_objects}
-use Rattle.memory_spec.specs.lemmas.Lists.{each_by_recursion}
-use Rattle.memory_spec.specs.lemmas.Objects.{object_is, of_objects}
 
 -- a visible object is one of the facts
 visible_fits : (m : Memory) → IsSound m → (x : ObjectFact) → Contains (objects (facts m.tables) m.next.object) x → IsFact (any.Object x)

@@ -1,6 +1,6 @@
 -- Items that are answered.
 use Rattle.std.specs.Prelude.{◌≡◌, true}
-use Rattle.pur_base.specs.Grammar.{is_in_force}
+use Rattle.session_spec.specs.Prelude.{is_in_force}
 use Rattle.request_codec.specs.declared.reader.Item.{Item}
 use Rattle.request_codec.specs.declared.reader.Item.TheVariants as item
 

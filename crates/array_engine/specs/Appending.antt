@@ -1,19 +1,10 @@
 -- What becomes of an array where a logged request is done, at once or behind a checkpoint, and why it isn't done.
 use Rattle.std.specs.Prelude.{◌≡◌, ◌⊎◌, Bool, [], ◌∷◌}
-use Rattle.pur_base.specs.declared.device.Device.{Device}
-use Rattle.pur_base.specs.Commands.{Command}
+use Rattle.session_spec.specs.Prelude.{Device, Command, LOG_SLOTS, geometry_of, has_risen, Shelved, Contents, ReadsAs}
 use Rattle.pur_base.specs.Plain as plain
-use Rattle.log_codec.specs.declared.limits.TheConstants.{LOG_SLOTS}
-use Rattle.world.specs.Losing.{geometry_of, has_risen}
-use Rattle.world.specs.Shelf.{Shelved}
-use Rattle.memory_spec.specs.Memory.{Contents, ReadsAs}
 use Rattle.array_core.specs.declared.array.Array.{Array}
-use Rattle.array_core.specs.Ready.{IsArrayOf}
-use Rattle.array_core.specs.Going.{by_faults}
-use Rattle.array_core.specs.Goes.{Halts}
-use Rattle.array_core.specs.Performing.{HasLogged}
-use Rattle.array_checkpoint.specs.Made.{HasFlushed}
-use Rattle.array_checkpoint.specs.Room.{IsRoomFault, MayAdd}
+use Rattle.array_core.specs.Prelude.{IsArrayOf, by_faults, Halts, HasLogged}
+use Rattle.array_checkpoint.specs.Prelude.{HasFlushed, IsRoomFault, MayAdd}
 use Rattle.array_checkpoint.specs.declared.making.CheckpointFault.{CheckpointFault}
 use Rattle.array_checkpoint.specs.declared.making.CheckpointFault.TheVariants as made
 use Rattle.array_checkpoint.specs.declared.room.RoomFault.{RoomFault}

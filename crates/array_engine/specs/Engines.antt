@@ -1,27 +1,11 @@
 -- The array that is served, at a point, and what answering an item makes of it.
 use Rattle.std.specs.Prelude.{◌≡◌, ◌⊎◌, Bool, true, false, List, [], ◌∷◌, Contains, if◌then◌else◌}
-use Rattle.pur_base.specs.declared.device.Device.{Device}
-use Rattle.pur_base.specs.Devices.{Geometry, Sound, LeftOut, IsBearable}
-use Rattle.pur_base.specs.Grammar.{Item}
+use Rattle.session_spec.specs.Prelude.{Device, Geometry, Sound, LeftOut, IsBearable, Item, Answer, names, IsAnswer, AcceptsNext, geometry_of, losing, Shelved, Stop, Contents, ReadsAs, facts, patches, IsStanding, Point, Answers}
 use Rattle.pur_base.specs.Plain as plain
-use Rattle.pur_base.specs.Replies.{Answer}
-use Rattle.boot_codec.specs.Region.{names}
-use Rattle.array_spec.specs.Acked.{IsAnswer}
-use Rattle.array_spec.specs.After.{AcceptsNext}
-use Rattle.world.specs.Losing.{geometry_of, losing}
-use Rattle.world.specs.Shelf.{Shelved, Stop}
-use Rattle.register.specs.Registers.{named_sound}
-use Rattle.register.specs.Standing.{Content, array_of}
-use Rattle.memory_spec.specs.Memory.{Contents, ReadsAs}
-use Rattle.memory_spec.specs.Tables.{facts, patches}
-use Rattle.session_spec.specs.Entering.{IsStanding}
-use Rattle.session_spec.specs.Faring.{Point, Answers}
+use Rattle.register.specs.Prelude.{named_sound, Content, array_of}
 use Rattle.array_core.specs.declared.array.Array.{Array}
-use Rattle.array_core.specs.Drives.{SegmentsHold}
-use Rattle.array_core.specs.Ready.{IsArrayOf, IsReady}
-use Rattle.array_core.specs.Holding.{IsHolder}
-use Rattle.array_core.specs.Losing.{lost_by}
-use Rattle.array_checkpoint.specs.Room.{IsRoomOf, MayAdd}
+use Rattle.array_core.specs.Prelude.{SegmentsHold, IsArrayOf, IsReady, IsHolder, lost_by}
+use Rattle.array_checkpoint.specs.Prelude.{IsRoomOf, MayAdd}
 use Rattle.array_engine.specs.declared.said.Said.{Said}
 use Rattle.array_engine.specs.declared.engine.Engine.{Engine}
 use Rattle.array_engine.specs.Appending.{failed_in, lost_in}

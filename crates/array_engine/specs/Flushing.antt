@@ -1,10 +1,9 @@
 -- What becomes of an array where a checkpoint is asked for, and why it isn't made.
 use Rattle.std.specs.Prelude.{[]}
-use Rattle.world.specs.Shelf.{Shelved}
+use Rattle.session_spec.specs.Prelude.{Shelved}
 use Rattle.array_core.specs.declared.array.Array.{Array}
-use Rattle.array_core.specs.Going.{by_faults}
-use Rattle.array_core.specs.Goes.{Halts}
-use Rattle.array_checkpoint.specs.Room.{IsFlushRoomFault, MayFlush}
+use Rattle.array_core.specs.Prelude.{by_faults, Halts}
+use Rattle.array_checkpoint.specs.Prelude.{IsFlushRoomFault, MayFlush}
 use Rattle.array_checkpoint.specs.declared.room.RoomFault.TheVariants as lacks
 use Rattle.array_engine.specs.declared.appending.AppendFault.{AppendFault}
 use Rattle.array_engine.specs.declared.appending.AppendFault.TheVariants as fault

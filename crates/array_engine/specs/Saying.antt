@@ -1,9 +1,7 @@
 -- What is said to an item, as an answer: sectors stand in a buffer, and names in memory.
 use Rattle.std.specs.Prelude.{◌≡◌, ◌≤◌, List, ℕ, length, take}
 use Rattle.pur_base.specs.declared.reply.Reply.TheVariants as reply
-use Rattle.pur_base.specs.Plain.{Array}
-use Rattle.pur_base.specs.Replies.{Answer, Line, Sectors, Entries, refused}
-use Rattle.memory_spec.specs.Memory.{Memory, Contents, ReadsAs}
+use Rattle.session_spec.specs.Prelude.{Array, Answer, Line, Sectors, Entries, refused, Memory, Contents, ReadsAs}
 use Rattle.array_engine.specs.declared.said.Said.{Said}
 use Rattle.array_engine.specs.declared.said.Said.TheVariants as said
 

@@ -1,12 +1,7 @@
 -- The numbers of a status, of an array in memory.
 use Rattle.std.specs.Prelude.{ℕ, ◌-◌, List, [], ◌∷◌, length}
 use Rattle.std.specs.List.{sum_by}
-use Rattle.pur_base.specs.Visible.{segments}
-use Rattle.pur_base.specs.declared.facts.SegmentFact.{SegmentFact}
-use Rattle.boot_codec.specs.Record.{patch_segments}
-use Rattle.log_codec.specs.declared.limits.TheConstants.{LOG_SLOTS}
-use Rattle.memory_spec.specs.Tables.{facts}
-use Rattle.session_spec.specs.Faring.{set_flags}
+use Rattle.session_spec.specs.Prelude.{segments, SegmentFact, patch_segments, LOG_SLOTS, facts, set_flags}
 use Rattle.session_spec.specs.declared.limits.TheConstants.{CONTROLLER}
 use Rattle.array_core.specs.declared.array.Array.{Array}
 

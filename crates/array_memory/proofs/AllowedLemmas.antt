@@ -3,23 +3,9 @@ use Rattle.std.proofs.Common.{◌≡◌, ◌≢◌, ℕ, zero, suc, ◌+◌, ◌
 use Rattle.std.specs.Prelude.{nat_lt}
 use Rattle.std.proofs.lemmas.Bool.{leb-false, ltb-false, le-ltb, lt-leb, eq-eqb, false_from_ne_true}
 use Rattle.std.proofs.lemmas.List.Elements.{All-contains}
-use Rattle.pur_base.specs.Commands.{Accepts}
-use Rattle.pur_base.specs.Plain.{Array, has, sectors_of, is_snapshot, is_full, is_no_size, passes, first_cause, overwrite_causes}
-use Rattle.pur_base.specs.Visible.{objects}
-use Rattle.pur_base.specs.declared.limits.TheConstants.{OBJECTS, OBJECT_SECTORS, REQUEST_SECTORS}
-use Rattle.pur_base.specs.declared.reply.Refusal.TheVariants.{Taken, Limit, Unknown, ReadOnly, Range}
-use Rattle.pur_base.specs.declared.request.Request.{Request}
+use Rattle.memory_spec.specs.Prelude.{Accepts, Array, has, sectors_of, is_snapshot, is_full, is_no_size, passes, first_cause, overwrite_causes, objects, OBJECTS, OBJECT_SECTORS, REQUEST_SECTORS, Taken, Limit, Unknown, ReadOnly, Range, Request, ObjectKind, Volume, Snapshot, ObjectFact, all_contained, Contents, ReadsAs, AreEntries, facts, entries_read, of_objects}
 use Rattle.pur_base.specs.declared.request.Request.TheVariants as request
-use Rattle.pur_base.specs.declared.facts.ObjectKind.{ObjectKind}
-use Rattle.pur_base.specs.declared.facts.ObjectKind.TheVariants.{Volume, Snapshot}
-use Rattle.pur_base.specs.declared.facts.ObjectFact.{ObjectFact}
-use Rattle.pyramid.specs.lemmas.Layers.{all_contained}
 use Rattle.array_spec.specs.Base.{is_snapshot as is_snapshot_kind}
-use Rattle.memory_spec.specs.Memory.{Contents, ReadsAs}
-use Rattle.memory_spec.specs.Reading.{AreEntries}
-use Rattle.memory_spec.specs.Tables.{facts}
-use Rattle.memory_spec.specs.lemmas.Entries.{entries_read}
-use Rattle.memory_spec.specs.lemmas.Objects.{of_objects}
 use Rattle.array_memory.specs.Asked.{command_of, HasSpan, IsAllowed, IsFree}
 use Rattle.array_memory.specs.Kept.{Kept, IsKept}
 use Rattle.array_memory.specs.Lawful.{IsLawful}

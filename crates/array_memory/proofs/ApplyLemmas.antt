@@ -4,25 +4,8 @@ use Rattle.std.specs.List.{AllZip}
 use Rattle.std.proofs.lemmas.Bool.{leb-false}
 use Rattle.std.proofs.lemmas.List.{length-replicate}
 use Rattle.std.proofs.lemmas.List.Elements.{All-contains, All-replicate}
-use Rattle.pur_base.specs.Commands.{Accepts, after}
-use Rattle.pur_base.specs.Plain.{Array, has, is_full, is_no_size, done, replaced, appended, first_cause}
-use Rattle.pur_base.specs.Replies.{after_unless}
-use Rattle.pur_base.specs.Sectors.{filled}
-use Rattle.pur_base.specs.declared.limits.TheConstants.{SECTOR_BYTES, OBJECTS}
-use Rattle.pur_base.specs.declared.place.Location.{Location}
-use Rattle.pur_base.specs.declared.reply.Refusal.TheVariants.{Taken, Limit}
-use Rattle.pur_base.specs.declared.request.Request.{Request}
+use Rattle.memory_spec.specs.Prelude.{Accepts, after, Array, has, is_full, is_no_size, done, replaced, appended, first_cause, after_unless, filled, SECTOR_BYTES, OBJECTS, Location, Taken, Limit, Request, Target, Stored, ObjectFact, nowhere, NUMBER_LIMIT, HasCreated, IsOwnMedium, IsNextVolume, Contents, TargetReads, IsSound, ReadsAs, facts, owns, volumes_own}
 use Rattle.pur_base.specs.declared.request.Request.TheVariants as request
-use Rattle.pur_base.specs.declared.facts.Target.{Target}
-use Rattle.pur_base.specs.declared.facts.Target.TheVariants.{Stored}
-use Rattle.pur_base.specs.declared.facts.ObjectFact.{ObjectFact}
-use Rattle.pyramid.specs.lemmas.Contains.{nowhere}
-use Rattle.fact_codec.specs.declared.limits.TheConstants.{NUMBER_LIMIT}
-use Rattle.memory_spec.specs.Adding.{HasCreated, IsOwnMedium}
-use Rattle.memory_spec.specs.Laws.{IsNextVolume}
-use Rattle.memory_spec.specs.Memory.{Contents, TargetReads, IsSound, ReadsAs}
-use Rattle.memory_spec.specs.Tables.{facts}
-use Rattle.memory_spec.specs.lemmas.Owning.{owns, volumes_own}
 use Rattle.memory_spec.proofs.Putting.{put_sound, putting_reads}
 use Rattle.memory_spec.proofs.Created.{created_sound, creating_reads}
 use Rattle.array_memory.specs.Asked.{command_of, IsFree}

@@ -1,10 +1,7 @@
 -- How many facts there are at most.
 use Rattle.std.proofs.Common.{◌≡◌, ◌⊎◌, ◌↔◌, ℕ, zero, suc, ◌+◌, ◌<◌, ◌≤◌, List, [], ◌∷◌, ◌++◌, length, sym, arith, inl, inr, subst, All, Contains, AllPairs, length-append}
 use Rattle.std.proofs.lemmas.List.Elements.{Contains-append_left, Contains-append_right, Contains-append_cases}
-use Rattle.pur_base.specs.Says.{Ascends}
-use Rattle.pyramid.specs.Layers.{IsBefore, IsFlushed, IsOrdered}
-use Rattle.pyramid.specs.lemmas.Contains.{here, there, either, nowhere}
-use Rattle.pyramid.specs.lemmas.Layers.{all_contained}
+use Rattle.memory_spec.specs.Prelude.{Ascends, IsBefore, IsFlushed, IsOrdered, here, there, either, nowhere, all_contained}
 use Rattle.table_plan.proofs.CountLemmas.{no_more_than}
 
 -- ---- lists without repetition

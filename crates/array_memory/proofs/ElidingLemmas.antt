@@ -2,26 +2,12 @@
 use Rattle.std.proofs.Common.{◌≡◌, ◌≢◌, ◌⊎◌, ◌↔◌, ℕ, ◌+◌, ◌<◌, ◌≤◌, List, [], ◌∷◌, ◌++◌, length, get_or, take, drop, refl, sym, ap, ◌∙◌, arith, inl, inr, subst, Contains, IsTrue}
 use Rattle.std.proofs.lemmas.List.{take-append-drop, take_more}
 use Rattle.std.proofs.lemmas.List.Elements.{Contains-append_left, Contains-append_right, Contains-append_cases, Contains-get_or, Contains-push, Contains-push_cases, recursion_from_All}
-use Rattle.pur_base.specs.Facts.{elision_key}
-use Rattle.pur_base.specs.Says.{has_key}
-use Rattle.pur_base.specs.Visible.{is_elided, is_within, AreElidedRanges}
-use Rattle.pur_base.specs.declared.request.Table.{Table}
+use Rattle.memory_spec.specs.Prelude.{elision_key, has_key, is_elided, is_within, AreElidedRanges, Table, ElisionFact, NUMBER_LIMIT, AreBelow, AreDistinct, IsFlushed, facts_of, either, nowhere, all_below, below_at, rises_alone, rises_below, same_newest, Memory, IsSound, facts, all_elisions, IsEliding, AreLayered}
 use Rattle.pur_base.specs.declared.request.Table.TheVariants as table
-use Rattle.pur_base.specs.declared.facts.ElisionFact.{ElisionFact}
 use Rattle.pur_base.specs.declared.facts.AnyFact.TheVariants as any
-use Rattle.fact_codec.specs.declared.limits.TheConstants.{NUMBER_LIMIT}
 use Rattle.elision.specs.Ranges.{AreApart, ElidedRanges, ranges_of}
-use Rattle.pyramid.specs.Layers.{AreBelow, AreDistinct, IsFlushed, facts_of}
-use Rattle.pyramid.specs.lemmas.Contains.{either, nowhere}
-use Rattle.pyramid.specs.lemmas.Layers.{all_below, below_at, rises_alone, rises_below}
-use Rattle.pyramid.specs.lemmas.Sets.{same_newest}
-use Rattle.memory_spec.specs.Memory.{Memory, IsSound}
-use Rattle.memory_spec.specs.Tables.{facts}
-use Rattle.memory_spec.specs.lemmas.AllTables.{all_elisions}
-use Rattle.memory_spec.specs.Eliding.{IsEliding}
-use Rattle.memory_spec.specs.Whole.{AreLayered}
 use Rattle.memory_spec.proofs.Eliding.{eliding_sound}
-use Rattle.table_plan.specs.Eliding.{AreElisionsOf, IsElidedBy}
+use Rattle.table_plan.specs.Prelude.{AreElisionsOf, IsElidedBy}
 use Rattle.table_plan.proofs.ElidedLemmas.{addresses_same, is_eliding, mediums_same, objects_same, elisions_alike, segments_elided}
 use Rattle.array_memory.specs.declared.plan.Eliding.{Eliding}
 use Rattle.array_memory.specs.declared.plan.Placing.{Placing}

@@ -1,29 +1,12 @@
 -- What is kept when a plan is done.
 use Rattle.std.proofs.Common.{◌≡◌, ℕ, ◌<◌, Bool, false, List, [], sym, ap, ◌∙◌, arith, inl, subst, IsTrue, None, option_and_then, if◌then◌else◌, All, Contains}
 use Rattle.std.proofs.lemmas.List.Elements.{Contains-append_right}
-use Rattle.pur_base.specs.Facts.{object_key, segment_key, never}
-use Rattle.pur_base.specs.Keys.{id_of}
-use Rattle.pur_base.specs.Says.{unless_empty, says}
-use Rattle.pur_base.specs.Visible.{is_elided, is_within, AreElidedRanges}
-use Rattle.pur_base.specs.declared.request.Table.{Table}
+use Rattle.memory_spec.specs.Prelude.{object_key, segment_key, never, id_of, unless_empty, says, is_elided, is_within, AreElidedRanges, Table, Place, AddressFact, SegmentFact, AreDistinct, facts_of, newest_of, IsShown, within_elided, all_contained, said_found, Memory, IsSound, facts, all_segments, of_each}
 use Rattle.pur_base.specs.declared.request.Table.TheVariants as table
-use Rattle.pur_base.specs.declared.place.Place.{Place}
-use Rattle.pur_base.specs.declared.facts.AddressFact.{AddressFact}
-use Rattle.pur_base.specs.declared.facts.SegmentFact.{SegmentFact}
 use Rattle.pur_base.specs.declared.facts.AnyFact.TheVariants as any
 use Rattle.elision.specs.Ranges.{ElidedRanges, ranges_of}
-use Rattle.pyramid.specs.Layers.{AreDistinct, facts_of, newest_of}
-use Rattle.pyramid.specs.Shown.{IsShown}
-use Rattle.pyramid.specs.lemmas.Keys.{within_elided}
-use Rattle.pyramid.specs.lemmas.Layers.{all_contained}
-use Rattle.pyramid.specs.lemmas.Shown.{said_found}
-use Rattle.memory_spec.specs.Memory.{Memory, IsSound}
-use Rattle.memory_spec.specs.Tables.{facts}
-use Rattle.memory_spec.specs.lemmas.AllTables.{all_segments}
 use Rattle.memory_spec.proofs.Created.{not_elided}
-use Rattle.memory_spec.specs.lemmas.Lists.{of_each}
-use Rattle.table_plan.specs.Planned.{IsPlanned}
-use Rattle.table_plan.specs.Segments.{segments_from}
+use Rattle.table_plan.specs.Prelude.{IsPlanned, segments_from}
 use Rattle.table_plan.proofs.ElidedLemmas.{objects_same, segments_elided}
 use Rattle.table_plan.proofs.SegmentsLemmas.{is_new_segment}
 use Rattle.table_plan.proofs.Planned.{planned_sound, planned_elided}

@@ -1,32 +1,13 @@
 -- What stays of a memory when its parts change.
 use Rattle.std.proofs.Common.{◌≡◌, ◌⊎◌, ◌↔◌, ℕ, ◌+◌, ◌<◌, ◌≤◌, false, List, length, refl, sym, ap, ◌∙◌, arith, inl, inr, Contains, All}
 use Rattle.std.proofs.lemmas.Option.{slice_get_within}
-use Rattle.pur_base.specs.Facts.{any_number}
-use Rattle.pur_base.specs.Visible.{is_elided, objects}
-use Rattle.pur_base.specs.declared.request.Table.{Table}
+use Rattle.memory_spec.specs.Prelude.{any_number, is_elided, objects, Table, Target, ObjectFact, MediumFact, AddressFact, ElisionFact, AnyFact, NextNumbers, NUMBER_LIMIT, Layers, facts_in, AreDistinct, AreBelow, all_contained, all_below, next_id, address_facts, facts, all_of, each_by_recursion, of_each, object_is, in_objects, all_objects, all_mediums, all_addresses, all_segments, all_elisions, of_all, numbered_more, of_run, run_distinct}
 use Rattle.pur_base.specs.declared.request.Table.TheVariants as table
-use Rattle.pur_base.specs.declared.facts.Target.{Target}
-use Rattle.pur_base.specs.declared.facts.ObjectFact.{ObjectFact}
-use Rattle.pur_base.specs.declared.facts.MediumFact.{MediumFact}
-use Rattle.pur_base.specs.declared.facts.AddressFact.{AddressFact}
-use Rattle.pur_base.specs.declared.facts.ElisionFact.{ElisionFact}
-use Rattle.pur_base.specs.declared.facts.AnyFact.{AnyFact}
 use Rattle.pur_base.specs.declared.facts.AnyFact.TheVariants as any
-use Rattle.boot_codec.specs.declared.record.NextNumbers.{NextNumbers}
-use Rattle.fact_codec.specs.declared.limits.TheConstants.{NUMBER_LIMIT}
-use Rattle.pyramid.specs.Layers.{Layers, facts_in, AreDistinct, AreBelow}
-use Rattle.pyramid.specs.lemmas.Layers.{all_contained, all_below}
 use Rattle.elision.specs.Ranges.{ElidedRanges}
 use Rattle.object_table.specs.Objects.{Objects, AreVisible, number}
 use Rattle.object_table.proofs.ObjectLemmas.{by_ids}
 use Rattle.segment_table.specs.Segments.{Segments}
-use Rattle.array_spec.specs.Sound.{next_id}
-use Rattle.memory_spec.specs.Adding.{address_facts}
-use Rattle.memory_spec.specs.Tables.{facts, all_of}
-use Rattle.memory_spec.specs.lemmas.Lists.{each_by_recursion, of_each}
-use Rattle.memory_spec.specs.lemmas.Objects.{object_is, in_objects}
-use Rattle.memory_spec.specs.lemmas.AllTables.{all_objects, all_mediums, all_addresses, all_segments, all_elisions, of_all, numbered_more}
-use Rattle.memory_spec.specs.lemmas.Run.{of_run, run_distinct}
 use Rattle.memory_spec.proofs.Created.{not_elided}
 use Rattle.array_memory.specs.Kept.{Kept, kept_of, IsKept}
 

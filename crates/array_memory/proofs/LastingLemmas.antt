@@ -2,26 +2,12 @@
 use Rattle.std.proofs.Common.{◌≡◌, ℕ, suc, ◌+◌, ◌<◌, ◌≤◌, Bool, true, false, List, [], ◌∷◌, ◌++◌, length, map, refl, sym, ap, ◌∙◌, arith, inl, inr, subst, Contains, Option, Some, None, length-append}
 use Rattle.std.proofs.lemmas.Grind.{flat_map-append}
 use Rattle.std.proofs.lemmas.List.Elements.{Contains-append_left, Contains-append_right}
-use Rattle.pur_base.specs.Facts.{object_key, medium_key, address_key, segment_key, elision_key, any_key, table_tag}
-use Rattle.pur_base.specs.Says.{Ascends}
-use Rattle.pur_base.specs.declared.facts.Target.{Target}
-use Rattle.pur_base.specs.declared.facts.Target.TheVariants.{Stored, Zero}
-use Rattle.pur_base.specs.declared.facts.AddressFact.{AddressFact}
-use Rattle.pur_base.specs.declared.facts.AnyFact.{AnyFact}
+use Rattle.memory_spec.specs.Prelude.{object_key, medium_key, address_key, segment_key, elision_key, any_key, table_tag, Ascends, Target, Stored, Zero, AddressFact, AnyFact, IsFact, IsLawful, IsTarget, Layers, facts_in, facts_of, patch_facts, patches_of, all_contained, ascends-cons, ascends-nil, Memory, FitsTarget, FitsInMemory, IsSound, facts, all_objects, all_mediums, all_addresses, all_segments, all_elisions, each_by_recursion, of_map}
 use Rattle.pur_base.specs.declared.facts.AnyFact.TheVariants as any
 use Rattle.fact_codec.specs.Fact as fact
-use Rattle.fact_codec.specs.Fact.{IsFact, IsLawful, IsTarget}
-use Rattle.pyramid.specs.Layers.{Layers, facts_in, facts_of, patch_facts, patches_of}
-use Rattle.pyramid.specs.lemmas.Layers.{all_contained}
-use Rattle.pyramid.specs.lemmas.Merges.{ascends-cons, ascends-nil}
-use Rattle.memory_spec.specs.Memory.{Memory, FitsTarget, FitsInMemory, IsSound}
-use Rattle.memory_spec.specs.Tables.{facts}
-use Rattle.memory_spec.specs.lemmas.AllTables.{all_objects, all_mediums, all_addresses, all_segments, all_elisions}
-use Rattle.memory_spec.specs.lemmas.Lists.{each_by_recursion, of_map}
-use Rattle.table_plan.specs.Places.{flagged_from}
+use Rattle.table_plan.specs.Prelude.{flagged_from, ArePatchFacts}
 use Rattle.table_plan.proofs.Planned.{planned_sound}
 use Rattle.array_memory.specs.declared.plan.Plan.{Plan}
-use Rattle.table_plan.specs.Patches.{ArePatchFacts}
 use Rattle.array_memory.specs.Lasting.{AreLawfulPatches, AreNoMore}
 use Rattle.array_memory.specs.Plan.{after_plan, flushed_with, units_of, IsPlanFor}
 use Rattle.array_memory.proofs.CountLemmas.{flushed_fewer}

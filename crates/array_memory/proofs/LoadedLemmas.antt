@@ -2,39 +2,12 @@
 use Rattle.std.proofs.Common.{◌≡◌, ◌≢◌, ℕ, ◌<◌, ◌≤◌, List, [], ◌++◌, map, sym, ap, subst, ◌∙◌, inl, inr, Some, All, Contains, append-nil}
 use Rattle.std.specs.Prelude.{IsTrue, Result, Ok, Err, IfOk}
 use Rattle.std.proofs.lemmas.List.Elements.{All-contains, recursion_from_All}
-use Rattle.pur_base.specs.Devices.{Geometry}
-use Rattle.pur_base.specs.Facts.{Facts, any_number, object_key, medium_key, address_key, segment_key, elision_key, never}
-use Rattle.pur_base.specs.Plain.{Array}
-use Rattle.pur_base.specs.Says.{says}
-use Rattle.pur_base.specs.Visible.{objects, is_elided, is_within}
-use Rattle.pur_base.specs.declared.request.Table.{Table}
+use Rattle.memory_spec.specs.Prelude.{Geometry, Facts, any_number, object_key, medium_key, address_key, segment_key, elision_key, never, Array, says, objects, is_elided, is_within, Table, Target, Stored, Zero, ObjectFact, MediumFact, AddressFact, SegmentFact, ElisionFact, AnyFact, NextNumbers, BootRecord, AreNext, IsFact, IsTarget, Layers, facts_in, facts_of, Rises, IsShown, nowhere, AreSound, AreIdsBelow, AreObjectsSound, AreMediumsSound, AreAddressesSound, AreElisionsSound, all_facts, in_patches, Memory, Contents, FactsRead, FitsTarget, FitsInMemory, AreAddressesThere, AreNumbered, IsSound, ReadsAs, facts, patches, all_of, of_all, of_each, pairs_of, object_is, in_objects}
 use Rattle.pur_base.specs.declared.request.Table.TheVariants as table
-use Rattle.pur_base.specs.declared.facts.Target.{Target}
-use Rattle.pur_base.specs.declared.facts.Target.TheVariants.{Stored, Zero}
-use Rattle.pur_base.specs.declared.facts.ObjectFact.{ObjectFact}
-use Rattle.pur_base.specs.declared.facts.MediumFact.{MediumFact}
-use Rattle.pur_base.specs.declared.facts.AddressFact.{AddressFact}
-use Rattle.pur_base.specs.declared.facts.SegmentFact.{SegmentFact}
-use Rattle.pur_base.specs.declared.facts.ElisionFact.{ElisionFact}
-use Rattle.pur_base.specs.declared.facts.AnyFact.{AnyFact}
 use Rattle.pur_base.specs.declared.facts.AnyFact.TheVariants as any
-use Rattle.boot_codec.specs.declared.record.NextNumbers.{NextNumbers}
-use Rattle.boot_codec.specs.declared.record.BootRecord.{BootRecord}
-use Rattle.boot_codec.specs.Record.{AreNext}
-use Rattle.fact_codec.specs.Fact.{IsFact, IsTarget}
 use Rattle.elision.specs.Ranges.{ElidedRanges, ranges_of, AreApart}
-use Rattle.pyramid.specs.Layers.{Layers, facts_in, facts_of, Rises}
-use Rattle.pyramid.specs.Shown.{IsShown}
-use Rattle.pyramid.specs.lemmas.Contains.{nowhere}
 use Rattle.object_table.specs.Objects.{Objects}
 use Rattle.segment_table.specs.Segments.{Segments}
-use Rattle.array_spec.specs.Sound.{AreSound, AreIdsBelow, AreObjectsSound, AreMediumsSound, AreAddressesSound, AreElisionsSound}
-use Rattle.array_spec.specs.Stored.{all_facts, in_patches}
-use Rattle.memory_spec.specs.Memory.{Memory, Contents, FactsRead, FitsTarget, FitsInMemory, AreAddressesThere, AreNumbered, IsSound, ReadsAs}
-use Rattle.memory_spec.specs.Tables.{facts, patches, all_of}
-use Rattle.memory_spec.specs.lemmas.AllTables.{of_all}
-use Rattle.memory_spec.specs.lemmas.Lists.{of_each, pairs_of}
-use Rattle.memory_spec.specs.lemmas.Objects.{object_is, in_objects}
 use Rattle.table_soundness.specs.Elided.{AreElidedBy, IsRange}
 use Rattle.table_soundness.specs.Faults.{facts_in as facts_loaded, patches_in, AreLawful, AreNamed}
 use Rattle.table_soundness.specs.declared.tables.LoadedTables.{LoadedTables}

@@ -1,26 +1,8 @@
 -- What is kept when a merged patch is put.
 use Rattle.std.proofs.Common.{◌≡◌, ◌≢◌, ℕ, ◌+◌, ◌<◌, List, refl, sym, ap, ◌∙◌, arith, subst}
-use Rattle.pur_base.specs.Facts.{object_key, segment_key, never, any_number}
-use Rattle.pur_base.specs.Visible.{is_elided, is_within, AreElidedRanges}
-use Rattle.pur_base.specs.declared.request.Table.{Table}
+use Rattle.memory_spec.specs.Prelude.{object_key, segment_key, never, any_number, is_elided, is_within, AreElidedRanges, Table, ObjectFact, SegmentFact, ElisionFact, NextNumbers, AreNext, NUMBER_LIMIT, IsShown, next_id, AreIdsBelow, facts, flushed, Memory, IsSound, each_by_recursion, of_each, IsShrunk, IsMergedAt, AreLayered, merge_shrinks, one_merge_is_merge, shrunk_sound}
 use Rattle.pur_base.specs.declared.request.Table.TheVariants as table
-use Rattle.pur_base.specs.declared.facts.ObjectFact.{ObjectFact}
-use Rattle.pur_base.specs.declared.facts.SegmentFact.{SegmentFact}
-use Rattle.pur_base.specs.declared.facts.ElisionFact.{ElisionFact}
-use Rattle.boot_codec.specs.declared.record.NextNumbers.{NextNumbers}
-use Rattle.boot_codec.specs.Record.{AreNext}
-use Rattle.fact_codec.specs.declared.limits.TheConstants.{NUMBER_LIMIT}
 use Rattle.elision.specs.Ranges.{ElidedRanges, ranges_of}
-use Rattle.pyramid.specs.Shown.{IsShown}
-use Rattle.array_spec.specs.Sound.{next_id, AreIdsBelow}
-use Rattle.memory_spec.specs.Tables.{facts, flushed}
-use Rattle.memory_spec.specs.Memory.{Memory, IsSound}
-use Rattle.memory_spec.specs.lemmas.Lists.{each_by_recursion, of_each}
-use Rattle.memory_spec.specs.Flushing.{IsShrunk}
-use Rattle.memory_spec.specs.Merging.{IsMergedAt}
-use Rattle.memory_spec.specs.Whole.{AreLayered}
-use Rattle.memory_spec.specs.lemmas.Merged.{merge_shrinks, one_merge_is_merge}
-use Rattle.memory_spec.specs.lemmas.Shrinking.{shrunk_sound}
 use Rattle.array_memory.specs.Kept.{Kept, IsKept}
 use Rattle.array_memory.proofs.SoundLemmas.{sound_ranges}
 

@@ -8,18 +8,9 @@ use Rattle.std.proofs.lemmas.List.{get_or_default, get_or-set_other, get_or-set_
 use Rattle.std.proofs.lemmas.List.Elements.{Contains-get_or, Contains-push_cases, filter-append}
 use Rattle.std.proofs.lemmas.List.Folds.{list_any_at}
 use Rattle.std.proofs.lemmas.List.Quantifiers.{all_pairs_push}
-use Rattle.pur_base.specs.Facts.{Facts, address_key, segment_key, never}
-use Rattle.pur_base.specs.Keys.{key_of}
-use Rattle.pur_base.specs.Says.{Ascends, says}
-use Rattle.pur_base.specs.Visible.{address, is_elided}
+use Rattle.memory_spec.specs.Prelude.{Facts, address_key, segment_key, never, key_of, Ascends, says, address, is_elided, Location, Target, Stored, Zero, AddressFact, SegmentFact, said_found}
 use Rattle.pur_base.specs.declared.request.Table.TheVariants as table
-use Rattle.pur_base.specs.declared.place.Location.{Location}
-use Rattle.pur_base.specs.declared.facts.Target.{Target}
-use Rattle.pur_base.specs.declared.facts.Target.TheVariants.{Stored, Zero}
-use Rattle.pur_base.specs.declared.facts.AddressFact.{AddressFact}
-use Rattle.pur_base.specs.declared.facts.SegmentFact.{SegmentFact}
-use Rattle.pyramid.specs.lemmas.Shown.{said_found}
-use Rattle.table_plan.specs.Unused.{stands_in}
+use Rattle.table_plan.specs.Prelude.{stands_in}
 use Rattle.table_plan.specs.declared.witnesses.Witness.{Witness}
 use Rattle.array_memory.specs.Named.{is_said_in, names_at, names, is_named, unnamed}
 

@@ -2,37 +2,11 @@
 use Rattle.std.proofs.Common.{◌≡◌, ℕ, ◌+◌, ◌-◌, ◌<◌, ◌≤◌, min, Bool, List, [], ◌∷◌, ◌++◌, length, map, refl, sym, ap, ◌∙◌, arith, inl, inr, subst, Option, Some, None, IsSome, slice_index_or, All, Contains}
 use Rattle.std.specs.Int.{div_ceil}
 use Rattle.std.proofs.lemmas.List.Elements.{Contains-append_right}
-use Rattle.pur_base.specs.Facts.{object_key, medium_key, address_key, segment_key, elision_key, never}
-use Rattle.pur_base.specs.Says.{Ascends}
-use Rattle.pur_base.specs.declared.limits.TheConstants.{SEGMENT_SECTORS}
-use Rattle.pur_base.specs.declared.place.Place.{Place}
-use Rattle.pur_base.specs.declared.place.Location.{Location}
-use Rattle.pur_base.specs.declared.facts.Target.{Target}
-use Rattle.pur_base.specs.declared.facts.Target.TheVariants.{Stored, Zero}
-use Rattle.pur_base.specs.declared.facts.AddressFact.{AddressFact}
-use Rattle.pur_base.specs.declared.facts.SegmentFact.{SegmentFact}
-use Rattle.pur_base.specs.declared.facts.ElisionFact.{ElisionFact}
-use Rattle.pur_base.specs.Plain.{Array}
+use Rattle.memory_spec.specs.Prelude.{object_key, medium_key, address_key, segment_key, elision_key, never, Ascends, SEGMENT_SECTORS, Place, Location, Target, Stored, Zero, AddressFact, SegmentFact, ElisionFact, Array, NextNumbers, NUMBER_LIMIT, Layers, AreBelow, IsFlushed, IsLayered, facts_of, patch_facts, all_contained, all_below, below_at, rises_below, ascends-cons, ascends-nil, ascends_map, Memory, Contents, FitsTarget, FitsInMemory, IsSound, ReadsAs, facts, patches, all_addresses, all_segments, of_map, IsEliding, IsTableFlushed, repointed, AreLayered}
 use Rattle.pur_base.specs.declared.facts.AnyFact.TheVariants as any
-use Rattle.boot_codec.specs.declared.record.NextNumbers.{NextNumbers}
-use Rattle.fact_codec.specs.declared.limits.TheConstants.{NUMBER_LIMIT}
-use Rattle.pyramid.specs.Layers.{Layers, AreBelow, IsFlushed, IsLayered, facts_of, patch_facts}
-use Rattle.pyramid.specs.lemmas.Layers.{all_contained, all_below, below_at, rises_below}
-use Rattle.pyramid.specs.lemmas.Merges.{ascends-cons, ascends-nil}
 use Rattle.pyramid.proofs.PlaceLemmas.{flush_layered, instead_layered}
-use Rattle.pyramid.specs.lemmas.Shown.{ascends_map}
 use Rattle.segment_table.proofs.AddedLemmas.{rising_with}
-use Rattle.memory_spec.specs.Memory.{Memory, Contents, FitsTarget, FitsInMemory, IsSound, ReadsAs}
-use Rattle.memory_spec.specs.Tables.{facts, patches}
-use Rattle.memory_spec.specs.lemmas.AllTables.{all_addresses, all_segments}
-use Rattle.memory_spec.specs.lemmas.Lists.{of_map}
-use Rattle.memory_spec.specs.Eliding.{IsEliding}
-use Rattle.memory_spec.specs.Flushing.{IsTableFlushed}
-use Rattle.memory_spec.specs.Placing.{repointed}
-use Rattle.memory_spec.specs.Whole.{AreLayered}
-use Rattle.table_plan.specs.Places.{has_place, has_places, place_of, places_from, place_in}
-use Rattle.table_plan.specs.Planned.{AreStored, IsPlanned}
-use Rattle.table_plan.specs.Segments.{segments_from}
+use Rattle.table_plan.specs.Prelude.{has_place, has_places, place_of, places_from, place_in, AreStored, IsPlanned, segments_from}
 use Rattle.table_plan.proofs.PlacesLemmas.{is_flagged}
 use Rattle.table_plan.proofs.Planned.{named_by}
 use Rattle.table_plan.proofs.SegmentsLemmas.{IsNewSegment, is_new_segment}

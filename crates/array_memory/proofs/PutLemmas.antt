@@ -3,17 +3,9 @@ use Rattle.std.proofs.Common.{◌≡◌, ◌≢◌, ◌⊎◌, ◌↔◌, ℕ, �
 use Rattle.std.specs.Prelude.{Result, Ok, Err, OnOk, is_err}
 use Rattle.std.proofs.lemmas.List.{append-nil}
 use Rattle.std.proofs.lemmas.List.Elements.{Contains-append_left, Contains-append_right, Contains-append_cases}
-use Rattle.pur_base.specs.declared.request.Request.{Request}
+use Rattle.memory_spec.specs.Prelude.{Request, Target, ObjectFact, AddressFact, Layers, facts_in, facts_of, address_facts, put, Tables, pairs_of}
 use Rattle.pur_base.specs.declared.request.Request.TheVariants as request
-use Rattle.pur_base.specs.declared.facts.Target.{Target}
-use Rattle.pur_base.specs.declared.facts.ObjectFact.{ObjectFact}
-use Rattle.pur_base.specs.declared.facts.AddressFact.{AddressFact}
-use Rattle.pyramid.specs.Layers.{Layers, facts_in, facts_of}
 use Rattle.object_table.specs.Objects.{AreNamesDistinct}
-use Rattle.memory_spec.specs.Adding.{address_facts}
-use Rattle.memory_spec.specs.Numbers.{put}
-use Rattle.memory_spec.specs.Tables.{Tables}
-use Rattle.memory_spec.specs.lemmas.Lists.{pairs_of}
 use Rattle.array_memory.specs.Asked.{staged_count, HasRoomLeft, HasSpan}
 use Rattle.array_memory.specs.Kept.{Kept}
 use Rattle.array_memory.specs.Put.{IsPut, HasRoomFor}

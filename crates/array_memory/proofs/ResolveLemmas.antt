@@ -1,24 +1,14 @@
 -- What the ranges of sound memory lead to.
 use Rattle.std.proofs.Common.{◌≡◌, ◌↔◌, ℕ, ◌^◌, ◌<◌, Bool, true, false, List, refl, sym, ◌∙◌, arith, inl, inr, Option, Some, None, option_and_then, eq-eqb}
 use Rattle.std.specs.Prelude.{if◌then◌else◌, is_some, IfNone}
-use Rattle.pur_base.specs.Facts.{Facts, is_empty_range, medium_key}
-use Rattle.pur_base.specs.Keys.{id_of, key_of}
-use Rattle.pur_base.specs.Mediums.{IsOver}
-use Rattle.pur_base.specs.Says.{says, newest, has_key, unless_empty}
-use Rattle.pur_base.specs.Visible.{address, range, is_within, is_elided, AreElidedRanges}
+use Rattle.memory_spec.specs.Prelude.{Facts, is_empty_range, medium_key, id_of, key_of, IsOver, says, newest, has_key, unless_empty, address, range, is_within, is_elided, AreElidedRanges, MediumFact, IsFact, LeadsDown, facts, IsSound, all_mediums, range_is}
 use Rattle.pur_base.specs.declared.request.Table.TheVariants as table
-use Rattle.pur_base.specs.declared.facts.MediumFact.{MediumFact}
 use Rattle.pur_base.specs.declared.facts.AnyFact.TheVariants as any
-use Rattle.fact_codec.specs.Fact.{IsFact, LeadsDown}
 use Rattle.elision.specs.Ranges.{ranges_of}
 use Rattle.medium_table.specs.Ranges.{range_from, AreDisjoint, IsRangeOver}
 use Rattle.medium_table.proofs.RangeLemmas.{same_ranges, same_over}
 use Rattle.address_table.specs.Addresses.{target_of}
 use Rattle.address_table.proofs.AddressLemmas.{same_addresses}
-use Rattle.memory_spec.specs.Tables.{facts}
-use Rattle.memory_spec.specs.Memory.{IsSound}
-use Rattle.memory_spec.specs.lemmas.AllTables.{all_mediums}
-use Rattle.memory_spec.specs.lemmas.Keeping.{range_is}
 use Rattle.array_memory.specs.Kept.{Kept, IsKept}
 
 -- what is said isn't empty

@@ -4,17 +4,7 @@ use Rattle.std.specs.Prelude.{slice_get}
 use Rattle.std.specs.List.{AllZip}
 use Rattle.std.proofs.Math.Seq.{take-suc-set}
 use Rattle.std.proofs.lemmas.List.{append_assoc}
-use Rattle.pur_base.specs.Facts.{address_key}
-use Rattle.pur_base.specs.Says.{Ascends}
-use Rattle.pur_base.specs.Sectors.{filled}
-use Rattle.pur_base.specs.declared.place.Location.{Location}
-use Rattle.pur_base.specs.declared.facts.Target.{Target}
-use Rattle.pur_base.specs.declared.facts.Target.TheVariants.{Stored, Zero}
-use Rattle.pur_base.specs.declared.facts.AddressFact.{AddressFact}
-use Rattle.pyramid.specs.lemmas.Contains.{either, nowhere}
-use Rattle.memory_spec.specs.Adding.{address_facts}
-use Rattle.memory_spec.specs.Memory.{Contents, TargetReads}
-use Rattle.memory_spec.specs.lemmas.Run.{fact}
+use Rattle.memory_spec.specs.Prelude.{address_key, Ascends, filled, Location, Target, Stored, Zero, AddressFact, either, nowhere, address_facts, Contents, TargetReads, fact}
 use Rattle.array_memory.specs.Runs.{target_of, targets_from}
 use Rattle.memory_spec.proofs.Putting.{run_long}
 

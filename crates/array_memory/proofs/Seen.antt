@@ -1,6 +1,6 @@
 -- What contracts see of the parts of a memory.
 use Rattle.std.proofs.Common.{◌≡◌, ◌-◌, sym, subst, vec_len, vec_capacity}
-use Rattle.memory_spec.specs.Memory.{IsSound}
+use Rattle.memory_spec.specs.Prelude.{IsSound}
 use Rattle.array_memory.specs.declared.memory.Memory.TheInside.{Inside}
 use Rattle.array_memory.specs.Kept.{Kept, kept_of}
 

@@ -1,17 +1,8 @@
 -- Of what memory being sound depends.
 use Rattle.std.proofs.Common.{◌≡◌, ℕ, List, [], refl, sym, subst, All}
 use Rattle.std.proofs.lemmas.List.Elements.{All-contains, Contains-append_left}
-use Rattle.pur_base.specs.Facts.{Facts}
-use Rattle.pur_base.specs.Plain.{Array}
-use Rattle.pur_base.specs.declared.facts.ElisionFact.{ElisionFact}
+use Rattle.memory_spec.specs.Prelude.{Facts, Array, ElisionFact, NextNumbers, IsFact, Layers, facts_in, facts_of, all_contained, Memory, Contents, IsSound, ReadsAs, facts, all_elisions}
 use Rattle.pur_base.specs.declared.facts.AnyFact.TheVariants as any
-use Rattle.boot_codec.specs.declared.record.NextNumbers.{NextNumbers}
-use Rattle.fact_codec.specs.Fact.{IsFact}
-use Rattle.pyramid.specs.Layers.{Layers, facts_in, facts_of}
-use Rattle.pyramid.specs.lemmas.Layers.{all_contained}
-use Rattle.memory_spec.specs.Memory.{Memory, Contents, IsSound, ReadsAs}
-use Rattle.memory_spec.specs.Tables.{facts}
-use Rattle.memory_spec.specs.lemmas.AllTables.{all_elisions}
 use Rattle.table_soundness.specs.Elided.{IsRange}
 use Rattle.table_soundness.proofs.FaultLemmas.{elided_ranges}
 use Rattle.array_memory.specs.Kept.{Kept, with_rooms}

@@ -4,15 +4,8 @@ use Rattle.std.proofs.lemmas.Bool.{both_ways, cases_Bool, cases_lt, not-true, no
 use Rattle.std.proofs.lemmas.List.{get_or-map, get_or-take, get_or_default, take-append-drop}
 use Rattle.std.proofs.lemmas.List.Elements.{Contains-append_left}
 use Rattle.std.proofs.lemmas.List.Kept.{AllPairs-filter}
-use Rattle.pur_base.specs.Facts.{segment_key}
-use Rattle.pur_base.specs.Says.{Ascends}
-use Rattle.pur_base.specs.Visible.{segment}
-use Rattle.pur_base.specs.declared.facts.SegmentFact.{SegmentFact}
-use Rattle.pyramid.specs.lemmas.Contains.{filtered, of_filter}
-use Rattle.pyramid.specs.lemmas.Shown.{passes_filter}
-use Rattle.memory_spec.specs.Tables.{facts}
-use Rattle.memory_spec.specs.lemmas.Lists.{in_map, of_map}
-use Rattle.table_plan.specs.Eliding.{IsUnused}
+use Rattle.memory_spec.specs.Prelude.{segment_key, Ascends, segment, SegmentFact, filtered, of_filter, passes_filter, facts, in_map, of_map}
+use Rattle.table_plan.specs.Prelude.{IsUnused}
 use Rattle.array_memory.specs.declared.limits.TheConstants.{ELIDED_SEGMENTS}
 use Rattle.array_memory.specs.Eliding.{AreLowestUnused}
 use Rattle.array_memory.specs.Kept.{Kept, IsKept}

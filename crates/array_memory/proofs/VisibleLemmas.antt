@@ -1,12 +1,8 @@
 -- The visible segments beside the facts that they come from.
 use Rattle.std.proofs.Common.{◌≡◌, ◌<◌, sym, arith}
-use Rattle.pur_base.specs.Visible.{segments, is_elided}
+use Rattle.memory_spec.specs.Prelude.{segments, is_elided, SegmentFact, all_contained, facts, of_each}
 use Rattle.pur_base.specs.declared.request.Table.TheVariants as table
-use Rattle.pur_base.specs.declared.facts.SegmentFact.{SegmentFact}
-use Rattle.pyramid.specs.lemmas.Layers.{all_contained}
 use Rattle.segment_table.proofs.SegmentLemmas.{by_ids}
-use Rattle.memory_spec.specs.Tables.{facts}
-use Rattle.memory_spec.specs.lemmas.Lists.{of_each}
 use Rattle.array_memory.specs.Kept.{Kept, IsKept}
 
 pub visible_segments_are : (k : Kept) → IsKept k → segments (facts k.memory.tables) k.memory.next.segment ≡ k.segments

@@ -1,16 +1,7 @@
 -- What a request asks of an array's memory, and what it makes of it.
 use Rattle.std.specs.Prelude.{◌≡◌, ◌≢◌, ℕ, ◌+◌, ◌<◌, ◌≤◌, true, List, [], length, replicate, All, Contains}
-use Rattle.pur_base.specs.Commands.{Command}
-use Rattle.pur_base.specs.Names.{is_name}
-use Rattle.pur_base.specs.Sectors.{filled}
-use Rattle.pur_base.specs.declared.limits.TheConstants.{OBJECTS, OBJECT_SECTORS, REQUEST_SECTORS}
-use Rattle.pur_base.specs.declared.request.Request.{Request}
+use Rattle.memory_spec.specs.Prelude.{Command, is_name, filled, OBJECTS, OBJECT_SECTORS, REQUEST_SECTORS, Request, Volume, ObjectFact, NextNumbers, put, NUMBER_LIMIT}
 use Rattle.pur_base.specs.declared.request.Request.TheVariants as request
-use Rattle.pur_base.specs.declared.facts.ObjectKind.TheVariants.{Volume}
-use Rattle.pur_base.specs.declared.facts.ObjectFact.{ObjectFact}
-use Rattle.boot_codec.specs.declared.record.NextNumbers.{NextNumbers}
-use Rattle.memory_spec.specs.Numbers.{put}
-use Rattle.fact_codec.specs.declared.limits.TheConstants.{NUMBER_LIMIT}
 use Rattle.array_memory.specs.declared.limits.TheConstants.{STAGED_SECTORS}
 use Rattle.array_memory.specs.Kept.{Kept}
 

@@ -1,13 +1,9 @@
 -- Which segments a checkpoint elides, and what is elided then.
 use Rattle.std.specs.Prelude.{◌≡◌, ◌≢◌, ◌⊎◌, ℕ, ◌<◌, ◌≤◌, List, length, Contains, AllPairs}
-use Rattle.pur_base.specs.Facts.{Facts}
-use Rattle.pur_base.specs.Visible.{AreElidedRanges}
-use Rattle.pur_base.specs.declared.request.Table.{Table}
+use Rattle.memory_spec.specs.Prelude.{Facts, AreElidedRanges, Table, Memory, facts as all_facts}
 use Rattle.pur_base.specs.declared.request.Table.TheVariants as table
 use Rattle.elision.specs.Ranges.{ranges_of}
-use Rattle.memory_spec.specs.Memory.{Memory}
-use Rattle.memory_spec.specs.Tables.{facts as all_facts}
-use Rattle.table_plan.specs.Eliding.{IsUnused, AreElisionsOf, IsElidedBy, eliding}
+use Rattle.table_plan.specs.Prelude.{IsUnused, AreElisionsOf, IsElidedBy, eliding}
 use Rattle.array_memory.specs.declared.limits.TheConstants.{ELIDED_SEGMENTS}
 use Rattle.array_memory.specs.declared.plan.Eliding.{Eliding}
 use Rattle.array_memory.specs.Kept.{Kept}

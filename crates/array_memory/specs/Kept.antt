@@ -1,25 +1,11 @@
 -- What the calls of an array's memory see of it.
 use Rattle.std.specs.Prelude.{◌≢◌, ◌≡◌, ◌≤◌, ℕ, List, All}
-use Rattle.pur_base.specs.Facts.{object_key, segment_key, never}
-use Rattle.pur_base.specs.Visible.{is_elided, AreElidedRanges}
-use Rattle.pur_base.specs.declared.request.Table.{Table}
+use Rattle.memory_spec.specs.Prelude.{object_key, segment_key, never, is_elided, AreElidedRanges, Table, ObjectFact, MediumFact, AddressFact, SegmentFact, ElisionFact, NextNumbers, AreNext, Layers, IsShown, AreIdsBelow, Tables, facts, Memory, AreNumbered}
 use Rattle.pur_base.specs.declared.request.Table.TheVariants as table
-use Rattle.pur_base.specs.declared.facts.ObjectFact.{ObjectFact}
-use Rattle.pur_base.specs.declared.facts.MediumFact.{MediumFact}
-use Rattle.pur_base.specs.declared.facts.AddressFact.{AddressFact}
-use Rattle.pur_base.specs.declared.facts.SegmentFact.{SegmentFact}
-use Rattle.pur_base.specs.declared.facts.ElisionFact.{ElisionFact}
-use Rattle.boot_codec.specs.declared.record.NextNumbers.{NextNumbers}
-use Rattle.boot_codec.specs.Record.{AreNext}
 use Rattle.elision.specs.Ranges.{ElidedRanges, ranges_of}
-use Rattle.pyramid.specs.Layers.{Layers}
-use Rattle.pyramid.specs.Shown.{IsShown}
 use Rattle.object_table.specs.Objects.{Objects}
 use Rattle.segment_table.specs.Segments.{Segments}
 use Rattle.table_soundness.specs.Elided.{IsRange}
-use Rattle.array_spec.specs.Sound.{AreIdsBelow}
-use Rattle.memory_spec.specs.Tables.{Tables, facts}
-use Rattle.memory_spec.specs.Memory.{Memory, AreNumbered}
 
 -- The tables, the staged sectors and the next numbers, and what is kept beside them so that it need not be looked up.
 pub record Kept : Type 0 where

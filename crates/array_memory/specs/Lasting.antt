@@ -1,9 +1,8 @@
 -- What a plan's patches hold, so that they can be written.
 use Rattle.std.specs.Prelude.{◌+◌, ◌≤◌, length, map}
 use Rattle.pur_base.specs.declared.facts.AnyFact.TheVariants as any
-use Rattle.pyramid.specs.Layers.{patch_facts}
-use Rattle.memory_spec.specs.Memory.{Memory}
-use Rattle.table_plan.specs.Patches.{ArePatchFacts}
+use Rattle.memory_spec.specs.Prelude.{patch_facts, Memory}
+use Rattle.table_plan.specs.Prelude.{ArePatchFacts}
 use Rattle.array_memory.specs.declared.plan.Plan.{Plan}
 
 -- the facts of each new patch may be written

@@ -1,8 +1,6 @@
 -- Requests that are done in memory.
 use Rattle.std.specs.Prelude.{◌≡◌, ◌≤◌, true}
-use Rattle.pur_base.specs.Names.{is_name}
-use Rattle.pur_base.specs.declared.limits.TheConstants.{REQUEST_SECTORS}
-use Rattle.pur_base.specs.declared.request.Request.{Request}
+use Rattle.memory_spec.specs.Prelude.{is_name, REQUEST_SECTORS, Request}
 use Rattle.pur_base.specs.declared.request.Request.TheVariants as request
 
 -- a create, a write, a fill or a zeroing, with a lawful name or count

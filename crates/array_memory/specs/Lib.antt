@@ -8,3 +8,4 @@ pub mod Named
 pub mod Eliding
 pub mod Plan
 pub mod Lasting
+pub mod Prelude

@@ -1,21 +1,8 @@
 -- Memory of tables that were loaded.
 use Rattle.std.specs.Prelude.{◌≡◌, ℕ, ◌+◌, ◌≤◌, List, [], length, Contains}
-use Rattle.pur_base.specs.Facts.{object_key, medium_key, address_key, segment_key, elision_key}
-use Rattle.pur_base.specs.declared.limits.TheConstants.{OBJECTS}
-use Rattle.pur_base.specs.declared.place.Location.{Location}
-use Rattle.pur_base.specs.declared.facts.Target.TheVariants.{Stored}
-use Rattle.pur_base.specs.declared.facts.ObjectFact.{ObjectFact}
-use Rattle.pur_base.specs.declared.facts.MediumFact.{MediumFact}
-use Rattle.pur_base.specs.declared.facts.AddressFact.{AddressFact}
-use Rattle.pur_base.specs.declared.facts.SegmentFact.{SegmentFact}
-use Rattle.pur_base.specs.declared.facts.ElisionFact.{ElisionFact}
-use Rattle.boot_codec.specs.declared.record.NextNumbers.{NextNumbers}
-use Rattle.boot_codec.specs.declared.record.BootRecord.{BootRecord}
-use Rattle.fact_codec.specs.Fact.{IsNext}
-use Rattle.pyramid.specs.Layers.{Layers, IsLayered}
+use Rattle.memory_spec.specs.Prelude.{object_key, medium_key, address_key, segment_key, elision_key, OBJECTS, Location, Stored, ObjectFact, MediumFact, AddressFact, SegmentFact, ElisionFact, NextNumbers, BootRecord, IsNext, Layers, IsLayered, Memory}
 use Rattle.address_table.specs.declared.table.TheConstants.{UNFLUSHED_ADDRESSES}
 use Rattle.table_soundness.specs.declared.tables.LoadedTables.{LoadedTables}
-use Rattle.memory_spec.specs.Memory.{Memory}
 use Rattle.array_memory.specs.declared.limits.TheConstants.{STAGED_SECTORS, UNFLUSHED_OBJECTS}
 use Rattle.array_memory.specs.Kept.{Kept}
 

@@ -1,11 +1,8 @@
 -- Which data segments visible addresses name.
 use Rattle.std.specs.Prelude.{ℕ, Bool, false, not, ◌&&◌, List, filter, Option, Some, None}
 use Rattle.std.specs.List.{list_any}
-use Rattle.pur_base.specs.Facts.{Facts}
-use Rattle.pur_base.specs.Visible.{address}
-use Rattle.pur_base.specs.declared.facts.Target.{Target}
-use Rattle.pur_base.specs.declared.facts.AddressFact.{AddressFact}
-use Rattle.table_plan.specs.Unused.{stands_in}
+use Rattle.memory_spec.specs.Prelude.{Facts, address, Target, AddressFact}
+use Rattle.table_plan.specs.Prelude.{stands_in}
 
 -- whether what an address says stands in the segment, if it says anything
 abbrev pub is_said_in : ℕ → Option Target → Bool

@@ -2,24 +2,9 @@
 use Rattle.std.specs.Prelude.{◌≡◌, ℕ, ◌+◌, ◌<◌, ◌≤◌, false, List, [], ◌++◌, length, map, Contains, Option, slice_index_or}
 use Rattle.std.specs.List.{AllByRecursion}
 use Rattle.std.specs.Int.{div_ceil}
-use Rattle.pur_base.specs.Facts.{object_key, medium_key, address_key, segment_key, elision_key}
-use Rattle.pur_base.specs.declared.limits.TheConstants.{SEGMENT_SECTORS, SEGMENT_SHARDS}
-use Rattle.pur_base.specs.declared.place.Place.{Place}
-use Rattle.pur_base.specs.declared.facts.AddressFact.{AddressFact}
-use Rattle.pur_base.specs.declared.facts.SegmentFact.{SegmentFact}
-use Rattle.pur_base.specs.declared.facts.ElisionFact.{ElisionFact}
-use Rattle.byte_fields.specs.Places.{FitsBytes}
-use Rattle.boot_codec.specs.declared.record.NextNumbers.{NextNumbers}
-use Rattle.fact_codec.specs.declared.limits.TheConstants.{NUMBER_LIMIT}
-use Rattle.pyramid.specs.Layers.{Layers, AreBelow, IsFlushed, facts_of, patch_facts, patches_of}
-use Rattle.memory_spec.specs.Memory.{Memory, IsSound}
-use Rattle.memory_spec.specs.Tables.{Tables}
-use Rattle.memory_spec.specs.Eliding.{IsEliding}
-use Rattle.memory_spec.specs.Whole.{AreLayered}
-use Rattle.memory_spec.specs.Placing.{repointed}
-use Rattle.table_plan.specs.Places.{flagged_from, is_named, place_in, places_from}
-use Rattle.table_plan.specs.Planned.{AreStored}
-use Rattle.table_plan.specs.Segments.{segments_from}
+use Rattle.memory_spec.specs.Prelude.{object_key, medium_key, address_key, segment_key, elision_key, SEGMENT_SECTORS, SEGMENT_SHARDS, Place, AddressFact, SegmentFact, ElisionFact, NextNumbers, NUMBER_LIMIT, Layers, AreBelow, IsFlushed, facts_of, patch_facts, patches_of, Memory, IsSound, Tables, IsEliding, AreLayered, repointed}
+use Rattle.byte_fields.specs.Prelude.{FitsBytes}
+use Rattle.table_plan.specs.Prelude.{flagged_from, is_named, place_in, places_from, AreStored, segments_from}
 use Rattle.array_memory.specs.declared.plan.Placing.{Placing}
 use Rattle.array_memory.specs.declared.plan.Plan.{Plan}
 use Rattle.array_memory.specs.declared.plan.Counts.{Counts}

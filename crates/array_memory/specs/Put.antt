@@ -1,7 +1,6 @@
 -- What putting addresses makes of an array's memory.
 use Rattle.std.specs.Prelude.{◌≡◌, ℕ, ◌+◌, ◌≤◌, List, length}
-use Rattle.pur_base.specs.declared.facts.Target.{Target}
-use Rattle.memory_spec.specs.Adding.{address_facts, HasPut}
+use Rattle.memory_spec.specs.Prelude.{Target, address_facts, HasPut}
 use Rattle.array_memory.specs.Kept.{Kept, HasSamePatches}
 use Rattle.array_memory.specs.Asked.{HasSpan}
 

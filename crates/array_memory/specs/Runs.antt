@@ -1,7 +1,6 @@
 -- The targets of a run of sectors: staged sectors one behind another, or none.
 use Rattle.std.specs.Prelude.{ℕ, zero, suc, ◌+◌, ◌≤◌, ◌^◌, List, [], ◌∷◌, Option, Some, None}
-use Rattle.pur_base.specs.declared.facts.Target.{Target}
-use Rattle.pur_base.specs.declared.facts.Target.TheVariants.{Stored, Zero}
+use Rattle.memory_spec.specs.Prelude.{Target, Stored, Zero}
 
 -- the target of the sector at a place of a run: staged from an index on, or zeros
 abbrev pub target_of : Option ℕ → ℕ → Target

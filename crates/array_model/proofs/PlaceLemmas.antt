@@ -5,7 +5,7 @@ use Rattle.std.specs.List.{position_or_len}
 use borrow.Author.Tests.{ltb-true}
 use Rattle.std.proofs.lemmas.Bool.{ltb-false, lt-ltb, le-ltb}
 use Rattle.std.proofs.lemmas.List.Sums.{prefix_len-le-length}
-use Rattle.pur_base.specs.Plain.{Entry, Array, entry, has, sectors_of, is_snapshot, with_sectors, with_span, passes, first_cause, overwrite_causes, read_causes}
+use Rattle.pur_base.specs.Prelude.{Entry, Array, entry, has, sectors_of, is_snapshot, with_sectors, with_span, passes, first_cause, overwrite_causes, read_causes}
 use Rattle.pur_base.specs.declared.reply.Refusal.TheVariants.{Unknown, ReadOnly, Range}
 use Rattle.std.specs.Prelude.{is_some}
 use Rattle.indexmap.specs.IndexMap.{insert_entry}

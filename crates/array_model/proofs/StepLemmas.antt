@@ -2,9 +2,7 @@
 use Rattle.std.proofs.Common.{◌≡◌, ℕ, List, [], length, None, refl, sym, ap, ◌∙◌}
 use Rattle.std.specs.Prelude.{replicate}
 use Rattle.pur_base.specs.declared.request.Request.TheVariants as request
-use Rattle.pur_base.specs.Sectors.{filled}
-use Rattle.pur_base.specs.Plain.{Array, span, with_span, with_sectors, replaced, first_cause, overwrite_causes, read_causes}
-use Rattle.pur_base.specs.Replies.{Sectors}
+use Rattle.pur_base.specs.Prelude.{filled, Array, span, with_span, with_sectors, replaced, first_cause, overwrite_causes, read_causes, Sectors}
 use Rattle.array_model.specs.declared.plain.Held.{Held}
 use Rattle.array_model.specs.declared.step.PlainReply.TheVariants as plain
 use Rattle.array_model.specs.Held.{IsOf, sectors_at, with_sectors_at}

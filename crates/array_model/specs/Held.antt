@@ -1,6 +1,6 @@
 -- Places in a plain array.
 use Rattle.std.specs.Prelude.{◌≡◌, ℕ, zero, suc, ◌+◌, ◌<◌, ◌≤◌, Bool, true, false, List, [], ◌∷◌, length}
-use Rattle.pur_base.specs.Plain.{Entry, Array, is_named}
+use Rattle.pur_base.specs.Prelude.{Entry, Array, is_named}
 use Rattle.array_model.specs.declared.plain.Held.{Held}
 use Rattle.array_model.specs.declared.plain.ObjectEntry.{ObjectEntry}
 

@@ -1,6 +1,6 @@
 -- The plain array that named objects stand for.
 use Rattle.std.specs.Prelude.{ℕ, List, map}
-use Rattle.pur_base.specs.Plain.{Entry, Array}
+use Rattle.pur_base.specs.Prelude.{Entry, Array}
 use Rattle.array_model.specs.declared.plain.Object.{Object}
 
 -- an object under its name, as an entry of the plain array

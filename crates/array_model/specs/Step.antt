@@ -3,9 +3,8 @@ use Rattle.std.specs.Prelude.{◌≡◌, ℕ, List}
 use Rattle.pur_base.specs.declared.request.Request.{Request}
 use Rattle.pur_base.specs.declared.request.Request.TheVariants as request
 use Rattle.pur_base.specs.declared.reply.Reply.TheVariants as reply
-use Rattle.pur_base.specs.Grammar.{Asked}
-use Rattle.pur_base.specs.Plain.{Array, span}
-use Rattle.pur_base.specs.Replies.{Answer, Line, Sectors, Entries, refused, answer, after}
+use Rattle.pur_base.specs.Prelude.{Asked, Array, span, Answer, Line, Sectors, Entries, refused, answer}
+use Rattle.pur_base.specs.Replies.{after}
 use Rattle.array_model.specs.declared.step.PlainReply.{PlainReply}
 use Rattle.array_model.specs.declared.step.PlainReply.TheVariants as plain
 use Rattle.array_model.specs.Held.{IsHeld, sectors_at}

@@ -2,16 +2,8 @@
 use Rattle.std.proofs.Common.{◌≡◌, ◌⊎◌, inl, inr, ⊎_elim, ℕ, ◌≤◌, List, [], ◌++◌, length, drop, refl, sym, ◌∙◌, ap, arith, append_assoc, None, Bool}
 use Rattle.std.specs.List.{AllByRecursion}
 use Rattle.std.proofs.lemmas.List.{append-nil, drop_at}
-use Rattle.pur_base.specs.Grammar.{Item}
-use Rattle.pur_base.specs.Replies.{Answer, texts}
-use Rattle.array_spec.specs.Acked.{IsAnswer, acked, after_reply}
+use Rattle.session_spec.specs.Prelude.{Item, Answer, texts, IsAnswer, acked, after_reply, geometry_of, IsLater, Shelved, Stop, Continues, Leaves, IsCountedBy, Point, IsReached, Fares, IsPartOfNext, Replied, NoMore}
 use Rattle.array_spec.proofs.AckedLemmas.{counts-replies}
-use Rattle.world.specs.Losing.{geometry_of, IsLater}
-use Rattle.world.specs.Shelf.{Shelved, Stop, Continues, Leaves, IsCountedBy}
-use Rattle.session_spec.specs.Faring.{Point, IsReached, Fares}
-use Rattle.session_spec.specs.Ends.{IsPartOfNext}
-use Rattle.session_spec.specs.Headline.{Replied}
-use Rattle.session_spec.specs.Reaching.{NoMore}
 use Rattle.array_server.proofs.Going.{IsUpTo, later_than, up_to_before, fares_later, fares_on, replied_on}
 
 -- At a stop these replies were whole, and R is so of it.

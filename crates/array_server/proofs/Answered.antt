@@ -1,21 +1,10 @@
 -- Answers where more calls have failed, and more devices have lost writes.
 use Rattle.std.proofs.Common.{◌≡◌, inl, inr, ⊎_elim, ℕ, List, refl, Bool, true, false}
 use Rattle.std.specs.Prelude.{Option, Some, None, ◌+◌, not, nat_lt}
-use Rattle.pur_base.specs.declared.device.Device.{Device}
-use Rattle.pur_base.specs.declared.request.Request.{Request}
-use Rattle.pur_base.specs.declared.request.Table.{Table}
+use Rattle.session_spec.specs.Prelude.{Device, Request, Table, Refusal, Geometry, Condition, Sound, Missing, LeftOut, MayBecome, drive, refusal, Item, Asked, Syntax, Cut, Answer, missing_if, losing, has_pair, pair_segments, Point, Answers, AnswersRequest, AnswersAccepted, IsAppended, IsAppendedBehind, IsDone, IsFailed, IsGone, IsLost, IsFlushing, IsMerging, Where, has_segments, is_full, is_limited, is_spent, borne_before}
 use Rattle.pur_base.specs.declared.request.Request.TheVariants as request
-use Rattle.pur_base.specs.declared.reply.Refusal.{Refusal}
-use Rattle.pur_base.specs.Devices.{Geometry, Condition, Sound, Missing, LeftOut, MayBecome, drive}
-use Rattle.pur_base.specs.Plain.{refusal}
-use Rattle.pur_base.specs.Grammar.{Item, Asked, Syntax, Cut}
-use Rattle.pur_base.specs.Replies.{Answer}
-use Rattle.world.specs.Losing.{missing_if, losing}
-use Rattle.memory_spec.specs.Merging.{has_pair, pair_segments}
 use Rattle.session_spec.specs.Faring as faring
-use Rattle.session_spec.specs.Faring.{Point, Answers, AnswersRequest, AnswersAccepted, IsAppended, IsAppendedBehind, IsDone, IsFailed, IsGone, IsLost, IsFlushing, IsMerging, Where, has_segments, is_full, is_limited, is_spent}
 use Rattle.session_spec.specs.declared.limits.TheConstants.{ADDING_GROUPS, CHECKPOINT_GROUPS, MERGE_GROUPS, SEGMENTS_END}
-use Rattle.session_spec.specs.lemmas.Conditions.{borne_before}
 
 pub goes_more : (c : Condition) (p q : Bool) → (p ≡ true → q ≡ true) → MayBecome (missing_if p c) (missing_if q c)
 goes_more Sound true true f = refl

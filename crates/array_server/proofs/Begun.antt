@@ -1,23 +1,13 @@
 -- A session begins: the array that was opened, and the point at which its replies begin.
 use Rattle.std.proofs.Common.{◌≡◌, ℕ, List, refl, sym, subst, Bool, true, false, inl, inr}
 use Rattle.std.proofs.lemmas.Bool.{cases_lt}
-use Rattle.pur_base.specs.declared.device.Device.{Device}
-use Rattle.pur_base.specs.declared.device.Device.TheVariants.{Drive, Nv}
-use Rattle.pur_base.specs.Devices.{Geometry, drive}
+use Rattle.session_spec.specs.Prelude.{Device, Drive, Nv, Geometry, drive, names, Shelved, Contents, ReadsAs, facts, patches, read_now, Point}
 use Rattle.pur_base.specs.Plain as plain
-use Rattle.boot_codec.specs.Region.{names}
-use Rattle.world.specs.Shelf.{Shelved}
-use Rattle.boot_region.specs.Members.{IsMember}
+use Rattle.boot_region.specs.Prelude.{IsMember}
 use Rattle.nvram_log.specs.Members as nv
-use Rattle.register.specs.Registers.{IsRegisterOf, named_sound}
-use Rattle.register.specs.lemmas.Flags.{in_cut, cut_in, none_past}
-use Rattle.memory_spec.specs.Memory.{Contents, ReadsAs}
-use Rattle.memory_spec.specs.Tables.{facts, patches}
-use Rattle.session_spec.specs.Entering.{read_now}
-use Rattle.session_spec.specs.Faring.{Point}
+use Rattle.register.specs.Prelude.{IsRegisterOf, named_sound, in_cut, cut_in, none_past}
 use Rattle.array_core.specs.declared.array.Array.{Array}
-use Rattle.array_core.specs.Drives.{SegmentsHold}
-use Rattle.array_core.specs.Holding.{IsHolder}
+use Rattle.array_core.specs.Prelude.{SegmentsHold, IsHolder}
 use Rattle.array_engine.specs.declared.engine.Engine.{Engine}
 use Rattle.array_server.specs.Sessions.{BeginsAt}
 use Rattle.register.proofs.Opened.{is_left, is_named}

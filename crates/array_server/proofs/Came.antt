@@ -2,23 +2,11 @@
 use Rattle.std.proofs.Common.{◌≡◌, ◌⊎◌, inl, inr, ℕ, List, [], ◌∷◌, refl, sym, ◌∙◌, ap, subst, Bool, true, false}
 use Rattle.std.specs.Prelude.{Option, Some, None, ◌+◌, not, nat_lt}
 use Rattle.std.proofs.lemmas.Bool.{ltb-false}
-use Rattle.pur_base.specs.declared.device.Device.{Device}
-use Rattle.pur_base.specs.declared.request.Request.{Request}
-use Rattle.pur_base.specs.declared.request.Table.{Table}
+use Rattle.session_spec.specs.Prelude.{Device, Request, Table, Refusal, Geometry, IsBearable, refusal, done, Item, Asked, Syntax, Cut, IsLogged, Answer, after_unless, losing, has_pair, pair_segments, Point, Answers, AnswersRequest, AnswersAccepted, HasGroups, IsCheckpointed, IsRefused, IsDone, IsFailed, IsFlushing, IsMerging, MayAdd, Where, WithPair, WithRoom, has_segments, is_full, is_limited, is_spent, IsAfter, IsNext}
 use Rattle.pur_base.specs.declared.request.Request.TheVariants as request
-use Rattle.pur_base.specs.declared.reply.Refusal.{Refusal}
 use Rattle.pur_base.specs.declared.reply.Refusal.TheVariants as refusals
-use Rattle.pur_base.specs.Devices.{Geometry, IsBearable}
-use Rattle.pur_base.specs.Plain.{refusal, done}
-use Rattle.pur_base.specs.Grammar.{Item, Asked, Syntax, Cut}
-use Rattle.pur_base.specs.Commands.{IsLogged}
-use Rattle.pur_base.specs.Replies.{Answer, after_unless}
-use Rattle.world.specs.Losing.{losing}
-use Rattle.memory_spec.specs.Merging.{has_pair, pair_segments}
 use Rattle.session_spec.specs.Faring as faring
-use Rattle.session_spec.specs.Faring.{Point, Answers, AnswersRequest, AnswersAccepted, HasGroups, IsCheckpointed, IsRefused, IsDone, IsFailed, IsFlushing, IsMerging, MayAdd, Where, WithPair, WithRoom, has_segments, is_full, is_limited, is_spent}
 use Rattle.session_spec.specs.declared.limits.TheConstants.{ADDING_GROUPS, CHECKPOINT_GROUPS, LIMITED_SEGMENTS, MERGE_GROUPS, SEGMENTS_END}
-use Rattle.session_spec.specs.Headline.{IsAfter, IsNext}
 
 where_not : (b : Bool) {one other P : Type 0} → (one → P) → (b ≡ false → other → P) → Where b one other → P
 where_not true f g h = f h

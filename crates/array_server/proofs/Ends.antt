@@ -2,19 +2,9 @@
 use Rattle.std.proofs.Common.{◌≡◌, ℕ, ◌+◌, ◌<◌, List, [], ◌∷◌, ◌++◌, length, drop, refl, sym, ◌∙◌, ap, Bool, true, false}
 use Rattle.std.specs.List.{list_any}
 use Rattle.std.proofs.lemmas.List.{append-nil}
-use Rattle.pur_base.specs.declared.limits.TheConstants.{INPUT_BYTES}
-use Rattle.pur_base.specs.declared.reply.Status.{Status}
+use Rattle.session_spec.specs.Prelude.{INPUT_BYTES, Status, Item, requests, is_whole, texts, geometry_of, Shelved, Stop, leaves_weaker, read_now, Ends, IsAnswered, IsOutput, is_cut, ends_in_write, Point, in_hand}
 use Rattle.pur_base.specs.declared.reply.Status.TheVariants as status
-use Rattle.pur_base.specs.Grammar.{Item, requests, is_whole}
-use Rattle.pur_base.specs.Replies.{texts}
-use Rattle.world.specs.Losing.{geometry_of}
-use Rattle.world.specs.Shelf.{Shelved, Stop}
-use Rattle.world.specs.lemmas.Moments.{leaves_weaker}
-use Rattle.request_codec.specs.Reading.{Unfinished}
-use Rattle.session_spec.specs.Entering.{read_now}
-use Rattle.session_spec.specs.Ends.{Ends, IsAnswered, IsOutput, is_cut, ends_in_write}
-use Rattle.session_spec.specs.Faring.{Point}
-use Rattle.session_spec.specs.Headline.{in_hand}
+use Rattle.request_codec.specs.Prelude.{Unfinished}
 use Rattle.array_engine.specs.declared.engine.Engine.{Engine}
 use Rattle.array_server.specs.Sessions.{IsServedFrom, end_of}
 use Rattle.array_server.proofs.InHand.{left_after}

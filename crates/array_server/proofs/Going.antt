@@ -1,13 +1,6 @@
 -- How a run of replies goes on: what was reached stays reached over later calls.
 use Rattle.std.proofs.Common.{◌≡◌, ◌⊎◌, ⊎_elim, ◌≤◌, List, [], ◌∷◌, ◌++◌, length, drop, refl, sym, ap, subst, arith, Bool}
-use Rattle.pur_base.specs.declared.device.Device.{Device}
-use Rattle.pur_base.specs.Devices.{Geometry}
-use Rattle.pur_base.specs.Grammar.{Item}
-use Rattle.pur_base.specs.Replies.{Answer}
-use Rattle.world.specs.Losing.{IsLater}
-use Rattle.world.specs.Shelf.{Shelved, Stop, IsCountedBy}
-use Rattle.session_spec.specs.Faring.{Point, Fares, Serves}
-use Rattle.session_spec.specs.Headline.{Replied}
+use Rattle.session_spec.specs.Prelude.{Device, Geometry, Item, Answer, IsLater, Shelved, Stop, IsCountedBy, Point, Fares, Serves, Replied}
 
 -- no more calls had failed by the stop than by now
 pub record IsUpTo (s : Shelved) (stop : Stop) : Type 0 where

@@ -1,28 +1,14 @@
 -- What a session does, put together: the opening, and what was served after it.
 use Rattle.std.proofs.Common.{◌≡◌, ◌⊎◌, inl, inr, ⊎_elim, ℕ, ◌≤◌, List, [], length, drop, refl, sym, ap, ◌∙◌, subst, arith, Bool, true, false}
 use Rattle.std.specs.Prelude.{Contains}
-use Rattle.pur_base.specs.declared.reply.Status.{Status}
+use Rattle.session_spec.specs.Prelude.{Status, after_all, Conditions, Geometry, requests, HoldsBase, members_view, all_facts, geometry_of, IsLater, Shelved, Stop, IsShelf, MayStop, Continues, LeavesOnly, IsCountedBy, IsQuietBy, Contents, FactsRead, facts, patches, Enters, IsStanding, read_now, failed_since, IsOutput, is_source, is_sink, Point, Unopened, Served, Serving, Outlasts, Opening, IsInOpening, IsOpenedBearably, Replied, StandsOn}
 use Rattle.pur_base.specs.declared.reply.Status.TheVariants as status
-use Rattle.pur_base.specs.Commands.{after_all}
-use Rattle.pur_base.specs.Devices.{Conditions, Geometry}
 use Rattle.pur_base.specs.Plain as plain
-use Rattle.pur_base.specs.Grammar.{requests}
-use Rattle.array_spec.specs.Meaning.{HoldsBase, members_view}
-use Rattle.array_spec.specs.Stored.{all_facts}
-use Rattle.world.specs.Losing.{geometry_of, IsLater}
-use Rattle.world.specs.Shelf.{Shelved, Stop, IsShelf, MayStop, Continues, LeavesOnly, IsCountedBy, IsQuietBy}
-use Rattle.register.specs.Registers.{IsRegisterOf}
-use Rattle.register.specs.Standing.{array_of}
-use Rattle.memory_spec.specs.Memory.{Contents, FactsRead}
-use Rattle.memory_spec.specs.Tables.{facts, patches}
+use Rattle.register.specs.Prelude.{IsRegisterOf, array_of}
 use Rattle.memory_spec.proofs.Sound.{sound_tables_read}
-use Rattle.session_spec.specs.Entering.{Enters, IsStanding, read_now, failed_since}
-use Rattle.session_spec.specs.Ends.{IsOutput, is_source, is_sink}
-use Rattle.session_spec.specs.Faring.{Point}
-use Rattle.session_spec.specs.Headline.{Unopened, Served, Serving, Outlasts, Opening, Keeps, IsInOpening, IsOpenedBearably, Replied, StandsOn}
+use Rattle.session_spec.specs.Headline.{Keeps}
 use Rattle.array_core.specs.declared.array.Array.{Array}
-use Rattle.array_core.specs.Drives.{SegmentsHold}
-use Rattle.array_core.specs.lemmas.Losses.{bearable_or_not}
+use Rattle.array_core.specs.Prelude.{SegmentsHold, bearable_or_not}
 use Rattle.takeover.specs.declared.faults.OpenFault.{OpenFault}
 use Rattle.takeover.specs.declared.faults.OpenFault.TheVariants as open_fault
 use Rattle.takeover.specs.Opened.{IsOpened, IsShut, IsRecovered, status_of}

@@ -1,22 +1,11 @@
 -- While the reply to an item is given, and at the end of a session: what the devices stand for.
 use Rattle.std.proofs.Common.{◌≡◌, inl, ℕ, ◌≤◌, List, [], ◌∷◌, sym, subst, arith, Bool, false}
 use Rattle.std.specs.Prelude.{Contains}
-use Rattle.pur_base.specs.declared.device.Device.{Device}
-use Rattle.pur_base.specs.Devices.{Geometry, Conditions, Sound, LeftOut, IsBearable}
+use Rattle.session_spec.specs.Prelude.{Device, Geometry, Conditions, Sound, LeftOut, IsBearable, Item, Answer, names, geometry_of, has_risen, Shelved, Stop, MayLeave, IsCountedBy, IsLeft, read_now, Point, Answers, now_missing, StandsAmong, IsAfter, IsLeftAfter, still_sound, left_out_once}
 use Rattle.pur_base.specs.Plain as plain
-use Rattle.pur_base.specs.Grammar.{Item}
-use Rattle.pur_base.specs.Replies.{Answer}
-use Rattle.boot_codec.specs.Region.{names}
-use Rattle.world.specs.Losing.{geometry_of, has_risen}
-use Rattle.world.specs.Shelf.{Shelved, Stop, MayLeave, IsCountedBy}
 use Rattle.boot_region.proofs.Phases.{not_risen_before}
-use Rattle.session_spec.specs.Entering.{IsLeft, read_now}
-use Rattle.session_spec.specs.Faring.{Point, Answers, now_missing}
-use Rattle.session_spec.specs.Headline.{StandsAmong, IsAfter, IsLeftAfter}
-use Rattle.session_spec.specs.lemmas.Conditions.{still_sound, left_out_once}
-use Rattle.register.specs.Standing.{Content, array_of}
-use Rattle.array_core.specs.Ready.{IsReady}
-use Rattle.array_core.specs.lemmas.Losses.{sound_since}
+use Rattle.register.specs.Prelude.{Content, array_of}
+use Rattle.array_core.specs.Prelude.{IsReady, sound_since}
 use Rattle.array_engine.specs.declared.engine.Engine.{Engine}
 use Rattle.array_engine.specs.Appending.{failed_in, lost_in}
 use Rattle.array_engine.specs.Engines.{IsAt, point_after}

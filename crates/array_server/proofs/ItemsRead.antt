@@ -2,11 +2,8 @@
 use Rattle.std.proofs.Common.{◌≡◌, ℕ, ◌<◌, ◌+◌, ◌*◌, Bool, true, false, cond, ltb, List, [], ◌++◌, length, take, drop, Option, Some, None, refl, sym, ap, subst, append_assoc, ◌∙◌}
 use Rattle.std.specs.List.{before_first, after_first, position_or_len}
 use Rattle.std.proofs.lemmas.List.{append-nil, take-append-drop}
-use Rattle.pur_base.specs.declared.limits.TheConstants.{SECTOR_BYTES}
-use Rattle.pur_base.specs.declared.request.Request.{Request}
-use Rattle.pur_base.specs.Grammar.{Item, Asked, Cut, first_item, line_item, line_request, data_count, sectors_in, is_line_end}
-use Rattle.session_spec.specs.Ends.{is_cut}
-use Rattle.request_codec.specs.Items.{Reads, IsServed, item_read}
+use Rattle.session_spec.specs.Prelude.{SECTOR_BYTES, Request, Item, Asked, Cut, first_item, line_item, line_request, data_count, sectors_in, is_line_end, is_cut}
+use Rattle.request_codec.specs.Prelude.{Reads, IsServed, item_read}
 use Rattle.request_codec.specs.declared.reader.Item as read
 use Rattle.request_codec.specs.declared.reader.Item.TheVariants as reads
 use Rattle.array_engine.specs.Answering.{IsAnswered}

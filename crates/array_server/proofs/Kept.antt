@@ -1,25 +1,15 @@
 -- What the devices stand for at a stop: told by the point of the last reply that was whole.
 use Rattle.std.proofs.Common.{◌≡◌, inl, inr, ℕ, List, [], ◌∷◌, refl, sym, ◌∙◌, subst, arith, false, get_or, Bool}
 use Rattle.std.specs.Prelude.{Contains}
-use Rattle.pur_base.specs.declared.device.Device.{Device}
-use Rattle.pur_base.specs.Devices.{Geometry, Conditions, Sound, LeftOut, IsBearable}
+use Rattle.session_spec.specs.Prelude.{Device, Geometry, Conditions, Sound, LeftOut, IsBearable, Item, Asked, Syntax, Cut, AcceptsNext, geometry_of, has_risen, Shelved, Stop, MayStop, MayLeave, IsStanding, Point, now_missing, StandsAmong, IsAfter, IsNext, left_out_once}
 use Rattle.pur_base.specs.Plain as plain
-use Rattle.pur_base.specs.Grammar.{Item, Asked, Syntax, Cut}
-use Rattle.array_spec.specs.After.{AcceptsNext}
-use Rattle.world.specs.Losing.{geometry_of, has_risen}
-use Rattle.world.specs.Shelf.{Shelved, Stop, MayStop, MayLeave}
-use Rattle.register.specs.Standing.{Content, array_of}
-use Rattle.session_spec.specs.Entering.{IsStanding}
-use Rattle.session_spec.specs.Faring.{Point, now_missing}
-use Rattle.session_spec.specs.Headline.{StandsAmong, IsAfter, IsNext}
-use Rattle.array_core.specs.Ready.{IsReady}
-use Rattle.array_core.specs.lemmas.Losses.{sound_since}
+use Rattle.register.specs.Prelude.{Content, array_of}
+use Rattle.array_core.specs.Prelude.{IsReady, sound_since}
 use Rattle.array_core.proofs.ReadyStands.{ready_stands}
 use Rattle.array_engine.specs.declared.engine.Engine.{Engine}
 use Rattle.array_engine.specs.Engines.{IsAt, MayBeDone, IsKeptBy}
 use Rattle.array_engine.proofs.Rooms.{may_add_at}
 use Rattle.array_server.proofs.StandsAtPoint.{borne_at_point, stands_at_point, stands_as, sound_is_named}
-use Rattle.session_spec.specs.lemmas.Conditions.{left_out_once}
 
 -- ---- the next item
 

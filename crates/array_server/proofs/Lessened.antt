@@ -1,15 +1,7 @@
 -- Where more went missing, and some that were left out are merely missing, the devices still stand for the same arrays.
 use Rattle.std.proofs.Common.{◌≡◌, ◌⊎◌, inl, inr, ℕ, List, refl, sym, subst, cond, Bool, false}
 use Rattle.std.specs.Prelude.{◌≤◌, Option, None, count_by}
-use Rattle.pur_base.specs.declared.device.Device.{Device}
-use Rattle.pur_base.specs.declared.device.Device.TheVariants.{Drive, Nv}
-use Rattle.pur_base.specs.Devices.{Geometry, Image, View, Condition, Conditions, Sound, Missing, LeftOut, IsBearable, IsWithin, MayShowAs, MayBecome, is_missing, is_sound, slots_of, nvrams, drive, nvram}
-use Rattle.pur_base.specs.Plain.{Array}
-use Rattle.boot_codec.specs.declared.record.BootRecord.{BootRecord}
-use Rattle.boot_codec.specs.Region.{BootSlot, names, of_members}
-use Rattle.log_codec.specs.Log.{LogStands}
-use Rattle.array_spec.specs.Standing.{Stands, IsViewOf, MayAppear, MayBeGiven, IsReadBy, HasNoLog}
-use Rattle.session_spec.specs.Entering.{IsStanding, LeftOutAreNamedByNone}
+use Rattle.session_spec.specs.Prelude.{Device, Drive, Nv, Geometry, Image, View, Condition, Conditions, Sound, Missing, LeftOut, IsBearable, IsWithin, MayShowAs, MayBecome, is_missing, is_sound, slots_of, nvrams, drive, nvram, Array, BootRecord, BootSlot, names, of_members, LogStands, Stands, IsViewOf, MayAppear, MayBeGiven, IsReadBy, HasNoLog, IsStanding, LeftOutAreNamedByNone}
 
 -- it went missing, or is so without the mark that it was left out
 abbrev pub Turned : Condition → Condition → Type 0

@@ -1,21 +1,10 @@
 -- What is said of an array that was made.
 use Rattle.std.proofs.Common.{◌≡◌, inl, inr, ℕ, List, [], ◌∷◌, ◌++◌, ◌≤◌, Err, refl, sym, ap, subst, ◌∙◌}
-use Rattle.pur_base.specs.declared.device.Device.{Device}
+use Rattle.session_spec.specs.Prelude.{Device, Status, line_text, sectors_text, Geometry, IsBearable, Stands, geometry_of, Shelved, Disk, Stop, MayStop, MayLeave, OutputOnly, Continues, IsSame, IsShelf, LeavesOnly, LeavesBut, WritesOnly, Streamed, SameStream, RisesIf, is_sink, LeftOutAreNamedByNone, AreRead, HasRoom, IsStanding, none_missing, AreClean, GivesBody, IsBlank, IsInMaking, IsMade, IsNoneOrEmpty, Makes, MakesBy, NoneFailed}
 use Rattle.std.proofs.lemmas.List.{append-nil}
 use Rattle.pur_base.specs.declared.reply.Reply.TheVariants as reply
-use Rattle.pur_base.specs.declared.reply.Status.{Status}
 use Rattle.pur_base.specs.declared.reply.Status.TheVariants as status
-use Rattle.pur_base.specs.Replies.{line_text, sectors_text}
-use Rattle.request_codec.specs.Writing.{Gave}
-use Rattle.pur_base.specs.Devices.{Geometry, IsBearable}
-use Rattle.array_spec.specs.Standing.{Stands}
-use Rattle.world.specs.Losing.{geometry_of}
-use Rattle.world.specs.Shelf.{Shelved, Disk, Stop, MayStop, MayLeave, OutputOnly, Continues, IsSame, IsShelf, LeavesOnly}
-use Rattle.world.specs.Writes.{LeavesBut, WritesOnly}
-use Rattle.world.specs.Streams.{Streamed, SameStream}
-use Rattle.session_spec.specs.Ends.{RisesIf, is_sink}
-use Rattle.session_spec.specs.Entering.{LeftOutAreNamedByNone, AreRead, HasRoom, IsStanding}
-use Rattle.session_spec.specs.Making.{none_missing, AreClean, GivesBody, IsBlank, IsInMaking, IsMade, IsNoneOrEmpty, Makes, MakesBy, NoneFailed}
+use Rattle.request_codec.specs.Prelude.{Gave}
 use Rattle.shelf_init.specs.Laws.{StayBlank}
 use Rattle.array_server.specs.Made.{InitsOn, IsCountedEnd, IsInitEnd, IsJudgedEnd, IsMadeOutput, IsMadeEnd, IsInitStatus}
 

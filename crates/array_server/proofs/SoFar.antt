@@ -2,23 +2,10 @@
 use Rattle.std.proofs.Common.{◌≡◌, inl, inr, ℕ, ◌<◌, List, [], ◌∷◌, ◌++◌, length, drop, refl, sym, ◌∙◌, ap, subst, arith, append_assoc, length-append, Bool, true, false, ◌||◌}
 use Rattle.std.specs.List.{list_any}
 use Rattle.std.proofs.lemmas.List.{drop_at}
-use Rattle.pur_base.specs.declared.device.Device.{Device}
-use Rattle.pur_base.specs.Devices.{Geometry, IsBearable}
+use Rattle.session_spec.specs.Prelude.{Device, Geometry, IsBearable, Item, requests, first_item, Answer, text, texts, requests-step, geometry_of, has_failed, has_lost_writes, has_risen, losing, Shelved, Stop, Disk, IsShelf, Continues, TakenOnly, OutputOnly, LeavesOnly, IsCountedBy, continues_trans, weaker, leaves_weaker, read_now, is_cut, Point, Answers, now_missing, StandsAmong, IsAfter, IsLeftAfter, borne_before, loses}
 use Rattle.pur_base.specs.declared.reply.Status.TheVariants as status
-use Rattle.pur_base.specs.Grammar.{Item, requests, first_item}
-use Rattle.pur_base.specs.Replies.{Answer, text, texts}
-use Rattle.pur_base.specs.lemmas.Items.{requests-step}
-use Rattle.world.specs.Losing.{geometry_of, has_failed, has_lost_writes, has_risen, losing}
-use Rattle.world.specs.Shelf.{Shelved, Stop, Disk, IsShelf, Continues, TakenOnly, OutputOnly, LeavesOnly, IsCountedBy}
-use Rattle.world.specs.lemmas.Moments.{continues_trans, weaker, leaves_weaker}
-use Rattle.register.specs.Standing.{Content, array_of}
-use Rattle.session_spec.specs.Entering.{read_now}
-use Rattle.session_spec.specs.Ends.{is_cut}
-use Rattle.session_spec.specs.Faring.{Point, Answers, now_missing}
-use Rattle.session_spec.specs.Headline.{StandsAmong, IsAfter, IsLeftAfter}
-use Rattle.session_spec.specs.lemmas.Conditions.{borne_before, loses}
-use Rattle.array_core.specs.Ready.{IsReady}
-use Rattle.array_core.specs.lemmas.Losses.{bearable_or_not}
+use Rattle.register.specs.Prelude.{Content, array_of}
+use Rattle.array_core.specs.Prelude.{IsReady, bearable_or_not}
 use Rattle.array_engine.specs.declared.engine.Engine.{Engine}
 use Rattle.array_engine.specs.declared.said.Said.{Said}
 use Rattle.array_engine.specs.Appending.{failed_in, lost_in}

@@ -1,21 +1,9 @@
 -- The conditions of a point beside those by the record in force: what stands by the one does by the other.
 use Rattle.std.proofs.Common.{◌≡◌, inl, inr, ℕ, List, refl, subst, Bool, true, false}
 use Rattle.std.specs.Prelude.{if◌then◌else◌}
-use Rattle.pur_base.specs.declared.device.Device.{Device}
-use Rattle.pur_base.specs.Devices.{Geometry, Image, Condition, Conditions, Sound, Missing, LeftOut, IsBearable, is_missing}
-use Rattle.pur_base.specs.Plain.{Array}
-use Rattle.boot_codec.specs.declared.record.BootRecord.{BootRecord}
-use Rattle.boot_codec.specs.Region.{names}
-use Rattle.world.specs.Losing.{geometry_of, has_risen, missing_if, losing}
-use Rattle.world.specs.Shelf.{Shelved, Stop}
-use Rattle.register.specs.Registers.{named_sound}
-use Rattle.register.specs.Standing.{Content}
-use Rattle.session_spec.specs.Entering.{IsStanding}
-use Rattle.session_spec.specs.Faring.{Point, now_missing}
-use Rattle.session_spec.specs.lemmas.Conditions.{borne_on, left_out_once}
-use Rattle.array_core.specs.Losing.{lost_by}
-use Rattle.array_core.specs.Ready.{IsReady}
-use Rattle.array_core.specs.lemmas.Losses.{sound_since}
+use Rattle.session_spec.specs.Prelude.{Device, Geometry, Image, Condition, Conditions, Sound, Missing, LeftOut, IsBearable, is_missing, Array, BootRecord, names, geometry_of, has_risen, missing_if, losing, Shelved, Stop, IsStanding, Point, now_missing, borne_on, left_out_once}
+use Rattle.register.specs.Prelude.{named_sound, Content}
+use Rattle.array_core.specs.Prelude.{lost_by, IsReady, sound_since}
 use Rattle.array_engine.specs.declared.engine.Engine.{Engine}
 use Rattle.array_engine.specs.Engines.{IsAt}
 use Rattle.array_core.proofs.ReadyStands.{ready_names}

@@ -4,17 +4,8 @@ use Rattle.std.specs.List.{AllByRecursion}
 use Rattle.std.proofs.lemmas.Bool.{cases_lt}
 use Rattle.std.proofs.lemmas.List.{append-nil, append_cancel_left}
 use Rattle.std.proofs.lemmas.Grind.{flat_map-append}
-use Rattle.pur_base.specs.declared.device.Device.{Device}
-use Rattle.pur_base.specs.Grammar.{Item}
-use Rattle.pur_base.specs.Replies.{Answer, text, texts}
-use Rattle.array_spec.specs.Acked.{IsAnswer, acked}
+use Rattle.session_spec.specs.Prelude.{Device, Item, Answer, text, texts, IsAnswer, acked, geometry_of, has_failed, has_lost_writes, losing, IsLater, Shelved, Stop, Disk, IsShelf, Continues, TakenOnly, OutputOnly, MayLeave, MayStop, MayStopTaking, MayStopGiving, LeavesOnly, Leaves, IsCountedBy, IsQuietBy, continues_refl, continues_trans, leaves_start, Point, IsReached, Fares, Serves, Answers, IsPartOfNext, read_now}
 use Rattle.array_spec.proofs.AckedLemmas.{counts-replies, cut-is-none}
-use Rattle.world.specs.Losing.{geometry_of, has_failed, has_lost_writes, losing, IsLater}
-use Rattle.world.specs.Shelf.{Shelved, Stop, Disk, IsShelf, Continues, TakenOnly, OutputOnly, MayLeave, MayStop, MayStopTaking, MayStopGiving, LeavesOnly, Leaves, IsCountedBy, IsQuietBy}
-use Rattle.world.specs.lemmas.Moments.{continues_refl, continues_trans, leaves_start}
-use Rattle.session_spec.specs.Faring.{Point, IsReached, Fares, Serves, Answers}
-use Rattle.session_spec.specs.Ends.{IsPartOfNext}
-use Rattle.session_spec.specs.Entering.{read_now}
 use Rattle.session_spec.proofs.Reached.{output_is_bounded, output_counts}
 use Rattle.array_server.proofs.Going.{IsUpTo, fares_more, later_than, rest_more}
 use Rattle.array_server.proofs.Along.{Along, HasReplied, Adds, up_to_then, first_up_to, reached_on, run_on, moments_on, told_part, told_same, count_of}

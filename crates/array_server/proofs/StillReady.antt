@@ -1,13 +1,9 @@
 -- An array stays ready while input is taken and output given, and its segments hold what they held.
 use Rattle.std.proofs.Common.{◌≡◌, ℕ, refl, sym, subst}
-use Rattle.pur_base.specs.declared.device.Device.{Device}
-use Rattle.world.specs.Shelf.{Shelved, Stop, Disk, MayStop}
-use Rattle.register.specs.Standing.{Content}
-use Rattle.memory_spec.specs.Memory.{Contents}
-use Rattle.memory_spec.specs.Tables.{facts}
+use Rattle.session_spec.specs.Prelude.{Device, Shelved, Stop, Disk, MayStop, Contents, facts}
+use Rattle.register.specs.Prelude.{Content}
 use Rattle.array_core.specs.declared.array.Array.{Array}
-use Rattle.array_core.specs.Drives.{SegmentsHold}
-use Rattle.array_core.specs.Ready.{IsReady}
+use Rattle.array_core.specs.Prelude.{SegmentsHold, IsReady}
 
 module _ (was now : Shelved) (a : Array) (held : Content) where
   -- what was, with the devices as they are

@@ -1,12 +1,8 @@
 -- What the making of a new array answers and leaves.
 use Rattle.std.specs.Prelude.{◌≡◌, ℕ, ◌<◌, List, ◌++◌, length, ⊤}
-use Rattle.pur_base.specs.declared.device.Device.{Device}
+use Rattle.session_spec.specs.Prelude.{Device, Status, line_text, Shelved, Stop, AreClean, AreSame, GivesBody, IsBlank, IsInMaking, IsMade, NoneFailed, OneFailed}
 use Rattle.pur_base.specs.declared.reply.Reply.TheVariants as reply
-use Rattle.pur_base.specs.declared.reply.Status.{Status}
 use Rattle.pur_base.specs.declared.reply.Status.TheVariants as status
-use Rattle.pur_base.specs.Replies.{line_text}
-use Rattle.world.specs.Shelf.{Shelved, Stop}
-use Rattle.session_spec.specs.Making.{AreClean, AreSame, GivesBody, IsBlank, IsInMaking, IsMade, NoneFailed, OneFailed}
 
 -- the ways in which the making ends that was done
 abbrev pub IsMadeEnd : Status → Type 0

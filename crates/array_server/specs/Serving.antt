@@ -1,5 +1,5 @@
 -- How a session ends.
-use Rattle.pur_base.specs.declared.reply.Status.{Status}
+use Rattle.session_spec.specs.Prelude.{Status}
 use Rattle.pur_base.specs.declared.reply.Status.TheVariants as status
 use Rattle.array_server.specs.Sessions.{IsSessionEnd}
 

@@ -1,18 +1,9 @@
 -- What a session answers from the moment on when its array is open, and what it does to that.
 use Rattle.std.specs.Prelude.{◌≡◌, ℕ, Bool, true, false, List, length, drop}
-use Rattle.pur_base.specs.declared.reply.Status.{Status}
+use Rattle.session_spec.specs.Prelude.{Status, Geometry, IsBearable, Item, requests, Answer, geometry_of, IsLater, Shelved, Stop, Leaves, read_now, Point, IsReached, Fares, IsBorne, now_missing, Ends, IsOutput, Replied, StandsOn, IsLeftAfter, in_hand}
 use Rattle.pur_base.specs.declared.reply.Status.TheVariants as status
-use Rattle.pur_base.specs.Devices.{Geometry, IsBearable}
-use Rattle.pur_base.specs.Grammar.{Item, requests}
-use Rattle.pur_base.specs.Replies.{Answer}
-use Rattle.world.specs.Losing.{geometry_of, IsLater}
-use Rattle.world.specs.Shelf.{Shelved, Stop, Leaves}
-use Rattle.register.specs.Standing.{Content, array_of}
-use Rattle.session_spec.specs.Entering.{read_now}
-use Rattle.session_spec.specs.Faring.{Point, IsReached, Fares, IsBorne, now_missing}
-use Rattle.session_spec.specs.Ends.{Ends, IsOutput}
-use Rattle.session_spec.specs.Headline.{Replied, StandsOn, IsLeftAfter, in_hand}
-use Rattle.array_core.specs.Ready.{IsReady}
+use Rattle.register.specs.Prelude.{Content, array_of}
+use Rattle.array_core.specs.Prelude.{IsReady}
 use Rattle.array_engine.specs.declared.engine.Engine.{Engine}
 use Rattle.array_engine.specs.Engines.{IsAt}
 

@@ -7,16 +7,10 @@ use Rattle.std.proofs.lemmas.Bool.{le-ltb, ltb-false, ne_eqb, false≢true}
 use Rattle.std.proofs.lemmas.List.{append-nil, drop_at, drop-append-le}
 use Rattle.std.proofs.lemmas.Fmt.{decimal_is_IsNumeral, digits_value-decimal}
 use Rattle.std.proofs.lemmas.Str.Parse.{digit_from_value, IsNumeralModel, numerals_by_fold, tells_digits}
-use Rattle.pur_base.specs.Names.{is_name_byte}
-use Rattle.pur_base.specs.declared.reply.Refusal.{Refusal}
+use Rattle.boot_codec.specs.Prelude.{is_name_byte, Refusal, Reply, Entry, digits_number, is_line_end, Answer, Line, Sectors, Entries, text, texts, line_text, sectors_text, entries_text, entry_text, numbers_text, kind_text, IsOpen, open-nil, open-append, before-past, after-past, before-in, after-in}
 use Rattle.pur_base.specs.declared.reply.Refusal.TheVariants as refusals
-use Rattle.pur_base.specs.declared.reply.Reply.{Reply}
 use Rattle.pur_base.specs.declared.reply.Reply.TheVariants as reply
-use Rattle.pur_base.specs.Plain.{Entry}
-use Rattle.pur_base.specs.Grammar.{digits_number, is_line_end}
-use Rattle.pur_base.specs.Replies.{Answer, Line, Sectors, Entries, text, texts, line_text, sectors_text, entries_text, entry_text, numbers_text, kind_text}
 use Rattle.array_spec.specs.Acked.{acked_within, after_reply, skip_reply, skip, skip_lines, IsLine, IsEntry, IsAnswer, CountsReplies, CutIsNone}
-use Rattle.pur_base.specs.lemmas.Lines.{IsOpen, open-nil, open-append, before-past, after-past, before-in, after-in}
 
 -- ---- a line and what follows it
 

@@ -3,13 +3,9 @@ use Rattle.std.proofs.Common.{◌≡◌, ◌⊎◌, inl, inr, ℕ, List, length,
 use Rattle.std.specs.Prelude.{◌≤◌, ◌<◌, Option, None, Bool, IfSome, count_by, slice_index}
 use Rattle.std.proofs.lemmas.Bool.{cases_lt}
 use Rattle.std.proofs.lemmas.List.{length-replicate, get_or-replicate, get_or_past}
-use Rattle.pur_base.specs.Bytes.{IsBytes, IsBytesOf, zeros}
-use Rattle.pur_base.specs.Devices.{Geometry, drive, nvram, Image, View, Condition, Conditions, Sound, Missing, LeftOut, IsBearable, IsWithin, MayShowAs, MayBecome, is_missing, is_sound, slots_of, nvrams}
-use Rattle.pur_base.specs.Plain.{Array}
-use Rattle.pur_base.specs.declared.device.Device.{Device}
+use Rattle.boot_codec.specs.Prelude.{IsBytes, IsBytesOf, zeros, Geometry, drive, nvram, Image, View, Condition, Conditions, Sound, Missing, LeftOut, IsBearable, IsWithin, MayShowAs, MayBecome, is_missing, is_sound, slots_of, nvrams, Array, Device, BootSlot}
 use Rattle.boot_codec.specs.declared.record.BootRecord.{BootRecord}
-use Rattle.boot_codec.specs.Region.{BootSlot}
-use Rattle.log_codec.specs.Log.{LogStands}
+use Rattle.log_codec.specs.Prelude.{LogStands}
 use Rattle.array_spec.specs.Standing.{Stands, IsViewOf, MayAppear, MayBeGiven, IsReadBy}
 use Rattle.array_spec.specs.Laws.{MarksMayClear, AreCleared}
 

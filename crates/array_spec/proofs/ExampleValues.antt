@@ -2,7 +2,7 @@
 use Rattle.std.proofs.Common.{◌≡◌, ℕ, ◌+◌, ◌*◌, ◌≤◌, ◌<◌, List, [], ◌∷◌, min, refl, arith, lit≤, lit<}
 use Rattle.std.specs.Prelude.{sum_by}
 use Rattle.std.proofs.lemmas.List.Sums.{sum_by-cons}
-use Rattle.pur_base.specs.Mediums.{here, below}
+use Rattle.boot_codec.specs.Prelude.{here, below}
 use Rattle.array_spec.specs.Counts.{IsGroups, units_for}
 use Rattle.array_spec.specs.Examples.{GroupsOfEleven, WhatFactsSay, eleven, eleven_less_one, eleven_less_four, new_range}
 

@@ -1,12 +1,8 @@
 -- The record that a checkpoint stores is read into the array of the log, and follows on from the record in force.
 use Rattle.std.proofs.Common.{◌≡◌, ℕ, zero, suc, ◌≤◌, List, [], ◌∷◌, length, take, refl, sym, ap, subst, ◌∙◌, arith, inl}
 use Rattle.std.specs.Prelude.{Option, Some, None, Contains}
-use Rattle.pur_base.specs.Devices.{Geometry, Image, View, Condition, Conditions, Sound, Missing, LeftOut, MayBecome, MayShowAs, IsBearable}
-use Rattle.pur_base.specs.Plain.{Array}
-use Rattle.pur_base.specs.Commands.{Command, after_all}
-use Rattle.pur_base.specs.declared.facts.AnyFact.{AnyFact}
+use Rattle.boot_codec.specs.Prelude.{Geometry, Image, View, Condition, Conditions, Sound, Missing, LeftOut, MayBecome, MayShowAs, IsBearable, Array, Command, after_all, AnyFact, BootSlot, IsRecordOf, of_members}
 use Rattle.boot_codec.specs.declared.record.BootRecord.{BootRecord}
-use Rattle.boot_codec.specs.Region.{BootSlot, IsRecordOf, of_members}
 use Rattle.array_spec.specs.Meaning.{HoldsBase, IsInForce}
 use Rattle.array_spec.specs.Standing.{Stands, MayBeGiven, IsReadInto, IsViewOf, FollowsOn, HasNoLog}
 use Rattle.array_spec.specs.Unflushed.{LogLies, NamesSound}

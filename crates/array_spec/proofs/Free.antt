@@ -1,9 +1,7 @@
 -- A unit that the tables leave free is used by no record that may be given.
 use Rattle.std.proofs.Common.{◌≡◌, inl, List, subst, sym}
-use Rattle.pur_base.specs.Devices.{View, Conditions}
-use Rattle.pur_base.specs.declared.facts.AnyFact.{AnyFact}
+use Rattle.boot_codec.specs.Prelude.{View, Conditions, AnyFact, BootSlot, of_members}
 use Rattle.boot_codec.specs.declared.record.BootRecord.{BootRecord}
-use Rattle.boot_codec.specs.Region.{BootSlot, of_members}
 use Rattle.array_spec.specs.Counts.{IsFree}
 use Rattle.array_spec.specs.Meaning.{TablesStand}
 use Rattle.array_spec.specs.Standing.{IsViewOf}

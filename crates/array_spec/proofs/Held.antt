@@ -1,14 +1,7 @@
 -- A record that is held, and writes to NVRAM.
 use Rattle.std.proofs.Common.{◌≡◌, ℕ, List, length, map, refl, sym, ap, subst, arith, inl, inr, ◌∙◌, Bool, true, false, cond, ◌+◌, ◌*◌}
 use Rattle.std.specs.Prelude.{Option, Some, None, IsSome, option_map, option_and_then}
-use Rattle.pur_base.specs.Bytes.{bytes_at}
-use Rattle.pur_base.specs.Devices.{Geometry, drive, Image, View, Conditions, Sound, MayShowAs, IsWithin, slots_of}
-use Rattle.pur_base.specs.Plain.{Array}
-use Rattle.pur_base.specs.declared.device.Device.{Device}
-use Rattle.pur_base.specs.declared.device.Device.TheVariants.{Drive, Nv}
-use Rattle.pur_base.specs.declared.place.Place.{Place}
-use Rattle.boot_codec.specs.Region.{names, BootSlot, of_members, votes, shown_by}
-use Rattle.boot_codec.specs.Spelling.{spelling}
+use Rattle.boot_codec.specs.Prelude.{bytes_at, Geometry, drive, Image, View, Conditions, Sound, MayShowAs, IsWithin, slots_of, Array, Device, Drive, Nv, Place, names, BootSlot, of_members, votes, shown_by, spelling}
 use Rattle.boot_codec.specs.declared.record.BootRecord.{BootRecord}
 use Rattle.array_spec.specs.lemmas.Moves.{SameUnit, holds_moves}
 use Rattle.array_spec.specs.lemmas.Quiet.{Matches, before, before_any, effective_moves}

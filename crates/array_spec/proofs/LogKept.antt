@@ -3,10 +3,9 @@ use Rattle.std.proofs.Common.{◌≡◌, ◌⊎◌, inl, inr, ℕ, zero, suc, �
 use Rattle.std.specs.Prelude.{Option, Some, None, slice_get, Contains}
 use Rattle.std.proofs.lemmas.Bool.{cases_lt}
 use Rattle.std.proofs.lemmas.Option.{slice_get_past, slice_get_cases}
-use Rattle.pur_base.specs.Commands.{Command, Accepts, AllAccepted, after, after_all}
-use Rattle.pur_base.specs.Devices.{View, Conditions, Sound, nvram, without_missing}
-use Rattle.pur_base.specs.Plain.{Array}
-use Rattle.log_codec.specs.Log.{HasSpelling, Shows, IsInSlot, LogFrom, DevicesAgree}
+use Rattle.boot_codec.specs.Prelude.{Command, Accepts, AllAccepted, after_all, View, Conditions, Sound, nvram, without_missing, Array}
+use Rattle.pur_base.specs.Commands.{after}
+use Rattle.log_codec.specs.Prelude.{HasSpelling, Shows, IsInSlot, LogFrom, DevicesAgree}
 use Rattle.array_spec.specs.Standing.{LeadsInto}
 use Rattle.array_spec.specs.lemmas.OneLog.{one_shown}
 use Rattle.array_spec.specs.lemmas.LogBetween.{shower, shows_test, in_slot, shown_in_slot, Only, Lawful, log_of, slot_has, front_stands, log_front, log_least, log_shorter, take_of_take, shows_alone, alone_still, alone_fewer}

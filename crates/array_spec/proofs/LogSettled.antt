@@ -4,16 +4,9 @@ use Rattle.std.specs.Prelude.{Option, Some, None, IsSome, IsTrue, slice_get, sli
 use Rattle.std.proofs.lemmas.Bool.{cases_lt, cases_Bool}
 use Rattle.std.proofs.lemmas.List.{get_or_past}
 use Rattle.std.proofs.lemmas.Option.{slice_get_within}
-use Rattle.pur_base.specs.Bytes.{zeros}
-use Rattle.pur_base.specs.Gates.{is_open}
-use Rattle.pur_base.specs.Devices.{Geometry, Image, View, Condition, Conditions, Sound, Missing, LeftOut, MayShowAs, IsWithin, is_sound, nvram, without_missing}
-use Rattle.pur_base.specs.Plain.{Array}
-use Rattle.pur_base.specs.Commands.{Command}
-use Rattle.pur_base.specs.declared.device.Device.{Device}
-use Rattle.pur_base.specs.declared.device.Device.TheVariants.{Drive, Nv}
+use Rattle.boot_codec.specs.Prelude.{zeros, is_open, Geometry, Image, View, Condition, Conditions, Sound, Missing, LeftOut, MayShowAs, IsWithin, is_sound, nvram, without_missing, Array, Command, Device, Drive, Nv, BootSlot, IsRecordOf, names, of_members}
 use Rattle.boot_codec.specs.declared.record.BootRecord.{BootRecord}
-use Rattle.boot_codec.specs.Region.{BootSlot, IsRecordOf, names, of_members}
-use Rattle.log_codec.specs.Log.{Shows, ShowsIn, LogStands}
+use Rattle.log_codec.specs.Prelude.{Shows, ShowsIn, LogStands}
 use Rattle.array_spec.specs.Standing.{Stands, IsViewOf, MayBeGiven, IsReadBy, LeadsInto, HasNoLog}
 use Rattle.array_spec.specs.LogSettling.{answering, SettlesLog, MaySettle, SettlingKeeps}
 use Rattle.array_spec.specs.lemmas.Votes.{sound_before}

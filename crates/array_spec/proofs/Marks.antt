@@ -1,13 +1,9 @@
 -- A missing device that no record names may show anything.
 use Rattle.std.proofs.Common.{◌≡◌, ◌⊎◌, inl, inr, ℕ, List, refl, sym, ◌∙◌, ap, subst, cond}
 use Rattle.std.specs.Prelude.{◌≤◌, Option, None, Bool, false, count_by}
-use Rattle.pur_base.specs.Devices.{Geometry, drive, nvram, Image, View, Condition, Conditions, Sound, Missing, LeftOut, IsBearable, IsWithin, MayShowAs, MayBecome, is_missing, is_sound, slots_of, nvrams}
-use Rattle.pur_base.specs.Plain.{Array}
-use Rattle.pur_base.specs.declared.device.Device.{Device}
-use Rattle.pur_base.specs.declared.device.Device.TheVariants.{Drive, Nv}
-use Rattle.boot_codec.specs.Region.{names, BootSlot, of_members}
+use Rattle.boot_codec.specs.Prelude.{Geometry, drive, nvram, Image, View, Condition, Conditions, Sound, Missing, LeftOut, IsBearable, IsWithin, MayShowAs, MayBecome, is_missing, is_sound, slots_of, nvrams, Array, Device, Drive, Nv, names, BootSlot, of_members}
 use Rattle.boot_codec.specs.declared.record.BootRecord.{BootRecord}
-use Rattle.log_codec.specs.Log.{LogStands}
+use Rattle.log_codec.specs.Prelude.{LogStands}
 use Rattle.array_spec.specs.Laws.{MarksAreFree, MayBeMarked, IsNamedByNone}
 use Rattle.array_spec.specs.Standing.{Stands, IsViewOf, MayAppear, MayBeGiven, IsReadBy, HasNoLog}
 

@@ -1,8 +1,6 @@
 -- Runs by fewer kinds of steps.
 use Rattle.std.proofs.Common.{List, [], ◌∷◌}
-use Rattle.pur_base.specs.Plain.{Array}
-use Rattle.pur_base.specs.Grammar.{Item}
-use Rattle.pur_base.specs.Replies.{Answer}
+use Rattle.boot_codec.specs.Prelude.{Array, Item, Answer}
 use Rattle.array_spec.specs.Runs.{RunsBy}
 
 -- A run by fewer kinds of steps is a run by more.

@@ -2,9 +2,7 @@
 use Rattle.std.proofs.Common.{◌≡◌, inl, inr, ℕ, List, length, sym, ◌∙◌, ap, subst}
 use Rattle.std.specs.Prelude.{Option, Some, IfSome}
 use Rattle.std.proofs.lemmas.List.{length-replicate}
-use Rattle.pur_base.specs.Bytes.{zeros, IsBytesOf}
-use Rattle.pur_base.specs.Devices.{Geometry, Image, View, Condition, Conditions, Sound, Missing, LeftOut, MayShowAs, MayBecome}
-use Rattle.pur_base.specs.declared.device.Device.{Device}
+use Rattle.boot_codec.specs.Prelude.{zeros, IsBytesOf, Geometry, Image, View, Condition, Conditions, Sound, Missing, LeftOut, MayShowAs, MayBecome, Device}
 use Rattle.array_spec.specs.Laws.{ShownStands}
 use Rattle.array_spec.specs.Standing.{IsViewOf, MayAppear, MayBeGiven}
 

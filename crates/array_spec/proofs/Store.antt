@@ -1,12 +1,7 @@
 -- A store loses no array at any of its moments.
 use Rattle.std.proofs.Common.{◌<◌, ◌≡◌, ℕ, ◌/◌, ◌≤◌, List, length, refl, sym, ap, subst, arith, inl, inr, ◌∙◌, true}
 use Rattle.std.specs.Prelude.{Option, ◌⊎◌, slice_index}
-use Rattle.pur_base.specs.Devices.{Geometry, drive, Image, View, Conditions, MayShowAs, IsWithin}
-use Rattle.pur_base.specs.Plain.{Array}
-use Rattle.pur_base.specs.declared.device.Device.{Device}
-use Rattle.pur_base.specs.declared.device.Device.TheVariants.{Drive, Nv}
-use Rattle.pur_base.specs.declared.place.Place.{Place}
-use Rattle.boot_codec.specs.Region.{names, BootSlot, of_members, body_in}
+use Rattle.boot_codec.specs.Prelude.{Geometry, drive, Image, View, Conditions, MayShowAs, IsWithin, Array, Device, Drive, Nv, Place, names, BootSlot, of_members, body_in}
 use Rattle.boot_codec.specs.declared.record.BootRecord.{BootRecord}
 use Rattle.array_spec.specs.lemmas.LogMoves.{shows_move}
 use Rattle.array_spec.specs.lemmas.Quiet.{Matches, AllMatch, before, reading_moves, same_nvram}

@@ -1,13 +1,8 @@
 -- What was acknowledged: the whole replies of an output. Replies delimit themselves.
 use Rattle.std.specs.Prelude.{◌≡◌, ℕ, zero, suc, ◌*◌, ◌<◌, ◌^◌, true, List, ◌++◌, length, drop, codes, nat_eq, nat_lt, if◌then◌else◌, Option, Some, None}
 use Rattle.std.specs.List.{AllByRecursion, list_any, starts_with, before_first, after_first}
-use Rattle.pur_base.specs.Names.{is_name}
-use Rattle.pur_base.specs.declared.limits.TheConstants.{SECTOR_BYTES}
-use Rattle.pur_base.specs.declared.reply.Reply.{Reply}
+use Rattle.boot_codec.specs.Prelude.{is_name, SECTOR_BYTES, Reply, Entry, digits_number, is_line_end, Answer, Line, Sectors, Entries, text, texts}
 use Rattle.pur_base.specs.declared.reply.Reply.TheVariants as reply
-use Rattle.pur_base.specs.Plain.{Entry}
-use Rattle.pur_base.specs.Grammar.{digits_number, is_line_end}
-use Rattle.pur_base.specs.Replies.{Answer, Line, Sectors, Entries, text, texts}
 
 -- what follows so many bytes, if they are there
 abbrev pub skip : ℕ → List ℕ → Option (List ℕ)

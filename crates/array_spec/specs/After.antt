@@ -1,9 +1,6 @@
 -- What may stand after a stop: the arrays that the acknowledged items leave, or one item more.
 use Rattle.std.specs.Prelude.{◌≡◌, ◌⊎◌, ℕ, ◌+◌, List, ◌∷◌, length, drop, None}
-use Rattle.pur_base.specs.Plain.{Array, refusal}
-use Rattle.pur_base.specs.Grammar.{Item, Asked}
-use Rattle.pur_base.specs.Commands.{IsLogged}
-use Rattle.pur_base.specs.Replies.{Answer, after}
+use Rattle.boot_codec.specs.Prelude.{Array, refusal, Item, Asked, IsLogged, Answer, after}
 use Rattle.array_spec.specs.Runs.{Runs}
 use Rattle.array_spec.specs.Acked.{acked}
 

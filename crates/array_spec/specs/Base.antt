@@ -1,19 +1,8 @@
 -- The array that the stored tables hold.
 use Rattle.std.specs.Prelude.{◌≡◌, ℕ, ◌<◌, Bool, true, false, List, [], length, Some, slice_index_or}
 use Rattle.std.specs.List.{AllZip}
-use Rattle.pur_base.specs.Devices.{View}
-use Rattle.pur_base.specs.Plain.{Entry, Array}
-use Rattle.pur_base.specs.Sectors.{filled}
-use Rattle.pur_base.specs.Facts.{Facts}
-use Rattle.pur_base.specs.Visible.{segment, objects}
-use Rattle.pur_base.specs.Mediums.{Reads}
-use Rattle.pur_base.specs.declared.facts.ObjectKind.{ObjectKind}
-use Rattle.pur_base.specs.declared.facts.ObjectKind.TheVariants.{Volume, Snapshot}
-use Rattle.pur_base.specs.declared.facts.Target.{Target}
-use Rattle.pur_base.specs.declared.facts.Target.TheVariants.{Stored, Zero}
-use Rattle.pur_base.specs.declared.facts.ObjectFact.{ObjectFact}
-use Rattle.pur_base.specs.declared.facts.SegmentFact.{SegmentFact}
-use Rattle.segment_codec.specs.Stripes.{SectorStands}
+use Rattle.boot_codec.specs.Prelude.{View, Entry, Array, filled, Facts, segment, objects, Reads, ObjectKind, Volume, Snapshot, Target, Stored, Zero, ObjectFact, SegmentFact}
+use Rattle.segment_codec.specs.Prelude.{SectorStands}
 
 -- the sector that a target stands for
 abbrev pub TargetStands : View → Facts → Target → List ℕ → Type 0

@@ -1,15 +1,8 @@
 -- Free units, and the counts that a status shows.
 use Rattle.std.specs.Prelude.{◌≡◌, ℕ, ◌-◌, ◌*◌, ◌<◌, ◌≤◌, min, Bool, false, ◌&&◌, not, List, map, filter, Option, Some, None, sum_by, count_by, ◌==◌}
 use Rattle.std.specs.List.{list_any, range_with_len}
-use Rattle.pur_base.specs.Devices.{drive}
-use Rattle.pur_base.specs.Facts.{Facts}
-use Rattle.pur_base.specs.Visible.{address, segments, ids_below}
-use Rattle.pur_base.specs.declared.limits.TheConstants.{BOOT_UNITS, SEGMENT_SHARDS, SEGMENT_SECTORS}
-use Rattle.pur_base.specs.declared.place.Place.{Place}
-use Rattle.pur_base.specs.declared.facts.Target.{Target}
-use Rattle.pur_base.specs.declared.facts.Target.TheVariants.{Stored, Zero}
+use Rattle.boot_codec.specs.Prelude.{drive, Facts, address, segments, ids_below, BOOT_UNITS, SEGMENT_SHARDS, SEGMENT_SECTORS, Place, Target, Stored, Zero, names}
 use Rattle.boot_codec.specs.declared.record.BootRecord.{BootRecord}
-use Rattle.boot_codec.specs.Region.{names}
 use Rattle.array_spec.specs.Sound.{used_places}
 
 -- whether that is the place of this unit

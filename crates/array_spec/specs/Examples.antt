@@ -2,15 +2,7 @@
 use Rattle.std.specs.Prelude.{◌≡◌, ℕ, true, List, [], ◌∷◌, ◌++◌, map, replicate, Some, None}
 use Rattle.std.specs.List.{range_with_len}
 use Rattle.pur_base.specs.declared.request.Table.TheVariants as table
-use Rattle.pur_base.specs.declared.place.Location.{Location}
-use Rattle.pur_base.specs.declared.facts.ObjectKind.TheVariants.{Volume, Snapshot}
-use Rattle.pur_base.specs.declared.facts.Target.TheVariants.{Stored}
-use Rattle.pur_base.specs.declared.facts.ObjectFact.{ObjectFact}
-use Rattle.pur_base.specs.declared.facts.MediumFact.{MediumFact}
-use Rattle.pur_base.specs.declared.facts.AddressFact.{AddressFact}
-use Rattle.pur_base.specs.Facts.{Facts}
-use Rattle.pur_base.specs.Visible.{address, objects, is_elided}
-use Rattle.pur_base.specs.Mediums.{Reads}
+use Rattle.boot_codec.specs.Prelude.{Location, Volume, Snapshot, Stored, ObjectFact, MediumFact, AddressFact, Facts, address, objects, is_elided, Reads}
 use Rattle.array_spec.specs.Counts.{IsGroups, stored, pointed}
 
 -- ---- room

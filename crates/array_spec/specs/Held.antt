@@ -1,12 +1,7 @@
 -- Tables that stand on the drives that show a record, whichever two of the shelf are missing.
 use Rattle.std.specs.Prelude.{◌≡◌, ◌⊎◌, ℕ, ◌≤◌, true, false, Bool, List, slice_index_or, Some, None, is_none, count_by}
-use Rattle.pur_base.specs.Devices.{Geometry, Image, View, Conditions, LeftOut, slots_of, drive}
-use Rattle.pur_base.specs.declared.device.Device.{Device}
-use Rattle.pur_base.specs.Plain.{Array}
-use Rattle.pur_base.specs.declared.facts.AnyFact.{AnyFact}
+use Rattle.boot_codec.specs.Prelude.{Geometry, Image, View, Conditions, LeftOut, slots_of, drive, Device, Array, AnyFact, spelling, BootSlot, body_in, names}
 use Rattle.boot_codec.specs.declared.record.BootRecord.{BootRecord}
-use Rattle.boot_codec.specs.Spelling.{spelling}
-use Rattle.boot_codec.specs.Region.{BootSlot, body_in, names}
 use Rattle.array_spec.specs.Stored.{all_facts}
 use Rattle.array_spec.specs.Base.{BaseStands}
 use Rattle.array_spec.specs.Meaning.{TablesStand}

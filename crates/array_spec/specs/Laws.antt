@@ -1,22 +1,10 @@
 -- What the layers need of these definitions.
 use Rattle.std.specs.Prelude.{IfSome, ◌≡◌, ◌≢◌, ◌⊎◌, Bool, ◌&&◌, false, ℕ, ◌+◌, ◌*◌, ◌/◌, ◌<◌, ◌≤◌, List, [], ◌++◌, length, take, slice_index, slice_get, Some, None, is_none, Option, Contains, count_by}
-use Rattle.pur_base.specs.Bytes.{IsBytes}
-use Rattle.pur_base.specs.Devices.{Geometry, Image, View, Conditions, Sound, Missing, LeftOut, MayShowAs, IsBearable, IsWithin, IsImage, slots_of, is_sound, drive, nvram}
-use Rattle.pur_base.specs.declared.device.Device.{Device}
-use Rattle.pur_base.specs.Plain.{Array}
-use Rattle.pur_base.specs.Commands.{Command, AllAccepted, after_all}
-use Rattle.pur_base.specs.Facts.{Facts}
-use Rattle.pur_base.specs.Mediums.{Reads}
-use Rattle.pur_base.specs.declared.limits.TheConstants.{UNIT_BYTES, BOOT_UNITS, SLOTS_MIN}
-use Rattle.pur_base.specs.declared.facts.Target.{Target}
-use Rattle.pur_base.specs.declared.facts.AnyFact.{AnyFact}
+use Rattle.boot_codec.specs.Prelude.{IsBytes, Geometry, Image, View, Conditions, Sound, Missing, LeftOut, MayShowAs, IsBearable, IsWithin, IsImage, slots_of, is_sound, drive, nvram, Device, Array, Command, AllAccepted, after_all, Facts, Reads, UNIT_BYTES, BOOT_UNITS, SLOTS_MIN, Target, AnyFact, spelling, BootSlot, Effective, IsEffective, IsRecordOf, IsDecided, is_vote, votes, Yields, other_slot, shown_by, body_in, generation_in, of_members, names, Place}
 use Rattle.boot_codec.specs.declared.record.BootRecord.{BootRecord}
-use Rattle.boot_codec.specs.Spelling.{spelling}
-use Rattle.boot_codec.specs.Region.{BootSlot, Effective, IsEffective, IsRecordOf, IsDecided, is_vote, votes, Yields, other_slot, shown_by, body_in, generation_in, of_members, names}
-use Rattle.pur_base.specs.declared.place.Place.{Place}
 use Rattle.fact_codec.specs.Fact.{Decodes}
-use Rattle.segment_codec.specs.Stripes.{SectorStands}
-use Rattle.log_codec.specs.Log.{Shows, HasSpelling, Spells, LogStands}
+use Rattle.segment_codec.specs.Prelude.{SectorStands}
+use Rattle.log_codec.specs.Prelude.{Shows, HasSpelling, Spells, LogStands}
 use Rattle.array_spec.specs.Sound.{AreMediumsSound}
 use Rattle.array_spec.specs.Stored.{all_facts}
 use Rattle.array_spec.specs.Counts.{IsFree}

@@ -17,3 +17,4 @@ pub mod LogSettling
 pub mod Held
 pub mod StoredLaws
 pub mod lemmas
+pub mod Prelude

@@ -1,13 +1,8 @@
 -- Settling the log: what was read of it is written to the devices that answered.
 use Rattle.std.specs.Prelude.{◌≡◌, ◌≢◌, ◌⊎◌, ℕ, ◌<◌, Bool, true, false, List, length, Some, None, slice_get, slice_index_or, if◌then◌else◌}
-use Rattle.pur_base.specs.Devices.{Geometry, Image, View, Conditions, Sound, LeftOut, IsWithin, IsBearable, nvram}
-use Rattle.pur_base.specs.Plain.{Array}
-use Rattle.pur_base.specs.Commands.{Command}
-use Rattle.pur_base.specs.declared.device.Device.TheVariants.{Drive, Nv}
-use Rattle.pur_base.specs.declared.limits.TheConstants.{NVRAM_DEVICES}
+use Rattle.boot_codec.specs.Prelude.{Geometry, Image, View, Conditions, Sound, LeftOut, IsWithin, IsBearable, nvram, Array, Command, Drive, Nv, NVRAM_DEVICES, BootSlot, names}
 use Rattle.boot_codec.specs.declared.record.BootRecord.{BootRecord}
-use Rattle.boot_codec.specs.Region.{BootSlot, names}
-use Rattle.log_codec.specs.Log.{ShowsIn, LogStands}
+use Rattle.log_codec.specs.Prelude.{ShowsIn, LogStands}
 use Rattle.array_spec.specs.Standing.{Stands, MayBeGiven}
 use Rattle.array_spec.specs.Laws.{DiffersOnlyInNvram, IsNamedByNone}
 

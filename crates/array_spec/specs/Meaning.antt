@@ -1,16 +1,9 @@
 -- What a view of the devices means.
 use Rattle.std.specs.Prelude.{◌≡◌, ℕ, ◌-◌, ◌<◌, ◌^◌, List, Some, IsSome}
-use Rattle.pur_base.specs.Devices.{Geometry, View, Conditions, Sound, IsOn}
-use Rattle.pur_base.specs.Plain.{Array}
-use Rattle.pur_base.specs.Commands.{Command, after_all}
-use Rattle.pur_base.specs.Visible.{segment}
-use Rattle.pur_base.specs.declared.device.Device.{Device}
-use Rattle.pur_base.specs.declared.facts.SegmentFact.{SegmentFact}
-use Rattle.pur_base.specs.declared.facts.AnyFact.{AnyFact}
+use Rattle.boot_codec.specs.Prelude.{Geometry, View, Conditions, Sound, IsOn, Array, Command, after_all, segment, Device, SegmentFact, AnyFact, BootSlot, Effective, slot_of, of_members}
 use Rattle.boot_codec.specs.declared.record.BootRecord.{BootRecord}
-use Rattle.boot_codec.specs.Region.{BootSlot, Effective, slot_of, of_members}
-use Rattle.segment_codec.specs.Stripes.{StripesStand}
-use Rattle.log_codec.specs.Log.{LogStands, DevicesAgree}
+use Rattle.segment_codec.specs.Prelude.{StripesStand}
+use Rattle.log_codec.specs.Prelude.{LogStands, DevicesAgree}
 use Rattle.array_spec.specs.Stored.{PatchesStand, all_facts}
 use Rattle.array_spec.specs.Sound.{AreSound}
 use Rattle.array_spec.specs.Base.{BaseStands}

@@ -1,8 +1,6 @@
 -- The model alone: its answers to a list of items, and the array that they leave.
 use Rattle.std.specs.Prelude.{List, [], ◌∷◌}
-use Rattle.pur_base.specs.Plain.{Array}
-use Rattle.pur_base.specs.Grammar.{Item}
-use Rattle.pur_base.specs.Replies.{Answer, answer, after}
+use Rattle.boot_codec.specs.Prelude.{Array, Item, Answer, answer, after}
 
 -- the model's answers to the items, one each
 abbrev pub answers : Array → List Item → List Answer

@@ -1,10 +1,7 @@
 -- Worked rows, computed.
 use Rattle.std.specs.Prelude.{◌≡◌, ℕ, List, [], ◌∷◌, ◌++◌, codes, map, replicate, Option, Some, None}
 use Rattle.std.specs.List.{flat_map}
-use Rattle.pur_base.specs.Sectors.{filled}
-use Rattle.pur_base.specs.declared.request.Request.{Request}
-use Rattle.pur_base.specs.Grammar.{Item, Asked, Syntax, requests, request_of, words}
-use Rattle.pur_base.specs.Replies.{texts}
+use Rattle.boot_codec.specs.Prelude.{filled, Request, Item, Asked, Syntax, requests, request_of, words, texts}
 use Rattle.array_spec.specs.Acked.{acked}
 use Rattle.array_spec.specs.Model.{answers}
 

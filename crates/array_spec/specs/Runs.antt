@@ -1,14 +1,9 @@
 -- Runs: which replies may come to which items, and what was acknowledged.
 use Rattle.std.specs.Prelude.{◌≡◌, ◌≢◌, ◌⊎◌, List, [], ◌∷◌, length, None}
-use Rattle.pur_base.specs.declared.request.Request.{Request}
+use Rattle.boot_codec.specs.Prelude.{Request, Refusal, Reply, Array, refusal, Item, Asked, Syntax, Cut, Answer, Line, answer, after}
 use Rattle.pur_base.specs.declared.request.Request.TheVariants as request
-use Rattle.pur_base.specs.declared.reply.Refusal.{Refusal}
 use Rattle.pur_base.specs.declared.reply.Refusal.TheVariants as refusals
-use Rattle.pur_base.specs.declared.reply.Reply.{Reply}
 use Rattle.pur_base.specs.declared.reply.Reply.TheVariants as reply
-use Rattle.pur_base.specs.Plain.{Array, refusal}
-use Rattle.pur_base.specs.Grammar.{Item, Asked, Syntax, Cut}
-use Rattle.pur_base.specs.Replies.{Answer, Line, answer, after}
 
 -- refusals whose cause isn't in the plain array
 abbrev pub IsPhysical : Refusal → Type 0

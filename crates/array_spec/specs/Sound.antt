@@ -1,28 +1,12 @@
 -- When the tables of a boot record are sound.
 use Rattle.std.specs.Prelude.{◌≡◌, ◌≢◌, ◌⊎◌, ℕ, ◌+◌, ◌<◌, ◌≤◌, false, List, [], ◌∷◌, ◌++◌, length, map, Some, IsSome, AllPairs}
 use Rattle.std.specs.List.{AllByRecursion, flat_map}
-use Rattle.pur_base.specs.Devices.{Geometry}
-use Rattle.pur_base.specs.Facts.{Facts, any_number}
-use Rattle.pur_base.specs.Tags.{tag_of}
-use Rattle.pur_base.specs.Visible.{object, range, address, segment, objects, segments, is_elided}
-use Rattle.pur_base.specs.Mediums.{IsOver}
-use Rattle.pur_base.specs.declared.limits.TheConstants.{OBJECTS, OBJECT_SECTORS, SEGMENT_SHARDS}
-use Rattle.pur_base.specs.declared.place.Place.{Place}
-use Rattle.pur_base.specs.declared.place.Location.{Location}
-use Rattle.pur_base.specs.declared.request.Table.{Table}
+use Rattle.boot_codec.specs.Prelude.{Geometry, Facts, any_number, tag_of, object, range, address, segment, objects, segments, is_elided, IsOver, OBJECTS, OBJECT_SECTORS, SEGMENT_SHARDS, Place, Location, Table, Volume, Stored, ObjectFact, MediumFact, SegmentFact, ElisionFact, AnyFact, AscendFrom}
 use Rattle.pur_base.specs.declared.request.Table.TheVariants as table
-use Rattle.pur_base.specs.declared.facts.ObjectKind.TheVariants.{Volume}
-use Rattle.pur_base.specs.declared.facts.Target.TheVariants.{Stored}
-use Rattle.pur_base.specs.declared.facts.ObjectFact.{ObjectFact}
-use Rattle.pur_base.specs.declared.facts.MediumFact.{MediumFact}
-use Rattle.pur_base.specs.declared.facts.SegmentFact.{SegmentFact}
-use Rattle.pur_base.specs.declared.facts.ElisionFact.{ElisionFact}
-use Rattle.pur_base.specs.declared.facts.AnyFact.{AnyFact}
 use Rattle.boot_codec.specs.declared.patch.PatchSegment.{PatchSegment}
 use Rattle.boot_codec.specs.declared.patch.Patch.{Patch}
 use Rattle.boot_codec.specs.declared.record.NextNumbers.{NextNumbers}
 use Rattle.boot_codec.specs.declared.record.BootRecord.{BootRecord}
-use Rattle.boot_codec.specs.Record.{AscendFrom}
 use Rattle.array_spec.specs.Stored.{in_patches, all_facts}
 
 -- ---- ids

@@ -1,13 +1,8 @@
 -- What the devices stand for, whatever else goes missing.
 use Rattle.std.specs.Prelude.{◌≡◌, ◌≢◌, ℕ, ◌<◌, ◌≤◌, List, [], ◌∷◌, length, take, Some, Contains}
-use Rattle.pur_base.specs.Devices.{Geometry, Image, View, Conditions, Sound, IsBearable, IsWithin, MayShow, without_missing}
-use Rattle.pur_base.specs.Plain.{Array}
-use Rattle.pur_base.specs.Commands.{Command, after_all}
-use Rattle.pur_base.specs.declared.device.Device.{Device}
+use Rattle.boot_codec.specs.Prelude.{Geometry, Image, View, Conditions, Sound, IsBearable, IsWithin, MayShow, without_missing, Array, Command, after_all, Device, spelling, BootSlot, Effective, IsEffective, IsRecordOf, of_members}
 use Rattle.boot_codec.specs.declared.record.BootRecord.{BootRecord}
-use Rattle.boot_codec.specs.Spelling.{spelling}
-use Rattle.boot_codec.specs.Region.{BootSlot, Effective, IsEffective, IsRecordOf, of_members}
-use Rattle.log_codec.specs.Log.{Shows, LogStands, DevicesAgree}
+use Rattle.log_codec.specs.Prelude.{Shows, LogStands, DevicesAgree}
 use Rattle.array_spec.specs.Meaning.{HoldsBase, IsInForce, Means, AllHold, members_view}
 
 -- a view that the image may show where at most these devices are missing, bearably

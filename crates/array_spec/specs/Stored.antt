@@ -2,17 +2,12 @@
 use Rattle.std.specs.Prelude.{◌≡◌, ℕ, ◌-◌, ◌*◌, ◌/◌, ◌%◌, ◌<◌, min, List, [], length, map, Some, slice_get, slice_index_or, AllPairs}
 use Rattle.std.specs.List.{AllByRecursion, AllZip, flat_map}
 use Rattle.std.specs.Int.{div_ceil}
-use Rattle.pur_base.specs.Bytes.{bytes_at}
-use Rattle.pur_base.specs.Devices.{View}
-use Rattle.pur_base.specs.Facts.{Facts, by_table, table_tag, any_key}
-use Rattle.pur_base.specs.declared.limits.TheConstants.{SEGMENT_SECTORS}
-use Rattle.pur_base.specs.declared.place.Place.{Place}
-use Rattle.pur_base.specs.declared.facts.AnyFact.{AnyFact}
+use Rattle.boot_codec.specs.Prelude.{bytes_at, View, Facts, by_table, table_tag, any_key, SEGMENT_SECTORS, Place, AnyFact}
 use Rattle.boot_codec.specs.declared.patch.Patch.{Patch}
 use Rattle.boot_codec.specs.declared.record.BootRecord.{BootRecord}
 use Rattle.fact_codec.specs.declared.limits.TheConstants.{FACT_BYTES, PAGE_FACTS}
 use Rattle.fact_codec.specs.Fact.{Decodes}
-use Rattle.segment_codec.specs.Stripes.{SectorStands, StripesStand}
+use Rattle.segment_codec.specs.Prelude.{SectorStands, StripesStand}
 
 -- a page is a sector of eight facts, and a segment has 840
 abbrev pub pages : ℕ → ℕ

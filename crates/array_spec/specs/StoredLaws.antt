@@ -1,14 +1,8 @@
 -- What a store of tables and a checkpoint need of the definitions.
 use Rattle.std.specs.Prelude.{◌≡◌, ℕ, ◌+◌, ◌<◌, ◌≤◌, Bool, true, false, List, slice_index_or, length, take, Contains}
-use Rattle.pur_base.specs.Devices.{Geometry, Image, View, Conditions, drive, nvram}
-use Rattle.pur_base.specs.Plain.{Array}
-use Rattle.pur_base.specs.Commands.{Command, AllAccepted, after_all}
-use Rattle.pur_base.specs.declared.limits.TheConstants.{BOOT_UNITS, NVRAM_DEVICES}
-use Rattle.pur_base.specs.declared.facts.AnyFact.{AnyFact}
+use Rattle.boot_codec.specs.Prelude.{Geometry, Image, View, Conditions, drive, nvram, Array, Command, AllAccepted, after_all, BOOT_UNITS, NVRAM_DEVICES, AnyFact, spelling, BootSlot, IsRecordOf, body_in, names}
 use Rattle.boot_codec.specs.declared.record.BootRecord.{BootRecord}
-use Rattle.boot_codec.specs.Spelling.{spelling}
-use Rattle.boot_codec.specs.Region.{BootSlot, IsRecordOf, body_in, names}
-use Rattle.log_codec.specs.Log.{ShowsIn}
+use Rattle.log_codec.specs.Prelude.{ShowsIn}
 use Rattle.array_spec.specs.Counts.{IsFree}
 use Rattle.array_spec.specs.Stored.{all_facts}
 use Rattle.array_spec.specs.Meaning.{TablesStand, HoldsBase, IsInForce}

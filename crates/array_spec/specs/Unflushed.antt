@@ -1,15 +1,9 @@
 -- An array that stands in its log alone: the record names no patch, and the commands of the log make the array of nothing.
 use Rattle.std.specs.Prelude.{◌≡◌, ℕ, ◌+◌, ◌<◌, ◌≤◌, true, false, List, [], ◌++◌, length, take, Some, Contains, slice_get}
-use Rattle.pur_base.specs.Devices.{Geometry, Image, Conditions, View, Sound, LeftOut, IsOn, drive, nvram}
-use Rattle.pur_base.specs.Plain.{Array}
-use Rattle.pur_base.specs.Commands.{Command, AllAccepted, after_all}
-use Rattle.pur_base.specs.declared.device.Device.{Device}
-use Rattle.pur_base.specs.declared.limits.TheConstants.{NVRAM_DEVICES}
+use Rattle.boot_codec.specs.Prelude.{Geometry, Image, Conditions, View, Sound, LeftOut, IsOn, drive, nvram, Array, Command, AllAccepted, after_all, Device, NVRAM_DEVICES, spelling, BootSlot, IsRecordOf, body_in, names}
 use Rattle.boot_codec.specs.declared.record.BootRecord.{BootRecord}
-use Rattle.boot_codec.specs.Spelling.{spelling}
-use Rattle.boot_codec.specs.Region.{BootSlot, IsRecordOf, body_in, names}
 use Rattle.log_codec.specs.declared.limits.TheConstants.{LOG_SLOTS}
-use Rattle.log_codec.specs.Log.{HasSpelling, ShowsIn}
+use Rattle.log_codec.specs.Prelude.{HasSpelling, ShowsIn}
 use Rattle.array_spec.specs.Meaning.{HoldsBase, IsInForce}
 use Rattle.array_spec.specs.Standing.{IsReadInto}
 

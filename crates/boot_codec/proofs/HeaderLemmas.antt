@@ -4,7 +4,7 @@ use Rattle.std.specs.Int.{w8, w16, w32, is_in_range}
 use Rattle.std.proofs.Math.Pow.{pow_mono}
 use Rattle.std.proofs.lemmas.Bool.{eqb-true, ltb-true, leb-true, lt-ltb, le-leb}
 use Rattle.std.proofs.lemmas.Bool.Decides.{nat_tests}
-use Rattle.pur_base.specs.Bytes.{u8, u16, u32, u64, zeros}
+use Rattle.pur_base.specs.Prelude.{u8, u16, u32, u64, zeros}
 use Rattle.boot_codec.specs.declared.record.Members.{Members}
 use Rattle.boot_codec.specs.declared.record.NextNumbers.{NextNumbers}
 use Rattle.boot_codec.specs.Record.{mask, set_count, AreNext, AreMembers}

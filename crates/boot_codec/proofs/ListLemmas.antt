@@ -5,7 +5,7 @@ use Rattle.std.specs.Int.{w8, w16, w32, w64, from_be_bytes, div_ceil}
 use Rattle.std.proofs.lemmas.Bool.{eqb-true, ltb-true, leb-true, lt-ltb, le-leb}
 use Rattle.std.proofs.lemmas.List.Sums.{sum_by-cons}
 use Rattle.std.proofs.lemmas.List.Concat.{flat_map-cons}
-use Rattle.pur_base.specs.Bytes.{u8, u16, u32, u64}
+use Rattle.pur_base.specs.Prelude.{u8, u16, u32, u64}
 use Rattle.pur_base.specs.declared.place.Place.{Place}
 use Rattle.boot_codec.specs.declared.bad_record.BadRecord.{BadRecord}
 use Rattle.boot_codec.specs.declared.patch.PatchSegment.{PatchSegment}

@@ -2,7 +2,7 @@
 use Rattle.std.proofs.Common.{◌≡◌, ℕ, zero, suc, ◌+◌, ◌<◌, List, [], ◌∷◌, ◌++◌, length, take, drop, get_or, Ok, Err, bit_or, refl, sym, ap, subst, ◌∙◌, arith, add-one, drop-cons, ne_eqb}
 use Rattle.std.proofs.Math.Seq.{take-suc}
 use Rattle.std.proofs.lemmas.Nat.{le_or_l, le_or_r}
-use Rattle.pur_base.specs.Bytes.{zeros}
+use Rattle.pur_base.specs.Prelude.{zeros}
 use Rattle.boot_codec.specs.Reading.{fault_at, these, padding}
 
 zeros-more : (n : ℕ) → zeros n ++ 0 ∷ [] ≡ zeros (suc n)

@@ -2,7 +2,7 @@
 use Rattle.std.proofs.Common.{◌≡◌, ℕ, ◌-◌, List, [], ◌++◌, length, take, sym, ap, ◌∙◌, append_assoc, arith, length-append}
 use Rattle.std.proofs.Math.Seq.{take-length}
 use Rattle.std.proofs.lemmas.List.{append-nil}
-use Rattle.pur_base.specs.Bytes.{zeros, padded}
+use Rattle.pur_base.specs.Prelude.{zeros, padded}
 use Rattle.boot_codec.specs.Writing.{IsWritten}
 
 -- a text, and then one after it

@@ -1,6 +1,6 @@
 -- The gate's sector.
 use Rattle.std.specs.Prelude.{ℕ, ◌-◌, Bool, List, ◌∷◌, if◌then◌else◌}
-use Rattle.pur_base.specs.Bytes.{zeros}
+use Rattle.pur_base.specs.Prelude.{zeros}
 use Rattle.pur_base.specs.declared.limits.TheConstants.{SECTOR_BYTES}
 
 -- the bytes of an open or a closed gate

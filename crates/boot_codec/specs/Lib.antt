@@ -5,3 +5,4 @@ pub mod Spelling
 pub mod Writing
 pub mod Reading
 pub mod Region
+pub mod Prelude

@@ -1,7 +1,7 @@
 -- Reading from the front, with the first fault that is met.
 use Rattle.std.specs.Prelude.{◌≡◌, ℕ, zero, suc, ◌+◌, ◌-◌, ◌/◌, ◌%◌, ◌^◌, Bool, true, ◌&&◌, List, [], ◌∷◌, ◌++◌, length, drop, slice_index, nat_lt, nat_le, ◌==◌, if◌then◌else◌, Result, Ok, Err, codes}
 use Rattle.std.specs.Int.{Width, w8, w16, w32, w64, byte_len, from_be_bytes, div_ceil, is_in_range}
-use Rattle.pur_base.specs.Bytes.{zeros}
+use Rattle.pur_base.specs.Prelude.{zeros}
 use Rattle.pur_base.specs.declared.limits.TheConstants.{SLOTS_MIN, SLOTS_MAX, UNITS_MIN, UNITS_MAX, BOOT_UNITS, SEGMENT_SHARDS}
 use Rattle.pur_base.specs.declared.place.Place.{Place}
 use Rattle.boot_codec.specs.declared.limits.TheConstants.{RECORD_BYTES, FORMAT, DRIVE_FLAGS, NVRAM_FLAGS, MEMBER_DRIVES_MIN, MEMBER_NVRAMS_MIN, NUMBER_LIMIT, TAG_MAX, PATCHES, PATCH_SEGMENTS, FACTS_PER_SEGMENT}

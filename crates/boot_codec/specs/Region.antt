@@ -1,9 +1,7 @@
 -- The boot region: which record a view of the devices gives.
 use Rattle.std.specs.Prelude.{◌≡◌, ℕ, ◌*◌, ◌%◌, ◌<◌, ◌≤◌, Bool, false, List, length, map, slice_index_or, count_by, Option, Some, None, option_and_then, ◌==◌, if◌then◌else◌, bytes_eq}
 use Rattle.std.specs.Int.{w64, from_be_bytes}
-use Rattle.pur_base.specs.Bytes.{bytes_at}
-use Rattle.pur_base.specs.Gates.{is_open}
-use Rattle.pur_base.specs.Devices.{Geometry, View, slots_of, drive}
+use Rattle.pur_base.specs.Prelude.{bytes_at, is_open, Geometry, View, slots_of, drive}
 use Rattle.pur_base.specs.declared.device.Device.{Device}
 use Rattle.pur_base.specs.declared.device.Device.TheVariants.{Drive, Nv}
 use Rattle.pur_base.specs.declared.limits.TheConstants.{SECTOR_BYTES, UNIT_BYTES}

@@ -1,7 +1,7 @@
 -- The one spelling of a boot record.
 use Rattle.std.specs.Prelude.{ℕ, ◌+◌, List, ◌++◌, length, codes}
 use Rattle.std.specs.List.{flat_map}
-use Rattle.pur_base.specs.Bytes.{u8, u16, u32, u64, zeros, padded}
+use Rattle.pur_base.specs.Prelude.{u8, u16, u32, u64, zeros, padded}
 use Rattle.pur_base.specs.declared.place.Place.{Place}
 use Rattle.boot_codec.specs.declared.limits.TheConstants.{RECORD_BYTES, HEADER_BYTES, FORMAT}
 use Rattle.boot_codec.specs.declared.patch.PatchSegment.{PatchSegment}

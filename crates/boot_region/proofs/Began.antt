@@ -5,13 +5,9 @@ use Rattle.std.specs.List.{range_with_len}
 use Rattle.std.proofs.lemmas.Bool.{cases_Bool, cases_lt}
 use Rattle.std.proofs.lemmas.List.{ext_get_or, get_or_past}
 use Rattle.std.proofs.lemmas.List.FromFn.{length-map-range_with_len, get_or-map-range_with_len}
-use Rattle.pur_base.specs.declared.device.Device.{Device}
-use Rattle.pur_base.specs.declared.device.Device.TheVariants.{Drive, Nv}
-use Rattle.pur_base.specs.declared.limits.TheConstants.{BOOT_UNITS, UNIT_BYTES}
-use Rattle.pur_base.specs.Devices.{drive, nvram}
+use Rattle.array_spec.specs.Prelude.{Device, Drive, Nv, BOOT_UNITS, UNIT_BYTES, drive, nvram}
 use Rattle.world.specs.declared.shelf.Span.{Span}
-use Rattle.world.specs.Shelf.{Shelved, Stop, MayStop, MayLeave, IsShelf, IsIn, IsInSome}
-use Rattle.world.specs.Writes.{LeavesBut}
+use Rattle.world.specs.Prelude.{Shelved, Stop, MayStop, MayLeave, IsShelf, IsIn, IsInSome, LeavesBut}
 use Rattle.boot_region.specs.Members.{IsMember, OnMembers}
 use Rattle.boot_region.specs.Storing.{OnlyBoot}
 

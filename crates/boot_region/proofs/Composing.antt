@@ -6,22 +6,9 @@ use Rattle.std.specs.Str.{bytes_eq}
 use Rattle.std.specs.Cmp.Lexicographic.{same_text}
 use Rattle.std.proofs.lemmas.Bool.{cases_Bool}
 use Rattle.std.proofs.lemmas.List.FromFn.{length-map-range_with_len}
-use Rattle.pur_base.specs.declared.device.Device.{Device}
-use Rattle.pur_base.specs.declared.limits.TheConstants.{SLOTS_MIN}
-use Rattle.pur_base.specs.Devices.{Geometry, Image, View, Condition, Conditions, Sound, Missing, LeftOut, IsWithin, MayBecome, IsBearable, is_missing, is_sound, drive}
-use Rattle.pur_base.specs.Plain.{Array}
-use Rattle.boot_codec.specs.declared.record.BootRecord.{BootRecord}
-use Rattle.boot_codec.specs.Spelling.{spelling}
-use Rattle.boot_codec.specs.Region.{BootSlot, A, B, Effective, IsDecided, other_slot, body_in, shown_by, votes, is_vote, Yields, generation_in}
-use Rattle.array_spec.specs.Standing.{Stands, MayBeGiven, MayAppear}
-use Rattle.array_spec.specs.Laws.{OpensGatesOf, ClosesGatesOf, DiffersOnlyIn, IsOldOrNew}
-use Rattle.array_spec.specs.lemmas.Votes.{held_votes, most_votes, not_missing, sound_before}
+use Rattle.array_spec.specs.Prelude.{Device, SLOTS_MIN, Geometry, Image, View, Condition, Conditions, Sound, Missing, LeftOut, IsWithin, MayBecome, IsBearable, is_missing, is_sound, drive, Array, BootRecord, spelling, BootSlot, A, B, Effective, IsDecided, other_slot, body_in, shown_by, votes, is_vote, Yields, generation_in, Stands, MayBeGiven, MayAppear, OpensGatesOf, ClosesGatesOf, DiffersOnlyIn, IsOldOrNew, held_votes, most_votes, not_missing, sound_before, opening_gives, opening_still_gives, closing_gives_no_more, closing_still_gives, this_or_other, spells_one}
 use Rattle.array_spec.proofs.Store.{store_keeps, boot_keeps}
-use Rattle.array_spec.specs.lemmas.Settling.{opening_gives, opening_still_gives, closing_gives_no_more, closing_still_gives, this_or_other}
-use Rattle.array_spec.specs.lemmas.Spelled.{spells_one}
-use Rattle.world.specs.Shelf.{Shelved, Stop, MayStop, IsShelf}
-use Rattle.world.specs.Losing.{geometry_of, has_risen, IsLater}
-use Rattle.world.specs.lemmas.Stopped.{as_read}
+use Rattle.world.specs.Prelude.{Shelved, Stop, MayStop, IsShelf, geometry_of, has_risen, IsLater, as_read}
 use Rattle.boot_region.specs.Storing.{SoundAreMembers, OnSound, OnlyBoot, IsOlder, AreOlder, Closes, Writes, Opens, IsInForceOn, MayFollow, StandsNow, AccountsFor}
 use Rattle.boot_region.proofs.Phases.{not_risen_before}
 use Rattle.boot_region.proofs.StillGiven.{closing_keeps}

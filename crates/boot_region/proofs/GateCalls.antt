@@ -2,23 +2,12 @@
 use Rattle.std.proofs.Common.{◌≡◌, inl, inr, ℕ, ◌+◌, ◌≤◌, ◌<◌, List, [], length, slice_index, refl, sym, ◌∙◌, ap, subst, arith, Bool, true, false, Result, Ok, Err, is_ok, OnOk, OnErr}
 use Rattle.std.specs.Prelude.{slice_range}
 use Rattle.std.proofs.lemmas.Bool.{cases_lt}
-use Rattle.pur_base.specs.declared.device.Device.{Device}
+use Rattle.array_spec.specs.Prelude.{Device, SECTOR_BYTES, drive, is_open, gate_bytes}
 use Rattle.pur_base.specs.declared.device.Device.TheVariants as dev
-use Rattle.pur_base.specs.declared.limits.TheConstants.{SECTOR_BYTES}
-use Rattle.pur_base.specs.Devices.{drive}
-use Rattle.pur_base.specs.Gates.{is_open}
 use Rattle.world.specs.declared.streams.Failed.{Failed}
-use Rattle.world.specs.Counts.{Rises}
-use Rattle.world.specs.Shelf.{Shelved, Stop, Disk, Continues, Elapses, IsSame, IsShelf, LeavesOnly, OthersStay, ReadCounts, Written}
-use Rattle.world.specs.Streams.{IsPreorder}
-use Rattle.world.specs.Writes.{OneRange, WritesOnly, LeavesBut, ChangesOnly}
-use Rattle.world.specs.Ran.{Only, Ran}
-use Rattle.world.specs.lemmas.Moments.{continues_trans, then_run, weaker}
-use Rattle.world.specs.lemmas.Ran.{runs_read}
-use Rattle.world.specs.lemmas.Writes.{but_then, counted_then, counts_grow, read_writes, writes_then, writes_more}
+use Rattle.world.specs.Prelude.{Rises, Shelved, Stop, Disk, Continues, Elapses, IsSame, IsShelf, LeavesOnly, OthersStay, ReadCounts, Written, IsPreorder, OneRange, WritesOnly, LeavesBut, ChangesOnly, Only, Ran, continues_trans, then_run, weaker, runs_read, but_then, counted_then, counts_grow, read_writes, writes_then, writes_more}
 use Rattle.boot_region.specs.Members.{IsMember, IsOneOf, OnNotShut, OneNotShut, IsNotShut, Closed, LostWrites}
 use Rattle.boot_region.proofs.OnEach.{only_member}
-use Rattle.boot_codec.specs.Gate.{gate_bytes}
 use Rattle.boot_region.specs.lemmas.Shown.{reads_open, gate_opens, gate_closes, gate_size, open_begins, closed_begins}
 
 -- a count that rose has risen at a later moment

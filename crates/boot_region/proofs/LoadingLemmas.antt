@@ -1,22 +1,15 @@
 -- What is loaded is what the regions give.
 use Rattle.std.proofs.Common.{◌≡◌, ◌-◌, ◌^◌, ◌<◌, ◌≤◌, ◌&&◌, ℕ, Bool, true, false, refl, List, length, slice_index_or, sym, ap, subst, ◌∙◌, IsErrAnd}
 use Rattle.std.specs.Prelude.{Result, Ok, Err, IfOk, IfErr}
-use Rattle.pur_base.specs.Devices.{Geometry}
-use Rattle.boot_codec.specs.declared.bad_record.ReadError.{ReadError}
+use Rattle.array_spec.specs.Prelude.{Geometry, ReadError, BootRecord, Fails, read_record, IsBootRecord, BootSlot, IsRecordOf, IsEffective, spelling}
 use Rattle.boot_codec.specs.declared.bad_record.ReadError.TheVariants as errors
-use Rattle.boot_codec.specs.declared.record.BootRecord.{BootRecord}
-use Rattle.boot_codec.specs.Reading.{Fails, read_record}
-use Rattle.boot_codec.specs.Record.{IsBootRecord}
-use Rattle.boot_codec.specs.Region.{BootSlot, IsRecordOf, IsEffective}
-use Rattle.boot_codec.specs.Spelling.{spelling}
-use Rattle.world.specs.Shelf.{Shelved}
+use Rattle.world.specs.Prelude.{Shelved, geometry_of}
 use Rattle.boot_region.specs.declared.loading.Loaded.{Loaded}
 use Rattle.boot_region.specs.declared.loading.LoadFault.{LoadFault}
 use Rattle.boot_region.specs.declared.loading.LoadFault.TheVariants as faults
 use Rattle.boot_region.specs.Slots.{slot_in}
 use Rattle.boot_region.specs.Regions.{seen, is_holding, IsRead}
 use Rattle.boot_region.specs.Loading.{fault_of, IsHeld, IsGiven, IsSpent, IsFaultOf, IsAnswerOf, IsLawfulLoad, IsLoadOf}
-use Rattle.world.specs.Losing.{geometry_of}
 
 -- a lawful record in force, and the drives that hold it
 pub held_by : (shelf : Geometry) (bytes : List ℕ) (answered : List Bool) (slot : BootSlot) (body : List ℕ) (boot : BootRecord) (drives : List Bool)

@@ -1,11 +1,8 @@
 -- A write on one more member.
 use Rattle.std.proofs.Common.{◌≡◌, inl, inr, ℕ, List, [], Bool, true, Result, Ok, Err, is_ok, OnOk, sym, subst, refl}
-use Rattle.pur_base.specs.declared.device.Device.{Device}
+use Rattle.array_spec.specs.Prelude.{Device, drive}
 use Rattle.world.specs.declared.streams.Failed.{Failed}
-use Rattle.world.specs.Shelf.{Disk, Written, WriteCounts}
-use Rattle.world.specs.Writes.{OneRange}
-use Rattle.world.specs.Ran.{Only}
-use Rattle.pur_base.specs.Devices.{drive}
+use Rattle.world.specs.Prelude.{Disk, Written, WriteCounts, OneRange, Only}
 use Rattle.boot_region.specs.Members.{IsMember, IsOneOf, OnMembers, Outcome}
 
 pub range_on_members : (members : List Bool) (slot at n : ℕ) → IsMember members slot → (d : Device) (i : ℕ) → OneRange (drive slot) at n d i → OnMembers members at n d i

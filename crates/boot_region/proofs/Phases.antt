@@ -2,18 +2,9 @@
 use Rattle.std.proofs.Common.{◌≡◌, ◌⊎◌, inl, inr, ℕ, ◌+◌, ◌*◌, ◌^◌, ◌-◌, ◌≤◌, ◌<◌, List, length, slice_index, sym, ◌∙◌, ap, subst, arith, Bool, true, false}
 use Rattle.std.specs.Prelude.{slice_index_or, Some, None, IfSome, nat_lt, nat_le, ◌||◌, ◌==◌}
 use Rattle.std.proofs.lemmas.Bool.{cases_Bool, ltb-true, ltb-false, leb-false}
-use Rattle.pur_base.specs.declared.device.Device.{Device}
-use Rattle.pur_base.specs.declared.device.Device.TheVariants.{Drive, Nv}
-use Rattle.pur_base.specs.declared.limits.TheConstants.{SECTOR_BYTES, UNIT_BYTES, BOOT_UNITS}
-use Rattle.pur_base.specs.Devices.{Conditions, Sound, drive}
-use Rattle.pur_base.specs.Gates.{is_open}
-use Rattle.boot_codec.specs.declared.limits.TheConstants.{RECORD_BYTES}
-use Rattle.boot_codec.specs.Region.{BootSlot, other_slot, gate_place, body_place, body_in, shown_by, Yields, generation_in}
-use Rattle.world.specs.Counts.{Rises}
+use Rattle.array_spec.specs.Prelude.{Device, Drive, Nv, SECTOR_BYTES, UNIT_BYTES, BOOT_UNITS, Conditions, Sound, drive, is_open, RECORD_BYTES, BootSlot, other_slot, gate_place, body_place, body_in, shown_by, Yields, generation_in}
+use Rattle.world.specs.Prelude.{Rises, Shelved, Stop, IsShelf, IsIn, IsInSome, LeavesBut, has_risen}
 use Rattle.world.specs.declared.shelf.Span.{Span}
-use Rattle.world.specs.Shelf.{Shelved, Stop, IsShelf, IsIn, IsInSome}
-use Rattle.world.specs.Writes.{LeavesBut}
-use Rattle.world.specs.Losing.{has_risen}
 use Rattle.boot_region.specs.Members.{IsMember, OnMembers, OnNotShut}
 use Rattle.boot_region.specs.Storing.{AreClean, AreClosed, AreWritten, IsOlder, ComesOf, Closes, Writes, Opens}
 use Rattle.boot_region.proofs.Began.{began, began_at, as_left, outside, same_size, as_read_then, may_begin, differs}

@@ -6,15 +6,11 @@ use Rattle.std.proofs.lemmas.List.{length-append, length-take, length-drop, drop
 use Rattle.std.proofs.Math.Seq.{take-append_seam}
 use Rattle.std.proofs.lemmas.Slice.{take-put_mid_below, drop-put_mid, between-put_mid}
 use borrow.Rule.Slice.PartMut.{put_mid}
-use Rattle.pur_base.specs.Bytes.{bytes_at}
+use Rattle.array_spec.specs.Prelude.{bytes_at, Device, drive}
 use Rattle.boot_region.specs.declared.regions.TheConstants.{REGION_BYTES}
 use Rattle.boot_region.specs.Regions.{region_at, IsRead, AnswerCounts}
-use Rattle.pur_base.specs.declared.device.Device.{Device}
-use Rattle.pur_base.specs.Devices.{drive}
-use Rattle.world.specs.Ran.{Only}
+use Rattle.world.specs.Prelude.{Only, Counts, Rises, Disk, Shelved, ReadCounts}
 use Rattle.boot_region.specs.Members.{IsDrive}
-use Rattle.world.specs.Counts.{Counts, Rises}
-use Rattle.world.specs.Shelf.{Disk, Shelved, ReadCounts}
 use Rattle.world.specs.declared.streams.Failed.{Failed}
 
 -- as long as it was

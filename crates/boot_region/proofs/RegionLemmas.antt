@@ -7,12 +7,9 @@ use Rattle.std.proofs.lemmas.Bool.{eq-eqb, cases_Bool, ltb-true, lt-ltb}
 use Rattle.std.specs.Str.{bytes_eq}
 use Rattle.std.proofs.lemmas.List.FromFn.{length-map-range_with_len}
 use Rattle.std.specs.Cmp.Lexicographic.{same_text}
-use Rattle.pur_base.specs.Devices.{Geometry}
-use Rattle.boot_codec.specs.Region.{BootSlot, A, B, gate_place, body_place, shown_by, is_vote, votes, generation_in, other_slot, IsDecided, IsEffective}
-use Rattle.boot_codec.specs.declared.limits.TheConstants.{RECORD_BYTES}
+use Rattle.array_spec.specs.Prelude.{Geometry, BootSlot, A, B, gate_place, body_place, shown_by, is_vote, votes, generation_in, other_slot, IsDecided, IsEffective, RECORD_BYTES, counted, one_is_decided}
 use Rattle.boot_region.specs.declared.regions.TheConstants.{REGION_BYTES}
 use Rattle.boot_region.specs.Regions.{region_at, seen, is_body_in, is_holding, vote_of, all_votes, IsUndecided, GivesNone, IsNewerOf}
-use Rattle.array_spec.specs.lemmas.Votes.{counted, one_is_decided}
 
 -- a body under an open gate is shown
 pub shown_is : (slot : BootSlot) (bytes : List ℕ) (gate at n : ℕ) → gate ≡ gate_place slot → at ≡ body_place slot → n ≡ 65536 → slice_index bytes gate ≡ 1

@@ -2,28 +2,12 @@
 use Rattle.std.proofs.Common.{◌≡◌, ◌⊎◌, inl, inr, ℕ, ◌≤◌, ◌<◌, List, [], length, map, slice_index, refl, sym, ◌∙◌, ap, subst, arith, Bool, true, false, Result, Ok, Err, is_ok, OnOk, OnErr}
 use Rattle.std.specs.Prelude.{slice_index_or, Option, Some, None, option_and_then, if◌then◌else◌}
 use Rattle.std.proofs.lemmas.Bool.{cases_Bool}
-use Rattle.pur_base.specs.declared.device.Device.{Device}
+use Rattle.array_spec.specs.Prelude.{Device, SECTOR_BYTES, View, Conditions, Sound, IsBearable, is_sound, slots_of, drive, is_open, Array, BootRecord, spelling, BootSlot, IsRecordOf, IsDecided, votes, other_slot, gate_place, body_in, shown_by, Stands, MayBeGiven, MayAppear, OpensGatesOf, opening_gives, opening_still_gives, twice_other, sound_before, spells_one}
 use Rattle.pur_base.specs.declared.device.Device.TheVariants as dev
-use Rattle.pur_base.specs.declared.limits.TheConstants.{SECTOR_BYTES}
-use Rattle.pur_base.specs.Devices.{View, Conditions, Sound, IsBearable, is_sound, slots_of, drive}
-use Rattle.pur_base.specs.Gates.{is_open}
-use Rattle.pur_base.specs.Plain.{Array}
-use Rattle.boot_codec.specs.declared.record.BootRecord.{BootRecord}
-use Rattle.boot_codec.specs.Spelling.{spelling}
-use Rattle.boot_codec.specs.Region.{BootSlot, IsRecordOf, IsDecided, votes, other_slot, gate_place, body_in, shown_by}
-use Rattle.array_spec.specs.Standing.{Stands, MayBeGiven, MayAppear}
-use Rattle.array_spec.specs.Laws.{OpensGatesOf}
 use Rattle.array_spec.proofs.Store.{boot_keeps}
-use Rattle.array_spec.specs.lemmas.Settling.{opening_gives, opening_still_gives, twice_other}
-use Rattle.array_spec.specs.lemmas.Votes.{sound_before}
-use Rattle.array_spec.specs.lemmas.Spelled.{spells_one}
 use Rattle.world.specs.declared.streams.Failed.{Failed}
 use Rattle.world.specs.declared.shelf.Span.{Span}
-use Rattle.world.specs.Counts.{Rises}
-use Rattle.world.specs.Losing.{geometry_of}
-use Rattle.world.specs.Shelf.{Shelved, Stop, MayStop, Continues, Disk, IsShelf, IsIn, IsInSome}
-use Rattle.world.specs.Writes.{LeavesBut, WritesOnly}
-use Rattle.world.specs.lemmas.Stopped.{as_read}
+use Rattle.world.specs.Prelude.{Rises, geometry_of, Shelved, Stop, MayStop, Continues, Disk, IsShelf, IsIn, IsInSome, LeavesBut, WritesOnly, as_read}
 use Rattle.boot_region.specs.Members.{IsMember, OnMembers, OnClosed, OneClosed, Opened}
 use Rattle.boot_region.specs.Storing.{GivesNoMore, SoundAreMembers, IsFound, IsInForceOn, IsLoaded, IsSeen, TellsFailed}
 use Rattle.boot_region.proofs.Began.{began, began_at, as_left, as_read_then, may_begin, differs}

@@ -5,15 +5,7 @@ use Rattle.std.specs.List.{range_with_len}
 use Rattle.std.specs.Cmp.Lexicographic.{same_text}
 use Rattle.std.proofs.lemmas.Bool.{cases_Bool, cases_lt}
 use Rattle.std.proofs.lemmas.List.FromFn.{length-map-range_with_len}
-use Rattle.pur_base.specs.declared.device.Device.{Device}
-use Rattle.pur_base.specs.Devices.{Geometry, Image, View, Condition, Conditions, Sound, Missing, LeftOut, is_sound, drive}
-use Rattle.boot_codec.specs.declared.record.BootRecord.{BootRecord}
-use Rattle.boot_codec.specs.Spelling.{spelling}
-use Rattle.boot_codec.specs.Region.{BootSlot, A, B, IsDecided, Yields, generation_in, other_slot, shown_by, votes, is_vote}
-use Rattle.array_spec.specs.Standing.{MayBeGiven, MayAppear}
-use Rattle.array_spec.specs.Laws.{OpensGatesOf, ClosesGatesOf}
-use Rattle.array_spec.specs.lemmas.Settling.{twice_other}
-use Rattle.array_spec.specs.lemmas.Votes.{counted, sound_before}
+use Rattle.array_spec.specs.Prelude.{Device, Geometry, Image, View, Condition, Conditions, Sound, Missing, LeftOut, is_sound, drive, BootRecord, spelling, BootSlot, A, B, IsDecided, Yields, generation_in, other_slot, shown_by, votes, is_vote, MayBeGiven, MayAppear, OpensGatesOf, ClosesGatesOf, twice_other, counted, sound_before}
 use Rattle.boot_region.specs.lemmas.Found.{same_over}
 
 sound_is : (c : Condition) → is_sound c ≡ true → c ≡ Sound

@@ -5,26 +5,9 @@ use Rattle.std.specs.List.{range_with_len}
 use Rattle.std.specs.Str.{bytes_eq}
 use Rattle.std.specs.Cmp.Lexicographic.{same_text}
 use Rattle.std.proofs.lemmas.Bool.{cases_Bool, cases_lt}
-use Rattle.pur_base.specs.declared.device.Device.{Device}
+use Rattle.array_spec.specs.Prelude.{Device, SECTOR_BYTES, UNIT_BYTES, Condition, Conditions, Sound, Missing, LeftOut, IsBearable, IsWithin, MayBecome, is_sound, is_missing, drive, Array, RECORD_BYTES, BootRecord, set_count, spelling, BootSlot, IsRecordOf, other_slot, gate_place, body_place, body_in, shown_by, Yields, generation_in, Stands, MayBeGiven, MayAppear, IsHeld, is_sound_vote, counted, held_is_given, sound_before, twice_other}
 use Rattle.pur_base.specs.declared.device.Device.TheVariants as dev
-use Rattle.pur_base.specs.declared.limits.TheConstants.{SECTOR_BYTES, UNIT_BYTES}
-use Rattle.pur_base.specs.Devices.{Condition, Conditions, Sound, Missing, LeftOut, IsBearable, IsWithin, MayBecome, is_sound, is_missing, drive}
-use Rattle.pur_base.specs.Plain.{Array}
-use Rattle.boot_codec.specs.declared.limits.TheConstants.{RECORD_BYTES}
-use Rattle.boot_codec.specs.declared.record.BootRecord.{BootRecord}
-use Rattle.boot_codec.specs.Record.{set_count}
-use Rattle.boot_codec.specs.Spelling.{spelling}
-use Rattle.boot_codec.specs.Region.{BootSlot, IsRecordOf, other_slot, gate_place, body_place, body_in, shown_by, Yields, generation_in}
-use Rattle.array_spec.specs.Standing.{Stands, MayBeGiven, MayAppear}
-use Rattle.array_spec.specs.Laws.{IsHeld, is_sound_vote}
-use Rattle.array_spec.specs.lemmas.Votes.{counted, held_is_given, sound_before}
-use Rattle.array_spec.specs.lemmas.Settling.{twice_other}
-use Rattle.world.specs.Counts.{Rises}
-use Rattle.world.specs.Shelf.{Shelved, Stop, MayStop, IsShelf, IsIn, Continues, Written, IsCountedBy, LeavesOnly}
-use Rattle.world.specs.Writes.{ChangesOnly, LeavesBut}
-use Rattle.world.specs.Losing.{geometry_of, IsLater}
-use Rattle.world.specs.lemmas.Moments.{continues_trans, continues_refl}
-use Rattle.world.specs.lemmas.Stopped.{as_read}
+use Rattle.world.specs.Prelude.{Rises, Shelved, Stop, MayStop, IsShelf, IsIn, Continues, Written, IsCountedBy, LeavesOnly, ChangesOnly, LeavesBut, geometry_of, IsLater, continues_trans, continues_refl, as_read}
 use Rattle.boot_region.specs.Members.{IsMember, IsOneOf, OnSlot, OnMembers, OnNotShut, Outcome, Closed, LostWrites, DroppedFailed}
 use Rattle.boot_region.specs.Storing.{AreClean, AreClosed, AreOlder, SoundAreMembers, ComesOf, Closes, Writes, Opens, IsInForceOn, MayFollow, AccountsFor, IsInStore, GivesNoMore, HeldStill, IsOpening, StandsBut, StandsNow, IsNewer, IsStored, IsStoredOn, IsFirmOn, AreEnough, StandsAgain}
 use Rattle.boot_region.proofs.Composing.{borne, votes_not, IsBorneOn, differs_then, still_while_closing, still_while_writing, gives_while_closing, gives_while_writing, gives_while_opening, while_closing, while_writing, while_writing_over, while_opening, as_it_is, is_sound_is}

@@ -4,3 +4,4 @@ pub mod Regions
 pub mod Slots
 pub mod Storing
 pub mod lemmas
+pub mod Prelude

@@ -1,17 +1,8 @@
 -- What is loaded, by the boot units that were read.
 use Rattle.std.specs.Prelude.{◌≡◌, ◌+◌, ◌-◌, ◌^◌, ◌<◌, ◌≤◌, ◌&&◌, ℕ, Bool, false, List, length, slice_index_or, Result, Ok, Err, ⊤}
-use Rattle.pur_base.specs.Devices.{Geometry, Conditions, IsBearable}
-use Rattle.pur_base.specs.Plain.{Array}
-use Rattle.boot_codec.specs.declared.bad_record.BadRecord.{BadRecord}
-use Rattle.boot_codec.specs.declared.bad_record.ReadError.{ReadError}
+use Rattle.array_spec.specs.Prelude.{Geometry, Conditions, IsBearable, Array, BadRecord, ReadError, BootRecord, read_record, set_count, BootSlot, IsRecordOf, IsEffective, spelling}
 use Rattle.boot_codec.specs.declared.bad_record.ReadError.TheVariants as errors
-use Rattle.boot_codec.specs.declared.record.BootRecord.{BootRecord}
-use Rattle.boot_codec.specs.Reading.{read_record}
-use Rattle.boot_codec.specs.Record.{set_count}
-use Rattle.boot_codec.specs.Region.{BootSlot, IsRecordOf, IsEffective}
-use Rattle.boot_codec.specs.Spelling.{spelling}
-use Rattle.world.specs.Losing.{geometry_of}
-use Rattle.world.specs.Shelf.{Shelved}
+use Rattle.world.specs.Prelude.{geometry_of, Shelved}
 use Rattle.boot_region.specs.declared.loading.Loaded.{Loaded}
 use Rattle.boot_region.specs.declared.loading.LoadFault.{LoadFault}
 use Rattle.boot_region.specs.declared.loading.LoadFault.TheVariants as faults

@@ -1,14 +1,7 @@
 -- What a call on each member writes, and what it leaves of each.
 use Rattle.std.specs.Prelude.{◌≡◌, ◌⊎◌, ℕ, List, [], Bool, true, false, slice_index_or}
-use Rattle.pur_base.specs.declared.device.Device.{Device}
-use Rattle.pur_base.specs.declared.device.Device.TheVariants.{Drive, Nv}
-use Rattle.pur_base.specs.declared.limits.TheConstants.{SECTOR_BYTES}
-use Rattle.pur_base.specs.Devices.{drive}
-use Rattle.pur_base.specs.Gates.{is_open}
-use Rattle.boot_codec.specs.declared.limits.TheConstants.{RECORD_BYTES}
-use Rattle.boot_codec.specs.Region.{BootSlot, gate_place, body_place}
-use Rattle.world.specs.Counts.{Rises}
-use Rattle.world.specs.Shelf.{Shelved, Disk, IsIn, Written}
+use Rattle.array_spec.specs.Prelude.{Device, Drive, Nv, SECTOR_BYTES, drive, is_open, RECORD_BYTES, BootSlot, gate_place, body_place}
+use Rattle.world.specs.Prelude.{Rises, Shelved, Disk, IsIn, Written}
 
 -- the drive in that slot is a member
 abbrev pub IsMember : List Bool → ℕ → Type 0

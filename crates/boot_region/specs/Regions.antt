@@ -1,13 +1,9 @@
 -- The boot units that were read of each drive, as a view of the drives.
 use Rattle.std.specs.Prelude.{◌≡◌, ◌⊎◌, ℕ, ◌*◌, ◌<◌, ◌≤◌, Bool, true, false, List, length, map, Option, Some, None, slice_index_or, option_and_then, if◌then◌else◌, bytes_eq}
 use Rattle.std.specs.List.{range_with_len}
-use Rattle.pur_base.specs.Bytes.{bytes_at}
-use Rattle.pur_base.specs.Devices.{Geometry, View, drive}
-use Rattle.pur_base.specs.declared.device.Device.TheVariants.{Drive, Nv}
+use Rattle.array_spec.specs.Prelude.{bytes_at, Geometry, View, drive, Drive, Nv, BootSlot, A, B, IsDecided, generation_in, body_in, shown_by, votes}
 use Rattle.boot_region.specs.declared.regions.TheConstants.{REGION_BYTES}
-use Rattle.boot_codec.specs.Region.{BootSlot, A, B, IsDecided, generation_in, body_in, shown_by, votes}
-use Rattle.world.specs.Counts.{Rises}
-use Rattle.world.specs.Shelf.{Shelved, Disk}
+use Rattle.world.specs.Prelude.{Rises, Shelved, Disk}
 
 -- what a drive showed, where it answered: the regions stand one behind another
 unfoldable pub region_at : List ℕ → List Bool → ℕ → Option (List ℕ)

@@ -1,5 +1,5 @@
 -- The two slots of the boot region, in code and in the definitions.
-use Rattle.boot_codec.specs.Region.{BootSlot, A, B}
+use Rattle.array_spec.specs.Prelude.{BootSlot, A, B}
 use Rattle.boot_region.specs.declared.slot.Slot.{Slot}
 use Rattle.boot_region.specs.declared.slot.Slot.TheVariants as slot
 

@@ -1,18 +1,7 @@
 -- What a store does to the devices, and what its caller has to know of the record.
 use Rattle.std.specs.Prelude.{◌≡◌, ◌⊎◌, ◌*◌, ◌+◌, ◌<◌, ◌≤◌, ℕ, Bool, false, List, [], length, count_by, Some, None, IfSome}
-use Rattle.pur_base.specs.declared.device.Device.{Device}
-use Rattle.pur_base.specs.declared.limits.TheConstants.{BOOT_UNITS}
-use Rattle.pur_base.specs.Devices.{Geometry, Image, View, Conditions, Sound, IsBearable, IsWithin, slots_of, drive, nvram}
-use Rattle.pur_base.specs.Gates.{is_open}
-use Rattle.pur_base.specs.Plain.{Array}
-use Rattle.boot_codec.specs.declared.record.BootRecord.{BootRecord}
-use Rattle.boot_codec.specs.Record.{set_count}
-use Rattle.boot_codec.specs.Spelling.{spelling}
-use Rattle.boot_codec.specs.Region.{BootSlot, IsRecordOf, IsEffective, other_slot, gate_place, body_in, shown_by, generation_in, Yields}
-use Rattle.array_spec.specs.Standing.{Stands, MayBeGiven, IsReadInto, FollowsOn}
-use Rattle.array_spec.specs.Laws.{DiffersOnlyIn, is_sound_vote}
-use Rattle.world.specs.Shelf.{Shelved, Stop, MayStop, LeavesOnly}
-use Rattle.world.specs.Losing.{geometry_of, has_risen, IsLater}
+use Rattle.array_spec.specs.Prelude.{Device, BOOT_UNITS, Geometry, Image, View, Conditions, Sound, IsBearable, IsWithin, slots_of, drive, nvram, is_open, Array, BootRecord, set_count, spelling, BootSlot, IsRecordOf, IsEffective, other_slot, gate_place, body_in, shown_by, generation_in, Yields, Stands, MayBeGiven, IsReadInto, FollowsOn, DiffersOnlyIn, is_sound_vote}
+use Rattle.world.specs.Prelude.{Shelved, Stop, MayStop, LeavesOnly, geometry_of, has_risen, IsLater}
 use Rattle.boot_region.specs.Members.{IsMember}
 
 -- ---- the members, as reads give them

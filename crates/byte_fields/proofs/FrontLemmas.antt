@@ -3,7 +3,7 @@ use Rattle.std.proofs.Common.{◌≡◌, ℕ, ◌+◌, ◌-◌, ◌≤◌, List,
 use Rattle.std.proofs.lemmas.List.{length-append, length-take, length-drop, drop-replicate, drop-drop}
 use Rattle.std.proofs.lemmas.Slice.{drop-put_mid}
 use borrow.Rule.Slice.PartMut.{put_mid}
-use Rattle.pur_base.specs.Bytes.{zeros}
+use Rattle.pur_base.specs.Prelude.{zeros}
 use Rattle.byte_fields.specs.FrontFields.{IsPadded}
 
 pub padded_by : (n : ℕ) (bytes field : List ℕ) (len : ℕ) → IsPadded n bytes len → len + length field ≤ n → IsPadded n (put_mid len (len + length field - len) bytes field) (len + length field)

@@ -1,6 +1,6 @@
 -- How the front of some bytes lies in its fields.
 use Rattle.std.specs.Prelude.{◌≡◌, ℕ, ◌-◌, ◌≤◌, List, length, drop}
-use Rattle.pur_base.specs.Bytes.{zeros}
+use Rattle.pur_base.specs.Prelude.{zeros}
 
 -- The bytes so far stand in front, and zeros behind them.
 pub record IsPadded (n : ℕ) (bytes : List ℕ) (len : ℕ) : Type 0 where

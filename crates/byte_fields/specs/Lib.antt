@@ -1,3 +1,4 @@
 pub mod Places
 pub mod FrontFields
 pub mod lemmas
+pub mod Prelude

@@ -1,7 +1,7 @@
 -- Places of units as bytes.
 use Rattle.std.specs.Prelude.{ℕ, ◌<◌, ◌^◌, List, ◌++◌}
 use Rattle.std.specs.List.{flat_map}
-use Rattle.pur_base.specs.Bytes.{u8, u16}
+use Rattle.pur_base.specs.Prelude.{u8, u16}
 use Rattle.pur_base.specs.declared.place.Place.{Place}
 
 -- a place in three bytes

@@ -4,7 +4,7 @@ use Rattle.std.specs.Prelude.{not, count_by}
 use Rattle.std.specs.List.{All, AllByRecursion, range_with_len}
 use Rattle.std.proofs.lemmas.List.Sums.{sum_by-cons}
 use Rattle.std.proofs.lemmas.Bool.{cases_lt}
-use Rattle.pur_base.specs.Visible.{is_within}
+use Rattle.pur_base.specs.Prelude.{is_within}
 use Rattle.elision.specs.Ranges.{AreApart}
 use Rattle.elision.proofs.RangeLemmas.{Apart, apart_by_range}
 use Rattle.elision.proofs.SearchLemmas.{out_test}

@@ -4,7 +4,7 @@ use Rattle.std.specs.Prelude.{min, max, nat_lt, nat_le, ◌&&◌, ◌||◌, if�
 use Rattle.std.specs.List.{AllByRecursion}
 use Rattle.std.proofs.lemmas.Bool.{ltb-true, ltb-false, leb-true, le-leb, cases_lt, false≢true}
 use Rattle.std.specs.List.{All, AllPairs}
-use Rattle.pur_base.specs.Visible.{is_within}
+use Rattle.pur_base.specs.Prelude.{is_within}
 use Rattle.elision.specs.Ranges.{AreApart, with_range}
 
 -- the id lies in one of the ranges

@@ -5,7 +5,7 @@ use Rattle.std.specs.List.{All}
 use Rattle.std.proofs.lemmas.Bool.{leb-true, leb-false, le-leb, cases_lt}
 use Rattle.std.proofs.lemmas.List.{get_or_default}
 use Rattle.std.proofs.lemmas.List.Folds.{list_any_at, list_any_none}
-use Rattle.pur_base.specs.Visible.{is_within}
+use Rattle.pur_base.specs.Prelude.{is_within}
 use Rattle.elision.specs.Ranges.{AreApart}
 
 pub out_test : (r : ℕ × ℕ) (id : ℕ) → (id < r.0) ⊎ (r.1 < id) → (nat_le r.0 id && nat_le id r.1) ≡ false

@@ -1,12 +1,11 @@
 -- What stands behind a fact stands 64 bytes behind its first byte.
 use Rattle.std.proofs.Common.{◌≡◌, ℕ, ◌-◌, ◌≤◌, length, ap, ◌∙◌, arith}
 use Rattle.std.proofs.lemmas.List.{length-append, length-replicate}
-use Rattle.pur_base.specs.Bytes.{u16, zeros, padded}
+use Rattle.pur_base.specs.Prelude.{u16, zeros, padded}
 use Rattle.pur_base.specs.declared.facts.Target.TheVariants.{Stored, Zero}
 use Rattle.pur_base.specs.declared.facts.AnyFact.{AnyFact}
 use Rattle.pur_base.specs.declared.facts.AnyFact.TheVariants as any
-use Rattle.byte_fields.specs.Places.{places_bytes}
-use Rattle.byte_fields.specs.lemmas.Spelling.{length-places_bytes}
+use Rattle.byte_fields.specs.Prelude.{places_bytes, length-places_bytes}
 use Rattle.fact_codec.specs.declared.limits.TheConstants.{FACT_BYTES, VALUE_BYTES}
 use Rattle.fact_codec.specs.Fact.{fact_bytes, value_bytes, target_bytes, IsFact}
 use Rattle.fact_codec.specs.Heads.{head_bytes, head_of}

@@ -1,12 +1,11 @@
 -- The head that stands in front of a value, and the fact that both spell.
 use Rattle.std.proofs.Common.{◌≡◌, ℕ, List, ◌++◌, refl, sym, ◌∙◌, arith}
-use Rattle.pur_base.specs.Bytes.{u8, u32, u64, padded}
-use Rattle.pur_base.specs.Tags.{tag_of}
+use Rattle.pur_base.specs.Prelude.{u8, u32, u64, padded, tag_of}
 use Rattle.pur_base.specs.declared.request.Table.{Table}
 use Rattle.pur_base.specs.declared.request.Table.TheVariants as table
 use Rattle.pur_base.specs.declared.facts.AnyFact.{AnyFact}
 use Rattle.pur_base.specs.declared.facts.AnyFact.TheVariants as any
-use Rattle.byte_fields.specs.lemmas.Spelling.{same_u8, same_u32, same_u64}
+use Rattle.byte_fields.specs.Prelude.{same_u8, same_u32, same_u64}
 use Rattle.fact_codec.specs.declared.limits.TheConstants.{VALUE_BYTES}
 use Rattle.fact_codec.specs.declared.head.Head.{Head}
 use Rattle.fact_codec.specs.Fact.{fact_bytes, value_bytes, IsFact, Decodes}

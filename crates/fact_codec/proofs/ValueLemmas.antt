@@ -2,8 +2,7 @@
 use Rattle.std.proofs.Common.{◌≡◌, ℕ, ◌-◌, ◌≤◌, true, List, ◌++◌, length, refl, ap, sym, ◌∙◌, append-nil, arith}
 use Rattle.std.proofs.lemmas.List.{length-append, length-replicate}
 use Rattle.std.proofs.lemmas.Grind.{common_steps}
-use Rattle.pur_base.specs.Bytes.{u64, zeros, padded}
-use Rattle.pur_base.specs.Names.{is_name}
+use Rattle.pur_base.specs.Prelude.{u64, zeros, padded, is_name}
 use Rattle.pur_base.specs.declared.limits.TheConstants.{NAME_BYTES}
 use Rattle.pur_base.specs.declared.facts.ObjectFact.{ObjectFact}
 use Rattle.pur_base.specs.declared.facts.AnyFact.{AnyFact}

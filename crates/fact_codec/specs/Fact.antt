@@ -1,10 +1,7 @@
 -- Facts as 64 bytes: their one spelling, and what has one.
 use Rattle.std.specs.Prelude.{◌≡◌, ◌⊎◌, ℕ, ◌+◌, ◌-◌, ◌<◌, ◌≤◌, ◌^◌, true, List, [], ◌++◌, length}
 use Rattle.std.specs.List.{AllByRecursion}
-use Rattle.pur_base.specs.Bytes.{u8, u16, u32, u64, padded}
-use Rattle.pur_base.specs.Names.{is_name}
-use Rattle.pur_base.specs.Tags.{tag_of}
-use Rattle.pur_base.specs.Facts.{table_tag, any_key, any_number}
+use Rattle.pur_base.specs.Prelude.{u8, u16, u32, u64, padded, is_name, tag_of, table_tag, any_key, any_number}
 use Rattle.pur_base.specs.declared.limits.TheConstants.{NAME_BYTES, OBJECT_SECTORS, SEGMENT_SECTORS, SEGMENT_SHARDS}
 use Rattle.pur_base.specs.declared.facts.ObjectKind.{ObjectKind}
 use Rattle.pur_base.specs.declared.facts.ObjectKind.TheVariants.{Volume, Snapshot}
@@ -13,7 +10,7 @@ use Rattle.pur_base.specs.declared.facts.Target.TheVariants.{Stored, Zero}
 use Rattle.pur_base.specs.declared.facts.MediumFact.{MediumFact}
 use Rattle.pur_base.specs.declared.facts.AnyFact.{AnyFact}
 use Rattle.pur_base.specs.declared.facts.AnyFact.TheVariants as any
-use Rattle.byte_fields.specs.Places.{places_bytes, FitsBytes}
+use Rattle.byte_fields.specs.Prelude.{places_bytes, FitsBytes}
 use Rattle.fact_codec.specs.declared.limits.TheConstants.{VALUE_BYTES, NUMBER_LIMIT}
 
 -- ---- the spelling

@@ -1,8 +1,6 @@
 -- The head of a fact: the fields that facts of all tables have.
 use Rattle.std.specs.Prelude.{ℕ, ◌<◌, ◌^◌, List, ◌++◌, length}
-use Rattle.pur_base.specs.Bytes.{u8, u32, u64}
-use Rattle.pur_base.specs.Tags.{tag_of}
-use Rattle.pur_base.specs.Facts.{table_tag, any_number}
+use Rattle.pur_base.specs.Prelude.{u8, u32, u64, tag_of, table_tag, any_number}
 use Rattle.pur_base.specs.declared.request.Table.{Table}
 use Rattle.pur_base.specs.declared.facts.AnyFact.{AnyFact}
 use Rattle.fact_codec.specs.declared.head.Head.{Head}

@@ -1,7 +1,6 @@
 -- The value of a fact, as it is written and read table by table.
 use Rattle.std.specs.Prelude.{◌≡◌, ℕ, true, List, ◌++◌, length}
-use Rattle.pur_base.specs.Bytes.{u64, padded}
-use Rattle.pur_base.specs.Names.{is_name}
+use Rattle.pur_base.specs.Prelude.{u64, padded, is_name}
 use Rattle.pur_base.specs.declared.limits.TheConstants.{NAME_BYTES}
 use Rattle.pur_base.specs.declared.facts.Target.{Target}
 use Rattle.pur_base.specs.declared.facts.AnyFact.{AnyFact}

@@ -5,18 +5,11 @@ use Rattle.std.proofs.lemmas.Bool.{cases_Bool, cases_eq, cases_lt, ne_eqb}
 use Rattle.std.proofs.lemmas.List.{get_or-replicate, get_or-take, length-take-le}
 use Rattle.std.proofs.lemmas.List.Sums.{sum_by-cons, sum_by-append}
 use Rattle.std.proofs.lemmas.List.Folds.{sum_by-replicate}
-use Rattle.pur_base.specs.Facts.{Facts}
-use Rattle.pur_base.specs.Visible.{segments}
-use Rattle.pur_base.specs.declared.facts.SegmentFact.{SegmentFact}
-use Rattle.pur_base.specs.declared.place.Place.{Place}
+use Rattle.array_spec.specs.Prelude.{Facts, segments, SegmentFact, Place, IsBootRecord, BootRecord, is_used, free_units, free_of_members, units_for}
 use Rattle.boot_codec.specs.Record as record_of
-use Rattle.boot_codec.specs.Record.{IsBootRecord}
-use Rattle.boot_codec.specs.declared.record.BootRecord.{BootRecord}
 use Rattle.array_spec.specs.Counts as counts
-use Rattle.array_spec.specs.Counts.{is_used, free_units, free_of_members, units_for}
 use Rattle.unit_map.specs.declared.drive.Drive.{Drive}
-use Rattle.unit_map.specs.Units.{fresh}
-use Rattle.unit_map.specs.Map.{no_drive, drive_at, is_free, free_count, share, total_at, with_unit, with_unit_of, with_units, IsPlace}
+use Rattle.unit_map.specs.Prelude.{fresh, no_drive, drive_at, is_free, free_count, share, total_at, with_unit, with_unit_of, with_units, IsPlace}
 use Rattle.unit_map.proofs.UnitLemmas.{count-removed}
 use Rattle.unit_map.proofs.RoomLemmas.{room-start, groups-between}
 use Rattle.free_space.specs.Map.{AreDataSegments, IsMapWith, is_member}

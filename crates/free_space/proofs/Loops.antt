@@ -4,9 +4,9 @@ use Rattle.std.specs.List.{flat_map}
 use Rattle.std.proofs.lemmas.Bool.{cases_eq}
 use Rattle.std.proofs.lemmas.List.{at_drop_all}
 use Rattle.std.proofs.lemmas.List.Sums.{fold-append}
-use Rattle.pur_base.specs.declared.place.Place.{Place}
+use Rattle.array_spec.specs.Prelude.{Place}
 use Rattle.unit_map.specs.declared.drive.Drive.{Drive}
-use Rattle.unit_map.specs.Map.{no_drive, drive_at, with_unit, with_units, with_member, as_member}
+use Rattle.unit_map.specs.Prelude.{no_drive, drive_at, with_unit, with_units, with_member, as_member}
 use Rattle.unit_map.proofs.MapLemmas.{length-with_member}
 use Rattle.free_space.specs.Marking.{CanMark}
 

@@ -6,26 +6,14 @@ use Rattle.std.proofs.lemmas.List.{map-append}
 use Rattle.std.proofs.lemmas.Grind.{flat_map-append}
 use Rattle.std.proofs.lemmas.List.Folds.{flat_map-map, list_any-append}
 use Rattle.std.proofs.lemmas.List.Sums.{fold-append}
-use Rattle.pur_base.specs.Devices.{Geometry}
-use Rattle.pur_base.specs.Facts.{Facts}
-use Rattle.pur_base.specs.Visible.{segment, segments}
-use Rattle.pur_base.specs.declared.facts.SegmentFact.{SegmentFact}
-use Rattle.pur_base.specs.declared.place.Place.{Place}
+use Rattle.array_spec.specs.Prelude.{Geometry, Facts, segment, segments, SegmentFact, Place, AscendFrom, IsSegment, IsPatch, IsBootRecord, Patch, PatchSegment, BootRecord, is_place, is_used, ArePlaces, named_segments, used_places, AreSegmentsSound, all_append, patches_are_lawful}
 use Rattle.boot_codec.specs.Record as record_of
-use Rattle.boot_codec.specs.Record.{AscendFrom, IsSegment, IsPatch, IsBootRecord}
-use Rattle.boot_codec.specs.declared.patch.Patch.{Patch}
-use Rattle.boot_codec.specs.declared.patch.PatchSegment.{PatchSegment}
-use Rattle.boot_codec.specs.declared.record.BootRecord.{BootRecord}
-use Rattle.array_spec.specs.Counts.{is_place, is_used}
-use Rattle.array_spec.specs.Sound.{ArePlaces, named_segments, used_places, AreSegmentsSound}
 use Rattle.unit_map.specs.declared.drive.Drive.{Drive}
-use Rattle.unit_map.specs.Units.{fresh}
-use Rattle.unit_map.specs.Map.{with_unit, with_units}
+use Rattle.unit_map.specs.Prelude.{fresh, with_unit, with_units}
 use Rattle.free_space.specs.Map.{IsMapWith, IsMapOf, AreDataSegments, shelf_of, is_member, used_or_among}
 use Rattle.free_space.specs.Marking.{CanMark, SetsMembers, data_units, patches_units}
 use Rattle.free_space.proofs.Units.{units_in, can_segments, marked_all, ascending_places, same_used, fresh_map, members_set}
 use Rattle.free_space.proofs.Loops.{can_split}
-use Rattle.array_spec.specs.lemmas.Used.{all_append, patches_are_lawful}
 
 -- ---- places on ascending slots
 

@@ -4,7 +4,7 @@ use Rattle.std.specs.List.{flat_map}
 use Rattle.std.proofs.lemmas.Bool.{cases_eq, cases_lt, eq-eqb, ne_eqb}
 use Rattle.std.proofs.lemmas.List.{at_drop_all, get_or_past}
 use Rattle.std.proofs.lemmas.List.Sums.{sum_by-cons, sum_by-append}
-use Rattle.pur_base.specs.declared.place.Place.{Place}
+use Rattle.array_spec.specs.Prelude.{Place}
 use Rattle.free_space.specs.Left.{is_on, units_on, HasUnits, LosesUnits}
 use Rattle.free_space.proofs.Loops.{next, one}
 

@@ -3,14 +3,10 @@ use Rattle.std.proofs.Common.{ℕ, zero, suc, Bool, true, false, not, eqb, leb, 
 use Rattle.std.specs.List.{AllByRecursion, list_any, flat_map}
 use Rattle.std.proofs.lemmas.Bool.{cases_lt, cases_Bool, eqb-true, eq-eqb, and_parts, lt-ltb, le-ltb, leb-false}
 use Rattle.std.proofs.lemmas.List.{get_or_past, length-replicate, get_or-replicate, length-append}
-use Rattle.pur_base.specs.declared.place.Place.{Place}
+use Rattle.array_spec.specs.Prelude.{Place, AscendFrom, is_place, AreApart}
 use Rattle.boot_codec.specs.Record as record_of
-use Rattle.boot_codec.specs.Record.{AscendFrom}
-use Rattle.array_spec.specs.Counts.{is_place}
-use Rattle.array_spec.specs.Sound.{AreApart}
 use Rattle.unit_map.specs.declared.drive.Drive.{Drive}
-use Rattle.unit_map.specs.Units.{fresh}
-use Rattle.unit_map.specs.Map.{is_free, with_unit, with_units, IsPlace}
+use Rattle.unit_map.specs.Prelude.{fresh, is_free, with_unit, with_units, IsPlace}
 use Rattle.unit_map.proofs.MapLemmas.{length-with_unit, is_free-with_unit_same, is_free-with_unit_other, member-with_units, size-with_units}
 use Rattle.free_space.specs.Map.{IsMapWith, unit_at, is_data_unit, used_or_among}
 use Rattle.free_space.specs.Marking.{CanMark, SetsMembers}

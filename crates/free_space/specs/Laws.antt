@@ -1,14 +1,10 @@
 -- What a map of a record and its tables tells, and what taking units of it leaves.
 use Rattle.std.specs.Prelude.{◌≡◌, ◌↔◌, ℕ, ◌<◌, true, false, List, ◌++◌, length}
-use Rattle.pur_base.specs.Facts.{Facts}
-use Rattle.pur_base.specs.declared.place.Place.{Place}
-use Rattle.pur_base.specs.declared.limits.TheConstants.{SEGMENT_SHARDS}
+use Rattle.array_spec.specs.Prelude.{Facts, Place, SEGMENT_SHARDS, BootRecord, ArePlaces}
 use Rattle.std.specs.List.{AllByRecursion}
-use Rattle.boot_codec.specs.declared.record.BootRecord.{BootRecord}
 use Rattle.array_spec.specs.Counts as counts
-use Rattle.array_spec.specs.Sound.{ArePlaces}
 use Rattle.unit_map.specs.declared.drive.Drive.{Drive}
-use Rattle.unit_map.specs.Map.{is_free, with_units, IsTaken, IsGroups}
+use Rattle.unit_map.specs.Prelude.{is_free, with_units, IsTaken, IsGroups}
 use Rattle.free_space.specs.Map.{IsMapOf, IsMapBut, shelf_of, unit_at, is_member}
 
 -- a unit is free in the map exactly where no segment of the tables uses it

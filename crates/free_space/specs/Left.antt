@@ -1,6 +1,6 @@
 -- How many units drives have free, once segments take theirs.
 use Rattle.std.specs.Prelude.{◌≡◌, ℕ, ◌+◌, ◌≤◌, Bool, false, List, count_by, slice_index, slice_index_or, ◌==◌, if◌then◌else◌}
-use Rattle.pur_base.specs.declared.place.Place.{Place}
+use Rattle.array_spec.specs.Prelude.{Place}
 
 -- whether a place is on the drive of a slot
 abbrev pub is_on : ℕ → Place → Bool

@@ -1,18 +1,9 @@
 -- What a map of units says of a record and its tables.
 use Rattle.std.specs.Prelude.{◌≡◌, ℕ, ◌<◌, Bool, ◌&&◌, ◌||◌, not, nat_le, nat_lt, List, length}
 use Rattle.std.specs.List.{list_any}
-use Rattle.pur_base.specs.Devices.{Geometry, drive}
-use Rattle.pur_base.specs.Facts.{Facts}
-use Rattle.pur_base.specs.Visible.{segments}
-use Rattle.pur_base.specs.declared.limits.TheConstants.{BOOT_UNITS}
-use Rattle.pur_base.specs.declared.place.Place.{Place}
-use Rattle.pur_base.specs.declared.facts.SegmentFact.{SegmentFact}
-use Rattle.boot_codec.specs.declared.record.BootRecord.{BootRecord}
-use Rattle.boot_codec.specs.Region.{names}
-use Rattle.array_spec.specs.Counts.{is_place, is_used}
-use Rattle.array_spec.specs.Sound.{AreSegmentsSound}
+use Rattle.array_spec.specs.Prelude.{Geometry, drive, Facts, segments, BOOT_UNITS, Place, SegmentFact, BootRecord, names, is_place, is_used, AreSegmentsSound}
 use Rattle.unit_map.specs.declared.drive.Drive.{Drive}
-use Rattle.unit_map.specs.Map.{drive_at, is_free}
+use Rattle.unit_map.specs.Prelude.{drive_at, is_free}
 
 -- the size of a record's shelf
 abbrev pub shelf_of : BootRecord → Geometry

@@ -1,12 +1,9 @@
 -- How the units of segments are marked as used, one after the other.
 use Rattle.std.specs.Prelude.{◌≡◌, ℕ, ◌<◌, true, false, Bool, List, [], ◌∷◌, length, slice_index_or, ⊤}
 use Rattle.std.specs.List.{flat_map}
-use Rattle.pur_base.specs.declared.place.Place.{Place}
-use Rattle.pur_base.specs.declared.facts.SegmentFact.{SegmentFact}
-use Rattle.boot_codec.specs.declared.patch.PatchSegment.{PatchSegment}
-use Rattle.boot_codec.specs.declared.patch.Patch.{Patch}
+use Rattle.array_spec.specs.Prelude.{Place, SegmentFact, PatchSegment, Patch}
 use Rattle.unit_map.specs.declared.drive.Drive.{Drive}
-use Rattle.unit_map.specs.Map.{drive_at, is_free, with_unit, as_member, IsPlace}
+use Rattle.unit_map.specs.Prelude.{drive_at, is_free, with_unit, as_member, IsPlace}
 
 -- each is a free unit of the map, once those before it are used
 abbrev pub CanMark : List Drive → List Place → Type 0

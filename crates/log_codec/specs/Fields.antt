@@ -1,6 +1,6 @@
 -- The fields of a head as they stand in a sector, one behind another.
 use Rattle.std.specs.Prelude.{◌≡◌, ℕ, ◌≤◌, ◌<◌, ◌^◌, List, ◌++◌, length, take, drop, codes}
-use Rattle.pur_base.specs.Bytes.{u8, u32, u64, zeros}
+use Rattle.pur_base.specs.Prelude.{u8, u32, u64, zeros}
 use Rattle.pur_base.specs.declared.limits.TheConstants.{NAME_BYTES}
 use Rattle.log_codec.specs.declared.fields.Fields.{Fields}
 use Rattle.log_codec.specs.declared.parts.Parts.{Parts}

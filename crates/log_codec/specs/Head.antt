@@ -1,7 +1,6 @@
 -- The head of a logged command in a slot of the NVRAM: its one spelling, and what has one.
 use Rattle.std.specs.Prelude.{◌≡◌, ℕ, ◌<◌, ◌≤◌, ◌^◌, true, List, [], ◌++◌, length, codes}
-use Rattle.pur_base.specs.Bytes.{u8, u32, u64, padded}
-use Rattle.pur_base.specs.Names.{is_name}
+use Rattle.pur_base.specs.Prelude.{u8, u32, u64, padded, is_name}
 use Rattle.pur_base.specs.declared.limits.TheConstants.{SECTOR_BYTES, NAME_BYTES, REQUEST_SECTORS}
 use Rattle.pur_base.specs.declared.request.Request.{Request}
 use Rattle.pur_base.specs.declared.request.Request.TheVariants as request

@@ -1,12 +1,7 @@
 -- The commands that a view of the NVRAM devices shows, and the log that they are.
 use Rattle.std.specs.Prelude.{◌≡◌, ◌⊎◌, ℕ, suc, ◌+◌, ◌*◌, ◌<◌, List, [], ◌∷◌, ◌++◌, length, Some, IsTrue, ◌^◌}
 use Rattle.std.specs.List.{AllByRecursion, concat}
-use Rattle.pur_base.specs.Bytes.{IsBytesOf, bytes_at}
-use Rattle.pur_base.specs.Gates.{is_open}
-use Rattle.pur_base.specs.Devices.{View, nvram}
-use Rattle.pur_base.specs.Plain.{Array}
-use Rattle.pur_base.specs.Grammar.{data_count}
-use Rattle.pur_base.specs.Commands.{Command, Accepts, after}
+use Rattle.pur_base.specs.Prelude.{IsBytesOf, bytes_at, is_open, View, nvram, Array, data_count, Command, Accepts, after}
 use Rattle.pur_base.specs.declared.limits.TheConstants.{SECTOR_BYTES}
 use Rattle.log_codec.specs.declared.limits.TheConstants.{LOG_SLOTS, SLOTS_START, SLOT_BYTES}
 use Rattle.log_codec.specs.Head.{IsCommand, head_bytes}

@@ -2,13 +2,8 @@
 use Rattle.std.proofs.Common.{◌≡◌, ◌↔◌, ◌⊎◌, ℕ, zero, suc, ◌<◌, Bool, true, false, List, [], ◌∷◌, ◌++◌, length, get_or, lit<, sym, subst, ◌∙◌, arith, inl, inr, All, Contains}
 use Rattle.std.specs.Prelude.{Some, None, ◌==◌, if◌then◌else◌, option_and_then}
 use Rattle.std.specs.Option.{option_or}
-use Rattle.pur_base.specs.declared.facts.MediumFact.{MediumFact}
-use Rattle.pur_base.specs.Facts.{is_empty_range, medium_key}
-use Rattle.pur_base.specs.Keys.{id_of, key_of}
-use Rattle.pur_base.specs.Says.{unless_empty}
-use Rattle.pyramid.specs.Layers.{facts_of}
-use Rattle.pyramid.specs.lemmas.Contains.{nowhere}
-use Rattle.pyramid.specs.lemmas.Layers.{all_contained}
+use Rattle.array_spec.specs.Prelude.{MediumFact, is_empty_range, medium_key, id_of, key_of, unless_empty}
+use Rattle.pyramid.specs.Prelude.{facts_of, nowhere, all_contained}
 use Rattle.std.proofs.lemmas.List.Elements.{All-contains}
 use Rattle.medium_table.specs.Ranges.{range_from, AreDisjoint}
 use Rattle.medium_table.specs.Reaching.{AreDescending}

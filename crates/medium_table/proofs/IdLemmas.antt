@@ -4,9 +4,7 @@ use Rattle.std.specs.Prelude.{nat_lt, true}
 use Rattle.std.proofs.lemmas.Bool.{cases_lt, cases_order, ltb-true, lt-ltb}
 use Rattle.std.proofs.lemmas.List.{get_or_default, take-append-drop, take_more}
 use Rattle.std.proofs.lemmas.List.Elements.{Contains-append_left, Contains-append_right, Contains-append_cases, Contains-push_cases, Contains-push}
-use Rattle.pur_base.specs.declared.ids.MediumId.{MediumId}
-use Rattle.pur_base.specs.Says.{Ascends}
-use Rattle.pyramid.specs.lemmas.Contains.{here, there, either}
+use Rattle.pyramid.specs.Prelude.{MediumId, Ascends, here, there, either}
 use Rattle.pyramid.proofs.InsertLemmas.{pairs-insert}
 use Rattle.medium_table.specs.Reaching.{id_of_medium}
 

@@ -4,20 +4,9 @@ use Rattle.std.specs.Prelude.{Option, Some, None, IfSome, nat_lt, ◌==◌, ◌&
 use Rattle.std.specs.Option.{option_or}
 use Rattle.std.proofs.lemmas.Bool.{cases_eq, cases_order, eq-eqb, ne_eqb, le-ltb, lt-ltb}
 use Rattle.std.proofs.lemmas.List.Elements.{All-contains}
-use Rattle.pur_base.specs.declared.facts.MediumFact.{MediumFact}
+use Rattle.pyramid.specs.Prelude.{MediumFact, Facts, is_empty_range, medium_key, id_of, key_of, IsOver, unless_empty, has_key, is_within, range, AreElidedRanges, IsLastSaid, newest_of, AreBelow, either, nowhere, id_of_key, within_elided, all_below, newest_found}
 use Rattle.pur_base.specs.declared.request.Table.TheVariants as table
-use Rattle.pur_base.specs.Facts.{Facts, is_empty_range, medium_key}
-use Rattle.pur_base.specs.Keys.{id_of, key_of}
-use Rattle.pur_base.specs.Mediums.{IsOver}
-use Rattle.pur_base.specs.Says.{unless_empty, has_key}
-use Rattle.pur_base.specs.Visible.{is_within, range, AreElidedRanges}
-use Rattle.pyramid.specs.Ends.{IsLastSaid}
-use Rattle.pyramid.specs.Layers.{newest_of, AreBelow}
-use Rattle.pyramid.specs.lemmas.Contains.{either, nowhere}
 use Rattle.pyramid.proofs.EndLemmas.{said_key}
-use Rattle.pyramid.specs.lemmas.Keys.{id_of_key, within_elided}
-use Rattle.pyramid.specs.lemmas.Layers.{all_below}
-use Rattle.pyramid.specs.lemmas.Newest.{newest_found}
 use Rattle.pyramid.proofs.WalkLemmas.{newer_over}
 use Rattle.medium_table.specs.Ranges.{after_cut, emptied, number, range_from, rest_of, said, AreDisjoint, IsLowest, IsRangeOver}
 

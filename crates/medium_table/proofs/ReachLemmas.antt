@@ -2,10 +2,7 @@
 use Rattle.std.proofs.Common.{◌≡◌, ◌⊎◌, ◌↔◌, ℕ, suc, ◌^◌, ◌<◌, ◌≤◌, List, length, get_or, refl, sym, ap, subst, ◌∙◌, arith, inl, inr, All, Contains}
 use Rattle.std.proofs.lemmas.Bool.{cases_lt}
 use Rattle.std.proofs.lemmas.List.{get_or_default}
-use Rattle.pur_base.specs.declared.ids.MediumId.{MediumId}
-use Rattle.pur_base.specs.declared.facts.MediumFact.{MediumFact}
-use Rattle.pur_base.specs.Facts.{medium_key}
-use Rattle.pur_base.specs.Says.{Ascends}
+use Rattle.pyramid.specs.Prelude.{MediumId, MediumFact, medium_key, Ascends}
 use Rattle.medium_table.specs.Reaching.{LeadsTo, itself, onward, IsReached}
 use Rattle.medium_table.proofs.IdLemmas.{one_id}
 

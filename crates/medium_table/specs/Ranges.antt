@@ -1,9 +1,6 @@
 -- What facts of mediums say of their ranges.
 use Rattle.std.specs.Prelude.{◌≡◌, ℕ, ◌+◌, ◌-◌, ◌<◌, ◌≤◌, ◌==◌, ◌&&◌, nat_lt, Bool, List, [], ◌∷◌, Option, Some, None, if◌then◌else◌}
-use Rattle.pur_base.specs.declared.facts.MediumFact.{MediumFact}
-use Rattle.pur_base.specs.Facts.{is_empty_range, medium_key}
-use Rattle.pur_base.specs.Keys.{key_of}
-use Rattle.pur_base.specs.Says.{says}
+use Rattle.pyramid.specs.Prelude.{MediumFact, is_empty_range, medium_key, key_of, says}
 
 -- the sequence number
 abbrev pub number : MediumFact → ℕ

@@ -1,7 +1,6 @@
 -- Which mediums lead to which.
 use Rattle.std.specs.Prelude.{◌≡◌, ℕ, ◌^◌, ◌<◌, Bool, List, Some, Contains}
-use Rattle.pur_base.specs.declared.ids.MediumId.{MediumId}
-use Rattle.pur_base.specs.declared.facts.MediumFact.{MediumFact}
+use Rattle.pyramid.specs.Prelude.{MediumId, MediumFact}
 use Rattle.medium_table.specs.Ranges.{range_from}
 
 -- the id as a number

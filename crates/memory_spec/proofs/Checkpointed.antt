@@ -1,10 +1,8 @@
 -- The steps of a checkpoint, one after another.
 use Rattle.std.proofs.Common.{[], sym, ◌∙◌, subst}
-use Rattle.pur_base.specs.Plain.{Array}
-use Rattle.array_spec.specs.Stored.{all_facts}
+use Rattle.array_spec.specs.Prelude.{Array, all_facts, NextNumbers}
 use Rattle.memory_spec.specs.Tables.{patches}
 use Rattle.memory_spec.specs.Memory.{Memory, Contents, FactsRead, ReadsAs}
-use Rattle.boot_codec.specs.declared.record.NextNumbers.{NextNumbers}
 use Rattle.memory_spec.specs.Whole.{IsWhole}
 use Rattle.memory_spec.specs.Checkpoint.{IsCheckpointed, CheckpointReads, CheckpointIsSound, CheckpointHolds, CheckpointDataHolds}
 use Rattle.memory_spec.proofs.Standing.{written_holds, written_data_holds}

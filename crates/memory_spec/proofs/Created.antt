@@ -6,34 +6,11 @@ use Rattle.std.proofs.lemmas.List.Elements.{Contains-get_or, Contains-push_cases
 use Rattle.std.proofs.lemmas.List.Folds.{list_any_none}
 use Rattle.std.proofs.lemmas.List.Quantifiers.{all_pairs_push}
 use Rattle.std.proofs.lemmas.Slice.Eq.{bytes_eq-Decides}
-use Rattle.pur_base.specs.Sectors.{filled}
-use Rattle.pur_base.specs.Plain.{Array, has, is_named, appended}
-use Rattle.pur_base.specs.Facts.{Facts, any_number, object_key, never}
-use Rattle.pur_base.specs.Keys.{key_of, id_of}
-use Rattle.pur_base.specs.Says.{unless_empty}
-use Rattle.pur_base.specs.Tags.{tag_of}
-use Rattle.pur_base.specs.Visible.{objects, object, range, address, elides, is_elided}
-use Rattle.pur_base.specs.Mediums.{IsOver}
-use Rattle.pur_base.specs.declared.limits.TheConstants.{OBJECTS, OBJECT_SECTORS}
-use Rattle.pur_base.specs.declared.request.Table.{Table}
+use Rattle.array_spec.specs.Prelude.{filled, Array, has, is_named, appended, Facts, any_number, object_key, never, key_of, id_of, unless_empty, tag_of, objects, object, range, address, elides, is_elided, IsOver, OBJECTS, OBJECT_SECTORS, Table, Location, ObjectFact, MediumFact, AddressFact, SegmentFact, ElisionFact, AnyFact, NextNumbers, AreNext, IsFact, AreIdsBelow, AreObjectsSound, AreMediumsSound, AreElisionsSound, OwnsMedium, next_id, not_both, same_some}
 use Rattle.pur_base.specs.declared.request.Table.TheVariants as table
-use Rattle.pur_base.specs.declared.place.Location.{Location}
-use Rattle.pur_base.specs.declared.facts.ObjectFact.{ObjectFact}
-use Rattle.pur_base.specs.declared.facts.MediumFact.{MediumFact}
-use Rattle.pur_base.specs.declared.facts.AddressFact.{AddressFact}
-use Rattle.pur_base.specs.declared.facts.SegmentFact.{SegmentFact}
-use Rattle.pur_base.specs.declared.facts.ElisionFact.{ElisionFact}
-use Rattle.pur_base.specs.declared.facts.AnyFact.{AnyFact}
 use Rattle.pur_base.specs.declared.facts.AnyFact.TheVariants as any
-use Rattle.boot_codec.specs.declared.record.NextNumbers.{NextNumbers}
-use Rattle.boot_codec.specs.Record.{AreNext}
-use Rattle.fact_codec.specs.Fact.{IsFact}
-use Rattle.array_spec.specs.Sound.{AreIdsBelow, AreObjectsSound, AreMediumsSound, AreElisionsSound, OwnsMedium, next_id}
-use Rattle.pyramid.specs.Layers.{AreDistinct, newest_of}
-use Rattle.pyramid.specs.lemmas.Contains.{here, either, nowhere}
+use Rattle.pyramid.specs.Prelude.{AreDistinct, newest_of, here, either, nowhere, id_of_key, all_contained}
 use Rattle.pyramid.proofs.DistinctLemmas.{one_more}
-use Rattle.pyramid.specs.lemmas.Keys.{id_of_key}
-use Rattle.pyramid.specs.lemmas.Layers.{all_contained}
 use Rattle.memory_spec.specs.Tables.{facts, all_of}
 use Rattle.memory_spec.specs.Memory.{Memory, Contents, EntryReads, FactsRead, FitsInMemory, IsThere, AreAddressesThere, IsSound, ReadsAs}
 use Rattle.memory_spec.specs.Adding.{AreNew, IsCreated, HasCreated}
@@ -46,7 +23,6 @@ use Rattle.memory_spec.specs.lemmas.Adding.{only_newest, no_newest, newest_kept,
 use Rattle.memory_spec.specs.lemmas.Moved.{over_before}
 use Rattle.memory_spec.proofs.Creating.{objects_more, create_reads}
 use Rattle.memory_spec.proofs.Putting.{object_fits}
-use Rattle.array_spec.specs.lemmas.Mediums.{not_both, same_some}
 
 -- ---- ids that aren't given yet
 

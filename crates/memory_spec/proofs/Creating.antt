@@ -3,18 +3,11 @@ use Rattle.std.proofs.Common.{◌≡◌, ℕ, zero, suc, ◌+◌, ◌≤◌, fal
 use Rattle.std.specs.List.{cons_option, range_with_len}
 use Rattle.std.proofs.lemmas.List.{length-replicate, get_or-replicate}
 use Rattle.std.proofs.lemmas.List.Elements.{filter_map-append}
-use Rattle.pur_base.specs.Sectors.{filled}
-use Rattle.pur_base.specs.Facts.{Facts}
-use Rattle.pur_base.specs.Visible.{objects, object}
-use Rattle.pur_base.specs.Mediums.{unwritten}
-use Rattle.pur_base.specs.declared.facts.Target.TheVariants.{Zero}
-use Rattle.pur_base.specs.declared.facts.ObjectFact.{ObjectFact}
-use Rattle.array_spec.specs.Base.{is_snapshot}
+use Rattle.array_spec.specs.Prelude.{filled, Facts, objects, object, unwritten, Zero, ObjectFact, is_snapshot, not_both}
 use Rattle.memory_spec.specs.Memory.{EntryReads}
 use Rattle.memory_spec.specs.Adding.{IsCreated, CreateReads}
 use Rattle.memory_spec.specs.lemmas.Lists.{range_more, zip_append, zip_weaker}
 use Rattle.memory_spec.specs.lemmas.Moved.{over_before, entry_same}
-use Rattle.array_spec.specs.lemmas.Mediums.{not_both}
 
 module _ (old new : Facts) (x : ObjectFact) (made : IsCreated old new x) where
   object_new : object new x.object.0 ≡ Some x

@@ -2,28 +2,10 @@
 use Rattle.std.proofs.Common.{◌≡◌, ◌≢◌, ◌⊎◌, ℕ, ◌+◌, ◌-◌, ◌<◌, ◌≤◌, true, false, List, length, refl, sym, ap, ◌∙◌, arith, inl, inr, subst, Option, Some, None, option_map, is_some, Contains, AllPairs}
 use Rattle.std.specs.List.{AllByRecursion, AllZip}
 use Rattle.std.proofs.lemmas.Bool.{cases_Bool}
-use Rattle.pur_base.specs.Facts.{any_number, object_key, medium_key, address_key, segment_key, never, is_empty_range}
-use Rattle.pur_base.specs.Keys.{key_of, id_of}
-use Rattle.pur_base.specs.Plain.{Array, Entry}
-use Rattle.pur_base.specs.Says.{says}
-use Rattle.pur_base.specs.Mediums.{Reads, here, below, unwritten, IsOver}
-use Rattle.pur_base.specs.Visible.{objects, object, range, address, segment, is_elided}
-use Rattle.pur_base.specs.declared.limits.TheConstants.{OBJECT_SECTORS, OBJECTS}
+use Rattle.array_spec.specs.Prelude.{any_number, object_key, medium_key, address_key, segment_key, never, is_empty_range, key_of, id_of, Array, Entry, says, Reads, here, below, unwritten, IsOver, objects, object, range, address, segment, is_elided, OBJECT_SECTORS, OBJECTS, Location, Target, Stored, ObjectFact, MediumFact, AddressFact, SegmentFact, ElisionFact, AnyFact, NextNumbers, AreNext, AreIdsBelow, AreObjectsSound, AreMediumsSound, OwnsMedium, next_id}
 use Rattle.pur_base.specs.declared.request.Table.TheVariants as table
-use Rattle.pur_base.specs.declared.place.Location.{Location}
-use Rattle.pur_base.specs.declared.facts.Target.{Target}
-use Rattle.pur_base.specs.declared.facts.Target.TheVariants.{Stored}
-use Rattle.pur_base.specs.declared.facts.ObjectFact.{ObjectFact}
-use Rattle.pur_base.specs.declared.facts.MediumFact.{MediumFact}
-use Rattle.pur_base.specs.declared.facts.AddressFact.{AddressFact}
-use Rattle.pur_base.specs.declared.facts.SegmentFact.{SegmentFact}
-use Rattle.pur_base.specs.declared.facts.ElisionFact.{ElisionFact}
-use Rattle.pur_base.specs.declared.facts.AnyFact.{AnyFact}
 use Rattle.pur_base.specs.declared.facts.AnyFact.TheVariants as any
-use Rattle.boot_codec.specs.declared.record.NextNumbers.{NextNumbers}
-use Rattle.boot_codec.specs.Record.{AreNext}
-use Rattle.array_spec.specs.Sound.{AreIdsBelow, AreObjectsSound, AreMediumsSound, OwnsMedium, next_id}
-use Rattle.pyramid.specs.lemmas.Keys.{id_of_key}
+use Rattle.pyramid.specs.Prelude.{id_of_key}
 use Rattle.memory_spec.specs.Tables.{facts, all_of}
 use Rattle.memory_spec.specs.Memory.{Memory, Contents, EntryReads, FactsRead, FitsInMemory, IsThere, IsSound}
 use Rattle.memory_spec.specs.lemmas.Lists.{each_by_recursion, of_each, zip_weaker_in}

@@ -1,13 +1,8 @@
 -- The small memory, step by step: no facts, two creations, and a write.
 use Rattle.std.proofs.Common.{◌≡◌, ◌≢◌, ℕ, [], ◌∷◌, length, refl, sym, ap, ◌∙◌, arith, inl, inr, subst, Some, None, Contains, AllPairs}
 use Rattle.std.proofs.lemmas.List.{length-replicate}
-use Rattle.pur_base.specs.Sectors.{filled}
-use Rattle.pur_base.specs.Tags.{tag_of}
-use Rattle.pur_base.specs.declared.limits.TheConstants.{SECTOR_BYTES}
-use Rattle.pur_base.specs.declared.facts.Target.{Target}
-use Rattle.pur_base.specs.declared.facts.Target.TheVariants.{Stored, Zero}
-use Rattle.array_spec.specs.Sound.{OwnsMedium, Grows, FitTogether}
-use Rattle.pyramid.specs.lemmas.Contains.{here, there, either, nowhere}
+use Rattle.array_spec.specs.Prelude.{filled, tag_of, SECTOR_BYTES, Target, Stored, Zero, OwnsMedium, Grows, FitTogether}
+use Rattle.pyramid.specs.Prelude.{here, there, either, nowhere}
 use Rattle.memory_spec.specs.Memory.{Memory, IsSound}
 use Rattle.memory_spec.specs.Adding.{HasCreated, HasPut}
 use Rattle.memory_spec.specs.Examples.{volume, written, memory_of, next_of, TwoVolumesRead}

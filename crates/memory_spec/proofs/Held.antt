@@ -5,20 +5,7 @@ use Rattle.std.specs.Cmp.Lexicographic.{same_text}
 use Rattle.std.proofs.lemmas.Bool.{cases_Bool}
 use Rattle.std.proofs.lemmas.Slice.Eq.{bytes_eq-Decides}
 use Rattle.std.specs.Prelude.{option_and_then, if◌then◌else◌}
-use Rattle.pur_base.specs.Devices.{Geometry, Image, View, drive}
-use Rattle.pur_base.specs.Facts.{Facts}
-use Rattle.pur_base.specs.Visible.{segment}
-use Rattle.pur_base.specs.declared.facts.SegmentFact.{SegmentFact}
-use Rattle.boot_codec.specs.declared.record.BootRecord.{BootRecord}
-use Rattle.boot_codec.specs.Region.{BootSlot, body_in, names, with_body}
-use Rattle.boot_codec.specs.Spelling.{spelling}
-use Rattle.segment_codec.specs.Position.{stripe_of}
-use Rattle.segment_codec.specs.Stripes.{SectorStands}
-use Rattle.array_spec.specs.Sound.{ArePlaces}
-use Rattle.array_spec.specs.Stored.{all_facts}
-use Rattle.array_spec.specs.lemmas.Fewer.{places_keep}
-use Rattle.array_spec.specs.lemmas.Moves.{Keeps}
-use Rattle.array_spec.specs.Held.{AreSomeOf, AreEnough}
+use Rattle.array_spec.specs.Prelude.{Geometry, Image, View, drive, Facts, segment, SegmentFact, BootRecord, BootSlot, body_in, names, with_body, spelling, stripe_of, SectorStands, ArePlaces, all_facts, places_keep, Keeps, AreSomeOf, AreEnough}
 use Rattle.memory_spec.specs.Memory.{Contents}
 use Rattle.memory_spec.specs.Contents.{ContentsStand}
 use Rattle.memory_spec.specs.LoadedLaws.{HeldTablesRead, showing}

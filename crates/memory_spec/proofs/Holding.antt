@@ -1,16 +1,7 @@
 -- Tables that say the same hold the same array.
 use Rattle.std.proofs.Common.{◌≡◌, ℕ, ◌+◌, ◌-◌, List, [], sym, ◌∙◌, subst, slice_index_or}
 use Rattle.std.specs.List.{AllZip}
-use Rattle.pur_base.specs.Devices.{View}
-use Rattle.pur_base.specs.Facts.{Facts}
-use Rattle.pur_base.specs.Mediums.{Reads, here, below, unwritten}
-use Rattle.pur_base.specs.Plain.{Entry, Array}
-use Rattle.pur_base.specs.Visible.{objects, segment}
-use Rattle.pur_base.specs.declared.facts.Target.{Target}
-use Rattle.pur_base.specs.declared.facts.Target.TheVariants.{Stored, Zero}
-use Rattle.pur_base.specs.declared.facts.ObjectFact.{ObjectFact}
-use Rattle.array_spec.specs.Base.{TargetStands, EntryStands, BaseStands}
-use Rattle.array_spec.specs.Stored.{all_facts}
+use Rattle.array_spec.specs.Prelude.{View, Facts, Reads, here, below, unwritten, Entry, Array, objects, segment, Target, Stored, Zero, ObjectFact, TargetStands, EntryStands, BaseStands, all_facts}
 use Rattle.memory_spec.specs.Adding.{SayTheSame}
 use Rattle.memory_spec.specs.lemmas.Lists.{zip_weaker}
 use Rattle.memory_spec.specs.lemmas.Moved.{over_kept, over_before}

@@ -3,19 +3,10 @@ use Rattle.std.proofs.Common.{◌≡◌, List, [], ◌∷◌, refl, inl, inr, su
 use Rattle.std.specs.List.{AllZip}
 use Rattle.std.proofs.lemmas.List.Elements.{All-contains, Contains-append_cases}
 use Rattle.std.proofs.lemmas.Option.{slice_get-get_or}
-use Rattle.pur_base.specs.Devices.{View}
-use Rattle.pur_base.specs.Facts.{by_table, as_medium, as_segment}
-use Rattle.pur_base.specs.declared.facts.MediumFact.{MediumFact}
-use Rattle.pur_base.specs.declared.facts.SegmentFact.{SegmentFact}
-use Rattle.pur_base.specs.declared.facts.AnyFact.{AnyFact}
+use Rattle.array_spec.specs.Prelude.{View, by_table, as_medium, as_segment, MediumFact, SegmentFact, AnyFact, Patch, IsFact, PatchStands, in_patches, same_some}
 use Rattle.pur_base.specs.declared.facts.AnyFact.TheVariants as any
-use Rattle.boot_codec.specs.declared.patch.Patch.{Patch}
-use Rattle.fact_codec.specs.Fact.{IsFact}
-use Rattle.array_spec.specs.Stored.{PatchStands, in_patches}
-use Rattle.pyramid.specs.lemmas.Contains.{nowhere}
-use Rattle.pyramid.specs.lemmas.Layers.{all_contained}
+use Rattle.pyramid.specs.Prelude.{nowhere, all_contained}
 use Rattle.memory_spec.specs.lemmas.Lists.{of_filter_map}
-use Rattle.array_spec.specs.lemmas.Mediums.{same_some}
 
 -- ---- of each table
 

@@ -1,18 +1,9 @@
 -- Patches that are sound by their record are sound memory, and so are they once two of them were merged.
 use Rattle.std.proofs.Common.{◌≢◌, ℕ, ◌<◌, refl, sym, ap, ◌∙◌, inl, inr, subst, All, Contains}
 use Rattle.std.proofs.lemmas.List.Elements.{All-contains}
-use Rattle.pur_base.specs.Devices.{Geometry}
-use Rattle.pur_base.specs.Facts.{Facts, any_number}
-use Rattle.pur_base.specs.declared.facts.Target.{Target}
-use Rattle.pur_base.specs.declared.facts.Target.TheVariants.{Stored, Zero}
-use Rattle.pur_base.specs.declared.facts.AnyFact.{AnyFact}
+use Rattle.array_spec.specs.Prelude.{Geometry, Facts, any_number, Target, Stored, Zero, AnyFact, BootRecord, AreNext, IsFact, IsTarget, AreSound, AreIdsBelow, AreObjectsSound, AreMediumsSound, AreAddressesSound, AreSegmentsSound, AreElisionsSound, in_patches}
 use Rattle.pur_base.specs.declared.facts.AnyFact.TheVariants as any
-use Rattle.boot_codec.specs.declared.record.BootRecord.{BootRecord}
-use Rattle.boot_codec.specs.Record.{AreNext}
-use Rattle.fact_codec.specs.Fact.{IsFact, IsTarget}
-use Rattle.array_spec.specs.Sound.{AreSound, AreIdsBelow, AreObjectsSound, AreMediumsSound, AreAddressesSound, AreSegmentsSound, AreElisionsSound}
-use Rattle.array_spec.specs.Stored.{in_patches}
-use Rattle.pyramid.specs.lemmas.Contains.{nowhere}
+use Rattle.pyramid.specs.Prelude.{nowhere}
 use Rattle.memory_spec.specs.Tables.{Tables, facts, patches, all_of}
 use Rattle.memory_spec.specs.Memory.{Memory, FitsTarget, FitsInMemory, AreAddressesThere, AreNumbered, IsSound}
 use Rattle.memory_spec.specs.lemmas.Lists.{of_each, pairs_of}

@@ -1,13 +1,8 @@
 -- Memory of the patches alone: with nothing unflushed, and nothing staged.
 use Rattle.std.proofs.Common.{◌≡◌, ℕ, Bool, false, [], refl, sym, ap, arith, subst}
-use Rattle.pur_base.specs.Facts.{object_key, medium_key, address_key, segment_key, elision_key, never, is_empty_range, apart, is_narrower}
-use Rattle.pur_base.specs.Visible.{is_elided}
-use Rattle.pur_base.specs.declared.request.Table.{Table}
+use Rattle.array_spec.specs.Prelude.{object_key, medium_key, address_key, segment_key, elision_key, never, is_empty_range, apart, is_narrower, is_elided, Table, NextNumbers, all_facts}
 use Rattle.pur_base.specs.declared.request.Table.TheVariants as table
-use Rattle.boot_codec.specs.declared.record.NextNumbers.{NextNumbers}
-use Rattle.array_spec.specs.Stored.{all_facts}
-use Rattle.pyramid.specs.Layers.{Layers, IsLayered}
-use Rattle.pyramid.specs.lemmas.Layers.{rises_alone}
+use Rattle.pyramid.specs.Prelude.{Layers, IsLayered, rises_alone}
 use Rattle.pyramid.proofs.PlaceLemmas.{replaced, merge_layered}
 use Rattle.memory_spec.specs.Tables.{Tables, facts, flushed, patches}
 use Rattle.memory_spec.specs.Memory.{Memory}

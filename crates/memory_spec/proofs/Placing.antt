@@ -1,26 +1,9 @@
 -- Memory stays sound, and reads the same, when staged sectors are placed.
 use Rattle.std.proofs.Common.{◌≡◌, ◌⊎◌, ℕ, zero, suc, ◌<◌, ◌≤◌, true, List, [], length, refl, sym, ap, ◌∙◌, arith, inl, inr, subst, Option, Some, None, option_map, option_and_then, is_some, slice_get, if◌then◌else◌, Contains, eq-eqb, ne_eqb}
-use Rattle.pur_base.specs.Facts.{any_number, segment_key, never}
-use Rattle.pur_base.specs.Keys.{key_of, id_of}
-use Rattle.pur_base.specs.Says.{unless_empty}
-use Rattle.pur_base.specs.Visible.{address, segment, is_elided}
-use Rattle.pur_base.specs.declared.request.Table.{Table}
+use Rattle.array_spec.specs.Prelude.{any_number, segment_key, never, key_of, id_of, unless_empty, address, segment, is_elided, Table, Location, Target, Stored, Zero, ObjectFact, MediumFact, AddressFact, SegmentFact, ElisionFact, AnyFact, says_is, AreIdsBelow, AreObjectsSound, AreElisionsSound, next_id, same_some}
 use Rattle.pur_base.specs.declared.request.Table.TheVariants as table
-use Rattle.pur_base.specs.declared.place.Location.{Location}
-use Rattle.pur_base.specs.declared.facts.Target.{Target}
-use Rattle.pur_base.specs.declared.facts.Target.TheVariants.{Stored, Zero}
-use Rattle.pur_base.specs.declared.facts.ObjectFact.{ObjectFact}
-use Rattle.pur_base.specs.declared.facts.MediumFact.{MediumFact}
-use Rattle.pur_base.specs.declared.facts.AddressFact.{AddressFact}
-use Rattle.pur_base.specs.declared.facts.SegmentFact.{SegmentFact}
-use Rattle.pur_base.specs.declared.facts.ElisionFact.{ElisionFact}
-use Rattle.pur_base.specs.declared.facts.AnyFact.{AnyFact}
 use Rattle.pur_base.specs.declared.facts.AnyFact.TheVariants as any
-use Rattle.pur_base.specs.lemmas.Says.{says_is}
-use Rattle.array_spec.specs.Sound.{AreIdsBelow, AreObjectsSound, AreElisionsSound, next_id}
-use Rattle.pyramid.specs.Layers.{AreDistinct, newest_of}
-use Rattle.pyramid.specs.lemmas.Contains.{nowhere}
-use Rattle.pyramid.specs.lemmas.Keys.{id_of_key}
+use Rattle.pyramid.specs.Prelude.{AreDistinct, newest_of, nowhere, id_of_key}
 use Rattle.memory_spec.specs.Tables.{facts, all_of}
 use Rattle.memory_spec.specs.Memory.{Memory, Contents, PlaceReads, TargetReads, FactsRead, FitsTarget, FitsInMemory, IsThere, AreNumbered, IsSound}
 use Rattle.memory_spec.specs.Adding.{AreMoved}
@@ -34,7 +17,6 @@ use Rattle.memory_spec.proofs.Putting.{address_numbers}
 use Rattle.memory_spec.proofs.Created.{not_elided}
 use Rattle.memory_spec.specs.Placing.{placed_target, repointed, IsPlacedAt, IsPlacing, PlacingReads}
 use Rattle.memory_spec.proofs.Repointed.{address_placed, visible_stays}
-use Rattle.array_spec.specs.lemmas.Mediums.{same_some}
 
 place_of : (contents : Contents) (n index : ℕ) (body : List ℕ) → 1 ≤ n → body ≡ contents n index → PlaceReads contents [] n index body
 place_of contents zero index body l e = absurd (omega (arith, l))

@@ -3,27 +3,10 @@ use Rattle.std.proofs.Common.{◌≡◌, ◌⊎◌, ℕ, suc, ◌+◌, ◌-◌, 
 use Rattle.std.specs.List.{AllByRecursion, AllZip}
 use Rattle.std.proofs.lemmas.Option.{slice_get_within}
 use Rattle.std.proofs.lemmas.List.Elements.{Contains-append_cases}
-use Rattle.pur_base.specs.Plain.{Array, replaced}
-use Rattle.pur_base.specs.Facts.{Facts, any_number}
-use Rattle.pur_base.specs.Visible.{objects, object, address, is_elided}
-use Rattle.pur_base.specs.declared.limits.TheConstants.{SECTOR_BYTES, OBJECT_SECTORS}
+use Rattle.array_spec.specs.Prelude.{Array, replaced, Facts, any_number, objects, object, address, is_elided, SECTOR_BYTES, OBJECT_SECTORS, Location, Target, Stored, Zero, ObjectFact, MediumFact, AddressFact, SegmentFact, ElisionFact, AnyFact, NextNumbers, AreNext, NUMBER_LIMIT, IsNext, IsFact, LeadsNowhere, LeadsDown, AreIdsBelow, AreObjectsSound, AreElisionsSound, next_id}
 use Rattle.pur_base.specs.declared.request.Table.TheVariants as table
-use Rattle.pur_base.specs.declared.place.Location.{Location}
-use Rattle.pur_base.specs.declared.facts.Target.{Target}
-use Rattle.pur_base.specs.declared.facts.Target.TheVariants.{Stored, Zero}
-use Rattle.pur_base.specs.declared.facts.ObjectFact.{ObjectFact}
-use Rattle.pur_base.specs.declared.facts.MediumFact.{MediumFact}
-use Rattle.pur_base.specs.declared.facts.AddressFact.{AddressFact}
-use Rattle.pur_base.specs.declared.facts.SegmentFact.{SegmentFact}
-use Rattle.pur_base.specs.declared.facts.ElisionFact.{ElisionFact}
-use Rattle.pur_base.specs.declared.facts.AnyFact.{AnyFact}
 use Rattle.pur_base.specs.declared.facts.AnyFact.TheVariants as any
-use Rattle.boot_codec.specs.declared.record.NextNumbers.{NextNumbers}
-use Rattle.boot_codec.specs.Record.{AreNext}
-use Rattle.fact_codec.specs.declared.limits.TheConstants.{NUMBER_LIMIT}
-use Rattle.fact_codec.specs.Fact.{IsNext, IsFact, LeadsNowhere, LeadsDown}
-use Rattle.array_spec.specs.Sound.{AreIdsBelow, AreObjectsSound, AreElisionsSound, next_id}
-use Rattle.pyramid.specs.Layers.{AreDistinct}
+use Rattle.pyramid.specs.Prelude.{AreDistinct}
 use Rattle.memory_spec.specs.Tables.{facts, all_of}
 use Rattle.memory_spec.specs.Memory.{Memory, Contents, PlaceReads, TargetReads, FactsRead, FitsTarget, FitsInMemory, IsThere, IsSound}
 use Rattle.memory_spec.specs.Adding.{address_facts, IsOverlaid, IsOwnMedium, AreWithinSize, HasPut}

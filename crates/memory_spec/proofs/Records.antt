@@ -3,19 +3,10 @@ use Rattle.std.proofs.Common.{◌≡◌, ◌≢◌, ℕ, suc, ◌<◌, List, [],
 use Rattle.std.specs.List.{AllByRecursion, AllZip}
 use Rattle.std.proofs.lemmas.List.Elements.{Contains-append_left, Contains-append_right, Contains-append_cases}
 use Rattle.std.proofs.lemmas.List.Kept.{AllPairs-cons}
-use Rattle.pur_base.specs.Devices.{Geometry}
-use Rattle.pur_base.specs.Facts.{Facts, any_number, table_tag, object_key, medium_key, address_key, segment_key, elision_key}
-use Rattle.pur_base.specs.declared.facts.AnyFact.{AnyFact}
+use Rattle.array_spec.specs.Prelude.{Geometry, Facts, any_number, table_tag, object_key, medium_key, address_key, segment_key, elision_key, AnyFact, NextNumbers, BootRecord, Patch, in_patches, AreSound, AreIdsBelow, AreObjectsSound, AreMediumsSound, AreAddressesSound, AreSegmentsSound, AreElisionsSound, AreSequencesSound, IsOlder, with_facts}
 use Rattle.pur_base.specs.declared.facts.AnyFact.TheVariants as any
-use Rattle.boot_codec.specs.declared.record.NextNumbers.{NextNumbers}
-use Rattle.boot_codec.specs.declared.record.BootRecord.{BootRecord}
-use Rattle.boot_codec.specs.declared.patch.Patch.{Patch}
-use Rattle.array_spec.specs.Stored.{in_patches}
-use Rattle.array_spec.specs.Sound.{AreSound, AreIdsBelow, AreObjectsSound, AreMediumsSound, AreAddressesSound, AreSegmentsSound, AreElisionsSound, AreSequencesSound, IsOlder, with_facts}
-use Rattle.pyramid.specs.Layers.{facts_of, Rises}
-use Rattle.pyramid.specs.lemmas.Contains.{here, there, either, nowhere}
+use Rattle.pyramid.specs.Prelude.{facts_of, Rises, here, there, either, nowhere, all_contained, below_at}
 use Rattle.pyramid.proofs.DistinctLemmas.{Differ, differ_layers}
-use Rattle.pyramid.specs.lemmas.Layers.{all_contained, below_at}
 use Rattle.memory_spec.specs.Tables.{Tables, facts, patches, all_of}
 use Rattle.memory_spec.specs.Memory.{Memory, IsSound}
 use Rattle.memory_spec.specs.lemmas.Lists.{each_by_recursion, of_each, of_map, in_map}

@@ -1,19 +1,10 @@
 -- Facts that are repointed say the placed targets.
 use Rattle.std.proofs.Common.{◌≡◌, ℕ, ◌≤◌, Bool, true, false, List, refl, sym, ap, ◌∙◌, arith, inl, inr, subst, Option, Some, None, IfSome, option_map, option_and_then, if◌then◌else◌, Contains, eq-eqb, eqb-true}
-use Rattle.pur_base.specs.Facts.{Facts, address_key, never}
-use Rattle.pur_base.specs.Keys.{key_of, id_of}
-use Rattle.pur_base.specs.Says.{has_key, unless_empty}
-use Rattle.pur_base.specs.Visible.{address, is_elided}
+use Rattle.array_spec.specs.Prelude.{Facts, address_key, never, key_of, id_of, has_key, unless_empty, address, is_elided, Location, Target, AddressFact, not_both, same_some}
 use Rattle.pur_base.specs.declared.request.Table.TheVariants as table
-use Rattle.pur_base.specs.declared.place.Location.{Location}
-use Rattle.pur_base.specs.declared.facts.Target.{Target}
-use Rattle.pur_base.specs.declared.facts.AddressFact.{AddressFact}
-use Rattle.pyramid.specs.Layers.{AreDistinct, newest_of}
-use Rattle.pyramid.specs.lemmas.Newest.{newest_found}
-use Rattle.pyramid.specs.lemmas.Sets.{newest_over}
+use Rattle.pyramid.specs.Prelude.{AreDistinct, newest_of, newest_found, newest_over}
 use Rattle.memory_spec.specs.lemmas.Adding.{no_newest}
 use Rattle.memory_spec.specs.Placing.{placed_target, repointed, AreRepointed}
-use Rattle.array_spec.specs.lemmas.Mediums.{not_both, same_some}
 
 -- the newest fact of a key
 abbrev pub Newest : ℕ → List AddressFact → Option AddressFact

@@ -1,10 +1,8 @@
 -- A merge leaves out facts of patches alone, and what is left says the same.
 use Rattle.std.proofs.Common.{sym, subst, append-nil, Contains}
 use Rattle.std.proofs.lemmas.List.Elements.{Contains-append_left}
-use Rattle.pur_base.specs.Facts.{elision_key, is_narrower}
-use Rattle.pur_base.specs.declared.facts.ElisionFact.{ElisionFact}
-use Rattle.array_spec.specs.Stored.{all_facts}
-use Rattle.pyramid.specs.Layers.{Grow, facts_of}
+use Rattle.array_spec.specs.Prelude.{elision_key, is_narrower, ElisionFact, all_facts}
+use Rattle.pyramid.specs.Prelude.{Grow, facts_of}
 use Rattle.memory_spec.specs.Tables.{facts, patches}
 use Rattle.memory_spec.specs.Memory.{Memory, IsSound}
 use Rattle.memory_spec.specs.Merging.{HaveShrunk}

@@ -1,26 +1,9 @@
 -- What memory reads of sectors that were placed stands where they stand.
 use Rattle.std.proofs.Common.{◌≡◌, ℕ, zero, suc, ◌<◌, List, [], refl, sym, ap, ◌∙◌, arith, subst, Some, slice_index_or}
 use Rattle.std.proofs.lemmas.Option.{slice_get_within}
-use Rattle.pur_base.specs.Devices.{Geometry, View}
-use Rattle.pur_base.specs.declared.facts.AnyFact.{AnyFact}
-use Rattle.boot_codec.specs.declared.record.BootRecord.{BootRecord}
-use Rattle.array_spec.specs.Meaning.{TablesStand}
-use Rattle.pur_base.specs.Facts.{Facts}
-use Rattle.pur_base.specs.Plain.{Entry, Array}
-use Rattle.pur_base.specs.Mediums.{Reads, here, below, unwritten}
-use Rattle.pur_base.specs.Visible.{address, segment, objects}
-use Rattle.pur_base.specs.declared.place.Location.{Location}
-use Rattle.pur_base.specs.declared.facts.Target.{Target}
-use Rattle.pur_base.specs.declared.facts.Target.TheVariants.{Stored, Zero}
-use Rattle.pur_base.specs.declared.facts.ObjectFact.{ObjectFact}
-use Rattle.pur_base.specs.declared.facts.SegmentFact.{SegmentFact}
-use Rattle.segment_codec.specs.Stripes.{SectorStands}
-use Rattle.array_spec.specs.Base.{TargetStands, EntryStands, BaseStands}
-use Rattle.array_spec.specs.Sound.{AreSound, AreAddressesSound}
-use Rattle.array_spec.specs.Stored.{all_facts}
+use Rattle.array_spec.specs.Prelude.{Geometry, View, AnyFact, BootRecord, TablesStand, Facts, Entry, Array, Reads, here, below, unwritten, address, segment, objects, Location, Target, Stored, Zero, ObjectFact, SegmentFact, SectorStands, TargetStands, EntryStands, BaseStands, AreSound, AreAddressesSound, all_facts, AreSomeOf, AreEnough}
 use Rattle.memory_spec.specs.Memory.{Contents, PlaceReads, TargetReads, EntryReads, FactsRead}
 use Rattle.memory_spec.specs.lemmas.Lists.{zip_weaker}
-use Rattle.array_spec.specs.Held.{AreSomeOf, AreEnough}
 use Rattle.memory_spec.specs.Contents.{WrittenOn, AreAmong, WrittenDataHolds, ContentsStand, BaseIsRead, WrittenHolds}
 
 -- where a sector reads as a place in a segment, some address says so

@@ -2,22 +2,8 @@
 use Rattle.std.proofs.Common.{◌≡◌, ◌⊎◌, ℕ, ◌/◌, ◌<◌, ◌≤◌, List, [], refl, sym, arith, inl, inr, subst, Option, Some, None, Contains, slice_index_or}
 use Rattle.std.specs.Int.{div_ceil}
 use Rattle.std.proofs.lemmas.Bool.{cases_lt}
-use Rattle.pur_base.specs.Devices.{View}
-use Rattle.pur_base.specs.Facts.{Facts}
-use Rattle.pur_base.specs.Mediums.{Reads}
-use Rattle.pur_base.specs.Plain.{Entry, Array}
-use Rattle.pur_base.specs.Visible.{objects, segment}
-use Rattle.pur_base.specs.declared.facts.Target.{Target}
-use Rattle.pur_base.specs.declared.facts.Target.TheVariants.{Stored, Zero}
-use Rattle.pur_base.specs.declared.facts.ObjectFact.{ObjectFact}
-use Rattle.pur_base.specs.declared.facts.SegmentFact.{SegmentFact}
+use Rattle.array_spec.specs.Prelude.{View, Facts, Reads, Entry, Array, objects, segment, Target, Stored, Zero, ObjectFact, SegmentFact, IsFact, SectorStands, StripesStand, sector_in, TargetStands, EntryStands, BaseStands, AreAddressesSound, in_patches, all_facts, one_sector, same_some}
 use Rattle.pur_base.specs.declared.facts.AnyFact.TheVariants as any
-use Rattle.fact_codec.specs.Fact.{IsFact}
-use Rattle.segment_codec.specs.Stripes.{SectorStands, StripesStand, sector_in}
-use Rattle.array_spec.specs.Base.{TargetStands, EntryStands, BaseStands}
-use Rattle.array_spec.specs.Sound.{AreAddressesSound}
-use Rattle.array_spec.specs.Stored.{in_patches, all_facts}
-use Rattle.array_spec.specs.lemmas.OneSector.{one_sector}
 use Rattle.memory_spec.specs.Memory.{Contents, TargetReads, EntryReads, FactsRead}
 use Rattle.memory_spec.specs.lemmas.Lists.{zip_weaker}
 use Rattle.memory_spec.specs.Contents.{ContentsStand}
@@ -25,7 +11,6 @@ use Rattle.memory_spec.proofs.Standing.{said}
 use Rattle.memory_spec.specs.LoadedLaws.{StoredTablesRead}
 use Rattle.memory_spec.proofs.Lawful.{patches_lawful, segment_lawful}
 use Rattle.memory_spec.proofs.Sound.{segment_id, place_reads}
-use Rattle.array_spec.specs.lemmas.Mediums.{same_some}
 
 -- ---- what the segments hold
 

@@ -1,17 +1,8 @@
 -- Facts that a command adds, and what the tables then say.
 use Rattle.std.specs.Prelude.{◌≡◌, ◌≢◌, ◌⊎◌, ◌↔◌, ℕ, ◌+◌, ◌-◌, ◌<◌, ◌≤◌, false, List, [], ◌∷◌, ◌++◌, length, replicate, Option, Some, None, Contains, slice_get, ◌==◌, ◌&&◌, nat_le, nat_lt, if◌then◌else◌}
 use Rattle.std.specs.List.{AllZip}
-use Rattle.pur_base.specs.Plain.{Array, replaced, appended}
-use Rattle.pur_base.specs.Sectors.{filled}
-use Rattle.pur_base.specs.declared.limits.TheConstants.{OBJECT_SECTORS}
-use Rattle.pur_base.specs.Facts.{Facts}
-use Rattle.pur_base.specs.Visible.{objects, object, range, address}
-use Rattle.pur_base.specs.declared.facts.Target.{Target}
-use Rattle.pur_base.specs.declared.facts.ObjectKind.TheVariants.{Volume}
-use Rattle.pur_base.specs.declared.facts.ObjectFact.{ObjectFact}
-use Rattle.pur_base.specs.declared.facts.MediumFact.{MediumFact}
-use Rattle.pur_base.specs.declared.facts.AddressFact.{AddressFact}
-use Rattle.pyramid.specs.Layers.{facts_in}
+use Rattle.array_spec.specs.Prelude.{Array, replaced, appended, filled, OBJECT_SECTORS, Facts, objects, object, range, address, Target, Volume, ObjectFact, MediumFact, AddressFact}
+use Rattle.pyramid.specs.Prelude.{facts_in}
 use Rattle.memory_spec.specs.Memory.{Memory, Contents, TargetReads, FactsRead}
 
 -- ---- addresses of a span of a medium

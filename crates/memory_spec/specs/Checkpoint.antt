@@ -1,16 +1,7 @@
 -- A checkpoint, step by step, and that its record holds the array.
 use Rattle.std.specs.Prelude.{◌≡◌, ℕ, Bool, List, []}
 use Rattle.std.specs.List.{AllZip}
-use Rattle.pur_base.specs.Devices.{Geometry, Image}
-use Rattle.pur_base.specs.Plain.{Array}
-use Rattle.pur_base.specs.declared.place.Location.{Location}
-use Rattle.pur_base.specs.declared.facts.SegmentFact.{SegmentFact}
-use Rattle.pur_base.specs.declared.facts.ElisionFact.{ElisionFact}
-use Rattle.boot_codec.specs.declared.record.BootRecord.{BootRecord}
-use Rattle.boot_codec.specs.Region.{BootSlot}
-use Rattle.array_spec.specs.Sound.{AreSound, AreSegmentsSound}
-use Rattle.array_spec.specs.Stored.{all_facts}
-use Rattle.array_spec.specs.Held.{TablesHold, DataHolds, AreSomeOf}
+use Rattle.array_spec.specs.Prelude.{Geometry, Image, Array, Location, SegmentFact, ElisionFact, BootRecord, BootSlot, AreSound, AreSegmentsSound, all_facts, TablesHold, DataHolds, AreSomeOf}
 use Rattle.memory_spec.specs.Tables.{facts, patches}
 use Rattle.memory_spec.specs.Memory.{Memory, Contents, FactsRead, ReadsAs}
 use Rattle.memory_spec.specs.Contents.{WrittenOn, AreAmong}

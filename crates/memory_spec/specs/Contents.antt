@@ -1,18 +1,6 @@
 -- Sectors that were placed stand on the drives, and what memory reads of them stands there too.
 use Rattle.std.specs.Prelude.{◌≡◌, ◌⊎◌, ℕ, ◌<◌, Bool, true, false, List, [], Some, None, slice_index_or}
-use Rattle.pur_base.specs.Devices.{Geometry, Image, View, drive}
-use Rattle.pur_base.specs.Facts.{Facts}
-use Rattle.pur_base.specs.Plain.{Array}
-use Rattle.pur_base.specs.Visible.{segment}
-use Rattle.pur_base.specs.declared.facts.SegmentFact.{SegmentFact}
-use Rattle.pur_base.specs.declared.facts.AnyFact.{AnyFact}
-use Rattle.boot_codec.specs.declared.record.BootRecord.{BootRecord}
-use Rattle.boot_codec.specs.Region.{BootSlot}
-use Rattle.segment_codec.specs.Stripes.{SectorStands, StripesStand}
-use Rattle.array_spec.specs.Stored.{PatchesStand, all_facts}
-use Rattle.array_spec.specs.Sound.{AreSound, AreAddressesSound}
-use Rattle.array_spec.specs.Base.{BaseStands}
-use Rattle.array_spec.specs.Held.{TablesHold, DataHolds, AreSomeOf, AreEnough}
+use Rattle.array_spec.specs.Prelude.{Geometry, Image, View, drive, Facts, Array, segment, SegmentFact, AnyFact, BootRecord, BootSlot, SectorStands, StripesStand, PatchesStand, all_facts, AreSound, AreAddressesSound, BaseStands, TablesHold, DataHolds, AreSomeOf, AreEnough}
 use Rattle.memory_spec.specs.Memory.{Contents, FactsRead}
 
 -- each sector that was placed in a visible segment stands where the segment lies

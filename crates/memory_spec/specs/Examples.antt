@@ -1,13 +1,7 @@
 -- A small memory: volumes a and b on mediums 1 and 2, and one sector of b written.
 use Rattle.std.specs.Prelude.{ℕ, false, List, [], ◌∷◌}
-use Rattle.pur_base.specs.Plain.{Array}
-use Rattle.pur_base.specs.Sectors.{filled}
-use Rattle.pur_base.specs.declared.facts.ObjectKind.TheVariants.{Volume}
-use Rattle.pur_base.specs.declared.facts.Target.TheVariants.{Stored}
-use Rattle.pur_base.specs.declared.facts.ObjectFact.{ObjectFact}
-use Rattle.pur_base.specs.declared.facts.AddressFact.{AddressFact}
-use Rattle.boot_codec.specs.declared.record.NextNumbers.{NextNumbers}
-use Rattle.pyramid.specs.Layers.{Layers}
+use Rattle.array_spec.specs.Prelude.{Array, filled, Volume, Stored, ObjectFact, AddressFact, NextNumbers}
+use Rattle.pyramid.specs.Prelude.{Layers}
 use Rattle.memory_spec.specs.Memory.{Memory, Contents, ReadsAs}
 
 -- a table of these facts, none of them flushed

@@ -1,10 +1,7 @@
 -- What a flush and a merge make of memory: fewer facts, which say the same.
 use Rattle.std.specs.Prelude.{◌≡◌, ℕ, List, [], ◌++◌, Option, Contains}
-use Rattle.pur_base.specs.Facts.{object_key, medium_key, address_key, segment_key, elision_key}
-use Rattle.pur_base.specs.Plain.{Array}
-use Rattle.pur_base.specs.Visible.{segment, is_elided}
-use Rattle.pur_base.specs.declared.request.Table.{Table}
-use Rattle.pyramid.specs.Layers.{Layers, IsFlushed, patch_facts, patches_of}
+use Rattle.array_spec.specs.Prelude.{object_key, medium_key, address_key, segment_key, elision_key, Array, segment, is_elided, Table}
+use Rattle.pyramid.specs.Prelude.{Layers, IsFlushed, patch_facts, patches_of}
 use Rattle.memory_spec.specs.Tables.{facts}
 use Rattle.memory_spec.specs.Memory.{Memory, Contents, IsSound, ReadsAs}
 use Rattle.memory_spec.specs.Adding.{SayTheSame}

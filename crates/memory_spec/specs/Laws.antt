@@ -1,17 +1,7 @@
 -- What a write, a fill, a zeroing and a creation make of memory that is sound and reads as an array.
 use Rattle.std.specs.Prelude.{◌≡◌, ℕ, ◌+◌, ◌<◌, ◌≤◌, true, false, List, ◌++◌, length, replicate, Contains}
 use Rattle.std.specs.List.{AllZip}
-use Rattle.pur_base.specs.Names.{is_name}
-use Rattle.pur_base.specs.Plain.{Array, has, replaced, appended}
-use Rattle.pur_base.specs.Sectors.{filled}
-use Rattle.pur_base.specs.declared.limits.TheConstants.{SECTOR_BYTES, OBJECTS, OBJECT_SECTORS}
-use Rattle.pur_base.specs.declared.place.Location.{Location}
-use Rattle.pur_base.specs.declared.facts.Target.{Target}
-use Rattle.pur_base.specs.declared.facts.Target.TheVariants.{Stored}
-use Rattle.pur_base.specs.declared.facts.ObjectKind.TheVariants.{Volume}
-use Rattle.pur_base.specs.declared.facts.ObjectFact.{ObjectFact}
-use Rattle.pur_base.specs.Visible.{objects}
-use Rattle.fact_codec.specs.declared.limits.TheConstants.{NUMBER_LIMIT}
+use Rattle.array_spec.specs.Prelude.{is_name, Array, has, replaced, appended, filled, SECTOR_BYTES, OBJECTS, OBJECT_SECTORS, Location, Target, Stored, Volume, ObjectFact, objects, NUMBER_LIMIT}
 use Rattle.memory_spec.specs.Memory.{Memory, Contents, TargetReads, ReadsAs}
 use Rattle.memory_spec.specs.Adding.{address_facts, HasPut, HasCreated, IsOwnMedium}
 use Rattle.memory_spec.specs.Tables.{facts}

@@ -15,3 +15,4 @@ pub mod Merging
 pub mod LoadedLaws
 pub mod MergedLaws
 pub mod lemmas
+pub mod Prelude

@@ -1,16 +1,6 @@
 -- What tables that were loaded read as.
 use Rattle.std.specs.Prelude.{List, [], Some, All}
-use Rattle.pur_base.specs.Devices.{Geometry, Image, View}
-use Rattle.pur_base.specs.Plain.{Array}
-use Rattle.pur_base.specs.declared.facts.AnyFact.{AnyFact}
-use Rattle.boot_codec.specs.declared.record.BootRecord.{BootRecord}
-use Rattle.boot_codec.specs.Region.{BootSlot, of_members}
-use Rattle.fact_codec.specs.Fact.{IsFact}
-use Rattle.array_spec.specs.Stored.{in_patches, all_facts}
-use Rattle.array_spec.specs.Sound.{AreSound}
-use Rattle.array_spec.specs.Base.{BaseStands}
-use Rattle.array_spec.specs.Meaning.{TablesStand}
-use Rattle.array_spec.specs.Held.{TablesHold, AreSomeOf, AreEnough}
+use Rattle.array_spec.specs.Prelude.{Geometry, Image, View, Array, AnyFact, BootRecord, BootSlot, of_members, IsFact, in_patches, all_facts, AreSound, BaseStands, TablesStand, TablesHold, AreSomeOf, AreEnough}
 use Rattle.memory_spec.specs.Memory.{Contents, FactsRead}
 use Rattle.memory_spec.specs.Contents.{ContentsStand}
 

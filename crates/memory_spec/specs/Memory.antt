@@ -1,25 +1,8 @@
 -- What an array keeps in memory beside its log, and the plain array that it reads as.
 use Rattle.std.specs.Prelude.{◌≡◌, ◌⊎◌, ℕ, zero, suc, ◌<◌, ◌≤◌, List, [], length, Some, IsSome, Contains, slice_get, slice_index_or}
 use Rattle.std.specs.List.{AllZip}
-use Rattle.pur_base.specs.Sectors.{filled}
-use Rattle.pur_base.specs.Plain.{Entry, Array}
-use Rattle.pur_base.specs.Facts.{Facts, any_number}
-use Rattle.pur_base.specs.Visible.{objects, object, address, segment}
-use Rattle.pur_base.specs.Mediums.{Reads}
-use Rattle.pur_base.specs.declared.limits.TheConstants.{SECTOR_BYTES, OBJECT_SECTORS, SEGMENT_SECTORS}
-use Rattle.pur_base.specs.declared.place.Location.{Location}
-use Rattle.pur_base.specs.declared.facts.Target.{Target}
-use Rattle.pur_base.specs.declared.facts.Target.TheVariants.{Stored, Zero}
-use Rattle.pur_base.specs.declared.facts.ObjectFact.{ObjectFact}
-use Rattle.pur_base.specs.declared.facts.SegmentFact.{SegmentFact}
-use Rattle.pur_base.specs.declared.facts.AnyFact.{AnyFact}
+use Rattle.array_spec.specs.Prelude.{filled, Entry, Array, Facts, any_number, objects, object, address, segment, Reads, SECTOR_BYTES, OBJECT_SECTORS, SEGMENT_SECTORS, Location, Target, Stored, Zero, ObjectFact, SegmentFact, AnyFact, NextNumbers, AreNext, NUMBER_LIMIT, IsNext, IsFact, is_snapshot, AreIdsBelow, AreObjectsSound, AreMediumsSound, AreElisionsSound}
 use Rattle.pur_base.specs.declared.facts.AnyFact.TheVariants as any
-use Rattle.boot_codec.specs.declared.record.NextNumbers.{NextNumbers}
-use Rattle.boot_codec.specs.Record.{AreNext}
-use Rattle.fact_codec.specs.declared.limits.TheConstants.{NUMBER_LIMIT}
-use Rattle.fact_codec.specs.Fact.{IsNext, IsFact}
-use Rattle.array_spec.specs.Base.{is_snapshot}
-use Rattle.array_spec.specs.Sound.{AreIdsBelow, AreObjectsSound, AreMediumsSound, AreElisionsSound}
 use Rattle.memory_spec.specs.Tables.{Tables, facts, all_of}
 
 -- The tables, the sectors that no segment holds yet, and the numbers that are given next. An address of segment 0 names a staged sector: ids of segments begin at 1.

@@ -1,17 +1,7 @@
 -- What a merge makes of the tables that a record names, whatever is logged and staged beside them.
 use Rattle.std.specs.Prelude.{◌≡◌, ℕ, List, All}
 use Rattle.std.specs.List.{AllZip}
-use Rattle.pur_base.specs.Devices.{Geometry, View}
-use Rattle.pur_base.specs.Plain.{Array}
-use Rattle.pur_base.specs.declared.request.Table.{Table}
-use Rattle.pur_base.specs.declared.facts.AnyFact.{AnyFact}
-use Rattle.boot_codec.specs.Record.{AreNext}
-use Rattle.boot_codec.specs.declared.record.BootRecord.{BootRecord}
-use Rattle.fact_codec.specs.Fact.{IsFact}
-use Rattle.array_spec.specs.Base.{BaseStands}
-use Rattle.array_spec.specs.Meaning.{TablesStand}
-use Rattle.array_spec.specs.Sound.{AreSound, AreSegmentsSound}
-use Rattle.array_spec.specs.Stored.{PatchesStand, all_facts, in_patches}
+use Rattle.array_spec.specs.Prelude.{Geometry, View, Array, Table, AnyFact, AreNext, BootRecord, IsFact, BaseStands, TablesStand, AreSound, AreSegmentsSound, PatchesStand, all_facts, in_patches}
 use Rattle.memory_spec.specs.Memory.{Memory, IsSound}
 use Rattle.memory_spec.specs.Tables.{patches}
 use Rattle.memory_spec.specs.Merging.{HaveShrunk, IsMergedAt}

@@ -1,13 +1,8 @@
 -- What merges of patches make of memory.
 use Rattle.std.specs.Prelude.{◌≡◌, ◌⊎◌, ℕ, ◌+◌, ◌<◌, ◌≤◌, Bool, true, false, ◌==◌, nat_lt, List, [], ◌∷◌, ◌++◌, length, take, drop, filter, count_by, Option}
-use Rattle.pur_base.specs.Facts.{Facts, object_key, medium_key, address_key, segment_key, elision_key, never, is_empty_range, apart, is_narrower}
-use Rattle.pur_base.specs.Tags.{tag_of}
-use Rattle.pur_base.specs.Visible.{segment, is_elided}
-use Rattle.pur_base.specs.declared.request.Table.{Table}
+use Rattle.array_spec.specs.Prelude.{Facts, object_key, medium_key, address_key, segment_key, elision_key, never, is_empty_range, apart, is_narrower, tag_of, segment, is_elided, Table, patch_segments, Patch}
 use Rattle.pur_base.specs.declared.request.Table.TheVariants as table
-use Rattle.boot_codec.specs.Record.{patch_segments}
-use Rattle.boot_codec.specs.declared.patch.Patch.{Patch}
-use Rattle.pyramid.specs.Layers.{Layers, IsMerged, facts_in, patch_at, patch_facts, patches_of}
+use Rattle.pyramid.specs.Prelude.{Layers, IsMerged, facts_in, patch_at, patch_facts, patches_of}
 use Rattle.memory_spec.specs.Tables.{flushed}
 use Rattle.memory_spec.specs.Memory.{Memory, IsSound}
 use Rattle.memory_spec.specs.Whole.{AreLayered}

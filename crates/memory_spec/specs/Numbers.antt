@@ -1,9 +1,7 @@
 -- The numbers that are given next, after commands.
 use Rattle.std.specs.Prelude.{ℕ, ◌+◌, ◌-◌, ◌^◌, ◌||◌, Bool, nat_le, List, fold}
-use Rattle.pur_base.specs.Commands.{Command}
-use Rattle.pur_base.specs.declared.request.Request.{Request}
+use Rattle.array_spec.specs.Prelude.{Command, Request, NextNumbers}
 use Rattle.pur_base.specs.declared.request.Request.TheVariants as request
-use Rattle.boot_codec.specs.declared.record.NextNumbers.{NextNumbers}
 
 -- how many addresses a request puts
 abbrev pub put : Request → ℕ

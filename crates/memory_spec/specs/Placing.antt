@@ -1,18 +1,8 @@
 -- What placing staged sectors in new segments makes of memory.
 use Rattle.std.specs.Prelude.{◌≡◌, ◌⊎◌, ◌↔◌, ℕ, ◌<◌, ◌≤◌, List, [], Some, Contains, slice_get, ◌==◌, if◌then◌else◌}
-use Rattle.pur_base.specs.Facts.{address_key}
-use Rattle.pur_base.specs.Plain.{Array}
-use Rattle.pur_base.specs.Visible.{segment}
-use Rattle.pur_base.specs.declared.place.Location.{Location}
-use Rattle.pur_base.specs.declared.facts.Target.{Target}
-use Rattle.pur_base.specs.declared.facts.Target.TheVariants.{Stored, Zero}
-use Rattle.pur_base.specs.declared.facts.AddressFact.{AddressFact}
-use Rattle.pur_base.specs.declared.facts.SegmentFact.{SegmentFact}
+use Rattle.array_spec.specs.Prelude.{address_key, Array, segment, Location, Target, Stored, Zero, AddressFact, SegmentFact, NextNumbers, AreNext, IsFact}
 use Rattle.pur_base.specs.declared.facts.AnyFact.TheVariants as any
-use Rattle.boot_codec.specs.declared.record.NextNumbers.{NextNumbers}
-use Rattle.boot_codec.specs.Record.{AreNext}
-use Rattle.fact_codec.specs.Fact.{IsFact}
-use Rattle.pyramid.specs.Layers.{HasNewer}
+use Rattle.pyramid.specs.Prelude.{HasNewer}
 use Rattle.memory_spec.specs.Tables.{facts}
 use Rattle.memory_spec.specs.Memory.{Memory, Contents, ReadsAs}
 

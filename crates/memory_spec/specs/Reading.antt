@@ -1,11 +1,7 @@
 -- What sound memory tells of the array that it reads as.
 use Rattle.std.specs.Prelude.{◌≡◌, ℕ, ◌<◌, true, List, [], length, Contains, slice_index_or}
-use Rattle.pur_base.specs.Plain.{Array, has, sectors_of, is_snapshot}
-use Rattle.pur_base.specs.Visible.{objects}
-use Rattle.pur_base.specs.Mediums.{Reads}
-use Rattle.pur_base.specs.declared.facts.Target.{Target}
-use Rattle.pur_base.specs.declared.facts.ObjectFact.{ObjectFact}
-use Rattle.array_spec.specs.Base.{is_snapshot as is_snapshot_kind}
+use Rattle.array_spec.specs.Prelude.{Array, has, sectors_of, objects, Reads, Target, ObjectFact, is_snapshot as is_snapshot_kind}
+use Rattle.pur_base.specs.Plain.{is_snapshot}
 use Rattle.memory_spec.specs.Tables.{facts}
 use Rattle.memory_spec.specs.Memory.{Memory, Contents, TargetReads, ReadsAs}
 

@@ -1,14 +1,8 @@
 -- The five tables of an array in memory: layers of facts, of which the patches stand on the drives.
 use Rattle.std.specs.Prelude.{List, ◌++◌, map}
-use Rattle.pur_base.specs.Facts.{Facts}
-use Rattle.pur_base.specs.declared.facts.ObjectFact.{ObjectFact}
-use Rattle.pur_base.specs.declared.facts.MediumFact.{MediumFact}
-use Rattle.pur_base.specs.declared.facts.AddressFact.{AddressFact}
-use Rattle.pur_base.specs.declared.facts.SegmentFact.{SegmentFact}
-use Rattle.pur_base.specs.declared.facts.ElisionFact.{ElisionFact}
-use Rattle.pur_base.specs.declared.facts.AnyFact.{AnyFact}
+use Rattle.array_spec.specs.Prelude.{Facts, ObjectFact, MediumFact, AddressFact, SegmentFact, ElisionFact, AnyFact}
 use Rattle.pur_base.specs.declared.facts.AnyFact.TheVariants as any
-use Rattle.pyramid.specs.Layers.{Layers, facts_in, facts_of}
+use Rattle.pyramid.specs.Prelude.{Layers, facts_in, facts_of}
 
 pub record Tables : Type 0 where
   pub objects : Layers ObjectFact

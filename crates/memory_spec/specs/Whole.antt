@@ -1,15 +1,8 @@
 -- When memory has nothing beside its patches, and that the record which names them is sound.
 use Rattle.std.specs.Prelude.{◌≡◌, List, [], length}
 use Rattle.std.specs.List.{AllByRecursion, AllZip}
-use Rattle.pur_base.specs.Devices.{Geometry}
-use Rattle.pur_base.specs.Facts.{object_key, medium_key, address_key, segment_key, elision_key, table_tag}
-use Rattle.pur_base.specs.Plain.{Array}
-use Rattle.pur_base.specs.declared.facts.AnyFact.{AnyFact}
-use Rattle.boot_codec.specs.declared.patch.Patch.{Patch}
-use Rattle.boot_codec.specs.declared.record.BootRecord.{BootRecord}
-use Rattle.array_spec.specs.Stored.{all_facts}
-use Rattle.array_spec.specs.Sound.{AreSound, AreSegmentsSound}
-use Rattle.pyramid.specs.Layers.{IsLayered}
+use Rattle.array_spec.specs.Prelude.{Geometry, object_key, medium_key, address_key, segment_key, elision_key, table_tag, Array, AnyFact, Patch, BootRecord, all_facts, AreSound, AreSegmentsSound}
+use Rattle.pyramid.specs.Prelude.{IsLayered}
 use Rattle.memory_spec.specs.Tables.{Tables, facts, flushed, patches}
 use Rattle.memory_spec.specs.Memory.{Memory, Contents, FactsRead, IsSound, ReadsAs}
 

@@ -2,11 +2,9 @@
 use Rattle.std.proofs.Common.{◌≡◌, ℕ, ◌+◌, ◌-◌, ◌*◌, ◌≤◌, ◌<◌, List, [], ◌∷◌, ◌++◌, length, take, drop, get_or, slice_index, sym, ◌∙◌, ap, arith, length-append}
 use Rattle.std.specs.List.{AllByRecursion, concat}
 use Rattle.std.proofs.lemmas.List.{length-replicate, length-take, length-drop, take_at, take-append-drop, ext_get_or, get_or-take, get_or-drop}
-use Rattle.pur_base.specs.Bytes.{IsBytesOf, bytes_at, zeros, padded}
-use Rattle.pur_base.specs.declared.limits.TheConstants.{SECTOR_BYTES, NAME_BYTES}
+use Rattle.world.specs.Prelude.{IsBytesOf, bytes_at, zeros, padded, SECTOR_BYTES, NAME_BYTES}
 use Rattle.log_codec.specs.declared.head.Head.{Head}
-use Rattle.log_codec.specs.Head.{head_fields, head_bytes, first_name, second_name, IsCommand}
-use Rattle.log_codec.specs.Log.{Spells, HasSpelling, slot_at, slot_bytes}
+use Rattle.log_codec.specs.Prelude.{head_fields, head_bytes, first_name, second_name, IsCommand, Spells, HasSpelling, slot_at, slot_bytes}
 use Rattle.log_codec.proofs.FieldLemmas.{fits, length-padded}
 use Rattle.nvram_log.specs.declared.record.Record.{Record}
 use Rattle.nvram_log.specs.Records.{command_of, record_bytes, slot_place, StandsIn}

@@ -2,17 +2,11 @@
 use Rattle.std.proofs.Common.{◌≡◌, inl, inr, ℕ, ◌+◌, ◌≤◌, ◌<◌, Bool, false, List, [], ◌++◌, length, Some, slice_get, slice_index, sym, ◌∙◌, ap, subst, arith, append_assoc}
 use Rattle.std.specs.List.{concat}
 use Rattle.std.proofs.lemmas.Bool.{cases_lt}
-use Rattle.pur_base.specs.Gates.{is_open}
-use Rattle.pur_base.specs.Commands.{Command}
-use Rattle.pur_base.specs.Devices.{nvram}
+use Rattle.world.specs.Prelude.{is_open, Command, nvram, Shelved, Stop, IsShelf, IsIn, LeavesBut, none_dirty}
 use Rattle.log_codec.specs.declared.limits.TheConstants.{LOG_SLOTS}
 use Rattle.log_codec.specs.declared.head.Head.{Head}
-use Rattle.log_codec.specs.Head.{head_bytes}
-use Rattle.log_codec.specs.Log.{Spells, slot_at, ShowsIn}
+use Rattle.log_codec.specs.Prelude.{head_bytes, Spells, slot_at, ShowsIn}
 use Rattle.log_codec.proofs.OneHead.{one_command, same_heads}
-use Rattle.world.specs.Shelf.{Shelved, Stop, IsShelf, IsIn}
-use Rattle.world.specs.Writes.{LeavesBut}
-use Rattle.world.specs.lemmas.Stopped.{none_dirty}
 use Rattle.nvram_log.specs.Members.{IsMember, OnRange}
 use Rattle.nvram_log.specs.Slots.{IsBetween, IsLog}
 use Rattle.nvram_log.specs.Held.{HoldsOn, LeavesBetween}

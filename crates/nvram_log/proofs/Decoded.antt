@@ -3,13 +3,9 @@ use Rattle.std.proofs.Common.{◌≡◌, ℕ, zero, suc, ◌+◌, ◌*◌, ◌�
 use Rattle.std.specs.List.{AllByRecursion, concat}
 use Rattle.std.proofs.lemmas.Bool.{cases_lt}
 use Rattle.std.proofs.lemmas.List.{take_at, drop_at, drop-drop, length-take, length-drop, get_or-take, get_or-drop, get_or_past, take-append-drop}
-use Rattle.pur_base.specs.Bytes.{IsBytes, IsBytesOf}
-use Rattle.pur_base.specs.Commands.{Command}
-use Rattle.pur_base.specs.Grammar.{data_count, sectors_in}
-use Rattle.pur_base.specs.declared.limits.TheConstants.{SECTOR_BYTES}
+use Rattle.world.specs.Prelude.{IsBytes, IsBytesOf, Command, data_count, sectors_in, SECTOR_BYTES}
 use Rattle.log_codec.specs.declared.head.Head.{Head}
-use Rattle.log_codec.specs.Head.{head_bytes, Decodes}
-use Rattle.log_codec.specs.Log.{Spells, slot_at, ShowsIn}
+use Rattle.log_codec.specs.Prelude.{head_bytes, Decodes, Spells, slot_at, ShowsIn}
 use Rattle.nvram_log.proofs.InSlots.{few_data}
 use Rattle.nvram_log.proofs.Along.{length-head, length-sectors}
 

@@ -1,9 +1,8 @@
 -- One slot more is gathered.
 use Rattle.std.proofs.Common.{◌≡◌, inl, inr, ℕ, zero, suc, ◌+◌, ◌-◌, ◌*◌, ◌<◌, List, [], ◌∷◌, ◌++◌, length, Some, slice_get, sym, subst, refl, arith, length-append}
 use Rattle.std.proofs.lemmas.Option.{slice_get_within}
-use Rattle.pur_base.specs.Bytes.{bytes_at}
-use Rattle.pur_base.specs.Commands.{Command}
-use Rattle.log_codec.specs.Log.{Spells}
+use Rattle.world.specs.Prelude.{bytes_at, Command}
+use Rattle.log_codec.specs.Prelude.{Spells}
 use Rattle.nvram_log.specs.declared.gather.Images.{Images}
 use Rattle.nvram_log.specs.Views.{IsShown, IsGathered}
 use Rattle.nvram_log.proofs.Lists.{get_either}

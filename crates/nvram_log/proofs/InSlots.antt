@@ -2,14 +2,9 @@
 use Rattle.std.proofs.Common.{◌≡◌, inl, inr, ℕ, ◌+◌, ◌*◌, ◌≤◌, ◌<◌, List, length, Bool, Some, slice_get, get_or, sym, ◌∙◌, subst, arith}
 use Rattle.std.proofs.lemmas.Bool.{cases_lt}
 use Rattle.std.proofs.lemmas.Option.{get_or_from_slice_get}
-use Rattle.pur_base.specs.Devices.{nvram}
-use Rattle.pur_base.specs.Grammar.{data_count}
-use Rattle.pur_base.specs.declared.device.Device.{Device}
-use Rattle.pur_base.specs.declared.request.Request.{Request}
+use Rattle.world.specs.Prelude.{nvram, data_count, Device, Request, Disk, OneRange, ChangesOnly}
 use Rattle.pur_base.specs.declared.request.Request.TheVariants as request
-use Rattle.log_codec.specs.Head.{IsCommand}
-use Rattle.world.specs.Shelf.{Disk}
-use Rattle.world.specs.Writes.{OneRange, ChangesOnly}
+use Rattle.log_codec.specs.Prelude.{IsCommand}
 use Rattle.nvram_log.specs.declared.record.Record.{Record}
 use Rattle.nvram_log.specs.Members.{IsMember}
 use Rattle.nvram_log.specs.Records.{IsRecord, AreRecords, StandsIn, FromSlot, OnSlotsFrom, slot_place}

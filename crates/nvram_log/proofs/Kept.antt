@@ -1,9 +1,8 @@
 -- What the slots in memory spell while further slots are filled.
 use Rattle.std.proofs.Common.{◌≡◌, inl, inr, ℕ, ◌+◌, ◌-◌, ◌*◌, ◌≤◌, ◌<◌, List, ◌++◌, length, Some, slice_get, sym, subst, arith}
 use Rattle.std.proofs.lemmas.Option.{slice_get_within}
-use Rattle.pur_base.specs.Bytes.{bytes_at}
-use Rattle.pur_base.specs.Commands.{Command}
-use Rattle.log_codec.specs.Log.{Spells}
+use Rattle.world.specs.Prelude.{bytes_at, Command}
+use Rattle.log_codec.specs.Prelude.{Spells}
 use Rattle.nvram_log.specs.declared.record.Record.{Record}
 use Rattle.nvram_log.specs.Records.{commands_of, command_of, SpellFrom}
 use Rattle.nvram_log.proofs.Lists.{get_either, brought}

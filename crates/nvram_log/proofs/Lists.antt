@@ -1,6 +1,6 @@
 -- Commands behind commands.
 use Rattle.std.proofs.Common.{◌≡◌, ◌⊎◌, inl, inr, ℕ, zero, suc, ◌-◌, ◌≤◌, ◌<◌, List, [], ◌∷◌, ◌++◌, length, Some, take, slice_get, subst, refl, arith}
-use Rattle.pur_base.specs.Commands.{Command}
+use Rattle.world.specs.Prelude.{Command}
 use Rattle.nvram_log.specs.declared.record.Record.{Record}
 use Rattle.nvram_log.specs.Records.{command_of, commands_of}
 

@@ -2,13 +2,9 @@
 use Rattle.std.proofs.Common.{◌≡◌, inl, inr, ℕ, ◌+◌, ◌*◌, ◌<◌, List, [], ◌∷◌, length, Bool, Result, Ok, Err, OnOk, slice_index, slice_range, sym, ◌∙◌, ap, subst, arith}
 use Rattle.std.proofs.lemmas.Bool.{cases_lt}
 use Rattle.std.proofs.lemmas.List.Edits.{get_or-between}
-use Rattle.pur_base.specs.Bytes.{bytes_at}
-use Rattle.pur_base.specs.declared.device.Device.{Device}
-use Rattle.pur_base.specs.declared.limits.TheConstants.{NVRAM_BYTES}
-use Rattle.log_codec.specs.Log.{slot_at}
+use Rattle.world.specs.Prelude.{bytes_at, Device, NVRAM_BYTES, Disk, Written, WrittenIfOk, OneRange, ChangesOnly}
+use Rattle.log_codec.specs.Prelude.{slot_at}
 use Rattle.world.specs.declared.streams.Failed.{Failed}
-use Rattle.world.specs.Shelf.{Disk, Written, WrittenIfOk}
-use Rattle.world.specs.Writes.{OneRange, ChangesOnly}
 use Rattle.nvram_log.specs.Records.{slot_place}
 use Rattle.nvram_log.specs.Members.{IsFlagged}
 use Rattle.nvram_log.specs.Settling.{OnGates, OnSlots}

@@ -1,12 +1,7 @@
 -- A call on one more member.
 use Rattle.std.proofs.Common.{◌≡◌, ◌≢◌, inl, inr, ℕ, List, [], Bool, true, Result, Ok, Err, is_ok, OnOk, sym, subst, refl}
-use Rattle.pur_base.specs.Devices.{nvram}
-use Rattle.pur_base.specs.declared.device.Device.{Device}
-use Rattle.pur_base.specs.declared.device.Device.TheVariants.{Drive, Nv}
+use Rattle.world.specs.Prelude.{nvram, Device, Drive, Nv, Disk, WriteCounts, OneRange, Only}
 use Rattle.world.specs.declared.streams.Failed.{Failed}
-use Rattle.world.specs.Shelf.{Disk, WriteCounts}
-use Rattle.world.specs.Writes.{OneRange}
-use Rattle.world.specs.Ran.{Only}
 use Rattle.nvram_log.specs.Members.{IsMember, IsOnMember, OnRange, Outcome}
 
 number : Device → ℕ

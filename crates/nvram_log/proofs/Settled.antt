@@ -6,15 +6,10 @@ use Rattle.std.proofs.lemmas.Bool.{cases_lt, cases_Bool, lt-ltb, ltb-true, false
 use Rattle.std.proofs.lemmas.List.{get_or_past}
 use Rattle.std.proofs.lemmas.List.FromFn.{get_or-map-range_with_len, length-map-range_with_len}
 use Rattle.std.proofs.lemmas.Option.{slice_get_within}
-use Rattle.pur_base.specs.Gates.{is_open}
-use Rattle.pur_base.specs.Commands.{Command}
-use Rattle.pur_base.specs.declared.device.Device.{Device}
-use Rattle.log_codec.specs.Log.{Spells, slot_at, ShowsIn}
+use Rattle.world.specs.Prelude.{is_open, Command, Device, Disk, MayLeave, MayLeaveBut, ChangesOnly, none_dirty}
+use Rattle.log_codec.specs.Prelude.{Spells, slot_at, ShowsIn}
 use Rattle.log_codec.proofs.OneHead.{one_command}
 use Rattle.world.specs.declared.streams.Failed.{Failed}
-use Rattle.world.specs.Shelf.{Disk, MayLeave}
-use Rattle.world.specs.Writes.{MayLeaveBut, ChangesOnly}
-use Rattle.world.specs.lemmas.Stopped.{none_dirty}
 use Rattle.nvram_log.specs.declared.seen.SeenSlots.{SeenSlots}
 use Rattle.nvram_log.specs.Slots.{IsLog}
 use Rattle.nvram_log.specs.Members.{IsFlagged}

@@ -3,15 +3,10 @@ use Rattle.std.proofs.Common.{◌≡◌, ◌≢◌, inl, inr, ℕ, ◌+◌, ◌<
 use Rattle.std.proofs.lemmas.Bool.{cases_lt}
 use Rattle.std.proofs.lemmas.Option.{get_or_from_slice_get, slice_get-get_or, slice_get_within}
 use Rattle.std.proofs.lemmas.List.{length-take}
-use Rattle.pur_base.specs.Commands.{Command}
-use Rattle.pur_base.specs.Devices.{nvram}
-use Rattle.pur_base.specs.declared.device.Device.{Device}
-use Rattle.log_codec.specs.Log.{Spells}
+use Rattle.world.specs.Prelude.{Command, nvram, Device, Shelved, Stop, Disk, MayLeave, LeavesOnly, MayLeaveBut, none_dirty}
+use Rattle.log_codec.specs.Prelude.{Spells}
 use Rattle.nvram_log.specs.declared.log.NvLog.{NvLog}
 use Rattle.nvram_log.specs.Held.{Keeps, slot_in}
-use Rattle.world.specs.Shelf.{Shelved, Stop, Disk, MayLeave, LeavesOnly}
-use Rattle.world.specs.Writes.{MayLeaveBut}
-use Rattle.world.specs.lemmas.Stopped.{none_dirty}
 use Rattle.nvram_log.specs.declared.seen.SeenSlots.{SeenSlots}
 use Rattle.nvram_log.specs.Members.{IsMember, OnMembers}
 use Rattle.nvram_log.specs.Settling.{OnDevice, SettlesBy, IsToSettle, AreToSettle, AreAsSeen, Agree}

@@ -3,14 +3,10 @@ use Rattle.std.proofs.Common.{◌≡◌, inl, inr, ℕ, ◌+◌, ◌-◌, ◌≤
 use Rattle.std.specs.Prelude.{◌==◌}
 use Rattle.std.proofs.lemmas.Bool.{cases_lt}
 use Rattle.std.proofs.lemmas.Option.{slice_get_within}
-use Rattle.pur_base.specs.Gates.{is_open}
-use Rattle.pur_base.specs.Commands.{Command}
-use Rattle.pur_base.specs.declared.limits.TheConstants.{NVRAM_BYTES}
+use Rattle.world.specs.Prelude.{is_open, Command, NVRAM_BYTES, IsIn, same_part}
 use Rattle.log_codec.specs.declared.limits.TheConstants.{LOG_SLOTS}
-use Rattle.log_codec.specs.Log.{Spells, slot_at, ShowsIn}
+use Rattle.log_codec.specs.Prelude.{Spells, slot_at, ShowsIn}
 use Rattle.log_codec.proofs.OneHead.{one_command}
-use Rattle.world.specs.Shelf.{IsIn}
-use Rattle.world.specs.lemmas.Bytes.{same_part}
 use Rattle.nvram_log.specs.Slots.{IsBetween, IsLog}
 use Rattle.nvram_log.specs.Records.{slot_place}
 use Rattle.nvram_log.proofs.Staged.{at_range}

@@ -5,7 +5,7 @@ use Rattle.std.proofs.lemmas.Bool.{cases_lt}
 use Rattle.std.proofs.lemmas.Slice.{between_is, take-put_mid_below, between-put_mid}
 use Rattle.std.specs.List.{AllByRecursion, concat, between}
 use borrow.Rule.Slice.PartMut.{put_mid}
-use Rattle.pur_base.specs.Bytes.{IsBytes, bytes_at}
+use Rattle.world.specs.Prelude.{IsBytes, bytes_at}
 
 pub concat-append : (xs ys : List (List ℕ)) → concat (xs ++ ys) ≡ concat xs ++ concat ys
 concat-append [] ys = refl

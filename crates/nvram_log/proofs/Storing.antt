@@ -4,15 +4,8 @@ use Rattle.std.proofs.lemmas.Bool.{cases_lt, cases_Bool}
 use Rattle.std.proofs.lemmas.List.{length-map, length-replicate, get_or-replicate, get_or_past}
 use Rattle.std.proofs.lemmas.List.Edits.{get_or-between}
 use Rattle.std.proofs.lemmas.Option.{slice_get_within}
-use Rattle.pur_base.specs.Commands.{Command}
-use Rattle.pur_base.specs.Devices.{nvram}
-use Rattle.pur_base.specs.declared.device.Device.{Device}
-use Rattle.pur_base.specs.declared.device.Device.TheVariants.{Drive, Nv}
-use Rattle.log_codec.specs.Log.{Spells, slot_at}
-use Rattle.world.specs.Counts.{Rises}
-use Rattle.world.specs.Shelf.{Shelved, Stop, Disk, IsShelf, IsIn, Written}
-use Rattle.world.specs.Writes.{WritesOnly, LeavesBut, MayLeaveBut, ChangesOnly}
-use Rattle.world.specs.lemmas.Stopped.{none_dirty}
+use Rattle.world.specs.Prelude.{Command, nvram, Device, Drive, Nv, Rises, Shelved, Stop, Disk, IsShelf, IsIn, Written, WritesOnly, LeavesBut, MayLeaveBut, ChangesOnly, none_dirty}
+use Rattle.log_codec.specs.Prelude.{Spells, slot_at}
 use Rattle.nvram_log.specs.declared.record.Record.{Record}
 use Rattle.nvram_log.specs.Members.{IsMember, IsOnMember, IsFewer, OnMembers, OnRange, Outcome}
 use Rattle.nvram_log.specs.Records.{commands_of, command_of, slot_place, OnSlotsFrom, StandFrom, SpellFrom}

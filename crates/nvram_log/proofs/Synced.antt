@@ -1,10 +1,7 @@
 -- Devices are synced.
 use Rattle.std.proofs.Common.{◌≡◌, ◌≢◌, inl, inr, ℕ, [], Result, Ok, Err, OnOk, refl, sym, ◌∙◌, subst}
-use Rattle.pur_base.specs.Devices.{drive, nvram}
-use Rattle.pur_base.specs.declared.device.Device.{Device}
-use Rattle.pur_base.specs.lemmas.Devices.{same_device}
+use Rattle.world.specs.Prelude.{drive, nvram, Device, same_device, Shelved, Disk, WasSynced, OthersStay}
 use Rattle.world.specs.declared.streams.Failed.{Failed}
-use Rattle.world.specs.Shelf.{Shelved, Disk, WasSynced, OthersStay}
 
 -- a drive is no NVRAM device
 pub drive_apart : (d n : ℕ) → drive d ≢ nvram n

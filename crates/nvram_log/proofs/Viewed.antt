@@ -1,11 +1,9 @@
 -- The view of the member devices, and the images that were read of them.
 use Rattle.std.proofs.Common.{◌≡◌, inl, inr, ℕ, ◌<◌, Bool, false, List, Some, None, slice_get, slice_index_or, sym, subst, refl, arith, zero, suc}
 use Rattle.std.proofs.lemmas.Bool.{cases_Bool, cases_lt}
-use Rattle.pur_base.specs.Commands.{Command}
-use Rattle.pur_base.specs.Devices.{nvram}
+use Rattle.world.specs.Prelude.{Command, nvram, Shelved}
 use Rattle.log_codec.specs.declared.limits.TheConstants.{LOG_SLOTS}
-use Rattle.log_codec.specs.Log.{Shows, IsInSlot, ShowsIn}
-use Rattle.world.specs.Shelf.{Shelved}
+use Rattle.log_codec.specs.Prelude.{Shows, IsInSlot, ShowsIn}
 use Rattle.nvram_log.specs.declared.log.NvLog.{NvLog}
 use Rattle.nvram_log.specs.declared.gather.Images.{Images}
 use Rattle.nvram_log.specs.Members.{IsMember}

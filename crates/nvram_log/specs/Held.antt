@@ -1,12 +1,8 @@
 -- The log that the member devices hold, and the one in memory.
 use Rattle.std.specs.Prelude.{◌≡◌, ℕ, ◌+◌, ◌*◌, ◌<◌, Bool, false, List, [], length, Some, slice_get, slice_index_or, None, if◌then◌else◌}
-use Rattle.pur_base.specs.Bytes.{bytes_at}
-use Rattle.pur_base.specs.Devices.{nvram, View}
-use Rattle.pur_base.specs.Commands.{Command}
-use Rattle.pur_base.specs.declared.device.Device.TheVariants.{Drive, Nv}
-use Rattle.world.specs.Shelf.{Shelved, Stop}
+use Rattle.world.specs.Prelude.{bytes_at, nvram, View, Command, Drive, Nv, Shelved, Stop}
 use Rattle.log_codec.specs.declared.limits.TheConstants.{SLOT_BYTES}
-use Rattle.log_codec.specs.Log.{Spells}
+use Rattle.log_codec.specs.Prelude.{Spells}
 use Rattle.nvram_log.specs.declared.log.NvLog.{NvLog}
 use Rattle.nvram_log.specs.Members.{IsMember}
 use Rattle.nvram_log.specs.Slots.{IsBetween, IsLog}

@@ -8,3 +8,4 @@ pub mod Read
 pub mod Seen
 pub mod Settling
 pub mod Spelled
+pub mod Prelude

@@ -1,7 +1,7 @@
 -- A command that is read back.
 use Rattle.std.specs.Prelude.{◌≡◌, ℕ, Result, Ok, Err}
 use Rattle.std.specs.List.{concat}
-use Rattle.pur_base.specs.Commands.{Command}
+use Rattle.world.specs.Prelude.{Command}
 use Rattle.log_codec.specs.declared.reading.BadHead.{BadHead}
 use Rattle.nvram_log.specs.declared.slots.Logged.{Logged}
 

@@ -1,10 +1,6 @@
 -- The member devices, and what a write on each of them leaves.
 use Rattle.std.specs.Prelude.{◌≡◌, ◌⊎◌, ℕ, ◌<◌, List, [], Bool, true, false, slice_index_or}
-use Rattle.pur_base.specs.Devices.{nvram}
-use Rattle.pur_base.specs.declared.device.Device.{Device}
-use Rattle.pur_base.specs.declared.device.Device.TheVariants.{Drive, Nv}
-use Rattle.world.specs.Counts.{Rises}
-use Rattle.world.specs.Shelf.{Shelved, Disk, IsIn}
+use Rattle.world.specs.Prelude.{nvram, Device, Drive, Nv, Rises, Shelved, Disk, IsIn}
 
 -- the flag there is set
 abbrev pub IsFlagged : List Bool → ℕ → Type 0

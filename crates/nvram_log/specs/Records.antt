@@ -1,14 +1,8 @@
 -- The commands of records, and their places on a device.
 use Rattle.std.specs.Prelude.{◌≡◌, ℕ, ◌+◌, ◌*◌, ◌<◌, ◌≤◌, Bool, List, length, map, Some, slice_get, slice_index}
-use Rattle.pur_base.specs.Commands.{Command}
-use Rattle.pur_base.specs.Grammar.{data_count}
-use Rattle.pur_base.specs.declared.limits.TheConstants.{SECTOR_BYTES}
-use Rattle.pur_base.specs.declared.device.Device.{Device}
-use Rattle.pur_base.specs.declared.device.Device.TheVariants.{Drive, Nv}
+use Rattle.world.specs.Prelude.{Command, data_count, SECTOR_BYTES, Device, Drive, Nv, bytes_at}
 use Rattle.log_codec.specs.declared.limits.TheConstants.{SLOTS_START, SLOT_BYTES}
-use Rattle.log_codec.specs.Head.{IsCommand}
-use Rattle.log_codec.specs.Log.{Spells}
-use Rattle.pur_base.specs.Bytes.{bytes_at}
+use Rattle.log_codec.specs.Prelude.{IsCommand, Spells}
 use Rattle.nvram_log.specs.Members.{IsMember}
 use Rattle.nvram_log.specs.declared.record.Record.{Record}
 

@@ -1,9 +1,8 @@
 -- What a device showed of each slot when it was read.
 use Rattle.std.specs.Prelude.{◌≡◌, ℕ, ◌<◌, true, false, List, slice_index_or}
-use Rattle.pur_base.specs.Gates.{is_open}
-use Rattle.pur_base.specs.Commands.{Command}
+use Rattle.world.specs.Prelude.{is_open, Command}
 use Rattle.log_codec.specs.declared.limits.TheConstants.{LOG_SLOTS}
-use Rattle.log_codec.specs.Log.{ShowsIn}
+use Rattle.log_codec.specs.Prelude.{ShowsIn}
 use Rattle.nvram_log.specs.declared.seen.SeenSlots.{SeenSlots}
 
 -- the flags tell of each slot of the device whether its gate is open, and whether it shows a command

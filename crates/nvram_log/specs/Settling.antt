@@ -1,12 +1,8 @@
 -- The log is settled on a device: gates that don't count are closed, and slots that it lacks are copied to it.
 use Rattle.std.specs.Prelude.{◌≡◌, ◌≢◌, ◌⊎◌, ℕ, ◌+◌, ◌*◌, ◌<◌, ◌≤◌, Bool, List, [], length, Some, slice_get, slice_index}
-use Rattle.pur_base.specs.Bytes.{bytes_at}
-use Rattle.pur_base.specs.Commands.{Command}
-use Rattle.pur_base.specs.Devices.{nvram}
-use Rattle.pur_base.specs.declared.device.Device.{Device}
+use Rattle.world.specs.Prelude.{bytes_at, Command, nvram, Device, Shelved, Stop, Disk, MayLeave, IsIn}
 use Rattle.log_codec.specs.declared.limits.TheConstants.{LOG_SLOTS, SLOT_BYTES}
-use Rattle.log_codec.specs.Log.{Spells, ShowsIn, slot_at}
-use Rattle.world.specs.Shelf.{Shelved, Stop, Disk, MayLeave, IsIn}
+use Rattle.log_codec.specs.Prelude.{Spells, ShowsIn, slot_at}
 use Rattle.nvram_log.specs.declared.log.NvLog.{NvLog}
 use Rattle.nvram_log.specs.declared.seen.SeenSlots.{SeenSlots}
 use Rattle.nvram_log.specs.Members.{IsFlagged, IsMember}

@@ -1,9 +1,8 @@
 -- What an NVRAM device shows of a log.
 use Rattle.std.specs.Prelude.{◌≡◌, ℕ, ◌<◌, ◌≤◌, false, List, length, Some, slice_get}
-use Rattle.pur_base.specs.Gates.{is_open}
-use Rattle.pur_base.specs.Commands.{Command}
+use Rattle.world.specs.Prelude.{is_open, Command}
 use Rattle.log_codec.specs.declared.limits.TheConstants.{LOG_SLOTS}
-use Rattle.log_codec.specs.Log.{ShowsIn}
+use Rattle.log_codec.specs.Prelude.{ShowsIn}
 
 -- the bytes show all of the first log, and nothing that isn't in the second
 pub record IsBetween (bytes : List ℕ) (flushed : ℕ) (least most : List Command) : Type 0 where

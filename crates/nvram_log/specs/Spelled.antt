@@ -1,6 +1,6 @@
 -- Commands that have a spelling, under the numbers that belong to their slots.
 use Rattle.std.specs.Prelude.{◌≡◌, ℕ, ◌+◌, List, Some, slice_get}
-use Rattle.log_codec.specs.Log.{HasSpelling}
+use Rattle.log_codec.specs.Prelude.{HasSpelling}
 use Rattle.nvram_log.specs.declared.record.Record.{Record}
 use Rattle.nvram_log.specs.Records.{command_of}
 

@@ -1,10 +1,8 @@
 -- What two images of the devices show, and the log that is read from them.
 use Rattle.std.specs.Prelude.{◌≡◌, ◌⊎◌, ℕ, ◌+◌, ◌*◌, List, length, Some, slice_get}
-use Rattle.pur_base.specs.Bytes.{bytes_at}
-use Rattle.pur_base.specs.Commands.{Command}
-use Rattle.pur_base.specs.declared.limits.TheConstants.{NVRAM_BYTES}
+use Rattle.world.specs.Prelude.{bytes_at, Command, NVRAM_BYTES}
 use Rattle.log_codec.specs.declared.limits.TheConstants.{SLOT_BYTES}
-use Rattle.log_codec.specs.Log.{Spells, ShowsIn}
+use Rattle.log_codec.specs.Prelude.{Spells, ShowsIn}
 use Rattle.nvram_log.specs.declared.gather.Images.{Images}
 use Rattle.nvram_log.specs.declared.seen.SeenSlots.{SeenSlots}
 use Rattle.nvram_log.specs.Members.{IsMember}

@@ -11,17 +11,7 @@ use Rattle.std.proofs.lemmas.List.{map-append, take_more, get_or_default, get_or
 use Rattle.std.proofs.lemmas.List.Elements.{All-nil, All-cons, All-head, All-tail, All-push, All-contains, Contains-get_or}
 use Rattle.indexmap.specs.IndexMap.{insert_entry}
 use Rattle.indexmap.specs.Layout.{set_value_at}
-use Rattle.pur_base.specs.Says.{Ascends, says}
-use Rattle.pur_base.specs.Facts.{object_key, never}
-use Rattle.pur_base.specs.declared.facts.ObjectFact.{ObjectFact}
-use Rattle.pur_base.specs.declared.ids.MediumId.{MediumId}
-use Rattle.pur_base.specs.declared.ids.Seq.{Seq}
-use Rattle.pyramid.specs.lemmas.Contains.{here, there, either, nowhere}
-use Rattle.pyramid.specs.lemmas.Merges.{ascends-head, ascends-tail, ascends_filter}
-use Rattle.pur_base.specs.Keys.{id_of, key_of}
-use Rattle.pyramid.specs.Layers.{AreDistinct, facts_of}
-use Rattle.pyramid.specs.Shown.{IsShown}
-use Rattle.pyramid.specs.lemmas.Shown.{ascends_push, ascends_map, put, put_it, put_other, said_whole, said_found, listed_by_id, shown_added, shown_replaced, shown_elided, taken_of}
+use Rattle.pyramid.specs.Prelude.{Ascends, says, object_key, never, ObjectFact, MediumId, Seq, here, there, either, nowhere, ascends-head, ascends-tail, ascends_filter, id_of, key_of, AreDistinct, facts_of, IsShown, ascends_push, ascends_map, put, put_it, put_other, said_whole, said_found, listed_by_id, shown_added, shown_replaced, shown_elided, taken_of}
 use Rattle.object_table.specs.Objects.{AreListed, AreNamesDistinct, objects_of, number, with_medium}
 
 abbrev pub Entry : Type 0

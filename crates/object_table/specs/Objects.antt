@@ -1,12 +1,6 @@
 -- The visible objects beside the facts that they come from.
 use Rattle.std.specs.Prelude.{◌≡◌, ◌≢◌, ℕ, ◌==◌, Bool, List, All, AllPairs, map, if◌then◌else◌}
-use Rattle.pur_base.specs.Says.{Ascends}
-use Rattle.pur_base.specs.Facts.{object_key, never}
-use Rattle.pur_base.specs.declared.facts.ObjectFact.{ObjectFact}
-use Rattle.pur_base.specs.declared.ids.MediumId.{MediumId}
-use Rattle.pur_base.specs.declared.ids.Seq.{Seq}
-use Rattle.pyramid.specs.Layers.{Layers, facts_in}
-use Rattle.pyramid.specs.Shown.{IsShown}
+use Rattle.pyramid.specs.Prelude.{Ascends, object_key, never, ObjectFact, MediumId, Seq, Layers, facts_in, IsShown}
 
 -- the facts of all objects, and the objects that are visible, in order of creation
 pub record Objects : Type 0 where

@@ -5,22 +5,10 @@ use Rattle.std.specs.Int.{div_ceil}
 use Rattle.std.specs.List.{AllByRecursion}
 use Rattle.std.proofs.lemmas.Option.{slice_get_within}
 use Rattle.std.proofs.lemmas.List.{take-append-drop, length-take-le, get_or_append_left}
-use Rattle.pur_base.specs.Devices.{View}
-use Rattle.pur_base.specs.Facts.{table_tag, any_key}
-use Rattle.pur_base.specs.declared.device.Device.{Device}
-use Rattle.pur_base.specs.declared.place.Place.{Place}
-use Rattle.pur_base.specs.declared.facts.AnyFact.{AnyFact}
-use Rattle.boot_codec.specs.Record.{AscendFrom, IsSegment, IsPatch}
+use Rattle.array_spec.specs.Prelude.{View, table_tag, any_key, Device, Place, AnyFact, AscendFrom, IsSegment, IsPatch, Patch, PatchSegment, Decodes, IsFact, SectorStands, StripesStand, PatchStands, FactStands, pages, places_of_part, pages_in_part, all_append, all_append_left}
 use Rattle.boot_codec.specs.Record as record_of
-use Rattle.boot_codec.specs.declared.patch.Patch.{Patch}
-use Rattle.boot_codec.specs.declared.patch.PatchSegment.{PatchSegment}
-use Rattle.fact_codec.specs.Fact.{Decodes, IsFact}
-use Rattle.segment_codec.specs.Stripes.{SectorStands, StripesStand}
-use Rattle.array_spec.specs.Stored.{PatchStands, FactStands, pages, places_of_part, pages_in_part}
-use Rattle.world.specs.Shelf.{Shelved, Continues}
-use Rattle.segment_io.specs.Places.{ArePlaces, place_of, drive_of, OthersStayOf}
-use Rattle.segment_io.specs.Stripes.{bytes_of}
-use Rattle.segment_io.specs.Reads.{ShowsPresent}
+use Rattle.world.specs.Prelude.{Shelved, Continues}
+use Rattle.segment_io.specs.Prelude.{ArePlaces, place_of, drive_of, OthersStayOf, bytes_of, ShowsPresent}
 use Rattle.patch_io.specs.Tables.{AreInOrder}
 use Rattle.patch_io.specs.Spelled.{fact_text}
 use Rattle.patch_io.specs.Standing.{StandsAt, StandIn, ReadsPart, AreFactsOf, ShowsPatch, StripesStandOf}
@@ -28,7 +16,6 @@ use Rattle.patch_io.specs.Faults.{IsPartFault, IsFaultOf, OthersStayOfPatch}
 use Rattle.patch_io.specs.declared.fault.PatchFault.{PatchFault}
 use Rattle.patch_io.specs.declared.fault.PatchFault.TheVariants.{Bad, Lost, Memory}
 use Rattle.patch_io.proofs.Lists.{get_either, get_taken, get_behind, all_at, some_at}
-use Rattle.array_spec.specs.lemmas.Used.{all_append, all_append_left}
 
 -- ---- places of a lawful patch
 

@@ -1,15 +1,9 @@
 -- The facts of one segment, read as a run of sectors.
 use Rattle.std.proofs.Common.{◌≡◌, ℕ, ◌+◌, ◌*◌, ◌/◌, ◌%◌, ◌<◌, ◌≤◌, Bool, List, length, refl, sym, subst, ◌∙◌, ap, arith}
 use Rattle.std.proofs.lemmas.Option.{slice_get_within}
-use Rattle.pur_base.specs.Bytes.{bytes_at}
-use Rattle.pur_base.specs.Devices.{View}
-use Rattle.pur_base.specs.declared.place.Place.{Place}
-use Rattle.pur_base.specs.declared.facts.AnyFact.{AnyFact}
-use Rattle.fact_codec.specs.Fact.{Decodes, IsFact}
-use Rattle.segment_codec.specs.Stripes.{SectorStands, StripesStand, sector_in}
-use Rattle.array_spec.specs.Stored.{pages}
-use Rattle.world.specs.Shelf.{Shelved}
-use Rattle.segment_io.specs.Reads.{ShowsPresent}
+use Rattle.array_spec.specs.Prelude.{bytes_at, View, Place, AnyFact, Decodes, IsFact, SectorStands, StripesStand, sector_in, pages}
+use Rattle.world.specs.Prelude.{Shelved}
+use Rattle.segment_io.specs.Prelude.{ShowsPresent}
 use Rattle.segment_io.proofs.Tried.{part_of_part}
 use Rattle.patch_io.specs.Spelled.{fact_text, Spell, Extends, SpellsNone}
 use Rattle.patch_io.specs.Standing.{StandIn, ReadsPart}

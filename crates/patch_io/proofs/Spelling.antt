@@ -5,9 +5,7 @@ use Rattle.std.proofs.lemmas.Bool.{cases_lt}
 use Rattle.std.proofs.lemmas.List.{length-map}
 use Rattle.std.proofs.lemmas.List.Quantifiers.{all_pairs_push}
 use Rattle.std.proofs.lemmas.Option.{slice_get-map, slice_get_within, slice_get-get_or, get_or_from_slice_get, same_Some}
-use Rattle.pur_base.specs.Facts.{table_tag, any_key}
-use Rattle.pur_base.specs.declared.facts.AnyFact.{AnyFact}
-use Rattle.fact_codec.specs.Fact.{Decodes}
+use Rattle.array_spec.specs.Prelude.{table_tag, any_key, AnyFact, Decodes}
 use Rattle.fact_codec.proofs.OneFact.{one_fact}
 use Rattle.patch_io.specs.Tables.{AreInOrder, HaveKey}
 use Rattle.patch_io.specs.Spelled.{fact_text, Spell, Extends, SpellsNone}

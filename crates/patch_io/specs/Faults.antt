@@ -1,17 +1,8 @@
 -- Why a patch is not loaded.
 use Rattle.std.specs.Prelude.{◌≡◌, ◌≢◌, ◌⊎◌, ℕ, ◌<◌, ◌≤◌, true, false, Bool, List, ◌++◌, length}
-use Rattle.pur_base.specs.Devices.{View}
-use Rattle.pur_base.specs.declared.device.Device.{Device}
-use Rattle.pur_base.specs.declared.limits.TheConstants.{SEGMENT_SHARDS}
-use Rattle.pur_base.specs.declared.place.Place.{Place}
-use Rattle.pur_base.specs.declared.facts.AnyFact.{AnyFact}
-use Rattle.boot_codec.specs.declared.patch.Patch.{Patch}
-use Rattle.array_spec.specs.Stored.{PatchStands, places_of_part}
-use Rattle.world.specs.Counts.{Rises}
-use Rattle.world.specs.Shelf.{Shelved}
-use Rattle.segment_io.specs.Lost.{is_in}
-use Rattle.segment_io.specs.Places.{place_of, drive_of}
-use Rattle.segment_io.specs.Reads.{HoldsThree, AreLost, ShowsPresent, is_missing_in}
+use Rattle.array_spec.specs.Prelude.{View, Device, SEGMENT_SHARDS, Place, AnyFact, Patch, PatchStands, places_of_part}
+use Rattle.world.specs.Prelude.{Rises, Shelved}
+use Rattle.segment_io.specs.Prelude.{is_in, place_of, drive_of, HoldsThree, AreLost, ShowsPresent, is_missing_in}
 use Rattle.patch_io.specs.Tables.{AreInOrder}
 use Rattle.patch_io.specs.Standing.{StandIn, ShowsPatch}
 use Rattle.patch_io.specs.declared.fault.PatchFault.{PatchFault}

@@ -1,9 +1,6 @@
 -- Facts that stand as bytes, 64 to a fact.
 use Rattle.std.specs.Prelude.{◌≡◌, ℕ, ◌*◌, List, ◌++◌, length, Some, slice_get}
-use Rattle.pur_base.specs.Bytes.{bytes_at}
-use Rattle.pur_base.specs.declared.facts.AnyFact.{AnyFact}
-use Rattle.fact_codec.specs.declared.limits.TheConstants.{FACT_BYTES}
-use Rattle.fact_codec.specs.Fact.{Decodes}
+use Rattle.array_spec.specs.Prelude.{bytes_at, AnyFact, FACT_BYTES, Decodes}
 use Rattle.patch_io.specs.Tables.{AreInOrder}
 use Rattle.patch_io.specs.declared.fault.PatchFault.{PatchFault}
 use Rattle.patch_io.specs.declared.fault.PatchFault.TheVariants.{Bad, Lost, Memory}

@@ -1,16 +1,9 @@
 -- Facts that stand on the drives of a segment, or of a patch.
 use Rattle.std.specs.Prelude.{◌≡◌, ℕ, ◌/◌, ◌%◌, ◌<◌, Bool, List, ◌++◌, length, Some, slice_get}
 use Rattle.std.specs.List.{AllByRecursion}
-use Rattle.pur_base.specs.Devices.{View}
-use Rattle.pur_base.specs.declared.place.Place.{Place}
-use Rattle.pur_base.specs.declared.facts.AnyFact.{AnyFact}
-use Rattle.boot_codec.specs.declared.patch.Patch.{Patch}
-use Rattle.fact_codec.specs.declared.limits.TheConstants.{PAGE_FACTS}
-use Rattle.fact_codec.specs.Fact.{Decodes, IsFact}
-use Rattle.segment_codec.specs.Stripes.{SectorStands, StripesStand}
-use Rattle.array_spec.specs.Stored.{pages, places_of_part, pages_in_part}
-use Rattle.world.specs.Shelf.{Shelved}
-use Rattle.segment_io.specs.Reads.{ShowsPresent}
+use Rattle.array_spec.specs.Prelude.{View, Place, AnyFact, Patch, PAGE_FACTS, Decodes, IsFact, SectorStands, StripesStand, pages, places_of_part, pages_in_part}
+use Rattle.world.specs.Prelude.{Shelved}
+use Rattle.segment_io.specs.Prelude.{ShowsPresent}
 use Rattle.patch_io.specs.Tables.{AreInOrder}
 use Rattle.patch_io.specs.Spelled.{fact_text}
 

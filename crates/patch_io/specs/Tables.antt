@@ -1,8 +1,7 @@
 -- Facts of one table in the order in which a patch has them.
 use Rattle.std.specs.Prelude.{◌≡◌, ℕ, ◌<◌, List, AllPairs}
 use Rattle.std.specs.List.{AllByRecursion}
-use Rattle.pur_base.specs.Facts.{table_tag, any_key}
-use Rattle.pur_base.specs.declared.facts.AnyFact.{AnyFact}
+use Rattle.array_spec.specs.Prelude.{table_tag, any_key, AnyFact}
 
 -- each fact is of the table with that tag
 abbrev pub HaveTag : {F : Type 0} → (F → AnyFact) → ℕ → Type 0

@@ -16,3 +16,4 @@ pub mod Says
 pub mod Visible
 pub mod Mediums
 pub mod lemmas
+pub mod Prelude

@@ -4,8 +4,7 @@ use Rattle.std.specs.Prelude.{◌&&◌, not, Option, Some, None, IfSome, IsTrue}
 use Rattle.std.proofs.lemmas.Bool.{eq-eqb, eqb-true}
 use Rattle.std.proofs.lemmas.List.{append-nil}
 use Rattle.std.proofs.lemmas.List.Elements.{Contains-append_left, Contains-append_right, Contains-append_cases}
-use Rattle.pur_base.specs.Keys.{IsTransitive, id_of}
-use Rattle.pur_base.specs.Says.{has_key}
+use Rattle.pur_base.specs.Prelude.{IsTransitive, id_of, has_key}
 use Rattle.pyramid.specs.Layers.{AreCovered, Grow, HasNewer, IsFlushed, IsMerged, LiesInOne, facts_of, newest_of, patch_facts, patches_of, stays}
 use Rattle.pyramid.specs.lemmas.Newest.{newest_found}
 use Rattle.pyramid.specs.lemmas.Sets.{newest_over}

@@ -4,7 +4,7 @@ use Rattle.std.specs.Prelude.{AllPairs, Result, Ok, Err, OnOk}
 use Rattle.std.proofs.lemmas.Bool.{cases_order, eqb-true}
 use Rattle.std.proofs.lemmas.List.{append_assoc, get_or_default}
 use Rattle.std.proofs.lemmas.List.Elements.{All-append, Contains-append_left, Contains-append_right, Contains-append_cases}
-use Rattle.pur_base.specs.Says.{Ascends, has_key, says}
+use Rattle.pur_base.specs.Prelude.{Ascends, has_key, says}
 use Rattle.pyramid.specs.Layers.{facts_of, IsOrdered, IsLayered, Rises}
 use Rattle.pyramid.specs.lemmas.Contains.{here, there, either, nowhere}
 use Rattle.pyramid.proofs.InsertLemmas.{pairs-cons}

@@ -3,9 +3,7 @@ use Rattle.std.proofs.Common.{◌≡◌, ℕ, ◌<◌, ◌≤◌, Bool, true, fa
 use Rattle.std.specs.Prelude.{◌==◌, ◌&&◌, ◌||◌, nat_le, IsTrue}
 use Rattle.std.proofs.lemmas.Bool.{eq-eqb, eqb-true, leb-true, le-leb, cases_lt, false≢true}
 use Rattle.std.proofs.lemmas.List.Folds.{list_any_at}
-use Rattle.pur_base.specs.Facts.{elision_key, is_narrower}
-use Rattle.pur_base.specs.Tags.{tag_of}
-use Rattle.pur_base.specs.Visible.{elides, is_elided}
+use Rattle.pur_base.specs.Prelude.{elision_key, is_narrower, tag_of, elides, is_elided}
 use Rattle.pur_base.specs.declared.facts.ElisionFact.{ElisionFact}
 use Rattle.pur_base.specs.declared.request.Table.{Table}
 use Rattle.pur_base.specs.declared.request.Table.TheVariants as table

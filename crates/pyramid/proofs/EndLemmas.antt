@@ -3,8 +3,7 @@ use Rattle.std.proofs.Common.{◌≡◌, ◌⊎◌, ◌++◌, ◌∙◌, ℕ, �
 use Rattle.std.specs.Prelude.{Option, Some, None, IfSome, option_and_then, if◌then◌else◌, Bool, true, false}
 use Rattle.std.proofs.lemmas.Bool.{cases_lt, ne_eqb, eqb-true}
 use Rattle.std.proofs.lemmas.List.Elements.{Contains-append_left, Contains-append_right, Contains-append_cases, Contains-get_or}
-use Rattle.pur_base.specs.Keys.{id_of}
-use Rattle.pur_base.specs.Says.{has_key, says, unless_empty}
+use Rattle.pur_base.specs.Prelude.{id_of, has_key, says, unless_empty}
 use Rattle.pyramid.specs.Ends.{IsFirstSaid, IsLastSaid}
 use Rattle.pyramid.specs.Layers.{facts_of, newest_of, IsOrdered}
 use Rattle.pyramid.specs.lemmas.Newest.{newest_none, newest_found}

@@ -4,8 +4,7 @@ use Rattle.std.specs.Prelude.{Option, Some, None, IfSome, nat_lt, ◌==◌, if�
 use Rattle.std.proofs.lemmas.Bool.{ltb-true, ltb-false, lt-ltb, eqb-true, eq-eqb}
 use Rattle.std.proofs.lemmas.List.Elements.{All-cons, All-head, All-tail, All-contains}
 use Rattle.std.proofs.lemmas.List.{append-nil, drop_all}
-use Rattle.pur_base.specs.Says.{newer}
-use Rattle.pur_base.specs.Says.{has_key, Ascends}
+use Rattle.pur_base.specs.Prelude.{newer, has_key, Ascends}
 use Rattle.pyramid.specs.Layers.{newest_of, IsOrdered, IsBefore}
 use Rattle.pyramid.specs.Merging.{lasts}
 use Rattle.pyramid.specs.lemmas.Newest.{newest_found}

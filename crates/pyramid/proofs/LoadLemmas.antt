@@ -4,7 +4,7 @@ use Rattle.std.specs.Prelude.{Some}
 use Rattle.std.proofs.lemmas.Bool.{cases_lt}
 use Rattle.std.proofs.lemmas.List.{get_or_default}
 use Rattle.std.proofs.lemmas.List.Elements.{All-contains, Contains-append_left, Contains-append_right, Contains-append_cases}
-use Rattle.pur_base.specs.Says.{Ascends}
+use Rattle.pur_base.specs.Prelude.{Ascends}
 use Rattle.pyramid.specs.Layers.{facts_of, AreBelow, Rises}
 use Rattle.pyramid.specs.Loading.{IsPast}
 use Rattle.pyramid.specs.lemmas.Contains.{either, here, nowhere}

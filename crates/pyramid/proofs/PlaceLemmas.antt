@@ -5,7 +5,7 @@ use Rattle.std.proofs.lemmas.Bool.{eqb-true}
 use Rattle.std.proofs.lemmas.List.{append-nil, append_assoc, get_or_default}
 use Rattle.std.proofs.lemmas.List.Kept.{AllPairs-filter}
 use Rattle.std.proofs.lemmas.List.Elements.{All-append, All-contains, All-take, All-drop, All-cons, Contains-append_left, Contains-append_right, Contains-append_cases}
-use Rattle.pur_base.specs.Says.{Ascends, has_key, says}
+use Rattle.pur_base.specs.Prelude.{Ascends, has_key, says}
 use Rattle.pyramid.specs.Layers.{facts_of, IsBefore, patch_facts, patches_of, newest_of, AreBelow, Rises, IsLayered, IsMerged, IsFlushed, IsApart, SaysTheSame, stays}
 use Rattle.pyramid.specs.Merging.{later, merged}
 use Rattle.pyramid.specs.lemmas.Newest.{newest-append}

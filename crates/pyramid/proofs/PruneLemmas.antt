@@ -5,7 +5,7 @@ use Rattle.std.proofs.Common.{drop-cons}
 use Rattle.std.proofs.lemmas.List.Elements.{Contains-append_left, Contains-append_right, Contains-append_cases}
 use Rattle.std.proofs.lemmas.Bool.{false≢true, cases_eq, cases_lt, ne_eqb, eq-eqb}
 use Rattle.std.specs.Prelude.{if◌then◌else◌, IsTrue}
-use Rattle.pur_base.specs.Says.{Ascends}
+use Rattle.pur_base.specs.Prelude.{Ascends}
 use Rattle.pyramid.specs.Layers.{AreAlone, IsApart, IsPruned, IsMerged, LiesInOne, NestAsRanges, class_of, newest_of}
 use Rattle.pyramid.specs.lemmas.Contains.{there, either, nowhere}
 use Rattle.pyramid.specs.lemmas.Merges.{ascends-cons, ascends-tail, ascends-head}

@@ -3,8 +3,7 @@ use Rattle.std.proofs.Common.{◌≡◌, ◌⊎◌, ℕ, suc, Bool, true, false,
 use Rattle.std.specs.Prelude.{IsTrue, filter, nat_lt, if◌then◌else◌, ◌&&◌, option_and_then}
 use Rattle.std.proofs.lemmas.Bool.{ltb-false}
 use Rattle.std.proofs.lemmas.List.Elements.{Contains-append_left, Contains-append_right, Contains-append_cases}
-use Rattle.pur_base.specs.Keys.{id_of}
-use Rattle.pur_base.specs.Says.{Ascends, has_key}
+use Rattle.pur_base.specs.Prelude.{id_of, Ascends, has_key}
 use Rattle.pyramid.specs.Layers.{IsApart, IsOrdered, IsBefore, HasNewer, AreBelow, IsFlushed, IsMerged, LiesInOne, stays, if_passes}
 use Rattle.pyramid.specs.Merging.{lasts, weave, merged}
 use Rattle.pyramid.specs.lemmas.Contains.{here, there, either, nowhere, filtered, of_filter}

@@ -3,9 +3,7 @@ use Rattle.std.proofs.Common.{◌≡◌, ℕ, ◌<◌, Bool, true, false, List, 
 use Rattle.std.specs.Prelude.{Option, Some, None, IfSome, if◌then◌else◌, option_and_then}
 use Rattle.std.proofs.lemmas.Bool.{lt-ltb, eqb-true, false≢true}
 use Rattle.std.proofs.lemmas.List.Elements.{All-contains}
-use Rattle.pur_base.specs.Says.{newer}
-use Rattle.pur_base.specs.Keys.{id_of}
-use Rattle.pur_base.specs.Says.{has_key, says, unless_empty}
+use Rattle.pur_base.specs.Prelude.{newer, id_of, has_key, says, unless_empty}
 use Rattle.pyramid.specs.Layers.{newest_of, AreBelow, stays, if_passes}
 use Rattle.pyramid.specs.Merging.{later}
 use Rattle.pyramid.specs.lemmas.Newest.{newest-append, newest_found}

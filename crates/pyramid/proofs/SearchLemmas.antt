@@ -3,7 +3,7 @@ use Rattle.std.proofs.Common.{◌≡◌, ℕ, ◌-◌, ◌<◌, ◌≤◌, true,
 use Rattle.std.specs.Prelude.{Some, None, ◌==◌}
 use Rattle.std.proofs.lemmas.Bool.{eqb-true, eq-eqb, ne_eqb, cases_order, cases_lt}
 use Rattle.std.proofs.lemmas.List.{get_or_default}
-use Rattle.pur_base.specs.Says.{has_key}
+use Rattle.pur_base.specs.Prelude.{has_key}
 use Rattle.pyramid.specs.Layers.{newest_of, IsOrdered, IsBefore}
 use Rattle.pyramid.specs.lemmas.Newest.{newest_none, newest_is}
 

@@ -5,9 +5,7 @@ use Rattle.std.proofs.lemmas.Bool.{leb-true, le-leb, eqb-true, eq-eqb, cases_ord
 use Rattle.std.proofs.lemmas.List.{append-nil, take_more, get_or_default}
 use Rattle.std.proofs.lemmas.List.Kept.{AllPairs-filter}
 use Rattle.std.proofs.lemmas.List.Elements.{Contains-append_left, Contains-append_right, Contains-append_cases}
-use Rattle.pur_base.specs.Keys.{id_of}
-use Rattle.pur_base.specs.Says.{Ascends, has_key, says, unless_empty}
-use Rattle.pur_base.specs.Visible.{is_within}
+use Rattle.pur_base.specs.Prelude.{id_of, Ascends, has_key, says, unless_empty, is_within}
 use Rattle.pyramid.specs.Layers.{facts_of, newest_of, is_between, stays, if_passes, AreBelow, Rises, IsBefore, IsOrdered}
 use Rattle.pyramid.specs.Merging.{later, merged, lasts, IsSpan}
 use Rattle.pyramid.specs.lemmas.Contains.{of_filter}

@@ -5,7 +5,7 @@ use Rattle.std.specs.Option.{is_some, option_or}
 use Rattle.std.proofs.lemmas.Option.{none-some}
 use Rattle.std.proofs.lemmas.Bool.{false≢true, cases_eq, eqb-true, eq-eqb, ne_eqb, lt-ltb}
 use Rattle.std.proofs.lemmas.List.{take_more, take-append-drop, get_or-take, get_or_default, length-take-le, get_or-drop, length-drop, get_or-set_same, get_or-set_other}
-use Rattle.pur_base.specs.Says.{has_key, Ascends}
+use Rattle.pur_base.specs.Prelude.{has_key, Ascends}
 use Rattle.pyramid.specs.Layers.{facts_of, newest_of, IsOrdered, AreBelow, Rises}
 use Rattle.pyramid.specs.Merging.{later}
 use Rattle.pyramid.specs.lemmas.Newest.{newest-append, newest_none, newest_found, later_none}

@@ -1,8 +1,7 @@
 -- Layers of facts, and what a table may do with them.
 use Rattle.std.specs.Prelude.{◌≡◌, ◌⊎◌, ℕ, ◌<◌, ◌≤◌, ◌%◌, Bool, ◌&&◌, not, IsTrue, List, [], ◌∷◌, ◌++◌, Option, Some, None, option_and_then, if◌then◌else◌, nat_le, AllPairs, All, Contains, slice_index_or, ⊤, length}
 use Rattle.std.specs.List.{flat_map}
-use Rattle.pur_base.specs.Keys.{id_of}
-use Rattle.pur_base.specs.Says.{newest, has_key, Ascends, says}
+use Rattle.pur_base.specs.Prelude.{id_of, newest, has_key, Ascends, says}
 
 -- sorted patches, oldest first, and the facts that aren't flushed yet
 pub record Layers (F : Type 0) : Type 0 where

@@ -4,3 +4,4 @@ pub mod Ends
 pub mod Shown
 pub mod Loading
 pub mod lemmas
+pub mod Prelude

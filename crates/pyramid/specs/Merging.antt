@@ -1,6 +1,6 @@
 -- How two patches are merged, and what a flush makes.
 use Rattle.std.specs.Prelude.{◌≡◌, ℕ, Contains, List, [], ◌∷◌, Option, Some, None, nat_lt, if◌then◌else◌}
-use Rattle.pur_base.specs.Says.{newer, Ascends}
+use Rattle.pur_base.specs.Prelude.{newer, Ascends}
 use Rattle.pyramid.specs.Layers.{newest_of, is_between}
 
 module _ {F : Type 0} (key : F → ℕ) where

@@ -1,28 +1,11 @@
 -- What is known of an array's memory in which two patches of a table stand as one.
 use Rattle.std.proofs.Common.{◌≡◌, ℕ, ◌+◌, ◌<◌, length, refl, sym, ap, arith, subst, All, Contains}
 use Rattle.std.proofs.lemmas.List.Elements.{Contains-append_left}
-use Rattle.pur_base.specs.Facts.{Facts}
-use Rattle.pur_base.specs.Plain.{Array}
-use Rattle.pur_base.specs.declared.facts.AnyFact.{AnyFact}
+use Rattle.session_spec.specs.Prelude.{Facts, Array, AnyFact, IsFact, NUMBER_LIMIT, all_facts, in_patches, facts_of, all_contained, Contents, IsSound, Memory, ReadsAs, Tables, all_of, facts, flushed, patches, all_addresses, all_elisions, all_mediums, all_objects, all_segments, of_all, IsShrunk, HaveShrunk, IsMergedAt, AreLayered, merge_shrinks, one_merge_is_merge, in_patches_are, patches_are_flushed, shrinking_reads, shrunk_sound}
 use Rattle.pur_base.specs.declared.facts.AnyFact.TheVariants as any
-use Rattle.fact_codec.specs.Fact.{IsFact}
-use Rattle.boot_codec.specs.declared.limits.TheConstants.{NUMBER_LIMIT}
-use Rattle.array_spec.specs.Stored.{all_facts, in_patches}
-use Rattle.pyramid.specs.Layers.{facts_of}
-use Rattle.pyramid.specs.lemmas.Layers.{all_contained}
-use Rattle.memory_spec.specs.Memory.{Contents, IsSound, Memory, ReadsAs}
-use Rattle.memory_spec.specs.Tables.{Tables, all_of, facts, flushed, patches}
-use Rattle.memory_spec.specs.lemmas.AllTables.{all_addresses, all_elisions, all_mediums, all_objects, all_segments, of_all}
-use Rattle.memory_spec.specs.Flushing.{IsShrunk}
-use Rattle.memory_spec.specs.Merging.{HaveShrunk, IsMergedAt}
-use Rattle.memory_spec.specs.Whole.{AreLayered}
-use Rattle.memory_spec.specs.lemmas.Merged.{merge_shrinks, one_merge_is_merge}
-use Rattle.memory_spec.specs.lemmas.Patches.{in_patches_are, patches_are_flushed}
-use Rattle.memory_spec.specs.lemmas.Shrinking.{shrinking_reads, shrunk_sound}
-use Rattle.table_plan.specs.Planned.{AreStored}
+use Rattle.table_plan.specs.Prelude.{AreStored, memory_with, table_of, tables_with, IsMergedOf}
 use Rattle.table_plan.specs.declared.merged.Merged.{Merged}
 use Rattle.table_plan.specs.declared.merged.Merged.TheVariants as merged
-use Rattle.table_plan.specs.Merging.{memory_with, table_of, tables_with, IsMergedOf}
 use Rattle.table_plan.proofs.MergeLemmas.{is_merge}
 use Rattle.table_plan.proofs.PatchFacts.{stored_is_fact}
 use Rattle.memory_spec.proofs.Shrunk.{merged_patches_shrink}

@@ -1,39 +1,16 @@
 -- The array once a merged patch and the tables that name it are its own.
 use Rattle.std.proofs.Common.{◌≡◌, ◌∙◌, ℕ, ◌+◌, ◌≤◌, ◌<◌, List, length, sym, ap, subst, arith}
-use Rattle.pur_base.specs.Devices.{Geometry, View}
-use Rattle.pur_base.specs.Facts.{Facts}
+use Rattle.session_spec.specs.Prelude.{Geometry, View, Facts, segment, AddressFact, AnyFact, ObjectFact, Table, patch_segments, NUMBER_LIMIT, Patch, BootRecord, NextNumbers, AreSegmentsSound, AreSound, all_facts, facts_of, Contents, IsSound, Memory, ReadsAs, Tables, facts, patches, ContentsStand, AreJoined, HaveShrunk, place_in, AreLayered, IsNamed}
 use Rattle.pur_base.specs.Plain as plain
-use Rattle.pur_base.specs.Visible.{segment}
-use Rattle.pur_base.specs.declared.facts.AddressFact.{AddressFact}
-use Rattle.pur_base.specs.declared.facts.AnyFact.{AnyFact}
-use Rattle.pur_base.specs.declared.facts.ObjectFact.{ObjectFact}
-use Rattle.pur_base.specs.declared.request.Table.{Table}
-use Rattle.boot_codec.specs.Record.{patch_segments}
-use Rattle.boot_codec.specs.declared.limits.TheConstants.{NUMBER_LIMIT}
-use Rattle.boot_codec.specs.declared.patch.Patch.{Patch}
-use Rattle.boot_codec.specs.declared.record.BootRecord.{BootRecord}
-use Rattle.boot_codec.specs.declared.record.NextNumbers.{NextNumbers}
-use Rattle.array_spec.specs.Sound.{AreSegmentsSound, AreSound}
-use Rattle.array_spec.specs.Stored.{all_facts}
 use Rattle.nvram_log.specs.declared.log.NvLog.{NvLog}
-use Rattle.nvram_log.specs.Members.{IsSome}
-use Rattle.pyramid.specs.Layers.{facts_of}
-use Rattle.memory_spec.specs.Memory.{Contents, IsSound, Memory, ReadsAs}
-use Rattle.memory_spec.specs.Tables.{Tables, facts, patches}
-use Rattle.memory_spec.specs.Contents.{ContentsStand}
-use Rattle.memory_spec.specs.Merging.{AreJoined, HaveShrunk, place_in}
-use Rattle.memory_spec.specs.Whole.{AreLayered, IsNamed}
-use Rattle.table_plan.specs.Planned.{AreStored}
-use Rattle.table_plan.specs.Merging.{memory_with, merged_patches, tables_with}
-use Rattle.array_memory.specs.Kept.{Kept}
-use Rattle.array_memory.specs.Plan.{with_patch_rooms}
+use Rattle.nvram_log.specs.Prelude.{IsSome}
+use Rattle.table_plan.specs.Prelude.{AreStored, memory_with, merged_patches, tables_with}
+use Rattle.array_memory.specs.Prelude.{Kept, with_patch_rooms}
 use Rattle.array_memory.proofs.PlanLemmas.{reads_roomed}
 use Rattle.array_memory.proofs.SoundLemmas.{sound_as}
-use Rattle.register.specs.Registers.{IsLaterRecord, IsRegisterOf}
-use Rattle.register.specs.Tables.{with_tables}
+use Rattle.register.specs.Prelude.{IsLaterRecord, IsRegisterOf, with_tables}
 use Rattle.array_core.specs.declared.array.Array.{Array}
-use Rattle.array_core.specs.Ready.{IsArrayOf}
-use Rattle.array_core.specs.Room.{HasRoomFor}
+use Rattle.array_core.specs.Prelude.{IsArrayOf, HasRoomFor}
 use Rattle.std.specs.List.{AllZip}
 use Rattle.pyramid_jobs.specs.declared.preparing.Prepared.{Prepared}
 use Rattle.pyramid_jobs.specs.Made.{HasMerged}

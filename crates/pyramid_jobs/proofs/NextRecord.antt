@@ -1,34 +1,18 @@
 -- The record with the tables of a prepared merge is lawful and names memory's patches, and so do later ones of these tables.
 use Rattle.std.proofs.Common.{◌≡◌, ◌∙◌, ℕ, ◌+◌, List, length, refl, sym, ap, subst, arith}
 use Rattle.std.specs.List.{AllByRecursion, AllZip}
-use Rattle.pur_base.specs.Devices.{Geometry}
-use Rattle.pur_base.specs.Facts.{Facts}
-use Rattle.pur_base.specs.Tags.{tag_of}
-use Rattle.pur_base.specs.Visible.{segment}
-use Rattle.pur_base.specs.declared.request.Table.{Table}
-use Rattle.boot_codec.specs.Record.{AreNext, ArePatches, IsBootRecord, patch_segments}
-use Rattle.boot_codec.specs.declared.patch.Patch.{Patch}
-use Rattle.boot_codec.specs.declared.record.BootRecord.{BootRecord}
-use Rattle.boot_codec.specs.declared.record.NextNumbers.{NextNumbers}
-use Rattle.array_spec.specs.Sound.{ArePlaces, AreSegmentsSound, AreSound}
-use Rattle.array_spec.specs.Stored.{all_facts}
+use Rattle.session_spec.specs.Prelude.{Geometry, Facts, tag_of, segment, Table, AreNext, ArePatches, IsBootRecord, patch_segments, Patch, BootRecord, NextNumbers, ArePlaces, AreSegmentsSound, AreSound, all_facts, Memory, Tables, facts, patches, AreJoined, pair_segments, place_in, IsNamed}
 use Rattle.free_space.specs.Laws.{AreUnitsToTake}
 use Rattle.free_space.specs.Map.{shelf_of}
-use Rattle.memory_spec.specs.Memory.{Memory}
-use Rattle.memory_spec.specs.Tables.{Tables, facts, patches}
-use Rattle.memory_spec.specs.Merging.{AreJoined, pair_segments, place_in}
-use Rattle.memory_spec.specs.Whole.{IsNamed}
-use Rattle.table_plan.specs.Merging.{merged_facts, merged_patches, tables_with, table_of}
+use Rattle.table_plan.specs.Prelude.{merged_facts, merged_patches, tables_with, table_of}
 use Rattle.memory_spec.proofs.MergedSound.{merged_patches_are_sound}
-use Rattle.register.specs.Registers.{IsLaterRecord}
-use Rattle.register.specs.Tables.{with_tables}
-use Rattle.record_tables.specs.Patches.{new_patch}
+use Rattle.register.specs.Prelude.{IsLaterRecord, with_tables}
+use Rattle.record_tables.specs.Prelude.{new_patch, all_weaker}
 use Rattle.record_tables.proofs.JoinedLawful.{joined_are_lawful}
 use Rattle.record_tables.proofs.JoinedNamed.{joined_are_named, merged_is_named}
 use Rattle.record_tables.proofs.JoinedSound.{joined_segments_are_sound}
-use Rattle.record_tables.specs.lemmas.Lists.{all_weaker}
 use Rattle.array_core.specs.declared.array.Array.{Array}
-use Rattle.array_core.specs.Ready.{IsArrayOf}
+use Rattle.array_core.specs.Prelude.{IsArrayOf}
 use Rattle.array_core.proofs.Applied.{segments_sound}
 use Rattle.array_checkpoint.proofs.Next.{same_segment}
 use Rattle.array_checkpoint.proofs.PreparedLemmas.{same_shelf}

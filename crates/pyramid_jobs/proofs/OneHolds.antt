@@ -1,40 +1,19 @@
 -- Once the one patch was written the next tables hold the same base, on the drives that aren't lost.
 use Rattle.std.proofs.Common.{inr, ℕ, List, [], ◌∷◌, map, refl, sym, ap, subst, Bool, Option, Some, None}
 use Rattle.std.specs.List.{AllZip}
-use Rattle.pur_base.specs.Devices.{Geometry, View}
-use Rattle.pur_base.specs.declared.request.Table.{Table}
-use Rattle.pur_base.specs.declared.facts.AnyFact.{AnyFact}
+use Rattle.session_spec.specs.Prelude.{Geometry, View, Table, AnyFact, Patch, BootRecord, NextNumbers, BaseStands, TablesStand, ArePlaces, PatchStands, PatchesStand, all_facts, places_of_part, AreEnough, geometry_of, Shelved, Continues, IsShelf, patch_facts, patches_of, Memory, patches, AreAmong, IsNamed, read_now}
 use Rattle.pur_base.specs.declared.facts.AnyFact.TheVariants as any
-use Rattle.boot_codec.specs.declared.patch.Patch.{Patch}
-use Rattle.boot_codec.specs.declared.record.BootRecord.{BootRecord}
-use Rattle.boot_codec.specs.declared.record.NextNumbers.{NextNumbers}
-use Rattle.array_spec.specs.Base.{BaseStands}
-use Rattle.array_spec.specs.Meaning.{TablesStand}
-use Rattle.array_spec.specs.Sound.{ArePlaces}
-use Rattle.array_spec.specs.Stored.{PatchStands, PatchesStand, all_facts, places_of_part}
-use Rattle.array_spec.specs.Held.{AreEnough}
-use Rattle.world.specs.Losing.{geometry_of}
-use Rattle.world.specs.Shelf.{Shelved, Continues, IsShelf}
-use Rattle.register.specs.Standing.{Content}
-use Rattle.register.specs.Tables.{with_tables}
-use Rattle.pyramid.specs.Layers.{patch_facts, patches_of}
-use Rattle.memory_spec.specs.Memory.{Memory}
-use Rattle.memory_spec.specs.Tables.{patches}
-use Rattle.memory_spec.specs.Contents.{AreAmong}
-use Rattle.memory_spec.specs.Whole.{IsNamed}
+use Rattle.register.specs.Prelude.{Content, with_tables}
 use Rattle.table_plan.specs.declared.merged.Merged.{Merged}
 use Rattle.table_plan.specs.declared.merged.Merged.TheVariants as merged
-use Rattle.table_plan.specs.Merging.{merged_facts, merged_patches, tables_with}
+use Rattle.table_plan.specs.Prelude.{merged_facts, merged_patches, tables_with}
 use Rattle.memory_spec.proofs.Holding.{merged_patches_hold}
 use Rattle.record_tables.proofs.JoinedNamed.{zip_joined}
-use Rattle.segment_io.specs.Stripes.{bytes_of}
-use Rattle.array_core.specs.Free.{WritesFree}
+use Rattle.segment_io.specs.Prelude.{bytes_of}
+use Rattle.array_core.specs.Prelude.{WritesFree, IsArrayOf, IsReady, HoldTables}
 use Rattle.array_core.proofs.Kept.{free_writes_leave}
 use Rattle.array_core.specs.declared.array.Array.{Array}
-use Rattle.array_core.specs.Ready.{IsArrayOf, IsReady}
-use Rattle.array_core.specs.Switching.{HoldTables}
 use Rattle.array_core.proofs.Stages.{later_itself}
-use Rattle.session_spec.specs.Entering.{read_now}
 use Rattle.array_checkpoint.proofs.Left.{AreLeft, among_record, enough_before, not_lost, own_size}
 use Rattle.array_checkpoint.proofs.ShownUnits.{shows_most}
 use Rattle.array_checkpoint.proofs.Stays.{may_stop_now, tables_hold}

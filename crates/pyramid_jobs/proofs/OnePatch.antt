@@ -4,39 +4,21 @@ use Rattle.std.specs.Prelude.{slice_get}
 use Rattle.std.specs.List.{AllByRecursion}
 use Rattle.std.proofs.lemmas.List.{length-map}
 use Rattle.std.proofs.lemmas.Option.{same_Some}
-use Rattle.pur_base.specs.Devices.{Geometry}
-use Rattle.pur_base.specs.Facts.{Facts}
-use Rattle.pur_base.specs.Tags.{tag_of}
-use Rattle.pur_base.specs.declared.device.Device.{Device}
-use Rattle.pur_base.specs.declared.place.Place.{Place}
-use Rattle.pur_base.specs.declared.request.Table.{Table}
+use Rattle.session_spec.specs.Prelude.{Geometry, Facts, tag_of, Device, Place, Table, PATCH_SEGMENTS, Patch, BootRecord, IsPatch, places_of_part, geometry_of, Shelved, Memory, facts, of_each, contains_at}
 use Rattle.pur_base.specs.declared.request.Table.TheVariants as table
-use Rattle.boot_codec.specs.declared.limits.TheConstants.{PATCH_SEGMENTS}
-use Rattle.boot_codec.specs.declared.patch.Patch.{Patch}
-use Rattle.boot_codec.specs.declared.record.BootRecord.{BootRecord}
-use Rattle.boot_codec.specs.Record.{IsPatch}
 use Rattle.array_spec.specs.Sound as sound
-use Rattle.array_spec.specs.Stored.{places_of_part}
 use Rattle.free_space.specs.Laws.{AreUnitsToTake}
 use Rattle.free_space.specs.Map.{shelf_of}
-use Rattle.world.specs.Losing.{geometry_of}
-use Rattle.world.specs.Shelf.{Shelved}
-use Rattle.memory_spec.specs.Memory.{Memory}
-use Rattle.memory_spec.specs.Tables.{facts}
-use Rattle.memory_spec.specs.lemmas.Lists.{of_each, contains_at}
-use Rattle.table_plan.specs.Patches.{ArePatchFacts}
-use Rattle.table_plan.specs.Merging.{merged_facts}
+use Rattle.table_plan.specs.Prelude.{ArePatchFacts, merged_facts}
 use Rattle.table_plan.proofs.MergeLemmas.{are_patch_facts}
 use Rattle.segment_writer.specs.PatchStoring.{AreApart}
-use Rattle.patch_io.specs.Tables.{AreInOrder}
-use Rattle.record_tables.specs.Patches.{new_patch}
-use Rattle.record_tables.specs.Units.{AreNewUnits}
+use Rattle.patch_io.specs.Prelude.{AreInOrder}
+use Rattle.record_tables.specs.Prelude.{new_patch, AreNewUnits, all_weaker}
 use Rattle.record_tables.proofs.Added.{new_some, segments_long, segments_places, the_patch}
 use Rattle.record_tables.proofs.Lawful.{new_lawful}
-use Rattle.record_tables.specs.lemmas.Lists.{all_weaker}
 use Rattle.record_tables.proofs.Neighbours.{few_segments}
 use Rattle.array_core.specs.declared.array.Array.{Array}
-use Rattle.array_core.specs.Ready.{IsArrayOf}
+use Rattle.array_core.specs.Prelude.{IsArrayOf}
 use Rattle.array_checkpoint.proofs.FreeUnits.{IsFreeByte, free_byte}
 use Rattle.array_checkpoint.proofs.Left.{own_size}
 use Rattle.array_checkpoint.proofs.PatchUnits.{part_in, patch_places}

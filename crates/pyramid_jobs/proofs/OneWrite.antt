@@ -1,22 +1,10 @@
 -- What the write of the one patch leaves: only free units were written, and at every moment a session can go on.
 use Rattle.std.proofs.Common.{◌≡◌, ℕ, List, [], ◌∷◌, Bool}
-use Rattle.pur_base.specs.Devices.{nvram}
-use Rattle.pur_base.specs.declared.device.Device.{Device}
-use Rattle.pur_base.specs.declared.request.Table.{Table}
-use Rattle.world.specs.Losing.{geometry_of}
-use Rattle.world.specs.Shelf.{Shelved, Continues, IsShelf, LeavesOnly}
-use Rattle.world.specs.Writes.{WritesOnly}
-use Rattle.world.specs.lemmas.Writes.{writes_more}
-use Rattle.register.specs.Standing.{Content, array_of}
-use Rattle.memory_spec.specs.Memory.{Contents}
-use Rattle.memory_spec.specs.Tables.{facts}
-use Rattle.array_core.specs.Free.{WritesFree}
+use Rattle.session_spec.specs.Prelude.{nvram, Device, Table, geometry_of, Shelved, Continues, IsShelf, LeavesOnly, WritesOnly, writes_more, Contents, facts}
+use Rattle.register.specs.Prelude.{Content, array_of}
+use Rattle.array_core.specs.Prelude.{WritesFree, SegmentsHold, IsArrayOf, IsReady, IsKeptAt, HoldOnLeft}
 use Rattle.array_core.specs.declared.array.Array.{Array}
-use Rattle.array_core.specs.Drives.{SegmentsHold}
-use Rattle.array_core.specs.Ready.{IsArrayOf, IsReady}
-use Rattle.array_core.specs.Performing.{IsKeptAt}
 use Rattle.array_core.proofs.FreeWrites.{free_writes_go_on}
-use Rattle.array_core.specs.Switching.{HoldOnLeft}
 use Rattle.array_checkpoint.proofs.FreeUnits.{on_free, spares_used_by}
 use Rattle.array_checkpoint.proofs.Left.{still_held}
 use Rattle.array_checkpoint.proofs.Stays.{SparesUsed}

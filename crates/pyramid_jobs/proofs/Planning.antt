@@ -1,28 +1,18 @@
 -- What a merge prepares: there are numbers and units for all that it writes.
 use Rattle.std.proofs.Common.{◌≡◌, ℕ, ◌+◌, ◌-◌, ◌^◌, ◌<◌, ◌≤◌, List, ◌∷◌, length, ap, subst, arith, length-append}
-use Rattle.pur_base.specs.Devices.{Geometry}
-use Rattle.pur_base.specs.Facts.{Facts}
-use Rattle.pur_base.specs.Visible.{segments}
-use Rattle.pur_base.specs.declared.request.Table.{Table}
-use Rattle.pur_base.specs.declared.facts.SegmentFact.{SegmentFact}
-use Rattle.boot_codec.specs.declared.record.BootRecord.{BootRecord}
+use Rattle.session_spec.specs.Prelude.{Geometry, Facts, segments, Table, SegmentFact, BootRecord, Memory, facts, patches, zip_long, AreJoined, pair_segments, place_in, IsNamed}
 use Rattle.unit_map.specs.declared.drive.Drive.{Drive}
-use Rattle.unit_map.specs.Map.{IsGroups}
+use Rattle.unit_map.specs.Prelude.{IsGroups}
 use Rattle.free_space.specs.Map.{IsMapOf}
-use Rattle.memory_spec.specs.Memory.{Memory}
-use Rattle.memory_spec.specs.Tables.{facts, patches}
-use Rattle.memory_spec.specs.lemmas.Lists.{zip_long}
-use Rattle.memory_spec.specs.Merging.{AreJoined, pair_segments, place_in}
-use Rattle.memory_spec.specs.Whole.{IsNamed}
 use Rattle.table_plan.specs.declared.merged.Merged.{Merged}
-use Rattle.table_plan.specs.Merging.{merged_facts, pair_facts, patch_count, table_of, IsMergedOf}
+use Rattle.table_plan.specs.Prelude.{merged_facts, pair_facts, patch_count, table_of, IsMergedOf}
 use Rattle.table_plan.proofs.MergeLemmas.{no_more_facts}
-use Rattle.record_tables.specs.Patches.{segments_for}
+use Rattle.record_tables.specs.Prelude.{segments_for}
 use Rattle.record_tables.proofs.JoinedNamed.{joined_are_named}
 use Rattle.record_tables.proofs.Neighbours.{few_segments}
 use Rattle.record_tables.proofs.Pairs.{pairs_are_named}
 use Rattle.array_core.specs.declared.array.Array.{Array}
-use Rattle.array_core.specs.Ready.{IsArrayOf}
+use Rattle.array_core.specs.Prelude.{IsArrayOf}
 use Rattle.array_checkpoint.proofs.PreparedLemmas.{are_low, has_groups}
 use Rattle.pyramid_jobs.specs.Checked.{MayMerge}
 

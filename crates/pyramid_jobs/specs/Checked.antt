@@ -1,11 +1,10 @@
 -- When two patches of a table may be merged, and why they aren't.
 use Rattle.std.specs.Prelude.{◌≡◌, ℕ, ◌+◌, ◌<◌, ◌≤◌, true, false}
-use Rattle.pur_base.specs.declared.request.Table.{Table}
-use Rattle.memory_spec.specs.Merging.{has_pair, pair_segments}
+use Rattle.session_spec.specs.Prelude.{Table, has_pair, pair_segments}
 use Rattle.session_spec.specs.declared.limits.TheConstants.{MERGE_GROUPS}
 use Rattle.array_core.specs.declared.array.Array.{Array}
-use Rattle.array_core.specs.Ready.{is_spent}
-use Rattle.array_checkpoint.specs.Room.{HasGroups}
+use Rattle.array_core.specs.Prelude.{is_spent}
+use Rattle.array_checkpoint.specs.Prelude.{HasGroups}
 use Rattle.pyramid_jobs.specs.declared.fault.MergeFault.{MergeFault}
 use Rattle.pyramid_jobs.specs.declared.fault.MergeFault.TheVariants as fault
 

@@ -1,20 +1,11 @@
 -- What a merge makes of an array, and why it isn't made.
 use Rattle.std.specs.Prelude.{◌≡◌, ℕ, ◌+◌, ◌<◌, ◌≤◌, List, []}
-use Rattle.pur_base.specs.Devices.{Geometry}
-use Rattle.pur_base.specs.declared.request.Table.{Table}
-use Rattle.boot_codec.specs.declared.patch.Patch.{Patch}
-use Rattle.boot_codec.specs.Record.{patch_segments}
-use Rattle.array_spec.specs.Sound.{AreSound}
-use Rattle.array_spec.specs.Stored.{all_facts}
-use Rattle.world.specs.Shelf.{Shelved}
-use Rattle.memory_spec.specs.Tables.{patches}
-use Rattle.memory_spec.specs.Merging.{AreJoined, HaveShrunk, pair_segments, place_in}
+use Rattle.session_spec.specs.Prelude.{Geometry, Table, Patch, patch_segments, AreSound, all_facts, Shelved, patches, AreJoined, HaveShrunk, pair_segments, place_in}
 use Rattle.table_plan.specs.declared.merged.Merged.{Merged}
-use Rattle.table_plan.specs.Merging.{memory_with, merged_patches, table_of, IsMergedOf}
-use Rattle.array_memory.specs.Plan.{with_patch_rooms}
+use Rattle.table_plan.specs.Prelude.{memory_with, merged_patches, table_of, IsMergedOf}
+use Rattle.array_memory.specs.Prelude.{with_patch_rooms}
 use Rattle.array_core.specs.declared.array.Array.{Array}
-use Rattle.array_core.specs.Going.{by_faults}
-use Rattle.array_core.specs.Goes.{Halts}
+use Rattle.array_core.specs.Prelude.{by_faults, Halts}
 use Rattle.pyramid_jobs.specs.declared.fault.MergeFault.{MergeFault}
 use Rattle.pyramid_jobs.specs.declared.fault.MergeFault.TheVariants as fault
 use Rattle.pyramid_jobs.specs.Checked.{IsCheckFault, MayMerge}

@@ -1,18 +1,10 @@
 -- What a merge writes and stores, once all memory is taken for it.
 use Rattle.std.specs.Prelude.{◌≡◌, ℕ, ◌+◌, ◌<◌, ◌≤◌, ◌^◌, true, List, length}
-use Rattle.pur_base.specs.Tags.{tag_of}
-use Rattle.pur_base.specs.declared.request.Table.{Table}
-use Rattle.pur_base.specs.declared.place.Place.{Place}
-use Rattle.boot_codec.specs.declared.limits.TheConstants.{NUMBER_LIMIT}
-use Rattle.register.specs.Standing.{Content}
-use Rattle.memory_spec.specs.Tables.{facts, patches}
-use Rattle.memory_spec.specs.Memory.{Memory}
-use Rattle.memory_spec.specs.Merging.{AreJoined, has_pair, pair_segments, place_in}
+use Rattle.session_spec.specs.Prelude.{tag_of, Table, Place, NUMBER_LIMIT, facts, patches, Memory, AreJoined, has_pair, pair_segments, place_in}
+use Rattle.register.specs.Prelude.{Content}
 use Rattle.table_plan.specs.declared.merged.Merged.{Merged}
-use Rattle.table_plan.specs.Merging.{merged_facts, table_of, tables_with, IsMergedOf}
-use Rattle.record_tables.specs.Joined.{HasMergedFacts}
-use Rattle.record_tables.specs.Patches.{new_patch, segments_for}
-use Rattle.record_tables.specs.Units.{AreNewUnits}
+use Rattle.table_plan.specs.Prelude.{merged_facts, table_of, tables_with, IsMergedOf}
+use Rattle.record_tables.specs.Prelude.{HasMergedFacts, new_patch, segments_for, AreNewUnits}
 use Rattle.array_core.specs.declared.array.Array.{Array}
 use Rattle.pyramid_jobs.specs.declared.preparing.Prepared.{Prepared}
 

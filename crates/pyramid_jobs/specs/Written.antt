@@ -1,13 +1,8 @@
 -- The one patch that a merge writes, or none.
 use Rattle.std.specs.Prelude.{◌≡◌, ℕ, ◌+◌, Bool, List, Some, slice_get}
-use Rattle.pur_base.specs.Devices.{View}
-use Rattle.pur_base.specs.declared.device.Device.{Device}
-use Rattle.pur_base.specs.declared.facts.AnyFact.{AnyFact}
-use Rattle.boot_codec.specs.declared.patch.Patch.{Patch}
-use Rattle.segment_codec.specs.declared.position.TheConstants.{STRIPES}
-use Rattle.array_spec.specs.Stored.{PatchStands}
-use Rattle.world.specs.Shelf.{Shelved, Stop, MayStop}
-use Rattle.segment_writer.specs.PatchStoring.{IsOnPatch, MayBeStored, OnPatch, ShowsMostOf, MayBeHeaded}
+use Rattle.session_spec.specs.Prelude.{View, Device, AnyFact, Patch, STRIPES, PatchStands, Shelved, Stop, MayStop}
+use Rattle.segment_writer.specs.Prelude.{IsOnPatch, MayBeStored, OnPatch, MayBeHeaded}
+use Rattle.segment_writer.specs.PatchStoring.{ShowsMostOf}
 
 -- the patch, where the list has one
 abbrev pub IsOne : List Patch → Patch → Type 0

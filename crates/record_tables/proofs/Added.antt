@@ -4,11 +4,8 @@ use Rattle.std.specs.List.{AllByRecursion, flat_map}
 use Rattle.std.proofs.lemmas.Grind.{flat_map-append}
 use Rattle.std.proofs.lemmas.List.{map-append, length-take, length-drop, take-append-drop, drop-drop, drop_more}
 use Rattle.std.proofs.lemmas.List.Sums.{sum_by-cons, sum_by-drop_more}
-use Rattle.pur_base.specs.declared.place.Place.{Place}
-use Rattle.boot_codec.specs.declared.patch.PatchSegment.{PatchSegment}
-use Rattle.boot_codec.specs.declared.patch.Patch.{Patch}
+use Rattle.memory_spec.specs.Prelude.{Place, PatchSegment, Patch, all_append}
 use Rattle.record_tables.specs.Patches.{segments_for, segments_from, new_patch, added_from}
-use Rattle.array_spec.specs.lemmas.Used.{all_append}
 
 -- ---- segments
 

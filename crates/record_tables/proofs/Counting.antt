@@ -5,11 +5,7 @@ use Rattle.std.proofs.lemmas.Bool.{cases_lt, lt-ltb, le-ltb}
 use Rattle.std.proofs.lemmas.List.{drop-append-le, take-append-le, get_or-drop, length-append, length-drop, take_more}
 use Rattle.std.proofs.lemmas.List.Elements.{filter-append}
 use Rattle.std.proofs.lemmas.List.Sums.{sum_by-append, sum_by-cons, sum_by_more_le}
-use Rattle.pur_base.specs.Tags.{tag_of}
-use Rattle.pur_base.specs.declared.request.Table.{Table}
-use Rattle.boot_codec.specs.declared.patch.Patch.{Patch}
-use Rattle.boot_codec.specs.Record.{patch_segments}
-use Rattle.memory_spec.specs.Merging.{pair_segments}
+use Rattle.memory_spec.specs.Prelude.{tag_of, Table, Patch, patch_segments, pair_segments}
 use Rattle.record_tables.specs.Patches.{of_tag}
 use Rattle.record_tables.proofs.Neighbours.{few_segments}
 

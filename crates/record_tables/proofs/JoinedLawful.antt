@@ -2,21 +2,14 @@
 use Rattle.std.proofs.Common.{◌≡◌, ℕ, ◌+◌, ◌^◌, ◌<◌, ◌≤◌, List, [], ◌∷◌, ◌++◌, length, true, refl, sym, ap, ◌∙◌, arith, subst}
 use Rattle.std.specs.List.{AllByRecursion}
 use Rattle.std.proofs.lemmas.List.Sums.{sum_by-append, sum_by-cons}
-use Rattle.pur_base.specs.Tags.{tag_of}
-use Rattle.pur_base.specs.declared.request.Table.{Table}
-use Rattle.pur_base.specs.declared.place.Place.{Place}
+use Rattle.memory_spec.specs.Prelude.{tag_of, Table, Place, Patch, IsPatch, ByTagFrom, ArePatches, patch_segments, ArePlaces, AreJoined, has_pair, pair_segments, place_in, all_append, all_append_left, all_append_right}
 use Rattle.boot_codec.specs.declared.limits.TheConstants.{NUMBER_LIMIT}
-use Rattle.boot_codec.specs.declared.patch.Patch.{Patch}
-use Rattle.boot_codec.specs.Record.{IsPatch, ByTagFrom, ArePatches, patch_segments}
-use Rattle.array_spec.specs.Sound.{ArePlaces}
-use Rattle.memory_spec.specs.Merging.{AreJoined, has_pair, pair_segments, place_in}
 use Rattle.record_tables.specs.Patches.{segments_for, new_patch}
 use Rattle.record_tables.specs.Joined.{JoinedAreLawful}
 use Rattle.record_tables.proofs.Tags.{HaveTag, lower, behind_tag}
 use Rattle.record_tables.proofs.Added.{new_each}
 use Rattle.record_tables.proofs.Lawful.{new_lawful, new_room, fewer}
 use Rattle.record_tables.proofs.Neighbours.{ArePair, joined_pair, two_segments}
-use Rattle.array_spec.specs.lemmas.Used.{all_append, all_append_left, all_append_right}
 
 -- ---- tags
 

@@ -2,21 +2,12 @@
 use Rattle.std.proofs.Common.{◌≡◌, ℕ, ◌+◌, ◌<◌, ◌≤◌, List, [], ◌∷◌, ◌++◌, length, get_or, map, take, drop, refl, sym, ap, ◌∙◌, arith, subst, append_assoc, Option, Some, None}
 use Rattle.std.specs.List.{AllByRecursion, AllZip}
 use Rattle.std.proofs.lemmas.List.{map-append, length-append, length-map, length-take-le}
-use Rattle.pur_base.specs.Facts.{table_tag}
-use Rattle.pur_base.specs.Tags.{tag_of}
+use Rattle.memory_spec.specs.Prelude.{table_tag, tag_of, Place, AnyFact, patch_facts, patches_of, Memory, Tables, patches, zip_long, AreJoined, place_in, IsNamed}
 use Rattle.pur_base.specs.declared.request.Table.TheVariants as table
-use Rattle.pur_base.specs.declared.place.Place.{Place}
-use Rattle.pur_base.specs.declared.facts.AnyFact.{AnyFact}
 use Rattle.pur_base.specs.declared.facts.AnyFact.TheVariants as any
-use Rattle.pyramid.specs.Layers.{patch_facts, patches_of}
-use Rattle.memory_spec.specs.Memory.{Memory}
-use Rattle.memory_spec.specs.Tables.{Tables, patches}
-use Rattle.memory_spec.specs.lemmas.Lists.{zip_long}
-use Rattle.memory_spec.specs.Merging.{AreJoined, place_in}
-use Rattle.memory_spec.specs.Whole.{IsNamed}
 use Rattle.table_plan.specs.declared.merged.Merged.{Merged}
 use Rattle.table_plan.specs.declared.merged.Merged.TheVariants as merged
-use Rattle.table_plan.specs.Merging.{merged_patches, patch_count, table_of, tables_with, IsMergedOf}
+use Rattle.table_plan.specs.Prelude.{merged_patches, patch_count, table_of, tables_with, IsMergedOf}
 use Rattle.record_tables.specs.Patches.{new_patch}
 use Rattle.record_tables.specs.Joined.{JoinedAreNamed, MergedIsNamed}
 use Rattle.record_tables.specs.lemmas.Lists.{zip_join, zip_parts}

@@ -4,17 +4,13 @@ use Rattle.std.specs.List.{AllByRecursion}
 use Rattle.std.proofs.lemmas.List.{take-append-drop}
 use Rattle.std.proofs.lemmas.List.Concat.{length-flat_map}
 use Rattle.std.proofs.lemmas.List.Sums.{sum_by-cons}
-use Rattle.pur_base.specs.declared.place.Place.{Place}
-use Rattle.boot_codec.specs.declared.patch.Patch.{Patch}
-use Rattle.boot_codec.specs.Record.{IsSegment, IsPatch, ByTagFrom, patch_segments}
-use Rattle.array_spec.specs.Sound.{ArePlaces}
+use Rattle.memory_spec.specs.Prelude.{Place, Patch, IsSegment, IsPatch, ByTagFrom, patch_segments, ArePlaces, all_append, all_append_left, all_append_right}
 use Rattle.record_tables.specs.Patches.{segments_for, counts_of, segments_from, new_patch, added_from, added_patches, by_tag}
 use Rattle.record_tables.specs.Laws.{NextPatchesAreLawful}
 use Rattle.record_tables.specs.lemmas.Lists.{all_weaker}
 use Rattle.record_tables.proofs.Woven.{Woven, woven_all, woven_sum}
 use Rattle.record_tables.proofs.Tags.{HaveTagsBelow, woven_in_order, ordered}
 use Rattle.record_tables.proofs.Added.{new_some, new_each, segments_long, patch_segments_are, taken_long, left_long, added_segments}
-use Rattle.array_spec.specs.lemmas.Used.{all_append, all_append_left, all_append_right}
 
 -- ---- tags
 

@@ -2,25 +2,16 @@
 use Rattle.std.proofs.Common.{◌≡◌, ℕ, suc, ◌+◌, ◌≤◌, List, [], ◌∷◌, ◌++◌, length, refl, sym, ap, ◌∙◌, arith, subst, map, Option, Some, None, append-nil}
 use Rattle.std.specs.List.{AllByRecursion, AllZip}
 use Rattle.std.proofs.lemmas.List.{map-append, length-map}
-use Rattle.pur_base.specs.Facts.{table_tag}
-use Rattle.pur_base.specs.declared.place.Place.{Place}
-use Rattle.pur_base.specs.declared.facts.AnyFact.{AnyFact}
+use Rattle.memory_spec.specs.Prelude.{table_tag, Place, AnyFact, Patch, IsPatch, patch_facts, patches_of, patches, Memory, IsNamed, all_append, all_append_left, all_append_right}
 use Rattle.pur_base.specs.declared.facts.AnyFact.TheVariants as any
-use Rattle.boot_codec.specs.declared.patch.Patch.{Patch}
-use Rattle.boot_codec.specs.Record.{IsPatch}
-use Rattle.pyramid.specs.Layers.{patch_facts, patches_of}
-use Rattle.memory_spec.specs.Tables.{patches}
-use Rattle.memory_spec.specs.Memory.{Memory}
-use Rattle.memory_spec.specs.Whole.{IsNamed}
 use Rattle.array_memory.specs.declared.plan.Counts.{Counts}
 use Rattle.array_memory.specs.declared.plan.Plan.{Plan}
-use Rattle.array_memory.specs.Plan.{after_plan, AreCounts}
+use Rattle.array_memory.specs.Prelude.{after_plan, AreCounts}
 use Rattle.record_tables.specs.Patches.{counts_of, new_patch, added_patches, by_tag}
 use Rattle.record_tables.specs.Laws.{HasFacts, HaveFacts, new_facts, AddedAreNamed, AddedTakeTheUnits, NextPatchesAreNamed}
 use Rattle.record_tables.specs.lemmas.Lists.{all_weaker, zip_join, zip_split, zip_weaker, zip_both}
 use Rattle.record_tables.proofs.Tags.{HaveTag, HaveTagsFrom, in_order, first_table}
 use Rattle.record_tables.proofs.Added.{new_some, added_filled, added_places}
-use Rattle.array_spec.specs.lemmas.Used.{all_append, all_append_left, all_append_right}
 
 -- ---- the new patches
 

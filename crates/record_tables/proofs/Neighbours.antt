@@ -6,12 +6,7 @@ use Rattle.std.proofs.lemmas.List.{take-append-drop, drop_more, length-append, l
 use Rattle.std.proofs.lemmas.List.Elements.{Contains-get_or, filter-append}
 use Rattle.std.proofs.lemmas.List.Sums.{sum_by-append, sum_by-cons, sum_by-take-drop, sum_by-take-le}
 use Rattle.std.proofs.lemmas.List.Filters.{sum_by-filter_both}
-use Rattle.pur_base.specs.Tags.{tag_of}
-use Rattle.pur_base.specs.declared.request.Table.{Table}
-use Rattle.boot_codec.specs.declared.patch.Patch.{Patch}
-use Rattle.boot_codec.specs.Record.{ByTagFrom, patch_segments}
-use Rattle.memory_spec.specs.lemmas.Lists.{of_each}
-use Rattle.memory_spec.specs.Merging.{AreJoined, has_pair, pair_segments, place_in}
+use Rattle.memory_spec.specs.Prelude.{tag_of, Table, Patch, ByTagFrom, patch_segments, of_each, AreJoined, has_pair, pair_segments, place_in}
 use Rattle.record_tables.specs.Patches.{of_tag}
 use Rattle.record_tables.specs.lemmas.Lists.{all_weaker}
 use Rattle.record_tables.proofs.Tags.{HaveTag, HaveTagsFrom, HaveTagsBelow, parted, tags_from, of_tag_none, of_tag_front}

@@ -6,26 +6,15 @@ use Rattle.std.proofs.lemmas.Bool.{lt-ltb, ltb-true}
 use Rattle.std.proofs.lemmas.Grind.{div_ceil_times}
 use Rattle.std.proofs.lemmas.List.{length-map}
 use Rattle.std.proofs.lemmas.List.Elements.{Contains-get_or}
-use Rattle.pur_base.specs.Facts.{table_tag}
-use Rattle.pur_base.specs.Tags.{tag_of}
-use Rattle.pur_base.specs.declared.request.Table.{Table}
+use Rattle.memory_spec.specs.Prelude.{table_tag, tag_of, Table, AnyFact, FACTS_PER_SEGMENT, PATCH_SEGMENTS, Patch, IsPatch, ArePatches, patch_segments, Tables, patches, of_each, zip_long, has_pair, pair_segments, IsNamed, all_append, all_append_left, all_append_right}
 use Rattle.pur_base.specs.declared.request.Table.TheVariants as table
-use Rattle.pur_base.specs.declared.facts.AnyFact.{AnyFact}
 use Rattle.pur_base.specs.declared.facts.AnyFact.TheVariants as any
-use Rattle.boot_codec.specs.declared.limits.TheConstants.{FACTS_PER_SEGMENT, PATCH_SEGMENTS}
-use Rattle.boot_codec.specs.declared.patch.Patch.{Patch}
-use Rattle.boot_codec.specs.Record.{IsPatch, ArePatches, patch_segments}
-use Rattle.memory_spec.specs.Tables.{Tables, patches}
-use Rattle.memory_spec.specs.lemmas.Lists.{of_each, zip_long}
-use Rattle.memory_spec.specs.Merging.{has_pair, pair_segments}
-use Rattle.memory_spec.specs.Whole.{IsNamed}
-use Rattle.table_plan.specs.Merging.{pair_facts, patch_count}
+use Rattle.table_plan.specs.Prelude.{pair_facts, patch_count}
 use Rattle.record_tables.specs.Patches.{segments_for, of_tag}
 use Rattle.record_tables.specs.Joined.{PairsAreNamed}
 use Rattle.record_tables.specs.lemmas.Lists.{all_weaker, zip_split, zip_at}
 use Rattle.record_tables.proofs.Named.{AreFilled, tags_pass, all_pass}
 use Rattle.record_tables.proofs.Neighbours.{IsParting, own_is, no_patch, two_left, two_segments, few_segments}
-use Rattle.array_spec.specs.lemmas.Used.{all_append, all_append_left, all_append_right}
 
 -- ---- segments for facts
 

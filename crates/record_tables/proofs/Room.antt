@@ -3,7 +3,7 @@ use Rattle.std.proofs.Common.{◌≡◌, ℕ, zero, suc, ◌+◌, ◌*◌, ◌<�
 use Rattle.std.proofs.lemmas.Bool.{cases_lt}
 use Rattle.std.proofs.lemmas.List.Sums.{sum_by-cons}
 use Rattle.unit_map.specs.declared.drive.Drive.{Drive}
-use Rattle.unit_map.specs.Map.{free_count, share, total_at, IsGroups, LowersByOne}
+use Rattle.unit_map.specs.Prelude.{free_count, share, total_at, IsGroups, LowersByOne}
 use Rattle.unit_map.proofs.RoomLemmas.{groups-between}
 
 share_most : (member : Bool) (free groups : ℕ) → cond member (min groups free) 0 ≤ free

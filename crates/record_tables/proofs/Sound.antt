@@ -3,25 +3,12 @@ use Rattle.std.proofs.Common.{◌≡◌, ◌≢◌, ℕ, ◌+◌, ◌<◌, ◌�
 use Rattle.std.specs.List.{AllByRecursion, list_any}
 use Rattle.std.proofs.lemmas.List.{map-append}
 use Rattle.std.proofs.lemmas.List.Elements.{Contains-append_left, Contains-append_right, Contains-append_cases}
-use Rattle.pur_base.specs.Facts.{Facts}
-use Rattle.pur_base.specs.Visible.{segments}
-use Rattle.pur_base.specs.declared.place.Place.{Place}
-use Rattle.pur_base.specs.declared.facts.SegmentFact.{SegmentFact}
-use Rattle.boot_codec.specs.declared.patch.PatchSegment.{PatchSegment}
-use Rattle.boot_codec.specs.declared.patch.Patch.{Patch}
-use Rattle.boot_codec.specs.declared.record.NextNumbers.{NextNumbers}
-use Rattle.boot_codec.specs.declared.record.BootRecord.{BootRecord}
-use Rattle.boot_codec.specs.Record.{IsBootRecord}
-use Rattle.array_spec.specs.Counts.{is_place}
-use Rattle.array_spec.specs.Sound.{AreApart, AreSegmentsSound, named_segments, used_places}
+use Rattle.memory_spec.specs.Prelude.{Facts, segments, Place, SegmentFact, PatchSegment, Patch, NextNumbers, BootRecord, IsBootRecord, is_place, AreApart, AreSegmentsSound, named_segments, used_places, facts, Memory, each_by_recursion, of_each, in_map}
 use Rattle.free_space.specs.Map.{shelf_of}
 use Rattle.free_space.specs.Laws.{AreUnitsToTake}
-use Rattle.memory_spec.specs.Tables.{facts}
-use Rattle.memory_spec.specs.Memory.{Memory}
-use Rattle.memory_spec.specs.lemmas.Lists.{each_by_recursion, of_each, in_map}
 use Rattle.array_memory.specs.declared.plan.Counts.{Counts}
 use Rattle.array_memory.specs.declared.plan.Plan.{Plan}
-use Rattle.array_memory.specs.Plan.{after_plan, units_of, IsPlanFor}
+use Rattle.array_memory.specs.Prelude.{after_plan, units_of, IsPlanFor}
 use Rattle.record_tables.specs.Patches.{counts_of, segments_of, segments_from, added_patches, by_tag}
 use Rattle.record_tables.specs.Units.{AreNewUnits}
 use Rattle.record_tables.specs.Laws.{with_patches, NextSegmentsAreSound}

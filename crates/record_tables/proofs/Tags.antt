@@ -3,12 +3,10 @@ use Rattle.std.proofs.Common.{◌≡◌, ◌≢◌, ℕ, zero, suc, ◌+◌, ◌
 use Rattle.std.specs.List.{AllByRecursion, flat_map, range_with_len}
 use Rattle.std.proofs.lemmas.Bool.{cases_lt, eqb-true}
 use Rattle.std.proofs.lemmas.List.Elements.{filter-append}
-use Rattle.boot_codec.specs.declared.patch.Patch.{Patch}
-use Rattle.boot_codec.specs.Record.{ByTagFrom}
+use Rattle.memory_spec.specs.Prelude.{Patch, ByTagFrom, all_append, all_append_right}
 use Rattle.record_tables.specs.Patches.{of_tag}
 use Rattle.record_tables.specs.lemmas.Lists.{all_weaker}
 use Rattle.record_tables.proofs.Woven.{Woven, woven_append, woven_joined}
-use Rattle.array_spec.specs.lemmas.Used.{all_append, all_append_right}
 
 -- of one table
 abbrev pub HaveTag : ℕ → List Patch → Type 0

@@ -5,24 +5,16 @@ use Rattle.std.proofs.lemmas.Bool.{cases_Bool, and_parts, and_from, or_parts, no
 use Rattle.std.proofs.lemmas.Grind.{flat_map-append}
 use Rattle.std.proofs.lemmas.List.{length-append}
 use Rattle.std.proofs.lemmas.List.Folds.{list_any_at, list_any-append}
-use Rattle.pur_base.specs.Facts.{Facts}
-use Rattle.pur_base.specs.declared.limits.TheConstants.{SEGMENT_SHARDS}
-use Rattle.pur_base.specs.declared.place.Place.{Place}
-use Rattle.boot_codec.specs.declared.record.BootRecord.{BootRecord}
-use Rattle.array_spec.specs.Counts.{is_place, is_used}
-use Rattle.array_spec.specs.Sound.{AreApart}
-use Rattle.pyramid.specs.lemmas.Contains.{either, nowhere}
+use Rattle.memory_spec.specs.Prelude.{Facts, SEGMENT_SHARDS, Place, BootRecord, is_place, is_used, AreApart, either, nowhere, each_by_recursion, all_append}
 use Rattle.unit_map.specs.declared.drive.Drive.{Drive}
-use Rattle.unit_map.specs.Map.{with_units, IsTaken, IsGroups, LowersByOne}
+use Rattle.unit_map.specs.Prelude.{with_units, IsTaken, IsGroups, LowersByOne}
 use Rattle.free_space.specs.Map.{IsMapOf, IsMapBut, is_data_unit, is_member, used_or_among}
 use Rattle.free_space.specs.Laws.{AreUnitsToTake}
 use Rattle.free_space.proofs.LawLemmas.{taken_units_are_free, taken_units_are_used}
 use Rattle.free_space.proofs.Units.{same_used}
-use Rattle.memory_spec.specs.lemmas.Lists.{each_by_recursion}
 use Rattle.record_tables.specs.Units.{all_units, AreNewUnits, IsMapAfter, NoneIsTaken}
 use Rattle.record_tables.specs.lemmas.Lists.{no_pairs, cons_pairs, pairs_append}
 use Rattle.record_tables.proofs.Room.{HasRoom, room_left, one_lower, none_lower}
-use Rattle.array_spec.specs.lemmas.Used.{all_append}
 
 -- ---- units that aren't among others
 

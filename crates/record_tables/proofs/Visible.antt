@@ -3,35 +3,15 @@ use Rattle.std.proofs.Common.{◌≡◌, ◌⊎◌, ℕ, zero, suc, ◌+◌, ◌
 use Rattle.std.specs.List.{cons_option, range_with_len}
 use Rattle.std.proofs.lemmas.Bool.{cases_lt}
 use Rattle.std.proofs.lemmas.List.Elements.{Contains-append_cases, filter_map-append}
-use Rattle.pur_base.specs.Facts.{Facts, segment_key, elision_key, never, is_narrower}
-use Rattle.pur_base.specs.Keys.{key_of, id_of}
-use Rattle.pur_base.specs.Says.{has_key, unless_empty}
-use Rattle.pur_base.specs.Visible.{segment, segments, is_elided}
-use Rattle.pur_base.specs.declared.limits.TheConstants.{SEGMENT_SECTORS}
-use Rattle.pur_base.specs.declared.place.Place.{Place}
-use Rattle.pur_base.specs.declared.request.Table.{Table}
+use Rattle.memory_spec.specs.Prelude.{Facts, segment_key, elision_key, never, is_narrower, key_of, id_of, has_key, unless_empty, segment, segments, is_elided, SEGMENT_SECTORS, Place, Table, SegmentFact, says_is, Layers, facts_of, newest_of, AreCovered, later, here, there, id_of_key, newest-append, later_none, facts, Memory, only_newest, no_newest, each_by_recursion, of_each, IsTableFlushed, flushed_within, flushed_says, grows_all, same_some}
 use Rattle.pur_base.specs.declared.request.Table.TheVariants as table
-use Rattle.pur_base.specs.declared.facts.SegmentFact.{SegmentFact}
-use Rattle.pur_base.specs.lemmas.Says.{says_is}
-use Rattle.pyramid.specs.Layers.{Layers, facts_of, newest_of, AreCovered}
-use Rattle.pyramid.specs.Merging.{later}
-use Rattle.pyramid.specs.lemmas.Contains.{here, there}
 use Rattle.pyramid.proofs.CoverLemmas.{cover_put}
 use Rattle.pyramid.proofs.ElisionLemmas.{same_ids}
-use Rattle.pyramid.specs.lemmas.Keys.{id_of_key}
-use Rattle.pyramid.specs.lemmas.Newest.{newest-append, later_none}
-use Rattle.memory_spec.specs.Tables.{facts}
-use Rattle.memory_spec.specs.Memory.{Memory}
-use Rattle.memory_spec.specs.lemmas.Adding.{only_newest, no_newest}
 use Rattle.memory_spec.proofs.Created.{not_elided}
-use Rattle.memory_spec.specs.lemmas.Lists.{each_by_recursion, of_each}
-use Rattle.memory_spec.specs.Flushing.{IsTableFlushed}
-use Rattle.memory_spec.specs.lemmas.Flushed.{flushed_within, flushed_says, grows_all}
-use Rattle.table_plan.specs.Segments.{segments_from}
+use Rattle.table_plan.specs.Prelude.{segments_from}
 use Rattle.table_plan.proofs.SegmentsLemmas.{IsNewSegment, is_new_segment}
 use Rattle.array_memory.specs.declared.plan.Plan.{Plan}
-use Rattle.array_memory.specs.Plan.{after_plan, units_of, IsPlanFor}
-use Rattle.array_spec.specs.lemmas.Mediums.{same_some}
+use Rattle.array_memory.specs.Prelude.{after_plan, units_of, IsPlanFor}
 
 -- ---- ids, one after another
 

@@ -2,7 +2,7 @@
 use Rattle.std.proofs.Common.{◌≡◌, ◌⊎◌, ℕ, ◌+◌, List, [], ◌∷◌, ◌++◌, refl, sym, ap, arith, inl, inr, subst, map, sum_by, Contains, AllPairs}
 use Rattle.std.specs.List.{AllByRecursion, flat_map}
 use Rattle.std.proofs.lemmas.List.Sums.{sum_by-cons}
-use Rattle.pyramid.specs.lemmas.Contains.{here, there, either, nowhere}
+use Rattle.memory_spec.specs.Prelude.{here, there, either, nowhere}
 use Rattle.record_tables.specs.lemmas.Lists.{pairs_head, pairs_tail, no_pairs, cons_pairs}
 
 -- the elements of the third list are those of the two others

@@ -1,24 +1,11 @@
 -- What is told of a record's patches where two of a table stand as one. Functions without code promise, as their contracts, laws of these definitions.
 use Rattle.std.specs.Prelude.{◌≡◌, ℕ, ◌+◌, ◌^◌, ◌<◌, ◌≤◌, true, List, length}
 use Rattle.std.specs.List.{AllByRecursion, AllZip}
-use Rattle.pur_base.specs.Facts.{Facts}
-use Rattle.pur_base.specs.Tags.{tag_of}
-use Rattle.pur_base.specs.Visible.{segment}
-use Rattle.pur_base.specs.declared.request.Table.{Table}
-use Rattle.pur_base.specs.declared.place.Place.{Place}
+use Rattle.memory_spec.specs.Prelude.{Facts, tag_of, segment, Table, Place, Patch, NextNumbers, BootRecord, ArePatches, IsBootRecord, patch_segments, ArePlaces, AreSegmentsSound, Memory, patches, AreJoined, has_pair, pair_segments, place_in, IsNamed}
 use Rattle.boot_codec.specs.declared.limits.TheConstants.{NUMBER_LIMIT}
-use Rattle.boot_codec.specs.declared.patch.Patch.{Patch}
-use Rattle.boot_codec.specs.declared.record.NextNumbers.{NextNumbers}
-use Rattle.boot_codec.specs.declared.record.BootRecord.{BootRecord}
-use Rattle.boot_codec.specs.Record.{ArePatches, IsBootRecord, patch_segments}
-use Rattle.array_spec.specs.Sound.{ArePlaces, AreSegmentsSound}
 use Rattle.free_space.specs.Map.{shelf_of}
-use Rattle.memory_spec.specs.Memory.{Memory}
-use Rattle.memory_spec.specs.Tables.{patches}
-use Rattle.memory_spec.specs.Merging.{AreJoined, has_pair, pair_segments, place_in}
-use Rattle.memory_spec.specs.Whole.{IsNamed}
 use Rattle.table_plan.specs.declared.merged.Merged.{Merged}
-use Rattle.table_plan.specs.Merging.{merged_facts, merged_patches, pair_facts, patch_count, table_of, tables_with, IsMergedOf}
+use Rattle.table_plan.specs.Prelude.{merged_facts, merged_patches, pair_facts, patch_count, table_of, tables_with, IsMergedOf}
 use Rattle.record_tables.specs.Laws.{with_patches}
 use Rattle.record_tables.specs.Patches.{new_patch, segments_for}
 use Rattle.record_tables.specs.Units.{AreNewUnits}

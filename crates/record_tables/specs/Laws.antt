@@ -1,23 +1,13 @@
 -- What is told of the patches of the next boot record.
 use Rattle.std.specs.Prelude.{◌≡◌, ℕ, ◌+◌, ◌<◌, ◌≤◌, List, ◌++◌, length, map, Option, IfSome}
 use Rattle.std.specs.List.{AllByRecursion, AllZip, flat_map}
-use Rattle.pur_base.specs.declared.place.Place.{Place}
-use Rattle.pur_base.specs.declared.facts.AnyFact.{AnyFact}
+use Rattle.memory_spec.specs.Prelude.{Place, AnyFact, PATCH_SEGMENTS, Patch, NextNumbers, BootRecord, ArePatches, IsBootRecord, patch_segments, ArePlaces, AreSegmentsSound, patches_of, facts, patches, Memory, IsNamed}
 use Rattle.pur_base.specs.declared.facts.AnyFact.TheVariants as any
-use Rattle.boot_codec.specs.declared.limits.TheConstants.{NUMBER_LIMIT, PATCH_SEGMENTS}
-use Rattle.boot_codec.specs.declared.patch.Patch.{Patch}
-use Rattle.boot_codec.specs.declared.record.NextNumbers.{NextNumbers}
-use Rattle.boot_codec.specs.declared.record.BootRecord.{BootRecord}
-use Rattle.boot_codec.specs.Record.{ArePatches, IsBootRecord, patch_segments}
-use Rattle.array_spec.specs.Sound.{ArePlaces, AreSegmentsSound}
+use Rattle.boot_codec.specs.declared.limits.TheConstants.{NUMBER_LIMIT}
 use Rattle.free_space.specs.Map.{shelf_of}
-use Rattle.pyramid.specs.Layers.{patches_of}
-use Rattle.memory_spec.specs.Tables.{facts, patches}
-use Rattle.memory_spec.specs.Memory.{Memory}
-use Rattle.memory_spec.specs.Whole.{IsNamed}
 use Rattle.array_memory.specs.declared.plan.Counts.{Counts}
 use Rattle.array_memory.specs.declared.plan.Plan.{Plan}
-use Rattle.array_memory.specs.Plan.{after_plan, units_of, AreCounts, IsPlanFor}
+use Rattle.array_memory.specs.Prelude.{after_plan, units_of, AreCounts, IsPlanFor}
 use Rattle.record_tables.specs.Patches.{segments_of, FitRecord, added_patches, by_tag}
 use Rattle.record_tables.specs.Units.{AreNewUnits}
 

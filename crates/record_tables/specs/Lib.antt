@@ -3,3 +3,4 @@ pub mod Units
 pub mod Laws
 pub mod Joined
 pub mod lemmas
+pub mod Prelude

@@ -2,10 +2,7 @@
 use Rattle.std.specs.Prelude.{ℕ, ◌+◌, ◌^◌, ◌<◌, ◌==◌, if◌then◌else◌, List, [], ◌∷◌, ◌++◌, filter, take, drop, sum_by}
 use Rattle.std.specs.List.{AllByRecursion, flat_map, range_with_len}
 use Rattle.std.specs.Int.{div_ceil}
-use Rattle.pur_base.specs.declared.place.Place.{Place}
-use Rattle.boot_codec.specs.declared.limits.TheConstants.{FACTS_PER_SEGMENT, TAG_MAX}
-use Rattle.boot_codec.specs.declared.patch.PatchSegment.{PatchSegment}
-use Rattle.boot_codec.specs.declared.patch.Patch.{Patch}
+use Rattle.memory_spec.specs.Prelude.{Place, FACTS_PER_SEGMENT, TAG_MAX, PatchSegment, Patch}
 use Rattle.array_memory.specs.declared.plan.Counts.{Counts}
 
 -- ---- counts

@@ -1,10 +1,7 @@
 -- Units for new segments.
 use Rattle.std.specs.Prelude.{List, [], AllPairs}
 use Rattle.std.specs.List.{AllByRecursion, flat_map}
-use Rattle.pur_base.specs.Facts.{Facts}
-use Rattle.pur_base.specs.declared.place.Place.{Place}
-use Rattle.boot_codec.specs.declared.record.BootRecord.{BootRecord}
-use Rattle.array_spec.specs.Sound.{AreApart}
+use Rattle.memory_spec.specs.Prelude.{Facts, Place, BootRecord, AreApart}
 use Rattle.unit_map.specs.declared.drive.Drive.{Drive}
 use Rattle.free_space.specs.Map.{IsMapOf, IsMapBut}
 use Rattle.free_space.specs.Laws.{AreUnitsToTake}

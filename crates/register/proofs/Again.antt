@@ -4,15 +4,9 @@ use Rattle.std.specs.Prelude.{count_by, cond, nat_lt, nat_le, ◌||◌, slice_in
 use Rattle.std.proofs.lemmas.Bool.{cases_Bool, cases_lt}
 use Rattle.std.proofs.Common.{ltb-false}
 use Rattle.pur_base.specs.declared.device.Device.TheVariants as dev
-use Rattle.pur_base.specs.Devices.{Geometry, Condition, Conditions, Sound, Missing, LeftOut, MayBecome, IsBearable, IsWithin, is_missing, missing_drives, missing_nvrams, nvrams, slots_of, drive, nvram}
-use Rattle.boot_codec.specs.declared.record.BootRecord.{BootRecord}
-use Rattle.boot_codec.specs.Spelling.{spelling}
-use Rattle.boot_codec.specs.Region.{BootSlot, other_slot, body_in, generation_in}
-use Rattle.array_spec.specs.lemmas.Votes.{counted}
-use Rattle.world.specs.Shelf.{Shelved, Stop, Continues, LeavesOnly, IsCountedBy}
-use Rattle.world.specs.Losing.{geometry_of, has_risen}
-use Rattle.boot_region.specs.Members.{IsMember}
-use Rattle.boot_region.specs.Storing.{AccountsFor, IsOlder}
+use Rattle.array_spec.specs.Prelude.{Geometry, Condition, Conditions, Sound, Missing, LeftOut, MayBecome, IsBearable, IsWithin, is_missing, missing_drives, missing_nvrams, nvrams, slots_of, drive, nvram, BootRecord, spelling, BootSlot, other_slot, body_in, generation_in, counted}
+use Rattle.world.specs.Prelude.{Shelved, Stop, Continues, LeavesOnly, IsCountedBy, geometry_of, has_risen}
+use Rattle.boot_region.specs.Prelude.{IsMember, AccountsFor, IsOlder}
 use Rattle.boot_region.proofs.Phases.{not_risen_before}
 use Rattle.register.specs.declared.state.Register.{Register}
 use Rattle.register.specs.Standing.{IsNextOf}

@@ -8,37 +8,11 @@ use Rattle.std.proofs.lemmas.Bool.{cases_Bool}
 use Rattle.std.proofs.lemmas.List.{take_all, append-nil, get_or_past}
 use Rattle.std.proofs.lemmas.List.FromFn.{length-map-range_with_len}
 use Rattle.std.proofs.lemmas.Slice.Eq.{bytes_eq-Decides}
-use Rattle.pur_base.specs.declared.device.Device.{Device}
+use Rattle.array_spec.specs.Prelude.{Device, SLOTS_MIN, Geometry, Image, View, Condition, Conditions, Sound, Missing, LeftOut, MayBecome, MayShowAs, IsOn, is_sound, is_missing, without_missing, drive, nvram, Array, Command, after_all, BootRecord, IsBootRecord, spelling, BootSlot, Effective, IsRecordOf, IsDecided, body_in, shown_by, votes, is_vote, generation_in, names, of_members, Yields, ShowsIn, Shows as ShowsOn, IsInSlot, LogFrom, IsInForce, AllHold, Stands, MayBeGiven, MayAppear, IsViewOf, IsReadInto, IsReadBy, LeadsInto, LogLies, this_or_other, twice_other, decided_or_not, spells_one, sound_shows, one_left, TablesHold, NamesNoneLeftOut, next_holds, record_is_read, read_holds, one_base, most_votes, not_missing, one_is_decided, sound_before}
 use Rattle.pur_base.specs.declared.device.Device.TheVariants as dev
-use Rattle.pur_base.specs.declared.limits.TheConstants.{SLOTS_MIN}
-use Rattle.pur_base.specs.Devices.{Geometry, Image, View, Condition, Conditions, Sound, Missing, LeftOut, MayBecome, MayShowAs, IsOn, is_sound, is_missing, without_missing, drive, nvram}
-use Rattle.pur_base.specs.Plain.{Array}
-use Rattle.pur_base.specs.Commands.{Command, after_all}
-use Rattle.boot_codec.specs.declared.record.BootRecord.{BootRecord}
-use Rattle.boot_codec.specs.Record.{IsBootRecord}
-use Rattle.boot_codec.specs.Spelling.{spelling}
-use Rattle.boot_codec.specs.Region.{BootSlot, Effective, IsRecordOf, IsDecided, body_in, shown_by, votes, is_vote, generation_in, names, of_members, Yields}
-use Rattle.log_codec.specs.Log.{ShowsIn, Shows as ShowsOn, IsInSlot, LogFrom}
-use Rattle.array_spec.specs.Meaning.{IsInForce, AllHold}
-use Rattle.array_spec.specs.Standing.{Stands, MayBeGiven, MayAppear, IsViewOf, IsReadInto, IsReadBy, LeadsInto}
-use Rattle.array_spec.specs.Unflushed.{LogLies}
-use Rattle.array_spec.specs.lemmas.Settling.{this_or_other, twice_other, decided_or_not}
-use Rattle.array_spec.specs.lemmas.Spelled.{spells_one}
-use Rattle.array_spec.specs.lemmas.Standings.{sound_shows}
-use Rattle.array_spec.specs.lemmas.UnflushedRead.{one_left}
-use Rattle.array_spec.specs.Held.{TablesHold, NamesNoneLeftOut}
-use Rattle.array_spec.specs.lemmas.Next.{next_holds}
-use Rattle.array_spec.specs.lemmas.Reading.{record_is_read, read_holds}
-use Rattle.array_spec.specs.lemmas.Unique.{one_base}
-use Rattle.array_spec.specs.lemmas.Votes.{most_votes, not_missing, one_is_decided, sound_before}
-use Rattle.world.specs.Shelf.{Shelved, Stop, IsShelf, MayLeave}
-use Rattle.world.specs.Writes.{LeavesBut}
-use Rattle.boot_region.specs.Members.{IsMember, OnSlot}
-use Rattle.world.specs.Losing.{geometry_of}
-use Rattle.world.specs.lemmas.Stopped.{as_read}
-use Rattle.boot_region.specs.Storing.{IsOpening}
+use Rattle.world.specs.Prelude.{Shelved, Stop, IsShelf, MayLeave, LeavesBut, geometry_of, as_read}
+use Rattle.boot_region.specs.Prelude.{IsMember, OnSlot, IsOpening, shown_body}
 use Rattle.boot_region.proofs.Composing.{all_decide, as_it_is}
-use Rattle.boot_region.specs.lemmas.Shown.{shown_body}
 use Rattle.nvram_log.specs.Members as nv
 use Rattle.register.specs.declared.state.Register.{Register}
 use Rattle.register.specs.Registers.{drives_of, own_slot, next_slot, next_record}

@@ -3,37 +3,16 @@ use Rattle.std.proofs.Common.{◌≡◌, ◌⊎◌, inl, inr, ℕ, ◌+◌, ◌-
 use Rattle.std.specs.Prelude.{Some, Contains, slice_index, slice_index_or}
 use Rattle.std.proofs.lemmas.Bool.{cases_Bool, cases_lt}
 use Rattle.std.proofs.lemmas.List.{take_all, append-nil}
-use Rattle.pur_base.specs.declared.device.Device.{Device}
+use Rattle.array_spec.specs.Prelude.{Device, View, Condition, Conditions, Sound, Missing, LeftOut, MayShowAs, IsBearable, IsWithin, IsOn, drive, nvram, Array, Command, AllAccepted, after_all, BootRecord, spelling, BootSlot, IsRecordOf, IsDecided, votes, other_slot, body_in, shown_by, slot_of, generation_in, names, of_members, Yields, ShowsIn, Stands, MayBeGiven, IsViewOf, IsReadInto, FollowsOn, HasNoLog, LogLies, TablesHold, NamesNoneLeftOut, next_holds, record_is_read, read_holds, one_base, one_is_decided, sound_before, within_twice, more_may_go_missing, this_or_other, twice_other, spells_one, was_left_out}
 use Rattle.pur_base.specs.declared.device.Device.TheVariants as dev
-use Rattle.pur_base.specs.Devices.{View, Condition, Conditions, Sound, Missing, LeftOut, MayShowAs, IsBearable, IsWithin, IsOn, drive, nvram}
-use Rattle.pur_base.specs.Plain.{Array}
-use Rattle.pur_base.specs.Commands.{Command, AllAccepted, after_all}
-use Rattle.boot_codec.specs.declared.record.BootRecord.{BootRecord}
-use Rattle.boot_codec.specs.Spelling.{spelling}
-use Rattle.boot_codec.specs.Region.{BootSlot, IsRecordOf, IsDecided, votes, other_slot, body_in, shown_by, slot_of, generation_in, names, of_members, Yields}
-use Rattle.log_codec.specs.Log.{ShowsIn}
-use Rattle.array_spec.specs.Standing.{Stands, MayBeGiven, IsViewOf, IsReadInto, FollowsOn, HasNoLog}
-use Rattle.array_spec.specs.Unflushed.{LogLies}
-use Rattle.array_spec.specs.Held.{TablesHold, NamesNoneLeftOut}
-use Rattle.array_spec.specs.lemmas.Next.{next_holds}
-use Rattle.array_spec.specs.lemmas.Reading.{record_is_read, read_holds}
-use Rattle.array_spec.specs.lemmas.Unique.{one_base}
-use Rattle.array_spec.specs.lemmas.Votes.{one_is_decided, sound_before}
-use Rattle.array_spec.specs.lemmas.Standings.{within_twice, more_may_go_missing}
-use Rattle.array_spec.specs.lemmas.Settling.{this_or_other, twice_other}
-use Rattle.array_spec.specs.lemmas.Spelled.{spells_one}
-use Rattle.world.specs.Shelf.{Shelved, Stop, MayStop, IsShelf}
-use Rattle.world.specs.Losing.{geometry_of}
-use Rattle.world.specs.lemmas.Stopped.{as_read}
-use Rattle.boot_region.specs.Members.{IsMember}
-use Rattle.boot_region.specs.Storing.{StandsNow, OnlyBoot, IsInForceOn, MayFollow}
+use Rattle.world.specs.Prelude.{Shelved, Stop, MayStop, IsShelf, geometry_of, as_read}
+use Rattle.boot_region.specs.Prelude.{IsMember, StandsNow, OnlyBoot, IsInForceOn, MayFollow}
 use Rattle.boot_region.proofs.Composing.{all_decide, as_it_is}
 use Rattle.nvram_log.specs.Members as nv
 use Rattle.register.specs.Registers.{next_record}
 use Rattle.register.specs.Standing.{Content, ShowsOn, array_of}
 use Rattle.register.proofs.Splice.{at_splice, splice_stops, splice_bodies, splice_boot, only_boot_twice}
 use Rattle.register.proofs.Numbers.{generation_spelled, next_other, yields_le, slots_differ}
-use Rattle.array_spec.specs.lemmas.UnflushedRead.{was_left_out}
 
 -- a device may show itself
 pub shows_itself : (c : Condition) (bytes : List ℕ) → ((i : ℕ) → Rattle.std.specs.Prelude.slice_index bytes i < 256) → MayShowAs c bytes (Some bytes)

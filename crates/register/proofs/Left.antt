@@ -1,8 +1,7 @@
 -- Drives that are left.
 use Rattle.std.proofs.Common.{◌≡◌, ◌↔◌, ◌&&◌, not, ℕ, ◌<◌, List, length, refl, arith, Bool, true, false}
 use Rattle.std.specs.Prelude.{slice_index_or}
-use Rattle.boot_region.specs.Members.{IsMember}
-use Rattle.boot_region.specs.lemmas.Shown.{member_below}
+use Rattle.boot_region.specs.Prelude.{IsMember, member_below}
 
 both_or : (l d x : Bool) → l ≡ (d && not x) → (l ≡ true) ↔ ((d ≡ true) × ¬ (x ≡ true))
 both_or l true true e = (λ is. absurd (cc (is, e)), λ both. absurd (both.1 refl))

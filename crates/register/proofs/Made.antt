@@ -3,14 +3,9 @@ use Rattle.std.proofs.Common.{◌≡◌, inl, inr, ℕ, ◌+◌, ◌^◌, ◌<�
 use Rattle.std.specs.Prelude.{IsErr, IfErr}
 use Rattle.std.proofs.lemmas.List.{length-append, length-drop}
 use Rattle.std.proofs.Math.Nat.{ℕ_set}
-use Rattle.boot_codec.specs.declared.limits.TheConstants.{RECORD_BYTES}
-use Rattle.boot_codec.specs.declared.record.BootRecord.{BootRecord}
-use Rattle.boot_codec.specs.Record.{set_count}
-use Rattle.boot_codec.specs.Region.{IsRecordOf}
-use Rattle.pur_base.specs.Devices.{Geometry}
-use Rattle.world.specs.Losing.{geometry_of}
-use Rattle.world.specs.Shelf.{Shelved, Continues}
-use Rattle.boot_region.specs.Members.{IsMember, DroppedFailed}
+use Rattle.array_spec.specs.Prelude.{RECORD_BYTES, BootRecord, set_count, IsRecordOf, Geometry}
+use Rattle.world.specs.Prelude.{geometry_of, Shelved, Continues}
+use Rattle.boot_region.specs.Prelude.{IsMember, DroppedFailed}
 use Rattle.boot_region.proofs.Stored.{dropped_then, for_ok}
 use Rattle.register.specs.declared.next.StoreFault.{StoreFault}
 use Rattle.register.specs.declared.state.Register.{Register}

@@ -5,11 +5,7 @@ use Rattle.std.proofs.lemmas.Nat.{from_be_bytes-to_be_bytes_8}
 use Rattle.std.proofs.lemmas.Bool.{cases_lt}
 use Rattle.std.proofs.lemmas.List.{drop-append-le, take-append-le, length-append, length-drop, take_all}
 use Rattle.std.proofs.Math.Seq.{drop-append_seam}
-use Rattle.pur_base.specs.Bytes.{bytes_at}
-use Rattle.boot_codec.specs.declared.record.BootRecord.{BootRecord}
-use Rattle.boot_codec.specs.Record.{IsBootRecord}
-use Rattle.boot_codec.specs.Spelling.{spelling, opening_bytes, header_bytes, record_bytes}
-use Rattle.boot_codec.specs.Region.{BootSlot, A, B, slot_of, other_slot, generation_in, Yields}
+use Rattle.array_spec.specs.Prelude.{bytes_at, BootRecord, IsBootRecord, spelling, opening_bytes, header_bytes, record_bytes, BootSlot, A, B, slot_of, other_slot, generation_in, Yields}
 use Rattle.boot_codec.proofs.SpellingLemmas.{length-opening_bytes}
 
 -- the text shows these bytes in that place

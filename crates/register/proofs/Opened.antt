@@ -3,16 +3,9 @@ use Rattle.std.proofs.Common.{◌≡◌, ◌⊎◌, inl, inr, ℕ, zero, suc, �
 use Rattle.std.specs.Prelude.{Contains, slice_index_or, count_by, cond, if◌then◌else◌}
 use Rattle.std.specs.List.{range_with_len}
 use Rattle.std.proofs.lemmas.Bool.{cases_lt}
-use Rattle.pur_base.specs.Devices.{Sound, LeftOut, IsBearable, is_missing, drive, nvram}
-use Rattle.pur_base.specs.Plain.{Array}
-use Rattle.boot_codec.specs.Record.{set_count}
-use Rattle.boot_codec.specs.Spelling.{spelling}
-use Rattle.boot_codec.specs.Region.{slot_of, names}
-use Rattle.array_spec.specs.lemmas.Votes.{counted}
-use Rattle.world.specs.Shelf.{Shelved, IsShelf}
-use Rattle.world.specs.Losing.{geometry_of}
-use Rattle.boot_region.specs.Members.{IsMember}
-use Rattle.boot_region.specs.Storing.{Shows, IsOlder}
+use Rattle.array_spec.specs.Prelude.{Sound, LeftOut, IsBearable, is_missing, drive, nvram, Array, set_count, spelling, slot_of, names, counted}
+use Rattle.world.specs.Prelude.{Shelved, IsShelf, geometry_of}
+use Rattle.boot_region.specs.Prelude.{IsMember, Shows, IsOlder}
 use Rattle.nvram_log.specs.Members as nv
 use Rattle.register.specs.declared.state.Register.{Register}
 use Rattle.register.specs.Registers.{drives_of, next_slot, named_sound}

@@ -1,13 +1,8 @@
 -- A store that goes on, whatever fails: a moment of a later round is one of the whole.
 use Rattle.std.proofs.Common.{◌≡◌, ℕ, List, length, ◌∙◌, sym, subst, Bool}
-use Rattle.pur_base.specs.Devices.{Conditions, Sound, IsBearable, drive}
-use Rattle.pur_base.specs.Plain.{Array}
-use Rattle.array_spec.specs.Standing.{Stands}
-use Rattle.array_spec.specs.lemmas.Standings.{within_twice}
-use Rattle.world.specs.Shelf.{Shelved, Stop, Continues}
-use Rattle.world.specs.Losing.{geometry_of}
-use Rattle.boot_region.specs.Members.{IsMember}
-use Rattle.boot_region.specs.Storing.{AreEnough, StandsAgain}
+use Rattle.array_spec.specs.Prelude.{Conditions, Sound, IsBearable, drive, Array, Stands, within_twice}
+use Rattle.world.specs.Prelude.{Shelved, Stop, Continues, geometry_of}
+use Rattle.boot_region.specs.Prelude.{IsMember, AreEnough, StandsAgain}
 use Rattle.boot_region.proofs.Stored.{others_lost, others_within, others_not_sound, others_sound, enough_left}
 use Rattle.register.specs.declared.state.Register.{Register}
 use Rattle.register.specs.Registers.{drives_of}

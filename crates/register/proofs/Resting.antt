@@ -6,31 +6,12 @@ use Rattle.std.specs.Str.{bytes_eq}
 use Rattle.std.specs.Cmp.Lexicographic.{same_text}
 use Rattle.std.proofs.lemmas.Bool.{cases_Bool}
 use Rattle.std.proofs.lemmas.List.{take_all, append-nil}
-use Rattle.pur_base.specs.Devices.{Conditions, Sound, LeftOut, IsBearable, IsOn, is_sound, drive, nvram}
-use Rattle.pur_base.specs.declared.device.Device.{Device}
+use Rattle.array_spec.specs.Prelude.{Conditions, Sound, LeftOut, IsBearable, IsOn, is_sound, drive, nvram, Device, Array, Command, after_all, BootRecord, spelling, BootSlot, A, other_slot, body_in, shown_by, slot_of, generation_in, names, Yields, ShowsIn, Stands, MayBeGiven, MayAppear, IsReadInto, IsHeld, is_sound_vote, LogLies, NamesSound, NamesNoneLeftOut, record_is_read, one_is_effective, held_is_given, twice_other, spells_one}
 use Rattle.pur_base.specs.declared.device.Device.TheVariants as dev
-use Rattle.pur_base.specs.Plain.{Array}
-use Rattle.pur_base.specs.Commands.{Command, after_all}
-use Rattle.boot_codec.specs.declared.record.BootRecord.{BootRecord}
-use Rattle.boot_codec.specs.Spelling.{spelling}
-use Rattle.boot_codec.specs.Region.{BootSlot, A, other_slot, body_in, shown_by, slot_of, generation_in, names, Yields}
-use Rattle.log_codec.specs.Log.{ShowsIn}
-use Rattle.array_spec.specs.Standing.{Stands, MayBeGiven, MayAppear, IsReadInto}
-use Rattle.array_spec.specs.Laws.{IsHeld, is_sound_vote}
-use Rattle.array_spec.specs.Unflushed.{LogLies, NamesSound}
-use Rattle.array_spec.specs.Held.{NamesNoneLeftOut}
-use Rattle.array_spec.specs.lemmas.Reading.{record_is_read}
-use Rattle.array_spec.specs.lemmas.Votes.{one_is_effective, held_is_given}
 use Rattle.array_spec.proofs.Held.{held_stands}
-use Rattle.array_spec.specs.lemmas.Settling.{twice_other}
-use Rattle.array_spec.specs.lemmas.Spelled.{spells_one}
-use Rattle.world.specs.Shelf.{Shelved, Stop, MayStop, IsShelf}
-use Rattle.world.specs.Losing.{geometry_of}
-use Rattle.world.specs.lemmas.Stopped.{as_read}
-use Rattle.boot_region.specs.Members.{IsMember}
-use Rattle.boot_region.specs.Storing.{Shows, IsOlder, IsInForceOn}
+use Rattle.world.specs.Prelude.{Shelved, Stop, MayStop, IsShelf, geometry_of, as_read}
+use Rattle.boot_region.specs.Prelude.{IsMember, Shows, IsOlder, IsInForceOn, shown_body}
 use Rattle.boot_region.proofs.Composing.{as_it_is, is_sound_is, votes_not}
-use Rattle.boot_region.specs.lemmas.Shown.{shown_body}
 use Rattle.nvram_log.specs.Members as nv
 use Rattle.register.specs.declared.state.Register.{Register}
 use Rattle.register.specs.Registers.{drives_of, next_slot}

@@ -3,28 +3,9 @@ use Rattle.std.proofs.Common.{◌≡◌, inl, inr, ℕ, zero, suc, ◌+◌, ◌-
 use Rattle.std.specs.Prelude.{slice_index, slice_index_or}
 use Rattle.std.proofs.lemmas.Bool.{cases_Bool, cases_lt}
 use Rattle.std.proofs.lemmas.List.{get_or_append_left, get_or-append_right, get_or-drop}
-use Rattle.pur_base.specs.declared.device.Device.{Device}
-use Rattle.pur_base.specs.Devices.{Geometry, Conditions, IsBearable, IsWithin, drive, nvram}
-use Rattle.pur_base.specs.Plain.{Array}
-use Rattle.boot_codec.specs.declared.limits.TheConstants.{RECORD_BYTES}
-use Rattle.boot_codec.specs.declared.record.BootRecord.{BootRecord}
-use Rattle.boot_codec.specs.Record.{IsBootRecord, set_count}
-use Rattle.boot_codec.specs.Spelling.{spelling}
-use Rattle.boot_codec.specs.Region.{BootSlot, A, B, IsRecordOf, names, other_slot, body_in, body_place, generation_in, Yields}
-use Rattle.array_spec.specs.Standing.{MayBeGiven}
-use Rattle.array_spec.specs.Held.{TablesHold}
-use Rattle.array_spec.specs.lemmas.Next.{next_holds}
-use Rattle.array_spec.specs.lemmas.Quiet.{bytes_same}
-use Rattle.array_spec.specs.lemmas.Votes.{counted, sound_before}
-use Rattle.array_spec.specs.lemmas.Settling.{twice_other}
-use Rattle.world.specs.Shelf.{Shelved, Disk, Stop, IsShelf, IsInSome, MayLeave, MayStop, Continues, LeavesOnly}
-use Rattle.world.specs.Losing.{geometry_of}
-use Rattle.world.specs.Writes.{ChangesOnly, LeavesBut}
-use Rattle.world.specs.Ran.{Runs}
-use Rattle.world.specs.lemmas.Moments.{weaker}
-use Rattle.boot_region.specs.Members.{IsMember, IsOneOf, DroppedFailed, OnSlot}
-use Rattle.boot_region.specs.Storing.{Shows, IsInStore, HeldStill, IsOlder, IsFirmOn, IsInForceOn, IsNewer, IsStored, IsStoredIn, IsStoredOn, MayFollow, StandsAgain, StandsBut}
-use Rattle.boot_region.specs.lemmas.Shown.{shown_body}
+use Rattle.array_spec.specs.Prelude.{Device, Geometry, Conditions, IsBearable, IsWithin, drive, nvram, Array, RECORD_BYTES, BootRecord, IsBootRecord, set_count, spelling, BootSlot, A, B, IsRecordOf, names, other_slot, body_in, body_place, generation_in, Yields, MayBeGiven, TablesHold, next_holds, bytes_same, counted, sound_before, twice_other, was_left_out}
+use Rattle.world.specs.Prelude.{Shelved, Disk, Stop, IsShelf, IsInSome, MayLeave, MayStop, Continues, LeavesOnly, geometry_of, ChangesOnly, LeavesBut, Runs, weaker}
+use Rattle.boot_region.specs.Prelude.{IsMember, IsOneOf, DroppedFailed, OnSlot, Shows, IsInStore, HeldStill, IsOlder, IsFirmOn, IsInForceOn, IsNewer, IsStored, IsStoredIn, IsStoredOn, MayFollow, StandsAgain, StandsBut, shown_body}
 use Rattle.nvram_log.specs.Members as nv
 use Rattle.register.specs.declared.state.Register.{Register}
 use Rattle.register.specs.Registers.{IsRegisterOf, OnSlots, drives_of, own_slot, next_slot, next_record}
@@ -36,7 +17,6 @@ use Rattle.register.proofs.Back.{is_next_of, stands_back}
 use Rattle.register.proofs.Follows.{may_follow}
 use Rattle.register.specs.lemmas.Stores.{cut_length}
 use Rattle.register.proofs.Splice.{in_boot, at_splice, splice_stops, splice_bodies, splice_boot}
-use Rattle.array_spec.specs.lemmas.UnflushedRead.{was_left_out}
 use Rattle.nvram_log.proofs.SettledEach.{both_leave}
 
 -- ---- the next record is lawful

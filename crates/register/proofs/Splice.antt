@@ -2,15 +2,10 @@
 use Rattle.std.proofs.Common.{◌≡◌, ◌⊎◌, inl, inr, ℕ, zero, suc, ◌/◌, ◌<◌, ◌≤◌, List, [], ◌∷◌, length, refl, sym, ◌∙◌, subst, arith, Bool, true, false}
 use Rattle.std.specs.Prelude.{slice_index, slice_index_or, if◌then◌else◌}
 use Rattle.std.proofs.lemmas.Bool.{cases_Bool, cases_lt}
-use Rattle.pur_base.specs.declared.device.Device.{Device}
+use Rattle.array_spec.specs.Prelude.{Device, Image, drive, nvram, BootSlot, A, B, body_in, bytes_same}
 use Rattle.pur_base.specs.declared.device.Device.TheVariants as dev
-use Rattle.pur_base.specs.Devices.{Image, drive, nvram}
-use Rattle.boot_codec.specs.Region.{BootSlot, A, B, body_in}
-use Rattle.array_spec.specs.lemmas.Quiet.{bytes_same}
-use Rattle.world.specs.Shelf.{Shelved, Disk, Stop, MayLeave, MayStop, IsInSome}
-use Rattle.world.specs.Writes.{LeavesBut}
-use Rattle.boot_region.specs.Members.{OnSlot}
-use Rattle.boot_region.specs.Storing.{OnlyBoot}
+use Rattle.world.specs.Prelude.{Shelved, Disk, Stop, MayLeave, MayStop, IsInSome, LeavesBut}
+use Rattle.boot_region.specs.Prelude.{OnSlot, OnlyBoot}
 
 -- so many bytes of the first list, and the others of the second
 unfoldable pub mix : ℕ → List ℕ → List ℕ → List ℕ

@@ -4,34 +4,13 @@ use Rattle.std.specs.Prelude.{Some, Contains, IsTrue, slice_get, slice_index, sl
 use Rattle.std.proofs.lemmas.Bool.{cases_Bool, cases_lt}
 use Rattle.std.proofs.lemmas.List.{take_all, append-nil}
 use Rattle.std.proofs.lemmas.Option.{slice_get-get_or}
-use Rattle.pur_base.specs.declared.device.Device.{Device}
+use Rattle.array_spec.specs.Prelude.{Device, Geometry, Conditions, Sound, IsBearable, IsWithin, IsOn, drive, nvram, Array, Command, AllAccepted, after_all, is_open, BootRecord, IsBootRecord, spelling, BootSlot, IsRecordOf, names, other_slot, body_in, generation_in, Yields, ShowsIn, Stands, MayBeGiven, IsReadInto, FollowsOn, LogLies, NamesSound, sound_before, twice_other, TablesHold, NamesNoneLeftOut, ShowsNone, data_is_held, was_left_out}
 use Rattle.pur_base.specs.declared.device.Device.TheVariants as dev
-use Rattle.pur_base.specs.Devices.{Geometry, Conditions, Sound, IsBearable, IsWithin, IsOn, drive, nvram}
-use Rattle.pur_base.specs.Plain.{Array}
-use Rattle.pur_base.specs.Commands.{Command, AllAccepted, after_all}
-use Rattle.pur_base.specs.Gates.{is_open}
-use Rattle.boot_codec.specs.declared.record.BootRecord.{BootRecord}
-use Rattle.boot_codec.specs.Record.{IsBootRecord}
-use Rattle.boot_codec.specs.Spelling.{spelling}
-use Rattle.boot_codec.specs.Region.{BootSlot, IsRecordOf, names, other_slot, body_in, generation_in, Yields}
-use Rattle.log_codec.specs.Log.{ShowsIn}
-use Rattle.array_spec.specs.Standing.{Stands, MayBeGiven, IsReadInto, FollowsOn}
-use Rattle.array_spec.specs.Unflushed.{LogLies, NamesSound}
-use Rattle.array_spec.specs.lemmas.Votes.{sound_before}
-use Rattle.array_spec.specs.lemmas.Settling.{twice_other}
-use Rattle.array_spec.specs.Held.{TablesHold, NamesNoneLeftOut}
-use Rattle.array_spec.specs.StoredLaws.{ShowsNone}
 use Rattle.array_spec.proofs.Follow.{checkpoint_follows, merge_follows}
-use Rattle.array_spec.specs.lemmas.Next.{data_is_held}
-use Rattle.world.specs.Shelf.{Shelved, Disk, Stop, IsShelf, IsInSome, MayLeave, MayStop, IsCountedBy, Continues, LeavesOnly}
-use Rattle.world.specs.Losing.{geometry_of}
-use Rattle.world.specs.lemmas.Moments.{weaker}
-use Rattle.world.specs.lemmas.Stopped.{as_read}
-use Rattle.boot_region.specs.Members.{IsMember}
-use Rattle.boot_region.specs.Storing.{OnlyBoot, IsOlder, IsFirmOn, IsInForceOn, IsStored, MayFollow, StandsAgain, StandsBut, WasGiven, AccountsFor}
-use Rattle.boot_region.specs.lemmas.Shown.{shown_body}
+use Rattle.world.specs.Prelude.{Shelved, Disk, Stop, IsShelf, IsInSome, MayLeave, MayStop, IsCountedBy, Continues, LeavesOnly, geometry_of, weaker, as_read}
+use Rattle.boot_region.specs.Prelude.{IsMember, OnlyBoot, IsOlder, IsFirmOn, IsInForceOn, IsStored, MayFollow, StandsAgain, StandsBut, WasGiven, AccountsFor, shown_body}
 use Rattle.nvram_log.specs.Members as nv
-use Rattle.nvram_log.specs.Slots.{IsLog}
+use Rattle.nvram_log.specs.Prelude.{IsLog}
 use Rattle.nvram_log.proofs.Closing.{one_number}
 use Rattle.register.specs.declared.state.Register.{Register}
 use Rattle.register.specs.declared.tables.Tables.{Tables}
@@ -45,7 +24,6 @@ use Rattle.register.proofs.Numbers.{generation_spelled, lower_yields, next_other
 use Rattle.register.proofs.Rounds.{Puts, other_body, cut_drives, same_shelf, long, same_behind, log_then}
 use Rattle.register.specs.lemmas.Stores.{cut_length, members_sound}
 use Rattle.register.proofs.Splice.{at_splice, splice_stops, splice_boot}
-use Rattle.array_spec.specs.lemmas.UnflushedRead.{was_left_out}
 use Rattle.register.proofs.Opened.{is_left, is_named}
 
 -- a device that holds a log shows none behind it

@@ -1,16 +1,9 @@
 -- A store that goes on: a moment of a later round is one of the whole.
 use Rattle.std.proofs.Common.{◌≡◌, ◌⊎◌, inl, inr, ℕ, ◌-◌, ◌^◌, ◌≤◌, ◌<◌, List, refl, sym, subst, arith, Bool, false}
 use Rattle.std.proofs.lemmas.Bool.{cases_Bool, cases_lt}
-use Rattle.pur_base.specs.Devices.{Conditions, Sound, LeftOut, IsBearable, drive, nvram}
-use Rattle.pur_base.specs.Plain.{Array}
-use Rattle.boot_codec.specs.declared.record.BootRecord.{BootRecord}
-use Rattle.boot_codec.specs.Spelling.{spelling}
-use Rattle.boot_codec.specs.Region.{BootSlot, names}
-use Rattle.array_spec.specs.Standing.{Stands, MayBeGiven}
-use Rattle.world.specs.Shelf.{Shelved, Stop, MayStop, IsShelf, IsCountedBy, Continues, LeavesOnly}
-use Rattle.world.specs.Losing.{geometry_of}
-use Rattle.boot_region.specs.Members.{IsMember, DroppedFailed}
-use Rattle.boot_region.specs.Storing.{Shows, WasGiven, StandsBut, AccountsFor, IsOlder}
+use Rattle.array_spec.specs.Prelude.{Conditions, Sound, LeftOut, IsBearable, drive, nvram, Array, BootRecord, spelling, BootSlot, names, Stands, MayBeGiven}
+use Rattle.world.specs.Prelude.{Shelved, Stop, MayStop, IsShelf, IsCountedBy, Continues, LeavesOnly, geometry_of}
+use Rattle.boot_region.specs.Prelude.{IsMember, DroppedFailed, Shows, WasGiven, StandsBut, AccountsFor, IsOlder}
 use Rattle.boot_region.proofs.Composing.{as_it_is}
 use Rattle.boot_region.proofs.Phases.{risen_on_way}
 use Rattle.nvram_log.specs.Members as nv

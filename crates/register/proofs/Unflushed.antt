@@ -2,14 +2,8 @@
 use Rattle.std.proofs.Common.{◌≡◌, List, [], ◌∷◌, refl, subst, arith, Bool, true, false}
 use Rattle.std.specs.Prelude.{Some, if◌then◌else◌}
 use Rattle.std.specs.List.{AllZip}
-use Rattle.pur_base.specs.Devices.{View, Sound, LeftOut, drive}
-use Rattle.boot_codec.specs.Region.{BootSlot, names, of_members}
-use Rattle.array_spec.specs.Standing.{MayBeGiven, IsViewOf}
-use Rattle.array_spec.specs.Stored.{PatchStands}
-use Rattle.array_spec.specs.lemmas.Settling.{twice_other}
-use Rattle.array_spec.specs.lemmas.Members.{enough_hold, some_shown}
-use Rattle.world.specs.Shelf.{Shelved, Stop, MayStop, IsShelf}
-use Rattle.world.specs.Losing.{geometry_of}
+use Rattle.array_spec.specs.Prelude.{View, Sound, LeftOut, drive, BootSlot, names, of_members, MayBeGiven, IsViewOf, PatchStands, twice_other, enough_hold, some_shown}
+use Rattle.world.specs.Prelude.{Shelved, Stop, MayStop, IsShelf, geometry_of}
 use Rattle.boot_region.proofs.Composing.{as_it_is}
 use Rattle.register.specs.declared.state.Register.{Register}
 use Rattle.register.specs.Registers.{own_slot, named_sound}

@@ -1,6 +1,6 @@
 -- Why no record was stored.
 use Rattle.std.specs.Prelude.{◌≡◌, ◌+◌, ◌^◌, ◌<◌, ◌≤◌}
-use Rattle.boot_codec.specs.Record.{set_count}
+use Rattle.array_spec.specs.Prelude.{set_count}
 use Rattle.register.specs.declared.state.Register.{Register}
 use Rattle.register.specs.declared.next.StoreFault.{StoreFault}
 use Rattle.register.specs.declared.next.StoreFault.TheVariants.{Spent, TooFew}

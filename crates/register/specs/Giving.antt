@@ -1,14 +1,8 @@
 -- Which records may be given while one with other tables is stored.
 use Rattle.std.specs.Prelude.{◌≡◌, ◌⊎◌, ℕ, ◌<◌}
-use Rattle.pur_base.specs.Devices.{Conditions}
-use Rattle.boot_codec.specs.declared.record.BootRecord.{BootRecord}
-use Rattle.boot_codec.specs.Region.{BootSlot}
-use Rattle.boot_codec.specs.Spelling.{spelling}
-use Rattle.array_spec.specs.Standing.{MayBeGiven}
-use Rattle.world.specs.Losing.{geometry_of}
-use Rattle.world.specs.Shelf.{Shelved, Stop}
-use Rattle.boot_region.specs.Members.{IsMember}
-use Rattle.boot_region.specs.Storing.{AccountsFor}
+use Rattle.array_spec.specs.Prelude.{Conditions, BootRecord, BootSlot, spelling, MayBeGiven}
+use Rattle.world.specs.Prelude.{geometry_of, Shelved, Stop}
+use Rattle.boot_region.specs.Prelude.{IsMember, AccountsFor}
 use Rattle.register.specs.declared.state.Register.{Register}
 use Rattle.register.specs.declared.tables.Tables.{Tables}
 use Rattle.register.specs.Registers.{IsLaterRecord, drives_of, named_sound, next_slot}

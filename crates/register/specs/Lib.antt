@@ -5,3 +5,4 @@ pub mod Faults
 pub mod Giving
 pub mod Storing
 pub mod lemmas
+pub mod Prelude

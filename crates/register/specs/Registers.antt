@@ -1,10 +1,7 @@
 -- The register: the record in force, the drives on which it is, and the record that is stored next.
 use Rattle.std.specs.Prelude.{◌≡◌, ◌⊎◌, ℕ, ◌+◌, ◌≤◌, List, Bool, take, if◌then◌else◌}
-use Rattle.pur_base.specs.Devices.{Geometry, Conditions, Sound, LeftOut}
-use Rattle.pur_base.specs.declared.device.Device.{Device}
-use Rattle.boot_codec.specs.declared.record.BootRecord.{BootRecord}
-use Rattle.boot_codec.specs.Region.{BootSlot, A, B, IsRecordOf, names, other_slot, slot_of}
-use Rattle.boot_region.specs.Members.{IsMember, OnSlot}
+use Rattle.array_spec.specs.Prelude.{Geometry, Conditions, Sound, LeftOut, Device, BootRecord, BootSlot, A, B, IsRecordOf, names, other_slot, slot_of}
+use Rattle.boot_region.specs.Prelude.{IsMember, OnSlot}
 use Rattle.register.specs.declared.state.Register.{Register}
 
 -- the slot in which the record stands, and that to which the next one goes

@@ -1,20 +1,9 @@
 -- An array that stands in its tables and its log, by the record in the register.
 use Rattle.std.specs.Prelude.{◌≡◌, ◌⊎◌, ℕ, ◌<◌, ◌≤◌, List, [], ◌∷◌, length, Bool, true, false, Some, Contains}
-use Rattle.pur_base.specs.Devices.{Conditions, Sound, LeftOut, IsBearable, IsWithin, drive, nvram}
-use Rattle.pur_base.specs.Plain.{Array}
-use Rattle.pur_base.specs.Commands.{Command, AllAccepted, after_all}
-use Rattle.pur_base.specs.declared.facts.AnyFact.{AnyFact}
-use Rattle.boot_codec.specs.declared.record.BootRecord.{BootRecord}
-use Rattle.boot_codec.specs.Region.{BootSlot, body_in, names, shown_by}
-use Rattle.boot_codec.specs.Spelling.{spelling}
-use Rattle.array_spec.specs.Standing.{MayBeGiven, Stands}
-use Rattle.array_spec.specs.Held.{TablesHold}
-use Rattle.world.specs.Shelf.{Shelved, Stop, MayStop}
-use Rattle.world.specs.Losing.{geometry_of, has_risen}
-use Rattle.boot_region.specs.Members.{IsMember}
-use Rattle.boot_region.specs.Storing.{WasGiven, StandsNow, StandsBut, SoundAreMembers, IsInForceOn, AreOlder, AccountsFor}
-use Rattle.log_codec.specs.declared.limits.TheConstants.{LOG_SLOTS}
-use Rattle.nvram_log.specs.Slots.{IsBetween}
+use Rattle.array_spec.specs.Prelude.{Conditions, Sound, LeftOut, IsBearable, IsWithin, drive, nvram, Array, Command, AllAccepted, after_all, AnyFact, BootRecord, BootSlot, body_in, names, shown_by, spelling, MayBeGiven, Stands, TablesHold, LOG_SLOTS}
+use Rattle.world.specs.Prelude.{Shelved, Stop, MayStop, geometry_of, has_risen}
+use Rattle.boot_region.specs.Prelude.{IsMember, WasGiven, StandsNow, StandsBut, SoundAreMembers, IsInForceOn, AreOlder, AccountsFor}
+use Rattle.nvram_log.specs.Prelude.{IsBetween}
 use Rattle.nvram_log.specs.Members as nv
 use Rattle.register.specs.declared.state.Register.{Register}
 use Rattle.register.specs.Registers.{IsRegisterOf, IsLaterRecord, own_slot, next_slot, drives_of, named_sound}

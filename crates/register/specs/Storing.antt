@@ -1,14 +1,8 @@
 -- What a store leaves, which record it made, and how it goes on from there.
 use Rattle.std.specs.Prelude.{◌≡◌, ◌⊎◌, ◌+◌, ◌-◌, ◌^◌, ◌<◌, ◌≤◌, ℕ, List, [], ◌∷◌, Bool, Result, OnOk, OnErr, IfErr, length}
-use Rattle.pur_base.specs.Devices.{Conditions}
-use Rattle.pur_base.specs.Plain.{Array}
-use Rattle.boot_codec.specs.declared.record.BootRecord.{BootRecord}
-use Rattle.boot_codec.specs.Record.{set_count}
-use Rattle.boot_codec.specs.Spelling.{spelling}
-use Rattle.world.specs.Losing.{geometry_of}
-use Rattle.world.specs.Shelf.{Shelved}
-use Rattle.boot_region.specs.Members.{IsMember, DroppedFailed}
-use Rattle.boot_region.specs.Storing.{AreEnough, IsOlder, Shows}
+use Rattle.array_spec.specs.Prelude.{Conditions, Array, BootRecord, set_count, spelling}
+use Rattle.world.specs.Prelude.{geometry_of, Shelved}
+use Rattle.boot_region.specs.Prelude.{IsMember, DroppedFailed, AreEnough, IsOlder, Shows}
 use Rattle.register.specs.declared.next.StoreFault.{StoreFault}
 use Rattle.register.specs.declared.state.Register.{Register}
 use Rattle.register.specs.declared.tables.Tables.{Tables}

@@ -1,13 +1,9 @@
 -- A record with other tables, and what has to stand before it is stored.
 use Rattle.std.specs.Prelude.{◌≡◌, ◌⊎◌, ◌+◌, [], ◌∷◌, length}
-use Rattle.pur_base.specs.Devices.{Conditions}
-use Rattle.boot_codec.specs.declared.record.BootRecord.{BootRecord}
-use Rattle.boot_codec.specs.Spelling.{spelling}
-use Rattle.array_spec.specs.Held.{DataHolds}
-use Rattle.world.specs.Losing.{geometry_of}
-use Rattle.world.specs.Shelf.{Shelved, Stop, MayStop}
-use Rattle.boot_region.specs.Storing.{StandsBut, AccountsFor}
-use Rattle.nvram_log.specs.Held.{HoldsOn}
+use Rattle.array_spec.specs.Prelude.{Conditions, BootRecord, spelling, DataHolds}
+use Rattle.world.specs.Prelude.{geometry_of, Shelved, Stop, MayStop}
+use Rattle.boot_region.specs.Prelude.{StandsBut, AccountsFor}
+use Rattle.nvram_log.specs.Prelude.{HoldsOn}
 use Rattle.register.specs.declared.state.Register.{Register}
 use Rattle.register.specs.declared.tables.Tables.{Tables}
 use Rattle.register.specs.Registers.{drives_of, named_sound, next_slot}

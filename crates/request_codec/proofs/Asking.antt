@@ -2,7 +2,7 @@
 use Rattle.std.proofs.Common.{◌≡◌, ◌∙◌, Bool, true, false, refl, sym, Result, Ok, Err}
 use Rattle.std.proofs.lemmas.Result.{on_err_weaker}
 use Rattle.world.specs.declared.streams.Failed.{Failed}
-use Rattle.world.specs.Streams.{Streamed, IsPreorder}
+use Rattle.world.specs.Prelude.{Streamed, IsPreorder}
 use Rattle.request_codec.specs.Ahead.{Ahead}
 use Rattle.request_codec.specs.Asking.{Asks}
 use Rattle.request_codec.proofs.CallLemmas.{went-none, went-then, went-well, went-failed}

@@ -1,8 +1,7 @@
 -- Calls of a source or a sink, one after another.
 use Rattle.std.proofs.Common.{◌≡◌, ◌↔◌, ◌∙◌, refl, sym, subst, Result, Ok, Err}
 use Rattle.world.specs.declared.streams.Failed.{Failed}
-use Rattle.world.specs.Counts.{Counts}
-use Rattle.world.specs.Streams.{Streamed, IsPreorder}
+use Rattle.world.specs.Prelude.{Counts, Streamed, IsPreorder}
 use Rattle.request_codec.specs.Ahead.{Ahead, Tells}
 use Rattle.request_codec.specs.Calls.{Went}
 

@@ -2,8 +2,7 @@
 use Rattle.std.proofs.Common.{◌≡◌, ℕ, ◌*◌, ◌<◌, ◌≤◌, List, [], length, drop, Some, refl}
 use Rattle.std.specs.List.{before_first, after_first}
 use Rattle.std.proofs.lemmas.Bool.{le-ltb, lt-ltb}
-use Rattle.pur_base.specs.declared.request.Request.{Request}
-use Rattle.pur_base.specs.Grammar.{Asked, Cut, line_request, line_item, first_item, is_line_end, data_count, sectors_in}
+use Rattle.world.specs.Prelude.{Request, Asked, Cut, line_request, line_item, first_item, is_line_end, data_count, sectors_in}
 
 pub item-whole : (xs : List ℕ) (r : Request) (sectors : List (List ℕ)) (behind after : List ℕ)
     → line_request (before_first is_line_end xs) ≡ Some r → behind ≡ after_first is_line_end xs

@@ -5,10 +5,8 @@ use Rattle.std.specs.List.{list_all}
 use Rattle.std.specs.Char.{is_ascii_digit}
 use Rattle.std.proofs.lemmas.Bool.{and_parts, leb-true}
 use Rattle.std.proofs.Math.Nat.{pow-suc, pow-le-pow_right, mul-le-mul_right, mul_assoc, mul_comm}
-use Rattle.pur_base.specs.Names.{is_name}
-use Rattle.pur_base.specs.declared.request.Request.{Request}
+use Rattle.world.specs.Prelude.{is_name, Request, ◌>>=◌, when, name_of, number_of, is_number, digits_number, count_of, byte_of, table_of, number_in, create_form, span_form, fill_form, new_form, copy_form, name_form, number_form, merge_form, bare_form, step_of, request_of, is_in_force, if_in_force}
 use Rattle.pur_base.specs.declared.request.Request.TheVariants as request
-use Rattle.pur_base.specs.Grammar.{◌>>=◌, when, name_of, number_of, is_number, digits_number, count_of, byte_of, table_of, number_in, create_form, span_form, fill_form, new_form, copy_form, name_form, number_form, merge_form, bare_form, step_of, request_of, is_in_force, if_in_force}
 use Rattle.request_codec.specs.Spelled.{IsSpelledRequest, IsSpelledSpan}
 
 -- ---- numbers

@@ -4,7 +4,7 @@ use Rattle.std.specs.List.{position_or_len}
 use Rattle.std.proofs.lemmas.List.{take_rest}
 use Rattle.std.proofs.lemmas.List.Splits.{slice_split_first, slice_split_none}
 use Rattle.std.proofs.lemmas.List.Sums.{prefix_len_passes}
-use Rattle.pur_base.specs.Grammar.{words}
+use Rattle.world.specs.Prelude.{words}
 
 not-true : (b : Bool) → not b ≡ true → b ≡ false
 not-true true e = absurd cc

@@ -1,7 +1,6 @@
 -- What a reader has taken from a source and not consumed.
 use Rattle.std.specs.Prelude.{◌≡◌, ℕ, ◌+◌, ◌-◌, ◌≤◌, Bool, true, List, [], length}
-use Rattle.pur_base.specs.declared.limits.TheConstants.{INPUT_BYTES}
-use Rattle.world.specs.Streams.{Streamed}
+use Rattle.world.specs.Prelude.{INPUT_BYTES, Streamed}
 use Rattle.request_codec.specs.declared.buffer.TheConstants.{BUFFER_BYTES}
 
 -- what was taken and not consumed; how many bytes were taken in all; whether the input has ended

@@ -1,8 +1,7 @@
 -- How a reader asks a source for what it has ahead.
 use Rattle.std.specs.Prelude.{◌≡◌, ◌≤◌, true, false, [], Result, OnErr}
-use Rattle.pur_base.specs.declared.limits.TheConstants.{INPUT_BYTES}
+use Rattle.world.specs.Prelude.{INPUT_BYTES, Streamed}
 use Rattle.world.specs.declared.streams.Failed.{Failed}
-use Rattle.world.specs.Streams.{Streamed}
 use Rattle.request_codec.specs.Ahead.{Ahead}
 use Rattle.request_codec.specs.Calls.{Went}
 

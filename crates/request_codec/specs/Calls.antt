@@ -1,8 +1,7 @@
 -- What calls of a source or a sink leave of it.
 use Rattle.std.specs.Prelude.{◌↔◌, Result, Ok}
 use Rattle.world.specs.declared.streams.Failed.{Failed}
-use Rattle.world.specs.Counts.{Counts}
-use Rattle.world.specs.Streams.{Streamed}
+use Rattle.world.specs.Prelude.{Counts, Streamed}
 
 -- it is as honest as before, its count rises exactly where a call failed, and the rest stays
 pub record Went {X : Type 0} (meaning : X → Streamed) (same_rest : X → X → Type 0) {T : Type 0} (answer : Result T Failed) (old new : X) : Type 0 where

@@ -1,7 +1,7 @@
 -- What a call of next did: before and after are the unread bytes.
 use Rattle.std.specs.Prelude.{◌≡◌, ℕ, ◌<◌, true, false, List, [], ◌∷◌, ◌++◌, length}
 use Rattle.pur_base.specs.Grammar as grammar
-use Rattle.pur_base.specs.Grammar.{Asked, Syntax, Cut, first_item, data_count, is_in_force, is_whole}
+use Rattle.world.specs.Prelude.{Asked, Syntax, Cut, first_item, data_count, is_in_force, is_whole}
 use Rattle.request_codec.specs.Spelled.{IsSpelledRequest}
 use Rattle.request_codec.specs.declared.reader.Item.{Item}
 use Rattle.request_codec.specs.declared.reader.Item.TheVariants as item

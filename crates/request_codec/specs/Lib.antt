@@ -9,3 +9,4 @@ pub mod Reader
 pub mod Spelled
 pub mod Items
 pub mod Writing
+pub mod Prelude

@@ -1,8 +1,7 @@
 -- What a reader holds of a line.
 use Rattle.std.specs.Prelude.{◌≡◌, ℕ, ◌<◌, ◌≤◌, true, false, List, [], length}
 use Rattle.std.specs.List.{position_or_len, before_first, after_first}
-use Rattle.pur_base.specs.Grammar.{is_line_end}
-use Rattle.pur_base.specs.declared.limits.TheConstants.{LINE_BYTES}
+use Rattle.world.specs.Prelude.{is_line_end, LINE_BYTES}
 use Rattle.request_codec.specs.Reading.{Overruns}
 use Rattle.request_codec.specs.declared.line.Line.{Line}
 use Rattle.request_codec.specs.declared.line.LineEnd.{LineEnd}

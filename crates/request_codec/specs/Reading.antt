@@ -1,6 +1,6 @@
 -- What calls of a reader do to the input.
 use Rattle.std.specs.Prelude.{◌≡◌, ℕ, ◌+◌, List, [], ◌∷◌, ◌++◌}
-use Rattle.pur_base.specs.declared.limits.TheConstants.{INPUT_BYTES}
+use Rattle.world.specs.Prelude.{INPUT_BYTES}
 use Rattle.request_codec.specs.declared.input.Refill.{Refill}
 use Rattle.request_codec.specs.declared.input.Refill.TheVariants as refill
 

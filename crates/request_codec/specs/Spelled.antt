@@ -1,8 +1,6 @@
 -- Requests that words spell.
 use Rattle.std.specs.Prelude.{◌≡◌, ℕ, ◌<◌, ◌≤◌, ◌^◌, true, List}
-use Rattle.pur_base.specs.Names.{is_name}
-use Rattle.pur_base.specs.declared.limits.TheConstants.{NUMBER_DIGITS, REQUEST_SECTORS}
-use Rattle.pur_base.specs.declared.request.Request.{Request}
+use Rattle.world.specs.Prelude.{is_name, NUMBER_DIGITS, REQUEST_SECTORS, Request}
 use Rattle.pur_base.specs.declared.request.Request.TheVariants as request
 
 -- a lawful name, a number of at most 15 digits, and 1 to 64 sectors

@@ -1,6 +1,6 @@
 -- The words that are left of a line.
 use Rattle.std.specs.Prelude.{ℕ, List, [], Option, Some, None}
-use Rattle.pur_base.specs.Grammar.{words}
+use Rattle.world.specs.Prelude.{words}
 use Rattle.request_codec.specs.declared.words.Words.{Words}
 use Rattle.std.specs.Borrow.{Bor}
 

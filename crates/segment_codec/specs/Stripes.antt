@@ -2,8 +2,7 @@
 use Rattle.std.specs.Prelude.{◌≡◌, ℕ, ◌+◌, ◌*◌, ◌<◌, ◌≤◌, List, [], map, count_by, Option, option_map, is_some, IfSome, slice_index_or}
 use Rattle.std.specs.List.{AllZip}
 use Rattle.std.specs.Int.{div_ceil}
-use Rattle.pur_base.specs.Bytes.{bytes_at}
-use Rattle.pur_base.specs.Devices.{View, drive}
+use Rattle.pur_base.specs.Prelude.{bytes_at, View, drive}
 use Rattle.pur_base.specs.declared.limits.TheConstants.{SECTOR_BYTES, UNIT_BYTES}
 use Rattle.pur_base.specs.declared.place.Place.{Place}
 use Rattle.parity72.specs.Parity.{IsCodeword}

@@ -4,10 +4,8 @@ use Rattle.std.specs.Prelude.{slice_set}
 use Rattle.std.specs.List.{flat_map}
 use Rattle.std.proofs.lemmas.List.{get_or-take, length-take-le, get_or-set_same, get_or-set_other, get_or_append_left, get_or_at}
 use Rattle.std.proofs.Math.Seq.{take-append_seam, drop-append-add, take-length}
-use Rattle.pur_base.specs.Bytes.{bytes_at}
-use Rattle.pur_base.specs.declared.place.Place.{Place}
+use Rattle.world.specs.Prelude.{bytes_at, Place, Shelved}
 use Rattle.parity72.specs.Parity.{IsCodeword, shard_of}
-use Rattle.world.specs.Shelf.{Shelved}
 use Rattle.segment_io.specs.Places.{place_of, drive_of, write_unit_at}
 use Rattle.segment_io.specs.Stripes.{bytes_of, stripe_in, shards_in, IsRunOf, RunHolds}
 use Rattle.segment_io.proofs.Progress.{Hold}

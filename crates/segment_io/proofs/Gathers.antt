@@ -2,15 +2,8 @@
 use Rattle.std.proofs.Common.{◌≡◌, ◌≢◌, inl, inr, ℕ, ◌+◌, ◌<◌, ◌≤◌, Bool, false, List, [], length, refl, sym, ◌∙◌, ap, subst, arith, below_more}
 use Rattle.std.specs.Prelude.{slice_set}
 use Rattle.std.proofs.lemmas.List.{get_or-set_same, get_or-set_other}
-use Rattle.pur_base.specs.Bytes.{bytes_at}
-use Rattle.pur_base.specs.declared.device.Device.{Device}
-use Rattle.pur_base.specs.declared.place.Place.{Place}
+use Rattle.world.specs.Prelude.{bytes_at, Device, Place, Rises, Shelved, Disk, IsShelf, IsSame, OthersStay, Continues, WritesOnly, continues_refl, continues_trans, writes_then, nothing_written}
 use Rattle.parity72.specs.Parity.{shard_of}
-use Rattle.world.specs.Counts.{Rises}
-use Rattle.world.specs.Shelf.{Shelved, Disk, IsShelf, IsSame, OthersStay, Continues}
-use Rattle.world.specs.Writes.{WritesOnly}
-use Rattle.world.specs.lemmas.Moments.{continues_refl, continues_trans}
-use Rattle.world.specs.lemmas.Writes.{writes_then, nothing_written}
 use Rattle.segment_io.specs.Lost.{NoByte}
 use Rattle.segment_io.specs.Places.{ArePlaces, place_of, drive_of, write_unit_at, OthersStayOf}
 use Rattle.segment_io.specs.Stripes.{bytes_of, unit_in}

@@ -1,14 +1,7 @@
 -- Stripes are synced, headers written, and these synced.
 use Rattle.std.proofs.Common.{◌≡◌, inl, inr, ⊎_elim, ℕ, ◌+◌, ◌*◌, ◌<◌, ◌≤◌, Bool, false, List, [], slice_index, ◌∙◌, ap, subst, arith}
-use Rattle.pur_base.specs.Bytes.{bytes_at}
-use Rattle.pur_base.specs.Devices.{drive}
-use Rattle.pur_base.specs.declared.device.Device.{Device}
-use Rattle.pur_base.specs.declared.place.Place.{Place}
+use Rattle.world.specs.Prelude.{bytes_at, drive, Device, Place, Shelved, Stop, IsInSome, Continues, LeavesOnly, WritesOnly, LeavesBut, continues_trans, then_run, weaker, writes_more}
 use Rattle.world.specs.declared.shelf.Span.{Span}
-use Rattle.world.specs.Shelf.{Shelved, Stop, IsInSome, Continues, LeavesOnly}
-use Rattle.world.specs.Writes.{WritesOnly, LeavesBut}
-use Rattle.world.specs.lemmas.Moments.{continues_trans, then_run, weaker}
-use Rattle.world.specs.lemmas.Writes.{writes_more}
 use Rattle.segment_io.specs.Lost.{is_in, LosesOnly, NoByte, IsOnSlot}
 use Rattle.segment_io.specs.Places.{ArePlaces, place_of, drive_of, write_unit_at, OnUnits, IsOnPlace}
 use Rattle.segment_io.specs.Stripes.{bytes_of, UnitsHold, HoldsStripe}

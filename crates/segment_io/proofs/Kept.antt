@@ -1,9 +1,7 @@
 -- What stays where the other write units of a segment are written.
 use Rattle.std.proofs.Common.{◌≡◌, ◌⊎◌, inl, inr, ⊎_elim, ℕ, ◌+◌, ◌*◌, ◌<◌, ◌≤◌, Bool, List, sym, ◌∙◌, subst, arith}
 use Rattle.std.proofs.lemmas.Bool.{cases_eq}
-use Rattle.pur_base.specs.declared.place.Place.{Place}
-use Rattle.world.specs.Shelf.{Shelved}
-use Rattle.world.specs.Writes.{WritesOnly}
+use Rattle.world.specs.Prelude.{Place, Shelved, WritesOnly}
 use Rattle.segment_io.specs.Lost.{LosesOnly}
 use Rattle.segment_io.specs.Places.{ArePlaces, place_of, drive_of, write_unit_at, OnUnits}
 use Rattle.segment_io.specs.Stripes.{bytes_of, unit_in, HoldsStripe}

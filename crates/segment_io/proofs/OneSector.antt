@@ -1,14 +1,11 @@
 -- One sector is read.
 use Rattle.std.proofs.Common.{◌≡◌, inl, inr, ℕ, ◌+◌, ◌*◌, ◌<◌, Bool, false, List, refl, sym, ◌∙◌, ap, subst, arith}
 use Rattle.std.proofs.lemmas.Bool.{cases_Bool}
-use Rattle.pur_base.specs.Bytes.{bytes_at}
-use Rattle.pur_base.specs.Devices.{View}
-use Rattle.pur_base.specs.declared.place.Place.{Place}
+use Rattle.world.specs.Prelude.{bytes_at, View, Place, Shelved}
 use Rattle.parity72.specs.Parity.{shard_of}
 use Rattle.segment_codec.specs.Position as position
 use Rattle.segment_codec.specs.declared.position.Position.{Position}
-use Rattle.segment_codec.specs.Stripes.{StripeStands, SectorStands}
-use Rattle.world.specs.Shelf.{Shelved}
+use Rattle.segment_codec.specs.Prelude.{StripeStands, SectorStands}
 use Rattle.segment_io.specs.Places.{ArePlaces, place_of, drive_of, write_unit_at}
 use Rattle.segment_io.specs.Stripes.{bytes_of}
 use Rattle.segment_io.specs.Reads.{PartRead, ShowsAnswering, is_missing_in}

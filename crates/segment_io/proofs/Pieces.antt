@@ -4,7 +4,7 @@ use Rattle.std.proofs.lemmas.Bool.{cases_lt}
 use Rattle.std.proofs.lemmas.List.{get_or-take, get_or_append_left, length-take-le}
 use Rattle.std.proofs.Math.Seq.{get_or-append_right}
 use borrow.Rule.Slice.PartMut.{put_mid}
-use Rattle.pur_base.specs.Bytes.{bytes_at}
+use Rattle.world.specs.Prelude.{bytes_at}
 use Rattle.parity72.specs.Parity.{shard_of}
 use Rattle.segment_io.specs.Runs.{data_byte, IsDataFrom}
 use Rattle.segment_io.specs.lemmas.Parts.{at_part}

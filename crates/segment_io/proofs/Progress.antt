@@ -1,14 +1,7 @@
 -- The same write units are written on one drive after another.
 use Rattle.std.proofs.Common.{◌≡◌, ◌≢◌, inl, inr, ⊎_elim, ℕ, ◌+◌, ◌*◌, ◌<◌, Bool, false, List, refl, sym, ◌∙◌, ap, subst, arith, below_more}
 use Rattle.std.proofs.lemmas.Bool.{cases_order}
-use Rattle.pur_base.specs.Bytes.{bytes_at}
-use Rattle.pur_base.specs.declared.device.Device.{Device}
-use Rattle.pur_base.specs.declared.place.Place.{Place}
-use Rattle.pur_base.specs.lemmas.Devices.{drives_apart}
-use Rattle.world.specs.Shelf.{Shelved, Disk, IsShelf, OthersStay, Continues}
-use Rattle.world.specs.Writes.{OneRange, WritesOnly}
-use Rattle.world.specs.lemmas.Moments.{continues_refl, continues_trans}
-use Rattle.world.specs.lemmas.Writes.{writes_then, writes_more, nothing_written}
+use Rattle.world.specs.Prelude.{bytes_at, Device, Place, drives_apart, Shelved, Disk, IsShelf, OthersStay, Continues, OneRange, WritesOnly, continues_refl, continues_trans, writes_then, writes_more, nothing_written}
 use Rattle.segment_io.specs.Lost.{is_in, LosesOnly}
 use Rattle.segment_io.specs.Places.{ArePlaces, place_of, drive_of, write_unit_at, OnUnits, OthersStayOf}
 use Rattle.segment_io.specs.Stripes.{bytes_of, part_in}

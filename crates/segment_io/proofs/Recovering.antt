@@ -1,10 +1,9 @@
 -- What a stripe is, once its shards were read.
 use Rattle.std.proofs.Common.{◌≡◌, inl, inr, ℕ, ◌+◌, ◌<◌, Bool, true, false, List, sym, ◌∙◌, arith}
 use Rattle.std.proofs.lemmas.Bool.{cases_Bool}
-use Rattle.pur_base.specs.declared.place.Place.{Place}
+use Rattle.world.specs.Prelude.{Place, Shelved}
 use Rattle.parity72.specs.Parity.{shard_of}
 use Rattle.parity72.specs.Recovery.{AgreesOutside}
-use Rattle.world.specs.Shelf.{Shelved}
 use Rattle.segment_io.specs.Lost.{is_in}
 use Rattle.segment_io.specs.Places.{place_of, drive_of}
 use Rattle.segment_io.specs.Stripes.{bytes_of, unit_in}

@@ -3,13 +3,10 @@ use Rattle.std.proofs.Common.{◌≡◌, inl, inr, ℕ, ◌+◌, ◌-◌, ◌*�
 use Rattle.std.proofs.lemmas.Bool.{cases_lt}
 use Rattle.std.proofs.lemmas.List.{ext_get_or}
 use borrow.Rule.Slice.PartMut.{put_mid}
-use Rattle.pur_base.specs.Bytes.{bytes_at}
-use Rattle.pur_base.specs.Devices.{View}
-use Rattle.pur_base.specs.declared.place.Place.{Place}
+use Rattle.world.specs.Prelude.{bytes_at, View, Place, Shelved}
 use Rattle.parity72.specs.Parity.{shard_of}
 use Rattle.segment_codec.specs.Position as position
-use Rattle.segment_codec.specs.Stripes.{StripeStands, SectorStands}
-use Rattle.world.specs.Shelf.{Shelved}
+use Rattle.segment_codec.specs.Prelude.{StripeStands, SectorStands}
 use Rattle.segment_io.specs.Places.{ArePlaces, drive_of}
 use Rattle.segment_io.specs.Stripes.{bytes_of}
 use Rattle.segment_io.specs.Reads.{is_unknown, is_missing_in, ShowsPresent}

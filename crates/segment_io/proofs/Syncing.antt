@@ -2,13 +2,7 @@
 use Rattle.std.proofs.Common.{◌≡◌, ◌≢◌, inl, inr, ℕ, ◌+◌, ◌<◌, ◌≤◌, Bool, true, false, List, [], length, refl, ◌∙◌, ap, arith, below_more}
 use Rattle.std.proofs.lemmas.Bool.{cases_lt}
 use Rattle.std.proofs.lemmas.List.{get_or_past}
-use Rattle.pur_base.specs.declared.device.Device.{Device}
-use Rattle.pur_base.specs.Devices.{drive}
-use Rattle.pur_base.specs.lemmas.Devices.{drives_apart}
-use Rattle.world.specs.Shelf.{Shelved, Disk, IsShelf, OthersStay, Continues}
-use Rattle.world.specs.Writes.{WritesOnly}
-use Rattle.world.specs.lemmas.Moments.{continues_refl, continues_trans}
-use Rattle.world.specs.lemmas.Writes.{writes_then, nothing_written}
+use Rattle.world.specs.Prelude.{Device, drive, drives_apart, Shelved, Disk, IsShelf, OthersStay, Continues, WritesOnly, continues_refl, continues_trans, writes_then, nothing_written}
 use Rattle.segment_io.specs.Lost.{is_in, LosesOnly, NoByte, OthersStayBut}
 use Rattle.segment_io.specs.lemmas.Losing.{loses_none, loses_then, not_before}
 

@@ -4,23 +4,15 @@ use Rattle.std.specs.Prelude.{Result, Ok, Err, is_err, slice_set, ◌==◌, ◌|
 use Rattle.std.proofs.lemmas.Bool.{cases_eq, cases_Bool}
 use Rattle.std.proofs.lemmas.Bool.Decides.{Decides-eqb}
 use Rattle.std.proofs.lemmas.List.{get_or-set_same, get_or-set_other}
-use Rattle.pur_base.specs.Bytes.{bytes_at}
-use Rattle.pur_base.specs.declared.device.Device.{Device}
-use Rattle.pur_base.specs.declared.place.Place.{Place}
+use Rattle.world.specs.Prelude.{bytes_at, Device, Place, Rises, Shelved, Disk, IsShelf, IsSame, Continues, OthersStay, WriteCounts, Elapses, WasWritten, OneRange, WritesOnly, continues_refl, continues_trans, writes_then, writes_more, nothing_written, write_writes, View}
 use Rattle.parity72.specs.Parity.{shard_of}
-use Rattle.world.specs.Counts.{Rises}
-use Rattle.world.specs.Shelf.{Shelved, Disk, IsShelf, IsSame, Continues, OthersStay, WriteCounts, Elapses, WasWritten}
 use Rattle.world.specs.declared.streams.Failed.{Failed}
-use Rattle.world.specs.Writes.{OneRange, WritesOnly}
-use Rattle.world.specs.lemmas.Moments.{continues_refl, continues_trans}
-use Rattle.world.specs.lemmas.Writes.{writes_then, writes_more, nothing_written, write_writes}
 use Rattle.segment_io.specs.Places.{ArePlaces, place_of, drive_of, write_unit_at, OthersStayOf}
 use Rattle.segment_io.specs.Lost.{NoByte}
 use Rattle.segment_io.proofs.InTurn.{nothing}
 use Rattle.segment_io.specs.Stripes.{bytes_of, unit_in}
 use Rattle.segment_io.specs.Reads.{is_unknown, is_missing_in, Tried, IsOn, AreLost, ShowsPresent}
-use Rattle.pur_base.specs.Devices.{View}
-use Rattle.segment_codec.specs.Stripes.{StripeStands}
+use Rattle.segment_codec.specs.Prelude.{StripeStands}
 use Rattle.segment_io.specs.Rebuilds.{OthersAreSame, Rebuilds, AreRebuilt, IsFaultOf, is_wanted}
 use Rattle.segment_io.specs.declared.rebuilding.RebuildFault.{RebuildFault}
 use Rattle.segment_io.specs.declared.rebuilding.RebuildFault.TheVariants.{Lost, Target}

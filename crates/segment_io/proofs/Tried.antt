@@ -4,14 +4,9 @@ use Rattle.std.specs.Prelude.{Option, Some, IfSome, slice_set, option_map}
 use Rattle.std.specs.List.{AllZip}
 use Rattle.std.proofs.lemmas.Bool.{cases_eq, cases_Bool}
 use Rattle.std.proofs.lemmas.List.{get_or-set_same, get_or-set_other, drop-drop, take-take, drop-take}
-use Rattle.pur_base.specs.Bytes.{bytes_at}
-use Rattle.pur_base.specs.Devices.{View}
-use Rattle.pur_base.specs.declared.device.Device.{Device}
-use Rattle.pur_base.specs.declared.place.Place.{Place}
+use Rattle.world.specs.Prelude.{bytes_at, View, Device, Place, Rises, Shelved, Disk, IsShelf, IsSame, Continues, OthersStay}
 use Rattle.parity72.specs.Parity.{shard_of}
-use Rattle.segment_codec.specs.Stripes.{write_unit, StripeStands}
-use Rattle.world.specs.Counts.{Rises}
-use Rattle.world.specs.Shelf.{Shelved, Disk, IsShelf, IsSame, Continues, OthersStay}
+use Rattle.segment_codec.specs.Prelude.{write_unit, StripeStands}
 use Rattle.segment_io.specs.Places.{ArePlaces, place_of, drive_of, write_unit_at}
 use Rattle.segment_io.specs.Stripes.{bytes_of, unit_in}
 use Rattle.segment_io.specs.Reads.{is_unknown, PartRead, Tried, IsOn, AreLost, ShowsAnswering, is_missing_in}

@@ -2,14 +2,8 @@
 use Rattle.std.proofs.Common.{◌≡◌, inl, inr, ℕ, ◌+◌, ◌<◌, ◌≤◌, Bool, false, List, length, refl, ◌∙◌, ap}
 use Rattle.std.specs.Prelude.{slice_set}
 use Rattle.std.proofs.lemmas.Bool.{cases_Bool}
-use Rattle.pur_base.specs.Bytes.{bytes_at}
-use Rattle.pur_base.specs.declared.device.Device.{Device}
-use Rattle.pur_base.specs.declared.place.Place.{Place}
+use Rattle.world.specs.Prelude.{bytes_at, Device, Place, Shelved, IsShelf, IsSame, Continues, OthersStay, WritesOnly, continues_refl, continues_trans, writes_then, nothing_written}
 use Rattle.parity72.specs.Parity.{shard_of}
-use Rattle.world.specs.Shelf.{Shelved, IsShelf, IsSame, Continues, OthersStay}
-use Rattle.world.specs.Writes.{WritesOnly}
-use Rattle.world.specs.lemmas.Moments.{continues_refl, continues_trans}
-use Rattle.world.specs.lemmas.Writes.{writes_then, nothing_written}
 use Rattle.segment_io.specs.Lost.{NoByte}
 use Rattle.segment_io.specs.Places.{ArePlaces, place_of, drive_of, write_unit_at, OthersStayOf}
 use Rattle.segment_io.specs.Reads.{is_unknown, PartRead, Tried, IsOn}

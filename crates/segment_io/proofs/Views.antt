@@ -3,13 +3,9 @@ use Rattle.std.proofs.Common.{◌≡◌, ◌⊎◌, inl, inr, ℕ, zero, suc, �
 use Rattle.std.specs.Prelude.{Option, Some, None, IfSome, is_some, is_none, count_by, option_map}
 use Rattle.std.specs.List.{AllZip}
 use Rattle.std.proofs.lemmas.List.Sums.{sum_by-cons}
-use Rattle.pur_base.specs.Bytes.{bytes_at}
-use Rattle.pur_base.specs.Devices.{Image, View, drive}
-use Rattle.pur_base.specs.declared.place.Place.{Place}
+use Rattle.world.specs.Prelude.{bytes_at, Image, View, drive, Place, Shelved, Stop, MayStop, as_read}
 use Rattle.parity72.specs.Parity.{shard_of}
-use Rattle.segment_codec.specs.Stripes.{write_unit, StripeStands}
-use Rattle.world.specs.Shelf.{Shelved, Stop, MayStop}
-use Rattle.world.specs.lemmas.Stopped.{as_read}
+use Rattle.segment_codec.specs.Prelude.{write_unit, StripeStands}
 use Rattle.segment_io.specs.Lost.{is_in}
 use Rattle.segment_io.specs.Places.{place_of, drive_of, write_unit_at}
 use Rattle.segment_io.specs.Stripes.{bytes_of, HoldsStripe}

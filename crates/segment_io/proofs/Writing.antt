@@ -1,9 +1,8 @@
 -- What a write of a whole write unit leaves.
 use Rattle.std.proofs.Common.{◌≡◌, ℕ, ◌+◌, ◌-◌, List, length, take, drop, false, Result, Ok, Err, ◌∙◌, ap, arith}
 use Rattle.std.specs.Prelude.{is_err}
-use Rattle.pur_base.specs.Bytes.{bytes_at}
+use Rattle.world.specs.Prelude.{bytes_at, Disk, WasWritten}
 use Rattle.world.specs.declared.streams.Failed.{Failed}
-use Rattle.world.specs.Shelf.{Disk, WasWritten}
 
 pub part_at : (at n : ℕ) (bytes part : List ℕ) → length part ≡ n → take (at + length part - at) (drop at bytes) ≡ part → bytes_at at n bytes ≡ part
 part_at at n bytes part size is = ap (λ (k : ℕ). take k (drop at bytes)) (let e : n ≡ at + length part - at = omega (arith, size) in e) ∙ is

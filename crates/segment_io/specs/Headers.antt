@@ -1,14 +1,10 @@
 -- Headers in the units of a segment, and when they come.
 use Rattle.std.specs.Prelude.{◌≡◌, ◌⊎◌, ℕ, ◌*◌, ◌<◌, true, false, Bool, List, [], slice_index}
-use Rattle.pur_base.specs.Bytes.{padded}
-use Rattle.pur_base.specs.Devices.{drive}
-use Rattle.pur_base.specs.declared.limits.TheConstants.{SEGMENT_SHARDS}
-use Rattle.pur_base.specs.declared.place.Place.{Place}
+use Rattle.world.specs.Prelude.{padded, drive, SEGMENT_SHARDS, Place, Shelved, Stop, IsIn, IsInSome}
 use Rattle.segment_codec.specs.declared.header.Header.{Header}
 use Rattle.segment_codec.specs.declared.kind.SegmentKind.TheVariants.{Data}
 use Rattle.segment_codec.specs.declared.position.TheConstants.{WRITE_UNIT_BYTES}
-use Rattle.segment_codec.specs.Header.{IsLawful, IsOfNoPatch, header_bytes}
-use Rattle.world.specs.Shelf.{Shelved, Stop, IsIn, IsInSome}
+use Rattle.segment_codec.specs.Prelude.{IsLawful, IsOfNoPatch, header_bytes}
 use Rattle.segment_io.specs.Lost.{is_in}
 use Rattle.segment_io.specs.Places.{place_of, drive_of, write_unit_at}
 

@@ -7,3 +7,4 @@ pub mod Reads
 pub mod Rebuilds
 pub mod Runs
 pub mod lemmas
+pub mod Prelude

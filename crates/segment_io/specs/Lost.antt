@@ -1,9 +1,6 @@
 -- Sets of drives, and the drives that a call loses.
 use Rattle.std.specs.Prelude.{◌≡◌, ◌⊎◌, ℕ, Bool, true, false, List, slice_index_or}
-use Rattle.pur_base.specs.declared.device.Device.{Device}
-use Rattle.pur_base.specs.Devices.{drive}
-use Rattle.world.specs.Counts.{Rises}
-use Rattle.world.specs.Shelf.{Shelved, Disk}
+use Rattle.world.specs.Prelude.{Device, drive, Rises, Shelved, Disk}
 
 -- whether the drive of a slot is in the set
 abbrev pub is_in : List Bool → ℕ → Bool

@@ -1,12 +1,7 @@
 -- The units of a segment on the drives of a shelf.
 use Rattle.std.specs.Prelude.{◌≡◌, ℕ, ◌+◌, ◌*◌, ◌<◌, ◌≤◌, List, length, slice_index_or}
-use Rattle.pur_base.specs.declared.device.Device.{Device}
-use Rattle.pur_base.specs.declared.limits.TheConstants.{UNIT_BYTES, BOOT_UNITS, SEGMENT_SHARDS}
-use Rattle.pur_base.specs.declared.place.Place.{Place}
-use Rattle.pur_base.specs.Devices.{drive}
+use Rattle.world.specs.Prelude.{Device, UNIT_BYTES, BOOT_UNITS, SEGMENT_SHARDS, Place, drive, Shelved, OneRange}
 use Rattle.segment_codec.specs.declared.position.TheConstants.{WRITE_UNIT_BYTES}
-use Rattle.world.specs.Shelf.{Shelved}
-use Rattle.world.specs.Writes.{OneRange}
 
 -- a unit of the shelf behind the boot region
 pub record IsPlace (shelf : Shelved) (place : Place) : Type 0 where

@@ -1,12 +1,8 @@
 -- What is read of a segment, and why it may be lost.
 use Rattle.std.specs.Prelude.{◌≡◌, ◌⊎◌, ℕ, ◌+◌, ◌<◌, true, false, Bool, List, Some, slice_index_or}
 use Rattle.std.specs.List.{Contains}
-use Rattle.pur_base.specs.Devices.{View}
-use Rattle.pur_base.specs.declared.limits.TheConstants.{SEGMENT_SHARDS}
-use Rattle.pur_base.specs.declared.place.Place.{Place}
+use Rattle.world.specs.Prelude.{View, SEGMENT_SHARDS, Place, Rises, Shelved, Disk}
 use Rattle.parity72.specs.Parity.{IsCodeword, shard_of}
-use Rattle.world.specs.Counts.{Rises}
-use Rattle.world.specs.Shelf.{Shelved, Disk}
 use Rattle.segment_io.specs.Lost.{is_in}
 use Rattle.segment_io.specs.Places.{place_of, drive_of}
 use Rattle.segment_io.specs.Stripes.{bytes_of, unit_in}

@@ -1,13 +1,8 @@
 -- A shard is rebuilt.
 use Rattle.std.specs.Prelude.{◌≡◌, ◌≢◌, ℕ, ◌==◌, ◌||◌, ◌+◌, ◌*◌, ◌<◌, true, false, Bool, List}
-use Rattle.pur_base.specs.declared.device.Device.{Device}
-use Rattle.pur_base.specs.declared.place.Place.{Place}
-use Rattle.world.specs.Counts.{Rises}
-use Rattle.world.specs.Shelf.{Shelved, IsSame, Continues}
-use Rattle.world.specs.Writes.{OneRange, WritesOnly}
+use Rattle.world.specs.Prelude.{Device, Place, Rises, Shelved, IsSame, Continues, OneRange, WritesOnly, SEGMENT_SHARDS}
 use Rattle.parity72.specs.Parity.{IsCodeword, shard_of}
 use Rattle.segment_codec.specs.declared.position.TheConstants.{WRITE_UNIT_BYTES}
-use Rattle.pur_base.specs.declared.limits.TheConstants.{SEGMENT_SHARDS}
 use Rattle.segment_io.specs.declared.rebuilding.RebuildFault.{RebuildFault}
 use Rattle.segment_io.specs.declared.rebuilding.RebuildFault.TheVariants.{Lost, Target}
 use Rattle.segment_io.specs.Places.{place_of, drive_of, write_unit_at, OthersStayOf}

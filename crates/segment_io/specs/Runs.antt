@@ -1,10 +1,8 @@
 -- Runs of bytes in the data of a stripe, whose seven shards of data stand one behind another.
 use Rattle.std.specs.Prelude.{◌≡◌, ℕ, ◌+◌, ◌/◌, ◌%◌, ◌<◌, false, Bool, List, slice_index}
-use Rattle.pur_base.specs.declared.limits.TheConstants.{SEGMENT_SHARDS}
-use Rattle.pur_base.specs.declared.place.Place.{Place}
+use Rattle.world.specs.Prelude.{SEGMENT_SHARDS, Place, Shelved}
 use Rattle.parity72.specs.Parity.{IsCodeword, shard_of}
 use Rattle.segment_codec.specs.declared.position.TheConstants.{WRITE_UNIT_BYTES}
-use Rattle.world.specs.Shelf.{Shelved}
 use Rattle.segment_io.specs.Stripes.{bytes_of, unit_in}
 
 -- a byte of a stripe's data

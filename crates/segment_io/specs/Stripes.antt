@@ -1,12 +1,8 @@
 -- Stripes in the units of a segment.
 use Rattle.std.specs.Prelude.{◌≡◌, ℕ, ◌+◌, ◌*◌, ◌<◌, false, Bool, List, [], ◌∷◌, ◌++◌, length, slice_index_or}
-use Rattle.pur_base.specs.Bytes.{bytes_at}
-use Rattle.pur_base.specs.Devices.{Image}
-use Rattle.pur_base.specs.declared.limits.TheConstants.{SEGMENT_SHARDS}
-use Rattle.pur_base.specs.declared.place.Place.{Place}
+use Rattle.world.specs.Prelude.{bytes_at, Image, SEGMENT_SHARDS, Place, Shelved}
 use Rattle.parity72.specs.Parity.{IsCodeword, shard_of}
 use Rattle.segment_codec.specs.declared.position.TheConstants.{WRITE_UNIT_BYTES, DATA_SHARDS}
-use Rattle.world.specs.Shelf.{Shelved}
 use Rattle.segment_io.specs.Lost.{is_in}
 use Rattle.segment_io.specs.Places.{place_of, drive_of, write_unit_at}
 

@@ -1,8 +1,6 @@
 -- What a view of the devices shows of a segment.
 use Rattle.std.specs.Prelude.{◌≡◌, ◌⊎◌, ℕ, ◌<◌, ◌≤◌, false, Bool, List, Some, None, is_none, count_by}
-use Rattle.pur_base.specs.Devices.{Image, View, drive}
-use Rattle.pur_base.specs.declared.limits.TheConstants.{SEGMENT_SHARDS}
-use Rattle.pur_base.specs.declared.place.Place.{Place}
+use Rattle.world.specs.Prelude.{Image, View, drive, SEGMENT_SHARDS, Place}
 use Rattle.segment_io.specs.Lost.{is_in}
 use Rattle.segment_io.specs.Places.{place_of, drive_of}
 

@@ -2,18 +2,8 @@
 use Rattle.std.proofs.Common.{◌≡◌, ◌⊎◌, ◌↔◌, ℕ, ◌<◌, Bool, false, List, [], ◌∷◌, ◌++◌, refl, sym, ap, ◌∙◌, arith, inl, inr, subst, All, Contains, append-nil, append_assoc}
 use Rattle.std.proofs.lemmas.List.Elements.{All-contains, Contains-append_left, Contains-append_right, Contains-append_cases, Contains-push, Contains-push_cases}
 use Rattle.std.specs.Prelude.{Option}
-use Rattle.pur_base.specs.Facts.{segment_key, never}
-use Rattle.pur_base.specs.Says.{Ascends, has_key}
-use Rattle.pur_base.specs.declared.facts.SegmentFact.{SegmentFact}
-use Rattle.pyramid.specs.Layers.{AreBelow, AreDistinct, IsFlushed, facts_of, newest_of, patch_facts, patches_of}
-use Rattle.pyramid.specs.Merging.{later}
-use Rattle.pyramid.specs.Shown.{IsShown}
-use Rattle.pyramid.specs.lemmas.Contains.{here, there}
-use Rattle.pyramid.specs.lemmas.Layers.{all_contained, all_below, below_at}
-use Rattle.pyramid.specs.lemmas.Merges.{ascends-cons, ascends-head, ascends-tail}
-use Rattle.pyramid.specs.lemmas.Newest.{newest-append}
+use Rattle.pyramid.specs.Prelude.{segment_key, never, Ascends, has_key, SegmentFact, AreBelow, AreDistinct, IsFlushed, facts_of, newest_of, patch_facts, patches_of, later, IsShown, here, there, all_contained, all_below, below_at, ascends-cons, ascends-head, ascends-tail, newest-append, shown_added, shown_same}
 use Rattle.pyramid.proofs.PlaceLemmas.{says_flushed}
-use Rattle.pyramid.specs.lemmas.Shown.{shown_added, shown_same}
 use Rattle.segment_table.specs.Segments.{number}
 use Rattle.segment_table.proofs.SegmentLemmas.{key_id}
 

@@ -5,15 +5,7 @@ use Rattle.std.specs.List.{filter_map, range_with_len}
 use Rattle.std.specs.List.Sorted.{IsPartitionedBy, IsPartitionPoint}
 use Rattle.std.proofs.lemmas.Bool.{cases_lt, eqb-true, lt-ltb, ltb-true, ltb-false}
 use Rattle.std.proofs.lemmas.List.Elements.{All-contains, filter-append}
-use Rattle.pur_base.specs.Keys.{id_of, key_of}
-use Rattle.pur_base.specs.Says.{Ascends, has_key, newest, says}
-use Rattle.pur_base.specs.Facts.{segment_key, never}
-use Rattle.pur_base.specs.declared.facts.SegmentFact.{SegmentFact}
-use Rattle.pyramid.specs.Layers.{AreDistinct, facts_of}
-use Rattle.pyramid.specs.Shown.{IsShown}
-use Rattle.pyramid.specs.lemmas.Contains.{filtered, here, of_filter, there}
-use Rattle.pyramid.specs.lemmas.Merges.{ascends_filter}
-use Rattle.pyramid.specs.lemmas.Shown.{ascends_push, said_found, listed_by_id, passes_filter, shown_added, shown_elided, taken_of}
+use Rattle.pyramid.specs.Prelude.{id_of, key_of, Ascends, has_key, newest, says, segment_key, never, SegmentFact, AreDistinct, facts_of, IsShown, filtered, here, of_filter, there, ascends_filter, ascends_push, said_found, listed_by_id, passes_filter, shown_added, shown_elided, taken_of}
 use Rattle.segment_table.specs.Segments.{number, AreOwnFrom}
 
 -- a segment's key has its id

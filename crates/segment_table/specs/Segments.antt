@@ -1,9 +1,6 @@
 -- The visible data segments beside the facts that they come from.
 use Rattle.std.specs.Prelude.{◌≡◌, ℕ, ◌≤◌, Bool, List, Contains}
-use Rattle.pur_base.specs.Facts.{segment_key, never}
-use Rattle.pur_base.specs.declared.facts.SegmentFact.{SegmentFact}
-use Rattle.pyramid.specs.Layers.{Layers, facts_in}
-use Rattle.pyramid.specs.Shown.{IsShown}
+use Rattle.pyramid.specs.Prelude.{segment_key, never, SegmentFact, Layers, facts_in, IsShown}
 
 -- the facts of all data segments, and the segments that are visible, by ascending id
 pub record Segments : Type 0 where

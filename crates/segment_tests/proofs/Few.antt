@@ -2,11 +2,10 @@
 use Rattle.std.proofs.Common.{◌≡◌, ◌≢◌, ℕ, zero, suc, ◌-◌, ◌<◌, ◌≤◌, List, [], ◌∷◌, length, sym, ◌∙◌, arith}
 use Rattle.std.specs.Prelude.{All}
 use Rattle.std.proofs.lemmas.List.Elements.{All-get_or}
-use Rattle.pur_base.specs.declared.facts.SegmentFact.{SegmentFact}
-use Rattle.pur_base.specs.declared.place.Place.{Place}
-use Rattle.world.specs.Shelf.{Shelved}
-use Rattle.segment_io.specs.Places.{ArePlaces}
-use Rattle.segment_writer.specs.DataPlacing.{AreIndicesOf, AreApart, MayBePlaced}
+use Rattle.boot_codec.specs.Prelude.{SegmentFact, Place}
+use Rattle.world.specs.Prelude.{Shelved}
+use Rattle.segment_io.specs.Prelude.{ArePlaces}
+use Rattle.segment_writer.specs.Prelude.{AreIndicesOf, AreApart, MayBePlaced}
 
 of_one : (P : ℕ → Type 0) → P 0 → (n : ℕ) → n < 1 → P n
 of_one P first zero lt = first

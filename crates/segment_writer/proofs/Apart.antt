@@ -2,17 +2,9 @@
 use Rattle.std.proofs.Common.{◌≡◌, ◌⊎◌, inl, inr, ℕ, ◌+◌, ◌*◌, ◌<◌, ◌≤◌, Bool, true, false, List, ◌∙◌, ap, arith}
 use Rattle.std.specs.Prelude.{◌↔◌}
 use Rattle.std.proofs.lemmas.Bool.{cases_Bool}
-use Rattle.pur_base.specs.Devices.{Image}
-use Rattle.pur_base.specs.declared.device.Device.{Device}
-use Rattle.pur_base.specs.declared.device.Device.TheVariants.{Drive, Nv}
-use Rattle.pur_base.specs.declared.place.Place.{Place}
-use Rattle.world.specs.Shelf.{Shelved}
-use Rattle.world.specs.Writes.{WritesOnly}
-use Rattle.segment_io.specs.Lost.{is_in, LosesOnly}
-use Rattle.segment_io.specs.Places.{place_of, drive_of, write_unit_at, OnUnits}
-use Rattle.segment_io.specs.Stripes.{bytes_of, unit_in, HoldsStripe}
-use Rattle.segment_io.specs.lemmas.Losing.{not_before}
-use Rattle.segment_io.specs.lemmas.Parts.{part_stays}
+use Rattle.array_spec.specs.Prelude.{Image, Device, Drive, Nv, Place}
+use Rattle.world.specs.Prelude.{Shelved, WritesOnly}
+use Rattle.segment_io.specs.Prelude.{is_in, LosesOnly, place_of, drive_of, write_unit_at, OnUnits, bytes_of, unit_in, HoldsStripe, not_before, part_stays}
 use Rattle.segment_writer.specs.Layout.{HoldsSegment}
 
 -- no unit stands in both

@@ -1,17 +1,10 @@
 -- The stripes of one segment after another are appended.
 use Rattle.std.proofs.Common.{◌≡◌, ◌≢◌, inl, inr, ℕ, ◌+◌, ◌<◌, ◌≤◌, Bool, true, List, [], ◌∷◌, ◌++◌, length, take, sym, subst, ◌∙◌, arith, below_more}
 use Rattle.std.proofs.lemmas.List.{get_or-take, length-take}
-use Rattle.pur_base.specs.Devices.{Image}
-use Rattle.pur_base.specs.declared.place.Place.{Place}
-use Rattle.segment_codec.specs.declared.header.Header.{Header}
-use Rattle.world.specs.Ran.{Ran}
-use Rattle.world.specs.Shelf.{Shelved}
-use Rattle.world.specs.Writes.{WritesOnly}
-use Rattle.world.specs.lemmas.Ran.{ran_more}
+use Rattle.array_spec.specs.Prelude.{Image, Place, Header}
+use Rattle.world.specs.Prelude.{Ran, Shelved, WritesOnly, ran_more}
 use Rattle.segment_io.specs.declared.open.Open.{Open}
-use Rattle.segment_io.specs.Lost.{is_in, LosesOnly}
-use Rattle.segment_io.specs.Places.{OnUnits, IsOnPlace}
-use Rattle.segment_io.specs.Stripes.{bytes_of, stripe_in, HoldsStripe, IsStripeOf}
+use Rattle.segment_io.specs.Prelude.{is_in, LosesOnly, OnUnits, IsOnPlace, bytes_of, stripe_in, HoldsStripe, IsStripeOf}
 use Rattle.segment_writer.specs.Layout.{Layout, units_of, AreApart, HaveStripes, IsOnSome, OnSome, HoldsSegment, IsOpenOf, AreOpenOf}
 use Rattle.patch_io.proofs.Lists.{get_pushed}
 use Rattle.segment_writer.proofs.Apart.{AreDisjoint, stripe_kept, segment_kept}

@@ -1,19 +1,9 @@
 -- What stands in segments stays where others are written.
 use Rattle.std.proofs.Common.{◌≡◌, ◌≢◌, ℕ, ◌+◌, ◌<◌, ◌≤◌, Bool, List, length, sym, ◌∙◌, ap, arith}
 use Rattle.std.specs.Prelude.{Some, slice_get}
-use Rattle.pur_base.specs.declared.device.Device.{Device}
-use Rattle.pur_base.specs.declared.facts.AnyFact.{AnyFact}
-use Rattle.pur_base.specs.declared.facts.SegmentFact.{SegmentFact}
-use Rattle.pur_base.specs.declared.place.Place.{Place}
-use Rattle.boot_codec.specs.declared.patch.Patch.{Patch}
-use Rattle.array_spec.specs.Stored.{places_of_part}
-use Rattle.world.specs.Shelf.{Shelved}
-use Rattle.world.specs.Writes.{WritesOnly}
-use Rattle.segment_io.specs.Lost.{LosesOnly}
-use Rattle.segment_io.specs.Places.{place_of, drive_of, write_unit_at}
-use Rattle.segment_io.specs.Stripes.{bytes_of, unit_in, HoldsStripe}
-use Rattle.segment_io.specs.lemmas.Losing.{not_before}
-use Rattle.segment_io.specs.lemmas.Parts.{part_stays}
+use Rattle.array_spec.specs.Prelude.{Device, AnyFact, SegmentFact, Place, Patch, places_of_part}
+use Rattle.world.specs.Prelude.{Shelved, WritesOnly}
+use Rattle.segment_io.specs.Prelude.{LosesOnly, place_of, drive_of, write_unit_at, bytes_of, unit_in, HoldsStripe, not_before, part_stays}
 use Rattle.segment_writer.specs.PatchStoring.{HoldsPatch, OnPatch}
 use Rattle.segment_writer.proofs.Apart.{slot_of, units_apart}
 use Rattle.segment_writer.proofs.PatchLayout.{patch_kept}

@@ -6,14 +6,10 @@ use Rattle.std.specs.declared.alloc.Global.{Global}
 use Rattle.std.proofs.lemmas.Bool.{cases_eq}
 use Rattle.std.proofs.lemmas.List.{length-set}
 use Rattle.std.proofs.lemmas.Option.{same_Some}
-use Rattle.boot_codec.specs.declared.patch.Patch.{Patch}
-use Rattle.world.specs.Shelf.{Shelved}
-use Rattle.world.specs.Ran.{Ran}
-use Rattle.world.specs.Writes.{WritesOnly}
-use Rattle.world.specs.lemmas.Ran.{ran_more}
+use Rattle.array_spec.specs.Prelude.{Patch}
+use Rattle.world.specs.Prelude.{Shelved, Ran, WritesOnly, ran_more}
 use Rattle.segment_io.specs.declared.open.Open.{Open}
-use Rattle.segment_io.specs.Lost.{is_in, LosesOnly}
-use Rattle.segment_io.specs.Stripes.{bytes_of}
+use Rattle.segment_io.specs.Prelude.{is_in, LosesOnly, bytes_of}
 use Rattle.segment_writer.specs.PatchStoring.{HoldsPatch, IsOnPatch, OnPatch}
 use Rattle.segment_writer.proofs.Appends.{still_open as still_open_one}
 use Rattle.array_memory.specs.declared.plan.Plan.{Plan}

@@ -2,16 +2,10 @@
 use Rattle.std.proofs.Common.{◌≡◌, ◌⊎◌, ◌↔◌, inl, inr, ℕ, ◌+◌, ◌<◌, ◌≤◌, Bool, true, List, length, subst, ◌∙◌, ap, arith}
 use Rattle.std.specs.Prelude.{Some, slice_get}
 use Rattle.std.proofs.lemmas.Bool.{cases_eq}
-use Rattle.pur_base.specs.Devices.{drive}
-use Rattle.boot_codec.specs.declared.patch.Patch.{Patch}
-use Rattle.array_spec.specs.Stored.{places_of_part}
-use Rattle.pur_base.specs.declared.device.Device.{Device}
-use Rattle.world.specs.Ran.{Ran}
-use Rattle.world.specs.Shelf.{Shelved}
-use Rattle.world.specs.lemmas.Ran.{ran_more}
+use Rattle.array_spec.specs.Prelude.{drive, Patch, places_of_part, Device}
+use Rattle.world.specs.Prelude.{Ran, Shelved, ran_more}
 use Rattle.segment_writer.specs.Layout.{AreDrivesOfAll}
-use Rattle.segment_io.specs.Lost.{is_in, NoByte, IsOnSlot, OthersStayBut}
-use Rattle.segment_io.specs.Places.{place_of}
+use Rattle.segment_io.specs.Prelude.{is_in, NoByte, IsOnSlot, OthersStayBut, place_of}
 use Rattle.patch_io.proofs.Parts.{places_of}
 use Rattle.array_memory.specs.declared.plan.Plan.{Plan}
 use Rattle.segment_writer.specs.CheckpointStoring.{MayStandFor, HoldDrivesOf, IsSlotOf, IsOnPatches, OnPatches}

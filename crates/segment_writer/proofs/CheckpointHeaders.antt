@@ -4,13 +4,10 @@ use Rattle.std.specs.Prelude.{Some, slice_get, slice_set, Vec}
 use Rattle.std.specs.declared.alloc.Global.{Global}
 use Rattle.std.proofs.lemmas.Bool.{cases_eq}
 use Rattle.std.proofs.lemmas.List.{length-set}
-use Rattle.pur_base.specs.declared.facts.AnyFact.{AnyFact}
-use Rattle.boot_codec.specs.declared.patch.Patch.{Patch}
-use Rattle.world.specs.Shelf.{Shelved}
-use Rattle.world.specs.Writes.{WritesOnly}
+use Rattle.array_spec.specs.Prelude.{AnyFact, Patch}
+use Rattle.world.specs.Prelude.{Shelved, WritesOnly}
 use Rattle.segment_io.specs.declared.open.Open.{Open}
-use Rattle.segment_io.specs.Lost.{is_in, LosesOnly}
-use Rattle.segment_io.specs.Stripes.{bytes_of}
+use Rattle.segment_io.specs.Prelude.{is_in, LosesOnly, bytes_of}
 use Rattle.segment_writer.specs.Layout.{HoldAllHeaders}
 use Rattle.segment_writer.specs.PatchStoring.{HoldsPatch, OnPatch, layout_of_patch}
 use Rattle.segment_writer.specs.CheckpointStoring.{AreAllApart, IsOpenListOf, AreOpenLists}

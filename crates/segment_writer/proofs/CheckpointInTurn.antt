@@ -2,18 +2,10 @@
 use Rattle.std.proofs.Common.{◌≡◌, ◌⊎◌, inl, inr, ⊎_elim, ℕ, ◌+◌, ◌<◌, ◌≤◌, Bool, true, false, List, [], length, sym, subst, ◌∙◌, arith}
 use Rattle.std.specs.Prelude.{Some, slice_get}
 use Rattle.std.proofs.lemmas.Bool.{cases_eq, cases_Bool}
-use Rattle.pur_base.specs.declared.facts.SegmentFact.{SegmentFact}
-use Rattle.boot_codec.specs.declared.patch.Patch.{Patch}
-use Rattle.array_spec.specs.Stored.{places_of_part}
+use Rattle.array_spec.specs.Prelude.{SegmentFact, Patch, places_of_part}
 use Rattle.world.specs.declared.shelf.Span.{Span}
-use Rattle.world.specs.Shelf.{Shelved, Stop, Continues, LeavesOnly, IsInSome}
-use Rattle.world.specs.Writes.{WritesOnly, LeavesBut}
-use Rattle.world.specs.lemmas.Moments.{then_run, weaker}
-use Rattle.segment_io.specs.Headers.{AreSynced}
-use Rattle.segment_io.specs.Lost.{is_in}
-use Rattle.segment_io.specs.Places.{place_of, drive_of, write_unit_at}
-use Rattle.segment_io.specs.Stripes.{bytes_of, HoldsStripe}
-use Rattle.segment_io.specs.lemmas.Parts.{same_at}
+use Rattle.world.specs.Prelude.{Shelved, Stop, Continues, LeavesOnly, IsInSome, WritesOnly, LeavesBut, then_run, weaker}
+use Rattle.segment_io.specs.Prelude.{AreSynced, is_in, place_of, drive_of, write_unit_at, bytes_of, HoldsStripe, same_at}
 use Rattle.segment_writer.specs.PatchStoring.{OnPatch, layout_of_patch}
 use Rattle.segment_writer.proofs.PatchLayout.{patch_kept, may_be_headed}
 use Rattle.segment_writer.proofs.InTurn.{outside}

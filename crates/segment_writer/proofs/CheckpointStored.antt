@@ -1,10 +1,8 @@
 -- Patches that may be stored.
 use Rattle.std.proofs.Common.{◌≡◌, ℕ, List, sym, subst}
 use Rattle.std.specs.Prelude.{Some, slice_get}
-use Rattle.pur_base.specs.declared.facts.AnyFact.{AnyFact}
-use Rattle.boot_codec.specs.Record.{IsPatch}
-use Rattle.boot_codec.specs.declared.patch.Patch.{Patch}
-use Rattle.world.specs.Shelf.{Shelved, Continues}
+use Rattle.array_spec.specs.Prelude.{AnyFact, IsPatch, Patch}
+use Rattle.world.specs.Prelude.{Shelved, Continues}
 use Rattle.segment_writer.specs.PatchStoring.{MayBeStored, MayBeHeaded}
 use Rattle.segment_writer.proofs.PatchLayout.{headed_later}
 use Rattle.array_memory.specs.declared.plan.Plan.{Plan}

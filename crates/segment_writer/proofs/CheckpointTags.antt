@@ -3,12 +3,10 @@ use Rattle.std.proofs.Common.{◌≡◌, ◌⊎◌, inl, inr, ℕ, zero, suc, �
 use Rattle.std.specs.Prelude.{Option, Some, None, slice_get}
 use Rattle.std.specs.List.{AllByRecursion}
 use Rattle.std.proofs.lemmas.Option.{same_Some}
-use Rattle.pur_base.specs.Facts.{table_tag}
-use Rattle.pur_base.specs.declared.facts.AnyFact.{AnyFact}
+use Rattle.array_spec.specs.Prelude.{table_tag, AnyFact, Patch}
 use Rattle.pur_base.specs.declared.facts.AnyFact.TheVariants as any
-use Rattle.pyramid.specs.Layers.{patch_facts, patches_of}
-use Rattle.boot_codec.specs.declared.patch.Patch.{Patch}
-use Rattle.world.specs.Shelf.{Shelved}
+use Rattle.pyramid.specs.Prelude.{patch_facts, patches_of}
+use Rattle.world.specs.Prelude.{Shelved}
 use Rattle.segment_writer.specs.PatchStoring.{MayBeStored}
 use Rattle.array_memory.specs.declared.plan.Plan.{Plan}
 use Rattle.segment_writer.specs.CheckpointPlanned.{new_facts, facts_of_tag}

@@ -1,18 +1,9 @@
 -- Patches that are written whole, and a checkpoint.
 use Rattle.std.proofs.Common.{◌≡◌, inl, inr, ℕ, Bool, List, sym, subst}
 use Rattle.std.specs.Prelude.{Some, slice_get}
-use Rattle.pur_base.specs.Devices.{View}
-use Rattle.pur_base.specs.declared.facts.AnyFact.{AnyFact}
-use Rattle.pur_base.specs.declared.facts.SegmentFact.{SegmentFact}
-use Rattle.boot_codec.specs.declared.patch.Patch.{Patch}
-use Rattle.world.specs.Shelf.{Shelved, Stop, LeavesOnly}
-use Rattle.world.specs.Writes.{WritesOnly}
-use Rattle.world.specs.Ran.{Ran}
-use Rattle.world.specs.Streams.{IsPreorder}
-use Rattle.world.specs.lemmas.Ran.{ran_then, ran_more}
-use Rattle.segment_io.specs.Lost.{LosesOnly}
-use Rattle.segment_io.specs.Stripes.{bytes_of}
-use Rattle.segment_io.specs.lemmas.Losing.{not_before}
+use Rattle.array_spec.specs.Prelude.{View, AnyFact, SegmentFact, Patch}
+use Rattle.world.specs.Prelude.{Shelved, Stop, LeavesOnly, WritesOnly, Ran, IsPreorder, ran_then, ran_more}
+use Rattle.segment_io.specs.Prelude.{LosesOnly, bytes_of, not_before}
 use Rattle.segment_writer.specs.PatchStoring.{MayBeStored, HoldsPatch, MayBeHeaded}
 use Rattle.segment_writer.proofs.PatchShown.{patch_shown}
 use Rattle.segment_writer.specs.DataPlacing.{MayBePlaced}

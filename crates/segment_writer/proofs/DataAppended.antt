@@ -2,7 +2,7 @@
 use Rattle.std.proofs.Common.{◌≡◌, ℕ, ◌+◌, ◌*◌, ◌/◌, ◌%◌, List, [], ◌∷◌, length, sym, subst, ◌∙◌, ap, arith, length-append}
 use Rattle.std.proofs.lemmas.List.{get_or_append_left}
 use Rattle.parity72.specs.Parity.{shard_of}
-use Rattle.segment_io.specs.Stripes.{IsStripeOf}
+use Rattle.segment_io.specs.Prelude.{IsStripeOf}
 use Rattle.segment_writer.specs.DataFilling.{sector_of_shard, IsSectorOf, HoldsSectors}
 
 pub stripe_holds : (staged : List (List ℕ)) (order : List ℕ) (stripe : ℕ) (stripe_data shards : List (List ℕ)) → IsStripeOf stripe_data shards → length shards ≡ 9 → HoldsSectors staged order stripe stripe_data → HoldsSectors staged order stripe shards

@@ -6,8 +6,7 @@ use Rattle.std.proofs.lemmas.List.{get_or-drop, get_or-set_same, get_or-set_othe
 use Rattle.std.proofs.Math.Seq.{get_or-append_right}
 use borrow.Rule.Slice.PartMut.{put_mid, same_len_mid}
 use Rattle.parity72.specs.Parity.{shard_of}
-use Rattle.segment_io.specs.Stripes.{stripe_in}
-use Rattle.segment_io.specs.lemmas.Parts.{part_length, same_at}
+use Rattle.segment_io.specs.Prelude.{stripe_in, part_length, same_at}
 use Rattle.segment_io.proofs.Pieces.{put_below}
 use Rattle.segment_writer.specs.DataFilling.{sector_of_shard, sector_of_stripe, IsSectorOf, HoldsSectors}
 

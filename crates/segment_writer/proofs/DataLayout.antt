@@ -4,12 +4,10 @@ use Rattle.std.specs.Prelude.{Some, slice_get}
 use Rattle.std.proofs.lemmas.List.{take_min, length-drop, length-take}
 use Rattle.std.proofs.lemmas.List.Elements.{All-take, All-drop}
 use Rattle.std.proofs.lemmas.Option.{get_or_from_slice_get}
-use Rattle.pur_base.specs.declared.facts.SegmentFact.{SegmentFact}
-use Rattle.world.specs.Shelf.{Shelved}
-use Rattle.segment_io.specs.Stripes.{HoldsStripe}
+use Rattle.array_spec.specs.Prelude.{SegmentFact, Image}
+use Rattle.world.specs.Prelude.{Shelved}
+use Rattle.segment_io.specs.Prelude.{HoldsStripe, MayBeWritten}
 use Rattle.segment_writer.proofs.Apart.{segment_kept}
-use Rattle.pur_base.specs.Devices.{Image}
-use Rattle.segment_io.specs.Headers.{MayBeWritten}
 use Rattle.segment_writer.specs.Layout.{MayBeHeaded, HaveStripes}
 use Rattle.segment_writer.specs.DataPlacing.{AreIndicesOf, AreFilled, MayBePlaced, order_of_segment, segment_in, places_in}
 use Rattle.segment_writer.specs.DataStoring.{HoldsData, SectorsOf, header_of_segment, layout_of_data, stripes_of_order}

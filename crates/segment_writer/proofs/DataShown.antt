@@ -2,10 +2,8 @@
 use Rattle.std.proofs.Common.{◌≡◌, ℕ, ◌+◌, ◌*◌, ◌<◌, Bool, List, [], length, drop, get_or, sym, subst, ◌∙◌, arith}
 use Rattle.std.proofs.lemmas.List.{get_or-take, get_or-drop}
 use Rattle.std.proofs.lemmas.Option.{slice_get_within}
-use Rattle.pur_base.specs.Devices.{Image, View}
-use Rattle.pur_base.specs.declared.facts.SegmentFact.{SegmentFact}
-use Rattle.world.specs.Shelf.{Shelved, Stop, MayStop}
-use Rattle.segment_codec.specs.Stripes.{SectorStands, StripesStand}
+use Rattle.array_spec.specs.Prelude.{Image, View, SegmentFact, SectorStands, StripesStand}
+use Rattle.world.specs.Prelude.{Shelved, Stop, MayStop}
 use Rattle.segment_writer.specs.DataPlacing.{order_of_segment, segment_in, places_in, HaveNine, AreFilled, MayBePlaced}
 use Rattle.segment_writer.specs.DataStoring.{HoldsData, ShowsMostOf, HasWrittenData, layout_of_data, stripes_of_order, SectorsOf}
 use Rattle.segment_writer.specs.DataStanding.{DataStands}

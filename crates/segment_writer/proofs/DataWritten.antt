@@ -2,11 +2,8 @@
 use Rattle.std.proofs.Common.{◌≡◌, ℕ, ◌+◌, ◌*◌, ◌/◌, ◌%◌, ◌<◌, ◌≤◌, Bool, List, [], length, get_or, sym, subst, arith}
 use Rattle.std.specs.Int.{div_ceil}
 use Rattle.std.proofs.lemmas.Option.{slice_get-get_or, MatchOption-at_some}
-use Rattle.pur_base.specs.Devices.{Image, View}
-use Rattle.pur_base.specs.Sectors.{filled}
-use Rattle.pur_base.specs.declared.place.Place.{Place}
-use Rattle.segment_codec.specs.Stripes.{StripeStands, StripesStand}
-use Rattle.segment_io.specs.Views.{ShowsMost}
+use Rattle.array_spec.specs.Prelude.{Image, View, filled, Place, StripeStands, StripesStand}
+use Rattle.segment_io.specs.Prelude.{ShowsMost}
 use Rattle.segment_io.proofs.Views.{stripe_shown}
 use Rattle.segment_writer.specs.DataFilling.{sector_of_stripe, IsSectorOf, HoldsSectors}
 use Rattle.segment_writer.specs.Layout.{HoldsSegment}

@@ -2,15 +2,10 @@
 use Rattle.std.proofs.Common.{◌≡◌, inl, inr, ℕ, ◌+◌, ◌<◌, ◌≤◌, Bool, true, List, [], ◌∷◌, ◌++◌, length, subst, sym, ◌∙◌, ap, arith}
 use Rattle.std.specs.Prelude.{slice_get}
 use Rattle.std.proofs.lemmas.Bool.{cases_eq}
-use Rattle.pur_base.specs.Devices.{Image}
-use Rattle.world.specs.Shelf.{Shelved, Continues}
-use Rattle.world.specs.Writes.{WritesOnly}
+use Rattle.array_spec.specs.Prelude.{Image}
+use Rattle.world.specs.Prelude.{Shelved, Continues, WritesOnly}
 use Rattle.segment_io.specs.declared.open.Open.{Open}
-use Rattle.segment_io.specs.Lost.{is_in, LosesOnly}
-use Rattle.segment_io.specs.Places.{place_of, OnUnits}
-use Rattle.segment_io.specs.Stripes.{bytes_of, HoldsStripe}
-use Rattle.segment_io.specs.lemmas.Losing.{not_before}
-use Rattle.segment_io.specs.lemmas.Places.{still_places}
+use Rattle.segment_io.specs.Prelude.{is_in, LosesOnly, place_of, OnUnits, bytes_of, HoldsStripe, not_before, still_places}
 use Rattle.segment_writer.specs.Layout.{Layout, units_of, AreApart, MayBeHeaded, HaveStripes, HoldAll, HoldsHeader, IsOpenOf, AreOpenOf}
 use Rattle.patch_io.proofs.Lists.{get_front, get_behind}
 use Rattle.segment_writer.proofs.Apart.{unit_kept, stripe_kept, segment_kept}

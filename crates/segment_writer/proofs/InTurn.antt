@@ -1,16 +1,10 @@
 -- The headers of segments come after their stripes.
 use Rattle.std.proofs.Common.{◌≡◌, ◌⊎◌, inl, inr, ⊎_elim, ℕ, ◌+◌, ◌*◌, ◌<◌, ◌≤◌, Bool, true, false, List, [], sym, subst, ◌∙◌, ap, arith}
 use Rattle.std.proofs.lemmas.Bool.{cases_eq, cases_lt, cases_Bool}
-use Rattle.pur_base.specs.declared.place.Place.{Place}
+use Rattle.array_spec.specs.Prelude.{Place}
 use Rattle.world.specs.declared.shelf.Span.{Span}
-use Rattle.world.specs.Shelf.{Shelved, IsShelf, Stop, Continues, LeavesOnly, IsIn, IsInSome}
-use Rattle.world.specs.Writes.{WritesOnly, LeavesBut}
-use Rattle.world.specs.lemmas.Moments.{then_run, weaker, started}
-use Rattle.segment_io.specs.Headers.{AreSynced, CleanStay}
-use Rattle.segment_io.specs.Lost.{is_in}
-use Rattle.segment_io.specs.Places.{ArePlaces, place_of, drive_of, write_unit_at}
-use Rattle.segment_io.specs.Stripes.{bytes_of, HoldsStripe}
-use Rattle.segment_io.specs.lemmas.Parts.{same_at}
+use Rattle.world.specs.Prelude.{Shelved, IsShelf, Stop, Continues, LeavesOnly, IsIn, IsInSome, WritesOnly, LeavesBut, then_run, weaker, started}
+use Rattle.segment_io.specs.Prelude.{AreSynced, CleanStay, is_in, ArePlaces, place_of, drive_of, write_unit_at, bytes_of, HoldsStripe, same_at}
 use Rattle.segment_writer.specs.Layout.{Layout, units_of, MayBeHeaded, HaveStripes, HoldAll, OnSome, ComesInTurn, AreDrivesOfAll}
 use Rattle.segment_writer.proofs.Apart.{slot_of, units_apart}
 use Rattle.segment_writer.proofs.Headers.{all_kept}

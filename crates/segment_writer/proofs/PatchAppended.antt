@@ -1,10 +1,10 @@
 -- What the data of a stripe holds its shards hold.
 use Rattle.std.proofs.Common.{◌≡◌, ℕ, ◌+◌, ◌*◌, ◌/◌, ◌%◌, List, [], ◌∷◌, length, sym, subst, ◌∙◌, ap, arith, length-append}
 use Rattle.std.proofs.lemmas.List.{get_or_append_left}
-use Rattle.pur_base.specs.declared.facts.AnyFact.{AnyFact}
+use Rattle.array_spec.specs.Prelude.{AnyFact}
 use Rattle.parity72.specs.Parity.{shard_of}
-use Rattle.segment_io.specs.Stripes.{IsStripeOf}
-use Rattle.patch_io.specs.Spelled.{fact_text}
+use Rattle.segment_io.specs.Prelude.{IsStripeOf}
+use Rattle.patch_io.specs.Prelude.{fact_text}
 use Rattle.segment_writer.specs.PatchFilling.{IsTextOf, HoldsFacts}
 
 pub stripe_holds : (facts : List AnyFact) (stripe : ℕ) (stripe_data shards : List (List ℕ)) → IsStripeOf stripe_data shards → length shards ≡ 9 → HoldsFacts facts stripe stripe_data → HoldsFacts facts stripe shards

@@ -7,14 +7,11 @@ use Rattle.std.proofs.lemmas.List.{get_or-drop, get_or-set_same, get_or-set_othe
 use Rattle.std.proofs.lemmas.Option.{slice_get-map, slice_get_past, slice_get_read}
 use Rattle.std.proofs.Math.Seq.{get_or-append_right}
 use borrow.Rule.Slice.PartMut.{put_mid, same_len_mid}
-use Rattle.pur_base.specs.Bytes.{zeros}
-use Rattle.pur_base.specs.declared.facts.AnyFact.{AnyFact}
-use Rattle.fact_codec.specs.Fact.{Decodes}
+use Rattle.array_spec.specs.Prelude.{zeros, AnyFact, Decodes}
 use Rattle.parity72.specs.Parity.{shard_of}
-use Rattle.segment_io.specs.Stripes.{stripe_in}
-use Rattle.segment_io.specs.lemmas.Parts.{part_length, same_at}
+use Rattle.segment_io.specs.Prelude.{stripe_in, part_length, same_at}
 use Rattle.segment_io.proofs.Pieces.{put_below}
-use Rattle.patch_io.specs.Spelled.{fact_text}
+use Rattle.patch_io.specs.Prelude.{fact_text}
 use Rattle.segment_writer.specs.PatchFilling.{text_in, IsTextOf, HoldsFacts}
 
 -- ---- the bytes of one fact

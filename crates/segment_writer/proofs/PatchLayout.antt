@@ -4,25 +4,13 @@ use Rattle.std.specs.Prelude.{Some, slice_get}
 use Rattle.std.specs.List.{AllByRecursion}
 use Rattle.std.proofs.lemmas.List.{take-map, drop-map, take_min, length-drop, length-map, length-take, take-append-drop}
 use Rattle.std.proofs.lemmas.Option.{same_Some}
-use Rattle.pur_base.specs.declared.place.Place.{Place}
-use Rattle.pur_base.specs.declared.facts.AnyFact.{AnyFact}
-use Rattle.boot_codec.specs.Record.{IsPatch}
-use Rattle.boot_codec.specs.declared.patch.Patch.{Patch}
-use Rattle.boot_codec.specs.declared.patch.PatchSegment.{PatchSegment}
-use Rattle.segment_codec.specs.declared.header.Header.{Header}
+use Rattle.array_spec.specs.Prelude.{Place, AnyFact, IsPatch, Patch, PatchSegment, Header, IsLawful, places_of_part, pages_in_part, all_append_left, all_append_right, Device, Image}
 use Rattle.segment_codec.specs.declared.kind.SegmentKind.TheVariants as kinds
-use Rattle.fact_codec.specs.Fact.{IsLawful}
-use Rattle.array_spec.specs.Stored.{places_of_part, pages_in_part}
-use Rattle.array_spec.specs.lemmas.Used.{all_append_left, all_append_right}
-use Rattle.world.specs.Shelf.{Shelved, Continues}
+use Rattle.world.specs.Prelude.{Shelved, Continues}
 use Rattle.segment_io.specs.declared.open.Open.{Open}
-use Rattle.segment_io.specs.Stripes.{bytes_of, HoldsStripe}
-use Rattle.segment_io.specs.Lost.{LosesOnly}
+use Rattle.segment_io.specs.Prelude.{bytes_of, HoldsStripe, LosesOnly, MayBeWritten}
 use Rattle.segment_io.proofs.InTurn.{same_stripe}
-use Rattle.pur_base.specs.declared.device.Device.{Device}
 use Rattle.segment_writer.proofs.Apart.{segment_kept}
-use Rattle.pur_base.specs.Devices.{Image}
-use Rattle.segment_io.specs.Headers.{MayBeWritten}
 use Rattle.patch_io.proofs.Parts.{places_of}
 use Rattle.segment_writer.specs.Layout as layout
 use Rattle.segment_writer.specs.PatchStoring.{FactsOf, HoldsPatch, facts_of_part, id_of_part, header_of_part, layout_of_patch, stripes_of_facts, HasItsSegments, MayBeSpelled, MayBeStored, MayBeHeaded}

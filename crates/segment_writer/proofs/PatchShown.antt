@@ -3,14 +3,9 @@ use Rattle.std.proofs.Common.{◌≡◌, ℕ, zero, suc, ◌+◌, ◌-◌, ◌*�
 use Rattle.std.specs.Prelude.{Some, slice_get}
 use Rattle.std.proofs.lemmas.List.{length-take, length-drop}
 use Rattle.std.proofs.lemmas.Option.{slice_get_within}
-use Rattle.pur_base.specs.Devices.{Image, View}
-use Rattle.pur_base.specs.declared.facts.AnyFact.{AnyFact}
-use Rattle.boot_codec.specs.Record.{IsPatch, IsSegment}
-use Rattle.boot_codec.specs.declared.patch.Patch.{Patch}
-use Rattle.segment_codec.specs.Stripes.{StripesStand}
-use Rattle.world.specs.Shelf.{Shelved, Stop, MayStop}
-use Rattle.array_spec.specs.Stored.{PatchStands, FactStands, pages, places_of_part, pages_in_part}
-use Rattle.patch_io.specs.Tables.{AreInOrder}
+use Rattle.array_spec.specs.Prelude.{Image, View, AnyFact, IsPatch, IsSegment, Patch, StripesStand, PatchStands, FactStands, pages, places_of_part, pages_in_part}
+use Rattle.world.specs.Prelude.{Shelved, Stop, MayStop}
+use Rattle.patch_io.specs.Prelude.{AreInOrder}
 use Rattle.segment_writer.specs.PatchStoring.{facts_of_part, HoldsPatch, ShowsMostOf, MayBeStored, HasWrittenPatch, layout_of_patch, stripes_of_facts, FactsOf}
 use Rattle.segment_writer.proofs.PatchLayout.{may_be_spelled, have_stripes}
 use Rattle.segment_writer.proofs.Synced.{holds_after}

@@ -3,19 +3,12 @@ use Rattle.std.proofs.Common.{◌≡◌, ℕ, ◌+◌, ◌*◌, ◌/◌, ◌%◌
 use Rattle.std.specs.Prelude.{Some, slice_get}
 use Rattle.std.specs.Int.{div_ceil}
 use Rattle.std.proofs.lemmas.Option.{slice_get_within, MatchOption-at_some}
-use Rattle.pur_base.specs.Bytes.{bytes_at, zeros}
-use Rattle.pur_base.specs.Devices.{Image, View}
-use Rattle.pur_base.specs.declared.place.Place.{Place}
-use Rattle.pur_base.specs.declared.facts.AnyFact.{AnyFact}
-use Rattle.fact_codec.specs.Fact.{Decodes}
+use Rattle.array_spec.specs.Prelude.{bytes_at, zeros, Image, View, Place, AnyFact, Decodes, StripeStands, StripesStand, sector_in, pages}
 use Rattle.parity72.specs.Parity.{shard_of}
 use Rattle.segment_codec.specs.Position as position
-use Rattle.segment_codec.specs.Stripes.{StripeStands, StripesStand, sector_in}
-use Rattle.array_spec.specs.Stored.{pages}
-use Rattle.segment_io.specs.Views.{ShowsMost}
+use Rattle.segment_io.specs.Prelude.{ShowsMost}
 use Rattle.segment_io.proofs.Views.{stripe_shown}
-use Rattle.patch_io.specs.Spelled.{fact_text}
-use Rattle.patch_io.specs.Standing.{StandsAt, StandIn}
+use Rattle.patch_io.specs.Prelude.{fact_text, StandsAt, StandIn}
 use Rattle.segment_writer.specs.PatchFilling.{text_in, HoldsFacts}
 use Rattle.segment_writer.specs.Layout.{HoldsSegment}
 use Rattle.patch_io.proofs.Segments.{in_sector}

@@ -2,16 +2,9 @@
 use Rattle.std.proofs.Common.{◌≡◌, inl, inr, ℕ, ◌+◌, ◌<◌, ◌≤◌, Bool, true, false, List, replicate, ◌∙◌, ap, arith, below_more}
 use Rattle.std.proofs.lemmas.List.{get_or-replicate, get_or_past, length-replicate}
 use Rattle.std.proofs.lemmas.Bool.{cases_lt, cases_Bool}
-use Rattle.pur_base.specs.Devices.{drive}
-use Rattle.pur_base.specs.declared.device.Device.{Device}
-use Rattle.pur_base.specs.declared.place.Place.{Place}
-use Rattle.world.specs.Ran.{Ran}
-use Rattle.world.specs.Shelf.{Shelved, Disk, Stop, MayStop}
-use Rattle.world.specs.lemmas.Ran.{ran_more}
-use Rattle.segment_io.specs.Headers.{AreSynced}
-use Rattle.segment_io.specs.Lost.{is_in, LosesOnly, NoByte, IsOnSlot, OthersStayBut}
-use Rattle.segment_io.specs.Places.{ArePlaces, place_of}
-use Rattle.segment_io.specs.Stripes.{bytes_of}
+use Rattle.array_spec.specs.Prelude.{drive, Device, Place}
+use Rattle.world.specs.Prelude.{Ran, Shelved, Disk, Stop, MayStop, ran_more}
+use Rattle.segment_io.specs.Prelude.{AreSynced, is_in, LosesOnly, NoByte, IsOnSlot, OthersStayBut, ArePlaces, place_of, bytes_of}
 use Rattle.segment_io.proofs.InTurn.{same_units, same_stripe}
 use Rattle.segment_io.proofs.Views.{holds_at_stop}
 use Rattle.segment_writer.specs.Layout.{Layout, units_of, HaveStripes, HoldAll, HoldAllHeaders, IsOnSome, OnSome, AreDrivesOfAll, StaysClean, HasWritten}

@@ -1,8 +1,8 @@
 -- The facts of the new patches that a checkpoint plans.
 use Rattle.std.specs.Prelude.{ℕ, List, [], ◌++◌, ◌==◌, if◌then◌else◌, map}
-use Rattle.pur_base.specs.declared.facts.AnyFact.{AnyFact}
+use Rattle.array_spec.specs.Prelude.{AnyFact}
 use Rattle.pur_base.specs.declared.facts.AnyFact.TheVariants as any
-use Rattle.pyramid.specs.Layers.{patch_facts, patches_of}
+use Rattle.pyramid.specs.Prelude.{patch_facts, patches_of}
 use Rattle.array_memory.specs.declared.plan.Plan.{Plan}
 
 -- the facts of each new patch, by table

@@ -1,13 +1,8 @@
 -- What stands after a checkpoint was written.
 use Rattle.std.specs.Prelude.{◌≡◌, ◌⊎◌, ℕ, ◌<◌, Bool, List, length, Some, slice_get}
-use Rattle.pur_base.specs.Devices.{Image, View}
-use Rattle.pur_base.specs.declared.facts.AnyFact.{AnyFact}
-use Rattle.pur_base.specs.declared.facts.SegmentFact.{SegmentFact}
-use Rattle.pur_base.specs.declared.limits.TheConstants.{SEGMENT_SHARDS}
-use Rattle.boot_codec.specs.declared.patch.Patch.{Patch}
-use Rattle.array_spec.specs.Stored.{PatchStands, places_of_part}
-use Rattle.world.specs.Shelf.{Shelved, Stop}
-use Rattle.segment_io.specs.Headers.{CleanStay}
+use Rattle.array_spec.specs.Prelude.{Image, View, AnyFact, SegmentFact, SEGMENT_SHARDS, Patch, PatchStands, places_of_part}
+use Rattle.world.specs.Prelude.{Shelved, Stop}
+use Rattle.segment_io.specs.Prelude.{CleanStay}
 use Rattle.segment_writer.specs.Layout.{HoldAllHeaders}
 use Rattle.segment_writer.specs.PatchStoring.{ShowsMostOf, layout_of_patch}
 use Rattle.segment_writer.specs.DataStoring.{layout_of_data, DataComesInTurn}

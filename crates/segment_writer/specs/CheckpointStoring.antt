@@ -3,17 +3,10 @@ use Rattle.std.specs.Prelude.{◌≡◌, ◌≢◌, ◌⊎◌, ℕ, ◌+◌, ◌
 use Rattle.std.specs.List.{AllZip}
 use Rattle.std.specs.Vec.{vec_capacity}
 use Rattle.std.specs.declared.alloc.Global.{Global}
-use Rattle.pur_base.specs.Devices.{Image}
-use Rattle.pur_base.specs.declared.device.Device.{Device}
-use Rattle.pur_base.specs.declared.facts.SegmentFact.{SegmentFact}
-use Rattle.pur_base.specs.declared.limits.TheConstants.{SEGMENT_SHARDS}
-use Rattle.boot_codec.specs.declared.patch.Patch.{Patch}
-use Rattle.segment_codec.specs.declared.position.TheConstants.{STRIPES}
-use Rattle.array_spec.specs.Stored.{places_of_part}
-use Rattle.world.specs.Shelf.{Shelved}
+use Rattle.array_spec.specs.Prelude.{Image, Device, SegmentFact, SEGMENT_SHARDS, Patch, STRIPES, places_of_part}
+use Rattle.world.specs.Prelude.{Shelved}
 use Rattle.segment_io.specs.declared.open.Open.{Open}
-use Rattle.segment_io.specs.Lost.{is_in}
-use Rattle.segment_io.specs.Places.{place_of}
+use Rattle.segment_io.specs.Prelude.{is_in, place_of}
 use Rattle.segment_writer.specs.Layout.{AreAllOpen}
 use Rattle.segment_writer.specs.PatchStoring.{MayBeStored, MayBeHeaded, HoldsPatch, IsOnPatch, OnPatch, layout_of_patch}
 use Rattle.segment_writer.specs.DataPlacing.{places_in}

@@ -1,11 +1,8 @@
 -- Sectors in the stripes of a segment, and zeros behind the last one.
 use Rattle.std.specs.Prelude.{◌≡◌, ℕ, ◌+◌, ◌*◌, ◌/◌, ◌%◌, ◌<◌, List, [], slice_get, slice_index_or}
 use Rattle.std.specs.Option.{MatchOption}
-use Rattle.pur_base.specs.Bytes.{bytes_at}
-use Rattle.pur_base.specs.Sectors.{filled}
-use Rattle.pur_base.specs.declared.limits.TheConstants.{SECTOR_BYTES}
+use Rattle.array_spec.specs.Prelude.{bytes_at, filled, SECTOR_BYTES, SHARD_SECTORS, STRIPE_SECTORS}
 use Rattle.parity72.specs.Parity.{shard_of}
-use Rattle.segment_codec.specs.declared.position.TheConstants.{SHARD_SECTORS, STRIPE_SECTORS}
 
 -- a sector of a shard
 abbrev pub sector_of_shard : List ℕ → ℕ → List ℕ

@@ -1,11 +1,9 @@
 -- Sectors that are placed, and the new segments that they are placed in.
 use Rattle.std.specs.Prelude.{◌≡◌, ℕ, ◌-◌, ◌*◌, ◌<◌, List, [], length, min, All, take, drop, slice_index_or}
 use Rattle.std.specs.Int.{div_ceil}
-use Rattle.pur_base.specs.declared.limits.TheConstants.{SEGMENT_SECTORS, SEGMENT_SHARDS}
-use Rattle.pur_base.specs.declared.facts.SegmentFact.{SegmentFact}
-use Rattle.pur_base.specs.declared.place.Place.{Place}
-use Rattle.world.specs.Shelf.{Shelved}
-use Rattle.segment_io.specs.Places.{ArePlaces}
+use Rattle.array_spec.specs.Prelude.{SEGMENT_SECTORS, SEGMENT_SHARDS, SegmentFact, Place}
+use Rattle.world.specs.Prelude.{Shelved}
+use Rattle.segment_io.specs.Prelude.{ArePlaces}
 use Rattle.segment_writer.specs.Layout as layout
 
 -- ---- sectors

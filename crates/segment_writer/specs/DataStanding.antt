@@ -1,10 +1,6 @@
 -- Sectors that stand on the drives of segments.
 use Rattle.std.specs.Prelude.{◌≡◌, ℕ, ◌+◌, ◌*◌, ◌<◌, List, [], Some, length, slice_get, slice_index_or}
-use Rattle.pur_base.specs.Devices.{View}
-use Rattle.pur_base.specs.declared.limits.TheConstants.{SEGMENT_SECTORS}
-use Rattle.pur_base.specs.declared.place.Place.{Place}
-use Rattle.pur_base.specs.declared.facts.SegmentFact.{SegmentFact}
-use Rattle.segment_codec.specs.Stripes.{SectorStands, StripesStand}
+use Rattle.array_spec.specs.Prelude.{View, SEGMENT_SECTORS, Place, SegmentFact, SectorStands, StripesStand}
 
 -- the sectors of these indices stand in the segment, one behind another
 abbrev pub StandIn : View → List Place → List (List ℕ) → List ℕ → Type 0

@@ -1,13 +1,9 @@
 -- Data segments that are written.
 use Rattle.std.specs.Prelude.{ℕ, Bool, List, length}
 use Rattle.std.specs.Int.{div_ceil}
-use Rattle.pur_base.specs.Devices.{Image, View}
-use Rattle.pur_base.specs.declared.device.Device.{Device}
-use Rattle.pur_base.specs.declared.facts.SegmentFact.{SegmentFact}
-use Rattle.segment_codec.specs.declared.header.Header.{Header}
+use Rattle.array_spec.specs.Prelude.{Image, View, Device, SegmentFact, Header, STRIPE_SECTORS}
 use Rattle.segment_codec.specs.declared.kind.SegmentKind.TheVariants as kinds
-use Rattle.segment_codec.specs.declared.position.TheConstants.{STRIPE_SECTORS}
-use Rattle.world.specs.Shelf.{Shelved, Stop}
+use Rattle.world.specs.Prelude.{Shelved, Stop}
 use Rattle.segment_writer.specs.Layout as layout
 use Rattle.segment_writer.specs.DataPlacing.{order_of_segment, segment_in, places_in}
 use Rattle.segment_writer.specs.DataFilling.{HoldsSectors}

@@ -1,18 +1,9 @@
 -- Segments that are written together, by number.
 use Rattle.std.specs.Prelude.{◌≡◌, ◌≢◌, ◌⊎◌, ℕ, ◌<◌, ◌≤◌, true, false, Bool, List, [], length, Some, slice_get}
-use Rattle.pur_base.specs.Devices.{Image, View, drive}
-use Rattle.pur_base.specs.declared.device.Device.{Device}
-use Rattle.pur_base.specs.declared.limits.TheConstants.{SEGMENT_SHARDS}
-use Rattle.pur_base.specs.declared.place.Place.{Place}
-use Rattle.segment_codec.specs.declared.header.Header.{Header}
-use Rattle.segment_codec.specs.declared.position.TheConstants.{STRIPES}
-use Rattle.world.specs.Shelf.{Shelved, Stop}
+use Rattle.array_spec.specs.Prelude.{Image, View, drive, Device, SEGMENT_SHARDS, Place, Header, STRIPES}
+use Rattle.world.specs.Prelude.{Shelved, Stop}
 use Rattle.segment_io.specs.declared.open.Open.{Open}
-use Rattle.segment_io.specs.Headers.{MayBeWritten, header_unit, CleanStay}
-use Rattle.segment_io.specs.Lost.{is_in}
-use Rattle.segment_io.specs.Places.{ArePlaces, place_of, drive_of, OnUnits}
-use Rattle.segment_io.specs.Stripes.{bytes_of, UnitsHold, HoldsStripe}
-use Rattle.segment_io.specs.Views.{ShowsMost}
+use Rattle.segment_io.specs.Prelude.{MayBeWritten, header_unit, CleanStay, is_in, ArePlaces, place_of, drive_of, OnUnits, bytes_of, UnitsHold, HoldsStripe, ShowsMost}
 
 -- how many there are, and the header of each with the shard 0
 pub record Layout : Type 0 where

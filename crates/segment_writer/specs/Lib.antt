@@ -8,3 +8,4 @@ pub mod PatchStoring
 pub mod CheckpointPlanned
 pub mod CheckpointStoring
 pub mod CheckpointStanding
+pub mod Prelude

@@ -1,13 +1,10 @@
 -- Facts in the stripes of a segment, and zeros behind the last one.
 use Rattle.std.specs.Prelude.{◌≡◌, ℕ, ◌+◌, ◌*◌, ◌/◌, ◌%◌, ◌<◌, List, slice_get}
 use Rattle.std.specs.Option.{MatchOption}
-use Rattle.pur_base.specs.Bytes.{zeros}
-use Rattle.pur_base.specs.declared.facts.AnyFact.{AnyFact}
-use Rattle.fact_codec.specs.declared.limits.TheConstants.{FACT_BYTES}
-use Rattle.fact_codec.specs.Fact.{Decodes}
+use Rattle.array_spec.specs.Prelude.{zeros, AnyFact, FACT_BYTES, Decodes}
 use Rattle.parity72.specs.Parity.{shard_of}
 use Rattle.segment_writer.specs.declared.limits.TheConstants.{SHARD_FACTS, STRIPE_FACTS}
-use Rattle.patch_io.specs.Spelled.{fact_text}
+use Rattle.patch_io.specs.Prelude.{fact_text}
 
 -- the bytes of the fact of that number in a stripe, whose shards are filled one behind another
 abbrev pub text_in : List (List ℕ) → ℕ → List ℕ

@@ -2,18 +2,10 @@
 use Rattle.std.specs.Prelude.{◌≡◌, ℕ, ◌*◌, ◌^◌, ◌<◌, ◌≤◌, Bool, List, length, map, take, drop, slice_index_or}
 use Rattle.std.specs.Int.{div_ceil}
 use Rattle.std.specs.List.{AllByRecursion}
-use Rattle.pur_base.specs.Devices.{Image, View}
-use Rattle.pur_base.specs.declared.device.Device.{Device}
-use Rattle.pur_base.specs.declared.facts.AnyFact.{AnyFact}
-use Rattle.boot_codec.specs.Record.{IsPatch}
-use Rattle.boot_codec.specs.declared.limits.TheConstants.{FACTS_PER_SEGMENT, PATCH_SEGMENTS}
-use Rattle.boot_codec.specs.declared.patch.Patch.{Patch}
-use Rattle.fact_codec.specs.Fact.{IsLawful}
-use Rattle.segment_codec.specs.declared.header.Header.{Header}
+use Rattle.array_spec.specs.Prelude.{Image, View, Device, AnyFact, IsPatch, FACTS_PER_SEGMENT, PATCH_SEGMENTS, Patch, IsLawful, Header, places_of_part, pages_in_part}
 use Rattle.segment_codec.specs.declared.kind.SegmentKind.TheVariants as kinds
-use Rattle.array_spec.specs.Stored.{places_of_part, pages_in_part}
-use Rattle.world.specs.Shelf.{Shelved, Stop}
-use Rattle.patch_io.specs.Tables.{AreInOrder}
+use Rattle.world.specs.Prelude.{Shelved, Stop}
+use Rattle.patch_io.specs.Prelude.{AreInOrder}
 use Rattle.segment_writer.specs.declared.limits.TheConstants.{STRIPE_FACTS}
 use Rattle.segment_writer.specs.Layout as layout
 use Rattle.segment_writer.specs.PatchFilling.{HoldsFacts}

@@ -2,22 +2,11 @@
 use Rattle.std.proofs.Common.{◌≡◌, ◌≢◌, ◌⊎◌, inl, inr, ℕ, ◌<◌, ◌≤◌, ◌-◌, ◌^◌, List, [], ◌∷◌, refl, sym, ◌∙◌, ap, subst, arith, Bool, true, false}
 use Rattle.std.specs.Prelude.{Option, Some, None, ◌+◌, ◌||◌, not, nat_lt, nat_le}
 use Rattle.std.proofs.lemmas.Bool.{cases_Bool, cases_lt, ltb-false}
-use Rattle.pur_base.specs.declared.device.Device.{Device}
-use Rattle.pur_base.specs.declared.request.Request.{Request}
-use Rattle.pur_base.specs.declared.request.Table.{Table}
+use Rattle.memory_spec.specs.Prelude.{Device, Request, Table, Refusal, Geometry, Condition, Conditions, IsBearable, IsWithin, MayBecome, Array, refusal, done, Item, Asked, Syntax, Cut, Answer, given, answer_unless, after_unless, Step, IsModelled, IsPhysical, IsBarred, within_twice, has_pair, pair_segments}
 use Rattle.pur_base.specs.declared.request.Request.TheVariants as request
-use Rattle.pur_base.specs.declared.reply.Refusal.{Refusal}
 use Rattle.pur_base.specs.declared.reply.Refusal.TheVariants as refusals
-use Rattle.pur_base.specs.Devices.{Geometry, Condition, Conditions, IsBearable, IsWithin, MayBecome}
-use Rattle.pur_base.specs.Plain.{Array, refusal, done}
-use Rattle.pur_base.specs.Grammar.{Item, Asked, Syntax, Cut}
-use Rattle.pur_base.specs.Replies.{Answer, given, answer_unless, after_unless}
-use Rattle.world.specs.Shelf.{Stop}
-use Rattle.world.specs.Losing.{has_risen, has_failed, has_lost_writes, losing, IsLater}
-use Rattle.array_spec.specs.Runs.{Step, IsModelled, IsPhysical, IsBarred}
-use Rattle.array_spec.specs.lemmas.Standings.{within_twice}
+use Rattle.world.specs.Prelude.{Stop, has_risen, has_failed, has_lost_writes, losing, IsLater}
 use Rattle.session_spec.specs.Faring.{Point, Fares, Serves, Answers, AnswersRequest, AnswersAccepted, IsAppended, IsAppendedBehind, IsCheckpointed, IsDone, IsLogged, IsRefused, IsFailed, IsFlushing, IsMergeDone, IsMerging, IsFlushed, Where, WithPair, WithRoom, has_segments, is_full, is_spent}
-use Rattle.memory_spec.specs.Merging.{has_pair, pair_segments}
 use Rattle.session_spec.specs.declared.limits.TheConstants.{ADDING_GROUPS, CHECKPOINT_GROUPS, LIMITED_SEGMENTS, MERGE_GROUPS, SEGMENTS_END}
 use Rattle.session_spec.specs.Chain.{FaresRun, ClaimsHaveCauses, NoneComesBack, WasBorne, HaltsHaveCauses}
 use Rattle.session_spec.specs.lemmas.Conditions.{goes, unlost, borne_before, stays_so}

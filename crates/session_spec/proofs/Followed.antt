@@ -1,11 +1,7 @@
 -- After a session that was stopped the next one enters.
 use Rattle.std.proofs.Common.{inl, inr, ℕ, List, true}
-use Rattle.pur_base.specs.Plain.{Array}
-use Rattle.pur_base.specs.declared.reply.Status.{Status}
-use Rattle.pur_base.specs.Devices.{Conditions}
-use Rattle.pur_base.specs.Grammar.{requests}
-use Rattle.world.specs.Shelf.{Shelved, Stop}
-use Rattle.world.specs.Losing.{geometry_of}
+use Rattle.memory_spec.specs.Prelude.{Array, Status, Conditions, requests}
+use Rattle.world.specs.Prelude.{Shelved, Stop, geometry_of}
 use Rattle.session_spec.specs.Headline.{Opening, IsInOpening, Keeps, Replied, StandsOn}
 use Rattle.session_spec.specs.Chain.{GoesOnFrom, GoesOnFromOpening, ServedFollows, UnopenedFollows}
 use Rattle.session_spec.proofs.Resumed.{stops_chain}

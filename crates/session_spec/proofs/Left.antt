@@ -1,8 +1,7 @@
 -- What may stand at a stop.
 use Rattle.std.proofs.Common.{inl, inr, ℕ, ◌+◌, length, drop, refl, subst}
-use Rattle.world.specs.Shelf.{Stop}
-use Rattle.array_spec.specs.Acked.{acked}
-use Rattle.array_spec.specs.After.{AcceptsNext}
+use Rattle.world.specs.Prelude.{Stop}
+use Rattle.memory_spec.specs.Prelude.{acked, AcceptsNext}
 use Rattle.session_spec.specs.Chain.{LeavesAfter}
 use Rattle.session_spec.proofs.Fared.{fares_run}
 

@@ -1,6 +1,6 @@
 -- The counts at a reply are told by the stops from there on: how a point is reached.
 use Rattle.std.proofs.Common.{inl, inr, ℕ, ◌≤◌, ◌<◌, List, length, ap, arith, length-append}
-use Rattle.world.specs.Shelf.{Shelved, Stop, Disk, Elapses, Continues, OutputOnly, TakenOnly, IsCountedBy, IsFrontOf}
+use Rattle.world.specs.Prelude.{Shelved, Stop, Disk, Elapses, Continues, OutputOnly, TakenOnly, IsCountedBy, IsFrontOf}
 use Rattle.session_spec.specs.Reaching.{NoMore, CountsSince, OutputIsBounded, OutputCounts, CountsStay, PointIsReached}
 use Rattle.session_spec.specs.Faring.{Point, IsReached}
 

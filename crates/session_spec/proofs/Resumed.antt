@@ -1,25 +1,11 @@
 -- What one session leaves is what the next one asks for.
 use Rattle.std.proofs.Common.{◌≡◌, ◌⊎◌, inl, inr, ℕ, List, [], length, refl, sym, ◌∙◌, ap, subst, Bool, true, false}
 use Rattle.std.specs.Prelude.{◌≤◌, Option, Some, None, IsTrue, count_by}
-use Rattle.pur_base.specs.declared.device.Device.{Device}
-use Rattle.pur_base.specs.Bytes.{zeros}
-use Rattle.pur_base.specs.Gates.{is_open}
-use Rattle.pur_base.specs.Devices.{Geometry, Image, Condition, Conditions, Sound, Missing, LeftOut, MayBecome, MayShowAs, IsWithin, IsBearable, is_missing, slots_of, nvrams, drive, nvram}
-use Rattle.pur_base.specs.Plain.{Array}
-use Rattle.world.specs.Streams.{Streamed}
-use Rattle.world.specs.lemmas.Moments.{quiet_refl, quiet_now}
-use Rattle.world.specs.Shelf.{IsShelf, Shelved, Stop, MayStop}
-use Rattle.world.specs.Losing.{losing, geometry_of, has_failed}
-use Rattle.world.specs.lemmas.Stopped.{as_read}
-use Rattle.boot_codec.specs.declared.record.BootRecord.{BootRecord}
-use Rattle.boot_codec.specs.Region.{BootSlot}
-use Rattle.log_codec.specs.Log.{ShowsIn}
-use Rattle.array_spec.specs.Laws.{IsNamedByNone}
-use Rattle.array_spec.specs.Standing.{Stands, MayBeGiven}
+use Rattle.memory_spec.specs.Prelude.{Device, zeros, is_open, Geometry, Image, Condition, Conditions, Sound, Missing, LeftOut, MayBecome, MayShowAs, IsWithin, IsBearable, is_missing, slots_of, nvrams, drive, nvram, Array, BootRecord, BootSlot, IsNamedByNone, Stands, MayBeGiven, more_may_go_missing, within_twice, no_gate}
+use Rattle.world.specs.Prelude.{Streamed, quiet_refl, quiet_now, IsShelf, Shelved, Stop, MayStop, losing, geometry_of, has_failed, as_read}
+use Rattle.log_codec.specs.Prelude.{ShowsIn}
 use Rattle.array_spec.proofs.Marks.{marks_are_free}
 use Rattle.array_spec.proofs.Shown.{shown_stands}
-use Rattle.array_spec.specs.lemmas.Standings.{more_may_go_missing, within_twice}
-use Rattle.array_spec.specs.lemmas.UnflushedRead.{no_gate}
 use Rattle.session_spec.specs.Entering.{IsStanding, HasRoom, AreRead, LeftOutAreNamedByNone, Enters, read_now, failed_by}
 use Rattle.session_spec.specs.Chain.{Finds, StopsChain, EndsChain, GoesOnAtOnce, NothingDone, MayWantMemory}
 use Rattle.session_spec.specs.lemmas.Conditions.{loses, left_out_once, sound_once}

@@ -1,15 +1,8 @@
 -- A takeover forgets no device that was sound.
 use Rattle.std.proofs.Common.{◌≡◌, ◌⊎◌, inl, inr, ℕ, List, refl, sym, ◌∙◌, ap, subst, Bool, true, false}
 use Rattle.std.specs.Prelude.{Option, Some, None, IsSome}
-use Rattle.pur_base.specs.Bytes.{IsBytes}
-use Rattle.pur_base.specs.Devices.{Condition, Sound, Missing, LeftOut, MayShowAs, is_missing}
-use Rattle.boot_codec.specs.declared.record.BootRecord.{BootRecord}
-use Rattle.boot_codec.specs.Region.{BootSlot, of_members}
-use Rattle.array_spec.specs.Standing.{IsViewOf}
-use Rattle.array_spec.specs.lemmas.Votes.{one_is_effective}
-use Rattle.array_spec.specs.lemmas.Spelled.{spells_one}
-use Rattle.array_spec.specs.lemmas.Standings.{standing_means}
-use Rattle.world.specs.Losing.{missing_if, losing}
+use Rattle.memory_spec.specs.Prelude.{IsBytes, Condition, Sound, Missing, LeftOut, MayShowAs, is_missing, BootRecord, BootSlot, of_members, IsViewOf, one_is_effective, spells_one, standing_means}
+use Rattle.world.specs.Prelude.{missing_if, losing}
 use Rattle.session_spec.specs.Chain.{TakeoverKeeps, TakeoverBears}
 use Rattle.session_spec.specs.lemmas.Conditions.{goes, still_sound, borne_on}
 

@@ -1,20 +1,8 @@
 -- Laws of sessions: how one follows another, and that no claim comes without its cause.
 use Rattle.std.specs.Prelude.{◌≡◌, Bool, true, false, List, [], length, drop, Some, None, ℕ, ◌⊎◌, Contains}
-use Rattle.pur_base.specs.declared.device.Device.{Device}
-use Rattle.pur_base.specs.Bytes.{IsBytes}
-use Rattle.pur_base.specs.Devices.{Geometry, Image, Conditions, Sound, IsOn, IsBearable, IsWithin, MayShowAs}
-use Rattle.pur_base.specs.Plain.{Array}
-use Rattle.pur_base.specs.Grammar.{Item, requests}
-use Rattle.pur_base.specs.Replies.{Answer}
-use Rattle.world.specs.Shelf.{Shelved, Stop, MayStop, IsQuietBy}
-use Rattle.world.specs.Losing.{geometry_of, has_lost_writes, losing, IsLater}
-use Rattle.array_spec.specs.Laws.{MayBeMarked}
-use Rattle.array_spec.specs.After.{After}
-use Rattle.array_spec.specs.Runs.{Runs}
-use Rattle.array_spec.specs.Standing.{Stands}
-use Rattle.pur_base.specs.declared.reply.Status.{Status}
+use Rattle.memory_spec.specs.Prelude.{Device, IsBytes, Geometry, Image, Conditions, Sound, IsOn, IsBearable, IsWithin, MayShowAs, Array, Item, requests, Answer, MayBeMarked, After, Runs, Stands, Status}
+use Rattle.world.specs.Prelude.{Shelved, Stop, MayStop, IsQuietBy, geometry_of, has_lost_writes, losing, IsLater, Streamed}
 use Rattle.pur_base.specs.declared.reply.Status.TheVariants as status
-use Rattle.world.specs.Streams.{Streamed}
 use Rattle.session_spec.specs.Headline.{Survives, Serving, Opening, Replied, IsAfter, IsOpenedBearably, Served, Unopened}
 use Rattle.session_spec.specs.Entering.{IsStanding, IsLeft, Enters, Found, IsTakenOver, StandsStill, HasRoom, failed_by, failed_since}
 use Rattle.session_spec.specs.Faring.{Point, Fares, IsBorne, now_missing}

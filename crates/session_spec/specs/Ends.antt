@@ -1,15 +1,9 @@
 -- How a session ends, and what it has given then.
 use Rattle.std.specs.Prelude.{◌≡◌, ◌<◌, ◌+◌, ℕ, Bool, true, false, List, [], ◌∷◌, ◌++◌, length}
 use Rattle.std.specs.List.{list_any}
-use Rattle.pur_base.specs.declared.limits.TheConstants.{INPUT_BYTES}
-use Rattle.pur_base.specs.declared.reply.Status.{Status}
+use Rattle.memory_spec.specs.Prelude.{INPUT_BYTES, Status, Geometry, Item, Asked, Syntax, Cut, requests, is_whole, Answer, text, texts}
 use Rattle.pur_base.specs.declared.reply.Status.TheVariants as status
-use Rattle.pur_base.specs.Devices.{Geometry}
-use Rattle.pur_base.specs.Grammar.{Item, Asked, Syntax, Cut, requests, is_whole}
-use Rattle.pur_base.specs.Replies.{Answer, text, texts}
-use Rattle.world.specs.Counts.{Rises}
-use Rattle.world.specs.Losing.{has_failed, has_lost_writes}
-use Rattle.world.specs.Shelf.{Stop}
+use Rattle.world.specs.Prelude.{Rises, has_failed, has_lost_writes, Stop}
 use Rattle.session_spec.specs.Faring.{Point, Answers}
 
 -- ---- the input

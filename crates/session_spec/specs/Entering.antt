@@ -1,18 +1,8 @@
 -- What a session asks of the devices at its entry, and what a takeover finds on them.
 use Rattle.std.specs.Prelude.{◌≡◌, ◌≢◌, ◌⊎◌, ◌<◌, ◌-◌, ◌^◌, ℕ, Bool, true, List, [], Option, Some, None}
-use Rattle.pur_base.specs.declared.device.Device.{Device}
-use Rattle.pur_base.specs.Devices.{Geometry, Image, View, Conditions, Sound, LeftOut, IsOn, IsBearable, nvram}
-use Rattle.pur_base.specs.Plain.{Array}
-use Rattle.pur_base.specs.Grammar.{is_in_force}
-use Rattle.pur_base.specs.Commands.{Command}
-use Rattle.world.specs.Shelf.{Shelved, Stop, MayStop}
-use Rattle.world.specs.Losing.{geometry_of, has_failed, losing}
-use Rattle.boot_codec.specs.declared.record.BootRecord.{BootRecord}
-use Rattle.boot_codec.specs.Region.{BootSlot, Effective, names}
-use Rattle.log_codec.specs.Log.{ShowsIn}
-use Rattle.array_spec.specs.Laws.{IsNamedByNone}
-use Rattle.array_spec.specs.Meaning.{members_view}
-use Rattle.array_spec.specs.Standing.{Stands, MayBeGiven}
+use Rattle.memory_spec.specs.Prelude.{Device, Geometry, Image, View, Conditions, Sound, LeftOut, IsOn, IsBearable, nvram, Array, is_in_force, Command, BootRecord, BootSlot, Effective, names, IsNamedByNone, members_view, Stands, MayBeGiven}
+use Rattle.world.specs.Prelude.{Shelved, Stop, MayStop, geometry_of, has_failed, losing}
+use Rattle.log_codec.specs.Prelude.{ShowsIn}
 
 -- ---- the entry
 

@@ -1,35 +1,11 @@
 -- How the array and its devices fare while requests are served: at each reply what was answered and why, and which devices are missing.
 use Rattle.std.specs.Prelude.{◌≡◌, ◌≢◌, ◌⊎◌, ◌||◌, ◌+◌, ◌-◌, ◌<◌, ◌≤◌, ℕ, Bool, true, false, nat_le, nat_lt, not, List, [], ◌∷◌, ◌++◌, length, Option, Some, None, Contains, count_by}
-use Rattle.pur_base.specs.declared.device.Device.{Device}
-use Rattle.pur_base.specs.declared.request.Request.{Request}
-use Rattle.pur_base.specs.declared.request.Table.{Table}
+use Rattle.memory_spec.specs.Prelude.{Device, Request, Table, Refusal, Geometry, Conditions, Sound, IsBearable, drive, Array, refusal, done, Item, Asked, Syntax, Cut, Answer, Line, Sectors, refused, given, text, segment, segments, SegmentFact, Place, SECTOR_BYTES, AnyFact, patch_segments, Patch, BootRecord, NextNumbers, IsGroups, free_of_members, AreSound, all_facts, Contents, FactsRead, are_used_up, is_used_up, next_after, AreJoined, HaveShrunk, has_pair, pair_segments, place_in, IsNamed}
 use Rattle.pur_base.specs.declared.request.Request.TheVariants as request
-use Rattle.pur_base.specs.declared.reply.Refusal.{Refusal}
 use Rattle.pur_base.specs.declared.reply.Refusal.TheVariants as refusals
 use Rattle.pur_base.specs.declared.reply.Reply.TheVariants as reply
-use Rattle.pur_base.specs.Devices.{Geometry, Conditions, Sound, IsBearable, drive}
 use Rattle.std.specs.List.{AllByRecursion, AllZip, sum_by}
-use Rattle.pur_base.specs.Plain.{Array, refusal, done}
-use Rattle.pur_base.specs.Grammar.{Item, Asked, Syntax, Cut}
-use Rattle.pur_base.specs.Replies.{Answer, Line, Sectors, refused, given, text}
-use Rattle.pur_base.specs.Visible.{segment, segments}
-use Rattle.pur_base.specs.declared.facts.SegmentFact.{SegmentFact}
-use Rattle.pur_base.specs.declared.place.Place.{Place}
-use Rattle.world.specs.Shelf.{Stop}
-use Rattle.pur_base.specs.declared.limits.TheConstants.{SECTOR_BYTES}
-use Rattle.pur_base.specs.declared.facts.AnyFact.{AnyFact}
-use Rattle.world.specs.Losing.{has_failed, has_lost_writes, losing, IsLater}
-use Rattle.boot_codec.specs.Record.{patch_segments}
-use Rattle.boot_codec.specs.declared.patch.Patch.{Patch}
-use Rattle.boot_codec.specs.declared.record.BootRecord.{BootRecord}
-use Rattle.boot_codec.specs.declared.record.NextNumbers.{NextNumbers}
-use Rattle.array_spec.specs.Counts.{IsGroups, free_of_members}
-use Rattle.array_spec.specs.Sound.{AreSound}
-use Rattle.array_spec.specs.Stored.{all_facts}
-use Rattle.memory_spec.specs.Memory.{Contents, FactsRead}
-use Rattle.memory_spec.specs.Numbers.{are_used_up, is_used_up, next_after}
-use Rattle.memory_spec.specs.Merging.{AreJoined, HaveShrunk, has_pair, pair_segments, place_in}
-use Rattle.memory_spec.specs.Whole.{IsNamed}
+use Rattle.world.specs.Prelude.{Stop, has_failed, has_lost_writes, losing, IsLater}
 use Rattle.log_codec.specs.declared.limits.TheConstants.{LOG_SLOTS}
 use Rattle.session_spec.specs.declared.limits.TheConstants.{ADDING_GROUPS, CHECKPOINT_GROUPS, CONTROLLER, DATA_SEGMENTS, ELIDED_SEGMENTS, LIMITED_SEGMENTS, MERGE_GROUPS, NEW_PATCHES, SEGMENTS_END}
 

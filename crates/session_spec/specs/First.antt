@@ -1,10 +1,6 @@
 -- The record of a new array.
 use Rattle.std.specs.Prelude.{ℕ, ◌-◌, List, [], ◌∷◌, ◌++◌, Bool, true, false, replicate}
-use Rattle.pur_base.specs.Devices.{Geometry}
-use Rattle.boot_codec.specs.declared.limits.TheConstants.{DRIVE_FLAGS}
-use Rattle.boot_codec.specs.declared.record.Members.{Members}
-use Rattle.boot_codec.specs.declared.record.NextNumbers.{NextNumbers}
-use Rattle.boot_codec.specs.declared.record.BootRecord.{BootRecord}
+use Rattle.memory_spec.specs.Prelude.{Geometry, DRIVE_FLAGS, Members, NextNumbers, BootRecord}
 
 -- the slots of a shelf, of as many flags as a record has
 abbrev pub all_drives : ℕ → List Bool

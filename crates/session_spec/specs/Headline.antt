@@ -1,29 +1,10 @@
 -- What a session does to the array that the devices stand for, whatever fails, and wherever it is stopped.
 use Rattle.std.specs.Prelude.{◌≡◌, ◌⊎◌, ◌<◌, ◌+◌, ◌-◌, ◌^◌, ℕ, Bool, true, false, List, [], ◌++◌, length, drop, Contains, Option, Some, None, IfSome, ⊤, if◌then◌else◌}
 use Rattle.std.specs.List.{AllByRecursion}
-use Rattle.pur_base.specs.declared.device.Device.{Device}
-use Rattle.pur_base.specs.declared.reply.Status.{Status}
+use Rattle.memory_spec.specs.Prelude.{Device, Status, Geometry, Image, View, Conditions, Sound, LeftOut, IsBearable, Array, Item, requests, is_in_force, Command, after_all, Answer, texts, BootRecord, Effective, names, AnyFact, HoldsBase, members_view, AreSound, PatchesStand, all_facts, Contents, FactsRead, next_after_all, acked, AcceptsNext, not_holding}
 use Rattle.pur_base.specs.declared.reply.Status.TheVariants as status
-use Rattle.pur_base.specs.Devices.{Geometry, Image, View, Conditions, Sound, LeftOut, IsBearable}
-use Rattle.pur_base.specs.Plain.{Array}
-use Rattle.pur_base.specs.Grammar.{Item, requests, is_in_force}
-use Rattle.pur_base.specs.Commands.{Command, after_all}
-use Rattle.pur_base.specs.Replies.{Answer, texts}
-use Rattle.world.specs.Shelf.{Shelved, Stop, IsQuiet, IsQuietBy}
-use Rattle.world.specs.Streams.{Streamed}
-use Rattle.world.specs.Losing.{geometry_of, has_failed, losing, IsLater}
-use Rattle.boot_codec.specs.declared.record.BootRecord.{BootRecord}
-use Rattle.boot_codec.specs.Region.{Effective, names}
-use Rattle.log_codec.specs.Log.{Shows, LogStands}
-use Rattle.pur_base.specs.declared.facts.AnyFact.{AnyFact}
-use Rattle.array_spec.specs.Meaning.{HoldsBase, members_view}
-use Rattle.array_spec.specs.Sound.{AreSound}
-use Rattle.array_spec.specs.Stored.{PatchesStand, all_facts}
-use Rattle.memory_spec.specs.Memory.{Contents, FactsRead}
-use Rattle.memory_spec.specs.Numbers.{next_after_all}
-use Rattle.array_spec.specs.Acked.{acked}
-use Rattle.array_spec.specs.After.{AcceptsNext}
-use Rattle.array_spec.specs.Losses.{not_holding}
+use Rattle.world.specs.Prelude.{Shelved, Stop, IsQuiet, IsQuietBy, Streamed, geometry_of, has_failed, losing, IsLater}
+use Rattle.log_codec.specs.Prelude.{Shows, LogStands}
 use Rattle.session_spec.specs.Entering.{Enters, IsLeft, IsStanding, Found, IsTakenOver, OnlyFailedAreSilent, StandsStill, read_now, failed_by, failed_since}
 use Rattle.session_spec.specs.Faring.{Point, IsReached, Fares, IsBorne, MayAdd, now_missing}
 use Rattle.session_spec.specs.Ends.{Ends, IsOutput, IsPartOfNext, RisesIf, is_source, is_sink}

@@ -7,3 +7,4 @@ pub mod Headline
 pub mod Making
 pub mod Chain
 pub mod lemmas
+pub mod Prelude

@@ -1,18 +1,9 @@
 -- What the making of an array does, from which each history of sessions begins.
 use Rattle.std.specs.Prelude.{◌≡◌, ◌≢◌, ◌⊎◌, ◌<◌, ◌++◌, [], ◌∷◌, length, List, ℕ, Some}
-use Rattle.pur_base.specs.declared.device.Device.{Device}
+use Rattle.memory_spec.specs.Prelude.{Device, Status, Geometry, Image, View, Conditions, Sound, LeftOut, IsBearable, MayShow, line_text, BootSlot, B, Effective, IsEffective, spelling, Means}
 use Rattle.pur_base.specs.declared.reply.Reply.TheVariants as reply
-use Rattle.pur_base.specs.declared.reply.Status.{Status}
 use Rattle.pur_base.specs.declared.reply.Status.TheVariants as status
-use Rattle.pur_base.specs.Devices.{Geometry, Image, View, Conditions, Sound, LeftOut, IsBearable, MayShow}
-use Rattle.pur_base.specs.Replies.{line_text}
-use Rattle.world.specs.Counts.{Rises}
-use Rattle.world.specs.Losing.{geometry_of}
-use Rattle.world.specs.Shelf.{Shelved, Stop, IsOf, IsSame, MayLeave, MayStop}
-use Rattle.world.specs.Streams.{Streamed}
-use Rattle.boot_codec.specs.Region.{BootSlot, B, Effective, IsEffective}
-use Rattle.boot_codec.specs.Spelling.{spelling}
-use Rattle.array_spec.specs.Meaning.{Means}
+use Rattle.world.specs.Prelude.{Rises, geometry_of, Shelved, Stop, IsOf, IsSame, MayLeave, MayStop, Streamed}
 use Rattle.session_spec.specs.First.{first_record}
 use Rattle.session_spec.specs.Entering.{Enters, IsStanding}
 use Rattle.session_spec.specs.Ends.{RisesIf, is_sink}

@@ -1,7 +1,7 @@
 -- How a point is reached: the counts of failed calls at a reply are told by the stops from there on.
 use Rattle.std.specs.Prelude.{◌<◌, ◌≤◌, ℕ, length}
-use Rattle.pur_base.specs.declared.device.Device.{Device}
-use Rattle.world.specs.Shelf.{Shelved, Stop, Elapses, Continues, OutputOnly, TakenOnly, IsCountedBy}
+use Rattle.memory_spec.specs.Prelude.{Device}
+use Rattle.world.specs.Prelude.{Shelved, Stop, Elapses, Continues, OutputOnly, TakenOnly, IsCountedBy}
 use Rattle.session_spec.specs.Faring.{Point, IsReached}
 
 -- no stop since a moment leaves more output than there is

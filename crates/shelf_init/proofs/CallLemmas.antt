@@ -1,32 +1,11 @@
 -- What the calls of each phase leave.
 use Rattle.std.proofs.Common.{◌≡◌, ◌≢◌, ◌⊎◌, inl, inr, ℕ, ◌*◌, ◌≤◌, ◌<◌, List, [], length, slice_index, refl, sym, ◌∙◌, ap, subst, arith, Bool, true, false, Result, Ok, Err, OnOk}
 use Rattle.std.specs.Prelude.{Some, None, ◌==◌}
-use Rattle.pur_base.specs.declared.device.Device.{Device}
+use Rattle.session_spec.specs.Prelude.{Device, SECTOR_BYTES, UNIT_BYTES, NVRAM_DEVICES, Geometry, drive, nvram, is_open, same_device, RECORD_BYTES, gate_bytes, BootSlot, A, B, IsRecordOf, gate_place, body_place, body_in, shown_by, spelling, LOG_SLOTS, Failed, geometry_of, Shelved, Disk, Stop, IsOf, IsIn, IsShelf, Continues, LeavesOnly, OthersStay, Written, OneRange, WritesOnly, LeavesBut, MayLeaveBut, Only, then_run, weaker, still_of, writes_more, none_dirty, all_drives, first_record, IsBlank, AreClean, NoneFailed, OneFailed, IsNoneOrEmpty}
 use Rattle.pur_base.specs.declared.device.Device.TheVariants as dev
-use Rattle.pur_base.specs.declared.limits.TheConstants.{SECTOR_BYTES, UNIT_BYTES, NVRAM_DEVICES}
-use Rattle.pur_base.specs.Devices.{Geometry, drive, nvram}
-use Rattle.pur_base.specs.Gates.{is_open}
-use Rattle.pur_base.specs.lemmas.Devices.{same_device}
-use Rattle.boot_codec.specs.declared.limits.TheConstants.{RECORD_BYTES}
-use Rattle.boot_codec.specs.Gate.{gate_bytes}
-use Rattle.boot_codec.specs.Region.{BootSlot, A, B, IsRecordOf, gate_place, body_place, body_in, shown_by}
-use Rattle.boot_codec.specs.Spelling.{spelling}
-use Rattle.log_codec.specs.declared.limits.TheConstants.{LOG_SLOTS}
-use Rattle.world.specs.declared.streams.Failed.{Failed}
-use Rattle.world.specs.Losing.{geometry_of}
-use Rattle.world.specs.Shelf.{Shelved, Disk, Stop, IsOf, IsIn, IsShelf, Continues, LeavesOnly, OthersStay, Written}
-use Rattle.world.specs.Writes.{OneRange, WritesOnly, LeavesBut, MayLeaveBut}
-use Rattle.world.specs.Ran.{Only}
-use Rattle.world.specs.lemmas.Moments.{then_run, weaker, still_of}
-use Rattle.world.specs.lemmas.Writes.{writes_more}
-use Rattle.world.specs.lemmas.Stopped.{none_dirty}
-use Rattle.boot_region.specs.Members.{IsMember, IsDrive, IsOneOf, OnMembers, OnSlot}
-use Rattle.boot_region.specs.Regions.{CountsStay}
-use Rattle.boot_region.specs.lemmas.Shown.{closed_shows, gates_stay, bodies_same, other_same, opened, body_low, body_is, shows_written}
+use Rattle.boot_region.specs.Prelude.{IsMember, IsDrive, IsOneOf, OnMembers, OnSlot, CountsStay, closed_shows, gates_stay, bodies_same, other_same, opened, body_low, body_is, shows_written}
 use Rattle.boot_region.proofs.Stored.{rises_between}
-use Rattle.session_spec.specs.First.{all_drives, first_record}
 use Rattle.shelf_init.specs.Blank.{IsShut, IsEmptied, HasNoCommand, HidesOnly, IsNvram, OnAllOpen, OnBootOrLog, OnLogGates}
-use Rattle.session_spec.specs.Making.{IsBlank, AreClean, NoneFailed, OneFailed, IsNoneOrEmpty}
 use Rattle.shelf_init.specs.Counted.{TellsFailed}
 use Rattle.shelf_init.specs.Made.{HasFirst}
 use Rattle.shelf_init.proofs.FirstLemmas.{first_is_lawful, is_named}

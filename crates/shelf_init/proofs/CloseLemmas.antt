@@ -1,28 +1,14 @@
 -- What closing a gate leaves of a drive.
 use Rattle.std.proofs.Common.{◌≡◌, ◌⊎◌, inl, inr, ℕ, ◌+◌, ◌*◌, ◌<◌, List, length, get_or, slice_index, refl, sym, ◌∙◌, ap, subst, arith, Bool, true, false}
 use Rattle.std.specs.Prelude.{None, slice_index_or, ◌==◌, Result, Ok, Err, OnOk}
-use Rattle.world.specs.declared.streams.Failed.{Failed}
+use Rattle.session_spec.specs.Prelude.{Failed, zeros, is_open, drive, Device, SECTOR_BYTES, gate_bytes, BootSlot, A, B, gate_place, body_in, shown_by, this_or_other, LOG_SLOTS, Shelved, Stop, IsIn, Continues, LeavesOnly, Written, WritesOnly, LeavesBut, then_run, weaker, AreClean}
 use Rattle.std.proofs.lemmas.Bool.{cases_Bool}
 use Rattle.std.proofs.lemmas.List.{length-replicate, get_or-replicate}
 use Rattle.std.proofs.lemmas.List.Edits.{get_or-between}
-use Rattle.pur_base.specs.Bytes.{zeros}
-use Rattle.pur_base.specs.Gates.{is_open}
-use Rattle.pur_base.specs.Devices.{drive}
-use Rattle.pur_base.specs.declared.device.Device.{Device}
 use Rattle.pur_base.specs.declared.device.Device.TheVariants as dev
-use Rattle.pur_base.specs.declared.limits.TheConstants.{SECTOR_BYTES}
-use Rattle.boot_codec.specs.Gate.{gate_bytes}
-use Rattle.boot_codec.specs.Region.{BootSlot, A, B, gate_place, body_in, shown_by}
-use Rattle.array_spec.specs.lemmas.Settling.{this_or_other}
-use Rattle.log_codec.specs.declared.limits.TheConstants.{LOG_SLOTS}
-use Rattle.world.specs.Shelf.{Shelved, Stop, IsIn, Continues, LeavesOnly, Written}
-use Rattle.world.specs.Writes.{WritesOnly, LeavesBut}
-use Rattle.world.specs.lemmas.Moments.{then_run, weaker}
 use Rattle.boot_region.specs.declared.regions.TheConstants.{REGION_BYTES}
-use Rattle.boot_region.specs.Members.{IsMember, OnMembers}
-use Rattle.boot_region.specs.lemmas.Shown.{closed_shows, bodies_same, other_same, gate_closes, gate_size, closed_begins}
+use Rattle.boot_region.specs.Prelude.{IsMember, OnMembers, closed_shows, bodies_same, other_same, gate_closes, gate_size, closed_begins}
 use Rattle.shelf_init.specs.Blank.{IsShut, IsReadIn, GatesAreRead, HidesOnly, OnOpen}
-use Rattle.session_spec.specs.Making.{AreClean}
 use Rattle.shelf_init.proofs.CallLemmas.{left_clean}
 
 -- of a drive, a write in the gate of a slot that was open at most hides the body behind it

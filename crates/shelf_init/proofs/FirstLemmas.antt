@@ -3,15 +3,8 @@ use Rattle.std.proofs.Common.{◌≡◌, inl, inr, ℕ, zero, suc, ◌+◌, ◌-
 use Rattle.std.proofs.Math.Nat.{pow-succ'}
 use Rattle.std.proofs.lemmas.Bool.{cases_lt}
 use Rattle.std.proofs.lemmas.List.{ext_get_or, length-replicate, get_or-replicate, get_or_past, get_or_append_left, get_or-append_right}
-use Rattle.pur_base.specs.Devices.{Geometry}
-use Rattle.pur_base.specs.declared.limits.TheConstants.{SLOTS_MIN, SLOTS_MAX, UNITS_MIN, UNITS_MAX}
-use Rattle.boot_codec.specs.declared.limits.TheConstants.{DRIVE_FLAGS}
-use Rattle.boot_codec.specs.Record.{mask, set_count}
-use Rattle.boot_codec.specs.Region.{B, IsRecordOf}
-use Rattle.array_spec.specs.Meaning.{IsInForce}
-use Rattle.array_spec.specs.lemmas.Votes.{counted}
-use Rattle.boot_region.specs.Members.{IsMember}
-use Rattle.session_spec.specs.First.{all_drives, first_record}
+use Rattle.session_spec.specs.Prelude.{Geometry, SLOTS_MIN, SLOTS_MAX, UNITS_MIN, UNITS_MAX, DRIVE_FLAGS, mask, set_count, B, IsRecordOf, IsInForce, counted, all_drives, first_record}
+use Rattle.boot_region.specs.Prelude.{IsMember}
 
 mask_none : (m : ℕ) → mask (replicate m false) ≡ 0
 mask_none zero = refl

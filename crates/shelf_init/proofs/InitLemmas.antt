@@ -2,22 +2,11 @@
 use Rattle.std.proofs.Common.{◌≡◌, inl, inr, ℕ, ◌+◌, ◌*◌, ◌<◌, List, length, drop, sym, ◌∙◌, ap, subst, arith, Bool, true, false, if◌then◌else◌}
 use Rattle.std.specs.Prelude.{Option, Some, None, option_and_then, slice_index_or, ◌==◌}
 use Rattle.std.proofs.lemmas.List.{get_or-take, get_or-drop, ext_get_or}
-use Rattle.pur_base.specs.Bytes.{bytes_at}
-use Rattle.pur_base.specs.Gates.{is_open}
-use Rattle.pur_base.specs.Devices.{Geometry, View, drive, nvram}
-use Rattle.pur_base.specs.declared.device.Device.{Device}
+use Rattle.session_spec.specs.Prelude.{bytes_at, is_open, Geometry, View, drive, nvram, Device, BootSlot, A, B, other_slot, IsDecided, gate_place, votes, shown_by, geometry_of, Shelved, Disk, Stop, MayStop, IsSame, IsShelf, Continues, LeavesOnly, WritesOnly, LeavesBut, started, weaker, as_read, ShowsBody, GivesBody, IsBlank, AreClean, view_now, NoneFailed, OneFailed, IsNoneOrEmpty}
 use Rattle.pur_base.specs.declared.device.Device.TheVariants as dev
-use Rattle.boot_codec.specs.Region.{BootSlot, A, B, other_slot, IsDecided, gate_place, votes, shown_by}
-use Rattle.world.specs.Losing.{geometry_of}
-use Rattle.world.specs.Shelf.{Shelved, Disk, Stop, MayStop, IsSame, IsShelf, Continues, LeavesOnly}
-use Rattle.world.specs.Writes.{WritesOnly, LeavesBut}
-use Rattle.world.specs.lemmas.Moments.{started, weaker}
-use Rattle.world.specs.lemmas.Stopped.{as_read}
 use Rattle.boot_region.specs.declared.regions.TheConstants.{REGION_BYTES}
-use Rattle.boot_region.specs.Regions.{region_at, seen, GivesNone, IsRead, AnswerCounts, CountsStay}
-use Rattle.boot_region.specs.lemmas.Found.{same_open, same_shown, same_over}
+use Rattle.boot_region.specs.Prelude.{region_at, seen, GivesNone, IsRead, AnswerCounts, CountsStay, same_open, same_shown, same_over}
 use Rattle.shelf_init.specs.Blank.{GatesAreRead, HasSilent}
-use Rattle.session_spec.specs.Making.{ShowsBody, GivesBody, IsBlank, AreClean, view_now, NoneFailed, OneFailed, IsNoneOrEmpty}
 use Rattle.shelf_init.proofs.CallLemmas.{left_clean, same_geometry}
 use Rattle.shelf_init.proofs.ViewLemmas.{hidden_gives_none}
 

@@ -2,27 +2,10 @@
 use Rattle.std.proofs.Common.{◌≡◌, inl, inr, ℕ, zero, suc, ◌+◌, ◌-◌, ◌^◌, ◌<◌, List, [], ◌∷◌, refl, sym, ◌∙◌, ap, subst, arith, Bool, true, false}
 use Rattle.std.specs.Prelude.{Some, None, count_by, slice_index_or}
 use Rattle.std.specs.List.{range_with_len}
-use Rattle.pur_base.specs.Gates.{is_open}
-use Rattle.pur_base.specs.Devices.{Geometry, IsBearable, is_missing, drive, nvram}
-use Rattle.pur_base.specs.declared.device.Device.{Device}
-use Rattle.pur_base.specs.Commands.{Command}
-use Rattle.log_codec.specs.Log.{ShowsIn}
-use Rattle.boot_codec.specs.declared.record.BootRecord.{BootRecord}
-use Rattle.boot_codec.specs.Region.{BootSlot, A, B, IsRecordOf, is_vote, names, shown_by}
-use Rattle.boot_codec.specs.Spelling.{spelling}
-use Rattle.array_spec.specs.Laws.{IsHeld, is_sound_vote}
-use Rattle.array_spec.specs.Standing.{MayAppear, MayBeGiven}
+use Rattle.session_spec.specs.Prelude.{is_open, Geometry, IsBearable, is_missing, drive, nvram, Device, Command, ShowsIn, BootRecord, BootSlot, A, B, IsRecordOf, is_vote, names, shown_by, spelling, IsHeld, is_sound_vote, MayAppear, MayBeGiven, spells_one, counted, held_is_given, one_is_effective, AreRead, HasRoom, geometry_of, Shelved, Stop, MayStop, IsShelf, as_read, first_record, AreClean, none_missing}
 use Rattle.array_spec.proofs.Held.{held_stands}
-use Rattle.array_spec.specs.lemmas.Spelled.{spells_one}
-use Rattle.array_spec.specs.lemmas.Votes.{counted, held_is_given, one_is_effective}
-use Rattle.session_spec.specs.Entering.{AreRead, HasRoom}
-use Rattle.world.specs.Losing.{geometry_of}
-use Rattle.world.specs.Shelf.{Shelved, Stop, MayStop, IsShelf}
-use Rattle.world.specs.lemmas.Stopped.{as_read}
-use Rattle.boot_region.specs.lemmas.Shown.{closed_shows, shown_body}
-use Rattle.session_spec.specs.First.{first_record}
+use Rattle.boot_region.specs.Prelude.{closed_shows, shown_body}
 use Rattle.shelf_init.specs.Blank.{IsShut, HasNoCommand}
-use Rattle.session_spec.specs.Making.{AreClean, none_missing}
 use Rattle.shelf_init.specs.Made.{HasFirst}
 use Rattle.shelf_init.proofs.FirstLemmas.{first_is_lawful, is_named, named_below}
 use Rattle.shelf_init.proofs.ViewLemmas.{IsOpening, first_is_read, opening_gives_first}

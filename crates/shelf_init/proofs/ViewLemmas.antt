@@ -5,24 +5,8 @@ use Rattle.std.specs.Str.{bytes_eq}
 use Rattle.std.specs.Cmp.Lexicographic.{same_text}
 use Rattle.std.proofs.lemmas.Bool.{cases_Bool}
 use Rattle.std.proofs.Math.Seq.{take-length}
-use Rattle.pur_base.specs.declared.device.Device.{Device}
-use Rattle.pur_base.specs.declared.device.Device.TheVariants.{Drive, Nv}
-use Rattle.pur_base.specs.declared.limits.TheConstants.{NVRAM_DEVICES}
-use Rattle.pur_base.specs.Gates.{is_open}
-use Rattle.pur_base.specs.Plain.{Array}
-use Rattle.pur_base.specs.Commands.{after_all}
-use Rattle.pur_base.specs.Devices.{Geometry, Image, View, Condition, Conditions, Sound, Missing, LeftOut, IsOn, IsWithin, MayBecome, MayShow, drive, nvram}
-use Rattle.boot_codec.specs.Region.{BootSlot, A, B, IsRecordOf, IsEffective, is_vote, names, shown_by, body_in}
-use Rattle.boot_codec.specs.Spelling.{spelling}
-use Rattle.log_codec.specs.declared.limits.TheConstants.{LOG_SLOTS}
-use Rattle.array_spec.specs.Standing.{IsReadInto}
-use Rattle.array_spec.specs.Unflushed.{LogLies}
-use Rattle.array_spec.specs.lemmas.UnflushedRead.{unflushed_is_read}
-use Rattle.world.specs.Losing.{geometry_of}
-use Rattle.world.specs.Shelf.{Shelved}
-use Rattle.session_spec.specs.First.{first_record}
+use Rattle.session_spec.specs.Prelude.{Device, Drive, Nv, NVRAM_DEVICES, is_open, Array, after_all, Geometry, Image, View, Condition, Conditions, Sound, Missing, LeftOut, IsOn, IsWithin, MayBecome, MayShow, drive, nvram, BootSlot, A, B, IsRecordOf, IsEffective, is_vote, names, shown_by, body_in, spelling, LOG_SLOTS, IsReadInto, LogLies, unflushed_is_read, geometry_of, Shelved, first_record, IsBlank, view_now, none_missing, NoneLeftOut, IsNoneOrEmpty}
 use Rattle.shelf_init.specs.Blank.{HidesOnly}
-use Rattle.session_spec.specs.Making.{IsBlank, view_now, none_missing, NoneLeftOut, IsNoneOrEmpty}
 use Rattle.shelf_init.proofs.FirstLemmas.{first_in_force, is_named}
 use Rattle.shelf_init.proofs.VoteLemmas.{view_shows, decided_of_fewer, not_decided, none_is_decided}
 

@@ -5,14 +5,8 @@ use Rattle.std.specs.List.{range_with_len}
 use Rattle.std.proofs.lemmas.Bool.{cases_lt}
 use Rattle.std.proofs.lemmas.List.{length-replicate, get_or-replicate, get_or_past}
 use Rattle.std.proofs.lemmas.List.FromFn.{length-map-range_with_len}
-use Rattle.pur_base.specs.Bytes.{zeros}
-use Rattle.pur_base.specs.Gates.{is_open}
-use Rattle.pur_base.specs.Devices.{Geometry, Image, View, Condition, Conditions, Sound, Missing, LeftOut, MayShow, MayShowAs, drive}
-use Rattle.boot_codec.specs.Region.{BootSlot, A, B, IsDecided, IsEffective, Yields, generation_in, is_vote, votes, shown_by, gate_place, other_slot}
-use Rattle.array_spec.specs.lemmas.Votes.{counted, one_is_decided}
-use Rattle.boot_region.specs.Regions.{IsUndecided}
-use Rattle.boot_region.specs.lemmas.Shown.{closed_shows}
-use Rattle.session_spec.specs.Making.{NoneLeftOut}
+use Rattle.session_spec.specs.Prelude.{zeros, is_open, Geometry, Image, View, Condition, Conditions, Sound, Missing, LeftOut, MayShow, MayShowAs, drive, BootSlot, A, B, IsDecided, IsEffective, Yields, generation_in, is_vote, votes, shown_by, gate_place, other_slot, counted, one_is_decided, NoneLeftOut}
+use Rattle.boot_region.specs.Prelude.{IsUndecided, closed_shows}
 
 -- who shows nothing, or what another shows, gives a body no more votes
 pub fewer_votes : (f g : ℕ → Option (List ℕ)) (body : List ℕ) (a n : ℕ) → ((i : ℕ) → i < a + n → (f i ≡ None) ⊎ (f i ≡ g i))

@@ -1,10 +1,8 @@
 -- What each answer of the making tells.
 use Rattle.std.specs.Prelude.{◌≡◌, Result, Ok, Err, ⊤}
-use Rattle.pur_base.specs.declared.device.Device.{Device}
-use Rattle.world.specs.Shelf.{Shelved}
+use Rattle.session_spec.specs.Prelude.{Device, Shelved, AreSame, GivesBody, IsBlank, NoneFailed, OneFailed}
 use Rattle.shelf_init.specs.declared.making.InitFault.{InitFault}
 use Rattle.shelf_init.specs.declared.making.InitFault.TheVariants as fault
-use Rattle.session_spec.specs.Making.{AreSame, GivesBody, IsBlank, NoneFailed, OneFailed}
 
 -- a device fault is told exactly where a call failed
 abbrev pub IsCounted : Result (Unit {0}) InitFault → Shelved → Shelved → Type 0

@@ -1,16 +1,7 @@
 -- Devices on which no record is in force.
 use Rattle.std.specs.Prelude.{◌≡◌, ◌⊎◌, ◌<◌, ◌+◌, ◌*◌, ℕ, List, [], Bool, true, false, length, slice_index_or, None}
-use Rattle.pur_base.specs.declared.device.Device.{Device}
-use Rattle.pur_base.specs.declared.device.Device.TheVariants.{Drive, Nv}
-use Rattle.pur_base.specs.declared.limits.TheConstants.{NVRAM_DEVICES, SECTOR_BYTES}
-use Rattle.pur_base.specs.Devices.{Image, drive, nvram}
-use Rattle.pur_base.specs.Gates.{is_open}
-use Rattle.boot_codec.specs.Region.{BootSlot, A, B, gate_place, shown_by}
+use Rattle.session_spec.specs.Prelude.{Device, Drive, Nv, NVRAM_DEVICES, SECTOR_BYTES, Image, drive, nvram, is_open, BootSlot, A, B, gate_place, shown_by, LOG_SLOTS, geometry_of, Shelved, IsIn, AreClean}
 use Rattle.boot_region.specs.declared.regions.TheConstants.{REGION_BYTES}
-use Rattle.log_codec.specs.declared.limits.TheConstants.{LOG_SLOTS}
-use Rattle.world.specs.Losing.{geometry_of}
-use Rattle.world.specs.Shelf.{Shelved, IsIn}
-use Rattle.session_spec.specs.Making.{AreClean}
 
 -- a drive didn't answer
 pub record HasSilent (answered : List Bool) : Type 0 where

@@ -1,7 +1,5 @@
 -- What holds of devices before the making calls any of them.
-use Rattle.world.specs.Losing.{geometry_of}
-use Rattle.world.specs.Shelf.{Shelved, Stop, MayStop}
-use Rattle.session_spec.specs.Making.{AreClean, IsBlank, IsNoneOrEmpty}
+use Rattle.session_spec.specs.Prelude.{geometry_of, Shelved, Stop, MayStop, AreClean, IsBlank, IsNoneOrEmpty}
 
 -- whatever a stop now leaves of blank devices gives no record
 abbrev pub StayBlank : Shelved → Type 0

@@ -1,11 +1,8 @@
 -- What is told of both NVRAM devices, by what is told of each.
 use Rattle.std.proofs.Common.{◌≡◌, ◌≢◌, inl, inr, ℕ, zero, suc, ◌≤◌, ◌-◌, ◌^◌, Bool, List, [], ◌∷◌, slice_index_or, false, Option, Some, None, ap, subst, sym, arith}
-use Rattle.pur_base.specs.declared.device.Device.{Device}
-use Rattle.pur_base.specs.declared.device.Device.TheVariants.{Drive, Nv}
-use Rattle.pur_base.specs.Devices.{nvram}
-use Rattle.world.specs.Shelf.{Shelved, Disk, Continues, IsShelf}
-use Rattle.nvram_log.specs.Members.{IsNvram}
-use Rattle.segment_io.specs.lemmas.Losing.{rises_first}
+use Rattle.session_spec.specs.Prelude.{Device, Drive, Nv, nvram, Shelved, Disk, Continues, IsShelf}
+use Rattle.nvram_log.specs.Prelude.{IsNvram}
+use Rattle.segment_io.specs.Prelude.{rises_first}
 use Rattle.shelf_look.specs.declared.record.RecordSeen.{RecordSeen}
 use Rattle.shelf_look.specs.declared.slots.SlotsSeen.{SlotsSeen}
 use Rattle.shelf_look.specs.Sides.{AreSides, IsSide}

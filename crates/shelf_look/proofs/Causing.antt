@@ -1,22 +1,16 @@
 -- What was read gives an array, or there is none for that cause.
 use Rattle.std.proofs.Common.{◌≡◌, ◌∙◌, inl, inr, ℕ, ◌≤◌, Bool, not, List, ap, subst, arith}
 use Rattle.std.proofs.lemmas.Bool.{cases_Bool}
-use Rattle.pur_base.specs.Devices.{View, nvram}
-use Rattle.boot_codec.specs.declared.record.BootRecord.{BootRecord}
-use Rattle.world.specs.Losing.{geometry_of}
-use Rattle.world.specs.Shelf.{Shelved, Disk}
-use Rattle.world.specs.Counts.{Rises}
-use Rattle.segment_io.specs.Lost.{is_in}
+use Rattle.session_spec.specs.Prelude.{View, nvram, BootRecord, geometry_of, Shelved, Disk, Rises}
+use Rattle.segment_io.specs.Prelude.{is_in}
 use Rattle.boot_region.specs.declared.loading.Loaded.{Loaded}
 use Rattle.boot_region.specs.declared.loading.LoadFault.{LoadFault}
 use Rattle.boot_region.specs.declared.loading.LoadFault.TheVariants as load
-use Rattle.boot_region.specs.Loading.{IsFaultOf, IsGiven}
+use Rattle.boot_region.specs.Prelude.{IsFaultOf, IsGiven}
 use Rattle.nvram_log.specs.declared.log.NvLog.{NvLog}
 use Rattle.nvram_log.specs.declared.read.ReadFault.{ReadFault}
 use Rattle.nvram_log.specs.declared.read.ReadFault.TheVariants as read_fault
-use Rattle.nvram_log.specs.Held.{shown_by}
-use Rattle.nvram_log.specs.Members.{IsFewer, IsSome}
-use Rattle.nvram_log.specs.Read.{AllFailed, DroppedCounted, IsReadFrom}
+use Rattle.nvram_log.specs.Prelude.{shown_by, IsFewer, IsSome, AllFailed, DroppedCounted, IsReadFrom}
 use Rattle.table_loading.specs.declared.fault.TablesFault.{TablesFault}
 use Rattle.table_loading.specs.declared.fault.TablesFault.TheVariants as tables
 use Rattle.table_loading.specs.Faults.{IsTablesFault}

@@ -3,15 +3,7 @@ use Rattle.std.proofs.Common.{◌≡◌, ◌∙◌, ℕ, ◌+◌, ◌*◌, ◌-�
 use Rattle.std.specs.Prelude.{IsTrue, slice_index, slice_range}
 use Rattle.std.proofs.lemmas.Bool.{eq-eqb}
 use Rattle.std.proofs.lemmas.List.{get_or-take, take-take}
-use Rattle.pur_base.specs.Bytes.{IsBytesOf}
-use Rattle.pur_base.specs.Commands.{Command}
-use Rattle.pur_base.specs.Gates.{is_open}
-use Rattle.pur_base.specs.declared.device.Device.{Device}
-use Rattle.pur_base.specs.lemmas.Devices.{same_device}
-use Rattle.log_codec.specs.declared.head.Head.{Head}
-use Rattle.log_codec.specs.Head.{Decodes}
-use Rattle.log_codec.specs.Log.{slot_at, ShowsIn, Spells}
-use Rattle.world.specs.Shelf.{Shelved, Disk, IsSame, OthersStay}
+use Rattle.session_spec.specs.Prelude.{IsBytesOf, Command, is_open, Device, same_device, Head, Decodes, slot_at, ShowsIn, Spells, Shelved, Disk, IsSame, OthersStay}
 use Rattle.nvram_log.proofs.Decoded.{shown_head, spelled_by, command_in, head_of, length-slot_at, slot_is_bytes}
 use Rattle.shelf_look.specs.Slots.{IsShownAt}
 

@@ -2,21 +2,14 @@
 use Rattle.std.proofs.Common.{◌≡◌, ◌∙◌, inl, inr, ℕ, ◌≤◌, Bool, List, sym, ap, subst, arith, Result, Ok, Err}
 use Rattle.std.specs.Prelude.{Some, IfOk, IfErr}
 use Rattle.std.proofs.lemmas.Bool.{cases_lt}
-use Rattle.pur_base.specs.declared.device.Device.{Device}
-use Rattle.pur_base.specs.Devices.{Geometry, View, drive, nvram}
-use Rattle.boot_codec.specs.declared.record.BootRecord.{BootRecord}
-use Rattle.array_spec.specs.Sound.{AreSound}
-use Rattle.world.specs.Counts.{Rises}
-use Rattle.world.specs.Losing.{geometry_of}
-use Rattle.world.specs.Shelf.{Shelved, Disk, Continues, IsSame, IsShelf}
+use Rattle.session_spec.specs.Prelude.{Device, Geometry, View, drive, nvram, BootRecord, AreSound, Rises, geometry_of, Shelved, Disk, Continues, IsSame, IsShelf}
 use Rattle.boot_region.specs.declared.loading.Loaded.{Loaded}
-use Rattle.boot_region.specs.Loading.{IsFaultOf, IsGiven}
-use Rattle.boot_region.specs.Regions.{IsRead}
+use Rattle.boot_region.specs.Prelude.{IsFaultOf, IsGiven, IsRead}
 use Rattle.nvram_log.specs.declared.log.NvLog.{NvLog}
 use Rattle.table_loading.specs.declared.fault.TablesFault.{TablesFault}
 use Rattle.table_loading.specs.declared.fault.TablesFault.TheVariants as tables
 use Rattle.table_soundness.specs.Faults.{IsFault}
-use Rattle.array_memory.specs.Kept.{Kept}
+use Rattle.array_memory.specs.Prelude.{Kept}
 use Rattle.shelf_look.specs.declared.cause.Cause.{Cause}
 use Rattle.shelf_look.specs.declared.cause.Cause.TheVariants as cause
 use Rattle.shelf_look.specs.declared.finding.Opening.{Opening}
@@ -25,7 +18,7 @@ use Rattle.shelf_look.specs.Log.{IsLogOf}
 use Rattle.shelf_look.specs.Looking.{IsOutcome, IsTold}
 use Rattle.shelf_look.specs.Opening.{IsCauseOf, IsOpeningOf}
 use Rattle.shelf_look.specs.Tables.{AreTablesOn, IsMemoryOf, IsTablesCause, ShowsThose}
-use Rattle.segment_io.specs.lemmas.Losing.{rises_first}
+use Rattle.segment_io.specs.Prelude.{rises_first}
 
 pub same_geometry : {old new : Shelved} → Continues old new → geometry_of new ≡ geometry_of old
 same_geometry {old} {new} on = ap (λ (n : ℕ). record { slots = n; units = new.units }) on.drives ∙ ap (λ (n : ℕ). record { slots = old.drives; units = n }) on.units

@@ -4,11 +4,9 @@ use Rattle.std.specs.Prelude.{Some, slice_get, count_by}
 use Rattle.std.proofs.lemmas.Option.{slice_get_cases}
 use Rattle.std.proofs.lemmas.Bool.{cases_Bool}
 use Rattle.std.proofs.lemmas.List.Sums.{count_by_more_no, count_by_more_yes}
-use Rattle.pur_base.specs.Commands.{Command}
-use Rattle.pur_base.specs.Grammar.{is_in_force}
-use Rattle.pur_base.specs.declared.request.Request.{Request}
+use Rattle.session_spec.specs.Prelude.{Command, is_in_force, Request}
 use Rattle.nvram_log.specs.declared.log.NvLog.{NvLog}
-use Rattle.nvram_log.specs.Held.{Keeps}
+use Rattle.nvram_log.specs.Prelude.{Keeps}
 use Rattle.shelf_look.specs.declared.waiting.Waiting.{Waiting}
 use Rattle.shelf_look.specs.Log.{AreServed, AreWaiting, CountsOne, is_create, is_fill, is_write}
 

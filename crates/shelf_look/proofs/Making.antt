@@ -1,23 +1,12 @@
 -- Memory that was made of tables.
 use Rattle.std.proofs.Common.{◌≡◌, ◌∙◌, ◌++◌, List, map, sym, ap, subst, ℕ}
-use Rattle.pur_base.specs.Devices.{Geometry}
-use Rattle.pur_base.specs.Facts.{Facts}
-use Rattle.pur_base.specs.Visible.{segments}
-use Rattle.pur_base.specs.declared.facts.AnyFact.{AnyFact}
+use Rattle.session_spec.specs.Prelude.{Geometry, Facts, segments, AnyFact, SegmentFact, BootRecord, IsRecordOf, AreSound, AreSegmentsSound, all_facts, facts, flushed, patches, facts_of}
 use Rattle.pur_base.specs.declared.facts.AnyFact.TheVariants as any
-use Rattle.pur_base.specs.declared.facts.SegmentFact.{SegmentFact}
-use Rattle.boot_codec.specs.declared.record.BootRecord.{BootRecord}
-use Rattle.boot_codec.specs.Region.{IsRecordOf}
-use Rattle.array_spec.specs.Sound.{AreSound, AreSegmentsSound}
-use Rattle.array_spec.specs.Stored.{all_facts}
-use Rattle.memory_spec.specs.Tables.{facts, flushed, patches}
-use Rattle.pyramid.specs.Layers.{facts_of}
 use Rattle.table_soundness.specs.declared.tables.LoadedTables.{LoadedTables}
 use Rattle.table_soundness.specs.declared.visible.Visible.{Visible}
 use Rattle.table_soundness.specs.Faults.{AreVisible, facts_in, patches_in}
 use Rattle.free_space.specs.Map.{AreDataSegments, shelf_of}
-use Rattle.array_memory.specs.Kept.{Kept}
-use Rattle.array_memory.specs.Loaded.{IsLoaded}
+use Rattle.array_memory.specs.Prelude.{Kept, IsLoaded}
 use Rattle.shelf_look.specs.Tables.{IsMemoryOf}
 use Rattle.shelf_look.proofs.Counting.{patches_show}
 

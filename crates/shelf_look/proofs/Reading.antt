@@ -1,10 +1,6 @@
 -- One read.
 use Rattle.std.proofs.Common.{◌≡◌, inl, inr, refl, sym, subst, ap, Result}
-use Rattle.pur_base.specs.lemmas.Devices.{same_device}
-use Rattle.pur_base.specs.declared.device.Device.{Device}
-use Rattle.world.specs.declared.streams.Failed.{Failed}
-use Rattle.world.specs.Shelf.{Shelved, Disk, Elapses, IsSame, IsShelf, OthersStay, ReadCounts}
-use Rattle.world.specs.lemmas.Writes.{read_writes}
+use Rattle.session_spec.specs.Prelude.{same_device, Device, Failed, Shelved, Disk, Elapses, IsSame, IsShelf, OthersStay, ReadCounts, read_writes}
 use Rattle.shelf_look.specs.Reads.{AreOnlyRead, NoByte}
 
 pub one_read : {answer : Result (Unit {0}) Failed} (a b : Shelved) (device : Device) → IsShelf a → Elapses a b → OthersStay device a b → (a.honest → IsSame (a.disk device) (b.disk device))

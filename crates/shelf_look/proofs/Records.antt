@@ -1,13 +1,8 @@
 -- The record that the regions give.
 use Rattle.std.proofs.Common.{◌≡◌, ◌∙◌, ℕ, Bool, List, sym, ap, subst}
-use Rattle.pur_base.specs.Devices.{Geometry}
-use Rattle.boot_codec.specs.declared.bad_record.BadRecord.{BadRecord}
-use Rattle.boot_codec.specs.declared.bad_record.ReadError.{ReadError}
+use Rattle.session_spec.specs.Prelude.{Geometry, BadRecord, ReadError, Fails, read_record, BootSlot, IsEffective}
 use Rattle.boot_codec.specs.declared.bad_record.ReadError.TheVariants as errors
-use Rattle.boot_codec.specs.Reading.{Fails, read_record}
-use Rattle.boot_codec.specs.Region.{BootSlot, IsEffective}
-use Rattle.boot_region.specs.Loading.{IsBadBody}
-use Rattle.boot_region.specs.Regions.{seen}
+use Rattle.boot_region.specs.Prelude.{IsBadBody, seen}
 
 -- a body in force that can't be read
 pub bad_body : (shelf : Geometry) (bytes : List ℕ) (answered : List Bool) (slot : BootSlot) (body : List ℕ) (slots units : ℕ) (e : ReadError) (b : BadRecord) → e ≡ errors.Bad b

@@ -1,5 +1,5 @@
 -- Why an array can't be opened, and with which status an opening would end.
-use Rattle.pur_base.specs.declared.reply.Status.{Status}
+use Rattle.session_spec.specs.Prelude.{Status}
 use Rattle.pur_base.specs.declared.reply.Status.TheVariants as status
 use Rattle.boot_region.specs.declared.loading.LoadFault.{LoadFault}
 use Rattle.boot_region.specs.declared.loading.LoadFault.TheVariants as load

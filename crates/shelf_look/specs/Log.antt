@@ -1,16 +1,10 @@
 -- The log that the NVRAM devices show, and the commands that wait in it.
 use Rattle.std.specs.Prelude.{◌≡◌, ℕ, ◌+◌, ◌<◌, ◌^◌, Bool, true, false, cond, List, Some, slice_get, count_by}
 use Rattle.std.specs.List.{AllByRecursion}
-use Rattle.pur_base.specs.Commands.{Command}
-use Rattle.pur_base.specs.Grammar.{is_in_force}
-use Rattle.pur_base.specs.declared.request.Request.{Request}
+use Rattle.session_spec.specs.Prelude.{Command, is_in_force, Request, BootRecord, Shelved}
 use Rattle.pur_base.specs.declared.request.Request.TheVariants as request
-use Rattle.boot_codec.specs.declared.record.BootRecord.{BootRecord}
-use Rattle.world.specs.Shelf.{Shelved}
 use Rattle.nvram_log.specs.declared.log.NvLog.{NvLog}
-use Rattle.nvram_log.specs.Held.{shown_by}
-use Rattle.nvram_log.specs.Members.{IsFewer, IsSome}
-use Rattle.nvram_log.specs.Read.{DroppedCounted, IsReadFrom}
+use Rattle.nvram_log.specs.Prelude.{shown_by, IsFewer, IsSome, DroppedCounted, IsReadFrom}
 use Rattle.shelf_look.specs.declared.waiting.Waiting.{Waiting}
 
 -- The log behind the commands that the record's tables hold, as the NVRAM devices show it that the record names. Each of them is a member, or a call on it failed.

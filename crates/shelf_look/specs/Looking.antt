@@ -1,15 +1,8 @@
 -- What a look tells of a shelf.
 use Rattle.std.specs.Prelude.{◌≡◌, ◌⊎◌, ℕ, ◌<◌, Bool, true, false, List, length, slice_index_or, Option, Some, None, Result, Ok, Err}
-use Rattle.pur_base.specs.Devices.{Geometry}
-use Rattle.pur_base.specs.declared.reply.Status.{Status}
+use Rattle.session_spec.specs.Prelude.{Geometry, Status, BadRecord, BootRecord, geometry_of, Shelved}
 use Rattle.pur_base.specs.declared.reply.Status.TheVariants as status
-use Rattle.boot_codec.specs.declared.bad_record.BadRecord.{BadRecord}
-use Rattle.boot_codec.specs.declared.record.BootRecord.{BootRecord}
-use Rattle.world.specs.Losing.{geometry_of}
-use Rattle.world.specs.Shelf.{Shelved}
-use Rattle.boot_region.specs.Loading.{IsHeld, IsBadBody}
-use Rattle.boot_region.specs.Regions.{GivesNone, IsRead, seen as shown}
-use Rattle.boot_region.specs.Slots.{slot_in}
+use Rattle.boot_region.specs.Prelude.{IsHeld, IsBadBody, GivesNone, IsRead, seen as shown, slot_in}
 use Rattle.shelf_look.specs.declared.cause.Cause.{Cause}
 use Rattle.shelf_look.specs.declared.cause.Cause.TheVariants as cause
 use Rattle.shelf_look.specs.declared.drives.DriveState.{DriveState}

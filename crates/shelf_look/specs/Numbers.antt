@@ -1,14 +1,7 @@
 -- The numbers of an array that can be opened, by the definitions that a status of it has.
 use Rattle.std.specs.Prelude.{◌≡◌, ℕ, ◌-◌, List, length}
 use Rattle.std.specs.List.{sum_by}
-use Rattle.pur_base.specs.Visible.{segments}
-use Rattle.pur_base.specs.declared.facts.SegmentFact.{SegmentFact}
-use Rattle.boot_codec.specs.Record.{patch_segments}
-use Rattle.log_codec.specs.declared.limits.TheConstants.{LOG_SLOTS}
-use Rattle.array_spec.specs.Counts.{IsGroups, free_of_members}
-use Rattle.array_spec.specs.Stored.{all_facts}
-use Rattle.memory_spec.specs.Tables.{facts, patches}
-use Rattle.session_spec.specs.Faring.{set_flags}
+use Rattle.session_spec.specs.Prelude.{segments, SegmentFact, patch_segments, LOG_SLOTS, IsGroups, free_of_members, all_facts, facts, patches, set_flags}
 use Rattle.shelf_look.specs.declared.finding.Opening.{Opening}
 use Rattle.shelf_look.specs.declared.numbers.Numbers.{Numbers}
 

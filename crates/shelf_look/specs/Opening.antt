@@ -1,18 +1,10 @@
 -- What an opening would find on the devices, and why it would find no array.
 use Rattle.std.specs.Prelude.{ℕ, ◌<◌, Bool, List, ⊤}
-use Rattle.pur_base.specs.Commands.{Command}
-use Rattle.pur_base.specs.Devices.{Geometry, nvram}
-use Rattle.pur_base.specs.declared.device.Device.{Device}
-use Rattle.boot_codec.specs.Region.{IsRecordOf}
-use Rattle.world.specs.Counts.{Rises}
-use Rattle.world.specs.Losing.{geometry_of}
-use Rattle.world.specs.Shelf.{Shelved}
+use Rattle.session_spec.specs.Prelude.{Command, Geometry, nvram, Device, IsRecordOf, Rises, geometry_of, Shelved, flushed}
 use Rattle.boot_region.specs.declared.loading.Loaded.{Loaded}
-use Rattle.boot_region.specs.Loading.{IsFaultOf, IsGiven}
-use Rattle.memory_spec.specs.Tables.{flushed}
+use Rattle.boot_region.specs.Prelude.{IsFaultOf, IsGiven}
 use Rattle.nvram_log.specs.declared.log.NvLog.{NvLog}
-use Rattle.nvram_log.specs.Held.{Keeps}
-use Rattle.nvram_log.specs.Members.{IsMember}
+use Rattle.nvram_log.specs.Prelude.{Keeps, IsMember}
 use Rattle.table_loading.specs.declared.fault.TablesFault.{TablesFault}
 use Rattle.table_soundness.specs.Faults.{AreVisible}
 use Rattle.shelf_look.specs.declared.cause.Cause.{Cause}

@@ -1,8 +1,6 @@
 -- What a shelf is after reads alone.
 use Rattle.std.specs.Prelude.{◌≡◌, ℕ}
-use Rattle.pur_base.specs.declared.device.Device.{Device}
-use Rattle.world.specs.Shelf.{Shelved, Continues, IsSame}
-use Rattle.world.specs.Writes.{WritesOnly}
+use Rattle.session_spec.specs.Prelude.{Device, Shelved, Continues, IsSame, WritesOnly}
 
 -- no byte
 abbrev pub NoByte : Device → ℕ → Type 0

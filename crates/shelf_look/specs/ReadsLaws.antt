@@ -1,9 +1,6 @@
 -- Nothing and reads behind reads are reads alone.
 use Rattle.std.proofs.Common.{◌∙◌, refl}
-use Rattle.world.specs.Shelf.{Shelved, IsShelf}
-use Rattle.world.specs.Streams.{IsPreorder}
-use Rattle.world.specs.lemmas.Moments.{continues_refl, continues_trans}
-use Rattle.world.specs.lemmas.Writes.{nothing_written, writes_then}
+use Rattle.session_spec.specs.Prelude.{Shelved, IsShelf, IsPreorder, continues_refl, continues_trans, nothing_written, writes_then}
 use Rattle.shelf_look.specs.Reads.{AreOnlyRead, IsOnlyRead}
 
 pub none_read : (a : Shelved) → IsShelf a → AreOnlyRead a a

@@ -1,8 +1,6 @@
 -- What is told of each NVRAM device.
 use Rattle.std.specs.Prelude.{◌≡◌, ◌⊎◌, ℕ, ◌<◌, Bool, true, false, List, slice_index_or, Option, Some, None}
-use Rattle.pur_base.specs.Devices.{nvram}
-use Rattle.world.specs.Counts.{Rises}
-use Rattle.world.specs.Shelf.{Shelved, Disk}
+use Rattle.session_spec.specs.Prelude.{nvram, Rises, Shelved, Disk}
 use Rattle.shelf_look.specs.declared.record.RecordSeen.{RecordSeen}
 use Rattle.shelf_look.specs.declared.slots.SlotsSeen.{SlotsSeen}
 use Rattle.shelf_look.specs.Slots.{AreShown}

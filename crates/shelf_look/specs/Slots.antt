@@ -1,8 +1,6 @@
 -- What an NVRAM device shows in the slots of the log.
 use Rattle.std.specs.Prelude.{ℕ, ◌<◌, Bool, true, false, List, slice_index_or}
-use Rattle.pur_base.specs.Commands.{Command}
-use Rattle.log_codec.specs.declared.limits.TheConstants.{LOG_SLOTS}
-use Rattle.log_codec.specs.Log.{ShowsIn}
+use Rattle.session_spec.specs.Prelude.{Command, LOG_SLOTS, ShowsIn}
 
 -- a device with these bytes shows a command of the log in a slot, behind what is flushed, or it doesn't
 abbrev pub IsShownAt : List ℕ → ℕ → ℕ → Bool → Type 0

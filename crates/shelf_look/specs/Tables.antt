@@ -1,25 +1,14 @@
 -- The tables that a record names, as they stand on the drives that hold it, and memory that was made of them.
 use Rattle.std.specs.Prelude.{◌≡◌, ℕ, ◌<◌, Bool, true, not, List, Contains, Some, ⊤}
-use Rattle.pur_base.specs.Devices.{Geometry, View, drive}
-use Rattle.pur_base.specs.Tags.{tag_of}
-use Rattle.pur_base.specs.declared.facts.AnyFact.{AnyFact}
-use Rattle.boot_codec.specs.declared.patch.Patch.{Patch}
-use Rattle.boot_codec.specs.declared.record.BootRecord.{BootRecord}
-use Rattle.array_spec.specs.Sound.{AreSound}
-use Rattle.array_spec.specs.Stored.{PatchesStand}
-use Rattle.memory_spec.specs.Tables.{patches}
-use Rattle.memory_spec.specs.Whole.{IsWhole}
-use Rattle.world.specs.Losing.{geometry_of}
-use Rattle.world.specs.Shelf.{Shelved}
-use Rattle.segment_io.specs.Lost.{is_in}
-use Rattle.segment_io.specs.Stripes.{bytes_of}
+use Rattle.session_spec.specs.Prelude.{Geometry, View, drive, tag_of, AnyFact, Patch, BootRecord, AreSound, PatchesStand, patches, IsWhole, geometry_of, Shelved}
+use Rattle.segment_io.specs.Prelude.{is_in, bytes_of}
 use Rattle.table_loading.specs.declared.fault.TablesFault.{TablesFault}
 use Rattle.table_loading.specs.declared.fault.TablesFault.TheVariants.{BadPatch, Unsound, Lost, Memory}
 use Rattle.table_loading.specs.Faults.{IsLostIn}
 use Rattle.table_loading.specs.Loading.{StripesStandOfAll}
 use Rattle.table_soundness.specs.declared.tables.LoadedTables.{LoadedTables}
 use Rattle.table_soundness.specs.Faults.{IsFault}
-use Rattle.array_memory.specs.Kept.{Kept}
+use Rattle.array_memory.specs.Prelude.{Kept}
 
 -- the drives that aren't among these
 abbrev pub AreOthers : List Bool → List Bool → Type 0

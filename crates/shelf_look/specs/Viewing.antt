@@ -1,6 +1,6 @@
 -- What is told of a shelf.
 use Rattle.std.specs.Prelude.{◌≡◌}
-use Rattle.world.specs.Shelf.{Shelved}
+use Rattle.session_spec.specs.Prelude.{Shelved}
 use Rattle.shelf_look.specs.declared.looking.Looked.{Looked}
 use Rattle.shelf_look.specs.Looking.{IsLook, end_of}
 use Rattle.shelf_look.specs.declared.viewing.Told.{Told}

@@ -3,14 +3,8 @@ use Rattle.std.proofs.Common.{◌≡◌, ◌≢◌, ◌⊎◌, ℕ, ◌+◌, ◌
 use Rattle.std.specs.Prelude.{Option, Result, Ok, Err, OnOk, ◌↔◌}
 use Rattle.std.proofs.lemmas.List.{append-nil}
 use Rattle.std.proofs.lemmas.List.Elements.{All-push, All-contains, Contains-append_left, Contains-append_right, Contains-append_cases}
-use Rattle.pur_base.specs.Keys.{key_of}
-use Rattle.pur_base.specs.Says.{Ascends}
-use Rattle.pur_base.specs.Facts.{address_key, never}
-use Rattle.pur_base.specs.declared.facts.AddressFact.{AddressFact}
-use Rattle.pyramid.specs.Layers.{AreBelow, facts_of, patch_facts, patches_of}
-use Rattle.pyramid.specs.lemmas.Layers.{all_below, all_contained}
+use Rattle.pyramid.specs.Prelude.{key_of, Ascends, address_key, never, AddressFact, AreBelow, facts_of, patch_facts, patches_of, all_below, all_contained, ascends_push}
 use Rattle.pyramid.proofs.PlaceLemmas.{facts_append, facts_patches}
-use Rattle.pyramid.specs.lemmas.Shown.{ascends_push}
 use Rattle.storage_bench.specs.Numbers.{AreAmong}
 
 -- the first facts of a run

@@ -1,7 +1,6 @@
 -- Sequence numbers of facts.
 use Rattle.std.specs.Prelude.{ℕ, ◌+◌, ◌<◌, ◌≤◌, List, All}
-use Rattle.pur_base.specs.declared.facts.AddressFact.{AddressFact}
-use Rattle.pyramid.specs.Layers.{Layers, facts_in}
+use Rattle.pyramid.specs.Prelude.{AddressFact, Layers, facts_in}
 
 -- all facts of a table have numbers below that one
 abbrev pub AreBelow : ℕ → Layers AddressFact → Type 0

@@ -3,32 +3,21 @@ use Rattle.std.proofs.Common.{◌≡◌, Bool, List, refl, subst}
 use Rattle.std.specs.Prelude.{Contains}
 use Rattle.std.specs.List.{AllByRecursion, AllZip}
 use Rattle.std.proofs.lemmas.List.Elements.{All-from_recursion, All-contains}
-use Rattle.pur_base.specs.Devices.{View}
-use Rattle.pur_base.specs.Tags.{tag_of}
-use Rattle.pur_base.specs.declared.request.Table.{Table}
-use Rattle.pur_base.specs.declared.facts.AnyFact.{AnyFact}
-use Rattle.boot_codec.specs.Record.{IsPatch}
-use Rattle.boot_codec.specs.declared.patch.Patch.{Patch}
-use Rattle.boot_codec.specs.declared.record.BootRecord.{BootRecord}
-use Rattle.array_spec.specs.Sound.{AreSound}
-use Rattle.array_spec.specs.Stored.{PatchStands}
+use Rattle.array_spec.specs.Prelude.{View, tag_of, Table, AnyFact, IsPatch, Patch, BootRecord, AreSound, PatchStands, all_patches}
 use Rattle.table_soundness.specs.declared.fault.SoundFault.{SoundFault}
 use Rattle.table_soundness.specs.declared.fault.SoundFault.TheVariants as sound_fault
 use Rattle.table_soundness.specs.declared.tables.LoadedTables.{LoadedTables}
 use Rattle.table_soundness.specs.Faults.{patches_in, IsFault}
 use Rattle.table_soundness.proofs.SoundLemmas.{not_at_fault}
-use Rattle.world.specs.Losing.{geometry_of}
-use Rattle.world.specs.Shelf.{Shelved}
+use Rattle.world.specs.Prelude.{geometry_of, Shelved}
 use Rattle.patch_io.specs.declared.fault.PatchFault.{PatchFault}
 use Rattle.patch_io.specs.declared.fault.PatchFault.TheVariants as patch_fault
-use Rattle.patch_io.specs.Faults.{IsFaultOf}
-use Rattle.patch_io.specs.Standing.{StripesStandOf}
+use Rattle.patch_io.specs.Prelude.{IsFaultOf, StripesStandOf}
 use Rattle.table_loading.specs.Loading.{IsLoaded}
 use Rattle.table_loading.specs.Faults.{fault_in, fault_of, IsPatchFault, IsFaultIn, IsTablesFault}
 use Rattle.table_loading.specs.declared.fault.TablesFault.{TablesFault}
 use Rattle.table_loading.specs.declared.fault.TablesFault.TheVariants.{BadPatch, Unsound, Lost, Memory}
 use Rattle.table_loading.proofs.Zips.{zip_first}
-use Rattle.array_spec.specs.lemmas.Unique.{all_patches}
 use Rattle.table_loading.proofs.Reading.{shows_patch}
 use Rattle.table_loading.proofs.Loaded.{are_named, all_stand}
 

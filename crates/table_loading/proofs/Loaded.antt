@@ -5,29 +5,18 @@ use Rattle.std.specs.List.{AllByRecursion, AllZip}
 use Rattle.std.proofs.lemmas.List.{length-map}
 use Rattle.std.proofs.lemmas.List.Elements.{All-from_recursion}
 use Rattle.std.proofs.Math.ListN.{get_or-map}
-use Rattle.pur_base.specs.Devices.{View, Geometry}
-use Rattle.pur_base.specs.Facts.{any_key, table_tag}
-use Rattle.pur_base.specs.declared.facts.AnyFact.{AnyFact}
+use Rattle.array_spec.specs.Prelude.{View, Geometry, any_key, table_tag, AnyFact, IsPatch, ArePatches, IsRecordOf, Patch, BootRecord, IsFact, PatchStands, PatchesStand, all_append, all_append_left}
 use Rattle.pur_base.specs.declared.facts.AnyFact.TheVariants as any
-use Rattle.boot_codec.specs.Record.{IsPatch, ArePatches}
-use Rattle.boot_codec.specs.Region.{IsRecordOf}
-use Rattle.boot_codec.specs.declared.patch.Patch.{Patch}
-use Rattle.boot_codec.specs.declared.record.BootRecord.{BootRecord}
-use Rattle.fact_codec.specs.Fact.{IsFact}
-use Rattle.array_spec.specs.Stored.{PatchStands, PatchesStand}
 use Rattle.pyramid.specs.Layers as layers
-use Rattle.pyramid.specs.Layers.{facts_of}
+use Rattle.pyramid.specs.Prelude.{facts_of}
 use Rattle.table_soundness.specs.declared.tables.LoadedTables.{LoadedTables}
 use Rattle.table_soundness.specs.Faults.{patches_in, AreLawful, AreNamed, IsNamed}
-use Rattle.world.specs.Losing.{geometry_of}
-use Rattle.world.specs.Shelf.{Shelved}
-use Rattle.patch_io.specs.Standing.{AreFactsOf, StripesStandOf}
-use Rattle.patch_io.specs.Tables.{HaveKey}
+use Rattle.world.specs.Prelude.{geometry_of, Shelved}
+use Rattle.patch_io.specs.Prelude.{AreFactsOf, StripesStandOf, HaveKey}
 use Rattle.table_loading.specs.Loading.{IsLoaded, ShowsDrives, StripesStandOfAll, of_tag}
 use Rattle.table_loading.proofs.Tags.{five_tables}
 use Rattle.table_loading.proofs.Zips.{zip_append, zip_weaker, zip_second, all_of_both, all_behind, all_mapped}
 use Rattle.table_loading.proofs.Reading.{shows_patch}
-use Rattle.array_spec.specs.lemmas.Used.{all_append, all_append_left}
 
 -- decoded facts are a patch of their table
 pub is_patch : {F : Type 0} (any : F → AnyFact) (key : F → ℕ) → HaveKey any key → (p : Patch) (facts : List F) → 1 ≤ p.facts → AreFactsOf p (map any facts) → layers.IsPatch key facts

@@ -2,21 +2,11 @@
 use Rattle.std.proofs.Common.{◌≡◌, ℕ, Bool, List, refl, sym, ◌∙◌, ap, arith}
 use Rattle.std.specs.Prelude.{Some}
 use Rattle.std.specs.List.{AllZip}
-use Rattle.pur_base.specs.Devices.{View, nvram, drive}
-use Rattle.pur_base.specs.declared.device.Device.{Device}
-use Rattle.pur_base.specs.declared.facts.AnyFact.{AnyFact}
-use Rattle.boot_codec.specs.Record.{IsPatch}
-use Rattle.boot_codec.specs.declared.patch.Patch.{Patch}
-use Rattle.array_spec.specs.Stored.{places_of_part}
-use Rattle.world.specs.Shelf.{Shelved, Continues, IsSame, IsShelf}
-use Rattle.world.specs.Writes.{WritesOnly}
-use Rattle.world.specs.lemmas.Moments.{continues_refl, continues_trans}
-use Rattle.world.specs.lemmas.Writes.{writes_then, nothing_written}
-use Rattle.segment_io.specs.Lost.{NoByte}
-use Rattle.segment_io.specs.Places.{drive_of, place_of}
+use Rattle.array_spec.specs.Prelude.{View, nvram, drive, Device, AnyFact, IsPatch, Patch, places_of_part}
+use Rattle.world.specs.Prelude.{Shelved, Continues, IsSame, IsShelf, WritesOnly, continues_refl, continues_trans, writes_then, nothing_written}
+use Rattle.segment_io.specs.Prelude.{NoByte, drive_of, place_of}
 use Rattle.segment_io.proofs.Gathers.{same_then}
-use Rattle.patch_io.specs.Faults.{OthersStayOfPatch}
-use Rattle.patch_io.specs.Standing.{ShowsPatch}
+use Rattle.patch_io.specs.Prelude.{OthersStayOfPatch, ShowsPatch}
 use Rattle.patch_io.proofs.Parts.{slot_below}
 use Rattle.table_loading.specs.Loading.{IsLoaded, OnlyReads, ShowsDrives}
 use Rattle.table_loading.specs.Faults.{IsFaultIn, IsLostIn}

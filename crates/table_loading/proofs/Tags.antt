@@ -6,9 +6,7 @@ use Rattle.std.proofs.lemmas.Bool.{eq-eqb, ne_eqb}
 use Rattle.std.proofs.lemmas.Bool.Decides.{eqb_tells}
 use Rattle.std.proofs.lemmas.List.{append-nil, map_push}
 use Rattle.std.proofs.lemmas.List.Elements.{filter_more}
-use Rattle.pur_base.specs.declared.facts.AnyFact.{AnyFact}
-use Rattle.boot_codec.specs.Record.{IsPatch, ByTagFrom}
-use Rattle.boot_codec.specs.declared.patch.Patch.{Patch}
+use Rattle.array_spec.specs.Prelude.{AnyFact, IsPatch, ByTagFrom, Patch}
 use Rattle.table_loading.specs.Loading.{of_tag}
 use Rattle.table_loading.proofs.Zips.{zip_push}
 

@@ -1,24 +1,15 @@
 -- Why tables aren't loaded.
 use Rattle.std.specs.Prelude.{◌≡◌, ℕ, ◌<◌, Bool, List, length, Contains}
 use Rattle.std.specs.List.{AllZip}
-use Rattle.pur_base.specs.Devices.{View}
-use Rattle.pur_base.specs.Tags.{tag_of}
-use Rattle.pur_base.specs.declared.request.Table.{Table}
-use Rattle.pur_base.specs.declared.facts.AnyFact.{AnyFact}
-use Rattle.boot_codec.specs.declared.patch.Patch.{Patch}
-use Rattle.boot_codec.specs.declared.record.BootRecord.{BootRecord}
-use Rattle.array_spec.specs.Sound.{AreSound}
-use Rattle.array_spec.specs.Stored.{PatchStands, PatchesStand, places_of_part}
+use Rattle.array_spec.specs.Prelude.{View, tag_of, Table, AnyFact, Patch, BootRecord, AreSound, PatchStands, PatchesStand, places_of_part}
 use Rattle.table_soundness.specs.declared.fault.SoundFault.{SoundFault}
 use Rattle.table_soundness.specs.declared.fault.SoundFault.TheVariants as sound_fault
 use Rattle.table_soundness.specs.declared.tables.LoadedTables.{LoadedTables}
 use Rattle.table_soundness.specs.Faults.{patches_in, IsFault}
-use Rattle.world.specs.Losing.{geometry_of}
-use Rattle.world.specs.Shelf.{Shelved}
+use Rattle.world.specs.Prelude.{geometry_of, Shelved}
 use Rattle.patch_io.specs.declared.fault.PatchFault.{PatchFault}
 use Rattle.patch_io.specs.declared.fault.PatchFault.TheVariants as patch_fault
-use Rattle.patch_io.specs.Faults.{AreLostSince}
-use Rattle.patch_io.specs.Standing.{ShowsPatch}
+use Rattle.patch_io.specs.Prelude.{AreLostSince, ShowsPatch}
 use Rattle.table_loading.specs.Loading.{IsLoaded, ShowsDrives}
 use Rattle.table_loading.specs.declared.fault.TablesFault.{TablesFault}
 use Rattle.table_loading.specs.declared.fault.TablesFault.TheVariants.{BadPatch, Unsound, Lost, Memory}

@@ -1,17 +1,10 @@
 -- What is loaded of the patches that a record names.
 use Rattle.std.specs.Prelude.{◌≡◌, ℕ, ◌<◌, ◌==◌, false, Bool, List, Some}
 use Rattle.std.specs.List.{AllByRecursion, filter}
-use Rattle.pur_base.specs.Devices.{View, drive, nvram}
-use Rattle.pur_base.specs.declared.device.Device.{Device}
-use Rattle.pur_base.specs.declared.facts.AnyFact.{AnyFact}
-use Rattle.boot_codec.specs.declared.patch.Patch.{Patch}
-use Rattle.boot_codec.specs.declared.record.BootRecord.{BootRecord}
-use Rattle.array_spec.specs.Stored.{PatchStands}
-use Rattle.world.specs.Shelf.{Shelved, Continues, IsSame}
-use Rattle.world.specs.Writes.{WritesOnly}
-use Rattle.segment_io.specs.Lost.{NoByte, is_in}
-use Rattle.segment_io.specs.Stripes.{bytes_of}
-use Rattle.patch_io.specs.Standing.{AreFactsOf, ShowsPatch, StripesStandOf}
+use Rattle.array_spec.specs.Prelude.{View, drive, nvram, Device, AnyFact, Patch, BootRecord, PatchStands}
+use Rattle.world.specs.Prelude.{Shelved, Continues, IsSame, WritesOnly}
+use Rattle.segment_io.specs.Prelude.{NoByte, is_in, bytes_of}
+use Rattle.patch_io.specs.Prelude.{AreFactsOf, ShowsPatch, StripesStandOf}
 
 -- ---- views
 

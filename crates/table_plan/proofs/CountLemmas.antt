@@ -1,7 +1,6 @@
 -- How many facts there are at most.
 use Rattle.std.proofs.Common.{◌≡◌, ◌⊎◌, ℕ, suc, ◌+◌, ◌<◌, ◌≤◌, List, [], ◌∷◌, ◌++◌, length, refl, sym, ap, ◌∙◌, arith, inl, inr, subst, Contains, AllPairs, length-append}
-use Rattle.pur_base.specs.Says.{Ascends}
-use Rattle.pyramid.specs.lemmas.Contains.{here, there, either, nowhere}
+use Rattle.memory_spec.specs.Prelude.{Ascends, here, there, either, nowhere}
 
 module _ {X : Type 0} where
   -- the list without one of its items

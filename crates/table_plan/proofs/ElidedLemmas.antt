@@ -5,29 +5,10 @@ use Rattle.std.proofs.lemmas.List.Elements.{Contains-append_left, Contains-appen
 use Rattle.std.proofs.lemmas.List.Folds.{list_any-append, list_any_at}
 use Rattle.std.proofs.lemmas.List.Quantifiers.{all_pairs_push}
 use Rattle.std.proofs.lemmas.List.{get_or_default}
-use Rattle.pur_base.specs.Facts.{address_key, never}
-use Rattle.pur_base.specs.Keys.{key_of, id_of}
-use Rattle.pur_base.specs.Tags.{tag_of}
-use Rattle.pur_base.specs.Visible.{address, elides, is_elided, segment}
-use Rattle.pur_base.specs.declared.request.Table.{Table}
+use Rattle.memory_spec.specs.Prelude.{address_key, never, key_of, id_of, tag_of, address, elides, is_elided, segment, Table, AddressFact, SegmentFact, ElisionFact, says_is, NUMBER_LIMIT, IsFact, AreElisionsSound, FitTogether, Grows, next_id, facts_of, here, there, either, nowhere, Memory, IsSound, facts, all_elisions, all_segments, each_by_recursion, AreNewElisions, IsEliding, as_before, says_where, object_tag}
 use Rattle.pur_base.specs.declared.request.Table.TheVariants as table
-use Rattle.pur_base.specs.declared.facts.AddressFact.{AddressFact}
-use Rattle.pur_base.specs.declared.facts.SegmentFact.{SegmentFact}
-use Rattle.pur_base.specs.declared.facts.ElisionFact.{ElisionFact}
 use Rattle.pur_base.specs.declared.facts.AnyFact.TheVariants as any
-use Rattle.pur_base.specs.lemmas.Says.{says_is}
-use Rattle.fact_codec.specs.declared.limits.TheConstants.{NUMBER_LIMIT}
-use Rattle.fact_codec.specs.Fact.{IsFact}
-use Rattle.array_spec.specs.Sound.{AreElisionsSound, FitTogether, Grows, next_id}
-use Rattle.pyramid.specs.Layers.{facts_of}
-use Rattle.pyramid.specs.lemmas.Contains.{here, there, either, nowhere}
-use Rattle.memory_spec.specs.Memory.{Memory, IsSound}
-use Rattle.memory_spec.specs.Tables.{facts}
-use Rattle.memory_spec.specs.lemmas.AllTables.{all_elisions, all_segments}
 use Rattle.memory_spec.proofs.Created.{not_elided}
-use Rattle.memory_spec.specs.lemmas.Lists.{each_by_recursion}
-use Rattle.memory_spec.specs.Eliding.{AreNewElisions, IsEliding}
-use Rattle.memory_spec.specs.lemmas.Elided.{as_before, says_where, object_tag}
 use Rattle.memory_spec.proofs.Placing.{old_segment_id}
 use Rattle.table_plan.specs.Eliding.{IsUnused, IsElisionOf, AreElisionsOf, IsElidedBy, UnusedMayBeElided, eliding}
 

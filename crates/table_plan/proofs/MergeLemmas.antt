@@ -2,19 +2,10 @@
 use Rattle.std.proofs.Common.{ℕ, zero, suc, ◌+◌, ◌≤◌, List, [], ◌∷◌, ◌++◌, length, map, refl, arith, inl, inr, Contains, get_or}
 use Rattle.std.proofs.lemmas.List.{length-map}
 use Rattle.std.proofs.lemmas.List.Elements.{Contains-append_left, Contains-append_right, Contains-append_cases}
-use Rattle.pur_base.specs.Facts.{object_key, medium_key, address_key, segment_key, elision_key}
-use Rattle.pur_base.specs.Says.{Ascends}
-use Rattle.pur_base.specs.Tags.{tag_of}
-use Rattle.pur_base.specs.declared.facts.AnyFact.{AnyFact}
+use Rattle.memory_spec.specs.Prelude.{object_key, medium_key, address_key, segment_key, elision_key, Ascends, tag_of, AnyFact, Layers, facts_in, facts_of, patch_at, patch_facts, nowhere, Memory, IsSound, facts, all_objects, all_mediums, all_addresses, all_segments, all_elisions, IsMergedAt}
 use Rattle.pur_base.specs.declared.facts.AnyFact.TheVariants as any
-use Rattle.pyramid.specs.Layers.{Layers, facts_in, facts_of, patch_at, patch_facts}
-use Rattle.pyramid.specs.lemmas.Contains.{nowhere}
-use Rattle.memory_spec.specs.Memory.{Memory, IsSound}
-use Rattle.memory_spec.specs.Tables.{facts}
-use Rattle.memory_spec.specs.lemmas.AllTables.{all_objects, all_mediums, all_addresses, all_segments, all_elisions}
 use Rattle.table_plan.specs.Patches.{ArePatchFacts}
 use Rattle.table_plan.specs.Planned.{AreStored}
-use Rattle.memory_spec.specs.Merging.{IsMergedAt}
 use Rattle.table_plan.specs.declared.merged.Merged.{Merged}
 use Rattle.table_plan.specs.declared.merged.Merged.TheVariants as merged
 use Rattle.table_plan.specs.Merging.{merged_facts, pair_facts, table_of, tables_with, IsMergedOf}

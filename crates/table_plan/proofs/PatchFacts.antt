@@ -1,19 +1,8 @@
 -- Facts of one table as those that a patch may hold.
 use Rattle.std.proofs.Common.{◌≡◌, ℕ, suc, ◌<◌, ◌≤◌, List, [], ◌∷◌, map, refl, sym, ap, ◌∙◌, arith, inl, inr, subst, Contains}
-use Rattle.pur_base.specs.Facts.{any_key, table_tag}
-use Rattle.pur_base.specs.Says.{Ascends}
-use Rattle.pur_base.specs.declared.place.Location.{Location}
-use Rattle.pur_base.specs.declared.facts.Target.{Target}
-use Rattle.pur_base.specs.declared.facts.Target.TheVariants.{Stored, Zero}
-use Rattle.pur_base.specs.declared.facts.AddressFact.{AddressFact}
-use Rattle.pur_base.specs.declared.facts.AnyFact.{AnyFact}
+use Rattle.memory_spec.specs.Prelude.{any_key, table_tag, Ascends, Location, Target, Stored, Zero, AddressFact, AnyFact, IsFact, IsLawful, IsTarget, all_contained, ascends-cons, ascends-nil, FitsTarget, FitsInMemory, each_by_recursion, of_map}
 use Rattle.pur_base.specs.declared.facts.AnyFact.TheVariants as any
 use Rattle.fact_codec.specs.Fact as fact
-use Rattle.fact_codec.specs.Fact.{IsFact, IsLawful, IsTarget}
-use Rattle.pyramid.specs.lemmas.Layers.{all_contained}
-use Rattle.pyramid.specs.lemmas.Merges.{ascends-cons, ascends-nil}
-use Rattle.memory_spec.specs.Memory.{FitsTarget, FitsInMemory}
-use Rattle.memory_spec.specs.lemmas.Lists.{each_by_recursion, of_map}
 use Rattle.table_plan.specs.Patches.{ArePatchFacts}
 
 module _ {F : Type 0} (any : F → AnyFact) (key : F → ℕ) (same : (f : F) → any_key (any f) ≡ key f) where

@@ -2,8 +2,7 @@
 use Rattle.std.proofs.Common.{◌≡◌, ℕ, zero, suc, ◌+◌, ◌-◌, ◌*◌, ◌/◌, ◌%◌, ◌<◌, ◌≤◌, Bool, true, false, List, [], ◌∷◌, length, ap, ◌∙◌, arith, cond, get_or, Some, None, slice_get, slice_index_or, ltb, le-ltb, lt-ltb}
 use Rattle.std.proofs.lemmas.Option.{slice_get_within, get_or_from_slice_get}
 use Rattle.std.proofs.lemmas.List.{get_or-map}
-use Rattle.pur_base.specs.declared.limits.TheConstants.{SEGMENT_SECTORS}
-use Rattle.memory_spec.specs.Memory.{Contents}
+use Rattle.memory_spec.specs.Prelude.{SEGMENT_SECTORS, Contents}
 use Rattle.table_plan.specs.Places.{flagged_from, place_of, places_from}
 use Rattle.table_plan.specs.Planned.{sectors_at, extended}
 

@@ -5,32 +5,10 @@ use Rattle.std.proofs.lemmas.Option.{slice_get_within, slice_get-get_or}
 use Rattle.std.proofs.lemmas.List.Elements.{Contains-append_left, Contains-append_right, Contains-append_cases}
 use Rattle.std.proofs.lemmas.List.Folds.{list_any_at}
 use Rattle.std.proofs.lemmas.Grind.{flat_map-append}
-use Rattle.pur_base.specs.Visible.{is_elided}
-use Rattle.pur_base.specs.declared.limits.TheConstants.{SEGMENT_SECTORS}
-use Rattle.pur_base.specs.declared.request.Table.{Table}
-use Rattle.pur_base.specs.declared.place.Location.{Location}
-use Rattle.pur_base.specs.declared.place.Place.{Place}
-use Rattle.pur_base.specs.declared.facts.Target.{Target}
-use Rattle.pur_base.specs.declared.facts.Target.TheVariants.{Stored, Zero}
-use Rattle.pur_base.specs.declared.facts.AddressFact.{AddressFact}
-use Rattle.pur_base.specs.declared.facts.SegmentFact.{SegmentFact}
+use Rattle.memory_spec.specs.Prelude.{is_elided, SEGMENT_SECTORS, Table, Location, Place, Target, Stored, Zero, AddressFact, SegmentFact, NextNumbers, AreNext, facts_of, patch_facts, patches_of, nowhere, facts, Memory, Contents, FitsTarget, FitsInMemory, IsSound, in_map, of_map, all_addresses, IsEliding, IsFlush, IsShrunk, placed_target, repointed, AreRepointed, IsPlacedAt, AreNewSegments, IsPlacing, IsCheckpointed, flush_shrinks, shrunk_sound, same_some}
 use Rattle.pur_base.specs.declared.facts.AnyFact.TheVariants as any
-use Rattle.boot_codec.specs.declared.record.NextNumbers.{NextNumbers}
-use Rattle.boot_codec.specs.Record.{AreNext}
-use Rattle.pyramid.specs.Layers.{facts_of, patch_facts, patches_of}
-use Rattle.pyramid.specs.lemmas.Contains.{nowhere}
-use Rattle.memory_spec.specs.Tables.{facts}
-use Rattle.memory_spec.specs.Memory.{Memory, Contents, FitsTarget, FitsInMemory, IsSound}
-use Rattle.memory_spec.specs.lemmas.Lists.{in_map, of_map}
-use Rattle.memory_spec.specs.lemmas.AllTables.{all_addresses}
 use Rattle.memory_spec.proofs.Putting.{address_numbers}
-use Rattle.memory_spec.specs.Eliding.{IsEliding}
-use Rattle.memory_spec.specs.Flushing.{IsFlush, IsShrunk}
-use Rattle.memory_spec.specs.Placing.{placed_target, repointed, AreRepointed, IsPlacedAt, AreNewSegments, IsPlacing}
-use Rattle.memory_spec.specs.Checkpoint.{IsCheckpointed}
 use Rattle.memory_spec.proofs.Eliding.{eliding_reads}
-use Rattle.memory_spec.specs.lemmas.Flushed.{flush_shrinks}
-use Rattle.memory_spec.specs.lemmas.Shrinking.{shrunk_sound}
 use Rattle.memory_spec.proofs.Placing.{placing_sound, staged_target, other_target, which_place, old_segment_id}
 use Rattle.table_plan.specs.Places.{is_staged_at, is_named, flagged_from, place_of, places_from, place_or_any, place_in}
 use Rattle.table_plan.specs.Segments.{segments_from}
@@ -38,7 +16,6 @@ use Rattle.table_plan.specs.Eliding.{eliding}
 use Rattle.table_plan.specs.Planned.{sectors_at, extended, AreStored, IsPlanned, ElidedIsCheckpointed, PlannedIsCheckpointed}
 use Rattle.table_plan.proofs.PlacesLemmas.{is_flagged, placed_contents, older_contents}
 use Rattle.table_plan.proofs.SegmentsLemmas.{is_new_segment, holds_rank, rooms}
-use Rattle.array_spec.specs.lemmas.Mediums.{same_some}
 
 -- ---- a fact that names a staged sector is found
 

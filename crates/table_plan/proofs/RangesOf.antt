@@ -6,13 +6,10 @@ use Rattle.std.proofs.lemmas.Bool.{and_from, and_parts, cases_lt, leb-true, leb-
 use Rattle.std.proofs.lemmas.List.{get_or_default, take_more}
 use Rattle.std.proofs.lemmas.List.Elements.{Contains-append_left, Contains-push, Contains-push_cases}
 use Rattle.std.proofs.lemmas.List.Folds.{list_any_at}
-use Rattle.pur_base.specs.Visible.{is_within}
+use Rattle.memory_spec.specs.Prelude.{is_within, ElisionFact, here, there, pairs_of}
 use Rattle.pur_base.specs.declared.request.Table.TheVariants as table
-use Rattle.pur_base.specs.declared.facts.ElisionFact.{ElisionFact}
 use Rattle.elision.specs.Ranges.{AreApart}
 use Rattle.elision.proofs.SearchLemmas.{starts_rise}
-use Rattle.pyramid.specs.lemmas.Contains.{here, there}
-use Rattle.memory_spec.specs.lemmas.Lists.{pairs_of}
 use Rattle.table_plan.specs.Eliding.{IsElisionOf, AreElisionsOf}
 use Rattle.table_plan.proofs.ElidedLemmas.{elisions_alike}
 

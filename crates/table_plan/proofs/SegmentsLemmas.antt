@@ -2,10 +2,7 @@
 use Rattle.std.proofs.Common.{◌≡◌, ℕ, suc, ◌+◌, ◌-◌, ◌*◌, ◌/◌, ◌%◌, ◌<◌, ◌≤◌, min, List, [], ◌∷◌, length, sym, ap, ◌∙◌, arith, inl, inr, subst, Some, slice_get, Contains}
 use Rattle.std.specs.Int.{div_ceil}
 use Rattle.std.proofs.lemmas.Bool.{cases_lt}
-use Rattle.pur_base.specs.declared.limits.TheConstants.{SEGMENT_SECTORS}
-use Rattle.pur_base.specs.declared.place.Place.{Place}
-use Rattle.pur_base.specs.declared.facts.SegmentFact.{SegmentFact}
-use Rattle.pyramid.specs.lemmas.Contains.{here, there, either, nowhere}
+use Rattle.memory_spec.specs.Prelude.{SEGMENT_SECTORS, Place, SegmentFact, here, there, either, nowhere}
 use Rattle.table_plan.specs.Segments.{segments_from}
 
 -- what a new segment is

@@ -6,7 +6,7 @@ use Rattle.std.specs.List.{filter_map}
 use Rattle.std.proofs.lemmas.Bool.{cases_lt, lt-ltb, ltb-true, ltb-false}
 use Rattle.std.proofs.lemmas.List.{take_more}
 use Rattle.std.proofs.lemmas.List.Elements.{filter_map-append, filter_more}
-use Rattle.pur_base.specs.declared.facts.AddressFact.{AddressFact}
+use Rattle.memory_spec.specs.Prelude.{AddressFact}
 use Rattle.table_plan.specs.Unused.{last_witness, witness_or}
 use Rattle.table_plan.specs.declared.witnesses.Witness.{Witness}
 

@@ -1,16 +1,7 @@
 -- What eliding segments that no address names makes of memory: a fact for each of their ids, behind the unflushed ones.
 use Rattle.std.specs.Prelude.{◌≡◌, ◌≢◌, ◌⊎◌, ℕ, ◌+◌, ◌<◌, ◌≤◌, IsTrue, List, [], ◌∷◌, ◌++◌, length, Some, Contains}
-use Rattle.pur_base.specs.Facts.{Facts}
-use Rattle.pur_base.specs.Visible.{address, segment, is_elided}
+use Rattle.memory_spec.specs.Prelude.{Facts, address, segment, is_elided, Location, Stored, SegmentFact, ElisionFact, NUMBER_LIMIT, facts, Memory, IsSound, IsEliding}
 use Rattle.pur_base.specs.declared.request.Table.TheVariants as table
-use Rattle.pur_base.specs.declared.place.Location.{Location}
-use Rattle.pur_base.specs.declared.facts.Target.TheVariants.{Stored}
-use Rattle.pur_base.specs.declared.facts.SegmentFact.{SegmentFact}
-use Rattle.pur_base.specs.declared.facts.ElisionFact.{ElisionFact}
-use Rattle.fact_codec.specs.declared.limits.TheConstants.{NUMBER_LIMIT}
-use Rattle.memory_spec.specs.Tables.{facts}
-use Rattle.memory_spec.specs.Memory.{Memory, IsSound}
-use Rattle.memory_spec.specs.Eliding.{IsEliding}
 
 -- ---- which segments
 

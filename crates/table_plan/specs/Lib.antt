@@ -5,3 +5,4 @@ pub mod Unused
 pub mod Eliding
 pub mod Planned
 pub mod Merging
+pub mod Prelude

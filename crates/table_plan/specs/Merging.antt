@@ -1,14 +1,8 @@
 -- Two patches of a table that stand as one.
 use Rattle.std.specs.Prelude.{ℕ, ◌+◌, ◌<◌, false, ◌==◌, List, ◌++◌, length, map, take, drop, Option}
-use Rattle.pur_base.specs.Facts.{object_key, medium_key, address_key, segment_key, elision_key, never, is_empty_range, apart, is_narrower}
-use Rattle.pur_base.specs.Visible.{is_elided}
-use Rattle.pur_base.specs.declared.request.Table.{Table}
+use Rattle.memory_spec.specs.Prelude.{object_key, medium_key, address_key, segment_key, elision_key, never, is_empty_range, apart, is_narrower, is_elided, Table, AnyFact, Layers, IsMerged, patch_at, patch_facts, patches_of, Memory, Tables, flushed}
 use Rattle.pur_base.specs.declared.request.Table.TheVariants as table
-use Rattle.pur_base.specs.declared.facts.AnyFact.{AnyFact}
 use Rattle.pur_base.specs.declared.facts.AnyFact.TheVariants as any
-use Rattle.pyramid.specs.Layers.{Layers, IsMerged, patch_at, patch_facts, patches_of}
-use Rattle.memory_spec.specs.Memory.{Memory}
-use Rattle.memory_spec.specs.Tables.{Tables, flushed}
 use Rattle.table_plan.specs.declared.merged.Merged.{Merged}
 use Rattle.table_plan.specs.declared.merged.Merged.TheVariants as merged
 

@@ -1,9 +1,7 @@
 -- What a new patch holds, so that it can be written.
 use Rattle.std.specs.Prelude.{◌≡◌, ℕ, ◌<◌, List, AllPairs}
 use Rattle.std.specs.List.{AllByRecursion}
-use Rattle.pur_base.specs.Facts.{any_key, table_tag}
-use Rattle.pur_base.specs.declared.facts.AnyFact.{AnyFact}
-use Rattle.fact_codec.specs.Fact.{IsFact, IsLawful}
+use Rattle.memory_spec.specs.Prelude.{any_key, table_tag, AnyFact, IsFact, IsLawful}
 
 -- facts of the table of that tag as a patch may hold them: each has a spelling, and keys ascend
 pub record ArePatchFacts (tag : ℕ) (facts : List AnyFact) : Type 0 where

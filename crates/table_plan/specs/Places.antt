@@ -1,11 +1,7 @@
 -- Where staged sectors are placed: in order of staging, in new segments one after another.
 use Rattle.std.specs.Prelude.{◌≡◌, ℕ, ◌+◌, ◌/◌, ◌%◌, Bool, false, ◌&&◌, ◌==◌, if◌then◌else◌, List, [], ◌∷◌, Option, Some, None, IsSome, slice_index_or}
 use Rattle.std.specs.List.{list_any}
-use Rattle.pur_base.specs.declared.limits.TheConstants.{SEGMENT_SECTORS}
-use Rattle.pur_base.specs.declared.place.Location.{Location}
-use Rattle.pur_base.specs.declared.facts.Target.{Target}
-use Rattle.pur_base.specs.declared.facts.Target.TheVariants.{Stored, Zero}
-use Rattle.pur_base.specs.declared.facts.AddressFact.{AddressFact}
+use Rattle.memory_spec.specs.Prelude.{SEGMENT_SECTORS, Location, Target, Stored, Zero, AddressFact}
 
 -- whether the target is the staged sector of that index
 abbrev pub is_staged_at : ℕ → Target → Bool

@@ -2,23 +2,8 @@
 use Rattle.std.specs.Prelude.{◌≡◌, ℕ, ◌+◌, ◌-◌, ◌*◌, ◌<◌, ◌≤◌, Bool, false, List, [], ◌++◌, length, map, Contains, slice_index_or, nat_lt, if◌then◌else◌}
 use Rattle.std.specs.List.{AllByRecursion}
 use Rattle.std.specs.Int.{div_ceil}
-use Rattle.pur_base.specs.Facts.{object_key, medium_key, address_key, segment_key, elision_key}
-use Rattle.pur_base.specs.Plain.{Array}
-use Rattle.pur_base.specs.declared.limits.TheConstants.{SEGMENT_SECTORS, SEGMENT_SHARDS}
-use Rattle.pur_base.specs.declared.place.Place.{Place}
-use Rattle.pur_base.specs.declared.place.Location.{Location}
-use Rattle.pur_base.specs.declared.facts.Target.TheVariants.{Stored}
-use Rattle.pur_base.specs.declared.facts.AddressFact.{AddressFact}
-use Rattle.pur_base.specs.declared.facts.ElisionFact.{ElisionFact}
-use Rattle.byte_fields.specs.Places.{FitsBytes}
-use Rattle.fact_codec.specs.declared.limits.TheConstants.{NUMBER_LIMIT}
-use Rattle.pyramid.specs.Layers.{IsFlushed, facts_of}
-use Rattle.memory_spec.specs.Memory.{Memory, Contents, ReadsAs}
-use Rattle.memory_spec.specs.Whole.{AreLayered}
-use Rattle.memory_spec.specs.Flushing.{IsTableFlushed}
-use Rattle.memory_spec.specs.Placing.{repointed}
-use Rattle.memory_spec.specs.Eliding.{IsEliding}
-use Rattle.memory_spec.specs.Checkpoint.{IsCheckpointed}
+use Rattle.memory_spec.specs.Prelude.{object_key, medium_key, address_key, segment_key, elision_key, Array, SEGMENT_SECTORS, SEGMENT_SHARDS, Place, Location, Stored, AddressFact, ElisionFact, NUMBER_LIMIT, IsFlushed, facts_of, Memory, Contents, ReadsAs, AreLayered, IsTableFlushed, repointed, IsEliding, IsCheckpointed}
+use Rattle.byte_fields.specs.Prelude.{FitsBytes}
 use Rattle.table_plan.specs.Places.{is_named, flagged_from, places_from, place_in}
 use Rattle.table_plan.specs.Segments.{segments_from}
 use Rattle.table_plan.specs.Eliding.{eliding}

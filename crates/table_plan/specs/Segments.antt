@@ -1,8 +1,6 @@
 -- New segments for so many sectors.
 use Rattle.std.specs.Prelude.{ℕ, ◌+◌, ◌-◌, min, List, [], ◌∷◌}
-use Rattle.pur_base.specs.declared.limits.TheConstants.{SEGMENT_SECTORS}
-use Rattle.pur_base.specs.declared.place.Place.{Place}
-use Rattle.pur_base.specs.declared.facts.SegmentFact.{SegmentFact}
+use Rattle.memory_spec.specs.Prelude.{SEGMENT_SECTORS, Place, SegmentFact}
 
 -- one on each of these places, full until no sector is left, from an id and a number on
 abbrev pub segments_from : ℕ → ℕ → ℕ → List (List Place) → List SegmentFact

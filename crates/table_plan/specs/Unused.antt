@@ -1,8 +1,6 @@
 -- Which segment a sector stands in, and which addresses bear witness of segments.
 use Rattle.std.specs.Prelude.{ℕ, Bool, false, ◌==◌, cond, List, [], ◌∷◌, Option, Some}
-use Rattle.pur_base.specs.declared.facts.Target.{Target}
-use Rattle.pur_base.specs.declared.facts.Target.TheVariants.{Stored, Zero}
-use Rattle.pur_base.specs.declared.facts.AddressFact.{AddressFact}
+use Rattle.memory_spec.specs.Prelude.{Target, Stored, Zero, AddressFact}
 use Rattle.table_plan.specs.declared.witnesses.Witness.{Witness}
 
 -- whether the sector stands in the segment

@@ -3,22 +3,9 @@ use Rattle.std.proofs.Common.{◌≡◌, ◌≢◌, ℕ, Bool, ◌<◌, ◌≤�
 use Rattle.std.specs.Prelude.{Option, Some, None, IsSome, IfSome, IfNone, option_map}
 use Rattle.std.proofs.lemmas.Bool.{false≢true}
 use Rattle.std.proofs.lemmas.List.Elements.{All-contains, All-from_recursion, recursion_from_All}
-use Rattle.pur_base.specs.Facts.{Facts, address_key, object_key, segment_key, never}
-use Rattle.pur_base.specs.Keys.{id_of, key_of}
-use Rattle.pur_base.specs.Says.{says, Ascends}
-use Rattle.pur_base.specs.Visible.{address, is_elided, object, segment}
-use Rattle.pur_base.specs.declared.facts.AddressFact.{AddressFact}
-use Rattle.pur_base.specs.declared.facts.ObjectFact.{ObjectFact}
-use Rattle.pur_base.specs.declared.facts.SegmentFact.{SegmentFact}
-use Rattle.pur_base.specs.declared.facts.Target.{Target}
-use Rattle.pur_base.specs.declared.facts.Target.TheVariants.{Stored, Zero}
-use Rattle.pur_base.specs.declared.place.Location.{Location}
+use Rattle.array_spec.specs.Prelude.{Facts, address_key, object_key, segment_key, never, id_of, key_of, says, Ascends, address, is_elided, object, segment, AddressFact, ObjectFact, SegmentFact, Target, Stored, Zero, Location}
 use Rattle.pur_base.specs.declared.request.Table.TheVariants as table
-use Rattle.pyramid.specs.Layers.{newest_of}
-use Rattle.pyramid.specs.Shown.{IsShown}
-use Rattle.pyramid.specs.lemmas.Keys.{id_of_key}
-use Rattle.pyramid.specs.lemmas.Layers.{all_contained}
-use Rattle.pyramid.specs.lemmas.Shown.{said_found}
+use Rattle.pyramid.specs.Prelude.{newest_of, IsShown, id_of_key, all_contained, said_found}
 use Rattle.pyramid.proofs.SpanLemmas.{only_one}
 use Rattle.table_soundness.specs.Addresses.{AreAddressesRight, AreAddressesListed, EndsWithin, IsSmall, IsThere}
 use Rattle.table_soundness.specs.Last.{IsLastOf}

@@ -4,13 +4,9 @@ use Rattle.std.proofs.lemmas.Bool.{cases_lt, cases_eq}
 use Rattle.std.proofs.lemmas.List.Edits.{Swapped, swapped_from_swap, length-swap}
 use Rattle.std.proofs.lemmas.List.Elements.{All-map, All-weaker}
 use Rattle.std.proofs.lemmas.List.Sorted.{All-permutation, IsPermutation-keeps, IsPermutation-sym}
-use Rattle.pur_base.specs.Tags.{tag_of}
+use Rattle.array_spec.specs.Prelude.{tag_of, ElisionFact, Table, AreElisionsSound, FitTogether, Grows, IsFact}
 use Rattle.pur_base.specs.declared.facts.AnyFact.TheVariants as any
-use Rattle.pur_base.specs.declared.facts.ElisionFact.{ElisionFact}
-use Rattle.pur_base.specs.declared.request.Table.{Table}
 use Rattle.pur_base.specs.declared.request.Table.TheVariants as table
-use Rattle.array_spec.specs.Sound.{AreElisionsSound, FitTogether, Grows}
-use Rattle.fact_codec.specs.Fact.{IsFact}
 use Rattle.table_soundness.specs.declared.spans.Span.{Span}
 use Rattle.table_soundness.specs.Spans.{span_of, BothGrow, FitSpans, GrowSpans, IsSpan}
 use Rattle.table_soundness.proofs.PairLemmas.{pairs_map, pairs_unmap}

@@ -4,23 +4,10 @@ use Rattle.std.specs.Prelude.{IsTrue, IfNone, IfSome, ◌↔◌, None, option_an
 use Rattle.std.proofs.lemmas.Bool.{false≢true, eq-eqb}
 use Rattle.std.proofs.lemmas.List.Elements.{All-weaker, All-contains}
 use Rattle.std.proofs.lemmas.List.Sorted.{IsPermutation-append_left, IsPermutation-sym, IsPermutation-trans}
-use Rattle.pur_base.specs.Facts.{medium_key, is_empty_range}
-use Rattle.pur_base.specs.Keys.{id_of}
-use Rattle.pur_base.specs.Says.{newest, has_key, says, unless_empty}
-use Rattle.pur_base.specs.Tags.{tag_of}
+use Rattle.array_spec.specs.Prelude.{medium_key, is_empty_range, id_of, newest, has_key, says, unless_empty, tag_of, ElisionFact, MediumFact, AddressFact, ObjectFact, SegmentFact, Table, IsFact}
 use Rattle.pur_base.specs.declared.facts.AnyFact.TheVariants as any
-use Rattle.pur_base.specs.declared.facts.ElisionFact.{ElisionFact}
-use Rattle.pur_base.specs.declared.facts.MediumFact.{MediumFact}
-use Rattle.pur_base.specs.declared.facts.AddressFact.{AddressFact}
-use Rattle.pur_base.specs.declared.facts.ObjectFact.{ObjectFact}
-use Rattle.pur_base.specs.declared.facts.SegmentFact.{SegmentFact}
-use Rattle.pur_base.specs.declared.request.Table.{Table}
 use Rattle.pur_base.specs.declared.request.Table.TheVariants as table
-use Rattle.fact_codec.specs.Fact.{IsFact}
-use Rattle.pyramid.specs.Layers.{facts_of}
-use Rattle.pyramid.specs.Shown.{IsShown}
-use Rattle.pyramid.specs.lemmas.Layers.{all_contained}
-use Rattle.pyramid.specs.lemmas.Shown.{said_found, said_whole}
+use Rattle.pyramid.specs.Prelude.{facts_of, IsShown, all_contained, said_found, said_whole}
 use Rattle.table_soundness.specs.Addresses.{IsSmall}
 use Rattle.table_soundness.specs.Elided.{IsRange}
 use Rattle.table_soundness.specs.Faults.{first_false, IsFirst}

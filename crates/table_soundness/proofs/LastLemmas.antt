@@ -1,9 +1,8 @@
 -- Ids rise with keys, so the facts of an id stand side by side.
 use Rattle.std.proofs.Common.{◌≡◌, ◌≢◌, ℕ, ◌-◌, ◌<◌, ◌≤◌, List, length, get_or, sym, subst, arith, inl, inr, All}
 use Rattle.std.proofs.lemmas.Bool.{cases_lt}
-use Rattle.pur_base.specs.Keys.{id_of}
-use Rattle.pur_base.specs.Says.{Ascends}
-use Rattle.pyramid.specs.lemmas.Layers.{ascends_ordered}
+use Rattle.array_spec.specs.Prelude.{id_of, Ascends}
+use Rattle.pyramid.specs.Prelude.{ascends_ordered}
 use Rattle.pyramid.proofs.SearchLemmas.{rises}
 use Rattle.table_soundness.specs.Last.{IsLastOf}
 

@@ -5,21 +5,9 @@ use Rattle.std.proofs.lemmas.Bool.{cases_lt, false≢true}
 use Rattle.std.proofs.lemmas.List.{get_or_default}
 use Rattle.std.proofs.lemmas.List.Elements.{All-contains, All-from_recursion, recursion_from_All, Contains-get_or}
 use Rattle.std.proofs.lemmas.List.Sorted.{Contains-permutation, IsPermutation-sym}
-use Rattle.pur_base.specs.Facts.{Facts, medium_key, object_key, is_empty_range, never}
-use Rattle.pur_base.specs.Keys.{id_of, key_of}
-use Rattle.pur_base.specs.Mediums.{IsOver}
-use Rattle.pur_base.specs.Says.{says, Ascends}
-use Rattle.pur_base.specs.Visible.{is_elided, object, range}
-use Rattle.pur_base.specs.declared.facts.MediumFact.{MediumFact}
-use Rattle.pur_base.specs.declared.facts.ObjectFact.{ObjectFact}
-use Rattle.pur_base.specs.declared.facts.ObjectKind.{ObjectKind}
-use Rattle.pur_base.specs.declared.facts.ObjectKind.TheVariants.{Volume, Snapshot}
+use Rattle.array_spec.specs.Prelude.{Facts, medium_key, object_key, is_empty_range, never, id_of, key_of, IsOver, says, Ascends, is_elided, object, range, MediumFact, ObjectFact, ObjectKind, Volume, Snapshot}
 use Rattle.pur_base.specs.declared.request.Table.TheVariants as table
-use Rattle.pyramid.specs.Shown.{IsShown}
-use Rattle.pyramid.specs.lemmas.Contains.{here, there, either, nowhere}
-use Rattle.pyramid.specs.lemmas.Keys.{id_of_key}
-use Rattle.pyramid.specs.lemmas.Layers.{all_contained}
-use Rattle.pyramid.specs.lemmas.Shown.{said_found}
+use Rattle.pyramid.specs.Prelude.{IsShown, here, there, either, nowhere, id_of_key, all_contained, said_found}
 use Rattle.table_soundness.specs.Last.{IsLastOf}
 use Rattle.table_soundness.specs.Mediums.{AreMediumsRight, AreMediumsListed, EndsWithin, IsFrozen, IsRange, IsSmall, LeadsElsewhere, LiesBefore, volume_mediums, with_medium}
 

@@ -4,8 +4,7 @@ use Rattle.std.specs.List.Sorted.{IsNonDecreasingBy}
 use Rattle.std.proofs.lemmas.Bool.{cases_lt}
 use Rattle.std.proofs.lemmas.List.{get_or_default, take_more, take_all, length-take, get_or-take}
 use Rattle.std.proofs.lemmas.List.Elements.{All-nil, All-cons, Contains-append_left, Contains-append_right, Contains-append_cases, Contains-get_or}
-use Rattle.pyramid.specs.lemmas.Contains.{here, either, nowhere}
-use Rattle.pyramid.specs.lemmas.Layers.{all_contained}
+use Rattle.pyramid.specs.Prelude.{here, either, nowhere, all_contained}
 use Rattle.table_soundness.specs.declared.spans.Span.{Span}
 use Rattle.table_soundness.specs.Spans.{rank, FitSpans, IsPut, IsRefused, IsSpan}
 use Rattle.table_soundness.proofs.PairLemmas.{pairs_cons, pairs_join, pairs_nil}

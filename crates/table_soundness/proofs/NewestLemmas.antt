@@ -4,16 +4,9 @@ use Rattle.std.specs.Prelude.{Option, Some, None, IfSome, nat_lt, if◌then◌el
 use Rattle.std.proofs.lemmas.Bool.{ltb-true, ltb-false, eqb-true}
 use Rattle.std.proofs.lemmas.List.{append-nil}
 use Rattle.std.proofs.lemmas.List.Elements.{All-cons, All-head, All-tail}
-use Rattle.pur_base.specs.Keys.{id_of}
-use Rattle.pur_base.specs.Says.{has_key, unless_empty, Ascends}
-use Rattle.pyramid.specs.Layers.{facts_of, newest_of, stays}
-use Rattle.pyramid.specs.Merging.{later}
-use Rattle.pyramid.specs.Shown.{IsShown}
-use Rattle.pyramid.specs.lemmas.Contains.{filtered, of_filter}
-use Rattle.pyramid.specs.lemmas.Merges.{none_above, ascends-head, ascends-tail, ascends-cons, ascends-nil, ascends_filter}
-use Rattle.pyramid.specs.lemmas.Newest.{newest-append, newest-cons, newest_found}
+use Rattle.array_spec.specs.Prelude.{id_of, has_key, unless_empty, Ascends}
+use Rattle.pyramid.specs.Prelude.{facts_of, newest_of, stays, later, IsShown, filtered, of_filter, none_above, ascends-head, ascends-tail, ascends-cons, ascends-nil, ascends_filter, newest-append, newest-cons, newest_found, passes_filter, said_whole, whole_said}
 use Rattle.pyramid.proofs.PlaceLemmas.{facts_append}
-use Rattle.pyramid.specs.lemmas.Shown.{passes_filter, said_whole, whole_said}
 use Rattle.pyramid.proofs.SpanLemmas.{only_one}
 use Rattle.table_soundness.specs.Newest.{newer_one, weave, woven, AreNewest}
 

@@ -2,16 +2,9 @@
 use Rattle.std.proofs.Common.{◌≡◌, ◌≢◌, ◌<◌, ◌≤◌, ◌^◌, ◌∙◌, false, List, length, sym, subst, All, AllPairs}
 use Rattle.std.specs.List.{AllByRecursion}
 use Rattle.std.proofs.lemmas.List.Elements.{All-weaker, All-contains, All-from_recursion, recursion_from_All}
-use Rattle.pur_base.specs.Facts.{Facts, object_key, never}
-use Rattle.pur_base.specs.Visible.{is_elided, objects}
-use Rattle.pur_base.specs.declared.facts.ObjectFact.{ObjectFact}
-use Rattle.pur_base.specs.declared.limits.TheConstants.{OBJECTS}
+use Rattle.array_spec.specs.Prelude.{Facts, object_key, never, is_elided, objects, ObjectFact, OBJECTS, NextNumbers, OwnsMedium}
 use Rattle.pur_base.specs.declared.request.Table.TheVariants as table
-use Rattle.boot_codec.specs.declared.record.NextNumbers.{NextNumbers}
-use Rattle.array_spec.specs.Sound.{OwnsMedium}
-use Rattle.elision.specs.Ranges.{ElidedRanges}
-use Rattle.pyramid.specs.Shown.{IsShown}
-use Rattle.pyramid.specs.lemmas.Layers.{all_contained}
+use Rattle.pyramid.specs.Prelude.{ElidedRanges, IsShown, all_contained}
 use Rattle.object_table.specs.Objects.{number}
 use Rattle.object_table.proofs.ObjectLemmas.{by_ids}
 use Rattle.table_soundness.specs.Elided.{AreElidedBy}

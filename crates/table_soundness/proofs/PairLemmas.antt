@@ -2,7 +2,7 @@
 use Rattle.std.proofs.Common.{zero, suc, List, [], ◌∷◌, ◌++◌, map, arith, All, AllPairs}
 use Rattle.std.specs.List.{flat_map}
 use Rattle.std.proofs.lemmas.List.Elements.{All-nil, All-cons, All-head, All-tail, All-append, All-map, All-contains, Contains-append_left, Contains-append_right}
-use Rattle.pyramid.specs.lemmas.Layers.{all_contained}
+use Rattle.pyramid.specs.Prelude.{all_contained}
 
 module _ {X : Type 0} (P : X → Type 0) where
   pub all_left : (xs ys : List X) → All P (xs ++ ys) → All P xs

@@ -1,8 +1,7 @@
 -- What holds of all facts holds of those of a patch.
 use Rattle.std.proofs.Common.{◌≡◌, ℕ, zero, suc, ◌<◌, List, [], ◌∷◌, length, get_or, subst, arith, All, Contains}
 use Rattle.std.proofs.lemmas.List.Elements.{All-contains, Contains-append_left, Contains-append_right}
-use Rattle.pyramid.specs.Layers.{facts_of}
-use Rattle.pyramid.specs.lemmas.Layers.{all_contained}
+use Rattle.pyramid.specs.Prelude.{facts_of, all_contained}
 
 module _ {F : Type 0} where
   pub contains_patch : (ps : List (List F)) (i : ℕ) (p : List F) (f : F) → i < length ps → p ≡ get_or ps i p → Contains p f → Contains (facts_of ps) f

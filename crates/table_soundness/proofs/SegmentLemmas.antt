@@ -5,23 +5,9 @@ use Rattle.std.specs.List.{AllByRecursion, flat_map}
 use Rattle.std.proofs.lemmas.List.{map-append}
 use Rattle.std.proofs.lemmas.List.Concat.{flat_map-append}
 use Rattle.std.proofs.lemmas.List.Elements.{All-nil, All-append, All-map, All-weaker, All-contains, All-from_recursion, recursion_from_All}
-use Rattle.pur_base.specs.Devices.{Geometry}
-use Rattle.pur_base.specs.Facts.{Facts, segment_key, never}
-use Rattle.pur_base.specs.Keys.{key_of}
-use Rattle.pur_base.specs.Says.{says}
-use Rattle.pur_base.specs.Visible.{is_elided, segments}
-use Rattle.pur_base.specs.declared.limits.TheConstants.{SEGMENT_SHARDS}
-use Rattle.pur_base.specs.declared.place.Place.{Place}
-use Rattle.pur_base.specs.declared.facts.SegmentFact.{SegmentFact}
+use Rattle.array_spec.specs.Prelude.{Geometry, Facts, segment_key, never, key_of, says, is_elided, segments, SEGMENT_SHARDS, Place, SegmentFact, AscendFrom, IsBootRecord, IsPatch, IsSegment, Patch, PatchSegment, BootRecord, AreApart, named_segments}
 use Rattle.pur_base.specs.declared.request.Table.TheVariants as table
-use Rattle.boot_codec.specs.Record.{AscendFrom, IsBootRecord, IsPatch, IsSegment}
-use Rattle.boot_codec.specs.declared.patch.Patch.{Patch}
-use Rattle.boot_codec.specs.declared.patch.PatchSegment.{PatchSegment}
-use Rattle.boot_codec.specs.declared.record.BootRecord.{BootRecord}
-use Rattle.array_spec.specs.Sound.{AreApart, named_segments}
-use Rattle.pyramid.specs.Shown.{IsShown}
-use Rattle.pyramid.specs.lemmas.Layers.{all_contained}
-use Rattle.pyramid.specs.lemmas.Shown.{said_found}
+use Rattle.pyramid.specs.Prelude.{IsShown, all_contained, said_found}
 use Rattle.segment_table.specs.Segments.{number}
 use Rattle.segment_table.proofs.SegmentLemmas.{by_ids}
 use Rattle.table_soundness.specs.Items.{AreSegmentsRight, AreSegmentsListed}

@@ -5,23 +5,10 @@ use Rattle.std.specs.List.{AllByRecursion, AllZip}
 use Rattle.std.proofs.lemmas.List.{append-nil, map-append}
 use Rattle.std.proofs.lemmas.List.Concat.{flat_map-append}
 use Rattle.std.proofs.lemmas.List.Elements.{All-nil, All-cons, All-head, All-tail, All-append, All-map, All-contains, All-from_recursion, recursion_from_All, filter_map-append}
-use Rattle.pur_base.specs.Devices.{Geometry}
-use Rattle.pur_base.specs.Facts.{Facts, by_table, table_tag, any_number, as_object, as_medium, as_address, as_segment, as_elision}
-use Rattle.pur_base.specs.declared.facts.AnyFact.{AnyFact}
+use Rattle.array_spec.specs.Prelude.{Geometry, Facts, by_table, table_tag, any_number, as_object, as_medium, as_address, as_segment, as_elision, AnyFact, ObjectFact, MediumFact, AddressFact, SegmentFact, ElisionFact, Table, Patch, BootRecord, AreIdsBelow, AreObjectsSound, AreMediumsSound, AreAddressesSound, AreSegmentsSound, AreElisionsSound, AreSequencesSound, AreSound, IsOlder, with_facts, all_facts, in_patches}
 use Rattle.pur_base.specs.declared.facts.AnyFact.TheVariants as any
-use Rattle.pur_base.specs.declared.facts.ObjectFact.{ObjectFact}
-use Rattle.pur_base.specs.declared.facts.MediumFact.{MediumFact}
-use Rattle.pur_base.specs.declared.facts.AddressFact.{AddressFact}
-use Rattle.pur_base.specs.declared.facts.SegmentFact.{SegmentFact}
-use Rattle.pur_base.specs.declared.facts.ElisionFact.{ElisionFact}
-use Rattle.pur_base.specs.declared.request.Table.{Table}
 use Rattle.pur_base.specs.declared.request.Table.TheVariants as table
-use Rattle.boot_codec.specs.declared.patch.Patch.{Patch}
-use Rattle.boot_codec.specs.declared.record.BootRecord.{BootRecord}
-use Rattle.array_spec.specs.Sound.{AreIdsBelow, AreObjectsSound, AreMediumsSound, AreAddressesSound, AreSegmentsSound, AreElisionsSound, AreSequencesSound, AreSound, IsOlder, with_facts}
-use Rattle.array_spec.specs.Stored.{all_facts, in_patches}
-use Rattle.pyramid.specs.Layers.{facts_of, AreBelow, Rises}
-use Rattle.pyramid.specs.lemmas.Layers.{all_contained}
+use Rattle.pyramid.specs.Prelude.{facts_of, AreBelow, Rises, all_contained}
 use Rattle.table_soundness.specs.Faults.{facts_in, numbers_before, numbers_of, patches_in, AreNamed, AreNumbersOf, IsFault, IsNamed, IsTableSound}
 use Rattle.table_soundness.specs.declared.tables.LoadedTables.{LoadedTables}
 use Rattle.table_soundness.proofs.PairLemmas.{all_flat, all_left, all_right, all_unmap, of_flat, pairs_cons, pairs_head, pairs_join, pairs_left, pairs_map, pairs_nil, pairs_right, pairs_tail, pairs_unmap}

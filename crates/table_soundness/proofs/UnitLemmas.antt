@@ -4,10 +4,8 @@ use Rattle.std.specs.Prelude.{⊤}
 use Rattle.std.specs.List.{AllByRecursion, flat_map}
 use Rattle.std.proofs.lemmas.List.{map-append}
 use Rattle.std.proofs.lemmas.List.Elements.{All-nil, All-cons, All-head, All-tail, All-map, All-weaker, All-contains, All-from_recursion, recursion_from_All}
-use Rattle.pur_base.specs.declared.place.Place.{Place}
-use Rattle.boot_codec.specs.Record.{AscendFrom}
-use Rattle.array_spec.specs.Sound.{AreApart}
-use Rattle.pyramid.specs.lemmas.Layers.{all_contained}
+use Rattle.array_spec.specs.Prelude.{Place, AscendFrom, AreApart}
+use Rattle.pyramid.specs.Prelude.{all_contained}
 use Rattle.table_soundness.specs.Places.{code_of}
 use Rattle.table_soundness.proofs.PairLemmas.{all_flat, of_flat, all_unmap, pairs_nil, pairs_head, pairs_tail, pairs_cons, pairs_right, pairs_across, pairs_join}
 

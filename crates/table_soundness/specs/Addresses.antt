@@ -1,14 +1,7 @@
 -- What is judged of addresses.
 use Rattle.std.specs.Prelude.{◌≡◌, ℕ, ◌<◌, List, All, Contains, ⊤}
 use Rattle.std.specs.List.{AllByRecursion}
-use Rattle.pur_base.specs.Facts.{Facts}
-use Rattle.pur_base.specs.declared.facts.ObjectFact.{ObjectFact}
-use Rattle.pur_base.specs.declared.facts.AddressFact.{AddressFact}
-use Rattle.pur_base.specs.declared.facts.SegmentFact.{SegmentFact}
-use Rattle.pur_base.specs.declared.facts.Target.{Target}
-use Rattle.pur_base.specs.declared.facts.Target.TheVariants.{Stored, Zero}
-use Rattle.pur_base.specs.declared.limits.TheConstants.{OBJECT_SECTORS}
-use Rattle.array_spec.specs.Sound.{AreAddressesSound}
+use Rattle.array_spec.specs.Prelude.{Facts, ObjectFact, AddressFact, SegmentFact, Target, Stored, Zero, OBJECT_SECTORS, AreAddressesSound}
 
 -- the mediums of addresses are below the next one, also of facts that aren't visible, and each sector is one of its object's and was placed
 pub record AreAddressesRight (next_medium : ℕ) (facts : Facts) : Type 0 where

@@ -1,10 +1,8 @@
 -- What elisions elide.
 use Rattle.std.specs.Prelude.{◌≡◌, ◌≢◌, ◌⊎◌, ◌↔◌, ℕ, ◌≤◌, IsTrue, List}
-use Rattle.pur_base.specs.Visible.{is_elided, is_within}
-use Rattle.pur_base.specs.declared.request.Table.{Table}
+use Rattle.array_spec.specs.Prelude.{is_elided, is_within, Table, ElisionFact}
 use Rattle.pur_base.specs.declared.request.Table.TheVariants as table
-use Rattle.pur_base.specs.declared.facts.ElisionFact.{ElisionFact}
-use Rattle.elision.specs.Ranges.{ElidedRanges, ranges_of}
+use Rattle.pyramid.specs.Prelude.{ElidedRanges, ranges_of}
 
 -- some ids of a table that has ids
 abbrev pub IsRange : ElisionFact → Type 0

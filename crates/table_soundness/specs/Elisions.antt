@@ -1,9 +1,7 @@
 -- What is judged of elisions.
 use Rattle.std.specs.Prelude.{◌<◌, List}
 use Rattle.std.specs.List.{AllByRecursion}
-use Rattle.pur_base.specs.declared.facts.ElisionFact.{ElisionFact}
-use Rattle.boot_codec.specs.declared.record.NextNumbers.{NextNumbers}
-use Rattle.array_spec.specs.Sound.{next_id, AreElisionsSound}
+use Rattle.array_spec.specs.Prelude.{ElisionFact, NextNumbers, next_id, AreElisionsSound}
 
 -- the last id is below the next one of the table
 abbrev pub IsBelow : NextNumbers → ElisionFact → Type 0

@@ -1,19 +1,10 @@
 -- Which table is at fault where tables aren't sound.
 use Rattle.std.specs.Prelude.{◌≡◌, ◌⊎◌, ℕ, ◌<◌, Bool, true, false, List, [], ◌++◌, length, map, Option, Some, None, All}
 use Rattle.std.specs.List.{AllZip}
-use Rattle.pur_base.specs.Devices.{Geometry}
-use Rattle.pur_base.specs.Facts.{Facts, table_tag, object_key, medium_key, address_key, segment_key, is_empty_range, never}
-use Rattle.pur_base.specs.Tags.{tag_of}
-use Rattle.pur_base.specs.Visible.{is_elided}
-use Rattle.pur_base.specs.declared.facts.AnyFact.{AnyFact}
+use Rattle.array_spec.specs.Prelude.{Geometry, Facts, table_tag, object_key, medium_key, address_key, segment_key, is_empty_range, never, tag_of, is_elided, AnyFact, Table, Patch, BootRecord, IsFact}
 use Rattle.pur_base.specs.declared.facts.AnyFact.TheVariants as any
-use Rattle.pur_base.specs.declared.request.Table.{Table}
 use Rattle.pur_base.specs.declared.request.Table.TheVariants as table
-use Rattle.boot_codec.specs.declared.patch.Patch.{Patch}
-use Rattle.boot_codec.specs.declared.record.BootRecord.{BootRecord}
-use Rattle.fact_codec.specs.Fact.{IsFact}
-use Rattle.pyramid.specs.Layers.{facts_of}
-use Rattle.pyramid.specs.Shown.{IsShown}
+use Rattle.pyramid.specs.Prelude.{facts_of, IsShown}
 use Rattle.table_soundness.specs.declared.visible.Visible.{Visible}
 use Rattle.table_soundness.specs.declared.tables.LoadedTables.{LoadedTables}
 use Rattle.table_soundness.specs.Addresses.{AreAddressesRight}

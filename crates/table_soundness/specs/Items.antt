@@ -1,18 +1,9 @@
 -- What is judged of each table.
 use Rattle.std.specs.Prelude.{◌≡◌, ◌≢◌, ◌<◌, ◌≤◌, false, List, ◌++◌, length, map, All, AllPairs}
 use Rattle.std.specs.List.{AllByRecursion, flat_map}
-use Rattle.pur_base.specs.Devices.{Geometry}
-use Rattle.pur_base.specs.Facts.{Facts}
-use Rattle.pur_base.specs.Visible.{is_within}
-use Rattle.pur_base.specs.declared.facts.ObjectFact.{ObjectFact}
-use Rattle.pur_base.specs.declared.facts.SegmentFact.{SegmentFact}
-use Rattle.pur_base.specs.declared.limits.TheConstants.{OBJECTS}
+use Rattle.array_spec.specs.Prelude.{Geometry, Facts, is_within, ObjectFact, SegmentFact, OBJECTS, NextNumbers, BootRecord, AscendFrom, AreObjectsSound, AreSegmentsSound, OwnsMedium, named_segments}
 use Rattle.pur_base.specs.declared.request.Table.TheVariants as table
-use Rattle.boot_codec.specs.declared.record.NextNumbers.{NextNumbers}
-use Rattle.boot_codec.specs.declared.record.BootRecord.{BootRecord}
-use Rattle.boot_codec.specs.Record.{AscendFrom}
-use Rattle.array_spec.specs.Sound.{AreObjectsSound, AreSegmentsSound, OwnsMedium, named_segments}
-use Rattle.elision.specs.Ranges.{ElidedRanges, ranges_of}
+use Rattle.pyramid.specs.Prelude.{ElidedRanges, ranges_of}
 use Rattle.table_soundness.specs.Places.{code_of}
 
 -- ---- segments

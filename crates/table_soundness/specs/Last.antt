@@ -1,6 +1,6 @@
 -- The last fact of an id.
 use Rattle.std.specs.Prelude.{◌≡◌, ℕ, ◌≤◌, List, All, Contains}
-use Rattle.pur_base.specs.Keys.{id_of}
+use Rattle.array_spec.specs.Prelude.{id_of}
 
 -- of the facts of the id the one with the greatest key
 pub record IsLastOf {F : Type 0} (key : F → ℕ) (facts : List F) (id : ℕ) (f : F) : Type 0 where

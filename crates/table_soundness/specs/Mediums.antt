@@ -1,13 +1,7 @@
 -- What is judged of the ranges of mediums.
 use Rattle.std.specs.Prelude.{◌≡◌, ◌≢◌, ℕ, ◌<◌, ◌≤◌, ◌^◌, List, [], ◌∷◌, All, AllPairs, Contains}
 use Rattle.std.specs.List.{AllByRecursion}
-use Rattle.pur_base.specs.Facts.{Facts}
-use Rattle.pur_base.specs.declared.facts.ObjectFact.{ObjectFact}
-use Rattle.pur_base.specs.declared.facts.MediumFact.{MediumFact}
-use Rattle.pur_base.specs.declared.facts.ObjectKind.{ObjectKind}
-use Rattle.pur_base.specs.declared.facts.ObjectKind.TheVariants.{Volume, Snapshot}
-use Rattle.pur_base.specs.declared.limits.TheConstants.{OBJECT_SECTORS}
-use Rattle.array_spec.specs.Sound.{AreMediumsSound}
+use Rattle.array_spec.specs.Prelude.{Facts, ObjectFact, MediumFact, ObjectKind, Volume, Snapshot, OBJECT_SECTORS, AreMediumsSound}
 
 -- the mediums of ranges are below the next one, also of facts that aren't visible, and visible ranges are disjoint, end within their object and lead to no volume's medium
 pub record AreMediumsRight (next_medium : ℕ) (facts : Facts) : Type 0 where

@@ -1,7 +1,7 @@
 -- The newest facts of each key.
 use Rattle.std.specs.Prelude.{◌≡◌, ℕ, List, [], ◌∷◌, nat_lt, if◌then◌else◌}
-use Rattle.pur_base.specs.Says.{Ascends}
-use Rattle.pyramid.specs.Layers.{newest_of}
+use Rattle.array_spec.specs.Prelude.{Ascends}
+use Rattle.pyramid.specs.Prelude.{newest_of}
 
 -- the newer of two facts; of one number the first
 abbrev pub newer_one : {F : Type 0} → (F → ℕ) → F → F → F

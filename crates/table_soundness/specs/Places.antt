@@ -1,6 +1,6 @@
 -- Places as numbers.
 use Rattle.std.specs.Prelude.{ℕ, ◌+◌, ◌*◌}
-use Rattle.pur_base.specs.declared.place.Place.{Place}
+use Rattle.array_spec.specs.Prelude.{Place}
 
 -- the slot, and below it the unit, which is below 2^16
 abbrev pub code_of : Place → ℕ

@@ -1,7 +1,6 @@
 -- Elisions as spans of one line, on which the ids of each table have places of their own.
 use Rattle.std.specs.Prelude.{◌≡◌, ◌⊎◌, ℕ, ◌+◌, ◌-◌, ◌*◌, ◌^◌, ◌<◌, ◌≤◌, List, [], ◌∷◌, ◌++◌, length, take, slice_index}
-use Rattle.pur_base.specs.Tags.{tag_of}
-use Rattle.pur_base.specs.declared.facts.ElisionFact.{ElisionFact}
+use Rattle.array_spec.specs.Prelude.{tag_of, ElisionFact}
 use Rattle.table_soundness.specs.declared.spans.Span.{Span}
 
 -- the span of an elision

@@ -1,9 +1,9 @@
 -- What is known of an answer.
 use Rattle.std.proofs.Common.{Result, Ok, Err}
 use Rattle.std.specs.Prelude.{IfOk}
-use Rattle.pur_base.specs.Devices.{View}
+use Rattle.session_spec.specs.Prelude.{View}
 use Rattle.nvram_log.specs.declared.log.NvLog.{NvLog}
-use Rattle.nvram_log.specs.Read.{IsReadFrom}
+use Rattle.nvram_log.specs.Prelude.{IsReadFrom}
 
 pub ok_more : {T E : Type 0} (r : Result T E) (P Q : T → Type 0) → IfOk r P → ((t : T) → P t → Q t) → IfOk r Q
 ok_more (Ok t) P Q is more = more t is

@@ -4,26 +4,14 @@ use Rattle.std.specs.Prelude.{Option, Some, None, is_some, slice_get}
 use Rattle.std.specs.List.{AllByRecursion, concat}
 use Rattle.std.proofs.lemmas.Option.{slice_get_within, slice_get_cases}
 use Rattle.std.proofs.lemmas.List.{take_at, drop_at, drop-drop}
-use Rattle.pur_base.specs.Bytes.{IsBytesOf, bytes_at}
-use Rattle.pur_base.specs.Commands.{Command, Accepts, AllAccepted, after, after_all}
-use Rattle.pur_base.specs.Grammar.{data_count, is_in_force}
-use Rattle.pur_base.specs.Plain.{Array}
-use Rattle.pur_base.specs.Visible.{segment}
-use Rattle.pur_base.specs.declared.request.Request.{Request}
+use Rattle.session_spec.specs.Prelude.{IsBytesOf, bytes_at, Command, Accepts, AllAccepted, after, after_all, data_count, is_in_force, Array, segment, Request, NextNumbers, IsCommand, Contents, ReadsAs, next_after, next_after_all, Tables, facts}
 use Rattle.pur_base.specs.declared.request.Request.TheVariants as request
-use Rattle.boot_codec.specs.declared.record.NextNumbers.{NextNumbers}
-use Rattle.log_codec.specs.Head.{IsCommand}
-use Rattle.memory_spec.specs.Memory.{Contents, ReadsAs}
-use Rattle.memory_spec.specs.Numbers.{next_after, next_after_all}
-use Rattle.memory_spec.specs.Tables.{Tables, facts}
-use Rattle.array_memory.specs.Asked.{command_of, staged_by, HasRoomLeft}
-use Rattle.array_memory.specs.Kept.{Kept, IsKept, HasNoLessRoom, HasSamePatches, with_rooms}
-use Rattle.array_memory.specs.Lawful.{IsLawful}
+use Rattle.array_memory.specs.Prelude.{command_of, staged_by, HasRoomLeft, Kept, IsKept, HasNoLessRoom, HasSamePatches, with_rooms, IsLawful}
 use Rattle.volume_ops.specs.OfArray.{IsOfMemory}
-use Rattle.array_core.specs.Room.{HasRoomFor}
+use Rattle.array_core.specs.Prelude.{HasRoomFor}
 use Rattle.array_core.proofs.Applied.{room_for_next, same_segments}
 use Rattle.nvram_log.specs.declared.log.NvLog.{NvLog}
-use Rattle.nvram_log.specs.Held.{Keeps}
+use Rattle.nvram_log.specs.Prelude.{Keeps}
 use Rattle.takeover.specs.declared.log.LogFault.{LogFault}
 use Rattle.takeover.specs.declared.log.LogFault.TheVariants as log_fault
 use Rattle.takeover.specs.Replay.{IsApplied, IsApplyFault, IsDone, IsReplayed, IsReplayFault}

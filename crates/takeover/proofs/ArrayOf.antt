@@ -2,29 +2,15 @@
 use Rattle.std.proofs.Common.{◌≡◌, ℕ, List, [], sym, ◌∙◌, ap, subst}
 use Rattle.std.specs.Prelude.{All}
 use Rattle.std.specs.List.{AllZip}
-use Rattle.pur_base.specs.Devices.{Geometry}
-use Rattle.pur_base.specs.Facts.{Facts}
-use Rattle.pur_base.specs.Visible.{segment}
-use Rattle.pur_base.specs.declared.facts.AddressFact.{AddressFact}
-use Rattle.pur_base.specs.declared.facts.AnyFact.{AnyFact}
-use Rattle.boot_codec.specs.declared.record.BootRecord.{BootRecord}
-use Rattle.boot_codec.specs.declared.record.NextNumbers.{NextNumbers}
-use Rattle.fact_codec.specs.Fact.{IsFact}
-use Rattle.array_spec.specs.Sound.{AreSound}
-use Rattle.array_spec.specs.Stored.{all_facts, in_patches}
-use Rattle.nvram_log.specs.Members.{IsSome}
-use Rattle.pyramid.specs.Layers.{facts_of}
-use Rattle.memory_spec.specs.Memory.{Contents, IsSound}
-use Rattle.memory_spec.specs.Numbers.{next_after_all}
-use Rattle.memory_spec.specs.Tables.{facts, patches}
-use Rattle.memory_spec.specs.Whole.{IsNamed}
-use Rattle.table_plan.specs.Planned.{AreStored}
-use Rattle.array_memory.specs.Kept.{Kept}
-use Rattle.array_core.specs.Ready.{IsArrayOf}
+use Rattle.session_spec.specs.Prelude.{Geometry, Facts, segment, AddressFact, AnyFact, BootRecord, NextNumbers, IsFact, AreSound, all_facts, in_patches, facts_of, Contents, IsSound, next_after_all, facts, patches, IsNamed}
+use Rattle.nvram_log.specs.Prelude.{IsSome}
+use Rattle.table_plan.specs.Prelude.{AreStored}
+use Rattle.array_memory.specs.Prelude.{Kept}
+use Rattle.array_core.specs.Prelude.{IsArrayOf}
 use Rattle.array_core.specs.declared.array.Array.{Array}
 use Rattle.array_core.proofs.Applied.{HasSameSegmentIds, all_give_none, same_patches, segments_sound}
 use Rattle.register.specs.declared.state.Register.{Register}
-use Rattle.register.specs.Registers.{IsLaterRecord, IsRegisterOf}
+use Rattle.register.specs.Prelude.{IsLaterRecord, IsRegisterOf}
 use Rattle.takeover.specs.Replayed.{HasReplayed}
 use Rattle.takeover.specs.Tables.{IsMemoryOf}
 use Rattle.takeover.specs.declared.log.OpenedLog.{OpenedLog}

@@ -2,35 +2,14 @@
 use Rattle.std.proofs.Common.{◌≡◌, ◌⊎◌, inl, inr, ℕ, ◌+◌, ◌<◌, ◌≤◌, true, false, List, [], refl, sym, ◌∙◌, subst, arith}
 use Rattle.std.specs.Prelude.{Option, Some, None, IsSome, slice_index_or}
 use Rattle.std.proofs.lemmas.Bool.{cases_Bool}
-use Rattle.pur_base.specs.Commands.{Command, after_all}
-use Rattle.pur_base.specs.declared.facts.AnyFact.{AnyFact}
-use Rattle.pur_base.specs.Devices.{Geometry, Image, View, drive}
-use Rattle.pur_base.specs.Plain.{Array}
-use Rattle.boot_codec.specs.declared.record.BootRecord.{BootRecord}
-use Rattle.boot_codec.specs.Record.{set_count}
-use Rattle.boot_codec.specs.Region.{BootSlot, IsRecordOf, names, of_members}
-use Rattle.array_spec.specs.Laws.{DiffersOnlyIn}
-use Rattle.array_spec.specs.Meaning.{HoldsBase}
-use Rattle.array_spec.specs.Stored.{all_facts}
-use Rattle.array_spec.specs.Held.{AreSomeOf, AreEnough, TablesHold}
-use Rattle.array_spec.specs.lemmas.Next.{next_holds}
-use Rattle.memory_spec.specs.Memory.{Contents, FactsRead, ReadsAs}
-use Rattle.memory_spec.specs.Tables.{facts, patches}
-use Rattle.memory_spec.specs.Contents.{ContentsStand}
-use Rattle.memory_spec.specs.LoadedLaws.{showing}
+use Rattle.session_spec.specs.Prelude.{Command, after_all, AnyFact, Geometry, Image, View, drive, Array, BootRecord, set_count, BootSlot, IsRecordOf, names, of_members, DiffersOnlyIn, HoldsBase, all_facts, AreSomeOf, AreEnough, TablesHold, next_holds, Contents, FactsRead, ReadsAs, facts, patches, ContentsStand, showing, geometry_of, Shelved, IsShelf, Continues, read_now}
 use Rattle.memory_spec.proofs.Held.{held_tables_read}
-use Rattle.world.specs.Losing.{geometry_of}
-use Rattle.world.specs.Shelf.{Shelved, IsShelf, Continues}
 use Rattle.boot_region.specs.declared.loading.Loaded.{Loaded}
-use Rattle.boot_region.specs.Members.{IsMember}
-use Rattle.boot_region.specs.Slots.{slot_in}
-use Rattle.array_memory.specs.Kept.{Kept}
-use Rattle.array_core.specs.Drives.{SegmentsHold, drives_view}
+use Rattle.boot_region.specs.Prelude.{IsMember, slot_in}
+use Rattle.array_memory.specs.Prelude.{Kept}
+use Rattle.array_core.specs.Prelude.{SegmentsHold, drives_view}
 use Rattle.register.specs.declared.state.Register.{Register}
-use Rattle.register.specs.Registers.{IsLaterRecord, IsRegisterOf, drives_of, own_slot}
-use Rattle.register.specs.Standing.{IsOpen}
-use Rattle.register.specs.lemmas.Flags.{cut_in, in_cut, none_past}
-use Rattle.session_spec.specs.Entering.{read_now}
+use Rattle.register.specs.Prelude.{IsLaterRecord, IsRegisterOf, drives_of, own_slot, IsOpen, cut_in, in_cut, none_past}
 use Rattle.takeover.specs.Replayed.{HasReplayed}
 use Rattle.takeover.specs.Seen.{IsSeenIn}
 use Rattle.takeover.specs.Tables.{HoldTables, IsMemoryOf}

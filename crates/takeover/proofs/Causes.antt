@@ -1,28 +1,12 @@
 -- Where no more failed than is borne, an array that isn't opened is so for want of memory alone.
 use Rattle.std.proofs.Common.{◌≡◌, ◌⊎◌, inl, inr, ℕ, Bool, true, false, List, Option, Some, None, refl, subst, arith}
 use Rattle.std.specs.Prelude.{if◌then◌else◌, is_some}
-use Rattle.pur_base.specs.declared.device.Device.{Device}
-use Rattle.pur_base.specs.declared.reply.Status.{Status}
+use Rattle.session_spec.specs.Prelude.{Device, Status, Command, Geometry, Condition, Conditions, Sound, Missing, LeftOut, View, IsBearable, is_missing, nvram, is_in_force, Array, Effective, names, Shows, ShowsIn, not_holding, members_view, MayAppear, MayBeGiven, kept_is, geometry_of, has_failed, missing_if, losing, Shelved, IsShelf, MayStop, Enters, Found, ComesOut, IsTakenOver, OnlyFailedAreSilent, read_now, failed_since, HasNoArray, HasTooFew, IsUnopenedBy, loses, borne_on}
 use Rattle.pur_base.specs.declared.reply.Status.TheVariants as status
-use Rattle.pur_base.specs.Commands.{Command}
-use Rattle.pur_base.specs.Devices.{Geometry, Condition, Conditions, Sound, Missing, LeftOut, View, IsBearable, is_missing, nvram}
-use Rattle.pur_base.specs.Grammar.{is_in_force}
-use Rattle.pur_base.specs.Plain.{Array}
-use Rattle.boot_codec.specs.Region.{Effective, names}
-use Rattle.log_codec.specs.Log.{Shows, ShowsIn}
-use Rattle.array_spec.specs.Losses.{not_holding}
-use Rattle.array_spec.specs.Meaning.{members_view}
-use Rattle.array_spec.specs.Standing.{MayAppear, MayBeGiven}
-use Rattle.array_spec.specs.lemmas.UnflushedRead.{kept_is}
-use Rattle.world.specs.Losing.{geometry_of, has_failed, missing_if, losing}
-use Rattle.world.specs.Shelf.{Shelved, IsShelf, MayStop}
-use Rattle.session_spec.specs.Entering.{Enters, Found, ComesOut, IsTakenOver, OnlyFailedAreSilent, read_now, failed_since}
-use Rattle.session_spec.specs.Headline.{HasNoArray, HasTooFew, IsUnopenedBy}
-use Rattle.session_spec.specs.lemmas.Conditions.{loses, borne_on}
 use Rattle.session_spec.proofs.Taken.{takeover_bears}
 use Rattle.takeover.proofs.Loading.{may_read}
 use Rattle.takeover.proofs.Views.{is_view}
-use Rattle.array_core.specs.lemmas.Losses.{sound_since}
+use Rattle.array_core.specs.Prelude.{sound_since}
 
 -- what becomes of a device: it is sound, or left out, or a call on it failed
 pub outcome : Bool → Option (List ℕ) → Condition

@@ -2,17 +2,11 @@
 use Rattle.std.proofs.Common.{◌≡◌, inl, inr, ℕ, zero, suc, ◌+◌, ◌<◌, ◌≤◌, List, [], ◌∷◌, length, take, refl, sym, ◌∙◌, subst, arith}
 use Rattle.std.specs.Prelude.{Some, slice_get}
 use Rattle.std.proofs.lemmas.Option.{slice_get_within, slice_get_cases}
-use Rattle.pur_base.specs.Commands.{Command, Accepts, AllAccepted, after, after_all}
-use Rattle.pur_base.specs.Devices.{View}
-use Rattle.pur_base.specs.Plain.{Array}
-use Rattle.log_codec.specs.Log.{Shows, IsInSlot, LogFrom, LogStands, DevicesAgree}
+use Rattle.session_spec.specs.Prelude.{Command, Accepts, AllAccepted, after, after_all, View, Array, Shows, IsInSlot, LogFrom, LogStands, DevicesAgree, shower, one_shown, one_in_slot, same_lists}
 use Rattle.log_codec.proofs.OneHead.{one_command}
-use Rattle.array_spec.specs.lemmas.LogBetween.{shower}
-use Rattle.array_spec.specs.lemmas.OneLog.{one_shown, one_in_slot}
 use Rattle.nvram_log.specs.declared.log.NvLog.{NvLog}
-use Rattle.nvram_log.specs.Held.{Keeps}
+use Rattle.nvram_log.specs.Prelude.{Keeps}
 use Rattle.nvram_log.proofs.Lists.{get_front}
-use Rattle.array_spec.specs.lemmas.Unique.{same_lists}
 use Rattle.takeover.specs.Replay.{IsRun}
 
 pub log_from : (view : View) (flushed i : ℕ) (a : Array) (cs : List Command) → ((k : ℕ) (c : Command) → slice_get cs k ≡ Some c → IsInSlot view flushed (i + k) c) → AllAccepted a cs

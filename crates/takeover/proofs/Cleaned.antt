@@ -2,13 +2,8 @@
 use Rattle.std.proofs.Common.{◌≡◌, ◌⊎◌, inl, inr, ℕ, ◌<◌, List, [], length, ◌∙◌, ap, Bool, false}
 use Rattle.std.specs.Prelude.{slice_index_or}
 use Rattle.std.proofs.lemmas.Bool.{cases_Bool}
-use Rattle.pur_base.specs.declared.device.Device.{Device}
-use Rattle.pur_base.specs.declared.device.Device.TheVariants.{Drive, Nv}
-use Rattle.pur_base.specs.Devices.{drive}
-use Rattle.world.specs.Counts.{Rises}
-use Rattle.world.specs.Shelf.{Shelved, Disk}
-use Rattle.boot_region.specs.Members.{IsMember, NonMembersStay, Opened}
-use Rattle.boot_region.specs.lemmas.Shown.{member_below}
+use Rattle.session_spec.specs.Prelude.{Device, Drive, Nv, drive, Rises, Shelved, Disk}
+use Rattle.boot_region.specs.Prelude.{IsMember, NonMembersStay, Opened, member_below}
 
 -- a device that was clean is so still, or a call on it failed
 pub stays_clean : (old new : Shelved) (was now : List Bool) (at : ℕ) → old.honest

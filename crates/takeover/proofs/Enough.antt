@@ -6,19 +6,10 @@ use Rattle.std.specs.Str.{bytes_eq}
 use Rattle.std.proofs.lemmas.Bool.{cases_Bool}
 use Rattle.std.proofs.lemmas.List.{get_or_past}
 use Rattle.std.proofs.lemmas.Slice.Eq.{bytes_eq-Decides}
-use Rattle.pur_base.specs.declared.device.Device.{Device}
-use Rattle.pur_base.specs.declared.device.Device.TheVariants.{Drive, Nv}
-use Rattle.pur_base.specs.Devices.{Geometry, Image, View, Sound, LeftOut, IsBearable, is_missing, drive, nvram}
-use Rattle.boot_codec.specs.declared.record.BootRecord.{BootRecord}
-use Rattle.boot_codec.specs.Record.{set_count}
-use Rattle.boot_codec.specs.Region.{BootSlot, IsRecordOf, body_in, names, of_members}
-use Rattle.boot_codec.specs.Spelling.{spelling}
-use Rattle.array_spec.specs.lemmas.Votes.{counted}
-use Rattle.array_spec.specs.Held.{AreSomeOf, AreEnough}
-use Rattle.boot_region.specs.Members.{IsMember}
+use Rattle.session_spec.specs.Prelude.{Device, Drive, Nv, Geometry, Image, View, Sound, LeftOut, IsBearable, is_missing, drive, nvram, BootRecord, set_count, BootSlot, IsRecordOf, body_in, names, of_members, spelling, counted, AreSomeOf, AreEnough}
+use Rattle.boot_region.specs.Prelude.{IsMember}
 use Rattle.nvram_log.specs.Members as nv
-use Rattle.register.specs.Registers.{named_sound}
-use Rattle.register.specs.lemmas.Flags.{none_past}
+use Rattle.register.specs.Prelude.{named_sound, none_past}
 
 bit : (b : Bool) → cond b 1 0 ≤ 1
 bit true = omega arith

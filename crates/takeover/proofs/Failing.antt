@@ -1,12 +1,8 @@
 -- Devices that go missing as their calls fail.
 use Rattle.std.proofs.Common.{◌≡◌, Bool, false}
-use Rattle.pur_base.specs.declared.device.Device.{Device}
-use Rattle.pur_base.specs.Devices.{Conditions, IsWithin}
-use Rattle.world.specs.Shelf.{Shelved, Stop, Continues, IsCountedBy}
-use Rattle.world.specs.Losing.{has_risen, losing}
+use Rattle.session_spec.specs.Prelude.{Device, Conditions, IsWithin, Shelved, Stop, Continues, IsCountedBy, has_risen, losing, failed_since, failed_by}
 use Rattle.boot_region.proofs.Phases.{not_risen_before}
-use Rattle.session_spec.specs.Entering.{failed_since, failed_by}
-use Rattle.array_core.specs.lemmas.Losses.{more_fail}
+use Rattle.array_core.specs.Prelude.{more_fail}
 
 pub losing_more : (failed more : Device → Bool) (missing : Conditions) → ((d : Device) → more d ≡ false → failed d ≡ false) → IsWithin (losing failed missing) (losing more missing)
 losing_more failed more missing less device = more_fail (failed device) (more device) (missing device) (less device)

@@ -4,40 +4,15 @@ use Rattle.std.specs.Prelude.{◌&&◌, option_and_then, slice_index_or, if◌th
 use Rattle.std.specs.Str.{bytes_eq}
 use Rattle.std.specs.Cmp.Lexicographic.{same_text}
 use Rattle.std.proofs.lemmas.Bool.{cases_Bool}
-use Rattle.pur_base.specs.Plain.{Array}
-use Rattle.pur_base.specs.Devices.{Geometry, Image, View, Condition, Conditions, Sound, Missing, LeftOut, IsBearable, IsWithin, MayBecome, is_missing, drive, nvram}
-use Rattle.pur_base.specs.declared.device.Device.{Device}
-use Rattle.pur_base.specs.declared.device.Device.TheVariants.{Drive, Nv}
-use Rattle.boot_codec.specs.declared.record.BootRecord.{BootRecord}
-use Rattle.boot_codec.specs.Record.{set_count}
-use Rattle.boot_codec.specs.Region.{BootSlot, IsEffective, IsRecordOf, Yields, body_in, gate_place, generation_in, is_vote, names, of_members, other_slot, shown_by, with_body}
-use Rattle.boot_codec.specs.Spelling.{spelling}
-use Rattle.array_spec.specs.Laws.{IsNamedByNone}
-use Rattle.array_spec.specs.Meaning.{IsInForce}
-use Rattle.array_spec.specs.Standing.{IsViewOf, MayAppear, MayBeGiven, Stands}
-use Rattle.array_spec.specs.lemmas.Settling.{twice_other}
-use Rattle.array_spec.specs.lemmas.Spelled.{spells_one}
-use Rattle.array_spec.specs.lemmas.Standings.{more_may_go_missing}
-use Rattle.array_spec.specs.lemmas.UnflushedRead.{was_left_out}
-use Rattle.world.specs.Losing.{geometry_of}
-use Rattle.world.specs.Shelf.{Shelved, Stop, IsShelf, IsSame, Continues, MayStop, LeavesOnly}
-use Rattle.world.specs.Writes.{LeavesBut, WritesOnly}
-use Rattle.world.specs.lemmas.Moments.{then_run, weaker}
-use Rattle.world.specs.lemmas.Stopped.{as_read}
+use Rattle.session_spec.specs.Prelude.{Array, Geometry, Image, View, Condition, Conditions, Sound, Missing, LeftOut, IsBearable, IsWithin, MayBecome, is_missing, drive, nvram, Device, Drive, Nv, BootRecord, set_count, BootSlot, IsEffective, IsRecordOf, Yields, body_in, gate_place, generation_in, is_vote, names, of_members, other_slot, shown_by, with_body, spelling, IsNamedByNone, IsInForce, IsViewOf, MayAppear, MayBeGiven, Stands, twice_other, spells_one, more_may_go_missing, was_left_out, geometry_of, Shelved, Stop, IsShelf, IsSame, Continues, MayStop, LeavesOnly, LeavesBut, WritesOnly, then_run, weaker, as_read, AreRead, Enters}
 use Rattle.boot_region.specs.declared.loading.Loaded.{Loaded}
 use Rattle.boot_region.specs.declared.slot.Slot.{Slot}
-use Rattle.boot_region.specs.Loading.{IsLoadBy, MayBeSettled, TellsHolding}
-use Rattle.boot_region.specs.Members.{IsMember, OnClosed}
-use Rattle.boot_region.specs.Regions.{is_holding}
-use Rattle.boot_region.specs.Slots.{slot_in}
-use Rattle.boot_region.specs.Storing.{IsLoaded, StandsAgain, StandsNow}
+use Rattle.boot_region.specs.Prelude.{IsLoadBy, MayBeSettled, TellsHolding, IsMember, OnClosed, is_holding, slot_in, IsLoaded, StandsAgain, StandsNow, bodies_same, shown_body}
 use Rattle.boot_region.proofs.Composing.{all_decide, as_it_is, none_decided, votes_not}
-use Rattle.boot_region.specs.lemmas.Shown.{bodies_same, shown_body}
 use Rattle.boot_region.proofs.StillGiven.{yields_or}
 use Rattle.boot_region.proofs.Stored.{lost, lost_within, never_sound, others_lost, others_not_sound, others_within}
 use Rattle.register.proofs.Follows.{shows_itself}
 use Rattle.register.proofs.Rounds.{same_shelf}
-use Rattle.session_spec.specs.Entering.{AreRead, Enters}
 use Rattle.takeover.specs.Found.{IsFoundOn}
 use Rattle.takeover.specs.Outlasting.{EntersFirmly, IsFoundFirmly}
 use Rattle.takeover.proofs.Enough.{unflagged}

@@ -1,21 +1,10 @@
 -- The tables are read behind a record that was found: nothing changes on the devices.
 use Rattle.std.proofs.Common.{◌≡◌, ℕ, List, sym, subst, arith}
 use Rattle.std.specs.Prelude.{Some}
-use Rattle.pur_base.specs.Plain.{Array}
-use Rattle.pur_base.specs.Devices.{Geometry, Conditions, IsBearable, drive}
-use Rattle.pur_base.specs.declared.device.Device.{Device}
-use Rattle.boot_codec.specs.Region.{Yields, body_in, generation_in, other_slot, shown_by}
-use Rattle.boot_codec.specs.Spelling.{spelling}
-use Rattle.world.specs.Losing.{geometry_of}
-use Rattle.world.specs.Shelf.{Shelved, Stop, IsShelf, IsSame, Continues, MayStop, LeavesOnly}
-use Rattle.world.specs.Writes.{LeavesBut, WritesOnly}
-use Rattle.world.specs.lemmas.Moments.{then_run, weaker}
+use Rattle.session_spec.specs.Prelude.{Array, Geometry, Conditions, IsBearable, drive, Device, Yields, body_in, generation_in, other_slot, shown_by, spelling, geometry_of, Shelved, Stop, IsShelf, IsSame, Continues, MayStop, LeavesOnly, LeavesBut, WritesOnly, then_run, weaker, Enters, failed_since}
 use Rattle.boot_region.specs.declared.loading.Loaded.{Loaded}
-use Rattle.boot_region.specs.Loading.{IsLawfulLoad}
-use Rattle.boot_region.specs.Slots.{slot_in}
-use Rattle.boot_region.specs.Storing.{StandsAgain}
+use Rattle.boot_region.specs.Prelude.{IsLawfulLoad, slot_in, StandsAgain}
 use Rattle.register.proofs.Rounds.{same_shelf}
-use Rattle.session_spec.specs.Entering.{Enters, failed_since}
 use Rattle.takeover.specs.Found.{IsFoundOn}
 use Rattle.takeover.specs.Outlasting.{IsFoundFirmly}
 use Rattle.takeover.specs.Steps.{IsRecordFound, StandsWhileFinding}

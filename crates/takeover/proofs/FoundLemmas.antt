@@ -1,44 +1,18 @@
 -- The record is loaded and settled: at every moment the devices stand for the arrays, and then it is in force.
 use Rattle.std.proofs.Common.{◌≡◌, ℕ, ◌+◌, ◌<◌, ◌≤◌, ◌-◌, ◌^◌, Bool, true, false, List, refl, sym, ◌∙◌, ap, subst, arith, Ok}
 use Rattle.std.specs.Prelude.{◌&&◌, slice_index_or, Some, None}
-use Rattle.pur_base.specs.Plain.{Array}
-use Rattle.pur_base.specs.Devices.{Geometry, Conditions, Sound, LeftOut, IsBearable, IsWithin, drive}
-use Rattle.pur_base.specs.declared.device.Device.{Device}
-use Rattle.boot_codec.specs.declared.record.BootRecord.{BootRecord}
-use Rattle.boot_codec.specs.Region.{BootSlot, other_slot, gate_place, body_in, names}
-use Rattle.boot_codec.specs.Record.{set_count}
-use Rattle.boot_codec.specs.Spelling.{spelling}
-use Rattle.array_spec.specs.Laws.{IsNamedByNone}
-use Rattle.array_spec.specs.Meaning.{IsInForce}
-use Rattle.array_spec.specs.Standing.{Stands, MayBeGiven}
-use Rattle.array_spec.specs.lemmas.Standings.{more_may_go_missing, given_with_fewer, within_twice}
-use Rattle.array_spec.specs.lemmas.UnflushedRead.{was_left_out}
-use Rattle.array_spec.specs.lemmas.Votes.{sound_before}
-use Rattle.world.specs.Losing.{geometry_of, has_risen}
-use Rattle.world.specs.Shelf.{Shelved, Stop, IsShelf, IsSame, Continues, MayStop, MayLeave, LeavesOnly}
-use Rattle.world.specs.Writes.{LeavesBut, WritesOnly}
-use Rattle.world.specs.lemmas.Moments.{then_run, weaker}
-use Rattle.world.specs.lemmas.Stopped.{as_read}
+use Rattle.session_spec.specs.Prelude.{Array, Geometry, Conditions, Sound, LeftOut, IsBearable, IsWithin, drive, Device, BootRecord, BootSlot, other_slot, gate_place, body_in, names, set_count, spelling, IsNamedByNone, IsInForce, Stands, MayBeGiven, more_may_go_missing, given_with_fewer, within_twice, was_left_out, sound_before, geometry_of, has_risen, Shelved, Stop, IsShelf, IsSame, Continues, MayStop, MayLeave, LeavesOnly, LeavesBut, WritesOnly, then_run, weaker, as_read, Enters, AreRead, StandsStill, read_now, failed_since, failed_by, left_out_once}
 use Rattle.boot_region.specs.declared.loading.Loaded.{Loaded}
-use Rattle.boot_region.specs.Members.{IsMember, OnClosed}
-use Rattle.boot_region.specs.Slots.{slot_in}
-use Rattle.boot_region.specs.Regions.{is_holding}
-use Rattle.boot_region.specs.Loading.{IsLoadBy, TellsHolding, MayBeSettled}
-use Rattle.boot_region.specs.Storing.{StandsNow, IsLoaded, IsFound, IsInForceOn, TellsFailed}
-use Rattle.boot_region.specs.lemmas.Accounts.{losing_within}
-use Rattle.boot_region.specs.lemmas.Found.{body_stands, drive_below}
-use Rattle.boot_region.specs.lemmas.Shown.{bodies_same}
+use Rattle.boot_region.specs.Prelude.{IsMember, OnClosed, slot_in, is_holding, IsLoadBy, TellsHolding, MayBeSettled, StandsNow, IsLoaded, IsFound, IsInForceOn, TellsFailed, losing_within, body_stands, drive_below, bodies_same}
 use Rattle.takeover.proofs.NoFault.{few_lack}
-use Rattle.session_spec.specs.Entering.{Enters, AreRead, StandsStill, read_now, failed_since, failed_by}
 use Rattle.session_spec.proofs.Resumed.{nothing_done}
 use Rattle.takeover.specs.Found.{IsFoundOn}
 use Rattle.takeover.proofs.Failing.{by_stop, since_later}
 use Rattle.takeover.proofs.SettlingStops as settling
 use Rattle.takeover.proofs.Loading.{as_they_read, may_read, at_time, may_at_time, same_leaves, clean_now, stands_now, member_here, in_force_here}
-use Rattle.array_core.specs.lemmas.Losses.{fewer_borne, sound_since}
+use Rattle.array_core.specs.Prelude.{fewer_borne, sound_since}
 use Rattle.register.proofs.Again.{not_risen_since}
 use Rattle.register.proofs.Rounds.{same_shelf as shelf_stays}
-use Rattle.session_spec.specs.lemmas.Conditions.{left_out_once}
 
 -- what may be given at a stop when nothing was done, as reads give it
 given_at_entry : (old : Shelved) (missing : Conditions) (arrays : List Array) → Enters old missing arrays → (stop : Stop) → MayStop old stop

@@ -1,16 +1,8 @@
 -- What is known of all flags is known of those of the shelf's slots, and the other way round.
 use Rattle.std.proofs.Common.{ℕ, ◌<◌, ◌≤◌, Bool, false, List, ◌++◌, length, take, sym, ◌∙◌, arith}
 use Rattle.std.proofs.lemmas.List.{get_or_append_left}
-use Rattle.pur_base.specs.Plain.{Array}
-use Rattle.pur_base.specs.Devices.{Conditions}
-use Rattle.pur_base.specs.declared.device.Device.{Device}
-use Rattle.pur_base.specs.declared.device.Device.TheVariants.{Drive, Nv}
-use Rattle.boot_codec.specs.declared.record.BootRecord.{BootRecord}
-use Rattle.boot_codec.specs.Region.{BootSlot}
-use Rattle.world.specs.Shelf.{Shelved}
-use Rattle.boot_region.specs.Members.{IsMember, IsOneOf, OnClosed}
-use Rattle.boot_region.specs.Storing.{IsLoaded, IsFound, IsInForceOn, TellsFailed}
-use Rattle.boot_region.specs.lemmas.Shown.{member_below}
+use Rattle.session_spec.specs.Prelude.{Array, Conditions, Device, Drive, Nv, BootRecord, BootSlot, Shelved}
+use Rattle.boot_region.specs.Prelude.{IsMember, IsOneOf, OnClosed, IsLoaded, IsFound, IsInForceOn, TellsFailed, member_below}
 use Rattle.takeover.proofs.Members.{front_member, of_front}
 
 pub front_closed : (n : ℕ) (flags : List Bool) (shelf : Shelved) (at : ℕ) (d : Device) (i : ℕ) → OnClosed (take n flags) shelf at d i → OnClosed flags shelf at d i

@@ -4,17 +4,7 @@ use Rattle.std.specs.Prelude.{Some}
 use Rattle.std.proofs.lemmas.Bool.{cases_lt}
 use Rattle.std.proofs.lemmas.List.{length-append, take_all}
 use Rattle.std.proofs.Math.Seq.{drop-append_seam}
-use Rattle.pur_base.specs.declared.limits.TheConstants.{SLOTS_MIN}
-use Rattle.pur_base.specs.Devices.{Geometry, Image, View, Conditions, Sound, drive}
-use Rattle.pur_base.specs.Plain.{Array}
-use Rattle.boot_codec.specs.declared.record.BootRecord.{BootRecord}
-use Rattle.boot_codec.specs.Spelling.{spelling}
-use Rattle.boot_codec.specs.Region.{BootSlot, A, B, IsRecordOf, IsDecided, votes, other_slot, shown_by, slot_of, generation_in, Yields}
-use Rattle.array_spec.specs.Meaning.{IsInForce}
-use Rattle.array_spec.specs.Standing.{Stands, MayBeGiven, IsViewOf}
-use Rattle.array_spec.specs.lemmas.Settling.{this_or_other, twice_other}
-use Rattle.array_spec.specs.lemmas.Spelled.{spells_one}
-use Rattle.array_spec.specs.lemmas.Votes.{one_is_decided}
+use Rattle.session_spec.specs.Prelude.{SLOTS_MIN, Geometry, Image, View, Conditions, Sound, drive, Array, BootRecord, spelling, BootSlot, A, B, IsRecordOf, IsDecided, votes, other_slot, shown_by, slot_of, generation_in, Yields, IsInForce, Stands, MayBeGiven, IsViewOf, this_or_other, twice_other, spells_one, one_is_decided}
 use Rattle.boot_region.proofs.Composing.{all_decide}
 use Rattle.register.proofs.Numbers.{generation_spelled}
 

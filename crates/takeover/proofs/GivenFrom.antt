@@ -5,28 +5,12 @@ use Rattle.std.specs.List.{range_with_len}
 use Rattle.std.proofs.lemmas.Bool.{cases_Bool}
 use Rattle.std.proofs.lemmas.List.{ext_get_or}
 use Rattle.std.proofs.lemmas.List.FromFn.{length-map-range_with_len}
-use Rattle.pur_base.specs.declared.device.Device.{Device}
-use Rattle.pur_base.specs.declared.limits.TheConstants.{SECTOR_BYTES}
-use Rattle.pur_base.specs.Devices.{View, Condition, Conditions, Sound, is_sound, IsBearable, slots_of, drive}
-use Rattle.pur_base.specs.Gates.{is_open}
-use Rattle.pur_base.specs.Plain.{Array}
-use Rattle.boot_codec.specs.Region.{BootSlot, IsEffective, IsDecided, IsRecordOf, votes, is_vote, other_slot, gate_place, shown_by, body_in}
-use Rattle.boot_codec.specs.Spelling.{spelling}
-use Rattle.array_spec.specs.Standing.{MayBeGiven}
-use Rattle.array_spec.specs.lemmas.Votes.{counted}
-use Rattle.world.specs.declared.shelf.Span.{Span}
-use Rattle.world.specs.Losing.{geometry_of, has_risen, has_failed}
-use Rattle.world.specs.Shelf.{Shelved, Stop, IsSame, IsIn, IsInSome, LeavesOnly, Continues}
-use Rattle.world.specs.Writes.{LeavesBut, WritesOnly}
-use Rattle.world.specs.lemmas.Moments.{then_run, weaker}
+use Rattle.session_spec.specs.Prelude.{Device, SECTOR_BYTES, View, Condition, Conditions, Sound, is_sound, IsBearable, slots_of, drive, is_open, Array, BootSlot, IsEffective, IsDecided, IsRecordOf, votes, is_vote, other_slot, gate_place, shown_by, body_in, spelling, MayBeGiven, counted, Span, geometry_of, has_risen, has_failed, Shelved, Stop, IsSame, IsIn, IsInSome, LeavesOnly, Continues, LeavesBut, WritesOnly, then_run, weaker, Enters, OnlyFailedAreSilent, read_now, failed_by}
 use Rattle.boot_region.specs.declared.loading.Loaded.{Loaded}
-use Rattle.boot_region.specs.Members.{OnClosed}
-use Rattle.boot_region.specs.Slots.{slot_in}
+use Rattle.boot_region.specs.Prelude.{OnClosed, slot_in, bodies_same, other_same, closed_shows}
 use Rattle.boot_region.proofs.Composing.{as_it_is, is_sound_is}
-use Rattle.boot_region.specs.lemmas.Shown.{bodies_same, other_same, closed_shows}
-use Rattle.session_spec.specs.Entering.{Enters, OnlyFailedAreSilent, read_now, failed_by}
 use Rattle.takeover.specs.Seen.{IsGivenFrom}
-use Rattle.array_core.specs.lemmas.Losses.{sound_since}
+use Rattle.array_core.specs.Prelude.{sound_since}
 
 -- where each vote for a body is one still, it has no fewer
 more_votes : (body : List ℕ) (f g : ℕ → Option (List ℕ)) (a n : ℕ) → ((i : ℕ) → is_vote body (f i) ≡ true → is_vote body (g i) ≡ true)

@@ -4,30 +4,11 @@ use Rattle.std.specs.Prelude.{if◌then◌else◌, IsSome, bytes_eq}
 use Rattle.std.proofs.lemmas.Bool.{cases_Bool}
 use Rattle.std.proofs.lemmas.Slice.Eq.{bytes_eq-Decides}
 use Rattle.std.specs.Cmp.Lexicographic.{same_text}
-use Rattle.pur_base.specs.Bytes.{bytes_at}
-use Rattle.pur_base.specs.Plain.{Array}
-use Rattle.pur_base.specs.Devices.{Geometry, Image, View, Condition, Conditions, Sound, Missing, LeftOut, is_sound, IsBearable, MayShowAs, drive}
-use Rattle.pur_base.specs.declared.device.Device.{Device}
-use Rattle.pur_base.specs.declared.device.Device.TheVariants.{Drive, Nv}
-use Rattle.boot_codec.specs.declared.record.BootRecord.{BootRecord}
-use Rattle.boot_codec.specs.Region.{BootSlot, other_slot, Effective, IsEffective, IsDecided, votes, shown_by, body_in, names, of_members, with_body}
-use Rattle.boot_codec.specs.Spelling.{spelling}
-use Rattle.array_spec.specs.Meaning.{IsInForce}
-use Rattle.array_spec.specs.Standing.{Stands, MayBeGiven, MayAppear, IsViewOf, IsReadBy}
-use Rattle.array_spec.specs.lemmas.Standings.{more_may_go_missing}
-use Rattle.world.specs.Losing.{geometry_of, has_risen}
-use Rattle.world.specs.Shelf.{Shelved, Stop, Disk, IsShelf, IsSame, Continues, MayStop, MayLeave}
-use Rattle.world.specs.declared.shelf.Span.{Span}
-use Rattle.world.specs.lemmas.Stopped.{as_read}
-use Rattle.boot_region.specs.Members.{IsMember}
-use Rattle.boot_region.specs.Regions.{region_at, seen, is_holding, is_body_in, IsRead}
-use Rattle.boot_region.specs.Loading.{IsHeld}
-use Rattle.boot_region.specs.lemmas.Accounts.{losing_within}
+use Rattle.session_spec.specs.Prelude.{bytes_at, Array, Geometry, Image, View, Condition, Conditions, Sound, Missing, LeftOut, is_sound, IsBearable, MayShowAs, drive, Device, Drive, Nv, BootRecord, BootSlot, other_slot, Effective, IsEffective, IsDecided, votes, shown_by, body_in, names, of_members, with_body, spelling, IsInForce, Stands, MayBeGiven, MayAppear, IsViewOf, IsReadBy, more_may_go_missing, geometry_of, has_risen, Shelved, Stop, Disk, IsShelf, IsSame, Continues, MayStop, MayLeave, Span, as_read, Enters, failed_since}
+use Rattle.boot_region.specs.Prelude.{IsMember, region_at, seen, is_holding, is_body_in, IsRead, IsHeld, losing_within, same_body, same_shown, same_over}
 use Rattle.boot_region.proofs.Composing.{as_it_is, is_sound_is}
-use Rattle.boot_region.specs.lemmas.Found.{same_body, same_shown, same_over}
 use Rattle.boot_region.proofs.Phases.{risen_on_way}
-use Rattle.session_spec.specs.Entering.{Enters, failed_since}
-use Rattle.array_core.specs.lemmas.Losses.{sound_since}
+use Rattle.array_core.specs.Prelude.{sound_since}
 
 -- the devices as a read gives them
 abbrev pub as_they_read : Shelved → Stop

@@ -4,52 +4,23 @@ use Rattle.std.specs.Prelude.{Option, Some, None, Contains, slice_get, slice_ind
 use Rattle.std.proofs.lemmas.Bool.{cases_lt, cases_Bool}
 use Rattle.std.proofs.lemmas.List.{get_or_past}
 use Rattle.std.specs.List.{AllByRecursion}
-use Rattle.pur_base.specs.Commands.{Command, after_all}
-use Rattle.pur_base.specs.Devices.{Geometry, Image, Condition, Conditions, Sound, Missing, LeftOut, IsBearable, IsWithin, is_missing, drive, nvram}
-use Rattle.pur_base.specs.Plain.{Array}
-use Rattle.pur_base.specs.Grammar.{is_in_force}
-use Rattle.pur_base.specs.declared.facts.AnyFact.{AnyFact}
-use Rattle.pur_base.specs.declared.device.Device.{Device}
-use Rattle.pur_base.specs.declared.device.Device.TheVariants.{Drive, Nv}
-use Rattle.boot_codec.specs.Spelling.{spelling}
-use Rattle.boot_codec.specs.Region.{BootSlot, IsRecordOf, body_in, names, other_slot, shown_by}
-use Rattle.log_codec.specs.Log.{Shows, ShowsIn, IsInSlot}
-use Rattle.array_spec.specs.Laws.{IsNamedByNone}
-use Rattle.array_spec.specs.Standing.{Stands, MayBeGiven}
-use Rattle.array_spec.specs.lemmas.Settling.{twice_other}
-use Rattle.array_spec.specs.lemmas.Standings.{within_twice}
-use Rattle.array_spec.specs.lemmas.LogBetween.{shower}
-use Rattle.array_spec.specs.lemmas.UnflushedRead.{one_left, kept_is}
-use Rattle.array_spec.specs.lemmas.Votes.{sound_before}
-use Rattle.array_spec.specs.Held.{TablesHold}
-use Rattle.array_spec.specs.lemmas.Next.{same_drives_hold}
-use Rattle.array_memory.specs.Kept.{Kept}
-use Rattle.world.specs.Counts.{Rises}
-use Rattle.world.specs.Losing.{geometry_of, has_failed, has_risen}
-use Rattle.world.specs.Shelf.{Shelved, Stop, Disk, IsShelf, Continues, MayStop, MayLeave, LeavesOnly}
-use Rattle.world.specs.Writes.{LeavesBut, WritesOnly}
-use Rattle.world.specs.lemmas.Moments.{continues_trans, then_run, weaker}
-use Rattle.world.specs.lemmas.Stopped.{as_read}
+use Rattle.session_spec.specs.Prelude.{Command, after_all, Geometry, Image, Condition, Conditions, Sound, Missing, LeftOut, IsBearable, IsWithin, is_missing, drive, nvram, Array, is_in_force, AnyFact, Device, Drive, Nv, spelling, BootSlot, IsRecordOf, body_in, names, other_slot, shown_by, Shows, ShowsIn, IsInSlot, IsNamedByNone, Stands, MayBeGiven, twice_other, within_twice, shower, one_left, kept_is, sound_before, TablesHold, same_drives_hold, Rises, geometry_of, has_failed, has_risen, Shelved, Stop, Disk, IsShelf, Continues, MayStop, MayLeave, LeavesOnly, LeavesBut, WritesOnly, continues_trans, then_run, weaker, as_read, AreRead, IsStanding, IsUnstored, StandsStill, failed_by, failed_since, read_now}
+use Rattle.array_memory.specs.Prelude.{Kept}
 use Rattle.boot_region.specs.declared.loading.Loaded.{Loaded}
-use Rattle.boot_region.specs.Slots.{slot_in}
-use Rattle.boot_region.specs.lemmas.Accounts.{losing_within}
+use Rattle.boot_region.specs.Prelude.{slot_in, losing_within}
 use Rattle.boot_region.proofs.Composing.{as_it_is}
 use Rattle.boot_region.proofs.Phases.{risen_on_way}
 use Rattle.boot_region.proofs.Stored.{lost, lost_within, never_sound, rises_between}
 use Rattle.nvram_log.specs.declared.log.NvLog.{NvLog}
 use Rattle.nvram_log.specs.declared.read.ReadFault.{ReadFault}
 use Rattle.nvram_log.specs.declared.read.ReadFault.TheVariants as read_fault
-use Rattle.nvram_log.specs.Held.{Keeps, HoldsOn, shown_by as shown_of}
-use Rattle.nvram_log.specs.Members.{IsMember, IsFewer, IsSome, OnMembers}
-use Rattle.nvram_log.specs.Read.{IsReadFrom, OnNothing, DroppedCounted, AllFailed}
-use Rattle.nvram_log.specs.Settling.{SettleBy, AreAsSeen, Agree}
+use Rattle.nvram_log.specs.Prelude.{Keeps, HoldsOn, shown_by as shown_of, IsMember, IsFewer, IsSome, OnMembers, IsReadFrom, OnNothing, DroppedCounted, AllFailed, SettleBy, AreAsSeen, Agree}
 use Rattle.takeover.specs.declared.log.LogFault.{LogFault}
 use Rattle.takeover.specs.declared.log.LogFault.TheVariants as log_fault
 use Rattle.takeover.specs.declared.log.OpenedLog.{OpenedLog}
-use Rattle.session_spec.specs.Entering.{AreRead, IsStanding, IsUnstored, StandsStill, failed_by, failed_since, read_now}
 use Rattle.takeover.specs.Found.{AreCounted, IsFoundOn}
 use Rattle.takeover.specs.LogOpen.{AreLeft, IsLogOpen, IsLogOpenBy, IsLogFault, ShowsUnserved}
-use Rattle.array_core.specs.Performing.{StandsOnceBack}
+use Rattle.array_core.specs.Prelude.{StandsOnceBack, bearable_or_not, fewer_borne, sound_since}
 use Rattle.takeover.specs.Outlasting.{AreSoundLogs}
 use Rattle.takeover.specs.Replay.{HasUnserved, IsReplayed, IsReplayFault, IsRun, log_fault_of}
 use Rattle.takeover.specs.Steps.{OpensLog}
@@ -58,7 +29,6 @@ use Rattle.takeover.proofs.Failing.{by_stop, since_later}
 use Rattle.takeover.proofs.LogSettling.{not_risen, stays, given_moves, answers, is_one, agree_here, standing_settling}
 use Rattle.takeover.proofs.NothingStored.{given_over, standing_with_fewer}
 use Rattle.array_core.proofs.Logged.{nothing_else}
-use Rattle.array_core.specs.lemmas.Losses.{bearable_or_not, fewer_borne, sound_since}
 use Rattle.nvram_log.proofs.SettledEach.{both_leave}
 use Rattle.register.proofs.Rounds.{same_shelf as shelf_stays}
 

@@ -3,32 +3,15 @@ use Rattle.std.proofs.Common.{◌≡◌, inl, inr, ℕ, ◌+◌, ◌<◌, ◌≤
 use Rattle.std.specs.Prelude.{Option, Some, None, if◌then◌else◌, slice_index_or}
 use Rattle.std.proofs.lemmas.Bool.{cases_Bool, cases_lt}
 use Rattle.std.proofs.lemmas.List.{ext_get_or, get_or_past, length-take}
-use Rattle.pur_base.specs.Commands.{Command, after_all}
-use Rattle.pur_base.specs.Devices.{Conditions, Sound, drive, nvram}
-use Rattle.pur_base.specs.Plain.{Array}
-use Rattle.pur_base.specs.Visible.{segment}
-use Rattle.pur_base.specs.declared.device.Device.{Device}
-use Rattle.pur_base.specs.declared.device.Device.TheVariants.{Drive, Nv}
-use Rattle.log_codec.specs.Log.{LogStands, Shows, ShowsIn}
-use Rattle.array_spec.specs.lemmas.LogBetween.{shower}
-use Rattle.array_spec.specs.lemmas.UnflushedRead.{kept_is}
-use Rattle.memory_spec.specs.Memory.{Contents, ReadsAs}
-use Rattle.memory_spec.specs.Tables.{facts}
-use Rattle.memory_spec.specs.Whole.{AreLayered}
-use Rattle.array_memory.specs.Kept.{Kept, HasSamePatches}
-use Rattle.array_core.specs.Room.{HasRoomFor}
-use Rattle.world.specs.Losing.{has_risen}
-use Rattle.world.specs.Shelf.{Continues, Disk, Shelved}
-use Rattle.world.specs.Writes.{ChangesOnly, WritesOnly}
+use Rattle.session_spec.specs.Prelude.{Command, after_all, Conditions, Sound, drive, nvram, Array, segment, Device, Drive, Nv, LogStands, Shows, ShowsIn, shower, kept_is, Contents, ReadsAs, facts, AreLayered, has_risen, Continues, Disk, Shelved, ChangesOnly, WritesOnly, failed_since, log_moves}
+use Rattle.array_memory.specs.Prelude.{Kept, HasSamePatches}
+use Rattle.array_core.specs.Prelude.{HasRoomFor, sound_since}
 use Rattle.boot_region.proofs.Phases.{risen_on_way}
 use Rattle.boot_region.proofs.Stored.{rises_between}
 use Rattle.nvram_log.specs.declared.log.NvLog.{NvLog}
 use Rattle.nvram_log.specs.declared.read.ReadFault.{ReadFault}
 use Rattle.nvram_log.specs.declared.read.ReadFault.TheVariants as read_fault
-use Rattle.nvram_log.specs.Held.{Keeps, shown_by}
-use Rattle.nvram_log.specs.Members.{IsFewer, IsMember}
-use Rattle.nvram_log.specs.Read.{DroppedCounted, IsReadFrom, OnNothing}
-use Rattle.session_spec.specs.Entering.{failed_since}
+use Rattle.nvram_log.specs.Prelude.{Keeps, shown_by, IsFewer, IsMember, DroppedCounted, IsReadFrom, OnNothing}
 use Rattle.takeover.specs.declared.log.LogFault.{LogFault}
 use Rattle.takeover.specs.declared.log.LogFault.TheVariants as log_fault
 use Rattle.takeover.specs.declared.log.OpenedLog.{OpenedLog}
@@ -36,8 +19,6 @@ use Rattle.takeover.specs.Opened.{AreClean}
 use Rattle.takeover.specs.Replay.{HasUnserved, IsReplayed, IsReplayFault, log_fault_of}
 use Rattle.takeover.specs.Replayed.{HasReplayed, IsReplayedBy, IsReplayedFrom, ShowedUnserved}
 use Rattle.takeover.proofs.Chains.{replayed_stands}
-use Rattle.array_core.specs.lemmas.Losses.{sound_since}
-use Rattle.array_spec.specs.lemmas.LogMoves.{log_moves}
 
 -- ---- what was shown
 

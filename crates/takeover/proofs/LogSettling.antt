@@ -6,40 +6,12 @@ use Rattle.std.proofs.Math.Seq.{take-length}
 use Rattle.std.proofs.lemmas.Bool.{cases_lt, cases_Bool, or_cases, ltb-true, leb-true}
 use Rattle.std.proofs.lemmas.List.{get_or_past, length-take}
 use Rattle.std.proofs.lemmas.Option.{slice_get_cases}
-use Rattle.pur_base.specs.Commands.{Command, after_all}
-use Rattle.pur_base.specs.Devices.{Geometry, Image, View, Condition, Conditions, Sound, Missing, LeftOut, MayShow, MayShowAs, IsBearable, IsWithin, MayBecome, is_sound, drive, nvram}
-use Rattle.pur_base.specs.Plain.{Array}
-use Rattle.pur_base.specs.Grammar.{is_in_force}
-use Rattle.pur_base.specs.declared.facts.AnyFact.{AnyFact}
-use Rattle.pur_base.specs.declared.device.Device.{Device}
-use Rattle.pur_base.specs.declared.device.Device.TheVariants.{Drive, Nv}
-use Rattle.boot_codec.specs.declared.record.BootRecord.{BootRecord}
-use Rattle.boot_codec.specs.Spelling.{spelling}
-use Rattle.boot_codec.specs.Region.{BootSlot, shown_by, names, of_members}
-use Rattle.log_codec.specs.Log.{Shows, ShowsIn, IsInSlot, LogStands}
-use Rattle.array_spec.specs.LogSettling.{answering, SettlesLog, MaySettle}
-use Rattle.array_spec.specs.Standing.{Stands, IsViewOf, MayBeGiven, IsReadBy}
-use Rattle.array_spec.specs.lemmas.LogBetween.{shower}
+use Rattle.session_spec.specs.Prelude.{Command, after_all, Geometry, Image, View, Condition, Conditions, Sound, Missing, LeftOut, MayShow, MayShowAs, IsBearable, IsWithin, MayBecome, is_sound, drive, nvram, Array, is_in_force, AnyFact, Device, Drive, Nv, BootRecord, spelling, BootSlot, shown_by, names, of_members, Shows, ShowsIn, IsInSlot, LogStands, answering, SettlesLog, MaySettle, Stands, IsViewOf, MayBeGiven, IsReadBy, shower, one_log, twice_other, more_may_go_missing, within_twice, kept_some, was_left_out, sound_before, read_holds, one_base, geometry_of, has_risen, missing_if, Shelved, Stop, Disk, IsShelf, MayStop, MayLeave, LeavesBut, WritesOnly, as_read, IsStanding, shows_move, log_moves}
 use Rattle.array_spec.proofs.LogSettled.{settling_keeps}
-use Rattle.array_spec.specs.lemmas.OneLog.{one_log}
-use Rattle.array_spec.specs.lemmas.Settling.{twice_other}
-use Rattle.array_spec.specs.lemmas.Standings.{more_may_go_missing, within_twice}
-use Rattle.array_spec.specs.lemmas.UnflushedRead.{kept_some, was_left_out}
-use Rattle.array_spec.specs.lemmas.Votes.{sound_before}
-use Rattle.array_spec.specs.lemmas.Reading.{read_holds}
-use Rattle.array_spec.specs.lemmas.Unique.{one_base}
-use Rattle.world.specs.Losing.{geometry_of, has_risen, missing_if}
-use Rattle.world.specs.Shelf.{Shelved, Stop, Disk, IsShelf, MayStop, MayLeave}
-use Rattle.world.specs.Writes.{LeavesBut, WritesOnly}
-use Rattle.world.specs.lemmas.Stopped.{as_read}
 use Rattle.boot_region.specs.declared.loading.Loaded.{Loaded}
-use Rattle.boot_region.specs.Slots.{slot_in}
+use Rattle.boot_region.specs.Prelude.{slot_in}
 use Rattle.boot_region.proofs.Composing.{as_it_is, is_sound_is}
-use Rattle.nvram_log.specs.Held.{shown_by as shown_of}
-use Rattle.nvram_log.specs.Members.{IsMember, IsFewer, OnMembers}
-use Rattle.nvram_log.specs.Read.{OnNothing}
-use Rattle.nvram_log.specs.Settling.{SettlesBy, SettleBy}
-use Rattle.session_spec.specs.Entering.{IsStanding}
+use Rattle.nvram_log.specs.Prelude.{shown_by as shown_of, IsMember, IsFewer, OnMembers, OnNothing, SettlesBy, SettleBy}
 use Rattle.takeover.specs.Found.{IsFoundOn}
 use Rattle.takeover.specs.LogOpen.{AreLeft}
 use Rattle.takeover.specs.Replay.{IsRun}
@@ -48,7 +20,6 @@ use Rattle.takeover.proofs.Chains.{replayed_stands, of_front, agrees}
 use Rattle.takeover.proofs.Generations.{this_or_later}
 use Rattle.takeover.proofs.NothingStored.{left_out_settled, read_settled}
 use Rattle.array_core.proofs.Logged.{nothing_else}
-use Rattle.array_spec.specs.lemmas.LogMoves.{shows_move, log_moves}
 
 -- ---- conditions
 

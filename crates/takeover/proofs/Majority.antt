@@ -4,13 +4,8 @@ use Rattle.std.specs.Prelude.{count_by, not, option_and_then, slice_index_or}
 use Rattle.std.specs.List.{range_with_len}
 use Rattle.std.specs.Cmp.Lexicographic.{same_text}
 use Rattle.std.proofs.lemmas.List.FromFn.{length-map-range_with_len}
-use Rattle.pur_base.specs.Devices.{Geometry, Image, View, Conditions, Sound, IsBearable, is_missing, drive}
-use Rattle.pur_base.specs.declared.limits.TheConstants.{SLOTS_MIN}
-use Rattle.boot_codec.specs.Record.{set_count}
-use Rattle.boot_codec.specs.Region.{BootSlot, A, B, IsDecided, IsEffective, Yields, body_in, generation_in, is_vote, other_slot, shown_by, votes}
-use Rattle.array_spec.specs.lemmas.Votes.{counted, held_votes, most_votes, not_missing, one_is_decided}
-use Rattle.boot_region.specs.Members.{IsMember}
-use Rattle.boot_region.specs.lemmas.Shown.{shown_body}
+use Rattle.session_spec.specs.Prelude.{Geometry, Image, View, Conditions, Sound, IsBearable, is_missing, drive, SLOTS_MIN, set_count, BootSlot, A, B, IsDecided, IsEffective, Yields, body_in, generation_in, is_vote, other_slot, shown_by, votes, counted, held_votes, most_votes, not_missing, one_is_decided}
+use Rattle.boot_region.specs.Prelude.{IsMember, shown_body}
 use Rattle.boot_region.proofs.Stored.{count_none}
 use Rattle.takeover.proofs.Enough.{unflagged}
 

@@ -3,8 +3,8 @@ use Rattle.std.proofs.Common.{◌≡◌, inl, inr, ℕ, zero, suc, ◌<◌, ◌�
 use Rattle.std.specs.Prelude.{count_by}
 use Rattle.std.proofs.lemmas.List.{get_or-take, get_or_past, length-take}
 use Rattle.std.proofs.lemmas.Bool.{cases_lt}
-use Rattle.array_spec.specs.lemmas.Votes.{counted}
-use Rattle.boot_region.specs.Members.{IsMember}
+use Rattle.session_spec.specs.Prelude.{counted}
+use Rattle.boot_region.specs.Prelude.{IsMember}
 
 pub front_member : (n : ℕ) (flags : List Bool) (i : ℕ) → i < n → IsMember flags i → IsMember (take n flags) i
 front_member n flags i lt member = get_or-take n flags i false lt ∙ member

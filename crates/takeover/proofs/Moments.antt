@@ -1,32 +1,17 @@
 -- The moments of an opening, one call after another.
 use Rattle.std.proofs.Common.{◌≡◌, ◌⊎◌, ℕ, ◌<◌, Bool, true, false, List, [], sym, ◌∙◌, ap, subst, arith, Result}
 use Rattle.std.specs.Prelude.{slice_index_or}
-use Rattle.pur_base.specs.Commands.{Command, after_all}
+use Rattle.session_spec.specs.Prelude.{Command, after_all, Geometry, Conditions, Sound, IsBearable, IsOn, drive, nvram, Device, Drive, Nv, AnyFact, BootRecord, names, sound_before, Contents, ReadsAs, facts, patches, geometry_of, Shelved, Disk, Continues, Found, failed_since, read_now}
 use Rattle.pur_base.specs.Plain as plain
-use Rattle.pur_base.specs.Devices.{Geometry, Conditions, Sound, IsBearable, IsOn, drive, nvram}
-use Rattle.pur_base.specs.declared.device.Device.{Device}
-use Rattle.pur_base.specs.declared.device.Device.TheVariants.{Drive, Nv}
-use Rattle.pur_base.specs.declared.facts.AnyFact.{AnyFact}
-use Rattle.boot_codec.specs.declared.record.BootRecord.{BootRecord}
-use Rattle.boot_codec.specs.Region.{names}
-use Rattle.array_spec.specs.lemmas.Votes.{sound_before}
-use Rattle.memory_spec.specs.Memory.{Contents, ReadsAs}
-use Rattle.memory_spec.specs.Tables.{facts, patches}
-use Rattle.world.specs.Losing.{geometry_of}
-use Rattle.world.specs.Shelf.{Shelved, Disk, Continues}
 use Rattle.boot_region.specs.declared.loading.Loaded.{Loaded}
-use Rattle.boot_region.specs.Members.{IsMember, DroppedFailed, LostWrites}
-use Rattle.nvram_log.specs.Held.{HoldsOn}
-use Rattle.nvram_log.specs.Slots.{IsLog}
+use Rattle.boot_region.specs.Prelude.{IsMember, DroppedFailed, LostWrites}
+use Rattle.nvram_log.specs.Prelude.{HoldsOn, IsLog}
 use Rattle.register.specs.declared.state.Register.{Register}
-use Rattle.register.specs.Registers.{IsRegisterOf, drives_of, IsLaterRecord}
-use Rattle.register.specs.Standing.{IsOpen}
-use Rattle.array_memory.specs.Kept.{Kept}
-use Rattle.array_core.specs.Drives.{SegmentsHold}
-use Rattle.array_core.specs.Ready.{IsReady}
+use Rattle.register.specs.Prelude.{IsRegisterOf, drives_of, IsLaterRecord, IsOpen}
+use Rattle.array_memory.specs.Prelude.{Kept}
+use Rattle.array_core.specs.Prelude.{SegmentsHold, IsReady, fewer_borne}
 use Rattle.takeover.specs.declared.log.OpenedLog.{OpenedLog}
 use Rattle.takeover.specs.declared.log.LogFault.{LogFault}
-use Rattle.session_spec.specs.Entering.{Found, failed_since, read_now}
 use Rattle.takeover.specs.Found.{IsFoundOn}
 use Rattle.takeover.specs.LogOpen.{IsLogOpen, IsLogOpenBy}
 use Rattle.takeover.specs.Opened.{IsHeldBy, IsRecovered}
@@ -36,7 +21,6 @@ use Rattle.takeover.proofs.Failing.{since_later}
 use Rattle.takeover.proofs.Outlasted.{enters_firmly}
 use Rattle.takeover.proofs.RecoveredLemmas.{content, left_or_lost, still_left}
 use Rattle.takeover.proofs.Twice.{twice_since}
-use Rattle.array_core.specs.lemmas.Losses.{fewer_borne}
 use Rattle.register.proofs.Rounds.{same_shelf}
 
 -- the record is found with its tables, and then the log is opened

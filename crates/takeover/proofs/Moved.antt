@@ -2,21 +2,7 @@
 use Rattle.std.proofs.Common.{◌≡◌, ◌⊎◌, inl, inr, ℕ, zero, suc, ◌+◌, ◌*◌, ◌/◌, ◌≤◌, ◌<◌, List, [], ◌∷◌, map, sym, ap, ◌∙◌, arith}
 use Rattle.std.specs.Prelude.{Some, None, slice_index_or, option_map}
 use Rattle.std.specs.List.{AllByRecursion, AllZip}
-use Rattle.pur_base.specs.Bytes.{bytes_at}
-use Rattle.pur_base.specs.Devices.{Geometry, Image, View, drive}
-use Rattle.pur_base.specs.declared.facts.AnyFact.{AnyFact}
-use Rattle.pur_base.specs.declared.place.Place.{Place}
-use Rattle.boot_codec.specs.Record.{AscendFrom, IsSegment, IsPatch}
-use Rattle.boot_codec.specs.Region.{IsRecordOf}
-use Rattle.boot_codec.specs.declared.patch.Patch.{Patch}
-use Rattle.boot_codec.specs.declared.patch.PatchSegment.{PatchSegment}
-use Rattle.boot_codec.specs.declared.record.BootRecord.{BootRecord}
-use Rattle.segment_codec.specs.Stripes.{SectorStands, StripesStand}
-use Rattle.array_spec.specs.Laws.{DiffersOnlyIn}
-use Rattle.array_spec.specs.Stored.{PatchStands, PatchesStand, places_of_part, pages_in_part}
-use Rattle.array_spec.specs.lemmas.Fewer.{patches_on}
-use Rattle.array_spec.specs.lemmas.Moves.{SameUnit, SameUnits, Keeps, same_units_keep}
-use Rattle.array_spec.specs.lemmas.Quiet.{bytes_same, in_unit}
+use Rattle.session_spec.specs.Prelude.{bytes_at, Geometry, Image, View, drive, AnyFact, Place, AscendFrom, IsSegment, IsPatch, IsRecordOf, Patch, PatchSegment, BootRecord, SectorStands, StripesStand, DiffersOnlyIn, PatchStands, PatchesStand, places_of_part, pages_in_part, patches_on, SameUnit, SameUnits, Keeps, same_units_keep, bytes_same, in_unit}
 
 module _ (old new : View) where
   sector_moves : (places : List Place) (index : ℕ) (sector : List ℕ) → Keeps old new places → SectorStands old places index sector → SectorStands new places index sector

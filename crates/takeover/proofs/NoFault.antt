@@ -1,27 +1,11 @@
 -- No fault of a loading comes where the devices stand for arrays and no more is missing than is borne.
 use Rattle.std.proofs.Common.{◌≡◌, ◌⊎◌, inl, inr, ℕ, ◌+◌, ◌<◌, ◌≤◌, Bool, true, List, length, refl, sym, subst, arith, Result, Ok}
 use Rattle.std.proofs.lemmas.Bool.{cases_Bool}
-use Rattle.pur_base.specs.Plain.{Array}
-use Rattle.pur_base.specs.Devices.{Conditions, Sound, is_missing, IsBearable, drive}
-use Rattle.pur_base.specs.declared.device.Device.{Device}
-use Rattle.boot_codec.specs.declared.bad_record.BadRecord.{BadRecord}
-use Rattle.boot_codec.specs.declared.record.BootRecord.{BootRecord}
-use Rattle.boot_codec.specs.Reading.{read_record}
-use Rattle.boot_codec.specs.Record.{set_count}
-use Rattle.boot_codec.specs.Spelling.{spelling}
+use Rattle.session_spec.specs.Prelude.{Array, Conditions, Sound, is_missing, IsBearable, drive, Device, BadRecord, BootRecord, read_record, set_count, spelling, MayBeGiven, given_with_fewer, one_is_effective, not_missing, geometry_of, has_risen, Shelved, Stop, IsSame, Continues, MayStop, Enters, failed_since}
 use Rattle.boot_codec.proofs.RecordLemmas.{record_again}
-use Rattle.array_spec.specs.Standing.{MayBeGiven}
-use Rattle.array_spec.specs.lemmas.Standings.{given_with_fewer}
-use Rattle.array_spec.specs.lemmas.Votes.{one_is_effective, not_missing}
-use Rattle.world.specs.Losing.{geometry_of, has_risen}
-use Rattle.world.specs.Shelf.{Shelved, Stop, IsSame, Continues, MayStop}
 use Rattle.boot_region.specs.declared.loading.LoadFault.{LoadFault}
 use Rattle.boot_region.specs.declared.loading.LoadFault.TheVariants as faults
-use Rattle.boot_region.specs.Members.{IsMember}
-use Rattle.boot_region.specs.Regions.{IsRead}
-use Rattle.boot_region.specs.Loading.{IsFaultOf, IsBadBody, IsSpent, TooFewHold}
-use Rattle.boot_region.specs.lemmas.Accounts.{losing_within}
-use Rattle.session_spec.specs.Entering.{Enters, failed_since}
+use Rattle.boot_region.specs.Prelude.{IsMember, IsRead, IsFaultOf, IsBadBody, IsSpent, TooFewHold, losing_within}
 use Rattle.takeover.proofs.Loading.{at_time, may_at_time, same_leaves, view_appears, given_here, here_decided, seen_effective, view, member_here}
 use Rattle.array_core.proofs.Lost.{enough}
 

@@ -3,23 +3,7 @@ use Rattle.std.proofs.Common.{◌≡◌, inl, inr, ℕ, zero, suc, ◌+◌, ◌<
 use Rattle.std.specs.Prelude.{Option, Some, map, nat_lt, slice_get, slice_index_or, option_and_then, if◌then◌else◌}
 use Rattle.std.specs.List.{AllByRecursion, range_with_len}
 use Rattle.std.proofs.lemmas.Bool.{cases_Bool, cases_eq, ltb-false, ltb-true}
-use Rattle.pur_base.specs.Commands.{Command}
-use Rattle.pur_base.specs.Devices.{Geometry, Image, View, Conditions, Sound, IsBearable, IsWithin, drive, nvram}
-use Rattle.pur_base.specs.Grammar.{is_in_force}
-use Rattle.pur_base.specs.Plain.{Array}
-use Rattle.pur_base.specs.declared.device.Device.{Device}
-use Rattle.pur_base.specs.declared.device.Device.TheVariants.{Drive, Nv}
-use Rattle.boot_codec.specs.declared.record.BootRecord.{BootRecord}
-use Rattle.boot_codec.specs.Region.{BootSlot, shown_by, votes}
-use Rattle.boot_codec.specs.Spelling.{spelling}
-use Rattle.log_codec.specs.Log.{ShowsIn}
-use Rattle.array_spec.specs.LogSettling.{SettlesLog}
-use Rattle.array_spec.specs.Standing.{MayBeGiven}
-use Rattle.array_spec.specs.lemmas.Quiet.{effective_moves}
-use Rattle.array_spec.specs.lemmas.Standings.{given_with_fewer, more_may_go_missing, within_twice}
-use Rattle.array_spec.specs.lemmas.UnflushedRead.{was_left_out}
-use Rattle.array_spec.specs.lemmas.Votes.{sound_before}
-use Rattle.session_spec.specs.Entering.{AreRead, IsStanding, LeftOutAreNamedByNone}
+use Rattle.session_spec.specs.Prelude.{Command, Geometry, Image, View, Conditions, Sound, IsBearable, IsWithin, drive, nvram, is_in_force, Array, Device, Drive, Nv, BootRecord, BootSlot, shown_by, votes, spelling, ShowsIn, SettlesLog, MayBeGiven, effective_moves, given_with_fewer, more_may_go_missing, within_twice, was_left_out, sound_before, AreRead, IsStanding, LeftOutAreNamedByNone}
 
 votes_alike : (f g : ℕ → Option (List ℕ)) (a n : ℕ) → ((k : ℕ) → a ≤ k → k < a + n → f k ≡ g k) → map f (range_with_len a n) ≡ map g (range_with_len a n)
 votes_alike f g a zero same = refl

@@ -1,14 +1,9 @@
 -- Where no more is missing than is borne, no fault but want of memory comes from a loading.
 use Rattle.std.proofs.Common.{List, Err}
-use Rattle.pur_base.specs.Plain.{Array}
-use Rattle.pur_base.specs.Devices.{Conditions, IsBearable}
-use Rattle.pur_base.specs.declared.device.Device.{Device}
-use Rattle.world.specs.Losing.{geometry_of}
-use Rattle.world.specs.Shelf.{Shelved, IsShelf, IsSame, Continues}
+use Rattle.session_spec.specs.Prelude.{Array, Conditions, IsBearable, Device, geometry_of, Shelved, IsShelf, IsSame, Continues, Enters, failed_since}
 use Rattle.boot_region.specs.declared.loading.LoadFault.{LoadFault}
 use Rattle.boot_region.specs.declared.loading.LoadFault.TheVariants as faults
-use Rattle.boot_region.specs.Loading.{IsLoadOf}
-use Rattle.session_spec.specs.Entering.{Enters, failed_since}
+use Rattle.boot_region.specs.Prelude.{IsLoadOf}
 use Rattle.takeover.specs.Faults.{fault_of}
 use Rattle.takeover.specs.Found.{IsFoundBy}
 use Rattle.takeover.proofs.Loading.{as_they_read, may_read}

@@ -1,43 +1,17 @@
 -- The opening as a whole, from what each of its calls says.
 use Rattle.std.proofs.Common.{◌≡◌, ◌⊎◌, inl, inr, ℕ, ◌+◌, ◌-◌, ◌^◌, ◌<◌, ◌≤◌, Bool, true, List, [], Some, None, refl, sym, ◌∙◌, ap, subst, arith, Err}
 use Rattle.pur_base.specs.declared.reply.Status.TheVariants as status
-use Rattle.pur_base.specs.Commands.{Command, after_all}
-use Rattle.pur_base.specs.Devices.{Geometry, Conditions, IsBearable, View, drive, nvram}
+use Rattle.session_spec.specs.Prelude.{Command, after_all, Geometry, Conditions, IsBearable, View, drive, nvram, Device, AnyFact, BootRecord, NextNumbers, BootSlot, IsRecordOf, names, of_members, shown_by, spelling, LogStands, AreSound, MayBeGiven, PatchesStand, all_facts, Contents, FactsRead, ReadsAs, next_after_all, patches, geometry_of, has_failed, Shelved, Stop, Disk, MayStop, MayLeave, IsShelf, IsSame, Continues, IsCountedBy, LeavesOnly, WritesOnly, then_run, weaker, continues_trans, Enters, Found, OnlyFailedAreSilent, StandsStill, read_now, failed_by, failed_since, IsUnopenedBy}
 use Rattle.pur_base.specs.Plain as plain
-use Rattle.pur_base.specs.declared.device.Device.{Device}
-use Rattle.pur_base.specs.declared.facts.AnyFact.{AnyFact}
-use Rattle.boot_codec.specs.declared.record.BootRecord.{BootRecord}
-use Rattle.boot_codec.specs.declared.record.NextNumbers.{NextNumbers}
-use Rattle.boot_codec.specs.Region.{BootSlot, IsRecordOf, names, of_members, shown_by}
-use Rattle.boot_codec.specs.Spelling.{spelling}
-use Rattle.log_codec.specs.Log.{LogStands}
-use Rattle.array_spec.specs.Sound.{AreSound}
-use Rattle.array_spec.specs.Standing.{MayBeGiven}
-use Rattle.array_spec.specs.Stored.{PatchesStand, all_facts}
-use Rattle.memory_spec.specs.Memory.{Contents, FactsRead, ReadsAs}
-use Rattle.memory_spec.specs.Numbers.{next_after_all}
-use Rattle.memory_spec.specs.Tables.{patches}
-use Rattle.array_memory.specs.Kept.{Kept}
-use Rattle.world.specs.Losing.{geometry_of, has_failed}
-use Rattle.world.specs.Shelf.{Shelved, Stop, Disk, MayStop, MayLeave, IsShelf, IsSame, Continues, IsCountedBy, LeavesOnly}
-use Rattle.world.specs.Writes.{WritesOnly}
-use Rattle.world.specs.lemmas.Moments.{then_run, weaker, continues_trans}
+use Rattle.array_memory.specs.Prelude.{Kept}
 use Rattle.boot_region.specs.declared.loading.Loaded.{Loaded}
-use Rattle.boot_region.specs.Loading.{IsLawfulLoad}
-use Rattle.boot_region.specs.Members.{IsMember, DroppedFailed, LostWrites}
-use Rattle.boot_region.specs.Slots.{slot_in}
-use Rattle.boot_region.specs.Storing.{StandsBut}
-use Rattle.nvram_log.specs.Members.{OnMembers}
+use Rattle.boot_region.specs.Prelude.{IsLawfulLoad, IsMember, DroppedFailed, LostWrites, slot_in, StandsBut}
+use Rattle.nvram_log.specs.Prelude.{OnMembers}
 use Rattle.nvram_log.proofs.SettledEach.{both_leave}
 use Rattle.register.specs.declared.state.Register.{Register}
 use Rattle.register.specs.declared.next.StoreFault.{StoreFault}
 use Rattle.register.specs.declared.next.StoreFault.TheVariants.{Spent, TooFew}
-use Rattle.register.specs.Faults.{IsFaultOf}
-use Rattle.register.specs.Registers.{IsLaterRecord, IsRegisterOf, OnSlots, drives_of, named_sound, next_slot, own_slot}
-use Rattle.register.specs.Standing.{AllShow, Content, GivesOldOrNext, MayStore, StandsBack, StandsInLog, StillGiven}
-use Rattle.register.specs.lemmas.Flags.{in_cut}
-use Rattle.session_spec.specs.Entering.{Enters, Found, OnlyFailedAreSilent, StandsStill, read_now, failed_by, failed_since}
-use Rattle.session_spec.specs.Headline.{IsUnopenedBy}
+use Rattle.register.specs.Prelude.{IsFaultOf, IsLaterRecord, IsRegisterOf, OnSlots, drives_of, named_sound, next_slot, own_slot, AllShow, Content, GivesOldOrNext, MayStore, StandsBack, StandsInLog, StillGiven, in_cut}
 use Rattle.takeover.specs.declared.faults.OpenFault.{OpenFault}
 use Rattle.takeover.specs.declared.faults.OpenFault.TheVariants as open_fault
 use Rattle.takeover.specs.declared.log.LogFault.{LogFault}

@@ -1,35 +1,17 @@
 -- An opening in which more fails than is borne, one call after another: at every moment the devices stand for the arrays once they answer again.
 use Rattle.std.proofs.Common.{◌≡◌, ℕ, ◌+◌, ◌<◌, ◌≤◌, ◌-◌, ◌^◌, List, sym, ◌∙◌, ap, subst, arith, Bool, length, Result}
 use Rattle.std.specs.Prelude.{if◌then◌else◌}
-use Rattle.pur_base.specs.Plain.{Array}
-use Rattle.pur_base.specs.Devices.{Geometry, Conditions, Sound, LeftOut, IsBearable, IsWithin, drive}
-use Rattle.pur_base.specs.declared.facts.AnyFact.{AnyFact}
-use Rattle.boot_codec.specs.declared.record.BootRecord.{BootRecord}
-use Rattle.boot_codec.specs.Record.{set_count}
-use Rattle.boot_codec.specs.Region.{BootSlot, Yields, body_in, generation_in, other_slot}
-use Rattle.boot_codec.specs.Spelling.{spelling}
-use Rattle.array_spec.specs.Standing.{Stands}
-use Rattle.array_spec.specs.lemmas.Standings.{within_twice}
-use Rattle.world.specs.Losing.{geometry_of}
-use Rattle.world.specs.Shelf.{Shelved, Disk, Stop, IsShelf, Continues, LeavesOnly}
-use Rattle.memory_spec.specs.Tables.{patches}
-use Rattle.world.specs.lemmas.Moments.{then_run, weaker}
+use Rattle.session_spec.specs.Prelude.{Array, Geometry, Conditions, Sound, LeftOut, IsBearable, IsWithin, drive, AnyFact, BootRecord, set_count, BootSlot, Yields, body_in, generation_in, other_slot, spelling, Stands, within_twice, geometry_of, Shelved, Disk, Stop, IsShelf, Continues, LeavesOnly, patches, then_run, weaker, read_now}
 use Rattle.boot_region.specs.declared.loading.Loaded.{Loaded}
-use Rattle.boot_region.specs.Members.{IsMember}
-use Rattle.boot_region.specs.Slots.{slot_in}
-use Rattle.boot_region.specs.Storing.{IsOlder, StandsAgain}
+use Rattle.boot_region.specs.Prelude.{IsMember, slot_in, IsOlder, StandsAgain}
 use Rattle.boot_region.proofs.Stored.{others_lost, others_not_sound, others_sound, others_within}
-use Rattle.nvram_log.specs.Members.{IsFewer, IsSome}
+use Rattle.nvram_log.specs.Prelude.{IsFewer, IsSome}
 use Rattle.register.specs.declared.state.Register.{Register}
-use Rattle.register.specs.Registers.{IsRegisterOf, drives_of, named_sound, next_slot, own_slot}
-use Rattle.register.specs.Standing.{Content, IsFirm, IsOpen, MayStore}
-use Rattle.register.specs.lemmas.Flags.{in_cut}
+use Rattle.register.specs.Prelude.{IsRegisterOf, drives_of, named_sound, next_slot, own_slot, Content, IsFirm, IsOpen, MayStore, in_cut, cut_length, members_sound}
 use Rattle.register.proofs.Rounds.{same_shelf}
-use Rattle.register.specs.lemmas.Stores.{cut_length, members_sound}
-use Rattle.session_spec.specs.Entering.{read_now}
 use Rattle.takeover.specs.Found.{IsFoundOn}
 use Rattle.takeover.specs.LogOpen.{AreLeft, IsLogOpen, IsLogOpenOn}
-use Rattle.array_core.specs.Performing.{StandsOnceBack}
+use Rattle.array_core.specs.Prelude.{StandsOnceBack}
 use Rattle.takeover.specs.Outlasting.{AreSoundLogs, EntersFirmly, IsFoundFirmly, OutlastsFailures}
 use Rattle.takeover.specs.Steps.{AreTablesFound, IsRecordFound, OpensLog, StandsWhileFinding}
 use Rattle.takeover.specs.Tables.{HasTables}

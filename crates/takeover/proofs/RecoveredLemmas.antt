@@ -1,31 +1,15 @@
 -- From the log that was opened to the record that is stored.
 use Rattle.std.proofs.Common.{◌≡◌, ◌⊎◌, inl, inr, ℕ, ◌<◌, ◌≤◌, Bool, false, List, take, refl, sym, ◌∙◌, ap, subst, arith}
-use Rattle.pur_base.specs.Commands.{Command}
-use Rattle.pur_base.specs.Plain.{Array}
-use Rattle.pur_base.specs.declared.facts.AnyFact.{AnyFact}
-use Rattle.pur_base.specs.Devices.{Conditions, Sound, drive}
-use Rattle.pur_base.specs.declared.device.Device.{Device}
-use Rattle.boot_codec.specs.declared.record.BootRecord.{BootRecord}
-use Rattle.boot_codec.specs.Region.{BootSlot, other_slot, body_in, names}
-use Rattle.boot_codec.specs.Spelling.{spelling}
-use Rattle.array_spec.specs.Held.{TablesHold}
-use Rattle.world.specs.Losing.{geometry_of, has_risen}
-use Rattle.world.specs.Shelf.{Shelved, Stop, MayStop, Continues}
+use Rattle.session_spec.specs.Prelude.{Command, Array, AnyFact, Conditions, Sound, drive, Device, BootRecord, BootSlot, other_slot, body_in, names, spelling, TablesHold, geometry_of, has_risen, Shelved, Stop, MayStop, Continues, failed_since}
 use Rattle.boot_region.specs.declared.loading.Loaded.{Loaded}
-use Rattle.boot_region.specs.Members.{IsMember, DroppedFailed, LostWrites}
-use Rattle.boot_region.specs.Slots.{slot_in}
-use Rattle.boot_region.specs.Storing.{IsInForceOn}
+use Rattle.boot_region.specs.Prelude.{IsMember, DroppedFailed, LostWrites, slot_in, IsInForceOn}
 use Rattle.boot_region.proofs.Phases.{not_risen_before, risen_on_way}
-use Rattle.nvram_log.specs.Held.{HoldsOn}
+use Rattle.nvram_log.specs.Prelude.{HoldsOn}
 use Rattle.register.specs.declared.state.Register.{Register}
-use Rattle.register.specs.Registers.{IsRegisterOf, drives_of, own_slot, next_slot}
-use Rattle.register.specs.Standing.{Content, StandsInLog, MayStore}
-use Rattle.register.specs.lemmas.Shows.{holds_shows}
-use Rattle.register.specs.lemmas.Flags.{in_cut, cut_in}
-use Rattle.session_spec.specs.Entering.{failed_since}
+use Rattle.register.specs.Prelude.{IsRegisterOf, drives_of, own_slot, next_slot, Content, StandsInLog, MayStore, holds_shows, in_cut, cut_in}
 use Rattle.takeover.specs.LogOpen.{IsLogOpen}
 use Rattle.takeover.specs.declared.log.OpenedLog.{OpenedLog}
-use Rattle.array_core.specs.lemmas.Losses.{sound_since}
+use Rattle.array_core.specs.Prelude.{sound_since}
 
 -- the record that was found is in force on the drives of the shelf
 cut_force : (n : ℕ) (flags : List Bool) (shelf : Shelved) (missing : Conditions) (slot : BootSlot) (boot : BootRecord) → shelf.drives ≤ n → IsInForceOn shelf flags missing slot boot → IsInForceOn shelf (take n flags) missing slot boot

@@ -1,17 +1,11 @@
 -- Which devices an opening runs on, and which bytes it writes.
 use Rattle.std.proofs.Common.{◌≡◌, inl, inr, ℕ, ap, arith, Bool, List}
 use Rattle.std.proofs.lemmas.Bool.{cases_lt}
-use Rattle.pur_base.specs.declared.device.Device.{Device}
-use Rattle.pur_base.specs.declared.device.Device.TheVariants.{Drive, Nv}
-use Rattle.pur_base.specs.Devices.{nvram}
-use Rattle.boot_codec.specs.Region.{BootSlot, A, B, gate_place}
-use Rattle.world.specs.Shelf.{Shelved, Disk, Continues, IsSame}
-use Rattle.world.specs.Writes.{WritesOnly}
-use Rattle.world.specs.Ran.{Ran, Runs}
+use Rattle.session_spec.specs.Prelude.{Device, Drive, Nv, nvram, BootSlot, A, B, gate_place, Shelved, Disk, Continues, IsSame, WritesOnly, Ran, Runs}
 use Rattle.boot_region.specs.declared.regions.TheConstants.{REGION_BYTES}
-use Rattle.boot_region.specs.Members.{IsDrive, IsOneOf, OnClosed}
-use Rattle.nvram_log.specs.Members.{IsNvram, IsOnMember, OnMembers}
-use Rattle.register.specs.Registers.{OnSlots}
+use Rattle.boot_region.specs.Prelude.{IsDrive, IsOneOf, OnClosed}
+use Rattle.nvram_log.specs.Prelude.{IsNvram, IsOnMember, OnMembers}
+use Rattle.register.specs.Prelude.{OnSlots}
 use Rattle.register.proofs.Splice.{in_boot}
 use Rattle.takeover.specs.Found.{OnGates}
 use Rattle.takeover.specs.Opened.{OffSegments}

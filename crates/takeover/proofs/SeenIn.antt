@@ -2,36 +2,19 @@
 use Rattle.std.proofs.Common.{◌≡◌, ◌⊎◌, inl, inr, ℕ, ◌+◌, ◌/◌, ◌<◌, Bool, true, false, List, [], length, Some, slice_index, slice_index_or, sym, ◌∙◌, ap, subst, arith, Ok, Err}
 use Rattle.std.proofs.lemmas.Bool.{cases_Bool, cases_lt}
 use Rattle.std.proofs.lemmas.List.{ext_get_or}
-use Rattle.pur_base.specs.declared.limits.TheConstants.{BOOT_UNITS, SECTOR_BYTES, UNIT_BYTES}
-use Rattle.pur_base.specs.declared.device.Device.{Device}
-use Rattle.pur_base.specs.Gates.{is_open}
-use Rattle.pur_base.specs.Devices.{Conditions, drive, nvram}
-use Rattle.boot_codec.specs.declared.record.BootRecord.{BootRecord}
-use Rattle.boot_codec.specs.Record.{set_count}
-use Rattle.boot_codec.specs.Region.{BootSlot, gate_place, body_in, shown_by}
-use Rattle.boot_codec.specs.Spelling.{spelling}
-use Rattle.world.specs.Counts.{Rises}
-use Rattle.world.specs.Losing.{has_risen}
-use Rattle.array_spec.specs.Laws.{DiffersOnlyIn}
-use Rattle.world.specs.Shelf.{Shelved, IsIn, IsSame, Continues}
-use Rattle.world.specs.Writes.{WritesOnly}
+use Rattle.session_spec.specs.Prelude.{BOOT_UNITS, SECTOR_BYTES, UNIT_BYTES, Device, is_open, Conditions, drive, nvram, BootRecord, set_count, BootSlot, gate_place, body_in, shown_by, spelling, Rises, has_risen, DiffersOnlyIn, Shelved, IsIn, IsSame, Continues, WritesOnly, failed_since, read_now, HasTooFew}
 use Rattle.boot_region.specs.declared.loading.Loaded.{Loaded}
 use Rattle.boot_region.specs.declared.loading.LoadFault.{LoadFault}
 use Rattle.boot_region.specs.declared.loading.LoadFault.TheVariants as faults
 use Rattle.boot_region.specs.declared.slot.Slot.{Slot}
-use Rattle.boot_region.specs.Loading.{IsLoadBy, IsLoadOf}
-use Rattle.boot_region.specs.Members.{IsMember, OnClosed}
-use Rattle.boot_region.specs.Slots.{slot_in}
+use Rattle.boot_region.specs.Prelude.{IsLoadBy, IsLoadOf, IsMember, OnClosed, slot_in, bodies_same, gate_low, open_shows}
 use Rattle.boot_region.proofs.Phases.{risen_on_way}
-use Rattle.boot_region.specs.lemmas.Shown.{bodies_same, gate_low, open_shows}
-use Rattle.session_spec.specs.Entering.{failed_since, read_now}
-use Rattle.session_spec.specs.Headline.{HasTooFew}
 use Rattle.takeover.specs.Faults.{fault_of}
 use Rattle.takeover.specs.Opened.{AreClean}
 use Rattle.takeover.specs.Seen.{IsSeenIn, IsSeenBy}
 use Rattle.takeover.proofs.GivenFrom.{given_from}
 use Rattle.takeover.proofs.Showing.{below, stands_on, showing, shown, nvrams, silent, gives, member_showed, other_hid, too_few, seen_fault}
-use Rattle.array_core.specs.lemmas.Losses.{sound_since}
+use Rattle.array_core.specs.Prelude.{sound_since}
 use Rattle.takeover.proofs.WhatFound.{rose}
 
 -- a loading that failed

@@ -1,19 +1,8 @@
 -- The record is loaded, and then settled on the drives that hold it: for what the devices stand, and that it is found.
 use Rattle.std.proofs.Common.{◌≡◌, ◌⊎◌, ◌∙◌, ℕ, ◌<◌, List, [], Ok}
-use Rattle.pur_base.specs.Devices.{Conditions, IsBearable, IsWithin}
-use Rattle.pur_base.specs.Plain.{Array}
-use Rattle.pur_base.specs.declared.device.Device.{Device}
-use Rattle.boot_codec.specs.Region.{gate_place, other_slot}
-use Rattle.world.specs.Counts.{Rises}
-use Rattle.world.specs.Losing.{geometry_of}
-use Rattle.world.specs.Shelf.{Shelved, IsShelf, IsSame, Continues}
-use Rattle.world.specs.Writes.{WritesOnly}
+use Rattle.session_spec.specs.Prelude.{Conditions, IsBearable, IsWithin, Array, Device, gate_place, other_slot, Rises, geometry_of, Shelved, IsShelf, IsSame, Continues, WritesOnly, Enters, failed_since}
 use Rattle.boot_region.specs.declared.loading.Loaded.{Loaded}
-use Rattle.boot_region.specs.Loading.{IsLoadBy, MayBeSettled}
-use Rattle.boot_region.specs.Members.{IsMember, OnClosed}
-use Rattle.boot_region.specs.Slots.{slot_in}
-use Rattle.boot_region.specs.Storing.{IsFound, IsInForceOn, IsLoaded, TellsFailed}
-use Rattle.session_spec.specs.Entering.{Enters, failed_since}
+use Rattle.boot_region.specs.Prelude.{IsLoadBy, MayBeSettled, IsMember, OnClosed, slot_in, IsFound, IsInForceOn, IsLoaded, TellsFailed}
 use Rattle.takeover.specs.Found.{IsFoundOn}
 use Rattle.takeover.specs.Steps.{StandsWhileFinding}
 use Rattle.takeover.proofs.FirmlyFound.{again_while_reading, again_found}

@@ -1,25 +1,10 @@
 -- A stop while the record that was loaded is settled, in conditions in which it was loaded.
 use Rattle.std.proofs.Common.{◌≡◌, ℕ, List, sym, subst}
-use Rattle.pur_base.specs.Plain.{Array}
-use Rattle.pur_base.specs.Devices.{Geometry, Conditions, LeftOut, IsWithin, nvram}
-use Rattle.pur_base.specs.declared.device.Device.{Device}
-use Rattle.pur_base.specs.declared.limits.TheConstants.{SECTOR_BYTES}
-use Rattle.boot_codec.specs.declared.record.BootRecord.{BootRecord}
-use Rattle.boot_codec.specs.Region.{BootSlot, gate_place}
-use Rattle.log_codec.specs.Log.{ShowsIn}
-use Rattle.array_spec.specs.Laws.{IsNamedByNone}
-use Rattle.array_spec.specs.Standing.{Stands, MayBeGiven}
-use Rattle.array_spec.specs.lemmas.Standings.{given_with_fewer}
-use Rattle.world.specs.Losing.{geometry_of}
-use Rattle.world.specs.Shelf.{Shelved, Stop, IsShelf, IsSame, Continues, MayStop}
-use Rattle.world.specs.Writes.{LeavesBut}
+use Rattle.session_spec.specs.Prelude.{Array, Geometry, Conditions, LeftOut, IsWithin, nvram, Device, SECTOR_BYTES, BootRecord, BootSlot, gate_place, ShowsIn, IsNamedByNone, Stands, MayBeGiven, given_with_fewer, geometry_of, Shelved, Stop, IsShelf, IsSame, Continues, MayStop, LeavesBut, Enters, AreRead}
 use Rattle.boot_region.specs.declared.loading.Loaded.{Loaded}
-use Rattle.boot_region.specs.Members.{OnClosed}
-use Rattle.boot_region.specs.Slots.{slot_in}
-use Rattle.boot_region.specs.Storing.{IsLoaded}
+use Rattle.boot_region.specs.Prelude.{OnClosed, slot_in, IsLoaded}
 use Rattle.boot_region.proofs.Began.{began, on_nvram}
 use Rattle.boot_region.proofs.Settled.{stands_while_settling, no_more_given, settling_began, leaves_members}
-use Rattle.session_spec.specs.Entering.{Enters, AreRead}
 use Rattle.takeover.proofs.Loading.{at_time, may_at_time, same_leaves}
 use Rattle.register.proofs.Rounds.{same_shelf}
 

@@ -4,35 +4,15 @@ use Rattle.std.specs.Prelude.{nat_lt, is_some, bytes_eq}
 use Rattle.std.proofs.lemmas.Bool.{cases_Bool, cases_lt, ltb-true, lt-ltb}
 use Rattle.std.proofs.lemmas.List.{get_or_past}
 use Rattle.std.specs.Cmp.Lexicographic.{same_text}
-use Rattle.pur_base.specs.Bytes.{bytes_at}
-use Rattle.pur_base.specs.declared.device.Device.{Device}
-use Rattle.pur_base.specs.declared.device.Device.TheVariants.{Drive, Nv}
-use Rattle.pur_base.specs.Devices.{View, Sound, Missing, drive, nvram}
-use Rattle.boot_codec.specs.declared.bad_record.BadRecord.{BadRecord}
-use Rattle.boot_codec.specs.declared.record.BootRecord.{BootRecord}
-use Rattle.boot_codec.specs.Reading.{read_record}
-use Rattle.boot_codec.specs.Record.{set_count}
-use Rattle.boot_codec.specs.Region.{BootSlot, Effective, IsEffective, IsDecided, votes, other_slot, shown_by, body_in, with_body, of_members}
-use Rattle.boot_codec.specs.Spelling.{spelling}
+use Rattle.session_spec.specs.Prelude.{bytes_at, Device, Drive, Nv, View, Sound, Missing, drive, nvram, BadRecord, BootRecord, read_record, set_count, BootSlot, Effective, IsEffective, IsDecided, votes, other_slot, shown_by, body_in, with_body, of_members, spelling, not_holding, spells_one, one_is_effective, Rises, geometry_of, has_risen, has_failed, losing, Shelved, Continues, OnlyFailedAreSilent, read_now, HasNoArray, HasTooFew, IsUnread}
 use Rattle.boot_codec.proofs.RecordLemmas.{record_again}
-use Rattle.array_spec.specs.Losses.{not_holding}
-use Rattle.array_spec.specs.lemmas.Spelled.{spells_one}
-use Rattle.array_spec.specs.lemmas.Votes.{one_is_effective}
-use Rattle.world.specs.Counts.{Rises}
-use Rattle.world.specs.Losing.{geometry_of, has_risen, has_failed, losing}
-use Rattle.world.specs.Shelf.{Shelved, Continues}
 use Rattle.boot_region.specs.declared.loading.LoadFault.{LoadFault}
 use Rattle.boot_region.specs.declared.loading.LoadFault.TheVariants as faults
-use Rattle.boot_region.specs.Members.{IsMember}
-use Rattle.boot_region.specs.Regions.{region_at, seen, is_holding, is_body_in, IsRead}
-use Rattle.boot_region.specs.Loading.{IsHeld, IsFaultOf, IsBadBody, IsSpent}
-use Rattle.boot_region.specs.lemmas.Found.{same_body, same_shown, same_over}
-use Rattle.session_spec.specs.Entering.{OnlyFailedAreSilent, read_now}
-use Rattle.session_spec.specs.Headline.{HasNoArray, HasTooFew, IsUnread}
+use Rattle.boot_region.specs.Prelude.{IsMember, region_at, seen, is_holding, is_body_in, IsRead, IsHeld, IsFaultOf, IsBadBody, IsSpent, same_body, same_shown, same_over}
 use Rattle.takeover.specs.Faults.{fault_of}
 use Rattle.takeover.specs.Seen.{IsSeenBy}
 use Rattle.takeover.proofs.NoFault.{few_lack}
-use Rattle.array_core.specs.lemmas.Losses.{sound_since}
+use Rattle.array_core.specs.Prelude.{sound_since}
 use Rattle.takeover.proofs.WhatFound.{rose}
 
 -- a drive of the shelf shows its bytes where it answered, and each other device shows them

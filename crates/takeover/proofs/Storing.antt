@@ -3,34 +3,12 @@ use Rattle.std.proofs.Common.{◌≡◌, ◌≢◌, ◌⊎◌, inl, inr, ℕ, �
 use Rattle.std.specs.Prelude.{slice_index_or}
 use Rattle.std.proofs.lemmas.Bool.{cases_Bool, cases_lt}
 use Rattle.std.proofs.lemmas.List.{get_or_past}
-use Rattle.pur_base.specs.Commands.{Command}
-use Rattle.pur_base.specs.declared.device.Device.{Device}
-use Rattle.pur_base.specs.declared.device.Device.TheVariants.{Drive, Nv}
-use Rattle.pur_base.specs.Devices.{Geometry, Image, Condition, Conditions, Sound, Missing, LeftOut, IsBearable, drive, nvram}
-use Rattle.pur_base.specs.Grammar.{is_in_force}
-use Rattle.pur_base.specs.Plain.{Array}
-use Rattle.pur_base.specs.declared.facts.AnyFact.{AnyFact}
-use Rattle.boot_codec.specs.declared.record.BootRecord.{BootRecord}
-use Rattle.boot_codec.specs.Region.{BootSlot, names, other_slot}
-use Rattle.boot_codec.specs.Spelling.{spelling}
-use Rattle.log_codec.specs.Log.{ShowsIn}
-use Rattle.array_spec.specs.Meaning.{members_view}
-use Rattle.array_spec.specs.Standing.{Stands, MayBeGiven}
-use Rattle.world.specs.Losing.{geometry_of, has_failed, has_risen}
-use Rattle.world.specs.Shelf.{Shelved, Stop, IsShelf, MayStop, MayLeave, Continues, IsCountedBy}
-use Rattle.world.specs.Writes.{LeavesBut}
-use Rattle.world.specs.lemmas.Stopped.{as_read}
+use Rattle.session_spec.specs.Prelude.{Command, Device, Drive, Nv, Geometry, Image, Condition, Conditions, Sound, Missing, LeftOut, IsBearable, drive, nvram, is_in_force, Array, AnyFact, BootRecord, BootSlot, names, other_slot, spelling, ShowsIn, members_view, Stands, MayBeGiven, geometry_of, has_failed, has_risen, Shelved, Stop, IsShelf, MayStop, MayLeave, Continues, IsCountedBy, LeavesBut, as_read, ComesBack, Found, IsStanding, LeftOutAreNamedByNone, OnlyFailedAreSilent, StandsStill, read_now, failed_by, failed_since, left_out_once}
 use Rattle.boot_region.specs.declared.loading.Loaded.{Loaded}
-use Rattle.boot_region.specs.Members.{IsMember}
-use Rattle.boot_region.specs.Slots.{slot_in}
-use Rattle.boot_region.specs.Storing.{AccountsFor, StandsBut, WasGiven}
-use Rattle.boot_region.specs.lemmas.Accounts.{failed_calls}
-use Rattle.nvram_log.specs.Members.{IsMember as IsLogMember}
+use Rattle.boot_region.specs.Prelude.{IsMember, slot_in, AccountsFor, StandsBut, WasGiven, failed_calls}
+use Rattle.nvram_log.specs.Prelude.{IsMember as IsLogMember}
 use Rattle.register.specs.declared.state.Register.{Register}
-use Rattle.register.specs.Registers.{OnSlots, drives_of, next_slot, own_slot}
-use Rattle.register.specs.Standing.{AreOfMembers, GivesOldOrNext, IsNextOf, MayStore, StandsBack, StillGiven}
-use Rattle.register.specs.lemmas.Flags.{cut_in}
-use Rattle.session_spec.specs.Entering.{ComesBack, Found, IsStanding, LeftOutAreNamedByNone, OnlyFailedAreSilent, StandsStill, read_now, failed_by, failed_since}
+use Rattle.register.specs.Prelude.{OnSlots, drives_of, next_slot, own_slot, AreOfMembers, GivesOldOrNext, IsNextOf, MayStore, StandsBack, StillGiven, cut_in}
 use Rattle.takeover.specs.declared.log.OpenedLog.{OpenedLog}
 use Rattle.takeover.specs.LogOpen.{IsLogOpen}
 use Rattle.takeover.proofs.Loading.{may_read}
@@ -41,7 +19,6 @@ use Rattle.takeover.proofs.Twice.{twice_by}
 use Rattle.takeover.proofs.WhatFound.{not_named, rose_before}
 use Rattle.register.proofs.Again.{not_risen_since}
 use Rattle.register.proofs.Rounds.{same_shelf}
-use Rattle.session_spec.specs.lemmas.Conditions.{left_out_once}
 
 -- the NVRAM devices show what they might have shown when the store began, and each record that may be given is read
 module _ (n : Shelved) (x : Loaded) (now : Conditions) (arrays : List Array) (ps : List (List AnyFact)) (base : Array) (o : OpenedLog) (was : Register) (is_n : IsShelf n) (h_n : n.honest)

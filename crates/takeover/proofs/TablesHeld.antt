@@ -4,33 +4,11 @@ use Rattle.std.specs.Prelude.{Option, Some, None, IsSome, ◌&&◌, nat_lt, if�
 use Rattle.std.specs.Str.{bytes_eq}
 use Rattle.std.proofs.lemmas.Bool.{cases_Bool, ltb-true, lt-ltb}
 use Rattle.std.proofs.lemmas.Slice.Eq.{bytes_eq-Decides}
-use Rattle.pur_base.specs.Devices.{Geometry, Image, View, Condition, Conditions, Sound, is_sound, drive}
-use Rattle.pur_base.specs.declared.device.Device.TheVariants.{Drive, Nv}
-use Rattle.pur_base.specs.Plain.{Array}
-use Rattle.pur_base.specs.Visible.{objects, segment}
-use Rattle.pur_base.specs.declared.facts.AnyFact.{AnyFact}
-use Rattle.pur_base.specs.declared.facts.SegmentFact.{SegmentFact}
-use Rattle.boot_codec.specs.declared.record.BootRecord.{BootRecord}
-use Rattle.boot_codec.specs.Region.{BootSlot, IsRecordOf, body_in, names, of_members}
-use Rattle.boot_codec.specs.Spelling.{spelling}
-use Rattle.array_spec.specs.Base.{BaseStands}
-use Rattle.array_spec.specs.Meaning.{HoldsBase, TablesStand, AllHold}
-use Rattle.array_spec.specs.Standing.{Stands, IsReadBy, IsViewOf, MayBeGiven}
-use Rattle.array_spec.specs.Stored.{PatchesStand, all_facts}
-use Rattle.array_spec.specs.lemmas.Fewer.{patches_keep, patches_on, places_keep}
-use Rattle.array_spec.specs.lemmas.Moves.{Keeps, base_moves, tables_kept}
-use Rattle.array_spec.specs.lemmas.Settling.{twice_other}
-use Rattle.array_spec.specs.Held.{AreSomeOf, AreEnough, TablesHold}
-use Rattle.array_spec.specs.lemmas.Members.{enough_hold}
-use Rattle.array_spec.specs.lemmas.Unique.{one_base, one_patches}
-use Rattle.world.specs.Losing.{geometry_of}
-use Rattle.world.specs.Shelf.{Shelved, Stop, IsShelf, MayStop}
-use Rattle.world.specs.lemmas.Stopped.{as_read}
+use Rattle.session_spec.specs.Prelude.{Geometry, Image, View, Condition, Conditions, Sound, is_sound, drive, Drive, Nv, Array, objects, segment, AnyFact, SegmentFact, BootRecord, BootSlot, IsRecordOf, body_in, names, of_members, spelling, BaseStands, HoldsBase, TablesStand, AllHold, Stands, IsReadBy, IsViewOf, MayBeGiven, PatchesStand, all_facts, patches_keep, patches_on, places_keep, Keeps, base_moves, tables_kept, twice_other, AreSomeOf, AreEnough, TablesHold, enough_hold, one_base, one_patches, geometry_of, Shelved, Stop, IsShelf, MayStop, as_read, read_now}
 use Rattle.boot_region.specs.declared.loading.Loaded.{Loaded}
-use Rattle.boot_region.specs.Slots.{slot_in}
+use Rattle.boot_region.specs.Prelude.{slot_in}
 use Rattle.boot_region.proofs.Composing.{as_it_is, is_sound_is}
 use Rattle.register.proofs.Follows.{shows_itself}
-use Rattle.session_spec.specs.Entering.{read_now}
 use Rattle.takeover.specs.Found.{IsFoundOn}
 use Rattle.takeover.specs.Tables.{HoldTables}
 use Rattle.takeover.proofs.Loading.{may_read}

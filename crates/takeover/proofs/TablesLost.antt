@@ -3,23 +3,9 @@ use Rattle.std.proofs.Common.{◌≡◌, ◌⊎◌, inl, inr, ℕ, ◌+◌, ◌-
 use Rattle.std.specs.Prelude.{Option, Some, None, count_by, is_some, if◌then◌else◌}
 use Rattle.std.specs.List.{range_with_len}
 use Rattle.std.proofs.lemmas.List.Elements.{All-contains, All-from_recursion}
-use Rattle.pur_base.specs.Devices.{Geometry, View, Conditions, Sound, Missing, is_missing, drive}
-use Rattle.pur_base.specs.declared.device.Device.{Device}
-use Rattle.pur_base.specs.declared.facts.AnyFact.{AnyFact}
-use Rattle.boot_codec.specs.Record.{IsPatch}
-use Rattle.boot_codec.specs.Region.{BootSlot, IsRecordOf, of_members}
-use Rattle.boot_codec.specs.declared.patch.Patch.{Patch}
-use Rattle.boot_codec.specs.declared.record.BootRecord.{BootRecord}
-use Rattle.array_spec.specs.Losses.{not_holding}
-use Rattle.array_spec.specs.Sound.{AreSound}
-use Rattle.array_spec.specs.Stored.{PatchesStand, places_of_part}
-use Rattle.array_spec.specs.lemmas.Spelled.{spells_one}
-use Rattle.array_spec.specs.lemmas.Votes.{one_is_effective}
-use Rattle.world.specs.Losing.{geometry_of, has_failed, losing, missing_if}
-use Rattle.world.specs.Shelf.{Shelved, IsSame, Continues}
-use Rattle.segment_io.specs.Lost.{is_in}
-use Rattle.segment_io.specs.Places.{ArePlaces, place_of, drive_of}
-use Rattle.patch_io.specs.Faults.{AreLostSince}
+use Rattle.session_spec.specs.Prelude.{Geometry, View, Conditions, Sound, Missing, is_missing, drive, Device, AnyFact, IsPatch, BootSlot, IsRecordOf, of_members, Patch, BootRecord, not_holding, AreSound, PatchesStand, places_of_part, spells_one, one_is_effective, geometry_of, has_failed, losing, missing_if, Shelved, IsSame, Continues, OnlyFailedAreSilent, read_now, HasNoArray, HasTooFew, split_count}
+use Rattle.segment_io.specs.Prelude.{is_in, ArePlaces, place_of, drive_of}
+use Rattle.patch_io.specs.Prelude.{AreLostSince}
 use Rattle.patch_io.proofs.Parts.{places_of}
 use Rattle.table_loading.specs.declared.fault.TablesFault.{TablesFault}
 use Rattle.table_loading.specs.declared.fault.TablesFault.TheVariants as tables
@@ -27,15 +13,12 @@ use Rattle.table_loading.specs.Faults.{IsTablesFault}
 use Rattle.table_loading.specs.Loading.{ShowsDrives}
 use Rattle.table_loading.proofs.Loaded.{lawful_patches}
 use Rattle.boot_region.specs.declared.loading.Loaded.{Loaded}
-use Rattle.boot_region.specs.Slots.{slot_in}
-use Rattle.session_spec.specs.Entering.{OnlyFailedAreSilent, read_now}
-use Rattle.session_spec.specs.Headline.{HasNoArray, HasTooFew}
+use Rattle.boot_region.specs.Prelude.{slot_in}
 use Rattle.takeover.specs.declared.faults.OpenFault.{OpenFault}
 use Rattle.takeover.specs.Faults.{IsFaultOfTables}
 use Rattle.takeover.specs.Seen.{AreTablesSeenBy, IsSeenIn}
 use Rattle.takeover.proofs.TablesRead.{shows, stand_now, view}
 use Rattle.takeover.proofs.WhatFound.{rose_before, rose}
-use Rattle.array_spec.specs.lemmas.Fewer.{split_count}
 use Rattle.register.proofs.Rounds.{same_shelf}
 
 -- three of them

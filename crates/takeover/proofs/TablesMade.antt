@@ -2,30 +2,13 @@
 use Rattle.std.proofs.Common.{◌≡◌, ℕ, ◌≤◌, List, [], ◌++◌, length, map, sym, ap, subst, arith}
 use Rattle.std.specs.Prelude.{All, Contains}
 use Rattle.std.proofs.lemmas.List.Elements.{All-contains, All-from_recursion, recursion_from_All, Contains-append_left}
-use Rattle.pur_base.specs.Devices.{Geometry}
-use Rattle.pur_base.specs.Facts.{table_tag}
-use Rattle.pur_base.specs.Plain.{Array}
-use Rattle.pur_base.specs.declared.facts.ObjectFact.{ObjectFact}
-use Rattle.pur_base.specs.declared.facts.AddressFact.{AddressFact}
-use Rattle.pur_base.specs.declared.facts.AnyFact.{AnyFact}
+use Rattle.session_spec.specs.Prelude.{Geometry, table_tag, Array, ObjectFact, AddressFact, AnyFact, BootRecord, IsFact, AreSound, all_facts, in_patches, facts_of, Contents, FactsRead, ReadsAs, all_of, facts, flushed, patches, of_all, each_by_recursion, zip_weaker, IsNamed, IsWhole, in_patches_are, patches_are_all}
 use Rattle.pur_base.specs.declared.facts.AnyFact.TheVariants as any
-use Rattle.boot_codec.specs.declared.record.BootRecord.{BootRecord}
-use Rattle.fact_codec.specs.Fact.{IsFact}
-use Rattle.array_spec.specs.Sound.{AreSound}
-use Rattle.array_spec.specs.Stored.{all_facts, in_patches}
-use Rattle.pyramid.specs.Layers.{facts_of}
-use Rattle.memory_spec.specs.Memory.{Contents, FactsRead, ReadsAs}
-use Rattle.memory_spec.specs.Tables.{all_of, facts, flushed, patches}
-use Rattle.memory_spec.specs.lemmas.AllTables.{of_all}
-use Rattle.memory_spec.specs.lemmas.Lists.{each_by_recursion, zip_weaker}
-use Rattle.memory_spec.specs.Whole.{IsNamed, IsWhole}
-use Rattle.memory_spec.specs.lemmas.Patches.{in_patches_are, patches_are_all}
 use Rattle.table_soundness.specs.declared.tables.LoadedTables.{LoadedTables}
 use Rattle.table_soundness.specs.Faults as judged
 use Rattle.table_soundness.specs.Faults.{patches_in, AreLawful, AreNamed}
 use Rattle.memory_spec.proofs.Sound.{sound_tables_read}
-use Rattle.array_memory.specs.Kept.{Kept}
-use Rattle.array_memory.specs.Loaded.{AreInSegments, HasLogRoom, IsLoaded}
+use Rattle.array_memory.specs.Prelude.{Kept, AreInSegments, HasLogRoom, IsLoaded}
 use Rattle.takeover.specs.Tables.{IsMemoryOf}
 
 module _ (shelf : Geometry) (boot : BootRecord) (t : LoadedTables) (k : Kept) (sound : AreSound shelf boot (patches_in t)) (lawful : AreLawful t) (named : AreNamed boot t) (loaded : IsLoaded boot t k.memory) where

@@ -3,35 +3,16 @@ use Rattle.std.proofs.Common.{◌≡◌, ◌⊎◌, inl, inr, ℕ, ◌<◌, ◌�
 use Rattle.std.specs.Prelude.{Option, Some, None, slice_index, option_and_then, if◌then◌else◌}
 use Rattle.std.specs.Str.{bytes_eq}
 use Rattle.std.proofs.lemmas.Bool.{cases_Bool}
-use Rattle.pur_base.specs.Devices.{Geometry, View, Conditions, drive, nvram}
-use Rattle.pur_base.specs.declared.device.Device.{Device}
-use Rattle.pur_base.specs.declared.device.Device.TheVariants.{Drive, Nv}
-use Rattle.pur_base.specs.Plain.{Array}
-use Rattle.pur_base.specs.declared.facts.AnyFact.{AnyFact}
-use Rattle.boot_codec.specs.Region.{BootSlot, IsRecordOf, body_in, names, of_members, other_slot, shown_by, with_body}
-use Rattle.boot_codec.specs.Spelling.{spelling}
-use Rattle.array_spec.specs.Laws.{DiffersOnlyIn, IsNamedByNone}
-use Rattle.array_spec.specs.Standing.{Stands, MayBeGiven}
-use Rattle.array_spec.specs.Stored.{PatchesStand, PatchStands, all_facts}
-use Rattle.array_spec.specs.lemmas.Votes.{sound_before}
-use Rattle.world.specs.Losing.{geometry_of, has_failed}
-use Rattle.world.specs.Shelf.{Shelved, Stop, IsShelf, IsSame, Continues, MayStop}
-use Rattle.world.specs.Writes.{WritesOnly}
-use Rattle.world.specs.lemmas.Moments.{then_run, weaker}
-use Rattle.memory_spec.specs.Tables.{patches}
-use Rattle.patch_io.specs.Standing.{StripesStandOf}
-use Rattle.segment_io.specs.Lost.{is_in}
+use Rattle.session_spec.specs.Prelude.{Geometry, View, Conditions, drive, nvram, Device, Drive, Nv, Array, AnyFact, BootSlot, IsRecordOf, body_in, names, of_members, other_slot, shown_by, with_body, spelling, DiffersOnlyIn, IsNamedByNone, Stands, MayBeGiven, PatchesStand, PatchStands, all_facts, sound_before, geometry_of, has_failed, Shelved, Stop, IsShelf, IsSame, Continues, MayStop, WritesOnly, then_run, weaker, patches, all_patches, AreRead, OnlyFailedAreSilent, read_now, failed_since}
+use Rattle.patch_io.specs.Prelude.{StripesStandOf}
+use Rattle.segment_io.specs.Prelude.{is_in}
 use Rattle.table_loading.specs.Loading.{ShowsDrives, StripesStandOfAll}
-use Rattle.array_spec.specs.lemmas.Unique.{all_patches}
 use Rattle.table_loading.proofs.Zips.{zip_first}
 use Rattle.memory_spec.proofs.Stored.{stored_tables_read}
 use Rattle.boot_region.specs.declared.loading.Loaded.{Loaded}
-use Rattle.boot_region.specs.Members.{IsMember}
-use Rattle.boot_region.specs.Slots.{slot_in}
-use Rattle.boot_region.specs.Storing.{IsInForceOn}
-use Rattle.nvram_log.specs.Read.{OnNothing}
-use Rattle.array_memory.specs.Kept.{Kept}
-use Rattle.session_spec.specs.Entering.{AreRead, OnlyFailedAreSilent, read_now, failed_since}
+use Rattle.boot_region.specs.Prelude.{IsMember, slot_in, IsInForceOn}
+use Rattle.nvram_log.specs.Prelude.{OnNothing}
+use Rattle.array_memory.specs.Prelude.{Kept}
 use Rattle.takeover.specs.Found.{IsFoundOn}
 use Rattle.takeover.specs.Opened.{AreClean}
 use Rattle.takeover.specs.Seen.{AreTablesSeen, IsSeenIn}

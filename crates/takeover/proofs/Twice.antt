@@ -1,12 +1,8 @@
 -- Devices that fail in one call and then in the next.
 use Rattle.std.proofs.Common.{◌≡◌, inl, inr, ℕ, ◌<◌, ◌≤◌, Bool, true, false, refl, sym, subst, arith}
 use Rattle.std.proofs.lemmas.Bool.{cases_Bool, cases_lt}
-use Rattle.pur_base.specs.declared.device.Device.{Device}
-use Rattle.pur_base.specs.Devices.{Condition, Conditions, Sound, Missing, LeftOut}
-use Rattle.world.specs.Shelf.{Shelved, Stop, Continues, IsCountedBy}
-use Rattle.world.specs.Losing.{has_risen, missing_if}
+use Rattle.session_spec.specs.Prelude.{Device, Condition, Conditions, Sound, Missing, LeftOut, Shelved, Stop, Continues, IsCountedBy, has_risen, missing_if, failed_since, failed_by}
 use Rattle.boot_region.proofs.Phases.{not_risen_before, risen_on_way}
-use Rattle.session_spec.specs.Entering.{failed_since, failed_by}
 use Rattle.register.proofs.Again.{not_risen_since}
 
 -- a count rose in all where it rose in one of the two

@@ -1,9 +1,7 @@
 -- What the devices showed, as a view of them.
 use Rattle.std.proofs.Common.{◌≡◌, ◌⊎◌, inl, inr, ℕ, ◌<◌, List, refl, sym, subst}
 use Rattle.std.specs.Prelude.{Option, Some, None, slice_index}
-use Rattle.pur_base.specs.declared.device.Device.{Device}
-use Rattle.pur_base.specs.Devices.{Geometry, Image, View, Condition, Conditions, Sound, Missing, LeftOut, MayShowAs}
-use Rattle.array_spec.specs.Standing.{IsViewOf, MayAppear}
+use Rattle.session_spec.specs.Prelude.{Device, Geometry, Image, View, Condition, Conditions, Sound, Missing, LeftOut, MayShowAs, IsViewOf, MayAppear}
 use Rattle.register.proofs.Follows.{shows_itself}
 
 may_show : (c : Condition) (bytes : List ℕ) (o : Option (List ℕ)) → ((i : ℕ) → slice_index bytes i < 256) → (o ≡ Some bytes) ⊎ (o ≡ None) → (c ≡ Sound → o ≡ Some bytes) → MayShowAs c bytes o

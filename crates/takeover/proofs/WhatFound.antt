@@ -3,40 +3,19 @@ use Rattle.std.proofs.Common.{◌≡◌, ◌≢◌, ◌⊎◌, inl, inr, ℕ, �
 use Rattle.std.specs.Prelude.{if◌then◌else◌, slice_index_or, is_some}
 use Rattle.std.proofs.lemmas.Bool.{cases_Bool, cases_lt}
 use Rattle.std.proofs.lemmas.List.{get_or_past}
-use Rattle.pur_base.specs.declared.device.Device.{Device}
-use Rattle.pur_base.specs.declared.device.Device.TheVariants.{Drive, Nv}
-use Rattle.pur_base.specs.Devices.{Condition, Sound, Missing, LeftOut, View, IsOn, drive, nvram}
-use Rattle.boot_codec.specs.declared.record.BootRecord.{BootRecord}
-use Rattle.boot_codec.specs.Record.{set_count}
-use Rattle.boot_codec.specs.Region.{BootSlot, Effective, IsRecordOf, names, of_members}
-use Rattle.pur_base.specs.Plain.{Array}
-use Rattle.log_codec.specs.Log.{Shows, ShowsIn, LogStands}
-use Rattle.memory_spec.specs.Memory.{Contents, ReadsAs}
-use Rattle.array_memory.specs.Kept.{Kept}
-use Rattle.array_spec.specs.Losses.{not_holding}
-use Rattle.array_spec.specs.Meaning.{members_view}
-use Rattle.array_spec.specs.lemmas.Spelled.{spells_one}
-use Rattle.array_spec.specs.lemmas.UnflushedRead.{kept_some, one_left}
-use Rattle.array_spec.specs.lemmas.Votes.{one_is_effective}
-use Rattle.world.specs.Counts.{Rises}
-use Rattle.world.specs.Losing.{geometry_of, has_failed, has_risen, losing}
-use Rattle.world.specs.Shelf.{Shelved, IsSame, Continues}
+use Rattle.session_spec.specs.Prelude.{Device, Drive, Nv, Condition, Sound, Missing, LeftOut, View, IsOn, drive, nvram, BootRecord, set_count, BootSlot, Effective, IsRecordOf, names, of_members, Array, Shows, ShowsIn, LogStands, Contents, ReadsAs, not_holding, members_view, spells_one, kept_some, one_left, one_is_effective, Rises, geometry_of, has_failed, has_risen, losing, Shelved, IsSame, Continues, Found, ComesOut, IsTakenOver, OnlyFailedAreSilent, read_now, HasNoArray, HasTooFew, log_moves}
+use Rattle.array_memory.specs.Prelude.{Kept}
 use Rattle.boot_region.specs.declared.loading.Loaded.{Loaded}
-use Rattle.boot_region.specs.Members.{IsMember, LostWrites}
-use Rattle.boot_region.specs.Slots.{slot_in}
+use Rattle.boot_region.specs.Prelude.{IsMember, LostWrites, slot_in}
 use Rattle.boot_region.proofs.Phases.{not_risen_before, risen_on_way}
-use Rattle.nvram_log.specs.Held.{shown_by}
-use Rattle.nvram_log.specs.Members.{IsMember as IsLogMember}
+use Rattle.nvram_log.specs.Prelude.{shown_by, IsMember as IsLogMember}
 use Rattle.register.specs.declared.state.Register.{Register}
-use Rattle.register.specs.Registers.{named_sound}
-use Rattle.session_spec.specs.Entering.{Found, ComesOut, IsTakenOver, OnlyFailedAreSilent, read_now}
-use Rattle.session_spec.specs.Headline.{HasNoArray, HasTooFew}
+use Rattle.register.specs.Prelude.{named_sound}
 use Rattle.takeover.specs.declared.log.OpenedLog.{OpenedLog}
 use Rattle.takeover.specs.Replayed.{IsReplayedFrom, ShowedUnserved}
 use Rattle.takeover.specs.Seen.{IsSeenIn}
 use Rattle.takeover.proofs.NoFault.{few_lack}
-use Rattle.array_core.specs.lemmas.Losses.{sound_since}
-use Rattle.array_spec.specs.lemmas.LogMoves.{log_moves}
+use Rattle.array_core.specs.Prelude.{sound_since}
 
 -- a count that rose on the way rose in all
 pub rose : (a b c d : ℕ) → a ≤ b → Rises b c → c ≤ d → has_risen a d ≡ true

@@ -1,21 +1,8 @@
 -- The record that was found, and settled on the drives that hold it.
 use Rattle.std.specs.Prelude.{◌≡◌, ◌⊎◌, ℕ, ◌<◌, ◌-◌, ◌^◌, List, true, Result, Ok, Err, ⊤}
-use Rattle.pur_base.specs.declared.device.Device.{Device}
-use Rattle.pur_base.specs.declared.device.Device.TheVariants.{Drive, Nv}
-use Rattle.pur_base.specs.declared.limits.TheConstants.{SECTOR_BYTES}
-use Rattle.pur_base.specs.Devices.{Conditions, Sound, LeftOut, drive}
-use Rattle.pur_base.specs.Plain.{Array}
-use Rattle.boot_codec.specs.Region.{A, B, other_slot, body_in, gate_place, names}
-use Rattle.boot_codec.specs.Spelling.{spelling}
-use Rattle.array_spec.specs.Laws.{IsNamedByNone}
-use Rattle.array_spec.specs.Meaning.{IsInForce}
-use Rattle.world.specs.Losing.{geometry_of}
-use Rattle.world.specs.Shelf.{Shelved, Stop, MayStop, IsIn}
+use Rattle.session_spec.specs.Prelude.{Device, Drive, Nv, SECTOR_BYTES, Conditions, Sound, LeftOut, drive, Array, A, B, other_slot, body_in, gate_place, names, spelling, IsNamedByNone, IsInForce, geometry_of, Shelved, Stop, MayStop, IsIn, AreRead}
 use Rattle.boot_region.specs.declared.loading.Loaded.{Loaded}
-use Rattle.boot_region.specs.Members.{IsMember}
-use Rattle.boot_region.specs.Slots.{slot_in}
-use Rattle.boot_region.specs.Storing.{StandsNow, IsInForceOn}
-use Rattle.session_spec.specs.Entering.{AreRead}
+use Rattle.boot_region.specs.Prelude.{IsMember, slot_in, StandsNow, IsInForceOn}
 use Rattle.takeover.specs.declared.faults.OpenFault.{OpenFault}
 use Rattle.takeover.specs.declared.faults.OpenFault.TheVariants as open_fault
 

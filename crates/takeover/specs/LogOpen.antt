@@ -1,19 +1,9 @@
 -- The log that was read, settled and replayed.
 use Rattle.std.specs.Prelude.{◌≡◌, ℕ, ◌<◌, Bool, true, false, List, Contains, Result, Ok, Err, ⊤}
 use Rattle.std.specs.List.{AllByRecursion}
-use Rattle.pur_base.specs.Commands.{Command, AllAccepted, after_all}
-use Rattle.pur_base.specs.Devices.{Conditions, Sound, LeftOut, IsBearable, IsWithin, drive, nvram}
-use Rattle.pur_base.specs.Grammar.{is_in_force}
-use Rattle.pur_base.specs.Plain.{Array}
-use Rattle.pur_base.specs.declared.facts.AnyFact.{AnyFact}
-use Rattle.boot_codec.specs.Region.{names}
-use Rattle.log_codec.specs.Log.{ShowsIn}
-use Rattle.world.specs.Counts.{Rises}
-use Rattle.world.specs.Losing.{geometry_of}
-use Rattle.world.specs.Shelf.{Shelved}
+use Rattle.session_spec.specs.Prelude.{Command, AllAccepted, after_all, Conditions, Sound, LeftOut, IsBearable, IsWithin, drive, nvram, is_in_force, Array, AnyFact, names, ShowsIn, Rises, geometry_of, Shelved}
 use Rattle.boot_region.specs.declared.loading.Loaded.{Loaded}
-use Rattle.nvram_log.specs.Held.{HoldsOn, Keeps}
-use Rattle.nvram_log.specs.Members.{IsMember, IsSome, IsFewer}
+use Rattle.nvram_log.specs.Prelude.{HoldsOn, Keeps, IsMember, IsSome, IsFewer}
 use Rattle.takeover.specs.Found.{IsFoundOn}
 use Rattle.takeover.specs.Tables.{HoldTables}
 use Rattle.takeover.specs.declared.log.OpenedLog.{OpenedLog}

@@ -1,34 +1,13 @@
 -- What an opening found and did, whatever failed, or why the array wasn't opened.
 use Rattle.std.specs.Prelude.{◌≡◌, ◌<◌, ◌+◌, ◌-◌, ◌^◌, ℕ, true, List, [], length, Contains, Result, Ok, Err, Option, Some, IfSome, All}
 use Rattle.std.specs.List.{AllByRecursion}
-use Rattle.pur_base.specs.Commands.{Command, after_all}
-use Rattle.pur_base.specs.Devices.{Conditions, Sound, IsBearable, IsOn}
-use Rattle.pur_base.specs.Grammar.{is_in_force}
+use Rattle.session_spec.specs.Prelude.{Command, after_all, Conditions, Sound, IsBearable, IsOn, is_in_force, Device, Drive, Nv, AnyFact, Status, names, IsFact, LogStands, HoldsBase, members_view, AreSound, PatchesStand, all_facts, in_patches, geometry_of, has_failed, Shelved, LeavesOnly, facts, patches, Contents, FactsRead, ReadsAs, next_after_all, Enters, Found, IsTakenOver, OnlyFailedAreSilent, StandsStill, read_now, failed_since, IsUnopenedBy}
 use Rattle.pur_base.specs.Plain as plain
-use Rattle.pur_base.specs.declared.device.Device.{Device}
-use Rattle.pur_base.specs.declared.device.Device.TheVariants.{Drive, Nv}
-use Rattle.pur_base.specs.declared.facts.AnyFact.{AnyFact}
-use Rattle.pur_base.specs.declared.reply.Status.{Status}
 use Rattle.pur_base.specs.declared.reply.Status.TheVariants as status
-use Rattle.boot_codec.specs.Region.{names}
-use Rattle.fact_codec.specs.Fact.{IsFact}
-use Rattle.log_codec.specs.Log.{LogStands}
-use Rattle.array_spec.specs.Meaning.{HoldsBase, members_view}
-use Rattle.array_spec.specs.Sound.{AreSound}
-use Rattle.array_spec.specs.Stored.{PatchesStand, all_facts, in_patches}
-use Rattle.world.specs.Losing.{geometry_of, has_failed}
-use Rattle.world.specs.Shelf.{Shelved, LeavesOnly}
 use Rattle.boot_region.specs.declared.regions.TheConstants.{REGION_BYTES}
-use Rattle.register.specs.Registers.{named_sound, next_slot}
-use Rattle.register.specs.Standing.{Content, array_of}
-use Rattle.memory_spec.specs.Tables.{facts, patches}
-use Rattle.memory_spec.specs.Memory.{Contents, FactsRead, ReadsAs}
-use Rattle.memory_spec.specs.Numbers.{next_after_all}
-use Rattle.session_spec.specs.Entering.{Enters, Found, IsTakenOver, OnlyFailedAreSilent, StandsStill, read_now, failed_since}
-use Rattle.session_spec.specs.Headline.{IsUnopenedBy}
+use Rattle.register.specs.Prelude.{named_sound, next_slot, Content, array_of}
 use Rattle.array_core.specs.declared.array.Array.{Array}
-use Rattle.array_core.specs.Drives.{SegmentsHold}
-use Rattle.array_core.specs.Ready.{IsReady}
+use Rattle.array_core.specs.Prelude.{SegmentsHold, IsReady}
 use Rattle.takeover.specs.Outlasting.{EntersFirmly}
 use Rattle.takeover.specs.declared.faults.OpenFault.{OpenFault}
 use Rattle.takeover.specs.declared.faults.OpenFault.TheVariants as open_fault

@@ -1,19 +1,9 @@
 -- What an opening leaves where more fails in it than is borne.
 use Rattle.std.specs.Prelude.{◌≡◌, true, ◌<◌, ℕ, Bool, List}
-use Rattle.pur_base.specs.declared.device.Device.{Device}
-use Rattle.pur_base.specs.Devices.{Conditions, Sound, IsBearable, IsWithin, drive, nvram}
-use Rattle.pur_base.specs.Plain.{Array}
-use Rattle.boot_codec.specs.declared.record.BootRecord.{BootRecord}
-use Rattle.boot_codec.specs.Region.{BootSlot, names, other_slot}
-use Rattle.boot_codec.specs.Spelling.{spelling}
-use Rattle.world.specs.Losing.{geometry_of}
-use Rattle.world.specs.Shelf.{Shelved, LeavesOnly}
+use Rattle.session_spec.specs.Prelude.{Device, Conditions, Sound, IsBearable, IsWithin, drive, nvram, Array, BootRecord, BootSlot, names, other_slot, spelling, geometry_of, Shelved, LeavesOnly, Enters}
 use Rattle.boot_region.specs.declared.loading.Loaded.{Loaded}
-use Rattle.boot_region.specs.Members.{IsMember}
-use Rattle.boot_region.specs.Slots.{slot_in}
-use Rattle.boot_region.specs.Storing.{IsFirmOn, IsOlder}
-use Rattle.session_spec.specs.Entering.{Enters}
-use Rattle.array_core.specs.Performing.{StandsOnceBack}
+use Rattle.boot_region.specs.Prelude.{IsMember, slot_in, IsFirmOn, IsOlder}
+use Rattle.array_core.specs.Prelude.{StandsOnceBack}
 use Rattle.takeover.specs.Found.{IsFoundOn}
 
 -- each NVRAM device that the record names is sound

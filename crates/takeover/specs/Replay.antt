@@ -1,20 +1,13 @@
 -- The commands of a log, applied to memory up to the first that the array refuses.
 use Rattle.std.specs.Prelude.{◌≡◌, ℕ, ◌+◌, Bool, true, false, List, take, Some, slice_get}
 use Rattle.std.specs.List.{AllByRecursion}
-use Rattle.pur_base.specs.declared.request.Request.{Request}
-use Rattle.pur_base.specs.Commands.{Command, Accepts, AllAccepted, after, after_all}
-use Rattle.pur_base.specs.Grammar.{is_in_force}
-use Rattle.pur_base.specs.Plain.{Array}
-use Rattle.pur_base.specs.Visible.{segment}
-use Rattle.memory_spec.specs.Memory.{Contents, ReadsAs}
-use Rattle.memory_spec.specs.Numbers.{next_after, next_after_all}
-use Rattle.memory_spec.specs.Tables.{facts}
-use Rattle.array_memory.specs.Kept.{Kept, HasSamePatches}
-use Rattle.array_core.specs.Room.{HasRoomFor}
+use Rattle.session_spec.specs.Prelude.{Request, Command, Accepts, AllAccepted, after, after_all, is_in_force, Array, segment, Contents, ReadsAs, next_after, next_after_all, facts}
+use Rattle.array_memory.specs.Prelude.{Kept, HasSamePatches}
+use Rattle.array_core.specs.Prelude.{HasRoomFor}
 use Rattle.nvram_log.specs.declared.log.NvLog.{NvLog}
 use Rattle.nvram_log.specs.declared.read.ReadFault.{ReadFault}
 use Rattle.nvram_log.specs.declared.read.ReadFault.TheVariants as read_fault
-use Rattle.nvram_log.specs.Held.{Keeps}
+use Rattle.nvram_log.specs.Prelude.{Keeps}
 use Rattle.takeover.specs.declared.log.LogFault.{LogFault}
 use Rattle.takeover.specs.declared.log.LogFault.TheVariants as log_fault
 

@@ -1,22 +1,10 @@
 -- The log that the NVRAM devices showed, and what memory made of it.
 use Rattle.std.specs.Prelude.{◌≡◌, ℕ, ◌<◌, true, false, Bool, List, Result, Ok, Err, ⊤}
 use Rattle.std.specs.List.{AllByRecursion}
-use Rattle.pur_base.specs.Commands.{Command, AllAccepted, after_all}
-use Rattle.pur_base.specs.Devices.{nvram}
-use Rattle.pur_base.specs.Grammar.{is_in_force}
-use Rattle.pur_base.specs.Plain.{Array}
-use Rattle.pur_base.specs.Visible.{segment}
-use Rattle.log_codec.specs.Log.{ShowsIn, LogStands}
-use Rattle.memory_spec.specs.Memory.{Contents, ReadsAs}
-use Rattle.memory_spec.specs.Numbers.{next_after_all}
-use Rattle.memory_spec.specs.Tables.{facts}
-use Rattle.memory_spec.specs.Whole.{AreLayered}
-use Rattle.world.specs.Shelf.{Shelved}
-use Rattle.nvram_log.specs.Held.{Keeps, shown_by}
-use Rattle.nvram_log.specs.Members.{IsFewer, IsMember}
-use Rattle.nvram_log.specs.Read.{DroppedCounted}
-use Rattle.array_memory.specs.Kept.{Kept, HasSamePatches}
-use Rattle.array_core.specs.Room.{HasRoomFor}
+use Rattle.session_spec.specs.Prelude.{Command, AllAccepted, after_all, nvram, is_in_force, Array, segment, ShowsIn, LogStands, Contents, ReadsAs, next_after_all, facts, AreLayered, Shelved}
+use Rattle.nvram_log.specs.Prelude.{Keeps, shown_by, IsFewer, IsMember, DroppedCounted}
+use Rattle.array_memory.specs.Prelude.{Kept, HasSamePatches}
+use Rattle.array_core.specs.Prelude.{HasRoomFor}
 use Rattle.takeover.specs.declared.log.OpenedLog.{OpenedLog}
 use Rattle.takeover.specs.declared.log.LogFault.{LogFault}
 use Rattle.takeover.specs.declared.log.LogFault.TheVariants as log_fault

@@ -1,23 +1,8 @@
 -- What the drives showed when the record was found, and the moments from there on at which it may still be given.
 use Rattle.std.specs.Prelude.{◌≡◌, ◌⊎◌, ℕ, ◌<◌, List, true, Some, None, Result, Ok, Err, ⊤}
-use Rattle.pur_base.specs.declared.device.Device.{Device}
-use Rattle.pur_base.specs.declared.limits.TheConstants.{BOOT_UNITS}
-use Rattle.pur_base.specs.Devices.{View, Conditions, IsBearable, drive, nvram}
-use Rattle.pur_base.specs.Plain.{Array}
-use Rattle.pur_base.specs.declared.facts.AnyFact.{AnyFact}
-use Rattle.boot_codec.specs.Region.{BootSlot, IsEffective, body_in, of_members}
-use Rattle.boot_codec.specs.Spelling.{spelling}
-use Rattle.array_spec.specs.Laws.{DiffersOnlyIn}
-use Rattle.array_spec.specs.Standing.{MayBeGiven}
-use Rattle.array_spec.specs.Stored.{PatchesStand}
-use Rattle.memory_spec.specs.Tables.{patches}
-use Rattle.world.specs.Losing.{geometry_of, has_failed}
-use Rattle.world.specs.Shelf.{Shelved, Stop, LeavesOnly}
-use Rattle.session_spec.specs.Entering.{Enters, OnlyFailedAreSilent, read_now, failed_by}
-use Rattle.session_spec.specs.Headline.{HasNoArray, HasTooFew}
+use Rattle.session_spec.specs.Prelude.{Device, BOOT_UNITS, View, Conditions, IsBearable, drive, nvram, Array, AnyFact, BootSlot, IsEffective, body_in, of_members, spelling, DiffersOnlyIn, MayBeGiven, PatchesStand, patches, geometry_of, has_failed, Shelved, Stop, LeavesOnly, Enters, OnlyFailedAreSilent, read_now, failed_by, HasNoArray, HasTooFew}
 use Rattle.boot_region.specs.declared.loading.Loaded.{Loaded}
-use Rattle.boot_region.specs.Members.{IsMember}
-use Rattle.boot_region.specs.Slots.{slot_in}
+use Rattle.boot_region.specs.Prelude.{IsMember, slot_in}
 use Rattle.takeover.specs.declared.tables.FoundArray.{FoundArray}
 use Rattle.takeover.specs.declared.faults.OpenFault.{OpenFault}
 use Rattle.takeover.specs.declared.faults.OpenFault.TheVariants as open_fault

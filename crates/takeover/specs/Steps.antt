@@ -1,24 +1,11 @@
 -- What the steps of an opening leave: the record is found, its tables are loaded, and the log is opened.
 use Rattle.std.specs.Prelude.{◌≡◌, ◌≤◌, ◌+◌, ℕ, Bool, List, Some, None, Result, IfOk}
-use Rattle.pur_base.specs.Devices.{Conditions, IsBearable, drive}
-use Rattle.pur_base.specs.Plain.{Array}
-use Rattle.pur_base.specs.declared.facts.AnyFact.{AnyFact}
-use Rattle.boot_codec.specs.declared.record.BootRecord.{BootRecord}
-use Rattle.boot_codec.specs.Record.{set_count}
-use Rattle.boot_codec.specs.Region.{BootSlot, shown_by}
-use Rattle.boot_codec.specs.Spelling.{spelling}
-use Rattle.memory_spec.specs.Tables.{patches}
-use Rattle.world.specs.Losing.{geometry_of}
-use Rattle.world.specs.Shelf.{Shelved, LeavesOnly}
+use Rattle.session_spec.specs.Prelude.{Conditions, IsBearable, drive, Array, AnyFact, BootRecord, set_count, BootSlot, shown_by, spelling, patches, geometry_of, Shelved, LeavesOnly, Enters, StandsStill, failed_since}
 use Rattle.boot_region.specs.declared.loading.Loaded.{Loaded}
-use Rattle.boot_region.specs.Loading.{IsLawfulLoad}
-use Rattle.boot_region.specs.Members.{IsMember}
-use Rattle.boot_region.specs.Slots.{slot_in}
-use Rattle.boot_region.specs.Storing.{StandsAgain}
-use Rattle.nvram_log.specs.Members.{IsFewer, IsSome}
-use Rattle.session_spec.specs.Entering.{Enters, StandsStill, failed_since}
-use Rattle.array_memory.specs.Kept.{Kept}
-use Rattle.array_core.specs.Performing.{StandsOnceBack}
+use Rattle.boot_region.specs.Prelude.{IsLawfulLoad, IsMember, slot_in, StandsAgain}
+use Rattle.nvram_log.specs.Prelude.{IsFewer, IsSome}
+use Rattle.array_memory.specs.Prelude.{Kept}
+use Rattle.array_core.specs.Prelude.{StandsOnceBack}
 use Rattle.takeover.specs.Found.{AreCounted, IsFoundOn}
 use Rattle.takeover.specs.LogOpen.{IsLogOpenBy, IsLogOpenOn}
 use Rattle.takeover.specs.Opened.{AreClean}

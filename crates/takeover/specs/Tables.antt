@@ -1,25 +1,12 @@
 -- The tables that a record names, on the drives and in memory.
 use Rattle.std.specs.Prelude.{◌≡◌, List, [], All}
 use Rattle.std.specs.List.{AllZip}
-use Rattle.pur_base.specs.Devices.{Geometry}
-use Rattle.pur_base.specs.Plain.{Array}
-use Rattle.pur_base.specs.declared.facts.AnyFact.{AnyFact}
-use Rattle.boot_codec.specs.declared.record.BootRecord.{BootRecord}
-use Rattle.fact_codec.specs.Fact.{IsFact}
-use Rattle.array_spec.specs.Sound.{AreSound}
-use Rattle.array_spec.specs.Stored.{all_facts, in_patches}
-use Rattle.array_spec.specs.Held.{TablesHold}
-use Rattle.pyramid.specs.Layers.{facts_of}
-use Rattle.memory_spec.specs.Memory.{Contents, FactsRead, ReadsAs}
-use Rattle.memory_spec.specs.Tables.{facts, patches}
-use Rattle.memory_spec.specs.Whole.{IsNamed}
-use Rattle.table_plan.specs.Planned.{AreStored}
-use Rattle.world.specs.Losing.{geometry_of}
-use Rattle.world.specs.Shelf.{Shelved, Stop, MayStop}
+use Rattle.session_spec.specs.Prelude.{Geometry, Array, AnyFact, BootRecord, IsFact, AreSound, all_facts, in_patches, TablesHold, facts_of, Contents, FactsRead, ReadsAs, facts, patches, IsNamed, geometry_of, Shelved, Stop, MayStop}
+use Rattle.table_plan.specs.Prelude.{AreStored}
 use Rattle.boot_region.specs.declared.loading.Loaded.{Loaded}
-use Rattle.boot_region.specs.Slots.{slot_in}
-use Rattle.array_memory.specs.Kept.{Kept}
-use Rattle.array_core.specs.Room.{HasRoomFor}
+use Rattle.boot_region.specs.Prelude.{slot_in}
+use Rattle.array_memory.specs.Prelude.{Kept}
+use Rattle.array_core.specs.Prelude.{HasRoomFor}
 
 -- the record's tables hold these facts and this base, whatever a stop leaves
 abbrev pub HoldTables : Shelved → Loaded → List (List AnyFact) → Array → Type 0

@@ -2,20 +2,9 @@
 use Rattle.std.proofs.Common.{◌≡◌, ℕ, zero, suc, ◌+◌, ◌<◌, ◌≤◌, Bool, List, [], ◌++◌, length, refl, sym, ◌∙◌, ap, subst, arith, Option, Some}
 use Rattle.std.specs.Prelude.{slice_index_or}
 use Rattle.std.proofs.lemmas.List.{get_or_append_left}
-use Rattle.pur_base.specs.Devices.{View}
-use Rattle.pur_base.specs.Facts.{Facts}
-use Rattle.pur_base.specs.Visible.{segment}
-use Rattle.pur_base.specs.declared.place.Location.{Location}
-use Rattle.pur_base.specs.declared.place.Place.{Place}
-use Rattle.pur_base.specs.declared.facts.Target.{Target}
-use Rattle.pur_base.specs.declared.facts.Target.TheVariants.{Zero}
-use Rattle.pur_base.specs.declared.facts.SegmentFact.{SegmentFact}
-use Rattle.segment_codec.specs.Stripes.{SectorStands}
-use Rattle.world.specs.Shelf.{Shelved}
-use Rattle.segment_io.specs.Places.{ArePlaces, place_of}
-use Rattle.segment_io.specs.Reads.{AreLost, ShowsPresent, is_missing_in}
-use Rattle.memory_spec.specs.Memory.{Contents, PlaceReads, TargetReads}
-use Rattle.memory_spec.specs.Contents.{ContentsStand}
+use Rattle.memory_spec.specs.Prelude.{View, Facts, segment, Location, Place, Target, Zero, SegmentFact, SectorStands, Contents, PlaceReads, TargetReads, ContentsStand}
+use Rattle.world.specs.Prelude.{Shelved}
+use Rattle.segment_io.specs.Prelude.{ArePlaces, place_of, AreLost, ShowsPresent, is_missing_in}
 use Rattle.target_io.specs.Reading.{AreReadable, ShowsDrives, AreDrivesLost}
 use Rattle.target_io.specs.Targets.{AreSectorsOf, target_behind}
 use Rattle.target_io.proofs.Reading.{lost_places}

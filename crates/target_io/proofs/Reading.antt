@@ -2,21 +2,10 @@
 use Rattle.std.proofs.Common.{◌≡◌, ◌≢◌, inl, inr, ⊎_elim, ℕ, ◌<◌, Bool, List, true, refl, sym, ◌∙◌, ap, subst, arith}
 use Rattle.std.specs.Prelude.{Some, Contains}
 use Rattle.std.proofs.lemmas.List.Elements.{Contains-get_or}
-use Rattle.pur_base.specs.declared.place.Place.{Place}
-use Rattle.pur_base.specs.Devices.{View, drive, nvram}
-use Rattle.pur_base.specs.Facts.{Facts}
-use Rattle.pur_base.specs.Visible.{segment}
-use Rattle.pur_base.specs.declared.facts.SegmentFact.{SegmentFact}
-use Rattle.world.specs.Shelf.{Shelved, IsShelf, Continues, IsSame}
-use Rattle.world.specs.Writes.{WritesOnly}
-use Rattle.world.specs.lemmas.Moments.{continues_refl, continues_trans}
-use Rattle.world.specs.lemmas.Writes.{writes_then, nothing_written}
-use Rattle.segment_io.specs.Lost.{is_in, NoByte}
-use Rattle.segment_io.specs.Places.{ArePlaces, OthersStayOf, place_of}
-use Rattle.segment_io.specs.Reads.{AreLost, is_missing_in}
+use Rattle.memory_spec.specs.Prelude.{Place, View, drive, nvram, Facts, segment, SegmentFact}
+use Rattle.world.specs.Prelude.{Shelved, IsShelf, Continues, IsSame, WritesOnly, continues_refl, continues_trans, writes_then, nothing_written}
+use Rattle.segment_io.specs.Prelude.{is_in, NoByte, ArePlaces, OthersStayOf, place_of, AreLost, is_missing_in, rises_then, still_places}
 use Rattle.segment_io.proofs.Gathers.{same_then}
-use Rattle.segment_io.specs.lemmas.Losing.{rises_then}
-use Rattle.segment_io.specs.lemmas.Places.{still_places}
 use Rattle.target_io.specs.Reading.{AreReadable, ShowsDrives, ReadsOnly, IsLost, AreDrivesLost}
 
 pub reads_none : (a : Shelved) → IsShelf a → ReadsOnly a a

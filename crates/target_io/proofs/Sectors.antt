@@ -6,9 +6,7 @@ use Rattle.std.proofs.lemmas.Bool.{cases_lt}
 use Rattle.std.proofs.lemmas.List.{get_or-take, get_or-drop, get_or_append_left, length-take-le}
 use Rattle.std.proofs.Math.Seq.{get_or-append_right}
 use borrow.Rule.Slice.PartMut.{put_mid}
-use Rattle.pur_base.specs.declared.facts.Target.{Target}
-use Rattle.pur_base.specs.declared.facts.Target.TheVariants.{Stored, Zero}
-use Rattle.memory_spec.specs.Memory.{Contents, PlaceReads, TargetReads}
+use Rattle.memory_spec.specs.Prelude.{Target, Stored, Zero, Contents, PlaceReads, TargetReads}
 use Rattle.target_io.specs.Targets.{AreSectorsOf}
 
 -- a target stands for one sector

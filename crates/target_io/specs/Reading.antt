@@ -1,18 +1,8 @@
 -- What reading does to a shelf, and what it finds there.
 use Rattle.std.specs.Prelude.{◌≡◌, ◌⊎◌, ℕ, ◌<◌, ◌≤◌, true, false, Bool, List, Some, Contains}
-use Rattle.pur_base.specs.declared.device.Device.{Device}
-use Rattle.pur_base.specs.declared.facts.SegmentFact.{SegmentFact}
-use Rattle.pur_base.specs.declared.limits.TheConstants.{SEGMENT_SECTORS}
-use Rattle.pur_base.specs.declared.place.Place.{Place}
-use Rattle.pur_base.specs.Devices.{View, drive, nvram}
-use Rattle.pur_base.specs.Facts.{Facts}
-use Rattle.pur_base.specs.Visible.{segment}
-use Rattle.world.specs.Counts.{Rises}
-use Rattle.world.specs.Shelf.{Shelved, Continues, IsSame}
-use Rattle.world.specs.Writes.{WritesOnly}
-use Rattle.segment_io.specs.Lost.{is_in, NoByte}
-use Rattle.segment_io.specs.Places.{ArePlaces}
-use Rattle.segment_io.specs.Stripes.{bytes_of}
+use Rattle.memory_spec.specs.Prelude.{Device, SegmentFact, SEGMENT_SECTORS, Place, View, drive, nvram, Facts, segment}
+use Rattle.world.specs.Prelude.{Rises, Shelved, Continues, IsSame, WritesOnly}
+use Rattle.segment_io.specs.Prelude.{is_in, NoByte, ArePlaces, bytes_of}
 
 -- each visible data segment has lawful places of this shelf, and no more sectors than a segment has
 abbrev pub AreReadable : Shelved → Facts → Type 0

@@ -1,13 +1,6 @@
 -- The sectors of targets.
 use Rattle.std.specs.Prelude.{◌≡◌, ℕ, ◌+◌, ◌<◌, ◌≤◌, List, [], Some, slice_index_or}
-use Rattle.pur_base.specs.Visible.{segment}
-use Rattle.pur_base.specs.declared.place.Location.{Location}
-use Rattle.pur_base.specs.declared.facts.Target.{Target}
-use Rattle.pur_base.specs.declared.facts.Target.TheVariants.{Stored, Zero}
-use Rattle.pur_base.specs.declared.facts.SegmentFact.{SegmentFact}
-use Rattle.pur_base.specs.declared.reply.Refusal.{Refusal}
-use Rattle.memory_spec.specs.Tables.{facts}
-use Rattle.memory_spec.specs.Memory.{Memory, Contents, TargetReads}
+use Rattle.memory_spec.specs.Prelude.{segment, Location, Target, Stored, Zero, SegmentFact, Refusal, facts, Memory, Contents, TargetReads}
 use Rattle.target_io.specs.declared.fault.ReadFault.{ReadFault}
 use Rattle.target_io.specs.declared.fault.ReadFault.TheVariants.{Refused, Lost}
 

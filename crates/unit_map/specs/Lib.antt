@@ -3,3 +3,4 @@ pub mod Units
 pub mod UnitFields
 pub mod Map
 pub mod Choice
+pub mod Prelude

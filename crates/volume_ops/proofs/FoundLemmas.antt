@@ -4,20 +4,12 @@ use Rattle.std.specs.Prelude.{slice_get, IfSome, IfNone}
 use Rattle.std.proofs.lemmas.Bool.{false_from_ne_true, cases_lt}
 use Rattle.std.proofs.lemmas.Option.{slice_get_past}
 use Rattle.std.proofs.lemmas.List.Elements.{All-contains}
-use Rattle.pur_base.specs.Plain.{Array, has, sectors_of, is_snapshot}
-use Rattle.pur_base.specs.Visible.{objects}
-use Rattle.pur_base.specs.declared.facts.ObjectFact.{ObjectFact}
+use Rattle.memory_spec.specs.Prelude.{Array, has, sectors_of, is_snapshot, objects, ObjectFact, facts, EntryReads, IsEntry, AreEntries, zip_left, entries_read, not_both}
 use Rattle.array_spec.specs.Base.{is_snapshot as is_snapshot_kind}
-use Rattle.memory_spec.specs.Tables.{facts}
-use Rattle.memory_spec.specs.Memory.{EntryReads}
-use Rattle.memory_spec.specs.Reading.{IsEntry, AreEntries}
-use Rattle.memory_spec.specs.lemmas.Lists.{zip_left}
-use Rattle.memory_spec.specs.lemmas.Entries.{entries_read}
-use Rattle.array_memory.specs.Kept.{Kept, IsKept}
+use Rattle.array_memory.specs.Prelude.{Kept, IsKept}
 use Rattle.array_memory.proofs.KeptLemmas.{visible_are}
 use Rattle.volume_ops.specs.declared.listing.ObjectEntry.{ObjectEntry}
 use Rattle.volume_ops.specs.OfArray.{OfArray, HasObject, HasFound, line_of}
-use Rattle.array_spec.specs.lemmas.Mediums.{not_both}
 
 -- the visible objects are the entries of the array
 pub entries_are : (k : Kept) → IsKept k → OfArray k.memory (AreEntries k.objects)

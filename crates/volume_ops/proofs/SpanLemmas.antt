@@ -5,29 +5,12 @@ use Rattle.std.specs.List.{AllZip}
 use Rattle.std.proofs.Math.Seq.{drop-cons}
 use Rattle.std.proofs.lemmas.Option.{slice_get-get_or}
 use Rattle.std.proofs.lemmas.List.Elements.{All-nil, All-cons}
-use Rattle.pur_base.specs.Plain.{Array, sectors_of, span}
-use Rattle.pur_base.specs.Sectors.{filled}
-use Rattle.pur_base.specs.Facts.{address_key, never}
-use Rattle.pur_base.specs.Keys.{key_of}
-use Rattle.pur_base.specs.Says.{says}
-use Rattle.pur_base.specs.Visible.{address, is_elided}
-use Rattle.pur_base.specs.Mediums.{Reads, here, below, unwritten}
-use Rattle.pur_base.specs.declared.limits.TheConstants.{OBJECT_SECTORS}
+use Rattle.memory_spec.specs.Prelude.{Array, sectors_of, span, filled, address_key, never, key_of, says, address, is_elided, Reads, below, unwritten, OBJECT_SECTORS, Location, Target, Stored, Zero, ObjectFact, AddressFact, says_is, facts, Memory, Contents, PlaceReads, TargetReads, FitsTarget, IsSound, ReadsAs, all_addresses, each_by_recursion, entries_read, sectors_read}
+use Rattle.pur_base.specs.Mediums.{here}
 use Rattle.pur_base.specs.declared.request.Table.TheVariants as table
-use Rattle.pur_base.specs.declared.place.Location.{Location}
-use Rattle.pur_base.specs.declared.facts.Target.{Target}
-use Rattle.pur_base.specs.declared.facts.Target.TheVariants.{Stored, Zero}
-use Rattle.pur_base.specs.declared.facts.ObjectFact.{ObjectFact}
-use Rattle.pur_base.specs.declared.facts.AddressFact.{AddressFact}
 use Rattle.pur_base.specs.declared.facts.AnyFact.TheVariants as any
-use Rattle.pur_base.specs.lemmas.Says.{says_is}
-use Rattle.memory_spec.specs.Tables.{facts}
-use Rattle.memory_spec.specs.Memory.{Memory, Contents, PlaceReads, TargetReads, FitsTarget, IsSound, ReadsAs}
-use Rattle.memory_spec.specs.lemmas.AllTables.{all_addresses}
-use Rattle.memory_spec.specs.lemmas.Lists.{each_by_recursion}
 use Rattle.memory_spec.proofs.Putting.{within_size}
-use Rattle.memory_spec.specs.lemmas.Entries.{entries_read, sectors_read}
-use Rattle.array_memory.specs.Kept.{Kept, IsKept}
+use Rattle.array_memory.specs.Prelude.{Kept, IsKept}
 use Rattle.array_memory.proofs.KeptLemmas.{visible_said}
 use Rattle.volume_ops.specs.Targets.{IsInSegment, Stands}
 

@@ -1,13 +1,8 @@
 -- What is said of the plain array that memory reads as.
 use Rattle.std.specs.Prelude.{◌≡◌, ℕ, ◌≤◌, true, false, List, length, Option, Some, None}
-use Rattle.pur_base.specs.Names.{is_name}
-use Rattle.pur_base.specs.Plain.{Entry, Array, has, sectors_of, is_snapshot}
-use Rattle.pur_base.specs.declared.limits.TheConstants.{REQUEST_SECTORS}
-use Rattle.pur_base.specs.declared.request.Request.{Request}
+use Rattle.memory_spec.specs.Prelude.{is_name, Entry, Array, has, sectors_of, is_snapshot, REQUEST_SECTORS, Request, ObjectFact, Memory, Contents, ReadsAs}
 use Rattle.pur_base.specs.declared.request.Request.TheVariants as request
-use Rattle.pur_base.specs.declared.facts.ObjectFact.{ObjectFact}
 use Rattle.array_spec.specs.Base.{is_snapshot as is_snapshot_kind}
-use Rattle.memory_spec.specs.Memory.{Memory, Contents, ReadsAs}
 use Rattle.volume_ops.specs.declared.listing.ObjectEntry.{ObjectEntry}
 
 -- it holds of each plain array that memory reads as, whatever the segments hold

@@ -1,12 +1,6 @@
 -- Where the sectors of targets stand.
 use Rattle.std.specs.Prelude.{◌≡◌, ◌⊎◌, ◌<◌, ◌≤◌, length, Some}
-use Rattle.pur_base.specs.Visible.{segment}
-use Rattle.pur_base.specs.declared.place.Location.{Location}
-use Rattle.pur_base.specs.declared.facts.Target.{Target}
-use Rattle.pur_base.specs.declared.facts.Target.TheVariants.{Stored, Zero}
-use Rattle.pur_base.specs.declared.facts.SegmentFact.{SegmentFact}
-use Rattle.memory_spec.specs.Tables.{facts}
-use Rattle.memory_spec.specs.Memory.{Memory, Contents, TargetReads}
+use Rattle.memory_spec.specs.Prelude.{segment, Location, Target, Stored, Zero, SegmentFact, facts, Memory, Contents, TargetReads}
 
 -- the location is of a sector that was placed in a visible segment
 pub record IsInSegment (m : Memory) (at : Location) : Type 0 where

@@ -8,3 +8,4 @@ pub mod Tally
 pub mod Untold
 pub mod Writes
 pub mod lemmas
+pub mod Prelude

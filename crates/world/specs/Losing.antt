@@ -1,7 +1,7 @@
 -- The devices whose calls failed between two moments, and what goes missing with them.
 use Rattle.std.specs.Prelude.{◌≤◌, ◌^◌, ◌-◌, ℕ, Bool, ◌||◌, nat_lt, nat_le, if◌then◌else◌}
 use Rattle.pur_base.specs.declared.device.Device.{Device}
-use Rattle.pur_base.specs.Devices.{Geometry, Condition, Conditions, Sound, Missing, LeftOut}
+use Rattle.pur_base.specs.Prelude.{Geometry, Condition, Conditions, Sound, Missing, LeftOut}
 use Rattle.world.specs.Shelf.{Shelved, Stop}
 
 -- the size of the shelf

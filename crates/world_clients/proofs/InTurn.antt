@@ -1,10 +1,6 @@
 -- What a stop leaves of two writes, the second behind the first.
 use Rattle.std.proofs.Common.{◌≡◌, ◌⊎◌, inl, inr, ℕ, ◌+◌, ◌≤◌, List, [], length, ◌∙◌, arith}
-use Rattle.pur_base.specs.declared.device.Device.{Device}
-use Rattle.world.specs.Shelf.{Shelved, Stop, Written}
-use Rattle.world.specs.Writes.{OneRange, LeavesBut}
-use Rattle.world.specs.lemmas.Bytes.{same_part}
-use Rattle.world.specs.lemmas.Stopped.{none_dirty}
+use Rattle.world.specs.Prelude.{Device, Shelved, Stop, Written, OneRange, LeavesBut, same_part, none_dirty}
 use Rattle.world_clients.specs.Turns.{IsInTurn}
 
 pub first_turn : (s : Shelved) (device : Device) (at : ℕ) (first : List ℕ) (then n : ℕ) → ((at + length first ≤ then) ⊎ (then + n ≤ at)) → (s.disk device).dirty ≡ []

@@ -2,11 +2,8 @@
 use Rattle.std.proofs.Common.{◌≡◌, ⊎_elim, ℕ, ◌+◌, ◌<◌, List, [], length, drop, slice_index, sym, ◌∙◌, ap, subst, arith, below_more}
 use Rattle.std.proofs.lemmas.List.{get_or-drop}
 use Rattle.std.proofs.lemmas.Bool.{cases_lt}
-use Rattle.pur_base.specs.declared.device.Device.{Device}
+use Rattle.world.specs.Prelude.{Device, Shelved, Stop, Disk, IsInSome, Continues, Leaves, OneRange, ChangesOnly, leaves_then, leaves_weaker}
 use Rattle.world.specs.declared.shelf.Span.{Span}
-use Rattle.world.specs.Shelf.{Shelved, Stop, Disk, IsInSome, Continues, Leaves}
-use Rattle.world.specs.Writes.{OneRange, ChangesOnly}
-use Rattle.world.specs.lemmas.Moments.{leaves_then, leaves_weaker}
 use Rattle.world_clients.specs.Said.{StoredWhenSaid, EachIsStoredWhenSaid, StoredByte}
 
 module _ (a b : Shelved) (device : Device) (at i : ℕ) (input left : List ℕ) (is_left : left ≡ drop i input)

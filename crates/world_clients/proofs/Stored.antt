@@ -1,12 +1,8 @@
 -- What was said is stored, at each moment.
 use Rattle.std.proofs.Common.{◌≡◌, inl, inr, ℕ, zero, suc, ◌+◌, ◌≤◌, List, [], ◌∷◌, ◌++◌, length, take, get_or, slice_index, refl, sym, ◌∙◌, ap, subst, arith, length-append}
 use Rattle.std.proofs.lemmas.List.Edits.{get_or-between}
-use Rattle.pur_base.specs.declared.device.Device.{Device}
+use Rattle.world.specs.Prelude.{Device, Shelved, Stop, IsInSome, IsShelf, Continues, TakenOnly, OutputOnly, MayLeave, Written, Leaves, IsFrontOf, Disk, IsCountedBy, OneRange, WritesOnly, MayLeaveBut, LeavesBut, leaves_then, leaves_quiet, leaves_taking, leaves_giving, continues_trans, unchanged, may_leave_but}
 use Rattle.world.specs.declared.shelf.Span.{Span}
-use Rattle.world.specs.Shelf.{Shelved, Stop, IsInSome, IsShelf, Continues, TakenOnly, OutputOnly, MayLeave, Written, Leaves, IsFrontOf, Disk, IsCountedBy}
-use Rattle.world.specs.Writes.{OneRange, WritesOnly, MayLeaveBut, LeavesBut}
-use Rattle.world.specs.lemmas.Moments.{leaves_then, leaves_quiet, leaves_taking, leaves_giving, continues_trans}
-use Rattle.world.specs.lemmas.Writes.{unchanged, may_leave_but}
 use Rattle.world_clients.specs.Said.{StoredWhenSaid}
 
 -- the first byte of what was taken

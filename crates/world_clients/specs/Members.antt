@@ -1,10 +1,6 @@
 -- What a write on each member leaves.
 use Rattle.std.specs.Prelude.{◌≡◌, ◌⊎◌, ℕ, List, [], Bool, true, false, slice_index_or}
-use Rattle.pur_base.specs.declared.device.Device.{Device}
-use Rattle.pur_base.specs.declared.device.Device.TheVariants.{Drive, Nv}
-use Rattle.pur_base.specs.Devices.{drive}
-use Rattle.world.specs.Counts.{Rises}
-use Rattle.world.specs.Shelf.{Disk, IsIn, Written}
+use Rattle.world.specs.Prelude.{Device, Drive, Nv, drive, Rises, Disk, IsIn, Written}
 
 -- whether a drive is a member
 abbrev pub IsMember : List Bool → ℕ → Type 0

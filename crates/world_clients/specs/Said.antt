@@ -1,11 +1,7 @@
 -- What was said is stored.
 use Rattle.std.specs.Prelude.{◌≡◌, ◌⊎◌, ◌+◌, ◌<◌, ◌≤◌, ℕ, List, [], length, slice_index, Result, Ok, Err}
-use Rattle.pur_base.specs.declared.device.Device.{Device}
+use Rattle.world.specs.Prelude.{Device, Rises, Stop, Shelved, Disk, OneRange, LeavesBut, Streamed}
 use Rattle.world.specs.declared.streams.Failed.{Failed}
-use Rattle.world.specs.Counts.{Rises}
-use Rattle.world.specs.Shelf.{Stop, Shelved, Disk}
-use Rattle.world.specs.Writes.{OneRange, LeavesBut}
-use Rattle.world.specs.Streams.{Streamed}
 
 -- the world tells all of its contents
 pub record IsToldBy (shelf : Shelved) (source sink : Streamed) : Type 0 where

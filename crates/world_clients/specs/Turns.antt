@@ -1,7 +1,6 @@
 -- Where two writes on one device write.
 use Rattle.std.specs.Prelude.{◌≡◌, ◌⊎◌, ◌+◌, ℕ, List, slice_index, slice_range, length}
-use Rattle.pur_base.specs.declared.device.Device.{Device}
-use Rattle.world.specs.Shelf.{IsIn, Shelved, Stop}
+use Rattle.world.specs.Prelude.{Device, IsIn, Shelved, Stop}
 
 -- two ranges on that device
 abbrev pub TwoRanges : Device → ℕ → ℕ → ℕ → ℕ → Device → ℕ → Type 0

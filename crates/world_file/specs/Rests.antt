@@ -1,9 +1,6 @@
 -- What a call of a world over files leaves as it was: it tells no contents, so that is the counts.
 use Rattle.std.proofs.Common.{◌≡◌, ℕ, refl, ◌∙◌}
-use Rattle.world.specs.Shelf.{TakenOnly, OutputOnly}
-use Rattle.world.specs.Streams.{SameStream, IsPreorder}
-use Rattle.world.specs.Untold.{untold, untold_stream}
-use Rattle.world.specs.lemmas.Rests.{nothing_taken, taken_then, no_output, output_then}
+use Rattle.world.specs.Prelude.{TakenOnly, OutputOnly, SameStream, IsPreorder, untold, untold_stream, nothing_taken, taken_then, no_output, output_then}
 use Rattle.world_file.specs.declared.files.Files.{Files}
 
 -- nothing but the shelf has changed

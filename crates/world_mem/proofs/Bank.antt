@@ -2,9 +2,8 @@
 use Rattle.std.proofs.Common.{◌≡◌, ◌≢◌, inl, inr, ℕ, zero, suc, ◌<◌, List, [], ◌∷◌, length, map, get_or, slice_set, refl, sym, ◌∙◌, ap, subst, arith, ◌⊎◌, Bool, true, Result, OnErr}
 use Rattle.std.proofs.lemmas.List.{length-set, get_or-set_same, get_or-set_other, get_or-map, map-set, set-set, set-get_or, length-map}
 use Rattle.std.proofs.lemmas.Bool.{cases_eq}
-use Rattle.pur_base.specs.declared.device.Device.{Device}
+use Rattle.world.specs.Prelude.{Device, Disk}
 use Rattle.world.specs.declared.streams.Failed.{Failed}
-use Rattle.world.specs.Shelf.{Disk}
 use Rattle.world_mem.specs.declared.record.Call.{Call}
 use Rattle.world_mem.specs.declared.part.Part.{Part}
 use Rattle.world_mem.specs.Called.{WasCalled, WasCalledIn}

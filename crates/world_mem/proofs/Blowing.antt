@@ -1,13 +1,8 @@
 -- A call behind a fuse.
 use Rattle.std.proofs.Common.{◌≡◌, ◌≢◌, inl, inr, ⊎_elim, Bool, true, false, ℕ, zero, suc, replicate, slice_index_or, ◌+◌, ◌-◌, ◌≤◌, ◌^◌, List, refl, sym, ap, subst, arith, Result, Ok, Err}
 use Rattle.std.proofs.lemmas.Bool.{cases_lt}
-use Rattle.pur_base.specs.declared.device.Device.{Device}
-use Rattle.pur_base.specs.declared.device.Device.TheVariants.{Drive, Nv}
-use Rattle.pur_base.specs.lemmas.Devices.{same_device}
+use Rattle.world.specs.Prelude.{Device, Drive, Nv, same_device, Counts, Rises, capped, Disk, Shelved, Elapses, WasWritten, front_refl}
 use Rattle.world.specs.declared.streams.Failed.{Failed}
-use Rattle.world.specs.Counts.{Counts, Rises, capped}
-use Rattle.world.specs.Shelf.{Disk, Shelved, Elapses, WasWritten}
-use Rattle.world.specs.lemmas.Moments.{front_refl}
 use Rattle.world_mem.specs.declared.extra.Extra.{Extra}
 use Rattle.world_mem.specs.Fuse.{Fuse, fused, fused_disk, extra_of, none, tick}
 use Rattle.world_mem.specs.FuseLaws.{from_now, capped_more}

@@ -1,15 +1,9 @@
 -- A device call, in the past of the world.
 use Rattle.std.proofs.Common.{Bool, true, ◌≡◌, ◌⊎◌, inl, inr, ⊎_elim, ℕ, zero, suc, ◌-◌, ◌≤◌, ◌+◌, List, [], ◌∷◌, ◌++◌, length, take, drop, reverse, refl, sym, ◌∙◌, ap, subst, arith, length-append, Result, Ok, Err}
 use Rattle.std.proofs.lemmas.List.{reverse-append, append-nil, length-map}
-use Rattle.pur_base.specs.declared.device.Device.{Device}
-use Rattle.pur_base.specs.declared.device.Device.TheVariants.{Drive, Nv}
-use Rattle.pur_base.specs.declared.device.DriveId.{DriveId}
-use Rattle.pur_base.specs.declared.device.NvId.{NvId}
-use Rattle.pur_base.specs.lemmas.Devices.{same_device}
+use Rattle.world.specs.Prelude.{Device, Drive, Nv, DriveId, NvId, same_device, Counts, Disk, Stop, MayLeave, Elapses, OthersStay, ReadCounts, WriteCounts}
 use Rattle.world.specs.declared.streams.Failed.{Failed}
 use Rattle.world.specs.declared.shelf.Span.{Span}
-use Rattle.world.specs.Counts.{Counts}
-use Rattle.world.specs.Shelf.{Disk, Stop, MayLeave, Elapses, OthersStay, ReadCounts, WriteCounts}
 use Rattle.world_mem.specs.declared.record.Call.{Call}
 use Rattle.world_mem.specs.declared.record.Call.TheVariants.{On, Give, Take}
 use Rattle.world_mem.specs.declared.record.What.{What}

@@ -3,7 +3,7 @@ use Rattle.std.proofs.Common.{Bool, true, false, ◌≡◌, ◌⊎◌, inl, inr,
 use Rattle.std.proofs.lemmas.Bool.{cases_lt, cases_eq}
 use Rattle.std.proofs.lemmas.List.{get_or_past, length-map}
 use Rattle.world.specs.declared.shelf.Span.{Span}
-use Rattle.world.specs.Shelf.{Disk, IsIn, IsInSome}
+use Rattle.world.specs.Prelude.{Disk, IsIn, IsInSome}
 use Rattle.world_mem.specs.declared.part.Part.{Part}
 use Rattle.world_mem.specs.Parts.{disk_of, disks_of, disk_at, nothing, IsTorn, plan_of, plans_of, plan_at, sound}
 

@@ -1,8 +1,7 @@
 -- Input and output in the past of a world in memory.
 use Rattle.std.proofs.Common.{◌≡◌, ◌≤◌, true, inl, inr, ⊎_elim, ℕ, List, [], ◌∷◌, ◌++◌, length, take, refl, sym, ◌∙◌, ap, subst, arith, length-append}
 use Rattle.std.proofs.lemmas.List.{take_at, append-nil}
-use Rattle.world.specs.Shelf.{Stop, MayStopGiving, OutputOnly, MayStopTaking, TakenOnly, Continues}
-use Rattle.world.specs.lemmas.Moments.{front_refl}
+use Rattle.world.specs.Prelude.{Stop, MayStopGiving, OutputOnly, MayStopTaking, TakenOnly, Continues, front_refl}
 use Rattle.world_mem.specs.declared.record.Call.{Call}
 use Rattle.world_mem.specs.declared.record.Call.TheVariants.{Give, Take}
 use Rattle.world_mem.specs.Past.{View, StopAt, shelved_of, undo}

@@ -1,8 +1,7 @@
 -- What a call does to a device in memory, and to the record of calls.
 use Rattle.std.specs.Prelude.{◌≡◌, ◌≢◌, ◌⊎◌, ◌+◌, ◌<◌, ◌≤◌, ℕ, List, length, Bool, true, Result, IsErr, OnErr}
-use Rattle.pur_base.specs.declared.device.Device.{Device}
+use Rattle.world.specs.Prelude.{Device, Rises}
 use Rattle.world.specs.declared.streams.Failed.{Failed}
-use Rattle.world.specs.Counts.{Rises}
 use Rattle.world_mem.specs.declared.record.Call.{Call}
 use Rattle.world_mem.specs.declared.part.Part.{Part}
 use Rattle.world_mem.specs.Parts.{disk_of, disks_of, disk_at, bytes_at, plan_of, plans_of, plan_at, will_fail, will_fail_at, Logged, LoggedIn}

@@ -1,10 +1,6 @@
 -- A world whose calls all fail from some call on: its own failures count besides those of the world within.
 use Rattle.std.specs.Prelude.{◌≡◌, ◌⊎◌, ℕ, ◌+◌, ◌-◌, ◌<◌, ◌≤◌, ◌^◌, Bool, true, false, List, length, slice_index_or}
-use Rattle.pur_base.specs.declared.device.Device.{Device}
-use Rattle.pur_base.specs.declared.device.Device.TheVariants.{Drive, Nv}
-use Rattle.world.specs.Shelf.{Disk, Shelved, Stop, MayLeave}
-use Rattle.world.specs.Counts.{capped}
-use Rattle.world.specs.Streams.{Streamed}
+use Rattle.world.specs.Prelude.{Device, Drive, Nv, Disk, Shelved, Stop, MayLeave, capped, Streamed}
 use Rattle.world_mem.specs.declared.extra.Extra.{Extra}
 
 -- no failure of its own

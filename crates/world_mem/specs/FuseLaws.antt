@@ -1,13 +1,7 @@
 -- The laws of a shelf, behind a fuse.
 use Rattle.std.proofs.Common.{◌≡◌, inl, inr, ⊎_elim, Bool, true, false, ℕ, ◌+◌, ◌-◌, ◌≤◌, ◌^◌, List, ◌++◌, length, refl, sym, ◌∙◌, ap, subst, arith}
-use Rattle.pur_base.specs.declared.device.Device.{Device}
-use Rattle.pur_base.specs.declared.device.Device.TheVariants.{Drive, Nv}
-use Rattle.world.specs.Shelf.{Disk, Shelved, Stop, MayLeave, MayStop, IsShelf, IsOf, size_of, Continues, Elapses, OutputOnly, TakenOnly, MayStopGiving, MayStopTaking, IsCountedBy}
-use Rattle.world.specs.Streams.{Streamed, SameStream}
-use Rattle.world.specs.lemmas.Rests.{no_output, nothing_taken}
-use Rattle.world.specs.lemmas.Moments.{front_refl}
+use Rattle.world.specs.Prelude.{Device, Drive, Nv, Disk, Shelved, Stop, MayLeave, MayStop, IsShelf, IsOf, size_of, Continues, Elapses, OutputOnly, TakenOnly, MayStopGiving, MayStopTaking, IsCountedBy, Streamed, SameStream, no_output, nothing_taken, front_refl, capped}
 use Rattle.world_mem.specs.declared.extra.Extra.{Extra}
-use Rattle.world.specs.Counts.{capped}
 use Rattle.world_mem.specs.Fuse.{Fuse, fused, fused_disk, fused_stream, tick, StopsNow, IsWhole, SameFuse, CutOff}
 
 capped_end : (n : ℕ) → capped n ≤ 2 ^ 64 - 1

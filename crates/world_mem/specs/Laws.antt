@@ -1,11 +1,7 @@
 -- The laws of a shelf, at a world in memory.
 use Rattle.std.proofs.Common.{◌≡◌, ◌<◌, ◌≤◌, ◌-◌, ◌^◌, inl, ℕ, zero, suc, List, [], ◌∷◌, length, reverse, slice_index, refl, ◌∙◌, subst, arith}
 use Rattle.std.proofs.lemmas.List.{length-map}
-use Rattle.pur_base.specs.declared.device.Device.{Device}
-use Rattle.pur_base.specs.declared.device.Device.TheVariants.{Drive, Nv}
-use Rattle.world.specs.Shelf.{Stop, MayStop, IsShelf, IsOf, size_of}
-use Rattle.world.specs.Streams.{IsPreorder}
-use Rattle.world.specs.lemmas.Rests.{same_stream, stream_then, nothing_taken, taken_then, no_output, output_then}
+use Rattle.world.specs.Prelude.{Device, Drive, Nv, Stop, MayStop, IsShelf, IsOf, size_of, IsPreorder, same_stream, stream_then, nothing_taken, taken_then, no_output, output_then}
 use Rattle.world_mem.specs.declared.record.Call.{Call}
 use Rattle.world_mem.specs.declared.part.Part.{Part}
 use Rattle.world_mem.specs.declared.mem_world.MemWorld.{MemWorld}

@@ -1,8 +1,7 @@
 -- A device in memory, and what undoes a call on it.
 use Rattle.std.specs.Prelude.{◌≡◌, ◌⊎◌, ℕ, ◌+◌, ◌-◌, ◌≤◌, List, [], ◌∷◌, ◌++◌, length, take, drop, map, slice_index, slice_index_or, slice_set, Bool, false, ◌||◌, ◌^◌, min, nat_eq}
 use Rattle.std.specs.List.{list_any}
-use Rattle.world.specs.Shelf.{Disk, MayLeave}
-use Rattle.pur_base.specs.declared.device.Device.{Device}
+use Rattle.world.specs.Prelude.{Disk, MayLeave, Device}
 use Rattle.world_mem.specs.declared.record.Call.{Call}
 use Rattle.world_mem.specs.declared.record.Call.TheVariants.{On}
 use Rattle.world_mem.specs.declared.record.What.{What}

@@ -1,9 +1,6 @@
 -- What a world in memory means: its past is what it holds now with the calls undone, the newest first.
 use Rattle.std.specs.Prelude.{Bool, true, ◌≡◌, ◌⊎◌, ℕ, zero, suc, ◌+◌, ◌-◌, ◌≤◌, List, [], ◌∷◌, length, take, drop, reverse}
-use Rattle.pur_base.specs.declared.device.Device.{Device}
-use Rattle.pur_base.specs.declared.device.Device.TheVariants.{Drive, Nv}
-use Rattle.world.specs.Shelf.{Disk, Shelved, Stop, MayLeave, TakenOnly, OutputOnly}
-use Rattle.world.specs.Streams.{Streamed, SameStream}
+use Rattle.world.specs.Prelude.{Device, Drive, Nv, Disk, Shelved, Stop, MayLeave, TakenOnly, OutputOnly, Streamed, SameStream}
 use Rattle.world_mem.specs.declared.record.Call.{Call}
 use Rattle.world_mem.specs.declared.record.Call.TheVariants.{On, Give, Take}
 use Rattle.world_mem.specs.declared.mem_world.MemWorld.{MemWorld}

@@ -3,9 +3,7 @@ use Rattle.std.proofs.Common.{◌≡◌, ◌⊎◌, inl, inr, ℕ, ◌≤◌, Bo
 use Rattle.std.specs.Prelude.{◌||◌}
 use Rattle.std.proofs.lemmas.Bool.{cases_lt, or_right}
 use Rattle.std.proofs.lemmas.Bool.Decides.{nat_tests}
-use Rattle.pur_base.specs.Devices.{Geometry, Condition, Conditions, Sound, Missing, LeftOut, is_missing, MayBecome, IsWithin, IsBearable, missing_drives, missing_nvrams, slots_of, nvrams, drive, nvram}
-use Rattle.world.specs.Shelf.{Shelved, Stop, Continues, IsCountedBy}
-use Rattle.world.specs.Losing.{has_risen, missing_if}
+use Rattle.session_spec.specs.Prelude.{Geometry, Condition, Conditions, Sound, Missing, LeftOut, is_missing, MayBecome, IsWithin, IsBearable, missing_drives, missing_nvrams, slots_of, nvrams, drive, nvram, Shelved, Stop, Continues, IsCountedBy, has_risen, missing_if}
 use Rattle.boot_region.proofs.Phases.{not_risen_before}
 use Rattle.array_core.specs.Losing.{lost_since, lost_by}
 use Rattle.register.proofs.Again.{count_le, missing_still}

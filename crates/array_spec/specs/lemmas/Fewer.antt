@@ -3,15 +3,11 @@ use Rattle.std.proofs.Common.{◌≡◌, ℕ, zero, suc, ◌+◌, ◌-◌, ◌*�
 use Rattle.std.specs.Prelude.{Option, Some, None, ◌⊎◌, count_by, option_map, is_some, is_none, IfSome}
 use Rattle.std.specs.List.{AllByRecursion, AllZip, range_with_len}
 use Rattle.std.proofs.lemmas.Bool.{cases_eq}
-use Rattle.pur_base.specs.Bytes.{bytes_at}
-use Rattle.pur_base.specs.Devices.{Geometry, drive, View, slots_of}
-use Rattle.pur_base.specs.declared.place.Place.{Place}
-use Rattle.boot_codec.specs.Record.{AscendFrom, IsSegment, IsPatch}
-use Rattle.boot_codec.specs.Region.{IsRecordOf}
+use Rattle.boot_codec.specs.Prelude.{bytes_at, Geometry, drive, View, slots_of, Place, AscendFrom, IsSegment, IsPatch, IsRecordOf}
 use Rattle.boot_codec.specs.declared.record.BootRecord.{BootRecord}
 use Rattle.boot_codec.specs.declared.patch.Patch.{Patch}
 use Rattle.boot_codec.specs.declared.patch.PatchSegment.{PatchSegment}
-use Rattle.segment_codec.specs.Stripes.{write_unit, shards_shown}
+use Rattle.segment_codec.specs.Prelude.{write_unit, shards_shown}
 use Rattle.array_spec.specs.lemmas.Moves.{Keeps, holds_kept}
 use Rattle.array_spec.specs.lemmas.Votes.{counted}
 use Rattle.array_spec.specs.Laws.{FewerHold}

@@ -8,11 +8,9 @@ use Rattle.std.proofs.lemmas.List.{take-append-drop, length-append}
 use Rattle.std.proofs.lemmas.Bool.{and_parts, or_cases}
 use Rattle.std.proofs.lemmas.Option.{slice_get_past}
 use Rattle.std.proofs.lemmas.Slice.Eq.{bytes_eq-Decides}
-use Rattle.pur_base.specs.Commands.{Command, Accepts, after, after_all, AllAccepted}
-use Rattle.pur_base.specs.Devices.{View, nvram, Condition, Conditions, Sound, Missing, LeftOut, is_sound, without_missing}
-use Rattle.pur_base.specs.Gates.{is_open}
-use Rattle.pur_base.specs.Plain.{Array}
-use Rattle.log_codec.specs.Log.{HasSpelling, slot_bytes, Shows, IsInSlot, LogFrom, slot_at}
+use Rattle.boot_codec.specs.Prelude.{Command, Accepts, after_all, AllAccepted, View, nvram, Condition, Conditions, Sound, Missing, LeftOut, is_sound, without_missing, is_open, Array}
+use Rattle.pur_base.specs.Commands.{after}
+use Rattle.log_codec.specs.Prelude.{HasSpelling, slot_bytes, Shows, IsInSlot, LogFrom, slot_at}
 use Rattle.array_spec.specs.Laws.{LogIsBetween}
 
 spelled_in : ℕ → ℕ → Command → List ℕ → Bool

@@ -1,9 +1,7 @@
 -- The log depends on what the NVRAM devices show alone.
 use Rattle.std.proofs.Common.{◌≡◌, ℕ, suc, List, [], ◌∷◌, refl, sym, inl, inr, ◌∙◌}
-use Rattle.pur_base.specs.Commands.{Command}
-use Rattle.pur_base.specs.Devices.{View, nvram, Conditions, without_missing}
-use Rattle.pur_base.specs.Plain.{Array}
-use Rattle.log_codec.specs.Log.{Shows, IsInSlot, LogFrom}
+use Rattle.boot_codec.specs.Prelude.{Command, View, nvram, Conditions, without_missing, Array}
+use Rattle.log_codec.specs.Prelude.{Shows, IsInSlot, LogFrom}
 use Rattle.array_spec.specs.Standing.{LeadsInto}
 
 pub shows_move : (m n : View) → ((j : ℕ) → m (nvram j) ≡ n (nvram j)) → (which flushed i : ℕ) (c : Command) → Shows m which flushed i c → Shows n which flushed i c

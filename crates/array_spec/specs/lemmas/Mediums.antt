@@ -1,10 +1,7 @@
 -- A sector of a medium reads as one target.
 use Rattle.std.proofs.Common.{◌≡◌, ℕ, ◌+◌, ◌-◌, refl, subst}
 use Rattle.std.specs.Prelude.{Option, Some, None}
-use Rattle.pur_base.specs.Mediums.{Reads, here, below, unwritten}
-use Rattle.pur_base.specs.Facts.{Facts}
-use Rattle.pur_base.specs.Visible.{address}
-use Rattle.pur_base.specs.declared.facts.Target.{Target}
+use Rattle.boot_codec.specs.Prelude.{Reads, here, below, unwritten, Facts, address, Target}
 use Rattle.array_spec.specs.Laws.{ReadsOne}
 use Rattle.array_spec.specs.Sound.{AreMediumsSound}
 

@@ -7,13 +7,8 @@ use Rattle.std.specs.Cmp.Lexicographic.{same_text}
 use Rattle.std.proofs.lemmas.Bool.{cases_Bool}
 use Rattle.std.proofs.lemmas.Slice.Eq.{bytes_eq-Decides}
 use Rattle.std.proofs.lemmas.List.{get_or-take, get_or-drop}
-use Rattle.pur_base.specs.Bytes.{zeros}
-use Rattle.pur_base.specs.Devices.{Geometry, Image, View, Condition, Conditions, Sound, Missing, LeftOut, MayShowAs, IsBearable, is_missing, drive}
-use Rattle.pur_base.specs.declared.device.Device.{Device}
-use Rattle.pur_base.specs.declared.device.Device.TheVariants.{Drive, Nv}
+use Rattle.boot_codec.specs.Prelude.{zeros, Geometry, Image, View, Condition, Conditions, Sound, Missing, LeftOut, MayShowAs, IsBearable, is_missing, drive, Device, Drive, Nv, spelling, record_bytes, header_bytes, opening_bytes, BootSlot, body_in, body_place, with_body, names, of_members}
 use Rattle.boot_codec.specs.declared.record.BootRecord.{BootRecord}
-use Rattle.boot_codec.specs.Spelling.{spelling, record_bytes, header_bytes, opening_bytes}
-use Rattle.boot_codec.specs.Region.{BootSlot, body_in, body_place, with_body, names, of_members}
 use Rattle.array_spec.specs.Meaning.{AllHold}
 use Rattle.array_spec.specs.Standing.{IsViewOf}
 use Rattle.array_spec.specs.Unflushed.{NamesSound}

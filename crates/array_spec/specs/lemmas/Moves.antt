@@ -2,20 +2,11 @@
 use Rattle.std.proofs.Common.{◌≡◌, ℕ, zero, suc, ◌+◌, ◌/◌, ◌≤◌, ◌<◌, List, [], ◌∷◌, map, refl, subst, arith}
 use Rattle.std.specs.Prelude.{Some, slice_index_or, IfSome, is_some, count_by}
 use Rattle.std.specs.List.{AllByRecursion, AllZip}
-use Rattle.pur_base.specs.Devices.{View, Geometry}
-use Rattle.pur_base.specs.Plain.{Entry, Array}
-use Rattle.pur_base.specs.Facts.{Facts}
-use Rattle.pur_base.specs.Visible.{segment, objects}
-use Rattle.pur_base.specs.declared.facts.AnyFact.{AnyFact}
-use Rattle.pur_base.specs.declared.facts.ObjectFact.{ObjectFact}
-use Rattle.pur_base.specs.declared.facts.SegmentFact.{SegmentFact}
-use Rattle.pur_base.specs.declared.facts.Target.{Target}
-use Rattle.pur_base.specs.declared.facts.Target.TheVariants.{Stored, Zero}
-use Rattle.pur_base.specs.declared.place.Place.{Place}
+use Rattle.boot_codec.specs.Prelude.{View, Geometry, Entry, Array, Facts, segment, objects, AnyFact, ObjectFact, SegmentFact, Target, Stored, Zero, Place}
 use Rattle.boot_codec.specs.declared.patch.Patch.{Patch}
 use Rattle.boot_codec.specs.declared.patch.PatchSegment.{PatchSegment}
 use Rattle.boot_codec.specs.declared.record.BootRecord.{BootRecord}
-use Rattle.segment_codec.specs.Stripes.{write_unit, shards_shown, StripeStands, SectorStands, StripesStand}
+use Rattle.segment_codec.specs.Prelude.{write_unit, shards_shown, StripeStands, SectorStands, StripesStand}
 use Rattle.array_spec.specs.Base.{TargetStands, EntryStands}
 use Rattle.array_spec.specs.Meaning.{TablesStand, HoldsBase}
 use Rattle.array_spec.specs.Stored.{PatchStands, places_of_part, pages_in_part, all_facts}

@@ -2,18 +2,9 @@
 use Rattle.std.proofs.Common.{◌≡◌, ◌⊎◌, inl, inr, ℕ, zero, suc, [], ◌∷◌, ◌+◌, ◌*◌, ◌/◌, ◌<◌, ◌≤◌, List, length, refl, sym, ap, subst, ◌∙◌, arith, Bool, true, false}
 use Rattle.std.specs.Prelude.{Option, Some, None, is_none, slice_index, slice_index_or, option_map, count_by, filter_map}
 use Rattle.std.specs.List.{range_with_len, AllZip}
-use Rattle.pur_base.specs.Bytes.{bytes_at}
-use Rattle.pur_base.specs.Devices.{Geometry, Image, View, drive}
-use Rattle.pur_base.specs.Plain.{Array}
-use Rattle.pur_base.specs.Visible.{object, objects, segment}
-use Rattle.pur_base.specs.declared.device.Device.TheVariants.{Drive, Nv}
-use Rattle.pur_base.specs.declared.facts.AnyFact.{AnyFact}
-use Rattle.pur_base.specs.declared.facts.SegmentFact.{SegmentFact}
-use Rattle.pur_base.specs.declared.place.Place.{Place}
+use Rattle.boot_codec.specs.Prelude.{bytes_at, Geometry, Image, View, drive, Array, object, objects, segment, Drive, Nv, AnyFact, SegmentFact, Place, spelling, BootSlot, A, B, body_in, IsRecordOf}
 use Rattle.boot_codec.specs.declared.patch.Patch.{Patch}
 use Rattle.boot_codec.specs.declared.record.BootRecord.{BootRecord}
-use Rattle.boot_codec.specs.Spelling.{spelling}
-use Rattle.boot_codec.specs.Region.{BootSlot, A, B, body_in, IsRecordOf}
 use Rattle.array_spec.specs.Base.{BaseStands}
 use Rattle.array_spec.specs.Counts.{is_used}
 use Rattle.array_spec.specs.Laws.{DiffersOnlyIn}

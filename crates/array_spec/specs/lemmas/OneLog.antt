@@ -1,10 +1,9 @@
 -- A view has one log over a base.
 use Rattle.std.proofs.Common.{◌≡◌, ℕ, suc, ◌+◌, List, [], ◌∷◌, refl, sym, subst, inl, inr}
 use Rattle.std.specs.Prelude.{Option, Some}
-use Rattle.pur_base.specs.Devices.{View, nvram}
-use Rattle.pur_base.specs.Plain.{Array}
-use Rattle.pur_base.specs.Commands.{Command, after}
-use Rattle.log_codec.specs.Log.{Shows, Spells, slot_at, IsInSlot, LogFrom}
+use Rattle.boot_codec.specs.Prelude.{View, nvram, Array, Command}
+use Rattle.pur_base.specs.Commands.{after}
+use Rattle.log_codec.specs.Prelude.{Shows, Spells, slot_at, IsInSlot, LogFrom}
 use Rattle.log_codec.proofs.OneHead.{one_command}
 use Rattle.array_spec.specs.lemmas.Mediums.{same_some}
 

@@ -5,10 +5,8 @@ use Rattle.std.specs.List.{AllZip}
 use Rattle.std.proofs.lemmas.Bool.{cases_lt}
 use Rattle.parity72.specs.Parity.{shard_of}
 use Rattle.parity72.proofs.SevenDecide.{seven-decide}
-use Rattle.pur_base.specs.Devices.{View}
-use Rattle.pur_base.specs.declared.place.Place.{Place}
-use Rattle.segment_codec.specs.Position.{stripe_of}
-use Rattle.segment_codec.specs.Stripes.{shards_shown, StripeStands, SectorStands, sector_in}
+use Rattle.boot_codec.specs.Prelude.{View, Place}
+use Rattle.segment_codec.specs.Prelude.{stripe_of, shards_shown, StripeStands, SectorStands, sector_in}
 use Rattle.array_spec.specs.lemmas.Votes.{counted}
 
 -- each of them is shown

@@ -5,15 +5,7 @@ use Rattle.std.specs.Str.{bytes_eq}
 use Rattle.std.proofs.lemmas.List.{length-take, length-drop, get_or-take, get_or-drop}
 use Rattle.std.proofs.lemmas.Grind.{same_number_lists}
 use Rattle.std.proofs.lemmas.Bool.{cases_Bool}
-use Rattle.pur_base.specs.Bytes.{bytes_at, zeros, IsBytesOf}
-use Rattle.pur_base.specs.Devices.{Geometry, drive, nvram, Image, View, Condition, Conditions, Sound, Missing, LeftOut, MayShowAs, slots_of}
-use Rattle.pur_base.specs.Plain.{Array}
-use Rattle.pur_base.specs.declared.device.Device.{Device}
-use Rattle.pur_base.specs.declared.device.Device.TheVariants.{Drive, Nv}
-use Rattle.pur_base.specs.Facts.{Facts}
-use Rattle.pur_base.specs.declared.place.Place.{Place}
-use Rattle.boot_codec.specs.Region.{names, BootSlot, A, B, IsEffective, IsDecided, shown_by, with_body, body_in, votes, other_slot, of_members, gate_place, body_place}
-use Rattle.boot_codec.specs.Spelling.{spelling}
+use Rattle.boot_codec.specs.Prelude.{bytes_at, zeros, IsBytesOf, Geometry, drive, nvram, Image, View, Condition, Conditions, Sound, Missing, LeftOut, MayShowAs, slots_of, Array, Device, Drive, Nv, Facts, Place, names, BootSlot, A, B, IsEffective, IsDecided, shown_by, with_body, body_in, votes, other_slot, of_members, gate_place, body_place, spelling}
 use Rattle.boot_codec.specs.declared.record.BootRecord.{BootRecord}
 use Rattle.array_spec.specs.lemmas.LogMoves.{shows_move, leads_move}
 use Rattle.array_spec.specs.lemmas.Moves.{SameUnit, holds_moves}

@@ -1,10 +1,7 @@
 -- A record whose tables stand is read into what its log leads to.
 use Rattle.std.proofs.Common.{◌≡◌, ℕ, List, refl, false}
-use Rattle.pur_base.specs.Devices.{Geometry, Image, View, Conditions, LeftOut, drive}
-use Rattle.pur_base.specs.Plain.{Array}
-use Rattle.pur_base.specs.declared.facts.AnyFact.{AnyFact}
+use Rattle.boot_codec.specs.Prelude.{Geometry, Image, View, Conditions, LeftOut, drive, Array, AnyFact, BootSlot, names, of_members}
 use Rattle.boot_codec.specs.declared.record.BootRecord.{BootRecord}
-use Rattle.boot_codec.specs.Region.{BootSlot, names, of_members}
 use Rattle.array_spec.specs.Meaning.{HoldsBase, AllHold}
 use Rattle.array_spec.specs.Standing.{IsViewOf}
 use Rattle.array_spec.specs.Unflushed.{NamesSound}

@@ -6,9 +6,7 @@ use Rattle.std.specs.Str.{bytes_eq}
 use Rattle.std.specs.Cmp.Lexicographic.{same_text}
 use Rattle.std.proofs.lemmas.Bool.{cases_Bool, cases_lt}
 use Rattle.std.proofs.lemmas.List.FromFn.{length-map-range_with_len}
-use Rattle.pur_base.specs.Devices.{Geometry, drive, Image, View, Condition, Conditions, Sound, Missing, LeftOut, IsWithin, MayBecome, slots_of}
-use Rattle.boot_codec.specs.Region.{IsRecordOf, BootSlot, A, B, Effective, IsEffective, IsDecided, Yields, is_vote, votes, shown_by, other_slot, generation_in}
-use Rattle.boot_codec.specs.Spelling.{spelling}
+use Rattle.boot_codec.specs.Prelude.{Geometry, drive, Image, View, Condition, Conditions, Sound, Missing, LeftOut, IsWithin, MayBecome, slots_of, IsRecordOf, BootSlot, A, B, Effective, IsEffective, IsDecided, Yields, is_vote, votes, shown_by, other_slot, generation_in, spelling}
 use Rattle.boot_codec.specs.declared.record.BootRecord.{BootRecord}
 use Rattle.array_spec.specs.lemmas.Standings.{within_twice}
 use Rattle.array_spec.specs.lemmas.Votes.{counted, one_is_decided, sound_before}

@@ -1,10 +1,8 @@
 -- Two lawful records are spelled differently.
 use Rattle.std.proofs.Common.{◌≡◌, Ok, Result}
-use Rattle.pur_base.specs.Devices.{Geometry}
+use Rattle.boot_codec.specs.Prelude.{Geometry, spelling, read_record}
 use Rattle.boot_codec.specs.declared.record.BootRecord.{BootRecord}
 use Rattle.boot_codec.specs.declared.bad_record.BadRecord.{BadRecord}
-use Rattle.boot_codec.specs.Spelling.{spelling}
-use Rattle.boot_codec.specs.Reading.{read_record}
 use Rattle.boot_codec.proofs.RecordLemmas.{record_again}
 use Rattle.array_spec.specs.Laws.{SpellsOne}
 

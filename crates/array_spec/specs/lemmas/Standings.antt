@@ -2,8 +2,7 @@
 use Rattle.std.proofs.Common.{◌≡◌, ℕ, List, length, take, ap, subst, inl, inr, arith}
 use Rattle.std.proofs.Math.Seq.{take-length}
 use Rattle.std.specs.Prelude.{Some}
-use Rattle.pur_base.specs.Commands.{after_all}
-use Rattle.pur_base.specs.Devices.{Condition, Conditions, Sound, Missing, LeftOut, MayBecome, IsWithin, View, Image, Geometry, MayShowAs}
+use Rattle.boot_codec.specs.Prelude.{after_all, Condition, Conditions, Sound, Missing, LeftOut, MayBecome, IsWithin, View, Image, Geometry, MayShowAs}
 use Rattle.array_spec.specs.Laws.{StandingMeans, MoreMayGoMissing}
 use Rattle.array_spec.specs.Standing.{IsViewOf, MayAppear, MayBeGiven}
 

@@ -6,22 +6,10 @@ use Rattle.std.proofs.lemmas.Bool.{cases_lt}
 use Rattle.std.proofs.lemmas.List.{length-replicate, get_or-replicate, get_or_past}
 use Rattle.std.proofs.lemmas.Slice.Eq.{bytes_eq-Decides}
 use Rattle.std.specs.Str.{bytes_eq}
-use Rattle.pur_base.specs.Bytes.{zeros}
-use Rattle.pur_base.specs.Gates.{is_open}
-use Rattle.pur_base.specs.Devices.{Geometry, Image, View, Condition, Conditions, Sound, Missing, LeftOut, MayShowAs, MayBecome, nvram, is_missing}
-use Rattle.pur_base.specs.Plain.{Array}
-use Rattle.pur_base.specs.Commands.{Command}
-use Rattle.pur_base.specs.Facts.{Facts, by_table}
-use Rattle.pur_base.specs.Visible.{object, objects, segment, segments}
-use Rattle.pur_base.specs.declared.device.Device.{Device}
-use Rattle.pur_base.specs.declared.device.Device.TheVariants.{Drive, Nv}
-use Rattle.pur_base.specs.declared.facts.ObjectFact.{ObjectFact}
-use Rattle.pur_base.specs.declared.facts.AnyFact.{AnyFact}
+use Rattle.boot_codec.specs.Prelude.{zeros, is_open, Geometry, Image, View, Condition, Conditions, Sound, Missing, LeftOut, MayShowAs, MayBecome, nvram, is_missing, Array, Command, Facts, by_table, object, objects, segment, segments, Device, Drive, Nv, ObjectFact, AnyFact, spelling, BootSlot, IsRecordOf, body_in, names, of_members}
 use Rattle.boot_codec.specs.declared.patch.Patch.{Patch}
 use Rattle.boot_codec.specs.declared.record.BootRecord.{BootRecord}
-use Rattle.boot_codec.specs.Spelling.{spelling}
-use Rattle.boot_codec.specs.Region.{BootSlot, IsRecordOf, body_in, names, of_members}
-use Rattle.log_codec.specs.Log.{Shows, ShowsIn}
+use Rattle.log_codec.specs.Prelude.{Shows, ShowsIn}
 use Rattle.array_spec.specs.Stored.{PatchStands, all_facts}
 use Rattle.array_spec.specs.Sound.{AreSound, used_places, named_segments}
 use Rattle.array_spec.specs.Base.{EntryStands}

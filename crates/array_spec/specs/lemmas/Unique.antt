@@ -3,18 +3,9 @@ use Rattle.std.proofs.Common.{◌≡◌, ℕ, suc, ◌*◌, ◌/◌, ◌%◌, �
 use Rattle.std.specs.Prelude.{Option, Some, slice_get, slice_index_or}
 use Rattle.std.specs.List.{AllZip}
 use Rattle.std.proofs.lemmas.List.{ext_get_or}
-use Rattle.pur_base.specs.Bytes.{bytes_at}
-use Rattle.pur_base.specs.Devices.{View}
-use Rattle.pur_base.specs.Plain.{Entry}
-use Rattle.pur_base.specs.Facts.{Facts}
-use Rattle.pur_base.specs.Visible.{segment, objects}
-use Rattle.pur_base.specs.declared.facts.AnyFact.{AnyFact}
-use Rattle.pur_base.specs.declared.facts.ObjectFact.{ObjectFact}
-use Rattle.pur_base.specs.declared.facts.SegmentFact.{SegmentFact}
-use Rattle.pur_base.specs.declared.facts.Target.{Target}
-use Rattle.pur_base.specs.declared.facts.Target.TheVariants.{Stored, Zero}
+use Rattle.boot_codec.specs.Prelude.{bytes_at, View, Entry, Facts, segment, objects, AnyFact, ObjectFact, SegmentFact, Target, Stored, Zero}
 use Rattle.boot_codec.specs.declared.patch.Patch.{Patch}
-use Rattle.segment_codec.specs.Stripes.{SectorStands}
+use Rattle.segment_codec.specs.Prelude.{SectorStands}
 use Rattle.fact_codec.specs.Fact.{Decodes}
 use Rattle.fact_codec.proofs.OneFact.{one_fact}
 use Rattle.array_spec.specs.Base.{TargetStands, MediumReads, EntryStands, BaseStands}

@@ -3,16 +3,8 @@ use Rattle.std.proofs.Common.{◌≡◌, ℕ, zero, suc, ◌+◌, ◌≤◌, ◌
 use Rattle.std.specs.Prelude.{Option, Some, None, filter_map, ◌==◌}
 use Rattle.std.specs.List.{AllByRecursion, list_any, range_with_len, flat_map, cons_option}
 use Rattle.std.proofs.lemmas.Bool.{cases_eq, eq-eqb, eqb-true, and_parts, or_cases}
-use Rattle.pur_base.specs.Devices.{Geometry}
-use Rattle.pur_base.specs.Keys.{key_of}
-use Rattle.pur_base.specs.Facts.{Facts, segment_key, never}
-use Rattle.pur_base.specs.lemmas.Says.{says_is}
+use Rattle.boot_codec.specs.Prelude.{Geometry, key_of, Facts, segment_key, never, says_is, is_elided, segment, segments, SegmentFact, Place, AscendFrom, IsSegment, IsPatch, IsRecordOf}
 use Rattle.pur_base.specs.declared.request.Table.TheVariants as table
-use Rattle.pur_base.specs.Visible.{is_elided, segment, segments}
-use Rattle.pur_base.specs.declared.facts.SegmentFact.{SegmentFact}
-use Rattle.pur_base.specs.declared.place.Place.{Place}
-use Rattle.boot_codec.specs.Record.{AscendFrom, IsSegment, IsPatch}
-use Rattle.boot_codec.specs.Region.{IsRecordOf}
 use Rattle.boot_codec.specs.declared.patch.Patch.{Patch}
 use Rattle.boot_codec.specs.declared.patch.PatchSegment.{PatchSegment}
 use Rattle.boot_codec.specs.declared.record.BootRecord.{BootRecord}

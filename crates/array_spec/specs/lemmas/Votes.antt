@@ -8,8 +8,7 @@ use Rattle.std.proofs.lemmas.List.FromFn.{length-map-range_with_len}
 use Rattle.std.proofs.lemmas.List.Sums.{sum_by-cons}
 use Rattle.std.specs.Cmp.Lexicographic.{same_text}
 use Rattle.std.specs.Prelude.{option_and_then}
-use Rattle.pur_base.specs.Devices.{drive, Condition, Sound, Missing, LeftOut, is_missing, MayBecome}
-use Rattle.boot_codec.specs.Region.{is_vote, IsDecided, BootSlot, A, B, votes, Yields, generation_in, other_slot, shown_by}
+use Rattle.boot_codec.specs.Prelude.{drive, Condition, Sound, Missing, LeftOut, is_missing, MayBecome, is_vote, IsDecided, BootSlot, A, B, votes, Yields, generation_in, other_slot, shown_by}
 use Rattle.array_spec.specs.Laws.{OneIsDecided, OneIsEffective, HeldIsGiven, is_sound_vote}
 
 one_more : (o a b : List ℕ) (p q : Bool) (m n l : ℕ) → bytes_eq o a ≡ p → bytes_eq o b ≡ q → (a ≡ b) ⊎ (m + n ≤ l) → (a ≡ b) ⊎ ((cond p 1 0 + m) + (cond q 1 0 + n) ≤ suc l)

@@ -1,11 +1,7 @@
 -- Conditions that tell what has failed: those that lose the devices whose counts rose.
 use Rattle.std.proofs.Common.{◌≡◌, inl, inr, ℕ, List, refl, Bool, true, false}
-use Rattle.pur_base.specs.declared.device.Device.{Device}
-use Rattle.pur_base.specs.Devices.{Condition, Conditions, Sound, Missing, LeftOut, IsBearable, MayBecome, IsWithin, drive}
-use Rattle.boot_codec.specs.Region.{BootSlot}
-use Rattle.array_spec.specs.lemmas.Votes.{sound_before}
-use Rattle.world.specs.Shelf.{Shelved}
-use Rattle.world.specs.Losing.{geometry_of, has_risen, missing_if, losing}
+use Rattle.array_spec.specs.Prelude.{Device, Condition, Conditions, Sound, Missing, LeftOut, IsBearable, MayBecome, IsWithin, drive, BootSlot, sound_before}
+use Rattle.world.specs.Prelude.{Shelved, geometry_of, has_risen, missing_if, losing}
 use Rattle.boot_region.specs.Storing.{AccountsFor, AreOlder, TellsFailed}
 
 goes : (b : Bool) (c : Condition) → MayBecome c (missing_if b c)

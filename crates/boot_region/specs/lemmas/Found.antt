@@ -4,18 +4,8 @@ use Rattle.std.specs.List.{range_with_len}
 use Rattle.std.specs.Prelude.{◌==◌}
 use Rattle.std.proofs.lemmas.Bool.{cases_lt, cases_Bool}
 use Rattle.std.proofs.lemmas.List.{drop-take, get_or-take, get_or_past}
-use Rattle.pur_base.specs.Bytes.{bytes_at}
-use Rattle.pur_base.specs.Gates.{is_open}
-use Rattle.pur_base.specs.Plain.{Array}
-use Rattle.pur_base.specs.Devices.{Geometry, View, Conditions, Condition, Sound, Missing, LeftOut, is_sound, MayBecome, drive}
-use Rattle.pur_base.specs.declared.device.Device.{Device}
-use Rattle.pur_base.specs.declared.device.Device.TheVariants.{Drive, Nv}
-use Rattle.boot_codec.specs.Region.{BootSlot, A, B, other_slot, IsRecordOf, IsEffective, IsDecided, votes, shown_by, body_in, body_place, gate_place}
-use Rattle.boot_codec.specs.Spelling.{spelling}
-use Rattle.array_spec.specs.Standing.{MayBeGiven}
-use Rattle.world.specs.Losing.{geometry_of}
-use Rattle.world.specs.Shelf.{Shelved, Stop, IsShelf, IsSame, Continues, MayStop}
-use Rattle.world.specs.lemmas.Stopped.{as_read}
+use Rattle.array_spec.specs.Prelude.{bytes_at, is_open, Array, Geometry, View, Conditions, Condition, Sound, Missing, LeftOut, is_sound, MayBecome, drive, Device, Drive, Nv, BootSlot, A, B, other_slot, IsRecordOf, IsEffective, IsDecided, votes, shown_by, body_in, body_place, gate_place, spelling, MayBeGiven}
+use Rattle.world.specs.Prelude.{geometry_of, Shelved, Stop, IsShelf, IsSame, Continues, MayStop, as_read}
 use Rattle.boot_region.specs.declared.loading.Loaded.{Loaded}
 use Rattle.boot_region.specs.declared.loading.LoadFault.{LoadFault}
 use Rattle.boot_region.specs.Members.{IsMember}

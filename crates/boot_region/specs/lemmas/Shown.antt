@@ -5,14 +5,8 @@ use Rattle.std.proofs.lemmas.Bool.{cases_Bool, cases_lt, eqb-true}
 use Rattle.std.proofs.lemmas.List.{get_or_past, length-take, length-drop, get_or-take, get_or-drop}
 use Rattle.std.proofs.lemmas.List.Edits.{get_or-between}
 use Rattle.std.proofs.lemmas.Grind.{same_number_lists}
-use Rattle.pur_base.specs.declared.limits.TheConstants.{SECTOR_BYTES, UNIT_BYTES, BOOT_UNITS}
-use Rattle.pur_base.specs.Bytes.{bytes_at}
-use Rattle.pur_base.specs.Gates.{is_open}
-use Rattle.boot_codec.specs.declared.limits.TheConstants.{RECORD_BYTES}
-use Rattle.boot_codec.specs.Gate.{gate_bytes}
-use Rattle.boot_codec.specs.Region.{BootSlot, A, B, other_slot, gate_place, body_place, body_in, shown_by}
-use Rattle.array_spec.specs.lemmas.Quiet.{bytes_same}
-use Rattle.world.specs.Shelf.{IsIn, Written}
+use Rattle.array_spec.specs.Prelude.{SECTOR_BYTES, UNIT_BYTES, BOOT_UNITS, bytes_at, is_open, RECORD_BYTES, gate_bytes, BootSlot, A, B, other_slot, gate_place, body_place, body_in, shown_by, bytes_same}
+use Rattle.world.specs.Prelude.{IsIn, Written}
 use Rattle.boot_region.specs.Members.{IsMember}
 
 gates_apart : (slot : BootSlot) → IsIn (record { start = gate_place slot; size = SECTOR_BYTES }) (gate_place (other_slot slot)) → ⊥

@@ -5,7 +5,7 @@ use Rattle.std.specs.Int.{w16, w32, w64, from_be_bytes}
 use Rattle.std.proofs.lemmas.List.{take_at, drop_at, length-append, length-replicate}
 use Rattle.std.proofs.lemmas.List.Concat.{flat_map-cons}
 use Rattle.std.proofs.lemmas.Nat.{from_be_bytes-to_be_bytes_2, from_be_bytes-to_be_bytes_4, from_be_bytes-to_be_bytes_8}
-use Rattle.pur_base.specs.Bytes.{u8, u16, u32, u64, zeros}
+use Rattle.pur_base.specs.Prelude.{u8, u16, u32, u64, zeros}
 use Rattle.pur_base.specs.declared.place.Place.{Place}
 use Rattle.byte_fields.specs.Places.{place_bytes, places_bytes, FitsBytes}
 

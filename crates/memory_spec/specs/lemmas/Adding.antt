@@ -1,12 +1,8 @@
 -- The newest fact of a key, when newer facts are added in any order.
 use Rattle.std.proofs.Common.{◌≡◌, ◌⊎◌, ◌↔◌, ℕ, ◌<◌, true, false, List, ◌++◌, ◌∙◌, ap, arith, inl, inr, Some, None, IfSome, Contains, eq-eqb, ne_eqb, eqb-true}
 use Rattle.std.proofs.lemmas.List.Elements.{Contains-append_left, Contains-append_right, Contains-append_cases}
-use Rattle.pur_base.specs.Says.{has_key}
-use Rattle.pyramid.specs.Layers.{newest_of, AreDistinct}
-use Rattle.pyramid.specs.Merging.{later}
-use Rattle.pyramid.specs.lemmas.Newest.{newest-append, newest_none, newest_found, later_none}
-use Rattle.pyramid.specs.lemmas.Sets.{same_newest, newest_over}
-use Rattle.pyramid.specs.lemmas.Layers.{all_contained, all_below, later_below}
+use Rattle.array_spec.specs.Prelude.{has_key}
+use Rattle.pyramid.specs.Prelude.{newest_of, AreDistinct, later, newest-append, newest_none, newest_found, later_none, same_newest, newest_over, all_contained, all_below, later_below}
 
 module _ {F : Type 0} (key number : F → ℕ) where
   -- the only fact of a key is its newest

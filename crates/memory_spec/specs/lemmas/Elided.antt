@@ -3,14 +3,9 @@ use Rattle.std.proofs.Common.{◌≡◌, ◌≢◌, ◌⊎◌, ◌↔◌, ℕ, B
 use Rattle.std.specs.List.{list_any}
 use Rattle.std.proofs.lemmas.Bool.{both_ways, and_parts, cases_Bool}
 use Rattle.std.proofs.lemmas.List.Folds.{list_any_at}
-use Rattle.pur_base.specs.Keys.{id_of}
-use Rattle.pur_base.specs.Says.{has_key, newest, says, unless_empty}
-use Rattle.pur_base.specs.Tags.{tag_of}
-use Rattle.pur_base.specs.Visible.{elides, is_elided}
-use Rattle.pur_base.specs.declared.request.Table.{Table}
+use Rattle.array_spec.specs.Prelude.{id_of, has_key, newest, says, unless_empty, tag_of, elides, is_elided, Table, ElisionFact}
 use Rattle.pur_base.specs.declared.request.Table.TheVariants as table
-use Rattle.pur_base.specs.declared.facts.ElisionFact.{ElisionFact}
-use Rattle.pyramid.specs.lemmas.Contains.{here, there}
+use Rattle.pyramid.specs.Prelude.{here, there}
 
 -- one element that passes
 any_of : {X : Type 0} (p : X → Bool) (xs : List X) (x : X) → Contains xs x → p x ≡ true → list_any p xs ≡ true

@@ -5,16 +5,8 @@ use Rattle.std.specs.Option.{option_map_or}
 use Rattle.std.proofs.lemmas.Bool.{both_ways}
 use Rattle.std.proofs.lemmas.List.{ext_get_or}
 use Rattle.std.proofs.lemmas.Slice.Eq.{bytes_eq-Decides}
-use Rattle.pur_base.specs.Plain.{Entry, Array, entry, has, is_named}
-use Rattle.pur_base.specs.Facts.{Facts}
-use Rattle.pur_base.specs.Visible.{objects}
-use Rattle.pur_base.specs.Mediums.{Reads}
-use Rattle.pur_base.specs.declared.facts.Target.{Target}
-use Rattle.pur_base.specs.declared.facts.Target.TheVariants.{Stored, Zero}
-use Rattle.pur_base.specs.declared.facts.ObjectFact.{ObjectFact}
-use Rattle.array_spec.specs.Sound.{AreMediumsSound}
-use Rattle.array_spec.specs.lemmas.Mediums.{reads_one, same_some}
-use Rattle.pyramid.specs.lemmas.Contains.{here, there, either, nowhere}
+use Rattle.array_spec.specs.Prelude.{Entry, Array, entry, has, is_named, Facts, objects, Reads, Target, Stored, Zero, ObjectFact, AreMediumsSound, reads_one, same_some}
+use Rattle.pyramid.specs.Prelude.{here, there, either, nowhere}
 use Rattle.memory_spec.specs.Tables.{facts}
 use Rattle.memory_spec.specs.Memory.{Memory, Contents, PlaceReads, TargetReads, SectorReads, EntryReads, ReadsAs}
 use Rattle.memory_spec.specs.Reading.{EntriesRead, SectorsRead, ReadsAsOne}

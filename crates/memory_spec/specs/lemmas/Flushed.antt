@@ -2,18 +2,9 @@
 use Rattle.std.proofs.Common.{◌≡◌, ℕ, Bool, List, [], ◌++◌, refl, sym, ap, ◌∙◌, arith, inl, inr, subst, Option, Some, None, option_map, option_and_then, if◌then◌else◌, Contains, append-nil}
 use Rattle.std.proofs.lemmas.Grind.{flat_map-append}
 use Rattle.std.proofs.lemmas.List.Elements.{Contains-append_left, Contains-append_right, Contains-append_cases}
-use Rattle.pur_base.specs.Facts.{object_key, medium_key, address_key, segment_key, elision_key, never, is_empty_range, is_narrower}
-use Rattle.pur_base.specs.Keys.{key_of, id_of}
-use Rattle.pur_base.specs.Says.{has_key, says, unless_empty}
-use Rattle.pur_base.specs.Visible.{is_elided}
-use Rattle.pur_base.specs.declared.request.Table.{Table}
+use Rattle.array_spec.specs.Prelude.{object_key, medium_key, address_key, segment_key, elision_key, never, is_empty_range, is_narrower, key_of, id_of, has_key, says, unless_empty, is_elided, Table, AddressFact, ElisionFact, AreElisionsSound, Grows}
 use Rattle.pur_base.specs.declared.request.Table.TheVariants as table
-use Rattle.pur_base.specs.declared.facts.AddressFact.{AddressFact}
-use Rattle.pur_base.specs.declared.facts.ElisionFact.{ElisionFact}
-use Rattle.array_spec.specs.Sound.{AreElisionsSound, Grows}
-use Rattle.pyramid.specs.Layers.{Layers, facts_of, facts_in, newest_of, patch_facts, patches_of, Grow, AreCovered}
-use Rattle.pyramid.specs.Merging.{later}
-use Rattle.pyramid.specs.lemmas.Newest.{newest-append}
+use Rattle.pyramid.specs.Prelude.{Layers, facts_of, facts_in, newest_of, patch_facts, patches_of, Grow, AreCovered, later, newest-append}
 use Rattle.pyramid.proofs.CoverLemmas.{cover_put}
 use Rattle.pyramid.proofs.ElisionLemmas.{same_ids, elisions_grow}
 use Rattle.memory_spec.specs.Tables.{facts}

@@ -1,18 +1,8 @@
 -- What facts say depends on the facts of some tables alone.
 use Rattle.std.proofs.Common.{◌≡◌, ◌≢◌, ℕ, ◌≤◌, false, List, refl, sym, ap, ◌∙◌, subst, Option, Some, None, option_map, Contains, AllPairs, length, IsSome}
 use Rattle.std.specs.List.{AllByRecursion}
-use Rattle.pur_base.specs.Facts.{Facts, medium_key, address_key, never, is_empty_range}
-use Rattle.pur_base.specs.Keys.{key_of}
-use Rattle.pur_base.specs.Says.{says}
-use Rattle.pur_base.specs.Visible.{objects, object, range, address, segment, is_elided}
+use Rattle.array_spec.specs.Prelude.{Facts, medium_key, address_key, never, is_empty_range, key_of, says, objects, object, range, address, segment, is_elided, OBJECTS, Target, ObjectFact, MediumFact, AddressFact, says_is, AreObjectsSound, AreMediumsSound, OwnsMedium}
 use Rattle.pur_base.specs.declared.request.Table.TheVariants as table
-use Rattle.pur_base.specs.declared.limits.TheConstants.{OBJECTS}
-use Rattle.pur_base.specs.declared.facts.Target.{Target}
-use Rattle.pur_base.specs.declared.facts.ObjectFact.{ObjectFact}
-use Rattle.pur_base.specs.declared.facts.MediumFact.{MediumFact}
-use Rattle.pur_base.specs.declared.facts.AddressFact.{AddressFact}
-use Rattle.pur_base.specs.lemmas.Says.{says_is}
-use Rattle.array_spec.specs.Sound.{AreObjectsSound, AreMediumsSound, OwnsMedium}
 use Rattle.memory_spec.specs.lemmas.Lists.{each_by_recursion}
 use Rattle.memory_spec.specs.lemmas.Moved.{over_before}
 

@@ -5,9 +5,8 @@ use Rattle.std.proofs.lemmas.Bool.{cases_lt, cases_order}
 use Rattle.std.proofs.lemmas.List.{get_or_default}
 use Rattle.std.proofs.lemmas.Option.{slice_get_past, slice_get_within, get_or_from_slice_get}
 use Rattle.std.proofs.lemmas.List.Elements.{All-contains, All-from_recursion, recursion_from_All}
-use Rattle.pyramid.specs.lemmas.Contains.{here, there, either, nowhere}
-use Rattle.pyramid.specs.lemmas.Layers.{all_contained}
-use Rattle.array_spec.specs.lemmas.Mediums.{not_both, same_some}
+use Rattle.pyramid.specs.Prelude.{here, there, either, nowhere, all_contained}
+use Rattle.array_spec.specs.Prelude.{not_both, same_some}
 
 -- ---- each element
 

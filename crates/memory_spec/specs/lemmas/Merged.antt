@@ -3,16 +3,9 @@ use Rattle.std.proofs.Common.{◌≡◌, ℕ, suc, ◌+◌, ◌<◌, Bool, true,
 use Rattle.std.proofs.lemmas.Bool.{or_left}
 use Rattle.std.proofs.lemmas.List.Elements.{Contains-append_left, Contains-append_right, Contains-append_cases}
 use Rattle.std.proofs.lemmas.List.Folds.{list_any-append}
-use Rattle.pur_base.specs.Facts.{object_key, medium_key, address_key, segment_key, elision_key, never, is_empty_range, apart, is_narrower}
-use Rattle.pur_base.specs.FactLaws.{narrower_is_transitive}
-use Rattle.pur_base.specs.Keys.{key_of, id_of}
-use Rattle.pur_base.specs.Says.{says}
-use Rattle.pur_base.specs.Visible.{elides, is_elided}
-use Rattle.pur_base.specs.declared.request.Table.{Table}
+use Rattle.array_spec.specs.Prelude.{object_key, medium_key, address_key, segment_key, elision_key, never, is_empty_range, apart, is_narrower, narrower_is_transitive, key_of, id_of, says, elides, is_elided, Table, AddressFact, ElisionFact}
 use Rattle.pur_base.specs.declared.request.Table.TheVariants as table
-use Rattle.pur_base.specs.declared.facts.AddressFact.{AddressFact}
-use Rattle.pur_base.specs.declared.facts.ElisionFact.{ElisionFact}
-use Rattle.pyramid.specs.Layers.{Layers, IsLayered, IsApart, AreCovered, Grow, stays, facts_of, facts_in, patch_facts, patches_of}
+use Rattle.pyramid.specs.Prelude.{Layers, IsLayered, IsApart, AreCovered, Grow, stays, facts_of, facts_in, patch_facts, patches_of}
 use Rattle.pyramid.proofs.CoverLemmas.{cover_replaced, cover_rewritten}
 use Rattle.pyramid.proofs.ElisionLemmas.{same_ids}
 use Rattle.pyramid.proofs.PlaceLemmas.{replaced, facts_patches, facts_replaced, facts_split, says_merged, says_rewritten}

@@ -1,13 +1,6 @@
 -- Addresses that name the same sectors read the same.
 use Rattle.std.proofs.Common.{◌≡◌, ℕ, ◌+◌, ◌-◌, List, [], sym, ◌∙◌, slice_index_or, Some, None}
-use Rattle.pur_base.specs.Plain.{Entry}
-use Rattle.pur_base.specs.Facts.{Facts}
-use Rattle.pur_base.specs.Visible.{range, address, objects}
-use Rattle.pur_base.specs.Mediums.{Reads, here, below, unwritten, IsOver}
-use Rattle.pur_base.specs.declared.facts.Target.{Target}
-use Rattle.pur_base.specs.declared.facts.Target.TheVariants.{Zero}
-use Rattle.pur_base.specs.declared.facts.ObjectFact.{ObjectFact}
-use Rattle.pur_base.specs.declared.facts.MediumFact.{MediumFact}
+use Rattle.array_spec.specs.Prelude.{Entry, Facts, range, address, objects, Reads, here, below, unwritten, IsOver, Target, Zero, ObjectFact, MediumFact}
 use Rattle.memory_spec.specs.Memory.{Contents, TargetReads, EntryReads}
 use Rattle.memory_spec.specs.Adding.{MovedReads, SameReads}
 use Rattle.memory_spec.specs.lemmas.Lists.{zip_weaker}

@@ -1,12 +1,8 @@
 -- The visible objects, one by one.
 use Rattle.std.proofs.Common.{◌≡◌, ℕ, ◌<◌, List, [], ◌∷◌, refl, ap, ◌∙◌, arith, Some, filter_map, Contains}
 use Rattle.std.specs.List.{cons_option}
-use Rattle.pur_base.specs.Facts.{Facts, object_key, never}
-use Rattle.pur_base.specs.Keys.{key_of}
-use Rattle.pur_base.specs.Visible.{objects, object, ids_below, is_elided}
+use Rattle.array_spec.specs.Prelude.{Facts, object_key, never, key_of, objects, object, ids_below, is_elided, ObjectFact, says_is}
 use Rattle.pur_base.specs.declared.request.Table.TheVariants as table
-use Rattle.pur_base.specs.declared.facts.ObjectFact.{ObjectFact}
-use Rattle.pur_base.specs.lemmas.Says.{says_is}
 use Rattle.memory_spec.specs.lemmas.Lists.{each_by_recursion, in_filter_map, of_filter_map, in_range, of_range}
 
 -- facts that say the same of each id show the same objects

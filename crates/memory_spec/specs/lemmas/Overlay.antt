@@ -6,14 +6,7 @@ use Rattle.std.proofs.lemmas.Slice.Eq.{bytes_eq-Decides}
 use Rattle.std.proofs.lemmas.Bool.{cases_lt, both_ways}
 use Rattle.std.proofs.lemmas.Option.{slice_get_within, slice_get-get_or}
 use Rattle.std.proofs.lemmas.List.{get_or_append_left, get_or-append-add, get_or-append_right, get_or-drop, get_or-take, length-take-le, length-append, length-drop, append_assoc}
-use Rattle.pur_base.specs.Plain.{Entry, Array, is_named, entry, sectors_of, with_span, with_sectors}
-use Rattle.pur_base.specs.Facts.{Facts}
-use Rattle.pur_base.specs.Visible.{objects, object, address}
-use Rattle.pur_base.specs.Mediums.{Reads, here, below, unwritten}
-use Rattle.pur_base.specs.declared.limits.TheConstants.{OBJECT_SECTORS}
-use Rattle.pur_base.specs.declared.facts.Target.{Target}
-use Rattle.pur_base.specs.declared.facts.Target.TheVariants.{Stored, Zero}
-use Rattle.pur_base.specs.declared.facts.ObjectFact.{ObjectFact}
+use Rattle.array_spec.specs.Prelude.{Entry, Array, is_named, entry, sectors_of, with_span, with_sectors, Facts, objects, object, address, Reads, here, below, unwritten, OBJECT_SECTORS, Target, Stored, Zero, ObjectFact}
 use Rattle.memory_spec.specs.Memory.{Contents, PlaceReads, TargetReads, SectorReads, EntryReads, FactsRead}
 use Rattle.memory_spec.specs.Adding.{overlaid, IsOverlaid, IsOwnMedium, AreWithinSize, OverwriteReads}
 use Rattle.memory_spec.specs.lemmas.Lists.{zip_at, zip_long, of_filter_map, of_range}

@@ -1,10 +1,6 @@
 -- A volume of an array in memory owns its medium.
 use Rattle.std.proofs.Common.{◌≡◌, ◌≢◌, ℕ, ◌+◌, ◌≤◌, List, refl, sym, ◌∙◌, inl, inr, Contains}
-use Rattle.pur_base.specs.Facts.{Facts}
-use Rattle.pur_base.specs.Visible.{objects}
-use Rattle.pur_base.specs.declared.facts.ObjectKind.TheVariants.{Volume}
-use Rattle.pur_base.specs.declared.facts.ObjectFact.{ObjectFact}
-use Rattle.array_spec.specs.Sound.{AreObjectsSound, AreMediumsSound, OwnsMedium}
+use Rattle.array_spec.specs.Prelude.{Facts, objects, Volume, ObjectFact, AreObjectsSound, AreMediumsSound, OwnsMedium}
 use Rattle.memory_spec.specs.Adding.{IsOwnMedium}
 use Rattle.memory_spec.specs.Laws.{VolumesOwn}
 use Rattle.memory_spec.specs.lemmas.Lists.{pairs_of}

@@ -3,11 +3,9 @@ use Rattle.std.proofs.Common.{◌≡◌, List, [], ◌∷◌, ◌++◌, refl, sy
 use Rattle.std.specs.List.{cons_option}
 use Rattle.std.proofs.lemmas.Grind.{flat_map-append}
 use Rattle.std.proofs.lemmas.List.Elements.{filter_map-append}
-use Rattle.pur_base.specs.Facts.{Facts, by_table, as_object, as_medium, as_address, as_segment, as_elision}
-use Rattle.pur_base.specs.declared.facts.AnyFact.{AnyFact}
+use Rattle.array_spec.specs.Prelude.{Facts, by_table, as_object, as_medium, as_address, as_segment, as_elision, AnyFact, in_patches}
 use Rattle.pur_base.specs.declared.facts.AnyFact.TheVariants as any
-use Rattle.array_spec.specs.Stored.{in_patches}
-use Rattle.pyramid.specs.Layers.{Layers, facts_of, facts_in}
+use Rattle.pyramid.specs.Prelude.{Layers, facts_of, facts_in}
 use Rattle.memory_spec.specs.Tables.{Tables, facts, flushed, patches, all_of}
 use Rattle.memory_spec.specs.Memory.{Memory, FactsRead}
 use Rattle.memory_spec.specs.Whole.{IsWhole, PatchesAreFlushed, PatchesAreAll, PatchesRead}

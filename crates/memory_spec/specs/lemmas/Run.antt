@@ -2,22 +2,12 @@
 use Rattle.std.proofs.Common.{◌≡◌, ◌⊎◌, ◌↔◌, ℕ, zero, suc, ◌+◌, ◌-◌, ◌<◌, ◌≤◌, Bool, true, false, List, [], ◌∷◌, length, refl, sym, ap, ◌∙◌, arith, inl, inr, subst, Option, Some, None, option_map, option_and_then, slice_get, get_or, if◌then◌else◌, Contains, ◌==◌, ◌&&◌, nat_le, nat_lt, eqb-true, leb-true, ltb-true}
 use Rattle.std.proofs.lemmas.Bool.{cases_lt, cases_eq, and_parts}
 use Rattle.std.proofs.lemmas.Option.{slice_get_past, slice_get_within, slice_get-get_or}
-use Rattle.pur_base.specs.Facts.{Facts, address_key, never}
-use Rattle.pur_base.specs.Keys.{key_of, id_of}
-use Rattle.pur_base.specs.Says.{unless_empty}
-use Rattle.pur_base.specs.Visible.{address, is_elided}
-use Rattle.pur_base.specs.declared.limits.TheConstants.{OBJECT_SECTORS}
+use Rattle.array_spec.specs.Prelude.{Facts, address_key, never, key_of, id_of, unless_empty, address, is_elided, OBJECT_SECTORS, Target, Zero, AddressFact, not_both, same_some}
 use Rattle.pur_base.specs.declared.request.Table.TheVariants as table
-use Rattle.pur_base.specs.declared.facts.Target.{Target}
-use Rattle.pur_base.specs.declared.facts.Target.TheVariants.{Zero}
-use Rattle.pur_base.specs.declared.facts.AddressFact.{AddressFact}
-use Rattle.pyramid.specs.Layers.{AreDistinct, newest_of}
-use Rattle.pyramid.specs.lemmas.Contains.{here, there, either, nowhere}
-use Rattle.pyramid.specs.lemmas.Keys.{id_of_key}
+use Rattle.pyramid.specs.Prelude.{AreDistinct, newest_of, here, there, either, nowhere, id_of_key}
 use Rattle.memory_spec.specs.Adding.{address_facts, overlaid}
 use Rattle.memory_spec.specs.lemmas.Adding.{only_newest, no_newest, newest_kept, newest_given}
 use Rattle.memory_spec.specs.lemmas.Overlay.{overlaid_out, overlaid_in}
-use Rattle.array_spec.specs.lemmas.Mediums.{not_both, same_some}
 
 abbrev pub fact : ℕ → ℕ → Target → ℕ → AddressFact
 fact medium sector t number = record { medium = record { 0 = medium }; sector = sector; target = t; seq = record { 0 = number } }

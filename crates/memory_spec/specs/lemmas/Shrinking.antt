@@ -2,21 +2,8 @@
 use Rattle.std.proofs.Common.{◌≡◌, ◌≢◌, ℕ, ◌<◌, ◌≤◌, false, List, length, sym, ap, ◌∙◌, arith, inl, inr, subst, is_some, Contains, AllPairs, get_or}
 use Rattle.std.specs.List.{AllByRecursion}
 use Rattle.std.proofs.lemmas.List.Elements.{Contains-get_or}
-use Rattle.pur_base.specs.Facts.{any_number}
-use Rattle.pur_base.specs.Tags.{tag_of}
-use Rattle.pur_base.specs.Visible.{objects, is_elided}
-use Rattle.pur_base.specs.declared.limits.TheConstants.{OBJECTS}
+use Rattle.array_spec.specs.Prelude.{any_number, tag_of, objects, is_elided, OBJECTS, Location, ObjectFact, MediumFact, AddressFact, SegmentFact, ElisionFact, AnyFact, NextNumbers, AreNext, AreIdsBelow, AreObjectsSound, AreElisionsSound, OwnsMedium, Grows, FitTogether, next_id}
 use Rattle.pur_base.specs.declared.request.Table.TheVariants as table
-use Rattle.pur_base.specs.declared.place.Location.{Location}
-use Rattle.pur_base.specs.declared.facts.ObjectFact.{ObjectFact}
-use Rattle.pur_base.specs.declared.facts.MediumFact.{MediumFact}
-use Rattle.pur_base.specs.declared.facts.AddressFact.{AddressFact}
-use Rattle.pur_base.specs.declared.facts.SegmentFact.{SegmentFact}
-use Rattle.pur_base.specs.declared.facts.ElisionFact.{ElisionFact}
-use Rattle.pur_base.specs.declared.facts.AnyFact.{AnyFact}
-use Rattle.boot_codec.specs.declared.record.NextNumbers.{NextNumbers}
-use Rattle.boot_codec.specs.Record.{AreNext}
-use Rattle.array_spec.specs.Sound.{AreIdsBelow, AreObjectsSound, AreElisionsSound, OwnsMedium, Grows, FitTogether, next_id}
 use Rattle.memory_spec.specs.Tables.{facts, all_of}
 use Rattle.memory_spec.specs.Memory.{Memory, FactsRead, FitsInMemory, IsThere, IsSound}
 use Rattle.memory_spec.specs.lemmas.Lists.{each_by_recursion, of_each, pairs_of}

@@ -4,8 +4,7 @@ use Rattle.std.specs.Prelude.{IsTrue}
 use Rattle.std.proofs.lemmas.List.Elements.{Contains-append_left, Contains-append_right}
 use Rattle.pur_base.specs.declared.request.Table.{Table}
 use Rattle.pur_base.specs.declared.facts.ElisionFact.{ElisionFact}
-use Rattle.pur_base.specs.Keys.{id_of, key_of}
-use Rattle.pur_base.specs.Visible.{is_elided, is_within, AreElidedRanges}
+use Rattle.pur_base.specs.Prelude.{id_of, key_of, is_elided, is_within, AreElidedRanges}
 use Rattle.pyramid.specs.Layers.{AreBelow}
 use Rattle.pyramid.specs.lemmas.Layers.{all_below, below_at}
 

@@ -4,7 +4,7 @@ use Rattle.std.specs.Prelude.{Option, Some, None, Result, Ok, Err, OnOk, OnErr, 
 use Rattle.std.proofs.lemmas.Bool.{lt-ltb}
 use Rattle.std.proofs.lemmas.List.{append-nil, get_or_default, get_or_append_left, get_or-append-add, length-append}
 use Rattle.std.proofs.lemmas.List.Elements.{All-append, All-contains, Contains-append_left, Contains-append_right, Contains-append_cases}
-use Rattle.pur_base.specs.Says.{has_key, Ascends}
+use Rattle.pur_base.specs.Prelude.{has_key, Ascends}
 use Rattle.pyramid.specs.Layers.{facts_of, newest_of, AreBelow, Rises, IsOrdered}
 use Rattle.pyramid.specs.Merging.{later}
 use Rattle.pyramid.specs.lemmas.Newest.{newest-append, newest_found, later_none}

@@ -3,7 +3,7 @@ use Rattle.std.proofs.Common.{◌≡◌, ℕ, zero, suc, ◌<◌, Bool, true, fa
 use Rattle.std.specs.Prelude.{None, nat_lt, if◌then◌else◌, option_and_then, filter, ◌==◌}
 use Rattle.std.proofs.lemmas.Bool.{ltb-true, ltb-false, lt-ltb, eqb-true, ne_eqb}
 use Rattle.std.proofs.lemmas.List.Elements.{All-cons, All-head, All-tail, All-filter}
-use Rattle.pur_base.specs.Says.{has_key, Ascends}
+use Rattle.pur_base.specs.Prelude.{has_key, Ascends}
 use Rattle.pyramid.specs.Layers.{newest_of, AreBelow, if_passes}
 use Rattle.pyramid.specs.Merging.{later, weave, merged}
 use Rattle.pyramid.specs.lemmas.Newest.{newest-cons, newest_none}

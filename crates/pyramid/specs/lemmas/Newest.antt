@@ -2,7 +2,7 @@
 use Rattle.std.proofs.Common.{◌≡◌, ℕ, zero, suc, ◌<◌, Bool, true, false, List, [], ◌∷◌, ◌++◌, length, get_or, refl, sym, arith, cond, All, Contains}
 use Rattle.std.specs.Prelude.{Option, Some, None, IfSome, nat_lt, if◌then◌else◌}
 use Rattle.std.proofs.lemmas.Bool.{ltb-true, ltb-false, lt-ltb, le-ltb}
-use Rattle.pur_base.specs.Says.{newest, newer}
+use Rattle.pur_base.specs.Prelude.{newest, newer}
 use Rattle.pyramid.specs.Merging.{later}
 
 module _ {F : Type 0} (number : F → ℕ) where

@@ -2,7 +2,7 @@
 use Rattle.std.proofs.Common.{◌≡◌, ℕ, zero, suc, ◌≤◌, Bool, true, false, List, [], ◌∷◌, refl, ap, ◌∙◌, arith, Contains}
 use Rattle.std.specs.Prelude.{Option, Some, None, IfSome, nat_lt, if◌then◌else◌, ◌↔◌}
 use Rattle.std.proofs.lemmas.Bool.{ltb-true, ltb-false}
-use Rattle.pur_base.specs.Says.{newest, newer}
+use Rattle.pur_base.specs.Prelude.{newest, newer}
 use Rattle.pyramid.specs.Layers.{AreDistinct}
 use Rattle.pyramid.specs.lemmas.Newest.{newest_found}
 

@@ -4,8 +4,7 @@ use Rattle.std.specs.List.{filter_map, range_with_len}
 use Rattle.std.specs.Prelude.{Option, Some, None, IfSome, if◌then◌else◌, option_and_then, ◌↔◌}
 use Rattle.std.proofs.lemmas.Bool.{cases_eq, le-ltb, eq-eqb, ne_eqb, eqb-true, false≢true}
 use Rattle.std.proofs.lemmas.List.Elements.{All-contains, Contains-append_left, Contains-append_right, Contains-append_cases}
-use Rattle.pur_base.specs.Says.{newer, has_key, says, unless_empty, Ascends}
-use Rattle.pur_base.specs.Keys.{id_of}
+use Rattle.pur_base.specs.Prelude.{newer, has_key, says, unless_empty, Ascends, id_of}
 use Rattle.pyramid.specs.Layers.{AreBelow, AreDistinct, facts_of, newest_of}
 use Rattle.pyramid.specs.Shown.{IsShown}
 use Rattle.pyramid.specs.lemmas.Sets.{same_newest}

@@ -3,8 +3,7 @@ use Rattle.std.proofs.Common.{◌≡◌, ℕ, zero, suc, ◌<◌, List, [], ◌�
 use Rattle.std.specs.List.{AllByRecursion, AllZip}
 use Rattle.std.proofs.lemmas.List.Elements.{Contains-append_left, Contains-append_right, Contains-append_cases}
 use Rattle.std.proofs.lemmas.List.Kept.{AllPairs-cons}
-use Rattle.pyramid.specs.lemmas.Contains.{here, there, either, nowhere}
-use Rattle.pyramid.specs.lemmas.Layers.{all_contained}
+use Rattle.memory_spec.specs.Prelude.{here, there, either, nowhere, all_contained}
 
 -- ---- some left out
 

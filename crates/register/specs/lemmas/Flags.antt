@@ -9,10 +9,8 @@ use Rattle.std.proofs.Math.Bool.{beq}
 use Rattle.std.specs.Cmp.{booleans_Decides}
 use Rattle.std.specs.Cmp.Lexicographic.{pointwise}
 use Rattle.std.proofs.lemmas.Slice.Eq.{slice_eq-Decides}
-use Rattle.boot_codec.specs.Record.{mask, set_count}
-use Rattle.array_spec.specs.lemmas.Votes.{counted}
-use Rattle.boot_region.specs.Members.{IsMember}
-use Rattle.boot_region.specs.lemmas.Shown.{member_below}
+use Rattle.array_spec.specs.Prelude.{mask, set_count, counted}
+use Rattle.boot_region.specs.Prelude.{IsMember, member_below}
 
 bit : Bool → ℕ
 bit b = if b then 1 else 0

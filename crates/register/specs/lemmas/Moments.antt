@@ -1,10 +1,8 @@
 -- What is so at each moment of a store.
 use Rattle.std.proofs.Common.{◌⊎◌, Bool, List}
-use Rattle.pur_base.specs.Devices.{Conditions}
-use Rattle.pur_base.specs.Plain.{Array}
-use Rattle.world.specs.Shelf.{Shelved, LeavesOnly}
-use Rattle.world.specs.lemmas.Moments.{weaker}
-use Rattle.boot_region.specs.Storing.{StandsBut}
+use Rattle.array_spec.specs.Prelude.{Conditions, Array}
+use Rattle.world.specs.Prelude.{Shelved, LeavesOnly, weaker}
+use Rattle.boot_region.specs.Prelude.{StandsBut}
 use Rattle.register.specs.declared.state.Register.{Register}
 use Rattle.register.specs.Registers.{drives_of, next_slot}
 use Rattle.register.specs.Standing.{AllShow, Content, GivesOldOrNext, IsInStoreOf, MayStore, StandsBack, StandsInLog, StillGiven}

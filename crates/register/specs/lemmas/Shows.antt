@@ -1,8 +1,8 @@
 -- An NVRAM device that holds a log shows it.
 use Rattle.std.proofs.Common.{ℕ, List, Bool}
-use Rattle.pur_base.specs.Commands.{Command}
-use Rattle.world.specs.Shelf.{Shelved}
-use Rattle.nvram_log.specs.Held.{HoldsOn}
+use Rattle.array_spec.specs.Prelude.{Command}
+use Rattle.world.specs.Prelude.{Shelved}
+use Rattle.nvram_log.specs.Prelude.{HoldsOn}
 use Rattle.register.specs.Standing.{ShowsOn}
 
 pub holds_shows : {shelf : Shelved} {members : List Bool} {flushed : ℕ} {commands : List Command} → HoldsOn shelf members flushed commands → ShowsOn shelf members flushed commands

@@ -3,10 +3,8 @@ use Rattle.std.proofs.Common.{◌≡◌, inl, inr, ℕ, ◌<◌, ◌≤◌, List
 use Rattle.std.specs.Prelude.{IsOk, IfErr, ◌⊎◌, ◌+◌}
 use Rattle.std.proofs.lemmas.Bool.{cases_lt}
 use Rattle.std.proofs.lemmas.List.{length-take}
-use Rattle.pur_base.specs.Devices.{Geometry, Sound, drive}
-use Rattle.boot_codec.specs.Record.{set_count}
-use Rattle.boot_region.specs.Members.{IsMember}
-use Rattle.pur_base.specs.declared.device.Device.{Device}
+use Rattle.array_spec.specs.Prelude.{Geometry, Sound, drive, set_count, Device}
+use Rattle.boot_region.specs.Prelude.{IsMember}
 use Rattle.pur_base.specs.declared.device.Device.TheVariants as dev
 use Rattle.register.specs.declared.next.StoreFault.{StoreFault}
 use Rattle.register.specs.declared.next.StoreFault.TheVariants.{Spent, TooFew}

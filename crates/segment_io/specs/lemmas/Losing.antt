@@ -3,11 +3,8 @@ use Rattle.std.proofs.Common.{◌≡◌, ◌≢◌, inl, inr, ⊎_elim, ℕ, ◌
 use Rattle.std.specs.Prelude.{is_err, slice_set}
 use Rattle.std.proofs.lemmas.Bool.{cases_eq, cases_lt, cases_Bool}
 use Rattle.std.proofs.lemmas.List.{get_or-set_same, get_or-set_other}
-use Rattle.pur_base.specs.Devices.{drive}
-use Rattle.pur_base.specs.lemmas.Devices.{drives_apart}
+use Rattle.world.specs.Prelude.{drive, drives_apart, Rises, Shelved, Disk, IsShelf, OthersStay, WriteCounts, Continues}
 use Rattle.world.specs.declared.streams.Failed.{Failed}
-use Rattle.world.specs.Counts.{Rises}
-use Rattle.world.specs.Shelf.{Shelved, Disk, IsShelf, OthersStay, WriteCounts, Continues}
 use Rattle.segment_io.specs.Lost.{is_in, SameCounts, LosesOnly}
 
 pub same_counts : (a b : Disk) → b ≡ a → SameCounts a b

@@ -1,9 +1,7 @@
 -- Parts of a device's bytes that are the same.
 use Rattle.std.proofs.Common.{◌≡◌, ℕ, ◌+◌, ◌-◌, ◌<◌, ◌≤◌, min, List, length, drop, get_or, slice_index, sym, ◌∙◌, ap, arith}
 use Rattle.std.proofs.lemmas.List.{ext_get_or, get_or-take, get_or-drop, length-take, length-drop}
-use Rattle.pur_base.specs.Bytes.{bytes_at}
-use Rattle.world.specs.Shelf.{Disk}
-use Rattle.world.specs.Writes.{ChangesOnly}
+use Rattle.world.specs.Prelude.{bytes_at, Disk, ChangesOnly}
 
 pub part_length : (at n : ℕ) (a : List ℕ) → length (bytes_at at n a) ≡ min n (length a - at)
 part_length at n a = length-take n (drop at a) ∙ ap (min n) (length-drop at a)

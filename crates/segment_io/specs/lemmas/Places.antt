@@ -1,7 +1,6 @@
 -- Places stay places.
 use Rattle.std.proofs.Common.{List, arith}
-use Rattle.pur_base.specs.declared.place.Place.{Place}
-use Rattle.world.specs.Shelf.{Shelved, Continues}
+use Rattle.world.specs.Prelude.{Place, Shelved, Continues}
 use Rattle.segment_io.specs.Places.{IsPlace, ArePlaces}
 
 pub still_place : {a b : Shelved} {place : Place} → Continues a b → IsPlace a place → IsPlace b place

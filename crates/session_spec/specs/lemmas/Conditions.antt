@@ -2,11 +2,8 @@
 use Rattle.std.proofs.Common.{◌≡◌, inl, inr, ℕ, ◌+◌, ◌≤◌, List, [], ◌∷◌, refl, arith, cond, Bool, true, false, zero, suc, ◌<◌}
 use Rattle.std.specs.Prelude.{count_by}
 use Rattle.std.specs.List.{range_with_len}
-use Rattle.pur_base.specs.declared.limits.TheConstants.{NVRAM_DEVICES}
-use Rattle.pur_base.specs.declared.device.Device.{Device}
-use Rattle.pur_base.specs.Devices.{Geometry, Condition, Conditions, Sound, Missing, LeftOut, MayBecome, IsWithin, IsBearable, IsOn, is_missing, slots_of, nvrams, drive, nvram}
-use Rattle.world.specs.Losing.{missing_if, losing}
-use Rattle.array_spec.specs.lemmas.Votes.{counted}
+use Rattle.memory_spec.specs.Prelude.{NVRAM_DEVICES, Device, Geometry, Condition, Conditions, Sound, Missing, LeftOut, MayBecome, IsWithin, IsBearable, IsOn, is_missing, slots_of, nvrams, drive, nvram, counted}
+use Rattle.world.specs.Prelude.{missing_if, losing}
 
 pub stays_so : (c : Condition) → MayBecome c c
 stays_so Sound = inl refl

@@ -1,7 +1,7 @@
 -- What calls write, and what a stop leaves of the rest.
 use Rattle.std.proofs.Common.{arith, ◌⊎◌, inl, inr, ⊎_elim, ℕ, List, [], ◌∷◌, ◌++◌, length, slice_index, refl, sym, ◌∙◌, ap, subst, Result, Ok, Err}
 use Rattle.pur_base.specs.declared.device.Device.{Device}
-use Rattle.pur_base.specs.lemmas.Devices.{same_device}
+use Rattle.pur_base.specs.Prelude.{same_device}
 use Rattle.world.specs.declared.streams.Failed.{Failed}
 use Rattle.world.specs.declared.shelf.Span.{Span}
 use Rattle.world.specs.Shelf.{Stop, Shelved, Disk, IsIn, IsInSome, MayLeave, Continues, Elapses, OthersStay, IsSame, WasWritten, WasSynced, WrittenIfOk, Marked, Scribbled, IsShelf, MayStop, IsCountedBy}

@@ -1,15 +1,11 @@
 use Rattle.std.proofs.Common.{rules, sym, subst}
-use Rattle.pur_base.specs.Devices.{Geometry}
-use Rattle.pur_base.specs.Facts.{Facts}
-use Rattle.world.specs.Losing.{geometry_of}
-use Rattle.register.specs.Standing.{array_of}
+use Rattle.session_spec.specs.Prelude.{Geometry, Facts, geometry_of, facts}
+use Rattle.register.specs.Prelude.{array_of}
 use Rattle.register.proofs.Rounds.{same_shelf}
-use Rattle.memory_spec.specs.Tables.{facts}
 use Rattle.array_memory.proofs.PlanLemmas.{facts_same, patches_same}
-use Rattle.array_memory.specs.Plan.{after_plan}
+use Rattle.array_memory.specs.Prelude.{after_plan}
 use Rattle.array_core.specs.declared.array.Array.{Array}
-use Rattle.array_core.specs.Ready.{IsArrayOf}
-use Rattle.array_core.specs.Switching.{HoldOnLeft}
+use Rattle.array_core.specs.Prelude.{IsArrayOf, HoldOnLeft}
 use Rattle.array_core.proofs.Changes.{faults_on}
 use Rattle.array_checkpoint.proofs.After.{reads_then}
 use Rattle.array_checkpoint.proofs.Flushed.{has_flushed, is_array, next_is_lawful}

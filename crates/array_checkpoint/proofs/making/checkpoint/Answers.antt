@@ -1,18 +1,10 @@
 use Rattle.std.proofs.Common.{◌≡◌, ◌∙◌, ◌<◌, [], ◌∷◌, sym, ap, subst}
 use Rattle.std.proofs.lemmas.Result.{err_from_is_err_and}
-use Rattle.pur_base.specs.Devices.{Geometry}
-use Rattle.boot_codec.specs.Record.{patch_segments}
-use Rattle.world.specs.Losing.{geometry_of}
-use Rattle.world.specs.lemmas.Moments.{continues_trans, then_run}
-use Rattle.world.specs.lemmas.Ran.{runs_moments}
-use Rattle.world.specs.Shelf.{LeavesOnly}
+use Rattle.session_spec.specs.Prelude.{Geometry, patch_segments, geometry_of, continues_trans, then_run, runs_moments, LeavesOnly}
 use Rattle.register.specs.declared.state.Register.{Register}
-use Rattle.register.specs.Standing.{Content, array_of}
-use Rattle.array_memory.specs.Kept.{Kept}
-use Rattle.array_memory.specs.Plan.{with_patch_rooms}
-use Rattle.array_core.specs.Ready.{IsArrayOf, IsReady}
-use Rattle.array_core.specs.Going.{Calls}
-use Rattle.array_core.specs.Performing.{IsKeptAt}
+use Rattle.register.specs.Prelude.{Content, array_of}
+use Rattle.array_memory.specs.Prelude.{Kept, with_patch_rooms}
+use Rattle.array_core.specs.Prelude.{IsArrayOf, IsReady, Calls, IsKeptAt}
 use Rattle.array_core.proofs.Steps.{hands, lost_halts, same_meanwhile}
 use Rattle.array_core.proofs.Stages.{err_is}
 use Rattle.array_checkpoint.specs.declared.making.CheckpointFault.{CheckpointFault}

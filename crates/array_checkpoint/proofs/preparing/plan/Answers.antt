@@ -1,13 +1,11 @@
 use Rattle.std.proofs.Common.{◌≡◌, ℕ, ◌≤◌, List, [], length, sym, ap, subst, ◌∙◌, arith}
 use Rattle.std.specs.Int.{div_ceil}
-use Rattle.pur_base.specs.declared.place.Place.{Place}
-use Rattle.memory_spec.specs.Tables.{facts}
-use Rattle.table_plan.specs.Eliding.{IsElidedBy}
+use Rattle.session_spec.specs.Prelude.{Place, facts}
+use Rattle.table_plan.specs.Prelude.{IsElidedBy}
 use Rattle.table_plan.proofs.ElidedLemmas.{as_many}
 use Rattle.array_memory.specs.declared.plan.Eliding.{Eliding}
-use Rattle.array_memory.specs.Eliding.{eliding_by}
-use Rattle.array_memory.specs.Plan.{next_past, AreUnits}
-use Rattle.record_tables.specs.Units.{IsMapAfter}
+use Rattle.array_memory.specs.Prelude.{eliding_by, next_past, AreUnits}
+use Rattle.record_tables.specs.Prelude.{IsMapAfter}
 use Rattle.record_tables.proofs.Taking.{none_is_taken}
 use Rattle.array_checkpoint.proofs.PreparedLemmas.{are_units, few_placed, segments_long}
 use Rattle.array_checkpoint.proofs.preparing.plan.Goals as goal

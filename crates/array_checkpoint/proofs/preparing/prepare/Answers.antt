@@ -1,15 +1,10 @@
 use Rattle.std.proofs.Common.{◌≡◌, ℕ, ◌+◌, List, length, refl, sym, ap, subst, ◌∙◌, arith}
-use Rattle.pur_base.specs.Facts.{Facts}
-use Rattle.pur_base.specs.Visible.{segments}
-use Rattle.pur_base.specs.declared.place.Place.{Place}
-use Rattle.boot_codec.specs.declared.record.BootRecord.{BootRecord}
+use Rattle.session_spec.specs.Prelude.{Facts, segments, Place, BootRecord, facts}
 use Rattle.free_space.specs.Map.{IsMapOf}
-use Rattle.memory_spec.specs.Tables.{facts}
 use Rattle.array_memory.specs.declared.plan.Eliding.{Eliding}
 use Rattle.array_memory.specs.declared.plan.Plan.{Plan}
-use Rattle.array_memory.specs.Eliding.{eliding_by}
-use Rattle.array_memory.specs.Plan.{units_of, IsPlanFor}
-use Rattle.record_tables.specs.Patches.{added_patches, by_tag, segments_of}
+use Rattle.array_memory.specs.Prelude.{eliding_by, units_of, IsPlanFor}
+use Rattle.record_tables.specs.Prelude.{added_patches, by_tag, segments_of}
 use Rattle.array_checkpoint.proofs.PreparedLemmas.{all_prepared, fit_counts, left_for_six, low_ids, many_groups, map_of_facts, room_for_patches}
 use Rattle.array_checkpoint.proofs.preparing.prepare.Goals as goal
 

@@ -1,8 +1,6 @@
 use Rattle.std.proofs.Common.{◌<◌, List, length, ap, arith}
 use Rattle.std.proofs.lemmas.List.{at_drop_all}
-use Rattle.boot_codec.specs.declared.patch.PatchSegment.{PatchSegment}
-use Rattle.boot_codec.specs.declared.patch.Patch.{Patch}
-use Rattle.boot_codec.specs.Record.{patch_segments}
+use Rattle.session_spec.specs.Prelude.{PatchSegment, Patch, patch_segments}
 use Rattle.array_checkpoint.proofs.Rooms.{next_patch}
 use Rattle.array_checkpoint.proofs.room.segments_of.Goals as goal
 

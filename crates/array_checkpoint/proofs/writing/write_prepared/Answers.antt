@@ -1,11 +1,8 @@
 use Rattle.std.proofs.Common.{ℕ, List, sym, subst, arith}
-use Rattle.boot_codec.specs.declared.patch.Patch.{Patch}
-use Rattle.world.specs.Losing.{geometry_of}
-use Rattle.segment_writer.specs.DataPlacing.{MayBePlaced}
+use Rattle.session_spec.specs.Prelude.{Patch, geometry_of, facts}
+use Rattle.segment_writer.specs.Prelude.{MayBePlaced, MayBeStoredWith}
 use Rattle.segment_writer.proofs.Synced.{fresh_none}
-use Rattle.segment_writer.specs.CheckpointStoring.{MayBeStoredWith}
-use Rattle.memory_spec.specs.Tables.{facts}
-use Rattle.array_memory.specs.Eliding.{eliding_by}
+use Rattle.array_memory.specs.Prelude.{eliding_by}
 use Rattle.array_memory.proofs.LastingLemmas.{lawful_patches}
 use Rattle.array_core.proofs.Dropped.{counted_so_far}
 use Rattle.array_checkpoint.proofs.Left.{holds_on_left, own_size}

@@ -1,13 +1,7 @@
 use Rattle.std.proofs.Common.{rules, ◌≡◌, ◌∙◌, inl, inr, ℕ, ◌+◌, ◌-◌, ◌^◌, ◌<◌, ◌∷◌, [], List, Bool, Ok, arith, refl, sym, ap, subst}
-use Rattle.pur_base.specs.Commands.{Command}
-use Rattle.pur_base.specs.Devices.{drive, nvram}
-use Rattle.boot_codec.specs.declared.record.BootRecord.{BootRecord}
-use Rattle.world.specs.Shelf.{LeavesOnly}
-use Rattle.world.specs.lemmas.Ran.{ran_more, ran_then}
-use Rattle.nvram_log.specs.Held.{HoldsOn}
-use Rattle.register.specs.Standing.{Content, IsOpen, StandsInLog, array_of}
-use Rattle.register.specs.lemmas.Flags.{same_flags}
-use Rattle.register.specs.lemmas.Moments.{stands_at, gives_at}
+use Rattle.session_spec.specs.Prelude.{Command, drive, nvram, BootRecord, LeavesOnly, ran_more, ran_then}
+use Rattle.nvram_log.specs.Prelude.{HoldsOn}
+use Rattle.register.specs.Prelude.{Content, IsOpen, StandsInLog, array_of, same_flags, stands_at, gives_at}
 use Rattle.register.proofs.Made.{store_later}
 use Rattle.array_core.specs.Performing.{IsKeptAt}
 use Rattle.array_core.specs.Switching.{MayClear}

@@ -1,20 +1,11 @@
 use Rattle.std.proofs.Common.{rules, ◌≡◌, ◌∙◌, sym, subst, ap, refl, inl, inr, ℕ, ◌+◌, ◌-◌, ◌^◌, ◌<◌, ◌++◌, ◌∷◌, [], List, length, Bool, Ok, arith}
-use Rattle.pur_base.specs.Commands.{Command}
-use Rattle.pur_base.specs.Devices.{Conditions, drive, nvram}
+use Rattle.session_spec.specs.Prelude.{Command, Conditions, drive, nvram, BootRecord, geometry_of, LeavesOnly, ran_more, ran_then, facts}
 use Rattle.pur_base.specs.Plain as plain
-use Rattle.boot_codec.specs.declared.record.BootRecord.{BootRecord}
-use Rattle.world.specs.Losing.{geometry_of}
-use Rattle.world.specs.Shelf.{LeavesOnly}
-use Rattle.world.specs.lemmas.Ran.{ran_more, ran_then}
-use Rattle.boot_region.specs.Storing.{StandsAgain, StandsBut}
-use Rattle.nvram_log.specs.Held.{HoldsOn}
-use Rattle.register.specs.Registers.{drives_of, named_sound, next_slot}
-use Rattle.register.specs.Standing.{Content, GivesOldOrNext, IsFirm, IsOpen, MayStore, StandsInLog}
-use Rattle.register.specs.lemmas.Flags.{same_flags, other_flags}
-use Rattle.register.specs.lemmas.Moments.{stands_at, gives_at}
+use Rattle.boot_region.specs.Prelude.{StandsAgain, StandsBut}
+use Rattle.nvram_log.specs.Prelude.{HoldsOn}
+use Rattle.register.specs.Prelude.{drives_of, named_sound, next_slot, Content, GivesOldOrNext, IsFirm, IsOpen, MayStore, StandsInLog, same_flags, other_flags, stands_at, gives_at}
 use Rattle.register.proofs.Made.{store_later}
 use Rattle.array_core.specs.declared.array.Array.{Array}
-use Rattle.memory_spec.specs.Tables.{facts}
 use Rattle.array_core.specs.Committing.{MayLog}
 use Rattle.array_core.specs.Ready.{logged}
 use Rattle.array_core.specs.Performing.{IsKeptAt, StandsOnceBack, without_or_with}

@@ -1,11 +1,7 @@
 use Rattle.std.proofs.Common.{rules, ◌≡◌, ◌-◌, ◌^◌, ◌<◌, [], ◌∷◌, arith, sym, ap, subst}
-use Rattle.boot_codec.specs.declared.record.BootRecord.{BootRecord}
-use Rattle.world.specs.lemmas.Moments.{started}
-use Rattle.world.specs.lemmas.Ran.{ran_more, ran_none}
+use Rattle.session_spec.specs.Prelude.{BootRecord, started, ran_more, ran_none}
 use Rattle.register.specs.declared.state.Register.{Register}
-use Rattle.register.specs.Registers.{drives_of}
-use Rattle.register.specs.Standing.{IsOpen, array_of}
-use Rattle.register.specs.lemmas.Moments.{stands_at, gives_at}
+use Rattle.register.specs.Prelude.{drives_of, IsOpen, array_of, stands_at, gives_at}
 use Rattle.array_core.proofs.Holders.{is_drive, slots_of_more}
 use Rattle.array_core.proofs.Kept.{free_writes_keep_open, free_writes_leave}
 use Rattle.array_core.specs.Performing.{IsKeptAt}

@@ -1,13 +1,7 @@
 use Rattle.std.proofs.Common.{rules, ◌≡◌, ◌∙◌, inl, inr, ◌+◌, ◌-◌, ◌^◌, ◌<◌, ◌∷◌, [], List, Bool, arith, sym, ap, subst}
-use Rattle.pur_base.specs.Devices.{nvram}
-use Rattle.boot_codec.specs.declared.record.BootRecord.{BootRecord}
-use Rattle.boot_region.specs.Members.{DroppedFailed}
-use Rattle.world.specs.Losing.{geometry_of}
-use Rattle.world.specs.Shelf.{LeavesOnly, Continues}
-use Rattle.world.specs.lemmas.Moments.{then_run}
-use Rattle.world.specs.lemmas.Ran.{ran_more, ran_then}
-use Rattle.register.specs.Registers.{drives_of}
-use Rattle.register.specs.Standing.{Content, IsOpen, array_of}
+use Rattle.session_spec.specs.Prelude.{nvram, BootRecord, geometry_of, LeavesOnly, Continues, then_run, ran_more, ran_then}
+use Rattle.boot_region.specs.Prelude.{DroppedFailed}
+use Rattle.register.specs.Prelude.{drives_of, Content, IsOpen, array_of}
 use Rattle.array_core.specs.Changing.{LeavesFewer}
 use Rattle.array_core.specs.Performing.{IsKeptAt}
 use Rattle.array_core.specs.Switching.{AreLost, MaySwitch}

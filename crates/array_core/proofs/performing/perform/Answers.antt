@@ -1,24 +1,11 @@
 use Rattle.std.proofs.Common.{◌≡◌, ◌∙◌, ℕ, List, [], ◌∷◌, Result, OnErr, sym, ap, subst}
 use Rattle.std.specs.List.{AllZip}
 use Rattle.std.proofs.lemmas.Result.{err_from_is_err_and}
-use Rattle.pur_base.specs.Commands.{Command, Accepts, after}
-use Rattle.pur_base.specs.Devices.{Geometry}
+use Rattle.session_spec.specs.Prelude.{Command, Accepts, after, Geometry, segment, AddressFact, AnyFact, BootRecord, AreSegmentsSound, geometry_of, runs_moments, facts_of, Contents, IsSound, ReadsAs, next_after, facts, patches, IsNamed}
 use Rattle.pur_base.specs.Plain as plain
-use Rattle.pur_base.specs.Visible.{segment}
-use Rattle.pur_base.specs.declared.facts.AddressFact.{AddressFact}
-use Rattle.pur_base.specs.declared.facts.AnyFact.{AnyFact}
-use Rattle.boot_codec.specs.declared.record.BootRecord.{BootRecord}
-use Rattle.array_spec.specs.Sound.{AreSegmentsSound}
-use Rattle.world.specs.Losing.{geometry_of}
-use Rattle.world.specs.lemmas.Ran.{runs_moments}
-use Rattle.register.specs.Standing.{Content, array_of}
-use Rattle.pyramid.specs.Layers.{facts_of}
-use Rattle.memory_spec.specs.Memory.{Contents, IsSound, ReadsAs}
-use Rattle.memory_spec.specs.Numbers.{next_after}
-use Rattle.memory_spec.specs.Tables.{facts, patches}
-use Rattle.memory_spec.specs.Whole.{IsNamed}
-use Rattle.table_plan.specs.Planned.{AreStored}
-use Rattle.array_memory.specs.Kept.{HasSamePatches, Kept}
+use Rattle.register.specs.Prelude.{Content, array_of}
+use Rattle.table_plan.specs.Prelude.{AreStored}
+use Rattle.array_memory.specs.Prelude.{HasSamePatches, Kept}
 use Rattle.array_memory.proofs.AllowedLemmas.{accepted}
 use Rattle.array_core.specs.Ready.{IsReady, logged}
 use Rattle.array_core.specs.Room.{HasRoomFor}

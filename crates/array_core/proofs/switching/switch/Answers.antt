@@ -1,10 +1,6 @@
 use Rattle.std.proofs.Common.{rules, ◌≡◌, ◌∙◌, inl, arith, ap, subst, [], ◌∷◌}
-use Rattle.pur_base.specs.Plain.{Array}
-use Rattle.boot_codec.specs.declared.record.BootRecord.{BootRecord}
-use Rattle.world.specs.Shelf.{LeavesOnly}
-use Rattle.world.specs.lemmas.Moments.{continues_trans, then_run}
-use Rattle.world.specs.lemmas.Ran.{ran_more, ran_then}
-use Rattle.register.specs.Standing.{array_of}
+use Rattle.session_spec.specs.Prelude.{Array, BootRecord, LeavesOnly, continues_trans, then_run, ran_more, ran_then}
+use Rattle.register.specs.Prelude.{array_of}
 use Rattle.register.proofs.Tabling.{same_array}
 use Rattle.array_core.specs.Performing.{IsKeptAt}
 use Rattle.array_core.proofs.Behind.{segments_left}

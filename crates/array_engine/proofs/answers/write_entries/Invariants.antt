@@ -1,9 +1,6 @@
 use Rattle.std.proofs.Common.{◌≡◌, ◌++◌, take}
-use Rattle.pur_base.specs.Plain.{Array}
-use Rattle.pur_base.specs.Replies.{entries_text}
-use Rattle.memory_spec.specs.Memory.{Contents, ReadsAs}
-use Rattle.request_codec.specs.Calls.{Went, well}
-use Rattle.request_codec.specs.Writing.{Extends}
+use Rattle.session_spec.specs.Prelude.{Array, entries_text, Contents, ReadsAs}
+use Rattle.request_codec.specs.Prelude.{Went, well, Extends}
 use Rattle.array_engine.proofs.answers.write_entries.Given as goal
 
 abbrev pub invariant-loop-index : goal.invariant-loop-index

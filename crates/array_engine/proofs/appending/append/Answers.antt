@@ -1,16 +1,10 @@
 use Rattle.std.proofs.Common.{◌≡◌, false, [], ◌∷◌, Result, Err, IfErr, sym, ap, subst, arith}
 use Rattle.std.proofs.lemmas.Result.{err_from_is_err_and, on_ok_weaker}
-use Rattle.pur_base.specs.Commands.{Command}
-use Rattle.pur_base.specs.Grammar.{Asked}
-use Rattle.world.specs.Losing.{geometry_of}
-use Rattle.world.specs.Shelf.{Shelved}
-use Rattle.world.specs.lemmas.Moments.{continues_trans}
-use Rattle.register.specs.Standing.{array_of}
-use Rattle.array_core.specs.Ready.{IsArrayOf}
-use Rattle.array_core.specs.Going.{by_faults, Calls}
+use Rattle.session_spec.specs.Prelude.{Command, Asked, geometry_of, Shelved, continues_trans}
+use Rattle.register.specs.Prelude.{array_of}
+use Rattle.array_core.specs.Prelude.{IsArrayOf, by_faults, Calls}
 use Rattle.array_core.proofs.GoingOn.{calls_then, goes_and_halts, goes_then, meanwhile}
-use Rattle.array_checkpoint.specs.Prepared.{IsLike}
-use Rattle.array_checkpoint.specs.Room.{IsRoomOf}
+use Rattle.array_checkpoint.specs.Prelude.{IsLike, IsRoomOf}
 use Rattle.array_checkpoint.proofs.Like.{like_is_of}
 use Rattle.array_engine.specs.declared.appending.AppendFault.{AppendFault}
 use Rattle.array_engine.specs.Appending.{IsAppendFault, IsFull}

@@ -1,8 +1,7 @@
 use Rattle.std.proofs.Common.{◌≡◌, [], ◌∷◌, Result, IfErr, sym, subst}
 use Rattle.std.proofs.lemmas.Result.{err_from_is_err_and}
-use Rattle.pur_base.specs.Commands.{Command}
-use Rattle.array_core.specs.Going.{by_faults}
-use Rattle.array_core.specs.Goes.{Halts}
+use Rattle.session_spec.specs.Prelude.{Command}
+use Rattle.array_core.specs.Prelude.{by_faults, Halts}
 use Rattle.array_engine.specs.declared.appending.AppendFault.{AppendFault}
 use Rattle.array_engine.specs.declared.appending.AppendFault.TheVariants.{Device}
 use Rattle.array_engine.proofs.appending.perform_counted.Goals as goal

@@ -1,10 +1,8 @@
 use Rattle.std.proofs.Common.{◌≡◌, false, [], Result, Err, IfErr, refl, sym, ap, subst}
 use Rattle.std.proofs.lemmas.Result.{err_from_is_err_and}
-use Rattle.world.specs.Losing.{geometry_of}
-use Rattle.world.specs.Shelf.{Shelved}
-use Rattle.array_core.specs.Ready.{IsArrayOf}
-use Rattle.array_checkpoint.specs.Prepared.{IsLike}
-use Rattle.array_checkpoint.specs.Room.{IsRoomOf}
+use Rattle.session_spec.specs.Prelude.{geometry_of, Shelved}
+use Rattle.array_core.specs.Prelude.{IsArrayOf}
+use Rattle.array_checkpoint.specs.Prelude.{IsLike, IsRoomOf}
 use Rattle.array_checkpoint.proofs.Like.{like_is_of}
 use Rattle.array_engine.specs.declared.appending.AppendFault.{AppendFault}
 use Rattle.array_engine.specs.Flushing.{IsFlushFault}

@@ -1,10 +1,9 @@
 use Rattle.std.proofs.Common.{◌≡◌, false, Result, Err, IfErr, sym, ap, subst}
 use Rattle.std.proofs.lemmas.Result.{err_from_is_err_and}
-use Rattle.world.specs.Losing.{geometry_of}
-use Rattle.world.specs.Shelf.{Shelved}
+use Rattle.session_spec.specs.Prelude.{geometry_of, Shelved}
 use Rattle.array_core.specs.declared.array.Array.{Array}
-use Rattle.array_core.specs.Ready.{IsArrayOf}
-use Rattle.array_checkpoint.specs.Room.{IsRoomOf}
+use Rattle.array_core.specs.Prelude.{IsArrayOf}
+use Rattle.array_checkpoint.specs.Prelude.{IsRoomOf}
 use Rattle.pyramid_jobs.specs.declared.fault.MergeFault.{MergeFault}
 use Rattle.pyramid_jobs.specs.Made.{IsFaultOf}
 use Rattle.array_engine.specs.Replying.{merge_ends_lost}

@@ -1,6 +1,6 @@
 use Rattle.std.proofs.Common.{ap, arith}
 use Rattle.std.specs.Prelude.{length}
-use Rattle.memory_spec.specs.Tables.{facts}
+use Rattle.session_spec.specs.Prelude.{facts}
 use Rattle.array_engine.proofs.Numbers.{few_segments}
 use Rattle.array_engine.proofs.status.numbers_of.Goals as goal
 

@@ -1,5 +1,5 @@
 use Rattle.std.proofs.Common.{◌≡◌, ◌⊎◌, ◌↔◌, [], take, Contains}
-use Rattle.pur_base.specs.declared.facts.ElisionFact.{ElisionFact}
+use Rattle.memory_spec.specs.Prelude.{ElisionFact}
 use Rattle.array_memory.proofs.eliding.insert_each.Given as goal
 
 abbrev pub invariant-loop-fact : goal.invariant-loop-fact

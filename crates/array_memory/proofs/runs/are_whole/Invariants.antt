@@ -1,5 +1,5 @@
 use Rattle.std.proofs.Common.{◌≡◌, ◌<◌, ℕ, List, length, get_or}
-use Rattle.pur_base.specs.declared.limits.TheConstants.{SECTOR_BYTES}
+use Rattle.memory_spec.specs.Prelude.{SECTOR_BYTES}
 use Rattle.array_memory.proofs.runs.are_whole.Given as goal
 
 abbrev pub invariant-loop-sector : goal.invariant-loop-sector

@@ -1,6 +1,5 @@
 use Rattle.std.proofs.Common.{◌≡◌, ◌+◌, ap, add-one, arith}
-use Rattle.pur_base.specs.declared.facts.Target.{Target}
-use Rattle.memory_spec.specs.lemmas.Run.{fact}
+use Rattle.memory_spec.specs.Prelude.{Target, fact}
 use Rattle.array_memory.specs.Runs.{target_of}
 use Rattle.array_memory.proofs.RunLemmas.{run_next}
 use Rattle.array_memory.proofs.runs.write_run.Goals as goal

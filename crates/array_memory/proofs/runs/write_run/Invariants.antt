@@ -1,5 +1,5 @@
 use Rattle.std.proofs.Common.{◌≡◌, take}
-use Rattle.memory_spec.specs.Adding.{address_facts}
+use Rattle.memory_spec.specs.Prelude.{address_facts}
 use Rattle.array_memory.specs.Runs.{targets_from}
 use Rattle.array_memory.proofs.runs.write_run.Given as goal
 

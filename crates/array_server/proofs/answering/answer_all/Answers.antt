@@ -1,12 +1,6 @@
 use Rattle.std.proofs.Common.{◌≡◌, ◌+◌, ◌++◌, ℕ, List, Bool, false, true, length, refl, sym, ap, subst, ◌∙◌, arith, inl, inr}
-use Rattle.world.specs.lemmas.Moments.{continues_refl, continues_trans}
-use Rattle.pur_base.specs.declared.reply.Status.{Status}
-use Rattle.pur_base.specs.Devices.{Geometry}
-use Rattle.pur_base.specs.Replies.{text}
-use Rattle.pur_base.specs.lemmas.Items.{nothing-after-cut}
-use Rattle.world.specs.Counts.{Rises}
-use Rattle.session_spec.specs.Ends.{RisesIf, is_sink}
-use Rattle.request_codec.specs.Items.{item_read}
+use Rattle.session_spec.specs.Prelude.{continues_refl, continues_trans, Status, Geometry, text, nothing-after-cut, Rises, RisesIf, is_sink, stream_then}
+use Rattle.request_codec.specs.Prelude.{item_read}
 use Rattle.request_codec.proofs.CallLemmas.{both}
 use Rattle.array_engine.specs.Engines.{IsOf}
 use Rattle.array_server.proofs.SoFar.{SoFar}
@@ -16,7 +10,6 @@ use Rattle.array_server.proofs.Ends.{stopped_source, stopped_limit, stopped_done
 use Rattle.array_server.proofs.ItemsRead.{reads_item, uncut, is_answered, cut_is_no_limit, end_is_no_limit}
 use Rattle.array_server.proofs.answering.answer_all.Goals as goal
 use Rattle.register.proofs.Rounds.{same_shelf}
-use Rattle.world.specs.lemmas.Rests.{stream_then}
 
 -- no sink failed at the end of the input
 well_given : (halted : Bool) (before now : ℕ) → now ≡ before → RisesIf (is_sink (end_of halted)) before now

@@ -1,9 +1,6 @@
 use Rattle.std.proofs.Common.{◌≡◌, ◌+◌, ◌≤◌, ◌↔◌, ◌++◌, [], false, length, Bool}
-use Rattle.pur_base.specs.declared.limits.TheConstants.{INPUT_BYTES}
-use Rattle.world.specs.Losing.{geometry_of}
-use Rattle.world.specs.Shelf.{Continues}
-use Rattle.request_codec.specs.Ahead.{Tells, budget}
-use Rattle.session_spec.specs.Faring.{Point}
+use Rattle.session_spec.specs.Prelude.{INPUT_BYTES, geometry_of, Continues, Point}
+use Rattle.request_codec.specs.Prelude.{Tells, budget}
 use Rattle.array_engine.specs.Engines.{IsOf}
 use Rattle.array_server.specs.Sessions.{BeginsAt}
 use Rattle.array_server.proofs.SoFar.{SoFar}

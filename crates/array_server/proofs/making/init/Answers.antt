@@ -1,9 +1,7 @@
 use Rattle.std.proofs.Common.{◌≡◌, ℕ, List, Err, refl, subst}
-use Rattle.pur_base.specs.declared.device.Device.{Device}
+use Rattle.session_spec.specs.Prelude.{Device, continues_trans, RisesIf, is_sink}
 use Rattle.pur_base.specs.declared.reply.Status.TheVariants as status
-use Rattle.world.specs.lemmas.Moments.{continues_trans}
 use Rattle.request_codec.proofs.CallLemmas.{both}
-use Rattle.session_spec.specs.Ends.{RisesIf, is_sink}
 use Rattle.shelf_init.specs.declared.making.InitFault.{InitFault}
 use Rattle.shelf_init.specs.declared.making.InitFault.TheVariants as fault
 use Rattle.shelf_init.specs.Answers.{IsCounted, IsJudged, IsUntouched}

@@ -1,12 +1,6 @@
 use Rattle.std.proofs.Common.{◌≡◌, inl, inr, ℕ, List, sym, subst, Bool, false}
-use Rattle.pur_base.specs.declared.reply.Status.{Status}
-use Rattle.world.specs.Losing.{geometry_of}
-use Rattle.world.specs.lemmas.Moments.{continues_trans}
-use Rattle.world.specs.lemmas.Ran.{runs_moments}
-use Rattle.world.specs.lemmas.Rests.{same_stream}
+use Rattle.session_spec.specs.Prelude.{Status, geometry_of, continues_trans, runs_moments, same_stream, RisesIf, is_source, is_sink, Unopened, Served}
 use Rattle.request_codec.proofs.CallLemmas.{both}
-use Rattle.session_spec.specs.Ends.{RisesIf, is_source, is_sink}
-use Rattle.session_spec.specs.Headline.{Unopened, Served}
 use Rattle.session_spec.proofs.Resumed.{may_want_memory}
 use Rattle.array_engine.specs.declared.engine.Engine.{Engine}
 use Rattle.array_server.specs.Sessions.{BeginsAt, IsServedFrom}

@@ -1,6 +1,6 @@
 use Rattle.std.proofs.Common.{refl}
 use Rattle.std.specs.Fmt.{digits}
-use Rattle.pur_base.specs.Sectors.{filled}
+use Rattle.boot_codec.specs.Prelude.{filled}
 use Rattle.array_spec.proofs.replies.worked_rows.Goals as goal
 
 pub returns : goal.returns

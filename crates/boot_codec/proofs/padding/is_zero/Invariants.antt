@@ -1,5 +1,5 @@
 use Rattle.std.proofs.Common.{◌≡◌, take}
-use Rattle.pur_base.specs.Bytes.{zeros}
+use Rattle.pur_base.specs.Prelude.{zeros}
 use Rattle.boot_codec.proofs.padding.is_zero.Given as goal
 
 abbrev pub invariant-loop-byte : goal.invariant-loop-byte

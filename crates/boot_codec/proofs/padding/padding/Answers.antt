@@ -1,5 +1,5 @@
 use Rattle.std.proofs.Common.{◌≡◌, take, sym, ap, ◌∙◌, arith}
-use Rattle.pur_base.specs.Bytes.{zeros}
+use Rattle.pur_base.specs.Prelude.{zeros}
 use Rattle.boot_codec.specs.Reading.{padding}
 use Rattle.boot_codec.proofs.PaddingLemmas.{padding_block}
 use Rattle.boot_codec.proofs.padding.padding.Goals as goal

@@ -1,5 +1,5 @@
 use Rattle.std.proofs.Common.{◌≡◌, ℕ, ◌+◌, ◌-◌, ◌++◌, ◌∙◌, length, take, refl, ap, arith}
-use Rattle.pur_base.specs.Bytes.{zeros, padded}
+use Rattle.pur_base.specs.Prelude.{zeros, padded}
 use Rattle.boot_codec.specs.Spelling.{header_bytes, record_bytes, patches_bytes}
 use Rattle.boot_codec.proofs.SpellingLemmas.{length-header_bytes, length-patches_bytes}
 use Rattle.boot_codec.proofs.WritingLemmas.{padded_after}

@@ -1,12 +1,7 @@
 use Rattle.std.proofs.Common.{◌≢◌, ◌<◌, ℕ, length, arith, sym, refl, ap, ◌∙◌, below_more, get_or-set_other, get_or-set_same, subst}
 use Rattle.std.specs.Prelude.{◌%◌}
-use Rattle.pur_base.specs.Devices.{drive}
-use Rattle.pur_base.specs.declared.limits.TheConstants.{SECTOR_BYTES}
-use Rattle.pur_base.specs.lemmas.Devices.{drives_apart}
-use Rattle.world.specs.Ran.{Ran}
-use Rattle.world.specs.Shelf.{LeavesOnly}
-use Rattle.world.specs.Writes.{LeavesBut}
-use Rattle.world.specs.lemmas.Moments.{weaker}
+use Rattle.array_spec.specs.Prelude.{drive, SECTOR_BYTES, drives_apart}
+use Rattle.world.specs.Prelude.{Ran, LeavesOnly, LeavesBut, weaker}
 use Rattle.boot_region.specs.Members.{IsMember, IsOneOf, OnNotShut, Closed}
 use Rattle.boot_region.specs.Slots.{slot_in}
 use Rattle.boot_region.proofs.GateCalls.{closing_next, closing_next_moments, closed_of}

@@ -1,8 +1,6 @@
 use Rattle.std.proofs.Common.{◌≡◌, ℕ, ◌<◌, ◌≤◌, slice_index_or, false}
-use Rattle.pur_base.specs.Devices.{drive}
-use Rattle.world.specs.Ran.{Ran}
-use Rattle.world.specs.Shelf.{LeavesOnly}
-use Rattle.world.specs.Writes.{LeavesBut}
+use Rattle.array_spec.specs.Prelude.{drive}
+use Rattle.world.specs.Prelude.{Ran, LeavesOnly, LeavesBut}
 use Rattle.boot_region.specs.Members.{IsMember, IsOneOf, OnNotShut, Closed}
 use Rattle.boot_region.proofs.gates.close_gates.Given as goal
 

@@ -1,12 +1,7 @@
 use Rattle.std.proofs.Common.{rules, ◌≡◌, ◌<◌, ℕ, List, length, ap, ◌∙◌, subst, arith}
 use Rattle.std.specs.Prelude.{◌%◌, Some}
-use Rattle.pur_base.specs.Devices.{drive}
-use Rattle.pur_base.specs.declared.limits.TheConstants.{SECTOR_BYTES}
-use Rattle.boot_codec.specs.Region.{gate_place, shown_by}
-use Rattle.world.specs.Shelf.{Written}
-use Rattle.world.specs.lemmas.Moments.{weaker}
-use Rattle.world.specs.lemmas.Ran.{ran_more}
-use Rattle.world.specs.lemmas.Stopped.{as_read}
+use Rattle.array_spec.specs.Prelude.{drive, SECTOR_BYTES, gate_place, shown_by}
+use Rattle.world.specs.Prelude.{Written, weaker, ran_more, as_read}
 use Rattle.boot_region.specs.Members.{OnMembers}
 use Rattle.boot_region.specs.Slots.{slot_in}
 use Rattle.boot_region.proofs.Phases.{opens_gates}

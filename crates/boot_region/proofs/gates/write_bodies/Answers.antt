@@ -1,10 +1,7 @@
 use Rattle.std.proofs.Common.{ℕ, length, arith, ap, ◌∙◌, subst}
 use Rattle.std.specs.Prelude.{◌%◌}
-use Rattle.pur_base.specs.Devices.{drive}
-use Rattle.pur_base.specs.declared.limits.TheConstants.{SECTOR_BYTES}
-use Rattle.boot_codec.specs.Region.{body_place}
-use Rattle.world.specs.lemmas.Moments.{weaker}
-use Rattle.world.specs.lemmas.Ran.{ran_more}
+use Rattle.array_spec.specs.Prelude.{drive, SECTOR_BYTES, body_place}
+use Rattle.world.specs.Prelude.{weaker, ran_more}
 use Rattle.boot_region.specs.Members.{IsMember, OnMembers, Outcome}
 use Rattle.boot_region.specs.Slots.{slot_in}
 use Rattle.boot_region.proofs.Phases.{writes_bodies}

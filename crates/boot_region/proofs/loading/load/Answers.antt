@@ -1,5 +1,5 @@
 use Rattle.std.proofs.Common.{◌∙◌, sym, ap, ℕ}
-use Rattle.world.specs.Losing.{geometry_of}
+use Rattle.world.specs.Prelude.{geometry_of}
 use Rattle.boot_region.specs.lemmas.Found.{may_be_settled}
 use Rattle.boot_region.proofs.LoadingLemmas.{answer_of, loaded_by, lawful_load}
 use Rattle.boot_region.proofs.loading.load.Goals as goal

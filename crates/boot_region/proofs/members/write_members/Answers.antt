@@ -1,7 +1,6 @@
 use Rattle.std.proofs.Common.{◌≢◌, ◌<◌, length, arith, sym, ◌∙◌, below_more, get_or-set_other, get_or-set_same}
-use Rattle.world.specs.lemmas.Ran.{ran_then, ran_more}
-use Rattle.pur_base.specs.lemmas.Devices.{drives_apart}
-use Rattle.pur_base.specs.Devices.{drive}
+use Rattle.world.specs.Prelude.{ran_then, ran_more}
+use Rattle.array_spec.specs.Prelude.{drives_apart, drive}
 use Rattle.boot_region.specs.Members.{IsMember}
 use Rattle.boot_region.proofs.OnEach.{only_member, range_on_members, outcome_of}
 use Rattle.boot_region.proofs.members.write_members.Goals as goal

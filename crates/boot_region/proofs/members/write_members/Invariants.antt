@@ -1,6 +1,6 @@
 use Rattle.std.proofs.Common.{◌≡◌, ℕ, ◌<◌, ◌≤◌, length, slice_index_or, false}
-use Rattle.world.specs.Ran.{Ran}
-use Rattle.pur_base.specs.Devices.{drive}
+use Rattle.world.specs.Prelude.{Ran}
+use Rattle.array_spec.specs.Prelude.{drive}
 use Rattle.boot_region.specs.Members.{IsMember, IsOneOf, OnMembers, Outcome}
 use Rattle.boot_region.proofs.members.write_members.Given as goal
 

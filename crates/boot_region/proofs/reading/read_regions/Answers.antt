@@ -1,7 +1,6 @@
 use Rattle.std.proofs.Common.{rules, ◌≡◌, length, arith, ◌∙◌, below_more, slice_index_or, false}
-use Rattle.pur_base.specs.Devices.{drive}
-use Rattle.pur_base.specs.lemmas.Devices.{drives_apart}
-use Rattle.world.specs.lemmas.Ran.{ran_then, ran_more}
+use Rattle.array_spec.specs.Prelude.{drive, drives_apart}
+use Rattle.world.specs.Prelude.{ran_then, ran_more}
 use Rattle.boot_region.specs.Regions.{IsRead, AnswerCounts}
 use Rattle.boot_region.proofs.ReadingLemmas.{stays_read, first_read, counts_stay, first_counts, only_drive}
 use Rattle.boot_region.proofs.reading.read_regions.Goals as goal

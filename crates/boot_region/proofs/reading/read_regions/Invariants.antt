@@ -1,8 +1,6 @@
 use Rattle.std.proofs.Common.{◌≡◌, ℕ, ◌<◌, ◌≤◌, length, slice_index_or, false}
-use Rattle.pur_base.specs.declared.device.Device.{Device}
-use Rattle.pur_base.specs.Devices.{drive}
-use Rattle.world.specs.Shelf.{IsSame}
-use Rattle.world.specs.Ran.{Ran}
+use Rattle.array_spec.specs.Prelude.{Device, drive}
+use Rattle.world.specs.Prelude.{IsSame, Ran}
 use Rattle.boot_region.specs.Members.{IsDrive}
 use Rattle.boot_region.specs.Regions.{IsRead, AnswerCounts}
 use Rattle.boot_region.proofs.reading.read_regions.Given as goal

@@ -1,6 +1,5 @@
 use Rattle.std.proofs.Common.{arith, ◌≡◌, length, false, refl, slice_index, ap, ◌∙◌}
-use Rattle.pur_base.specs.Gates.{is_open}
-use Rattle.pur_base.specs.declared.limits.TheConstants.{SECTOR_BYTES}
+use Rattle.array_spec.specs.Prelude.{is_open, SECTOR_BYTES}
 use Rattle.boot_region.proofs.GateCalls.{ran_read, ran_behind_read, wrote_open}
 use Rattle.boot_region.specs.lemmas.Shown.{reads_closed}
 use Rattle.boot_region.proofs.settling.open_gate.Goals as goal

@@ -1,12 +1,7 @@
 use Rattle.std.proofs.Common.{rules, ◌≡◌, ◌≢◌, ◌<◌, ℕ, length, arith, sym, refl, ap, ◌∙◌, below_more, get_or-set_other, get_or-set_same, subst}
 use Rattle.std.specs.Prelude.{◌%◌}
-use Rattle.pur_base.specs.Devices.{drive}
-use Rattle.pur_base.specs.declared.limits.TheConstants.{SECTOR_BYTES}
-use Rattle.world.specs.Shelf.{Disk}
-use Rattle.world.specs.Ran.{Ran}
-use Rattle.world.specs.lemmas.Moments.{weaker}
-use Rattle.world.specs.lemmas.Ran.{ran_then, ran_more}
-use Rattle.pur_base.specs.lemmas.Devices.{drives_apart}
+use Rattle.array_spec.specs.Prelude.{drive, SECTOR_BYTES, drives_apart}
+use Rattle.world.specs.Prelude.{Disk, Ran, weaker, ran_then, ran_more}
 use Rattle.boot_region.specs.Members.{IsMember, IsOneOf, OnClosed, Opened}
 use Rattle.boot_region.specs.Slots.{slot_in}
 use Rattle.boot_region.proofs.OnEach.{only_member}

@@ -1,6 +1,6 @@
 use Rattle.std.proofs.Common.{◌≡◌, ℕ, ◌<◌, ◌≤◌, slice_index_or, false}
-use Rattle.pur_base.specs.Devices.{drive}
-use Rattle.world.specs.Ran.{Ran}
+use Rattle.array_spec.specs.Prelude.{drive}
+use Rattle.world.specs.Prelude.{Ran}
 use Rattle.boot_region.specs.Members.{IsMember, IsOneOf, OnClosed, Opened}
 use Rattle.boot_region.proofs.settling.settle.Given as goal
 

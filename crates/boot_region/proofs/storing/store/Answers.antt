@@ -1,8 +1,7 @@
 use Rattle.std.proofs.Common.{rules, ◌≡◌, ℕ, List, length, ap, ◌∙◌}
 use Rattle.std.specs.Prelude.{Some}
-use Rattle.pur_base.specs.Devices.{drive}
-use Rattle.world.specs.lemmas.Moments.{continues_trans, then_run, weaker}
-use Rattle.world.specs.lemmas.Ran.{ran_then, ran_more}
+use Rattle.array_spec.specs.Prelude.{drive}
+use Rattle.world.specs.Prelude.{continues_trans, then_run, weaker, ran_then, ran_more}
 use Rattle.boot_region.specs.Members.{IsMember}
 use Rattle.boot_region.specs.Slots.{slot_in}
 use Rattle.boot_region.specs.Storing.{AreEnough}

@@ -1,5 +1,5 @@
 use Rattle.std.proofs.Common.{◌≡◌, ℕ, List, ◌++◌, ap, ◌∙◌, rules, refl, Ok}
-use Rattle.pur_base.specs.Bytes.{u64}
+use Rattle.pur_base.specs.Prelude.{u64}
 use Rattle.fact_codec.specs.declared.limits.TheConstants.{VALUE_BYTES}
 use Rattle.fact_codec.specs.declared.head.Head.{Head}
 use Rattle.fact_codec.proofs.FieldLemmas.{range_is}

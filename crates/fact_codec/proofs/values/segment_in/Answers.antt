@@ -1,13 +1,12 @@
 use Rattle.std.proofs.Common.{◌≡◌, ℕ, List, ◌++◌, ◌-◌, length, ap, sym, ◌∙◌, rules, refl, Ok, append_assoc}
 use Rattle.std.proofs.lemmas.List.Elements.{recursion_from_All}
-use Rattle.pur_base.specs.Bytes.{u16}
+use Rattle.pur_base.specs.Prelude.{u16}
 use Rattle.pur_base.specs.declared.facts.AnyFact.TheVariants as any
-use Rattle.byte_fields.specs.Places.{places_bytes, FitsBytes}
+use Rattle.byte_fields.specs.Prelude.{places_bytes, FitsBytes, zeros_are}
 use Rattle.fact_codec.specs.declared.limits.TheConstants.{VALUE_BYTES}
 use Rattle.fact_codec.specs.declared.head.Head.{Head}
 use Rattle.fact_codec.specs.Fact.{value_bytes}
 use Rattle.fact_codec.proofs.FieldLemmas.{segment_is}
-use Rattle.byte_fields.specs.lemmas.Spelling.{zeros_are}
 use Rattle.fact_codec.proofs.ValueLemmas.{padded_is}
 use Rattle.fact_codec.proofs.values.segment_in.Goals as goal
 

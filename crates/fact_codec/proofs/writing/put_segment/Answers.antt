@@ -1,8 +1,7 @@
 use Rattle.std.proofs.Common.{arith, ap, length}
 use Rattle.std.proofs.lemmas.List.{length-append}
 use Rattle.std.proofs.lemmas.List.Elements.{recursion_from_All}
-use Rattle.byte_fields.specs.Places.{places_bytes, FitsBytes}
-use Rattle.byte_fields.specs.lemmas.Spelling.{length-places_bytes}
+use Rattle.byte_fields.specs.Prelude.{places_bytes, FitsBytes, length-places_bytes}
 use Rattle.fact_codec.proofs.writing.put_segment.Goals as goal
 
 pub returns-clause-fits : goal.returns-clause-fits

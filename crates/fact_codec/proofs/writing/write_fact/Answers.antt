@@ -1,5 +1,5 @@
 use Rattle.std.proofs.Common.{◌≡◌, ◌++◌, ◌∙◌, ap, List, ℕ}
-use Rattle.pur_base.specs.Bytes.{padded}
+use Rattle.pur_base.specs.Prelude.{padded}
 use Rattle.fact_codec.specs.declared.limits.TheConstants.{FACT_BYTES}
 use Rattle.fact_codec.specs.Heads.{head_bytes, head_of}
 use Rattle.fact_codec.specs.Values.{put_bytes}

@@ -1,6 +1,5 @@
 use Rattle.std.proofs.Common.{List, sym, subst, arith}
-use Rattle.boot_codec.specs.declared.patch.Patch.{Patch}
-use Rattle.boot_codec.specs.declared.patch.PatchSegment.{PatchSegment}
+use Rattle.array_spec.specs.Prelude.{Patch, PatchSegment}
 use Rattle.free_space.specs.Marking.{patch_units, patches_units}
 use Rattle.free_space.specs.Left.{HasUnits, LosesUnits}
 use Rattle.free_space.proofs.Taking.{next_has, next_taken, taking_none, all_taken}

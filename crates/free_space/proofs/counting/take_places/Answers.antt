@@ -1,5 +1,5 @@
 use Rattle.std.proofs.Common.{get_or, refl, arith}
-use Rattle.pur_base.specs.declared.place.Place.{Place}
+use Rattle.array_spec.specs.Prelude.{Place}
 use Rattle.free_space.proofs.Taking.{one_has, one_taken, unit_there}
 use Rattle.free_space.proofs.counting.take_places.Goals as goal
 

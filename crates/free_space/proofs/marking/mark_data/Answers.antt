@@ -1,5 +1,5 @@
 use Rattle.std.proofs.Common.{refl, [], get_or, arith}
-use Rattle.pur_base.specs.declared.facts.SegmentFact.{SegmentFact}
+use Rattle.array_spec.specs.Prelude.{SegmentFact}
 use Rattle.free_space.specs.Marking.{data_units}
 use Rattle.free_space.proofs.Loops.{next_can, next_marked}
 use Rattle.free_space.proofs.marking.mark_data.Goals as goal

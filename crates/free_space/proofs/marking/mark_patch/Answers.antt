@@ -1,5 +1,5 @@
 use Rattle.std.proofs.Common.{refl, [], get_or, arith}
-use Rattle.boot_codec.specs.declared.patch.PatchSegment.{PatchSegment}
+use Rattle.array_spec.specs.Prelude.{PatchSegment}
 use Rattle.free_space.specs.Marking.{patch_units}
 use Rattle.free_space.proofs.Loops.{next_can, next_marked}
 use Rattle.free_space.proofs.marking.mark_patch.Goals as goal

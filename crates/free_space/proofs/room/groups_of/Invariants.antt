@@ -1,6 +1,5 @@
 use Rattle.std.proofs.Common.{◌-◌, ◌≤◌, ◌*◌, ◌<◌}
-use Rattle.pur_base.specs.declared.limits.TheConstants.{SEGMENT_SHARDS, SLOTS_MAX}
-use Rattle.array_spec.specs.Counts.{units_for}
+use Rattle.array_spec.specs.Prelude.{SEGMENT_SHARDS, SLOTS_MAX, units_for}
 use Rattle.free_space.proofs.room.groups_of.Given as goal
 
 abbrev pub invariant-loop-low : goal.invariant-loop-low

@@ -1,6 +1,6 @@
 use Rattle.std.proofs.Common.{[], arith}
-use Rattle.pur_base.specs.Visible.{is_within}
-use Rattle.pyramid.specs.Layers.{facts_in}
+use Rattle.array_spec.specs.Prelude.{is_within}
+use Rattle.pyramid.specs.Prelude.{facts_in}
 use Rattle.lower_tests.proofs.OneRangeLemmas.{first_range, one_disjoint}
 use Rattle.lower_tests.proofs.mediums.a_range_is_over_its_sectors.Goals as goal
 

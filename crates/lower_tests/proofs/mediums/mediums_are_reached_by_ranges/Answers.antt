@@ -1,6 +1,6 @@
 use Rattle.std.proofs.Common.{[], arith}
-use Rattle.pur_base.specs.Visible.{is_within}
-use Rattle.pyramid.specs.Layers.{facts_in}
+use Rattle.array_spec.specs.Prelude.{is_within}
+use Rattle.pyramid.specs.Prelude.{facts_in}
 use Rattle.lower_tests.proofs.OneRangeLemmas.{first_range, one_descending}
 use Rattle.lower_tests.proofs.mediums.mediums_are_reached_by_ranges.Goals as goal
 

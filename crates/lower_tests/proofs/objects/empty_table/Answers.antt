@@ -1,7 +1,6 @@
 use Rattle.std.proofs.Common.{[]}
-use Rattle.pur_base.specs.Facts.{object_key, never}
-use Rattle.pur_base.specs.Visible.{is_within}
-use Rattle.pyramid.specs.lemmas.Shown.{shown_nothing}
+use Rattle.array_spec.specs.Prelude.{object_key, never, is_within}
+use Rattle.pyramid.specs.Prelude.{shown_nothing}
 use Rattle.object_table.specs.Objects.{number}
 use Rattle.lower_tests.proofs.objects.empty_table.Goals as goal
 

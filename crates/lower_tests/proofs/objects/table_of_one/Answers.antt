@@ -1,8 +1,6 @@
 use Rattle.std.proofs.Common.{◌≡◌, ◌<◌, [], ap, ◌∙◌, arith, inl, inr}
-use Rattle.pur_base.specs.declared.facts.ObjectFact.{ObjectFact}
-use Rattle.pyramid.specs.Layers.{facts_in}
-use Rattle.pyramid.specs.lemmas.Contains.{nowhere}
-use Rattle.pyramid.specs.lemmas.Layers.{all_contained}
+use Rattle.array_spec.specs.Prelude.{ObjectFact}
+use Rattle.pyramid.specs.Prelude.{facts_in, nowhere, all_contained}
 use Rattle.object_table.specs.Objects.{Objects}
 use Rattle.lower_tests.proofs.objects.table_of_one.Goals as goal
 

@@ -1,9 +1,7 @@
 use Rattle.std.proofs.Common.{◌≡◌, ◌+◌, ◌<◌, ◌++◌, ap, arith, inl, inr}
 use Rattle.std.proofs.lemmas.List.Elements.{Contains-append_cases, All-contains}
-use Rattle.pur_base.specs.declared.facts.MediumFact.{MediumFact}
-use Rattle.pyramid.specs.Layers.{facts_of}
-use Rattle.pyramid.specs.lemmas.Contains.{nowhere}
-use Rattle.pyramid.specs.lemmas.Layers.{all_contained}
+use Rattle.array_spec.specs.Prelude.{MediumFact}
+use Rattle.pyramid.specs.Prelude.{facts_of, nowhere, all_contained}
 use Rattle.pyramid.proofs.PlaceLemmas.{all_flushed}
 use Rattle.lower_tests.proofs.pyramids.flush_one.Goals as goal
 

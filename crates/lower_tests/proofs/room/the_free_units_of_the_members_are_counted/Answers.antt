@@ -1,12 +1,6 @@
 use Rattle.std.proofs.Common.{◌≡◌, List, [], ◌∷◌, refl, ap, ◌∙◌, arith, rules}
-use Rattle.pur_base.specs.Facts.{Facts, segment_key, never}
-use Rattle.pur_base.specs.Keys.{key_of}
-use Rattle.pur_base.specs.Visible.{segments, is_elided}
+use Rattle.array_spec.specs.Prelude.{Facts, segment_key, never, key_of, segments, is_elided, SegmentFact, says_is, BootRecord, ArePlaces, named_segments, used_places}
 use Rattle.pur_base.specs.declared.request.Table.TheVariants as table
-use Rattle.pur_base.specs.declared.facts.SegmentFact.{SegmentFact}
-use Rattle.pur_base.specs.lemmas.Says.{says_is}
-use Rattle.boot_codec.specs.declared.record.BootRecord.{BootRecord}
-use Rattle.array_spec.specs.Sound.{ArePlaces, named_segments, used_places}
 use Rattle.lower_tests.specs.declared.room.TheConstants.{SEGMENT}
 use Rattle.free_space.specs.Map.{shelf_of, AreDataSegments}
 use Rattle.lower_tests.proofs.room.the_free_units_of_the_members_are_counted.Goals as goal

@@ -1,7 +1,6 @@
 use Rattle.std.proofs.Common.{[]}
-use Rattle.pur_base.specs.Facts.{segment_key, never}
-use Rattle.pur_base.specs.Visible.{is_within}
-use Rattle.pyramid.specs.lemmas.Shown.{shown_nothing}
+use Rattle.array_spec.specs.Prelude.{segment_key, never, is_within}
+use Rattle.pyramid.specs.Prelude.{shown_nothing}
 use Rattle.segment_table.specs.Segments.{number}
 use Rattle.lower_tests.proofs.segments.empty_table.Goals as goal
 

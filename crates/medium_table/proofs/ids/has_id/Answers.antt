@@ -1,7 +1,7 @@
 use Rattle.std.proofs.Common.{get_or, ap, ◌∙◌}
 use Rattle.std.proofs.lemmas.Bool.{eqb-true, eq-eqb}
 use Rattle.std.proofs.lemmas.List.{get_or_default}
-use Rattle.pur_base.specs.declared.ids.MediumId.{MediumId}
+use Rattle.pyramid.specs.Prelude.{MediumId}
 use Rattle.medium_table.specs.Reaching.{id_of_medium}
 use Rattle.medium_table.proofs.IdLemmas.{one_id, stands_at}
 use Rattle.medium_table.proofs.ids.has_id.Goals as goal

@@ -2,7 +2,7 @@ use Rattle.std.proofs.Common.{rules, of_calls, arith}
 use Rattle.std.specs.Prelude.{nat_lt}
 use Rattle.std.proofs.lemmas.Fn.{always_returns_same}
 use Rattle.std.proofs.lemmas.Bool.{ltb-true, ltb-false}
-use Rattle.pur_base.specs.declared.ids.MediumId.{MediumId}
+use Rattle.pyramid.specs.Prelude.{MediumId}
 use Rattle.medium_table.proofs.IdLemmas.{parted}
 use Rattle.medium_table.proofs.ids.ids_below.Goals as goal
 

@@ -1,6 +1,6 @@
 use Rattle.std.proofs.Common.{get_or, take_all}
 use Rattle.std.proofs.lemmas.List.{get_or_default}
-use Rattle.pur_base.specs.declared.ids.MediumId.{MediumId}
+use Rattle.pyramid.specs.Prelude.{MediumId}
 use Rattle.medium_table.proofs.IdLemmas.{one_id_more}
 use Rattle.medium_table.proofs.ids.ids_in_order.Goals as goal
 

@@ -1,6 +1,5 @@
 use Rattle.std.proofs.Common.{◌↔◌, take, Contains}
-use Rattle.pur_base.specs.declared.ids.MediumId.{MediumId}
-use Rattle.pur_base.specs.Says.{Ascends}
+use Rattle.pyramid.specs.Prelude.{MediumId, Ascends}
 use Rattle.medium_table.specs.Reaching.{id_of_medium}
 use Rattle.medium_table.proofs.ids.ids_in_order.Given as goal
 

@@ -2,7 +2,7 @@ use Rattle.std.proofs.Common.{◌≡◌, ◌-◌, ◌<◌, suc, length, get_or, 
 use Rattle.std.proofs.lemmas.Bool.{false≢true}
 use Rattle.std.proofs.lemmas.List.{get_or_default}
 use Rattle.std.proofs.lemmas.List.Elements.{Contains-get_or}
-use Rattle.pur_base.specs.declared.facts.MediumFact.{MediumFact}
+use Rattle.pyramid.specs.Prelude.{MediumFact}
 use Rattle.medium_table.specs.Reaching.{itself}
 use Rattle.medium_table.proofs.ReachLemmas.{closed_past, closed_more, sound_more}
 use Rattle.medium_table.proofs.reach.follow.Goals as goal

@@ -1,7 +1,5 @@
 use Rattle.std.proofs.Common.{ℕ, ◌<◌, ◌≤◌, length, get_or, Contains}
-use Rattle.pur_base.specs.declared.ids.MediumId.{MediumId}
-use Rattle.pur_base.specs.declared.facts.MediumFact.{MediumFact}
-use Rattle.pur_base.specs.Says.{Ascends}
+use Rattle.pyramid.specs.Prelude.{MediumId, MediumFact, Ascends}
 use Rattle.medium_table.specs.Reaching.{id_of_medium, IsReached}
 use Rattle.medium_table.proofs.reach.follow.Given as goal
 

@@ -1,7 +1,5 @@
 use Rattle.std.proofs.Common.{inl, inr, ⊎_elim, arith}
-use Rattle.pur_base.specs.Devices.{nvram}
-use Rattle.world.specs.lemmas.Moments.{then_run, weaker}
-use Rattle.world.specs.lemmas.Ran.{ran_then, ran_more}
+use Rattle.world.specs.Prelude.{nvram, then_run, weaker, ran_then, ran_more}
 use Rattle.nvram_log.proofs.Storing.{outcomes_fewer, rises_first, rises_then, first_phase, second_phase, end_log, slots_of_members, range_of_members, fewer_members}
 use Rattle.nvram_log.proofs.append.store.Goals as goal
 

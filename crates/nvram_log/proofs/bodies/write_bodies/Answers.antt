@@ -1,6 +1,5 @@
 use Rattle.std.proofs.Common.{◌≢◌, ◌<◌, length, arith, sym, ◌∙◌, below_more, get_or-set_other, get_or-set_same}
-use Rattle.world.specs.lemmas.Ran.{ran_then, ran_more}
-use Rattle.pur_base.specs.Devices.{nvram}
+use Rattle.world.specs.Prelude.{ran_then, ran_more, nvram}
 use Rattle.nvram_log.specs.Members.{IsMember}
 use Rattle.nvram_log.proofs.OnEach.{only_member, outcome_of, nvrams_apart}
 use Rattle.nvram_log.proofs.InSlots.{slots_on_members}

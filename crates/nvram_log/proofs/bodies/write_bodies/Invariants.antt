@@ -1,6 +1,5 @@
 use Rattle.std.proofs.Common.{◌≡◌, ℕ, ◌<◌, ◌≤◌, slice_index_or, false}
-use Rattle.pur_base.specs.Devices.{nvram}
-use Rattle.world.specs.Ran.{Ran}
+use Rattle.world.specs.Prelude.{nvram, Ran}
 use Rattle.nvram_log.specs.Members.{IsMember, IsOnMember, Outcome}
 use Rattle.nvram_log.specs.Records.{OnSlotsFrom, StandFrom}
 use Rattle.nvram_log.proofs.bodies.write_bodies.Given as goal

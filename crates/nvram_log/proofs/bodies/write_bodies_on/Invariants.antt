@@ -1,6 +1,5 @@
 use Rattle.std.proofs.Common.{◌≡◌, ℕ, ◌+◌, ◌<◌, Some, slice_get}
-use Rattle.pur_base.specs.Devices.{nvram}
-use Rattle.world.specs.Ran.{Only, Ran}
+use Rattle.world.specs.Prelude.{nvram, Only, Ran}
 use Rattle.nvram_log.specs.declared.record.Record.{Record}
 use Rattle.nvram_log.specs.Records.{FromSlot, StandsIn}
 use Rattle.nvram_log.proofs.bodies.write_bodies_on.Given as goal

@@ -1,7 +1,6 @@
 use Rattle.std.proofs.Common.{◌≡◌, ◌+◌, ◌*◌, ◌≤◌, ℕ, List, length, slice_range, refl, arith}
 use Rattle.std.proofs.lemmas.List.Edits.{length-between}
-use Rattle.pur_base.specs.Devices.{nvram}
-use Rattle.world.specs.lemmas.Ran.{ran_write}
+use Rattle.world.specs.Prelude.{nvram, ran_write}
 use Rattle.nvram_log.proofs.bodies.write_body.Goals as goal
 
 pub returns-clause-ran : goal.returns-clause-ran

@@ -1,7 +1,6 @@
 use Rattle.std.proofs.Common.{◌≡◌, ℕ, List, take, replicate, subst, arith}
 use Rattle.std.proofs.lemmas.List.{take-replicate}
-use Rattle.pur_base.specs.Devices.{nvram}
-use Rattle.world.specs.Shelf.{Written}
+use Rattle.world.specs.Prelude.{nvram, Written}
 use Rattle.nvram_log.specs.Members.{IsMember, Outcome}
 use Rattle.nvram_log.proofs.gates.write_gates.Goals as goal
 

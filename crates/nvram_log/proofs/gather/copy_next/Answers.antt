@@ -1,6 +1,6 @@
 use Rattle.std.proofs.Common.{◌+◌, List, ℕ, inr, sym, subst}
-use Rattle.pur_base.specs.Commands.{Command}
-use Rattle.log_codec.specs.Log.{Spells}
+use Rattle.world.specs.Prelude.{Command}
+use Rattle.log_codec.specs.Prelude.{Spells}
 use Rattle.nvram_log.specs.Views.{FirstShows, SecondShows}
 use Rattle.nvram_log.proofs.gather.copy_next.Goals as goal
 use Rattle.nvram_log.proofs.gather.copy_next.Goals.{else-images-offset0-via-then-images-offset0+else-shows, else-images-offset0-via-else-images-offset0}

@@ -1,8 +1,6 @@
 use Rattle.std.proofs.Common.{◌≡◌, ℕ, ◌<◌, ◌≤◌, length, slice_index_or, false}
-use Rattle.world.specs.Shelf.{Written}
-use Rattle.world.specs.Ran.{Ran}
+use Rattle.world.specs.Prelude.{Written, Ran, nvram}
 use Rattle.nvram_log.specs.Members.{IsMember, IsOnMember, OnRange, Outcome}
-use Rattle.pur_base.specs.Devices.{nvram}
 use Rattle.nvram_log.proofs.members.write_members.Given as goal
 
 abbrev pub invariant-loop-device : goal.invariant-loop-device

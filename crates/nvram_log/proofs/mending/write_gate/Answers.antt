@@ -1,6 +1,5 @@
 use Rattle.std.proofs.Common.{◌≡◌, ◌∷◌, [], List, ℕ, length, slice_index, refl, arith}
-use Rattle.pur_base.specs.Devices.{nvram}
-use Rattle.world.specs.lemmas.Ran.{ran_write}
+use Rattle.world.specs.Prelude.{nvram, ran_write}
 use Rattle.nvram_log.proofs.Mended.{gate_is, where_written}
 use Rattle.nvram_log.proofs.mending.write_gate.Goals as goal
 

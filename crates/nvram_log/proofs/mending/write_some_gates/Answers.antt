@@ -1,6 +1,5 @@
 use Rattle.std.proofs.Common.{refl, ◌∙◌, sym, subst, arith}
-use Rattle.pur_base.specs.Devices.{nvram}
-use Rattle.world.specs.lemmas.Ran.{ran_then, ran_more, ran_sync}
+use Rattle.world.specs.Prelude.{nvram, ran_then, ran_more, ran_sync}
 use Rattle.nvram_log.specs.Members.{IsFlagged}
 use Rattle.nvram_log.specs.Settling.{GatesAre}
 use Rattle.nvram_log.proofs.OnEach.{always}

@@ -1,6 +1,5 @@
 use Rattle.std.proofs.Common.{◌≡◌, ℕ, ◌<◌, slice_index}
-use Rattle.pur_base.specs.Devices.{nvram}
-use Rattle.world.specs.Ran.{Only, Ran}
+use Rattle.world.specs.Prelude.{nvram, Only, Ran}
 use Rattle.nvram_log.specs.Members.{IsFlagged}
 use Rattle.nvram_log.specs.Settling.{OnGates}
 use Rattle.nvram_log.proofs.mending.write_some_gates.Given as goal

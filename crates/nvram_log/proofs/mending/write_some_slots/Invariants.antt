@@ -1,9 +1,7 @@
 use Rattle.std.proofs.Common.{◌≡◌, ℕ, ◌<◌, ◌*◌}
-use Rattle.pur_base.specs.Bytes.{bytes_at}
-use Rattle.log_codec.specs.Log.{slot_at}
+use Rattle.world.specs.Prelude.{bytes_at, nvram, Only, Ran}
+use Rattle.log_codec.specs.Prelude.{slot_at}
 use Rattle.log_codec.specs.declared.limits.TheConstants.{SLOT_BYTES}
-use Rattle.pur_base.specs.Devices.{nvram}
-use Rattle.world.specs.Ran.{Only, Ran}
 use Rattle.nvram_log.specs.Members.{IsFlagged}
 use Rattle.nvram_log.specs.Settling.{OnSlots}
 use Rattle.nvram_log.proofs.mending.write_some_slots.Given as goal

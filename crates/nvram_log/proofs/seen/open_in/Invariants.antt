@@ -1,5 +1,5 @@
 use Rattle.std.proofs.Common.{◌≡◌, ℕ, length, ◌<◌, slice_index_or, false}
-use Rattle.pur_base.specs.Gates.{is_open}
+use Rattle.world.specs.Prelude.{is_open}
 use Rattle.nvram_log.proofs.seen.open_in.Given as goal
 
 abbrev pub invariant-loop-i : goal.invariant-loop-i

@@ -1,6 +1,6 @@
 use Rattle.std.proofs.Common.{◌≡◌, ℕ, length, ◌<◌, true, slice_index_or, false}
-use Rattle.pur_base.specs.Commands.{Command}
-use Rattle.log_codec.specs.Log.{ShowsIn}
+use Rattle.world.specs.Prelude.{Command}
+use Rattle.log_codec.specs.Prelude.{ShowsIn}
 use Rattle.nvram_log.proofs.seen.shown_in.Given as goal
 
 abbrev pub invariant-loop-i : goal.invariant-loop-i

@@ -1,8 +1,5 @@
 use Rattle.std.proofs.Common.{rules, ◌≡◌, ◌≢◌, ◌<◌, ℕ, List, length, arith, sym, ◌∙◌, subst, refl, below_more, get_or-set_other, get_or-set_same}
-use Rattle.pur_base.specs.Devices.{nvram}
-use Rattle.world.specs.Shelf.{Disk}
-use Rattle.world.specs.lemmas.Moments.{started, then_run, weaker}
-use Rattle.world.specs.lemmas.Ran.{ran_none, ran_then, ran_more}
+use Rattle.world.specs.Prelude.{nvram, Disk, started, then_run, weaker, ran_none, ran_then, ran_more}
 use Rattle.nvram_log.specs.declared.seen.SeenSlots.{SeenSlots}
 use Rattle.nvram_log.specs.Members.{IsMember}
 use Rattle.nvram_log.specs.Settling.{IsToSettle, SettlesBy, SettleBy}

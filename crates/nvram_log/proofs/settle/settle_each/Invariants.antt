@@ -1,8 +1,5 @@
 use Rattle.std.proofs.Common.{◌≡◌, ℕ, ◌<◌, ◌≤◌, List, length, Some, slice_get, slice_index_or, false}
-use Rattle.pur_base.specs.Commands.{Command}
-use Rattle.pur_base.specs.Devices.{nvram}
-use Rattle.world.specs.Shelf.{LeavesOnly}
-use Rattle.world.specs.Ran.{Ran}
+use Rattle.world.specs.Prelude.{Command, nvram, LeavesOnly, Ran}
 use Rattle.nvram_log.specs.declared.seen.SeenSlots.{SeenSlots}
 use Rattle.nvram_log.specs.Members.{IsMember, IsOnMember, OnMembers, Outcome}
 use Rattle.nvram_log.specs.Slots.{IsLog}

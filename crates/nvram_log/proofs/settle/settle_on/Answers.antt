@@ -1,9 +1,5 @@
 use Rattle.std.proofs.Common.{rules, ◌≡◌, List, Bool, length, refl}
-use Rattle.pur_base.specs.Devices.{nvram}
-use Rattle.world.specs.lemmas.Moments.{continues_trans, then_run, weaker}
-use Rattle.world.specs.lemmas.Writes.{may_leave_but, unchanged}
-use Rattle.world.specs.lemmas.Ran.{ran_then, ran_more}
-use Rattle.world.specs.lemmas.Stopped.{none_dirty}
+use Rattle.world.specs.Prelude.{nvram, continues_trans, then_run, weaker, may_leave_but, unchanged, ran_then, ran_more, none_dirty}
 use Rattle.nvram_log.specs.Settling.{GatesAre, SlotsAre}
 use Rattle.nvram_log.proofs.Settled.{flags_of, where_ok, on_gates, on_slots, while_closing, while_copying, while_opening, settled}
 use Rattle.nvram_log.proofs.settle.settle_on.Goals as goal

@@ -1,7 +1,6 @@
 use Rattle.std.proofs.Common.{◌≡◌, ℕ, ◌*◌, ◌<◌, ◌++◌, [], length, take, drop, slice_index_or}
 use Rattle.std.specs.List.{concat}
-use Rattle.pur_base.specs.Bytes.{IsBytesOf}
-use Rattle.pur_base.specs.declared.limits.TheConstants.{SECTOR_BYTES}
+use Rattle.world.specs.Prelude.{IsBytesOf, SECTOR_BYTES}
 use Rattle.nvram_log.proofs.staging.put_sectors.Given as goal
 
 abbrev pub invariant-loop-i : goal.invariant-loop-i

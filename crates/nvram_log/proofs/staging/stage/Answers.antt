@@ -1,7 +1,7 @@
 use Rattle.std.proofs.Common.{◌≡◌, ◌*◌, ◌++◌, List, ℕ, length, drop, ◌∙◌, ap, sym, append_assoc, arith}
 use Rattle.std.specs.List.{concat}
 use Rattle.log_codec.specs.declared.head.Head.{Head}
-use Rattle.log_codec.specs.Head.{head_bytes}
+use Rattle.log_codec.specs.Prelude.{head_bytes}
 use Rattle.nvram_log.proofs.InSlots.{few_sectors}
 use Rattle.nvram_log.proofs.staging.stage.Goals as goal
 

@@ -2,8 +2,8 @@ use Rattle.std.proofs.Common.{◌≡◌, ◌<◌, ◌≤◌, ◌+◌, ◌-◌, �
 use Rattle.std.proofs.lemmas.List.Edits.{length-between}
 use Rattle.std.proofs.lemmas.Bool.{cases_lt}
 use Rattle.std.proofs.lemmas.Option.{slice_get_read, slice_get_within, get_or_from_slice_get}
-use Rattle.log_codec.specs.Log.{Spells}
-use Rattle.pur_base.specs.Bytes.{bytes_at}
+use Rattle.log_codec.specs.Prelude.{Spells}
+use Rattle.world.specs.Prelude.{bytes_at}
 use borrow.Rule.Slice.PartMut.{put_mid}
 use Rattle.nvram_log.specs.declared.record.Record.{Record}
 use Rattle.nvram_log.specs.Records.{command_of}

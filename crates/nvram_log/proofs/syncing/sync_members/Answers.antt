@@ -1,6 +1,5 @@
 use Rattle.std.proofs.Common.{◌≢◌, ◌<◌, length, arith, sym, ◌∙◌, below_more, get_or-set_other, get_or-set_same}
-use Rattle.world.specs.lemmas.Ran.{ran_then, ran_sync}
-use Rattle.pur_base.specs.Devices.{nvram}
+use Rattle.world.specs.Prelude.{ran_then, ran_sync, nvram}
 use Rattle.nvram_log.specs.Members.{IsMember}
 use Rattle.nvram_log.proofs.OnEach.{outcome_of, nvrams_apart, always}
 use Rattle.nvram_log.proofs.Synced.{one_clean, clean_now, same_bytes, all_clean}

@@ -1,7 +1,5 @@
 use Rattle.std.proofs.Common.{◌≡◌, ℕ, ◌<◌, ◌≤◌, [], slice_index_or, false}
-use Rattle.world.specs.Ran.{Ran}
-use Rattle.pur_base.specs.Devices.{nvram}
-use Rattle.pur_base.specs.declared.device.Device.{Device}
+use Rattle.world.specs.Prelude.{Ran, nvram, Device}
 use Rattle.nvram_log.specs.Members.{IsMember, IsOnMember, Outcome}
 use Rattle.nvram_log.specs.Read.{OnNothing}
 use Rattle.nvram_log.proofs.syncing.sync_members.Given as goal

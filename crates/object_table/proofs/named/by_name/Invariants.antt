@@ -1,6 +1,5 @@
 use Rattle.std.proofs.Common.{◌≡◌, ◌≤◌, ◌+◌, map, take}
-use Rattle.pur_base.specs.declared.limits.TheConstants.{OBJECTS}
-use Rattle.pur_base.specs.declared.facts.ObjectFact.{ObjectFact}
+use Rattle.pyramid.specs.Prelude.{OBJECTS, ObjectFact}
 use Rattle.indexmap.specs.IndexMap.{spare}
 use Rattle.object_table.proofs.named.by_name.Given as goal
 

@@ -2,8 +2,7 @@ use Rattle.std.proofs.Common.{◌≡◌, ◌+◌, ◌-◌, ◌<◌, List, [], �
 use Rattle.std.specs.Prelude.{IfSome, slice_get}
 use Rattle.std.proofs.lemmas.Grind.{common_steps}
 use Rattle.std.proofs.lemmas.List.{map_push}
-use Rattle.pur_base.specs.declared.facts.AnyFact.{AnyFact}
-use Rattle.fact_codec.specs.Fact.{Decodes}
+use Rattle.array_spec.specs.Prelude.{AnyFact, Decodes}
 use Rattle.patch_io.specs.Spelled.{Extends}
 use Rattle.patch_io.proofs.Spelling.{extends_none, extends_more, none_by_text, none_by_order, behind_last, not_behind_last}
 use Rattle.patch_io.proofs.decoding.read_facts.Goals as goal

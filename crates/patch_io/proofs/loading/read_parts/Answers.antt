@@ -3,12 +3,10 @@ use Rattle.std.specs.Prelude.{slice_get}
 use Rattle.std.proofs.lemmas.List.{length-map}
 use Rattle.std.proofs.lemmas.Option.{slice_get-get_or}
 use Rattle.std.proofs.lemmas.Result.{err_from_is_err_and}
-use Rattle.pur_base.specs.declared.device.Device.{Device}
-use Rattle.boot_codec.specs.declared.patch.PatchSegment.{PatchSegment}
-use Rattle.world.specs.lemmas.Moments.{continues_refl, continues_trans}
-use Rattle.world.specs.lemmas.Writes.{writes_then, nothing_written}
+use Rattle.array_spec.specs.Prelude.{Device, PatchSegment}
+use Rattle.world.specs.Prelude.{continues_refl, continues_trans, writes_then, nothing_written}
 use Rattle.segment_io.proofs.Gathers.{same_then}
-use Rattle.segment_io.specs.lemmas.Places.{still_places}
+use Rattle.segment_io.specs.Prelude.{still_places}
 use Rattle.patch_io.specs.Tables.{AreInOrder}
 use Rattle.patch_io.proofs.Parts.{Loads, loads_none, loads_more, size_more, patch_loaded, facts_loaded, part_places, reads_as, load_fault, others_more}
 use Rattle.patch_io.proofs.loading.read_parts.Goals as goal

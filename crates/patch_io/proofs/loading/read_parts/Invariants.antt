@@ -1,8 +1,7 @@
 use Rattle.std.proofs.Common.{◌≡◌, ◌*◌, min, length, map}
-use Rattle.pur_base.specs.declared.device.Device.{Device}
-use Rattle.world.specs.Shelf.{Continues, IsSame}
-use Rattle.world.specs.Writes.{WritesOnly}
-use Rattle.segment_io.specs.Lost.{NoByte}
+use Rattle.array_spec.specs.Prelude.{Device}
+use Rattle.world.specs.Prelude.{Continues, IsSame, WritesOnly}
+use Rattle.segment_io.specs.Prelude.{NoByte}
 use Rattle.patch_io.specs.Faults.{OthersStayOfPatch}
 use Rattle.patch_io.proofs.Parts.{Loads}
 use Rattle.patch_io.proofs.loading.read_parts.Given as goal

@@ -1,7 +1,6 @@
 use Rattle.std.proofs.Common.{ap}
 use Rattle.std.specs.Prelude.{None, option_and_then, if◌then◌else◌}
-use Rattle.pur_base.specs.Keys.{id_of}
-use Rattle.pur_base.specs.Says.{has_key, unless_empty}
+use Rattle.pur_base.specs.Prelude.{id_of, has_key, unless_empty}
 use Rattle.pyramid.specs.lemmas.Sets.{same_newest}
 use Rattle.pyramid.proofs.laws.laws_of_facts.Goals as goal
 

@@ -1,7 +1,7 @@
 use Rattle.std.proofs.Common.{◌≡◌, ◌+◌, ◌++◌, ◌∷◌, [], ap, refl, sym, ◌∙◌, take, get_or}
 use Rattle.std.proofs.lemmas.List.{take_more}
 use Rattle.std.proofs.lemmas.List.Elements.{All-append}
-use Rattle.pur_base.specs.Says.{Ascends}
+use Rattle.pur_base.specs.Prelude.{Ascends}
 use Rattle.pyramid.specs.Layers.{facts_of}
 use Rattle.pyramid.proofs.LoadLemmas.{all_one, rises_from, rises_more}
 use Rattle.pyramid.proofs.SpanLemmas.{facts_more}

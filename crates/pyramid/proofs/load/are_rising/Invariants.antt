@@ -1,5 +1,5 @@
 use Rattle.std.proofs.Common.{[], take, All}
-use Rattle.pur_base.specs.Says.{Ascends}
+use Rattle.pur_base.specs.Prelude.{Ascends}
 use Rattle.pyramid.specs.Layers.{facts_of, Rises}
 use Rattle.pyramid.specs.Loading.{IsPast}
 use Rattle.pyramid.proofs.load.are_rising.Given as goal

@@ -1,7 +1,7 @@
 use Rattle.std.proofs.Common.{length, ◌-◌, ◌+◌, ◌≡◌, ◌++◌, filter, drop, ◌≤◌}
 use Rattle.pyramid.specs.Layers.{stays}
 use Rattle.pyramid.specs.Merging.{merged}
-use Rattle.pur_base.specs.Visible.{is_within}
+use Rattle.pur_base.specs.Prelude.{is_within}
 use Rattle.pyramid.proofs.merge.merge_facts.Given as goal
 
 abbrev pub invariant-loop-i : goal.invariant-loop-i

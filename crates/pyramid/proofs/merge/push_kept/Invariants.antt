@@ -1,6 +1,6 @@
 use Rattle.std.proofs.Common.{◌≡◌, ◌++◌, filter, take}
 use Rattle.pyramid.specs.Layers.{stays}
-use Rattle.pur_base.specs.Visible.{is_within}
+use Rattle.pur_base.specs.Prelude.{is_within}
 use Rattle.pyramid.proofs.merge.push_kept.Given as goal
 
 abbrev pub invariant-loop-fact : goal.invariant-loop-fact

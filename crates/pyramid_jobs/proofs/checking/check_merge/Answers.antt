@@ -1,6 +1,5 @@
 use Rattle.std.proofs.Common.{◌≡◌, ◌∙◌, ◌+◌, ◌<◌, true, sym, ap, arith}
-use Rattle.boot_codec.specs.declared.record.BootRecord.{BootRecord}
-use Rattle.memory_spec.specs.Merging.{has_pair, pair_segments}
+use Rattle.session_spec.specs.Prelude.{BootRecord, has_pair, pair_segments}
 use Rattle.pyramid_jobs.proofs.Planning.{few_in_pair}
 use Rattle.pyramid_jobs.proofs.checking.check_merge.Goals as goal
 

@@ -1,11 +1,9 @@
 use Rattle.std.proofs.Common.{rules, refl, sym, subst}
-use Rattle.pur_base.specs.Devices.{Geometry}
-use Rattle.world.specs.Losing.{geometry_of}
-use Rattle.register.specs.Standing.{array_of}
+use Rattle.session_spec.specs.Prelude.{Geometry, geometry_of, facts}
+use Rattle.register.specs.Prelude.{array_of}
 use Rattle.register.proofs.Rounds.{same_shelf}
-use Rattle.memory_spec.specs.Tables.{facts}
 use Rattle.array_core.specs.declared.array.Array.{Array}
-use Rattle.array_core.specs.Ready.{IsArrayOf}
+use Rattle.array_core.specs.Prelude.{IsArrayOf}
 use Rattle.array_core.proofs.Changes.{faults_on}
 use Rattle.array_checkpoint.proofs.PreparedLemmas.{are_low}
 use Rattle.pyramid_jobs.specs.Prepared.{held_after}

@@ -1,8 +1,8 @@
 use Rattle.std.proofs.Common.{List, map, OnOk, sym, subst, ap, ◌∙◌}
-use Rattle.pur_base.specs.declared.facts.AnyFact.{AnyFact}
+use Rattle.session_spec.specs.Prelude.{AnyFact}
 use Rattle.pur_base.specs.declared.facts.AnyFact.TheVariants as any
-use Rattle.table_plan.specs.Merging.{merged_facts}
-use Rattle.segment_writer.specs.PatchStoring.{MayBeStored}
+use Rattle.table_plan.specs.Prelude.{merged_facts}
+use Rattle.segment_writer.specs.Prelude.{MayBeStored}
 use Rattle.pyramid_jobs.specs.Written.{FactsStand}
 use Rattle.pyramid_jobs.proofs.merged_io.write_facts.Goals as goal
 

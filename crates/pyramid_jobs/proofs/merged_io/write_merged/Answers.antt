@@ -2,9 +2,8 @@ use Rattle.std.proofs.Common.{◌≡◌, length, refl, sym, subst, ◌∙◌, ar
 use Rattle.std.specs.Prelude.{Some, slice_get}
 use Rattle.std.proofs.lemmas.Option.{same_Some, slice_get_read}
 use Rattle.std.proofs.lemmas.Result.{on_ok_weaker}
-use Rattle.boot_codec.specs.declared.patch.Patch.{Patch}
-use Rattle.world.specs.lemmas.Ran.{ran_more}
-use Rattle.table_plan.specs.Merging.{merged_facts}
+use Rattle.session_spec.specs.Prelude.{Patch, ran_more}
+use Rattle.table_plan.specs.Prelude.{merged_facts}
 use Rattle.pyramid_jobs.specs.Written.{FactsStand}
 use Rattle.pyramid_jobs.proofs.merged_io.write_merged.Goals as goal
 

@@ -1,10 +1,7 @@
 use Rattle.std.proofs.Common.{◌≡◌, [], sym, subst}
 use Rattle.std.proofs.lemmas.Result.{err_from_is_err_and}
-use Rattle.pur_base.specs.Devices.{Geometry}
-use Rattle.world.specs.lemmas.Moments.{continues_trans, then_run}
-use Rattle.world.specs.lemmas.Ran.{runs_moments}
-use Rattle.array_core.specs.Ready.{IsArrayOf}
-use Rattle.array_core.specs.Going.{Calls}
+use Rattle.session_spec.specs.Prelude.{Geometry, continues_trans, then_run, runs_moments}
+use Rattle.array_core.specs.Prelude.{IsArrayOf, Calls}
 use Rattle.array_core.proofs.Steps.{hands, lost_halts, same_meanwhile}
 use Rattle.array_core.proofs.Stages.{err_is}
 use Rattle.array_checkpoint.proofs.Joined.{counted_now, counted_since, err_on}

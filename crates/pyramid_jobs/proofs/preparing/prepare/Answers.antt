@@ -1,14 +1,8 @@
 use Rattle.std.proofs.Common.{◌≡◌, ◌∙◌, ℕ, ◌+◌, ◌≤◌, List, length, sym, ap, subst, arith}
-use Rattle.pur_base.specs.Facts.{Facts}
-use Rattle.pur_base.specs.Tags.{tag_of}
-use Rattle.pur_base.specs.Visible.{segments}
-use Rattle.pur_base.specs.declared.place.Place.{Place}
-use Rattle.boot_codec.specs.declared.record.BootRecord.{BootRecord}
+use Rattle.session_spec.specs.Prelude.{Facts, tag_of, segments, Place, BootRecord, facts, AreJoined, pair_segments, place_in}
 use Rattle.free_space.specs.Map.{IsMapOf}
-use Rattle.memory_spec.specs.Tables.{facts}
-use Rattle.memory_spec.specs.Merging.{AreJoined, pair_segments, place_in}
-use Rattle.table_plan.specs.Merging.{merged_facts}
-use Rattle.record_tables.specs.Patches.{new_patch, segments_for}
+use Rattle.table_plan.specs.Prelude.{merged_facts}
+use Rattle.record_tables.specs.Prelude.{new_patch, segments_for}
 use Rattle.array_checkpoint.proofs.PreparedLemmas.{map_of_facts}
 use Rattle.pyramid_jobs.proofs.Planning.{enough_groups, few_in_pair, few_needed, first_low, place_there, two_there}
 use Rattle.pyramid_jobs.proofs.preparing.prepare.Goals as goal

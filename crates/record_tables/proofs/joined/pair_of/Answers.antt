@@ -1,6 +1,5 @@
 use Rattle.std.proofs.Common.{◌≡◌, ◌+◌, ◌≤◌, length, take, ap, ◌∙◌, arith, inl, inr}
-use Rattle.boot_codec.specs.declared.limits.TheConstants.{PATCH_SEGMENTS}
-use Rattle.boot_codec.specs.Record.{patch_segments}
+use Rattle.memory_spec.specs.Prelude.{PATCH_SEGMENTS, patch_segments}
 use Rattle.record_tables.proofs.Counting.{counted_next, one_lower, one_higher, one_of_pair, one_other, room_for_next}
 use Rattle.record_tables.proofs.joined.pair_of.Goals as goal
 use Rattle.record_tables.proofs.joined.pair_of.Goals.{then-patch-tag, else-patch-tag+then-patch-tag-2, then-own-index, else-own-index+else-own-next, else-patch-tag+else-patch-tag-2}

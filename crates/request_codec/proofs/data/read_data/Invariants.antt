@@ -1,6 +1,5 @@
 use Rattle.std.proofs.Common.{◌≡◌, ◌+◌, ◌*◌, ◌≤◌, ◌++◌, length, drop, vec_capacity}
-use Rattle.pur_base.specs.declared.limits.TheConstants.{SECTOR_BYTES}
-use Rattle.pur_base.specs.Grammar.{sectors_in}
+use Rattle.world.specs.Prelude.{SECTOR_BYTES, sectors_in}
 use Rattle.request_codec.specs.Ahead.{Tells, budget}
 use Rattle.request_codec.specs.Calls.{well}
 use Rattle.request_codec.specs.Asking.{Asks}

@@ -1,5 +1,5 @@
 use Rattle.std.proofs.Common.{◌≡◌, ◌+◌, ◌-◌, ◌≤◌, ◌++◌, length}
-use Rattle.pur_base.specs.declared.limits.TheConstants.{SECTOR_BYTES}
+use Rattle.world.specs.Prelude.{SECTOR_BYTES}
 use Rattle.request_codec.specs.Ahead.{Tells, budget}
 use Rattle.request_codec.specs.Calls.{well}
 use Rattle.request_codec.specs.Asking.{Asks}

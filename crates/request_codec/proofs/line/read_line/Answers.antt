@@ -1,9 +1,7 @@
 use Rattle.std.proofs.Common.{◌≡◌, ℕ, ◌-◌, ◌++◌, List, take, ap, subst, ◌∙◌, ◌<◌, length, true, false, sym}
 use Rattle.std.specs.List.{position_or_len}
-use Rattle.pur_base.specs.Grammar.{is_line_end}
+use Rattle.world.specs.Prelude.{is_line_end, INPUT_BYTES, open-append, whole-line, more-of-line, spent}
 use Rattle.request_codec.proofs.FailedLemmas.{has-end}
-use Rattle.pur_base.specs.declared.limits.TheConstants.{INPUT_BYTES}
-use Rattle.pur_base.specs.lemmas.Lines.{open-append, whole-line, more-of-line, spent}
 use Rattle.request_codec.specs.Lines.{Holds}
 use Rattle.request_codec.proofs.Asking.{asks-then, asks-consumed}
 use Rattle.request_codec.proofs.CallLemmas.{tells-same}

@@ -1,5 +1,5 @@
 use Rattle.std.proofs.Common.{◌≡◌, ◌+◌, ◌≤◌, ◌++◌, ℕ, List, length}
-use Rattle.pur_base.specs.lemmas.Lines.{IsOpen}
+use Rattle.world.specs.Prelude.{IsOpen}
 use Rattle.request_codec.specs.Ahead.{Tells, budget}
 use Rattle.request_codec.specs.Calls.{well}
 use Rattle.request_codec.specs.Asking.{Asks}

@@ -1,5 +1,5 @@
 use Rattle.std.proofs.Common.{◌≡◌, ◌^◌, ◌<◌, take}
-use Rattle.pur_base.specs.Grammar.{digits_number}
+use Rattle.world.specs.Prelude.{digits_number}
 use Rattle.request_codec.proofs.parse.number_from.Given as goal
 
 abbrev pub invariant-loop-digit : goal.invariant-loop-digit

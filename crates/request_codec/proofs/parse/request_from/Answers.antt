@@ -1,7 +1,6 @@
 use Rattle.std.proofs.Common.{◌≡◌, Option, Some, None, subst, sym}
 use Rattle.std.specs.Prelude.{IfSome}
-use Rattle.pur_base.specs.declared.request.Request.{Request}
-use Rattle.pur_base.specs.Grammar.{words, request_of}
+use Rattle.world.specs.Prelude.{Request, words, request_of}
 use Rattle.request_codec.specs.Spelled.{IsSpelledRequest}
 use Rattle.request_codec.proofs.SpelledLemmas.{request-spelled}
 use Rattle.request_codec.proofs.parse.request_from.Goals as goal

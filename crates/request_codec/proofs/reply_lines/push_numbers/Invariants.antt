@@ -1,6 +1,6 @@
 use Rattle.std.proofs.Common.{◌≡◌, ◌≤◌, ◌+◌, ◌*◌, ◌++◌, length, take}
 use Rattle.std.specs.Prelude.{codes}
-use Rattle.pur_base.specs.Replies.{numbers_text}
+use Rattle.world.specs.Prelude.{numbers_text}
 use Rattle.request_codec.proofs.reply_lines.push_numbers.Given as goal
 
 abbrev pub invariant-loop-number : goal.invariant-loop-number

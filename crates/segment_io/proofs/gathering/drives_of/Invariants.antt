@@ -1,5 +1,5 @@
 use Rattle.std.proofs.Common.{◌≡◌, ℕ, ◌<◌, true, length}
-use Rattle.pur_base.specs.declared.limits.TheConstants.{SLOTS_MAX}
+use Rattle.world.specs.Prelude.{SLOTS_MAX}
 use Rattle.segment_io.specs.Lost.{is_in}
 use Rattle.segment_io.specs.Places.{place_of}
 use Rattle.segment_io.specs.Reads.{is_unknown}

@@ -1,5 +1,5 @@
 use Rattle.std.proofs.Common.{◌≡◌, length}
-use Rattle.pur_base.specs.declared.limits.TheConstants.{SEGMENT_SHARDS}
+use Rattle.world.specs.Prelude.{SEGMENT_SHARDS}
 use Rattle.segment_io.proofs.Gathers.{Gathers}
 use Rattle.segment_io.proofs.gathering.gather.Given as goal
 

@@ -1,12 +1,8 @@
 use Rattle.std.proofs.Common.{rules, take, drop, ◌≡◌, ◌<◌, ◌+◌, ◌*◌, ◌-◌, true, sym, ◌∙◌, ap, arith}
-use Rattle.pur_base.specs.declared.device.Device.{Device}
-use Rattle.world.specs.Ran.{Only}
-use Rattle.world.specs.lemmas.Moments.{continues_refl}
-use Rattle.world.specs.lemmas.Ran.{ran_then, ran_more}
+use Rattle.world.specs.Prelude.{Device, Only, continues_refl, ran_then, ran_more, bytes_at}
 use Rattle.segment_io.specs.Places.{drive_of, IsOnPlace}
 use Rattle.std.specs.Prelude.{slice_set}
 use Rattle.std.proofs.lemmas.Result.{err_from_is_err_and}
-use Rattle.pur_base.specs.Bytes.{bytes_at}
 use Rattle.parity72.specs.Parity.{shard_of}
 use Rattle.segment_io.specs.Reads.{is_missing_in, Tried}
 use Rattle.segment_io.proofs.Tried.{tried_none, tried_one, lost_in_all, is_on}

@@ -1,8 +1,7 @@
 use Rattle.std.proofs.Common.{refl, ◌+◌, true, ◌∙◌, ap, arith}
 use Rattle.std.specs.Prelude.{slice_set}
 use Rattle.std.proofs.lemmas.Result.{err_from_is_err_and}
-use Rattle.pur_base.specs.Bytes.{bytes_at}
-use Rattle.world.specs.lemmas.Ran.{ran_then, ran_sync}
+use Rattle.world.specs.Prelude.{bytes_at, ran_then, ran_sync}
 use Rattle.segment_io.specs.Places.{place_of, drive_of, write_unit_at}
 use Rattle.segment_io.specs.Reads.{is_unknown}
 use Rattle.segment_io.specs.Rebuilds.{is_wanted}

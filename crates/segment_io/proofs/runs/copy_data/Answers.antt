@@ -1,5 +1,5 @@
 use Rattle.std.proofs.Common.{rules, ◌≡◌, ◌+◌, ◌-◌, ◌/◌, ◌%◌, take, drop, sym, ◌∙◌, ap, arith}
-use Rattle.pur_base.specs.Bytes.{bytes_at}
+use Rattle.world.specs.Prelude.{bytes_at}
 use Rattle.parity72.specs.Parity.{shard_of}
 use Rattle.segment_io.proofs.Pieces.{one_piece}
 use Rattle.segment_io.proofs.runs.copy_data.Goals as goal

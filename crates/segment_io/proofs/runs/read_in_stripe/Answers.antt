@@ -1,6 +1,6 @@
 use Rattle.std.proofs.Common.{◌+◌, arith, ◌∙◌, ap}
 use Rattle.std.proofs.lemmas.Result.{err_from_is_err_and}
-use Rattle.world.specs.lemmas.Ran.{ran_then}
+use Rattle.world.specs.Prelude.{ran_then}
 use Rattle.segment_io.specs.Reads.{is_unknown}
 use Rattle.segment_io.specs.Runs.{data_byte}
 use Rattle.segment_io.proofs.Tried.{tried_then, lost_in_all}

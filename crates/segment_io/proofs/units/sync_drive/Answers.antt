@@ -1,6 +1,5 @@
 use Rattle.std.proofs.Common.{refl, arith}
-use Rattle.pur_base.specs.Devices.{drive}
-use Rattle.world.specs.lemmas.Ran.{ran_sync}
+use Rattle.world.specs.Prelude.{drive, ran_sync}
 use Rattle.segment_io.specs.lemmas.Losing.{loses_one}
 use Rattle.segment_io.proofs.units.sync_drive.Goals as goal
 

@@ -1,6 +1,5 @@
 use Rattle.std.proofs.Common.{false, length, arith, refl, sym, ◌∙◌, get_or-set_same}
-use Rattle.pur_base.specs.Devices.{drive}
-use Rattle.world.specs.lemmas.Ran.{ran_write}
+use Rattle.world.specs.Prelude.{drive, ran_write}
 use Rattle.segment_io.specs.Places.{write_unit_at}
 use Rattle.segment_io.specs.lemmas.Losing.{loses_one}
 use Rattle.segment_io.proofs.Writing.{was_written}

@@ -1,10 +1,7 @@
 use Rattle.std.proofs.Common.{◌≡◌, ◌+◌, ℕ, true, length, take, sym, subst, ◌∙◌, ap, arith}
 use Rattle.std.proofs.lemmas.List.{length-take-le}
-use Rattle.pur_base.specs.declared.read_back.Lost.{Lost}
-use Rattle.segment_codec.specs.declared.header.Header.{Header}
-use Rattle.segment_io.specs.Lost.{is_in, LosesOnly}
-use Rattle.segment_io.specs.Places.{ArePlaces}
-use Rattle.segment_io.specs.Stripes.{bytes_of}
+use Rattle.array_spec.specs.Prelude.{Lost, Header}
+use Rattle.segment_io.specs.Prelude.{is_in, LosesOnly, ArePlaces, bytes_of}
 use Rattle.segment_writer.specs.Layout.{units_of, HoldsSegment}
 use Rattle.segment_writer.proofs.Apart.{loses_as, same_lost}
 use Rattle.segment_writer.proofs.Appends.{fresh_ran, run_holds}

@@ -1,9 +1,7 @@
 use Rattle.std.proofs.Common.{inl, ℕ, List, subst}
-use Rattle.pur_base.specs.declared.facts.SegmentFact.{SegmentFact}
-use Rattle.world.specs.Ran.{Ran}
-use Rattle.world.specs.Shelf.{LeavesOnly}
-use Rattle.world.specs.lemmas.Moments.{then_run, weaker}
-use Rattle.segment_io.specs.lemmas.Losing.{loses_then}
+use Rattle.array_spec.specs.Prelude.{SegmentFact}
+use Rattle.world.specs.Prelude.{Ran, LeavesOnly, then_run, weaker}
+use Rattle.segment_io.specs.Prelude.{loses_then}
 use Rattle.segment_writer.specs.DataStoring.{IsOnData, OnData, HasWrittenData, DataComesInTurn}
 use Rattle.segment_writer.proofs.DataLayout.{have_stripes}
 use Rattle.segment_writer.proofs.CheckpointStored.{stand_for}

@@ -1,9 +1,8 @@
 use Rattle.std.proofs.Common.{◌≡◌, ℕ, arith}
 use Rattle.std.specs.Prelude.{Some, slice_get}
-use Rattle.boot_codec.specs.declared.patch.Patch.{Patch}
-use Rattle.world.specs.lemmas.Moments.{continues_trans, weaker}
-use Rattle.world.specs.lemmas.Ran.{ran_then}
-use Rattle.segment_io.specs.lemmas.Losing.{loses_then}
+use Rattle.array_spec.specs.Prelude.{Patch}
+use Rattle.world.specs.Prelude.{continues_trans, weaker, ran_then}
+use Rattle.segment_io.specs.Prelude.{loses_then}
 use Rattle.patch_io.proofs.Parts.{places_of}
 use Rattle.segment_writer.specs.PatchStoring.{layout_of_patch}
 use Rattle.segment_writer.specs.CheckpointPlanned.{facts_of_tag}

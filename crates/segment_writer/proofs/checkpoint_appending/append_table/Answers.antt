@@ -1,7 +1,7 @@
 use Rattle.std.proofs.Common.{◌≡◌, List, map, sym, subst, ap, ◌∙◌, arith}
-use Rattle.pur_base.specs.declared.facts.AnyFact.{AnyFact}
+use Rattle.array_spec.specs.Prelude.{AnyFact}
 use Rattle.pur_base.specs.declared.facts.AnyFact.TheVariants as any
-use Rattle.segment_io.specs.Stripes.{bytes_of}
+use Rattle.segment_io.specs.Prelude.{bytes_of}
 use Rattle.segment_writer.specs.PatchStoring.{MayBeStored, HoldsPatch}
 use Rattle.segment_writer.specs.CheckpointPlanned.{facts_of_tag}
 use Rattle.segment_writer.proofs.CheckpointTags.{of_objects, of_mediums, of_addresses, of_segments, of_elisions}

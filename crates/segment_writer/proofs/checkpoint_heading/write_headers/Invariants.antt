@@ -1,5 +1,5 @@
-use Rattle.world.specs.Ran.{Ran}
-use Rattle.segment_io.specs.Lost.{LosesOnly}
+use Rattle.world.specs.Prelude.{Ran}
+use Rattle.segment_io.specs.Prelude.{LosesOnly}
 use Rattle.segment_writer.specs.CheckpointStoring.{IsOnPatches, OnPatches}
 use Rattle.segment_writer.proofs.CheckpointHeaders.{HeadersUpto, AreKept, AreOpenFrom}
 use Rattle.segment_writer.proofs.checkpoint_heading.write_headers.Given as goal

@@ -1,6 +1,5 @@
 use Rattle.std.proofs.Common.{◌≡◌, ℕ, ◌<◌, true}
-use Rattle.segment_io.specs.Lost.{is_in}
-use Rattle.segment_io.specs.Places.{place_of}
+use Rattle.segment_io.specs.Prelude.{is_in, place_of}
 use Rattle.segment_writer.specs.Layout.{units_of}
 use Rattle.segment_writer.proofs.drives.drives_of.Given as goal
 

@@ -1,7 +1,6 @@
 use Rattle.std.proofs.Common.{◌<◌, inl, inr, true, length, ◌∙◌, arith, below_more}
 use Rattle.std.proofs.lemmas.List.{length-set}
-use Rattle.segment_io.specs.Places.{place_of}
-use Rattle.segment_io.specs.lemmas.Sets.{set_here, still_in, was_in}
+use Rattle.segment_io.specs.Prelude.{place_of, set_here, still_in, was_in}
 use Rattle.segment_writer.proofs.drives.mark_segment.Goals as goal
 
 pub loop-shard-preserved : goal.loop-shard-preserved

@@ -1,7 +1,6 @@
 use Rattle.std.proofs.Common.{◌≡◌, ◌⊎◌, ℕ, ◌<◌, true, length}
-use Rattle.pur_base.specs.declared.limits.TheConstants.{SLOTS_MAX}
-use Rattle.segment_io.specs.Lost.{is_in}
-use Rattle.segment_io.specs.Places.{place_of}
+use Rattle.array_spec.specs.Prelude.{SLOTS_MAX}
+use Rattle.segment_io.specs.Prelude.{is_in, place_of}
 use Rattle.segment_writer.proofs.drives.mark_segment.Given as goal
 
 abbrev pub invariant-loop-shard : goal.invariant-loop-shard

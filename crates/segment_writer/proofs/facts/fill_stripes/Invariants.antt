@@ -1,5 +1,5 @@
 use Rattle.std.proofs.Common.{ℕ, ◌<◌, map}
-use Rattle.segment_io.specs.Stripes.{stripe_in}
+use Rattle.segment_io.specs.Prelude.{stripe_in}
 use Rattle.segment_writer.specs.PatchFilling.{HoldsFacts}
 use Rattle.segment_writer.proofs.facts.fill_stripes.Given as goal
 

@@ -1,13 +1,8 @@
 use Rattle.std.proofs.Common.{◌≡◌, ◌<◌, ◌+◌, ◌∷◌, ◌++◌, [], ℕ, List, length, sym, subst, ap, ◌∙◌, arith}
 use Rattle.std.proofs.lemmas.List.{length_push}
-use Rattle.segment_codec.specs.declared.header.Header.{Header}
-use Rattle.world.specs.Ran.{Ran}
-use Rattle.world.specs.lemmas.Ran.{ran_none, ran_then}
-use Rattle.segment_io.specs.Headers.{MayBeWritten}
-use Rattle.segment_io.specs.Places.{ArePlaces, IsOnPlace, OnUnits}
-use Rattle.segment_io.specs.Stripes.{bytes_of, HoldsStripe}
-use Rattle.segment_io.specs.lemmas.Losing.{loses_none, loses_then}
-use Rattle.segment_io.specs.lemmas.Places.{still_places}
+use Rattle.array_spec.specs.Prelude.{Header}
+use Rattle.world.specs.Prelude.{Ran, ran_none, ran_then}
+use Rattle.segment_io.specs.Prelude.{MayBeWritten, ArePlaces, IsOnPlace, OnUnits, bytes_of, HoldsStripe, loses_none, loses_then, still_places}
 use Rattle.segment_writer.specs.Layout.{units_of, HoldsHeader, IsOpenOf}
 use Rattle.segment_writer.proofs.Appends.{on_some}
 use Rattle.segment_writer.proofs.Headers.{open_last, open_front, headers_more, stripes_stay}

@@ -1,8 +1,7 @@
 use Rattle.std.proofs.Common.{◌≤◌, ◌<◌, ℕ, length}
 use Rattle.std.specs.Vec.{vec_len}
-use Rattle.world.specs.Ran.{Ran}
-use Rattle.segment_io.specs.Lost.{LosesOnly}
-use Rattle.segment_io.specs.Stripes.{bytes_of}
+use Rattle.world.specs.Prelude.{Ran}
+use Rattle.segment_io.specs.Prelude.{LosesOnly, bytes_of}
 use Rattle.segment_writer.specs.Layout.{units_of, IsOnSome, OnSome, AreOpenOf, HoldsHeader, StripesStay}
 use Rattle.segment_writer.proofs.heading.write_all_headers.Given as goal
 

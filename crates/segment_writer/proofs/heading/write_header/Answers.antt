@@ -1,9 +1,7 @@
 use Rattle.std.proofs.Common.{List, sym, subst, ◌∙◌}
-use Rattle.pur_base.specs.declared.place.Place.{Place}
-use Rattle.world.specs.Ran.{Ran}
-use Rattle.segment_io.specs.Headers.{header_unit}
-use Rattle.segment_io.specs.Places.{ArePlaces, OnUnits, IsOnPlace}
-use Rattle.segment_io.specs.Stripes.{bytes_of, UnitsHold, HoldsStripe}
+use Rattle.array_spec.specs.Prelude.{Place}
+use Rattle.world.specs.Prelude.{Ran}
+use Rattle.segment_io.specs.Prelude.{header_unit, ArePlaces, OnUnits, IsOnPlace, bytes_of, UnitsHold, HoldsStripe}
 use Rattle.segment_writer.proofs.Apart.{loses_as, joined_lost, stripe_as}
 use Rattle.segment_writer.proofs.heading.write_header.Goals as goal
 

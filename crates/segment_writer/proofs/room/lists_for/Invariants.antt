@@ -2,7 +2,7 @@ use Rattle.std.proofs.Common.{◌≡◌, ◌≤◌, ℕ, [], length}
 use Rattle.std.specs.Prelude.{Some, slice_get, Vec}
 use Rattle.std.specs.Vec.{vec_capacity}
 use Rattle.std.specs.declared.alloc.Global.{Global}
-use Rattle.boot_codec.specs.declared.patch.Patch.{Patch}
+use Rattle.array_spec.specs.Prelude.{Patch}
 use Rattle.segment_io.specs.declared.open.Open.{Open}
 use Rattle.segment_writer.proofs.room.lists_for.Given as goal
 

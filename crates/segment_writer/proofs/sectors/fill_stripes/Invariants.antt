@@ -1,5 +1,5 @@
 use Rattle.std.proofs.Common.{ℕ, ◌<◌}
-use Rattle.segment_io.specs.Stripes.{stripe_in}
+use Rattle.segment_io.specs.Prelude.{stripe_in}
 use Rattle.segment_writer.specs.DataFilling.{HoldsSectors}
 use Rattle.segment_writer.proofs.sectors.fill_stripes.Given as goal
 

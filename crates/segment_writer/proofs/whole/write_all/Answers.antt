@@ -1,9 +1,6 @@
 use Rattle.std.proofs.Common.{arith}
-use Rattle.world.specs.lemmas.Moments.{continues_trans, weaker}
-use Rattle.world.specs.lemmas.Ran.{ran_none, ran_then}
-use Rattle.segment_io.specs.Places.{place_of}
-use Rattle.segment_io.specs.Stripes.{bytes_of}
-use Rattle.segment_io.specs.lemmas.Losing.{loses_none, loses_then}
+use Rattle.world.specs.Prelude.{continues_trans, weaker, ran_none, ran_then}
+use Rattle.segment_io.specs.Prelude.{place_of, bytes_of, loses_none, loses_then}
 use Rattle.segment_writer.specs.Layout.{units_of}
 use Rattle.segment_writer.proofs.Appends.{still_open}
 use Rattle.segment_writer.proofs.Headers.{headed_later, all_kept}

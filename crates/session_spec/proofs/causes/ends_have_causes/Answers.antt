@@ -1,5 +1,5 @@
-use Rattle.pur_base.specs.Grammar.{requests}
-use Rattle.world.specs.Losing.{geometry_of}
+use Rattle.memory_spec.specs.Prelude.{requests}
+use Rattle.world.specs.Prelude.{geometry_of}
 use Rattle.session_spec.proofs.Fared.{halts_have_causes}
 use Rattle.session_spec.proofs.causes.ends_have_causes.Goals as goal
 

@@ -1,9 +1,6 @@
 use Rattle.std.proofs.Common.{◌≢◌, length, arith, sym, ◌∙◌, below_more, subst}
-use Rattle.world.specs.lemmas.Ran.{ran_then, ran_more}
-use Rattle.world.specs.Shelf.{Disk, Written}
-use Rattle.pur_base.specs.lemmas.Devices.{drives_apart}
-use Rattle.pur_base.specs.Devices.{drive}
-use Rattle.boot_region.specs.Members.{IsMember}
+use Rattle.session_spec.specs.Prelude.{ran_then, ran_more, Disk, Written, drives_apart, drive}
+use Rattle.boot_region.specs.Prelude.{IsMember}
 use Rattle.boot_region.proofs.OnEach.{only_member, range_on_members}
 use Rattle.shelf_init.proofs.CallLemmas.{one_ok, one_clean, none_then}
 use Rattle.shelf_init.proofs.calls.write_chosen.Goals as goal

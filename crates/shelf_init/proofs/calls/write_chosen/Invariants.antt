@@ -1,9 +1,6 @@
 use Rattle.std.proofs.Common.{◌≡◌, ℕ, ◌<◌, ◌≤◌, length}
-use Rattle.world.specs.Shelf.{Written}
-use Rattle.world.specs.Ran.{Ran}
-use Rattle.pur_base.specs.Devices.{drive}
-use Rattle.boot_region.specs.Members.{IsMember, IsOneOf, OnMembers}
-use Rattle.session_spec.specs.Making.{AreClean, NoneFailed}
+use Rattle.session_spec.specs.Prelude.{Written, Ran, drive, AreClean, NoneFailed}
+use Rattle.boot_region.specs.Prelude.{IsMember, IsOneOf, OnMembers}
 use Rattle.shelf_init.proofs.calls.write_chosen.Given as goal
 
 abbrev pub invariant-loop-drive : goal.invariant-loop-drive

@@ -1,10 +1,6 @@
 use Rattle.std.proofs.Common.{◌≡◌, ℕ, ◌<◌, false}
-use Rattle.world.specs.Ran.{Ran}
-use Rattle.pur_base.specs.Devices.{nvram}
-use Rattle.pur_base.specs.Gates.{is_open}
-use Rattle.log_codec.specs.declared.limits.TheConstants.{LOG_SLOTS}
+use Rattle.session_spec.specs.Prelude.{Ran, nvram, is_open, LOG_SLOTS, AreClean, NoneFailed}
 use Rattle.shelf_init.specs.Blank.{IsNvram, OnLogGates}
-use Rattle.session_spec.specs.Making.{AreClean, NoneFailed}
 use Rattle.shelf_init.proofs.clearing.clear_nvram.Given as goal
 
 abbrev pub invariant-loop-device : goal.invariant-loop-device

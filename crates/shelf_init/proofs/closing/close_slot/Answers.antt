@@ -1,12 +1,7 @@
 use Rattle.std.proofs.Common.{◌≡◌, ℕ, List, length, refl, ap, ◌∙◌, arith}
 use Rattle.std.specs.Prelude.{◌%◌}
-use Rattle.pur_base.specs.declared.limits.TheConstants.{SECTOR_BYTES}
-use Rattle.boot_codec.specs.Region.{gate_place}
-use Rattle.world.specs.Writes.{WritesOnly}
-use Rattle.world.specs.lemmas.Ran.{ran_more}
-use Rattle.boot_region.specs.Members.{OnMembers}
-use Rattle.boot_region.specs.Slots.{slot_in}
-use Rattle.boot_region.specs.lemmas.Shown.{gate_low, gate_aligned}
+use Rattle.session_spec.specs.Prelude.{SECTOR_BYTES, gate_place, WritesOnly, ran_more}
+use Rattle.boot_region.specs.Prelude.{OnMembers, slot_in, gate_low, gate_aligned}
 use Rattle.shelf_init.proofs.CallLemmas.{on_there, one_drive, wrote_there}
 use Rattle.shelf_init.proofs.CloseLemmas.{chosen_open, if_shut}
 use Rattle.shelf_init.proofs.closing.close_slot.Goals as goal

@@ -1,9 +1,7 @@
 use Rattle.std.proofs.Common.{◌≡◌, ℕ, ◌+◌, ◌*◌, ◌<◌, ◌≤◌, length, slice_index_or, false}
-use Rattle.pur_base.specs.Gates.{is_open}
-use Rattle.boot_codec.specs.Region.{gate_place}
+use Rattle.session_spec.specs.Prelude.{is_open, gate_place, DRIVE_FLAGS}
 use Rattle.boot_region.specs.declared.regions.TheConstants.{REGION_BYTES}
-use Rattle.boot_region.specs.Slots.{slot_in}
-use Rattle.boot_codec.specs.declared.limits.TheConstants.{DRIVE_FLAGS}
+use Rattle.boot_region.specs.Prelude.{slot_in}
 use Rattle.shelf_init.proofs.closing.open_in.Given as goal
 
 abbrev pub invariant-loop-drive : goal.invariant-loop-drive

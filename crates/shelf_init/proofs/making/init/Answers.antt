@@ -1,7 +1,6 @@
 use Rattle.std.proofs.Common.{refl}
 use Rattle.std.proofs.lemmas.Result.{err_from_is_err_and}
-use Rattle.world.specs.lemmas.Ran.{ran_none}
-use Rattle.world.specs.lemmas.Writes.{nothing_written}
+use Rattle.session_spec.specs.Prelude.{ran_none, nothing_written}
 use Rattle.shelf_init.proofs.CallLemmas.{none_failed, spelled_for}
 use Rattle.shelf_init.proofs.InitLemmas.{at_start}
 use Rattle.shelf_init.proofs.making.init.Goals as goal

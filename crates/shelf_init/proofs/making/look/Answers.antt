@@ -1,5 +1,5 @@
 use Rattle.std.proofs.Common.{◌≡◌, length, ◌∙◌, sym}
-use Rattle.world.specs.Losing.{geometry_of}
+use Rattle.session_spec.specs.Prelude.{geometry_of}
 use Rattle.shelf_init.proofs.InitLemmas.{gates_are_read, gives, gives_none, all_of}
 use Rattle.shelf_init.proofs.making.look.Goals as goal
 

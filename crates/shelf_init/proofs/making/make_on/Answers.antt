@@ -1,6 +1,5 @@
 use Rattle.std.proofs.lemmas.Result.{err_from_is_err_and}
-use Rattle.world.specs.lemmas.Moments.{then_run}
-use Rattle.world.specs.lemmas.Ran.{ran_then, ran_more}
+use Rattle.session_spec.specs.Prelude.{then_run, ran_then, ran_more}
 use Rattle.shelf_init.proofs.CallLemmas.{failed_later, none_then, moments_of, spells_then}
 use Rattle.shelf_init.proofs.InitLemmas.{while_reading, still_blank, still_clean}
 use Rattle.shelf_init.proofs.making.make_on.Goals as goal

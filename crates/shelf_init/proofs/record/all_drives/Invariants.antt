@@ -1,5 +1,5 @@
 use Rattle.std.proofs.Common.{◌≡◌, ℕ, ◌<◌, ◌≤◌, length, slice_index_or, true, false}
-use Rattle.boot_codec.specs.declared.limits.TheConstants.{DRIVE_FLAGS}
+use Rattle.session_spec.specs.Prelude.{DRIVE_FLAGS}
 use Rattle.shelf_init.proofs.record.all_drives.Given as goal
 
 abbrev pub invariant-loop-slot : goal.invariant-loop-slot

@@ -1,6 +1,5 @@
 use Rattle.std.proofs.Common.{subst, sym}
-use Rattle.boot_codec.specs.Record.{IsBootRecord}
-use Rattle.boot_codec.specs.declared.record.BootRecord.{BootRecord}
+use Rattle.session_spec.specs.Prelude.{IsBootRecord, BootRecord}
 use Rattle.shelf_init.proofs.FirstLemmas.{first_is_lawful}
 use Rattle.shelf_init.proofs.record.first_body.Goals as goal
 

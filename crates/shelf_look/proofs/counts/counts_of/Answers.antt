@@ -1,5 +1,5 @@
 use Rattle.std.proofs.Common.{◌≡◌, ◌∙◌, List, length, ◌∷◌, [], ap, vec_len}
-use Rattle.pur_base.specs.declared.facts.SegmentFact.{SegmentFact}
+use Rattle.session_spec.specs.Prelude.{SegmentFact}
 use Rattle.shelf_look.proofs.counts.counts_of.Goals as goal
 
 pub returns : goal.returns

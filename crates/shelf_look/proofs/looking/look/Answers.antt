@@ -1,8 +1,5 @@
 use Rattle.std.proofs.Common.{◌∙◌, refl, sym, subst, Bool, List}
-use Rattle.world.specs.Losing.{geometry_of}
-use Rattle.world.specs.lemmas.Moments.{continues_trans}
-use Rattle.world.specs.lemmas.Ran.{ran_more, ran_then}
-use Rattle.pur_base.specs.Devices.{nvram}
+use Rattle.session_spec.specs.Prelude.{geometry_of, continues_trans, ran_more, ran_then, nvram}
 use Rattle.shelf_look.specs.Looking.{AreStates}
 use Rattle.boot_region.proofs.LoadingLemmas.{answer_of, lawful_load}
 use Rattle.shelf_look.proofs.Beside.{sides_since}

@@ -1,9 +1,6 @@
 use Rattle.std.proofs.Common.{◌∙◌, sym, ap, arith, refl, List, length}
 use Rattle.std.specs.List.{sum_by}
-use Rattle.pur_base.specs.declared.facts.SegmentFact.{SegmentFact}
-use Rattle.array_spec.specs.Stored.{all_facts}
-use Rattle.memory_spec.specs.Tables.{facts, patches}
-use Rattle.session_spec.specs.Faring.{set_flags}
+use Rattle.session_spec.specs.Prelude.{SegmentFact, all_facts, facts, patches, set_flags}
 use Rattle.shelf_look.proofs.Counting.{few_segments}
 use Rattle.shelf_look.proofs.Making.{data_segments, shown_by_patches}
 use Rattle.shelf_look.proofs.numbers.numbers_of.Goals as goal

@@ -1,5 +1,5 @@
 use Rattle.std.proofs.Common.{◌≡◌, ◌+◌, drop}
-use Rattle.boot_codec.specs.Record.{patch_segments}
+use Rattle.session_spec.specs.Prelude.{patch_segments}
 use Rattle.shelf_look.proofs.numbers.segments_of.Given as goal
 
 abbrev pub invariant-loop-index : goal.invariant-loop-index

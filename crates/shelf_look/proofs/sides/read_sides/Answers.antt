@@ -1,6 +1,5 @@
 use Rattle.std.proofs.Common.{Option, ◌∷◌, [], refl, subst, sym}
-use Rattle.world.specs.lemmas.Ran.{ran_more, ran_then}
-use Rattle.pur_base.specs.Devices.{nvram}
+use Rattle.session_spec.specs.Prelude.{ran_more, ran_then, nvram}
 use Rattle.segment_io.proofs.Gathers.{same_then}
 use Rattle.shelf_look.specs.declared.record.RecordSeen.{RecordSeen}
 use Rattle.shelf_look.specs.Sides.{AreSides}

@@ -1,6 +1,6 @@
 use Rattle.std.proofs.Common.{sym, arith}
 use Rattle.std.proofs.lemmas.Bool.{eqb-true, eqb-false, ltb-true}
-use Rattle.log_codec.specs.declared.head.Head.{Head}
+use Rattle.session_spec.specs.Prelude.{Head}
 use Rattle.shelf_look.proofs.Heads.{number_shown, shown_by_head, shown_if}
 use Rattle.nvram_log.proofs.Decoded.{shown_head}
 use Rattle.shelf_look.proofs.slots.is_of_log.Goals as goal

@@ -1,5 +1,5 @@
 use Rattle.std.proofs.Common.{◌∙◌, refl, sym, arith}
-use Rattle.pur_base.specs.Devices.{nvram}
+use Rattle.session_spec.specs.Prelude.{nvram}
 use Rattle.boot_region.proofs.GateCalls.{ran_read}
 use Rattle.shelf_look.proofs.Heads.{first_of, same_on}
 use Rattle.shelf_look.proofs.slots.read_first.Goals as goal

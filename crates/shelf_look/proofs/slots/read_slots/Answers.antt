@@ -1,7 +1,6 @@
 use Rattle.std.proofs.Common.{◌∙◌, List, ℕ, ap, refl, subst, sym}
 use Rattle.std.specs.Prelude.{IfOk, slice_range}
-use Rattle.pur_base.specs.Devices.{nvram}
-use Rattle.world.specs.lemmas.Ran.{ran_then}
+use Rattle.session_spec.specs.Prelude.{nvram, ran_then}
 use Rattle.boot_region.proofs.GateCalls.{ran_read}
 use Rattle.segment_io.proofs.Gathers.{same_then}
 use Rattle.shelf_look.specs.Slots.{AreShown}

@@ -1,4 +1,4 @@
-use Rattle.pur_base.specs.Devices.{nvram}
+use Rattle.session_spec.specs.Prelude.{nvram}
 use Rattle.shelf_look.proofs.Heads.{gate_open}
 use Rattle.shelf_look.proofs.slots.shows.Goals as goal
 

@@ -1,9 +1,6 @@
 use Rattle.std.proofs.Common.{◌≡◌, ℕ, ◌<◌, length, get_or, slice_range, false}
-use Rattle.pur_base.specs.declared.device.Device.{Device}
-use Rattle.pur_base.specs.Devices.{nvram}
-use Rattle.world.specs.Shelf.{IsSame}
-use Rattle.world.specs.Ran.{Only, Ran}
-use Rattle.nvram_log.specs.Read.{OnNothing}
+use Rattle.session_spec.specs.Prelude.{Device, nvram, IsSame, Only, Ran}
+use Rattle.nvram_log.specs.Prelude.{OnNothing}
 use Rattle.shelf_look.specs.Slots.{IsShownAt}
 use Rattle.shelf_look.proofs.slots.slots_under.Given as goal
 

@@ -1,9 +1,5 @@
 use Rattle.std.proofs.Common.{sym, subst, List}
-use Rattle.pur_base.specs.Devices.{Geometry}
-use Rattle.pur_base.specs.declared.facts.AnyFact.{AnyFact}
-use Rattle.array_spec.specs.Sound.{AreSound}
-use Rattle.array_spec.specs.Stored.{PatchesStand}
-use Rattle.world.specs.Losing.{geometry_of}
+use Rattle.session_spec.specs.Prelude.{Geometry, AnyFact, AreSound, PatchesStand, geometry_of}
 use Rattle.table_loading.specs.declared.fault.TablesFault.{TablesFault}
 use Rattle.table_soundness.specs.Faults.{patches_in}
 use Rattle.shelf_look.specs.Tables.{IsTablesCause}

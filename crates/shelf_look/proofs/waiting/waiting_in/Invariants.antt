@@ -1,6 +1,6 @@
 use Rattle.std.proofs.Common.{◌≤◌, List, take}
-use Rattle.pur_base.specs.Commands.{Command}
-use Rattle.nvram_log.specs.Held.{Keeps}
+use Rattle.session_spec.specs.Prelude.{Command}
+use Rattle.nvram_log.specs.Prelude.{Keeps}
 use Rattle.shelf_look.specs.Log.{AreServed, AreWaiting}
 use Rattle.shelf_look.proofs.waiting.waiting_in.Given as goal
 

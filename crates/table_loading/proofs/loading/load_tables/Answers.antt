@@ -1,9 +1,9 @@
 use Rattle.std.proofs.Common.{subst, ◌∙◌, ap}
 use Rattle.std.specs.Prelude.{Err}
 use Rattle.std.proofs.lemmas.Result.{err_from_is_err_and}
-use Rattle.pur_base.specs.Devices.{Geometry}
+use Rattle.array_spec.specs.Prelude.{Geometry}
 use Rattle.table_soundness.specs.Faults.{IsFault}
-use Rattle.world.specs.Losing.{geometry_of}
+use Rattle.world.specs.Prelude.{geometry_of}
 use Rattle.table_loading.proofs.Faulted.{read_fault, check_fault}
 use Rattle.table_loading.proofs.Loaded.{are_lawful, are_named, all_stand, lawful_patches, same_geometry}
 use Rattle.table_loading.proofs.loading.load_tables.Goals as goal

@@ -1,6 +1,5 @@
 use Rattle.std.proofs.Common.{◌≡◌, ◌≢◌, ◌⊎◌, ◌↔◌, ℕ, take, IsTrue}
-use Rattle.pur_base.specs.Visible.{is_within}
-use Rattle.pur_base.specs.declared.request.Table.{Table}
+use Rattle.memory_spec.specs.Prelude.{is_within, Table}
 use Rattle.elision.specs.Ranges.{ranges_of}
 use Rattle.table_plan.proofs.eliding.copy_table.Given as goal
 

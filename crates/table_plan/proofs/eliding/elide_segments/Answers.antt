@@ -1,6 +1,6 @@
 use Rattle.std.proofs.Common.{[], ◌∷◌, ◌+◌, get_or, sym, ◌∙◌, subst, arith, IsTrue, Contains, append-nil, append_assoc, ◌↔◌, ◌⊎◌}
 use Rattle.std.proofs.lemmas.List.{drop_all, take_all}
-use Rattle.pur_base.specs.Visible.{is_within}
+use Rattle.memory_spec.specs.Prelude.{is_within}
 use Rattle.pur_base.specs.declared.request.Table.TheVariants as table
 use Rattle.elision.specs.Ranges.{ranges_of, AreApart}
 use Rattle.table_plan.specs.Eliding.{AreElisionsOf}

@@ -1,8 +1,6 @@
 use Rattle.std.proofs.Common.{◌≡◌, ◌≢◌, ◌⊎◌, ◌↔◌, ℕ, ◌+◌, List, ◌++◌, drop, take, Contains, IsTrue}
-use Rattle.pur_base.specs.Visible.{is_within}
-use Rattle.pur_base.specs.declared.request.Table.{Table}
+use Rattle.memory_spec.specs.Prelude.{is_within, Table, ElisionFact}
 use Rattle.pur_base.specs.declared.request.Table.TheVariants as table
-use Rattle.pur_base.specs.declared.facts.ElisionFact.{ElisionFact}
 use Rattle.elision.specs.Ranges.{ranges_of}
 use Rattle.table_plan.specs.Eliding.{AreElisionsOf}
 use Rattle.table_plan.proofs.eliding.elide_segments.Given as goal

@@ -1,5 +1,5 @@
 use Rattle.std.proofs.Common.{◌≡◌, map, take}
-use Rattle.memory_spec.specs.Placing.{repointed}
+use Rattle.memory_spec.specs.Prelude.{repointed}
 use Rattle.table_plan.specs.Places.{place_in}
 use Rattle.table_plan.proofs.placing.repointed_facts.Given as goal
 

@@ -1,5 +1,5 @@
 use Rattle.std.proofs.Common.{ℕ, ◌<◌, get_or}
-use Rattle.pur_base.specs.declared.facts.AddressFact.{AddressFact}
+use Rattle.array_spec.specs.Prelude.{AddressFact}
 use Rattle.table_soundness.specs.Addresses.{IsThere}
 use Rattle.table_soundness.proofs.addresses.are_there.Given as goal
 

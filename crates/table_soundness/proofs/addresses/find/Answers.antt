@@ -1,8 +1,6 @@
 use Rattle.std.proofs.Common.{◌≡◌, ◌≢◌, sym, ◌∙◌, All, Contains}
 use Rattle.std.proofs.lemmas.List.Elements.{All-weaker}
-use Rattle.pur_base.specs.Facts.{segment_key}
-use Rattle.pur_base.specs.Keys.{id_of}
-use Rattle.pur_base.specs.declared.facts.SegmentFact.{SegmentFact}
+use Rattle.array_spec.specs.Prelude.{segment_key, id_of, SegmentFact}
 use Rattle.table_soundness.specs.Last.{IsLastOf}
 use Rattle.table_soundness.proofs.AddressLemmas.{if_some, if_none, segment_id}
 use Rattle.table_soundness.proofs.addresses.find.Goals as goal

@@ -1,6 +1,6 @@
 use Rattle.std.proofs.Common.{◌≡◌, get_or, subst, sym, take_all}
-use Rattle.pur_base.specs.Facts.{elision_key}
-use Rattle.pyramid.specs.Layers.{facts_of}
+use Rattle.array_spec.specs.Prelude.{elision_key}
+use Rattle.pyramid.specs.Prelude.{facts_of}
 use Rattle.pyramid.proofs.SpanLemmas.{facts_more}
 use Rattle.table_soundness.specs.Elided.{AddsElided, IsRange}
 use Rattle.table_soundness.proofs.ElidedLemmas.{adds_join, elided_from_nothing}

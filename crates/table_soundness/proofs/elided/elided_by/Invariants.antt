@@ -1,5 +1,5 @@
 use Rattle.std.proofs.Common.{take}
-use Rattle.pyramid.specs.Layers.{facts_of}
+use Rattle.pyramid.specs.Prelude.{facts_of}
 use Rattle.table_soundness.specs.Elided.{AddsElided}
 use Rattle.table_soundness.proofs.elided.elided_by.Given as goal
 

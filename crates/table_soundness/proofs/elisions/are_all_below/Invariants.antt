@@ -1,5 +1,5 @@
 use Rattle.std.proofs.Common.{take, All}
-use Rattle.pyramid.specs.Layers.{facts_of}
+use Rattle.pyramid.specs.Prelude.{facts_of}
 use Rattle.table_soundness.specs.Elisions.{IsBelow}
 use Rattle.table_soundness.proofs.elisions.are_all_below.Given as goal
 

@@ -1,5 +1,5 @@
 use Rattle.std.proofs.Common.{ℕ, ◌<◌, get_or}
-use Rattle.pur_base.specs.declared.facts.ElisionFact.{ElisionFact}
+use Rattle.array_spec.specs.Prelude.{ElisionFact}
 use Rattle.table_soundness.specs.Elisions.{IsBelow}
 use Rattle.table_soundness.proofs.elisions.are_below.Given as goal
 

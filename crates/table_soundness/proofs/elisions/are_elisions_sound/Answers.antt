@@ -1,6 +1,6 @@
 use Rattle.std.proofs.Common.{refl}
 use Rattle.std.proofs.lemmas.List.Elements.{All-from_recursion, recursion_from_All}
-use Rattle.pyramid.specs.Layers.{facts_of}
+use Rattle.pyramid.specs.Prelude.{facts_of}
 use Rattle.pyramid.proofs.SpanLemmas.{for_ok}
 use Rattle.table_soundness.specs.Elisions.{IsBelow}
 use Rattle.table_soundness.proofs.elisions.are_elisions_sound.Goals as goal

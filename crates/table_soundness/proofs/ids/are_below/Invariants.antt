@@ -1,5 +1,5 @@
 use Rattle.std.proofs.Common.{ℕ, ◌<◌, get_or}
-use Rattle.pur_base.specs.Keys.{id_of}
+use Rattle.array_spec.specs.Prelude.{id_of}
 use Rattle.table_soundness.proofs.ids.are_below.Given as goal
 
 abbrev pub invariant-loop-fact : goal.invariant-loop-fact

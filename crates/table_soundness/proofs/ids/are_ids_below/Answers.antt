@@ -1,5 +1,5 @@
 use Rattle.std.proofs.Common.{◌≡◌, ◌<◌, get_or, refl, take_all}
-use Rattle.pur_base.specs.Keys.{id_of}
+use Rattle.array_spec.specs.Prelude.{id_of}
 use Rattle.table_soundness.proofs.PatchLemmas.{all_of_patch}
 use Rattle.table_soundness.proofs.ids.are_ids_below.Goals as goal
 

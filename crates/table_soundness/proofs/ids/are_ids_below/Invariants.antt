@@ -1,6 +1,6 @@
 use Rattle.std.proofs.Common.{◌<◌, take, All}
-use Rattle.pur_base.specs.Keys.{id_of}
-use Rattle.pyramid.specs.Layers.{facts_of}
+use Rattle.array_spec.specs.Prelude.{id_of}
+use Rattle.pyramid.specs.Prelude.{facts_of}
 use Rattle.table_soundness.proofs.ids.are_ids_below.Given as goal
 
 abbrev pub invariant-loop-patch : goal.invariant-loop-patch

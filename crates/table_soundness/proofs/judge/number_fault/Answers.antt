@@ -1,12 +1,7 @@
 use Rattle.std.proofs.Common.{[], subst, sym, IsPermutation}
 use Rattle.std.specs.Prelude.{IfNone, IfSome}
 use Rattle.std.proofs.lemmas.List.Sorted.{IsPermutation-refl}
-use Rattle.pur_base.specs.declared.facts.ObjectFact.{ObjectFact}
-use Rattle.pur_base.specs.declared.facts.MediumFact.{MediumFact}
-use Rattle.pur_base.specs.declared.facts.AddressFact.{AddressFact}
-use Rattle.pur_base.specs.declared.facts.SegmentFact.{SegmentFact}
-use Rattle.pur_base.specs.declared.facts.ElisionFact.{ElisionFact}
-use Rattle.pur_base.specs.declared.request.Table.{Table}
+use Rattle.array_spec.specs.Prelude.{ObjectFact, MediumFact, AddressFact, SegmentFact, ElisionFact, Table}
 use Rattle.pur_base.specs.declared.request.Table.TheVariants as table
 use Rattle.table_soundness.specs.Faults.{numbers_before, AreNumbersOf, IsFirst}
 use Rattle.table_soundness.proofs.FaultLemmas.{first_is, numbers_step}

@@ -1,5 +1,5 @@
 use Rattle.std.proofs.Common.{ℕ, ◌<◌, get_or}
-use Rattle.pur_base.specs.declared.facts.ObjectFact.{ObjectFact}
+use Rattle.array_spec.specs.Prelude.{ObjectFact}
 use Rattle.table_soundness.specs.Mediums.{EndsWithin}
 use Rattle.table_soundness.proofs.mediums.end_within.Given as goal
 

@@ -1,5 +1,5 @@
 use Rattle.std.proofs.Common.{ℕ, ◌<◌, get_or}
-use Rattle.pur_base.specs.declared.facts.MediumFact.{MediumFact}
+use Rattle.array_spec.specs.Prelude.{MediumFact}
 use Rattle.table_soundness.specs.Mediums.{LeadsElsewhere}
 use Rattle.table_soundness.proofs.mediums.lead_elsewhere.Given as goal
 

@@ -1,5 +1,5 @@
 use Rattle.std.proofs.Common.{◌≢◌}
-use Rattle.boot_codec.specs.declared.patch.PatchSegment.{PatchSegment}
+use Rattle.array_spec.specs.Prelude.{PatchSegment}
 use Rattle.table_soundness.proofs.PairLemmas.{pairs_map, pairs_unmap}
 use Rattle.table_soundness.proofs.named.are_named_apart.Goals as goal
 

@@ -1,5 +1,5 @@
 use Rattle.std.proofs.Common.{ℕ, ◌<◌, get_or}
-use Rattle.boot_codec.specs.declared.patch.PatchSegment.{PatchSegment}
+use Rattle.array_spec.specs.Prelude.{PatchSegment}
 use Rattle.table_soundness.proofs.named.are_named_below.Given as goal
 
 abbrev pub invariant-loop-segment : goal.invariant-loop-segment

@@ -1,5 +1,5 @@
 use Rattle.std.proofs.Common.{◌<◌, take, All}
-use Rattle.pyramid.specs.Layers.{facts_of}
+use Rattle.pyramid.specs.Prelude.{facts_of}
 use Rattle.table_soundness.proofs.numbers.are_all_below.Given as goal
 
 abbrev pub invariant-loop-patch : goal.invariant-loop-patch

@@ -1,5 +1,5 @@
 use Rattle.std.proofs.Common.{◌≡◌, ◌++◌, map, take}
-use Rattle.pyramid.specs.Layers.{facts_of}
+use Rattle.pyramid.specs.Prelude.{facts_of}
 use Rattle.table_soundness.proofs.numbers.push_all_numbers.Given as goal
 
 abbrev pub invariant-loop-patch : goal.invariant-loop-patch

@@ -1,6 +1,6 @@
 use Rattle.std.proofs.Common.{◌≡◌, ◌+◌, ◌∷◌, ap, drop, refl, subst, sym, ◌∙◌, All, AllPairs}
 use Rattle.std.proofs.lemmas.List.{drop_more}
-use Rattle.pur_base.specs.declared.facts.ObjectFact.{ObjectFact}
+use Rattle.array_spec.specs.Prelude.{ObjectFact}
 use Rattle.table_soundness.specs.Items.{AreApartObjects}
 use Rattle.table_soundness.proofs.PairLemmas.{pairs_cons, pairs_head, pairs_tail}
 use Rattle.table_soundness.proofs.objects.are_all_apart.Goals as goal

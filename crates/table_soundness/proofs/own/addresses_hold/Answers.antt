@@ -1,9 +1,7 @@
 use Rattle.std.proofs.Common.{ap, sym, subst}
-use Rattle.pur_base.specs.Facts.{address_key, object_key, segment_key, never}
-use Rattle.pur_base.specs.Visible.{is_elided}
+use Rattle.array_spec.specs.Prelude.{address_key, object_key, segment_key, never, is_elided}
 use Rattle.pur_base.specs.declared.request.Table.TheVariants as table
-use Rattle.pyramid.specs.Layers.{facts_of}
-use Rattle.pyramid.specs.Shown.{IsShown}
+use Rattle.pyramid.specs.Prelude.{facts_of, IsShown}
 use Rattle.table_soundness.specs.Addresses.{IsSmall}
 use Rattle.table_soundness.specs.Faults.{facts_in}
 use Rattle.table_soundness.proofs.FaultLemmas.{shown_facts, small_objects, small_sectors, small_segments}

@@ -1,4 +1,4 @@
-use Rattle.pyramid.specs.Layers.{facts_of}
+use Rattle.pyramid.specs.Prelude.{facts_of}
 use Rattle.table_soundness.proofs.FaultLemmas.{elided_ranges}
 use Rattle.table_soundness.proofs.own.judge_own.Goals as goal
 

@@ -1,6 +1,5 @@
 use Rattle.std.proofs.Common.{[], take}
-use Rattle.pyramid.specs.Layers.{facts_of, Rises}
-use Rattle.pyramid.specs.Loading.{IsPast}
+use Rattle.pyramid.specs.Prelude.{facts_of, Rises, IsPast}
 use Rattle.table_soundness.proofs.rising.are_rising.Given as goal
 
 abbrev pub invariant-loop-patch : goal.invariant-loop-patch

@@ -1,5 +1,5 @@
 use Rattle.std.proofs.Common.{take, All}
-use Rattle.boot_codec.specs.Record.{AscendFrom}
+use Rattle.array_spec.specs.Prelude.{AscendFrom}
 use Rattle.table_soundness.proofs.segments.are_all_placed.Given as goal
 
 abbrev pub invariant-loop-segment : goal.invariant-loop-segment

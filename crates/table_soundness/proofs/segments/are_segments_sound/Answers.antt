@@ -1,9 +1,7 @@
 use Rattle.std.proofs.Common.{◌≡◌, ◌≤◌, length, sym, subst, arith, All}
-use Rattle.pur_base.specs.Devices.{Geometry}
+use Rattle.array_spec.specs.Prelude.{Geometry, SEGMENT_SHARDS, IsFact}
 use Rattle.pur_base.specs.declared.facts.AnyFact.TheVariants as any
-use Rattle.pur_base.specs.declared.limits.TheConstants.{SEGMENT_SHARDS}
-use Rattle.fact_codec.specs.Fact.{IsFact}
-use Rattle.pyramid.specs.Layers.{facts_of}
+use Rattle.pyramid.specs.Prelude.{facts_of}
 use Rattle.pyramid.proofs.SpanLemmas.{for_ok}
 use Rattle.std.proofs.lemmas.List.Elements.{All-weaker}
 use Rattle.table_soundness.specs.Items.{AreSegmentsListed}

@@ -1,5 +1,5 @@
-use Rattle.pur_base.specs.Visible.{is_within}
-use Rattle.pyramid.specs.Layers.{facts_of}
+use Rattle.array_spec.specs.Prelude.{is_within}
+use Rattle.pyramid.specs.Prelude.{facts_of}
 use Rattle.pyramid.proofs.SpanLemmas.{for_ok}
 use Rattle.table_soundness.proofs.NewestLemmas.{shown_newest}
 use Rattle.table_soundness.proofs.shown.shown.Goals as goal

@@ -1,5 +1,5 @@
 use Rattle.std.proofs.Common.{◌≡◌, map, take}
-use Rattle.pyramid.specs.Layers.{facts_of}
+use Rattle.pyramid.specs.Prelude.{facts_of}
 use Rattle.table_soundness.specs.Spans.{span_of}
 use Rattle.table_soundness.proofs.spans.spans_of.Given as goal
 

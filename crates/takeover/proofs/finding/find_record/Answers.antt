@@ -1,17 +1,8 @@
 use Rattle.std.proofs.Common.{ℕ, List, ◌-◌, ◌^◌, ◌<◌, arith, sym, subst, ◌∙◌, Err}
 use Rattle.std.proofs.lemmas.Result.{err_from_is_err_and}
-use Rattle.pur_base.specs.Devices.{Geometry, Conditions, IsBearable, IsWithin}
-use Rattle.pur_base.specs.Plain.{Array}
-use Rattle.boot_codec.specs.declared.record.BootRecord.{BootRecord}
-use Rattle.boot_codec.specs.Region.{IsRecordOf}
-use Rattle.world.specs.Losing.{geometry_of}
-use Rattle.world.specs.lemmas.Moments.{continues_refl}
-use Rattle.world.specs.lemmas.Ran.{ran_then, ran_more}
-use Rattle.boot_region.specs.Loading.{IsLoadOf, IsLawfulLoad}
-use Rattle.boot_region.specs.Members.{IsMember}
-use Rattle.boot_region.specs.Slots.{slot_in}
+use Rattle.session_spec.specs.Prelude.{Geometry, Conditions, IsBearable, IsWithin, Array, BootRecord, IsRecordOf, geometry_of, continues_refl, ran_then, ran_more, Enters, failed_since}
+use Rattle.boot_region.specs.Prelude.{IsLoadOf, IsLawfulLoad, IsMember, slot_in}
 use Rattle.takeover.specs.declared.faults.OpenFault.{OpenFault}
-use Rattle.session_spec.specs.Entering.{Enters, failed_since}
 use Rattle.takeover.specs.Found.{IsFoundBy, IsFoundOn}
 use Rattle.takeover.specs.Seen.{IsSeenBy}
 use Rattle.takeover.specs.Steps.{StandsWhileFinding}
@@ -24,7 +15,7 @@ use Rattle.takeover.proofs.Settled.{found_settled, while_loading, while_settling
 use Rattle.takeover.proofs.finding.find_record.Given as given
 use Rattle.takeover.proofs.finding.find_record.Goals as goal
 use Rattle.takeover.proofs.finding.find_record.Goals.{After-settle_loaded}
-use Rattle.array_core.specs.lemmas.Losses.{fewer_borne}
+use Rattle.array_core.specs.Prelude.{fewer_borne}
 use Rattle.register.proofs.Rounds.{same_shelf}
 
 pub returns-in_err-loaded-clause-stands : goal.returns-in_err-loaded-clause-stands

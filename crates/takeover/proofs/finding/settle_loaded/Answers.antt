@@ -1,8 +1,7 @@
 use Rattle.std.proofs.Common.{rules, ◌≡◌, length, take, arith}
 use Rattle.std.proofs.lemmas.List.{length-take}
-use Rattle.boot_codec.specs.Region.{gate_place, other_slot}
-use Rattle.world.specs.lemmas.Ran.{ran_more}
-use Rattle.boot_region.specs.Slots.{slot_in}
+use Rattle.session_spec.specs.Prelude.{gate_place, other_slot, ran_more}
+use Rattle.boot_region.specs.Prelude.{slot_in}
 use Rattle.takeover.proofs.Cleaned.{stays_clean}
 use Rattle.takeover.proofs.Fronts.{front_closed, front_one, front_loaded, front_found, front_tells, whole_force}
 use Rattle.takeover.proofs.finding.settle_loaded.Goals as goal

@@ -1,14 +1,10 @@
 use Rattle.std.proofs.Common.{◌≡◌, ◌∙◌, rules, List, Bool, Err, length, sym, subst}
 use Rattle.std.proofs.lemmas.Result.{err_from_is_err_and}
 use Rattle.boot_region.proofs.LoadingLemmas.{if_err}
-use Rattle.pur_base.specs.declared.facts.AnyFact.{AnyFact}
-use Rattle.pur_base.specs.Devices.{Conditions, drive, nvram}
-use Rattle.pur_base.specs.Plain.{Array}
-use Rattle.world.specs.lemmas.Ran.{ran_then, ran_more}
+use Rattle.session_spec.specs.Prelude.{AnyFact, Conditions, drive, nvram, Array, ran_then, ran_more, failed_since}
 use Rattle.boot_region.specs.declared.loading.Loaded.{Loaded}
-use Rattle.nvram_log.specs.Read.{AllFailed}
+use Rattle.nvram_log.specs.Prelude.{AllFailed}
 use Rattle.takeover.specs.declared.log.LogFault.{LogFault}
-use Rattle.session_spec.specs.Entering.{failed_since}
 use Rattle.takeover.specs.Found.{IsFoundOn}
 use Rattle.takeover.specs.LogOpen.{IsLogFault}
 use Rattle.takeover.proofs.LogOpened.{WasRead, was_read, not_opened, not_read, not_replayed, not_settled, settled, nothing_on, fewer_on, read_fault_is, replay_fault_is, both_lost}

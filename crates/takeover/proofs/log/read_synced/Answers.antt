@@ -1,8 +1,7 @@
 use Rattle.std.proofs.Common.{◌∙◌}
 use Rattle.nvram_log.specs.declared.log.NvLog.{NvLog}
-use Rattle.nvram_log.specs.Held.{shown_by}
-use Rattle.nvram_log.specs.Read.{IsReadFrom}
-use Rattle.world.specs.lemmas.Ran.{ran_then, ran_more}
+use Rattle.nvram_log.specs.Prelude.{shown_by, IsReadFrom}
+use Rattle.session_spec.specs.Prelude.{ran_then, ran_more}
 use Rattle.takeover.proofs.Running.{nvram_of}
 use Rattle.takeover.proofs.Answered.{ok_more, read_more}
 use Rattle.takeover.proofs.log.read_synced.Goals as goal

@@ -1,33 +1,12 @@
 use Rattle.std.proofs.Common.{◌≡◌, ◌⊎◌, ◌<◌, ◌≤◌, ◌+◌, ◌-◌, ◌^◌, ℕ, List, refl, sym, subst, ap, ◌∙◌, Bool, Result, Err}
 use Rattle.std.specs.Prelude.{IfOk, IfErr, OnOk, None, Some}
 use Rattle.std.proofs.lemmas.Result.{err_from_is_err_and}
-use Rattle.pur_base.specs.declared.facts.AnyFact.{AnyFact}
-use Rattle.pur_base.specs.declared.memory.NoMemory.{NoMemory}
-use Rattle.pur_base.specs.Commands.{Command, after_all}
-use Rattle.pur_base.specs.Devices.{Geometry, Conditions, IsBearable, drive, nvram}
-use Rattle.pur_base.specs.Plain.{Array}
-use Rattle.boot_codec.specs.declared.record.BootRecord.{BootRecord}
-use Rattle.boot_codec.specs.Record.{set_count}
-use Rattle.boot_codec.specs.Region.{IsRecordOf, shown_by}
-use Rattle.boot_codec.specs.Spelling.{spelling}
-use Rattle.memory_spec.specs.Memory.{ReadsAs}
-use Rattle.memory_spec.specs.Tables.{patches}
-use Rattle.world.specs.Losing.{geometry_of, has_risen}
-use Rattle.world.specs.Shelf.{Disk, LeavesOnly}
-use Rattle.world.specs.lemmas.Moments.{continues_trans, then_run, weaker}
-use Rattle.world.specs.lemmas.Ran.{ran_then, ran_more, runs_moments}
-use Rattle.boot_region.specs.Loading.{IsLawfulLoad}
-use Rattle.boot_region.specs.Members.{IsMember}
-use Rattle.boot_region.specs.Slots.{slot_in}
-use Rattle.boot_region.specs.Storing.{StandsAgain}
+use Rattle.session_spec.specs.Prelude.{AnyFact, NoMemory, Command, after_all, Geometry, Conditions, IsBearable, drive, nvram, Array, BootRecord, set_count, IsRecordOf, shown_by, spelling, ReadsAs, patches, geometry_of, has_risen, Disk, LeavesOnly, continues_trans, then_run, weaker, ran_then, ran_more, runs_moments, Enters, StandsStill, failed_since}
+use Rattle.boot_region.specs.Prelude.{IsLawfulLoad, IsMember, slot_in, StandsAgain}
 use Rattle.nvram_log.specs.Members as nv
 use Rattle.register.specs.declared.state.Register.{Register}
 use Rattle.register.specs.declared.next.StoreFault.{StoreFault}
-use Rattle.register.specs.Faults.{IsFaultOf}
-use Rattle.register.specs.Registers.{IsLaterRecord, IsRegisterOf, drives_of, named_sound}
-use Rattle.register.specs.Standing.{Content, GivesOldOrNext, IsFirm, IsOpen, MayStore, StandsBack, StandsInLog, StillGiven}
-use Rattle.register.specs.lemmas.Moments.{stands_at, gives_at, back_at}
-use Rattle.session_spec.specs.Entering.{Enters, StandsStill, failed_since}
+use Rattle.register.specs.Prelude.{IsFaultOf, IsLaterRecord, IsRegisterOf, drives_of, named_sound, Content, GivesOldOrNext, IsFirm, IsOpen, MayStore, StandsBack, StandsInLog, StillGiven, stands_at, gives_at, back_at}
 use Rattle.takeover.specs.declared.faults.OpenFault.{OpenFault}
 use Rattle.takeover.specs.declared.faults.OpenFault.TheVariants as open_fault
 use Rattle.takeover.specs.declared.log.OpenedLog.{OpenedLog}
@@ -57,7 +36,7 @@ use Rattle.takeover.proofs.Stops.{unstored}
 use Rattle.takeover.proofs.recovering.recover.Given as given
 use Rattle.takeover.proofs.recovering.recover.Goals as goal
 use Rattle.takeover.proofs.recovering.recover.Goals.{After-store}
-use Rattle.array_core.specs.lemmas.Losses.{fewer_borne, sound_since}
+use Rattle.array_core.specs.Prelude.{fewer_borne, sound_since}
 use Rattle.register.proofs.Rounds.{same_shelf}
 use Rattle.register.proofs.Made.{store_later}
 

@@ -1,7 +1,6 @@
 use Rattle.std.proofs.Common.{◌≡◌, sym, ◌∙◌, ap, rules}
 use Rattle.std.specs.Prelude.{None}
-use Rattle.pur_base.specs.declared.request.Request.{Request}
-use Rattle.pur_base.specs.Plain.{refusal}
+use Rattle.session_spec.specs.Prelude.{Request, refusal}
 use Rattle.takeover.proofs.Applying.{none_is}
 use Rattle.takeover.proofs.replay.apply.Goals as goal
 

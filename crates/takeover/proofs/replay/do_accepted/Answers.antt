@@ -1,8 +1,7 @@
 use Rattle.std.proofs.Common.{◌≡◌, List, ℕ, ◌++◌, length, take, drop, sym, ◌∙◌, ap, arith}
 use Rattle.std.proofs.lemmas.List.{length-take, take_at}
-use Rattle.pur_base.specs.Grammar.{data_count}
-use Rattle.pur_base.specs.declared.request.Request.{Request}
-use Rattle.array_memory.specs.Asked.{command_of}
+use Rattle.session_spec.specs.Prelude.{data_count, Request}
+use Rattle.array_memory.specs.Prelude.{command_of}
 use Rattle.takeover.proofs.Applying.{done_by}
 use Rattle.takeover.proofs.replay.do_accepted.Goals as goal
 

@@ -1,7 +1,6 @@
 use Rattle.std.proofs.Common.{◌≡◌, Bool, true, false, ℕ, subst, sym, arith, rules}
 use Rattle.boot_region.proofs.LoadingLemmas.{if_err}
-use Rattle.pur_base.specs.declared.request.Request.{Request}
-use Rattle.log_codec.specs.Head.{IsCommand}
+use Rattle.session_spec.specs.Prelude.{Request, IsCommand}
 use Rattle.takeover.specs.declared.log.LogFault.{LogFault}
 use Rattle.takeover.specs.Replay.{IsApplied, IsReplayed, IsReplayFault}
 use Rattle.takeover.proofs.Applying.{command_at, none_done, one_more, stopped, ended, replay_fault}

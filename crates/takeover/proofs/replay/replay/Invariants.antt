@@ -1,6 +1,6 @@
 use Rattle.std.proofs.Common.{◌≡◌, List, length}
-use Rattle.pur_base.specs.Commands.{Command}
-use Rattle.nvram_log.specs.Held.{Keeps}
+use Rattle.session_spec.specs.Prelude.{Command}
+use Rattle.nvram_log.specs.Prelude.{Keeps}
 use Rattle.takeover.proofs.Applying.{AreDone}
 use Rattle.takeover.proofs.replay.replay.Given as goal
 

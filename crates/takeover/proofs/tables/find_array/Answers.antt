@@ -1,12 +1,6 @@
 use Rattle.std.proofs.Common.{sym, subst, arith}
-use Rattle.pur_base.specs.Devices.{Geometry}
-use Rattle.pur_base.specs.declared.device.Device.{Device}
-use Rattle.boot_codec.specs.Region.{IsRecordOf}
-use Rattle.world.specs.Losing.{geometry_of}
-use Rattle.world.specs.Shelf.{IsSame}
-use Rattle.world.specs.lemmas.Ran.{ran_then, ran_more}
+use Rattle.session_spec.specs.Prelude.{Geometry, Device, IsRecordOf, geometry_of, IsSame, ran_then, ran_more, failed_since}
 use Rattle.boot_region.proofs.Composing.{as_it_is}
-use Rattle.session_spec.specs.Entering.{failed_since}
 use Rattle.takeover.specs.Seen.{IsSeenIn}
 use Rattle.takeover.specs.Steps.{StandsWhileFinding}
 use Rattle.takeover.proofs.Failing.{since_later}

@@ -1,5 +1,5 @@
 use Rattle.std.proofs.Common.{◌≡◌, ℕ, ◌<◌, slice_index_or}
-use Rattle.pur_base.specs.declared.facts.Target.TheVariants.{Zero}
+use Rattle.memory_spec.specs.Prelude.{Zero}
 use Rattle.target_io.specs.Targets.{target_behind}
 use Rattle.target_io.proofs.following.run_length.Given as goal
 

@@ -1,5 +1,5 @@
 use Rattle.std.proofs.Common.{◌≡◌, ℕ, ◌*◌, ◌<◌, [], slice_index_or}
-use Rattle.pur_base.specs.Bytes.{bytes_at}
+use Rattle.memory_spec.specs.Prelude.{bytes_at}
 use Rattle.target_io.proofs.runs.copy_sectors.Given as goal
 
 abbrev pub invariant-loop-i : goal.invariant-loop-i

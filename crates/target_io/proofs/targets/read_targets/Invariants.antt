@@ -1,8 +1,5 @@
 use Rattle.std.proofs.Common.{◌≤◌, ◌-◌, length}
-use Rattle.pur_base.specs.Devices.{View}
-use Rattle.memory_spec.specs.Memory.{Contents}
-use Rattle.memory_spec.specs.Tables.{facts}
-use Rattle.memory_spec.specs.Contents.{ContentsStand}
+use Rattle.memory_spec.specs.Prelude.{View, Contents, facts, ContentsStand}
 use Rattle.target_io.specs.Reading.{ShowsDrives, ReadsOnly}
 use Rattle.target_io.specs.Targets.{AreSectorsOf}
 use Rattle.target_io.proofs.targets.read_targets.Given as goal

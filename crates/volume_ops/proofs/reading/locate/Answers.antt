@@ -1,7 +1,6 @@
 use Rattle.std.proofs.Common.{◌≡◌, ℕ, length, arith, subst}
 use Rattle.std.specs.List.{AllZip}
-use Rattle.pur_base.specs.Plain.{sectors_of, span}
-use Rattle.memory_spec.specs.Memory.{TargetReads}
+use Rattle.memory_spec.specs.Prelude.{sectors_of, span, TargetReads}
 use Rattle.volume_ops.proofs.SpanLemmas.{all_stand, small_object, span_reads}
 use Rattle.volume_ops.proofs.reading.locate.Goals as goal
 

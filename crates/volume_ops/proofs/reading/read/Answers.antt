@@ -1,7 +1,6 @@
 use Rattle.std.proofs.Common.{ℕ, List, length, subst}
 use Rattle.std.specs.List.{AllZip}
-use Rattle.pur_base.specs.Plain.{sectors_of, span}
-use Rattle.memory_spec.specs.Memory.{TargetReads}
+use Rattle.memory_spec.specs.Prelude.{sectors_of, span, TargetReads}
 use Rattle.volume_ops.proofs.reading.read.Goals as goal
 
 pub returns-clause-sectors : goal.returns-clause-sectors

@@ -1,8 +1,5 @@
 use Rattle.std.proofs.Common.{◌≢◌, ◌<◌, length, arith, sym, ◌∙◌, below_more, get_or-set_other, get_or-set_same}
-use Rattle.world.specs.lemmas.Moments.{continues_trans}
-use Rattle.world.specs.lemmas.Writes.{writes_then, writes_more}
-use Rattle.pur_base.specs.lemmas.Devices.{drives_apart}
-use Rattle.pur_base.specs.Devices.{drive}
+use Rattle.world.specs.Prelude.{continues_trans, writes_then, writes_more, drives_apart, drive}
 use Rattle.world_clients.specs.Members.{IsMember}
 use Rattle.world_clients.proofs.OnEach.{range_on_members, outcome_of}
 use Rattle.world_clients.proofs.members.write_members.Goals as goal

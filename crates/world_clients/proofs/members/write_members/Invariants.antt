@@ -1,7 +1,5 @@
 use Rattle.std.proofs.Common.{◌≡◌, ℕ, ◌<◌, ◌≤◌, length, slice_index_or, false}
-use Rattle.world.specs.Shelf.{Continues}
-use Rattle.world.specs.Writes.{WritesOnly}
-use Rattle.pur_base.specs.Devices.{drive}
+use Rattle.world.specs.Prelude.{Continues, WritesOnly, drive}
 use Rattle.world_clients.specs.Members.{IsMember, OnMembers, Outcome}
 use Rattle.world_clients.proofs.members.write_members.Given as goal
 

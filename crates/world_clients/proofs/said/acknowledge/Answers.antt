@@ -1,7 +1,5 @@
 use Rattle.std.proofs.Common.{◌≡◌, ◌+◌, ◌∙◌, length, ap, subst, sym, true, slice_index, ℕ, List, rules}
-use Rattle.world.specs.Shelf.{Leaves, Disk}
-use Rattle.world.specs.Writes.{OneRange, WritesOnly}
-use Rattle.world.specs.lemmas.Moments.{continues_trans}
+use Rattle.world.specs.Prelude.{Leaves, Disk, OneRange, WritesOnly, continues_trans}
 use Rattle.world_clients.specs.Said.{StoredWhenSaid}
 use Rattle.world_clients.proofs.Stored.{said, not_yet, first_written}
 use Rattle.world_clients.proofs.said.acknowledge.Goals as goal

@@ -1,7 +1,6 @@
-use Rattle.pur_base.specs.declared.device.Device.TheVariants.{Nv}
+use Rattle.world.specs.Prelude.{Nv, continues_trans}
 use Rattle.std.proofs.Common.{◌≡◌, ◌∙◌, true, ap, drop, ℕ, List, arith, rules}
 use Rattle.std.proofs.lemmas.List.{drop-drop}
-use Rattle.world.specs.lemmas.Moments.{continues_trans}
 use Rattle.world_clients.proofs.Sessions.{leaves_on, one_more}
 use Rattle.world_clients.proofs.said.session.Goals as goal
 

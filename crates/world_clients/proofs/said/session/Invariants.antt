@@ -1,6 +1,5 @@
-use Rattle.pur_base.specs.declared.device.Device.TheVariants.{Nv}
+use Rattle.world.specs.Prelude.{Nv, Continues, Leaves}
 use Rattle.std.proofs.Common.{◌≡◌, ℕ, ◌+◌, ◌<◌, [], length, drop, slice_index}
-use Rattle.world.specs.Shelf.{Continues, Leaves}
 use Rattle.world_clients.specs.Said.{IsToldBy, EachIsStoredWhenSaid}
 use Rattle.world_clients.proofs.said.session.Given as goal
 

@@ -1,6 +1,5 @@
 use Rattle.std.proofs.Common.{◌≡◌, filter, take}
-use Rattle.pur_base.specs.Visible.{is_within}
-use Rattle.pyramid.specs.Layers.{facts_in, facts_of}
+use Rattle.pyramid.specs.Prelude.{is_within, facts_in, facts_of}
 use Rattle.address_table.specs.Addresses.{is_pointing}
 use Rattle.address_table.proofs.table.AddressTable.flushed_pointing.Given as goal
 

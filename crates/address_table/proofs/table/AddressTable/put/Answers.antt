@@ -1,5 +1,5 @@
 use Rattle.std.proofs.Common.{inl, inr, []}
-use Rattle.pyramid.specs.lemmas.Contains.{here, either, nowhere}
+use Rattle.pyramid.specs.Prelude.{here, either, nowhere}
 use Rattle.pyramid.proofs.DistinctLemmas.{from_ok}
 use Rattle.address_table.proofs.table.AddressTable.put.Goals as goal
 

@@ -1,9 +1,7 @@
 use Rattle.std.proofs.Common.{◌∙◌}
-use Rattle.pur_base.specs.Keys.{key_of}
-use Rattle.pyramid.specs.Layers.{facts_in, facts_of}
+use Rattle.pyramid.specs.Prelude.{key_of, facts_in, facts_of, above_flushed, above_unflushed}
 use Rattle.pyramid.proofs.DistinctLemmas.{from_ok}
 use Rattle.address_table.proofs.AddressLemmas.{visible_over}
-use Rattle.pyramid.specs.lemmas.Keys.{above_flushed, above_unflushed}
 use Rattle.address_table.specs.Addresses.{number}
 use Rattle.address_table.proofs.table.AddressTable.put_run.Goals as goal
 

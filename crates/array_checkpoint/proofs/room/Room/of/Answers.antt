@@ -1,10 +1,5 @@
 use Rattle.std.proofs.Common.{◌≡◌, ◌∙◌, ℕ, sym, ap, subst}
-use Rattle.pur_base.specs.Visible.{segments}
-use Rattle.boot_codec.specs.declared.record.BootRecord.{BootRecord}
-use Rattle.boot_codec.specs.Record.{patch_segments}
-use Rattle.array_spec.specs.Counts.{IsGroups, free_of_members}
-use Rattle.array_spec.specs.Stored.{all_facts}
-use Rattle.memory_spec.specs.Tables.{facts, patches}
+use Rattle.session_spec.specs.Prelude.{segments, BootRecord, patch_segments, IsGroups, free_of_members, all_facts, facts, patches}
 use Rattle.array_checkpoint.proofs.Rooms.{patches_show}
 use Rattle.array_checkpoint.proofs.room.Room.of.Goals as goal
 

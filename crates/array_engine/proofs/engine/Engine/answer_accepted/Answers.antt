@@ -1,6 +1,5 @@
 use Rattle.std.proofs.Common.{refl, ◌∙◌}
-use Rattle.pur_base.specs.Grammar.{Asked}
-use Rattle.world.specs.Losing.{geometry_of}
+use Rattle.session_spec.specs.Prelude.{Asked, geometry_of}
 use Rattle.array_engine.proofs.Meanwhile.{kept_at_once, nothing_done, nothing_moved}
 use Rattle.array_engine.proofs.Numbers.{numbers_same}
 use Rattle.array_engine.proofs.Points.{like_itself, listed, stated}

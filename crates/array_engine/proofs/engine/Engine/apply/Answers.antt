@@ -3,8 +3,8 @@ use Rattle.array_engine.specs.declared.engine.Engine.{Engine}
 use Rattle.array_engine.specs.declared.said.Said.{Said}
 use Rattle.array_engine.specs.Saying.{HasSectors}
 use Rattle.array_engine.specs.Engines.{IsAnsweredAt}
-use Rattle.pur_base.specs.Grammar.{Asked}
-use Rattle.array_checkpoint.specs.Prepared.{IsLike}
+use Rattle.session_spec.specs.Prelude.{Asked}
+use Rattle.array_checkpoint.specs.Prelude.{IsLike}
 use Rattle.array_engine.proofs.Ending.{command_there}
 use Rattle.array_engine.proofs.Commands.{command_answered}
 use Rattle.array_engine.proofs.Requests.{is_command, is_lawful}

@@ -1,7 +1,7 @@
 use Rattle.std.proofs.Common.{◌≡◌, ap, sym, subst, ◌∙◌}
-use Rattle.pur_base.specs.Grammar.{Asked}
+use Rattle.session_spec.specs.Prelude.{Asked}
 use Rattle.pur_base.specs.declared.request.Request.TheVariants as request
-use Rattle.array_checkpoint.specs.Prepared.{IsLike}
+use Rattle.array_checkpoint.specs.Prelude.{IsLike}
 use Rattle.array_engine.specs.declared.engine.Engine.{Engine}
 use Rattle.array_engine.specs.declared.said.Said.{Said}
 use Rattle.array_engine.specs.Saying.{HasSectors}

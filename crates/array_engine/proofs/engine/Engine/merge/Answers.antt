@@ -1,5 +1,5 @@
 use Rattle.std.proofs.Common.{◌≡◌, ap, sym, subst, ◌∙◌}
-use Rattle.pur_base.specs.Grammar.{Asked}
+use Rattle.session_spec.specs.Prelude.{Asked}
 use Rattle.pur_base.specs.declared.request.Request.TheVariants as request
 use Rattle.array_engine.specs.declared.engine.Engine.{Engine}
 use Rattle.array_engine.specs.declared.said.Said.{Said}

@@ -1,10 +1,8 @@
 use Rattle.std.proofs.Common.{refl, sym, subst}
 use Rattle.std.specs.Prelude.{take}
-use Rattle.pur_base.specs.Devices.{Geometry}
-use Rattle.pur_base.specs.Grammar.{Asked}
+use Rattle.session_spec.specs.Prelude.{Geometry, Asked, weaker}
 use Rattle.pur_base.specs.declared.request.Request.TheVariants as request
-use Rattle.world.specs.lemmas.Moments.{weaker}
-use Rattle.array_core.specs.Ready.{IsArrayOf}
+use Rattle.array_core.specs.Prelude.{IsArrayOf}
 use Rattle.array_engine.specs.declared.engine.Engine.{Engine}
 use Rattle.array_engine.specs.declared.said.Said.{Said}
 use Rattle.array_engine.specs.Saying.{HasSectors}

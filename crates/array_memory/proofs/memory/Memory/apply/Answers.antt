@@ -1,6 +1,6 @@
 use Rattle.std.proofs.Common.{◌≡◌, ◌+◌, ◌<◌, ◌∙◌, ℕ, refl, ap, arith, length, Some, None}
 use Rattle.pur_base.specs.declared.request.Request.TheVariants as request
-use Rattle.fact_codec.specs.declared.limits.TheConstants.{NUMBER_LIMIT}
+use Rattle.memory_spec.specs.Prelude.{NUMBER_LIMIT}
 use Rattle.array_memory.specs.Runs.{targets_from}
 use Rattle.array_memory.proofs.RunLemmas.{targets_long}
 use Rattle.array_memory.proofs.PutLemmas.{left_by_create, left_by_put, put_next}

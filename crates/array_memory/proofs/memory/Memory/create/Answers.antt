@@ -1,12 +1,8 @@
 use Rattle.std.proofs.Common.{◌≡◌, ◌↔◌, ◌⊎◌, ◌-◌, ◌<◌, false, List, [], ◌∷◌, length, refl, sym, ap, ◌∙◌, arith, Contains, vec_len, vec_capacity, length-append}
 use Rattle.std.specs.Prelude.{is_err}
 use Rattle.std.proofs.lemmas.List.Elements.{All-contains, Contains-append_right}
-use Rattle.pur_base.specs.Facts.{object_key}
-use Rattle.pur_base.specs.Visible.{is_elided}
+use Rattle.memory_spec.specs.Prelude.{object_key, is_elided, Volume, ObjectFact, facts_in, facts_of}
 use Rattle.pur_base.specs.declared.request.Table.TheVariants as table
-use Rattle.pur_base.specs.declared.facts.ObjectKind.TheVariants.{Volume}
-use Rattle.pur_base.specs.declared.facts.ObjectFact.{ObjectFact}
-use Rattle.pyramid.specs.Layers.{facts_in, facts_of}
 use Rattle.array_memory.proofs.CountLemmas.{one_fact_more, with_one_more}
 use Rattle.array_memory.proofs.KeptLemmas.{objects_newer, objects_last, objects_distinct, free_object, create_kept}
 use Rattle.array_memory.proofs.PutLemmas.{at_ok, taken_behind}

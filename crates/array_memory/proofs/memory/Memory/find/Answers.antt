@@ -4,9 +4,7 @@ use Rattle.std.specs.Option.{is_some}
 use Rattle.std.proofs.lemmas.Grind.{common_steps}
 use Rattle.std.proofs.lemmas.List.{take_all}
 use Rattle.std.proofs.lemmas.List.Folds.{list_any-append}
-use Rattle.pur_base.specs.declared.facts.AddressFact.{AddressFact}
-use Rattle.pyramid.specs.Layers.{facts_of}
-use Rattle.memory_spec.specs.Tables.{facts}
+use Rattle.memory_spec.specs.Prelude.{AddressFact, facts_of, facts}
 use Rattle.array_memory.specs.Kept.{Kept}
 use Rattle.array_memory.specs.Named.{is_named, names}
 use Rattle.array_memory.proofs.memory.Memory.find.Goals as goal

@@ -1,5 +1,5 @@
 use Rattle.std.proofs.Common.{not, ap, ◌∙◌, arith}
-use Rattle.memory_spec.specs.Tables.{facts}
+use Rattle.memory_spec.specs.Prelude.{facts}
 use Rattle.array_memory.proofs.NamedLemmas.{found_before, found_none, found_now}
 use Rattle.array_memory.proofs.memory.Memory.find_by.Goals as goal
 

@@ -1,13 +1,9 @@
 use Rattle.std.proofs.Common.{ℕ, ◌-◌, ◌++◌, IsTrue, not, refl, sym, ap, ◌∙◌, subst, vec_len, vec_capacity, Contains}
-use Rattle.pur_base.specs.Visible.{is_elided, is_within}
+use Rattle.memory_spec.specs.Prelude.{is_elided, is_within, SegmentFact, Layers, AreDistinct, facts_in, patch_facts, patches_of, of_filter, Memory}
 use Rattle.pur_base.specs.declared.request.Table.TheVariants as table
-use Rattle.pur_base.specs.declared.facts.SegmentFact.{SegmentFact}
 use Rattle.elision.specs.Ranges.{ranges_of}
-use Rattle.pyramid.specs.Layers.{Layers, AreDistinct, facts_in, patch_facts, patches_of}
-use Rattle.pyramid.specs.lemmas.Contains.{of_filter}
 use Rattle.segment_table.specs.Segments.{AreVisible, number}
-use Rattle.memory_spec.specs.Memory.{Memory}
-use Rattle.table_plan.specs.Planned.{IsPlanned}
+use Rattle.table_plan.specs.Prelude.{IsPlanned}
 use Rattle.array_memory.specs.Eliding.{eliding_by, IsElidingOf}
 use Rattle.array_memory.specs.Kept.{Kept, kept_of}
 use Rattle.array_memory.specs.Plan.{after_plan, units_of, IsPlanFor, IsSameMemory}

@@ -1,8 +1,5 @@
 use Rattle.std.proofs.Common.{◌≡◌, [], refl}
-use Rattle.pur_base.specs.Plain.{Array}
-use Rattle.array_spec.specs.Stored.{all_facts}
-use Rattle.memory_spec.specs.Memory.{Contents, FactsRead, IsSound, ReadsAs}
-use Rattle.memory_spec.specs.Tables.{facts, patches}
+use Rattle.memory_spec.specs.Prelude.{Array, all_facts, Contents, FactsRead, IsSound, ReadsAs, facts, patches}
 use Rattle.table_soundness.specs.declared.tables.LoadedTables.{LoadedTables}
 use Rattle.array_memory.specs.Kept.{Kept}
 use Rattle.array_memory.specs.Loaded.{memory_of, with_room_of, AreInSegments, IsLoaded}

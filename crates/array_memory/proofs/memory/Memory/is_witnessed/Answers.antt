@@ -1,5 +1,5 @@
 use Rattle.std.proofs.Common.{sym, ◌∙◌}
-use Rattle.memory_spec.specs.Tables.{facts}
+use Rattle.memory_spec.specs.Prelude.{facts}
 use Rattle.array_memory.proofs.NamedLemmas.{named_by}
 use Rattle.array_memory.proofs.memory.Memory.is_witnessed.Goals as goal
 

@@ -1,6 +1,6 @@
 use Rattle.std.proofs.Common.{◌≡◌, ℕ, ◌<◌, get_or, length, take, None, sym, ap, ◌∙◌, subst}
 use Rattle.std.specs.Option.{is_some}
-use Rattle.memory_spec.specs.Tables.{facts}
+use Rattle.memory_spec.specs.Prelude.{facts}
 use Rattle.array_memory.specs.declared.limits.TheConstants.{ELIDED_SEGMENTS}
 use Rattle.array_memory.specs.Eliding.{AreLowestUnused}
 use Rattle.array_memory.specs.Named.{is_named, unnamed}

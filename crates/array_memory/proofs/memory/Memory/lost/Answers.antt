@@ -1,10 +1,6 @@
 use Rattle.std.proofs.Common.{ap, ◌∙◌, map, arith, refl}
 use Rattle.std.proofs.lemmas.List.{take_all}
-use Rattle.pur_base.specs.Facts.{segment_key}
-use Rattle.pur_base.specs.Says.{Ascends}
-use Rattle.pur_base.specs.declared.facts.SegmentFact.{SegmentFact}
-use Rattle.pyramid.specs.lemmas.Contains.{nowhere}
-use Rattle.memory_spec.specs.Tables.{facts}
+use Rattle.memory_spec.specs.Prelude.{segment_key, Ascends, SegmentFact, nowhere, facts}
 use Rattle.array_memory.specs.Kept.{Kept}
 use Rattle.array_memory.specs.Named.{unnamed}
 use Rattle.array_memory.proofs.NamedLemmas.{ascend_more, below_more, lost_more, lost_same}

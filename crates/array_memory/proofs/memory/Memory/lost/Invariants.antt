@@ -1,6 +1,5 @@
 use Rattle.std.proofs.Common.{◌≡◌, ℕ, ◌<◌, ◌≤◌, AllPairs, Contains, length, get_or, map, take}
-use Rattle.pur_base.specs.declared.facts.SegmentFact.{SegmentFact}
-use Rattle.memory_spec.specs.Tables.{facts}
+use Rattle.memory_spec.specs.Prelude.{SegmentFact, facts}
 use Rattle.array_memory.specs.Named.{unnamed}
 use Rattle.array_memory.proofs.memory.Memory.lost.Given as goal
 

@@ -1,10 +1,8 @@
 use Rattle.std.proofs.Common.{◌≡◌, ◌≢◌, ◌+◌, ◌<◌, ap, ◌∙◌, subst}
-use Rattle.pur_base.specs.Visible.{is_elided, is_within}
-use Rattle.pur_base.specs.declared.request.Table.{Table}
+use Rattle.memory_spec.specs.Prelude.{is_elided, is_within, Table, flushed}
 use Rattle.pur_base.specs.declared.request.Table.TheVariants as table
 use Rattle.elision.specs.Ranges.{ranges_of}
-use Rattle.memory_spec.specs.Tables.{flushed}
-use Rattle.table_plan.specs.Merging.{patch_count}
+use Rattle.table_plan.specs.Prelude.{patch_count}
 use Rattle.array_memory.proofs.Seen.{seen}
 use Rattle.array_memory.proofs.MergingLemmas.{elided_test}
 use Rattle.array_memory.proofs.memory.Memory.merged_by.Goals as goal

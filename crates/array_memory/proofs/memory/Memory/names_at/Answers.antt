@@ -1,6 +1,5 @@
 use Rattle.std.proofs.Common.{◌≡◌, Some, None, sym, ap, ◌∙◌}
-use Rattle.pur_base.specs.Visible.{address}
-use Rattle.memory_spec.specs.Tables.{facts}
+use Rattle.memory_spec.specs.Prelude.{address, facts}
 use Rattle.array_memory.specs.Named.{is_said_in, names_at}
 use Rattle.array_memory.proofs.Seen.{seen}
 use Rattle.array_memory.proofs.ResolveLemmas.{addresses_same}

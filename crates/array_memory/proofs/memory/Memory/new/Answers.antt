@@ -1,7 +1,5 @@
 use Rattle.std.proofs.Common.{[], ap, length, arith}
-use Rattle.pur_base.specs.Facts.{object_key, never}
-use Rattle.pur_base.specs.Visible.{is_within}
-use Rattle.pyramid.specs.lemmas.Shown.{shown_nothing}
+use Rattle.memory_spec.specs.Prelude.{object_key, never, is_within, shown_nothing}
 use Rattle.object_table.specs.Objects.{number}
 use Rattle.array_memory.proofs.memory.Memory.new.Goals as goal
 

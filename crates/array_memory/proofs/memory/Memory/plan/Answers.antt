@@ -1,5 +1,5 @@
 use Rattle.std.proofs.Common.{sym, subst, arith}
-use Rattle.memory_spec.specs.Eliding.{IsEliding}
+use Rattle.memory_spec.specs.Prelude.{IsEliding}
 use Rattle.array_memory.specs.declared.plan.Eliding.{Eliding}
 use Rattle.array_memory.specs.Eliding.{eliding_by, IsElidingOf}
 use Rattle.array_memory.specs.Plan.{IsPlanFor}

@@ -1,7 +1,6 @@
 use Rattle.std.proofs.Common.{rules, ◌≡◌, ◌+◌, ◌<◌, length, ap, ◌∙◌, arith, map}
 use Rattle.std.proofs.lemmas.Grind.{common_steps}
-use Rattle.pur_base.specs.declared.facts.SegmentFact.{SegmentFact}
-use Rattle.fact_codec.specs.declared.limits.TheConstants.{NUMBER_LIMIT}
+use Rattle.memory_spec.specs.Prelude.{SegmentFact, NUMBER_LIMIT}
 use Rattle.array_memory.specs.declared.plan.Plan.{Plan}
 use Rattle.array_memory.specs.Eliding.{eliding_by}
 use Rattle.array_memory.specs.Plan.{next_past}

@@ -2,12 +2,7 @@ use Rattle.std.proofs.Common.{rules, ◌≡◌, ◌↔◌, ◌⊎◌, ℕ, ◌+�
 use Rattle.std.proofs.lemmas.Grind.{common_steps}
 use Rattle.std.specs.Prelude.{is_err}
 use Rattle.std.proofs.lemmas.List.Elements.{Contains-append_right}
-use Rattle.pur_base.specs.Facts.{address_key}
-use Rattle.pur_base.specs.Says.{Ascends}
-use Rattle.pur_base.specs.declared.facts.AddressFact.{AddressFact}
-use Rattle.pyramid.specs.Layers.{facts_in, facts_of, AreBelow}
-use Rattle.pyramid.specs.lemmas.Layers.{below_at}
-use Rattle.memory_spec.specs.Adding.{address_facts}
+use Rattle.memory_spec.specs.Prelude.{address_key, Ascends, AddressFact, facts_in, facts_of, AreBelow, below_at, address_facts}
 use Rattle.array_memory.specs.Runs.{targets_from}
 use Rattle.array_memory.proofs.CountLemmas.{no_fewer_facts, no_more_facts}
 use Rattle.array_memory.proofs.RunLemmas.{run_ascends, targets_long}

@@ -1,14 +1,11 @@
 use Rattle.std.proofs.Common.{◌≡◌, ℕ, ◌+◌, refl, sym, ap, subst}
-use Rattle.pur_base.specs.declared.request.Table.{Table}
+use Rattle.memory_spec.specs.Prelude.{Table, NextNumbers, IsMergedAt, AreLayered}
 use Rattle.pur_base.specs.declared.request.Table.TheVariants as table
-use Rattle.boot_codec.specs.declared.record.NextNumbers.{NextNumbers}
 use Rattle.object_table.specs.Objects.{Objects}
 use Rattle.segment_table.specs.Segments.{Segments}
-use Rattle.memory_spec.specs.Merging.{IsMergedAt}
-use Rattle.memory_spec.specs.Whole.{AreLayered}
 use Rattle.table_plan.specs.declared.merged.Merged.{Merged}
 use Rattle.table_plan.specs.declared.merged.Merged.TheVariants as merged
-use Rattle.table_plan.specs.Merging.{IsMergedOf}
+use Rattle.table_plan.specs.Prelude.{IsMergedOf}
 use Rattle.array_memory.specs.declared.memory.Memory.TheInside.{Inside}
 use Rattle.array_memory.specs.Kept.{Kept, IsKept}
 use Rattle.array_memory.proofs.Seen.{seen}

@@ -1,7 +1,5 @@
 use Rattle.std.proofs.Common.{ℕ, ◌<◌, ◌+◌, get_or}
-use Rattle.pur_base.specs.Mediums.{Reads}
-use Rattle.pur_base.specs.declared.facts.Target.TheVariants.{Zero}
-use Rattle.memory_spec.specs.Tables.{facts}
+use Rattle.memory_spec.specs.Prelude.{Reads, Zero, facts}
 use Rattle.array_memory.proofs.memory.Memory.resolve.Given as goal
 
 abbrev pub invariant-loop-i : goal.invariant-loop-i

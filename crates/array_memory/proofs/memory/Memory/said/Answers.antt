@@ -1,6 +1,6 @@
 use Rattle.std.proofs.Common.{◌+◌, ◌∙◌, ap, option_map}
 use Rattle.std.specs.Prelude.{Option}
-use Rattle.pur_base.specs.declared.facts.AddressFact.{AddressFact}
+use Rattle.memory_spec.specs.Prelude.{AddressFact}
 use Rattle.array_memory.proofs.Seen.{seen}
 use Rattle.array_memory.proofs.ResolveLemmas.{addresses_same}
 use Rattle.array_memory.proofs.memory.Memory.said.Goals as goal

@@ -1,9 +1,6 @@
 use Rattle.std.proofs.Common.{◌≡◌, ◌∙◌, sym, subst, arith, Some, None}
-use Rattle.pur_base.specs.declared.facts.Target.TheVariants.{Zero}
-use Rattle.pur_base.specs.declared.facts.MediumFact.{MediumFact}
-use Rattle.pur_base.specs.Mediums.{IsOver, here, below, unwritten}
-use Rattle.pur_base.specs.Visible.{address}
-use Rattle.memory_spec.specs.Tables.{facts}
+use Rattle.memory_spec.specs.Prelude.{Zero, MediumFact, IsOver, below, unwritten, address, facts}
+use Rattle.pur_base.specs.Mediums.{here}
 use Rattle.array_memory.specs.Kept.{Kept}
 use Rattle.array_memory.proofs.Seen.{seen, sound_of}
 use Rattle.array_memory.proofs.ResolveLemmas.{disjoint, addresses_same, over_same, leads}

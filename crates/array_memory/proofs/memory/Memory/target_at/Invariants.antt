@@ -1,6 +1,4 @@
-use Rattle.pur_base.specs.declared.facts.Target.{Target}
-use Rattle.pur_base.specs.Mediums.{Reads}
-use Rattle.memory_spec.specs.Tables.{facts}
+use Rattle.memory_spec.specs.Prelude.{Target, Reads, facts}
 use Rattle.array_memory.proofs.memory.Memory.target_at.Given as goal
 
 abbrev pub invariant-loop-target : goal.invariant-loop-target

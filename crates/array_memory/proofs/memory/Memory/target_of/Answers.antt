@@ -1,8 +1,7 @@
 use Rattle.std.proofs.Common.{◌∙◌, sym, ap, arith, option_map}
 use Rattle.std.specs.Prelude.{Option}
-use Rattle.pur_base.specs.Mediums.{here, unwritten}
-use Rattle.pur_base.specs.declared.facts.AddressFact.{AddressFact}
-use Rattle.memory_spec.specs.Tables.{facts}
+use Rattle.memory_spec.specs.Prelude.{unwritten, AddressFact, facts}
+use Rattle.pur_base.specs.Mediums.{here}
 use Rattle.array_memory.proofs.ResolveLemmas.{none_over}
 use Rattle.array_memory.proofs.memory.Memory.target_of.Goals as goal
 

@@ -1,5 +1,5 @@
 use Rattle.std.proofs.Common.{◌≡◌, ◌+◌, ◌-◌, ◌++◌, ◌∙◌, sym, ap, arith, List, ℕ, Some, length, vec_len, vec_capacity, length-append}
-use Rattle.pur_base.specs.declared.facts.ObjectFact.{ObjectFact}
+use Rattle.memory_spec.specs.Prelude.{ObjectFact}
 use Rattle.array_memory.specs.Kept.{Kept, kept_of}
 use Rattle.array_memory.specs.Runs.{targets_from}
 use Rattle.array_memory.proofs.RunLemmas.{targets_long}

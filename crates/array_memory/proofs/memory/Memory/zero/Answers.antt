@@ -1,5 +1,5 @@
 use Rattle.std.proofs.Common.{[], ap, arith, None, length-append}
-use Rattle.pur_base.specs.declared.facts.ObjectFact.{ObjectFact}
+use Rattle.memory_spec.specs.Prelude.{ObjectFact}
 use Rattle.array_memory.specs.Runs.{targets_from}
 use Rattle.array_memory.proofs.RunLemmas.{targets_long}
 use Rattle.array_memory.proofs.PutLemmas.{put_done, put_room, none_staged}

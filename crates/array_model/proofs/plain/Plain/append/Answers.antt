@@ -1,6 +1,5 @@
 use Rattle.std.proofs.Common.{◌≡◌, false, List, ℕ, replicate, ap, ◌∙◌}
-use Rattle.pur_base.specs.Plain.{appended}
-use Rattle.pur_base.specs.Sectors.{filled}
+use Rattle.pur_base.specs.Prelude.{appended, filled}
 use Rattle.array_model.specs.Objects.{array_of}
 use Rattle.array_model.proofs.PlaceLemmas.{inserted}
 use Rattle.array_model.proofs.plain.Plain.append.Goals as goal

@@ -1,6 +1,6 @@
 use Rattle.std.proofs.Common.{◌≡◌, ◌<◌, ℕ, List}
 use Rattle.std.specs.Prelude.{Some}
-use Rattle.boot_codec.specs.Region.{IsDecided}
+use Rattle.array_spec.specs.Prelude.{IsDecided}
 use Rattle.boot_region.specs.Slots.{slot_in}
 use Rattle.boot_region.specs.Regions.{vote_of, all_votes}
 use Rattle.boot_region.proofs.regions.Regions.decided.Given as goal

@@ -1,5 +1,5 @@
 use Rattle.std.proofs.Common.{rules, ◌≡◌, arith, true, false, sym, ◌∙◌, length}
-use Rattle.boot_codec.specs.Region.{is_vote}
+use Rattle.array_spec.specs.Prelude.{is_vote}
 use Rattle.boot_region.specs.Slots.{slot_in}
 use Rattle.boot_region.specs.Regions.{vote_of, all_votes}
 use Rattle.boot_region.proofs.RegionLemmas.{counts_next}

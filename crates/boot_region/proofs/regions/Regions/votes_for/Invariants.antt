@@ -1,7 +1,7 @@
 use Rattle.std.proofs.Common.{◌≡◌, ◌≤◌, map}
 use Rattle.std.specs.Prelude.{count_by}
 use Rattle.std.specs.List.{range_with_len}
-use Rattle.boot_codec.specs.Region.{is_vote}
+use Rattle.array_spec.specs.Prelude.{is_vote}
 use Rattle.boot_region.specs.Slots.{slot_in}
 use Rattle.boot_region.specs.Regions.{vote_of}
 use Rattle.boot_region.proofs.regions.Regions.votes_for.Given as goal

@@ -1,6 +1,5 @@
 use Rattle.std.proofs.Common.{◌≡◌, false, ap, ◌∙◌, ◌^◌, ◌<◌, arith, refl}
-use Rattle.pur_base.specs.Visible.{is_within}
-use Rattle.pyramid.specs.Layers.{facts_in}
+use Rattle.pyramid.specs.Prelude.{is_within, facts_in}
 use Rattle.pyramid.proofs.DistinctLemmas.{from_ok}
 use Rattle.medium_table.specs.Ranges.{after_cut, cut_facts, said, IsLowest}
 use Rattle.medium_table.proofs.RangeLemmas.{one_lowest, taken_as, visible_medium, not_elided}

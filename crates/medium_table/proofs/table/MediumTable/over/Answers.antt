@@ -1,6 +1,5 @@
 use Rattle.std.proofs.Common.{◌∙◌}
-use Rattle.pur_base.specs.Keys.{key_of}
-use Rattle.pyramid.specs.Layers.{facts_in}
+use Rattle.pyramid.specs.Prelude.{key_of, facts_in}
 use Rattle.pyramid.proofs.DistinctLemmas.{from_ok}
 use Rattle.medium_table.proofs.RangeLemmas.{whole_over}
 use Rattle.medium_table.proofs.table.MediumTable.over.Goals as goal

@@ -1,7 +1,7 @@
 use Rattle.std.proofs.lemmas.Bool.{le-ltb, lt-ltb}
 use Rattle.std.specs.Prelude.{nat_lt, true, false}
 use Rattle.std.proofs.Common.{◌≡◌, ap, ◌∙◌, [], ◌∷◌, ◌++◌, arith}
-use Rattle.pyramid.specs.Layers.{facts_in}
+use Rattle.pyramid.specs.Prelude.{facts_in}
 use Rattle.pyramid.proofs.DistinctLemmas.{from_ok}
 use Rattle.medium_table.specs.Ranges.{cut_facts, emptied, said}
 use Rattle.medium_table.proofs.RangeLemmas.{below_emptied, below_pair, cut_whole, cut_part, taken_as}

@@ -1,5 +1,4 @@
-use Rattle.pyramid.specs.Layers.{facts_of}
-use Rattle.pyramid.specs.lemmas.Keys.{above_flushed, above_unflushed}
+use Rattle.pyramid.specs.Prelude.{facts_of, above_flushed, above_unflushed}
 use Rattle.medium_table.specs.Ranges.{number}
 use Rattle.medium_table.proofs.table.MediumTable.put_run.Goals as goal
 

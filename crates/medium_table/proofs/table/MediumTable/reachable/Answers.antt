@@ -1,8 +1,6 @@
 use Rattle.std.proofs.Common.{◌↔◌, get_or, arith, Contains}
 use Rattle.std.proofs.lemmas.List.Elements.{Contains-get_or}
-use Rattle.pur_base.specs.declared.facts.MediumFact.{MediumFact}
-use Rattle.pur_base.specs.Visible.{is_within}
-use Rattle.pyramid.specs.Layers.{facts_in}
+use Rattle.pyramid.specs.Prelude.{MediumFact, is_within, facts_in}
 use Rattle.medium_table.specs.Reaching.{IsVisible}
 use Rattle.medium_table.proofs.ReachLemmas.{reached}
 use Rattle.medium_table.proofs.table.MediumTable.reachable.Goals as goal

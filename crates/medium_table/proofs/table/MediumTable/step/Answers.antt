@@ -1,9 +1,5 @@
 use Rattle.std.proofs.Common.{◌^◌, ◌<◌, arith}
-use Rattle.pur_base.specs.Facts.{medium_key}
-use Rattle.pur_base.specs.Keys.{key_of}
-use Rattle.pur_base.specs.Visible.{is_within}
-use Rattle.pyramid.specs.Ends.{IsLastSaid}
-use Rattle.pyramid.specs.Layers.{facts_in}
+use Rattle.pyramid.specs.Prelude.{medium_key, key_of, is_within, IsLastSaid, facts_in}
 use Rattle.medium_table.specs.Ranges.{said}
 use Rattle.medium_table.proofs.RangeLemmas.{none_over}
 use Rattle.medium_table.proofs.table.MediumTable.step.Goals as goal

@@ -1,7 +1,7 @@
 use Rattle.std.proofs.Common.{◌≡◌, ℕ, ◌+◌, ◌*◌, ◌<◌, List, sym, ◌∙◌, subst, arith, length-append}
 use Rattle.std.proofs.lemmas.List.{with_items_is, length-map}
-use Rattle.pur_base.specs.Bytes.{bytes_at}
-use Rattle.log_codec.specs.Log.{Spells}
+use Rattle.world.specs.Prelude.{bytes_at}
+use Rattle.log_codec.specs.Prelude.{Spells}
 use Rattle.nvram_log.specs.Records.{commands_of, command_of, SpellFrom}
 use Rattle.nvram_log.proofs.Kept.{kept, kept_more, numbered}
 use Rattle.nvram_log.proofs.log.NvLog.append.Goals as goal

@@ -1,6 +1,5 @@
 use Rattle.std.proofs.Common.{ℕ, sym, subst}
-use Rattle.world.specs.Writes.{WritesOnly}
-use Rattle.world.specs.lemmas.Moments.{weaker}
+use Rattle.world.specs.Prelude.{WritesOnly, weaker}
 use Rattle.nvram_log.specs.Members.{OnRange}
 use Rattle.nvram_log.proofs.Closing.{while_closing, none_while_closing}
 use Rattle.nvram_log.proofs.log.NvLog.clear.Goals as goal

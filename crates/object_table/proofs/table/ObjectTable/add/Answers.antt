@@ -1,5 +1,5 @@
 use Rattle.std.proofs.Common.{◌≡◌, ◌∷◌, ◌++◌, [], ◌∙◌}
-use Rattle.pyramid.specs.lemmas.Shown.{fresh_of, rising_of, taken_in}
+use Rattle.pyramid.specs.Prelude.{fresh_of, rising_of, taken_in}
 use Rattle.object_table.specs.Objects.{number, objects_of}
 use Rattle.object_table.proofs.ObjectLemmas.{inserted_last, objects_push, listed_push, shown_push}
 use Rattle.object_table.proofs.table.ObjectTable.add.Goals as goal

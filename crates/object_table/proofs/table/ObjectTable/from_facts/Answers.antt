@@ -1,5 +1,4 @@
-use Rattle.pur_base.specs.Visible.{is_within}
-use Rattle.pyramid.specs.Layers.{facts_in}
+use Rattle.pyramid.specs.Prelude.{is_within, facts_in}
 use Rattle.object_table.proofs.ObjectLemmas.{all_shown, shown_names, listed_map, named_map}
 use Rattle.object_table.proofs.table.ObjectTable.from_facts.Goals as goal
 

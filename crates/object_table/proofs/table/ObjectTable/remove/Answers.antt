@@ -1,6 +1,6 @@
 use Rattle.object_table.specs.Objects.{objects_of}
 use Rattle.std.proofs.Common.{sym}
-use Rattle.pyramid.specs.Layers.{facts_in}
+use Rattle.pyramid.specs.Prelude.{facts_in}
 use Rattle.object_table.proofs.ObjectLemmas.{filter_none, removed_at, listed_removed, shown_removed}
 use Rattle.object_table.proofs.table.ObjectTable.remove.Goals as goal
 

@@ -1,5 +1,5 @@
 use Rattle.std.proofs.Common.{◌≡◌, sym, ◌∙◌, refl}
-use Rattle.pyramid.specs.lemmas.Shown.{fresh_of, rising_of, taken_in}
+use Rattle.pyramid.specs.Prelude.{fresh_of, rising_of, taken_in}
 use Rattle.object_table.specs.Objects.{number, objects_of, with_medium}
 use Rattle.object_table.proofs.ObjectLemmas.{set_objects, listed_set, shown_moved, moved, found_at, got_at, one_id, with_moved, length_objects}
 use Rattle.object_table.proofs.table.ObjectTable.set_medium.Goals as goal

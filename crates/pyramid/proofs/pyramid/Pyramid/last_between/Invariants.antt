@@ -1,7 +1,6 @@
 use Rattle.std.proofs.Common.{◌≡◌, ℕ, ◌+◌, ◌-◌, ◌<◌, ◌≤◌}
 use Rattle.std.specs.Prelude.{None}
-use Rattle.pur_base.specs.Says.{says}
-use Rattle.pur_base.specs.Visible.{is_within}
+use Rattle.pur_base.specs.Prelude.{says, is_within}
 use Rattle.pyramid.specs.Layers.{facts_in}
 use Rattle.pyramid.proofs.pyramid.Pyramid.last_between.Given as goal
 

@@ -1,6 +1,6 @@
 use Rattle.std.proofs.Common.{◌+◌, [], get_or, filter}
 use Rattle.std.specs.Prelude.{◌==◌}
-use Rattle.pur_base.specs.Visible.{is_within}
+use Rattle.pur_base.specs.Prelude.{is_within}
 use Rattle.pyramid.specs.Layers.{stays}
 use Rattle.pyramid.specs.Merging.{merged}
 use Rattle.pyramid.proofs.PlaceLemmas.{merged_at}

@@ -1,5 +1,5 @@
 use Rattle.std.proofs.Common.{[], true, get_or, filter}
-use Rattle.pur_base.specs.Visible.{is_within}
+use Rattle.pur_base.specs.Prelude.{is_within}
 use Rattle.pyramid.specs.Layers.{stays}
 use Rattle.pyramid.specs.Merging.{merged}
 use Rattle.pyramid.proofs.PlaceLemmas.{rewritten_at}

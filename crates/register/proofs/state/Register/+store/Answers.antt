@@ -1,12 +1,9 @@
 use Rattle.std.proofs.Common.{rules, refl, Result, Ok, Err, subst, ◌-◌, ◌^◌, arith, ◌≡◌, ◌+◌, ◌<◌, ◌≤◌, length, sym, ◌∙◌, ap}
-use Rattle.boot_codec.specs.declared.record.BootRecord.{BootRecord}
-use Rattle.boot_codec.specs.Record.{set_count}
-use Rattle.world.specs.lemmas.Moments.{then_run, weaker}
-use Rattle.world.specs.lemmas.Ran.{ran_then, ran_more}
+use Rattle.array_spec.specs.Prelude.{BootRecord, set_count}
+use Rattle.world.specs.Prelude.{then_run, weaker, ran_then, ran_more, LeavesOnly}
 use Rattle.boot_region.proofs.Stored.{on_fewer}
 use Rattle.register.specs.Registers.{drives_of}
 use Rattle.register.specs.declared.state.Register.{Register}
-use Rattle.world.specs.Shelf.{LeavesOnly}
 use Rattle.register.specs.Standing.{IsFirm, IsInStoreOf, IsNextOf, IsOpen, MayStore, StaysLogged}
 use Rattle.register.specs.lemmas.Flags.{same_flags, other_flags}
 use Rattle.register.proofs.Opened.{is_open}

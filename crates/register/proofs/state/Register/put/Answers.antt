@@ -1,11 +1,8 @@
 use Rattle.std.proofs.Common.{rules, arith, ◌≡◌, ◌+◌, ◌<◌, ℕ, List, Bool, ◌++◌, refl, length, drop, sym, ◌∙◌, subst}
-use Rattle.boot_region.specs.Members.{IsMember}
-use Rattle.boot_region.specs.Storing.{AreEnough, Shows, IsFirmOn, IsInForceOn, IsNewer, IsStoredIn, IsStoredOn, MayFollow, StandsAgain}
-use Rattle.boot_region.specs.Slots.{slot_in}
-use Rattle.boot_codec.specs.Region.{BootSlot}
-use Rattle.world.specs.Shelf.{LeavesOnly}
+use Rattle.boot_region.specs.Prelude.{IsMember, AreEnough, Shows, IsFirmOn, IsInForceOn, IsNewer, IsStoredIn, IsStoredOn, MayFollow, StandsAgain, slot_in}
+use Rattle.array_spec.specs.Prelude.{BootSlot, set_count}
+use Rattle.world.specs.Prelude.{LeavesOnly}
 use Rattle.register.specs.Registers.{drives_of, own_slot}
-use Rattle.boot_codec.specs.Record.{set_count}
 use Rattle.register.proofs.Made.{drops_put}
 use Rattle.register.specs.lemmas.Flags.{put_back, fewer_count}
 use Rattle.register.proofs.Rounds.{cut_left}

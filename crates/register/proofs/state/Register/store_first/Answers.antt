@@ -1,10 +1,6 @@
 use Rattle.std.proofs.Common.{rules, refl, inl, ◌≡◌, ◌+◌, ◌-◌, ◌^◌, ◌<◌, ◌∷◌, [], length, ◌∙◌, ap, subst}
-use Rattle.boot_codec.specs.declared.record.BootRecord.{BootRecord}
-use Rattle.boot_codec.specs.Record.{IsBootRecord}
-use Rattle.boot_codec.specs.Spelling.{spelling}
-use Rattle.array_spec.specs.lemmas.Standings.{given_with_fewer}
-use Rattle.world.specs.lemmas.Moments.{started}
-use Rattle.world.specs.lemmas.Ran.{ran_none, runs_more}
+use Rattle.array_spec.specs.Prelude.{BootRecord, IsBootRecord, spelling, given_with_fewer}
+use Rattle.world.specs.Prelude.{started, ran_none, runs_more}
 use Rattle.register.specs.Registers.{drives_of, named_sound, next_slot, next_record}
 use Rattle.register.specs.Standing.{array_of}
 use Rattle.register.specs.Giving.{GivesOldOrTables}
@@ -12,7 +8,7 @@ use Rattle.register.specs.Tables.{StandsAsBefore, with_tables}
 use Rattle.register.proofs.Follows.{stands_before}
 use Rattle.register.proofs.Numbers.{next_other}
 use Rattle.register.specs.lemmas.Stores.{fewer_cut, from_ok, when_ok}
-use Rattle.boot_region.specs.Storing.{StandsAgain}
+use Rattle.boot_region.specs.Prelude.{StandsAgain}
 use Rattle.boot_region.proofs.Composing.{as_it_is}
 use Rattle.std.specs.Prelude.{IsOk, IsErr, IfErr}
 use Rattle.nvram_log.specs.Members as nv

@@ -1,19 +1,15 @@
 use Rattle.std.proofs.Common.{rules, refl, inl, arith, ◌≡◌, ◌+◌, ◌-◌, ◌^◌, ◌<◌, length, ◌∙◌, ap, sym, subst}
-use Rattle.boot_codec.specs.declared.record.BootRecord.{BootRecord}
-use Rattle.boot_codec.specs.Record.{IsBootRecord}
-use Rattle.boot_codec.specs.Spelling.{spelling}
-use Rattle.world.specs.lemmas.Moments.{started}
-use Rattle.world.specs.lemmas.Ran.{ran_none, runs_more}
+use Rattle.array_spec.specs.Prelude.{BootRecord, IsBootRecord, spelling, given_with_fewer}
+use Rattle.world.specs.Prelude.{started, ran_none, runs_more}
 use Rattle.register.specs.declared.state.Register.{Register}
 use Rattle.register.specs.Registers.{drives_of, next_slot, next_record}
 use Rattle.register.proofs.Made.{drops_none, drops_from, none_made, made_once, stays_logged}
 use Rattle.register.proofs.Rounds.{Puts, puts_next, on_slots, logged_next, older_next, shown_put, moments_next, again_next, firmly_next, outlasts_next}
-use Rattle.array_spec.specs.lemmas.Standings.{given_with_fewer}
 use Rattle.register.specs.Standing.{IsInStoreOf, StandsInLog}
 use Rattle.register.proofs.Follows.{stands_before}
 use Rattle.register.proofs.Numbers.{next_other}
 use Rattle.register.specs.lemmas.Stores.{ended_midway, fewer_cut, from_ok, when_ok}
-use Rattle.boot_region.specs.Storing.{StandsAgain}
+use Rattle.boot_region.specs.Prelude.{StandsAgain}
 use Rattle.boot_region.proofs.Composing.{as_it_is}
 use Rattle.std.specs.Prelude.{IsOk, IsErr, IfErr}
 use Rattle.register.specs.Faults.{IsFaultOf}

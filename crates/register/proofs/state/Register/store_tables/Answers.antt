@@ -1,17 +1,13 @@
 use Rattle.std.proofs.Common.{rules, List, ◌∷◌, [], refl, Result, Ok, Err, arith, ◌≡◌, ◌+◌, ◌-◌, ◌^◌, ◌<◌, ◌≤◌, length, sym, ◌∙◌, ap, subst}
-use Rattle.boot_codec.specs.declared.record.BootRecord.{BootRecord}
-use Rattle.boot_codec.specs.Record.{set_count}
-use Rattle.world.specs.lemmas.Moments.{then_run, weaker}
-use Rattle.world.specs.lemmas.Ran.{ran_then, ran_more}
+use Rattle.array_spec.specs.Prelude.{BootRecord, set_count, Array}
+use Rattle.world.specs.Prelude.{then_run, weaker, ran_then, ran_more, LeavesOnly}
 use Rattle.boot_region.proofs.Stored.{on_fewer}
-use Rattle.pur_base.specs.Plain.{Array}
 use Rattle.register.specs.Registers.{drives_of, named_sound}
 use Rattle.register.specs.Standing.{IsFirm, IsInStoreOf, IsOpen, MayStore, array_of}
 use Rattle.register.specs.Giving.{IsNextWith}
 use Rattle.register.specs.lemmas.Flags.{same_flags, other_flags}
 use Rattle.register.proofs.Opened.{is_open}
 use Rattle.register.proofs.Outlasts.{left, next_round, later_again}
-use Rattle.world.specs.Shelf.{LeavesOnly}
 use Rattle.register.specs.declared.next.StoreFault.{StoreFault}
 use Rattle.register.specs.declared.state.Register.{Register}
 use Rattle.register.specs.Storing.{DropsOnlyFailed, HasStored}

@@ -1,5 +1,5 @@
 use Rattle.std.proofs.Common.{◌+◌, ◌≤◌, length, ◌≡◌, ◌++◌, take}
-use Rattle.pur_base.specs.Replies.{sectors_text}
+use Rattle.world.specs.Prelude.{sectors_text}
 use Rattle.request_codec.specs.declared.buffer.TheConstants.{BUFFER_BYTES}
 use Rattle.request_codec.specs.Calls.{Went, well}
 use Rattle.request_codec.specs.Writing.{Extends}

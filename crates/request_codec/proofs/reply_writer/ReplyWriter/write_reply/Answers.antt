@@ -1,5 +1,5 @@
 use Rattle.std.proofs.lemmas.Result.{err_from_is_err_and}
-use Rattle.pur_base.specs.Replies.{line_text}
+use Rattle.world.specs.Prelude.{line_text}
 use Rattle.request_codec.proofs.WritingLemmas.{goes-first, goes-then}
 use Rattle.request_codec.proofs.reply_writer.ReplyWriter.write_reply.Goals as goal
 

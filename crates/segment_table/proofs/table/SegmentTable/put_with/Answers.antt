@@ -1,7 +1,5 @@
 use Rattle.std.proofs.Common.{◌<◌, arith, Contains}
-use Rattle.pur_base.specs.Facts.{segment_key}
-use Rattle.pur_base.specs.declared.facts.SegmentFact.{SegmentFact}
-use Rattle.pyramid.specs.lemmas.Layers.{rises_below}
+use Rattle.pyramid.specs.Prelude.{segment_key, SegmentFact, rises_below}
 use Rattle.segment_table.specs.Segments.{number}
 use Rattle.segment_table.proofs.AddedLemmas.{ascends_behind, rising_with, shown_with}
 use Rattle.segment_table.proofs.table.SegmentTable.put_with.Goals as goal

@@ -1,10 +1,6 @@
 use Rattle.std.proofs.Common.{rules, ◌≡◌, filter, not}
 use Rattle.std.proofs.lemmas.Fn.{filter_same}
-use Rattle.pur_base.specs.Facts.{segment_key}
-use Rattle.pur_base.specs.Visible.{is_within}
-use Rattle.pur_base.specs.declared.facts.SegmentFact.{SegmentFact}
-use Rattle.pyramid.specs.Layers.{facts_in}
-use Rattle.pyramid.specs.lemmas.Merges.{ascends_filter}
+use Rattle.pyramid.specs.Prelude.{segment_key, is_within, SegmentFact, facts_in, ascends_filter}
 use Rattle.segment_table.proofs.SegmentLemmas.{shown_less}
 use Rattle.segment_table.proofs.table.SegmentTable.remove_elided.Goals as goal
 

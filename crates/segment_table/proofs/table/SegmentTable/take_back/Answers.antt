@@ -1,8 +1,6 @@
 use Rattle.std.proofs.Common.{rules, ◌≡◌, filter}
 use Rattle.std.proofs.lemmas.Fn.{filter_same}
-use Rattle.pur_base.specs.Facts.{segment_key}
-use Rattle.pyramid.specs.Layers.{facts_in}
-use Rattle.pyramid.specs.lemmas.Merges.{ascends_filter}
+use Rattle.pyramid.specs.Prelude.{segment_key, facts_in, ascends_filter}
 use Rattle.segment_table.proofs.SegmentLemmas.{is_before, left_back, shown_back}
 use Rattle.segment_table.proofs.table.SegmentTable.take_back.Goals as goal
 

@@ -1,8 +1,7 @@
 use Rattle.std.proofs.Common.{◌≡◌, List, length, sym, ap, ◌∙◌, arith}
 use Rattle.std.specs.Prelude.{slice_get}
 use Rattle.std.proofs.lemmas.Option.{slice_get-get_or}
-use Rattle.boot_codec.specs.declared.patch.PatchSegment.{PatchSegment}
-use Rattle.array_spec.specs.Stored.{pages_in_part}
+use Rattle.array_spec.specs.Prelude.{PatchSegment, pages_in_part}
 use Rattle.patch_io.proofs.Parts.{places_are}
 use Rattle.segment_writer.proofs.PatchLayout.{ids_are, same_header}
 use Rattle.segment_writer.proofs.patch.PatchHeadsHeaded.header.Goals as goal

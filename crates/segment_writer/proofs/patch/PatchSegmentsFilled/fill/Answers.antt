@@ -2,9 +2,8 @@ use Rattle.std.proofs.Common.{◌≡◌, ◌*◌, ◌-◌, ◌≤◌, ◌++◌, 
 use Rattle.std.specs.Int.{div_ceil}
 use Rattle.std.specs.List.{AllByRecursion}
 use Rattle.std.proofs.lemmas.List.{get_or_append_left, length-take-le, length-map}
-use Rattle.pur_base.specs.declared.facts.AnyFact.{AnyFact}
-use Rattle.fact_codec.specs.Fact.{IsLawful}
-use Rattle.segment_io.specs.Stripes.{IsStripeOf, stripe_in}
+use Rattle.array_spec.specs.Prelude.{AnyFact, IsLawful}
+use Rattle.segment_io.specs.Prelude.{IsStripeOf, stripe_in}
 use Rattle.segment_writer.specs.PatchFilling.{HoldsFacts}
 use Rattle.segment_writer.proofs.PatchAppended.{stripe_holds}
 use Rattle.segment_writer.proofs.PatchLayout.{part_facts, part_fits, part_lawful}

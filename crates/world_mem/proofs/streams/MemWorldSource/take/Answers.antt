@@ -1,7 +1,7 @@
 use Rattle.std.proofs.Common.{◌≡◌, ◌+◌, ◌-◌, ◌≤◌, [], ◌∷◌, ◌++◌, min, length, slice_range, rules, arith, refl}
 use Rattle.world_mem.specs.declared.record.Call.TheVariants.{Take}
 use Rattle.world_mem.specs.Past.{view, sunk}
-use Rattle.world.specs.lemmas.Rests.{same_stream}
+use Rattle.world.specs.Prelude.{same_stream}
 use Rattle.world_mem.proofs.Takes.{took, none, told}
 use Rattle.world_mem.proofs.Turned.{takes}
 use Rattle.world_mem.proofs.streams.MemWorldSource.take.Goals as goal

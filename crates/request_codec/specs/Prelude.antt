@@ -1,0 +1,7 @@
+-- What crates above name of this one, page by page.
+pub use Rattle.request_codec.specs.Ahead.{Tells, budget}
+pub use Rattle.request_codec.specs.Calls.{Went, well}
+pub use Rattle.request_codec.specs.Items.{IsServed, Reads, item_read}
+pub use Rattle.request_codec.specs.Reading.{Unfinished}
+pub use Rattle.request_codec.specs.Spelled.{IsSpelledRequest}
+pub use Rattle.request_codec.specs.Writing.{Extends, Gave, Goes}
