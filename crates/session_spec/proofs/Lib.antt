@@ -4,3 +4,4 @@ pub mod Left
 pub mod Reached
 pub mod Resumed
 pub mod Taken
+pub mod HistoryHolds

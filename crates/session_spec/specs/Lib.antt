@@ -8,3 +8,4 @@ pub mod Making
 pub mod Chain
 pub mod lemmas
 pub mod Prelude
+pub mod History

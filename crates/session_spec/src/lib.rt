@@ -4,6 +4,7 @@
 
 mod causes;
 mod chaining;
+mod histories;
 mod limits;
 mod reaching;
 
@@ -11,6 +12,7 @@ pub use causes::{claims_have_causes, ends_have_causes, replies_are_lawful, takeo
 pub use chaining::{
     memory_may_be_wanted, nothing_is_lost_untouched, sessions_chain, sessions_follow,
 };
+pub use histories::histories_hold;
 pub use limits::{
     ADDING_GROUPS, CHECKPOINT_GROUPS, CONTROLLER, DATA_SEGMENTS, ELIDED_SEGMENTS, LIMITED_SEGMENTS,
     MERGE_GROUPS, NEW_PATCHES, SEGMENTS_END,
