@@ -99,7 +99,7 @@ faults_then start mid new on next r0 r1 r2 members left slots first result was n
 
 -- the log is cleared behind other tables
 pub changed_then : {old mid : Shelved} {lost : List Bool} {tables : Tables} (new : Shelved) (r0 r1 r2 : Register) (members left : List Bool) → HasTables old mid lost tables r0 r1 members members → LeavesFewer (geometry_of new) [] 3 r1 r2 members left
-    → {T E : Type 0} (result : Result T E) → KeepsTables result r1 r2 members
+    → {T E : Type 0} (result : Result T E) → KeepsTables result r1 r2 members left
     → ((drives : r2.record.members.drives ≡ r2.drives) (enough : r2.record.slots ≤ set_count r2.drives + 2) → old.honest → (contents : Contents) (fs : Facts)
     → ((id : ℕ) (d : SegmentFact) → segment fs id ≡ Some d → ArePlaces (geometry_of old) d.places) → HoldOnLeft old r0 lost contents fs → SegmentsHold contents new r2 fs)
     → OnOk result (HasTables old new lost tables r0 r2 members left)
@@ -111,6 +111,6 @@ changed_then new r0 r1 r2 members left x fewer result y segments = ok_if result 
       rises = omega (arith, x.rises, y.later.generation);
       drives = drives;
       enough = enough;
-      joins = none_joins r0 r1 r2 members left x.joins (λ i m. (fewer.fewer i m).0) (ap (λ (k : BootRecord). k.slots) y.later.rest) fewer.fewer_logs (get _ y.named);
+      joins = none_joins r0 r1 r2 members left x.joins (λ i m. (fewer.fewer i m).0) (ap (λ (k : BootRecord). k.slots) y.later.rest) fewer.fewer_logs (get _ y.named) (get _ y.drives) (get _ y.nvrams);
       segments = segments drives enough;
     })

@@ -74,7 +74,7 @@ fewer_drives was now later fewer i m =
 pub none_joins : (shelf : Geometry) (was now : Array) (nvrams : List Bool) → IsRegisterOf shelf was.register → IsLaterRecord was.register.record now.register.record
     → ((i : ℕ) → IsMember now.register.drives i → IsMember was.register.drives i) → nv.IsFewer was.log.members now.log.members → nvrams ≡ now.log.members
     → (now.register.record.members.drives ≡ now.register.drives) × (now.register.record.members.nvrams ≡ nvrams) → NoneJoins was now
-none_joins shelf was now nvrams is later fewer fewer_nvrams log members = record { holders = λ d h. held d h; named = λ d e. named d e }
+none_joins shelf was now nvrams is later fewer fewer_nvrams log members = record { holders = λ d h. held d h; named = λ d e. named d e; names_holders = λ before. (members.0, members.1 ∙ log) }
   where
     held : (d : Device) → IsHolder now d → IsHolder was d
     held (Drive d) h = fewer_drives was.register now.register later fewer d.0 h

@@ -49,6 +49,7 @@ module _ (why : Causes) (old mid new : Shelved) (a b c : Array) (on : Continues 
     leaves = λ d h. leaves_first d (first.leaves d h);
     holders = λ d h. holds_first d (next.holders d h);
     named = λ d h. named_first d (next.named d h);
+    names_holders = λ before. next.names_holders (first.names_holders before);
   }
 
 -- ---- conditions that agree

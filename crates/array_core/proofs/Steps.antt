@@ -29,6 +29,7 @@ module _ (old new : Shelved) (a b : Array) where
     leaves = λ d h. drops_too d (drops d h);
     holders = λ d h. inl (joins.holders d h);
     named = λ d h. more_named (joins.named d h);
+    names_holders = joins.names_holders;
   }
 
 agrees_too : (boot : BootRecord) (now : Conditions) → AgreesFor by_faults boot now → AgreesWith boot now

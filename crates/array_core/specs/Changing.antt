@@ -20,11 +20,12 @@ pub record LeavesFewer (size : Geometry) (lost : List Bool) (most : ℕ) (was no
   pub fewer : (i : ℕ) → IsMember now.drives i → IsMember was.drives i × ¬ (IsMember lost i)
   pub fewer_logs : nv.IsFewer members left
 
--- The record is a later one of the same tables. After Ok it names no device that was neither named nor a holder; and where its drives were those that it names, and enough, they are so still.
-pub record KeepsTables {T E : Type 0} (result : Result T E) (was now : Register) (members : List Bool) : Type 0 where
+-- The record is a later one of the same tables. After Ok it names no device that was neither named nor a holder; and where its drives were those that it names, and enough, they are so still; so are its devices of the log.
+pub record KeepsTables {T E : Type 0} (result : Result T E) (was now : Register) (members left : List Bool) : Type 0 where
   pub later : IsLaterRecord was.record now.record
   pub named : OnOk result ((d : Device) → names now.record d ≡ true → (names was.record d ≡ true) ⊎ IsHolderBy was members d)
   pub drives : OnOk result (was.record.members.drives ≡ was.drives → now.record.members.drives ≡ now.drives)
+  pub nvrams : OnOk result (was.record.members.nvrams ≡ members → now.record.members.nvrams ≡ left)
   pub enough : OnOk result (was.record.slots ≤ set_count was.drives + 2 → now.record.slots ≤ set_count now.drives + 2)
 
 -- ---- who holds the array

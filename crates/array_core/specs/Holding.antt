@@ -16,10 +16,15 @@ IsHolderBy r members (Nv n) = nv.IsMember members n.0
 abbrev pub DropsFailedBy : Shelved → Shelved → Register → List Bool → Register → List Bool → Type 0
 DropsFailedBy old new r members r2 members2 = (d : Device) → IsHolderBy r members d → IsHolderBy r2 members2 d ⊎ Rises (old.disk d).write_faults (new.disk d).write_faults
 
--- none joins the holders, and the record names no device that it didn't name, and that was no holder
+-- the record names the drives on which it is in force, and the devices of the log
+abbrev pub NamesHoldersBy : Register → List Bool → Type 0
+NamesHoldersBy r members = (r.record.members.drives ≡ r.drives) × (r.record.members.nvrams ≡ members)
+
+-- None joins the holders, and the record names no device that it didn't name, and that was no holder. Where it named just the holders it does so still.
 pub record NoneJoinsBy (r : Register) (members : List Bool) (r2 : Register) (members2 : List Bool) : Type 0 where
   pub holders : (d : Device) → IsHolderBy r2 members2 d → IsHolderBy r members d
   pub named : (d : Device) → names r2.record d ≡ true → (names r.record d ≡ true) ⊎ IsHolderBy r members d
+  pub names_holders : NamesHoldersBy r members → NamesHoldersBy r2 members2
 
 -- so of arrays
 abbrev pub IsHolder : Array → Device → Type 0
@@ -27,6 +32,9 @@ IsHolder a d = IsHolderBy a.register a.log.members d
 
 abbrev pub DropsFailed : Shelved → Shelved → Array → Array → Type 0
 DropsFailed old new was now = DropsFailedBy old new was.register was.log.members now.register now.log.members
+
+abbrev pub NamesHolders : Array → Type 0
+NamesHolders a = NamesHoldersBy a.register a.log.members
 
 abbrev pub NoneJoins : Array → Array → Type 0
 NoneJoins was now = NoneJoinsBy was.register was.log.members now.register now.log.members

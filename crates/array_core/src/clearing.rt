@@ -24,7 +24,7 @@ pub(crate) fn clear_log<S: Shelf>(
     requires not_spent { register.old.record.generation < 2 ^ 48 - 16 }
     ensures ran { Ran S.shelf S.shelf_rest (λ d. Unit {0}) (OnSlotsAndLog register.old log.old.members) shelf.old shelf.new }
     ensures left { LeavesFewer (geometry_of (S.shelf shelf.new)) [] 3 register.old register.new log.old.members log.new.members }
-    ensures record { KeepsTables result register.old register.new log.old.members }
+    ensures record { KeepsTables result register.old register.new log.old.members log.new.members }
     ensures cleared { OnOk result (IsCleared register.new log.new) }
     ensures faults { OnlyFaults result (S.shelf shelf.old) (S.shelf shelf.new) register.old register.new log.old.members log.new.members }
     // Then the array is open with an empty log, on the devices that are left.

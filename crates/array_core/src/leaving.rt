@@ -30,7 +30,7 @@ pub(crate) fn leave_lost<S: Shelf>(
     requires not_spent { register.old.record.generation < 2 ^ 48 - 2 ^ 24 }
     ensures ran { Ran S.shelf S.shelf_rest IsDrive (OnSlots (drives_of register.old)) shelf.old shelf.new }
     ensures left { LeavesFewer (geometry_of (S.shelf shelf.new)) lost.now 3 register.old register.new nvrams nvrams }
-    ensures record { KeepsTables result register.old register.new nvrams }
+    ensures record { KeepsTables result register.old register.new nvrams nvrams }
     ensures dropped { (i : ℕ) → IsMember (drives_of register.old) i → IsMember lost.now i ⊎ (IsMember (drives_of register.new) i ⊎ LostWrites ((S.shelf shelf.old).disk (drive i)) ((S.shelf shelf.new).disk (drive i))) }
     ensures fault { IfErr result (λ e. IsFaultOf register.new e) }
     // Then the array is open as it was, on the drives that are left.

@@ -1,21 +1,35 @@
 -- A logged request is done at once, or behind a checkpoint, and room stays known.
-use Rattle.std.proofs.Common.{inl, inr, [], refl, sym, subst}
-use Rattle.session_spec.specs.Prelude.{Command, Geometry, BootRecord, Continues, Shelved, MayRise}
+use Rattle.std.proofs.Common.{inl, inr, [], ◌∷◌, Result, Ok, Err, OnOk, refl, sym, subst, arith}
+use Rattle.session_spec.specs.Prelude.{Command, Geometry, BootRecord, Continues, Shelved, MayRise, geometry_of}
 use Rattle.array_core.specs.declared.array.Array.{Array}
 use Rattle.array_core.specs.Prelude.{IsArrayOf, by_faults, Goes, HasLogged, risen_more}
 use Rattle.array_checkpoint.specs.declared.room.Room.{Room}
 use Rattle.array_checkpoint.specs.Prelude.{HasFlushed, IsLike, IsRoomOf, MayAdd}
 use Rattle.array_checkpoint.proofs.Like.{like_is}
+use Rattle.register.specs.Prelude.{IsRegisterOf}
 use Rattle.array_engine.specs.Appending.{IsAppended, IsFull, lost_in}
+use Rattle.array_engine.proofs.Named.{drops_none, drops_only_lost, risen_around, risen_itself}
 use Rattle.register.proofs.Rounds.{same_shelf}
 
 -- an array that differs in room in memory alone leaves the same room
 pub like_room : (a b : Array) (r : Room) → IsLike a b → IsRoomOf a r → IsRoomOf b r
 like_room a b r like is = subst (λ (x : Array). IsRoomOf x r) (sym (like_is a b like)) (record { segments = is.segments; groups = is.groups })
 
-module _ (old new : Shelved) (a b : Array) (c : Command) (room : MayAdd a) where
-  pub at_once : ¬ (IsFull a) → HasLogged old new a b c.request → IsAppended old new a b c
-  at_once free logged = record { room = room; mid = a; cleared = inl (free, refl); before = λ contents x reads. (contents, reads); logged = logged }
+pub both_ok : {T E A B C : Type 0} (result : Result T E) → (A → B → C) → OnOk result A → OnOk result B → OnOk result C
+both_ok (Ok x) f a b = f a b
+both_ok (Err e) f a b = tt
+
+module _ (old new : Shelved) (a b : Array) (c : Command) (room : MayAdd a) (is_of : IsRegisterOf (geometry_of old) a.register) where
+  pub at_once : ¬ (IsFull a) → Goes by_faults old new a b (c ∷ []) → HasLogged old new a b c.request → IsAppended old new a b c
+  at_once free goes logged = record {
+    room = room;
+    mid = a;
+    cleared = inl (free, refl);
+    before = λ contents x reads. (contents, reads);
+    drops_before = λ before. drops_none (lost_in old new) a;
+    drops = λ before. drops_only_lost (lost_in old new) old new a b (geometry_of old) (geometry_of new) is_of goes.is_of.of_shelf goes.hands_on before (λ d rose. risen_itself (old.disk d).write_faults (new.disk d).write_faults rose);
+    logged = logged;
+  }
 
   -- behind a checkpoint
   module _ (mid : Shelved) (m : Array) (on : Continues old mid) (after_it : Continues mid new) where
@@ -24,11 +38,15 @@ module _ (old new : Shelved) (a b : Array) (c : Command) (room : MayAdd a) where
     rise_since before now (inr (d, lost, rises, few, is)) =
         inr (d, risen_more (old.disk d).write_faults (mid.disk d).write_faults (new.disk d).write_faults (on.write_faults d) (after_it.write_faults d) lost, rises, few, is)
 
-    pub behind : IsFull a → Goes by_faults old mid a m [] → HasFlushed a m → HasLogged mid new m b c.request → IsAppended old new a b c
-    behind full goes flushed logged = record {
+    pub behind : IsFull a → Goes by_faults old mid a m [] → HasFlushed a m → Goes by_faults mid new m b (c ∷ []) → HasLogged mid new m b c.request → IsAppended old new a b c
+    behind full goes flushed goes_on logged = record {
       room = room;
       mid = m;
       cleared = inr (full, subst (λ (g : Geometry). IsArrayOf g m) (sym (same_shelf on)) goes.is_of, flushed);
       before = λ contents x reads. let now = goes.reads contents x reads in (now.more, now.reads);
+      drops_before = λ before. drops_only_lost (lost_in old new) old mid a m (geometry_of old) (geometry_of mid) is_of goes.is_of.of_shelf goes.hands_on before
+          (λ d rose. risen_around (old.disk d).write_faults (old.disk d).write_faults (mid.disk d).write_faults (new.disk d).write_faults (omega arith) (after_it.write_faults d) rose);
+      drops = λ before. drops_only_lost (lost_in old new) mid new m b (geometry_of mid) (geometry_of new) goes.is_of.of_shelf goes_on.is_of.of_shelf goes_on.hands_on (goes.hands_on.names_holders before)
+          (λ d rose. risen_around (old.disk d).write_faults (mid.disk d).write_faults (new.disk d).write_faults (new.disk d).write_faults (on.write_faults d) (omega arith) rose);
       logged = record { count = logged.count; next = logged.next; patches = logged.patches; boot = rise_since m.register.record b.register.record logged.boot };
     }

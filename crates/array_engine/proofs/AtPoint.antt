@@ -64,6 +64,7 @@ module _ (told : Bool) (old new : Shelved) (e f : Engine) (commands : List Comma
       left_out = λ d l.
           let was = s.left_out d (left_out_once (lost_in old new d) (from.conditions d) l) in
           (unless (names f.array.register.record d) (λ is. unnamed d (goes.hands_on.named d is) was), λ holds. held_not d (goes.hands_on.holders d holds) was.1);
+      names_holders = goes.hands_on.names_holders s.names_holders;
     };
   }
 

@@ -7,6 +7,7 @@ use Rattle.pur_base.specs.declared.reply.Refusal.TheVariants as refusals
 use Rattle.pur_base.specs.declared.reply.Reply.TheVariants as reply
 use Rattle.pur_base.specs.Plain as plain
 use Rattle.session_spec.specs.Faring as faring
+use Rattle.session_spec.specs.Faring.{DropsOnlyLost}
 use Rattle.session_spec.specs.declared.limits.TheConstants.{ADDING_GROUPS, LIMITED_SEGMENTS}
 use Rattle.array_core.specs.declared.array.Array.{Array}
 use Rattle.array_core.proofs.Applied.{same_patches}
@@ -91,13 +92,15 @@ module _ (told : Bool) (old new : Shelved) (e f : Engine) (r : Request) (sectors
       to = point_after f (after from.array c) (lost_in old new) stop from
 
       done_at : (m : Point) → m.array ≡ from.array → m.logged ≡ p.mid.log.count → m.boot ≡ p.mid.register.record → m.patches ≡ patches p.mid.memory.memory.tables → m.next ≡ p.mid.memory.memory.next → m.halted ≡ from.halted
-          → IsDone (lost_in old new) m r sectors (Line reply.Done) to
-      done_at m array logged boot tables next halts = record {
+          → DropsOnlyLost (lost_in old new) p.mid.register.record f.array.register.record → IsDone (lost_in old new) m r sectors (Line reply.Done) to
+      done_at m array logged boot tables next halts drops = record {
         reply = given_logged m.array r logs;
         array = after_accepted (refusal from.array r) from.array (done from.array r sectors) accepted ∙ ap (λ (x : plain.Array). done x r sectors) (sym array);
         logged = cond-false f.halted from.logged f.array.log.count halted ∙ p.logged.count ∙ ap (λ (n : ℕ). n + 1) (sym logged);
         boot = subst (λ (b : BootRecord). MayRise (lost_in old new) b to.boot) (sym boot)
             (subst (λ (b : BootRecord). MayRise (lost_in old new) p.mid.register.record b) (sym (cond-false f.halted from.boot f.array.register.record halted)) p.logged.boot);
+        members = subst (λ (b : BootRecord). DropsOnlyLost (lost_in old new) b to.boot) (sym boot)
+            (subst (λ (b : BootRecord). DropsOnlyLost (lost_in old new) p.mid.register.record b) (sym (cond-false f.halted from.boot f.array.register.record halted)) drops);
         patches = cond-false f.halted from.patches (patches f.array.memory.memory.tables) halted ∙ same_patches p.mid.memory.memory.tables f.array.memory.memory.tables p.logged.patches ∙ sym tables;
         next = cond-false f.halted from.next f.array.memory.memory.next halted ∙ p.logged.next ∙ ap (λ (n : NextNumbers). next_after n r) (sym next);
         halted = halted ∙ sym was_awake ∙ sym halts;
@@ -110,10 +113,10 @@ module _ (told : Bool) (old new : Shelved) (e f : Engine) (r : Request) (sectors
           (s.boot ∙ ap (λ (x : Array). x.register.record) (sym is))
           (s.patches ∙ ap (λ (x : Array). patches x.memory.memory.tables) (sym is))
           (s.next ∙ ap (λ (x : Array). x.memory.memory.next) (sym is))
-          refl))
+          refl (p.drops s.names_holders)))
       done_behind (inr (full, is, flushed)) =
           let before = p.before s.contents from.array s.reads in
-          where_so (faring.is_full from) _ (full_is s full) (inl (between from p.mid, checkpointed s p.mid is flushed before.0 before.1, done_at (between from p.mid) refl (sym flushed.none) refl refl refl refl))
+          where_so (faring.is_full from) _ (full_is s full) (inl (between from p.mid, checkpointed s p.mid is flushed (lost_in old new) (p.drops_before s.names_holders) before.0 before.1, done_at (between from p.mid) refl (sym flushed.none) refl refl refl refl (p.drops s.names_holders)))
 
     was_done : IsAnsweredAt told old new e f (Asked r sectors) said.Done from
     was_done = goes_answered told old new e f (c ∷ []) from honest at awake goes halted (Asked r sectors) said.Done (Line reply.Done) refl tt

@@ -19,12 +19,14 @@ use Rattle.array_engine.specs.Flushing.{IsFlushFault}
 use Rattle.array_engine.specs.Replying.{said_of, ends_lost}
 use Rattle.array_engine.proofs.AtPoint.{goes_answered, halts_answered, stays_answered}
 use Rattle.array_engine.proofs.Behind.{between, checkpointed}
+use Rattle.array_engine.proofs.Named.{drops_only_lost, risen_itself}
+use Rattle.register.specs.Prelude.{IsRegisterOf}
 use Rattle.array_engine.proofs.Rooms.{with_room, without_room}
 use Rattle.register.proofs.Rounds.{same_shelf}
 
 -- What a checkpoint that is asked for makes of the engine, which wasn't halted.
 module _ (told : Bool) (old new : Shelved) (e f : Engine) (sectors : List (List ℕ)) (stays : Type 0) (from : Point) (honest : told ≡ true → old.honest)
-    (at : IsAt told old e from) (awake : e.halted ≡ false) (same : stays → IsLike e.array f.array × (new ≡ old)) where
+    (at : IsAt told old e from) (awake : e.halted ≡ false) (same : stays → IsLike e.array f.array × (new ≡ old)) (is_of : IsRegisterOf (geometry_of old) e.array.register) where
   abbrev stood : StandsAt told old e.array from
   stood = at.stands awake
 
@@ -37,13 +39,14 @@ module _ (told : Bool) (old new : Shelved) (e f : Engine) (sectors : List (List 
 
   -- it was made
   module _ (goes : Goes by_faults old new e.array f.array []) (made : MayFlush e.array × HasFlushed e.array f.array) (halted : f.halted ≡ false) where
-    made_at : (stop : Stop) → IsFlushed (geometry_of old) from (Line reply.Done) (to stop)
+    made_at : (stop : Stop) → IsFlushed (geometry_of old) (lost_in old new) from (Line reply.Done) (to stop)
     made_at stop =
         let on = goes.reads stood.contents from.array stood.reads in
         record {
           reply = refl;
           mid = between from f.array;
-          made = checkpointed stood f.array (subst (λ (g : Geometry). IsArrayOf g f.array) (sym (same_shelf goes.ran.continues)) goes.is_of) made.1 on.more on.reads;
+          made = checkpointed stood f.array (subst (λ (g : Geometry). IsArrayOf g f.array) (sym (same_shelf goes.ran.continues)) goes.is_of) made.1 (lost_in old new)
+              (drops_only_lost (lost_in old new) old new e.array f.array (geometry_of old) (geometry_of new) is_of goes.is_of.of_shelf goes.hands_on stood.names_holders (λ d rose. risen_itself (old.disk d).write_faults (new.disk d).write_faults rose)) on.more on.reads;
           stays = record {
             array = refl;
             logged = cond-false f.halted from.logged f.array.log.count halted ∙ made.1.none;

@@ -1,5 +1,6 @@
 pub mod ReplyLemmas
 pub mod Cleared
+pub mod Named
 pub mod Appended
 pub mod Faults
 pub mod Points

@@ -3,7 +3,8 @@ use Rattle.std.proofs.Common.{◌≡◌, inl, inr, ℕ, ◌+◌, ◌<◌, ◌≤
 use Rattle.std.specs.Prelude.{not, nat_lt}
 use Rattle.std.proofs.lemmas.Bool.{cond-false, le-ltb, lt-ltb}
 use Rattle.pur_base.specs.declared.request.Request.TheVariants as request
-use Rattle.session_spec.specs.Prelude.{Table, Refusal, AnyFact, Geometry, Asked, refusal, Answer, Line, refused, patch_segments, BootRecord, NextNumbers, AreSound, all_facts, Shelved, Stop, geometry_of, patches, AreJoined, HaveShrunk, has_pair, pair_segments, place_in, Point, Answers, AnswersRequest, IsMergeDone, IsMerging, IsRefused, WithPair}
+use Rattle.session_spec.specs.Faring.{DropsOnlyLost}
+use Rattle.session_spec.specs.Prelude.{Device, Table, Refusal, AnyFact, Geometry, Asked, refusal, Answer, Line, refused, patch_segments, BootRecord, NextNumbers, AreSound, all_facts, Shelved, Stop, geometry_of, patches, AreJoined, HaveShrunk, has_pair, pair_segments, place_in, Point, Answers, AnswersRequest, IsMergeDone, IsMerging, IsRefused, WithPair}
 use Rattle.pur_base.specs.declared.reply.Refusal.TheVariants as refusals
 use Rattle.pur_base.specs.declared.reply.Reply.TheVariants as reply
 use Rattle.table_plan.specs.Prelude.{merged_patches}
@@ -23,6 +24,8 @@ use Rattle.array_engine.specs.Appending.{failed_in, lost_in}
 use Rattle.array_engine.specs.Engines.{IsAt, StandsAt, IsAnsweredAt, point_after}
 use Rattle.array_engine.specs.Replying.{merge_ends_lost, said_of_merge}
 use Rattle.array_engine.proofs.AtPoint.{goes_answered, halts_answered, stays_answered}
+use Rattle.array_engine.proofs.Named.{drops_only_lost, risen_itself}
+use Rattle.register.specs.Prelude.{IsRegisterOf}
 use Rattle.array_engine.proofs.Points.{like_itself}
 use Rattle.array_engine.proofs.Rooms.{groups_same, spent_same, where_not, where_so}
 use Rattle.register.proofs.Rounds.{same_shelf}
@@ -64,13 +67,14 @@ abbrev merged_point : Point → Array → Point
 merged_point from mid = record from { boot = mid.register.record; patches = patches mid.memory.memory.tables; next = mid.memory.memory.next }
 
 merged_point_at : {told : Bool} {old : Shelved} {a : Array} {from : Point} → StandsAt told old a from → (t : Table) (i : ℕ) (mid : Array) → IsArrayOf (geometry_of old) mid → HasMerged (geometry_of old) t i a mid
-    → faring.IsMerged (geometry_of old) t i from (merged_point from mid)
-merged_point_at {told} {old} {a} {from} s t i mid is h = record {
+    → (lost : Device → Bool) → DropsOnlyLost lost a.register.record mid.register.record → faring.IsMerged (geometry_of old) lost t i from (merged_point from mid)
+merged_point_at {told} {old} {a} {from} s t i mid is h lost drops = record {
   same = refl;
   rises = subst (λ (b : BootRecord). b.generation < mid.register.record.generation) (sym s.boot) h.rises;
   few = subst (λ (b : BootRecord). mid.register.record.generation ≤ b.generation + 6) (sym s.boot) h.few;
   new_segments = h.new_segments;
   boot = rw s.boot h.rest;
+  members = subst (λ (b : BootRecord). DropsOnlyLost lost b mid.register.record) (sym s.boot) drops;
   next = ap (λ (k : Kept). k.memory.next) h.memory ∙ ap (λ (n : NextNumbers). record n { patch_segment = n.patch_segment + h.new_segments }) (sym s.next);
   joined = h.joined;
   joined_named = subst (λ (b : BootRecord). AreJoined (place_in t i b.patches) b.patches h.joined mid.register.record.patches) (sym s.boot) h.joined_named;
@@ -89,7 +93,7 @@ merged_point_at {told} {old} {a} {from} s t i mid is h = record {
 
 -- What a merge that is asked for makes of the engine, which wasn't halted.
 module _ (told : Bool) (old new : Shelved) (e f : Engine) (t : Table) (i : ℕ) (sectors : List (List ℕ)) (stays : Type 0) (from : Point) (honest : told ≡ true → old.honest)
-    (at : IsAt told old e from) (awake : e.halted ≡ false) (same : stays → (f.array ≡ e.array) × (new ≡ old)) where
+    (at : IsAt told old e from) (awake : e.halted ≡ false) (same : stays → (f.array ≡ e.array) × (new ≡ old)) (is_of : IsRegisterOf (geometry_of old) e.array.register) where
   abbrev stood : StandsAt told old e.array from
   stood = at.stands awake
 
@@ -102,11 +106,12 @@ module _ (told : Bool) (old new : Shelved) (e f : Engine) (t : Table) (i : ℕ) 
 
   -- it was made
   module _ (goes : Goes by_faults old new e.array f.array []) (made : MayMerge t i e.array × HasMerged (geometry_of old) t i e.array f.array) (halted : f.halted ≡ false) where
-    done_at : (stop : Stop) → IsMergeDone (geometry_of old) t i from (Line reply.Done) (to stop)
+    done_at : (stop : Stop) → IsMergeDone (geometry_of old) (lost_in old new) t i from (Line reply.Done) (to stop)
     done_at stop = record {
       reply = refl;
       mid = merged_point from f.array;
-      made = merged_point_at stood t i f.array (subst (λ (g : Geometry). IsArrayOf g f.array) (sym (same_shelf goes.ran.continues)) goes.is_of) made.1;
+      made = merged_point_at stood t i f.array (subst (λ (g : Geometry). IsArrayOf g f.array) (sym (same_shelf goes.ran.continues)) goes.is_of) made.1 (lost_in old new)
+          (drops_only_lost (lost_in old new) old new e.array f.array (geometry_of old) (geometry_of new) is_of goes.is_of.of_shelf goes.hands_on stood.names_holders (λ d rose. risen_itself (old.disk d).write_faults (new.disk d).write_faults rose));
       stays = record {
         array = refl;
         logged = cond-false f.halted from.logged f.array.log.count halted ∙ ap (λ l. l.count) made.1.log ∙ sym stood.logged;

@@ -45,6 +45,7 @@ stands_like told shelf a b p like s = subst (λ (x : Array). StandsAt told shelf
   hold = s.hold;
   holders = s.holders;
   left_out = s.left_out;
+  names_holders = s.names_holders;
 })
 
 pub like_itself : (a : Array) → IsLike a a
@@ -63,6 +64,7 @@ stands_on told old new a lost from to keeps before conditions s = record {
   hold = λ t. keeps t s.contents (s.hold t);
   holders = λ d e. s.holders d (sound_since (lost d) (from.conditions d) (sym (conditions d) ∙ e)).0;
   left_out = λ d e. s.left_out d (left_out_once (lost d) (from.conditions d) (sym (conditions d) ∙ e));
+  names_holders = s.names_holders;
 }
 
 -- The engine has the same array, but for room, and is halted as it was.

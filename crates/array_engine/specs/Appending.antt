@@ -3,6 +3,8 @@ use Rattle.std.specs.Prelude.{◌≡◌, ◌⊎◌, Bool, [], ◌∷◌}
 use Rattle.session_spec.specs.Prelude.{Device, Command, LOG_SLOTS, geometry_of, has_risen, Shelved, Contents, ReadsAs}
 use Rattle.pur_base.specs.Plain as plain
 use Rattle.array_core.specs.declared.array.Array.{Array}
+use Rattle.session_spec.specs.Faring.{DropsOnlyLost}
+use Rattle.array_core.specs.Holding.{NamesHolders}
 use Rattle.array_core.specs.Prelude.{IsArrayOf, by_faults, Halts, HasLogged}
 use Rattle.array_checkpoint.specs.Prelude.{HasFlushed, IsRoomFault, MayAdd}
 use Rattle.array_checkpoint.specs.declared.making.CheckpointFault.{CheckpointFault}
@@ -35,6 +37,9 @@ pub record IsAppended (old new : Shelved) (a b : Array) (c : Command) : Type 0 w
   pub mid : Array
   pub cleared : IsCleared old a mid
   pub before : (contents : Contents) (x : plain.Array) → ReadsAs contents a.memory.memory x → (more : Contents) × ReadsAs more mid.memory.memory x
+  -- where the record named just those that held the array, it names no other, and drops none but devices that lost a write
+  pub drops_before : NamesHolders a → DropsOnlyLost (lost_in old new) a.register.record mid.register.record
+  pub drops : NamesHolders a → DropsOnlyLost (lost_in old new) mid.register.record b.register.record
   pub logged : HasLogged old new mid b c.request
 
 -- ---- it isn't

@@ -4,6 +4,7 @@ use Rattle.session_spec.specs.Prelude.{Device, Geometry, Sound, LeftOut, IsBeara
 use Rattle.pur_base.specs.Plain as plain
 use Rattle.register.specs.Prelude.{named_sound, Content, array_of}
 use Rattle.array_core.specs.declared.array.Array.{Array}
+use Rattle.array_core.specs.Holding.{NamesHolders}
 use Rattle.array_core.specs.Prelude.{SegmentsHold, IsArrayOf, IsReady, IsHolder, lost_by}
 use Rattle.array_checkpoint.specs.Prelude.{IsRoomOf, MayAdd}
 use Rattle.array_engine.specs.declared.said.Said.{Said}
@@ -18,7 +19,7 @@ abbrev pub IsOf : Geometry → Engine → Type 0
 IsOf shelf e = e.halted ≡ false → IsArrayOf shelf e.array × IsRoomOf e.array e.room
 
 -- The array's memory reads as the point's array, for sectors in segments of which the drives hold those that were placed, where that is told.
--- Each device that is sound at the point holds the array, and one that was left out doesn't, and isn't named by its record.
+-- Each device that is sound at the point holds the array, and one that was left out doesn't, and isn't named by its record, which names just those that hold it.
 pub record StandsAt (told : Bool) (shelf : Shelved) (a : Array) (p : Point) : Type 0 where
   pub logged : p.logged ≡ a.log.count
   pub boot : p.boot ≡ a.register.record
@@ -29,6 +30,7 @@ pub record StandsAt (told : Bool) (shelf : Shelved) (a : Array) (p : Point) : Ty
   pub hold : told ≡ true → SegmentsHold contents shelf a.register (facts a.memory.memory.tables)
   pub holders : (d : Device) → p.conditions d ≡ Sound → IsHolder a d
   pub left_out : (d : Device) → p.conditions d ≡ LeftOut → (names a.register.record d ≡ false) × ¬ (IsHolder a d)
+  pub names_holders : NamesHolders a
 
 -- The engine stands at the point. Once it's halted only that is told.
 pub record IsAt (told : Bool) (shelf : Shelved) (e : Engine) (p : Point) : Type 0 where

@@ -1,13 +1,12 @@
 -- A session begins: the array that was opened, and the point at which its replies begin.
-use Rattle.std.proofs.Common.{◌≡◌, ℕ, List, refl, sym, subst, Bool, true, false, inl, inr}
-use Rattle.std.proofs.lemmas.Bool.{cases_lt}
-use Rattle.session_spec.specs.Prelude.{Device, Drive, Nv, Geometry, drive, names, Shelved, Contents, ReadsAs, facts, patches, read_now, Point}
+use Rattle.std.proofs.Common.{◌≡◌, refl, Bool, true, false}
+use Rattle.session_spec.specs.Prelude.{Device, Geometry, names, Shelved, Contents, ReadsAs, facts, patches, read_now, Point}
 use Rattle.pur_base.specs.Plain as plain
-use Rattle.boot_region.specs.Prelude.{IsMember}
-use Rattle.nvram_log.specs.Members as nv
-use Rattle.register.specs.Prelude.{IsRegisterOf, named_sound, in_cut, cut_in, none_past}
+use Rattle.register.specs.Prelude.{IsRegisterOf, named_sound}
 use Rattle.array_core.specs.declared.array.Array.{Array}
+use Rattle.array_core.specs.Holding.{NamesHolders}
 use Rattle.array_core.specs.Prelude.{SegmentsHold, IsHolder}
+use Rattle.array_engine.proofs.Named.{holder_named, named_holds}
 use Rattle.array_engine.specs.declared.engine.Engine.{Engine}
 use Rattle.array_server.specs.Sessions.{BeginsAt}
 use Rattle.register.proofs.Opened.{is_left, is_named}
@@ -28,29 +27,10 @@ first_of start a array = record {
   stop = read_now start;
 }
 
--- the record names the drives on which it is in force, and the devices of the log
-abbrev pub NamesHolders : Array → Type 0
-NamesHolders a = (a.register.record.members.drives ≡ a.register.drives) × (a.register.record.members.nvrams ≡ a.log.members)
-
 module _ (shelf : Geometry) (a : Array) (is_of : IsRegisterOf shelf a.register) (named : NamesHolders a) where
-  drive_holds : (i : ℕ) → names a.register.record (drive i) ≡ true → IsHolder a (drive i)
-  drive_holds i e =
-      let flag : IsMember a.register.drives i = subst (λ (l : List Bool). IsMember l i) named.0 e in
-      elim (cases_lt i a.register.record.slots) [
-        | inl lt ↦ cut_in a.register.drives a.register.record.slots i lt flag
-        | inr past ↦ absurd (none_past a.register.record.members.drives a.register.record.slots i is_of.lawful.lawful.members.within past e)
-      ]
-
-  holds : (d : Device) → names a.register.record d ≡ true → IsHolder a d
-  holds (Drive d) e = drive_holds d.0 e
-  holds (Nv n) e = subst (λ (l : List Bool). nv.IsMember l n.0) named.1 e
-
   -- one that it doesn't name is none of the array
   isn't_holder : (d : Device) → names a.register.record d ≡ false → ¬ (IsHolder a d)
-  isn't_holder (Drive d) none h = cc (none, is_of.named d.0 (in_cut a.register.drives a.register.record.slots d.0 h))
-  isn't_holder (Nv n) none h =
-      let is : names a.register.record (Nv n) ≡ true = subst (λ (l : List Bool). nv.IsMember l n.0) (sym named.1) h in
-      cc (none, is)
+  isn't_holder d none h = let is = holder_named shelf a is_of named d h in cc (none, is)
 
   pub begins : (told : Bool) (start : Shelved) (e : Engine) (array : plain.Array) (contents : Contents) → ReadsAs contents a.memory.memory array
       → (told ≡ true → SegmentsHold contents start a.register (facts a.memory.memory.tables)) → BeginsAt told start (engine_of e a) (first_of start a array)
@@ -65,8 +45,9 @@ module _ (shelf : Geometry) (a : Array) (is_of : IsRegisterOf shelf a.register) 
         contents = contents;
         reads = reads;
         hold = hold;
-        holders = λ d s. holds d (is_named (names a.register.record d) s);
+        holders = λ d s. named_holds shelf a is_of named d (is_named (names a.register.record d) s);
         left_out = λ d out. let none = is_left (names a.register.record d) out in (none, isn't_holder d none);
+        names_holders = named;
       };
     };
     awake = refl;

@@ -65,7 +65,7 @@ module _ (told : Bool) (shelf : Geometry) (failed lost : Device → Bool) (from 
   ))
 
   -- a checkpoint changes neither the array nor whether it is halted
-  behind_came : (r : Request) → IsLogged r → refusal from.array r ≡ None → MayAdd from → (mid : Point) → IsCheckpointed shelf from mid → IsDone lost mid r sectors q to → Came r
+  behind_came : (r : Request) → IsLogged r → refusal from.array r ≡ None → MayAdd from → (mid : Point) → IsCheckpointed shelf lost from mid → IsDone lost mid r sectors q to → Came r
   behind_came r logged none room mid made is =
       done_came r logged none room (is.array ∙ ap (λ (p : Point). done p.array r sectors) made.same) (is.halted ∙ ap (λ (p : Point). p.halted) made.same)
 

@@ -15,7 +15,8 @@ use Rattle.takeover.specs.Opened.{IsOpened, IsShut, IsRecovered, status_of}
 use Rattle.array_engine.specs.declared.engine.Engine.{Engine}
 use Rattle.array_server.specs.Sessions.{BeginsAt, IsHeldAt, IsServedFrom, IsSessionEnd}
 use Rattle.array_server.specs.Serving.{IsNeverOpened, IsServeStatus}
-use Rattle.array_server.proofs.Begun.{NamesHolders, begins, engine_of, first_of}
+use Rattle.array_core.specs.Holding.{NamesHolders}
+use Rattle.array_server.proofs.Begun.{begins, engine_of, first_of}
 
 -- ---- not opened
 

@@ -78,6 +78,7 @@ at_still told was now e p disk at = record {
     hold = λ t. segments_still was now e.array s.contents disk (s.hold t);
     holders = s.holders;
     left_out = s.left_out;
+    names_holders = s.names_holders;
   };
 }
 

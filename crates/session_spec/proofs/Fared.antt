@@ -56,10 +56,10 @@ in_pair t i from to q f g h k w =
     either (is_spent from) f (either (not (has_pair t i from.boot.patches)) g (λ (groups, left, s). either (nat_lt groups (MERGE_GROUPS + pair_segments t i from.boot.patches)) h k s)) w
 
 -- the array is the same behind a checkpoint
-same_array : {shelf : Geometry} {from mid : Point} → IsCheckpointed shelf from mid → mid.array ≡ from.array
+same_array : {shelf : Geometry} {lost : Device → Bool} {from mid : Point} → IsCheckpointed shelf lost from mid → mid.array ≡ from.array
 same_array c = ap (λ (p : Point). p.array) c.same
 
-same_halted : {shelf : Geometry} {from mid : Point} → IsCheckpointed shelf from mid → mid.halted ≡ from.halted
+same_halted : {shelf : Geometry} {lost : Device → Bool} {from mid : Point} → IsCheckpointed shelf lost from mid → mid.halted ≡ from.halted
 same_halted c = ap (λ (p : Point). p.halted) c.same
 
 -- with a free slot, and without
@@ -68,7 +68,7 @@ module _ (shelf : Geometry) (lost : Device → Bool) (from to : Point) (r : Requ
   appended f g (inl d) = f d
   appended f g (inr x) = g x
 
-  appended_behind : {P : Type 0} → ((mid : Point) → IsCheckpointed shelf from mid → IsDone lost mid r sectors q to → P) → (IsRefused refusals.Memory from q to → P) → (IsFailed shelf lost from q to → P)
+  appended_behind : {P : Type 0} → ((mid : Point) → IsCheckpointed shelf lost from mid → IsDone lost mid r sectors q to → P) → (IsRefused refusals.Memory from q to → P) → (IsFailed shelf lost from q to → P)
       → IsAppendedBehind shelf lost from r sectors q to → P
   appended_behind f g h (inl (mid, c, d)) = f mid c d
   appended_behind f g h (inr (inl m)) = g m
@@ -83,7 +83,7 @@ step_ends shelf lost from to q f g h (inr (inr x)) = h x
 
 -- a logged request
 module _ (shelf : Geometry) (lost : Device → Bool) (from to : Point) (r : Request) (sectors : List (List ℕ)) (q : Answer) (none : refusal from.array r ≡ None) (is : IsModelled r) where
-  done_behind : (mid : Point) → IsCheckpointed shelf from mid → IsDone lost mid r sectors q to → Step from.array (Asked r sectors) q to.array
+  done_behind : (mid : Point) → IsCheckpointed shelf lost from mid → IsDone lost mid r sectors q to → Step from.array (Asked r sectors) q to.array
   done_behind mid c d =
       let e : mid.array ≡ from.array = same_array c in
       modelled from to r sectors q none is (d.reply ∙ ap (λ (a : Array). given a r) e) (d.array ∙ ap (λ (a : Array). done a r sectors) e)
@@ -98,26 +98,26 @@ module _ (shelf : Geometry) (lost : Device → Bool) (from to : Point) (r : Requ
       h
 
 -- a checkpoint leaves the array
-flushed_at : (shelf : Geometry) (from to : Point) (sectors : List (List ℕ)) (q : Answer) → refusal from.array request.Checkpoint ≡ None → IsFlushed shelf from q to → Step from.array (Asked request.Checkpoint sectors) q to.array
-flushed_at shelf from to sectors q none h = rw h.reply (inr ((none, tt), h.stays.array ∙ same_array h.made))
+flushed_at : (shelf : Geometry) (lost : Device → Bool) (from to : Point) (sectors : List (List ℕ)) (q : Answer) → refusal from.array request.Checkpoint ≡ None → IsFlushed shelf lost from q to → Step from.array (Asked request.Checkpoint sectors) q to.array
+flushed_at shelf lost from to sectors q none h = rw h.reply (inr ((none, tt), h.stays.array ∙ same_array h.made))
 
 flushing : (shelf : Geometry) (lost : Device → Bool) (from to : Point) (sectors : List (List ℕ)) (q : Answer) → refusal from.array request.Checkpoint ≡ None → IsFlushing shelf lost from q to → Step from.array (Asked request.Checkpoint sectors) q to.array
 flushing shelf lost from to sectors q none h =
     let r = request.Checkpoint in
     in_room SEGMENTS_END CHECKPOINT_GROUPS from to q (physical from to refusals.Limit r sectors q none tt) (physical from to refusals.Spent r sectors q none tt) (physical from to refusals.Space r sectors q none tt)
-    (step_ends shelf lost from to q (flushed_at shelf from to sectors q none) (physical from to refusals.Memory r sectors q none tt) (λ f. failed shelf lost from to r sectors q none f))
+    (step_ends shelf lost from to q (flushed_at shelf lost from to sectors q none) (physical from to refusals.Memory r sectors q none tt) (λ f. failed shelf lost from to r sectors q none f))
     h
 
 -- and so does a merge
-merged_at : (shelf : Geometry) (t : Table) (i : ℕ) (from to : Point) (sectors : List (List ℕ)) (q : Answer) → refusal from.array (request.Merge t i) ≡ None → IsMergeDone shelf t i from q to → Step from.array (Asked (request.Merge t i) sectors) q to.array
-merged_at shelf t i from to sectors q none h = rw h.reply (inr ((none, tt), h.stays.array ∙ ap (λ (p : Point). p.array) h.made.same))
+merged_at : (shelf : Geometry) (lost : Device → Bool) (t : Table) (i : ℕ) (from to : Point) (sectors : List (List ℕ)) (q : Answer) → refusal from.array (request.Merge t i) ≡ None → IsMergeDone shelf lost t i from q to → Step from.array (Asked (request.Merge t i) sectors) q to.array
+merged_at shelf lost t i from to sectors q none h = rw h.reply (inr ((none, tt), h.stays.array ∙ ap (λ (p : Point). p.array) h.made.same))
 
 merging : (shelf : Geometry) (lost : Device → Bool) (t : Table) (i : ℕ) (from to : Point) (sectors : List (List ℕ)) (q : Answer) → refusal from.array (request.Merge t i) ≡ None → IsMerging shelf lost from t i q to
     → Step from.array (Asked (request.Merge t i) sectors) q to.array
 merging shelf lost t i from to sectors q none h =
     let r = request.Merge t i in
     in_pair t i from to q (physical from to refusals.Spent r sectors q none tt) (physical from to refusals.NothingThere r sectors q none tt) (physical from to refusals.Space r sectors q none tt)
-    (step_ends shelf lost from to q (merged_at shelf t i from to sectors q none) (physical from to refusals.Memory r sectors q none tt) (λ f. failed shelf lost from to r sectors q none f))
+    (step_ends shelf lost from to q (merged_at shelf lost t i from to sectors q none) (physical from to refusals.Memory r sectors q none tt) (λ f. failed shelf lost from to r sectors q none f))
     h
 
 accepted : (shelf : Geometry) (fails lost : Device → Bool) (from to : Point) (r : Request) (sectors : List (List ℕ)) (q : Answer) → refusal from.array r ≡ None
@@ -225,14 +225,14 @@ flushing_halts : (shelf : Geometry) (lost : Device → Bool) (from to : Point) (
 unfolding HaltedBy
 flushing_halts shelf lost from to q h =
     in_room SEGMENTS_END CHECKPOINT_GROUPS from to q (λ s. inl s.halted) (λ s. inl s.halted) (λ s. inl s.halted)
-    (step_ends shelf lost from to q (λ (d : IsFlushed shelf from q to). inl d.halted) (λ s. inl s.halted) (λ f. inr f.unborne))
+    (step_ends shelf lost from to q (λ (d : IsFlushed shelf lost from q to). inl d.halted) (λ s. inl s.halted) (λ f. inr f.unborne))
     h
 
 merging_halts : (shelf : Geometry) (lost : Device → Bool) (t : Table) (i : ℕ) (from to : Point) (q : Answer) → IsMerging shelf lost from t i q to → HaltedBy shelf lost from to
 unfolding HaltedBy
 merging_halts shelf lost t i from to q h =
     in_pair t i from to q (λ s. inl s.halted) (λ s. inl s.halted) (λ s. inl s.halted)
-    (step_ends shelf lost from to q (λ (d : IsMergeDone shelf t i from q to). inl d.halted) (λ s. inl s.halted) (λ f. inr f.unborne))
+    (step_ends shelf lost from to q (λ (d : IsMergeDone shelf lost t i from q to). inl d.halted) (λ s. inl s.halted) (λ f. inr f.unborne))
     h
 
 accepted_halts : (told : Bool) (shelf : Geometry) (fails lost : Device → Bool) (from to : Point) (r : Request) (sectors : List (List ℕ)) (q : Answer) → AnswersAccepted told shelf fails lost from r sectors q to → HaltedBy shelf lost from to

@@ -1,6 +1,6 @@
 -- How the array and its devices fare while requests are served: at each reply what was answered and why, and which devices are missing.
 use Rattle.std.specs.Prelude.{◌≡◌, ◌≢◌, ◌⊎◌, ◌||◌, ◌+◌, ◌-◌, ◌<◌, ◌≤◌, ℕ, Bool, true, false, nat_le, nat_lt, not, List, [], ◌∷◌, ◌++◌, length, Option, Some, None, Contains, count_by}
-use Rattle.memory_spec.specs.Prelude.{Device, Request, Table, Refusal, Geometry, Conditions, Sound, IsBearable, drive, Array, refusal, done, Item, Asked, Syntax, Cut, Answer, Line, Sectors, refused, given, text, segment, segments, SegmentFact, Place, SECTOR_BYTES, AnyFact, patch_segments, Patch, BootRecord, NextNumbers, IsGroups, free_of_members, AreSound, all_facts, Contents, FactsRead, are_used_up, is_used_up, next_after, AreJoined, HaveShrunk, has_pair, pair_segments, place_in, IsNamed}
+use Rattle.memory_spec.specs.Prelude.{Device, Request, Table, Refusal, Geometry, Conditions, Sound, IsBearable, drive, Array, refusal, done, Item, Asked, Syntax, Cut, Answer, Line, Sectors, refused, given, text, segment, segments, SegmentFact, Place, SECTOR_BYTES, AnyFact, patch_segments, Patch, BootRecord, NextNumbers, IsGroups, free_of_members, AreSound, all_facts, Contents, FactsRead, are_used_up, is_used_up, next_after, AreJoined, HaveShrunk, has_pair, pair_segments, place_in, IsNamed, names}
 use Rattle.pur_base.specs.declared.request.Request.TheVariants as request
 use Rattle.pur_base.specs.declared.reply.Refusal.TheVariants as refusals
 use Rattle.pur_base.specs.declared.reply.Reply.TheVariants as reply
@@ -56,12 +56,18 @@ abbrev pub MayRise : (Device → Bool) → BootRecord → BootRecord → Type 0
 MayRise lost before now = (now ≡ before) ⊎ ((d : Device) × (lost d ≡ true) × (before.generation < now.generation) × (now.generation < before.generation + 4)
     × (now ≡ record before { generation = now.generation; members = now.members }))
 
+-- Of two records that follow on each other: the later one names no device that the other doesn't name, and on each one that it names no more a write or a sync failed.
+pub record DropsOnlyLost (lost : Device → Bool) (before now : BootRecord) : Type 0 where
+  pub leaves : (d : Device) → names before d ≡ true → (names now d ≡ true) ⊎ (lost d ≡ true)
+  pub joins : (d : Device) → names now d ≡ true → names before d ≡ true
+
 -- the model's own answer to a logged request, with its effect: a slot of the log is taken for it
 pub record IsDone (lost : Device → Bool) (from : Point) (r : Request) (sectors : List (List ℕ)) (q : Answer) (to : Point) : Type 0 where
   pub reply : q ≡ given from.array r
   pub array : to.array ≡ done from.array r sectors
   pub logged : to.logged ≡ from.logged + 1
   pub boot : MayRise lost from.boot to.boot
+  pub members : DropsOnlyLost lost from.boot to.boot
   pub patches : to.patches ≡ from.patches
   pub next : to.next ≡ next_after from.next r
   pub halted : to.halted ≡ from.halted
@@ -139,7 +145,7 @@ WithRoom limit floor from q to some = Where (has_segments limit from) (IsRefused
 -- A checkpoint was made: it is the same array, with nothing in the log, and nothing else has changed but the record, the facts of its patches and the next numbers.
 -- Some data segments were elided, each by a fact of its own: their units are free then.
 -- Three stores wrote three records each at most. The record names the new patches, which are sound and read as the array; few segments were given to data and to patches.
-pub record IsCheckpointed (shelf : Geometry) (from to : Point) : Type 0 where
+pub record IsCheckpointed (shelf : Geometry) (lost : Device → Bool) (from to : Point) : Type 0 where
   pub same : to ≡ record from { logged = 0; boot = to.boot; patches = to.patches; next = to.next }
   pub rises : from.boot.generation < to.boot.generation
   pub few : to.boot.generation ≤ from.boot.generation + 9
@@ -150,6 +156,7 @@ pub record IsCheckpointed (shelf : Geometry) (from to : Point) : Type 0 where
     next = to.next;
     flushed = from.boot.flushed + from.logged;
   }
+  pub members : DropsOnlyLost lost from.boot to.boot
   pub data_segments : ℕ
   pub new_segments : ℕ
   pub few_data : data_segments ≤ DATA_SEGMENTS
@@ -176,27 +183,27 @@ IsAppended shelf lost from r sectors q to = IsDone lost from r sectors q to ⊎ 
 -- No slot is free: a checkpoint is made, and then the request is done, or memory is wanted for the checkpoint, or more devices failed than can be borne, in it or after it.
 abbrev pub IsAppendedBehind : Geometry → (Device → Bool) → Point → Request → List (List ℕ) → Answer → Point → Type 0
 IsAppendedBehind shelf lost from r sectors q to =
-    ((mid : Point) × IsCheckpointed shelf from mid × IsDone lost mid r sectors q to) ⊎ IsRefused refusals.Memory from q to ⊎ IsFailed shelf lost from q to
+    ((mid : Point) × IsCheckpointed shelf lost from mid × IsDone lost mid r sectors q to) ⊎ IsRefused refusals.Memory from q to ⊎ IsFailed shelf lost from q to
 
 -- a logged request, where there is room for it
 abbrev pub IsLogged : Geometry → (Device → Bool) → Point → Request → List (List ℕ) → Answer → Point → Type 0
 IsLogged shelf lost from r sectors q to = WithRoom LIMITED_SEGMENTS ADDING_GROUPS from q to (Where (is_full from) (IsAppendedBehind shelf lost from r sectors q to) (IsAppended shelf lost from r sectors q to))
 
 -- a checkpoint that was asked for is made
-pub record IsFlushed (shelf : Geometry) (from : Point) (q : Answer) (to : Point) : Type 0 where
+pub record IsFlushed (shelf : Geometry) (lost : Device → Bool) (from : Point) (q : Answer) (to : Point) : Type 0 where
   pub reply : q ≡ Line reply.Done
   pub mid : Point
-  pub made : IsCheckpointed shelf from mid
+  pub made : IsCheckpointed shelf lost from mid
   pub stays : IsAsBefore mid to
   pub halted : to.halted ≡ from.halted
 
 -- A checkpoint, where there is room for it: it is made, or memory is wanted for it, or more devices failed than can be borne.
 abbrev pub IsFlushing : Geometry → (Device → Bool) → Point → Answer → Point → Type 0
-IsFlushing shelf lost from q to = WithRoom SEGMENTS_END CHECKPOINT_GROUPS from q to (IsFlushed shelf from q to ⊎ IsRefused refusals.Memory from q to ⊎ IsFailed shelf lost from q to)
+IsFlushing shelf lost from q to = WithRoom SEGMENTS_END CHECKPOINT_GROUPS from q to (IsFlushed shelf lost from q to ⊎ IsRefused refusals.Memory from q to ⊎ IsFailed shelf lost from q to)
 
 -- Two patches of a table were merged: it is the same array, with the same log, and nothing else has changed but the record, the facts of its patches and the ids that their segments get next.
 -- One patch, or none where no fact is left, stands in the place of the two. What the facts say is the same, and they are sound if they were. Two stores wrote three records each at most.
-pub record IsMerged (shelf : Geometry) (t : Table) (i : ℕ) (from to : Point) : Type 0 where
+pub record IsMerged (shelf : Geometry) (lost : Device → Bool) (t : Table) (i : ℕ) (from to : Point) : Type 0 where
   pub same : to ≡ record from { boot = to.boot; patches = to.patches; next = to.next }
   pub rises : from.boot.generation < to.boot.generation
   pub few : to.boot.generation ≤ from.boot.generation + 6
@@ -208,6 +215,7 @@ pub record IsMerged (shelf : Geometry) (t : Table) (i : ℕ) (from to : Point) :
     patches = to.boot.patches;
     next = record from.boot.next { patch_segment = from.boot.next.patch_segment + new_segments };
   }
+  pub members : DropsOnlyLost lost from.boot to.boot
   pub next : to.next ≡ record from.next { patch_segment = from.next.patch_segment + new_segments }
   pub joined : List Patch
   pub joined_named : AreJoined (place_in t i from.boot.patches) from.boot.patches joined to.boot.patches
@@ -220,10 +228,10 @@ pub record IsMerged (shelf : Geometry) (t : Table) (i : ℕ) (from to : Point) :
   pub sound : AreSound shelf from.boot from.patches → AreSound shelf to.boot to.patches
 
 -- a merge that was asked for is made
-pub record IsMergeDone (shelf : Geometry) (t : Table) (i : ℕ) (from : Point) (q : Answer) (to : Point) : Type 0 where
+pub record IsMergeDone (shelf : Geometry) (lost : Device → Bool) (t : Table) (i : ℕ) (from : Point) (q : Answer) (to : Point) : Type 0 where
   pub reply : q ≡ Line reply.Done
   pub mid : Point
-  pub made : IsMerged shelf t i from mid
+  pub made : IsMerged shelf lost t i from mid
   pub stays : IsAsBefore mid to
   pub halted : to.halted ≡ from.halted
 
@@ -235,7 +243,7 @@ WithPair t i from q to some = Where (is_spent from) (IsRefused refusals.Spent fr
 
 -- A merge of the patch of that index of a table and the next one, where they are there and there is room for it: it is made, or memory is wanted for it, or more devices failed than can be borne.
 abbrev pub IsMerging : Geometry → (Device → Bool) → Point → Table → ℕ → Answer → Point → Type 0
-IsMerging shelf lost from t i q to = WithPair t i from q to (IsMergeDone shelf t i from q to ⊎ IsRefused refusals.Memory from q to ⊎ IsFailed shelf lost from q to)
+IsMerging shelf lost from t i q to = WithPair t i from q to (IsMergeDone shelf lost t i from q to ⊎ IsRefused refusals.Memory from q to ⊎ IsFailed shelf lost from q to)
 
 -- how many of the flags are set
 abbrev pub set_flags : List Bool → ℕ

@@ -64,12 +64,13 @@ returns-then-eq-clause-appended g c =
     let a = g.S.Shelf.shelf c.args.shelf.now in
     let m = g.S.Shelf.shelf c.append.new.shelf in
     let was = c.args.array.now in
+    let same : c.append.new.self.members ≡ was.log.members = sym c.members-members.ensures ∙ same_flags c.members-members.result c.members-before.result c.if-eq.ensures ∙ c.members-before.ensures in
     record {
       some = search rules;
       count = search rules;
       keeps = search rules;
       boot = search rules;
-      joins = record { holders = search rules; named = λ d e. inl e };
+      joins = record { holders = search rules; named = λ d e. inl e; names_holders = λ before. (before.0, before.1 ∙ sym same) };
       segments = λ h contents hold. hold_kept (geometry_of a) a m was.register (unwritten a m was.register (λ i. c.append.ensures.ran.on.others (drive i) (λ none. none))) contents (facts was.memory.memory.tables) c.requires.is_of.segments.places hold;
     }
 

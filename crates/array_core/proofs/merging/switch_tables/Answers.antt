@@ -166,7 +166,8 @@ returns-clause-record g c =
         rises = omega (arith, x.record.later.generation, y.made.generation.0);
         drives = y.made.members.0;
         enough = y.made.enough;
-        joins = none_joins_tables _ r0 r1 r2 members c.requires.is_of (λ k m. (x.left.fewer k m).0) y.left.fewer slots (named_left r0 r1 c.members.result members c.members.ensures c.in_ok-leave_lost.ensures.record.named) y.made.members;
+        joins = none_joins_tables _ r0 r1 r2 members c.requires.is_of (λ k m. (x.left.fewer k m).0) y.left.fewer slots (named_left r0 r1 c.members.result members c.members.ensures c.in_ok-leave_lost.ensures.record.named)
+            (subst (λ (l : List Bool). r0.record.members.nvrams ≡ l → r1.record.members.nvrams ≡ l) c.members.ensures c.in_ok-leave_lost.ensures.record.nvrams) y.made.members;
         segments = segments_left (g.S.Shelf.shelf c.args.shelf.now) (g.S.Shelf.shelf c.store_tables.new.shelf) r0 r2 members members c.args.lost.now (ran_more (λ d is. is) (λ d i w. inl w) (returns-clause-ran g c)).on
             (returns-clause-left g c) slots y.made.members.0 y.made.enough;
       };

@@ -9,7 +9,7 @@ use Rattle.array_checkpoint.proofs.Like.{like_is_of}
 use Rattle.array_engine.specs.declared.appending.AppendFault.{AppendFault}
 use Rattle.array_engine.specs.Appending.{IsAppendFault, IsFull}
 use Rattle.array_engine.specs.Replying.{ends_lost}
-use Rattle.array_engine.proofs.Appended.{at_once, behind, like_room}
+use Rattle.array_engine.proofs.Appended.{at_once, behind, both_ok, like_room}
 use Rattle.array_engine.proofs.Faults.{either_meanwhile, fault_in_checkpoint, halts_on_err, kept_on_ok, lost_in_performing, meanwhile_behind, stays_behind}
 use Rattle.array_engine.proofs.AtPoint.{keeps_command, keeps_same}
 use Rattle.array_engine.proofs.Meanwhile.{kept_at_once}
@@ -30,7 +30,8 @@ returns-then-free_slots-gt0-clause-done g c =
     let a = c.args.array.now in
     let cmd : Command = record { request = c.args.request.now; sectors = c.args.sectors.now } in
     let free : ¬ (IsFull a) = λ full. omega (arith, full, c.free_slots.ensures, c.if-free_slots-gt0.true) in
-    on_ok_weaker c.perform_counted.result (at_once (g.S.Shelf.shelf c.args.shelf.now) (g.S.Shelf.shelf c.perform_counted.new.shelf) a c.perform_counted.new.array cmd c.in_ok-check_room.ensures.ok free) c.perform_counted.ensures.logged
+    both_ok c.perform_counted.result (at_once (g.S.Shelf.shelf c.args.shelf.now) (g.S.Shelf.shelf c.perform_counted.new.shelf) a c.perform_counted.new.array cmd c.in_ok-check_room.ensures.ok c.requires.is_of.of_shelf free)
+    c.perform_counted.ensures.goes c.perform_counted.ensures.logged
 
 pub returns-then-free_slots-gt0-clause-fault : goal.returns-then-free_slots-gt0-clause-fault
 returns-then-free_slots-gt0-clause-fault g c =
@@ -109,9 +110,9 @@ returns-clause-done g c =
     let made = c.in_ok-checkpoint.ensures in
     let cmd : Command = record { request = c.args.request.now; sectors = c.args.sectors.now } in
     let full : IsFull a = omega (arith, c.free_slots.ensures, c.if-free_slots-gt0.false) in
-    on_ok_weaker c.perform_counted-2.result
-    (behind old new a c.perform_counted-2.new.array cmd c.in_ok-check_room.ensures.ok mid c.checkpoint.new.array made.continues c.perform_counted-2.ensures.continues full made.goes made.flushed)
-    c.perform_counted-2.ensures.logged
+    both_ok c.perform_counted-2.result
+    (behind old new a c.perform_counted-2.new.array cmd c.in_ok-check_room.ensures.ok c.requires.is_of.of_shelf mid c.checkpoint.new.array made.continues c.perform_counted-2.ensures.continues full made.goes made.flushed)
+    c.perform_counted-2.ensures.goes c.perform_counted-2.ensures.logged
 
 pub returns-clause-goes : goal.returns-clause-goes
 returns-clause-goes g c =

@@ -26,7 +26,7 @@ returns-clause-answers g c = λ sectors told from honest at.
     let does = c.flush-done.ensures in
     let stays = IsLike e.array f.array × (c.flush-done.new.shelf ≡ c.args.shelf.now) in
     subst (λ (q : Said). IsAnsweredAt told old new e f (Asked request.Checkpoint sectors) q from) (sym c.said_to.ensures)
-    (flush_answered told old new e f sectors stays from honest at c.requires.awake (λ x. (x.0, ap g.S.Shelf.shelf x.1)) c.flush-done.result does.goes does.made does.fault c.is_lost-self.ensures)
+    (flush_answered told old new e f sectors stays from honest at c.requires.awake (λ x. (x.0, ap g.S.Shelf.shelf x.1)) c.requires.is_of.of_shelf c.flush-done.result does.goes does.made does.fault c.is_lost-self.ensures)
 
 pub returns-clause-kept : goal.returns-clause-kept
 returns-clause-kept g c = λ honest sectors held ready.

@@ -25,7 +25,7 @@ returns-clause-answers g c = λ sectors told from honest at.
     let does = c.merge_patches-done.ensures in
     let stays = (f.array ≡ e.array) × (c.merge_patches-done.new.shelf ≡ c.args.shelf.now) in
     subst (λ (q : Said). IsAnsweredAt told old new e f (Asked (request.Merge c.args.table c.args.index) sectors) q from) (sym c.said_to_merge.ensures)
-    (merge_answered told old new e f c.args.table c.args.index sectors stays from honest at c.requires.awake (λ x. (x.0, ap g.S.Shelf.shelf x.1)) c.merge_patches-done.result does.goes does.made does.fault c.is_merge_lost-self.ensures)
+    (merge_answered told old new e f c.args.table c.args.index sectors stays from honest at c.requires.awake (λ x. (x.0, ap g.S.Shelf.shelf x.1)) c.requires.is_of.of_shelf c.merge_patches-done.result does.goes does.made does.fault c.is_merge_lost-self.ensures)
 
 pub returns-clause-kept : goal.returns-clause-kept
 returns-clause-kept g c = λ honest sectors held ready.
