@@ -1,10 +1,10 @@
 -- Answers where more calls have failed, and more devices have lost writes.
 use Rattle.std.proofs.Common.{◌≡◌, inl, inr, ⊎_elim, ℕ, List, refl, Bool, true, false}
 use Rattle.std.specs.Prelude.{Option, Some, None, ◌+◌, not, nat_lt}
-use Rattle.session_spec.specs.Prelude.{Device, BootRecord, Request, Table, Refusal, Geometry, Condition, Sound, Missing, LeftOut, MayBecome, drive, refusal, Item, Asked, Syntax, Cut, Answer, missing_if, losing, has_pair, pair_segments, Point, Answers, AnswersRequest, AnswersAccepted, IsAppended, IsAppendedBehind, IsDone, IsFailed, IsGone, IsLost, IsFlushing, IsMerging, Where, has_segments, is_full, is_limited, is_spent, borne_before}
+use Rattle.session_spec.specs.Prelude.{Device, BootRecord, Request, Table, Refusal, Geometry, Condition, Sound, Missing, LeftOut, MayBecome, drive, refusal, Item, Asked, Syntax, Cut, Answer, missing_if, losing, has_pair, pair_segments, Point, Answers, AnswersRequest, AnswersAccepted, IsAppended, IsAppendedBehind, IsDone, IsFailed, IsGone, IsLost, IsFlushing, IsMerging, Where, has_segments, is_full, is_limited, is_spent, borne_before, IsCheckpointed}
 use Rattle.pur_base.specs.declared.request.Request.TheVariants as request
 use Rattle.session_spec.specs.Faring as faring
-use Rattle.session_spec.specs.Faring.{DropsOnlyLost, IsCheckpointed, IsMerged}
+use Rattle.session_spec.specs.Faring.{DropsOnlyLost, IsMerged}
 use Rattle.session_spec.specs.declared.limits.TheConstants.{ADDING_GROUPS, CHECKPOINT_GROUPS, MERGE_GROUPS, SEGMENTS_END}
 
 pub goes_more : (c : Condition) (p q : Bool) → (p ≡ true → q ≡ true) → MayBecome (missing_if p c) (missing_if q c)
