@@ -5,7 +5,7 @@ use Rattle.std.proofs.lemmas.Bool.{cases_lt}
 use Rattle.array_spec.specs.Prelude.{Device, SECTOR_BYTES, drive, is_open, gate_bytes}
 use Rattle.pur_base.specs.declared.device.Device.TheVariants as dev
 use Rattle.world.specs.declared.streams.Failed.{Failed}
-use Rattle.world.specs.Prelude.{Rises, Shelved, Stop, Disk, Continues, Elapses, IsSame, IsShelf, LeavesOnly, OthersStay, ReadCounts, Written, IsPreorder, OneRange, WritesOnly, LeavesBut, ChangesOnly, Only, Ran, continues_trans, then_run, weaker, runs_read, but_then, counted_then, counts_grow, read_writes, writes_then, writes_more}
+use Rattle.world.specs.Prelude.{Counts, Rises, Shelved, Stop, Disk, Continues, Elapses, IsSame, IsShelf, LeavesOnly, OthersStay, ReadCounts, Written, IsPreorder, OneRange, WritesOnly, LeavesBut, ChangesOnly, Only, Ran, continues_trans, then_run, weaker, runs_read, but_then, counted_then, counts_grow, read_writes, writes_then, writes_more}
 use Rattle.boot_region.specs.Members.{IsMember, IsOneOf, OnNotShut, OneNotShut, IsNotShut, Closed, LostWrites}
 use Rattle.boot_region.proofs.OnEach.{only_member}
 use Rattle.boot_region.specs.lemmas.Shown.{reads_open, gate_opens, gate_closes, gate_size, open_begins, closed_begins}
@@ -105,20 +105,27 @@ closing_next {shelf = shelf} {a = a} {b = b} {c = c} members at slot member same
   rest = stays.transitive a b c first.rest next.rest;
 }
 
-pub closed_of : (answer : Result (Unit {0}) Failed) (honest was : Type 0) (at : ℕ) (old new : Disk) → was → (honest → OnOk answer (is_open at new.bytes ≡ false)) → (honest → OnOk answer (old.dirty ≡ [] → new.dirty ≡ [])) → OnErr answer (LostWrites old new)
+pub closed_of : (answer : Result (Unit {0}) Failed) (honest was : Type 0) (at : ℕ) (old new : Disk) → was → (honest → OnOk answer (is_open at new.bytes ≡ false)) → (honest → OnOk answer (old.dirty ≡ [] → new.dirty ≡ [])) → OnErr answer (LostWrites old new) → OnOk answer (new.write_faults ≡ old.write_faults)
     → Closed honest was (is_ok answer ≡ true) at old new
-closed_of (Ok x) honest was at old new member closed clean counts = record {
+closed_of (Ok x) honest was at old new member closed clean counts unlost = record {
   before = λ is. member;
   closed = λ h is. closed h;
   clean = λ h is. clean h;
   dropped = λ w. inl refl;
+  unlost = λ is. unlost;
 }
-closed_of (Err x) honest was at old new member closed clean counts = record {
+closed_of (Err x) honest was at old new member closed clean counts unlost = record {
   before = λ is. member;
   closed = λ h is. absurd (cc is);
   clean = λ h is. absurd (cc is);
   dropped = λ w. inr counts;
+  unlost = λ is. absurd (cc is);
 }
+
+-- a count that a call left, and then one that answers Ok
+pub none_behind : (answer : Result (Unit {0}) Failed) (a b c : ℕ) → b ≡ a → Counts answer b c → OnOk answer (c ≡ a)
+none_behind (Ok x) a b c same counts = counts ∙ same
+none_behind (Err x) a b c same counts = tt
 
 -- the sector of a closed gate closes it, and that of an open one opens it
 pub wrote_closed : (answer : Result (Unit {0}) Failed) (at : ℕ) (from old new : List ℕ) → from ≡ gate_bytes false → OnOk answer (Written at from old new) → OnOk answer (is_open at new ≡ false)

@@ -18,10 +18,12 @@ outcome_of (Ok x) honest was at from old new member written clean counts = recor
   written = λ h is. written h;
   clean = λ h is. clean h;
   dropped = λ w. inl refl;
+  unlost = λ is. counts.write_faults;
 }
 outcome_of (Err x) honest was at from old new member written clean counts = record {
   before = λ is. member;
   written = λ h is. absurd (cc is);
   clean = λ h is. absurd (cc is);
   dropped = λ w. inr (record { faults = counts.faults; write_faults = counts.write_faults });
+  unlost = λ is. absurd (cc is);
 }

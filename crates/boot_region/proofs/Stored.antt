@@ -8,7 +8,7 @@ use Rattle.std.proofs.lemmas.Bool.{cases_Bool, cases_lt}
 use Rattle.array_spec.specs.Prelude.{Device, SECTOR_BYTES, UNIT_BYTES, Condition, Conditions, Sound, Missing, LeftOut, IsBearable, IsWithin, MayBecome, is_sound, is_missing, drive, Array, RECORD_BYTES, BootRecord, set_count, spelling, BootSlot, IsRecordOf, other_slot, gate_place, body_place, body_in, shown_by, Yields, generation_in, Stands, MayBeGiven, MayAppear, IsHeld, is_sound_vote, counted, held_is_given, sound_before, twice_other}
 use Rattle.pur_base.specs.declared.device.Device.TheVariants as dev
 use Rattle.world.specs.Prelude.{Rises, Shelved, Stop, MayStop, IsShelf, IsIn, Continues, Written, IsCountedBy, LeavesOnly, ChangesOnly, LeavesBut, geometry_of, IsLater, continues_trans, continues_refl, as_read}
-use Rattle.boot_region.specs.Members.{IsMember, IsOneOf, OnSlot, OnMembers, OnNotShut, Outcome, Closed, LostWrites, DroppedFailed}
+use Rattle.boot_region.specs.Members.{IsMember, IsOneOf, OnSlot, OnMembers, OnNotShut, Outcome, Closed, LostWrites, DroppedFailed, LosesOnlyFailed}
 use Rattle.boot_region.specs.Storing.{AreClean, AreClosed, AreOlder, SoundAreMembers, ComesOf, Closes, Writes, Opens, IsInForceOn, MayFollow, AccountsFor, IsInStore, GivesNoMore, HeldStill, IsOpening, StandsBut, StandsNow, IsNewer, IsStored, IsStoredOn, IsFirmOn, AreEnough, StandsAgain}
 use Rattle.boot_region.proofs.Composing.{borne, votes_not, IsBorneOn, differs_then, still_while_closing, still_while_writing, gives_while_closing, gives_while_writing, gives_while_opening, while_closing, while_writing, while_writing_over, while_opening, as_it_is, is_sound_is}
 use Rattle.boot_region.proofs.Phases.{risen_on_way, closes_gates, writes_bodies, opens_gates}
@@ -55,12 +55,27 @@ dropped_then a b c m0 m1 m2 ab bc first next i m = elim (first i m) [
   ]
 ]
 
--- members after a phase were members before it
-pub fewer_closed : {honest : Type 0} {at : ℕ} (m0 m1 : List Bool) (a b : Shelved) → length m1 ≡ length m0 → ((i : ℕ) → i < length m0 → Closed honest (IsMember m0 i) (IsMember m1 i) at (a.disk (drive i)) (b.disk (drive i))) → (i : ℕ) → IsMember m1 i → IsMember m0 i
-fewer_closed {honest} {at} m0 m1 a b as_many outcome i m = (outcome i (omega (arith, member_below m1 i m, as_many))).before m
+pub loses_then : (a b c : Shelved) (m0 m1 m2 : List Bool) → Continues a b → Continues b c → LosesOnlyFailed a b m0 m1 → LosesOnlyFailed b c m1 m2 → LosesOnlyFailed a c m0 m2
+loses_then a b c m0 m1 m2 ab bc first next = record {
+  fewer = λ i m. first.fewer i (next.fewer i m);
+  dropped = dropped_then a b c m0 m1 m2 ab bc first.dropped next.dropped;
+  unlost = λ i m. next.unlost i m ∙ first.unlost i (next.fewer i m);
+}
 
-pub fewer_written : {honest : Type 0} {at : ℕ} {body : List ℕ} (m0 m1 : List Bool) (a b : Shelved) → length m1 ≡ length m0 → ((i : ℕ) → i < length m0 → Outcome honest (IsMember m0 i) (IsMember m1 i) at body (a.disk (drive i)) (b.disk (drive i))) → (i : ℕ) → IsMember m1 i → IsMember m0 i
-fewer_written {honest} {at} {body} m0 m1 a b as_many outcome i m = (outcome i (omega (arith, member_below m1 i m, as_many))).before m
+-- from what a phase left of each drive
+pub loses_closed : {honest : Type 0} {at : ℕ} (m0 m1 : List Bool) (a b : Shelved) → length m1 ≡ length m0 → ((i : ℕ) → i < length m0 → Closed honest (IsMember m0 i) (IsMember m1 i) at (a.disk (drive i)) (b.disk (drive i))) → LosesOnlyFailed a b m0 m1
+loses_closed {honest} {at} m0 m1 a b as_many outcome = record {
+  fewer = λ i m. (outcome i (omega (arith, member_below m1 i m, as_many))).before m;
+  dropped = λ i m. (outcome i (member_below m0 i m)).dropped m;
+  unlost = λ i m. (outcome i (omega (arith, member_below m1 i m, as_many))).unlost m;
+}
+
+pub loses_written : {honest : Type 0} {at : ℕ} {body : List ℕ} (m0 m1 : List Bool) (a b : Shelved) → length m1 ≡ length m0 → ((i : ℕ) → i < length m0 → Outcome honest (IsMember m0 i) (IsMember m1 i) at body (a.disk (drive i)) (b.disk (drive i))) → LosesOnlyFailed a b m0 m1
+loses_written {honest} {at} {body} m0 m1 a b as_many outcome = record {
+  fewer = λ i m. (outcome i (omega (arith, member_below m1 i m, as_many))).before m;
+  dropped = λ i m. (outcome i (member_below m0 i m)).dropped m;
+  unlost = λ i m. (outcome i (omega (arith, member_below m1 i m, as_many))).unlost m;
+}
 
 -- members of fewer are members of more
 pub on_fewer : (m0 m1 : List Bool) → ((i : ℕ) → IsMember m1 i → IsMember m0 i) → (k : Device) → IsOneOf m1 k → IsOneOf m0 k

@@ -35,12 +35,13 @@ pub record LostWrites (old new : Disk) : Type 0 where
   pub faults : Rises old.faults new.faults
   pub write_faults : Rises old.write_faults new.write_faults
 
--- a member holds the bytes and stays one, or a write on it failed
+-- a member holds the bytes and stays one, with no write lost, or a write on it failed
 pub record Outcome (honest was is : Type 0) (at : ℕ) (from : List ℕ) (old new : Disk) : Type 0 where
   pub before : is → was
   pub written : honest → is → Written at from old.bytes new.bytes
   pub clean : honest → is → new.dirty ≡ []
   pub dropped : was → is ⊎ LostWrites old new
+  pub unlost : is → new.write_faults ≡ old.write_faults
 
 -- the gate was open, or a call on the device failed
 abbrev pub IsNotShut : ℕ → List ℕ → ℕ → ℕ → Type 0
@@ -56,12 +57,13 @@ OnNotShut members shelf faults at (Drive d) i =
     IsMember members d.0 × IsIn (record { start = at; size = SECTOR_BYTES }) i × IsNotShut at (shelf.disk (Drive d)).bytes (shelf.disk (Drive d)).faults (faults (Drive d))
 OnNotShut members shelf faults at (Nv v) i = ⊥
 
--- the gate of a member is closed, or a write on it failed
+-- the gate of a member is closed, with no write lost, or a write on it failed
 pub record Closed (honest was is : Type 0) (at : ℕ) (old new : Disk) : Type 0 where
   pub before : is → was
   pub closed : honest → is → is_open at new.bytes ≡ false
   pub clean : honest → is → old.dirty ≡ [] → new.dirty ≡ []
   pub dropped : was → is ⊎ LostWrites old new
+  pub unlost : is → new.write_faults ≡ old.write_faults
 
 -- a gate's sector on one device, where the gate is closed
 abbrev pub OneClosed : List ℕ → Device → ℕ → Device → ℕ → Type 0
@@ -82,3 +84,9 @@ pub record Opened (honest was is : Type 0) (at : ℕ) (old new : Disk) : Type 0 
 -- a member that isn't one any more failed in a write or a sync
 abbrev pub DroppedFailed : Shelved → Shelved → List Bool → List Bool → Type 0
 DroppedFailed old new was now = (i : ℕ) → IsMember was i → IsMember now i ⊎ LostWrites (old.disk (drive i)) (new.disk (drive i))
+
+-- None joins the members. One leaves only where a write or a sync of it failed, and of one that stays none did.
+pub record LosesOnlyFailed (old new : Shelved) (was now : List Bool) : Type 0 where
+  pub fewer : (i : ℕ) → IsMember now i → IsMember was i
+  pub dropped : DroppedFailed old new was now
+  pub unlost : (i : ℕ) → IsMember now i → (new.disk (drive i)).write_faults ≡ (old.disk (drive i)).write_faults

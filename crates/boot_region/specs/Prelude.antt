@@ -1,6 +1,6 @@
 -- What crates above name of this one, page by page.
 pub use Rattle.boot_region.specs.Loading.{IsBadBody, IsFaultOf, IsGiven, IsHeld, IsLawfulLoad, IsLoadBy, IsLoadOf, IsSpent, MayBeSettled, TellsHolding, TooFewHold}
-pub use Rattle.boot_region.specs.Members.{DroppedFailed, IsDrive, IsMember, IsOneOf, LostWrites, NonMembersStay, OnClosed, OnMembers, OnSlot, Opened}
+pub use Rattle.boot_region.specs.Members.{DroppedFailed, IsDrive, IsMember, IsOneOf, LosesOnlyFailed, LostWrites, NonMembersStay, OnClosed, OnMembers, OnSlot, Opened}
 pub use Rattle.boot_region.specs.Regions.{AnswerCounts, CountsStay, GivesNone, IsRead, IsUndecided, is_body_in, seen}
 unfoldable pub use Rattle.boot_region.specs.Regions.{is_holding, region_at}
 pub use Rattle.boot_region.specs.Slots.{slot_in}

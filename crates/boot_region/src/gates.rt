@@ -12,7 +12,7 @@ ghost use Rattle.world.specs.Losing.{geometry_of};
 ghost use Rattle.world.specs.Shelf.{Has, LeavesOnly, MayStop, Stop};
 ghost use Rattle.world.specs.Writes.{LeavesBut};
 ghost use Rattle.world.specs.Ran.{Only, Ran};
-ghost use Rattle.boot_region.specs.Members.{IsMember, IsOneOf, OnMembers, OnNotShut, OneNotShut, Outcome, Closed, LostWrites, DroppedFailed};
+ghost use Rattle.boot_region.specs.Members.{IsMember, IsOneOf, OnMembers, OnNotShut, OneNotShut, Outcome, Closed, LostWrites, LosesOnlyFailed};
 ghost use Rattle.boot_region.specs.Slots.{slot_in};
 ghost use Rattle.boot_region.specs.Storing.{SoundAreMembers, AreClean, AreClosed, AreWritten, OthersLose, LeavesBy, Closes, Writes, Opens};
 
@@ -29,6 +29,8 @@ fn close_gate<S: Shelf>(shelf: &mut S, device: Device, at: u64) -> Result<(), Fa
     ensures clean { (S.shelf shelf.old).honest → OnOk result (((S.shelf shelf.old).disk device).dirty ≡ [] → ((S.shelf shelf.new).disk device).dirty ≡ []) }
     ensures any_moment { (S.shelf shelf.old).honest → LeavesOnly (S.shelf shelf.old) (S.shelf shelf.new) (λ stop. LeavesBut (OneNotShut ((S.shelf shelf.old).disk device) (stop.faults device) device at) (S.shelf shelf.old) stop) }
     ensures counts { OnErr result (LostWrites ((S.shelf shelf.old).disk device) ((S.shelf shelf.new).disk device)) }
+    // (where the read failed, but the write didn't, the count of all faults rose)
+    ensures unlost { OnOk result (((S.shelf shelf.new).disk device).write_faults ≡ ((S.shelf shelf.old).disk device).write_faults) }
 {
     let mut seen = [0; SECTOR_BYTES];
     let answer = shelf.read(device, at, &mut seen);
@@ -75,8 +77,7 @@ pub fn write_bodies<S: Shelf>(shelf: &mut S, members: &mut [bool], slot: Slot, b
 pub fn open_gates<S: Shelf>(shelf: &mut S, members: &mut [bool], slot: Slot)
     requires { length members.old ≤ (S.shelf shelf.old).drives }
     ensures ran { Ran S.shelf S.shelf_rest (IsOneOf members.old) (OnMembers members.old (gate_place (slot_in slot)) SECTOR_BYTES) shelf.old shelf.new }
-    ensures fewer { (i : ℕ) → IsMember members.new i → IsMember members.old i }
-    ensures dropped { DroppedFailed (S.shelf shelf.old) (S.shelf shelf.new) members.old members.new }
+    ensures members { LosesOnlyFailed (S.shelf shelf.old) (S.shelf shelf.new) members.old members.new }
     ensures clean { (S.shelf shelf.old).honest → (i : ℕ) → IsMember members.new i → ((S.shelf shelf.new).disk (drive i)).dirty ≡ [] }
     ensures shown { (S.shelf shelf.old).honest → (i : ℕ) → IsMember members.new i → shown_by (slot_in slot) ((S.shelf shelf.new).disk (drive i)).bytes ≡ Some (body_in (slot_in slot) ((S.shelf shelf.old).disk (drive i)).bytes) }
     ensures any_moment { (S.shelf shelf.old).honest → (missing : Conditions) (body : List ℕ) → AreClean (S.shelf shelf.old) missing members.old → AreClosed (S.shelf shelf.old) missing members.old (slot_in slot)

@@ -8,7 +8,7 @@ ghost use Rattle.boot_codec.specs.Record.{set_count};
 ghost use Rattle.boot_codec.specs.Spelling.{spelling};
 ghost use Rattle.world.specs.Shelf.{LeavesOnly};
 ghost use Rattle.world.specs.Ran.{Ran};
-ghost use Rattle.boot_region.specs.Members.{IsMember, IsOneOf, DroppedFailed, OnSlot};
+ghost use Rattle.boot_region.specs.Members.{IsMember, IsOneOf, LosesOnlyFailed, OnSlot};
 ghost use Rattle.boot_region.specs.Slots.{slot_in};
 ghost use Rattle.boot_region.specs.Storing.{Shows, AreEnough, IsFirmOn, IsInStore, IsInForceOn, IsNewer, IsStoredIn, IsStoredOn, MayFollow, StandsAgain};
 
@@ -44,8 +44,7 @@ pub fn store<S: Shelf>(
     requires members { length members.old ≤ (S.shelf shelf.old).drives }
     requires size { length body.now ≡ RECORD_BYTES }
     ensures ran { Ran S.shelf S.shelf_rest (IsOneOf members.old) (OnSlot members.old (slot_in slot)) shelf.old shelf.new }
-    ensures fewer { (i : ℕ) → IsMember members.new i → IsMember members.old i }
-    ensures dropped { DroppedFailed (S.shelf shelf.old) (S.shelf shelf.new) members.old members.new }
+    ensures members { LosesOnlyFailed (S.shelf shelf.old) (S.shelf shelf.new) members.old members.new }
     ensures shown { (S.shelf shelf.old).honest → OnOk result ((i : ℕ) → IsMember members.new i → Shows (S.shelf shelf.new) (slot_in slot) body.now i) }
     ensures enough { OnOk result (AreEnough members.new) }
     ensures too_few { OnErr result (set_count members.new + 2 < length members.new) }

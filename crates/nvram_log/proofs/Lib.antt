@@ -5,6 +5,7 @@ pub mod Lists
 pub mod Showing
 pub mod Along
 pub mod Storing
+mod Losing
 pub mod Kept
 pub mod Closing
 pub mod Decoded

@@ -26,6 +26,7 @@ outcome_of (Ok x) honest was holds old new member written clean counts = record 
   clean = λ h is. clean h;
   dropped = λ w. inl refl;
   counted = λ w. inl refl;
+  unlost = λ is. counts.write_faults;
   others = λ none. absurd (none member);
 }
 outcome_of (Err x) honest was holds old new member written clean counts = record {
@@ -34,6 +35,7 @@ outcome_of (Err x) honest was holds old new member written clean counts = record
   clean = λ h is. absurd (cc is);
   dropped = λ w. inr counts.write_faults;
   counted = λ w. inr counts.faults;
+  unlost = λ is. absurd (cc is);
   others = λ none. absurd (none member);
 }
 

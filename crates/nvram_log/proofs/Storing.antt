@@ -1,10 +1,10 @@
 -- Records are stored on the members: their slots, and then their gates.
-use Rattle.std.proofs.Common.{◌≡◌, inl, inr, ⊎_elim, ℕ, ◌+◌, ◌-◌, ◌^◌, ◌≤◌, ◌<◌, Bool, false, List, [], ◌++◌, length, Some, slice_get, slice_index, slice_index_or, replicate, sym, ◌∙◌, ap, subst, arith}
+use Rattle.std.proofs.Common.{◌≡◌, inl, inr, ⊎_elim, ℕ, ◌+◌, ◌≤◌, ◌<◌, Bool, false, List, ◌++◌, length, Some, slice_get, slice_index, slice_index_or, replicate, sym, ◌∙◌, ap, subst, arith}
 use Rattle.std.proofs.lemmas.Bool.{cases_lt, cases_Bool}
 use Rattle.std.proofs.lemmas.List.{length-map, length-replicate, get_or-replicate, get_or_past}
 use Rattle.std.proofs.lemmas.List.Edits.{get_or-between}
 use Rattle.std.proofs.lemmas.Option.{slice_get_within}
-use Rattle.world.specs.Prelude.{Command, nvram, Device, Drive, Nv, Rises, Shelved, Stop, Disk, IsShelf, IsIn, Written, WritesOnly, LeavesBut, MayLeaveBut, ChangesOnly, none_dirty}
+use Rattle.world.specs.Prelude.{Command, nvram, Device, Drive, Nv, Shelved, Stop, Disk, IsShelf, IsIn, Written, WritesOnly, LeavesBut, MayLeaveBut, ChangesOnly, none_dirty}
 use Rattle.log_codec.specs.Prelude.{Spells, slot_at}
 use Rattle.nvram_log.specs.declared.record.Record.{Record}
 use Rattle.nvram_log.specs.Members.{IsMember, IsOnMember, IsFewer, OnMembers, OnRange, Outcome}
@@ -21,21 +21,6 @@ member_below members n two is = elim (cases_lt n 2) [
   | inl lt ↦ lt
   | inr ge ↦ absurd (cc (get_or_past members n false (omega (arith, two, ge)), is))
 ]
-
--- a count that rose in one of two runs rose
-pub rises_first : (a b c : ℕ) → Rises a b → b ≤ c → c ≤ 2 ^ 64 - 1 → Rises a c
-rises_first a b c (inl lt) le most = inl (omega (arith, lt, le))
-rises_first a b c (inr end) le most = inr (end.0, omega (arith, end.0, end.1, le, most))
-
-pub rises_then : (a b c : ℕ) → a ≤ b → Rises b c → Rises a c
-rises_then a b c le (inl lt) = inl (omega (arith, lt, le))
-rises_then a b c le (inr end) = elim (cases_lt a c) [
-  | inl lt ↦ inl lt
-  | inr ge ↦ inr (omega (arith, end.0, end.1, le, ge), omega (arith, end.0, end.1, le, ge))
-]
-
-pub outcomes_fewer : (honest : Type 0) (was now : List Bool) (holds : ℕ → Type 0) (old new : ℕ → Disk) → length now ≡ 2 → ((n : ℕ) → n < 2 → Outcome honest (IsMember was n) (IsMember now n) (holds n) (old n) (new n)) → IsFewer was now
-outcomes_fewer honest was now holds old new two outcome n is = (outcome n (member_below now n two is)).before is
 
 -- a log that is shown whole is between itself and a longer one
 pub whole : (bytes : List ℕ) (flushed : ℕ) (commands more : List Command) → IsLog bytes flushed commands → IsBetween bytes flushed commands (commands ++ more)

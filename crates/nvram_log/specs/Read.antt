@@ -1,5 +1,5 @@
 -- The log that is read from the devices.
-use Rattle.std.specs.Prelude.{◌≡◌, ◌⊎◌, ℕ, ◌<◌, Bool, List, Some, slice_get}
+use Rattle.std.specs.Prelude.{◌≡◌, ℕ, ◌<◌, Bool, List, Some, slice_get}
 use Rattle.world.specs.Prelude.{Command, View, nvram, Device, Rises, Shelved}
 use Rattle.log_codec.specs.declared.limits.TheConstants.{LOG_SLOTS}
 use Rattle.log_codec.specs.Prelude.{Shows, IsInSlot}
@@ -15,10 +15,6 @@ pub record IsReadFrom (honest : Type 0) (view : View) (log : NvLog) : Type 0 whe
   pub keeps : Keeps log commands
   pub shown : honest → (i : ℕ) (c : Command) → slice_get commands i ≡ Some c → IsInSlot view log.flushed i c
   pub ends : honest → log.count < LOG_SLOTS → (n : ℕ) (c : Command) → n < 2 → ¬ (Shows view n log.flushed log.count c)
-
--- a device is a member no longer where a call on it failed
-abbrev pub DroppedCounted : Shelved → Shelved → List Bool → List Bool → Type 0
-DroppedCounted old new was now = (n : ℕ) → n < 2 → IsMember was n → IsMember now n ⊎ Rises (old.disk (nvram n)).faults (new.disk (nvram n)).faults
 
 -- each member failed, where both are lost
 abbrev pub AllFailed : ReadFault → Shelved → Shelved → List Bool → Type 0

@@ -5,9 +5,8 @@ ghost use Rattle.pur_base.specs.declared.limits.TheConstants.{NVRAM_DEVICES};
 ghost use Rattle.log_codec.specs.declared.limits.TheConstants.{LOG_SLOTS, SLOT_BYTES};
 ghost use Rattle.world.specs.Shelf.{LeavesOnly};
 ghost use Rattle.world.specs.Ran.{Ran};
-ghost use Rattle.nvram_log.specs.Members.{IsSome, IsFewer, DroppedFailed, OnMembers, IsOnMember};
+ghost use Rattle.nvram_log.specs.Members.{IsSome, LosesOnlyFailed, OnMembers, IsOnMember};
 ghost use Rattle.nvram_log.specs.Records.{AreRecords, SpellFrom, commands_of};
-ghost use Rattle.nvram_log.specs.Read.{DroppedCounted};
 ghost use Rattle.nvram_log.specs.Held.{HoldsOn, LeavesBetween};
 ghost use Rattle.nvram_log.specs.Spelled.{AreSpelled};
 
@@ -31,9 +30,7 @@ fn store<S: Shelf>(
     requires room { first + length records.now ≤ LOG_SLOTS }
     requires lawful { AreRecords records.now }
     ensures ran { Ran S.shelf S.shelf_rest (IsOnMember members.old) (OnMembers members.old) shelf.old shelf.new }
-    ensures fewer { IsFewer members.old members.new }
-    ensures dropped { DroppedFailed (S.shelf shelf.old) (S.shelf shelf.new) members.old members.new }
-    ensures counted { DroppedCounted (S.shelf shelf.old) (S.shelf shelf.new) members.old members.new }
+    ensures members { LosesOnlyFailed (S.shelf shelf.old) (S.shelf shelf.new) members.old members.new }
     ensures holds { (S.shelf shelf.old).honest → (flushed : ℕ) (commands : List Command) → length commands ≡ first → SpellFrom slots.now flushed first records.now
         → HoldsOn (S.shelf shelf.old) members.old flushed commands → HoldsOn (S.shelf shelf.new) members.new flushed (commands ++ commands_of records.now) }
     ensures any_moment { (S.shelf shelf.old).honest → (flushed : ℕ) (commands : List Command) → length commands ≡ first → SpellFrom slots.now flushed first records.now
@@ -53,9 +50,7 @@ impl NvLog {
         requires numbers { self.old.flushed + self.old.count + length records.now < 2 ^ 64 }
         requires lawful { AreRecords records.now }
         ensures ran { Ran S.shelf S.shelf_rest (IsOnMember self.old.members) (OnMembers self.old.members) shelf.old shelf.new }
-        ensures fewer { IsFewer self.old.members self.new.members }
-        ensures dropped { DroppedFailed (S.shelf shelf.old) (S.shelf shelf.new) self.old.members self.new.members }
-        ensures counted { DroppedCounted (S.shelf shelf.old) (S.shelf shelf.new) self.old.members self.new.members }
+        ensures members { LosesOnlyFailed (S.shelf shelf.old) (S.shelf shelf.new) self.old.members self.new.members }
         ensures flushed { self.new.flushed ≡ self.old.flushed }
         ensures ok { OnOk result ((self.new.count ≡ self.old.count + length records.now) × IsSome self.new.members) }
         ensures err { OnErr result ((self.new.count ≡ self.old.count) × (IsSome self.new.members → ⊥)) }

@@ -5,8 +5,7 @@ ghost use Rattle.pur_base.specs.declared.limits.TheConstants.{NVRAM_DEVICES};
 ghost use Rattle.log_codec.specs.declared.limits.TheConstants.{LOG_SLOTS};
 ghost use Rattle.world.specs.Shelf.{LeavesOnly};
 ghost use Rattle.world.specs.Ran.{Ran};
-ghost use Rattle.nvram_log.specs.Members.{IsSome, IsFewer, DroppedFailed, OnMembers, OnRange, IsOnMember};
-ghost use Rattle.nvram_log.specs.Read.{DroppedCounted};
+ghost use Rattle.nvram_log.specs.Members.{IsSome, LosesOnlyFailed, OnMembers, OnRange, IsOnMember};
 ghost use Rattle.nvram_log.specs.Held.{HoldsOn, LeavesBetween};
 
 use crate::gates::{CLOSED, write_gates};
@@ -19,9 +18,7 @@ fn close<S: Shelf>(shelf: &mut S, members: &mut [bool], count: usize)
     requires members { length members.old ≡ NVRAM_DEVICES }
     requires slots { count ≤ LOG_SLOTS }
     ensures ran { Ran S.shelf S.shelf_rest (IsOnMember members.old) (OnRange members.old 0 count) shelf.old shelf.new }
-    ensures fewer { IsFewer members.old members.new }
-    ensures dropped { DroppedFailed (S.shelf shelf.old) (S.shelf shelf.new) members.old members.new }
-    ensures counted { DroppedCounted (S.shelf shelf.old) (S.shelf shelf.new) members.old members.new }
+    ensures members { LosesOnlyFailed (S.shelf shelf.old) (S.shelf shelf.new) members.old members.new }
     ensures holds { (S.shelf shelf.old).honest → (flushed : ℕ) (commands : List Command) → length commands ≡ count
         → HoldsOn (S.shelf shelf.old) members.old flushed commands → HoldsOn (S.shelf shelf.new) members.new (flushed + count) [] }
 {
@@ -37,9 +34,7 @@ impl NvLog {
     /// Empties the log: its commands count as flushed. A member that fails is dropped, and where none is left the log stays as it is in memory.
     pub fn clear<S: Shelf>(&mut self, shelf: &mut S) -> Result<(), BothLost>
         ensures ran { Ran S.shelf S.shelf_rest (IsOnMember self.old.members) (OnMembers self.old.members) shelf.old shelf.new }
-        ensures fewer { IsFewer self.old.members self.new.members }
-        ensures dropped { DroppedFailed (S.shelf shelf.old) (S.shelf shelf.new) self.old.members self.new.members }
-        ensures counted { DroppedCounted (S.shelf shelf.old) (S.shelf shelf.new) self.old.members self.new.members }
+        ensures members { LosesOnlyFailed (S.shelf shelf.old) (S.shelf shelf.new) self.old.members self.new.members }
         ensures ok { OnOk result ((self.new.flushed ≡ self.old.flushed + self.old.count) × (self.new.count ≡ 0) × IsSome self.new.members) }
         ensures err { OnErr result ((self.new.flushed ≡ self.old.flushed) × (self.new.count ≡ self.old.count) × (IsSome self.new.members → ⊥)) }
         ensures keeps { OnOk result (Keeps self.new []) }

@@ -6,10 +6,10 @@ ghost use Rattle.pur_base.specs.declared.limits.TheConstants.{NVRAM_BYTES, NVRAM
 ghost use Rattle.world.specs.Counts.{Rises};
 ghost use Rattle.world.specs.Shelf.{IsSame};
 ghost use Rattle.world.specs.Ran.{Ran};
-ghost use Rattle.nvram_log.specs.Members.{IsFewer, IsMember, IsSome, IsNvram};
+ghost use Rattle.nvram_log.specs.Members.{DroppedCounted, IsFewer, IsMember, IsSome, IsNvram};
 ghost use Rattle.log_codec.specs.declared.limits.TheConstants.{LOG_SLOTS, SLOT_BYTES};
 ghost use Rattle.nvram_log.specs.Views.{AreWhole, AreSeenIn, IsGathered, NoneShown};
-ghost use Rattle.nvram_log.specs.Read.{OnNothing, DroppedCounted};
+ghost use Rattle.nvram_log.specs.Read.{OnNothing};
 
 use crate::NvLog;
 use crate::bodies::SLOT;

@@ -7,8 +7,7 @@ ghost use Rattle.log_codec.specs.declared.limits.TheConstants.{LOG_SLOTS, SLOT_B
 ghost use Rattle.world.specs.Shelf.{LeavesOnly, MayLeave, WriteCounts};
 ghost use Rattle.world.specs.Ran.{Only, Ran};
 ghost use Rattle.nvram_log.specs.Slots.{IsLog};
-ghost use Rattle.nvram_log.specs.Members.{IsFlagged, IsMember, IsSome, IsFewer, DroppedFailed, OnMembers, IsOnMember};
-ghost use Rattle.nvram_log.specs.Read.{DroppedCounted};
+ghost use Rattle.nvram_log.specs.Members.{IsFlagged, IsMember, IsSome, LosesOnlyFailed, OnMembers, IsOnMember};
 ghost use Rattle.nvram_log.specs.Held.{HoldsOn};
 ghost use Rattle.nvram_log.specs.Settling.{OnDevice, IsToSettle, SettlesBy, AreToSettle, SettleBy};
 
@@ -72,9 +71,7 @@ fn settle_each<S: Shelf>(
     requires members { length members.old ≡ NVRAM_DEVICES }
     requires slots { length slots.now ≡ SLOT_BYTES * LOG_SLOTS }
     ensures ran { Ran S.shelf S.shelf_rest (IsOnMember members.old) (OnMembers members.old) shelf.old shelf.new }
-    ensures fewer { IsFewer members.old members.new }
-    ensures dropped { DroppedFailed (S.shelf shelf.old) (S.shelf shelf.new) members.old members.new }
-    ensures counted { DroppedCounted (S.shelf shelf.old) (S.shelf shelf.new) members.old members.new }
+    ensures members { LosesOnlyFailed (S.shelf shelf.old) (S.shelf shelf.new) members.old members.new }
     ensures clean { (S.shelf shelf.old).honest → (n : ℕ) → n < 2 → IsMember members.new n → ((S.shelf shelf.new).disk (nvram n)).dirty ≡ [] }
     ensures holds { (S.shelf shelf.old).honest → (flushed : ℕ) (commands : List Command) → length commands ≡ count
         → AreToSettle (S.shelf shelf.old) members.old flushed seen.now slots.now commands → HoldsOn (S.shelf shelf.new) members.new flushed commands }
@@ -98,9 +95,7 @@ impl NvLog {
     pub fn settle<S: Shelf>(&mut self, count: usize, shelf: &mut S) -> Result<(), BothLost>
         requires { count ≤ self.old.count }
         ensures ran { Ran S.shelf S.shelf_rest (IsOnMember self.old.members) (OnMembers self.old.members) shelf.old shelf.new }
-        ensures fewer { IsFewer self.old.members self.new.members }
-        ensures dropped { DroppedFailed (S.shelf shelf.old) (S.shelf shelf.new) self.old.members self.new.members }
-        ensures counted { DroppedCounted (S.shelf shelf.old) (S.shelf shelf.new) self.old.members self.new.members }
+        ensures members { LosesOnlyFailed (S.shelf shelf.old) (S.shelf shelf.new) self.old.members self.new.members }
         ensures clean { (S.shelf shelf.old).honest → (n : ℕ) → n < 2 → IsMember self.new.members n → ((S.shelf shelf.new).disk (nvram n)).dirty ≡ [] }
         ensures flushed { self.new.flushed ≡ self.old.flushed }
         ensures ok { OnOk result ((self.new.count ≡ count) × IsSome self.new.members) }

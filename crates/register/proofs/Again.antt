@@ -5,13 +5,12 @@ use Rattle.std.proofs.lemmas.Bool.{cases_Bool, cases_lt}
 use Rattle.std.proofs.Common.{ltb-false}
 use Rattle.pur_base.specs.declared.device.Device.TheVariants as dev
 use Rattle.array_spec.specs.Prelude.{Geometry, Condition, Conditions, Sound, Missing, LeftOut, MayBecome, IsBearable, IsWithin, is_missing, missing_drives, missing_nvrams, nvrams, slots_of, drive, nvram, BootRecord, spelling, BootSlot, other_slot, body_in, generation_in, counted}
-use Rattle.world.specs.Prelude.{Shelved, Stop, Continues, LeavesOnly, IsCountedBy, geometry_of, has_risen}
+use Rattle.world.specs.Prelude.{Shelved, Stop, Continues, IsCountedBy, geometry_of, has_risen}
 use Rattle.boot_region.specs.Prelude.{IsMember, AccountsFor, IsOlder}
 use Rattle.boot_region.proofs.Phases.{not_risen_before}
 use Rattle.register.specs.declared.state.Register.{Register}
 use Rattle.register.specs.Standing.{IsNextOf}
 use Rattle.boot_region.proofs.StillGiven.{yields_or}
-use Rattle.nvram_log.proofs.SettledEach.{both_leave}
 
 -- ---- conditions
 

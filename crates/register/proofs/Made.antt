@@ -5,7 +5,7 @@ use Rattle.std.proofs.lemmas.List.{length-append, length-drop}
 use Rattle.std.proofs.Math.Nat.{ℕ_set}
 use Rattle.array_spec.specs.Prelude.{RECORD_BYTES, BootRecord, set_count, IsRecordOf, Geometry}
 use Rattle.world.specs.Prelude.{geometry_of, Shelved, Continues}
-use Rattle.boot_region.specs.Prelude.{IsMember, DroppedFailed}
+use Rattle.boot_region.specs.Prelude.{IsMember, DroppedFailed, LosesOnlyFailed}
 use Rattle.boot_region.proofs.Stored.{dropped_then, for_ok}
 use Rattle.register.specs.declared.next.StoreFault.{StoreFault}
 use Rattle.register.specs.declared.state.Register.{Register}
@@ -26,21 +26,22 @@ same_but_room r room = λ k. record r { room = ℕ_set (length r.body.items) REC
 -- where no record was made
 pub drops_none : {shelf : Shelved} {was now : Register} → now ≡ was → IsRegisterOf (geometry_of shelf) was → DropsOnlyFailed shelf shelf was now
 drops_none {shelf} {was} {now} same is_of =
-    subst (λ (r : Register). DropsOnlyFailed shelf shelf was r) (sym same) (record { fewer = λ i m. m; dropped = λ i m. inl m; flags = refl; is_of = is_of })
+    subst (λ (r : Register). DropsOnlyFailed shelf shelf was r) (sym same) (record { fewer = λ i m. m; dropped = λ i m. inl m; unlost = λ i m. refl; flags = refl; is_of = is_of })
 
 -- of those of the shelf these are left, and all other flags are as they were
 pub drops_put : {old new : Shelved} {was now : Register} (members : List Bool) → Continues old new → IsRegisterOf (geometry_of old) was → now.record ≡ was.record → now.drives ≡ members ++ drop was.record.slots was.drives
-    → length members ≡ was.record.slots → length was.drives ≡ 24 → ((i : ℕ) → IsMember members i → IsMember (drives_of was) i) → DroppedFailed old new (drives_of was) members → DropsOnlyFailed old new was now
-drops_put {old} {new} {was} {now} members on is_of kept drives all flags among dropped =
+    → length members ≡ was.record.slots → length was.drives ≡ 24 → LosesOnlyFailed old new (drives_of was) members → DropsOnlyFailed old new was now
+drops_put {old} {new} {was} {now} members on is_of kept drives all flags loses =
     let few = is_of.lawful.lawful.slots.1 in
     let rest = length-drop was.record.slots was.drives in
     let both = length-append members (drop was.record.slots was.drives) in
     let cut : drives_of now ≡ members = ap (λ (b : BootRecord). take b.slots now.drives) kept ∙ ap (take was.record.slots) drives ∙ put_back was.record.slots members (drop was.record.slots was.drives) all in
-    let fewer : (i : ℕ) → IsMember now.drives i → IsMember was.drives i =
-    λ i m. in_cut was.drives was.record.slots i (among i (cut_left is_of members i all (subst (λ (l : List Bool). IsMember l i) drives m))) in
+    let among : (i : ℕ) → IsMember now.drives i → IsMember members i = λ i m. cut_left is_of members i all (subst (λ (l : List Bool). IsMember l i) drives m) in
+    let fewer : (i : ℕ) → IsMember now.drives i → IsMember was.drives i = λ i m. in_cut was.drives was.record.slots i (loses.fewer i (among i m)) in
     record {
       fewer = fewer;
-      dropped = subst (λ (l : List Bool). DroppedFailed old new (drives_of was) l) (sym cut) dropped;
+      dropped = subst (λ (l : List Bool). DroppedFailed old new (drives_of was) l) (sym cut) loses.dropped;
+      unlost = λ i m. loses.unlost i (among i m);
       flags = ap length drives ∙ omega (arith, few, rest, both, all, flags);
       is_of = record {
         lawful = subst (λ (b : BootRecord). IsRecordOf (geometry_of new) b) (sym kept) (subst (λ (k : Geometry). IsRecordOf k was.record) (same_shelf on) is_of.lawful);
@@ -55,6 +56,7 @@ drops_from {old} {new} was mid now drives slots left =
     record {
       fewer = λ i m. subst (λ (l : List Bool). IsMember l i) drives (left.fewer i m);
       dropped = subst (λ (l : List Bool). DroppedFailed old new l (drives_of now)) cut left.dropped;
+      unlost = left.unlost;
       flags = left.flags ∙ ap length drives;
       is_of = left.is_of;
     }
@@ -64,6 +66,7 @@ pub drops_then : {a b c : Shelved} (r0 r1 r2 : Register) → Continues a b → C
 drops_then {a} {b} {c} r0 r1 r2 ab bc first next = record {
   fewer = λ i m. first.fewer i (next.fewer i m);
   dropped = dropped_then a b c (drives_of r0) (drives_of r1) (drives_of r2) ab bc first.dropped next.dropped;
+  unlost = λ i m. next.unlost i m ∙ first.unlost i (next.fewer i m);
   flags = next.flags ∙ first.flags;
   is_of = next.is_of;
 }

@@ -6,7 +6,7 @@ use Rattle.std.specs.Str.{bytes_eq}
 use Rattle.std.specs.Cmp.Lexicographic.{same_text}
 use Rattle.std.proofs.lemmas.Bool.{cases_Bool}
 use Rattle.std.proofs.lemmas.List.{take_all, append-nil}
-use Rattle.array_spec.specs.Prelude.{Conditions, Sound, LeftOut, IsBearable, IsOn, is_sound, drive, nvram, Device, Array, Command, after_all, BootRecord, spelling, BootSlot, A, other_slot, body_in, shown_by, slot_of, generation_in, names, Yields, ShowsIn, Stands, MayBeGiven, MayAppear, IsReadInto, IsHeld, is_sound_vote, LogLies, NamesSound, NamesNoneLeftOut, record_is_read, one_is_effective, held_is_given, twice_other, spells_one}
+use Rattle.array_spec.specs.Prelude.{Conditions, Sound, LeftOut, IsBearable, IsOn, is_sound, drive, nvram, Device, Array, Command, after_all, BootRecord, spelling, BootSlot, other_slot, body_in, shown_by, slot_of, generation_in, names, Yields, ShowsIn, Stands, MayBeGiven, MayAppear, IsReadInto, IsHeld, is_sound_vote, LogLies, NamesSound, NamesNoneLeftOut, record_is_read, one_is_effective, held_is_given, twice_other, spells_one}
 use Rattle.pur_base.specs.declared.device.Device.TheVariants as dev
 use Rattle.array_spec.proofs.Held.{held_stands}
 use Rattle.world.specs.Prelude.{Shelved, Stop, MayStop, IsShelf, geometry_of, as_read}

@@ -1,8 +1,8 @@
 -- The record of an array whose tables hold nothing names no patch.
-use Rattle.std.proofs.Common.{◌≡◌, List, [], ◌∷◌, refl, subst, arith, Bool, true, false}
-use Rattle.std.specs.Prelude.{Some, if◌then◌else◌}
+use Rattle.std.proofs.Common.{◌≡◌, List, [], ◌∷◌, refl, subst, arith, Bool}
+use Rattle.std.specs.Prelude.{Some}
 use Rattle.std.specs.List.{AllZip}
-use Rattle.array_spec.specs.Prelude.{View, Sound, LeftOut, drive, BootSlot, names, of_members, MayBeGiven, IsViewOf, PatchStands, twice_other, enough_hold, some_shown}
+use Rattle.array_spec.specs.Prelude.{View, drive, BootSlot, names, of_members, MayBeGiven, IsViewOf, PatchStands, twice_other, enough_hold, some_shown}
 use Rattle.world.specs.Prelude.{Shelved, Stop, MayStop, IsShelf, geometry_of}
 use Rattle.boot_region.proofs.Composing.{as_it_is}
 use Rattle.register.specs.declared.state.Register.{Register}

@@ -1,6 +1,6 @@
 -- What a store leaves, which record it made, and how it goes on from there.
 use Rattle.std.specs.Prelude.{◌≡◌, ◌⊎◌, ◌+◌, ◌-◌, ◌^◌, ◌<◌, ◌≤◌, ℕ, List, [], ◌∷◌, Bool, Result, OnOk, OnErr, IfErr, length}
-use Rattle.array_spec.specs.Prelude.{Conditions, Array, BootRecord, set_count, spelling}
+use Rattle.array_spec.specs.Prelude.{Conditions, Array, BootRecord, drive, set_count, spelling}
 use Rattle.world.specs.Prelude.{geometry_of, Shelved}
 use Rattle.boot_region.specs.Prelude.{IsMember, DroppedFailed, AreEnough, IsOlder, Shows}
 use Rattle.register.specs.declared.next.StoreFault.{StoreFault}
@@ -11,10 +11,11 @@ use Rattle.register.specs.Registers.{IsRegisterOf, IsLaterRecord, drives_of, nam
 use Rattle.register.specs.Standing.{Content, IsFirm, IsOpen, MayStore, MayStoreAgain, MayStoreFirmly, StandsInLog, StaysLogged, array_of}
 use Rattle.register.specs.Tables.{IsPlanOf, MayGoOn}
 
--- It is a register of the shelf still, on the drives that it was on, less some on which a write or a sync failed.
+-- It is a register of the shelf still, on the drives that it was on, less some on which a write or a sync failed. On those that are left none did.
 pub record DropsOnlyFailed (old new : Shelved) (was now : Register) : Type 0 where
   pub fewer : (i : ℕ) → IsMember now.drives i → IsMember was.drives i
   pub dropped : DroppedFailed old new (drives_of was) (drives_of now)
+  pub unlost : (i : ℕ) → IsMember now.drives i → (new.disk (drive i)).write_faults ≡ (old.disk (drive i)).write_faults
   pub flags : length now.drives ≡ length was.drives
   pub is_of : IsRegisterOf (geometry_of new) now
 

@@ -1,7 +1,7 @@
 use Rattle.std.proofs.Common.{rules, arith, ◌≡◌, length, ℕ, true, refl, is_ok, slice_index, ◌∙◌, subst, ap}
 use Rattle.array_spec.specs.Prelude.{SECTOR_BYTES}
 use Rattle.world.specs.Prelude.{WritesOnly, OneRange, weaker, read_writes}
-use Rattle.boot_region.proofs.GateCalls.{ran_read, ran_behind_read, left_more, not_shut, not_shut_on, closing_moments, wrote_closed}
+use Rattle.boot_region.proofs.GateCalls.{ran_read, ran_behind_read, left_more, not_shut, not_shut_on, closing_moments, none_behind, wrote_closed}
 use Rattle.boot_region.proofs.gates.close_gate.Goals as goal
 use Rattle.boot_region.proofs.gates.close_gate.Goals.{else-is_ok-via-then-is_ok+else-not-is_open_gate, else-is_ok-via-else-is_ok}
 
@@ -50,3 +50,9 @@ returns-clause-any_moment g c h =
     closing_moments c.args.device c.args.at a b d on none
     (not_shut c.read-answer.result c.args.at SECTOR_BYTES c.read-answer.new.into _ _ c.read-answer.ensures.counts (omega arith) h c.read-answer.ensures.bytes opens)
     c.write_synced.ensures.ran.on.continues wrote
+
+pub returns-then-not-is_open_gate-clause-unlost : goal.returns-then-not-is_open_gate-clause-unlost
+returns-then-not-is_open_gate-clause-unlost g c = c.read-answer.ensures.counts.write_faults
+
+pub returns-clause-unlost : goal.returns-clause-unlost
+returns-clause-unlost g c = none_behind c.write_synced.result _ _ _ c.read-answer.ensures.counts.write_faults c.write_synced.ensures.counts.write_faults

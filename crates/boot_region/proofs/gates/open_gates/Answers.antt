@@ -6,6 +6,7 @@ use Rattle.boot_region.specs.Members.{OnMembers}
 use Rattle.boot_region.specs.Slots.{slot_in}
 use Rattle.boot_region.proofs.Phases.{opens_gates}
 use Rattle.boot_region.specs.lemmas.Shown.{gate_low, gate_aligned, member_below, shows_written}
+use Rattle.boot_region.proofs.Stored.{loses_written}
 use Rattle.boot_region.proofs.gates.open_gates.Goals as goal
 
 pub write_members-requires-clause-fits : goal.write_members-requires-clause-fits
@@ -21,13 +22,10 @@ returns-clause-ran g c =
     ran_more (λ d is. is) (λ d i w. subst (λ (n : ℕ). OnMembers c.args.members.now (gate_place (slot_in c.args.slot)) n d i) size
     (subst (λ (a : ℕ). OnMembers c.args.members.now a (length c.as_bytes.result.now) d i) c.gate.ensures w)) c.write_members.ensures.ran
 
-pub returns-clause-fewer : goal.returns-clause-fewer
-returns-clause-fewer g c i is =
+pub returns-clause-members : goal.returns-clause-members
+returns-clause-members g c =
     let same : length c.write_members.new.members ≡ length c.args.members.now = search rules in
-    (c.write_members.ensures.outcome i (omega (arith, member_below c.write_members.new.members i is, same))).before is
-
-pub returns-clause-dropped : goal.returns-clause-dropped
-returns-clause-dropped g c i is = (c.write_members.ensures.outcome i (member_below c.args.members.now i is)).dropped is
+    loses_written c.args.members.now c.write_members.new.members (g.S.Shelf.shelf c.args.shelf.now) (g.S.Shelf.shelf c.write_members.new.shelf) same c.write_members.ensures.outcome
 
 pub returns-clause-clean : goal.returns-clause-clean
 returns-clause-clean g c h i is =
@@ -57,6 +55,6 @@ returns-clause-held g c h missing boot stop sound written may others =
       shown = λ i lt s.
           let is = sound i lt s in
           ap (shown_by (slot_in c.args.slot)) (as_read (new.disk (drive i)) (stop.image (drive i)) (returns-clause-clean g c h i is) (may.device (drive i)))
-          ∙ returns-clause-shown g c h i is ∙ ap (λ (x : List ℕ). Some x) (written i (returns-clause-fewer g c i is) s);
+          ∙ returns-clause-shown g c h i is ∙ ap (λ (x : List ℕ). Some x) (written i ((returns-clause-members g c).fewer i is) s);
       few = others;
     }

@@ -33,6 +33,7 @@ loop-slot-preserved g c =
               written = λ h is. absurd (cc (is, w.if-members-slot.false));
               clean = λ h is. absurd (cc (is, w.if-members-slot.false));
               dropped = λ was. absurd (shut was);
+              unlost = λ is. absurd (cc (is, w.if-members-slot.false));
             });
             same_ahead = λ d le. inv.same_ahead d (omega arith);
             disk_ahead = λ d le. inv.disk_ahead d (omega arith);

@@ -5,18 +5,11 @@ use Rattle.world.specs.Prelude.{continues_trans, then_run, weaker, ran_then, ran
 use Rattle.boot_region.specs.Members.{IsMember}
 use Rattle.boot_region.specs.Slots.{slot_in}
 use Rattle.boot_region.specs.Storing.{AreEnough}
-use Rattle.boot_region.specs.lemmas.Shown.{member_below}
-use Rattle.boot_region.proofs.Stored.{body_stands, dropped_then, on_fewer, on_gates, on_bodies, on_opened, in_store, unopened_first, unopened_second, in_third, again_first, again_second, again_third, is_stored, is_stored_on, fewer_closed, fewer_written, for_ok}
+use Rattle.boot_region.proofs.Stored.{body_stands, loses_closed, loses_then, loses_written, on_fewer, on_gates, on_bodies, on_opened, in_store, unopened_first, unopened_second, in_third, again_first, again_second, again_third, is_stored, is_stored_on, for_ok}
 use Rattle.boot_region.proofs.storing.store.Goals as goal
 
-pub returns-clause-fewer : goal.returns-clause-fewer
-returns-clause-fewer g c i is =
-    let as_many : length c.close_gates.new.members ≡ length c.args.members.now = search rules in
-    let shorter : length c.write_bodies.new.members ≡ length c.close_gates.new.members = search rules in
-    fewer_closed c.args.members.now c.close_gates.new.members (g.S.Shelf.shelf c.args.shelf.now) (g.S.Shelf.shelf c.close_gates.new.shelf) as_many c.close_gates.ensures.outcome i (fewer_written c.close_gates.new.members c.write_bodies.new.members (g.S.Shelf.shelf c.close_gates.new.shelf) (g.S.Shelf.shelf c.write_bodies.new.shelf) shorter c.write_bodies.ensures.outcome i (c.open_gates.ensures.fewer i is))
-
-pub returns-clause-dropped : goal.returns-clause-dropped
-returns-clause-dropped g c =
+pub returns-clause-members : goal.returns-clause-members
+returns-clause-members g c =
     let a = g.S.Shelf.shelf c.args.shelf.now in
     let b = g.S.Shelf.shelf c.close_gates.new.shelf in
     let d = g.S.Shelf.shelf c.write_bodies.new.shelf in
@@ -24,9 +17,12 @@ returns-clause-dropped g c =
     let m0 = c.args.members.now in
     let m1 = c.close_gates.new.members in
     let m2 = c.write_bodies.new.members in
-    dropped_then a b e m0 m1 c.open_gates.new.members c.close_gates.ensures.ran.on.continues (continues_trans c.write_bodies.ensures.ran.on.continues c.open_gates.ensures.ran.on.continues)
-    (λ i m. (c.close_gates.ensures.outcome i (member_below m0 i m)).dropped m)
-    (dropped_then b d e m1 m2 c.open_gates.new.members c.write_bodies.ensures.ran.on.continues c.open_gates.ensures.ran.on.continues (λ i m. (c.write_bodies.ensures.outcome i (member_below m1 i m)).dropped m) c.open_gates.ensures.dropped)
+    let bd = c.write_bodies.ensures.ran.on.continues in
+    let de = c.open_gates.ensures.ran.on.continues in
+    let as_many : length m1 ≡ length m0 = search rules in
+    let shorter : length m2 ≡ length m1 = search rules in
+    loses_then a b e m0 m1 c.open_gates.new.members c.close_gates.ensures.ran.on.continues (continues_trans bd de) (loses_closed m0 m1 a b as_many c.close_gates.ensures.outcome)
+    (loses_then b d e m1 m2 c.open_gates.new.members bd de (loses_written m1 m2 b d shorter c.write_bodies.ensures.outcome) c.open_gates.ensures.members)
 
 pub returns-clause-shown : goal.returns-clause-shown
 returns-clause-shown g c h =
@@ -43,7 +39,7 @@ returns-clause-shown g c h =
       clean = c.open_gates.ensures.clean hd i is;
       shown = c.open_gates.ensures.shown hd i is ∙ ap (λ (x : List ℕ). Some x)
           (body_stands a c.args.members.now (slot_in c.args.slot) c.args.body.now (g.met.S.Shelf.is_shelf c.args.shelf.now) h b c.close_gates.new.members (g.met.S.Shelf.is_shelf c.close_gates.new.shelf) ab as_many c.close_gates.ensures.outcome (c.close_gates.ensures.moments h)
-          d c.write_bodies.new.members (g.met.S.Shelf.is_shelf c.write_bodies.new.shelf) bd c.requires.members c.requires.size shorter c.write_bodies.ensures.outcome (c.write_bodies.ensures.ran.on.writes (ab.honest h)).any_moment i (c.open_gates.ensures.fewer i is));
+          d c.write_bodies.new.members (g.met.S.Shelf.is_shelf c.write_bodies.new.shelf) bd c.requires.members c.requires.size shorter c.write_bodies.ensures.outcome (c.write_bodies.ensures.ran.on.writes (ab.honest h)).any_moment i (c.open_gates.ensures.members.fewer i is));
     })
 
 pub returns-clause-ran : goal.returns-clause-ran
@@ -58,12 +54,17 @@ returns-clause-ran g c =
     let stays = g.met.S.Shelf.shelf_rest_stays in
     let as_many : length m1 ≡ length m0 = search rules in
     let shorter : length m2 ≡ length m1 = search rules in
-    let fewer = fewer_closed m0 m1 a b as_many c.close_gates.ensures.outcome in
-    let fewest : (i : ℕ) → IsMember m2 i → IsMember m0 i = λ i m. fewer i (fewer_written m1 m2 b d shorter c.write_bodies.ensures.outcome i m) in
+    let fewer = (loses_closed m0 m1 a b as_many c.close_gates.ensures.outcome).fewer in
+    let fewest : (i : ℕ) → IsMember m2 i → IsMember m0 i = λ i m. fewer i ((loses_written m1 m2 b d shorter c.write_bodies.ensures.outcome).fewer i m) in
     ran_then stays (ran_more (λ k is. is) (on_gates m0 at a (λ k. (b.disk k).faults)) c.close_gates.ensures.ran)
     (ran_then stays (ran_more (on_fewer m0 m1 fewer) (on_bodies m0 m1 at fewer) c.write_bodies.ensures.ran) (ran_more (on_fewer m0 m2 fewest) (on_opened m0 m2 at fewest) c.open_gates.ensures.ran))
 
 -- where it ends behind the closing
+pub returns-in_err-check_enough-clause-members : goal.returns-in_err-check_enough-clause-members
+returns-in_err-check_enough-clause-members g c =
+    let as_many : length c.close_gates.new.members ≡ length c.args.members.now = search rules in
+    loses_closed c.args.members.now c.close_gates.new.members (g.S.Shelf.shelf c.args.shelf.now) (g.S.Shelf.shelf c.close_gates.new.shelf) as_many c.close_gates.ensures.outcome
+
 pub returns-in_err-check_enough-clause-ran : goal.returns-in_err-check_enough-clause-ran
 returns-in_err-check_enough-clause-ran g c =
     ran_more (λ k is. is) (on_gates c.args.members.now (slot_in c.args.slot) (g.S.Shelf.shelf c.args.shelf.now) (λ k. ((g.S.Shelf.shelf c.close_gates.new.shelf).disk k).faults)) c.close_gates.ensures.ran
@@ -81,6 +82,18 @@ returns-in_err-check_enough-clause-again g c h missing held boot arrays spells f
     weaker (again_first a c.args.members.now (slot_in c.args.slot) c.args.body.now (g.met.S.Shelf.is_shelf c.args.shelf.now) h missing held arrays firm follow.stands) (c.close_gates.ensures.moments h)
 
 -- where it ends behind the bodies
+pub returns-in_err-check_enough-2-clause-members : goal.returns-in_err-check_enough-2-clause-members
+returns-in_err-check_enough-2-clause-members g c =
+    let a = g.S.Shelf.shelf c.args.shelf.now in
+    let b = g.S.Shelf.shelf c.close_gates.new.shelf in
+    let d = g.S.Shelf.shelf c.write_bodies.new.shelf in
+    let m0 = c.args.members.now in
+    let m1 = c.close_gates.new.members in
+    let as_many : length m1 ≡ length m0 = search rules in
+    let shorter : length c.write_bodies.new.members ≡ length m1 = search rules in
+    loses_then a b d m0 m1 c.write_bodies.new.members c.close_gates.ensures.ran.on.continues c.write_bodies.ensures.ran.on.continues
+    (loses_closed m0 m1 a b as_many c.close_gates.ensures.outcome) (loses_written m1 c.write_bodies.new.members b d shorter c.write_bodies.ensures.outcome)
+
 pub returns-in_err-check_enough-2-clause-ran : goal.returns-in_err-check_enough-2-clause-ran
 returns-in_err-check_enough-2-clause-ran g c =
     let a = g.S.Shelf.shelf c.args.shelf.now in
@@ -89,7 +102,7 @@ returns-in_err-check_enough-2-clause-ran g c =
     let m1 = c.close_gates.new.members in
     let at = slot_in c.args.slot in
     let as_many : length m1 ≡ length m0 = search rules in
-    let fewer = fewer_closed m0 m1 a b as_many c.close_gates.ensures.outcome in
+    let fewer = (loses_closed m0 m1 a b as_many c.close_gates.ensures.outcome).fewer in
     ran_then g.met.S.Shelf.shelf_rest_stays (ran_more (λ k is. is) (on_gates m0 at a (λ k. (b.disk k).faults)) c.close_gates.ensures.ran) (ran_more (on_fewer m0 m1 fewer) (on_bodies m0 m1 at fewer) c.write_bodies.ensures.ran)
 
 pub returns-in_err-check_enough-2-clause-moments : goal.returns-in_err-check_enough-2-clause-moments
@@ -168,7 +181,7 @@ returns-clause-stored g c h =
     b c.close_gates.new.members (g.met.S.Shelf.is_shelf c.close_gates.new.shelf) ab as_many c.close_gates.ensures.outcome (c.close_gates.ensures.moments h)
     d c.write_bodies.new.members (g.met.S.Shelf.is_shelf c.write_bodies.new.shelf) bd c.requires.members c.requires.size shorter c.write_bodies.ensures.outcome (c.write_bodies.ensures.ran.on.writes hb).any_moment
     e missing held boot arrays spells force follow
-    c.open_gates.new.members (g.met.S.Shelf.is_shelf c.open_gates.new.shelf) c.open_gates.ensures.ran.on.continues newer c.open_gates.ensures.fewer c.open_gates.ensures.dropped (c.open_gates.ensures.clean hd) (c.open_gates.ensures.shown hd)
+    c.open_gates.new.members (g.met.S.Shelf.is_shelf c.open_gates.new.shelf) c.open_gates.ensures.ran.on.continues newer c.open_gates.ensures.members.fewer c.open_gates.ensures.members.dropped (c.open_gates.ensures.clean hd) (c.open_gates.ensures.shown hd)
     (c.close_gates.ensures.ran.on.writes h).device (c.write_bodies.ensures.ran.on.writes hb).device (c.open_gates.ensures.ran.on.writes hd).device
     (weaker (λ stop at. at.stands missing held boot arrays spells force follow) (returns-clause-moments g c h)))
 
@@ -189,6 +202,6 @@ returns-clause-stored_on g c h =
     b c.close_gates.new.members (g.met.S.Shelf.is_shelf c.close_gates.new.shelf) ab as_many c.close_gates.ensures.outcome (c.close_gates.ensures.moments h)
     d c.write_bodies.new.members (g.met.S.Shelf.is_shelf c.write_bodies.new.shelf) bd c.requires.members c.requires.size shorter c.write_bodies.ensures.outcome (c.write_bodies.ensures.ran.on.writes hb).any_moment
     e missing held boot arrays spells firm.in_force follow
-    c.open_gates.new.members (g.met.S.Shelf.is_shelf c.open_gates.new.shelf) c.open_gates.ensures.ran.on.continues newer c.open_gates.ensures.fewer c.open_gates.ensures.dropped (c.open_gates.ensures.clean hd) (c.open_gates.ensures.shown hd)
+    c.open_gates.new.members (g.met.S.Shelf.is_shelf c.open_gates.new.shelf) c.open_gates.ensures.ran.on.continues newer c.open_gates.ensures.members.fewer c.open_gates.ensures.members.dropped (c.open_gates.ensures.clean hd) (c.open_gates.ensures.shown hd)
     (c.close_gates.ensures.ran.on.writes h).device (c.write_bodies.ensures.ran.on.writes hb).device (c.open_gates.ensures.ran.on.writes hd).device
     firm (c.open_gates.ensures.ran.on.writes hd).any_moment)

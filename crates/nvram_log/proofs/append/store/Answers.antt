@@ -1,36 +1,22 @@
-use Rattle.std.proofs.Common.{inl, inr, ⊎_elim, arith}
+use Rattle.std.proofs.Common.{arith}
 use Rattle.world.specs.Prelude.{nvram, then_run, weaker, ran_then, ran_more}
-use Rattle.nvram_log.proofs.Storing.{outcomes_fewer, rises_first, rises_then, first_phase, second_phase, end_log, slots_of_members, range_of_members, fewer_members}
+use Rattle.nvram_log.proofs.Storing.{first_phase, second_phase, end_log, slots_of_members, range_of_members, fewer_members}
+use Rattle.nvram_log.proofs.Losing.{loses_each, loses_then}
 use Rattle.nvram_log.proofs.append.store.Goals as goal
 
-pub returns-clause-fewer : goal.returns-clause-fewer
-returns-clause-fewer g c n is =
-    let before = outcomes_fewer _ c.args.members.now c.write_bodies.new.members _ _ _ (omega arith) c.write_bodies.ensures.outcome in
-    before n (outcomes_fewer _ c.write_bodies.new.members c.write_gates.new.members _ _ _ (omega arith) c.write_gates.ensures.outcome n is)
+pub returns-clause-members : goal.returns-clause-members
+returns-clause-members g c =
+    loses_then c.write_bodies.ensures.ran.on.continues c.write_gates.ensures.ran.on.continues
+    (loses_each _ _ c.args.members.now c.write_bodies.new.members (omega arith) c.write_bodies.ensures.outcome)
+    (loses_each _ _ c.write_bodies.new.members c.write_gates.new.members (omega arith) c.write_gates.ensures.outcome)
 
 pub returns-clause-ran : goal.returns-clause-ran
 returns-clause-ran g c =
     let members = c.args.members.now in
     let left = c.write_bodies.new.members in
-    let before = outcomes_fewer _ members left _ _ _ (omega arith) c.write_bodies.ensures.outcome in
+    let before = (loses_each (g.S.Shelf.shelf c.args.shelf.now) (g.S.Shelf.shelf c.write_bodies.new.shelf) members left (omega arith) c.write_bodies.ensures.outcome).fewer in
     ran_then g.met.S.Shelf.shelf_rest_stays (ran_more (λ d is. is) (slots_of_members members c.args.first) c.write_bodies.ensures.ran)
     (ran_more (fewer_members members left before) (range_of_members members left c.args.first _ before) c.write_gates.ensures.ran)
-
-pub returns-clause-dropped : goal.returns-clause-dropped
-returns-clause-dropped g c n lt was =
-    let s = g.S.Shelf.shelf c.write_gates.new.shelf in
-    ⊎_elim
-    (λ still. ⊎_elim (λ is. inl is) (λ rose. inr (rises_then _ _ _ (c.write_bodies.ensures.ran.on.continues.write_faults (nvram n)) rose)) ((c.write_gates.ensures.outcome n lt).dropped still))
-    (λ rose. inr (rises_first _ _ _ rose (c.write_gates.ensures.ran.on.continues.write_faults (nvram n)) ((g.met.S.Shelf.is_shelf c.write_gates.new.shelf).write_faults (nvram n))))
-    ((c.write_bodies.ensures.outcome n lt).dropped was)
-
-pub returns-clause-counted : goal.returns-clause-counted
-returns-clause-counted g c n lt was =
-    let s = g.S.Shelf.shelf c.write_gates.new.shelf in
-    ⊎_elim
-    (λ still. ⊎_elim (λ is. inl is) (λ rose. inr (rises_then _ _ _ (c.write_bodies.ensures.ran.on.continues.faults (nvram n)) rose)) ((c.write_gates.ensures.outcome n lt).counted still))
-    (λ rose. inr (rises_first _ _ _ rose (c.write_gates.ensures.ran.on.continues.faults (nvram n)) ((g.met.S.Shelf.is_shelf c.write_gates.new.shelf).faults (nvram n))))
-    ((c.write_bodies.ensures.outcome n lt).counted was)
 
 pub returns-clause-holds : goal.returns-clause-holds
 returns-clause-holds g c h flushed commands count spelled holds =

@@ -33,6 +33,7 @@ loop-device-preserved g c =
               clean = λ h is. absurd (cc (is, w.if-members-device.false));
               dropped = λ was. absurd (shut was);
               counted = λ was. absurd (shut was);
+              unlost = λ is. absurd (cc (is, w.if-members-device.false));
               others = λ none. inv.disk_ahead slot (omega arith);
             });
             same_ahead = λ d le. inv.same_ahead d (omega arith);

@@ -84,6 +84,7 @@ loop-device-preserved g c =
               clean = λ h is. absurd (cc (is, w.if-members-device.false));
               dropped = λ was. absurd (shut was);
               counted = λ was. absurd (shut was);
+              unlost = λ is. absurd (cc (is, w.if-members-device.false));
               others = λ none. inv.disk_ahead slot (omega arith);
             });
             later = below_more _ _ inv.later (record { later = λ h was. absurd (shut was) });

@@ -74,13 +74,13 @@ pub returns-in-Ok-clause-left : goal.returns-in-Ok-clause-left
 returns-in-Ok-clause-left g c =
     let all : length c.store-stored.new.members ≡ c.args.self.now.record.slots = search rules in
     let flags : length c.args.self.now.drives ≡ 24 = search rules in
-    drops_put c.store-stored.new.members c.store-stored.ensures.ran.on.continues c.requires.is_of refl refl all flags c.store-stored.ensures.fewer c.store-stored.ensures.dropped
+    drops_put c.store-stored.new.members c.store-stored.ensures.ran.on.continues c.requires.is_of refl refl all flags c.store-stored.ensures.members
 
 pub returns-in-Err-clause-left : goal.returns-in-Err-clause-left
 returns-in-Err-clause-left g c =
     let all : length c.store-stored.new.members ≡ c.args.self.now.record.slots = search rules in
     let flags : length c.args.self.now.drives ≡ 24 = search rules in
-    drops_put c.store-stored.new.members c.store-stored.ensures.ran.on.continues c.requires.is_of refl refl all flags c.store-stored.ensures.fewer c.store-stored.ensures.dropped
+    drops_put c.store-stored.new.members c.store-stored.ensures.ran.on.continues c.requires.is_of refl refl all flags c.store-stored.ensures.members
 
 pub returns-in-Ok-clause-made : goal.returns-in-Ok-clause-made
 returns-in-Ok-clause-made g c =
