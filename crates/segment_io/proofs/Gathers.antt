@@ -7,15 +7,21 @@ use Rattle.parity72.specs.Parity.{shard_of}
 use Rattle.segment_io.specs.Lost.{NoByte}
 use Rattle.segment_io.specs.Places.{ArePlaces, place_of, drive_of, write_unit_at, OthersStayOf}
 use Rattle.segment_io.specs.Stripes.{bytes_of, unit_in}
-use Rattle.segment_io.specs.Reads.{is_unknown, PartRead}
+use Rattle.segment_io.specs.Reads.{is_unknown, OnlyLooks, PartRead}
 use Rattle.segment_io.proofs.Progress.{apart}
 
 pub same_then : {a b c : Disk} → IsSame a b → IsSame b c → IsSame a c
 same_then {a} {b} {c} ab bc = record { bytes = bc.bytes ∙ ab.bytes; dirty = bc.dirty ∙ ab.dirty }
 
+pub looks_none : (a : Shelved) → OnlyLooks a a
+looks_none a = record { same = λ h d. record { bytes = refl; dirty = refl }; write_faults = λ d. refl }
+
+pub looks_then : {a b c : Shelved} → Continues a b → OnlyLooks a b → OnlyLooks b c → OnlyLooks a c
+looks_then ab first next = record { same = λ h d. same_then (first.same h d) (next.same (ab.honest h) d); write_faults = λ d. next.write_faults d ∙ first.write_faults d }
+
 pub record Gathers (a b : Shelved) (places : List Place) (stripe : ℕ) (was now : List Bool) (shards : List (List ℕ)) (upto : ℕ) : Type 0 where
   pub continues : Continues a b
-  pub same : a.honest → (d : Device) → IsSame (a.disk d) (b.disk d)
+  pub looks : OnlyLooks a b
   pub writes : a.honest → WritesOnly NoByte a b
   pub others : OthersStayOf places a b
   pub passed : (k : ℕ) → k < upto → PartRead a.honest (is_unknown was k) (is_unknown now k) (unit_in (bytes_of a) places (stripe + 1) k) (shard_of shards k) (a.disk (drive_of places k)) (b.disk (drive_of places k))
@@ -25,7 +31,7 @@ pub record Gathers (a b : Shelved) (places : List Place) (stripe : ℕ) (was now
 pub gathers_none : (a : Shelved) (places : List Place) (stripe : ℕ) (was : List Bool) (shards : List (List ℕ)) → IsShelf a → Gathers a a places stripe was was shards 0
 gathers_none a places stripe was shards is = record {
   continues = continues_refl a;
-  same = λ h d. record { bytes = refl; dirty = refl };
+  looks = looks_none a;
   writes = λ h. nothing_written a is;
   others = λ d none. refl;
   passed = λ k lt. absurd (omega (arith, lt));
@@ -48,12 +54,12 @@ along {honest} {more} {was} {was2} {is} {is2} {bytes} {bytes2} {into} {into2} {o
 
 pub gathers_one : (a b c : Shelved) (places : List Place) (stripe : ℕ) (was mid : List Bool) (shards : List (List ℕ)) (shard : ℕ) (is : Bool) (bytes into : List ℕ) → ArePlaces a places → shard < 9 → length mid ≡ 9 → length shards ≡ 9
     → Gathers a b places stripe was mid shards shard
-    → Continues b c → (b.honest → (d : Device) → IsSame (b.disk d) (c.disk d)) → (b.honest → WritesOnly NoByte b c) → OthersStay (drive_of places shard) b c
+    → Continues b c → OnlyLooks b c → (b.honest → WritesOnly NoByte b c) → OthersStay (drive_of places shard) b c
     → PartRead b.honest (is_unknown mid shard) is bytes into (b.disk (drive_of places shard)) (c.disk (drive_of places shard)) → bytes ≡ unit_in (bytes_of b) places (stripe + 1) shard
     → Gathers a c places stripe was (slice_set mid shard is) (slice_set shards shard into) (shard + 1)
-gathers_one a b c places stripe was mid shards shard is bytes into are within flags nine so_far continues same writes others part standing = record {
+gathers_one a b c places stripe was mid shards shard is bytes into are within flags nine so_far continues looks writes others part standing = record {
   continues = continues_trans so_far.continues continues;
-  same = λ h d. same_then (so_far.same h d) (same (so_far.continues.honest h) d);
+  looks = looks_then so_far.continues so_far.looks looks;
   writes = λ h. writes_then so_far.continues (so_far.writes h) (writes (so_far.continues.honest h));
   others = λ d none. others d (λ e. none (shard, within, e)) ∙ so_far.others d none;
   passed = below_more (λ k. PartRead a.honest (is_unknown was k) (is_unknown (slice_set mid shard is) k) (unit_in (bytes_of a) places (stripe + 1) k) (shard_of (slice_set shards shard into) k) (a.disk (drive_of places k)) (c.disk (drive_of places k))) shard earlier here;

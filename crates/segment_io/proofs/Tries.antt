@@ -6,16 +6,16 @@ use Rattle.world.specs.Prelude.{bytes_at, Device, Place, Shelved, IsShelf, IsSam
 use Rattle.parity72.specs.Parity.{shard_of}
 use Rattle.segment_io.specs.Lost.{NoByte}
 use Rattle.segment_io.specs.Places.{ArePlaces, place_of, drive_of, write_unit_at, OthersStayOf}
-use Rattle.segment_io.specs.Reads.{is_unknown, PartRead, Tried, IsOn}
+use Rattle.segment_io.specs.Reads.{is_unknown, OnlyLooks, PartRead, Tried, IsOn}
 use Rattle.segment_io.specs.Runs.{StandsBut}
-use Rattle.segment_io.proofs.Gathers.{same_then}
+use Rattle.segment_io.proofs.Gathers.{looks_none, looks_then}
 use Rattle.segment_io.proofs.Tried.{tried_none, tried_one, tried_then, part_of_part}
 
 -- nothing is written, and the unknown shards are those of which it was said, and those on whose drives a call failed
 pub record Tries (a b : Shelved) (places : List Place) (said : ℕ → Bool) (now : List Bool) : Type 0 where
   pub continues : Continues a b
   pub tried : Tried a b places said now
-  pub same : a.honest → (d : Device) → IsSame (a.disk d) (b.disk d)
+  pub looks : OnlyLooks a b
   pub writes : a.honest → WritesOnly NoByte a b
   pub others : OthersStayOf places a b
 
@@ -23,18 +23,18 @@ pub tries_none : (a : Shelved) (places : List Place) (flags : List Bool) → IsS
 tries_none a places flags is = record {
   continues = continues_refl a;
   tried = tried_none a places (is_unknown flags) flags (λ k lt. refl);
-  same = λ h d. record { bytes = refl; dirty = refl };
+  looks = looks_none a;
   writes = λ h. nothing_written a is;
   others = λ d none. refl;
 }
 
 pub tries_one : (a b c : Shelved) (places : List Place) (said : ℕ → Bool) (mid : List Bool) (shard : ℕ) (is : Bool) {honest : Type 0} {bytes into : List ℕ} → ArePlaces a places → IsShelf c → shard < 9 → length mid ≡ 9 → Tries a b places said mid
     → Continues b c → PartRead honest (is_unknown mid shard) is bytes into (b.disk (drive_of places shard)) (c.disk (drive_of places shard))
-    → (b.honest → (d : Device) → IsSame (b.disk d) (c.disk d)) → (b.honest → WritesOnly NoByte b c) → OthersStay (drive_of places shard) b c → Tries a c places said (slice_set mid shard is)
-tries_one a b c places said mid shard is {honest} {bytes} {into} are is_c within nine so_far continues part same writes others = record {
+    → OnlyLooks b c → (b.honest → WritesOnly NoByte b c) → OthersStay (drive_of places shard) b c → Tries a c places said (slice_set mid shard is)
+tries_one a b c places said mid shard is {honest} {bytes} {into} are is_c within nine so_far continues part looks writes others = record {
   continues = continues_trans so_far.continues continues;
   tried = tried_one a b c places said mid shard is honest bytes into are is_c so_far.continues continues within nine so_far.tried part others;
-  same = λ h d. same_then (so_far.same h d) (same (so_far.continues.honest h) d);
+  looks = looks_then so_far.continues so_far.looks looks;
   writes = λ h. writes_then so_far.continues (so_far.writes h) (writes (so_far.continues.honest h));
   others = λ d none. others d (λ e. none (shard, within, e)) ∙ so_far.others d none;
 }
@@ -43,7 +43,7 @@ pub tries_then : (a b c : Shelved) (places : List Place) (said : ℕ → Bool) (
 tries_then a b c places said mid now is_c one two = record {
   continues = continues_trans one.continues two.continues;
   tried = tried_then a b c places said mid now is_c one.continues two.continues one.tried two.tried;
-  same = λ h d. same_then (one.same h d) (two.same (one.continues.honest h) d);
+  looks = looks_then one.continues one.looks two.looks;
   writes = λ h. writes_then one.continues (one.writes h) (two.writes (one.continues.honest h));
   others = λ d none. two.others d none ∙ one.others d none;
 }
@@ -56,7 +56,7 @@ part_known a b c places said mid shard stripe within size n into whole long h lt
     part.read (so_far.continues.honest h) refl
     ∙ ap (λ (k : ℕ). bytes_at (write_unit_at (place_of places shard) (stripe + 1) + within) k (b.disk (drive_of places shard)).bytes) long
     ∙ part_of_part (write_unit_at (place_of places shard) (stripe + 1)) 4096 within size (b.disk (drive_of places shard)).bytes fits
-    ∙ ap (λ (l : List ℕ). bytes_at within size (bytes_at (write_unit_at (place_of places shard) (stripe + 1)) 4096 l)) (so_far.same h (drive_of places shard)).bytes
+    ∙ ap (λ (l : List ℕ). bytes_at within size (bytes_at (write_unit_at (place_of places shard) (stripe + 1)) 4096 l)) (so_far.looks.same h (drive_of places shard)).bytes
     ∙ ap (bytes_at within size) (stands.agrees shard lt (so_far.tried.counts shard lt known).0)
   where
     known : is_unknown mid shard ≡ false
@@ -75,5 +75,5 @@ on_after a b c places said flags stripe whole same tried stands = record {
 pub stands_after : (a b : Shelved) (places : List Place) (said : ℕ → Bool) (flags : List Bool) (stripe : ℕ) (whole : List (List ℕ)) → a.honest → Tries a b places said flags → StandsBut a places said stripe whole → StandsBut b places (is_unknown flags) stripe whole
 stands_after a b places said flags stripe whole h tries stands = record {
   codeword = stands.codeword;
-  agrees = λ k lt known. ap (bytes_at (write_unit_at (place_of places k) (stripe + 1)) 4096) (tries.same h (drive_of places k)).bytes ∙ stands.agrees k lt (tries.tried.counts k lt known).0;
+  agrees = λ k lt known. ap (bytes_at (write_unit_at (place_of places k) (stripe + 1)) 4096) (tries.looks.same h (drive_of places k)).bytes ∙ stands.agrees k lt (tries.tried.counts k lt known).0;
 }

@@ -1,11 +1,16 @@
 -- What is read of a segment, and why it may be lost.
 use Rattle.std.specs.Prelude.{◌≡◌, ◌⊎◌, ℕ, ◌+◌, ◌<◌, true, false, Bool, List, Some, slice_index_or}
 use Rattle.std.specs.List.{Contains}
-use Rattle.world.specs.Prelude.{View, SEGMENT_SHARDS, Place, Rises, Shelved, Disk}
+use Rattle.world.specs.Prelude.{View, SEGMENT_SHARDS, Device, Place, Rises, Shelved, Disk, IsSame}
 use Rattle.parity72.specs.Parity.{IsCodeword, shard_of}
 use Rattle.segment_io.specs.Lost.{is_in}
 use Rattle.segment_io.specs.Places.{place_of, drive_of}
 use Rattle.segment_io.specs.Stripes.{bytes_of, unit_in}
+
+-- Reads alone: each device of an honest shelf is as it was, and on none did a write or a sync fail.
+pub record OnlyLooks (old new : Shelved) : Type 0 where
+  pub same : old.honest → (device : Device) → IsSame (old.disk device) (new.disk device)
+  pub write_faults : (device : Device) → (new.disk device).write_faults ≡ (old.disk device).write_faults
 
 -- ---- shards by their numbers
 

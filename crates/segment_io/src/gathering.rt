@@ -1,17 +1,15 @@
 // The shards of a stripe are read, and the lost ones recovered.
 ghost use Rattle.std.specs.Prelude.{◌≡◌, ◌≢◌, ℕ, ◌+◌, ◌*◌, ◌%◌, ◌<◌, ◌≤◌, List, length, All, AllPairs, IfSome, IfNone, IfErr, OnOk, true};
 ghost use Rattle.pur_base.specs.Bytes.{bytes_at};
-ghost use Rattle.pur_base.specs.declared.device.Device.{Device};
 ghost use Rattle.pur_base.specs.declared.limits.TheConstants.{SECTOR_BYTES, SEGMENT_SHARDS, SLOTS_MAX};
 ghost use Rattle.pur_base.specs.Devices.{drive};
 ghost use Rattle.parity72.specs.Parity.{shard_of};
 ghost use Rattle.segment_codec.specs.declared.position.TheConstants.{WRITE_UNIT_BYTES, STRIPES};
 ghost use Rattle.world.specs.Ran.{Only, Ran};
-ghost use Rattle.world.specs.Shelf.{IsSame};
 ghost use Rattle.segment_io.specs.Places.{IsPlace, ArePlaces, place_of, drive_of, write_unit_at, IsOnPlace};
 ghost use Rattle.segment_io.specs.Lost.{is_in, NoByte};
 ghost use Rattle.segment_io.specs.Stripes.{bytes_of, unit_in};
-ghost use Rattle.segment_io.specs.Reads.{is_unknown, PartRead, Tried, ThreeUnknown, AreUnknown, IsOn, AreLost};
+ghost use Rattle.segment_io.specs.Reads.{is_unknown, OnlyLooks, PartRead, Tried, ThreeUnknown, AreUnknown, IsOn, AreLost};
 
 use crate::open::SLOTS;
 use arrayvec::ArrayVec;
@@ -38,7 +36,7 @@ pub fn read_part<S: Shelf>(
     requires aligned { (offset % SECTOR_BYTES ≡ 0) × (length into.old % SECTOR_BYTES ≡ 0) }
     ensures read { PartRead (S.shelf shelf.old).honest unknown result (bytes_at (write_unit_at place n + offset) (length into.old) ((S.shelf shelf.old).disk (drive place.slot)).bytes) into.new
         ((S.shelf shelf.old).disk (drive place.slot)) ((S.shelf shelf.new).disk (drive place.slot)) }
-    ensures same { (S.shelf shelf.old).honest → (device : Device) → IsSame ((S.shelf shelf.old).disk device) ((S.shelf shelf.new).disk device) }
+    ensures looks { OnlyLooks (S.shelf shelf.old) (S.shelf shelf.new) }
     ensures ran { Ran S.shelf S.shelf_rest (Only (drive place.slot)) NoByte shelf.old shelf.new }
 {
     if unknown {
@@ -64,7 +62,7 @@ fn gather<S: Shelf>(
     ensures read { (shard : ℕ) → shard < SEGMENT_SHARDS → PartRead (S.shelf shelf.old).honest (is_unknown unknown.old shard) (is_unknown unknown.new shard)
         (unit_in (bytes_of (S.shelf shelf.old)) places.now (stripe + 1) shard) (shard_of shards.new shard)
         ((S.shelf shelf.old).disk (drive_of places.now shard)) ((S.shelf shelf.new).disk (drive_of places.now shard)) }
-    ensures same { (S.shelf shelf.old).honest → (device : Device) → IsSame ((S.shelf shelf.old).disk device) ((S.shelf shelf.new).disk device) }
+    ensures looks { OnlyLooks (S.shelf shelf.old) (S.shelf shelf.new) }
     ensures ran { Ran S.shelf S.shelf_rest (IsOnPlace places.now) NoByte shelf.old shelf.new }
 {
     for shard in 0..SHARDS {
@@ -121,7 +119,7 @@ pub fn read_stripe<S: Shelf>(
     ensures read { (S.shelf shelf.old).honest → OnOk result ((whole : List (List ℕ)) → IsOn (S.shelf shelf.old) (S.shelf shelf.new) places.now unknown.old stripe whole → shards.new ≡ whole) }
     ensures tried { Tried (S.shelf shelf.old) (S.shelf shelf.new) places.now (is_unknown unknown.old) unknown.new }
     ensures lost { IfErr result (λ lost. AreLost (S.shelf shelf.old) (S.shelf shelf.new) places.now (is_unknown unknown.old) lost.drives) }
-    ensures same { (S.shelf shelf.old).honest → (device : Device) → IsSame ((S.shelf shelf.old).disk device) ((S.shelf shelf.new).disk device) }
+    ensures looks { OnlyLooks (S.shelf shelf.old) (S.shelf shelf.new) }
     ensures ran { Ran S.shelf S.shelf_rest (IsOnPlace places.now) NoByte shelf.old shelf.new }
 {
     gather(shelf, places, stripe, unknown, shards);

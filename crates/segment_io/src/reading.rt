@@ -1,14 +1,12 @@
 // Sectors are read.
 ghost use Rattle.std.specs.Prelude.{◌≡◌, ℕ, ◌<◌, List, IfOk, IfErr};
-ghost use Rattle.pur_base.specs.declared.device.Device.{Device};
 ghost use Rattle.pur_base.specs.declared.limits.TheConstants.{SEGMENT_SECTORS, SEGMENT_SHARDS};
 ghost use Rattle.pur_base.specs.Devices.{View};
 ghost use Rattle.segment_codec.specs.Stripes.{SectorStands};
 ghost use Rattle.world.specs.Ran.{Ran};
-ghost use Rattle.world.specs.Shelf.{IsSame};
 ghost use Rattle.segment_io.specs.Places.{ArePlaces, IsOnPlace};
 ghost use Rattle.segment_io.specs.Lost.{is_in, NoByte};
-ghost use Rattle.segment_io.specs.Reads.{is_unknown, is_missing_in, AreLost, ShowsAnswering};
+ghost use Rattle.segment_io.specs.Reads.{is_unknown, is_missing_in, OnlyLooks, AreLost, ShowsAnswering};
 
 use crate::gathering::{StripeBuffer, read_part, read_stripe};
 use parity72::SHARDS;
@@ -51,7 +49,7 @@ pub fn read_sector<S: Shelf>(
     ensures sector { (S.shelf shelf.old).honest → IfOk result (λ sector. (view : View) (bytes : List ℕ)
         → ShowsAnswering (S.shelf shelf.old) (S.shelf shelf.new) places.now missing.now view → SectorStands view places.now index bytes → sector ≡ bytes) }
     ensures lost { IfErr result (λ lost. AreLost (S.shelf shelf.old) (S.shelf shelf.new) places.now (is_missing_in missing.now places.now) lost.drives) }
-    ensures same { (S.shelf shelf.old).honest → (device : Device) → IsSame ((S.shelf shelf.old).disk device) ((S.shelf shelf.new).disk device) }
+    ensures looks { OnlyLooks (S.shelf shelf.old) (S.shelf shelf.new) }
     ensures ran { Ran S.shelf S.shelf_rest (IsOnPlace places.now) NoByte shelf.old shelf.new }
 {
     let position = Position::of(index);

@@ -1,16 +1,14 @@
 // Runs of sectors are read.
 ghost use Rattle.std.specs.Prelude.{◌≡◌, ℕ, ◌+◌, ◌*◌, ◌%◌, ◌<◌, ◌≤◌, true, false, List, length, IfErr, OnOk};
-ghost use Rattle.pur_base.specs.declared.device.Device.{Device};
 ghost use Rattle.pur_base.specs.declared.limits.TheConstants.{SECTOR_BYTES, SEGMENT_SECTORS, SEGMENT_SHARDS};
 ghost use Rattle.pur_base.specs.Bytes.{bytes_at};
 ghost use Rattle.pur_base.specs.Devices.{View};
 ghost use Rattle.segment_codec.specs.Stripes.{SectorStands};
 ghost use Rattle.segment_codec.specs.declared.position.TheConstants.{WRITE_UNIT_BYTES, DATA_SHARDS, STRIPES};
 ghost use Rattle.world.specs.Ran.{Ran};
-ghost use Rattle.world.specs.Shelf.{IsSame};
 ghost use Rattle.segment_io.specs.Places.{ArePlaces, IsOnPlace};
 ghost use Rattle.segment_io.specs.Lost.{NoByte};
-ghost use Rattle.segment_io.specs.Reads.{is_unknown, is_missing_in, Tried, AreLost, ShowsPresent};
+ghost use Rattle.segment_io.specs.Reads.{is_unknown, is_missing_in, OnlyLooks, Tried, AreLost, ShowsPresent};
 ghost use Rattle.segment_io.specs.Runs.{IsDataFrom, StandsBut};
 
 use crate::gathering::{StripeBuffer, read_part, read_stripe};
@@ -55,7 +53,7 @@ fn read_directly<S: Shelf>(
     ensures read { (S.shelf shelf.old).honest → result ≡ true → (whole : List (List ℕ)) → StandsBut (S.shelf shelf.old) places.now (is_unknown unknown.old) stripe whole → IsDataFrom whole offset (length into.old) into.new }
     ensures some { result ≡ false → (shard : ℕ) × (shard < SEGMENT_SHARDS) × (is_unknown unknown.new shard ≡ true) }
     ensures tried { Tried (S.shelf shelf.old) (S.shelf shelf.new) places.now (is_unknown unknown.old) unknown.new }
-    ensures same { (S.shelf shelf.old).honest → (device : Device) → IsSame ((S.shelf shelf.old).disk device) ((S.shelf shelf.new).disk device) }
+    ensures looks { OnlyLooks (S.shelf shelf.old) (S.shelf shelf.new) }
     ensures ran { Ran S.shelf S.shelf_rest (IsOnPlace places.now) NoByte shelf.old shelf.new }
 {
     let mut done = 0;
@@ -93,7 +91,7 @@ fn read_in_stripe<S: Shelf>(
     ensures read { (S.shelf shelf.old).honest → OnOk result ((whole : List (List ℕ)) → StandsBut (S.shelf shelf.old) places.now (is_unknown unknown.old) stripe whole → IsDataFrom whole offset (length into.old) into.new) }
     ensures tried { Tried (S.shelf shelf.old) (S.shelf shelf.new) places.now (is_unknown unknown.old) unknown.new }
     ensures lost { IfErr result (λ lost. AreLost (S.shelf shelf.old) (S.shelf shelf.new) places.now (is_unknown unknown.old) lost.drives) }
-    ensures same { (S.shelf shelf.old).honest → (device : Device) → IsSame ((S.shelf shelf.old).disk device) ((S.shelf shelf.new).disk device) }
+    ensures looks { OnlyLooks (S.shelf shelf.old) (S.shelf shelf.new) }
     ensures ran { Ran S.shelf S.shelf_rest (IsOnPlace places.now) NoByte shelf.old shelf.new }
 {
     if read_directly(shelf, places, stripe, offset, unknown, into) {
@@ -122,7 +120,7 @@ pub fn read_sectors<S: Shelf>(
     ensures sectors { (S.shelf shelf.old).honest → OnOk result ((view : View) (j : ℕ) (bytes : List ℕ) → SECTOR_BYTES * j + SECTOR_BYTES ≤ length into.old
         → ShowsPresent (S.shelf shelf.old) places.now missing.now view → SectorStands view places.now (index + j) bytes → bytes_at (SECTOR_BYTES * j) SECTOR_BYTES into.new ≡ bytes) }
     ensures lost { IfErr result (λ lost. AreLost (S.shelf shelf.old) (S.shelf shelf.new) places.now (is_missing_in missing.now places.now) lost.drives) }
-    ensures same { (S.shelf shelf.old).honest → (device : Device) → IsSame ((S.shelf shelf.old).disk device) ((S.shelf shelf.new).disk device) }
+    ensures looks { OnlyLooks (S.shelf shelf.old) (S.shelf shelf.new) }
     ensures ran { Ran S.shelf S.shelf_rest (IsOnPlace places.now) NoByte shelf.old shelf.new }
 {
     let start = SECTOR_BYTES * index as usize;

@@ -3,16 +3,16 @@ use Rattle.std.proofs.Common.{◌≡◌, ◌≢◌, inl, inr, ⊎_elim, ℕ, ◌
 use Rattle.std.specs.Prelude.{Some, Contains}
 use Rattle.std.proofs.lemmas.List.Elements.{Contains-get_or}
 use Rattle.memory_spec.specs.Prelude.{Place, View, drive, nvram, Facts, segment, SegmentFact}
-use Rattle.world.specs.Prelude.{Shelved, IsShelf, Continues, IsSame, WritesOnly, continues_refl, continues_trans, writes_then, nothing_written}
-use Rattle.segment_io.specs.Prelude.{is_in, NoByte, ArePlaces, OthersStayOf, place_of, AreLost, is_missing_in, rises_then, still_places}
-use Rattle.segment_io.proofs.Gathers.{same_then}
+use Rattle.world.specs.Prelude.{Shelved, IsShelf, Continues, WritesOnly, continues_refl, continues_trans, writes_then, nothing_written}
+use Rattle.segment_io.specs.Prelude.{is_in, NoByte, OnlyLooks, ArePlaces, OthersStayOf, place_of, AreLost, is_missing_in, rises_then, still_places}
+use Rattle.segment_io.proofs.Gathers.{looks_none, looks_then}
 use Rattle.target_io.specs.Reading.{AreReadable, ShowsDrives, ReadsOnly, IsLost, AreDrivesLost}
 
 pub reads_none : (a : Shelved) → IsShelf a → ReadsOnly a a
 reads_none a is = record {
   continues = continues_refl a;
   nvrams = λ n. refl;
-  same = λ h device. record { bytes = refl; dirty = refl };
+  looks = looks_none a;
   writes = λ h. nothing_written a is;
 }
 
@@ -20,7 +20,7 @@ pub reads_then : {a b c : Shelved} → ReadsOnly a b → ReadsOnly b c → Reads
 reads_then {a} {b} {c} ab bc = record {
   continues = continues_trans ab.continues bc.continues;
   nvrams = λ n. bc.nvrams n ∙ ab.nvrams n;
-  same = λ h device. same_then (ab.same h device) (bc.same (ab.continues.honest h) device);
+  looks = looks_then ab.continues ab.looks bc.looks;
   writes = λ h. writes_then ab.continues (ab.writes h) (bc.writes (ab.continues.honest h));
 }
 
@@ -28,11 +28,11 @@ no_nvram : (n slot : ℕ) → nvram n ≢ drive slot
 no_nvram n slot e = cc
 
 -- a read of the nine drives of a segment
-pub reads_places : (a b : Shelved) (places : List Place) → Continues a b → (a.honest → (device : _) → IsSame (a.disk device) (b.disk device)) → (a.honest → WritesOnly NoByte a b) → OthersStayOf places a b → ReadsOnly a b
-reads_places a b places continues same writes others = record {
+pub reads_places : (a b : Shelved) (places : List Place) → Continues a b → OnlyLooks a b → (a.honest → WritesOnly NoByte a b) → OthersStayOf places a b → ReadsOnly a b
+reads_places a b places continues looks writes others = record {
   continues = continues;
   nvrams = λ n. others (nvram n) (λ on. no_nvram n (place_of places on.0).slot on.2);
-  same = same;
+  looks = looks;
   writes = writes;
 }
 
@@ -43,7 +43,7 @@ still_readable facts on are id d said = let w = are id d said in (still_places o
 
 -- what is shown of the drives is so after reads
 pub still_shows : {a b : Shelved} (missing : List Bool) (view : View) → a.honest → ReadsOnly a b → ShowsDrives a missing view → ShowsDrives b missing view
-still_shows {a} {b} missing view h reads shows slot low present = shows slot (omega (arith, low, reads.continues.drives)) present ∙ ap (λ (bytes : List ℕ). Some bytes) (sym (reads.same h (drive slot)).bytes)
+still_shows {a} {b} missing view h reads shows slot low present = shows slot (omega (arith, low, reads.continues.drives)) present ∙ ap (λ (bytes : List ℕ). Some bytes) (sym (reads.looks.same h (drive slot)).bytes)
 
 -- ---- what is lost
 

@@ -1,8 +1,8 @@
 -- What reading does to a shelf, and what it finds there.
 use Rattle.std.specs.Prelude.{◌≡◌, ◌⊎◌, ℕ, ◌<◌, ◌≤◌, true, false, Bool, List, Some, Contains}
-use Rattle.memory_spec.specs.Prelude.{Device, SegmentFact, SEGMENT_SECTORS, Place, View, drive, nvram, Facts, segment}
-use Rattle.world.specs.Prelude.{Rises, Shelved, Continues, IsSame, WritesOnly}
-use Rattle.segment_io.specs.Prelude.{is_in, NoByte, ArePlaces, bytes_of}
+use Rattle.memory_spec.specs.Prelude.{SegmentFact, SEGMENT_SECTORS, Place, View, drive, nvram, Facts, segment}
+use Rattle.world.specs.Prelude.{Rises, Shelved, Continues, WritesOnly}
+use Rattle.segment_io.specs.Prelude.{is_in, NoByte, ArePlaces, OnlyLooks, bytes_of}
 
 -- each visible data segment has lawful places of this shelf, and no more sectors than a segment has
 abbrev pub AreReadable : Shelved → Facts → Type 0
@@ -16,7 +16,7 @@ ShowsDrives shelf missing view = (slot : ℕ) → slot < shelf.drives → is_in 
 pub record ReadsOnly (old new : Shelved) : Type 0 where
   pub continues : Continues old new
   pub nvrams : (n : ℕ) → new.disk (nvram n) ≡ old.disk (nvram n)
-  pub same : old.honest → (device : Device) → IsSame (old.disk device) (new.disk device)
+  pub looks : OnlyLooks old new
   pub writes : old.honest → WritesOnly NoByte old new
 
 -- the drive of a slot is missing, or a call on it failed

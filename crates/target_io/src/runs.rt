@@ -1,15 +1,14 @@
 // Runs of sectors in a segment are read.
 ghost use Rattle.std.specs.Prelude.{◌≡◌, ℕ, ◌+◌, ◌*◌, ◌<◌, ◌≤◌, [], List, length, slice_index_or, IfErr, OnOk};
 ghost use Rattle.pur_base.specs.Bytes.{bytes_at};
-ghost use Rattle.pur_base.specs.declared.device.Device.{Device};
 ghost use Rattle.pur_base.specs.declared.limits.TheConstants.{SECTOR_BYTES, REQUEST_SECTORS, SEGMENT_SECTORS};
 ghost use Rattle.pur_base.specs.Devices.{View};
 ghost use Rattle.segment_codec.specs.Stripes.{SectorStands};
-ghost use Rattle.world.specs.Shelf.{Continues, IsSame};
+ghost use Rattle.world.specs.Shelf.{Continues};
 ghost use Rattle.world.specs.Writes.{WritesOnly};
 ghost use Rattle.segment_io.specs.Places.{ArePlaces, OthersStayOf};
 ghost use Rattle.segment_io.specs.Lost.{NoByte};
-ghost use Rattle.segment_io.specs.Reads.{is_missing_in, AreLost, ShowsPresent};
+ghost use Rattle.segment_io.specs.Reads.{is_missing_in, AreLost, OnlyLooks, ShowsPresent};
 
 use pur_base::{Lost, Places, SECTOR_BYTES, Sector};
 use segment_io::{StripeBuffer, read_sectors};
@@ -56,7 +55,7 @@ pub fn read_run<S: Shelf>(
     ensures sectors { (S.shelf shelf.old).honest → OnOk result ((view : View) (j : ℕ) (sector : List ℕ) → j < length out.old
         → ShowsPresent (S.shelf shelf.old) places.now missing.now view → SectorStands view places.now (index + j) sector → slice_index_or out.new j [] ≡ sector) }
     ensures lost { IfErr result (λ lost. AreLost (S.shelf shelf.old) (S.shelf shelf.new) places.now (is_missing_in missing.now places.now) lost.drives) }
-    ensures same { (S.shelf shelf.old).honest → (device : Device) → IsSame ((S.shelf shelf.old).disk device) ((S.shelf shelf.new).disk device) }
+    ensures looks { OnlyLooks (S.shelf shelf.old) (S.shelf shelf.new) }
     ensures writes { (S.shelf shelf.old).honest → WritesOnly NoByte (S.shelf shelf.old) (S.shelf shelf.new) }
     ensures others { OthersStayOf places.now (S.shelf shelf.old) (S.shelf shelf.new) }
     ensures rest { S.shelf_rest shelf.old shelf.new }

@@ -1,16 +1,12 @@
 ghost use Rattle.std.specs.Prelude.{◌≡◌, ℕ, ◌≤◌, None, Some, length, IfErr, OnOk};
-ghost use Rattle.pur_base.specs.declared.device.Device.{Device};
 ghost use Rattle.pur_base.specs.declared.limits.TheConstants.{REQUEST_SECTORS};
-ghost use Rattle.pur_base.specs.Devices.{View, nvram};
+ghost use Rattle.pur_base.specs.Devices.{View};
 ghost use Rattle.pur_base.specs.Plain.{first_cause, read_causes, sectors_of, span, Array};
-ghost use Rattle.world.specs.Shelf.{Continues, IsSame};
-ghost use Rattle.world.specs.Writes.{WritesOnly};
-ghost use Rattle.segment_io.specs.Lost.{NoByte};
 ghost use Rattle.memory_spec.specs.Memory.{Contents, IsSound, ReadsAs};
 ghost use Rattle.memory_spec.specs.Tables.{facts};
 ghost use Rattle.memory_spec.specs.Contents.{ContentsStand};
 ghost use Rattle.volume_ops.specs.OfArray.{OfArray};
-ghost use Rattle.target_io.specs.Reading.{AreReadable, ShowsDrives, LosesThree};
+ghost use Rattle.target_io.specs.Reading.{AreReadable, ReadsOnly, ShowsDrives, LosesThree};
 ghost use Rattle.target_io.specs.Targets.{IfRefused, IfLost};
 
 use crate::fault::ReadFault;
@@ -36,11 +32,8 @@ pub fn read_span<S: Shelf>(
     requires sound { IsSound memory.now.memory }
     requires places { AreReadable (S.shelf shelf.old) (facts memory.now.memory.tables) }
     requires few { length out.old ≤ REQUEST_SECTORS }
-    ensures continues { Continues (S.shelf shelf.old) (S.shelf shelf.new) }
+    ensures reads { ReadsOnly (S.shelf shelf.old) (S.shelf shelf.new) }
     ensures rest { S.shelf_rest shelf.old shelf.new }
-    ensures nvrams { (n : ℕ) → (S.shelf shelf.new).disk (nvram n) ≡ (S.shelf shelf.old).disk (nvram n) }
-    ensures same { (S.shelf shelf.old).honest → (device : Device) → IsSame ((S.shelf shelf.old).disk device) ((S.shelf shelf.new).disk device) }
-    ensures writes { (S.shelf shelf.old).honest → WritesOnly NoByte (S.shelf shelf.old) (S.shelf shelf.new) }
     ensures count { length out.new ≡ length out.old }
 
     // What the plain array refuses is refused for its cause, and then no device is called and nothing changes.

@@ -23,7 +23,7 @@ loop-shard-preserved g c =
     let size : length (shard_of c.loop-shard.shards c.loop-shard.shard) ≡ 4096 = omega arith in
     record {
       gathers = gathers_one (g.S.Shelf.shelf c.args.shelf.now) (g.S.Shelf.shelf c.loop-shard.shelf) (g.S.Shelf.shelf c.read_part.new.shelf) c.args.places.now c.args.stripe c.args.unknown.now c.loop-shard.unknown c.loop-shard.shards c.loop-shard.shard
-          c.read_part.result _ c.read_part.new.into c.requires.places c.loop-shard-test.true inv.flags inv.nine inv.gathers x.ran.on.continues x.same x.ran.on.writes x.ran.on.others x.read (whole_unit (g.S.Shelf.shelf c.loop-shard.shelf) c.args.places.now (c.args.stripe + 1) c.loop-shard.shard _ size);
+          c.read_part.result _ c.read_part.new.into c.requires.places c.loop-shard-test.true inv.flags inv.nine inv.gathers x.ran.on.continues x.looks x.ran.on.writes x.ran.on.others x.read (whole_unit (g.S.Shelf.shelf c.loop-shard.shelf) c.args.places.now (c.args.stripe + 1) c.loop-shard.shard _ size);
       flags = length-set c.loop-shard.unknown c.loop-shard.shard c.read_part.result ∙ inv.flags;
       nine = length-set c.loop-shard.shards c.loop-shard.shard c.read_part.new.into ∙ inv.nine;
       rest = g.met.S.Shelf.shelf_rest_stays.transitive _ _ _ inv.rest x.ran.rest;

@@ -6,6 +6,7 @@ use Rattle.std.proofs.lemmas.Result.{err_from_is_err_and}
 use Rattle.parity72.specs.Parity.{shard_of}
 use Rattle.segment_io.specs.Reads.{is_missing_in, Tried}
 use Rattle.segment_io.proofs.Tried.{tried_none, tried_one, lost_in_all, is_on}
+use Rattle.segment_io.proofs.Gathers.{looks_then}
 use Rattle.segment_io.proofs.OneSector.{IsPositionOf, in_shards, read_directly}
 use Rattle.segment_io.proofs.reading.read_sector.Goals as goal
 
@@ -50,12 +51,18 @@ returns-clause-sector g c h view bytes shows stands =
     let tried : Tried a b places (is_missing_in c.args.missing.now places) (slice_set flags p.shard true) =
     tried_one a a b places (is_missing_in c.args.missing.now places) flags p.shard true _ _ _ c.requires.places (g.met.S.Shelf.is_shelf c.read_part-is_unknown.new.shelf) (continues_refl a) x.ran.on.continues lt (omega arith)
     (tried_none a places (is_missing_in c.args.missing.now places) flags c.missing_shards-unknown.ensures) c.if-not-is_unknown.ensures.read x.ran.on.others in
-    let whole = c.in_ok-read_stripe.ensures.read (x.ran.on.continues.honest h) s.0 (is_on a b n places c.args.missing.now (slice_set flags p.shard true) p.stripe view s.0 c.requires.places (x.same h) tried shows s.1) in
+    let whole = c.in_ok-read_stripe.ensures.read (x.ran.on.continues.honest h) s.0 (is_on a b n places c.args.missing.now (slice_set flags p.shard true) p.stripe view s.0 c.requires.places (x.looks.same h) tried shows s.1) in
     let from = 512 * p.eighth in
     let all : 512 ≡ from + 512 - from = omega arith in
     let part = shard_of c.read_stripe.new.shards p.shard in
     let copied : c.copy_from_slice.new.self ≡ take (from + 512 - from) (drop from part) = search rules in
     c.new-2.ensures ∙ copied ∙ sym (ap (λ k. take k (drop from part)) all) ∙ ap (λ ss. bytes_at (512 * p.eighth) 512 (shard_of ss p.shard)) whole ∙ sym s.2
+
+pub returns-in_err-read_stripe-clause-looks : goal.returns-in_err-read_stripe-clause-looks
+returns-in_err-read_stripe-clause-looks g c = looks_then c.read_part-is_unknown.ensures.ran.on.continues c.read_part-is_unknown.ensures.looks c.read_stripe.ensures.looks
+
+pub returns-clause-looks : goal.returns-clause-looks
+returns-clause-looks g c = looks_then c.read_part-is_unknown.ensures.ran.on.continues c.read_part-is_unknown.ensures.looks c.read_stripe.ensures.looks
 
 pub returns-in_err-read_stripe-clause-ran : goal.returns-in_err-read_stripe-clause-ran
 returns-in_err-read_stripe-clause-ran g c =

@@ -14,7 +14,7 @@ returns-in-Err-clause-run g c =
       continues = x.ran.on.continues;
       tried = x.tried;
       wanted = wanted_still (g.S.Shelf.shelf c.args.shelf.now) (g.S.Shelf.shelf c.read_stripe.new.shelf) c.args.places.now (is_unknown c.args.unknown.now) c.read_stripe.new.unknown c.args.shard c.requires.shard x.tried c.requires.wanted;
-      same = λ h d ne. x.same h d;
+      same = λ h d ne. x.looks.same h d;
       writes = λ h. nothing _ (x.ran.on.writes h);
       others = x.ran.on.others;
     }
@@ -24,14 +24,14 @@ returns-then-is_err-clause-run g c =
     let x = c.read_stripe.ensures in
     let y = c.write-answer.ensures in
     written_run (g.S.Shelf.shelf c.args.shelf.now) (g.S.Shelf.shelf c.read_stripe.new.shelf) (g.S.Shelf.shelf c.write-answer.new.self) c.args.places.now c.args.shard c.args.stripe (is_unknown c.args.unknown.now) c.read_stripe.new.unknown
-    c.requires.places c.requires.shard (g.met.S.Shelf.is_shelf c.read_stripe.new.shelf) x.ran.on.continues x.tried c.requires.wanted x.same x.ran.on.writes x.ran.on.others y.time (omega arith) y.device y.others
+    c.requires.places c.requires.shard (g.met.S.Shelf.is_shelf c.read_stripe.new.shelf) x.ran.on.continues x.tried c.requires.wanted x.looks.same x.ran.on.writes x.ran.on.others y.time (omega arith) y.device y.others
 
 pub returns-clause-run : goal.returns-clause-run
 returns-clause-run g c =
     let x = c.read_stripe.ensures in
     let y = c.write-answer.ensures in
     written_run (g.S.Shelf.shelf c.args.shelf.now) (g.S.Shelf.shelf c.read_stripe.new.shelf) (g.S.Shelf.shelf c.write-answer.new.self) c.args.places.now c.args.shard c.args.stripe (is_unknown c.args.unknown.now) c.read_stripe.new.unknown
-    c.requires.places c.requires.shard (g.met.S.Shelf.is_shelf c.read_stripe.new.shelf) x.ran.on.continues x.tried c.requires.wanted x.same x.ran.on.writes x.ran.on.others y.time (omega arith) y.device y.others
+    c.requires.places c.requires.shard (g.met.S.Shelf.is_shelf c.read_stripe.new.shelf) x.ran.on.continues x.tried c.requires.wanted x.looks.same x.ran.on.writes x.ran.on.others y.time (omega arith) y.device y.others
 
 pub returns-clause-rebuilt : goal.returns-clause-rebuilt
 returns-clause-rebuilt g c h whole on =

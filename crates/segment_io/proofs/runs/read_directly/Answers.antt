@@ -12,7 +12,7 @@ returns-then-is_unknown-clause-tried g c =
     let shard = (c.args.offset + c.loop-done.done) / 4096 in
     let x = c.read_part-is_unknown.ensures in
     let tries = tries_one (g.S.Shelf.shelf c.args.shelf.now) (g.S.Shelf.shelf c.loop-done.shelf) (g.S.Shelf.shelf c.read_part-is_unknown.new.shelf) c.args.places.now (is_unknown c.args.unknown.now) c.loop-done.unknown shard c.read_part-is_unknown.result
-    c.requires.places (g.met.S.Shelf.is_shelf c.read_part-is_unknown.new.shelf) (omega arith) c.loop-done.invariant.flags c.loop-done.invariant.tries x.ran.on.continues x.read x.same x.ran.on.writes x.ran.on.others in
+    c.requires.places (g.met.S.Shelf.is_shelf c.read_part-is_unknown.new.shelf) (omega arith) c.loop-done.invariant.flags c.loop-done.invariant.tries x.ran.on.continues x.read x.looks x.ran.on.writes x.ran.on.others in
     tries.tried
 
 pub returns-then-is_unknown-clause-ran : goal.returns-then-is_unknown-clause-ran
@@ -20,7 +20,7 @@ returns-then-is_unknown-clause-ran g c =
     let shard = (c.args.offset + c.loop-done.done) / 4096 in
     let x = c.read_part-is_unknown.ensures in
     let tries = tries_one (g.S.Shelf.shelf c.args.shelf.now) (g.S.Shelf.shelf c.loop-done.shelf) (g.S.Shelf.shelf c.read_part-is_unknown.new.shelf) c.args.places.now (is_unknown c.args.unknown.now) c.loop-done.unknown shard c.read_part-is_unknown.result
-    c.requires.places (g.met.S.Shelf.is_shelf c.read_part-is_unknown.new.shelf) (omega arith) c.loop-done.invariant.flags c.loop-done.invariant.tries x.ran.on.continues x.read x.same x.ran.on.writes x.ran.on.others in
+    c.requires.places (g.met.S.Shelf.is_shelf c.read_part-is_unknown.new.shelf) (omega arith) c.loop-done.invariant.flags c.loop-done.invariant.tries x.ran.on.continues x.read x.looks x.ran.on.writes x.ran.on.others in
     record { on = record { continues = tries.continues; others = tries.others; writes = tries.writes }; rest = g.met.S.Shelf.shelf_rest_stays.transitive _ _ _ c.loop-done.invariant.rest x.ran.rest }
 
 pub returns-then-is_unknown-clause-some : goal.returns-then-is_unknown-clause-some
@@ -53,7 +53,7 @@ loop-done-preserved g c =
       aligned = omega arith;
       flags = length-set c.loop-done.unknown shard c.read_part-is_unknown.result ∙ inv.flags;
       tries = tries_one a b n c.args.places.now (is_unknown c.args.unknown.now) c.loop-done.unknown shard c.read_part-is_unknown.result
-          c.requires.places (g.met.S.Shelf.is_shelf c.read_part-is_unknown.new.shelf) lt inv.flags inv.tries x.ran.on.continues x.read x.same x.ran.on.writes x.ran.on.others;
+          c.requires.places (g.met.S.Shelf.is_shelf c.read_part-is_unknown.new.shelf) lt inv.flags inv.tries x.ran.on.continues x.read x.looks x.ran.on.writes x.ran.on.others;
       holds = λ h whole stands. one_piece whole c.args.offset done size _ into part (inv.holds h whole stands) fits long inside
           (part_known a b n c.args.places.now (is_unknown c.args.unknown.now) c.loop-done.unknown shard c.args.stripe (at % 4096) size _ part whole cut h lt inside inv.tries c.if-is_unknown.ensures.read stands);
       rest = g.met.S.Shelf.shelf_rest_stays.transitive _ _ _ inv.rest x.ran.rest;

@@ -5,6 +5,7 @@ use Rattle.segment_io.specs.Reads.{is_unknown}
 use Rattle.segment_io.specs.Runs.{data_byte}
 use Rattle.segment_io.proofs.Tried.{tried_then, lost_in_all}
 use Rattle.segment_io.proofs.Tries.{on_after}
+use Rattle.segment_io.proofs.Gathers.{looks_then}
 use Rattle.segment_io.proofs.runs.read_in_stripe.Goals as goal
 
 pub returns-in_err-read_stripe-clause-tried : goal.returns-in_err-read_stripe-clause-tried
@@ -32,14 +33,14 @@ pub returns-clause-read : goal.returns-clause-read
 returns-clause-read g c h whole stands i lt =
     let x = c.read_directly.ensures in
     let same = c.in_ok-read_stripe.ensures.read (x.ran.on.continues.honest h) whole
-    (on_after (g.S.Shelf.shelf c.args.shelf.now) (g.S.Shelf.shelf c.read_directly.new.shelf) (g.S.Shelf.shelf c.read_stripe.new.shelf) c.args.places.now (is_unknown c.args.unknown.now) c.read_directly.new.unknown c.args.stripe whole (x.same h) x.tried stands) in
+    (on_after (g.S.Shelf.shelf c.args.shelf.now) (g.S.Shelf.shelf c.read_directly.new.shelf) (g.S.Shelf.shelf c.read_stripe.new.shelf) c.args.places.now (is_unknown c.args.unknown.now) c.read_directly.new.unknown c.args.stripe whole (x.looks.same h) x.tried stands) in
     c.copy_data.ensures i (omega (arith, lt)) ∙ ap (λ ss. data_byte ss (c.args.offset + i)) same
 
-pub returns-in_err-read_stripe-clause-same : goal.returns-in_err-read_stripe-clause-same
-returns-in_err-read_stripe-clause-same g c h device =
-    let was = c.read_directly.ensures.same h device in
-    let is = c.read_stripe.ensures.same (c.read_directly.ensures.ran.on.continues.honest h) device in
-    record { bytes = is.bytes ∙ was.bytes; dirty = is.dirty ∙ was.dirty }
+pub returns-in_err-read_stripe-clause-looks : goal.returns-in_err-read_stripe-clause-looks
+returns-in_err-read_stripe-clause-looks g c = looks_then c.read_directly.ensures.ran.on.continues c.read_directly.ensures.looks c.read_stripe.ensures.looks
+
+pub returns-clause-looks : goal.returns-clause-looks
+returns-clause-looks g c = looks_then c.read_directly.ensures.ran.on.continues c.read_directly.ensures.looks c.read_stripe.ensures.looks
 
 pub returns-in_err-read_stripe-clause-ran : goal.returns-in_err-read_stripe-clause-ran
 returns-in_err-read_stripe-clause-ran g c = ran_then g.met.S.Shelf.shelf_rest_stays c.read_directly.ensures.ran c.read_stripe.ensures.ran

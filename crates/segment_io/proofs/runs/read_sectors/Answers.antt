@@ -7,6 +7,7 @@ use Rattle.segment_io.proofs.Tried.{lost_in_all}
 use Rattle.segment_io.proofs.Tries.{tries_then, stands_after}
 use Rattle.segment_io.proofs.Targets.{lost_as}
 use Rattle.segment_io.proofs.Sectors.{one_stripe, sector_of_run}
+use Rattle.segment_io.proofs.Gathers.{looks_then}
 use Rattle.segment_io.proofs.runs.read_sectors.Goals as goal
 
 pub returns-in_err-read_in_stripe-clause-lost : goal.returns-in_err-read_in_stripe-clause-lost
@@ -24,8 +25,11 @@ pub returns-in_err-read_in_stripe-clause-ran : goal.returns-in_err-read_in_strip
 returns-in_err-read_in_stripe-clause-ran g c =
     let x = c.read_in_stripe.ensures in
     let tries = tries_then (g.S.Shelf.shelf c.args.shelf.now) (g.S.Shelf.shelf c.loop-done.shelf) (g.S.Shelf.shelf c.read_in_stripe.new.shelf) c.args.places.now (is_unknown c.missing_shards-unknown.result) c.loop-done.unknown c.read_in_stripe.new.unknown
-    (g.met.S.Shelf.is_shelf c.read_in_stripe.new.shelf) c.loop-done.invariant.tries (record { continues = x.ran.on.continues; tried = x.tried; same = x.same; writes = x.ran.on.writes; others = x.ran.on.others }) in
+    (g.met.S.Shelf.is_shelf c.read_in_stripe.new.shelf) c.loop-done.invariant.tries (record { continues = x.ran.on.continues; tried = x.tried; looks = x.looks; writes = x.ran.on.writes; others = x.ran.on.others }) in
     record { on = record { continues = tries.continues; others = tries.others; writes = tries.writes }; rest = g.met.S.Shelf.shelf_rest_stays.transitive _ _ _ c.loop-done.invariant.rest x.ran.rest }
+
+pub returns-in_err-read_in_stripe-clause-looks : goal.returns-in_err-read_in_stripe-clause-looks
+returns-in_err-read_in_stripe-clause-looks g c = let tries = c.loop-done.invariant.tries in looks_then tries.continues tries.looks c.read_in_stripe.ensures.looks
 
 pub loop-done-preserved : goal.loop-done-preserved
 loop-done-preserved g c =
@@ -48,7 +52,7 @@ loop-done-preserved g c =
     record {
       within = omega arith;
       aligned = omega arith;
-      tries = tries_then a b n places said c.loop-done.unknown c.read_in_stripe.new.unknown (g.met.S.Shelf.is_shelf c.read_in_stripe.new.shelf) inv.tries (record { continues = x.ran.on.continues; tried = x.tried; same = x.same; writes = x.ran.on.writes; others = x.ran.on.others });
+      tries = tries_then a b n places said c.loop-done.unknown c.read_in_stripe.new.unknown (g.met.S.Shelf.is_shelf c.read_in_stripe.new.shelf) inv.tries (record { continues = x.ran.on.continues; tried = x.tried; looks = x.looks; writes = x.ran.on.writes; others = x.ran.on.others });
       holds = λ h. one_stripe a places said start done size _ _ into part (inv.holds h) fits long cut inside
           (λ whole stands. c.in_ok-read_in_stripe.ensures.read (inv.tries.continues.honest h) whole (stands_after a b places said c.loop-done.unknown _ whole h inv.tries stands));
       rest = g.met.S.Shelf.shelf_rest_stays.transitive _ _ _ inv.rest x.ran.rest;
