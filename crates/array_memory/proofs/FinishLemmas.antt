@@ -1,7 +1,7 @@
 -- What is kept when a plan is done.
 use Rattle.std.proofs.Common.{◌≡◌, ℕ, ◌<◌, Bool, false, List, [], sym, ap, ◌∙◌, arith, inl, subst, IsTrue, None, option_and_then, if◌then◌else◌, All, Contains}
 use Rattle.std.proofs.lemmas.List.Elements.{Contains-append_right}
-use Rattle.memory_spec.specs.Prelude.{object_key, segment_key, never, id_of, unless_empty, says, is_elided, is_within, AreElidedRanges, Table, Place, AddressFact, SegmentFact, AreDistinct, facts_of, newest_of, IsShown, within_elided, all_contained, said_found, Memory, IsSound, facts, all_segments, of_each}
+use Rattle.memory_spec.specs.Prelude.{object_key, segment_key, never, id_of, unless_empty, says, is_elided, is_within, AreElidedRanges, Table, Place, AddressFact, SegmentFact, ElisionFact, AreDistinct, facts_of, newest_of, IsShown, within_elided, all_contained, said_found, Memory, IsSound, facts, all_segments, of_each}
 use Rattle.pur_base.specs.declared.request.Table.TheVariants as table
 use Rattle.pur_base.specs.declared.facts.AnyFact.TheVariants as any
 use Rattle.elision.specs.Ranges.{ElidedRanges, ranges_of}
@@ -70,6 +70,9 @@ shown_where {F} key number empty fs before after shown same h = record {
     alike : (k : ℕ) → says key number empty fs after k ≡ says key number empty fs before k
     alike k = ap (λ b. if b then None else option_and_then (unless_empty empty) (newest_of key number k fs)) (same (id_of k))
 
+pub ranges_where : (old new : List ElisionFact) (t : Table) (rs : List (ℕ × ℕ)) → ((id : ℕ) → is_elided new t id ≡ is_elided old t id) → AreElidedRanges old t rs → AreElidedRanges new t rs
+ranges_where old new t rs same r = record { same = λ id. (λ x. (r.same id).0 (sym (same id) ∙ x), λ x. same id ∙ (r.same id).1 x); whole = r.whole; apart = r.apart }
+
 module _ (k n : Kept) (p : Plan) (newest : List AddressFact) (flags : List Bool) (units : List (List Place)) (h : IsKept k) (e : IsElidingOf k p.eliding)
     (plan : IsPlanFor (eliding_by k.memory p.eliding) p) (planned : IsPlanned (eliding_by k.memory p.eliding) n.memory flags newest units) where
   abbrev Elided : Memory
@@ -80,13 +83,6 @@ module _ (k n : Kept) (p : Plan) (newest : List AddressFact) (flags : List Bool)
 
   sound : IsSound n.memory
   sound = planned_sound (λ a b. []) Elided n.memory flags newest units plan.sound plan.stored planned
-
-  still_elided : (t : Table) (rs : List (ℕ × ℕ)) → AreElidedRanges (facts Elided.tables).elisions t rs → AreElidedRanges (facts n.memory.tables).elisions t rs
-  still_elided t rs r = record {
-    same = λ id. (λ x. (r.same id).0 (sym (same_elided t id) ∙ x), λ x. same_elided t id ∙ (r.same id).1 x);
-    whole = r.whole;
-    apart = r.apart;
-  }
 
   objects_elided : (id : ℕ) → is_elided (facts n.memory.tables).elisions table.Object id ≡ is_elided (facts k.memory.tables).elisions table.Object id
   objects_elided id = same_elided table.Object id ∙ objects_same k.memory p.eliding.segments.items p.eliding.facts.items e.made id
@@ -100,7 +96,7 @@ module _ (k n : Kept) (p : Plan) (newest : List AddressFact) (flags : List Bool)
   finished_kept elided objects segments = record {
     objects = shown_where object_key (λ f. f.seq.0) never (facts n.memory.tables).objects (is_elided (facts k.memory.tables).elisions table.Object) (is_elided (facts n.memory.tables).elisions table.Object) n.objects objects_elided objects;
     segments = shown_where segment_key (λ f. f.seq.0) never (facts n.memory.tables).segments (is_within (ranges_of p.eliding.elided table.Segment)) (is_elided (facts n.memory.tables).elisions table.Segment) n.segments segments_within segments;
-    elided = λ t ne. subst (λ (x : ElidedRanges). AreElidedRanges (facts n.memory.tables).elisions t (ranges_of x t)) (sym elided) (still_elided t (ranges_of p.eliding.elided t) (e.elided t ne));
+    elided = λ t ne. subst (λ (x : ElidedRanges). AreElidedRanges (facts n.memory.tables).elisions t (ranges_of x t)) (sym elided) (ranges_where (facts Elided.tables).elisions (facts n.memory.tables).elisions t (ranges_of p.eliding.elided t) (same_elided t) (e.elided t ne));
     next = sound.next;
     ids = sound.ids;
     numbers = sound.numbers;

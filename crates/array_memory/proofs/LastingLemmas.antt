@@ -1,11 +1,11 @@
 -- What a plan's patches hold: facts that may be written, and no more than were unflushed.
-use Rattle.std.proofs.Common.{◌≡◌, ℕ, suc, ◌+◌, ◌<◌, ◌≤◌, Bool, true, false, List, [], ◌∷◌, ◌++◌, length, map, refl, sym, ap, ◌∙◌, arith, inl, inr, subst, Contains, Option, Some, None, length-append}
+use Rattle.std.proofs.Common.{◌≡◌, ℕ, ◌+◌, ◌≤◌, Bool, true, false, List, [], ◌∷◌, ◌++◌, length, refl, sym, ap, ◌∙◌, arith, inl, inr, subst, Contains, Option, Some, None, length-append}
 use Rattle.std.proofs.lemmas.Grind.{flat_map-append}
 use Rattle.std.proofs.lemmas.List.Elements.{Contains-append_left, Contains-append_right}
-use Rattle.memory_spec.specs.Prelude.{object_key, medium_key, address_key, segment_key, elision_key, any_key, table_tag, Ascends, Target, Stored, Zero, AddressFact, AnyFact, IsFact, IsLawful, IsTarget, Layers, facts_in, facts_of, patch_facts, patches_of, all_contained, ascends-cons, ascends-nil, Memory, FitsTarget, FitsInMemory, IsSound, facts, all_objects, all_mediums, all_addresses, all_segments, all_elisions, each_by_recursion, of_map}
+use Rattle.memory_spec.specs.Prelude.{object_key, medium_key, address_key, segment_key, elision_key, AddressFact, IsFact, Layers, facts_in, facts_of, patch_facts, patches_of, Memory, FitsTarget, FitsInMemory, IsSound, facts, all_objects, all_mediums, all_addresses, all_segments, all_elisions}
 use Rattle.pur_base.specs.declared.facts.AnyFact.TheVariants as any
-use Rattle.fact_codec.specs.Fact as fact
-use Rattle.table_plan.specs.Prelude.{flagged_from, ArePatchFacts}
+use Rattle.table_plan.specs.Prelude.{flagged_from}
+use Rattle.table_plan.proofs.PatchFacts.{patch_facts_are, stored_is_fact}
 use Rattle.table_plan.proofs.Planned.{planned_sound}
 use Rattle.array_memory.specs.declared.plan.Plan.{Plan}
 use Rattle.array_memory.specs.Lasting.{AreLawfulPatches, AreNoMore}
@@ -13,31 +13,7 @@ use Rattle.array_memory.specs.Plan.{after_plan, flushed_with, units_of, IsPlanFo
 use Rattle.array_memory.proofs.CountLemmas.{flushed_fewer}
 use Rattle.array_memory.proofs.PlanLemmas.{addresses_ascend, long_map, planned}
 
--- ---- facts of one table as facts of any
-
-module _ {F : Type 0} (any : F → AnyFact) (key : F → ℕ) (same : (f : F) → any_key (any f) ≡ key f) where
-  ascend_as_any : (fs : List F) → Ascends key fs → Ascends any_key (map any fs)
-  ascend_as_any [] up = ascends-nil any_key
-  ascend_as_any (f ∷ fs) up = ascends-cons any_key (any f) (map any fs)
-      (all_contained (λ g. any_key (any f) < any_key g) (map any fs) (λ g c. let w = of_map any fs g c in above w.0 w.1 g w.2))
-      (ascend_as_any fs (λ i j d l m. up (suc i) (suc j) d (omega (arith, l)) (omega (arith, m))))
-    where
-      above : (h : F) → Contains fs h → (g : AnyFact) → g ≡ any h → any_key (any f) < any_key g
-      above h c g e =
-          let less : key f < key h = subst (λ z. key f < key z) c.2 (up 0 (suc c.0) h (omega arith) (let l = c.1 in omega (arith, l))) in
-          let to : any_key g ≡ key h = ap any_key e ∙ same h in
-          omega (arith, less, to, same f)
-
-  patch_facts_are : (tag : ℕ) → ((f : F) → table_tag (any f) ≡ tag) → (fs : List F) → Ascends key fs → ((f : F) → Contains fs f → IsFact (any f)) → ArePatchFacts tag (map any fs)
-  patch_facts_are tag tagged fs up each = record {
-    each = each_by_recursion IsFact (map any fs) (λ g c. is g c);
-    lawful = each_by_recursion IsLawful (map any fs) (λ g c. (is g c).lawful);
-    table = each_by_recursion (λ g. table_tag g ≡ tag) (map any fs) (λ g c. let w = of_map any fs g c in ap table_tag w.2 ∙ tagged w.0);
-    ascending = ascend_as_any fs up;
-  }
-    where
-      is : (g : AnyFact) → Contains (map any fs) g → IsFact g
-      is g c = let w = of_map any fs g c in subst (λ z. IsFact z) (sym w.2) (each w.0 w.1)
+-- ---- facts of the new patches
 
 -- a fact of the new patch is one of the table after it
 in_flushed : {F : Type 0} (l : Layers F) (patch : Option (List F)) (f : F) → Contains (patch_facts patch) f → Contains (facts_in (flushed_with l patch)) f
@@ -51,12 +27,7 @@ in_flushed {F} l patch f c = Contains-append_left (facts_of (l.patches ++ patche
 
 -- where nothing is staged, an address that memory may have is one that a patch may have
 address_is_fact : (f : AddressFact) → FitsInMemory 0 (any.Address f) → IsFact (any.Address f)
-address_is_fact f fits = record { lawful = record { id = fits.0; number = fits.1; statement = (fits.2, (target f.target fits.3).0) }; fits = (target f.target fits.3).1 }
-  where
-    target : (t : Target) → FitsTarget 0 t → IsTarget t × fact.FitsTypes (any.Address (record f { target = t }))
-    target Zero h = (tt, tt)
-    target (Stored at) (inl none) = let l = none.1 in absurd (omega (arith, l))
-    target (Stored at) (inr h) = let a = h.0 in let b = h.1 in let c = h.2 in (((a, b), c), (omega (arith, b), omega (arith, c)))
+address_is_fact f fits = stored_is_fact 0 f (λ at e. elim (subst (λ t. FitsTarget 0 t) e fits.3) [ inl none ↦ (let l = none.1 in absurd (omega (arith, l))) | inr h ↦ h.0 ]) fits
 
 flagged_few : (i : ℕ) (flags : List Bool) → length (flagged_from i flags) ≤ length flags
 flagged_few i [] = omega arith

@@ -2,7 +2,7 @@
 use Rattle.std.proofs.Common.{◌≡◌, ◌≢◌, ℕ, ◌<◌, ◌≤◌, List, [], ◌++◌, map, sym, ap, subst, ◌∙◌, inl, inr, Some, All, Contains, append-nil}
 use Rattle.std.specs.Prelude.{IsTrue, Result, Ok, Err, IfOk}
 use Rattle.std.proofs.lemmas.List.Elements.{All-contains, recursion_from_All}
-use Rattle.memory_spec.specs.Prelude.{Geometry, Facts, any_number, object_key, medium_key, address_key, segment_key, elision_key, never, Array, says, objects, is_elided, is_within, Table, Target, Stored, Zero, ObjectFact, MediumFact, AddressFact, SegmentFact, ElisionFact, AnyFact, NextNumbers, BootRecord, AreNext, IsFact, IsTarget, Layers, facts_in, facts_of, Rises, IsShown, nowhere, AreSound, AreIdsBelow, AreObjectsSound, AreMediumsSound, AreAddressesSound, AreElisionsSound, all_facts, in_patches, Memory, Contents, FactsRead, FitsTarget, FitsInMemory, AreAddressesThere, AreNumbered, IsSound, ReadsAs, facts, patches, all_of, of_all, of_each, pairs_of, object_is, in_objects}
+use Rattle.memory_spec.specs.Prelude.{Geometry, Facts, object_key, medium_key, address_key, segment_key, elision_key, never, Array, says, objects, is_elided, is_within, Table, ObjectFact, MediumFact, AddressFact, SegmentFact, ElisionFact, NextNumbers, BootRecord, AreNext, IsFact, IsTarget, Layers, facts_in, facts_of, Rises, IsShown, all_contained, AreSound, all_facts, in_patches, Memory, Contents, FactsRead, IsSound, ReadsAs, facts, patches, all_of, of_all, of_each, pairs_of, object_is, in_objects}
 use Rattle.pur_base.specs.declared.request.Table.TheVariants as table
 use Rattle.pur_base.specs.declared.facts.AnyFact.TheVariants as any
 use Rattle.elision.specs.Ranges.{ElidedRanges, ranges_of, AreApart}
@@ -12,9 +12,11 @@ use Rattle.table_soundness.specs.Elided.{AreElidedBy, IsRange}
 use Rattle.table_soundness.specs.Faults.{facts_in as facts_loaded, patches_in, AreLawful, AreNamed}
 use Rattle.table_soundness.specs.declared.tables.LoadedTables.{LoadedTables}
 use Rattle.table_soundness.proofs.SoundLemmas.{all_joined, same_facts, parts_from_sequences}
+use Rattle.memory_spec.proofs.MergedSound.{patches_sound}
+use Rattle.memory_spec.proofs.Patched.{patched, patched_facts}
 use Rattle.array_memory.specs.Kept.{kept_of, IsKept}
 use Rattle.array_memory.specs.Loaded.{memory_of, with_room_of, HasOnly, IsLoaded, AreInSegments}
-use Rattle.array_memory.proofs.SoundLemmas.{plain, ranges_of_patches, sound_as, sound_ranges}
+use Rattle.array_memory.proofs.SoundLemmas.{ranges_of_patches, sound_as, sound_ranges}
 
 -- what holds of a result holds of it with less
 pub if_ok : {T E : Type 0} (r : Result T E) (P Q : T → Type 0) → ((x : T) → P x → Q x) → IfOk r P → IfOk r Q
@@ -70,59 +72,22 @@ sound_with_room was now o d a s e st n is =
 -- ---- it is sound
 
 module _ (shelf : Geometry) (boot : BootRecord) (t : LoadedTables) (sound : AreSound shelf boot (patches_in t)) (lawful : AreLawful t) (next : AreNext boot.next) where
-  abbrev Loaded : Memory
-  Loaded = plain (facts_loaded t) [] boot.next
-
-  target_fits : (target : Target) → IsTarget target → FitsTarget 0 target
-  target_fits (Stored at) h = inr (h.0.0, h.0.1, h.1)
-  target_fits Zero h = tt
-
-  address_fits : (f : AddressFact) → Contains (facts_of t.addresses.items) f → FitsInMemory 0 (any.Address f)
-  address_fits f c =
-      let w = All-contains (λ x. IsFact (any.Address x)) (facts_of t.addresses.items) f lawful.addresses c in
-      (w.lawful.id, w.lawful.number, w.lawful.statement.0, target_fits f.target w.lawful.statement.1)
+  each_lawful : All IsFact (in_patches (patches_in t))
+  each_lawful = subst (λ l. All IsFact l) (sym (all_joined t)) (all_contained IsFact (all_of (facts_loaded t)) (of_all (facts_loaded t) IsFact
+      (λ x c. All-contains (λ y. IsFact (any.Object y)) (facts_of t.objects.items) x lawful.objects c)
+      (λ x c. All-contains (λ y. IsFact (any.Medium y)) (facts_of t.mediums.items) x lawful.mediums c)
+      (λ x c. All-contains (λ y. IsFact (any.Address y)) (facts_of t.addresses.items) x lawful.addresses c)
+      (λ x c. All-contains (λ y. IsFact (any.Segment y)) (facts_of t.segments.items) x lawful.segments c)
+      (λ x c. All-contains (λ y. IsFact (any.Elision y)) (facts_of t.elisions.items) x lawful.elisions c)))
 
   stored : AreInSegments (facts_of t.addresses.items)
   stored f at c e = (subst IsTarget e (All-contains (λ x. IsFact (any.Address x)) (facts_of t.addresses.items) f lawful.addresses c).lawful.statement.1).0
 
-  fit : (a : AnyFact) → Contains (all_of (facts_loaded t)) a → FitsInMemory 0 a
-  fit = of_all (facts_loaded t) (λ a. FitsInMemory 0 a)
-      (λ x c. All-contains (λ y. IsFact (any.Object y)) (facts_of t.objects.items) x lawful.objects c)
-      (λ x c. All-contains (λ y. IsFact (any.Medium y)) (facts_of t.mediums.items) x lawful.mediums c)
-      address_fits
-      (λ x c. All-contains (λ y. IsFact (any.Segment y)) (facts_of t.segments.items) x lawful.segments c)
-      (λ x c. All-contains (λ y. IsFact (any.Elision y)) (facts_of t.elisions.items) x lawful.elisions c)
-
-  there : AreAddressesThere Loaded
-  there =
-      let a = subst AreAddressesSound (same_facts t) sound.addresses in
-      record { there = λ medium sector at e. inr (a.there medium sector at e); within = a.within }
-
-  numbered : AreNumbered Loaded
-  numbered = record {
-    below = λ f c. of_each (λ x. any_number x < boot.next.sequence) (in_patches (patches_in t)) f sound.sequences.below (subst (λ l. Contains l f) (sym (all_joined t)) c);
-    distinct = λ f g c d e. elim (pairs_of (λ x y. any_number x ≢ any_number y) (in_patches (patches_in t)) f g sound.sequences.distinct
-        (subst (λ l. Contains l f) (sym (all_joined t)) c) (subst (λ l. Contains l g) (sym (all_joined t)) d)) [
-          | inl same ↦ same
-          | inr either ↦ elim either [ inl differ ↦ absurd (differ e) | inr differ ↦ absurd (differ (sym e)) ]
-        ];
-  }
-
-  as_plain : IsSound Loaded
-  as_plain = record {
-    next = next;
-    fit = fit;
-    sectors = λ sector c. absurd (nowhere sector c);
-    ids = subst (λ f. AreIdsBelow boot.next f) (same_facts t) sound.ids;
-    objects = subst (λ f. AreObjectsSound f boot.next.object) (same_facts t) sound.objects;
-    mediums = subst AreMediumsSound (same_facts t) sound.mediums;
-    addresses = there;
-    elisions = subst (λ (f : Facts). AreElisionsSound f.elisions) (same_facts t) sound.elisions;
-    numbers = numbered;
-  }
-
   pub loaded_sound : (m : Memory) → IsLoaded boot t m → IsSound m
-  loaded_sound m h = sound_as Loaded m (facts_same boot t m h) h.staged h.next as_plain
+  loaded_sound m h =
+      let same = sym (patches_same boot t m h) in
+      sound_as (patched m.tables boot.next) m (sym (all_same boot t m h) ∙ patched_facts m.tables boot.next) h.staged h.next
+      (patches_sound shelf boot m.tables (subst (λ ps. AreSound shelf boot ps) same sound) (subst (λ ps. All IsFact (in_patches ps)) same each_lawful) boot.next.patch_segment next)
 
   pub loaded_reads : (m : Memory) → IsLoaded boot t m → (contents : Contents) (base : Array) → FactsRead contents [] (all_facts (patches m.tables)) m.next.object base → ReadsAs contents m base
   loaded_reads m h contents base read = record {

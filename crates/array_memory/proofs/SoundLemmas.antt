@@ -1,7 +1,7 @@
 -- Of what memory being sound depends.
-use Rattle.std.proofs.Common.{◌≡◌, ℕ, List, [], refl, sym, subst, All}
+use Rattle.std.proofs.Common.{◌≡◌, ℕ, ◌+◌, ◌<◌, List, [], refl, sym, arith, subst, All}
 use Rattle.std.proofs.lemmas.List.Elements.{All-contains, Contains-append_left}
-use Rattle.memory_spec.specs.Prelude.{Facts, Array, ElisionFact, NextNumbers, IsFact, Layers, facts_in, facts_of, all_contained, Memory, Contents, IsSound, ReadsAs, facts, all_elisions}
+use Rattle.memory_spec.specs.Prelude.{Facts, Array, ElisionFact, NextNumbers, AreNext, NUMBER_LIMIT, IsFact, Layers, facts_in, facts_of, all_contained, Memory, Contents, IsSound, ReadsAs, facts, all_elisions}
 use Rattle.pur_base.specs.declared.facts.AnyFact.TheVariants as any
 use Rattle.table_soundness.specs.Elided.{IsRange}
 use Rattle.table_soundness.proofs.FaultLemmas.{elided_ranges}
@@ -21,12 +21,12 @@ plain f staged next = record {
   next = next;
 }
 
-sound_plain : (m : Memory) → IsSound m → IsSound (plain (facts m.tables) m.staged m.next)
-sound_plain m s = record {
-  next = s.next;
+sound_plain : (m : Memory) (id : ℕ) → AreNext (record m.next { patch_segment = id }) → IsSound m → IsSound (plain (facts m.tables) m.staged (record m.next { patch_segment = id }))
+sound_plain m id next s = record {
+  next = next;
   fit = s.fit;
   sectors = s.sectors;
-  ids = s.ids;
+  ids = record { objects = s.ids.objects; mediums = s.ids.mediums; addresses = s.ids.addresses; segments = s.ids.segments; elisions = s.ids.elisions };
   objects = s.objects;
   mediums = s.mediums;
   addresses = record { there = s.addresses.there; within = s.addresses.within };
@@ -47,12 +47,23 @@ plain_sound m s = record {
   numbers = record { below = s.numbers.below; distinct = s.numbers.distinct };
 }
 
--- soundness is of facts, staged sectors and next numbers
-pub sound_as : (m n : Memory) → facts n.tables ≡ facts m.tables → n.staged ≡ m.staged → n.next ≡ m.next → IsSound m → IsSound n
-sound_as m n f st ne s =
+-- soundness is of facts, staged sectors and next numbers, of which that of segments of patches may be any
+sound_but : (m n : Memory) (id : ℕ) → facts n.tables ≡ facts m.tables → n.staged ≡ m.staged → n.next ≡ record m.next { patch_segment = id } → AreNext (record m.next { patch_segment = id }) → IsSound m → IsSound n
+sound_but m n id f st ne next s =
     plain_sound n (subst (λ (x : Facts). IsSound (plain x n.staged n.next)) (sym f)
     (subst (λ (x : List (List ℕ)). IsSound (plain (facts m.tables) x n.next)) (sym st)
-    (subst (λ (x : NextNumbers). IsSound (plain (facts m.tables) m.staged x)) (sym ne) (sound_plain m s))))
+    (subst (λ (x : NextNumbers). IsSound (plain (facts m.tables) m.staged x)) (sym ne) (sound_plain m id next s))))
+
+pub sound_as : (m n : Memory) → facts n.tables ≡ facts m.tables → n.staged ≡ m.staged → n.next ≡ m.next → IsSound m → IsSound n
+sound_as m n f st ne s = sound_but m n m.next.patch_segment f st ne s.next s
+
+-- so many ids of segments of patches may be given
+pub numbered_sound : (m : Memory) (count : ℕ) → IsSound m → m.next.patch_segment + count < NUMBER_LIMIT → IsSound (record m { next = record m.next { patch_segment = m.next.patch_segment + count } })
+numbered_sound m count s left =
+    let after : NextNumbers = record m.next { patch_segment = m.next.patch_segment + count } in
+    let some = s.next.patch_segment.0 in
+    sound_but m (record m { next = after }) (m.next.patch_segment + count) refl refl refl
+    (record { object = s.next.object; medium = s.next.medium; segment = s.next.segment; patch_segment = (omega (arith, some), left); sequence = s.next.sequence }) s
 
 -- memory that has other room reads the same
 pub reads_with_rooms : (was now : Kept) → now ≡ with_rooms was now → (contents : Contents) (array : Array) → ReadsAs contents was.memory array → ReadsAs contents now.memory array

@@ -62,8 +62,8 @@ module _ (shelf : Geometry) (boot : BootRecord) (t : Tables) (sound : AreSound s
     ];
   }
 
-  loaded_sound : IsSound Loaded
-  loaded_sound = record {
+  pub patches_sound : IsSound Loaded
+  patches_sound = record {
     next = next;
     fit = λ f c. fact_fits f (All-contains IsFact (in_patches (patches t)) f lawful (in_loaded f c));
     sectors = λ sector c. absurd (nowhere sector c);
@@ -81,7 +81,7 @@ pub merged_patches_are_sound : MergedPatchesAreSound
 merged_patches_are_sound shelf boot next t i was now layered h sound lawful next_next same named segments =
     let memory : Memory = patched was.tables next.next in
     let merged : Memory = patched now.tables next.next in
-    let is : IsSound memory = subst (λ n. IsSound (patched was.tables n)) (sym same) (loaded_sound shelf boot was.tables sound lawful next.next.patch_segment (subst AreNext same next_next)) in
+    let is : IsSound memory = subst (λ n. IsSound (patched was.tables n)) (sym same) (patches_sound shelf boot was.tables sound lawful next.next.patch_segment (subst AreNext same next_next)) in
     let merge : IsMerge memory merged = one_merge_is_merge t i memory merged (merged_patched t i was now next.next h) in
     record_is_sound shelf next merged (shrunk_sound memory merged is (merge_shrinks memory merged is (patched_layered was.tables next.next layered) merge))
     (patched_whole now.tables next.next) (patched_layered now.tables next.next (still_layered t i was now h layered))

@@ -56,41 +56,11 @@ patched_layered t next l = record {
 
 -- and a merge of one table leaves the others
 pub still_layered : (t : Table) (i : ℕ) (was now : Memory) → IsMergedAt t i was now → AreLayered was.tables → AreLayered now.tables
-still_layered table.Object i was now h l = subst (λ (m : Memory). AreLayered m.tables) (sym h.2) (record {
-  objects = merged_layered object_key (λ f. f.seq.0) never apart (is_elided (flushed was.tables).elisions table.Object) was.tables.objects now.tables.objects h.0 l.objects;
-  mediums = l.mediums;
-  addresses = l.addresses;
-  segments = l.segments;
-  elisions = l.elisions;
-})
-still_layered table.Medium i was now h l = subst (λ (m : Memory). AreLayered m.tables) (sym h.2) (record {
-  objects = l.objects;
-  mediums = merged_layered medium_key (λ f. f.seq.0) is_empty_range apart (is_elided (flushed was.tables).elisions table.Medium) was.tables.mediums now.tables.mediums h.0 l.mediums;
-  addresses = l.addresses;
-  segments = l.segments;
-  elisions = l.elisions;
-})
-still_layered table.Address i was now h l = subst (λ (m : Memory). AreLayered m.tables) (sym h.2) (record {
-  objects = l.objects;
-  mediums = l.mediums;
-  addresses = merged_layered address_key (λ f. f.seq.0) never apart (is_elided (flushed was.tables).elisions table.Address) was.tables.addresses now.tables.addresses h.0 l.addresses;
-  segments = l.segments;
-  elisions = l.elisions;
-})
-still_layered table.Segment i was now h l = subst (λ (m : Memory). AreLayered m.tables) (sym h.2) (record {
-  objects = l.objects;
-  mediums = l.mediums;
-  addresses = l.addresses;
-  segments = merged_layered segment_key (λ f. f.seq.0) never apart (is_elided (flushed was.tables).elisions table.Segment) was.tables.segments now.tables.segments h.0 l.segments;
-  elisions = l.elisions;
-})
-still_layered table.Elision i was now h l = subst (λ (m : Memory). AreLayered m.tables) (sym h.2) (record {
-  objects = l.objects;
-  mediums = l.mediums;
-  addresses = l.addresses;
-  segments = l.segments;
-  elisions = merged_layered elision_key (λ f. f.seq.0) never is_narrower (λ id. false) was.tables.elisions now.tables.elisions h.0 l.elisions;
-})
+still_layered table.Object i was now h l = subst (λ (m : Memory). AreLayered m.tables) (sym h.2) (record { objects = merged_layered _ _ _ _ _ _ _ h.0 l.objects; mediums = l.mediums; addresses = l.addresses; segments = l.segments; elisions = l.elisions })
+still_layered table.Medium i was now h l = subst (λ (m : Memory). AreLayered m.tables) (sym h.2) (record { objects = l.objects; mediums = merged_layered _ _ _ _ _ _ _ h.0 l.mediums; addresses = l.addresses; segments = l.segments; elisions = l.elisions })
+still_layered table.Address i was now h l = subst (λ (m : Memory). AreLayered m.tables) (sym h.2) (record { objects = l.objects; mediums = l.mediums; addresses = merged_layered _ _ _ _ _ _ _ h.0 l.addresses; segments = l.segments; elisions = l.elisions })
+still_layered table.Segment i was now h l = subst (λ (m : Memory). AreLayered m.tables) (sym h.2) (record { objects = l.objects; mediums = l.mediums; addresses = l.addresses; segments = merged_layered _ _ _ _ _ _ _ h.0 l.segments; elisions = l.elisions })
+still_layered table.Elision i was now h l = subst (λ (m : Memory). AreLayered m.tables) (sym h.2) (record { objects = l.objects; mediums = l.mediums; addresses = l.addresses; segments = l.segments; elisions = merged_layered _ _ _ _ _ _ _ h.0 l.elisions })
 
 -- ---- a merge is one of the patches alone
 

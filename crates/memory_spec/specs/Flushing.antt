@@ -1,6 +1,6 @@
 -- What a flush and a merge make of memory: fewer facts, which say the same.
 use Rattle.std.specs.Prelude.{◌≡◌, ℕ, List, [], ◌++◌, Option, Contains}
-use Rattle.array_spec.specs.Prelude.{object_key, medium_key, address_key, segment_key, elision_key, Array, segment, is_elided, Table}
+use Rattle.array_spec.specs.Prelude.{Facts, object_key, medium_key, address_key, segment_key, elision_key, Array, segment, is_elided, Table}
 use Rattle.pyramid.specs.Prelude.{Layers, IsFlushed, patch_facts, patches_of}
 use Rattle.memory_spec.specs.Tables.{facts}
 use Rattle.memory_spec.specs.Memory.{Memory, Contents, IsSound, ReadsAs}
@@ -10,16 +10,20 @@ use Rattle.memory_spec.specs.Adding.{SayTheSame}
 abbrev pub AreOf : {F : Type 0} → List F → List F → Type 0
 AreOf {F} old new = (f : F) → Contains new f → Contains old f
 
--- no fact was added, and what is left says the same
+-- no fact was added, and those that are left say the same
+pub record HaveShrunk (old new : Facts) : Type 0 where
+  pub objects : AreOf old.objects new.objects
+  pub mediums : AreOf old.mediums new.mediums
+  pub addresses : AreOf old.addresses new.addresses
+  pub segments : AreOf old.segments new.segments
+  pub elisions : AreOf old.elisions new.elisions
+  pub same : SayTheSame old new
+  pub same_segments : (id : ℕ) → segment new id ≡ segment old id
+  pub same_elided : (t : Table) (id : ℕ) → is_elided new.elisions t id ≡ is_elided old.elisions t id
+
+-- so it is with the facts of memory, and nothing else has changed
 pub record IsShrunk (was now : Memory) : Type 0 where
-  pub objects : AreOf (facts was.tables).objects (facts now.tables).objects
-  pub mediums : AreOf (facts was.tables).mediums (facts now.tables).mediums
-  pub addresses : AreOf (facts was.tables).addresses (facts now.tables).addresses
-  pub segments : AreOf (facts was.tables).segments (facts now.tables).segments
-  pub elisions : AreOf (facts was.tables).elisions (facts now.tables).elisions
-  pub same : SayTheSame (facts was.tables) (facts now.tables)
-  pub same_segments : (id : ℕ) → segment (facts now.tables) id ≡ segment (facts was.tables) id
-  pub same_elided : (t : Table) (id : ℕ) → is_elided (facts now.tables).elisions t id ≡ is_elided (facts was.tables).elisions t id
+  pub facts : HaveShrunk (facts was.tables) (facts now.tables)
   pub staged : now.staged ≡ was.staged
   pub next : now.next ≡ was.next
 

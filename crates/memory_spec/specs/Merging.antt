@@ -1,13 +1,13 @@
 -- What merges of patches make of memory.
 use Rattle.std.specs.Prelude.{◌≡◌, ◌⊎◌, ℕ, ◌+◌, ◌<◌, ◌≤◌, Bool, true, false, ◌==◌, nat_lt, List, [], ◌∷◌, ◌++◌, length, take, drop, filter, count_by, Option}
-use Rattle.array_spec.specs.Prelude.{Facts, object_key, medium_key, address_key, segment_key, elision_key, never, is_empty_range, apart, is_narrower, tag_of, segment, is_elided, Table, patch_segments, Patch}
+use Rattle.array_spec.specs.Prelude.{object_key, medium_key, address_key, segment_key, elision_key, never, is_empty_range, apart, is_narrower, tag_of, is_elided, Table, patch_segments, Patch}
 use Rattle.pur_base.specs.declared.request.Table.TheVariants as table
 use Rattle.pyramid.specs.Prelude.{Layers, IsMerged, facts_in, patch_at, patch_facts, patches_of}
 use Rattle.memory_spec.specs.Tables.{flushed}
 use Rattle.memory_spec.specs.Memory.{Memory, IsSound}
 use Rattle.memory_spec.specs.Whole.{AreLayered}
-use Rattle.memory_spec.specs.Adding.{SayTheSame}
-use Rattle.memory_spec.specs.Flushing.{AreOf, IsShrunk}
+pub use Rattle.memory_spec.specs.Flushing.{HaveShrunk}
+use Rattle.memory_spec.specs.Flushing.{IsShrunk}
 
 module _ {F : Type 0} (key number : F → ℕ) (empty : F → Bool) (within : F → F → Bool) (elided : ℕ → Bool) where
   -- two patches of the table stand as one
@@ -87,7 +87,7 @@ pair_segments t i ps = patch_segments (take 2 (drop i (of_table t ps)))
 abbrev pub place_in : Table → ℕ → List Patch → ℕ
 place_in t i ps = count_by (λ p. nat_lt p.tag (tag_of t)) ps + i
 
--- ---- what is told of lists and facts
+-- ---- what is told of lists
 
 -- two neighbours of a list, the first of them at that place, stand as one, or as none
 pub record AreJoined {A : Type 0} (at : ℕ) (was joined now : List A) : Type 0 where
@@ -99,14 +99,3 @@ pub record AreJoined {A : Type 0} (at : ℕ) (was joined now : List A) : Type 0 
   pub was_is : was ≡ front ++ (older ∷ newer ∷ back)
   pub few : length joined ≤ 1
   pub now_is : now ≡ front ++ (joined ++ back)
-
--- of facts some are left out, and those that are left say the same
-pub record HaveShrunk (old new : Facts) : Type 0 where
-  pub objects : AreOf old.objects new.objects
-  pub mediums : AreOf old.mediums new.mediums
-  pub addresses : AreOf old.addresses new.addresses
-  pub segments : AreOf old.segments new.segments
-  pub elisions : AreOf old.elisions new.elisions
-  pub same : SayTheSame old new
-  pub same_segments : (id : ℕ) → segment new id ≡ segment old id
-  pub same_elided : (t : Table) (id : ℕ) → is_elided new.elisions t id ≡ is_elided old.elisions t id

@@ -2,7 +2,7 @@
 use Rattle.std.proofs.Common.{◌≡◌, ℕ, ◌+◌, ◌<◌, ◌≤◌, List, [], ◌∷◌, ◌++◌, length, get_or, map, take, drop, refl, sym, ap, ◌∙◌, arith, subst, append_assoc, Option, Some, None}
 use Rattle.std.specs.List.{AllByRecursion, AllZip}
 use Rattle.std.proofs.lemmas.List.{map-append, length-append, length-map, length-take-le}
-use Rattle.memory_spec.specs.Prelude.{table_tag, tag_of, Place, AnyFact, patch_facts, patches_of, Memory, Tables, patches, zip_long, AreJoined, place_in, IsNamed}
+use Rattle.memory_spec.specs.Prelude.{table_tag, tag_of, Place, AnyFact, patch_facts, patches_of, Memory, Tables, patches, AreJoined, place_in, IsNamed}
 use Rattle.pur_base.specs.declared.request.Table.TheVariants as table
 use Rattle.pur_base.specs.declared.facts.AnyFact.TheVariants as any
 use Rattle.table_plan.specs.declared.merged.Merged.{Merged}
@@ -12,8 +12,8 @@ use Rattle.record_tables.specs.Patches.{new_patch}
 use Rattle.record_tables.specs.Joined.{JoinedAreNamed, MergedIsNamed}
 use Rattle.record_tables.specs.lemmas.Lists.{zip_join, zip_parts}
 use Rattle.record_tables.proofs.Named.{new_named}
-use Rattle.record_tables.proofs.Neighbours.{two_of, lower_is}
-use Rattle.record_tables.proofs.Pairs.{AreNamedParts, before, behind, named_parts, patches_are}
+use Rattle.record_tables.proofs.Neighbours.{two_of}
+use Rattle.record_tables.proofs.Pairs.{AreNamedParts, before, behind, named_parts, own, patches_are}
 
 -- ---- two lists, each with one element in the place of two
 
@@ -47,22 +47,20 @@ module _ {F : Type 0} (c : F → AnyFact) where
     now_is = simp (map-append, append_assoc);
   }
 
--- lists that are the same
-same_joined : {A : Type 0} (at : ℕ) (one : List A) {was olds now news : List A} → was ≡ olds → now ≡ news → AreJoined at olds one news → AreJoined at was one now
-same_joined at one {was = was} {news = news} e f h = subst (λ l. AreJoined at was one l) (sym f) (subst (λ l. AreJoined at l one news) (sym e) h)
-
 -- the patches of all tables
 tables_joined : (m : Tables) (p : Merged) (i at : ℕ) → i + 1 < patch_count m (table_of p) → at ≡ length (before m (table_of p)) + i → AreJoined at (patches m) (merged_patches p) (patches (tables_with m i p))
-tables_joined m (merged.Object patch) i at l e =
-    same_joined at _ (patches_are m table.Object) (patches_are (tables_with m i (merged.Object patch)) table.Object) (mapped_joined any.Object m.objects.patches patch (before m table.Object) (behind m table.Object) i at l e)
-tables_joined m (merged.Medium patch) i at l e =
-    same_joined at _ (patches_are m table.Medium) (patches_are (tables_with m i (merged.Medium patch)) table.Medium) (mapped_joined any.Medium m.mediums.patches patch (before m table.Medium) (behind m table.Medium) i at l e)
-tables_joined m (merged.Address patch) i at l e =
-    same_joined at _ (patches_are m table.Address) (patches_are (tables_with m i (merged.Address patch)) table.Address) (mapped_joined any.Address m.addresses.patches patch (before m table.Address) (behind m table.Address) i at l e)
-tables_joined m (merged.Segment patch) i at l e =
-    same_joined at _ (patches_are m table.Segment) (patches_are (tables_with m i (merged.Segment patch)) table.Segment) (mapped_joined any.Segment m.segments.patches patch (before m table.Segment) (behind m table.Segment) i at l e)
-tables_joined m (merged.Elision patch) i at l e =
-    same_joined at _ (patches_are m table.Elision) (patches_are (tables_with m i (merged.Elision patch)) table.Elision) (mapped_joined any.Elision m.elisions.patches patch (before m table.Elision) (behind m table.Elision) i at l e)
+tables_joined m p i at l e =
+    let now : Tables = tables_with m i p in
+    subst (λ l. AreJoined at (patches m) (merged_patches p) l) (sym (patches_are now (table_of p))) (subst (λ l. AreJoined at l (merged_patches p) (before now (table_of p) ++ (own now (table_of p) ++ behind now (table_of p)))) (sym (patches_are m (table_of p)))
+    (between p l e))
+  where
+    between : (p : Merged) → i + 1 < patch_count m (table_of p) → at ≡ length (before m (table_of p)) + i → AreJoined at (before m (table_of p) ++ (own m (table_of p) ++ behind m (table_of p))) (merged_patches p)
+        (before (tables_with m i p) (table_of p) ++ (own (tables_with m i p) (table_of p) ++ behind (tables_with m i p) (table_of p)))
+    between (merged.Object patch) l e = mapped_joined any.Object m.objects.patches patch (before m table.Object) (behind m table.Object) i at l e
+    between (merged.Medium patch) l e = mapped_joined any.Medium m.mediums.patches patch (before m table.Medium) (behind m table.Medium) i at l e
+    between (merged.Address patch) l e = mapped_joined any.Address m.addresses.patches patch (before m table.Address) (behind m table.Address) i at l e
+    between (merged.Segment patch) l e = mapped_joined any.Segment m.segments.patches patch (before m table.Segment) (behind m table.Segment) i at l e
+    between (merged.Elision patch) l e = mapped_joined any.Elision m.elisions.patches patch (before m table.Elision) (behind m table.Elision) i at l e
 
 -- what is merged is there
 there : (m : Memory) (i : ℕ) (p : Merged) → IsMergedOf m i p → i + 1 < patch_count m.tables (table_of p)
@@ -77,11 +75,11 @@ there m i (merged.Elision patch) h = h.0
 pub joined_are_named : JoinedAreNamed
 joined_are_named slots units was m i p lawful named h = (memory, λ added all one j. zip_joined IsNamed named j memory one)
   where
-    v : AreNamedParts m.tables (table_of p) was
+    v : AreNamedParts (tag_of (table_of p)) was (before m.tables (table_of p)) (own m.tables (table_of p))
     v = named_parts slots units m.tables (table_of p) was lawful named
 
     place : place_in (table_of p) i was ≡ length (before m.tables (table_of p)) + i
-    place = ap (λ n. n + i) (lower_is (tag_of (table_of p)) was v.parts ∙ zip_long IsNamed v.parts.lower (before m.tables (table_of p)) v.lower)
+    place = ap (λ n. n + i) v.lower
 
     memory : AreJoined (place_in (table_of p) i was) (patches m.tables) (merged_patches p) (patches (tables_with m.tables i p))
     memory = tables_joined m.tables p i (place_in (table_of p) i was) (there m i p h) place

@@ -1,27 +1,22 @@
 -- What a record may say, it may say of the old patches and the new ones.
-use Rattle.std.proofs.Common.{◌≡◌, ℕ, zero, suc, ◌+◌, ◌^◌, ◌<◌, ◌≤◌, List, [], ◌∷◌, ◌++◌, length, refl, sym, ap, ◌∙◌, arith, subst, take, drop, sum_by}
+use Rattle.std.proofs.Common.{◌≡◌, ℕ, suc, ◌+◌, ◌^◌, ◌<◌, ◌≤◌, List, [], ◌∷◌, ◌++◌, length, refl, sym, ap, ◌∙◌, arith, subst, take, drop, sum_by}
 use Rattle.std.specs.List.{AllByRecursion}
 use Rattle.std.proofs.lemmas.List.{take-append-drop}
 use Rattle.std.proofs.lemmas.List.Concat.{length-flat_map}
 use Rattle.std.proofs.lemmas.List.Sums.{sum_by-cons}
-use Rattle.memory_spec.specs.Prelude.{Place, Patch, IsSegment, IsPatch, ByTagFrom, patch_segments, ArePlaces, all_append, all_append_left, all_append_right}
+use Rattle.memory_spec.specs.Prelude.{Place, Patch, PATCH_SEGMENTS, IsSegment, IsPatch, ArePatches, ByTagFrom, patch_segments, ArePlaces, all_append, all_append_left, all_append_right}
 use Rattle.record_tables.specs.Patches.{segments_for, counts_of, segments_from, new_patch, added_from, added_patches, by_tag}
 use Rattle.record_tables.specs.Laws.{NextPatchesAreLawful}
 use Rattle.record_tables.specs.lemmas.Lists.{all_weaker}
-use Rattle.record_tables.proofs.Woven.{Woven, woven_all, woven_sum}
-use Rattle.record_tables.proofs.Tags.{HaveTagsBelow, woven_in_order, ordered}
-use Rattle.record_tables.proofs.Added.{new_some, new_each, segments_long, patch_segments_are, taken_long, left_long, added_segments}
+use Rattle.record_tables.proofs.Woven.{Woven}
+use Rattle.record_tables.proofs.Replaced.{IsReplaced, added, replaced_all, replaced_sum}
+use Rattle.record_tables.proofs.Tags.{HaveTagsBelow, behind_tag, lower, woven_in_order, ordered}
+use Rattle.record_tables.proofs.Added.{new_each, segments_long, patch_segments_are, taken_long, left_long, added_segments}
 
 -- ---- tags
 
 new_by_tag : (tag n id : ℕ) (units : List (List Place)) (rest : List Patch) → ByTagFrom (tag + 1) rest → ByTagFrom tag (new_patch tag n id units ++ rest)
-new_by_tag tag zero id units [] h = tt
-new_by_tag tag zero id units (p ∷ rest) h = let low = h.0 in (omega (arith, low), h.1)
-new_by_tag tag (suc n) id units rest h = subst (λ ps. ByTagFrom tag (ps ++ rest)) (sym (new_some tag (suc n) id units (omega arith))) (omega arith, lower rest h)
-  where
-    lower : (ps : List Patch) → ByTagFrom (tag + 1) ps → ByTagFrom tag ps
-    lower [] h = tt
-    lower (p ∷ ps) h = let low = h.0 in (omega (arith, low), h.1)
+new_by_tag tag n id units rest h = behind_tag tag (new_patch tag n id units) rest (new_each (λ p. p.tag ≡ tag) tag n id units (λ some. refl)) (lower tag (tag + 1) rest (omega arith) h)
 
 pub added_by_tag : (tag : ℕ) (counts : List ℕ) (id : ℕ) (units : List (List Place)) → ByTagFrom tag (added_from tag counts id units)
 added_by_tag tag [] id units = tt
@@ -99,13 +94,19 @@ fewer slots units (p ∷ ps) h =
     let some = h.0.facts.0 in
     omega (arith, rest, room, some, sum_by-cons (λ (q : Patch). length q.segments) p ps)
 
+-- with new patches in the place of some of them
+pub replaced_lawful : (slots units : ℕ) {was gone new now : List Patch} → ArePatches slots units was → IsReplaced was gone new now → AllByRecursion (IsPatch slots units) new → ByTagFrom 1 now
+    → patch_segments now ≤ PATCH_SEGMENTS → ArePatches slots units now
+replaced_lawful slots units {now = now} lawful r each up room =
+    let all = replaced_all r (IsPatch slots units) lawful.each each in
+    let short = fewer slots units now all in
+    record { count = omega (arith, short, room); each = all; by_tag = up; room = room }
+
 pub next_patches_are_lawful : NextPatchesAreLawful
 next_patches_are_lawful slots units was counts first places lawful fit room each ids few =
     let new : List Patch = added_patches counts first places in
-    let woven : Woven was new (by_tag was new) = next_woven slots units was (counts_of counts) first places refl lawful.each lawful.by_tag in
-    let all : AllByRecursion (IsPatch slots units) (by_tag was new) =
-    woven_all (IsPatch slots units) was new (by_tag was new) woven lawful.each (added_lawful slots units 1 (counts_of counts) first places (omega arith) fit room each (omega (arith, ids))) in
-    let sum : patch_segments (by_tag was new) ≡ patch_segments was + length places =
-    woven_sum (λ p. length p.segments) was new (by_tag was new) woven ∙ ap (λ n. patch_segments was + n) (added_room 1 (counts_of counts) first places room) in
-    let short = fewer slots units (by_tag was new) all in
-    (record { count = omega (arith, short, sum, few); each = all; by_tag = ordered 1 5 was new; room = omega (arith, sum, few) }, sum)
+    let r : IsReplaced was [] new (by_tag was new) = added was new (by_tag was new) (next_woven slots units was (counts_of counts) first places refl lawful.each lawful.by_tag) in
+    let all = replaced_sum r (λ p. length p.segments) in
+    let own = added_room 1 (counts_of counts) first places room in
+    let sum : patch_segments (by_tag was new) ≡ patch_segments was + length places = omega (arith, all, own) in
+    (replaced_lawful slots units lawful r (added_lawful slots units 1 (counts_of counts) first places (omega arith) fit room each (omega (arith, ids))) (ordered 1 5 was new) (omega (arith, sum, few)), sum)

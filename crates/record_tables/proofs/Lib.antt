@@ -1,4 +1,5 @@
 pub mod Woven
+pub mod Replaced
 pub mod Tags
 pub mod Added
 pub mod Lawful

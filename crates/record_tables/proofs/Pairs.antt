@@ -1,20 +1,22 @@
 -- Two patches of a table in a record and in memory.
-use Rattle.std.proofs.Common.{◌≡◌, ℕ, ◌+◌, ◌^◌, ◌<◌, ◌≤◌, true, List, [], ◌++◌, length, get_or, map, take, drop, refl, ap, ◌∙◌, arith, subst, append-nil, append_assoc}
-use Rattle.std.specs.List.{AllByRecursion, AllZip}
+use Rattle.std.proofs.Common.{◌≡◌, ℕ, zero, suc, ◌+◌, ◌-◌, ◌^◌, ◌<◌, ◌≤◌, true, List, [], ◌∷◌, ◌++◌, length, get_or, map, take, drop, sym, ap, ◌∙◌, arith, subst, count_by, cond, nat_lt, ◌==◌}
+use Rattle.std.specs.List.{AllZip}
 use Rattle.std.proofs.Math.ListN.{get_or-map}
 use Rattle.std.proofs.lemmas.Bool.{lt-ltb, ltb-true}
-use Rattle.std.proofs.lemmas.Grind.{div_ceil_times}
-use Rattle.std.proofs.lemmas.List.{length-map}
+use Rattle.std.proofs.lemmas.Grind.{div_ceil_times, flat_map-append}
+use Rattle.std.proofs.lemmas.List.{drop_more, length-append, length-map, take-append-drop}
 use Rattle.std.proofs.lemmas.List.Elements.{Contains-get_or}
-use Rattle.memory_spec.specs.Prelude.{table_tag, tag_of, Table, AnyFact, FACTS_PER_SEGMENT, PATCH_SEGMENTS, Patch, IsPatch, ArePatches, patch_segments, Tables, patches, of_each, zip_long, has_pair, pair_segments, IsNamed, all_append, all_append_left, all_append_right}
+use Rattle.std.proofs.lemmas.List.Sums.{sum_by-append}
+use Rattle.memory_spec.specs.Prelude.{tag_of, Table, AnyFact, FACTS_PER_SEGMENT, PATCH_SEGMENTS, Patch, IsPatch, ArePatches, patch_segments, Tables, patches, of_each, of_filter, zip_long, has_pair, pair_segments, IsNamed}
 use Rattle.pur_base.specs.declared.request.Table.TheVariants as table
 use Rattle.pur_base.specs.declared.facts.AnyFact.TheVariants as any
 use Rattle.table_plan.specs.Prelude.{pair_facts, patch_count}
 use Rattle.record_tables.specs.Patches.{segments_for, of_tag}
 use Rattle.record_tables.specs.Joined.{PairsAreNamed}
-use Rattle.record_tables.specs.lemmas.Lists.{all_weaker, zip_split, zip_at}
-use Rattle.record_tables.proofs.Named.{AreFilled, tags_pass, all_pass}
-use Rattle.record_tables.proofs.Neighbours.{IsParting, own_is, no_patch, two_left, two_segments, few_segments}
+use Rattle.record_tables.specs.lemmas.Lists.{all_weaker, zip_at}
+use Rattle.record_tables.proofs.Named.{AreTables, all, five, five_are, named_tables, tables_from}
+use Rattle.record_tables.proofs.Tags.{HaveTag, of_tag_front, of_tag_rest}
+use Rattle.record_tables.proofs.Neighbours.{few_segments, lower_count, no_patch, none_lower, two_left, two_segments}
 
 -- ---- segments for facts
 
@@ -30,133 +32,71 @@ segments_for_both count a b l =
 fits : (count : ℕ) → segments_for count ≤ PATCH_SEGMENTS → count < 2 ^ 32
 fits count l = let x = (div_ceil_times count FACTS_PER_SEGMENT (omega arith)).0 in omega (arith, x, l)
 
--- ---- the patches of a table in memory
+-- ---- the patches of a table
 
-module _ (m : Tables) where
-  abbrev objects : List (List AnyFact)
-  objects = map (map any.Object) m.objects.patches
+-- those of memory by table
+abbrev pub tables_of : Tables → List (List (List AnyFact))
+tables_of m = five m.objects.patches m.mediums.patches m.addresses.patches m.segments.patches m.elisions.patches
 
-  abbrev mediums : List (List AnyFact)
-  mediums = map (map any.Medium) m.mediums.patches
+-- those of one, of lower ones and of higher ones
+abbrev pub own : Tables → Table → List (List AnyFact)
+own m t = get_or (tables_of m) (tag_of t - 1) []
 
-  abbrev addresses : List (List AnyFact)
-  addresses = map (map any.Address) m.addresses.patches
+abbrev pub before : Tables → Table → List (List AnyFact)
+before m t = all (take (tag_of t - 1) (tables_of m))
 
-  abbrev segments : List (List AnyFact)
-  segments = map (map any.Segment) m.segments.patches
+abbrev pub behind : Tables → Table → List (List AnyFact)
+behind m t = all (drop (tag_of t) (tables_of m))
 
-  abbrev elisions : List (List AnyFact)
-  elisions = map (map any.Elision) m.elisions.patches
+pub is_tag : (t : Table) → (1 ≤ tag_of t) × (tag_of t ≤ 5)
+is_tag table.Object = (omega arith, omega arith)
+is_tag table.Medium = (omega arith, omega arith)
+is_tag table.Address = (omega arith, omega arith)
+is_tag table.Segment = (omega arith, omega arith)
+is_tag table.Elision = (omega arith, omega arith)
 
-  -- those of lower tables
-  abbrev pub before : Table → List (List AnyFact)
-  before table.Object = []
-  before table.Medium = objects
-  before table.Address = objects ++ mediums
-  before table.Segment = objects ++ (mediums ++ addresses)
-  before table.Elision = objects ++ (mediums ++ (addresses ++ segments))
+-- these are all
+pub patches_are : (m : Tables) (t : Table) → patches m ≡ before m t ++ (own m t ++ behind m t)
+patches_are m t =
+    let is = is_tag t in
+    let ts : List (List (List AnyFact)) = tables_of m in
+    let next : tag_of t - 1 + 1 ≡ tag_of t = omega (arith, is) in
+    sym (five_are _ _ _ _ _)
+    ∙ ap all (sym (take-append-drop (tag_of t - 1) ts) ∙ ap (λ l. take (tag_of t - 1) ts ++ l) (drop_more ts (tag_of t - 1) [] (omega (arith, is)) ∙ ap (λ n. own m t ∷ drop n ts) next))
+    ∙ flat_map-append (λ (t : List (List AnyFact)). t) (take (tag_of t - 1) ts) (own m t ∷ drop (tag_of t) ts)
 
-  -- its own
-  abbrev pub own : Table → List (List AnyFact)
-  own table.Object = objects
-  own table.Medium = mediums
-  own table.Address = addresses
-  own table.Segment = segments
-  own table.Elision = elisions
+-- A record's patches of a table stand beside those of memory, and as many of lower tables as those of memory are before them.
+pub record AreNamedParts (tag : ℕ) (ps : List Patch) (before own : List (List AnyFact)) : Type 0 where
+  pub lower : count_by (λ p. nat_lt p.tag tag) ps ≡ length before
+  pub mine : AllZip IsNamed (of_tag tag ps) own
 
-  -- those of higher tables
-  abbrev pub behind : Table → List (List AnyFact)
-  behind table.Object = mediums ++ (addresses ++ (segments ++ elisions))
-  behind table.Medium = addresses ++ (segments ++ elisions)
-  behind table.Address = segments ++ elisions
-  behind table.Segment = elisions
-  behind table.Elision = []
-
-  -- these are all
-  pub patches_are : (t : Table) → patches m ≡ before t ++ (own t ++ behind t)
-  patches_are table.Object = refl
-  patches_are table.Medium = refl
-  patches_are table.Address = simp append_assoc
-  patches_are table.Segment = simp append_assoc
-  patches_are table.Elision = simp (append_assoc, append-nil)
-
-  -- what holds of the tag of each fact
-  abbrev Pass : (ℕ → Type 0) → List (List AnyFact) → Type 0
-  Pass P fss = AllByRecursion (λ fs. AllByRecursion (λ f. P (table_tag f)) fs) fss
-
-  both : (P : ℕ → Type 0) (xs ys : List (List AnyFact)) → Pass P xs → Pass P ys → Pass P (xs ++ ys)
-  both P xs ys h k = all_append (λ fs. AllByRecursion (λ f. P (table_tag f)) fs) xs ys h k
-
-  of_objects : (P : ℕ → Type 0) → P 1 → Pass P objects
-  of_objects P h = all_pass P any.Object (λ f. h) m.objects.patches
-
-  of_mediums : (P : ℕ → Type 0) → P 2 → Pass P mediums
-  of_mediums P h = all_pass P any.Medium (λ f. h) m.mediums.patches
-
-  of_addresses : (P : ℕ → Type 0) → P 3 → Pass P addresses
-  of_addresses P h = all_pass P any.Address (λ f. h) m.addresses.patches
-
-  of_segments : (P : ℕ → Type 0) → P 4 → Pass P segments
-  of_segments P h = all_pass P any.Segment (λ f. h) m.segments.patches
-
-  of_elisions : (P : ℕ → Type 0) → P 5 → Pass P elisions
-  of_elisions P h = all_pass P any.Elision (λ f. h) m.elisions.patches
-
-  -- their tags
-  before_lower : (t : Table) → Pass (λ k. k < tag_of t) (before t)
-  before_lower table.Object = tt
-  before_lower table.Medium = of_objects (λ k. k < 2) (omega arith)
-  before_lower table.Address = let P : ℕ → Type 0 = λ k. k < 3 in both P _ _ (of_objects P (omega arith)) (of_mediums P (omega arith))
-  before_lower table.Segment = let P : ℕ → Type 0 = λ k. k < 4 in both P _ _ (of_objects P (omega arith)) (both P _ _ (of_mediums P (omega arith)) (of_addresses P (omega arith)))
-  before_lower table.Elision =
-      let P : ℕ → Type 0 = λ k. k < 5 in
-      both P _ _ (of_objects P (omega arith)) (both P _ _ (of_mediums P (omega arith)) (both P _ _ (of_addresses P (omega arith)) (of_segments P (omega arith))))
-
-  own_same : (t : Table) → Pass (λ k. k ≡ tag_of t) (own t)
-  own_same table.Object = of_objects (λ k. k ≡ 1) refl
-  own_same table.Medium = of_mediums (λ k. k ≡ 2) refl
-  own_same table.Address = of_addresses (λ k. k ≡ 3) refl
-  own_same table.Segment = of_segments (λ k. k ≡ 4) refl
-  own_same table.Elision = of_elisions (λ k. k ≡ 5) refl
-
-  behind_higher : (t : Table) → Pass (λ k. tag_of t + 1 ≤ k) (behind t)
-  behind_higher table.Object =
-      let P : ℕ → Type 0 = λ k. 2 ≤ k in
-      both P _ _ (of_mediums P (omega arith)) (both P _ _ (of_addresses P (omega arith)) (both P _ _ (of_segments P (omega arith)) (of_elisions P (omega arith))))
-  behind_higher table.Medium = let P : ℕ → Type 0 = λ k. 3 ≤ k in both P _ _ (of_addresses P (omega arith)) (both P _ _ (of_segments P (omega arith)) (of_elisions P (omega arith)))
-  behind_higher table.Address = let P : ℕ → Type 0 = λ k. 4 ≤ k in both P _ _ (of_segments P (omega arith)) (of_elisions P (omega arith))
-  behind_higher table.Segment = of_elisions (λ k. 5 ≤ k) (omega arith)
-  behind_higher table.Elision = tt
-
--- ---- the patches of a table in a record that names those of memory
-
--- its parts stand beside those of memory
-pub record AreNamedParts (m : Tables) (t : Table) (was : List Patch) : Type 0 where
-  pub parts : IsParting (tag_of t) was
-  pub lower : AllZip IsNamed parts.lower (before m t)
-  pub mine : AllZip IsNamed parts.own (own m t)
-  pub higher : AllZip IsNamed parts.higher (behind m t)
-
-pub named_parts : (slots units : ℕ) (m : Tables) (t : Table) (was : List Patch) → ArePatches slots units was → AllZip IsNamed was (patches m) → AreNamedParts m t was
-named_parts slots units m t was lawful named =
-    let v = zip_split IsNamed was (before m t) (own m t ++ behind m t) (subst (λ l. AllZip IsNamed was l) (patches_are m t) named) in
-    let w = zip_split IsNamed v.rest (own m t) (behind m t) v.second in
-    let some : AreFilled (v.front ++ v.rest) = subst (λ l. AreFilled l) v.whole (all_weaker (IsPatch slots units) (λ q. 1 ≤ q.facts) (λ q l. l.facts.0) was lawful.each) in
-    let others : AreFilled (w.front ++ w.rest) = subst (λ l. AreFilled l) w.whole (all_append_right (λ q. 1 ≤ q.facts) v.front v.rest some) in
+parts_at : (tag own k : ℕ) (ps : List Patch) (ts : List (List (List AnyFact))) → own ≡ tag + k → k < length ts → AreTables IsNamed tag ps ts → AreNamedParts own ps (all (take k ts)) (get_or ts k [])
+parts_at tag own k ps [] e l h = absurd (omega (arith, l))
+parts_at tag own zero ps (t ∷ ts) e l h =
+    let same : HaveTag own h.0 = all_weaker (λ p. p.tag ≡ tag) (λ p. p.tag ≡ own) (λ p is. omega (arith, is, e)) h.0 h.3 in
+    let above = tables_from IsNamed (tag + 1) (own + 1) h.1 ts (omega (arith, e)) h.5 in
     record {
-      parts = record {
-        lower = v.front;
-        own = w.front;
-        higher = w.rest;
-        whole = v.whole ∙ ap (λ l. v.front ++ l) w.whole;
-        below = tags_pass (λ k. k < tag_of t) v.front (before m t) (all_append_left (λ q. 1 ≤ q.facts) v.front v.rest some) v.first (before_lower m t);
-        same = tags_pass (λ k. k ≡ tag_of t) w.front (own m t) (all_append_left (λ q. 1 ≤ q.facts) w.front w.rest others) w.first (own_same m t);
-        above = tags_pass (λ k. tag_of t + 1 ≤ k) w.rest (behind m t) (all_append_right (λ q. 1 ≤ q.facts) w.front w.rest others) w.second (behind_higher m t);
-      };
-      lower = v.first;
-      mine = w.first;
-      higher = w.second;
+      lower = none_lower own ps (tables_from IsNamed tag own ps (t ∷ ts) (omega (arith, e)) h);
+      mine = subst (λ l. AllZip IsNamed l t) (sym (ap (λ l. of_tag own l) h.2 ∙ of_tag_front own h.0 h.1 same above)) h.4;
     }
+parts_at tag own (suc k) ps (t ∷ ts) e l h =
+    let w = parts_at (tag + 1) own k h.1 ts (omega (arith, e)) (omega (arith, l)) h.5 in
+    let first = lower_count own h.0 (all_weaker (λ p. p.tag ≡ tag) (λ p. p.tag < own) (λ p is. omega (arith, is, e)) h.0 h.3) in
+    let split = sum_by-append (λ (q : Patch). cond (nat_lt q.tag own) 1 0) h.0 h.1 in
+    let long = zip_long IsNamed h.0 t h.4 in
+    let both = length-append t (all (take k ts)) in
+    let others = w.lower in
+    record {
+      lower = ap (λ l. count_by (λ p. nat_lt p.tag own) l) h.2 ∙ omega (arith, first, split, long, both, others);
+      mine = subst (λ l. AllZip IsNamed l (get_or ts k [])) (sym (ap (λ l. of_tag own l) h.2 ∙ of_tag_rest own tag h.0 h.1 (omega (arith, e)) h.3)) w.mine;
+    }
+
+pub named_parts : (slots units : ℕ) (m : Tables) (t : Table) (was : List Patch) → ArePatches slots units was → AllZip IsNamed was (patches m) → AreNamedParts (tag_of t) was (before m t) (own m t)
+named_parts slots units m t was lawful named =
+    let is = is_tag t in
+    parts_at 1 (tag_of t) (tag_of t - 1) was (tables_of m) (omega (arith, is)) (omega (arith, is))
+    (named_tables m.objects.patches m.mediums.patches m.addresses.patches m.segments.patches m.elisions.patches IsNamed was (patches m) (five_are _ _ _ _ _)
+    (all_weaker (IsPatch slots units) (λ q. 1 ≤ q.facts) (λ q l. l.facts.0) was lawful.each) named named)
 
 -- ---- how many patches and facts
 
@@ -187,51 +127,44 @@ own_facts m table.Elision i = pair_count any.Elision m.elisions.patches i
 -- ---- the pair
 
 module _ (slots units : ℕ) (was : List Patch) (m : Tables) (t : Table) (i : ℕ) (lawful : ArePatches slots units was) (named : AllZip IsNamed was (patches m)) where
-  v : AreNamedParts m t was
-  v = named_parts slots units m t was lawful named
+  abbrev Mine : List Patch
+  Mine = of_tag (tag_of t) was
 
-  mine : length (of_tag (tag_of t) was) ≡ length v.parts.own
-  mine = ap length (own_is (tag_of t) was v.parts)
+  beside : AllZip IsNamed Mine (own m t)
+  beside = (named_parts slots units m t was lawful named).mine
 
-  long : length v.parts.own ≡ length (own m t)
-  long = zip_long IsNamed v.parts.own (own m t) v.mine
-
-  count : length (own m t) ≡ patch_count m t
-  count = own_count m t
+  count : length Mine ≡ patch_count m t
+  count = zip_long IsNamed Mine (own m t) beside ∙ own_count m t
 
   -- each of the two has segments for its facts
-  named_at : (at : ℕ) → at < length v.parts.own → length (get_or v.parts.own at no_patch).segments ≡ segments_for (length (get_or (own m t) at []))
+  named_at : (at : ℕ) → at < length Mine → length (get_or Mine at no_patch).segments ≡ segments_for (length (get_or (own m t) at []))
   named_at at l =
-      let p = get_or v.parts.own at no_patch in
-      let each = subst (λ ps. AllByRecursion (IsPatch slots units) ps) v.parts.whole lawful.each in
-      let mine = all_append_left (IsPatch slots units) v.parts.own v.parts.higher (all_append_right (IsPatch slots units) v.parts.lower (v.parts.own ++ v.parts.higher) each) in
-      let is = of_each (IsPatch slots units) v.parts.own p mine (Contains-get_or v.parts.own at no_patch l) in
-      is.room ∙ ap segments_for (zip_at IsNamed v.parts.own (own m t) at no_patch [] v.mine l).count
+      let p = get_or Mine at no_patch in
+      (of_each (IsPatch slots units) was p lawful.each (of_filter (λ q. q.tag == tag_of t) was p (Contains-get_or Mine at no_patch l))).room
+      ∙ ap segments_for (zip_at IsNamed Mine (own m t) at no_patch [] beside l).count
 
   -- so the pair has segments for the facts of both
   pair_room : has_pair t i was ≡ true → pair_segments t i was ≡ segments_for (length (get_or (own m t) i [])) + segments_for (length (get_or (own m t) (i + 1) []))
   pair_room has =
-      let l = ltb-true (i + 1) (length (of_tag (tag_of t) was)) has in
-      let enough : i + 1 < length v.parts.own = omega (arith, l, mine) in
-      ap (λ ps. patch_segments (take 2 (drop i ps))) (own_is (tag_of t) was v.parts)
-      ∙ ap (λ ps. patch_segments (take 2 ps)) (two_left v.parts.own i no_patch enough)
-      ∙ two_segments (get_or v.parts.own i no_patch) (get_or v.parts.own (i + 1) no_patch)
-      ∙ ap (λ n. n + length (get_or v.parts.own (i + 1) no_patch).segments) (named_at i (omega (arith, enough)))
-      ∙ ap (λ n. segments_for (length (get_or (own m t) i [])) + n) (named_at (i + 1) enough)
+      let enough : i + 1 < length Mine = ltb-true (i + 1) (length Mine) has in
+      let older = named_at i (omega (arith, enough)) in
+      let newer = named_at (i + 1) enough in
+      let two = ap (λ ps. patch_segments (take 2 ps)) (two_left Mine i no_patch enough) ∙ two_segments (get_or Mine i no_patch) (get_or Mine (i + 1) no_patch) in
+      omega (arith, two, older, newer)
 
   pub pair_named : (has_pair t i was ≡ true → i + 1 < patch_count m t)
       × (i + 1 < patch_count m t → has_pair t i was ≡ true)
       × ((n : ℕ) → has_pair t i was ≡ true → n ≤ pair_facts m t i → (segments_for n ≤ pair_segments t i was) × (n < 2 ^ 32))
   pair_named = (
-    λ has. let l = ltb-true (i + 1) (length (of_tag (tag_of t) was)) has in omega (arith, l, mine, long, count),
-    λ l. lt-ltb (i + 1) (length (of_tag (tag_of t) was)) (omega (arith, l, mine, long, count)),
+    λ has. let l = ltb-true (i + 1) (length Mine) has in omega (arith, l, count),
+    λ l. lt-ltb (i + 1) (length Mine) (omega (arith, l, count)),
     λ n has few.
         let facts = own_facts m t i in
+        let both = segments_for_both n (length (get_or (own m t) i [])) (length (get_or (own m t) (i + 1) [])) (omega (arith, few, facts)) in
         let room = pair_room has in
         let most = few_segments t i was in
         let record_room = lawful.room in
-        let some : segments_for n ≤ pair_segments t i was = (let both = segments_for_both n (length (get_or (own m t) i [])) (length (get_or (own m t) (i + 1) [])) (omega (arith, few, facts)) in omega (arith, both, room)) in
-        (some, fits n (omega (arith, some, most, record_room))),
+        (omega (arith, both, room), fits n (omega (arith, both, room, most, record_room))),
   )
 
 pub pairs_are_named : PairsAreNamed

@@ -1,9 +1,9 @@
 -- Patches by their tags: how the old ones and the new ones of each table stand together.
-use Rattle.std.proofs.Common.{◌≡◌, ◌≢◌, ℕ, zero, suc, ◌+◌, ◌<◌, ◌≤◌, Bool, ◌==◌, List, [], ◌∷◌, ◌++◌, refl, sym, ap, ◌∙◌, arith, inl, inr, subst, cond, true, false, append-nil, eq-eqb, ne_eqb}
+use Rattle.std.proofs.Common.{◌≡◌, ◌≢◌, ℕ, zero, suc, ◌+◌, ◌<◌, ◌≤◌, ◌==◌, List, [], ◌∷◌, ◌++◌, refl, sym, ap, ◌∙◌, arith, inl, inr, subst, cond, append-nil, eq-eqb, ne_eqb}
 use Rattle.std.specs.List.{AllByRecursion, flat_map, range_with_len}
 use Rattle.std.proofs.lemmas.Bool.{cases_lt, eqb-true}
 use Rattle.std.proofs.lemmas.List.Elements.{filter-append}
-use Rattle.memory_spec.specs.Prelude.{Patch, ByTagFrom, all_append, all_append_right}
+use Rattle.memory_spec.specs.Prelude.{Patch, ByTagFrom, all_append, all_append_right, each_by_recursion, passes_filter}
 use Rattle.record_tables.specs.Patches.{of_tag}
 use Rattle.record_tables.specs.lemmas.Lists.{all_weaker}
 use Rattle.record_tables.proofs.Woven.{Woven, woven_append, woven_joined}
@@ -37,12 +37,7 @@ of_tag_none tag (p ∷ ps) h =
     ap (λ b. cond b (p ∷ of_tag tag ps) (of_tag tag ps)) (ne_eqb p.tag tag h.0) ∙ of_tag_none tag ps h.1
 
 pub of_tag_has : (tag : ℕ) (ps : List Patch) → HaveTag tag (of_tag tag ps)
-of_tag_has tag [] = tt
-of_tag_has tag (p ∷ ps) = one (p.tag == tag) refl (of_tag_has tag ps)
-  where
-    one : (b : Bool) → (p.tag == tag) ≡ b → HaveTag tag (of_tag tag ps) → HaveTag tag (cond b (p ∷ of_tag tag ps) (of_tag tag ps))
-    one true e rest = (eqb-true p.tag tag e, rest)
-    one false e rest = rest
+of_tag_has tag ps = each_by_recursion (λ p. p.tag ≡ tag) (of_tag tag ps) (λ p c. eqb-true p.tag tag (passes_filter (λ q. q.tag == tag) ps p c))
 
 -- the table's patches stand in front
 pub of_tag_front : (tag : ℕ) (front rest : List Patch) → HaveTag tag front → HaveTagsFrom (tag + 1) rest → of_tag tag (front ++ rest) ≡ front

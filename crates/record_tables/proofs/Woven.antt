@@ -86,14 +86,33 @@ module _ {X : Type 0} where
   woven_joined [] (b ∷ rs) = inr (rs, refl, woven_joined [] rs)
   woven_joined (a ∷ ls) rs = inl (ls, refl, woven_joined ls rs)
 
+  -- one list alone
+  pub woven_alone : (ls : List X) → Woven ls [] ls
+  woven_alone [] = (refl, refl)
+  woven_alone (x ∷ ls) = inl (ls, refl, woven_alone ls)
+
   -- one list between two parts of the other
   pub woven_between : (ls ns rs : List X) → Woven (ls ++ rs) ns (ls ++ (ns ++ rs))
-  woven_between ls ns rs = woven_left ls rs ns (ns ++ rs) (before ns rs)
-    where
-      before : (ns rs : List X) → Woven rs ns (ns ++ rs)
-      before [] [] = (refl, refl)
-      before [] (r ∷ rs) = inl (rs, refl, before [] rs)
-      before (n ∷ ns) rs = inr (ns, refl, before ns rs)
+  woven_between (x ∷ ls) ns rs = inl (ls ++ rs, refl, woven_between ls ns rs)
+  woven_between [] (n ∷ ns) rs = inr (ns, refl, woven_between [] ns rs)
+  woven_between [] [] rs = woven_alone rs
+
+  -- the elements of the first are among all,
+  pub woven_in : (ls rs xs : List X) → Woven ls rs xs → (y : X) → Contains ls y → Contains xs y
+  woven_in ls rs [] w y c = subst (λ l. Contains l y) w.0 c
+  woven_in ls rs (x ∷ xs) w y c = elim w [
+    | inl v ↦ elim (either x y v.0 (subst (λ l. Contains l y) v.1 c)) [ inl same ↦ subst (λ z. Contains (x ∷ xs) z) (sym same) (here x xs) | inr d ↦ there x y xs (woven_in v.0 rs xs v.2 y d) ]
+    | inr v ↦ there x y xs (woven_in ls v.0 xs v.2 y c)
+  ]
+
+  -- and so are each two of them
+  pub woven_left_pairs : (R : X → X → Type 0) (ls rs xs : List X) → Woven ls rs xs → AllPairs R xs → AllPairs R ls
+  woven_left_pairs R ls rs [] w p = subst (λ l. AllPairs R l) (sym w.0) p
+  woven_left_pairs R ls rs (x ∷ xs) w p = elim w [
+    | inl v ↦ subst (λ l. AllPairs R l) (sym v.1)
+        (cons_pairs R x v.0 (λ y c. pairs_head R x xs p y (woven_in v.0 rs xs v.2 y c)) (woven_left_pairs R v.0 rs xs v.2 (pairs_tail R x xs p)))
+    | inr v ↦ woven_left_pairs R ls v.0 xs v.2 (pairs_tail R x xs p)
+  ]
 
 pub woven_map : {X Y : Type 0} (f : X → Y) (ls rs xs : List X) → Woven ls rs xs → Woven (map f ls) (map f rs) (map f xs)
 woven_map f ls rs [] w = rw (w.0, w.1) (refl, refl)

@@ -268,7 +268,7 @@ module _ (contents : Contents) (was now : Memory) (flags : List Bool) (newest : 
   planned_sound = shrunk_sound Placed now placed_is_sound shrunk
 
   pub planned_elided : (t : Table) (id : ℕ) → is_elided (facts now.tables).elisions t id ≡ is_elided (facts was.tables).elisions t id
-  planned_elided t id = shrunk.same_elided t id
+  planned_elided t id = shrunk.facts.same_elided t id
 
   -- ---- no fact names a staged sector any more
 

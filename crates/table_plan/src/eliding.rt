@@ -48,8 +48,7 @@ pub fn stored_ids(
     if elisions.unflushed().is_empty() {
         return Ok(None);
     }
-    let ids = elided_by(alloc, elisions.patches())?;
-    Ok(Some(ids))
+    Ok(Some(elided_by(alloc, elisions.patches())?))
 }
 
 /// The range that has an id.

@@ -60,23 +60,25 @@ module _ (was now : Memory) (s : IsSound was) (h : IsFlush was now) where
 
 pub flush_shrinks : FlushShrinks
 flush_shrinks was now s h = record {
-  objects = flushed_within object_key (λ f. f.seq.0) was.tables.objects now.tables.objects h.objects;
-  mediums = flushed_within medium_key (λ f. f.seq.0) was.tables.mediums now.tables.mediums h.mediums;
-  addresses = flushed_within address_key (λ f. f.seq.0) was.tables.addresses now.tables.addresses h.addresses;
-  segments = flushed_within segment_key (λ f. f.seq.0) was.tables.segments now.tables.segments h.segments;
-  elisions = flushed_within elision_key (λ f. f.seq.0) was.tables.elisions now.tables.elisions h.elisions;
-  same = record {
-    objects = λ id. flushed_says object_key (λ f. f.seq.0) was.tables.objects now.tables.objects h.objects never (is_elided (facts was.tables).elisions table.Object) (is_elided (facts now.tables).elisions table.Object)
-        (same_elided was now s h table.Object) (key_of id 0);
-    ranges = λ m start. flushed_says medium_key (λ f. f.seq.0) was.tables.mediums now.tables.mediums h.mediums is_empty_range (is_elided (facts was.tables).elisions table.Medium) (is_elided (facts now.tables).elisions table.Medium)
-        (same_elided was now s h table.Medium) (key_of m start);
-    addresses = λ m x. ap (λ o. option_map (λ (f : AddressFact). f.target) o)
-        (flushed_says address_key (λ f. f.seq.0) was.tables.addresses now.tables.addresses h.addresses never (is_elided (facts was.tables).elisions table.Address) (is_elided (facts now.tables).elisions table.Address)
-        (same_elided was now s h table.Address) (key_of m x));
+  facts = record {
+    objects = flushed_within object_key (λ f. f.seq.0) was.tables.objects now.tables.objects h.objects;
+    mediums = flushed_within medium_key (λ f. f.seq.0) was.tables.mediums now.tables.mediums h.mediums;
+    addresses = flushed_within address_key (λ f. f.seq.0) was.tables.addresses now.tables.addresses h.addresses;
+    segments = flushed_within segment_key (λ f. f.seq.0) was.tables.segments now.tables.segments h.segments;
+    elisions = flushed_within elision_key (λ f. f.seq.0) was.tables.elisions now.tables.elisions h.elisions;
+    same = record {
+      objects = λ id. flushed_says object_key (λ f. f.seq.0) was.tables.objects now.tables.objects h.objects never (is_elided (facts was.tables).elisions table.Object) (is_elided (facts now.tables).elisions table.Object)
+          (same_elided was now s h table.Object) (key_of id 0);
+      ranges = λ m start. flushed_says medium_key (λ f. f.seq.0) was.tables.mediums now.tables.mediums h.mediums is_empty_range (is_elided (facts was.tables).elisions table.Medium) (is_elided (facts now.tables).elisions table.Medium)
+          (same_elided was now s h table.Medium) (key_of m start);
+      addresses = λ m x. ap (λ o. option_map (λ (f : AddressFact). f.target) o)
+          (flushed_says address_key (λ f. f.seq.0) was.tables.addresses now.tables.addresses h.addresses never (is_elided (facts was.tables).elisions table.Address) (is_elided (facts now.tables).elisions table.Address)
+          (same_elided was now s h table.Address) (key_of m x));
+    };
+    same_segments = λ id. flushed_says segment_key (λ f. f.seq.0) was.tables.segments now.tables.segments h.segments never (is_elided (facts was.tables).elisions table.Segment) (is_elided (facts now.tables).elisions table.Segment)
+        (same_elided was now s h table.Segment) (key_of id 0);
+    same_elided = same_elided was now s h;
   };
-  same_segments = λ id. flushed_says segment_key (λ f. f.seq.0) was.tables.segments now.tables.segments h.segments never (is_elided (facts was.tables).elisions table.Segment) (is_elided (facts now.tables).elisions table.Segment)
-      (same_elided was now s h table.Segment) (key_of id 0);
-  same_elided = same_elided was now s h;
   staged = h.staged;
   next = h.next;
 }

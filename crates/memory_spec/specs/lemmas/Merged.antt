@@ -12,8 +12,8 @@ use Rattle.pyramid.proofs.PlaceLemmas.{replaced, facts_patches, facts_replaced, 
 use Rattle.memory_spec.specs.Tables.{Tables, facts, flushed}
 use Rattle.memory_spec.specs.Memory.{Memory}
 use Rattle.memory_spec.specs.Whole.{AreLayered}
-use Rattle.memory_spec.specs.Flushing.{AreOf}
-use Rattle.memory_spec.specs.Merging.{HaveShrunk, IsTableMerged, IsTableRewritten, IsCompacted, IsMerge, MergeShrinks, OneMergeIsMerge}
+use Rattle.memory_spec.specs.Flushing.{AreOf, HaveShrunk}
+use Rattle.memory_spec.specs.Merging.{IsTableMerged, IsTableRewritten, IsCompacted, IsMerge, MergeShrinks, OneMergeIsMerge}
 use Rattle.memory_spec.specs.lemmas.Elided.{says_where}
 use Rattle.memory_spec.specs.lemmas.Flushed.{grows_all}
 
@@ -145,67 +145,14 @@ module _ (was now : Memory) (l : AreLayered was.tables) (h : IsMerge was now) (g
       }
 
 pub merge_shrinks : MergeShrinks
-merge_shrinks was now s l h =
-    let shrunk = facts_shrink was now l h (grows_all (facts was.tables).elisions s.elisions) in
-    record {
-      objects = shrunk.objects;
-      mediums = shrunk.mediums;
-      addresses = shrunk.addresses;
-      segments = shrunk.segments;
-      elisions = shrunk.elisions;
-      same = shrunk.same;
-      same_segments = shrunk.same_segments;
-      same_elided = shrunk.same_elided;
-      staged = h.staged;
-      next = h.next;
-    }
+merge_shrinks was now s l h = record { facts = facts_shrink was now l h (grows_all (facts was.tables).elisions s.elisions); staged = h.staged; next = h.next }
 
 -- ---- one merge
 
--- where tables are as they were but for one, so are the facts of the others
+-- the other tables are as they were
 pub one_merge_is_merge : OneMergeIsMerge
-one_merge_is_merge table.Object i was now h = record {
-  objects = inr (inl h.0);
-  mediums = inl (ap (λ (m : Memory). facts_in m.tables.mediums) h.2);
-  addresses = inl (ap (λ (m : Memory). facts_in m.tables.addresses) h.2);
-  segments = inl (ap (λ (m : Memory). facts_in m.tables.segments) h.2);
-  elisions = inl (ap (λ (m : Memory). facts_in m.tables.elisions) h.2);
-  staged = ap (λ (m : Memory). m.staged) h.2;
-  next = ap (λ (m : Memory). m.next) h.2;
-}
-one_merge_is_merge table.Medium i was now h = record {
-  objects = inl (ap (λ (m : Memory). facts_in m.tables.objects) h.2);
-  mediums = inr (inl h.0);
-  addresses = inl (ap (λ (m : Memory). facts_in m.tables.addresses) h.2);
-  segments = inl (ap (λ (m : Memory). facts_in m.tables.segments) h.2);
-  elisions = inl (ap (λ (m : Memory). facts_in m.tables.elisions) h.2);
-  staged = ap (λ (m : Memory). m.staged) h.2;
-  next = ap (λ (m : Memory). m.next) h.2;
-}
-one_merge_is_merge table.Address i was now h = record {
-  objects = inl (ap (λ (m : Memory). facts_in m.tables.objects) h.2);
-  mediums = inl (ap (λ (m : Memory). facts_in m.tables.mediums) h.2);
-  addresses = inr (inl h.0);
-  segments = inl (ap (λ (m : Memory). facts_in m.tables.segments) h.2);
-  elisions = inl (ap (λ (m : Memory). facts_in m.tables.elisions) h.2);
-  staged = ap (λ (m : Memory). m.staged) h.2;
-  next = ap (λ (m : Memory). m.next) h.2;
-}
-one_merge_is_merge table.Segment i was now h = record {
-  objects = inl (ap (λ (m : Memory). facts_in m.tables.objects) h.2);
-  mediums = inl (ap (λ (m : Memory). facts_in m.tables.mediums) h.2);
-  addresses = inl (ap (λ (m : Memory). facts_in m.tables.addresses) h.2);
-  segments = inr (inl h.0);
-  elisions = inl (ap (λ (m : Memory). facts_in m.tables.elisions) h.2);
-  staged = ap (λ (m : Memory). m.staged) h.2;
-  next = ap (λ (m : Memory). m.next) h.2;
-}
-one_merge_is_merge table.Elision i was now h = record {
-  objects = inl (ap (λ (m : Memory). facts_in m.tables.objects) h.2);
-  mediums = inl (ap (λ (m : Memory). facts_in m.tables.mediums) h.2);
-  addresses = inl (ap (λ (m : Memory). facts_in m.tables.addresses) h.2);
-  segments = inl (ap (λ (m : Memory). facts_in m.tables.segments) h.2);
-  elisions = inr (inl h.0);
-  staged = ap (λ (m : Memory). m.staged) h.2;
-  next = ap (λ (m : Memory). m.next) h.2;
-}
+one_merge_is_merge table.Object i was now h = subst (λ n. IsMerge was n) (sym h.2) (record { objects = inr (inl h.0); mediums = inl refl; addresses = inl refl; segments = inl refl; elisions = inl refl; staged = refl; next = refl })
+one_merge_is_merge table.Medium i was now h = subst (λ n. IsMerge was n) (sym h.2) (record { objects = inl refl; mediums = inr (inl h.0); addresses = inl refl; segments = inl refl; elisions = inl refl; staged = refl; next = refl })
+one_merge_is_merge table.Address i was now h = subst (λ n. IsMerge was n) (sym h.2) (record { objects = inl refl; mediums = inl refl; addresses = inr (inl h.0); segments = inl refl; elisions = inl refl; staged = refl; next = refl })
+one_merge_is_merge table.Segment i was now h = subst (λ n. IsMerge was n) (sym h.2) (record { objects = inl refl; mediums = inl refl; addresses = inl refl; segments = inr (inl h.0); elisions = inl refl; staged = refl; next = refl })
+one_merge_is_merge table.Elision i was now h = subst (λ n. IsMerge was n) (sym h.2) (record { objects = inl refl; mediums = inl refl; addresses = inl refl; segments = inl refl; elisions = inr (inl h.0); staged = refl; next = refl })

@@ -38,36 +38,36 @@ fewer_elisions old new within h = record {
 module _ (was now : Memory) (s : IsSound was) (h : IsShrunk was now) where
   within : (a : AnyFact) → Contains (all_of (facts now.tables)) a → Contains (all_of (facts was.tables)) a
   within = of_all (facts now.tables) (λ a. Contains (all_of (facts was.tables)) a)
-      (λ x c. all_objects (facts was.tables) x (h.objects x c))
-      (λ x c. all_mediums (facts was.tables) x (h.mediums x c))
-      (λ x c. all_addresses (facts was.tables) x (h.addresses x c))
-      (λ x c. all_segments (facts was.tables) x (h.segments x c))
-      (λ x c. all_elisions (facts was.tables) x (h.elisions x c))
+      (λ x c. all_objects (facts was.tables) x (h.facts.objects x c))
+      (λ x c. all_mediums (facts was.tables) x (h.facts.mediums x c))
+      (λ x c. all_addresses (facts was.tables) x (h.facts.addresses x c))
+      (λ x c. all_segments (facts was.tables) x (h.facts.segments x c))
+      (λ x c. all_elisions (facts was.tables) x (h.facts.elisions x c))
 
   fewer : {F : Type 0} (P : F → Type 0) (old new : List F) → AreOf old new → AllByRecursion P old → AllByRecursion P new
   fewer P old new in_old all = each_by_recursion P new (λ f c. of_each P old f all (in_old f c))
 
   ids : AreIdsBelow now.next (facts now.tables)
   ids = subst (λ n. AreIdsBelow n (facts now.tables)) (sym h.next) (record {
-    objects = fewer (λ (f : ObjectFact). (f.object.0 < was.next.object) × (f.medium.0 < was.next.medium)) (facts was.tables).objects (facts now.tables).objects h.objects s.ids.objects;
-    mediums = fewer (λ (f : MediumFact). f.medium.0 < was.next.medium) (facts was.tables).mediums (facts now.tables).mediums h.mediums s.ids.mediums;
-    addresses = fewer (λ (f : AddressFact). f.medium.0 < was.next.medium) (facts was.tables).addresses (facts now.tables).addresses h.addresses s.ids.addresses;
-    segments = fewer (λ (f : SegmentFact). f.segment.0 < was.next.segment) (facts was.tables).segments (facts now.tables).segments h.segments s.ids.segments;
-    elisions = fewer (λ (f : ElisionFact). f.last < next_id was.next f.table) (facts was.tables).elisions (facts now.tables).elisions h.elisions s.ids.elisions;
+    objects = fewer (λ (f : ObjectFact). (f.object.0 < was.next.object) × (f.medium.0 < was.next.medium)) (facts was.tables).objects (facts now.tables).objects h.facts.objects s.ids.objects;
+    mediums = fewer (λ (f : MediumFact). f.medium.0 < was.next.medium) (facts was.tables).mediums (facts now.tables).mediums h.facts.mediums s.ids.mediums;
+    addresses = fewer (λ (f : AddressFact). f.medium.0 < was.next.medium) (facts was.tables).addresses (facts now.tables).addresses h.facts.addresses s.ids.addresses;
+    segments = fewer (λ (f : SegmentFact). f.segment.0 < was.next.segment) (facts was.tables).segments (facts now.tables).segments h.facts.segments s.ids.segments;
+    elisions = fewer (λ (f : ElisionFact). f.last < next_id was.next f.table) (facts was.tables).elisions (facts now.tables).elisions h.facts.elisions s.ids.elisions;
   })
 
   visible : objects (facts now.tables) was.next.object ≡ objects (facts was.tables) was.next.object
-  visible = same_objects (facts was.tables) (facts now.tables) h.same.objects was.next.object
+  visible = same_objects (facts was.tables) (facts now.tables) h.facts.same.objects was.next.object
 
   sound_objects : AreObjectsSound (facts now.tables) was.next.object
   sound_objects = record {
     names = subst (λ l. AllPairs (λ x y. x.name ≢ y.name) l) (sym visible) s.objects.names;
     mediums = subst (λ l. AllPairs (λ x y. OwnsMedium x y × OwnsMedium y x) l) (sym visible) s.objects.mediums;
     range_kept = subst (λ l. AllByRecursion (λ x. is_elided (facts now.tables).elisions table.Medium x.medium.0 ≡ false) l) (sym visible)
-        (each_by_recursion (λ x. is_elided (facts now.tables).elisions table.Medium x.medium.0 ≡ false) (objects (facts was.tables) was.next.object) (λ x c. h.same_elided table.Medium x.medium.0
+        (each_by_recursion (λ x. is_elided (facts now.tables).elisions table.Medium x.medium.0 ≡ false) (objects (facts was.tables) was.next.object) (λ x c. h.facts.same_elided table.Medium x.medium.0
         ∙ of_each (λ x. is_elided (facts was.tables).elisions table.Medium x.medium.0 ≡ false) (objects (facts was.tables) was.next.object) x s.objects.range_kept c));
     address_kept = subst (λ l. AllByRecursion (λ x. is_elided (facts now.tables).elisions table.Address x.medium.0 ≡ false) l) (sym visible)
-        (each_by_recursion (λ x. is_elided (facts now.tables).elisions table.Address x.medium.0 ≡ false) (objects (facts was.tables) was.next.object) (λ x c. h.same_elided table.Address x.medium.0
+        (each_by_recursion (λ x. is_elided (facts now.tables).elisions table.Address x.medium.0 ≡ false) (objects (facts was.tables) was.next.object) (λ x c. h.facts.same_elided table.Address x.medium.0
         ∙ of_each (λ x. is_elided (facts was.tables).elisions table.Address x.medium.0 ≡ false) (objects (facts was.tables) was.next.object) x s.objects.address_kept c));
     most = subst (λ (l : List ObjectFact). length l ≤ OBJECTS) (sym visible) s.objects.most;
   }
@@ -75,7 +75,7 @@ module _ (was now : Memory) (s : IsSound was) (h : IsShrunk was now) where
   still_there : (at : Location) → IsThere was at → IsThere now at
   still_there at there = elim there [
     | inl p ↦ inl (p.0, subst (λ (l : List (List ℕ)). at.index < length l) (sym h.staged) p.1)
-    | inr d ↦ inr (d.0, h.same_segments at.segment.0 ∙ d.1, d.2)
+    | inr d ↦ inr (d.0, h.facts.same_segments at.segment.0 ∙ d.1, d.2)
   ]
 
   pub shrunk_sound : IsSound now
@@ -85,12 +85,12 @@ module _ (was now : Memory) (s : IsSound was) (h : IsShrunk was now) where
     sectors = λ x c. s.sectors x (subst (λ l. Contains l x) h.staged c);
     ids = ids;
     objects = subst (λ (n : NextNumbers). AreObjectsSound (facts now.tables) n.object) (sym h.next) sound_objects;
-    mediums = mediums_sound (facts was.tables) (facts now.tables) h.same.objects h.same.ranges s.mediums;
+    mediums = mediums_sound (facts was.tables) (facts now.tables) h.facts.same.objects h.facts.same.ranges s.mediums;
     addresses = record {
-      there = λ m x at e. still_there at (s.addresses.there m x at (sym (h.same.addresses m x) ∙ e));
-      within = λ id x y e l some. s.addresses.within id x y (sym (h.same.objects id) ∙ e) l (ap is_some (sym (h.same.addresses y.medium.0 x)) ∙ some);
+      there = λ m x at e. still_there at (s.addresses.there m x at (sym (h.facts.same.addresses m x) ∙ e));
+      within = λ id x y e l some. s.addresses.within id x y (sym (h.facts.same.objects id) ∙ e) l (ap is_some (sym (h.facts.same.addresses y.medium.0 x)) ∙ some);
     };
-    elisions = fewer_elisions (facts was.tables).elisions (facts now.tables).elisions h.elisions s.elisions;
+    elisions = fewer_elisions (facts was.tables).elisions (facts now.tables).elisions h.facts.elisions s.elisions;
     numbers = record {
       below = λ f c. subst (λ (n : NextNumbers). any_number f < n.sequence) (sym h.next) (s.numbers.below f (within f c));
       distinct = λ f g c d e. s.numbers.distinct f g (within f c) (within g d) e;
@@ -102,5 +102,5 @@ shrinking_reads contents was now array r h = record {
   sound = shrunk_sound was now r.sound h;
   reads = subst (λ l. FactsRead contents l (facts now.tables) now.next.object array) (sym h.staged)
       (subst (λ (n : NextNumbers). FactsRead contents was.staged (facts now.tables) n.object array) (sym h.next)
-      (same_reads contents was.staged (facts was.tables) (facts now.tables) was.next.object array h.same r.reads));
+      (same_reads contents was.staged (facts was.tables) (facts now.tables) was.next.object array h.facts.same r.reads));
 }

@@ -5,14 +5,6 @@ use Rattle.std.proofs.lemmas.List.Elements.{Contains-append_left, Contains-appen
 use Rattle.std.proofs.lemmas.List.Kept.{AllPairs-cons}
 use Rattle.memory_spec.specs.Prelude.{here, there, either, nowhere, all_contained}
 
--- ---- some left out
-
-pub contains_without : {X : Type 0} (xs ys zs : List X) (x : X) → Contains (xs ++ zs) x → Contains (xs ++ (ys ++ zs)) x
-contains_without xs ys zs x c = elim (Contains-append_cases xs zs x c) [
-  | inl a ↦ Contains-append_left xs (ys ++ zs) x a
-  | inr b ↦ Contains-append_right xs (ys ++ zs) x (Contains-append_right ys zs x b)
-]
-
 -- ---- each element
 
 pub all_weaker : {X : Type 0} (P Q : X → Type 0) → ((x : X) → P x → Q x) → (xs : List X) → AllByRecursion P xs → AllByRecursion Q xs
@@ -54,12 +46,6 @@ module _ {X : Type 0} (R : X → X → Type 0) where
     | inl same ↦ subst (λ w. R w y) (sym same) (pairs_head z (xs ++ ys) h y (Contains-append_right xs ys y d))
     | inr rest ↦ pairs_across xs ys (pairs_tail z (xs ++ ys) h) x y rest d
   ]
-
-  -- without those between
-  pub pairs_without : (xs ys zs : List X) → AllPairs R (xs ++ (ys ++ zs)) → AllPairs R (xs ++ zs)
-  pairs_without xs ys zs h =
-      pairs_append xs zs (pairs_front xs (ys ++ zs) h) (pairs_back ys zs (pairs_back xs (ys ++ zs) h))
-      (λ x y c d. pairs_across xs (ys ++ zs) h x y c (Contains-append_right ys zs y d))
 
   -- the other way round
   pub pairs_swapped : ((x y : X) → R x y → R y x) → (xs ys : List X) → AllPairs R (xs ++ ys) → AllPairs R (ys ++ xs)
