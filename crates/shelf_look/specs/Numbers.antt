@@ -1,7 +1,7 @@
 -- The numbers of an array that can be opened, by the definitions that a status of it has.
 use Rattle.std.specs.Prelude.{◌≡◌, ℕ, ◌-◌, List, length}
 use Rattle.std.specs.List.{sum_by}
-use Rattle.session_spec.specs.Prelude.{segments, SegmentFact, patch_segments, LOG_SLOTS, IsGroups, free_of_members, all_facts, facts, patches, set_flags}
+use Rattle.session_spec.specs.Prelude.{segments, SegmentFact, patch_segments, LOG_SLOTS, IsGroups, free_of_members, all_facts, facts, patches, set_count}
 use Rattle.shelf_look.specs.declared.finding.Opening.{Opening}
 use Rattle.shelf_look.specs.declared.numbers.Numbers.{Numbers}
 
@@ -16,10 +16,10 @@ HasGroups o groups = IsGroups (free_of_members o.loaded.record (all_facts (patch
 -- The record's generation, devices and patches, the room that it leaves, the data segments, and the free slots of the log.
 pub record AreNumbersOf (o : Opening) (n : Numbers) : Type 0 where
   pub generation : n.generation ≡ o.loaded.record.generation
-  pub drives : n.drives ≡ set_flags o.loaded.record.members.drives
-  pub holding : n.holding ≡ set_flags o.loaded.drives
-  pub nvrams : n.nvrams ≡ set_flags o.loaded.record.members.nvrams
-  pub answering : n.answering ≡ set_flags o.log.members
+  pub drives : n.drives ≡ set_count o.loaded.record.members.drives
+  pub holding : n.holding ≡ set_count o.loaded.drives
+  pub nvrams : n.nvrams ≡ set_count o.loaded.record.members.nvrams
+  pub answering : n.answering ≡ set_count o.log.members
   pub groups : HasGroups o n.groups
   pub segments : n.segments ≡ length (segments_of o)
   pub placed : n.placed ≡ sum_by (λ d. d.placed) (segments_of o)

@@ -31,13 +31,6 @@ impl TableCounts {
     {
         TableCounts { visible, ..self }
     }
-
-    /// With a patch of so many facts in so many segments more.
-    fn add(&mut self, facts: u32, segments: usize) {
-        self.patches = self.patches.saturating_add(1);
-        self.segments = self.segments.saturating_add(segments);
-        self.facts = self.facts.saturating_add(u64::from(facts));
-    }
 }
 
 /// What the record says of the patches of each table, by tag.
@@ -47,7 +40,10 @@ fn named_by(patches: &Patches) -> [TableCounts; TABLES] {
         let patch = patches.at(index);
         let tag = usize::from(patch.tag);
         if let Some(table) = counts.get_mut(tag.saturating_sub(1)) {
-            table.add(patch.facts, patch.segments.as_slice().len());
+            let segments = patch.segments.as_slice().len();
+            table.patches = table.patches.saturating_add(1);
+            table.segments = table.segments.saturating_add(segments);
+            table.facts = table.facts.saturating_add(u64::from(patch.facts));
         }
     }
     counts

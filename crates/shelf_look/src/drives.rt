@@ -1,6 +1,6 @@
 // What each drive showed.
 ghost use Rattle.std.specs.Prelude.{◌≡◌, ◌<◌, ◌≤◌, length};
-ghost use Rattle.shelf_look.specs.Looking.{AreStates, is_held_by, is_named_by, state_at, state_of};
+ghost use Rattle.shelf_look.specs.Looking.{AreStates, state_at, state_of};
 
 use crate::record::RecordSeen;
 use boot_codec::DRIVE_FLAGS;
@@ -33,35 +33,20 @@ fn state_of(is_named: bool, is_holding: bool, has_answered: bool) -> DriveState
     }
 }
 
-/// Whether the record names a drive. Where there is none, each shows another one or none.
-fn is_named(seen: &Option<RecordSeen>, slot: usize) -> bool
-    requires { slot < DRIVE_FLAGS }
-    ensures { result ≡ is_named_by seen.now slot }
-{
-    match seen {
-        Some(record) => record.members.drives[slot],
-        None => true,
-    }
-}
-
-/// Whether a drive holds the record.
-fn is_held(seen: &Option<RecordSeen>, slot: usize) -> bool
-    requires { slot < DRIVE_FLAGS }
-    ensures { result ≡ is_held_by seen.now slot }
-{
-    match seen {
-        Some(record) => record.holding[slot],
-        None => false,
-    }
-}
-
-/// What the drive of a slot showed.
+/// What the drive of a slot showed. Where there is no record, each shows another one or none.
 #[tactic(auto, unfolding(crate::specs::Looking::state_at))]
 fn state_at(seen: &Option<RecordSeen>, answered: &[bool], slot: usize) -> DriveState
     requires { (slot < DRIVE_FLAGS) × (slot < length answered.now) }
     ensures { result ≡ state_at seen.now answered.now slot }
 {
-    state_of(is_named(seen, slot), is_held(seen, slot), answered[slot])
+    match seen {
+        Some(record) => state_of(
+            record.members.drives[slot],
+            record.holding[slot],
+            answered[slot],
+        ),
+        None => state_of(true, false, answered[slot]),
+    }
 }
 
 /// What each drive showed, where these answered.

@@ -6,7 +6,7 @@ ghost use Rattle.shelf_look.specs.Found.{IsFoundOf};
 
 use crate::counts::{TableCounts, counts_of};
 use crate::numbers::{Numbers, numbers_of};
-use crate::objects::{ObjectSeen, SegmentSeen, count_named, count_stored, objects_in, segments_in};
+use crate::objects::{ObjectSeen, SegmentSeen, objects_of, segments_of};
 use crate::units::{Units, units_of};
 use crate::{Opening, Waiting};
 use boot_codec::NVRAM_FLAGS;
@@ -31,32 +31,6 @@ pub struct Found {
     pub units: Units,
 }
 
-/// The objects of an opening, and how many of their sectors the tables say.
-fn objects_of(alloc: Global, opening: &Opening) -> Result<Vec<ObjectSeen>, NoMemory> {
-    let mut objects = objects_in(alloc, &opening.memory)?;
-    count_stored(&mut objects, &opening.visible.addresses);
-    Ok(objects)
-}
-
-/// Its data segments, and how many of their sectors a visible address names.
-fn segments_of(alloc: Global, opening: &Opening) -> Result<Vec<SegmentSeen>, NoMemory> {
-    let mut segments = segments_in(alloc, &opening.memory)?;
-    count_named(&mut segments, &opening.visible.addresses);
-    Ok(segments)
-}
-
-/// What stands in each unit of its drives.
-fn units_in(alloc: Global, opening: &Opening) -> Result<Units, NoMemory> {
-    let record = &opening.loaded.record;
-    units_of(
-        alloc,
-        record.slots,
-        record.units,
-        &record.patches,
-        opening.memory.segments(),
-    )
-}
-
 /// What is told of an opening.
 pub fn found_of(alloc: Global, opening: &Opening) -> Result<Found, NoMemory>
     requires { (shelf : Geometry) × IsOpeningIn shelf opening.now }
@@ -66,7 +40,7 @@ pub fn found_of(alloc: Global, opening: &Opening) -> Result<Found, NoMemory>
     let tables = counts_of(opening);
     let objects = objects_of(alloc, opening)?;
     let segments = segments_of(alloc, opening)?;
-    let units = units_in(alloc, opening)?;
+    let units = units_of(alloc, opening)?;
     Ok(Found {
         numbers,
         nvrams: opening.log.members(),

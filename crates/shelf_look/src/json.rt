@@ -1,11 +1,10 @@
 // A look as one JSON object.
-use crate::page::{Page, name_text};
-use crate::picture::{count_of, put_bar};
-use crate::slot_ranges::{Logs, SlotRange, front_of, log_len, range_to};
+use crate::page::name_text;
+use crate::picture::{bar_of, count_of};
+use crate::slot_ranges::{Logs, front_of, log_len, range_to};
 use crate::texts::{TABLES, cause_text, kind_text, said_of_drive, said_of_nvram, slot_text};
 use crate::{
-    Cause, Found, Looked, Numbers, ObjectSeen, RecordSeen, SegmentSeen, TableCounts, There, Unit,
-    Waiting,
+    Found, Looked, Numbers, ObjectSeen, RecordSeen, SegmentSeen, TableCounts, There, Unit,
 };
 use boot_codec::{DRIVE_FLAGS, NVRAM_FLAGS};
 use log_codec::LOG_SLOTS;
@@ -13,321 +12,257 @@ use pur_base::NoMemory;
 use serde_json::{Map, Value, put};
 use std::alloc::{AllocError, Global};
 
-/// The members of an object. That memory ran out is told at its end.
+/// The members of an object, or the items of a list. That memory ran out is told at its end.
 #[derive(Drop)]
-struct Members {
-    map: Map<String, Value>,
+struct Parts {
+    alloc: Global,
+    members: Map<String, Value>,
+    items: Vec<Value>,
     has_failed: bool,
 }
 
-impl Members {
-    fn new(alloc: Global) -> Members {
-        Members {
-            map: Map::new(alloc),
+impl Parts {
+    fn new(alloc: Global) -> Parts {
+        Parts {
+            alloc,
+            members: Map::new(alloc),
+            items: Vec::new(alloc),
             has_failed: false,
         }
     }
 
-    fn add(&mut self, alloc: Global, key: &str, value: Result<Value, AllocError>) {
+    /// Adds a member.
+    fn add(&mut self, key: &str, value: Result<Value, AllocError>) {
         let is_done = match value {
-            Ok(value) => put(&mut self.map, alloc, key, value).is_ok(),
+            Ok(value) => put(&mut self.members, self.alloc, key, value).is_ok(),
             Err(_) => false,
         };
         self.has_failed = self.has_failed || !is_done;
     }
 
-    fn add_text(&mut self, alloc: Global, key: &str, text: &str) {
-        self.add(alloc, key, Value::try_from_str(alloc, text));
+    fn add_number(&mut self, key: &str, number: u64) {
+        self.add(key, Ok(Value::from(number)));
     }
 
-    /// Adds numbers under their names.
-    fn add_numbers(&mut self, alloc: Global, numbers: &[(&str, u64)]) {
-        for (key, number) in numbers {
-            self.add(alloc, *key, Ok(Value::from(*number)));
-        }
+    fn add_text(&mut self, key: &str, text: &str) {
+        self.add(key, Value::try_from_str(self.alloc, text));
     }
 
-    fn end(self) -> Result<Value, AllocError> {
-        let Members { map, has_failed } = self;
-        if has_failed {
-            Err(AllocError)
-        } else {
-            Ok(Value::Object(map))
-        }
-    }
-}
-
-/// The items of a list. That memory ran out is told at its end.
-#[derive(Drop)]
-struct Items {
-    all: Vec<Value>,
-    has_failed: bool,
-}
-
-impl Items {
-    fn new(alloc: Global) -> Items {
-        Items {
-            all: Vec::new(alloc),
-            has_failed: false,
-        }
-    }
-
-    fn add(&mut self, value: Result<Value, AllocError>) {
+    /// Adds an item.
+    fn push(&mut self, value: Result<Value, AllocError>) {
         let is_done = match value {
-            Ok(value) => self.all.push(value).is_ok(),
+            Ok(value) => self.items.push(value).is_ok(),
             Err(_) => false,
         };
         self.has_failed = self.has_failed || !is_done;
     }
 
-    fn end(self) -> Result<Value, AllocError> {
-        let Items { all, has_failed } = self;
+    /// The object of the members.
+    fn object(self) -> Result<Value, AllocError> {
+        let Parts {
+            members,
+            has_failed,
+            ..
+        } = self;
         if has_failed {
             Err(AllocError)
         } else {
-            Ok(Value::Array(all))
+            Ok(Value::Object(members))
         }
     }
-}
 
-/// An object of numbers.
-fn numbers_of(alloc: Global, numbers: &[(&str, u64)]) -> Result<Value, AllocError> {
-    let mut members = Members::new(alloc);
-    members.add_numbers(alloc, numbers);
-    members.end()
+    /// The list of the items.
+    fn list(self) -> Result<Value, AllocError> {
+        let Parts {
+            items,
+            has_failed,
+            ..
+        } = self;
+        if has_failed {
+            Err(AllocError)
+        } else {
+            Ok(Value::Array(items))
+        }
+    }
 }
 
 fn flags_of(alloc: Global, flags: &[bool]) -> Result<Value, AllocError> {
-    let mut items = Items::new(alloc);
+    let mut list = Parts::new(alloc);
     for flag in flags {
-        items.add(Ok(Value::Bool(*flag)));
+        list.push(Ok(Value::Bool(*flag)));
     }
-    items.end()
+    list.list()
 }
 
-fn record_of(alloc: Global, record: &RecordSeen) -> Result<Value, AllocError> {
-    let mut members = Members::new(alloc);
-    members.add_numbers(alloc, &[("generation", record.generation)]);
-    members.add_text(alloc, "slot", slot_text(record.slot));
-    members.add(alloc, "drives", flags_of(alloc, &record.members.drives));
-    members.add(alloc, "nvrams", flags_of(alloc, &record.members.nvrams));
-    members.add(alloc, "holding", flags_of(alloc, &record.holding));
-    members.end()
+fn record_of(alloc: Global, seen: &Option<RecordSeen>) -> Result<Value, AllocError> {
+    let Some(record) = seen else {
+        return Ok(Value::Null);
+    };
+    let mut object = Parts::new(alloc);
+    object.add_number("generation", record.generation);
+    object.add_text("slot", slot_text(record.slot));
+    object.add("drives", flags_of(alloc, &record.members.drives));
+    object.add("nvrams", flags_of(alloc, &record.members.nvrams));
+    object.add("holding", flags_of(alloc, &record.holding));
+    object.object()
 }
 
 /// A word for each drive.
 fn drives_of(alloc: Global, looked: &Looked, there: &There) -> Result<Value, AllocError> {
-    let mut items = Items::new(alloc);
+    let mut list = Parts::new(alloc);
     let count = usize::from(looked.slots).min(DRIVE_FLAGS);
     for slot in 0..count {
         let said = said_of_drive(looked.drives[slot], there.drives[slot]);
-        items.add(Value::try_from_str(alloc, said.word));
+        list.push(Value::try_from_str(alloc, said.word));
     }
-    items.end()
+    list.list()
 }
 
 /// A word for each NVRAM device, where there is a record.
 fn nvrams_of(alloc: Global, looked: &Looked, there: &There) -> Result<Value, AllocError> {
-    let mut items = Items::new(alloc);
+    let mut list = Parts::new(alloc);
     if let Some(record) = &looked.record {
         let count = log_len(&looked.logs);
         for device in 0..NVRAM_FLAGS {
             let is_named = record.members.nvrams[device];
             let said = said_of_nvram(&looked.logs[device], count, is_named, there.nvrams[device]);
-            items.add(Value::try_from_str(alloc, said.word));
+            list.push(Value::try_from_str(alloc, said.word));
         }
     }
-    items.end()
+    list.list()
 }
 
 /// How many commands each NVRAM device shows in front of the first slot in which it shows none.
 fn logs_of(alloc: Global, logs: &Logs) -> Result<Value, AllocError> {
-    let mut items = Items::new(alloc);
+    let mut list = Parts::new(alloc);
     for log in logs {
         match log {
-            Some(slots) => items.add(Ok(Value::from(front_of(slots)))),
-            None => items.add(Ok(Value::Null)),
+            Some(slots) => list.push(Ok(Value::from(front_of(slots)))),
+            None => list.push(Ok(Value::Null)),
         }
     }
-    items.end()
-}
-
-fn range_of(alloc: Global, range: &SlotRange, last: usize) -> Result<Value, AllocError> {
-    let mut members = Members::new(alloc);
-    members.add_numbers(
-        alloc,
-        &[("first", range.first as u64), ("last", last as u64)],
-    );
-    members.add(alloc, "nvrams", flags_of(alloc, &range.on));
-    members.end()
+    list.list()
 }
 
 /// The slots in which commands of the log stand, and on which devices.
 fn slots_of(alloc: Global, logs: &Logs) -> Result<Value, AllocError> {
-    let mut items = Items::new(alloc);
+    let mut list = Parts::new(alloc);
     for last in 0..LOG_SLOTS {
         if let Some(range) = range_to(logs, last) {
-            items.add(range_of(alloc, &range, last));
+            let mut object = Parts::new(alloc);
+            object.add_number("first", range.first as u64);
+            object.add_number("last", last as u64);
+            object.add("nvrams", flags_of(alloc, &range.on));
+            list.push(object.object());
         }
     }
-    items.end()
+    list.list()
 }
 
 fn status_of(alloc: Global, n: &Numbers) -> Result<Value, AllocError> {
-    numbers_of(
-        alloc,
-        &[
-            ("generation", n.generation),
-            ("drives", n.drives as u64),
-            ("holding", n.holding as u64),
-            ("nvrams", n.nvrams as u64),
-            ("answering", n.answering as u64),
-            ("groups", u64::from(n.groups)),
-            ("segments", n.segments as u64),
-            ("placed", n.placed),
-            ("patch_segments", n.patch_segments as u64),
-            ("free_slots", n.free_slots as u64),
-        ],
-    )
-}
-
-fn waiting_of(alloc: Global, w: &Waiting) -> Result<Value, AllocError> {
-    numbers_of(
-        alloc,
-        &[
-            ("creates", w.creates as u64),
-            ("writes", w.writes as u64),
-            ("fills", w.fills as u64),
-        ],
-    )
-}
-
-fn bar_of(alloc: Global, units: &[Unit]) -> Result<Value, AllocError> {
-    let mut page = Page::new(alloc);
-    put_bar(&mut page, units);
-    match page.end() {
-        Ok(text) => Ok(Value::String(text)),
-        Err(NoMemory) => Err(AllocError),
-    }
-}
-
-fn drive_of(alloc: Global, units: &[Unit]) -> Result<Value, AllocError> {
-    let mut members = Members::new(alloc);
-    members.add_numbers(alloc, &[("free", count_of(units, Unit::Free) as u64)]);
-    members.add(alloc, "bar", bar_of(alloc, units));
-    members.end()
+    let mut object = Parts::new(alloc);
+    object.add_number("generation", n.generation);
+    object.add_number("drives", n.drives as u64);
+    object.add_number("holding", n.holding as u64);
+    object.add_number("nvrams", n.nvrams as u64);
+    object.add_number("answering", n.answering as u64);
+    object.add_number("groups", u64::from(n.groups));
+    object.add_number("segments", n.segments as u64);
+    object.add_number("placed", n.placed);
+    object.add_number("patch_segments", n.patch_segments as u64);
+    object.add_number("free_slots", n.free_slots as u64);
+    object.object()
 }
 
 fn units_of(alloc: Global, slots: u8, found: &Found) -> Result<Value, AllocError> {
-    let mut items = Items::new(alloc);
+    let mut list = Parts::new(alloc);
     for slot in 0..slots {
-        items.add(drive_of(alloc, found.units.of_drive(slot)));
+        let units = found.units.of_drive(slot);
+        let mut object = Parts::new(alloc);
+        object.add_number("free", count_of(units, Unit::Free) as u64);
+        object.add_text("bar", bar_of(units).text());
+        list.push(object.object());
     }
-    items.end()
-}
-
-fn table_of(alloc: Global, table: &str, t: &TableCounts) -> Result<Value, AllocError> {
-    let numbers = [
-        ("patches", t.patches as u64),
-        ("segments", t.segments as u64),
-        ("facts", t.facts),
-        ("visible", t.visible as u64),
-    ];
-    let mut members = Members::new(alloc);
-    members.add_text(alloc, "table", table);
-    members.add_numbers(alloc, &numbers);
-    members.end()
+    list.list()
 }
 
 fn tables_of(alloc: Global, tables: &[TableCounts; 5]) -> Result<Value, AllocError> {
-    let mut items = Items::new(alloc);
+    let mut list = Parts::new(alloc);
     for i in 0..5 {
-        items.add(table_of(alloc, TABLES[i], &tables[i]));
+        let table = &tables[i];
+        let mut object = Parts::new(alloc);
+        object.add_text("table", TABLES[i]);
+        object.add_number("patches", table.patches as u64);
+        object.add_number("segments", table.segments as u64);
+        object.add_number("facts", table.facts);
+        object.add_number("visible", table.visible as u64);
+        list.push(object.object());
     }
-    items.end()
+    list.list()
 }
 
 fn segments_of(alloc: Global, segments: &[SegmentSeen]) -> Result<Value, AllocError> {
-    let mut items = Items::new(alloc);
+    let mut list = Parts::new(alloc);
     for seen in segments {
-        let numbers = [
-            ("segment", seen.segment.segment.0),
-            ("placed", u64::from(seen.segment.placed)),
-            ("named", u64::from(seen.named)),
-        ];
-        items.add(numbers_of(alloc, &numbers));
+        let mut object = Parts::new(alloc);
+        object.add_number("segment", seen.segment.segment.0);
+        object.add_number("placed", u64::from(seen.segment.placed));
+        object.add_number("named", u64::from(seen.named));
+        list.push(object.object());
     }
-    items.end()
-}
-
-fn object_of(alloc: Global, seen: &ObjectSeen) -> Result<Value, AllocError> {
-    let numbers = [
-        ("sectors", u64::from(seen.object.sectors)),
-        ("stored", u64::from(seen.stored)),
-    ];
-    let mut members = Members::new(alloc);
-    members.add_text(alloc, "name", name_text(&seen.object.name));
-    members.add_text(alloc, "kind", kind_text(seen.object.kind));
-    members.add_numbers(alloc, &numbers);
-    members.end()
+    list.list()
 }
 
 fn objects_of(alloc: Global, objects: &[ObjectSeen]) -> Result<Value, AllocError> {
-    let mut items = Items::new(alloc);
+    let mut list = Parts::new(alloc);
     for seen in objects {
-        items.add(object_of(alloc, seen));
+        let mut object = Parts::new(alloc);
+        object.add_text("name", name_text(&seen.object.name));
+        object.add_text("kind", kind_text(seen.object.kind));
+        object.add_number("sectors", u64::from(seen.object.sectors));
+        object.add_number("stored", u64::from(seen.stored));
+        list.push(object.object());
     }
-    items.end()
+    list.list()
 }
 
 /// What an opening would find.
 fn found_of(alloc: Global, slots: u8, found: &Found) -> Result<Value, AllocError> {
-    let mut members = Members::new(alloc);
-    members.add(alloc, "numbers", status_of(alloc, &found.numbers));
-    members.add(alloc, "nvrams", flags_of(alloc, &found.nvrams));
-    members.add(alloc, "waiting", waiting_of(alloc, &found.waiting));
-    members.add(alloc, "tables", tables_of(alloc, &found.tables));
-    members.add(alloc, "segments", segments_of(alloc, &found.segments));
-    members.add(alloc, "objects", objects_of(alloc, &found.objects));
-    members.add(alloc, "units", units_of(alloc, slots, found));
-    members.end()
-}
-
-/// Adds what an opening would find, or why it would find no array.
-fn add_outcome(members: &mut Members, alloc: Global, slots: u8, outcome: &Result<Found, Cause>) {
-    match outcome {
-        Ok(found) => {
-            members.add(alloc, "cause", Ok(Value::Null));
-            members.add(alloc, "found", found_of(alloc, slots, found));
-        }
-        Err(cause) => {
-            members.add_text(alloc, "cause", cause_text(cause));
-            members.add(alloc, "found", Ok(Value::Null));
-        }
-    }
-}
-
-fn add_record(members: &mut Members, alloc: Global, record: &Option<RecordSeen>) {
-    match record {
-        Some(record) => members.add(alloc, "record", record_of(alloc, record)),
-        None => members.add(alloc, "record", Ok(Value::Null)),
-    }
+    let mut waiting = Parts::new(alloc);
+    waiting.add_number("creates", found.waiting.creates as u64);
+    waiting.add_number("writes", found.waiting.writes as u64);
+    waiting.add_number("fills", found.waiting.fills as u64);
+    let mut object = Parts::new(alloc);
+    object.add("numbers", status_of(alloc, &found.numbers));
+    object.add("nvrams", flags_of(alloc, &found.nvrams));
+    object.add("waiting", waiting.object());
+    object.add("tables", tables_of(alloc, &found.tables));
+    object.add("segments", segments_of(alloc, &found.segments));
+    object.add("objects", objects_of(alloc, &found.objects));
+    object.add("units", units_of(alloc, slots, found));
+    object.object()
 }
 
 fn look_of(alloc: Global, looked: &Looked, there: &There) -> Result<Value, AllocError> {
-    let numbers = [
-        ("slots", u64::from(looked.slots)),
-        ("units", u64::from(looked.units)),
-    ];
-    let mut members = Members::new(alloc);
-    members.add_numbers(alloc, &numbers);
-    members.add(alloc, "drives", drives_of(alloc, looked, there));
-    members.add(alloc, "nvrams", nvrams_of(alloc, looked, there));
-    members.add(alloc, "logs", logs_of(alloc, &looked.logs));
-    members.add(alloc, "log_slots", slots_of(alloc, &looked.logs));
-    add_record(&mut members, alloc, &looked.record);
-    add_outcome(&mut members, alloc, looked.slots, &looked.found);
-    members.end()
+    let mut object = Parts::new(alloc);
+    object.add_number("slots", u64::from(looked.slots));
+    object.add_number("units", u64::from(looked.units));
+    object.add("drives", drives_of(alloc, looked, there));
+    object.add("nvrams", nvrams_of(alloc, looked, there));
+    object.add("logs", logs_of(alloc, &looked.logs));
+    object.add("log_slots", slots_of(alloc, &looked.logs));
+    object.add("record", record_of(alloc, &looked.record));
+    match &looked.found {
+        Ok(found) => {
+            object.add("cause", Ok(Value::Null));
+            object.add("found", found_of(alloc, looked.slots, found));
+        }
+        Err(cause) => {
+            object.add_text("cause", cause_text(cause));
+            object.add("found", Ok(Value::Null));
+        }
+    }
+    object.object()
 }
 
 /// A look as one JSON object, on a line.

@@ -4,7 +4,7 @@ ghost use Rattle.std.specs.List.{sum_by};
 ghost use Rattle.pur_base.specs.Devices.{Geometry};
 ghost use Rattle.boot_codec.specs.Record.{patch_segments, set_count};
 ghost use Rattle.boot_codec.specs.declared.limits.TheConstants.{PATCH_SEGMENTS};
-ghost use Rattle.session_spec.specs.Faring.{set_flags};
+ghost use Rattle.boot_codec.specs.Record.{set_count};
 ghost use Rattle.shelf_look.specs.Opening.{IsOpeningIn};
 ghost use Rattle.shelf_look.specs.Numbers.{AreNumbersOf};
 
@@ -37,9 +37,13 @@ pub struct Numbers {
 
 /// How many of the flags are set.
 pub fn set_flags(flags: &[bool]) -> usize
-    ensures { result ≡ set_flags flags.now }
+    ensures { result ≡ set_count flags.now }
 {
-    flags.iter().filter(|flag| **flag).count()
+    let mut count = 0;
+    for flag in flags {
+        count += usize::from(*flag);
+    }
+    count
 }
 
 /// How many sectors were placed in the segments.

@@ -1,7 +1,7 @@
 // The objects that the tables show, and what their data segments hold.
 ghost use Rattle.std.specs.Prelude.{◌≤◌, length};
 
-use array_memory::Memory;
+use crate::Opening;
 use pur_base::{AddressFact, MediumId, NoMemory, ObjectFact, SegmentFact, SegmentId, Target};
 use std::alloc::Global;
 
@@ -19,29 +19,6 @@ pub struct SegmentSeen {
     pub named: u32,
 }
 
-/// The visible objects, in order of creation, of none of which a sector was counted.
-pub fn objects_in(alloc: Global, memory: &Memory) -> Result<Vec<ObjectSeen>, NoMemory> {
-    let mut objects = Vec::new(alloc);
-    for i in 0..memory.len() {
-        if let Some(object) = memory.at(i) {
-            objects.push(ObjectSeen { object, stored: 0 })?;
-        }
-    }
-    Ok(objects)
-}
-
-/// The visible data segments, by ascending id, of none of which a sector was counted.
-pub fn segments_in(alloc: Global, memory: &Memory) -> Result<Vec<SegmentSeen>, NoMemory> {
-    let mut segments = Vec::new(alloc);
-    for segment in memory.segments() {
-        segments.push(SegmentSeen {
-            segment: *segment,
-            named: 0,
-        })?;
-    }
-    Ok(segments)
-}
-
 /// Which of the objects reads as the medium, if one does.
 fn object_of(objects: &[ObjectSeen], medium: MediumId) -> Option<usize> {
     for i in 0..objects.len() {
@@ -53,7 +30,7 @@ fn object_of(objects: &[ObjectSeen], medium: MediumId) -> Option<usize> {
 }
 
 /// Counts the sectors that the addresses say, of each object. Those of one medium stand mostly together, so its object is looked up once.
-pub fn count_stored(objects: &mut [ObjectSeen], addresses: &[AddressFact]) {
+fn count_stored(objects: &mut [ObjectSeen], addresses: &[AddressFact]) {
     let mut medium = MediumId(0);
     let mut at = None;
     for address in addresses {
@@ -86,21 +63,41 @@ fn start_of(segments: &[SegmentSeen], id: SegmentId) -> usize
     low
 }
 
-/// Counts a sector of the segment of that id, if it is among these, which ascend.
-fn count_in(segments: &mut [SegmentSeen], id: SegmentId) {
-    let at = start_of(segments, id);
-    if let Some(seen) = segments.get_mut(at) {
-        if seen.segment.segment == id {
-            seen.named = seen.named.saturating_add(1);
+/// Counts the sectors that the addresses name, of each of the segments, which ascend.
+fn count_named(segments: &mut [SegmentSeen], addresses: &[AddressFact]) {
+    for address in addresses {
+        if let Target::Stored(place) = address.target {
+            let at = start_of(segments, place.segment);
+            if let Some(seen) = segments.get_mut(at) {
+                if seen.segment.segment == place.segment {
+                    seen.named = seen.named.saturating_add(1);
+                }
+            }
         }
     }
 }
 
-/// Counts the sectors that the addresses name, of each segment.
-pub fn count_named(segments: &mut [SegmentSeen], addresses: &[AddressFact]) {
-    for address in addresses {
-        if let Target::Stored(place) = address.target {
-            count_in(segments, place.segment);
+/// The visible objects of an opening, in order of creation, and how many of their sectors the tables say.
+pub fn objects_of(alloc: Global, opening: &Opening) -> Result<Vec<ObjectSeen>, NoMemory> {
+    let mut objects = Vec::new(alloc);
+    for i in 0..opening.memory.len() {
+        if let Some(object) = opening.memory.at(i) {
+            objects.push(ObjectSeen { object, stored: 0 })?;
         }
     }
+    count_stored(&mut objects, &opening.visible.addresses);
+    Ok(objects)
+}
+
+/// Its visible data segments, by ascending id, and how many of their sectors a visible address names.
+pub fn segments_of(alloc: Global, opening: &Opening) -> Result<Vec<SegmentSeen>, NoMemory> {
+    let mut segments = Vec::new(alloc);
+    for segment in opening.memory.segments() {
+        segments.push(SegmentSeen {
+            segment: *segment,
+            named: 0,
+        })?;
+    }
+    count_named(&mut segments, &opening.visible.addresses);
+    Ok(segments)
 }

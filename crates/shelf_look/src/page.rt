@@ -24,27 +24,25 @@ impl Page {
         }
     }
 
-    /// Adds a number.
-    pub fn put_number(&mut self, number: u64) {
-        if write!(self.text, "{number}").is_err() {
+    /// Adds a number behind its words.
+    pub fn put_number(&mut self, words: &str, number: u64) {
+        if write!(self.text, "{words}{number}").is_err() {
             self.has_failed = true;
         }
     }
 
-    /// Adds numbers, each behind its words, and these words behind them.
-    pub fn put_row(&mut self, numbers: &[(&str, u64)], end: &str) {
-        for (words, number) in numbers {
-            self.put(*words);
-            self.put_number(*number);
+    /// Adds how many things of a name there are, behind these words.
+    pub fn put_count(&mut self, words: &str, count: usize, name: &str) {
+        self.put_number(words, count as u64);
+        self.put(name);
+        if count != 1 {
+            self.put("s");
         }
-        self.put(end);
     }
 
-    /// Adds texts one behind another.
-    pub fn put_all(&mut self, parts: &[&str]) {
-        for part in parts {
-            self.put(*part);
-        }
+    /// Adds the number of a drive, of two digits.
+    pub fn put_drive(&mut self, slot: usize) {
+        self.put_number(if slot < 10 { "drive 0" } else { "drive " }, slot as u64);
     }
 
     /// All of it.

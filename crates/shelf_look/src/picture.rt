@@ -1,9 +1,21 @@
 // The units of a drive as a bar.
 use crate::Unit;
-use crate::page::Page;
 
 /// The most letters of a bar.
 const LETTERS: usize = 64;
+
+/// A bar of the units of a drive: each letter stands for as many of them.
+#[derive(Clone, Copy)]
+pub struct Bar {
+    letters: [u8; LETTERS],
+    length: usize,
+}
+
+impl Bar {
+    pub fn text(&self) -> &str {
+        std::str::from_utf8(self.letters.get(..self.length).unwrap_or(&[])).unwrap_or("?")
+    }
+}
 
 /// How many of the units are of a kind.
 pub fn count_of(units: &[Unit], kind: Unit) -> usize {
@@ -17,33 +29,31 @@ pub fn count_of(units: &[Unit], kind: Unit) -> usize {
 }
 
 /// The letter of what most of the units are; of as many of two kinds, that of the first of boot region, data, patches and free.
-fn letter_of(units: &[Unit]) -> &'static str {
-    let boot = count_of(units, Unit::Boot);
-    let data = count_of(units, Unit::Data);
-    let patch = count_of(units, Unit::Patch);
-    let free = count_of(units, Unit::Free);
-    let most = boot.max(data).max(patch).max(free);
-    if boot == most {
-        "B"
-    } else if data == most {
-        "d"
-    } else if patch == most {
-        "p"
-    } else {
-        "."
+fn letter_of(units: &[Unit]) -> u8 {
+    let mut letter = b'B';
+    let mut most = count_of(units, Unit::Boot);
+    for (kind, other) in [(Unit::Data, b'd'), (Unit::Patch, b'p'), (Unit::Free, b'.')] {
+        let count = count_of(units, kind);
+        if count > most {
+            letter = other;
+            most = count;
+        }
     }
+    letter
 }
 
-/// Adds a bar of the units: each letter stands for as many of them.
-pub fn put_bar(page: &mut Page, units: &[Unit]) {
+/// The bar of these units.
+pub fn bar_of(units: &[Unit]) -> Bar {
     let each = units.len().div_ceil(LETTERS).max(1);
-    let mut from = 0usize;
-    for _ in 0..LETTERS {
-        let to = units.len().min(from.saturating_add(each));
-        let some = units.get(from..to).unwrap_or(&[]);
-        if !some.is_empty() {
-            page.put(letter_of(some));
+    let mut letters = [b'.'; LETTERS];
+    let mut length = 0usize;
+    for at in 0..LETTERS {
+        let from = at.saturating_mul(each);
+        if from < units.len() {
+            let to = units.len().min(from.saturating_add(each));
+            letters[at] = letter_of(units.get(from..to).unwrap_or(&[]));
+            length = at + 1;
         }
-        from = to;
     }
+    Bar { letters, length }
 }

@@ -1,6 +1,7 @@
 // What stands in each unit of each drive.
-use boot_codec::{PatchSegment, Patches};
-use pur_base::{BOOT_UNITS, NoMemory, Places, SegmentFact};
+use crate::Opening;
+use boot_codec::Patches;
+use pur_base::{BOOT_UNITS, NoMemory, Places};
 use std::alloc::Global;
 
 /// What stands in a unit of a drive.
@@ -20,27 +21,11 @@ pub struct Units {
 }
 
 impl Units {
-    /// Units in which nothing stands.
-    fn new(alloc: Global, drives: u8, each: u16) -> Result<Units, NoMemory> {
-        let count = usize::from(drives) * usize::from(each);
-        Ok(Units {
-            units: vec![in alloc; Unit::Free; count]?,
-            each,
-        })
-    }
-
     /// Marks a unit of a drive.
     fn mark(&mut self, slot: u8, unit: u16, kind: Unit) {
         let at = usize::from(slot) * usize::from(self.each) + usize::from(unit);
         if let Some(marked) = self.units.get_mut(at) {
             *marked = kind;
-        }
-    }
-
-    /// Marks the boot region of a drive.
-    fn mark_boot(&mut self, slot: u8) {
-        for unit in 0..BOOT_UNITS {
-            self.mark(slot, unit, Unit::Boot);
         }
     }
 
@@ -51,25 +36,12 @@ impl Units {
         }
     }
 
-    /// Marks the units of a patch's segments.
-    fn mark_patch(&mut self, segments: &[PatchSegment]) {
-        for segment in segments {
-            self.mark_places(&segment.places, Unit::Patch);
-        }
-    }
-
     /// Marks those of all patches.
     fn mark_patches(&mut self, patches: &Patches) {
         for index in 0..patches.len() {
-            let patch = patches.at(index);
-            self.mark_patch(patch.segments.as_slice());
-        }
-    }
-
-    /// Marks those of the data segments.
-    fn mark_data(&mut self, segments: &[SegmentFact]) {
-        for segment in segments {
-            self.mark_places(&segment.places, Unit::Data);
+            for segment in patches.at(index).segments.as_slice() {
+                self.mark_places(&segment.places, Unit::Patch);
+            }
         }
     }
 
@@ -81,19 +53,22 @@ impl Units {
     }
 }
 
-/// What stands in each unit of so many drives, by the patches of a record and the data segments of its tables.
-pub fn units_of(
-    alloc: Global,
-    drives: u8,
-    each: u16,
-    patches: &Patches,
-    segments: &[SegmentFact],
-) -> Result<Units, NoMemory> {
-    let mut units = Units::new(alloc, drives, each)?;
-    for slot in 0..drives {
-        units.mark_boot(slot);
+/// What stands in each unit of the drives of an opening, by the patches of its record and the data segments of its tables.
+pub fn units_of(alloc: Global, opening: &Opening) -> Result<Units, NoMemory> {
+    let record = &opening.loaded.record;
+    let count = usize::from(record.slots) * usize::from(record.units);
+    let mut units = Units {
+        units: vec![in alloc; Unit::Free; count]?,
+        each: record.units,
+    };
+    for slot in 0..record.slots {
+        for unit in 0..BOOT_UNITS {
+            units.mark(slot, unit, Unit::Boot);
+        }
     }
-    units.mark_patches(patches);
-    units.mark_data(segments);
+    units.mark_patches(&record.patches);
+    for segment in opening.memory.segments() {
+        units.mark_places(&segment.places, Unit::Data);
+    }
     Ok(units)
 }

@@ -1,7 +1,7 @@
 // A look in words.
 use crate::numbers::set_flags;
 use crate::page::{Page, name_text};
-use crate::picture::{count_of, put_bar};
+use crate::picture::{bar_of, count_of};
 use crate::slot_ranges::{Logs, front_of, log_len, range_to};
 use crate::texts::{TABLES, cause_text, kind_text, said_of_drive, said_of_nvram, slot_text};
 use crate::{Found, Looked, ObjectSeen, RecordSeen, SegmentSeen, TableCounts, There, Unit};
@@ -11,49 +11,34 @@ use pur_base::NoMemory;
 use session_spec::{ADDING_GROUPS, CHECKPOINT_GROUPS};
 use std::alloc::Global;
 
-/// The end of words for so many things.
-fn many(count: usize) -> &'static str {
-    if count == 1 { "" } else { "s" }
-}
-
-/// Adds a drive's number, of two digits.
-fn put_drive(page: &mut Page, slot: usize) {
-    let words = if slot < 10 { "drive 0" } else { "drive " };
-    page.put_row(&[(words, slot as u64)], "");
-}
-
 /// What more may be lost.
 fn put_bearable(page: &mut Page, slots: u8, found: &Found) {
     let missing = usize::from(slots).saturating_sub(found.numbers.holding);
     let drives = 2usize.saturating_sub(missing);
     let nvrams = found.numbers.answering.saturating_sub(1);
-    page.put_row(
-        &[("the array can be opened: ", drives as u64)],
-        " more drive",
-    );
-    page.put(many(drives));
-    page.put_row(&[(" and ", nvrams as u64)], " more NVRAM device");
-    page.put_all(&[many(nvrams), " may be lost\n"]);
+    page.put_count("the array can be opened: ", drives, " more drive");
+    page.put_count(" and ", nvrams, " more NVRAM device");
+    page.put(" may be lost\n");
 }
 
 /// The record in force.
 fn put_record(page: &mut Page, record: &RecordSeen) {
-    page.put_row(&[("record: generation ", record.generation)], ", slot ");
+    page.put_number("record: generation ", record.generation);
+    page.put(", slot ");
     page.put(slot_text(record.slot));
-    let numbers = [
-        (", on ", set_flags(&record.holding) as u64),
-        (" of the ", set_flags(&record.members.drives) as u64),
-    ];
-    page.put_row(&numbers, " drives that it names\n");
+    page.put_number(", on ", set_flags(&record.holding) as u64);
+    page.put_number(" of the ", set_flags(&record.members.drives) as u64);
+    page.put(" drives that it names\n");
 }
 
 /// A line for each drive.
 fn put_drives(page: &mut Page, looked: &Looked, there: &There) {
     let count = usize::from(looked.slots).min(DRIVE_FLAGS);
     for slot in 0..count {
-        let said = said_of_drive(looked.drives[slot], there.drives[slot]);
-        put_drive(page, slot);
-        page.put_all(&[": ", said.line, "\n"]);
+        page.put_drive(slot);
+        page.put(": ");
+        page.put(said_of_drive(looked.drives[slot], there.drives[slot]).line);
+        page.put("\n");
     }
 }
 
@@ -63,12 +48,11 @@ fn put_nvrams(page: &mut Page, record: &RecordSeen, logs: &Logs, there: &There) 
     for device in 0..NVRAM_FLAGS {
         let is_named = record.members.nvrams[device];
         let said = said_of_nvram(&logs[device], count, is_named, there.nvrams[device]);
-        page.put_row(&[("nvram ", device as u64)], ": ");
+        page.put_number("nvram ", device as u64);
+        page.put(": ");
         page.put(said.line);
         if let Some(seen) = &logs[device] {
-            let shown = front_of(seen);
-            page.put_row(&[("", shown as u64)], " command");
-            page.put(many(shown));
+            page.put_count("", front_of(seen), " command");
         }
         page.put("\n");
     }
@@ -80,9 +64,9 @@ fn put_slots(page: &mut Page, logs: &Logs) {
     let mut before = " ";
     for last in 0..LOG_SLOTS {
         if let Some(range) = range_to(logs, last) {
-            page.put_row(&[(before, range.first as u64)], "");
+            page.put_number(before, range.first as u64);
             if range.first != last {
-                page.put_row(&[(" to ", last as u64)], "");
+                page.put_number(" to ", last as u64);
             }
             page.put(match range.on {
                 [true, true] => " on both",
@@ -95,106 +79,80 @@ fn put_slots(page: &mut Page, logs: &Logs) {
     page.put(if before == " " { " none\n" } else { "\n" });
 }
 
-/// How many commands wait.
-fn put_log(page: &mut Page, found: &Found) {
-    let numbers = [
-        ("log: ", found.waiting.creates as u64),
-        (" create, ", found.waiting.writes as u64),
-        (" write, ", found.waiting.fills as u64),
-        (" fill; ", found.numbers.free_slots as u64),
-    ];
-    page.put_row(&numbers, " free slots\n");
-}
-
 /// The units of each drive, and the room for segments.
 fn put_picture(page: &mut Page, slots: u8, found: &Found) {
     page.put("units: B boot region, d data, p patches, . free\n");
     for slot in 0..slots {
         let units = found.units.of_drive(slot);
-        put_drive(page, usize::from(slot));
+        page.put_drive(usize::from(slot));
         page.put(" [");
-        put_bar(page, units);
-        page.put_row(&[("] ", count_of(units, Unit::Free) as u64)], " free\n");
+        page.put(bar_of(units).text());
+        page.put_number("] ", count_of(units, Unit::Free) as u64);
+        page.put(" free\n");
     }
-    let numbers = [
-        ("room: ", u64::from(found.numbers.groups)),
-        (" more segments; below ", u64::from(ADDING_GROUPS)),
-        (
-            " commands get `no space`, below ",
-            u64::from(CHECKPOINT_GROUPS),
-        ),
-    ];
-    page.put_row(&numbers, " checkpoints do\n");
+    page.put_number("room: ", u64::from(found.numbers.groups));
+    page.put_number(" more segments; below ", u64::from(ADDING_GROUPS));
+    page.put_number(
+        " commands get `no space`, below ",
+        u64::from(CHECKPOINT_GROUPS),
+    );
+    page.put(" checkpoints do\n");
 }
 
 /// A line for each table.
 fn put_tables(page: &mut Page, tables: &[TableCounts; 5]) {
     for i in 0..5 {
         let table = &tables[i];
-        page.put_all(&["table ", TABLES[i]]);
-        let numbers = [
-            (": ", table.patches as u64),
-            (" patches in ", table.segments as u64),
-            (" segments, ", table.facts),
-            (" facts, ", table.visible as u64),
-        ];
-        page.put_row(&numbers, " visible\n");
+        page.put("table ");
+        page.put(TABLES[i]);
+        page.put_number(": ", table.patches as u64);
+        page.put_number(" patches in ", table.segments as u64);
+        page.put_number(" segments, ", table.facts);
+        page.put_number(" facts, ", table.visible as u64);
+        page.put(" visible\n");
     }
 }
 
-/// How many of the segments have from so many sectors named up to so many.
-fn count_between(segments: &[SegmentSeen], from: u32, to: u32) -> u64 {
-    let mut count = 0u64;
+/// How many sectors of all segments a visible address names, and how many of the segments have none named, and a quarter more at most, and so on up to all.
+fn named_in(segments: &[SegmentSeen]) -> (u64, [u64; 5]) {
+    let mut named = 0u64;
+    let mut counts = [0u64; 5];
     for segment in segments {
-        if from <= segment.named && segment.named <= to {
-            count = count.saturating_add(1);
+        named = named.saturating_add(u64::from(segment.named));
+        let quarters = segment.named.div_ceil(210) as usize;
+        if let Some(count) = counts.get_mut(quarters) {
+            *count = count.saturating_add(1);
         }
     }
-    count
-}
-
-/// How many sectors of all segments a visible address names.
-fn named_in(segments: &[SegmentSeen]) -> u64 {
-    let mut count = 0u64;
-    for segment in segments {
-        count = count.saturating_add(u64::from(segment.named));
-    }
-    count
+    (named, counts)
 }
 
 /// How many data segments there are, of how many sectors, and how many there are by how much of them is named still.
 fn put_segments(page: &mut Page, found: &Found) {
-    let all = found.segments.as_slice();
-    let numbers = [
-        ("data segments: ", found.numbers.segments as u64),
-        (", ", found.numbers.placed),
-        (" sectors placed, ", named_in(all)),
-    ];
-    page.put_row(&numbers, " named still\n");
-    let numbers = [
-        (
-            "of 840 sectors are named: none in ",
-            count_between(all, 0, 0),
-        ),
-        (", 1 to 210 in ", count_between(all, 1, 210)),
-        (", to 420 in ", count_between(all, 211, 420)),
-        (", to 630 in ", count_between(all, 421, 630)),
-        (", to 840 in ", count_between(all, 631, 840)),
-    ];
-    page.put_row(&numbers, "\n");
+    let (named, counts) = named_in(found.segments.as_slice());
+    page.put_number("data segments: ", found.numbers.segments as u64);
+    page.put_number(", ", found.numbers.placed);
+    page.put_number(" sectors placed, ", named);
+    page.put_number(
+        " named still\nof 840 sectors are named: none in ",
+        counts[0],
+    );
+    page.put_number(", 1 to 210 in ", counts[1]);
+    page.put_number(", to 420 in ", counts[2]);
+    page.put_number(", to 630 in ", counts[3]);
+    page.put_number(", to 840 in ", counts[4]);
+    page.put("\n");
 }
 
 /// A line for each object.
 fn put_objects(page: &mut Page, objects: &[ObjectSeen]) {
     for seen in objects {
-        let object = &seen.object;
-        page.put_all(&[kind_text(object.kind), " "]);
-        page.put(name_text(&object.name));
-        let numbers = [
-            (" ", u64::from(object.sectors)),
-            (", ", u64::from(seen.stored)),
-        ];
-        page.put_row(&numbers, " stored\n");
+        page.put(kind_text(seen.object.kind));
+        page.put(" ");
+        page.put(name_text(&seen.object.name));
+        page.put_number(" ", u64::from(seen.object.sectors));
+        page.put_number(", ", u64::from(seen.stored));
+        page.put(" stored\n");
     }
 }
 
@@ -202,13 +160,15 @@ fn put_objects(page: &mut Page, objects: &[ObjectSeen]) {
 fn put_look(page: &mut Page, looked: &Looked, there: &There) {
     match &looked.found {
         Ok(found) => put_bearable(page, looked.slots, found),
-        Err(cause) => page.put_all(&["the array can't be opened: ", cause_text(cause), "\n"]),
+        Err(cause) => {
+            page.put("the array can't be opened: ");
+            page.put(cause_text(cause));
+            page.put("\n");
+        }
     }
-    let numbers = [
-        ("shelf: ", u64::from(looked.slots)),
-        (" drives of ", u64::from(looked.units)),
-    ];
-    page.put_row(&numbers, " units\n");
+    page.put_number("shelf: ", u64::from(looked.slots));
+    page.put_number(" drives of ", u64::from(looked.units));
+    page.put(" units\n");
     match &looked.record {
         Some(record) => put_record(page, record),
         None => page.put("record: none\n"),
@@ -220,9 +180,13 @@ fn put_look(page: &mut Page, looked: &Looked, there: &There) {
     }
 }
 
-/// What is told of an array that can be opened.
+/// What is told of an array that can be opened: how many commands wait, and what its drives and tables hold.
 fn put_found(page: &mut Page, slots: u8, found: &Found, objects: bool) {
-    put_log(page, found);
+    page.put_number("log: ", found.waiting.creates as u64);
+    page.put_number(" create, ", found.waiting.writes as u64);
+    page.put_number(" write, ", found.waiting.fills as u64);
+    page.put_number(" fill; ", found.numbers.free_slots as u64);
+    page.put(" free slots\n");
     put_picture(page, slots, found);
     put_tables(page, &found.tables);
     put_segments(page, found);

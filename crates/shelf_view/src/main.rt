@@ -9,7 +9,6 @@ mod there;
 use crate::asked::asked_by;
 use crate::only::view_only;
 use crate::there::devices_there;
-use clap::Error;
 use program_endings::{IN_USE, NO_SHELF, code_of, text_of};
 use pur_base::{NoMemory, Status};
 use shelf_look::{Asked, ReadOnly, Told};
@@ -20,14 +19,20 @@ use world_file::{Files, NoShelf};
 /// The program's words, its own name in front. Words that can't be had are a faulty command line, but for want of memory.
 fn words_of(rt: &HostRuntime) -> Result<Vec<String>, Status> {
     let mut words = Vec::new(rt.alloc());
-    let all = env::args(rt).map_err(|error| match error.kind() {
-        io::ErrorKind::OutOfMemory => Status::Memory,
-        _ => Status::Words,
-    })?;
-    for word in all {
-        words.push(word).map_err(|_| Status::Memory)?;
+    match env::args(rt) {
+        Ok(all) => {
+            for word in all {
+                if words.push(word).is_err() {
+                    return Err(Status::Memory);
+                }
+            }
+            Ok(words)
+        }
+        Err(error) => match error.kind() {
+            io::ErrorKind::OutOfMemory => Err(Status::Memory),
+            _ => Err(Status::Words),
+        },
     }
-    Ok(words)
 }
 
 /// Says on standard error why the program ends, and ends it with that exit status.
@@ -51,16 +56,11 @@ fn tell(rt: &HostRuntime, told: &Told) -> ExitCode {
     }
 }
 
-/// What a shelf shows of which reads alone are passed on.
-fn told_by(rt: &HostRuntime, only: &mut ReadOnly<Files>, asked: Asked) -> Result<Told, NoMemory> {
-    let there = devices_there(rt, only.inner())?;
-    view_only(rt.alloc(), only, &there, asked)
-}
-
-/// What these files show.
+/// What these files show, of which reads alone are passed on. They are closed behind it.
 fn told_of(rt: &HostRuntime, files: Files, asked: Asked) -> Result<Told, NoMemory> {
     let mut only = ReadOnly::new(files);
-    told_by(rt, &mut only, asked)
+    let there = devices_there(rt, only.inner())?;
+    view_only(rt.alloc(), &mut only, &there, asked)
 }
 
 /// Looks at the shelf of the current folder.
@@ -76,21 +76,18 @@ fn run(rt: &HostRuntime, asked: Asked) -> ExitCode {
     }
 }
 
-/// Prints why the words aren't served: they ask for help, or are faulty.
-fn refuse(rt: &HostRuntime, error: &Error) -> ExitCode {
-    let _ = error.print(rt);
-    if error.use_stderr() {
-        ExitCode::from(code_of(Status::Words))
-    } else {
-        ExitCode::SUCCESS
-    }
-}
-
-/// Does what the words ask for.
+/// Does what the words ask for, or prints why they aren't served: they ask for help, or are faulty.
 fn answer(rt: &HostRuntime, words: &[String]) -> ExitCode {
     match asked_by(rt.alloc(), words) {
         Ok(asked) => run(rt, asked),
-        Err(error) => refuse(rt, &error),
+        Err(error) => {
+            let _ = error.print(rt);
+            if error.use_stderr() {
+                ExitCode::from(code_of(Status::Words))
+            } else {
+                ExitCode::SUCCESS
+            }
+        }
     }
 }
 

@@ -1,5 +1,5 @@
 use Rattle.std.proofs.Common.{◌∙◌, sym, subst}
-use Rattle.session_spec.specs.Prelude.{geometry_of, ran_more, ran_then}
+use Rattle.session_spec.specs.Prelude.{ran_more, ran_then}
 use Rattle.shelf_look.specs.declared.cause.Cause.{Cause}
 use Rattle.shelf_look.specs.Opening.{IsCauseOf}
 use Rattle.shelf_look.proofs.Causing.{cause_of_those, log_cause, log_of, record_cause}

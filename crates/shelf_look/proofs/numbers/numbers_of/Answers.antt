@@ -1,6 +1,6 @@
 use Rattle.std.proofs.Common.{◌∙◌, sym, ap, arith, refl, List, length}
 use Rattle.std.specs.List.{sum_by}
-use Rattle.session_spec.specs.Prelude.{SegmentFact, all_facts, facts, patches, set_flags}
+use Rattle.session_spec.specs.Prelude.{SegmentFact, all_facts, facts, patches, set_count}
 use Rattle.shelf_look.proofs.Counting.{few_segments}
 use Rattle.shelf_look.proofs.Making.{data_segments, shown_by_patches}
 use Rattle.shelf_look.proofs.numbers.numbers_of.Goals as goal
@@ -26,7 +26,7 @@ returns c =
       drives = c.set_flags.ensures;
       holding = c.set_flags-2.ensures;
       nvrams = c.set_flags-3.ensures;
-      answering = c.set_flags-4.ensures ∙ ap set_flags c.members.ensures;
+      answering = c.set_flags-4.ensures ∙ ap set_count c.members.ensures;
       groups = c.groups_left.ensures (all_facts (patches o.memory.memory.tables)) shown;
       segments = ap (λ (l : List SegmentFact). length l) (sym said);
       placed = c.placed_in.ensures ∙ ap (λ (l : List SegmentFact). sum_by (λ d. d.placed) l) (sym said);
