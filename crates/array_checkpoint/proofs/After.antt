@@ -1,6 +1,6 @@
 -- Memory once it is what a plan says.
 use Rattle.std.proofs.Common.{◌≡◌, ◌∙◌, ℕ, Bool, List, [], sym, inr, subst, None, Contains}
-use Rattle.session_spec.specs.Prelude.{Array, segment, AddressFact, facts_of, patch_facts, Contents, IsSound, Memory, ReadsAs, IsEliding, facts}
+use Rattle.session_spec.specs.Prelude.{Array, segment, AddressFact, facts_of, patch_facts, Contents, IsSound, Memory, ReadsAs, IsEliding, IsWhole, facts}
 use Rattle.pur_base.specs.declared.request.Table.TheVariants as table
 use Rattle.memory_spec.proofs.Checkpointed.{checkpoint_reads}
 use Rattle.table_plan.specs.Prelude.{AreElisionsOf, IsElidedBy, flagged_from, extended, sectors_at, AreStored, IsPlanned}
@@ -13,7 +13,7 @@ use Rattle.array_checkpoint.specs.Made.{contents_after}
 use Rattle.array_checkpoint.proofs.ElidedSegments.{gone_where}
 
 -- of no segment anything is told
-nothing : Contents
+pub nothing : Contents
 nothing id index = []
 
 module _ (m : Memory) (p : Plan) (keeps : IsEliding m (eliding_by m p.eliding) p.eliding.facts.items) (plan : IsPlanFor (eliding_by m p.eliding) p) where
@@ -33,6 +33,17 @@ module _ (m : Memory) (p : Plan) (keeps : IsEliding m (eliding_by m p.eliding) p
 
     pub is_planned : IsPlanned Elided n Flags Newest (units_of p)
     is_planned = planned_same Elided (after_plan m p) n Flags Newest (units_of p) same (planned Elided p plan)
+
+    -- nothing is beside the patches then
+    pub whole_then : IsWhole n
+    whole_then = record {
+      staged = is_planned.staged;
+      objects = is_planned.objects.unflushed;
+      mediums = is_planned.mediums.unflushed;
+      addresses = is_planned.addresses.unflushed;
+      segments = is_planned.segments.unflushed;
+      elisions = is_planned.elisions.unflushed;
+    }
 
     pub sound_then : IsSound n
     sound_then = planned_sound nothing Elided n Flags Newest (units_of p) plan.sound plan.stored is_planned

@@ -1,14 +1,15 @@
 -- The array once the tables of a checkpoint are its own.
 use Rattle.std.proofs.Common.{◌≡◌, ◌∙◌, ℕ, ◌+◌, ◌≤◌, ◌<◌, List, length, sym, ap, subst, arith, false}
 use Rattle.std.specs.List.{AllZip}
-use Rattle.session_spec.specs.Prelude.{Geometry, Facts, segment, AnyFact, AreNext, IsBootRecord, patch_segments, Patch, BootRecord, NextNumbers, AreSegmentsSound, facts, patches, IsNamed, IsRecordOfMemory}
+use Rattle.session_spec.specs.Prelude.{Geometry, Facts, segment, AnyFact, AreNext, ArePatches, IsBootRecord, patch_segments, Patch, BootRecord, NextNumbers, AreSegmentsSound, facts, patches, IsNamed, IsRecordOfMemory}
+use Rattle.session_spec.specs.Checkpointing.{HaveOneMore}
 use Rattle.table_plan.specs.Prelude.{IsElidedBy}
 use Rattle.table_plan.proofs.ElidedLemmas.{as_many}
-use Rattle.array_memory.specs.Prelude.{after_plan, next_past, IsSameMemory, HasRoomAgain}
+use Rattle.array_memory.specs.Prelude.{after_plan, next_past, units_of, IsSameMemory, HasRoomAgain}
 use Rattle.array_memory.proofs.PlanLemmas.{facts_same, patches_same}
 use Rattle.nvram_log.specs.Prelude.{IsSome}
 use Rattle.register.specs.Prelude.{IsLaterRecord, IsRegisterOf, with_tables}
-use Rattle.record_tables.specs.Prelude.{with_patches}
+use Rattle.record_tables.specs.Prelude.{added_patches, by_tag}
 use Rattle.record_tables.proofs.Lawful.{next_patches_are_lawful}
 use Rattle.array_core.specs.declared.array.Array.{Array}
 use Rattle.array_core.specs.Prelude.{IsArrayOf, is_spent, HasRoomFor}
@@ -16,9 +17,12 @@ use Rattle.array_core.proofs.Applied.{room_again, segments_sound}
 use Rattle.array_checkpoint.specs.declared.preparing.Prepared.{Prepared}
 use Rattle.array_checkpoint.specs.Prepared.{IsPreparedFor}
 use Rattle.array_checkpoint.specs.Made.{HasFlushed}
-use Rattle.array_checkpoint.proofs.After.{gone_then, is_planned, sound_after, sound_then, stored_then}
+use Rattle.array_checkpoint.proofs.After.{is_planned, sound_after, sound_then, stored_then}
+use Rattle.array_checkpoint.proofs.Elides.{patches_elided}
+use Rattle.array_checkpoint.proofs.Grown.{facts_go_on, one_more}
+use Rattle.array_checkpoint.proofs.Placed.{patches_hold}
 use Rattle.array_checkpoint.proofs.NextRecord.{ids_left, record_of_memory, tables_are}
-use Rattle.array_checkpoint.proofs.PatchUnits.{lawful_next, lawful_places}
+use Rattle.array_checkpoint.proofs.PatchUnits.{lawful_places}
 use Rattle.array_checkpoint.proofs.PreparedLemmas.{are_low}
 
 module _ (shelf : Geometry) (was : Array) (p : Prepared) (is : IsArrayOf shelf was) (prep : IsPreparedFor was p) where
@@ -27,6 +31,9 @@ module _ (shelf : Geometry) (was : Array) (p : Prepared) (is : IsArrayOf shelf w
 
   abbrev First : ℕ
   First = was.memory.memory.next.patch_segment
+
+  abbrev Next : List Patch
+  Next = by_tag Boot.patches (added_patches prep.counts First prep.units)
 
   -- the tables of the next record are those of memory after the plan
   next_record : IsRecordOfMemory shelf (with_tables Boot p.tables) (after_plan was.memory.memory p.plan)
@@ -41,18 +48,27 @@ module _ (shelf : Geometry) (was : Array) (p : Prepared) (is : IsArrayOf shelf w
     room_for_new : patch_segments Boot.patches + length prep.units ≤ 600
     room_for_new = let five = prep.few_patches in omega (arith, few, five)
 
+    next_patches : ArePatches Boot.slots Boot.units Next × (patch_segments Next ≡ patch_segments Boot.patches + length prep.units)
+    next_patches = next_patches_are_lawful Boot.slots Boot.units Boot.patches prep.counts First prep.units is.of_shelf.lawful.lawful.patches prep.fit prep.wanted
+        (lawful_places Boot (facts was.memory.memory.tables) (units_of p.plan) prep.units prep.free) (ids_left shelf was p is prep) room_for_new
+
     pub next_is_lawful : is_spent was ≡ false → was.log.count ≤ 64 → IsBootRecord (with_tables Boot p.tables)
     next_is_lawful unspent logged =
         let l = (are_low was unspent).flushed in
         let counted = prep.flushed in
-        subst (λ (ps : List Patch). IsBootRecord (with_patches Boot ps p.tables.next p.tables.flushed)) (sym (tables_are shelf was p is prep))
-        (lawful_next Boot was.memory.memory p.plan prep.counts First prep.units p.tables.next p.tables.flushed is.of_shelf.lawful.lawful prep.fit prep.wanted prep.free
-        room_for_new (ids_left shelf was p is prep) next_lawful (omega (arith, l, counted, logged)))
+        let lawful = is.of_shelf.lawful.lawful in
+        record {
+          slots = lawful.slots;
+          units = lawful.units;
+          generation = lawful.generation;
+          members = lawful.members;
+          next = next_lawful;
+          flushed = omega (arith, l, counted, logged);
+          patches = subst (λ (ps : List Patch). ArePatches Boot.slots Boot.units ps) (sym (tables_are shelf was p is prep)) next_patches.0;
+        }
 
     segments_counted : patch_segments p.tables.patches ≡ patch_segments Boot.patches + length prep.units
-    segments_counted = ap (λ (ps : List Patch). patch_segments ps) (tables_are shelf was p is prep)
-        ∙ (next_patches_are_lawful Boot.slots Boot.units Boot.patches prep.counts First prep.units is.of_shelf.lawful.lawful.patches prep.fit prep.wanted
-        (lawful_places Boot was.memory.memory p.plan prep.units prep.free) (ids_left shelf was p is prep) room_for_new).1
+    segments_counted = ap (λ (ps : List Patch). patch_segments ps) (tables_are shelf was p is prep) ∙ next_patches.1
 
     -- ---- once it is stored, and memory is what was planned
 
@@ -101,19 +117,24 @@ module _ (shelf : Geometry) (was : Array) (p : Prepared) (is : IsArrayOf shelf w
         none = none;
         rises = rises;
         few = little;
-        rest = later.rest
-            ∙ ap (λ (ps : List Patch). record Boot { generation = now.register.record.generation; members = now.register.record.members; patches = ps; next = p.tables.next; flushed = p.tables.flushed }) (sym patches_are)
-            ∙ ap (λ (n : NextNumbers). record Boot { generation = now.register.record.generation; members = now.register.record.members; patches = now.register.record.patches; next = n; flushed = p.tables.flushed }) (prep.next ∙ sym same.next)
-            ∙ ap (λ (n : ℕ). record Boot { generation = now.register.record.generation; members = now.register.record.members; patches = now.register.record.patches; next = now.memory.memory.next; flushed = n }) prep.flushed;
+        rest = later.rest ∙ (λ k. record Boot {
+          generation = now.register.record.generation;
+          members = now.register.record.members;
+          patches = sym patches_are k;
+          next = (prep.next ∙ sym same.next) k;
+          flushed = prep.flushed k;
+        });
         elided = p.plan.eliding.segments.items;
-        few_elided = prep.plan.eliding.unused.few;
         lowest = prep.plan.eliding.unused;
-        gone = gone_then was.memory.memory p.plan prep.plan.keeps prep.plan.plan now.memory.memory same p.plan.eliding.segments.items prep.plan.eliding.made;
+        elides = patches_elided was.memory p.plan prep.plan is.sound now.memory.memory same is.room.no_segments is.room.no_elisions;
         data_segments = length p.plan.segments.items;
         new_segments = length prep.units;
         few_data = prep.few_data;
         few_new = prep.few_patches;
         next = same.next ∙ prep.next_is ∙ ap (λ (n : ℕ). record (next_past (record was.memory.memory.next { sequence = was.memory.memory.next.sequence + n }) (length p.plan.segments.items)) { patch_segment = First + length prep.units })
             (as_many (IsElidedBy (facts was.memory.memory.tables)) was.memory.memory.next.sequence p.plan.eliding.segments.items p.plan.eliding.facts.items prep.plan.eliding.made);
+        placed = patches_hold was.memory.memory p.plan prep.plan.keeps prep.plan.plan now.memory.memory same;
         patch_segments_are = ap (λ (ps : List Patch). patch_segments ps) patches_are ∙ segments_counted;
+        one_more = subst (λ (ps : List Patch). HaveOneMore Boot.patches ps) (sym (patches_are ∙ tables_are shelf was p is prep)) (one_more Boot.patches prep.counts First prep.units prep.wanted);
+        go_on = facts_go_on was.memory.memory p.plan now.memory.memory same;
       }

@@ -1,24 +1,20 @@
--- A checkpoint writes only units that the tables leave free.
-use Rattle.std.proofs.Common.{◌≡◌, ℕ, ◌+◌, ◌*◌, ◌/◌, ◌<◌, ◌≤◌, true, false, List, [], ◌∷◌, ◌++◌, length, sym, ap, arith, inl, inr, subst, Contains}
+-- Units that are taken are free: which bytes are written in them, and what is left alone.
+use Rattle.std.proofs.Common.{◌≡◌, ℕ, ◌+◌, ◌*◌, ◌/◌, ◌<◌, ◌≤◌, true, false, List, [], ◌∷◌, length, sym, arith, subst, Contains}
 use Rattle.std.specs.Prelude.{Bool, slice_index_or}
 use Rattle.std.specs.List.{AllByRecursion}
-use Rattle.session_spec.specs.Prelude.{drive, nvram, Facts, Device, Drive, DriveId, Place, AscendFrom, BootRecord, STRIPES, IsFree, is_used, all_facts, places_of_part, facts, Memory, of_each, contains_at, Shelved, SegmentFact, Patch}
+use Rattle.session_spec.specs.Prelude.{Device, Drive, Nv, Place, Patch, AscendFrom, contains_at, places_of_part, STRIPES, IsFree, is_used, all_facts, facts, of_each, Shelved, geometry_of}
+use Rattle.boot_region.specs.Prelude.{IsDrive}
 use Rattle.free_space.specs.Laws.{AreUnitsToTake}
 use Rattle.free_space.specs.Map.{is_member}
-use Rattle.array_memory.specs.declared.plan.Counts.{Counts}
-use Rattle.array_memory.specs.declared.plan.Plan.{Plan}
-use Rattle.array_memory.specs.Prelude.{units_of}
-use Rattle.register.specs.declared.state.Register.{Register}
 use Rattle.register.specs.Prelude.{Content, cut_in}
-use Rattle.array_core.specs.Prelude.{OnFree}
 use Rattle.segment_io.specs.Prelude.{place_of, OnUnits}
-use Rattle.segment_writer.specs.Prelude.{places_in, IsOnCheckpoint, OnCheckpoint}
-use Rattle.record_tables.specs.Prelude.{added_patches, segments_of, AreNewUnits}
+use Rattle.segment_writer.specs.CheckpointStoring.{IsOnPatches, OnPatches}
+use Rattle.array_core.specs.declared.array.Array.{Array}
+use Rattle.array_core.specs.Prelude.{OnFree, OnUnused, IsArrayOf, IsReady}
 use Rattle.array_core.proofs.Keeping.{both_not}
+use Rattle.array_checkpoint.proofs.Rooms.{same_free}
 use Rattle.array_checkpoint.proofs.Stays.{SparesUsed}
 use Rattle.array_checkpoint.proofs.UnitLists.{in_at}
-use Rattle.array_checkpoint.proofs.Units.{data_among}
-use Rattle.array_checkpoint.proofs.PatchUnits.{part_among}
 
 slots_below : (slots units least : ℕ) (places : List Place) → AscendFrom slots units least places → AllByRecursion (λ p. p.slot < slots) places
 slots_below slots units least [] h = tt
@@ -28,74 +24,39 @@ slots_below slots units least (p ∷ places) h = (h.1.slot, slots_below slots un
 one_unit : (unit i : ℕ) → 65536 * unit + 4096 * 0 ≤ i → i < 65536 * unit + 4096 * 0 + 4096 * 16 → i / 65536 ≡ unit
 one_unit unit i low high = omega (arith, low, high)
 
-same_drive : (a b : DriveId) → Drive a ≡ Drive b → a ≡ b
-same_drive a b e = cc
-
--- a byte of a unit that the tables leave free, on a drive that the record names
-pub record IsFreeByte (boot : BootRecord) (tables : Facts) (device : Device) (i : ℕ) : Type 0 where
-  pub slot : ℕ
-  pub same : device ≡ drive slot
-  pub within : slot < boot.slots
-  pub named : is_member boot slot ≡ true
-  pub free : IsFree boot tables slot (i / 65536)
-
--- such are the bytes of write units of new units
-pub free_byte : (boot : BootRecord) (tables : Facts) (places : List Place) → AreUnitsToTake boot tables places → (device : Device) (i : ℕ) → OnUnits places 0 (STRIPES + 1) device i → IsFreeByte boot tables device i
-free_byte boot tables places h device i (shard, less, (same, range)) =
+-- the bytes of write units of units that may be taken are unused,
+pub unused_byte : (x : Array) (places : List Place) → AreUnitsToTake x.register.record (facts x.memory.memory.tables) places → (device : Device) (i : ℕ) → OnUnits places 0 (STRIPES + 1) device i → OnUnused x device i
+unused_byte x places h device i (shard, less, (same, range)) =
+    let boot = x.register.record in
+    let tables = facts x.memory.memory.tables in
     let p : Place = place_of places shard in
     let c : Contains places p = in_at places shard _ (let nine = h.lawful.nine in omega (arith, nine, less)) in
     let own : i / 65536 ≡ p.unit = one_unit p.unit i range.0 range.1 in
-    record {
-      slot = p.slot;
-      same = same;
-      within = of_each (λ q. q.slot < boot.slots) places p (slots_below boot.slots boot.units 0 places h.lawful.ascending) c;
-      named = of_each (λ q. is_member boot q.slot ≡ true) places p h.members c;
-      free = subst (λ u. IsFree boot tables p.slot u) (sym own) (of_each (λ q. IsFree boot tables q.slot q.unit) places p h.free c);
-    }
-
--- where such bytes alone are written no unit is that a segment uses,
-pub spares_used_by : (boot : BootRecord) (tables : Facts) (W : Device → ℕ → Type 0) → ((device : Device) (i : ℕ) → W device i → IsFreeByte boot tables device i) → SparesUsed boot tables W
-spares_used_by boot tables W free place used at own w =
-    let f = free (drive place.slot) at w in
-    let slot : f.slot ≡ place.slot = sym (ap (λ (d : DriveId). d.0) (same_drive (record { 0 = place.slot }) (record { 0 = f.slot }) f.same)) in
-    both_not (is_used boot tables place.slot place.unit) used
-    (subst (λ u. is_used boot tables place.slot u ≡ false) own (subst (λ s. is_used boot tables s (at / 65536) ≡ false) slot f.free.unused))
-
--- and they are on drives on which the record is in force
-pub on_free : (r : Register) (held : Content) (tables : Facts) → r.record.members.drives ≡ r.drives
-    → ((slot unit : ℕ) → IsFree r.record tables slot unit → IsFree r.record (all_facts held.patches) slot unit)
-    → (device : Device) (i : ℕ) → IsFreeByte r.record tables device i → OnFree r held device i
-on_free r held tables all free device i f =
-    subst (λ d. OnFree r held d i) (sym f.same) (
-      cut_in r.drives r.record.slots f.slot f.within (subst (λ (flags : List Bool). slice_index_or flags f.slot false ≡ true) all f.named),
-      free f.slot (i / 65536) f.free,
+    subst (λ d. OnUnused x d i) (sym same) (
+      of_each (λ q. q.slot < boot.slots) places p (slots_below boot.slots boot.units 0 places h.lawful.ascending) c,
+      of_each (λ q. is_member boot q.slot ≡ true) places p h.members c,
+      subst (λ u. IsFree boot tables p.slot u) (sym own) (of_each (λ q. IsFree boot tables q.slot q.unit) places p h.free c),
     )
 
--- such is all that a checkpoint writes
-module _ (boot : BootRecord) (m : Memory) (p : Plan) (counts : Counts) (first : ℕ) (units : List (List Place)) (long : segments_of counts ≡ length units)
-    (new : AreNewUnits boot (facts m.tables) (units_of p ++ units)) where
-  only_free_bytes : (device : Device) (i : ℕ) → OnCheckpoint p.segments.items (added_patches counts first units) device i → IsFreeByte boot (facts m.tables) device i
-  only_free_bytes device i (inl (number, less, on)) =
-      free_byte boot (facts m.tables) (places_in p.segments.items number)
-      (of_each (AreUnitsToTake boot (facts m.tables)) (units_of p ++ units) (places_in p.segments.items number) new.each (data_among p units number less)) device i on
-  only_free_bytes device i (inr (index, q, at, (part, less, on))) =
-      free_byte boot (facts m.tables) (places_of_part q part)
-      (of_each (AreUnitsToTake boot (facts m.tables)) (units_of p ++ units) (places_of_part q part) new.each (part_among p counts first units long q part (contains_at (added_patches counts first units) index q at) less)) device i on
+-- so are those of patches on such units, which are on drives,
+pub patches_unused : (x : Array) (ps : List Patch) → ((p : Patch) → Contains ps p → (part : ℕ) → part < length p.segments → AreUnitsToTake x.register.record (facts x.memory.memory.tables) (places_of_part p part))
+    → (device : Device) (i : ℕ) → OnPatches ps 0 (STRIPES + 1) device i → OnUnused x device i
+patches_unused x ps taken device i (index, p, at, (part, less, on)) = unused_byte x (places_of_part p part) (taken p (contains_at ps index p at) part less) device i on
 
-  -- no unit that a segment uses is written
-  pub spares_used : SparesUsed boot (facts m.tables) (OnCheckpoint p.segments.items (added_patches counts first units))
-  spares_used = spares_used_by boot (facts m.tables) (OnCheckpoint p.segments.items (added_patches counts first units)) only_free_bytes
+pub patches_on_drives : (ps : List Patch) (device : Device) → IsOnPatches ps device → IsDrive device
+patches_on_drives ps device on = subst IsDrive (sym on.3.4) tt
 
--- a checkpoint writes only units that are free, on drives on which the record is in force
-pub only_free : (r : Register) (held : Content) (m : Memory) (p : Plan) (counts : Counts) (first : ℕ) (units : List (List Place)) → r.record.members.drives ≡ r.drives
-    → ((slot unit : ℕ) → IsFree r.record (facts m.tables) slot unit → IsFree r.record (all_facts held.patches) slot unit)
-    → segments_of counts ≡ length units → AreNewUnits r.record (facts m.tables) (units_of p ++ units)
-    → (device : Device) (i : ℕ) → OnCheckpoint p.segments.items (added_patches counts first units) device i → OnFree r held device i
-only_free r held m p counts first units all free long new device i w = on_free r held (facts m.tables) all free device i (only_free_bytes r.record m p counts first units long new device i w)
+-- where such bytes alone are written no unit is that a segment uses,
+pub spares_used : (x : Array) → SparesUsed x.register.record (facts x.memory.memory.tables) (OnUnused x)
+spares_used x place used at own w =
+    let boot = x.register.record in
+    let tables = facts x.memory.memory.tables in
+    both_not (is_used boot tables place.slot place.unit) used (subst (λ u. is_used boot tables place.slot u ≡ false) own w.2.unused)
 
--- no NVRAM device is called
-pub nvrams_stay : (segments : List SegmentFact) (ps : List Patch) (old new : Shelved) → ((device : Device) → (IsOnCheckpoint segments ps device → ⊥) → new.disk device ≡ old.disk device) → (n : ℕ) → new.disk (nvram n) ≡ old.disk (nvram n)
-nvrams_stay segments ps old new stay n = stay (nvram n) (λ on. elim on [
-  | inl h ↦ let e = h.4 in cc
-  | inr h ↦ let e = h.3.4 in cc
-])
+-- and they are free by the patches alone, on drives on which the record is in force
+pub on_free : (shelf : Shelved) (x : Array) (held : Content) → IsArrayOf (geometry_of shelf) x → IsReady shelf x held → (device : Device) (i : ℕ) → OnUnused x device i → OnFree x.register held device i
+on_free shelf x held of ready (Drive d) i w = (
+  cut_in x.register.drives x.register.record.slots d.0 w.0 (subst (λ (flags : List Bool). slice_index_or flags d.0 false ≡ true) ready.is_open.drives w.1),
+  subst (λ ps. IsFree x.register.record (all_facts ps) d.0 (i / 65536)) (sym ready.patches_are) (same_free x.register.record x.memory.memory.tables of.room.no_segments of.room.no_elisions d.0 (i / 65536) w.2),
+)
+on_free shelf x held of ready (Nv n) i w = absurd w

@@ -5,7 +5,7 @@ use Rattle.std.specs.List.{AllByRecursion, AllZip}
 use Rattle.std.proofs.lemmas.Bool.{cases_Bool, ltb-true, lt-ltb}
 use Rattle.std.proofs.lemmas.List.{get_or-map}
 use Rattle.std.proofs.lemmas.Option.{slice_get_within, slice_get-get_or}
-use Rattle.session_spec.specs.Prelude.{View, segment_key, never, key_of, is_elided, segment, says_is, each_by_recursion, AnyFact, SegmentFact, Place, Patch, SectorStands, StripesStand, PatchStands, Contents, Memory, facts, patches, ContentsStand, IsNamed, same_some}
+use Rattle.session_spec.specs.Prelude.{View, segment_key, never, key_of, is_elided, segment, says_is, each_by_recursion, AnyFact, SegmentFact, Place, Patch, SectorStands, StripesStand, PatchStands, Contents, Memory, facts, patches, ContentsStand, IsNamed, same_some, zip_long}
 use Rattle.pur_base.specs.declared.request.Table.TheVariants as table
 use Rattle.memory_spec.proofs.Placing.{old_segment_id}
 use Rattle.table_plan.specs.Prelude.{extended, sectors_at}
@@ -25,12 +25,6 @@ zip_of_gets R [] [] long each = tt
 zip_of_gets R [] (y ∷ ys) long each = absurd (omega (arith, long))
 zip_of_gets R (x ∷ xs) [] long each = absurd (omega (arith, long))
 zip_of_gets R (x ∷ xs) (y ∷ ys) long each = (each 0 x y refl refl, zip_of_gets R xs ys (omega (arith, long)) (λ i a b at bt. each (suc i) a b at bt))
-
-pub zip_long : {A B : Type 0} (R : A → B → Type 0) (xs : List A) (ys : List B) → AllZip R xs ys → length xs ≡ length ys
-zip_long R [] [] z = refl
-zip_long R [] (y ∷ ys) z = absurd z
-zip_long R (x ∷ xs) [] z = absurd z
-zip_long R (x ∷ xs) (y ∷ ys) z = let rest = zip_long R xs ys z.1 in omega (arith, rest)
 
 -- ---- contents
 

@@ -1,16 +1,53 @@
 -- What holds behind a checkpoint of an array whose memory got room for it first.
-use Rattle.std.proofs.Common.{◌≡◌, sym, ap, subst}
-use Rattle.std.specs.Prelude.{Err, OnErr, Result}
+use Rattle.std.proofs.Common.{◌≡◌, [], sym, ap, subst, Result, Err, OnOk}
 use Rattle.pur_base.specs.Plain as plain
-use Rattle.session_spec.specs.Prelude.{Continues, IsCountedBy, IsShelf, LeavesOnly, Shelved, started, then_run, weaker, counted_then, counts_grow, Contents, ReadsAs, facts}
-use Rattle.nvram_log.specs.declared.log.NvLog.{NvLog}
-use Rattle.register.specs.declared.state.Register.{Register}
+use Rattle.session_spec.specs.Prelude.{IsCountedBy, IsShelf, LeavesOnly, Shelved, started}
 use Rattle.array_memory.specs.Prelude.{Kept}
 use Rattle.array_core.specs.declared.array.Array.{Array}
-use Rattle.array_core.specs.Prelude.{SegmentsHold, is_spent, DropsFailed, DropsFailedBy, NoneJoins, NoneJoinsBy, IsLost, IsLostBy}
+use Rattle.array_core.specs.Prelude.{is_spent, by_faults, Goes, Halts, Holds}
 use Rattle.array_checkpoint.specs.Prepared.{IsLike}
 use Rattle.array_checkpoint.specs.Made.{HasFlushed}
-use Rattle.array_checkpoint.proofs.Like.{like_is, roomed, roomed_reads}
+use Rattle.array_checkpoint.proofs.Like.{like_is, roomed, roomed_is_ready, roomed_reads}
+
+-- ---- with room for patches as there
+
+module _ (old new : Shelved) (a : Array) (k : Kept) where
+  roomed_holds : (x : plain.Array) → Holds old a x → Holds old (roomed a k) x
+  roomed_holds x holds = record { held = holds.held; ready = roomed_is_ready old a k holds.held holds.ready; is = holds.is }
+
+  roomed_goes : (b : Array) → Goes by_faults old new (roomed a k) b [] → Goes by_faults old new a b []
+  roomed_goes b g = record {
+    ran = g.ran;
+    is_of = g.is_of;
+    hands_on = assumption g.hands_on;
+    accepted = λ contents x reads. tt;
+    reads = λ contents x reads. let y = g.reads contents x (roomed_reads a k contents x reads) in record { more = y.more; reads = y.reads; hold = y.hold };
+    holds = λ h x holds. g.holds h x (roomed_holds x holds);
+    any_moment = λ h x holds. g.any_moment h x (roomed_holds x holds);
+  }
+
+  roomed_halts : Halts by_faults old new (roomed a k) [] → Halts by_faults old new a []
+  roomed_halts halts = record { ran = halts.ran; unborne = halts.unborne; any_moment = λ h x holds. halts.any_moment h x (roomed_holds x holds) }
+
+flushed_roomed : (a : Array) (k : Kept) (now : Array) → HasFlushed (roomed a k) now → HasFlushed a now
+flushed_roomed a k now h = record {
+  none = h.none;
+  rises = h.rises;
+  few = h.few;
+  rest = h.rest;
+  data_segments = h.data_segments;
+  new_segments = h.new_segments;
+  elided = h.elided;
+  lowest = h.lowest;
+  elides = h.elides;
+  few_data = h.few_data;
+  few_new = h.few_new;
+  next = h.next;
+  placed = h.placed;
+  patch_segments_are = h.patch_segments_are;
+  one_more = h.one_more;
+  go_on = h.go_on;
+}
 
 -- ---- the array with room is the same
 
@@ -24,55 +61,21 @@ module _ (was mid : Array) (like : IsLike was mid) where
   pub same_objects : mid.memory.objects ≡ was.memory.objects
   same_objects = ap (λ (k : Kept). k.objects) like.memory
 
-  pub reads_roomed : (contents : Contents) (x : plain.Array) → ReadsAs contents was.memory.memory x → ReadsAs contents mid.memory.memory x
-  reads_roomed contents x r = subst (λ (a : Array). ReadsAs contents a.memory.memory x) (sym same) (roomed_reads was mid.memory contents x r)
-
-  pub hold_roomed : (shelf : Shelved) (contents : Contents) → SegmentsHold contents shelf was.register (facts was.memory.memory.tables) → SegmentsHold contents shelf mid.register (facts mid.memory.memory.tables)
-  hold_roomed shelf contents hold = subst (λ (a : Array). SegmentsHold contents shelf a.register (facts a.memory.memory.tables)) (sym same) hold
-
   -- what has become of it
-  flushed_roomed : (k : Kept) (now : Array) → HasFlushed (roomed was k) now → HasFlushed was now
-  flushed_roomed k now h = record {
-    none = h.none;
-    rises = h.rises;
-    few = h.few;
-    rest = h.rest;
-    data_segments = h.data_segments;
-    new_segments = h.new_segments;
-    elided = h.elided;
-    few_elided = h.few_elided;
-    lowest = h.lowest;
-    gone = h.gone;
-    few_data = h.few_data;
-    few_new = h.few_new;
-    next = h.next;
-    patch_segments_are = h.patch_segments_are;
-  }
-
   pub flushed_since : (now : Array) → HasFlushed mid now → HasFlushed was now
-  flushed_since now h = flushed_roomed mid.memory now (subst (λ (a : Array). HasFlushed a now) same h)
+  flushed_since now h = flushed_roomed was mid.memory now (subst (λ (a : Array). HasFlushed a now) same h)
 
-  -- who holds it
-  pub drops : (start new : Shelved) (now : Array) → DropsFailedBy start new mid.register mid.log.members now.register now.log.members → DropsFailed start new was now
-  drops start new now dropped = subst (λ (l : NvLog). DropsFailedBy start new was.register l.members now.register now.log.members) like.log
-      (subst (λ (r : Register). DropsFailedBy start new r mid.log.members now.register now.log.members) like.register dropped)
+  pub goes_since : (old new : Shelved) (now : Array) → Goes by_faults old new mid now [] → Goes by_faults old new was now []
+  goes_since old new now g = roomed_goes old new was mid.memory now (subst (λ (a : Array). Goes by_faults old new a now []) same g)
 
-  pub joins : (now : Array) → NoneJoinsBy mid.register mid.log.members now.register now.log.members → NoneJoins was now
-  joins now none = subst (λ (l : NvLog). NoneJoinsBy was.register l.members now.register now.log.members) like.log (subst (λ (r : Register). NoneJoinsBy r mid.log.members now.register now.log.members) like.register none)
-
-  pub too_much : (start new : Shelved) → IsLostBy start new mid.register mid.log.members → IsLost start new was
-  too_much start new lost = subst (λ (a : Array). IsLost start new a) same lost
+  pub halts_since : (old new : Shelved) → Halts by_faults old new mid [] → Halts by_faults old new was []
+  halts_since old new halts = roomed_halts old new was mid.memory (subst (λ (a : Array). Halts by_faults old new a []) same halts)
 
 -- ---- where nothing was written
 
-module _ (shelf : Shelved) (is : IsShelf shelf) where
-  pub counted_now : LeavesOnly shelf shelf (IsCountedBy shelf)
-  counted_now = started shelf (IsCountedBy shelf) is (λ stop may. may.counts)
+pub counted_now : (shelf : Shelved) → IsShelf shelf → LeavesOnly shelf shelf (IsCountedBy shelf)
+counted_now shelf is = started shelf (IsCountedBy shelf) is (λ stop may. may.counts)
 
--- what was counted since a later moment was counted since an earlier one
-pub counted_since : {a b c : Shelved} → Continues a b → LeavesOnly a b (IsCountedBy a) → LeavesOnly b c (IsCountedBy b) → LeavesOnly a c (IsCountedBy a)
-counted_since ab first next = then_run ab first (weaker (λ stop counted. counted_then (counts_grow ab) counted) next)
-
--- what is so behind an error
-pub err_on : {T E : Type 0} (r : Result T E) (P : Type 0) (e : E) → r ≡ Err e → P → OnErr r P
-err_on {T} {E} r P e is p = subst (λ (x : Result T E). OnErr x P) (sym is) p
+-- nothing is told of Ok behind an error
+pub none_ok : {T E : Type 0} {e : E} (r : Result T E) (P : Type 0) → r ≡ Err e → OnOk r P
+none_ok r P is = subst (λ x. OnOk x P) (sym is) tt

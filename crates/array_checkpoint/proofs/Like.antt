@@ -2,7 +2,7 @@
 use Rattle.std.proofs.Common.{◌≡◌, refl, subst, sym}
 use Rattle.session_spec.specs.Prelude.{Geometry, Shelved, Contents, ReadsAs}
 use Rattle.pur_base.specs.Plain as plain
-use Rattle.register.specs.Prelude.{Content}
+use Rattle.register.specs.Prelude.{Content, array_of}
 use Rattle.array_memory.specs.Prelude.{Kept, with_patch_rooms}
 use Rattle.array_memory.proofs.SoundLemmas.{sound_as}
 use Rattle.array_core.specs.declared.array.Array.{Array}
@@ -20,30 +20,9 @@ pub roomed_reads : (a : Array) (k : Kept) (contents : Contents) (x : plain.Array
 roomed_reads a k contents x r = record { sound = sound_as a.memory.memory (with_patch_rooms a.memory k).memory refl refl refl r.sound; reads = r.reads }
 
 pub roomed_is_of : (shelf : Geometry) (a : Array) (k : Kept) → IsArrayOf shelf a → IsArrayOf shelf (roomed a k)
-roomed_is_of shelf a k is = record {
-  of_shelf = is.of_shelf;
-  flushed = is.flushed;
-  some = is.some;
-  sound = sound_as a.memory.memory (with_patch_rooms a.memory k).memory refl refl refl is.sound;
-  layered = record { objects = is.layered.objects; mediums = is.layered.mediums; addresses = is.layered.addresses; segments = is.layered.segments; elisions = is.layered.elisions };
-  stored = is.stored;
-  named = is.named;
-  segments = is.segments;
-  room = record {
-    objects = is.room.objects;
-    addresses = is.room.addresses;
-    staged = is.room.staged;
-    indices = is.room.indices;
-    unflushed_objects = is.room.unflushed_objects;
-    unflushed_addresses = is.room.unflushed_addresses;
-    no_mediums = is.room.no_mediums;
-    no_segments = is.room.no_segments;
-    no_elisions = is.room.no_elisions;
-    capacity = record { objects = is.room.capacity.objects; names = is.room.capacity.names; addresses = is.room.capacity.addresses; staged = is.room.capacity.staged };
-  };
-  segment_ids = is.segment_ids;
-  patch_ids = is.patch_ids;
-}
+roomed_is_of shelf a k is =
+    let sound = sound_as a.memory.memory (with_patch_rooms a.memory k).memory refl refl refl is.sound in
+    assumption (sound, is)
 
 pub roomed_is_ready : (shelf : Shelved) (a : Array) (k : Kept) (held : Content) → IsReady shelf a held → IsReady shelf (roomed a k) held
 roomed_is_ready shelf a k held ready = record {
@@ -55,7 +34,7 @@ roomed_is_ready shelf a k held ready = record {
   in_force = ready.in_force;
   patches_are = ready.patches_are;
   contents = ready.contents;
-  reads = record { sound = sound_as a.memory.memory (with_patch_rooms a.memory k).memory refl refl refl ready.reads.sound; reads = ready.reads.reads };
+  reads = roomed_reads a k ready.contents (array_of held) ready.reads;
   hold = ready.hold;
 }
 

@@ -43,8 +43,6 @@ below n e = leb-false (2 ^ 48 - 2 ^ 24) n e
 pub record AreLow (a : Array) : Type 0 where
   pub generation : a.register.record.generation < 2 ^ 48 - 2 ^ 24
   pub flushed : a.register.record.flushed < 2 ^ 48 - 2 ^ 24
-  pub object : a.memory.memory.next.object < 2 ^ 48 - 2 ^ 24
-  pub medium : a.memory.memory.next.medium < 2 ^ 48 - 2 ^ 24
   pub segment : a.memory.memory.next.segment < 2 ^ 48 - 2 ^ 24
   pub patch_segment : a.memory.memory.next.patch_segment < 2 ^ 48 - 2 ^ 24
   pub sequence : a.memory.memory.next.sequence < 2 ^ 48 - 2 ^ 24
@@ -58,12 +56,9 @@ are_low a e =
     let five = none_of (is_used_up n.object || is_used_up n.medium || is_used_up n.segment || is_used_up n.patch_segment) (is_used_up n.sequence) all.1 in
     let four = none_of (is_used_up n.object || is_used_up n.medium || is_used_up n.segment) (is_used_up n.patch_segment) five.0 in
     let three = none_of (is_used_up n.object || is_used_up n.medium) (is_used_up n.segment) four.0 in
-    let two = none_of (is_used_up n.object) (is_used_up n.medium) three.0 in
     record {
       generation = below r.generation one.0;
       flushed = below r.flushed one.1;
-      object = below n.object two.0;
-      medium = below n.medium two.1;
       segment = below n.segment three.1;
       patch_segment = below n.patch_segment four.1;
       sequence = below n.sequence five.1;
@@ -134,17 +129,20 @@ module _ (shelf : Geometry) (a : Array) (is : IsArrayOf shelf a) where
   }
 
   -- what the map of the record and these segments says
-  module _ (ds : List SegmentFact) (said : segments (facts a.memory.memory.tables) a.memory.memory.next.segment ≡ ds) (map : List Drive)
-      (of : (fs : Facts) → segments fs a.register.record.next.segment ≡ ds → IsMapOf a.register.record fs map) where
+  module _ (ds : List SegmentFact) (said : segments (facts a.memory.memory.tables) a.memory.memory.next.segment ≡ ds) (boot : BootRecord) (own : boot ≡ a.register.record) (map : List Drive)
+      (of : (fs : Facts) → segments fs boot.next.segment ≡ ds → IsMapOf boot fs map) where
+    of_record : (fs : Facts) → segments fs a.register.record.next.segment ≡ ds → IsMapOf a.register.record fs map
+    of_record = subst (λ (b : BootRecord). (fs : Facts) → segments fs b.next.segment ≡ ds → IsMapOf b fs map) own of
+
     pub map_of_facts : IsMapOf a.register.record (facts a.memory.memory.tables) map
-    map_of_facts = of (facts a.memory.memory.tables) (ap (λ (n : ℕ). segments (facts a.memory.memory.tables) n) (sym is.segment_ids) ∙ said)
+    map_of_facts = of_record (facts a.memory.memory.tables) (ap (λ (n : ℕ). segments (facts a.memory.memory.tables) n) (sym is.segment_ids) ∙ said)
 
     -- its groups are those that the array has
     pub has_groups : (g : ℕ) → IsGroups map g → HasGroups a g
     has_groups g groups =
         let t = a.memory.memory.tables in
         let n = a.register.record.next.segment in
-        let shown = of (all_facts (patches t)) (patches_show t n is.room.no_segments is.room.no_elisions ∙ ap (λ (i : ℕ). segments (facts t) i) (sym is.segment_ids) ∙ said) in
+        let shown = of_record (all_facts (patches t)) (patches_show t n is.room.no_segments is.room.no_elisions ∙ ap (λ (i : ℕ). segments (facts t) i) (sym is.segment_ids) ∙ said) in
         (groups_of_the_tables a.register.record (all_facts (patches t)) map g shown).0 groups
 
     pub many_groups : ((g : ℕ) → HasGroups a g → 12 ≤ g) → (g : ℕ) → IsGroups map g → 12 ≤ g

@@ -1,9 +1,9 @@
 -- What a checkpoint makes of an array, and of its devices.
-use Rattle.std.specs.Prelude.{◌≡◌, ℕ, ◌+◌, ◌<◌, ◌≤◌, List, [], length, None, Contains}
-use Rattle.session_spec.specs.Prelude.{Facts, segment, patch_segments, Shelved, Contents, Memory, facts, patches}
+use Rattle.std.specs.Prelude.{◌≡◌, ℕ, ◌+◌, ◌<◌, ◌≤◌, List, [], length}
+use Rattle.session_spec.specs.Prelude.{Facts, all_facts, patch_segments, Shelved, Contents, Memory, facts, patches}
+use Rattle.session_spec.specs.Checkpointing.{ElidesUnnamed, FactsGoOn, HaveOneMore, HoldAddressed}
 use Rattle.register.specs.Prelude.{Content, array_of}
 use Rattle.table_plan.specs.Prelude.{extended, sectors_at}
-use Rattle.array_memory.specs.declared.limits.TheConstants.{ELIDED_SEGMENTS}
 use Rattle.array_memory.specs.declared.plan.Plan.{Plan}
 use Rattle.array_memory.specs.Prelude.{AreLowestUnused, after_plan, next_past}
 use Rattle.array_core.specs.declared.array.Array.{Array}
@@ -43,15 +43,17 @@ pub record HasFlushed (was now : Array) : Type 0 where
   }
   -- the ids of the elided segments
   pub elided : List ℕ
-  pub few_elided : length elided ≤ ELIDED_SEGMENTS
   pub lowest : AreLowestUnused (facts was.memory.memory.tables) elided
-  pub gone : (id : ℕ) → Contains elided id → segment (facts now.memory.memory.tables) id ≡ None
+  pub elides : ElidesUnnamed (all_facts (patches was.memory.memory.tables)) (all_facts (patches now.memory.memory.tables)) was.memory.memory.next.segment elided
   pub data_segments : ℕ
   pub new_segments : ℕ
   pub few_data : data_segments ≤ DATA_SEGMENTS
   pub few_new : new_segments ≤ NEW_PATCHES
   pub next : now.memory.memory.next ≡ record (next_past (record was.memory.memory.next { sequence = was.memory.memory.next.sequence + length elided }) data_segments) { patch_segment = was.memory.memory.next.patch_segment + new_segments }
+  pub placed : HoldAddressed (all_facts (patches now.memory.memory.tables)) was.memory.memory.next.segment data_segments
   pub patch_segments_are : patch_segments now.register.record.patches ≡ patch_segments was.register.record.patches + new_segments
+  pub one_more : HaveOneMore was.register.record.patches now.register.record.patches
+  pub go_on : FactsGoOn (all_facts (patches was.memory.memory.tables)) (all_facts (patches now.memory.memory.tables))
 
 -- why a checkpoint wasn't made: for want of memory, and then all stays as it was, or since more devices failed than are borne, and then the array is to halt
 abbrev pub IsFaultOf : Shelved → Shelved → Array → Type 0 → CheckpointFault → Type 0

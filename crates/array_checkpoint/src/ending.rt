@@ -1,20 +1,19 @@
 // What was written is made the array's.
-ghost use Rattle.std.specs.Prelude.{◌≡◌, ◌<◌, false, OnOk, OnErr};
+ghost use Rattle.std.specs.Prelude.{◌≡◌, ◌<◌, false, OnOk, OnErr, IfErr};
 ghost use Rattle.boot_codec.specs.Record.{patch_segments};
 ghost use Rattle.world.specs.Losing.{geometry_of};
 ghost use Rattle.world.specs.Ran.{Ran};
-ghost use Rattle.world.specs.Shelf.{Continues};
-ghost use Rattle.register.specs.Standing.{Content};
-ghost use Rattle.array_core.specs.Changing.{OnlyFaults};
 ghost use Rattle.array_core.specs.Ready.{IsArrayOf, is_spent};
-ghost use Rattle.array_core.specs.Switching.{AreLost, MaySwitch, OnSlotsAndLog};
-ghost use Rattle.array_core.specs.Taking.{StaysReady, TakesOver};
+ghost use Rattle.array_core.specs.Switching.{OnSlotsAndLog};
+ghost use Rattle.array_core.specs.Written.{TookOver};
 ghost use Rattle.array_checkpoint.specs.declared.limits.TheConstants.{SEGMENTS_END};
+ghost use Rattle.array_checkpoint.specs.declared.making.CheckpointFault.TheVariants as faults;
 ghost use Rattle.array_checkpoint.specs.Prepared.{IsPreparedFor};
 ghost use Rattle.array_checkpoint.specs.Made.{contents_after, facts_after, held_after, HasFlushed};
 
+use crate::making::CheckpointFault;
 use crate::preparing::Prepared;
-use array_core::{Array, PerformFault, switch};
+use array_core::{Array, switch};
 use pur_base::Lost;
 use world::Shelf;
 
@@ -25,22 +24,19 @@ pub(crate) fn take_over<S: Shelf>(
     prepared: Prepared,
     lost: &Lost,
     shelf: &mut S,
-) -> Result<(), PerformFault>
+) -> Result<(), CheckpointFault>
     requires is_of { IsArrayOf (geometry_of (S.shelf shelf.old)) array.old }
     requires prepared { IsPreparedFor array.old prepared }
     requires unspent { is_spent array.old ≡ false }
     requires few { patch_segments array.old.register.record.patches < SEGMENTS_END }
     ensures ran { Ran S.shelf S.shelf_rest (λ d. Unit {0}) (OnSlotsAndLog array.old.register array.old.log.members) shelf.old shelf.new }
-    ensures taken { OnOk result (TakesOver (S.shelf shelf.old) (S.shelf shelf.new) lost.now.drives (facts_after array.old.memory.memory prepared.plan) (contents_after array.old.memory.memory prepared.plan) array.old array.new) }
+    // Where the devices held the array, and hold it by the new tables, they do so by these alone. At every moment a session can go on with the array.
+    ensures took { (start : S) → TookOver result (S.shelf start) (S.shelf shelf.old) (S.shelf shelf.new) lost.now.drives prepared.tables
+        (held_after array.old.memory.memory prepared.plan) (contents_after array.old.memory.memory prepared.plan) (facts_after array.old.memory.memory prepared.plan) array.old array.new }
     ensures flushed { OnOk result (HasFlushed array.old array.new) }
     ensures objects { array.new.memory.objects ≡ array.old.memory.objects }
+    ensures fault { IfErr result (λ e. e ≡ faults.Device) }
     ensures unfinished { OnErr result (array.new.memory ≡ array.old.memory) }
-    ensures faults { (start : S) → Continues (S.shelf start) (S.shelf shelf.old) → AreLost (S.shelf start) (S.shelf shelf.old) array.old.register lost.now.drives
-        → OnlyFaults result (S.shelf start) (S.shelf shelf.new) array.old.register array.new.register array.old.log.members array.new.log.members }
-    // Where the devices held the array, and hold it by the new tables, they do so by these alone. At every moment a session can go on with the array.
-    ensures stays { (S.shelf shelf.old).honest → (start : S) (held : Content)
-        → MaySwitch (S.shelf start) (S.shelf shelf.old) array.old.register array.old.log lost.now.drives prepared.tables held (held_after array.old.memory.memory prepared.plan held)
-        → StaysReady result (S.shelf start) (S.shelf shelf.old) (S.shelf shelf.new) lost.now.drives (facts_after array.old.memory.memory prepared.plan) (contents_after array.old.memory.memory prepared.plan) array.old array.new held (held_after array.old.memory.memory prepared.plan held) }
 {
     let Prepared { plan, tables, .. } = prepared;
     switch(

@@ -72,6 +72,5 @@ pub fn checkpoint<S: Shelf>(
 {
     let prepared = prepare(alloc, array)?;
     let lost = write_prepared(alloc, array, &prepared, shelf)?;
-    take_over(array, prepared, &lost, shelf)?;
-    Ok(())
+    take_over(array, prepared, &lost, shelf)
 }

@@ -88,7 +88,7 @@ missing_or_sound LeftOut = inr refl
 missing_not : (c : Condition) → c ≡ Sound → is_missing c ≡ true → ⊥
 missing_not c e m = cc (subst (λ (x : Condition). is_missing x ≡ true) e m)
 
-borne_named : (shelf : Geometry) (first now : Conditions) → ((d : Device) → now d ≡ Sound → first d ≡ Sound) → IsBearable shelf now → IsBearable shelf first
+pub borne_named : (shelf : Geometry) (first now : Conditions) → ((d : Device) → now d ≡ Sound → first d ≡ Sound) → IsBearable shelf now → IsBearable shelf first
 borne_named shelf first now sound bears = borne_on shelf first now (λ d on m. elim (missing_or_sound (now d)) [
   | inl s ↦ absurd (missing_not (first d) (sound d s) m)
   | inr is ↦ is

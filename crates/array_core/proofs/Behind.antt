@@ -10,7 +10,7 @@ use Rattle.register.specs.Prelude.{drives_of, in_cut, fewer_cut}
 use Rattle.array_core.specs.Changing.{LeavesFewer}
 use Rattle.array_core.specs.Drives.{SegmentsHold, drives_view}
 use Rattle.array_core.proofs.Segments.{AreKept, drives_left, few_bad, hold_kept, off_slots}
-use Rattle.array_core.proofs.Stages.{later_itself}
+use Rattle.array_core.proofs.Stages.{left_among, later_itself}
 use Rattle.array_core.specs.Switching.{HoldOnLeft, OnSlotsAndLog}
 
 -- the drives of a record show themselves
@@ -52,6 +52,6 @@ segments_left old new was now members left lost {D} {most} run x slots drives en
     let on_shelf = drives_left (geometry_of new) now now x.of_shelf (later_itself now.record) drives flags.drive_flags flags.within enough in
     let same : new.drives ≡ old.drives = run.continues.drives in
     let is_left : (i : ℕ) → IsMember (drives_of now) i → IsMember (drives_of was) i × ¬ (IsMember lost i) =
-    λ i m. (fewer_cut was now slots (λ k y. (x.fewer k y).0) i m, (x.fewer i (in_cut now.drives now.record.slots i m)).1) in
+    left_among slots x in
     hold_kept (geometry_of old) old new now kept contents fs places
     (hold (drives_of now) is_left (drives_view old now) (view_among old now) (view_enough (geometry_of old) old now (on_shelf.0 ∙ same) (let all = on_shelf.1 in omega (arith, all, same))))

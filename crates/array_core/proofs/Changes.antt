@@ -1,15 +1,16 @@
 -- What a change of the log and a store leave, and one change after another.
 use Rattle.std.proofs.Common.{◌≡◌, ◌⊎◌, inl, inr, ℕ, ◌+◌, ◌≤◌, List, [], length, sym, ◌∙◌, ap, subst, arith, Bool, Result, Ok, Err, OnOk, OnErr}
-use Rattle.session_spec.specs.Prelude.{Geometry, drive, nvram, Facts, segment, SegmentFact, BootRecord, set_count, ArePlaces, geometry_of, Shelved, Continues, Contents}
+use Rattle.session_spec.specs.Prelude.{Device, Geometry, drive, nvram, Facts, segment, SegmentFact, BootRecord, set_count, ArePlaces, geometry_of, Shelved, Continues, Contents}
 use Rattle.std.specs.Prelude.{Some}
 use Rattle.boot_region.specs.Prelude.{IsMember, DroppedFailed, LostWrites}
 use Rattle.nvram_log.specs.Members as nv
 use Rattle.register.specs.declared.state.Register.{Register}
 use Rattle.register.specs.declared.tables.Tables.{Tables}
-use Rattle.register.specs.Prelude.{IsLaterRecord, drives_of, Content, DropsOnlyFailed, IsUnstored, with_tables, on_err}
+use Rattle.register.specs.Prelude.{IsLaterRecord, drives_of, Content, DropsOnlyFailed, IsUnstored, in_cut, with_tables, on_err}
 use Rattle.array_core.specs.declared.array.Array.{Array}
 use Rattle.array_core.specs.Changing.{KeepsTables, LeavesFewer, OnlyFaults}
 use Rattle.array_core.specs.Drives.{SegmentsHold}
+use Rattle.array_core.specs.Holding.{IsHolderBy}
 use Rattle.array_core.specs.Performing.{IsLostBy}
 use Rattle.array_core.specs.Ready.{IsReady}
 use Rattle.array_core.specs.Switching.{HasTables, HoldOnLeft, HoldTables, MaySwitch, WroteFree}
@@ -76,10 +77,13 @@ tables_fewer first left few = record {
 
 -- ---- a call on the log's devices, then a store, or none
 
+pub unlost_of : {old new : Shelved} {was now : Register} → DropsOnlyFailed old new was now → (i : ℕ) → IsMember (drives_of now) i → (new.disk (drive i)).write_faults ≡ (old.disk (drive i)).write_faults
+unlost_of {now = now} left i m = left.unlost i (in_cut now.drives now.record.slots i m)
+
 pub only_faults : (a m n : Shelved) (r now : Register) (members left : List Bool) → length members ≡ 2 → ((i : ℕ) → m.disk (drive i) ≡ a.disk (drive i)) → ((k : ℕ) → n.disk (nvram k) ≡ m.disk (nvram k))
-    → nv.DroppedFailed a m members left → DroppedFailed m n (drives_of r) (drives_of now) → {T E : Type 0} (result : Result T E) → (DroppedFailed a n (drives_of r) (drives_of now) → OnErr result (IsLostBy a n r members))
+    → nv.LosesOnlyFailed a m members left → DroppedFailed m n (drives_of r) (drives_of now) → ((i : ℕ) → IsMember (drives_of now) i → (n.disk (drive i)).write_faults ≡ (m.disk (drive i)).write_faults) → {T E : Type 0} (result : Result T E) → (DroppedFailed a n (drives_of r) (drives_of now) → OnErr result (IsLostBy a n r members))
     → OnlyFaults result a n r now members left
-only_faults a m n r now members left two drives nvrams logs dropped result lost = record { holders = drops_failed a m n r now members left two drives nvrams logs dropped; drives = since_a; lost = lost since_a }
+only_faults a m n r now members left two drives nvrams logs dropped unlost result lost = record { holders = drops_failed a m n r now members left two drives nvrams logs dropped unlost; drives = since_a; lost = lost since_a }
   where
     since_a : DroppedFailed a n (drives_of r) (drives_of now)
     since_a i mem = subst (λ d. IsMember (drives_of now) i ⊎ LostWrites d (n.disk (drive i))) (drives i) (dropped i mem)
@@ -89,10 +93,10 @@ pub faults_on : {T E U F : Type 0} {e : E} {old new : Shelved} {was now : Regist
 faults_on result x = record { holders = x.holders; drives = x.drives; lost = when_err result x.lost }
 
 -- one change after another, where the first leaves the log as it is
-pub faults_then : (start mid new : Shelved) → Continues start mid → Continues mid new → (r0 r1 r2 : Register) (members left : List Bool) → r1.record.slots ≡ r0.record.slots → {T E U F : Type 0} (first : Result T E) (result : Result U F)
+pub faults_then : (start mid new : Shelved) → Continues start mid → Continues mid new → (r0 r1 r2 : Register) (members left : List Bool) → r1.record.slots ≡ r0.record.slots → ((d : Device) → IsHolderBy r2 left d → IsHolderBy r1 members d) → {T E U F : Type 0} (first : Result T E) (result : Result U F)
     → OnlyFaults first start mid r0 r1 members members → OnlyFaults result mid new r1 r2 members left → OnlyFaults result start new r0 r2 members left
-faults_then start mid new on next r0 r1 r2 members left slots first result was now = record {
-  holders = drops_then start mid new on next r0 r1 r2 members members left was.holders now.holders;
+faults_then start mid new on next r0 r1 r2 members left slots fewer first result was now = record {
+  holders = drops_then start mid new on next r0 r1 r2 members members left fewer was.holders now.holders;
   drives = dropped_then start mid new on next (drives_of r0) (drives_of r1) (drives_of r2) was.drives now.drives;
   lost = on_err result (λ too_much. too_much_since start mid new on next r0 r1 members slots was.drives too_much) now.lost;
 }
@@ -111,6 +115,6 @@ changed_then new r0 r1 r2 members left x fewer result y segments = ok_if result 
       rises = omega (arith, x.rises, y.later.generation);
       drives = drives;
       enough = enough;
-      joins = none_joins r0 r1 r2 members left x.joins (λ i m. (fewer.fewer i m).0) (ap (λ (k : BootRecord). k.slots) y.later.rest) fewer.fewer_logs (get _ y.named) (get _ y.drives) (get _ y.nvrams);
+      joins = none_joins r0 r1 r2 members left x.joins (λ i m. (fewer.fewer i m).0) (ap (λ (k : BootRecord). k.slots) y.later.rest) fewer.fewer_logs (get _ y.named) (get _ y.drives) (get _ y.nvrams) (get _ y.enough);
       segments = segments drives enough;
     })

@@ -9,7 +9,7 @@ use Rattle.nvram_log.specs.Members as nv
 use Rattle.register.specs.declared.state.Register.{Register}
 use Rattle.register.specs.Prelude.{IsRegisterOf, IsLaterRecord, drives_of, few_set, fewer_count, in_cut, cut_in}
 use Rattle.array_core.specs.declared.array.Array.{Array}
-use Rattle.array_core.specs.Holding.{IsHolder, DropsFailedBy, NoneJoins}
+use Rattle.array_core.specs.Holding.{IsHolder, DropsFailedBy, HasEnough, IsHolderBy, NoneJoins}
 
 -- ---- counts of failed calls at each moment
 
@@ -53,16 +53,27 @@ one_unset before now two two_now other fewer = of before now two two_now other f
 -- the log is written from old to mid, and a record may be stored from mid to new
 module _ (old mid new : Shelved) (was now : Register) (members left : List Bool) (two : length members ≡ 2)
     (same : (i : ℕ) → mid.disk (drive i) ≡ old.disk (drive i)) (kept : (n : ℕ) → new.disk (nvram n) ≡ mid.disk (nvram n))
-    (dropped : nv.DroppedFailed old mid members left) (drives : DroppedFailed mid new (drives_of was) (drives_of now)) where
-  pub drops_failed : DropsFailedBy old new was members now left
-  drops_failed (Drive d) h = elim (drives d.0 h) [
+    (logs : nv.LosesOnlyFailed old mid members left) (drives : DroppedFailed mid new (drives_of was) (drives_of now))
+    (unlost : (i : ℕ) → IsMember (drives_of now) i → (new.disk (drive i)).write_faults ≡ (mid.disk (drive i)).write_faults) where
+  below : (n : ℕ) → nv.IsMember members n → n < 2
+  below n h = omega (arith, two, member_below members n h)
+
+  leaves : (d : Device) → IsHolderBy was members d → IsHolderBy now left d ⊎ Rises (old.disk d).write_faults (new.disk d).write_faults
+  leaves (Drive d) h = elim (drives d.0 h) [
     | inl is ↦ inl is
     | inr rose ↦ inr (subst (λ (k : Disk). Rises k.write_faults (new.disk (Drive d)).write_faults) (same d.0) rose.write_faults)
   ]
-  drops_failed (Nv n) h = elim (dropped n.0 (omega (arith, two, member_below members n.0 h)) h) [
+  leaves (Nv n) h = elim (logs.dropped n.0 (below n.0 h) h) [
     | inl is ↦ inl is
     | inr rose ↦ inr (subst (λ (k : Disk). Rises (old.disk (Nv n)).write_faults k.write_faults) (sym (kept n.0)) rose)
   ]
+
+  stays : (d : Device) → IsHolderBy now left d → (new.disk d).write_faults ≡ (old.disk d).write_faults
+  stays (Drive d) h = unlost d.0 h ∙ ap (λ (k : Disk). k.write_faults) (same d.0)
+  stays (Nv n) h = ap (λ (k : Disk). k.write_faults) (kept n.0) ∙ logs.unlost n.0 (below n.0 (logs.fewer n.0 h)) h
+
+  pub drops_failed : DropsFailedBy old new was members now left
+  drops_failed = record { leaves = leaves; unlost = stays }
 
 -- ---- who joins
 
@@ -73,8 +84,13 @@ fewer_drives was now later fewer i m =
 
 pub none_joins : (shelf : Geometry) (was now : Array) (nvrams : List Bool) → IsRegisterOf shelf was.register → IsLaterRecord was.register.record now.register.record
     → ((i : ℕ) → IsMember now.register.drives i → IsMember was.register.drives i) → nv.IsFewer was.log.members now.log.members → nvrams ≡ now.log.members
-    → (now.register.record.members.drives ≡ now.register.drives) × (now.register.record.members.nvrams ≡ nvrams) → NoneJoins was now
-none_joins shelf was now nvrams is later fewer fewer_nvrams log members = record { holders = λ d h. held d h; named = λ d e. named d e; names_holders = λ before. (members.0, members.1 ∙ log) }
+    → (now.register.record.members.drives ≡ now.register.drives) × (now.register.record.members.nvrams ≡ nvrams) → HasEnough now.register → NoneJoins was now
+none_joins shelf was now nvrams is later fewer fewer_nvrams log members enough = record {
+  holders = λ d h. held d h;
+  named = λ d e. named d e;
+  names_holders = λ before. (members.0, members.1 ∙ log);
+  enough = λ before. enough;
+}
   where
     held : (d : Device) → IsHolder now d → IsHolder was d
     held (Drive d) h = fewer_drives was.register now.register later fewer d.0 h

@@ -136,7 +136,7 @@ module _ (start m : Shelved) (is : IsShelf start) (is_m : IsShelf m) (h : start.
       (left i (
         in_cut was.drives was.record.slots i mem,
         λ is. risen_on_way (start.disk (drive i)).write_faults (start.disk (drive i)).write_faults (m.disk (drive i)).write_faults (m.disk (drive i)).write_faults
-            (omega arith) (w.cause i mem is).write_faults (omega arith) x.1,
+            (omega arith) (w.cause.cause i mem is).write_faults (omega arith) x.1,
       ))
 
   known : IsBearable (geometry_of start) (lost_since start m (named_sound was.record)) → IsKnownOf m now members (lost_since start m (named_sound was.record))

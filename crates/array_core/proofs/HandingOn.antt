@@ -1,5 +1,5 @@
 -- Who holds the array along a way, and which conditions agree with the record on it.
-use Rattle.std.proofs.Common.{◌≡◌, ◌⊎◌, inl, inr, Bool, true, false, refl, arith}
+use Rattle.std.proofs.Common.{◌≡◌, ◌⊎◌, ◌∙◌, inl, inr, Bool, true, false, refl, arith}
 use Rattle.session_spec.specs.Prelude.{Device, Conditions, names, Rises, has_risen, Shelved, Continues, left_out_once}
 use Rattle.boot_region.proofs.Stored.{rises_between}
 use Rattle.register.specs.Prelude.{Content}
@@ -44,12 +44,19 @@ module _ (why : Causes) (old mid new : Shelved) (a b c : Array) (on : Continues 
   named_first d (inr (inl holds)) = named_behind d (first.holders d holds)
   named_first d (inr (inr joined)) = inr (inr joined)
 
+  unlost_then : (d : Device) → IsHolder b d ⊎ (why.joined d ≡ true) → ((new.disk d).write_faults ≡ (mid.disk d).write_faults) ⊎ (why.joined d ≡ true) → ((new.disk d).write_faults ≡ (old.disk d).write_faults) ⊎ (why.joined d ≡ true)
+  unlost_then d (inl held) (inl same) = elim (first.unlost d held) [ inl before ↦ inl (same ∙ before) | inr joined ↦ inr joined ]
+  unlost_then d (inr joined) same = inr joined
+  unlost_then d (inl held) (inr joined) = inr joined
+
   pub hands_on_then : HandsOn why old new a c
   hands_on_then = record {
     leaves = λ d h. leaves_first d (first.leaves d h);
     holders = λ d h. holds_first d (next.holders d h);
     named = λ d h. named_first d (next.named d h);
     names_holders = λ before. next.names_holders (first.names_holders before);
+    unlost = λ d h. unlost_then d (next.holders d h) (next.unlost d h);
+    enough = λ before. next.enough (first.enough before);
   }
 
 -- ---- conditions that agree

@@ -1,11 +1,11 @@
 -- Who holds the array once other tables are those of its record.
 use Rattle.std.proofs.Common.{◌≡◌, ◌⊎◌, inl, inr, ℕ, List, subst, ◌∙◌, arith, Bool, true}
-use Rattle.session_spec.specs.Prelude.{Device, Drive, Nv, Geometry, names, Shelved, Continues}
+use Rattle.session_spec.specs.Prelude.{Device, Drive, Nv, drive, nvram, Geometry, names, Rises, Shelved, Continues}
 use Rattle.boot_region.specs.Prelude.{IsMember, IsOneOf, IsDrive, DroppedFailed}
 use Rattle.nvram_log.specs.Members as nv
 use Rattle.register.specs.declared.state.Register.{Register}
 use Rattle.register.specs.Prelude.{IsRegisterOf, OnSlots, drives_of, fewer_cut, on_more}
-use Rattle.array_core.specs.Holding.{DropsFailedBy, IsHolderBy, NoneJoinsBy}
+use Rattle.array_core.specs.Holding.{DropsFailedBy, HasEnough, IsHolderBy, NoneJoinsBy}
 use Rattle.array_core.specs.Performing.{IsLostBy}
 use Rattle.array_core.specs.Switching.{OnSlotsAndLog}
 use Rattle.array_core.proofs.LostOnWay.{dropped_then, log_lost_since, rises_on}
@@ -25,19 +25,33 @@ all_of_more was now members slots fewer d i (inr w) = inr w
 
 -- ---- who is dropped
 
-pub drives_failed : (start new : Shelved) (was now : Register) (members : List Bool) → DroppedFailed start new (drives_of was) (drives_of now) → DropsFailedBy start new was members now members
-drives_failed start new was now members dropped (Drive d) m = elim (dropped d.0 m) [ inl is ↦ inl is | inr rose ↦ inr rose.write_faults ]
-drives_failed start new was now members dropped (Nv n) m = inl m
+-- drives alone, where no call of a device of the log failed
+pub drives_failed : (start new : Shelved) (was now : Register) (members : List Bool) → DroppedFailed start new (drives_of was) (drives_of now)
+    → ((i : ℕ) → IsMember (drives_of now) i → (new.disk (drive i)).write_faults ≡ (start.disk (drive i)).write_faults) → ((n : ℕ) → (new.disk (nvram n)).write_faults ≡ (start.disk (nvram n)).write_faults)
+    → DropsFailedBy start new was members now members
+drives_failed start new was now members dropped unlost logs = record { leaves = λ d m. left d m; unlost = λ d m. kept d m }
+  where
+    left : (d : Device) → IsHolderBy was members d → IsHolderBy now members d ⊎ Rises (start.disk d).write_faults (new.disk d).write_faults
+    left (Drive d) m = elim (dropped d.0 m) [ inl is ↦ inl is | inr rose ↦ inr rose.write_faults ]
+    left (Nv n) m = inl m
+
+    kept : (d : Device) → IsHolderBy now members d → (new.disk d).write_faults ≡ (start.disk d).write_faults
+    kept (Drive d) m = unlost d.0 m
+    kept (Nv n) m = logs n.0
 
 -- one after another
-pub drops_then : (start mid new : Shelved) → Continues start mid → Continues mid new → (r0 r1 r2 : Register) (m0 m1 m2 : List Bool) → DropsFailedBy start mid r0 m0 r1 m1 → DropsFailedBy mid new r1 m1 r2 m2 → DropsFailedBy start new r0 m0 r2 m2
-drops_then start mid new on next r0 r1 r2 m0 m1 m2 first then d h = elim (first d h) [
-  | inl is ↦ elim (then d is) [
-    | inl stays ↦ inl stays
-    | inr rose ↦ inr (rises_on (start.disk d).write_faults (mid.disk d).write_faults (new.disk d).write_faults (new.disk d).write_faults (on.write_faults d) rose (omega arith))
-  ]
-  | inr rose ↦ inr (rises_on (start.disk d).write_faults (start.disk d).write_faults (mid.disk d).write_faults (new.disk d).write_faults (omega arith) rose (next.write_faults d))
-]
+pub drops_then : (start mid new : Shelved) → Continues start mid → Continues mid new → (r0 r1 r2 : Register) (m0 m1 m2 : List Bool) → ((d : Device) → IsHolderBy r2 m2 d → IsHolderBy r1 m1 d)
+    → DropsFailedBy start mid r0 m0 r1 m1 → DropsFailedBy mid new r1 m1 r2 m2 → DropsFailedBy start new r0 m0 r2 m2
+drops_then start mid new on next r0 r1 r2 m0 m1 m2 fewer first then = record { leaves = left; unlost = λ d m. then.unlost d m ∙ first.unlost d (fewer d m) }
+  where
+    left : (d : Device) → IsHolderBy r0 m0 d → IsHolderBy r2 m2 d ⊎ Rises (start.disk d).write_faults (new.disk d).write_faults
+    left d h = elim (first.leaves d h) [
+      | inl is ↦ elim (then.leaves d is) [
+        | inl stays ↦ inl stays
+        | inr rose ↦ inr (rises_on (start.disk d).write_faults (mid.disk d).write_faults (new.disk d).write_faults (new.disk d).write_faults (on.write_faults d) rose (omega arith))
+      ]
+      | inr rose ↦ inr (rises_on (start.disk d).write_faults (start.disk d).write_faults (mid.disk d).write_faults (new.disk d).write_faults (omega arith) rose (next.write_faults d))
+    ]
 
 -- what is too much since a later moment is so since the start
 pub too_much_since : (start mid new : Shelved) → Continues start mid → Continues mid new → (was now : Register) (members : List Bool) → now.record.slots ≡ was.record.slots → DroppedFailed start mid (drives_of was) (drives_of now)
@@ -51,6 +65,11 @@ too_much_since start mid new on next was now members slots dropped (inr drives) 
 
 -- ---- who joins
 
+-- on fewer drives and fewer devices of the log
+pub fewer_hold : (r2 r3 : Register) (members left : List Bool) → r3.record.slots ≡ r2.record.slots → ((i : ℕ) → IsMember r3.drives i → IsMember r2.drives i) → nv.IsFewer members left → (d : Device) → IsHolderBy r3 left d → IsHolderBy r2 members d
+fewer_hold r2 r3 members left slots fewer fewer_logs (Drive d) m = fewer_cut r2 r3 slots fewer d.0 m
+fewer_hold r2 r3 members left slots fewer fewer_logs (Nv n) m = fewer_logs n.0 m
+
 -- by the same log devices
 pub named_left : (was now : Register) (nvrams members : List Bool) → nvrams ≡ members → ((d : Device) → names now.record d ≡ true → (names was.record d ≡ true) ⊎ IsHolderBy was nvrams d)
     → (d : Device) → names now.record d ≡ true → (names was.record d ≡ true) ⊎ IsHolderBy was members d
@@ -59,11 +78,12 @@ named_left was now nvrams members same named = subst (λ (l : List Bool). (d : D
 -- once the tables were stored, by a record that names the log devices of the one before
 pub none_joins_tables : (shelf : Geometry) (r0 r1 r2 : Register) (members : List Bool) → IsRegisterOf shelf r0 → ((i : ℕ) → IsMember r1.drives i → IsMember r0.drives i) → ((i : ℕ) → IsMember r2.drives i → IsMember r1.drives i)
     → r2.record.slots ≡ r0.record.slots → ((d : Device) → names r1.record d ≡ true → (names r0.record d ≡ true) ⊎ IsHolderBy r0 members d)
-    → (r0.record.members.nvrams ≡ members → r1.record.members.nvrams ≡ members) → (r2.record.members.drives ≡ r2.drives) × (r2.record.members.nvrams ≡ r1.record.members.nvrams) → NoneJoinsBy r0 members r2 members
-none_joins_tables shelf r0 r1 r2 members is fewer1 fewer2 slots2 named1 nvrams1 are2 = record {
+    → (r0.record.members.nvrams ≡ members → r1.record.members.nvrams ≡ members) → (r2.record.members.drives ≡ r2.drives) × (r2.record.members.nvrams ≡ r1.record.members.nvrams) → HasEnough r2 → NoneJoinsBy r0 members r2 members
+none_joins_tables shelf r0 r1 r2 members is fewer1 fewer2 slots2 named1 nvrams1 are2 enough = record {
   holders = λ d m. held d m;
   named = λ d e. named2 d e;
   names_holders = λ before. (are2.0, are2.1 ∙ nvrams1 before.1);
+  enough = λ before. enough;
 }
   where
     held : (d : Device) → IsHolderBy r2 members d → IsHolderBy r0 members d
@@ -77,13 +97,13 @@ none_joins_tables shelf r0 r1 r2 members is fewer1 fewer2 slots2 named1 nvrams1 
 -- and the log was cleared
 pub none_joins : (r0 r2 r3 : Register) (members left : List Bool) → NoneJoinsBy r0 members r2 members → ((i : ℕ) → IsMember r3.drives i → IsMember r2.drives i) → r3.record.slots ≡ r2.record.slots → nv.IsFewer members left
     → ((d : Device) → names r3.record d ≡ true → (names r2.record d ≡ true) ⊎ IsHolderBy r2 members d)
-    → (r2.record.members.drives ≡ r2.drives → r3.record.members.drives ≡ r3.drives) → (r2.record.members.nvrams ≡ members → r3.record.members.nvrams ≡ left) → NoneJoinsBy r0 members r3 left
-none_joins r0 r2 r3 members left stored fewer slots fewer_logs named drives nvrams = record {
+    → (r2.record.members.drives ≡ r2.drives → r3.record.members.drives ≡ r3.drives) → (r2.record.members.nvrams ≡ members → r3.record.members.nvrams ≡ left) → (HasEnough r2 → HasEnough r3) → NoneJoinsBy r0 members r3 left
+none_joins r0 r2 r3 members left stored fewer slots fewer_logs named drives nvrams enough = record {
   holders = λ d m. stored.holders d (held d m);
   named = λ d e. elim (named d e) [ inl x ↦ stored.named d x | inr m ↦ inr (stored.holders d m) ];
   names_holders = λ before. let then = stored.names_holders before in (drives then.0, nvrams then.1);
+  enough = λ before. enough (stored.enough before);
 }
   where
     held : (d : Device) → IsHolderBy r3 left d → IsHolderBy r2 members d
-    held (Drive d) m = fewer_cut r2 r3 slots fewer d.0 m
-    held (Nv n) m = fewer_logs n.0 m
+    held = fewer_hold r2 r3 members left slots fewer fewer_logs

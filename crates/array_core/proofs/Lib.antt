@@ -30,3 +30,4 @@ pub mod Whole
 pub mod Holders
 pub mod Behind
 pub mod Changes
+pub mod Written

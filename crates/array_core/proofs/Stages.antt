@@ -6,10 +6,11 @@ use Rattle.nvram_log.specs.Prelude.{HoldsOn}
 use Rattle.nvram_log.specs.Members as nv
 use Rattle.register.specs.declared.state.Register.{Register}
 use Rattle.register.specs.declared.tables.Tables.{Tables}
-use Rattle.register.specs.Prelude.{IsLaterRecord, IsRegisterOf, OnSlots, drives_of, Content, IsOpen, IsPlanOf, KeepsArray, with_tables, in_cut}
+use Rattle.register.specs.Prelude.{IsLaterRecord, IsRegisterOf, OnSlots, drives_of, Content, IsOpen, IsPlanOf, KeepsArray, with_tables, in_cut, fewer_cut}
 use Rattle.register.proofs.Rounds.{cut_drives, same_shelf}
 use Rattle.array_core.proofs.Kept.{plans_stand}
 use Rattle.array_core.proofs.Standing.{member_clean}
+use Rattle.array_core.specs.Changing.{AreLeft, LeavesFewer}
 use Rattle.array_core.specs.Switching.{AreLost}
 use Rattle.array_core.proofs.Keeping.{CameAfter}
 use Rattle.array_core.proofs.LostOnWay.{rises_since}
@@ -32,19 +33,25 @@ later_itself boot = record { generation = omega arith; rest = refl }
 
 -- ---- who is left
 
--- a drive is lost, or left, or it lost a write meanwhile
-abbrev pub AreLeft : Shelved → Shelved → Register → Register → List Bool → Type 0
-AreLeft a b was now lost = (i : ℕ) → IsMember (drives_of was) i → IsMember lost i ⊎ (IsMember (drives_of now) i ⊎ LostWrites (a.disk (drive i)) (b.disk (drive i)))
+-- by fewer drives
+pub left_among : {size : Geometry} {lost : List Bool} {m : ℕ} {was now : Register} {members left : List Bool} → now.record.slots ≡ was.record.slots → LeavesFewer size lost m was now members left
+    → (i : ℕ) → IsMember (drives_of now) i → IsMember (drives_of was) i × ¬ (IsMember lost i)
+left_among {was = was} {now = now} slots x i m = (fewer_cut was now slots (λ k y. (x.fewer k y).0) i m, (x.fewer i (in_cut now.drives now.record.slots i m)).1)
 
 -- drives that were lost before, or in the store
 pub left_dropped : (start a b : Shelved) → Continues start a → Continues a b → (was now : Register) (lost : List Bool) → AreLost start a was lost → AreLeft a b was now lost → DroppedFailed start b (drives_of was) (drives_of now)
-left_dropped start a b first next was now lost are dropped i m = elim (dropped i m) [
-  | inl is ↦ inr (rises_since start start a b (continues_refl start) next i (are i m is))
+left_dropped start a b first next was now lost are left i m = elim (left.dropped i m) [
+  | inl is ↦ inr (rises_since start start a b (continues_refl start) next i (are.cause i m is))
   | inr x ↦ elim x [
     | inl is ↦ inl is
     | inr rose ↦ inr (rises_since start a b b first (continues_refl b) i rose)
   ]
 ]
+
+-- on none that is left a write failed, before or in the store
+pub left_unlost : (start a b : Shelved) (was now : Register) (lost : List Bool) → AreLost start a was lost → AreLeft a b was now lost → ((i : ℕ) → IsMember (drives_of now) i → IsMember (drives_of was) i × ¬ (IsMember lost i))
+    → (i : ℕ) → IsMember (drives_of now) i → (b.disk (drive i)).write_faults ≡ (start.disk (drive i)).write_faults
+left_unlost start a b was now lost are left among i m = left.unlost i m ∙ are.spared i (among i m).0 (among i m).1
 
 -- the record of an array that is open later, on fewer drives and with the same log devices
 pub came_after : (start now : Shelved) (was r : Register) (members : List Bool) (held next : Content) → IsOpen start was members held → IsOpen now r members next

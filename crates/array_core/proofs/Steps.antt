@@ -26,10 +26,12 @@ module _ (old new : Shelved) (a b : Array) where
 
   pub hands : DropsFailed old new a b → NoneJoins a b → HandsOn by_faults old new a b
   hands drops joins = record {
-    leaves = λ d h. drops_too d (drops d h);
+    leaves = λ d h. drops_too d (drops.leaves d h);
     holders = λ d h. inl (joins.holders d h);
     named = λ d h. more_named (joins.named d h);
     names_holders = joins.names_holders;
+    unlost = λ d h. inl (drops.unlost d h);
+    enough = joins.enough;
   }
 
 agrees_too : (boot : BootRecord) (now : Conditions) → AgreesFor by_faults boot now → AgreesWith boot now

@@ -9,12 +9,12 @@ use Rattle.register.specs.declared.state.Register.{Register}
 use Rattle.register.specs.declared.tables.Tables.{Tables}
 use Rattle.register.specs.Prelude.{IsFaultOf, GivesOldOrTables, IsLaterRecord, IsRegisterOf, OnSlots, drives_of, Content, IsOpen, array_of, IsPlanOf, KeepsArray, StandsAsBefore, with_tables, in_cut, fewer_cut}
 use Rattle.array_core.specs.Performing.{IsKeptAt, LostDrives}
-use Rattle.array_core.specs.Changing.{IsOpenOn}
+use Rattle.array_core.specs.Changing.{AreLeft, IsOpenOn}
 use Rattle.array_core.specs.Switching.{AreLost, MaySwitch}
 use Rattle.array_core.proofs.FreeWrites.{off_slots}
 use Rattle.array_core.proofs.Keeping.{CameAfter, run_since}
 use Rattle.array_core.proofs.LostOnWay.{dropped_then, drives_lost}
-use Rattle.array_core.proofs.Stages.{AreLeft, came_after, left_dropped, plan_at}
+use Rattle.array_core.proofs.Stages.{came_after, left_dropped, plan_at}
 use Rattle.array_core.proofs.Tables.{still_holds, tables_moments}
 
 -- ---- a record without the drives that were lost, then one of the tables

@@ -1,8 +1,8 @@
 -- What a change of the record or of the log leaves: which record and which devices, who holds the array, and what is open then.
 use Rattle.std.specs.Prelude.{◌≡◌, ◌⊎◌, ◌+◌, ◌≤◌, ℕ, Bool, true, List, Result, OnOk, OnErr}
-use Rattle.session_spec.specs.Prelude.{Command, Geometry, Device, BootRecord, set_count, names, Shelved, LeavesOnly}
+use Rattle.session_spec.specs.Prelude.{Command, Geometry, Device, drive, BootRecord, set_count, names, Shelved, LeavesOnly}
 use Rattle.pur_base.specs.Plain as plain
-use Rattle.boot_region.specs.Prelude.{IsMember, DroppedFailed}
+use Rattle.boot_region.specs.Prelude.{IsMember, DroppedFailed, LostWrites}
 use Rattle.nvram_log.specs.declared.log.NvLog.{NvLog}
 use Rattle.nvram_log.specs.Prelude.{HoldsOn}
 use Rattle.nvram_log.specs.Members as nv
@@ -28,9 +28,14 @@ pub record KeepsTables {T E : Type 0} (result : Result T E) (was now : Register)
   pub nvrams : OnOk result (was.record.members.nvrams ≡ members → now.record.members.nvrams ≡ left)
   pub enough : OnOk result (was.record.slots ≤ set_count was.drives + 2 → now.record.slots ≤ set_count now.drives + 2)
 
+-- Of the drives of the record one is called lost, or left, or it lost a write meanwhile; none that is left did.
+pub record AreLeft (old new : Shelved) (was now : Register) (lost : List Bool) : Type 0 where
+  pub dropped : (i : ℕ) → IsMember (drives_of was) i → IsMember lost i ⊎ (IsMember (drives_of now) i ⊎ LostWrites (old.disk (drive i)) (new.disk (drive i)))
+  pub unlost : (i : ℕ) → IsMember (drives_of now) i → (new.disk (drive i)).write_faults ≡ (old.disk (drive i)).write_faults
+
 -- ---- who holds the array
 
--- A holder is one still, or a write or a sync on it failed. It ends with an error only where more devices failed than are borne.
+-- A holder is one still, or a write or a sync on it failed, and on none that still is. It ends with an error only where more devices failed than are borne.
 pub record OnlyFaults {T E : Type 0} (result : Result T E) (old new : Shelved) (was now : Register) (members left : List Bool) : Type 0 where
   pub holders : DropsFailedBy old new was members now left
   pub drives : DroppedFailed old new (drives_of was) (drives_of now)

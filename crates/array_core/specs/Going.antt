@@ -3,7 +3,7 @@ use Rattle.std.specs.Prelude.{◌≡◌, ◌⊎◌, Bool, true, false, List, ◌
 use Rattle.session_spec.specs.Prelude.{Command, after_all, Device, Conditions, Sound, LeftOut, IsBearable, BootRecord, names, Rises, geometry_of, Shelved, Stop, Continues, LeavesOnly, IsCountedBy, StandsAmong}
 use Rattle.pur_base.specs.Plain as plain
 use Rattle.array_core.specs.declared.array.Array.{Array}
-use Rattle.array_core.specs.Holding.{IsHolder, NamesHolders}
+use Rattle.array_core.specs.Holding.{HasEnough, IsHolder, NamesHolders}
 use Rattle.array_core.specs.Losing.{lost_by}
 
 -- ---- the frame
@@ -25,11 +25,14 @@ abbrev pub by_faults : Causes
 by_faults = record { gone = λ d. false; joined = λ d. false }
 
 -- A holder is one still, or lost a write, or leaves for a cause. None joins without one, and the record names no other. Where it named just the holders it does so still.
+-- No device that holds the array behind it lost a write, but before it joined; and where enough drives held it they still do.
 pub record HandsOn (why : Causes) (old new : Shelved) (a b : Array) : Type 0 where
   pub leaves : (d : Device) → IsHolder a d → IsHolder b d ⊎ Rises (old.disk d).write_faults (new.disk d).write_faults ⊎ (why.gone d ≡ true)
   pub holders : (d : Device) → IsHolder b d → IsHolder a d ⊎ (why.joined d ≡ true)
   pub named : (d : Device) → names b.register.record d ≡ true → (names a.register.record d ≡ true) ⊎ IsHolder a d ⊎ (why.joined d ≡ true)
   pub names_holders : NamesHolders a → NamesHolders b
+  pub unlost : (d : Device) → IsHolder b d → ((new.disk d).write_faults ≡ (old.disk d).write_faults) ⊎ (why.joined d ≡ true)
+  pub enough : HasEnough a.register → HasEnough b.register
 
 -- ---- at a stop
 

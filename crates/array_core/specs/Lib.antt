@@ -14,5 +14,6 @@ pub mod Committing
 pub mod Meanwhile
 pub mod Switching
 pub mod Taking
+pub mod Written
 pub mod lemmas
 pub mod Prelude

@@ -1,6 +1,6 @@
 -- The end of a checkpoint or a merge: what its writes left, and what its tables are once they are stored.
 use Rattle.std.specs.Prelude.{◌≡◌, ◌⊎◌, ◌+◌, ◌<◌, ◌≤◌, ℕ, Bool, List, [], Some, Result, OnOk}
-use Rattle.session_spec.specs.Prelude.{Command, Device, View, drive, Facts, segment, SegmentFact, set_count, ArePlaces, AreEnough, DataHolds, geometry_of, Shelved, Contents, AreAmong, ContentsStand}
+use Rattle.session_spec.specs.Prelude.{Command, Device, View, drive, nvram, Facts, segment, SegmentFact, set_count, ArePlaces, AreEnough, DataHolds, geometry_of, Shelved, Contents, AreAmong, ContentsStand}
 use Rattle.boot_region.specs.Prelude.{IsMember, LostWrites}
 use Rattle.nvram_log.specs.declared.log.NvLog.{NvLog}
 use Rattle.nvram_log.specs.Prelude.{HoldsOn, Keeps}
@@ -23,9 +23,11 @@ pub record WasOpen (start : Shelved) (r : Register) (log : NvLog) (held : Conten
   pub keeps : Keeps log held.log
   pub in_force : AreInForce held
 
--- each drive of the record that is called lost lost a write
-abbrev pub AreLost : Shelved → Shelved → Register → List Bool → Type 0
-AreLost start now r lost = (i : ℕ) → IsMember (drives_of r) i → IsMember lost i → LostWrites (start.disk (drive i)) (now.disk (drive i))
+-- of the drives of the record those that are called lost lost a write, and no others did, and no device of the log
+pub record AreLost (start now : Shelved) (r : Register) (lost : List Bool) : Type 0 where
+  pub cause : (i : ℕ) → IsMember (drives_of r) i → IsMember lost i → LostWrites (start.disk (drive i)) (now.disk (drive i))
+  pub spared : (i : ℕ) → IsMember (drives_of r) i → ¬ (IsMember lost i) → (now.disk (drive i)).write_faults ≡ (start.disk (drive i)).write_faults
+  pub logs : (n : ℕ) → (now.disk (nvram n)).write_faults ≡ (start.disk (nvram n)).write_faults
 
 -- since the start only units were written that the tables leave free; drives that lost a write are called lost, and nothing is dirty on the others
 pub record WroteFree (start now : Shelved) (r : Register) (lost : List Bool) (held : Content) : Type 0 where

@@ -1,15 +1,14 @@
 // Drives that were lost are left.
-ghost use Rattle.std.specs.Prelude.{◌⊎◌, ◌<◌, ◌-◌, ◌^◌, ℕ, [], ◌∷◌, OnOk, IfErr};
-ghost use Rattle.pur_base.specs.Devices.{drive};
+ghost use Rattle.std.specs.Prelude.{◌<◌, ◌-◌, ◌^◌, [], ◌∷◌, OnOk, IfErr};
 ghost use Rattle.world.specs.Losing.{geometry_of};
 ghost use Rattle.world.specs.Shelf.{LeavesOnly};
 ghost use Rattle.world.specs.Ran.{Ran};
-ghost use Rattle.boot_region.specs.Members.{IsDrive, IsMember, LostWrites};
+ghost use Rattle.boot_region.specs.Members.{IsDrive};
 ghost use Rattle.nvram_log.specs.Members.{IsSome};
 ghost use Rattle.register.specs.Faults.{IsFaultOf};
 ghost use Rattle.register.specs.Registers.{IsRegisterOf, OnSlots, drives_of};
 ghost use Rattle.register.specs.Standing.{Content, IsOpen, array_of};
-ghost use Rattle.array_core.specs.Changing.{KeepsTables, LeavesFewer};
+ghost use Rattle.array_core.specs.Changing.{AreLeft, KeepsTables, LeavesFewer};
 ghost use Rattle.array_core.specs.Performing.{IsKeptAt};
 ghost use Rattle.array_core.specs.Meanwhile.{AreInForce};
 ghost use Rattle.array_core.specs.Switching.{WroteFree};
@@ -31,7 +30,7 @@ pub(crate) fn leave_lost<S: Shelf>(
     ensures ran { Ran S.shelf S.shelf_rest IsDrive (OnSlots (drives_of register.old)) shelf.old shelf.new }
     ensures left { LeavesFewer (geometry_of (S.shelf shelf.new)) lost.now 3 register.old register.new nvrams nvrams }
     ensures record { KeepsTables result register.old register.new nvrams nvrams }
-    ensures dropped { (i : ℕ) → IsMember (drives_of register.old) i → IsMember lost.now i ⊎ (IsMember (drives_of register.new) i ⊎ LostWrites ((S.shelf shelf.old).disk (drive i)) ((S.shelf shelf.new).disk (drive i))) }
+    ensures dropped { AreLeft (S.shelf shelf.old) (S.shelf shelf.new) register.old register.new lost.now }
     ensures fault { IfErr result (λ e. IsFaultOf register.new e) }
     // Then the array is open as it was, on the drives that are left.
     ensures held { (S.shelf shelf.old).honest → OnOk result ((start : S) (held : Content) → IsOpen (S.shelf start) register.old nvrams held → WroteFree (S.shelf start) (S.shelf shelf.old) register.old lost.now held

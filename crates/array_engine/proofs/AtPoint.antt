@@ -1,12 +1,14 @@
 -- What a session needs of an array that goes on, stays or is to halt: where it stands then, and what a stop leaves.
-use Rattle.std.proofs.Common.{◌≡◌, ◌⊎◌, inl, inr, Bool, true, false, List, [], ◌∷◌, ◌++◌, None, refl, sym, ap, subst, ◌∙◌}
+use Rattle.std.proofs.Common.{◌≡◌, ◌⊎◌, inl, inr, Bool, true, false, List, [], ◌∷◌, ◌++◌, None, refl, sym, ap, subst, ◌∙◌, arith}
 use Rattle.std.proofs.lemmas.Bool.{cond-false, cond-true}
-use Rattle.session_spec.specs.Prelude.{Device, Item, Asked, refusal, Answer, refused, Refusal, IsAnswer, Command, IsLogged, after, after_all, names, Rises, geometry_of, Shelved, Stop, LeavesOnly, weaker, facts, patches, Point, Answers, IsFailed, IsRefused, left_out_once}
+use Rattle.session_spec.specs.Prelude.{Device, Sound, BootRecord, read_now, Item, Asked, refusal, Answer, refused, Refusal, IsAnswer, Command, IsLogged, after, after_all, names, Rises, geometry_of, Shelved, Stop, LeavesOnly, weaker, facts, patches, Point, Answers, IsFailed, IsRefused, left_out_once}
 use Rattle.pur_base.specs.Plain as plain
 use Rattle.pur_base.specs.declared.reply.Refusal.TheVariants as refusals
-use Rattle.register.specs.Prelude.{named_sound, Content, array_of}
+use Rattle.register.specs.Prelude.{IsRegisterOf, named_sound, Content, array_of}
 use Rattle.array_core.specs.declared.array.Array.{Array}
-use Rattle.array_core.specs.Prelude.{SegmentsHold, IsReady, IsHolder, by_faults, AgreesFor, GoesOnAt, IsOnWay, Goes, GoesOnMeanwhile, Halts, ReadsOn, sound_since}
+use Rattle.array_core.specs.Prelude.{HasEnough, named_enough, unrisen, SegmentsHold, IsReady, IsHolder, by_faults, AgreesFor, GoesOnAt, IsOnWay, Goes, GoesOnMeanwhile, Halts, ReadsOn, sound_since}
+use Rattle.session_spec.specs.Faring.{CountsOn, IsBorneAt}
+use Rattle.array_core.proofs.Agreeing.{borne_named}
 use Rattle.array_core.proofs.HandingOn.{unless}
 use Rattle.array_core.proofs.Lost.{not_risen}
 use Rattle.array_core.proofs.ReadyStands.{agrees_named}
@@ -17,12 +19,14 @@ use Rattle.array_engine.specs.declared.said.Said.TheVariants as said
 use Rattle.array_engine.specs.Saying.{Says}
 use Rattle.array_engine.specs.Appending.{failed_in, lost_in}
 use Rattle.array_engine.specs.Engines.{IsAnsweredAt, IsAt, IsKeptBy, MayBeDone, StandsAt, point_after}
+use Rattle.array_engine.proofs.Named.{holder_named, named_holds}
+use Rattle.register.proofs.Opened.{is_named}
 use Rattle.array_engine.proofs.Points.{KeepsReady, KeepsSegments, answered_refused}
 
 -- ---- it goes on
 
 module _ (told : Bool) (old new : Shelved) (e f : Engine) (commands : List Command) (from : Point) (honest : told ≡ true → old.honest) (at : IsAt told old e from) (awake : e.halted ≡ false)
-    (goes : Goes by_faults old new e.array f.array commands) (halted : f.halted ≡ false) where
+    (goes : Goes by_faults old new e.array f.array commands) (halted : f.halted ≡ false) (is_of : IsRegisterOf (geometry_of old) e.array.register) where
   abbrev s : StandsAt told old e.array from
   s = at.stands awake
 
@@ -46,6 +50,36 @@ module _ (told : Bool) (old new : Shelved) (e f : Engine) (commands : List Comma
   held_not d (inl holds) out = out holds
   held_not d (inr joined) out = cc joined
 
+  enough : HasEnough f.array.register
+  enough = goes.hands_on.enough s.enough
+
+  -- what its record names holds the array, and so lost no write and was named before
+  module _ (stop : Stop) (on_end : CountsOn (read_now new)) where
+    was : IsBorneAt (geometry_of old) from
+    was = s.kept (λ d. omega (arith, on_end d, goes.ran.continues.write_faults d))
+
+    was_named : (d : Device) → (names e.array.register.record d ≡ true) ⊎ IsHolder e.array d ⊎ (false ≡ true) → names e.array.register.record d ≡ true
+    was_named d (inl named) = named
+    was_named d (inr (inl holds)) = holder_named (geometry_of old) e.array is_of s.names_holders d holds
+    was_named d (inr (inr joined)) = absurd (cc joined)
+
+    unlost : (d : Device) → ((new.disk d).write_faults ≡ (old.disk d).write_faults) ⊎ (false ≡ true) → lost_in old new d ≡ false
+    unlost d (inl same) = unrisen (old.disk d).write_faults (new.disk d).write_faults same (omega (arith, on_end d, same))
+    unlost d (inr joined) = absurd (cc joined)
+
+    sound : (d : Device) → names f.array.register.record d ≡ true → (to stop).conditions d ≡ Sound
+    sound d named =
+        let before : from.conditions d ≡ Sound = was.named d (subst (λ (b : BootRecord). names b d ≡ true) (sym s.boot) (was_named d (goes.hands_on.named d named))) in
+        let none = unlost d (goes.hands_on.unlost d (named_holds (geometry_of new) f.array goes.is_of.of_shelf (goes.hands_on.names_holders s.names_holders) d named)) in
+        rw (before, none) refl
+
+    borne_behind : IsBorneAt (geometry_of new) (to stop)
+    borne_behind = record {
+      named = λ d named. sound d (subst (λ (b : BootRecord). names b d ≡ true) (cond-false f.halted from.boot f.array.register.record halted) named);
+      borne = borne_named (geometry_of new) (to stop).conditions (named_sound f.array.register.record) (λ d is. sound d (is_named (names f.array.register.record d) is))
+          (named_enough (geometry_of new) f.array.register goes.is_of.of_shelf (goes.hands_on.names_holders s.names_holders).0 enough);
+    }
+
   -- the engine stands at the point behind it
   at_behind : (stop : Stop) → IsAt told new f (to stop)
   at_behind stop = record {
@@ -65,6 +99,8 @@ module _ (told : Bool) (old new : Shelved) (e f : Engine) (commands : List Comma
           let was = s.left_out d (left_out_once (lost_in old new d) (from.conditions d) l) in
           (unless (names f.array.register.record d) (λ is. unnamed d (goes.hands_on.named d is) was), λ holds. held_not d (goes.hands_on.holders d holds) was.1);
       names_holders = goes.hands_on.names_holders s.names_holders;
+      enough = enough;
+      kept = λ on. borne_behind stop on;
     };
   }
 
@@ -117,7 +153,11 @@ module _ (told : Bool) (old new : Shelved) (e f : Engine) (from : Point) (at : I
   -- nothing has changed but room in memory
   module _ (halted : f.halted ≡ false) (like : IsLike e.array f.array) (same : new ≡ old) where
     keeps_segments : KeepsSegments told old new f.array
-    keeps_segments t contents h = subst (λ (x : Shelved). SegmentsHold contents x f.array.register (facts f.array.memory.memory.tables)) (sym same) h
+    keeps_segments = record {
+      hold = λ t contents h. subst (λ (x : Shelved). SegmentsHold contents x f.array.register (facts f.array.memory.memory.tables)) (sym same) h;
+      write_faults = λ d. ap (λ (x : Shelved). (x.disk d).write_faults) same;
+      size = ap geometry_of (sym same);
+    }
 
     keeps_ready : KeepsReady old new f.array
     keeps_ready honest held h = subst (λ (x : Shelved). IsReady x f.array held) (sym same) h

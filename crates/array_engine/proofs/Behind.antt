@@ -1,6 +1,6 @@
 -- The point behind a checkpoint, told of an array that stands at the point before it.
-use Rattle.std.proofs.Common.{◌≡◌, ◌<◌, ◌≤◌, ◌+◌, Bool, refl, sym, ap, subst, None}
-use Rattle.session_spec.specs.Prelude.{Device, Facts, segment, BootRecord, Shelved, geometry_of, Contents, ReadsAs, patches, patches_are_all, patches_read, Point, IsCheckpointed}
+use Rattle.std.proofs.Common.{◌<◌, ◌≤◌, ◌+◌, Bool, refl, sym, ap, subst}
+use Rattle.session_spec.specs.Prelude.{Device, BootRecord, Shelved, geometry_of, Contents, ReadsAs, patches, patches_read, Point, IsCheckpointed}
 use Rattle.session_spec.specs.Faring.{DropsOnlyLost}
 use Rattle.memory_spec.proofs.Records.{record_is_sound}
 use Rattle.array_core.specs.declared.array.Array.{Array}
@@ -28,10 +28,12 @@ checkpointed {told} {old} {a} {from} s mid is flushed lost drops contents reads 
       few_data = flushed.few_data;
       few_new = flushed.few_new;
       elided = flushed.elided;
-      few_elided = flushed.few_elided;
-      gone = λ id c. subst (λ (f : Facts). segment f id ≡ None) (sym (patches_are_all mid.memory.memory whole)) (flushed.gone id c);
+      elides = rw (s.patches, s.next) flushed.elides;
       next = rw s.next flushed.next;
+      placed = rw s.next flushed.placed;
       patch_segments_are = rw s.boot flushed.patch_segments_are;
+      one_more = rw s.boot flushed.one_more;
+      go_on = rw s.patches flushed.go_on;
       named = is.named;
       sound = record_is_sound (geometry_of old) mid.register.record mid.memory.memory is.sound whole is.layered is.segments (ap (λ (b : BootRecord). b.next) flushed.rest) is.named;
       contents = contents;

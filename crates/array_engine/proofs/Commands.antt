@@ -24,6 +24,7 @@ use Rattle.array_engine.specs.Replying.{said_of, ends_lost}
 use Rattle.array_engine.proofs.AtPoint.{goes_answered, halts_answered, stays_answered}
 use Rattle.array_engine.proofs.Rooms.{where_not, where_so, with_room, without_room}
 use Rattle.array_engine.proofs.Behind.{between, checkpointed}
+use Rattle.register.specs.Prelude.{IsRegisterOf}
 
 -- ---- slots of the log
 
@@ -69,7 +70,7 @@ after_accepted (Some why) a b e = absurd cc
 
 -- What a logged request makes of the engine, which wasn't halted and whose array accepts it.
 module _ (told : Bool) (old new : Shelved) (e f : Engine) (r : Request) (sectors : List (List ℕ)) (stays : Type 0) (from : Point) (honest : told ≡ true → old.honest)
-    (at : IsAt told old e from) (awake : e.halted ≡ false) (logs : IsLogged r) (force : is_in_force r ≡ true) (accepted : refusal from.array r ≡ None) (same : stays → IsLike e.array f.array × (new ≡ old)) where
+    (at : IsAt told old e from) (awake : e.halted ≡ false) (logs : IsLogged r) (force : is_in_force r ≡ true) (accepted : refusal from.array r ≡ None) (same : stays → IsLike e.array f.array × (new ≡ old)) (is_of : IsRegisterOf (geometry_of old) e.array.register) where
   abbrev c : Command
   c = record { request = r; sectors = sectors }
 
@@ -119,7 +120,7 @@ module _ (told : Bool) (old new : Shelved) (e f : Engine) (r : Request) (sectors
           where_so (faring.is_full from) _ (full_is s full) (inl (between from p.mid, checkpointed s p.mid is flushed (lost_in old new) (p.drops_before s.names_holders) before.0 before.1, done_at (between from p.mid) refl (sym flushed.none) refl refl refl refl (p.drops s.names_holders)))
 
     was_done : IsAnsweredAt told old new e f (Asked r sectors) said.Done from
-    was_done = goes_answered told old new e f (c ∷ []) from honest at awake goes halted (Asked r sectors) said.Done (Line reply.Done) refl tt
+    was_done = goes_answered told old new e f (c ∷ []) from honest at awake goes halted is_of (Asked r sectors) said.Done (Line reply.Done) refl tt
         (λ stop. by_accepted (to stop) (Line reply.Done) (with_room s LIMITED_SEGMENTS ADDING_GROUPS (Line reply.Done) (to stop) _ p.room (done_behind stop p.cleared)))
 
   -- it wasn't

@@ -8,7 +8,7 @@ use Rattle.session_spec.specs.Prelude.{View, Asked, refusal, first_cause, read_c
 use Rattle.pur_base.specs.Plain as plain
 use Rattle.pur_base.specs.declared.request.Request.TheVariants as request
 use Rattle.volume_ops.specs.OfArray.{OfArray}
-use Rattle.target_io.specs.Reading.{ShowsDrives, LosesThree}
+use Rattle.target_io.specs.Reading.{ReadsOnly, ShowsDrives, LosesThree}
 use Rattle.target_io.specs.Targets.{IfRefused, IfLost}
 use Rattle.target_io.specs.declared.fault.ReadFault.{ReadFault}
 use Rattle.target_io.specs.declared.fault.ReadFault.TheVariants as read
@@ -24,7 +24,7 @@ use Rattle.array_engine.specs.Saying.{HasSectors}
 use Rattle.array_engine.specs.Engines.{IsAt, IsAnsweredAt}
 use Rattle.array_engine.specs.Replying.{said_of, said_of_merge, said_of_read}
 use Rattle.array_engine.proofs.Points.{was_read, was_lost}
-use Rattle.array_engine.proofs.Meanwhile.{OnlyReads, read_keeps, read_keeps_segments}
+use Rattle.array_engine.proofs.Meanwhile.{read_keeps, read_keeps_segments}
 use Rattle.array_engine.proofs.Numbers.{segment_same}
 use Rattle.array_engine.proofs.Spans.{AreMissing, shows, loses_three}
 
@@ -37,7 +37,7 @@ pub record WasRead (old new : Shelved) (a : Array) (name : List ℕ) (lba count 
       → sectors ≡ span lba count (sectors_of array name))
   pub lost : IfErr ended (λ f. IfLost f (LosesThree old new (facts a.memory.memory.tables) missing))
 
-module _ (told : Bool) (old new : Shelved) (e f : Engine) (like : IsLike e.array f.array) (halts : f.halted ≡ e.halted) (reads : OnlyReads old new) (is_old : IsShelf old) (is_new : IsShelf new) (honest : told ≡ true → old.honest)
+module _ (told : Bool) (old new : Shelved) (e f : Engine) (like : IsLike e.array f.array) (halts : f.halted ≡ e.halted) (reads : ReadsOnly old new) (is_old : IsShelf old) (is_new : IsShelf new) (honest : told ≡ true → old.honest)
     (from : Point) (at : IsAt told old e from) (awake : e.halted ≡ false) (name : List ℕ) (lba count : ℕ) (few : count ≤ REQUEST_SECTORS) (missing : List Bool) (is_of : IsArrayOf (geometry_of old) e.array) (are : AreMissing e.array.register missing)
     (filled : length f.buffers.sectors.items ≡ REQUEST_SECTORS) (whole : AllByRecursion (λ sector. length sector ≡ SECTOR_BYTES) (take count f.buffers.sectors.items))
     (accepted : OfArray e.array.memory.memory (λ array. refusal array (request.Read name lba count) ≡ None)) (asked : List (List ℕ)) where

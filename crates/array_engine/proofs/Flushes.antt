@@ -58,7 +58,7 @@ module _ (told : Bool) (old new : Shelved) (e f : Engine) (sectors : List (List 
         }
 
     was_made : IsAnsweredAt told old new e f (Asked request.Checkpoint sectors) said.Done from
-    was_made = goes_answered told old new e f [] from honest at awake goes halted (Asked request.Checkpoint sectors) said.Done (Line reply.Done) refl tt
+    was_made = goes_answered told old new e f [] from honest at awake goes halted is_of (Asked request.Checkpoint sectors) said.Done (Line reply.Done) refl tt
         (λ stop. by_flushing (to stop) (Line reply.Done) (with_room stood SEGMENTS_END CHECKPOINT_GROUPS (Line reply.Done) (to stop) _ made.0 (inl (made_at stop))))
 
   -- it wasn't

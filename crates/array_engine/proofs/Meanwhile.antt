@@ -4,6 +4,8 @@ use Rattle.std.specs.Prelude.{Contains, if◌then◌else◌, None, Some, false, 
 use Rattle.session_spec.specs.Prelude.{Device, Drive, Nv, Command, drive, nvram, View, Item, has_risen, Shelved, Stop, Disk, IsShelf, IsSame, Continues, LeavesOnly, MayLeave, MayStop, WritesOnly, started, weaker, Contents, facts, ContentsStand, left_out_once}
 use Rattle.pur_base.specs.Plain as plain
 use Rattle.segment_io.specs.Prelude.{NoByte}
+use Rattle.target_io.specs.Reading.{ReadsOnly}
+use Rattle.register.proofs.Rounds.{same_shelf}
 use Rattle.register.specs.declared.state.Register.{Register}
 use Rattle.register.specs.Prelude.{drives_of, Content, array_of}
 use Rattle.array_core.specs.Prelude.{WritesFree, OnFree, SegmentsHold, drives_view, IsReady, by_faults, GoesOnAt, IsOnWay, GoesOnMeanwhile, Holds, lost_by, sound_since}
@@ -19,16 +21,9 @@ use Rattle.array_engine.proofs.Points.{KeepsReady, KeepsSegments}
 
 -- ---- a read
 
--- no NVRAM device was called; of honest devices each holds what it held, and nothing was written
-pub record OnlyReads (old new : Shelved) : Type 0 where
-  pub continues : Continues old new
-  pub same : old.honest → (d : Device) → IsSame (old.disk d) (new.disk d)
-  pub writes : old.honest → WritesOnly NoByte old new
-  pub nvrams : (n : ℕ) → new.disk (nvram n) ≡ old.disk (nvram n)
-
-module _ (old new : Shelved) (reads : OnlyReads old new) (honest : old.honest) where
+module _ (old new : Shelved) (reads : ReadsOnly old new) (honest : old.honest) where
   same_view : (r : Register) (d : Device) → drives_view new r d ≡ drives_view old r d
-  same_view r (Drive d) = ap (λ (bytes : List ℕ). if slice_index_or (drives_of r) d.0 false then Some bytes else None) (reads.same honest (Drive d)).bytes
+  same_view r (Drive d) = ap (λ (bytes : List ℕ). if slice_index_or (drives_of r) d.0 false then Some bytes else None) (reads.looks.same honest (Drive d)).bytes
   same_view r (Nv n) = refl
 
   views_same : (r : Register) → drives_view new r ≡ drives_view old r
@@ -51,7 +46,7 @@ module _ (old new : Shelved) (reads : OnlyReads old new) (honest : old.honest) w
     unfolding writes_free still_holds
     still_ready = record {
       is_open = free_writes_keep_open old new is is_new honest a.register a.log.members held ready.is_open writes_free
-          (λ i m. (reads.same honest (drive i)).dirty ∙ member_clean old is honest a.register a.log.members held ready.is_open i m);
+          (λ i m. (reads.looks.same honest (drive i)).dirty ∙ member_clean old is honest a.register a.log.members held ready.is_open i m);
       held_log = still_holds;
       keeps = ready.keeps;
       flushed = ready.flushed;
@@ -63,18 +58,18 @@ module _ (old new : Shelved) (reads : OnlyReads old new) (honest : old.honest) w
       hold = segments_same a ready.contents ready.hold;
     }
 
-pub read_keeps : (old new : Shelved) → OnlyReads old new → IsShelf old → IsShelf new → (a : Array) → KeepsReady old new a
+pub read_keeps : (old new : Shelved) → ReadsOnly old new → IsShelf old → IsShelf new → (a : Array) → KeepsReady old new a
 read_keeps old new reads is is_new a honest held ready = still_ready old new reads honest is is_new a held ready
 
-pub read_keeps_segments : (told : Bool) (old new : Shelved) → OnlyReads old new → (told ≡ true → old.honest) → (a : Array) → KeepsSegments told old new a
-read_keeps_segments told old new reads honest a t contents h = segments_same old new reads (honest t) a contents h
+pub read_keeps_segments : (told : Bool) (old new : Shelved) → ReadsOnly old new → (told ≡ true → old.honest) → (a : Array) → KeepsSegments told old new a
+read_keeps_segments told old new reads honest a = record { hold = λ t contents h. segments_same old new reads (honest t) a contents h; write_faults = reads.looks.write_faults; size = same_shelf reads.continues }
 
 -- nothing was done
 pub nothing_done : (shelf : Shelved) (a : Array) → KeepsReady shelf shelf a
 nothing_done shelf a honest held ready = ready
 
 pub nothing_moved : (told : Bool) (shelf : Shelved) (a : Array) → KeepsSegments told shelf shelf a
-nothing_moved told shelf a t contents h = h
+nothing_moved told shelf a = record { hold = λ t contents h. h; write_faults = λ d. refl; size = refl }
 
 -- ---- at a stop
 

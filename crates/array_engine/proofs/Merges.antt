@@ -123,7 +123,7 @@ module _ (told : Bool) (old new : Shelved) (e f : Engine) (t : Table) (i : ℕ) 
     }
 
     was_merged : IsAnsweredAt told old new e f (Asked (request.Merge t i) sectors) said.Done from
-    was_merged = goes_answered told old new e f [] from honest at awake goes halted (Asked (request.Merge t i) sectors) said.Done (Line reply.Done) refl tt
+    was_merged = goes_answered told old new e f [] from honest at awake goes halted is_of (Asked (request.Merge t i) sectors) said.Done (Line reply.Done) refl tt
         (λ stop. by_merging (to stop) (Line reply.Done) (with_pair stood t i (Line reply.Done) (to stop) _ made.0 (inl (done_at stop))))
 
   -- it wasn't

@@ -1,11 +1,12 @@
 -- The array that is served, at a point, and what answering an item makes of it.
 use Rattle.std.specs.Prelude.{◌≡◌, ◌⊎◌, Bool, true, false, List, [], ◌∷◌, Contains, if◌then◌else◌}
-use Rattle.session_spec.specs.Prelude.{Device, Geometry, Sound, LeftOut, IsBearable, Item, Answer, names, IsAnswer, AcceptsNext, geometry_of, losing, Shelved, Stop, Contents, ReadsAs, facts, patches, IsStanding, Point, Answers}
+use Rattle.session_spec.specs.Prelude.{Device, Geometry, Sound, LeftOut, IsBearable, Item, Answer, names, IsAnswer, AcceptsNext, geometry_of, losing, Shelved, Stop, Contents, ReadsAs, facts, patches, IsStanding, Point, Answers, read_now}
+use Rattle.session_spec.specs.Faring.{CountsOn, IsBorneAt}
 use Rattle.pur_base.specs.Plain as plain
 use Rattle.register.specs.Prelude.{named_sound, Content, array_of}
 use Rattle.array_core.specs.declared.array.Array.{Array}
 use Rattle.array_core.specs.Holding.{NamesHolders}
-use Rattle.array_core.specs.Prelude.{SegmentsHold, IsArrayOf, IsReady, IsHolder, lost_by}
+use Rattle.array_core.specs.Prelude.{HasEnough, SegmentsHold, IsArrayOf, IsReady, IsHolder, lost_by}
 use Rattle.array_checkpoint.specs.Prelude.{IsRoomOf, MayAdd}
 use Rattle.array_engine.specs.declared.said.Said.{Said}
 use Rattle.array_engine.specs.declared.engine.Engine.{Engine}
@@ -20,6 +21,7 @@ IsOf shelf e = e.halted ≡ false → IsArrayOf shelf e.array × IsRoomOf e.arra
 
 -- The array's memory reads as the point's array, for sectors in segments of which the drives hold those that were placed, where that is told.
 -- Each device that is sound at the point holds the array, and one that was left out doesn't, and isn't named by its record, which names just those that hold it.
+-- Enough drives hold it, and no device that the record names is missing.
 pub record StandsAt (told : Bool) (shelf : Shelved) (a : Array) (p : Point) : Type 0 where
   pub logged : p.logged ≡ a.log.count
   pub boot : p.boot ≡ a.register.record
@@ -31,6 +33,8 @@ pub record StandsAt (told : Bool) (shelf : Shelved) (a : Array) (p : Point) : Ty
   pub holders : (d : Device) → p.conditions d ≡ Sound → IsHolder a d
   pub left_out : (d : Device) → p.conditions d ≡ LeftOut → (names a.register.record d ≡ false) × ¬ (IsHolder a d)
   pub names_holders : NamesHolders a
+  pub enough : HasEnough a.register
+  pub kept : CountsOn (read_now shelf) → IsBorneAt (geometry_of shelf) p
 
 -- The engine stands at the point. Once it's halted only that is told.
 pub record IsAt (told : Bool) (shelf : Shelved) (e : Engine) (p : Point) : Type 0 where

@@ -1,7 +1,7 @@
 -- The numbers of a status, of an array in memory.
 use Rattle.std.specs.Prelude.{ℕ, ◌-◌, List, [], ◌∷◌, length}
 use Rattle.std.specs.List.{sum_by}
-use Rattle.session_spec.specs.Prelude.{segments, SegmentFact, patch_segments, LOG_SLOTS, facts, set_flags}
+use Rattle.session_spec.specs.Prelude.{segments, SegmentFact, patch_segments, LOG_SLOTS, facts, set_count}
 use Rattle.session_spec.specs.declared.limits.TheConstants.{CONTROLLER}
 use Rattle.array_core.specs.declared.array.Array.{Array}
 
@@ -15,8 +15,8 @@ numbers_of a groups objects =
     CONTROLLER
     ∷ objects
     ∷ groups
-    ∷ set_flags a.register.record.members.drives
-    ∷ set_flags a.register.record.members.nvrams
+    ∷ set_count a.register.record.members.drives
+    ∷ set_count a.register.record.members.nvrams
     ∷ (LOG_SLOTS - a.log.count)
     ∷ length (segments_of a)
     ∷ patch_segments a.register.record.patches

@@ -1,19 +1,15 @@
 // Room for what is read.
 ghost use Rattle.std.specs.Prelude.{◌≡◌, ◌≤◌, ℕ, None, Some, length, take, replicate, IfOk, OnOk, IfErr};
 ghost use Rattle.std.specs.List.{AllByRecursion};
-ghost use Rattle.pur_base.specs.Devices.{View, nvram};
+ghost use Rattle.pur_base.specs.Devices.{View};
 ghost use Rattle.pur_base.specs.Plain.{Array, first_cause, read_causes, sectors_of, span};
 ghost use Rattle.pur_base.specs.Sectors.{filled};
-ghost use Rattle.pur_base.specs.declared.device.Device.{Device};
 ghost use Rattle.pur_base.specs.declared.limits.TheConstants.{REQUEST_SECTORS, SECTOR_BYTES};
-ghost use Rattle.world.specs.Shelf.{Continues, IsSame};
-ghost use Rattle.world.specs.Writes.{WritesOnly};
-ghost use Rattle.segment_io.specs.Lost.{NoByte};
 ghost use Rattle.memory_spec.specs.Memory.{Contents, IsSound, ReadsAs};
 ghost use Rattle.memory_spec.specs.Tables.{facts};
 ghost use Rattle.memory_spec.specs.Contents.{ContentsStand};
 ghost use Rattle.volume_ops.specs.OfArray.{OfArray};
-ghost use Rattle.target_io.specs.Reading.{AreReadable, ShowsDrives, LosesThree};
+ghost use Rattle.target_io.specs.Reading.{AreReadable, ReadsOnly, ShowsDrives, LosesThree};
 ghost use Rattle.target_io.specs.Targets.{IfRefused, IfLost};
 
 use array_memory::Memory;
@@ -45,11 +41,8 @@ fn read_first<S: Shelf>(
     requires places { AreReadable (S.shelf shelf.old) (facts memory.now.memory.tables) }
     requires few { count ≤ REQUEST_SECTORS }
     requires there { count ≤ length sectors.old }
-    ensures continues { Continues (S.shelf shelf.old) (S.shelf shelf.new) }
+    ensures reads { ReadsOnly (S.shelf shelf.old) (S.shelf shelf.new) }
     ensures rest { S.shelf_rest shelf.old shelf.new }
-    ensures nvrams { (n : ℕ) → (S.shelf shelf.new).disk (nvram n) ≡ (S.shelf shelf.old).disk (nvram n) }
-    ensures same { (S.shelf shelf.old).honest → (device : Device) → IsSame ((S.shelf shelf.old).disk device) ((S.shelf shelf.new).disk device) }
-    ensures writes { (S.shelf shelf.old).honest → WritesOnly NoByte (S.shelf shelf.old) (S.shelf shelf.new) }
     ensures accepted { OnOk result (OfArray memory.now.memory (λ array. first_cause (read_causes array name.now lba count) ≡ None)) }
     ensures refused { IfErr result (λ fault. IfRefused fault (λ why. OfArray memory.now.memory (λ array. first_cause (read_causes array name.now lba count) ≡ Some why))) }
     ensures sectors { (S.shelf shelf.old).honest → OnOk result ((contents : Contents) (array : Array) (view : View) → ReadsAs contents memory.now.memory array
@@ -100,11 +93,8 @@ impl ReadBuffers {
         requires sound { IsSound memory.now.memory }
         requires places { AreReadable (S.shelf shelf.old) (facts memory.now.memory.tables) }
         requires few { count ≤ REQUEST_SECTORS }
-        ensures continues { Continues (S.shelf shelf.old) (S.shelf shelf.new) }
+        ensures reads { ReadsOnly (S.shelf shelf.old) (S.shelf shelf.new) }
         ensures rest { S.shelf_rest shelf.old shelf.new }
-        ensures nvrams { (n : ℕ) → (S.shelf shelf.new).disk (nvram n) ≡ (S.shelf shelf.old).disk (nvram n) }
-        ensures same { (S.shelf shelf.old).honest → (device : Device) → IsSame ((S.shelf shelf.old).disk device) ((S.shelf shelf.new).disk device) }
-        ensures writes { (S.shelf shelf.old).honest → WritesOnly NoByte (S.shelf shelf.old) (S.shelf shelf.new) }
         ensures filled { length self.new.sectors.items ≡ REQUEST_SECTORS }
         ensures whole { AllByRecursion (λ sector. length sector ≡ SECTOR_BYTES) (take count self.new.sectors.items) }
         ensures accepted { OnOk result (OfArray memory.now.memory (λ array. first_cause (read_causes array name.now lba count) ≡ None)) }

@@ -2,7 +2,7 @@
 ghost use Rattle.std.specs.Prelude.{◌≡◌, ◌<◌, ◌^◌, length};
 ghost use Rattle.std.specs.List.{AllByRecursion, sum_by};
 ghost use Rattle.pur_base.specs.Devices.{Geometry};
-ghost use Rattle.session_spec.specs.Faring.{set_flags};
+ghost use Rattle.boot_codec.specs.Record.{set_count};
 ghost use Rattle.volume_ops.specs.OfArray.{OfArray};
 ghost use Rattle.array_core.specs.Ready.{IsArrayOf};
 ghost use Rattle.array_checkpoint.specs.Room.{IsRoomOf};
@@ -16,7 +16,7 @@ use volume_ops::len;
 
 /// How many of the flags are set.
 fn set_flags(flags: &[bool]) -> u64
-    ensures { result ≡ set_flags flags.now }
+    ensures { result ≡ set_count flags.now }
 {
     flags.iter().filter(|flag| **flag).count() as u64
 }

@@ -40,10 +40,12 @@ module _ (told : Bool) (shelf : Geometry) (failed others lost more : Device → 
     few_data = h.few_data;
     few_new = h.few_new;
     elided = h.elided;
-    few_elided = h.few_elided;
-    gone = h.gone;
+    elides = h.elides;
     next = h.next;
+    placed = h.placed;
     patch_segments_are = h.patch_segments_are;
+    one_more = h.one_more;
+    go_on = h.go_on;
     named = h.named;
     sound = h.sound;
     contents = h.contents;

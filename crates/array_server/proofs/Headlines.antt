@@ -8,7 +8,7 @@ use Rattle.register.specs.Prelude.{IsRegisterOf, array_of}
 use Rattle.memory_spec.proofs.Sound.{sound_tables_read}
 use Rattle.session_spec.specs.Headline.{Keeps}
 use Rattle.array_core.specs.declared.array.Array.{Array}
-use Rattle.array_core.specs.Prelude.{SegmentsHold, bearable_or_not}
+use Rattle.array_core.specs.Prelude.{SegmentsHold, bearable_or_not, named_enough}
 use Rattle.takeover.specs.declared.faults.OpenFault.{OpenFault}
 use Rattle.takeover.specs.declared.faults.OpenFault.TheVariants as open_fault
 use Rattle.takeover.specs.Opened.{IsOpened, IsShut, IsRecovered, status_of}
@@ -121,7 +121,7 @@ module _ (old mid new : Shelved) (a : Array) (e : Engine) (input left : List ℕ
       first = first_of start a (after_all base o.log)
 
       s : IsServedFrom told start new (engine_of e a) input left ended first
-      s = all told first (begins (geometry_of start) a is_of named told start e (after_all base o.log) contents (o.reads contents base reads).1 hold)
+      s = all told first (begins (geometry_of start) a is_of named told start e (after_all base o.log) contents refl o.enough (o.reads contents base reads).1 hold)
 
       output : IsOutput ended told (geometry_of old) s.last (read_now new) (drop (length s.replies) (requests input)) old.output new.output s.replies
       output = subst (λ (l : List ℕ). IsOutput ended told (geometry_of old) s.last (read_now new) (drop (length s.replies) (requests input)) l new.output s.replies) moments.quiet.output s.output
@@ -151,7 +151,7 @@ module _ (old mid new : Shelved) (a : Array) (e : Engine) (input left : List ℕ
           taken_over = o.taken_over;
           missing = refl;
           none_joins = o.none_joins;
-          enough = o.enough;
+          enough = named_enough (geometry_of start) a.register is_of named.0 o.enough;
           reached = s.reached;
           quiet = record { output = moments.quiet.output; taken = moments.quiet.taken };
           at = refl;

@@ -3,6 +3,7 @@ use Rattle.std.proofs.Common.{◌≡◌, inl, inr, ℕ, ◌<◌, List, [], ◌�
 use Rattle.std.specs.List.{list_any}
 use Rattle.std.proofs.lemmas.List.{drop_at}
 use Rattle.session_spec.specs.Prelude.{Device, Geometry, IsBearable, Item, requests, first_item, Answer, text, texts, requests-step, geometry_of, has_failed, has_lost_writes, has_risen, losing, Shelved, Stop, Disk, IsShelf, Continues, TakenOnly, OutputOnly, LeavesOnly, IsCountedBy, continues_trans, weaker, leaves_weaker, read_now, is_cut, Point, Answers, now_missing, StandsAmong, IsAfter, IsLeftAfter, borne_before, loses}
+use Rattle.session_spec.specs.Faring.{CountsOn, IsBorneAt}
 use Rattle.pur_base.specs.declared.reply.Status.TheVariants as status
 use Rattle.register.specs.Prelude.{Content, array_of}
 use Rattle.array_core.specs.Prelude.{IsReady, bearable_or_not}
@@ -65,8 +66,8 @@ stands_now told start there now e last rest same at ready stop device counts bea
     ready_stands_on told (geometry_of start) there now (sym same) e last at r.1 r.0.0 r.0.1 r.0.2 rest stop device bears
 
 -- the engine stands where it stood while no device is called
-at_still : (told : Bool) (was now : Shelved) (e : Engine) (p : Point) → ((d : Device) → now.disk d ≡ was.disk d) → IsAt told was e p → IsAt told now e p
-at_still told was now e p disk at = record {
+at_still : (told : Bool) (was now : Shelved) (e : Engine) (p : Point) → Continues was now → ((d : Device) → now.disk d ≡ was.disk d) → IsAt told was e p → IsAt told now e p
+at_still told was now e p continues disk at = record {
   halted = at.halted;
   stands = λ awake. let s = at.stands awake in record {
     logged = s.logged;
@@ -79,6 +80,8 @@ at_still told was now e p disk at = record {
     holders = s.holders;
     left_out = s.left_out;
     names_holders = s.names_holders;
+    enough = s.enough;
+    kept = λ on. subst (λ (g : Geometry). IsBorneAt g p) (same_shelf continues) (s.kept (λ d. omega (arith, on d, ap (λ (x : Disk). x.write_faults) (disk d))));
   };
 }
 
@@ -119,7 +122,7 @@ taken_so_far told start now mid e0 e input unread first cut s takes unlapsed =
       items = s.items;
       count = s.count;
       cuts = s.cuts;
-      at = at_still told now mid e s.last takes.disk s.at;
+      at = at_still told now mid e s.last takes.continues takes.disk s.at;
       same_faults = λ d. s.same_faults d ∙ ap (λ (x : Disk). x.faults) (sym (takes.disk d));
       same = λ d. s.same d ∙ ap (λ (x : Disk). x.write_faults) (sym (takes.disk d));
       ready = λ held bears.
@@ -300,8 +303,15 @@ module _ (told : Bool) (start mid between : Shelved) (e0 e e' : Engine) (input u
       turns : (d : Device) → new.conditions d ≡ losing (has_lost_writes s.last.stop (read_now after)) s.last.conditions d
       turns d = ap (λ (lost : Device → Bool). losing lost s.last.conditions d) lost_is
 
+      at_after : IsAt told after e' new
+      at_after = at_still told between after e' new gives.continues gives.disk (x.at (read_now after))
+
+      -- unless it's halted, what is missing is borne
+      stays_borne : new.halted ≡ false → CountsOn new.stop → IsBorneAt shelf new
+      stays_borne awake on_end = subst (λ (g : Geometry). IsBorneAt g new) (sym (same_shelf (continues_trans (continues_trans s.run.continues on) gives.continues))) ((at_after.stands (sym at_after.halted ∙ awake)).kept on_end)
+
       pub run_given : Along told start after first items Nothing (s.replies ++ q ∷ []) new
-      run_given = given told start between after first s.last new items (requests unread') item Nothing s.replies q run_called gives unlapsed_then rest x.whole answers_now (λ stop device counts. tt) gave is_shelf honest refl turns (λ stop device counts. tt)
+      run_given = given told start between after first s.last new items (requests unread') item Nothing s.replies q run_called gives unlapsed_then rest x.whole answers_now (λ stop device counts. tt) gave is_shelf honest refl turns stays_borne (λ stop device counts. tt)
 
       pub answered : (cut : Bool) → is_cut item ≡ cut → SoFar told start after e0 e' input unread' first cut
       unfolding run_given
@@ -313,11 +323,11 @@ module _ (told : Bool) (start mid between : Shelved) (e0 e e' : Engine) (input u
         last = new;
         run = run_given;
         standing = λ held. given told start between after first s.last new items (requests unread') item (StandsFor shelf) s.replies q (standing_called held) gives unlapsed_then rest x.whole answers_now (in_hand held)
-            gave is_shelf honest refl turns (stands_now told start between between e' new (requests unread') same_between (x.at (read_now after)) (went_on held));
+            gave is_shelf honest refl turns stays_borne (stands_now told start between between e' new (requests unread') same_between (x.at (read_now after)) (went_on held));
         items = items_more;
         count = count_more;
         cuts = any_more s.front item cut s.cuts cuts;
-        at = at_still told between after e' new gives.disk (x.at (read_now after));
+        at = at_after;
         same_faults = λ d. refl;
         same = λ d. refl;
         ready = ready_after;

@@ -1,10 +1,11 @@
 -- One step more of a session: input is taken, devices are called, or a reply is given.
-use Rattle.std.proofs.Common.{◌≡◌, inl, inr, ℕ, ◌<◌, List, [], ◌∷◌, ◌++◌, length, drop, refl, sym, ◌∙◌, ap, subst, arith, append_assoc, length-append, Bool}
+use Rattle.std.proofs.Common.{false, ◌≡◌, inl, inr, ℕ, ◌<◌, List, [], ◌∷◌, ◌++◌, length, drop, refl, sym, ◌∙◌, ap, subst, arith, append_assoc, length-append, Bool}
 use Rattle.std.specs.List.{AllByRecursion}
 use Rattle.std.proofs.lemmas.Bool.{cases_lt}
 use Rattle.std.proofs.lemmas.List.{append-nil, append_cancel_left}
 use Rattle.std.proofs.lemmas.Grind.{flat_map-append}
 use Rattle.session_spec.specs.Prelude.{Device, Item, Answer, text, texts, IsAnswer, acked, geometry_of, has_failed, has_lost_writes, losing, IsLater, Shelved, Stop, Disk, IsShelf, Continues, TakenOnly, OutputOnly, MayLeave, MayStop, MayStopTaking, MayStopGiving, LeavesOnly, Leaves, IsCountedBy, IsQuietBy, continues_refl, continues_trans, leaves_start, Point, IsReached, Fares, Serves, Answers, IsPartOfNext, read_now}
+use Rattle.session_spec.specs.Faring.{CountsOn, IsBorneAt}
 use Rattle.array_spec.proofs.AckedLemmas.{counts-replies, cut-is-none}
 use Rattle.session_spec.proofs.Reached.{output_is_bounded, output_counts}
 use Rattle.array_server.proofs.Going.{IsUpTo, fares_more, later_than, rest_more}
@@ -208,7 +209,7 @@ module _ (told : Bool) (start a b : Shelved) (first last new : Point) (items mor
 
   -- where it was given whole
   module _ (gave : b.output ≡ a.output ++ text q) (is : IsShelf b) (honest : b.honest) (at : new.stop ≡ read_now b) (turns : (d : Device) → new.conditions d ≡ losing (has_lost_writes last.stop (read_now b)) last.conditions d)
-      (next : HoldsNow a (R new more)) where
+      (kept : new.halted ≡ false → CountsOn new.stop → IsBorneAt (geometry_of start) new) (next : HoldsNow a (R new more)) where
     longer : length a.output < length b.output
     longer = omega (arith, ap (λ (l : List ℕ). length l) gave, length-append a.output (text q), text_some q is_answer)
 
@@ -237,6 +238,7 @@ module _ (told : Bool) (start a b : Shelved) (first last new : Point) (items mor
       reached = reaches;
       output = ap (λ (s : Stop). s.output) at ∙ gave ∙ ap (λ (l : List ℕ). l ++ text q) (sym so.said);
       later = later;
+      kept = kept;
     }
 
     run_more : Fares told (geometry_of start) (b.left_since start.moment) first items (replies ++ q ∷ []) new

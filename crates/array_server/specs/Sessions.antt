@@ -1,6 +1,6 @@
 -- What a session answers from the moment on when its array is open, and what it does to that.
 use Rattle.std.specs.Prelude.{◌≡◌, ℕ, Bool, true, false, List, length, drop}
-use Rattle.session_spec.specs.Prelude.{Status, Geometry, IsBearable, Item, requests, Answer, geometry_of, IsLater, Shelved, Stop, Leaves, read_now, Point, IsReached, Fares, IsBorne, now_missing, Ends, IsOutput, Replied, StandsOn, IsLeftAfter, in_hand}
+use Rattle.session_spec.specs.Prelude.{Status, IsBearable, requests, Answer, geometry_of, IsLater, Shelved, Leaves, read_now, Point, IsReached, Fares, IsBorne, now_missing, Ends, IsOutput, Replied, StandsOn, IsLeftAfter, in_hand}
 use Rattle.pur_base.specs.declared.reply.Status.TheVariants as status
 use Rattle.register.specs.Prelude.{Content, array_of}
 use Rattle.array_core.specs.Prelude.{IsReady}

@@ -1,135 +1,133 @@
--- The one patch of a merge, on the units that are taken for it.
-use Rattle.std.proofs.Common.{◌≡◌, ℕ, zero, suc, ◌<◌, ◌≤◌, List, [], length, sym, subst, ap, ◌∙◌, arith, Contains, AllPairs}
+-- The one patch of a merge, on the units that are taken for it, and what holds once it was written.
+use Rattle.std.proofs.Common.{◌≡◌, inr, ℕ, zero, suc, ◌<◌, ◌≤◌, Bool, List, [], ◌∷◌, ◌++◌, map, length, refl, sym, subst, ap, ◌∙◌, arith, append-nil, Contains, Option, Some, None}
 use Rattle.std.specs.Prelude.{slice_get}
-use Rattle.std.specs.List.{AllByRecursion}
-use Rattle.std.proofs.lemmas.List.{length-map}
+use Rattle.std.specs.List.{AllByRecursion, AllZip, flat_map}
 use Rattle.std.proofs.lemmas.Option.{same_Some}
-use Rattle.session_spec.specs.Prelude.{Geometry, Facts, tag_of, Device, Place, Table, PATCH_SEGMENTS, Patch, BootRecord, IsPatch, places_of_part, geometry_of, Shelved, Memory, facts, of_each, contains_at}
-use Rattle.pur_base.specs.declared.request.Table.TheVariants as table
-use Rattle.array_spec.specs.Sound as sound
+use Rattle.session_spec.specs.Prelude.{Geometry, Facts, table_tag, tag_of, Place, View, AnyFact, Patch, BootRecord, NextNumbers, IsPatch, BaseStands, TablesStand, PatchStands, PatchesStand, AreEnough, AreAmong, AreJoined, IsNamed, Memory, all_facts, all_append_right, places_of_part, patch_facts, patches_of, geometry_of, Shelved, IsShelf, Runs, facts, patches, contains_at, read_now}
+use Rattle.pur_base.specs.declared.facts.AnyFact.TheVariants as any
+use Rattle.array_spec.specs.lemmas.Used.{all_append_left}
+use Rattle.boot_region.specs.Prelude.{IsDrive}
 use Rattle.free_space.specs.Laws.{AreUnitsToTake}
-use Rattle.free_space.specs.Map.{shelf_of}
-use Rattle.table_plan.specs.Prelude.{ArePatchFacts, merged_facts}
+use Rattle.memory_spec.proofs.Holding.{merged_patches_hold}
+use Rattle.register.specs.Prelude.{Content, with_tables}
+use Rattle.register.proofs.Rounds.{same_shelf}
+use Rattle.table_plan.specs.declared.merged.Merged.{Merged}
+use Rattle.table_plan.specs.declared.merged.Merged.TheVariants as merged
+use Rattle.table_plan.specs.Prelude.{merged_facts, merged_patches, table_of, tables_with}
 use Rattle.table_plan.proofs.MergeLemmas.{are_patch_facts}
-use Rattle.segment_writer.specs.PatchStoring.{AreApart}
-use Rattle.patch_io.specs.Prelude.{AreInOrder}
-use Rattle.record_tables.specs.Prelude.{new_patch, AreNewUnits, all_weaker}
-use Rattle.record_tables.proofs.Added.{new_some, segments_long, segments_places, the_patch}
-use Rattle.record_tables.proofs.Lawful.{new_lawful}
+use Rattle.segment_io.specs.Prelude.{bytes_of}
+use Rattle.record_tables.specs.Prelude.{new_patch, segments_for}
+use Rattle.record_tables.proofs.Added.{new_some, segments_places, the_patch}
+use Rattle.record_tables.proofs.JoinedNamed.{zip_joined}
 use Rattle.record_tables.proofs.Neighbours.{few_segments}
 use Rattle.array_core.specs.declared.array.Array.{Array}
-use Rattle.array_core.specs.Prelude.{IsArrayOf}
-use Rattle.array_checkpoint.proofs.FreeUnits.{IsFreeByte, free_byte}
-use Rattle.array_checkpoint.proofs.Left.{own_size}
-use Rattle.array_checkpoint.proofs.PatchUnits.{part_in, patch_places}
-use Rattle.array_checkpoint.proofs.UnitLists.{pairs_two}
-use Rattle.array_checkpoint.proofs.Units.{StandApart, new_apart, stand_back}
+use Rattle.array_core.specs.Prelude.{WritesFree, IsArrayOf, IsReady, HoldTables, OnUnused}
+use Rattle.array_checkpoint.proofs.Left.{AreLeft, old_tables, own_size, shown}
+use Rattle.array_checkpoint.proofs.NewUnits.{tags_from}
+use Rattle.array_checkpoint.proofs.PatchUnits.{headed, part_taken, patch_places}
+use Rattle.array_checkpoint.proofs.Stays.{may_stop_now}
 use Rattle.pyramid_jobs.specs.declared.preparing.Prepared.{Prepared}
-use Rattle.pyramid_jobs.specs.Prepared.{IsPreparedFor}
-use Rattle.pyramid_jobs.specs.Written.{IsOne, OnOne, OneMayBeWritten}
+use Rattle.pyramid_jobs.specs.Prepared.{held_after, IsPreparedFor}
+use Rattle.pyramid_jobs.specs.Written.{IsOne, OneMayBeWritten, OneStands}
+use Rattle.pyramid_jobs.proofs.Merged.{added_named, joined_facts, lawful_patches, says_with, sound_by}
 
--- ---- on any units
-
-is_tag : (t : Table) → (1 ≤ tag_of t) × (tag_of t ≤ 5)
-is_tag table.Object = (omega arith, omega arith)
-is_tag table.Medium = (omega arith, omega arith)
-is_tag table.Address = (omega arith, omega arith)
-is_tag table.Segment = (omega arith, omega arith)
-is_tag table.Elision = (omega arith, omega arith)
+-- ---- lists of none or one
 
 is_the_patch : (tag n first : ℕ) (units : List (List Place)) (p : Patch) → IsOne (new_patch tag n first units) p → p ≡ the_patch tag n first units
 is_the_patch tag zero first units p at = absurd (cc)
 is_the_patch tag (suc n) first units p at = same_Some p (the_patch tag (suc n) first units) (sym at ∙ ap (λ (ps : List Patch). slice_get ps 0) (new_some tag (suc n) first units (omega arith)))
 
-module _ (boot : BootRecord) (tables : Facts) (tag n first : ℕ) (units : List (List Place)) (new : AreNewUnits boot tables units) where
-  abbrev One : Patch
-  One = the_patch tag n first units
+-- its segments take the units
+new_places : (tag n first : ℕ) (units : List (List Place)) → length units ≡ segments_for n → flat_map patch_places (new_patch tag n first units) ≡ units
+new_places tag zero first [] e = refl
+new_places tag zero first (u ∷ units) e = absurd (omega (arith, e))
+new_places tag (suc n) first units e = ap (λ ps. flat_map patch_places ps) (new_some tag (suc n) first units (omega arith)) ∙ append-nil (map (λ s. s.places) (the_patch tag (suc n) first units).segments) ∙ segments_places first units
 
-  -- the units of each of its segments were taken
-  part_taken : (part : ℕ) → part < length One.segments → AreUnitsToTake boot tables (places_of_part One part)
-  part_taken part l =
-      of_each (AreUnitsToTake boot tables) units (places_of_part One part) new.each
-      (subst (λ (us : List (List Place)). Contains us (places_of_part One part)) (segments_places first units) (part_in One part l))
+-- what holds of the patches where it stands holds of it
+in_joined : {A : Type 0} {at : ℕ} {was joined now : List A} (P : A → Type 0) → AreJoined at was joined now → AllByRecursion P now → AllByRecursion P joined
+in_joined {joined = joined} P j each = all_append_left P joined j.back (all_append_right P j.front (joined ++ j.back) (subst (λ xs. AllByRecursion P xs) j.now_is each))
 
-  -- and no unit stands in two
-  parts_apart : AreApart One
-  parts_apart part other j k differ l less low few slots =
-      let wide = length-map One.segments (λ s. s.places) in
-      pairs_two StandApart stand_back (patch_places One) part other [] (subst (λ (us : List (List Place)). AllPairs StandApart us) (sym (segments_places first units)) (new_apart boot tables units new))
-      differ (omega (arith, l, wide)) (omega (arith, less, wide)) j k low few slots
+module _ (R S : Patch → List AnyFact → Type 0) where
+  zip_one : {F : Type 0} (c : F → AnyFact) (patch : Option (List F)) (ps : List Patch) → AllZip R ps (map (map c) (patches_of patch)) → ((p : Patch) → IsOne ps p → S p (map c (patch_facts patch)))
+      → AllZip S ps (map (map c) (patches_of patch))
+  zip_one c None [] z h = tt
+  zip_one c None (p ∷ ps) z h = absurd z
+  zip_one c (Some fs) [] z h = absurd z
+  zip_one c (Some fs) (p ∷ []) z h = (h p refl, tt)
+  zip_one c (Some fs) (p ∷ o ∷ ps) z h = absurd z.1
+
+  -- what holds of the one patch and its facts holds of the lists
+  zip_merged : (p : Merged) (ps : List Patch) → AllZip R ps (merged_patches p) → ((o : Patch) → IsOne ps o → S o (merged_facts p)) → AllZip S ps (merged_patches p)
+  zip_merged (merged.Object patch) ps z h = zip_one any.Object patch ps z h
+  zip_merged (merged.Medium patch) ps z h = zip_one any.Medium patch ps z h
+  zip_merged (merged.Address patch) ps z h = zip_one any.Address patch ps z h
+  zip_merged (merged.Segment patch) ps z h = zip_one any.Segment patch ps z h
+  zip_merged (merged.Elision patch) ps z h = zip_one any.Elision patch ps z h
 
 -- ---- as it was prepared
 
-module _ (a : Shelved) (x : Array) (t : Table) (i : ℕ) (q : Prepared) (of : IsArrayOf (geometry_of a) x) (h : IsPreparedFor x t i q) where
-  abbrev boot : BootRecord
-  boot = x.register.record
+module _ (x : Array) (q : Prepared) (h : IsPreparedFor x q) where
+  abbrev Boot : BootRecord
+  Boot = x.register.record
 
+  abbrev Held : Facts
+  Held = facts x.memory.memory.tables
+
+  own : flat_map patch_places q.added ≡ h.units
+  own = subst (λ ps. flat_map patch_places ps ≡ h.units) (sym h.added) (new_places (tag_of (table_of q.merged)) (length (merged_facts q.merged)) Boot.next.patch_segment h.units (sym h.wanted))
+
+  -- the units of each of its segments were taken
+  pub taken : (p : Patch) → Contains q.added p → (part : ℕ) → part < length p.segments → AreUnitsToTake Boot Held (places_of_part p part)
+  taken = part_taken Boot Held [] h.units q.added own h.free
+
+  -- and it may be written
+  pub may_be_written : (a : Shelved) → IsArrayOf (geometry_of a) x → OneMayBeWritten a q.added (merged_facts q.merged)
+  may_be_written a of p at =
+      let all = (lawful_patches (geometry_of a) x q of h).0 in
+      let few = h.few in
+      let most = few_segments (table_of q.merged) q.index Boot.patches in
+      let room = of.of_shelf.lawful.lawful.patches.room in
+      let head = headed Boot Held [] h.units q.added own h.free a
+      (subst (λ (g : Geometry). AllByRecursion (IsPatch g.slots g.units) q.added) (sym (own_size a x of)) (in_joined (IsPatch Boot.slots Boot.units) h.patches all.each))
+      (in_joined (λ (o : Patch). 1 ≤ o.tag) h.patches (tags_from 1 q.tables.patches all.by_tag)) (omega (arith, few, most, room)) p (contains_at q.added 0 p at) in
+      let is = is_the_patch (tag_of (table_of q.merged)) (length (merged_facts q.merged)) Boot.next.patch_segment h.units p (subst (λ (ps : List Patch). IsOne ps p) h.added at) in
+      let right = are_patch_facts x.memory.memory q.index q.merged of.sound of.stored h.merged in (
+        record {
+          lawful = head.lawful;
+          count = sym (ap (λ (o : Patch). o.facts) is);
+          each = right.lawful;
+          in_order = record { table = subst (λ (n : ℕ). AllByRecursion (λ f. table_tag f ≡ n) (merged_facts q.merged)) (sym (ap (λ (o : Patch). o.tag) is)) right.table; ascending = right.ascending };
+          apart = head.apart;
+        },
+        head,
+      )
+
+-- ---- once it was written
+
+module _ (a b : Shelved) (is : IsShelf a) (is_b : IsShelf b) (honest : a.honest) (x : Array) (q : Prepared) (of : IsArrayOf (geometry_of a) x) (h : IsPreparedFor x q) (run : Runs IsDrive (OnUnused x) a b) (lost : List Bool)
+    (stands : OneStands b q.added lost (merged_facts q.merged)) (held : Content) (ready : IsReady a x held) (free : WritesFree x.register held a b) where
   abbrev m : Memory
   m = x.memory.memory
 
-  abbrev many : ℕ
-  many = length (merged_facts q.merged)
+  abbrev next : BootRecord
+  next = with_tables x.register.record q.tables
 
-  abbrev first : ℕ
-  first = boot.next.patch_segment
+  abbrev now : List (List AnyFact)
+  now = patches (tables_with m.tables q.index q.merged)
 
-  abbrev Added : List Patch
-  Added = new_patch (tag_of t) many first h.units
+  -- on drives that aren't lost the next tables hold the same base
+  holds : (left : List Bool) → AreLeft x.register lost left → (members : View) → AreAmong left (bytes_of b) members → AreEnough (geometry_of b) members
+      → TablesStand (geometry_of b) members next now × BaseStands members (all_facts now) next.next.object held.base
+  holds left fewer members among enough =
+      let of_b : IsArrayOf (geometry_of b) x = subst (λ (s : Geometry). IsArrayOf s x) (same_shelf run.continues) of in
+      let old = old_tables a b x of run lost left fewer members among enough is is_b honest held ready free in
+      let new : PatchesStand members next now =
+      zip_joined (PatchStands members) old.0.patches_stand h.patches (joined_facts (geometry_of b) x q of_b h)
+      (zip_merged IsNamed (PatchStands members) q.merged q.added (added_named (geometry_of b) x q of_b h)
+      (λ p at. stands p at (read_now b) members (may_stop_now b is_b (run.continues.honest honest))
+      (λ part l. shown a b x of run lost left fewer members among enough (places_of_part p part) (taken x q h p (contains_at q.added 0 p at) part l)))) in
+      merged_patches_hold (geometry_of b) members x.register.record next (patches m.tables) now held.base old.0 old.1 (says_with m q.index q.merged of.sound of.layered h.merged) (ap (λ (n : NextNumbers). n.object) h.next)
+      (sound_by (geometry_of b) x q of_b h x.register.record old.0.sound) new
 
-  added_lawful : AllByRecursion (IsPatch boot.slots boot.units) Added
-  added_lawful =
-      let low = h.ids in
-      new_lawful boot.slots boot.units (tag_of t) many first h.units (is_tag t).1 h.fits (sym h.wanted)
-      (all_weaker (AreUnitsToTake boot (facts m.tables)) (sound.ArePlaces (shelf_of boot)) (λ u took. took.lawful) h.units h.free.each) (omega (arith, low))
-
-  -- there is room for its segments
-  few_units : length h.units ≤ PATCH_SEGMENTS
-  few_units =
-      let few = h.few in
-      let own = few_segments t i boot.patches in
-      let most = of.of_shelf.lawful.lawful.patches.room in
-      omega (arith, few, own, most)
-
-  in_added : (p : Patch) → IsOne q.added p → IsOne Added p
-  in_added p at = subst (λ (ps : List Patch). IsOne ps p) h.added at
-
-  one_is : (p : Patch) → IsOne q.added p → p ≡ the_patch (tag_of t) many first h.units
-  one_is p at = is_the_patch (tag_of t) many first h.units p (in_added p at)
-
-  -- the units of each of its segments were taken
-  pub taken : (p : Patch) → IsOne q.added p → (part : ℕ) → part < length p.segments → AreUnitsToTake boot (facts m.tables) (places_of_part p part)
-  taken p at = subst (λ (o : Patch). (part : ℕ) → part < length o.segments → AreUnitsToTake boot (facts m.tables) (places_of_part o part)) (sym (one_is p at)) (part_taken boot (facts m.tables) (tag_of t) many first h.units h.free)
-
-  -- so only free units are written
-  pub free_bytes : (device : Device) (k : ℕ) → OnOne q.added device k → IsFreeByte boot (facts m.tables) device k
-  free_bytes device k (p, at, (part, l, on)) = free_byte boot (facts m.tables) (places_of_part p part) (taken p at part l) device k on
-
-  lawful : (p : Patch) → IsOne q.added p → IsPatch a.drives a.units p
-  lawful p at =
-      subst (λ (g : Geometry). IsPatch g.slots g.units p) (sym (own_size a x of)) (of_each (IsPatch boot.slots boot.units) Added p added_lawful (contains_at Added 0 p (in_added p at)))
-
-  facts_are : ArePatchFacts (tag_of t) (merged_facts q.merged)
-  facts_are = subst (λ (u : Table). ArePatchFacts (tag_of u) (merged_facts q.merged)) h.table (are_patch_facts m i q.merged of.sound of.stored h.merged)
-
-  -- and it may be written
-  pub may_be_written : OneMayBeWritten a q.added (merged_facts q.merged)
-  may_be_written p at =
-      let is = one_is p at in
-      let apart : AreApart p = subst AreApart (sym is) (parts_apart boot (facts m.tables) (tag_of t) many first h.units h.free) in
-      let tag : p.tag ≡ tag_of t = ap (λ (o : Patch). o.tag) is in
-      let count : p.facts ≡ many = ap (λ (o : Patch). o.facts) is in
-      let long : length p.segments ≡ length h.units = ap (λ (o : Patch). length o.segments) is ∙ segments_long first h.units in (
-        record {
-          lawful = lawful p at;
-          count = sym count;
-          each = facts_are.lawful;
-          in_order = subst (λ (n : ℕ). AreInOrder n (merged_facts q.merged)) (sym tag) (record { table = facts_are.table; ascending = facts_are.ascending });
-          apart = apart;
-        },
-        record {
-          lawful = lawful p at;
-          some_tag = omega (arith, tag, (is_tag t).0);
-          few = omega (arith, long, few_units);
-          apart = apart;
-        },
-      )
+  pub holds_merged : HoldTables b x.register lost q.tables held (held_after m q held)
+  holds_merged = record { stand = holds; keeps = inr (record { flushed = h.flushed; log = refl; base = refl }) }

@@ -1,9 +1,6 @@
 -- What a merge prepares: there are numbers and units for all that it writes.
-use Rattle.std.proofs.Common.{◌≡◌, ℕ, ◌+◌, ◌-◌, ◌^◌, ◌<◌, ◌≤◌, List, ◌∷◌, length, ap, subst, arith, length-append}
-use Rattle.session_spec.specs.Prelude.{Geometry, Facts, segments, Table, SegmentFact, BootRecord, Memory, facts, patches, zip_long, AreJoined, pair_segments, place_in, IsNamed}
-use Rattle.unit_map.specs.declared.drive.Drive.{Drive}
-use Rattle.unit_map.specs.Prelude.{IsGroups}
-use Rattle.free_space.specs.Map.{IsMapOf}
+use Rattle.std.proofs.Common.{◌≡◌, ℕ, ◌+◌, ◌-◌, ◌^◌, ◌<◌, ◌≤◌, ◌∷◌, length, ap, subst, arith, length-append}
+use Rattle.session_spec.specs.Prelude.{Geometry, Table, BootRecord, Memory, patches, zip_long, pair_segments, place_in, IsNamed}
 use Rattle.table_plan.specs.declared.merged.Merged.{Merged}
 use Rattle.table_plan.specs.Prelude.{merged_facts, pair_facts, patch_count, table_of, IsMergedOf}
 use Rattle.table_plan.proofs.MergeLemmas.{no_more_facts}
@@ -13,7 +10,8 @@ use Rattle.record_tables.proofs.Neighbours.{few_segments}
 use Rattle.record_tables.proofs.Pairs.{pairs_are_named}
 use Rattle.array_core.specs.declared.array.Array.{Array}
 use Rattle.array_core.specs.Prelude.{IsArrayOf}
-use Rattle.array_checkpoint.proofs.PreparedLemmas.{are_low, has_groups}
+use Rattle.array_checkpoint.specs.Prelude.{HasGroups}
+use Rattle.array_checkpoint.proofs.PreparedLemmas.{are_low}
 use Rattle.pyramid_jobs.specs.Checked.{MayMerge}
 
 module _ (shelf : Geometry) (a : Array) (is : IsArrayOf shelf a) (t : Table) (i : ℕ) where
@@ -46,22 +44,17 @@ module _ (shelf : Geometry) (a : Array) (is : IsArrayOf shelf a) (t : Table) (i 
       -- the record names them where it has the pair
       pub place_there : place_in t i Boot.patches + 1 < length Boot.patches
       place_there =
-          let joined = (joined_are_named Boot.slots Boot.units Boot.patches M i p is.of_shelf.lawful.lawful.patches is.named made).0 in
+          let j = (joined_are_named Boot.slots Boot.units Boot.patches M i p is.of_shelf.lawful.lawful.patches is.named made).0 in
           let as_many = zip_long IsNamed Boot.patches (patches M.tables) is.named in
-          subst (λ x. place_in x i Boot.patches + 1 < length Boot.patches) table (two_of (patches M.tables) joined as_many)
-        where
-          two_of : {A : Type 0} {at n : ℕ} {added now : List A} (was : List A) → AreJoined at was added now → n ≡ length was → at + 1 < n
-          two_of was j same =
-              let place = j.place in
-              let whole = ap length j.was_is in
-              omega (arith, same, place, whole, length-append j.front (j.older ∷ j.newer ∷ j.back))
+          let place = j.place in
+          let whole = ap length j.was_is in
+          subst (λ x. place_in x i Boot.patches + 1 < length Boot.patches) table (omega (arith, as_many, place, whole, length-append j.front (j.older ∷ j.newer ∷ j.back)))
 
     -- ---- units
 
     -- so many are free
-    module _ (ds : List SegmentFact) (said : segments (facts M.tables) M.next.segment ≡ ds) (map : List Drive) (of : (fs : Facts) → segments fs Boot.next.segment ≡ ds → IsMapOf Boot fs map) where
-      pub enough_groups : (count : ℕ) → count ≤ pair_segments t i Boot.patches → (g : ℕ) → IsGroups map g → count ≤ g
-      enough_groups count few g groups =
-          let most = (has_groups shelf a is ds said map of g groups).greatest may.groups may.left.enough in
-          let enough = may.enough in
-          omega (arith, few, enough, most)
+    pub enough_groups : (count : ℕ) → count ≤ pair_segments t i Boot.patches → (g : ℕ) → HasGroups a g → count ≤ g
+    enough_groups count few g has =
+        let most = has.greatest may.groups may.left.enough in
+        let enough = may.enough in
+        omega (arith, few, enough, most)

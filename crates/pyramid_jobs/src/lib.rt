@@ -5,7 +5,6 @@
 mod checking;
 mod ending;
 mod fault;
-mod merged_io;
 mod merging;
 mod preparing;
 mod writing;

@@ -46,6 +46,5 @@ pub fn merge<S: Shelf>(
     let pair = check_merge(array, room, table, index)?;
     let prepared = prepare(alloc, array, table, index, pair)?;
     let lost = write_prepared(alloc, array, &prepared, shelf)?;
-    take_over(array, table, index, prepared, &lost, shelf)?;
-    Ok(())
+    take_over(array, prepared, &lost, shelf)
 }

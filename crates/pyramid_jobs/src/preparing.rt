@@ -2,6 +2,7 @@
 ghost use Rattle.std.specs.Prelude.{◌≡◌, IfOk};
 ghost use Rattle.pur_base.specs.Devices.{Geometry};
 ghost use Rattle.memory_spec.specs.Merging.{place_in};
+ghost use Rattle.table_plan.specs.Merging.{table_of};
 ghost use Rattle.array_core.specs.Ready.{IsArrayOf};
 ghost use Rattle.pyramid_jobs.specs.Checked.{MayMerge};
 ghost use Rattle.pyramid_jobs.specs.Prepared.{IsPreparedFor};
@@ -20,6 +21,8 @@ use table_plan::Merged;
 pub(crate) struct Prepared {
     /// The patch that is to stand in the place of the two.
     pub(crate) merged: Merged,
+    /// The index of the first of the two among their table's, from 0, the oldest first.
+    pub(crate) index: u64,
     /// The same as the record names it, or none where no fact is left.
     pub(crate) added: Patches,
     /// What the next record says of the tables.
@@ -39,7 +42,8 @@ pub(crate) fn prepare(
     requires is_of { (shelf : Geometry) × IsArrayOf shelf array.now }
     requires may { MayMerge table index array.now }
     requires place { pair.place ≡ place_in table index array.now.register.record.patches }
-    ensures { IfOk result (IsPreparedFor array.now table index) }
+    ensures prepared { IfOk result (IsPreparedFor array.now) }
+    ensures asked { IfOk result (λ p. (table_of p.merged ≡ table) × (p.index ≡ index)) }
 {
     let record = array.register.record();
     let merged = array.memory.merged(alloc, table, index as usize)?;
@@ -59,6 +63,7 @@ pub(crate) fn prepare(
     )?;
     Ok(Prepared {
         merged,
+        index,
         added: patches.added,
         tables: Tables {
             patches: patches.all,

@@ -6,9 +6,9 @@ use Rattle.memory_spec.specs.Prelude.{Device, Request, Table, Refusal, Geometry,
 use Rattle.pur_base.specs.declared.request.Request.TheVariants as request
 use Rattle.pur_base.specs.declared.reply.Refusal.TheVariants as refusals
 use Rattle.world.specs.Prelude.{Stop, has_risen, has_failed, has_lost_writes, losing, IsLater}
-use Rattle.session_spec.specs.Faring.{Point, Fares, Serves, Answers, AnswersRequest, AnswersAccepted, IsAppended, IsAppendedBehind, IsCheckpointed, IsDone, IsLogged, IsRefused, IsFailed, IsFlushing, IsMergeDone, IsMerging, IsFlushed, Where, WithPair, WithRoom, has_segments, is_full, is_spent}
+use Rattle.session_spec.specs.Faring.{CountsOn, IsBorneAt, Point, Fares, Serves, Answers, AnswersRequest, AnswersAccepted, IsAppended, IsAppendedBehind, IsCheckpointed, IsDone, IsLogged, IsRefused, IsFailed, IsFlushing, IsMergeDone, IsMerging, IsFlushed, Where, WithPair, WithRoom, has_segments, is_full, is_spent}
 use Rattle.session_spec.specs.declared.limits.TheConstants.{ADDING_GROUPS, CHECKPOINT_GROUPS, LIMITED_SEGMENTS, MERGE_GROUPS, SEGMENTS_END}
-use Rattle.session_spec.specs.Chain.{FaresRun, ClaimsHaveCauses, NoneComesBack, WasBorne, HaltsHaveCauses}
+use Rattle.session_spec.specs.Chain.{AwakeIsBorne, FaresRun, ClaimsHaveCauses, NoneComesBack, WasBorne, HaltsHaveCauses}
 use Rattle.session_spec.specs.lemmas.Conditions.{goes, unlost, borne_before, stays_so}
 
 -- ---- lawful replies
@@ -205,6 +205,11 @@ module _ (left : Stop → Type 0) where
     borne_before shelf from.conditions to.conditions (none_comes_back told shelf from to (item ∷ items) (q ∷ qs) run) bearable,
     was_borne told shelf run.0 to items qs run.2 bearable,
   )
+
+  pub awake_is_borne : AwakeIsBorne left
+  awake_is_borne told shelf from to items [] run before awake on = subst (IsBorneAt shelf) (sym run) (before (ap (λ (p : Point). p.halted) (sym run) ∙ awake) (subst (λ (p : Point). CountsOn p.stop) run on))
+  awake_is_borne told shelf from to [] (q ∷ qs) run before awake on = absurd run
+  awake_is_borne told shelf from to (item ∷ items) (q ∷ qs) run before awake on = awake_is_borne told shelf run.0 to items qs run.2 run.1.kept awake on
 
 -- ---- halting
 

@@ -5,7 +5,7 @@ use Rattle.world.specs.Prelude.{Shelved, Stop, MayStop, IsQuietBy, geometry_of, 
 use Rattle.pur_base.specs.declared.reply.Status.TheVariants as status
 use Rattle.session_spec.specs.Headline.{Survives, Serving, Opening, Replied, IsAfter, IsOpenedBearably, Served, Unopened}
 use Rattle.session_spec.specs.Entering.{IsStanding, IsLeft, Enters, Found, IsTakenOver, StandsStill, HasRoom, failed_by, failed_since}
-use Rattle.session_spec.specs.Faring.{Point, Fares, IsBorne, now_missing}
+use Rattle.session_spec.specs.Faring.{CountsOn, Point, Fares, IsBorne, IsBorneAt, now_missing}
 
 -- ---- one session after another
 
@@ -119,6 +119,15 @@ HaltsHaveCauses left = (told : Bool) (shelf : Geometry) (from to : Point) (items
 -- So a session that was opened ends halted only where more was missing at its last reply than can be borne.
 abbrev pub HaltedEndsHaveCauses : Shelved → Shelved → Type 0
 HaltedEndsHaveCauses old new = (told : Bool) (input left : List ℕ) (o : Opening old) (s : Serving told old new input left status.Halted o) → ¬ (IsBearable (geometry_of old) s.last.conditions)
+
+-- The other way too: where an array isn't halted, what is missing is borne, and its record names none of it.
+abbrev pub AwakeIsBorne : (Stop → Type 0) → Type 0
+AwakeIsBorne left = (told : Bool) (shelf : Geometry) (from to : Point) (items : List Item) (qs : List Answer) → Fares told shelf left from items qs to
+    → (from.halted ≡ false → CountsOn from.stop → IsBorneAt shelf from) → to.halted ≡ false → CountsOn to.stop → IsBorneAt shelf to
+
+-- So it is at the last reply of each session that was opened, however it ends.
+abbrev pub AwakeEndsAreBorne : Shelved → Shelved → Type 0
+AwakeEndsAreBorne old new = (told : Bool) (input left : List ℕ) (ended : Status) (o : Opening old) (s : Serving told old new input left ended o) → s.last.halted ≡ false → CountsOn s.last.stop → IsBorneAt (geometry_of old) s.last
 
 -- And one over arrays that wasn't opened, where what failed in it is borne, wanted memory.
 abbrev pub UnopenedEndsHaveCauses : Shelved → Shelved → Type 0

@@ -10,10 +10,14 @@ use Rattle.log_codec.specs.Prelude.{ShowsIn}
 abbrev pub LeftOutAreNamedByNone : Geometry → Image → Conditions → Type 0
 LeftOutAreNamedByNone shelf image missing = (d : Device) → missing d ≡ LeftOut → IsNamedByNone shelf image missing d
 
--- The log of each record that may be given holds requests of forms in force alone: such a log is read.
+-- Whether a takeover replays the command: its form is in force. A log that holds another one isn't read.
+abbrev pub is_replayed : Command → Bool
+is_replayed c = is_in_force c.request
+
+-- The log of each record that may be given holds commands alone that are replayed: such a log is read.
 abbrev pub AreRead : Geometry → Image → Conditions → Type 0
 AreRead shelf image missing = (slot : BootSlot) (boot : BootRecord) → MayBeGiven shelf image missing slot boot
-    → (n i : ℕ) (c : Command) → names boot (nvram n) ≡ true → ShowsIn (image (nvram n)) boot.flushed i c → is_in_force c.request ≡ true
+    → (n i : ℕ) (c : Command) → names boot (nvram n) ≡ true → ShowsIn (image (nvram n)) boot.flushed i c → is_replayed c ≡ true
 
 -- the generation of each record that may be given leaves room for others
 abbrev pub HasRoom : Geometry → Image → Conditions → Type 0

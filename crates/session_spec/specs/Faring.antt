@@ -1,13 +1,15 @@
 -- How the array and its devices fare while requests are served: at each reply what was answered and why, and which devices are missing.
-use Rattle.std.specs.Prelude.{◌≡◌, ◌≢◌, ◌⊎◌, ◌||◌, ◌+◌, ◌-◌, ◌<◌, ◌≤◌, ℕ, Bool, true, false, nat_le, nat_lt, not, List, [], ◌∷◌, ◌++◌, length, Option, Some, None, Contains, count_by}
+use Rattle.std.specs.Prelude.{◌≡◌, ◌≢◌, ◌⊎◌, ◌||◌, ◌+◌, ◌-◌, ◌^◌, ◌<◌, ◌≤◌, ℕ, Bool, true, false, nat_le, nat_lt, not, List, [], ◌∷◌, ◌++◌, length, Option, Some, None, Contains}
 use Rattle.memory_spec.specs.Prelude.{Device, Request, Table, Refusal, Geometry, Conditions, Sound, IsBearable, drive, Array, refusal, done, Item, Asked, Syntax, Cut, Answer, Line, Sectors, refused, given, text, segment, segments, SegmentFact, Place, SECTOR_BYTES, AnyFact, patch_segments, Patch, BootRecord, NextNumbers, IsGroups, free_of_members, AreSound, all_facts, Contents, FactsRead, are_used_up, is_used_up, next_after, AreJoined, HaveShrunk, has_pair, pair_segments, place_in, IsNamed, names}
 use Rattle.pur_base.specs.declared.request.Request.TheVariants as request
 use Rattle.pur_base.specs.declared.reply.Refusal.TheVariants as refusals
 use Rattle.pur_base.specs.declared.reply.Reply.TheVariants as reply
 use Rattle.std.specs.List.{AllByRecursion, AllZip, sum_by}
 use Rattle.world.specs.Prelude.{Stop, has_failed, has_lost_writes, losing, IsLater}
+use Rattle.boot_codec.specs.Record.{set_count}
 use Rattle.log_codec.specs.declared.limits.TheConstants.{LOG_SLOTS}
-use Rattle.session_spec.specs.declared.limits.TheConstants.{ADDING_GROUPS, CHECKPOINT_GROUPS, CONTROLLER, DATA_SEGMENTS, ELIDED_SEGMENTS, LIMITED_SEGMENTS, MERGE_GROUPS, NEW_PATCHES, SEGMENTS_END}
+use Rattle.session_spec.specs.Checkpointing.{ElidesUnnamed, FactsGoOn, HaveOneMore, HoldAddressed}
+use Rattle.session_spec.specs.declared.limits.TheConstants.{ADDING_GROUPS, CHECKPOINT_GROUPS, CONTROLLER, DATA_SEGMENTS, LIMITED_SEGMENTS, MERGE_GROUPS, NEW_PATCHES, SEGMENTS_END}
 
 -- where a reply has just been given
 pub record Point : Type 0 where
@@ -143,8 +145,8 @@ WithRoom limit floor from q to some = Where (has_segments limit from) (IsRefused
     ((groups : ℕ) × HasGroups from groups × Where (nat_lt groups floor) (IsRefused refusals.Space from q to) some))
 
 -- A checkpoint was made: it is the same array, with nothing in the log, and nothing else has changed but the record, the facts of its patches and the next numbers.
--- Some data segments were elided, each by a fact of its own: their units are free then.
--- Three stores wrote three records each at most. The record names the new patches, which are sound and read as the array; few segments were given to data and to patches.
+-- Of the data segments that no address names the first ones were elided, each by a fact of its own: their units are free then. Each sector of the new ones has an address, and is written once.
+-- Three stores wrote three records each at most. The record names the old patches and one more of a table at most, which are sound and read as the array; few segments were given to data and to patches.
 pub record IsCheckpointed (shelf : Geometry) (lost : Device → Bool) (from to : Point) : Type 0 where
   pub same : to ≡ record from { logged = 0; boot = to.boot; patches = to.patches; next = to.next }
   pub rises : from.boot.generation < to.boot.generation
@@ -163,14 +165,16 @@ pub record IsCheckpointed (shelf : Geometry) (lost : Device → Bool) (from to :
   pub few_new : new_segments ≤ NEW_PATCHES
   -- the ids of those that were elided
   pub elided : List ℕ
-  pub few_elided : length elided ≤ ELIDED_SEGMENTS
-  pub gone : (id : ℕ) → Contains elided id → segment (all_facts to.patches) id ≡ None
+  pub elides : ElidesUnnamed (all_facts from.patches) (all_facts to.patches) from.next.segment elided
   pub next : to.next ≡ record from.next {
     segment = from.next.segment + data_segments;
     sequence = from.next.sequence + length elided + data_segments;
     patch_segment = from.next.patch_segment + new_segments;
   }
+  pub placed : HoldAddressed (all_facts to.patches) from.next.segment data_segments
   pub patch_segments_are : patch_segments to.boot.patches ≡ patch_segments from.boot.patches + new_segments
+  pub one_more : HaveOneMore from.boot.patches to.boot.patches
+  pub go_on : FactsGoOn (all_facts from.patches) (all_facts to.patches)
   pub named : AllZip IsNamed to.boot.patches to.patches
   pub sound : AreSound shelf to.boot to.patches
   pub contents : Contents
@@ -245,10 +249,6 @@ WithPair t i from q to some = Where (is_spent from) (IsRefused refusals.Spent fr
 abbrev pub IsMerging : Geometry → (Device → Bool) → Point → Table → ℕ → Answer → Point → Type 0
 IsMerging shelf lost from t i q to = WithPair t i from q to (IsMergeDone shelf lost t i from q to ⊎ IsRefused refusals.Memory from q to ⊎ IsFailed shelf lost from q to)
 
--- how many of the flags are set
-abbrev pub set_flags : List Bool → ℕ
-set_flags flags = count_by (λ flag. flag) flags
-
 -- the data segments that the record's patches show
 abbrev pub data_segments_at : Point → List SegmentFact
 data_segments_at point = segments (all_facts point.patches) point.next.segment
@@ -260,8 +260,8 @@ numbers_at point groups =
     CONTROLLER
     ∷ length point.array
     ∷ groups
-    ∷ set_flags point.boot.members.drives
-    ∷ set_flags point.boot.members.nvrams
+    ∷ set_count point.boot.members.drives
+    ∷ set_count point.boot.members.nvrams
     ∷ (LOG_SLOTS - point.logged)
     ∷ length (data_segments_at point)
     ∷ patch_segments point.boot.patches
@@ -316,13 +316,23 @@ Answers told shelf failed lost from Cut q to = IsRefused refusals.Cut from q to
 abbrev pub Turns : Item → (Device → Bool) → Conditions → Conditions → Type 0
 Turns item lost before after = (d : Device) → after d ≡ losing lost before d
 
--- one item is answered
+-- no count of failed writes stands at its end, where it tells of no more of them
+abbrev pub CountsOn : Stop → Type 0
+CountsOn stop = (d : Device) → stop.write_faults d < 2 ^ 64 - 1
+
+-- No device that the record in force names is missing, and no more are missing than is borne.
+pub record IsBorneAt (shelf : Geometry) (point : Point) : Type 0 where
+  pub named : (d : Device) → names point.boot d ≡ true → point.conditions d ≡ Sound
+  pub borne : IsBearable shelf point.conditions
+
+-- One item is answered. Either the array is halted then, or what is missing is borne, and the record in force names none of it.
 pub record Serves (told : Bool) (shelf : Geometry) (left : Stop → Type 0) (from : Point) (item : Item) (q : Answer) (to : Point) : Type 0 where
   pub answers : Answers told shelf (has_failed from.stop to.stop) (has_lost_writes from.stop to.stop) from item q to
   pub turns : Turns item (has_lost_writes from.stop to.stop) from.conditions to.conditions
   pub reached : IsReached left to
   pub output : to.stop.output ≡ from.stop.output ++ text q
   pub later : IsLater from.stop to.stop
+  pub kept : to.halted ≡ false → CountsOn to.stop → IsBorneAt shelf to
 
 -- the items are answered, one after the other
 abbrev pub Fares : Bool → Geometry → (Stop → Type 0) → Point → List Item → List Answer → Point → Type 0

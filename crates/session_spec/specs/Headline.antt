@@ -1,11 +1,11 @@
 -- What a session does to the array that the devices stand for, whatever fails, and wherever it is stopped.
 use Rattle.std.specs.Prelude.{◌≡◌, ◌⊎◌, ◌<◌, ◌+◌, ◌-◌, ◌^◌, ℕ, Bool, true, false, List, [], ◌++◌, length, drop, Contains, Option, Some, None, IfSome, ⊤, if◌then◌else◌}
 use Rattle.std.specs.List.{AllByRecursion}
-use Rattle.memory_spec.specs.Prelude.{Device, Status, Geometry, Image, View, Conditions, Sound, LeftOut, IsBearable, Array, Item, requests, is_in_force, Command, after_all, Answer, texts, BootRecord, Effective, names, AnyFact, HoldsBase, members_view, AreSound, PatchesStand, all_facts, Contents, FactsRead, next_after_all, acked, AcceptsNext, not_holding}
+use Rattle.memory_spec.specs.Prelude.{Device, Status, Geometry, Image, View, Conditions, Sound, LeftOut, IsBearable, Array, Item, requests, Command, after_all, Answer, texts, BootRecord, Effective, names, AnyFact, HoldsBase, members_view, AreSound, PatchesStand, all_facts, Contents, FactsRead, next_after_all, acked, AcceptsNext, not_holding}
 use Rattle.pur_base.specs.declared.reply.Status.TheVariants as status
 use Rattle.world.specs.Prelude.{Shelved, Stop, IsQuiet, IsQuietBy, Streamed, geometry_of, has_failed, losing, IsLater}
 use Rattle.log_codec.specs.Prelude.{Shows, LogStands}
-use Rattle.session_spec.specs.Entering.{Enters, IsLeft, IsStanding, Found, IsTakenOver, OnlyFailedAreSilent, StandsStill, read_now, failed_by, failed_since}
+use Rattle.session_spec.specs.Entering.{is_replayed, Enters, IsLeft, IsStanding, Found, IsTakenOver, OnlyFailedAreSilent, StandsStill, read_now, failed_by, failed_since}
 use Rattle.session_spec.specs.Faring.{Point, IsReached, Fares, IsBorne, MayAdd, now_missing}
 use Rattle.session_spec.specs.Ends.{Ends, IsOutput, IsPartOfNext, RisesIf, is_source, is_sink}
 
@@ -18,7 +18,7 @@ HasNoTables shelf members boot = (patches : List (List AnyFact)) → PatchesStan
 -- why a record that is in force isn't read: its generation leaves no room, its tables can't be read or aren't sound, or its log holds a command of a form that isn't in force
 abbrev pub IsUnread : {shelf : Geometry} → (view : View) → Effective shelf view → Type 0
 IsUnread {shelf} view e = (¬ (e.boot.generation < 2 ^ 48 - 8)) ⊎ HasNoTables shelf (members_view view e) e.boot
-    ⊎ ((device i : ℕ) × (c : Command) × Shows (members_view view e) device e.boot.flushed i c × (is_in_force c.request ≡ false))
+    ⊎ ((device i : ℕ) × (c : Command) × Shows (members_view view e) device e.boot.flushed i c × (is_replayed c ≡ false))
 
 -- what the devices showed gives no lawful record, or one that isn't read
 pub record HasNoArray (old new : Shelved) : Type 0 where
@@ -72,7 +72,7 @@ pub record HoldsLog (told : Bool) (shelf : Geometry) (members : View) (boot : Bo
   pub known : told ≡ true → HoldsBase shelf members boot base
   pub log : List Command
   pub log_stands : LogStands members boot.flushed base log
-  pub in_force : AllByRecursion (λ c. is_in_force c.request ≡ true) log
+  pub in_force : AllByRecursion (λ c. is_replayed c ≡ true) log
   pub result : first.array ≡ after_all base log
   pub count : first.logged ≡ length log
   pub next : first.next ≡ next_after_all boot.next log

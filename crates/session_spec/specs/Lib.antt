@@ -1,5 +1,6 @@
 pub mod First
 pub mod Entering
+pub mod Checkpointing
 pub mod Faring
 pub mod Reaching
 pub mod Ends

@@ -119,7 +119,7 @@ pub use Rattle.world.specs.lemmas.Stopped.{as_read, none_dirty}
 pub use Rattle.world.specs.lemmas.Writes.{counted_then, counts_grow, may_leave_but, nothing_written, read_writes, writes_more, writes_then}
 pub use Rattle.session_spec.specs.Ends.{Ends, IsAnswered, IsOutput, IsPartOfNext, RisesIf, ends_in_write, is_cut, is_sink, is_source}
 pub use Rattle.session_spec.specs.Entering.{AreRead, ComesBack, ComesOut, Enters, Found, HasRoom, IsLeft, IsStanding, IsTakenOver, IsUnstored, LeftOutAreNamedByNone, OnlyFailedAreSilent, StandsStill, failed_by, failed_since, read_now}
-pub use Rattle.session_spec.specs.Faring.{Answers, AnswersAccepted, AnswersRequest, Fares, HasGroups, IsAppended, IsAppendedBehind, IsAsBefore, IsBorne, IsCheckpointed, IsDone, IsFailed, IsFlushed, IsFlushing, IsGone, IsLost, IsMergeDone, IsMerging, IsReached, IsRefused, LosesThree, MayAdd, MayRise, Point, Serves, Where, WithPair, WithRoom, data_segments_at, has_segments, is_full, is_limited, is_spent, now_missing, numbers_at, set_flags}
+pub use Rattle.session_spec.specs.Faring.{Answers, AnswersAccepted, AnswersRequest, Fares, HasGroups, IsAppended, IsAppendedBehind, IsAsBefore, IsBorne, IsCheckpointed, IsDone, IsFailed, IsFlushed, IsFlushing, IsGone, IsLost, IsMergeDone, IsMerging, IsReached, IsRefused, LosesThree, MayAdd, MayRise, Point, Serves, Where, WithPair, WithRoom, data_segments_at, has_segments, is_full, is_limited, is_spent, now_missing, numbers_at}
 pub use Rattle.session_spec.specs.First.{all_drives, first_record}
 pub use Rattle.session_spec.specs.Headline.{HasNoArray, HasTooFew, IsAfter, IsInOpening, IsLeftAfter, IsNext, IsOpenedBearably, IsUnopenedBy, IsUnread, Opening, Outlasts, Replied, Served, Serving, StandsAmong, StandsOn, Unopened, in_hand}
 pub use Rattle.session_spec.specs.Making.{AreClean, AreSame, GivesBody, IsBlank, IsInMaking, IsMade, IsNoneOrEmpty, Makes, MakesBy, NoneFailed, NoneLeftOut, OneFailed, ShowsBody, none_missing, view_now}

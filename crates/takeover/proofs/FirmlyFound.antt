@@ -15,7 +15,7 @@ use Rattle.register.proofs.Follows.{shows_itself}
 use Rattle.register.proofs.Rounds.{same_shelf}
 use Rattle.takeover.specs.Found.{IsFoundOn}
 use Rattle.takeover.specs.Outlasting.{EntersFirmly, IsFoundFirmly}
-use Rattle.takeover.proofs.Enough.{unflagged}
+use Rattle.array_core.specs.Prelude.{unflagged}
 use Rattle.takeover.proofs.Loading.{as_they_read, at_time, may_at_time, may_read, same_leaves}
 use Rattle.takeover.proofs.Majority.{the_held}
 use Rattle.takeover.proofs.SettlingStops as settling

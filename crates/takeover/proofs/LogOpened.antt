@@ -20,13 +20,13 @@ use Rattle.takeover.specs.declared.log.LogFault.TheVariants as log_fault
 use Rattle.takeover.specs.declared.log.OpenedLog.{OpenedLog}
 use Rattle.takeover.specs.Found.{AreCounted, IsFoundOn}
 use Rattle.takeover.specs.LogOpen.{AreLeft, IsLogOpen, IsLogOpenBy, IsLogFault, ShowsUnserved}
-use Rattle.array_core.specs.Prelude.{StandsOnceBack, bearable_or_not, fewer_borne, sound_since}
+use Rattle.array_core.specs.Prelude.{StandsOnceBack, bearable_or_not, fewer_borne, sound_since, unrisen}
 use Rattle.takeover.specs.Outlasting.{AreSoundLogs}
 use Rattle.takeover.specs.Replay.{HasUnserved, IsReplayed, IsReplayFault, IsRun, log_fault_of}
 use Rattle.takeover.specs.Steps.{OpensLog}
 use Rattle.takeover.specs.Tables.{HasTables, HoldTables}
 use Rattle.takeover.proofs.Failing.{by_stop, since_later}
-use Rattle.takeover.proofs.LogSettling.{not_risen, stays, given_moves, answers, is_one, agree_here, standing_settling}
+use Rattle.takeover.proofs.LogSettling.{stays, given_moves, answers, is_one, agree_here, standing_settling}
 use Rattle.takeover.proofs.NothingStored.{given_over, standing_with_fewer}
 use Rattle.array_core.proofs.Logged.{nothing_else}
 use Rattle.nvram_log.proofs.SettledEach.{both_leave}
@@ -423,7 +423,7 @@ module _ (old mid new : Shelved) (x : Loaded) (missing : Conditions) (arrays : L
       failed_new counted = record {
         within = losing_within (λ d. has_risen (old.disk d).faults (new.disk d).faults) missing;
         drives = λ i. stays (missing (drive i)) (has_risen (old.disk (drive i)).faults (new.disk (drive i)).faults)
-            (λ s. not_risen (old.disk (drive i)).faults (new.disk (drive i)).faults (ap (λ (d : Disk). d.faults) (drives i ∙ r.same_drives i)) (counted (drive i) s));
+            (λ s. unrisen (old.disk (drive i)).faults (new.disk (drive i)).faults (ap (λ (d : Disk). d.faults) (drives i ∙ r.same_drives i)) (counted (drive i) s));
         sound = λ n named sound. tells_new.sound n named sound;
       }
 

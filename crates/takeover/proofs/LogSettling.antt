@@ -23,16 +23,6 @@ use Rattle.array_core.proofs.Logged.{nothing_else}
 
 -- ---- conditions
 
--- a count that stays, and isn't at its end, hasn't risen
-pub not_risen : (a b : ℕ) → b ≡ a → a < 2 ^ 64 - 1 → has_risen a b ≡ false
-not_risen a b same low = elim (cases_Bool (has_risen a b)) [
-  | inr not ↦ not
-  | inl rose ↦ elim (or_cases (nat_lt a b) (nat_le (2 ^ 64 - 1) a) rose) [
-    | inl lt ↦ absurd (omega (arith, ltb-true a b lt, same))
-    | inr full ↦ absurd (omega (arith, leb-true (2 ^ 64 - 1) a full, low))
-  ]
-]
-
 pub stays : (c : Condition) (b : Bool) → (c ≡ Sound → b ≡ false) → missing_if b c ≡ c
 stays Sound b h = ap (λ (x : Bool). if x then Missing else Sound) (h refl)
 stays Missing b h = refl

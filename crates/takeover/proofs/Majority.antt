@@ -7,7 +7,7 @@ use Rattle.std.proofs.lemmas.List.FromFn.{length-map-range_with_len}
 use Rattle.session_spec.specs.Prelude.{Geometry, Image, View, Conditions, Sound, IsBearable, is_missing, drive, SLOTS_MIN, set_count, BootSlot, A, B, IsDecided, IsEffective, Yields, body_in, generation_in, is_vote, other_slot, shown_by, votes, counted, held_votes, most_votes, not_missing, one_is_decided}
 use Rattle.boot_region.specs.Prelude.{IsMember, shown_body}
 use Rattle.boot_region.proofs.Stored.{count_none}
-use Rattle.takeover.proofs.Enough.{unflagged}
+use Rattle.array_core.specs.Prelude.{unflagged}
 
 -- those of either kind are no more than those of both
 either_count : (p q : ℕ → Bool) (a n : ℕ) → count_by (λ i. p i || q i) (range_with_len a n) ≤ count_by p (range_with_len a n) + count_by q (range_with_len a n)

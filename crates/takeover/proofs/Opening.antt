@@ -4,6 +4,7 @@ use Rattle.pur_base.specs.declared.reply.Status.TheVariants as status
 use Rattle.session_spec.specs.Prelude.{Command, after_all, Geometry, Conditions, IsBearable, View, drive, nvram, Device, AnyFact, BootRecord, NextNumbers, BootSlot, IsRecordOf, names, of_members, shown_by, spelling, LogStands, AreSound, MayBeGiven, PatchesStand, all_facts, Contents, FactsRead, ReadsAs, next_after_all, patches, geometry_of, has_failed, Shelved, Stop, Disk, MayStop, MayLeave, IsShelf, IsSame, Continues, IsCountedBy, LeavesOnly, WritesOnly, then_run, weaker, continues_trans, Enters, Found, OnlyFailedAreSilent, StandsStill, read_now, failed_by, failed_since, IsUnopenedBy}
 use Rattle.pur_base.specs.Plain as plain
 use Rattle.array_memory.specs.Prelude.{Kept}
+use Rattle.array_core.specs.Prelude.{HasEnough}
 use Rattle.boot_region.specs.declared.loading.Loaded.{Loaded}
 use Rattle.boot_region.specs.Prelude.{IsLawfulLoad, IsMember, DroppedFailed, LostWrites, slot_in, StandsBut}
 use Rattle.nvram_log.specs.Prelude.{OnMembers}
@@ -179,7 +180,7 @@ module _ (a b : Shelved) (x : Loaded) (on : Continues a b) (seen : IsSeenIn a b 
         pub opened : (was.record.generation < now.record.generation) → (now.record.members.drives ≡ now.drives) × (now.record.members.nvrams ≡ o.log.members)
             → ((missing : Conditions) (arrays : List plain.Array) → Enters a missing arrays → IsBearable (geometry_of a) (failed_since a s missing)
             → IsRecovered a s found (array_with o now) done.log (failed_since a s missing) arrays)
-            → ((d : Device) → names now.record d ≡ true → names x.record d ≡ true) → IsBearable (geometry_of a) (named_sound now.record)
+            → ((d : Device) → names now.record d ≡ true → names x.record d ≡ true) → HasEnough now
             → IsOpened a s (array_with o now)
         opened generation members recovered none_joins enough = record {
           found = found;

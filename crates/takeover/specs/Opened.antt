@@ -7,7 +7,7 @@ use Rattle.pur_base.specs.declared.reply.Status.TheVariants as status
 use Rattle.boot_region.specs.declared.regions.TheConstants.{REGION_BYTES}
 use Rattle.register.specs.Prelude.{named_sound, next_slot, Content, array_of}
 use Rattle.array_core.specs.declared.array.Array.{Array}
-use Rattle.array_core.specs.Prelude.{SegmentsHold, IsReady}
+use Rattle.array_core.specs.Prelude.{HasEnough, SegmentsHold, IsReady}
 use Rattle.takeover.specs.Outlasting.{EntersFirmly}
 use Rattle.takeover.specs.declared.faults.OpenFault.{OpenFault}
 use Rattle.takeover.specs.declared.faults.OpenFault.TheVariants as open_fault
@@ -64,9 +64,9 @@ pub record IsOpened (old new : Shelved) (a : Array) : Type 0 where
   pub next : a.memory.memory.next ≡ next_after_all found.effective.boot.next log
   pub boot_is : a.register.record ≡ record found.effective.boot { generation = a.register.record.generation; members = a.register.record.members }
   pub taken_over : IsTakenOver (geometry_of old) (read_now old).image found (has_failed (read_now old) (read_now new)) (named_sound a.register.record)
-  -- the devices that its record names are enough, and were named by the record that was found
+  -- the devices that its record names were named by the record that was found, and enough drives hold it
   pub none_joins : (d : Device) → names a.register.record d ≡ true → names found.effective.boot d ≡ true
-  pub enough : IsBearable (geometry_of old) (named_sound a.register.record)
+  pub enough : HasEnough a.register
   pub later : found.effective.boot.generation < a.register.record.generation
   pub few : a.register.record.generation < found.effective.boot.generation + 4
   pub each : (missing : Conditions) (arrays : List plain.Array) → Enters old missing arrays → LeavesOnly old new (StandsStill old (Some found) missing arrays)

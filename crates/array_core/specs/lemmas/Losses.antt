@@ -1,12 +1,22 @@
 -- Devices that go missing as they lose writes.
-use Rattle.std.proofs.Common.{◌≡◌, ◌⊎◌, inl, inr, ℕ, ◌≤◌, Bool, true, false, refl, sym, ◌∙◌, ap, arith}
-use Rattle.std.specs.Prelude.{◌||◌}
-use Rattle.std.proofs.lemmas.Bool.{cases_lt, or_right}
+use Rattle.std.proofs.Common.{◌≡◌, ◌⊎◌, inl, inr, ℕ, ◌-◌, ◌^◌, ◌<◌, ◌≤◌, Bool, true, false, refl, sym, ◌∙◌, ap, arith}
+use Rattle.std.specs.Prelude.{◌||◌, nat_le, nat_lt}
+use Rattle.std.proofs.lemmas.Bool.{cases_Bool, cases_lt, leb-true, ltb-true, or_cases, or_right}
 use Rattle.std.proofs.lemmas.Bool.Decides.{nat_tests}
 use Rattle.session_spec.specs.Prelude.{Geometry, Condition, Conditions, Sound, Missing, LeftOut, is_missing, MayBecome, IsWithin, IsBearable, missing_drives, missing_nvrams, slots_of, nvrams, drive, nvram, Shelved, Stop, Continues, IsCountedBy, has_risen, missing_if}
 use Rattle.boot_region.proofs.Phases.{not_risen_before}
 use Rattle.array_core.specs.Losing.{lost_since, lost_by}
 use Rattle.register.proofs.Again.{count_le, missing_still}
+
+-- a count that stays, and isn't at its end, hasn't risen
+pub unrisen : (a b : ℕ) → b ≡ a → a < 2 ^ 64 - 1 → has_risen a b ≡ false
+unrisen a b same low = elim (cases_Bool (has_risen a b)) [
+  | inr not ↦ not
+  | inl rose ↦ elim (or_cases (nat_lt a b) (nat_le (2 ^ 64 - 1) a) rose) [
+    | inl lt ↦ absurd (omega (arith, ltb-true a b lt, same))
+    | inr full ↦ absurd (omega (arith, leb-true (2 ^ 64 - 1) a full, low))
+  ]
+]
 
 -- a sound device later was sound, and lost no write
 pub sound_since : (b : Bool) (c : Condition) → missing_if b c ≡ Sound → (c ≡ Sound) × (b ≡ false)

@@ -1,6 +1,5 @@
 use Rattle.std.proofs.Common.{◌≡◌, ℕ, ◌+◌, List, length, refl, sym, ap, subst, ◌∙◌, arith}
-use Rattle.session_spec.specs.Prelude.{Facts, segments, Place, BootRecord, facts}
-use Rattle.free_space.specs.Map.{IsMapOf}
+use Rattle.session_spec.specs.Prelude.{Place, BootRecord, facts}
 use Rattle.array_memory.specs.declared.plan.Eliding.{Eliding}
 use Rattle.array_memory.specs.declared.plan.Plan.{Plan}
 use Rattle.array_memory.specs.Prelude.{eliding_by, units_of, IsPlanFor}
@@ -16,18 +15,14 @@ plan-requires-clause-groups c =
     let a = c.args.array.now in
     let s = c.requires.is_of.0 in
     let is = c.requires.is_of.1 in
-    let of : (fs : Facts) → segments fs a.register.record.next.segment ≡ c.segments.result.now → IsMapOf a.register.record fs c.in_ok-map.map =
-    subst (λ (b : BootRecord). (fs : Facts) → segments fs b.next.segment ≡ c.segments.result.now → IsMapOf b fs c.in_ok-map.map) c.record-record.ensures c.in_ok-map.ensures in
-    λ g groups. let many = many_groups s a is c.segments.result.now c.segments.ensures.said c.in_ok-map.map of c.requires.groups g groups in omega (arith, many)
+    λ g groups. let many = many_groups s a is c.segments.result.now c.segments.ensures.said c.record-record.result.now c.record-record.ensures c.in_ok-map.map c.in_ok-map.ensures c.requires.groups g groups in omega (arith, many)
 
 pub plan-requires-clause-of : goal.plan-requires-clause-of
 plan-requires-clause-of c =
     let a = c.args.array.now in
     let s = c.requires.is_of.0 in
     let is = c.requires.is_of.1 in
-    let of : (fs : Facts) → segments fs a.register.record.next.segment ≡ c.segments.result.now → IsMapOf a.register.record fs c.in_ok-map.map =
-    subst (λ (b : BootRecord). (fs : Facts) → segments fs b.next.segment ≡ c.segments.result.now → IsMapOf b fs c.in_ok-map.map) c.record-record.ensures c.in_ok-map.ensures in
-    (a.register.record, facts a.memory.memory.tables, is.of_shelf.lawful.lawful, map_of_facts s a is c.segments.result.now c.segments.ensures.said c.in_ok-map.map of)
+    (a.register.record, facts a.memory.memory.tables, is.of_shelf.lawful.lawful, map_of_facts s a is c.segments.result.now c.segments.ensures.said c.record-record.result.now c.record-record.ensures c.in_ok-map.map c.in_ok-map.ensures)
 
 pub take_units-requires : goal.take_units-requires
 take_units-requires c = record {
@@ -36,10 +31,8 @@ take_units-requires c = record {
       let s = c.requires.is_of.0 in
       let is = c.requires.is_of.1 in
       let p = c.in_ok-plan.plan in
-      let of : (fs : Facts) → segments fs a.register.record.next.segment ≡ c.segments.result.now → IsMapOf a.register.record fs c.in_ok-map.map =
-      subst (λ (b : BootRecord). (fs : Facts) → segments fs b.next.segment ≡ c.segments.result.now → IsMapOf b fs c.in_ok-map.map) c.record-record.ensures c.in_ok-map.ensures in
       let most = room_for_patches s a is c.requires.unspent a.log.room c.plan.new.memory c.plan.ensures.rest p c.in_ok-plan.ensures.plan c.in_ok-plan.ensures.few c.in_ok-plan.ensures.next c.counts-counts.result c.counts-counts.ensures
-      c.in_ok-map.map c.plan.new.map (many_groups s a is c.segments.result.now c.segments.ensures.said c.in_ok-map.map of c.requires.groups) c.in_ok-plan.ensures.left h groups in
+      c.in_ok-map.map c.plan.new.map (many_groups s a is c.segments.result.now c.segments.ensures.said c.record-record.result.now c.record-record.ensures c.in_ok-map.map c.in_ok-map.ensures c.requires.groups) c.in_ok-plan.ensures.left h groups in
       let same : c.segments_of.result ≡ segments_of c.counts-counts.result = c.segments_of.ensures in
       omega (arith, most, same);
 }
@@ -73,9 +66,7 @@ returns-clause-prepared c =
     let p = c.in_ok-plan.plan in
     let units = c.in_ok-units.units in
     let boot = a.register.record in
-    let of : (fs : Facts) → segments fs a.register.record.next.segment ≡ c.segments.result.now → IsMapOf a.register.record fs c.in_ok-map.map =
-    subst (λ (b : BootRecord). (fs : Facts) → segments fs b.next.segment ≡ c.segments.result.now → IsMapOf b fs c.in_ok-map.map) c.record-record.ensures c.in_ok-map.ensures in
-    let map = map_of_facts s a is c.segments.result.now c.segments.ensures.said c.in_ok-map.map of in
+    let map = map_of_facts s a is c.segments.result.now c.segments.ensures.said c.record-record.result.now c.record-record.ensures c.in_ok-map.map c.in_ok-map.ensures in
     let after = c.in_ok-units.ensures.more boot (facts a.memory.memory.tables) (units_of p) (c.in_ok-plan.ensures.units boot (facts a.memory.memory.tables) map) in
     let count : segments_of c.counts-counts.result ≡ length units.items = sym (c.in_ok-units.ensures.count ∙ c.segments_of.ensures) in
     let long : c.len.result ≡ length units.items = omega (arith, c.len.ensures, units.ok.0) in

@@ -5,7 +5,7 @@ use Rattle.register.specs.Prelude.{Content, IsOpen, StandsInLog, array_of, same_
 use Rattle.register.proofs.Made.{store_later}
 use Rattle.array_core.specs.Performing.{IsKeptAt}
 use Rattle.array_core.specs.Switching.{MayClear}
-use Rattle.array_core.proofs.Changes.{only_faults, when_err}
+use Rattle.array_core.proofs.Changes.{only_faults, unlost_of, when_err}
 use Rattle.array_core.proofs.Cleared.{IsClearing, all_moments, clear_moments, clearing, logged_left, still_open}
 use Rattle.array_core.proofs.Lost.{lost_log}
 use Rattle.array_core.proofs.LostOnWay.{drives_lost}
@@ -20,7 +20,7 @@ cleared : (g : given.Over) (c : After-clear g) → (g.S.Shelf.shelf c.args.shelf
 cleared g c h held commands may =
     let x = c.clear.ensures in
     clearing (g.S.Shelf.shelf c.args.shelf.now) (g.S.Shelf.shelf c.clear.new.shelf) c.args.register.now c.args.log.now c.clear.new.self.members commands held (g.met.S.Shelf.is_shelf c.args.shelf.now) (g.met.S.Shelf.is_shelf c.clear.new.shelf) h
-    x.ran.on.continues may.is_open.is_open may.empty (λ i. x.ran.on.others (drive i) (λ none. none)) x.fewer x.dropped (x.none_later h commands may.keeps may.is_open.held_log) (x.ran.on.writes h) c.requires.flushed may.keeps
+    x.ran.on.continues may.is_open.is_open may.empty (λ i. x.ran.on.others (drive i) (λ none. none)) x.members.fewer x.members.dropped (x.none_later h commands may.keeps may.is_open.held_log) (x.ran.on.writes h) c.requires.flushed may.keeps
 
 -- ---- no device of it is left
 
@@ -28,7 +28,7 @@ pub returns-in_err-clear-clause-ran : goal.returns-in_err-clear-clause-ran
 returns-in_err-clear-clause-ran g c = ran_more (λ d is. tt) (λ d i w. inr w) c.clear.ensures.ran
 
 pub returns-in_err-clear-clause-left : goal.returns-in_err-clear-clause-left
-returns-in_err-clear-clause-left g c = record { of_shelf = search rules; few = omega arith; fewer = λ i m. (m, λ e. cc e); fewer_logs = c.clear.ensures.fewer }
+returns-in_err-clear-clause-left g c = record { of_shelf = search rules; few = omega arith; fewer = λ i m. (m, λ e. cc e); fewer_logs = c.clear.ensures.members.fewer }
 
 pub returns-in_err-clear-clause-faults : goal.returns-in_err-clear-clause-faults
 returns-in_err-clear-clause-faults g c =
@@ -36,8 +36,8 @@ returns-in_err-clear-clause-faults g c =
     let m = g.S.Shelf.shelf c.clear.new.shelf in
     let r = c.args.register.now in
     let x = c.clear.ensures in
-    only_faults a m m r r c.args.log.now.members c.clear.new.self.members (search rules) (λ i. x.ran.on.others (drive i) (λ none. none)) (λ k. refl) x.dropped (λ i is. inl is) c.from_residual.result
-    (λ dropped. when_err c.from_residual.result (inl (lost_log a m c.args.log.now.members c.clear.new.self.members x.dropped c.in_err-clear.ensures.err.2)))
+    only_faults a m m r r c.args.log.now.members c.clear.new.self.members (search rules) (λ i. x.ran.on.others (drive i) (λ none. none)) (λ k. refl) x.members (λ i is. inl is) (λ i is. refl) c.from_residual.result
+    (λ dropped. when_err c.from_residual.result (inl (lost_log a m c.args.log.now.members c.clear.new.self.members x.members.dropped c.in_err-clear.ensures.err.2)))
 
 pub returns-in_err-clear-clause-stays : goal.returns-in_err-clear-clause-stays
 returns-in_err-clear-clause-stays g c h held commands may = record {
@@ -51,14 +51,14 @@ pub returns-then-eq-clause-ran : goal.returns-then-eq-clause-ran
 returns-then-eq-clause-ran g c = ran_more (λ d is. tt) (λ d i w. inr w) c.clear.ensures.ran
 
 pub returns-then-eq-clause-left : goal.returns-then-eq-clause-left
-returns-then-eq-clause-left g c = record { of_shelf = search rules; few = omega arith; fewer = λ i m. (m, λ e. cc e); fewer_logs = c.clear.ensures.fewer }
+returns-then-eq-clause-left g c = record { of_shelf = search rules; few = omega arith; fewer = λ i m. (m, λ e. cc e); fewer_logs = c.clear.ensures.members.fewer }
 
 pub returns-then-eq-clause-faults : goal.returns-then-eq-clause-faults
 returns-then-eq-clause-faults g c =
     let m = g.S.Shelf.shelf c.clear.new.shelf in
     let r = c.args.register.now in
     let x = c.clear.ensures in
-    only_faults (g.S.Shelf.shelf c.args.shelf.now) m m r r c.args.log.now.members c.clear.new.self.members (search rules) (λ i. x.ran.on.others (drive i) (λ none. none)) (λ k. refl) x.dropped (λ i is. inl is) (Ok tt) (λ dropped. tt)
+    only_faults (g.S.Shelf.shelf c.args.shelf.now) m m r r c.args.log.now.members c.clear.new.self.members (search rules) (λ i. x.ran.on.others (drive i) (λ none. none)) (λ k. refl) x.members (λ i is. inl is) (λ i is. refl) (Ok tt) (λ dropped. tt)
 
 pub returns-then-eq-clause-stays : goal.returns-then-eq-clause-stays
 returns-then-eq-clause-stays g c h held commands may =
@@ -97,7 +97,7 @@ returns-in_err-store-clause-ran g c =
     ran_then g.met.S.Shelf.shelf_rest_stays (ran_more (λ d is. tt) (λ d i w. inr w) c.clear.ensures.ran) (ran_more (λ d is. tt) (λ d i w. inl w) c.store.ensures.ran)
 
 pub returns-in_err-store-clause-left : goal.returns-in_err-store-clause-left
-returns-in_err-store-clause-left g c = record { of_shelf = c.store.ensures.left.is_of; few = c.store.ensures.made.few; fewer = λ i m. (c.store.ensures.left.fewer i m, λ e. cc e); fewer_logs = c.clear.ensures.fewer }
+returns-in_err-store-clause-left g c = record { of_shelf = c.store.ensures.left.is_of; few = c.store.ensures.made.few; fewer = λ i m. (c.store.ensures.left.fewer i m, λ e. cc e); fewer_logs = c.clear.ensures.members.fewer }
 
 pub returns-in_err-store-clause-faults : goal.returns-in_err-store-clause-faults
 returns-in_err-store-clause-faults g c =
@@ -108,7 +108,7 @@ returns-in_err-store-clause-faults g c =
     let x = c.clear.ensures in
     let y = c.store.ensures in
     let low : now.record.generation + 1 < 2 ^ 48 = omega (arith, y.made.few, c.requires.not_spent) in
-    only_faults a (g.S.Shelf.shelf c.clear.new.shelf) n r now c.args.log.now.members c.clear.new.self.members (search rules) (λ i. x.ran.on.others (drive i) (λ none. none)) (λ k. y.ran.on.others (nvram k) (λ none. none)) x.dropped y.left.dropped
+    only_faults a (g.S.Shelf.shelf c.clear.new.shelf) n r now c.args.log.now.members c.clear.new.self.members (search rules) (λ i. x.ran.on.others (drive i) (λ none. none)) (λ k. y.ran.on.others (nvram k) (λ none. none)) x.members y.left.dropped (unlost_of y.left)
     c.from_residual-in_err-store.result (λ dropped. when_err c.from_residual-in_err-store.result
     (inr (drives_lost a n r now (ap (λ (b : BootRecord). b.slots) (store_later y.made).rest) dropped low c.in_err-store.field-0.0 c.in_err-store.ensures.made.fault)))
 
@@ -122,14 +122,14 @@ returns-clause-ran g c =
     ran_then g.met.S.Shelf.shelf_rest_stays (ran_more (λ d is. tt) (λ d i w. inr w) c.clear.ensures.ran) (ran_more (λ d is. tt) (λ d i w. inl w) c.store.ensures.ran)
 
 pub returns-clause-left : goal.returns-clause-left
-returns-clause-left g c = record { of_shelf = c.store.ensures.left.is_of; few = c.store.ensures.made.few; fewer = λ i m. (c.store.ensures.left.fewer i m, λ e. cc e); fewer_logs = c.clear.ensures.fewer }
+returns-clause-left g c = record { of_shelf = c.store.ensures.left.is_of; few = c.store.ensures.made.few; fewer = λ i m. (c.store.ensures.left.fewer i m, λ e. cc e); fewer_logs = c.clear.ensures.members.fewer }
 
 pub returns-clause-faults : goal.returns-clause-faults
 returns-clause-faults g c =
     let x = c.clear.ensures in
     let y = c.store.ensures in
     only_faults (g.S.Shelf.shelf c.args.shelf.now) (g.S.Shelf.shelf c.clear.new.shelf) (g.S.Shelf.shelf c.store.new.shelf) c.args.register.now c.store.new.self c.args.log.now.members c.clear.new.self.members (search rules)
-    (λ i. x.ran.on.others (drive i) (λ none. none)) (λ k. y.ran.on.others (nvram k) (λ none. none)) x.dropped y.left.dropped (Ok tt) (λ dropped. tt)
+    (λ i. x.ran.on.others (drive i) (λ none. none)) (λ k. y.ran.on.others (nvram k) (λ none. none)) x.members y.left.dropped (unlost_of y.left) (Ok tt) (λ dropped. tt)
 
 pub returns-clause-stays : goal.returns-clause-stays
 returns-clause-stays g c h held commands may =

@@ -9,7 +9,7 @@ use Rattle.array_core.specs.declared.array.Array.{Array}
 use Rattle.array_core.specs.Committing.{MayLog}
 use Rattle.array_core.specs.Ready.{logged}
 use Rattle.array_core.specs.Performing.{IsKeptAt, StandsOnceBack, without_or_with}
-use Rattle.array_core.proofs.Changes.{only_faults, when_err}
+use Rattle.array_core.proofs.Changes.{only_faults, unlost_of, when_err}
 use Rattle.array_core.proofs.Lost.{lost_log}
 use Rattle.array_core.proofs.LostOnWay.{drives_lost}
 use Rattle.array_core.proofs.Dropped.{fewer_drives, none_joins, rises_little}
@@ -30,7 +30,7 @@ appended : (g : given.Over) (c : After-append g) → (g.S.Shelf.shelf c.args.she
 appended g c h held may =
     let x = c.append.ensures in
     appending (g.S.Shelf.shelf c.args.shelf.now) (g.S.Shelf.shelf c.append.new.shelf) c.args.array.now.register c.args.array.now.log c.append.new.self.members held (command g c) (g.met.S.Shelf.is_shelf c.args.shelf.now) (g.met.S.Shelf.is_shelf c.append.new.shelf) h
-    x.ran.on.continues may.is_open.is_open may.keeps c.requires.room c.requires.is_of.flushed may.accepted (λ i. x.ran.on.others (drive i) (λ none. none)) x.fewer x.dropped (x.any_moment h held.log may.keeps may.is_open.held_log) (x.ran.on.writes h) (x.spelled 0 _ refl) may.in_force
+    x.ran.on.continues may.is_open.is_open may.keeps c.requires.room c.requires.is_of.flushed may.accepted (λ i. x.ran.on.others (drive i) (λ none. none)) x.members.fewer x.members.dropped (x.any_moment h held.log may.keeps may.is_open.held_log) (x.ran.on.writes h) (x.spelled 0 _ refl) may.in_force
 
 -- ---- it is on no device
 
@@ -43,8 +43,8 @@ returns-in_err-append-clause-faults g c =
     let m = g.S.Shelf.shelf c.append.new.shelf in
     let r = c.args.array.now.register in
     let x = c.append.ensures in
-    only_faults a m m r r c.args.array.now.log.members c.append.new.self.members (search rules) (λ i. x.ran.on.others (drive i) (λ none. none)) (λ k. refl) x.dropped (λ i is. inl is) c.from_residual.result
-    (λ dropped. when_err c.from_residual.result (inl (lost_log a m c.args.array.now.log.members c.append.new.self.members x.dropped c.in_err-append.ensures.err.1)))
+    only_faults a m m r r c.args.array.now.log.members c.append.new.self.members (search rules) (λ i. x.ran.on.others (drive i) (λ none. none)) (λ k. refl) x.members (λ i is. inl is) (λ i is. refl) c.from_residual.result
+    (λ dropped. when_err c.from_residual.result (inl (lost_log a m c.args.array.now.log.members c.append.new.self.members x.members.dropped c.in_err-append.ensures.err.1)))
 
 pub returns-in_err-append-clause-stays : goal.returns-in_err-append-clause-stays
 returns-in_err-append-clause-stays g c h held may =
@@ -70,7 +70,7 @@ returns-then-eq-clause-appended g c =
       count = search rules;
       keeps = search rules;
       boot = search rules;
-      joins = record { holders = search rules; named = λ d e. inl e; names_holders = λ before. (before.0, before.1 ∙ sym same) };
+      joins = record { holders = search rules; named = λ d e. inl e; names_holders = λ before. (before.0, before.1 ∙ sym same); enough = λ before. before };
       segments = λ h contents hold. hold_kept (geometry_of a) a m was.register (unwritten a m was.register (λ i. c.append.ensures.ran.on.others (drive i) (λ none. none))) contents (facts was.memory.memory.tables) c.requires.is_of.segments.places hold;
     }
 
@@ -79,7 +79,7 @@ returns-then-eq-clause-faults g c =
     let m = g.S.Shelf.shelf c.append.new.shelf in
     let r = c.args.array.now.register in
     let x = c.append.ensures in
-    only_faults (g.S.Shelf.shelf c.args.shelf.now) m m r r c.args.array.now.log.members c.append.new.self.members (search rules) (λ i. x.ran.on.others (drive i) (λ none. none)) (λ k. refl) x.dropped (λ i is. inl is) (Ok tt) (λ dropped. tt)
+    only_faults (g.S.Shelf.shelf c.args.shelf.now) m m r r c.args.array.now.log.members c.append.new.self.members (search rules) (λ i. x.ran.on.others (drive i) (λ none. none)) (λ k. refl) x.members (λ i is. inl is) (λ i is. refl) (Ok tt) (λ dropped. tt)
 
 pub returns-then-eq-clause-stays : goal.returns-then-eq-clause-stays
 returns-then-eq-clause-stays g c h held may =
@@ -154,7 +154,7 @@ returns-in_err-store-clause-faults g c =
     let x = c.append.ensures in
     let y = c.store.ensures in
     let low : now.record.generation + 1 < 2 ^ 48 = omega (arith, y.made.few, c.requires.not_spent) in
-    only_faults a (g.S.Shelf.shelf c.append.new.shelf) n r now c.args.array.now.log.members c.append.new.self.members (search rules) (λ i. x.ran.on.others (drive i) (λ none. none)) (λ k. y.ran.on.others (nvram k) (λ none. none)) x.dropped y.left.dropped
+    only_faults a (g.S.Shelf.shelf c.append.new.shelf) n r now c.args.array.now.log.members c.append.new.self.members (search rules) (λ i. x.ran.on.others (drive i) (λ none. none)) (λ k. y.ran.on.others (nvram k) (λ none. none)) x.members y.left.dropped (unlost_of y.left)
     c.from_residual-in_err-store.result (λ dropped. when_err c.from_residual-in_err-store.result
     (inr (drives_lost a n r now (ap (λ (b : BootRecord). b.slots) (store_later y.made).rest) dropped low c.in_err-store.field-0.0 c.in_err-store.ensures.made.fault)))
 
@@ -190,8 +190,8 @@ returns-clause-appended g c =
       some = search rules;
       count = search rules;
       keeps = search rules;
-      boot = rises_little a m n was.log.members now.log.members was.register now.register two two_now other x.fewer x.dropped (λ k. c.store.ensures.ran.on.others (nvram k) (λ none. none)) of_shelf later y.made.generation.0 y.made.enough y.made.stores;
-      joins = none_joins (geometry_of a) was now c.members-members.result of_shelf later y.left.fewer x.fewer c.members-members.ensures y.made.members;
+      boot = rises_little a m n was.log.members now.log.members was.register now.register two two_now other x.members.fewer x.members.dropped (λ k. c.store.ensures.ran.on.others (nvram k) (λ none. none)) of_shelf later y.made.generation.0 y.made.enough y.made.stores;
+      joins = none_joins (geometry_of a) was now c.members-members.result of_shelf later y.left.fewer x.members.fewer c.members-members.ensures y.made.members y.made.enough;
       segments = λ h contents hold.
           let kept : AreKept a n now.register = behind_boot a m n was.register now.register (λ i. x.ran.on.others (drive i) (λ none. none)) (c.store.ensures.ran.on.writes (x.ran.on.continues.honest h)) in
           let flags = y.left.is_of.lawful.lawful.members in
@@ -205,7 +205,7 @@ returns-clause-faults g c =
     let x = c.append.ensures in
     let y = c.store.ensures in
     only_faults (g.S.Shelf.shelf c.args.shelf.now) (g.S.Shelf.shelf c.append.new.shelf) (g.S.Shelf.shelf c.store.new.shelf) c.args.array.now.register c.store.new.self c.args.array.now.log.members c.append.new.self.members (search rules)
-    (λ i. x.ran.on.others (drive i) (λ none. none)) (λ k. y.ran.on.others (nvram k) (λ none. none)) x.dropped y.left.dropped (Ok tt) (λ dropped. tt)
+    (λ i. x.ran.on.others (drive i) (λ none. none)) (λ k. y.ran.on.others (nvram k) (λ none. none)) x.members y.left.dropped (unlost_of y.left) (Ok tt) (λ dropped. tt)
 
 pub returns-clause-stays : goal.returns-clause-stays
 returns-clause-stays g c h held may =

@@ -1,11 +1,16 @@
-use Rattle.std.proofs.Common.{rules, ◌≡◌, ◌-◌, ◌^◌, ◌<◌, [], ◌∷◌, arith, sym, ap, subst}
+use Rattle.std.proofs.Common.{rules, inl, inr, ◌≡◌, ◌-◌, ◌^◌, ◌<◌, [], ◌∷◌, arith, refl, sym, ap, subst}
 use Rattle.session_spec.specs.Prelude.{BootRecord, started, ran_more, ran_none}
 use Rattle.register.specs.declared.state.Register.{Register}
-use Rattle.register.specs.Prelude.{drives_of, IsOpen, array_of, stands_at, gives_at}
+use Rattle.std.specs.Prelude.{slice_index_or, false}
+use Rattle.std.proofs.lemmas.Bool.{cases_Bool}
+use Rattle.std.proofs.lemmas.List.{length-take}
+use Rattle.boot_region.specs.Prelude.{member_below}
+use Rattle.register.specs.Prelude.{drives_of, IsOpen, array_of, cut_in, in_cut, stands_at, gives_at}
 use Rattle.array_core.proofs.Holders.{is_drive, slots_of_more}
 use Rattle.array_core.proofs.Kept.{free_writes_keep_open, free_writes_leave}
 use Rattle.array_core.specs.Performing.{IsKeptAt}
 use Rattle.array_core.proofs.FreeWrites.{all_synced, kept_then, left_then, may_leave}
+use Rattle.array_core.proofs.Changes.{unlost_of}
 use Rattle.array_core.proofs.Stages.{ok_if}
 use Rattle.array_core.proofs.Storing.{store_moments}
 use Rattle.array_core.proofs.leaving.leave_lost.Given as given
@@ -48,6 +53,23 @@ returns-clause-left g c =
     let e : c.lose.new.self.record.generation ≡ c.args.register.now.record.generation = ap (λ (b : BootRecord). b.generation) c.lose.ensures.record in
     let y = c.store.ensures in
     record { of_shelf = y.left.is_of; few = omega (arith, e, y.made.few); fewer = λ i m. (c.lose.ensures.left i).0 (y.left.fewer i m); fewer_logs = λ n m. m }
+
+pub returns-then-not-lose-clause-dropped : goal.returns-then-not-lose-clause-dropped
+returns-then-not-lose-clause-dropped g c = record { dropped = search rules; unlost = λ i m. refl }
+
+pub returns-clause-dropped : goal.returns-clause-dropped
+returns-clause-dropped g c =
+    let r = c.args.register.now in
+    let now = c.lose.new.self in
+    let slots : now.record.slots ≡ r.record.slots = ap (λ (b : BootRecord). b.slots) c.lose.ensures.record in
+    record {
+      dropped = λ i m. elim (cases_Bool (slice_index_or c.args.lost.now i false)) [
+        | inl is ↦ inl is
+        | inr none ↦ inr (c.store.ensures.left.dropped i (cut_in now.drives now.record.slots i (omega (arith, slots, member_below (drives_of r) i m, length-take r.record.slots r.drives))
+            ((c.lose.ensures.left i).1 (in_cut r.drives r.record.slots i m, λ is. cc (is, none)))))
+      ];
+      unlost = unlost_of c.store.ensures.left;
+    }
 
 low : (g : given.Over) (c : goal.After-store g) → c.store.new.self.record.generation < 2 ^ 48 - 8
 low g c = let e : c.lose.new.self.record.generation ≡ c.args.register.now.record.generation = ap (λ (b : BootRecord). b.generation) c.lose.ensures.record in omega (arith, e, c.store.ensures.made.few, c.requires.not_spent)

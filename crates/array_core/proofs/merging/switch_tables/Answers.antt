@@ -1,14 +1,16 @@
 use Rattle.std.proofs.Common.{rules, ◌≡◌, ◌∙◌, inl, inr, ◌+◌, ◌-◌, ◌^◌, ◌<◌, ◌∷◌, [], List, Bool, arith, sym, ap, subst}
-use Rattle.session_spec.specs.Prelude.{nvram, BootRecord, geometry_of, LeavesOnly, Continues, then_run, ran_more, ran_then}
+use Rattle.session_spec.specs.Prelude.{drive, nvram, Disk, BootRecord, geometry_of, LeavesOnly, Continues, then_run, ran_more, ran_then}
 use Rattle.boot_region.specs.Prelude.{DroppedFailed}
-use Rattle.register.specs.Prelude.{drives_of, Content, IsOpen, array_of}
+use Rattle.register.specs.Prelude.{drives_of, Content, IsOpen, array_of, in_cut}
+use Rattle.register.proofs.Rounds.{cut_drives}
 use Rattle.array_core.specs.Changing.{LeavesFewer}
+use Rattle.array_core.specs.Holding.{DropsFailedBy}
 use Rattle.array_core.specs.Performing.{IsKeptAt}
 use Rattle.array_core.specs.Switching.{AreLost, MaySwitch}
 use Rattle.array_core.proofs.Behind.{segments_left}
-use Rattle.array_core.proofs.Changes.{kept_tables, later_tables, tables_fewer, when_err}
+use Rattle.array_core.proofs.Changes.{kept_tables, later_tables, tables_fewer, unlost_of, when_err}
 use Rattle.array_core.proofs.Holders.{drives_failed, is_drive, named_left, none_joins_tables, slots_of_more}
-use Rattle.array_core.proofs.Stages.{left_dropped}
+use Rattle.array_core.proofs.Stages.{left_among, left_dropped, left_unlost}
 use Rattle.array_core.proofs.Whole.{HasLeft, both_dropped, none_left, none_stored, open_b, open_then, plan, tables_run}
 use Rattle.array_core.proofs.merging.switch_tables.Given as given
 use Rattle.array_core.proofs.merging.switch_tables.Goals as goal
@@ -35,7 +37,8 @@ returns-in_err-leave_lost-clause-faults g c start on are =
     let low : r1.record.generation + 1 < 2 ^ 48 = omega (arith, x.left.few, c.requires.not_spent) in
     let dropped = left_dropped s a b on x.ran.on.continues r0 r1 c.args.lost.now are x.dropped in
     record {
-      holders = drives_failed s b r0 r1 c.args.log.now.members dropped;
+      holders = drives_failed s b r0 r1 c.args.log.now.members dropped (left_unlost s a b r0 r1 c.args.lost.now are x.dropped (left_among (ap (λ (k : BootRecord). k.slots) x.record.later.rest) x.left))
+          (λ n. ap (λ (k : Disk). k.write_faults) (x.ran.on.others (nvram n) (λ v. v)) ∙ are.logs n);
       drives = dropped;
       lost = when_err c.from_residual.result (inr (none_left s a b on x.ran.on.continues r0 r1 c.args.lost.now are x.dropped x.record.later low c.in_err-leave_lost.field-0.0 c.in_err-leave_lost.ensures.fault));
     }
@@ -102,6 +105,19 @@ dropped g c start on are =
     both_dropped (g.S.Shelf.shelf start) (g.S.Shelf.shelf c.args.shelf.now) (g.S.Shelf.shelf c.leave_lost.new.shelf) (g.S.Shelf.shelf c.store_tables.new.shelf) on x.ran.on.continues c.store_tables.ensures.ran.on.continues
     c.args.register.now c.leave_lost.new.register c.store_tables.new.self c.args.lost.now are x.dropped c.store_tables.ensures.left.dropped
 
+-- drives that were lost before or meanwhile are left, and on no other device a write failed
+holders : (g : given.Over) (c : After-store_tables g) → (start : g.row.S.Denot) → Continues (g.S.Shelf.shelf start) (g.S.Shelf.shelf c.args.shelf.now) → AreLost (g.S.Shelf.shelf start) (g.S.Shelf.shelf c.args.shelf.now) c.args.register.now c.args.lost.now
+    → DropsFailedBy (g.S.Shelf.shelf start) (g.S.Shelf.shelf c.store_tables.new.shelf) c.args.register.now c.args.log.now.members c.store_tables.new.self c.args.log.now.members
+holders g c start on are =
+    let r1 = c.leave_lost.new.register in
+    let r2 = c.store_tables.new.self in
+    let x = c.leave_lost.ensures in
+    let y = c.store_tables.ensures in
+    drives_failed (g.S.Shelf.shelf start) (g.S.Shelf.shelf c.store_tables.new.shelf) c.args.register.now r2 c.args.log.now.members (dropped g c start on are)
+    (λ i m. unlost_of y.left i m ∙ left_unlost (g.S.Shelf.shelf start) (g.S.Shelf.shelf c.args.shelf.now) (g.S.Shelf.shelf c.leave_lost.new.shelf) c.args.register.now r1 c.args.lost.now are x.dropped
+    (left_among (ap (λ (k : BootRecord). k.slots) x.record.later.rest) x.left) i (cut_drives _ r1 x.left.of_shelf i (y.left.fewer i (in_cut r2.drives r2.record.slots i m))))
+    (λ n. ap (λ (k : Disk). k.write_faults) (y.ran.on.others (nvram n) (λ v. v) ∙ x.ran.on.others (nvram n) (λ v. v)) ∙ are.logs n)
+
 -- ---- it could not be
 
 pub returns-in_err-store_tables-clause-ran : goal.returns-in_err-store_tables-clause-ran
@@ -126,9 +142,10 @@ returns-in_err-store_tables-clause-faults g c start on are =
     let x = c.leave_lost.ensures in
     let y = c.store_tables.ensures in
     let low : r2.record.generation + 1 < 2 ^ 48 = omega (arith, x.left.few, y.made.few, c.requires.not_spent) in
-    let all = dropped g (goal.at.returns-in_err-store_tables-clause-faults g c).After-store_tables start on are in
+    let k = (goal.at.returns-in_err-store_tables-clause-faults g c).After-store_tables in
+    let all = dropped g k start on are in
     record {
-      holders = drives_failed s e r0 r2 c.args.log.now.members all;
+      holders = holders g k start on are;
       drives = all;
       lost = when_err c.from_residual-in_err-store_tables.result
           (inr (none_stored s (g.S.Shelf.shelf c.args.shelf.now) (g.S.Shelf.shelf c.leave_lost.new.shelf) e on x.ran.on.continues y.ran.on.continues r0 r1 r2 c.args.lost.now c.args.tables are x.dropped y.left.dropped x.record.later
@@ -167,7 +184,7 @@ returns-clause-record g c =
         drives = y.made.members.0;
         enough = y.made.enough;
         joins = none_joins_tables _ r0 r1 r2 members c.requires.is_of (λ k m. (x.left.fewer k m).0) y.left.fewer slots (named_left r0 r1 c.members.result members c.members.ensures c.in_ok-leave_lost.ensures.record.named)
-            (subst (λ (l : List Bool). r0.record.members.nvrams ≡ l → r1.record.members.nvrams ≡ l) c.members.ensures c.in_ok-leave_lost.ensures.record.nvrams) y.made.members;
+            (subst (λ (l : List Bool). r0.record.members.nvrams ≡ l → r1.record.members.nvrams ≡ l) c.members.ensures c.in_ok-leave_lost.ensures.record.nvrams) y.made.members y.made.enough;
         segments = segments_left (g.S.Shelf.shelf c.args.shelf.now) (g.S.Shelf.shelf c.store_tables.new.shelf) r0 r2 members members c.args.lost.now (ran_more (λ d is. is) (λ d i w. inl w) (returns-clause-ran g c)).on
             (returns-clause-left g c) slots y.made.members.0 y.made.enough;
       };
@@ -175,8 +192,8 @@ returns-clause-record g c =
 
 pub returns-clause-faults : goal.returns-clause-faults
 returns-clause-faults g c start on are =
-    let all = dropped g (goal.at.returns-clause-faults g c).After-store_tables start on are in
-    record { holders = drives_failed (g.S.Shelf.shelf start) (g.S.Shelf.shelf c.store_tables.new.shelf) c.args.register.now c.store_tables.new.self c.args.log.now.members all; drives = all; lost = tt }
+    let k = (goal.at.returns-clause-faults g c).After-store_tables in
+    record { holders = holders g k start on are; drives = dropped g k start on are; lost = tt }
 
 pub returns-clause-stays : goal.returns-clause-stays
 returns-clause-stays g c h start held next may =

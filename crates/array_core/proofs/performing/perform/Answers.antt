@@ -102,7 +102,7 @@ returns-clause-goes g c =
         segment_ids = ids.segment ∙ of.segment_ids ∙ sym (ap (λ (b : BootRecord). b.next.segment) x.later.rest);
         patch_ids = ids.patch_segment ∙ of.patch_ids ∙ sym (ap (λ (b : BootRecord). b.next.patch_segment) x.later.rest);
       };
-      hands_on = hands old new was (record now { memory = c.apply.new.memory }) c.commit.ensures.faults.holders (record { holders = w.joins.holders; named = w.joins.named; names_holders = w.joins.names_holders });
+      hands_on = hands old new was (record now { memory = c.apply.new.memory }) c.commit.ensures.faults.holders (record { holders = w.joins.holders; named = w.joins.named; names_holders = w.joins.names_holders; enough = w.joins.enough });
       accepted = λ contents z reads. (fine contents z reads, tt);
       reads = λ contents z reads. record {
         more = contents;

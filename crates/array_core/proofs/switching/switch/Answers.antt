@@ -5,7 +5,7 @@ use Rattle.register.proofs.Tabling.{same_array}
 use Rattle.array_core.specs.Performing.{IsKeptAt}
 use Rattle.array_core.proofs.Behind.{segments_left}
 use Rattle.array_core.proofs.Changes.{changed_then, faults_on, faults_then, fewer_then, kept_then}
-use Rattle.array_core.proofs.Holders.{all_of_more}
+use Rattle.array_core.proofs.Holders.{all_of_more, fewer_hold}
 use Rattle.array_core.proofs.Keeping.{run_since}
 use Rattle.array_core.proofs.Stages.{came_after}
 use Rattle.array_core.proofs.Whole.{log_is_done}
@@ -56,8 +56,11 @@ returns-clause-record g c =
 pub returns-clause-faults : goal.returns-clause-faults
 returns-clause-faults g c start on are =
     let x = c.switch_tables.ensures in
-    faults_then (g.S.Shelf.shelf start) (g.S.Shelf.shelf c.switch_tables.new.shelf) (g.S.Shelf.shelf c.clear_log.new.shelf) (continues_trans on x.ran.on.continues) c.clear_log.ensures.ran.on.continues
-    c.args.register.now c.switch_tables.new.register c.clear_log.new.register c.args.log.now.members c.clear_log.new.log.members (slots_are g c) c.switch_tables.result c.clear_log.result (x.faults start on are) c.clear_log.ensures.faults
+    let z = c.clear_log.ensures in
+    faults_then (g.S.Shelf.shelf start) (g.S.Shelf.shelf c.switch_tables.new.shelf) (g.S.Shelf.shelf c.clear_log.new.shelf) (continues_trans on x.ran.on.continues) z.ran.on.continues
+    c.args.register.now c.switch_tables.new.register c.clear_log.new.register c.args.log.now.members c.clear_log.new.log.members (slots_are g c)
+    (fewer_hold c.switch_tables.new.register c.clear_log.new.register c.args.log.now.members c.clear_log.new.log.members (ap (λ (k : BootRecord). k.slots) z.record.later.rest) (λ i m. (z.left.fewer i m).0) z.left.fewer_logs)
+    c.switch_tables.result c.clear_log.result (x.faults start on are) z.faults
 
 pub returns-clause-stays : goal.returns-clause-stays
 returns-clause-stays g c h start held next may =

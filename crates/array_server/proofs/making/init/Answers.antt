@@ -3,7 +3,6 @@ use Rattle.session_spec.specs.Prelude.{Device, continues_trans, RisesIf, is_sink
 use Rattle.pur_base.specs.declared.reply.Status.TheVariants as status
 use Rattle.request_codec.proofs.CallLemmas.{both}
 use Rattle.shelf_init.specs.declared.making.InitFault.{InitFault}
-use Rattle.shelf_init.specs.declared.making.InitFault.TheVariants as fault
 use Rattle.shelf_init.specs.Answers.{IsCounted, IsJudged, IsUntouched}
 use Rattle.array_server.specs.Made.{InitsOn, IsInitEnd, IsMadeOutput}
 use Rattle.array_server.proofs.MadeLemmas.{made-is-init, made-counts, made-judged, made-not-memory, made-on, none-failed-on, makes, stays-on, told-at, while-making, before-making, unmade, same-disk}

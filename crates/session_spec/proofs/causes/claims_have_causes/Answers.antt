@@ -1,4 +1,4 @@
-use Rattle.session_spec.proofs.Fared.{claims_have_causes, none_comes_back, was_borne, halts_have_causes}
+use Rattle.session_spec.proofs.Fared.{awake_is_borne, claims_have_causes, none_comes_back, was_borne, halts_have_causes}
 use Rattle.session_spec.proofs.causes.claims_have_causes.Goals as goal
 
 pub returns-clause-claims : goal.returns-clause-claims
@@ -12,3 +12,6 @@ returns-clause-borne g c since = was_borne ((g.S.Shelf.shelf c.args._shelf.now).
 
 pub returns-clause-halts : goal.returns-clause-halts
 returns-clause-halts g c since = halts_have_causes ((g.S.Shelf.shelf c.args._shelf.now).left_since since)
+
+pub returns-clause-awake : goal.returns-clause-awake
+returns-clause-awake g c since = awake_is_borne ((g.S.Shelf.shelf c.args._shelf.now).left_since since)

@@ -64,7 +64,7 @@ returns-in_err-settle-clause-opens g c h x missing arrays ps base same_nvrams sa
     let r = was g (goal.at.returns-in_err-settle-clause-opens g c).After-settle h x missing arrays ps base same_nvrams same_flushed found has in
     let p = err_from_is_err_and c.from_residual-in_err-settle.result c.from_residual-in_err-settle.ensures.1 in
     let named : OpensLog a n x missing arrays ps base (Err p.0) = not_settled a m n x missing arrays ps base log made.count r c.settle.ensures.ran.on.continues (c.settle.ensures.ran.on.writes h_m) (c.settle.ensures.any_moment h_m) c.in_ok-log.ensures.members.1
-    (g.met.S.Shelf.is_shelf c.settle.new.shelf) (λ i. c.settle.ensures.ran.on.others (drive i) (λ none. none)) now.members c.settle.ensures.fewer c.settle.ensures.counted c.in_err-settle.ensures.err.1 p.0 in
+    (g.met.S.Shelf.is_shelf c.settle.new.shelf) (λ i. c.settle.ensures.ran.on.others (drive i) (λ none. none)) now.members c.settle.ensures.members.fewer c.settle.ensures.members.counted c.in_err-settle.ensures.err.1 p.0 in
     subst (λ r. OpensLog a n x missing arrays ps base r) (sym p.1) named
 
 pub returns-clause-opens : goal.returns-clause-opens
@@ -78,7 +78,7 @@ returns-clause-opens g c h x missing arrays ps base same_nvrams same_flushed fou
     let now = c.settle.new.self in
     let r = was g (goal.at.returns-clause-opens g c).After-settle h x missing arrays ps base same_nvrams same_flushed found has in
     settled a m n x missing arrays ps base log made.count r c.settle.ensures.ran.on.continues (c.settle.ensures.ran.on.writes h_m) (c.settle.ensures.any_moment h_m) c.in_ok-log.ensures.members.1
-    (g.met.S.Shelf.is_shelf c.settle.new.shelf) (λ i. c.settle.ensures.ran.on.others (drive i) (λ none. none)) now.members c.settle.ensures.fewer c.settle.ensures.counted (record { log = now; memory = made.memory }) (λ i. now.members) c.in_ok-settle.ensures.ok.1 c.settle.ensures.flushed
+    (g.met.S.Shelf.is_shelf c.settle.new.shelf) (λ i. c.settle.ensures.ran.on.others (drive i) (λ none. none)) now.members c.settle.ensures.members.fewer c.settle.ensures.members.counted (record { log = now; memory = made.memory }) (λ i. now.members) c.in_ok-settle.ensures.ok.1 c.settle.ensures.flushed
     (c.in_ok-settle.ensures.keeps r.read.commands r.read.keeps) (λ agree. c.in_ok-settle.ensures.holds h_m r.read.commands r.read.keeps r.seen agree)
 
 pub returns-in_err-log-clause-ran : goal.returns-in_err-log-clause-ran
@@ -119,7 +119,7 @@ returns-in_err-settle-clause-err g c =
     let m = g.S.Shelf.shelf c.read_synced.new.shelf in
     let n = g.S.Shelf.shelf c.settle.new.shelf in
     if_err c.from_residual-in_err-settle.result _ _ c.from_residual-in_err-settle.ensures.1 (λ f is. subst (λ (k : LogFault). IsLogFault k a n c.args.nvrams c.args.flushed) (sym is)
-    (both_lost a m n c.args.nvrams c.in_ok-log.log.members c.settle.new.self.members c.read_synced.ensures.ran.on.continues c.settle.ensures.ran.on.continues c.in_ok-log.ensures.counted c.settle.ensures.counted c.in_err-settle.ensures.err.1))
+    (both_lost a m n c.args.nvrams c.in_ok-log.log.members c.settle.new.self.members c.read_synced.ensures.ran.on.continues c.settle.ensures.ran.on.continues c.in_ok-log.ensures.counted c.settle.ensures.members.counted c.in_err-settle.ensures.err.1))
 
 pub returns-in_err-log-clause-replayed : goal.returns-in_err-log-clause-replayed
 returns-in_err-log-clause-replayed g c h =
@@ -158,7 +158,7 @@ returns-clause-replayed g c h =
     let made = c.in_ok-made.made in
     let read = c.in_ok-log.ensures.log in
     showed.replayed_from a m n c.args.nvrams c.args.flushed h c.read_synced.ensures.ran.on.continues (c.read_synced.ensures.ran.on.writes h) log c.in_ok-log.ensures.flushed c.in_ok-log.ensures.members.0 c.in_ok-log.ensures.counted read
-    made.count c.args.memory made.memory c.in_ok-made.ensures.within c.in_ok-made.ensures.ok (record { log = c.settle.new.self; memory = made.memory }) c.settle.ensures.ran.on.continues c.settle.ensures.fewer c.settle.ensures.counted
+    made.count c.args.memory made.memory c.in_ok-made.ensures.within c.in_ok-made.ensures.ok (record { log = c.settle.new.self; memory = made.memory }) c.settle.ensures.ran.on.continues c.settle.ensures.members.fewer c.settle.ensures.members.counted
     (c.in_ok-settle.ensures.keeps read.commands read.keeps)
 
 pub returns-in_err-log-clause-clean : goal.returns-in_err-log-clause-clean
@@ -172,14 +172,14 @@ returns-in_err-settle-clause-clean g c h missing clean =
     let on = c.read_synced.ensures.ran.on.continues in
     let two : length c.args.nvrams ≡ 2 = search rules in
     showed.clean_settled (g.S.Shelf.shelf c.args.shelf.now) (g.S.Shelf.shelf c.read_synced.new.shelf) (g.S.Shelf.shelf c.settle.new.shelf) missing c.args.nvrams c.in_ok-log.log.members c.settle.new.self.members on clean
-    (c.read_synced.ensures.still_clean h) two c.in_ok-log.ensures.members.0 c.settle.ensures.counted (λ i. c.settle.ensures.ran.on.others (drive i) (λ none. none)) (λ k out. c.settle.ensures.ran.on.others (nvram k) out) (c.settle.ensures.clean (on.honest h))
+    (c.read_synced.ensures.still_clean h) two c.in_ok-log.ensures.members.0 c.settle.ensures.members.counted (λ i. c.settle.ensures.ran.on.others (drive i) (λ none. none)) (λ k out. c.settle.ensures.ran.on.others (nvram k) out) (c.settle.ensures.clean (on.honest h))
 
 pub returns-clause-clean : goal.returns-clause-clean
 returns-clause-clean g c h missing clean =
     let on = c.read_synced.ensures.ran.on.continues in
     let two : length c.args.nvrams ≡ 2 = search rules in
     showed.clean_settled (g.S.Shelf.shelf c.args.shelf.now) (g.S.Shelf.shelf c.read_synced.new.shelf) (g.S.Shelf.shelf c.settle.new.shelf) missing c.args.nvrams c.in_ok-log.log.members c.settle.new.self.members on clean
-    (c.read_synced.ensures.still_clean h) two c.in_ok-log.ensures.members.0 c.settle.ensures.counted (λ i. c.settle.ensures.ran.on.others (drive i) (λ none. none)) (λ k out. c.settle.ensures.ran.on.others (nvram k) out) (c.settle.ensures.clean (on.honest h))
+    (c.read_synced.ensures.still_clean h) two c.in_ok-log.ensures.members.0 c.settle.ensures.members.counted (λ i. c.settle.ensures.ran.on.others (drive i) (λ none. none)) (λ k out. c.settle.ensures.ran.on.others (nvram k) out) (c.settle.ensures.clean (on.honest h))
 
 -- memory keeps what was read
 pub replay_log-requires : goal.replay_log-requires
@@ -192,7 +192,7 @@ returns-clause-left g c =
     let log = read.log in
     record {
       follows = c.settle.ensures.flushed ∙ read.flushed;
-      fewer = λ n m. read.members.0 n (c.settle.ensures.fewer n m);
+      fewer = λ n m. read.members.0 n (c.settle.ensures.members.fewer n m);
       some = c.in_ok-settle.ensures.ok.1;
       done = showed.has_replayed c.args.memory made.memory c.in_ok-log.log made.count log.commands (record { log = c.settle.new.self; memory = made.memory }) (c.in_ok-made.ensures.ok log.commands log.keeps) (λ i. made.memory)
           c.in_ok-made.ensures.layered (c.in_ok-settle.ensures.keeps log.commands log.keeps) c.in_ok-settle.ensures.ok.0;

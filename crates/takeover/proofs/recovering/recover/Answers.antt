@@ -25,7 +25,7 @@ use Rattle.takeover.proofs.ArrayOf.{array_of_shelf, array_with, patches_are}
 use Rattle.takeover.proofs.BaseHeld as base_held
 use Rattle.takeover.proofs.Chains.{kept_one}
 use Rattle.takeover.proofs.Counts.{goes_on}
-use Rattle.takeover.proofs.Enough.{named_enough, names_fewer}
+use Rattle.takeover.proofs.Enough.{names_fewer}
 use Rattle.takeover.proofs.Failing.{since_later}
 use Rattle.takeover.proofs.Moments.{log_opened, recovered}
 use Rattle.takeover.proofs.Opening as opening
@@ -290,8 +290,7 @@ returns-clause-opened g c h =
     (names_fewer x.record now.record
     (λ i m. lawful.named i (subst (λ (l : List Bool). IsMember l i) made.1 (c.store.ensures.left.fewer i (subst (λ (l : List Bool). IsMember l i) members.0 m))))
     (λ k m. left.fewer k (subst (λ (l : List Bool). nv.IsMember l k) (members.1 ∙ c.members.ensures) m)))
-    (subst (λ (k : Geometry). IsBearable k (named_sound now.record)) (sym (same_shelf on ∙ same_shelf after ∙ same_shelf last))
-    (named_enough (geometry_of s) now.record c.store.ensures.left.is_of.lawful (subst (λ (l : List Bool). now.record.slots ≤ set_count l + 2) (sym members.0) enough)))
+    enough
 
 pub returns-clause-named : goal.returns-clause-named
 returns-clause-named g c =

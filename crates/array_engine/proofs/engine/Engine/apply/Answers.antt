@@ -34,4 +34,4 @@ returns-clause-answers g c = λ told from honest at.
     let s = at.stands c.requires.awake in
     subst (λ (q : Said). IsAnsweredAt told old new e f (Asked r c.args.sectors.now) q from) (sym c.said_to.ensures)
     (command_answered told old new e f r c.args.sectors.now stays from honest at c.requires.awake c.requires.logged c.requires.in_force (c.requires.accepted s.contents from.array s.reads) (λ x. (x.0, ap g.S.Shelf.shelf x.1))
-    c.append-done.result does.goes does.done does.fault c.is_lost-self.ensures)
+    c.requires.is_of.of_shelf c.append-done.result does.goes does.done does.fault c.is_lost-self.ensures)

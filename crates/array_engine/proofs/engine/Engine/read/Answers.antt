@@ -8,17 +8,17 @@ use Rattle.array_engine.specs.declared.said.Said.{Said}
 use Rattle.array_engine.specs.Saying.{HasSectors}
 use Rattle.array_engine.specs.Engines.{IsAnsweredAt}
 use Rattle.array_engine.proofs.Ending.{WasRead, read_answered, read_there}
-use Rattle.array_engine.proofs.Meanwhile.{OnlyReads, kept_read}
+use Rattle.array_engine.proofs.Meanwhile.{kept_read}
 use Rattle.array_engine.proofs.Points.{like_itself}
 use Rattle.array_engine.proofs.Spans.{AreMissing, readable}
 use Rattle.array_engine.proofs.engine.Engine.read.Goals as goal
 use Rattle.register.proofs.Rounds.{same_shelf}
 
 pub returns-clause-is_of : goal.returns-clause-is_of
-returns-clause-is_of g c = λ awake. (subst (λ (k : Geometry). IsArrayOf k c.args.self.now.array) (same_shelf c.read-done.ensures.continues) c.requires.is_of, c.requires.room)
+returns-clause-is_of g c = λ awake. (subst (λ (k : Geometry). IsArrayOf k c.args.self.now.array) (same_shelf c.read-done.ensures.reads.continues) c.requires.is_of, c.requires.room)
 
 pub returns-clause-moments : goal.returns-clause-moments
-returns-clause-moments g c = λ honest. weaker (λ stop left. left.counts) (c.read-done.ensures.writes honest).any_moment
+returns-clause-moments g c = λ honest. weaker (λ stop left. left.counts) (c.read-done.ensures.reads.writes honest).any_moment
 
 pub returns-clause-there : goal.returns-clause-there
 returns-clause-there g c =
@@ -31,17 +31,16 @@ returns-clause-answers g c = λ sectors told from honest at.
     let e = c.args.self.now in
     let f : Engine = record { array = e.array; room = e.room; halted = e.halted; buffers = c.read-done.new.self } in
     let does = c.read-done.ensures in
-    let reads : OnlyReads old new = record { continues = does.continues; same = does.same; writes = does.writes; nvrams = does.nvrams } in
     let are : AreMissing e.array.register c.missing_of-missing.result = rw c.drives.ensures at c.missing_of-missing.ensures in
     let w : WasRead old new e.array c.args.name.now c.args.lba c.args.count c.missing_of-missing.result (take c.args.count f.buffers.sectors.items) c.read-done.result =
     record { refused = does.refused; given = does.sectors; lost = does.lost } in
     subst (λ (q : Said). IsAnsweredAt told old new e f (Asked (request.Read c.args.name.now c.args.lba c.args.count) sectors) q from) (sym c.said_to_read.ensures)
-    (read_answered told old new e f (like_itself e.array) refl reads (g.met.S.Shelf.is_shelf c.args.shelf.now) (g.met.S.Shelf.is_shelf c.read-done.new.shelf) honest from at c.requires.awake c.args.name.now c.args.lba c.args.count c.requires.few
+    (read_answered told old new e f (like_itself e.array) refl does.reads (g.met.S.Shelf.is_shelf c.args.shelf.now) (g.met.S.Shelf.is_shelf c.read-done.new.shelf) honest from at c.requires.awake c.args.name.now c.args.lba c.args.count c.requires.few
     c.missing_of-missing.result c.requires.is_of are does.filled does.whole c.requires.accepted sectors c.read-done.result w)
 
 pub returns-clause-kept : goal.returns-clause-kept
 returns-clause-kept g c = λ honest sectors held ready.
-    kept_read (g.S.Shelf.shelf c.args.shelf.now) c.args.self.now.array held ready (g.S.Shelf.shelf c.read-done.new.shelf) (c.read-done.ensures.writes honest) (Asked (request.Read c.args.name.now c.args.lba c.args.count) sectors)
+    kept_read (g.S.Shelf.shelf c.args.shelf.now) c.args.self.now.array held ready (g.S.Shelf.shelf c.read-done.new.shelf) (c.read-done.ensures.reads.writes honest) (Asked (request.Read c.args.name.now c.args.lba c.args.count) sectors)
 
 pub read-done-requires-clause-places : goal.read-done-requires-clause-places
 read-done-requires-clause-places g c = readable (g.S.Shelf.shelf c.args.shelf.now) c.args.self.now.array c.requires.is_of
