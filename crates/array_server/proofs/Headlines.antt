@@ -151,6 +151,7 @@ module _ (old mid new : Shelved) (a : Array) (e : Engine) (input left : List ℕ
           taken_over = o.taken_over;
           missing = refl;
           none_joins = o.none_joins;
+          unlost = o.unlost;
           enough = named_enough (geometry_of start) a.register is_of named.0 o.enough;
           reached = s.reached;
           quiet = record { output = moments.quiet.output; taken = moments.quiet.taken };

@@ -29,19 +29,21 @@ leaves_members members shelf at stop left = record {
 pub closed_on_members : (members : List Bool) (shelf : Shelved) (slot at : ℕ) → IsMember members slot → (bytes : List ℕ) → bytes ≡ (shelf.disk (drive slot)).bytes → (d : Device) (i : ℕ) → OneClosed bytes (drive slot) at d i → OnClosed members shelf at d i
 closed_on_members members shelf slot at member bytes e d i w = subst (λ (x : Device). OnClosed members shelf at x i) (sym w.0) (member, w.1, subst (λ (l : List ℕ). is_open at l ≡ false) e w.2)
 
-pub opened_of : (answer : Result (Unit {0}) Failed) (honest was : Type 0) (at : ℕ) (old new : Disk) → was → (honest → OnOk answer (is_open at new.bytes ≡ true)) → (honest → OnOk answer (old.dirty ≡ [] → new.dirty ≡ [])) → OnErr answer (Rises old.faults new.faults)
+pub opened_of : (answer : Result (Unit {0}) Failed) (honest was : Type 0) (at : ℕ) (old new : Disk) → was → (honest → OnOk answer (is_open at new.bytes ≡ true)) → (honest → OnOk answer (old.dirty ≡ [] → new.dirty ≡ [])) → OnErr answer (Rises old.faults new.faults) → OnOk answer (new.write_faults ≡ old.write_faults)
     → Opened honest was (is_ok answer ≡ true) at old new
-opened_of (Ok x) honest was at old new member opens clean counts = record {
+opened_of (Ok x) honest was at old new member opens clean counts unlost = record {
   before = λ is. member;
   opened = λ h is. opens h;
   clean = λ h is. clean h;
   dropped = λ w. inl refl;
+  unlost = λ is. unlost;
 }
-opened_of (Err x) honest was at old new member opens clean counts = record {
+opened_of (Err x) honest was at old new member opens clean counts unlost = record {
   before = λ is. member;
   opened = λ h is. absurd (cc is);
   clean = λ h is. absurd (cc is);
   dropped = λ w. inr counts;
+  unlost = λ is. absurd (cc is);
 }
 
 module _ (members : List Bool) (shelf : Shelved) (stop : Stop) (slot : BootSlot) (boot : BootRecord) (missing : Conditions) (arrays : List Array)

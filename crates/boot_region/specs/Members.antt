@@ -74,12 +74,13 @@ abbrev pub OnClosed : List Bool → Shelved → ℕ → Device → ℕ → Type 
 OnClosed members shelf at (Drive d) i = IsMember members d.0 × IsIn (record { start = at; size = SECTOR_BYTES }) i × (is_open at (shelf.disk (Drive d)).bytes ≡ false)
 OnClosed members shelf at (Nv v) i = ⊥
 
--- the gate of a member is open, or a call on its device failed
+-- the gate of a member is open, with no write lost, or a call on its device failed
 pub record Opened (honest was is : Type 0) (at : ℕ) (old new : Disk) : Type 0 where
   pub before : is → was
   pub opened : honest → is → is_open at new.bytes ≡ true
   pub clean : honest → is → old.dirty ≡ [] → new.dirty ≡ []
   pub dropped : was → is ⊎ Rises old.faults new.faults
+  pub unlost : is → new.write_faults ≡ old.write_faults
 
 -- a member that isn't one any more failed in a write or a sync
 abbrev pub DroppedFailed : Shelved → Shelved → List Bool → List Bool → Type 0

@@ -93,6 +93,8 @@ impl Regions {
 pub fn load<S: Shelf>(alloc: Global, shelf: &mut S) -> Result<Loaded, LoadFault>
     ensures ran { Ran S.shelf S.shelf_rest IsDrive (λ d i. ⊥) shelf.old shelf.new }
     ensures same { (S.shelf shelf.old).honest → (device : Device) → IsSame ((S.shelf shelf.old).disk device) ((S.shelf shelf.new).disk device) }
+    // No write or sync failed.
+    ensures looks { (device : Device) → ((S.shelf shelf.new).disk device).write_faults ≡ ((S.shelf shelf.old).disk device).write_faults }
     ensures loads { (S.shelf shelf.old).honest → IsLoadOf (S.shelf shelf.old) (S.shelf shelf.new) result }
     // A record that was loaded is one of the shelf's, and names the drives that hold it.
     ensures lawful { IfOk result (IsLawfulLoad (geometry_of (S.shelf shelf.new))) }

@@ -20,6 +20,7 @@ fn read_region<S: Shelf>(shelf: &mut S, regions: &mut Regions, index: usize)
     ensures read { (S.shelf shelf.old).honest → IsRead (S.shelf shelf.old) (S.shelf shelf.new) regions.new.bytes.items regions.new.answered.items index }
     ensures kept { (i : ℕ) → i ≢ index → region_at regions.new.bytes.items regions.new.answered.items i ≡ region_at regions.old.bytes.items regions.old.answered.items i }
     ensures same { (S.shelf shelf.old).honest → (device : Device) → IsSame ((S.shelf shelf.old).disk device) ((S.shelf shelf.new).disk device) }
+    ensures looks { (device : Device) → ((S.shelf shelf.new).disk device).write_faults ≡ ((S.shelf shelf.old).disk device).write_faults }
     ensures counts { AnswerCounts (slice_index_or regions.new.answered.items index false) ((S.shelf shelf.old).disk (drive index)) ((S.shelf shelf.new).disk (drive index)) }
     ensures answers_kept { (i : ℕ) → i ≢ index → slice_index_or regions.new.answered.items i false ≡ slice_index_or regions.old.answered.items i false }
 {
@@ -36,6 +37,7 @@ pub fn read_regions<S: Shelf>(shelf: &mut S, regions: &mut Regions)
     ensures drives { length regions.new.answered.items ≡ (S.shelf shelf.new).drives }
     ensures read { (S.shelf shelf.old).honest → (i : ℕ) → i < (S.shelf shelf.old).drives → IsRead (S.shelf shelf.old) (S.shelf shelf.new) regions.new.bytes.items regions.new.answered.items i }
     ensures same { (S.shelf shelf.old).honest → (device : Device) → IsSame ((S.shelf shelf.old).disk device) ((S.shelf shelf.new).disk device) }
+    ensures looks { (device : Device) → ((S.shelf shelf.new).disk device).write_faults ≡ ((S.shelf shelf.old).disk device).write_faults }
     // The count of a drive rises exactly where it didn't answer.
     ensures counts { (i : ℕ) → i < (S.shelf shelf.old).drives → AnswerCounts (slice_index_or regions.new.answered.items i false) ((S.shelf shelf.old).disk (drive i)) ((S.shelf shelf.new).disk (drive i)) }
 {

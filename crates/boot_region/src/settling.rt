@@ -27,6 +27,7 @@ fn open_gate<S: Shelf>(shelf: &mut S, device: Device, at: u64) -> Result<(), Fai
     ensures opened { (S.shelf shelf.old).honest → OnOk result (is_open at ((S.shelf shelf.new).disk device).bytes ≡ true) }
     ensures clean { (S.shelf shelf.old).honest → OnOk result (((S.shelf shelf.old).disk device).dirty ≡ [] → ((S.shelf shelf.new).disk device).dirty ≡ []) }
     ensures counts { OnErr result (Rises ((S.shelf shelf.old).disk device).faults ((S.shelf shelf.new).disk device).faults) }
+    ensures unlost { OnOk result (((S.shelf shelf.new).disk device).write_faults ≡ ((S.shelf shelf.old).disk device).write_faults) }
 {
     let mut seen = [0; SECTOR_BYTES];
     shelf.read(device, at, &mut seen)?;

@@ -34,6 +34,7 @@ fn read_member<S: Shelf>(shelf: &mut S, device: NvId, is_member: bool, into: &mu
     requires device { device.0 < NVRAM_DEVICES }
     requires size { length into.old ≡ NVRAM_BYTES }
     ensures same { (S.shelf shelf.old).honest → (d : Device) → IsSame ((S.shelf shelf.old).disk d) ((S.shelf shelf.new).disk d) }
+    ensures looks { (d : Device) → ((S.shelf shelf.new).disk d).write_faults ≡ ((S.shelf shelf.old).disk d).write_faults }
     ensures ran { Ran S.shelf S.shelf_rest IsNvram OnNothing shelf.old shelf.new }
     ensures before { result ≡ true → is_member ≡ true }
     ensures dropped { is_member ≡ true → (result ≡ true) ⊎ Rises ((S.shelf shelf.old).disk (nvram device.0)).faults ((S.shelf shelf.new).disk (nvram device.0)).faults }
@@ -52,6 +53,7 @@ fn read_both<S: Shelf>(
     requires first { length first.old ≡ NVRAM_BYTES }
     requires second { length second.old ≡ NVRAM_BYTES }
     ensures same { (S.shelf shelf.old).honest → (d : Device) → IsSame ((S.shelf shelf.old).disk d) ((S.shelf shelf.new).disk d) }
+    ensures looks { (d : Device) → ((S.shelf shelf.new).disk d).write_faults ≡ ((S.shelf shelf.old).disk d).write_faults }
     ensures ran { Ran S.shelf S.shelf_rest IsNvram OnNothing shelf.old shelf.new }
     ensures fewer { IsFewer members result }
     ensures dropped { DroppedCounted (S.shelf shelf.old) (S.shelf shelf.new) members result }
@@ -108,6 +110,7 @@ impl NvLog {
         flushed: u64,
     ) -> Result<NvLog, ReadFault>
         ensures same { (S.shelf shelf.old).honest → (d : Device) → IsSame ((S.shelf shelf.old).disk d) ((S.shelf shelf.new).disk d) }
+        ensures looks { (d : Device) → ((S.shelf shelf.new).disk d).write_faults ≡ ((S.shelf shelf.old).disk d).write_faults }
         ensures ran { Ran S.shelf S.shelf_rest IsNvram OnNothing shelf.old shelf.new }
         ensures flushed { IfOk result (λ log. log.flushed ≡ flushed) }
         ensures members { IfOk result (λ log. IsFewer members log.members × IsSome log.members) }

@@ -145,7 +145,7 @@ WithRoom limit floor from q to some = Where (has_segments limit from) (IsRefused
     ((groups : ℕ) × HasGroups from groups × Where (nat_lt groups floor) (IsRefused refusals.Space from q to) some))
 
 -- A checkpoint was made: it is the same array, with nothing in the log, and nothing else has changed but the record, the facts of its patches and the next numbers.
--- Of the data segments that no address names the first ones were elided, each by a fact of its own: their units are free then. Each sector of the new ones has an address, and is written once.
+-- Of the data segments that no address names the first ones were elided, each by a fact of its own: their units are free then. Each sector of the new ones is named by an address of its own.
 -- Three stores wrote three records each at most. The record names the old patches and one more of a table at most, which are sound and read as the array; few segments were given to data and to patches.
 pub record IsCheckpointed (shelf : Geometry) (lost : Device → Bool) (from to : Point) : Type 0 where
   pub same : to ≡ record from { logged = 0; boot = to.boot; patches = to.patches; next = to.next }

@@ -91,9 +91,10 @@ pub record Opening (old : Shelved) : Type 0 where
 pub record Opens (told : Bool) (old : Shelved) (left : Stop → Type 0) (o : Opening old) (first : Point) : Type 0 where
   pub holds : HoldsLog told (geometry_of old) (members_view o.found.view o.found.effective) o.found.effective.boot first
   pub taken_over : IsTakenOver (geometry_of old) (read_now old).image o.found (has_failed (read_now old) first.stop) first.conditions
-  -- Missing are the devices that its record doesn't name. Those that it names were named by the record that was found, and they are enough.
+  -- Missing are the devices that its record doesn't name. Those that it names were named by the record that was found, no write or sync on them failed since, and they are enough.
   pub missing : first.conditions ≡ (λ d. if names first.boot d then Sound else LeftOut)
   pub none_joins : (d : Device) → names first.boot d ≡ true → names o.found.effective.boot d ≡ true
+  pub unlost : (d : Device) → names first.boot d ≡ true → first.stop.write_faults d ≡ (read_now old).write_faults d
   pub enough : IsBearable (geometry_of old) first.conditions
   pub reached : IsReached left first
   pub quiet : IsQuietBy old first.stop

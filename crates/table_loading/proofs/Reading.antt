@@ -2,10 +2,10 @@
 use Rattle.std.proofs.Common.{◌≡◌, ℕ, Bool, List, refl, sym, ◌∙◌, ap, arith}
 use Rattle.std.specs.Prelude.{Some}
 use Rattle.std.specs.List.{AllZip}
-use Rattle.array_spec.specs.Prelude.{View, nvram, drive, Device, AnyFact, IsPatch, Patch, places_of_part}
-use Rattle.world.specs.Prelude.{Shelved, Continues, IsSame, IsShelf, WritesOnly, continues_refl, continues_trans, writes_then, nothing_written}
-use Rattle.segment_io.specs.Prelude.{NoByte, drive_of, place_of}
-use Rattle.segment_io.proofs.Gathers.{same_then}
+use Rattle.array_spec.specs.Prelude.{View, nvram, drive, AnyFact, IsPatch, Patch, places_of_part}
+use Rattle.world.specs.Prelude.{Shelved, Continues, IsShelf, WritesOnly, continues_refl, continues_trans, writes_then, nothing_written}
+use Rattle.segment_io.specs.Prelude.{NoByte, OnlyLooks, drive_of, place_of}
+use Rattle.segment_io.proofs.Gathers.{looks_none, looks_then}
 use Rattle.patch_io.specs.Prelude.{OthersStayOfPatch, ShowsPatch}
 use Rattle.patch_io.proofs.Parts.{slot_below}
 use Rattle.table_loading.specs.Loading.{IsLoaded, OnlyReads, ShowsDrives}
@@ -19,7 +19,7 @@ pub reads_none : (a : Shelved) → IsShelf a → OnlyReads a a
 reads_none a is = record {
   continues = continues_refl a;
   nvrams = λ n. refl;
-  same = λ h device. record { bytes = refl; dirty = refl };
+  looks = looks_none a;
   writes = λ h. nothing_written a is;
 }
 
@@ -27,16 +27,16 @@ pub reads_then : {a b c : Shelved} → OnlyReads a b → OnlyReads b c → OnlyR
 reads_then {a} {b} {c} first next = record {
   continues = continues_trans first.continues next.continues;
   nvrams = λ n. next.nvrams n ∙ first.nvrams n;
-  same = λ h device. same_then (first.same h device) (next.same (first.continues.honest h) device);
+  looks = looks_then first.continues first.looks next.looks;
   writes = λ h. writes_then first.continues (first.writes h) (next.writes (first.continues.honest h));
 }
 
 -- a patch is read
-pub reads_patch : (a b : Shelved) (p : Patch) → Continues a b → OthersStayOfPatch p a b → (a.honest → (device : Device) → IsSame (a.disk device) (b.disk device)) → (a.honest → WritesOnly NoByte a b) → OnlyReads a b
-reads_patch a b p continues others same writes = record {
+pub reads_patch : (a b : Shelved) (p : Patch) → Continues a b → OthersStayOfPatch p a b → OnlyLooks a b → (a.honest → WritesOnly NoByte a b) → OnlyReads a b
+reads_patch a b p continues others looks writes = record {
   continues = continues;
   nvrams = λ n. others (nvram n) (λ part shard within lt. nvram_apart n (place_of (places_of_part p part) shard).slot);
-  same = same;
+  looks = looks;
   writes = writes;
 }
   where
@@ -47,7 +47,7 @@ reads_patch a b p continues others same writes = record {
 shown_before : (a b : Shelved) (p : Patch) (missing : List Bool) (view : View) → OnlyReads a b → a.honest → ShowsPatch a p missing view → ShowsPatch b p missing view
 shown_before a b p missing view reads h shows part within shard lt is =
     let device = drive_of (places_of_part p part) shard in
-    shows part within shard lt is ∙ ap Some (sym (reads.same h device).bytes)
+    shows part within shard lt is ∙ ap Some (sym (reads.looks.same h device).bytes)
 
 -- what is loaded later was there before
 pub loaded_before : (a b : Shelved) (missing : List Bool) (p : Patch) (facts : List AnyFact) → OnlyReads a b → IsLoaded b missing p facts → IsLoaded a missing p facts

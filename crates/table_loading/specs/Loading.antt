@@ -1,9 +1,9 @@
 -- What is loaded of the patches that a record names.
 use Rattle.std.specs.Prelude.{◌≡◌, ℕ, ◌<◌, ◌==◌, false, Bool, List, Some}
 use Rattle.std.specs.List.{AllByRecursion, filter}
-use Rattle.array_spec.specs.Prelude.{View, drive, nvram, Device, AnyFact, Patch, BootRecord, PatchStands}
-use Rattle.world.specs.Prelude.{Shelved, Continues, IsSame, WritesOnly}
-use Rattle.segment_io.specs.Prelude.{NoByte, is_in, bytes_of}
+use Rattle.array_spec.specs.Prelude.{View, drive, nvram, AnyFact, Patch, BootRecord, PatchStands}
+use Rattle.world.specs.Prelude.{Shelved, Continues, WritesOnly}
+use Rattle.segment_io.specs.Prelude.{NoByte, OnlyLooks, is_in, bytes_of}
 use Rattle.patch_io.specs.Prelude.{AreFactsOf, ShowsPatch, StripesStandOf}
 
 -- ---- views
@@ -33,5 +33,5 @@ pub record IsLoaded (shelf : Shelved) (missing : List Bool) (p : Patch) (facts :
 pub record OnlyReads (old new : Shelved) : Type 0 where
   pub continues : Continues old new
   pub nvrams : (n : ℕ) → new.disk (nvram n) ≡ old.disk (nvram n)
-  pub same : old.honest → (device : Device) → IsSame (old.disk device) (new.disk device)
+  pub looks : OnlyLooks old new
   pub writes : old.honest → WritesOnly NoByte old new

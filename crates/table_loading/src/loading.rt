@@ -1,17 +1,13 @@
 // The tables of a record are loaded and judged.
-ghost use Rattle.std.specs.Prelude.{◌≡◌, ◌*◌, ◌≤◌, ℕ, length, IfOk, IfErr};
-ghost use Rattle.pur_base.specs.Devices.{View, nvram};
-ghost use Rattle.pur_base.specs.declared.device.Device.{Device};
+ghost use Rattle.std.specs.Prelude.{◌*◌, ◌≤◌, length, IfOk, IfErr};
+ghost use Rattle.pur_base.specs.Devices.{View};
 ghost use Rattle.pur_base.specs.declared.limits.TheConstants.{SECTOR_BYTES, SEGMENT_SECTORS};
 ghost use Rattle.boot_codec.specs.Region.{IsRecordOf};
 ghost use Rattle.array_spec.specs.Sound.{AreSound};
 ghost use Rattle.array_spec.specs.Stored.{PatchesStand};
 ghost use Rattle.table_soundness.specs.Faults.{facts_in, patches_in, AreLawful, AreNamed, AreVisible};
 ghost use Rattle.world.specs.Losing.{geometry_of};
-ghost use Rattle.world.specs.Shelf.{Continues, IsSame};
-ghost use Rattle.world.specs.Writes.{WritesOnly};
-ghost use Rattle.segment_io.specs.Lost.{NoByte};
-ghost use Rattle.table_loading.specs.Loading.{ShowsDrives, StripesStandOfAll};
+ghost use Rattle.table_loading.specs.Loading.{OnlyReads, ShowsDrives, StripesStandOfAll};
 ghost use Rattle.table_loading.specs.Faults.{IsTablesFault};
 
 use crate::fault::TablesFault;
@@ -45,11 +41,8 @@ pub fn load_tables<S: Shelf>(
     missing: &[bool],
 ) -> Result<SoundTables, TablesFault>
     requires lawful { IsRecordOf (geometry_of (S.shelf shelf.old)) boot.now }
-    ensures continues { Continues (S.shelf shelf.old) (S.shelf shelf.new) }
+    ensures reads { OnlyReads (S.shelf shelf.old) (S.shelf shelf.new) }
     ensures rest { S.shelf_rest shelf.old shelf.new }
-    ensures nvrams { (n : ℕ) → (S.shelf shelf.new).disk (nvram n) ≡ (S.shelf shelf.old).disk (nvram n) }
-    ensures same { (S.shelf shelf.old).honest → (device : Device) → IsSame ((S.shelf shelf.old).disk device) ((S.shelf shelf.new).disk device) }
-    ensures writes { (S.shelf shelf.old).honest → WritesOnly NoByte (S.shelf shelf.old) (S.shelf shelf.new) }
     // What stands as the patches in each view that shows the drives that aren't missing.
     ensures stand { (S.shelf shelf.old).honest → IfOk result (λ t. (view : View) → ShowsDrives (S.shelf shelf.old) missing.now view → StripesStandOfAll view boot.now → PatchesStand view boot.now (patches_in t.tables)) }
     ensures sound { IfOk result (λ t. AreSound (geometry_of (S.shelf shelf.new)) boot.now (patches_in t.tables)) }

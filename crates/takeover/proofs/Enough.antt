@@ -3,12 +3,13 @@ use Rattle.std.proofs.Common.{◌≡◌, ◌⊎◌, inl, inr, ℕ, zero, suc, �
 use Rattle.std.specs.Prelude.{Option, Some, None, IsSome, is_none, count_by, if◌then◌else◌}
 use Rattle.std.specs.List.{range_with_len}
 use Rattle.std.specs.Str.{bytes_eq}
-use Rattle.std.proofs.lemmas.Bool.{cases_Bool}
+use Rattle.std.proofs.lemmas.Bool.{cases_Bool, cases_lt}
 use Rattle.std.proofs.lemmas.List.{get_or_past}
 use Rattle.std.proofs.lemmas.Slice.Eq.{bytes_eq-Decides}
-use Rattle.session_spec.specs.Prelude.{Device, Drive, Nv, Geometry, Image, View, Sound, LeftOut, IsBearable, is_missing, drive, nvram, BootRecord, set_count, BootSlot, IsRecordOf, body_in, names, of_members, spelling, counted, AreSomeOf, AreEnough}
+use Rattle.session_spec.specs.Prelude.{Device, Drive, Nv, Geometry, Image, View, Sound, LeftOut, IsBearable, is_missing, drive, nvram, BootRecord, set_count, BootSlot, IsBootRecord, IsRecordOf, body_in, names, of_members, spelling, counted, AreSomeOf, AreEnough, Shelved}
 use Rattle.boot_region.specs.Prelude.{IsMember}
 use Rattle.nvram_log.specs.Members as nv
+use Rattle.register.specs.Prelude.{none_past}
 use Rattle.array_core.specs.Prelude.{unflagged}
 
 not_none : (o : Option (List ℕ)) → IsSome o → is_none o ≡ false
@@ -42,3 +43,17 @@ pub names_fewer : (was now : BootRecord) → ((i : ℕ) → IsMember now.members
     → (d : Device) → names now d ≡ true → names was d ≡ true
 names_fewer was now drives nvrams (Drive d) e = drives d.0 e
 names_fewer was now drives nvrams (Nv n) e = nvrams n.0 e
+
+-- No write is lost on those that it names, where so it is on the drives and NVRAM devices of the shelf.
+pub names_unlost : (old new : Shelved) (was now : BootRecord) → IsBootRecord was → ((d : Device) → names now d ≡ true → names was d ≡ true)
+    → ((i : ℕ) → i < was.slots → names now (drive i) ≡ true → (new.disk (drive i)).write_faults ≡ (old.disk (drive i)).write_faults)
+    → ((n : ℕ) → n < 2 → names now (nvram n) ≡ true → (new.disk (nvram n)).write_faults ≡ (old.disk (nvram n)).write_faults)
+    → (d : Device) → names now d ≡ true → (new.disk d).write_faults ≡ (old.disk d).write_faults
+names_unlost old new was now lawful fewer drives nvrams (Drive d) e = elim (cases_lt d.0 was.slots) [
+  | inl lt ↦ drives d.0 lt e
+  | inr past ↦ absurd (none_past was.members.drives was.slots d.0 lawful.members.within past (fewer (Drive d) e))
+]
+names_unlost old new was now lawful fewer drives nvrams (Nv n) e = elim (cases_lt n.0 2) [
+  | inl lt ↦ nvrams n.0 lt e
+  | inr past ↦ absurd (cc (fewer (Nv n) e, get_or_past was.members.nvrams n.0 false (omega (arith, past, lawful.members.nvram_flags))))
+]

@@ -34,10 +34,11 @@ firm_read b t x missing arrays after same firm = record {
   found = λ later more bears sound. found_read b t x later arrays after same (firm.found later more (subst (λ (g : Geometry). IsBearable g later) (sym (same_shelf after)) bears) sound);
 }
 
-pub record_read : (a b t : Shelved) (x : Loaded) → Continues b t → (a.honest → (d : Device) → IsSame (b.disk d) (t.disk d)) → IsRecordFound a b x → IsRecordFound a t x
-record_read a b t x after same is = record {
+pub record_read : (a b t : Shelved) (x : Loaded) → Continues b t → ((d : Device) → (t.disk d).write_faults ≡ (b.disk d).write_faults) → (a.honest → (d : Device) → IsSame (b.disk d) (t.disk d)) → IsRecordFound a b x → IsRecordFound a t x
+record_read a b t x after looks same is = record {
   lawful = subst (λ (g : Geometry). IsLawfulLoad g x) (same_shelf after) is.lawful;
   enough = omega (arith, is.enough, after.drives);
+  unlost = λ i lt m. looks (drive i) ∙ is.unlost i (omega (arith, lt, after.drives)) m;
   shown = λ h i m. subst (λ (l : List ℕ). shown_by (slot_in x.slot) l ≡ Some (spelling x.record)) (sym (same h (drive i)).bytes) (is.shown h i m);
   firmly = λ h missing next boot arrays enters entry. firm_read b t x missing arrays after (same h) (is.firmly h missing next boot arrays enters entry);
 }

@@ -180,9 +180,10 @@ module _ (a b : Shelved) (x : Loaded) (on : Continues a b) (seen : IsSeenIn a b 
         pub opened : (was.record.generation < now.record.generation) → (now.record.members.drives ≡ now.drives) × (now.record.members.nvrams ≡ o.log.members)
             → ((missing : Conditions) (arrays : List plain.Array) → Enters a missing arrays → IsBearable (geometry_of a) (failed_since a s missing)
             → IsRecovered a s found (array_with o now) done.log (failed_since a s missing) arrays)
-            → ((d : Device) → names now.record d ≡ true → names x.record d ≡ true) → HasEnough now
+            → ((d : Device) → names now.record d ≡ true → names x.record d ≡ true)
+            → ((d : Device) → names now.record d ≡ true → (s.disk d).write_faults ≡ (a.disk d).write_faults) → HasEnough now
             → IsOpened a s (array_with o now)
-        opened generation members recovered none_joins enough = record {
+        opened generation members recovered none_joins unlost enough = record {
           found = found;
           not_spent = lawful_b.room;
           no_other = λ there stand. no_other (found_by.members a b x on seen lawful same n first o after replayed) (λ i. refl) there stand ∙ sym (patches_are (geometry_of b) x.record first o memory done);
@@ -196,6 +197,7 @@ module _ (a b : Shelved) (x : Loaded) (on : Continues a b) (seen : IsSeenIn a b 
           boot_is = subst (λ (r : BootRecord). now.record ≡ record r { generation = now.record.generation; members = now.record.members }) record_is later.rest;
           taken_over = found_by.taken_over a b x on seen lawful same n first o after replayed s now last left members.0 members.1;
           none_joins = none_joins;
+          unlost = unlost;
           enough = enough;
           later = omega (arith, generation, ap (λ (b : BootRecord). b.generation) record_is);
           few = omega (arith, few, ap (λ (b : BootRecord). b.generation) record_is);

@@ -64,8 +64,9 @@ pub record IsOpened (old new : Shelved) (a : Array) : Type 0 where
   pub next : a.memory.memory.next ≡ next_after_all found.effective.boot.next log
   pub boot_is : a.register.record ≡ record found.effective.boot { generation = a.register.record.generation; members = a.register.record.members }
   pub taken_over : IsTakenOver (geometry_of old) (read_now old).image found (has_failed (read_now old) (read_now new)) (named_sound a.register.record)
-  -- the devices that its record names were named by the record that was found, and enough drives hold it
+  -- the devices that its record names were named by the record that was found, no write or sync on them failed since, and enough drives hold it
   pub none_joins : (d : Device) → names a.register.record d ≡ true → names found.effective.boot d ≡ true
+  pub unlost : (d : Device) → names a.register.record d ≡ true → (new.disk d).write_faults ≡ (old.disk d).write_faults
   pub enough : HasEnough a.register
   pub later : found.effective.boot.generation < a.register.record.generation
   pub few : a.register.record.generation < found.effective.boot.generation + 4

@@ -1,5 +1,5 @@
 -- What the steps of an opening leave: the record is found, its tables are loaded, and the log is opened.
-use Rattle.std.specs.Prelude.{◌≡◌, ◌≤◌, ◌+◌, ℕ, Bool, List, Some, None, Result, IfOk}
+use Rattle.std.specs.Prelude.{◌≡◌, ◌<◌, ◌≤◌, ◌+◌, ℕ, Bool, List, Some, None, Result, IfOk}
 use Rattle.session_spec.specs.Prelude.{Conditions, IsBearable, drive, Array, AnyFact, BootRecord, set_count, BootSlot, shown_by, spelling, patches, geometry_of, Shelved, LeavesOnly, Enters, StandsStill, failed_since}
 use Rattle.boot_region.specs.declared.loading.Loaded.{Loaded}
 use Rattle.boot_region.specs.Prelude.{IsLawfulLoad, IsMember, slot_in, StandsAgain}
@@ -28,11 +28,12 @@ pub record StandsWhileFinding (old new : Shelved) : Type 0 where
   pub again : (missing : Conditions) (next : BootSlot) (boot : BootRecord) (arrays : List Array) → Enters old missing arrays → EntersFirmly old missing next boot
       → LeavesOnly old new (StandsAgain old missing arrays)
 
--- A record of the shelf is loaded. The drives that are left show it, whatever is missing, and at most two of the shelf's aren't among them.
+-- A record of the shelf is loaded. The drives that are left show it, whatever is missing, no write or sync on them failed, and at most two of the shelf's aren't among them.
 -- Whatever fails, where no store was unfinished at the entry, it was found on drives that were sound.
 pub record IsRecordFound (old new : Shelved) (x : Loaded) : Type 0 where
   pub lawful : IsLawfulLoad (geometry_of new) x
   pub enough : new.drives ≤ set_count x.drives + 2
+  pub unlost : (i : ℕ) → i < new.drives → IsMember x.drives i → (new.disk (drive i)).write_faults ≡ (old.disk (drive i)).write_faults
   pub shown : old.honest → (i : ℕ) → IsMember x.drives i → shown_by (slot_in x.slot) (new.disk (drive i)).bytes ≡ Some (spelling x.record)
   pub firmly : old.honest → (missing : Conditions) (next : BootSlot) (boot : BootRecord) (arrays : List Array) → Enters old missing arrays → EntersFirmly old missing next boot
       → IsFoundFirmly new x missing arrays

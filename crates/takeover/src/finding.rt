@@ -43,7 +43,9 @@ fn settle_loaded<S: Shelf>(shelf: &mut S, loaded: &mut Loaded)
     ensures fewer { (i : ℕ) → IsMember loaded.new.drives i → IsMember loaded.old.drives i }
     ensures dropped { (i : ℕ) → i < (S.shelf shelf.old).drives → IsMember loaded.old.drives i
         → IsMember loaded.new.drives i ⊎ Rises ((S.shelf shelf.old).disk (drive i)).faults ((S.shelf shelf.new).disk (drive i)).faults }
-    // The gates of those that are left are open.
+    // On those that are left no write or sync failed, and their gates are open.
+    ensures unlost { (i : ℕ) → i < (S.shelf shelf.old).drives → IsMember loaded.new.drives i
+        → ((S.shelf shelf.new).disk (drive i)).write_faults ≡ ((S.shelf shelf.old).disk (drive i)).write_faults }
     ensures opened { (S.shelf shelf.old).honest → (i : ℕ) → i < (S.shelf shelf.old).drives → IsMember loaded.new.drives i
         → is_open (gate_place (slot_in loaded.old.slot)) ((S.shelf shelf.new).disk (drive i)).bytes ≡ true }
     // On those that are left what was clean is clean still.

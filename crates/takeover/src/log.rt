@@ -114,6 +114,8 @@ fn read_synced<S: Shelf>(
     ensures flushed { IfOk result (λ log. log.flushed ≡ flushed) }
     ensures members { IfOk result (λ log. IsFewer nvrams log.members × IsSome log.members) }
     ensures counted { IfOk result (λ log. DroppedCounted (S.shelf shelf.old) (S.shelf shelf.new) nvrams log.members) }
+    // On those that are left no write or sync failed.
+    ensures unlost { IfOk result (λ log. (n : ℕ) → n < 2 → IsMember log.members n → ((S.shelf shelf.new).disk (nvram n)).write_faults ≡ ((S.shelf shelf.old).disk (nvram n)).write_faults) }
     ensures log { IfOk result (λ log. IsReadFrom (S.shelf shelf.old).honest (shown_by (S.shelf shelf.new) log.members) log) }
     ensures seen { (S.shelf shelf.old).honest → IfOk result (λ log. AreAsSeen (S.shelf shelf.new) log) }
     ensures clean { (S.shelf shelf.old).honest → IfOk result (λ log. (n : ℕ) → n < 2 → IsMember log.members n → ((S.shelf shelf.new).disk (nvram n)).dirty ≡ []) }
@@ -136,6 +138,8 @@ pub fn open_log<S: Shelf>(
     ensures ran { Ran S.shelf S.shelf_rest IsNvram (OnMembers nvrams) shelf.old shelf.new }
     // Memory has done the commands that are left of the log.
     ensures left { IfOk result (IsLogLeft nvrams flushed memory) }
+    // On the devices that are left no write or sync failed.
+    ensures unlost { IfOk result (λ opened. (n : ℕ) → n < 2 → IsMember opened.log.members n → ((S.shelf shelf.new).disk (nvram n)).write_faults ≡ ((S.shelf shelf.old).disk (nvram n)).write_faults) }
     ensures err { IfErr result (λ fault. IsLogFault fault (S.shelf shelf.old) (S.shelf shelf.new) nvrams flushed) }
     // The log is what the devices showed, from each array that memory read as, or one showed a command that isn't served.
     ensures replayed { (S.shelf shelf.old).honest → IsReplayedBy (S.shelf shelf.old) (S.shelf shelf.new) nvrams flushed memory result }

@@ -1,14 +1,13 @@
 // The tables that the record names are loaded, and memory is made of them.
 ghost use Rattle.std.specs.Prelude.{◌≡◌, ◌<◌, ℕ, not, IfOk, IfErr};
-ghost use Rattle.pur_base.specs.declared.device.Device.{Device};
 ghost use Rattle.pur_base.specs.Devices.{View};
 ghost use Rattle.boot_codec.specs.Region.{IsRecordOf};
 ghost use Rattle.array_spec.specs.Stored.{PatchesStand};
 ghost use Rattle.memory_spec.specs.Tables.{patches};
 ghost use Rattle.world.specs.Losing.{geometry_of};
-ghost use Rattle.world.specs.Shelf.{IsSame};
 ghost use Rattle.world.specs.Ran.{Ran};
 ghost use Rattle.segment_io.specs.Lost.{NoByte, is_in};
+ghost use Rattle.segment_io.specs.Reads.{OnlyLooks};
 ghost use Rattle.table_loading.specs.Faults.{IsTablesFault};
 ghost use Rattle.table_loading.specs.Loading.{ShowsDrives, StripesStandOfAll};
 ghost use Rattle.boot_region.specs.Members.{IsDrive};
@@ -53,7 +52,7 @@ fn load_memory<S: Shelf>(
 ) -> Result<Memory, TablesFault>
     requires lawful { IsRecordOf (geometry_of (S.shelf shelf.old)) boot.now }
     ensures ran { Ran S.shelf S.shelf_rest IsDrive NoByte shelf.old shelf.new }
-    ensures same { (S.shelf shelf.old).honest → (device : Device) → IsSame ((S.shelf shelf.old).disk device) ((S.shelf shelf.new).disk device) }
+    ensures looks { OnlyLooks (S.shelf shelf.old) (S.shelf shelf.new) }
     ensures memory { IfOk result (IsMemoryOf (geometry_of (S.shelf shelf.new)) boot.now) }
     ensures stand { (S.shelf shelf.old).honest → IfOk result (λ k. (view : View) → ShowsDrives (S.shelf shelf.old) missing.now view → StripesStandOfAll view boot.now → PatchesStand view boot.now (patches k.memory.tables)) }
     ensures fault { IfErr result (λ e. IsTablesFault (S.shelf shelf.old) (S.shelf shelf.new) boot.now missing.now e) }

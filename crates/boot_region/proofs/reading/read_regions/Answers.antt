@@ -20,6 +20,7 @@ loop-drive-preserved g c =
           let was = inv.same h device in
           let is = x.ensures.same (inv.ran.on.continues.honest h) device in
           record { bytes = is.bytes ∙ was.bytes; dirty = is.dirty ∙ was.dirty };
+      looks = λ device. x.ensures.looks device ∙ inv.looks device;
       passed = λ h. below_more (λ i. IsRead a n x.new.regions.bytes.items x.new.regions.answered.items i) slot
           (λ i lt. stays_read a b n c.loop-drive.regions.bytes.items x.new.regions.bytes.items c.loop-drive.regions.answered.items x.new.regions.answered.items i
           (inv.passed h i lt) (x.ensures.kept i (omega (arith, lt))) (x.ensures.ran.on.others (drive i) (drives_apart i slot (omega (arith, lt)))))

@@ -13,6 +13,7 @@ invariant-loop-drive g l =
       ran : Ran g.S.Shelf.shelf g.S.Shelf.shelf_rest IsDrive (λ d i. ⊥) l.initial.shelf l.shelf;
       drives : length l.regions.answered.items ≡ a.drives;
       same : a.honest → (device : Device) → IsSame (a.disk device) (b.disk device);
+      looks : (device : Device) → (b.disk device).write_faults ≡ (a.disk device).write_faults;
       passed : a.honest → (i : ℕ) → i < l.drive → IsRead a b l.regions.bytes.items l.regions.answered.items i;
       counts : (i : ℕ) → i < l.drive → AnswerCounts (slice_index_or l.regions.answered.items i false) (a.disk (drive i)) (b.disk (drive i));
       ahead : (i : ℕ) → l.drive ≤ i → b.disk (drive i) ≡ a.disk (drive i);

@@ -1,6 +1,6 @@
 use Rattle.std.proofs.Common.{arith, ◌≡◌, length, false, refl, slice_index, ap, ◌∙◌}
 use Rattle.array_spec.specs.Prelude.{is_open, SECTOR_BYTES}
-use Rattle.boot_region.proofs.GateCalls.{ran_read, ran_behind_read, wrote_open}
+use Rattle.boot_region.proofs.GateCalls.{ran_read, none_behind, ran_behind_read, wrote_open}
 use Rattle.boot_region.specs.lemmas.Shown.{reads_closed}
 use Rattle.boot_region.proofs.settling.open_gate.Goals as goal
 
@@ -15,6 +15,9 @@ returns-then-is_open_gate-clause-ran g c =
 pub returns-clause-opened : goal.returns-clause-opened
 returns-clause-opened g c h =
     wrote_open c.write_synced.result c.args.at c.as_bytes.result.now _ _ (c.as_bytes.ensures.bytes ∙ c.gate_sector-open.ensures) (c.write_synced.ensures.written (c.read.ensures.time.continues.honest h))
+
+pub returns-clause-unlost : goal.returns-clause-unlost
+returns-clause-unlost g c = none_behind c.write_synced.result _ _ _ c.read.ensures.counts.write_faults c.write_synced.ensures.counts.write_faults
 
 pub returns-clause-ran : goal.returns-clause-ran
 returns-clause-ran g c =

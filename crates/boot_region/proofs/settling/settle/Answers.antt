@@ -32,7 +32,7 @@ loop-drive-preserved g c =
                 (λ d lt. let ne : d ≢ slot = omega arith in rw (get_or-set_other, x.ensures.ran.on.others (drive d) (drives_apart d slot ne)) (inv.passed d lt))
                 (let lt : slot < length c.loop-drive.members = omega arith in
                 rw (get_or-set_same, w.is_ok.ensures.value, ← inv.disk_ahead slot (omega arith))
-                (opened_of x.result _ _ c.gate-at.result _ _ member (λ h. x.ensures.opened (inv.ran.on.continues.honest h)) (λ h. x.ensures.clean (inv.ran.on.continues.honest h)) x.ensures.counts));
+                (opened_of x.result _ _ c.gate-at.result _ _ member (λ h. x.ensures.opened (inv.ran.on.continues.honest h)) (λ h. x.ensures.clean (inv.ran.on.continues.honest h)) x.ensures.counts x.ensures.unlost));
             same_ahead = λ d le. let ne : d ≢ slot = omega arith in rw get_or-set_other (inv.same_ahead d (omega arith));
             disk_ahead = λ d le. x.ensures.ran.on.others (drive d) (drives_apart d slot (omega arith)) ∙ inv.disk_ahead d (omega arith);
           })
@@ -45,6 +45,7 @@ loop-drive-preserved g c =
               opened = λ h is. absurd (cc (is, w.if-members-drive.false));
               clean = λ h is. absurd (cc (is, w.if-members-drive.false));
               dropped = λ was. absurd (shut was);
+              unlost = λ is. absurd (cc (is, w.if-members-drive.false));
             });
             same_ahead = λ d le. inv.same_ahead d (omega arith);
             disk_ahead = λ d le. inv.disk_ahead d (omega arith);

@@ -5,7 +5,7 @@ use Rattle.std.proofs.lemmas.Option.{slice_get-get_or}
 use Rattle.std.proofs.lemmas.Result.{err_from_is_err_and}
 use Rattle.array_spec.specs.Prelude.{Device, PatchSegment}
 use Rattle.world.specs.Prelude.{continues_refl, continues_trans, writes_then, nothing_written}
-use Rattle.segment_io.proofs.Gathers.{same_then}
+use Rattle.segment_io.proofs.Gathers.{looks_none, looks_then}
 use Rattle.segment_io.specs.Prelude.{still_places}
 use Rattle.patch_io.specs.Tables.{AreInOrder}
 use Rattle.patch_io.proofs.Parts.{Loads, loads_none, loads_more, size_more, patch_loaded, facts_loaded, part_places, reads_as, load_fault, others_more}
@@ -18,7 +18,7 @@ loop-segment-init g c =
       size = omega (arith, ap length c.requires.none);
       loads = subst (λ (xs : List g.row.F.Denot). Loads a c.args.patch.now c.args.missing.now (map g.F.TableFact.any xs)) (sym c.requires.none) (loads_none a c.args.patch.now c.args.missing.now);
       continues = continues_refl a;
-      same = λ h device. record { bytes = refl; dirty = refl };
+      looks = looks_none a;
       writes = λ h. nothing_written a (g.met.S.Shelf.is_shelf c.args.shelf.now);
       others = λ device none. refl;
       rest = g.met.S.Shelf.shelf_rest_stays.reflexive _;
@@ -53,12 +53,12 @@ loop-segment-preserved g c =
     let within : part < length p.segments = omega (arith, ap length c.as_slice-segment-items.ensures, c.loop-segment-test.true) in
     let at = ap (λ (l : List PatchSegment). slice_get l part) (sym c.as_slice-segment-items.ensures) ∙ slice_get-get_or items part _ c.loop-segment-test.true in
     let reads = reads_as b p missing part count g.F.TableFact.tag _ got new at c.requires.tag x.facts in
-    let same = λ (h : a.honest) (device : Device). (inv.same h device).bytes in
+    let same = λ (h : a.honest) (device : Device). (inv.looks.same h device).bytes in
     record {
       size = sym (length-map c.read_part.new.facts.items any) ∙ size_more a b p missing part count got inv.continues.honest same c.requires.patch.room within (long ∙ inv.size) (omega (arith, long)) inv.loads new reads;
       loads = loads_more a b p missing part count got inv.continues.honest same c.requires.patch.room within (long ∙ inv.size) (omega (arith, long)) inv.loads new reads;
       continues = continues_trans inv.continues x.continues;
-      same = λ h device. same_then (inv.same h device) (x.same (inv.continues.honest h) device);
+      looks = looks_then inv.continues inv.looks x.looks;
       writes = λ h. writes_then inv.continues (inv.writes h) (x.writes (inv.continues.honest h));
       others = others_more a b (g.S.Shelf.shelf c.read_part.new.shelf) p part _ within at inv.others x.others;
       rest = g.met.S.Shelf.shelf_rest_stays.transitive _ _ _ inv.rest x.rest;
@@ -66,6 +66,9 @@ loop-segment-preserved g c =
 
 pub returns-in_err-read_part-clause-continues : goal.returns-in_err-read_part-clause-continues
 returns-in_err-read_part-clause-continues g c = continues_trans c.loop-segment.invariant.continues c.read_part.ensures.continues
+
+pub returns-in_err-read_part-clause-looks : goal.returns-in_err-read_part-clause-looks
+returns-in_err-read_part-clause-looks g c = looks_then c.loop-segment.invariant.continues c.loop-segment.invariant.looks c.read_part.ensures.looks
 
 pub returns-in_err-read_part-clause-fault : goal.returns-in_err-read_part-clause-fault
 returns-in_err-read_part-clause-fault g c =
@@ -80,7 +83,7 @@ returns-in_err-read_part-clause-fault g c =
     let long : length got ≡ length c.loop-segment.facts.items = length-map c.loop-segment.facts.items g.F.TableFact.any in
     let within : part < length p.segments = omega (arith, ap length c.as_slice-segment-items.ensures, c.loop-segment-test.true) in
     let at = ap (λ (l : List PatchSegment). slice_get l part) (sym c.as_slice-segment-items.ensures) ∙ slice_get-get_or items part _ c.loop-segment-test.true in
-    rw (r.1, r.2) (load_fault a b (g.S.Shelf.shelf c.read_part.new.shelf) p c.args.missing.now part c.min-count.result g.F.TableFact.tag _ got _ inv.continues (λ h device. (inv.same h device).bytes)
+    rw (r.1, r.2) (load_fault a b (g.S.Shelf.shelf c.read_part.new.shelf) p c.args.missing.now part c.min-count.result g.F.TableFact.tag _ got _ inv.continues (λ h device. (inv.looks.same h device).bytes)
     c.requires.patch.room within (long ∙ inv.size) (omega (arith, long)) inv.loads at c.requires.tag c.in_err-read_part.ensures.fault)
 
 pub returns-in_err-read_part-clause-writes : goal.returns-in_err-read_part-clause-writes

@@ -1,7 +1,6 @@
 use Rattle.std.proofs.Common.{◌≡◌, ◌*◌, min, length, map}
-use Rattle.array_spec.specs.Prelude.{Device}
-use Rattle.world.specs.Prelude.{Continues, IsSame, WritesOnly}
-use Rattle.segment_io.specs.Prelude.{NoByte}
+use Rattle.world.specs.Prelude.{Continues, WritesOnly}
+use Rattle.segment_io.specs.Prelude.{NoByte, OnlyLooks}
 use Rattle.patch_io.specs.Faults.{OthersStayOfPatch}
 use Rattle.patch_io.proofs.Parts.{Loads}
 use Rattle.patch_io.proofs.loading.read_parts.Given as goal
@@ -14,7 +13,7 @@ invariant-loop-segment g l =
       size : length l.facts.items ≡ min l.patch.facts (6720 * l.segment-index);
       loads : Loads a l.patch l.missing (map g.F.TableFact.any l.facts.items);
       continues : Continues a b;
-      same : a.honest → (device : Device) → IsSame (a.disk device) (b.disk device);
+      looks : OnlyLooks a b;
       writes : a.honest → WritesOnly NoByte a b;
       others : OthersStayOfPatch l.patch a b;
       rest : g.S.Shelf.shelf_rest l.fn.shelf l.shelf;

@@ -1,6 +1,6 @@
 use Rattle.std.proofs.Common.{ℕ, List, ◌-◌, ◌^◌, ◌<◌, arith, sym, subst, ◌∙◌, Err}
 use Rattle.std.proofs.lemmas.Result.{err_from_is_err_and}
-use Rattle.session_spec.specs.Prelude.{Geometry, Conditions, IsBearable, IsWithin, Array, BootRecord, IsRecordOf, geometry_of, continues_refl, ran_then, ran_more, Enters, failed_since}
+use Rattle.session_spec.specs.Prelude.{Geometry, Conditions, IsBearable, IsWithin, drive, Array, BootRecord, IsRecordOf, geometry_of, continues_refl, ran_then, ran_more, Enters, failed_since}
 use Rattle.boot_region.specs.Prelude.{IsLoadOf, IsLawfulLoad, IsMember, slot_in}
 use Rattle.takeover.specs.declared.faults.OpenFault.{OpenFault}
 use Rattle.takeover.specs.Found.{IsFoundBy, IsFoundOn}
@@ -136,6 +136,7 @@ returns-clause-loaded g c =
         named = λ i m. subst (λ (k : BootRecord). IsMember k.members.drives i) (sym same_record) (is.named i (fewer i m));
       };
       enough = omega (arith, c.count_set.ensures.value, c.if-count_set-drives.false, c.drives.ensures);
+      unlost = λ i lt m. c.settle_loaded.ensures.unlost i (omega (arith, lt, after.drives)) m ∙ c.load.ensures.looks (drive i);
       shown = λ h.
           shown_in a b n x on after (c.load.ensures.same h) (c.in_ok-loaded.ensures.loads h) (c.load.ensures.ran.on.writes h) (c.settle_loaded.ensures.ran.on.writes (on.honest h)) y.drives c.settle_loaded.ensures.dropped
           y.record y.slot same_record same_slot (c.settle_loaded.ensures.opened (on.honest h)) fewer;

@@ -99,6 +99,9 @@ returns-clause-ran g c =
     ran_then g.met.S.Shelf.shelf_rest_stays (ran_more (λ d is. is) (nothing_on c.args.nvrams) c.read_synced.ensures.ran)
     (ran_more (nvram_of members) (fewer_on c.args.nvrams members c.in_ok-log.ensures.members.0) c.settle.ensures.ran)
 
+pub returns-clause-unlost : goal.returns-clause-unlost
+returns-clause-unlost g c n lt is = c.settle.ensures.members.unlost n lt is ∙ c.in_ok-log.ensures.unlost n lt (c.settle.ensures.members.fewer n is)
+
 pub returns-in_err-log-clause-err : goal.returns-in_err-log-clause-err
 returns-in_err-log-clause-err g c =
     let a = g.S.Shelf.shelf c.args.shelf.now in

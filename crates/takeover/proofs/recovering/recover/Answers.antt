@@ -25,7 +25,7 @@ use Rattle.takeover.proofs.ArrayOf.{array_of_shelf, array_with, patches_are}
 use Rattle.takeover.proofs.BaseHeld as base_held
 use Rattle.takeover.proofs.Chains.{kept_one}
 use Rattle.takeover.proofs.Counts.{goes_on}
-use Rattle.takeover.proofs.Enough.{names_fewer}
+use Rattle.takeover.proofs.Enough.{names_fewer, names_unlost}
 use Rattle.takeover.proofs.Failing.{since_later}
 use Rattle.takeover.proofs.Moments.{log_opened, recovered}
 use Rattle.takeover.proofs.Opening as opening
@@ -285,11 +285,21 @@ returns-clause-opened g c h =
     recovered a n s missing arrays x o was on_n last ps base is is_of made.0 made.1 bears now c.store.ensures.left.dropped (store_later c.store.ensures.made) is_open (λ k. c.store.ensures.ran.on.others (nvram k) (λ z. z))
     found done.log same_log held (sym (patches_are (geometry_of b) x.record f.memory o memory done)) contents
     (subst (λ (l : List Command). ReadsAs contents o.memory.memory (after_all base l)) (sym same_log) reads) hold in
+    let drive_then : (i : ℕ) → IsMember now.record.members.drives i → IsMember now.drives i = λ i m. subst (λ (l : List Bool). IsMember l i) members.0 m in
+    let drive_found : (i : ℕ) → IsMember now.drives i → IsMember x.drives i = λ i m. subst (λ (l : List Bool). IsMember l i) made.1 (c.store.ensures.left.fewer i m) in
+    let log_then : (k : ℕ) → nv.IsMember now.record.members.nvrams k → nv.IsMember o.log.members k = λ k m. subst (λ (l : List Bool). nv.IsMember l k) (members.1 ∙ c.members.ensures) m in
+    let fewer = names_fewer x.record now.record (λ i m. lawful.named i (drive_found i (drive_then i m))) (λ k m. left.fewer k (log_then k m)) in
     opening.opened a b x on seen.seen lawful (nvrams_still c.find_array.ensures.ran.on) n after s f.memory o was now last is_a is_b is_n h replayed is_of made.0 made.1 c.store.ensures.left.dropped (store_later c.store.ensures.made) c.store.ensures.made.few shown each memory done seen.no_other
     generation.0 (members.0, members.1 ∙ c.members.ensures) is_recovered
-    (names_fewer x.record now.record
-    (λ i m. lawful.named i (subst (λ (l : List Bool). IsMember l i) made.1 (c.store.ensures.left.fewer i (subst (λ (l : List Bool). IsMember l i) members.0 m))))
-    (λ k m. left.fewer k (subst (λ (l : List Bool). nv.IsMember l k) (members.1 ∙ c.members.ensures) m)))
+    fewer
+    (names_unlost a s x.record now.record lawful.lawful.lawful fewer
+    (λ i lt m.
+        let own = drive_then i m in
+        c.store.ensures.left.unlost i own ∙ ap (λ (k : Disk). k.write_faults) (c.open_log.ensures.ran.on.others (drive i) (λ none. none))
+        ∙ c.in_ok-found.ensures.loaded.unlost i (omega (arith, lt, lawful.lawful.slots)) (drive_found i own))
+    (λ k lt m.
+        ap (λ (k : Disk). k.write_faults) (c.store.ensures.ran.on.others (nvram k) (λ none. none)) ∙ c.in_ok-opened.ensures.unlost k lt (log_then k m)
+        ∙ ap (λ (k : Disk). k.write_faults) (c.find_array.ensures.ran.on.others (nvram k) (λ none. none))))
     enough
 
 pub returns-clause-named : goal.returns-clause-named

@@ -26,7 +26,7 @@ stands g c h =
     let on = c.find_record.ensures.ran.on.continues in
     let h_b = on.honest h in
     while_reading_tables a b (g.S.Shelf.shelf c.load_memory.new.shelf) c.in_ok-loaded.loaded on c.load_memory.ensures.ran.on.continues (g.met.S.Shelf.is_shelf c.find_record.new.shelf) h_b
-    (c.load_memory.ensures.same h_b) (c.load_memory.ensures.ran.on.writes h_b)
+    (c.load_memory.ensures.looks.same h_b) (c.load_memory.ensures.ran.on.writes h_b)
     (λ missing arrays enters bears. c.in_ok-loaded.ensures.found h missing arrays enters (failed_since a b missing) (as_it_is (failed_since a b missing)) bears) (c.find_record.ensures.stands h)
 
 pub returns-in-Ok-clause-stands : goal.returns-in-Ok-clause-stands
@@ -38,7 +38,7 @@ returns-in-Err-clause-stands g c = stands g (goal.at.returns-in-Err-clause-stand
 pub returns-in-Ok-clause-loaded : goal.returns-in-Ok-clause-loaded
 returns-in-Ok-clause-loaded g c =
     record_read (g.S.Shelf.shelf c.args.shelf.now) (g.S.Shelf.shelf c.find_record.new.shelf) (g.S.Shelf.shelf c.load_memory.new.shelf) c.in_ok-loaded.loaded c.load_memory.ensures.ran.on.continues
-    (λ h. c.load_memory.ensures.same (c.find_record.ensures.ran.on.continues.honest h)) c.in_ok-loaded.ensures.loaded
+    c.load_memory.ensures.looks.write_faults (λ h. c.load_memory.ensures.looks.same (c.find_record.ensures.ran.on.continues.honest h)) c.in_ok-loaded.ensures.loaded
 
 pub returns-in-Ok-clause-seen : goal.returns-in-Ok-clause-seen
 returns-in-Ok-clause-seen g c h =
@@ -51,7 +51,7 @@ returns-in-Ok-clause-seen g c h =
     let h_b = on.honest h in
     let is_b = g.met.S.Shelf.is_shelf c.find_record.new.shelf in
     let lawful : IsRecordOf (geometry_of a) x.record = subst (λ (s : Geometry). IsRecordOf s x.record) (sym (same_shelf on)) c.in_ok-loaded.ensures.loaded.lawful.lawful in
-    tables_seen a b t x c.in-Ok.memory on after is_b h_b (c.load_memory.ensures.same h_b) (c.load_memory.ensures.ran.on.writes h_b) (c.in_ok-loaded.ensures.seen h) lawful c.others_than-missing.result c.others_than-missing.ensures
+    tables_seen a b t x c.in-Ok.memory on after is_b h_b (c.load_memory.ensures.looks.same h_b) (c.load_memory.ensures.ran.on.writes h_b) (c.in_ok-loaded.ensures.seen h) lawful c.others_than-missing.result c.others_than-missing.ensures
     (omega (arith, is_b.drives.1)) (c.in-Ok.ensures.stand h_b)
 
 pub returns-in-Ok-clause-found : goal.returns-in-Ok-clause-found
@@ -63,7 +63,7 @@ returns-in-Ok-clause-found g c h =
     let after = c.load_memory.ensures.ran.on.continues in
     let h_b = c.find_record.ensures.ran.on.continues.honest h in
     let is_b = g.met.S.Shelf.is_shelf c.find_record.new.shelf in
-    let same : (d : Device) → IsSame (b.disk d) (t.disk d) = c.load_memory.ensures.same h_b in
+    let same : (d : Device) → IsSame (b.disk d) (t.disk d) = c.load_memory.ensures.looks.same h_b in
     record {
       found = λ missing arrays enters bears.
           found_read b t x (failed_since a t missing) arrays after same (c.in_ok-loaded.ensures.found h missing arrays enters (failed_since a t missing) (since_later a b t missing after) bears);
@@ -82,7 +82,7 @@ returns-in-Err-clause-seen g c h =
     let after = c.load_memory.ensures.ran.on.continues in
     let h_b = on.honest h in
     let is_b = g.met.S.Shelf.is_shelf c.find_record.new.shelf in
-    let same : (d : Device) → IsSame (b.disk d) (t.disk d) = c.load_memory.ensures.same h_b in
+    let same : (d : Device) → IsSame (b.disk d) (t.disk d) = c.load_memory.ensures.looks.same h_b in
     let lawful : IsRecordOf (geometry_of a) x.record = subst (λ (s : Geometry). IsRecordOf s x.record) (sym (same_shelf on)) c.in_ok-loaded.ensures.loaded.lawful.lawful in
     let seen : IsSeenIn a b x = c.in_ok-loaded.ensures.seen h in
     fault_seen a b t x on after h_b lawful same seen (silent_read a b t x on after is_b h_b same (c.load_memory.ensures.ran.on.writes h_b) seen) c.others_than-missing.result c.others_than-missing.ensures (omega (arith, is_b.drives.1))

@@ -4,13 +4,13 @@ use Rattle.takeover.proofs.TablesMade.{memory_of}
 use Rattle.takeover.proofs.tables.load_memory.Goals as goal
 
 pub returns-in_err-loaded-clause-ran : goal.returns-in_err-loaded-clause-ran
-returns-in_err-loaded-clause-ran g c = ran_on_drives c.load_tables.ensures.continues c.load_tables.ensures.nvrams c.load_tables.ensures.writes c.load_tables.ensures.rest
+returns-in_err-loaded-clause-ran g c = ran_on_drives c.load_tables.ensures.reads.continues c.load_tables.ensures.reads.nvrams c.load_tables.ensures.reads.writes c.load_tables.ensures.rest
 
 pub returns-in_err-memory-clause-ran : goal.returns-in_err-memory-clause-ran
-returns-in_err-memory-clause-ran g c = ran_on_drives c.load_tables.ensures.continues c.load_tables.ensures.nvrams c.load_tables.ensures.writes c.load_tables.ensures.rest
+returns-in_err-memory-clause-ran g c = ran_on_drives c.load_tables.ensures.reads.continues c.load_tables.ensures.reads.nvrams c.load_tables.ensures.reads.writes c.load_tables.ensures.rest
 
 pub returns-clause-ran : goal.returns-clause-ran
-returns-clause-ran g c = ran_on_drives c.load_tables.ensures.continues c.load_tables.ensures.nvrams c.load_tables.ensures.writes c.load_tables.ensures.rest
+returns-clause-ran g c = ran_on_drives c.load_tables.ensures.reads.continues c.load_tables.ensures.reads.nvrams c.load_tables.ensures.reads.writes c.load_tables.ensures.rest
 
 pub returns-clause-memory : goal.returns-clause-memory
 returns-clause-memory g c =
