@@ -8,7 +8,7 @@ use Rattle.pur_base.specs.declared.facts.AnyFact.TheVariants as any
 use Rattle.elision.specs.Ranges.{ElidedRanges, ranges_of, AreApart}
 use Rattle.object_table.specs.Objects.{Objects}
 use Rattle.segment_table.specs.Segments.{Segments}
-use Rattle.table_soundness.specs.Elided.{AreElidedBy, IsRange}
+use Rattle.elided_ids.specs.Elided.{AreElidedBy, IsRange}
 use Rattle.table_soundness.specs.Faults.{facts_in as facts_loaded, patches_in, AreLawful, AreNamed}
 use Rattle.table_soundness.specs.declared.tables.LoadedTables.{LoadedTables}
 use Rattle.table_soundness.proofs.SoundLemmas.{all_joined, same_facts, parts_from_sequences}

@@ -14,7 +14,7 @@ ghost use Rattle.array_spec.specs.Sound.{AreSound};
 ghost use Rattle.array_spec.specs.Stored.{all_facts};
 ghost use Rattle.memory_spec.specs.Memory.{Contents, FactsRead, IsSound, ReadsAs};
 ghost use Rattle.memory_spec.specs.Tables.{facts, patches};
-ghost use Rattle.table_soundness.specs.Elided.{AreElidedBy, IsRange};
+ghost use Rattle.elided_ids.specs.Elided.{AreElidedBy, IsRange};
 ghost use Rattle.table_soundness.specs.Faults.{patches_in, AreLawful, AreNamed};
 ghost use Rattle.array_memory.specs.Loaded.{memory_of, with_room_of, AreInSegments, HasLogRoom, IsLoaded};
 
@@ -22,6 +22,7 @@ use crate::limits::{STAGED_SECTORS, UNFLUSHED_OBJECTS};
 use crate::memory::Memory;
 use address_table::{AddressTable, UNFLUSHED_ADDRESSES};
 use boot_codec::{BootRecord, NextNumbers};
+use elided_ids::elided_by;
 use elision::Elided;
 use medium_table::MediumTable;
 use object_table::ObjectTable;
@@ -32,7 +33,6 @@ use pur_base::{
 use pyramid::{Patch, Pyramid};
 use segment_table::SegmentTable;
 use std::alloc::Global;
-use table_soundness::elided_by;
 
 /// That no ranges of a table overlap or touch: they are read for it alone.
 pub(crate) fn are_apart(elided: &Elided)

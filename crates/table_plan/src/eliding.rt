@@ -3,14 +3,14 @@ ghost use Rattle.pur_base.specs.Visible.{is_within};
 ghost use Rattle.pur_base.specs.declared.request.Table.{Table};
 ghost use Rattle.elision.specs.Ranges.{AreApart, ranges_of};
 ghost use Rattle.pyramid.specs.Layers.{facts_of};
-ghost use Rattle.table_soundness.specs.Elided.{AreElidedBy, IsRange};
+ghost use Rattle.elided_ids.specs.Elided.{AreElidedBy, IsRange};
 ghost use Rattle.table_plan.specs.Eliding.{AreElisionsOf};
 
+use elided_ids::elided_by;
 use elision::Elided;
 use pur_base::{ElisionFact, NoMemory, Seq, Table};
 use pyramid::Pyramid;
 use std::alloc::Global;
-use table_soundness::elided_by;
 
 /// Elides the ids of a table that others elide.
 fn copy_table(from: &Elided, table: Table, to: &mut Elided) -> Result<(), NoMemory>

@@ -9,7 +9,7 @@ use Rattle.pur_base.specs.declared.facts.AnyFact.TheVariants as any
 use Rattle.pur_base.specs.declared.request.Table.TheVariants as table
 use Rattle.pyramid.specs.Prelude.{facts_of, IsShown, all_contained, said_found, said_whole}
 use Rattle.table_soundness.specs.Addresses.{IsSmall}
-use Rattle.table_soundness.specs.Elided.{IsRange}
+use Rattle.elided_ids.specs.Elided.{IsRange}
 use Rattle.table_soundness.specs.Faults.{first_false, IsFirst}
 use Rattle.table_soundness.specs.Mediums as mediums
 use Rattle.table_soundness.specs.Numbers.{AreNumbersSound}

@@ -1,6 +1,5 @@
 pub mod DistinctLemmas
 pub mod MarkLemmas
-pub mod PatchLemmas
 pub mod PairLemmas
 pub mod UnitLemmas
 pub mod SegmentLemmas
@@ -9,7 +8,6 @@ pub mod SpanLemmas
 pub mod NestLemmas
 pub mod ElisionLemmas
 pub mod NewestLemmas
-pub mod ElidedLemmas
 pub mod LastLemmas
 pub mod AddressLemmas
 pub mod MediumLemmas

@@ -7,7 +7,7 @@ use Rattle.pur_base.specs.declared.request.Table.TheVariants as table
 use Rattle.pyramid.specs.Prelude.{ElidedRanges, IsShown, all_contained}
 use Rattle.object_table.specs.Objects.{number}
 use Rattle.object_table.proofs.ObjectLemmas.{by_ids}
-use Rattle.table_soundness.specs.Elided.{AreElidedBy}
+use Rattle.elided_ids.specs.Elided.{AreElidedBy}
 use Rattle.table_soundness.specs.Items.{AreApartObjects, AreObjectsRight, AreObjectsListed, IsKept}
 
 pairs_weaker : {X : Type 0} (R Q : X → X → Type 0) → ((x y : X) → R x y → Q x y) → (xs : List X) → AllPairs R xs → AllPairs Q xs

@@ -1,7 +1,6 @@
 pub mod Numbers
 pub mod Places
 pub mod Items
-pub mod Elided
 pub mod Spans
 pub mod Elisions
 pub mod Newest

@@ -4,7 +4,6 @@
 
 mod addresses;
 mod distinct;
-mod elided;
 mod elisions;
 mod fault;
 mod first;
@@ -26,7 +25,6 @@ mod spans;
 mod tables;
 mod visible;
 
-pub use elided::elided_by;
 pub use fault::SoundFault;
 pub use judge::check;
 pub use laws::laws_of_soundness;

@@ -1,6 +1,6 @@
 ghost use Rattle.std.specs.Prelude.{IfOk};
 ghost use Rattle.pyramid.specs.Layers.{facts_of};
-ghost use Rattle.table_soundness.specs.Elided.{AreElidedBy};
+ghost use Rattle.elided_ids.specs.Elided.{AreElidedBy};
 ghost use Rattle.table_soundness.specs.Faults.{facts_in, AreVisible};
 
 use crate::shown::shown;

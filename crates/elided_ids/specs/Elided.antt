@@ -1,8 +1,9 @@
 -- What elisions elide.
 use Rattle.std.specs.Prelude.{◌≡◌, ◌≢◌, ◌⊎◌, ◌↔◌, ℕ, ◌≤◌, IsTrue, List}
-use Rattle.array_spec.specs.Prelude.{is_elided, is_within, Table, ElisionFact}
+use Rattle.pyramid.specs.Prelude.{is_elided, is_within, ElidedRanges, ranges_of}
+use Rattle.pur_base.specs.declared.facts.ElisionFact.{ElisionFact}
+use Rattle.pur_base.specs.declared.request.Table.{Table}
 use Rattle.pur_base.specs.declared.request.Table.TheVariants as table
-use Rattle.pyramid.specs.Prelude.{ElidedRanges, ranges_of}
 
 -- some ids of a table that has ids
 abbrev pub IsRange : ElisionFact → Type 0

@@ -1,6 +1,6 @@
 ghost use Rattle.std.specs.Prelude.{◌∷◌, [], OnOk, IfOk, All};
 ghost use Rattle.pyramid.specs.Layers.{facts_of};
-ghost use Rattle.table_soundness.specs.Elided.{AddsElided, AreElidedBy, IsRange};
+ghost use Rattle.elided_ids.specs.Elided.{AddsElided, AreElidedBy, IsRange};
 
 use elision::Elided;
 use pur_base::{ElisionFact, NoMemory};

@@ -3,10 +3,13 @@ use Rattle.std.proofs.Common.{◌≡◌, ◌≢◌, ◌⊎◌, ◌↔◌, ℕ, �
 use Rattle.std.specs.Prelude.{IsTrue, ◌==◌, ◌&&◌, ◌||◌, nat_le}
 use Rattle.std.proofs.lemmas.Bool.{eq-eqb, eqb-true, eqb-false, leb-true, le-leb, and_parts, and_from, or_cases, or_left, or_right, false≢true}
 use Rattle.std.proofs.lemmas.List.Folds.{list_any-append}
-use Rattle.array_spec.specs.Prelude.{tag_of, elides, is_elided, is_within, ElisionFact, Table}
+use Rattle.pur_base.specs.Tags.{tag_of}
+use Rattle.pyramid.specs.Prelude.{is_elided, is_within, ElidedRanges, ranges_of}
+use Rattle.pur_base.specs.Visible.{elides}
+use Rattle.pur_base.specs.declared.facts.ElisionFact.{ElisionFact}
+use Rattle.pur_base.specs.declared.request.Table.{Table}
 use Rattle.pur_base.specs.declared.request.Table.TheVariants as table
-use Rattle.pyramid.specs.Prelude.{ElidedRanges, ranges_of}
-use Rattle.table_soundness.specs.Elided.{AddsElided, AreElidedBy}
+use Rattle.elided_ids.specs.Elided.{AddsElided, AreElidedBy}
 
 pub same_table : (a b : Table) → tag_of a ≡ tag_of b → a ≡ b
 same_table table.Object table.Object e = refl

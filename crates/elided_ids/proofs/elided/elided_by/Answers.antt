@@ -1,11 +1,11 @@
 use Rattle.std.proofs.Common.{◌≡◌, get_or, subst, sym, take_all}
-use Rattle.array_spec.specs.Prelude.{elision_key}
+use Rattle.pur_base.specs.Facts.{elision_key}
 use Rattle.pyramid.specs.Prelude.{facts_of}
 use Rattle.pyramid.proofs.SpanLemmas.{facts_more}
-use Rattle.table_soundness.specs.Elided.{AddsElided, IsRange}
-use Rattle.table_soundness.proofs.ElidedLemmas.{adds_join, elided_from_nothing}
-use Rattle.table_soundness.proofs.PatchLemmas.{all_of_patch}
-use Rattle.table_soundness.proofs.elided.elided_by.Goals as goal
+use Rattle.elided_ids.specs.Elided.{AddsElided, IsRange}
+use Rattle.elided_ids.proofs.ElidedLemmas.{adds_join, elided_from_nothing}
+use Rattle.elided_ids.specs.Patches.{all_of_patch}
+use Rattle.elided_ids.proofs.elided.elided_by.Goals as goal
 
 pub elide_facts-requires : goal.elide_facts-requires
 elide_facts-requires c =

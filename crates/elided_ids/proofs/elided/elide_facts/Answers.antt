@@ -1,8 +1,8 @@
 use Rattle.std.proofs.Common.{subst, sym}
 use Rattle.std.proofs.lemmas.List.{take_more}
-use Rattle.table_soundness.specs.Elided.{AddsElided}
-use Rattle.table_soundness.proofs.ElidedLemmas.{adds_join}
-use Rattle.table_soundness.proofs.elided.elide_facts.Goals as goal
+use Rattle.elided_ids.specs.Elided.{AddsElided}
+use Rattle.elided_ids.proofs.ElidedLemmas.{adds_join}
+use Rattle.elided_ids.proofs.elided.elide_facts.Goals as goal
 
 pub loop-fact-preserved : goal.loop-fact-preserved
 loop-fact-preserved c =
