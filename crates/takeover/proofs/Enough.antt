@@ -1,12 +1,11 @@
 -- Drives that have a flag and are shown are enough.
-use Rattle.std.proofs.Common.{◌≡◌, ◌⊎◌, inl, inr, ℕ, zero, suc, ◌+◌, ◌<◌, ◌≤◌, Bool, true, false, List, [], ◌∷◌, refl, sym, ap, subst, arith, cond}
-use Rattle.std.specs.Prelude.{Option, Some, None, IsSome, is_none, count_by, if◌then◌else◌}
-use Rattle.std.specs.List.{range_with_len}
+use Rattle.std.proofs.Common.{◌≡◌, ◌⊎◌, inl, inr, ℕ, ◌+◌, ◌<◌, ◌≤◌, Bool, true, false, List, refl, sym, subst, arith}
+use Rattle.std.specs.Prelude.{Option, Some, None, IsSome, is_none}
 use Rattle.std.specs.Str.{bytes_eq}
 use Rattle.std.proofs.lemmas.Bool.{cases_Bool, cases_lt}
 use Rattle.std.proofs.lemmas.List.{get_or_past}
 use Rattle.std.proofs.lemmas.Slice.Eq.{bytes_eq-Decides}
-use Rattle.session_spec.specs.Prelude.{Device, Drive, Nv, Geometry, Image, View, Sound, LeftOut, IsBearable, is_missing, drive, nvram, BootRecord, set_count, BootSlot, IsBootRecord, IsRecordOf, body_in, names, of_members, spelling, counted, AreSomeOf, AreEnough, Shelved}
+use Rattle.session_spec.specs.Prelude.{Device, Drive, Nv, Geometry, Image, View, drive, nvram, BootRecord, set_count, BootSlot, IsBootRecord, body_in, names, of_members, spelling, AreSomeOf, AreEnough, Shelved}
 use Rattle.boot_region.specs.Prelude.{IsMember}
 use Rattle.nvram_log.specs.Members as nv
 use Rattle.register.specs.Prelude.{none_past}

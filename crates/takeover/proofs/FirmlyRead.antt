@@ -1,5 +1,5 @@
 -- The tables are read behind a record that was found: nothing changes on the devices.
-use Rattle.std.proofs.Common.{◌≡◌, ℕ, List, sym, subst, arith}
+use Rattle.std.proofs.Common.{◌∙◌, ◌≡◌, ℕ, List, sym, subst, arith}
 use Rattle.std.specs.Prelude.{Some}
 use Rattle.session_spec.specs.Prelude.{Array, Geometry, Conditions, IsBearable, drive, Device, Yields, body_in, generation_in, other_slot, shown_by, spelling, geometry_of, Shelved, Stop, IsShelf, IsSame, Continues, MayStop, LeavesOnly, LeavesBut, WritesOnly, then_run, weaker, Enters, failed_since}
 use Rattle.boot_region.specs.declared.loading.Loaded.{Loaded}

@@ -12,7 +12,7 @@ use Rattle.nvram_log.proofs.SettledEach.{both_leave}
 use Rattle.register.specs.declared.state.Register.{Register}
 use Rattle.register.specs.declared.next.StoreFault.{StoreFault}
 use Rattle.register.specs.declared.next.StoreFault.TheVariants.{Spent, TooFew}
-use Rattle.register.specs.Prelude.{IsFaultOf, IsLaterRecord, IsRegisterOf, OnSlots, drives_of, named_sound, next_slot, own_slot, AllShow, Content, GivesOldOrNext, MayStore, StandsBack, StandsInLog, StillGiven, in_cut}
+use Rattle.register.specs.Prelude.{IsFaultOf, IsLaterRecord, IsRegisterOf, OnSlots, drives_of, next_slot, own_slot, AllShow, Content, GivesOldOrNext, MayStore, StandsBack, StandsInLog, StillGiven, in_cut}
 use Rattle.takeover.specs.declared.faults.OpenFault.{OpenFault}
 use Rattle.takeover.specs.declared.faults.OpenFault.TheVariants as open_fault
 use Rattle.takeover.specs.declared.log.LogFault.{LogFault}

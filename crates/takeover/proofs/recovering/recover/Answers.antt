@@ -1,4 +1,4 @@
-use Rattle.std.proofs.Common.{◌≡◌, ◌⊎◌, ◌<◌, ◌≤◌, ◌+◌, ◌-◌, ◌^◌, ℕ, List, refl, sym, subst, ap, ◌∙◌, Bool, Result, Err}
+use Rattle.std.proofs.Common.{arith, ◌≡◌, ◌⊎◌, ◌<◌, ◌≤◌, ◌+◌, ◌-◌, ◌^◌, ℕ, List, refl, sym, subst, ap, ◌∙◌, Bool, Result, Err}
 use Rattle.std.specs.Prelude.{IfOk, IfErr, OnOk, None, Some}
 use Rattle.std.proofs.lemmas.Result.{err_from_is_err_and}
 use Rattle.session_spec.specs.Prelude.{AnyFact, NoMemory, Command, after_all, Geometry, Conditions, IsBearable, drive, nvram, Array, BootRecord, set_count, IsRecordOf, shown_by, spelling, ReadsAs, patches, geometry_of, has_risen, Disk, LeavesOnly, continues_trans, then_run, weaker, ran_then, ran_more, runs_moments, Enters, StandsStill, failed_since}
@@ -6,7 +6,7 @@ use Rattle.boot_region.specs.Prelude.{IsLawfulLoad, IsMember, slot_in, StandsAga
 use Rattle.nvram_log.specs.Members as nv
 use Rattle.register.specs.declared.state.Register.{Register}
 use Rattle.register.specs.declared.next.StoreFault.{StoreFault}
-use Rattle.register.specs.Prelude.{IsFaultOf, IsLaterRecord, IsRegisterOf, drives_of, named_sound, Content, GivesOldOrNext, IsFirm, IsOpen, MayStore, StandsBack, StandsInLog, StillGiven, stands_at, gives_at, back_at}
+use Rattle.register.specs.Prelude.{IsFaultOf, IsLaterRecord, IsRegisterOf, drives_of, Content, GivesOldOrNext, IsFirm, IsOpen, MayStore, StandsBack, StandsInLog, StillGiven, stands_at, gives_at, back_at}
 use Rattle.takeover.specs.declared.faults.OpenFault.{OpenFault}
 use Rattle.takeover.specs.declared.faults.OpenFault.TheVariants as open_fault
 use Rattle.takeover.specs.declared.log.OpenedLog.{OpenedLog}
@@ -294,12 +294,12 @@ returns-clause-opened g c h =
     fewer
     (names_unlost a s x.record now.record lawful.lawful.lawful fewer
     (λ i lt m.
-        let own = drive_then i m in
-        c.store.ensures.left.unlost i own ∙ ap (λ (k : Disk). k.write_faults) (c.open_log.ensures.ran.on.others (drive i) (λ none. none))
-        ∙ c.in_ok-found.ensures.loaded.unlost i (omega (arith, lt, lawful.lawful.slots)) (drive_found i own))
+    let own = drive_then i m in
+    c.store.ensures.left.unlost i own ∙ ap (λ (k : Disk). k.write_faults) (c.open_log.ensures.ran.on.others (drive i) (λ none. none))
+    ∙ c.in_ok-found.ensures.loaded.unlost i (omega (arith, lt, lawful.lawful.slots)) (drive_found i own))
     (λ k lt m.
-        ap (λ (k : Disk). k.write_faults) (c.store.ensures.ran.on.others (nvram k) (λ none. none)) ∙ c.in_ok-opened.ensures.unlost k lt (log_then k m)
-        ∙ ap (λ (k : Disk). k.write_faults) (c.find_array.ensures.ran.on.others (nvram k) (λ none. none))))
+    ap (λ (k : Disk). k.write_faults) (c.store.ensures.ran.on.others (nvram k) (λ none. none)) ∙ c.in_ok-opened.ensures.unlost k lt (log_then k m)
+    ∙ ap (λ (k : Disk). k.write_faults) (c.find_array.ensures.ran.on.others (nvram k) (λ none. none))))
     enough
 
 pub returns-clause-named : goal.returns-clause-named
